@@ -1,0 +1,3 @@
+pub mod Alternation
+pub mod Causes
+pub mod TupleFields

@@ -1,0 +1,82 @@
+// Pieces and tokens.
+ghost use Rattle.std.specs.Prelude.{◌≡◌, IfOk};
+
+use bdb_base::{Exact, List, Txt};
+use std::alloc::{AllocError, Global};
+
+/// A token of BeliefSQL.
+#[derive(Drop)]
+pub enum Token {
+    /// A keyword or a name, as written.
+    Word(Txt),
+    /// A text literal: its content, where a doubled quote stands once.
+    Text(Txt),
+    /// A number literal, as written.
+    Num(Txt),
+    Comma,
+    Dot,
+    ParenL,
+    ParenR,
+    Eq,
+    Ne,
+    Lt,
+    Le,
+    Gt,
+    Ge,
+}
+
+/// A piece of a script, which ended with a semicolon.
+#[derive(Drop)]
+pub enum Piece {
+    /// A piece of at most 65,536 bytes, without the semicolon.
+    Cmd(List<u8>),
+    /// A longer piece.
+    Long,
+}
+
+/// What follows the last piece of a script.
+#[derive(Clone, Copy, Debug, PartialEq, Eq, Drop)]
+pub enum Rest {
+    /// Blanks and comments alone.
+    Nothing,
+    /// Something else.
+    Unfinished,
+}
+
+/// Why a piece has no tokens.
+#[derive(Clone, Copy, Debug, PartialEq, Eq, Drop)]
+pub enum LexError {
+    /// The piece is no list of tokens.
+    NotTokens,
+    /// There is no memory.
+    Memory,
+}
+
+impl Exact for Token {
+    fn try_clone(&self, alloc: Global) -> Result<Self, AllocError> {
+        match self {
+            Token::Word(text) => Ok(Token::Word(text.try_clone(alloc)?)),
+            Token::Text(text) => Ok(Token::Text(text.try_clone(alloc)?)),
+            Token::Num(text) => Ok(Token::Num(text.try_clone(alloc)?)),
+            Token::Comma => Ok(Token::Comma),
+            Token::Dot => Ok(Token::Dot),
+            Token::ParenL => Ok(Token::ParenL),
+            Token::ParenR => Ok(Token::ParenR),
+            Token::Eq => Ok(Token::Eq),
+            Token::Ne => Ok(Token::Ne),
+            Token::Lt => Ok(Token::Lt),
+            Token::Le => Ok(Token::Le),
+            Token::Gt => Ok(Token::Gt),
+            Token::Ge => Ok(Token::Ge),
+        }
+    }
+}
+
+impl Exact for Piece {
+    fn try_clone(&self, alloc: Global) -> Result<Self, AllocError> {
+        match self {
+            Piece::Cmd(bytes) => Ok(Piece::Cmd(bytes.try_clone(alloc)?)),
+            Piece::Long => Ok(Piece::Long),
+        }
+    }
+}

@@ -1,0 +1,6 @@
+//! Commands of BeliefSQL as they are written, with names for users, relations and columns.
+#![tactic(auto)]
+
+mod command;
+
+pub use command::{Command, RawCol, RawCond, RawItem, RawQuery, RawSet, RawSide, RawWho};
