@@ -1,3 +1,9 @@
 pub mod Alternation
+pub mod Bases
 pub mod Causes
+pub mod Clash
+pub mod Order
+pub mod Same
+pub mod SortedSet
 pub mod TupleFields
+pub mod Worlds

@@ -1,0 +1,116 @@
+-- Bases, and when one is valid.
+use Rattle.std.specs.Prelude.{◌≡◌, ℕ, ◌+◌, Bool, true, false, not, ◌&&◌, nat_lt, nat_le, List, [], ◌∷◌, length, map, Option, None, Some, cond}
+use Rattle.std.specs.List.{list_any, list_all, slice_get}
+use Rattle.std.specs.Str.{is_utf8}
+use Rattle.bdb_base.specs.declared.kinds.Value.{Value}
+use Rattle.bdb_base.specs.declared.kinds.Value.TheVariants.{Int, Text}
+use Rattle.bdb_base.specs.declared.kinds.Kind.{Kind}
+use Rattle.bdb_base.specs.declared.kinds.Kind.TheVariants as kind
+use Rattle.bdb_base.specs.declared.kinds.ColDef.{ColDef}
+use Rattle.bdb_base.specs.declared.kinds.RelDef.{RelDef}
+use Rattle.bdb_base.specs.declared.kinds.Catalog.{Catalog}
+use Rattle.bdb_base.specs.declared.kinds.Stmt.{Stmt}
+use Rattle.bdb_base.specs.declared.tuple.Tuple.{Tuple}
+use Rattle.bdb_base.specs.Same.{same_text, same_tuple}
+use Rattle.bdb_base.specs.Alternation.{alternates}
+use Rattle.bdb_base.specs.Order.{statement_cmp}
+use Rattle.bdb_base.specs.SortedSet.{is_member, ascending, put_in, taken_out}
+use Rattle.bdb_base.specs.Worlds.{contradicted}
+
+-- the catalog, and the standing statements in order
+pub record Contents : Type 0 where
+  pub catalog : Catalog
+  pub stmts : List Stmt
+
+-- the length of each relation's key: one column
+abbrev pub key_lengths : List RelDef → ℕ → ℕ
+key_lengths rels rel = 1
+
+-- a number is that of a user: they are numbered from 1
+abbrev pub is_user : List (List ℕ) → ℕ → Bool
+is_user users uid = nat_lt 0 uid && nat_le uid (length users)
+
+-- the bytes are those of a text without characters below U+0020
+abbrev pub is_clean : List ℕ → Bool
+is_clean text = is_utf8 text && list_all (λ c. nat_le 32 c) text
+
+-- a clean text of at most 255 bytes
+abbrev pub is_plain : List ℕ → Bool
+is_plain text = nat_le (length text) 255 && is_clean text
+
+-- a value is of a kind; a text is a plain one
+abbrev pub fits_kind : Kind → Value → Bool
+fits_kind kind.Int (Int n) = true
+fits_kind kind.Text (Text t) = is_plain t
+fits_kind _ _ = false
+
+-- values fit columns in number and kind
+abbrev pub fits_columns : List ColDef → List Value → Bool
+fits_columns [] [] = true
+fits_columns (c ∷ cs) (v ∷ vs) = fits_kind c.kind v && fits_columns cs vs
+fits_columns _ _ = false
+
+-- a tuple fits its relation
+abbrev pub fits_relation : List RelDef → Tuple → Bool
+fits_relation rels t = fits_defined (slice_get rels t.rel) t.vals
+  where
+    fits_defined : Option RelDef → List Value → Bool
+    fits_defined None vals = false
+    fits_defined (Some def) vals = fits_columns def.cols vals
+
+-- no name stands twice
+abbrev pub are_distinct : List (List ℕ) → Bool
+are_distinct [] = true
+are_distinct (n ∷ ns) = not (list_any (same_text n) ns) && are_distinct ns
+
+-- how many different items a list has: those that are not among the later ones
+abbrev pub distinct_count : {X : Type 0} → (X → X → Bool) → List X → ℕ
+distinct_count same [] = 0
+distinct_count same (x ∷ xs) = cond (list_any (same x) xs) 0 1 + distinct_count same xs
+
+-- the name of the item that lists the users in a query: `Users`
+abbrev pub users_name : List ℕ
+users_name = 85 ∷ 115 ∷ 101 ∷ 114 ∷ 115 ∷ []
+
+-- one to 16 columns, plain names that differ, and a plain name that isn't `Users`
+abbrev pub is_valid_relation : RelDef → Bool
+is_valid_relation def = nat_lt 0 (length def.cols) && nat_le (length def.cols) 16 && (are_distinct (map (λ c. c.name) def.cols)
+    && list_all (λ c. is_plain c.name) def.cols && (is_plain def.name && not (same_text def.name users_name)))
+
+-- the users and relations have plain names that differ, and are not too many
+pub record IsCatalog (c : Catalog) : Type 0 where
+  pub users_differ : are_distinct c.users ≡ true
+  pub users_plain : list_all is_plain c.users ≡ true
+  pub few_users : nat_le (length c.users) 256 ≡ true
+  pub rels_differ : are_distinct (map (λ r. r.name) c.rels) ≡ true
+  pub rels_valid : list_all is_valid_relation c.rels ≡ true
+  pub few_rels : nat_le (length c.rels) 64 ≡ true
+
+-- a statement's path is one of at most 16 users of the catalog, and its tuple fits its relation
+abbrev pub belongs : Catalog → Stmt → Bool
+belongs c x = alternates x.path && nat_le (length x.path) 16 && list_all (is_user c.users) x.path && fits_relation c.rels x.tuple
+
+-- the statements are in order, belong to the catalog, do not clash at one path, and are not too many
+pub record AreStatements (c : Catalog) (stmts : List Stmt) : Type 0 where
+  pub sorted : ascending statement_cmp stmts ≡ true
+  pub belong : list_all (belongs c) stmts ≡ true
+  pub no_clash : list_all (λ x. not (contradicted (key_lengths c.rels) stmts x.path x.tuple x.sign)) stmts ≡ true
+  pub few_stmts : nat_le (length stmts) 20000 ≡ true
+  pub few_tuples : nat_le (distinct_count same_tuple (map (λ x. x.tuple) stmts)) 4000 ≡ true
+
+-- a catalog and statements are those of a valid base
+pub record IsValid (c : Catalog) (xs : List Stmt) : Type 0 where
+  pub catalog : IsCatalog c
+  pub stmts : AreStatements c xs
+
+-- a statement stands
+abbrev pub stands : List Stmt → Stmt → Bool
+stands = is_member statement_cmp
+
+-- the statements with one more
+abbrev pub with_statement : List Stmt → Stmt → List Stmt
+with_statement = put_in statement_cmp
+
+-- the statements without one
+abbrev pub without_statement : List Stmt → Stmt → List Stmt
+without_statement = taken_out statement_cmp
