@@ -1,7 +1,9 @@
 pub mod Alternation
 pub mod Bases
 pub mod Causes
+pub mod Changes
 pub mod Clash
+pub mod Conditions
 pub mod Order
 pub mod Same
 pub mod SortedSet
