@@ -6,7 +6,6 @@ use std::alloc::AllocError;
 
 /// A command over a catalog: users by uid, relations and columns by place.
 #[derive(Drop)]
-#[non_exhaustive]
 pub enum Bound {
     /// A user of this name joins.
     CreateUser {
@@ -57,10 +56,7 @@ pub enum BindError {
     /// No item has this alias.
     Alias(Txt),
     /// The relation has no such column.
-    Column {
-        alias: Option<Txt>,
-        col: Txt,
-    },
+    Column { alias: Option<Txt>, col: Txt },
     /// A user has this name.
     TakenUser(Txt),
     /// A relation has this name, or it is `Users`, or a column of this name stands earlier.
@@ -72,15 +68,9 @@ pub enum BindError {
     /// The number of values is not the number of columns.
     Arity,
     /// A value and a column, or two columns, are of different kinds.
-    Kind {
-        alias: Option<Txt>,
-        col: Txt,
-    },
+    Kind { alias: Option<Txt>, col: Txt },
     /// Nothing binds this column of a negated item.
-    Unsafe {
-        alias: Txt,
-        col: Txt,
-    },
+    Unsafe { alias: Txt, col: Txt },
     /// There is no memory.
     Memory,
 }

@@ -1,6 +1,8 @@
 //! Binding: a command's names are looked up in a catalog, or it is refused with the first reason of a fixed order.
 #![tactic(auto)]
 
+mod binding;
 mod bound;
 
+pub use binding::{bind, is_built};
 pub use bound::{BindError, Bound};
