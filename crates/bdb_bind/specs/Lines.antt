@@ -1,5 +1,5 @@
 -- The reasons to refuse a command, one by one.
-use Rattle.std.specs.Prelude.{ℕ, Bool, true, false, not, ◌||◌, ◌==◌, nat_lt, List, [], ◌∷◌, ◌++◌, length, Option, None, Some, find, if◌then◌else◌}
+use Rattle.std.specs.Prelude.{◌≡◌, ◌≢◌, Result, MatchResult, map, ◌++◌, ℕ, Bool, true, false, not, ◌||◌, ◌==◌, nat_lt, List, [], ◌∷◌, ◌++◌, length, Option, None, Some, find, if◌then◌else◌}
 use Rattle.std.specs.Option.{option_map, is_some}
 use Rattle.std.specs.List.{list_any}
 use Rattle.bdb_base.specs.declared.kinds.Catalog.{Catalog}
@@ -20,12 +20,16 @@ use Rattle.bdb_syntax.specs.declared.command.RawSet.{RawSet}
 use Rattle.bdb_bind.specs.declared.bound.BindError.{BindError}
 use Rattle.bdb_bind.specs.declared.bound.BindError.TheVariants as error
 use Rattle.bdb_bind.specs.Lookup.{is_user_name, number_of, columns_of, has_column, kind_at}
-use Rattle.bdb_bind.specs.Parts.{path_names, depth_limit, relation_name, new_columns, column_names, is_long, some_text}
+use Rattle.bdb_bind.specs.Parts.{path_names, depth_limit, relation_name, new_columns, cond_columns, is_long, some_text}
 
 -- a refusal that comes where a test holds
 abbrev pub refused_if : Bool → BindError → Option BindError
 refused_if true e = Some e
 refused_if false e = None
+
+-- a check passes where its line does not apply, and else answers what the line says, unless there is no memory
+abbrev pub Checks : {T : Type 0} → Result T BindError → Option BindError → Type 0
+Checks result line = MatchResult result (λ _. line ≡ None) (λ e. e ≢ error.Memory → line ≡ Some e)
 
 -- a text has more than 255 bytes
 abbrev pub text_line : Command → Option BindError
@@ -48,17 +52,16 @@ relation_line catalog c = unknown_relation catalog.rels (relation_name c)
 abbrev pub user_line : Catalog → Command → Option BindError
 user_line catalog c = option_map error.User (find (λ name. not (is_user_name catalog.users name)) (path_names c))
 
--- the columns of the relation that a command names
-abbrev pub columns_at : Catalog → Command → List ColDef
-columns_at catalog c = named (relation_name c)
-  where
-    named : Option (List ℕ) → List ColDef
-    named None = []
-    named (Some name) = columns_of catalog.rels name
+-- the first of these columns that a relation does not have
+abbrev pub unknown_column : List ColDef → List (List ℕ) → Option BindError
+unknown_column cols names = option_map (error.Column None) (find (λ name. not (has_column cols name)) names)
 
--- the first column that the relation does not have
+-- the first column that the relation does not have: sets before tests, left before right
 abbrev pub column_line : Catalog → Command → Option BindError
-column_line catalog c = option_map (error.Column None) (find (λ name. not (has_column (columns_at catalog c) name)) (column_names c))
+column_line catalog (Delete users sign rel conds) = unknown_column (columns_of catalog.rels rel) (cond_columns conds)
+column_line catalog (Update users sign rel sets conds) = unknown_column (columns_of catalog.rels rel)
+    (map (λ s. s.col) sets ++ cond_columns conds)
+column_line catalog _ = None
 
 -- the first name that stands earlier in the list, or among those seen before
 abbrev pub first_repeated : List (List ℕ) → List ColDef → Option (List ℕ)

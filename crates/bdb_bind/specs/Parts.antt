@@ -52,12 +52,6 @@ abbrev pub cond_columns : List RawCond → List (List ℕ)
 cond_columns [] = []
 cond_columns (c ∷ cs) = c.left.col ∷ (side_columns c.right ++ cond_columns cs)
 
--- the columns that a delete or an update names, in text order
-abbrev pub column_names : Command → List (List ℕ)
-column_names (Delete users sign rel conds) = cond_columns conds
-column_names (Update users sign rel sets conds) = map (λ s. s.col) sets ++ cond_columns conds
-column_names _ = []
-
 -- the texts of a value
 abbrev pub value_texts : Value → List (List ℕ)
 value_texts (Int n) = []

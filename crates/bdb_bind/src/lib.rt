@@ -3,6 +3,8 @@
 
 mod binding;
 mod bound;
+mod lookup;
+mod parts;
 
 pub use binding::{bind, is_built};
 pub use bound::{BindError, Bound};
