@@ -1,0 +1,65 @@
+-- What a command that isn't refused is bound to.
+use Rattle.std.specs.Prelude.{ℕ, List, [], map}
+use Rattle.std.specs.Option.{unwrap_or}
+use Rattle.bdb_base.specs.declared.kinds.Catalog.{Catalog}
+use Rattle.bdb_base.specs.declared.kinds.ColDef.{ColDef}
+use Rattle.bdb_base.specs.declared.kinds.RelDef.{RelDef}
+use Rattle.bdb_base.specs.declared.kinds.Ref.{Ref}
+use Rattle.bdb_base.specs.declared.kinds.Operand.{Operand}
+use Rattle.bdb_base.specs.declared.kinds.Operand.TheVariants as operand
+use Rattle.bdb_base.specs.declared.kinds.Cond.{Cond}
+use Rattle.bdb_base.specs.declared.kinds.SetCol.{SetCol}
+use Rattle.bdb_base.specs.declared.kinds.Value.{Value}
+use Rattle.bdb_base.specs.declared.kinds.Sign.{Sign}
+use Rattle.bdb_base.specs.declared.kinds.Stmt.{Stmt}
+use Rattle.bdb_syntax.specs.declared.command.Command.{Command}
+use Rattle.bdb_syntax.specs.declared.command.Command.TheVariants.{CreateUser, CreateRelation, Insert, Delete, Update, ShowWorld}
+use Rattle.bdb_syntax.specs.declared.command.RawCond.{RawCond}
+use Rattle.bdb_syntax.specs.declared.command.RawSide.{RawSide}
+use Rattle.bdb_syntax.specs.declared.command.RawSide.TheVariants.{Col, Lit}
+use Rattle.bdb_syntax.specs.declared.command.RawSet.{RawSet}
+use Rattle.bdb_bind.specs.declared.bound.Bound.{Bound}
+use Rattle.bdb_bind.specs.declared.bound.Bound.TheVariants as bound
+use Rattle.bdb_bind.specs.Lookup.{path_of, number_of, columns_of, column_at}
+
+-- the number of a relation that is there
+abbrev pub relation_at : List RelDef → List ℕ → ℕ
+relation_at rels name = unwrap_or (number_of rels name) 0
+
+-- the place of a column that is there
+abbrev pub place_of : List ColDef → List ℕ → ℕ
+place_of cols name = unwrap_or (column_at cols name) 0
+
+-- a column, of item 0
+abbrev pub bound_column : List ColDef → List ℕ → Ref
+bound_column cols name = record { item = 0; col = place_of cols name }
+
+abbrev pub bound_side : List ColDef → RawSide → Operand
+bound_side cols (Col c) = operand.Col (bound_column cols c.col)
+bound_side cols (Lit v) = operand.Lit v
+
+abbrev pub bound_cond : List ColDef → RawCond → Cond
+bound_cond cols c = record { left = bound_column cols c.left.col; cmp = c.cmp; right = bound_side cols c.right }
+
+abbrev pub bound_set : List ColDef → RawSet → SetCol
+bound_set cols s = record { col = place_of cols s.col; to = s.to }
+
+-- the statement of an insert
+abbrev pub statement_of : Catalog → List (List ℕ) → Sign → List ℕ → List Value → Stmt
+statement_of catalog users sign rel vals = record {
+  path = path_of catalog.users users;
+  sign = sign;
+  tuple = record { rel = relation_at catalog.rels rel; vals = vals };
+}
+
+-- what a command is bound to where it isn't refused; the kinds that are not bound so far have no meaning here
+abbrev pub bound_of : Catalog → Command → Bound
+bound_of catalog (CreateUser name) = bound.CreateUser name
+bound_of catalog (CreateRelation name cols) = bound.CreateRelation (record { name = name; cols = cols })
+bound_of catalog (Insert users sign rel vals) = bound.Insert (statement_of catalog users sign rel vals)
+bound_of catalog (Delete users sign rel conds) = bound.Delete (path_of catalog.users users) sign (relation_at catalog.rels rel)
+    (map (bound_cond (columns_of catalog.rels rel)) conds)
+bound_of catalog (Update users sign rel sets conds) = bound.Update (path_of catalog.users users) sign (relation_at catalog.rels rel)
+    (map (bound_set (columns_of catalog.rels rel)) sets) (map (bound_cond (columns_of catalog.rels rel)) conds)
+bound_of catalog (ShowWorld users) = bound.ShowWorld (path_of catalog.users users)
+bound_of catalog _ = bound.ShowWorld []

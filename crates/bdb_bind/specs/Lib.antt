@@ -1,0 +1,5 @@
+pub mod Lookup
+pub mod Parts
+pub mod Lines
+pub mod Refusal
+pub mod Binding

@@ -1,0 +1,150 @@
+-- The reasons to refuse a command, one by one.
+use Rattle.std.specs.Prelude.{◌≡◌, ◌≢◌, Result, MatchResult, map, ◌++◌, ℕ, Bool, true, false, not, ◌||◌, ◌==◌, nat_lt, List, [], ◌∷◌, ◌++◌, length, Option, None, Some, find, if◌then◌else◌}
+use Rattle.std.specs.Option.{option_map, is_some}
+use Rattle.std.specs.List.{list_any}
+use Rattle.bdb_base.specs.declared.kinds.Catalog.{Catalog}
+use Rattle.bdb_base.specs.declared.kinds.ColDef.{ColDef}
+use Rattle.bdb_base.specs.declared.kinds.RelDef.{RelDef}
+use Rattle.bdb_base.specs.declared.kinds.Kind.{Kind}
+use Rattle.bdb_base.specs.declared.kinds.Kind.TheVariants as kind
+use Rattle.bdb_base.specs.declared.kinds.Value.{Value}
+use Rattle.bdb_base.specs.declared.kinds.Value.TheVariants.{Int, Text}
+use Rattle.bdb_base.specs.Same.{same_text, same_kind}
+use Rattle.bdb_base.specs.Bases.{users_name}
+use Rattle.bdb_syntax.specs.declared.command.Command.{Command}
+use Rattle.bdb_syntax.specs.declared.command.Command.TheVariants.{CreateUser, CreateRelation, Insert, Delete, Update}
+use Rattle.bdb_syntax.specs.declared.command.RawCond.{RawCond}
+use Rattle.bdb_syntax.specs.declared.command.RawSide.{RawSide}
+use Rattle.bdb_syntax.specs.declared.command.RawSide.TheVariants.{Col, Lit}
+use Rattle.bdb_syntax.specs.declared.command.RawSet.{RawSet}
+use Rattle.bdb_bind.specs.declared.bound.BindError.{BindError}
+use Rattle.bdb_bind.specs.declared.bound.BindError.TheVariants as error
+use Rattle.bdb_bind.specs.Lookup.{is_user_name, number_of, columns_of, has_column, kind_at}
+use Rattle.bdb_bind.specs.Parts.{path_names, depth_limit, relation_name, new_columns, cond_columns, is_long, some_text}
+
+-- a refusal that comes where a test holds
+abbrev pub refused_if : Bool → BindError → Option BindError
+refused_if true e = Some e
+refused_if false e = None
+
+-- a check passes where its line does not apply, and else answers what the line says, unless there is no memory
+abbrev pub Checks : {T : Type 0} → Result T BindError → Option BindError → Type 0
+Checks result line = MatchResult result (λ _. line ≡ None) (λ e. e ≢ error.Memory → line ≡ Some e)
+
+-- a text has more than 255 bytes
+abbrev pub text_line : Command → Option BindError
+text_line c = refused_if (some_text is_long c) error.Text
+
+-- a new relation has more than 16 columns
+abbrev pub items_line : Command → Option BindError
+items_line c = refused_if (nat_lt 16 (length (new_columns c))) error.Items
+
+-- a name that should be a relation's is none
+abbrev pub unknown_relation : List RelDef → Option (List ℕ) → Option BindError
+unknown_relation rels None = None
+unknown_relation rels (Some name) = refused_if (not (is_some (number_of rels name))) (error.Relation name)
+
+-- the relation isn't in the catalog
+abbrev pub relation_line : Catalog → Command → Option BindError
+relation_line catalog c = unknown_relation catalog.rels (relation_name c)
+
+-- the first name of the path that is no user's
+abbrev pub user_line : Catalog → Command → Option BindError
+user_line catalog c = option_map error.User (find (λ name. not (is_user_name catalog.users name)) (path_names c))
+
+-- the first of these columns that a relation does not have
+abbrev pub unknown_column : List ColDef → List (List ℕ) → Option BindError
+unknown_column cols names = option_map (error.Column None) (find (λ name. not (has_column cols name)) names)
+
+-- the first column that the relation does not have: sets before tests, left before right
+abbrev pub column_line : Catalog → Command → Option BindError
+column_line catalog (Delete users sign rel conds) = unknown_column (columns_of catalog.rels rel) (cond_columns conds)
+column_line catalog (Update users sign rel sets conds) = unknown_column (columns_of catalog.rels rel)
+    (map (λ s. s.col) sets ++ cond_columns conds)
+column_line catalog _ = None
+
+-- the first name that stands earlier in the list, or among those seen before
+abbrev pub first_repeated : List (List ℕ) → List ColDef → Option (List ℕ)
+first_repeated seen [] = None
+first_repeated seen (c ∷ cs) = if list_any (same_text c.name) seen then Some c.name else first_repeated (seen ++ c.name ∷ []) cs
+
+-- the first of two refusals that applies
+abbrev pub or_next : Option BindError → Option BindError → Option BindError
+or_next None next = next
+or_next (Some e) next = Some e
+
+-- a new name is taken: that of a user, of a relation or `Users`, or of an earlier column
+abbrev pub taken_line : Catalog → Command → Option BindError
+taken_line catalog (CreateUser name) = refused_if (is_user_name catalog.users name) (error.TakenUser name)
+taken_line catalog (CreateRelation name cols) = or_next
+    (refused_if (is_some (number_of catalog.rels name) || same_text name users_name) (error.TakenName name))
+    (option_map error.TakenName (first_repeated [] cols))
+taken_line catalog _ = None
+
+-- a list of names begins with this one
+abbrev pub begins_with : List ℕ → List (List ℕ) → Bool
+begins_with name [] = false
+begins_with name (n ∷ ns) = same_text name n
+
+-- two neighbours are equal
+abbrev pub has_repeat : List (List ℕ) → Bool
+has_repeat [] = false
+has_repeat (n ∷ ns) = begins_with n ns || has_repeat ns
+
+-- the path names one user twice in a row
+abbrev pub repeat_line : Command → Option BindError
+repeat_line c = refused_if (has_repeat (path_names c)) error.Repeat
+
+-- the path is too long
+abbrev pub deep_line : Command → Option BindError
+deep_line c = refused_if (nat_lt (depth_limit c) (length (path_names c))) error.Deep
+
+-- an insert has another number of values than the relation has columns
+abbrev pub arity_line : Catalog → Command → Option BindError
+arity_line catalog (Insert users sign rel vals) = refused_if (not (length vals == length (columns_of catalog.rels rel))) error.Arity
+arity_line catalog _ = None
+
+-- the kind of a value
+abbrev pub kind_of : Value → Kind
+kind_of (Int n) = kind.Int
+kind_of (Text t) = kind.Text
+
+-- the first column whose value is of another kind
+abbrev pub misfit : List ColDef → List Value → Option (List ℕ)
+misfit [] vals = None
+misfit (c ∷ cs) [] = None
+misfit (c ∷ cs) (v ∷ vs) = if same_kind c.kind (kind_of v) then misfit cs vs else Some c.name
+
+-- both kinds are known, and are one
+abbrev pub are_one_kind : Option Kind → Option Kind → Bool
+are_one_kind (Some a) (Some b) = same_kind a b
+are_one_kind _ _ = false
+
+-- the kind of a comparison's right side
+abbrev pub side_kind : List ColDef → RawSide → Option Kind
+side_kind cols (Col c) = kind_at cols c.col
+side_kind cols (Lit v) = Some (kind_of v)
+
+-- a set gives a column a value of its kind
+abbrev pub fits_set : List ColDef → RawSet → Bool
+fits_set cols s = are_one_kind (kind_at cols s.col) (Some (kind_of s.to))
+
+-- a comparison's sides are of one kind
+abbrev pub fits_cond : List ColDef → RawCond → Bool
+fits_cond cols c = are_one_kind (kind_at cols c.left.col) (side_kind cols c.right)
+
+-- the first set that joins two kinds
+abbrev pub set_kinds : List ColDef → List RawSet → Option BindError
+set_kinds cols sets = option_map (λ s. error.Kind None s.col) (find (λ s. not (fits_set cols s)) sets)
+
+-- the first comparison that joins two kinds
+abbrev pub cond_kinds : List ColDef → List RawCond → Option BindError
+cond_kinds cols conds = option_map (λ c. error.Kind None c.left.col) (find (λ c. not (fits_cond cols c)) conds)
+
+-- a value, a set or a comparison joins two kinds
+abbrev pub kind_line : Catalog → Command → Option BindError
+kind_line catalog (Insert users sign rel vals) = option_map (error.Kind None) (misfit (columns_of catalog.rels rel) vals)
+kind_line catalog (Delete users sign rel conds) = cond_kinds (columns_of catalog.rels rel) conds
+kind_line catalog (Update users sign rel sets conds) = or_next
+    (set_kinds (columns_of catalog.rels rel) sets) (cond_kinds (columns_of catalog.rels rel) conds)
+kind_line catalog _ = None

@@ -1,0 +1,45 @@
+-- Looking names up in a catalog.
+use Rattle.std.specs.Prelude.{ℕ, Bool, List, [], ◌∷◌, Option, None, Some, find}
+use Rattle.std.specs.Option.{option_map, is_some, unwrap_or}
+use Rattle.std.specs.List.{position_from}
+use Rattle.bdb_base.specs.declared.kinds.Kind.{Kind}
+use Rattle.bdb_base.specs.declared.kinds.ColDef.{ColDef}
+use Rattle.bdb_base.specs.declared.kinds.RelDef.{RelDef}
+use Rattle.bdb_base.specs.Same.{same_text}
+
+-- the uid of a name: the place of the first user of that name, from 1
+abbrev pub uid_of : List (List ℕ) → List ℕ → Option ℕ
+uid_of users name = position_from (λ x. same_text x name) 1 users
+
+-- a name is that of a user
+abbrev pub is_user_name : List (List ℕ) → List ℕ → Bool
+is_user_name users name = is_some (uid_of users name)
+
+-- the users of names, each of which has one
+abbrev pub path_of : List (List ℕ) → List (List ℕ) → List ℕ
+path_of users [] = []
+path_of users (n ∷ ns) = unwrap_or (uid_of users n) 0 ∷ path_of users ns
+
+-- the number of a relation: its place, from 0
+abbrev pub number_of : List RelDef → List ℕ → Option ℕ
+number_of rels name = position_from (λ r. same_text r.name name) 0 rels
+
+-- the columns of the relation of a name
+abbrev pub columns_of : List RelDef → List ℕ → List ColDef
+columns_of rels name = columns (find (λ r. same_text r.name name) rels)
+  where
+    columns : Option RelDef → List ColDef
+    columns None = []
+    columns (Some def) = def.cols
+
+-- the place of a column, from 0
+abbrev pub column_at : List ColDef → List ℕ → Option ℕ
+column_at cols name = position_from (λ c. same_text c.name name) 0 cols
+
+-- there is a column of this name
+abbrev pub has_column : List ColDef → List ℕ → Bool
+has_column cols name = is_some (column_at cols name)
+
+-- the kind of the column of a name
+abbrev pub kind_at : List ColDef → List ℕ → Option Kind
+kind_at cols name = option_map (λ c. c.kind) (find (λ c. same_text c.name name) cols)

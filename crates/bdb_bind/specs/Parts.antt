@@ -1,0 +1,77 @@
+-- What a command says of users, relations, columns and texts.
+use Rattle.std.specs.Prelude.{ℕ, Bool, true, false, ◌||◌, nat_lt, List, [], ◌∷◌, ◌++◌, length, map, Option, None, Some}
+use Rattle.std.specs.List.{list_any}
+use Rattle.bdb_base.specs.declared.kinds.ColDef.{ColDef}
+use Rattle.bdb_base.specs.declared.kinds.Value.{Value}
+use Rattle.bdb_base.specs.declared.kinds.Value.TheVariants.{Int, Text}
+use Rattle.bdb_syntax.specs.declared.command.Command.{Command}
+use Rattle.bdb_syntax.specs.declared.command.Command.TheVariants.{CreateUser, CreateRelation, Insert, Delete, Update, Select, Explain, ShowWorld, ShowTables}
+use Rattle.bdb_syntax.specs.declared.command.RawCond.{RawCond}
+use Rattle.bdb_syntax.specs.declared.command.RawSide.{RawSide}
+use Rattle.bdb_syntax.specs.declared.command.RawSide.TheVariants.{Col, Lit}
+
+-- a command is of a kind that is bound so far
+abbrev pub is_built : Command → Bool
+is_built (Select query) = false
+is_built (Explain query) = false
+is_built ShowTables = false
+is_built _ = true
+
+-- the names of a command's path
+abbrev pub path_names : Command → List (List ℕ)
+path_names (Insert users sign rel vals) = users
+path_names (Delete users sign rel conds) = users
+path_names (Update users sign rel sets conds) = users
+path_names (ShowWorld users) = users
+path_names _ = []
+
+-- the longest path that a command may have
+abbrev pub depth_limit : Command → ℕ
+depth_limit (ShowWorld users) = 1024
+depth_limit _ = 16
+
+-- the relation that a command names
+abbrev pub relation_name : Command → Option (List ℕ)
+relation_name (Insert users sign rel vals) = Some rel
+relation_name (Delete users sign rel conds) = Some rel
+relation_name (Update users sign rel sets conds) = Some rel
+relation_name _ = None
+
+-- the columns of a new relation
+abbrev pub new_columns : Command → List ColDef
+new_columns (CreateRelation name cols) = cols
+new_columns _ = []
+
+-- the columns that a comparison's right side names
+abbrev pub side_columns : RawSide → List (List ℕ)
+side_columns (Col c) = c.col ∷ []
+side_columns (Lit v) = []
+
+-- the columns that comparisons name, left before right
+abbrev pub cond_columns : List RawCond → List (List ℕ)
+cond_columns [] = []
+cond_columns (c ∷ cs) = c.left.col ∷ (side_columns c.right ++ cond_columns cs)
+
+-- the texts of a value
+abbrev pub value_texts : Value → List (List ℕ)
+value_texts (Int n) = []
+value_texts (Text t) = t ∷ []
+
+-- the texts of a comparison's right side
+abbrev pub side_texts : RawSide → List (List ℕ)
+side_texts (Col c) = []
+side_texts (Lit v) = value_texts v
+
+-- a text has more than 255 bytes
+abbrev pub is_long : List ℕ → Bool
+is_long text = nat_lt 255 (length text)
+
+-- a test fails at a text of a command
+abbrev pub some_text : (List ℕ → Bool) → Command → Bool
+some_text p (CreateUser name) = p name
+some_text p (Insert users sign rel vals) = list_any p users || list_any (λ v. list_any p (value_texts v)) vals
+some_text p (Delete users sign rel conds) = list_any p users || list_any (λ c. list_any p (side_texts c.right)) conds
+some_text p (Update users sign rel sets conds) = list_any p users || (list_any (λ s. list_any p (value_texts s.to)) sets
+    || list_any (λ c. list_any p (side_texts c.right)) conds)
+some_text p (ShowWorld users) = list_any p users
+some_text p _ = false
