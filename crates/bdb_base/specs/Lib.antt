@@ -2,8 +2,10 @@ pub mod Alternation
 pub mod Bases
 pub mod Causes
 pub mod Clash
+pub mod Laws
 pub mod Order
 pub mod Same
 pub mod SortedSet
+pub mod States
 pub mod TupleFields
 pub mod Worlds
