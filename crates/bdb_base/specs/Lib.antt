@@ -4,8 +4,10 @@ pub mod Causes
 pub mod Changes
 pub mod Clash
 pub mod Conditions
+pub mod Laws
 pub mod Order
 pub mod Same
 pub mod SortedSet
+pub mod States
 pub mod TupleFields
 pub mod Worlds

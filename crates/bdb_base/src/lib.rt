@@ -2,12 +2,15 @@
 //! with the definitions of worlds and belief in `specs/`.
 #![tactic(auto)]
 
+mod conflict;
 mod kinds;
+pub mod laws;
 mod list;
 mod path;
 mod text;
 mod tuple;
 
+pub use conflict::{clash, key_of, same_key, same_tuple, same_value, same_values};
 pub use kinds::{
     Catalog, Cmp, ColDef, Cond, Held, Item, Kind, Operand, Query, Ref, RelDef, SetCol, Sign, Stmt,
     Value, What, Who, World,

@@ -1,0 +1,4 @@
+pub mod ClashLemmas
+pub mod LeastLemmas
+pub mod SameLemmas
+pub mod WorldLemmas
