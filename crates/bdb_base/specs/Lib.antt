@@ -5,5 +5,6 @@ pub mod Clash
 pub mod Order
 pub mod Same
 pub mod SortedSet
+pub mod Texts
 pub mod TupleFields
 pub mod Worlds

@@ -6,6 +6,7 @@ mod kinds;
 mod list;
 mod path;
 mod text;
+mod texts;
 mod tuple;
 
 pub use kinds::{
@@ -15,4 +16,5 @@ pub use kinds::{
 pub use list::{Exact, List};
 pub use path::{Path, PathError};
 pub use text::Txt;
+pub use texts::{append_decimal, append_int, append_quoted, append_value};
 pub use tuple::Tuple;
