@@ -16,5 +16,7 @@ pub use kinds::{
 pub use list::{Exact, List};
 pub use path::{Path, PathError};
 pub use text::Txt;
-pub use texts::{append_decimal, append_int, append_quoted, append_value};
+pub use texts::{
+    Printed, append_decimal, append_int, append_quoted, append_separated, append_value,
+};
 pub use tuple::Tuple;

@@ -1,11 +1,49 @@
 // Texts of values, appended to a buffer.
-ghost use Rattle.std.specs.Prelude.{◌≡◌, ◌++◌, OnOk};
+ghost use Rattle.std.specs.Prelude.{◌≡◌, ◌++◌, ℕ, List, map, OnOk};
 ghost use Rattle.std.specs.Fmt.{decimal};
 ghost use Rattle.std.specs.List.{flat_map};
-ghost use Rattle.bdb_base.specs.Texts.{int_text, quoted, quoted_byte, value_text};
+ghost use Rattle.bdb_base.specs.Texts.{int_text, quoted, quoted_byte, separated, value_text};
 
 use crate::kinds::Value;
 use std::alloc::AllocError;
+
+/// What has a text of its own in commands and replies.
+pub trait Printed {
+    ghost text: { Self → List ℕ };
+
+    /// Appends the text to a buffer.
+    fn append_to(&self, out: &mut Vec<u8>) -> Result<(), AllocError>
+        ensures { OnOk result (out.new.items ≡ out.old.items ++ text self.now) };
+}
+
+impl Printed for Value {
+    ghost text = { value_text };
+
+    fn append_to(&self, out: &mut Vec<u8>) -> Result<(), AllocError> {
+        append_value(out, self)
+    }
+}
+
+/// Appends the texts of items, with a separator between each two.
+pub fn append_separated<X: Printed>(
+    out: &mut Vec<u8>,
+    between: &[u8],
+    items: &[X],
+) -> Result<(), AllocError>
+    ensures { OnOk result (out.new.items ≡ out.old.items ++ separated between.now (map X.text items.now)) }
+{
+    match items {
+        [] => Ok(()),
+        [first, rest @ ..] => {
+            first.append_to(out)?;
+            for item in rest {
+                out.extend_from_slice(between)?;
+                item.append_to(out)?;
+            }
+            Ok(())
+        }
+    }
+}
 
 /// Appends a value as replies and commands write it: an integer in decimal, a text in quotes.
 pub fn append_value(out: &mut Vec<u8>, value: &Value) -> Result<(), AllocError>
