@@ -9,5 +9,6 @@ pub mod Order
 pub mod Same
 pub mod SortedSet
 pub mod States
+pub mod Texts
 pub mod TupleFields
 pub mod Worlds

@@ -8,6 +8,7 @@ pub mod laws;
 mod list;
 mod path;
 mod text;
+mod texts;
 mod tuple;
 
 pub use conflict::{clash, key_of, same_key, same_tuple, same_value, same_values};
@@ -18,4 +19,7 @@ pub use kinds::{
 pub use list::{Exact, List};
 pub use path::{Path, PathError};
 pub use text::Txt;
+pub use texts::{
+    Printed, append_decimal, append_int, append_quoted, append_separated, append_value,
+};
 pub use tuple::Tuple;

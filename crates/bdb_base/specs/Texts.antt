@@ -1,0 +1,32 @@
+-- Texts of values, as replies and printed commands write them.
+use Rattle.std.specs.Prelude.{ℕ, ◌==◌, List, [], ◌∷◌, ◌++◌, if◌then◌else◌, codes, ℤ}
+use Rattle.std.specs.List.{flat_map}
+use Rattle.std.specs.Fmt.{signed_decimal}
+use Rattle.bdb_base.specs.declared.kinds.Value.{Value}
+use Rattle.bdb_base.specs.declared.kinds.Value.TheVariants.{Int, Text}
+
+-- an integer: its decimal digits, with a dash in front where it is negative
+abbrev pub int_text : ℤ → List ℕ
+int_text n = signed_decimal n
+
+-- a byte of a quoted text: a quote stands twice
+abbrev pub quoted_byte : ℕ → List ℕ
+quoted_byte c = if c == 39 then 39 ∷ 39 ∷ [] else c ∷ []
+
+-- a text in quotes, each quote in it doubled
+abbrev pub quoted : List ℕ → List ℕ
+quoted text = 39 ∷ [] ++ flat_map quoted_byte text ++ 39 ∷ []
+
+-- an integer, or a quoted text
+abbrev pub value_text : Value → List ℕ
+value_text (Int n) = int_text n
+value_text (Text text) = quoted text
+
+-- texts with a separator between each two
+abbrev pub separated : List ℕ → List (List ℕ) → List ℕ
+separated between [] = []
+separated between (first ∷ rest) = first ++ flat_map (λ text. between ++ text) rest
+
+-- texts with a comma and a space between each two
+abbrev pub joined : List (List ℕ) → List ℕ
+joined = separated (codes ", ")
