@@ -1,5 +1,5 @@
 -- How keys are spelled.
-use Rattle.std.specs.Prelude.{ℕ, ◌+◌, ◌-◌, ◌^◌, ℤ, pos, negsuc, List, [], ◌∷◌, ◌++◌, length}
+use Rattle.std.specs.Prelude.{◌≡◌, ℕ, ◌+◌, ◌-◌, ◌^◌, ℤ, pos, negsuc, List, [], ◌∷◌, ◌++◌, length}
 use Rattle.std.specs.Int.{w32, w64, to_be_bytes}
 use Rattle.std.specs.List.{flat_map}
 use Rattle.bdb_base.specs.declared.kinds.Value.{Value}
@@ -46,3 +46,7 @@ part_bytes (Path path) = path_bytes path
 -- a key: its parts, one after the other
 abbrev pub key_bytes : List Part → List ℕ
 key_bytes parts = flat_map part_bytes parts
+
+-- the bytes before, and some more behind them
+abbrev pub Grows : List ℕ → List ℕ → Type 0
+Grows old new = (more : List ℕ) × (new ≡ old ++ more)

@@ -1,9 +1,9 @@
 -- Which parts are in the grammar of keys.
-use Rattle.std.specs.Prelude.{◌≡◌, ℕ, ◌^◌, ◌<◌, ◌≤◌, nat_le, true, List, [], ◌∷◌, length, FitsSigned}
+use Rattle.std.specs.Prelude.{◌≡◌, ℕ, ◌^◌, ◌<◌, true, List, [], ◌∷◌, length, FitsSigned}
 use Rattle.std.specs.Int.{w64}
-use Rattle.std.specs.List.{list_all, AllByRecursion}
-use Rattle.std.specs.Str.{IsUtf8}
+use Rattle.std.specs.List.{AllByRecursion}
 use Rattle.bdb_base.specs.Alternation.{alternates}
+use Rattle.bdb_base.specs.Bases.{is_plain}
 use Rattle.bdb_base.specs.declared.kinds.Value.{Value}
 use Rattle.bdb_base.specs.declared.kinds.Value.TheVariants.{Int, Text}
 use Rattle.bdb_key.specs.declared.part.Part.{Part}
@@ -12,14 +12,17 @@ use Rattle.bdb_key.specs.declared.part.Slot.{Slot}
 use Rattle.bdb_key.specs.declared.part.Slot.TheVariants as slots
 
 -- a plain text: at most 255 bytes of UTF-8, and no character below U+0020
-pub record IsPlain (text : List ℕ) : Type 0 where
-  pub short : length text ≤ 255
-  pub utf8 : IsUtf8 text
-  pub printing : list_all (nat_le 32) text ≡ true
+abbrev pub IsPlain : List ℕ → Type 0
+IsPlain text = is_plain text ≡ true
 
 -- a number of four bytes
 abbrev pub IsNum : ℕ → Type 0
 IsNum n = n < 2 ^ 32
+
+-- an integer is one of eight bytes
+abbrev pub IsWhole : Value → Type 0
+IsWhole (Int m) = FitsSigned w64 m
+IsWhole (Text text) = Unit {0}
 
 -- an integer of eight bytes, or a plain text
 abbrev pub IsPlainValue : Value → Type 0
@@ -52,8 +55,14 @@ IsKey (slots.Rest ∷ shape) key = AllByRecursion (FitsSlot slots.Rest) key
 IsKey (slot ∷ shape) [] = ⊥
 IsKey (slot ∷ shape) (part ∷ key) = FitsSlot slot part × IsKey shape key
 
--- a part that has a spelling: the length of a path is a number of four bytes
+-- a part whose path, if it is one, has a length of four bytes
 abbrev pub IsShortPart : Part → Type 0
 IsShortPart (parts.Num n) = Unit {0}
 IsShortPart (parts.Val value) = Unit {0}
 IsShortPart (parts.Path path) = IsNum (length path)
+
+-- a part whose numbers are of four bytes, and whose integer is one of eight
+abbrev pub IsWholePart : Part → Type 0
+IsWholePart (parts.Num n) = IsNum n
+IsWholePart (parts.Val value) = IsWhole value
+IsWholePart (parts.Path path) = AllByRecursion IsNum path

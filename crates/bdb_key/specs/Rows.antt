@@ -1,7 +1,7 @@
 -- How rows are spelled, and which rows are in the grammar of a table.
-use Rattle.std.specs.Prelude.{◌≡◌, ℕ, ◌<◌, ◌⊎◌, Bool, true, false, List, [], ◌++◌, length}
+use Rattle.std.specs.Prelude.{◌≡◌, ℕ, pos, ◌<◌, ◌⊎◌, Bool, true, false, List, [], ◌++◌, length}
 use Rattle.std.specs.List.{flat_map, AllByRecursion}
-use Rattle.bdb_base.specs.TupleFields.{Fields}
+use Rattle.bdb_base.specs.declared.tuple.Tuple.{Tuple}
 use Rattle.bdb_base.specs.declared.kinds.Kind.{Kind}
 use Rattle.bdb_base.specs.declared.kinds.Kind.TheVariants as kinds
 use Rattle.bdb_base.specs.declared.kinds.Sign.{Sign}
@@ -12,7 +12,6 @@ use Rattle.bdb_key.specs.Bytes.{num_bytes, int_bytes, text_bytes, values_bytes}
 use Rattle.bdb_key.specs.Grammar.{IsNum, IsPlain, ArePlain}
 use Rattle.bdb_key.specs.declared.row.TabRow.{TabRow}
 use Rattle.bdb_key.specs.declared.row.TabRow.TheVariants as rows
-use Rattle.std.specs.Prelude.{pos}
 
 -- the integer of a kind
 abbrev pub kind_bytes : Kind → List ℕ
@@ -28,7 +27,7 @@ abbrev pub rel_bytes : RelDef → List ℕ
 rel_bytes def = text_bytes def.name ++ flat_map col_bytes def.cols
 
 -- a tuple: its relation, then its values
-abbrev pub tuple_bytes : Fields → List ℕ
+abbrev pub tuple_bytes : Tuple → List ℕ
 tuple_bytes t = num_bytes t.rel ++ values_bytes t.vals
 
 -- the number of a sign
@@ -63,7 +62,7 @@ pub record IsRelRow (def : RelDef) : Type 0 where
   pub names : AllByRecursion (λ col. IsPlain col.name) def.cols
 
 -- a tuple of plain values, with a value
-pub record IsTupleRow (t : Fields) : Type 0 where
+pub record IsTupleRow (t : Tuple) : Type 0 where
   pub rel : IsNum t.rel
   pub some : 0 < length t.vals
   pub plain : ArePlain t.vals
