@@ -13,5 +13,5 @@ pub use part::{KeyError, Part, RowError, Slot};
 pub use read::{num_of, path_of, take_key, text_of, value_of, values_of};
 pub use row::TabRow;
 pub use row_read::{rel_of, take_row};
-pub use row_write::{put_rel, put_row, put_sign};
+pub use row_write::{put_rel, put_row, put_sign, put_tuple};
 pub use write::{put_key, put_num, put_path, put_text, put_value, put_values};
