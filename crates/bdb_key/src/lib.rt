@@ -1,0 +1,17 @@
+//! Keys and rows of the tables as bytes. Each key and row has one spelling, and keys of one shape come in the order of
+//! their parts.
+#![tactic(auto)]
+
+mod part;
+mod read;
+mod row;
+mod row_read;
+mod row_write;
+mod write;
+
+pub use part::{KeyError, Part, RowError, Slot};
+pub use read::{num_of, path_of, take_key, text_of, value_of, values_of};
+pub use row::TabRow;
+pub use row_read::{rel_of, take_row};
+pub use row_write::{put_rel, put_row, put_sign, put_tuple};
+pub use write::{put_key, put_num, put_path, put_text, put_value, put_values};

@@ -1,0 +1,54 @@
+// The parts of keys, and why bytes are no key or row.
+ghost use Rattle.std.specs.Prelude.{◌≡◌, IfOk};
+
+use bdb_base::{Exact, Path, Value};
+use std::alloc::{AllocError, Global};
+
+/// A part of a key.
+#[derive(Drop)]
+pub enum Part {
+    /// A number, as the number of a user or a world.
+    Num(u32),
+    /// A value of a tuple.
+    Val(Value),
+    /// A belief path.
+    Path(Path),
+}
+
+/// What may stand at a place of a key. A list of them is the shape of a table's keys.
+#[derive(Clone, Copy, Debug, PartialEq, Eq, Drop)]
+pub enum Slot {
+    Num,
+    Val,
+    Path,
+    /// Values up to the end.
+    Rest,
+}
+
+/// Why bytes were not read as a key.
+#[derive(Clone, Copy, Debug, PartialEq, Eq, Drop)]
+pub enum KeyError {
+    /// The bytes are no key of that shape.
+    NotAKey,
+    /// There is no memory.
+    Memory,
+}
+
+/// Why bytes were not read as a row.
+#[derive(Clone, Copy, Debug, PartialEq, Eq, Drop)]
+pub enum RowError {
+    /// The bytes are no row of that table.
+    NotARow,
+    /// There is no memory.
+    Memory,
+}
+
+impl Exact for Part {
+    fn try_clone(&self, alloc: Global) -> Result<Self, AllocError> {
+        match self {
+            Part::Num(n) => Ok(Part::Num(*n)),
+            Part::Val(value) => Ok(Part::Val(value.try_clone(alloc)?)),
+            Part::Path(path) => Ok(Part::Path(path.try_clone(alloc)?)),
+        }
+    }
+}
