@@ -1,0 +1,119 @@
+// The trait of keepers.
+ghost use Rattle.std.specs.Prelude.{◌≡◌, ◌≤◌, [], ◌∷◌, true, false, IfOk, OnOk, OnErr, MatchBool, is_some, if◌then◌else◌};
+ghost use Rattle.std.specs.FinMap as map;
+ghost use Rattle.bdb_base.specs.Causes.{HasCause, RoseBy};
+ghost use Rattle.bdb_keep.specs.Tables.{IsLeastFrom, NoneFrom};
+ghost use Rattle.bdb_keep.specs.Seen.{Seen, NeverFall, IsAtRest, IsDropped, GoesOn};
+
+/// Why a keeper refused a call. After any refusal no transaction runs, and the rows are those last committed.
+#[derive(Clone, Copy, Debug, PartialEq, Eq, Drop)]
+pub enum KeepError {
+    /// The store failed. The keeper's count of faults rose.
+    Fault,
+    /// There is no memory.
+    Memory,
+}
+
+/// A keeper holds rows in tables 1 to 15: each row has a byte key and byte content, one row at most for a table and
+/// a key, and keys come in byte order. Changes are made in a transaction, which is committed or undone as a whole.
+pub trait Keeper {
+    // what the keeper tells of itself
+    ghost seen: { Self → Seen };
+
+    /// Begins a transaction.
+    fn begin(&mut self) -> Result<(), KeepError>
+        requires { (seen self.old).running ≡ false }
+        ensures rest { (seen self.old).kept ≡ (seen self.old).last }
+        ensures running { OnOk result ((seen self.new).running ≡ true) }
+        ensures kept { OnOk result ((seen self.new).kept ≡ (seen self.old).kept) }
+        ensures last { (seen self.new).last ≡ (seen self.old).last }
+        ensures commits { (seen self.new).commits ≡ (seen self.old).commits }
+        ensures reads { (seen self.new).reads ≡ (seen self.old).reads }
+        ensures writes { (seen self.new).writes ≡ (seen self.old).writes }
+        ensures counts { NeverFall (seen self.old) (seen self.new) }
+        ensures cause { HasCause (seen self.old).faults (seen self.new).faults result KeepError.Fault }
+        ensures err { OnErr result (IsDropped (seen self.old) (seen self.new)) };
+
+    /// Reads the row at a key into `row`. The answer is false, and `row` empty, where there is none.
+    fn get(&mut self, tab: u8, key: &[u8], row: &mut Vec<u8>) -> Result<bool, KeepError>
+        requires table { (1 ≤ tab) × (tab ≤ 15) }
+        ensures rest { IsAtRest (seen self.old) }
+        ensures found { IfOk result (λ found. map.get (seen self.old).kept (tab ∷ key.now) ≡ (if found then Some row.new.items else None)) }
+        ensures empty { IfOk result (λ found. found ≡ false → row.new.items ≡ []) }
+        ensures kept { OnOk result ((seen self.new).kept ≡ (seen self.old).kept) }
+        ensures ok { OnOk result (GoesOn (seen self.old) (seen self.new)) }
+        ensures reads { RoseBy 1 (seen self.old).reads (seen self.new).reads }
+        ensures writes { (seen self.new).writes ≡ (seen self.old).writes }
+        ensures counts { NeverFall (seen self.old) (seen self.new) }
+        ensures cause { HasCause (seen self.old).faults (seen self.new).faults result KeepError.Fault }
+        ensures err { OnErr result (IsDropped (seen self.old) (seen self.new)) };
+
+    /// Reads the least key that isn't below `low`, and its row. The answer is false, and both are empty, where there
+    /// is none.
+    fn next(
+        &mut self,
+        tab: u8,
+        low: &[u8],
+        key: &mut Vec<u8>,
+        row: &mut Vec<u8>,
+    ) -> Result<bool, KeepError>
+        requires table { (1 ≤ tab) × (tab ≤ 15) }
+        ensures rest { IsAtRest (seen self.old) }
+        ensures found { IfOk result (λ found. MatchBool found
+            (IsLeastFrom (seen self.old).kept tab low.now key.new.items row.new.items)
+            (NoneFrom (seen self.old).kept tab low.now)) }
+        ensures empty { IfOk result (λ found. found ≡ false → (key.new.items ≡ []) × (row.new.items ≡ [])) }
+        ensures kept { OnOk result ((seen self.new).kept ≡ (seen self.old).kept) }
+        ensures ok { OnOk result (GoesOn (seen self.old) (seen self.new)) }
+        ensures reads { RoseBy 1 (seen self.old).reads (seen self.new).reads }
+        ensures writes { (seen self.new).writes ≡ (seen self.old).writes }
+        ensures counts { NeverFall (seen self.old) (seen self.new) }
+        ensures cause { HasCause (seen self.old).faults (seen self.new).faults result KeepError.Fault }
+        ensures err { OnErr result (IsDropped (seen self.old) (seen self.new)) };
+
+    /// Puts a row at a key, in place of the row that stood there.
+    fn put(&mut self, tab: u8, key: &[u8], row: &[u8]) -> Result<(), KeepError>
+        requires table { (1 ≤ tab) × (tab ≤ 15) }
+        requires running { (seen self.old).running ≡ true }
+        ensures kept { OnOk result ((seen self.new).kept ≡ map.insert (seen self.old).kept (tab ∷ key.now) row.now) }
+        ensures ok { OnOk result (GoesOn (seen self.old) (seen self.new)) }
+        ensures reads { (seen self.new).reads ≡ (seen self.old).reads }
+        ensures writes { RoseBy 1 (seen self.old).writes (seen self.new).writes }
+        ensures counts { NeverFall (seen self.old) (seen self.new) }
+        ensures cause { HasCause (seen self.old).faults (seen self.new).faults result KeepError.Fault }
+        ensures err { OnErr result (IsDropped (seen self.old) (seen self.new)) };
+
+    /// Takes the row at a key away. The answer tells whether it was there.
+    fn remove(&mut self, tab: u8, key: &[u8]) -> Result<bool, KeepError>
+        requires table { (1 ≤ tab) × (tab ≤ 15) }
+        requires running { (seen self.old).running ≡ true }
+        ensures found { IfOk result (λ found. found ≡ is_some (map.get (seen self.old).kept (tab ∷ key.now))) }
+        ensures kept { OnOk result ((seen self.new).kept ≡ map.remove (seen self.old).kept (tab ∷ key.now)) }
+        ensures ok { OnOk result (GoesOn (seen self.old) (seen self.new)) }
+        ensures reads { (seen self.new).reads ≡ (seen self.old).reads }
+        ensures writes { RoseBy 1 (seen self.old).writes (seen self.new).writes }
+        ensures counts { NeverFall (seen self.old) (seen self.new) }
+        ensures cause { HasCause (seen self.old).faults (seen self.new).faults result KeepError.Fault }
+        ensures err { OnErr result (IsDropped (seen self.old) (seen self.new)) };
+
+    /// Makes the rows those last committed, and ends the transaction.
+    fn commit(&mut self) -> Result<(), KeepError>
+        requires { (seen self.old).running ≡ true }
+        ensures kept { OnOk result ((seen self.new).kept ≡ (seen self.old).kept) }
+        ensures last { OnOk result ((seen self.new).last ≡ (seen self.old).kept) }
+        ensures stopped { (seen self.new).running ≡ false }
+        ensures commits { OnOk result (RoseBy 1 (seen self.old).commits (seen self.new).commits) }
+        ensures reads { (seen self.new).reads ≡ (seen self.old).reads }
+        ensures writes { (seen self.new).writes ≡ (seen self.old).writes }
+        ensures counts { NeverFall (seen self.old) (seen self.new) }
+        ensures cause { HasCause (seen self.old).faults (seen self.new).faults result KeepError.Fault }
+        ensures err { OnErr result (IsDropped (seen self.old) (seen self.new)) };
+
+    /// Ends the transaction, if one runs, and goes back to the rows last committed. It can't be refused.
+    fn undo(&mut self)
+        ensures rest { IsAtRest (seen self.old) }
+        ensures dropped { IsDropped (seen self.old) (seen self.new) }
+        ensures reads { (seen self.new).reads ≡ (seen self.old).reads }
+        ensures writes { (seen self.new).writes ≡ (seen self.old).writes }
+        ensures counts { NeverFall (seen self.old) (seen self.new) };
+}
