@@ -1,11 +1,14 @@
 pub mod Alternation
 pub mod Bases
 pub mod Causes
+pub mod Changes
 pub mod Clash
+pub mod Conditions
 pub mod Laws
 pub mod Order
 pub mod Same
 pub mod SortedSet
 pub mod States
 pub mod TupleFields
+pub mod WorldRows
 pub mod Worlds
