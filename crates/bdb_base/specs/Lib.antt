@@ -3,7 +3,11 @@ pub mod Bases
 pub mod Causes
 pub mod Clash
 pub mod Order
+pub mod OrderLemmas
 pub mod Same
+pub mod SameLemmas
+pub mod Segments
+pub mod SetLaws
 pub mod SortedSet
 pub mod TupleFields
 pub mod Worlds

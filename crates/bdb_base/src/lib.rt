@@ -4,7 +4,10 @@
 
 mod kinds;
 mod list;
+mod order;
+mod ordered;
 mod path;
+mod segments;
 mod text;
 mod tuple;
 
@@ -13,6 +16,12 @@ pub use kinds::{
     Value, What, Who, World,
 };
 pub use list::{Exact, List};
+pub use order::{cmp_path, cmp_stmt, cmp_tuple, cmp_value};
+pub use ordered::{
+    Ordered, loop_makes_set, members_make_set, place_of, put, put_adds_member, put_keeps_order,
+    set_is_ascending, set_keeps_members, take, take_drops_member, take_keeps_order,
+};
 pub use path::{Path, PathError};
+pub use segments::{path_is_prefix, path_is_suffix, path_tail};
 pub use text::Txt;
 pub use tuple::Tuple;
