@@ -6,5 +6,7 @@ mod names;
 mod refusal;
 mod reply;
 
-pub use refusal::{refusal_reply, Refusal};
-pub use reply::{count_reply, ok_reply, path_text, rows_reply, tuple_text, value_text, world_reply};
+pub use refusal::{Refusal, refusal_reply};
+pub use reply::{
+    count_reply, ok_reply, path_text, rows_reply, tuple_text, value_text, world_reply,
+};

@@ -5,7 +5,7 @@ ghost use Rattle.bdb_render.specs.Replies.{answer_line, count_reply, held_line, 
 
 use crate::names;
 use bdb_base::{
-    append_decimal, append_quoted, append_separated, Catalog, Held, List, Sign, Tuple, Value,
+    Catalog, Held, List, Sign, Tuple, Value, append_decimal, append_quoted, append_separated,
 };
 use std::alloc::AllocError;
 
@@ -17,11 +17,7 @@ pub fn append_row(out: &mut Vec<u8>, vals: &List<Value>) -> Result<(), AllocErro
 }
 
 /// Appends a tuple: the relation's name, and the values in parentheses.
-pub fn append_tuple(
-    out: &mut Vec<u8>,
-    catalog: &Catalog,
-    tuple: &Tuple,
-) -> Result<(), AllocError>
+pub fn append_tuple(out: &mut Vec<u8>, catalog: &Catalog, tuple: &Tuple) -> Result<(), AllocError>
     ensures { OnOk result (out.new.items ≡ out.old.items ++ tuple_text catalog.now tuple.now) }
 {
     out.extend_from_slice(names::relation_name(catalog, tuple.rel))?;
@@ -32,11 +28,7 @@ pub fn append_tuple(
 }
 
 /// Appends a path: for each user a slash and the quoted name; a slash for the empty path.
-pub fn append_path(
-    out: &mut Vec<u8>,
-    catalog: &Catalog,
-    path: &[u32],
-) -> Result<(), AllocError>
+pub fn append_path(out: &mut Vec<u8>, catalog: &Catalog, path: &[u32]) -> Result<(), AllocError>
     ensures { OnOk result (out.new.items ≡ out.old.items ++ path_text catalog.now path.now) }
 {
     if path.is_empty() {
@@ -47,11 +39,7 @@ pub fn append_path(
 }
 
 /// Appends for each user a slash and the quoted name.
-fn append_steps(
-    out: &mut Vec<u8>,
-    catalog: &Catalog,
-    path: &[u32],
-) -> Result<(), AllocError>
+fn append_steps(out: &mut Vec<u8>, catalog: &Catalog, path: &[u32]) -> Result<(), AllocError>
     ensures { OnOk result (out.new.items ≡ out.old.items ++ flat_map (step_text catalog.now) path.now) }
 {
     for uid in path {
@@ -98,11 +86,7 @@ fn append_mark(out: &mut Vec<u8>, explicit: bool) -> Result<(), AllocError>
 }
 
 /// Appends the line of a row of a world.
-pub fn append_held(
-    out: &mut Vec<u8>,
-    catalog: &Catalog,
-    held: &Held,
-) -> Result<(), AllocError>
+pub fn append_held(out: &mut Vec<u8>, catalog: &Catalog, held: &Held) -> Result<(), AllocError>
     ensures { OnOk result (out.new.items ≡ out.old.items ++ held_line catalog.now held.now) }
 {
     append_signed(out, catalog, held.sign, &held.tuple)?;

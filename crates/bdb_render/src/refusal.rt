@@ -5,7 +5,7 @@ ghost use Rattle.bdb_render.specs.Refusals.{cause_text, column_text, refusal_rep
 ghost use Rattle.bdb_render.specs.Replies.{signed_text};
 
 use crate::lines;
-use bdb_base::{append_quoted, Catalog, List, Sign, Tuple, Txt, What};
+use bdb_base::{Catalog, List, Sign, Tuple, Txt, What, append_quoted};
 use std::alloc::{AllocError, Global};
 
 /// Why a command, or the rest of a script, is refused.
@@ -71,11 +71,7 @@ pub fn refusal_reply(
 }
 
 /// Appends the cause of a refusal.
-fn append_cause(
-    out: &mut Vec<u8>,
-    catalog: &Catalog,
-    refusal: &Refusal,
-) -> Result<(), AllocError>
+fn append_cause(out: &mut Vec<u8>, catalog: &Catalog, refusal: &Refusal) -> Result<(), AllocError>
     ensures { OnOk result (out.new.items ≡ out.old.items ++ cause_text catalog.now refusal.now) }
 {
     match refusal {

@@ -4,7 +4,7 @@ ghost use Rattle.bdb_base.specs.Texts.{value_text};
 ghost use Rattle.bdb_render.specs.Replies.{count_reply, ok_reply, path_text, rows_reply, tuple_text, world_reply};
 
 use crate::lines;
-use bdb_base::{append_value, Catalog, List, Tuple, Value, World};
+use bdb_base::{Catalog, List, Tuple, Value, World, append_value};
 use std::alloc::{AllocError, Global};
 
 /// A value as replies write it: an integer in decimal, a text in quotes.
@@ -17,11 +17,7 @@ pub fn value_text(alloc: Global, value: &Value) -> Result<List<u8>, AllocError>
 }
 
 /// A tuple as replies write it: the relation's name, and the values in parentheses.
-pub fn tuple_text(
-    alloc: Global,
-    catalog: &Catalog,
-    tuple: &Tuple,
-) -> Result<List<u8>, AllocError>
+pub fn tuple_text(alloc: Global, catalog: &Catalog, tuple: &Tuple) -> Result<List<u8>, AllocError>
     ensures { IfOk result (λ text. text ≡ tuple_text catalog.now tuple.now) }
 {
     let mut out = Vec::new(alloc);
@@ -30,11 +26,7 @@ pub fn tuple_text(
 }
 
 /// A path as replies write it: for each user a slash and the quoted name; a slash for the empty path.
-pub fn path_text(
-    alloc: Global,
-    catalog: &Catalog,
-    path: &[u32],
-) -> Result<List<u8>, AllocError>
+pub fn path_text(alloc: Global, catalog: &Catalog, path: &[u32]) -> Result<List<u8>, AllocError>
     ensures { IfOk result (λ text. text ≡ path_text catalog.now path.now) }
 {
     let mut out = Vec::new(alloc);
@@ -61,11 +53,7 @@ pub fn count_reply(alloc: Global, n: usize) -> Result<List<u8>, AllocError>
 }
 
 /// The reply to `show world`: one line for each row, then their number.
-pub fn world_reply(
-    alloc: Global,
-    catalog: &Catalog,
-    world: &World,
-) -> Result<List<u8>, AllocError>
+pub fn world_reply(alloc: Global, catalog: &Catalog, world: &World) -> Result<List<u8>, AllocError>
     ensures { IfOk result (λ text. text ≡ world_reply catalog.now world.now) }
 {
     let mut out = Vec::new(alloc);
