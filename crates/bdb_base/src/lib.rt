@@ -33,6 +33,7 @@ pub use path::{Path, PathError};
 pub use segments::{path_is_prefix, path_is_suffix, path_tail};
 pub use text::Txt;
 pub use texts::{
-    Printed, append_decimal, append_int, append_quoted, append_separated, append_value,
+    Printed, append_cmp, append_decimal, append_dotted, append_int, append_quoted,
+    append_separated, append_value,
 };
 pub use tuple::Tuple;
