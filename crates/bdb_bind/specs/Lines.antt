@@ -53,20 +53,20 @@ abbrev pub user_line : Catalog → Command → Option BindError
 user_line catalog c = option_map error.User (find (λ name. not (is_user_name catalog.users name)) (path_names c))
 
 -- the first of these columns that a relation does not have
-abbrev pub unknown_column : List ColDef → List (List ℕ) → Option BindError
-unknown_column cols names = option_map (error.Column None) (find (λ name. not (has_column cols name)) names)
+abbrev pub missing_column : List ColDef → List (List ℕ) → Option BindError
+missing_column cols names = option_map (error.Column None) (find (λ name. not (has_column cols name)) names)
 
 -- the first column that the relation does not have: sets before tests, left before right
 abbrev pub column_line : Catalog → Command → Option BindError
-column_line catalog (Delete users sign rel conds) = unknown_column (columns_of catalog.rels rel) (cond_columns conds)
-column_line catalog (Update users sign rel sets conds) = unknown_column (columns_of catalog.rels rel)
+column_line catalog (Delete users sign rel conds) = missing_column (columns_of catalog.rels rel) (cond_columns conds)
+column_line catalog (Update users sign rel sets conds) = missing_column (columns_of catalog.rels rel)
     (map (λ s. s.col) sets ++ cond_columns conds)
 column_line catalog _ = None
 
--- the first name that stands earlier in the list, or among those seen before
-abbrev pub first_repeated : List (List ℕ) → List ColDef → Option (List ℕ)
+-- the first column whose name stands earlier in the list, or among the columns seen before
+abbrev pub first_repeated : List ColDef → List ColDef → Option (List ℕ)
 first_repeated seen [] = None
-first_repeated seen (c ∷ cs) = if list_any (same_text c.name) seen then Some c.name else first_repeated (seen ++ c.name ∷ []) cs
+first_repeated seen (c ∷ cs) = if list_any (λ d. same_text c.name d.name) seen then Some c.name else first_repeated (seen ++ c ∷ []) cs
 
 -- the first of two refusals that applies
 abbrev pub or_next : Option BindError → Option BindError → Option BindError

@@ -4,6 +4,8 @@
 mod binding;
 mod bound;
 mod lookup;
+mod names;
+mod refusals;
 mod parts;
 
 pub use binding::{bind, is_built};
