@@ -5,8 +5,8 @@ mod binding;
 mod bound;
 mod lookup;
 mod names;
-mod refusals;
 mod parts;
+mod refusals;
 
 pub use binding::{bind, is_built};
 pub use bound::{BindError, Bound};

@@ -15,6 +15,7 @@ use bdb_syntax::{Command, RawCond, RawSet, RawSide};
 use std::alloc::Global;
 
 /// Refuses a relation that isn't in the catalog.
+#[tactic(auto, unfolding(crate::specs::Lines::relation_line))]
 pub fn check_relation(alloc: Global, catalog: &Catalog, command: &Command) -> Result<(), BindError>
     ensures { Checks result (relation_line catalog.now command.now) }
 {
@@ -27,6 +28,7 @@ pub fn check_relation(alloc: Global, catalog: &Catalog, command: &Command) -> Re
 }
 
 /// Refuses the first name of the path that is no user's.
+#[tactic(auto, unfolding(crate::specs::Lines::user_line))]
 pub fn check_users(alloc: Global, catalog: &Catalog, command: &Command) -> Result<(), BindError>
     ensures { Checks result (user_line catalog.now command.now) }
 {
@@ -41,26 +43,33 @@ pub fn check_users(alloc: Global, catalog: &Catalog, command: &Command) -> Resul
 }
 
 /// Refuses the first column that the relation does not have.
+#[tactic(auto, unfolding(crate::specs::Lines::column_line))]
 pub fn check_columns(alloc: Global, catalog: &Catalog, command: &Command) -> Result<(), BindError>
     ensures { Checks result (column_line catalog.now command.now) }
 {
     let rels = catalog.rels.as_slice();
     match command {
         Command::Delete { rel, conds, .. } => {
-            check_cond_columns(alloc, columns_of(rels, rel), conds.as_slice())
+            check_cond_columns(alloc, columns_of(rels, rel), conds.as_slice())?;
+            Ok(())
         }
         Command::Update {
-            rel, sets, conds, ..
+            rel,
+            sets,
+            conds,
+            ..
         } => {
             let cols = columns_of(rels, rel);
             check_set_columns(alloc, cols, sets.as_slice())?;
-            check_cond_columns(alloc, cols, conds.as_slice())
+            check_cond_columns(alloc, cols, conds.as_slice())?;
+            Ok(())
         }
         _ => Ok(()),
     }
 }
 
 /// Refuses a column that the relation does not have.
+#[tactic(auto, unfolding(crate::specs::Lines::missing_column))]
 fn check_column(alloc: Global, cols: &[ColDef], name: &Txt) -> Result<(), BindError>
     ensures { Checks result (missing_column cols.now (name.now ∷ [])) }
 {
@@ -70,6 +79,7 @@ fn check_column(alloc: Global, cols: &[ColDef], name: &Txt) -> Result<(), BindEr
     Ok(())
 }
 
+#[tactic(auto, unfolding(crate::specs::Lines::missing_column))]
 fn check_set_columns(alloc: Global, cols: &[ColDef], sets: &[RawSet]) -> Result<(), BindError>
     ensures { Checks result (missing_column cols.now (map (λ s. s.col) sets.now)) }
 {
@@ -79,6 +89,7 @@ fn check_set_columns(alloc: Global, cols: &[ColDef], sets: &[RawSet]) -> Result<
     Ok(())
 }
 
+#[tactic(auto, unfolding(crate::specs::Lines::missing_column))]
 fn check_cond_columns(alloc: Global, cols: &[ColDef], conds: &[RawCond]) -> Result<(), BindError>
     ensures { Checks result (missing_column cols.now (cond_columns conds.now)) }
 {
@@ -92,6 +103,7 @@ fn check_cond_columns(alloc: Global, cols: &[ColDef], conds: &[RawCond]) -> Resu
 }
 
 /// Refuses a new name that is taken.
+#[tactic(auto, unfolding(crate::specs::Lines::taken_line))]
 pub fn check_taken(alloc: Global, catalog: &Catalog, command: &Command) -> Result<(), BindError>
     ensures { Checks result (taken_line catalog.now command.now) }
 {
