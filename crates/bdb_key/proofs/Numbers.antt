@@ -1,12 +1,12 @@
 -- Numbers of as many bytes come in the order of their bytes.
-use Rattle.std.proofs.Common.{◌≡◌, ℕ, zero, suc, ◌+◌, ◌*◌, ◌/◌, ◌%◌, ◌^◌, ◌<◌, ◌≤◌, cond, ltb, eqb, List, [], ◌∷◌, ◌++◌, refl, sym, ap, ◌∙◌, lit<, lit≤, arith, inl, inr}
+use Rattle.std.proofs.Common.{◌≡◌, ℕ, zero, suc, ◌+◌, ◌*◌, ◌/◌, ◌%◌, ◌^◌, ◌<◌, ◌≤◌, List, ◌++◌, refl, sym, ap, ◌∙◌, lit<, lit≤, arith, inl, inr}
 use Rattle.std.specs.declared.cmp.Ordering.{Ordering}
 use Rattle.std.specs.declared.cmp.Ordering.TheVariants.{Less, Equal, Greater}
 use Rattle.std.specs.Ordering.{nat_cmp, ordering_then}
 use Rattle.std.specs.Cmp.Lexicographic.{slice_cmp}
 use Rattle.std.specs.Int.{byte_at, bytes_high_first}
 use Rattle.std.proofs.Math.Arith.{mod-mul}
-use Rattle.std.proofs.Math.Nat.{pow-suc, one-le-pow, mul_comm, mod-eq_of_lt, mod-one}
+use Rattle.std.proofs.Math.Nat.{pow-suc, one-le-pow, mul_comm, mod-eq_of_lt}
 use Rattle.std.proofs.lemmas.Nat.{mul-le, mod_below}
 use Rattle.std.proofs.lemmas.Bool.{cases_lt}
 use Rattle.std.proofs.lemmas.Bool.Decides.{nat_tests}
@@ -33,16 +33,16 @@ digits : (base a r c s : ℕ) → r < base → s < base → nat_cmp (a * base + 
 digits base a r c s hr hs =
     elim (cases_lt a c) [
       | inl lt ↦
-        let h : (a + 1) * base ≤ c * base = mul-le (a + 1) base c base (omega arith) (omega arith) in
-        less (a * base + r) (c * base + s) (omega arith) ∙ ap (λ o. ordering_then o (nat_cmp r s)) (sym (less a c lt))
+          let h : (a + 1) * base ≤ c * base = mul-le (a + 1) base c base (omega arith) (omega arith) in
+          less (a * base + r) (c * base + s) (omega arith) ∙ ap (λ o. ordering_then o (nat_cmp r s)) (sym (less a c lt))
       | inr le ↦ elim (cases_lt c a) [
-          | inl gt ↦
+        | inl gt ↦
             let h : (c + 1) * base ≤ a * base = mul-le (c + 1) base a base (omega arith) (omega arith) in
             greater (a * base + r) (c * base + s) (omega arith) ∙ ap (λ o. ordering_then o (nat_cmp r s)) (sym (greater a c gt))
-          | inr ge ↦
+        | inr ge ↦
             let e : a ≡ c = omega arith in
             ap (λ n. nat_cmp (n * base + r) (c * base + s)) e ∙ shifted (c * base) r s ∙ ap (λ o. ordering_then o (nat_cmp r s)) (sym (equal c)) ∙ ap (λ n. ordering_then (nat_cmp n c) (nat_cmp r s)) (sym e)
-        ]
+      ]
     ]
 
 byte_is : (k n : ℕ) → byte_at k n ≡ n / 256 ^ k % 256
