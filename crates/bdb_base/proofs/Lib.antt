@@ -1,3 +1,4 @@
 pub mod ListLemmas
 pub mod SegmentLemmas
 pub mod SetLemmas
+pub mod SameLemmas
