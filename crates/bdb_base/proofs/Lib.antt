@@ -1,4 +1,7 @@
 pub mod ListLemmas
 pub mod SegmentLemmas
 pub mod SetLemmas
+pub mod ClashLemmas
+pub mod LeastLemmas
 pub mod SameLemmas
+pub mod WorldLemmas

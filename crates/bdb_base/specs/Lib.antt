@@ -2,6 +2,7 @@ pub mod Alternation
 pub mod Bases
 pub mod Causes
 pub mod Clash
+pub mod Laws
 pub mod Order
 pub mod OrderLemmas
 pub mod Same
@@ -9,5 +10,6 @@ pub mod SameLemmas
 pub mod Segments
 pub mod SetLaws
 pub mod SortedSet
+pub mod States
 pub mod TupleFields
 pub mod Worlds

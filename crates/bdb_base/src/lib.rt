@@ -4,6 +4,7 @@
 
 mod conflict;
 mod kinds;
+pub mod laws;
 mod list;
 mod order;
 mod ordered;
