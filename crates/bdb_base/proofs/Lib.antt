@@ -3,5 +3,6 @@ pub mod SegmentLemmas
 pub mod SetLemmas
 pub mod ClashLemmas
 pub mod LeastLemmas
+pub mod Rows
 pub mod SameLemmas
 pub mod WorldLemmas

@@ -1,7 +1,9 @@
 pub mod Alternation
 pub mod Bases
 pub mod Causes
+pub mod Changes
 pub mod Clash
+pub mod Conditions
 pub mod Laws
 pub mod Order
 pub mod OrderLemmas
@@ -12,4 +14,5 @@ pub mod SetLaws
 pub mod SortedSet
 pub mod States
 pub mod TupleFields
+pub mod WorldRows
 pub mod Worlds
