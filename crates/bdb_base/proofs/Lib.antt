@@ -4,5 +4,4 @@ pub mod SetLemmas
 pub mod ClashLemmas
 pub mod LeastLemmas
 pub mod Rows
-pub mod SameLemmas
 pub mod WorldLemmas

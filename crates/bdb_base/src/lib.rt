@@ -2,6 +2,7 @@
 //! with the definitions of worlds and belief in `specs/`.
 #![tactic(auto)]
 
+mod changes;
 mod conflict;
 mod kinds;
 pub mod laws;
@@ -13,6 +14,7 @@ mod segments;
 mod text;
 mod tuple;
 
+pub use changes::changed;
 pub use conflict::{clash, key_of, same_key, same_tuple, same_value, same_values};
 pub use kinds::{
     Catalog, Cmp, ColDef, Cond, Held, Item, Kind, Operand, Query, Ref, RelDef, SetCol, Sign, Stmt,
