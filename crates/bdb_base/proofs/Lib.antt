@@ -1,7 +1,7 @@
-pub mod ListLemmas
-pub mod SegmentLemmas
-pub mod SetLemmas
 pub mod ClashLemmas
 pub mod LeastLemmas
+pub mod ListLemmas
 pub mod Rows
+pub mod SegmentLemmas
+pub mod SetLemmas
 pub mod WorldLemmas

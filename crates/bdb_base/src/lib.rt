@@ -3,6 +3,7 @@
 #![tactic(auto)]
 
 mod changes;
+mod conditions;
 mod conflict;
 mod kinds;
 pub mod laws;
@@ -15,6 +16,7 @@ mod text;
 mod tuple;
 
 pub use changes::changed;
+pub use conditions::{compares, meets};
 pub use conflict::{clash, key_of, same_key, same_tuple, same_value, same_values};
 pub use kinds::{
     Catalog, Cmp, ColDef, Cond, Held, Item, Kind, Operand, Query, Ref, RelDef, SetCol, Sign, Stmt,
