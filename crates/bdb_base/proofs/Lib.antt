@@ -5,3 +5,4 @@ pub mod Rows
 pub mod SegmentLemmas
 pub mod SetLemmas
 pub mod WorldLemmas
+pub mod WorldRowsLemmas
