@@ -14,6 +14,7 @@ mod path;
 mod segments;
 mod text;
 mod tuple;
+mod tuples;
 
 pub use changes::changed;
 pub use conditions::{compares, meets};
@@ -32,3 +33,4 @@ pub use path::{Path, PathError};
 pub use segments::{path_is_prefix, path_is_suffix, path_tail};
 pub use text::Txt;
 pub use tuple::Tuple;
+pub use tuples::tuples_of;
