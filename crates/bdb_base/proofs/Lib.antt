@@ -6,3 +6,7 @@ pub mod SameLemmas
 pub mod SegmentLemmas
 pub mod SetLemmas
 pub mod WorldLemmas
+pub mod SegmentLemmas
+pub mod SetLemmas
+pub mod WorldLemmas
+pub mod WorldRowsLemmas
