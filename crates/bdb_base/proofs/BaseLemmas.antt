@@ -21,15 +21,14 @@ use Rattle.bdb_base.specs.Order.{statement_cmp}
 use Rattle.bdb_base.specs.OrderLemmas.{statement_exact}
 use Rattle.bdb_base.specs.Same.{same_text, same_path, same_values, same_tuple}
 use Rattle.bdb_base.specs.SameLemmas.{same_text-Decides, same_path-Decides, same_values-Decides, same_tuple-Decides}
-use Rattle.bdb_base.specs.Segments.{prefixes_of, state_list}
 use Rattle.bdb_base.specs.SortedSet.{IsExactOrder, is_member, ascending, put_at, put_in}
 use Rattle.bdb_base.specs.Clash.{key_of, same_key, clash}
 use Rattle.bdb_base.specs.Worlds.{contradicted}
-use Rattle.bdb_base.specs.Bases.{AreStatements, are_distinct, belongs, fits_definition, fits_relation, is_user, is_plain, is_valid_relation, key_lengths, stands, tuple_count, world_count, with_user, with_relation, with_statement}
+use Rattle.bdb_base.specs.Bases.{AreStatements, are_distinct, belongs, fits_definition, fits_relation, is_user, is_plain, is_valid_relation, key_lengths, stands, tuple_count, with_user, with_relation, with_statement}
 use Rattle.bdb_base.specs.BaseLaws.{PutIsValid, TakeIsValid, AddUserIsValid, AddRelationIsValid, PutCountsTuple, PutCountsStatement}
 use Rattle.bdb_base.proofs.ListLemmas.{list_all_weaker, list_all_both, list_all_from_none, list_all-filter, list_any-filter_none, length-filter_le}
 use Rattle.bdb_base.proofs.SetLemmas.{cases_Ordering, are_above, less_from_greater, above_weaker, absent_above, list_any-put_in, list_all-put_in, put_keeps_order, take_keeps_order}
-use Rattle.bdb_base.proofs.CountLemmas.{list_any-map, list_any-flat_map, list_any-filter_some, one_unless, distinct_count-le, distinct_count-same}
+use Rattle.bdb_base.proofs.CountLemmas.{list_any-map, list_any-filter_some, one_unless, distinct_count-le, distinct_count-same}
 
 -- ---- tests of equality are symmetric, and so is a clash
 
@@ -68,8 +67,6 @@ filter_is_valid c stmts q v sorted =
     let tuples = leb-true (tuple_count stmts) 4000 v.few_tuples in
     let no_more_tuples = distinct_count-le same_tuple same_tuple-Decides (map (λ x. x.tuple) (filter q stmts)) (map (λ x. x.tuple) stmts)
     (λ t k. list_any-map (same_tuple t) (λ x. x.tuple) stmts ∙ list_any-filter_some (λ x. same_tuple t x.tuple) q stmts (sym (list_any-map (same_tuple t) (λ x. x.tuple) (filter q stmts)) ∙ k)) in
-    let worlds = leb-true (world_count stmts) 2000 v.few_worlds in
-    let no_more_worlds = distinct_count-le same_path same_path-Decides ([] ∷ state_list (filter q stmts)) ([] ∷ state_list stmts) (worlds_within stmts q) in
     record {
       sorted = sorted;
       belong = list_all-filter (belongs c) q stmts v.belong;
@@ -79,17 +76,7 @@ filter_is_valid c stmts q v sorted =
           (list_any-filter_none (opposes keys x) q stmts (not-true (contradicted keys stmts x.path x.tuple x.sign) h))) stmts v.no_clash);
       few_stmts = le-leb (length (filter q stmts)) 20000 (omega arith);
       few_tuples = le-leb (tuple_count (filter q stmts)) 4000 (omega arith);
-      few_worlds = le-leb (world_count (filter q stmts)) 2000 (omega arith);
     }
-  where
-    worlds_within : (stmts : List Stmt) (q : Stmt → Bool) (w : List ℕ) → list_any (same_path w) ([] ∷ state_list (filter q stmts)) ≡ true → list_any (same_path w) ([] ∷ state_list stmts) ≡ true
-    worlds_within stmts q w k = elim (cases_Bool (same_path w [])) [
-      | inl e ↦ ap (λ b. b || list_any (same_path w) (state_list stmts)) e
-      | inr e ↦
-          let later : list_any (same_path w) (state_list (filter q stmts)) ≡ true = ap (λ b. b || list_any (same_path w) (state_list (filter q stmts))) (sym e) ∙ k in
-          ap (λ b. b || list_any (same_path w) (state_list stmts)) e ∙ list_any-flat_map (same_path w) (λ x. prefixes_of x.path) stmts
-          ∙ list_any-filter_some (λ x. list_any (same_path w) (prefixes_of x.path)) q stmts (sym (list_any-flat_map (same_path w) (λ x. prefixes_of x.path) (filter q stmts)) ∙ later)
-    ]
 
 pub take_is_valid : TakeIsValid
 take_is_valid c stmts s v = record {
@@ -131,7 +118,7 @@ put_counts_tuple stmts s =
     ∙ ap (λ b. cond b 0 1 + tuple_count stmts) (list_any-map (same_tuple s.tuple) (λ x. x.tuple) stmts)
 
 pub put_is_valid : PutIsValid
-put_is_valid c stmts s v belong apart room tuples worlds =
+put_is_valid c stmts s v belong apart room tuples =
     let keys = key_lengths c.rels in
     let next = with_statement stmts s in
     let count = put_counts_statement c stmts s v in
@@ -152,7 +139,6 @@ put_is_valid c stmts s v belong apart room tuples worlds =
             (none_of keys stmts s s (and_right (same_path s.path s.path) (clash keys s.tuple s.sign s.tuple s.sign) (clash_itself keys s.tuple s.sign)) apart);
         few_stmts = le-leb (length next) 20000 fits;
         few_tuples = le-leb (tuple_count next) 4000 tuples;
-        few_worlds = le-leb (world_count next) 2000 worlds;
       };
     }
   where
@@ -240,7 +226,6 @@ add_user_is_valid c stmts name v plain apart room =
         no_clash = v.stmts.no_clash;
         few_stmts = v.stmts.few_stmts;
         few_tuples = v.stmts.few_tuples;
-        few_worlds = v.stmts.few_worlds;
       };
     }
 
@@ -262,6 +247,5 @@ add_relation_is_valid c stmts def v valid apart room =
         no_clash = v.stmts.no_clash;
         few_stmts = v.stmts.few_stmts;
         few_tuples = v.stmts.few_tuples;
-        few_worlds = v.stmts.few_worlds;
       };
     }

@@ -1,30 +1,22 @@
 -- How many different items a list has.
-use Rattle.std.proofs.Common.{◌≡◌, ◌∙◌, ℕ, ◌+◌, ◌≤◌, Bool, true, false, not, ◌||◌, cond, List, [], ◌∷◌, ◌++◌, refl, ap, sym, inl, inr, suc, arith, filter, length, map, take, drop, get_or, ◌<◌, add-one}
+use Rattle.std.proofs.Common.{◌≡◌, ◌∙◌, ℕ, ◌+◌, ◌≤◌, Bool, true, false, not, ◌||◌, cond, List, [], ◌∷◌, refl, ap, sym, inl, inr, arith, filter, length, map, drop, get_or, ◌<◌}
 use Rattle.std.specs.Bool.{Decides}
-use Rattle.std.specs.List.{list_any, flat_map}
+use Rattle.std.specs.List.{list_any}
 use Rattle.std.specs.declared.cmp.Ordering.{Ordering}
 use Rattle.std.specs.declared.cmp.Ordering.TheVariants.{Less, Equal}
 use Rattle.std.specs.Ordering.{is_lt}
 use Rattle.std.proofs.lemmas.Bool.{cases_Bool, and_parts, or_left, or_right, false≢true, false_from_ne_true}
 use Rattle.std.proofs.lemmas.Cmp.{tied_itself}
-use Rattle.std.proofs.lemmas.List.Folds.{list_any-append}
 use Rattle.std.proofs.lemmas.List.{drop_more, drop_all}
-use Rattle.std.proofs.lemmas.Option.{get_or_from_slice_get}
 use Rattle.std.proofs.lemmas.Map.Views.{any-filter_same}
 use Rattle.bdb_base.specs.SortedSet.{IsExactOrder, ascending, put_in, put_all}
-use Rattle.bdb_base.specs.Segments.{prefixes_of}
 use Rattle.bdb_base.specs.Bases.{distinct_count}
-use Rattle.bdb_base.proofs.SegmentLemmas.{length-prefixes_of, prefix_at}
 use Rattle.bdb_base.proofs.ListLemmas.{filter_kept_one, filter_dropped_one, list_any-filter_none, list_any_fails}
 use Rattle.bdb_base.proofs.SetLemmas.{is_lt-Less, are_above, put_all_is_ascending, list_any-put_all}
 
 pub list_any-map : {X Y : Type 0} (p : Y → Bool) (f : X → Y) (xs : List X) → list_any p (map f xs) ≡ list_any (λ x. p (f x)) xs
 list_any-map p f [] = refl
 list_any-map p f (x ∷ xs) = ap (λ b. p (f x) || b) (list_any-map p f xs)
-
-pub list_any-flat_map : {X Y : Type 0} (p : Y → Bool) (f : X → List Y) (xs : List X) → list_any p (flat_map f xs) ≡ list_any (λ x. list_any p (f x)) xs
-list_any-flat_map p f [] = refl
-list_any-flat_map p f (x ∷ xs) = list_any-append p (f x) (flat_map f xs) ∙ ap (λ b. list_any p (f x) || b) (list_any-flat_map p f xs)
 
 -- what passes after a filter passed before
 pub list_any-filter_some : {X : Type 0} (p q : X → Bool) (xs : List X) → list_any p (filter q xs) ≡ true → list_any p xs ≡ true
@@ -136,36 +128,3 @@ put_all_step R f xs i x set next all h r e rest =
 pub put_all_end : {X Y : Type 0} (R : Y → Y → Ordering) (f : X → Y) (xs : List X) (i : ℕ) (set all : List Y) → length xs ≤ i
     → put_all R set (map f (drop i xs)) ≡ all → set ≡ all
 put_all_end R f xs i set all h rest = ap (λ l. put_all R set (map f l)) (sym (drop_all i xs h)) ∙ rest
-
-pub put_all-append : {X : Type 0} (R : X → X → Ordering) (set xs ys : List X) → put_all R set (xs ++ ys) ≡ put_all R (put_all R set xs) ys
-put_all-append R set [] ys = refl
-put_all-append R set (x ∷ xs) ys = put_all-append R (put_in R set x) xs ys
-
-pub put_lists_step : {X Y : Type 0} (R : Y → Y → Ordering) (f : X → List Y) (xs : List X) (i : ℕ) (x : X) (set next all : List Y) → i < length xs → x ≡ get_or xs i x
-    → next ≡ put_all R set (f x) → put_all R set (flat_map f (drop i xs)) ≡ all → put_all R next (flat_map f (drop (i + 1) xs)) ≡ all
-put_lists_step R f xs i x set next all h r e rest =
-    ap (λ l. put_all R l (flat_map f (drop (i + 1) xs))) e
-    ∙ sym (put_all-append R set (f x) (flat_map f (drop (i + 1) xs)))
-    ∙ ap (λ y. put_all R set (flat_map f (y ∷ drop (i + 1) xs))) r
-    ∙ ap (λ l. put_all R set (flat_map f l)) (sym (drop_more xs i x h)) ∙ rest
-
-pub put_lists_end : {X Y : Type 0} (R : Y → Y → Ordering) (f : X → List Y) (xs : List X) (i : ℕ) (set all : List Y) → length xs ≤ i
-    → put_all R set (flat_map f (drop i xs)) ≡ all → set ≡ all
-put_lists_end R f xs i set all h rest = ap (λ l. put_all R set (flat_map f l)) (sym (drop_all i xs h)) ∙ rest
-
-pub put_prefixes_step : (R : List ℕ → List ℕ → Ordering) (w : List ℕ) (k : ℕ) (set next all : List (List ℕ)) → k < length w → next ≡ put_in R set (take (k + 1) w)
-    → put_all R set (drop k (prefixes_of w)) ≡ all → put_all R next (drop (k + 1) (prefixes_of w)) ≡ all
-put_prefixes_step R w k set next all h e rest =
-    let l = length-prefixes_of w in
-    let within : k < length (prefixes_of w) = omega arith in
-    let at : get_or (prefixes_of w) k [] ≡ take (k + 1) w = get_or_from_slice_get (prefixes_of w) k (take (suc k) w) [] (prefix_at w k h) ∙ ap (λ n. take n w) (sym (add-one k)) in
-    ap (λ l. put_all R l (drop (k + 1) (prefixes_of w))) e
-    ∙ ap (λ y. put_all R set (y ∷ drop (k + 1) (prefixes_of w))) (sym at)
-    ∙ ap (put_all R set) (sym (drop_more (prefixes_of w) k [] within)) ∙ rest
-
-pub put_prefixes_end : (R : List ℕ → List ℕ → Ordering) (w : List ℕ) (k : ℕ) (set all : List (List ℕ)) → length w ≤ k
-    → put_all R set (drop k (prefixes_of w)) ≡ all → set ≡ all
-put_prefixes_end R w k set all h rest =
-    let l = length-prefixes_of w in
-    let past : length (prefixes_of w) ≤ k = omega arith in
-    ap (put_all R set) (sym (drop_all k (prefixes_of w) past)) ∙ rest

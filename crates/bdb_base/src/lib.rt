@@ -2,10 +2,10 @@
 //! with the definitions of worlds and belief in `specs/`.
 #![tactic(auto)]
 
+mod base;
 mod changes;
 mod conditions;
 mod conflict;
-mod base;
 mod counts;
 mod kinds;
 pub mod laws;
@@ -18,14 +18,13 @@ mod text;
 mod texts;
 mod tuple;
 mod tuples;
-
-pub use changes::changed;
-pub use conditions::{compares, meets};
-pub use conflict::{clash, key_of, same_key, same_tuple, same_value, same_values};
 mod validity;
 
 pub use base::Base;
-pub use counts::{distinct_tuples, distinct_worlds, has_tuple};
+pub use changes::changed;
+pub use conditions::{compares, meets};
+pub use conflict::{clash, key_of, same_key, same_tuple, same_value, same_values};
+pub use counts::{distinct_tuples, has_tuple};
 pub use kinds::{
     Catalog, Cmp, ColDef, Cond, Held, Item, Kind, Operand, Query, Ref, RelDef, SetCol, Sign, Stmt,
     Value, What, Who, World,

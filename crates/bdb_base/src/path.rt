@@ -1,5 +1,5 @@
 // Belief paths.
-ghost use Rattle.std.specs.Prelude.{◌≡◌, ◌≤◌, [], IfOk, IsErrOf, true, false, length, take};
+ghost use Rattle.std.specs.Prelude.{◌≡◌, IfOk, IsErrOf, true, false, length};
 ghost use Rattle.bdb_base.specs.Alternation.{alternates, begins_otherwise};
 
 use crate::list::{Exact, List};
@@ -58,26 +58,6 @@ impl Path {
         ensures alternates { alternates self.now ≡ true }
     {
         self.users.as_slice()
-    }
-
-    /// The empty path, which takes no memory.
-    pub fn root(alloc: Global) -> Self
-        ensures { result ≡ [] }
-    {
-        Path {
-            users: List::new(alloc),
-        }
-    }
-
-    /// The path of the first users, as many as said.
-    pub fn prefix(&self, alloc: Global, len: usize) -> Result<Self, AllocError>
-        requires { len ≤ length self.now }
-        ensures { IfOk result (λ path. path ≡ take len self.now) }
-    {
-        let items = Vec::from_slice(alloc, &self.users.as_slice()[..len])?;
-        Ok(Path {
-            users: List::from_vec(items),
-        })
     }
 
     /// How many users the path names.
