@@ -2,5 +2,8 @@
 #![tactic(auto)]
 
 mod beliefs;
+mod levels;
+mod rows;
 
 pub use beliefs::{believes_among, clashing_among, stated_among};
+pub use rows::world_among;
