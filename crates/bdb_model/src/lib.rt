@@ -4,6 +4,8 @@
 mod beliefs;
 mod levels;
 mod rows;
+#[cfg(test)]
+mod tests;
 
 pub use beliefs::{believes_among, clashing_among, stated_among};
 pub use rows::world_among;
