@@ -23,13 +23,14 @@ path_of users names = map (λ name. unwrap_or (uid_of users name) 0) names
 abbrev pub number_of : List RelDef → List ℕ → Option ℕ
 number_of rels name = position_from (λ r. same_text r.name name) 0 rels
 
+-- the columns of a relation that may not be there
+abbrev pub columns_in : Option RelDef → List ColDef
+columns_in None = []
+columns_in (Some def) = def.cols
+
 -- the columns of the relation of a name
 abbrev pub columns_of : List RelDef → List ℕ → List ColDef
-columns_of rels name = columns (find (λ r. same_text r.name name) rels)
-  where
-    columns : Option RelDef → List ColDef
-    columns None = []
-    columns (Some def) = def.cols
+columns_of rels name = columns_in (find (λ r. same_text r.name name) rels)
 
 -- the place of a column, from 0
 abbrev pub column_at : List ColDef → List ℕ → Option ℕ

@@ -3,19 +3,19 @@ ghost use Rattle.std.specs.Prelude.{◌≡◌, ◌<◌, ◌≤◌, ◌^◌, true
 ghost use Rattle.std.specs.Option.{unwrap_or};
 ghost use Rattle.bdb_base.specs.Alternation.{alternates};
 ghost use Rattle.bdb_base.specs.Bases.{IsCatalog};
-ghost use Rattle.bdb_bind.specs.Lookup.{uid_of, path_of};
+ghost use Rattle.bdb_bind.specs.Lookup.{uid_of, path_of, columns_of};
 ghost use Rattle.bdb_bind.specs.Parts.{is_built};
 ghost use Rattle.bdb_bind.specs.Refusal.{refusal_of};
-ghost use Rattle.bdb_bind.specs.Binding.{relation_at, place_of, bound_column, bound_side, bound_cond, bound_set, bound_of};
+ghost use Rattle.bdb_bind.specs.Binding.{relation_at, place_of, bound_column, bound_side, bound_cond, bound_set, statement_of, bound_of};
 
-use crate::bound::{BindError, Bound};
+use crate::bound::Bound;
 use crate::lookup::{column_at, columns_of, number_of, uid_of};
 use bdb_base::{
-    Catalog, ColDef, Cond, Exact, List, Operand, Path, PathError, Ref, RelDef, SetCol, Stmt, Tuple,
-    Txt,
+    Catalog, ColDef, Cond, Exact, List, Operand, Path, PathError, Ref, RelDef, SetCol, Sign, Stmt,
+    Tuple, Txt, Value,
 };
 use bdb_syntax::{Command, RawCond, RawSet, RawSide};
-use std::alloc::Global;
+use std::alloc::{AllocError, Global};
 
 /// The uid of a name that is a user's.
 fn uid_at(users: &[Txt], name: &Txt) -> u32
@@ -29,7 +29,7 @@ fn uid_at(users: &[Txt], name: &Txt) -> u32
 }
 
 /// The path of names, each of which is a user's.
-fn path_of(alloc: Global, users: &[Txt], names: &[Txt]) -> Result<Path, BindError>
+fn path_of(alloc: Global, users: &[Txt], names: &[Txt]) -> Result<Path, AllocError>
     requires few { length users.now ≤ 256 }
     requires alternates { alternates (path_of users.now names.now) ≡ true }
     ensures { IfOk result (λ path. path ≡ path_of users.now names.now) }
@@ -38,7 +38,7 @@ fn path_of(alloc: Global, users: &[Txt], names: &[Txt]) -> Result<Path, BindErro
     match Path::try_new(alloc, ids.as_slice()) {
         Ok(path) => Ok(path),
         Err(PathError::Repeat) => unreachable!(),
-        Err(PathError::Memory) => Err(BindError::Memory),
+        Err(PathError::Memory) => Err(AllocError),
     }
 }
 
@@ -75,7 +75,7 @@ fn place_of(cols: &[ColDef], name: &Txt) -> u32
     }
 }
 
-fn bound_side(alloc: Global, cols: &[ColDef], side: &RawSide) -> Result<Operand, BindError>
+fn bound_side(alloc: Global, cols: &[ColDef], side: &RawSide) -> Result<Operand, AllocError>
     requires { length cols.now ≤ 16 }
     ensures { IfOk result (λ b. b ≡ bound_side cols.now side.now) }
 {
@@ -85,7 +85,7 @@ fn bound_side(alloc: Global, cols: &[ColDef], side: &RawSide) -> Result<Operand,
     }
 }
 
-fn bound_cond(alloc: Global, cols: &[ColDef], cond: &RawCond) -> Result<Cond, BindError>
+fn bound_cond(alloc: Global, cols: &[ColDef], cond: &RawCond) -> Result<Cond, AllocError>
     requires { length cols.now ≤ 16 }
     ensures { IfOk result (λ b. b ≡ bound_cond cols.now cond.now) }
 {
@@ -97,7 +97,7 @@ fn bound_cond(alloc: Global, cols: &[ColDef], cond: &RawCond) -> Result<Cond, Bi
     })
 }
 
-fn bound_conds(alloc: Global, cols: &[ColDef], conds: &[RawCond]) -> Result<List<Cond>, BindError>
+fn bound_conds(alloc: Global, cols: &[ColDef], conds: &[RawCond]) -> Result<List<Cond>, AllocError>
     requires { length cols.now ≤ 16 }
     ensures { IfOk result (λ b. b ≡ map (bound_cond cols.now) conds.now) }
 {
@@ -108,7 +108,7 @@ fn bound_conds(alloc: Global, cols: &[ColDef], conds: &[RawCond]) -> Result<List
     Ok(bound)
 }
 
-fn bound_set(alloc: Global, cols: &[ColDef], set: &RawSet) -> Result<SetCol, BindError>
+fn bound_set(alloc: Global, cols: &[ColDef], set: &RawSet) -> Result<SetCol, AllocError>
     requires { length cols.now ≤ 16 }
     ensures { IfOk result (λ b. b ≡ bound_set cols.now set.now) }
 {
@@ -119,7 +119,7 @@ fn bound_set(alloc: Global, cols: &[ColDef], set: &RawSet) -> Result<SetCol, Bin
     })
 }
 
-fn bound_sets(alloc: Global, cols: &[ColDef], sets: &[RawSet]) -> Result<List<SetCol>, BindError>
+fn bound_sets(alloc: Global, cols: &[ColDef], sets: &[RawSet]) -> Result<List<SetCol>, AllocError>
     requires { length cols.now ≤ 16 }
     ensures { IfOk result (λ b. b ≡ map (bound_set cols.now) sets.now) }
 {
@@ -128,4 +128,146 @@ fn bound_sets(alloc: Global, cols: &[ColDef], sets: &[RawSet]) -> Result<List<Se
         bound.push(bound_set(alloc, cols, set)?)?;
     }
     Ok(bound)
+}
+
+/// The insert of a statement.
+#[tactic(auto, using(crate::proofs::CatalogLemmas::users_few, crate::proofs::CatalogLemmas::relations_few))]
+fn bound_insert(
+    alloc: Global,
+    catalog: &Catalog,
+    users: &[Txt],
+    sign: Sign,
+    rel: &Txt,
+    vals: &List<Value>,
+) -> Result<Bound, AllocError>
+    requires catalog { IsCatalog catalog.now }
+    requires alternates { alternates (path_of catalog.now.users users.now) ≡ true }
+    requires filled { 0 < length vals.now }
+    ensures { IfOk result (λ b. b ≡ Bound.Insert (statement_of catalog.now users.now sign rel.now vals.now)) }
+{
+    let path = path_of(alloc, catalog.users.as_slice(), users)?;
+    let rel = relation_at(catalog.rels.as_slice(), rel);
+    let vals = vals.try_clone(alloc)?;
+    let tuple = Tuple { rel, vals };
+    let stmt = Stmt { path, sign, tuple };
+    Ok(Bound::Insert { stmt })
+}
+
+/// The delete of the statements that meet all tests.
+#[tactic(auto, using(crate::proofs::CatalogLemmas::users_few, crate::proofs::CatalogLemmas::relations_few, crate::proofs::CatalogLemmas::columns_few))]
+fn bound_delete(
+    alloc: Global,
+    catalog: &Catalog,
+    users: &[Txt],
+    sign: Sign,
+    rel: &Txt,
+    conds: &[RawCond],
+) -> Result<Bound, AllocError>
+    requires catalog { IsCatalog catalog.now }
+    requires alternates { alternates (path_of catalog.now.users users.now) ≡ true }
+    ensures { IfOk result (λ b. b ≡ Bound.Delete (path_of catalog.now.users users.now) sign (relation_at catalog.now.rels rel.now)
+        (map (bound_cond (columns_of catalog.now.rels rel.now)) conds.now)) }
+{
+    let rels = catalog.rels.as_slice();
+    let path = path_of(alloc, catalog.users.as_slice(), users)?;
+    let conds = bound_conds(alloc, columns_of(rels, rel), conds)?;
+    let rel = relation_at(rels, rel);
+    Ok(Bound::Delete {
+        path,
+        sign,
+        rel,
+        conds,
+    })
+}
+
+/// The update of the statements that meet all tests.
+#[tactic(auto, using(crate::proofs::CatalogLemmas::users_few, crate::proofs::CatalogLemmas::relations_few, crate::proofs::CatalogLemmas::columns_few))]
+fn bound_update(
+    alloc: Global,
+    catalog: &Catalog,
+    users: &[Txt],
+    sign: Sign,
+    rel: &Txt,
+    sets: &[RawSet],
+    conds: &[RawCond],
+) -> Result<Bound, AllocError>
+    requires catalog { IsCatalog catalog.now }
+    requires alternates { alternates (path_of catalog.now.users users.now) ≡ true }
+    ensures { IfOk result (λ b. b ≡ Bound.Update (path_of catalog.now.users users.now) sign (relation_at catalog.now.rels rel.now)
+        (map (bound_set (columns_of catalog.now.rels rel.now)) sets.now) (map (bound_cond (columns_of catalog.now.rels rel.now)) conds.now)) }
+{
+    let rels = catalog.rels.as_slice();
+    let cols = columns_of(rels, rel);
+    let path = path_of(alloc, catalog.users.as_slice(), users)?;
+    let sets = bound_sets(alloc, cols, sets)?;
+    let conds = bound_conds(alloc, cols, conds)?;
+    let rel = relation_at(rels, rel);
+    Ok(Bound::Update {
+        path,
+        sign,
+        rel,
+        sets,
+        conds,
+    })
+}
+
+/// The new relation.
+fn bound_relation(alloc: Global, name: &Txt, cols: &List<ColDef>) -> Result<Bound, AllocError>
+    ensures { IfOk result (λ b. b ≡ Bound.CreateRelation (record { name = name.now; cols = cols.now })) }
+{
+    let name = name.try_clone(alloc)?;
+    let cols = cols.try_clone(alloc)?;
+    let def = RelDef { name, cols };
+    Ok(Bound::CreateRelation { def })
+}
+
+/// The world that is shown.
+#[tactic(auto, using(crate::proofs::CatalogLemmas::users_few))]
+fn bound_world(alloc: Global, catalog: &Catalog, users: &[Txt]) -> Result<Bound, AllocError>
+    requires catalog { IsCatalog catalog.now }
+    requires alternates { alternates (path_of catalog.now.users users.now) ≡ true }
+    ensures { IfOk result (λ b. b ≡ Bound.ShowWorld (path_of catalog.now.users users.now)) }
+{
+    let path = path_of(alloc, catalog.users.as_slice(), users)?;
+    Ok(Bound::ShowWorld { path })
+}
+
+/// What a command that isn't refused is bound to.
+pub fn bound_of(alloc: Global, catalog: &Catalog, command: &Command) -> Result<Bound, AllocError>
+    requires catalog { IsCatalog catalog.now }
+    requires built { is_built command.now ≡ true }
+    requires accepted { refusal_of catalog.now command.now ≡ None }
+    ensures { IfOk result (λ b. b ≡ bound_of catalog.now command.now) }
+{
+    match command {
+        Command::CreateUser { name } => {
+            let name = name.try_clone(alloc)?;
+            Ok(Bound::CreateUser { name })
+        }
+        Command::CreateRelation { name, cols } => bound_relation(alloc, name, cols),
+        Command::Insert {
+            users,
+            sign,
+            rel,
+            vals,
+        } => bound_insert(alloc, catalog, users.as_slice(), *sign, rel, vals),
+        Command::Delete {
+            users,
+            sign,
+            rel,
+            conds,
+        } => bound_delete(alloc, catalog, users.as_slice(), *sign, rel, conds.as_slice()),
+        Command::Update {
+            users,
+            sign,
+            rel,
+            sets,
+            conds,
+        } => {
+            let (sets, conds) = (sets.as_slice(), conds.as_slice());
+            bound_update(alloc, catalog, users.as_slice(), *sign, rel, sets, conds)
+        }
+        Command::ShowWorld { users } => bound_world(alloc, catalog, users.as_slice()),
+        Command::Select { .. } | Command::Explain { .. } | Command::ShowTables => unreachable!(),
+    }
 }
