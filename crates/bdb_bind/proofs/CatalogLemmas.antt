@@ -45,8 +45,9 @@ few_of (r ∷ rs) name valid =
     let parts = and_parts (is_valid_relation r) (list_all is_valid_relation rs) valid in
     let Few : Option RelDef → Type 0 = λ o. length (columns_in o) ≤ 16 in
     elim (cases_Bool (same_text r.name name)) [
-        inl here ↦ subst Few (sym (cond-true (same_text r.name name) (Some r) (find (λ x. same_text x.name name) rs) here)) (columns_within r parts.0).1
-        | inr other ↦ subst Few (sym (cond-false (same_text r.name name) (Some r) (find (λ x. same_text x.name name) rs) other)) (few_of rs name parts.1) ]
+      | inl here ↦ subst Few (sym (cond-true (same_text r.name name) (Some r) (find (λ x. same_text x.name name) rs) here)) (columns_within r parts.0).1
+      | inr other ↦ subst Few (sym (cond-false (same_text r.name name) (Some r) (find (λ x. same_text x.name name) rs) other)) (few_of rs name parts.1)
+    ]
 
 pub columns_few : (c : Catalog) (name : List ℕ) → IsCatalog c → length (columns_of c.rels name) ≤ 16
 columns_few c name valid = few_of c.rels name valid.rels_valid
@@ -57,10 +58,12 @@ pub relation_found : (c : Catalog) (name : List ℕ) → is_some (number_of c.re
 relation_found c name known = let w = is_there (number_of c.rels name) known in (w.0, w.1, found _ 0 c.rels w.0 w.1)
 
 -- the path of a command that isn't refused alternates
-pub accepted_alternates : (catalog : Catalog) (c : Command) → refusal_of catalog c ≡ None → alternates (path_of catalog.users (path_names c)) ≡ true
-accepted_alternates catalog c accepted =
+pub accepted_alternates : (catalog : Catalog) (c : Command) (names : List (List ℕ)) → refusal_of catalog c ≡ None → names ≡ path_names c
+    → alternates (path_of catalog.users names) ≡ true
+accepted_alternates catalog c names accepted same =
     let clear = cleared catalog c accepted in
-    path_alternates catalog.users (path_names c) (users_known catalog c clear.user) (names_apart c clear.no_repeat)
+    ap (λ n. alternates (path_of catalog.users n)) same
+    ∙ path_alternates catalog.users (path_names c) (users_known catalog c clear.user) (names_apart c clear.no_repeat)
 
 -- the relation of an insert is there
 pub insert_relation : (catalog : Catalog) (users : List (List ℕ)) (sign : Sign) (rel : List ℕ) (vals : List Value)

@@ -19,12 +19,20 @@ pub record IsFound {X : Type 0} (p : X → Bool) (start : ℕ) (xs : List X) (k 
 pub found : {X : Type 0} (p : X → Bool) (start : ℕ) (xs : List X) (k : ℕ) → position_from p start xs ≡ Some k → IsFound p start xs k
 found p start [] k e = cc
 found p start (x ∷ xs) k e = elim (cases_Bool (p x)) [
-    inl passed ↦ let here : Some start ≡ Some k = sym (cond-true (p x) (Some start) (position_from p (start + 1) xs) passed) ∙ e in
-        let same : start ≡ k = cc in
-        record { at = 0; item = x; place = omega arith; within = omega arith; there = refl; first = cond-true (p x) (Some x) (find p xs) passed; passes = passed }
-    | inr other ↦ let later = found p (start + 1) xs k (sym (cond-false (p x) (Some start) (position_from p (start + 1) xs) other) ∙ e) in
-        record { at = suc later.at; item = later.item; place = omega (arith, later.place); within = omega (arith, later.within); there = later.there;
-            first = cond-false (p x) (Some x) (find p xs) other ∙ later.first; passes = later.passes } ]
+  | inl passed ↦ let here : Some start ≡ Some k = sym (cond-true (p x) (Some start) (position_from p (start + 1) xs) passed) ∙ e in
+      let same : start ≡ k = cc in
+      record { at = 0; item = x; place = omega arith; within = omega arith; there = refl; first = cond-true (p x) (Some x) (find p xs) passed; passes = passed }
+  | inr other ↦ let later = found p (start + 1) xs k (sym (cond-false (p x) (Some start) (position_from p (start + 1) xs) other) ∙ e) in
+      record {
+        at = suc later.at;
+        item = later.item;
+        place = omega (arith, later.place);
+        within = omega (arith, later.within);
+        there = later.there;
+        first = cond-false (p x) (Some x) (find p xs) other ∙ later.first;
+        passes = later.passes;
+      }
+]
 
 -- a value that is there
 pub is_there : {X : Type 0} (o : Option X) → is_some o ≡ true → (x : X) × (o ≡ Some x)
@@ -35,9 +43,10 @@ is_there (Some x) e = (x, refl)
 pub all_pass : {X : Type 0} (p : X → Bool) (xs : List X) → find (λ x. not (p x)) xs ≡ None → list_all p xs ≡ true
 all_pass p [] e = refl
 all_pass p (x ∷ xs) e = elim (cases_Bool (not (p x))) [
-    inl fails ↦ let here : Some x ≡ None = sym (cond-true (not (p x)) (Some x) (find (λ y. not (p y)) xs) fails) ∙ e in cc
-    | inr passes ↦ and_from (p x) (list_all p xs) (not-false (p x) passes)
-        (all_pass p xs (sym (cond-false (not (p x)) (Some x) (find (λ y. not (p y)) xs) passes) ∙ e)) ]
+  | inl fails ↦ let here : Some x ≡ None = sym (cond-true (not (p x)) (Some x) (find (λ y. not (p y)) xs) fails) ∙ e in cc
+  | inr passes ↦ and_from (p x) (list_all p xs) (not-false (p x) passes)
+      (all_pass p xs (sym (cond-false (not (p x)) (Some x) (find (λ y. not (p y)) xs) passes) ∙ e))
+]
 
 pub same_text_itself : (a : List ℕ) → same_text a a ≡ true
 same_text_itself a = (bytes_eq-Decides a a).1 refl

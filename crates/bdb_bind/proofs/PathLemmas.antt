@@ -36,8 +36,9 @@ first_differs users n (m ∷ ms) known apart =
     let a = unwrap_or (uid_of users n) 0 in
     let b = unwrap_or (uid_of users m) 0 in
     elim (cases_Bool (nat_eq a b)) [
-        inl same ↦ let one = one_name 1 users n m a (known_uid users n parts.0) (known_uid users m next.0 ∙ ap Some (sym (eqb-true a b same))) in cc
-        | inr other ↦ not_from_false (nat_eq a b) other ]
+      | inl same ↦ let one = one_name 1 users n m a (known_uid users n parts.0) (known_uid users m next.0 ∙ ap Some (sym (eqb-true a b same))) in cc
+      | inr other ↦ not_from_false (nat_eq a b) other
+    ]
 
 pub path_alternates : (users names : List (List ℕ)) → list_all (is_user_name users) names ≡ true → has_repeat names ≡ false
     → alternates (path_of users names) ≡ true

@@ -256,7 +256,14 @@ pub fn bound_of(alloc: Global, catalog: &Catalog, command: &Command) -> Result<B
             sign,
             rel,
             conds,
-        } => bound_delete(alloc, catalog, users.as_slice(), *sign, rel, conds.as_slice()),
+        } => bound_delete(
+            alloc,
+            catalog,
+            users.as_slice(),
+            *sign,
+            rel,
+            conds.as_slice(),
+        ),
         Command::Update {
             users,
             sign,
