@@ -1,4 +1,5 @@
 pub mod Bytes
 pub mod Cut
+pub mod Reading
 pub mod Runs
 pub mod Tokens

@@ -3,11 +3,15 @@
 
 mod bytes;
 mod cut;
+mod gap;
 mod growing;
+mod mark;
 mod mode;
+mod quoted;
 mod reader;
 mod run;
 mod token;
+mod word;
 
 pub use cut::Cutter;
 pub use mode::Mode;
