@@ -1,6 +1,7 @@
 // Bases.
-ghost use Rattle.std.specs.Prelude.{◌≡◌, [], ◌∷◌, not, IfOk, OnOk, OnErr, codes, pos};
+ghost use Rattle.std.specs.Prelude.{◌≡◌, not, IfOk, OnOk, OnErr};
 ghost use Rattle.bdb_base.specs.Bases.{IsValid, empty_contents, stands, with_statement, without_statement, with_user, with_relation};
+ghost use Rattle.bdb_base.specs.Samples.{sample_relation, sample_statement};
 
 use crate::kinds::{Catalog, RelDef, Stmt};
 use crate::list::{Exact, List};
@@ -112,7 +113,7 @@ mod tests {
     use std::test::Fail;
 
     fn relation(alloc: Global) -> Result<RelDef, AllocError>
-        ensures { IfOk result (λ def. def ≡ record { name = codes "R"; cols = record { name = codes "n"; kind = Kind.Int } ∷ [] }) }
+        ensures { IfOk result (λ def. def ≡ sample_relation) }
     {
         let mut cols = List::new(alloc);
         cols.push(ColDef {
@@ -124,7 +125,7 @@ mod tests {
     }
 
     fn statement(alloc: Global) -> Result<Stmt, Fail>
-        ensures { IfOk result (λ s. s ≡ record { path = 1 ∷ []; sign = Sign.Plus; tuple = record { rel = 0; vals = (Value.Int (pos 7)) ∷ [] } }) }
+        ensures { IfOk result (λ s. s ≡ sample_statement) }
     {
         let path = Path::try_new(alloc, &[1])?;
         let mut vals = List::new(alloc);

@@ -1,4 +1,4 @@
-use Rattle.std.proofs.Common.{sym, arith, ◌+◌, ◌-◌, ◌/◌, ◌<◌, length}
+use Rattle.std.proofs.Common.{arith, ◌+◌, ◌-◌, ◌/◌, ◌<◌, length}
 use Rattle.bdb_base.proofs.SetLemmas.{search_up, search_down, search_found}
 use Rattle.bdb_base.proofs.ordered.place_of.Goals as goal
 

@@ -9,23 +9,18 @@ use Rattle.bdb_base.specs.declared.kinds.RelDef.{RelDef}
 use Rattle.bdb_base.specs.declared.kinds.Sign.TheVariants.{Plus}
 use Rattle.bdb_base.specs.declared.kinds.Stmt.{Stmt}
 use Rattle.bdb_base.specs.declared.kinds.Value.TheVariants.{Int}
+use Rattle.bdb_base.specs.Samples.{sample_relation, sample_statement}
 use Rattle.bdb_base.specs.Bases.{Contents, IsValid, empty_contents, with_user, with_relation, with_statement}
 use Rattle.bdb_base.proofs.base.tests.keeps_what_is_put.Goals as goal
 
 abbrev first : Contents
 first = record empty_contents { catalog = with_user empty_contents.catalog (codes "Ann") }
 
-abbrev def : RelDef
-def = record { name = codes "R"; cols = record { name = codes "n"; kind = kind.Int } ∷ [] }
-
 abbrev second : Contents
-second = record first { catalog = with_relation first.catalog def }
-
-abbrev fact : Stmt
-fact = record { path = 1 ∷ []; sign = Plus; tuple = record { rel = 0; vals = Int (pos 7) ∷ [] } }
+second = record first { catalog = with_relation first.catalog sample_relation }
 
 abbrev third : Contents
-third = record second { stmts = with_statement second.stmts fact }
+third = record second { stmts = with_statement second.stmts sample_statement }
 
 -- the names are text: each byte is below 128
 ascii_cons : (b : ℕ) (bs : List ℕ) → b < 128 → IsAscii bs → IsAscii (b ∷ bs)
@@ -70,19 +65,19 @@ user_fits b name e f =
     let Q : List ℕ → Type 0 = λ n. IsValid (with_user empty_contents.catalog n) [] in
     subst P (sym e) (subst Q (sym f) first_valid)
 
-relation_fits : (b : Contents) (d : RelDef) → b ≡ first → d ≡ def → IsValid (with_relation b.catalog d) b.stmts
+relation_fits : (b : Contents) (d : RelDef) → b ≡ first → d ≡ sample_relation → IsValid (with_relation b.catalog d) b.stmts
 relation_fits b d e f =
     let P : Contents → Type 0 = λ v. IsValid (with_relation v.catalog d) v.stmts in
     let Q : RelDef → Type 0 = λ r. IsValid (with_relation first.catalog r) [] in
     subst P (sym e) (subst Q (sym f) second_valid)
 
-statement_fits : (b : Contents) (s : Stmt) → b ≡ second → s ≡ fact → IsValid b.catalog (with_statement b.stmts s)
+statement_fits : (b : Contents) (s : Stmt) → b ≡ second → s ≡ sample_statement → IsValid b.catalog (with_statement b.stmts s)
 statement_fits b s e f =
     let P : Contents → Type 0 = λ v. IsValid v.catalog (with_statement v.stmts s) in
     let Q : Stmt → Type 0 = λ x. IsValid second.catalog (with_statement second.stmts x) in
     subst P (sym e) (subst Q (sym f) third_valid)
 
-statement_stays : (b : Contents) (s : Stmt) → b ≡ third → s ≡ fact → IsValid b.catalog (with_statement b.stmts s)
+statement_stays : (b : Contents) (s : Stmt) → b ≡ third → s ≡ sample_statement → IsValid b.catalog (with_statement b.stmts s)
 statement_stays b s e f =
     let P : Contents → Type 0 = λ v. IsValid v.catalog (with_statement v.stmts s) in
     let Q : Stmt → Type 0 = λ x. IsValid third.catalog (with_statement third.stmts x) in
@@ -101,10 +96,10 @@ statement_added v s = record v { stmts = with_statement v.stmts s }
 after_user : (b next : Contents) (name : List ℕ) → next ≡ user_added b name → b ≡ empty_contents → name ≡ codes "Ann" → next ≡ first
 after_user b next name h e f = h ∙ ap (λ v. user_added v name) e ∙ ap (user_added empty_contents) f
 
-after_relation : (b next : Contents) (d : RelDef) → next ≡ relation_added b d → b ≡ first → d ≡ def → next ≡ second
+after_relation : (b next : Contents) (d : RelDef) → next ≡ relation_added b d → b ≡ first → d ≡ sample_relation → next ≡ second
 after_relation b next d h e f = h ∙ ap (λ v. relation_added v d) e ∙ ap (relation_added first) f
 
-after_statement : (b next : Contents) (s : Stmt) → next ≡ statement_added b s → b ≡ second → s ≡ fact → next ≡ third
+after_statement : (b next : Contents) (s : Stmt) → next ≡ statement_added b s → b ≡ second → s ≡ sample_statement → next ≡ third
 after_statement b next s h e f = h ∙ ap (λ v. statement_added v s) e ∙ ap (statement_added second) f
 
 pub add_user-requires : goal.add_user-requires
