@@ -1,5 +1,5 @@
 -- The first clashing statement is the least one that clashes with another of its path.
-use Rattle.std.proofs.Common.{◌≡◌, ◌∙◌, ℕ, Bool, true, false, ◌&&◌, List, [], ◌∷◌, ◌⊎◌, inl, inr, refl, ap, sym, Some, None}
+use Rattle.std.proofs.Common.{◌≡◌, ◌∙◌, ℕ, Bool, true, false, ◌&&◌, List, [], ◌∷◌, inl, inr, refl, ap, sym}
 use Rattle.std.specs.Bool.{Decides}
 use Rattle.std.specs.List.{list_any}
 use Rattle.std.proofs.lemmas.Bool.{false≢true, or_cases, or_left, or_right, and_parts, and_from, false_from_ne_true}
@@ -7,7 +7,7 @@ use Rattle.bdb_base.specs.declared.kinds.Sign.{Sign}
 use Rattle.bdb_base.specs.declared.kinds.Stmt.{Stmt}
 use Rattle.bdb_base.specs.declared.tuple.Tuple.{Tuple}
 use Rattle.bdb_base.specs.Clash.{clash}
-use Rattle.bdb_base.specs.Laws.{ClashesAt, ClashesWithin, FirstClashingIsLeast, NoFirstClashing}
+use Rattle.bdb_base.specs.Laws.{ClashesAt, FirstClashingIsLeast, NoFirstClashing}
 use Rattle.bdb_base.specs.Order.{statement_cmp}
 use Rattle.bdb_base.specs.Same.{same_path, same_tuple, same_sign, same_statement}
 use Rattle.bdb_base.specs.SameLemmas.{same_path-Decides, same_tuple-Decides, same_sign-Decides, same_statement-Decides}

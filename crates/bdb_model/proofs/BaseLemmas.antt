@@ -1,10 +1,9 @@
 -- The worlds of a valid base.
-use Rattle.std.proofs.Common.{◌≡◌, ◌∙◌, ℕ, true, false, List, ap, sym}
+use Rattle.std.proofs.Common.{◌≡◌, ◌∙◌, ℕ, true, List, ap, sym}
 use Rattle.bdb_base.specs.declared.kinds.Catalog.{Catalog}
 use Rattle.bdb_base.specs.declared.kinds.Held.{Held}
 use Rattle.bdb_base.specs.declared.kinds.Stmt.{Stmt}
 use Rattle.bdb_base.specs.Bases.{IsValid}
-use Rattle.bdb_base.specs.Clash.{clash}
 use Rattle.bdb_base.specs.SortedSet.{ascending}
 use Rattle.bdb_base.specs.WorldRows.{world_of, has_row, row_tuple_cmp}
 use Rattle.bdb_base.proofs.WorldLemmas.{valid_is_consistent}

@@ -1,7 +1,6 @@
 -- What is stated at each end of a path is all that its world depends on.
 use Rattle.std.proofs.Common.{◌≡◌, ◌∙◌, ℕ, Bool, true, false, not, ◌&&◌, ◌||◌, List, [], ◌∷◌, ◌++◌, inl, inr, refl, ap, sym, cond}
 use Rattle.std.specs.List.{list_any, flat_map}
-use Rattle.std.specs.Ordering.{is_eq}
 use Rattle.std.proofs.lemmas.Bool.{cases_Bool, or_parts, cond-true, cond-false}
 use Rattle.bdb_base.specs.declared.kinds.Held.{Held}
 use Rattle.bdb_base.specs.declared.kinds.Sign.{Sign}
@@ -16,7 +15,7 @@ use Rattle.bdb_base.specs.SortedSet.{is_member, put_in}
 use Rattle.bdb_base.specs.WorldRows.{row_at, rows_at, tuples_of, world_of}
 use Rattle.bdb_base.specs.Worlds.{explicit, contradicted, stated}
 use Rattle.bdb_base.proofs.ClashLemmas.{same_tuple_turned, same_key_turned}
-use Rattle.bdb_base.proofs.ListLemmas.{or_false, or_move, or_swap}
+use Rattle.bdb_base.proofs.ListLemmas.{or_false, or_move}
 use Rattle.bdb_base.proofs.SetLemmas.{put_adds_member}
 use Rattle.bdb_model.specs.LevelSets.{Sets}
 use Rattle.bdb_model.specs.Levels.{key_tuple, no_level, with_stated, grown, grown_all, level_of, levels_of, has_stated, refuses, stated_by, row_by, rows_by}

@@ -1,4 +1,4 @@
-use Rattle.std.proofs.Common.{◌≡◌, ◌∙◌, ap}
+use Rattle.std.proofs.Common.{◌∙◌, ap}
 use Rattle.bdb_base.specs.WorldRows.{world_of}
 use Rattle.bdb_model.proofs.BaseLemmas.{valid_world_once, valid_world_agrees}
 use Rattle.bdb_model.proofs.bases.world_rows.Goals as goal
