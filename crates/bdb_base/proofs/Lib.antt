@@ -1,4 +1,5 @@
 pub mod ClashLemmas
+pub mod FirstLemmas
 pub mod LeastLemmas
 pub mod BaseLemmas
 pub mod CountLemmas

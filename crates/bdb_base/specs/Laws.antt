@@ -11,6 +11,7 @@ use Rattle.bdb_base.specs.declared.kinds.Stmt.{Stmt}
 use Rattle.bdb_base.specs.declared.tuple.Tuple.{Tuple}
 use Rattle.bdb_base.specs.Alternation.{tail}
 use Rattle.bdb_base.specs.Bases.{IsValid, key_lengths}
+use Rattle.bdb_base.specs.Changes.{first_clashing}
 use Rattle.bdb_base.specs.Clash.{clash, key_of}
 use Rattle.bdb_base.specs.Order.{statement_cmp}
 use Rattle.bdb_base.specs.Same.{same_statement}
@@ -74,3 +75,19 @@ RowsDoNotClash = (keys : ℕ → ℕ) (stmts : List Stmt) → IsConsistent keys 
 -- where no two statements of one path clash, the rows of a world are in order by tuple, and no tuple stands twice
 abbrev pub TuplesStandOnce : Type 0
 TuplesStandOnce = (keys : ℕ → ℕ) (stmts : List Stmt) → IsConsistent keys stmts → (w : List ℕ) → ascending row_tuple_cmp (world_of keys stmts w) ≡ true
+
+-- a statement of this very path clashes with another of it
+abbrev pub ClashesWithin : (ℕ → ℕ) → List Stmt → List ℕ → Stmt → Type 0
+ClashesWithin keys stmts w x = (list_any (same_statement x) stmts ≡ true) × (x.path ≡ w) × ((y : Stmt) × ClashesAt keys stmts w x.tuple x.sign y)
+
+-- over statements in order the first clashing one clashes with another of its path, and is below each other that does
+abbrev pub FirstClashingIsLeast : Type 0
+FirstClashingIsLeast = (keys : ℕ → ℕ) (stmts : List Stmt) → ascending statement_cmp stmts ≡ true → (w : List ℕ) (x : Stmt)
+    → first_clashing keys stmts w ≡ Some x
+    → ClashesWithin keys stmts w x × ((y : Stmt) → ClashesWithin keys stmts w y → (y ≡ x) ⊎ (is_lt (statement_cmp x y) ≡ true))
+
+-- there is no first clashing statement exactly where no two statements of this very path clash
+abbrev pub NoFirstClashing : Type 0
+NoFirstClashing = (keys : ℕ → ℕ) (stmts : List Stmt) (w : List ℕ)
+    → ((first_clashing keys stmts w ≡ None)
+    ↔ ((t t' : Tuple) (s s' : Sign) → explicit stmts w t s ≡ true → explicit stmts w t' s' ≡ true → clash keys t s t' s' ≡ false))

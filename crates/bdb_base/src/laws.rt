@@ -1,5 +1,5 @@
 //! What holds of clashes, worlds and belief, each law as the contract of a function that does nothing.
-ghost use Rattle.bdb_base.specs.Laws.{ClashIsSymmetric, WorldsAreConsistent, ValidIsConsistent, PlainInheritance, NegationsAreBelieved, LeastClashIsLeast, NoLeastClash, RowsAreTheWorld, RowsDoNotClash, TuplesStandOnce};
+ghost use Rattle.bdb_base.specs.Laws.{ClashIsSymmetric, WorldsAreConsistent, ValidIsConsistent, PlainInheritance, NegationsAreBelieved, LeastClashIsLeast, NoLeastClash, FirstClashingIsLeast, NoFirstClashing, RowsAreTheWorld, RowsDoNotClash, TuplesStandOnce};
 
 /// A clash is one either way round.
 #[tactic(auto, using(crate::proofs::ClashLemmas::clash_is_symmetric))]
@@ -58,4 +58,15 @@ pub fn rows_do_not_clash()
 #[tactic(auto, using(crate::proofs::WorldRowsLemmas::tuples_stand_once))]
 pub fn tuples_stand_once()
     ensures { TuplesStandOnce }
+{}
+
+/// Over statements in order, the first clashing one clashes with another of its path, and is below each other that does.
+pub fn first_clashing_is_least()
+    ensures { FirstClashingIsLeast }
+{}
+
+/// There is no first clashing statement exactly where no two statements of the path clash.
+#[tactic(auto, using(crate::proofs::FirstLemmas::no_first_clashing))]
+pub fn no_first_clashing()
+    ensures { NoFirstClashing }
 {}

@@ -3,8 +3,8 @@ ghost use Rattle.std.specs.Prelude.{◌≡◌, IfOk};
 ghost use Rattle.bdb_base.specs.WorldRows.{tuples_of};
 
 use crate::kinds::Stmt;
-use crate::list::{Exact, List};
-use crate::ordered::put;
+use crate::list::List;
+use crate::ordered::put_copy;
 use crate::tuple::Tuple;
 use std::alloc::{AllocError, Global};
 
@@ -14,8 +14,7 @@ pub fn tuples_of(alloc: Global, stmts: &[Stmt]) -> Result<List<Tuple>, AllocErro
 {
     let mut tuples = List::new(alloc);
     for x in stmts {
-        let tuple = x.tuple.try_clone(alloc)?;
-        let _added = put(&mut tuples, tuple)?;
+        let _added = put_copy(alloc, &mut tuples, &x.tuple)?;
     }
     Ok(tuples)
 }

@@ -1,49 +1,150 @@
--- The statements of each end of a path are all that its world depends on.
-use Rattle.std.proofs.Common.{◌≡◌, ◌∙◌, ℕ, Bool, true, false, not, ◌&&◌, ◌||◌, List, [], ◌∷◌, ◌++◌, refl, ap, filter, cond}
+-- What is stated at each end of a path is all that its world depends on.
+use Rattle.std.proofs.Common.{◌≡◌, ◌∙◌, ℕ, Bool, true, false, not, ◌&&◌, ◌||◌, List, [], ◌∷◌, ◌++◌, inl, inr, refl, ap, sym, cond}
 use Rattle.std.specs.List.{list_any, flat_map}
-use Rattle.std.proofs.lemmas.Bool.{and_parts}
-use Rattle.std.proofs.lemmas.Map.Views.{any-filter_same}
+use Rattle.std.proofs.lemmas.Bool.{cases_Bool, or_parts, cond-true, cond-false}
 use Rattle.bdb_base.specs.declared.kinds.Held.{Held}
 use Rattle.bdb_base.specs.declared.kinds.Sign.{Sign}
 use Rattle.bdb_base.specs.declared.kinds.Sign.TheVariants.{Plus, Minus}
 use Rattle.bdb_base.specs.declared.kinds.Stmt.{Stmt}
 use Rattle.bdb_base.specs.declared.tuple.Tuple.{Tuple}
-use Rattle.bdb_base.specs.Clash.{clash}
+use Rattle.bdb_base.specs.Clash.{clash, same_key}
+use Rattle.bdb_base.specs.Order.{tuple_cmp}
+use Rattle.bdb_base.specs.OrderLemmas.{tuple_exact, is_eq_tuple_cmp}
 use Rattle.bdb_base.specs.Same.{same_path, same_tuple, same_sign}
+use Rattle.bdb_base.specs.SortedSet.{is_member, put_in}
 use Rattle.bdb_base.specs.WorldRows.{row_at, rows_at, tuples_of, world_of}
 use Rattle.bdb_base.specs.Worlds.{explicit, contradicted, stated}
-use Rattle.bdb_model.specs.Levels.{own_of, levels_of, stated_by, row_by, rows_by}
+use Rattle.bdb_base.proofs.ClashLemmas.{same_tuple_turned, same_key_turned}
+use Rattle.bdb_base.proofs.ListLemmas.{or_false, or_move}
+use Rattle.bdb_base.proofs.SetLemmas.{put_adds_member}
+use Rattle.bdb_model.specs.LevelSets.{Sets}
+use Rattle.bdb_model.specs.Levels.{key_tuple, no_level, with_stated, grown, grown_all, level_of, levels_of, has_stated, refuses, stated_by, row_by, rows_by}
 
--- what a path's statements pass, its own ones pass
-pub own_passes : (stmts : List Stmt) (w : List ℕ) (p : Stmt → Bool) → list_any (λ x. same_path x.path w && p x) (own_of stmts w) ≡ list_any (λ x. same_path x.path w && p x) stmts
-own_passes stmts w p = any-filter_same (λ x. same_path x.path w && p x) (λ x. same_path x.path w) true (λ x e. (and_parts (same_path x.path w) (p x) e).0) stmts
+pub and_true : (b : Bool) → (b && true) ≡ b
+and_true true = refl
+and_true false = refl
 
-pub explicit_own : (stmts : List Stmt) (w : List ℕ) (t : Tuple) (s : Sign) → explicit (own_of stmts w) w t s ≡ explicit stmts w t s
-explicit_own stmts w t s = own_passes stmts w (λ x. same_tuple x.tuple t && same_sign x.sign s)
+pub and_false : (b : Bool) → (b && false) ≡ false
+and_false true = refl
+and_false false = refl
 
-pub contradicted_own : (keys : ℕ → ℕ) (stmts : List Stmt) (w : List ℕ) (t : Tuple) (s : Sign) → contradicted keys (own_of stmts w) w t s ≡ contradicted keys stmts w t s
-contradicted_own keys stmts w t s = own_passes stmts w (λ x. clash keys t s x.tuple x.sign)
+pub list_any_same : {X : Type 0} (p q : X → Bool) → ((x : X) → p x ≡ q x) → (xs : List X) → list_any p xs ≡ list_any q xs
+list_any_same p q h [] = refl
+list_any_same p q h (x ∷ xs) = ap (λ b. b || list_any p xs) (h x) ∙ ap (λ b. q x || b) (list_any_same p q h xs)
 
-pub stated_by_levels : (keys : ℕ → ℕ) (stmts : List Stmt) (w : List ℕ) (t : Tuple) (s : Sign) → stated_by keys (levels_of stmts w) w t s ≡ stated keys stmts w t s
-stated_by_levels keys stmts [] t s = explicit_own stmts [] t s
+-- a set of a level has a member from before, or one that a statement of this very path brought
+pub grown_set : (keys : ℕ → ℕ) (w : List ℕ) (z : Tuple) (f : Sets → List Tuple) (q : Tuple → Sign → Bool)
+    → ((l : Sets) (u : Tuple) (s : Sign) → is_member tuple_cmp (f (with_stated keys l u s)) z ≡ (q u s || is_member tuple_cmp (f l) z))
+    → (l : Sets) (stmts : List Stmt)
+    → is_member tuple_cmp (f (grown_all keys w l stmts)) z ≡ (is_member tuple_cmp (f l) z || list_any (λ x. same_path x.path w && q x.tuple x.sign) stmts)
+grown_set keys w z f q h l [] = sym (or_false (is_member tuple_cmp (f l) z))
+grown_set keys w z f q h l (x ∷ xs) =
+    grown_set keys w z f q h (grown keys w l x) xs
+    ∙ ap (λ b. b || list_any (λ y. same_path y.path w && q y.tuple y.sign) xs) here
+    ∙ or_move (same_path x.path w && q x.tuple x.sign) (is_member tuple_cmp (f l) z) (list_any (λ y. same_path y.path w && q y.tuple y.sign) xs)
+  where
+    here : is_member tuple_cmp (f (grown keys w l x)) z ≡ ((same_path x.path w && q x.tuple x.sign) || is_member tuple_cmp (f l) z)
+    here = elim (cases_Bool (same_path x.path w)) [
+      | inl e ↦ ap (λ k. is_member tuple_cmp (f k) z) (cond-true (same_path x.path w) (with_stated keys l x.tuple x.sign) l e)
+          ∙ h l x.tuple x.sign ∙ ap (λ b. (b && q x.tuple x.sign) || is_member tuple_cmp (f l) z) (sym e)
+      | inr e ↦ ap (λ k. is_member tuple_cmp (f k) z) (cond-false (same_path x.path w) (with_stated keys l x.tuple x.sign) l e)
+          ∙ ap (λ b. (b && q x.tuple x.sign) || is_member tuple_cmp (f l) z) (sym e)
+    ]
+
+put_has : (ts : List Tuple) (u z : Tuple) → is_member tuple_cmp (put_in tuple_cmp ts u) z ≡ (same_tuple u z || is_member tuple_cmp ts z)
+put_has ts u z = put_adds_member tuple_exact ts u z ∙ ap (λ b. b || is_member tuple_cmp ts z) (is_eq_tuple_cmp u z)
+
+plus_step : (keys : ℕ → ℕ) (t : Tuple) (l : Sets) (u : Tuple) (s : Sign) → is_member tuple_cmp (with_stated keys l u s).plus t ≡ ((same_tuple u t && same_sign s Plus) || is_member tuple_cmp l.plus t)
+plus_step keys t l u Plus = put_has l.plus u t ∙ ap (λ b. b || is_member tuple_cmp l.plus t) (sym (and_true (same_tuple u t)))
+plus_step keys t l u Minus = ap (λ b. b || is_member tuple_cmp l.plus t) (sym (and_false (same_tuple u t)))
+
+minus_step : (keys : ℕ → ℕ) (t : Tuple) (l : Sets) (u : Tuple) (s : Sign) → is_member tuple_cmp (with_stated keys l u s).minus t ≡ ((same_tuple u t && same_sign s Minus) || is_member tuple_cmp l.minus t)
+minus_step keys t l u Plus = ap (λ b. b || is_member tuple_cmp l.minus t) (sym (and_false (same_tuple u t)))
+minus_step keys t l u Minus = put_has l.minus u t ∙ ap (λ b. b || is_member tuple_cmp l.minus t) (sym (and_true (same_tuple u t)))
+
+keys_step : (keys : ℕ → ℕ) (t : Tuple) (l : Sets) (u : Tuple) (s : Sign)
+    → is_member tuple_cmp (with_stated keys l u s).keys (key_tuple keys t) ≡ ((same_sign s Plus && same_key keys u t) || is_member tuple_cmp l.keys (key_tuple keys t))
+keys_step keys t l u Plus = put_has l.keys (key_tuple keys u) (key_tuple keys t)
+keys_step keys t l u Minus = refl
+
+pub level_has : (keys : ℕ → ℕ) (stmts : List Stmt) (w : List ℕ) (t : Tuple) (s : Sign) → has_stated (level_of keys stmts w) t s ≡ explicit stmts w t s
+level_has keys stmts w t Plus = grown_set keys w t (λ l. l.plus) (λ u s. same_tuple u t && same_sign s Plus) (plus_step keys t) no_level stmts
+level_has keys stmts w t Minus = grown_set keys w t (λ l. l.minus) (λ u s. same_tuple u t && same_sign s Minus) (minus_step keys t) no_level stmts
+
+-- a statement of this very path has plus and the tuple's key
+abbrev keyed : (ℕ → ℕ) → List Stmt → List ℕ → Tuple → Bool
+keyed keys stmts w t = list_any (λ x. same_path x.path w && (same_sign x.sign Plus && same_key keys x.tuple t)) stmts
+
+level_keyed : (keys : ℕ → ℕ) (stmts : List Stmt) (w : List ℕ) (t : Tuple) → is_member tuple_cmp (level_of keys stmts w).keys (key_tuple keys t) ≡ keyed keys stmts w t
+level_keyed keys stmts w t = grown_set keys w (key_tuple keys t) (λ l. l.keys) (λ u s. same_sign s Plus && same_key keys u t) (keys_step keys t) no_level stmts
+
+-- what clashes with a plus that is not stated: its denial, or a plus of its key
+plus_clash : (keys : ℕ → ℕ) (t u : Tuple) (s : Sign) (b : Bool) → (b && (same_tuple u t && same_sign s Plus)) ≡ false
+    → (b && clash keys t Plus u s) ≡ ((b && (same_tuple u t && same_sign s Minus)) || (b && (same_sign s Plus && same_key keys u t)))
+plus_clash keys t u s false h = refl
+plus_clash keys t u Plus true h =
+    let apart : same_tuple t u ≡ false = same_tuple_turned t u ∙ sym (and_true (same_tuple u t)) ∙ h in
+    ap (λ e. same_key keys t u && not e) apart ∙ and_true (same_key keys t u) ∙ same_key_turned keys t u
+    ∙ ap (λ e. e || same_key keys u t) (sym (and_false (same_tuple u t)))
+plus_clash keys t u Minus true h = same_tuple_turned t u ∙ sym (and_true (same_tuple u t)) ∙ sym (or_false (same_tuple u t && true))
+
+or_four : (a b c d : Bool) → ((a || b) || (c || d)) ≡ ((a || c) || (b || d))
+or_four true b c d = refl
+or_four false true true d = refl
+or_four false true false d = refl
+or_four false false true d = refl
+or_four false false false d = refl
+
+plus_contradicted : (keys : ℕ → ℕ) (stmts : List Stmt) (w : List ℕ) (t : Tuple) → explicit stmts w t Plus ≡ false
+    → contradicted keys stmts w t Plus ≡ (explicit stmts w t Minus || keyed keys stmts w t)
+plus_contradicted keys [] w t h = refl
+plus_contradicted keys (x ∷ xs) w t h =
+    let parts = or_parts (same_path x.path w && (same_tuple x.tuple t && same_sign x.sign Plus)) (explicit xs w t Plus) h in
+    ap (λ b. b || contradicted keys xs w t Plus) (plus_clash keys t x.tuple x.sign (same_path x.path w) parts.0)
+    ∙ ap (λ b. ((same_path x.path w && (same_tuple x.tuple t && same_sign x.sign Minus)) || (same_path x.path w && (same_sign x.sign Plus && same_key keys x.tuple t))) || b)
+    (plus_contradicted keys xs w t parts.1)
+    ∙ or_four (same_path x.path w && (same_tuple x.tuple t && same_sign x.sign Minus)) (same_path x.path w && (same_sign x.sign Plus && same_key keys x.tuple t))
+    (explicit xs w t Minus) (keyed keys xs w t)
+
+-- what clashes with a minus: the same tuple with plus
+minus_clash : (keys : ℕ → ℕ) (t u : Tuple) (s : Sign) → (same_tuple u t && same_sign s Plus) ≡ clash keys t Minus u s
+minus_clash keys t u Plus = and_true (same_tuple u t) ∙ same_tuple_turned u t
+minus_clash keys t u Minus = and_false (same_tuple u t)
+
+pub level_refuses : (keys : ℕ → ℕ) (stmts : List Stmt) (w : List ℕ) (t : Tuple) (s : Sign) → explicit stmts w t s ≡ false
+    → refuses (level_of keys stmts w) t (key_tuple keys t) s ≡ contradicted keys stmts w t s
+level_refuses keys stmts w t Plus h =
+    ap (λ b. b || is_member tuple_cmp (level_of keys stmts w).keys (key_tuple keys t)) (level_has keys stmts w t Minus)
+    ∙ ap (λ b. explicit stmts w t Minus || b) (level_keyed keys stmts w t) ∙ sym (plus_contradicted keys stmts w t h)
+level_refuses keys stmts w t Minus h =
+    level_has keys stmts w t Plus
+    ∙ list_any_same (λ x. same_path x.path w && (same_tuple x.tuple t && same_sign x.sign Plus)) (λ x. same_path x.path w && clash keys t Minus x.tuple x.sign)
+    (λ x. ap (λ b. same_path x.path w && b) (minus_clash keys t x.tuple x.sign)) stmts
+
+-- a test that matters only where another fails
+or_where : (e a b c : Bool) → (e ≡ false → b ≡ c) → (e || (a && not b)) ≡ (e || (a && not c))
+or_where true a b c h = refl
+or_where false a b c h = ap (λ d. a && not d) (h refl)
+
+pub stated_by_levels : (keys : ℕ → ℕ) (stmts : List Stmt) (w : List ℕ) (t : Tuple) (s : Sign) → stated_by (levels_of keys stmts w) t (key_tuple keys t) s ≡ stated keys stmts w t s
+stated_by_levels keys stmts [] t s = or_false (has_stated (level_of keys stmts []) t s) ∙ level_has keys stmts [] t s
 stated_by_levels keys stmts (i ∷ w) t s =
-    let a : explicit (own_of stmts (i ∷ w)) (i ∷ w) t s ≡ explicit stmts (i ∷ w) t s = explicit_own stmts (i ∷ w) t s in
-    let b : contradicted keys (own_of stmts (i ∷ w)) (i ∷ w) t s ≡ contradicted keys stmts (i ∷ w) t s = contradicted_own keys stmts (i ∷ w) t s in
-    ap (λ e. e || (stated_by keys (levels_of stmts w) w t s && not (contradicted keys (own_of stmts (i ∷ w)) (i ∷ w) t s))) a
-    ∙ ap (λ e. explicit stmts (i ∷ w) t s || (e && not (contradicted keys (own_of stmts (i ∷ w)) (i ∷ w) t s))) (stated_by_levels keys stmts w t s)
-    ∙ ap (λ e. explicit stmts (i ∷ w) t s || (stated keys stmts w t s && not e)) b
+    ap (λ e. e || (stated_by (levels_of keys stmts w) t (key_tuple keys t) s && not (refuses (level_of keys stmts (i ∷ w)) t (key_tuple keys t) s))) (level_has keys stmts (i ∷ w) t s)
+    ∙ ap (λ e. explicit stmts (i ∷ w) t s || (e && not (refuses (level_of keys stmts (i ∷ w)) t (key_tuple keys t) s))) (stated_by_levels keys stmts w t s)
+    ∙ or_where (explicit stmts (i ∷ w) t s) (stated keys stmts w t s) (refuses (level_of keys stmts (i ∷ w)) t (key_tuple keys t) s) (contradicted keys stmts (i ∷ w) t s)
+    (level_refuses keys stmts (i ∷ w) t s)
 
-pub row_by_levels : (keys : ℕ → ℕ) (stmts : List Stmt) (w : List ℕ) (t : Tuple) (s : Sign) → row_by keys (levels_of stmts w) (own_of stmts w) w t s ≡ row_at keys stmts w t s
+pub row_by_levels : (keys : ℕ → ℕ) (stmts : List Stmt) (w : List ℕ) (t : Tuple) (s : Sign) → row_by (levels_of keys stmts w) (level_of keys stmts w) t (key_tuple keys t) s ≡ row_at keys stmts w t s
 row_by_levels keys stmts w t s =
-    ap (λ e. cond e (held (explicit (own_of stmts w) w t s) ∷ []) []) (stated_by_levels keys stmts w t s)
-    ∙ ap (λ e. cond (stated keys stmts w t s) (held e ∷ []) []) (explicit_own stmts w t s)
+    ap (λ e. cond e (held (has_stated (level_of keys stmts w) t s) ∷ []) []) (stated_by_levels keys stmts w t s)
+    ∙ ap (λ e. cond (stated keys stmts w t s) (held e ∷ []) []) (level_has keys stmts w t s)
   where
     held : Bool → Held
     held e = record { tuple = t; sign = s; explicit = e }
 
-pub rows_by_levels : (keys : ℕ → ℕ) (stmts : List Stmt) (w : List ℕ) (t : Tuple) → rows_by keys (levels_of stmts w) (own_of stmts w) w t ≡ rows_at keys stmts w t
+pub rows_by_levels : (keys : ℕ → ℕ) (stmts : List Stmt) (w : List ℕ) (t : Tuple) → rows_by keys (levels_of keys stmts w) (level_of keys stmts w) t ≡ rows_at keys stmts w t
 rows_by_levels keys stmts w t =
-    ap (λ rows. rows ++ row_by keys (levels_of stmts w) (own_of stmts w) w t Minus) (row_by_levels keys stmts w t Plus)
+    ap (λ rows. rows ++ row_by (levels_of keys stmts w) (level_of keys stmts w) t (key_tuple keys t) Minus) (row_by_levels keys stmts w t Plus)
     ∙ ap (λ rows. row_at keys stmts w t Plus ++ rows) (row_by_levels keys stmts w t Minus)
 
 pub flat_map_same : {X Y : Type 0} (f g : X → List Y) → ((x : X) → f x ≡ g x) → (xs : List X) → flat_map f xs ≡ flat_map g xs
@@ -51,5 +152,5 @@ flat_map_same f g h [] = refl
 flat_map_same f g h (x ∷ xs) = ap (λ ys. ys ++ flat_map f xs) (h x) ∙ ap (λ ys. g x ++ ys) (flat_map_same f g h xs)
 
 -- the rows by levels of all tuples are the world
-pub world_by_levels : (keys : ℕ → ℕ) (stmts : List Stmt) (w : List ℕ) → flat_map (rows_by keys (levels_of stmts w) (own_of stmts w) w) (tuples_of stmts) ≡ world_of keys stmts w
-world_by_levels keys stmts w = flat_map_same (rows_by keys (levels_of stmts w) (own_of stmts w) w) (rows_at keys stmts w) (rows_by_levels keys stmts w) (tuples_of stmts)
+pub world_by_levels : (keys : ℕ → ℕ) (stmts : List Stmt) (w : List ℕ) → flat_map (rows_by keys (levels_of keys stmts w) (level_of keys stmts w)) (tuples_of stmts) ≡ world_of keys stmts w
+world_by_levels keys stmts w = flat_map_same (rows_by keys (levels_of keys stmts w) (level_of keys stmts w)) (rows_at keys stmts w) (rows_by_levels keys stmts w) (tuples_of stmts)

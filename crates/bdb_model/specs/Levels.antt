@@ -1,32 +1,66 @@
--- Worlds from the statements of each end of a path alone.
-use Rattle.std.specs.Prelude.{ℕ, Bool, false, not, ◌&&◌, ◌||◌, List, [], ◌∷◌, ◌++◌, filter, cond}
+-- Worlds from what is stated at each end of a path.
+use Rattle.std.specs.Prelude.{ℕ, Bool, false, not, ◌&&◌, ◌||◌, List, [], ◌∷◌, ◌++◌, cond}
 use Rattle.bdb_base.specs.declared.kinds.Held.{Held}
 use Rattle.bdb_base.specs.declared.kinds.Sign.{Sign}
 use Rattle.bdb_base.specs.declared.kinds.Sign.TheVariants.{Plus, Minus}
 use Rattle.bdb_base.specs.declared.kinds.Stmt.{Stmt}
 use Rattle.bdb_base.specs.declared.tuple.Tuple.{Tuple}
+use Rattle.bdb_base.specs.Clash.{key_of}
+use Rattle.bdb_base.specs.Order.{tuple_cmp}
 use Rattle.bdb_base.specs.Same.{same_path}
-use Rattle.bdb_base.specs.Worlds.{explicit, contradicted}
+use Rattle.bdb_base.specs.SortedSet.{is_member, put_in}
+use Rattle.bdb_model.specs.LevelSets.{Sets}
 
--- the statements of this very path
-abbrev pub own_of : List Stmt → List ℕ → List Stmt
-own_of stmts w = filter (λ x. same_path x.path w) stmts
+-- a tuple's key, as a tuple of its relation
+abbrev pub key_tuple : (ℕ → ℕ) → Tuple → Tuple
+key_tuple keys t = record { rel = t.rel; vals = key_of keys t }
 
--- the statements of the path, then those of the path without its first user, and so on to the empty path
-abbrev pub levels_of : List Stmt → List ℕ → List (List Stmt)
-levels_of stmts [] = own_of stmts [] ∷ []
-levels_of stmts (i ∷ w) = own_of stmts (i ∷ w) ∷ levels_of stmts w
+-- nothing is stated
+abbrev pub no_level : Sets
+no_level = record { plus = []; minus = []; keys = [] }
 
--- the world of a path has a signed tuple, by the statements of each end of the path
-abbrev pub stated_by : (ℕ → ℕ) → List (List Stmt) → List ℕ → Tuple → Sign → Bool
-stated_by keys [] w t s = false
-stated_by keys (own ∷ levels) [] t s = explicit own [] t s
-stated_by keys (own ∷ levels) (i ∷ w) t s = explicit own (i ∷ w) t s || (stated_by keys levels w t s && not (contradicted keys own (i ∷ w) t s))
+-- a level with one more signed tuple
+abbrev pub with_stated : (ℕ → ℕ) → Sets → Tuple → Sign → Sets
+with_stated keys l t Plus = record { plus = put_in tuple_cmp l.plus t; minus = l.minus; keys = put_in tuple_cmp l.keys (key_tuple keys t) }
+with_stated keys l t Minus = record { plus = l.plus; minus = put_in tuple_cmp l.minus t; keys = l.keys }
+
+-- a level with a statement, where it is one of this very path
+abbrev pub grown : (ℕ → ℕ) → List ℕ → Sets → Stmt → Sets
+grown keys w l x = cond (same_path x.path w) (with_stated keys l x.tuple x.sign) l
+
+-- a level with the statements of this very path
+abbrev pub grown_all : (ℕ → ℕ) → List ℕ → Sets → List Stmt → Sets
+grown_all keys w l [] = l
+grown_all keys w l (x ∷ xs) = grown_all keys w (grown keys w l x) xs
+
+-- what is stated at this very path
+abbrev pub level_of : (ℕ → ℕ) → List Stmt → List ℕ → Sets
+level_of keys stmts w = grown_all keys w no_level stmts
+
+-- the level of the path, then that of the path without its first user, and so on to the empty path
+abbrev pub levels_of : (ℕ → ℕ) → List Stmt → List ℕ → List Sets
+levels_of keys stmts [] = level_of keys stmts [] ∷ []
+levels_of keys stmts (i ∷ w) = level_of keys stmts (i ∷ w) ∷ levels_of keys stmts w
+
+-- a level states a signed tuple
+abbrev pub has_stated : Sets → Tuple → Sign → Bool
+has_stated l t Plus = is_member tuple_cmp l.plus t
+has_stated l t Minus = is_member tuple_cmp l.minus t
+
+-- a level states what clashes with a signed tuple that it does not state itself
+abbrev pub refuses : Sets → Tuple → Tuple → Sign → Bool
+refuses l t key Plus = is_member tuple_cmp l.minus t || is_member tuple_cmp l.keys key
+refuses l t key Minus = is_member tuple_cmp l.plus t
+
+-- the world of the first level's path has a signed tuple
+abbrev pub stated_by : List Sets → Tuple → Tuple → Sign → Bool
+stated_by [] t key s = false
+stated_by (l ∷ lower) t key s = has_stated l t s || (stated_by lower t key s && not (refuses l t key s))
 
 -- the row of a signed tuple, where the world has it
-abbrev pub row_by : (ℕ → ℕ) → List (List Stmt) → List Stmt → List ℕ → Tuple → Sign → List Held
-row_by keys levels own w t s = cond (stated_by keys levels w t s) (record { tuple = t; sign = s; explicit = explicit own w t s } ∷ []) []
+abbrev pub row_by : List Sets → Sets → Tuple → Tuple → Sign → List Held
+row_by levels own t key s = cond (stated_by levels t key s) (record { tuple = t; sign = s; explicit = has_stated own t s } ∷ []) []
 
 -- the rows of a tuple
-abbrev pub rows_by : (ℕ → ℕ) → List (List Stmt) → List Stmt → List ℕ → Tuple → List Held
-rows_by keys levels own w t = row_by keys levels own w t Plus ++ row_by keys levels own w t Minus
+abbrev pub rows_by : (ℕ → ℕ) → List Sets → Sets → Tuple → List Held
+rows_by keys levels own t = row_by levels own t (key_tuple keys t) Plus ++ row_by levels own t (key_tuple keys t) Minus

@@ -2,7 +2,7 @@
 use Rattle.std.specs.Prelude.{ℕ, Bool, ◌&&◌, List}
 use Rattle.std.specs.List.{list_any}
 use Rattle.bdb_base.specs.declared.kinds.Sign.{Sign}
-use Rattle.bdb_base.specs.declared.kinds.Sign.TheVariants.{Plus, Minus}
+use Rattle.bdb_base.specs.declared.kinds.Sign.TheVariants.{Plus}
 use Rattle.bdb_base.specs.declared.kinds.Stmt.{Stmt}
 use Rattle.bdb_base.specs.declared.tuple.Tuple.{Tuple}
 use Rattle.bdb_base.specs.Clash.{clash}

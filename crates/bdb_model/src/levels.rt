@@ -1,55 +1,138 @@
-// The statements of each end of a path, which are all that its world depends on.
-ghost use Rattle.std.specs.Prelude.{◌≡◌, IfOk};
-ghost use Rattle.bdb_model.specs.Levels.{own_of, levels_of, stated_by};
+// What is stated at each end of a path, which is all that its world depends on.
+ghost use Rattle.std.specs.Prelude.{◌≡◌, true, [], IfOk, OnOk};
+ghost use Rattle.bdb_base.specs.Order.{tuple_cmp};
+ghost use Rattle.bdb_base.specs.SortedSet.{ascending, is_member};
+ghost use Rattle.bdb_model.specs.Levels.{key_tuple, with_stated, level_of, levels_of, has_stated, refuses, stated_by};
 
-use crate::beliefs::{is_at, is_contradicted, is_explicit};
-use bdb_base::{Exact, List, Sign, Stmt, Tuple};
+use crate::beliefs::is_at;
+use bdb_base::{Exact, List, Sign, Stmt, Tuple, key_of, place_of, put, put_copy};
 use std::alloc::{AllocError, Global};
+use std::marker::Model;
 
-/// The statements of this very path.
-pub fn own_of(alloc: Global, stmts: &[Stmt], path: &[u32]) -> Result<List<Stmt>, AllocError>
-    ensures { IfOk result (λ own. own ≡ own_of stmts.now path.now) }
-{
-    let mut own = List::new(alloc);
-    for x in stmts {
-        if is_at(x, path) {
-            own.push(x.try_clone(alloc)?)?;
-        }
-    }
-    Ok(own)
+/// What is stated at one path: the tuples with plus, those with minus, and the keys of the former, each a set in order.
+#[derive(Drop)]
+pub struct Level {
+    plus: List<Tuple>,
+    minus: List<Tuple>,
+    keys: List<Tuple>,
 }
 
-/// The statements of the path, then those of the path without its first user, and so on to the empty path.
-pub fn levels_of(
-    alloc: Global,
-    stmts: &[Stmt],
-    path: &[u32],
-) -> Result<List<List<Stmt>>, AllocError>
-    ensures { IfOk result (λ levels. levels ≡ levels_of stmts.now path.now) }
+impl Model for Level {
+    ghost use Rattle.bdb_model.specs.LevelSets.{Sets, AreSets};
+
+    ghost Value = { Sets };
+
+    ghost view = { λ l. record { plus = l.plus; minus = l.minus; keys = l.keys } };
+
+    ghost invariant = { λ l. AreSets l.plus l.minus l.keys };
+}
+
+impl Level {
+    /// The level at which nothing is stated.
+    fn new(alloc: Global) -> Self
+        ensures { result ≡ record { plus = []; minus = []; keys = [] } }
+    {
+        Level {
+            plus: List::new(alloc),
+            minus: List::new(alloc),
+            keys: List::new(alloc),
+        }
+    }
+
+    /// Adds what a statement states.
+    fn add(&mut self, alloc: Global, x: &Stmt) -> Result<(), AllocError>
+        ensures { OnOk result (self.new ≡ with_stated (λ _. 1) self.old x.now.tuple x.now.sign) }
+    {
+        match x.sign {
+            Sign::Plus => {
+                let key = key_tuple(alloc, &x.tuple)?;
+                let _added = put_copy(alloc, &mut self.plus, &x.tuple)?;
+                let _first = put(&mut self.keys, key)?;
+            }
+            Sign::Minus => {
+                let _added = put_copy(alloc, &mut self.minus, &x.tuple)?;
+            }
+        }
+        Ok(())
+    }
+
+    /// Whether a signed tuple is stated here.
+    pub fn has(&self, t: &Tuple, s: Sign) -> bool
+        ensures { result ≡ has_stated self.now t.now s }
+    {
+        match s {
+            Sign::Plus => is_among(self.plus.as_slice(), t),
+            Sign::Minus => is_among(self.minus.as_slice(), t),
+        }
+    }
+
+    /// Whether a signed tuple that is not stated here clashes with one that is.
+    fn refuses(&self, t: &Tuple, key: &Tuple, s: Sign) -> bool
+        ensures { result ≡ refuses self.now t.now key.now s }
+    {
+        match s {
+            Sign::Plus => {
+                is_among(self.minus.as_slice(), t) || is_among(self.keys.as_slice(), key)
+            }
+            Sign::Minus => is_among(self.plus.as_slice(), t),
+        }
+    }
+}
+
+/// What is stated at this very path.
+pub fn level_of(alloc: Global, stmts: &[Stmt], path: &[u32]) -> Result<Level, AllocError>
+    ensures { IfOk result (λ level. level ≡ level_of (λ _. 1) stmts.now path.now) }
 {
-    let mut levels = List::new(alloc);
+    let mut level = Level::new(alloc);
+    for x in stmts {
+        if is_at(x, path) {
+            level.add(alloc, x)?;
+        }
+    }
+    Ok(level)
+}
+
+/// The level of the path, then that of the path without its first user, and so on to the empty path.
+pub fn levels_of(alloc: Global, stmts: &[Stmt], path: &[u32]) -> Result<Vec<Level>, AllocError>
+    ensures { IfOk result (λ levels. levels.items ≡ levels_of (λ _. 1) stmts.now path.now) }
+{
+    let mut levels = Vec::new(alloc);
     let mut rest = path;
     while let [_, others @ ..] = rest {
-        levels.push(own_of(alloc, stmts, rest)?)?;
+        levels.push(level_of(alloc, stmts, rest)?)?;
         rest = others;
     }
-    levels.push(own_of(alloc, stmts, rest)?)?;
+    levels.push(level_of(alloc, stmts, rest)?)?;
     Ok(levels)
 }
 
-/// Whether the world of a path has a signed tuple, by the statements of each end of the path.
-pub fn stated_by(levels: &[List<Stmt>], path: &[u32], t: &Tuple, s: Sign) -> bool
-    ensures { result ≡ stated_by (λ _. 1) levels.now path.now t.now s }
+/// Whether the world of the first level's path has a signed tuple.
+pub fn stated_by(levels: &[Level], t: &Tuple, key: &Tuple, s: Sign) -> bool
+    ensures { result ≡ stated_by levels.now t.now key.now s }
 {
     match levels {
         [] => false,
-        [own, lower @ ..] => match path {
-            [] => is_explicit(own.as_slice(), path, t, s),
-            [_, rest @ ..] => {
-                is_explicit(own.as_slice(), path, t, s)
-                    || (stated_by(lower, rest, t, s)
-                        && !is_contradicted(own.as_slice(), path, t, s))
-            }
-        },
+        [level, lower @ ..] => {
+            level.has(t, s) || (stated_by(lower, t, key, s) && !level.refuses(t, key, s))
+        }
+    }
+}
+
+/// A tuple's key, as a tuple of its relation.
+pub fn key_tuple(alloc: Global, t: &Tuple) -> Result<Tuple, AllocError>
+    ensures { IfOk result (λ key. key ≡ key_tuple (λ _. 1) t.now) }
+{
+    let mut vals = List::new(alloc);
+    vals.push(key_of(t).try_clone(alloc)?)?;
+    Ok(Tuple { rel: t.rel, vals })
+}
+
+fn is_among(tuples: &[Tuple], t: &Tuple) -> bool
+    requires { ascending tuple_cmp tuples.now ≡ true }
+    ensures { result ≡ is_member tuple_cmp tuples.now t.now }
+{
+    match place_of(tuples, t) {
+        Ok(_) => true,
+        Err(_) => false,
     }
 }

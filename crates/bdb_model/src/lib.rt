@@ -1,11 +1,13 @@
 //! Worlds and belief, computed as they are defined: by going down the path, over the standing statements.
 #![tactic(auto)]
 
+mod bases;
 mod beliefs;
 mod levels;
 mod rows;
 #[cfg(test)]
 mod tests;
 
+pub use bases::{believes, clashing, stated, world_rows};
 pub use beliefs::{believes_among, clashing_among, stated_among};
 pub use rows::world_among;

@@ -3,8 +3,7 @@ ghost use Rattle.std.specs.Prelude.{◌≡◌, ◌++◌, IfOk, OnOk};
 ghost use Rattle.bdb_base.specs.WorldRows.{world_of};
 ghost use Rattle.bdb_model.specs.Levels.{row_by, rows_by};
 
-use crate::beliefs::is_explicit;
-use crate::levels::{levels_of, own_of, stated_by};
+use crate::levels::{Level, key_tuple, level_of, levels_of, stated_by};
 use bdb_base::{Exact, Held, List, Sign, Stmt, Tuple, World, tuples_of};
 use std::alloc::{AllocError, Global};
 
@@ -15,17 +14,10 @@ pub fn world_among(alloc: Global, stmts: &[Stmt], path: &[u32]) -> Result<World,
 {
     let tuples = tuples_of(alloc, stmts)?;
     let levels = levels_of(alloc, stmts, path)?;
-    let own = own_of(alloc, stmts, path)?;
+    let own = level_of(alloc, stmts, path)?;
     let mut held = List::new(alloc);
     for tuple in tuples.as_slice() {
-        push_rows(
-            alloc,
-            &mut held,
-            levels.as_slice(),
-            own.as_slice(),
-            path,
-            tuple,
-        )?;
+        push_rows(alloc, &mut held, levels.as_slice(), &own, tuple)?;
     }
     Ok(World { held })
 }
@@ -33,34 +25,34 @@ pub fn world_among(alloc: Global, stmts: &[Stmt], path: &[u32]) -> Result<World,
 fn push_rows(
     alloc: Global,
     held: &mut List<Held>,
-    levels: &[List<Stmt>],
-    own: &[Stmt],
-    path: &[u32],
+    levels: &[Level],
+    own: &Level,
     tuple: &Tuple,
 ) -> Result<(), AllocError>
-    ensures { OnOk result (held.new ≡ held.old ++ rows_by (λ _. 1) levels.now own.now path.now tuple.now) }
+    ensures { OnOk result (held.new ≡ held.old ++ rows_by (λ _. 1) levels.now own.now tuple.now) }
 {
-    push_row(alloc, held, levels, own, path, tuple, Sign::Plus)?;
-    push_row(alloc, held, levels, own, path, tuple, Sign::Minus)?;
+    let key = key_tuple(alloc, tuple)?;
+    push_row(alloc, held, levels, own, tuple, &key, Sign::Plus)?;
+    push_row(alloc, held, levels, own, tuple, &key, Sign::Minus)?;
     Ok(())
 }
 
 fn push_row(
     alloc: Global,
     held: &mut List<Held>,
-    levels: &[List<Stmt>],
-    own: &[Stmt],
-    path: &[u32],
+    levels: &[Level],
+    own: &Level,
     tuple: &Tuple,
+    key: &Tuple,
     sign: Sign,
 ) -> Result<(), AllocError>
-    ensures { OnOk result (held.new ≡ held.old ++ row_by (λ _. 1) levels.now own.now path.now tuple.now sign) }
+    ensures { OnOk result (held.new ≡ held.old ++ row_by levels.now own.now tuple.now key.now sign) }
 {
-    if stated_by(levels, path, tuple, sign) {
+    if stated_by(levels, tuple, key, sign) {
         held.push(Held {
             tuple: tuple.try_clone(alloc)?,
             sign,
-            explicit: is_explicit(own, path, tuple, sign),
+            explicit: own.has(tuple, sign),
         })?;
     }
     Ok(())
