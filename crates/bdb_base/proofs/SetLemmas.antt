@@ -251,19 +251,19 @@ module _ {X : Type 0} {R : X → X → Ordering} (o : IsExactOrder R) where
 
   -- ---- the steps of a search by halves
 
-  pub search_up : (xs : List X) (x y : X) (m : ℕ) → ascending R xs ≡ true → m < length xs → y ≡ get_or xs m y → R y x ≡ Less → are_below R x (take (m + 1) xs) ≡ true
+  pub search_up : (xs : List X) (x y : X) (m : ℕ) → ascending R xs ≡ true → m < length xs → y ≡ get_or xs m y → Less ≡ R y x → are_below R x (take (m + 1) xs) ≡ true
   search_up xs x y m h l r e =
       let s = stands_at xs y m h (slice_get_read xs (length xs) m y refl l r) in
       ap (are_below R x) (take_more xs m y l) ∙ list_all-append (λ z. is_lt (R z x)) (take m xs) (get_or xs m y ∷ [])
-      ∙ and_from (are_below R x (take m xs)) (are_below R x (get_or xs m y ∷ [])) (below_weaker x y (take m xs) e s.below)
-      (ap (λ z. is_lt (R z x) && true) (sym r) ∙ ap (λ c. is_lt c && true) e)
+      ∙ and_from (are_below R x (take m xs)) (are_below R x (get_or xs m y ∷ [])) (below_weaker x y (take m xs) (sym e) s.below)
+      (ap (λ z. is_lt (R z x) && true) (sym r) ∙ ap (λ c. is_lt c && true) (sym e))
 
-  pub search_down : (xs : List X) (x y : X) (m : ℕ) → ascending R xs ≡ true → m < length xs → y ≡ get_or xs m y → R y x ≡ Greater → are_above R x (drop m xs) ≡ true
+  pub search_down : (xs : List X) (x y : X) (m : ℕ) → ascending R xs ≡ true → m < length xs → y ≡ get_or xs m y → Greater ≡ R y x → are_above R x (drop m xs) ≡ true
   search_down xs x y m h l r e =
       let s = stands_at xs y m h (slice_get_read xs (length xs) m y refl l r) in
-      let less : R x y ≡ Less = less_from_greater y x e in
+      let less : R x y ≡ Less = less_from_greater y x (sym e) in
       ap (are_above R x) (drop-cons xs m y l)
       ∙ and_from (is_lt (R x (get_or xs m y))) (are_above R x (drop (suc m) xs)) (ap (λ z. is_lt (R x z)) (sym r) ∙ ap is_lt less) (above_weaker x y (drop (suc m) xs) less s.above)
 
-  pub search_found : (xs : List X) (x y : X) (m : ℕ) → m < length xs → y ≡ get_or xs m y → R y x ≡ Equal → slice_get xs m ≡ Some x
-  search_found xs x y m l r e = slice_get_read xs (length xs) m y refl l r ∙ ap Some (o.exact y x e)
+  pub search_found : (xs : List X) (x y : X) (m : ℕ) → m < length xs → y ≡ get_or xs m y → Equal ≡ R y x → slice_get xs m ≡ Some x
+  search_found xs x y m l r e = slice_get_read xs (length xs) m y refl l r ∙ ap Some (o.exact y x (sym e))

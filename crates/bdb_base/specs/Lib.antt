@@ -10,6 +10,7 @@ pub mod Order
 pub mod OrderLemmas
 pub mod Same
 pub mod SameLemmas
+pub mod Samples
 pub mod Segments
 pub mod SetLaws
 pub mod SortedSet

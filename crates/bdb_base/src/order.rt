@@ -111,3 +111,46 @@ fn stmt_order(a: &Stmt, b: &Stmt) -> Ordering
         other => other,
     }
 }
+
+#[cfg(test)]
+mod tests {
+    use super::*;
+    use crate::text::Txt;
+    use std::test::Fail;
+
+    // Each value is below all later ones.
+    #[test]
+    fn values_come_in_order(rt: HostRuntime) -> Result<(), Fail> {
+        let alloc = rt.alloc();
+        let values = [
+            Value::Int(-10),
+            Value::Int(-9),
+            Value::Int(9),
+            Value::Int(10),
+            Value::Text(Txt::try_new(alloc, "")?),
+            Value::Text(Txt::try_new(alloc, "10")?),
+            Value::Text(Txt::try_new(alloc, "9")?),
+            Value::Text(Txt::try_new(alloc, "Z")?),
+            Value::Text(Txt::try_new(alloc, "a")?),
+            Value::Text(Txt::try_new(alloc, "ab")?),
+            Value::Text(Txt::try_new(alloc, "é")?),
+        ];
+        for (i, a) in values.iter().enumerate() {
+            for (j, b) in values.iter().enumerate() {
+                assert_eq!(rt; cmp_value(a, b), i.cmp(&j), "{i} and {j}");
+            }
+        }
+        Ok(())
+    }
+
+    // Each path is below all later ones: a shorter one comes first.
+    #[test]
+    fn paths_come_in_order(rt: HostRuntime) {
+        let paths: [&[u32]; 6] = [&[], &[2], &[10], &[1, 2], &[2, 1], &[1, 2, 1]];
+        for (i, a) in paths.iter().enumerate() {
+            for (j, b) in paths.iter().enumerate() {
+                assert_eq!(rt; cmp_path(a, b), i.cmp(&j), "{i} and {j}");
+            }
+        }
+    }
+}
