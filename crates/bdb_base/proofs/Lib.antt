@@ -8,5 +8,6 @@ pub mod Rows
 pub mod SameLemmas
 pub mod SegmentLemmas
 pub mod SetLemmas
+pub mod UpdateLemmas
 pub mod WorldLemmas
 pub mod WorldRowsLemmas

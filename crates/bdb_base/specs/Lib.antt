@@ -17,5 +17,6 @@ pub mod SortedSet
 pub mod States
 pub mod Texts
 pub mod TupleFields
+pub mod UpdateLaws
 pub mod WorldRows
 pub mod Worlds

@@ -18,6 +18,7 @@ mod text;
 mod texts;
 mod tuple;
 mod tuples;
+mod update_laws;
 mod validity;
 
 pub use base::Base;
@@ -45,6 +46,7 @@ pub use texts::{
 };
 pub use tuple::Tuple;
 pub use tuples::tuples_of;
+pub use update_laws::{delete_is_valid, update_is_valid};
 pub use validity::{
     add_relation_is_valid, add_user_is_valid, put_counts_statement, put_counts_tuple, put_is_valid,
     take_is_valid,
