@@ -14,6 +14,7 @@ mod run;
 #[cfg(test)]
 mod tests;
 mod token;
+mod token_laws;
 mod word;
 
 pub use cut::Cutter;
@@ -24,3 +25,4 @@ pub use cut_laws::{
 pub use mode::Mode;
 pub use reader::tokens;
 pub use token::{LexError, Piece, Rest, Token};
+pub use token_laws::{tokens_are_formed, tokens_are_spelled};
