@@ -1,13 +1,15 @@
 -- What runs of bytes do to the piece and to the state of a cutter.
 use Rattle.std.proofs.Common.{◌≡◌, ℕ, suc, ◌+◌, ◌<◌, ◌≤◌, Bool, true, false, cond, ◌||◌, List, [], ◌∷◌, ◌++◌, length, get_or, take, drop, refl, sym, ap, ◌∙◌, arith, append_assoc, add-one, drop-cons, length-append, nat_lt, inl, inr}
 use Rattle.std.proofs.Math.Seq.{take-suc}
-use Rattle.std.proofs.lemmas.Bool.{lt-ltb, le-ltb, cases_lt, cond-true, cond-false}
+use Rattle.std.proofs.lemmas.Bool.{lt-ltb, le-ltb, cases_lt, cond-true, cond-false, le-leb, cases_Bool, and_from}
 use Rattle.std.proofs.lemmas.List.{append-nil}
 use Rattle.bdb_lex.specs.declared.mode.Mode.{Mode}
 use Rattle.bdb_lex.specs.declared.token.Piece.{Piece}
 use Rattle.bdb_lex.specs.declared.token.Piece.TheVariants.{Cmd, Long}
-use Rattle.bdb_lex.specs.Cut.{CutState, start, longer, is_end, shows, next_mode, pieces_from, state_after, ended, next_state}
-use Rattle.bdb_lex.specs.CutLaws.{NothingIsNoPiece, PiecesComeInParts, StatesComeInParts}
+use Rattle.std.specs.List.{list_all}
+use Rattle.std.proofs.lemmas.List.Folds.{list_all-append}
+use Rattle.bdb_lex.specs.Cut.{CutState, start, longer, is_end, shows, next_mode, pieces_from, state_after, ended, next_state, grown, is_short}
+use Rattle.bdb_lex.specs.CutLaws.{NothingIsNoPiece, PiecesComeInParts, StatesComeInParts, PiecesAreShort}
 use Rattle.bdb_lex.specs.Runs.{state_of, longer_by, Leads}
 
 pub longer_by-long : (bytes : List ℕ) → longer_by Long bytes ≡ Long
@@ -111,3 +113,34 @@ pieces_come_in_parts s (x ∷ a) b =
 pub states_come_in_parts : StatesComeInParts
 states_come_in_parts s [] b = refl
 states_come_in_parts s (x ∷ a) b = states_come_in_parts (next_state s x) a b
+
+-- pieces are short
+longer_short : (p : Piece) (b : ℕ) → is_short p ≡ true → is_short (longer p b) ≡ true
+longer_short Long b h = refl
+longer_short (Cmd bytes) b h = elim (cases_lt (length bytes) 65536) [
+  | inl lt ↦ ap is_short (cond-true _ _ _ (lt-ltb (length bytes) 65536 lt))
+      ∙ le-leb (length (bytes ++ b ∷ [])) 65536 (omega (arith, length-append bytes (b ∷ [])))
+  | inr ge ↦ ap is_short (cond-false _ _ _ (le-ltb (length bytes) 65536 ge))
+]
+
+next_short : (s : CutState) (b : ℕ) → is_short s.piece ≡ true → is_short (next_state s b).piece ≡ true
+next_short s b h = elim (cases_Bool (is_end s.mode b)) [
+  | inl e ↦ ap (λ v. is_short v.piece) (cond-true (is_end s.mode b) start (grown s b) e)
+  | inr e ↦ ap (λ v. is_short v.piece) (cond-false (is_end s.mode b) start (grown s b) e) ∙ longer_short s.piece b h
+]
+
+ended_short : (s : CutState) (b : ℕ) → is_short s.piece ≡ true → list_all is_short (ended s b) ≡ true
+ended_short s b h = elim (cases_Bool (is_end s.mode b)) [
+  | inl e ↦ ap (list_all is_short) (cond-true (is_end s.mode b) (s.piece ∷ []) [] e) ∙ and_from _ _ h refl
+  | inr e ↦ ap (list_all is_short) (cond-false (is_end s.mode b) (s.piece ∷ []) [] e)
+]
+
+short_from : (bytes : List ℕ) (s : CutState) → is_short s.piece ≡ true
+    → (list_all is_short (pieces_from s bytes) ≡ true) × (is_short (state_after s bytes).piece ≡ true)
+short_from [] s h = (refl, h)
+short_from (b ∷ bytes) s h =
+    let rest = short_from bytes (next_state s b) (next_short s b h) in
+    (list_all-append is_short (ended s b) (pieces_from (next_state s b) bytes) ∙ and_from _ _ (ended_short s b h) rest.0, rest.1)
+
+pub pieces_are_short : PiecesAreShort
+pieces_are_short script = short_from script start refl

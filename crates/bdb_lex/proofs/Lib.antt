@@ -1,3 +1,4 @@
 pub mod CutLemmas
 pub mod TokenLemmas
 pub mod SpanLemmas
+pub mod SpellingLemmas

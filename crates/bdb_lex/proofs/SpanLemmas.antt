@@ -117,10 +117,10 @@ IsOpen dashed = Unit {0}
 IsOpen (quoting c) = lacks 39 c ≡ true
 IsOpen (commenting c) = lacks 10 c ≡ true
 
-lacks_more : (b : ℕ) (c : List ℕ) (d : ℕ) → lacks b c ≡ true → nat_eq d b ≡ false → lacks b (c ++ d ∷ []) ≡ true
+pub lacks_more : (b : ℕ) (c : List ℕ) (d : ℕ) → lacks b c ≡ true → nat_eq d b ≡ false → lacks b (c ++ d ∷ []) ≡ true
 lacks_more b c d h e = list_all-append (λ x. not (nat_eq x b)) c (d ∷ []) ∙ and_from _ _ h (and_from _ _ (not_from_false _ e) refl)
 
-byte_stands : (b : ℕ) (spans : List Span) → nat_eq b 59 ≡ false → nat_eq b 39 ≡ false → nat_eq b 45 ≡ false → may_stand (byte b) spans ≡ true
+pub byte_stands : (b : ℕ) (spans : List Span) → nat_eq b 59 ≡ false → nat_eq b 39 ≡ false → nat_eq b 45 ≡ false → may_stand (byte b) spans ≡ true
 byte_stands b spans semi quote dash = rw (semi, quote, dash) refl
 
 outside_stands : (b : ℕ) (s : List ℕ) → ((m : Open) → IsOpen m → all_stand (spans_from m s) ≡ true) → all_stand (spans_from outside (b ∷ s)) ≡ true

@@ -1,5 +1,5 @@
 -- Cutting a script into pieces, one step for each byte.
-use Rattle.std.specs.Prelude.{◌≡◌, ℕ, Bool, true, false, not, ◌&&◌, ◌||◌, cond, nat_eq, nat_lt, ◌≤◌, List, [], ◌∷◌, ◌++◌, length}
+use Rattle.std.specs.Prelude.{◌≡◌, ℕ, Bool, true, false, not, ◌&&◌, ◌||◌, cond, nat_eq, nat_lt, nat_le, List, [], ◌∷◌, ◌++◌, length}
 use Rattle.bdb_lex.specs.Bytes.{is_blank}
 use Rattle.bdb_lex.specs.declared.mode.Mode.{Mode}
 use Rattle.bdb_lex.specs.declared.mode.Mode.TheVariants.{Plain, Dash, Quoted, Comment}
@@ -106,7 +106,7 @@ pub record GrewByFront {X : Type 0} (old new items : List X) : Type 0 where
   pub front : IsFront more items
   pub grew : new ≡ old ++ more
 
--- a piece that is kept has at most 65,536 bytes
-abbrev pub IsShort : Piece → Type 0
-IsShort (Cmd bytes) = length bytes ≤ 65536
-IsShort Long = Unit {0}
+-- a piece has at most 65,536 bytes, or is long
+abbrev pub is_short : Piece → Bool
+is_short (Cmd bytes) = nat_le (length bytes) 65536
+is_short Long = true

@@ -1,6 +1,7 @@
 -- How the cut of a script goes on from part to part.
-use Rattle.std.specs.Prelude.{◌≡◌, ℕ, false, List, [], ◌++◌}
-use Rattle.bdb_lex.specs.Cut.{CutState, pieces_from, pieces_of, state_after, has_rest}
+use Rattle.std.specs.Prelude.{◌≡◌, ℕ, true, false, List, [], ◌++◌}
+use Rattle.std.specs.List.{list_all}
+use Rattle.bdb_lex.specs.Cut.{CutState, start, is_short, pieces_from, pieces_of, state_after, has_rest}
 
 -- no bytes end no piece, and nothing stands in them
 abbrev pub NothingIsNoPiece : Type 0
@@ -13,3 +14,7 @@ PiecesComeInParts = (s : CutState) (a b : List ℕ) → pieces_from s (a ++ b) �
 -- the state behind two parts is that behind the second, from the state behind the first
 abbrev pub StatesComeInParts : Type 0
 StatesComeInParts = (s : CutState) (a b : List ℕ) → state_after s (a ++ b) ≡ state_after (state_after s a) b
+
+-- no piece of more bytes is given as a command, and no more are kept
+abbrev pub PiecesAreShort : Type 0
+PiecesAreShort = (script : List ℕ) → (list_all is_short (pieces_of script) ≡ true) × (is_short (state_after start script).piece ≡ true)

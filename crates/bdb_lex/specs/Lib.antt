@@ -4,4 +4,5 @@ pub mod CutLaws
 pub mod Reading
 pub mod Runs
 pub mod Spans
+pub mod TokenGrammar
 pub mod Tokens

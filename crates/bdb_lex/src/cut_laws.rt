@@ -1,5 +1,5 @@
 // Laws of cutting.
-ghost use Rattle.bdb_lex.specs.CutLaws.{NothingIsNoPiece, PiecesComeInParts, StatesComeInParts};
+ghost use Rattle.bdb_lex.specs.CutLaws.{NothingIsNoPiece, PiecesAreShort, PiecesComeInParts, StatesComeInParts};
 ghost use Rattle.bdb_lex.specs.Spans.{EachScriptIsSpans, SpansAreOneList, PiecesAreOfSpans, RestIsOfSpans};
 
 /// No bytes end no piece, and nothing stands in them.
@@ -18,6 +18,11 @@ pub fn pieces_come_in_parts()
 #[tactic(auto, using(crate::proofs::CutLemmas::states_come_in_parts))]
 pub fn states_come_in_parts()
     ensures { StatesComeInParts }
+{}
+
+/// No piece of more than 65,536 bytes is given as a command, and no more bytes are kept.
+pub fn pieces_are_short()
+    ensures { PiecesAreShort }
 {}
 
 /// Each script is a list of spans: ends, texts, comments and bytes.

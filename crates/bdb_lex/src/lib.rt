@@ -14,13 +14,15 @@ mod run;
 #[cfg(test)]
 mod tests;
 mod token;
+mod token_laws;
 mod word;
 
 pub use cut::Cutter;
 pub use cut_laws::{
-    each_script_is_spans, nothing_is_no_piece, pieces_are_of_spans, pieces_come_in_parts,
-    rest_is_of_spans, spans_are_one_list, states_come_in_parts,
+    each_script_is_spans, nothing_is_no_piece, pieces_are_of_spans, pieces_are_short,
+    pieces_come_in_parts, rest_is_of_spans, spans_are_one_list, states_come_in_parts,
 };
 pub use mode::Mode;
 pub use reader::tokens;
 pub use token::{LexError, Piece, Rest, Token};
+pub use token_laws::{tokens_are_formed, tokens_are_spelled};
