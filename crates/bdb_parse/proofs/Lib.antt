@@ -6,3 +6,12 @@ pub mod WhoLemmas
 pub mod Agree
 pub mod AgreeLemmas
 pub mod FilledLemmas
+pub mod PrintedTokens
+pub mod RoundTripLexing
+pub mod SpelledTokens
+pub mod PrintedLexing
+pub mod ParsedLists
+pub mod ParsedParts
+pub mod ParsedTokens
+pub mod ParsedCommands
+pub mod RoundTripLemmas
