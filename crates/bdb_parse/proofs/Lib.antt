@@ -2,3 +2,16 @@ pub mod CutLemmas
 pub mod ListLemmas
 pub mod BeliefLemmas
 pub mod NumberLemmas
+pub mod WhoLemmas
+pub mod Agree
+pub mod AgreeLemmas
+pub mod FilledLemmas
+pub mod PrintedTokens
+pub mod RoundTripLexing
+pub mod SpelledTokens
+pub mod PrintedLexing
+pub mod ParsedLists
+pub mod ParsedParts
+pub mod ParsedTokens
+pub mod ParsedCommands
+pub mod RoundTripLemmas

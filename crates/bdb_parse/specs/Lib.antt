@@ -3,3 +3,5 @@ pub mod Stops
 pub mod Reading
 pub mod Fits
 pub mod Gives
+pub mod Grammar
+pub mod RoundTrip

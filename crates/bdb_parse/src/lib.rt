@@ -2,12 +2,24 @@
 #![tactic(auto)]
 
 mod beliefs;
+mod change;
+mod col;
+mod column;
+mod command;
+mod cond;
+mod create;
 mod cut;
 mod error;
+mod item;
 mod keywords;
 mod list;
+mod literal;
 mod number;
+mod query;
 mod reading;
+mod round_trip;
+mod set;
+mod show;
 mod stop;
 mod target;
 mod tokens;
@@ -16,3 +28,4 @@ mod wide;
 pub use error::ParseError;
 pub use keywords::is_keyword;
 pub use reading::parse;
+pub use round_trip::printed_reads_back;
