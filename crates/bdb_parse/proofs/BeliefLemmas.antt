@@ -7,11 +7,11 @@ use Rattle.bdb_lex.specs.declared.token.Token.TheVariants.{Word, Text, Num, Comm
 use Rattle.bdb_syntax.specs.Keywords.{is_keyword}
 use Rattle.bdb_parse.specs.Reading.{belief_at, beliefs_at}
 
-some_of_cond : {X : Type 0} (b : Bool) (x y : X) → cond b (Some x) None ≡ Some y → (b ≡ true) × (x ≡ y)
+pub some_of_cond : {X : Type 0} (b : Bool) (x y : X) → cond b (Some x) None ≡ Some y → (b ≡ true) × (x ≡ y)
 some_of_cond true x y e = (refl, cc)
 some_of_cond false x y e = cc
 
-none_of_cond : {X : Type 0} (b : Bool) (x : X) → cond b (Some x) None ≡ None → b ≡ false
+pub none_of_cond : {X : Type 0} (b : Bool) (x : X) → cond b (Some x) None ≡ None → b ≡ false
 none_of_cond true x e = cc
 none_of_cond false x e = refl
 

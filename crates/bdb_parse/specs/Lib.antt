@@ -3,3 +3,4 @@ pub mod Stops
 pub mod Reading
 pub mod Fits
 pub mod Gives
+pub mod Grammar

@@ -80,12 +80,6 @@ name_at ts = do
   word ← word_at ts
   if is_reserved word.0 then None else Some word
 
--- a literal, where number reads the spelling of a number
-abbrev pub literal_at : (List ℕ → Option ℤ) → List Token → Option (Value × List Token)
-literal_at number (Text t ∷ ts) = Some (values.Text t, ts)
-literal_at number (Num s ∷ ts) = option_map (λ n. (values.Int n, ts)) (number s)
-literal_at number _ = None
-
 -- 'belief' and a text, again and again
 abbrev pub beliefs_at : List Token → List (List ℕ) × List Token
 beliefs_at (Word w ∷ Text t ∷ ts) = if is_keyword (codes "belief") w then (t ∷ (beliefs_at ts).0, (beliefs_at ts).1) else ([], Word w ∷ Text t ∷ ts)
@@ -146,11 +140,11 @@ column_of ts = do
   kind ← kind_of word.0
   Some (record { name = name.0; kind = kind })
 
-unfoldable pub literal_of : (List ℕ → Option ℤ) → List Token → Option Value
-literal_of number ts = do
-  value ← literal_at number ts
-  _ ← end_at value.1
-  Some value.0
+-- a literal, where number reads the spelling of a number
+abbrev pub literal_of : (List ℕ → Option ℤ) → List Token → Option Value
+literal_of number (Text t ∷ []) = Some (values.Text t)
+literal_of number (Num s ∷ []) = option_map values.Int (number s)
+literal_of number _ = None
 
 unfoldable pub set_of : (List ℕ → Option ℤ) → List Token → Option RawSet
 set_of number ts = do

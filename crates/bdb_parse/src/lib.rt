@@ -2,12 +2,23 @@
 #![tactic(auto)]
 
 mod beliefs;
+mod change;
+mod col;
+mod column;
+mod command;
+mod cond;
+mod create;
 mod cut;
 mod error;
+mod item;
 mod keywords;
 mod list;
+mod literal;
 mod number;
+mod query;
 mod reading;
+mod set;
+mod show;
 mod stop;
 mod target;
 mod tokens;

@@ -1,0 +1,50 @@
+// The columns of a new relation.
+ghost use Rattle.std.specs.Prelude.{◌≡◌, List};
+ghost use Rattle.bdb_parse.specs.Gives.{Gives};
+ghost use Rattle.bdb_parse.specs.Reading.{kind_of, column_of};
+
+use crate::error::ParseError;
+use crate::keywords::is_keyword;
+use crate::list::Part;
+use crate::tokens::{end, name, word};
+use bdb_base::{ColDef, Kind, Txt};
+use bdb_lex::Token;
+use std::alloc::Global;
+
+/// Reads the columns of a new relation.
+#[derive(Clone, Copy, Drop)]
+pub struct Columns;
+
+impl Part<ColDef> for Columns {
+    ghost item = { λ _. column_of };
+
+    fn read(&self, alloc: Global, part: &[Token]) -> Result<ColDef, ParseError> {
+        column(alloc, part)
+    }
+}
+
+/// The kind that a word names.
+#[tactic(auto, unfolding(crate::specs::Reading::kind_of))]
+fn kind(word: &Txt) -> Result<Kind, ParseError>
+    ensures { Gives (λ x. x) result (kind_of word.now) }
+{
+    if is_keyword("int", word) {
+        return Ok(Kind::Int);
+    }
+    if is_keyword("text", word) {
+        return Ok(Kind::Text);
+    }
+    Err(ParseError::Syntax)
+}
+
+/// A column's name and its kind.
+#[tactic(auto, unfolding(crate::specs::Reading::column_of))]
+fn column(alloc: Global, tokens: &[Token]) -> Result<ColDef, ParseError>
+    ensures { Gives (λ x. x) result (column_of tokens.now) }
+{
+    let (name, rest) = name(alloc, tokens)?;
+    let (word, rest) = word(rest)?;
+    end(rest)?;
+    let kind = kind(word)?;
+    Ok(ColDef { name, kind })
+}
