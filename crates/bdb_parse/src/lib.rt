@@ -27,3 +27,6 @@ mod wide;
 pub use error::ParseError;
 pub use keywords::is_keyword;
 pub use reading::parse;
+
+#[cfg(test)]
+mod tests;
