@@ -6,3 +6,6 @@ pub mod WhoLemmas
 pub mod Agree
 pub mod AgreeLemmas
 pub mod FilledLemmas
+pub mod Sound
+pub mod SoundParts
+pub mod SoundCommands
