@@ -9,3 +9,6 @@ pub mod FilledLemmas
 pub mod Sound
 pub mod SoundParts
 pub mod SoundCommands
+pub mod Takes
+pub mod TakesParts
+pub mod TakesCommands

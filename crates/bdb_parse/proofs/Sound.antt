@@ -1,42 +1,21 @@
 -- What is read is in the grammar, definition by definition.
-use Rattle.std.proofs.Common.{◌≡◌, ◌⊎◌, ℕ, ℤ, Bool, true, false, not, ◌&&◌, cond, List, [], ◌∷◌, ◌++◌, Option, Some, None, refl, sym, ap, ◌∙◌, subst, inl, inr}
+use Rattle.std.proofs.Common.{◌≡◌, ℕ, Bool, true, false, cond, List, [], ◌∷◌, ◌++◌, Option, Some, None, refl, sym, ap, ◌∙◌, subst, inl, inr}
 use Rattle.std.specs.Prelude.{codes}
-use Rattle.std.specs.Option.{option_map}
-use Rattle.std.specs.Str.Parse.{signed_digits_value}
-use Rattle.std.proofs.lemmas.Bool.{cases_Bool, cond-true, cond-false, and_parts, not-true}
-use Rattle.bdb_base.specs.declared.kinds.Value.{Value}
-use Rattle.bdb_base.specs.declared.kinds.Value.TheVariants as values
-use Rattle.bdb_base.specs.declared.kinds.Kind.{Kind}
-use Rattle.bdb_base.specs.declared.kinds.Kind.TheVariants as kinds
-use Rattle.bdb_base.specs.declared.kinds.Sign.{Sign}
-use Rattle.bdb_base.specs.declared.kinds.Sign.TheVariants.{Plus, Minus}
+use Rattle.std.proofs.lemmas.Bool.{cases_Bool}
 use Rattle.bdb_base.specs.declared.kinds.Cmp.{Cmp}
 use Rattle.bdb_base.specs.declared.kinds.Cmp.TheVariants as signs
-use Rattle.bdb_base.specs.declared.kinds.ColDef.{ColDef}
 use Rattle.bdb_lex.specs.declared.token.Token.{Token}
-use Rattle.bdb_lex.specs.declared.token.Token.TheVariants.{Word, Text, Num, Comma, Dot, ParenL, ParenR, Eq, Ne, Lt, Le, Gt, Ge}
-use Rattle.bdb_syntax.specs.declared.command.RawCol.{RawCol}
-use Rattle.bdb_syntax.specs.declared.command.RawSide.{RawSide}
-use Rattle.bdb_syntax.specs.declared.command.RawSide.TheVariants as sides
-use Rattle.bdb_syntax.specs.declared.command.RawCond.{RawCond}
-use Rattle.bdb_syntax.specs.declared.command.RawWho.{RawWho}
-use Rattle.bdb_syntax.specs.declared.command.RawWho.TheVariants as whos
-use Rattle.bdb_syntax.specs.declared.command.RawItem.{RawItem}
-use Rattle.bdb_syntax.specs.declared.command.RawSet.{RawSet}
-use Rattle.bdb_syntax.specs.declared.command.RawQuery.{RawQuery}
-use Rattle.bdb_syntax.specs.declared.command.Command.{Command}
-use Rattle.bdb_syntax.specs.declared.command.Command.TheVariants.{CreateUser, CreateRelation, Insert, Delete, Update, Select, Explain, ShowWorld, ShowTables}
+use Rattle.bdb_lex.specs.declared.token.Token.TheVariants.{Word, Text, Comma, Dot, ParenL, ParenR, Eq, Ne, Lt, Le, Gt, Ge}
 use Rattle.bdb_syntax.specs.Keywords.{is_keyword, is_reserved}
 use Rattle.bdb_parse.specs.declared.stop.Stop.{Stop}
 use Rattle.bdb_parse.specs.declared.stop.Stop.TheVariants as stops
 use Rattle.bdb_parse.specs.declared.target.Target.{Target}
-use Rattle.bdb_parse.specs.Numbers.{number_of, is_number}
-use Rattle.bdb_parse.specs.Stops.{is_stop, is_word, is_comma, is_close, cut, parts}
-use Rattle.bdb_parse.specs.Grammar.{◌▸◌, IsNothing, IsToken, IsKeyword, IsName, IsLiteral, AreSeparated, AreRepeated, IsBelief, IsSign, IsKind, IsColumn, cmp_token, IsBareCol, IsFullCol, IsSide, IsCond, AreConds, IsSet, IsWho, IsItemBelief, IsAlias, IsItem, IsTarget, IsQuery, IsCommand}
-use Rattle.bdb_parse.specs.Reading.{◌>>=◌, end_at, word_at, text_at, dot_at, equals_at, open_at, cmp_at, keyword_at, name_at, literal_of, sign_of, sign_at, set_of, bare, bare_of, col_at, col_of, begins_with_word, side_of, test_of, cond_of, all_of, list_of, conds_of, inside_of, target_at, column_of, kind_of, past, alias_of, item_of, create_user_of, create_relation_of, create_of, insert_of, delete_of, update_of, query_of, explain_of, show_world_of, show_of, command_after, command_by, command_of, beliefs_at, whos_at}
+use Rattle.bdb_parse.specs.Stops.{is_stop, cut, parts}
+use Rattle.bdb_parse.specs.Grammar.{◌▸◌, IsToken, IsKeyword, IsName, AreSeparated, AreRepeated, IsBelief, IsSign, cmp_token, IsTarget}
+use Rattle.bdb_parse.specs.Reading.{◌>>=◌, end_at, word_at, text_at, dot_at, equals_at, open_at, cmp_at, keyword_at, name_at, sign_of, sign_at, all_of, list_of, target_at, beliefs_at}
 use Rattle.bdb_parse.proofs.CutLemmas.{parts_after, parts_cut, cut_head_stop, cut_head_other}
 use Rattle.bdb_parse.proofs.BeliefLemmas.{some_of_cond}
-use Rattle.bdb_parse.proofs.FilledLemmas.{Each, each_behind, each_map, each_cond, each_at}
+use Rattle.bdb_parse.proofs.FilledLemmas.{Each, each_behind, each_at}
 
 -- a token in front of what Q has
 pub token_then : (P Q : List Token → Type 0) (ts : List Token) (t : Token) (rest : List Token) → ts ≡ t ∷ rest → P (t ∷ []) → Q rest → (P ▸ Q) ts

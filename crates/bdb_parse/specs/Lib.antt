@@ -4,3 +4,4 @@ pub mod Reading
 pub mod Fits
 pub mod Gives
 pub mod Grammar
+pub mod Laws

@@ -12,6 +12,7 @@ mod cut;
 mod error;
 mod item;
 mod keywords;
+mod laws;
 mod list;
 mod literal;
 mod number;
@@ -26,6 +27,7 @@ mod wide;
 
 pub use error::ParseError;
 pub use keywords::is_keyword;
+pub use laws::commands_are_read;
 pub use reading::parse;
 
 #[cfg(test)]

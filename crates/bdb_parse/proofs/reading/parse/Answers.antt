@@ -1,6 +1,5 @@
-use Rattle.std.proofs.Common.{◌≡◌, true, false, Some, None, IfOk, refl, sym, ap, ◌∙◌}
 use Rattle.std.proofs.lemmas.Result.{err_from_is_err_and}
-use Rattle.bdb_parse.specs.declared.wide.Wide.TheVariants.{Refused, Zero}
+use Rattle.bdb_parse.specs.declared.wide.Wide.TheVariants.{Refused}
 use Rattle.bdb_parse.specs.Gives.{number_in}
 use Rattle.bdb_parse.specs.Fits.{fits}
 use Rattle.bdb_parse.proofs.Agree.{strict_reads, wide_reads, refused_twice, refused_once, never_number, nothing_else, err_is}
