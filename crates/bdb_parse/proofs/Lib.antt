@@ -12,3 +12,4 @@ pub mod SoundCommands
 pub mod Takes
 pub mod TakesParts
 pub mod TakesCommands
+pub mod PrintableLemmas

@@ -5,3 +5,4 @@ pub mod Fits
 pub mod Gives
 pub mod Grammar
 pub mod Laws
+pub mod Spelled
