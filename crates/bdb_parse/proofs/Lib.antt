@@ -13,3 +13,4 @@ pub mod Takes
 pub mod TakesParts
 pub mod TakesCommands
 pub mod PrintableLemmas
+pub mod PrintableFacts

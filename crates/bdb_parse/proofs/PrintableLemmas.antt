@@ -1,5 +1,5 @@
 -- A command that is read of well spelled tokens is printable.
-use Rattle.std.proofs.Common.{◌≡◌, ◌⊎◌, ℕ, Bool, true, false, List, [], ◌∷◌, ◌++◌, Option, Some, None, refl, sym, ap, ◌∙◌, subst, inl, inr}
+use Rattle.std.proofs.Common.{ℕ, List, [], ◌∷◌, ◌++◌, Option, sym, subst, inl, inr}
 use Rattle.std.specs.Prelude.{codes, IsSomeAnd}
 use Rattle.std.specs.List.{AllByRecursion}
 use Rattle.bdb_base.specs.declared.kinds.Value.{Value}
@@ -7,7 +7,7 @@ use Rattle.bdb_base.specs.declared.kinds.Value.TheVariants as values
 use Rattle.bdb_base.specs.declared.kinds.Sign.{Sign}
 use Rattle.bdb_base.specs.declared.kinds.ColDef.{ColDef}
 use Rattle.bdb_lex.specs.declared.token.Token.{Token}
-use Rattle.bdb_lex.specs.declared.token.Token.TheVariants.{Word, Text, Num, Comma, Dot, ParenL, ParenR, Eq, Ne, Lt, Le, Gt, Ge}
+use Rattle.bdb_lex.specs.declared.token.Token.TheVariants.{Text, Comma, Dot, ParenL, ParenR, Eq}
 use Rattle.bdb_syntax.specs.declared.command.RawCol.{RawCol}
 use Rattle.bdb_syntax.specs.declared.command.RawSide.{RawSide}
 use Rattle.bdb_syntax.specs.declared.command.RawSide.TheVariants as sides
@@ -20,8 +20,8 @@ use Rattle.bdb_syntax.specs.declared.command.RawQuery.{RawQuery}
 use Rattle.bdb_syntax.specs.declared.command.Command.{Command}
 use Rattle.bdb_syntax.specs.declared.command.Command.TheVariants.{CreateUser, CreateRelation, Insert, Delete, Update, Select, Explain, ShowWorld, ShowTables}
 use Rattle.bdb_syntax.specs.Printable as printable
-use Rattle.bdb_parse.specs.Spelled.{IsWellSpelled, AreWellSpelled}
-use Rattle.bdb_parse.specs.Grammar.{◌▸◌, IsNothing, IsToken, IsKeyword, IsName, IsLiteral, AreSeparated, AreRepeated, IsBelief, IsSign, IsKind, IsColumn, cmp_token, IsBareCol, IsFullCol, IsSide, IsCond, AreConds, IsSet, IsWho, IsItemBelief, IsAlias, IsItem, IsTarget, IsQuery, IsCommand}
+use Rattle.bdb_parse.specs.Spelled.{AreWellSpelled}
+use Rattle.bdb_parse.specs.Grammar.{◌▸◌, IsToken, IsKeyword, IsName, IsLiteral, AreSeparated, AreRepeated, IsBelief, IsSign, IsKind, IsColumn, cmp_token, IsBareCol, IsFullCol, IsSide, IsCond, AreConds, IsSet, IsWho, IsItemBelief, IsAlias, IsItem, IsTarget, IsQuery, IsCommand}
 
 both_spelled : (xs ys : List Token) → AreWellSpelled (xs ++ ys) → AreWellSpelled xs × AreWellSpelled ys
 both_spelled [] ys h = (tt, h)
