@@ -1,8 +1,8 @@
 -- Three readings of the same tokens: with a number outside i64 refused, with 0 for it, and with any number.
-use Rattle.std.proofs.Common.{◌≡◌, Bool, true, false, ◌&&◌, cond, List, [], ◌∷◌, Option, Some, None, Result, Ok, Err, refl, sym, ap, ◌∙◌, subst}
+use Rattle.std.proofs.Common.{◌≡◌, Bool, true, false, ◌&&◌, cond, Option, Some, None, Result, Err, refl, sym, ap, ◌∙◌, subst}
 use Rattle.std.specs.Option.{option_map}
 use Rattle.bdb_parse.specs.declared.error.ParseError.{ParseError}
-use Rattle.bdb_parse.specs.declared.error.ParseError.TheVariants.{Syntax, Number, Memory}
+use Rattle.bdb_parse.specs.declared.error.ParseError.TheVariants.{Syntax, Number}
 use Rattle.bdb_parse.specs.Gives.{Fails}
 use Rattle.bdb_parse.specs.Reading.{◌>>=◌}
 

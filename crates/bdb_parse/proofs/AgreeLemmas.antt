@@ -1,16 +1,15 @@
 -- What a reading with numbers of i64 alone says of the reading with any number, definition by definition.
-use Rattle.std.proofs.Common.{◌≡◌, ℕ, ℤ, pos, Bool, true, false, ◌&&◌, cond, List, [], ◌∷◌, Option, Some, None, refl, sym, ap, ◌∙◌, inl, inr}
+use Rattle.std.proofs.Common.{◌≡◌, ℕ, ℤ, pos, Bool, true, false, cond, List, [], ◌∷◌, Option, Some, None, refl}
 use Rattle.std.specs.Prelude.{codes}
 use Rattle.std.specs.List.{list_all}
 use Rattle.std.specs.Option.{option_map}
 use Rattle.std.specs.Str.Parse.{signed_digits_value}
-use Rattle.std.proofs.lemmas.Bool.{cases_Bool}
 use Rattle.bdb_base.specs.declared.kinds.Value.{Value}
 use Rattle.bdb_base.specs.declared.kinds.Value.TheVariants as values
 use Rattle.bdb_base.specs.declared.kinds.Cmp.{Cmp}
 use Rattle.bdb_base.specs.declared.kinds.ColDef.{ColDef}
 use Rattle.bdb_lex.specs.declared.token.Token.{Token}
-use Rattle.bdb_lex.specs.declared.token.Token.TheVariants.{Word, Text, Num, Comma, Dot, ParenL, ParenR, Eq, Ne, Lt, Le, Gt, Ge}
+use Rattle.bdb_lex.specs.declared.token.Token.TheVariants.{Text, Num}
 use Rattle.bdb_syntax.specs.declared.command.RawCol.{RawCol}
 use Rattle.bdb_syntax.specs.declared.command.RawSide.{RawSide}
 use Rattle.bdb_syntax.specs.declared.command.RawSide.TheVariants as sides
@@ -19,14 +18,13 @@ use Rattle.bdb_syntax.specs.declared.command.RawSet.{RawSet}
 use Rattle.bdb_syntax.specs.declared.command.RawItem.{RawItem}
 use Rattle.bdb_parse.specs.declared.target.Target.{Target}
 use Rattle.bdb_syntax.specs.declared.command.RawQuery.{RawQuery}
-use Rattle.bdb_syntax.specs.declared.command.Command.{Command}
 use Rattle.bdb_syntax.specs.declared.command.Command.TheVariants.{CreateUser, CreateRelation, Insert, Delete, Update, Select, Explain, ShowWorld, ShowTables}
 use Rattle.bdb_syntax.specs.Keywords.{is_keyword}
 use Rattle.bdb_parse.specs.declared.stop.Stop.{Stop}
 use Rattle.bdb_parse.specs.declared.stop.Stop.TheVariants as stops
 use Rattle.bdb_parse.specs.declared.wide.Wide.TheVariants.{Refused, Zero}
 use Rattle.bdb_parse.specs.Numbers.{number_of, is_number, is_i64}
-use Rattle.bdb_parse.specs.Gives.{number_in, narrow, wide_number}
+use Rattle.bdb_parse.specs.Gives.{number_in, narrow}
 use Rattle.bdb_parse.specs.Fits.{value_fits, side_fits, cond_fits, set_fits, query_fits, fits}
 use Rattle.bdb_parse.specs.Stops.{cut, parts}
 use Rattle.bdb_parse.specs.Reading.{◌>>=◌, end_at, word_at, text_at, equals_at, cmp_at, keyword_at, name_at, literal_of, set_of, bare, bare_of, col_at, col_of, begins_with_word, side_of, test_of, cond_of, all_of, list_of, conds_of, inside_of, target_at, column_of, item_of, create_user_of, create_relation_of, create_of, insert_of, delete_of, update_of, query_of, explain_of, show_world_of, show_of, command_after, command_by, command_of, beliefs_at}

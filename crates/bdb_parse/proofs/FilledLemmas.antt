@@ -1,24 +1,17 @@
 -- A command that was read has the lists that the grammar wants filled.
-use Rattle.std.proofs.Common.{◌≡◌, ℕ, ℤ, Bool, true, false, ◌&&◌, cond, List, [], ◌∷◌, Option, Some, None, refl, sym, ap, ◌∙◌, subst}
+use Rattle.std.proofs.Common.{◌≡◌, ℕ, ℤ, Bool, true, false, ◌&&◌, cond, List, ◌∷◌, Option, Some, None, refl, sym, ap, ◌∙◌, subst}
 use Rattle.std.specs.Prelude.{codes}
 use Rattle.std.specs.Option.{option_map}
-use Rattle.bdb_base.specs.declared.kinds.Value.{Value}
-use Rattle.bdb_base.specs.declared.kinds.ColDef.{ColDef}
 use Rattle.bdb_lex.specs.declared.token.Token.{Token}
-use Rattle.bdb_syntax.specs.declared.command.RawCol.{RawCol}
-use Rattle.bdb_syntax.specs.declared.command.RawCond.{RawCond}
-use Rattle.bdb_syntax.specs.declared.command.RawItem.{RawItem}
-use Rattle.bdb_syntax.specs.declared.command.RawSet.{RawSet}
 use Rattle.bdb_syntax.specs.declared.command.RawQuery.{RawQuery}
 use Rattle.bdb_syntax.specs.declared.command.Command.{Command}
-use Rattle.bdb_syntax.specs.declared.command.Command.TheVariants.{CreateUser, CreateRelation, Insert, Delete, Update, Select, Explain, ShowWorld, ShowTables}
+use Rattle.bdb_syntax.specs.declared.command.Command.TheVariants.{Select, Explain, ShowTables}
 use Rattle.bdb_syntax.specs.Keywords.{is_keyword}
 use Rattle.bdb_syntax.specs.Filled.{is_filled, query_filled, IsFilled}
 use Rattle.bdb_parse.specs.declared.stop.Stop.{Stop}
 use Rattle.bdb_parse.specs.declared.stop.Stop.TheVariants as stops
-use Rattle.bdb_parse.specs.declared.target.Target.{Target}
-use Rattle.bdb_parse.specs.Stops.{cut, parts}
-use Rattle.bdb_parse.specs.Reading.{◌>>=◌, end_at, word_at, text_at, keyword_at, name_at, literal_of, set_of, col_of, test_of, cond_of, all_of, list_of, conds_of, inside_of, target_at, column_of, item_of, create_user_of, create_relation_of, create_of, insert_of, delete_of, update_of, query_of, explain_of, show_world_of, show_of, command_after, command_by, command_of, beliefs_at}
+use Rattle.bdb_parse.specs.Stops.{cut}
+use Rattle.bdb_parse.specs.Reading.{◌>>=◌, end_at, word_at, text_at, keyword_at, name_at, literal_of, set_of, col_of, test_of, cond_of, all_of, list_of, conds_of, inside_of, target_at, column_of, item_of, create_user_of, create_relation_of, create_of, insert_of, delete_of, update_of, query_of, explain_of, show_world_of, show_of, command_after, command_by, beliefs_at}
 use Rattle.bdb_parse.proofs.CutLemmas.{parts_after, parts_cut}
 
 -- what is read, if anything is, has P

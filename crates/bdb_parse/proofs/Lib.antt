@@ -15,3 +15,11 @@ pub mod ParsedParts
 pub mod ParsedTokens
 pub mod ParsedCommands
 pub mod RoundTripLemmas
+pub mod Sound
+pub mod SoundParts
+pub mod SoundCommands
+pub mod Takes
+pub mod TakesParts
+pub mod TakesCommands
+pub mod PrintableLemmas
+pub mod PrintableFacts

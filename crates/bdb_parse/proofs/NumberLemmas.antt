@@ -1,17 +1,17 @@
 -- What std's reading of a number says of a spelling.
-use Rattle.std.proofs.Common.{◌≡◌, ℕ, zero, suc, not, ◌&&◌, ◌+◌, ◌^◌, ◌<◌, ◌≤◌, ◌==◌, Bool, true, false, cond, List, [], ◌∷◌, Option, Some, None, Ok, Err, Result, length, refl, sym, ap, ◌∙◌, arith, rules, inl, inr, pos, negsuc, ℤ, w64, subst, drop, get_or}
+use Rattle.std.proofs.Common.{◌≡◌, ℕ, zero, suc, not, ◌^◌, ◌<◌, ◌==◌, Bool, true, false, cond, List, [], ◌∷◌, Option, Some, None, Err, Result, length, refl, sym, ap, ◌∙◌, arith, rules, pos, negsuc, ℤ, w64, subst, drop}
 use Rattle.std.specs.Prelude.{FitsSigned}
 use Rattle.std.specs.Char.{is_ascii_digit}
 use Rattle.std.specs.List.{list_all}
-use Rattle.std.specs.Str.Parse.{signed_digits_value, without_leading_sign, starts_with_minus, IsNumeral, AllDigits, ParsesSigned, digits_value}
-use Rattle.std.proofs.lemmas.Bool.{cases_Bool, cond-true, cond-false, lt-ltb, le-ltb, ltb-true, and_parts, false_from_ne_true, eqb-true, eqb-false}
+use Rattle.std.specs.Str.Parse.{signed_digits_value, without_leading_sign, IsNumeral, ParsesSigned, digits_value}
+use Rattle.std.proofs.lemmas.Bool.{cond-true, cond-false, lt-ltb, ltb-true, and_parts, false_from_ne_true}
 use Rattle.std.proofs.lemmas.Str.Parse.{IsDigitsTest, IsNumeralModel, numerals_by_value}
 use Rattle.std.proofs.lemmas.Int.{ints}
 use Rattle.std.proofs.lemmas.Bool.Decides.{nat_tests}
 use Rattle.bdb_parse.specs.declared.wide.Wide.{Wide}
 use Rattle.bdb_parse.specs.Gives.{number_in, narrow, wide_number}
 use Rattle.bdb_parse.specs.Reading.{◌>>=◌}
-use Rattle.bdb_parse.specs.Numbers.{are_digits, without_minus, is_number, is_i64, number_of}
+use Rattle.bdb_parse.specs.Numbers.{are_digits, is_number, is_i64}
 
 pub fits_is_i64 : (n : ℤ) → FitsSigned w64 n → is_i64 n ≡ true
 fits_is_i64 (pos n) h = lt-ltb n (2 ^ 63) (omega (arith, ints))

@@ -1,10 +1,10 @@
 -- Reading the users of a query's path, one by one.
-use Rattle.std.proofs.Common.{◌≡◌, ℕ, ◌<◌, Bool, true, false, not, ◌&&◌, cond, List, [], ◌∷◌, ◌++◌, Option, Some, None, length, refl, sym, ap, ◌∙◌, arith, append_assoc}
+use Rattle.std.proofs.Common.{◌≡◌, ◌<◌, not, ◌&&◌, List, [], ◌∷◌, ◌++◌, Option, Some, None, length, refl, sym, ap, ◌∙◌, arith, append_assoc}
 use Rattle.std.specs.Prelude.{codes}
 use Rattle.std.proofs.lemmas.Bool.{cond-true, cond-false}
 use Rattle.std.proofs.lemmas.List.{append-nil}
 use Rattle.bdb_lex.specs.declared.token.Token.{Token}
-use Rattle.bdb_lex.specs.declared.token.Token.TheVariants.{Word, Text, Num, Comma, Dot, ParenL, ParenR, Eq, Ne, Lt, Le, Gt, Ge}
+use Rattle.bdb_lex.specs.declared.token.Token.TheVariants.{Word, Text, Dot}
 use Rattle.bdb_syntax.specs.declared.command.RawWho.{RawWho}
 use Rattle.bdb_syntax.specs.declared.command.RawWho.TheVariants as whos
 use Rattle.bdb_syntax.specs.Keywords.{is_keyword, is_reserved}

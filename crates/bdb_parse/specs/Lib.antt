@@ -5,3 +5,5 @@ pub mod Fits
 pub mod Gives
 pub mod Grammar
 pub mod RoundTrip
+pub mod Laws
+pub mod Spelled

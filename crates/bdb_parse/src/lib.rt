@@ -12,12 +12,12 @@ mod cut;
 mod error;
 mod item;
 mod keywords;
+mod laws;
 mod list;
 mod literal;
 mod number;
 mod query;
 mod reading;
-mod round_trip;
 mod set;
 mod show;
 mod stop;
@@ -27,5 +27,8 @@ mod wide;
 
 pub use error::ParseError;
 pub use keywords::is_keyword;
+pub use laws::commands_are_read;
 pub use reading::parse;
-pub use round_trip::printed_reads_back;
+
+#[cfg(test)]
+mod tests;

@@ -3,7 +3,9 @@ ghost use Rattle.std.specs.Prelude.{◌≡◌, true, false, Some, None, IfOk, Is
 ghost use Rattle.bdb_parse.specs.Reading.{command_of};
 ghost use Rattle.bdb_parse.specs.Fits.{fits};
 ghost use Rattle.bdb_syntax.specs.declared.command.Command.{Command};
+ghost use Rattle.bdb_parse.specs.Spelled.{AreWellSpelled};
 ghost use Rattle.bdb_syntax.specs.Filled.{IsFilled};
+ghost use Rattle.bdb_syntax.specs.Printable.{IsPrintable};
 
 use crate::command::command;
 use crate::error::ParseError;
@@ -19,6 +21,7 @@ pub fn parse(alloc: Global, tokens: &[Token]) -> Result<Command, ParseError>
     ensures syntax { IsErrOf result ParseError.Syntax → command_of tokens.now ≡ None }
     ensures number { IsErrOf result ParseError.Number → (c : Command) × (command_of tokens.now ≡ Some c) × (fits c ≡ false) }
     ensures filled { IfOk result (λ c. IsFilled c) }
+    ensures printable { AreWellSpelled tokens.now → IfOk result (λ c. IsPrintable c) }
 {
     match command(alloc, Wide::Refused, tokens) {
         Ok(command) => Ok(command),

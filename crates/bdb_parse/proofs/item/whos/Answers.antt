@@ -1,4 +1,4 @@
-use Rattle.std.proofs.Common.{rules, ◌≡◌, Some, ap}
+use Rattle.std.proofs.Common.{rules, Some, ap}
 use Rattle.bdb_parse.specs.Reading.{whos_at}
 use Rattle.bdb_parse.proofs.WhoLemmas.{whos_kept, whos_shorter, whos_done}
 use Rattle.bdb_parse.proofs.item.whos.Goals as goal

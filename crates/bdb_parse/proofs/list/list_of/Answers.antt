@@ -1,7 +1,6 @@
-use Rattle.std.proofs.Common.{◌≡◌, ◌<◌, ◌≤◌, Option, Some, ap, ◌∙◌, arith}
+use Rattle.std.proofs.Common.{ap, arith}
 use Rattle.std.specs.Option.{option_copied}
 use Rattle.std.proofs.lemmas.Result.{err_from_is_err_and}
-use Rattle.bdb_parse.specs.Stops.{cut}
 use Rattle.bdb_parse.specs.Reading.{list_of}
 use Rattle.bdb_parse.proofs.CutLemmas.{left, left_cut}
 use Rattle.bdb_parse.proofs.ListLemmas.{list_kept, list_failed, fails_on}

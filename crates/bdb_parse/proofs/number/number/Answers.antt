@@ -1,6 +1,5 @@
-use Rattle.std.proofs.Common.{◌≡◌, true, sym, ap, ◌∙◌, subst, w64, rules}
+use Rattle.std.proofs.Common.{ap, ◌∙◌, subst, w64, rules}
 use Rattle.std.specs.Str.Parse.{ParsesSigned}
-use Rattle.std.proofs.lemmas.Bool.{not-false}
 use Rattle.bdb_parse.specs.Gives.{wide_number}
 use Rattle.bdb_parse.proofs.NumberLemmas.{parse_wide}
 use Rattle.bdb_parse.proofs.number.number.Goals as goal

@@ -1,11 +1,11 @@
-use Rattle.std.proofs.Common.{◌≡◌, true, false, Some, None, IfOk, refl, sym, ap, ◌∙◌}
 use Rattle.std.proofs.lemmas.Result.{err_from_is_err_and}
-use Rattle.bdb_parse.specs.declared.wide.Wide.TheVariants.{Refused, Zero}
+use Rattle.bdb_parse.specs.declared.wide.Wide.TheVariants.{Refused}
 use Rattle.bdb_parse.specs.Gives.{number_in}
 use Rattle.bdb_parse.specs.Fits.{fits}
 use Rattle.bdb_parse.proofs.Agree.{strict_reads, wide_reads, refused_twice, refused_once, never_number, nothing_else, err_is}
 use Rattle.bdb_parse.proofs.AgreeLemmas.{command_agrees}
 use Rattle.bdb_parse.proofs.FilledLemmas.{command_filled_of}
+use Rattle.bdb_parse.proofs.PrintableFacts.{printable_from_read}
 use Rattle.bdb_parse.proofs.reading.parse.Goals as goal
 
 pub returns-in-Ok-clause-ok : goal.returns-in-Ok-clause-ok
@@ -15,6 +15,10 @@ returns-in-Ok-clause-ok c =
 pub returns-in-Ok-clause-filled : goal.returns-in-Ok-clause-filled
 returns-in-Ok-clause-filled c =
     command_filled_of (number_in Refused) c.args.tokens.now c.in-Ok.command c.in-Ok.ensures
+
+pub returns-in-Ok-clause-printable : goal.returns-in-Ok-clause-printable
+returns-in-Ok-clause-printable c =
+    λ w. printable_from_read c.args.tokens.now c.in-Ok.command w (command_agrees c.args.tokens.now) c.in-Ok.ensures
 
 pub returns-in_err-command-in-Err-Syntax : goal.returns-in_err-command-in-Err-Syntax
 returns-in_err-command-in-Err-Syntax c =
@@ -26,6 +30,7 @@ returns-in_err-command-in-Err-Syntax c =
       syntax = λ q. refused_twice fits _ _ _ e (command_agrees c.args.tokens.now) i (err_is _ _ q);
       number = λ q. never_number _ e _ i (err_is _ _ q);
       filled = tt;
+      printable = λ _. tt;
     }
 
 pub returns-in_ok-command-in-Err-Syntax : goal.returns-in_ok-command-in-Err-Syntax
@@ -35,4 +40,5 @@ returns-in_ok-command-in-Err-Syntax c =
       syntax = λ q. nothing_else _ (err_is _ _ q);
       number = λ q. wide_reads fits _ _ _ c.in_ok-command-in-Err-Syntax.field-0 (command_agrees c.args.tokens.now) (refused_once _ c.in-Err-Syntax.field-0 c.in-Err-Syntax.ensures c.in-Err-Syntax.field-0-is) c.in_ok-command-in-Err-Syntax.ensures;
       filled = tt;
+      printable = λ _. tt;
     }

@@ -1,0 +1,142 @@
+use super::*;
+use bdb_base::{List, Sign, Txt, Value};
+use bdb_lex::Token;
+use bdb_syntax::Command;
+use std::alloc::{AllocError, Global};
+use std::test::Fail;
+
+// A token of a piece between blanks. A text has its opening quote alone.
+fn token(alloc: Global, piece: &str) -> Result<Token, AllocError> {
+    let text = Txt::try_new(alloc, piece)?;
+    Ok(match piece {
+        "," => Token::Comma,
+        "." => Token::Dot,
+        "(" => Token::ParenL,
+        ")" => Token::ParenR,
+        "=" => Token::Eq,
+        "<>" => Token::Ne,
+        ">" => Token::Gt,
+        _ => match piece.as_bytes() {
+            [b'\'', ..] => Token::Text(text),
+            [b'-' | b'0'..=b'9', ..] => Token::Num(text),
+            _ => Token::Word(text),
+        },
+    })
+}
+
+fn read(alloc: Global, line: &str) -> Result<Result<Command, ParseError>, AllocError> {
+    let mut tokens = List::new(alloc);
+    for piece in line.split_whitespace() {
+        tokens.push(token(alloc, piece)?)?;
+    }
+    Ok(parse(alloc, tokens.as_slice()))
+}
+
+fn outcome(answer: &Result<Command, ParseError>) -> &'static str {
+    match answer {
+        Ok(Command::CreateUser { .. }) => "create user",
+        Ok(Command::CreateRelation { .. }) => "create relation",
+        Ok(Command::Insert { .. }) => "insert",
+        Ok(Command::Delete { .. }) => "delete",
+        Ok(Command::Update { .. }) => "update",
+        Ok(Command::Select { .. }) => "select",
+        Ok(Command::Explain { .. }) => "explain",
+        Ok(Command::ShowWorld { .. }) => "show world",
+        Ok(Command::ShowTables) => "show tables",
+        Err(ParseError::Syntax) => "syntax",
+        Err(ParseError::Number) => "number",
+        Err(ParseError::Memory) => "memory",
+    }
+}
+
+const CASES: [(&str, &str); 33] = [
+    ("create user 'Alice", "create user"),
+    ("CREATE User 'Alice", "create user"),
+    ("create user Alice", "syntax"),
+    ("create user 'Alice 'Bob", "syntax"),
+    (
+        "create relation user ( key text , value INT )",
+        "create relation",
+    ),
+    ("create relation Values ( k int )", "syntax"),
+    ("create relation R ( )", "syntax"),
+    ("create relation R ( k int , )", "syntax"),
+    ("create relation R ( k int ) )", "syntax"),
+    (
+        "insert into belief 'Bob belief 'Alice not R values ( 'a , -0 , 007 )",
+        "insert",
+    ),
+    ("insert into R values ( 9223372036854775807 )", "insert"),
+    ("insert into R values ( -9223372036854775808 )", "insert"),
+    ("insert into R values ( 9223372036854775808 )", "number"),
+    ("insert into R values ( -9223372036854775809 )", "number"),
+    ("insert into R values ( 9223372036854775808 , )", "syntax"),
+    ("insert into R values ( k )", "syntax"),
+    ("insert into belief R values ( 1 )", "syntax"),
+    ("delete from R", "delete"),
+    ("delete from not R where a = 1 and b <> c", "delete"),
+    ("delete from R where", "syntax"),
+    ("delete from R where A . a = 1", "syntax"),
+    ("update R set a = 1 , b = 'x where k > 3", "update"),
+    ("update R set a = b", "syntax"),
+    (
+        "select U . name from Users as U , belief U . uid belief 'Bob not R X where X . k = 1 and X . v = U . name",
+        "select",
+    ),
+    ("select R . k from R", "select"),
+    ("select k from R", "syntax"),
+    (
+        "select R . k from R where R . k = 99999999999999999999",
+        "number",
+    ),
+    ("explain select R . k from R", "explain"),
+    ("explain R", "syntax"),
+    ("show world", "show world"),
+    ("show world belief 'Bob belief 'Alice", "show world"),
+    ("show tables", "show tables"),
+    ("", "syntax"),
+];
+
+#[test]
+fn commands_and_refusals(rt: HostRuntime) -> Result<(), Fail> {
+    for (line, want) in &CASES {
+        let answer = read(rt.alloc(), line)?;
+        assert_eq!(rt; outcome(&answer), *want, "{line}");
+    }
+    Ok(())
+}
+
+#[test]
+fn signs_and_numbers(rt: HostRuntime) -> Result<(), Fail> {
+    let Ok(
+        Command::Insert {
+            users: _,
+            sign,
+            rel,
+            vals,
+        },
+    ) = read(rt.alloc(), "insert into not R values ( -0 , -007 )")?
+    else {
+        return Err(Fail::from("this is an insert"));
+    };
+    assert!(rt; sign == Sign::Minus);
+    assert_eq!(rt; rel.as_str(), "R");
+    assert!(rt; matches!(vals.get(0), Some(Value::Int(0))));
+    assert!(rt; matches!(vals.get(1), Some(Value::Int(-7))));
+    Ok(())
+}
+
+#[test]
+fn aliases(rt: HostRuntime) -> Result<(), Fail> {
+    let Ok(Command::Select { query }) = read(rt.alloc(), "select R . k from R , S as T , S Key")?
+    else {
+        return Err(Fail::from("this is a query"));
+    };
+    let mut found = 0;
+    for (item, want) in query.items.as_slice().iter().zip(&["R", "T", "Key"]) {
+        assert_eq!(rt; item.alias.as_str(), *want);
+        found += 1;
+    }
+    assert_eq!(rt; found, 3);
+    Ok(())
+}
