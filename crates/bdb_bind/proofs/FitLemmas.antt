@@ -1,38 +1,30 @@
 -- What an allowed command that isn't refused is bound to fits the catalog.
-use Rattle.std.proofs.Common.{◌≡◌, ◌∙◌, ℕ, ◌+◌, ◌<◌, ◌≤◌, Bool, true, false, not, ◌&&◌, ◌||◌, ◌==◌, nat_eq, nat_lt, nat_le, List, [], ◌∷◌, ◌++◌, length, map, Option, Some, None, find, refl, sym, ap, subst, inl, inr, arith, zero-add}
+use Rattle.std.proofs.Common.{◌≡◌, ◌∙◌, ℕ, ◌+◌, ◌≤◌, Bool, true, false, not, ◌||◌, List, [], ◌∷◌, ◌++◌, length, map, Some, None, refl, sym, ap, inl, inr, arith, zero-add}
 use Rattle.std.specs.Option.{is_some, option_map, unwrap_or}
 use Rattle.std.specs.List.{list_any, list_all, slice_get, position_from}
-use Rattle.std.proofs.lemmas.Bool.{cases_Bool, and_from, and_parts, or_parts, or_from, cond-true, cond-false, not-false, not-true, not_from_false, ltb-false, le-leb, lt-ltb}
+use Rattle.std.proofs.lemmas.Bool.{cases_Bool, and_from, and_parts, or_parts, or_from, cond-true, cond-false, not-false, not-true, not_from_false, ltb-false, le-leb}
 use Rattle.std.proofs.lemmas.List.Folds.{list_any-append, list_all-append}
-use Rattle.std.proofs.lemmas.List.{map-append}
 use Rattle.bdb_base.specs.declared.kinds.Catalog.{Catalog}
 use Rattle.bdb_base.specs.declared.kinds.ColDef.{ColDef}
-use Rattle.bdb_base.specs.declared.kinds.RelDef.{RelDef}
 use Rattle.bdb_base.specs.declared.kinds.Kind.{Kind}
 use Rattle.bdb_base.specs.declared.kinds.Kind.TheVariants as kind
-use Rattle.bdb_base.specs.declared.kinds.Sign.{Sign}
 use Rattle.bdb_base.specs.declared.kinds.Value.{Value}
 use Rattle.bdb_base.specs.declared.kinds.Value.TheVariants.{Int, Text}
 use Rattle.bdb_base.specs.Same.{same_text, same_kind}
-use Rattle.bdb_base.specs.Alternation.{alternates}
-use Rattle.bdb_base.specs.Bases.{IsCatalog, belongs, is_user, is_clean, is_plain, fits_kind, fits_columns, fits_relation, are_distinct, is_valid_relation, users_name}
+use Rattle.bdb_base.specs.Bases.{is_clean, is_plain, fits_kind, fits_columns, are_distinct}
 use Rattle.bdb_syntax.specs.declared.command.Command.{Command}
-use Rattle.bdb_syntax.specs.declared.command.Command.TheVariants.{CreateUser, CreateRelation, Insert, Delete, Update, Select, Explain, ShowWorld, ShowTables}
 use Rattle.bdb_syntax.specs.declared.command.RawCond.{RawCond}
 use Rattle.bdb_syntax.specs.declared.command.RawSide.{RawSide}
 use Rattle.bdb_syntax.specs.declared.command.RawSide.TheVariants.{Col, Lit}
 use Rattle.bdb_syntax.specs.declared.command.RawSet.{RawSet}
-use Rattle.bdb_bind.specs.declared.bound.BindError.{BindError}
-use Rattle.bdb_bind.specs.Lookup.{uid_of, is_user_name, number_of, columns_in, columns_of, column_at, has_column, kind_at, path_of}
-use Rattle.bdb_bind.specs.Parts.{path_names, depth_limit, value_texts, side_texts, cond_columns, side_columns, is_long, some_text}
-use Rattle.bdb_bind.specs.Lines.{first_repeated, missing_column, column_line, taken_line, misfit, are_one_kind, kind_of, side_kind, fits_set, fits_cond, set_kinds, cond_kinds, kind_line}
-use Rattle.bdb_bind.specs.Refusal.{refusal_of}
-use Rattle.bdb_bind.specs.Binding.{relation_at, place_of, bound_side, bound_cond, bound_set, bound_of, statement_of}
-use Rattle.bdb_bind.specs.Fits.{is_unclean, names_allowed, is_allowed, fits_path, fits_found, set_fits, kind_of_place, side_fits, cond_fits, columns_numbered, fits_catalog, WhatIsBoundFits}
-use Rattle.bdb_bind.proofs.Founds.{IsFound, found, is_there, all_pass, same_text_equal, same_text_itself}
+use Rattle.bdb_bind.specs.Lookup.{column_at, has_column, kind_at, path_of}
+use Rattle.bdb_bind.specs.Parts.{path_names, depth_limit, value_texts, side_texts, cond_columns, side_columns, is_long}
+use Rattle.bdb_bind.specs.Lines.{first_repeated, misfit, are_one_kind, kind_of, side_kind, fits_set, fits_cond}
+use Rattle.bdb_bind.specs.Binding.{place_of, bound_side, bound_cond, bound_set}
+use Rattle.bdb_bind.specs.Fits.{is_unclean, fits_path, fits_found, set_fits, kind_of_place, side_fits, cond_fits}
+use Rattle.bdb_bind.proofs.Founds.{found, is_there, same_text_equal, same_text_itself}
 use Rattle.bdb_bind.proofs.PathLemmas.{path_users, path_alternates, path_length}
-use Rattle.bdb_bind.proofs.Cleared.{IsCleared, cleared, neither, not_refused, nothing_mapped, no_long_text, few_columns, users_known, names_apart, not_deep}
-use Rattle.bdb_bind.proofs.CatalogLemmas.{relation_found, insert_relation, insert_arity}
+use Rattle.bdb_bind.proofs.Cleared.{IsCleared, users_known, names_apart, not_deep}
 
 -- texts
 

@@ -1,5 +1,5 @@
 -- The law of fitting, command by command.
-use Rattle.std.proofs.Common.{◌≡◌, ◌∙◌, ℕ, ◌+◌, ◌<◌, ◌≤◌, Bool, true, false, not, ◌&&◌, ◌||◌, nat_lt, nat_le, List, [], ◌∷◌, ◌++◌, length, map, Option, Some, None, find, refl, sym, ap, subst, arith, zero-add}
+use Rattle.std.proofs.Common.{◌≡◌, ◌∙◌, ℕ, ◌<◌, true, false, not, ◌&&◌, ◌||◌, nat_lt, nat_le, List, [], ◌∷◌, ◌++◌, length, map, Some, None, refl, sym, ap, arith, zero-add}
 use Rattle.std.specs.Option.{is_some, unwrap_or}
 use Rattle.std.specs.List.{list_any, list_all, slice_get}
 use Rattle.std.proofs.lemmas.Bool.{and_from, and_parts, or_parts, not-true, not-false, not_from_false, le-leb, lt-ltb}
@@ -10,22 +10,20 @@ use Rattle.bdb_base.specs.declared.kinds.RelDef.{RelDef}
 use Rattle.bdb_base.specs.declared.kinds.Sign.{Sign}
 use Rattle.bdb_base.specs.declared.kinds.Value.{Value}
 use Rattle.bdb_base.specs.Same.{same_text}
-use Rattle.bdb_base.specs.Bases.{IsCatalog, belongs, is_plain, fits_columns, fits_relation, are_distinct, is_valid_relation, users_name}
+use Rattle.bdb_base.specs.Bases.{IsCatalog, belongs, is_plain, fits_columns, are_distinct, users_name}
 use Rattle.bdb_syntax.specs.declared.command.Command.{Command}
 use Rattle.bdb_syntax.specs.declared.command.Command.TheVariants.{CreateUser, CreateRelation, Insert, Delete, Update, Select, Explain, ShowWorld, ShowTables}
 use Rattle.bdb_syntax.specs.declared.command.RawCond.{RawCond}
 use Rattle.bdb_syntax.specs.declared.command.RawSet.{RawSet}
-use Rattle.bdb_bind.specs.declared.bound.BindError.{BindError}
-use Rattle.bdb_bind.specs.Lookup.{uid_of, is_user_name, number_of, columns_in, columns_of, has_column, path_of}
+use Rattle.bdb_bind.specs.Lookup.{is_user_name, number_of, columns_in, columns_of, has_column}
 use Rattle.bdb_bind.specs.Parts.{value_texts, side_texts, cond_columns, is_long, some_text}
-use Rattle.bdb_bind.specs.Lines.{refused_if, first_repeated, missing_column, relation_line, column_line, taken_line, misfit, fits_set, fits_cond, set_kinds, cond_kinds, kind_line}
-use Rattle.bdb_bind.specs.Refusal.{refusal_of}
+use Rattle.bdb_bind.specs.Lines.{first_repeated, missing_column, relation_line, column_line, taken_line, misfit, fits_set, fits_cond, set_kinds, cond_kinds, kind_line}
 use Rattle.bdb_bind.specs.Binding.{relation_at, bound_cond, bound_set, bound_of, statement_of}
-use Rattle.bdb_bind.specs.Fits.{is_unclean, names_allowed, is_allowed, fits_path, set_fits, cond_fits, columns_numbered, fits_catalog, WhatIsBoundFits}
-use Rattle.bdb_bind.proofs.Founds.{IsFound, all_pass}
+use Rattle.bdb_bind.specs.Fits.{is_unclean, names_allowed, is_allowed, set_fits, cond_fits, columns_numbered, fits_catalog, WhatIsBoundFits}
+use Rattle.bdb_bind.proofs.Founds.{all_pass}
 use Rattle.bdb_bind.proofs.Cleared.{IsCleared, cleared, neither, not_refused, nothing_mapped, no_long_text, few_columns}
 use Rattle.bdb_bind.proofs.CatalogLemmas.{relation_found, insert_relation, insert_arity}
-use Rattle.bdb_bind.proofs.FitLemmas.{plain_text, path_fits, values_fit, sets_fit, conds_fit, none_among, any_mapped, distinct_with, AreApart, none_repeated}
+use Rattle.bdb_bind.proofs.FitLemmas.{plain_text, path_fits, values_fit, sets_fit, conds_fit, none_among, any_mapped, distinct_with, none_repeated}
 
 -- the relation of a name, by its number
 record IsRelation (catalog : Catalog) (name : List ℕ) : Type 0 where
