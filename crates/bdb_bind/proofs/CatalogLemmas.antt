@@ -1,14 +1,14 @@
 -- What a valid catalog gives of the names that are found in it.
-use Rattle.std.proofs.Common.{◌≡◌, ◌∙◌, ℕ, ◌<◌, ◌≤◌, zero, suc, Bool, true, false, not, ◌&&◌, ◌==◌, nat_lt, nat_le, List, [], ◌∷◌, length, Option, Some, None, find, refl, sym, ap, subst, inl, inr, arith}
+use Rattle.std.proofs.Common.{◌≡◌, ◌∙◌, ℕ, ◌<◌, ◌≤◌, zero, suc, Bool, true, ◌&&◌, nat_lt, nat_le, List, [], ◌∷◌, length, Option, Some, None, find, sym, ap, subst, inl, inr, arith}
 use Rattle.std.specs.Option.{is_some}
-use Rattle.std.specs.List.{list_all, slice_get, position_from}
+use Rattle.std.specs.List.{list_all, slice_get}
 use Rattle.std.proofs.lemmas.Bool.{cases_Bool, and_parts, cond-true, cond-false, leb-true, ltb-true, eqb-true, not-false}
 use Rattle.bdb_base.specs.declared.kinds.Catalog.{Catalog}
 use Rattle.bdb_base.specs.declared.kinds.RelDef.{RelDef}
 use Rattle.bdb_base.specs.declared.kinds.Sign.{Sign}
 use Rattle.bdb_base.specs.declared.kinds.Value.{Value}
 use Rattle.bdb_base.specs.Alternation.{alternates}
-use Rattle.bdb_base.specs.Bases.{IsCatalog, is_valid_relation, are_distinct, is_plain, users_name}
+use Rattle.bdb_base.specs.Bases.{IsCatalog, is_valid_relation}
 use Rattle.bdb_base.specs.Same.{same_text}
 use Rattle.bdb_syntax.specs.declared.command.Command.{Command}
 use Rattle.bdb_syntax.specs.declared.command.Command.TheVariants.{Insert}

@@ -1,5 +1,5 @@
 -- Names that are found in a list.
-use Rattle.std.proofs.Common.{◌≡◌, ◌∙◌, ℕ, ◌+◌, ◌<◌, ◌≤◌, zero, suc, Bool, true, false, cond, not, List, [], ◌∷◌, length, Option, Some, None, find, refl, sym, ap, inl, inr, arith}
+use Rattle.std.proofs.Common.{◌≡◌, ◌∙◌, ℕ, ◌+◌, ◌<◌, suc, Bool, true, not, List, [], ◌∷◌, length, Option, Some, None, find, refl, sym, ap, inl, inr, arith}
 use Rattle.std.specs.Option.{is_some}
 use Rattle.std.specs.List.{position_from, slice_get, list_all}
 use Rattle.std.proofs.lemmas.Bool.{cases_Bool, cond-true, cond-false, and_from, not-false}

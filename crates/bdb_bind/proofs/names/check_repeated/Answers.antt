@@ -1,4 +1,4 @@
-use Rattle.std.proofs.Common.{◌<◌, length, arith, rules}
+use Rattle.std.proofs.Common.{arith}
 use Rattle.bdb_bind.proofs.Repeats.{first_repeated_at}
 use Rattle.bdb_bind.proofs.names.check_repeated.Goals as goal
 
