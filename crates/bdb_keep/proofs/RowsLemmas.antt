@@ -114,7 +114,7 @@ module _ {A B : Type 0} where
   rows_of-emptied es fs p was here h = rows_of-updates es fs p None here h ∙ set_at-same (rows_of es) p None (get_rows_of es p ∙ ap row_of was)
 
   module _ (old mid new : List Change) (v : Vec ℕ Global) (b : Option (Vec ℕ Global)) (p : List ℕ) (es fs : List (Vec ℕ A × Option (Vec ℕ B)))
-    (m : mid ≡ old) (n : new ≡ mid ++ record { place = v; before = b } ∷ []) (e : v.items ≡ p) where
+      (m : mid ≡ old) (n : new ≡ mid ++ record { place = v; before = b } ∷ []) (e : v.items ≡ p) where
     pushed : new ≡ old ++ record { place = v; before = b } ∷ []
     pushed = n ∙ ap (λ cs. cs ++ record { place = v; before = b } ∷ []) m
 

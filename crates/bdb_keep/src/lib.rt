@@ -2,6 +2,12 @@
 #![tactic(auto)]
 
 mod keeper;
+mod mem;
+mod quiet;
 mod rows;
+mod store;
 
 pub use keeper::{KeepError, Keeper};
+pub use mem::MemKeeper;
+pub use quiet::QuietKeeper;
+pub use store::Store;

@@ -1,9 +1,10 @@
 // The rows by place, where a removed row leaves an empty place, and the changes that a transaction made.
-ghost use Rattle.std.specs.Prelude.{◌≡◌, ◌≤◌, ◌++◌, ◌∷◌, [], Some, None, IfOk, IfErr, IfNone, OnSome, OnOk, OnErr, IsSome, IsTrue, MatchBool, is_some, false, length, drop, if◌then◌else◌};
+ghost use Rattle.std.specs.Prelude.{◌≡◌, ◌≤◌, ◌++◌, ◌∷◌, [], Some, None, IfOk, IfErr, IfNone, IfSome, OnSome, ◌↔◌, OnOk, OnErr, IsSome, IsTrue, MatchBool, is_some, false, nat_eq, length, drop, if◌then◌else◌};
 ghost use Rattle.std.specs.FinMap as map;
+ghost use Rattle.std.specs.Cmp.Lexicographic.{pointwise};
 ghost use Rattle.bdb_keep.specs.Held.{IsPlace};
 ghost use Rattle.bdb_keep.specs.Rows.{place_at, rows_of, undone, row_of, row_bytes, places_of, HavePlaces, KeepsPlaces};
-ghost use Rattle.bdb_keep.specs.Tables.{IsLeastFrom, NoneFrom, set_at};
+ghost use Rattle.bdb_keep.specs.Tables.{IsLeastFrom, NoneFrom, LieWithin, set_at};
 
 use std::alloc::{AllocError, Global};
 use std::collections::BTreeMap;
@@ -66,11 +67,7 @@ pub fn swap_row(
 }
 
 /// Puts a row at a new place.
-pub fn insert_row(
-    rows: &mut Rows,
-    place: Vec<u8>,
-    row: Option<Vec<u8>>,
-) -> Result<(), AllocError>
+pub fn insert_row(rows: &mut Rows, place: Vec<u8>, row: Option<Vec<u8>>) -> Result<(), AllocError>
     requires { place_at rows.old.entries place.items ≡ None }
     ensures rows { OnOk result (rows_of rows.new.entries ≡ set_at (rows_of rows.old.entries) place.items (row_bytes row)) }
     ensures here { OnOk result (IsSome (place_at rows.new.entries place.items)) }
@@ -219,4 +216,63 @@ pub fn put_back(rows: &mut Rows, change: &mut Change)
 {
     let before = change.before.take();
     let _ = swap_row(rows, change.place.as_slice(), before);
+}
+
+/// Reads the least key of a table that isn't below `low`, and its row.
+pub fn first_from(
+    rows: &Rows,
+    tab: u8,
+    low: &[u8],
+    key: &mut Vec<u8>,
+    row: &mut Vec<u8>,
+) -> Result<bool, AllocError>
+    ensures found { IfOk result (λ found. MatchBool found
+        (IsLeastFrom (rows_of rows.now.entries) tab low.now key.new.items row.new.items)
+        (NoneFrom (rows_of rows.now.entries) tab low.now)) }
+    ensures empty { IfOk result (λ found. found ≡ false → (key.new.items ≡ []) × (row.new.items ≡ [])) }
+{
+    Err(AllocError)
+}
+
+/// Takes the row at a key of a table away, with its place.
+pub fn unset_row(rows: &mut Rows, tab: u8, key: &[u8])
+    ensures { rows_of rows.new.entries ≡ map.remove (rows_of rows.old.entries) (tab ∷ key.now) }
+{
+    rows.retain(|place, _| !is_place(place.as_slice(), tab, key));
+}
+
+/// Whether a place is that of a key in a table.
+pub fn is_place(place: &[u8], tab: u8, key: &[u8]) -> bool
+    ensures { result ≡ pointwise nat_eq place.now (tab ∷ key.now) }
+{
+    match place {
+        [first, rest @ ..] => *first == tab && *rest == *key,
+        [] => false,
+    }
+}
+
+/// Whether each row of a map is in another.
+pub fn lies_within(rows: &Rows, others: &Rows) -> bool
+    ensures { IsTrue result ↔ LieWithin (rows_of rows.now.entries) (rows_of others.now.entries) }
+{
+    for (place, row) in rows.iter() {
+        if !has_same(others, place.as_slice(), row) {
+            return false;
+        }
+    }
+    true
+}
+
+/// Whether a map has this row at a place. No row is had everywhere.
+fn has_same(others: &Rows, place: &[u8], row: &Option<Vec<u8>>) -> bool
+    ensures { IsTrue result ↔ IfSome (row_bytes row.now) (λ bytes. map.get (rows_of others.now.entries) place.now ≡ Some bytes) }
+{
+    match row {
+        None => true,
+        Some(bytes) => match others.get(place) {
+            Some(Some(other)) => *bytes.as_slice() == *other.as_slice(),
+            Some(None) => false,
+            None => false,
+        },
+    }
 }
