@@ -1,5 +1,6 @@
 // The rows by place, where a removed row leaves an empty place, and the changes that a transaction made.
-ghost use Rattle.std.specs.Prelude.{◌≡◌, ◌≤◌, ◌++◌, ◌∷◌, [], Some, None, IfOk, IfErr, IfNone, IfSome, OnSome, ◌↔◌, OnOk, OnErr, IsSome, IsTrue, MatchBool, is_some, false, nat_eq, length, drop, if◌then◌else◌};
+ghost use Rattle.std.specs.Prelude.{◌≡◌, ◌≤◌, ◌++◌, ◌∷◌, [], Some, None, IfOk, IfErr, IfNone, IfSome, OnSome, ◌↔◌, OnOk, OnErr, IsSome, IsTrue, MatchBool, is_some, true, false, List, ℕ, nat_eq, length, drop, if◌then◌else◌};
+ghost use Rattle.std.specs.Option.{option_map};
 ghost use Rattle.std.specs.FinMap as map;
 ghost use Rattle.std.specs.Cmp.Lexicographic.{pointwise};
 ghost use Rattle.bdb_keep.specs.Held.{IsPlace};
@@ -231,7 +232,46 @@ pub fn first_from(
         (NoneFrom (rows_of rows.now.entries) tab low.now)) }
     ensures empty { IfOk result (λ found. found ≡ false → (key.new.items ≡ []) × (row.new.items ≡ [])) }
 {
-    Err(AllocError)
+    fill(key, tab, low)?;
+    let from: &Vec<u8> = key;
+    let mut rest = rows.range(from..);
+    while let Some((place, found)) = rest.next() {
+        match found {
+            Some(bytes) => return give(tab, place.as_slice(), bytes.as_slice(), key, row),
+            None => {}
+        }
+    }
+    key.clear();
+    row.clear();
+    Ok(false)
+}
+
+/// Gives the key of a place and its row, where the place is in a table.
+fn give(
+    tab: u8,
+    place: &[u8],
+    bytes: &[u8],
+    key: &mut Vec<u8>,
+    row: &mut Vec<u8>,
+) -> Result<bool, AllocError>
+    ensures place { IfOk result (λ found. found ≡ true → place.now ≡ tab ∷ key.new.items) }
+    ensures row { IfOk result (λ found. found ≡ true → row.new.items ≡ bytes.now) }
+    ensures other { IfOk result (λ found. found ≡ false → (q : List ℕ) → place.now ≡ tab ∷ q → ⊥) }
+    ensures empty { IfOk result (λ found. found ≡ false → (key.new.items ≡ []) × (row.new.items ≡ [])) }
+{
+    key.clear();
+    row.clear();
+    match place {
+        [first, rest @ ..] => {
+            if *first != tab {
+                return Ok(false);
+            }
+            key.extend_from_slice(rest)?;
+            row.extend_from_slice(bytes)?;
+            Ok(true)
+        }
+        [] => Ok(false),
+    }
 }
 
 /// Takes the row at a key of a table away, with its place.
@@ -274,5 +314,29 @@ fn has_same(others: &Rows, place: &[u8], row: &Option<Vec<u8>>) -> bool
             Some(None) => false,
             None => false,
         },
+    }
+}
+
+/// The row at a place, if there is one.
+#[tactic(auto, using(crate::proofs::RowsLemmas::get_rows_of))]
+pub fn row_at<'a>(rows: &'a Rows, place: &[u8]) -> Option<&'a [u8]>
+    ensures { option_map (λ row. row.now) result ≡ map.get (rows_of rows.now.entries) place.now }
+{
+    match rows.get(place) {
+        Some(Some(row)) => Some(row.as_slice()),
+        Some(None) => None,
+        None => None,
+    }
+}
+
+/// The table and the key of a place.
+pub fn split(place: &[u8]) -> (u8, &[u8])
+    requires { IsPlace place.now }
+    ensures place { place.now ≡ result.0 ∷ result.1.now }
+    ensures table { (1 ≤ result.0) × (result.0 ≤ 15) }
+{
+    match place {
+        [tab, key @ ..] => (*tab, key),
+        [] => unreachable!(),
     }
 }

@@ -6,8 +6,8 @@ ghost use Rattle.bdb_keep.specs.Held.{IsPlace, written};
 ghost use Rattle.bdb_keep.specs.Tables.{IsLeastFrom, NoneFrom};
 
 use crate::rows::{
-    Change, Rows, fill, first_from, lies_within, put_row, read, roll_back, set_place, settle,
-    take_row, unset_row,
+    Change, Rows, fill, first_from, lies_within, put_row, read, roll_back, row_at, set_place,
+    settle, split, take_row, unset_row,
 };
 use std::alloc::{AllocError, Global};
 use std::collections::BTreeMap;
@@ -165,10 +165,7 @@ impl Store {
         ensures place { slice_get self.now.changes at ≡ Some (result.0 ∷ result.1.now) }
         ensures table { (1 ≤ result.0) × (result.0 ≤ 15) }
     {
-        match self.changes[at].place.as_slice() {
-            [tab, key @ ..] => (*tab, key),
-            [] => unreachable!(),
-        }
+        split(self.changes[at].place.as_slice())
     }
 
     /// The row that is now at the place of a change; none where it was taken away.
@@ -176,10 +173,6 @@ impl Store {
         requires { at < length self.now.changes }
         ensures { IfSome (slice_get self.now.changes at) (λ place. option_map (λ row. row.now) result ≡ map.get self.now.kept place) }
     {
-        match self.rows.get(self.changes[at].place.as_slice()) {
-            Some(Some(row)) => Some(row.as_slice()),
-            Some(None) => None,
-            None => None,
-        }
+        row_at(&self.rows, self.changes[at].place.as_slice())
     }
 }
