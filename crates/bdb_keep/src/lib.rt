@@ -6,6 +6,8 @@ mod mem;
 mod quiet;
 mod rows;
 mod store;
+#[cfg(test)]
+mod tests;
 
 pub use keeper::{KeepError, Keeper};
 pub use mem::MemKeeper;
