@@ -1,18 +1,17 @@
 -- Lemmas on the store's map and its undo list.
 use Rattle.std.proofs.Math.Seq.{take-suc}
-use Rattle.std.proofs.Common.{◌≡◌, ℕ, ◌+◌, ◌<◌, length, take, drop, get_or, suc, Bool, true, false, cond, List, [], ◌∷◌, ◌++◌, Option, Some, None, refl, sym, ap, ◌∙◌, subst, arith}
+use Rattle.std.proofs.Common.{◌≡◌, ℕ, ◌<◌, length, take, get_or, suc, Bool, true, false, cond, List, [], ◌∷◌, ◌++◌, Option, Some, None, refl, sym, ap, ◌∙◌, subst}
 use Rattle.std.specs.Prelude.{IsSome, is_some, IfNone, OnSome}
 use Rattle.std.specs.declared.vec.Vec.{Vec}
 use Rattle.std.specs.Ordering.{is_eq, eq_by_cmp}
-use Rattle.std.specs.Cmp.{IsEquivalence}
-use Rattle.std.proofs.lemmas.Cmp.{nat_list_cmp_total, eq_by_cmp_equiv}
-use Rattle.std.specs.Map.{lookup, KeepsOthers}
+use Rattle.std.proofs.lemmas.Cmp.{nat_list_cmp_total}
+use Rattle.std.specs.Map.{KeepsOthers}
 use Rattle.std.proofs.lemmas.Map.Lookups.{exact_bytes}
 use Rattle.std.specs.FinMap as map
 use Rattle.std.specs.FinMap.{get-empty, get-insert, get-remove, same_map}
 use Rattle.bdb_keep.specs.Tables.{Tables, bytes_cmp, set_at}
 use Rattle.bdb_keep.specs.Rows.{row_bytes, row_of, place_at, rows_of, places_of, undone, HavePlaces, KeepsPlaces}
-use Rattle.bdb_keep.specs.Held.{IsPlace, written}
+use Rattle.bdb_keep.specs.Held.{IsPlace}
 use Rattle.bdb_keep.specs.declared.rows.Change.{Change}
 use Rattle.std.specs.Global.{Global}
 use Rattle.std.specs.declared.cmp.Ordering.{Ordering}
@@ -42,7 +41,7 @@ is_equal Equal e = refl
 is_equal Greater e = (cc)
 
 -- two keys in one place are the same bytes
-same_place : (q p : List ℕ) → eq_by_cmp bytes_cmp q p ≡ true → q ≡ p
+pub same_place : (q p : List ℕ) → eq_by_cmp bytes_cmp q p ≡ true → q ≡ p
 same_place q p e = exact_bytes q p (is_equal (bytes_cmp q p) e)
 
 -- setting a place back to what it had changes nothing
@@ -84,7 +83,7 @@ module _ {A B : Type 0} where
   HavePlaces-push [] c es h p s = (p, s, tt)
   HavePlaces-push (d ∷ cs) c es h p s = (h.0, h.1, HavePlaces-push cs c es h.2 p s)
 
-abbrev vec_cmp : {A : Type 0} → Vec ℕ A → Vec ℕ A → Ordering
+abbrev pub vec_cmp : {A : Type 0} → Vec ℕ A → Vec ℕ A → Ordering
 vec_cmp x y = bytes_cmp x.items y.items
 
 module _ {A B : Type 0} where
@@ -114,7 +113,7 @@ module _ {A B : Type 0} where
   rows_of-emptied es fs p was here h = rows_of-updates es fs p None here h ∙ set_at-same (rows_of es) p None (get_rows_of es p ∙ ap row_of was)
 
   module _ (old mid new : List Change) (v : Vec ℕ Global) (b : Option (Vec ℕ Global)) (p : List ℕ) (es fs : List (Vec ℕ A × Option (Vec ℕ B)))
-    (m : mid ≡ old) (n : new ≡ mid ++ record { place = v; before = b } ∷ []) (e : v.items ≡ p) where
+      (m : mid ≡ old) (n : new ≡ mid ++ record { place = v; before = b } ∷ []) (e : v.items ≡ p) where
     pushed : new ≡ old ++ record { place = v; before = b } ∷ []
     pushed = n ∙ ap (λ cs. cs ++ record { place = v; before = b } ∷ []) m
 

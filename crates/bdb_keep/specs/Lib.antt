@@ -1,4 +1,5 @@
 pub mod Held
 pub mod Rows
 pub mod Seen
+pub mod Struck
 pub mod Tables

@@ -33,3 +33,7 @@ pub record IsLeastFrom (t : Tables) (tab : ℕ) (low key row : List ℕ) : Type 
 -- no key of a table is `low` or above it
 abbrev pub NoneFrom : Tables → ℕ → List ℕ → Type 0
 NoneFrom t tab low = (q : List ℕ) → IsTrue (is_le (bytes_cmp low q)) → map.get t (tab ∷ q) ≡ None
+
+-- each row of some tables is in the others
+abbrev pub LieWithin : Tables → Tables → Type 0
+LieWithin t u = (q row : List ℕ) → map.get t q ≡ Some row → map.get u q ≡ Some row

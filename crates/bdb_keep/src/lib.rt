@@ -2,6 +2,14 @@
 #![tactic(auto)]
 
 mod keeper;
+mod mem;
+mod quiet;
 mod rows;
+mod store;
+#[cfg(test)]
+mod tests;
 
 pub use keeper::{KeepError, Keeper};
+pub use mem::MemKeeper;
+pub use quiet::QuietKeeper;
+pub use store::Store;

@@ -1,9 +1,11 @@
 // The rows by place, where a removed row leaves an empty place, and the changes that a transaction made.
-ghost use Rattle.std.specs.Prelude.{◌≡◌, ◌≤◌, ◌++◌, ◌∷◌, [], Some, None, IfOk, IfErr, IfNone, OnSome, OnOk, OnErr, IsSome, IsTrue, MatchBool, is_some, false, length, drop, if◌then◌else◌};
+ghost use Rattle.std.specs.Prelude.{◌≡◌, ◌≤◌, ◌++◌, ◌∷◌, [], Some, None, IfOk, IfErr, IfNone, IfSome, OnSome, ◌↔◌, OnOk, OnErr, IsSome, IsTrue, MatchBool, is_some, true, false, List, ℕ, nat_eq, length, drop, if◌then◌else◌};
+ghost use Rattle.std.specs.Option.{option_map};
 ghost use Rattle.std.specs.FinMap as map;
+ghost use Rattle.std.specs.Cmp.Lexicographic.{pointwise};
 ghost use Rattle.bdb_keep.specs.Held.{IsPlace};
 ghost use Rattle.bdb_keep.specs.Rows.{place_at, rows_of, undone, row_of, row_bytes, places_of, HavePlaces, KeepsPlaces};
-ghost use Rattle.bdb_keep.specs.Tables.{IsLeastFrom, NoneFrom, set_at};
+ghost use Rattle.bdb_keep.specs.Tables.{IsLeastFrom, NoneFrom, LieWithin, set_at};
 
 use std::alloc::{AllocError, Global};
 use std::collections::BTreeMap;
@@ -66,11 +68,7 @@ pub fn swap_row(
 }
 
 /// Puts a row at a new place.
-pub fn insert_row(
-    rows: &mut Rows,
-    place: Vec<u8>,
-    row: Option<Vec<u8>>,
-) -> Result<(), AllocError>
+pub fn insert_row(rows: &mut Rows, place: Vec<u8>, row: Option<Vec<u8>>) -> Result<(), AllocError>
     requires { place_at rows.old.entries place.items ≡ None }
     ensures rows { OnOk result (rows_of rows.new.entries ≡ set_at (rows_of rows.old.entries) place.items (row_bytes row)) }
     ensures here { OnOk result (IsSome (place_at rows.new.entries place.items)) }
@@ -219,4 +217,126 @@ pub fn put_back(rows: &mut Rows, change: &mut Change)
 {
     let before = change.before.take();
     let _ = swap_row(rows, change.place.as_slice(), before);
+}
+
+/// Reads the least key of a table that isn't below `low`, and its row.
+pub fn first_from(
+    rows: &Rows,
+    tab: u8,
+    low: &[u8],
+    key: &mut Vec<u8>,
+    row: &mut Vec<u8>,
+) -> Result<bool, AllocError>
+    ensures found { IfOk result (λ found. MatchBool found
+        (IsLeastFrom (rows_of rows.now.entries) tab low.now key.new.items row.new.items)
+        (NoneFrom (rows_of rows.now.entries) tab low.now)) }
+    ensures empty { IfOk result (λ found. found ≡ false → (key.new.items ≡ []) × (row.new.items ≡ [])) }
+{
+    fill(key, tab, low)?;
+    let from: &Vec<u8> = key;
+    let mut rest = rows.range(from..);
+    while let Some((place, found)) = rest.next() {
+        match found {
+            Some(bytes) => return give(tab, place.as_slice(), bytes.as_slice(), key, row),
+            None => {}
+        }
+    }
+    key.clear();
+    row.clear();
+    Ok(false)
+}
+
+/// Gives the key of a place and its row, where the place is in a table.
+fn give(
+    tab: u8,
+    place: &[u8],
+    bytes: &[u8],
+    key: &mut Vec<u8>,
+    row: &mut Vec<u8>,
+) -> Result<bool, AllocError>
+    ensures place { IfOk result (λ found. found ≡ true → place.now ≡ tab ∷ key.new.items) }
+    ensures row { IfOk result (λ found. found ≡ true → row.new.items ≡ bytes.now) }
+    ensures other { IfOk result (λ found. found ≡ false → (q : List ℕ) → place.now ≡ tab ∷ q → ⊥) }
+    ensures empty { IfOk result (λ found. found ≡ false → (key.new.items ≡ []) × (row.new.items ≡ [])) }
+{
+    key.clear();
+    row.clear();
+    match place {
+        [first, rest @ ..] => {
+            if *first != tab {
+                return Ok(false);
+            }
+            key.extend_from_slice(rest)?;
+            row.extend_from_slice(bytes)?;
+            Ok(true)
+        }
+        [] => Ok(false),
+    }
+}
+
+/// Takes the row at a key of a table away, with its place.
+pub fn unset_row(rows: &mut Rows, tab: u8, key: &[u8])
+    ensures { rows_of rows.new.entries ≡ map.remove (rows_of rows.old.entries) (tab ∷ key.now) }
+{
+    rows.retain(|place, _| !is_place(place.as_slice(), tab, key));
+}
+
+/// Whether a place is that of a key in a table.
+pub fn is_place(place: &[u8], tab: u8, key: &[u8]) -> bool
+    ensures { result ≡ pointwise nat_eq place.now (tab ∷ key.now) }
+{
+    match place {
+        [first, rest @ ..] => *first == tab && *rest == *key,
+        [] => false,
+    }
+}
+
+/// Whether each row of a map is in another.
+pub fn lies_within(rows: &Rows, others: &Rows) -> bool
+    ensures { IsTrue result ↔ LieWithin (rows_of rows.now.entries) (rows_of others.now.entries) }
+{
+    for (place, row) in rows.iter() {
+        if !has_same(others, place.as_slice(), row) {
+            return false;
+        }
+    }
+    true
+}
+
+/// Whether a map has this row at a place. No row is had everywhere.
+fn has_same(others: &Rows, place: &[u8], row: &Option<Vec<u8>>) -> bool
+    ensures { IsTrue result ↔ IfSome (row_bytes row.now) (λ bytes. map.get (rows_of others.now.entries) place.now ≡ Some bytes) }
+{
+    match row {
+        None => true,
+        Some(bytes) => match others.get(place) {
+            Some(Some(other)) => *bytes.as_slice() == *other.as_slice(),
+            Some(None) => false,
+            None => false,
+        },
+    }
+}
+
+/// The row at a place, if there is one.
+#[tactic(auto, using(crate::proofs::RowsLemmas::get_rows_of))]
+pub fn row_at<'a>(rows: &'a Rows, place: &[u8]) -> Option<&'a [u8]>
+    ensures { option_map (λ row. row.now) result ≡ map.get (rows_of rows.now.entries) place.now }
+{
+    match rows.get(place) {
+        Some(Some(row)) => Some(row.as_slice()),
+        Some(None) => None,
+        None => None,
+    }
+}
+
+/// The table and the key of a place.
+pub fn split(place: &[u8]) -> (u8, &[u8])
+    requires { IsPlace place.now }
+    ensures place { place.now ≡ result.0 ∷ result.1.now }
+    ensures table { (1 ≤ result.0) × (result.0 ≤ 15) }
+{
+    match place {
+        [tab, key @ ..] => (*tab, key),
+        [] => unreachable!(),
+    }
 }

@@ -1,4 +1,4 @@
-use Rattle.std.proofs.Common.{◌≡◌, ◌≤◌, ℕ, length, take}
+use Rattle.std.proofs.Common.{◌≡◌, ◌≤◌, length, take}
 use Rattle.bdb_keep.specs.Rows.{rows_of, undone, HavePlaces}
 use Rattle.bdb_keep.proofs.rows.roll_back.Given as goal
 

@@ -1,0 +1,156 @@
+-- Lemmas on the first row from a place on.
+use Rattle.std.proofs.Common.{◌≡◌, ℕ, Bool, true, false, ◌&&◌, cond, List, [], ◌∷◌, Option, Some, None, refl, sym, ap, ◌∙◌, subst}
+use Rattle.std.specs.Prelude.{IsTrue, IsSome, is_some, filter, Result, Ok, Err, IfOk, MatchBool}
+use Rattle.std.specs.List.{AllByRecursion}
+use Rattle.std.specs.List.Sorted.{IsStrictlySortedBy}
+use Rattle.std.specs.Map.{keys_of}
+use Rattle.std.specs.Ordering.{is_eq, is_le, nat_cmp, eq_by_cmp, ordering_then, ordering_reverse}
+use mathlib.Core.Bool.{true≢false}
+use Rattle.std.specs.declared.cmp.Ordering.{Ordering}
+use Rattle.std.specs.declared.cmp.Ordering.TheVariants.{Less, Equal, Greater}
+use Rattle.std.specs.declared.vec.Vec.{Vec}
+use Rattle.std.specs.FinMap as finmap
+use Rattle.std.proofs.lemmas.Cmp.{nat_cmp_total, nat_list_cmp_total, eq_by_cmp_equiv, tied_itself}
+use Rattle.std.proofs.lemmas.Map.Entries.{lookup-filter-keys}
+use Rattle.std.proofs.lemmas.Map.Keys.{sorted_head, sorted_tail}
+use Rattle.std.proofs.lemmas.Map.Lookups.{exact_unsigned}
+use Rattle.std.proofs.lemmas.List.Kept.{IsStrictlySortedBy-filter}
+use Rattle.bdb_keep.specs.Tables.{bytes_cmp, IsLeastFrom, NoneFrom}
+use Rattle.bdb_keep.specs.Rows.{row_bytes, row_of, place_at, rows_of}
+use Rattle.bdb_keep.proofs.RowsLemmas.{get_rows_of, same_place, vec_cmp}
+
+-- orders
+not_above : (tab first : ℕ) (r s : Ordering) → nat_cmp tab first ≡ r → nat_cmp first tab ≡ s → IsTrue (is_le r) → IsTrue (is_le s) → tab ≡ first
+not_above tab first Less s e f a b = let g : nat_cmp first tab ≡ Greater = nat_cmp_total.antisymm first tab ∙ ap ordering_reverse e in absurd (true≢false (sym b ∙ ap is_le (sym f ∙ g)))
+not_above tab first Equal s e f a b = exact_unsigned tab first e
+not_above tab first Greater s e f a b = absurd (true≢false (sym a))
+
+head_le : (r s : Ordering) → IsTrue (is_le (ordering_then r s)) → IsTrue (is_le r)
+head_le Less s h = refl
+head_le Equal s h = refl
+head_le Greater s h = h
+
+-- a place between two of a table is of that table
+first_between : (tab first : ℕ) (low rest q : List ℕ) → IsTrue (is_le (bytes_cmp (tab ∷ low) (first ∷ rest))) → IsTrue (is_le (bytes_cmp (first ∷ rest) (tab ∷ q))) → tab ≡ first
+first_between tab first low rest q a b =
+    not_above tab first (nat_cmp tab first) (nat_cmp first tab) refl refl (head_le (nat_cmp tab first) (bytes_cmp low rest) a) (head_le (nat_cmp first tab) (bytes_cmp rest q) b)
+
+-- the places of a table are in the order of its keys
+inside : (tab : ℕ) (a b : List ℕ) → bytes_cmp (tab ∷ a) (tab ∷ b) ≡ bytes_cmp a b
+inside tab a b = ap (λ r. ordering_then r (bytes_cmp a b)) (tied_itself nat_cmp_total tab)
+
+all-filter : {A : Type 0} (p : List ℕ) (ks : List (Vec ℕ A)) → AllByRecursion (λ k. IsTrue (is_le (bytes_cmp p k.items))) (filter (λ k. is_le (bytes_cmp p k.items) && true) ks)
+all-filter p [] = tt
+all-filter p (k ∷ ks) = there (is_le (bytes_cmp p k.items)) refl (all-filter p ks)
+  where
+    there : (b : Bool) → is_le (bytes_cmp p k.items) ≡ b → AllByRecursion (λ k. IsTrue (is_le (bytes_cmp p k.items))) (filter (λ k. is_le (bytes_cmp p k.items) && true) ks)
+        → AllByRecursion (λ k. IsTrue (is_le (bytes_cmp p k.items))) (cond (b && true) (k ∷ filter (λ k. is_le (bytes_cmp p k.items) && true) ks) (filter (λ k. is_le (bytes_cmp p k.items) && true) ks))
+    there true e h = (e, h)
+    there false e h = h
+
+module _ {A B : Type 0} where
+  -- a key below all others is found nowhere among them
+  absent_above : (k : Vec ℕ A) (es : List (Vec ℕ A × Option (Vec ℕ B))) → AllByRecursion (λ y. vec_cmp k y ≡ Less) (keys_of es) → place_at es k.items ≡ None
+  absent_above k [] h = refl
+  absent_above k (e ∷ es) h = ap (λ r. cond (is_eq r) (Some e.1) (place_at es k.items)) h.0 ∙ absent_above k es h.1
+
+  -- what is found is above a key that is below all others
+  found_above : (k : Vec ℕ A) (es : List (Vec ℕ A × Option (Vec ℕ B))) (q : List ℕ) → AllByRecursion (λ y. vec_cmp k y ≡ Less) (keys_of es) → IsSome (place_at es q) → bytes_cmp k.items q ≡ Less
+  found_above k [] q h s = absurd (true≢false (sym s))
+  found_above k (e ∷ es) q h s = there (eq_by_cmp bytes_cmp q e.0.items) refl s (λ s. found_above k es q h.1 s)
+    where
+      there : (b : Bool) → eq_by_cmp bytes_cmp q e.0.items ≡ b → IsSome (cond b (Some e.1) (place_at es q)) → (IsSome (place_at es q) → bytes_cmp k.items q ≡ Less) → bytes_cmp k.items q ≡ Less
+      there true t s more = ap (bytes_cmp k.items) (same_place q e.0.items t) ∙ h.0
+      there false t s more = more s
+
+  -- `rest` has the rows of `es` from a place on, in order
+  pub record IsRest (es rest : List (Vec ℕ A × Option (Vec ℕ B))) (p : List ℕ) : Type 0 where
+    pub same : (q : List ℕ) → IsTrue (is_le (bytes_cmp p q)) → row_of (place_at rest q) ≡ row_of (place_at es q)
+    pub above : AllByRecursion (λ k. IsTrue (is_le (bytes_cmp p k.items))) (keys_of rest)
+    pub sorted : IsStrictlySortedBy (vec_cmp {A = A}) (keys_of rest)
+
+  keys-filter : (f : Vec ℕ A → Bool) (es : List (Vec ℕ A × Option (Vec ℕ B))) → keys_of (filter (λ e. f e.0) es) ≡ filter f (keys_of es)
+  keys-filter f [] = refl
+  keys-filter f (e ∷ es) = there (f e.0) ∙ ap (λ ks. cond (f e.0) (e.0 ∷ ks) ks) (keys-filter f es)
+    where
+      there : (b : Bool) → keys_of (cond b (e ∷ filter (λ e. f e.0) es) (filter (λ e. f e.0) es)) ≡ cond b (e.0 ∷ keys_of (filter (λ e. f e.0) es)) (keys_of (filter (λ e. f e.0) es))
+      there true = refl
+      there false = refl
+
+  -- at the start
+  pub rest-start : (es : List (Vec ℕ A × Option (Vec ℕ B))) (p : List ℕ) → IsStrictlySortedBy (vec_cmp {A = A}) (keys_of es) → IsRest es (filter (λ e. is_le (bytes_cmp p e.0.items) && true) es) p
+  rest-start es p s =
+      let f : Vec ℕ A → Bool = λ k. is_le (bytes_cmp p k.items) && true in
+      record {
+        same = λ q h. ap row_of (lookup-filter-keys (λ k. is_eq (bytes_cmp q k.items)) f true (λ k t. ap (λ x. is_le (bytes_cmp p x) && true) (sym (same_place q k.items t)) ∙ ap (λ b. b && true) h) es);
+        above = subst (λ ks. AllByRecursion (λ k. IsTrue (is_le (bytes_cmp p k.items))) ks) (sym (keys-filter f es)) (all-filter p (keys_of es));
+        sorted = subst (λ ks. IsStrictlySortedBy (vec_cmp {A = A}) ks) (sym (keys-filter f es)) (IsStrictlySortedBy-filter (vec_cmp {A = A}) f (keys_of es) s);
+      }
+
+  -- past an empty place
+  pub rest-skip : (es rest more : List (Vec ℕ A × Option (Vec ℕ B))) (p : List ℕ) (k : Vec ℕ A) (r : Option (Vec ℕ B)) → IsRest es rest p → rest ≡ (k, r) ∷ more → r ≡ None → IsRest es more p
+  rest-skip es rest more p k r w e n =
+      let w' : IsRest es ((k, r) ∷ more) p = subst (λ x. IsRest es x p) e w in
+      let below : AllByRecursion (λ y. vec_cmp k y ≡ Less) (keys_of more) = sorted_head (vec_cmp {A = A}) k (keys_of more) w'.sorted in
+      record { same = λ q h. there q (eq_by_cmp bytes_cmp q k.items) refl below ∙ w'.same q h; above = w'.above.1; sorted = sorted_tail (vec_cmp {A = A}) k (keys_of more) w'.sorted }
+    where
+      there : (q : List ℕ) (b : Bool) → eq_by_cmp bytes_cmp q k.items ≡ b → AllByRecursion (λ y. vec_cmp k y ≡ Less) (keys_of more) → row_of (place_at more q) ≡ row_of (cond (eq_by_cmp bytes_cmp q k.items) (Some r) (place_at more q))
+      there q true t h = ap (λ x. row_of (place_at more x)) (same_place q k.items t) ∙ ap row_of (absent_above k more h) ∙ ap row_bytes (sym n) ∙ ap (λ b. row_of (cond b (Some r) (place_at more q))) (sym t)
+      there q false t h = ap (λ b. row_of (cond b (Some r) (place_at more q))) (sym t)
+
+  -- a row that is there is not below the first
+  first-below : (more : List (Vec ℕ A × Option (Vec ℕ B))) (k : Vec ℕ A) (r : Option (Vec ℕ B)) (q : List ℕ) → AllByRecursion (λ y. vec_cmp k y ≡ Less) (keys_of more) → IsSome (row_of (place_at ((k, r) ∷ more) q)) → IsTrue (is_le (bytes_cmp k.items q))
+  first-below more k r q h s = there (eq_by_cmp bytes_cmp q k.items) refl s
+    where
+      some : (x : Option (Option (Vec ℕ B))) → IsSome (row_of x) → IsSome x
+      some None s = s
+      some (Some y) s = refl
+
+      there : (b : Bool) → eq_by_cmp bytes_cmp q k.items ≡ b → IsSome (row_of (cond b (Some r) (place_at more q))) → IsTrue (is_le (bytes_cmp k.items q))
+      there true t s = ap (λ x. is_le (bytes_cmp k.items x)) (same_place q k.items t) ∙ ap is_le (tied_itself nat_list_cmp_total k.items)
+      there false t s = ap is_le (found_above k more q h (some (place_at more q) s))
+
+  -- a row that stands in the table is the least
+  pub rest-found : (es rest more : List (Vec ℕ A × Option (Vec ℕ B))) (tab : ℕ) (low key row : List ℕ) (k : Vec ℕ A) (bytes : Vec ℕ B) → IsRest es rest (tab ∷ low) → rest ≡ (k, Some bytes) ∷ more → k.items ≡ tab ∷ key → row ≡ bytes.items → IsLeastFrom (rows_of es) tab low key row
+  rest-found es rest more tab low key row k bytes w e i b =
+      let w' : IsRest es ((k, Some bytes) ∷ more) (tab ∷ low) = subst (λ x. IsRest es x (tab ∷ low)) e w in
+      let at : IsTrue (is_le (bytes_cmp (tab ∷ low) (tab ∷ key))) = subst (λ x. IsTrue (is_le (bytes_cmp (tab ∷ low) x))) i w'.above.0 in
+      let below : AllByRecursion (λ y. vec_cmp k y ≡ Less) (keys_of more) = sorted_head (vec_cmp {A = A}) k (keys_of more) w'.sorted in
+      record {
+        found = get_rows_of es (tab ∷ key) ∙ sym (w'.same (tab ∷ key) at)
+            ∙ ap (λ b. row_of (cond b (Some (Some bytes)) (place_at more (tab ∷ key)))) (ap (λ x. eq_by_cmp bytes_cmp (tab ∷ key) x) i ∙ (eq_by_cmp_equiv nat_list_cmp_total).refl (tab ∷ key)) ∙ ap Some (sym b);
+        not_below = ap is_le (sym (inside tab low key)) ∙ at;
+        least = λ q h s. ap is_le (sym (inside tab key q)) ∙ ap (λ x. is_le (bytes_cmp x (tab ∷ q))) (sym i)
+            ∙ first-below more k (Some bytes) (tab ∷ q) below (ap is_some (w'.same (tab ∷ q) (ap is_le (inside tab low q) ∙ h) ∙ sym (get_rows_of es (tab ∷ q))) ∙ s);
+      }
+
+  -- a first row that stands in another table leaves none in this
+  pub rest-other : (es rest more : List (Vec ℕ A × Option (Vec ℕ B))) (tab : ℕ) (low : List ℕ) (k : Vec ℕ A) (bytes : Vec ℕ B) → IsRest es rest (tab ∷ low) → rest ≡ (k, Some bytes) ∷ more → ((q : List ℕ) → k.items ≡ tab ∷ q → ⊥) → NoneFrom (rows_of es) tab low
+  rest-other es rest more tab low k bytes w e other q h =
+      let w' : IsRest es ((k, Some bytes) ∷ more) (tab ∷ low) = subst (λ x. IsRest es x (tab ∷ low)) e w in
+      let below : AllByRecursion (λ y. vec_cmp k y ≡ Less) (keys_of more) = sorted_head (vec_cmp {A = A}) k (keys_of more) w'.sorted in
+      there (finmap.get (rows_of es) (tab ∷ q)) refl w'.above.0
+      (λ s. first-below more k (Some bytes) (tab ∷ q) below (ap is_some (w'.same (tab ∷ q) (ap is_le (inside tab low q) ∙ h) ∙ sym (get_rows_of es (tab ∷ q))) ∙ s))
+    where
+      apart : (ks : List ℕ) → k.items ≡ ks → IsTrue (is_le (bytes_cmp (tab ∷ low) ks)) → IsTrue (is_le (bytes_cmp ks (tab ∷ q))) → ⊥
+      apart [] e a b = true≢false (sym a)
+      apart (first ∷ ks) e a b = other ks (e ∙ ap (λ x. x ∷ ks) (sym (first_between tab first low ks q a b)))
+
+      there : (x : Option (List ℕ)) → finmap.get (rows_of es) (tab ∷ q) ≡ x → IsTrue (is_le (bytes_cmp (tab ∷ low) k.items)) → (IsSome (finmap.get (rows_of es) (tab ∷ q)) → IsTrue (is_le (bytes_cmp k.items (tab ∷ q)))) → finmap.get (rows_of es) (tab ∷ q) ≡ None
+      there None e a b = e
+      there (Some r) e a b = absurd (apart k.items refl a (b (ap is_some e)))
+
+  -- where no row is left, there is none
+  pub rest-end : (es rest : List (Vec ℕ A × Option (Vec ℕ B))) (tab : ℕ) (low : List ℕ) → IsRest es rest (tab ∷ low) → rest ≡ [] → NoneFrom (rows_of es) tab low
+  rest-end es rest tab low w e q h = get_rows_of es (tab ∷ q) ∙ sym (w.same (tab ∷ q) (ap is_le (inside tab low q) ∙ h)) ∙ ap (λ x. row_of (place_at x (tab ∷ q))) e
+
+  -- what is found, by what was given
+  pub rest-given : {E : Type 0} (es rest more : List (Vec ℕ A × Option (Vec ℕ B))) (tab : ℕ) (low key row place given : List ℕ) (k : Vec ℕ A) (r : Option (Vec ℕ B)) (bytes : Vec ℕ B) (result : Result Bool E)
+      → IsRest es rest (tab ∷ low) → rest ≡ (k, r) ∷ more → r ≡ Some bytes → place ≡ k.items → given ≡ bytes.items
+      → IfOk result (λ found. found ≡ true → place ≡ tab ∷ key) → IfOk result (λ found. found ≡ true → row ≡ given) → IfOk result (λ found. found ≡ false → (q : List ℕ) → place ≡ tab ∷ q → ⊥)
+      → IfOk result (λ found. MatchBool found (IsLeastFrom (rows_of es) tab low key row) (NoneFrom (rows_of es) tab low))
+  rest-given es rest more tab low key row place given k r bytes (Err e) w h n p g a b c = tt
+  rest-given es rest more tab low key row place given k r bytes (Ok true) w h n p g a b c =
+      rest-found es rest more tab low key row k bytes w (h ∙ ap (λ x. (k, x) ∷ more) n) (sym p ∙ a refl) (b refl ∙ g)
+  rest-given es rest more tab low key row place given k r bytes (Ok false) w h n p g a b c =
+      rest-other es rest more tab low k bytes w (h ∙ ap (λ x. (k, x) ∷ more) n) (λ q e. c refl q (p ∙ e))

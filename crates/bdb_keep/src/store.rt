@@ -1,0 +1,178 @@
+// The rows in memory with an undo list.
+ghost use Rattle.std.specs.Prelude.{◌≡◌, ◌≤◌, ◌++◌, ◌∷◌, ◌<◌, [], Some, None, IfOk, OnOk, OnErr, IfSome, MatchBool, IsTrue, ◌↔◌, is_some, false, length, slice_get, if◌then◌else◌};
+ghost use Rattle.std.specs.Option.{option_map};
+ghost use Rattle.std.specs.FinMap as map;
+ghost use Rattle.bdb_keep.specs.Held.{IsPlace, written};
+ghost use Rattle.bdb_keep.specs.Tables.{IsLeastFrom, NoneFrom};
+
+use crate::rows::{
+    Change, Rows, fill, first_from, lies_within, put_row, read, roll_back, row_at, set_place,
+    settle, split, take_row, unset_row,
+};
+use std::alloc::{AllocError, Global};
+use std::collections::BTreeMap;
+use std::marker::Model;
+
+/// Rows in memory that remember how they were when they were last settled. The room to undo a change is taken before
+/// the change, so neither to settle the changes nor to undo them takes memory. A keeper is made of one.
+#[derive(Drop)]
+pub struct Store {
+    alloc: Global,
+    rows: Rows,
+    changes: Vec<Change>,
+    place: Vec<u8>,
+}
+
+impl Model for Store {
+    ghost use Rattle.bdb_keep.specs.Held.{Held, coded_held};
+
+    ghost Value = { Held };
+
+    ghost coded = { coded_held };
+
+    ghost use Rattle.bdb_keep.specs.Rows.{rows_of, undone, places_of, HavePlaces};
+
+    ghost view = { λ s. record { kept = rows_of s.rows.entries; last = undone s.changes.items (rows_of s.rows.entries); changes = places_of s.changes.items } };
+
+    ghost invariant = { λ s. HavePlaces s.changes.items s.rows.entries };
+}
+
+impl Store {
+    /// A store with no rows. It takes no memory.
+    pub fn new(alloc: Global) -> Self
+        ensures { result ≡ record { kept = map.empty; last = map.empty; changes = [] } }
+    {
+        Store {
+            alloc,
+            rows: BTreeMap::new(alloc),
+            changes: Vec::new(alloc),
+            place: Vec::new(alloc),
+        }
+    }
+
+    /// Reads the row at a key into `row`.
+    pub fn get(&mut self, tab: u8, key: &[u8], row: &mut Vec<u8>) -> Result<bool, AllocError>
+        ensures found { IfOk result (λ found. map.get self.old.kept (tab ∷ key.now) ≡ (if found then Some row.new.items else None)) }
+        ensures empty { IfOk result (λ found. found ≡ false → row.new.items ≡ []) }
+        ensures same { self.new ≡ self.old }
+    {
+        fill(&mut self.place, tab, key)?;
+        read(&self.rows, &self.place, row)
+    }
+
+    /// Reads the least key that isn't below `low`, and its row.
+    pub fn next(
+        &self,
+        tab: u8,
+        low: &[u8],
+        key: &mut Vec<u8>,
+        row: &mut Vec<u8>,
+    ) -> Result<bool, AllocError>
+        ensures found { IfOk result (λ found. MatchBool found
+            (IsLeastFrom self.now.kept tab low.now key.new.items row.new.items)
+            (NoneFrom self.now.kept tab low.now)) }
+        ensures empty { IfOk result (λ found. found ≡ false → (key.new.items ≡ []) × (row.new.items ≡ [])) }
+    {
+        first_from(&self.rows, tab, low, key, row)
+    }
+
+    /// Puts a row at a key.
+    pub fn put(&mut self, tab: u8, key: &[u8], row: &[u8]) -> Result<(), AllocError>
+        requires table { (1 ≤ tab) × (tab ≤ 15) }
+        ensures kept { OnOk result (self.new.kept ≡ map.insert self.old.kept (tab ∷ key.now) row.now) }
+        ensures last { self.new.last ≡ self.old.last }
+        ensures changes { OnOk result (self.new.changes ≡ self.old.changes ++ (tab ∷ key.now) ∷ []) }
+        ensures err { OnErr result (self.new ≡ self.old) }
+    {
+        fill(&mut self.place, tab, key)?;
+        put_row(
+            self.alloc,
+            &mut self.rows,
+            &mut self.changes,
+            &self.place,
+            row,
+        )
+    }
+
+    /// Takes the row at a key away. The answer tells whether it was there.
+    pub fn remove(&mut self, tab: u8, key: &[u8]) -> Result<bool, AllocError>
+        requires table { (1 ≤ tab) × (tab ≤ 15) }
+        ensures found { IfOk result (λ found. found ≡ is_some (map.get self.old.kept (tab ∷ key.now))) }
+        ensures kept { OnOk result (self.new.kept ≡ map.remove self.old.kept (tab ∷ key.now)) }
+        ensures last { self.new.last ≡ self.old.last }
+        ensures changes { IfOk result (λ found. self.new.changes ≡ (if found then self.old.changes ++ (tab ∷ key.now) ∷ [] else self.old.changes)) }
+        ensures err { OnErr result (self.new ≡ self.old) }
+    {
+        fill(&mut self.place, tab, key)?;
+        take_row(self.alloc, &mut self.rows, &mut self.changes, &self.place)
+    }
+
+    /// Settles the changes: the rows are now those last settled. It takes no memory.
+    pub fn settle(&mut self)
+        ensures { self.new ≡ record { kept = self.old.kept; last = self.old.kept; changes = [] } }
+    {
+        settle(&mut self.rows, &mut self.changes);
+    }
+
+    /// Undoes the changes: the rows are those last settled. It takes no memory.
+    pub fn undo(&mut self)
+        ensures { self.new ≡ record { kept = self.old.last; last = self.old.last; changes = [] } }
+    {
+        roll_back(&mut self.rows, &mut self.changes);
+        settle(&mut self.rows, &mut self.changes);
+    }
+
+    /// Settles the changes, and puts a row as if it had stood there.
+    pub fn preset(&mut self, tab: u8, key: &[u8], row: &[u8]) -> Result<(), AllocError>
+        ensures ok { OnOk result (let t = map.insert self.old.kept (tab ∷ key.now) row.now in self.new ≡ record { kept = t; last = t; changes = [] }) }
+        ensures err { OnErr result (self.new ≡ record { kept = self.old.kept; last = self.old.kept; changes = [] }) }
+    {
+        settle(&mut self.rows, &mut self.changes);
+        fill(&mut self.place, tab, key)?;
+        let copy = Vec::from_slice(self.alloc, row)?;
+        set_place(self.alloc, &mut self.rows, &self.place, Some(copy))?;
+        Ok(())
+    }
+
+    /// Settles the changes, and takes a row away as if it had not stood there. It takes no memory, and looks at each
+    /// place.
+    pub fn unset(&mut self, tab: u8, key: &[u8])
+        ensures { let t = map.remove self.old.kept (tab ∷ key.now) in self.new ≡ record { kept = t; last = t; changes = [] } }
+    {
+        settle(&mut self.rows, &mut self.changes);
+        unset_row(&mut self.rows, tab, key);
+    }
+
+    /// Whether both stores have the same rows. It takes no memory.
+    pub fn same_rows(&self, other: &Self) -> bool
+        ensures { IsTrue result ↔ (self.now.kept ≡ other.now.kept) }
+    {
+        lies_within(&self.rows, &other.rows) && lies_within(&other.rows, &self.rows)
+    }
+
+    /// How many changes are not settled. To write the rows that are now at their places over the rows last settled
+    /// gives the rows.
+    pub fn change_count(&self) -> usize
+        ensures count { result ≡ length self.now.changes }
+        ensures written { written self.now.changes self.now.kept self.now.last ≡ self.now.kept }
+    {
+        self.changes.len()
+    }
+
+    /// Where a change was made: a table and a key.
+    pub fn changed_place(&self, at: usize) -> (u8, &[u8])
+        requires { at < length self.now.changes }
+        ensures place { slice_get self.now.changes at ≡ Some (result.0 ∷ result.1.now) }
+        ensures table { (1 ≤ result.0) × (result.0 ≤ 15) }
+    {
+        split(self.changes[at].place.as_slice())
+    }
+
+    /// The row that is now at the place of a change; none where it was taken away.
+    pub fn changed_row(&self, at: usize) -> Option<&[u8]>
+        requires { at < length self.now.changes }
+        ensures { IfSome (slice_get self.now.changes at) (λ place. option_map (λ row. row.now) result ≡ map.get self.now.kept place) }
+    {
+        row_at(&self.rows, self.changes[at].place.as_slice())
+    }
+}
