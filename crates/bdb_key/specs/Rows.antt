@@ -18,13 +18,21 @@ abbrev pub kind_bytes : Kind → List ℕ
 kind_bytes kinds.Int = int_bytes (pos 0)
 kind_bytes kinds.Text = int_bytes (pos 1)
 
+-- every kind has a spelling
+abbrev pub IsAnyKind : Kind → Type 0
+IsAnyKind kind = Unit {0}
+
 -- a column: its name and its kind
 abbrev pub col_bytes : ColDef → List ℕ
 col_bytes col = text_bytes col.name ++ kind_bytes col.kind
 
+-- columns, one after the other
+abbrev pub cols_bytes : List ColDef → List ℕ
+cols_bytes cols = flat_map col_bytes cols
+
 -- a relation: its name, then its columns
 abbrev pub rel_bytes : RelDef → List ℕ
-rel_bytes def = text_bytes def.name ++ flat_map col_bytes def.cols
+rel_bytes def = text_bytes def.name ++ cols_bytes def.cols
 
 -- a tuple: its relation, then its values
 abbrev pub tuple_bytes : Tuple → List ℕ
@@ -34,6 +42,14 @@ tuple_bytes t = num_bytes t.rel ++ values_bytes t.vals
 abbrev pub sign_number : Sign → ℕ
 sign_number signs.Plus = 0
 sign_number signs.Minus = 1
+
+-- a sign as a row
+abbrev pub sign_bytes : Sign → List ℕ
+sign_bytes sign = num_bytes (sign_number sign)
+
+-- every sign has a spelling
+abbrev pub IsAnySign : Sign → Type 0
+IsAnySign sign = Unit {0}
 
 -- the number of a sign and a mark: 0 plus inherited, 1 plus explicit, 2 minus inherited, 3 minus explicit
 abbrev pub mark_number : Sign → Bool → ℕ
@@ -53,13 +69,17 @@ row_bytes (rows.Depth depth) = num_bytes depth
 row_bytes (rows.Link wid) = num_bytes wid
 row_bytes rows.Empty = []
 row_bytes (rows.Val sign explicit) = num_bytes (mark_number sign explicit)
-row_bytes (rows.Plain sign) = num_bytes (sign_number sign)
+row_bytes (rows.Plain sign) = sign_bytes sign
+
+-- a column with a plain name
+abbrev pub IsCol : ColDef → Type 0
+IsCol col = IsPlain col.name
 
 -- a relation whose names are plain, with a column
 pub record IsRelRow (def : RelDef) : Type 0 where
   pub name : IsPlain def.name
   pub some : 0 < length def.cols
-  pub names : AllByRecursion (λ col. IsPlain col.name) def.cols
+  pub names : AllByRecursion IsCol def.cols
 
 -- a tuple of plain values, with a value
 pub record IsTupleRow (t : Tuple) : Type 0 where
