@@ -1,25 +1,29 @@
 -- What is read from the front of bytes is all that stands there.
-use Rattle.std.proofs.Common.{◌≡◌, ℕ, pos, lit<, zero, suc, ◌+◌, ◌<◌, ◌≤◌, Bool, true, false, not, eqb, leb, length, List, [], ◌∷◌, ◌++◌, refl, sym, ap, subst, ◌∙◌, arith}
+use Rattle.std.proofs.Common.{◌≡◌, ℕ, pos, lit<, suc, ◌+◌, ◌<◌, true, false, not, length, List, [], ◌∷◌, ◌++◌, refl, sym, ap, subst, ◌∙◌, arith}
 use Rattle.std.specs.Prelude.{nat_le, nat_eq}
 use Rattle.std.specs.Ordering.{nat_cmp}
 use Rattle.std.specs.Cmp.Lexicographic.{slice_cmp}
 use Rattle.std.specs.List.{list_all, flat_map, AllByRecursion}
 use Rattle.std.specs.Str.{IsUtf8, is_utf8}
-use Rattle.std.specs.FinMap.{nat_cmp-IsAntisymmetric, slice_cmp-IsAntisymmetric}
-use Rattle.std.proofs.lemmas.Bool.{and_parts, and_from, true_from_ne_false, false_from_ne_true, false≢true, cases_Bool}
+use Rattle.std.specs.FinMap.{nat_cmp-IsAntisymmetric}
+use Rattle.std.proofs.lemmas.Bool.{and_parts, and_from, false_from_ne_true, false≢true}
 use Rattle.std.proofs.lemmas.Bool.Decides.{nat_tests}
 use Rattle.std.proofs.lemmas.List.{append_assoc, append-nil, flat_map_more, length_push}
 use Rattle.std.proofs.lemmas.Str.{IsUtf8-from_is_utf8, is_utf8-from_IsUtf8}
 use Rattle.bdb_base.specs.Alternation.{alternates}
-use Rattle.bdb_base.specs.Bases.{is_plain, is_clean}
+use Rattle.bdb_base.specs.Bases.{is_plain}
 use Rattle.bdb_base.specs.Order.{value_cmp, path_cmp}
 use Rattle.bdb_base.specs.declared.kinds.Value.{Value}
 use Rattle.bdb_base.specs.declared.kinds.Value.TheVariants.{Int, Text}
 use Rattle.bdb_base.specs.declared.kinds.Kind.{Kind}
 use Rattle.bdb_base.specs.declared.kinds.Kind.TheVariants as kinds
 use Rattle.bdb_base.specs.declared.kinds.ColDef.{ColDef}
-use Rattle.bdb_key.specs.Rows.{IsCol, kind_bytes, col_bytes}
-use Rattle.bdb_key.specs.Bytes.{num_bytes, text_bytes, value_bytes, values_bytes, path_bytes}
+use Rattle.std.specs.Prelude.{FitsSigned}
+use Rattle.std.specs.Int.{w64}
+use Rattle.bdb_base.specs.declared.kinds.Sign.TheVariants as signs
+use Rattle.bdb_base.specs.declared.kinds.RelDef.{RelDef}
+use Rattle.bdb_key.specs.Rows.{IsAnyKind, IsCol, IsAnySign, IsRelRow, IsTupleRow, tuple_bytes, kind_bytes, col_bytes, cols_bytes, rel_bytes, sign_bytes}
+use Rattle.bdb_key.specs.Bytes.{num_bytes, int_bytes, text_bytes, value_bytes, values_bytes, path_bytes}
 use Rattle.bdb_key.specs.Grammar.{IsNum, IsPlain, IsPlainValue, ArePlain, IsKeyPath}
 use Rattle.bdb_key.specs.Reading.{Leads, NoneLeads, Reads, NoneReads, AreNums, nums_bytes, HasNoEnd, EndsAt}
 use Rattle.bdb_key.proofs.Compared.{nums, users, values, paths, values_tie, paths_tie, printing, IsPrinting}
@@ -52,7 +56,7 @@ pub nums_push : (k user : ℕ) (bytes rest more found : List ℕ) → Leads (Are
     → Leads (AreNums (k + 1)) nums_bytes bytes (found ++ user ∷ []) more
 nums_push k user bytes rest more found h u = record {
   fits = record { many = length_push found user ∙ ap (λ n. n + 1) h.fits.many; each = all_push IsNum found user h.fits.each u.fits };
-  split = seq_push num_bytes bytes rest more found user h.split u.split
+  split = seq_push num_bytes bytes rest more found user h.split u.split;
 }
 
 pub nums_next : (k user : ℕ) (rest more left r : List ℕ) → Leads (AreNums (suc k)) nums_bytes rest left r → Leads IsNum num_bytes rest user more
@@ -192,3 +196,55 @@ utf8_true = is_utf8-from_IsUtf8
 
 pub utf8_false : (text : List ℕ) → ¬ (IsUtf8 text) → is_utf8 text ≡ false
 utf8_false text other = false_from_ne_true (is_utf8 text) (λ e. other (IsUtf8-from_is_utf8 text e))
+
+-- ---- rows
+
+pub kind_none : (bytes : List ℕ) → NoneLeads (FitsSigned w64) int_bytes bytes → NoneLeads IsAnyKind kind_bytes bytes
+kind_none bytes none kinds.Int rest h = none (pos 0) rest (record { fits = record { sfits = lit< tt }; split = h.split })
+kind_none bytes none kinds.Text rest h = none (pos 1) rest (record { fits = record { sfits = lit< tt }; split = h.split })
+
+pub sign_none : (bytes : List ℕ) → NoneReads IsNum num_bytes bytes → NoneReads IsAnySign sign_bytes bytes
+sign_none bytes none signs.Plus h = none 0 (record { fits = lit< tt; spelled = h.spelled })
+sign_none bytes none signs.Minus h = none 1 (record { fits = lit< tt; spelled = h.spelled })
+
+module _ (bytes rest name : List ℕ) (t : Leads IsPlain text_bytes bytes name rest) where
+  pub col_none : NoneLeads IsAnyKind kind_bytes rest → NoneLeads IsCol col_bytes bytes
+  col_none none col r h =
+      let form = text_form col.name name (kind_bytes col.kind ++ r) rest h.fits t.fits (sym (append_assoc (text_bytes col.name) (kind_bytes col.kind) r) ∙ sym h.split ∙ t.split) in
+      none col.kind r (record { fits = tt; split = sym form.1 })
+
+  pub text_more : 0 < length rest → NoneReads IsPlain text_bytes bytes
+  text_more some text h =
+      let form = text_form text name [] rest h.fits t.fits (append-nil (text_bytes text) ∙ h.spelled ∙ t.split) in
+      let e = ap length form.1 in
+      omega arith
+
+  rel_rest : (def : RelDef) → Reads IsRelRow rel_bytes bytes def → Reads (AllByRecursion IsCol) cols_bytes rest def.cols
+  rel_rest def h =
+      let form = text_form def.name name (cols_bytes def.cols) rest h.fits.name t.fits (h.spelled ∙ t.split) in
+      record { fits = h.fits.names; spelled = form.1 }
+
+  pub rel_none : NoneReads (AllByRecursion IsCol) cols_bytes rest → NoneReads IsRelRow rel_bytes bytes
+  rel_none none def h = none def.cols (rel_rest def h)
+
+  pub rel_no_cols : (cols : List ColDef) → Reads (AllByRecursion IsCol) cols_bytes rest cols → length cols ≡ 0 → NoneReads IsRelRow rel_bytes bytes
+  rel_no_cols [] r e def h = by def.cols h.fits.some ((rel_rest def h).spelled ∙ sym r.spelled)
+    where
+      by : (others : List ColDef) → 0 < length others → cols_bytes others ≡ [] → ⊥
+      by [] some same = omega arith
+      by (o ∷ others) some same = col_some o (cols_bytes others) (sym same)
+  rel_no_cols (c ∷ cols) r e def h = omega arith
+
+pub text_reads_none : (bytes : List ℕ) → NoneLeads IsPlain text_bytes bytes → NoneReads IsPlain text_bytes bytes
+text_reads_none bytes none text h = none text [] (record { fits = h.fits; split = sym h.spelled ∙ sym (append-nil (text_bytes text)) })
+
+pub tuple_no_vals : (bytes rest : List ℕ) (rel : ℕ) (vals : List Value) → Leads IsNum num_bytes bytes rel rest → Reads ArePlain values_bytes rest vals
+    → length vals ≡ 0 → NoneReads IsTupleRow tuple_bytes bytes
+tuple_no_vals bytes rest rel [] n r e t h =
+    let form = num_form t.rel rel (values_bytes t.vals) rest h.fits.rel n.fits (h.spelled ∙ n.split) in
+    by t.vals h.fits.some (form.1 ∙ sym r.spelled)
+  where
+    by : (others : List Value) → 0 < length others → values_bytes others ≡ [] → ⊥
+    by [] some same = omega arith
+    by (o ∷ others) some same = value_some o (values_bytes others) (sym same)
+tuple_no_vals bytes rest rel (v ∷ vals) n r e t h = omega arith

@@ -1,5 +1,5 @@
 -- What reading bytes back finds, over any spelling of any things.
-use Rattle.std.specs.Prelude.{◌≡◌, ℕ, true, not, nat_eq, List, [], ◌∷◌, ◌++◌, length}
+use Rattle.std.specs.Prelude.{◌≡◌, ℕ, true, not, nat_eq, List, ◌∷◌, ◌++◌, length}
 use Rattle.std.specs.List.{list_all, flat_map, AllByRecursion}
 use Rattle.bdb_key.specs.Bytes.{num_bytes}
 use Rattle.bdb_key.specs.Grammar.{IsNum}

@@ -2,15 +2,14 @@
 ghost use Rattle.std.specs.Prelude.{◌≡◌, IfOk, MatchOption};
 ghost use Rattle.std.specs.Result.{IsErrOf};
 ghost use Rattle.std.specs.List.{AllByRecursion};
-ghost use Rattle.bdb_key.specs.Bytes.{num_bytes};
 ghost use Rattle.bdb_key.specs.Grammar.{IsPlain};
 ghost use Rattle.bdb_key.specs.Bytes.{text_bytes};
 ghost use Rattle.bdb_key.specs.Reading.{Leads, NoneLeads, Reads, NoneReads};
-ghost use Rattle.bdb_key.specs.Rows.{IsAnyKind, kind_bytes, IsCol, col_bytes, cols_bytes, IsRelRow, rel_bytes, IsAnySign, sign_bytes};
+ghost use Rattle.bdb_key.specs.Rows.{IsAnyKind, kind_bytes, IsCol, col_bytes, cols_bytes, IsRelRow, rel_bytes, IsTupleRow, tuple_bytes, IsAnySign, sign_bytes};
 
 use crate::part::KeyError;
-use crate::read::{int_of, only_num, text_of};
-use bdb_base::{ColDef, Kind, List, RelDef, Sign, Txt};
+use crate::read::{int_of, num_of, only_num, text_of, values_of};
+use bdb_base::{ColDef, Kind, List, RelDef, Sign, Tuple, Txt};
 use std::alloc::Global;
 
 /// The relation that these bytes are. `NotAKey` comes exactly where they are no relation.
@@ -24,6 +23,21 @@ pub fn rel_of(alloc: Global, bytes: &[u8]) -> Result<RelDef, KeyError>
         return Err(KeyError::NotAKey);
     }
     Ok(RelDef { name, cols })
+}
+
+/// The tuple that these bytes are. `NotAKey` comes exactly where they are no tuple.
+pub fn tuple_of(alloc: Global, bytes: &[u8]) -> Result<Tuple, KeyError>
+    ensures ok { IfOk result (Reads IsTupleRow tuple_bytes bytes.now) }
+    ensures none { IsErrOf result KeyError.NotAKey → NoneReads IsTupleRow tuple_bytes bytes.now }
+{
+    let Some((rel, rest)) = num_of(bytes) else {
+        return Err(KeyError::NotAKey);
+    };
+    let vals = values_of(alloc, rest)?;
+    if vals.is_empty() {
+        return Err(KeyError::NotAKey);
+    }
+    Ok(Tuple { rel, vals })
 }
 
 /// The text that these bytes are. `NotAKey` comes exactly where they are no plain text.

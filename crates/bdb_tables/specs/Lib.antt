@@ -1,3 +1,4 @@
 pub mod Codec
 pub mod Grammar
 pub mod InUse
+pub mod InUseLaws

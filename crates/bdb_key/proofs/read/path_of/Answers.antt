@@ -1,4 +1,4 @@
-use Rattle.std.proofs.Common.{◌≡◌, Err, ap}
+use Rattle.std.proofs.Common.{Err, ap}
 use Rattle.bdb_key.proofs.Readings.{no_path}
 use Rattle.bdb_key.proofs.read.path_of.Goals as goal
 

@@ -1,4 +1,4 @@
-use Rattle.std.proofs.Common.{◌≡◌, ◌++◌, ℕ, List, length}
+use Rattle.std.proofs.Common.{◌≡◌, ◌++◌, List, length}
 use Rattle.bdb_base.specs.declared.kinds.Value.{Value}
 use Rattle.bdb_key.specs.Bytes.{values_bytes}
 use Rattle.bdb_key.specs.Grammar.{ArePlain}
@@ -9,7 +9,7 @@ abbrev pub invariant-loop-rest : goal.invariant-loop-rest
 invariant-loop-rest l = record {
   plain : ArePlain l.values.items;
   done : l.bytes ≡ values_bytes l.values.items ++ l.rest;
-  only : (values : List Value) → Reads ArePlain values_bytes l.bytes values → (left : List Value) × Reads ArePlain values_bytes l.rest left
+  only : (values : List Value) → Reads ArePlain values_bytes l.bytes values → (left : List Value) × Reads ArePlain values_bytes l.rest left;
 }
 
 abbrev pub decreases-loop-rest : goal.decreases-loop-rest
