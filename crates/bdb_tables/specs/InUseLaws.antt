@@ -14,7 +14,7 @@ pub plain_in_order : KeepsOrder plain_codec
 plain_in_order a b fa fb = plain_keys_in_order a.0 b.0 a.1 b.1 fa.0 fb.0 fa.1 fb.1
 
 pub meta_key : HasOneKey meta_codec
-meta_key tt tt fa fb e = refl
+meta_key a b fa fb e = refl
 
 pub user_key : HasOneKey user_codec
 user_key = one_num

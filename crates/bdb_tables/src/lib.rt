@@ -3,6 +3,8 @@
 
 mod access;
 mod tab;
+mod tabs;
 
 pub use access::{after, drop_row, get, next, put};
 pub use tab::{Tab, TabError};
+pub use tabs::{MetaTab, PlainTab, RelTab, UserTab};

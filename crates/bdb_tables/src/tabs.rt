@@ -1,13 +1,14 @@
 // The tables in use.
-ghost use Rattle.std.specs.Prelude.{ℕ};
+ghost use Rattle.std.specs.Prelude.{ℕ, refl};
+ghost use Rattle.std.proofs.Common.{rules};
 ghost use Rattle.bdb_tables.specs.InUse.{meta_codec, user_codec, rel_codec, plain_codec};
 ghost use Rattle.bdb_tables.specs.InUseLaws.{users_in_order, rels_in_order, plain_in_order, meta_key, user_key, rel_key, plain_key, meta_row, user_row, rel_row, plain_row};
 
 use crate::tab::Tab;
 use bdb_base::{Path, RelDef, Sign, Tuple, Txt};
 use bdb_key::{
-    num_of, only_num, only_text, path_of, put_num, put_path, put_rel, put_sign, put_text,
-    put_tuple, rel_of, sign_of, tuple_of, KeyError, RowError,
+    KeyError, RowError, num_of, only_num, only_text, path_of, put_num, put_path, put_rel, put_sign,
+    put_text, put_tuple, rel_of, sign_of, tuple_of,
 };
 use std::alloc::{AllocError, Global};
 
@@ -25,6 +26,7 @@ pub struct PlainTab;
 
 impl Tab for MetaTab {
     type Key = ();
+
     type Row = u32;
 
     const NUMBER: u8 = 1;
@@ -71,6 +73,7 @@ impl Tab for MetaTab {
 
 impl Tab for UserTab {
     type Key = u32;
+
     type Row = Txt;
 
     const NUMBER: u8 = 2;
@@ -117,6 +120,7 @@ impl Tab for UserTab {
 
 impl Tab for RelTab {
     type Key = u32;
+
     type Row = RelDef;
 
     const NUMBER: u8 = 3;
@@ -163,6 +167,7 @@ impl Tab for RelTab {
 
 impl Tab for PlainTab {
     type Key = (Path, Tuple);
+
     type Row = Sign;
 
     const NUMBER: u8 = 12;
