@@ -1,8 +1,8 @@
 -- Keys of the table of statements.
-use Rattle.std.proofs.Common.{◌≡◌, ℕ, List, ◌++◌, sym, ◌∙◌}
+use Rattle.std.proofs.Common.{ℕ, List, ◌∙◌}
 use Rattle.bdb_key.specs.Bytes.{path_bytes}
 use Rattle.bdb_key.specs.Grammar.{IsKeyPath}
-use Rattle.bdb_key.specs.Reading.{Leads, Reads, NoneReads}
+use Rattle.bdb_key.specs.Reading.{Leads, NoneReads}
 use Rattle.bdb_key.specs.Rows.{IsTupleRow, tuple_bytes}
 use Rattle.bdb_key.proofs.Readings.{path_form}
 use Rattle.bdb_tables.specs.InUse.{plain_codec}
