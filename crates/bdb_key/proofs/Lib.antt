@@ -1,5 +1,6 @@
 pub mod Alone
 pub mod Compared
 pub mod Forms
+pub mod Keys
 pub mod Numbers
 pub mod Readings

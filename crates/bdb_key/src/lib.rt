@@ -2,6 +2,7 @@
 //! their parts.
 #![tactic(auto)]
 
+mod laws;
 mod part;
 mod read;
 mod row;
@@ -10,6 +11,7 @@ mod row_write;
 mod take;
 mod write;
 
+pub use laws::{keys_have_one_spelling, keys_keep_order};
 pub use part::{KeyError, Part, RowError, Slot};
 pub use read::{num_of, only_num, path_of, text_of, value_of, values_of};
 pub use row::TabRow;
