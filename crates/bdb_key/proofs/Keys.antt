@@ -13,7 +13,7 @@ use Rattle.bdb_key.specs.declared.part.Part.TheVariants as parts
 use Rattle.bdb_key.specs.declared.part.Slot.{Slot}
 use Rattle.bdb_key.specs.declared.part.Slot.TheVariants as slots
 use Rattle.bdb_key.specs.Bytes.{part_bytes, key_bytes}
-use Rattle.bdb_key.specs.Grammar.{FitsSlot, IsKey}
+use Rattle.bdb_key.specs.Grammar.{FitsSlot, IsOne, IsKey}
 use Rattle.bdb_key.specs.Laws.{KeysHaveOneSpelling, KeysKeepOrder}
 use Rattle.bdb_key.specs.Order.{part_cmp, key_cmp}
 use Rattle.bdb_key.specs.Reading.{Leads, NoneLeads, Reads, NoneReads}
@@ -98,11 +98,6 @@ keys_have_one_spelling shape a b fa fb e =
     slice_cmp-IsAntisymmetric parts_tie a b (sym (keys_keep_order shape a b fa fb) ∙ tied (key_bytes a) (key_bytes b) e)
 
 -- ---- reading a key slot by slot
-
--- whether a slot takes one part
-abbrev pub IsOne : Slot → Type 0
-IsOne slots.Rest = ⊥
-IsOne slot = Unit {0}
 
 key_of_step : (slot : Slot) (shape : List Slot) (part : Part) (key : List Part) → IsOne slot → FitsSlot slot part → IsKey shape key → IsKey (slot ∷ shape) (part ∷ key)
 key_of_step slots.Num shape part key one f h = (f, h)
