@@ -1,5 +1,5 @@
 -- How rows are spelled, and which rows are in the grammar of a table.
-use Rattle.std.specs.Prelude.{◌≡◌, ℕ, pos, ◌<◌, ◌⊎◌, Bool, true, false, List, [], ◌++◌, length}
+use Rattle.std.specs.Prelude.{◌≡◌, ℕ, pos, ◌<◌, nat_eq, ◌||◌, Bool, true, false, List, [], ◌++◌, length}
 use Rattle.std.specs.List.{flat_map, AllByRecursion}
 use Rattle.bdb_base.specs.declared.tuple.Tuple.{Tuple}
 use Rattle.bdb_base.specs.declared.kinds.Kind.{Kind}
@@ -87,18 +87,36 @@ pub record IsTupleRow (t : Tuple) : Type 0 where
   pub some : 0 < length t.vals
   pub plain : ArePlain t.vals
 
--- a row of a table, by the table's number
-abbrev pub IsRow : ℕ → TabRow → Type 0
-IsRow tab (rows.Meta format) = (tab ≡ 1) × IsNum format
-IsRow tab (rows.User name) = (tab ≡ 2) × IsPlain name
-IsRow tab (rows.Rel def) = (tab ≡ 3) × IsRelRow def
-IsRow tab (rows.Tuple t) = (tab ≡ 4) × IsTupleRow t
-IsRow tab (rows.Tid tid) = (tab ≡ 5) × IsNum tid
-IsRow tab (rows.Depth depth) = (tab ≡ 6) × IsNum depth
-IsRow tab (rows.Link wid) = ((tab ≡ 7) ⊎ (tab ≡ 9)) × IsNum wid
-IsRow tab rows.Empty = (tab ≡ 8) ⊎ (tab ≡ 10)
-IsRow tab (rows.Val sign explicit) = tab ≡ 11
-IsRow tab (rows.Plain sign) = tab ≡ 12
+-- a row is one of a table, by the table's number
+abbrev pub is_of : ℕ → TabRow → Bool
+is_of tab (rows.Meta format) = nat_eq tab 1
+is_of tab (rows.User name) = nat_eq tab 2
+is_of tab (rows.Rel def) = nat_eq tab 3
+is_of tab (rows.Tuple t) = nat_eq tab 4
+is_of tab (rows.Tid tid) = nat_eq tab 5
+is_of tab (rows.Depth depth) = nat_eq tab 6
+is_of tab (rows.Link wid) = nat_eq tab 7 || nat_eq tab 9
+is_of tab rows.Empty = nat_eq tab 8 || nat_eq tab 10
+is_of tab (rows.Val sign explicit) = nat_eq tab 11
+is_of tab (rows.Plain sign) = nat_eq tab 12
+
+-- a row's numbers, texts and lists are in the grammar
+abbrev pub FitsRow : TabRow → Type 0
+FitsRow (rows.Meta format) = IsNum format
+FitsRow (rows.User name) = IsPlain name
+FitsRow (rows.Rel def) = IsRelRow def
+FitsRow (rows.Tuple t) = IsTupleRow t
+FitsRow (rows.Tid tid) = IsNum tid
+FitsRow (rows.Depth depth) = IsNum depth
+FitsRow (rows.Link wid) = IsNum wid
+FitsRow rows.Empty = Unit {0}
+FitsRow (rows.Val sign explicit) = Unit {0}
+FitsRow (rows.Plain sign) = Unit {0}
+
+-- a row of a table
+pub record IsRow (tab : ℕ) (row : TabRow) : Type 0 where
+  pub of : is_of tab row ≡ true
+  pub fits : FitsRow row
 
 -- a tuple with a value and plain texts, without the sizes of its numbers
 pub record MayBeTuple (t : Tuple) : Type 0 where
