@@ -122,7 +122,7 @@ module _ (slot : Slot) (shape : List Slot) (one : IsOne slot) where
       → Reads (IsKey (slot ∷ shape)) key_bytes bytes (part ∷ key)
   key_more bytes rest part key l r = record {
     fits = key_of_step slot shape part key one l.fits r.fits;
-    spelled = ap (λ (x : List ℕ). part_bytes part ++ x) r.spelled ∙ sym l.split
+    spelled = ap (λ (x : List ℕ). part_bytes part ++ x) r.spelled ∙ sym l.split;
   }
 
   pub key_none_here : (bytes : List ℕ) → NoneLeads (FitsSlot slot) part_bytes bytes → NoneReads (IsKey (slot ∷ shape)) key_bytes bytes

@@ -4,3 +4,4 @@ pub mod Forms
 pub mod Keys
 pub mod Numbers
 pub mod Readings
+pub mod TabRows

@@ -11,7 +11,7 @@ abbrev pub invariant-loop-rest : goal.invariant-loop-rest
 invariant-loop-rest l = record {
   plain : AllByRecursion (FitsSlot slots.Rest) l.parts.items;
   done : l.bytes ≡ key_bytes l.parts.items ++ l.rest;
-  only : (key : List Part) → Reads (AllByRecursion (FitsSlot slots.Rest)) key_bytes l.bytes key → (left : List Part) × Reads (AllByRecursion (FitsSlot slots.Rest)) key_bytes l.rest left
+  only : (key : List Part) → Reads (AllByRecursion (FitsSlot slots.Rest)) key_bytes l.bytes key → (left : List Part) × Reads (AllByRecursion (FitsSlot slots.Rest)) key_bytes l.rest left;
 }
 
 abbrev pub decreases-loop-rest : goal.decreases-loop-rest
