@@ -82,7 +82,7 @@ rows (v ∷ a) (w ∷ b) fa fb = values v w (values_bytes a) (values_bytes b) fa
 
 -- ---- paths
 
-users : (p q : List ℕ) (x y : List ℕ) → length p ≡ length q → AllByRecursion IsNum p → AllByRecursion IsNum q
+pub users : (p q : List ℕ) (x y : List ℕ) → length p ≡ length q → AllByRecursion IsNum p → AllByRecursion IsNum q
     → slice_cmp nat_cmp (flat_map num_bytes p ++ x) (flat_map num_bytes q ++ y) ≡ ordering_then (slice_cmp nat_cmp p q) (slice_cmp nat_cmp x y)
 users [] [] x y e fp fq = refl
 users [] (j ∷ q) x y e fp fq = absurd (omega arith)

@@ -1,4 +1,7 @@
+pub mod Alone
 pub mod Compared
 pub mod Forms
 pub mod Keys
 pub mod Numbers
+pub mod Readings
+pub mod TabRows

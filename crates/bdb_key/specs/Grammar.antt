@@ -52,6 +52,11 @@ FitsSlot slots.Path (parts.Path path) = IsKeyPath path
 FitsSlot slots.Rest (parts.Val value) = IsPlainValue value
 FitsSlot slot part = ⊥
 
+-- a slot takes one part, and not the rest
+abbrev pub IsOne : Slot → Type 0
+IsOne slots.Rest = ⊥
+IsOne slot = Unit {0}
+
 -- a key of a shape: a part for each slot; a slot for the rest takes all values to the end
 abbrev pub IsKey : List Slot → List Part → Type 0
 IsKey [] [] = Unit {0}

@@ -1,5 +1,5 @@
 -- How rows are spelled, and which rows are in the grammar of a table.
-use Rattle.std.specs.Prelude.{◌≡◌, ℕ, pos, ◌<◌, ◌⊎◌, Bool, true, false, List, [], ◌++◌, length}
+use Rattle.std.specs.Prelude.{◌≡◌, ℕ, pos, ◌<◌, nat_eq, ◌||◌, Bool, true, false, List, [], ◌++◌, length}
 use Rattle.std.specs.List.{flat_map, AllByRecursion}
 use Rattle.bdb_base.specs.declared.tuple.Tuple.{Tuple}
 use Rattle.bdb_base.specs.declared.kinds.Kind.{Kind}
@@ -18,13 +18,21 @@ abbrev pub kind_bytes : Kind → List ℕ
 kind_bytes kinds.Int = int_bytes (pos 0)
 kind_bytes kinds.Text = int_bytes (pos 1)
 
+-- every kind has a spelling
+abbrev pub IsAnyKind : Kind → Type 0
+IsAnyKind kind = Unit {0}
+
 -- a column: its name and its kind
 abbrev pub col_bytes : ColDef → List ℕ
 col_bytes col = text_bytes col.name ++ kind_bytes col.kind
 
+-- columns, one after the other
+abbrev pub cols_bytes : List ColDef → List ℕ
+cols_bytes cols = flat_map col_bytes cols
+
 -- a relation: its name, then its columns
 abbrev pub rel_bytes : RelDef → List ℕ
-rel_bytes def = text_bytes def.name ++ flat_map col_bytes def.cols
+rel_bytes def = text_bytes def.name ++ cols_bytes def.cols
 
 -- a tuple: its relation, then its values
 abbrev pub tuple_bytes : Tuple → List ℕ
@@ -34,6 +42,14 @@ tuple_bytes t = num_bytes t.rel ++ values_bytes t.vals
 abbrev pub sign_number : Sign → ℕ
 sign_number signs.Plus = 0
 sign_number signs.Minus = 1
+
+-- a sign as a row
+abbrev pub sign_bytes : Sign → List ℕ
+sign_bytes sign = num_bytes (sign_number sign)
+
+-- every sign has a spelling
+abbrev pub IsAnySign : Sign → Type 0
+IsAnySign sign = Unit {0}
 
 -- the number of a sign and a mark: 0 plus inherited, 1 plus explicit, 2 minus inherited, 3 minus explicit
 abbrev pub mark_number : Sign → Bool → ℕ
@@ -53,13 +69,17 @@ row_bytes (rows.Depth depth) = num_bytes depth
 row_bytes (rows.Link wid) = num_bytes wid
 row_bytes rows.Empty = []
 row_bytes (rows.Val sign explicit) = num_bytes (mark_number sign explicit)
-row_bytes (rows.Plain sign) = num_bytes (sign_number sign)
+row_bytes (rows.Plain sign) = sign_bytes sign
+
+-- a column with a plain name
+abbrev pub IsCol : ColDef → Type 0
+IsCol col = IsPlain col.name
 
 -- a relation whose names are plain, with a column
 pub record IsRelRow (def : RelDef) : Type 0 where
   pub name : IsPlain def.name
   pub some : 0 < length def.cols
-  pub names : AllByRecursion (λ col. IsPlain col.name) def.cols
+  pub names : AllByRecursion IsCol def.cols
 
 -- a tuple of plain values, with a value
 pub record IsTupleRow (t : Tuple) : Type 0 where
@@ -67,18 +87,36 @@ pub record IsTupleRow (t : Tuple) : Type 0 where
   pub some : 0 < length t.vals
   pub plain : ArePlain t.vals
 
--- a row of a table, by the table's number
-abbrev pub IsRow : ℕ → TabRow → Type 0
-IsRow tab (rows.Meta format) = (tab ≡ 1) × IsNum format
-IsRow tab (rows.User name) = (tab ≡ 2) × IsPlain name
-IsRow tab (rows.Rel def) = (tab ≡ 3) × IsRelRow def
-IsRow tab (rows.Tuple t) = (tab ≡ 4) × IsTupleRow t
-IsRow tab (rows.Tid tid) = (tab ≡ 5) × IsNum tid
-IsRow tab (rows.Depth depth) = (tab ≡ 6) × IsNum depth
-IsRow tab (rows.Link wid) = ((tab ≡ 7) ⊎ (tab ≡ 9)) × IsNum wid
-IsRow tab rows.Empty = (tab ≡ 8) ⊎ (tab ≡ 10)
-IsRow tab (rows.Val sign explicit) = tab ≡ 11
-IsRow tab (rows.Plain sign) = tab ≡ 12
+-- a row is one of a table, by the table's number
+abbrev pub is_of : ℕ → TabRow → Bool
+is_of tab (rows.Meta format) = nat_eq tab 1
+is_of tab (rows.User name) = nat_eq tab 2
+is_of tab (rows.Rel def) = nat_eq tab 3
+is_of tab (rows.Tuple t) = nat_eq tab 4
+is_of tab (rows.Tid tid) = nat_eq tab 5
+is_of tab (rows.Depth depth) = nat_eq tab 6
+is_of tab (rows.Link wid) = nat_eq tab 7 || nat_eq tab 9
+is_of tab rows.Empty = nat_eq tab 8 || nat_eq tab 10
+is_of tab (rows.Val sign explicit) = nat_eq tab 11
+is_of tab (rows.Plain sign) = nat_eq tab 12
+
+-- a row's numbers, texts and lists are in the grammar
+abbrev pub FitsRow : TabRow → Type 0
+FitsRow (rows.Meta format) = IsNum format
+FitsRow (rows.User name) = IsPlain name
+FitsRow (rows.Rel def) = IsRelRow def
+FitsRow (rows.Tuple t) = IsTupleRow t
+FitsRow (rows.Tid tid) = IsNum tid
+FitsRow (rows.Depth depth) = IsNum depth
+FitsRow (rows.Link wid) = IsNum wid
+FitsRow rows.Empty = Unit {0}
+FitsRow (rows.Val sign explicit) = Unit {0}
+FitsRow (rows.Plain sign) = Unit {0}
+
+-- a row of a table
+pub record IsRow (tab : ℕ) (row : TabRow) : Type 0 where
+  pub of : is_of tab row ≡ true
+  pub fits : FitsRow row
 
 -- a tuple with a value and plain texts, without the sizes of its numbers
 pub record MayBeTuple (t : Tuple) : Type 0 where

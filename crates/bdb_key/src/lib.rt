@@ -2,16 +2,22 @@
 //! their parts.
 #![tactic(auto)]
 
+mod laws;
 mod part;
 mod read;
 mod row;
 mod row_read;
+mod row_take;
 mod row_write;
+mod take;
 mod write;
 
+pub use laws::{keys_have_one_spelling, keys_keep_order};
 pub use part::{KeyError, Part, RowError, Slot};
-pub use read::{num_of, path_of, take_key, text_of, value_of, values_of};
+pub use read::{num_of, only_num, path_of, text_of, value_of, values_of};
 pub use row::TabRow;
-pub use row_read::{rel_of, take_row};
+pub use row_read::{only_text, rel_of, sign_of, tuple_of};
+pub use row_take::take_row;
 pub use row_write::{put_rel, put_row, put_sign, put_tuple};
+pub use take::take_key;
 pub use write::{put_key, put_num, put_path, put_text, put_value, put_values};

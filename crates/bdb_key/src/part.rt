@@ -1,8 +1,9 @@
 // The parts of keys, and why bytes are no key or row.
 ghost use Rattle.std.specs.Prelude.{◌≡◌, IfOk};
+ghost use Rattle.bdb_key.specs.declared.part.KeyError.TheVariants.{Memory};
 
 use bdb_base::{Exact, Path, Value};
-use std::alloc::{AllocError, Global};
+use std::alloc::{AllocError, AllocFailed, Global};
 
 /// A part of a key.
 #[derive(Drop)]
@@ -50,5 +51,21 @@ impl Exact for Part {
             Part::Val(value) => Ok(Part::Val(value.try_clone(alloc)?)),
             Part::Path(path) => Ok(Part::Path(path.try_clone(alloc)?)),
         }
+    }
+}
+
+impl From<AllocError> for KeyError {
+    ghost from_gives = { λ _ e. e ≡ Memory };
+
+    fn from(_error: AllocError) -> KeyError {
+        KeyError::Memory
+    }
+}
+
+impl<T: Drop> From<AllocFailed<T>> for KeyError {
+    ghost from_gives = { λ _ e. e ≡ Memory };
+
+    fn from(_error: AllocFailed<T>) -> KeyError {
+        KeyError::Memory
     }
 }

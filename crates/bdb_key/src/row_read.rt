@@ -1,26 +1,104 @@
 // Bytes back into rows.
-ghost use Rattle.std.specs.Prelude.{◌≡◌, ◌≤◌, IfOk, IsErrOf};
-ghost use Rattle.bdb_key.specs.Reading.{Reads, NoneReads};
-ghost use Rattle.bdb_key.specs.Rows.{rel_bytes, IsRelRow, IsRow, row_bytes};
+ghost use Rattle.std.specs.Prelude.{◌≡◌, IfOk, MatchOption};
+ghost use Rattle.std.specs.Result.{IsErrOf};
+ghost use Rattle.std.specs.List.{AllByRecursion};
+ghost use Rattle.bdb_key.specs.Grammar.{IsPlain};
+ghost use Rattle.bdb_key.specs.Bytes.{text_bytes};
+ghost use Rattle.bdb_key.specs.Reading.{Leads, NoneLeads, Reads, NoneReads};
+ghost use Rattle.bdb_key.specs.Rows.{IsAnyKind, kind_bytes, IsCol, col_bytes, cols_bytes, IsRelRow, rel_bytes, IsTupleRow, tuple_bytes, IsAnySign, sign_bytes};
 
-use crate::part::RowError;
-use crate::row::TabRow;
-use bdb_base::RelDef;
+use crate::part::KeyError;
+use crate::read::{int_of, num_of, only_num, text_of, values_of};
+use bdb_base::{ColDef, Kind, List, RelDef, Sign, Tuple, Txt};
 use std::alloc::Global;
 
-/// The relation that these bytes are. `NotARow` comes exactly where they are no relation.
-pub fn rel_of(alloc: Global, bytes: &[u8]) -> Result<RelDef, RowError>
+/// The relation that these bytes are. `NotAKey` comes exactly where they are no relation.
+pub fn rel_of(alloc: Global, bytes: &[u8]) -> Result<RelDef, KeyError>
     ensures ok { IfOk result (Reads IsRelRow rel_bytes bytes.now) }
-    ensures none { IsErrOf result RowError.NotARow → NoneReads IsRelRow rel_bytes bytes.now }
+    ensures none { IsErrOf result KeyError.NotAKey → NoneReads IsRelRow rel_bytes bytes.now }
 {
-    Err(RowError::Memory)
+    let (name, rest) = text_of(alloc, bytes)?;
+    let cols = cols_of(alloc, rest)?;
+    if cols.is_empty() {
+        return Err(KeyError::NotAKey);
+    }
+    Ok(RelDef { name, cols })
 }
 
-/// The row of a table that these bytes are. `NotARow` comes exactly where they are no row of that table.
-pub fn take_row(alloc: Global, tab: u8, bytes: &[u8]) -> Result<TabRow, RowError>
-    requires { (1 ≤ tab) × (tab ≤ 12) }
-    ensures ok { IfOk result (Reads (IsRow tab) row_bytes bytes.now) }
-    ensures none { IsErrOf result RowError.NotARow → NoneReads (IsRow tab) row_bytes bytes.now }
+/// The tuple that these bytes are. `NotAKey` comes exactly where they are no tuple.
+pub fn tuple_of(alloc: Global, bytes: &[u8]) -> Result<Tuple, KeyError>
+    ensures ok { IfOk result (Reads IsTupleRow tuple_bytes bytes.now) }
+    ensures none { IsErrOf result KeyError.NotAKey → NoneReads IsTupleRow tuple_bytes bytes.now }
 {
-    Err(RowError::Memory)
+    let Some((rel, rest)) = num_of(bytes) else {
+        return Err(KeyError::NotAKey);
+    };
+    let vals = values_of(alloc, rest)?;
+    if vals.is_empty() {
+        return Err(KeyError::NotAKey);
+    }
+    Ok(Tuple { rel, vals })
+}
+
+/// The text that these bytes are. `NotAKey` comes exactly where they are no plain text.
+pub fn only_text(alloc: Global, bytes: &[u8]) -> Result<Txt, KeyError>
+    ensures ok { IfOk result (Reads IsPlain text_bytes bytes.now) }
+    ensures none { IsErrOf result KeyError.NotAKey → NoneReads IsPlain text_bytes bytes.now }
+{
+    let (text, rest) = text_of(alloc, bytes)?;
+    if !rest.is_empty() {
+        return Err(KeyError::NotAKey);
+    }
+    Ok(text)
+}
+
+/// The sign that these bytes are. None exactly where they are no sign.
+pub fn sign_of(bytes: &[u8]) -> Option<Sign>
+    ensures { MatchOption result (NoneReads IsAnySign sign_bytes bytes.now) (Reads IsAnySign sign_bytes bytes.now) }
+{
+    match only_num(bytes) {
+        Some(0) => Some(Sign::Plus),
+        Some(1) => Some(Sign::Minus),
+        Some(_) => None,
+        None => None,
+    }
+}
+
+// The columns that these bytes are.
+fn cols_of(alloc: Global, bytes: &[u8]) -> Result<List<ColDef>, KeyError>
+    ensures ok { IfOk result (Reads (AllByRecursion IsCol) cols_bytes bytes.now) }
+    ensures none { IsErrOf result KeyError.NotAKey → NoneReads (AllByRecursion IsCol) cols_bytes bytes.now }
+{
+    let mut cols = Vec::new(alloc);
+    let mut rest = bytes;
+    while !rest.is_empty() {
+        let (col, more) = col_of(alloc, rest)?;
+        cols.push(col)?;
+        rest = more;
+    }
+    Ok(List::from_vec(cols))
+}
+
+// The column at the front of these bytes, and the bytes after it.
+fn col_of(alloc: Global, bytes: &[u8]) -> Result<(ColDef, &[u8]), KeyError>
+    ensures ok { IfOk result (λ x. Leads IsCol col_bytes bytes.now x.0 x.1.now) }
+    ensures none { IsErrOf result KeyError.NotAKey → NoneLeads IsCol col_bytes bytes.now }
+{
+    let (name, rest) = text_of(alloc, bytes)?;
+    match kind_of(rest) {
+        Some((kind, rest)) => Ok((ColDef { name, kind }, rest)),
+        None => Err(KeyError::NotAKey),
+    }
+}
+
+// The kind at the front of these bytes, and the bytes after it.
+fn kind_of(bytes: &[u8]) -> Option<(Kind, &[u8])>
+    ensures { MatchOption result (NoneLeads IsAnyKind kind_bytes bytes.now) (λ x. Leads IsAnyKind kind_bytes bytes.now x.0 x.1.now) }
+{
+    match int_of(bytes) {
+        Some((0, rest)) => Some((Kind::Int, rest)),
+        Some((1, rest)) => Some((Kind::Text, rest)),
+        Some(_) => None,
+        None => None,
+    }
 }

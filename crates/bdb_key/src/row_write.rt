@@ -1,9 +1,9 @@
 // Rows into bytes.
 ghost use Rattle.std.specs.Prelude.{◌≡◌, ◌++◌, pos, OnOk, OnErr};
-ghost use Rattle.std.specs.List.{AllByRecursion, flat_map};
+ghost use Rattle.std.specs.List.{AllByRecursion};
 ghost use Rattle.bdb_key.specs.Bytes.{num_bytes, int_bytes, Grows};
 ghost use Rattle.bdb_key.specs.Grammar.{IsNum, IsWhole};
-ghost use Rattle.bdb_key.specs.Rows.{kind_bytes, col_bytes, rel_bytes, tuple_bytes, sign_number, mark_number, row_bytes};
+ghost use Rattle.bdb_key.specs.Rows.{kind_bytes, cols_bytes, rel_bytes, tuple_bytes, sign_bytes, mark_number, row_bytes};
 
 use crate::row::TabRow;
 use crate::write::{put_num, put_text, put_value, put_values};
@@ -44,7 +44,7 @@ pub fn put_tuple(out: &mut Vec<u8>, tuple: &Tuple) -> Result<(), AllocError>
 
 /// Appends a statement's sign. After a refusal the bytes are unchanged.
 pub fn put_sign(out: &mut Vec<u8>, sign: Sign) -> Result<(), AllocError>
-    ensures ok { OnOk result (out.new.items ≡ out.old.items ++ num_bytes (sign_number sign)) }
+    ensures ok { OnOk result (out.new.items ≡ out.old.items ++ sign_bytes sign) }
     ensures err { OnErr result (out.new.items ≡ out.old.items) }
 {
     match sign {
@@ -83,7 +83,7 @@ fn push_rel(out: &mut Vec<u8>, def: &RelDef) -> Result<(), AllocError>
 
 // Appends columns. A refusal may leave a part behind.
 fn push_cols(out: &mut Vec<u8>, cols: &[ColDef]) -> Result<(), AllocError>
-    ensures ok { OnOk result (out.new.items ≡ out.old.items ++ flat_map col_bytes cols.now) }
+    ensures ok { OnOk result (out.new.items ≡ out.old.items ++ cols_bytes cols.now) }
     ensures err { OnErr result (Grows out.old.items out.new.items) }
 {
     for col in cols {

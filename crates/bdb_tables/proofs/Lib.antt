@@ -1,1 +1,4 @@
+pub mod Finds
 pub mod Held
+pub mod HoldsLemmas
+pub mod Plain

@@ -1,3 +1,6 @@
 pub mod Codec
 pub mod Grammar
 pub mod InUse
+pub mod InUseLaws
+pub mod Holds
+pub mod Laws

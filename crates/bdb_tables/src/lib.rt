@@ -1,8 +1,16 @@
-//! Typed tables over a keeper: the rows of the database by table, each read or written in one call.
+//! Typed tables over a keeper: the rows of the database by table, each read or written in one call, and when tables hold
+//! a base.
 #![tactic(auto)]
 
 mod access;
+mod laws;
 mod tab;
+mod tabs;
 
 pub use access::{after, drop_row, get, next, put};
+pub use laws::{
+    drop_takes_statement, format_row_holds_empty, held_is_in_grammar, put_adds_relation,
+    put_adds_statement, put_adds_user,
+};
 pub use tab::{Tab, TabError};
+pub use tabs::{MetaTab, PlainTab, RelTab, UserTab};

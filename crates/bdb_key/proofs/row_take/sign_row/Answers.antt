@@ -1,0 +1,5 @@
+use Rattle.bdb_key.proofs.TabRows.{none_12}
+use Rattle.bdb_key.proofs.row_take.sign_row.Goals as goal
+
+pub returns-in-None-clause-none : goal.returns-in-None-clause-none
+returns-in-None-clause-none c _ = none_12 c.args.bytes.now c.in-None.ensures

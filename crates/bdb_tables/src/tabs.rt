@@ -1,0 +1,219 @@
+// The tables in use.
+ghost use Rattle.std.specs.Prelude.{ℕ, refl};
+ghost use Rattle.std.proofs.Common.{rules};
+ghost use Rattle.bdb_tables.specs.InUse.{meta_codec, user_codec, rel_codec, plain_codec};
+ghost use Rattle.bdb_tables.specs.InUseLaws.{users_in_order, rels_in_order, plain_in_order, meta_key, user_key, rel_key, plain_key, meta_row, user_row, rel_row, plain_row};
+
+use crate::tab::Tab;
+use bdb_base::{Path, RelDef, Sign, Tuple, Txt};
+use bdb_key::{
+    KeyError, RowError, num_of, only_num, only_text, path_of, put_num, put_path, put_rel, put_sign,
+    put_text, put_tuple, rel_of, sign_of, tuple_of,
+};
+use std::alloc::{AllocError, Global};
+
+/// Table 1: the format, in one row.
+pub struct MetaTab;
+
+/// Table 2: the users' names, by number.
+pub struct UserTab;
+
+/// Table 3: the relations, by number.
+pub struct RelTab;
+
+/// Table 12: the statements, each sign by path and tuple.
+pub struct PlainTab;
+
+impl Tab for MetaTab {
+    type Key = ();
+
+    type Row = u32;
+
+    const NUMBER: u8 = 1;
+
+    ghost NUMBER = { 1 };
+
+    ghost codec = { meta_codec };
+
+    fn key_bytes(_key: &(), out: &mut Vec<u8>) -> Result<(), AllocError> {
+        put_num(out, 0)
+    }
+
+    fn key_back(_alloc: Global, bytes: &[u8]) -> Result<(), KeyError> {
+        match only_num(bytes) {
+            Some(0) => Ok(()),
+            Some(_) => Err(KeyError::NotAKey),
+            None => Err(KeyError::NotAKey),
+        }
+    }
+
+    fn row_bytes(row: &u32, out: &mut Vec<u8>) -> Result<(), AllocError> {
+        put_num(out, *row)
+    }
+
+    fn row_back(_alloc: Global, bytes: &[u8]) -> Result<u32, RowError> {
+        match only_num(bytes) {
+            Some(format) => Ok(format),
+            None => Err(RowError::NotARow),
+        }
+    }
+
+    ghost number_ok = { Prim.search rules };
+
+    ghost in_order = { λ _ _ _ _. refl };
+
+    ghost one_key = { meta_key };
+
+    ghost one_row = { meta_row };
+
+    ghost entry = { λ _ _ h. h };
+
+    ghost entry_back = { λ _ _ h. h };
+}
+
+impl Tab for UserTab {
+    type Key = u32;
+
+    type Row = Txt;
+
+    const NUMBER: u8 = 2;
+
+    ghost NUMBER = { 2 };
+
+    ghost codec = { user_codec };
+
+    fn key_bytes(key: &u32, out: &mut Vec<u8>) -> Result<(), AllocError> {
+        put_num(out, *key)
+    }
+
+    fn key_back(_alloc: Global, bytes: &[u8]) -> Result<u32, KeyError> {
+        match only_num(bytes) {
+            Some(uid) => Ok(uid),
+            None => Err(KeyError::NotAKey),
+        }
+    }
+
+    fn row_bytes(row: &Txt, out: &mut Vec<u8>) -> Result<(), AllocError> {
+        put_text(out, row)
+    }
+
+    fn row_back(alloc: Global, bytes: &[u8]) -> Result<Txt, RowError> {
+        match only_text(alloc, bytes) {
+            Ok(name) => Ok(name),
+            Err(KeyError::NotAKey) => Err(RowError::NotARow),
+            Err(KeyError::Memory) => Err(RowError::Memory),
+        }
+    }
+
+    ghost number_ok = { Prim.search rules };
+
+    ghost in_order = { users_in_order };
+
+    ghost one_key = { user_key };
+
+    ghost one_row = { user_row };
+
+    ghost entry = { λ _ _ h. h };
+
+    ghost entry_back = { λ _ _ h. h };
+}
+
+impl Tab for RelTab {
+    type Key = u32;
+
+    type Row = RelDef;
+
+    const NUMBER: u8 = 3;
+
+    ghost NUMBER = { 3 };
+
+    ghost codec = { rel_codec };
+
+    fn key_bytes(key: &u32, out: &mut Vec<u8>) -> Result<(), AllocError> {
+        put_num(out, *key)
+    }
+
+    fn key_back(_alloc: Global, bytes: &[u8]) -> Result<u32, KeyError> {
+        match only_num(bytes) {
+            Some(rel) => Ok(rel),
+            None => Err(KeyError::NotAKey),
+        }
+    }
+
+    fn row_bytes(row: &RelDef, out: &mut Vec<u8>) -> Result<(), AllocError> {
+        put_rel(out, row)
+    }
+
+    fn row_back(alloc: Global, bytes: &[u8]) -> Result<RelDef, RowError> {
+        match rel_of(alloc, bytes) {
+            Ok(def) => Ok(def),
+            Err(KeyError::NotAKey) => Err(RowError::NotARow),
+            Err(KeyError::Memory) => Err(RowError::Memory),
+        }
+    }
+
+    ghost number_ok = { Prim.search rules };
+
+    ghost in_order = { rels_in_order };
+
+    ghost one_key = { rel_key };
+
+    ghost one_row = { rel_row };
+
+    ghost entry = { λ _ _ h. h };
+
+    ghost entry_back = { λ _ _ h. h };
+}
+
+impl Tab for PlainTab {
+    type Key = (Path, Tuple);
+
+    type Row = Sign;
+
+    const NUMBER: u8 = 12;
+
+    ghost NUMBER = { 12 };
+
+    ghost codec = { plain_codec };
+
+    fn key_bytes(key: &(Path, Tuple), out: &mut Vec<u8>) -> Result<(), AllocError> {
+        let before = out.len();
+        put_path(out, &key.0)?;
+        match put_tuple(out, &key.1) {
+            Ok(()) => Ok(()),
+            Err(error) => {
+                out.truncate(before);
+                Err(error)
+            }
+        }
+    }
+
+    fn key_back(alloc: Global, bytes: &[u8]) -> Result<(Path, Tuple), KeyError> {
+        let (path, rest) = path_of(alloc, bytes)?;
+        let tuple = tuple_of(alloc, rest)?;
+        Ok((path, tuple))
+    }
+
+    fn row_bytes(row: &Sign, out: &mut Vec<u8>) -> Result<(), AllocError> {
+        put_sign(out, *row)
+    }
+
+    fn row_back(_alloc: Global, bytes: &[u8]) -> Result<Sign, RowError> {
+        match sign_of(bytes) {
+            Some(sign) => Ok(sign),
+            None => Err(RowError::NotARow),
+        }
+    }
+
+    ghost number_ok = { Prim.search rules };
+
+    ghost in_order = { plain_in_order };
+
+    ghost one_key = { plain_key };
+
+    ghost one_row = { plain_row };
+
+    ghost entry = { λ _ _ h. h };
+
+    ghost entry_back = { λ _ _ h. h };
+}
