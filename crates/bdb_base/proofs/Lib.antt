@@ -1,4 +1,5 @@
 pub mod ClashLemmas
 pub mod LeastLemmas
+pub mod Rows
 pub mod SameLemmas
 pub mod WorldLemmas

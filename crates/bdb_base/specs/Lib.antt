@@ -11,4 +11,5 @@ pub mod SortedSet
 pub mod States
 pub mod Texts
 pub mod TupleFields
+pub mod WorldRows
 pub mod Worlds

@@ -1,0 +1,42 @@
+-- Whether the literals of a command are in i64.
+use Rattle.std.specs.Prelude.{Bool, true, ◌&&◌}
+use Rattle.std.specs.List.{list_all}
+use Rattle.bdb_base.specs.declared.kinds.Value.{Value}
+use Rattle.bdb_base.specs.declared.kinds.Value.TheVariants.{Int, Text}
+use Rattle.bdb_syntax.specs.declared.command.RawSide.{RawSide}
+use Rattle.bdb_syntax.specs.declared.command.RawSide.TheVariants.{Col, Lit}
+use Rattle.bdb_syntax.specs.declared.command.RawCond.{RawCond}
+use Rattle.bdb_syntax.specs.declared.command.RawSet.{RawSet}
+use Rattle.bdb_syntax.specs.declared.command.RawQuery.{RawQuery}
+use Rattle.bdb_syntax.specs.declared.command.Command.{Command}
+use Rattle.bdb_syntax.specs.declared.command.Command.TheVariants.{CreateUser, CreateRelation, Insert, Delete, Update, Select, Explain, ShowWorld, ShowTables}
+use Rattle.bdb_parse.specs.Numbers.{is_i64}
+
+abbrev pub value_fits : Value → Bool
+value_fits (Int n) = is_i64 n
+value_fits (Text t) = true
+
+abbrev pub side_fits : RawSide → Bool
+side_fits (Col c) = true
+side_fits (Lit v) = value_fits v
+
+abbrev pub cond_fits : RawCond → Bool
+cond_fits c = side_fits c.right
+
+abbrev pub set_fits : RawSet → Bool
+set_fits s = value_fits s.to
+
+abbrev pub query_fits : RawQuery → Bool
+query_fits q = list_all cond_fits q.conds
+
+-- each literal is in i64
+abbrev pub fits : Command → Bool
+fits (CreateUser name) = true
+fits (CreateRelation name cols) = true
+fits (Insert users sign rel vals) = list_all value_fits vals
+fits (Delete users sign rel conds) = list_all cond_fits conds
+fits (Update users sign rel sets conds) = list_all set_fits sets && list_all cond_fits conds
+fits (Select query) = query_fits query
+fits (Explain query) = query_fits query
+fits (ShowWorld users) = true
+fits ShowTables = true

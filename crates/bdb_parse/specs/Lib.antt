@@ -1,0 +1,4 @@
+pub mod Numbers
+pub mod Stops
+pub mod Reading
+pub mod Fits

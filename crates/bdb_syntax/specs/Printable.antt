@@ -1,0 +1,91 @@
+-- Commands that have a printed form.
+use Rattle.std.specs.Prelude.{◌≡◌, ℕ, Bool, true, false, ◌&&◌, ◌||◌, List, [], ◌∷◌, length, None, IsSomeAnd, nat_le, nat_eq}
+use Rattle.std.specs.Char.{is_ascii_alphabetic, is_ascii_alphanumeric}
+use Rattle.std.specs.List.{list_all, AllByRecursion}
+use Rattle.std.specs.Str.{IsUtf8}
+use Rattle.bdb_base.specs.declared.kinds.Value.{Value}
+use Rattle.bdb_base.specs.declared.kinds.Value.TheVariants as values
+use Rattle.bdb_base.specs.declared.kinds.ColDef.{ColDef}
+use Rattle.bdb_syntax.specs.declared.command.RawCol.{RawCol}
+use Rattle.bdb_syntax.specs.declared.command.RawSide.{RawSide}
+use Rattle.bdb_syntax.specs.declared.command.RawSide.TheVariants as sides
+use Rattle.bdb_syntax.specs.declared.command.RawCond.{RawCond}
+use Rattle.bdb_syntax.specs.declared.command.RawWho.{RawWho}
+use Rattle.bdb_syntax.specs.declared.command.RawWho.TheVariants as whos
+use Rattle.bdb_syntax.specs.declared.command.RawItem.{RawItem}
+use Rattle.bdb_syntax.specs.declared.command.RawSet.{RawSet}
+use Rattle.bdb_syntax.specs.declared.command.RawQuery.{RawQuery}
+use Rattle.bdb_syntax.specs.declared.command.Command.{Command}
+use Rattle.bdb_syntax.specs.declared.command.Command.TheVariants.{CreateUser, CreateRelation, Insert, Delete, Update, Select, Explain, ShowWorld, ShowTables}
+use Rattle.bdb_syntax.specs.Keywords.{is_reserved}
+use Rattle.bdb_syntax.specs.Filled.{IsFilled}
+
+-- a byte that may begin a word
+abbrev pub begins_word : ℕ → Bool
+begins_word c = is_ascii_alphabetic c || nat_eq c 95
+
+-- a byte that may stand in a word
+abbrev pub is_in_word : ℕ → Bool
+is_in_word c = is_ascii_alphanumeric c || nat_eq c 95
+
+-- a letter or '_', then letters, digits or '_'; at most 255 bytes in all
+abbrev pub is_word : List ℕ → Bool
+is_word [] = false
+is_word (c ∷ cs) = begins_word c && (list_all is_in_word cs && nat_le (length (c ∷ cs)) 255)
+
+-- a word that isn't reserved
+abbrev pub IsName : List ℕ → Type 0
+IsName w = (is_word w ≡ true) × (is_reserved w ≡ false)
+
+-- UTF-8 without characters below U+0020
+abbrev pub IsContent : List ℕ → Type 0
+IsContent t = IsUtf8 t × (list_all (λ b. nat_le 32 b) t ≡ true)
+
+abbrev pub IsPrintableValue : Value → Type 0
+IsPrintableValue (values.Int n) = Unit {0}
+IsPrintableValue (values.Text t) = IsContent t
+
+-- a column of a change: a name without an alias
+abbrev pub IsBareCol : RawCol → Type 0
+IsBareCol c = (c.alias ≡ None) × IsName c.col
+
+-- a column of a query: a name behind an alias
+abbrev pub IsFullCol : RawCol → Type 0
+IsFullCol c = IsSomeAnd c.alias IsName × IsName c.col
+
+abbrev pub IsPrintableSide : (RawCol → Type 0) → RawSide → Type 0
+IsPrintableSide IsCol (sides.Col c) = IsCol c
+IsPrintableSide IsCol (sides.Lit v) = IsPrintableValue v
+
+abbrev pub IsPrintableCond : (RawCol → Type 0) → RawCond → Type 0
+IsPrintableCond IsCol c = IsCol c.left × IsPrintableSide IsCol c.right
+
+abbrev pub IsPrintableWho : RawWho → Type 0
+IsPrintableWho (whos.Name t) = IsContent t
+IsPrintableWho (whos.Col c) = IsFullCol c
+
+abbrev pub IsPrintableItem : RawItem → Type 0
+IsPrintableItem i = AllByRecursion IsPrintableWho i.path × IsName i.rel × IsName i.alias
+
+abbrev pub IsPrintableSet : RawSet → Type 0
+IsPrintableSet s = IsName s.col × IsPrintableValue s.to
+
+abbrev pub IsPrintableQuery : RawQuery → Type 0
+IsPrintableQuery q = AllByRecursion IsFullCol q.take × AllByRecursion IsPrintableItem q.items × AllByRecursion (IsPrintableCond IsFullCol) q.conds
+
+-- the names, the texts and the columns of a command are as the grammar wants them
+abbrev pub HasPrintableParts : Command → Type 0
+HasPrintableParts (CreateUser name) = IsContent name
+HasPrintableParts (CreateRelation name cols) = IsName name × AllByRecursion (λ (c : ColDef). IsName c.name) cols
+HasPrintableParts (Insert users sign rel vals) = AllByRecursion IsContent users × IsName rel × AllByRecursion IsPrintableValue vals
+HasPrintableParts (Delete users sign rel conds) = AllByRecursion IsContent users × IsName rel × AllByRecursion (IsPrintableCond IsBareCol) conds
+HasPrintableParts (Update users sign rel sets conds) = AllByRecursion IsContent users × IsName rel × AllByRecursion IsPrintableSet sets × AllByRecursion (IsPrintableCond IsBareCol) conds
+HasPrintableParts (Select query) = IsPrintableQuery query
+HasPrintableParts (Explain query) = IsPrintableQuery query
+HasPrintableParts (ShowWorld users) = AllByRecursion IsContent users
+HasPrintableParts ShowTables = Unit {0}
+
+-- a command has a printed form
+pub record IsPrintable (c : Command) : Type 0 where
+  pub parts : HasPrintableParts c
+  pub filled : IsFilled c
