@@ -7,7 +7,7 @@ use Rattle.bdb_base.specs.declared.tuple.Tuple.{Tuple}
 use Rattle.bdb_base.specs.Clash.{same_key, key_of}
 use Rattle.bdb_base.specs.Laws.{ClashIsSymmetric}
 use Rattle.bdb_base.specs.Same.{same_tuple, same_values}
-use Rattle.bdb_base.proofs.SameLemmas.{same_tuple-Decides, same_values-Decides}
+use Rattle.bdb_base.specs.SameLemmas.{same_tuple-Decides, same_values-Decides}
 
 -- a test that decides equality is one either way round
 pub turned : {X : Type 0} (E : X → X → Bool) → ((a b : X) → Decides (E a b) (a ≡ b)) → (a b : X) → E a b ≡ E b a

@@ -13,7 +13,7 @@ use Rattle.bdb_base.specs.Laws.{LeastClashIsLeast, NoLeastClash}
 use Rattle.bdb_base.specs.Order.{statement_cmp}
 use Rattle.bdb_base.specs.Same.{same_path, same_statement}
 use Rattle.bdb_base.specs.SortedSet.{ascending}
-use Rattle.bdb_base.proofs.SameLemmas.{same_path-Decides, same_statement-Decides}
+use Rattle.bdb_base.specs.SameLemmas.{same_path-Decides, same_statement-Decides}
 
 -- all items pass, and so does a member
 pub all_at : {X : Type 0} (same : X → X → Bool) → ((x y : X) → Decides (same x y) (x ≡ y)) → (p : X → Bool) (xs : List X) (y : X)

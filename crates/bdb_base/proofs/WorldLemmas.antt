@@ -10,9 +10,10 @@ use Rattle.bdb_base.specs.Bases.{key_lengths}
 use Rattle.bdb_base.specs.Clash.{clash, same_key, key_of}
 use Rattle.bdb_base.specs.Laws.{WorldsAreConsistent, ValidIsConsistent, PlainInheritance, HasRival, NegationsAreBelieved}
 use Rattle.bdb_base.specs.Same.{same_tuple, same_path, same_sign, same_values}
-use Rattle.bdb_base.specs.States.{is_prefix, is_state}
+use Rattle.bdb_base.specs.Segments.{is_prefix}
+use Rattle.bdb_base.specs.States.{is_state}
 use Rattle.bdb_base.specs.Worlds.{explicit, contradicted, stated}
-use Rattle.bdb_base.proofs.SameLemmas.{same_tuple-Decides, same_path-Decides, same_sign-Decides, same_values-Decides}
+use Rattle.bdb_base.specs.SameLemmas.{same_tuple-Decides, same_path-Decides, same_sign-Decides, same_values-Decides}
 use Rattle.bdb_base.proofs.ClashLemmas.{clash_is_symmetric}
 
 -- what a weaker test finds too

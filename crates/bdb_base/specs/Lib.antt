@@ -6,7 +6,11 @@ pub mod Clash
 pub mod Conditions
 pub mod Laws
 pub mod Order
+pub mod OrderLemmas
 pub mod Same
+pub mod SameLemmas
+pub mod Segments
+pub mod SetLaws
 pub mod SortedSet
 pub mod States
 pub mod Texts

@@ -2,6 +2,11 @@
 use Rattle.std.specs.Prelude.{ℕ, ◌==◌, List, [], ◌∷◌, ◌++◌, if◌then◌else◌, codes, ℤ}
 use Rattle.std.specs.List.{flat_map}
 use Rattle.std.specs.Fmt.{signed_decimal}
+use Rattle.bdb_base.specs.declared.kinds.Cmp.{Cmp}
+use Rattle.bdb_base.specs.declared.kinds.Cmp.TheVariants as cmp
+use Rattle.bdb_base.specs.declared.kinds.ColDef.{ColDef}
+use Rattle.bdb_base.specs.declared.kinds.Kind.{Kind}
+use Rattle.bdb_base.specs.declared.kinds.Kind.TheVariants as kind
 use Rattle.bdb_base.specs.declared.kinds.Value.{Value}
 use Rattle.bdb_base.specs.declared.kinds.Value.TheVariants.{Int, Text}
 
@@ -30,3 +35,23 @@ separated between (first ∷ rest) = first ++ flat_map (λ text. between ++ text
 -- texts with a comma and a space between each two
 abbrev pub joined : List (List ℕ) → List ℕ
 joined = separated (codes ", ")
+
+-- a column behind the alias of its item, with a dot between them
+abbrev pub dotted : List ℕ → List ℕ → List ℕ
+dotted alias col = alias ++ codes "." ++ col
+
+abbrev pub kind_text : Kind → List ℕ
+kind_text kind.Int = codes "int"
+kind_text kind.Text = codes "text"
+
+-- a column of a relation: its name and its kind
+abbrev pub column_text : ColDef → List ℕ
+column_text col = col.name ++ codes " " ++ kind_text col.kind
+
+abbrev pub cmp_text : Cmp → List ℕ
+cmp_text cmp.Eq = codes "="
+cmp_text cmp.Ne = codes "<>"
+cmp_text cmp.Lt = codes "<"
+cmp_text cmp.Le = codes "<="
+cmp_text cmp.Gt = codes ">"
+cmp_text cmp.Ge = codes ">="

@@ -2,24 +2,38 @@
 //! with the definitions of worlds and belief in `specs/`.
 #![tactic(auto)]
 
+mod changes;
+mod conditions;
 mod conflict;
 mod kinds;
 pub mod laws;
 mod list;
+mod order;
+mod ordered;
 mod path;
+mod segments;
 mod text;
 mod texts;
 mod tuple;
 
+pub use changes::changed;
+pub use conditions::{compares, meets};
 pub use conflict::{clash, key_of, same_key, same_tuple, same_value, same_values};
 pub use kinds::{
     Catalog, Cmp, ColDef, Cond, Held, Item, Kind, Operand, Query, Ref, RelDef, SetCol, Sign, Stmt,
     Value, What, Who, World,
 };
 pub use list::{Exact, List};
+pub use order::{cmp_path, cmp_stmt, cmp_tuple, cmp_value};
+pub use ordered::{
+    Ordered, loop_makes_set, members_make_set, place_of, put, put_adds_member, put_keeps_order,
+    set_is_ascending, set_keeps_members, take, take_drops_member, take_keeps_order,
+};
 pub use path::{Path, PathError};
+pub use segments::{path_is_prefix, path_is_suffix, path_tail};
 pub use text::Txt;
 pub use texts::{
-    Printed, append_decimal, append_int, append_quoted, append_separated, append_value,
+    Printed, append_cmp, append_decimal, append_dotted, append_int, append_quoted,
+    append_separated, append_value,
 };
 pub use tuple::Tuple;

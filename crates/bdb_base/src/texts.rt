@@ -2,9 +2,9 @@
 ghost use Rattle.std.specs.Prelude.{◌≡◌, ◌++◌, ℕ, List, map, OnOk};
 ghost use Rattle.std.specs.Fmt.{decimal};
 ghost use Rattle.std.specs.List.{flat_map};
-ghost use Rattle.bdb_base.specs.Texts.{int_text, quoted, quoted_byte, separated, value_text};
+ghost use Rattle.bdb_base.specs.Texts.{cmp_text, column_text, dotted, int_text, kind_text, quoted, quoted_byte, separated, value_text};
 
-use crate::kinds::Value;
+use crate::kinds::{Cmp, ColDef, Kind, Value};
 use std::alloc::AllocError;
 
 /// What has a text of its own in commands and replies.
@@ -21,6 +21,16 @@ impl Printed for Value {
 
     fn append_to(&self, out: &mut Vec<u8>) -> Result<(), AllocError> {
         append_value(out, self)
+    }
+}
+
+impl Printed for ColDef {
+    ghost text = { column_text };
+
+    fn append_to(&self, out: &mut Vec<u8>) -> Result<(), AllocError> {
+        out.extend_from_slice(self.name.as_bytes())?;
+        out.push(b' ')?;
+        append_kind(out, self.kind)
     }
 }
 
@@ -100,4 +110,37 @@ pub fn append_decimal(out: &mut Vec<u8>, n: u64) -> Result<(), AllocError>
     append_decimal(out, n / 10)?;
     out.push(b'0' + (n % 10) as u8)?;
     Ok(())
+}
+
+/// Appends a column behind the alias of its item, with a dot between them.
+pub fn append_dotted(out: &mut Vec<u8>, alias: &[u8], col: &[u8]) -> Result<(), AllocError>
+    ensures { OnOk result (out.new.items ≡ out.old.items ++ dotted alias.now col.now) }
+{
+    out.extend_from_slice(alias)?;
+    out.push(b'.')?;
+    out.extend_from_slice(col)
+}
+
+/// Appends the name of a kind.
+fn append_kind(out: &mut Vec<u8>, kind: Kind) -> Result<(), AllocError>
+    ensures { OnOk result (out.new.items ≡ out.old.items ++ kind_text kind) }
+{
+    match kind {
+        Kind::Int => out.extend_from_slice(b"int"),
+        Kind::Text => out.extend_from_slice(b"text"),
+    }
+}
+
+/// Appends the sign of a comparison.
+pub fn append_cmp(out: &mut Vec<u8>, cmp: Cmp) -> Result<(), AllocError>
+    ensures { OnOk result (out.new.items ≡ out.old.items ++ cmp_text cmp) }
+{
+    match cmp {
+        Cmp::Eq => out.extend_from_slice(b"="),
+        Cmp::Ne => out.extend_from_slice(b"<>"),
+        Cmp::Lt => out.extend_from_slice(b"<"),
+        Cmp::Le => out.extend_from_slice(b"<="),
+        Cmp::Gt => out.extend_from_slice(b">"),
+        Cmp::Ge => out.extend_from_slice(b">="),
+    }
 }

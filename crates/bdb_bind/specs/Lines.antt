@@ -27,16 +27,21 @@ abbrev pub refused_if : Bool → BindError → Option BindError
 refused_if true e = Some e
 refused_if false e = None
 
+-- the first of two refusals that applies
+abbrev pub or_next : Option BindError → Option BindError → Option BindError
+or_next None next = next
+or_next (Some e) next = Some e
+
 -- a check passes where its line does not apply, and else answers what the line says, unless there is no memory
 abbrev pub Checks : {T : Type 0} → Result T BindError → Option BindError → Type 0
 Checks result line = MatchResult result (λ _. line ≡ None) (λ e. e ≢ error.Memory → line ≡ Some e)
 
 -- a text has more than 255 bytes
-abbrev pub text_line : Command → Option BindError
+unfoldable pub text_line : Command → Option BindError
 text_line c = refused_if (some_text is_long c) error.Text
 
 -- a new relation has more than 16 columns
-abbrev pub items_line : Command → Option BindError
+unfoldable pub items_line : Command → Option BindError
 items_line c = refused_if (nat_lt 16 (length (new_columns c))) error.Items
 
 -- a name that should be a relation's is none
@@ -45,36 +50,31 @@ unknown_relation rels None = None
 unknown_relation rels (Some name) = refused_if (not (is_some (number_of rels name))) (error.Relation name)
 
 -- the relation isn't in the catalog
-abbrev pub relation_line : Catalog → Command → Option BindError
+unfoldable pub relation_line : Catalog → Command → Option BindError
 relation_line catalog c = unknown_relation catalog.rels (relation_name c)
 
 -- the first name of the path that is no user's
-abbrev pub user_line : Catalog → Command → Option BindError
+unfoldable pub user_line : Catalog → Command → Option BindError
 user_line catalog c = option_map error.User (find (λ name. not (is_user_name catalog.users name)) (path_names c))
 
 -- the first of these columns that a relation does not have
-abbrev pub unknown_column : List ColDef → List (List ℕ) → Option BindError
-unknown_column cols names = option_map (error.Column None) (find (λ name. not (has_column cols name)) names)
+unfoldable pub missing_column : List ColDef → List (List ℕ) → Option BindError
+missing_column cols names = option_map (error.Column None) (find (λ name. not (has_column cols name)) names)
 
 -- the first column that the relation does not have: sets before tests, left before right
-abbrev pub column_line : Catalog → Command → Option BindError
-column_line catalog (Delete users sign rel conds) = unknown_column (columns_of catalog.rels rel) (cond_columns conds)
-column_line catalog (Update users sign rel sets conds) = unknown_column (columns_of catalog.rels rel)
-    (map (λ s. s.col) sets ++ cond_columns conds)
+unfoldable pub column_line : Catalog → Command → Option BindError
+column_line catalog (Delete users sign rel conds) = missing_column (columns_of catalog.rels rel) (cond_columns conds)
+column_line catalog (Update users sign rel sets conds) = or_next (missing_column (columns_of catalog.rels rel) (map (λ s. s.col) sets))
+    (missing_column (columns_of catalog.rels rel) (cond_columns conds))
 column_line catalog _ = None
 
--- the first name that stands earlier in the list, or among those seen before
-abbrev pub first_repeated : List (List ℕ) → List ColDef → Option (List ℕ)
+-- the first column whose name stands earlier in the list, or among the columns seen before
+abbrev pub first_repeated : List ColDef → List ColDef → Option (List ℕ)
 first_repeated seen [] = None
-first_repeated seen (c ∷ cs) = if list_any (same_text c.name) seen then Some c.name else first_repeated (seen ++ c.name ∷ []) cs
-
--- the first of two refusals that applies
-abbrev pub or_next : Option BindError → Option BindError → Option BindError
-or_next None next = next
-or_next (Some e) next = Some e
+first_repeated seen (c ∷ cs) = if list_any (λ d. same_text c.name d.name) seen then Some c.name else first_repeated (seen ++ c ∷ []) cs
 
 -- a new name is taken: that of a user, of a relation or `Users`, or of an earlier column
-abbrev pub taken_line : Catalog → Command → Option BindError
+unfoldable pub taken_line : Catalog → Command → Option BindError
 taken_line catalog (CreateUser name) = refused_if (is_user_name catalog.users name) (error.TakenUser name)
 taken_line catalog (CreateRelation name cols) = or_next
     (refused_if (is_some (number_of catalog.rels name) || same_text name users_name) (error.TakenName name))
@@ -92,15 +92,15 @@ has_repeat [] = false
 has_repeat (n ∷ ns) = begins_with n ns || has_repeat ns
 
 -- the path names one user twice in a row
-abbrev pub repeat_line : Command → Option BindError
+unfoldable pub repeat_line : Command → Option BindError
 repeat_line c = refused_if (has_repeat (path_names c)) error.Repeat
 
 -- the path is too long
-abbrev pub deep_line : Command → Option BindError
+unfoldable pub deep_line : Command → Option BindError
 deep_line c = refused_if (nat_lt (depth_limit c) (length (path_names c))) error.Deep
 
 -- an insert has another number of values than the relation has columns
-abbrev pub arity_line : Catalog → Command → Option BindError
+unfoldable pub arity_line : Catalog → Command → Option BindError
 arity_line catalog (Insert users sign rel vals) = refused_if (not (length vals == length (columns_of catalog.rels rel))) error.Arity
 arity_line catalog _ = None
 
@@ -134,15 +134,15 @@ abbrev pub fits_cond : List ColDef → RawCond → Bool
 fits_cond cols c = are_one_kind (kind_at cols c.left.col) (side_kind cols c.right)
 
 -- the first set that joins two kinds
-abbrev pub set_kinds : List ColDef → List RawSet → Option BindError
+unfoldable pub set_kinds : List ColDef → List RawSet → Option BindError
 set_kinds cols sets = option_map (λ s. error.Kind None s.col) (find (λ s. not (fits_set cols s)) sets)
 
 -- the first comparison that joins two kinds
-abbrev pub cond_kinds : List ColDef → List RawCond → Option BindError
+unfoldable pub cond_kinds : List ColDef → List RawCond → Option BindError
 cond_kinds cols conds = option_map (λ c. error.Kind None c.left.col) (find (λ c. not (fits_cond cols c)) conds)
 
 -- a value, a set or a comparison joins two kinds
-abbrev pub kind_line : Catalog → Command → Option BindError
+unfoldable pub kind_line : Catalog → Command → Option BindError
 kind_line catalog (Insert users sign rel vals) = option_map (error.Kind None) (misfit (columns_of catalog.rels rel) vals)
 kind_line catalog (Delete users sign rel conds) = cond_kinds (columns_of catalog.rels rel) conds
 kind_line catalog (Update users sign rel sets conds) = or_next

@@ -11,7 +11,7 @@ first_refusal [] = None
 first_refusal (line ∷ lines) = or_next line (first_refusal lines)
 
 -- the refusal of a command: the first reason, in this order, that applies
-abbrev pub refusal_of : Catalog → Command → Option BindError
+unfoldable pub refusal_of : Catalog → Command → Option BindError
 refusal_of catalog c = first_refusal
     (text_line c ∷ items_line c ∷ relation_line catalog c ∷ user_line catalog c ∷ column_line catalog c ∷ taken_line catalog c
     ∷ repeat_line c ∷ deep_line c ∷ arity_line catalog c ∷ kind_line catalog c ∷ [])

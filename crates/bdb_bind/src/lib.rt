@@ -3,8 +3,12 @@
 
 mod binding;
 mod bound;
+mod kinds;
 mod lookup;
+mod names;
 mod parts;
+mod refusals;
+mod shape;
 
 pub use binding::{bind, is_built};
 pub use bound::{BindError, Bound};

@@ -2,9 +2,12 @@
 #![tactic(auto)]
 
 mod error;
+mod keywords;
 mod reading;
 mod stop;
 mod target;
+mod tokens;
+mod wide;
 
 pub use error::ParseError;
 pub use reading::parse;

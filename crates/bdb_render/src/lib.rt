@@ -1,13 +1,12 @@
-// A library with one function.
+//! The texts of replies: rows, counts, worlds and refusals, as a curator reads them.
 #![tactic(auto)]
 
-ghost use Rattle.std.specs.Prelude.{◌≡◌};
-ghost use Rattle.bdb_render.specs.Echo.{echo_of};
+mod lines;
+mod names;
+mod refusal;
+mod reply;
 
-// The `ensures` clause is the contract: what `echo` returns is `echo_of` of its argument, a definition
-// in `specs/Echo.antt`, which a caller's clause can cite too.
-pub fn echo(x: usize) -> usize
-    ensures { result ≡ echo_of x }
-{
-    x
-}
+pub use refusal::{Refusal, refusal_reply};
+pub use reply::{
+    count_reply, ok_reply, path_text, rows_reply, tuple_text, value_text, world_reply,
+};

@@ -1,0 +1,3 @@
+pub mod Pieces
+pub mod Failure
+pub mod Streams

@@ -1,0 +1,4 @@
+pub mod Compared
+pub mod Forms
+pub mod Keys
+pub mod Numbers

@@ -1,0 +1,109 @@
+// Readers of one or two tokens at the front of a list: each gives what it read and the rest.
+ghost use Rattle.std.specs.Prelude.{◌≡◌, List, Some};
+ghost use Rattle.bdb_parse.specs.Gives.{Gives};
+ghost use Rattle.bdb_parse.specs.Reading.{end_at, word_at, text_at, dot_at, equals_at, open_at, cmp_at, keyword_at, name_at};
+
+use crate::error::ParseError;
+use crate::keywords::{is_keyword, is_reserved};
+use bdb_base::{Cmp, Exact, Txt};
+use bdb_lex::Token;
+use std::alloc::Global;
+
+/// Nothing is left.
+pub fn end(tokens: &[Token]) -> Result<&[Token], ParseError>
+    ensures { Gives (λ x. x.now) result (end_at tokens.now) }
+{
+    match tokens {
+        [] => Ok(tokens),
+        [_, ..] => Err(ParseError::Syntax),
+    }
+}
+
+/// A word.
+pub fn word(tokens: &[Token]) -> Result<(&Txt, &[Token]), ParseError>
+    ensures { Gives (λ x. (x.0.now, x.1.now)) result (word_at tokens.now) }
+{
+    match tokens {
+        [Token::Word(word), rest @ ..] => Ok((word, rest)),
+        _ => Err(ParseError::Syntax),
+    }
+}
+
+/// A text.
+pub fn text(alloc: Global, tokens: &[Token]) -> Result<(Txt, &[Token]), ParseError>
+    ensures { Gives (λ x. (x.0, x.1.now)) result (text_at tokens.now) }
+{
+    match tokens {
+        [Token::Text(text), rest @ ..] => Ok((text.try_clone(alloc)?, rest)),
+        _ => Err(ParseError::Syntax),
+    }
+}
+
+/// A dot.
+pub fn dot(tokens: &[Token]) -> Result<&[Token], ParseError>
+    ensures { Gives (λ x. x.now) result (dot_at tokens.now) }
+{
+    match tokens {
+        [Token::Dot, rest @ ..] => Ok(rest),
+        _ => Err(ParseError::Syntax),
+    }
+}
+
+/// An equals sign.
+pub fn equals(tokens: &[Token]) -> Result<&[Token], ParseError>
+    ensures { Gives (λ x. x.now) result (equals_at tokens.now) }
+{
+    match tokens {
+        [Token::Eq, rest @ ..] => Ok(rest),
+        _ => Err(ParseError::Syntax),
+    }
+}
+
+/// An opening parenthesis.
+pub fn open(tokens: &[Token]) -> Result<&[Token], ParseError>
+    ensures { Gives (λ x. x.now) result (open_at tokens.now) }
+{
+    match tokens {
+        [Token::ParenL, rest @ ..] => Ok(rest),
+        _ => Err(ParseError::Syntax),
+    }
+}
+
+/// A comparison's sign.
+pub fn cmp(tokens: &[Token]) -> Result<(Cmp, &[Token]), ParseError>
+    ensures { Gives (λ x. (x.0, x.1.now)) result (cmp_at tokens.now) }
+{
+    match tokens {
+        [Token::Eq, rest @ ..] => Ok((Cmp::Eq, rest)),
+        [Token::Ne, rest @ ..] => Ok((Cmp::Ne, rest)),
+        [Token::Lt, rest @ ..] => Ok((Cmp::Lt, rest)),
+        [Token::Le, rest @ ..] => Ok((Cmp::Le, rest)),
+        [Token::Gt, rest @ ..] => Ok((Cmp::Gt, rest)),
+        [Token::Ge, rest @ ..] => Ok((Cmp::Ge, rest)),
+        _ => Err(ParseError::Syntax),
+    }
+}
+
+/// This keyword, in any case.
+#[tactic(auto, unfolding(crate::specs::Reading::keyword_at))]
+pub fn keyword<'a>(keyword: &str, tokens: &'a [Token]) -> Result<&'a [Token], ParseError>
+    ensures { Gives (λ x. x.now) result (keyword_at keyword.now tokens.now) }
+{
+    let (word, rest) = word(tokens)?;
+    if !is_keyword(keyword, word) {
+        return Err(ParseError::Syntax);
+    }
+    Ok(rest)
+}
+
+/// A word that isn't reserved, as written.
+#[tactic(auto, unfolding(crate::specs::Reading::name_at))]
+pub fn name(alloc: Global, tokens: &[Token]) -> Result<(Txt, &[Token]), ParseError>
+    ensures { Gives (λ x. (x.0, x.1.now)) result (name_at tokens.now) }
+{
+    let (word, rest) = word(tokens)?;
+    if is_reserved(word) {
+        return Err(ParseError::Syntax);
+    }
+    Ok((word.try_clone(alloc)?, rest))
+}
