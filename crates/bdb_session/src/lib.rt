@@ -1,13 +1,10 @@
-// A library with one function.
+//! The belief machine, one command at a time.
 #![tactic(auto)]
 
-ghost use Rattle.std.specs.Prelude.{◌≡◌};
-ghost use Rattle.bdb_session.specs.Echo.{echo_of};
+mod event;
+mod reading;
+mod reply;
 
-// The `ensures` clause is the contract: what `echo` returns is `echo_of` of its argument, a definition
-// in `specs/Echo.antt`, which a caller's clause can cite too.
-pub fn echo(x: usize) -> usize
-    ensures { result ≡ echo_of x }
-{
-    x
-}
+pub use event::Event;
+pub use reading::Reading;
+pub use reply::Reply;
