@@ -6,3 +6,4 @@ pub mod SameLemmas
 pub mod SegmentLemmas
 pub mod SetLemmas
 pub mod WorldLemmas
+pub mod WorldRowsLemmas

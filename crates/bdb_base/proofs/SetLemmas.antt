@@ -1,5 +1,6 @@
 -- Finite sets as lists in strict order.
-use Rattle.std.proofs.Common.{◌≡◌, ◌∙◌, ℕ, ◌+◌, ◌<◌, ◌≤◌, Bool, true, false, not, ◌&&◌, ◌||◌, ◌⊎◌, List, [], ◌∷◌, ◌++◌, refl, ap, sym, subst, inl, inr, suc, Option, Some, filter, length, take, drop, get_or, insert, remove, arith, absurd}
+use Rattle.std.proofs.Common.{◌≡◌, ◌∙◌, ℕ, ◌+◌, ◌<◌, ◌≤◌, Bool, true, false, not, ◌&&◌, ◌||◌, ◌⊎◌, List, [], ◌∷◌, ◌++◌, refl, ap, sym, subst, inl, inr, suc, Option, Some, filter, length, take, drop, get_or, insert, remove, arith}
+use Prim.Native.Nat.{zero}
 use Rattle.std.specs.List.{list_any, list_all, slice_get}
 use Rattle.std.specs.declared.cmp.Ordering.{Ordering}
 use Rattle.std.specs.declared.cmp.Ordering.TheVariants.{Less, Equal, Greater}
@@ -203,7 +204,7 @@ module _ {X : Type 0} {R : X → X → Ordering} (o : IsExactOrder R) where
       filter_kept_one (λ z. not (is_eq (R z x))) y (ys ++ x ∷ back) (ap (λ r. not (is_eq r)) (is_lt-Less (R y x) k.0)) ∙ ap (λ zs. y ∷ zs) (taken_from x ys back k.1 g)
 
   pub stands_at : (xs : List X) (x : X) (at : ℕ) → ascending R xs ≡ true → slice_get xs at ≡ Some x → StandsAt R xs x at
-  stands_at [] x at h e = absurd (cc)
+  stands_at [] x at h e = cc
   stands_at (y ∷ ys) x zero h e =
       let s : y ≡ x = cc in
       let k = and_parts (are_above R y ys) (ascending R ys) h in
@@ -223,7 +224,7 @@ module _ {X : Type 0} {R : X → X → Ordering} (o : IsExactOrder R) where
       ap (λ l. put_in R l x) s.split ∙ put_onto x (take at xs) (drop (suc at) xs) s.below ∙ sym s.split
 
   pub member_stands : (xs : List X) (x : X) (at : ℕ) → slice_get xs at ≡ Some x → is_member R xs x ≡ true
-  member_stands [] x at e = absurd (cc)
+  member_stands [] x at e = cc
   member_stands (y ∷ ys) x zero e =
       let s : y ≡ x = cc in
       ap (λ b. b || is_member R ys x) (ap (λ z. is_eq (R z x)) s ∙ is_eq_itself x)

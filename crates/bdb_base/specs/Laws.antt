@@ -4,6 +4,7 @@ use Rattle.std.specs.Prelude.{◌≡◌, ◌≢◌, ◌↔◌, ℕ, true, false,
 use Rattle.std.specs.List.{list_any}
 use Rattle.std.specs.Ordering.{is_lt}
 use Rattle.bdb_base.specs.declared.kinds.Catalog.{Catalog}
+use Rattle.bdb_base.specs.declared.kinds.Held.{Held}
 use Rattle.bdb_base.specs.declared.kinds.Sign.{Sign}
 use Rattle.bdb_base.specs.declared.kinds.Sign.TheVariants.{Plus, Minus}
 use Rattle.bdb_base.specs.declared.kinds.Stmt.{Stmt}
@@ -15,7 +16,8 @@ use Rattle.bdb_base.specs.Order.{statement_cmp}
 use Rattle.bdb_base.specs.Same.{same_statement}
 use Rattle.bdb_base.specs.SortedSet.{ascending}
 use Rattle.bdb_base.specs.States.{is_state}
-use Rattle.bdb_base.specs.Worlds.{stated, believes, least_clash, IsConsistent}
+use Rattle.bdb_base.specs.WorldRows.{world_of, has_row, row_tuple_cmp}
+use Rattle.bdb_base.specs.Worlds.{explicit, stated, believes, least_clash, IsConsistent}
 
 -- a clash is one either way round
 abbrev pub ClashIsSymmetric : Type 0
@@ -58,3 +60,17 @@ LeastClashIsLeast = (keys : ℕ → ℕ) (stmts : List Stmt) → ascending state
 abbrev pub NoLeastClash : Type 0
 NoLeastClash = (keys : ℕ → ℕ) (stmts : List Stmt) (w : List ℕ) (t : Tuple) (s : Sign)
     → ((least_clash keys stmts w t s ≡ None) ↔ ((y : Stmt) → ¬ (ClashesAt keys stmts w t s y)))
+
+-- the rows of a world are its signed tuples, each marked explicit exactly where it is a statement of this very path
+abbrev pub RowsAreTheWorld : Type 0
+RowsAreTheWorld = (keys : ℕ → ℕ) (stmts : List Stmt) (w : List ℕ) (h : Held)
+    → ((has_row (world_of keys stmts w) h ≡ true) ↔ ((stated keys stmts w h.tuple h.sign ≡ true) × (h.explicit ≡ explicit stmts w h.tuple h.sign)))
+
+-- where no two statements of one path clash, no two rows of a world clash
+abbrev pub RowsDoNotClash : Type 0
+RowsDoNotClash = (keys : ℕ → ℕ) (stmts : List Stmt) → IsConsistent keys stmts → (w : List ℕ) (a b : Held)
+    → has_row (world_of keys stmts w) a ≡ true → has_row (world_of keys stmts w) b ≡ true → clash keys a.tuple a.sign b.tuple b.sign ≡ false
+
+-- where no two statements of one path clash, the rows of a world are in order by tuple, and no tuple stands twice
+abbrev pub TuplesStandOnce : Type 0
+TuplesStandOnce = (keys : ℕ → ℕ) (stmts : List Stmt) → IsConsistent keys stmts → (w : List ℕ) → ascending row_tuple_cmp (world_of keys stmts w) ≡ true

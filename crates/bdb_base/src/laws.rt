@@ -1,5 +1,5 @@
 //! What holds of clashes, worlds and belief, each law as the contract of a function that does nothing.
-ghost use Rattle.bdb_base.specs.Laws.{ClashIsSymmetric, WorldsAreConsistent, ValidIsConsistent, PlainInheritance, NegationsAreBelieved, LeastClashIsLeast, NoLeastClash};
+ghost use Rattle.bdb_base.specs.Laws.{ClashIsSymmetric, WorldsAreConsistent, ValidIsConsistent, PlainInheritance, NegationsAreBelieved, LeastClashIsLeast, NoLeastClash, RowsAreTheWorld, RowsDoNotClash, TuplesStandOnce};
 
 /// A clash is one either way round.
 #[tactic(auto, using(crate::proofs::ClashLemmas::clash_is_symmetric))]
@@ -40,4 +40,22 @@ pub fn least_clash_is_least()
 #[tactic(auto, using(crate::proofs::LeastLemmas::no_least_clash))]
 pub fn no_least_clash()
     ensures { NoLeastClash }
+{}
+
+/// The rows of a world are its signed tuples, each marked explicit exactly where it is a statement of the path.
+#[tactic(auto, using(crate::proofs::WorldRowsLemmas::rows_are_the_world))]
+pub fn rows_are_the_world()
+    ensures { RowsAreTheWorld }
+{}
+
+/// Where no two statements of one path clash, no two rows of a world clash.
+#[tactic(auto, using(crate::proofs::WorldRowsLemmas::rows_do_not_clash))]
+pub fn rows_do_not_clash()
+    ensures { RowsDoNotClash }
+{}
+
+/// Where no two statements of one path clash, the rows of a world stand in order by tuple, and no tuple stands twice.
+#[tactic(auto, using(crate::proofs::WorldRowsLemmas::tuples_stand_once))]
+pub fn tuples_stand_once()
+    ensures { TuplesStandOnce }
 {}

@@ -15,6 +15,7 @@ mod segments;
 mod text;
 mod texts;
 mod tuple;
+mod tuples;
 
 pub use changes::changed;
 pub use conditions::{compares, meets};
@@ -37,3 +38,4 @@ pub use texts::{
     append_separated, append_value,
 };
 pub use tuple::Tuple;
+pub use tuples::tuples_of;

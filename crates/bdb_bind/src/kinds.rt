@@ -27,7 +27,10 @@ pub fn check_kinds(alloc: Global, catalog: &Catalog, command: &Command) -> Resul
             Ok(())
         }
         Command::Update {
-            rel, sets, conds, ..
+            rel,
+            sets,
+            conds,
+            ..
         } => {
             let cols = columns_of(rels, rel);
             check_sets(alloc, cols, sets.as_slice())?;

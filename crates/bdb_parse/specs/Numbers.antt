@@ -1,12 +1,12 @@
 -- Numbers, by their spelling.
-use Rattle.std.specs.Prelude.{ℕ, ◌^◌, Bool, false, List, [], ◌∷◌, Option, Some, None, if◌then◌else◌, ◌==◌, pos, negsuc, ℤ, nat_lt}
-use Rattle.std.specs.Str.{all_ascii_digits}
+use Rattle.std.specs.Prelude.{ℕ, ◌^◌, Bool, not, ◌&&◌, length, List, [], ◌∷◌, Option, Some, None, if◌then◌else◌, ◌==◌, pos, negsuc, ℤ, nat_lt}
+use Rattle.std.specs.Char.{is_ascii_digit}
+use Rattle.std.specs.List.{list_all}
 use Rattle.std.specs.Str.Parse.{signed_digits_value}
 
 -- one digit or more, and nothing else
 abbrev pub are_digits : List ℕ → Bool
-are_digits [] = false
-are_digits (c ∷ cs) = all_ascii_digits (c ∷ cs)
+are_digits bytes = not (length bytes == 0) && list_all is_ascii_digit bytes
 
 -- the bytes without a minus sign at their front
 abbrev pub without_minus : List ℕ → List ℕ

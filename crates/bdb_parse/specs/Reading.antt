@@ -91,6 +91,11 @@ abbrev pub beliefs_at : List Token → List (List ℕ) × List Token
 beliefs_at (Word w ∷ Text t ∷ ts) = if is_keyword (codes "belief") w then (t ∷ (beliefs_at ts).0, (beliefs_at ts).1) else ([], Word w ∷ Text t ∷ ts)
 beliefs_at ts = ([], ts)
 
+-- 'belief' and a text
+abbrev pub belief_at : List Token → Option (List ℕ × List Token)
+belief_at (Word w ∷ Text t ∷ ts) = if is_keyword (codes "belief") w then Some (t, ts) else None
+belief_at _ = None
+
 -- the tokens after 'not', or all where it isn't there
 abbrev pub sign_of : List Token → Option (List Token) → Sign × List Token
 sign_of ts None = (Plus, ts)
@@ -211,6 +216,13 @@ whos_at (Word w ∷ Word a ∷ Dot ∷ Word c ∷ ts) =
     then (whos.Col (record { alias = Some a; col = c }) ∷ (whos_at ts).0, (whos_at ts).1)
     else ([], Word w ∷ Word a ∷ Dot ∷ Word c ∷ ts)
 whos_at ts = ([], ts)
+
+-- 'belief' and a text or a column
+abbrev pub who_at : List Token → Option (RawWho × List Token)
+who_at (Word w ∷ Text t ∷ ts) = if is_keyword (codes "belief") w then Some (whos.Name t, ts) else None
+who_at (Word w ∷ Word a ∷ Dot ∷ Word c ∷ ts) =
+    if is_keyword (codes "belief") w && (not (is_reserved a) && not (is_reserved c)) then Some (whos.Col (record { alias = Some a; col = c }), ts) else None
+who_at _ = None
 
 -- the tokens after 'as', or all where it isn't there
 abbrev pub past : List Token → Option (List Token) → List Token

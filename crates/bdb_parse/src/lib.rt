@@ -1,8 +1,12 @@
 //! Reading a command from its tokens.
 #![tactic(auto)]
 
+mod beliefs;
+mod cut;
 mod error;
 mod keywords;
+mod list;
+mod number;
 mod reading;
 mod stop;
 mod target;

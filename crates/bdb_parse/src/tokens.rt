@@ -1,5 +1,6 @@
 // Readers of one or two tokens at the front of a list: each gives what it read and the rest.
 ghost use Rattle.std.specs.Prelude.{◌≡◌, List, Some};
+ghost use Rattle.std.specs.Option.{option_copied};
 ghost use Rattle.bdb_parse.specs.Gives.{Gives};
 ghost use Rattle.bdb_parse.specs.Reading.{end_at, word_at, text_at, dot_at, equals_at, open_at, cmp_at, keyword_at, name_at};
 
@@ -84,16 +85,31 @@ pub fn cmp(tokens: &[Token]) -> Result<(Cmp, &[Token]), ParseError>
     }
 }
 
-/// This keyword, in any case.
+/// The tokens after this keyword, where it stands first, in any case.
 #[tactic(auto, unfolding(crate::specs::Reading::keyword_at))]
+pub fn after_keyword<'a>(keyword: &str, tokens: &'a [Token]) -> Option<&'a [Token]>
+    ensures { option_copied result ≡ keyword_at keyword.now tokens.now }
+{
+    match tokens {
+        [Token::Word(word), rest @ ..] => {
+            if is_keyword(keyword, word) {
+                Some(rest)
+            } else {
+                None
+            }
+        }
+        _ => None,
+    }
+}
+
+/// This keyword, in any case.
 pub fn keyword<'a>(keyword: &str, tokens: &'a [Token]) -> Result<&'a [Token], ParseError>
     ensures { Gives (λ x. x.now) result (keyword_at keyword.now tokens.now) }
 {
-    let (word, rest) = word(tokens)?;
-    if !is_keyword(keyword, word) {
-        return Err(ParseError::Syntax);
+    match after_keyword(keyword, tokens) {
+        Some(rest) => Ok(rest),
+        None => Err(ParseError::Syntax),
     }
-    Ok(rest)
 }
 
 /// A word that isn't reserved, as written.

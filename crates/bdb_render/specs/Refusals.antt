@@ -3,7 +3,7 @@ use Rattle.std.specs.Prelude.{ℕ, codes, List, ◌++◌, Option, None, Some}
 use Rattle.bdb_base.specs.declared.kinds.Catalog.{Catalog}
 use Rattle.bdb_base.specs.declared.kinds.What.{What}
 use Rattle.bdb_base.specs.declared.kinds.What.TheVariants as what
-use Rattle.bdb_base.specs.Texts.{quoted}
+use Rattle.bdb_base.specs.Texts.{dotted, quoted}
 use Rattle.bdb_render.specs.declared.refusal.Refusal.{Refusal}
 use Rattle.bdb_render.specs.declared.refusal.Refusal.TheVariants as refusal
 use Rattle.bdb_render.specs.Replies.{line, signed_text}
@@ -11,7 +11,7 @@ use Rattle.bdb_render.specs.Replies.{line, signed_text}
 -- a column: its name, behind the alias and a dot where it has an alias
 abbrev pub column_text : Option (List ℕ) → List ℕ → List ℕ
 column_text None col = col
-column_text (Some alias) col = alias ++ codes "." ++ col
+column_text (Some alias) col = dotted alias col
 
 -- what a base can be full of
 abbrev pub what_text : What → List ℕ
@@ -39,7 +39,7 @@ cause_text catalog refusal.Repeat = codes "repeat"
 cause_text catalog refusal.Deep = codes "deep"
 cause_text catalog refusal.Arity = codes "arity"
 cause_text catalog (refusal.Kind alias col) = codes "kind " ++ column_text alias col
-cause_text catalog (refusal.Unsafe alias col) = codes "unsafe " ++ column_text (Some alias) col
+cause_text catalog (refusal.Unsafe alias col) = codes "unsafe " ++ dotted alias col
 cause_text catalog (refusal.Clash sign t) = codes "clash " ++ signed_text catalog sign t
 cause_text catalog (refusal.Full what) = codes "full " ++ what_text what
 cause_text catalog refusal.Many = codes "many"

@@ -10,3 +10,6 @@ pub use refusal::{Refusal, refusal_reply};
 pub use reply::{
     count_reply, ok_reply, path_text, rows_reply, tuple_text, value_text, world_reply,
 };
+
+#[cfg(test)]
+mod tests;

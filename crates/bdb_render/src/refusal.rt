@@ -1,11 +1,11 @@
 // Why a command is refused, and the reply to it.
-ghost use Rattle.std.specs.Prelude.{◌≡◌, ◌++◌, codes, IfOk, OnOk, Some};
-ghost use Rattle.bdb_base.specs.Texts.{quoted};
+ghost use Rattle.std.specs.Prelude.{◌≡◌, ◌++◌, codes, IfOk, OnOk};
+ghost use Rattle.bdb_base.specs.Texts.{dotted, quoted};
 ghost use Rattle.bdb_render.specs.Refusals.{cause_text, column_text, refusal_reply, what_text};
 ghost use Rattle.bdb_render.specs.Replies.{signed_text};
 
 use crate::lines;
-use bdb_base::{Catalog, List, Sign, Tuple, Txt, What, append_quoted};
+use bdb_base::{Catalog, List, Sign, Tuple, Txt, What, append_dotted, append_quoted};
 use std::alloc::{AllocError, Global};
 
 /// Why a command, or the rest of a script, is refused.
@@ -125,21 +125,18 @@ fn append_column(
     ensures { OnOk result (out.new.items ≡ out.old.items ++ (word.now ++ column_text alias.now col.now)) }
 {
     out.extend_from_slice(word)?;
-    if let Some(alias) = alias {
-        out.extend_from_slice(alias.as_bytes())?;
-        out.push(b'.')?;
+    match alias {
+        Some(alias) => append_dotted(out, alias.as_bytes(), col.as_bytes()),
+        None => out.extend_from_slice(col.as_bytes()),
     }
-    out.extend_from_slice(col.as_bytes())
 }
 
 /// Appends the column that a query leaves unbound.
 fn append_unsafe(out: &mut Vec<u8>, alias: &Txt, col: &Txt) -> Result<(), AllocError>
-    ensures { OnOk result (out.new.items ≡ out.old.items ++ (codes "unsafe " ++ column_text (Some alias.now) col.now)) }
+    ensures { OnOk result (out.new.items ≡ out.old.items ++ (codes "unsafe " ++ dotted alias.now col.now)) }
 {
     out.extend_from_slice(b"unsafe ")?;
-    out.extend_from_slice(alias.as_bytes())?;
-    out.push(b'.')?;
-    out.extend_from_slice(col.as_bytes())
+    append_dotted(out, alias.as_bytes(), col.as_bytes())
 }
 
 /// Appends the statement that clashes.

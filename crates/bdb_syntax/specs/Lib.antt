@@ -1,3 +1,4 @@
 pub mod Keywords
 pub mod Filled
 pub mod Printable
+pub mod Printed

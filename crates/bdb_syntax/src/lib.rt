@@ -2,5 +2,7 @@
 #![tactic(auto)]
 
 mod command;
+mod printing;
 
 pub use command::{Command, RawCol, RawCond, RawItem, RawQuery, RawSet, RawSide, RawWho};
+pub use printing::print;

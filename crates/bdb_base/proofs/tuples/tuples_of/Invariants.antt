@@ -1,0 +1,11 @@
+use Rattle.std.proofs.Common.{◌≡◌, true, [], drop, map}
+use Rattle.bdb_base.specs.Order.{tuple_cmp}
+use Rattle.bdb_base.specs.SortedSet.{ascending, put_all}
+use Rattle.bdb_base.proofs.tuples.tuples_of.Given as goal
+
+-- the tuples so far are in order, and those of the statements to come make of them the whole set
+abbrev pub invariant-loop-x : goal.invariant-loop-x
+invariant-loop-x l = record {
+  sorted : ascending tuple_cmp l.tuples ≡ true;
+  rest : put_all tuple_cmp [] (map (λ x. x.tuple) l.stmts) ≡ put_all tuple_cmp l.tuples (map (λ x. x.tuple) (drop l.x-index l.stmts));
+}

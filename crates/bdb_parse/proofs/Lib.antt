@@ -1,0 +1,4 @@
+pub mod CutLemmas
+pub mod ListLemmas
+pub mod BeliefLemmas
+pub mod NumberLemmas
