@@ -14,4 +14,5 @@ mod tokens;
 mod wide;
 
 pub use error::ParseError;
+pub use keywords::is_keyword;
 pub use reading::parse;
