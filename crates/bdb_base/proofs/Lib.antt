@@ -1,5 +1,7 @@
 pub mod ClashLemmas
 pub mod LeastLemmas
+pub mod BaseLemmas
+pub mod CountLemmas
 pub mod ListLemmas
 pub mod Rows
 pub mod SameLemmas

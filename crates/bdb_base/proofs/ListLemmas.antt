@@ -1,5 +1,5 @@
 -- Tests of all and of some items, and what a filter leaves.
-use Rattle.std.proofs.Common.{◌≡◌, ◌∙◌, ℕ, Bool, true, false, not, ◌&&◌, ◌||◌, List, [], ◌∷◌, ◌++◌, refl, ap, sym, inl, inr, suc, cond, Option, Some, filter, length, ◌≤◌, arith, map}
+use Rattle.std.proofs.Common.{◌≡◌, ◌∙◌, ℕ, Bool, true, false, ◌||◌, List, [], ◌∷◌, refl, ap, sym, inl, inr, suc, Some, filter, length, ◌≤◌, arith}
 use Prim.Native.Nat.{zero}
 use Rattle.std.specs.List.{list_any, list_all, slice_get}
 use Rattle.std.proofs.lemmas.Bool.{cases_Bool, and_parts, and_from, or_parts, or_from, cond-true, cond-false}

@@ -1,11 +1,10 @@
 -- The definitions, computed on small bases: what each command of a short session shows.
-use Rattle.std.proofs.Common.{◌≡◌, ℕ, Bool, true, false, List, [], ◌∷◌, refl, Option, Some, None}
+use Rattle.std.proofs.Common.{◌≡◌, ℕ, Bool, true, false, List, [], ◌∷◌, refl, Some, None}
 use Rattle.std.specs.Prelude.{codes}
 use Rattle.bdb_base.specs.declared.kinds.Cmp.TheVariants.{Eq, Ne}
 use Rattle.bdb_base.specs.declared.kinds.Cond.{Cond}
 use Rattle.bdb_base.specs.declared.kinds.Held.{Held}
 use Rattle.bdb_base.specs.declared.kinds.Operand.TheVariants.{Col, Lit}
-use Rattle.bdb_base.specs.declared.kinds.SetCol.{SetCol}
 use Rattle.bdb_base.specs.declared.kinds.Sign.{Sign}
 use Rattle.bdb_base.specs.declared.kinds.Sign.TheVariants.{Plus, Minus}
 use Rattle.bdb_base.specs.declared.kinds.Stmt.{Stmt}

@@ -1,7 +1,5 @@
 -- The rows of a world are its signed tuples; no two of them clash, and no tuple stands twice.
-use Rattle.std.proofs.Common.{◌≡◌, ◌∙◌, ℕ, Bool, true, false, ◌&&◌, ◌||◌, List, [], ◌∷◌, ◌++◌, ◌⊎◌, inl, inr, refl, ap, sym, map, cond}
-use Rattle.std.specs.declared.cmp.Ordering.{Ordering}
-use Rattle.std.specs.Bool.{Decides}
+use Rattle.std.proofs.Common.{◌≡◌, ◌∙◌, ℕ, Bool, true, false, ◌&&◌, ◌||◌, List, [], ◌∷◌, ◌++◌, ◌⊎◌, inl, inr, refl, ap, sym, map}
 use Rattle.std.specs.Cmp.{booleans_Decides}
 use Rattle.std.specs.List.{list_any, list_all, flat_map}
 use Rattle.std.specs.Ordering.{is_eq, is_lt}
@@ -13,14 +11,13 @@ use Rattle.bdb_base.specs.declared.kinds.Sign.{Sign}
 use Rattle.bdb_base.specs.declared.kinds.Sign.TheVariants.{Plus, Minus}
 use Rattle.bdb_base.specs.declared.kinds.Stmt.{Stmt}
 use Rattle.bdb_base.specs.declared.tuple.Tuple.{Tuple}
-use Rattle.bdb_base.specs.Clash.{clash}
 use Rattle.bdb_base.specs.Laws.{RowsAreTheWorld, RowsDoNotClash, TuplesStandOnce}
 use Rattle.bdb_base.specs.Order.{tuple_cmp}
 use Rattle.bdb_base.specs.OrderLemmas.{tuple_exact, is_eq_tuple_cmp}
 use Rattle.bdb_base.specs.Same.{same_tuple, same_sign}
 use Rattle.bdb_base.specs.SameLemmas.{same_tuple-Decides, same_sign-Decides}
-use Rattle.bdb_base.specs.SortedSet.{ascending, is_member, sorted_set}
-use Rattle.bdb_base.specs.WorldRows.{tuples_of, row_at, rows_at, world_of, same_row, has_row, row_tuple_cmp}
+use Rattle.bdb_base.specs.SortedSet.{ascending, is_member}
+use Rattle.bdb_base.specs.WorldRows.{tuples_of, row_at, rows_at, same_row, has_row, row_tuple_cmp}
 use Rattle.bdb_base.specs.Worlds.{explicit, stated, IsConsistent}
 use Rattle.bdb_base.proofs.SetLemmas.{set_is_ascending, set_keeps_members}
 use Rattle.bdb_base.proofs.WorldLemmas.{list_any_weaker, found_by, stated_tuples_are_explicit, worlds_are_consistent}

@@ -1,5 +1,5 @@
 -- Bases, and when one is valid.
-use Rattle.std.specs.Prelude.{◌≡◌, ℕ, ◌+◌, Bool, true, false, not, ◌&&◌, nat_lt, nat_le, List, [], ◌∷◌, length, map, Option, None, Some, cond}
+use Rattle.std.specs.Prelude.{◌≡◌, ℕ, ◌+◌, Bool, true, false, not, ◌&&◌, nat_lt, nat_le, List, [], ◌∷◌, ◌++◌, length, map, Option, None, Some, cond}
 use Rattle.std.specs.List.{list_any, list_all, slice_get}
 use Rattle.std.specs.Str.{is_utf8}
 use Rattle.bdb_base.specs.declared.kinds.Value.{Value}
@@ -50,13 +50,14 @@ fits_columns [] [] = true
 fits_columns (c ∷ cs) (v ∷ vs) = fits_kind c.kind v && fits_columns cs vs
 fits_columns _ _ = false
 
+-- values fit a relation, if there is one
+abbrev pub fits_definition : Option RelDef → List Value → Bool
+fits_definition None vals = false
+fits_definition (Some def) vals = fits_columns def.cols vals
+
 -- a tuple fits its relation
 abbrev pub fits_relation : List RelDef → Tuple → Bool
-fits_relation rels t = fits_defined (slice_get rels t.rel) t.vals
-  where
-    fits_defined : Option RelDef → List Value → Bool
-    fits_defined None vals = false
-    fits_defined (Some def) vals = fits_columns def.cols vals
+fits_relation rels t = fits_definition (slice_get rels t.rel) t.vals
 
 -- no name stands twice
 abbrev pub are_distinct : List (List ℕ) → Bool
@@ -90,18 +91,38 @@ pub record IsCatalog (c : Catalog) : Type 0 where
 abbrev pub belongs : Catalog → Stmt → Bool
 belongs c x = alternates x.path && nat_le (length x.path) 16 && list_all (is_user c.users) x.path && fits_relation c.rels x.tuple
 
+-- a statement has the tuple
+abbrev pub has_tuple : List Stmt → Tuple → Bool
+has_tuple stmts t = list_any (λ x. same_tuple t x.tuple) stmts
+
+-- how many different tuples the statements have
+abbrev pub tuple_count : List Stmt → ℕ
+tuple_count stmts = distinct_count same_tuple (map (λ x. x.tuple) stmts)
+
 -- the statements are in order, belong to the catalog, do not clash at one path, and are not too many
 pub record AreStatements (c : Catalog) (stmts : List Stmt) : Type 0 where
   pub sorted : ascending statement_cmp stmts ≡ true
   pub belong : list_all (belongs c) stmts ≡ true
   pub no_clash : list_all (λ x. not (contradicted (key_lengths c.rels) stmts x.path x.tuple x.sign)) stmts ≡ true
   pub few_stmts : nat_le (length stmts) 20000 ≡ true
-  pub few_tuples : nat_le (distinct_count same_tuple (map (λ x. x.tuple) stmts)) 4000 ≡ true
+  pub few_tuples : nat_le (tuple_count stmts) 4000 ≡ true
 
 -- a catalog and statements are those of a valid base
 pub record IsValid (c : Catalog) (xs : List Stmt) : Type 0 where
   pub catalog : IsCatalog c
   pub stmts : AreStatements c xs
+
+-- no relations, users or statements
+abbrev pub empty_contents : Contents
+empty_contents = record { catalog = record { rels = []; users = [] }; stmts = [] }
+
+-- the catalog with one more user
+abbrev pub with_user : Catalog → List ℕ → Catalog
+with_user c name = record c { users = c.users ++ name ∷ [] }
+
+-- the catalog with one more relation
+abbrev pub with_relation : Catalog → RelDef → Catalog
+with_relation c def = record c { rels = c.rels ++ def ∷ [] }
 
 -- a statement stands
 abbrev pub stands : List Stmt → Stmt → Bool

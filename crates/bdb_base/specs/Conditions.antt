@@ -1,5 +1,5 @@
 -- Tests of a tuple's columns, and changes of them.
-use Rattle.std.specs.Prelude.{ℕ, Bool, false, nat_eq, List, [], ◌∷◌, Option, Some, None, cond, slice_set}
+use Rattle.std.specs.Prelude.{Bool, false, nat_eq, List, [], ◌∷◌, Option, Some, None, cond, slice_set}
 use Rattle.std.specs.declared.cmp.Ordering.{Ordering}
 use Rattle.std.specs.List.{list_all, slice_get}
 use Rattle.std.specs.Ordering.{is_eq, is_ne, is_lt, is_le, is_gt, is_ge}

@@ -1,4 +1,5 @@
 pub mod Alternation
+pub mod BaseLaws
 pub mod Bases
 pub mod Causes
 pub mod Changes

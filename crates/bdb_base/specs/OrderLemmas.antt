@@ -1,11 +1,11 @@
 -- Each order is total, and answers Equal exactly where two things are equal.
-use Rattle.std.proofs.Common.{◌≡◌, ◌∙◌, ℕ, Bool, true, false, ◌&&◌, nat_eq, List, length, refl, ap, sym, ◌↔◌, inl, inr, arith, subst, eq-eqb}
+use Rattle.std.proofs.Common.{◌≡◌, ◌∙◌, ℕ, Bool, ◌&&◌, nat_eq, List, length, refl, ap, sym, ◌↔◌, inl, inr, arith, eq-eqb}
 use Rattle.std.specs.Bool.{Decides}
 use Rattle.std.specs.declared.cmp.Ordering.{Ordering}
 use Rattle.std.specs.declared.cmp.Ordering.TheVariants.{Less, Equal, Greater}
-use Rattle.std.specs.Ordering.{nat_cmp, int_cmp, is_eq, ordering_then, ordering_reverse}
+use Rattle.std.specs.Ordering.{nat_cmp, is_eq, ordering_then, ordering_reverse}
 use Rattle.std.specs.Cmp.{IsTotalOrder}
-use Rattle.std.specs.Cmp.Lexicographic.{slice_cmp, pointwise, lists_ties, texts_ties}
+use Rattle.std.specs.Cmp.Lexicographic.{slice_cmp, lists_ties, texts_ties}
 use Rattle.std.proofs.lemmas.Bool.{cases_Bool, and_right}
 use Rattle.std.proofs.lemmas.Bool.Decides.{nat_tests}
 use Rattle.std.proofs.lemmas.Cmp.{then_total, on_total, lists_total, nat_cmp_total, int_cmp_total, nat_list_cmp_total, tied_itself}
@@ -17,7 +17,7 @@ use Rattle.bdb_base.specs.declared.kinds.Stmt.{Stmt}
 use Rattle.bdb_base.specs.declared.tuple.Tuple.{Tuple}
 use Rattle.bdb_base.specs.Order.{value_cmp, row_cmp, tuple_cmp, path_cmp, sign_cmp, statement_cmp}
 use Rattle.bdb_base.specs.Same.{same_path, same_value, same_values, same_tuple, same_sign, same_statement}
-use Rattle.bdb_base.specs.SameLemmas.{same_path-Decides, same_value-Decides, same_values-Decides, same_tuple-Decides, same_sign-Decides, same_statement-Decides}
+use Rattle.bdb_base.specs.SameLemmas.{same_path-Decides, same_value-Decides, same_values-Decides, same_tuple-Decides, same_statement-Decides}
 use Rattle.bdb_base.specs.SortedSet.{IsExactOrder}
 
 -- ---- totality

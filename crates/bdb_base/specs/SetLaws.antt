@@ -1,5 +1,5 @@
 -- What holds of finite sets as lists in strict order, over any exact order.
-use Rattle.std.specs.Prelude.{◌≡◌, Bool, true, not, ◌&&◌, ◌||◌, List, []}
+use Rattle.std.specs.Prelude.{◌≡◌, true, not, ◌&&◌, ◌||◌, List, []}
 use Rattle.std.specs.declared.cmp.Ordering.{Ordering}
 use Rattle.std.specs.Ordering.{is_eq}
 use Rattle.bdb_base.specs.SortedSet.{is_member, ascending, put_in, taken_out, sorted_set, put_all}

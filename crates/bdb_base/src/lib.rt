@@ -2,9 +2,11 @@
 //! with the definitions of worlds and belief in `specs/`.
 #![tactic(auto)]
 
+mod base;
 mod changes;
 mod conditions;
 mod conflict;
+mod counts;
 mod kinds;
 pub mod laws;
 mod list;
@@ -16,10 +18,13 @@ mod text;
 mod texts;
 mod tuple;
 mod tuples;
+mod validity;
 
+pub use base::Base;
 pub use changes::changed;
 pub use conditions::{compares, meets};
 pub use conflict::{clash, key_of, same_key, same_tuple, same_value, same_values};
+pub use counts::{distinct_tuples, has_tuple};
 pub use kinds::{
     Catalog, Cmp, ColDef, Cond, Held, Item, Kind, Operand, Query, Ref, RelDef, SetCol, Sign, Stmt,
     Value, What, Who, World,
@@ -27,8 +32,9 @@ pub use kinds::{
 pub use list::{Exact, List};
 pub use order::{cmp_path, cmp_stmt, cmp_tuple, cmp_value};
 pub use ordered::{
-    Ordered, loop_makes_set, members_make_set, place_of, put, put_adds_member, put_keeps_order,
-    set_is_ascending, set_keeps_members, take, take_drops_member, take_keeps_order,
+    Ordered, loop_makes_set, members_make_set, place_of, put, put_adds_member, put_copy,
+    put_keeps_order, set_is_ascending, set_keeps_members, take, take_drops_member,
+    take_keeps_order,
 };
 pub use path::{Path, PathError};
 pub use segments::{path_is_prefix, path_is_suffix, path_tail};
@@ -39,3 +45,7 @@ pub use texts::{
 };
 pub use tuple::Tuple;
 pub use tuples::tuples_of;
+pub use validity::{
+    add_relation_is_valid, add_user_is_valid, put_counts_statement, put_counts_tuple, put_is_valid,
+    take_is_valid,
+};

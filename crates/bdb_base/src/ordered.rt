@@ -8,7 +8,7 @@ use crate::list::{Exact, List};
 use crate::order::{cmp_path, cmp_stmt, cmp_tuple, cmp_value};
 use crate::path::Path;
 use crate::tuple::Tuple;
-use std::alloc::AllocError;
+use std::alloc::{AllocError, Global};
 use std::cmp::Ordering;
 
 /// A type whose values stand in one order, in which two are equal only where they are the same.
@@ -109,6 +109,24 @@ pub fn put<X: Ordered>(list: &mut List<X>, x: X) -> Result<bool, AllocError>
         Ok(_) => Ok(false),
         Err(at) => {
             list.insert(at, x)?;
+            Ok(true)
+        }
+    }
+}
+
+/// Puts a copy of an item into a set, and copies it only where it is added. True where it was added, false where it
+/// stood. After a refusal the set is unchanged.
+pub fn put_copy<X: Ordered>(alloc: Global, list: &mut List<X>, x: &X) -> Result<bool, AllocError>
+    requires { ascending X.order list.old ≡ true }
+    ensures added { IfOk result (λ added. added ≡ not (is_member X.order list.old x.now)) }
+    ensures ok { OnOk result (list.new ≡ put_in X.order list.old x.now) }
+    ensures err { OnErr result (list.new ≡ list.old) }
+{
+    match place_of(list.as_slice(), x) {
+        Ok(_) => Ok(false),
+        Err(at) => {
+            let copy = x.try_clone(alloc)?;
+            list.insert(at, copy)?;
             Ok(true)
         }
     }

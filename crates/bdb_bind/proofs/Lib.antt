@@ -1,3 +1,7 @@
+pub mod CatalogLemmas
+pub mod Cleared
 pub mod Exits
-pub mod Repeats
+pub mod Founds
 pub mod Misfits
+pub mod PathLemmas
+pub mod Repeats

@@ -1,5 +1,5 @@
 -- Looking names up in a catalog.
-use Rattle.std.specs.Prelude.{ℕ, Bool, List, [], ◌∷◌, Option, None, Some, find}
+use Rattle.std.specs.Prelude.{ℕ, Bool, List, [], map, Option, None, Some, find}
 use Rattle.std.specs.Option.{option_map, is_some, unwrap_or}
 use Rattle.std.specs.List.{position_from}
 use Rattle.bdb_base.specs.declared.kinds.Kind.{Kind}
@@ -15,22 +15,22 @@ uid_of users name = position_from (λ x. same_text x name) 1 users
 abbrev pub is_user_name : List (List ℕ) → List ℕ → Bool
 is_user_name users name = is_some (uid_of users name)
 
--- the users of names, each of which has one
+-- the path of names, each of which is a user's
 abbrev pub path_of : List (List ℕ) → List (List ℕ) → List ℕ
-path_of users [] = []
-path_of users (n ∷ ns) = unwrap_or (uid_of users n) 0 ∷ path_of users ns
+path_of users names = map (λ name. unwrap_or (uid_of users name) 0) names
 
 -- the number of a relation: its place, from 0
 abbrev pub number_of : List RelDef → List ℕ → Option ℕ
 number_of rels name = position_from (λ r. same_text r.name name) 0 rels
 
+-- the columns of a relation that may not be there
+abbrev pub columns_in : Option RelDef → List ColDef
+columns_in None = []
+columns_in (Some def) = def.cols
+
 -- the columns of the relation of a name
 abbrev pub columns_of : List RelDef → List ℕ → List ColDef
-columns_of rels name = columns (find (λ r. same_text r.name name) rels)
-  where
-    columns : Option RelDef → List ColDef
-    columns None = []
-    columns (Some def) = def.cols
+columns_of rels name = columns_in (find (λ r. same_text r.name name) rels)
 
 -- the place of a column, from 0
 abbrev pub column_at : List ColDef → List ℕ → Option ℕ

@@ -8,6 +8,7 @@ ghost use Rattle.bdb_bind.specs.Binding.{bound_of};
 
 use crate::bound::{BindError, Bound};
 use crate::kinds::check_kinds;
+use crate::making::bound_of;
 use crate::names::{check_columns, check_relation, check_taken, check_users};
 use crate::shape::{check_arity, check_depth, check_items, check_repeat, check_texts};
 use bdb_base::Catalog;
@@ -22,7 +23,11 @@ pub fn bind(alloc: Global, catalog: &Catalog, command: &Command) -> Result<Bound
     ensures ok { IfOk result (λ b. (refusal_of catalog.now command.now ≡ None) × (b ≡ bound_of catalog.now command.now)) }
     ensures refused { IfErr result (λ e. e ≢ BindError.Memory → refusal_of catalog.now command.now ≡ Some e) }
 {
-    Err(BindError::Memory)
+    check(alloc, catalog, command)?;
+    match bound_of(alloc, catalog, command) {
+        Ok(bound) => Ok(bound),
+        Err(_) => Err(BindError::Memory),
+    }
 }
 
 /// Refuses a command with the first reason that applies.

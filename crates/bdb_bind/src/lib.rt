@@ -5,6 +5,7 @@ mod binding;
 mod bound;
 mod kinds;
 mod lookup;
+mod making;
 mod names;
 mod parts;
 mod refusals;

@@ -1,5 +1,5 @@
 // Looking names up in a catalog.
-ghost use Rattle.std.specs.Prelude.{◌≡◌};
+ghost use Rattle.std.specs.Prelude.{◌≡◌, ◌<◌, ◌≤◌, length, IfSome};
 ghost use Rattle.bdb_base.specs.Same.{same_text};
 ghost use Rattle.bdb_bind.specs.Lookup.{uid_of, number_of, columns_of, column_at, kind_at};
 
@@ -14,7 +14,8 @@ pub fn is_same(a: &Txt, b: &Txt) -> bool
 
 /// The uid of a name: users are numbered from 1.
 pub fn uid_of(users: &[Txt], name: &Txt) -> Option<usize>
-    ensures { result ≡ uid_of users.now name.now }
+    ensures uid { result ≡ uid_of users.now name.now }
+    ensures within { IfSome result (λ uid. uid ≤ length users.now) }
 {
     for (at, user) in users.iter().enumerate() {
         if is_same(user, name) {
@@ -26,7 +27,8 @@ pub fn uid_of(users: &[Txt], name: &Txt) -> Option<usize>
 
 /// The number of a relation: relations are numbered from 0.
 pub fn number_of(rels: &[RelDef], name: &Txt) -> Option<usize>
-    ensures { result ≡ number_of rels.now name.now }
+    ensures number { result ≡ number_of rels.now name.now }
+    ensures within { IfSome result (λ number. number < length rels.now) }
 {
     for (at, rel) in rels.iter().enumerate() {
         if is_same(&rel.name, name) {
@@ -50,7 +52,8 @@ pub fn columns_of<'a>(rels: &'a [RelDef], name: &Txt) -> &'a [ColDef]
 
 /// The place of a column.
 pub fn column_at(cols: &[ColDef], name: &Txt) -> Option<usize>
-    ensures { result ≡ column_at cols.now name.now }
+    ensures place { result ≡ column_at cols.now name.now }
+    ensures within { IfSome result (λ place. place < length cols.now) }
 {
     for (at, col) in cols.iter().enumerate() {
         if is_same(&col.name, name) {

@@ -1,2 +1,4 @@
-pub mod Tables
+pub mod Held
+pub mod Rows
 pub mod Seen
+pub mod Tables

@@ -2,5 +2,6 @@
 #![tactic(auto)]
 
 mod keeper;
+mod rows;
 
 pub use keeper::{KeepError, Keeper};

@@ -24,6 +24,11 @@ abbrev pub IsWhole : Value → Type 0
 IsWhole (Int m) = FitsSigned w64 m
 IsWhole (Text text) = Unit {0}
 
+-- a text is a plain one
+abbrev pub HasPlainText : Value → Type 0
+HasPlainText (Int m) = Unit {0}
+HasPlainText (Text text) = IsPlain text
+
 -- an integer of eight bytes, or a plain text
 abbrev pub IsPlainValue : Value → Type 0
 IsPlainValue (Int m) = FitsSigned w64 m

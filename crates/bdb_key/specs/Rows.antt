@@ -9,7 +9,7 @@ use Rattle.bdb_base.specs.declared.kinds.Sign.TheVariants as signs
 use Rattle.bdb_base.specs.declared.kinds.ColDef.{ColDef}
 use Rattle.bdb_base.specs.declared.kinds.RelDef.{RelDef}
 use Rattle.bdb_key.specs.Bytes.{num_bytes, int_bytes, text_bytes, values_bytes}
-use Rattle.bdb_key.specs.Grammar.{IsNum, IsPlain, ArePlain}
+use Rattle.bdb_key.specs.Grammar.{IsNum, IsPlain, ArePlain, HasPlainText}
 use Rattle.bdb_key.specs.declared.row.TabRow.{TabRow}
 use Rattle.bdb_key.specs.declared.row.TabRow.TheVariants as rows
 
@@ -79,3 +79,8 @@ IsRow tab (rows.Link wid) = ((tab ≡ 7) ⊎ (tab ≡ 9)) × IsNum wid
 IsRow tab rows.Empty = (tab ≡ 8) ⊎ (tab ≡ 10)
 IsRow tab (rows.Val sign explicit) = tab ≡ 11
 IsRow tab (rows.Plain sign) = tab ≡ 12
+
+-- a tuple with a value and plain texts, without the sizes of its numbers
+pub record MayBeTuple (t : Tuple) : Type 0 where
+  pub some : 0 < length t.vals
+  pub texts : AllByRecursion HasPlainText t.vals

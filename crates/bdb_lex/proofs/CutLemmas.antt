@@ -6,7 +6,8 @@ use Rattle.std.proofs.lemmas.List.{append-nil}
 use Rattle.bdb_lex.specs.declared.mode.Mode.{Mode}
 use Rattle.bdb_lex.specs.declared.token.Piece.{Piece}
 use Rattle.bdb_lex.specs.declared.token.Piece.TheVariants.{Cmd, Long}
-use Rattle.bdb_lex.specs.Cut.{CutState, start, longer, is_end, shows, next_mode, pieces_from, state_after}
+use Rattle.bdb_lex.specs.Cut.{CutState, start, longer, is_end, shows, next_mode, pieces_from, state_after, ended, next_state}
+use Rattle.bdb_lex.specs.CutLaws.{NothingIsNoPiece, PiecesComeInParts, StatesComeInParts}
 use Rattle.bdb_lex.specs.Runs.{state_of, longer_by, Leads}
 
 pub longer_by-long : (bytes : List ℕ) → longer_by Long bytes ≡ Long
@@ -96,3 +97,17 @@ or_later x y z b e f g = rw e (f ∙ sym g)
 
 pub or_first : (x y z : Bool) → x ≡ true → z ≡ x → z ≡ (x || y)
 or_first x y z e f = rw e (f ∙ e)
+
+-- the cut goes on from part to part
+pub nothing_is_no_piece : NothingIsNoPiece
+nothing_is_no_piece = (refl, refl)
+
+pub pieces_come_in_parts : PiecesComeInParts
+pieces_come_in_parts s [] b = refl
+pieces_come_in_parts s (x ∷ a) b =
+    ap (λ v. ended s x ++ v) (pieces_come_in_parts (next_state s x) a b)
+    ∙ sym (append_assoc (ended s x) (pieces_from (next_state s x) a) (pieces_from (state_after (next_state s x) a) b))
+
+pub states_come_in_parts : StatesComeInParts
+states_come_in_parts s [] b = refl
+states_come_in_parts s (x ∷ a) b = states_come_in_parts (next_state s x) a b

@@ -3,13 +3,24 @@
 
 mod bytes;
 mod cut;
+mod cut_laws;
+mod gap;
 mod growing;
+mod mark;
 mod mode;
+mod quoted;
 mod reader;
 mod run;
+#[cfg(test)]
+mod tests;
 mod token;
+mod word;
 
 pub use cut::Cutter;
+pub use cut_laws::{
+    each_script_is_spans, nothing_is_no_piece, pieces_are_of_spans, pieces_come_in_parts,
+    rest_is_of_spans, spans_are_one_list, states_come_in_parts,
+};
 pub use mode::Mode;
 pub use reader::tokens;
 pub use token::{LexError, Piece, Rest, Token};

@@ -1,8 +1,14 @@
 // The tokens of a piece.
-ghost use Rattle.std.specs.Prelude.{◌≡◌, Some, None, IfOk, IsErrOf};
+ghost use Rattle.std.specs.Prelude.{◌≡◌, true, false, nat_eq, Some, None, IfOk, IsErrOf};
 ghost use Rattle.bdb_lex.specs.Tokens.{tokens_of};
+ghost use Rattle.bdb_lex.specs.Reading.{begins, begins_gap, Reads};
 
+use crate::bytes::{is_digit, is_letter};
+use crate::gap::after_gaps;
+use crate::mark::mark_behind;
+use crate::quoted::text_behind;
 use crate::token::{LexError, Token};
+use crate::word::{num_at, word_at};
 use bdb_base::List;
 use std::alloc::Global;
 
@@ -11,5 +17,33 @@ pub fn tokens(alloc: Global, piece: &[u8]) -> Result<List<Token>, LexError>
     ensures ok { IfOk result (λ ts. tokens_of piece.now ≡ Some ts) }
     ensures not_tokens { IsErrOf result LexError.NotTokens → tokens_of piece.now ≡ None }
 {
-    Err(LexError::Memory)
+    let mut found = List::new(alloc);
+    let mut rest = after_gaps(piece);
+    while let [first, ..] = rest {
+        let (token, after) = token_at(alloc, *first, rest)?;
+        found.push(token)?;
+        rest = after_gaps(after);
+    }
+    Ok(found)
+}
+
+/// The token at the front, and the bytes behind it. `NotTokens` comes exactly where there is none.
+fn token_at(alloc: Global, first: u8, bytes: &[u8]) -> Result<(Token, &[u8]), LexError>
+    requires first { begins (λ b. nat_eq first b) bytes.now ≡ true }
+    requires no_gap { begins_gap bytes.now ≡ false }
+    ensures ok { IfOk result (λ read. Reads bytes.now read.0 read.1.now) }
+    ensures not_tokens { IsErrOf result LexError.NotTokens → tokens_of bytes.now ≡ None }
+{
+    if is_letter(first) {
+        word_at(alloc, bytes)
+    } else if is_digit(first) || first == b'-' {
+        num_at(alloc, bytes)
+    } else if first == b'\'' {
+        text_behind(alloc, &bytes[1..])
+    } else {
+        match mark_behind(first, &bytes[1..]) {
+            Some(read) => Ok(read),
+            None => Err(LexError::NotTokens),
+        }
+    }
 }

@@ -52,6 +52,17 @@ pub enum LexError {
     Memory,
 }
 
+impl From<AllocError> for LexError {
+    ghost use Rattle.std.specs.Prelude.{◌≡◌};
+    ghost use Rattle.bdb_lex.specs.declared.token.LexError.TheVariants.{Memory};
+
+    ghost from_gives = { λ _ e. e ≡ Memory };
+
+    fn from(_: AllocError) -> Self {
+        LexError::Memory
+    }
+}
+
 impl Exact for Token {
     fn try_clone(&self, alloc: Global) -> Result<Self, AllocError> {
         match self {

@@ -2,5 +2,10 @@
 #![tactic(auto)]
 
 mod beliefs;
+mod levels;
+mod rows;
+#[cfg(test)]
+mod tests;
 
 pub use beliefs::{believes_among, clashing_among, stated_among};
+pub use rows::world_among;

@@ -1,0 +1,251 @@
+-- What keeps a base valid, and how its counts change.
+use Rattle.std.proofs.Common.{◌≡◌, ◌∙◌, ℕ, ◌+◌, ◌≤◌, Bool, true, false, not, ◌&&◌, ◌||◌, cond, List, [], ◌∷◌, ◌++◌, refl, ap, sym, inl, inr, suc, arith, filter, length, map, nat_eq, nat_lt, nat_le, length-append}
+use Prim.Native.Nat.{zero}
+use Rattle.std.specs.Bool.{Decides}
+use Rattle.std.specs.List.{list_any, list_all, slice_get}
+use Rattle.std.specs.declared.cmp.Ordering.{Ordering}
+use Rattle.std.specs.Ordering.{is_eq}
+use Rattle.std.proofs.lemmas.Bool.{cases_Bool, and_parts, and_from, and_right, or_parts, or_from, false≢true, not-true, not_from_true, not_from_false, leb-true, le-leb}
+use Rattle.std.proofs.lemmas.Bool.Decides.{Decides-eqb, same_from_decides, Decides-like}
+use Rattle.std.proofs.lemmas.List.{map-append}
+use Rattle.std.proofs.lemmas.List.Folds.{list_any-append, list_all-append}
+use Rattle.bdb_base.specs.declared.kinds.Value.{Value}
+use Rattle.bdb_base.specs.declared.kinds.Sign.{Sign}
+use Rattle.bdb_base.specs.declared.kinds.Sign.TheVariants.{Plus, Minus}
+use Rattle.bdb_base.specs.declared.kinds.RelDef.{RelDef}
+use Rattle.bdb_base.specs.declared.kinds.Catalog.{Catalog}
+use Rattle.bdb_base.specs.declared.kinds.Stmt.{Stmt}
+use Rattle.bdb_base.specs.declared.tuple.Tuple.{Tuple}
+use Rattle.bdb_base.specs.Alternation.{alternates}
+use Rattle.bdb_base.specs.Order.{statement_cmp}
+use Rattle.bdb_base.specs.OrderLemmas.{statement_exact}
+use Rattle.bdb_base.specs.Same.{same_text, same_path, same_values, same_tuple}
+use Rattle.bdb_base.specs.SameLemmas.{same_text-Decides, same_path-Decides, same_values-Decides, same_tuple-Decides}
+use Rattle.bdb_base.specs.SortedSet.{IsExactOrder, is_member, ascending, put_at, put_in}
+use Rattle.bdb_base.specs.Clash.{key_of, same_key, clash}
+use Rattle.bdb_base.specs.Worlds.{contradicted}
+use Rattle.bdb_base.specs.Bases.{AreStatements, are_distinct, belongs, fits_definition, fits_relation, is_user, is_plain, is_valid_relation, key_lengths, stands, tuple_count, with_user, with_relation, with_statement}
+use Rattle.bdb_base.specs.BaseLaws.{PutIsValid, TakeIsValid, AddUserIsValid, AddRelationIsValid, PutCountsTuple, PutCountsStatement}
+use Rattle.bdb_base.proofs.ListLemmas.{list_all_weaker, list_all_both, list_all_from_none, list_all-filter, list_any-filter_none, length-filter_le}
+use Rattle.bdb_base.proofs.SetLemmas.{cases_Ordering, are_above, less_from_greater, above_weaker, absent_above, list_any-put_in, list_all-put_in, put_keeps_order, take_keeps_order}
+use Rattle.bdb_base.proofs.CountLemmas.{list_any-map, list_any-filter_some, one_unless, distinct_count-le, distinct_count-same}
+
+-- ---- tests of equality are symmetric, and so is a clash
+
+turned : {X : Type 0} (same : X → X → Bool) → ((a b : X) → Decides (same a b) (a ≡ b)) → (a b : X) → same a b ≡ same b a
+turned same decides a b = same_from_decides (same a b) (same b a) (decides a b) (Decides-like (same b a) (λ e. sym e) (λ e. sym e) (decides b a))
+
+clash_turned : (keys : ℕ → ℕ) (a : Tuple) (s : Sign) (b : Tuple) (t : Sign) → clash keys a s b t ≡ clash keys b t a s
+clash_turned keys a Plus b Plus =
+    ap (λ q. (nat_eq a.rel b.rel && same_values (key_of keys a) (key_of keys b)) && not q) (turned same_tuple same_tuple-Decides a b)
+    ∙ ap (λ q. (q && same_values (key_of keys a) (key_of keys b)) && not (same_tuple b a)) (turned nat_eq Decides-eqb a.rel b.rel)
+    ∙ ap (λ q. (nat_eq b.rel a.rel && q) && not (same_tuple b a)) (turned same_values same_values-Decides (key_of keys a) (key_of keys b))
+clash_turned keys a Plus b Minus = turned same_tuple same_tuple-Decides a b
+clash_turned keys a Minus b Plus = turned same_tuple same_tuple-Decides a b
+clash_turned keys a Minus b Minus = refl
+
+clash_itself : (keys : ℕ → ℕ) (t : Tuple) (s : Sign) → clash keys t s t s ≡ false
+clash_itself keys t Plus = and_right (same_key keys t t) (not (same_tuple t t)) (not_from_true (same_tuple t t) ((same_tuple-Decides t t).1 refl))
+clash_itself keys t Minus = refl
+
+-- a statement is at the path of another and clashes with it
+abbrev opposes : (ℕ → ℕ) → Stmt → Stmt → Bool
+opposes keys x y = same_path y.path x.path && clash keys x.tuple x.sign y.tuple y.sign
+
+opposes_turned : (keys : ℕ → ℕ) (x y : Stmt) → opposes keys x y ≡ opposes keys y x
+opposes_turned keys x y = ap (λ b. b && clash keys x.tuple x.sign y.tuple y.sign) (turned same_path same_path-Decides y.path x.path)
+    ∙ ap (λ b. same_path x.path y.path && b) (clash_turned keys x.tuple x.sign y.tuple y.sign)
+
+-- ---- fewer statements
+
+-- what a test leaves of a valid base's statements is valid
+pub filter_is_valid : (c : Catalog) (stmts : List Stmt) (q : Stmt → Bool) → AreStatements c stmts → ascending statement_cmp (filter q stmts) ≡ true → AreStatements c (filter q stmts)
+filter_is_valid c stmts q v sorted =
+    let keys = key_lengths c.rels in
+    let few = leb-true (length stmts) 20000 v.few_stmts in
+    let fewer = length-filter_le q stmts in
+    let tuples = leb-true (tuple_count stmts) 4000 v.few_tuples in
+    let no_more_tuples = distinct_count-le same_tuple same_tuple-Decides (map (λ x. x.tuple) (filter q stmts)) (map (λ x. x.tuple) stmts)
+    (λ t k. list_any-map (same_tuple t) (λ x. x.tuple) stmts ∙ list_any-filter_some (λ x. same_tuple t x.tuple) q stmts (sym (list_any-map (same_tuple t) (λ x. x.tuple) (filter q stmts)) ∙ k)) in
+    record {
+      sorted = sorted;
+      belong = list_all-filter (belongs c) q stmts v.belong;
+      no_clash = list_all-filter (λ x. not (contradicted keys (filter q stmts) x.path x.tuple x.sign)) q stmts
+          (list_all_weaker (λ x. not (contradicted keys stmts x.path x.tuple x.sign)) (λ x. not (contradicted keys (filter q stmts) x.path x.tuple x.sign))
+          (λ x h. not_from_false (contradicted keys (filter q stmts) x.path x.tuple x.sign)
+          (list_any-filter_none (opposes keys x) q stmts (not-true (contradicted keys stmts x.path x.tuple x.sign) h))) stmts v.no_clash);
+      few_stmts = le-leb (length (filter q stmts)) 20000 (omega arith);
+      few_tuples = le-leb (tuple_count (filter q stmts)) 4000 (omega arith);
+    }
+
+pub take_is_valid : TakeIsValid
+take_is_valid c stmts s v = record {
+  catalog = v.catalog;
+  stmts = filter_is_valid c stmts (λ y. not (is_eq (statement_cmp y s))) v.stmts (take_keeps_order statement_exact stmts s v.stmts.sorted);
+}
+
+-- ---- one more statement
+
+pub length-put_in : {X : Type 0} {R : X → X → Ordering} (o : IsExactOrder R) (xs : List X) (x : X) → ascending R xs ≡ true → length (put_in R xs x) ≡ cond (is_member R xs x) 0 1 + length xs
+length-put_in o [] x h = omega arith
+length-put_in {R = R} o (y ∷ ys) x h =
+    let k = and_parts (are_above R y ys) (ascending R ys) h in
+    elim (cases_Ordering (R y x)) [
+      | inl e ↦
+          let ih = length-put_in o ys x k.1 in
+          let a : length (put_in R (y ∷ ys) x) ≡ suc (length (put_in R ys x)) = ap (λ r. length (put_at r y ys x (put_in R ys x))) e in
+          let b : one_unless (is_eq (R y x) || is_member R ys x) ≡ one_unless (is_member R ys x) = ap (λ r. one_unless (is_eq r || is_member R ys x)) e in
+          omega arith
+      | inr (inl e) ↦
+          let a : length (put_in R (y ∷ ys) x) ≡ suc (length ys) = ap (λ r. length (put_at r y ys x (put_in R ys x))) e in
+          let b : one_unless (is_eq (R y x) || is_member R ys x) ≡ 0 = ap (λ r. one_unless (is_eq r || is_member R ys x)) e in
+          omega arith
+      | inr (inr e) ↦
+          let a : length (put_in R (y ∷ ys) x) ≡ suc (suc (length ys)) = ap (λ r. length (put_at r y ys x (put_in R ys x))) e in
+          let n : (is_eq (R y x) || is_member R ys x) ≡ false = or_from (is_eq (R y x)) (is_member R ys x) (ap is_eq e) (absent_above o x ys (above_weaker o x y ys (less_from_greater o y x e) k.0)) in
+          let b : one_unless (is_eq (R y x) || is_member R ys x) ≡ 1 = ap one_unless n in
+          omega arith
+    ]
+
+pub put_counts_statement : PutCountsStatement
+put_counts_statement c stmts s v = length-put_in statement_exact stmts s v.stmts.sorted
+
+pub put_counts_tuple : PutCountsTuple
+put_counts_tuple stmts s =
+    distinct_count-same same_tuple same_tuple-Decides (map (λ x. x.tuple) (with_statement stmts s)) (s.tuple ∷ map (λ x. x.tuple) stmts)
+    (λ t. list_any-map (same_tuple t) (λ x. x.tuple) (with_statement stmts s) ∙ list_any-put_in statement_exact (λ x. same_tuple t x.tuple) stmts s
+    ∙ ap (λ b. same_tuple t s.tuple || b) (sym (list_any-map (same_tuple t) (λ x. x.tuple) stmts)))
+    ∙ ap (λ b. cond b 0 1 + tuple_count stmts) (list_any-map (same_tuple s.tuple) (λ x. x.tuple) stmts)
+
+pub put_is_valid : PutIsValid
+put_is_valid c stmts s v belong apart room tuples =
+    let keys = key_lengths c.rels in
+    let next = with_statement stmts s in
+    let count = put_counts_statement c stmts s v in
+    let few = leb-true (length stmts) 20000 v.stmts.few_stmts in
+    let fits : length next ≤ 20000 = elim (cases_Bool (stands stmts s)) [
+      | inl e ↦ (let a : one_unless (stands stmts s) ≡ 0 = ap one_unless e in omega arith)
+      | inr e ↦ (let a : one_unless (stands stmts s) ≡ 1 = ap one_unless e in let r = room e in omega arith)
+    ] in
+    record {
+      catalog = v.catalog;
+      stmts = record {
+        sorted = put_keeps_order statement_exact stmts s v.stmts.sorted;
+        belong = list_all-put_in statement_exact (belongs c) stmts s v.stmts.belong belong;
+        no_clash = list_all-put_in statement_exact (λ x. not (contradicted keys next x.path x.tuple x.sign)) stmts s
+            (list_all_both (λ x. not (contradicted keys stmts x.path x.tuple x.sign)) (λ x. not (opposes keys s x)) (λ x. not (contradicted keys next x.path x.tuple x.sign))
+            (λ x h g. none_of keys stmts s x (opposes_turned keys x s ∙ not-true (opposes keys s x) g) (not-true (contradicted keys stmts x.path x.tuple x.sign) h)) stmts v.stmts.no_clash
+            (list_all_from_none (opposes keys s) (λ x. not (opposes keys s x)) (λ x h. not_from_false (opposes keys s x) h) stmts apart))
+            (none_of keys stmts s s (and_right (same_path s.path s.path) (clash keys s.tuple s.sign s.tuple s.sign) (clash_itself keys s.tuple s.sign)) apart);
+        few_stmts = le-leb (length next) 20000 fits;
+        few_tuples = le-leb (tuple_count next) 4000 tuples;
+      };
+    }
+  where
+    -- after a put, x clashes with nothing where it did not before, nor does it with the new statement
+    none_of : (keys : ℕ → ℕ) (stmts : List Stmt) (s x : Stmt) → opposes keys x s ≡ false → contradicted keys stmts x.path x.tuple x.sign ≡ false
+        → not (contradicted keys (with_statement stmts s) x.path x.tuple x.sign) ≡ true
+    none_of keys stmts s x h g = not_from_false (contradicted keys (with_statement stmts s) x.path x.tuple x.sign)
+        (list_any-put_in statement_exact (opposes keys x) stmts s ∙ or_from (opposes keys x s) (contradicted keys stmts x.path x.tuple x.sign) h g)
+
+-- ---- a longer catalog
+
+list_all_push : {X : Type 0} (p : X → Bool) (xs : List X) (x : X) → list_all p xs ≡ true → p x ≡ true → list_all p (xs ++ x ∷ []) ≡ true
+list_all_push p xs x h g = list_all-append p xs (x ∷ []) ∙ and_from (list_all p xs) (p x && true) h (and_from (p x) true g refl)
+
+distinct_push : (names : List (List ℕ)) (name : List ℕ) → are_distinct names ≡ true → list_any (same_text name) names ≡ false → are_distinct (names ++ name ∷ []) ≡ true
+distinct_push [] name h g = refl
+distinct_push (n ∷ ns) name h g =
+    let k = and_parts (not (list_any (same_text n) ns)) (are_distinct ns) h in
+    let l = or_parts (same_text name n) (list_any (same_text name) ns) g in
+    and_from (not (list_any (same_text n) (ns ++ name ∷ []))) (are_distinct (ns ++ name ∷ []))
+    (not_from_false (list_any (same_text n) (ns ++ name ∷ [])) (list_any-append (same_text n) ns (name ∷ [])
+    ∙ or_from (list_any (same_text n) ns) (same_text n name || false) (not-true (list_any (same_text n) ns) k.0)
+    (or_from (same_text n name) false (turned same_text same_text-Decides n name ∙ l.0) refl)))
+    (distinct_push ns name k.1 l.1)
+
+-- a user of a list is one of a longer list
+user_stays : (users : List (List ℕ)) (name : List ℕ) (uid : ℕ) → is_user users uid ≡ true → is_user (users ++ name ∷ []) uid ≡ true
+user_stays users name uid h =
+    let k = and_parts (nat_lt 0 uid) (nat_le uid (length users)) h in
+    let a = leb-true uid (length users) k.1 in
+    let l = length-append users (name ∷ []) in
+    and_from (nat_lt 0 uid) (nat_le uid (length (users ++ name ∷ []))) k.0 (le-leb uid (length (users ++ name ∷ [])) (omega arith))
+
+-- what fits a relation of a list fits that relation of a longer list
+fit_stays : (rels : List RelDef) (def : RelDef) (rel : ℕ) (vals : List Value) → fits_definition (slice_get rels rel) vals ≡ true → fits_definition (slice_get (rels ++ def ∷ []) rel) vals ≡ true
+fit_stays [] def rel vals h = absurd (false≢true h)
+fit_stays (r ∷ rels) def zero vals h = h
+fit_stays (r ∷ rels) def (suc rel) vals h = fit_stays rels def rel vals h
+
+-- the parts of what belongs to a catalog
+record Belongs (c : Catalog) (x : Stmt) : Type 0 where
+  path : (alternates x.path && nat_le (length x.path) 16) ≡ true
+  users : list_all (is_user c.users) x.path ≡ true
+  tuple : fits_relation c.rels x.tuple ≡ true
+
+belongs_parts : (c : Catalog) (x : Stmt) → belongs c x ≡ true → Belongs c x
+belongs_parts c x h =
+    let k = and_parts (alternates x.path && nat_le (length x.path) 16 && list_all (is_user c.users) x.path) (fits_relation c.rels x.tuple) h in
+    let l = and_parts (alternates x.path && nat_le (length x.path) 16) (list_all (is_user c.users) x.path) k.0 in
+    record { path = l.0; users = l.1; tuple = k.1 }
+
+belongs_from : (c : Catalog) (x : Stmt) → Belongs c x → belongs c x ≡ true
+belongs_from c x b = and_from (alternates x.path && nat_le (length x.path) 16 && list_all (is_user c.users) x.path) (fits_relation c.rels x.tuple)
+    (and_from (alternates x.path && nat_le (length x.path) 16) (list_all (is_user c.users) x.path) b.path b.users) b.tuple
+
+pub belongs_with_user : (c : Catalog) (name : List ℕ) (x : Stmt) → belongs c x ≡ true → belongs (with_user c name) x ≡ true
+belongs_with_user c name x h =
+    let b = belongs_parts c x h in
+    belongs_from (with_user c name) x (record {
+      path = b.path;
+      users = list_all_weaker (is_user c.users) (is_user (c.users ++ name ∷ [])) (user_stays c.users name) x.path b.users;
+      tuple = b.tuple;
+    })
+
+pub belongs_with_relation : (c : Catalog) (def : RelDef) (x : Stmt) → belongs c x ≡ true → belongs (with_relation c def) x ≡ true
+belongs_with_relation c def x h =
+    let b = belongs_parts c x h in
+    belongs_from (with_relation c def) x (record { path = b.path; users = b.users; tuple = fit_stays c.rels def x.tuple.rel x.tuple.vals b.tuple })
+
+pub add_user_is_valid : AddUserIsValid
+add_user_is_valid c stmts name v plain apart room =
+    let l = length-append c.users (name ∷ []) in
+    record {
+      catalog = record {
+        users_differ = distinct_push c.users name v.catalog.users_differ apart;
+        users_plain = list_all_push is_plain c.users name v.catalog.users_plain plain;
+        few_users = le-leb (length (c.users ++ name ∷ [])) 256 (omega arith);
+        rels_differ = v.catalog.rels_differ;
+        rels_valid = v.catalog.rels_valid;
+        few_rels = v.catalog.few_rels;
+      };
+      stmts = record {
+        sorted = v.stmts.sorted;
+        belong = list_all_weaker (belongs c) (belongs (with_user c name)) (belongs_with_user c name) stmts v.stmts.belong;
+        no_clash = v.stmts.no_clash;
+        few_stmts = v.stmts.few_stmts;
+        few_tuples = v.stmts.few_tuples;
+      };
+    }
+
+pub add_relation_is_valid : AddRelationIsValid
+add_relation_is_valid c stmts def v valid apart room =
+    let l = length-append c.rels (def ∷ []) in
+    record {
+      catalog = record {
+        users_differ = v.catalog.users_differ;
+        users_plain = v.catalog.users_plain;
+        few_users = v.catalog.few_users;
+        rels_differ = ap are_distinct (map-append (λ r. r.name) c.rels (def ∷ [])) ∙ distinct_push (map (λ r. r.name) c.rels) def.name v.catalog.rels_differ apart;
+        rels_valid = list_all_push is_valid_relation c.rels def v.catalog.rels_valid valid;
+        few_rels = le-leb (length (c.rels ++ def ∷ [])) 64 (omega arith);
+      };
+      stmts = record {
+        sorted = v.stmts.sorted;
+        belong = list_all_weaker (belongs c) (belongs (with_relation c def)) (belongs_with_relation c def) stmts v.stmts.belong;
+        no_clash = v.stmts.no_clash;
+        few_stmts = v.stmts.few_stmts;
+        few_tuples = v.stmts.few_tuples;
+      };
+    }

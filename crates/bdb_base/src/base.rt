@@ -1,0 +1,104 @@
+// Bases.
+ghost use Rattle.std.specs.Prelude.{◌≡◌, not, IfOk, OnOk, OnErr};
+ghost use Rattle.bdb_base.specs.Bases.{IsValid, empty_contents, stands, with_statement, without_statement, with_user, with_relation};
+
+use crate::kinds::{Catalog, RelDef, Stmt};
+use crate::list::{Exact, List};
+use crate::ordered::{put, take};
+use crate::text::Txt;
+use std::alloc::{AllocError, Global};
+use std::marker::Model;
+
+/// A base: the catalog, and the standing statements in order. It is valid at all times: no two statements of one path
+/// clash, all names and tuples fit, and no limit is passed.
+#[derive(Drop)]
+pub struct Base {
+    catalog: Catalog,
+    stmts: List<Stmt>,
+}
+
+impl Model for Base {
+    ghost use Rattle.bdb_base.specs.Bases.{Contents, IsValid};
+
+    ghost Value = { Contents };
+
+    ghost view = { λ b. record { catalog = b.catalog; stmts = b.stmts } };
+
+    ghost invariant = { λ b. IsValid b.catalog b.stmts };
+}
+
+impl Base {
+    /// The base with no relations, users or statements.
+    pub fn empty(alloc: Global) -> Self
+        ensures { result ≡ empty_contents }
+    {
+        let catalog = Catalog {
+            rels: List::new(alloc),
+            users: List::new(alloc),
+        };
+        Base {
+            catalog,
+            stmts: List::new(alloc),
+        }
+    }
+
+    /// The relations and users.
+    pub fn catalog(&self) -> &Catalog
+        ensures value { result.now ≡ self.now.catalog }
+        ensures valid { IsValid self.now.catalog self.now.stmts }
+    {
+        &self.catalog
+    }
+
+    /// The standing statements, in order.
+    pub fn stmts(&self) -> &[Stmt]
+        ensures value { result.now ≡ self.now.stmts }
+        ensures valid { IsValid self.now.catalog self.now.stmts }
+    {
+        self.stmts.as_slice()
+    }
+
+    /// Adds a user, whose number is the count of users then. After a refusal the base is unchanged.
+    pub fn add_user(&mut self, name: Txt) -> Result<(), AllocError>
+        requires { IsValid (with_user self.old.catalog name) self.old.stmts }
+        ensures ok { OnOk result (self.new ≡ record self.old { catalog = with_user self.old.catalog name }) }
+        ensures err { OnErr result (self.new ≡ self.old) }
+    {
+        self.catalog.users.push(name)
+    }
+
+    /// Adds a relation after the others. After a refusal the base is unchanged.
+    pub fn add_relation(&mut self, def: RelDef) -> Result<(), AllocError>
+        requires { IsValid (with_relation self.old.catalog def) self.old.stmts }
+        ensures ok { OnOk result (self.new ≡ record self.old { catalog = with_relation self.old.catalog def }) }
+        ensures err { OnErr result (self.new ≡ self.old) }
+    {
+        self.catalog.rels.push(def)
+    }
+
+    /// Lets a statement stand. True where it was added, false where it stood. After a refusal the base is unchanged.
+    pub fn put(&mut self, s: Stmt) -> Result<bool, AllocError>
+        requires { IsValid self.old.catalog (with_statement self.old.stmts s) }
+        ensures added { IfOk result (λ added. added ≡ not (stands self.old.stmts s)) }
+        ensures ok { OnOk result (self.new ≡ record self.old { stmts = with_statement self.old.stmts s }) }
+        ensures err { OnErr result (self.new ≡ self.old) }
+    {
+        put(&mut self.stmts, s)
+    }
+
+    /// Takes a statement away. True where it stood.
+    pub fn take(&mut self, s: &Stmt) -> bool
+        ensures stood { result ≡ stands self.old.stmts s.now }
+        ensures taken { self.new ≡ record self.old { stmts = without_statement self.old.stmts s.now } }
+    {
+        take(&mut self.stmts, s)
+    }
+}
+
+impl Exact for Base {
+    fn try_clone(&self, alloc: Global) -> Result<Self, AllocError> {
+        let catalog = self.catalog.try_clone(alloc)?;
+        let stmts = self.stmts.try_clone(alloc)?;
+        Ok(Base { catalog, stmts })
+    }
+}

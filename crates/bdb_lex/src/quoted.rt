@@ -1,0 +1,66 @@
+// Text literals.
+ghost use Rattle.std.specs.Prelude.{◌≡◌, true, false, nat_le, None, [], IfSome, IfNone, IfOk, OnOk, IsErrOf};
+ghost use Rattle.std.specs.List.{list_all};
+ghost use Rattle.bdb_lex.specs.Tokens.{tokens_from, is_content};
+ghost use Rattle.bdb_lex.specs.Tokens.Reading.{in_text};
+ghost use Rattle.bdb_lex.specs.Reading.{ReadsOn, IsParted, is_no_quote};
+
+use crate::bytes::after_byte;
+use crate::token::{LexError, Token};
+use crate::word::text_of;
+use std::alloc::Global;
+
+/// The text literal behind its first quote, and the bytes behind it. `NotTokens` comes exactly where it isn't closed or its
+/// content isn't allowed.
+pub fn text_behind(alloc: Global, bytes: &[u8]) -> Result<(Token, &[u8]), LexError>
+    ensures ok { IfOk result (λ read. ReadsOn (in_text []) bytes.now read.0 read.1.now) }
+    ensures not_tokens { IsErrOf result LexError.NotTokens → tokens_from (in_text []) bytes.now ≡ None }
+{
+    let mut content = Vec::new(alloc);
+    let mut rest = bytes;
+    loop {
+        let Some((part, after)) = parted(rest) else {
+            return Err(LexError::NotTokens);
+        };
+        content.extend_from_slice(part)?;
+        let Some(others) = after_byte(b'\'', after) else {
+            let token = text_token(alloc, content.as_slice())?;
+            return Ok((token, after));
+        };
+        content.extend_from_slice(b"'")?;
+        rest = others;
+    }
+}
+
+/// The bytes before the first quote, and those behind it; none where there is no quote.
+fn parted(bytes: &[u8]) -> Option<(&[u8], &[u8])>
+    ensures some { IfSome result (λ parts. IsParted bytes.now parts.0.now parts.1.now) }
+    ensures none { IfNone result (list_all is_no_quote bytes.now ≡ true) }
+{
+    for (at, byte) in bytes.iter().enumerate() {
+        if *byte == b'\'' {
+            return Some((&bytes[..at], &bytes[at + 1..]));
+        }
+    }
+    None
+}
+
+/// The text literal of a content. `NotTokens` comes exactly where the content isn't allowed.
+fn text_token(alloc: Global, content: &[u8]) -> Result<Token, LexError>
+    ensures ok { IfOk result (λ token. token ≡ Token.Text content.now) }
+    ensures allowed { OnOk result (is_content content.now ≡ true) }
+    ensures not_tokens { IsErrOf result LexError.NotTokens → is_content content.now ≡ false }
+{
+    if !has_no_control(content) {
+        return Err(LexError::NotTokens);
+    }
+    let text = text_of(alloc, content)?;
+    Ok(Token::Text(text))
+}
+
+/// Whether no byte is below the space.
+fn has_no_control(bytes: &[u8]) -> bool
+    ensures { result ≡ list_all (λ b. nat_le 32 b) bytes.now }
+{
+    bytes.iter().all(|byte| *byte >= b' ')
+}

@@ -1,0 +1,10 @@
+use Rattle.std.proofs.Common.{◌≡◌, ◌++◌, length}
+use Rattle.bdb_model.specs.Levels.{levels_of}
+use Rattle.bdb_model.proofs.levels.levels_of.Given as goal
+
+-- the levels so far are followed by those of the rest of the path
+abbrev pub invariant-loop-rest : goal.invariant-loop-rest
+invariant-loop-rest l = levels_of l.stmts l.path ≡ l.levels ++ levels_of l.stmts l.rest
+
+abbrev pub decreases-loop-rest : goal.decreases-loop-rest
+decreases-loop-rest l = length l.rest

@@ -1,0 +1,241 @@
+// Reads and writes of typed tables.
+ghost use Rattle.std.specs.Prelude.{◌≡◌, true, [], ◌∷◌, ◌++◌, IfOk, OnOk, is_some};
+ghost use Rattle.std.specs.Ordering.{is_le, is_lt};
+ghost use Rattle.std.specs.FinMap as map;
+ghost use Rattle.bdb_base.specs.Causes.{RoseBy};
+ghost use Rattle.bdb_keep.specs.Seen.{NeverFall, Steps};
+ghost use Rattle.bdb_key.specs.Reading.{Reads};
+ghost use Rattle.bdb_tables.specs.Codec.{HasAt, HasFirst, HasLeast, IsKeyOf, IsRowOf, place};
+ghost use Rattle.bdb_tables.specs.Grammar.{InGrammar};
+
+use crate::tab::{Tab, TabError};
+use bdb_keep::{KeepError, Keeper};
+use bdb_key::{KeyError, RowError};
+use std::alloc::{AllocError, Global};
+
+/// The row at a key. None exactly where there is no such row. One read.
+pub fn get<T: Tab, K: Keeper>(
+    alloc: Global,
+    keeper: &mut K,
+    key: &T::Key,
+) -> Result<Option<T::Row>, TabError>
+    requires grammar { InGrammar (K.seen keeper.old).kept }
+    requires key { T.codec.MayBeKey key.now }
+    ensures found { IfOk result (HasAt T.codec (K.seen keeper.old).kept key.now) }
+    ensures kept { OnOk result ((K.seen keeper.new).kept ≡ (K.seen keeper.old).kept) }
+    ensures reads { OnOk result (RoseBy 1 (K.seen keeper.old).reads (K.seen keeper.new).reads) }
+    ensures writes { (K.seen keeper.new).writes ≡ (K.seen keeper.old).writes }
+    ensures counts { NeverFall (K.seen keeper.old) (K.seen keeper.new) }
+    ensures steps { Steps (K.seen keeper.old) (K.seen keeper.new) result TabError.Fault }
+{
+    let mut bytes = Vec::new(alloc);
+    if T::key_bytes(key, &mut bytes).is_err() {
+        keeper.undo();
+        return Err(TabError::Memory);
+    }
+    let mut row = Vec::new(alloc);
+    match keeper.get(T::NUMBER, &bytes, &mut row) {
+        Ok(true) => {}
+        Ok(false) => return Ok(None),
+        Err(error) => return Err(told(error)),
+    }
+    match row_from::<T>(alloc, &row) {
+        Ok(row) => Ok(Some(row)),
+        Err(_) => {
+            keeper.undo();
+            Err(TabError::Memory)
+        }
+    }
+}
+
+/// The first row whose key isn't below `low`. None exactly where there is none. One read.
+pub fn next<T: Tab, K: Keeper>(
+    alloc: Global,
+    keeper: &mut K,
+    low: &T::Key,
+) -> Result<Option<(T::Key, T::Row)>, TabError>
+    requires grammar { InGrammar (K.seen keeper.old).kept }
+    requires low { T.codec.MayBeKey low.now }
+    ensures found { IfOk result (HasFirst T.codec (K.seen keeper.old).kept (λ key. is_le (T.codec.key_cmp low.now key))) }
+    ensures kept { OnOk result ((K.seen keeper.new).kept ≡ (K.seen keeper.old).kept) }
+    ensures reads { OnOk result (RoseBy 1 (K.seen keeper.old).reads (K.seen keeper.new).reads) }
+    ensures writes { (K.seen keeper.new).writes ≡ (K.seen keeper.old).writes }
+    ensures counts { NeverFall (K.seen keeper.old) (K.seen keeper.new) }
+    ensures steps { Steps (K.seen keeper.old) (K.seen keeper.new) result TabError.Fault }
+{
+    let mut bytes = Vec::new(alloc);
+    if T::key_bytes(low, &mut bytes).is_err() {
+        keeper.undo();
+        return Err(TabError::Memory);
+    }
+    first_from::<T, K>(alloc, keeper, &bytes)
+}
+
+/// The first row whose key is above `key`. None exactly where there is none. One read.
+pub fn after<T: Tab, K: Keeper>(
+    alloc: Global,
+    keeper: &mut K,
+    key: &T::Key,
+) -> Result<Option<(T::Key, T::Row)>, TabError>
+    requires grammar { InGrammar (K.seen keeper.old).kept }
+    requires key { T.codec.MayBeKey key.now }
+    ensures found { IfOk result (HasFirst T.codec (K.seen keeper.old).kept (λ q. is_lt (T.codec.key_cmp key.now q))) }
+    ensures kept { OnOk result ((K.seen keeper.new).kept ≡ (K.seen keeper.old).kept) }
+    ensures reads { OnOk result (RoseBy 1 (K.seen keeper.old).reads (K.seen keeper.new).reads) }
+    ensures writes { (K.seen keeper.new).writes ≡ (K.seen keeper.old).writes }
+    ensures counts { NeverFall (K.seen keeper.old) (K.seen keeper.new) }
+    ensures steps { Steps (K.seen keeper.old) (K.seen keeper.new) result TabError.Fault }
+{
+    let mut bytes = Vec::new(alloc);
+    if behind::<T>(key, &mut bytes).is_err() {
+        keeper.undo();
+        return Err(TabError::Memory);
+    }
+    first_from::<T, K>(alloc, keeper, &bytes)
+}
+
+/// Puts a row at a key, in place of the row that stood there. One write.
+pub fn put<T: Tab, K: Keeper>(
+    alloc: Global,
+    keeper: &mut K,
+    key: &T::Key,
+    row: &T::Row,
+) -> Result<(), TabError>
+    requires running { (K.seen keeper.old).running ≡ true }
+    requires key { T.codec.MayBeKey key.now }
+    requires row { T.codec.MayBeRow row.now }
+    ensures kept { OnOk result ((K.seen keeper.new).kept ≡ map.insert (K.seen keeper.old).kept (place T.codec key.now) (T.codec.row_bytes row.now)) }
+    ensures key_fits { OnOk result (T.codec.IsKey key.now) }
+    ensures row_fits { OnOk result (T.codec.IsRow row.now) }
+    ensures grammar { OnOk result (InGrammar (K.seen keeper.old).kept → InGrammar (K.seen keeper.new).kept) }
+    ensures reads { (K.seen keeper.new).reads ≡ (K.seen keeper.old).reads }
+    ensures writes { OnOk result (RoseBy 1 (K.seen keeper.old).writes (K.seen keeper.new).writes) }
+    ensures counts { NeverFall (K.seen keeper.old) (K.seen keeper.new) }
+    ensures steps { Steps (K.seen keeper.old) (K.seen keeper.new) result TabError.Fault }
+{
+    let mut key_bytes = Vec::new(alloc);
+    let mut row_bytes = Vec::new(alloc);
+    if T::key_bytes(key, &mut key_bytes).is_err() || T::row_bytes(row, &mut row_bytes).is_err() {
+        keeper.undo();
+        return Err(TabError::Memory);
+    }
+    match keeper.put(T::NUMBER, &key_bytes, &row_bytes) {
+        Ok(()) => Ok(()),
+        Err(error) => Err(told(error)),
+    }
+}
+
+/// Takes the row at a key away. False exactly where there was no such row. One write.
+pub fn drop_row<T: Tab, K: Keeper>(
+    alloc: Global,
+    keeper: &mut K,
+    key: &T::Key,
+) -> Result<bool, TabError>
+    requires running { (K.seen keeper.old).running ≡ true }
+    requires key { T.codec.MayBeKey key.now }
+    ensures found { IfOk result (λ found. found ≡ is_some (map.get (K.seen keeper.old).kept (place T.codec key.now))) }
+    ensures kept { OnOk result ((K.seen keeper.new).kept ≡ map.remove (K.seen keeper.old).kept (place T.codec key.now)) }
+    ensures key_fits { OnOk result (T.codec.IsKey key.now) }
+    ensures grammar { OnOk result (InGrammar (K.seen keeper.old).kept → InGrammar (K.seen keeper.new).kept) }
+    ensures reads { (K.seen keeper.new).reads ≡ (K.seen keeper.old).reads }
+    ensures writes { OnOk result (RoseBy 1 (K.seen keeper.old).writes (K.seen keeper.new).writes) }
+    ensures counts { NeverFall (K.seen keeper.old) (K.seen keeper.new) }
+    ensures steps { Steps (K.seen keeper.old) (K.seen keeper.new) result TabError.Fault }
+{
+    let mut bytes = Vec::new(alloc);
+    if T::key_bytes(key, &mut bytes).is_err() {
+        keeper.undo();
+        return Err(TabError::Memory);
+    }
+    match keeper.remove(T::NUMBER, &bytes) {
+        Ok(found) => Ok(found),
+        Err(error) => Err(told(error)),
+    }
+}
+
+// The first row whose key isn't below these bytes.
+fn first_from<T: Tab, K: Keeper>(
+    alloc: Global,
+    keeper: &mut K,
+    low: &[u8],
+) -> Result<Option<(T::Key, T::Row)>, TabError>
+    requires grammar { InGrammar (K.seen keeper.old).kept }
+    ensures found { IfOk result (HasLeast T.codec (K.seen keeper.old).kept low.now) }
+    ensures kept { OnOk result ((K.seen keeper.new).kept ≡ (K.seen keeper.old).kept) }
+    ensures reads { OnOk result (RoseBy 1 (K.seen keeper.old).reads (K.seen keeper.new).reads) }
+    ensures writes { (K.seen keeper.new).writes ≡ (K.seen keeper.old).writes }
+    ensures counts { NeverFall (K.seen keeper.old) (K.seen keeper.new) }
+    ensures steps { Steps (K.seen keeper.old) (K.seen keeper.new) result TabError.Fault }
+{
+    let mut key = Vec::new(alloc);
+    let mut row = Vec::new(alloc);
+    match keeper.next(T::NUMBER, low, &mut key, &mut row) {
+        Ok(true) => {}
+        Ok(false) => return Ok(None),
+        Err(error) => return Err(told(error)),
+    }
+    match entry_from::<T>(alloc, &key, &row) {
+        Ok(entry) => Ok(Some(entry)),
+        Err(_) => {
+            keeper.undo();
+            Err(TabError::Memory)
+        }
+    }
+}
+
+// The bytes that come right behind those of a key.
+fn behind<T: Tab>(key: &T::Key, out: &mut Vec<u8>) -> Result<(), AllocError>
+    requires { T.codec.MayBeKey key.now }
+    ensures ok { OnOk result (out.new.items ≡ out.old.items ++ T.codec.key_bytes key.now ++ 0 ∷ []) }
+    ensures fits { OnOk result (T.codec.IsKey key.now) }
+{
+    T::key_bytes(key, out)?;
+    out.push(0)?;
+    Ok(())
+}
+
+// The key and the row of a table's bytes.
+fn entry_from<T: Tab>(alloc: Global, key: &[u8], row: &[u8]) -> Result<(T::Key, T::Row), AllocError>
+    requires key { IsKeyOf T.codec key.now }
+    requires row { IsRowOf T.codec row.now }
+    ensures key { IfOk result (λ e. Reads T.codec.IsKey T.codec.key_bytes key.now e.0) }
+    ensures row { IfOk result (λ e. Reads T.codec.IsRow T.codec.row_bytes row.now e.1) }
+{
+    let key = key_from::<T>(alloc, key)?;
+    let row = row_from::<T>(alloc, row)?;
+    Ok((key, row))
+}
+
+// The key of a table's bytes.
+fn key_from<T: Tab>(alloc: Global, bytes: &[u8]) -> Result<T::Key, AllocError>
+    requires { IsKeyOf T.codec bytes.now }
+    ensures { IfOk result (Reads T.codec.IsKey T.codec.key_bytes bytes.now) }
+{
+    match T::key_back(alloc, bytes) {
+        Ok(key) => Ok(key),
+        Err(KeyError::Memory) => Err(AllocError),
+        Err(KeyError::NotAKey) => unreachable!(),
+    }
+}
+
+// The row of a table's bytes.
+fn row_from<T: Tab>(alloc: Global, bytes: &[u8]) -> Result<T::Row, AllocError>
+    requires { IsRowOf T.codec bytes.now }
+    ensures { IfOk result (Reads T.codec.IsRow T.codec.row_bytes bytes.now) }
+{
+    match T::row_back(alloc, bytes) {
+        Ok(row) => Ok(row),
+        Err(RowError::Memory) => Err(AllocError),
+        Err(RowError::NotARow) => unreachable!(),
+    }
+}
+
+// A keeper's error as a table's.
+fn told(error: KeepError) -> TabError
+    ensures { result ≡ TabError.Fault → error ≡ KeepError.Fault }
+{
+    match error {
+        KeepError::Fault => TabError::Fault,
+        KeepError::Memory => TabError::Memory,
+    }
+}
