@@ -2,10 +2,12 @@
 #![tactic(auto)]
 
 mod beliefs;
+mod clashing;
 mod levels;
 mod rows;
 #[cfg(test)]
 mod tests;
 
 pub use beliefs::{believes_among, clashing_among, stated_among};
+pub use clashing::first_clashing_among;
 pub use rows::world_among;

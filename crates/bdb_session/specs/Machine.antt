@@ -11,7 +11,7 @@ use Rattle.bdb_base.specs.declared.kinds.What.{What}
 use Rattle.bdb_base.specs.declared.kinds.What.TheVariants.{Users, Relations, Tuples, Statements}
 use Rattle.bdb_base.specs.declared.kinds.World.{World}
 use Rattle.bdb_base.specs.Same.{same_tuple}
-use Rattle.bdb_base.specs.Bases.{Contents, key_lengths, with_statement, stands, distinct_count}
+use Rattle.bdb_base.specs.Bases.{Contents, key_lengths, with_statement, with_user, with_relation, stands, tuple_count}
 use Rattle.bdb_base.specs.Worlds.{least_clash}
 use Rattle.bdb_base.specs.WorldRows.{world_of}
 use Rattle.bdb_base.specs.Changes.{taken_by, without_taken, updated, first_clashing}
@@ -78,11 +78,11 @@ refusal_from bind.Memory = None
 
 -- the base that a bound command asks for
 abbrev pub asked_base : Contents → Bound → Contents
-asked_base b (CreateUser name) = record { catalog = record { rels = b.catalog.rels; users = b.catalog.users ++ name ∷ [] }; stmts = b.stmts }
-asked_base b (CreateRelation def) = record { catalog = record { rels = b.catalog.rels ++ def ∷ []; users = b.catalog.users }; stmts = b.stmts }
-asked_base b (Insert s) = record { catalog = b.catalog; stmts = with_statement b.stmts s }
-asked_base b (Delete path sign rel conds) = record { catalog = b.catalog; stmts = without_taken path sign rel conds b.stmts }
-asked_base b (Update path sign rel sets conds) = record { catalog = b.catalog; stmts = updated path sign rel conds sets b.stmts }
+asked_base b (CreateUser name) = record b { catalog = with_user b.catalog name }
+asked_base b (CreateRelation def) = record b { catalog = with_relation b.catalog def }
+asked_base b (Insert s) = record b { stmts = with_statement b.stmts s }
+asked_base b (Delete path sign rel conds) = record b { stmts = without_taken path sign rel conds b.stmts }
+asked_base b (Update path sign rel sets conds) = record b { stmts = updated path sign rel conds sets b.stmts }
 asked_base b (ShowWorld path) = b
 
 -- The statement that a command's statements clash with: for an insert the least statement of its path that clashes with
@@ -101,7 +101,7 @@ abbrev pub passed_limit : Contents → Option What
 passed_limit b =
     if nat_lt 256 (length b.catalog.users) then Some Users
     else (if nat_lt 64 (length b.catalog.rels) then Some Relations
-    else (if nat_lt 4000 (distinct_count same_tuple (map (λ (x : Stmt). x.tuple) b.stmts)) then Some Tuples
+    else (if nat_lt 4000 (tuple_count b.stmts) then Some Tuples
     else (if nat_lt 20000 (length b.stmts) then Some Statements
     else None)))
 
