@@ -1,6 +1,7 @@
 pub mod CatalogLemmas
 pub mod Cleared
-pub mod Exits
+pub mod FitLemmas
+pub mod Fitting
 pub mod Founds
 pub mod Misfits
 pub mod PathLemmas

@@ -3,3 +3,4 @@ pub mod Parts
 pub mod Lines
 pub mod Refusal
 pub mod Binding
+pub mod Fits

@@ -1,8 +1,5 @@
 // What commands are bound to, and why a command is refused.
-ghost use Rattle.std.specs.Prelude.{◌≡◌};
-
 use bdb_base::{Cond, List, Path, RelDef, SetCol, Sign, Stmt, Txt};
-use std::alloc::AllocError;
 
 /// A command over a catalog: users by uid, relations and columns by place.
 #[derive(Drop)]
@@ -73,12 +70,4 @@ pub enum BindError {
     Unsafe { alias: Txt, col: Txt },
     /// There is no memory.
     Memory,
-}
-
-impl From<AllocError> for BindError {
-    fn from(_: AllocError) -> Self
-        ensures { result ≡ BindError.Memory }
-    {
-        BindError::Memory
-    }
 }

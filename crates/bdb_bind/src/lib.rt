@@ -4,6 +4,7 @@
 mod binding;
 mod bound;
 mod kinds;
+mod laws;
 mod lookup;
 mod making;
 mod names;
@@ -13,3 +14,4 @@ mod shape;
 
 pub use binding::{bind, is_built};
 pub use bound::{BindError, Bound};
+pub use laws::what_is_bound_fits;
