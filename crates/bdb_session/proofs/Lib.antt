@@ -1,1 +1,5 @@
+pub mod AnswerLemmas
+pub mod CatalogLemmas
+pub mod FindLemmas
+pub mod InsertLemmas
 pub mod LimitLemmas

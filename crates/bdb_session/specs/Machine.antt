@@ -110,6 +110,11 @@ abbrev pub or_next : Option Refusal → Option Refusal → Option Refusal
 or_next None next = next
 or_next (Some first) next = Some first
 
+-- why a base can't have these statements in place of its own, where those of one path were changed: two of the path clash,
+-- or a limit would be passed
+abbrev pub statements_refusal : Contents → List Stmt → List ℕ → Option Refusal
+statements_refusal b next path = or_next (option_map clash_with (first_clashing (key_lengths b.catalog.rels) next path)) (option_map refusal.Full (passed_limit (record b { stmts = next })))
+
 -- the refusal of a bound command: a clash, or a limit that the base that it asks for would pass
 abbrev pub refusal_of_bound : Contents → Bound → Option Refusal
 refusal_of_bound b c = or_next (option_map clash_with (clashing_statement b c)) (option_map refusal.Full (passed_limit (asked_base b c)))

@@ -1,10 +1,12 @@
 // The commands that take statements away, or change them.
-ghost use Rattle.std.specs.Prelude.{◌≡◌, IfOk, OnErr, true, length};
+ghost use Rattle.std.specs.Prelude.{◌≡◌, IfOk, OnOk, OnErr, true, length};
 ghost use Rattle.bdb_base.specs.Changes.{is_taken, taken_by, without_taken, updated, changed_statement};
+ghost use Rattle.bdb_base.specs.Bases.{IsValid};
 ghost use Rattle.bdb_base.specs.Order.{statement_cmp};
 ghost use Rattle.bdb_base.specs.SortedSet.{ascending};
 
-use crate::limits::MOST_TUPLES;
+use crate::limits::{MOST_STATEMENTS, MOST_TUPLES};
+use crate::refusals::clash_with;
 use crate::reply::Reply;
 use crate::session::Session;
 use bdb_base::{
@@ -79,8 +81,9 @@ fn updated_by(
     Ok(next)
 }
 
-ghost use Rattle.bdb_session.specs.Fitting.{SetsFit};
-ghost use Rattle.bdb_session.specs.Machine.{IsAnswered, refusal_of_bound, asked_base, accepted_reply};
+ghost use Rattle.bdb_bind.specs.Fits.{fits_catalog};
+ghost use Rattle.bdb_render.specs.Replies.{count_reply};
+ghost use Rattle.bdb_session.specs.Machine.{IsAnswered, refusal_of_bound, asked_base, accepted_reply, statements_refusal, passed_limit};
 
 impl Session {
     /// Takes statements away.
@@ -91,33 +94,64 @@ impl Session {
     {
         let stmts = self.base.stmts();
         let left = left_by(self.alloc, stmts, selection)?;
-        let text = count_reply(self.alloc, taken_count(stmts, selection))?;
-        let tuples = distinct_tuples(self.alloc, left.as_slice())?;
-        self.base.set_statements(left);
-        self.tuples = tuples;
-        Ok(Reply::accepted(text))
+        let count = taken_count(stmts, selection);
+        self.replace(left, count)
     }
 
     /// Takes statements away and adds each of them changed, or refuses to where two statements of the path would clash
-    /// or there would be too many tuples.
-    pub(crate) fn update(&mut self, selection: &Selection, sets: &[SetCol]) -> Result<Reply, AllocError>
-        requires fits { SetsFit self.old.catalog.rels selection.now.rel sets.now }
+    /// or the base would pass a limit.
+    pub(crate) fn update(&mut self, selection: &Selection, sets: &List<SetCol>) -> Result<Reply, AllocError>
+        requires fits { fits_catalog self.old.catalog (Bound.Update selection.now.path selection.now.sign selection.now.rel sets.now selection.now.conds) ≡ true }
         ensures answered { IfOk result (λ r. let c = Bound.Update selection.now.path selection.now.sign selection.now.rel sets.now selection.now.conds in
             IsAnswered self.old (refusal_of_bound self.old c) (accepted_reply self.old c) (asked_base self.old c) r self.new) }
         ensures err { OnErr result (self.new ≡ self.old) }
     {
         let stmts = self.base.stmts();
-        let next = updated_by(self.alloc, stmts, selection, sets)?;
-        if let Some(least) = first_clashing_among(next.as_slice(), selection.path.as_slice()) {
-            let tuple = least.tuple.try_clone(self.alloc)?;
-            let sign = least.sign;
-            return self.refuse(&Refusal::Clash { sign, tuple });
+        let next = updated_by(self.alloc, stmts, selection, sets.as_slice())?;
+        let count = taken_count(stmts, selection);
+        match self.statements_refusal(next.as_slice(), selection.path.as_slice())? {
+            Some(refusal) => self.refuse(&refusal),
+            None => self.replace(next, count),
         }
+    }
+
+    /// Why the base can't have these statements in place of its own, where those of one path were changed.
+    fn statements_refusal(&self, next: &[Stmt], path: &[u32]) -> Result<Option<Refusal>, AllocError>
+        ensures { IfOk result (λ r. r ≡ statements_refusal self.now next.now path.now) }
+    {
+        match first_clashing_among(next, path) {
+            Some(least) => Ok(Some(clash_with(self.alloc, least)?)),
+            None => match self.limit_passed_by(next)? {
+                Some(what) => Ok(Some(Refusal::Full(what))),
+                None => Ok(None),
+            },
+        }
+    }
+
+    /// The limit that the base would pass with these statements in place of its own.
+    fn limit_passed_by(&self, next: &[Stmt]) -> Result<Option<What>, AllocError>
+        ensures { IfOk result (λ w. w ≡ passed_limit (record self.now { stmts = next.now })) }
+    {
+        let _catalog = self.base.catalog();
+        if distinct_tuples(self.alloc, next)? > MOST_TUPLES {
+            return Ok(Some(What::Tuples));
+        }
+        if next.len() > MOST_STATEMENTS {
+            return Ok(Some(What::Statements));
+        }
+        Ok(None)
+    }
+
+    /// Lets these statements stand in place of those that stood, and answers a count.
+    fn replace(&mut self, next: List<Stmt>, count: usize) -> Result<Reply, AllocError>
+        requires valid { IsValid self.old.catalog next }
+        ensures text { IfOk result (λ r. r.text ≡ count_reply count) }
+        ensures accepted { IfOk result (λ r. r.accepted ≡ true) }
+        ensures next { OnOk result (self.new ≡ record self.old { stmts = next }) }
+        ensures err { OnErr result (self.new ≡ self.old) }
+    {
+        let text = count_reply(self.alloc, count)?;
         let tuples = distinct_tuples(self.alloc, next.as_slice())?;
-        if tuples > MOST_TUPLES {
-            return self.refuse(&Refusal::Full(What::Tuples));
-        }
-        let text = count_reply(self.alloc, taken_count(stmts, selection))?;
         self.base.set_statements(next);
         self.tuples = tuples;
         Ok(Reply::accepted(text))

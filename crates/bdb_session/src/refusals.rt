@@ -1,9 +1,11 @@
 // Refusals to bind, as refusals of a command.
-ghost use Rattle.std.specs.Prelude.{◌≡◌};
-ghost use Rattle.bdb_session.specs.Machine.{refusal_from};
+ghost use Rattle.std.specs.Prelude.{◌≡◌, IfOk};
+ghost use Rattle.bdb_session.specs.Machine.{refusal_from, clash_with};
 
+use bdb_base::{Exact, Stmt};
 use bdb_bind::BindError;
 use bdb_render::Refusal;
+use std::alloc::{AllocError, Global};
 
 /// A refusal to bind, as a refusal of the command; want of memory is none.
 pub(crate) fn refusal_from(error: BindError) -> Option<Refusal>
@@ -26,4 +28,15 @@ pub(crate) fn refusal_from(error: BindError) -> Option<Refusal>
         BindError::Unsafe { alias, col } => Some(Refusal::Unsafe { alias, col }),
         BindError::Memory => None,
     }
+}
+
+/// The clash that a statement stands for.
+pub(crate) fn clash_with(alloc: Global, stmt: &Stmt) -> Result<Refusal, AllocError>
+    ensures { IfOk result (λ r. r ≡ clash_with stmt.now) }
+{
+    let tuple = stmt.tuple.try_clone(alloc)?;
+    Ok(Refusal::Clash {
+        sign: stmt.sign,
+        tuple,
+    })
 }

@@ -36,7 +36,7 @@ ghost use Rattle.bdb_bind.specs.Parts.{is_built};
 ghost use Rattle.bdb_bind.specs.Binding.{bound_of};
 ghost use Rattle.bdb_render.specs.Refusals.{refusal_reply};
 ghost use Rattle.bdb_session.specs.Machine.{IsAnswered, reading_of, refusal_of_reading, reading_reply, reading_base, refusal_of_command, refusal_of_bound, accepted_reply, asked_base, refusal_from};
-ghost use Rattle.bdb_session.specs.Fitting.{Fits};
+ghost use Rattle.bdb_bind.specs.Fits.{fits_catalog, is_allowed};
 
 impl Session {
     /// A session over the base with no relations, users or statements.
@@ -81,7 +81,8 @@ impl Session {
 
     /// Carries out a command, or refuses it.
     fn carry_out(&mut self, command: &Command) -> Result<Reply, AllocError>
-        requires { is_built command.now ≡ true }
+        requires built { is_built command.now ≡ true }
+        requires allowed { is_allowed command.now ≡ true }
         ensures answered { IfOk result (λ r. IsAnswered self.old (refusal_of_command self.old command.now)
             (accepted_reply self.old (bound_of self.old.catalog command.now)) (asked_base self.old (bound_of self.old.catalog command.now)) r self.new) }
         ensures err { OnErr result (self.new ≡ self.old) }
@@ -97,7 +98,7 @@ impl Session {
 
     /// Carries out a bound command, or refuses it.
     fn execute(&mut self, bound: Bound) -> Result<Reply, AllocError>
-        requires fits { Fits self.old.catalog bound }
+        requires fits { fits_catalog self.old.catalog bound ≡ true }
         ensures answered { IfOk result (λ r. IsAnswered self.old (refusal_of_bound self.old bound) (accepted_reply self.old bound) (asked_base self.old bound) r self.new) }
         ensures err { OnErr result (self.new ≡ self.old) }
     {
@@ -129,7 +130,7 @@ impl Session {
                     rel,
                     conds,
                 };
-                self.update(&selection, sets.as_slice())
+                self.update(&selection, &sets)
             }
             Bound::ShowWorld { path } => self.show_world(&path),
         }
