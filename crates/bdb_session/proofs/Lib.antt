@@ -3,3 +3,4 @@ pub mod CatalogLemmas
 pub mod FindLemmas
 pub mod InsertLemmas
 pub mod LimitLemmas
+pub mod UpdateStepLemmas
