@@ -5,7 +5,7 @@ ghost use Rattle.bdb_base.specs.Samples.{sample_relation, sample_statement};
 
 use crate::kinds::{Catalog, RelDef, Stmt};
 use crate::list::{Exact, List};
-use crate::ordered::{put, take};
+use crate::ordered::{contains, put, take};
 use crate::text::Txt;
 use std::alloc::{AllocError, Global};
 use std::marker::Model;
@@ -93,6 +93,21 @@ impl Base {
         ensures taken { self.new ≡ record self.old { stmts = without_statement self.old.stmts s.now } }
     {
         take(&mut self.stmts, s)
+    }
+
+    /// Whether a statement stands.
+    pub fn stands(&self, s: &Stmt) -> bool
+        ensures { result ≡ stands self.now.stmts s.now }
+    {
+        contains(self.stmts.as_slice(), s)
+    }
+
+    /// Lets these statements stand in place of those that stood.
+    pub fn set_statements(&mut self, stmts: List<Stmt>)
+        requires { IsValid self.old.catalog stmts }
+        ensures { self.new ≡ record self.old { stmts = stmts } }
+    {
+        self.stmts = stmts;
     }
 }
 

@@ -98,6 +98,17 @@ pub fn place_of<X: Ordered>(xs: &[X], x: &X) -> Result<usize, usize>
     Err(low)
 }
 
+/// Whether an item is in a set.
+pub fn contains<X: Ordered>(xs: &[X], x: &X) -> bool
+    requires { ascending X.order xs.now ≡ true }
+    ensures { result ≡ is_member X.order xs.now x.now }
+{
+    match place_of(xs, x) {
+        Ok(_) => true,
+        Err(_) => false,
+    }
+}
+
 /// Puts an item into a set. True where it was added, false where it stood. After a refusal the set is unchanged.
 pub fn put<X: Ordered>(list: &mut List<X>, x: X) -> Result<bool, AllocError>
     requires { ascending X.order list.old ≡ true }

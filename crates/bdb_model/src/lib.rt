@@ -3,6 +3,7 @@
 
 mod bases;
 mod beliefs;
+mod clashing;
 mod levels;
 mod rows;
 #[cfg(test)]
@@ -10,4 +11,5 @@ mod tests;
 
 pub use bases::{believes, clashing, stated, world_rows};
 pub use beliefs::{believes_among, clashing_among, stated_among};
+pub use clashing::first_clashing_among;
 pub use rows::world_among;

@@ -1,0 +1,6 @@
+pub mod AnswerLemmas
+pub mod CatalogLemmas
+pub mod FindLemmas
+pub mod InsertLemmas
+pub mod LimitLemmas
+pub mod UpdateStepLemmas

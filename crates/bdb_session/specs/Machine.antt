@@ -1,0 +1,204 @@
+-- The belief machine: what each event of a script answers over a base, and the base after it.
+use Rattle.std.specs.Prelude.{◌≡◌, ℕ, Bool, true, false, not, ◌&&◌, ◌||◌, nat_lt, List, [], ◌∷◌, ◌++◌, length, map, Option, None, Some, is_none, if◌then◌else◌, cond, codes}
+use Rattle.std.specs.Option.{option_map, option_and_then}
+use Rattle.bdb_base.specs.declared.kinds.Catalog.{Catalog}
+use Rattle.bdb_base.specs.declared.kinds.Cond.{Cond}
+use Rattle.bdb_base.specs.declared.kinds.RelDef.{RelDef}
+use Rattle.bdb_base.specs.declared.kinds.SetCol.{SetCol}
+use Rattle.bdb_base.specs.declared.kinds.Sign.{Sign}
+use Rattle.bdb_base.specs.declared.kinds.Stmt.{Stmt}
+use Rattle.bdb_base.specs.declared.kinds.What.{What}
+use Rattle.bdb_base.specs.declared.kinds.What.TheVariants.{Users, Relations, Tuples, Statements}
+use Rattle.bdb_base.specs.declared.kinds.World.{World}
+use Rattle.bdb_base.specs.Same.{same_tuple}
+use Rattle.bdb_base.specs.Bases.{Contents, key_lengths, with_statement, with_user, with_relation, stands, tuple_count}
+use Rattle.bdb_base.specs.Worlds.{least_clash}
+use Rattle.bdb_base.specs.WorldRows.{world_of}
+use Rattle.bdb_base.specs.Changes.{taken_by, without_taken, updated, first_clashing}
+use Rattle.bdb_lex.specs.declared.token.Token.{Token}
+use Rattle.bdb_lex.specs.declared.token.Token.TheVariants.{Word}
+use Rattle.bdb_lex.specs.Tokens.{tokens_of}
+use Rattle.bdb_syntax.specs.Keywords.{is_keyword}
+use Rattle.bdb_syntax.specs.declared.command.Command.{Command}
+use Rattle.bdb_parse.specs.Reading.{command_of}
+use Rattle.bdb_parse.specs.Fits.{fits}
+use Rattle.bdb_bind.specs.declared.bound.Bound.{Bound}
+use Rattle.bdb_bind.specs.declared.bound.Bound.TheVariants.{CreateUser, CreateRelation, Insert, Delete, Update, ShowWorld}
+use Rattle.bdb_bind.specs.declared.bound.BindError.{BindError}
+use Rattle.bdb_bind.specs.declared.bound.BindError.TheVariants as bind
+use Rattle.bdb_bind.specs.Parts.{is_built}
+use Rattle.bdb_bind.specs.Refusal.{refusal_of}
+use Rattle.bdb_bind.specs.Binding.{bound_of}
+use Rattle.bdb_render.specs.declared.refusal.Refusal.{Refusal}
+use Rattle.bdb_render.specs.declared.refusal.Refusal.TheVariants as refusal
+use Rattle.bdb_render.specs.Refusals.{refusal_reply}
+use Rattle.bdb_render.specs.Replies.{ok_reply, count_reply, world_reply}
+use Rattle.bdb_session.specs.declared.reply.Reply.{Reply}
+use Rattle.bdb_session.specs.declared.reading.Reading.{Reading}
+use Rattle.bdb_session.specs.declared.reading.Reading.TheVariants as reading
+use Rattle.bdb_session.specs.declared.event.Event.{Event}
+use Rattle.bdb_session.specs.declared.event.Event.TheVariants as event
+
+-- queries are not answered yet: their first word tells
+abbrev pub begins_query : Token → Bool
+begins_query (Word w) = is_keyword (codes "select") w || is_keyword (codes "explain") w
+begins_query _ = false
+
+-- a command with literals that fit, of a kind that is built
+abbrev pub reading_of_command : Option Command → Reading
+reading_of_command None = reading.Refused refusal.Syntax
+reading_of_command (Some c) = if fits c then (if is_built c then reading.Says c else reading.Refused refusal.Syntax) else reading.Refused refusal.Number
+
+abbrev pub reading_of_tokens : Option (List Token) → Reading
+reading_of_tokens None = reading.Refused refusal.Syntax
+reading_of_tokens (Some []) = reading.Nothing
+reading_of_tokens (Some (t ∷ ts)) = if begins_query t then reading.Refused refusal.Syntax else reading_of_command (command_of (t ∷ ts))
+
+-- what the bytes of a piece say
+abbrev pub reading_of : List ℕ → Reading
+reading_of bytes = reading_of_tokens (tokens_of bytes)
+
+-- a refusal to bind, as a refusal of the command; want of memory is none
+abbrev pub refusal_from : BindError → Option Refusal
+refusal_from bind.Text = Some refusal.Text
+refusal_from bind.Items = Some refusal.Items
+refusal_from (bind.Relation name) = Some (refusal.Relation name)
+refusal_from (bind.User name) = Some (refusal.User name)
+refusal_from (bind.AliasTwice alias) = Some (refusal.AliasTwice alias)
+refusal_from (bind.Alias alias) = Some (refusal.Alias alias)
+refusal_from (bind.Column alias col) = Some (refusal.Column alias col)
+refusal_from (bind.TakenUser name) = Some (refusal.TakenUser name)
+refusal_from (bind.TakenName name) = Some (refusal.TakenName name)
+refusal_from bind.Repeat = Some refusal.Repeat
+refusal_from bind.Deep = Some refusal.Deep
+refusal_from bind.Arity = Some refusal.Arity
+refusal_from (bind.Kind alias col) = Some (refusal.Kind alias col)
+refusal_from (bind.Unsafe alias col) = Some (refusal.Unsafe alias col)
+refusal_from bind.Memory = None
+
+-- the base that a bound command asks for
+abbrev pub asked_base : Contents → Bound → Contents
+asked_base b (CreateUser name) = record b { catalog = with_user b.catalog name }
+asked_base b (CreateRelation def) = record b { catalog = with_relation b.catalog def }
+asked_base b (Insert s) = record b { stmts = with_statement b.stmts s }
+asked_base b (Delete path sign rel conds) = record b { stmts = without_taken path sign rel conds b.stmts }
+asked_base b (Update path sign rel sets conds) = record b { stmts = updated path sign rel conds sets b.stmts }
+asked_base b (ShowWorld path) = b
+
+-- The statement that a command's statements clash with: for an insert the least statement of its path that clashes with
+-- it, for an update the least of its path that clashes with another in the base that it asks for.
+abbrev pub clashing_statement : Contents → Bound → Option Stmt
+clashing_statement b (Insert s) = least_clash (key_lengths b.catalog.rels) b.stmts s.path s.tuple s.sign
+clashing_statement b (Update path sign rel sets conds) = first_clashing (key_lengths b.catalog.rels) (updated path sign rel conds sets b.stmts) path
+clashing_statement b _ = None
+
+-- the clash that a statement stands for
+abbrev pub clash_with : Stmt → Refusal
+clash_with s = refusal.Clash s.sign s.tuple
+
+-- the first limit that a base passes
+abbrev pub passed_limit : Contents → Option What
+passed_limit b =
+    if nat_lt 256 (length b.catalog.users) then Some Users
+    else (if nat_lt 64 (length b.catalog.rels) then Some Relations
+    else (if nat_lt 4000 (tuple_count b.stmts) then Some Tuples
+    else (if nat_lt 20000 (length b.stmts) then Some Statements
+    else None)))
+
+-- the first of two refusals that applies
+abbrev pub or_next : Option Refusal → Option Refusal → Option Refusal
+or_next None next = next
+or_next (Some first) next = Some first
+
+-- why a base can't have these statements in place of its own, where those of one path were changed: two of the path clash,
+-- or a limit would be passed
+abbrev pub statements_refusal : Contents → List Stmt → List ℕ → Option Refusal
+statements_refusal b next path = or_next (option_map clash_with (first_clashing (key_lengths b.catalog.rels) next path)) (option_map refusal.Full (passed_limit (record b { stmts = next })))
+
+-- the refusal of a bound command: a clash, or a limit that the base that it asks for would pass
+abbrev pub refusal_of_bound : Contents → Bound → Option Refusal
+refusal_of_bound b c = or_next (option_map clash_with (clashing_statement b c)) (option_map refusal.Full (passed_limit (asked_base b c)))
+
+-- how many statements a bound command adds or takes
+abbrev pub count_of : Contents → Bound → ℕ
+count_of b (Insert s) = if stands b.stmts s then 0 else 1
+count_of b (Delete path sign rel conds) = length (taken_by path sign rel conds b.stmts)
+count_of b (Update path sign rel sets conds) = length (taken_by path sign rel conds b.stmts)
+count_of b _ = 0
+
+-- the world of a path
+abbrev pub world_at : Contents → List ℕ → World
+world_at b path = record { held = world_of (key_lengths b.catalog.rels) b.stmts path }
+
+-- the reply to a bound command where it is accepted
+abbrev pub accepted_reply : Contents → Bound → List ℕ
+accepted_reply b (CreateUser name) = ok_reply
+accepted_reply b (CreateRelation def) = ok_reply
+accepted_reply b (ShowWorld path) = world_reply b.catalog (world_at b path)
+accepted_reply b c = count_reply (count_of b c)
+
+-- the reply, refused or not
+abbrev pub reply_by : Contents → Option Refusal → List ℕ → List ℕ
+reply_by b (Some r) reply = refusal_reply b.catalog r
+reply_by b None reply = reply
+
+-- the base after: as it was where something is refused
+abbrev pub base_by : Contents → Option Refusal → Contents → Contents
+base_by b (Some r) asked = b
+base_by b None asked = asked
+
+-- the refusal of a command
+abbrev pub refusal_of_command : Contents → Command → Option Refusal
+refusal_of_command b c = or_next (option_and_then refusal_from (refusal_of b.catalog c)) (refusal_of_bound b (bound_of b.catalog c))
+
+abbrev pub refusal_of_reading : Contents → Reading → Option Refusal
+refusal_of_reading b reading.Nothing = None
+refusal_of_reading b (reading.Says c) = refusal_of_command b c
+refusal_of_reading b (reading.Refused r) = Some r
+
+-- the refusal of an event
+abbrev pub refusal_at : Contents → Event → Option Refusal
+refusal_at b (event.Piece bytes) = refusal_of_reading b (reading_of bytes)
+refusal_at b event.Long = Some refusal.Long
+refusal_at b event.Unfinished = Some refusal.Unfinished
+
+-- an event is accepted
+abbrev pub accepts : Contents → Event → Bool
+accepts b e = is_none (refusal_at b e)
+
+-- the reply to what is read, where it is accepted; empty where it says nothing
+abbrev pub reading_reply : Contents → Reading → List ℕ
+reading_reply b (reading.Says c) = accepted_reply b (bound_of b.catalog c)
+reading_reply b _ = []
+
+-- the base that is asked for by what is read
+abbrev pub reading_base : Contents → Reading → Contents
+reading_base b (reading.Says c) = asked_base b (bound_of b.catalog c)
+reading_base b _ = b
+
+abbrev pub reading_at : Event → Reading
+reading_at (event.Piece bytes) = reading_of bytes
+reading_at _ = reading.Nothing
+
+-- the reply to an event
+abbrev pub reply_of : Contents → Event → List ℕ
+reply_of b e = reply_by b (refusal_at b e) (reading_reply b (reading_at e))
+
+-- the base after an event: as before where the event is refused or says nothing
+abbrev pub next_base : Contents → Event → Contents
+next_base b e = base_by b (refusal_at b e) (reading_base b (reading_at e))
+
+-- a piece with a token
+abbrev pub has_token : Reading → Bool
+has_token reading.Nothing = false
+has_token _ = true
+
+-- an event counts where it is accepted and says something
+abbrev pub counts : Contents → Event → ℕ
+counts b e = if accepts b e && has_token (reading_at e) then 1 else 0
+
+-- What is answered to something that this refuses, or that asks for this reply and this base: the reply, and the base after.
+pub record IsAnswered (b : Contents) (refused : Option Refusal) (reply : List ℕ) (asked : Contents) (r : Reply) (after : Contents) : Type 0 where
+  pub text : r.text ≡ reply_by b refused reply
+  pub accepted : r.accepted ≡ is_none refused
+  pub next : after ≡ base_by b refused asked

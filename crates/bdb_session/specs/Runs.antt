@@ -1,0 +1,42 @@
+-- Runs of the belief machine over the events of a script.
+use Rattle.std.specs.Prelude.{◌≡◌, ℕ, ◌+◌, Bool, true, false, ◌&&◌, cond, List, [], ◌∷◌, ◌++◌, map}
+use Rattle.bdb_base.specs.Bases.{Contents}
+use Rattle.bdb_lex.specs.declared.token.Piece.{Piece}
+use Rattle.bdb_lex.specs.declared.token.Piece.TheVariants as piece
+use Rattle.bdb_lex.specs.Cut.{pieces_of, has_rest}
+use Rattle.bdb_session.specs.declared.event.Event.{Event}
+use Rattle.bdb_session.specs.declared.event.Event.TheVariants as event
+use Rattle.bdb_session.specs.Machine.{accepts, reply_of, next_base}
+
+-- what a piece asks for
+abbrev pub event_of : Piece → Event
+event_of (piece.Cmd bytes) = event.Piece bytes
+event_of piece.Long = event.Long
+
+-- the rest of a script, where it holds something
+abbrev pub rest_events : Bool → List Event
+rest_events true = event.Unfinished ∷ []
+rest_events false = []
+
+-- the pieces of a script, and then its rest where it holds something
+abbrev pub events_of : List ℕ → List Event
+events_of script = map event_of (pieces_of script) ++ rest_events (has_rest script)
+
+-- the base after these events
+abbrev pub after : Contents → List Event → Contents
+after b [] = b
+after b (e ∷ es) = after (next_base b e) es
+
+-- the replies to these events, one behind the other
+abbrev pub replies : Contents → List Event → List ℕ
+replies b [] = []
+replies b (e ∷ es) = reply_of b e ++ replies (next_base b e) es
+
+-- none of these events is refused
+abbrev pub accepts_all : Contents → List Event → Bool
+accepts_all b [] = true
+accepts_all b (e ∷ es) = accepts b e && accepts_all (next_base b e) es
+
+-- one list of events is the front of another
+abbrev pub IsFrontOf : List Event → List Event → Type 0
+IsFrontOf front whole = (rest : List Event) × (whole ≡ front ++ rest)

@@ -1,0 +1,18 @@
+//! The belief machine, one command at a time.
+#![tactic(auto)]
+
+mod change;
+mod create;
+mod event;
+mod insert;
+mod limits;
+mod reading;
+mod refusals;
+mod reply;
+mod session;
+mod show;
+
+pub use event::Event;
+pub use reading::{Reading, read_piece};
+pub use reply::Reply;
+pub use session::Session;

@@ -1,0 +1,138 @@
+// The session: the base so far, and the commands that change it.
+ghost use Rattle.std.specs.Prelude.{◌≡◌, IfOk, OnErr, true, false};
+
+use crate::reading::{Reading, read_piece};
+use crate::reply::Reply;
+use crate::change::Selection;
+use crate::refusals::refusal_from;
+use bdb_base::{Base, Catalog, List};
+use bdb_bind::{BindError, Bound, bind};
+use bdb_render::{Refusal, ok_reply, refusal_reply};
+use bdb_syntax::Command;
+use std::alloc::{AllocError, Global};
+use std::marker::Model;
+
+/// A session: the base that the accepted commands have reached. Contracts see it as that base.
+#[derive(Drop)]
+pub struct Session {
+    pub(crate) base: Base,
+    pub(crate) tuples: usize,
+    pub(crate) alloc: Global,
+}
+
+impl Model for Session {
+    ghost use Rattle.std.specs.Prelude.{◌≡◌};
+    ghost use Rattle.bdb_base.specs.Bases.{Contents, tuple_count};
+
+    ghost Value = { Contents };
+
+    ghost view = { λ s. s.base };
+
+    ghost invariant = { λ s. s.tuples ≡ tuple_count s.base.stmts };
+}
+
+ghost use Rattle.bdb_base.specs.Bases.{empty_contents};
+ghost use Rattle.bdb_bind.specs.Parts.{is_built};
+ghost use Rattle.bdb_bind.specs.Binding.{bound_of};
+ghost use Rattle.bdb_render.specs.Refusals.{refusal_reply};
+ghost use Rattle.bdb_session.specs.Machine.{IsAnswered, reading_of, refusal_of_reading, reading_reply, reading_base, refusal_of_command, refusal_of_bound, accepted_reply, asked_base, refusal_from};
+ghost use Rattle.bdb_bind.specs.Fits.{fits_catalog, is_allowed};
+
+impl Session {
+    /// A session over the base with no relations, users or statements.
+    pub fn new(alloc: Global) -> Self
+        ensures { result ≡ empty_contents }
+    {
+        Session {
+            base: Base::empty(alloc),
+            tuples: 0,
+            alloc,
+        }
+    }
+
+    /// The relations and users of the base.
+    pub fn catalog(&self) -> &Catalog
+        ensures { result.now ≡ self.now.catalog }
+    {
+        self.base.catalog()
+    }
+
+    /// Answers a piece of a script: the reply is that of the belief machine to it over the base so far, and the base is
+    /// the one that the machine reaches. The only error is want of memory; the session is then as it was.
+    pub fn apply(&mut self, piece: &[u8]) -> Result<Reply, AllocError>
+        ensures answered { IfOk result (λ r. IsAnswered self.old (refusal_of_reading self.old (reading_of piece.now))
+            (reading_reply self.old (reading_of piece.now)) (reading_base self.old (reading_of piece.now)) r self.new) }
+        ensures err { OnErr result (self.new ≡ self.old) }
+    {
+        match read_piece(self.alloc, piece)? {
+            Reading::Nothing => Ok(Reply::accepted(List::new(self.alloc))),
+            Reading::Refused(refusal) => self.refuse(&refusal),
+            Reading::Says(command) => self.carry_out(&command),
+        }
+    }
+
+    /// The reply to what is refused.
+    pub(crate) fn refuse(&self, refusal: &Refusal) -> Result<Reply, AllocError>
+        ensures { IfOk result (λ r. (r.text ≡ refusal_reply self.now.catalog refusal.now) × (r.accepted ≡ false)) }
+    {
+        let text = refusal_reply(self.alloc, self.base.catalog(), refusal)?;
+        Ok(Reply::refused(text))
+    }
+
+    /// Carries out a command, or refuses it.
+    fn carry_out(&mut self, command: &Command) -> Result<Reply, AllocError>
+        requires built { is_built command.now ≡ true }
+        requires allowed { is_allowed command.now ≡ true }
+        ensures answered { IfOk result (λ r. IsAnswered self.old (refusal_of_command self.old command.now)
+            (accepted_reply self.old (bound_of self.old.catalog command.now)) (asked_base self.old (bound_of self.old.catalog command.now)) r self.new) }
+        ensures err { OnErr result (self.new ≡ self.old) }
+    {
+        match bind(self.alloc, self.base.catalog(), command) {
+            Ok(bound) => self.execute(bound),
+            Err(error) => match refusal_from(error) {
+                Some(refusal) => self.refuse(&refusal),
+                None => Err(AllocError),
+            },
+        }
+    }
+
+    /// Carries out a bound command, or refuses it.
+    fn execute(&mut self, bound: Bound) -> Result<Reply, AllocError>
+        requires fits { fits_catalog self.old.catalog bound ≡ true }
+        ensures answered { IfOk result (λ r. IsAnswered self.old (refusal_of_bound self.old bound) (accepted_reply self.old bound) (asked_base self.old bound) r self.new) }
+        ensures err { OnErr result (self.new ≡ self.old) }
+    {
+        match bound {
+            Bound::CreateUser { name } => self.create_user(name),
+            Bound::CreateRelation { def } => self.create_relation(def),
+            Bound::Insert { stmt } => self.insert(stmt),
+            Bound::Delete {
+                path,
+                sign,
+                rel,
+                conds,
+            } => self.delete(&Selection {
+                path,
+                sign,
+                rel,
+                conds,
+            }),
+            Bound::Update {
+                path,
+                sign,
+                rel,
+                sets,
+                conds,
+            } => {
+                let selection = Selection {
+                    path,
+                    sign,
+                    rel,
+                    conds,
+                };
+                self.update(&selection, &sets)
+            }
+            Bound::ShowWorld { path } => self.show_world(&path),
+        }
+    }
+}
