@@ -18,6 +18,7 @@ mod literal;
 mod number;
 mod query;
 mod reading;
+mod round_trip;
 mod set;
 mod show;
 mod stop;
@@ -29,6 +30,7 @@ pub use error::ParseError;
 pub use keywords::is_keyword;
 pub use laws::commands_are_read;
 pub use reading::parse;
+pub use round_trip::printed_reads_back;
 
 #[cfg(test)]
 mod tests;
