@@ -3,4 +3,5 @@ pub mod CatalogLemmas
 pub mod FindLemmas
 pub mod InsertLemmas
 pub mod LimitLemmas
+pub mod UpdateFitLemmas
 pub mod UpdateStepLemmas

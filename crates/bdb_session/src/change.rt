@@ -95,7 +95,8 @@ impl Session {
         let stmts = self.base.stmts();
         let left = left_by(self.alloc, stmts, selection)?;
         let count = taken_count(stmts, selection);
-        self.replace(left, count)
+        let reply = self.replace(left, count)?;
+        Ok(reply)
     }
 
     /// Takes statements away and adds each of them changed, or refuses to where two statements of the path would clash
