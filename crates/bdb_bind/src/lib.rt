@@ -11,6 +11,8 @@ mod names;
 mod parts;
 mod refusals;
 mod shape;
+#[cfg(test)]
+mod tests;
 
 pub use binding::{bind, is_built};
 pub use bound::{BindError, Bound};

@@ -1,6 +1,7 @@
 // The keeper in memory that never fails.
 ghost use Rattle.std.specs.Prelude.{◌≡◌, ◌≤◌, ◌∷◌, OnOk, OnErr, IsTrue, ◌↔◌, false};
 ghost use Rattle.std.specs.FinMap as map;
+ghost use Rattle.bdb_keep.specs.Calm.{seen_of};
 
 use crate::keeper::{KeepError, Keeper};
 use crate::store::Store;
@@ -19,13 +20,13 @@ pub struct QuietKeeper {
 
 impl Model for QuietKeeper {
     ghost use Rattle.std.specs.Prelude.{◌≡◌, false};
-    ghost use Rattle.bdb_keep.specs.Seen.{Seen, coded_seen};
+    ghost use Rattle.bdb_keep.specs.Calm.{Calm, coded_calm};
 
-    ghost Value = { Seen };
+    ghost Value = { Calm };
 
-    ghost coded = { coded_seen };
+    ghost coded = { coded_calm };
 
-    ghost view = { λ k. record { kept = k.store.kept; last = k.store.last; running = k.running; faults = 0; reads = k.reads; writes = k.writes; commits = k.commits } };
+    ghost view = { λ k. record { kept = k.store.kept; last = k.store.last; running = k.running; reads = k.reads; writes = k.writes; commits = k.commits } };
 
     ghost invariant = { λ k. k.running ≡ false → k.store.kept ≡ k.store.last };
 }
@@ -33,7 +34,7 @@ impl Model for QuietKeeper {
 impl QuietKeeper {
     /// A keeper with no rows. It takes no memory.
     pub fn new(alloc: Global) -> Self
-        ensures { result ≡ record { kept = map.empty; last = map.empty; running = false; faults = 0; reads = 0; writes = 0; commits = 0 } }
+        ensures { result ≡ record { kept = map.empty; last = map.empty; running = false; reads = 0; writes = 0; commits = 0 } }
     {
         QuietKeeper {
             store: Store::new(alloc),
@@ -80,7 +81,7 @@ impl QuietKeeper {
 }
 
 impl Keeper for QuietKeeper {
-    ghost seen = { λ k. k };
+    ghost seen = { seen_of };
 
     fn begin(&mut self) -> Result<(), KeepError> {
         self.running = true;

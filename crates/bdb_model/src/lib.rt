@@ -3,7 +3,7 @@
 
 mod bases;
 mod beliefs;
-mod clashing;
+mod conflicts;
 mod levels;
 mod rows;
 #[cfg(test)]
@@ -11,5 +11,5 @@ mod tests;
 
 pub use bases::{believes, clashing, stated, world_rows};
 pub use beliefs::{believes_among, clashing_among, stated_among};
-pub use clashing::first_clashing_among;
+pub use conflicts::first_clashing_among;
 pub use rows::world_among;
