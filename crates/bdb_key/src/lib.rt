@@ -21,3 +21,6 @@ pub use row_take::take_row;
 pub use row_write::{put_rel, put_row, put_sign, put_tuple};
 pub use take::take_key;
 pub use write::{put_key, put_num, put_path, put_text, put_value, put_values};
+
+#[cfg(test)]
+mod tests;

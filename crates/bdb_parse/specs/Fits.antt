@@ -12,20 +12,25 @@ use Rattle.bdb_syntax.specs.declared.command.Command.{Command}
 use Rattle.bdb_syntax.specs.declared.command.Command.TheVariants.{CreateUser, CreateRelation, Insert, Delete, Update, Select, Explain, ShowWorld, ShowTables}
 use Rattle.bdb_parse.specs.Numbers.{is_i64}
 
+-- a value is a text or in i64
 abbrev pub value_fits : Value → Bool
 value_fits (Int n) = is_i64 n
 value_fits (Text t) = true
 
+-- so is a literal at the right of a comparison
 abbrev pub side_fits : RawSide → Bool
 side_fits (Col c) = true
 side_fits (Lit v) = value_fits v
 
+-- so is the literal of a comparison
 abbrev pub cond_fits : RawCond → Bool
 cond_fits c = side_fits c.right
 
+-- so is what an update sets
 abbrev pub set_fits : RawSet → Bool
 set_fits s = value_fits s.to
 
+-- so is each literal of a query
 abbrev pub query_fits : RawQuery → Bool
 query_fits q = list_all cond_fits q.conds
 

@@ -71,10 +71,12 @@ abbrev pub IsSign : Sign → List Token → Type 0
 IsSign Plus = IsNothing
 IsSign Minus = IsKeyword (codes "not")
 
+-- the word of a kind
 abbrev pub IsKind : Kind → List Token → Type 0
 IsKind kinds.Int = IsKeyword (codes "int")
 IsKind kinds.Text = IsKeyword (codes "text")
 
+-- a name and a kind
 abbrev pub IsColumn : ColDef → List Token → Type 0
 IsColumn c = IsName c.name ▸ IsKind c.kind
 
@@ -96,6 +98,7 @@ abbrev pub IsFullCol : RawCol → List Token → Type 0
 IsFullCol c ts =
     (alias : List ℕ) × (c.alias ≡ Some alias) × (IsName alias ▸ IsToken Dot ▸ IsName c.col) ts
 
+-- the right side of a comparison: a column or a literal
 abbrev pub IsSide : (RawCol → List Token → Type 0) → RawSide → List Token → Type 0
 IsSide IsCol (sides.Col c) = IsCol c
 IsSide IsCol (sides.Lit v) = IsLiteral v
@@ -110,9 +113,11 @@ AreConds IsCol [] = IsNothing
 AreConds IsCol (c ∷ cs) =
     IsKeyword (codes "where") ▸ AreSeparated (IsCond IsCol) (IsKeyword (codes "and")) (c ∷ cs)
 
+-- a column, an equals sign and a literal
 abbrev pub IsSet : RawSet → List Token → Type 0
 IsSet s = IsName s.col ▸ IsToken Eq ▸ IsLiteral s.to
 
+-- what stands behind 'belief' in an item: a text or a column
 abbrev pub IsWho : RawWho → List Token → Type 0
 IsWho (whos.Name t) = IsToken (Text t)
 IsWho (whos.Col c) = IsFullCol c
@@ -125,6 +130,7 @@ IsItemBelief who = IsKeyword (codes "belief") ▸ IsWho who
 abbrev pub IsAlias : List ℕ → List ℕ → List Token → Type 0
 IsAlias rel alias ts = ((ts ≡ []) × (alias ≡ rel)) ⊎ (IsName alias ts ⊎ (IsKeyword (codes "as") ▸ IsName alias) ts)
 
+-- an item: its path, its sign, its relation and its alias
 abbrev pub IsItem : RawItem → List Token → Type 0
 IsItem i = AreRepeated IsItemBelief i.path ▸ IsSign i.sign ▸ IsName i.rel ▸ IsAlias i.rel i.alias
 
@@ -132,6 +138,7 @@ IsItem i = AreRepeated IsItemBelief i.path ▸ IsSign i.sign ▸ IsName i.rel �
 abbrev pub IsTarget : List (List ℕ) → Sign → List ℕ → (List Token → Type 0) → List Token → Type 0
 IsTarget users sign rel After = AreRepeated IsBelief users ▸ IsSign sign ▸ IsName rel ▸ After
 
+-- a query
 abbrev pub IsQuery : RawQuery → List Token → Type 0
 IsQuery q =
     IsKeyword (codes "select") ▸ AreSeparated IsFullCol (IsToken Comma) q.take

@@ -31,6 +31,7 @@ use Rattle.bdb_parse.specs.Numbers.{number_of}
 use Rattle.bdb_parse.specs.Stops.{cut, parts}
 
 infixl 10 ◌>>=◌
+-- a reading, and what goes on from it
 abbrev pub ◌>>=◌ : {A B : Type 0} → Option A → (A → Option B) → Option B
 o >>= f = option_and_then f o
 
@@ -39,26 +40,32 @@ abbrev pub end_at : List Token → Option (List Token)
 end_at [] = Some []
 end_at (t ∷ ts) = None
 
+-- a word
 abbrev pub word_at : List Token → Option (List ℕ × List Token)
 word_at (Word w ∷ ts) = Some (w, ts)
 word_at _ = None
 
+-- a text
 abbrev pub text_at : List Token → Option (List ℕ × List Token)
 text_at (Text t ∷ ts) = Some (t, ts)
 text_at _ = None
 
+-- a dot
 abbrev pub dot_at : List Token → Option (List Token)
 dot_at (Dot ∷ ts) = Some ts
 dot_at _ = None
 
+-- an equals sign
 abbrev pub equals_at : List Token → Option (List Token)
 equals_at (Eq ∷ ts) = Some ts
 equals_at _ = None
 
+-- an opening parenthesis
 abbrev pub open_at : List Token → Option (List Token)
 open_at (ParenL ∷ ts) = Some ts
 open_at _ = None
 
+-- a comparison's sign
 abbrev pub cmp_at : List Token → Option (Cmp × List Token)
 cmp_at (Eq ∷ ts) = Some (signs.Eq, ts)
 cmp_at (Ne ∷ ts) = Some (signs.Ne, ts)
@@ -95,6 +102,7 @@ abbrev pub sign_of : List Token → Option (List Token) → Sign × List Token
 sign_of ts None = (Plus, ts)
 sign_of ts (Some rest) = (Minus, rest)
 
+-- the sign, and the tokens after it
 unfoldable pub sign_at : List Token → Sign × List Token
 sign_at ts = sign_of ts (keyword_at (codes "not") ts)
 
@@ -129,9 +137,11 @@ abbrev pub conds_of : (List Token → Option RawCond) → Option (List Token) �
 conds_of read None = Some []
 conds_of read (Some ts) = list_of read stops.And ts
 
+-- the kind that a word names
 unfoldable pub kind_of : List ℕ → Option Kind
 kind_of word = if is_keyword (codes "int") word then Some kinds.Int else (if is_keyword (codes "text") word then Some kinds.Text else None)
 
+-- a column of a new relation
 unfoldable pub column_of : List Token → Option ColDef
 column_of ts = do
   name ← name_at ts
@@ -146,6 +156,7 @@ literal_of number (Text t ∷ []) = Some (values.Text t)
 literal_of number (Num s ∷ []) = option_map values.Int (number s)
 literal_of number _ = None
 
+-- a column, an equals sign and a literal
 unfoldable pub set_of : (List ℕ → Option ℤ) → List Token → Option RawSet
 set_of number ts = do
   col ← name_at ts
@@ -172,12 +183,14 @@ col_at ts = do
   col ← name_at rest
   Some (record { alias = Some alias.0; col = col.0 }, col.1)
 
+-- a column behind an alias, the whole list
 unfoldable pub col_of : List Token → Option RawCol
 col_of ts = do
   col ← col_at ts
   _ ← end_at col.1
   Some col.0
 
+-- whether the first token is a word
 abbrev pub begins_with_word : List Token → Bool
 begins_with_word (Word w ∷ ts) = true
 begins_with_word _ = false
@@ -231,6 +244,7 @@ alias_of rel (t ∷ ts) = do
   _ ← end_at name.1
   Some name.0
 
+-- an item of a query
 unfoldable pub item_of : List Token → Option RawItem
 item_of ts = do
   let path = whos_at ts
@@ -239,12 +253,14 @@ item_of ts = do
   alias ← alias_of rel.0 rel.1
   Some (record { path = path.0; sign = sign.0; rel = rel.0; alias = alias })
 
+-- what follows 'create user'
 unfoldable pub create_user_of : List Token → Option Command
 create_user_of ts = do
   name ← text_at ts
   _ ← end_at name.1
   Some (CreateUser name.0)
 
+-- what follows 'create relation'
 unfoldable pub create_relation_of : List Token → Option Command
 create_relation_of ts = do
   name ← name_at ts
@@ -252,11 +268,13 @@ create_relation_of ts = do
   cols ← list_of column_of stops.Comma inside
   Some (CreateRelation name.0 cols)
 
+-- what follows 'create'
 unfoldable pub create_of : List Token → Option Command
 create_of ts = do
   word ← word_at ts
   if is_keyword (codes "user") word.0 then create_user_of word.1 else (if is_keyword (codes "relation") word.0 then create_relation_of word.1 else None)
 
+-- what follows 'insert'
 unfoldable pub insert_of : (List ℕ → Option ℤ) → List Token → Option Command
 insert_of number ts = do
   rest ← keyword_at (codes "into") ts
@@ -266,6 +284,7 @@ insert_of number ts = do
   vals ← list_of (literal_of number) stops.Comma inside
   Some (Insert target.0.users target.0.sign target.0.rel vals)
 
+-- what follows 'delete'
 unfoldable pub delete_of : (List ℕ → Option ℤ) → List Token → Option Command
 delete_of number ts = do
   rest ← keyword_at (codes "from") ts
@@ -275,6 +294,7 @@ delete_of number ts = do
   conds ← conds_of (test_of number) halves.1
   Some (Delete target.0.users target.0.sign target.0.rel conds)
 
+-- what follows 'update'
 unfoldable pub update_of : (List ℕ → Option ℤ) → List Token → Option Command
 update_of number ts = do
   target ← target_at ts
@@ -295,17 +315,20 @@ query_of number ts = do
   conds ← conds_of (cond_of number) body.1
   Some (record { take = take; items = items; conds = conds })
 
+-- what follows 'explain'
 unfoldable pub explain_of : (List ℕ → Option ℤ) → List Token → Option Command
 explain_of number ts = do
   rest ← keyword_at (codes "select") ts
   option_map Explain (query_of number rest)
 
+-- what follows 'show world'
 unfoldable pub show_world_of : List Token → Option Command
 show_world_of ts = do
   let users = beliefs_at ts
   _ ← end_at users.1
   Some (ShowWorld users.0)
 
+-- what follows 'show'
 unfoldable pub show_of : List Token → Option Command
 show_of ts = do
   word ← word_at ts

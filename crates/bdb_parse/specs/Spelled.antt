@@ -11,5 +11,6 @@ IsWellSpelled (Word w) = is_word w ≡ true
 IsWellSpelled (Text t) = IsContent t
 IsWellSpelled _ = Unit {0}
 
+-- each token is
 abbrev pub AreWellSpelled : List Token → Type 0
 AreWellSpelled ts = AllByRecursion IsWellSpelled ts

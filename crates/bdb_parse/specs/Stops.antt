@@ -11,10 +11,12 @@ abbrev pub is_word : List ℕ → Token → Bool
 is_word keyword (Word w) = is_keyword keyword w
 is_word keyword _ = false
 
+-- a token is a comma
 abbrev pub is_comma : Token → Bool
 is_comma Comma = true
 is_comma _ = false
 
+-- a token is a closing parenthesis
 abbrev pub is_close : Token → Bool
 is_close ParenR = true
 is_close _ = false

@@ -25,5 +25,6 @@ command_filled (Explain query) = query_filled query
 command_filled (ShowWorld users) = true
 command_filled ShowTables = true
 
+-- a command has those lists filled
 abbrev pub IsFilled : Command → Type 0
 IsFilled c = command_filled c ≡ true

@@ -41,6 +41,7 @@ IsName w = (is_word w ≡ true) × (is_reserved w ≡ false)
 abbrev pub IsContent : List ℕ → Type 0
 IsContent t = IsUtf8 t × (list_all (λ b. nat_le 32 b) t ≡ true)
 
+-- a value whose text is allowed
 abbrev pub IsPrintableValue : Value → Type 0
 IsPrintableValue (values.Int n) = Unit {0}
 IsPrintableValue (values.Text t) = IsContent t
@@ -53,23 +54,29 @@ IsBareCol c = (c.alias ≡ None) × IsName c.col
 abbrev pub IsFullCol : RawCol → Type 0
 IsFullCol c = IsSomeAnd c.alias IsName × IsName c.col
 
+-- the right side of a comparison, whose columns are as IsCol says
 abbrev pub IsPrintableSide : (RawCol → Type 0) → RawSide → Type 0
 IsPrintableSide IsCol (sides.Col c) = IsCol c
 IsPrintableSide IsCol (sides.Lit v) = IsPrintableValue v
 
+-- a comparison, whose columns are as IsCol says
 abbrev pub IsPrintableCond : (RawCol → Type 0) → RawCond → Type 0
 IsPrintableCond IsCol c = IsCol c.left × IsPrintableSide IsCol c.right
 
+-- a user of a path
 abbrev pub IsPrintableWho : RawWho → Type 0
 IsPrintableWho (whos.Name t) = IsContent t
 IsPrintableWho (whos.Col c) = IsFullCol c
 
+-- an item of a query
 abbrev pub IsPrintableItem : RawItem → Type 0
 IsPrintableItem i = AllByRecursion IsPrintableWho i.path × IsName i.rel × IsName i.alias
 
+-- a column that an update sets
 abbrev pub IsPrintableSet : RawSet → Type 0
 IsPrintableSet s = IsName s.col × IsPrintableValue s.to
 
+-- a query
 abbrev pub IsPrintableQuery : RawQuery → Type 0
 IsPrintableQuery q = AllByRecursion IsFullCol q.take × AllByRecursion IsPrintableItem q.items × AllByRecursion (IsPrintableCond IsFullCol) q.conds
 
