@@ -1,3 +1,4 @@
+pub mod AllowedLemmas
 pub mod AnswerLemmas
 pub mod CatalogLemmas
 pub mod FindLemmas
