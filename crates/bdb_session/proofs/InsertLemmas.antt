@@ -1,10 +1,9 @@
 -- What a base has with one more statement.
-use Rattle.std.proofs.Common.{◌≡◌, ◌∙◌, ℕ, ◌+◌, ◌<◌, ◌≤◌, Bool, true, false, cond, ◌&&◌, List, length, Option, Some, None, ap, sym, arith}
+use Rattle.std.proofs.Common.{◌≡◌, ◌∙◌, ℕ, ◌+◌, ◌<◌, ◌≤◌, Bool, true, false, cond, ◌&&◌, length, Some, None, ap, sym, arith}
 use Rattle.bdb_base.specs.declared.kinds.Stmt.{Stmt}
-use Rattle.bdb_base.specs.declared.kinds.What.{What}
 use Rattle.bdb_base.specs.declared.kinds.What.TheVariants.{Tuples, Statements}
 use Rattle.bdb_base.specs.Bases.{Contents, IsValid, belongs, key_lengths, has_tuple, tuple_count, stands, with_statement}
-use Rattle.bdb_base.specs.Worlds.{contradicted, least_clash}
+use Rattle.bdb_base.specs.Worlds.{contradicted}
 use Rattle.bdb_base.proofs.BaseLemmas.{put_counts_tuple, put_counts_statement, put_is_valid}
 use Rattle.bdb_base.specs.Same.{same_path}
 use Rattle.bdb_base.specs.Clash.{clash}

@@ -1,13 +1,9 @@
 -- Which limit a base passes.
-use Rattle.std.proofs.Common.{◌≡◌, ℕ, ◌<◌, ◌≤◌, Bool, true, false, List, length, Option, Some, None, refl, arith, ◌∷◌, [], ◌++◌, length-append, ltb, leb, inl, inr}
+use Rattle.std.proofs.Common.{◌≡◌, ℕ, ◌<◌, ◌≤◌, true, false, length, Some, None, refl, arith, ltb, leb, inl, inr}
 use Rattle.std.proofs.lemmas.Bool.{cases_Bool}
 use Rattle.std.proofs.lemmas.Bool.Decides.{nat_tests}
-use Rattle.bdb_base.specs.declared.kinds.Catalog.{Catalog}
-use Rattle.bdb_base.specs.declared.kinds.RelDef.{RelDef}
-use Rattle.bdb_base.specs.declared.kinds.Stmt.{Stmt}
-use Rattle.bdb_base.specs.declared.kinds.What.{What}
 use Rattle.bdb_base.specs.declared.kinds.What.TheVariants.{Users, Relations, Tuples, Statements}
-use Rattle.bdb_base.specs.Bases.{Contents, IsValid, IsCatalog, AreStatements, tuple_count}
+use Rattle.bdb_base.specs.Bases.{Contents, IsValid, IsCatalog, tuple_count}
 use Rattle.bdb_session.specs.Machine.{passed_limit}
 
 -- what is at most a number isn't above it

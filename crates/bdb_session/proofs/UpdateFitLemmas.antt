@@ -1,5 +1,5 @@
 -- What sets that fit a relation make of its tuples, and when an update keeps a base valid.
-use Rattle.std.proofs.Common.{◌≡◌, ◌∙◌, ℕ, ◌≤◌, Bool, true, false, ◌&&◌, List, [], ◌∷◌, length, Option, Some, None, refl, ap, sym, suc}
+use Rattle.std.proofs.Common.{◌≡◌, ◌∙◌, ℕ, true, ◌&&◌, List, [], ◌∷◌, length, Option, Some, None, ap, suc}
 use Prim.Native.Nat.{zero}
 use Rattle.std.specs.Prelude.{slice_set, nat_lt}
 use Rattle.std.specs.List.{list_all, slice_get}
@@ -10,7 +10,6 @@ use Rattle.bdb_base.specs.declared.kinds.Cond.{Cond}
 use Rattle.bdb_base.specs.declared.kinds.RelDef.{RelDef}
 use Rattle.bdb_base.specs.declared.kinds.SetCol.{SetCol}
 use Rattle.bdb_base.specs.declared.kinds.Sign.{Sign}
-use Rattle.bdb_base.specs.declared.kinds.Stmt.{Stmt}
 use Rattle.bdb_base.specs.declared.kinds.Value.{Value}
 use Rattle.bdb_base.specs.declared.tuple.Tuple.{Tuple}
 use Rattle.bdb_base.specs.Bases.{Contents, IsValid, fits_kind, fits_columns, fits_definition, fits_relation, key_lengths}

@@ -1,5 +1,5 @@
 -- The steps of a loop that puts changed statements in.
-use Rattle.std.proofs.Common.{◌≡◌, ◌∙◌, ℕ, ◌+◌, ◌<◌, Bool, true, false, List, [], ◌∷◌, ap, sym, filter, length, map, drop, get_or}
+use Rattle.std.proofs.Common.{◌≡◌, ◌∙◌, ℕ, ◌+◌, ◌<◌, Bool, true, false, List, ◌∷◌, ap, sym, filter, length, map, drop, get_or}
 use Rattle.std.proofs.lemmas.List.{drop_more}
 use Rattle.bdb_base.specs.declared.kinds.Stmt.{Stmt}
 use Rattle.bdb_base.specs.Bases.{with_statement}

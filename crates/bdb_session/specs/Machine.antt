@@ -1,16 +1,10 @@
 -- The belief machine: what each event of a script answers over a base, and the base after it.
-use Rattle.std.specs.Prelude.{◌≡◌, ℕ, Bool, true, false, not, ◌&&◌, ◌||◌, nat_lt, List, [], ◌∷◌, ◌++◌, length, map, Option, None, Some, is_none, if◌then◌else◌, cond, codes}
+use Rattle.std.specs.Prelude.{◌≡◌, ℕ, Bool, true, false, ◌&&◌, ◌||◌, nat_lt, List, [], ◌∷◌, length, Option, None, Some, is_none, if◌then◌else◌, codes}
 use Rattle.std.specs.Option.{option_map, option_and_then}
-use Rattle.bdb_base.specs.declared.kinds.Catalog.{Catalog}
-use Rattle.bdb_base.specs.declared.kinds.Cond.{Cond}
-use Rattle.bdb_base.specs.declared.kinds.RelDef.{RelDef}
-use Rattle.bdb_base.specs.declared.kinds.SetCol.{SetCol}
-use Rattle.bdb_base.specs.declared.kinds.Sign.{Sign}
 use Rattle.bdb_base.specs.declared.kinds.Stmt.{Stmt}
 use Rattle.bdb_base.specs.declared.kinds.What.{What}
 use Rattle.bdb_base.specs.declared.kinds.What.TheVariants.{Users, Relations, Tuples, Statements}
 use Rattle.bdb_base.specs.declared.kinds.World.{World}
-use Rattle.bdb_base.specs.Same.{same_tuple}
 use Rattle.bdb_base.specs.Bases.{Contents, key_lengths, with_statement, with_user, with_relation, stands, tuple_count}
 use Rattle.bdb_base.specs.Worlds.{least_clash}
 use Rattle.bdb_base.specs.WorldRows.{world_of}
@@ -27,6 +21,7 @@ use Rattle.bdb_bind.specs.declared.bound.Bound.TheVariants.{CreateUser, CreateRe
 use Rattle.bdb_bind.specs.declared.bound.BindError.{BindError}
 use Rattle.bdb_bind.specs.declared.bound.BindError.TheVariants as bind
 use Rattle.bdb_bind.specs.Parts.{is_built}
+use Rattle.bdb_bind.specs.Fits.{is_allowed}
 use Rattle.bdb_bind.specs.Refusal.{refusal_of}
 use Rattle.bdb_bind.specs.Binding.{bound_of}
 use Rattle.bdb_render.specs.declared.refusal.Refusal.{Refusal}
@@ -57,6 +52,11 @@ reading_of_tokens (Some (t ∷ ts)) = if begins_query t then reading.Refused ref
 -- what the bytes of a piece say
 abbrev pub reading_of : List ℕ → Reading
 reading_of bytes = reading_of_tokens (tokens_of bytes)
+
+-- a command that is said is of a kind that is built, and its texts and names are allowed
+abbrev pub IsFit : Reading → Type 0
+IsFit (reading.Says c) = (is_built c ≡ true) × (is_allowed c ≡ true)
+IsFit _ = Unit {0}
 
 -- a refusal to bind, as a refusal of the command; want of memory is none
 abbrev pub refusal_from : BindError → Option Refusal

@@ -1,5 +1,5 @@
 -- Runs of the belief machine over the events of a script.
-use Rattle.std.specs.Prelude.{◌≡◌, ℕ, ◌+◌, Bool, true, false, ◌&&◌, cond, List, [], ◌∷◌, ◌++◌, map}
+use Rattle.std.specs.Prelude.{◌≡◌, ℕ, Bool, true, false, ◌&&◌, List, [], ◌∷◌, ◌++◌, map}
 use Rattle.bdb_base.specs.Bases.{Contents}
 use Rattle.bdb_lex.specs.declared.token.Piece.{Piece}
 use Rattle.bdb_lex.specs.declared.token.Piece.TheVariants as piece

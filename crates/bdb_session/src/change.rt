@@ -101,7 +101,11 @@ impl Session {
 
     /// Takes statements away and adds each of them changed, or refuses to where two statements of the path would clash
     /// or the base would pass a limit.
-    pub(crate) fn update(&mut self, selection: &Selection, sets: &List<SetCol>) -> Result<Reply, AllocError>
+    pub(crate) fn update(
+        &mut self,
+        selection: &Selection,
+        sets: &List<SetCol>,
+    ) -> Result<Reply, AllocError>
         requires fits { fits_catalog self.old.catalog (Bound.Update selection.now.path selection.now.sign selection.now.rel sets.now selection.now.conds) ≡ true }
         ensures answered { IfOk result (λ r. let c = Bound.Update selection.now.path selection.now.sign selection.now.rel sets.now selection.now.conds in
             IsAnswered self.old (refusal_of_bound self.old c) (accepted_reply self.old c) (asked_base self.old c) r self.new) }
@@ -163,5 +167,8 @@ impl Session {
 fn taken_count(stmts: &[Stmt], selection: &Selection) -> usize
     ensures { result ≡ length (taken_by selection.now.path selection.now.sign selection.now.rel selection.now.conds stmts.now) }
 {
-    stmts.iter().filter(|stmt| is_selected(selection, stmt)).count()
+    stmts
+        .iter()
+        .filter(|stmt| is_selected(selection, stmt))
+        .count()
 }

@@ -32,7 +32,12 @@ impl Session {
     fn insert_refusal(&self, stmt: &Stmt) -> Result<Option<Refusal>, AllocError>
         ensures { IfOk result (λ r. r ≡ refusal_of_bound self.now (Bound.Insert stmt.now)) }
     {
-        match clashing_among(self.base.stmts(), stmt.path.as_slice(), &stmt.tuple, stmt.sign) {
+        match clashing_among(
+            self.base.stmts(),
+            stmt.path.as_slice(),
+            &stmt.tuple,
+            stmt.sign,
+        ) {
             Some(least) => Ok(Some(clash_with(self.alloc, least)?)),
             None => match self.limit_passed_with(stmt) {
                 Some(what) => Ok(Some(Refusal::Full(what))),

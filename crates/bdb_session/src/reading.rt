@@ -1,6 +1,7 @@
 // What a piece says.
 ghost use Rattle.std.specs.Prelude.{◌≡◌, IfOk, Some};
 ghost use Rattle.bdb_parse.specs.Reading.{command_of};
+ghost use Rattle.bdb_parse.specs.Spelled.{AreWellSpelled};
 
 use bdb_bind::is_built;
 use bdb_lex::{LexError, Token, tokens};
@@ -20,11 +21,12 @@ pub enum Reading {
     Refused(Refusal),
 }
 
-ghost use Rattle.bdb_session.specs.Machine.{reading_of, reading_of_tokens, reading_of_command, begins_query};
+ghost use Rattle.bdb_session.specs.Machine.{reading_of, reading_of_tokens, reading_of_command, begins_query, IsFit};
 
 /// What a piece says.
 pub fn read_piece(alloc: Global, piece: &[u8]) -> Result<Reading, AllocError>
-    ensures { IfOk result (λ r. r ≡ reading_of piece.now) }
+    ensures reading { IfOk result (λ r. r ≡ reading_of piece.now) }
+    ensures fit { IfOk result IsFit }
 {
     match tokens(alloc, piece) {
         Ok(tokens) => read_tokens(alloc, tokens.as_slice()),
@@ -35,7 +37,8 @@ pub fn read_piece(alloc: Global, piece: &[u8]) -> Result<Reading, AllocError>
 
 /// What tokens say.
 fn read_tokens(alloc: Global, tokens: &[Token]) -> Result<Reading, AllocError>
-    ensures { IfOk result (λ r. r ≡ reading_of_tokens (Some tokens.now)) }
+    ensures reading { IfOk result (λ r. r ≡ reading_of_tokens (Some tokens.now)) }
+    ensures fit { AreWellSpelled tokens.now → IfOk result IsFit }
 {
     match tokens {
         [] => Ok(Reading::Nothing),
@@ -60,7 +63,8 @@ fn is_query_word(token: &Token) -> bool
 
 /// What tokens that are no query say.
 fn read_command(alloc: Global, tokens: &[Token]) -> Result<Reading, AllocError>
-    ensures { IfOk result (λ r. r ≡ reading_of_command (command_of tokens.now)) }
+    ensures reading { IfOk result (λ r. r ≡ reading_of_command (command_of tokens.now)) }
+    ensures fit { AreWellSpelled tokens.now → IfOk result IsFit }
 {
     match parse(alloc, tokens) {
         Ok(command) => {

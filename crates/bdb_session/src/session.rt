@@ -1,10 +1,10 @@
 // The session: the base so far, and the commands that change it.
 ghost use Rattle.std.specs.Prelude.{◌≡◌, IfOk, OnErr, true, false};
 
-use crate::reading::{Reading, read_piece};
-use crate::reply::Reply;
 use crate::change::Selection;
+use crate::reading::{Reading, read_piece};
 use crate::refusals::refusal_from;
+use crate::reply::Reply;
 use bdb_base::{Base, Catalog, List};
 use bdb_bind::{BindError, Bound, bind};
 use bdb_render::{Refusal, ok_reply, refusal_reply};

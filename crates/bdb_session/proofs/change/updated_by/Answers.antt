@@ -1,4 +1,4 @@
-use Rattle.std.proofs.Common.{◌≡◌, ◌∙◌, ◌<◌, ap, sym, true, false, length, arith, not, map, filter}
+use Rattle.std.proofs.Common.{◌∙◌, ◌<◌, ap, sym, length, arith, not, map, filter}
 use Rattle.bdb_base.specs.Changes.{is_taken, changed_statement, with_statements, updated}
 use Rattle.bdb_base.specs.Bases.{with_statement}
 use Rattle.bdb_base.specs.Order.{statement_cmp}
@@ -25,13 +25,13 @@ loop-stmt-preserved c =
     let taken = is_taken c.args.selection.now.path c.args.selection.now.sign c.args.selection.now.rel c.args.selection.now.conds in
     elim c.if-is_selected.branch [
       | then-is_selected+in_ok-changed_statement+in_ok-_added w ↦ (
-        let put = w.next-is ∙ w.in_ok-_added.ensures.ok ∙ ap (with_statement c.loop-stmt.next) w.in_ok-changed_statement.ensures in
-        record {
-          in_order = ap (ascending statement_cmp) put ∙ put_keeps_order statement_exact c.loop-stmt.next (changed_statement c.args.sets.now c.stmt-item.result) c.loop-stmt.invariant.in_order;
-          rest = taken_step taken (changed_statement c.args.sets.now)
-              c.args.stmts.now c.loop-stmt.stmt-index c.stmt-item.result c.loop-stmt.next c.if-is_selected.next all within c.stmt-item.is
-              (sym c.is_selected.ensures ∙ w.if-is_selected.true) put c.loop-stmt.invariant.rest;
-        })
+          let put = w.next-is ∙ w.in_ok-_added.ensures.ok ∙ ap (with_statement c.loop-stmt.next) w.in_ok-changed_statement.ensures in
+          record {
+            in_order = ap (ascending statement_cmp) put ∙ put_keeps_order statement_exact c.loop-stmt.next (changed_statement c.args.sets.now c.stmt-item.result) c.loop-stmt.invariant.in_order;
+            rest = taken_step taken (changed_statement c.args.sets.now)
+                c.args.stmts.now c.loop-stmt.stmt-index c.stmt-item.result c.loop-stmt.next c.if-is_selected.next all within c.stmt-item.is
+                (sym c.is_selected.ensures ∙ w.if-is_selected.true) put c.loop-stmt.invariant.rest;
+          })
       | else-is_selected w ↦ record {
         in_order = ap (ascending statement_cmp) w.next-is ∙ c.loop-stmt.invariant.in_order;
         rest = left_step taken (changed_statement c.args.sets.now)

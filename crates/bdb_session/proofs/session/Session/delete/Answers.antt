@@ -1,5 +1,5 @@
-use Rattle.std.proofs.Common.{◌≡◌, ◌∙◌, ap, refl, length, sym}
-use Rattle.bdb_base.specs.Bases.{Contents, IsValid}
+use Rattle.std.proofs.Common.{◌∙◌, ap, refl, length}
+use Rattle.bdb_base.specs.Bases.{Contents}
 use Rattle.bdb_base.specs.Changes.{taken_by, without_taken}
 use Rattle.bdb_base.proofs.UpdateLemmas.{delete_is_valid}
 use Rattle.bdb_bind.specs.declared.bound.Bound.{Bound}

@@ -1,5 +1,5 @@
-use Rattle.std.proofs.Common.{◌≡◌, ◌∙◌, sym, ap, arith, length, ◌≤◌, ◌<◌, true, false}
-use Rattle.bdb_base.specs.Bases.{Contents, stands}
+use Rattle.std.proofs.Common.{◌∙◌, sym, ap, arith, length}
+use Rattle.bdb_base.specs.Bases.{Contents}
 use Rattle.bdb_session.proofs.LimitLemmas.{few_statements}
 use Rattle.bdb_session.proofs.InsertLemmas.{tuples_limit, stood_limit, statements_limit, no_limit_with}
 use Rattle.bdb_session.proofs.session.Session.limit_passed_with.Goals as goal

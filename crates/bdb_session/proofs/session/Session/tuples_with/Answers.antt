@@ -1,5 +1,4 @@
-use Rattle.std.proofs.Common.{◌≡◌, ◌∙◌, sym, true, false}
-use Rattle.bdb_base.specs.Bases.{has_tuple}
+use Rattle.std.proofs.Common.{◌∙◌, sym}
 use Rattle.bdb_session.proofs.InsertLemmas.{counted_in, counted_more}
 use Rattle.bdb_session.proofs.session.Session.tuples_with.Goals as goal
 

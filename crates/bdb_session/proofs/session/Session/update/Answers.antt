@@ -1,4 +1,4 @@
-use Rattle.std.proofs.Common.{◌≡◌, ◌∙◌, ap, sym, List, None}
+use Rattle.std.proofs.Common.{◌∙◌, ap, sym, List}
 use Rattle.bdb_base.specs.declared.kinds.SetCol.{SetCol}
 use Rattle.bdb_base.specs.declared.kinds.Stmt.{Stmt}
 use Rattle.bdb_base.specs.Bases.{Contents}
