@@ -10,7 +10,5 @@ use bdb_base::Stmt;
 pub fn first_clashing_among<'a>(stmts: &'a [Stmt], path: &[u32]) -> Option<&'a Stmt>
     ensures { option_copied result ≡ first_clashing (λ _. 1) stmts.now path.now }
 {
-    stmts
-        .iter()
-        .find(|x| is_at(x, path) && is_contradicted(stmts, path, &x.tuple, x.sign))
+    stmts.iter().find(|x| is_at(x, path) && is_contradicted(stmts, path, &x.tuple, x.sign))
 }

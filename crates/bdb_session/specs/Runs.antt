@@ -1,9 +1,11 @@
 -- Runs of the belief machine over the events of a script.
-use Rattle.std.specs.Prelude.{◌≡◌, ℕ, Bool, true, false, ◌&&◌, List, [], ◌∷◌, ◌++◌, map}
+use Rattle.std.specs.Prelude.{◌≡◌, ℕ, Bool, true, ◌&&◌, List, [], ◌∷◌, ◌++◌, map}
 use Rattle.bdb_base.specs.Bases.{Contents}
 use Rattle.bdb_lex.specs.declared.token.Piece.{Piece}
 use Rattle.bdb_lex.specs.declared.token.Piece.TheVariants as piece
-use Rattle.bdb_lex.specs.Cut.{pieces_of, has_rest}
+use Rattle.bdb_lex.specs.declared.token.Rest.{Rest}
+use Rattle.bdb_lex.specs.declared.token.Rest.TheVariants.{Nothing, Unfinished}
+use Rattle.bdb_lex.specs.Cut.{pieces_of, has_rest, rest_of}
 use Rattle.bdb_session.specs.declared.event.Event.{Event}
 use Rattle.bdb_session.specs.declared.event.Event.TheVariants as event
 use Rattle.bdb_session.specs.Machine.{accepts, reply_of, next_base}
@@ -13,14 +15,14 @@ abbrev pub event_of : Piece → Event
 event_of (piece.Cmd bytes) = event.Piece bytes
 event_of piece.Long = event.Long
 
--- the rest of a script, where it holds something
-abbrev pub rest_events : Bool → List Event
-rest_events true = event.Unfinished ∷ []
-rest_events false = []
+-- what the rest of a script asks for: nothing, or that it be told as unfinished
+abbrev pub rest_events : Rest → List Event
+rest_events Nothing = []
+rest_events Unfinished = event.Unfinished ∷ []
 
 -- the pieces of a script, and then its rest where it holds something
 abbrev pub events_of : List ℕ → List Event
-events_of script = map event_of (pieces_of script) ++ rest_events (has_rest script)
+events_of script = map event_of (pieces_of script) ++ rest_events (rest_of (has_rest script))
 
 -- the base after these events
 abbrev pub after : Contents → List Event → Contents

@@ -1,7 +1,8 @@
 // The session: the base so far, and the commands that change it.
-ghost use Rattle.std.specs.Prelude.{◌≡◌, IfOk, OnErr, true, false};
+ghost use Rattle.std.specs.Prelude.{◌≡◌, IfOk, OnOk, OnErr, true, false};
 
 use crate::change::Selection;
+use crate::event::Event;
 use crate::reading::{Reading, read_piece};
 use crate::refusals::refusal_from;
 use crate::reply::Reply;
@@ -35,7 +36,7 @@ ghost use Rattle.bdb_base.specs.Bases.{empty_contents};
 ghost use Rattle.bdb_bind.specs.Parts.{is_built};
 ghost use Rattle.bdb_bind.specs.Binding.{bound_of};
 ghost use Rattle.bdb_render.specs.Refusals.{refusal_reply};
-ghost use Rattle.bdb_session.specs.Machine.{IsAnswered, reading_of, refusal_of_reading, reading_reply, reading_base, refusal_of_command, refusal_of_bound, accepted_reply, asked_base, refusal_from};
+ghost use Rattle.bdb_session.specs.Machine.{reply_of, accepts, next_base, IsAnswered, reading_of, refusal_of_reading, reading_reply, reading_base, refusal_of_command, refusal_of_bound, accepted_reply, asked_base, refusal_from};
 ghost use Rattle.bdb_bind.specs.Fits.{fits_catalog, is_allowed};
 
 impl Session {
@@ -68,6 +69,21 @@ impl Session {
             Reading::Nothing => Ok(Reply::accepted(List::new(self.alloc))),
             Reading::Refused(refusal) => self.refuse(&refusal),
             Reading::Says(command) => self.carry_out(&command),
+        }
+    }
+
+    /// Answers an event of a script: a piece as `apply` does; a piece that is too long, and a rest that no semicolon
+    /// ended, are refused.
+    pub fn answer(&mut self, event: &Event) -> Result<Reply, AllocError>
+        ensures text { IfOk result (λ r. r.text ≡ reply_of self.old event.now) }
+        ensures accepted { IfOk result (λ r. r.accepted ≡ accepts self.old event.now) }
+        ensures next { OnOk result (self.new ≡ next_base self.old event.now) }
+        ensures err { OnErr result (self.new ≡ self.old) }
+    {
+        match event {
+            Event::Piece(bytes) => self.apply(bytes.as_slice()),
+            Event::Long => self.refuse(&Refusal::Long),
+            Event::Unfinished => self.refuse(&Refusal::Unfinished),
         }
     }
 

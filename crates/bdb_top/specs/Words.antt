@@ -1,5 +1,5 @@
 -- The words of the command line, and the job that they name.
-use Rattle.std.specs.Prelude.{ℕ, Bool, true, false, not, ◌&&◌, nat_eq, List, [], ◌∷◌, Option, Some, None, cond, codes}
+use Rattle.std.specs.Prelude.{ℕ, Bool, false, not, ◌&&◌, nat_eq, List, [], ◌∷◌, Option, Some, None, cond, codes}
 use Rattle.bdb_base.specs.Same.{same_text}
 use Rattle.bdb_top.specs.declared.words.Job.{Job}
 use Rattle.bdb_top.specs.declared.words.Job.TheVariants.{Run}

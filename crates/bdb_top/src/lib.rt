@@ -1,6 +1,14 @@
 //! The top call: it does all that the program does.
 #![tactic(auto)]
 
+mod answers;
+mod cutting;
+mod script;
+mod status;
+mod stop;
+mod top;
 mod words;
 
+pub use stop::Stop;
+pub use top::run;
 pub use words::{Job, WordsError, job_of};

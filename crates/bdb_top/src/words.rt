@@ -1,5 +1,5 @@
 // The words of the command line.
-ghost use Rattle.std.specs.Prelude.{◌≡◌, IfOk, IsErrOf, Some, None};
+ghost use Rattle.std.specs.Prelude.{◌≡◌, IfOk, IsErrOf, Some, None, is_some};
 ghost use Rattle.bdb_base.specs.Same.{same_text};
 ghost use Rattle.bdb_top.specs.Words.{named_job, is_value};
 
@@ -33,14 +33,26 @@ pub fn job_of(alloc: Global, words: &[Txt]) -> Result<Job, WordsError>
         [word, option, value]
             if is_word(word, "run")
                 && is_word(option, "--script")
-                && is_option_value(value.as_bytes()) =>
-        {
+                && is_option_value(value.as_bytes()) => {
             match value.try_clone(alloc) {
                 Ok(file) => Ok(Job::Run { script: Some(file) }),
                 Err(_) => Err(WordsError::Memory),
             }
         }
         _ => Err(WordsError::BadWords),
+    }
+}
+
+/// Whether words name a job.
+pub fn is_job(words: &[Txt]) -> bool
+    ensures { result ≡ is_some (named_job words.now) }
+{
+    match words {
+        [word] => is_word(word, "run"),
+        [word, option, value] => {
+            is_word(word, "run") && is_word(option, "--script") && is_option_value(value.as_bytes())
+        }
+        _ => false,
     }
 }
 
