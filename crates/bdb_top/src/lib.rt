@@ -6,6 +6,8 @@ mod cutting;
 mod script;
 mod status;
 mod stop;
+#[cfg(test)]
+mod tests;
 mod top;
 mod words;
 
