@@ -14,7 +14,8 @@ use std::process::{Command, Stdio};
 struct Usage {
     user: [i64; 2],
     system: [i64; 2],
-    others: [i64; 14],
+    most_kilobytes: i64,
+    others: [i64; 13],
 }
 
 extern "C" {
@@ -24,12 +25,18 @@ extern "C" {
 const OWN: i32 = 0;
 const CHILDREN: i32 = -1;
 
-/// The seconds of processor time so far.
-fn used(who: i32) -> f64 {
-    let mut usage = Usage { user: [0; 2], system: [0; 2], others: [0; 14] };
+/// What a process, or its children that ended, used so far.
+fn usage(who: i32) -> Usage {
+    let mut usage = Usage { user: [0; 2], system: [0; 2], most_kilobytes: 0, others: [0; 13] };
     // SAFETY: the record has the layout and the size that the call fills in on 64-bit Linux.
     let result = unsafe { getrusage(who, &mut usage) };
     assert_eq!(result, 0);
+    usage
+}
+
+/// The seconds of processor time so far.
+fn used(who: i32) -> f64 {
+    let usage = usage(who);
     let seconds = |part: [i64; 2]| part[0] as f64 + part[1] as f64 * 1e-6;
     seconds(usage.user) + seconds(usage.system)
 }
@@ -171,6 +178,26 @@ fn read_row(bench: &Bench, name: &str, command: &str, refused: bool) {
         times(program, reader),
         times(program, scan),
     ]);
+}
+
+/// The most memory that the program had at once. It comes first: the system tells the most of all children so far.
+fn memory(bench: &Bench) {
+    head("Memory", &["script of 8 MiB", "most at once", "bytes for each byte of the script"]);
+    let large = format!("insert into R values('{}');\n", "x".repeat(240));
+    let mut before = usage(CHILDREN).most_kilobytes;
+    for (name, command, refused) in [
+        ("inserts of 266 bytes", large.as_str(), true),
+        ("`show world;` and a line feed", "show world;\n", false),
+        ("semicolons alone", ";", false),
+    ] {
+        let script = repeated(command, 8 << 20, refused);
+        bench.check(&script);
+        let most = usage(CHILDREN).most_kilobytes;
+        assert!(most > before, "the scripts stand in order of their memory");
+        before = most;
+        let each = most as f64 * 1024.0 / script.text.len() as f64;
+        row(&[name.into(), format!("{:.0} MB", most as f64 * 1.024e-3), format!("{each:.1}")]);
+    }
 }
 
 fn speed(bytes: &[u8], time: f64) -> String {
@@ -332,6 +359,7 @@ fn main() {
     let [program, work, runs] = words.as_slice() else { panic!("words: PROGRAM FOLDER RUNS") };
     let bench = Bench { program: program.into(), work: work.into(), runs: runs.parse().expect("a number") };
     println!("The least of {} runs; processor time, user and system.", bench.runs);
+    memory(&bench);
     reading(&bench);
     inserting(&bench);
     binding(&bench);
