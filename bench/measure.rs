@@ -1,0 +1,368 @@
+// Measures the built program, and the same work in plain Rust in the same run. Times are processor time of the process,
+// user and system together, so that another process on the machine disturbs them little.
+mod plain;
+mod scripts;
+
+use scripts::{at_many_paths, at_one_path, beliefs, catalog, for_worlds, inserts, repeated, turns, Script};
+use std::collections::BTreeMap;
+use std::fs::{self, File};
+use std::hint::black_box;
+use std::path::PathBuf;
+use std::process::{Command, Stdio};
+
+#[repr(C)]
+struct Usage {
+    user: [i64; 2],
+    system: [i64; 2],
+    most_kilobytes: i64,
+    others: [i64; 13],
+}
+
+extern "C" {
+    fn getrusage(who: i32, usage: *mut Usage) -> i32;
+}
+
+const OWN: i32 = 0;
+const CHILDREN: i32 = -1;
+
+/// What a process, or its children that ended, used so far.
+fn usage(who: i32) -> Usage {
+    let mut usage = Usage { user: [0; 2], system: [0; 2], most_kilobytes: 0, others: [0; 13] };
+    // SAFETY: the record has the layout and the size that the call fills in on 64-bit Linux.
+    let result = unsafe { getrusage(who, &mut usage) };
+    assert_eq!(result, 0);
+    usage
+}
+
+/// The seconds of processor time so far.
+fn used(who: i32) -> f64 {
+    let usage = usage(who);
+    let seconds = |part: [i64; 2]| part[0] as f64 + part[1] as f64 * 1e-6;
+    seconds(usage.user) + seconds(usage.system)
+}
+
+struct Bench {
+    program: PathBuf,
+    work: PathBuf,
+    runs: usize,
+}
+
+impl Bench {
+    /// The least time of an action over the runs.
+    fn least(&self, who: i32, mut action: impl FnMut()) -> f64 {
+        let mut least = f64::INFINITY;
+        for _ in 0..self.runs {
+            let before = used(who);
+            action();
+            least = least.min(used(who) - before);
+        }
+        least
+    }
+
+    /// The least time in which the program answers a script.
+    fn program(&self, script: &Script) -> f64 {
+        self.check(script);
+        let file = self.file(script);
+        self.least(CHILDREN, || self.run(&file, Stdio::null()))
+    }
+
+    /// The time of a command: that of the script with it so many times, less that of the script, for each. The two
+    /// scripts take turns.
+    fn command(&self, script: &Script, command: &str, times: usize) -> f64 {
+        let long = script.and(command, times);
+        self.check(&long);
+        let (mut without, mut with) = (f64::INFINITY, f64::INFINITY);
+        for _ in 0..self.runs {
+            for (script, least) in [(script, &mut without), (&long, &mut with)] {
+                let file = self.file(script);
+                let before = used(CHILDREN);
+                self.run(&file, Stdio::null());
+                *least = least.min(used(CHILDREN) - before);
+            }
+        }
+        (with - without) / times as f64
+    }
+
+    /// Refuses to go on where the replies are not those meant.
+    fn check(&self, script: &Script) {
+        let replies = self.work.join("replies");
+        self.run(&self.file(script), Stdio::from(File::create(&replies).expect("replies")));
+        let text = fs::read_to_string(&replies).expect("replies");
+        let refused = text.lines().filter(|line| line.starts_with("error")).count();
+        assert_eq!(refused, script.refused, "{}", text.lines().last().unwrap_or(""));
+    }
+
+    fn file(&self, script: &Script) -> PathBuf {
+        let file = self.work.join("script");
+        fs::write(&file, &script.text).expect("a script");
+        file
+    }
+
+    fn run(&self, file: &PathBuf, replies: Stdio) {
+        let script = File::open(file).expect("a script");
+        let mut command = Command::new(&self.program);
+        let status = command.arg("run").stdin(script).stdout(replies).status().expect("the program");
+        assert!(matches!(status.code(), Some(0 | 1)));
+    }
+}
+
+fn row(cells: &[String]) {
+    println!("| {} |", cells.join(" | "));
+}
+
+fn head(title: &str, columns: &[&str]) {
+    println!("\n{title}\n");
+    row(&columns.iter().map(|column| column.to_string()).collect::<Vec<_>>());
+    println!("|{}", "---|".repeat(columns.len()));
+}
+
+fn ms(seconds: f64) -> String {
+    format!("{:.2} ms", seconds * 1e3)
+}
+
+fn us(seconds: f64) -> String {
+    format!("{:.2} us", seconds * 1e6)
+}
+
+fn times(a: f64, b: f64) -> String {
+    format!("{:.1}", a / b)
+}
+
+fn reading(bench: &Bench) {
+    head(
+        "Reading",
+        &[
+            "script",
+            "program, MB/s",
+            "each",
+            "plain reader, MB/s",
+            "plain scan, MB/s",
+            "program / reader",
+            "program / scan",
+        ],
+    );
+    let texts = |size: usize| vec![format!("'{}'", "x".repeat(size)); 4].join(",");
+    let worlds = "show world;\n";
+    let short = "insert into BELIEF 'Alice' R values('s1','bald eagle', 12);\n";
+    let middle = format!("insert into R values({});\n", texts(50));
+    let large = format!("insert into R values({});\n", texts(240));
+    read_row(bench, "`show world` of the empty base", worlds, false);
+    for insert in [short, &middle, &large] {
+        read_row(bench, "inserts, `error relation`", insert, true);
+    }
+    let script = Script::new(" ".repeat(64 << 20));
+    let (bytes, program) = (script.text.as_bytes(), bench.program(&script));
+    let scan = scanned(bench, bytes);
+    let ratio = times(program, scan);
+    let (fast, plain) = (speed(bytes, program), speed(bytes, scan));
+    row(&["64 MiB of blanks".into(), fast, ms(program), "".into(), plain, "".into(), ratio]);
+}
+
+fn read_row(bench: &Bench, name: &str, command: &str, refused: bool) {
+    let script = repeated(command, 32 << 20, refused);
+    let bytes = script.text.as_bytes();
+    let program = bench.program(&script);
+    let mut sum = 0;
+    let reader = bench.least(OWN, || {
+        plain::read(black_box(bytes), |tokens| sum += tokens.iter().map(plain::weight).sum::<usize>())
+    });
+    black_box(sum);
+    let scan = scanned(bench, bytes);
+    let each = program / (bytes.len() / command.len()) as f64;
+    row(&[
+        format!("{name}, {} bytes each", command.len()),
+        speed(bytes, program),
+        us(each),
+        speed(bytes, reader),
+        speed(bytes, scan),
+        times(program, reader),
+        times(program, scan),
+    ]);
+}
+
+/// The most memory that the program had at once. It comes first: the system tells the most of all children so far.
+fn memory(bench: &Bench) {
+    head("Memory", &["script of 8 MiB", "most at once", "bytes for each byte of the script"]);
+    let large = format!("insert into R values('{}');\n", "x".repeat(240));
+    let mut before = usage(CHILDREN).most_kilobytes;
+    for (name, command, refused) in [
+        ("inserts of 266 bytes", large.as_str(), true),
+        ("`show world;` and a line feed", "show world;\n", false),
+        ("semicolons alone", ";", false),
+    ] {
+        let script = repeated(command, 8 << 20, refused);
+        bench.check(&script);
+        let most = usage(CHILDREN).most_kilobytes;
+        assert!(most > before, "the scripts stand in order of their memory");
+        before = most;
+        let each = most as f64 * 1024.0 / script.text.len() as f64;
+        row(&[name.into(), format!("{:.0} MB", most as f64 * 1.024e-3), format!("{each:.1}")]);
+    }
+}
+
+fn speed(bytes: &[u8], time: f64) -> String {
+    format!("{:.0}", bytes.len() as f64 / 1e6 / time)
+}
+
+fn scanned(bench: &Bench, bytes: &[u8]) -> f64 {
+    bench.least(OWN, || {
+        black_box(plain::scan(black_box(bytes)));
+    })
+}
+
+fn inserting(bench: &Bench) {
+    head("Inserts", &["statements", "program", "per insert", "plain", "program / plain"]);
+    for count in [500, 1_000, 2_000, 4_000] {
+        insert_row(bench, &format!("{count} at one path, all tuples different"), 1, at_one_path(1, count));
+    }
+    for count in [1_000, 2_000, 5_000, 10_000, 20_000] {
+        insert_row(bench, &format!("{count} at so many paths, over 1,000 tuples"), 256, at_many_paths(count));
+    }
+}
+
+fn insert_row(bench: &Bench, name: &str, users: usize, stmts: Vec<plain::Stmt>) {
+    let begin = catalog(users, 1);
+    let nothing = bench.program(&Script::new(begin.clone()));
+    let program = bench.program(&Script::new(begin + &inserts(&stmts))) - nothing;
+    let mut plain = f64::INFINITY;
+    for _ in 0..bench.runs {
+        let (copy, mut base) = (stmts.clone(), plain::Base::default());
+        let before = used(OWN);
+        assert!(copy.into_iter().all(|stmt| base.insert(stmt)));
+        plain = plain.min(used(OWN) - before);
+        assert_eq!(black_box(&base).len(), stmts.len());
+    }
+    row(&[name.into(), ms(program), us(program / stmts.len() as f64), ms(plain), times(program, plain)]);
+}
+
+fn look_up(bench: &Bench, count: usize) -> f64 {
+    let names: BTreeMap<String, usize> = (1..=count).map(|uid| (format!("u{uid:03}"), uid)).collect();
+    let keys: Vec<&String> = names.keys().collect();
+    let rounds = 2_000_000;
+    let time = bench.least(OWN, || {
+        for at in 0..rounds {
+            black_box(names.get(black_box(keys[at * 7 % count])));
+        }
+    });
+    time / rounds as f64
+}
+
+fn binding(bench: &Bench) {
+    head(
+        "Binding: one insert, again and again (`ok 0`), into a base of one statement",
+        &[
+            "catalog, and the names used",
+            "per insert",
+            "more than the first",
+            "`BTreeMap` look-up among as many names",
+            "more / look-up",
+        ],
+    );
+    let mut first = None;
+    for (users, relations, uid, number, name) in [
+        (4, 2, 4, 2, "4 users, 2 relations; the last ones"),
+        (256, 64, 1, 1, "256 users, 64 relations; the first ones"),
+        (256, 2, 256, 2, "256 users, 2 relations; the last ones"),
+        (4, 64, 4, 64, "4 users, 64 relations; the last ones"),
+        (256, 64, 256, 64, "256 users, 64 relations; the last ones"),
+    ] {
+        let script = Script::new(catalog(users, relations));
+        let command = format!("insert into BELIEF 'u{uid:03}' S{number:02} values('s1','bald eagle',12);");
+        let per = bench.command(&script, &command, 50_000);
+        let look_up = look_up(bench, users.max(relations));
+        let more = per - *first.get_or_insert(per);
+        row(&[
+            name.into(),
+            us(per),
+            us(more),
+            format!("{:.3} us", look_up * 1e6),
+            format!("{:.0}", more / look_up),
+        ]);
+    }
+}
+
+/// The time in which plain Rust copies statements and sorts the copy.
+fn sorted(bench: &Bench, stmts: &[plain::Stmt]) -> f64 {
+    let time = bench.least(OWN, || {
+        for _ in 0..10 {
+            let mut copy = stmts.to_vec();
+            copy.sort_by(plain::cmp_stmt);
+            black_box(copy);
+        }
+    });
+    time / 10.0
+}
+
+fn changing(bench: &Bench) {
+    head(
+        "One delete or update",
+        &[
+            "statements of the path, of the base",
+            "delete of none",
+            "delete of a twentieth",
+            "update of all",
+            "plain copy and sort",
+            "none / plain",
+            "twentieth / plain",
+            "update / plain",
+            "update / (path * base)",
+        ],
+    );
+    for (count, all) in [(500, 500), (1_000, 1_000), (2_000, 2_000), (3_900, 3_900), (500, 3_900)] {
+        change_row(bench, count, all);
+    }
+}
+
+fn change_row(bench: &Bench, count: usize, all: usize) {
+    let mut stmts = at_one_path(2, all);
+    stmts.iter_mut().skip(count).for_each(|stmt| stmt.path = vec![1]);
+    let script = Script::new(catalog(2, 1) + &inserts(&stmts));
+    let part = |at: usize| {
+        let (from, to) = (at * all / 20, (at + 1) * all / 20);
+        format!("delete from BELIEF 'u002' S01 where k >= 'key{from:05}' and k < 'key{to:05}';\n")
+    };
+    let parts: String = (0..20).map(part).collect();
+    let none = bench.command(&script, "delete from BELIEF 'u002' S01 where v = 'crow';", 100);
+    let part = bench.command(&script, &parts, 1) / 20.0;
+    let update = bench.command(&script, "update BELIEF 'u002' S01 set v = 'crow';", 3);
+    let plain = sorted(bench, &stmts);
+    row(&[
+        format!("{count}, {all}"),
+        ms(none),
+        ms(part),
+        ms(update),
+        ms(plain),
+        times(none, plain),
+        times(part, plain),
+        times(update, plain),
+        format!("{:.1} ns", update / (count * all) as f64 * 1e9),
+    ]);
+}
+
+fn showing(bench: &Bench) {
+    head(
+        "One show world over 4,000 statements",
+        &["depth of the path", "time", "to plain copy and sort of the statements"],
+    );
+    let stmts = for_worlds();
+    let script = Script::new(catalog(2, 1) + &inserts(&stmts));
+    let plain = sorted(bench, &stmts);
+    for depth in [0, 1, 16, 128, 1_024] {
+        let command = format!("show world{};", beliefs(&turns(depth)));
+        let time = bench.command(&script, &command, if depth > 16 { 10 } else { 50 });
+        row(&[depth.to_string(), ms(time), times(time, plain)]);
+    }
+}
+
+fn main() {
+    let words: Vec<String> = std::env::args().skip(1).collect();
+    let [program, work, runs] = words.as_slice() else { panic!("words: PROGRAM FOLDER RUNS") };
+    let bench = Bench { program: program.into(), work: work.into(), runs: runs.parse().expect("a number") };
+    println!("The least of {} runs; processor time, user and system.", bench.runs);
+    memory(&bench);
+    reading(&bench);
+    inserting(&bench);
+    binding(&bench);
+    changing(&bench);
+    showing(&bench);
+}
