@@ -132,11 +132,9 @@ fn aliases(rt: HostRuntime) -> Result<(), Fail> {
     else {
         return Err(Fail::from("this is a query"));
     };
-    let mut found = 0;
+    assert_eq!(rt; query.items.len(), 3);
     for (item, want) in query.items.as_slice().iter().zip(&["R", "T", "Key"]) {
         assert_eq!(rt; item.alias.as_str(), *want);
-        found += 1;
     }
-    assert_eq!(rt; found, 3);
     Ok(())
 }
