@@ -37,15 +37,15 @@ use Rattle.bdb_tables.proofs.Finds.{Rows, found, same, same_true, IsFree, Differ
 
 -- ---- free places
 
-free_append : (p : List ℕ) (xs ys : Rows) → IsFree p xs → IsFree p ys → IsFree p (xs ++ ys)
+pub free_append : (p : List ℕ) (xs ys : Rows) → IsFree p xs → IsFree p ys → IsFree p (xs ++ ys)
 free_append p [] ys h k = k
 free_append p (x ∷ xs) ys h k = (h.0, free_append p xs ys h.1 k)
 
-free_users : (p : List ℕ) → ((k : List ℕ) → same p (2 ∷ k) ≡ false) → (uid : ℕ) (names : List (List ℕ)) → IsFree p (user_rows uid names)
+pub free_users : (p : List ℕ) → ((k : List ℕ) → same p (2 ∷ k) ≡ false) → (uid : ℕ) (names : List (List ℕ)) → IsFree p (user_rows uid names)
 free_users p h uid [] = tt
 free_users p h uid (name ∷ names) = (h (user_codec.key_bytes uid), free_users p h (suc uid) names)
 
-free_rels : (p : List ℕ) → ((k : List ℕ) → same p (3 ∷ k) ≡ false) → (rel : ℕ) (defs : List RelDef) → IsFree p (rel_rows rel defs)
+pub free_rels : (p : List ℕ) → ((k : List ℕ) → same p (3 ∷ k) ≡ false) → (rel : ℕ) (defs : List RelDef) → IsFree p (rel_rows rel defs)
 free_rels p h rel [] = tt
 free_rels p h rel (def ∷ defs) = (h (rel_codec.key_bytes rel), free_rels p h (suc rel) defs)
 

@@ -1,4 +1,6 @@
 pub mod Finds
 pub mod Held
 pub mod HoldsLemmas
+pub mod Reading
+pub mod Numbered
 pub mod Plain

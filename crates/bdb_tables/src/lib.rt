@@ -4,6 +4,7 @@
 
 mod access;
 mod laws;
+mod opening;
 mod tab;
 mod tabs;
 
@@ -12,5 +13,6 @@ pub use laws::{
     drop_takes_statement, format_row_holds_empty, held_is_in_grammar, put_adds_relation,
     put_adds_statement, put_adds_user,
 };
+pub use opening::{read_relations, read_users};
 pub use tab::{Tab, TabError};
 pub use tabs::{MetaTab, PlainTab, RelTab, UserTab};
