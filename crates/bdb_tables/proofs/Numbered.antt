@@ -32,13 +32,13 @@ take_all zero (x ∷ xs) le = absurd (omega (arith, le))
 take_all (suc n) [] le = refl
 take_all (suc n) (x ∷ xs) le = ap (λ ys. x ∷ ys) (take_all n xs (omega (arith, le)))
 
-take_more : {X : Type 0} (n : ℕ) (xs : List X) (x : X) → slice_get xs n ≡ Some x → take (suc n) xs ≡ take n xs ++ x ∷ []
+pub take_more : {X : Type 0} (n : ℕ) (xs : List X) (x : X) → slice_get xs n ≡ Some x → take (suc n) xs ≡ take n xs ++ x ∷ []
 take_more zero [] x e = absurd cc
 take_more (suc n) [] x e = absurd cc
 take_more zero (y ∷ xs) x e = let s : y ≡ x = cc in ap (λ z. z ∷ []) s
 take_more (suc n) (y ∷ xs) x e = ap (λ ys. y ∷ ys) (take_more n xs x e)
 
-take_none : {X : Type 0} (n : ℕ) (xs : List X) → slice_get xs n ≡ None → take n xs ≡ xs
+pub take_none : {X : Type 0} (n : ℕ) (xs : List X) → slice_get xs n ≡ None → take n xs ≡ xs
 take_none zero [] e = refl
 take_none (suc n) [] e = refl
 take_none zero (y ∷ xs) e = absurd cc

@@ -4,10 +4,10 @@ ghost use Rattle.bdb_keep.specs.Seen.{NeverFall, Steps};
 ghost use Rattle.bdb_tables.specs.Grammar.{InGrammar};
 ghost use Rattle.bdb_tables.specs.Opening.{IsHeld};
 
-use crate::access::get;
+use crate::access::{after, first, get};
 use crate::tab::TabError;
-use crate::tabs::{RelTab, UserTab};
-use bdb_base::{List, RelDef, Txt};
+use crate::tabs::{PlainTab, RelTab, UserTab};
+use bdb_base::{List, RelDef, Stmt, Txt};
 use bdb_keep::Keeper;
 use std::alloc::Global;
 
@@ -60,4 +60,36 @@ pub fn read_relations<K: Keeper>(alloc: Global, keeper: &mut K) -> Result<List<R
         }
     }
     Ok(rels)
+}
+
+/// The standing statements, in order.
+pub fn read_statements<K: Keeper>(alloc: Global, keeper: &mut K) -> Result<List<Stmt>, TabError>
+    requires grammar { InGrammar (K.seen keeper.old).kept }
+    ensures statements { IfOk result (IsHeld (λ b. b.stmts) (K.seen keeper.old).kept) }
+    ensures kept { OnOk result ((K.seen keeper.new).kept ≡ (K.seen keeper.old).kept) }
+    ensures writes { (K.seen keeper.new).writes ≡ (K.seen keeper.old).writes }
+    ensures counts { NeverFall (K.seen keeper.old) (K.seen keeper.new) }
+    ensures steps { Steps (K.seen keeper.old) (K.seen keeper.new) result TabError.Fault }
+{
+    let mut stmts = List::new(alloc);
+    let mut found = match first::<PlainTab, K>(alloc, keeper) {
+        Ok(found) => found,
+        Err(error) => return Err(error),
+    };
+    for _ in 0..u32::MAX {
+        let (key, sign) = match found {
+            Some(entry) => entry,
+            None => return Ok(stmts),
+        };
+        found = match after::<PlainTab, K>(alloc, keeper, &key) {
+            Ok(found) => found,
+            Err(error) => return Err(error),
+        };
+        let (path, tuple) = key;
+        if stmts.push(Stmt { path, sign, tuple }).is_err() {
+            keeper.undo();
+            return Err(TabError::Memory);
+        }
+    }
+    Ok(stmts)
 }
