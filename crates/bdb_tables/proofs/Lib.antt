@@ -5,4 +5,5 @@ pub mod HoldsLemmas
 pub mod Reading
 pub mod Stated
 pub mod Numbered
+pub mod OneBase
 pub mod Plain

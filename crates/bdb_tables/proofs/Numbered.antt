@@ -1,12 +1,11 @@
--- What the tables of a base have at the number of a user or of a relation.
-use Rattle.std.proofs.Common.{◌≡◌, ℕ, suc, ◌+◌, ◌<◌, ◌≤◌, List, [], ◌∷◌, ◌++◌, length, take, Bool, true, false, cond, Option, Some, None, map, refl, sym, ap, subst, ◌∙◌, arith, leb-true, nat_le}
+-- What the tables of a base have at the number of a user or of a relation, and the steps of reading these.
+use Rattle.std.proofs.Common.{◌≡◌, ℕ, suc, ◌+◌, ◌<◌, List, [], ◌∷◌, ◌++◌, take, false, cond, Option, Some, None, map, refl, sym, ap, subst, ◌∙◌, arith}
 use Prim.Native.Nat.{zero}
 use Rattle.std.specs.Ordering.{is_eq}
 use Rattle.std.specs.List.{AllByRecursion, slice_get}
 use Rattle.std.specs.Option.{option_map}
 use Rattle.std.specs.FinMap as tables
 use Rattle.std.specs.FinMap.{get-from_entries}
-use Rattle.std.proofs.lemmas.Bool.{cases_Bool}
 use Rattle.std.proofs.lemmas.Cmp.{nat_list_cmp_total}
 use Rattle.std.proofs.lemmas.List.{append_assoc}
 use Rattle.bdb_base.specs.Bases.{Contents}
@@ -19,18 +18,12 @@ use Rattle.bdb_key.proofs.Alone.{nums_in_order, one_text, one_rel}
 use Rattle.bdb_key.proofs.Numbers.{greater}
 use Rattle.bdb_tables.specs.Codec.{Codec, place, HasRow, HasAt}
 use Rattle.bdb_tables.specs.InUse.{user_codec, rel_codec}
-use Rattle.bdb_tables.specs.Holds.{Holds, user_rows, rel_rows, statement_row, catalog_rows, base_rows}
+use Rattle.bdb_tables.specs.Holds.{Holds, user_rows, rel_rows, statement_row, base_rows}
 use Rattle.bdb_tables.specs.Opening.{IsHeld}
 use Rattle.bdb_tables.proofs.Finds.{Rows, found, same, same_true, IsFree}
 use Rattle.bdb_tables.proofs.HoldsLemmas.{free_append, free_users, free_rels}
 
 -- ---- first items of lists
-
-take_all : {X : Type 0} (n : ℕ) (xs : List X) → length xs ≤ n → take n xs ≡ xs
-take_all zero [] le = refl
-take_all zero (x ∷ xs) le = absurd (omega (arith, le))
-take_all (suc n) [] le = refl
-take_all (suc n) (x ∷ xs) le = ap (λ ys. x ∷ ys) (take_all n xs (omega (arith, le)))
 
 pub take_more : {X : Type 0} (n : ℕ) (xs : List X) (x : X) → slice_get xs n ≡ Some x → take (suc n) xs ≡ take n xs ++ x ∷ []
 take_more zero [] x e = absurd cc
@@ -45,7 +38,7 @@ take_none zero (y ∷ xs) e = absurd cc
 take_none (suc n) (y ∷ xs) e = ap (λ ys. y ∷ ys) (take_none n xs e)
 
 -- two lists with the same items by place are one
-same_by_place : {X : Type 0} (xs ys : List X) → ((n : ℕ) → slice_get xs n ≡ slice_get ys n) → xs ≡ ys
+pub same_by_place : {X : Type 0} (xs ys : List X) → ((n : ℕ) → slice_get xs n ≡ slice_get ys n) → xs ≡ ys
 same_by_place [] [] h = refl
 same_by_place [] (y ∷ ys) h = let e = h 0 in absurd cc
 same_by_place (x ∷ xs) [] h = let e = h 0 in absurd cc
@@ -147,7 +140,7 @@ none_back : {X : Type 0} (bytes : X → List ℕ) (o : Option X) → option_map 
 none_back bytes None e = refl
 none_back bytes (Some x) e = absurd cc
 
-one_more : (n : ℕ) → suc n ≡ n + 1
+pub one_more : (n : ℕ) → suc n ≡ n + 1
 one_more n = omega arith
 
 -- what tables have at a key, where these are the tables and the answer

@@ -1,7 +1,7 @@
 -- What the tables of a base have in the table of statements.
-use Rattle.std.proofs.Common.{◌≡◌, ℕ, suc, ◌+◌, arith, List, [], ◌∷◌, ◌++◌, take, ◌⊎◌, Bool, true, false, cond, Option, Some, None, map, refl, sym, ap, subst, ◌∙◌, inl, inr}
-use Rattle.std.specs.declared.cmp.Ordering.TheVariants.{Less, Equal, Greater}
-use Rattle.std.specs.Ordering.{is_eq, is_lt, is_le, ordering_reverse}
+use Rattle.std.proofs.Common.{◌≡◌, ℕ, ◌+◌, List, [], ◌∷◌, ◌++◌, take, Bool, true, false, cond, Option, Some, None, map, refl, sym, ap, subst, ◌∙◌, inl, inr}
+use Rattle.std.specs.declared.cmp.Ordering.TheVariants.{Less}
+use Rattle.std.specs.Ordering.{is_eq, is_lt, ordering_reverse}
 use Rattle.std.specs.List.{AllByRecursion, slice_get}
 use Rattle.std.specs.Option.{MatchOption, option_map, is_some}
 use Rattle.std.specs.FinMap as tables
@@ -16,15 +16,15 @@ use Rattle.bdb_base.proofs.SetLemmas.{is_lt-Less}
 use Rattle.bdb_keep.specs.Tables.{Tables}
 use Rattle.bdb_key.specs.Grammar.{ArePlain, HasPlainText}
 use Rattle.bdb_key.proofs.Alone.{plain_keys_in_order, one_plain_key, one_sign}
-use Rattle.bdb_tables.specs.Codec.{place, HasFirst, IsFirst}
+use Rattle.bdb_tables.specs.Codec.{HasFirst}
 use Rattle.bdb_tables.specs.InUse.{plain_codec, MayBePlain}
-use Rattle.bdb_tables.specs.Holds.{Holds, IsStatement, statement_row, catalog_rows, base_rows}
+use Rattle.bdb_tables.specs.Holds.{Holds, IsStatement, statement_row, catalog_rows}
 use Rattle.bdb_tables.specs.Opening.{IsHeld}
-use Rattle.bdb_tables.proofs.Climbs.{key_order, key_total, Climbs, Among, all_among, among_at, climbs, IsFirstAmong, IsAny, first_is, next_is}
+use Rattle.bdb_tables.proofs.Climbs.{key_order, key_total, Climbs, Among, all_among, climbs, IsFirstAmong, IsAny, first_is, next_is}
 use Rattle.bdb_tables.proofs.Finds.{found, same, same_true}
 use Rattle.bdb_tables.proofs.Held.{same_place}
 use Rattle.bdb_tables.proofs.HoldsLemmas.{free_catalog, tail_same}
-use Rattle.bdb_tables.proofs.Numbered.{free_past, held_at, take_more, take_none}
+use Rattle.bdb_tables.proofs.Numbered.{free_past, held_at, one_more, take_more, take_none}
 
 -- the statement of a key and a sign
 abbrev pub statement_of : (List ℕ × Tuple) × Sign → Stmt
@@ -82,8 +82,7 @@ first_among t b test P is h v None f = λ y a p.
     no_row e = cc
 first_among t b test P is h v (Some e) f =
     let z = statement_of e in
-    let fz : IsStatement z = record { path = f.in_grammar.0; tuple = f.in_grammar.1 } in
-    (
+    let fz : IsStatement z = record { path = f.in_grammar.0; tuple = f.in_grammar.1 } in (
       row_among b.stmts z h.written.stmts fz (sym (held_statement t b z h) ∙ f.found.found),
       (is z).1 f.passes,
       λ y a p.
@@ -106,9 +105,6 @@ first_next t o f = record {
   fits = first_fits t (λ _. true) o f;
   next = λ b h v. first_is b.stmts (held_climbs b v) (option_map statement_of o) (first_among t b (λ _. true) IsAny (λ x. (λ p. refl, λ p. tt)) h v o f);
 }
-
-one_more : (n : ℕ) → suc n ≡ n + 1
-one_more n = omega arith
 
 pub after_next : (t : Tables) (n : ℕ) (e : (List ℕ × Tuple) × Sign) (o : Option ((List ℕ × Tuple) × Sign)) → IsNext t n (Some e) → HasFirst plain_codec t (λ q. is_lt (plain_codec.key_cmp e.0 q)) o → IsNext t (n + 1) o
 after_next t n e o is f = record {

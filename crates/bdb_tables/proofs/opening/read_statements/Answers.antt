@@ -1,4 +1,4 @@
-use Rattle.std.proofs.Common.{◌≡◌, ◌++◌, [], ◌∷◌, rules, refl}
+use Rattle.std.proofs.Common.{◌≡◌, ◌++◌, [], ◌∷◌, rules}
 use Rattle.bdb_tables.proofs.Stated.{statement_of, first_next, key_may_be, statements_more, statements_none, next_after}
 use Rattle.bdb_tables.proofs.opening.read_statements.Goals as goal
 

@@ -1,4 +1,4 @@
-use Rattle.std.proofs.Common.{◌≡◌, take}
+use Rattle.std.proofs.Common.{take}
 use Rattle.bdb_tables.specs.Opening.{IsHeld}
 use Rattle.bdb_tables.proofs.Reading.{IsReading}
 use Rattle.bdb_tables.proofs.Stated.{IsNext}

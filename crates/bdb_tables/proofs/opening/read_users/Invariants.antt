@@ -1,5 +1,4 @@
-use Rattle.std.proofs.Common.{◌≡◌, take}
-use Rattle.bdb_keep.specs.Seen.{GoesOn, NeverFall}
+use Rattle.std.proofs.Common.{take}
 use Rattle.bdb_tables.specs.Opening.{IsHeld}
 use Rattle.bdb_tables.proofs.Reading.{IsReading}
 use Rattle.bdb_tables.proofs.opening.read_users.Given as goal
