@@ -7,6 +7,8 @@ mod laws;
 mod opening;
 mod tab;
 mod tabs;
+#[cfg(test)]
+mod tests;
 
 pub use access::{after, drop_row, first, get, next, put};
 pub use laws::{
