@@ -37,15 +37,15 @@ use Rattle.bdb_tables.proofs.Finds.{Rows, found, same, same_true, IsFree, Differ
 
 -- ---- free places
 
-free_append : (p : List ℕ) (xs ys : Rows) → IsFree p xs → IsFree p ys → IsFree p (xs ++ ys)
+pub free_append : (p : List ℕ) (xs ys : Rows) → IsFree p xs → IsFree p ys → IsFree p (xs ++ ys)
 free_append p [] ys h k = k
 free_append p (x ∷ xs) ys h k = (h.0, free_append p xs ys h.1 k)
 
-free_users : (p : List ℕ) → ((k : List ℕ) → same p (2 ∷ k) ≡ false) → (uid : ℕ) (names : List (List ℕ)) → IsFree p (user_rows uid names)
+pub free_users : (p : List ℕ) → ((k : List ℕ) → same p (2 ∷ k) ≡ false) → (uid : ℕ) (names : List (List ℕ)) → IsFree p (user_rows uid names)
 free_users p h uid [] = tt
 free_users p h uid (name ∷ names) = (h (user_codec.key_bytes uid), free_users p h (suc uid) names)
 
-free_rels : (p : List ℕ) → ((k : List ℕ) → same p (3 ∷ k) ≡ false) → (rel : ℕ) (defs : List RelDef) → IsFree p (rel_rows rel defs)
+pub free_rels : (p : List ℕ) → ((k : List ℕ) → same p (3 ∷ k) ≡ false) → (rel : ℕ) (defs : List RelDef) → IsFree p (rel_rows rel defs)
 free_rels p h rel [] = tt
 free_rels p h rel (def ∷ defs) = (h (rel_codec.key_bytes rel), free_rels p h (suc rel) defs)
 
@@ -135,7 +135,7 @@ put_adds_relation t b rel def h is num fits =
 
 -- ---- statements
 
-tail_same : (m n : ℕ) (j k : List ℕ) → m ∷ j ≡ n ∷ k → j ≡ k
+pub tail_same : (m n : ℕ) (j k : List ℕ) → m ∷ j ≡ n ∷ k → j ≡ k
 tail_same m n j k e = cc
 
 -- statements at one place
@@ -149,10 +149,10 @@ at_one x y fx fy e =
     let pair = one_plain_key (x.path, x.tuple) (y.path, y.tuple) fx.path fy.path fx.tuple fy.tuple k in
     record { path = ap (λ (z : List ℕ × Tuple). z.0) pair; tuple = ap (λ (z : List ℕ × Tuple). z.1) pair }
 
-equal_itself : (x : Stmt) → is_eq (statement_cmp x x) ≡ true
+pub equal_itself : (x : Stmt) → is_eq (statement_cmp x x) ≡ true
 equal_itself x = ap is_eq (tied_itself statement_exact.total x)
 
-equal_is : (x y : Stmt) → is_eq (statement_cmp x y) ≡ true → x ≡ y
+pub equal_is : (x y : Stmt) → is_eq (statement_cmp x y) ≡ true → x ≡ y
 equal_is x y e = statement_exact.exact x y (by (statement_cmp x y) e)
   where
     by : (o : Ordering) → is_eq o ≡ true → o ≡ Equal
@@ -170,14 +170,14 @@ tie_by keys p t signs.Plus signs.Minus e f = false≢true (sym f ∙ ap (λ b. b
 tie_by keys p t signs.Minus signs.Plus e f = false≢true (sym f ∙ ap (λ b. b && same_tuple t t) ((same_path-Decides p p).1 refl) ∙ (same_tuple-Decides t t).1 refl)
 
 -- statements at one place that differ clash
-tie : (keys : ℕ → ℕ) (x y : Stmt) → AreAtOne x y → is_eq (statement_cmp y x) ≡ false → (same_path y.path x.path && clash keys x.tuple x.sign y.tuple y.sign) ≡ false → ⊥
+pub tie : (keys : ℕ → ℕ) (x y : Stmt) → AreAtOne x y → is_eq (statement_cmp y x) ≡ false → (same_path y.path x.path && clash keys x.tuple x.sign y.tuple y.sign) ≡ false → ⊥
 unfolding stmt_of
 tie keys x y h e f =
     tie_by keys x.path x.tuple x.sign y.sign
     (subst (λ t. is_eq (statement_cmp (stmt_of x.path y.sign t) x) ≡ false) (sym h.tuple) (subst (λ p. is_eq (statement_cmp (stmt_of p y.sign y.tuple) x) ≡ false) (sym h.path) e))
     (subst (λ t. (same_path x.path x.path && clash keys x.tuple x.sign t y.sign) ≡ false) (sym h.tuple) (subst (λ p. (same_path p x.path && clash keys x.tuple x.sign y.tuple y.sign) ≡ false) (sym h.path) f))
 
-or_false : (a b : Bool) → (a || b) ≡ false → (a ≡ false) × (b ≡ false)
+pub or_false : (a b : Bool) → (a || b) ≡ false → (a ≡ false) × (b ≡ false)
 or_false true b e = absurd (false≢true (sym e))
 or_false false b e = (refl, e)
 
@@ -207,7 +207,7 @@ all_taken_out : (P : Stmt → Type 0) (ys : List Stmt) (x : Stmt) → AllByRecur
 all_taken_out P [] x h = tt
 all_taken_out P (y ∷ ys) x h = all_kept P (not (is_eq (statement_cmp y x))) y (without_statement ys x) h.0 (all_taken_out P ys x h.1)
 
-free_catalog : (x : Stmt) (b : Contents) → IsFree (statement_row x).0 (catalog_rows b)
+pub free_catalog : (x : Stmt) (b : Contents) → IsFree (statement_row x).0 (catalog_rows b)
 free_catalog x b =
     (refl, free_append (statement_row x).0 (user_rows 1 b.catalog.users) (rel_rows 0 b.catalog.rels) (free_users (statement_row x).0 (λ k. refl) 1 b.catalog.users) (free_rels (statement_row x).0 (λ k. refl) 0 b.catalog.rels))
 
@@ -259,7 +259,7 @@ own_place keys x y fx fy apart =
       | inr e ↦ false_from_ne_true (is_eq (statement_cmp y x)) (λ f. false≢true (sym e ∙ same_true (statement_row x).0 (statement_row y).0 (ap (λ z. (statement_row z).0) (sym (equal_is y x f))))) ∙ sym e
     ]
 
-not_false : (b : Bool) → not b ≡ true → b ≡ false
+pub not_false : (b : Bool) → not b ≡ true → b ≡ false
 not_false true e = absurd (false≢true e)
 not_false false e = refl
 

@@ -1,8 +1,9 @@
 -- How single rows change the base that tables hold.
-use Rattle.std.specs.Prelude.{◌≡◌, ℕ, ◌+◌, true, false, not, List, length}
-use Rattle.std.specs.List.{list_all}
+use Rattle.std.specs.Prelude.{◌≡◌, ℕ, ◌+◌, ◌↔◌, true, false, not, List, length, Some}
+use Rattle.std.specs.List.{list_all, slice_get}
+use Rattle.std.specs.Option.{option_map}
 use Rattle.std.specs.FinMap as tables
-use Rattle.bdb_base.specs.Bases.{Contents, empty_contents, key_lengths, stands, with_user, with_relation, with_statement, without_statement}
+use Rattle.bdb_base.specs.Bases.{Contents, IsValid, empty_contents, key_lengths, stands, with_user, with_relation, with_statement, without_statement}
 use Rattle.bdb_base.specs.Worlds.{contradicted}
 use Rattle.bdb_base.specs.declared.kinds.RelDef.{RelDef}
 use Rattle.bdb_base.specs.declared.kinds.Stmt.{Stmt}
@@ -44,3 +45,22 @@ DropTakesStatement = (t : Tables) (b : Contents) (x : Stmt) → Holds t b
     → list_all (λ y. not (contradicted (key_lengths b.catalog.rels) b.stmts y.path y.tuple y.sign)) b.stmts ≡ true
     → stands b.stmts x ≡ true
     → Holds (tables.remove t (place plain_codec (x.path, x.tuple))) (record b { stmts = without_statement b.stmts x })
+
+-- the row of a user's number has the user's name, and past the last user there is none
+abbrev pub HeldUserHasRow : Type 0
+HeldUserHasRow = (t : Tables) (b : Contents) (n : ℕ) → Holds t b → IsNum (n + 1)
+    → tables.get t (place user_codec (n + 1)) ≡ option_map user_codec.row_bytes (slice_get b.catalog.users n)
+
+-- the row of a relation's number has the relation, and past the last relation there is none
+abbrev pub HeldRelationHasRow : Type 0
+HeldRelationHasRow = (t : Tables) (b : Contents) (n : ℕ) → Holds t b → IsNum n
+    → tables.get t (place rel_codec n) ≡ option_map rel_codec.row_bytes (slice_get b.catalog.rels n)
+
+-- a statement stands in a valid base exactly where the tables have its row
+abbrev pub HeldStatementHasRow : Type 0
+HeldStatementHasRow = (t : Tables) (b : Contents) (x : Stmt) → Holds t b → IsValid b.catalog b.stmts → IsStatement x
+    → (stands b.stmts x ≡ true) ↔ (tables.get t (place plain_codec (x.path, x.tuple)) ≡ Some (plain_codec.row_bytes x.sign))
+
+-- two valid bases that the same tables hold are one
+abbrev pub HeldBaseIsOne : Type 0
+HeldBaseIsOne = (t : Tables) (a b : Contents) → Holds t a → Holds t b → IsValid a.catalog a.stmts → IsValid b.catalog b.stmts → a ≡ b

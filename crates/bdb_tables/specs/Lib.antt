@@ -4,3 +4,4 @@ pub mod InUse
 pub mod InUseLaws
 pub mod Holds
 pub mod Laws
+pub mod Opening

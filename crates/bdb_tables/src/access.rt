@@ -48,6 +48,22 @@ pub fn get<T: Tab, K: Keeper>(
     }
 }
 
+/// The first row of the table. None exactly where there is none. One read.
+pub fn first<T: Tab, K: Keeper>(
+    alloc: Global,
+    keeper: &mut K,
+) -> Result<Option<(T::Key, T::Row)>, TabError>
+    requires grammar { InGrammar (K.seen keeper.old).kept }
+    ensures found { IfOk result (HasFirst T.codec (K.seen keeper.old).kept (λ _. true)) }
+    ensures kept { OnOk result ((K.seen keeper.new).kept ≡ (K.seen keeper.old).kept) }
+    ensures reads { OnOk result (RoseBy 1 (K.seen keeper.old).reads (K.seen keeper.new).reads) }
+    ensures writes { (K.seen keeper.new).writes ≡ (K.seen keeper.old).writes }
+    ensures counts { NeverFall (K.seen keeper.old) (K.seen keeper.new) }
+    ensures steps { Steps (K.seen keeper.old) (K.seen keeper.new) result TabError.Fault }
+{
+    first_from::<T, K>(alloc, keeper, &[])
+}
+
 /// The first row whose key isn't below `low`. None exactly where there is none. One read.
 pub fn next<T: Tab, K: Keeper>(
     alloc: Global,

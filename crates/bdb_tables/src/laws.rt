@@ -1,5 +1,5 @@
 // What single rows do to the base that tables hold.
-ghost use Rattle.bdb_tables.specs.Laws.{HeldIsInGrammar, FormatRowHoldsEmpty, PutAddsUser, PutAddsRelation, PutAddsStatement, DropTakesStatement};
+ghost use Rattle.bdb_tables.specs.Laws.{HeldIsInGrammar, FormatRowHoldsEmpty, PutAddsUser, PutAddsRelation, PutAddsStatement, DropTakesStatement, HeldUserHasRow, HeldRelationHasRow, HeldStatementHasRow, HeldBaseIsOne};
 
 /// Tables that hold a base are in the grammar.
 pub fn held_is_in_grammar()
@@ -29,4 +29,24 @@ pub fn put_adds_statement()
 /// Where no statements clash at one path, a statement that stands goes with its row.
 pub fn drop_takes_statement()
     ensures { DropTakesStatement }
+{}
+
+/// The row of a user's number has the user's name, and past the last user there is none.
+pub fn held_user_has_row()
+    ensures { HeldUserHasRow }
+{}
+
+/// The row of a relation's number has the relation, and past the last relation there is none.
+pub fn held_relation_has_row()
+    ensures { HeldRelationHasRow }
+{}
+
+/// A statement stands in a valid base exactly where the tables have its row.
+pub fn held_statement_has_row()
+    ensures { HeldStatementHasRow }
+{}
+
+/// Two valid bases that the same tables hold are one.
+pub fn held_base_is_one()
+    ensures { HeldBaseIsOne }
 {}

@@ -4,13 +4,18 @@
 
 mod access;
 mod laws;
+mod opening;
 mod tab;
 mod tabs;
+#[cfg(test)]
+mod tests;
 
-pub use access::{after, drop_row, get, next, put};
+pub use access::{after, drop_row, first, get, next, put};
 pub use laws::{
-    drop_takes_statement, format_row_holds_empty, held_is_in_grammar, put_adds_relation,
+    drop_takes_statement, format_row_holds_empty, held_base_is_one, held_is_in_grammar,
+    held_relation_has_row, held_statement_has_row, held_user_has_row, put_adds_relation,
     put_adds_statement, put_adds_user,
 };
+pub use opening::{read_relations, read_statements, read_users};
 pub use tab::{Tab, TabError};
 pub use tabs::{MetaTab, PlainTab, RelTab, UserTab};
