@@ -2,13 +2,11 @@
 ghost use Rattle.bdb_queries.specs.QueryLaws.{AnswersAreTheAnswers, AnswersAreOneList, MinusValuesAreInRange, DomainIsEnough, HoldingIsTruth, HoldingIsEnough, AnswersNeedNoDomain, AnswersAreWhatHolds};
 
 /// The list of answers over a domain has the answers, all of them and nothing else.
-#[tactic(auto, using(crate::proofs::AnswerLemmas::answers_are_the_answers))]
 pub fn answers_are_the_answers()
     ensures { AnswersAreTheAnswers }
 {}
 
 /// Two lists that both are the answers over a domain are one list.
-#[tactic(auto, using(crate::proofs::AnswerLemmas::answers_are_one_list))]
 pub fn answers_are_one_list()
     ensures { AnswersAreOneList }
 {}
