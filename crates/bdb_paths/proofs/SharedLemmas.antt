@@ -1,10 +1,9 @@
 -- A path's prefixes are states as far as it goes along with a statement's path.
-use Rattle.std.proofs.Common.{◌≡◌, ◌∙◌, ℕ, ◌+◌, ◌-◌, ◌≤◌, ◌<◌, max, Bool, true, false, not, ◌&&◌, ◌||◌, nat_eq, nat_lt, nat_le, cond, List, [], ◌∷◌, refl, ap, sym, inl, inr, suc, arith, filter, length, length-map, map, drop, get_or}
+use Rattle.std.proofs.Common.{◌≡◌, ◌∙◌, ℕ, ◌+◌, ◌-◌, ◌≤◌, ◌<◌, max, Bool, true, not, ◌&&◌, ◌||◌, nat_eq, nat_lt, nat_le, List, [], ◌∷◌, refl, ap, sym, inl, inr, suc, arith, filter, length, map}
 use Rattle.std.specs.List.{list_any}
 use Rattle.std.proofs.Math.Dec.{leb-zero, leb-suc-zero}
-use Rattle.std.proofs.lemmas.Bool.{cases_Bool, and_parts, and_from, false≢true, cond-true, cond-false, eqb-true, eq-eqb, ltb-true, not-true}
+use Rattle.std.proofs.lemmas.Bool.{cases_Bool, and_parts, and_from, false≢true, cond-true, cond-false, eqb-true, eq-eqb, ltb-true}
 use Rattle.std.proofs.lemmas.Bool.Decides.{nat_tests}
-use Rattle.std.proofs.lemmas.List.{drop_more, drop_all}
 use Rattle.bdb_base.specs.declared.kinds.Stmt.{Stmt}
 use Rattle.bdb_base.specs.Segments.{is_prefix}
 use Rattle.bdb_base.specs.States.{is_state, prefixes, new_states}

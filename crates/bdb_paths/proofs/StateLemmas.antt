@@ -1,27 +1,27 @@
 -- The states are the prefixes of the statements' paths, and so they are counted.
-use Rattle.std.proofs.Common.{◌≡◌, ◌∙◌, ℕ, ◌+◌, ◌≤◌, ◌<◌, Bool, true, false, not, ◌&&◌, ◌||◌, nat_eq, nat_lt, cond, List, [], ◌∷◌, ◌++◌, refl, ap, sym, inl, inr, suc, arith, filter, length, map, take, get_or}
+use Rattle.std.proofs.Common.{◌≡◌, ◌∙◌, ℕ, ◌+◌, ◌≤◌, ◌<◌, Bool, true, false, not, ◌&&◌, ◌||◌, nat_eq, nat_lt, cond, List, [], ◌∷◌, ◌++◌, refl, ap, sym, inl, inr, suc, arith, filter, length, map, take, drop, get_or}
 use Prim.Native.Nat.{zero}
-use Rattle.std.specs.Bool.{Decides}
-use Rattle.std.specs.List.{list_any, list_all, flat_map}
+use Rattle.std.specs.List.{list_any}
 use Rattle.std.specs.Ordering.{is_eq}
-use Rattle.std.proofs.lemmas.Bool.{cases_Bool, and_parts, and_from, and_right, or_left, or_right, or_from, or_cases, or_parts, false≢true, false_from_ne_true, true_from_ne_false, not-true, not_from_false, ltb-true, lt-ltb, eqb-true, eq-eqb}
+use Rattle.std.proofs.lemmas.Bool.{cases_Bool, and_parts, and_from, and_right, or_left, false≢true, false_from_ne_true, not-true, not_from_false, lt-ltb, eqb-true, eq-eqb}
+use Rattle.std.proofs.lemmas.Bool.Decides.{nat_tests}
 use Rattle.std.proofs.lemmas.List.{take_more, take_all, length-take-le}
 use Rattle.std.proofs.lemmas.List.Folds.{list_any-append}
 use Rattle.bdb_base.specs.declared.kinds.Stmt.{Stmt}
-use Rattle.bdb_base.specs.Alternation.{alternates, begins_otherwise}
 use Rattle.bdb_base.specs.Bases.{distinct_count, with_statement, world_count}
 use Rattle.bdb_base.specs.Order.{path_cmp}
 use Rattle.bdb_base.specs.OrderLemmas.{path_exact, is_eq_path_cmp, statement_exact}
 use Rattle.bdb_base.specs.Same.{same_path}
 use Rattle.bdb_base.specs.SameLemmas.{same_path-Decides}
 use Rattle.bdb_base.specs.Segments.{is_prefix}
-use Rattle.bdb_base.specs.SortedSet.{ascending, is_member, put_in, sorted_set}
-use Rattle.bdb_base.specs.States.{HasPrefixes, is_state, prefixes, stated_prefixes, states_of, new_states}
+use Rattle.bdb_base.specs.SortedSet.{ascending, is_member, put_in}
+use Rattle.bdb_base.specs.States.{is_state, prefixes, stated_prefixes, states_of}
 use Rattle.bdb_base.proofs.ClashLemmas.{turned}
 use Rattle.bdb_base.proofs.CountLemmas.{list_any-map, one_unless, distinct_count-same, put_all_count}
-use Rattle.bdb_base.proofs.ListLemmas.{list_all_weaker, filter_kept_one, filter_dropped_one, or_move}
-use Rattle.bdb_base.proofs.SetLemmas.{list_any-put_in, loop_makes_set, members_make_set, put_adds_member, put_keeps_order, set_is_ascending, set_keeps_members}
-use Rattle.bdb_base.proofs.WorldLemmas.{is_prefix_itself, list_any_weaker}
+use Rattle.bdb_base.proofs.ListLemmas.{filter_kept_one, filter_dropped_one, or_swap, or_false}
+use Rattle.bdb_base.proofs.SegmentLemmas.{is_prefix_begins}
+use Rattle.bdb_base.proofs.SetLemmas.{list_any-put_in, loop_makes_set, members_make_set, put_adds_member, set_is_ascending, set_keeps_members}
+use Rattle.bdb_base.proofs.WorldLemmas.{list_any_weaker}
 use Rattle.bdb_base.proofs.WorldRowsLemmas.{list_any-flat_map}
 use Rattle.bdb_paths.specs.PathLaws.{ListHasStates, StatesHavePrefixes, StatesAreCounted, PutMakesStates, PutCountsWorlds}
 
@@ -144,3 +144,100 @@ put_counts_worlds stmts s =
     ∙ count_front (prefixes s.path) (stated_prefixes stmts) (prefixes_differ s.path)
     ∙ ap (λ ps. length ps + world_count stmts)
     (filter_same (λ p. not (list_any (same_path p) (stated_prefixes stmts))) (λ p. not (is_state stmts p)) (λ p. ap not (state_is_listed stmts p)) (prefixes s.path))
+
+-- ---- the steps of the loops
+
+prefix_taken : (n : ℕ) (p : List ℕ) → is_prefix (take n p) p ≡ true
+prefix_taken zero p = refl
+prefix_taken (suc n) [] = refl
+prefix_taken (suc n) (i ∷ p) = and_from (nat_eq i i) (is_prefix (take n p) p) (eq-eqb i i refl) (prefix_taken n p)
+
+length-prefix : (w p : List ℕ) → is_prefix w p ≡ true → length w ≤ length p
+length-prefix [] p h = omega arith
+length-prefix (i ∷ w) [] h = absurd (false≢true h)
+length-prefix (i ∷ w) (j ∷ p) h = let k = length-prefix w p (and_parts (nat_eq i j) (is_prefix w p) h).1 in omega arith
+
+up_to : (m n : ℕ) → (nat_eq m n || nat_lt m n) ≡ nat_lt m (n + 1)
+up_to m n = grind (arith, nat_tests)
+
+-- a prefix is the one of its length
+prefix_by_length : (p w : List ℕ) (n : ℕ) → n ≤ length p → is_prefix w p ≡ true → same_path (take n p) w ≡ nat_eq (length w) n
+prefix_by_length p w n l h =
+    let e : w ≡ take (length w) p = (same_path-Decides w (take (length w) p)).0 (sym (is_prefix_begins w p) ∙ h) in
+    elim (cases_Bool (nat_eq (length w) n)) [
+      | inl t ↦ (same_path-Decides (take n p) w).1 (ap (λ m. take m p) (sym (eqb-true (length w) n t)) ∙ sym e) ∙ sym t
+      | inr f ↦ false_from_ne_true (same_path (take n p) w)
+          (λ s. false≢true (sym f ∙ eq-eqb (length w) n (sym (ap length ((same_path-Decides (take n p) w).0 s)) ∙ length-take-le n p l))) ∙ sym f
+    ]
+
+prefix_next : (p w : List ℕ) (n : ℕ) → n ≤ length p → (same_path (take n p) w || (is_prefix w p && nat_lt (length w) n)) ≡ (is_prefix w p && nat_lt (length w) (n + 1))
+prefix_next p w n l = elim (cases_Bool (is_prefix w p)) [
+  | inl e ↦ ap (λ b. same_path (take n p) w || (b && nat_lt (length w) n)) e ∙ ap (λ b. b || nat_lt (length w) n) (prefix_by_length p w n l e)
+      ∙ up_to (length w) n ∙ ap (λ b. b && nat_lt (length w) (n + 1)) (sym e)
+  | inr e ↦
+      let apart : same_path (take n p) w ≡ false = false_from_ne_true (same_path (take n p) w)
+      (λ s. false≢true (sym e ∙ ap (λ v. is_prefix v p) (sym ((same_path-Decides (take n p) w).0 s)) ∙ prefix_taken n p)) in
+      ap (λ b. b || (is_prefix w p && nat_lt (length w) n)) apart ∙ ap (λ b. b && nat_lt (length w) n) e ∙ ap (λ b. b && nat_lt (length w) (n + 1)) (sym e)
+]
+
+pub next_prefix : (p : List ℕ) (n : ℕ) (old now new : List (List ℕ)) → n ≤ length p → new ≡ put_in path_cmp now (take n p)
+    → ((w : List ℕ) → is_member path_cmp now w ≡ (is_member path_cmp old w || (is_prefix w p && nat_lt (length w) n)))
+    → (w : List ℕ) → is_member path_cmp new w ≡ (is_member path_cmp old w || (is_prefix w p && nat_lt (length w) (n + 1)))
+next_prefix p n old now new l e h w =
+    ap (λ xs. is_member path_cmp xs w) e ∙ put_adds_member path_exact now (take n p) w
+    ∙ ap (λ b. b || is_member path_cmp now w) (is_eq_path_cmp (take n p) w) ∙ ap (λ b. same_path (take n p) w || b) (h w)
+    ∙ or_swap (same_path (take n p) w) (is_member path_cmp old w) (is_prefix w p && nat_lt (length w) n)
+    ∙ ap (λ b. is_member path_cmp old w || b) (prefix_next p w n l)
+
+pub last_prefix : (p : List ℕ) (n : ℕ) (old now new : List (List ℕ)) → n ≡ length p → new ≡ put_in path_cmp now p
+    → ((w : List ℕ) → is_member path_cmp now w ≡ (is_member path_cmp old w || (is_prefix w p && nat_lt (length w) n)))
+    → (w : List ℕ) → is_member path_cmp new w ≡ (is_member path_cmp old w || is_prefix w p)
+last_prefix p n old now new l e h w =
+    next_prefix p n old now new (omega arith) (e ∙ ap (put_in path_cmp now) (sym (take_all n p (omega arith)))) h w
+    ∙ ap (λ b. is_member path_cmp old w || b) whole
+  where
+    whole : (is_prefix w p && nat_lt (length w) (n + 1)) ≡ is_prefix w p
+    whole = elim (cases_Bool (is_prefix w p)) [
+      | inl t ↦ let k = length-prefix w p t in and_from (is_prefix w p) (nat_lt (length w) (n + 1)) t (lt-ltb (length w) (n + 1) (omega arith)) ∙ sym t
+      | inr f ↦ ap (λ b. b && nat_lt (length w) (n + 1)) f ∙ sym f
+    ]
+
+-- the states with one more statement behind
+state_push : (xs : List Stmt) (x : Stmt) (w : List ℕ) → is_state (xs ++ x ∷ []) w ≡ (is_state xs w || is_prefix w x.path)
+state_push xs x [] = refl
+state_push xs x (i ∷ w) = list_any-append (λ y. is_prefix (i ∷ w) y.path) xs (x ∷ []) ∙ ap (λ b. is_state xs (i ∷ w) || b) (or_false (is_prefix (i ∷ w) x.path))
+
+pub next_states : (xs : List Stmt) (i : ℕ) (x : Stmt) (now new : List (List ℕ)) → i < length xs → x ≡ get_or xs i x
+    → ((w : List ℕ) → is_member path_cmp now w ≡ is_state (take i xs) w)
+    → ((w : List ℕ) → is_member path_cmp new w ≡ (is_member path_cmp now w || is_prefix w x.path))
+    → (w : List ℕ) → is_member path_cmp new w ≡ is_state (take (i + 1) xs) w
+next_states xs i x now new l is h n w =
+    n w ∙ ap (λ b. b || is_prefix w x.path) (h w) ∙ sym (state_push (take i xs) x w)
+    ∙ ap (λ y. is_state (take i xs ++ y ∷ []) w) is ∙ ap (λ ys. is_state ys w) (sym (take_more xs i x l))
+
+prefix_splits : (w p : List ℕ) → is_prefix w p ≡ true → p ≡ w ++ drop (length w) p
+prefix_splits [] p h = refl
+prefix_splits (i ∷ w) [] h = absurd (false≢true h)
+prefix_splits (i ∷ w) (j ∷ p) h =
+    let k = and_parts (nat_eq i j) (is_prefix w p) h in
+    ap (λ n. n ∷ p) (sym (eqb-true i j k.0)) ∙ ap (λ q. i ∷ q) (prefix_splits w p k.1)
+
+-- a statement of a state adds none
+pub same_states : (xs : List Stmt) (i : ℕ) (x : Stmt) (now : List (List ℕ)) → i < length xs → x ≡ get_or xs i x
+    → ((w : List ℕ) → is_member path_cmp now w ≡ is_state (take i xs) w) → is_member path_cmp now x.path ≡ true
+    → (w : List ℕ) → is_member path_cmp now w ≡ is_state (take (i + 1) xs) w
+same_states xs i x now l is h m = next_states xs i x now now l is h nothing_new
+  where
+    nothing_new : (w : List ℕ) → is_member path_cmp now w ≡ (is_member path_cmp now w || is_prefix w x.path)
+    nothing_new w = elim (cases_Bool (is_prefix w x.path)) [
+      | inl t ↦
+          let here : is_member path_cmp now w ≡ true = h w ∙ states_have_prefixes (take i xs) w (drop (length w) x.path)
+          (ap (is_state (take i xs)) (sym (prefix_splits w x.path t)) ∙ sym (h x.path) ∙ m) in
+          here ∙ sym (or_left (is_member path_cmp now w) (is_prefix w x.path) here)
+      | inr f ↦ sym (ap (λ b. is_member path_cmp now w || b) f ∙ or_false (is_member path_cmp now w))
+    ]
+
+pub all_states : (xs : List Stmt) (i : ℕ) (now : List (List ℕ)) → length xs ≤ i → ascending path_cmp now ≡ true
+    → ((w : List ℕ) → is_member path_cmp now w ≡ is_state (take i xs) w) → now ≡ states_of xs
+all_states xs i now l s h = members_make_set path_exact now (states_of xs) s (set_is_ascending path_exact (stated_prefixes xs))
+    (λ w. h w ∙ ap (λ ys. is_state ys w) (take_all i xs l) ∙ sym (list_has_states xs w))

@@ -1,26 +1,22 @@
 -- Deepest suffixes: what they are, and how they change with the set.
-use Rattle.std.proofs.Common.{◌≡◌, ◌≢◌, ◌∙◌, ℕ, ◌+◌, ◌≤◌, ◌<◌, Bool, true, false, not, ◌&&◌, ◌||◌, nat_eq, nat_lt, cond, List, [], ◌∷◌, ◌++◌, refl, ap, sym, inl, inr, suc, arith, length, Some, slice_get}
+use Rattle.std.proofs.Common.{◌≡◌, ◌∙◌, ℕ, ◌≤◌, ◌<◌, Bool, true, false, not, ◌&&◌, ◌||◌, nat_lt, cond, List, [], ◌∷◌, ◌++◌, refl, ap, sym, inl, inr, suc, arith, length, Some, slice_get}
 use Rattle.std.specs.List.{list_any, list_all}
 use Rattle.std.specs.Ordering.{is_eq, is_lt, nat_cmp, ordering_then}
-use Rattle.std.specs.declared.cmp.Ordering.TheVariants.{Less, Equal, Greater}
+use Rattle.std.specs.declared.cmp.Ordering.TheVariants.{Greater}
 use Rattle.std.specs.Cmp.Lexicographic.{slice_cmp}
-use Rattle.std.proofs.lemmas.Bool.{cases_Bool, and_parts, and_from, and_right, or_left, or_right, or_from, or_cases, or_parts, false≢true, false_from_ne_true, not-true, cond-true, cond-false, ltb-true, lt-ltb}
+use Rattle.std.proofs.lemmas.Bool.{cases_Bool, and_parts, and_from, and_right, or_left, or_right, or_from, or_cases, false≢true, false_from_ne_true, cond-true, cond-false, ltb-true, lt-ltb}
 use Rattle.std.proofs.lemmas.Bool.Decides.{nat_tests}
-use Rattle.bdb_base.specs.declared.kinds.Sign.{Sign}
 use Rattle.bdb_base.specs.declared.kinds.Sign.TheVariants.{Plus, Minus}
-use Rattle.bdb_base.specs.declared.kinds.Stmt.{Stmt}
-use Rattle.bdb_base.specs.declared.tuple.Tuple.{Tuple}
 use Rattle.bdb_base.specs.Alternation.{tail}
 use Rattle.bdb_base.specs.Clash.{clash}
 use Rattle.bdb_base.specs.Order.{path_cmp}
-use Rattle.bdb_base.specs.OrderLemmas.{path_exact, is_eq_path_cmp}
+use Rattle.bdb_base.specs.OrderLemmas.{is_eq_path_cmp}
 use Rattle.bdb_base.specs.Same.{same_path}
 use Rattle.bdb_base.specs.SameLemmas.{same_path-Decides}
 use Rattle.bdb_base.specs.Segments.{is_suffix}
 use Rattle.bdb_base.specs.SortedSet.{ascending, is_member}
-use Rattle.bdb_base.specs.States.{HasPrefixes, is_state, deepest_suffix}
-use Rattle.bdb_base.specs.Worlds.{stated, believes}
-use Rattle.bdb_base.proofs.SetLemmas.{is_eq-Equal}
+use Rattle.bdb_base.specs.States.{is_state, deepest_suffix}
+use Rattle.bdb_base.specs.Worlds.{stated}
 use Rattle.bdb_base.proofs.WorldLemmas.{plain_inheritance}
 use Rattle.bdb_paths.specs.PathLaws.{DeepestSuffixIsLongest, StatesStandForPaths, StatesBelieveForPaths, SuffixesExtend, SuffixesGain, SuffixesLose, with_path, without_path}
 use Rattle.bdb_paths.proofs.StateLemmas.{list_any_same, path_turned}

@@ -9,7 +9,7 @@ use Rattle.bdb_base.specs.Bases.{world_count, with_statement}
 use Rattle.bdb_base.specs.Order.{path_cmp}
 use Rattle.bdb_base.specs.Same.{same_path}
 use Rattle.bdb_base.specs.Segments.{is_prefix, is_suffix}
-use Rattle.bdb_base.specs.SortedSet.{is_member, ascending}
+use Rattle.bdb_base.specs.SortedSet.{is_member}
 use Rattle.bdb_base.specs.States.{HasPrefixes, is_state, states_of, new_states, deepest_suffix}
 use Rattle.bdb_base.specs.Worlds.{stated, believes}
 

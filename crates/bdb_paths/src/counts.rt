@@ -7,6 +7,7 @@ use bdb_base::Stmt;
 
 /// How many worlds an insert at a path adds: the prefixes of the path that are no states yet. It takes no memory, and
 /// goes over the statements once, up to the first whose path goes on from this one.
+#[tactic(auto, using(crate::proofs::SharedLemmas::new_states_by_length))]
 pub fn new_state_count(stmts: &[Stmt], path: &[u32]) -> usize
     ensures { result ≡ length (new_states stmts.now path.now) }
 {

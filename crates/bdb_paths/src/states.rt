@@ -17,9 +17,10 @@ pub fn states_of(alloc: Global, stmts: &[Stmt]) -> Result<List<Path>, AllocError
     let root = empty_path(alloc)?;
     let _first = put(&mut states, root)?;
     for x in stmts {
-        if !contains(states.as_slice(), &x.path) {
-            put_prefixes(alloc, &mut states, &x.path)?;
+        if contains(states.as_slice(), &x.path) {
+            continue;
         }
+        put_prefixes(alloc, &mut states, &x.path)?;
     }
     Ok(states)
 }
