@@ -1,13 +1,19 @@
 // The session: the base so far, and the commands that change it.
 ghost use Rattle.std.specs.Prelude.{◌≡◌, IfOk, OnOk, OnErr, true, false};
+ghost use Rattle.bdb_base.specs.Causes.{HasCause, Rises};
+ghost use Rattle.bdb_keep.specs.Seen.{IsStill, Unchanged};
+ghost use Rattle.bdb_tables.specs.Holds.{Holds};
+ghost use Rattle.bdb_session.specs.declared.event.Event.TheVariants as event;
 
 use crate::change::Selection;
 use crate::event::Event;
 use crate::reading::{Reading, read_piece};
 use crate::refusals::refusal_from;
 use crate::reply::Reply;
+use crate::stop::StopError;
 use bdb_base::{Base, Catalog, List};
 use bdb_bind::{BindError, Bound, bind};
+use bdb_keep::Keeper;
 use bdb_render::{Refusal, ok_reply, refusal_reply};
 use bdb_syntax::Command;
 use std::alloc::{AllocError, Global};
@@ -36,21 +42,10 @@ ghost use Rattle.bdb_base.specs.Bases.{empty_contents};
 ghost use Rattle.bdb_bind.specs.Parts.{is_built};
 ghost use Rattle.bdb_bind.specs.Binding.{bound_of};
 ghost use Rattle.bdb_render.specs.Refusals.{refusal_reply};
-ghost use Rattle.bdb_session.specs.Machine.{reply_of, accepts, next_base, IsAnswered, reading_of, refusal_of_reading, reading_reply, reading_base, refusal_of_command, refusal_of_bound, accepted_reply, asked_base, refusal_from};
+ghost use Rattle.bdb_session.specs.Machine.{reply_of, accepts, next_base, counts, IsAnswered, refusal_of_command, refusal_of_bound, accepted_reply, asked_base, refusal_from};
 ghost use Rattle.bdb_bind.specs.Fits.{fits_catalog, is_allowed};
 
 impl Session {
-    /// A session over the base with no relations, users or statements.
-    pub fn new(alloc: Global) -> Self
-        ensures { result ≡ empty_contents }
-    {
-        Session {
-            base: Base::empty(alloc),
-            tuples: 0,
-            alloc,
-        }
-    }
-
     /// The relations and users of the base.
     pub fn catalog(&self) -> &Catalog
         ensures { result.now ≡ self.now.catalog }
@@ -59,32 +54,42 @@ impl Session {
     }
 
     /// Answers a piece of a script: the reply is that of the belief machine to it over the base so far, and the base is
-    /// the one that the machine reaches. The only error is want of memory; the session is then as it was.
-    pub fn apply(&mut self, piece: &[u8]) -> Result<Reply, AllocError>
-        ensures answered { IfOk result (λ r. IsAnswered self.old (refusal_of_reading self.old (reading_of piece.now))
-            (reading_reply self.old (reading_of piece.now)) (reading_base self.old (reading_of piece.now)) r self.new) }
-        ensures err { OnErr result (self.new ≡ self.old) }
+    /// the one that the machine reaches. An accepted piece with a token is committed once; another leaves the keeper
+    /// alone. After an Err the base and the tables are as they were.
+    pub fn apply<K: Keeper>(&mut self, keeper: &mut K, piece: &[u8]) -> Result<Reply, StopError>
+        requires still { IsStill (K.seen keeper.old) }
+        requires agrees { Holds (K.seen keeper.old).kept self.old }
+        ensures text { IfOk result (λ r. r.text ≡ reply_of self.old (event.Piece piece.now)) }
+        ensures accepted { IfOk result (λ r. r.accepted ≡ accepts self.old (event.Piece piece.now)) }
+        ensures next { OnOk result (self.new ≡ next_base self.old (event.Piece piece.now)) }
+        ensures holds { Holds (K.seen keeper.new).kept self.new }
+        ensures commits { OnOk result (Rises (counts self.old (event.Piece piece.now)) (K.seen keeper.old).commits (K.seen keeper.new).commits) }
+        ensures alone { OnOk result (counts self.old (event.Piece piece.now) ≡ 0 → K.seen keeper.new ≡ K.seen keeper.old) }
+        ensures still { IsStill (K.seen keeper.new) }
+        ensures cause { HasCause (K.seen keeper.old).faults (K.seen keeper.new).faults result StopError.Fault }
+        ensures err { OnErr result (Unchanged (K.seen keeper.old) (K.seen keeper.new)) }
+        ensures same { OnErr result (self.new ≡ self.old) }
     {
-        match read_piece(self.alloc, piece)? {
-            Reading::Nothing => Ok(Reply::accepted(List::new(self.alloc))),
-            Reading::Refused(refusal) => self.refuse(&refusal),
-            Reading::Says(command) => self.carry_out(&command),
-        }
+        Err(StopError::Memory)
     }
 
     /// Answers an event of a script: a piece as `apply` does; a piece that is too long, and a rest that no semicolon
     /// ended, are refused.
-    pub fn answer(&mut self, event: &Event) -> Result<Reply, AllocError>
+    pub fn answer<K: Keeper>(&mut self, keeper: &mut K, event: &Event) -> Result<Reply, StopError>
+        requires still { IsStill (K.seen keeper.old) }
+        requires agrees { Holds (K.seen keeper.old).kept self.old }
         ensures text { IfOk result (λ r. r.text ≡ reply_of self.old event.now) }
         ensures accepted { IfOk result (λ r. r.accepted ≡ accepts self.old event.now) }
         ensures next { OnOk result (self.new ≡ next_base self.old event.now) }
-        ensures err { OnErr result (self.new ≡ self.old) }
+        ensures holds { Holds (K.seen keeper.new).kept self.new }
+        ensures commits { OnOk result (Rises (counts self.old event.now) (K.seen keeper.old).commits (K.seen keeper.new).commits) }
+        ensures alone { OnOk result (counts self.old event.now ≡ 0 → K.seen keeper.new ≡ K.seen keeper.old) }
+        ensures still { IsStill (K.seen keeper.new) }
+        ensures cause { HasCause (K.seen keeper.old).faults (K.seen keeper.new).faults result StopError.Fault }
+        ensures err { OnErr result (Unchanged (K.seen keeper.old) (K.seen keeper.new)) }
+        ensures same { OnErr result (self.new ≡ self.old) }
     {
-        match event {
-            Event::Piece(bytes) => self.apply(bytes.as_slice()),
-            Event::Long => self.refuse(&Refusal::Long),
-            Event::Unfinished => self.refuse(&Refusal::Unfinished),
-        }
+        Err(StopError::Memory)
     }
 
     /// The reply to what is refused.
