@@ -3,17 +3,8 @@
 
 mod binding;
 mod bound;
-mod kinds;
-mod laws;
-mod lookup;
-mod making;
-mod names;
-mod parts;
-mod refusals;
-mod shape;
-#[cfg(test)]
-mod tests;
+mod safety;
 
 pub use binding::{bind, is_built};
 pub use bound::{BindError, Bound};
-pub use laws::what_is_bound_fits;
+pub use safety::safe;
