@@ -37,9 +37,13 @@ abbrev pub who_user : List (List ℕ) → RawWho → Option BindError
 who_user users (who.Name name) = refused_if (not (is_user_name users name)) (error.User name)
 who_user users (who.Col c) = None
 
+-- the first name of an item's path that is no user's
+abbrev pub item_user : List (List ℕ) → RawItem → Option BindError
+item_user users i = first_in (who_user users) i.path
+
 -- the first name after BELIEF that is no user's
 abbrev pub query_user : List (List ℕ) → RawQuery → Option BindError
-query_user users q = first_in (λ i. first_in (who_user users) i.path) q.items
+query_user users q = first_in (item_user users) q.items
 
 -- the first item whose alias stands at an earlier item, or among the items seen before
 abbrev pub alias_twice : List RawItem → List RawItem → Option BindError
@@ -63,10 +67,14 @@ abbrev pub in_who : (RawCol → Option BindError) → RawWho → Option BindErro
 in_who rule (who.Name name) = None
 in_who rule (who.Col c) = rule c
 
+-- a rule for the columns of an item's path
+abbrev pub in_path : (RawCol → Option BindError) → RawItem → Option BindError
+in_path rule i = first_in (in_who rule) i.path
+
 -- a rule for the columns of a query, and one for those after BELIEF: select columns, each item's path, comparisons
 abbrev pub in_columns : (RawCol → Option BindError) → (RawCol → Option BindError) → RawQuery → Option BindError
 in_columns rule path_rule q = or_next (first_in rule q.take)
-    (or_next (first_in (λ i. first_in (in_who path_rule) i.path) q.items) (first_in (in_cond rule) q.conds))
+    (or_next (first_in (in_path path_rule) q.items) (first_in (in_cond rule) q.conds))
 
 -- no item has a column's alias
 abbrev pub column_alias : List RawItem → RawCol → Option BindError

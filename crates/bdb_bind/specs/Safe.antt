@@ -48,28 +48,33 @@ abbrev pub known_after : List Item → List Cond → List Ref → List Cond → 
 known_after items conds known [] = known
 known_after items conds known (step ∷ steps) = known_after items conds (known ++ option_list (next_known items known conds)) steps
 
--- a column is bound: it is known once no comparison makes another one known
+-- the columns that comparisons make known, until none makes another one known
+abbrev pub bound_columns : List Item → List Cond → List Ref
+bound_columns items conds = known_after items conds [] conds
+
+-- a column is bound
 abbrev pub is_bound : Query → Ref → Bool
-is_bound q r = is_known q.items (known_after q.items q.conds [] q.conds) r
+is_bound q r = is_known q.items (bound_columns q.items q.conds) r
 
--- the first column of an item, from one number on, that isn't bound
-abbrev pub unbound_from : Query → ℕ → ℕ → List ColDef → Option (ℕ × ℕ)
-unbound_from q item col [] = None
-unbound_from q item col (c ∷ cs) = if is_bound q (record { item = item; col = col }) then unbound_from q item (col + 1) cs else Some (item, col)
+-- the first column of an item, from one number on, that isn't known
+abbrev pub unbound_from : List Item → List Ref → ℕ → ℕ → List ColDef → Option (ℕ × ℕ)
+unbound_from items known item col [] = None
+unbound_from items known item col (c ∷ cs) = if is_known items known (record { item = item; col = col }) then unbound_from items known item (col + 1) cs
+    else Some (item, col)
 
--- the first column of a minus item that isn't bound
-abbrev pub unbound_of : List RelDef → Query → ℕ → Item → Option (ℕ × ℕ)
-unbound_of rels q at (Rel alias rel Minus path) = unbound_from q at 0 (columns_at rels rel)
-unbound_of rels q at _ = None
+-- the first column of a minus item that isn't known
+abbrev pub unbound_of : List RelDef → List Item → List Ref → ℕ → Item → Option (ℕ × ℕ)
+unbound_of rels items known at (Rel alias rel Minus path) = unbound_from items known at 0 (columns_at rels rel)
+unbound_of rels items known at _ = None
 
--- the first column of the minus items of a list that isn't bound
-abbrev pub unbound_among : List RelDef → Query → ℕ → List Item → Option (ℕ × ℕ)
-unbound_among rels q at [] = None
-unbound_among rels q at (i ∷ is) = option_or (unbound_of rels q at i) (unbound_among rels q (at + 1) is)
+-- the first column of the minus items of a list that isn't known
+abbrev pub unbound_among : List RelDef → List Item → List Ref → ℕ → List Item → Option (ℕ × ℕ)
+unbound_among rels items known at [] = None
+unbound_among rels items known at (i ∷ is) = option_or (unbound_of rels items known at i) (unbound_among rels items known (at + 1) is)
 
 -- the item and column of the first column of a minus item that isn't bound
 unfoldable pub first_unbound : List RelDef → Query → Option (ℕ × ℕ)
-first_unbound rels q = unbound_among rels q 0 q.items
+first_unbound rels q = unbound_among rels q.items (bound_columns q.items q.conds) 0 q.items
 
 -- each column of the minus items is bound
 abbrev pub is_safe : List RelDef → Query → Bool

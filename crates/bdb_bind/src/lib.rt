@@ -1,9 +1,24 @@
 //! Binding: a command's names are looked up in a catalog, or it is refused with the first reason of a fixed order.
 #![tactic(auto)]
 
+mod aliases;
 mod binding;
 mod bound;
+mod columns;
+mod kinds;
+mod lookup;
+mod making;
+mod names;
+mod parts;
+mod queries;
+mod query_making;
+mod refusals;
 mod safety;
+mod scope;
+mod shape;
+mod unsafes;
+#[cfg(test)]
+mod tests;
 
 pub use binding::{bind, is_built};
 pub use bound::{BindError, Bound};

@@ -1,0 +1,89 @@
+-- What a valid catalog gives of the names that are found in it.
+use Rattle.std.proofs.Common.{◌≡◌, ◌∙◌, ℕ, ◌<◌, ◌≤◌, zero, suc, Bool, true, ◌&&◌, nat_lt, nat_le, List, [], ◌∷◌, length, Option, Some, None, find, sym, ap, subst, inl, inr, arith}
+use Rattle.std.specs.Option.{is_some}
+use Rattle.std.specs.List.{list_all, slice_get}
+use Rattle.std.proofs.lemmas.Bool.{cases_Bool, and_parts, cond-true, cond-false, leb-true, ltb-true, eqb-true, not-false}
+use Rattle.bdb_base.specs.declared.kinds.Catalog.{Catalog}
+use Rattle.bdb_base.specs.declared.kinds.RelDef.{RelDef}
+use Rattle.bdb_base.specs.declared.kinds.Sign.{Sign}
+use Rattle.bdb_base.specs.declared.kinds.Value.{Value}
+use Rattle.bdb_base.specs.Alternation.{alternates}
+use Rattle.bdb_base.specs.Bases.{IsCatalog, is_valid_relation}
+use Rattle.bdb_base.specs.Same.{same_text}
+use Rattle.bdb_syntax.specs.declared.command.Command.{Command}
+use Rattle.bdb_syntax.specs.declared.command.Command.TheVariants.{Insert}
+use Rattle.bdb_bind.specs.Lookup.{number_of, columns_in, columns_of, path_of}
+use Rattle.bdb_bind.specs.Parts.{path_names}
+use Rattle.bdb_bind.specs.Lines.{relation_line, arity_line}
+use Rattle.bdb_bind.specs.Refusal.{names_refused}
+use Rattle.bdb_bind.proofs.Founds.{IsFound, found, is_there}
+use Rattle.bdb_bind.proofs.PathLemmas.{path_alternates}
+use Rattle.bdb_bind.proofs.Cleared.{cleared, neither, users_known, names_apart, not_refused}
+
+pub users_few : (c : Catalog) → IsCatalog c → length c.users ≤ 256
+users_few c valid = leb-true (length c.users) 256 valid.few_users
+
+pub relations_few : (c : Catalog) → IsCatalog c → length c.rels ≤ 64
+relations_few c valid = leb-true (length c.rels) 64 valid.few_rels
+
+pub all_at : {X : Type 0} (p : X → Bool) (xs : List X) (at : ℕ) (x : X) → list_all p xs ≡ true → slice_get xs at ≡ Some x → p x ≡ true
+all_at p [] at x all there = cc
+all_at p (y ∷ ys) zero x all there =
+    let here = and_parts (p y) (list_all p ys) all in let same : y ≡ x = cc in ap p (sym same) ∙ here.0
+all_at p (y ∷ ys) (suc at) x all there = all_at p ys at x (and_parts (p y) (list_all p ys) all).1 there
+
+-- a valid relation has one to 16 columns
+pub columns_within : (def : RelDef) → is_valid_relation def ≡ true → (0 < length def.cols) × (length def.cols ≤ 16)
+columns_within def valid =
+    let counts = and_parts (nat_lt 0 (length def.cols) && nat_le (length def.cols) 16) _ valid in
+    let both = and_parts (nat_lt 0 (length def.cols)) (nat_le (length def.cols) 16) counts.0 in
+    (ltb-true 0 (length def.cols) both.0, leb-true (length def.cols) 16 both.1)
+
+few_of : (rels : List RelDef) (name : List ℕ) → list_all is_valid_relation rels ≡ true → length (columns_of rels name) ≤ 16
+few_of [] name valid = omega arith
+few_of (r ∷ rs) name valid =
+    let parts = and_parts (is_valid_relation r) (list_all is_valid_relation rs) valid in
+    let Few : Option RelDef → Type 0 = λ o. length (columns_in o) ≤ 16 in
+    elim (cases_Bool (same_text r.name name)) [
+      | inl here ↦ subst Few (sym (cond-true (same_text r.name name) (Some r) (find (λ x. same_text x.name name) rs) here)) (columns_within r parts.0).1
+      | inr other ↦ subst Few (sym (cond-false (same_text r.name name) (Some r) (find (λ x. same_text x.name name) rs) other)) (few_of rs name parts.1)
+    ]
+
+pub columns_few : (c : Catalog) (name : List ℕ) → IsCatalog c → length (columns_of c.rels name) ≤ 16
+columns_few c name valid = few_of c.rels name valid.rels_valid
+
+-- the relation of a name that is found, and its number
+pub relation_found : (c : Catalog) (name : List ℕ) → is_some (number_of c.rels name) ≡ true
+    → (n : ℕ) × (number_of c.rels name ≡ Some n) × IsFound (λ r. same_text r.name name) 0 c.rels n
+relation_found c name known = let w = is_there (number_of c.rels name) known in (w.0, w.1, found _ 0 c.rels w.0 w.1)
+
+-- the path of a command that isn't refused alternates
+pub accepted_alternates : (catalog : Catalog) (c : Command) (names : List (List ℕ)) → names_refused catalog c ≡ None → names ≡ path_names c
+    → alternates (path_of catalog.users names) ≡ true
+accepted_alternates catalog c names accepted same =
+    let clear = cleared catalog c accepted in
+    ap (λ n. alternates (path_of catalog.users n)) same
+    ∙ path_alternates catalog.users (path_names c) (users_known catalog c clear.user) (names_apart c clear.no_repeat)
+
+-- the relation of an insert is there
+pub insert_relation : (catalog : Catalog) (users : List (List ℕ)) (sign : Sign) (rel : List ℕ) (vals : List Value)
+    → relation_line catalog (Insert users sign rel vals) ≡ None → is_some (number_of catalog.rels rel) ≡ true
+unfolding relation_line
+insert_relation catalog users sign rel vals e = not-false _ (not_refused _ _ (neither _ _ e).0)
+
+-- its values are as many as the columns
+pub insert_arity : (catalog : Catalog) (users : List (List ℕ)) (sign : Sign) (rel : List ℕ) (vals : List Value)
+    → arity_line catalog (Insert users sign rel vals) ≡ None → length vals ≡ length (columns_of catalog.rels rel)
+unfolding arity_line
+insert_arity catalog users sign rel vals e = eqb-true _ _ (not-false _ (not_refused _ _ e))
+
+-- so there is at least one
+pub insert_filled : (catalog : Catalog) (users : List (List ℕ)) (sign : Sign) (rel : List ℕ) (vals : List Value) → IsCatalog catalog
+    → names_refused catalog (Insert users sign rel vals) ≡ None → 0 < length vals
+insert_filled catalog users sign rel vals valid accepted =
+    let clear = cleared catalog (Insert users sign rel vals) accepted in
+    let w = relation_found catalog rel (insert_relation catalog users sign rel vals clear.relation) in
+    let many = (columns_within w.2.item (all_at is_valid_relation catalog.rels w.2.at w.2.item valid.rels_valid w.2.there)).0 in
+    let same : columns_of catalog.rels rel ≡ w.2.item.cols = ap columns_in w.2.first in
+    let counted = insert_arity catalog users sign rel vals clear.arity in
+    omega (arith, ap length same)

@@ -1,0 +1,68 @@
+-- Names that are found in a list.
+use Rattle.std.proofs.Common.{◌≡◌, ◌∙◌, ℕ, ◌+◌, ◌<◌, suc, Bool, true, not, List, [], ◌∷◌, length, Option, Some, None, find, refl, sym, ap, inl, inr, arith}
+use Rattle.std.specs.Option.{is_some}
+use Rattle.std.specs.List.{position_from, slice_get, list_all}
+use Rattle.std.proofs.lemmas.Bool.{cases_Bool, cond-true, cond-false, and_from, not-false}
+use Rattle.std.proofs.lemmas.Slice.Eq.{bytes_eq-Decides}
+use Rattle.bdb_base.specs.Same.{same_text}
+
+-- what is found at a place: an item that passes, the first that does
+pub record IsFound {X : Type 0} (p : X → Bool) (start : ℕ) (xs : List X) (k : ℕ) : Type 0 where
+  pub at : ℕ
+  pub item : X
+  pub place : k ≡ start + at
+  pub within : at < length xs
+  pub there : slice_get xs at ≡ Some item
+  pub first : find p xs ≡ Some item
+  pub passes : p item ≡ true
+
+pub found : {X : Type 0} (p : X → Bool) (start : ℕ) (xs : List X) (k : ℕ) → position_from p start xs ≡ Some k → IsFound p start xs k
+found p start [] k e = cc
+found p start (x ∷ xs) k e = elim (cases_Bool (p x)) [
+  | inl passed ↦ let here : Some start ≡ Some k = sym (cond-true (p x) (Some start) (position_from p (start + 1) xs) passed) ∙ e in
+      let same : start ≡ k = cc in
+      record { at = 0; item = x; place = omega arith; within = omega arith; there = refl; first = cond-true (p x) (Some x) (find p xs) passed; passes = passed }
+  | inr other ↦ let later = found p (start + 1) xs k (sym (cond-false (p x) (Some start) (position_from p (start + 1) xs) other) ∙ e) in
+      record {
+        at = suc later.at;
+        item = later.item;
+        place = omega (arith, later.place);
+        within = omega (arith, later.within);
+        there = later.there;
+        first = cond-false (p x) (Some x) (find p xs) other ∙ later.first;
+        passes = later.passes;
+      }
+]
+
+-- a value that is there
+pub is_there : {X : Type 0} (o : Option X) → is_some o ≡ true → (x : X) × (o ≡ Some x)
+is_there None e = cc
+is_there (Some x) e = (x, refl)
+
+-- where no item fails, all pass
+pub all_pass : {X : Type 0} (p : X → Bool) (xs : List X) → find (λ x. not (p x)) xs ≡ None → list_all p xs ≡ true
+all_pass p [] e = refl
+all_pass p (x ∷ xs) e = elim (cases_Bool (not (p x))) [
+  | inl fails ↦ let here : Some x ≡ None = sym (cond-true (not (p x)) (Some x) (find (λ y. not (p y)) xs) fails) ∙ e in cc
+  | inr passes ↦ and_from (p x) (list_all p xs) (not-false (p x) passes)
+      (all_pass p xs (sym (cond-false (not (p x)) (Some x) (find (λ y. not (p y)) xs) passes) ∙ e))
+]
+
+pub same_text_itself : (a : List ℕ) → same_text a a ≡ true
+same_text_itself a = (bytes_eq-Decides a a).1 refl
+
+pub same_text_equal : (a b : List ℕ) → same_text a b ≡ true → a ≡ b
+same_text_equal a b e = (bytes_eq-Decides a b).0 e
+
+-- two names that are found at one place are one
+pub one_name : (start : ℕ) (names : List (List ℕ)) (a b : List ℕ) (k : ℕ) → position_from (λ x. same_text x a) start names ≡ Some k
+    → position_from (λ x. same_text x b) start names ≡ Some k → same_text a b ≡ true
+one_name start names a b k ea eb =
+    let fa = found (λ x. same_text x a) start names k ea in
+    let fb = found (λ x. same_text x b) start names k eb in
+    let places : fa.at ≡ fb.at = omega (arith, fa.place, fb.place) in
+    let items : Some fa.item ≡ Some fb.item = sym fa.there ∙ ap (slice_get names) places ∙ fb.there in
+    let left : fa.item ≡ a = same_text_equal fa.item a fa.passes in
+    let right : fb.item ≡ b = same_text_equal fb.item b fb.passes in
+    let same : a ≡ b = cc in
+    ap (same_text a) (sym same) ∙ same_text_itself a

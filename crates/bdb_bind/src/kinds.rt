@@ -1,0 +1,146 @@
+// The check of kinds.
+ghost use Rattle.std.specs.Prelude.{◌≡◌, None};
+ghost use Rattle.std.specs.Option.{option_map};
+ghost use Rattle.bdb_base.specs.Same.{same_kind};
+ghost use Rattle.bdb_bind.specs.Firsts.{Checks};
+ghost use Rattle.bdb_bind.specs.Kinds.{kind_of, are_one_kind};
+ghost use Rattle.bdb_bind.specs.Lines.{misfit, side_kind, fits_set, fits_cond, set_kinds, cond_kinds, change_kind, kind_line};
+
+use crate::bound::BindError;
+use crate::lookup::{columns_of, kind_at};
+use crate::parts::query_of;
+use crate::queries::check_query_kinds;
+use crate::refusals::wrong_kind;
+use bdb_base::{Catalog, ColDef, Kind, Value};
+use bdb_syntax::{Command, RawCond, RawSet, RawSide};
+use std::alloc::Global;
+
+/// Refuses a value, a set or a comparison that joins two kinds.
+#[tactic(auto, unfolding(crate::specs::Lines::kind_line))]
+pub fn check_kinds(alloc: Global, catalog: &Catalog, command: &Command) -> Result<(), BindError>
+    ensures { Checks result (kind_line catalog.now command.now) }
+{
+    check_change_kinds(alloc, catalog, command)?;
+    if let Some(query) = query_of(command) {
+        check_query_kinds(alloc, catalog.rels.as_slice(), query)?;
+    }
+    Ok(())
+}
+
+/// Refuses a value, a set or a comparison of a change that joins two kinds.
+fn check_change_kinds(alloc: Global, catalog: &Catalog, command: &Command) -> Result<(), BindError>
+    ensures { Checks result (change_kind catalog.now command.now) }
+{
+    let rels = catalog.rels.as_slice();
+    match command {
+        Command::Insert { rel, vals, .. } => {
+            check_values(alloc, columns_of(rels, rel), vals.as_slice())?;
+            Ok(())
+        }
+        Command::Delete { rel, conds, .. } => {
+            check_conds(alloc, columns_of(rels, rel), conds.as_slice())?;
+            Ok(())
+        }
+        Command::Update {
+            rel,
+            sets,
+            conds,
+            ..
+        } => {
+            let cols = columns_of(rels, rel);
+            check_sets(alloc, cols, sets.as_slice())?;
+            check_conds(alloc, cols, conds.as_slice())?;
+            Ok(())
+        }
+        _ => Ok(()),
+    }
+}
+
+/// Refuses the first value whose column is of another kind.
+fn check_values(alloc: Global, cols: &[ColDef], vals: &[Value]) -> Result<(), BindError>
+    ensures { Checks result (option_map (BindError.Kind None) (misfit cols.now vals.now)) }
+{
+    for (col, value) in cols.iter().zip(vals) {
+        if !is_same_kind(col.kind, kind_of(value)) {
+            return Err(wrong_kind(alloc, &col.name));
+        }
+    }
+    Ok(())
+}
+
+/// Refuses the first set that joins two kinds.
+#[tactic(auto, unfolding(crate::specs::Lines::set_kinds))]
+fn check_sets(alloc: Global, cols: &[ColDef], sets: &[RawSet]) -> Result<(), BindError>
+    ensures { Checks result (set_kinds cols.now sets.now) }
+{
+    for set in sets {
+        if !fits_set(cols, set) {
+            return Err(wrong_kind(alloc, &set.col));
+        }
+    }
+    Ok(())
+}
+
+/// Refuses the first comparison that joins two kinds.
+#[tactic(auto, unfolding(crate::specs::Lines::cond_kinds))]
+fn check_conds(alloc: Global, cols: &[ColDef], conds: &[RawCond]) -> Result<(), BindError>
+    ensures { Checks result (cond_kinds cols.now conds.now) }
+{
+    for cond in conds {
+        if !fits_cond(cols, cond) {
+            return Err(wrong_kind(alloc, &cond.left.col));
+        }
+    }
+    Ok(())
+}
+
+/// Whether a set gives a column a value of its kind.
+fn fits_set(cols: &[ColDef], set: &RawSet) -> bool
+    ensures { result ≡ fits_set cols.now set.now }
+{
+    are_one_kind(kind_at(cols, &set.col), Some(kind_of(&set.to)))
+}
+
+/// Whether the sides of a comparison are of one kind.
+fn fits_cond(cols: &[ColDef], cond: &RawCond) -> bool
+    ensures { result ≡ fits_cond cols.now cond.now }
+{
+    are_one_kind(kind_at(cols, &cond.left.col), side_kind(cols, &cond.right))
+}
+
+/// The kind of a comparison's right side.
+fn side_kind(cols: &[ColDef], side: &RawSide) -> Option<Kind>
+    ensures { result ≡ side_kind cols.now side.now }
+{
+    match side {
+        RawSide::Col(right) => kind_at(cols, &right.col),
+        RawSide::Lit(value) => Some(kind_of(value)),
+    }
+}
+
+/// Whether both kinds are known, and are one.
+pub fn are_one_kind(a: Option<Kind>, b: Option<Kind>) -> bool
+    ensures { result ≡ are_one_kind a b }
+{
+    match (a, b) {
+        (Some(a), Some(b)) => is_same_kind(a, b),
+        _ => false,
+    }
+}
+
+/// Whether two kinds are one.
+fn is_same_kind(a: Kind, b: Kind) -> bool
+    ensures { result ≡ same_kind a b }
+{
+    matches!((a, b), (Kind::Int, Kind::Int) | (Kind::Text, Kind::Text))
+}
+
+/// The kind of a value.
+pub fn kind_of(value: &Value) -> Kind
+    ensures { result ≡ kind_of value.now }
+{
+    match value {
+        Value::Int(_) => Kind::Int,
+        Value::Text(_) => Kind::Text,
+    }
+}

@@ -1,0 +1,287 @@
+// What a command that isn't refused is bound to.
+ghost use Rattle.std.specs.Prelude.{◌≡◌, ◌<◌, ◌≤◌, ◌^◌, true, None, length, map, IfOk};
+ghost use Rattle.std.specs.Option.{unwrap_or};
+ghost use Rattle.bdb_base.specs.Alternation.{alternates};
+ghost use Rattle.bdb_base.specs.Bases.{IsCatalog};
+ghost use Rattle.bdb_bind.specs.Lookup.{uid_of, path_of, columns_of};
+ghost use Rattle.bdb_bind.specs.Refusal.{names_refused};
+ghost use Rattle.bdb_bind.specs.Binding.{relation_at, place_of, bound_column, bound_side, bound_cond, bound_set, statement_of, bound_of};
+
+use crate::bound::Bound;
+use crate::lookup::{column_at, columns_of, number_of, uid_of};
+use crate::query_making::bound_query;
+use bdb_base::{
+    Catalog, ColDef, Cond, Exact, List, Operand, Path, PathError, Ref, RelDef, SetCol, Sign, Stmt,
+    Tuple, Txt, Value,
+};
+use bdb_syntax::{Command, RawCond, RawSet, RawSide};
+use std::alloc::{AllocError, Global};
+
+/// The uid of a name that is a user's.
+pub fn uid_at(users: &[Txt], name: &Txt) -> u32
+    requires { length users.now ≤ 256 }
+    ensures { result ≡ unwrap_or (uid_of users.now name.now) 0 }
+{
+    match uid_of(users, name) {
+        Some(uid) => uid as u32,
+        None => 0,
+    }
+}
+
+/// The path of names, each of which is a user's.
+fn path_of(alloc: Global, users: &[Txt], names: &[Txt]) -> Result<Path, AllocError>
+    requires few { length users.now ≤ 256 }
+    requires alternates { alternates (path_of users.now names.now) ≡ true }
+    ensures { IfOk result (λ path. path ≡ path_of users.now names.now) }
+{
+    let ids: Vec<u32> = names.iter().map(|name| uid_at(users, name)).collect(alloc)?;
+    match Path::try_new(alloc, ids.as_slice()) {
+        Ok(path) => Ok(path),
+        Err(PathError::Repeat) => unreachable!(),
+        Err(PathError::Memory) => Err(AllocError),
+    }
+}
+
+/// The number of a relation that is there.
+pub fn relation_at(rels: &[RelDef], name: &Txt) -> u32
+    requires { length rels.now ≤ 64 }
+    ensures { result ≡ relation_at rels.now name.now }
+{
+    match number_of(rels, name) {
+        Some(number) => number as u32,
+        None => 0,
+    }
+}
+
+/// A column that is there, of item 0.
+fn bound_column(cols: &[ColDef], name: &Txt) -> Ref
+    requires { length cols.now ≤ 16 }
+    ensures { result ≡ bound_column cols.now name.now }
+{
+    Ref {
+        item: 0,
+        col: place_of(cols, name),
+    }
+}
+
+/// The place of a column that is there.
+fn place_of(cols: &[ColDef], name: &Txt) -> u32
+    requires { length cols.now ≤ 16 }
+    ensures { result ≡ place_of cols.now name.now }
+{
+    match column_at(cols, name) {
+        Some(place) => place as u32,
+        None => 0,
+    }
+}
+
+fn bound_side(alloc: Global, cols: &[ColDef], side: &RawSide) -> Result<Operand, AllocError>
+    requires { length cols.now ≤ 16 }
+    ensures { IfOk result (λ b. b ≡ bound_side cols.now side.now) }
+{
+    match side {
+        RawSide::Col(right) => Ok(Operand::Col(bound_column(cols, &right.col))),
+        RawSide::Lit(value) => Ok(Operand::Lit(value.try_clone(alloc)?)),
+    }
+}
+
+fn bound_cond(alloc: Global, cols: &[ColDef], cond: &RawCond) -> Result<Cond, AllocError>
+    requires { length cols.now ≤ 16 }
+    ensures { IfOk result (λ b. b ≡ bound_cond cols.now cond.now) }
+{
+    let right = bound_side(alloc, cols, &cond.right)?;
+    Ok(Cond {
+        left: bound_column(cols, &cond.left.col),
+        cmp: cond.cmp,
+        right,
+    })
+}
+
+fn bound_conds(alloc: Global, cols: &[ColDef], conds: &[RawCond]) -> Result<List<Cond>, AllocError>
+    requires { length cols.now ≤ 16 }
+    ensures { IfOk result (λ b. b ≡ map (bound_cond cols.now) conds.now) }
+{
+    let mut bound = List::new(alloc);
+    for cond in conds {
+        bound.push(bound_cond(alloc, cols, cond)?)?;
+    }
+    Ok(bound)
+}
+
+fn bound_set(alloc: Global, cols: &[ColDef], set: &RawSet) -> Result<SetCol, AllocError>
+    requires { length cols.now ≤ 16 }
+    ensures { IfOk result (λ b. b ≡ bound_set cols.now set.now) }
+{
+    let to = set.to.try_clone(alloc)?;
+    Ok(SetCol {
+        col: place_of(cols, &set.col),
+        to,
+    })
+}
+
+fn bound_sets(alloc: Global, cols: &[ColDef], sets: &[RawSet]) -> Result<List<SetCol>, AllocError>
+    requires { length cols.now ≤ 16 }
+    ensures { IfOk result (λ b. b ≡ map (bound_set cols.now) sets.now) }
+{
+    let mut bound = List::new(alloc);
+    for set in sets {
+        bound.push(bound_set(alloc, cols, set)?)?;
+    }
+    Ok(bound)
+}
+
+/// The insert of a statement.
+#[tactic(auto, using(crate::proofs::CatalogLemmas::users_few, crate::proofs::CatalogLemmas::relations_few))]
+fn bound_insert(
+    alloc: Global,
+    catalog: &Catalog,
+    users: &[Txt],
+    sign: Sign,
+    rel: &Txt,
+    vals: &List<Value>,
+) -> Result<Bound, AllocError>
+    requires catalog { IsCatalog catalog.now }
+    requires alternates { alternates (path_of catalog.now.users users.now) ≡ true }
+    requires filled { 0 < length vals.now }
+    ensures { IfOk result (λ b. b ≡ Bound.Insert (statement_of catalog.now users.now sign rel.now vals.now)) }
+{
+    let path = path_of(alloc, catalog.users.as_slice(), users)?;
+    let rel = relation_at(catalog.rels.as_slice(), rel);
+    let vals = vals.try_clone(alloc)?;
+    let tuple = Tuple { rel, vals };
+    let stmt = Stmt { path, sign, tuple };
+    Ok(Bound::Insert { stmt })
+}
+
+/// The delete of the statements that meet all tests.
+#[tactic(auto, using(crate::proofs::CatalogLemmas::users_few, crate::proofs::CatalogLemmas::relations_few, crate::proofs::CatalogLemmas::columns_few))]
+fn bound_delete(
+    alloc: Global,
+    catalog: &Catalog,
+    users: &[Txt],
+    sign: Sign,
+    rel: &Txt,
+    conds: &[RawCond],
+) -> Result<Bound, AllocError>
+    requires catalog { IsCatalog catalog.now }
+    requires alternates { alternates (path_of catalog.now.users users.now) ≡ true }
+    ensures { IfOk result (λ b. b ≡ Bound.Delete (path_of catalog.now.users users.now) sign (relation_at catalog.now.rels rel.now)
+        (map (bound_cond (columns_of catalog.now.rels rel.now)) conds.now)) }
+{
+    let rels = catalog.rels.as_slice();
+    let path = path_of(alloc, catalog.users.as_slice(), users)?;
+    let conds = bound_conds(alloc, columns_of(rels, rel), conds)?;
+    let rel = relation_at(rels, rel);
+    Ok(Bound::Delete {
+        path,
+        sign,
+        rel,
+        conds,
+    })
+}
+
+/// The update of the statements that meet all tests.
+#[tactic(auto, using(crate::proofs::CatalogLemmas::users_few, crate::proofs::CatalogLemmas::relations_few, crate::proofs::CatalogLemmas::columns_few))]
+fn bound_update(
+    alloc: Global,
+    catalog: &Catalog,
+    users: &[Txt],
+    sign: Sign,
+    rel: &Txt,
+    sets: &[RawSet],
+    conds: &[RawCond],
+) -> Result<Bound, AllocError>
+    requires catalog { IsCatalog catalog.now }
+    requires alternates { alternates (path_of catalog.now.users users.now) ≡ true }
+    ensures { IfOk result (λ b. b ≡ Bound.Update (path_of catalog.now.users users.now) sign (relation_at catalog.now.rels rel.now)
+        (map (bound_set (columns_of catalog.now.rels rel.now)) sets.now) (map (bound_cond (columns_of catalog.now.rels rel.now)) conds.now)) }
+{
+    let rels = catalog.rels.as_slice();
+    let cols = columns_of(rels, rel);
+    let path = path_of(alloc, catalog.users.as_slice(), users)?;
+    let sets = bound_sets(alloc, cols, sets)?;
+    let conds = bound_conds(alloc, cols, conds)?;
+    let rel = relation_at(rels, rel);
+    Ok(Bound::Update {
+        path,
+        sign,
+        rel,
+        sets,
+        conds,
+    })
+}
+
+/// The new relation.
+fn bound_relation(alloc: Global, name: &Txt, cols: &List<ColDef>) -> Result<Bound, AllocError>
+    ensures { IfOk result (λ b. b ≡ Bound.CreateRelation (record { name = name.now; cols = cols.now })) }
+{
+    let name = name.try_clone(alloc)?;
+    let cols = cols.try_clone(alloc)?;
+    let def = RelDef { name, cols };
+    Ok(Bound::CreateRelation { def })
+}
+
+/// The world that is shown.
+#[tactic(auto, using(crate::proofs::CatalogLemmas::users_few))]
+fn bound_world(alloc: Global, catalog: &Catalog, users: &[Txt]) -> Result<Bound, AllocError>
+    requires catalog { IsCatalog catalog.now }
+    requires alternates { alternates (path_of catalog.now.users users.now) ≡ true }
+    ensures { IfOk result (λ b. b ≡ Bound.ShowWorld (path_of catalog.now.users users.now)) }
+{
+    let path = path_of(alloc, catalog.users.as_slice(), users)?;
+    Ok(Bound::ShowWorld { path })
+}
+
+/// What a command that isn't refused is bound to.
+pub fn bound_of(alloc: Global, catalog: &Catalog, command: &Command) -> Result<Bound, AllocError>
+    requires catalog { IsCatalog catalog.now }
+    requires accepted { names_refused catalog.now command.now ≡ None }
+    ensures { IfOk result (λ b. b ≡ bound_of catalog.now command.now) }
+{
+    match command {
+        Command::CreateUser { name } => {
+            let name = name.try_clone(alloc)?;
+            Ok(Bound::CreateUser { name })
+        }
+        Command::CreateRelation { name, cols } => bound_relation(alloc, name, cols),
+        Command::Insert {
+            users,
+            sign,
+            rel,
+            vals,
+        } => bound_insert(alloc, catalog, users.as_slice(), *sign, rel, vals),
+        Command::Delete {
+            users,
+            sign,
+            rel,
+            conds,
+        } => bound_delete(
+            alloc,
+            catalog,
+            users.as_slice(),
+            *sign,
+            rel,
+            conds.as_slice(),
+        ),
+        Command::Update {
+            users,
+            sign,
+            rel,
+            sets,
+            conds,
+        } => {
+            let (sets, conds) = (sets.as_slice(), conds.as_slice());
+            bound_update(alloc, catalog, users.as_slice(), *sign, rel, sets, conds)
+        }
+        Command::ShowWorld { users } => bound_world(alloc, catalog, users.as_slice()),
+        Command::Select { query } => {
+            let query = bound_query(alloc, catalog, query)?;
+            Ok(Bound::Select { query })
+        }
+        Command::Explain { query } => {
+            let query = bound_query(alloc, catalog, query)?;
+            Ok(Bound::Explain { query })
+        }
+        Command::ShowTables => Ok(Bound::ShowTables),
+    }
+}

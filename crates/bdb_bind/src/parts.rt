@@ -1,0 +1,173 @@
+// What a command says of users, relations, columns and texts.
+ghost use Rattle.std.specs.Prelude.{◌≡◌};
+ghost use Rattle.std.specs.Option.{option_copied};
+ghost use Rattle.std.specs.List.{list_any};
+ghost use Rattle.bdb_bind.specs.Parts.{query_of, path_names, depth_limit, relation_name, new_columns, value_texts, side_texts, is_long, some_who_text, some_query_text, some_text};
+
+use bdb_base::{ColDef, Txt, Value};
+use bdb_syntax::{Command, RawCond, RawItem, RawQuery, RawSet, RawSide, RawWho};
+
+/// The query of a command.
+pub fn query_of(command: &Command) -> Option<&RawQuery>
+    ensures { option_copied result ≡ query_of command.now }
+{
+    match command {
+        Command::Select { query } => Some(query),
+        Command::Explain { query } => Some(query),
+        _ => None,
+    }
+}
+
+/// The names of a command's one path.
+pub fn path_names(command: &Command) -> &[Txt]
+    ensures { result.now ≡ path_names command.now }
+{
+    match command {
+        Command::Insert { users, .. } => users.as_slice(),
+        Command::Delete { users, .. } => users.as_slice(),
+        Command::Update { users, .. } => users.as_slice(),
+        Command::ShowWorld { users } => users.as_slice(),
+        _ => &[],
+    }
+}
+
+/// The longest path that a command with one path may have.
+pub fn depth_limit(command: &Command) -> usize
+    ensures { result ≡ depth_limit command.now }
+{
+    match command {
+        Command::ShowWorld { .. } => 1024,
+        _ => 16,
+    }
+}
+
+/// The relation that a change names.
+pub fn relation_name(command: &Command) -> Option<&Txt>
+    ensures { option_copied result ≡ relation_name command.now }
+{
+    match command {
+        Command::Insert { rel, .. } => Some(rel),
+        Command::Delete { rel, .. } => Some(rel),
+        Command::Update { rel, .. } => Some(rel),
+        _ => None,
+    }
+}
+
+/// The columns of a new relation.
+pub fn new_columns(command: &Command) -> &[ColDef]
+    ensures { result.now ≡ new_columns command.now }
+{
+    match command {
+        Command::CreateRelation { cols, .. } => cols.as_slice(),
+        _ => &[],
+    }
+}
+
+/// Whether a text of a command has more than 255 bytes.
+pub fn has_long_text(command: &Command) -> bool
+    ensures { result ≡ some_text is_long command.now }
+{
+    match command {
+        Command::CreateUser { name } => is_long(name),
+        Command::Insert { users, vals, .. } => {
+            has_long_name(users.as_slice()) || has_long_value(vals.as_slice())
+        }
+        Command::Delete { users, conds, .. } => {
+            has_long_name(users.as_slice()) || has_long_cond(conds.as_slice())
+        }
+        Command::Update {
+            users,
+            sets,
+            conds,
+            ..
+        } => {
+            has_long_name(users.as_slice())
+                || has_long_set(sets.as_slice())
+                || has_long_cond(conds.as_slice())
+        }
+        Command::ShowWorld { users } => has_long_name(users.as_slice()),
+        Command::Select { query } => has_long_query(query),
+        Command::Explain { query } => has_long_query(query),
+        _ => false,
+    }
+}
+
+/// Whether a text has more than 255 bytes.
+fn is_long(text: &Txt) -> bool
+    ensures { result ≡ is_long text.now }
+{
+    text.len() > 255
+}
+
+/// Whether a value is a text of more than 255 bytes.
+fn is_long_value(value: &Value) -> bool
+    ensures { result ≡ list_any is_long (value_texts value.now) }
+{
+    match value {
+        Value::Int(_) => false,
+        Value::Text(text) => is_long(text),
+    }
+}
+
+/// Whether a comparison's right side is a text of more than 255 bytes.
+fn is_long_side(side: &RawSide) -> bool
+    ensures { result ≡ list_any is_long (side_texts side.now) }
+{
+    match side {
+        RawSide::Col(_) => false,
+        RawSide::Lit(value) => is_long_value(value),
+    }
+}
+
+fn has_long_name(names: &[Txt]) -> bool
+    ensures { result ≡ list_any is_long names.now }
+{
+    names.iter().any(|name| is_long(name))
+}
+
+fn has_long_value(values: &[Value]) -> bool
+    ensures { result ≡ list_any (λ v. list_any is_long (value_texts v)) values.now }
+{
+    values.iter().any(|value| is_long_value(value))
+}
+
+fn has_long_set(sets: &[RawSet]) -> bool
+    ensures { result ≡ list_any (λ s. list_any is_long (value_texts s.to)) sets.now }
+{
+    sets.iter().any(|set| is_long_value(&set.to))
+}
+
+fn has_long_cond(conds: &[RawCond]) -> bool
+    ensures { result ≡ list_any (λ c. list_any is_long (side_texts c.right)) conds.now }
+{
+    conds.iter().any(|cond| is_long_side(&cond.right))
+}
+
+/// Whether a text of a query has more than 255 bytes.
+fn has_long_query(query: &RawQuery) -> bool
+    ensures { result ≡ some_query_text is_long query.now }
+{
+    has_long_item(query.items.as_slice()) || has_long_cond(query.conds.as_slice())
+}
+
+fn has_long_item(items: &[RawItem]) -> bool
+    ensures { result ≡ list_any (λ i. list_any (some_who_text is_long) i.path) items.now }
+{
+    items.iter().any(|item| has_long_who(item.path.as_slice()))
+}
+
+fn has_long_who(path: &[RawWho]) -> bool
+    ensures { result ≡ list_any (some_who_text is_long) path.now }
+{
+    path.iter().any(|who| is_long_who(who))
+}
+
+/// Whether a name after BELIEF has more than 255 bytes.
+fn is_long_who(who: &RawWho) -> bool
+    ensures { result ≡ some_who_text is_long who.now }
+{
+    match who {
+        RawWho::Name(name) => is_long(name),
+        RawWho::Col(_) => false,
+    }
+}
