@@ -15,10 +15,10 @@ use Rattle.bdb_syntax.specs.declared.command.Command.TheVariants.{Insert}
 use Rattle.bdb_bind.specs.Lookup.{number_of, columns_in, columns_of, path_of}
 use Rattle.bdb_bind.specs.Parts.{path_names}
 use Rattle.bdb_bind.specs.Lines.{relation_line, arity_line}
-use Rattle.bdb_bind.specs.Refusal.{refusal_of}
+use Rattle.bdb_bind.specs.Refusal.{names_refused}
 use Rattle.bdb_bind.proofs.Founds.{IsFound, found, is_there}
 use Rattle.bdb_bind.proofs.PathLemmas.{path_alternates}
-use Rattle.bdb_bind.proofs.Cleared.{cleared, users_known, names_apart, not_refused}
+use Rattle.bdb_bind.proofs.Cleared.{cleared, neither, users_known, names_apart, not_refused}
 
 pub users_few : (c : Catalog) → IsCatalog c → length c.users ≤ 256
 users_few c valid = leb-true (length c.users) 256 valid.few_users
@@ -58,7 +58,7 @@ pub relation_found : (c : Catalog) (name : List ℕ) → is_some (number_of c.re
 relation_found c name known = let w = is_there (number_of c.rels name) known in (w.0, w.1, found _ 0 c.rels w.0 w.1)
 
 -- the path of a command that isn't refused alternates
-pub accepted_alternates : (catalog : Catalog) (c : Command) (names : List (List ℕ)) → refusal_of catalog c ≡ None → names ≡ path_names c
+pub accepted_alternates : (catalog : Catalog) (c : Command) (names : List (List ℕ)) → names_refused catalog c ≡ None → names ≡ path_names c
     → alternates (path_of catalog.users names) ≡ true
 accepted_alternates catalog c names accepted same =
     let clear = cleared catalog c accepted in
@@ -69,7 +69,7 @@ accepted_alternates catalog c names accepted same =
 pub insert_relation : (catalog : Catalog) (users : List (List ℕ)) (sign : Sign) (rel : List ℕ) (vals : List Value)
     → relation_line catalog (Insert users sign rel vals) ≡ None → is_some (number_of catalog.rels rel) ≡ true
 unfolding relation_line
-insert_relation catalog users sign rel vals e = not-false _ (not_refused _ _ e)
+insert_relation catalog users sign rel vals e = not-false _ (not_refused _ _ (neither _ _ e).0)
 
 -- its values are as many as the columns
 pub insert_arity : (catalog : Catalog) (users : List (List ℕ)) (sign : Sign) (rel : List ℕ) (vals : List Value)
@@ -79,7 +79,7 @@ insert_arity catalog users sign rel vals e = eqb-true _ _ (not-false _ (not_refu
 
 -- so there is at least one
 pub insert_filled : (catalog : Catalog) (users : List (List ℕ)) (sign : Sign) (rel : List ℕ) (vals : List Value) → IsCatalog catalog
-    → refusal_of catalog (Insert users sign rel vals) ≡ None → 0 < length vals
+    → names_refused catalog (Insert users sign rel vals) ≡ None → 0 < length vals
 insert_filled catalog users sign rel vals valid accepted =
     let clear = cleared catalog (Insert users sign rel vals) accepted in
     let w = relation_found catalog rel (insert_relation catalog users sign rel vals clear.relation) in

@@ -1,8 +1,11 @@
+pub mod BoundLemmas
 pub mod CatalogLemmas
 pub mod Cleared
-pub mod FitLemmas
-pub mod Fitting
+pub mod ColumnLemmas
 pub mod Founds
+pub mod KnownLemmas
 pub mod Misfits
 pub mod PathLemmas
 pub mod Repeats
+pub mod SafeLemmas
+pub mod ScopeLemmas

@@ -2,10 +2,14 @@
 ghost use Rattle.std.specs.Prelude.{◌≡◌, None};
 ghost use Rattle.std.specs.Option.{option_map};
 ghost use Rattle.bdb_base.specs.Same.{same_kind};
-ghost use Rattle.bdb_bind.specs.Lines.{Checks, kind_of, misfit, are_one_kind, side_kind, fits_set, fits_cond, set_kinds, cond_kinds, kind_line};
+ghost use Rattle.bdb_bind.specs.Firsts.{Checks};
+ghost use Rattle.bdb_bind.specs.Kinds.{kind_of, are_one_kind};
+ghost use Rattle.bdb_bind.specs.Lines.{misfit, side_kind, fits_set, fits_cond, set_kinds, cond_kinds, change_kind, kind_line};
 
 use crate::bound::BindError;
 use crate::lookup::{columns_of, kind_at};
+use crate::parts::query_of;
+use crate::queries::check_query_kinds;
 use crate::refusals::wrong_kind;
 use bdb_base::{Catalog, ColDef, Kind, Value};
 use bdb_syntax::{Command, RawCond, RawSet, RawSide};
@@ -15,6 +19,17 @@ use std::alloc::Global;
 #[tactic(auto, unfolding(crate::specs::Lines::kind_line))]
 pub fn check_kinds(alloc: Global, catalog: &Catalog, command: &Command) -> Result<(), BindError>
     ensures { Checks result (kind_line catalog.now command.now) }
+{
+    check_change_kinds(alloc, catalog, command)?;
+    if let Some(query) = query_of(command) {
+        check_query_kinds(alloc, catalog.rels.as_slice(), query)?;
+    }
+    Ok(())
+}
+
+/// Refuses a value, a set or a comparison of a change that joins two kinds.
+fn check_change_kinds(alloc: Global, catalog: &Catalog, command: &Command) -> Result<(), BindError>
+    ensures { Checks result (change_kind catalog.now command.now) }
 {
     let rels = catalog.rels.as_slice();
     match command {
@@ -104,7 +119,7 @@ fn side_kind(cols: &[ColDef], side: &RawSide) -> Option<Kind>
 }
 
 /// Whether both kinds are known, and are one.
-fn are_one_kind(a: Option<Kind>, b: Option<Kind>) -> bool
+pub fn are_one_kind(a: Option<Kind>, b: Option<Kind>) -> bool
     ensures { result ≡ are_one_kind a b }
 {
     match (a, b) {
@@ -121,7 +136,7 @@ fn is_same_kind(a: Kind, b: Kind) -> bool
 }
 
 /// The kind of a value.
-fn kind_of(value: &Value) -> Kind
+pub fn kind_of(value: &Value) -> Kind
     ensures { result ≡ kind_of value.now }
 {
     match value {

@@ -4,12 +4,12 @@ ghost use Rattle.std.specs.Option.{unwrap_or};
 ghost use Rattle.bdb_base.specs.Alternation.{alternates};
 ghost use Rattle.bdb_base.specs.Bases.{IsCatalog};
 ghost use Rattle.bdb_bind.specs.Lookup.{uid_of, path_of, columns_of};
-ghost use Rattle.bdb_bind.specs.Parts.{is_built};
-ghost use Rattle.bdb_bind.specs.Refusal.{refusal_of};
+ghost use Rattle.bdb_bind.specs.Refusal.{names_refused};
 ghost use Rattle.bdb_bind.specs.Binding.{relation_at, place_of, bound_column, bound_side, bound_cond, bound_set, statement_of, bound_of};
 
 use crate::bound::Bound;
 use crate::lookup::{column_at, columns_of, number_of, uid_of};
+use crate::query_making::bound_query;
 use bdb_base::{
     Catalog, ColDef, Cond, Exact, List, Operand, Path, PathError, Ref, RelDef, SetCol, Sign, Stmt,
     Tuple, Txt, Value,
@@ -18,7 +18,7 @@ use bdb_syntax::{Command, RawCond, RawSet, RawSide};
 use std::alloc::{AllocError, Global};
 
 /// The uid of a name that is a user's.
-fn uid_at(users: &[Txt], name: &Txt) -> u32
+pub fn uid_at(users: &[Txt], name: &Txt) -> u32
     requires { length users.now ≤ 256 }
     ensures { result ≡ unwrap_or (uid_of users.now name.now) 0 }
 {
@@ -43,7 +43,7 @@ fn path_of(alloc: Global, users: &[Txt], names: &[Txt]) -> Result<Path, AllocErr
 }
 
 /// The number of a relation that is there.
-fn relation_at(rels: &[RelDef], name: &Txt) -> u32
+pub fn relation_at(rels: &[RelDef], name: &Txt) -> u32
     requires { length rels.now ≤ 64 }
     ensures { result ≡ relation_at rels.now name.now }
 {
@@ -235,8 +235,7 @@ fn bound_world(alloc: Global, catalog: &Catalog, users: &[Txt]) -> Result<Bound,
 /// What a command that isn't refused is bound to.
 pub fn bound_of(alloc: Global, catalog: &Catalog, command: &Command) -> Result<Bound, AllocError>
     requires catalog { IsCatalog catalog.now }
-    requires built { is_built command.now ≡ true }
-    requires accepted { refusal_of catalog.now command.now ≡ None }
+    requires accepted { names_refused catalog.now command.now ≡ None }
     ensures { IfOk result (λ b. b ≡ bound_of catalog.now command.now) }
 {
     match command {
@@ -275,6 +274,14 @@ pub fn bound_of(alloc: Global, catalog: &Catalog, command: &Command) -> Result<B
             bound_update(alloc, catalog, users.as_slice(), *sign, rel, sets, conds)
         }
         Command::ShowWorld { users } => bound_world(alloc, catalog, users.as_slice()),
-        Command::Select { .. } | Command::Explain { .. } | Command::ShowTables => unreachable!(),
+        Command::Select { query } => {
+            let query = bound_query(alloc, catalog, query)?;
+            Ok(Bound::Select { query })
+        }
+        Command::Explain { query } => {
+            let query = bound_query(alloc, catalog, query)?;
+            Ok(Bound::Explain { query })
+        }
+        Command::ShowTables => Ok(Bound::ShowTables),
     }
 }

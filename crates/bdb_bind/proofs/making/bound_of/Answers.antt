@@ -2,10 +2,11 @@ use Rattle.std.proofs.Common.{◌∙◌, sym, ap, map}
 use Rattle.std.proofs.lemmas.Result.{IfOk-weaker}
 use Rattle.bdb_bind.specs.declared.bound.Bound.TheVariants as bound
 use Rattle.bdb_bind.specs.Lookup.{path_of, columns_of}
-use Rattle.bdb_bind.specs.Parts.{path_names}
-use Rattle.bdb_bind.specs.Refusal.{refusal_of}
+use Rattle.bdb_bind.specs.Parts.{path_names, query_of}
+use Rattle.bdb_bind.specs.Refusal.{names_refused}
 use Rattle.bdb_bind.specs.Binding.{relation_at, bound_cond, bound_set, bound_of}
 use Rattle.bdb_bind.proofs.CatalogLemmas.{accepted_alternates, insert_filled}
+use Rattle.bdb_bind.proofs.SafeLemmas.{few_of_query}
 use Rattle.bdb_bind.proofs.making.bound_of.Goals as goal
 
 pub bound_insert-requires-clause-alternates : goal.bound_insert-requires-clause-alternates
@@ -15,7 +16,7 @@ bound_insert-requires-clause-alternates c =
 pub bound_insert-requires-clause-filled : goal.bound_insert-requires-clause-filled
 bound_insert-requires-clause-filled c =
     insert_filled c.args.catalog.now c.in-Insert.users c.in-Insert.sign c.in-Insert.rel c.in-Insert.vals c.requires.catalog
-    (ap (refusal_of c.args.catalog.now) (sym c.in-Insert.is) ∙ c.requires.accepted)
+    (ap (names_refused c.args.catalog.now) (sym c.in-Insert.is) ∙ c.requires.accepted)
 
 pub bound_delete-requires-clause-alternates : goal.bound_delete-requires-clause-alternates
 bound_delete-requires-clause-alternates c =
@@ -52,3 +53,9 @@ returns-in-Update c =
     let conds_same = ap (λ conds. bound.Update (path_of catalog.users c.in-Update.users) c.in-Update.sign number
     (map (bound_set cols) c.in-Update.sets) (map (bound_cond cols) conds)) c.as_slice-conds.ensures in
     IfOk-weaker c.bound_update.result _ _ (λ b e. e ∙ users_same ∙ sets_same ∙ conds_same ∙ ap (bound_of catalog) (sym c.in-Update.is)) c.bound_update.ensures
+
+pub bound_query-requires-clause-few : goal.bound_query-requires-clause-few
+bound_query-requires-clause-few c = few_of_query c.args.catalog.now c.args.command.now c.in-Select.query c.requires.accepted (ap query_of c.in-Select.is)
+
+pub bound_query-requires-in-Explain-clause-few : goal.bound_query-requires-in-Explain-clause-few
+bound_query-requires-in-Explain-clause-few c = few_of_query c.args.catalog.now c.args.command.now c.in-Explain.query c.requires.accepted (ap query_of c.in-Explain.is)
