@@ -5,6 +5,7 @@ mod bases;
 mod beliefs;
 mod conflicts;
 mod levels;
+mod queries;
 mod rows;
 #[cfg(test)]
 mod tests;
@@ -12,4 +13,5 @@ mod tests;
 pub use bases::{believes, clashing, stated, world_rows};
 pub use beliefs::{believes_among, clashing_among, stated_among};
 pub use conflicts::first_clashing_among;
+pub use queries::{answers, answers_up_to};
 pub use rows::world_among;
