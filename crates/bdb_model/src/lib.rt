@@ -7,6 +7,7 @@ mod conflicts;
 mod levels;
 mod queries;
 mod rows;
+mod slots;
 #[cfg(test)]
 mod tests;
 
