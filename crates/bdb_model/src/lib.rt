@@ -4,6 +4,7 @@
 mod bases;
 mod beliefs;
 mod conflicts;
+mod found;
 mod levels;
 mod queries;
 mod rows;
