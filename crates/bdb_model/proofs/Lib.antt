@@ -1,2 +1,3 @@
 pub mod BaseLemmas
+pub mod ChoosingLemmas
 pub mod LevelLemmas

@@ -3,6 +3,7 @@
 
 mod bases;
 mod beliefs;
+mod choosing;
 mod conflicts;
 mod found;
 mod levels;

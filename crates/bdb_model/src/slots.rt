@@ -38,17 +38,19 @@ pub fn known_operand<'a>(slots: &[Option<&'a Tuple>], operand: &'a Operand) -> O
     }
 }
 
-/// Slots with a tuple chosen for the item at a place.
+/// Slots with a tuple chosen for the item at a place, where there is one.
 pub fn with_chosen<'a>(
     alloc: Global,
     slots: &[Option<&'a Tuple>],
     at: usize,
     tuple: &'a Tuple,
 ) -> Result<Vec<Option<&'a Tuple>>, AllocError>
-    requires { at < length slots.now }
     ensures { IfOk result (λ next. lent next.items ≡ slice_set (lent slots.now) at (Some tuple.now)) }
 {
     let mut next = Vec::from_slice(alloc, slots)?;
+    if at >= next.len() {
+        return Ok(next);
+    }
     next[at] = Some(tuple);
     Ok(next)
 }

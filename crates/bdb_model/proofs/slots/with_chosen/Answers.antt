@@ -1,5 +1,5 @@
-use Rattle.std.proofs.Common.{◌∙◌, Some, ap, slice_set}
-use Rattle.std.proofs.lemmas.List.{map-set}
+use Rattle.std.proofs.Common.{◌∙◌, Some, ap, sym, slice_set}
+use Rattle.std.proofs.lemmas.List.{map-set, set_past}
 use Rattle.std.specs.Option.{option_copied}
 use Rattle.bdb_model.specs.Slots.{lent}
 use Rattle.bdb_model.proofs.slots.with_chosen.Goals as goal
