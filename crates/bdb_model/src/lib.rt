@@ -3,13 +3,18 @@
 
 mod bases;
 mod beliefs;
+mod choosing;
 mod conflicts;
+mod found;
 mod levels;
+mod queries;
 mod rows;
+mod slots;
 #[cfg(test)]
 mod tests;
 
 pub use bases::{believes, clashing, stated, world_rows};
 pub use beliefs::{believes_among, clashing_among, stated_among};
 pub use conflicts::first_clashing_among;
+pub use queries::{answers, answers_up_to};
 pub use rows::world_among;

@@ -1,0 +1,36 @@
+// The answers of a query.
+ghost use Rattle.std.specs.Prelude.{◌≡◌, true, List, IfOk};
+ghost use Rattle.bdb_base.specs.declared.kinds.Value.{Value};
+ghost use Rattle.bdb_base.specs.Queries.{active_domain, HasValues, answers_of, answers_over};
+ghost use Rattle.bdb_base.specs.Safety.{query_fits, IsSafe};
+ghost use Rattle.bdb_model.specs.Limits.{up_to};
+
+use bdb_base::{Base, List, Query, Value};
+use std::alloc::{AllocError, Global};
+
+/// The answers of a safe query over a base, in order, each once. They are the same over each domain that has the values
+/// of the active one.
+pub fn answers(alloc: Global, base: &Base, q: &Query) -> Result<List<List<Value>>, AllocError>
+    requires fits { query_fits base.now.catalog q.now ≡ true }
+    requires safe { IsSafe base.now.catalog.rels q.now }
+    ensures rows { IfOk result (λ rows. rows ≡ answers_of base.now q.now) }
+    ensures domains { IfOk result (λ rows. (dom : List Value) → HasValues dom (active_domain base.now q.now) → rows ≡ answers_over base.now dom q.now) }
+{
+    Err(AllocError)
+}
+
+/// The answers of a safe query over a base, where there are at most so many; none exactly where there are more. It
+/// stops once it has found more.
+pub fn answers_up_to(
+    alloc: Global,
+    base: &Base,
+    q: &Query,
+    most: usize,
+) -> Result<Option<List<List<Value>>>, AllocError>
+    requires fits { query_fits base.now.catalog q.now ≡ true }
+    requires safe { IsSafe base.now.catalog.rels q.now }
+    ensures rows { IfOk result (λ rows. rows ≡ up_to most (answers_of base.now q.now)) }
+    ensures domains { IfOk result (λ rows. (dom : List Value) → HasValues dom (active_domain base.now q.now) → rows ≡ up_to most (answers_over base.now dom q.now)) }
+{
+    Err(AllocError)
+}
