@@ -1,0 +1,4 @@
+pub mod EndLemmas
+pub mod PlaceLemmas
+pub mod RangeLemmas
+pub mod UserLemmas
