@@ -7,6 +7,7 @@ use Rattle.bdb_base.specs.declared.kinds.What.TheVariants.{Users, Relations, Wor
 use Rattle.bdb_base.specs.declared.kinds.World.{World}
 use Rattle.bdb_base.specs.Bases.{Contents, key_lengths, with_statement, with_user, with_relation, stands, tuple_count, world_count}
 use Rattle.bdb_base.specs.Worlds.{least_clash}
+use Rattle.bdb_base.specs.Queries.{answers_of}
 use Rattle.bdb_base.specs.WorldRows.{world_of}
 use Rattle.bdb_base.specs.Changes.{taken_by, without_taken, updated, first_clashing}
 use Rattle.bdb_lex.specs.declared.token.Token.{Token}
@@ -17,17 +18,18 @@ use Rattle.bdb_syntax.specs.declared.command.Command.{Command}
 use Rattle.bdb_parse.specs.Reading.{command_of}
 use Rattle.bdb_parse.specs.Fits.{fits}
 use Rattle.bdb_bind.specs.declared.bound.Bound.{Bound}
-use Rattle.bdb_bind.specs.declared.bound.Bound.TheVariants.{CreateUser, CreateRelation, Insert, Delete, Update, ShowWorld}
+use Rattle.bdb_bind.specs.declared.bound.Bound.TheVariants.{CreateUser, CreateRelation, Insert, Delete, Update, Select, Explain, ShowWorld, ShowTables}
 use Rattle.bdb_bind.specs.declared.bound.BindError.{BindError}
 use Rattle.bdb_bind.specs.declared.bound.BindError.TheVariants as bind
-use Rattle.bdb_bind.specs.Parts.{is_built}
 use Rattle.bdb_bind.specs.Fits.{is_allowed}
 use Rattle.bdb_bind.specs.Refusal.{refusal_of}
 use Rattle.bdb_bind.specs.Binding.{bound_of}
 use Rattle.bdb_render.specs.declared.refusal.Refusal.{Refusal}
 use Rattle.bdb_render.specs.declared.refusal.Refusal.TheVariants as refusal
 use Rattle.bdb_render.specs.Refusals.{refusal_reply}
-use Rattle.bdb_render.specs.Replies.{ok_reply, count_reply, world_reply}
+use Rattle.bdb_canon.specs.Canonical.{canon_of, line_count}
+use Rattle.bdb_render.specs.TablesReply.{tables_reply}
+use Rattle.bdb_render.specs.Replies.{ok_reply, count_reply, world_reply, rows_reply}
 use Rattle.bdb_session.specs.declared.limits.Counts.{Counts}
 use Rattle.bdb_session.specs.declared.reply.Reply.{Reply}
 use Rattle.bdb_session.specs.declared.reading.Reading.{Reading}
@@ -35,28 +37,28 @@ use Rattle.bdb_session.specs.declared.reading.Reading.TheVariants as reading
 use Rattle.bdb_session.specs.declared.event.Event.{Event}
 use Rattle.bdb_session.specs.declared.event.Event.TheVariants as event
 
--- queries are not answered yet: their first word tells
-abbrev pub begins_query : Token → Bool
-begins_query (Word w) = is_keyword (codes "select") w || is_keyword (codes "explain") w
-begins_query _ = false
+-- plans are not told yet: the first word of the command tells
+abbrev pub begins_explain : Token → Bool
+begins_explain (Word w) = is_keyword (codes "explain") w
+begins_explain _ = false
 
--- a command with literals that fit, of a kind that is built
+-- a command with literals that fit
 abbrev pub reading_of_command : Option Command → Reading
 reading_of_command None = reading.Refused refusal.Syntax
-reading_of_command (Some c) = if fits c then (if is_built c then reading.Says c else reading.Refused refusal.Syntax) else reading.Refused refusal.Number
+reading_of_command (Some c) = if fits c then reading.Says c else reading.Refused refusal.Number
 
 abbrev pub reading_of_tokens : Option (List Token) → Reading
 reading_of_tokens None = reading.Refused refusal.Syntax
 reading_of_tokens (Some []) = reading.Nothing
-reading_of_tokens (Some (t ∷ ts)) = if begins_query t then reading.Refused refusal.Syntax else reading_of_command (command_of (t ∷ ts))
+reading_of_tokens (Some (t ∷ ts)) = if begins_explain t then reading.Refused refusal.Syntax else reading_of_command (command_of (t ∷ ts))
 
 -- what the bytes of a piece say
 abbrev pub reading_of : List ℕ → Reading
 reading_of bytes = reading_of_tokens (tokens_of bytes)
 
--- a command that is said is of a kind that is built, and its texts and names are allowed
+-- the texts and names of a command that is said are allowed
 abbrev pub IsFit : Reading → Type 0
-IsFit (reading.Says c) = (is_built c ≡ true) × (is_allowed c ≡ true)
+IsFit (reading.Says c) = is_allowed c ≡ true
 IsFit _ = Unit {0}
 
 -- a refusal to bind, as a refusal of the command; want of memory is none
@@ -84,7 +86,7 @@ asked_base b (CreateRelation def) = record b { catalog = with_relation b.catalog
 asked_base b (Insert s) = record b { stmts = with_statement b.stmts s }
 asked_base b (Delete path sign rel conds) = record b { stmts = without_taken path sign rel conds b.stmts }
 asked_base b (Update path sign rel sets conds) = record b { stmts = updated path sign rel conds sets b.stmts }
-asked_base b (ShowWorld path) = b
+asked_base b _ = b
 
 -- The statement that a command's statements clash with: for an insert the least statement of its path that clashes with
 -- it, for an update the least of its path that clashes with another in the base that it asks for.
@@ -125,9 +127,21 @@ or_next (Some first) next = Some first
 abbrev pub statements_refusal : Contents → List Stmt → List ℕ → Option Refusal
 statements_refusal b next path = or_next (option_map clash_with (first_clashing (key_lengths b.catalog.rels) next path)) (option_map refusal.Full (passed_limit (record b { stmts = next })))
 
--- the refusal of a bound command: a clash, or a limit that the base that it asks for would pass
+-- there are more lines than may be answered
+abbrev pub too_many : ℕ → Option Refusal
+too_many lines = if nat_lt 100000 lines then Some refusal.Many else None
+
+-- Why a bound command that clashes with nothing is refused: it would be answered with too many lines, or the base that it
+-- asks for would pass a limit. Plans are not told yet.
+abbrev pub size_refusal : Contents → Bound → Option Refusal
+size_refusal b (Select query) = too_many (length (answers_of b query))
+size_refusal b ShowTables = too_many (line_count b.catalog (canon_of b))
+size_refusal b (Explain query) = Some refusal.Syntax
+size_refusal b c = option_map refusal.Full (passed_limit (asked_base b c))
+
+-- the refusal of a bound command: a clash, or else its size
 abbrev pub refusal_of_bound : Contents → Bound → Option Refusal
-refusal_of_bound b c = or_next (option_map clash_with (clashing_statement b c)) (option_map refusal.Full (passed_limit (asked_base b c)))
+refusal_of_bound b c = or_next (option_map clash_with (clashing_statement b c)) (size_refusal b c)
 
 -- how many statements a bound command adds or takes
 abbrev pub count_of : Contents → Bound → ℕ
@@ -145,6 +159,8 @@ abbrev pub accepted_reply : Contents → Bound → List ℕ
 accepted_reply b (CreateUser name) = ok_reply
 accepted_reply b (CreateRelation def) = ok_reply
 accepted_reply b (ShowWorld path) = world_reply b.catalog (world_at b path)
+accepted_reply b (Select query) = rows_reply (answers_of b query)
+accepted_reply b ShowTables = tables_reply b.catalog (canon_of b)
 accepted_reply b c = count_reply (count_of b c)
 
 -- the reply, refused or not

@@ -1,6 +1,7 @@
 //! The belief machine, one command at a time.
 #![tactic(auto)]
 
+mod ask;
 mod change;
 mod create;
 mod event;
@@ -13,6 +14,7 @@ mod reply;
 mod session;
 mod show;
 mod stop;
+mod structure;
 mod transact;
 
 pub use event::Event;

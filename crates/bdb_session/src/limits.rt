@@ -21,6 +21,9 @@ const MOST_TUPLES: usize = 4000;
 /// How many statements there may be.
 const MOST_STATEMENTS: usize = 20000;
 
+/// How many lines a command may be answered with.
+pub(crate) const MOST_LINES: usize = 100_000;
+
 /// How many worlds and different tuples statements have.
 #[derive(Clone, Copy, Drop)]
 pub struct Counts {

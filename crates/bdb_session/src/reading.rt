@@ -3,7 +3,6 @@ ghost use Rattle.std.specs.Prelude.{◌≡◌, IfOk, Some};
 ghost use Rattle.bdb_parse.specs.Reading.{command_of};
 ghost use Rattle.bdb_parse.specs.Spelled.{AreWellSpelled};
 
-use bdb_bind::is_built;
 use bdb_lex::{LexError, Token, tokens};
 use bdb_parse::{ParseError, is_keyword, parse};
 use bdb_render::Refusal;
@@ -21,7 +20,7 @@ pub enum Reading {
     Refused(Refusal),
 }
 
-ghost use Rattle.bdb_session.specs.Machine.{reading_of, reading_of_tokens, reading_of_command, begins_query, IsFit};
+ghost use Rattle.bdb_session.specs.Machine.{reading_of, reading_of_tokens, reading_of_command, begins_explain, IsFit};
 
 /// What a piece says.
 pub fn read_piece(alloc: Global, piece: &[u8]) -> Result<Reading, AllocError>
@@ -43,7 +42,7 @@ fn read_tokens(alloc: Global, tokens: &[Token]) -> Result<Reading, AllocError>
     match tokens {
         [] => Ok(Reading::Nothing),
         [first, ..] => {
-            if is_query_word(first) {
+            if is_explain(first) {
                 return Ok(Reading::Refused(Refusal::Syntax));
             }
             read_command(alloc, tokens)
@@ -51,29 +50,23 @@ fn read_tokens(alloc: Global, tokens: &[Token]) -> Result<Reading, AllocError>
     }
 }
 
-/// Whether a token begins a query.
-fn is_query_word(token: &Token) -> bool
-    ensures { result ≡ begins_query token.now }
+/// Whether a token begins a command that tells a plan.
+fn is_explain(token: &Token) -> bool
+    ensures { result ≡ begins_explain token.now }
 {
     match token {
-        Token::Word(word) => is_keyword("select", word) || is_keyword("explain", word),
+        Token::Word(word) => is_keyword("explain", word),
         _ => false,
     }
 }
 
-/// What tokens that are no query say.
+/// What tokens say as a command.
 fn read_command(alloc: Global, tokens: &[Token]) -> Result<Reading, AllocError>
     ensures reading { IfOk result (λ r. r ≡ reading_of_command (command_of tokens.now)) }
     ensures fit { AreWellSpelled tokens.now → IfOk result IsFit }
 {
     match parse(alloc, tokens) {
-        Ok(command) => {
-            if is_built(&command) {
-                Ok(Reading::Says(command))
-            } else {
-                Ok(Reading::Refused(Refusal::Syntax))
-            }
-        }
+        Ok(command) => Ok(Reading::Says(command)),
         Err(ParseError::Syntax) => Ok(Reading::Refused(Refusal::Syntax)),
         Err(ParseError::Number) => Ok(Reading::Refused(Refusal::Number)),
         Err(ParseError::Memory) => Err(AllocError),

@@ -42,7 +42,6 @@ impl Model for Session {
 
 ghost use Rattle.bdb_bind.specs.Binding.{bound_of};
 ghost use Rattle.bdb_bind.specs.Fits.{fits_catalog, is_allowed};
-ghost use Rattle.bdb_bind.specs.Parts.{is_built};
 ghost use Rattle.bdb_render.specs.Refusals.{refusal_reply};
 ghost use Rattle.bdb_session.specs.Machine.{reply_of, accepts, next_base, counts, refusal_of_command, refusal_of_bound, accepted_reply, asked_base};
 ghost use Rattle.bdb_session.specs.Served.{IsServed};
@@ -123,7 +122,6 @@ impl Session {
     ) -> Result<Reply, StopError>
         requires still { IsStill (K.seen keeper.old) }
         requires agrees { Holds (K.seen keeper.old).kept self.old }
-        requires built { is_built command.now ≡ true }
         requires allowed { is_allowed command.now ≡ true }
         ensures { IsServed self.old (refusal_of_command self.old command.now) (accepted_reply self.old (bound_of self.old.catalog command.now))
             (asked_base self.old (bound_of self.old.catalog command.now)) self.new (K.seen keeper.old) (K.seen keeper.new) result }
@@ -178,7 +176,10 @@ impl Session {
                 };
                 self.update(keeper, &selection, &sets)
             }
+            Bound::Select { query } => self.select(keeper, &query),
+            Bound::Explain { query: _ } => self.refuse(&Refusal::Syntax),
             Bound::ShowWorld { path } => self.show_world(keeper, &path),
+            Bound::ShowTables => self.show_tables(keeper),
         }
     }
 }
