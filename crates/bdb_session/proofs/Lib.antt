@@ -4,5 +4,5 @@ pub mod CatalogLemmas
 pub mod FindLemmas
 pub mod InsertLemmas
 pub mod LimitLemmas
+pub mod ServedLemmas
 pub mod UpdateFitLemmas
-pub mod UpdateStepLemmas
