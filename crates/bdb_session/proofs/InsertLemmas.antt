@@ -1,8 +1,14 @@
 -- What a base has with one more statement.
-use Rattle.std.proofs.Common.{◌≡◌, ◌∙◌, ℕ, ◌+◌, true, false, cond, ◌&&◌, List, length, None, ap, sym, arith}
+use Rattle.std.proofs.Common.{◌≡◌, ◌∙◌, ℕ, ◌+◌, true, false, not, cond, ◌&&◌, ◌||◌, List, length, None, ap, sym, inl, inr, arith}
+use Rattle.std.specs.Ordering.{is_eq}
+use Rattle.std.proofs.lemmas.Bool.{cases_Bool}
 use Rattle.bdb_base.specs.declared.kinds.Stmt.{Stmt}
-use Rattle.bdb_base.specs.Bases.{Contents, IsValid, belongs, key_lengths, has_tuple, tuple_count, stands, with_statement}
+use Rattle.bdb_base.specs.Bases.{Contents, IsValid, belongs, key_lengths, has_tuple, tuple_count, stands, with_statement, without_statement}
+use Rattle.bdb_base.specs.Order.{statement_cmp}
+use Rattle.bdb_base.specs.OrderLemmas.{statement_exact}
+use Rattle.bdb_base.specs.SortedSet.{ascending}
 use Rattle.bdb_base.specs.Worlds.{contradicted}
+use Rattle.bdb_base.proofs.SetLemmas.{is_eq-Equal, put_keeps_order, take_keeps_order, put_adds_member, take_drops_member, members_make_set}
 use Rattle.bdb_base.proofs.BaseLemmas.{put_counts_tuple, put_counts_statement, put_is_valid}
 use Rattle.bdb_base.specs.Same.{same_path}
 use Rattle.bdb_base.specs.Clash.{clash}
@@ -38,3 +44,15 @@ pub insert_is_valid : (b : Contents) (s : Stmt) → IsValid b.catalog b.stmts �
 insert_is_valid b s valid belong fine =
     let few = within_limits (asked_base b (Insert s)) (fine_parts b (Insert s) fine).1 in
     put_is_valid b.catalog b.stmts s valid belong (insert_apart b s fine) (λ k. let l = length_more b s valid k in let f = few.stmts in omega arith) few.tuples few.worlds
+
+-- a statement that is put in where it did not stand, and taken out again, leaves the list as it was
+pub taken_back : (xs : List Stmt) (s : Stmt) → ascending statement_cmp xs ≡ true → stands xs s ≡ false → without_statement (with_statement xs s) s ≡ xs
+taken_back xs s up new =
+    members_make_set statement_exact (without_statement (with_statement xs s) s) xs (take_keeps_order statement_exact (with_statement xs s) s (put_keeps_order statement_exact xs s up)) up
+    (λ z. take_drops_member statement_exact (with_statement xs s) s z ∙ ap (λ b. not (is_eq (statement_cmp s z)) && b) (put_adds_member statement_exact xs s z) ∙ by z)
+  where
+    by : (z : Stmt) → (not (is_eq (statement_cmp s z)) && (is_eq (statement_cmp s z) || stands xs z)) ≡ stands xs z
+    by z = elim (cases_Bool (is_eq (statement_cmp s z))) [
+      | inl e ↦ ap (λ b. not b && (b || stands xs z)) e ∙ sym new ∙ ap (stands xs) (statement_exact.exact s z (is_eq-Equal (statement_cmp s z) e))
+      | inr e ↦ ap (λ b. not b && (b || stands xs z)) e
+    ]

@@ -1,8 +1,7 @@
 // The command that adds a statement.
-ghost use Rattle.std.specs.Prelude.{◌≡◌, true, false, None, IfOk, length};
+ghost use Rattle.std.specs.Prelude.{◌≡◌, true, false, None, IfOk};
 ghost use Rattle.bdb_base.specs.Bases.{IsValid, key_lengths, stands, with_statement, world_count, tuple_count};
 ghost use Rattle.bdb_base.specs.Worlds.{contradicted};
-ghost use Rattle.bdb_base.specs.States.{new_states};
 ghost use Rattle.bdb_bind.specs.Fits.{fits_catalog};
 ghost use Rattle.bdb_keep.specs.Seen.{IsStill};
 ghost use Rattle.bdb_tables.specs.Holds.{Holds};
@@ -19,6 +18,7 @@ use bdb_base::{Exact, List, Stmt, What, has_tuple};
 use bdb_bind::Bound;
 use bdb_keep::Keeper;
 use bdb_model::clashing_among;
+use bdb_paths::new_state_count;
 use bdb_render::{Refusal, count_reply};
 use std::alloc::AllocError;
 
@@ -84,7 +84,7 @@ impl Session {
     fn worlds_with(&self, stmt: &Stmt) -> usize
         ensures { result ≡ world_count (with_statement self.now.stmts stmt.now) }
     {
-        self.counts.worlds + new_worlds(self.base.stmts(), stmt.path.as_slice())
+        self.counts.worlds + new_state_count(self.base.stmts(), stmt.path.as_slice())
     }
 
     /// How many different tuples there would be with one more statement.
@@ -152,11 +152,4 @@ impl Session {
         self.counts = counts;
         Ok(Reply::accepted(text))
     }
-}
-
-/// How many prefixes of a path are no states yet.
-fn new_worlds(_stmts: &[Stmt], _path: &[u32]) -> usize
-    ensures { result ≡ length (new_states _stmts.now _path.now) }
-{
-    0
 }
