@@ -1,12 +1,13 @@
 -- What a delete and an update do to the rows that hold a base.
-use Rattle.std.proofs.Common.{◌≡◌, ◌∙◌, ℕ, Bool, true, false, not, ◌||◌, List, map, refl, sym}
+use Rattle.std.proofs.Common.{◌≡◌, ◌∙◌, ℕ, ◌+◌, ◌<◌, Bool, true, false, not, ◌||◌, List, ◌∷◌, map, length, drop, get_or, refl, ap, sym}
+use Rattle.std.proofs.lemmas.List.{drop_more}
 use Rattle.std.specs.List.{AllByRecursion, list_any, list_all}
 use Rattle.std.proofs.lemmas.Bool.{not_from_true}
 use Rattle.bdb_base.specs.declared.kinds.Cond.{Cond}
 use Rattle.bdb_base.specs.declared.kinds.SetCol.{SetCol}
 use Rattle.bdb_base.specs.declared.kinds.Sign.{Sign}
 use Rattle.bdb_base.specs.declared.kinds.Stmt.{Stmt}
-use Rattle.bdb_base.specs.Bases.{Contents, IsValid, belongs}
+use Rattle.bdb_base.specs.Bases.{Contents, IsValid, belongs, with_statement}
 use Rattle.bdb_base.specs.Changes.{is_taken, taken_by, without_taken, with_statements, updated, changed_statement}
 use Rattle.bdb_base.proofs.ListLemmas.{list_all-filter, list_any_fails, list_all_from_none}
 use Rattle.bdb_base.proofs.UpdateLemmas.{delete_is_valid, list_any-with}
@@ -47,3 +48,11 @@ pub update_rows : (t : Tables) (b : Contents) (w : List ℕ) (s : Sign) (rel : �
 update_rows t b w s rel conds sets h valid more fits =
     put_adds_statements (without_rows t (taken_by w s rel conds b.stmts)) (record b { stmts = without_taken w s rel conds b.stmts }) (map (changed_statement sets) (taken_by w s rel conds b.stmts))
     (delete_rows t b w s rel conds h valid) fits (delete_is_valid b.catalog b.stmts w s rel conds valid) more
+
+-- a step of a loop that puts statements in
+pub with_step : (xs : List Stmt) (i : ℕ) (x : Stmt) (set next all : List Stmt) → i < length xs → x ≡ get_or xs i x → next ≡ with_statement set x → with_statements set (drop i xs) ≡ all
+    → with_statements next (drop (i + 1) xs) ≡ all
+with_step xs i x set next all h r e rest =
+    ap (λ l. with_statements l (drop (i + 1) xs)) e
+    ∙ ap (λ y. with_statements set (y ∷ drop (i + 1) xs)) r
+    ∙ ap (with_statements set) (sym (drop_more xs i x h)) ∙ rest

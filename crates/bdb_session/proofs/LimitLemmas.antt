@@ -1,11 +1,12 @@
 -- Which limit a base passes.
-use Rattle.std.proofs.Common.{◌≡◌, ℕ, ◌≤◌, Bool, true, false, length, Option, Some, None, refl, arith, ltb, leb}
+use Rattle.std.proofs.Common.{◌≡◌, ℕ, ◌≤◌, Bool, true, false, length, Option, Some, None, refl, ap, ◌∙◌, arith, ltb, leb}
 use Rattle.std.specs.Prelude.{if◌then◌else◌}
 use Rattle.std.proofs.lemmas.Bool.Decides.{nat_tests}
 use Rattle.bdb_base.specs.declared.kinds.What.{What}
 use Rattle.bdb_base.specs.declared.kinds.What.TheVariants.{Users, Relations, Worlds, Tuples, Statements}
 use Rattle.bdb_base.specs.Bases.{Contents, IsValid, tuple_count, world_count}
-use Rattle.bdb_session.specs.Machine.{passed_limit}
+use Rattle.bdb_session.specs.declared.limits.Counts.{Counts}
+use Rattle.bdb_session.specs.Machine.{passed_limit, limit_passed, counts_of}
 
 -- what is at most a number isn't above it
 above_false : (m n : ℕ) → leb n m ≡ true → ltb m n ≡ false
@@ -57,3 +58,10 @@ within_limits b e =
       tuples = at_most 4000 (tuple_count b.stmts) s.0;
       stmts = at_most 20000 (length b.stmts) t.0;
     }
+
+-- the limit that is found by the counts of a base is the one that it passes
+pub limit_is : (b : Contents) (o : Option What) (users rels : ℕ) (counts : Counts) (n : ℕ) → o ≡ limit_passed users rels counts n
+    → users ≡ length b.catalog.users → rels ≡ length b.catalog.rels → counts ≡ counts_of b.stmts → n ≡ length b.stmts → o ≡ passed_limit b
+limit_is b o users rels counts n e u r c s =
+    e ∙ ap (λ k. limit_passed k rels counts n) u ∙ ap (λ k. limit_passed (length b.catalog.users) k counts n) r
+    ∙ ap (λ k. limit_passed (length b.catalog.users) (length b.catalog.rels) k n) c ∙ ap (limit_passed (length b.catalog.users) (length b.catalog.rels) (counts_of b.stmts)) s

@@ -90,3 +90,18 @@ accepted_is_served b reply asked now rows old new u r text accepted next holds d
   cause = record { later = done.cause.later; rose = λ e. absurd cc };
   err = tt;
 }
+
+-- what is accepted and changes nothing is committed with the rows as they were
+pub nothing_is_served : (b : Contents) (refused : Option Refusal) (reply : List ℕ) (old new : Seen) (result : Result Reply StopError) → refused ≡ None → Holds old.kept b
+    → IfOk result (λ r. r.text ≡ reply) → IfOk result (λ r. r.accepted ≡ true) → Commits old.kept old new result → IsServed b refused reply b b old new result
+nothing_is_served b refused reply old new result e holds text accepted done = served_by b refused None reply b b old new result e (by result text accepted done)
+  where
+    by : (result : Result Reply StopError) → IfOk result (λ r. r.text ≡ reply) → IfOk result (λ r. r.accepted ≡ true) → Commits old.kept old new result → IsServed b None reply b b old new result
+    by (Ok r) text accepted done = accepted_is_served b reply b b old.kept old new r r text accepted refl holds done
+    by (Err stop) text accepted done = stopped_is_served b None reply b old.kept old new stop holds done
+
+-- the reply and the base that are asked for, where they are known
+pub served_as : (b : Contents) (refused : Option Refusal) (reply known : List ℕ) (asked reached now : Contents) (old new : Seen) (result : Result Reply StopError) → reply ≡ known → asked ≡ reached
+    → IsServed b refused known reached now old new result → IsServed b refused reply asked now old new result
+served_as b refused reply known asked reached now old new result e f h =
+    subst (λ (x : List ℕ). IsServed b refused x asked now old new result) (sym e) (subst (λ (x : Contents). IsServed b refused known x now old new result) (sym f) h)
