@@ -1,8 +1,8 @@
 // The command that adds a statement.
-ghost use Rattle.std.specs.Prelude.{◌≡◌, true, false, None, IfOk, length};
+ghost use Rattle.std.specs.Prelude.{◌≡◌, ◌≤◌, true, false, None, IfOk, length};
+ghost use Rattle.bdb_render.specs.Replies.{count_reply};
 ghost use Rattle.bdb_base.specs.Bases.{IsValid, key_lengths, stands, with_statement, world_count, tuple_count};
 ghost use Rattle.bdb_base.specs.Worlds.{contradicted};
-ghost use Rattle.bdb_base.specs.States.{new_states};
 ghost use Rattle.bdb_bind.specs.Fits.{fits_catalog};
 ghost use Rattle.bdb_keep.specs.Seen.{IsStill};
 ghost use Rattle.bdb_tables.specs.Holds.{Holds};
@@ -15,10 +15,11 @@ use crate::reply::Reply;
 use crate::session::Session;
 use crate::stop::StopError;
 use crate::transact::{commit_nothing, commit_statement};
-use bdb_base::{Exact, List, Stmt, What, has_tuple};
+use bdb_base::{Exact, List, Stmt, What, contains, has_tuple};
 use bdb_bind::Bound;
 use bdb_keep::Keeper;
 use bdb_model::clashing_among;
+use bdb_paths::new_state_count;
 use bdb_render::{Refusal, count_reply};
 use std::alloc::AllocError;
 
@@ -44,6 +45,7 @@ impl Session {
 
     /// Why an insert is refused.
     fn insert_refusal(&self, stmt: &Stmt) -> Result<Option<Refusal>, AllocError>
+        requires { length stmt.now.path ≤ 16 }
         ensures { IfOk result (λ r. r ≡ refusal_of_bound self.now (Bound.Insert stmt.now)) }
     {
         match clashing_among(
@@ -62,6 +64,7 @@ impl Session {
 
     /// The limit that the base would pass with one more statement.
     fn limit_passed_with(&self, stmt: &Stmt) -> Option<What>
+        requires { length stmt.now.path ≤ 16 }
         ensures { result ≡ passed_limit (asked_base self.now (Bound.Insert stmt.now)) }
     {
         let users = self.base.catalog().users.len();
@@ -73,6 +76,7 @@ impl Session {
 
     /// The counts with one more statement.
     fn counts_with(&self, stmt: &Stmt) -> Counts
+        requires { length stmt.now.path ≤ 16 }
         ensures { result ≡ counts_of (with_statement self.now.stmts stmt.now) }
     {
         let worlds = self.worlds_with(stmt);
@@ -82,9 +86,10 @@ impl Session {
 
     /// How many worlds there would be with one more statement.
     fn worlds_with(&self, stmt: &Stmt) -> usize
+        requires { length stmt.now.path ≤ 16 }
         ensures { result ≡ world_count (with_statement self.now.stmts stmt.now) }
     {
-        self.counts.worlds + new_worlds(self.base.stmts(), stmt.path.as_slice())
+        self.counts.worlds + new_state_count(self.base.stmts(), stmt.path.as_slice())
     }
 
     /// How many different tuples there would be with one more statement.
@@ -107,15 +112,25 @@ impl Session {
         ensures { IsServed self.old None (accepted_reply self.old (Bound.Insert stmt)) (asked_base self.old (Bound.Insert stmt))
             self.new (K.seen keeper.old) (K.seen keeper.new) result }
     {
-        let count = if self.base.stands(&stmt) { 0 } else { 1 };
-        let text = match count_reply(self.alloc, count) {
-            Ok(text) => text,
-            Err(_) => return Err(StopError::Memory),
-        };
-        if count == 0 {
-            return commit_nothing(keeper, text);
+        if contains(self.base.stmts(), &stmt) {
+            return self.add_nothing(keeper);
         }
-        self.add_statement(keeper, stmt, text)
+        match count_reply(self.alloc, 1) {
+            Ok(text) => self.add_statement(keeper, stmt, text),
+            Err(_) => Err(StopError::Memory),
+        }
+    }
+
+    /// Answers that no statement was added.
+    fn add_nothing<K: Keeper>(&self, keeper: &mut K) -> Result<Reply, StopError>
+        requires still { IsStill (K.seen keeper.old) }
+        requires agrees { Holds (K.seen keeper.old).kept self.now }
+        ensures { IsServed self.now None (count_reply 0) self.now self.now (K.seen keeper.old) (K.seen keeper.new) result }
+    {
+        match count_reply(self.alloc, 0) {
+            Ok(text) => commit_nothing(keeper, text),
+            Err(_) => Err(StopError::Memory),
+        }
     }
 
     /// Adds a statement that isn't refused and doesn't stand. It is taken back where its row is not committed.
@@ -127,6 +142,7 @@ impl Session {
     ) -> Result<Reply, StopError>
         requires still { IsStill (K.seen keeper.old) }
         requires agrees { Holds (K.seen keeper.old).kept self.old }
+        requires short { length stmt.path ≤ 16 }
         requires new { stands self.old.stmts stmt ≡ false }
         requires apart { contradicted (key_lengths self.old.catalog.rels) self.old.stmts stmt.path stmt.tuple stmt.sign ≡ false }
         requires valid { IsValid self.old.catalog (with_statement self.old.stmts stmt) }
@@ -152,11 +168,4 @@ impl Session {
         self.counts = counts;
         Ok(Reply::accepted(text))
     }
-}
-
-/// How many prefixes of a path are no states yet.
-fn new_worlds(_stmts: &[Stmt], _path: &[u32]) -> usize
-    ensures { result ≡ length (new_states _stmts.now _path.now) }
-{
-    0
 }

@@ -1,9 +1,9 @@
 // The limits of a base.
 ghost use Rattle.std.specs.Prelude.{◌≡◌, IfOk};
-ghost use Rattle.bdb_base.specs.Bases.{world_count};
 ghost use Rattle.bdb_session.specs.Machine.{limit_passed, counts_of};
 
 use bdb_base::{Stmt, What, distinct_tuples};
+use bdb_paths::states_of;
 use std::alloc::{AllocError, Global};
 
 /// How many users there may be.
@@ -35,15 +35,9 @@ pub struct Counts {
 pub(crate) fn counts_of(alloc: Global, stmts: &[Stmt]) -> Result<Counts, AllocError>
     ensures { IfOk result (λ counts. counts ≡ counts_of stmts.now) }
 {
-    let worlds = distinct_worlds(alloc, stmts)?;
+    let worlds = states_of(alloc, stmts)?.len();
     let tuples = distinct_tuples(alloc, stmts)?;
     Ok(Counts { worlds, tuples })
-}
-
-fn distinct_worlds(_alloc: Global, _stmts: &[Stmt]) -> Result<usize, AllocError>
-    ensures { IfOk result (λ count. count ≡ world_count _stmts.now) }
-{
-    Err(AllocError)
 }
 
 /// The first limit that is passed by so many users, relations, worlds, tuples and statements.

@@ -10,12 +10,12 @@ use crate::reply::Reply;
 use crate::session::Session;
 use crate::stop::StopError;
 use crate::transact::commit_nothing;
-use bdb_base::{List, Path};
+use bdb_base::{Catalog, List, Path, Stmt};
 use bdb_bind::Bound;
 use bdb_keep::Keeper;
 use bdb_model::world_among;
 use bdb_render::world_reply;
-use std::alloc::AllocError;
+use std::alloc::{AllocError, Global};
 
 impl Session {
     /// Shows the world of a path. It changes nothing and is never refused.
@@ -29,18 +29,24 @@ impl Session {
         ensures { IsServed self.now (refusal_of_bound self.now (Bound.ShowWorld path.now)) (accepted_reply self.now (Bound.ShowWorld path.now))
             (asked_base self.now (Bound.ShowWorld path.now)) self.now (K.seen keeper.old) (K.seen keeper.new) result }
     {
-        match self.world_text(path) {
+        let stmts = self.base.stmts();
+        match world_text(self.alloc, self.base.catalog(), stmts, path.as_slice()) {
             Ok(text) => commit_nothing(keeper, text),
             Err(_) => Err(StopError::Memory),
         }
     }
+}
 
-    /// The text of the world of a path.
-    fn world_text(&self, path: &Path) -> Result<List<u8>, AllocError>
-        ensures { IfOk result (λ text. text ≡ world_reply self.now.catalog (world_at self.now path.now)) }
-    {
-        let world = world_among(self.alloc, self.base.stmts(), path.as_slice())?;
-        let text = world_reply(self.alloc, self.base.catalog(), &world)?;
-        Ok(text)
-    }
+/// The text of the world of a path.
+fn world_text(
+    alloc: Global,
+    catalog: &Catalog,
+    stmts: &[Stmt],
+    path: &[u32],
+) -> Result<List<u8>, AllocError>
+    ensures { IfOk result (λ text. text ≡ world_reply catalog.now (world_at (record { catalog = catalog.now; stmts = stmts.now }) path.now)) }
+{
+    let world = world_among(alloc, stmts, path)?;
+    let text = world_reply(alloc, catalog, &world)?;
+    Ok(text)
 }

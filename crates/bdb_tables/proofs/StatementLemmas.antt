@@ -69,7 +69,7 @@ put_again t p r h = same_map nat_list_cmp_total same_bytes (tables.insert t p r)
     ]
 
 -- a statement put where it stands changes nothing
-put_stands : (xs : List Stmt) (y : Stmt) → ascending statement_cmp xs ≡ true → stands xs y ≡ true → with_statement xs y ≡ xs
+pub put_stands : (xs : List Stmt) (y : Stmt) → ascending statement_cmp xs ≡ true → stands xs y ≡ true → with_statement xs y ≡ xs
 put_stands xs y up here = members_make_set statement_exact (with_statement xs y) xs (put_keeps_order statement_exact xs y up) up (λ z. put_adds_member statement_exact xs y z ∙ by z)
   where
     by : (z : Stmt) → (is_eq (statement_cmp y z) || stands xs z) ≡ stands xs z
