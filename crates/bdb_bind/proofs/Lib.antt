@@ -8,4 +8,5 @@ pub mod Misfits
 pub mod PathLemmas
 pub mod Repeats
 pub mod SafeLemmas
+pub mod SafetyLemmas
 pub mod ScopeLemmas

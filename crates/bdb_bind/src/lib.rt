@@ -6,6 +6,7 @@ mod binding;
 mod bound;
 mod columns;
 mod kinds;
+mod laws;
 mod lookup;
 mod making;
 mod names;
@@ -22,4 +23,5 @@ mod tests;
 
 pub use binding::{bind, is_built};
 pub use bound::{BindError, Bound};
+pub use laws::{test_tells_bound, test_tells_safe};
 pub use safety::safe;
