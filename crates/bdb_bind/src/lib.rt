@@ -23,5 +23,5 @@ mod tests;
 
 pub use binding::{bind, is_built};
 pub use bound::{BindError, Bound};
-pub use laws::{test_tells_bound, test_tells_safe};
+pub use laws::{test_tells_bound, test_tells_safe, what_is_bound_fits};
 pub use safety::safe;
