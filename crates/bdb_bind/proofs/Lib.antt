@@ -12,4 +12,5 @@ pub mod QueryFitting
 pub mod Repeats
 pub mod SafeLemmas
 pub mod SafetyLemmas
+pub mod Samples
 pub mod ScopeLemmas

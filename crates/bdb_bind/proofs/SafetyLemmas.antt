@@ -106,12 +106,12 @@ item_clear rels q n (Users alias) safe at = refl
 item_clear rels q n (Rel alias rel Plus path) safe at = refl
 item_clear rels q n (Rel alias rel Minus path) safe at =
     none_unbound q.items (bound_columns q.items q.conds) (0 + n) 0 (columns_at rels rel) (λ (k : ℕ) (there : is_some (slice_get (columns_at rels rel) k) ≡ true).
-      let r : Ref = record { item = 0 + n; col = 0 + k } in
-      let here : slice_get q.items (0 + n) ≡ Some (Rel alias rel Minus path) = ap (slice_get q.items) (zero-add n) ∙ at in
-      let kind : is_some (slice_get (map (λ c. c.kind) (columns_at rels rel)) (0 + k)) ≡ true =
-      ap (λ j. is_some (slice_get (map (λ c. c.kind) (columns_at rels rel)) j)) (zero-add k) ∙ kind_there (columns_at rels rel) k ∙ there in
-      let column : is_some (column_kind rels q.items r) ≡ true = ap (λ o. is_some (option_and_then (λ i. slice_get (item_kinds rels i) (0 + k)) o)) here ∙ kind in
-      (test_tells_bound q r).1 (safe r (record { minus = ap is_minus here; there = column })))
+    let r : Ref = record { item = 0 + n; col = 0 + k } in
+    let here : slice_get q.items (0 + n) ≡ Some (Rel alias rel Minus path) = ap (slice_get q.items) (zero-add n) ∙ at in
+    let kind : is_some (slice_get (map (λ c. c.kind) (columns_at rels rel)) (0 + k)) ≡ true =
+    ap (λ j. is_some (slice_get (map (λ c. c.kind) (columns_at rels rel)) j)) (zero-add k) ∙ kind_there (columns_at rels rel) k ∙ there in
+    let column : is_some (column_kind rels q.items r) ≡ true = ap (λ o. is_some (option_and_then (λ i. slice_get (item_kinds rels i) (0 + k)) o)) here ∙ kind in
+    (test_tells_bound q r).1 (safe r (record { minus = ap is_minus here; there = column })))
 
 none_from_test : {X : Type 0} (o : Option X) → is_none o ≡ true → o ≡ None
 none_from_test None e = refl

@@ -11,7 +11,11 @@ use bdb_syntax::{RawCol, RawQuery, RawSide, RawWho};
 use std::alloc::Global;
 
 /// Refuses the first column that its item does not have, or that stands after BELIEF and isn't the number of a user.
-pub fn check_query_columns(alloc: Global, rels: &[RelDef], query: &RawQuery) -> Result<(), BindError>
+pub fn check_query_columns(
+    alloc: Global,
+    rels: &[RelDef],
+    query: &RawQuery,
+) -> Result<(), BindError>
     ensures { Checks result (query_column rels.now query.now) }
 {
     check_columns(alloc, rels, query)?;
@@ -29,7 +33,12 @@ fn check_later_columns(alloc: Global, rels: &[RelDef], query: &RawQuery) -> Resu
 }
 
 /// Refuses a column that its item does not have.
-fn check_column(alloc: Global, rels: &[RelDef], query: &RawQuery, col: &RawCol) -> Result<(), BindError>
+fn check_column(
+    alloc: Global,
+    rels: &[RelDef],
+    query: &RawQuery,
+    col: &RawCol,
+) -> Result<(), BindError>
     ensures { Checks result (column_missing rels.now query.now.items col.now) }
 {
     if column_place(rels, query.items.as_slice(), col).is_none() {

@@ -17,9 +17,9 @@ mod refusals;
 mod safety;
 mod scope;
 mod shape;
-mod unsafes;
 #[cfg(test)]
 mod tests;
+mod unsafes;
 
 pub use binding::{bind, is_built};
 pub use bound::{BindError, Bound};
