@@ -69,8 +69,8 @@ more_bound_with q known (Some s) bound e = λ (r : Ref) (there : list_any (same_
     elim (or_cases (list_any (same_column r) known) (same_column r s || false) (sym (list_any-append (same_column r) known (s ∷ [])) ∙ there)) [
       | inl before ↦ bound r before
       | inr last ↦ elim (or_cases (same_column r s) false last) [
-          | inl same ↦ subst (IsBound q) (sym (same_column_equal r s same)) (next_bound q known q.conds s bound (λ (c : Cond) (one : IsOneOf c q.conds). one) e)
-          | inr never ↦ cc
+        | inl same ↦ subst (IsBound q) (sym (same_column_equal r s same)) (next_bound q known q.conds s bound (λ (c : Cond) (one : IsOneOf c q.conds). one) e)
+        | inr never ↦ cc
       ]
     ]
 

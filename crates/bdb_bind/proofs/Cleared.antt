@@ -51,8 +51,18 @@ cleared catalog c e =
     let p1 = neither _ _ e in let p2 = neither _ _ p1.1 in let p3 = neither _ _ p2.1 in let p4 = neither _ _ p3.1 in let p5 = neither _ _ p4.1 in let p6 = neither _ _ p5.1 in
     let p7 = neither _ _ p6.1 in let p8 = neither _ _ p7.1 in let p9 = neither _ _ p8.1 in let p10 = neither _ _ p9.1 in let p11 = neither _ _ p10.1 in let p12 = neither _ _ p11.1 in
     record {
-      text = p1.0; items = p2.0; relation = p3.0; user = p4.0; alias_twice = p5.0; alias = p6.0; column = p7.0; taken = p8.0; no_repeat = p9.0; deep = p10.0;
-      arity = p11.0; kinds = p12.0;
+      text = p1.0;
+      items = p2.0;
+      relation = p3.0;
+      user = p4.0;
+      alias_twice = p5.0;
+      alias = p6.0;
+      column = p7.0;
+      taken = p8.0;
+      no_repeat = p9.0;
+      deep = p10.0;
+      arity = p11.0;
+      kinds = p12.0;
     }
 
 pub no_long_text : (c : Command) → text_line c ≡ None → some_text is_long c ≡ false

@@ -120,7 +120,7 @@ not_both_before items known c s (its_left fresh right left) = and_left _ _ fresh
 
 -- ---- how many comparisons have a side that isn't known
 
-one_unless : Bool → ℕ
+pub one_unless : Bool → ℕ
 one_unless true = 0
 one_unless false = 1
 
@@ -144,7 +144,7 @@ unfolding one_unless
 none_then_true true e = refl
 none_then_true false e = absurd (omega arith)
 
-open_count : List Item → List Ref → List Cond → ℕ
+pub open_count : List Item → List Ref → List Cond → ℕ
 open_count items known [] = 0
 open_count items known (c ∷ cs) = one_unless (are_both_known items known c) + open_count items known cs
 

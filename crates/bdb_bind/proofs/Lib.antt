@@ -2,10 +2,15 @@ pub mod BoundLemmas
 pub mod CatalogLemmas
 pub mod Cleared
 pub mod ColumnLemmas
+pub mod FitLemmas
+pub mod Fitting
 pub mod Founds
 pub mod KnownLemmas
 pub mod Misfits
 pub mod PathLemmas
+pub mod QueryFitting
 pub mod Repeats
 pub mod SafeLemmas
+pub mod SafetyLemmas
+pub mod Samples
 pub mod ScopeLemmas

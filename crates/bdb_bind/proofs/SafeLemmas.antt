@@ -62,7 +62,7 @@ few_of_query catalog c q accepted same = few_by_line c q (cleared catalog c acce
 few_bound : (catalog : Catalog) (raw : RawQuery) (q : Query) → length raw.items ≤ 8 → bound_query catalog raw ≡ q → length q.items < 2 ^ 32
 unfolding bound_query
 few_bound catalog raw q few same =
-    let many : length q.items ≡ length raw.items = ap (λ x. length x.items) (sym same) ∙ length-map (query_item catalog raw.items) raw.items in
+    let many : length q.items ≡ length raw.items = ap (λ x. length x.items) (sym same) ∙ length-map raw.items (query_item catalog raw.items) in
     omega arith
 
 pub selected_few : (catalog : Catalog) (c : Command) (q : Query) → names_refused catalog c ≡ None → bound_of catalog c ≡ bound.Select q → length q.items < 2 ^ 32

@@ -71,10 +71,13 @@ in_who rule (who.Col c) = rule c
 abbrev pub in_path : (RawCol → Option BindError) → RawItem → Option BindError
 in_path rule i = first_in (in_who rule) i.path
 
--- a rule for the columns of a query, and one for those after BELIEF: select columns, each item's path, comparisons
+-- a rule for the columns of a query behind `from`, and one for those after BELIEF: each item's path, then comparisons
+abbrev pub in_later_columns : (RawCol → Option BindError) → (RawCol → Option BindError) → RawQuery → Option BindError
+in_later_columns rule path_rule q = or_next (first_in (in_path path_rule) q.items) (first_in (in_cond rule) q.conds)
+
+-- the same for all columns of a query: select columns come first
 abbrev pub in_columns : (RawCol → Option BindError) → (RawCol → Option BindError) → RawQuery → Option BindError
-in_columns rule path_rule q = or_next (first_in rule q.take)
-    (or_next (first_in (in_path path_rule) q.items) (first_in (in_cond rule) q.conds))
+in_columns rule path_rule q = or_next (first_in rule q.take) (in_later_columns rule path_rule q)
 
 -- no item has a column's alias
 abbrev pub column_alias : List RawItem → RawCol → Option BindError

@@ -6,13 +6,13 @@ ghost use Rattle.bdb_bind.specs.Firsts.{Checks};
 ghost use Rattle.bdb_bind.specs.Refusal.{names_refused, refusal_of};
 ghost use Rattle.bdb_bind.specs.Binding.{bound_of};
 
+use crate::aliases::{check_aliases, check_aliases_differ};
 use crate::bound::{BindError, Bound};
 use crate::kinds::check_kinds;
 use crate::making::bound_of;
-use crate::aliases::{check_aliases, check_aliases_differ};
 use crate::names::{check_columns, check_relation, check_taken, check_users};
-use crate::unsafes::check_safe;
 use crate::shape::{check_arity, check_depth, check_items, check_repeat, check_texts};
+use crate::unsafes::check_safe;
 use bdb_base::Catalog;
 use bdb_syntax::Command;
 use std::alloc::Global;

@@ -6,6 +6,7 @@ mod binding;
 mod bound;
 mod columns;
 mod kinds;
+mod laws;
 mod lookup;
 mod making;
 mod names;
@@ -16,10 +17,11 @@ mod refusals;
 mod safety;
 mod scope;
 mod shape;
-mod unsafes;
 #[cfg(test)]
 mod tests;
+mod unsafes;
 
 pub use binding::{bind, is_built};
 pub use bound::{BindError, Bound};
+pub use laws::{test_tells_bound, test_tells_safe, what_is_bound_fits};
 pub use safety::safe;

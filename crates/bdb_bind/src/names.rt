@@ -8,8 +8,8 @@ ghost use Rattle.bdb_bind.specs.Firsts.{Checks};
 ghost use Rattle.bdb_bind.specs.Lines.{unknown_relation, relation_line, unknown_user, user_line, missing_column, change_column, column_line, first_repeated, taken_line};
 
 use crate::bound::BindError;
-use crate::lookup::{column_at, columns_of, is_same, number_of, uid_of};
 use crate::columns::check_query_columns;
+use crate::lookup::{column_at, columns_of, is_same, number_of, uid_of};
 use crate::parts::{path_names, query_of, relation_name};
 use crate::queries::{check_query_relations, check_query_users};
 use crate::refusals::{taken_name, taken_user, unknown_column, unknown_relation, unknown_user};
@@ -80,7 +80,11 @@ pub fn check_columns(alloc: Global, catalog: &Catalog, command: &Command) -> Res
 }
 
 /// Refuses the first column of a change that the relation does not have.
-fn check_change_columns(alloc: Global, catalog: &Catalog, command: &Command) -> Result<(), BindError>
+fn check_change_columns(
+    alloc: Global,
+    catalog: &Catalog,
+    command: &Command,
+) -> Result<(), BindError>
     ensures { Checks result (change_column catalog.now command.now) }
 {
     let rels = catalog.rels.as_slice();

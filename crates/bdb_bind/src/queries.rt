@@ -24,7 +24,11 @@ pub fn check_query_items(query: &RawQuery) -> Result<(), BindError>
 }
 
 /// Refuses the first item whose relation isn't in the catalog.
-pub fn check_query_relations(alloc: Global, rels: &[RelDef], query: &RawQuery) -> Result<(), BindError>
+pub fn check_query_relations(
+    alloc: Global,
+    rels: &[RelDef],
+    query: &RawQuery,
+) -> Result<(), BindError>
     ensures { Checks result (query_relation rels.now query.now) }
 {
     let items = query.items.as_slice();
@@ -144,7 +148,12 @@ pub fn check_query_kinds(alloc: Global, rels: &[RelDef], query: &RawQuery) -> Re
     Ok(())
 }
 
-fn check_cond(alloc: Global, rels: &[RelDef], items: &[RawItem], cond: &RawCond) -> Result<(), BindError>
+fn check_cond(
+    alloc: Global,
+    rels: &[RelDef],
+    items: &[RawItem],
+    cond: &RawCond,
+) -> Result<(), BindError>
     ensures { Checks result (cond_kind rels.now items.now cond.now) }
 {
     let left = kind_named(rels, items, &cond.left);

@@ -53,7 +53,12 @@ fn query_column_at(catalog: &Catalog, items: &[RawItem], col: &RawCol) -> Ref
     Ref { item, col }
 }
 
-fn bound_columns(alloc: Global, catalog: &Catalog, items: &[RawItem], cols: &[RawCol]) -> Result<List<Ref>, AllocError>
+fn bound_columns(
+    alloc: Global,
+    catalog: &Catalog,
+    items: &[RawItem],
+    cols: &[RawCol],
+) -> Result<List<Ref>, AllocError>
     requires catalog { IsCatalog catalog.now }
     requires few { length items.now ≤ 8 }
     ensures { IfOk result (λ b. b ≡ map (query_column_at catalog.now.rels items.now) cols.now) }
@@ -65,7 +70,12 @@ fn bound_columns(alloc: Global, catalog: &Catalog, items: &[RawItem], cols: &[Ra
     Ok(bound)
 }
 
-fn query_side(alloc: Global, catalog: &Catalog, items: &[RawItem], side: &RawSide) -> Result<Operand, AllocError>
+fn query_side(
+    alloc: Global,
+    catalog: &Catalog,
+    items: &[RawItem],
+    side: &RawSide,
+) -> Result<Operand, AllocError>
     requires catalog { IsCatalog catalog.now }
     requires few { length items.now ≤ 8 }
     ensures { IfOk result (λ b. b ≡ query_side catalog.now.rels items.now side.now) }
@@ -76,7 +86,12 @@ fn query_side(alloc: Global, catalog: &Catalog, items: &[RawItem], side: &RawSid
     }
 }
 
-fn query_cond(alloc: Global, catalog: &Catalog, items: &[RawItem], cond: &RawCond) -> Result<Cond, AllocError>
+fn query_cond(
+    alloc: Global,
+    catalog: &Catalog,
+    items: &[RawItem],
+    cond: &RawCond,
+) -> Result<Cond, AllocError>
     requires catalog { IsCatalog catalog.now }
     requires few { length items.now ≤ 8 }
     ensures { IfOk result (λ b. b ≡ query_cond catalog.now.rels items.now cond.now) }
@@ -89,7 +104,12 @@ fn query_cond(alloc: Global, catalog: &Catalog, items: &[RawItem], cond: &RawCon
     })
 }
 
-fn bound_conds(alloc: Global, catalog: &Catalog, items: &[RawItem], conds: &[RawCond]) -> Result<List<Cond>, AllocError>
+fn bound_conds(
+    alloc: Global,
+    catalog: &Catalog,
+    items: &[RawItem],
+    conds: &[RawCond],
+) -> Result<List<Cond>, AllocError>
     requires catalog { IsCatalog catalog.now }
     requires few { length items.now ≤ 8 }
     ensures { IfOk result (λ b. b ≡ map (query_cond catalog.now.rels items.now) conds.now) }
@@ -114,7 +134,12 @@ fn query_who(catalog: &Catalog, items: &[RawItem], who: &RawWho) -> Who
     }
 }
 
-fn bound_path(alloc: Global, catalog: &Catalog, items: &[RawItem], path: &[RawWho]) -> Result<List<Who>, AllocError>
+fn bound_path(
+    alloc: Global,
+    catalog: &Catalog,
+    items: &[RawItem],
+    path: &[RawWho],
+) -> Result<List<Who>, AllocError>
     requires catalog { IsCatalog catalog.now }
     requires few { length items.now ≤ 8 }
     ensures { IfOk result (λ b. b ≡ map (query_who catalog.now.users items.now) path.now) }
@@ -127,7 +152,12 @@ fn bound_path(alloc: Global, catalog: &Catalog, items: &[RawItem], path: &[RawWh
 }
 
 #[tactic(auto, using(crate::proofs::CatalogLemmas::relations_few))]
-fn query_item(alloc: Global, catalog: &Catalog, items: &[RawItem], item: &RawItem) -> Result<Item, AllocError>
+fn query_item(
+    alloc: Global,
+    catalog: &Catalog,
+    items: &[RawItem],
+    item: &RawItem,
+) -> Result<Item, AllocError>
     requires catalog { IsCatalog catalog.now }
     requires few { length items.now ≤ 8 }
     ensures { IfOk result (λ b. b ≡ query_item catalog.now items.now item.now) }
@@ -145,7 +175,12 @@ fn query_item(alloc: Global, catalog: &Catalog, items: &[RawItem], item: &RawIte
     })
 }
 
-fn bound_items(alloc: Global, catalog: &Catalog, items: &[RawItem], rest: &[RawItem]) -> Result<List<Item>, AllocError>
+fn bound_items(
+    alloc: Global,
+    catalog: &Catalog,
+    items: &[RawItem],
+    rest: &[RawItem],
+) -> Result<List<Item>, AllocError>
     requires catalog { IsCatalog catalog.now }
     requires few { length items.now ≤ 8 }
     ensures { IfOk result (λ b. b ≡ map (query_item catalog.now items.now) rest.now) }

@@ -21,7 +21,11 @@ pub fn safe(alloc: Global, catalog: &Catalog, q: &Query) -> Result<Option<(u32, 
 
 /// The same, where the items and columns can be numbered.
 #[tactic(auto, unfolding(crate::specs::Safe::first_unbound))]
-pub fn first_unbound(alloc: Global, rels: &[RelDef], q: &Query) -> Result<Option<(u32, u32)>, AllocError>
+pub fn first_unbound(
+    alloc: Global,
+    rels: &[RelDef],
+    q: &Query,
+) -> Result<Option<(u32, u32)>, AllocError>
     requires items { length q.now.items < 2 ^ 32 }
     requires columns { list_all (λ def. nat_lt (length def.cols) (2 ^ 32)) rels.now ≡ true }
     ensures { IfOk result (λ first. first ≡ first_unbound rels.now q.now) }
@@ -47,7 +51,13 @@ fn unbound_among(rels: &[RelDef], items: &[Item], known: &[Ref]) -> Option<(u32,
 }
 
 /// The first column of a minus item that isn't known.
-fn unbound_of(rels: &[RelDef], items: &[Item], known: &[Ref], at: u32, item: &Item) -> Option<(u32, u32)>
+fn unbound_of(
+    rels: &[RelDef],
+    items: &[Item],
+    known: &[Ref],
+    at: u32,
+    item: &Item,
+) -> Option<(u32, u32)>
     requires columns { list_all (λ def. nat_lt (length def.cols) (2 ^ 32)) rels.now ≡ true }
     ensures { result ≡ unbound_of rels.now items.now known.now at item.now }
 {

@@ -15,7 +15,12 @@ use std::alloc::{AllocError, Global};
 
 /// Refuses a query that isn't safe.
 #[tactic(auto, unfolding(crate::specs::Refusal::unsafe_line), using(crate::proofs::SafeLemmas::selected_few, crate::proofs::SafeLemmas::explained_few, crate::proofs::SafeLemmas::catalog_few))]
-pub fn check_safe(alloc: Global, catalog: &Catalog, command: &Command, bound: &Bound) -> Result<(), BindError>
+pub fn check_safe(
+    alloc: Global,
+    catalog: &Catalog,
+    command: &Command,
+    bound: &Bound,
+) -> Result<(), BindError>
     requires catalog { IsCatalog catalog.now }
     requires accepted { names_refused catalog.now command.now ≡ None }
     requires made { bound.now ≡ bound_of catalog.now command.now }
