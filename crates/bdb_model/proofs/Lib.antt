@@ -1,3 +1,4 @@
 pub mod BaseLemmas
 pub mod ChoosingLemmas
 pub mod LevelLemmas
+pub mod SourceLemmas

@@ -1,7 +1,7 @@
 -- Where the values of a query's minus items come from: for each of their columns a literal, or a column of a `Users` item or
 -- a plus item, to which equal comparisons lead. A source is written as an equality of the column with it.
-use Rattle.std.specs.Prelude.{◌≡◌, Bool, true, not, ◌&&◌, List, [], ◌∷◌, Option, None, Some, cond, find}
-use Rattle.std.specs.List.{list_all, slice_get}
+use Rattle.std.specs.Prelude.{◌≡◌, Bool, true, not, ◌&&◌, List, [], ◌∷◌, Option, None, Some, cond, filter, find}
+use Rattle.std.specs.List.{list_all, slice_get, flat_map}
 use Rattle.std.specs.Option.{option_map, is_some}
 use Rattle.bdb_base.specs.declared.kinds.Cmp.TheVariants.{Eq}
 use Rattle.bdb_base.specs.declared.kinds.Cond.{Cond}
@@ -63,10 +63,18 @@ is_simple items (Lit v) = true
 abbrev pub is_source : List Item → Cond → Bool
 is_source items c = is_equality c.cmp && is_simple items c.right
 
--- the columns that comparisons name
+-- the column of a comparison's right side
 abbrev pub operand_columns : Operand → List Ref
 operand_columns (Col r) = r ∷ []
 operand_columns (Lit v) = []
+
+-- the columns that comparisons name
+abbrev pub named_columns : List Cond → List Ref
+named_columns conds = flat_map (λ c. c.left ∷ operand_columns c.right) conds
+
+-- the columns that comparisons name and that have no source
+abbrev pub missing : List Item → List Cond → List Cond → List Ref
+missing items sources conds = filter (λ r. not (is_some (source_in items sources r))) (named_columns conds)
 
 -- Equalities are the sources of a query: they hold wherever its comparisons do, each is with a literal or a given column,
 -- and each bound column has one.
