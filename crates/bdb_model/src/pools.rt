@@ -4,7 +4,7 @@ ghost use Rattle.std.specs.Option.{option_copied};
 ghost use Rattle.std.specs.List.{slice_get};
 ghost use Rattle.bdb_base.specs.Queries.{columns_at};
 ghost use Rattle.bdb_model.specs.Pools.{world_at, item_world, user_pool, plus_tuples, plus_pool, plus_pools, sourced_value, sourced_values, denies, is_denied, denied_tuples, minus_pool, minus_pools};
-ghost use Rattle.bdb_model.specs.Slots.{lent, user_tuples};
+ghost use Rattle.bdb_model.specs.Slots.{user_tuples};
 
 use crate::fitting::fits_relation;
 use crate::rows::world_among;
@@ -20,10 +20,10 @@ use std::alloc::{AllocError, Global};
 pub fn worlds_of(
     alloc: Global,
     stmts: &[Stmt],
-    slots: &[Option<&Tuple>],
+    slots: &[Option<Tuple>],
     items: &[Item],
 ) -> Result<Vec<List<Held>>, AllocError>
-    ensures { IfOk result (λ worlds. worlds.items ≡ map (item_world stmts.now (lent slots.now)) items.now) }
+    ensures { IfOk result (λ worlds. worlds.items ≡ map (item_world stmts.now slots.now) items.now) }
 {
     let mut worlds = Vec::new(alloc);
     for item in items {
@@ -35,10 +35,10 @@ pub fn worlds_of(
 fn item_world(
     alloc: Global,
     stmts: &[Stmt],
-    slots: &[Option<&Tuple>],
+    slots: &[Option<Tuple>],
     item: &Item,
 ) -> Result<List<Held>, AllocError>
-    ensures { IfOk result (λ world. world ≡ item_world stmts.now (lent slots.now) item.now) }
+    ensures { IfOk result (λ world. world ≡ item_world stmts.now slots.now item.now) }
 {
     match item {
         Item::Users { .. } => Ok(List::new(alloc)),
@@ -163,11 +163,11 @@ pub fn minus_pools(
     alloc: Global,
     rels: &[RelDef],
     sources: &[Cond],
-    slots: &[Option<&Tuple>],
+    slots: &[Option<Tuple>],
     items: &[Item],
     worlds: &[List<Held>],
 ) -> Result<Vec<Option<List<Tuple>>>, AllocError>
-    ensures { IfOk result (λ pools. pools.items ≡ minus_pools rels.now sources.now (lent slots.now) 0 items.now worlds.now) }
+    ensures { IfOk result (λ pools. pools.items ≡ minus_pools rels.now sources.now slots.now 0 items.now worlds.now) }
 {
     let mut pools = Vec::new(alloc);
     push_minus_pools(alloc, &mut pools, rels, sources, slots, 0, items, worlds)?;
@@ -179,13 +179,13 @@ fn push_minus_pools(
     pools: &mut Vec<Option<List<Tuple>>>,
     rels: &[RelDef],
     sources: &[Cond],
-    slots: &[Option<&Tuple>],
+    slots: &[Option<Tuple>],
     at: usize,
     items: &[Item],
     worlds: &[List<Held>],
 ) -> Result<(), AllocError>
     requires { at + length items.now < 2 ^ 64 }
-    ensures { OnOk result (pools.new.items ≡ pools.old.items ++ minus_pools rels.now sources.now (lent slots.now) at items.now worlds.now) }
+    ensures { OnOk result (pools.new.items ≡ pools.old.items ++ minus_pools rels.now sources.now slots.now at items.now worlds.now) }
 {
     match (items, worlds) {
         ([item, items @ ..], [world, worlds @ ..]) => {
@@ -209,12 +209,12 @@ fn minus_pool(
     alloc: Global,
     rels: &[RelDef],
     sources: &[Cond],
-    slots: &[Option<&Tuple>],
+    slots: &[Option<Tuple>],
     at: usize,
     item: &Item,
     world: &[Held],
 ) -> Result<Option<List<Tuple>>, AllocError>
-    ensures { IfOk result (λ pool. pool ≡ minus_pool rels.now sources.now (lent slots.now) at item.now world.now) }
+    ensures { IfOk result (λ pool. pool ≡ minus_pool rels.now sources.now slots.now at item.now world.now) }
 {
     match item {
         Item::Users { .. } => Ok(None),
@@ -269,11 +269,11 @@ fn sourced_tuple(
     alloc: Global,
     rels: &[RelDef],
     sources: &[Cond],
-    slots: &[Option<&Tuple>],
+    slots: &[Option<Tuple>],
     item: usize,
     rel: u32,
 ) -> Result<Option<List<Value>>, AllocError>
-    ensures { IfOk result (λ vals. vals ≡ sourced_values sources.now (lent slots.now) item 0 (columns_at rels.now rel)) }
+    ensures { IfOk result (λ vals. vals ≡ sourced_values sources.now slots.now item 0 (columns_at rels.now rel)) }
 {
     match rels.get(rel as usize) {
         Some(def) => {
@@ -287,11 +287,11 @@ fn sourced_tuple(
 fn sourced_values(
     alloc: Global,
     sources: &[Cond],
-    slots: &[Option<&Tuple>],
+    slots: &[Option<Tuple>],
     item: usize,
     cols: &[ColDef],
 ) -> Result<Option<List<Value>>, AllocError>
-    ensures { IfOk result (λ vals. vals ≡ sourced_values sources.now (lent slots.now) item 0 cols.now) }
+    ensures { IfOk result (λ vals. vals ≡ sourced_values sources.now slots.now item 0 cols.now) }
 {
     let mut vals = List::new(alloc);
     for col in 0..cols.len() {
@@ -306,11 +306,11 @@ fn sourced_values(
 /// The value of a column by its source.
 fn sourced_value<'a>(
     sources: &'a [Cond],
-    slots: &[Option<&'a Tuple>],
+    slots: &'a [Option<Tuple>],
     item: usize,
     col: usize,
 ) -> Option<&'a Value>
-    ensures { option_copied result ≡ sourced_value sources.now (lent slots.now) (record { item = item; col = col }) }
+    ensures { option_copied result ≡ sourced_value sources.now slots.now (record { item = item; col = col }) }
 {
     match source_of(sources, item, col) {
         Some(source) => known_operand(slots, source),

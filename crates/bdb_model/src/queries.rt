@@ -5,7 +5,6 @@ ghost use Rattle.bdb_base.specs.Queries.{active_domain, HasValues, answers_of, a
 ghost use Rattle.bdb_base.specs.Safety.{query_fits, IsSafe};
 ghost use Rattle.bdb_model.specs.Answering.{open_slots};
 ghost use Rattle.bdb_model.specs.Limits.{up_to};
-ghost use Rattle.bdb_model.specs.Slots.{lent};
 
 use crate::choosing::choose;
 use crate::found::Found;
@@ -58,8 +57,8 @@ pub fn answers_up_to(
 }
 
 /// Nothing is chosen for any item.
-fn open_slots<'a>(alloc: Global, items: &[Item]) -> Result<Vec<Option<&'a Tuple>>, AllocError>
-    ensures { IfOk result (λ slots. lent slots.items ≡ open_slots items.now) }
+fn open_slots(alloc: Global, items: &[Item]) -> Result<Vec<Option<Tuple>>, AllocError>
+    ensures { IfOk result (λ slots. slots.items ≡ open_slots items.now) }
 {
     let mut slots = Vec::new(alloc);
     for _item in items {

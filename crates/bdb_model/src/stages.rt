@@ -3,7 +3,6 @@
 ghost use Rattle.std.specs.Prelude.{◌≡◌, OnOk};
 ghost use Rattle.bdb_model.specs.Answering.{last_rows, rows_of_tuples, rows_of_users};
 ghost use Rattle.bdb_model.specs.Collected.{with_rows};
-ghost use Rattle.bdb_model.specs.Slots.{lent};
 
 use crate::choosing::{Stage, choose};
 use crate::found::Found;
@@ -43,7 +42,7 @@ impl Stage for UsersChosen<'_> {
     fn add_rows(
         &self,
         alloc: Global,
-        slots: &[Option<&Tuple>],
+        slots: &[Option<Tuple>],
         found: &mut Found,
     ) -> Result<(), AllocError> {
         let items = self.query.items.as_slice();
@@ -69,7 +68,7 @@ impl Stage for TuplesChosen<'_> {
     fn add_rows(
         &self,
         alloc: Global,
-        slots: &[Option<&Tuple>],
+        slots: &[Option<Tuple>],
         found: &mut Found,
     ) -> Result<(), AllocError> {
         let rels = self.base.catalog().rels.as_slice();
@@ -90,7 +89,7 @@ impl Stage for AllChosen<'_> {
     fn add_rows(
         &self,
         alloc: Global,
-        slots: &[Option<&Tuple>],
+        slots: &[Option<Tuple>],
         found: &mut Found,
     ) -> Result<(), AllocError> {
         if !must_all_hold(slots, self.query.conds.as_slice()) {
