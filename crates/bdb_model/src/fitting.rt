@@ -1,6 +1,6 @@
 // Whether values fit the columns of a relation.
-ghost use Rattle.std.specs.Prelude.{◌≡◌};
-ghost use Rattle.std.specs.List.{slice_get};
+ghost use Rattle.std.specs.Prelude.{◌≡◌, nat_le};
+ghost use Rattle.std.specs.List.{list_all, slice_get};
 ghost use Rattle.bdb_base.specs.Bases.{is_plain, fits_kind, fits_columns, fits_definition};
 
 use bdb_base::{ColDef, Kind, RelDef, Txt, Value};
@@ -18,12 +18,12 @@ pub fn fits_relation(rels: &[RelDef], rel: u32, vals: &[Value]) -> bool
 fn fits_columns(cols: &[ColDef], vals: &[Value]) -> bool
     ensures { result ≡ fits_columns cols.now vals.now }
 {
-    match (cols, vals) {
-        ([], []) => true,
-        ([col, cols @ ..], [value, vals @ ..]) => {
-            fits_kind(col.kind, value) && fits_columns(cols, vals)
-        }
-        _ => false,
+    match cols {
+        [] => vals.is_empty(),
+        [col, cols @ ..] => match vals {
+            [] => false,
+            [value, vals @ ..] => fits_kind(col.kind, value) && fits_columns(cols, vals),
+        },
     }
 }
 
@@ -41,5 +41,11 @@ fn fits_kind(kind: Kind, value: &Value) -> bool
 fn is_plain(text: &Txt) -> bool
     ensures { result ≡ is_plain text.now }
 {
-    text.len() <= 255 && text.as_str().as_bytes().iter().all(|c| 32 <= *c)
+    text.len() <= 255 && are_printable(text.as_str().as_bytes())
+}
+
+fn are_printable(bytes: &[u8]) -> bool
+    ensures { result ≡ list_all (λ c. nat_le 32 c) bytes.now }
+{
+    bytes.iter().all(|c| 32 <= *c)
 }

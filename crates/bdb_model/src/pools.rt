@@ -116,13 +116,16 @@ fn push_plus_pools(
 ) -> Result<(), AllocError>
     ensures { OnOk result (pools.new.items ≡ pools.old.items ++ plus_pools items.now worlds.now) }
 {
-    match (items, worlds) {
-        ([item, items @ ..], [world, worlds @ ..]) => {
-            pools.push(plus_pool(alloc, item, world.as_slice())?)?;
-            push_plus_pools(alloc, pools, items, worlds)?;
-            Ok(())
-        }
-        _ => Ok(()),
+    match items {
+        [] => Ok(()),
+        [item, items @ ..] => match worlds {
+            [] => Ok(()),
+            [world, worlds @ ..] => {
+                pools.push(plus_pool(alloc, item, world.as_slice())?)?;
+                push_plus_pools(alloc, pools, items, worlds)?;
+                Ok(())
+            }
+        },
     }
 }
 
@@ -187,21 +190,17 @@ fn push_minus_pools(
     requires { at + length items.now < 2 ^ 64 }
     ensures { OnOk result (pools.new.items ≡ pools.old.items ++ minus_pools rels.now sources.now slots.now at items.now worlds.now) }
 {
-    match (items, worlds) {
-        ([item, items @ ..], [world, worlds @ ..]) => {
-            pools.push(minus_pool(
-                alloc,
-                rels,
-                sources,
-                slots,
-                at,
-                item,
-                world.as_slice(),
-            )?)?;
-            push_minus_pools(alloc, pools, rels, sources, slots, at + 1, items, worlds)?;
-            Ok(())
-        }
-        _ => Ok(()),
+    match items {
+        [] => Ok(()),
+        [item, items @ ..] => match worlds {
+            [] => Ok(()),
+            [world, worlds @ ..] => {
+                let pool = minus_pool(alloc, rels, sources, slots, at, item, world.as_slice())?;
+                pools.push(pool)?;
+                push_minus_pools(alloc, pools, rels, sources, slots, at + 1, items, worlds)?;
+                Ok(())
+            }
+        },
     }
 }
 
@@ -294,7 +293,7 @@ fn sourced_values(
     ensures { IfOk result (λ vals. vals ≡ sourced_values sources.now slots.now item 0 cols.now) }
 {
     let mut vals = List::new(alloc);
-    for col in 0..cols.len() {
+    for (col, _column) in cols.iter().enumerate() {
         match sourced_value(sources, slots, item, col) {
             Some(value) => vals.push(value.try_clone(alloc)?)?,
             None => return Ok(None),
