@@ -104,7 +104,8 @@ tuple_count stmts = distinct_count same_tuple (map (λ x. x.tuple) stmts)
 abbrev pub world_count : List Stmt → ℕ
 world_count stmts = distinct_count same_path (stated_prefixes stmts)
 
--- the statements are in order, belong to the catalog, do not clash at one path, and are not too many
+-- the statements are in order, belong to the catalog and do not clash at one path; they, their tuples and their worlds
+-- are not too many
 pub record AreStatements (c : Catalog) (stmts : List Stmt) : Type 0 where
   pub sorted : ascending statement_cmp stmts ≡ true
   pub belong : list_all (belongs c) stmts ≡ true

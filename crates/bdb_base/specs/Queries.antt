@@ -139,9 +139,9 @@ abbrev pub active_domain : Contents → Query → List Value
 active_domain b q = flat_map (λ x. x.tuple.vals) b.stmts
     ++ (map Text (user_names b.catalog.users) ++ (map (λ uid. Int (pos uid)) (user_numbers b.catalog.users) ++ flat_map (λ c. literal_of c.right) q.conds))
 
--- one domain has the values of another
+-- a domain has all these values
 abbrev pub HasValues : List Value → List Value → Type 0
-HasValues dom more = list_all (in_domain dom) more ≡ true
+HasValues dom part = list_all (in_domain dom) part ≡ true
 
 -- ---- the answers
 
@@ -150,6 +150,7 @@ abbrev pub chosen_row : List (List ℕ) → List Choice → List Ref → Option 
 chosen_row users chosen [] = Some []
 chosen_row users chosen (r ∷ rs) = option_and_then (λ v. option_map (λ vs. v ∷ vs) (chosen_row users chosen rs)) (chosen_value users chosen r)
 
+-- the columns of a relation that may not be there
 abbrev pub columns_of_definition : Option RelDef → List ColDef
 columns_of_definition None = []
 columns_of_definition (Some def) = def.cols

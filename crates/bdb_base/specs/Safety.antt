@@ -79,8 +79,8 @@ abbrev pub item_fits : Catalog → List Item → Item → Bool
 item_fits catalog items (Users alias) = true
 item_fits catalog items (Rel alias rel sign path) = is_some (slice_get catalog.rels rel) && (list_all (who_fits catalog.users items) path && fixed_differ path)
 
--- A query fits a catalog: all that it names is there, each comparison joins one kind, and no path has two neighbouring
--- fixed users that are equal.
+-- A query fits a catalog: its items and each relation's columns can be numbered, all that it names is there, each
+-- comparison joins one kind, its literals are plain, and no path has two neighbouring fixed users that are equal.
 abbrev pub query_fits : Catalog → Query → Bool
 query_fits catalog q = nat_lt (length q.items) (2 ^ 32) && (list_all (λ def. nat_lt (length def.cols) (2 ^ 32)) catalog.rels
     && (list_all (item_fits catalog q.items) q.items
