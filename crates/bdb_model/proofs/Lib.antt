@@ -1,4 +1,5 @@
 pub mod BaseLemmas
 pub mod ChoosingLemmas
+pub mod ClashLemmas
 pub mod LevelLemmas
 pub mod SourceLemmas
