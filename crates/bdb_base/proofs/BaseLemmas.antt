@@ -46,7 +46,7 @@ clash_turned keys a Plus b Minus = turned same_tuple same_tuple-Decides a b
 clash_turned keys a Minus b Plus = turned same_tuple same_tuple-Decides a b
 clash_turned keys a Minus b Minus = refl
 
-clash_itself : (keys : ℕ → ℕ) (t : Tuple) (s : Sign) → clash keys t s t s ≡ false
+pub clash_itself : (keys : ℕ → ℕ) (t : Tuple) (s : Sign) → clash keys t s t s ≡ false
 clash_itself keys t Plus = and_right (same_key keys t t) (not (same_tuple t t)) (not_from_true (same_tuple t t) ((same_tuple-Decides t t).1 refl))
 clash_itself keys t Minus = refl
 

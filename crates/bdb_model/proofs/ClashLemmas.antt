@@ -5,7 +5,7 @@ use Rattle.std.specs.declared.cmp.Ordering.{Ordering}
 use Rattle.std.specs.declared.cmp.Ordering.TheVariants.{Less, Equal, Greater}
 use Rattle.std.specs.List.{list_any, list_all}
 use Rattle.std.specs.Ordering.{nat_cmp, is_lt, is_eq, ordering_then}
-use Rattle.std.proofs.lemmas.Bool.{true≢false, false≢true, cases_Bool, and_parts, and_from, and_left, and_right, or_parts, or_from, or_left, cond-true, cond-false, false_from_ne_true, not_from_true, not_from_false, eqb-true, eq-eqb}
+use Rattle.std.proofs.lemmas.Bool.{true≢false, false≢true, cases_Bool, and_parts, and_from, and_left, and_right, or_parts, or_from, or_left, cond-true, cond-false, false_from_ne_true, not_from_false, eqb-true, eq-eqb}
 use Rattle.std.proofs.lemmas.Bool.Decides.{nat_tests}
 use Rattle.std.proofs.lemmas.Cmp.{tied_itself}
 use Rattle.bdb_base.specs.declared.kinds.Sign.{Sign}
@@ -22,6 +22,7 @@ use Rattle.bdb_base.specs.Same.{same_path, same_tuple, same_values, same_sign}
 use Rattle.bdb_base.specs.SameLemmas.{same_path-Decides, same_tuple-Decides, same_values-Decides, same_sign-Decides}
 use Rattle.bdb_base.specs.SortedSet.{ascending}
 use Rattle.bdb_base.specs.Worlds.{contradicted}
+use Rattle.bdb_base.proofs.BaseLemmas.{clash_itself}
 use Rattle.bdb_base.proofs.ClashLemmas.{clash_is_symmetric}
 use Rattle.bdb_base.proofs.ListLemmas.{list_any_fails}
 use Rattle.bdb_base.proofs.SetLemmas.{cases_Ordering, greater_from_less}
@@ -47,11 +48,7 @@ or_dropped true true false d h = refl
 or_dropped true false c d h = refl
 or_dropped false b c d h = refl
 
-clash_itself : (keys : ℕ → ℕ) (t : Tuple) (s : Sign) → clash keys t s t s ≡ false
-clash_itself keys t Plus = and_right (same_key keys t t) (not (same_tuple t t)) (not_from_true (same_tuple t t) ((same_tuple-Decides t t).1 refl))
-clash_itself keys t Minus = refl
-
--- a statement clashes with itself never, so with others alone
+-- a statement does not clash with itself: what contradicts it is another one
 own_contradiction : (keys : ℕ → ℕ) (x : Stmt) (xs : List Stmt) (w : List ℕ) → contradicted keys (x ∷ xs) w x.tuple x.sign ≡ contradicted keys xs w x.tuple x.sign
 own_contradiction keys x xs w = ap (λ b. b || contradicted keys xs w x.tuple x.sign)
     (and_right (same_path x.path w) (clash keys x.tuple x.sign x.tuple x.sign) (clash_itself keys x.tuple x.sign))

@@ -1,9 +1,8 @@
 -- What is chosen so far for a query's items: for each item a tuple, or nothing yet. A chosen user stands as a tuple of its
 -- number and name, with its number in place of a relation's.
 use Rattle.std.specs.Prelude.{ℕ, Bool, true, suc, List, [], ◌∷◌, map, Option, None, Some, pos, slice_set}
-use Rattle.std.specs.Borrow.{Bor}
 use Rattle.std.specs.List.{list_all, slice_get}
-use Rattle.std.specs.Option.{option_map, option_and_then, option_copied}
+use Rattle.std.specs.Option.{option_map, option_and_then}
 use Rattle.bdb_base.specs.declared.kinds.Cmp.{Cmp}
 use Rattle.bdb_base.specs.declared.kinds.Cond.{Cond}
 use Rattle.bdb_base.specs.declared.kinds.Operand.{Operand}
@@ -16,10 +15,6 @@ use Rattle.bdb_base.specs.declared.kinds.Who.TheVariants.{User, Of}
 use Rattle.bdb_base.specs.declared.tuple.Tuple.{Tuple}
 use Rattle.bdb_base.specs.Conditions.{compares, compare_so}
 use Rattle.bdb_base.specs.Order.{value_cmp}
-
--- what references lend
-abbrev pub lent : List (Option (Bor Tuple)) → List (Option Tuple)
-lent slots = map option_copied slots
 
 -- what is chosen for the item at a place
 abbrev pub slot_at : List (Option Tuple) → ℕ → Option Tuple

@@ -5,11 +5,15 @@ mod bases;
 mod beliefs;
 mod choosing;
 mod conflicts;
+mod fitting;
 mod found;
 mod levels;
+mod pools;
 mod queries;
 mod rows;
 mod slots;
+mod sources;
+mod stages;
 #[cfg(test)]
 mod tests;
 

@@ -3,9 +3,15 @@ ghost use Rattle.std.specs.Prelude.{◌≡◌, true, List, IfOk};
 ghost use Rattle.bdb_base.specs.declared.kinds.Value.{Value};
 ghost use Rattle.bdb_base.specs.Queries.{active_domain, HasValues, answers_of, answers_over};
 ghost use Rattle.bdb_base.specs.Safety.{query_fits, IsSafe};
+ghost use Rattle.bdb_model.specs.Answering.{open_slots};
 ghost use Rattle.bdb_model.specs.Limits.{up_to};
 
-use bdb_base::{Base, List, Query, Value};
+use crate::choosing::choose;
+use crate::found::Found;
+use crate::pools::user_pools;
+use crate::sources::sources_of;
+use crate::stages::UsersChosen;
+use bdb_base::{Base, Item, List, Query, Tuple, Value};
 use std::alloc::{AllocError, Global};
 
 /// The answers of a safe query over a base, in order, each once. They are the same over each domain that has the values
@@ -16,7 +22,10 @@ pub fn answers(alloc: Global, base: &Base, q: &Query) -> Result<List<List<Value>
     ensures rows { IfOk result (λ rows. rows ≡ answers_of base.now q.now) }
     ensures domains { IfOk result (λ rows. (dom : List Value) → HasValues dom (active_domain base.now q.now) → rows ≡ answers_over base.now dom q.now) }
 {
-    Err(AllocError)
+    match answers_up_to(alloc, base, q, usize::MAX)? {
+        Some(rows) => Ok(rows),
+        None => Err(AllocError),
+    }
 }
 
 /// The answers of a safe query over a base, where there are at most so many; none exactly where there are more. It
@@ -32,5 +41,28 @@ pub fn answers_up_to(
     ensures rows { IfOk result (λ rows. rows ≡ up_to most (answers_of base.now q.now)) }
     ensures domains { IfOk result (λ rows. (dom : List Value) → HasValues dom (active_domain base.now q.now) → rows ≡ up_to most (answers_over base.now dom q.now)) }
 {
-    Err(AllocError)
+    let items = q.items.as_slice();
+    let sources = sources_of(alloc, q)?;
+    let pools = user_pools(alloc, base.catalog().users.as_slice(), items)?;
+    let slots = open_slots(alloc, items)?;
+    let stage = UsersChosen {
+        base,
+        query: q,
+        sources: sources.as_slice(),
+    };
+    let mut found = Found::new(alloc, most);
+    choose(alloc, &stage, q.conds.as_slice(), 0, pools.as_slice(), slots.as_slice(), &mut found)?;
+    let rows = found.into_rows(alloc)?;
+    Ok(rows)
+}
+
+/// Nothing is chosen for any item.
+fn open_slots(alloc: Global, items: &[Item]) -> Result<Vec<Option<Tuple>>, AllocError>
+    ensures { IfOk result (λ slots. slots.items ≡ open_slots items.now) }
+{
+    let mut slots = Vec::new(alloc);
+    for _item in items {
+        slots.push(None)?;
+    }
+    Ok(slots)
 }
