@@ -97,10 +97,13 @@ fewer_tuples q stmts =
   where
     all : List Tuple
     all = tuples_of stmts
+
     few : Tuple → Bool
     few = is_member tuple_cmp (tuples_of (filter q stmts))
+
     listed : (xs : List Stmt) (t : Tuple) → is_member tuple_cmp (tuples_of xs) t ≡ list_any (λ x. same_tuple x.tuple t) xs
     listed xs t = set_keeps_members tuple_exact (map (λ x. x.tuple) xs) t ∙ member_of_map xs t
+
     same : (t : Tuple) → is_member tuple_cmp (filter few all) t ≡ few t
     same t = elim (cases_Bool (few t)) [
       | inl e ↦

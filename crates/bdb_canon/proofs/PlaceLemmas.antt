@@ -91,18 +91,28 @@ edges_lead_to_states stmts w i = target_stands (states_of stmts) (w ++ i ∷ [])
 
 -- ---- the lists of a valid base
 
-pub states_of_valid : (c : Catalog) (stmts : List Stmt) → IsValid c stmts → AreStates (states_of stmts)
-states_of_valid c stmts v =
-    let n = states_are_counted stmts in
-    let m = leb-true (world_count stmts) 2000 v.stmts.few_worlds in
-    record { sorted = set_is_ascending path_exact (stated_prefixes stmts); root = root_is_listed stmts; few = omega arith }
+pub few_states : (c : Catalog) (stmts : List Stmt) → IsValid c stmts → length (states_of stmts) ≤ 2000
+few_states c stmts v = let n = states_are_counted stmts in let m = leb-true (world_count stmts) 2000 v.stmts.few_worlds in omega arith
 
-pub tuples_of_valid : (c : Catalog) (stmts : List Stmt) → IsValid c stmts → AreTuples (tuples_of stmts)
-tuples_of_valid c stmts v =
+pub few_tuples : (c : Catalog) (stmts : List Stmt) → IsValid c stmts → length (tuples_of stmts) ≤ 4000
+few_tuples c stmts v =
     let ts = map (λ (x : Stmt). x.tuple) stmts in
     let n : length (tuples_of stmts) ≡ tuple_count stmts = ap length (sym (loop_makes_set tuple_exact ts)) ∙ put_all_count same_tuple same_tuple-Decides tuple_exact ts in
     let m = leb-true (tuple_count stmts) 4000 v.stmts.few_tuples in
-    record { sorted = set_is_ascending tuple_exact ts; few = omega arith }
+    omega arith
 
-pub users_of_valid : (c : Catalog) (stmts : List Stmt) → IsValid c stmts → length c.users < 2 ^ 32
-users_of_valid c stmts v = let m = leb-true (length c.users) 256 v.catalog.few_users in omega arith
+pub states_are : (c : Catalog) (stmts : List Stmt) (states : List (List ℕ)) → IsValid c stmts → states ≡ states_of stmts → AreStates states
+states_are c stmts states v e =
+    let n = few_states c stmts v in
+    let l = ap length e in
+    record {
+      sorted = ap (ascending path_cmp) e ∙ set_is_ascending path_exact (stated_prefixes stmts);
+      root = ap (λ xs. is_member path_cmp xs []) e ∙ root_is_listed stmts;
+      few = omega arith;
+    }
+
+pub tuples_are : (c : Catalog) (stmts : List Stmt) (tuples : List Tuple) → IsValid c stmts → tuples ≡ tuples_of stmts → AreTuples tuples
+tuples_are c stmts tuples v e =
+    let n = few_tuples c stmts v in
+    let l = ap length e in
+    record { sorted = ap (ascending tuple_cmp) e ∙ set_is_ascending tuple_exact (map (λ x. x.tuple) stmts); few = omega arith }
