@@ -1,14 +1,11 @@
 -- How many lines the structure has.
-use Rattle.std.proofs.Common.{◌≡◌, ◌∙◌, ℕ, ◌+◌, ◌-◌, ◌<◌, ◌≤◌, Bool, true, false, not, nat_lt, nat_le, cond, List, [], ◌∷◌, ◌++◌, refl, ap, sym, inl, inr, suc, arith, filter, length, map, take, get_or, sum_by, Option, Some, None, is_none, length-append}
+use Rattle.std.proofs.Common.{◌≡◌, ◌∙◌, ℕ, ◌+◌, ◌-◌, ◌<◌, ◌≤◌, Bool, not, nat_lt, nat_le, List, [], ◌∷◌, refl, ap, sym, inl, inr, arith, length, take, get_or, sum_by, Some, None, length-append}
 use Rattle.std.specs.List.{flat_map}
-use Rattle.std.proofs.lemmas.Bool.{cases_Bool, cond-true, cond-false, leb-true, leb-false, le-leb, lt-leb, lt-ltb, le-ltb}
+use Rattle.std.proofs.lemmas.Bool.{cases_Bool, cond-true, cond-false, leb-false, lt-leb}
 use Rattle.std.proofs.lemmas.Bool.Decides.{nat_tests}
-use Rattle.std.proofs.lemmas.List.{length-map, take_all}
+use Rattle.std.proofs.lemmas.List.{length-map}
 use Rattle.std.proofs.lemmas.List.Sums.{sum_by-cons, sum_by_more, sum_by-take-le}
-use Rattle.bdb_base.specs.declared.kinds.Catalog.{Catalog}
-use Rattle.bdb_base.specs.declared.kinds.Stmt.{Stmt}
-use Rattle.bdb_base.specs.declared.tuple.Tuple.{Tuple}
-use Rattle.bdb_base.specs.Bases.{Contents, IsValid, key_lengths}
+use Rattle.bdb_base.specs.Bases.{Contents, key_lengths}
 use Rattle.bdb_base.specs.Order.{path_cmp}
 use Rattle.bdb_base.specs.Queries.{user_numbers}
 use Rattle.bdb_base.specs.Segments.{is_suffix}
@@ -18,8 +15,6 @@ use Rattle.bdb_base.specs.WorldRows.{tuples_of, world_of}
 use Rattle.bdb_base.proofs.ListLemmas.{filter_kept_one, filter_dropped_one}
 use Rattle.bdb_canon.specs.declared.structure.CanonEdge.{CanonEdge}
 use Rattle.bdb_canon.specs.Canonical.{canon_of, edge_count, edges_at, edges_from, left_after, line_count, place_in, row_count, row_entry, rows_from, world_entry}
-use Rattle.bdb_canon.proofs.PlaceLemmas.{few_states, few_tuples}
-use Rattle.bdb_canon.proofs.UserLemmas.{users_are_counted}
 
 -- ---- what is left
 
@@ -29,21 +24,9 @@ left_none n m e = elim (cases_Bool (nat_le m n)) [
   | inr f ↦ leb-false m n f
 ]
 
-pub left_is_none : (n m : ℕ) → is_none (left_after n m) ≡ nat_lt n m
-left_is_none n m = elim (cases_Bool (nat_le m n)) [
-  | inl t ↦ ap is_none (cond-true (nat_le m n) (Some (n - m)) None t) ∙ sym (le-ltb n m (leb-true m n t))
-  | inr f ↦ ap is_none (cond-false (nat_le m n) (Some (n - m)) None f) ∙ sym (lt-ltb n m (leb-false m n f))
-]
-
 -- what passes what is left passes the whole
 pub passes_whole : (n e r : ℕ) → e ≤ n → nat_lt (n - e) r ≡ nat_lt n (e + r)
 passes_whole n e r l = grind (arith, nat_tests)
-
-pub left_some : (n m l : ℕ) → Some l ≡ left_after n m → (m ≤ n) × (l ≡ n - m)
-left_some n m l e = elim (cases_Bool (nat_le m n)) [
-  | inl t ↦ let k : Some l ≡ Some (n - m) = e ∙ cond-true (nat_le m n) (Some (n - m)) None t in let j : l ≡ n - m = cc in (leb-true m n t, j)
-  | inr f ↦ let k : Some l ≡ None = e ∙ cond-false (nat_le m n) (Some (n - m)) None f in cc
-]
 
 pub sum_next : {X : Type 0} (f : X → ℕ) (xs : List X) (i : ℕ) (x : X) → i < length xs → x ≡ get_or xs i x → sum_by f (take (i + 1) xs) ≡ sum_by f (take i xs) + f x
 sum_next f xs i x l is = sum_by_more f xs i x l ∙ ap (λ y. sum_by f (take i xs) + f y) (sym is)
@@ -55,13 +38,6 @@ stops_early f xs i x most left l is e h =
     let a = sum_next f xs i x l is in
     let b = sum_by-take-le f xs (i + 1) in
     sym (cond-false (nat_le (sum_by f xs) most) (Some (most - sum_by f xs)) None (lt-leb (sum_by f xs) most (omega arith)))
-
--- a loop that takes away comes to its end
-pub comes_to_end : {X : Type 0} (f : X → ℕ) (xs : List X) (i : ℕ) (most left : ℕ) → length xs ≤ i → most ≡ left + sum_by f (take i xs) → Some left ≡ left_after most (sum_by f xs)
-comes_to_end f xs i most left l e =
-    let a = ap (sum_by f) (take_all i xs l) in
-    let b : left ≡ most - sum_by f xs = omega arith in
-    ap Some b ∙ sym (cond-true (nat_le (sum_by f xs) most) (Some (most - sum_by f xs)) None (le-leb (sum_by f xs) most (omega arith)))
 
 -- ---- counts
 
@@ -104,14 +80,4 @@ lines_by_counts b =
     let w = length-map states (world_entry states) in
     let e = length-flat_map_same (edges_from users states) (edge_count users) (edges_of_state users states) states in
     let r = length-flat_map_same (rows_from keys b.stmts states tuples) (row_count keys b.stmts) (λ v. length-map (world_of keys b.stmts v) (row_entry states tuples v)) states in
-    omega arith
-
--- the first lines are few
-pub head_is_small : (b : Contents) → IsValid b.catalog b.stmts → length (user_numbers b.catalog.users) + (length b.catalog.rels + (length (tuples_of b.stmts) + length (states_of b.stmts))) ≤ 6320
-head_is_small b v =
-    let u = leb-true (length b.catalog.users) 256 v.catalog.few_users in
-    let n = users_are_counted b.catalog.users in
-    let r = leb-true (length b.catalog.rels) 64 v.catalog.few_rels in
-    let t = few_tuples b.catalog b.stmts v in
-    let s = few_states b.catalog b.stmts v in
     omega arith

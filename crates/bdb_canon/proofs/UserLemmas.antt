@@ -37,5 +37,6 @@ length-numbers : (n : ℕ) (xs : List (List ℕ)) → length (numbers_from n xs)
 length-numbers n [] = refl
 length-numbers n (x ∷ xs) = ap suc (length-numbers (suc n) xs)
 
+-- there are as many numbers as users
 pub users_are_counted : (users : List (List ℕ)) → length (user_numbers users) ≡ length users
 users_are_counted users = ap length (all_are_users users) ∙ length-numbers 1 users

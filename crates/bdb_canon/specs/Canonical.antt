@@ -1,6 +1,6 @@
 -- The finite structure that stands for the worlds of all paths: the states with their suffix links, the tuples of the
 -- statements, the edges, and the rows of the states' worlds. A state or a tuple is named by its place in its list.
-use Rattle.std.specs.Prelude.{◌≡◌, ℕ, ◌+◌, ◌-◌, ◌^◌, ◌<◌, nat_le, Bool, true, not, suc, List, [], ◌∷◌, length, map, filter, Option, Some, None, cond}
+use Rattle.std.specs.Prelude.{◌≡◌, ℕ, ◌+◌, ◌-◌, ◌^◌, ◌<◌, nat_le, true, not, suc, List, [], ◌∷◌, length, map, filter, Option, Some, None, cond}
 use Rattle.std.specs.List.{flat_map}
 use Rattle.std.specs.Option.{option_map}
 use Rattle.std.specs.Ordering.{is_eq}

@@ -3,8 +3,9 @@ ghost use Rattle.std.specs.Prelude.{◌≡◌, ◌+◌, nat_lt, sum_by, IfOk};
 ghost use Rattle.bdb_canon.specs.Canonical.{canon_of, edge_count, left_after, line_count, row_count};
 
 use crate::ends::world_at;
+use crate::structure::Canon;
 use crate::users::user_numbers;
-use bdb_base::{Base, Path, Stmt, path_is_suffix, tuples_of};
+use bdb_base::{Base, Catalog, Path, Stmt, path_is_suffix, tuples_of};
 use bdb_paths::states_of;
 use std::alloc::{AllocError, Global};
 
@@ -49,6 +50,20 @@ fn has_more_parts(
             Ok(rest.is_none())
         }
     }
+}
+
+/// How many lines tell a structure.
+#[tactic(auto, using(crate::proofs::UserLemmas::users_are_counted))]
+pub fn line_count(catalog: &Catalog, canon: &Canon) -> usize
+    ensures { result ≡ line_count catalog.now canon.now }
+{
+    let users = catalog.users.as_slice();
+    let rels = catalog.rels.as_slice();
+    let tuples = canon.tuples.as_slice();
+    let worlds = canon.worlds.as_slice();
+    let edges = canon.edges.as_slice();
+    let rows = canon.rows.as_slice();
+    users.len() + rels.len() + tuples.len() + worlds.len() + edges.len() + rows.len()
 }
 
 /// What the edges of states leave of a number; none where they are more.

@@ -1,4 +1,4 @@
-use Rattle.std.proofs.Common.{◌≡◌, ◌∙◌, ℕ, ◌+◌, ap, length, nat_lt, sum_by, arith}
+use Rattle.std.proofs.Common.{◌≡◌, ◌∙◌, ◌+◌, ap, length, nat_lt, sum_by, arith}
 use Rattle.bdb_base.specs.Queries.{user_numbers}
 use Rattle.bdb_base.specs.States.{states_of}
 use Rattle.bdb_base.specs.WorldRows.{tuples_of}
