@@ -1,5 +1,5 @@
 // The lines of the reply to `show tables`, appended to a buffer.
-ghost use Rattle.std.specs.Prelude.{◌≡◌, ◌+◌, ◌++◌, ◌<◌, length, OnOk};
+ghost use Rattle.std.specs.Prelude.{◌≡◌, ◌+◌, ◌^◌, ◌++◌, ◌<◌, OnOk};
 ghost use Rattle.bdb_render.specs.Tables.{edge_line, relation_line, row_line, signed_at, suffix_text, tuple_line, user_line, world_line};
 
 use crate::lines::{append_mark, append_path, append_signed, append_tuple};
@@ -10,7 +10,7 @@ use std::alloc::AllocError;
 
 /// Appends the line of the user at a place, whose number is one more.
 pub fn append_user(out: &mut Vec<u8>, catalog: &Catalog, at: usize) -> Result<(), AllocError>
-    requires { at < length catalog.now.users }
+    requires { at + 1 < 2 ^ 64 }
     ensures { OnOk result (out.new.items ≡ out.old.items ++ user_line catalog.now (at + 1)) }
 {
     out.extend_from_slice(b"user ")?;

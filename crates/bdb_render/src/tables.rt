@@ -1,6 +1,8 @@
 // The reply to `show tables`.
 ghost use Rattle.std.specs.Prelude.{◌≡◌, ◌++◌, IfOk, OnOk};
-ghost use Rattle.bdb_render.specs.Tables.{catalog_lines, structure_lines, tables_reply};
+ghost use Rattle.std.specs.List.{flat_map};
+ghost use Rattle.bdb_base.specs.Queries.{user_numbers};
+ghost use Rattle.bdb_render.specs.Tables.{catalog_lines, structure_lines, tables_reply, user_line};
 
 use crate::lines::append_count;
 use crate::table_lines as lines;
@@ -20,15 +22,23 @@ pub fn tables_reply(alloc: Global, catalog: &Catalog, canon: &Canon) -> Result<L
 }
 
 /// Appends the lines of the users and of the relations.
-#[tactic(auto, using(bdb_canon::proofs::UserLemmas::next_number, bdb_canon::proofs::UserLemmas::all_numbers))]
 fn append_catalog(out: &mut Vec<u8>, catalog: &Catalog) -> Result<(), AllocError>
     ensures { OnOk result (out.new.items ≡ out.old.items ++ catalog_lines catalog.now) }
 {
-    for at in 0..catalog.users.len() {
-        lines::append_user(out, catalog, at)?;
-    }
+    append_users(out, catalog)?;
     for def in catalog.rels.as_slice() {
         lines::append_relation(out, def)?;
+    }
+    Ok(())
+}
+
+/// Appends the lines of the users.
+fn append_users(out: &mut Vec<u8>, catalog: &Catalog) -> Result<(), AllocError>
+    ensures { OnOk result (out.new.items ≡ out.old.items ++ flat_map (user_line catalog.now) (user_numbers catalog.now.users)) }
+{
+    let users = catalog.users.as_slice();
+    for at in 0..users.len() {
+        lines::append_user(out, catalog, at)?;
     }
     Ok(())
 }
