@@ -2,10 +2,9 @@
 use Rattle.std.proofs.Common.{◌≡◌, ◌∙◌, ℕ, Bool, true, false, not, ◌&&◌, ◌||◌, cond, List, [], ◌∷◌, ◌++◌, refl, ap, sym, inl, inr, filter, map, ◌+◌, ◌<◌, length, take, get_or}
 use Rattle.std.proofs.lemmas.List.{take_more, append-nil}
 use Rattle.std.proofs.lemmas.List.Elements.{filter-append}
-use Rattle.std.specs.List.{list_any, list_all, flat_map}
+use Rattle.std.specs.List.{list_any, flat_map}
 use Rattle.std.specs.Ordering.{is_eq}
-use Rattle.std.proofs.lemmas.Bool.{cases_Bool, and_parts, or_left, or_right, or_cases, false≢true, false_from_ne_true, cond-false}
-use Rattle.std.proofs.lemmas.Map.Views.{any-filter_same}
+use Rattle.std.proofs.lemmas.Bool.{cases_Bool, and_parts, or_right, false≢true, false_from_ne_true, cond-false}
 use Rattle.bdb_base.specs.declared.kinds.Held.{Held}
 use Rattle.bdb_base.specs.declared.kinds.Sign.{Sign}
 use Rattle.bdb_base.specs.declared.kinds.Sign.TheVariants.{Plus, Minus}
@@ -13,12 +12,12 @@ use Rattle.bdb_base.specs.declared.kinds.Stmt.{Stmt}
 use Rattle.bdb_base.specs.declared.tuple.Tuple.{Tuple}
 use Rattle.bdb_base.specs.Clash.{clash}
 use Rattle.bdb_base.specs.Order.{tuple_cmp}
-use Rattle.bdb_base.specs.OrderLemmas.{tuple_exact, is_eq_tuple_cmp}
+use Rattle.bdb_base.specs.OrderLemmas.{tuple_exact}
 use Rattle.bdb_base.specs.Same.{same_path, same_sign, same_tuple}
-use Rattle.bdb_base.specs.SameLemmas.{same_path-Decides, same_tuple-Decides}
+use Rattle.bdb_base.specs.SameLemmas.{same_path-Decides}
 use Rattle.bdb_base.specs.Segments.{is_suffix}
 use Rattle.bdb_base.specs.SortedSet.{is_member}
-use Rattle.bdb_base.specs.WorldRows.{row_at, rows_at, tuples_of, world_of}
+use Rattle.bdb_base.specs.WorldRows.{row_at, rows_at, tuples_of}
 use Rattle.bdb_base.specs.Worlds.{contradicted, explicit, stated}
 use Rattle.bdb_base.proofs.CountLemmas.{list_any-filter_some}
 use Rattle.bdb_base.proofs.ListLemmas.{filter_kept_one, filter_dropped_one}
@@ -97,10 +96,13 @@ fewer_tuples q stmts =
   where
     all : List Tuple
     all = tuples_of stmts
+
     few : Tuple → Bool
     few = is_member tuple_cmp (tuples_of (filter q stmts))
+
     listed : (xs : List Stmt) (t : Tuple) → is_member tuple_cmp (tuples_of xs) t ≡ list_any (λ x. same_tuple x.tuple t) xs
     listed xs t = set_keeps_members tuple_exact (map (λ x. x.tuple) xs) t ∙ member_of_map xs t
+
     same : (t : Tuple) → is_member tuple_cmp (filter few all) t ≡ few t
     same t = elim (cases_Bool (few t)) [
       | inl e ↦

@@ -1,4 +1,5 @@
 pub mod EndLemmas
+pub mod LineLemmas
 pub mod PlaceLemmas
 pub mod RangeLemmas
 pub mod UserLemmas

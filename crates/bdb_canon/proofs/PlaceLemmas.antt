@@ -1,8 +1,7 @@
 -- Places in ascending lists, and where links and edges lead.
-use Rattle.std.proofs.Common.{◌≡◌, ◌∙◌, ℕ, ◌+◌, ◌<◌, ◌≤◌, ◌^◌, Bool, true, false, ◌||◌, List, [], ◌∷◌, ◌++◌, refl, ap, sym, inl, inr, suc, arith, length, map, Some, slice_get, get_or}
+use Rattle.std.proofs.Common.{◌≡◌, ◌∙◌, ℕ, ◌<◌, ◌≤◌, true, false, ◌||◌, List, [], ◌∷◌, ◌++◌, refl, ap, sym, inl, inr, suc, arith, length, map, Some, slice_get, get_or}
 use Prim.Native.Nat.{zero}
-use Rattle.std.specs.List.{list_any, list_all}
-use Rattle.std.specs.Option.{option_and_then}
+use Rattle.std.specs.List.{list_all}
 use Rattle.std.specs.Ordering.{is_eq, is_lt}
 use Rattle.std.specs.declared.cmp.Ordering.{Ordering}
 use Rattle.std.proofs.lemmas.Bool.{cases_Bool, and_parts, or_parts, false≢true, cond-true, cond-false, leb-true}
@@ -16,14 +15,14 @@ use Rattle.bdb_base.specs.OrderLemmas.{path_exact, tuple_exact}
 use Rattle.bdb_base.specs.Same.{same_tuple}
 use Rattle.bdb_base.specs.SameLemmas.{same_tuple-Decides}
 use Rattle.bdb_base.specs.SortedSet.{IsExactOrder, ascending, is_member}
-use Rattle.bdb_base.specs.States.{deepest_suffix, edge_target, is_state, states_of, stated_prefixes, suffix_link}
+use Rattle.bdb_base.specs.States.{deepest_suffix, is_state, states_of, stated_prefixes}
 use Rattle.bdb_base.specs.WorldRows.{tuples_of}
 use Rattle.bdb_base.proofs.CountLemmas.{put_all_count}
 use Rattle.bdb_base.proofs.ListLemmas.{list_all_get}
 use Rattle.bdb_base.proofs.SetLemmas.{is_eq-Equal, is_eq_itself, is_lt-Less, loop_makes_set, set_is_ascending}
 use Rattle.bdb_paths.proofs.StateLemmas.{list_has_states, states_are_counted}
-use Rattle.bdb_paths.proofs.SuffixLemmas.{deepest_is_member, deepest_of_member, deepest_same}
-use Rattle.bdb_canon.specs.Canonical.{AreStates, AreTuples, link_place, place_in, target_place}
+use Rattle.bdb_paths.proofs.SuffixLemmas.{deepest_is_member, deepest_same}
+use Rattle.bdb_canon.specs.Canonical.{AreStates, AreTuples, place_in, target_place}
 use Rattle.bdb_canon.specs.CanonLaws.{LinksLeadToStates, EdgesLeadToStates}
 
 module _ {X : Type 0} {R : X → X → Ordering} (o : IsExactOrder R) where
@@ -91,18 +90,28 @@ edges_lead_to_states stmts w i = target_stands (states_of stmts) (w ++ i ∷ [])
 
 -- ---- the lists of a valid base
 
-pub states_of_valid : (c : Catalog) (stmts : List Stmt) → IsValid c stmts → AreStates (states_of stmts)
-states_of_valid c stmts v =
-    let n = states_are_counted stmts in
-    let m = leb-true (world_count stmts) 2000 v.stmts.few_worlds in
-    record { sorted = set_is_ascending path_exact (stated_prefixes stmts); root = root_is_listed stmts; few = omega arith }
+pub few_states : (c : Catalog) (stmts : List Stmt) → IsValid c stmts → length (states_of stmts) ≤ 2000
+few_states c stmts v = let n = states_are_counted stmts in let m = leb-true (world_count stmts) 2000 v.stmts.few_worlds in omega arith
 
-pub tuples_of_valid : (c : Catalog) (stmts : List Stmt) → IsValid c stmts → AreTuples (tuples_of stmts)
-tuples_of_valid c stmts v =
+pub few_tuples : (c : Catalog) (stmts : List Stmt) → IsValid c stmts → length (tuples_of stmts) ≤ 4000
+few_tuples c stmts v =
     let ts = map (λ (x : Stmt). x.tuple) stmts in
     let n : length (tuples_of stmts) ≡ tuple_count stmts = ap length (sym (loop_makes_set tuple_exact ts)) ∙ put_all_count same_tuple same_tuple-Decides tuple_exact ts in
     let m = leb-true (tuple_count stmts) 4000 v.stmts.few_tuples in
-    record { sorted = set_is_ascending tuple_exact ts; few = omega arith }
+    omega arith
 
-pub users_of_valid : (c : Catalog) (stmts : List Stmt) → IsValid c stmts → length c.users < 2 ^ 32
-users_of_valid c stmts v = let m = leb-true (length c.users) 256 v.catalog.few_users in omega arith
+pub states_are : (c : Catalog) (stmts : List Stmt) (states : List (List ℕ)) → IsValid c stmts → states ≡ states_of stmts → AreStates states
+states_are c stmts states v e =
+    let n = few_states c stmts v in
+    let l = ap length e in
+    record {
+      sorted = ap (ascending path_cmp) e ∙ set_is_ascending path_exact (stated_prefixes stmts);
+      root = ap (λ xs. is_member path_cmp xs []) e ∙ root_is_listed stmts;
+      few = omega arith;
+    }
+
+pub tuples_are : (c : Catalog) (stmts : List Stmt) (tuples : List Tuple) → IsValid c stmts → tuples ≡ tuples_of stmts → AreTuples tuples
+tuples_are c stmts tuples v e =
+    let n = few_tuples c stmts v in
+    let l = ap length e in
+    record { sorted = ap (ascending tuple_cmp) e ∙ set_is_ascending tuple_exact (map (λ x. x.tuple) stmts); few = omega arith }

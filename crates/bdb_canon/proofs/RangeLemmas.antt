@@ -1,13 +1,12 @@
 -- The places of a base's structure are in range.
-use Rattle.std.proofs.Common.{◌≡◌, ◌∙◌, ℕ, ◌<◌, Bool, true, false, ◌&&◌, ◌||◌, nat_lt, cond, List, [], ◌∷◌, ◌++◌, refl, ap, sym, inl, inr, length, map}
-use Rattle.std.specs.List.{list_all, flat_map}
+use Rattle.std.proofs.Common.{◌≡◌, ◌∙◌, ℕ, ◌<◌, Bool, true, ◌&&◌, nat_lt, List, [], ◌∷◌, ◌++◌, refl, ap, inl, inr, length, map}
+use Rattle.std.specs.List.{list_all}
 use Rattle.std.specs.Ordering.{is_eq}
 use Rattle.std.specs.declared.cmp.Ordering.{Ordering}
 use Rattle.std.proofs.lemmas.Bool.{cases_Bool, and_parts, and_from, or_left, or_right, cond-true, cond-false, lt-ltb}
 use Rattle.std.proofs.lemmas.List.{length-map}
 use Rattle.std.proofs.lemmas.List.Folds.{list_all-append}
 use Rattle.std.proofs.lemmas.Option.{slice_get_within}
-use Rattle.bdb_base.specs.declared.kinds.Held.{Held}
 use Rattle.bdb_base.specs.declared.kinds.Sign.{Sign}
 use Rattle.bdb_base.specs.declared.kinds.Sign.TheVariants.{Plus, Minus}
 use Rattle.bdb_base.specs.declared.kinds.Stmt.{Stmt}
@@ -24,8 +23,8 @@ use Rattle.bdb_base.specs.Worlds.{explicit, stated}
 use Rattle.bdb_base.proofs.ListLemmas.{list_all_weaker}
 use Rattle.bdb_base.proofs.SetLemmas.{is_eq_itself}
 use Rattle.bdb_base.proofs.WorldRowsLemmas.{list_all-flat_map}
-use Rattle.bdb_canon.specs.Canonical.{canon_of, edges_at, edges_from, link_place, place_in, row_entry, rows_from, world_entry}
-use Rattle.bdb_canon.specs.CanonLaws.{HasPlaces, PlacesAreInRange, is_below}
+use Rattle.bdb_canon.specs.Canonical.{edges_at, edges_from, link_place, place_in, row_entry, rows_from, world_entry}
+use Rattle.bdb_canon.specs.CanonLaws.{PlacesAreInRange, is_below}
 use Rattle.bdb_canon.proofs.PlaceLemmas.{member_at_place, root_is_listed, target_within}
 
 list_all_map : {X Y : Type 0} (p : X → Bool) (q : Y → Bool) (f : X → Y) → ((x : X) → p x ≡ true → q (f x) ≡ true) → (xs : List X) → list_all p xs ≡ true → list_all q (map f xs) ≡ true

@@ -32,3 +32,11 @@ next_number users at l =
 
 pub all_numbers : (users : List (List ℕ)) (at : ℕ) → length users ≤ at → numbers_from 1 (take at users) ≡ user_numbers users
 all_numbers users at l = ap (numbers_from 1) (take_all at users l) ∙ sym (all_are_users users)
+
+length-numbers : (n : ℕ) (xs : List (List ℕ)) → length (numbers_from n xs) ≡ length xs
+length-numbers n [] = refl
+length-numbers n (x ∷ xs) = ap suc (length-numbers (suc n) xs)
+
+-- there are as many numbers as users
+pub users_are_counted : (users : List (List ℕ)) → length (user_numbers users) ≡ length users
+users_are_counted users = ap length (all_are_users users) ∙ length-numbers 1 users

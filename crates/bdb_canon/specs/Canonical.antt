@@ -1,6 +1,6 @@
 -- The finite structure that stands for the worlds of all paths: the states with their suffix links, the tuples of the
 -- statements, the edges, and the rows of the states' worlds. A state or a tuple is named by its place in its list.
-use Rattle.std.specs.Prelude.{◌≡◌, ℕ, ◌+◌, ◌^◌, ◌<◌, Bool, true, suc, List, [], ◌∷◌, length, map, Option, cond}
+use Rattle.std.specs.Prelude.{◌≡◌, ℕ, ◌+◌, ◌-◌, ◌^◌, ◌<◌, nat_le, true, not, suc, List, [], ◌∷◌, length, map, filter, Option, Some, None, cond}
 use Rattle.std.specs.List.{flat_map}
 use Rattle.std.specs.Option.{option_map}
 use Rattle.std.specs.Ordering.{is_eq}
@@ -71,6 +71,18 @@ canon_of b = canon_over (key_lengths b.catalog.rels) b.stmts (user_numbers b.cat
 -- how many lines tell the structure: one for each user, relation, tuple, world, edge and row
 abbrev pub line_count : Catalog → Canon → ℕ
 line_count catalog k = length (user_numbers catalog.users) + (length catalog.rels + (length k.tuples + (length k.worlds + (length k.edges + length k.rows))))
+
+-- how many edges a state has
+abbrev pub edge_count : List ℕ → List ℕ → ℕ
+edge_count users w = length (filter (λ i. not (is_suffix (i ∷ []) w)) users)
+
+-- how many rows a state's world has
+abbrev pub row_count : (ℕ → ℕ) → List Stmt → List ℕ → ℕ
+row_count keys stmts w = length (world_of keys stmts w)
+
+-- what is left of a number without another; none where there is not so much
+abbrev pub left_after : ℕ → ℕ → Option ℕ
+left_after n m = cond (nat_le m n) (Some (n - m)) None
 
 -- a list of states: in order, the empty path among them, and so few that a place is a u32
 pub record AreStates (states : List (List ℕ)) : Type 0 where

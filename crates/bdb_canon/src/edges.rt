@@ -1,5 +1,5 @@
 // The edges of the states.
-ghost use Rattle.std.specs.Prelude.{◌≡◌, ◌++◌, slice_get, Some, IfOk, OnOk};
+ghost use Rattle.std.specs.Prelude.{◌≡◌, ◌++◌, IfOk, OnOk};
 ghost use Rattle.std.specs.List.{flat_map};
 ghost use Rattle.bdb_base.specs.Order.{path_cmp};
 ghost use Rattle.bdb_base.specs.SortedSet.{is_member};
@@ -21,8 +21,8 @@ pub fn edges_of(
     ensures { IfOk result (λ edges. edges ≡ flat_map (edges_from users.now states.now) states.now) }
 {
     let mut edges = List::new(alloc);
-    for (from, path) in states.iter().enumerate() {
-        push_edges(alloc, &mut edges, users, states, from, path.as_slice())?;
+    for (at, path) in states.iter().enumerate() {
+        push_edges(alloc, &mut edges, users, states, at as u32, path.as_slice())?;
     }
     Ok(edges)
 }
@@ -33,11 +33,11 @@ fn push_edges(
     edges: &mut List<CanonEdge>,
     users: &[u32],
     states: &[Path],
-    from: usize,
+    from: u32,
     path: &[u32],
 ) -> Result<(), AllocError>
     requires states { AreStates states.now }
-    requires place { slice_get states.now from ≡ Some path.now }
+    requires place { from ≡ place_in path_cmp states.now path.now }
     ensures { OnOk result (edges.new ≡ edges.old ++ edges_from users.now states.now path.now) }
 {
     for uid in users {
@@ -51,29 +51,24 @@ fn push_edge(
     alloc: Global,
     edges: &mut List<CanonEdge>,
     states: &[Path],
-    from: usize,
+    from: u32,
     path: &[u32],
     uid: u32,
 ) -> Result<(), AllocError>
     requires states { AreStates states.now }
-    requires place { slice_get states.now from ≡ Some path.now }
+    requires place { from ≡ place_in path_cmp states.now path.now }
     ensures { OnOk result (edges.new ≡ edges.old ++ edges_at states.now path.now uid) }
 {
     if path_is_suffix(&[uid], path) {
         return Ok(());
     }
     let to = edge_place(alloc, states, path, uid)?;
-    let from = from as u32;
-    edges.push(CanonEdge { from, uid, to })
+    edges.push(CanonEdge { from, uid, to })?;
+    Ok(())
 }
 
 /// The place to which the edge of a state for a user leads.
-fn edge_place(
-    alloc: Global,
-    states: &[Path],
-    path: &[u32],
-    uid: u32,
-) -> Result<u32, AllocError>
+fn edge_place(alloc: Global, states: &[Path], path: &[u32], uid: u32) -> Result<u32, AllocError>
     requires { AreStates states.now }
     ensures { IfOk result (λ to. to ≡ place_in path_cmp states.now (edge_target (is_member path_cmp states.now) path.now uid)) }
 {

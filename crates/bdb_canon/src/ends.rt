@@ -8,7 +8,6 @@ use bdb_model::world_among;
 use std::alloc::{AllocError, Global};
 
 /// The world of a path. Only the statements at the path's ends are looked at more than once.
-#[tactic(auto, using(crate::proofs::EndLemmas::worlds_depend_on_ends))]
 pub fn world_at(alloc: Global, stmts: &[Stmt], path: &[u32]) -> Result<World, AllocError>
     ensures { IfOk result (λ world. world.held ≡ world_of (λ _. 1) stmts.now path.now) }
 {

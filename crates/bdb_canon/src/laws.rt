@@ -2,7 +2,6 @@
 ghost use Rattle.bdb_canon.specs.CanonLaws.{LinksLeadToStates, EdgesLeadToStates, PlacesAreInRange, WorldsDependOnEnds};
 
 /// The suffix link of a state leads to the place of its tail's deepest suffix that is a state.
-#[tactic(auto, using(crate::proofs::PlaceLemmas::links_lead_to_states))]
 pub fn links_lead_to_states()
     ensures { LinksLeadToStates }
 {}

@@ -13,5 +13,5 @@ mod users;
 mod worlds;
 
 pub use building::canon;
-pub use lines::has_more_lines;
+pub use lines::{has_more_lines, line_count};
 pub use structure::{Canon, CanonEdge, CanonRow, CanonWorld};

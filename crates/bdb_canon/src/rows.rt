@@ -1,7 +1,8 @@
 // The rows of the states' worlds.
-ghost use Rattle.std.specs.Prelude.{◌≡◌, ◌++◌, slice_get, Some, IfOk, OnOk};
+ghost use Rattle.std.specs.Prelude.{◌≡◌, ◌++◌, IfOk, OnOk};
 ghost use Rattle.std.specs.List.{flat_map};
-ghost use Rattle.bdb_canon.specs.Canonical.{AreStates, AreTuples, rows_from};
+ghost use Rattle.bdb_base.specs.Order.{path_cmp};
+ghost use Rattle.bdb_canon.specs.Canonical.{AreStates, AreTuples, place_in, rows_from};
 
 use crate::ends::world_at;
 use crate::places::place_in;
@@ -21,8 +22,16 @@ pub fn rows_of(
     ensures { IfOk result (λ rows. rows ≡ flat_map (rows_from (λ _. 1) stmts.now states.now tuples.now) states.now) }
 {
     let mut rows = List::new(alloc);
-    for (world, path) in states.iter().enumerate() {
-        push_rows(alloc, &mut rows, stmts, states, tuples, world, path.as_slice())?;
+    for (at, path) in states.iter().enumerate() {
+        push_rows(
+            alloc,
+            &mut rows,
+            stmts,
+            states,
+            tuples,
+            at as u32,
+            path.as_slice(),
+        )?;
     }
     Ok(rows)
 }
@@ -34,19 +43,19 @@ fn push_rows(
     stmts: &[Stmt],
     states: &[Path],
     tuples: &[Tuple],
-    world: usize,
+    world: u32,
     path: &[u32],
 ) -> Result<(), AllocError>
     requires states { AreStates states.now }
     requires tuples { AreTuples tuples.now }
-    requires place { slice_get states.now world ≡ Some path.now }
+    requires place { world ≡ place_in path_cmp states.now path.now }
     ensures { OnOk result (rows.new ≡ rows.old ++ rows_from (λ _. 1) stmts.now states.now tuples.now path.now) }
 {
     let found = world_at(alloc, stmts, path)?;
     for held in found.held.as_slice() {
         let tuple = place_in(tuples, &held.tuple) as u32;
         rows.push(CanonRow {
-            world: world as u32,
+            world,
             tuple,
             sign: held.sign,
             explicit: held.explicit,

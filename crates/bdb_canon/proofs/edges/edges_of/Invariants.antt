@@ -3,5 +3,5 @@ use Rattle.std.specs.List.{flat_map}
 use Rattle.bdb_canon.specs.Canonical.{edges_from}
 use Rattle.bdb_canon.proofs.edges.edges_of.Given as goal
 
-abbrev pub invariant-loop-from : goal.invariant-loop-from
-invariant-loop-from l = l.edges ≡ flat_map (edges_from l.users l.states) (take l.from l.states)
+abbrev pub invariant-loop-at : goal.invariant-loop-at
+invariant-loop-at l = l.edges ≡ flat_map (edges_from l.users l.states) (take l.at l.states)
