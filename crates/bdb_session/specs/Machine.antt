@@ -28,7 +28,7 @@ use Rattle.bdb_render.specs.declared.refusal.Refusal.{Refusal}
 use Rattle.bdb_render.specs.declared.refusal.Refusal.TheVariants as refusal
 use Rattle.bdb_render.specs.Refusals.{refusal_reply}
 use Rattle.bdb_canon.specs.Canonical.{canon_of, line_count}
-use Rattle.bdb_render.specs.TablesReply.{tables_reply}
+use Rattle.bdb_render.specs.Tables.{tables_reply}
 use Rattle.bdb_render.specs.Replies.{ok_reply, count_reply, world_reply, rows_reply}
 use Rattle.bdb_session.specs.declared.limits.Counts.{Counts}
 use Rattle.bdb_session.specs.declared.reply.Reply.{Reply}

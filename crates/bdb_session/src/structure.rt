@@ -2,7 +2,7 @@
 ghost use Rattle.std.specs.Prelude.{◌≡◌, nat_lt, Some, None, IfOk, cond};
 ghost use Rattle.bdb_canon.specs.Canonical.{canon_of, line_count};
 ghost use Rattle.bdb_keep.specs.Seen.{IsStill};
-ghost use Rattle.bdb_render.specs.TablesReply.{tables_reply};
+ghost use Rattle.bdb_render.specs.Tables.{tables_reply};
 ghost use Rattle.bdb_tables.specs.Holds.{Holds};
 ghost use Rattle.bdb_session.specs.Machine.{refusal_of_bound, asked_base, accepted_reply};
 ghost use Rattle.bdb_session.specs.Served.{IsServed};
