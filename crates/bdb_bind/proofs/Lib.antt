@@ -8,6 +8,7 @@ pub mod Founds
 pub mod KnownLemmas
 pub mod Misfits
 pub mod PathLemmas
+pub mod PlaceLemmas
 pub mod QueryFitting
 pub mod Repeats
 pub mod SafeLemmas
