@@ -88,7 +88,12 @@ fn search<'a>(rels: &'a [RelDef], name: &Txt) -> Found<'a>
 }
 
 /// The uids of names. The first that is no user's is refused.
-pub fn find_users(alloc: Global, users: &[Txt], index: &NameIndex, names: &[Txt]) -> Result<List<u32>, BindError>
+pub fn find_users(
+    alloc: Global,
+    users: &[Txt],
+    index: &NameIndex,
+    names: &[Txt],
+) -> Result<List<u32>, BindError>
     requires differ { are_distinct users.now ≡ true }
     requires few { length users.now ≤ 256 }
     ensures checks { Checks result (unknown_user users.now names.now) }

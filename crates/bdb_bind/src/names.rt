@@ -43,11 +43,7 @@ pub fn check_relation(
 }
 
 /// Refuses a change of a relation that isn't in the catalog.
-fn check_change_relation(
-    alloc: Global,
-    rels: &[RelDef],
-    command: &Command,
-) -> Result<(), BindError>
+fn check_change_relation(alloc: Global, rels: &[RelDef], command: &Command) -> Result<(), BindError>
     requires nowhere { relation_place rels.now command.now ≡ None }
     ensures { Checks result (unknown_relation rels.now (relation_name command.now)) }
 {
