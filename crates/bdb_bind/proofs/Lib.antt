@@ -5,6 +5,7 @@ pub mod ColumnLemmas
 pub mod FitLemmas
 pub mod Fitting
 pub mod Founds
+pub mod IndexLemmas
 pub mod KnownLemmas
 pub mod Misfits
 pub mod PathLemmas
