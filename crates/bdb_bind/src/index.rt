@@ -95,7 +95,10 @@ fn places_of_users(alloc: Global, users: &[Txt]) -> Result<BTreeMap<String, usiz
 }
 
 /// Where the relations stand.
-fn places_of_relations(alloc: Global, rels: &[RelDef]) -> Result<BTreeMap<String, usize>, AllocError>
+fn places_of_relations(
+    alloc: Global,
+    rels: &[RelDef],
+) -> Result<BTreeMap<String, usize>, AllocError>
     ensures { IfOk result (λ m. (q : List ℕ) → get_by_text m q ≡ number_of rels.now q) }
 {
     let mut places = BTreeMap::new(alloc);
