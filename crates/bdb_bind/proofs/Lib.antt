@@ -5,9 +5,11 @@ pub mod ColumnLemmas
 pub mod FitLemmas
 pub mod Fitting
 pub mod Founds
+pub mod IndexLemmas
 pub mod KnownLemmas
 pub mod Misfits
 pub mod PathLemmas
+pub mod PlaceLemmas
 pub mod QueryFitting
 pub mod Repeats
 pub mod SafeLemmas

@@ -10,3 +10,4 @@ pub mod Binding
 pub mod Safe
 pub mod Refusal
 pub mod Fits
+pub mod Indexes

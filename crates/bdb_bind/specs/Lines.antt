@@ -20,7 +20,7 @@ use Rattle.bdb_bind.specs.declared.bound.BindError.TheVariants as error
 use Rattle.bdb_bind.specs.Firsts.{refused_if, or_next}
 use Rattle.bdb_bind.specs.Kinds.{kind_of, are_one_kind}
 use Rattle.bdb_bind.specs.Lookup.{is_user_name, number_of, columns_of, has_column, kind_at}
-use Rattle.bdb_bind.specs.Parts.{query_of, path_names, depth_limit, relation_name, new_columns, cond_columns, is_long, some_text}
+use Rattle.bdb_bind.specs.Parts.{query_of, change_columns, path_names, depth_limit, relation_name, new_columns, cond_columns, is_long, some_text}
 use Rattle.bdb_bind.specs.QueryLines.{query_items, query_relation, query_user, query_alias_twice, query_alias, query_column, query_repeat, query_deep, query_kind}
 
 -- a text has more than 255 bytes
@@ -60,16 +60,15 @@ alias_line c = option_and_then query_alias (query_of c)
 unfoldable pub missing_column : List ColDef → List (List ℕ) → Option BindError
 missing_column cols names = option_map (error.Column None) (find (λ name. not (has_column cols name)) names)
 
--- the first column of a change that the relation does not have: sets before tests, left before right
-abbrev pub change_column : Catalog → Command → Option BindError
-change_column catalog (Delete users sign rel conds) = missing_column (columns_of catalog.rels rel) (cond_columns conds)
-change_column catalog (Update users sign rel sets conds) = or_next (missing_column (columns_of catalog.rels rel) (map (λ s. s.col) sets))
-    (missing_column (columns_of catalog.rels rel) (cond_columns conds))
-change_column catalog _ = None
+-- the first column of a change that is none of these: sets before tests, left before right
+abbrev pub change_column : List ColDef → Command → Option BindError
+change_column cols (Delete users sign rel conds) = missing_column cols (cond_columns conds)
+change_column cols (Update users sign rel sets conds) = or_next (missing_column cols (map (λ s. s.col) sets)) (missing_column cols (cond_columns conds))
+change_column cols _ = None
 
 -- the first column that isn't there
 unfoldable pub column_line : Catalog → Command → Option BindError
-column_line catalog c = or_next (change_column catalog c) (option_and_then (query_column catalog.rels) (query_of c))
+column_line catalog c = or_next (change_column (change_columns catalog.rels c) c) (option_and_then (query_column catalog.rels) (query_of c))
 
 -- the first column whose name stands earlier in the list, or among the columns seen before
 abbrev pub first_repeated : List ColDef → List ColDef → Option (List ℕ)
@@ -102,10 +101,14 @@ repeat_line c = or_next (refused_if (has_repeat (path_names c)) error.Repeat) (o
 unfoldable pub deep_line : Command → Option BindError
 deep_line c = or_next (refused_if (nat_lt (depth_limit c) (length (path_names c))) error.Deep) (option_and_then query_deep (query_of c))
 
+-- an insert has another number of values than there are columns
+abbrev pub change_arity : List ColDef → Command → Option BindError
+change_arity cols (Insert users sign rel vals) = refused_if (not (length vals == length cols)) error.Arity
+change_arity cols _ = None
+
 -- an insert has another number of values than the relation has columns
 unfoldable pub arity_line : Catalog → Command → Option BindError
-arity_line catalog (Insert users sign rel vals) = refused_if (not (length vals == length (columns_of catalog.rels rel))) error.Arity
-arity_line catalog _ = None
+arity_line catalog c = change_arity (change_columns catalog.rels c) c
 
 -- the first column whose value is of another kind
 abbrev pub misfit : List ColDef → List Value → Option (List ℕ)
@@ -135,13 +138,12 @@ unfoldable pub cond_kinds : List ColDef → List RawCond → Option BindError
 cond_kinds cols conds = option_map (λ c. error.Kind None c.left.col) (find (λ c. not (fits_cond cols c)) conds)
 
 -- a value, a set or a comparison of a change joins two kinds
-abbrev pub change_kind : Catalog → Command → Option BindError
-change_kind catalog (Insert users sign rel vals) = option_map (error.Kind None) (misfit (columns_of catalog.rels rel) vals)
-change_kind catalog (Delete users sign rel conds) = cond_kinds (columns_of catalog.rels rel) conds
-change_kind catalog (Update users sign rel sets conds) = or_next
-    (set_kinds (columns_of catalog.rels rel) sets) (cond_kinds (columns_of catalog.rels rel) conds)
-change_kind catalog _ = None
+abbrev pub change_kind : List ColDef → Command → Option BindError
+change_kind cols (Insert users sign rel vals) = option_map (error.Kind None) (misfit cols vals)
+change_kind cols (Delete users sign rel conds) = cond_kinds cols conds
+change_kind cols (Update users sign rel sets conds) = or_next (set_kinds cols sets) (cond_kinds cols conds)
+change_kind cols _ = None
 
 -- the first value, set or comparison that joins two kinds
 unfoldable pub kind_line : Catalog → Command → Option BindError
-kind_line catalog c = or_next (change_kind catalog c) (option_and_then (query_kind catalog.rels) (query_of c))
+kind_line catalog c = or_next (change_kind (change_columns catalog.rels c) c) (option_and_then (query_kind catalog.rels) (query_of c))

@@ -1,7 +1,9 @@
 -- What a command says of users, relations, columns and texts.
 use Rattle.std.specs.Prelude.{ℕ, Bool, true, false, ◌||◌, nat_lt, List, [], ◌∷◌, ◌++◌, length, Option, None, Some}
+use Rattle.std.specs.Option.{option_and_then}
 use Rattle.std.specs.List.{list_any}
 use Rattle.bdb_base.specs.declared.kinds.ColDef.{ColDef}
+use Rattle.bdb_base.specs.declared.kinds.RelDef.{RelDef}
 use Rattle.bdb_base.specs.declared.kinds.Value.{Value}
 use Rattle.bdb_base.specs.declared.kinds.Value.TheVariants.{Int, Text}
 use Rattle.bdb_syntax.specs.declared.command.Command.{Command}
@@ -13,6 +15,7 @@ use Rattle.bdb_syntax.specs.declared.command.RawItem.{RawItem}
 use Rattle.bdb_syntax.specs.declared.command.RawQuery.{RawQuery}
 use Rattle.bdb_syntax.specs.declared.command.RawWho.{RawWho}
 use Rattle.bdb_syntax.specs.declared.command.RawWho.TheVariants as who
+use Rattle.bdb_bind.specs.Lookup.{number_of, columns_of}
 
 -- a command is of a kind that is answered so far
 abbrev pub is_built : Command → Bool
@@ -44,6 +47,19 @@ relation_name (Insert users sign rel vals) = Some rel
 relation_name (Delete users sign rel conds) = Some rel
 relation_name (Update users sign rel sets conds) = Some rel
 relation_name _ = None
+
+-- the place of the relation that a change names
+abbrev pub relation_place : List RelDef → Command → Option ℕ
+relation_place rels c = option_and_then (number_of rels) (relation_name c)
+
+-- the columns of a relation that may not be named
+abbrev pub columns_for : List RelDef → Option (List ℕ) → List ColDef
+columns_for rels None = []
+columns_for rels (Some name) = columns_of rels name
+
+-- the columns of the relation that a change names
+abbrev pub change_columns : List RelDef → Command → List ColDef
+change_columns rels c = columns_for rels (relation_name c)
 
 -- the columns of a new relation
 abbrev pub new_columns : Command → List ColDef

@@ -5,6 +5,8 @@ mod aliases;
 mod binding;
 mod bound;
 mod columns;
+mod found;
+mod index;
 mod kinds;
 mod laws;
 mod lookup;
@@ -21,7 +23,8 @@ mod shape;
 mod tests;
 mod unsafes;
 
-pub use binding::{bind, is_built};
+pub use binding::{bind, bind_by, is_built};
 pub use bound::{BindError, Bound};
+pub use index::NameIndex;
 pub use laws::{test_tells_bound, test_tells_safe, what_is_bound_fits};
 pub use safety::safe;

@@ -94,6 +94,24 @@ fn bound(alloc: Global, command: &Command) -> Result<Bound, BindError> {
     bind(alloc, &catalog, command)
 }
 
+/// The same by an index, which is wrong of two names that the catalog doesn't have.
+fn bound_by_index(alloc: Global, command: &Command) -> Result<Bound, BindError> {
+    let Ok(catalog) = curators(alloc) else {
+        return Err(BindError::Memory);
+    };
+    let Ok(index) = wrong_index(alloc, &catalog) else {
+        return Err(BindError::Memory);
+    };
+    bind_by(alloc, &catalog, &index, command)
+}
+
+fn wrong_index(alloc: Global, catalog: &Catalog) -> Result<NameIndex, AllocError> {
+    let mut index = NameIndex::of(alloc, catalog)?;
+    index.add_user(alloc, &Txt::try_new(alloc, "Zoe")?, 1)?;
+    index.add_relation(alloc, &Txt::try_new(alloc, "T")?, 0)?;
+    Ok(index)
+}
+
 #[test]
 fn inserts_are_bound_or_refused(rt: HostRuntime) -> Result<(), Fail> {
     let alloc = rt.alloc();
@@ -135,6 +153,8 @@ fn inserts_are_bound_or_refused(rt: HostRuntime) -> Result<(), Fail> {
     for (users, rel, vals, word, named) in rows {
         let command = insert(alloc, names(alloc, users)?, rel, vals)?;
         let outcome = bound(alloc, &command);
+        assert!(rt; is_outcome(&outcome, word, named));
+        let outcome = bound_by_index(alloc, &command);
         assert!(rt; is_outcome(&outcome, word, named));
     }
     Ok(())
