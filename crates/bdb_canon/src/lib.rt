@@ -9,6 +9,8 @@ mod lines;
 mod places;
 mod rows;
 mod structure;
+#[cfg(test)]
+mod tests;
 mod users;
 mod worlds;
 
