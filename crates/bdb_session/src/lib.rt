@@ -6,13 +6,17 @@ mod create;
 mod event;
 mod insert;
 mod limits;
+mod open;
 mod reading;
 mod refusals;
 mod reply;
 mod session;
 mod show;
+mod stop;
+mod transact;
 
 pub use event::Event;
 pub use reading::{Reading, read_piece};
 pub use reply::Reply;
 pub use session::Session;
+pub use stop::StopError;
