@@ -1,8 +1,10 @@
--- What the count of commits alone tells of a run.
+-- What the count of commits alone tells of a run, and what tables without rows stand for.
 use Rattle.std.specs.Prelude.{◌≡◌, ◌≢◌, ℕ, ◌-◌, ◌^◌, ◌<◌, List, ◌++◌, Option}
+use Rattle.std.specs.FinMap as tables
 use Rattle.std.specs.Io.KnownBytes.{Appends}
-use Rattle.bdb_base.specs.Bases.{Contents}
+use Rattle.bdb_base.specs.Bases.{Contents, IsValid}
 use Rattle.bdb_keep.specs.Seen.{Seen}
+use Rattle.bdb_keep.specs.Tables.{Tables}
 use Rattle.bdb_tables.specs.Holds.{Stands}
 use Rattle.bdb_session.specs.declared.event.Event.{Event}
 use Rattle.bdb_session.specs.Opening.{opening}
@@ -39,3 +41,7 @@ abbrev pub RanEndsByCount : Type 0
 RanEndsByCount = (b : Contents) (events : List Event) (first now : Seen) (old new : Option (List ℕ)) (status : ℕ)
     → Ran b events first now old new status → now.commits < 2 ^ 64 - 1
     → EndsByCount b events now old new status (now.commits - first.commits - opening first.kept)
+
+-- tables without rows stand for a valid base
+abbrev pub NoRowsStandForABase : Type 0
+NoRowsStandForABase = (t : Tables) → t ≡ tables.empty → (b : Contents) × Stands t b × IsValid b.catalog b.stmts
