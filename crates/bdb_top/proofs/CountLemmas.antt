@@ -47,14 +47,15 @@ before_first b [] = refl
 before_first b (e ∷ es) = elim (cases_Bool (nat_lt 0 (counts b e))) [
   | inl t ↦ ap (after b) (cond-true (nat_lt 0 (counts b e)) [] (e ∷ before_count (0 - counts b e) (next_base b e) es) t)
   | inr f ↦
-    let none : counts b e ≡ 0 = zero_if (counts b e) f in
-    ap (after b) (cond-false (nat_lt 0 (counts b e)) [] (e ∷ before_count (0 - counts b e) (next_base b e) es) f)
-    ∙ ap (λ n. after (next_base b e) (before_count n (next_base b e) es)) (none_less (counts b e))
-    ∙ before_first (next_base b e) es ∙ uncounted b e none
-  ]
+      let none : counts b e ≡ 0 = zero_if (counts b e) f in
+      ap (after b) (cond-false (nat_lt 0 (counts b e)) [] (e ∷ before_count (0 - counts b e) (next_base b e) es) f)
+      ∙ ap (λ n. after (next_base b e) (before_count n (next_base b e) es)) (none_less (counts b e))
+      ∙ before_first (next_base b e) es ∙ uncounted b e none
+]
   where
     zero_if : (n : ℕ) → nat_lt 0 n ≡ false → n ≡ 0
     zero_if n f = grind (arith, f)
+
     none_less : (n : ℕ) → 0 - n ≡ 0
     none_less n = omega arith
 
@@ -85,10 +86,10 @@ all_told b (e ∷ d) rest =
     let n = counted (next_base b e) d in
     let more = up_to_count (c + n - c) (next_base b e) (d ++ rest) in
     elim (cases_Bool (nat_eq (c + n) 0)) [
-    | inl t ↦ subst (λ (l : List Event). IsFrontOf l (e ∷ d)) (sym (cond-true (nat_eq (c + n) 0) [] (e ∷ more) t)) (front_none (e ∷ d))
-    | inr f ↦ subst (λ (l : List Event). IsFrontOf l (e ∷ d))
-        (sym (cond-false (nat_eq (c + n) 0) [] (e ∷ more) f ∙ ap (λ m. e ∷ up_to_count m (next_base b e) (d ++ rest)) (more_less c n)))
-        (front_cons e (up_to_count n (next_base b e) (d ++ rest)) d (all_told (next_base b e) d rest))
+      | inl t ↦ subst (λ (l : List Event). IsFrontOf l (e ∷ d)) (sym (cond-true (nat_eq (c + n) 0) [] (e ∷ more) t)) (front_none (e ∷ d))
+      | inr f ↦ subst (λ (l : List Event). IsFrontOf l (e ∷ d))
+          (sym (cond-false (nat_eq (c + n) 0) [] (e ∷ more) f ∙ ap (λ m. e ∷ up_to_count m (next_base b e) (d ++ rest)) (more_less c n)))
+          (front_cons e (up_to_count n (next_base b e) (d ++ rest)) d (all_told (next_base b e) d rest))
     ]
 
 one_less : (c n : ℕ) → c + n - 1 - c ≡ n - 1
@@ -104,10 +105,10 @@ before_on b e front es n some rest =
     let c = counts b e in
     let more = before_count (c + n - 1 - c) (next_base b e) es in
     elim (cases_Bool (nat_lt (c + n - 1) c)) [
-    | inl t ↦ subst (λ (l : List Event). IsFrontOf l (e ∷ front)) (sym (cond-true (nat_lt (c + n - 1) c) [] (e ∷ more) t)) (front_none (e ∷ front))
-    | inr g ↦ subst (λ (l : List Event). IsFrontOf l (e ∷ front))
-        (sym (cond-false (nat_lt (c + n - 1) c) [] (e ∷ more) g ∙ ap (λ m. e ∷ before_count m (next_base b e) es) (one_less c n)))
-        (front_cons e (before_count (n - 1) (next_base b e) es) front (rest (still_some c n g some)))
+      | inl t ↦ subst (λ (l : List Event). IsFrontOf l (e ∷ front)) (sym (cond-true (nat_lt (c + n - 1) c) [] (e ∷ more) t)) (front_none (e ∷ front))
+      | inr g ↦ subst (λ (l : List Event). IsFrontOf l (e ∷ front))
+          (sym (cond-false (nat_lt (c + n - 1) c) [] (e ∷ more) g ∙ ap (λ m. e ∷ before_count m (next_base b e) es) (one_less c n)))
+          (front_cons e (before_count (n - 1) (next_base b e) es) front (rest (still_some c n g some)))
     ]
 
 before_done : (b : Contents) (done rest : List Event) → counted b done ≢ 0 → IsFrontOf (before_count (counted b done - 1) b (done ++ rest)) done
@@ -120,8 +121,8 @@ before_last : (b : Contents) (front : List Event) (last : Event) (rest : List Ev
 before_last b [] last rest some =
     let c = counts b last in
     subst (λ (l : List Event). IsFrontOf l [])
-      (sym (cond-true (nat_lt (c + 0 - 1) c) [] (last ∷ before_count (c + 0 - 1 - c) (next_base b last) rest) (lt-ltb (c + 0 - 1) c (positive c some))))
-      (front_none [])
+    (sym (cond-true (nat_lt (c + 0 - 1) c) [] (last ∷ before_count (c + 0 - 1 - c) (next_base b last) rest) (lt-ltb (c + 0 - 1) c (positive c some))))
+    (front_none [])
   where
     positive : (c : ℕ) → c + 0 ≢ 0 → c + 0 - 1 < c
     positive c some = omega (arith, some)
@@ -172,20 +173,20 @@ by_done b events first now old new status ran =
     let stand = subst (λ (x : Contents). Stands now.last x) is.base ran.stands in
     let more = replies_begin b done (before_count k b events) is.no_more in
     elim (cases_Bool (nat_eq status 4)) [
-    | inl t ↦
-      let p = ran.part (grind (arith, t)) in
-      let reply = reply_of (after b p.front) p.last in
-      let all = subst (λ (l : List ℕ). BeginsWith l (replies b p.front ++ take p.part reply)) (sym (ap (replies b) p.is ∙ replies-push b p.front p.last)) (part_begins (replies b p.front) reply p.part) in
-      record {
-        stands = stand;
-        text = replies b p.front ++ take p.part reply;
-        written = p.written;
-        no_more = begins_on (replies b (before_count k b events)) (replies b done) (replies b p.front ++ take p.part reply) more all;
-        before = λ some. begins_more (replies b p.front) (take p.part reply) (replies b (before_count (k - 1) b events))
-            (replies_begin b (before_count (k - 1) b events) p.front (before_part b events done p.front p.last p.is ran.front some));
-        whole = λ other. absurd (other (grind (arith, t)));
-      }
-    | inr f ↦ record {
+      | inl t ↦
+          let p = ran.part (grind (arith, t)) in
+          let reply = reply_of (after b p.front) p.last in
+          let all = subst (λ (l : List ℕ). BeginsWith l (replies b p.front ++ take p.part reply)) (sym (ap (replies b) p.is ∙ replies-push b p.front p.last)) (part_begins (replies b p.front) reply p.part) in
+          record {
+            stands = stand;
+            text = replies b p.front ++ take p.part reply;
+            written = p.written;
+            no_more = begins_on (replies b (before_count k b events)) (replies b done) (replies b p.front ++ take p.part reply) more all;
+            before = λ some. begins_more (replies b p.front) (take p.part reply) (replies b (before_count (k - 1) b events))
+                (replies_begin b (before_count (k - 1) b events) p.front (before_part b events done p.front p.last p.is ran.front some));
+            whole = λ other. absurd (other (grind (arith, t)));
+          }
+      | inr f ↦ record {
         stands = stand;
         text = replies b done;
         written = ran.written (λ e. grind (arith, f, e));
