@@ -65,3 +65,9 @@ pub limit_is : (b : Contents) (o : Option What) (users rels : ℕ) (counts : Cou
 limit_is b o users rels counts n e u r c s =
     e ∙ ap (λ k. limit_passed k rels counts n) u ∙ ap (λ k. limit_passed (length b.catalog.users) k counts n) r
     ∙ ap (λ k. limit_passed (length b.catalog.users) (length b.catalog.rels) k n) c ∙ ap (limit_passed (length b.catalog.users) (length b.catalog.rels) (counts_of b.stmts)) s
+
+abbrev counted : ℕ → ℕ → Counts
+counted w t = record { worlds = w; tuples = t }
+
+pub same_counts : (v w s t : ℕ) → v ≡ w → s ≡ t → counted v s ≡ counted w t
+same_counts v w s t e f = ap (λ n. counted n s) e ∙ ap (counted w) f

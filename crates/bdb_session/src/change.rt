@@ -106,7 +106,8 @@ fn with_statements(
     added: &[Stmt],
 ) -> Result<List<Stmt>, AllocError>
     requires { ascending statement_cmp stmts ≡ true }
-    ensures { IfOk result (λ next. next ≡ with_statements stmts added.now) }
+    ensures next { IfOk result (λ next. next ≡ with_statements stmts added.now) }
+    ensures sorted { IfOk result (λ next. ascending statement_cmp next ≡ true) }
 {
     let mut next = stmts;
     for stmt in added {
@@ -154,6 +155,7 @@ fn update_of(
     ensures taken { IfOk result (λ x. x.taken ≡ taken_by selection.now.path selection.now.sign selection.now.rel selection.now.conds stmts.now) }
     ensures added { IfOk result (λ x. x.added ≡ map (changed_statement sets.now) x.taken) }
     ensures next { IfOk result (λ x. x.next ≡ updated selection.now.path selection.now.sign selection.now.rel selection.now.conds sets.now stmts.now) }
+    ensures sorted { IfOk result (λ x. ascending statement_cmp x.next ≡ true) }
     ensures counts { IfOk result (λ x. x.counts ≡ counts_of x.next) }
 {
     let taken = taken_by(alloc, stmts, selection)?;
@@ -216,7 +218,8 @@ impl Session {
 
     /// Why the base can't have the statements of a change in place of its own, where those of one path were changed.
     fn change_refusal(&self, change: &Change, path: &[u32]) -> Result<Option<Refusal>, AllocError>
-        requires { change.now.counts ≡ counts_of change.now.next }
+        requires sorted { ascending statement_cmp change.now.next ≡ true }
+        requires counts { change.now.counts ≡ counts_of change.now.next }
         ensures { IfOk result (λ r. r ≡ statements_refusal self.now change.now.next path.now) }
     {
         match first_clashing_among(change.next.as_slice(), path) {

@@ -1,2 +1,4 @@
 pub mod RunLemmas
+pub mod CountLemmas
 pub mod RanLemmas
+pub mod EmptyLemmas

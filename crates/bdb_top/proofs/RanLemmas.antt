@@ -1,12 +1,18 @@
 -- How a run ends, by its status.
-use Rattle.std.proofs.Common.{◌≡◌, ◌≢◌, ◌∙◌, ℕ, ◌≤◌, Bool, true, false, List, [], ◌∷◌, ◌++◌, Option, Some, None, Ok, Err, IfSome, refl, ap, sym, subst, arith}
+use Rattle.std.proofs.Common.{◌≡◌, ◌≢◌, ◌∙◌, ℕ, ◌+◌, ◌-◌, ◌^◌, ◌<◌, ◌≤◌, ◌⊎◌, inl, inr, Bool, true, false, List, [], ◌∷◌, ◌++◌, Option, Some, None, Result, Ok, Err, IfSome, refl, ap, sym, subst, arith}
 use Rattle.std.specs.Io.KnownBytes.{Appends, Consumes, IsAtEnd}
-use Rattle.bdb_base.specs.Bases.{Contents}
+use Rattle.bdb_base.specs.Bases.{Contents, IsValid}
+use Rattle.bdb_base.specs.Causes.{Rises}
+use Rattle.bdb_keep.specs.Seen.{Seen, IsStill, Unchanged}
+use Rattle.bdb_keep.specs.Tables.{Tables}
+use Rattle.bdb_tables.specs.Holds.{Holds, Stands}
 use Rattle.bdb_session.specs.declared.event.Event.{Event}
-use Rattle.bdb_session.specs.Runs.{replies, accepts_all, events_of}
+use Rattle.bdb_session.specs.Opening.{opening}
+use Rattle.bdb_session.specs.Runs.{after, replies, accepts_all, events_of, IsFrontOf}
+use Rattle.bdb_top.specs.Counted.{counted}
 use Rattle.bdb_top.specs.declared.stop.Stop.{Stop}
-use Rattle.bdb_top.specs.declared.stop.Stop.TheVariants.{Source, Sink, Memory, Large}
-use Rattle.bdb_top.specs.Ran.{Comes, EndsEarly, Ran, status_of}
+use Rattle.bdb_top.specs.declared.stop.Stop.TheVariants.{Source, Sink, Keeper, Memory, Large}
+use Rattle.bdb_top.specs.Ran.{Carried, Comes, EndsEarly, Ends, EachBase, WritesPart, Ran, CommitsFor, status_of}
 
 append_nil : {X : Type 0} (xs : List X) → xs ++ [] ≡ xs
 append_nil [] = refl
@@ -16,12 +22,39 @@ nothing_grows : (a : Option (List ℕ)) → Appends a a []
 nothing_grows None = tt
 nothing_grows (Some s) = sym (append_nil s)
 
+-- What a run from a base leaves of a keeper that was opened: the tables hold the base after these events, and there was a
+-- commit for each that counts.
+record Left (b : Contents) (done : List Event) (first now : Seen) : Type 0 where
+  valid : IsValid (after b done).catalog (after b done).stmts
+  holds : Holds now.last (after b done)
+  commits : CommitsFor (counted b done) first now
+
+-- the commits of events, behind that of opening
+commits_on : (k n a m z : ℕ) → Rises n a m → Rises k m z → z < 2 ^ 64 - 1 → k ≡ z - a - n
+commits_on k n a m z h i below =
+    let last = i below in
+    let first = h (omega arith) in
+    omega arith
+
+left_by : (b : Contents) (done : List Event) (session : Contents) (first mid now : Seen)
+    → Rises (opening first.kept) first.commits mid.commits → Carried b done session mid now → IsStill now → IsValid session.catalog session.stmts → Left b done first now
+left_by b done session first mid now opened carried still valid = record {
+  valid = subst (λ (x : Contents). IsValid x.catalog x.stmts) carried.base valid;
+  holds = subst (λ (t : Tables). Holds t (after b done)) still.rest (subst (λ (x : Contents). Holds now.kept x) carried.base carried.holds);
+  commits = commits_on (counted b done) (opening first.kept) first.commits mid.commits now.commits opened carried.commits;
+}
+
 -- a run that stopped with whole replies
-abbrev early : (b : Contents) (events : List Event) (old new : Option (List ℕ)) (status : ℕ) (done : List Event) (rest : List Event) → events ≡ done ++ rest → Appends old new (replies b done)
-    → 2 ≤ status → status ≢ 4 → Ran b events old new status
-early b events old new status done rest is written high not_sink = record {
+early : (b : Contents) (events : List Event) (first now : Seen) (old new : Option (List ℕ)) (status : ℕ) (done rest : List Event) → events ≡ done ++ rest
+    → Left b done first now → Appends old new (replies b done) → 2 ≤ status → status ≢ 4 → Ran b events first now old new status
+early b events first now old new status done rest is left written high not_sink = record {
   done = done;
   front = (rest, is);
+  valid = left.valid;
+  stands = inl left.holds;
+  holds = λ _ _. left.holds;
+  committed = λ _. left.holds;
+  commits = left.commits;
   written = λ _. written;
   part = λ e. absurd (not_sink e);
   all = λ low. absurd (omega arith);
@@ -29,26 +62,92 @@ early b events old new status done rest is written high not_sink = record {
   refused = λ e. absurd (omega arith);
 }
 
--- a run that stopped before its first event
-pub ran_nothing : (b : Contents) (events : List Event) (old : Option (List ℕ)) (stop : Stop) → (stop ≡ Sink → ⊥) → Ran b events old old (status_of (Err stop))
-ran_nothing b events old Source h = early b events old old 3 [] events refl (nothing_grows old) (omega arith) (λ e. omega arith)
-ran_nothing b events old Sink h = absurd (h refl)
-ran_nothing b events old Memory h = early b events old old 6 [] events refl (nothing_grows old) (omega arith) (λ e. omega arith)
-ran_nothing b events old Large h = early b events old old 8 [] events refl (nothing_grows old) (omega arith) (λ e. omega arith)
+-- a run whose keeper was not opened
+closed : (b : Contents) (events : List Event) (first now : Seen) (old : Option (List ℕ)) (status : ℕ)
+    → Stands first.kept b → IsValid b.catalog b.stmts → IsStill now → Unchanged first now → (status ≡ 5) ⊎ (status ≡ 6) → Ran b events first now old old status
+closed b events first now old status stands valid still same is = record {
+  done = [];
+  front = (events, refl);
+  valid = valid;
+  stands = subst (λ (t : Tables). Stands t b) (sym same.kept ∙ still.rest) stands;
+  holds = λ not_five not_six. absurd (elim is [ inl e ↦ not_five e | inr e ↦ not_six e ]);
+  committed = λ more. absurd (more same.commits);
+  commits = λ _. none now.commits first.commits (opening first.kept) same.commits;
+  written = λ _. nothing_grows old;
+  part = λ e. absurd (elim is [ inl f ↦ omega arith | inr f ↦ omega arith ]);
+  all = λ low. absurd (elim is [ inl f ↦ omega arith | inr f ↦ omega arith ]);
+  accepted = λ e. absurd (elim is [ inl f ↦ omega arith | inr f ↦ omega arith ]);
+  refused = λ e. absurd (elim is [ inl f ↦ omega arith | inr f ↦ omega arith ]);
+}
+  where
+    none : (a m n : ℕ) → a ≡ m → 0 ≡ a - m - n
+    none a m n e = omega arith
 
-ran_all : (b : Contents) (events : List Event) (old new : Option (List ℕ)) (accepted : Bool) → Appends old new (replies b events) → accepted ≡ accepts_all b events → Ran b events old new (status_of (Ok accepted))
-ran_all b events old new true written none = record {
+-- the same for each base and text
+pub ran_closed : (b : Contents) (events : List Event) (first now : Seen) (old : Option (List ℕ)) (stop : Stop)
+    → Stands first.kept b → IsValid b.catalog b.stmts → IsStill now → Unchanged first now → (stop ≡ Keeper) ⊎ (stop ≡ Memory) → Ran b events first now old old (status_of (Err stop))
+ran_closed b events first now old stop stands valid still same (inl e) = subst (λ (s : Stop). Ran b events first now old old (status_of (Err s))) (sym e) (closed b events first now old 5 stands valid still same (inl refl))
+ran_closed b events first now old stop stands valid still same (inr e) = subst (λ (s : Stop). Ran b events first now old old (status_of (Err s))) (sym e) (closed b events first now old 6 stands valid still same (inr refl))
+
+pub each_closed : (before : Option (List ℕ)) (first now : Seen) (old : Option (List ℕ)) (stop : Stop)
+    → IsStill now → Unchanged first now → (stop ≡ Keeper) ⊎ (stop ≡ Memory)
+    → IfSome before (λ text. EachBase first.kept (λ b. Ran b (events_of text) first now old old (status_of (Err stop))))
+each_closed None first now old stop still same is = tt
+each_closed (Some text) first now old stop still same is = λ b stands valid. ran_closed b (events_of text) first now old stop stands valid still same is
+
+-- a run that was opened and stopped before its first event
+opened_alone : (b : Contents) (events : List Event) (first now : Seen) (old : Option (List ℕ)) (stop : Stop)
+    → Left b [] first now → (stop ≡ Sink → ⊥) → Ran b events first now old old (status_of (Err stop))
+opened_alone b events first now old Source left h = early b events first now old old 3 [] events refl left (nothing_grows old) (omega arith) (λ e. omega arith)
+opened_alone b events first now old Sink left h = absurd (h refl)
+opened_alone b events first now old Keeper left h = early b events first now old old 5 [] events refl left (nothing_grows old) (omega arith) (λ e. omega arith)
+opened_alone b events first now old Memory left h = early b events first now old old 6 [] events refl left (nothing_grows old) (omega arith) (λ e. omega arith)
+opened_alone b events first now old Large left h = early b events first now old old 8 [] events refl left (nothing_grows old) (omega arith) (λ e. omega arith)
+
+-- what opening leaves
+left_open : (b session : Contents) (first now : Seen) → IsValid b.catalog b.stmts → session ≡ b → Holds now.kept session → Rises (opening first.kept) first.commits now.commits → IsStill now → Left b [] first now
+left_open b session first now valid is holds opened still = record {
+  valid = valid;
+  holds = subst (λ (t : Tables). Holds t b) still.rest (subst (λ (x : Contents). Holds now.kept x) is holds);
+  commits = λ below. alone first.commits now.commits (opening first.kept) (opened below);
+}
+  where
+    alone : (a z n : ℕ) → z ≡ a + n → 0 ≡ z - a - n
+    alone a z n e = omega arith
+
+pub each_opened : (before : Option (List ℕ)) (session : Contents) (first now : Seen) (old : Option (List ℕ)) (stop : Stop)
+    → ((b : Contents) → Stands first.kept b → IsValid b.catalog b.stmts → session ≡ b) → Holds now.kept session → Rises (opening first.kept) first.commits now.commits → IsStill now
+    → (stop ≡ Sink → ⊥)
+    → IfSome before (λ text. EachBase first.kept (λ b. Ran b (events_of text) first now old old (status_of (Err stop))))
+each_opened None session first now old stop is holds opened still h = tt
+each_opened (Some text) session first now old stop is holds opened still h =
+    λ b stands valid. opened_alone b (events_of text) first now old stop (left_open b session first now valid (is b stands valid) holds opened still) h
+
+-- a run that has come through all its events
+through : (b : Contents) (events : List Event) (first now : Seen) (old new : Option (List ℕ)) (accepted : Bool)
+    → Left b events first now → Appends old new (replies b events) → accepted ≡ accepts_all b events → Ran b events first now old new (status_of (Ok accepted))
+through b events first now old new true left written none = record {
   done = events;
   front = ([], sym (append_nil events));
+  valid = left.valid;
+  stands = inl left.holds;
+  holds = λ _ _. left.holds;
+  committed = λ _. left.holds;
+  commits = left.commits;
   written = λ _. written;
   part = λ e. absurd (omega arith);
   all = λ _. refl;
   accepted = λ _. sym none;
   refused = λ e. absurd (omega arith);
 }
-ran_all b events old new false written none = record {
+through b events first now old new false left written none = record {
   done = events;
   front = ([], sym (append_nil events));
+  valid = left.valid;
+  stands = inl left.holds;
+  holds = λ _ _. left.holds;
+  committed = λ _. left.holds;
+  commits = left.commits;
   written = λ _. written;
   part = λ e. absurd (omega arith);
   all = λ _. refl;
@@ -56,39 +155,53 @@ ran_all b events old new false written none = record {
   refused = λ _. sym none;
 }
 
--- a run that has come through all its events
-pub ran_through : (b : Contents) (events : List Event) (now : Contents) (old new : Option (List ℕ)) (accepted : Bool) → Comes b events now old new accepted → Ran b events old new (status_of (Ok accepted))
-ran_through b events now old new accepted come = ran_all b events old new accepted come.written come.none_refused
-
 -- a run that stopped at one of its events
-pub ran_early : (b : Contents) (events : List Event) (old new : Option (List ℕ)) (stop : Stop) → EndsEarly b events old new stop → Ran b events old new (status_of (Err stop))
-ran_early b events old new Source ends = early b events old new 3 ends.done ends.front.0 ends.front.1 ends.written (omega arith) (λ e. omega arith)
-ran_early b events old new Memory ends = early b events old new 6 ends.done ends.front.0 ends.front.1 ends.written (omega arith) (λ e. omega arith)
-ran_early b events old new Large ends = early b events old new 8 ends.done ends.front.0 ends.front.1 ends.written (omega arith) (λ e. omega arith)
-ran_early b events old new Sink ends = record {
-  done = ends.done;
-  front = ends.front;
-  written = λ h. absurd (h refl);
-  part = λ _. ends.written;
-  all = λ low. absurd (omega arith);
-  accepted = λ e. absurd (omega arith);
-  refused = λ e. absurd (omega arith);
-}
+stopped : (b : Contents) (events : List Event) (session : Contents) (first mid now : Seen) (old new : Option (List ℕ)) (stop : Stop)
+    → Rises (opening first.kept) first.commits mid.commits → IsStill now → IsValid session.catalog session.stmts → EndsEarly b events session mid now old new stop → Ran b events first now old new (status_of (Err stop))
+stopped b events session first mid now old new Source opened still valid ends =
+    early b events first now old new 3 ends.done ends.front.0 ends.front.1 (left_by b ends.done session first mid now opened ends.carried still valid) ends.written (omega arith) (λ e. omega arith)
+stopped b events session first mid now old new Keeper opened still valid ends =
+    early b events first now old new 5 ends.done ends.front.0 ends.front.1 (left_by b ends.done session first mid now opened ends.carried still valid) ends.written (omega arith) (λ e. omega arith)
+stopped b events session first mid now old new Memory opened still valid ends =
+    early b events first now old new 6 ends.done ends.front.0 ends.front.1 (left_by b ends.done session first mid now opened ends.carried still valid) ends.written (omega arith) (λ e. omega arith)
+stopped b events session first mid now old new Large opened still valid ends =
+    early b events first now old new 8 ends.done ends.front.0 ends.front.1 (left_by b ends.done session first mid now opened ends.carried still valid) ends.written (omega arith) (λ e. omega arith)
+stopped b events session first mid now old new Sink opened still valid ends =
+    let left = left_by b ends.done session first mid now opened ends.carried still valid in
+    record {
+      done = ends.done;
+      front = ends.front;
+      valid = left.valid;
+      stands = inl left.holds;
+      holds = λ _ _. left.holds;
+      committed = λ _. left.holds;
+      commits = left.commits;
+      written = λ h. absurd (h refl);
+      part = λ _. ends.written;
+      all = λ low. absurd (omega arith);
+      accepted = λ e. absurd (omega arith);
+      refused = λ e. absurd (omega arith);
+    }
+
+ran_from : (b : Contents) (events : List Event) (session : Contents) (first mid now : Seen) (old new : Option (List ℕ)) (result : Result Bool Stop)
+    → Rises (opening first.kept) first.commits mid.commits → IsStill now → IsValid session.catalog session.stmts → Ends b events session mid now old new result → Ran b events first now old new (status_of result)
+ran_from b events session first mid now old new (Ok accepted) opened still valid come =
+    through b events first now old new accepted (left_by b events session first mid now opened come.carried still valid) come.written come.none_refused
+ran_from b events session first mid now old new (Err stop) opened still valid ends = stopped b events session first mid now old new stop opened still valid ends
 
 -- what holds of the bytes that were read to their end holds of what was left
-pub ran_whole : (b : Contents) (before now : Option (List ℕ)) (text : List ℕ) (old new : Option (List ℕ)) (status : ℕ) → Consumes before now text → IsAtEnd now
-    → Ran b (events_of text) old new status → IfSome before (λ t. Ran b (events_of t) old new status)
-ran_whole b None now text old new status taken end ran = tt
-ran_whole b (Some xs) None text old new status taken end ran = absurd taken
-ran_whole b (Some xs) (Some ys) text old new status taken end ran =
-    let is : text ≡ xs = sym (taken ∙ ap (λ l. text ++ l) end ∙ append_nil text) in
-    subst (λ (t : List ℕ). Ran b (events_of t) old new status) is ran
+ran_whole : (b : Contents) (xs : List ℕ) (now : Option (List ℕ)) (text : List ℕ) (events : List Event) (first seen : Seen) (old new : Option (List ℕ)) (status : ℕ)
+    → Consumes (Some xs) now text → IsAtEnd now → events ≡ events_of text → Ran b events first seen old new status → Ran b (events_of xs) first seen old new status
+ran_whole b xs None text events first seen old new status taken end is ran = absurd taken
+ran_whole b xs (Some ys) text events first seen old new status taken end is ran =
+    let same : text ≡ xs = sym (taken ∙ ap (λ l. text ++ l) end ∙ append_nil text) in
+    subst (λ (l : List Event). Ran b l first seen old new status) (is ∙ ap events_of same) ran
 
-pub ran_each : (b : Contents) (before : Option (List ℕ)) (old : Option (List ℕ)) (stop : Stop) → (stop ≡ Sink → ⊥) → IfSome before (λ t. Ran b (events_of t) old old (status_of (Err stop)))
-ran_each b None old stop h = tt
-ran_each b (Some xs) old stop h = ran_nothing b (events_of xs) old stop h
-
--- the same run, by what its base and its events are
-pub ran_same : (b b' : Contents) (es es' : List Event) (old new : Option (List ℕ)) (status : ℕ) → b ≡ b' → es ≡ es' → Ran b es old new status → Ran b' es' old new status
-ran_same b b' es es' old new status e f ran =
-    subst (λ (x : Contents). Ran x es' old new status) e (subst (λ (x : List Event). Ran b x old new status) f ran)
+pub each_run : (before left : Option (List ℕ)) (text : List ℕ) (events : List Event) (session next : Contents) (first mid now : Seen) (old new : Option (List ℕ)) (result : Result Bool Stop)
+    → ((b : Contents) → Stands first.kept b → IsValid b.catalog b.stmts → session ≡ b) → Rises (opening first.kept) first.commits mid.commits
+    → Consumes before left text → IsAtEnd left → events ≡ events_of text → IsStill now → IsValid next.catalog next.stmts → Ends session events next mid now old new result
+    → IfSome before (λ t. EachBase first.kept (λ b. Ran b (events_of t) first now old new (status_of result)))
+each_run None left text events session next first mid now old new result is opened taken end cut still valid ends = tt
+each_run (Some xs) left text events session next first mid now old new result is opened taken end cut still valid ends = λ b stands fine.
+    ran_whole b xs left text events first now old new (status_of result) taken end cut
+    (ran_from b events next first mid now old new result opened still valid (subst (λ (x : Contents). Ends x events next mid now old new result) (is b stands fine) ends))

@@ -1,12 +1,30 @@
 -- How a run of the top call ends.
-use Rattle.std.specs.Prelude.{◌≡◌, ◌≢◌, ℕ, ◌≤◌, Bool, true, false, List, [], ◌∷◌, ◌++◌, take, Option, Result, Ok, Err, MatchResult}
+use Rattle.std.specs.Prelude.{◌≡◌, ◌≢◌, ℕ, ◌-◌, ◌^◌, ◌<◌, ◌≤◌, Bool, true, false, List, [], ◌∷◌, ◌++◌, ◌⊎◌, take, Option, Result, Ok, Err, MatchResult}
+use Rattle.std.specs.FinMap as tables
 use Rattle.std.specs.Io.KnownBytes.{Appends}
-use Rattle.bdb_base.specs.Bases.{Contents}
+use Rattle.bdb_base.specs.Bases.{Contents, IsValid, empty_contents}
+use Rattle.bdb_base.specs.Causes.{Rises}
+use Rattle.bdb_keep.specs.Tables.{Tables}
+use Rattle.bdb_keep.specs.Seen.{Seen}
+use Rattle.bdb_tables.specs.Holds.{Holds, Stands}
 use Rattle.bdb_session.specs.declared.event.Event.{Event}
-use Rattle.bdb_session.specs.Machine.{reply_of, accepts, next_base}
+use Rattle.bdb_session.specs.Machine.{reply_of, accepts}
+use Rattle.bdb_session.specs.Opening.{opening}
 use Rattle.bdb_session.specs.Runs.{after, replies, accepts_all, IsFrontOf}
+use Rattle.bdb_top.specs.Counted.{counted}
 use Rattle.bdb_top.specs.declared.stop.Stop.{Stop}
-use Rattle.bdb_top.specs.declared.stop.Stop.TheVariants.{Source, Sink, Memory, Large}
+use Rattle.bdb_top.specs.declared.stop.Stop.TheVariants.{Source, Sink, Keeper, Memory, Large}
+
+-- for each valid base that these tables stand for; there is only one
+abbrev pub EachBase : Tables → (Contents → Type 0) → Type 0
+EachBase t P = (b : Contents) → Stands t b → IsValid b.catalog b.stmts → P b
+
+-- A session and a keeper have come from a base, and from what the keeper told first, by these events: the session has the
+-- base after them, the tables hold it, and there was one commit for each event that counts.
+pub record Carried (b : Contents) (done : List Event) (session : Contents) (first now : Seen) : Type 0 where
+  pub base : session ≡ after b done
+  pub holds : Holds now.kept session
+  pub commits : Rises (counted b done) first.commits now.commits
 
 -- the replies to these events were written, but perhaps a part of the last
 pub record WritesPart (b : Contents) (done : List Event) (old new : Option (List ℕ)) : Type 0 where
@@ -16,16 +34,16 @@ pub record WritesPart (b : Contents) (done : List Event) (old new : Option (List
   pub part : ℕ
   pub written : Appends old new (replies b front ++ take part (reply_of (after b front) last))
 
--- How one event was answered: with an Ok the base is the next one and the reply is written; where the sink failed a part of
--- the reply is written; after another Err nothing is, and the base is as it was.
-abbrev pub IsAnswer : Contents → Event → Contents → Option (List ℕ) → Option (List ℕ) → Result Bool Stop → Type 0
-IsAnswer b e now old new (Ok accepted) = (accepted ≡ accepts b e) × (now ≡ next_base b e) × Appends old new (reply_of b e)
-IsAnswer b e now old new (Err Sink) = (part : ℕ) × Appends old new (take part (reply_of b e))
-IsAnswer b e now old new (Err _) = Appends old new []
+-- How one event was answered: with an Ok it was carried out and the reply is written; where the sink failed it was carried
+-- out and a part of the reply is written; after another Err nothing was carried out or written.
+abbrev pub IsAnswer : Contents → Event → Contents → Seen → Seen → Option (List ℕ) → Option (List ℕ) → Result Bool Stop → Type 0
+IsAnswer b e session first now old new (Ok accepted) = Carried b (e ∷ []) session first now × (accepted ≡ accepts b e) × Appends old new (reply_of b e)
+IsAnswer b e session first now old new (Err Sink) = Carried b (e ∷ []) session first now × ((part : ℕ) × Appends old new (take part (reply_of b e)))
+IsAnswer b e session first now old new (Err _) = Carried b [] session first now × Appends old new []
 
--- The run has come through these events, each accepted or not: the base is the one after them, and all replies are written.
-pub record Comes (b : Contents) (done : List Event) (now : Contents) (old new : Option (List ℕ)) (accepted : Bool) : Type 0 where
-  pub base : now ≡ after b done
+-- The run has come through these events, each accepted or not, and all replies are written.
+pub record Comes (b : Contents) (done : List Event) (session : Contents) (first now : Seen) (old new : Option (List ℕ)) (accepted : Bool) : Type 0 where
+  pub carried : Carried b done session first now
   pub written : Appends old new (replies b done)
   pub none_refused : accepted ≡ accepts_all b done
 
@@ -35,14 +53,15 @@ Writes Sink b done old new = WritesPart b done old new
 Writes _ b done old new = Appends old new (replies b done)
 
 -- The run has come through the first of these events alone.
-pub record EndsEarly (b : Contents) (events : List Event) (old new : Option (List ℕ)) (stop : Stop) : Type 0 where
+pub record EndsEarly (b : Contents) (events : List Event) (session : Contents) (first now : Seen) (old new : Option (List ℕ)) (stop : Stop) : Type 0 where
   pub done : List Event
   pub front : IsFrontOf done events
+  pub carried : Carried b done session first now
   pub written : Writes stop b done old new
 
 -- how a run over these events ends
-abbrev pub Ends : Contents → List Event → Contents → Option (List ℕ) → Option (List ℕ) → Result Bool Stop → Type 0
-Ends b events now old new result = MatchResult result (Comes b events now old new) (EndsEarly b events old new)
+abbrev pub Ends : Contents → List Event → Contents → Seen → Seen → Option (List ℕ) → Option (List ℕ) → Result Bool Stop → Type 0
+Ends b events session first now old new result = MatchResult result (Comes b events session first now old new) (EndsEarly b events session first now old new)
 
 -- the status of a run
 abbrev pub status_of : Result Bool Stop → ℕ
@@ -50,14 +69,33 @@ status_of (Ok true) = 0
 status_of (Ok false) = 1
 status_of (Err Source) = 3
 status_of (Err Sink) = 4
+status_of (Err Keeper) = 5
 status_of (Err Memory) = 6
 status_of (Err Large) = 8
 
--- A run over these events from a base has ended with a status. The first of the events are done, with 0 and 1 all of
--- them; their replies are written, but where the sink failed perhaps a part of the last alone.
-pub record Ran (b : Contents) (events : List Event) (old new : Option (List ℕ)) (status : ℕ) : Type 0 where
+-- how many of the commits between two states of a keeper are of events that count, unless the count stands at the end of
+-- its type: all but the one of opening
+abbrev pub CommitsFor : ℕ → Seen → Seen → Type 0
+CommitsFor k first now = now.commits < 2 ^ 64 - 1 → k ≡ now.commits - first.commits - opening first.kept
+
+-- The keeper was opened and nothing more: rows of a base stay as they were, and where there were none the rows are those of
+-- the empty base; no more was committed than that.
+pub record IsOpened (first now : Seen) : Type 0 where
+  pub rows : (now.kept ≡ first.kept) ⊎ ((first.kept ≡ tables.empty) × Holds now.kept empty_contents)
+  pub commits : Rises (opening first.kept) first.commits now.commits
+
+-- A run over these events from a base has ended with a status. The first of the events are done, with 0 and 1 all of them.
+-- The tables hold the base after them, a valid one; only where the keeper was not opened, with 5 or 6, they may still have no row and
+-- stand for the empty base. There was one commit for each event that counts, and the one of opening. The replies to the
+-- events are written, but where the sink failed perhaps a part of the last alone.
+pub record Ran (b : Contents) (events : List Event) (first now : Seen) (old new : Option (List ℕ)) (status : ℕ) : Type 0 where
   pub done : List Event
   pub front : IsFrontOf done events
+  pub valid : IsValid (after b done).catalog (after b done).stmts
+  pub stands : Stands now.last (after b done)
+  pub holds : status ≢ 5 → status ≢ 6 → Holds now.last (after b done)
+  pub committed : now.commits ≢ first.commits → Holds now.last (after b done)
+  pub commits : CommitsFor (counted b done) first now
   pub written : status ≢ 4 → Appends old new (replies b done)
   pub part : status ≡ 4 → WritesPart b done old new
   pub all : status ≤ 1 → done ≡ events

@@ -3,6 +3,7 @@
 
 mod answers;
 mod cutting;
+mod laws;
 mod script;
 mod status;
 mod stop;
@@ -11,6 +12,7 @@ mod tests;
 mod top;
 mod words;
 
+pub use laws::{count_tells_the_base, no_rows_stand_for_a_base, ran_ends_by_count};
 pub use stop::Stop;
 pub use top::run;
 pub use words::{Job, WordsError, job_of};

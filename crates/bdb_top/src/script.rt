@@ -1,5 +1,5 @@
 // Reading a script whole.
-ghost use Rattle.std.specs.Prelude.{◌≡◌, ◌≤◌, ◌^◌, ℕ, IfOk, OnOk, OnErr, IsErrOf, length};
+ghost use Rattle.std.specs.Prelude.{◌≡◌, ◌<◌, ◌≤◌, ◌^◌, ℕ, IfSome, IfOk, OnOk, OnErr, IsErrOf, length};
 ghost use Rattle.std.specs.Io.KnownBytes.{Consumes, IsAtEnd};
 ghost use Rattle.bdb_base.specs.Causes.{Rose, Rises, RisesOver};
 
@@ -20,8 +20,9 @@ pub fn read_script<S: Source>(alloc: Global, script: &mut S) -> Result<Vec<u8>, 
     ensures few { IfOk result (λ text. length text.items ≤ 2 ^ 26) }
     ensures source { IsErrOf result Stop.Source → Rose (S.faults script.old) (S.faults script.new) }
     ensures large { IsErrOf result Stop.Large → RisesOver (2 ^ 26) (S.given script.old) (S.given script.new) }
+    ensures many { IsErrOf result Stop.Large → IfSome (S.left script.old) (λ text. 2 ^ 26 < length text) }
     ensures small { OnOk result ((n : ℕ) × (n ≤ 2 ^ 26) × Rises n (S.given script.old) (S.given script.new)) }
-    ensures others { IsErrOf result Stop.Sink → ⊥ }
+    ensures others { (IsErrOf result Stop.Sink → ⊥) × (IsErrOf result Stop.Keeper → ⊥) }
 {
     let mut text = Vec::new(alloc);
     let mut block = [0; BLOCK];

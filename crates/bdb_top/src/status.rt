@@ -13,6 +13,7 @@ pub fn status_of(ended: Result<bool, Stop>) -> u8
         Ok(false) => 1,
         Err(Stop::Source) => 3,
         Err(Stop::Sink) => 4,
+        Err(Stop::Keeper) => 5,
         Err(Stop::Memory) => 6,
         Err(Stop::Large) => 8,
     }

@@ -7,6 +7,8 @@ pub enum Stop {
     Source,
     /// A write failed.
     Sink,
+    /// The keeper of the rows failed.
+    Keeper,
     /// There is no memory.
     Memory,
     /// The script is too large.

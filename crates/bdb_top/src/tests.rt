@@ -1,12 +1,29 @@
-// Scripts and their replies, over a source and a sink in memory.
+// Scripts and their replies, over a source, a sink and a keeper in memory.
+ghost use Rattle.std.specs.Prelude.{◌≡◌, false};
+ghost use Rattle.std.specs.FinMap as tables;
+ghost use Rattle.bdb_base.specs.Bases.{Contents, IsValid};
+ghost use Rattle.bdb_tables.specs.Holds.{Stands};
+
 use super::*;
 use bdb_base::{List, Txt};
 use bdb_io::{MemSink, MemSource};
+use bdb_keep::{Keeper, MemKeeper, QuietKeeper};
 use std::alloc::Global;
 use std::test::Fail;
 
 /// Two curators and a relation.
 const SETUP: &str = "create user 'Alice'; create user 'Bob'; create relation S(k text, v text);\n";
+
+/// The same, and an insert, a command each.
+const COMMANDS: [&str; 4] = [
+    "create user 'Alice';",
+    "create user 'Bob';",
+    "create relation S(k text, v text);",
+    "insert into S values('s1','eagle');",
+];
+
+/// The replies to these commands.
+const REPLIES: &[u8] = b"ok\nok\nok\nok 1\n";
 
 /// How many bytes of replies a sink of these tests takes.
 const ROOM: usize = 4096;
@@ -25,14 +42,74 @@ fn listed(alloc: Global, numbers: &[u32]) -> Result<List<u32>, Fail> {
     Ok(list)
 }
 
-/// The status and the replies of a script behind the setup, read 7 bytes at a time.
-fn ran(alloc: Global, script: &str) -> Result<(u8, MemSink), Fail> {
-    let mut text = Vec::from_slice(alloc, SETUP.as_bytes())?;
-    text.extend_from_slice(script.as_bytes())?;
+/// A sink that never fails.
+fn sink(alloc: Global) -> Result<MemSink, Fail> {
+    Ok(MemSink::new(alloc, List::new(alloc), 0, ROOM)?)
+}
+
+/// The status of a script, read 7 bytes at a time, over a keeper that has a base.
+fn ran_on<K: Keeper>(
+    alloc: Global,
+    script: &[&str],
+    out: &mut MemSink,
+    keeper: &mut K,
+) -> Result<u8, Fail>
+    requires idle { (K.seen keeper.old).running ≡ false }
+    requires base { (b : Contents) × Stands (K.seen keeper.old).kept b × IsValid b.catalog b.stmts }
+    ensures idle { (K.seen keeper.new).running ≡ false }
+    ensures base { (b : Contents) × Stands (K.seen keeper.new).kept b × IsValid b.catalog b.stmts }
+{
+    let mut text = Vec::new(alloc);
+    for part in script {
+        text.extend_from_slice(part.as_bytes())?;
+    }
+    let words = words(alloc)?;
     let mut source = MemSource::new(text, 7, List::new(alloc));
-    let mut out = MemSink::new(alloc, List::new(alloc), 0, ROOM)?;
-    let status = run(alloc, words(alloc)?.as_slice(), &mut source, &mut out);
-    Ok((status, out))
+    Ok(run(alloc, words.as_slice(), &mut source, out, keeper))
+}
+
+/// The same over a keeper without rows.
+fn ran<K: Keeper>(
+    alloc: Global,
+    script: &[&str],
+    out: &mut MemSink,
+    keeper: &mut K,
+) -> Result<u8, Fail>
+    requires idle { (K.seen keeper.old).running ≡ false }
+    requires empty { (K.seen keeper.old).kept ≡ tables.empty }
+    ensures idle { (K.seen keeper.new).running ≡ false }
+    ensures base { (b : Contents) × Stands (K.seen keeper.new).kept b × IsValid b.catalog b.stmts }
+{
+    ran_on(alloc, script, out, keeper)
+}
+
+/// The status, the replies and the keeper of a script over a keeper that never fails.
+fn ran_quietly(alloc: Global, script: &[&str]) -> Result<(u8, MemSink, QuietKeeper), Fail> {
+    let mut keeper = QuietKeeper::new(alloc);
+    let mut out = sink(alloc)?;
+    let status = ran(alloc, script, &mut out, &mut keeper)?;
+    Ok((status, out, keeper))
+}
+
+/// The status of a script over what another left, with the replies to both, and how often both committed.
+fn ran_again(alloc: Global, first: &[&str], next: &[&str]) -> Result<(u8, MemSink, u64), Fail> {
+    let mut keeper = QuietKeeper::new(alloc);
+    let mut out = sink(alloc)?;
+    ran(alloc, first, &mut out, &mut keeper)?;
+    let status = ran_on(alloc, next, &mut out, &mut keeper)?;
+    Ok((status, out, keeper.commits()))
+}
+
+/// The same over a keeper that fails these calls.
+fn ran_failing(
+    alloc: Global,
+    script: &[&str],
+    fails: &[u32],
+    mut out: MemSink,
+) -> Result<(u8, MemSink, MemKeeper), Fail> {
+    let mut keeper = MemKeeper::new(alloc, listed(alloc, fails)?);
+    let status = ran(alloc, script, &mut out, &mut keeper)?;
+    Ok((status, out, keeper))
 }
 
 #[test]
@@ -88,7 +165,7 @@ fn scripts_and_replies(rt: HostRuntime) -> Result<(), Fail> {
         ("insert into S values('a", "error unfinished\n", 1),
     ];
     for (script, replies, status) in cases {
-        let (ended, out) = ran(rt.alloc(), script)?;
+        let (ended, out, _) = ran_quietly(rt.alloc(), &[SETUP, script])?;
         assert_eq!(rt; ended, status, "{script}");
         let text = std::str::from_utf8(out.bytes())?;
         assert_eq!(rt;
@@ -101,29 +178,84 @@ fn scripts_and_replies(rt: HostRuntime) -> Result<(), Fail> {
 }
 
 #[test]
-fn faults_end_the_run(rt: HostRuntime) -> Result<(), Fail> {
+fn runs_go_on_from_what_is_kept(rt: HostRuntime) -> Result<(), Fail> {
     let alloc = rt.alloc();
-    let script = Vec::from_slice(
-        alloc,
-        b"create user 'A'; create user 'B'; create user 'C'; create user 'D';",
-    )?;
-    let mut source = MemSource::new(script, 65_536, List::new(alloc));
-    let mut out = MemSink::new(alloc, listed(alloc, &[4])?, 1, ROOM)?;
-    assert_eq!(rt;
-        run(alloc, words(alloc)?.as_slice(), &mut source, &mut out),
-        4
-    );
-    assert_eq!(rt; out.bytes(), b"ok\nok\nok\no".as_slice());
+    let mut format_alone = QuietKeeper::new(alloc);
+    format_alone.preset(1, &[0, 0, 0, 0], &[0, 0, 0, 1])?;
+    let (status, out, keeper) = ran_quietly(alloc, &[])?;
+    assert_eq!(rt; status, 0);
+    assert_eq!(rt; out.bytes().len(), 0);
+    assert_eq!(rt; keeper.commits(), 1);
+    assert!(rt; keeper.same_rows(&format_alone));
 
+    let more = ["show world; create user 'Bob';"];
+    let (status, out, commits) = ran_again(alloc, &COMMANDS, &more)?;
+    assert_eq!(rt; status, 1);
+    assert_eq!(rt;
+        out.bytes().strip_prefix(REPLIES),
+        Some(b"+ S('s1', 'eagle') explicit\nok 1\nerror taken 'Bob'\n".as_slice())
+    );
+    assert_eq!(rt; commits, 6);
+    Ok(())
+}
+
+/// Whether a keeper has the rows of one that was run over the first of the commands, as many as it committed.
+fn has_what_it_committed(alloc: Global, keeper: &MemKeeper) -> Result<bool, Fail> {
+    let mut expected = MemKeeper::new(alloc, List::new(alloc));
+    for count in 0..COMMANDS.len() + 1 {
+        if expected.commits() == keeper.commits() {
+            return Ok(expected.same_rows(keeper));
+        }
+        let (_, _, next) = ran_failing(alloc, &COMMANDS[..count], &[], sink(alloc)?)?;
+        expected = next;
+    }
+    Ok(expected.commits() == keeper.commits() && expected.same_rows(keeper))
+}
+
+#[test]
+fn each_call_of_the_keeper_fails_once(rt: HostRuntime) -> Result<(), Fail> {
+    let alloc = rt.alloc();
+    for call in 1..100 {
+        let (status, out, keeper) = ran_failing(alloc, &COMMANDS, &[call], sink(alloc)?)?;
+        assert!(rt; has_what_it_committed(alloc, &keeper)?, "call {call}");
+        if status != 5 {
+            assert_eq!(rt; status, 0);
+            assert_eq!(rt; out.bytes(), REPLIES);
+            assert!(rt; 12 < call, "call {call}");
+            return Ok(());
+        }
+        assert!(rt; REPLIES.starts_with(out.bytes()), "call {call}");
+    }
+    assert!(rt; false);
+    Ok(())
+}
+
+#[test]
+fn a_fault_of_the_sink_ends_the_run(rt: HostRuntime) -> Result<(), Fail> {
+    let alloc = rt.alloc();
+    let out = MemSink::new(alloc, listed(alloc, &[4])?, 1, ROOM)?;
+    let (status, out, keeper) = ran_failing(alloc, &COMMANDS, &[], out)?;
+    assert_eq!(rt; status, 4);
+    assert_eq!(rt; out.bytes(), b"ok\nok\nok\no".as_slice());
+    assert_eq!(rt; keeper.commits(), 5);
+    assert!(rt; has_what_it_committed(alloc, &keeper)?);
+    Ok(())
+}
+
+/// The status of these words over a source that fails at its first read.
+fn ran_unread(alloc: Global, words: &[Txt]) -> Result<u8, Fail> {
     let script = Vec::from_slice(alloc, b"create user 'A';")?;
     let mut source = MemSource::new(script, 1, listed(alloc, &[1])?);
-    let mut out = MemSink::new(alloc, List::new(alloc), 0, ROOM)?;
-    assert_eq!(rt;
-        run(alloc, words(alloc)?.as_slice(), &mut source, &mut out),
-        3
-    );
-    assert_eq!(rt; run(alloc, &[], &mut source, &mut out), 2);
-    assert_eq!(rt; out.bytes().len(), 0);
+    let mut keeper = QuietKeeper::new(alloc);
+    let mut out = sink(alloc)?;
+    Ok(run(alloc, words, &mut source, &mut out, &mut keeper))
+}
+
+#[test]
+fn a_fault_of_the_source_ends_the_run(rt: HostRuntime) -> Result<(), Fail> {
+    let alloc = rt.alloc();
+    assert_eq!(rt; ran_unread(alloc, words(alloc)?.as_slice())?, 3);
+    assert_eq!(rt; ran_unread(alloc, &[])?, 2);
     Ok(())
 }
 

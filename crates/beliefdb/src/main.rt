@@ -2,7 +2,8 @@
 #![tactic(auto)]
 
 use bdb_base::{List, Txt};
-use bdb_io::{NoSource, ReadSource, WriteSink};
+use bdb_io::{NoSource, ReadSource, Source, WriteSink};
+use bdb_keep::QuietKeeper;
 use bdb_top::{Job, WordsError, job_of, run};
 use std::alloc::AllocError;
 use std::env;
@@ -32,22 +33,23 @@ fn words_of(rt: &HostRuntime) -> io::Result<List<Txt>> {
     Ok(words)
 }
 
-/// Makes the source and the sink that the words name, and calls the top call with them.
+/// Makes the source that the words name, and runs them over it.
 fn run_words(rt: &HostRuntime, words: &[Txt]) -> u8 {
-    let alloc = rt.alloc();
-    let mut out = WriteSink::new(io::writer(rt));
-    match job_of(alloc, words) {
+    match job_of(rt.alloc(), words) {
         Ok(Job::Run { script: Some(file) }) => match File::open(rt, file.as_str()) {
-            Ok(file) => run(alloc, words, &mut ReadSource::new(file), &mut out),
-            Err(_) => run(alloc, words, &mut NoSource::new(), &mut out),
+            Ok(file) => run_over(rt, words, &mut ReadSource::new(file)),
+            Err(_) => run_over(rt, words, &mut NoSource::new()),
         },
-        Ok(Job::Run { script: None }) => run(
-            alloc,
-            words,
-            &mut ReadSource::new(rt.reader()),
-            &mut out,
-        ),
-        Err(WordsError::BadWords) => run(alloc, words, &mut NoSource::new(), &mut out),
+        Ok(Job::Run { script: None }) => run_over(rt, words, &mut ReadSource::new(rt.reader())),
+        Err(WordsError::BadWords) => run_over(rt, words, &mut NoSource::new()),
         Err(WordsError::Memory) => NO_MEMORY,
     }
+}
+
+/// Runs the words over a source, with standard output as the sink, and a keeper in memory without rows.
+fn run_over<S: Source>(rt: &HostRuntime, words: &[Txt], script: &mut S) -> u8 {
+    let alloc = rt.alloc();
+    let mut out = WriteSink::new(io::writer(rt));
+    let mut keeper = QuietKeeper::new(alloc);
+    run(alloc, words, script, &mut out, &mut keeper)
 }

@@ -1,4 +1,4 @@
-use Rattle.std.proofs.Common.{arith, take, drop, ◌+◌}
+use Rattle.std.proofs.Common.{rules, arith, take, drop, ◌+◌}
 use Rattle.bdb_top.proofs.RunLemmas.{comes_one, comes_stops, front_step, front_split}
 use Rattle.bdb_top.proofs.answers.carry_out.Goals as goal
 
@@ -7,7 +7,7 @@ returns-in-Err-clause-ends g c =
     let events = c.args.events.now in
     let i = c.loop-event.event-index in
     let e = c.event-item.result in
-    comes_stops c.args.session.now events (take i events) e (drop (i + 1) events) c.loop-event.session c.answer.new.session _ _ _ c.loop-event.accepted c.in-Err.stop
+    comes_stops c.args.session.now events (take i events) e (drop (i + 1) events) c.loop-event.session c.answer.new.session _ _ _ _ _ _ c.loop-event.accepted c.in-Err.stop
     (front_split events i e (omega (arith, c.loop-event-test.true)) c.event-item.is) c.loop-event.invariant.come c.in-Err.ensures.answered
 
 pub loop-event-preserved : goal.loop-event-preserved
@@ -16,7 +16,9 @@ loop-event-preserved g c =
     let i = c.loop-event.event-index in
     let e = c.event-item.result in
     record {
-      come = comes_one c.args.session.now (take i events) (take (i + 1) events) e c.loop-event.session c.answer.new.session _ _ _ c.loop-event.accepted c.in-Ok.fine
+      come = comes_one c.args.session.now (take i events) (take (i + 1) events) e c.loop-event.session c.answer.new.session _ _ _ _ _ _ c.loop-event.accepted c.in-Ok.fine
           (front_step events i e (omega (arith, c.loop-event-test.true)) c.event-item.is) c.loop-event.invariant.come c.in-Ok.ensures.answered;
+      still = search rules;
+      keeper = omega (arith, c.answer.ensures.keeper.later);
       sink = omega (arith, c.answer.ensures.later);
     }
