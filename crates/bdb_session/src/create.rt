@@ -14,7 +14,7 @@ use crate::session::Session;
 use crate::stop::StopError;
 use crate::transact::{commit_relation, commit_user};
 use bdb_base::{Catalog, Exact, RelDef, Txt};
-use bdb_bind::Bound;
+use bdb_bind::{Bound, NameIndex};
 use bdb_keep::Keeper;
 use bdb_render::{Refusal, ok_reply};
 use std::alloc::{AllocError, Global};
@@ -62,11 +62,16 @@ impl Session {
             Ok(catalog) => catalog,
             Err(_) => return Err(StopError::Memory),
         };
+        let index = match NameIndex::of(self.alloc, &catalog) {
+            Ok(index) => index,
+            Err(_) => return Err(StopError::Memory),
+        };
         match commit_user(self.alloc, keeper, uid, &name) {
             Ok(()) => {}
             Err(stop) => return Err(stop),
         }
         self.base.set_catalog(catalog);
+        self.index = index;
         Ok(Reply::accepted(text))
     }
 
@@ -112,11 +117,16 @@ impl Session {
             Ok(catalog) => catalog,
             Err(_) => return Err(StopError::Memory),
         };
+        let index = match NameIndex::of(self.alloc, &catalog) {
+            Ok(index) => index,
+            Err(_) => return Err(StopError::Memory),
+        };
         match commit_relation(self.alloc, keeper, rel, &def) {
             Ok(()) => {}
             Err(stop) => return Err(stop),
         }
         self.base.set_catalog(catalog);
+        self.index = index;
         Ok(Reply::accepted(text))
     }
 }

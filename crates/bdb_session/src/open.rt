@@ -13,6 +13,7 @@ use crate::session::Session;
 use crate::stop::StopError;
 use crate::transact::{commit_format, stop_from};
 use bdb_base::{Base, Catalog};
+use bdb_bind::NameIndex;
 use bdb_keep::Keeper;
 use bdb_tables::{MetaTab, get, read_relations, read_statements, read_users};
 use std::alloc::Global;
@@ -61,10 +62,16 @@ fn read_session<K: Keeper>(alloc: Global, keeper: &mut K) -> Result<Session, Sto
         Ok(stmts) => stmts,
         Err(error) => return Err(stop_from(error)),
     };
+    let catalog = Catalog { rels, users };
+    let index = match NameIndex::of(alloc, &catalog) {
+        Ok(index) => index,
+        Err(_) => return Err(StopError::Memory),
+    };
     match counts_of(alloc, stmts.as_slice()) {
         Ok(counts) => Ok(Session {
-            base: Base::from_parts(Catalog { rels, users }, stmts),
+            base: Base::from_parts(catalog, stmts),
             counts,
+            index,
             alloc,
         }),
         Err(_) => Err(StopError::Memory),
@@ -88,6 +95,7 @@ fn new_session<K: Keeper>(alloc: Global, keeper: &mut K) -> Result<Session, Stop
             worlds: 1,
             tuples: 0,
         },
+        index: NameIndex::new(alloc),
         alloc,
     })
 }

@@ -13,7 +13,7 @@ use crate::refusals::refusal_from;
 use crate::reply::Reply;
 use crate::stop::StopError;
 use bdb_base::{Base, Catalog, List};
-use bdb_bind::{Bound, bind};
+use bdb_bind::{Bound, NameIndex, bind_by};
 use bdb_keep::Keeper;
 use bdb_render::{Refusal, refusal_reply};
 use bdb_syntax::Command;
@@ -25,6 +25,7 @@ use std::marker::Model;
 pub struct Session {
     pub(crate) base: Base,
     pub(crate) counts: Counts,
+    pub(crate) index: NameIndex,
     pub(crate) alloc: Global,
 }
 
@@ -126,7 +127,7 @@ impl Session {
         ensures { IsServed self.old (refusal_of_command self.old command.now) (accepted_reply self.old (bound_of self.old.catalog command.now))
             (asked_base self.old (bound_of self.old.catalog command.now)) self.new (K.seen keeper.old) (K.seen keeper.new) result }
     {
-        match bind(self.alloc, self.base.catalog(), command) {
+        match bind_by(self.alloc, self.base.catalog(), &self.index, command) {
             Ok(bound) => self.execute(keeper, bound),
             Err(error) => match refusal_from(error) {
                 Some(refusal) => self.refuse(&refusal),
