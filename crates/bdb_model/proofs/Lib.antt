@@ -2,4 +2,6 @@ pub mod BaseLemmas
 pub mod ChoosingLemmas
 pub mod ClashLemmas
 pub mod LevelLemmas
+pub mod PassLemmas
+pub mod SlotLemmas
 pub mod SourceLemmas
