@@ -4,5 +4,6 @@ pub mod ClashLemmas
 pub mod HoldingLemmas
 pub mod LevelLemmas
 pub mod PassLemmas
+pub mod PoolLemmas
 pub mod SlotLemmas
 pub mod SourceLemmas
