@@ -1,4 +1,5 @@
 pub mod BaseLemmas
+pub mod ChainLemmas
 pub mod ChoosingLemmas
 pub mod ClashLemmas
 pub mod HoldingLemmas

@@ -27,7 +27,7 @@ use Rattle.bdb_model.specs.Pools.{world_at, is_plus_of, plus_tuples, denies}
 use Rattle.bdb_model.specs.Slots.{user_tuple, user_tuples}
 use Rattle.bdb_model.proofs.PassLemmas.{found_with}
 
-found_nowhere : {X : Type 0} (x : X) → Found x [] → ⊥
+pub found_nowhere : {X : Type 0} (x : X) → Found x [] → ⊥
 found_nowhere x f = false≢true (f (λ _. true) refl)
 
 -- ---- users
