@@ -8,3 +8,4 @@ pub mod PassLemmas
 pub mod PoolLemmas
 pub mod SlotLemmas
 pub mod SourceLemmas
+pub mod WholeLemmas
