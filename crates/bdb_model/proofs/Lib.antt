@@ -1,3 +1,4 @@
+pub mod AnswerLemmas
 pub mod BaseLemmas
 pub mod ChainLemmas
 pub mod ChoosingLemmas
