@@ -1,5 +1,12 @@
+pub mod AnswerLemmas
 pub mod BaseLemmas
 pub mod ClashLemmas
 pub mod ChoosingLemmas
+pub mod ChainLemmas
+pub mod HoldingLemmas
 pub mod LevelLemmas
+pub mod PassLemmas
+pub mod PoolLemmas
+pub mod SlotLemmas
 pub mod SourceLemmas
+pub mod WholeLemmas

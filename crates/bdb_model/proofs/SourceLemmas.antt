@@ -64,7 +64,7 @@ values_equal x y v p q = ap (λ z. compare_so Eq z y) p ∙ ap (compare_so Eq (S
 -- ---- what a source is
 
 -- the right side of the first source that fits
-found_source : (r : Ref) (sources : List Cond) (o : Operand) → option_map (λ c. c.right) (find (λ c. same_column r c.left) sources) ≡ Some o
+pub found_source : (r : Ref) (sources : List Cond) (o : Operand) → option_map (λ c. c.right) (find (λ c. same_column r c.left) sources) ≡ Some o
     → (c : Cond) × (c.left ≡ r) × (c.right ≡ o) × ((p : Cond → Bool) → list_all p sources ≡ true → p c ≡ true)
 found_source r [] o e = cc
 found_source r (c ∷ cs) o e = elim (cases_Bool (same_column r c.left)) [
@@ -87,7 +87,7 @@ source_cases items sources r o e = elim (cases_Bool (is_given (slice_get items r
 ]
 
 -- a source that holds gives its column and its right side one value
-source_value : (items : List Item) (slots : List (Option Tuple)) (c : Cond) → is_source items c ≡ true → must_hold slots c ≡ true
+pub source_value : (items : List Item) (slots : List (Option Tuple)) (c : Cond) → is_source items c ≡ true → must_hold slots c ≡ true
     → (v : Value) × (known slots c.left ≡ Some v) × (known_operand slots c.right ≡ Some v)
 source_value items slots c s h =
     let eq : c.cmp ≡ Eq = is_equality_is c.cmp (and_parts (is_equality c.cmp) (is_simple items c.right) s).0 in
