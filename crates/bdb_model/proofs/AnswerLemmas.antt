@@ -24,6 +24,7 @@ use Rattle.bdb_queries.specs.QueryLaws.{IsHeldRow}
 use Rattle.bdb_queries.proofs.AnswerLemmas.{row_of_option}
 use Rattle.bdb_queries.proofs.DomainLemmas.{answers_are_what_holds, answers_need_no_domain}
 use Rattle.bdb_model.specs.Answering.{last_rows, rows_of_tuples, rows_of_worlds, rows_of_users, open_slots, all_rows}
+use Rattle.bdb_model.specs.Choosing.{chosen_rows}
 use Rattle.bdb_model.specs.Collected.{Collected, has_room, with_row, with_rows}
 use Rattle.bdb_model.specs.Limits.{up_to}
 use Rattle.bdb_model.specs.Pools.{item_world, user_pool, plus_pools, minus_pools}
@@ -182,3 +183,13 @@ collected_answers b q sources most valid fits safe are =
 pub over_domain : (b : Contents) (q : Query) (most : ℕ) (rows : Option (List (List Value))) → IsSafe b.catalog.rels q → rows ≡ up_to most (answers_of b q)
     → (dom : List Value) → HasValues dom (active_domain b q) → rows ≡ up_to most (answers_over b dom q)
 over_domain b q most rows safe e dom more = e ∙ ap (up_to most) (sym (answers_need_no_domain b dom q safe more))
+
+-- all rows, from the parts that they are made of
+pub all_rows_of : (b : Contents) (q : Query) (sources : List Cond) (conds more : List Cond) (pools : List (Option (List Tuple))) (slots : List (Option Tuple))
+    → conds ≡ q.conds → more ≡ sources → pools ≡ map (user_pool b.catalog.users) q.items → slots ≡ open_slots q.items
+    → chosen_rows conds (rows_of_users b q more) 0 pools slots ≡ all_rows b q sources
+all_rows_of b q sources conds more pools slots c m p s =
+    ap (λ x. chosen_rows x (rows_of_users b q more) 0 pools slots) c
+    ∙ ap (λ x. chosen_rows q.conds (rows_of_users b q x) 0 pools slots) m
+    ∙ ap (λ x. chosen_rows q.conds (rows_of_users b q sources) 0 x slots) p
+    ∙ ap (λ x. chosen_rows q.conds (rows_of_users b q sources) 0 (map (user_pool b.catalog.users) q.items) x) s

@@ -1,7 +1,7 @@
 -- How rows are collected.
-use Rattle.std.proofs.Common.{◌≡◌, ◌∙◌, ℕ, ◌+◌, ◌<◌, true, false, List, [], ◌∷◌, ◌++◌, refl, ap, sym, cond, drop, length, get_or, Option, Some, slice_set}
+use Rattle.std.proofs.Common.{◌≡◌, ◌∙◌, ℕ, ◌+◌, ◌<◌, true, false, List, [], ◌∷◌, ◌++◌, refl, ap, sym, cond, drop, length, get_or, Option, Some, slice_set, inl, inr}
 use Rattle.std.specs.List.{flat_map}
-use Rattle.std.proofs.lemmas.Bool.{cond-true, cond-false}
+use Rattle.std.proofs.lemmas.Bool.{cases_Bool, cond-true, cond-false}
 use Rattle.std.proofs.lemmas.List.{drop_more}
 use Rattle.bdb_base.specs.declared.kinds.Cond.{Cond}
 use Rattle.bdb_base.specs.declared.kinds.Value.{Value}
@@ -39,3 +39,14 @@ rows_with_allowed conds last at pools slots next t e h =
     ap (chosen_rows conds last (at + 1) pools) e
     ∙ sym (cond-true (may_all_hold (slice_set slots at (Some t)) conds) (chosen_rows conds last (at + 1) pools (slice_set slots at (Some t))) []
     (ap (λ s. may_all_hold s conds) (sym e) ∙ h))
+
+-- how many rows there may be stays the same
+pub with_rows_most : (f : Collected) (rows : List (List Value)) → (with_rows f rows).most ≡ f.most
+with_rows_most f [] = refl
+with_rows_most f (row ∷ rows) = with_rows_most (with_row f row) rows ∙ one f row
+  where
+    one : (f : Collected) (row : List Value) → (with_row f row).most ≡ f.most
+    one f row = elim (cases_Bool (has_room f)) [
+      | inl k ↦ ap (λ g. g.most) (cond-true (has_room f) (record { rows = put_in row_cmp f.rows row; most = f.most }) f k)
+      | inr k ↦ ap (λ g. g.most) (cond-false (has_room f) (record { rows = put_in row_cmp f.rows row; most = f.most }) f k)
+    ]
