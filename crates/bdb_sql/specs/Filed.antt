@@ -1,5 +1,5 @@
 -- What a keeper over a file tells of itself, and the words for how its calls end.
-use Rattle.std.specs.Prelude.{◌≡◌, ℕ, Bool, false, Option, Some, is_none, unwrap_or, IfSome, IsSome, Result, IsErrOf, OnOk, OnErr, refl}
+use Rattle.std.specs.Prelude.{◌≡◌, ◌≤◌, Bool, false, Option, Some, is_none, unwrap_or, IfSome, IsSome, Result, IsErrOf, OnOk, OnErr, refl}
 use Rattle.std.specs.Coded.{Coded, code_by, coded×, coded_option}
 use Rattle.std.specs.FinMap as map
 use Rattle.sqlite.specs.Held.{Held, held_code}
@@ -46,6 +46,7 @@ pub record Begins {S : Type 0} (k : Filed S) : Type 0 where
   pub still : IsStill k.seen
   pub fits : FitTables k.seen.kept
   pub empty : IsSome k.refusal → k.seen.kept ≡ map.empty
+  pub fault : k.refusal ≡ Some Fault → 1 ≤ k.seen.faults
   pub reads : k.seen.reads ≡ 0
   pub writes : k.seen.writes ≡ 0
   pub commits : k.seen.commits ≡ 0

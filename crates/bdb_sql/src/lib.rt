@@ -1,9 +1,11 @@
 //! A keeper whose rows are in an SQLite file.
 #![tactic(auto)]
 
-// mod file;
+mod file;
 mod keeper;
 mod load;
+#[cfg(test)]
+mod tests;
 mod told;
 mod write;
 

@@ -1,5 +1,6 @@
 // Loading the rows of a file.
-ghost use Rattle.std.specs.Prelude.{◌≡◌, IfOk, IfSome, OnOk};
+ghost use Rattle.std.specs.Prelude.{◌≡◌, ◌∷◌, ℕ, List, IfOk, IfSome, IfNone, OnOk};
+ghost use Rattle.std.specs.FinMap as map;
 ghost use Rattle.bdb_sql.specs.Entries.{FitTables, StandsFor};
 
 use crate::told::told;
@@ -60,6 +61,7 @@ fn read_rows<S: Alter>(alloc: Global, conn: &mut Connection<S>) -> Result<Store,
 #[tactic(auto, using(crate::proofs::FitLemmas::fits_insert))]
 fn add_row(store: &mut Store, row: &Row) -> Result<(), KeepError>
     requires { FitTables store.old.kept }
+    ensures added { OnOk result ((tab : ℕ) × (key : List ℕ) × (content : List ℕ) × StandsFor row.now tab key content × (store.new.kept ≡ map.insert store.old.kept (tab ∷ key) content)) }
     ensures settled { OnOk result (store.new.kept ≡ store.new.last) }
     ensures fits { OnOk result (FitTables store.new.kept) }
 {
@@ -74,7 +76,8 @@ fn add_row(store: &mut Store, row: &Row) -> Result<(), KeepError>
 
 /// What a row of the file stands for: a table, a key and a row; none where it fits no table 1 to 15.
 fn entry_of(row: &Row) -> Option<(u8, &[u8], &[u8])>
-    ensures { IfSome result (λ entry. StandsFor row.now entry.0 entry.1.now entry.2.now) }
+    ensures some { IfSome result (λ entry. StandsFor row.now entry.0 entry.1.now entry.2.now) }
+    ensures none { IfNone result ((tab : ℕ) (key content : List ℕ) → StandsFor row.now tab key content → ⊥) }
 {
     let (Ok(tab), Ok(key), Ok(content)) = (row.get_ref(0), row.get_ref(1), row.get_ref(2)) else {
         return None;
