@@ -132,12 +132,33 @@ impl<S: Alter> SqlKeeper<S> {
         ensures rest { IsAtRest self.old.seen }
     {
         let error = self.refusal?;
+        self.give_up(error);
+        Some(error)
+    }
+
+    /// Undoes the transaction because of a refusal, and counts a fault.
+    fn give_up(&mut self, error: KeepError)
+        ensures dropped { IsDropped self.old.seen self.new.seen }
+        ensures rose { error ≡ KeepError.Fault → Rose self.old.seen.faults self.new.seen.faults }
+        ensures counts { NeverFall self.old.seen self.new.seen }
+        ensures reads { self.new.seen.reads ≡ self.old.seen.reads }
+        ensures writes { self.new.seen.writes ≡ self.old.seen.writes }
+        ensures rest { IsAtRest self.old.seen }
+        ensures same { (self.new.refusal ≡ self.old.refusal) × (self.new.conn ≡ self.old.conn) }
+    {
         if error == KeepError::Fault {
             self.faults = self.faults.saturating_add(1);
         }
+        self.drop_changes();
+    }
+
+    /// Goes back to the rows last committed.
+    fn drop_changes(&mut self)
+        ensures dropped { self.new ≡ record self.old { seen = record self.old.seen { kept = self.old.seen.last; running = false } } }
+        ensures rest { IsAtRest self.old.seen }
+    {
         self.store.undo();
         self.running = false;
-        Some(error)
     }
 }
 
@@ -188,8 +209,7 @@ impl<S: Alter> Keeper for SqlKeeper<S> {
         match self.store.get(tab, key, row) {
             Ok(found) => Ok(found),
             Err(_) => {
-                self.store.undo();
-                self.running = false;
+                self.give_up(KeepError::Memory);
                 Err(KeepError::Memory)
             }
         }
@@ -225,8 +245,7 @@ impl<S: Alter> Keeper for SqlKeeper<S> {
         match self.store.next(tab, low, key, row) {
             Ok(found) => Ok(found),
             Err(_) => {
-                self.store.undo();
-                self.running = false;
+                self.give_up(KeepError::Memory);
                 Err(KeepError::Memory)
             }
         }
@@ -252,8 +271,7 @@ impl<S: Alter> Keeper for SqlKeeper<S> {
         match self.store.put(tab, key, row) {
             Ok(()) => Ok(()),
             Err(_) => {
-                self.store.undo();
-                self.running = false;
+                self.give_up(KeepError::Memory);
                 Err(KeepError::Memory)
             }
         }
@@ -280,8 +298,7 @@ impl<S: Alter> Keeper for SqlKeeper<S> {
         match self.store.remove(tab, key) {
             Ok(found) => Ok(found),
             Err(_) => {
-                self.store.undo();
-                self.running = false;
+                self.give_up(KeepError::Memory);
                 Err(KeepError::Memory)
             }
         }
@@ -312,11 +329,7 @@ impl<S: Alter> Keeper for SqlKeeper<S> {
                 Ok(())
             }
             Err(error) => {
-                if error == KeepError::Fault {
-                    self.faults = self.faults.saturating_add(1);
-                }
-                self.store.undo();
-                self.running = false;
+                self.give_up(error);
                 self.refusal = Some(KeepError::Fault);
                 Err(error)
             }
@@ -332,8 +345,7 @@ impl<S: Alter> Keeper for SqlKeeper<S> {
 
         ensures same { (self.new.refusal ≡ self.old.refusal) × (self.new.conn ≡ self.old.conn) }
     {
-        self.store.undo();
-        self.running = false;
+        self.drop_changes();
     }
 }
 
