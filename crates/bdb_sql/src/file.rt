@@ -3,6 +3,7 @@ ghost use Rattle.bdb_sql.specs.Filed.{Begins};
 
 use crate::keeper::SqlKeeper;
 use crate::told::told;
+use bdb_keep::KeepError;
 use sqlite::{Connection, File, FileStore};
 use std::alloc::Global;
 
@@ -15,6 +16,18 @@ impl SqlKeeper<FileStore<File>> {
         match Connection::open(rt, path) {
             Ok(conn) => SqlKeeper::over(alloc, conn),
             Err(error) => SqlKeeper::closed(alloc, told(error)),
+        }
+    }
+
+    /// Closes the file, and copies the log that lies beside it into it. What was committed is in the two of them in any
+    /// case, and a transaction that runs is forgotten.
+    pub fn close(self) -> Result<(), KeepError> {
+        let Some(conn) = self.into_connection() else {
+            return Ok(());
+        };
+        match conn.close() {
+            Ok(()) => Ok(()),
+            Err(error) => Err(told(error)),
         }
     }
 }
