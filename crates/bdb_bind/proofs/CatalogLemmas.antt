@@ -1,6 +1,6 @@
 -- What a valid catalog gives of the names that are found in it.
 use Rattle.std.proofs.Common.{◌≡◌, ◌∙◌, ℕ, ◌<◌, ◌≤◌, zero, suc, Bool, true, ◌&&◌, nat_lt, nat_le, List, [], ◌∷◌, length, Option, Some, None, find, sym, ap, subst, inl, inr, arith}
-use Rattle.std.specs.Option.{is_some}
+use Rattle.std.specs.Option.{is_some, option_and_then, IfSome}
 use Rattle.std.specs.List.{list_all, slice_get}
 use Rattle.std.proofs.lemmas.Bool.{cases_Bool, and_parts, cond-true, cond-false, leb-true, ltb-true, eqb-true, not-false}
 use Rattle.bdb_base.specs.declared.kinds.Catalog.{Catalog}
@@ -13,12 +13,12 @@ use Rattle.bdb_base.specs.Same.{same_text}
 use Rattle.bdb_syntax.specs.declared.command.Command.{Command}
 use Rattle.bdb_syntax.specs.declared.command.Command.TheVariants.{Insert}
 use Rattle.bdb_bind.specs.Lookup.{number_of, columns_in, columns_of, path_of}
-use Rattle.bdb_bind.specs.Parts.{path_names}
+use Rattle.bdb_bind.specs.Parts.{path_names, relation_name, relation_place, columns_for, change_columns}
 use Rattle.bdb_bind.specs.Lines.{relation_line, arity_line}
-use Rattle.bdb_bind.specs.Refusal.{refusal_of}
+use Rattle.bdb_bind.specs.Refusal.{names_refused}
 use Rattle.bdb_bind.proofs.Founds.{IsFound, found, is_there}
 use Rattle.bdb_bind.proofs.PathLemmas.{path_alternates}
-use Rattle.bdb_bind.proofs.Cleared.{cleared, users_known, names_apart, not_refused}
+use Rattle.bdb_bind.proofs.Cleared.{cleared, neither, users_known, names_apart, not_refused}
 
 pub users_few : (c : Catalog) → IsCatalog c → length c.users ≤ 256
 users_few c valid = leb-true (length c.users) 256 valid.few_users
@@ -58,7 +58,7 @@ pub relation_found : (c : Catalog) (name : List ℕ) → is_some (number_of c.re
 relation_found c name known = let w = is_there (number_of c.rels name) known in (w.0, w.1, found _ 0 c.rels w.0 w.1)
 
 -- the path of a command that isn't refused alternates
-pub accepted_alternates : (catalog : Catalog) (c : Command) (names : List (List ℕ)) → refusal_of catalog c ≡ None → names ≡ path_names c
+pub accepted_alternates : (catalog : Catalog) (c : Command) (names : List (List ℕ)) → names_refused catalog c ≡ None → names ≡ path_names c
     → alternates (path_of catalog.users names) ≡ true
 accepted_alternates catalog c names accepted same =
     let clear = cleared catalog c accepted in
@@ -69,7 +69,7 @@ accepted_alternates catalog c names accepted same =
 pub insert_relation : (catalog : Catalog) (users : List (List ℕ)) (sign : Sign) (rel : List ℕ) (vals : List Value)
     → relation_line catalog (Insert users sign rel vals) ≡ None → is_some (number_of catalog.rels rel) ≡ true
 unfolding relation_line
-insert_relation catalog users sign rel vals e = not-false _ (not_refused _ _ e)
+insert_relation catalog users sign rel vals e = not-false _ (not_refused _ _ (neither _ _ e).0)
 
 -- its values are as many as the columns
 pub insert_arity : (catalog : Catalog) (users : List (List ℕ)) (sign : Sign) (rel : List ℕ) (vals : List Value)
@@ -79,7 +79,7 @@ insert_arity catalog users sign rel vals e = eqb-true _ _ (not-false _ (not_refu
 
 -- so there is at least one
 pub insert_filled : (catalog : Catalog) (users : List (List ℕ)) (sign : Sign) (rel : List ℕ) (vals : List Value) → IsCatalog catalog
-    → refusal_of catalog (Insert users sign rel vals) ≡ None → 0 < length vals
+    → names_refused catalog (Insert users sign rel vals) ≡ None → 0 < length vals
 insert_filled catalog users sign rel vals valid accepted =
     let clear = cleared catalog (Insert users sign rel vals) accepted in
     let w = relation_found catalog rel (insert_relation catalog users sign rel vals clear.relation) in
@@ -87,3 +87,23 @@ insert_filled catalog users sign rel vals valid accepted =
     let same : columns_of catalog.rels rel ≡ w.2.item.cols = ap columns_in w.2.first in
     let counted = insert_arity catalog users sign rel vals clear.arity in
     omega (arith, ap length same)
+
+placed : (c : Catalog) (name : Option (List ℕ)) (at : ℕ) → IsCatalog c → option_and_then (number_of c.rels) name ≡ Some at → at < 64
+placed c None at valid same = cc
+placed c (Some name) at valid same =
+    let f = found (λ r. same_text r.name name) 0 c.rels at same in
+    let few = relations_few c valid in
+    omega (arith, f.place, f.within)
+
+-- the place of the relation that a change names is below 64
+pub place_few : (c : Catalog) (cmd : Command) (place : Option ℕ) → IsCatalog c → place ≡ relation_place c.rels cmd → IfSome place (λ at. at < 64)
+place_few c cmd None valid same = tt
+place_few c cmd (Some at) valid same = placed c (relation_name cmd) at valid (sym same)
+
+few_for : (c : Catalog) (name : Option (List ℕ)) → IsCatalog c → length (columns_for c.rels name) ≤ 16
+few_for c None valid = omega arith
+few_for c (Some name) valid = columns_few c name valid
+
+-- a change has few columns
+pub change_columns_few : (c : Catalog) (cmd : Command) → IsCatalog c → length (change_columns c.rels cmd) ≤ 16
+change_columns_few c cmd valid = few_for c (relation_name cmd) valid

@@ -8,8 +8,9 @@ use Rattle.bdb_syntax.specs.declared.command.Command.{Command}
 use Rattle.bdb_bind.specs.declared.bound.BindError.{BindError}
 use Rattle.bdb_bind.specs.Lookup.{is_user_name}
 use Rattle.bdb_bind.specs.Parts.{path_names, depth_limit, new_columns, is_long, some_text}
-use Rattle.bdb_bind.specs.Lines.{refused_if, or_next, has_repeat, text_line, items_line, relation_line, user_line, column_line, taken_line, repeat_line, deep_line, arity_line, kind_line}
-use Rattle.bdb_bind.specs.Refusal.{refusal_of}
+use Rattle.bdb_bind.specs.Firsts.{refused_if, or_next}
+use Rattle.bdb_bind.specs.Lines.{has_repeat, text_line, items_line, relation_line, user_line, alias_twice_line, alias_line, column_line, taken_line, repeat_line, deep_line, arity_line, kind_line}
+use Rattle.bdb_bind.specs.Refusal.{names_refused, unsafe_line, refusal_of}
 use Rattle.bdb_bind.proofs.Founds.{all_pass}
 
 -- no reason applies
@@ -18,6 +19,8 @@ pub record IsCleared (catalog : Catalog) (c : Command) : Type 0 where
   pub items : items_line c ≡ None
   pub relation : relation_line catalog c ≡ None
   pub user : user_line catalog c ≡ None
+  pub alias_twice : alias_twice_line c ≡ None
+  pub alias : alias_line c ≡ None
   pub column : column_line catalog c ≡ None
   pub taken : taken_line catalog c ≡ None
   pub no_repeat : repeat_line c ≡ None
@@ -37,12 +40,30 @@ pub nothing_mapped : {A B : Type 0} (f : A → B) (o : Option A) → option_map 
 nothing_mapped f None e = refl
 nothing_mapped f (Some x) e = cc
 
-pub cleared : (catalog : Catalog) (c : Command) → refusal_of catalog c ≡ None → IsCleared catalog c
+-- neither the names nor the safety are refused
+pub both_accepted : (catalog : Catalog) (c : Command) → refusal_of catalog c ≡ None → (names_refused catalog c ≡ None) × (unsafe_line catalog c ≡ None)
 unfolding refusal_of
+both_accepted catalog c e = neither (names_refused catalog c) (unsafe_line catalog c) e
+
+pub cleared : (catalog : Catalog) (c : Command) → names_refused catalog c ≡ None → IsCleared catalog c
+unfolding names_refused
 cleared catalog c e =
-    let p1 = neither _ _ e in let p2 = neither _ _ p1.1 in let p3 = neither _ _ p2.1 in let p4 = neither _ _ p3.1 in let p5 = neither _ _ p4.1 in
-    let p6 = neither _ _ p5.1 in let p7 = neither _ _ p6.1 in let p8 = neither _ _ p7.1 in let p9 = neither _ _ p8.1 in let p10 = neither _ _ p9.1 in
-    record { text = p1.0; items = p2.0; relation = p3.0; user = p4.0; column = p5.0; taken = p6.0; no_repeat = p7.0; deep = p8.0; arity = p9.0; kinds = p10.0 }
+    let p1 = neither _ _ e in let p2 = neither _ _ p1.1 in let p3 = neither _ _ p2.1 in let p4 = neither _ _ p3.1 in let p5 = neither _ _ p4.1 in let p6 = neither _ _ p5.1 in
+    let p7 = neither _ _ p6.1 in let p8 = neither _ _ p7.1 in let p9 = neither _ _ p8.1 in let p10 = neither _ _ p9.1 in let p11 = neither _ _ p10.1 in let p12 = neither _ _ p11.1 in
+    record {
+      text = p1.0;
+      items = p2.0;
+      relation = p3.0;
+      user = p4.0;
+      alias_twice = p5.0;
+      alias = p6.0;
+      column = p7.0;
+      taken = p8.0;
+      no_repeat = p9.0;
+      deep = p10.0;
+      arity = p11.0;
+      kinds = p12.0;
+    }
 
 pub no_long_text : (c : Command) → text_line c ≡ None → some_text is_long c ≡ false
 unfolding text_line
@@ -50,16 +71,16 @@ no_long_text c e = not_refused _ _ e
 
 pub few_columns : (c : Command) → items_line c ≡ None → length (new_columns c) ≤ 16
 unfolding items_line
-few_columns c e = ltb-false 16 (length (new_columns c)) (not_refused _ _ e)
+few_columns c e = ltb-false 16 (length (new_columns c)) (not_refused _ _ (neither _ _ e).0)
 
 pub users_known : (catalog : Catalog) (c : Command) → user_line catalog c ≡ None → list_all (is_user_name catalog.users) (path_names c) ≡ true
 unfolding user_line
-users_known catalog c e = all_pass (is_user_name catalog.users) (path_names c) (nothing_mapped _ _ e)
+users_known catalog c e = all_pass (is_user_name catalog.users) (path_names c) (nothing_mapped _ _ (neither _ _ e).0)
 
 pub names_apart : (c : Command) → repeat_line c ≡ None → has_repeat (path_names c) ≡ false
 unfolding repeat_line
-names_apart c e = not_refused _ _ e
+names_apart c e = not_refused _ _ (neither _ _ e).0
 
 pub not_deep : (c : Command) → deep_line c ≡ None → length (path_names c) ≤ depth_limit c
 unfolding deep_line
-not_deep c e = ltb-false (depth_limit c) (length (path_names c)) (not_refused _ _ e)
+not_deep c e = ltb-false (depth_limit c) (length (path_names c)) (not_refused _ _ (neither _ _ e).0)

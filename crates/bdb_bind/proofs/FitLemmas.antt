@@ -19,7 +19,8 @@ use Rattle.bdb_syntax.specs.declared.command.RawSide.TheVariants.{Col, Lit}
 use Rattle.bdb_syntax.specs.declared.command.RawSet.{RawSet}
 use Rattle.bdb_bind.specs.Lookup.{column_at, has_column, kind_at, path_of}
 use Rattle.bdb_bind.specs.Parts.{path_names, depth_limit, value_texts, side_texts, cond_columns, side_columns, is_long}
-use Rattle.bdb_bind.specs.Lines.{first_repeated, misfit, are_one_kind, kind_of, side_kind, fits_set, fits_cond}
+use Rattle.bdb_bind.specs.Kinds.{are_one_kind, kind_of}
+use Rattle.bdb_bind.specs.Lines.{first_repeated, misfit, side_kind, fits_set, fits_cond}
 use Rattle.bdb_bind.specs.Binding.{place_of, bound_side, bound_cond, bound_set}
 use Rattle.bdb_bind.specs.Fits.{is_unclean, fits_path, fits_found, set_fits, kind_of_place, side_fits, cond_fits}
 use Rattle.bdb_bind.proofs.Founds.{found, is_there, same_text_equal, same_text_itself}

@@ -1,8 +1,8 @@
 -- The law of fitting, command by command.
 use Rattle.std.proofs.Common.{◌≡◌, ◌∙◌, ℕ, ◌<◌, true, false, not, ◌&&◌, ◌||◌, nat_lt, nat_le, List, [], ◌∷◌, ◌++◌, length, map, Some, None, refl, sym, ap, arith, zero-add}
-use Rattle.std.specs.Option.{is_some, unwrap_or}
+use Rattle.std.specs.Option.{is_some, is_none, option_and_then, unwrap_or}
 use Rattle.std.specs.List.{list_any, list_all, slice_get}
-use Rattle.std.proofs.lemmas.Bool.{and_from, and_parts, or_parts, not-true, not-false, not_from_false, le-leb, lt-ltb}
+use Rattle.std.proofs.lemmas.Bool.{ltb-false, and_from, and_parts, or_parts, not-true, not-false, not_from_false, le-leb, lt-ltb}
 use Rattle.std.proofs.lemmas.List.{map-append}
 use Rattle.bdb_base.specs.declared.kinds.Catalog.{Catalog}
 use Rattle.bdb_base.specs.declared.kinds.ColDef.{ColDef}
@@ -14,15 +14,20 @@ use Rattle.bdb_base.specs.Bases.{IsCatalog, belongs, is_plain, fits_columns, are
 use Rattle.bdb_syntax.specs.declared.command.Command.{Command}
 use Rattle.bdb_syntax.specs.declared.command.Command.TheVariants.{CreateUser, CreateRelation, Insert, Delete, Update, Select, Explain, ShowWorld, ShowTables}
 use Rattle.bdb_syntax.specs.declared.command.RawCond.{RawCond}
+use Rattle.bdb_syntax.specs.declared.command.RawQuery.{RawQuery}
 use Rattle.bdb_syntax.specs.declared.command.RawSet.{RawSet}
 use Rattle.bdb_bind.specs.Lookup.{is_user_name, number_of, columns_in, columns_of, has_column}
-use Rattle.bdb_bind.specs.Parts.{value_texts, side_texts, cond_columns, is_long, some_text}
-use Rattle.bdb_bind.specs.Lines.{first_repeated, missing_column, relation_line, column_line, taken_line, misfit, fits_set, fits_cond, set_kinds, cond_kinds, kind_line}
+use Rattle.bdb_bind.specs.Parts.{query_of, value_texts, side_texts, cond_columns, is_long, some_who_text, some_query_text, some_text}
+use Rattle.bdb_bind.specs.Lines.{first_repeated, missing_column, items_line, relation_line, user_line, alias_line, column_line, repeat_line, taken_line, misfit, fits_set, fits_cond, set_kinds, cond_kinds, kind_line}
 use Rattle.bdb_bind.specs.Binding.{relation_at, bound_cond, bound_set, bound_of, statement_of}
-use Rattle.bdb_bind.specs.Fits.{is_unclean, names_allowed, is_allowed, set_fits, cond_fits, columns_numbered, fits_catalog, WhatIsBoundFits}
+use Rattle.bdb_bind.specs.QueryBinding.{bound_query}
+use Rattle.bdb_bind.specs.QueryLines.{query_items, query_relation, query_user, query_alias, query_column, query_repeat, query_kind}
+use Rattle.bdb_bind.specs.Refusal.{unsafe_line, refusal_of}
+use Rattle.bdb_bind.specs.Fits.{can_be_answered, is_unclean, names_allowed, is_allowed, set_fits, cond_fits, columns_numbered, fits_catalog, WhatIsBoundFits}
 use Rattle.bdb_bind.proofs.Founds.{all_pass}
-use Rattle.bdb_bind.proofs.Cleared.{IsCleared, cleared, neither, not_refused, nothing_mapped, no_long_text, few_columns}
+use Rattle.bdb_bind.proofs.Cleared.{IsCleared, cleared, both_accepted, neither, not_refused, nothing_mapped, no_long_text, few_columns}
 use Rattle.bdb_bind.proofs.CatalogLemmas.{relation_found, insert_relation, insert_arity}
+use Rattle.bdb_bind.proofs.QueryFitting.{IsClearQuery, clear_query_fits}
 use Rattle.bdb_bind.proofs.FitLemmas.{plain_text, path_fits, values_fit, sets_fit, conds_fit, none_among, any_mapped, distinct_with, none_repeated}
 
 -- the relation of a name, by its number
@@ -46,12 +51,12 @@ same_columns catalog name r = ap columns_in r.there ∙ sym r.columns
 delete_relation : (catalog : Catalog) (users : List (List ℕ)) (sign : Sign) (rel : List ℕ) (conds : List RawCond)
     → relation_line catalog (Delete users sign rel conds) ≡ None → is_some (number_of catalog.rels rel) ≡ true
 unfolding relation_line
-delete_relation catalog users sign rel conds e = not-false _ (not_refused _ _ e)
+delete_relation catalog users sign rel conds e = not-false _ (not_refused _ _ (neither _ _ e).0)
 
 update_relation : (catalog : Catalog) (users : List (List ℕ)) (sign : Sign) (rel : List ℕ) (sets : List RawSet) (conds : List RawCond)
     → relation_line catalog (Update users sign rel sets conds) ≡ None → is_some (number_of catalog.rels rel) ≡ true
 unfolding relation_line
-update_relation catalog users sign rel sets conds e = not-false _ (not_refused _ _ e)
+update_relation catalog users sign rel sets conds e = not-false _ (not_refused _ _ (neither _ _ e).0)
 
 -- the columns that are named are there
 columns_there : (cols : List ColDef) (names : List (List ℕ)) → missing_column cols names ≡ None → list_all (has_column cols) names ≡ true
@@ -61,14 +66,14 @@ columns_there cols names e = all_pass (has_column cols) names (nothing_mapped _ 
 delete_columns : (catalog : Catalog) (users : List (List ℕ)) (sign : Sign) (rel : List ℕ) (conds : List RawCond)
     → column_line catalog (Delete users sign rel conds) ≡ None → list_all (has_column (columns_of catalog.rels rel)) (cond_columns conds) ≡ true
 unfolding column_line
-delete_columns catalog users sign rel conds e = columns_there (columns_of catalog.rels rel) (cond_columns conds) e
+delete_columns catalog users sign rel conds e = columns_there (columns_of catalog.rels rel) (cond_columns conds) (neither _ _ e).0
 
 update_columns : (catalog : Catalog) (users : List (List ℕ)) (sign : Sign) (rel : List ℕ) (sets : List RawSet) (conds : List RawCond)
     → column_line catalog (Update users sign rel sets conds) ≡ None
     → (list_all (has_column (columns_of catalog.rels rel)) (map (λ s. s.col) sets) ≡ true) × (list_all (has_column (columns_of catalog.rels rel)) (cond_columns conds) ≡ true)
 unfolding column_line
 update_columns catalog users sign rel sets conds e =
-    let parts = neither _ _ e in
+    let parts = neither _ _ (neither _ _ e).0 in
     (columns_there (columns_of catalog.rels rel) (map (λ s. s.col) sets) parts.0, columns_there (columns_of catalog.rels rel) (cond_columns conds) parts.1)
 
 -- kinds agree
@@ -83,19 +88,19 @@ sets_agree cols sets e = all_pass (fits_set cols) sets (nothing_mapped _ _ e)
 insert_kinds : (catalog : Catalog) (users : List (List ℕ)) (sign : Sign) (rel : List ℕ) (vals : List Value)
     → kind_line catalog (Insert users sign rel vals) ≡ None → misfit (columns_of catalog.rels rel) vals ≡ None
 unfolding kind_line
-insert_kinds catalog users sign rel vals e = nothing_mapped _ _ e
+insert_kinds catalog users sign rel vals e = nothing_mapped _ _ (neither _ _ e).0
 
 delete_kinds : (catalog : Catalog) (users : List (List ℕ)) (sign : Sign) (rel : List ℕ) (conds : List RawCond)
     → kind_line catalog (Delete users sign rel conds) ≡ None → list_all (fits_cond (columns_of catalog.rels rel)) conds ≡ true
 unfolding kind_line
-delete_kinds catalog users sign rel conds e = conds_agree (columns_of catalog.rels rel) conds e
+delete_kinds catalog users sign rel conds e = conds_agree (columns_of catalog.rels rel) conds (neither _ _ e).0
 
 update_kinds : (catalog : Catalog) (users : List (List ℕ)) (sign : Sign) (rel : List ℕ) (sets : List RawSet) (conds : List RawCond)
     → kind_line catalog (Update users sign rel sets conds) ≡ None
     → (list_all (fits_set (columns_of catalog.rels rel)) sets ≡ true) × (list_all (fits_cond (columns_of catalog.rels rel)) conds ≡ true)
 unfolding kind_line
 update_kinds catalog users sign rel sets conds e =
-    let parts = neither _ _ e in
+    let parts = neither _ _ (neither _ _ e).0 in
     (sets_agree (columns_of catalog.rels rel) sets parts.0, conds_agree (columns_of catalog.rels rel) conds parts.1)
 
 -- new names are not taken
@@ -187,17 +192,61 @@ update_fits catalog users sign rel sets conds allowed clear =
     and_from _ _ (path_fits catalog c clear) (and_from _ _ (lt-ltb (relation_at catalog.rels rel) (length catalog.rels) r.within)
     (and_from _ _ sets_done (conds_fit_at catalog rel conds r conds_done)))
 
+-- the reasons to refuse a query, one by one
+clear_query : (catalog : Catalog) (c : Command) (q : RawQuery) → query_of c ≡ Some q → IsCleared catalog c → some_query_text is_long q ≡ false
+    → some_query_text is_unclean q ≡ false → IsClearQuery catalog q
+unfolding items_line relation_line user_line alias_line column_line repeat_line kind_line
+clear_query catalog c q same clear short clean =
+    let items : query_items q ≡ None = ap (option_and_then query_items) (sym same) ∙ (neither _ _ clear.items).1 in
+    let repeats : query_repeat q ≡ None = ap (option_and_then query_repeat) (sym same) ∙ (neither _ _ clear.no_repeat).1 in
+    record {
+      few = ltb-false 8 (length q.items) (or_parts (nat_lt 8 (length q.items)) (nat_lt 32 (length q.take)) (not_refused _ _ items)).0;
+      relation = ap (option_and_then (query_relation catalog.rels)) (sym same) ∙ (neither _ _ clear.relation).1;
+      user = ap (option_and_then (query_user catalog.users)) (sym same) ∙ (neither _ _ clear.user).1;
+      alias = ap (option_and_then query_alias) (sym same) ∙ clear.alias;
+      column = ap (option_and_then (query_column catalog.rels)) (sym same) ∙ (neither _ _ clear.column).1;
+      no_repeat = not_refused _ _ repeats;
+      kinds = ap (option_and_then (query_kind catalog.rels)) (sym same) ∙ (neither _ _ clear.kinds).1;
+      short = (or_parts (list_any (λ i. list_any (some_who_text is_long) i.path) q.items) (list_any (λ x. list_any is_long (side_texts x.right)) q.conds) short).1;
+      clean = (or_parts (list_any (λ i. list_any (some_who_text is_unclean) i.path) q.items) (list_any (λ x. list_any is_unclean (side_texts x.right)) q.conds) clean).1;
+    }
+
+-- a query that isn't refused can be answered
+selected_fits : (catalog : Catalog) (q : RawQuery) → IsCatalog catalog → is_allowed (Select q) ≡ true → refusal_of catalog (Select q) ≡ None
+    → can_be_answered catalog (bound_query catalog q) ≡ true
+unfolding unsafe_line
+selected_fits catalog q valid allowed accepted =
+    let both = both_accepted catalog (Select q) accepted in
+    let clear = cleared catalog (Select q) both.0 in
+    and_from _ _
+    (clear_query_fits catalog q valid (clear_query catalog (Select q) q refl clear (no_long_text (Select q) clear.text) (texts_clean (Select q) allowed)))
+    (ap is_none (nothing_mapped _ _ both.1))
+
+explained_fits : (catalog : Catalog) (q : RawQuery) → IsCatalog catalog → is_allowed (Explain q) ≡ true → refusal_of catalog (Explain q) ≡ None
+    → can_be_answered catalog (bound_query catalog q) ≡ true
+unfolding unsafe_line
+explained_fits catalog q valid allowed accepted =
+    let both = both_accepted catalog (Explain q) accepted in
+    let clear = cleared catalog (Explain q) both.0 in
+    and_from _ _
+    (clear_query_fits catalog q valid (clear_query catalog (Explain q) q refl clear (no_long_text (Explain q) clear.text) (texts_clean (Explain q) allowed)))
+    (ap is_none (nothing_mapped _ _ both.1))
+
+-- nothing in a command's names is refused
+names_cleared : (catalog : Catalog) (c : Command) → refusal_of catalog c ≡ None → IsCleared catalog c
+names_cleared catalog c accepted = cleared catalog c (both_accepted catalog c accepted).0
+
 pub what_is_bound_fits : WhatIsBoundFits
-what_is_bound_fits catalog (CreateUser name) valid allowed accepted = new_user_fits catalog name valid allowed (cleared catalog (CreateUser name) accepted)
+what_is_bound_fits catalog (CreateUser name) valid allowed accepted = new_user_fits catalog name valid allowed (names_cleared catalog (CreateUser name) accepted)
 what_is_bound_fits catalog (CreateRelation name cols) valid allowed accepted =
-    new_relation_fits catalog name cols valid allowed (cleared catalog (CreateRelation name cols) accepted)
+    new_relation_fits catalog name cols valid allowed (names_cleared catalog (CreateRelation name cols) accepted)
 what_is_bound_fits catalog (Insert users sign rel vals) valid allowed accepted =
-    insert_fits catalog users sign rel vals allowed (cleared catalog (Insert users sign rel vals) accepted)
+    insert_fits catalog users sign rel vals allowed (names_cleared catalog (Insert users sign rel vals) accepted)
 what_is_bound_fits catalog (Delete users sign rel conds) valid allowed accepted =
-    delete_fits catalog users sign rel conds allowed (cleared catalog (Delete users sign rel conds) accepted)
+    delete_fits catalog users sign rel conds allowed (names_cleared catalog (Delete users sign rel conds) accepted)
 what_is_bound_fits catalog (Update users sign rel sets conds) valid allowed accepted =
-    update_fits catalog users sign rel sets conds allowed (cleared catalog (Update users sign rel sets conds) accepted)
-what_is_bound_fits catalog (Select query) valid allowed accepted = refl
-what_is_bound_fits catalog (Explain query) valid allowed accepted = refl
-what_is_bound_fits catalog (ShowWorld users) valid allowed accepted = path_fits catalog (ShowWorld users) (cleared catalog (ShowWorld users) accepted)
+    update_fits catalog users sign rel sets conds allowed (names_cleared catalog (Update users sign rel sets conds) accepted)
+what_is_bound_fits catalog (Select query) valid allowed accepted = selected_fits catalog query valid allowed accepted
+what_is_bound_fits catalog (Explain query) valid allowed accepted = explained_fits catalog query valid allowed accepted
+what_is_bound_fits catalog (ShowWorld users) valid allowed accepted = path_fits catalog (ShowWorld users) (names_cleared catalog (ShowWorld users) accepted)
 what_is_bound_fits catalog ShowTables valid allowed accepted = refl

@@ -1,5 +1,5 @@
 -- What a command that isn't refused is bound to.
-use Rattle.std.specs.Prelude.{ℕ, List, [], map}
+use Rattle.std.specs.Prelude.{ℕ, List, map}
 use Rattle.std.specs.Option.{unwrap_or}
 use Rattle.bdb_base.specs.declared.kinds.Catalog.{Catalog}
 use Rattle.bdb_base.specs.declared.kinds.ColDef.{ColDef}
@@ -13,7 +13,7 @@ use Rattle.bdb_base.specs.declared.kinds.Value.{Value}
 use Rattle.bdb_base.specs.declared.kinds.Sign.{Sign}
 use Rattle.bdb_base.specs.declared.kinds.Stmt.{Stmt}
 use Rattle.bdb_syntax.specs.declared.command.Command.{Command}
-use Rattle.bdb_syntax.specs.declared.command.Command.TheVariants.{CreateUser, CreateRelation, Insert, Delete, Update, ShowWorld}
+use Rattle.bdb_syntax.specs.declared.command.Command.TheVariants.{CreateUser, CreateRelation, Insert, Delete, Update, Select, Explain, ShowWorld, ShowTables}
 use Rattle.bdb_syntax.specs.declared.command.RawCond.{RawCond}
 use Rattle.bdb_syntax.specs.declared.command.RawSide.{RawSide}
 use Rattle.bdb_syntax.specs.declared.command.RawSide.TheVariants.{Col, Lit}
@@ -21,6 +21,7 @@ use Rattle.bdb_syntax.specs.declared.command.RawSet.{RawSet}
 use Rattle.bdb_bind.specs.declared.bound.Bound.{Bound}
 use Rattle.bdb_bind.specs.declared.bound.Bound.TheVariants as bound
 use Rattle.bdb_bind.specs.Lookup.{path_of, number_of, columns_of, column_at}
+use Rattle.bdb_bind.specs.QueryBinding.{bound_query}
 
 -- the number of a relation that is there
 abbrev pub relation_at : List RelDef → List ℕ → ℕ
@@ -52,7 +53,7 @@ statement_of catalog users sign rel vals = record {
   tuple = record { rel = relation_at catalog.rels rel; vals = vals };
 }
 
--- what a command is bound to where it isn't refused; the kinds that are not bound so far have no meaning here
+-- what a command is bound to where it isn't refused
 abbrev pub bound_of : Catalog → Command → Bound
 bound_of catalog (CreateUser name) = bound.CreateUser name
 bound_of catalog (CreateRelation name cols) = bound.CreateRelation (record { name = name; cols = cols })
@@ -62,4 +63,6 @@ bound_of catalog (Delete users sign rel conds) = bound.Delete (path_of catalog.u
 bound_of catalog (Update users sign rel sets conds) = bound.Update (path_of catalog.users users) sign (relation_at catalog.rels rel)
     (map (bound_set (columns_of catalog.rels rel)) sets) (map (bound_cond (columns_of catalog.rels rel)) conds)
 bound_of catalog (ShowWorld users) = bound.ShowWorld (path_of catalog.users users)
-bound_of catalog _ = bound.ShowWorld []
+bound_of catalog (Select query) = bound.Select (bound_query catalog query)
+bound_of catalog (Explain query) = bound.Explain (bound_query catalog query)
+bound_of catalog ShowTables = bound.ShowTables

@@ -9,19 +9,22 @@ use Rattle.bdb_base.specs.declared.kinds.Cond.{Cond}
 use Rattle.bdb_base.specs.declared.kinds.Operand.{Operand}
 use Rattle.bdb_base.specs.declared.kinds.Operand.TheVariants as operand
 use Rattle.bdb_base.specs.declared.kinds.Kind.{Kind}
+use Rattle.bdb_base.specs.declared.kinds.Query.{Query}
 use Rattle.bdb_base.specs.declared.kinds.SetCol.{SetCol}
 use Rattle.bdb_base.specs.declared.kinds.Value.{Value}
 use Rattle.bdb_base.specs.Alternation.{alternates}
 use Rattle.bdb_base.specs.Bases.{IsCatalog, belongs, is_user, is_clean, is_plain, fits_kind, are_distinct, is_valid_relation}
+use Rattle.bdb_base.specs.Safety.{query_fits}
 use Rattle.bdb_syntax.specs.declared.command.Command.{Command}
 use Rattle.bdb_syntax.specs.declared.command.Command.TheVariants.{CreateRelation}
 use Rattle.bdb_bind.specs.declared.bound.Bound.{Bound}
 use Rattle.bdb_bind.specs.declared.bound.Bound.TheVariants as bound
 use Rattle.bdb_bind.specs.Lookup.{columns_in}
 use Rattle.bdb_bind.specs.Parts.{some_text}
-use Rattle.bdb_bind.specs.Lines.{are_one_kind}
+use Rattle.bdb_bind.specs.Kinds.{are_one_kind}
 use Rattle.bdb_bind.specs.Refusal.{refusal_of}
 use Rattle.bdb_bind.specs.Binding.{bound_of}
+use Rattle.bdb_bind.specs.Safe.{is_safe}
 
 -- a text holds a character below U+0020
 abbrev pub is_unclean : List ℕ → Bool
@@ -66,7 +69,12 @@ cond_fits cols c = nat_eq c.left.item 0 && side_fits cols c.left.col c.right
 abbrev pub columns_numbered : List RelDef → ℕ → List ColDef
 columns_numbered rels number = columns_in (slice_get rels number)
 
--- what is bound fits a catalog: with it a base that is valid stays so, but for clashes and for what it may be full of
+-- a query fits the catalog, and is safe
+abbrev pub can_be_answered : Catalog → Query → Bool
+can_be_answered catalog q = query_fits catalog q && is_safe catalog.rels q
+
+-- What is bound fits a catalog. With it a base that is valid stays so, but for clashes and for what it may be full of; and
+-- a query has answers.
 abbrev pub fits_catalog : Catalog → Bound → Bool
 fits_catalog catalog (bound.CreateUser name) = is_plain name && are_distinct (catalog.users ++ name ∷ [])
 fits_catalog catalog (bound.CreateRelation def) = is_valid_relation def && are_distinct (map (λ r. r.name) (catalog.rels ++ def ∷ []))
@@ -75,7 +83,10 @@ fits_catalog catalog (bound.Delete path sign rel conds) = fits_path catalog.user
     && list_all (cond_fits (columns_numbered catalog.rels rel)) conds)
 fits_catalog catalog (bound.Update path sign rel sets conds) = fits_path catalog.users 16 path && (nat_lt rel (length catalog.rels)
     && (list_all (set_fits (columns_numbered catalog.rels rel)) sets && list_all (cond_fits (columns_numbered catalog.rels rel)) conds))
+fits_catalog catalog (bound.Select query) = can_be_answered catalog query
+fits_catalog catalog (bound.Explain query) = can_be_answered catalog query
 fits_catalog catalog (bound.ShowWorld path) = fits_path catalog.users 1024 path
+fits_catalog catalog bound.ShowTables = true
 
 -- what an allowed command that isn't refused is bound to fits the catalog
 abbrev pub WhatIsBoundFits : Type 0

@@ -1,6 +1,13 @@
 pub mod Lookup
 pub mod Parts
+pub mod Firsts
+pub mod Kinds
+pub mod Scope
+pub mod QueryLines
 pub mod Lines
-pub mod Refusal
+pub mod QueryBinding
 pub mod Binding
+pub mod Safe
+pub mod Refusal
 pub mod Fits
+pub mod Indexes

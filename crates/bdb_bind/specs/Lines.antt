@@ -1,14 +1,12 @@
 -- The reasons to refuse a command, one by one.
-use Rattle.std.specs.Prelude.{◌≡◌, ◌≢◌, Result, MatchResult, map, ◌++◌, ℕ, Bool, true, false, not, ◌||◌, ◌==◌, nat_lt, List, [], ◌∷◌, ◌++◌, length, Option, None, Some, find, if◌then◌else◌}
-use Rattle.std.specs.Option.{option_map, is_some}
+use Rattle.std.specs.Prelude.{map, ◌++◌, ℕ, Bool, true, false, not, ◌||◌, ◌==◌, nat_lt, List, [], ◌∷◌, length, Option, None, Some, find, if◌then◌else◌}
+use Rattle.std.specs.Option.{option_map, option_and_then, is_some}
 use Rattle.std.specs.List.{list_any}
 use Rattle.bdb_base.specs.declared.kinds.Catalog.{Catalog}
 use Rattle.bdb_base.specs.declared.kinds.ColDef.{ColDef}
 use Rattle.bdb_base.specs.declared.kinds.RelDef.{RelDef}
 use Rattle.bdb_base.specs.declared.kinds.Kind.{Kind}
-use Rattle.bdb_base.specs.declared.kinds.Kind.TheVariants as kind
 use Rattle.bdb_base.specs.declared.kinds.Value.{Value}
-use Rattle.bdb_base.specs.declared.kinds.Value.TheVariants.{Int, Text}
 use Rattle.bdb_base.specs.Same.{same_text, same_kind}
 use Rattle.bdb_base.specs.Bases.{users_name}
 use Rattle.bdb_syntax.specs.declared.command.Command.{Command}
@@ -19,54 +17,58 @@ use Rattle.bdb_syntax.specs.declared.command.RawSide.TheVariants.{Col, Lit}
 use Rattle.bdb_syntax.specs.declared.command.RawSet.{RawSet}
 use Rattle.bdb_bind.specs.declared.bound.BindError.{BindError}
 use Rattle.bdb_bind.specs.declared.bound.BindError.TheVariants as error
+use Rattle.bdb_bind.specs.Firsts.{refused_if, or_next}
+use Rattle.bdb_bind.specs.Kinds.{kind_of, are_one_kind}
 use Rattle.bdb_bind.specs.Lookup.{is_user_name, number_of, columns_of, has_column, kind_at}
-use Rattle.bdb_bind.specs.Parts.{path_names, depth_limit, relation_name, new_columns, cond_columns, is_long, some_text}
-
--- a refusal that comes where a test holds
-abbrev pub refused_if : Bool → BindError → Option BindError
-refused_if true e = Some e
-refused_if false e = None
-
--- the first of two refusals that applies
-abbrev pub or_next : Option BindError → Option BindError → Option BindError
-or_next None next = next
-or_next (Some e) next = Some e
-
--- a check passes where its line does not apply, and else answers what the line says, unless there is no memory
-abbrev pub Checks : {T : Type 0} → Result T BindError → Option BindError → Type 0
-Checks result line = MatchResult result (λ _. line ≡ None) (λ e. e ≢ error.Memory → line ≡ Some e)
+use Rattle.bdb_bind.specs.Parts.{query_of, change_columns, path_names, depth_limit, relation_name, new_columns, cond_columns, is_long, some_text}
+use Rattle.bdb_bind.specs.QueryLines.{query_items, query_relation, query_user, query_alias_twice, query_alias, query_column, query_repeat, query_deep, query_kind}
 
 -- a text has more than 255 bytes
 unfoldable pub text_line : Command → Option BindError
 text_line c = refused_if (some_text is_long c) error.Text
 
--- a new relation has more than 16 columns
+-- a new relation has more than 16 columns, or a query too many items or columns
 unfoldable pub items_line : Command → Option BindError
-items_line c = refused_if (nat_lt 16 (length (new_columns c))) error.Items
+items_line c = or_next (refused_if (nat_lt 16 (length (new_columns c))) error.Items) (option_and_then query_items (query_of c))
 
 -- a name that should be a relation's is none
 abbrev pub unknown_relation : List RelDef → Option (List ℕ) → Option BindError
 unknown_relation rels None = None
 unknown_relation rels (Some name) = refused_if (not (is_some (number_of rels name))) (error.Relation name)
 
--- the relation isn't in the catalog
+-- a relation isn't in the catalog
 unfoldable pub relation_line : Catalog → Command → Option BindError
-relation_line catalog c = unknown_relation catalog.rels (relation_name c)
+relation_line catalog c = or_next (unknown_relation catalog.rels (relation_name c)) (option_and_then (query_relation catalog.rels) (query_of c))
 
--- the first name of the path that is no user's
+-- the first name of a path that is no user's
+abbrev pub unknown_user : List (List ℕ) → List (List ℕ) → Option BindError
+unknown_user users names = option_map error.User (find (λ name. not (is_user_name users name)) names)
+
+-- the first name after BELIEF that is no user's
 unfoldable pub user_line : Catalog → Command → Option BindError
-user_line catalog c = option_map error.User (find (λ name. not (is_user_name catalog.users name)) (path_names c))
+user_line catalog c = or_next (unknown_user catalog.users (path_names c)) (option_and_then (query_user catalog.users) (query_of c))
+
+-- the first alias that stands at an earlier item too
+unfoldable pub alias_twice_line : Command → Option BindError
+alias_twice_line c = option_and_then query_alias_twice (query_of c)
+
+-- the first alias that no item has
+unfoldable pub alias_line : Command → Option BindError
+alias_line c = option_and_then query_alias (query_of c)
 
 -- the first of these columns that a relation does not have
 unfoldable pub missing_column : List ColDef → List (List ℕ) → Option BindError
 missing_column cols names = option_map (error.Column None) (find (λ name. not (has_column cols name)) names)
 
--- the first column that the relation does not have: sets before tests, left before right
+-- the first column of a change that is none of these: sets before tests, left before right
+abbrev pub change_column : List ColDef → Command → Option BindError
+change_column cols (Delete users sign rel conds) = missing_column cols (cond_columns conds)
+change_column cols (Update users sign rel sets conds) = or_next (missing_column cols (map (λ s. s.col) sets)) (missing_column cols (cond_columns conds))
+change_column cols _ = None
+
+-- the first column that isn't there
 unfoldable pub column_line : Catalog → Command → Option BindError
-column_line catalog (Delete users sign rel conds) = missing_column (columns_of catalog.rels rel) (cond_columns conds)
-column_line catalog (Update users sign rel sets conds) = or_next (missing_column (columns_of catalog.rels rel) (map (λ s. s.col) sets))
-    (missing_column (columns_of catalog.rels rel) (cond_columns conds))
-column_line catalog _ = None
+column_line catalog c = or_next (change_column (change_columns catalog.rels c) c) (option_and_then (query_column catalog.rels) (query_of c))
 
 -- the first column whose name stands earlier in the list, or among the columns seen before
 abbrev pub first_repeated : List ColDef → List ColDef → Option (List ℕ)
@@ -91,34 +93,28 @@ abbrev pub has_repeat : List (List ℕ) → Bool
 has_repeat [] = false
 has_repeat (n ∷ ns) = begins_with n ns || has_repeat ns
 
--- the path names one user twice in a row
+-- a path names one user twice in a row
 unfoldable pub repeat_line : Command → Option BindError
-repeat_line c = refused_if (has_repeat (path_names c)) error.Repeat
+repeat_line c = or_next (refused_if (has_repeat (path_names c)) error.Repeat) (option_and_then query_repeat (query_of c))
 
--- the path is too long
+-- a path is too long
 unfoldable pub deep_line : Command → Option BindError
-deep_line c = refused_if (nat_lt (depth_limit c) (length (path_names c))) error.Deep
+deep_line c = or_next (refused_if (nat_lt (depth_limit c) (length (path_names c))) error.Deep) (option_and_then query_deep (query_of c))
+
+-- an insert has another number of values than there are columns
+abbrev pub change_arity : List ColDef → Command → Option BindError
+change_arity cols (Insert users sign rel vals) = refused_if (not (length vals == length cols)) error.Arity
+change_arity cols _ = None
 
 -- an insert has another number of values than the relation has columns
 unfoldable pub arity_line : Catalog → Command → Option BindError
-arity_line catalog (Insert users sign rel vals) = refused_if (not (length vals == length (columns_of catalog.rels rel))) error.Arity
-arity_line catalog _ = None
-
--- the kind of a value
-abbrev pub kind_of : Value → Kind
-kind_of (Int n) = kind.Int
-kind_of (Text t) = kind.Text
+arity_line catalog c = change_arity (change_columns catalog.rels c) c
 
 -- the first column whose value is of another kind
 abbrev pub misfit : List ColDef → List Value → Option (List ℕ)
 misfit [] vals = None
 misfit (c ∷ cs) [] = None
 misfit (c ∷ cs) (v ∷ vs) = if same_kind c.kind (kind_of v) then misfit cs vs else Some c.name
-
--- both kinds are known, and are one
-abbrev pub are_one_kind : Option Kind → Option Kind → Bool
-are_one_kind (Some a) (Some b) = same_kind a b
-are_one_kind _ _ = false
 
 -- the kind of a comparison's right side
 abbrev pub side_kind : List ColDef → RawSide → Option Kind
@@ -141,10 +137,13 @@ set_kinds cols sets = option_map (λ s. error.Kind None s.col) (find (λ s. not 
 unfoldable pub cond_kinds : List ColDef → List RawCond → Option BindError
 cond_kinds cols conds = option_map (λ c. error.Kind None c.left.col) (find (λ c. not (fits_cond cols c)) conds)
 
--- a value, a set or a comparison joins two kinds
+-- a value, a set or a comparison of a change joins two kinds
+abbrev pub change_kind : List ColDef → Command → Option BindError
+change_kind cols (Insert users sign rel vals) = option_map (error.Kind None) (misfit cols vals)
+change_kind cols (Delete users sign rel conds) = cond_kinds cols conds
+change_kind cols (Update users sign rel sets conds) = or_next (set_kinds cols sets) (cond_kinds cols conds)
+change_kind cols _ = None
+
+-- the first value, set or comparison that joins two kinds
 unfoldable pub kind_line : Catalog → Command → Option BindError
-kind_line catalog (Insert users sign rel vals) = option_map (error.Kind None) (misfit (columns_of catalog.rels rel) vals)
-kind_line catalog (Delete users sign rel conds) = cond_kinds (columns_of catalog.rels rel) conds
-kind_line catalog (Update users sign rel sets conds) = or_next
-    (set_kinds (columns_of catalog.rels rel) sets) (cond_kinds (columns_of catalog.rels rel) conds)
-kind_line catalog _ = None
+kind_line catalog c = or_next (change_kind (change_columns catalog.rels c) c) (option_and_then (query_kind catalog.rels) (query_of c))

@@ -1,5 +1,5 @@
 -- Looking names up in a catalog.
-use Rattle.std.specs.Prelude.{ℕ, Bool, List, [], map, Option, None, Some, find}
+use Rattle.std.specs.Prelude.{ℕ, Bool, false, List, [], map, Option, None, Some, find}
 use Rattle.std.specs.Option.{option_map, is_some, unwrap_or}
 use Rattle.std.specs.List.{position_from}
 use Rattle.bdb_base.specs.declared.kinds.Kind.{Kind}
@@ -18,6 +18,11 @@ is_user_name users name = is_some (uid_of users name)
 -- the path of names, each of which is a user's
 abbrev pub path_of : List (List ℕ) → List (List ℕ) → List ℕ
 path_of users names = map (λ name. unwrap_or (uid_of users name) 0) names
+
+-- a name may stand here, and is this one
+abbrev pub is_name : List ℕ → Option (List ℕ) → Bool
+is_name name None = false
+is_name name (Some x) = same_text x name
 
 -- the number of a relation: its place, from 0
 abbrev pub number_of : List RelDef → List ℕ → Option ℕ

@@ -1,7 +1,9 @@
 -- What a command says of users, relations, columns and texts.
 use Rattle.std.specs.Prelude.{ℕ, Bool, true, false, ◌||◌, nat_lt, List, [], ◌∷◌, ◌++◌, length, Option, None, Some}
+use Rattle.std.specs.Option.{option_and_then}
 use Rattle.std.specs.List.{list_any}
 use Rattle.bdb_base.specs.declared.kinds.ColDef.{ColDef}
+use Rattle.bdb_base.specs.declared.kinds.RelDef.{RelDef}
 use Rattle.bdb_base.specs.declared.kinds.Value.{Value}
 use Rattle.bdb_base.specs.declared.kinds.Value.TheVariants.{Int, Text}
 use Rattle.bdb_syntax.specs.declared.command.Command.{Command}
@@ -9,15 +11,24 @@ use Rattle.bdb_syntax.specs.declared.command.Command.TheVariants.{CreateUser, Cr
 use Rattle.bdb_syntax.specs.declared.command.RawCond.{RawCond}
 use Rattle.bdb_syntax.specs.declared.command.RawSide.{RawSide}
 use Rattle.bdb_syntax.specs.declared.command.RawSide.TheVariants.{Col, Lit}
+use Rattle.bdb_syntax.specs.declared.command.RawItem.{RawItem}
+use Rattle.bdb_syntax.specs.declared.command.RawQuery.{RawQuery}
+use Rattle.bdb_syntax.specs.declared.command.RawWho.{RawWho}
+use Rattle.bdb_syntax.specs.declared.command.RawWho.TheVariants as who
+use Rattle.bdb_bind.specs.Lookup.{number_of, columns_of}
 
--- a command is of a kind that is bound so far
+-- a command is of a kind that is answered so far
 abbrev pub is_built : Command → Bool
-is_built (Select query) = false
 is_built (Explain query) = false
-is_built ShowTables = false
 is_built _ = true
 
--- the names of a command's path
+-- the query of a command
+abbrev pub query_of : Command → Option RawQuery
+query_of (Select query) = Some query
+query_of (Explain query) = Some query
+query_of _ = None
+
+-- the names of a command's one path
 abbrev pub path_names : Command → List (List ℕ)
 path_names (Insert users sign rel vals) = users
 path_names (Delete users sign rel conds) = users
@@ -25,17 +36,30 @@ path_names (Update users sign rel sets conds) = users
 path_names (ShowWorld users) = users
 path_names _ = []
 
--- the longest path that a command may have
+-- the longest path that a command with one path may have
 abbrev pub depth_limit : Command → ℕ
 depth_limit (ShowWorld users) = 1024
 depth_limit _ = 16
 
--- the relation that a command names
+-- the relation that a change names
 abbrev pub relation_name : Command → Option (List ℕ)
 relation_name (Insert users sign rel vals) = Some rel
 relation_name (Delete users sign rel conds) = Some rel
 relation_name (Update users sign rel sets conds) = Some rel
 relation_name _ = None
+
+-- the place of the relation that a change names
+abbrev pub relation_place : List RelDef → Command → Option ℕ
+relation_place rels c = option_and_then (number_of rels) (relation_name c)
+
+-- the columns of a relation that may not be named
+abbrev pub columns_for : List RelDef → Option (List ℕ) → List ColDef
+columns_for rels None = []
+columns_for rels (Some name) = columns_of rels name
+
+-- the columns of the relation that a change names
+abbrev pub change_columns : List RelDef → Command → List ColDef
+change_columns rels c = columns_for rels (relation_name c)
 
 -- the columns of a new relation
 abbrev pub new_columns : Command → List ColDef
@@ -66,7 +90,16 @@ side_texts (Lit v) = value_texts v
 abbrev pub is_long : List ℕ → Bool
 is_long text = nat_lt 255 (length text)
 
--- a test fails at a text of a command
+-- a test holds of a name after BELIEF
+abbrev pub some_who_text : (List ℕ → Bool) → RawWho → Bool
+some_who_text p (who.Name name) = p name
+some_who_text p (who.Col c) = false
+
+-- a test holds of a text of a query
+abbrev pub some_query_text : (List ℕ → Bool) → RawQuery → Bool
+some_query_text p q = list_any (λ i. list_any (some_who_text p) i.path) q.items || list_any (λ c. list_any p (side_texts c.right)) q.conds
+
+-- a test holds of a text of a command
 abbrev pub some_text : (List ℕ → Bool) → Command → Bool
 some_text p (CreateUser name) = p name
 some_text p (Insert users sign rel vals) = list_any p users || list_any (λ v. list_any p (value_texts v)) vals
@@ -74,4 +107,6 @@ some_text p (Delete users sign rel conds) = list_any p users || list_any (λ c. 
 some_text p (Update users sign rel sets conds) = list_any p users || (list_any (λ s. list_any p (value_texts s.to)) sets
     || list_any (λ c. list_any p (side_texts c.right)) conds)
 some_text p (ShowWorld users) = list_any p users
+some_text p (Select query) = some_query_text p query
+some_text p (Explain query) = some_query_text p query
 some_text p _ = false

@@ -1,5 +1,5 @@
 // What commands are bound to, and why a command is refused.
-use bdb_base::{Cond, List, Path, RelDef, SetCol, Sign, Stmt, Txt};
+use bdb_base::{Cond, List, Path, Query, RelDef, SetCol, Sign, Stmt, Txt};
 
 /// A command over a catalog: users by uid, relations and columns by place.
 #[derive(Drop)]
@@ -31,10 +31,20 @@ pub enum Bound {
         sets: List<SetCol>,
         conds: List<Cond>,
     },
+    /// A query is answered.
+    Select {
+        query: Query,
+    },
+    /// The plan of a query is shown.
+    Explain {
+        query: Query,
+    },
     /// The world of a path is shown.
     ShowWorld {
         path: Path,
     },
+    /// The stored structure is shown.
+    ShowTables,
 }
 
 /// Why a command is refused over a catalog.
@@ -42,7 +52,7 @@ pub enum Bound {
 pub enum BindError {
     /// A text has more than 255 bytes.
     Text,
-    /// A new relation has more than 16 columns.
+    /// A new relation has more than 16 columns, or a query more than 8 items or 32 select columns.
     Items,
     /// The catalog has no relation of this name.
     Relation(Txt),
@@ -52,7 +62,7 @@ pub enum BindError {
     AliasTwice(Txt),
     /// No item has this alias.
     Alias(Txt),
-    /// The relation has no such column.
+    /// The relation has no such column, or a column after BELIEF isn't the number of a user.
     Column { alias: Option<Txt>, col: Txt },
     /// A user has this name.
     TakenUser(Txt),

@@ -2,10 +2,15 @@
 ghost use Rattle.std.specs.Prelude.{◌≡◌, None};
 ghost use Rattle.std.specs.Option.{option_map};
 ghost use Rattle.bdb_base.specs.Same.{same_kind};
-ghost use Rattle.bdb_bind.specs.Lines.{Checks, kind_of, misfit, are_one_kind, side_kind, fits_set, fits_cond, set_kinds, cond_kinds, kind_line};
+ghost use Rattle.bdb_bind.specs.Firsts.{Checks};
+ghost use Rattle.bdb_bind.specs.Kinds.{kind_of, are_one_kind};
+ghost use Rattle.bdb_bind.specs.Lines.{misfit, side_kind, fits_set, fits_cond, set_kinds, cond_kinds, change_kind, kind_line};
+ghost use Rattle.bdb_bind.specs.Parts.{change_columns};
 
 use crate::bound::BindError;
-use crate::lookup::{columns_of, kind_at};
+use crate::lookup::kind_at;
+use crate::parts::query_of;
+use crate::queries::check_query_kinds;
 use crate::refusals::wrong_kind;
 use bdb_base::{Catalog, ColDef, Kind, Value};
 use bdb_syntax::{Command, RawCond, RawSet, RawSide};
@@ -13,26 +18,36 @@ use std::alloc::Global;
 
 /// Refuses a value, a set or a comparison that joins two kinds.
 #[tactic(auto, unfolding(crate::specs::Lines::kind_line))]
-pub fn check_kinds(alloc: Global, catalog: &Catalog, command: &Command) -> Result<(), BindError>
+pub fn check_kinds(
+    alloc: Global,
+    catalog: &Catalog,
+    cols: &[ColDef],
+    command: &Command,
+) -> Result<(), BindError>
+    requires cols { cols.now ≡ change_columns catalog.now.rels command.now }
     ensures { Checks result (kind_line catalog.now command.now) }
 {
-    let rels = catalog.rels.as_slice();
+    check_change_kinds(alloc, cols, command)?;
+    if let Some(query) = query_of(command) {
+        check_query_kinds(alloc, catalog.rels.as_slice(), query)?;
+    }
+    Ok(())
+}
+
+/// Refuses a value, a set or a comparison of a change that joins two kinds.
+fn check_change_kinds(alloc: Global, cols: &[ColDef], command: &Command) -> Result<(), BindError>
+    ensures { Checks result (change_kind cols.now command.now) }
+{
     match command {
-        Command::Insert { rel, vals, .. } => {
-            check_values(alloc, columns_of(rels, rel), vals.as_slice())?;
+        Command::Insert { vals, .. } => {
+            check_values(alloc, cols, vals.as_slice())?;
             Ok(())
         }
-        Command::Delete { rel, conds, .. } => {
-            check_conds(alloc, columns_of(rels, rel), conds.as_slice())?;
+        Command::Delete { conds, .. } => {
+            check_conds(alloc, cols, conds.as_slice())?;
             Ok(())
         }
-        Command::Update {
-            rel,
-            sets,
-            conds,
-            ..
-        } => {
-            let cols = columns_of(rels, rel);
+        Command::Update { sets, conds, .. } => {
             check_sets(alloc, cols, sets.as_slice())?;
             check_conds(alloc, cols, conds.as_slice())?;
             Ok(())
@@ -104,7 +119,7 @@ fn side_kind(cols: &[ColDef], side: &RawSide) -> Option<Kind>
 }
 
 /// Whether both kinds are known, and are one.
-fn are_one_kind(a: Option<Kind>, b: Option<Kind>) -> bool
+pub fn are_one_kind(a: Option<Kind>, b: Option<Kind>) -> bool
     ensures { result ≡ are_one_kind a b }
 {
     match (a, b) {
@@ -121,7 +136,7 @@ fn is_same_kind(a: Kind, b: Kind) -> bool
 }
 
 /// The kind of a value.
-fn kind_of(value: &Value) -> Kind
+pub fn kind_of(value: &Value) -> Kind
     ensures { result ≡ kind_of value.now }
 {
     match value {

@@ -1,19 +1,30 @@
 //! Binding: a command's names are looked up in a catalog, or it is refused with the first reason of a fixed order.
 #![tactic(auto)]
 
+mod aliases;
 mod binding;
 mod bound;
+mod columns;
+mod found;
+mod index;
 mod kinds;
 mod laws;
 mod lookup;
 mod making;
 mod names;
 mod parts;
+mod queries;
+mod query_making;
 mod refusals;
+mod safety;
+mod scope;
 mod shape;
 #[cfg(test)]
 mod tests;
+mod unsafes;
 
-pub use binding::{bind, is_built};
+pub use binding::{bind, bind_by, is_built};
 pub use bound::{BindError, Bound};
-pub use laws::what_is_bound_fits;
+pub use index::NameIndex;
+pub use laws::{test_tells_bound, test_tells_safe, what_is_bound_fits};
+pub use safety::safe;

@@ -1,15 +1,17 @@
 // What a command that isn't refused is bound to.
-ghost use Rattle.std.specs.Prelude.{◌≡◌, ◌<◌, ◌≤◌, ◌^◌, true, None, length, map, IfOk};
+ghost use Rattle.std.specs.Prelude.{◌≡◌, ◌<◌, ◌≤◌, ◌^◌, true, None, length, map, IfOk, IfSome};
 ghost use Rattle.std.specs.Option.{unwrap_or};
 ghost use Rattle.bdb_base.specs.Alternation.{alternates};
 ghost use Rattle.bdb_base.specs.Bases.{IsCatalog};
-ghost use Rattle.bdb_bind.specs.Lookup.{uid_of, path_of, columns_of};
-ghost use Rattle.bdb_bind.specs.Parts.{is_built};
-ghost use Rattle.bdb_bind.specs.Refusal.{refusal_of};
-ghost use Rattle.bdb_bind.specs.Binding.{relation_at, place_of, bound_column, bound_side, bound_cond, bound_set, statement_of, bound_of};
+ghost use Rattle.bdb_bind.specs.Lookup.{uid_of, path_of};
+ghost use Rattle.bdb_bind.specs.Parts.{path_names, relation_place, change_columns};
+ghost use Rattle.bdb_bind.specs.Refusal.{names_refused};
+ghost use Rattle.bdb_bind.specs.Binding.{relation_at, place_of, bound_column, bound_side, bound_cond, bound_set, bound_of};
 
 use crate::bound::Bound;
-use crate::lookup::{column_at, columns_of, number_of, uid_of};
+use crate::found::Found;
+use crate::lookup::{column_at, number_of, uid_of};
+use crate::query_making::bound_query;
 use bdb_base::{
     Catalog, ColDef, Cond, Exact, List, Operand, Path, PathError, Ref, RelDef, SetCol, Sign, Stmt,
     Tuple, Txt, Value,
@@ -18,7 +20,7 @@ use bdb_syntax::{Command, RawCond, RawSet, RawSide};
 use std::alloc::{AllocError, Global};
 
 /// The uid of a name that is a user's.
-fn uid_at(users: &[Txt], name: &Txt) -> u32
+pub fn uid_at(users: &[Txt], name: &Txt) -> u32
     requires { length users.now ≤ 256 }
     ensures { result ≡ unwrap_or (uid_of users.now name.now) 0 }
 {
@@ -28,22 +30,31 @@ fn uid_at(users: &[Txt], name: &Txt) -> u32
     }
 }
 
-/// The path of names, each of which is a user's.
-fn path_of(alloc: Global, users: &[Txt], names: &[Txt]) -> Result<Path, AllocError>
-    requires few { length users.now ≤ 256 }
-    requires alternates { alternates (path_of users.now names.now) ≡ true }
-    ensures { IfOk result (λ path. path ≡ path_of users.now names.now) }
+/// The path of these uids.
+fn path_of(alloc: Global, ids: &[u32]) -> Result<Path, AllocError>
+    requires alternates { alternates ids.now ≡ true }
+    ensures { IfOk result (λ path. path ≡ ids.now) }
 {
-    let ids: Vec<u32> = names.iter().map(|name| uid_at(users, name)).collect(alloc)?;
-    match Path::try_new(alloc, ids.as_slice()) {
+    match Path::try_new(alloc, ids) {
         Ok(path) => Ok(path),
         Err(PathError::Repeat) => unreachable!(),
         Err(PathError::Memory) => Err(AllocError),
     }
 }
 
+/// The number of a relation that stands at a place.
+fn number_at(place: Option<usize>) -> u32
+    requires { IfSome place (λ at. at < 64) }
+    ensures { result ≡ unwrap_or place 0 }
+{
+    match place {
+        Some(at) => at as u32,
+        None => 0,
+    }
+}
+
 /// The number of a relation that is there.
-fn relation_at(rels: &[RelDef], name: &Txt) -> u32
+pub fn relation_at(rels: &[RelDef], name: &Txt) -> u32
     requires { length rels.now ≤ 64 }
     ensures { result ≡ relation_at rels.now name.now }
 {
@@ -131,22 +142,18 @@ fn bound_sets(alloc: Global, cols: &[ColDef], sets: &[RawSet]) -> Result<List<Se
 }
 
 /// The insert of a statement.
-#[tactic(auto, using(crate::proofs::CatalogLemmas::users_few, crate::proofs::CatalogLemmas::relations_few))]
 fn bound_insert(
     alloc: Global,
-    catalog: &Catalog,
-    users: &[Txt],
+    ids: &[u32],
     sign: Sign,
-    rel: &Txt,
+    rel: u32,
     vals: &List<Value>,
 ) -> Result<Bound, AllocError>
-    requires catalog { IsCatalog catalog.now }
-    requires alternates { alternates (path_of catalog.now.users users.now) ≡ true }
+    requires alternates { alternates ids.now ≡ true }
     requires filled { 0 < length vals.now }
-    ensures { IfOk result (λ b. b ≡ Bound.Insert (statement_of catalog.now users.now sign rel.now vals.now)) }
+    ensures { IfOk result (λ b. b ≡ Bound.Insert (record { path = ids.now; sign = sign; tuple = record { rel = rel; vals = vals.now } })) }
 {
-    let path = path_of(alloc, catalog.users.as_slice(), users)?;
-    let rel = relation_at(catalog.rels.as_slice(), rel);
+    let path = path_of(alloc, ids)?;
     let vals = vals.try_clone(alloc)?;
     let tuple = Tuple { rel, vals };
     let stmt = Stmt { path, sign, tuple };
@@ -154,24 +161,20 @@ fn bound_insert(
 }
 
 /// The delete of the statements that meet all tests.
-#[tactic(auto, using(crate::proofs::CatalogLemmas::users_few, crate::proofs::CatalogLemmas::relations_few, crate::proofs::CatalogLemmas::columns_few))]
 fn bound_delete(
     alloc: Global,
-    catalog: &Catalog,
-    users: &[Txt],
+    ids: &[u32],
     sign: Sign,
-    rel: &Txt,
+    rel: u32,
+    cols: &[ColDef],
     conds: &[RawCond],
 ) -> Result<Bound, AllocError>
-    requires catalog { IsCatalog catalog.now }
-    requires alternates { alternates (path_of catalog.now.users users.now) ≡ true }
-    ensures { IfOk result (λ b. b ≡ Bound.Delete (path_of catalog.now.users users.now) sign (relation_at catalog.now.rels rel.now)
-        (map (bound_cond (columns_of catalog.now.rels rel.now)) conds.now)) }
+    requires alternates { alternates ids.now ≡ true }
+    requires few { length cols.now ≤ 16 }
+    ensures { IfOk result (λ b. b ≡ Bound.Delete ids.now sign rel (map (bound_cond cols.now) conds.now)) }
 {
-    let rels = catalog.rels.as_slice();
-    let path = path_of(alloc, catalog.users.as_slice(), users)?;
-    let conds = bound_conds(alloc, columns_of(rels, rel), conds)?;
-    let rel = relation_at(rels, rel);
+    let path = path_of(alloc, ids)?;
+    let conds = bound_conds(alloc, cols, conds)?;
     Ok(Bound::Delete {
         path,
         sign,
@@ -181,27 +184,22 @@ fn bound_delete(
 }
 
 /// The update of the statements that meet all tests.
-#[tactic(auto, using(crate::proofs::CatalogLemmas::users_few, crate::proofs::CatalogLemmas::relations_few, crate::proofs::CatalogLemmas::columns_few))]
 fn bound_update(
     alloc: Global,
-    catalog: &Catalog,
-    users: &[Txt],
+    ids: &[u32],
     sign: Sign,
-    rel: &Txt,
+    rel: u32,
+    cols: &[ColDef],
     sets: &[RawSet],
     conds: &[RawCond],
 ) -> Result<Bound, AllocError>
-    requires catalog { IsCatalog catalog.now }
-    requires alternates { alternates (path_of catalog.now.users users.now) ≡ true }
-    ensures { IfOk result (λ b. b ≡ Bound.Update (path_of catalog.now.users users.now) sign (relation_at catalog.now.rels rel.now)
-        (map (bound_set (columns_of catalog.now.rels rel.now)) sets.now) (map (bound_cond (columns_of catalog.now.rels rel.now)) conds.now)) }
+    requires alternates { alternates ids.now ≡ true }
+    requires few { length cols.now ≤ 16 }
+    ensures { IfOk result (λ b. b ≡ Bound.Update ids.now sign rel (map (bound_set cols.now) sets.now) (map (bound_cond cols.now) conds.now)) }
 {
-    let rels = catalog.rels.as_slice();
-    let cols = columns_of(rels, rel);
-    let path = path_of(alloc, catalog.users.as_slice(), users)?;
+    let path = path_of(alloc, ids)?;
     let sets = bound_sets(alloc, cols, sets)?;
     let conds = bound_conds(alloc, cols, conds)?;
-    let rel = relation_at(rels, rel);
     Ok(Bound::Update {
         path,
         sign,
@@ -222,59 +220,59 @@ fn bound_relation(alloc: Global, name: &Txt, cols: &List<ColDef>) -> Result<Boun
 }
 
 /// The world that is shown.
-#[tactic(auto, using(crate::proofs::CatalogLemmas::users_few))]
-fn bound_world(alloc: Global, catalog: &Catalog, users: &[Txt]) -> Result<Bound, AllocError>
-    requires catalog { IsCatalog catalog.now }
-    requires alternates { alternates (path_of catalog.now.users users.now) ≡ true }
-    ensures { IfOk result (λ b. b ≡ Bound.ShowWorld (path_of catalog.now.users users.now)) }
+fn bound_world(alloc: Global, ids: &[u32]) -> Result<Bound, AllocError>
+    requires alternates { alternates ids.now ≡ true }
+    ensures { IfOk result (λ b. b ≡ Bound.ShowWorld ids.now) }
 {
-    let path = path_of(alloc, catalog.users.as_slice(), users)?;
+    let path = path_of(alloc, ids)?;
     Ok(Bound::ShowWorld { path })
 }
 
-/// What a command that isn't refused is bound to.
-pub fn bound_of(alloc: Global, catalog: &Catalog, command: &Command) -> Result<Bound, AllocError>
+/// What a command that isn't refused is bound to, once its relation and the users of its path are found.
+#[tactic(auto, using(crate::proofs::CatalogLemmas::place_few, crate::proofs::CatalogLemmas::change_columns_few, crate::proofs::CatalogLemmas::accepted_alternates))]
+pub fn bound_of(
+    alloc: Global,
+    catalog: &Catalog,
+    found: &Found,
+    ids: &[u32],
+    command: &Command,
+) -> Result<Bound, AllocError>
     requires catalog { IsCatalog catalog.now }
-    requires built { is_built command.now ≡ true }
-    requires accepted { refusal_of catalog.now command.now ≡ None }
+    requires accepted { names_refused catalog.now command.now ≡ None }
+    requires place { found.now.place ≡ relation_place catalog.now.rels command.now }
+    requires cols { found.now.cols.now ≡ change_columns catalog.now.rels command.now }
+    requires ids { ids.now ≡ path_of catalog.now.users (path_names command.now) }
     ensures { IfOk result (λ b. b ≡ bound_of catalog.now command.now) }
 {
+    let (rel, cols) = (number_at(found.place), found.cols);
     match command {
         Command::CreateUser { name } => {
             let name = name.try_clone(alloc)?;
             Ok(Bound::CreateUser { name })
         }
         Command::CreateRelation { name, cols } => bound_relation(alloc, name, cols),
-        Command::Insert {
-            users,
-            sign,
-            rel,
-            vals,
-        } => bound_insert(alloc, catalog, users.as_slice(), *sign, rel, vals),
-        Command::Delete {
-            users,
-            sign,
-            rel,
-            conds,
-        } => bound_delete(
-            alloc,
-            catalog,
-            users.as_slice(),
-            *sign,
-            rel,
-            conds.as_slice(),
-        ),
+        Command::Insert { sign, vals, .. } => bound_insert(alloc, ids, *sign, rel, vals),
+        Command::Delete { sign, conds, .. } => {
+            bound_delete(alloc, ids, *sign, rel, cols, conds.as_slice())
+        }
         Command::Update {
-            users,
             sign,
-            rel,
             sets,
             conds,
+            ..
         } => {
             let (sets, conds) = (sets.as_slice(), conds.as_slice());
-            bound_update(alloc, catalog, users.as_slice(), *sign, rel, sets, conds)
+            bound_update(alloc, ids, *sign, rel, cols, sets, conds)
         }
-        Command::ShowWorld { users } => bound_world(alloc, catalog, users.as_slice()),
-        Command::Select { .. } | Command::Explain { .. } | Command::ShowTables => unreachable!(),
+        Command::Select { query } => {
+            let query = bound_query(alloc, catalog, query)?;
+            Ok(Bound::Select { query })
+        }
+        Command::Explain { query } => {
+            let query = bound_query(alloc, catalog, query)?;
+            Ok(Bound::Explain { query })
+        }
+        Command::ShowWorld { .. } => bound_world(alloc, ids),
+        Command::ShowTables => Ok(Bound::ShowTables),
     }
 }

@@ -1,65 +1,106 @@
 // The checks of a command's names.
-ghost use Rattle.std.specs.Prelude.{◌≡◌, [], ◌∷◌, map};
+ghost use Rattle.std.specs.Prelude.{◌≡◌, [], ◌∷◌, None, map, IfOk};
 ghost use Rattle.std.specs.Option.{option_map};
 ghost use Rattle.std.specs.List.{list_any};
 ghost use Rattle.bdb_base.specs.Same.{same_text};
-ghost use Rattle.bdb_bind.specs.Parts.{cond_columns};
-ghost use Rattle.bdb_bind.specs.Lines.{Checks, relation_line, user_line, missing_column, column_line, first_repeated, taken_line};
+ghost use Rattle.bdb_base.specs.Bases.{IsCatalog};
+ghost use Rattle.bdb_bind.specs.Lookup.{path_of};
+ghost use Rattle.bdb_bind.specs.Parts.{path_names, relation_name, relation_place, change_columns, cond_columns};
+ghost use Rattle.bdb_bind.specs.Firsts.{Checks};
+ghost use Rattle.bdb_bind.specs.Lines.{unknown_relation, relation_line, user_line, missing_column, change_column, column_line, first_repeated, taken_line};
 
 use crate::bound::BindError;
-use crate::lookup::{column_at, columns_of, is_same, number_of, uid_of};
-use crate::parts::{path_names, relation_name};
-use crate::refusals::{taken_name, taken_user, unknown_column, unknown_relation, unknown_user};
-use bdb_base::{Catalog, ColDef, Txt};
+use crate::columns::check_query_columns;
+use crate::found::find_users;
+use crate::index::NameIndex;
+use crate::lookup::{column_at, is_same, number_of, uid_of};
+use crate::parts::{path_names, query_of, relation_name};
+use crate::queries::{check_query_relations, check_query_users};
+use crate::refusals::{taken_name, taken_user, unknown_column, unknown_relation};
+use bdb_base::{Catalog, ColDef, List, RelDef, Txt};
 use bdb_syntax::{Command, RawCond, RawSet, RawSide};
 use std::alloc::Global;
 
-/// Refuses a relation that isn't in the catalog.
+/// Refuses the first relation that isn't in the catalog.
 #[tactic(auto, unfolding(crate::specs::Lines::relation_line))]
-pub fn check_relation(alloc: Global, catalog: &Catalog, command: &Command) -> Result<(), BindError>
+pub fn check_relation(
+    alloc: Global,
+    catalog: &Catalog,
+    place: Option<usize>,
+    command: &Command,
+) -> Result<(), BindError>
+    requires place { place ≡ relation_place catalog.now.rels command.now }
     ensures { Checks result (relation_line catalog.now command.now) }
 {
-    if let Some(name) = relation_name(command) {
-        if number_of(catalog.rels.as_slice(), name).is_none() {
-            return Err(unknown_relation(alloc, name));
-        }
+    let rels = catalog.rels.as_slice();
+    if place.is_none() {
+        check_change_relation(alloc, rels, command)?;
+    }
+    if let Some(query) = query_of(command) {
+        check_query_relations(alloc, rels, query)?;
     }
     Ok(())
 }
 
-/// Refuses the first name of the path that is no user's.
-#[tactic(auto, unfolding(crate::specs::Lines::user_line))]
-pub fn check_users(alloc: Global, catalog: &Catalog, command: &Command) -> Result<(), BindError>
-    ensures { Checks result (user_line catalog.now command.now) }
+/// Refuses a change of a relation that isn't in the catalog.
+fn check_change_relation(alloc: Global, rels: &[RelDef], command: &Command) -> Result<(), BindError>
+    requires nowhere { relation_place rels.now command.now ≡ None }
+    ensures { Checks result (unknown_relation rels.now (relation_name command.now)) }
+{
+    match relation_name(command) {
+        Some(name) => Err(unknown_relation(alloc, name)),
+        None => Ok(()),
+    }
+}
+
+/// The uids of a command's one path. The first name after BELIEF that is no user's is refused.
+#[tactic(auto, unfolding(crate::specs::Lines::user_line), using(crate::proofs::CatalogLemmas::users_few))]
+pub fn check_users(
+    alloc: Global,
+    catalog: &Catalog,
+    index: &NameIndex,
+    command: &Command,
+) -> Result<List<u32>, BindError>
+    requires catalog { IsCatalog catalog.now }
+    ensures checks { Checks result (user_line catalog.now command.now) }
+    ensures ids { IfOk result (λ ids. ids ≡ path_of catalog.now.users (path_names command.now)) }
 {
     let users = catalog.users.as_slice();
-    let names = path_names(command);
-    for name in names {
-        if uid_of(users, name).is_none() {
-            return Err(unknown_user(alloc, name));
-        }
+    let ids = find_users(alloc, users, index, path_names(command))?;
+    if let Some(query) = query_of(command) {
+        check_query_users(alloc, users, query)?;
+    }
+    Ok(ids)
+}
+
+/// Refuses the first column that isn't there.
+#[tactic(auto, unfolding(crate::specs::Lines::column_line))]
+pub fn check_columns(
+    alloc: Global,
+    catalog: &Catalog,
+    cols: &[ColDef],
+    command: &Command,
+) -> Result<(), BindError>
+    requires cols { cols.now ≡ change_columns catalog.now.rels command.now }
+    ensures { Checks result (column_line catalog.now command.now) }
+{
+    check_change_columns(alloc, cols, command)?;
+    if let Some(query) = query_of(command) {
+        check_query_columns(alloc, catalog.rels.as_slice(), query)?;
     }
     Ok(())
 }
 
-/// Refuses the first column that the relation does not have.
-#[tactic(auto, unfolding(crate::specs::Lines::column_line))]
-pub fn check_columns(alloc: Global, catalog: &Catalog, command: &Command) -> Result<(), BindError>
-    ensures { Checks result (column_line catalog.now command.now) }
+/// Refuses the first column of a change that is none of these.
+fn check_change_columns(alloc: Global, cols: &[ColDef], command: &Command) -> Result<(), BindError>
+    ensures { Checks result (change_column cols.now command.now) }
 {
-    let rels = catalog.rels.as_slice();
     match command {
-        Command::Delete { rel, conds, .. } => {
-            check_cond_columns(alloc, columns_of(rels, rel), conds.as_slice())?;
+        Command::Delete { conds, .. } => {
+            check_cond_columns(alloc, cols, conds.as_slice())?;
             Ok(())
         }
-        Command::Update {
-            rel,
-            sets,
-            conds,
-            ..
-        } => {
-            let cols = columns_of(rels, rel);
+        Command::Update { sets, conds, .. } => {
             check_set_columns(alloc, cols, sets.as_slice())?;
             check_cond_columns(alloc, cols, conds.as_slice())?;
             Ok(())

@@ -2,12 +2,23 @@
 ghost use Rattle.std.specs.Prelude.{◌≡◌};
 ghost use Rattle.std.specs.Option.{option_copied};
 ghost use Rattle.std.specs.List.{list_any};
-ghost use Rattle.bdb_bind.specs.Parts.{path_names, depth_limit, relation_name, new_columns, value_texts, side_texts, is_long, some_text};
+ghost use Rattle.bdb_bind.specs.Parts.{query_of, path_names, depth_limit, relation_name, new_columns, value_texts, side_texts, is_long, some_who_text, some_query_text, some_text};
 
 use bdb_base::{ColDef, Txt, Value};
-use bdb_syntax::{Command, RawCond, RawSet, RawSide};
+use bdb_syntax::{Command, RawCond, RawItem, RawQuery, RawSet, RawSide, RawWho};
 
-/// The names of a command's path.
+/// The query of a command.
+pub fn query_of(command: &Command) -> Option<&RawQuery>
+    ensures { option_copied result ≡ query_of command.now }
+{
+    match command {
+        Command::Select { query } => Some(query),
+        Command::Explain { query } => Some(query),
+        _ => None,
+    }
+}
+
+/// The names of a command's one path.
 pub fn path_names(command: &Command) -> &[Txt]
     ensures { result.now ≡ path_names command.now }
 {
@@ -20,7 +31,7 @@ pub fn path_names(command: &Command) -> &[Txt]
     }
 }
 
-/// The longest path that a command may have.
+/// The longest path that a command with one path may have.
 pub fn depth_limit(command: &Command) -> usize
     ensures { result ≡ depth_limit command.now }
 {
@@ -30,7 +41,7 @@ pub fn depth_limit(command: &Command) -> usize
     }
 }
 
-/// The relation that a command names.
+/// The relation that a change names.
 pub fn relation_name(command: &Command) -> Option<&Txt>
     ensures { option_copied result ≡ relation_name command.now }
 {
@@ -75,6 +86,8 @@ pub fn has_long_text(command: &Command) -> bool
                 || has_long_cond(conds.as_slice())
         }
         Command::ShowWorld { users } => has_long_name(users.as_slice()),
+        Command::Select { query } => has_long_query(query),
+        Command::Explain { query } => has_long_query(query),
         _ => false,
     }
 }
@@ -128,4 +141,33 @@ fn has_long_cond(conds: &[RawCond]) -> bool
     ensures { result ≡ list_any (λ c. list_any is_long (side_texts c.right)) conds.now }
 {
     conds.iter().any(|cond| is_long_side(&cond.right))
+}
+
+/// Whether a text of a query has more than 255 bytes.
+fn has_long_query(query: &RawQuery) -> bool
+    ensures { result ≡ some_query_text is_long query.now }
+{
+    has_long_item(query.items.as_slice()) || has_long_cond(query.conds.as_slice())
+}
+
+fn has_long_item(items: &[RawItem]) -> bool
+    ensures { result ≡ list_any (λ i. list_any (some_who_text is_long) i.path) items.now }
+{
+    items.iter().any(|item| has_long_who(item.path.as_slice()))
+}
+
+fn has_long_who(path: &[RawWho]) -> bool
+    ensures { result ≡ list_any (some_who_text is_long) path.now }
+{
+    path.iter().any(|who| is_long_who(who))
+}
+
+/// Whether a name after BELIEF has more than 255 bytes.
+fn is_long_who(who: &RawWho) -> bool
+    ensures { result ≡ some_who_text is_long who.now }
+{
+    match who {
+        RawWho::Name(name) => is_long(name),
+        RawWho::Col(_) => false,
+    }
 }

@@ -1,9 +1,11 @@
 // Refusals that name something, each with a copy of the name. Where there is no memory for it, that is the refusal.
-ghost use Rattle.std.specs.Prelude.{◌≡◌, ◌≢◌, None};
+ghost use Rattle.std.specs.Prelude.{◌≡◌, ◌≢◌, [], None, IfOk};
+ghost use Rattle.std.specs.Option.{unwrap_or};
 
 use crate::bound::BindError;
 use bdb_base::{Exact, Txt};
-use std::alloc::Global;
+use bdb_syntax::RawCol;
+use std::alloc::{AllocError, Global};
 
 /// The catalog has no relation of this name.
 pub fn unknown_relation(alloc: Global, name: &Txt) -> BindError
@@ -61,6 +63,62 @@ pub fn wrong_kind(alloc: Global, name: &Txt) -> BindError
 {
     match name.try_clone(alloc) {
         Ok(col) => BindError::Kind { alias: None, col },
+        Err(_) => BindError::Memory,
+    }
+}
+
+/// An earlier item has this alias.
+pub fn repeated_alias(alloc: Global, alias: &Txt) -> BindError
+    ensures { result ≢ BindError.Memory → result ≡ BindError.AliasTwice alias.now }
+{
+    match alias.try_clone(alloc) {
+        Ok(alias) => BindError::AliasTwice(alias),
+        Err(_) => BindError::Memory,
+    }
+}
+
+/// No item has a column's alias.
+pub fn unknown_alias(alloc: Global, col: &RawCol) -> BindError
+    ensures { result ≢ BindError.Memory → result ≡ BindError.Alias (unwrap_or col.now.alias []) }
+{
+    match alias_of(alloc, col) {
+        Ok(alias) => BindError::Alias(alias),
+        Err(_) => BindError::Memory,
+    }
+}
+
+/// The alias of a column, or an empty text.
+fn alias_of(alloc: Global, col: &RawCol) -> Result<Txt, AllocError>
+    ensures { IfOk result (λ alias. alias ≡ unwrap_or col.now.alias []) }
+{
+    match &col.alias {
+        Some(alias) => alias.try_clone(alloc),
+        None => Txt::try_new(alloc, ""),
+    }
+}
+
+/// A column's item does not have it, or a column after BELIEF isn't the number of a user.
+pub fn missing_column(alloc: Global, col: &RawCol) -> BindError
+    ensures { result ≢ BindError.Memory → result ≡ BindError.Column col.now.alias col.now.col }
+{
+    match col.try_clone(alloc) {
+        Ok(copy) => BindError::Column {
+            alias: copy.alias,
+            col: copy.col,
+        },
+        Err(_) => BindError::Memory,
+    }
+}
+
+/// This column of a query is joined to another kind.
+pub fn wrong_query_kind(alloc: Global, col: &RawCol) -> BindError
+    ensures { result ≢ BindError.Memory → result ≡ BindError.Kind col.now.alias col.now.col }
+{
+    match col.try_clone(alloc) {
+        Ok(copy) => BindError::Kind {
+            alias: copy.alias,
+            col: copy.col,
+        },
         Err(_) => BindError::Memory,
     }
 }

@@ -1,11 +1,13 @@
 // The checks of a command's sizes.
 ghost use Rattle.std.specs.Prelude.{◌≡◌};
-ghost use Rattle.bdb_bind.specs.Lines.{Checks, text_line, items_line, begins_with, has_repeat, repeat_line, deep_line, arity_line};
+ghost use Rattle.bdb_bind.specs.Firsts.{Checks};
+ghost use Rattle.bdb_bind.specs.Lines.{text_line, items_line, begins_with, has_repeat, repeat_line, deep_line, change_arity};
 
 use crate::bound::BindError;
-use crate::lookup::{columns_of, is_same};
-use crate::parts::{depth_limit, has_long_text, new_columns, path_names};
-use bdb_base::{Catalog, Txt};
+use crate::lookup::is_same;
+use crate::parts::{depth_limit, has_long_text, new_columns, path_names, query_of};
+use crate::queries::{check_query_depth, check_query_items, check_query_repeat};
+use bdb_base::{ColDef, Txt};
 use bdb_syntax::Command;
 
 /// Refuses a text of more than 255 bytes.
@@ -19,13 +21,16 @@ pub fn check_texts(command: &Command) -> Result<(), BindError>
     Ok(())
 }
 
-/// Refuses a relation of more than 16 columns.
+/// Refuses a relation of more than 16 columns, and a query of too many items or columns.
 #[tactic(auto, unfolding(crate::specs::Lines::items_line))]
 pub fn check_items(command: &Command) -> Result<(), BindError>
     ensures { Checks result (items_line command.now) }
 {
     if new_columns(command).len() > 16 {
         return Err(BindError::Items);
+    }
+    if let Some(query) = query_of(command) {
+        check_query_items(query)?;
     }
     Ok(())
 }
@@ -37,6 +42,9 @@ pub fn check_repeat(command: &Command) -> Result<(), BindError>
 {
     if has_repeat(path_names(command)) {
         return Err(BindError::Repeat);
+    }
+    if let Some(query) = query_of(command) {
+        check_query_repeat(query)?;
     }
     Ok(())
 }
@@ -73,16 +81,18 @@ pub fn check_depth(command: &Command) -> Result<(), BindError>
     if path_names(command).len() > depth_limit(command) {
         return Err(BindError::Deep);
     }
+    if let Some(query) = query_of(command) {
+        check_query_depth(query)?;
+    }
     Ok(())
 }
 
-/// Refuses an insert with another number of values than the relation has columns.
-#[tactic(auto, unfolding(crate::specs::Lines::arity_line))]
-pub fn check_arity(catalog: &Catalog, command: &Command) -> Result<(), BindError>
-    ensures { Checks result (arity_line catalog.now command.now) }
+/// Refuses an insert with another number of values than there are columns.
+pub fn check_arity(cols: &[ColDef], command: &Command) -> Result<(), BindError>
+    ensures { Checks result (change_arity cols.now command.now) }
 {
-    if let Command::Insert { rel, vals, .. } = command {
-        if vals.len() != columns_of(catalog.rels.as_slice(), rel).len() {
+    if let Command::Insert { vals, .. } = command {
+        if vals.len() != cols.len() {
             return Err(BindError::Arity);
         }
     }

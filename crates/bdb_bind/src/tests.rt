@@ -1,16 +1,17 @@
 // Commands over a small catalog: why they are refused, and what they are bound to.
-ghost use Rattle.std.specs.Prelude.{IfOk};
+ghost use Rattle.std.specs.Prelude.{◌≡◌, [], ◌∷◌, length, IfOk};
 ghost use Rattle.bdb_base.specs.Bases.{IsCatalog};
 
 use super::*;
-use bdb_base::{Catalog, ColDef, Kind, List, RelDef, Sign, Txt, Value};
-use bdb_syntax::Command;
+use bdb_base::{Catalog, Cmp, ColDef, Item, Kind, List, Query, RelDef, Sign, Txt, Value};
+use bdb_syntax::{Command, RawCol, RawCond, RawItem, RawQuery, RawSide, RawWho};
 use std::alloc::{AllocError, Global};
 use std::test::Fail;
 
 /// The relation S, with the columns k and v, and the users Alice and Bob.
 fn curators(alloc: Global) -> Result<Catalog, AllocError>
-    ensures { IfOk result (λ c. IsCatalog c) }
+    ensures valid { IfOk result (λ c. IsCatalog c) }
+    ensures single { IfOk result (λ c. length c.rels ≡ 1) }
 {
     let k = Txt::try_new(alloc, "k")?;
     let v = Txt::try_new(alloc, "v")?;
@@ -90,10 +91,25 @@ fn bound(alloc: Global, command: &Command) -> Result<Bound, BindError> {
     let Ok(catalog) = curators(alloc) else {
         return Err(BindError::Memory);
     };
-    if !is_built(command) {
-        return Err(BindError::Memory);
-    }
     bind(alloc, &catalog, command)
+}
+
+/// The same by an index, which is wrong of two names that the catalog doesn't have.
+fn bound_by_index(alloc: Global, command: &Command) -> Result<Bound, BindError> {
+    let Ok(catalog) = curators(alloc) else {
+        return Err(BindError::Memory);
+    };
+    let Ok(index) = wrong_index(alloc, &catalog) else {
+        return Err(BindError::Memory);
+    };
+    bind_by(alloc, &catalog, &index, command)
+}
+
+fn wrong_index(alloc: Global, catalog: &Catalog) -> Result<NameIndex, AllocError> {
+    let mut index = NameIndex::of(alloc, catalog)?;
+    index.add_user(alloc, &Txt::try_new(alloc, "Zoe")?, 1)?;
+    index.add_relation(alloc, &Txt::try_new(alloc, "T")?, 0)?;
+    Ok(index)
 }
 
 #[test]
@@ -138,6 +154,190 @@ fn inserts_are_bound_or_refused(rt: HostRuntime) -> Result<(), Fail> {
         let command = insert(alloc, names(alloc, users)?, rel, vals)?;
         let outcome = bound(alloc, &command);
         assert!(rt; is_outcome(&outcome, word, named));
+        let outcome = bound_by_index(alloc, &command);
+        assert!(rt; is_outcome(&outcome, word, named));
     }
+    Ok(())
+}
+
+fn col(alloc: Global, alias: &str, col: &str) -> Result<RawCol, AllocError> {
+    let alias = Some(Txt::try_new(alloc, alias)?);
+    let col = Txt::try_new(alloc, col)?;
+    Ok(RawCol { alias, col })
+}
+
+/// The path of one user: Bob, the number of U, or none.
+fn whos(alloc: Global, who: &str) -> Result<List<RawWho>, AllocError> {
+    let mut path = List::new(alloc);
+    if who == "Bob" {
+        path.push(RawWho::Name(Txt::try_new(alloc, who)?))?;
+    }
+    if who == "U.uid" {
+        path.push(RawWho::Col(col(alloc, "U", "uid")?))?;
+    }
+    Ok(path)
+}
+
+/// Items: a path of one user or none, `not` or nothing, the relation, the alias.
+fn items(alloc: Global, rows: &[(&str, &str, &str, &str)]) -> Result<List<RawItem>, AllocError> {
+    let mut list = List::new(alloc);
+    for (who, not, rel, alias) in rows {
+        let path = whos(alloc, who)?;
+        let sign = if *not == "not" {
+            Sign::Minus
+        } else {
+            Sign::Plus
+        };
+        let rel = Txt::try_new(alloc, rel)?;
+        let alias = Txt::try_new(alloc, alias)?;
+        list.push(RawItem {
+            path,
+            sign,
+            rel,
+            alias,
+        })?;
+    }
+    Ok(list)
+}
+
+/// Comparisons of a column with a text.
+fn conds(alloc: Global, rows: &[(&str, &str, &str)]) -> Result<List<RawCond>, AllocError> {
+    let mut list = List::new(alloc);
+    for (alias, name, text) in rows {
+        let left = col(alloc, alias, name)?;
+        let right = RawSide::Lit(value(alloc, text)?);
+        list.push(RawCond {
+            left,
+            cmp: Cmp::Eq,
+            right,
+        })?;
+    }
+    Ok(list)
+}
+
+/// Whether a query comes to this outcome: a word for it, and the alias and name that it holds.
+fn is_query_outcome(
+    outcome: &Result<Bound, BindError>,
+    word: &str,
+    alias: &str,
+    name: &str,
+) -> bool {
+    match outcome {
+        Ok(Bound::Select { .. }) => word == "ok",
+        Err(BindError::Relation(n)) => word == "relation" && n.as_str() == name,
+        Err(BindError::AliasTwice(n)) => word == "alias twice" && n.as_str() == name,
+        Err(BindError::Alias(n)) => word == "alias" && n.as_str() == name,
+        Err(
+            BindError::Column {
+                alias: Some(a),
+                col,
+            },
+        ) => word == "column" && a.as_str() == alias && col.as_str() == name,
+        Err(BindError::Unsafe { alias: a, col }) => {
+            word == "unsafe" && a.as_str() == alias && col.as_str() == name
+        }
+        _ => false,
+    }
+}
+
+#[test]
+fn queries_are_bound_or_refused(rt: HostRuntime) -> Result<(), Fail> {
+    let alloc = rt.alloc();
+    let one = [("", "", "S", "X")];
+    let denied = [("Bob", "not", "S", "Y")];
+    let key = [("Y", "k", "s1")];
+    let both = [("Y", "k", "s1"), ("Y", "v", "crow")];
+    let unknown = [("", "", "T", "X")];
+    let twice = [("", "", "S", "X"), ("", "", "S", "X")];
+    let later = [("U.uid", "", "S", "X"), ("", "", "Users", "U")];
+    let no_users = [("", "not", "Users", "U")];
+    let rows = [
+        (
+            "X",
+            "k",
+            unknown.as_slice(),
+            [].as_slice(),
+            "relation",
+            "",
+            "T",
+        ),
+        ("X", "z", one.as_slice(), [].as_slice(), "column", "X", "z"),
+        ("Z", "k", one.as_slice(), [].as_slice(), "alias", "", "Z"),
+        (
+            "X",
+            "k",
+            twice.as_slice(),
+            [].as_slice(),
+            "alias twice",
+            "",
+            "X",
+        ),
+        (
+            "Y",
+            "v",
+            denied.as_slice(),
+            key.as_slice(),
+            "unsafe",
+            "Y",
+            "v",
+        ),
+        ("Y", "v", denied.as_slice(), both.as_slice(), "ok", "", ""),
+        ("U", "name", later.as_slice(), [].as_slice(), "ok", "", ""),
+        (
+            "U",
+            "name",
+            no_users.as_slice(),
+            [].as_slice(),
+            "relation",
+            "",
+            "Users",
+        ),
+    ];
+    for (from, name, froms, tests, word, alias, named) in rows {
+        let mut take = List::new(alloc);
+        take.push(col(alloc, from, name)?)?;
+        let query = RawQuery {
+            take,
+            items: items(alloc, froms)?,
+            conds: conds(alloc, tests)?,
+        };
+        let outcome = bound(alloc, &Command::Select { query });
+        assert!(rt; is_query_outcome(&outcome, word, alias, named));
+    }
+    Ok(())
+}
+
+/// A query of one item, `not S Y`, with no comparison.
+fn denial(alloc: Global) -> Result<Query, AllocError>
+    ensures take { IfOk result (λ q. q.take ≡ []) }
+    ensures items { IfOk result (λ q. q.items ≡ Item.Rel (89 ∷ []) 0 Sign.Minus [] ∷ []) }
+    ensures conds { IfOk result (λ q. q.conds ≡ []) }
+{
+    let alias = Txt::try_new(alloc, "Y")?;
+    let path = List::new(alloc);
+    let sign = Sign::Minus;
+    let items = List::from_vec(vec![in alloc;
+        Item::Rel {
+            alias,
+            rel: 0,
+            sign,
+            path
+        },
+    ]?);
+    Ok(Query {
+        take: List::new(alloc),
+        items,
+        conds: List::new(alloc),
+    })
+}
+
+#[test]
+#[tactic(auto, using(crate::proofs::Samples::denial_fits))]
+fn first_unbound_column_is_told(rt: HostRuntime) -> Result<(), Fail> {
+    let alloc = rt.alloc();
+    let catalog = curators(alloc)?;
+    let query = denial(alloc)?;
+    let first = safe(alloc, &catalog, &query)?;
+    assert!(rt; matches!(first, Some((0, 0))));
     Ok(())
 }

@@ -1,0 +1,109 @@
+// Where the names of a catalog stand.
+ghost use Rattle.std.specs.Prelude.{◌≡◌, ℕ, List, None, IfOk, OnOk};
+ghost use Rattle.std.specs.BTreeMap.{get_by_text};
+ghost use Rattle.bdb_bind.specs.Indexes.{or_place, user_place, TellsOf};
+ghost use Rattle.bdb_bind.specs.Lookup.{number_of};
+
+use bdb_base::{Catalog, RelDef, Txt};
+use std::alloc::{AllocError, Global};
+use std::collections::BTreeMap;
+
+/// Where the names of a catalog stand, from 0. It is a hint: a look-up verifies what it is told, and searches where that
+/// fails. So binding answers the same with any index, and is fast with that of its catalog.
+#[derive(Drop)]
+pub struct NameIndex {
+    users: BTreeMap<String, usize>,
+    rels: BTreeMap<String, usize>,
+}
+
+impl NameIndex {
+    /// An index that knows no name.
+    pub fn new(alloc: Global) -> Self
+        ensures users { (q : List ℕ) → get_by_text result.users q ≡ None }
+        ensures rels { (q : List ℕ) → get_by_text result.rels q ≡ None }
+    {
+        NameIndex {
+            users: BTreeMap::new(alloc),
+            rels: BTreeMap::new(alloc),
+        }
+    }
+
+    /// The index of a catalog.
+    pub fn of(alloc: Global, catalog: &Catalog) -> Result<Self, AllocError>
+        ensures { IfOk result (TellsOf catalog.now) }
+    {
+        let users = places_of_users(alloc, catalog.users.as_slice())?;
+        let rels = places_of_relations(alloc, catalog.rels.as_slice())?;
+        Ok(NameIndex { users, rels })
+    }
+
+    /// A user of this name stands at this place. Where a user of this name is known, nothing changes.
+    pub fn add_user(&mut self, alloc: Global, name: &Txt, at: usize) -> Result<(), AllocError>
+        ensures { OnOk result ((q : List ℕ) → get_by_text self.new.users q ≡ or_place (get_by_text self.old.users q) name.now at q) }
+    {
+        add_place(&mut self.users, alloc, name, at)
+    }
+
+    /// A relation of this name stands at this place. Where a relation of this name is known, nothing changes.
+    pub fn add_relation(&mut self, alloc: Global, name: &Txt, at: usize) -> Result<(), AllocError>
+        ensures { OnOk result ((q : List ℕ) → get_by_text self.new.rels q ≡ or_place (get_by_text self.old.rels q) name.now at q) }
+    {
+        add_place(&mut self.rels, alloc, name, at)
+    }
+
+    /// Where a user of this name should stand.
+    pub fn user(&self, name: &Txt) -> Option<usize>
+        ensures { result ≡ get_by_text self.now.users name.now }
+    {
+        self.users.get(name.as_str()).copied()
+    }
+
+    /// Where a relation of this name should stand.
+    pub fn relation(&self, name: &Txt) -> Option<usize>
+        ensures { result ≡ get_by_text self.now.rels name.now }
+    {
+        self.rels.get(name.as_str()).copied()
+    }
+}
+
+/// A name stands at this place, unless it is known.
+fn add_place(
+    places: &mut BTreeMap<String, usize>,
+    alloc: Global,
+    name: &Txt,
+    at: usize,
+) -> Result<(), AllocError>
+    ensures { OnOk result ((q : List ℕ) → get_by_text places.new q ≡ or_place (get_by_text places.old q) name.now at q) }
+{
+    if places.get(name.as_str()).is_some() {
+        return Ok(());
+    }
+    let key = String::from_str(alloc, name.as_str())?;
+    places.insert(key, at)?;
+    Ok(())
+}
+
+/// Where the users stand.
+fn places_of_users(alloc: Global, users: &[Txt]) -> Result<BTreeMap<String, usize>, AllocError>
+    ensures { IfOk result (λ m. (q : List ℕ) → get_by_text m q ≡ user_place users.now q) }
+{
+    let mut places = BTreeMap::new(alloc);
+    for (at, user) in users.iter().enumerate() {
+        add_place(&mut places, alloc, user, at)?;
+    }
+    Ok(places)
+}
+
+/// Where the relations stand.
+fn places_of_relations(
+    alloc: Global,
+    rels: &[RelDef],
+) -> Result<BTreeMap<String, usize>, AllocError>
+    ensures { IfOk result (λ m. (q : List ℕ) → get_by_text m q ≡ number_of rels.now q) }
+{
+    let mut places = BTreeMap::new(alloc);
+    for (at, rel) in rels.iter().enumerate() {
+        add_place(&mut places, alloc, &rel.name, at)?;
+    }
+    Ok(places)
+}
