@@ -31,7 +31,7 @@ pub use kinds::{
     Value, What, Who, World,
 };
 pub use list::{Exact, List};
-pub use order::{cmp_path, cmp_stmt, cmp_tuple, cmp_value};
+pub use order::{cmp_path, cmp_row, cmp_stmt, cmp_tuple, cmp_value};
 pub use ordered::{
     Ordered, contains, loop_makes_set, members_make_set, place_of, put, put_adds_member, put_copy,
     put_keeps_order, set_is_ascending, set_keeps_members, take, take_drops_member,

@@ -18,6 +18,13 @@ pub fn cmp_value(a: &Value, b: &Value) -> Ordering
     value_order(a, b)
 }
 
+/// The order of two rows: value by value, a proper prefix first.
+pub fn cmp_row(a: &[Value], b: &[Value]) -> Ordering
+    ensures { result ≡ row_cmp a.now b.now }
+{
+    row_order(a, b)
+}
+
 /// The order of two tuples: by relation number, then value by value.
 pub fn cmp_tuple(a: &Tuple, b: &Tuple) -> Ordering
     ensures order { result ≡ tuple_cmp a.now b.now }

@@ -1,3 +1,12 @@
+pub mod AnswerLemmas
 pub mod BaseLemmas
+pub mod ChainLemmas
+pub mod ChoosingLemmas
 pub mod ClashLemmas
+pub mod HoldingLemmas
 pub mod LevelLemmas
+pub mod PassLemmas
+pub mod PoolLemmas
+pub mod SlotLemmas
+pub mod SourceLemmas
+pub mod WholeLemmas

@@ -3,13 +3,24 @@
 
 mod bases;
 mod beliefs;
+mod choosing;
 mod conflicts;
+mod fitting;
+mod found;
 mod levels;
+mod pools;
+mod queries;
+#[cfg(test)]
+mod query_tests;
 mod rows;
+mod slots;
+mod sources;
+mod stages;
 #[cfg(test)]
 mod tests;
 
 pub use bases::{believes, clashing, stated, world_rows};
 pub use beliefs::{believes_among, clashing_among, stated_among};
 pub use conflicts::first_clashing_among;
+pub use queries::{answers, answers_up_to};
 pub use rows::world_among;

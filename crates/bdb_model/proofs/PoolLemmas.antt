@@ -1,0 +1,202 @@
+-- What the pools of a query's items hold.
+use Rattle.std.proofs.Common.{◌≡◌, ◌≢◌, ◌∙◌, ℕ, suc, ◌+◌, ◌-◌, ◌<◌, ◌≤◌, Bool, true, false, ◌&&◌, ◌||◌, nat_eq, nat_lt, nat_le, List, [], ◌∷◌, Option, None, Some, inl, inr, refl, ap, sym, subst, cond, length, map, filter, arith, ◌⊎◌}
+use Prim.Native.Nat.{zero}
+use Rattle.std.specs.List.{list_any, list_all, slice_get}
+use Rattle.std.proofs.lemmas.Bool.{false≢true, cases_Bool, cond-true, cond-false, or_cases, or_left, or_right, and_parts, and_from, le-leb, lt-ltb, leb-true, ltb-true}
+use Rattle.std.proofs.lemmas.Bool.Decides.{Decides-eqb}
+use Rattle.std.proofs.lemmas.Option.{slice_get_within}
+use Rattle.bdb_base.specs.declared.kinds.Catalog.{Catalog}
+use Rattle.bdb_base.specs.declared.kinds.Held.{Held}
+use Rattle.bdb_base.specs.declared.kinds.Sign.{Sign}
+use Rattle.bdb_base.specs.declared.kinds.Sign.TheVariants.{Plus, Minus}
+use Rattle.bdb_base.specs.declared.kinds.Stmt.{Stmt}
+use Rattle.bdb_base.specs.declared.tuple.Tuple.{Tuple}
+use Rattle.bdb_base.specs.Alternation.{alternates}
+use Rattle.bdb_base.specs.Bases.{Contents, AreStatements, is_user, belongs, fits_relation}
+use Rattle.bdb_base.specs.Clash.{clash}
+use Rattle.bdb_base.specs.Queries.{user_name, path_believes}
+use Rattle.bdb_base.specs.Same.{same_tuple, same_sign}
+use Rattle.bdb_base.specs.SameLemmas.{same_tuple-Decides, same_sign-Decides}
+use Rattle.bdb_base.specs.WorldRows.{world_of, same_row, has_row}
+use Rattle.bdb_base.specs.Worlds.{explicit, stated, believes}
+use Rattle.bdb_base.proofs.CountLemmas.{list_any-map}
+use Rattle.bdb_base.proofs.WorldLemmas.{stated_tuples_are_explicit, rival_from_clash, clash_from_rival, negations_are_believed}
+use Rattle.bdb_base.proofs.WorldRowsLemmas.{rows_are_the_world, same_row_from, same_row_tells}
+use Rattle.bdb_queries.proofs.FoundLemmas.{Found, found_first, found_later, found-map, found-filter, found_both, list_any-filter}
+use Rattle.bdb_model.specs.Pools.{world_at, is_plus_of, plus_tuples, denies}
+use Rattle.bdb_model.specs.Slots.{user_tuple, user_tuples}
+use Rattle.bdb_model.proofs.PassLemmas.{found_with}
+
+pub found_nowhere : {X : Type 0} (x : X) → Found x [] → ⊥
+found_nowhere x f = false≢true (f (λ _. true) refl)
+
+-- ---- users
+
+-- numbers from one number on, at a place
+later : (n k : ℕ) → n + suc k ≡ suc n + k
+later n k = omega arith
+
+at_first : (n : ℕ) → n + zero ≡ n
+at_first n = omega arith
+
+tuple_at : (n k : ℕ) (names : List (List ℕ)) (name : List ℕ) → slice_get names k ≡ Some name → Found (user_tuple (n + k) name) (user_tuples n names)
+tuple_at n k [] name e = cc
+tuple_at n zero (m ∷ names) name e =
+    let same : m ≡ name = cc in
+    subst (λ i. Found (user_tuple i name) (user_tuples n (m ∷ names))) (sym (at_first n))
+    (subst (λ u. Found (user_tuple n u) (user_tuples n (m ∷ names))) same (found_first (user_tuple n m) (user_tuples (suc n) names)))
+tuple_at n (suc k) (m ∷ names) name e =
+    subst (λ i. Found (user_tuple i name) (user_tuples n (m ∷ names))) (sym (later n k))
+    (found_later (user_tuple (suc n + k) name) (user_tuple n m) (user_tuples (suc n) names) (tuple_at (suc n) k names name e))
+
+place_of_tuple : (n : ℕ) (names : List (List ℕ)) (t : Tuple) → list_any (λ u. same_tuple u t) (user_tuples n names) ≡ true
+    → (k : ℕ) × (name : List ℕ) × (slice_get names k ≡ Some name) × (t ≡ user_tuple (n + k) name)
+place_of_tuple n [] t e = absurd (false≢true e)
+place_of_tuple n (m ∷ names) t e = elim (or_cases (same_tuple (user_tuple n m) t) (list_any (λ u. same_tuple u t) (user_tuples (suc n) names)) e) [
+  | inl k ↦ (zero, m, refl, sym ((same_tuple-Decides (user_tuple n m) t).0 k) ∙ ap (λ i. user_tuple i m) (sym (at_first n)))
+  | inr k ↦
+      let rest = place_of_tuple (suc n) names t k in
+      (suc rest.0, rest.1, rest.2, rest.3 ∙ ap (λ i. user_tuple i rest.1) (sym (later n rest.0)))
+]
+
+named_at : (users : List (List ℕ)) (uid : ℕ) (name : List ℕ) → is_user users uid ≡ true → user_name users uid ≡ Some name → slice_get users (uid - 1) ≡ Some name
+named_at users uid name h e = sym (cond-true (is_user users uid) (slice_get users (uid - 1)) None h) ∙ e
+
+-- a user's tuple is among those of all users
+pub found_user_tuple : (users : List (List ℕ)) (uid : ℕ) (name : List ℕ) → is_user users uid ≡ true → user_name users uid ≡ Some name → Found (user_tuple uid name) (user_tuples 1 users)
+found_user_tuple users uid name h e =
+    let above : 0 < uid = ltb-true 0 uid (and_parts (nat_lt 0 uid) (nat_le uid (length users)) h).0 in
+    let same : 1 + (uid - 1) ≡ uid = omega arith in
+    subst (λ i. Found (user_tuple i name) (user_tuples 1 users)) same (tuple_at 1 (uid - 1) users name (named_at users uid name h e))
+
+-- a tuple among those of all users is a user's
+pub user_of_tuple : (users : List (List ℕ)) (t : Tuple) → Found t (user_tuples 1 users)
+    → (uid : ℕ) × (name : List ℕ) × (is_user users uid ≡ true) × (user_name users uid ≡ Some name) × (t ≡ user_tuple uid name)
+user_of_tuple users t f =
+    let at = place_of_tuple 1 users t (f (λ u. same_tuple u t) ((same_tuple-Decides t t).1 refl)) in
+    let k = at.0 in
+    let within : k < length users = slice_get_within users k at.1 at.2 in
+    let user : is_user users (1 + k) ≡ true = and_from (nat_lt 0 (1 + k)) (nat_le (1 + k) (length users)) (lt-ltb 0 (1 + k) (omega arith)) (le-leb (1 + k) (length users) (omega arith)) in
+    let place : (1 + k) - 1 ≡ k = omega arith in
+    (1 + k, at.1, user, cond-true (is_user users (1 + k)) (slice_get users ((1 + k) - 1)) None user ∙ ap (slice_get users) place ∙ at.2, at.3)
+
+-- ---- rows of a world
+
+-- a row of a world is stated
+stated_row : (stmts : List Stmt) (w : List ℕ) (h : Held) → Found h (world_of (λ _. 1) stmts w) → stated (λ _. 1) stmts w h.tuple h.sign ≡ true
+stated_row stmts w h f = ((rows_are_the_world (λ _. 1) stmts w h).0 (f (same_row h) (same_row_from h h refl refl refl))).0
+
+abbrev row_of : List Stmt → List ℕ → Tuple → Sign → Held
+row_of stmts w t s = record { tuple = t; sign = s; explicit = explicit stmts w t s }
+
+-- what is stated has a row
+row_there : (stmts : List Stmt) (w : List ℕ) (t : Tuple) (s : Sign) → stated (λ _. 1) stmts w t s ≡ true
+    → (h : Held) × (h.tuple ≡ t) × (h.sign ≡ s) × Found h (world_of (λ _. 1) stmts w)
+row_there stmts w t s e =
+    let has : has_row (world_of (λ _. 1) stmts w) (row_of stmts w t s) ≡ true = (rows_are_the_world (λ _. 1) stmts w (row_of stmts w t s)).1 (e, refl) in
+    let found = found_with (same_row (row_of stmts w t s)) (world_of (λ _. 1) stmts w) has in
+    let same = same_row_tells (row_of stmts w t s) found.0 found.1 in
+    (found.0, sym same.0, sym same.1, found.2)
+
+-- the tuples that a world has with plus are its stated ones
+pub plus_is_stated : (stmts : List Stmt) (w : List ℕ) (rel : ℕ) (t : Tuple) → Found t (plus_tuples rel (world_of (λ _. 1) stmts w)) → (t.rel ≡ rel) × (stated (λ _. 1) stmts w t Plus ≡ true)
+plus_is_stated stmts w rel t f =
+    let world = world_of (λ _. 1) stmts w in
+    let any : list_any (λ h. is_plus_of rel h && same_tuple h.tuple t) world ≡ true =
+    sym (list_any-filter (λ h. same_tuple h.tuple t) (is_plus_of rel) world) ∙ sym (list_any-map (λ u. same_tuple u t) (λ h. h.tuple) (filter (is_plus_of rel) world))
+    ∙ f (λ u. same_tuple u t) ((same_tuple-Decides t t).1 refl) in
+    let found = found_with (λ h. is_plus_of rel h && same_tuple h.tuple t) world any in
+    let h = found.0 in
+    let k = and_parts (is_plus_of rel h) (same_tuple h.tuple t) found.1 in
+    let m = and_parts (nat_eq h.tuple.rel rel) (same_sign h.sign Plus) k.0 in
+    let same : h.tuple ≡ t = (same_tuple-Decides h.tuple t).0 k.1 in
+    let sign : h.sign ≡ Plus = (same_sign-Decides h.sign Plus).0 m.1 in
+    (ap (λ u. u.rel) (sym same) ∙ (Decides-eqb h.tuple.rel rel).0 m.0,
+      ap (λ u. stated (λ _. 1) stmts w u Plus) (sym same) ∙ ap (λ s. stated (λ _. 1) stmts w h.tuple s) (sym sign) ∙ stated_row stmts w h found.2)
+
+pub stated_is_plus : (stmts : List Stmt) (w : List ℕ) (rel : ℕ) (t : Tuple) → t.rel ≡ rel → stated (λ _. 1) stmts w t Plus ≡ true → Found t (plus_tuples rel (world_of (λ _. 1) stmts w))
+stated_is_plus stmts w rel t r e =
+    let world = world_of (λ _. 1) stmts w in
+    let row = row_there stmts w t Plus e in
+    let h = row.0 in
+    let test : is_plus_of rel h ≡ true =
+    and_from (nat_eq h.tuple.rel rel) (same_sign h.sign Plus) ((Decides-eqb h.tuple.rel rel).1 (ap (λ u. u.rel) row.1 ∙ r)) ((same_sign-Decides h.sign Plus).1 row.2) in
+    subst (λ u. Found u (plus_tuples rel world)) row.1
+    (found-map (λ x. x.tuple) (filter (is_plus_of rel) world) h (found-filter (is_plus_of rel) world h row.3 test))
+
+clash_by_sign : (t u : Tuple) (s : Sign) → clash (λ _. 1) t Plus u s ≡ true → ((s ≡ Minus) × (t ≡ u)) ⊎ ((s ≡ Plus) × (clash (λ _. 1) t Plus u Plus ≡ true))
+clash_by_sign t u Plus e = inr (refl, e)
+clash_by_sign t u Minus e = inl (refl, (same_tuple-Decides t u).0 e)
+
+-- what a world denies is not believed
+pub denied_is_believed : (stmts : List Stmt) (w : List ℕ) (t : Tuple) → denies (world_of (λ _. 1) stmts w) t ≡ true → believes (λ _. 1) stmts w t Minus ≡ true
+denied_is_believed stmts w t e =
+    let found = found_with (λ h. clash (λ _. 1) t Plus h.tuple h.sign) (world_of (λ _. 1) stmts w) e in
+    let h = found.0 in
+    let here : stated (λ _. 1) stmts w h.tuple h.sign ≡ true = stated_row stmts w h found.2 in
+    elim (clash_by_sign t h.tuple h.sign found.1) [
+      | inl k ↦ (negations_are_believed (λ _. 1) stmts w t).1 (inl (ap (λ u. stated (λ _. 1) stmts w u Minus) k.1 ∙ ap (λ s. stated (λ _. 1) stmts w h.tuple s) (sym k.0) ∙ here))
+      | inr k ↦ (negations_are_believed (λ _. 1) stmts w t).1 (inr (rival_from_clash (λ _. 1) stmts w t h.tuple k.1 (ap (λ s. stated (λ _. 1) stmts w h.tuple s) (sym k.0) ∙ here)))
+    ]
+
+denied_by : (stmts : List Stmt) (w : List ℕ) (t u : Tuple) (s : Sign) → stated (λ _. 1) stmts w u s ≡ true → clash (λ _. 1) t Plus u s ≡ true → denies (world_of (λ _. 1) stmts w) t ≡ true
+denied_by stmts w t u s e k =
+    let row = row_there stmts w u s e in
+    row.3 (λ h. clash (λ _. 1) t Plus h.tuple h.sign) (ap (λ v. clash (λ _. 1) t Plus v row.0.sign) row.1 ∙ ap (λ z. clash (λ _. 1) t Plus u z) row.2 ∙ k)
+
+pub believed_is_denied : (stmts : List Stmt) (w : List ℕ) (t : Tuple) → believes (λ _. 1) stmts w t Minus ≡ true → denies (world_of (λ _. 1) stmts w) t ≡ true
+believed_is_denied stmts w t e = elim ((negations_are_believed (λ _. 1) stmts w t).0 e) [
+  | inl k ↦ denied_by stmts w t t Minus k ((same_tuple-Decides t t).1 refl)
+  | inr k ↦ denied_by stmts w t k.0 Plus k.4 (clash_from_rival (λ _. 1) t k.0 k.1 k.2 k.3)
+]
+
+-- ---- paths that may be missing
+
+pub plus_is_believed : (b : Contents) (p : Option (List ℕ)) (rel : ℕ) (t : Tuple) → Found t (plus_tuples rel (world_at b.stmts p)) → (t.rel ≡ rel) × (path_believes b t Plus p ≡ true)
+plus_is_believed b None rel t f = absurd (found_nowhere t f)
+plus_is_believed b (Some w) rel t f = elim (cases_Bool (alternates w)) [
+  | inl k ↦
+      let world : world_at b.stmts (Some w) ≡ world_of (λ _. 1) b.stmts w = cond-true (alternates w) (world_of (λ _. 1) b.stmts w) [] k in
+      let m = plus_is_stated b.stmts w rel t (subst (λ x. Found t (plus_tuples rel x)) world f) in
+      (m.0, and_from (alternates w) (stated (λ _. 1) b.stmts w t Plus) k m.1)
+  | inr k ↦
+      let world : world_at b.stmts (Some w) ≡ [] = cond-false (alternates w) (world_of (λ _. 1) b.stmts w) [] k in
+      absurd (found_nowhere t (subst (λ x. Found t (plus_tuples rel x)) world f))
+]
+
+pub believed_is_plus : (b : Contents) (p : Option (List ℕ)) (rel : ℕ) (t : Tuple) → t.rel ≡ rel → path_believes b t Plus p ≡ true → Found t (plus_tuples rel (world_at b.stmts p))
+believed_is_plus b None rel t r e = absurd (false≢true e)
+believed_is_plus b (Some w) rel t r e =
+    let k = and_parts (alternates w) (stated (λ _. 1) b.stmts w t Plus) e in
+    let world : world_at b.stmts (Some w) ≡ world_of (λ _. 1) b.stmts w = cond-true (alternates w) (world_of (λ _. 1) b.stmts w) [] k.0 in
+    subst (λ x. Found t (plus_tuples rel x)) (sym world) (stated_is_plus b.stmts w rel t r k.1)
+
+pub denied_at : (b : Contents) (p : Option (List ℕ)) (t : Tuple) → denies (world_at b.stmts p) t ≡ true → path_believes b t Minus p ≡ true
+denied_at b None t e = absurd (false≢true e)
+denied_at b (Some w) t e = elim (cases_Bool (alternates w)) [
+  | inl k ↦
+      let world : world_at b.stmts (Some w) ≡ world_of (λ _. 1) b.stmts w = cond-true (alternates w) (world_of (λ _. 1) b.stmts w) [] k in
+      and_from (alternates w) (believes (λ _. 1) b.stmts w t Minus) k (denied_is_believed b.stmts w t (ap (λ x. denies x t) (sym world) ∙ e))
+  | inr k ↦
+      let world : world_at b.stmts (Some w) ≡ [] = cond-false (alternates w) (world_of (λ _. 1) b.stmts w) [] k in
+      absurd (false≢true (ap (λ x. denies x t) (sym world) ∙ e))
+]
+
+pub believed_at : (b : Contents) (p : Option (List ℕ)) (t : Tuple) → path_believes b t Minus p ≡ true → denies (world_at b.stmts p) t ≡ true
+believed_at b None t e = absurd (false≢true e)
+believed_at b (Some w) t e =
+    let k = and_parts (alternates w) (believes (λ _. 1) b.stmts w t Minus) e in
+    let world : world_at b.stmts (Some w) ≡ world_of (λ _. 1) b.stmts w = cond-true (alternates w) (world_of (λ _. 1) b.stmts w) [] k.0 in
+    ap (λ x. denies x t) world ∙ believed_is_denied b.stmts w t k.1
+
+-- what a path believes with plus fits its relation
+pub believed_fits : (b : Contents) → AreStatements b.catalog b.stmts → (p : Option (List ℕ)) (t : Tuple) → path_believes b t Plus p ≡ true → fits_relation b.catalog.rels t ≡ true
+believed_fits b h None t e = absurd (false≢true e)
+believed_fits b h (Some w) t e =
+    let k = and_parts (alternates w) (stated (λ _. 1) b.stmts w t Plus) e in
+    let found = found_both (belongs b.catalog) (λ x. same_tuple x.tuple t) b.stmts h.belong (stated_tuples_are_explicit (λ _. 1) b.stmts w t Plus k.1) in
+    let same : found.0.tuple ≡ t = (same_tuple-Decides found.0.tuple t).0 found.2 in
+    ap (fits_relation b.catalog.rels) (sym same) ∙ belongs_fits b.catalog found.0 found.1
+  where
+    belongs_fits : (c : Catalog) (x : Stmt) → belongs c x ≡ true → fits_relation c.rels x.tuple ≡ true
+    belongs_fits c x h = (and_parts (alternates x.path && nat_le (length x.path) 16 && list_all (is_user c.users) x.path) (fits_relation c.rels x.tuple) h).1

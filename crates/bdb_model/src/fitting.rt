@@ -1,0 +1,51 @@
+// Whether values fit the columns of a relation.
+ghost use Rattle.std.specs.Prelude.{◌≡◌, nat_le};
+ghost use Rattle.std.specs.List.{list_all, slice_get};
+ghost use Rattle.bdb_base.specs.Bases.{is_plain, fits_kind, fits_columns, fits_definition};
+
+use bdb_base::{ColDef, Kind, RelDef, Txt, Value};
+
+/// Whether values fit a relation, if there is one of this number: one for each column, of its kind.
+pub fn fits_relation(rels: &[RelDef], rel: u32, vals: &[Value]) -> bool
+    ensures { result ≡ fits_definition (slice_get rels.now rel) vals.now }
+{
+    match rels.get(rel as usize) {
+        Some(def) => fits_columns(def.cols.as_slice(), vals),
+        None => false,
+    }
+}
+
+fn fits_columns(cols: &[ColDef], vals: &[Value]) -> bool
+    ensures { result ≡ fits_columns cols.now vals.now }
+{
+    match cols {
+        [] => vals.is_empty(),
+        [col, cols @ ..] => match vals {
+            [] => false,
+            [value, vals @ ..] => fits_kind(col.kind, value) && fits_columns(cols, vals),
+        },
+    }
+}
+
+fn fits_kind(kind: Kind, value: &Value) -> bool
+    ensures { result ≡ fits_kind kind value.now }
+{
+    match (kind, value) {
+        (Kind::Int, Value::Int(_)) => true,
+        (Kind::Text, Value::Text(text)) => is_plain(text),
+        _ => false,
+    }
+}
+
+/// Whether a text has at most 255 bytes and no character below U+0020.
+fn is_plain(text: &Txt) -> bool
+    ensures { result ≡ is_plain text.now }
+{
+    text.len() <= 255 && are_printable(text.as_str().as_bytes())
+}
+
+fn are_printable(bytes: &[u8]) -> bool
+    ensures { result ≡ list_all (λ c. nat_le 32 c) bytes.now }
+{
+    bytes.iter().all(|c| 32 <= *c)
+}
