@@ -40,7 +40,7 @@ deepest_same P Q h (i ∷ w) = ap (λ b. cond b (i ∷ w) (deepest_suffix P w)) 
 same_itself : (w : List ℕ) → same_path w w ≡ true
 same_itself w = (same_path-Decides w w).1 refl
 
-suffix_itself : (w : List ℕ) → is_suffix w w ≡ true
+pub suffix_itself : (w : List ℕ) → is_suffix w w ≡ true
 suffix_itself [] = refl
 suffix_itself (i ∷ w) = or_left (same_path (i ∷ w) (i ∷ w)) (is_suffix (i ∷ w) w) (same_itself (i ∷ w))
 

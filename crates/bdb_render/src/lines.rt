@@ -75,7 +75,7 @@ pub fn append_signed(
 }
 
 /// Appends the mark of a row.
-fn append_mark(out: &mut Vec<u8>, explicit: bool) -> Result<(), AllocError>
+pub fn append_mark(out: &mut Vec<u8>, explicit: bool) -> Result<(), AllocError>
     ensures { OnOk result (out.new.items ≡ out.old.items ++ mark_text explicit) }
 {
     if explicit {

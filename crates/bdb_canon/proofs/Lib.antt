@@ -1,0 +1,6 @@
+pub mod EndLemmas
+pub mod LineLemmas
+pub mod PlaceLemmas
+pub mod RangeLemmas
+pub mod RowLemmas
+pub mod UserLemmas

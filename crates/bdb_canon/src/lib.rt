@@ -1,0 +1,19 @@
+//! The finite structure that stands for the worlds of all paths, computed from scratch.
+#![tactic(auto)]
+
+mod building;
+mod edges;
+mod ends;
+pub mod laws;
+mod lines;
+mod places;
+mod rows;
+mod structure;
+#[cfg(test)]
+mod tests;
+mod users;
+mod worlds;
+
+pub use building::canon;
+pub use lines::{has_more_lines, line_count};
+pub use structure::{Canon, CanonEdge, CanonRow, CanonWorld};

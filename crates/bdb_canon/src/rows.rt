@@ -1,0 +1,65 @@
+// The rows of the states' worlds.
+ghost use Rattle.std.specs.Prelude.{◌≡◌, ◌++◌, IfOk, OnOk};
+ghost use Rattle.std.specs.List.{flat_map};
+ghost use Rattle.bdb_base.specs.Order.{path_cmp};
+ghost use Rattle.bdb_canon.specs.Canonical.{AreStates, AreTuples, place_in, rows_from};
+
+use crate::ends::world_at;
+use crate::places::place_in;
+use crate::structure::CanonRow;
+use bdb_base::{List, Path, Stmt, Tuple};
+use std::alloc::{AllocError, Global};
+
+/// The rows of the states' worlds, by world and tuple.
+pub fn rows_of(
+    alloc: Global,
+    stmts: &[Stmt],
+    states: &[Path],
+    tuples: &[Tuple],
+) -> Result<List<CanonRow>, AllocError>
+    requires states { AreStates states.now }
+    requires tuples { AreTuples tuples.now }
+    ensures { IfOk result (λ rows. rows ≡ flat_map (rows_from (λ _. 1) stmts.now states.now tuples.now) states.now) }
+{
+    let mut rows = List::new(alloc);
+    for (at, path) in states.iter().enumerate() {
+        push_rows(
+            alloc,
+            &mut rows,
+            stmts,
+            states,
+            tuples,
+            at as u32,
+            path.as_slice(),
+        )?;
+    }
+    Ok(rows)
+}
+
+/// Adds the rows of the world of the state at a place.
+fn push_rows(
+    alloc: Global,
+    rows: &mut List<CanonRow>,
+    stmts: &[Stmt],
+    states: &[Path],
+    tuples: &[Tuple],
+    world: u32,
+    path: &[u32],
+) -> Result<(), AllocError>
+    requires states { AreStates states.now }
+    requires tuples { AreTuples tuples.now }
+    requires place { world ≡ place_in path_cmp states.now path.now }
+    ensures { OnOk result (rows.new ≡ rows.old ++ rows_from (λ _. 1) stmts.now states.now tuples.now path.now) }
+{
+    let found = world_at(alloc, stmts, path)?;
+    for held in found.held.as_slice() {
+        let tuple = place_in(tuples, &held.tuple) as u32;
+        rows.push(CanonRow {
+            world,
+            tuple,
+            sign: held.sign,
+            explicit: held.explicit,
+        })?;
+    }
+    Ok(())
+}
