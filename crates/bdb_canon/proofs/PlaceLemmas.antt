@@ -78,7 +78,7 @@ target_stands states w root = member_at_place path_exact states (deepest_suffix 
 pub target_within : (states : List (List ℕ)) (w : List ℕ) → is_member path_cmp states [] ≡ true → target_place states w < length states
 target_within states w root = slice_get_within states (target_place states w) (deepest_suffix (is_member path_cmp states) w) (target_stands states w root)
 
-listed_deepest : (stmts : List Stmt) (w : List ℕ) → deepest_suffix (is_member path_cmp (states_of stmts)) w ≡ deepest_suffix (is_state stmts) w
+pub listed_deepest : (stmts : List Stmt) (w : List ℕ) → deepest_suffix (is_member path_cmp (states_of stmts)) w ≡ deepest_suffix (is_state stmts) w
 listed_deepest stmts = deepest_same (is_member path_cmp (states_of stmts)) (is_state stmts) (list_has_states stmts)
 
 pub links_lead_to_states : LinksLeadToStates

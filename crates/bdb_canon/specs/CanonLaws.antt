@@ -1,16 +1,20 @@
 -- What holds of the structure, in the subject's own words. Each law is the contract of a function of `laws`.
-use Rattle.std.specs.Prelude.{◌≡◌, ℕ, Bool, true, ◌&&◌, nat_lt, List, length, filter, Option, Some, None}
-use Rattle.std.specs.List.{list_all, slice_get}
+use Rattle.std.specs.Prelude.{◌≡◌, ℕ, Bool, true, ◌&&◌, nat_eq, nat_lt, List, length, filter, Option, Some, None}
+use Rattle.std.specs.List.{list_all, list_any, slice_get}
 use Rattle.std.specs.Option.{option_and_then}
+use Rattle.bdb_base.specs.declared.kinds.Sign.{Sign}
 use Rattle.bdb_base.specs.declared.kinds.Stmt.{Stmt}
-use Rattle.bdb_base.specs.Bases.{Contents}
-use Rattle.bdb_base.specs.Order.{path_cmp}
+use Rattle.bdb_base.specs.declared.tuple.Tuple.{Tuple}
+use Rattle.bdb_base.specs.Bases.{Contents, key_lengths}
+use Rattle.bdb_base.specs.Order.{path_cmp, tuple_cmp}
+use Rattle.bdb_base.specs.Same.{same_sign}
 use Rattle.bdb_base.specs.Segments.{is_suffix}
 use Rattle.bdb_base.specs.SortedSet.{is_member}
 use Rattle.bdb_base.specs.States.{edge_target, is_state, states_of, suffix_link}
-use Rattle.bdb_base.specs.WorldRows.{world_of}
+use Rattle.bdb_base.specs.WorldRows.{tuples_of, world_of}
+use Rattle.bdb_base.specs.Worlds.{stated}
 use Rattle.bdb_canon.specs.declared.structure.Canon.{Canon}
-use Rattle.bdb_canon.specs.Canonical.{canon_of, link_place, place_in}
+use Rattle.bdb_canon.specs.Canonical.{canon_of, link_place, place_in, target_place}
 
 -- the suffix link of a state leads to the place of its tail's deepest suffix that is a state
 abbrev pub LinksLeadToStates : Type 0
@@ -39,3 +43,13 @@ PlacesAreInRange = (b : Contents) → HasPlaces (canon_of b)
 -- a world depends on the statements at the path's ends alone
 abbrev pub WorldsDependOnEnds : Type 0
 WorldsDependOnEnds = (keys : ℕ → ℕ) (stmts : List Stmt) (w : List ℕ) → world_of keys (filter (λ x. is_suffix x.path w) stmts) w ≡ world_of keys stmts w
+
+-- the structure has a row for a state and a tuple, both by place, with a sign
+abbrev pub has_row_for : Canon → ℕ → ℕ → Sign → Bool
+has_row_for k world tuple s = list_any (λ r. nat_eq r.world world && (nat_eq r.tuple tuple && same_sign r.sign s)) k.rows
+
+-- the finite structure stands for the worlds of all paths: the world of any path has a signed tuple exactly where there
+-- is a row for the tuple at the state to which the path leads
+abbrev pub RowsStandForPaths : Type 0
+RowsStandForPaths = (b : Contents) (w : List ℕ) (t : Tuple) (s : Sign)
+    → has_row_for (canon_of b) (target_place (states_of b.stmts) w) (place_in tuple_cmp (tuples_of b.stmts) t) s ≡ stated (key_lengths b.catalog.rels) b.stmts w t s

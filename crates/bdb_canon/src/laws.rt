@@ -1,5 +1,5 @@
 //! What holds of the structure, each law as the contract of a function that does nothing.
-ghost use Rattle.bdb_canon.specs.CanonLaws.{LinksLeadToStates, EdgesLeadToStates, PlacesAreInRange, WorldsDependOnEnds};
+ghost use Rattle.bdb_canon.specs.CanonLaws.{LinksLeadToStates, EdgesLeadToStates, PlacesAreInRange, RowsStandForPaths, WorldsDependOnEnds};
 
 /// The suffix link of a state leads to the place of its tail's deepest suffix that is a state.
 pub fn links_lead_to_states()
@@ -23,4 +23,11 @@ pub fn places_are_in_range()
 #[tactic(auto, using(crate::proofs::EndLemmas::worlds_depend_on_ends))]
 pub fn worlds_depend_on_ends()
     ensures { WorldsDependOnEnds }
+{}
+
+/// The finite structure stands for the worlds of all paths: the world of any path has a signed tuple exactly where there
+/// is a row for the tuple at the state to which the path leads.
+#[tactic(auto, using(crate::proofs::RowLemmas::rows_stand_for_paths))]
+pub fn rows_stand_for_paths()
+    ensures { RowsStandForPaths }
 {}

@@ -6,6 +6,7 @@ use Rattle.std.specs.List.{list_any, list_all, slice_get}
 use Rattle.std.specs.Ordering.{is_eq}
 use Rattle.std.proofs.lemmas.Bool.{false≢true, cases_Bool, cond-true, cond-false, and_parts}
 use Rattle.std.proofs.lemmas.Bool.Decides.{nat_tests}
+use Rattle.bdb_base.specs.declared.kinds.Catalog.{Catalog}
 use Rattle.bdb_base.specs.declared.kinds.Cond.{Cond}
 use Rattle.bdb_base.specs.declared.kinds.Held.{Held}
 use Rattle.bdb_base.specs.declared.kinds.Item.{Item}
@@ -82,7 +83,7 @@ found_is_held b q sources valid fits row m =
     let xs = first.0 in
     let world = item_world b.stmts xs in
     let long = chosen_length (map (user_pool b.catalog.users) items) (open_slots items) xs first.1 ∙ map_length (λ item. None) items in
-    let second = chosen_from_rows q.conds (rows_of_tuples b q sources (map world items)) (is_row row) (plus_pools items (map world items)) [] xs xs 0 refl refl
+    let second = chosen_from_rows q.conds (rows_of_tuples b.catalog.rels q sources (map world items)) (is_row row) (plus_pools items (map world items)) [] xs xs 0 refl refl
     (long ∙ sym (plus_length world items)) first.2 in
     let ys = second.0 in
     let third = chosen_from_rows q.conds (last_rows q) (is_row row) (minus_pools b.catalog.rels sources ys 0 items (map world items)) [] ys ys 0 refl refl
@@ -118,11 +119,11 @@ held_is_found b q sources valid fits safe are row h =
     let come = held_come b q sources zs (record { relations = valid.catalog.rels_valid; safe = safe; are = are; conds = a.conds }) 0 items zs (items_fit b q fits)
     (λ k. ap (slice_get items) (from_zero k)) (λ k. ap (slot_at zs) (from_zero k)) a.items in
     let last = last_has q zs row a.conds a.gives in
-    let third : list_any (is_row row) (rows_of_tuples b q sources (map world items) ys) ≡ true =
+    let third : list_any (is_row row) (rows_of_tuples b.catalog.rels q sources (map world items) ys) ≡ true =
     rows_from_chosen q.conds (last_rows q) (is_row row) (minus_pools b.catalog.rels sources ys 0 items (map world items)) [] ys zs ys 0 refl refl come.by_minus below.given
     (λ s k. below_may s zs k q.conds a.conds) last in
     let second : list_any (is_row row) (rows_of_users b q sources xs) ≡ true =
-    rows_from_chosen q.conds (rows_of_tuples b q sources (map world items)) (is_row row) (plus_pools items (map world items)) [] xs ys xs 0 refl refl come.by_plus below.users
+    rows_from_chosen q.conds (rows_of_tuples b.catalog.rels q sources (map world items)) (is_row row) (plus_pools items (map world items)) [] xs ys xs 0 refl refl come.by_plus below.users
     (λ s k. below_may s zs (below_then s ys zs k below.given) q.conds a.conds) third in
     rows_from_chosen q.conds (rows_of_users b q sources) (is_row row) (map (user_pool b.catalog.users) items) [] (open_slots items) xs (open_slots items) 0 refl refl come.by_users below.opened
     (λ s k. below_may s zs (below_then s xs zs k (below_then xs ys zs below.users below.given)) q.conds a.conds) second
@@ -193,3 +194,12 @@ all_rows_of b q sources conds more pools slots c m p s =
     ∙ ap (λ x. chosen_rows q.conds (rows_of_users b q x) 0 pools slots) m
     ∙ ap (λ x. chosen_rows q.conds (rows_of_users b q sources) 0 x slots) p
     ∙ ap (λ x. chosen_rows q.conds (rows_of_users b q sources) 0 (map (user_pool b.catalog.users) q.items) x) s
+
+-- what a catalog and statements give, where they are those of a base
+abbrev Gives : Query → ℕ → Option (List (List Value)) → Catalog → List Stmt → Type 0
+Gives q most rows c xs = IsValid c xs → query_fits c q ≡ true → IsSafe c.rels q → rows ≡ up_to most (answers_of (record { catalog = c; stmts = xs }) q)
+
+pub of_parts : (b : Contents) (q : Query) (most : ℕ) (rows : Option (List (List Value))) (c : Catalog) (xs : List Stmt) → c ≡ b.catalog → xs ≡ b.stmts
+    → (IsValid c xs → query_fits c q ≡ true → IsSafe c.rels q → rows ≡ up_to most (answers_of (record { catalog = c; stmts = xs }) q))
+    → IsValid b.catalog b.stmts → query_fits b.catalog q ≡ true → IsSafe b.catalog.rels q → rows ≡ up_to most (answers_of b q)
+of_parts b q most rows c xs e d h = subst (λ ys. Gives q most rows b.catalog ys) d (subst (λ k. Gives q most rows k xs) e h)

@@ -5,6 +5,7 @@ use Rattle.bdb_base.specs.declared.kinds.Cond.{Cond}
 use Rattle.bdb_base.specs.declared.kinds.Held.{Held}
 use Rattle.bdb_base.specs.declared.kinds.Item.{Item}
 use Rattle.bdb_base.specs.declared.kinds.Query.{Query}
+use Rattle.bdb_base.specs.declared.kinds.RelDef.{RelDef}
 use Rattle.bdb_base.specs.declared.kinds.Value.{Value}
 use Rattle.bdb_base.specs.declared.tuple.Tuple.{Tuple}
 use Rattle.bdb_base.specs.Bases.{Contents}
@@ -18,12 +19,12 @@ abbrev pub last_rows : Query → List (Option Tuple) → List (List Value)
 last_rows q slots = cond (must_all_hold slots q.conds) (option_list (known_row slots q.take)) []
 
 -- the rows that come of chosen users and tuples of plus items
-abbrev pub rows_of_tuples : Contents → Query → List Cond → List (List Held) → List (Option Tuple) → List (List Value)
-rows_of_tuples b q sources worlds slots = chosen_rows q.conds (last_rows q) 0 (minus_pools b.catalog.rels sources slots 0 q.items worlds) slots
+abbrev pub rows_of_tuples : List RelDef → Query → List Cond → List (List Held) → List (Option Tuple) → List (List Value)
+rows_of_tuples rels q sources worlds slots = chosen_rows q.conds (last_rows q) 0 (minus_pools rels sources slots 0 q.items worlds) slots
 
 -- the rows that come of chosen users, with the worlds of the items' paths
 abbrev pub rows_of_worlds : Contents → Query → List Cond → List (List Held) → List (Option Tuple) → List (List Value)
-rows_of_worlds b q sources worlds slots = chosen_rows q.conds (rows_of_tuples b q sources worlds) 0 (plus_pools q.items worlds) slots
+rows_of_worlds b q sources worlds slots = chosen_rows q.conds (rows_of_tuples b.catalog.rels q sources worlds) 0 (plus_pools q.items worlds) slots
 
 -- the rows that come of chosen users
 abbrev pub rows_of_users : Contents → Query → List Cond → List (Option Tuple) → List (List Value)

@@ -10,6 +10,8 @@ mod found;
 mod levels;
 mod pools;
 mod queries;
+#[cfg(test)]
+mod query_tests;
 mod rows;
 mod slots;
 mod sources;

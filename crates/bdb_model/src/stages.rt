@@ -8,13 +8,14 @@ use crate::choosing::{Stage, choose};
 use crate::found::Found;
 use crate::pools::{minus_pools, plus_pools, worlds_of};
 use crate::slots::{known_row, must_all_hold};
-use bdb_base::{Base, Cond, Held, List, Query, Tuple};
+use bdb_base::{Catalog, Cond, Held, List, Query, Stmt, Tuple};
 use std::alloc::{AllocError, Global};
 
 /// All users are chosen.
 #[derive(Drop)]
 pub struct UsersChosen<'a> {
-    pub base: &'a Base,
+    pub catalog: &'a Catalog,
+    pub stmts: &'a [Stmt],
     pub query: &'a Query,
     pub sources: &'a [Cond],
 }
@@ -22,7 +23,7 @@ pub struct UsersChosen<'a> {
 /// All users and all tuples of plus items are chosen.
 #[derive(Drop)]
 struct TuplesChosen<'a> {
-    base: &'a Base,
+    catalog: &'a Catalog,
     query: &'a Query,
     sources: &'a [Cond],
     worlds: &'a [List<Held>],
@@ -37,7 +38,7 @@ struct AllChosen<'a> {
 impl Stage for UsersChosen<'_> {
     ghost use Rattle.bdb_model.specs.Answering.{rows_of_users};
 
-    ghost rows = { λ s slots. rows_of_users s.base.now s.query.now s.sources.now slots };
+    ghost rows = { λ s slots. rows_of_users (record { catalog = s.catalog.now; stmts = s.stmts.now }) s.query.now s.sources.now slots };
 
     fn add_rows(
         &self,
@@ -46,10 +47,10 @@ impl Stage for UsersChosen<'_> {
         found: &mut Found,
     ) -> Result<(), AllocError> {
         let items = self.query.items.as_slice();
-        let worlds = worlds_of(alloc, self.base.stmts(), slots, items)?;
+        let worlds = worlds_of(alloc, self.stmts, slots, items)?;
         let pools = plus_pools(alloc, items, worlds.as_slice())?;
         let stage = TuplesChosen {
-            base: self.base,
+            catalog: self.catalog,
             query: self.query,
             sources: self.sources,
             worlds: worlds.as_slice(),
@@ -63,7 +64,7 @@ impl Stage for UsersChosen<'_> {
 impl Stage for TuplesChosen<'_> {
     ghost use Rattle.bdb_model.specs.Answering.{rows_of_tuples};
 
-    ghost rows = { λ s slots. rows_of_tuples s.base.now s.query.now s.sources.now s.worlds.now slots };
+    ghost rows = { λ s slots. rows_of_tuples s.catalog.now.rels s.query.now s.sources.now s.worlds.now slots };
 
     fn add_rows(
         &self,
@@ -71,7 +72,7 @@ impl Stage for TuplesChosen<'_> {
         slots: &[Option<Tuple>],
         found: &mut Found,
     ) -> Result<(), AllocError> {
-        let rels = self.base.catalog().rels.as_slice();
+        let rels = self.catalog.rels.as_slice();
         let items = self.query.items.as_slice();
         let pools = minus_pools(alloc, rels, self.sources, slots, items, self.worlds)?;
         let stage = AllChosen { query: self.query };

@@ -35,7 +35,7 @@ filter_same : {X : Type 0} (p q : X → Bool) → ((x : X) → p x ≡ q x) → 
 filter_same p q h [] = refl
 filter_same p q h (x ∷ xs) = ap (λ b. cond b (x ∷ filter p xs) (filter p xs)) (h x) ∙ ap (λ ys. cond (q x) (x ∷ ys) ys) (filter_same p q h xs)
 
-list_any_under : {X : Type 0} (b : Bool) (f : X → Bool) (xs : List X) → list_any (λ x. b && f x) xs ≡ (b && list_any f xs)
+pub list_any_under : {X : Type 0} (b : Bool) (f : X → Bool) (xs : List X) → list_any (λ x. b && f x) xs ≡ (b && list_any f xs)
 list_any_under true f xs = refl
 list_any_under false f [] = refl
 list_any_under false f (x ∷ xs) = list_any_under false f xs

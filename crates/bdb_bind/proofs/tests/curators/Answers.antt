@@ -16,6 +16,6 @@ valid_with rels users cols k v s a b users_are rels_are cols_are k_is v_is s_is 
     rw (users_are, rels_are, cols_are, k_is, v_is, s_is, a_is, b_is)
     (record { users_differ = refl; users_plain = refl; few_users = refl; rels_differ = refl; rels_valid = refl; few_rels = refl })
 
-pub returns : goal.returns
-returns c = valid_with c.from_vec-rels.result c.from_vec-users.result c.from_vec-cols.result c.in_ok-k.k c.in_ok-v.v c.in_ok-name.name c.in_ok-alice.alice c.in_ok-bob.bob
+pub returns-clause-valid : goal.returns-clause-valid
+returns-clause-valid c = valid_with c.from_vec-rels.result c.from_vec-users.result c.from_vec-cols.result c.in_ok-k.k c.in_ok-v.v c.in_ok-name.name c.in_ok-alice.alice c.in_ok-bob.bob
     (search rules) (search rules) (search rules) (search rules) (search rules) (search rules) (search rules) (search rules)
