@@ -18,14 +18,19 @@ use Rattle.bdb_lex.specs.TokenGrammar.{is_formed}
 use Rattle.bdb_lex.proofs.TokenLemmas.{utf8_from}
 use Rattle.bdb_syntax.specs.declared.command.RawSide.{RawSide}
 use Rattle.bdb_syntax.specs.declared.command.RawSide.TheVariants.{Col, Lit}
+use Rattle.bdb_syntax.specs.declared.command.RawCol.{RawCol}
 use Rattle.bdb_syntax.specs.declared.command.RawCond.{RawCond}
+use Rattle.bdb_syntax.specs.declared.command.RawItem.{RawItem}
+use Rattle.bdb_syntax.specs.declared.command.RawQuery.{RawQuery}
+use Rattle.bdb_syntax.specs.declared.command.RawWho.{RawWho}
+use Rattle.bdb_syntax.specs.declared.command.RawWho.TheVariants as who
 use Rattle.bdb_syntax.specs.declared.command.RawSet.{RawSet}
 use Rattle.bdb_syntax.specs.declared.command.Command.{Command}
 use Rattle.bdb_syntax.specs.declared.command.Command.TheVariants.{CreateUser, CreateRelation, Insert, Delete, Update, Select, Explain, ShowWorld, ShowTables}
 use Rattle.bdb_syntax.specs.Filled.{is_filled}
-use Rattle.bdb_syntax.specs.Printable.{begins_word, is_in_word, is_word, IsName, IsContent, IsPrintableValue, IsBareCol, IsPrintableSide, IsPrintableCond, IsPrintableSet, IsPrintable}
+use Rattle.bdb_syntax.specs.Printable.{begins_word, is_in_word, is_word, IsName, IsContent, IsPrintableValue, IsBareCol, IsFullCol, IsPrintableSide, IsPrintableCond, IsPrintableSet, IsPrintableWho, IsPrintableItem, IsPrintableQuery, IsPrintable}
 use Rattle.bdb_parse.specs.Spelled.{IsWellSpelled, AreWellSpelled}
-use Rattle.bdb_bind.specs.Parts.{some_text, value_texts, side_texts}
+use Rattle.bdb_bind.specs.Parts.{some_text, some_query_text, some_who_text, value_texts, side_texts}
 use Rattle.bdb_bind.specs.Fits.{is_unclean, names_allowed, is_allowed}
 
 -- tokens
@@ -82,13 +87,25 @@ value_is_clean (value.Text t) h = or_from (is_unclean t) false (content_is_clean
 values_are_clean : (vals : List Value) → AllByRecursion IsPrintableValue vals → list_any (λ v. list_any is_unclean (value_texts v)) vals ≡ false
 values_are_clean vals h = none_pass IsPrintableValue (λ v. list_any is_unclean (value_texts v)) value_is_clean vals h
 
-side_is_clean : (s : RawSide) → IsPrintableSide IsBareCol s → list_any is_unclean (side_texts s) ≡ false
-side_is_clean (Col c) h = refl
-side_is_clean (Lit v) h = value_is_clean v h
+side_is_clean : (IsCol : RawCol → Type 0) (s : RawSide) → IsPrintableSide IsCol s → list_any is_unclean (side_texts s) ≡ false
+side_is_clean IsCol (Col c) h = refl
+side_is_clean IsCol (Lit v) h = value_is_clean v h
 
-conds_are_clean : (conds : List RawCond) → AllByRecursion (IsPrintableCond IsBareCol) conds → list_any (λ c. list_any is_unclean (side_texts c.right)) conds ≡ false
-conds_are_clean conds h =
-    none_pass (IsPrintableCond IsBareCol) (λ c. list_any is_unclean (side_texts c.right)) (λ c p. side_is_clean c.right p.1) conds h
+conds_are_clean : (IsCol : RawCol → Type 0) (conds : List RawCond) → AllByRecursion (IsPrintableCond IsCol) conds → list_any (λ c. list_any is_unclean (side_texts c.right)) conds ≡ false
+conds_are_clean IsCol conds h =
+    none_pass (IsPrintableCond IsCol) (λ c. list_any is_unclean (side_texts c.right)) (λ c p. side_is_clean IsCol c.right p.1) conds h
+
+who_is_clean : (w : RawWho) → IsPrintableWho w → some_who_text is_unclean w ≡ false
+who_is_clean (who.Name t) h = content_is_clean t h
+who_is_clean (who.Col c) h = refl
+
+items_are_clean : (items : List RawItem) → AllByRecursion IsPrintableItem items → list_any (λ i. list_any (some_who_text is_unclean) i.path) items ≡ false
+items_are_clean items h = none_pass IsPrintableItem (λ i. list_any (some_who_text is_unclean) i.path)
+    (λ i p. none_pass IsPrintableWho (some_who_text is_unclean) who_is_clean i.path p.0) items h
+
+query_is_clean : (q : RawQuery) → IsPrintableQuery q → some_query_text is_unclean q ≡ false
+query_is_clean q h = or_from (list_any (λ i. list_any (some_who_text is_unclean) i.path) q.items) (list_any (λ c. list_any is_unclean (side_texts c.right)) q.conds)
+    (items_are_clean q.items h.1) (conds_are_clean IsFullCol q.conds h.2)
 
 sets_are_clean : (sets : List RawSet) → AllByRecursion IsPrintableSet sets → list_any (λ s. list_any is_unclean (value_texts s.to)) sets ≡ false
 sets_are_clean sets h = none_pass IsPrintableSet (λ s. list_any is_unclean (value_texts s.to)) (λ s p. value_is_clean s.to p.1) sets h
@@ -130,11 +147,11 @@ printable_is_allowed (CreateRelation name cols) p =
 printable_is_allowed (Insert users sign rel vals) p =
     allowed (Insert users sign rel vals) (or_from _ _ (users_are_clean users p.parts.0) (values_are_clean vals p.parts.2)) refl
 printable_is_allowed (Delete users sign rel conds) p =
-    allowed (Delete users sign rel conds) (or_from _ _ (users_are_clean users p.parts.0) (conds_are_clean conds p.parts.2)) refl
+    allowed (Delete users sign rel conds) (or_from _ _ (users_are_clean users p.parts.0) (conds_are_clean IsBareCol conds p.parts.2)) refl
 printable_is_allowed (Update users sign rel sets conds) p =
     allowed (Update users sign rel sets conds) (or_from _ _ (users_are_clean users p.parts.0)
-    (or_from _ _ (sets_are_clean sets p.parts.2) (conds_are_clean conds p.parts.3))) refl
-printable_is_allowed (Select query) p = refl
-printable_is_allowed (Explain query) p = refl
+    (or_from _ _ (sets_are_clean sets p.parts.2) (conds_are_clean IsBareCol conds p.parts.3))) refl
+printable_is_allowed (Select query) p = allowed (Select query) (query_is_clean query p.parts) refl
+printable_is_allowed (Explain query) p = allowed (Explain query) (query_is_clean query p.parts) refl
 printable_is_allowed (ShowWorld users) p = allowed (ShowWorld users) (users_are_clean users p.parts) refl
 printable_is_allowed ShowTables p = refl

@@ -46,13 +46,13 @@ length_more b s valid h = let e = put_counts_statement b.catalog b.stmts s valid
 -- an insert that isn't refused clashes with nothing
 pub insert_apart : (b : Contents) (s : Stmt) → refusal_of_bound b (Insert s) ≡ None → contradicted (key_lengths b.catalog.rels) b.stmts s.path s.tuple s.sign ≡ false
 insert_apart b s fine =
-    none_found (λ x. same_path x.path s.path && clash (key_lengths b.catalog.rels) s.tuple s.sign x.tuple x.sign) b.stmts (fine_parts b (Insert s) fine).0
+    none_found (λ x. same_path x.path s.path && clash (key_lengths b.catalog.rels) s.tuple s.sign x.tuple x.sign) b.stmts (fine_parts b (Insert s) refl fine).0
 
 -- a base stays valid with a statement that belongs to it and isn't refused
 pub insert_is_valid : (b : Contents) (s : Stmt) → IsValid b.catalog b.stmts → belongs b.catalog s ≡ true → refusal_of_bound b (Insert s) ≡ None
     → IsValid b.catalog (with_statement b.stmts s)
 insert_is_valid b s valid belong fine =
-    let few = within_limits (asked_base b (Insert s)) (fine_parts b (Insert s) fine).1 in
+    let few = within_limits (asked_base b (Insert s)) (fine_parts b (Insert s) refl fine).1 in
     put_is_valid b.catalog b.stmts s valid belong (insert_apart b s fine) (λ k. let l = length_more b s valid k in let f = few.stmts in omega arith) few.tuples few.worlds
 
 -- a statement that is put in where it did not stand, and taken out again, leaves the list as it was

@@ -35,4 +35,4 @@ returns-in-Some g c =
     let size = ap (λ (xs : List Stmt). length xs) (c.stmts.ensures.value ∙ ap (λ (x : Contents). x.stmts) c.self.view_is) in
     let passed = limit_is (asked_base b bound) c.limit_passed.result _ _ _ _ c.limit_passed.ensures users rels counts size in
     refused_is_served b (refusal_of_bound b bound) (Full c.in-Some.what) ok_reply (asked_base b bound) _ c.refuse.result
-    (full_refused b bound c.in-Some.what refl (sym passed ∙ c.in-Some.is)) c.requires.still c.requires.agrees c.refuse.ensures.text c.refuse.ensures.refused c.refuse.ensures.memory
+    (full_refused b bound c.in-Some.what refl refl (sym passed ∙ c.in-Some.is)) c.requires.still c.requires.agrees c.refuse.ensures.text c.refuse.ensures.refused c.refuse.ensures.memory

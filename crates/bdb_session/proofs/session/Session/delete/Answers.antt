@@ -59,7 +59,7 @@ returns-in-Ok g c =
     let stmts = c.stmts.ensures.value ∙ ap (λ (x : Contents). x.stmts) c.self.view_is in
     let taken = c.in-Ok.ensures.taken ∙ ap (taken_by w s rel conds) stmts in
     let left = c.in-Ok.ensures.next ∙ ap (without_taken w s rel conds) stmts in
-    let fine = valid_is_fine b bound refl (delete_is_valid b.catalog b.stmts w s rel conds valid) in
+    let fine = valid_is_fine b bound refl refl (delete_is_valid b.catalog b.stmts w s rel conds valid) in
     served_by b (refusal_of_bound b bound) None (accepted_reply b bound) (asked_base b bound) _ _ _ c.replace.result fine
     (served_as b None (accepted_reply b bound) (count_reply (length change.taken)) (asked_base b bound) (record b { stmts = change.next }) _ _ _ c.replace.result
     (ap (λ (xs : List Stmt). count_reply (length xs)) (sym taken)) (ap (λ (xs : List Stmt). record b { stmts = xs }) (sym left)) c.replace.ensures)

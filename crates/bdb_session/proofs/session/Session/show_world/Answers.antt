@@ -23,5 +23,5 @@ returns-in-Ok g c =
     ∙ ap (λ (xs : List Stmt). world_reply b.catalog (world_at (record b { stmts = xs }) c.as_slice.result.now)) stmts
     ∙ ap (λ (w : List ℕ). world_reply b.catalog (world_at b w)) c.as_slice.ensures.users in
     served_as b (refusal_of_bound b bound) (accepted_reply b bound) c.in-Ok.text b b b _ _ c.commit_nothing.result (sym text) refl
-    (nothing_is_served b (refusal_of_bound b bound) c.in-Ok.text _ _ c.commit_nothing.result (valid_is_fine b bound refl valid) c.requires.agrees
+    (nothing_is_served b (refusal_of_bound b bound) c.in-Ok.text _ _ c.commit_nothing.result (valid_is_fine b bound refl refl valid) c.requires.agrees
     c.commit_nothing.ensures.text c.commit_nothing.ensures.accepted c.commit_nothing.ensures.commits)
