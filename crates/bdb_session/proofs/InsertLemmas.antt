@@ -1,5 +1,5 @@
 -- What a base has with one more statement.
-use Rattle.std.proofs.Common.{◌≡◌, ◌∙◌, ℕ, ◌+◌, ◌≤◌, nat_le, map, refl, [], ◌∷◌, true, false, not, cond, ◌&&◌, ◌||◌, List, length, None, ap, sym, inl, inr, arith}
+use Rattle.std.proofs.Common.{◌≡◌, ◌∙◌, ℕ, ◌+◌, ◌≤◌, nat_le, refl, [], ◌∷◌, true, false, not, cond, ◌&&◌, List, length, None, ap, sym, arith}
 use Rattle.std.specs.Ordering.{is_eq}
 use Rattle.std.proofs.lemmas.Bool.{false≢true, and_parts, leb-true}
 use Rattle.std.proofs.lemmas.List.{length-map}

@@ -1,5 +1,5 @@
 -- What opening finds in tables that stand for a base.
-use Rattle.std.proofs.Common.{◌≡◌, ◌∙◌, ℕ, suc, List, ◌∷◌, Option, Some, None, refl, ap, sym, subst, Bool, false, inl, inr, Result, Ok, Err, IfOk, OnOk, ◌<◌, ◌^◌, ◌+◌, arith}
+use Rattle.std.proofs.Common.{◌≡◌, ◌∙◌, ℕ, suc, List, ◌∷◌, Some, None, refl, ap, sym, subst, Bool, false, inl, inr, Result, Ok, Err, IfOk, OnOk, arith}
 use Rattle.std.specs.Prelude.{nat_eq, if◌then◌else◌}
 use Rattle.std.specs.FinMap as tables
 use Rattle.std.specs.FinMap.{get-empty, len-empty, empty_of_len}

@@ -1,19 +1,14 @@
 -- What a new user, relation or statement does to the rows that hold a base; and what opening finds.
-use Rattle.std.proofs.Common.{◌≡◌, ◌∙◌, ℕ, ◌+◌, ◌<◌, ◌^◌, true, false, ◌&&◌, cond, List, [], ◌∷◌, ◌++◌, length, Option, Some, None, refl, ap, sym, subst, inl, inr, arith}
+use Rattle.std.proofs.Common.{◌≡◌, ◌∙◌, ℕ, ◌+◌, true, List, [], ◌∷◌, ◌++◌, length, sym, arith}
 use Rattle.std.specs.List.{list_all}
 use Rattle.std.specs.FinMap as tables
-use Rattle.std.specs.FinMap.{get-empty, len-empty, empty_of_len}
 use Rattle.std.proofs.lemmas.Bool.{and_parts, leb-true}
-use Rattle.std.proofs.lemmas.Cmp.{nat_list_cmp_total}
 use Rattle.std.proofs.lemmas.List.{length_push}
 use Rattle.std.proofs.lemmas.List.Folds.{list_all-append}
 use Rattle.bdb_base.specs.declared.kinds.RelDef.{RelDef}
-use Rattle.bdb_base.specs.declared.kinds.Stmt.{Stmt}
-use Rattle.bdb_base.specs.Bases.{Contents, IsValid, is_plain, is_valid_relation, stands, with_user, with_relation, with_statement, without_statement}
-use Rattle.bdb_base.specs.Order.{statement_cmp}
-use Rattle.bdb_base.specs.OrderLemmas.{statement_exact}
+use Rattle.bdb_base.specs.Bases.{Contents, IsValid, is_plain, is_valid_relation, with_user, with_relation}
 use Rattle.bdb_keep.specs.Tables.{Tables}
-use Rattle.bdb_key.specs.Grammar.{IsNum, IsPlain}
+use Rattle.bdb_key.specs.Grammar.{IsPlain}
 use Rattle.bdb_key.specs.Rows.{IsRelRow}
 use Rattle.bdb_tables.specs.Codec.{place}
 use Rattle.bdb_tables.specs.InUse.{user_codec, rel_codec}

@@ -1,5 +1,5 @@
 -- How a session answers what is refused, and what is accepted.
-use Rattle.std.proofs.Common.{◌≡◌, ◌∙◌, ℕ, ◌+◌, ◌<◌, ◌^◌, true, false, List, Option, Some, None, Result, Ok, Err, IfOk, OnOk, OnErr, IsErrOf, refl, sym, ap, subst, arith}
+use Rattle.std.proofs.Common.{◌≡◌, ℕ, true, false, List, Option, Some, None, Result, Ok, Err, IfOk, IsErrOf, refl, sym, ap, subst, arith}
 use Rattle.bdb_base.specs.Bases.{Contents}
 use Rattle.bdb_keep.specs.Seen.{Seen, IsStill}
 use Rattle.bdb_keep.specs.Tables.{Tables}

@@ -1,9 +1,9 @@
 -- What a valid base has may be written.
-use Rattle.std.proofs.Common.{◌≡◌, ℕ, ◌<◌, ◌≤◌, ◌^◌, true, false, not, ◌&&◌, Option, Some, None, List, [], ◌∷◌, length, map, nat_le, nat_lt, refl, arith}
+use Rattle.std.proofs.Common.{◌≡◌, ℕ, ◌<◌, ◌≤◌, true, not, ◌&&◌, Option, Some, None, List, [], ◌∷◌, length, map, nat_le, nat_lt, refl, arith}
 use Rattle.std.specs.List.{AllByRecursion, list_all, slice_get}
 use Rattle.std.proofs.lemmas.Bool.{and_parts, false≢true, leb-true}
 use Rattle.bdb_base.specs.Alternation.{alternates}
-use Rattle.bdb_base.specs.Bases.{Contents, IsCatalog, belongs, is_user, is_plain, is_valid_relation, are_distinct, fits_kind, fits_columns, fits_definition, fits_relation, users_name}
+use Rattle.bdb_base.specs.Bases.{IsCatalog, belongs, is_user, is_plain, is_valid_relation, are_distinct, fits_kind, fits_columns, fits_definition, fits_relation, users_name}
 use Rattle.bdb_base.specs.Same.{same_text}
 use Rattle.bdb_base.specs.declared.kinds.Catalog.{Catalog}
 use Rattle.bdb_base.specs.declared.kinds.ColDef.{ColDef}
@@ -14,7 +14,7 @@ use Rattle.bdb_base.specs.declared.kinds.Stmt.{Stmt}
 use Rattle.bdb_base.specs.declared.kinds.Value.{Value}
 use Rattle.bdb_base.specs.declared.kinds.Value.TheVariants.{Int, Text}
 use Rattle.bdb_base.proofs.ListLemmas.{list_all_get}
-use Rattle.bdb_key.specs.Grammar.{IsNum, IsPlain, HasPlainText}
+use Rattle.bdb_key.specs.Grammar.{HasPlainText}
 use Rattle.bdb_key.specs.Rows.{IsRelRow, IsCol}
 use Rattle.bdb_tables.specs.Statements.{MayBeStatement}
 

@@ -1,4 +1,4 @@
-use Rattle.std.proofs.Common.{◌≡◌, ◌∙◌, ◌+◌, None, List, length, ap, sym, refl}
+use Rattle.std.proofs.Common.{◌∙◌, ◌+◌, List, length, ap, sym, refl}
 use Rattle.std.proofs.lemmas.List.{length_push}
 use Rattle.bdb_base.specs.declared.kinds.Catalog.{Catalog}
 use Rattle.bdb_base.specs.declared.kinds.Stmt.{Stmt}
