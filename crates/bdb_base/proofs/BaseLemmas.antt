@@ -2,10 +2,10 @@
 use Rattle.std.proofs.Common.{◌≡◌, ◌∙◌, ℕ, ◌+◌, ◌≤◌, Bool, true, false, not, ◌&&◌, ◌||◌, cond, List, [], ◌∷◌, ◌++◌, refl, ap, sym, inl, inr, suc, arith, filter, length, map, nat_eq, nat_lt, nat_le, length-append}
 use Prim.Native.Nat.{zero}
 use Rattle.std.specs.Bool.{Decides}
-use Rattle.std.specs.List.{list_any, list_all, slice_get}
+use Rattle.std.specs.List.{list_any, list_all, slice_get, flat_map}
 use Rattle.std.specs.declared.cmp.Ordering.{Ordering}
 use Rattle.std.specs.Ordering.{is_eq}
-use Rattle.std.proofs.lemmas.Bool.{cases_Bool, and_parts, and_from, and_right, or_parts, or_from, false≢true, not-true, not_from_true, not_from_false, leb-true, le-leb}
+use Rattle.std.proofs.lemmas.Bool.{cases_Bool, and_parts, and_from, and_right, or_parts, or_from, or_cases, or_left, or_right, false≢true, not-true, not_from_true, not_from_false, leb-true, le-leb}
 use Rattle.std.proofs.lemmas.Bool.Decides.{Decides-eqb, same_from_decides, Decides-like}
 use Rattle.std.proofs.lemmas.List.{map-append}
 use Rattle.std.proofs.lemmas.List.Folds.{list_any-append, list_all-append}
@@ -24,10 +24,12 @@ use Rattle.bdb_base.specs.SameLemmas.{same_text-Decides, same_path-Decides, same
 use Rattle.bdb_base.specs.SortedSet.{IsExactOrder, is_member, ascending, put_at, put_in}
 use Rattle.bdb_base.specs.Clash.{key_of, same_key, clash}
 use Rattle.bdb_base.specs.Worlds.{contradicted}
-use Rattle.bdb_base.specs.Bases.{AreStatements, are_distinct, belongs, fits_definition, fits_relation, is_user, is_plain, is_valid_relation, key_lengths, stands, tuple_count, with_user, with_relation, with_statement}
+use Rattle.bdb_base.specs.Bases.{AreStatements, are_distinct, belongs, fits_definition, fits_relation, is_user, is_plain, is_valid_relation, key_lengths, stands, tuple_count, world_count, with_user, with_relation, with_statement}
+use Rattle.bdb_base.specs.States.{prefixes, stated_prefixes}
 use Rattle.bdb_base.specs.BaseLaws.{PutIsValid, TakeIsValid, AddUserIsValid, AddRelationIsValid, PutCountsTuple, PutCountsStatement}
 use Rattle.bdb_base.proofs.ListLemmas.{list_all_weaker, list_all_both, list_all_from_none, list_all-filter, list_any-filter_none, length-filter_le}
 use Rattle.bdb_base.proofs.SetLemmas.{cases_Ordering, are_above, less_from_greater, above_weaker, absent_above, list_any-put_in, list_all-put_in, put_keeps_order, take_keeps_order}
+use Rattle.bdb_base.proofs.WorldRowsLemmas.{list_any-flat_map}
 use Rattle.bdb_base.proofs.CountLemmas.{list_any-map, list_any-filter_some, one_unless, distinct_count-le, distinct_count-same}
 
 -- ---- tests of equality are symmetric, and so is a clash
@@ -58,6 +60,18 @@ opposes_turned keys x y = ap (λ b. b && clash keys x.tuple x.sign y.tuple y.sig
 
 -- ---- fewer statements
 
+-- the prefixes of fewer statements are among those of all
+fewer_prefixes : (stmts : List Stmt) (q : Stmt → Bool) (w : List ℕ) → list_any (same_path w) (stated_prefixes (filter q stmts)) ≡ true
+    → list_any (same_path w) (stated_prefixes stmts) ≡ true
+fewer_prefixes stmts q w h =
+    let of : Stmt → List (List ℕ) = λ x. prefixes x.path in
+    let all = list_any (same_path w) (flat_map of stmts) in
+    elim (or_cases (same_path w []) (list_any (same_path w) (flat_map of (filter q stmts))) h) [
+      | inl a ↦ or_left (same_path w []) all a
+      | inr b ↦ or_right (same_path w []) all (list_any-flat_map (same_path w) of stmts
+          ∙ list_any-filter_some (λ x. list_any (same_path w) (of x)) q stmts (sym (list_any-flat_map (same_path w) of (filter q stmts)) ∙ b))
+    ]
+
 -- what a test leaves of a valid base's statements is valid
 pub filter_is_valid : (c : Catalog) (stmts : List Stmt) (q : Stmt → Bool) → AreStatements c stmts → ascending statement_cmp (filter q stmts) ≡ true → AreStatements c (filter q stmts)
 filter_is_valid c stmts q v sorted =
@@ -67,6 +81,8 @@ filter_is_valid c stmts q v sorted =
     let tuples = leb-true (tuple_count stmts) 4000 v.few_tuples in
     let no_more_tuples = distinct_count-le same_tuple same_tuple-Decides (map (λ x. x.tuple) (filter q stmts)) (map (λ x. x.tuple) stmts)
     (λ t k. list_any-map (same_tuple t) (λ x. x.tuple) stmts ∙ list_any-filter_some (λ x. same_tuple t x.tuple) q stmts (sym (list_any-map (same_tuple t) (λ x. x.tuple) (filter q stmts)) ∙ k)) in
+    let worlds = leb-true (world_count stmts) 2000 v.few_worlds in
+    let no_more_worlds = distinct_count-le same_path same_path-Decides (stated_prefixes (filter q stmts)) (stated_prefixes stmts) (fewer_prefixes stmts q) in
     record {
       sorted = sorted;
       belong = list_all-filter (belongs c) q stmts v.belong;
@@ -76,6 +92,7 @@ filter_is_valid c stmts q v sorted =
           (list_any-filter_none (opposes keys x) q stmts (not-true (contradicted keys stmts x.path x.tuple x.sign) h))) stmts v.no_clash);
       few_stmts = le-leb (length (filter q stmts)) 20000 (omega arith);
       few_tuples = le-leb (tuple_count (filter q stmts)) 4000 (omega arith);
+      few_worlds = le-leb (world_count (filter q stmts)) 2000 (omega arith);
     }
 
 pub take_is_valid : TakeIsValid
@@ -118,7 +135,7 @@ put_counts_tuple stmts s =
     ∙ ap (λ b. cond b 0 1 + tuple_count stmts) (list_any-map (same_tuple s.tuple) (λ x. x.tuple) stmts)
 
 pub put_is_valid : PutIsValid
-put_is_valid c stmts s v belong apart room tuples =
+put_is_valid c stmts s v belong apart room tuples worlds =
     let keys = key_lengths c.rels in
     let next = with_statement stmts s in
     let count = put_counts_statement c stmts s v in
@@ -139,6 +156,7 @@ put_is_valid c stmts s v belong apart room tuples =
             (none_of keys stmts s s (and_right (same_path s.path s.path) (clash keys s.tuple s.sign s.tuple s.sign) (clash_itself keys s.tuple s.sign)) apart);
         few_stmts = le-leb (length next) 20000 fits;
         few_tuples = le-leb (tuple_count next) 4000 tuples;
+        few_worlds = le-leb (world_count next) 2000 worlds;
       };
     }
   where
@@ -226,6 +244,7 @@ add_user_is_valid c stmts name v plain apart room =
         no_clash = v.stmts.no_clash;
         few_stmts = v.stmts.few_stmts;
         few_tuples = v.stmts.few_tuples;
+        few_worlds = v.stmts.few_worlds;
       };
     }
 
@@ -247,5 +266,6 @@ add_relation_is_valid c stmts def v valid apart room =
         no_clash = v.stmts.no_clash;
         few_stmts = v.stmts.few_stmts;
         few_tuples = v.stmts.few_tuples;
+        few_worlds = v.stmts.few_worlds;
       };
     }

@@ -9,7 +9,7 @@ use Rattle.bdb_base.specs.declared.kinds.SetCol.{SetCol}
 use Rattle.bdb_base.specs.declared.kinds.Sign.{Sign}
 use Rattle.bdb_base.specs.declared.kinds.Stmt.{Stmt}
 use Rattle.bdb_base.specs.Alternation.{alternates}
-use Rattle.bdb_base.specs.Bases.{belongs, fits_relation, is_user, key_lengths, tuple_count, with_statement}
+use Rattle.bdb_base.specs.Bases.{belongs, fits_relation, is_user, key_lengths, tuple_count, world_count, with_statement}
 use Rattle.bdb_base.specs.Changes.{is_taken, taken_by, without_taken, changed_statement, with_statements, updated}
 use Rattle.bdb_base.specs.Clash.{clash}
 use Rattle.bdb_base.specs.Conditions.{meets, changed}
@@ -136,7 +136,7 @@ stays_free keys stmts q more w at x h =
     ]
 
 pub update_is_valid : UpdateIsValid
-update_is_valid c stmts w s rel conds sets v fit none tuples room =
+update_is_valid c stmts w s rel conds sets v fit none tuples worlds room =
     let keys = key_lengths c.rels in
     let q : Stmt → Bool = is_taken w s rel conds in
     let f : Stmt → Stmt = changed_statement sets in
@@ -158,5 +158,6 @@ update_is_valid c stmts w s rel conds sets v fit none tuples room =
             (list_all_weaker (λ y. same_path y.path w) (is_free_elsewhere keys next w) (λ y k. or_left (same_path y.path w) (is_free keys next y) k) more at));
         few_stmts = le-leb (length next) 20000 room;
         few_tuples = le-leb (tuple_count next) 4000 tuples;
+        few_worlds = le-leb (world_count next) 2000 worlds;
       };
     }

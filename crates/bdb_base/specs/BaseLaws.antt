@@ -6,13 +6,14 @@ use Rattle.bdb_base.specs.declared.kinds.RelDef.{RelDef}
 use Rattle.bdb_base.specs.declared.kinds.Stmt.{Stmt}
 use Rattle.bdb_base.specs.Same.{same_text}
 use Rattle.bdb_base.specs.Worlds.{contradicted}
-use Rattle.bdb_base.specs.Bases.{IsValid, belongs, is_plain, is_valid_relation, key_lengths, stands, has_tuple, tuple_count, with_user, with_relation, with_statement, without_statement}
+use Rattle.bdb_base.specs.Bases.{IsValid, belongs, is_plain, is_valid_relation, key_lengths, stands, has_tuple, tuple_count, world_count, with_user, with_relation, with_statement, without_statement}
 
 -- A valid base stays valid with one more statement: one that belongs to its catalog and clashes with none of its path,
 -- where the limits leave room.
 abbrev pub PutIsValid : Type 0
 PutIsValid = (c : Catalog) (stmts : List Stmt) (s : Stmt) → IsValid c stmts → belongs c s ≡ true → contradicted (key_lengths c.rels) stmts s.path s.tuple s.sign ≡ false
     → (stands stmts s ≡ false → length stmts < 20000) → tuple_count (with_statement stmts s) ≤ 4000
+    → world_count (with_statement stmts s) ≤ 2000
     → IsValid c (with_statement stmts s)
 
 -- a valid base stays valid without a statement

@@ -11,10 +11,11 @@ use Rattle.bdb_base.specs.declared.kinds.RelDef.{RelDef}
 use Rattle.bdb_base.specs.declared.kinds.Catalog.{Catalog}
 use Rattle.bdb_base.specs.declared.kinds.Stmt.{Stmt}
 use Rattle.bdb_base.specs.declared.tuple.Tuple.{Tuple}
-use Rattle.bdb_base.specs.Same.{same_text, same_tuple}
+use Rattle.bdb_base.specs.Same.{same_text, same_path, same_tuple}
 use Rattle.bdb_base.specs.Alternation.{alternates}
 use Rattle.bdb_base.specs.Order.{statement_cmp}
 use Rattle.bdb_base.specs.SortedSet.{is_member, ascending, put_in, taken_out}
+use Rattle.bdb_base.specs.States.{stated_prefixes}
 use Rattle.bdb_base.specs.Worlds.{contradicted}
 
 -- the catalog, and the standing statements in order
@@ -99,13 +100,19 @@ has_tuple stmts t = list_any (λ x. same_tuple t x.tuple) stmts
 abbrev pub tuple_count : List Stmt → ℕ
 tuple_count stmts = distinct_count same_tuple (map (λ x. x.tuple) stmts)
 
--- the statements are in order, belong to the catalog, do not clash at one path, and are not too many
+-- how many worlds the statements bring into being: their states
+abbrev pub world_count : List Stmt → ℕ
+world_count stmts = distinct_count same_path (stated_prefixes stmts)
+
+-- the statements are in order, belong to the catalog and do not clash at one path; they, their tuples and their worlds
+-- are not too many
 pub record AreStatements (c : Catalog) (stmts : List Stmt) : Type 0 where
   pub sorted : ascending statement_cmp stmts ≡ true
   pub belong : list_all (belongs c) stmts ≡ true
   pub no_clash : list_all (λ x. not (contradicted (key_lengths c.rels) stmts x.path x.tuple x.sign)) stmts ≡ true
   pub few_stmts : nat_le (length stmts) 20000 ≡ true
   pub few_tuples : nat_le (tuple_count stmts) 4000 ≡ true
+  pub few_worlds : nat_le (world_count stmts) 2000 ≡ true
 
 -- a catalog and statements are those of a valid base
 pub record IsValid (c : Catalog) (xs : List Stmt) : Type 0 where

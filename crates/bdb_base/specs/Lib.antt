@@ -8,6 +8,8 @@ pub mod Conditions
 pub mod Laws
 pub mod Order
 pub mod OrderLemmas
+pub mod Queries
+pub mod Safety
 pub mod Same
 pub mod SameLemmas
 pub mod Samples

@@ -43,6 +43,14 @@ impl Base {
         }
     }
 
+    /// The base with this catalog and these statements.
+    pub fn from_parts(catalog: Catalog, stmts: List<Stmt>) -> Self
+        requires { IsValid catalog stmts }
+        ensures { result ≡ record { catalog = catalog; stmts = stmts } }
+    {
+        Base { catalog, stmts }
+    }
+
     /// The relations and users.
     pub fn catalog(&self) -> &Catalog
         ensures value { result.now ≡ self.now.catalog }
@@ -100,6 +108,14 @@ impl Base {
         ensures { result ≡ stands self.now.stmts s.now }
     {
         contains(self.stmts.as_slice(), s)
+    }
+
+    /// Lets these relations and users stand in place of those that stood.
+    pub fn set_catalog(&mut self, catalog: Catalog)
+        requires { IsValid catalog self.old.stmts }
+        ensures { self.new ≡ record self.old { catalog = catalog } }
+    {
+        self.catalog = catalog;
     }
 
     /// Lets these statements stand in place of those that stood.

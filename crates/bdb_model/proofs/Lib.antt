@@ -1,2 +1,3 @@
 pub mod BaseLemmas
+pub mod ClashLemmas
 pub mod LevelLemmas

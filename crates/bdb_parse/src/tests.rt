@@ -1,7 +1,7 @@
 use super::*;
 use bdb_base::{List, Sign, Txt, Value};
-use bdb_lex::Token;
-use bdb_syntax::Command;
+use bdb_lex::{Token, tokens};
+use bdb_syntax::{Command, print};
 use std::alloc::{AllocError, Global};
 use std::test::Fail;
 
@@ -135,6 +135,82 @@ fn aliases(rt: HostRuntime) -> Result<(), Fail> {
     assert_eq!(rt; query.items.len(), 3);
     for (item, want) in query.items.as_slice().iter().zip(&["R", "T", "Key"]) {
         assert_eq!(rt; item.alias.as_str(), *want);
+    }
+    Ok(())
+}
+
+/// The printed form of the command that a piece spells.
+fn reprinted(alloc: Global, piece: &[u8]) -> Result<List<u8>, Fail> {
+    let tokens = match tokens(alloc, piece) {
+        Ok(tokens) => tokens,
+        Err(_) => return Err(Fail::from("this is a list of tokens")),
+    };
+    match parse(alloc, tokens.as_slice()) {
+        Ok(command) => Ok(print(alloc, &command)?),
+        Err(_) => Err(Fail::from("this is a command")),
+    }
+}
+
+/// Commands, and their printed forms.
+const PRINTED: [(&str, &str); 13] = [
+    ("create user 'Alice'", "create user 'Alice'"),
+    (
+        "CREATE relation Sightings(sid text, observer text,species TEXT , place text)",
+        "create relation Sightings(sid text, observer text, species text, place text)",
+    ),
+    (
+        "create relation Comments(cid text, note text, sid text)",
+        "create relation Comments(cid text, note text, sid text)",
+    ),
+    (
+        "insert into BELIEF 'Alice' Sightings values('s2','Alice','crow','Lake Placid')",
+        "insert into BELIEF 'Alice' Sightings values('s2', 'Alice', 'crow', 'Lake Placid')",
+    ),
+    (
+        "insert into BELIEF 'Alice' Comments values('c1','found feathers','s2')",
+        "insert into BELIEF 'Alice' Comments values('c1', 'found feathers', 's2')",
+    ),
+    (
+        "insert into BELIEF 'Bob' Sightings values('s2','Alice','raven','Lake Placid')",
+        "insert into BELIEF 'Bob' Sightings values('s2', 'Alice', 'raven', 'Lake Placid')",
+    ),
+    (
+        "insert into Sightings values('s1','Carol','bald eagle','Lake Forest')",
+        "insert into Sightings values('s1', 'Carol', 'bald eagle', 'Lake Forest')",
+    ),
+    (
+        "insert into BELIEF 'Bob' not Sightings values('s1','Carol','bald eagle','Lake Forest')",
+        "insert into BELIEF 'Bob' not Sightings values('s1', 'Carol', 'bald eagle', 'Lake Forest')",
+    ),
+    (
+        "insert into belief 'Bob' belief 'Alice' Comments values ('c2','black feathers','s2')",
+        "insert into BELIEF 'Bob' BELIEF 'Alice' Comments values('c2', 'black feathers', 's2')",
+    ),
+    (
+        "select U.name, X.sid, X.species\nfrom Users as U, BELIEF 'Alice' Sightings as X, BELIEF U.uid not Sightings as Y\nwhere Y.sid = X.sid and Y.observer = X.observer and Y.species = X.species and Y.place = X.place",
+        "select U.name, X.sid, X.species from Users U, BELIEF 'Alice' Sightings X, BELIEF U.uid not Sightings Y where Y.sid = X.sid and Y.observer = X.observer and Y.species = X.species and Y.place = X.place",
+    ),
+    (
+        "select C.cid, C.note from BELIEF 'Bob' BELIEF 'Alice' Comments C where C.sid = 's2'",
+        "select C.cid, C.note from BELIEF 'Bob' BELIEF 'Alice' Comments C where C.sid = 's2'",
+    ),
+    (
+        "update not S set k='it''s',v = -007 where v!=3 and k<v",
+        "update not S set k = 'it''s', v = -7 where v <> 3 and k < v",
+    ),
+    (
+        "explain select S.k from S -- all of it",
+        "explain select S.k from S S",
+    ),
+];
+
+#[test]
+fn printed_forms(rt: HostRuntime) -> Result<(), Fail> {
+    for (piece, want) in &PRINTED {
+        let once = reprinted(rt.alloc(), piece.as_bytes())?;
+        assert_eq!(rt; once.as_slice(), want.as_bytes(), "{piece}");
+        let twice = reprinted(rt.alloc(), once.as_slice())?;
+        assert_eq!(rt; twice.as_slice(), want.as_bytes(), "{piece}");
     }
     Ok(())
 }

@@ -1,32 +1,13 @@
 -- What is refused, and what is accepted.
-use Rattle.std.proofs.Common.{◌≡◌, ◌∙◌, ℕ, true, false, List, Option, Some, None, is_none, refl, ap, sym}
+use Rattle.std.proofs.Common.{◌≡◌, ◌∙◌, Option, Some, None, refl, ap}
 use Rattle.std.specs.Option.{option_map}
 use Rattle.bdb_base.specs.Bases.{Contents, IsValid}
+use Rattle.bdb_base.specs.declared.kinds.What.{What}
 use Rattle.bdb_bind.specs.declared.bound.Bound.{Bound}
 use Rattle.bdb_render.specs.declared.refusal.Refusal.{Refusal}
 use Rattle.bdb_render.specs.declared.refusal.Refusal.TheVariants as refusal
-use Rattle.bdb_render.specs.Refusals.{refusal_reply}
-use Rattle.bdb_session.specs.declared.reply.Reply.{Reply}
-use Rattle.bdb_session.specs.Machine.{IsAnswered, reply_by, base_by, or_next, clash_with, clashing_statement, passed_limit, asked_base, refusal_of_bound}
+use Rattle.bdb_session.specs.Machine.{or_next, clash_with, clashing_statement, passed_limit, asked_base, refusal_of_bound}
 use Rattle.bdb_session.proofs.LimitLemmas.{no_limit}
-
--- what nothing refuses is answered by its own reply, and reaches what it asks for
-pub accepted_as : (b : Contents) (refused : Option Refusal) (reply : List ℕ) (asked : Contents) (r : Reply) (after : Contents)
-    → refused ≡ None → r.text ≡ reply → r.accepted ≡ true → after ≡ asked → IsAnswered b refused reply asked r after
-accepted_as b refused reply asked r after e text accepted next = record {
-  text = text ∙ sym (ap (λ o. reply_by b o reply) e);
-  accepted = accepted ∙ sym (ap is_none e);
-  next = next ∙ sym (ap (λ o. base_by b o asked) e);
-}
-
--- what is refused is answered by the refusal, and changes nothing
-pub refused_as : (b : Contents) (refused : Option Refusal) (reply : List ℕ) (asked : Contents) (r : Reply) (after : Contents) (x : Refusal)
-    → refused ≡ Some x → r.text ≡ refusal_reply b.catalog x → r.accepted ≡ false → after ≡ b → IsAnswered b refused reply asked r after
-refused_as b refused reply asked r after x e text accepted next = record {
-  text = text ∙ sym (ap (λ o. reply_by b o reply) e);
-  accepted = accepted ∙ sym (ap is_none e);
-  next = next ∙ sym (ap (λ o. base_by b o asked) e);
-}
 
 -- nothing of two refusals applies: neither does
 pub neither_of : (a next : Option Refusal) → or_next a next ≡ None → (a ≡ None) × (next ≡ None)
@@ -48,3 +29,12 @@ pub valid_is_fine : (b : Contents) (c : Bound) → clashing_statement b c ≡ No
 valid_is_fine b c e valid =
     ap (λ o. or_next (option_map clash_with o) (option_map refusal.Full (passed_limit (asked_base b c)))) e
     ∙ ap (λ w. option_map refusal.Full w) (no_limit (asked_base b c) valid)
+
+-- a command with no clash that asks for a base past a limit is refused
+pub full_refused : (b : Contents) (c : Bound) (what : What) → clashing_statement b c ≡ None → passed_limit (asked_base b c) ≡ Some what → refusal_of_bound b c ≡ Some (refusal.Full what)
+full_refused b c what e f =
+    ap (λ o. or_next (option_map clash_with o) (option_map refusal.Full (passed_limit (asked_base b c)))) e ∙ ap (option_map refusal.Full) f
+
+pub fine_refusal : (b : Contents) (c : Bound) → clashing_statement b c ≡ None → passed_limit (asked_base b c) ≡ None → refusal_of_bound b c ≡ None
+fine_refusal b c e f =
+    ap (λ o. or_next (option_map clash_with o) (option_map refusal.Full (passed_limit (asked_base b c)))) e ∙ ap (option_map refusal.Full) f

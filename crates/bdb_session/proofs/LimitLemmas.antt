@@ -1,85 +1,73 @@
 -- Which limit a base passes.
-use Rattle.std.proofs.Common.{◌≡◌, ℕ, ◌<◌, ◌≤◌, true, false, length, Some, None, refl, arith, ltb, leb, inl, inr}
-use Rattle.std.proofs.lemmas.Bool.{cases_Bool}
+use Rattle.std.proofs.Common.{◌≡◌, ℕ, ◌≤◌, Bool, true, false, length, Option, Some, None, refl, ap, ◌∙◌, arith, ltb, leb}
+use Rattle.std.specs.Prelude.{if◌then◌else◌}
 use Rattle.std.proofs.lemmas.Bool.Decides.{nat_tests}
-use Rattle.bdb_base.specs.declared.kinds.What.TheVariants.{Users, Relations, Tuples, Statements}
-use Rattle.bdb_base.specs.Bases.{Contents, IsValid, IsCatalog, tuple_count}
-use Rattle.bdb_session.specs.Machine.{passed_limit}
+use Rattle.bdb_base.specs.declared.kinds.What.{What}
+use Rattle.bdb_base.specs.declared.kinds.What.TheVariants.{Users, Relations, Worlds, Tuples, Statements}
+use Rattle.bdb_base.specs.Bases.{Contents, IsValid, tuple_count, world_count}
+use Rattle.bdb_session.specs.declared.limits.Counts.{Counts}
+use Rattle.bdb_session.specs.Machine.{passed_limit, limit_passed, counts_of}
 
 -- what is at most a number isn't above it
 above_false : (m n : ℕ) → leb n m ≡ true → ltb m n ≡ false
 above_false m n h = grind (arith, nat_tests)
 
-above_true : (m n : ℕ) → m < n → ltb m n ≡ true
-above_true m n h = grind (arith, nat_tests)
-
-below_false : (m n : ℕ) → n ≤ m → ltb m n ≡ false
-below_false m n h = grind (arith, nat_tests)
+at_most : (m n : ℕ) → ltb m n ≡ false → n ≤ m
+at_most m n h = grind (arith, nat_tests)
 
 -- a valid base passes no limit
 pub no_limit : (b : Contents) → IsValid b.catalog b.stmts → passed_limit b ≡ None
 no_limit b valid =
     let users = above_false 256 (length b.catalog.users) valid.catalog.few_users in
     let rels = above_false 64 (length b.catalog.rels) valid.catalog.few_rels in
+    let worlds = above_false 2000 (world_count b.stmts) valid.stmts.few_worlds in
     let tuples = above_false 4000 (tuple_count b.stmts) valid.stmts.few_tuples in
     let stmts = above_false 20000 (length b.stmts) valid.stmts.few_stmts in
-    rw (users, rels, tuples, stmts) refl
+    rw (users, rels, worlds, tuples, stmts) refl
 
-pub full_of_users : (b : Contents) → 256 < length b.catalog.users → passed_limit b ≡ Some Users
-full_of_users b h = let users = above_true 256 (length b.catalog.users) h in rw users refl
+-- a base has no more of anything than it may
+pub record IsWithin (b : Contents) : Type 0 where
+  pub users : length b.catalog.users ≤ 256
+  pub rels : length b.catalog.rels ≤ 64
+  pub worlds : world_count b.stmts ≤ 2000
+  pub tuples : tuple_count b.stmts ≤ 4000
+  pub stmts : length b.stmts ≤ 20000
 
-pub full_of_relations : (b : Contents) → length b.catalog.users ≤ 256 → 64 < length b.catalog.rels → passed_limit b ≡ Some Relations
-full_of_relations b few h =
-    let users = below_false 256 (length b.catalog.users) few in
-    let rels = above_true 64 (length b.catalog.rels) h in
-    rw (users, rels) refl
+-- nothing is found: the first test fails, and nothing is found behind it
+past : (t : Bool) (w : What) (rest : Option What) → (if t then Some w else rest) ≡ None → (t ≡ false) × (rest ≡ None)
+past true w rest e = absurd cc
+past false w rest e = (refl, e)
 
-pub full_of_tuples : (b : Contents) → IsCatalog b.catalog → 4000 < tuple_count b.stmts → passed_limit b ≡ Some Tuples
-full_of_tuples b valid h =
-    let users = above_false 256 (length b.catalog.users) valid.few_users in
-    let rels = above_false 64 (length b.catalog.rels) valid.few_rels in
-    let tuples = above_true 4000 (tuple_count b.stmts) h in
-    rw (users, rels, tuples) refl
+-- a base that passes no limit is within all
+pub within_limits : (b : Contents) → passed_limit b ≡ None → IsWithin b
+within_limits b e =
+    let users = ltb 256 (length b.catalog.users) in
+    let rels = ltb 64 (length b.catalog.rels) in
+    let worlds = ltb 2000 (world_count b.stmts) in
+    let tuples = ltb 4000 (tuple_count b.stmts) in
+    let stmts = ltb 20000 (length b.stmts) in
+    let p = past users Users (if rels then Some Relations else (if worlds then Some Worlds else (if tuples then Some Tuples else (if stmts then Some Statements else None)))) e in
+    let q = past rels Relations (if worlds then Some Worlds else (if tuples then Some Tuples else (if stmts then Some Statements else None))) p.1 in
+    let r = past worlds Worlds (if tuples then Some Tuples else (if stmts then Some Statements else None)) q.1 in
+    let s = past tuples Tuples (if stmts then Some Statements else None) r.1 in
+    let t = past stmts Statements None s.1 in
+    record {
+      users = at_most 256 (length b.catalog.users) p.0;
+      rels = at_most 64 (length b.catalog.rels) q.0;
+      worlds = at_most 2000 (world_count b.stmts) r.0;
+      tuples = at_most 4000 (tuple_count b.stmts) s.0;
+      stmts = at_most 20000 (length b.stmts) t.0;
+    }
 
-pub full_of_statements : (b : Contents) → IsCatalog b.catalog → tuple_count b.stmts ≤ 4000 → 20000 < length b.stmts → passed_limit b ≡ Some Statements
-full_of_statements b valid few h =
-    let users = above_false 256 (length b.catalog.users) valid.few_users in
-    let rels = above_false 64 (length b.catalog.rels) valid.few_rels in
-    let tuples = below_false 4000 (tuple_count b.stmts) few in
-    let stmts = above_true 20000 (length b.stmts) h in
-    rw (users, rels, tuples, stmts) refl
+-- the limit that is found by the counts of a base is the one that it passes
+pub limit_is : (b : Contents) (o : Option What) (users rels : ℕ) (counts : Counts) (n : ℕ) → o ≡ limit_passed users rels counts n
+    → users ≡ length b.catalog.users → rels ≡ length b.catalog.rels → counts ≡ counts_of b.stmts → n ≡ length b.stmts → o ≡ passed_limit b
+limit_is b o users rels counts n e u r c s =
+    e ∙ ap (λ k. limit_passed k rels counts n) u ∙ ap (λ k. limit_passed (length b.catalog.users) k counts n) r
+    ∙ ap (λ k. limit_passed (length b.catalog.users) (length b.catalog.rels) k n) c ∙ ap (limit_passed (length b.catalog.users) (length b.catalog.rels) (counts_of b.stmts)) s
 
--- a base that passes no limit has few tuples and statements
-pub few_without_limit : (b : Contents) → passed_limit b ≡ None → (tuple_count b.stmts ≤ 4000) × (length b.stmts ≤ 20000)
-few_without_limit b e =
-    elim (cases_Bool (ltb 256 (length b.catalog.users))) [
-      | inl users ↦ absurd (let f : passed_limit b ≡ Some Users = rw users refl in cc)
-      | inr users ↦ elim (cases_Bool (ltb 64 (length b.catalog.rels))) [
-        | inl rels ↦ absurd (let f : passed_limit b ≡ Some Relations = rw (users, rels) refl in cc)
-        | inr rels ↦ elim (cases_Bool (ltb 4000 (tuple_count b.stmts))) [
-          | inl tuples ↦ absurd (let f : passed_limit b ≡ Some Tuples = rw (users, rels, tuples) refl in cc)
-          | inr tuples ↦ elim (cases_Bool (ltb 20000 (length b.stmts))) [
-            | inl stmts ↦ absurd (let f : passed_limit b ≡ Some Statements = rw (users, rels, tuples, stmts) refl in cc)
-            | inr stmts ↦ (at_most 4000 (tuple_count b.stmts) tuples, at_most 20000 (length b.stmts) stmts)
-          ]
-        ]
-      ]
-    ]
-  where
-    at_most : (m n : ℕ) → ltb m n ≡ false → n ≤ m
-    at_most m n h = grind (arith, nat_tests)
+abbrev counted : ℕ → ℕ → Counts
+counted w t = record { worlds = w; tuples = t }
 
--- a base of a valid catalog with few tuples and statements passes no limit
-pub within_limits : (b : Contents) → IsCatalog b.catalog → tuple_count b.stmts ≤ 4000 → length b.stmts ≤ 20000 → passed_limit b ≡ None
-within_limits b valid few fewer =
-    let users = above_false 256 (length b.catalog.users) valid.few_users in
-    let rels = above_false 64 (length b.catalog.rels) valid.few_rels in
-    let tuples = below_false 4000 (tuple_count b.stmts) few in
-    let stmts = below_false 20000 (length b.stmts) fewer in
-    rw (users, rels, tuples, stmts) refl
-
-pub few_statements : (b : Contents) → IsValid b.catalog b.stmts → length b.stmts ≤ 20000
-few_statements b valid = at_most_by (length b.stmts) 20000 valid.stmts.few_stmts
-  where
-    at_most_by : (m n : ℕ) → leb m n ≡ true → m ≤ n
-    at_most_by m n h = grind (arith, nat_tests)
+pub same_counts : (v w s t : ℕ) → v ≡ w → s ≡ t → counted v s ≡ counted w t
+same_counts v w s t e f = ap (λ n. counted n s) e ∙ ap (counted w) f

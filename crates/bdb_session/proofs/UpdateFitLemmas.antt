@@ -22,7 +22,7 @@ use Rattle.bdb_bind.specs.Lookup.{columns_in}
 use Rattle.bdb_render.specs.declared.refusal.Refusal.TheVariants as refusal
 use Rattle.bdb_session.specs.Machine.{statements_refusal, clash_with, passed_limit}
 use Rattle.bdb_session.proofs.AnswerLemmas.{neither_of, none_mapped}
-use Rattle.bdb_session.proofs.LimitLemmas.{few_without_limit}
+use Rattle.bdb_session.proofs.LimitLemmas.{within_limits}
 
 -- values fit their columns with one of them set to a value that fits its column
 fits_set_value : (cols : List ColDef) (vals : List Value) (i : ℕ) (v : Value) → fits_columns cols vals ≡ true → fits_found (slice_get cols i) v ≡ true
@@ -63,5 +63,5 @@ update_stays_valid b w s rel conds sets valid fits fine =
     let both = and_parts (list_all (set_fits cols) sets) (list_all (cond_fits cols) conds) there.1 in
     let parts = neither_of (option_map clash_with (first_clashing (key_lengths b.catalog.rels) next w)) (option_map refusal.Full (passed_limit (record b { stmts = next }))) fine in
     let apart = none_mapped clash_with (first_clashing (key_lengths b.catalog.rels) next w) parts.0 in
-    let few = few_without_limit (record b { stmts = next }) (none_mapped refusal.Full (passed_limit (record b { stmts = next })) parts.1) in
-    update_is_valid b.catalog b.stmts w s rel conds sets valid (sets_fit b.catalog.rels rel sets both.0) apart few.0 few.1
+    let few = within_limits (record b { stmts = next }) (none_mapped refusal.Full (passed_limit (record b { stmts = next })) parts.1) in
+    update_is_valid b.catalog b.stmts w s rel conds sets valid (sets_fit b.catalog.rels rel sets both.0) apart few.tuples few.worlds few.stmts

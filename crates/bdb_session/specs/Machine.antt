@@ -3,9 +3,9 @@ use Rattle.std.specs.Prelude.{◌≡◌, ℕ, Bool, true, false, ◌&&◌, ◌||
 use Rattle.std.specs.Option.{option_map, option_and_then}
 use Rattle.bdb_base.specs.declared.kinds.Stmt.{Stmt}
 use Rattle.bdb_base.specs.declared.kinds.What.{What}
-use Rattle.bdb_base.specs.declared.kinds.What.TheVariants.{Users, Relations, Tuples, Statements}
+use Rattle.bdb_base.specs.declared.kinds.What.TheVariants.{Users, Relations, Worlds, Tuples, Statements}
 use Rattle.bdb_base.specs.declared.kinds.World.{World}
-use Rattle.bdb_base.specs.Bases.{Contents, key_lengths, with_statement, with_user, with_relation, stands, tuple_count}
+use Rattle.bdb_base.specs.Bases.{Contents, key_lengths, with_statement, with_user, with_relation, stands, tuple_count, world_count}
 use Rattle.bdb_base.specs.Worlds.{least_clash}
 use Rattle.bdb_base.specs.WorldRows.{world_of}
 use Rattle.bdb_base.specs.Changes.{taken_by, without_taken, updated, first_clashing}
@@ -28,6 +28,7 @@ use Rattle.bdb_render.specs.declared.refusal.Refusal.{Refusal}
 use Rattle.bdb_render.specs.declared.refusal.Refusal.TheVariants as refusal
 use Rattle.bdb_render.specs.Refusals.{refusal_reply}
 use Rattle.bdb_render.specs.Replies.{ok_reply, count_reply, world_reply}
+use Rattle.bdb_session.specs.declared.limits.Counts.{Counts}
 use Rattle.bdb_session.specs.declared.reply.Reply.{Reply}
 use Rattle.bdb_session.specs.declared.reading.Reading.{Reading}
 use Rattle.bdb_session.specs.declared.reading.Reading.TheVariants as reading
@@ -96,14 +97,23 @@ clashing_statement b _ = None
 abbrev pub clash_with : Stmt → Refusal
 clash_with s = refusal.Clash s.sign s.tuple
 
+-- the first limit that is passed by so many users, relations, worlds, tuples and statements
+abbrev pub limit_passed : ℕ → ℕ → Counts → ℕ → Option What
+limit_passed users rels counts stmts =
+    if nat_lt 256 users then Some Users
+    else (if nat_lt 64 rels then Some Relations
+    else (if nat_lt 2000 counts.worlds then Some Worlds
+    else (if nat_lt 4000 counts.tuples then Some Tuples
+    else (if nat_lt 20000 stmts then Some Statements
+    else None))))
+
+-- how many worlds and different tuples statements have
+abbrev pub counts_of : List Stmt → Counts
+counts_of stmts = record { worlds = world_count stmts; tuples = tuple_count stmts }
+
 -- the first limit that a base passes
 abbrev pub passed_limit : Contents → Option What
-passed_limit b =
-    if nat_lt 256 (length b.catalog.users) then Some Users
-    else (if nat_lt 64 (length b.catalog.rels) then Some Relations
-    else (if nat_lt 4000 (tuple_count b.stmts) then Some Tuples
-    else (if nat_lt 20000 (length b.stmts) then Some Statements
-    else None)))
+passed_limit b = limit_passed (length b.catalog.users) (length b.catalog.rels) (counts_of b.stmts) (length b.stmts)
 
 -- the first of two refusals that applies
 abbrev pub or_next : Option Refusal → Option Refusal → Option Refusal
@@ -193,9 +203,13 @@ abbrev pub has_token : Reading → Bool
 has_token reading.Nothing = false
 has_token _ = true
 
--- an event counts where it is accepted and says something
+-- once, where nothing refuses
+abbrev pub once : Option Refusal → ℕ
+once refused = if is_none refused then 1 else 0
+
+-- an event counts once where it says something and is accepted
 abbrev pub counts : Contents → Event → ℕ
-counts b e = if accepts b e && has_token (reading_at e) then 1 else 0
+counts b e = if has_token (reading_at e) && accepts b e then 1 else 0
 
 -- What is answered to something that this refuses, or that asks for this reply and this base: the reply, and the base after.
 pub record IsAnswered (b : Contents) (refused : Option Refusal) (reply : List ℕ) (asked : Contents) (r : Reply) (after : Contents) : Type 0 where

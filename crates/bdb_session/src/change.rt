@@ -1,18 +1,27 @@
 // The commands that take statements away, or change them.
-ghost use Rattle.std.specs.Prelude.{◌≡◌, IfOk, OnOk, OnErr, true, length};
-ghost use Rattle.bdb_base.specs.Changes.{is_taken, taken_by, without_taken, updated, changed_statement};
+ghost use Rattle.std.specs.Prelude.{◌≡◌, IfOk, true, None, [], length, map};
+ghost use Rattle.std.specs.List.{AllByRecursion};
 ghost use Rattle.bdb_base.specs.Bases.{IsValid};
+ghost use Rattle.bdb_base.specs.Changes.{is_taken, taken_by, without_taken, with_statements, updated, changed_statement};
 ghost use Rattle.bdb_base.specs.Order.{statement_cmp};
 ghost use Rattle.bdb_base.specs.SortedSet.{ascending};
+ghost use Rattle.bdb_bind.specs.Fits.{fits_catalog};
+ghost use Rattle.bdb_keep.specs.Seen.{IsStill};
+ghost use Rattle.bdb_render.specs.Replies.{count_reply};
+ghost use Rattle.bdb_tables.specs.Holds.{Holds, IsStatement};
+ghost use Rattle.bdb_tables.specs.Statements.{MayBeStatement, with_rows, without_rows};
+ghost use Rattle.bdb_session.specs.Machine.{refusal_of_bound, asked_base, accepted_reply, statements_refusal, passed_limit, counts_of};
+ghost use Rattle.bdb_session.specs.Served.{IsServed};
 
-use crate::limits::{MOST_STATEMENTS, MOST_TUPLES};
+use crate::limits::{Counts, counts_of, limit_passed};
 use crate::refusals::clash_with;
 use crate::reply::Reply;
 use crate::session::Session;
-use bdb_base::{
-    Cond, Exact, List, Path, SetCol, Sign, Stmt, What, changed, distinct_tuples, meets, put,
-};
+use crate::stop::StopError;
+use crate::transact::commit_change;
+use bdb_base::{Cond, Exact, List, Path, SetCol, Sign, Stmt, changed, meets, put_copy};
 use bdb_bind::Bound;
+use bdb_keep::Keeper;
 use bdb_model::first_clashing_among;
 use bdb_render::{Refusal, count_reply};
 use std::alloc::{AllocError, Global};
@@ -34,6 +43,19 @@ fn is_selected(selection: &Selection, stmt: &Stmt) -> bool
         && stmt.sign == selection.sign
         && stmt.tuple.rel == selection.rel
         && meets(&stmt.tuple, selection.conds.as_slice())
+}
+
+/// Copies of the statements that a command is about.
+fn taken_by(alloc: Global, stmts: &[Stmt], selection: &Selection) -> Result<List<Stmt>, AllocError>
+    ensures { IfOk result (λ taken. taken ≡ taken_by selection.now.path selection.now.sign selection.now.rel selection.now.conds stmts.now) }
+{
+    let mut taken = List::new(alloc);
+    for stmt in stmts {
+        if is_selected(selection, stmt) {
+            taken.push(stmt.try_clone(alloc)?)?;
+        }
+    }
+    Ok(taken)
 }
 
 /// Copies of the statements that a command leaves as they are.
@@ -62,113 +84,181 @@ fn changed_statement(alloc: Global, stmt: &Stmt, sets: &[SetCol]) -> Result<Stmt
     })
 }
 
-/// The statements after an update.
-fn updated_by(
+/// Copies of statements with columns of their tuples set.
+fn changed_statements(
     alloc: Global,
     stmts: &[Stmt],
-    selection: &Selection,
     sets: &[SetCol],
 ) -> Result<List<Stmt>, AllocError>
-    requires { ascending statement_cmp stmts.now ≡ true }
-    ensures { IfOk result (λ next. next ≡ updated selection.now.path selection.now.sign selection.now.rel selection.now.conds sets.now stmts.now) }
+    ensures { IfOk result (λ xs. xs ≡ map (changed_statement sets.now) stmts.now) }
 {
-    let mut next = left_by(alloc, stmts, selection)?;
+    let mut next = List::new(alloc);
     for stmt in stmts {
-        if is_selected(selection, stmt) {
-            let _added = put(&mut next, changed_statement(alloc, stmt, sets)?)?;
-        }
+        next.push(changed_statement(alloc, stmt, sets)?)?;
     }
     Ok(next)
 }
 
-ghost use Rattle.bdb_bind.specs.Fits.{fits_catalog};
-ghost use Rattle.bdb_render.specs.Replies.{count_reply};
-ghost use Rattle.bdb_session.specs.Machine.{IsAnswered, refusal_of_bound, asked_base, accepted_reply, statements_refusal, passed_limit};
+/// Statements with more of them.
+fn with_statements(
+    alloc: Global,
+    stmts: List<Stmt>,
+    added: &[Stmt],
+) -> Result<List<Stmt>, AllocError>
+    requires { ascending statement_cmp stmts ≡ true }
+    ensures next { IfOk result (λ next. next ≡ with_statements stmts added.now) }
+    ensures sorted { IfOk result (λ next. ascending statement_cmp next ≡ true) }
+{
+    let mut next = stmts;
+    for stmt in added {
+        let _added = put_copy(alloc, &mut next, stmt)?;
+    }
+    Ok(next)
+}
+
+/// What a delete or an update does: the statements that it takes away, those that it adds, those that stand then, and their
+/// counts.
+#[derive(Drop)]
+pub(crate) struct Change {
+    pub taken: List<Stmt>,
+    pub added: List<Stmt>,
+    pub next: List<Stmt>,
+    pub counts: Counts,
+}
+
+/// What a delete does.
+fn delete_of(alloc: Global, stmts: &[Stmt], selection: &Selection) -> Result<Change, AllocError>
+    ensures taken { IfOk result (λ x. x.taken ≡ taken_by selection.now.path selection.now.sign selection.now.rel selection.now.conds stmts.now) }
+    ensures added { IfOk result (λ x. x.added ≡ []) }
+    ensures next { IfOk result (λ x. x.next ≡ without_taken selection.now.path selection.now.sign selection.now.rel selection.now.conds stmts.now) }
+    ensures counts { IfOk result (λ x. x.counts ≡ counts_of x.next) }
+{
+    let taken = taken_by(alloc, stmts, selection)?;
+    let next = left_by(alloc, stmts, selection)?;
+    let counts = counts_of(alloc, next.as_slice())?;
+    Ok(Change {
+        taken,
+        added: List::new(alloc),
+        next,
+        counts,
+    })
+}
+
+/// What an update does.
+fn update_of(
+    alloc: Global,
+    stmts: &[Stmt],
+    selection: &Selection,
+    sets: &[SetCol],
+) -> Result<Change, AllocError>
+    requires { ascending statement_cmp stmts.now ≡ true }
+    ensures taken { IfOk result (λ x. x.taken ≡ taken_by selection.now.path selection.now.sign selection.now.rel selection.now.conds stmts.now) }
+    ensures added { IfOk result (λ x. x.added ≡ map (changed_statement sets.now) x.taken) }
+    ensures next { IfOk result (λ x. x.next ≡ updated selection.now.path selection.now.sign selection.now.rel selection.now.conds sets.now stmts.now) }
+    ensures sorted { IfOk result (λ x. ascending statement_cmp x.next ≡ true) }
+    ensures counts { IfOk result (λ x. x.counts ≡ counts_of x.next) }
+{
+    let taken = taken_by(alloc, stmts, selection)?;
+    let added = changed_statements(alloc, taken.as_slice(), sets)?;
+    let left = left_by(alloc, stmts, selection)?;
+    let next = with_statements(alloc, left, added.as_slice())?;
+    let counts = counts_of(alloc, next.as_slice())?;
+    Ok(Change {
+        taken,
+        added,
+        next,
+        counts,
+    })
+}
 
 impl Session {
     /// Takes statements away.
-    pub(crate) fn delete(&mut self, selection: &Selection) -> Result<Reply, AllocError>
-        ensures answered { IfOk result (λ r. let c = Bound.Delete selection.now.path selection.now.sign selection.now.rel selection.now.conds in
-            IsAnswered self.old (refusal_of_bound self.old c) (accepted_reply self.old c) (asked_base self.old c) r self.new) }
-        ensures err { OnErr result (self.new ≡ self.old) }
+    pub(crate) fn delete<K: Keeper>(
+        &mut self,
+        keeper: &mut K,
+        selection: &Selection,
+    ) -> Result<Reply, StopError>
+        requires still { IsStill (K.seen keeper.old) }
+        requires agrees { Holds (K.seen keeper.old).kept self.old }
+        ensures { let c = Bound.Delete selection.now.path selection.now.sign selection.now.rel selection.now.conds in
+            IsServed self.old (refusal_of_bound self.old c) (accepted_reply self.old c) (asked_base self.old c)
+            self.new (K.seen keeper.old) (K.seen keeper.new) result }
     {
-        let stmts = self.base.stmts();
-        let left = left_by(self.alloc, stmts, selection)?;
-        let count = taken_count(stmts, selection);
-        let reply = self.replace(left, count)?;
-        Ok(reply)
+        match delete_of(self.alloc, self.base.stmts(), selection) {
+            Ok(change) => self.replace(keeper, change),
+            Err(_) => Err(StopError::Memory),
+        }
     }
 
     /// Takes statements away and adds each of them changed, or refuses to where two statements of the path would clash
     /// or the base would pass a limit.
-    pub(crate) fn update(
+    pub(crate) fn update<K: Keeper>(
         &mut self,
+        keeper: &mut K,
         selection: &Selection,
         sets: &List<SetCol>,
-    ) -> Result<Reply, AllocError>
+    ) -> Result<Reply, StopError>
+        requires still { IsStill (K.seen keeper.old) }
+        requires agrees { Holds (K.seen keeper.old).kept self.old }
         requires fits { fits_catalog self.old.catalog (Bound.Update selection.now.path selection.now.sign selection.now.rel sets.now selection.now.conds) ≡ true }
-        ensures answered { IfOk result (λ r. let c = Bound.Update selection.now.path selection.now.sign selection.now.rel sets.now selection.now.conds in
-            IsAnswered self.old (refusal_of_bound self.old c) (accepted_reply self.old c) (asked_base self.old c) r self.new) }
-        ensures err { OnErr result (self.new ≡ self.old) }
+        ensures { let c = Bound.Update selection.now.path selection.now.sign selection.now.rel sets.now selection.now.conds in
+            IsServed self.old (refusal_of_bound self.old c) (accepted_reply self.old c) (asked_base self.old c)
+            self.new (K.seen keeper.old) (K.seen keeper.new) result }
     {
-        let stmts = self.base.stmts();
-        let next = updated_by(self.alloc, stmts, selection, sets.as_slice())?;
-        let count = taken_count(stmts, selection);
-        match self.statements_refusal(next.as_slice(), selection.path.as_slice())? {
-            Some(refusal) => self.refuse(&refusal),
-            None => self.replace(next, count),
+        let change = match update_of(self.alloc, self.base.stmts(), selection, sets.as_slice()) {
+            Ok(change) => change,
+            Err(_) => return Err(StopError::Memory),
+        };
+        match self.change_refusal(&change, selection.path.as_slice()) {
+            Ok(Some(refusal)) => self.refuse(&refusal),
+            Ok(None) => self.replace(keeper, change),
+            Err(_) => Err(StopError::Memory),
         }
     }
 
-    /// Why the base can't have these statements in place of its own, where those of one path were changed.
-    fn statements_refusal(&self, next: &[Stmt], path: &[u32]) -> Result<Option<Refusal>, AllocError>
-        ensures { IfOk result (λ r. r ≡ statements_refusal self.now next.now path.now) }
+    /// Why the base can't have the statements of a change in place of its own, where those of one path were changed.
+    fn change_refusal(&self, change: &Change, path: &[u32]) -> Result<Option<Refusal>, AllocError>
+        requires sorted { ascending statement_cmp change.now.next ≡ true }
+        requires counts { change.now.counts ≡ counts_of change.now.next }
+        ensures { IfOk result (λ r. r ≡ statements_refusal self.now change.now.next path.now) }
     {
-        match first_clashing_among(next, path) {
+        match first_clashing_among(change.next.as_slice(), path) {
             Some(least) => Ok(Some(clash_with(self.alloc, least)?)),
-            None => match self.limit_passed_by(next)? {
-                Some(what) => Ok(Some(Refusal::Full(what))),
-                None => Ok(None),
-            },
+            None => {
+                let users = self.base.catalog().users.len();
+                let rels = self.base.catalog().rels.len();
+                match limit_passed(users, rels, change.counts, change.next.len()) {
+                    Some(what) => Ok(Some(Refusal::Full(what))),
+                    None => Ok(None),
+                }
+            }
         }
     }
 
-    /// The limit that the base would pass with these statements in place of its own.
-    fn limit_passed_by(&self, next: &[Stmt]) -> Result<Option<What>, AllocError>
-        ensures { IfOk result (λ w. w ≡ passed_limit (record self.now { stmts = next.now })) }
+    /// Makes a change that isn't refused, and answers how many statements were taken away.
+    fn replace<K: Keeper>(&mut self, keeper: &mut K, change: Change) -> Result<Reply, StopError>
+        requires still { IsStill (K.seen keeper.old) }
+        requires agrees { Holds (K.seen keeper.old).kept self.old }
+        requires counts { change.counts ≡ counts_of change.next }
+        requires valid { IsValid self.old.catalog change.next }
+        requires taken { AllByRecursion MayBeStatement change.taken }
+        requires added { AllByRecursion MayBeStatement change.added }
+        requires rows { AllByRecursion IsStatement change.added
+            → Holds (with_rows (without_rows (K.seen keeper.old).kept change.taken) change.added) (record self.old { stmts = change.next }) }
+        ensures { IsServed self.old None (count_reply (length change.taken)) (record self.old { stmts = change.next })
+            self.new (K.seen keeper.old) (K.seen keeper.new) result }
     {
-        let _catalog = self.base.catalog();
-        if distinct_tuples(self.alloc, next)? > MOST_TUPLES {
-            return Ok(Some(What::Tuples));
+        let text = match count_reply(self.alloc, change.taken.len()) {
+            Ok(text) => text,
+            Err(_) => return Err(StopError::Memory),
+        };
+        let taken = change.taken.as_slice();
+        match commit_change(self.alloc, keeper, taken, change.added.as_slice()) {
+            Ok(()) => {}
+            Err(stop) => return Err(stop),
         }
-        if next.len() > MOST_STATEMENTS {
-            return Ok(Some(What::Statements));
-        }
-        Ok(None)
-    }
-
-    /// Lets these statements stand in place of those that stood, and answers a count.
-    fn replace(&mut self, next: List<Stmt>, count: usize) -> Result<Reply, AllocError>
-        requires valid { IsValid self.old.catalog next }
-        ensures text { IfOk result (λ r. r.text ≡ count_reply count) }
-        ensures accepted { IfOk result (λ r. r.accepted ≡ true) }
-        ensures next { OnOk result (self.new ≡ record self.old { stmts = next }) }
-        ensures err { OnErr result (self.new ≡ self.old) }
-    {
-        let text = count_reply(self.alloc, count)?;
-        let tuples = distinct_tuples(self.alloc, next.as_slice())?;
-        self.base.set_statements(next);
-        self.tuples = tuples;
+        self.base.set_statements(change.next);
+        self.counts = change.counts;
         Ok(Reply::accepted(text))
     }
-}
-
-/// How many statements a command is about.
-fn taken_count(stmts: &[Stmt], selection: &Selection) -> usize
-    ensures { result ≡ length (taken_by selection.now.path selection.now.sign selection.now.rel selection.now.conds stmts.now) }
-{
-    stmts
-        .iter()
-        .filter(|stmt| is_selected(selection, stmt))
-        .count()
 }

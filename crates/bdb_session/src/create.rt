@@ -1,45 +1,144 @@
 // Commands that add to the catalog.
-ghost use Rattle.std.specs.Prelude.{◌≡◌, true, IfOk, OnErr};
-ghost use Rattle.bdb_render.specs.Replies.{ok_reply};
+ghost use Rattle.std.specs.Prelude.{◌≡◌, ◌+◌, true, None, IfOk, length};
+ghost use Rattle.bdb_base.specs.Bases.{IsValid, with_user, with_relation};
 ghost use Rattle.bdb_bind.specs.Fits.{fits_catalog};
-ghost use Rattle.bdb_session.specs.Machine.{IsAnswered, refusal_of_bound, asked_base};
+ghost use Rattle.bdb_keep.specs.Seen.{IsStill};
+ghost use Rattle.bdb_render.specs.Replies.{ok_reply};
+ghost use Rattle.bdb_tables.specs.Holds.{Holds};
+ghost use Rattle.bdb_session.specs.Machine.{refusal_of_bound, asked_base};
+ghost use Rattle.bdb_session.specs.Served.{IsServed};
 
-use crate::limits::{MOST_RELATIONS, MOST_USERS};
+use crate::limits::limit_passed;
 use crate::reply::Reply;
 use crate::session::Session;
-use bdb_base::{RelDef, Txt, What};
+use crate::stop::StopError;
+use crate::transact::{commit_relation, commit_user};
+use bdb_base::{Catalog, Exact, RelDef, Txt};
 use bdb_bind::Bound;
+use bdb_keep::Keeper;
 use bdb_render::{Refusal, ok_reply};
-use std::alloc::AllocError;
+use std::alloc::{AllocError, Global};
 
 impl Session {
     /// Adds a user, or refuses it where there are too many.
-    pub(crate) fn create_user(&mut self, name: Txt) -> Result<Reply, AllocError>
+    pub(crate) fn create_user<K: Keeper>(
+        &mut self,
+        keeper: &mut K,
+        name: Txt,
+    ) -> Result<Reply, StopError>
+        requires still { IsStill (K.seen keeper.old) }
+        requires agrees { Holds (K.seen keeper.old).kept self.old }
         requires fits { fits_catalog self.old.catalog (Bound.CreateUser name) ≡ true }
-        ensures answered { IfOk result (λ r. IsAnswered self.old (refusal_of_bound self.old (Bound.CreateUser name))
-            ok_reply (asked_base self.old (Bound.CreateUser name)) r self.new) }
-        ensures err { OnErr result (self.new ≡ self.old) }
+        ensures { IsServed self.old (refusal_of_bound self.old (Bound.CreateUser name)) ok_reply (asked_base self.old (Bound.CreateUser name))
+            self.new (K.seen keeper.old) (K.seen keeper.new) result }
     {
-        if self.base.catalog().users.len() >= MOST_USERS {
-            return self.refuse(&Refusal::Full(What::Users));
+        let users = self.base.catalog().users.len() + 1;
+        let rels = self.base.catalog().rels.len();
+        match limit_passed(users, rels, self.counts, self.base.stmts().len()) {
+            Some(what) => self.refuse(&Refusal::Full(what)),
+            None => self.add_user(keeper, name, users as u32),
         }
-        let text = ok_reply(self.alloc)?;
-        self.base.add_user(name)?;
+    }
+
+    /// Adds a user that isn't refused, whose number is the next.
+    fn add_user<K: Keeper>(
+        &mut self,
+        keeper: &mut K,
+        name: Txt,
+        uid: u32,
+    ) -> Result<Reply, StopError>
+        requires still { IsStill (K.seen keeper.old) }
+        requires agrees { Holds (K.seen keeper.old).kept self.old }
+        requires number { uid ≡ length self.old.catalog.users + 1 }
+        requires valid { IsValid (with_user self.old.catalog name) self.old.stmts }
+        ensures { IsServed self.old None ok_reply (asked_base self.old (Bound.CreateUser name))
+            self.new (K.seen keeper.old) (K.seen keeper.new) result }
+    {
+        let text = match ok_reply(self.alloc) {
+            Ok(text) => text,
+            Err(_) => return Err(StopError::Memory),
+        };
+        let catalog = match catalog_with_user(self.alloc, self.base.catalog(), &name) {
+            Ok(catalog) => catalog,
+            Err(_) => return Err(StopError::Memory),
+        };
+        match commit_user(self.alloc, keeper, uid, &name) {
+            Ok(()) => {}
+            Err(stop) => return Err(stop),
+        }
+        self.base.set_catalog(catalog);
         Ok(Reply::accepted(text))
     }
 
     /// Adds a relation, or refuses it where there are too many.
-    pub(crate) fn create_relation(&mut self, def: RelDef) -> Result<Reply, AllocError>
+    pub(crate) fn create_relation<K: Keeper>(
+        &mut self,
+        keeper: &mut K,
+        def: RelDef,
+    ) -> Result<Reply, StopError>
+        requires still { IsStill (K.seen keeper.old) }
+        requires agrees { Holds (K.seen keeper.old).kept self.old }
         requires fits { fits_catalog self.old.catalog (Bound.CreateRelation def) ≡ true }
-        ensures answered { IfOk result (λ r. IsAnswered self.old (refusal_of_bound self.old (Bound.CreateRelation def))
-            ok_reply (asked_base self.old (Bound.CreateRelation def)) r self.new) }
-        ensures err { OnErr result (self.new ≡ self.old) }
+        ensures { IsServed self.old (refusal_of_bound self.old (Bound.CreateRelation def)) ok_reply (asked_base self.old (Bound.CreateRelation def))
+            self.new (K.seen keeper.old) (K.seen keeper.new) result }
     {
-        if self.base.catalog().rels.len() >= MOST_RELATIONS {
-            return self.refuse(&Refusal::Full(What::Relations));
+        let users = self.base.catalog().users.len();
+        let rels = self.base.catalog().rels.len();
+        match limit_passed(users, rels + 1, self.counts, self.base.stmts().len()) {
+            Some(what) => self.refuse(&Refusal::Full(what)),
+            None => self.add_relation(keeper, def, rels as u32),
         }
-        let text = ok_reply(self.alloc)?;
-        self.base.add_relation(def)?;
+    }
+
+    /// Adds a relation that isn't refused, whose number is the next.
+    fn add_relation<K: Keeper>(
+        &mut self,
+        keeper: &mut K,
+        def: RelDef,
+        rel: u32,
+    ) -> Result<Reply, StopError>
+        requires still { IsStill (K.seen keeper.old) }
+        requires agrees { Holds (K.seen keeper.old).kept self.old }
+        requires number { rel ≡ length self.old.catalog.rels }
+        requires valid { IsValid (with_relation self.old.catalog def) self.old.stmts }
+        ensures { IsServed self.old None ok_reply (asked_base self.old (Bound.CreateRelation def))
+            self.new (K.seen keeper.old) (K.seen keeper.new) result }
+    {
+        let text = match ok_reply(self.alloc) {
+            Ok(text) => text,
+            Err(_) => return Err(StopError::Memory),
+        };
+        let catalog = match catalog_with_relation(self.alloc, self.base.catalog(), &def) {
+            Ok(catalog) => catalog,
+            Err(_) => return Err(StopError::Memory),
+        };
+        match commit_relation(self.alloc, keeper, rel, &def) {
+            Ok(()) => {}
+            Err(stop) => return Err(stop),
+        }
+        self.base.set_catalog(catalog);
         Ok(Reply::accepted(text))
     }
+}
+
+/// A copy of the catalog with one more user.
+fn catalog_with_user(alloc: Global, catalog: &Catalog, name: &Txt) -> Result<Catalog, AllocError>
+    ensures { IfOk result (λ next. next ≡ with_user catalog.now name.now) }
+{
+    let mut next = catalog.try_clone(alloc)?;
+    next.users.push(name.try_clone(alloc)?)?;
+    Ok(next)
+}
+
+/// A copy of the catalog with one more relation.
+fn catalog_with_relation(
+    alloc: Global,
+    catalog: &Catalog,
+    def: &RelDef,
+) -> Result<Catalog, AllocError>
+    ensures { IfOk result (λ next. next ≡ with_relation catalog.now def.now) }
+{
+    let mut next = catalog.try_clone(alloc)?;
+    next.rels.push(def.try_clone(alloc)?)?;
+    Ok(next)
 }

@@ -13,6 +13,7 @@ mod reply;
 mod session;
 mod show;
 mod stop;
+mod transact;
 
 pub use event::Event;
 pub use reading::{Reading, read_piece};

@@ -1,14 +1,20 @@
 // Opening a session over tables.
 ghost use Rattle.std.specs.Prelude.{◌≡◌, false, IfOk, OnOk, OnErr};
-ghost use Rattle.bdb_base.specs.Bases.{Contents, IsValid};
+ghost use Rattle.std.specs.FinMap as tables;
+ghost use Rattle.bdb_base.specs.Bases.{Contents, IsValid, empty_contents};
 ghost use Rattle.bdb_base.specs.Causes.{HasCause, Rises};
 ghost use Rattle.bdb_keep.specs.Seen.{IsAtRest, IsStill, Unchanged};
-ghost use Rattle.bdb_tables.specs.Holds.{Holds, Stands};
+ghost use Rattle.bdb_tables.specs.Holds.{Holds, Stands, rows_of_base};
 ghost use Rattle.bdb_session.specs.Opening.{opening};
+ghost use Rattle.bdb_session.specs.Served.{Commits};
 
+use crate::limits::{Counts, counts_of};
 use crate::session::Session;
 use crate::stop::StopError;
+use crate::transact::{commit_format, stop_from};
+use bdb_base::{Base, Catalog};
 use bdb_keep::Keeper;
+use bdb_tables::{MetaTab, get, read_relations, read_statements, read_users};
 use std::alloc::Global;
 
 impl Session {
@@ -26,7 +32,62 @@ impl Session {
         ensures cause { HasCause (K.seen keeper.old).faults (K.seen keeper.new).faults result StopError.Fault }
         ensures err { OnErr result (Unchanged (K.seen keeper.old) (K.seen keeper.new)) }
     {
-        keeper.undo();
-        Err(StopError::Memory)
+        match get::<MetaTab, K>(alloc, keeper, &()) {
+            Ok(Some(_)) => read_session(alloc, keeper),
+            Ok(None) => new_session(alloc, keeper),
+            Err(error) => Err(stop_from(error)),
+        }
     }
+}
+
+/// A session over the base that the tables hold.
+fn read_session<K: Keeper>(alloc: Global, keeper: &mut K) -> Result<Session, StopError>
+    requires still { IsStill (K.seen keeper.old) }
+    requires base { (b : Contents) × Holds (K.seen keeper.old).kept b × IsValid b.catalog b.stmts }
+    ensures opened { IfOk result (λ session. (b : Contents) → Holds (K.seen keeper.old).kept b → IsValid b.catalog b.stmts → session ≡ b) }
+    ensures unchanged { Unchanged (K.seen keeper.old) (K.seen keeper.new) }
+    ensures still { IsStill (K.seen keeper.new) }
+    ensures cause { HasCause (K.seen keeper.old).faults (K.seen keeper.new).faults result StopError.Fault }
+{
+    let users = match read_users(alloc, keeper) {
+        Ok(users) => users,
+        Err(error) => return Err(stop_from(error)),
+    };
+    let rels = match read_relations(alloc, keeper) {
+        Ok(rels) => rels,
+        Err(error) => return Err(stop_from(error)),
+    };
+    let stmts = match read_statements(alloc, keeper) {
+        Ok(stmts) => stmts,
+        Err(error) => return Err(stop_from(error)),
+    };
+    match counts_of(alloc, stmts.as_slice()) {
+        Ok(counts) => Ok(Session {
+            base: Base::from_parts(Catalog { rels, users }, stmts),
+            counts,
+            alloc,
+        }),
+        Err(_) => Err(StopError::Memory),
+    }
+}
+
+/// A session over the empty base, of which the tables are made.
+fn new_session<K: Keeper>(alloc: Global, keeper: &mut K) -> Result<Session, StopError>
+    requires still { IsStill (K.seen keeper.old) }
+    requires empty { (K.seen keeper.old).kept ≡ tables.empty }
+    ensures opened { IfOk result (λ session. session ≡ empty_contents) }
+    ensures commits { Commits (rows_of_base empty_contents) (K.seen keeper.old) (K.seen keeper.new) result }
+{
+    match commit_format(alloc, keeper) {
+        Ok(()) => {}
+        Err(stop) => return Err(stop),
+    }
+    Ok(Session {
+        base: Base::empty(alloc),
+        counts: Counts {
+            worlds: 1,
+            tuples: 0,
+        },
+        alloc,
+    })
 }

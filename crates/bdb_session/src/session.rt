@@ -1,5 +1,5 @@
 // The session: the base so far, and the commands that change it.
-ghost use Rattle.std.specs.Prelude.{◌≡◌, IfOk, OnOk, OnErr, true, false};
+ghost use Rattle.std.specs.Prelude.{◌≡◌, IfOk, OnOk, OnErr, IsErrOf, true, false};
 ghost use Rattle.bdb_base.specs.Causes.{HasCause, Rises};
 ghost use Rattle.bdb_keep.specs.Seen.{IsStill, Unchanged};
 ghost use Rattle.bdb_tables.specs.Holds.{Holds};
@@ -7,43 +7,45 @@ ghost use Rattle.bdb_session.specs.declared.event.Event.TheVariants as event;
 
 use crate::change::Selection;
 use crate::event::Event;
+use crate::limits::Counts;
 use crate::reading::{Reading, read_piece};
 use crate::refusals::refusal_from;
 use crate::reply::Reply;
 use crate::stop::StopError;
 use bdb_base::{Base, Catalog, List};
-use bdb_bind::{BindError, Bound, bind};
+use bdb_bind::{Bound, bind};
 use bdb_keep::Keeper;
-use bdb_render::{Refusal, ok_reply, refusal_reply};
+use bdb_render::{Refusal, refusal_reply};
 use bdb_syntax::Command;
-use std::alloc::{AllocError, Global};
+use std::alloc::Global;
 use std::marker::Model;
 
 /// A session: the base that the accepted commands have reached. Contracts see it as that base.
 #[derive(Drop)]
 pub struct Session {
     pub(crate) base: Base,
-    pub(crate) tuples: usize,
+    pub(crate) counts: Counts,
     pub(crate) alloc: Global,
 }
 
 impl Model for Session {
     ghost use Rattle.std.specs.Prelude.{◌≡◌};
-    ghost use Rattle.bdb_base.specs.Bases.{Contents, tuple_count};
+    ghost use Rattle.bdb_base.specs.Bases.{Contents};
+    ghost use Rattle.bdb_session.specs.Machine.{counts_of};
 
     ghost Value = { Contents };
 
     ghost view = { λ s. s.base };
 
-    ghost invariant = { λ s. s.tuples ≡ tuple_count s.base.stmts };
+    ghost invariant = { λ s. s.counts ≡ counts_of s.base.stmts };
 }
 
-ghost use Rattle.bdb_base.specs.Bases.{empty_contents};
-ghost use Rattle.bdb_bind.specs.Parts.{is_built};
 ghost use Rattle.bdb_bind.specs.Binding.{bound_of};
-ghost use Rattle.bdb_render.specs.Refusals.{refusal_reply};
-ghost use Rattle.bdb_session.specs.Machine.{reply_of, accepts, next_base, counts, IsAnswered, refusal_of_command, refusal_of_bound, accepted_reply, asked_base, refusal_from};
 ghost use Rattle.bdb_bind.specs.Fits.{fits_catalog, is_allowed};
+ghost use Rattle.bdb_bind.specs.Parts.{is_built};
+ghost use Rattle.bdb_render.specs.Refusals.{refusal_reply};
+ghost use Rattle.bdb_session.specs.Machine.{reply_of, accepts, next_base, counts, refusal_of_command, refusal_of_bound, accepted_reply, asked_base};
+ghost use Rattle.bdb_session.specs.Served.{IsServed};
 
 impl Session {
     /// The relations and users of the base.
@@ -70,7 +72,12 @@ impl Session {
         ensures err { OnErr result (Unchanged (K.seen keeper.old) (K.seen keeper.new)) }
         ensures same { OnErr result (self.new ≡ self.old) }
     {
-        Err(StopError::Memory)
+        match read_piece(self.alloc, piece) {
+            Ok(Reading::Nothing) => Ok(Reply::accepted(List::new(self.alloc))),
+            Ok(Reading::Refused(refusal)) => self.refuse(&refusal),
+            Ok(Reading::Says(command)) => self.carry_out(keeper, &command),
+            Err(_) => Err(StopError::Memory),
+        }
     }
 
     /// Answers an event of a script: a piece as `apply` does; a piece that is too long, and a rest that no semicolon
@@ -89,55 +96,73 @@ impl Session {
         ensures err { OnErr result (Unchanged (K.seen keeper.old) (K.seen keeper.new)) }
         ensures same { OnErr result (self.new ≡ self.old) }
     {
-        Err(StopError::Memory)
+        match event {
+            Event::Piece(bytes) => self.apply(keeper, bytes.as_slice()),
+            Event::Long => self.refuse(&Refusal::Long),
+            Event::Unfinished => self.refuse(&Refusal::Unfinished),
+        }
     }
 
-    /// The reply to what is refused.
-    pub(crate) fn refuse(&self, refusal: &Refusal) -> Result<Reply, AllocError>
-        ensures { IfOk result (λ r. (r.text ≡ refusal_reply self.now.catalog refusal.now) × (r.accepted ≡ false)) }
+    /// The reply to what is refused. The only error is want of memory.
+    pub(crate) fn refuse(&self, refusal: &Refusal) -> Result<Reply, StopError>
+        ensures text { IfOk result (λ r. r.text ≡ refusal_reply self.now.catalog refusal.now) }
+        ensures refused { IfOk result (λ r. r.accepted ≡ false) }
+        ensures memory { IsErrOf result StopError.Fault → ⊥ }
     {
-        let text = refusal_reply(self.alloc, self.base.catalog(), refusal)?;
-        Ok(Reply::refused(text))
+        match refusal_reply(self.alloc, self.base.catalog(), refusal) {
+            Ok(text) => Ok(Reply::refused(text)),
+            Err(_) => Err(StopError::Memory),
+        }
     }
 
     /// Carries out a command, or refuses it.
-    fn carry_out(&mut self, command: &Command) -> Result<Reply, AllocError>
+    fn carry_out<K: Keeper>(
+        &mut self,
+        keeper: &mut K,
+        command: &Command,
+    ) -> Result<Reply, StopError>
+        requires still { IsStill (K.seen keeper.old) }
+        requires agrees { Holds (K.seen keeper.old).kept self.old }
         requires built { is_built command.now ≡ true }
         requires allowed { is_allowed command.now ≡ true }
-        ensures answered { IfOk result (λ r. IsAnswered self.old (refusal_of_command self.old command.now)
-            (accepted_reply self.old (bound_of self.old.catalog command.now)) (asked_base self.old (bound_of self.old.catalog command.now)) r self.new) }
-        ensures err { OnErr result (self.new ≡ self.old) }
+        ensures { IsServed self.old (refusal_of_command self.old command.now) (accepted_reply self.old (bound_of self.old.catalog command.now))
+            (asked_base self.old (bound_of self.old.catalog command.now)) self.new (K.seen keeper.old) (K.seen keeper.new) result }
     {
         match bind(self.alloc, self.base.catalog(), command) {
-            Ok(bound) => self.execute(bound),
+            Ok(bound) => self.execute(keeper, bound),
             Err(error) => match refusal_from(error) {
                 Some(refusal) => self.refuse(&refusal),
-                None => Err(AllocError),
+                None => Err(StopError::Memory),
             },
         }
     }
 
     /// Carries out a bound command, or refuses it.
-    fn execute(&mut self, bound: Bound) -> Result<Reply, AllocError>
+    fn execute<K: Keeper>(&mut self, keeper: &mut K, bound: Bound) -> Result<Reply, StopError>
+        requires still { IsStill (K.seen keeper.old) }
+        requires agrees { Holds (K.seen keeper.old).kept self.old }
         requires fits { fits_catalog self.old.catalog bound ≡ true }
-        ensures answered { IfOk result (λ r. IsAnswered self.old (refusal_of_bound self.old bound) (accepted_reply self.old bound) (asked_base self.old bound) r self.new) }
-        ensures err { OnErr result (self.new ≡ self.old) }
+        ensures { IsServed self.old (refusal_of_bound self.old bound) (accepted_reply self.old bound) (asked_base self.old bound)
+            self.new (K.seen keeper.old) (K.seen keeper.new) result }
     {
         match bound {
-            Bound::CreateUser { name } => self.create_user(name),
-            Bound::CreateRelation { def } => self.create_relation(def),
-            Bound::Insert { stmt } => self.insert(stmt),
+            Bound::CreateUser { name } => self.create_user(keeper, name),
+            Bound::CreateRelation { def } => self.create_relation(keeper, def),
+            Bound::Insert { stmt } => self.insert(keeper, stmt),
             Bound::Delete {
                 path,
                 sign,
                 rel,
                 conds,
-            } => self.delete(&Selection {
-                path,
-                sign,
-                rel,
-                conds,
-            }),
+            } => {
+                let selection = Selection {
+                    path,
+                    sign,
+                    rel,
+                    conds,
+                };
+                self.delete(keeper, &selection)
+            }
             Bound::Update {
                 path,
                 sign,
@@ -151,9 +176,9 @@ impl Session {
                     rel,
                     conds,
                 };
-                self.update(&selection, &sets)
+                self.update(keeper, &selection, &sets)
             }
-            Bound::ShowWorld { path } => self.show_world(&path),
+            Bound::ShowWorld { path } => self.show_world(keeper, &path),
         }
     }
 }

@@ -143,7 +143,7 @@ pub record AreAtOne (x y : Stmt) : Type 0 where
   pub path : x.path ≡ y.path
   pub tuple : x.tuple ≡ y.tuple
 
-at_one : (x y : Stmt) → IsStatement x → IsStatement y → same (statement_row x).0 (statement_row y).0 ≡ true → AreAtOne x y
+pub at_one : (x y : Stmt) → IsStatement x → IsStatement y → same (statement_row x).0 (statement_row y).0 ≡ true → AreAtOne x y
 at_one x y fx fy e =
     let k : plain_codec.key_bytes (x.path, x.tuple) ≡ plain_codec.key_bytes (y.path, y.tuple) = tail_same 12 12 _ _ (same_place (statement_row x).0 (statement_row y).0 e) in
     let pair = one_plain_key (x.path, x.tuple) (y.path, y.tuple) fx.path fy.path fx.tuple fy.tuple k in
@@ -237,7 +237,7 @@ member_has P (y ∷ ys) x h e = elim (cases_Bool (is_eq (statement_cmp y x))) [
 ]
 
 -- a test that no item passes fails at a member
-member_fails : (P : Stmt → Bool) (ys : List Stmt) (x : Stmt) → list_any P ys ≡ false → stands ys x ≡ true → P x ≡ false
+pub member_fails : (P : Stmt → Bool) (ys : List Stmt) (x : Stmt) → list_any P ys ≡ false → stands ys x ≡ true → P x ≡ false
 member_fails P [] x h e = absurd (false≢true e)
 member_fails P (y ∷ ys) x h e =
     let a = or_false (P y) (list_any P ys) h in

@@ -1,9 +1,11 @@
 pub mod Climbs
+pub mod Fitting
 pub mod Finds
 pub mod Held
 pub mod HoldsLemmas
 pub mod Reading
 pub mod Stated
+pub mod StatementLemmas
 pub mod Numbered
 pub mod OneBase
 pub mod Plain

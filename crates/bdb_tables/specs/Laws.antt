@@ -1,9 +1,10 @@
 -- How single rows change the base that tables hold.
-use Rattle.std.specs.Prelude.{◌≡◌, ℕ, ◌+◌, ◌↔◌, true, false, not, List, length, Some}
-use Rattle.std.specs.List.{list_all, slice_get}
+use Rattle.std.specs.Prelude.{◌≡◌, ℕ, ◌+◌, ◌↔◌, Bool, true, false, not, List, length, filter, Some}
+use Rattle.std.specs.List.{AllByRecursion, list_all, slice_get}
 use Rattle.std.specs.Option.{option_map}
 use Rattle.std.specs.FinMap as tables
 use Rattle.bdb_base.specs.Bases.{Contents, IsValid, empty_contents, key_lengths, stands, with_user, with_relation, with_statement, without_statement}
+use Rattle.bdb_base.specs.Changes.{with_statements}
 use Rattle.bdb_base.specs.Worlds.{contradicted}
 use Rattle.bdb_base.specs.declared.kinds.RelDef.{RelDef}
 use Rattle.bdb_base.specs.declared.kinds.Stmt.{Stmt}
@@ -14,6 +15,7 @@ use Rattle.bdb_tables.specs.Codec.{place}
 use Rattle.bdb_tables.specs.Grammar.{InGrammar}
 use Rattle.bdb_tables.specs.InUse.{meta_codec, user_codec, rel_codec, plain_codec}
 use Rattle.bdb_tables.specs.Holds.{Holds, IsStatement}
+use Rattle.bdb_tables.specs.Statements.{with_rows, without_rows}
 
 -- tables that hold a base are in the grammar
 abbrev pub HeldIsInGrammar : Type 0
@@ -45,6 +47,17 @@ DropTakesStatement = (t : Tables) (b : Contents) (x : Stmt) → Holds t b
     → list_all (λ y. not (contradicted (key_lengths b.catalog.rels) b.stmts y.path y.tuple y.sign)) b.stmts ≡ true
     → stands b.stmts x ≡ true
     → Holds (tables.remove t (place plain_codec (x.path, x.tuple))) (record b { stmts = without_statement b.stmts x })
+
+-- where a base is valid with more statements, their rows add them
+abbrev pub PutAddsStatements : Type 0
+PutAddsStatements = (t : Tables) (b : Contents) (xs : List Stmt) → Holds t b → AllByRecursion IsStatement xs
+    → IsValid b.catalog b.stmts → IsValid b.catalog (with_statements b.stmts xs)
+    → Holds (with_rows t xs) (record b { stmts = with_statements b.stmts xs })
+
+-- the statements of a valid base that pass a test go with their rows
+abbrev pub DropTakesStatements : Type 0
+DropTakesStatements = (t : Tables) (b : Contents) (q : Stmt → Bool) → Holds t b → IsValid b.catalog b.stmts
+    → Holds (without_rows t (filter q b.stmts)) (record b { stmts = filter (λ x. not (q x)) b.stmts })
 
 -- the row of a user's number has the user's name, and past the last user there is none
 abbrev pub HeldUserHasRow : Type 0

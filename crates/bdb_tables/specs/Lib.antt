@@ -5,3 +5,4 @@ pub mod InUseLaws
 pub mod Holds
 pub mod Laws
 pub mod Opening
+pub mod Statements

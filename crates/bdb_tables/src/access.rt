@@ -3,7 +3,7 @@ ghost use Rattle.std.specs.Prelude.{◌≡◌, true, [], ◌∷◌, ◌++◌, If
 ghost use Rattle.std.specs.Ordering.{is_le, is_lt};
 ghost use Rattle.std.specs.FinMap as map;
 ghost use Rattle.bdb_base.specs.Causes.{RoseBy};
-ghost use Rattle.bdb_keep.specs.Seen.{NeverFall, Steps};
+ghost use Rattle.bdb_keep.specs.Seen.{IsAtRest, NeverFall, Steps};
 ghost use Rattle.bdb_key.specs.Reading.{Reads};
 ghost use Rattle.bdb_tables.specs.Codec.{HasAt, HasFirst, HasLeast, IsKeyOf, IsRowOf, place};
 ghost use Rattle.bdb_tables.specs.Grammar.{InGrammar};
@@ -21,6 +21,7 @@ pub fn get<T: Tab, K: Keeper>(
 ) -> Result<Option<T::Row>, TabError>
     requires grammar { InGrammar (K.seen keeper.old).kept }
     requires key { T.codec.MayBeKey key.now }
+    ensures rest { IsAtRest (K.seen keeper.old) }
     ensures found { IfOk result (HasAt T.codec (K.seen keeper.old).kept key.now) }
     ensures kept { OnOk result ((K.seen keeper.new).kept ≡ (K.seen keeper.old).kept) }
     ensures reads { OnOk result (RoseBy 1 (K.seen keeper.old).reads (K.seen keeper.new).reads) }
@@ -54,6 +55,7 @@ pub fn first<T: Tab, K: Keeper>(
     keeper: &mut K,
 ) -> Result<Option<(T::Key, T::Row)>, TabError>
     requires grammar { InGrammar (K.seen keeper.old).kept }
+    ensures rest { IsAtRest (K.seen keeper.old) }
     ensures found { IfOk result (HasFirst T.codec (K.seen keeper.old).kept (λ _. true)) }
     ensures kept { OnOk result ((K.seen keeper.new).kept ≡ (K.seen keeper.old).kept) }
     ensures reads { OnOk result (RoseBy 1 (K.seen keeper.old).reads (K.seen keeper.new).reads) }
@@ -72,6 +74,7 @@ pub fn next<T: Tab, K: Keeper>(
 ) -> Result<Option<(T::Key, T::Row)>, TabError>
     requires grammar { InGrammar (K.seen keeper.old).kept }
     requires low { T.codec.MayBeKey low.now }
+    ensures rest { IsAtRest (K.seen keeper.old) }
     ensures found { IfOk result (HasFirst T.codec (K.seen keeper.old).kept (λ key. is_le (T.codec.key_cmp low.now key))) }
     ensures kept { OnOk result ((K.seen keeper.new).kept ≡ (K.seen keeper.old).kept) }
     ensures reads { OnOk result (RoseBy 1 (K.seen keeper.old).reads (K.seen keeper.new).reads) }
@@ -95,6 +98,7 @@ pub fn after<T: Tab, K: Keeper>(
 ) -> Result<Option<(T::Key, T::Row)>, TabError>
     requires grammar { InGrammar (K.seen keeper.old).kept }
     requires key { T.codec.MayBeKey key.now }
+    ensures rest { IsAtRest (K.seen keeper.old) }
     ensures found { IfOk result (HasFirst T.codec (K.seen keeper.old).kept (λ q. is_lt (T.codec.key_cmp key.now q))) }
     ensures kept { OnOk result ((K.seen keeper.new).kept ≡ (K.seen keeper.old).kept) }
     ensures reads { OnOk result (RoseBy 1 (K.seen keeper.old).reads (K.seen keeper.new).reads) }
@@ -176,6 +180,7 @@ fn first_from<T: Tab, K: Keeper>(
     low: &[u8],
 ) -> Result<Option<(T::Key, T::Row)>, TabError>
     requires grammar { InGrammar (K.seen keeper.old).kept }
+    ensures rest { IsAtRest (K.seen keeper.old) }
     ensures found { IfOk result (HasLeast T.codec (K.seen keeper.old).kept low.now) }
     ensures kept { OnOk result ((K.seen keeper.new).kept ≡ (K.seen keeper.old).kept) }
     ensures reads { OnOk result (RoseBy 1 (K.seen keeper.old).reads (K.seen keeper.new).reads) }

@@ -1,5 +1,5 @@
 // What single rows do to the base that tables hold.
-ghost use Rattle.bdb_tables.specs.Laws.{HeldIsInGrammar, FormatRowHoldsEmpty, PutAddsUser, PutAddsRelation, PutAddsStatement, DropTakesStatement, HeldUserHasRow, HeldRelationHasRow, HeldStatementHasRow, HeldBaseIsOne};
+ghost use Rattle.bdb_tables.specs.Laws.{HeldIsInGrammar, FormatRowHoldsEmpty, PutAddsUser, PutAddsRelation, PutAddsStatement, PutAddsStatements, DropTakesStatement, DropTakesStatements, HeldUserHasRow, HeldRelationHasRow, HeldStatementHasRow, HeldBaseIsOne};
 
 /// Tables that hold a base are in the grammar.
 pub fn held_is_in_grammar()
@@ -29,6 +29,16 @@ pub fn put_adds_statement()
 /// Where no statements clash at one path, a statement that stands goes with its row.
 pub fn drop_takes_statement()
     ensures { DropTakesStatement }
+{}
+
+/// Where a base is valid with more statements, their rows add them.
+pub fn put_adds_statements()
+    ensures { PutAddsStatements }
+{}
+
+/// The statements of a valid base that pass a test go with their rows.
+pub fn drop_takes_statements()
+    ensures { DropTakesStatements }
 {}
 
 /// The row of a user's number has the user's name, and past the last user there is none.

@@ -43,19 +43,19 @@ is_text_Ann = is_utf8-from_IsUtf8 (65 ∷ 110 ∷ 110 ∷ []) (IsUtf8-from_ascii
 first_valid : IsValid first.catalog first.stmts
 first_valid = record {
   catalog = record { users_differ = refl; users_plain = rw is_text_Ann; few_users = refl; rels_differ = refl; rels_valid = refl; few_rels = refl };
-  stmts = record { sorted = refl; belong = refl; no_clash = refl; few_stmts = refl; few_tuples = refl };
+  stmts = record { sorted = refl; belong = refl; no_clash = refl; few_stmts = refl; few_tuples = refl; few_worlds = refl };
 }
 
 second_valid : IsValid second.catalog second.stmts
 second_valid = record {
   catalog = record { users_differ = refl; users_plain = rw is_text_Ann; few_users = refl; rels_differ = refl; rels_valid = rw (is_text_n, is_text_R); few_rels = refl };
-  stmts = record { sorted = refl; belong = refl; no_clash = refl; few_stmts = refl; few_tuples = refl };
+  stmts = record { sorted = refl; belong = refl; no_clash = refl; few_stmts = refl; few_tuples = refl; few_worlds = refl };
 }
 
 third_valid : IsValid third.catalog third.stmts
 third_valid = record {
   catalog = record { users_differ = refl; users_plain = rw is_text_Ann; few_users = refl; rels_differ = refl; rels_valid = rw (is_text_n, is_text_R); few_rels = refl };
-  stmts = record { sorted = refl; belong = refl; no_clash = refl; few_stmts = refl; few_tuples = refl };
+  stmts = record { sorted = refl; belong = refl; no_clash = refl; few_stmts = refl; few_tuples = refl; few_worlds = refl };
 }
 
 -- what a call requires of a base and its argument, from their values

@@ -1,30 +1,24 @@
-use Rattle.std.proofs.Common.{◌∙◌, sym, ap, arith, length}
-use Rattle.bdb_base.specs.Bases.{Contents}
-use Rattle.bdb_session.proofs.LimitLemmas.{few_statements}
-use Rattle.bdb_session.proofs.InsertLemmas.{tuples_limit, stood_limit, statements_limit, no_limit_with}
+use Rattle.std.proofs.Common.{◌≡◌, ◌∙◌, ◌+◌, List, length, ap, sym}
+use Rattle.bdb_base.specs.declared.kinds.Catalog.{Catalog}
+use Rattle.bdb_base.specs.declared.kinds.Stmt.{Stmt}
+use Rattle.bdb_base.specs.Bases.{Contents, stands, with_statement}
+use Rattle.bdb_session.proofs.LimitLemmas.{limit_is}
+use Rattle.bdb_session.proofs.InsertLemmas.{length_stood, length_more}
 use Rattle.bdb_session.proofs.session.Session.limit_passed_with.Goals as goal
-
-pub returns-then-tuples_with-gt-MOST_TUPLES : goal.returns-then-tuples_with-gt-MOST_TUPLES
-returns-then-tuples_with-gt-MOST_TUPLES c =
-    let valid = rw c.self.view_is at c.stmts-stmts.ensures.valid in
-    tuples_limit c.args.self.now c.args.stmt.now c.tuples_with.result valid c.tuples_with.ensures (omega arith)
-
-pub returns-then-stands : goal.returns-then-stands
-returns-then-stands c =
-    let valid = rw c.self.view_is at c.stmts-stmts.ensures.valid in
-    let stood = rw c.self.view_is at c.stands.ensures in
-    stood_limit c.args.self.now c.args.stmt.now c.tuples_with.result valid c.tuples_with.ensures (omega arith) (few_statements c.args.self.now valid) (sym stood ∙ c.if-stands.true)
-
-pub returns-then-stmts-ge-MOST_STATEMENTS : goal.returns-then-stmts-ge-MOST_STATEMENTS
-returns-then-stmts-ge-MOST_STATEMENTS c =
-    let valid = rw c.self.view_is at c.stmts-stmts.ensures.valid in
-    let stood = rw c.self.view_is at c.stands.ensures in
-    let many = ap length c.stmts-stmts.ensures.value ∙ ap (λ (b : Contents). length b.stmts) c.self.view_is in
-    statements_limit c.args.self.now c.args.stmt.now c.tuples_with.result valid c.tuples_with.ensures (omega arith) (sym stood ∙ c.if-stands.false) (omega arith)
+use Rattle.bdb_session.proofs.session.Session.limit_passed_with.Goals.{then-stands, else-stands}
 
 pub returns : goal.returns
 returns c =
-    let valid = rw c.self.view_is at c.stmts-stmts.ensures.valid in
-    let stood = rw c.self.view_is at c.stands.ensures in
-    let many = ap length c.stmts-stmts.ensures.value ∙ ap (λ (b : Contents). length b.stmts) c.self.view_is in
-    no_limit_with c.args.self.now c.args.stmt.now c.tuples_with.result valid c.tuples_with.ensures (omega arith) (sym stood ∙ c.if-stands.false) (omega arith)
+    let b = c.args.self.now in
+    let s = c.args.stmt.now in
+    let valid = rw c.self.view_is at c.stmts.ensures.valid in
+    let users = c.len-users.ensures ∙ ap (λ (k : Catalog). length k.users) (c.catalog.ensures.value ∙ ap (λ (x : Contents). x.catalog) c.self.view_is) in
+    let rels = c.len-rels.ensures ∙ ap (λ (k : Catalog). length k.rels) (c.catalog-2.ensures.value ∙ ap (λ (x : Contents). x.catalog) c.self.view_is) in
+    let stood = c.stands.ensures ∙ ap (λ (x : Contents). stands x.stmts s) c.self.view_is in
+    let size = ap (λ (xs : List Stmt). length xs) (c.stmts.ensures.value ∙ ap (λ (x : Contents). x.stmts) c.self.view_is) in
+    let n : length c.stmts.result.now + c.if-stands.more ≡ length (with_statement b.stmts s) =
+    ap (λ k. k + c.if-stands.more) size ∙ elim c.if-stands.branch [
+      | then-stands w ↦ ap (λ k. length b.stmts + k) w.more-is ∙ length_stood b s valid (sym stood ∙ w.if-stands.true)
+      | else-stands w ↦ ap (λ k. length b.stmts + k) w.more-is ∙ length_more b s valid (sym stood ∙ w.if-stands.false)
+    ] in
+    limit_is (record b { stmts = with_statement b.stmts s }) c.limit_passed.result _ _ _ _ c.limit_passed.ensures users rels c.counts_with-counts.ensures n

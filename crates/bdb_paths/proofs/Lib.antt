@@ -1,0 +1,3 @@
+pub mod SharedLemmas
+pub mod StateLemmas
+pub mod SuffixLemmas

@@ -1,0 +1,4 @@
+pub mod FoundLemmas
+pub mod AnswerLemmas
+pub mod RangeLemmas
+pub mod DomainLemmas

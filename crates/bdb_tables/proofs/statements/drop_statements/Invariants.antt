@@ -1,0 +1,11 @@
+use Rattle.std.proofs.Common.{◌≡◌, drop}
+use Rattle.bdb_keep.specs.Seen.{NeverFall, GoesOn}
+use Rattle.bdb_tables.specs.Statements.{without_rows}
+use Rattle.bdb_tables.proofs.statements.drop_statements.Given as goal
+
+abbrev pub invariant-loop-stmt : goal.invariant-loop-stmt
+invariant-loop-stmt g l = record {
+  rest : without_rows (g.K.Keeper.seen l.keeper).kept (drop l.stmt-index l.stmts) ≡ without_rows (g.K.Keeper.seen l.fn.keeper).kept l.stmts;
+  counts : NeverFall (g.K.Keeper.seen l.fn.keeper) (g.K.Keeper.seen l.keeper);
+  goes_on : GoesOn (g.K.Keeper.seen l.fn.keeper) (g.K.Keeper.seen l.keeper);
+}
