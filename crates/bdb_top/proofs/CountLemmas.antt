@@ -23,7 +23,7 @@ abbrev one_if : Bool → ℕ
 one_if t = if t then 1 else 0
 
 -- what doesn't count changes nothing
-same_by : (b : Contents) (r : Option Refusal) (q : Reading) → one_if (is_none r && has_token q) ≡ 0 → base_by b r (reading_base b q) ≡ b
+same_by : (b : Contents) (r : Option Refusal) (q : Reading) → one_if (has_token q && is_none r) ≡ 0 → base_by b r (reading_base b q) ≡ b
 same_by b (Some r) q h = refl
 same_by b None Nothing h = refl
 same_by b None (Refused r) h = refl

@@ -205,3 +205,10 @@ each_run None left text events session next first mid now old new result is open
 each_run (Some xs) left text events session next first mid now old new result is opened taken end cut still valid ends = λ b stands fine.
     ran_whole b xs left text events first now old new (status_of result) taken end cut
     (ran_from b events next first mid now old new result opened still valid (subst (λ (x : Contents). Ends x events next mid now old new result) (is b stands fine) ends))
+
+-- the same run, by what its status is
+pub each_status : (before : Option (List ℕ)) (first now : Seen) (old new : Option (List ℕ)) (status number : ℕ) → status ≡ number
+    → IfSome before (λ text. EachBase first.kept (λ b. Ran b (events_of text) first now old new number))
+    → IfSome before (λ text. EachBase first.kept (λ b. Ran b (events_of text) first now old new status))
+each_status before first now old new status number is ran =
+    subst (λ (n : ℕ). IfSome before (λ text. EachBase first.kept (λ b. Ran b (events_of text) first now old new n))) (sym is) ran
