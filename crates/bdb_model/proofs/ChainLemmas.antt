@@ -112,24 +112,27 @@ come_hold b valid sources first second last k at (Users alias ∷ items) (x ∷ 
 come_hold b valid sources first second last k at (Users alias ∷ items) (x ∷ xs) (y ∷ ys) [] c = absurd c.by_minus
 come_hold b valid sources first second last k at (Users alias ∷ items) (x ∷ xs) (y ∷ ys) (z ∷ zs) c =
     let user = user_of_tuple b.catalog.users c.by_users.0.0 c.by_users.0.2 in
-    let is : z ≡ Some c.by_users.0.0 = sym (c.by_plus.0 ∙ c.by_minus.0) ∙ c.by_users.0.1 in
-    ((user.0, user.1, user.2, user.3, is ∙ ap Some user.4),
-      come_hold b valid sources first second last k (at + 1) items xs ys zs (record { by_users = c.by_users.1; by_plus = c.by_plus.1; by_minus = c.by_minus.1 }))
+    let is : z ≡ Some c.by_users.0.0 = sym (c.by_plus.0 ∙ c.by_minus.0) ∙ c.by_users.0.1 in (
+      (user.0, user.1, user.2, user.3, is ∙ ap Some user.4),
+      come_hold b valid sources first second last k (at + 1) items xs ys zs (record { by_users = c.by_users.1; by_plus = c.by_plus.1; by_minus = c.by_minus.1 }),
+    )
 come_hold b valid sources first second last k at (Rel alias rel Plus path ∷ items) [] ys zs c = absurd c.by_users
 come_hold b valid sources first second last k at (Rel alias rel Plus path ∷ items) (x ∷ xs) [] zs c = absurd c.by_plus
 come_hold b valid sources first second last k at (Rel alias rel Plus path ∷ items) (x ∷ xs) (y ∷ ys) [] c = absurd c.by_minus
 come_hold b valid sources first second last k at (Rel alias rel Plus path ∷ items) (x ∷ xs) (y ∷ ys) (z ∷ zs) c =
     let t = c.by_plus.0.0 in
     let held = plus_is_believed b (path_of first path) rel t c.by_plus.0.2 in
-    let kept = believes_kept b t (path_of first path) (path_of last path) (k path) held.1 in
-    ((t, sym c.by_minus.0 ∙ c.by_plus.0.1, held.0, believed_fits b valid (path_of first path) t held.1, kept),
-      come_hold b valid sources first second last k (at + 1) items xs ys zs (record { by_users = c.by_users.1; by_plus = c.by_plus.1; by_minus = c.by_minus.1 }))
+    let kept = believes_kept b t (path_of first path) (path_of last path) (k path) held.1 in (
+      (t, sym c.by_minus.0 ∙ c.by_plus.0.1, held.0, believed_fits b valid (path_of first path) t held.1, kept),
+      come_hold b valid sources first second last k (at + 1) items xs ys zs (record { by_users = c.by_users.1; by_plus = c.by_plus.1; by_minus = c.by_minus.1 }),
+    )
 come_hold b valid sources first second last k at (Rel alias rel Minus path ∷ items) [] ys zs c = absurd c.by_users
 come_hold b valid sources first second last k at (Rel alias rel Minus path ∷ items) (x ∷ xs) [] zs c = absurd c.by_plus
 come_hold b valid sources first second last k at (Rel alias rel Minus path ∷ items) (x ∷ xs) (y ∷ ys) [] c = absurd c.by_minus
 come_hold b valid sources first second last k at (Rel alias rel Minus path ∷ items) (x ∷ xs) (y ∷ ys) (z ∷ zs) c =
     let t = c.by_minus.0.0 in
     let denied = denied_tuple b.catalog.rels (world_at b.stmts (path_of first path)) rel (sourced_values sources second at 0 (columns_at b.catalog.rels rel)) t c.by_minus.0.2 in
-    let kept = denies_kept b t (path_of first path) (path_of last path) (k path) (denied_at b (path_of first path) t denied.2) in
-    ((t, c.by_minus.0.1, denied.0, denied.1, kept),
-      come_hold b valid sources first second last k (at + 1) items xs ys zs (record { by_users = c.by_users.1; by_plus = c.by_plus.1; by_minus = c.by_minus.1 }))
+    let kept = denies_kept b t (path_of first path) (path_of last path) (k path) (denied_at b (path_of first path) t denied.2) in (
+      (t, c.by_minus.0.1, denied.0, denied.1, kept),
+      come_hold b valid sources first second last k (at + 1) items xs ys zs (record { by_users = c.by_users.1; by_plus = c.by_plus.1; by_minus = c.by_minus.1 }),
+    )

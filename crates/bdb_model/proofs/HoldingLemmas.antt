@@ -236,8 +236,7 @@ slots_are_choices b slots (Users alias ∷ items) (x ∷ xs) h =
     let uid = h.0.0 in
     let is : x ≡ Some (user_tuple uid h.0.1) = h.0.4 in
     let choice : choice_of (Users alias) x ≡ ChosenUser uid = ap (choice_of (Users alias)) is in
-    let slot : slot_of users (choice_of (Users alias) x) ≡ x = ap (slot_of users) choice ∙ ap (option_map (user_tuple uid)) h.0.3 ∙ sym is in
-    (
+    let slot : slot_of users (choice_of (Users alias) x) ≡ x = ap (slot_of users) choice ∙ ap (option_map (user_tuple uid)) h.0.3 ∙ sym is in (
       ap (λ y. y ∷ xs) (sym slot) ∙ ap (λ ys. slot_of users (choice_of (Users alias) x) ∷ ys) rest.0,
       ap (λ c. is_of_kind (Users alias) c && are_of_kind items (choices_of items xs)) choice ∙ rest.1,
       ap (λ c. is_choice users c && list_all (is_choice users) (choices_of items xs)) choice ∙ and_from (is_user users uid) (list_all (is_choice users) (choices_of items xs)) h.0.2 rest.2,
@@ -247,8 +246,7 @@ slots_are_choices b slots (Rel alias rel sign path ∷ items) (x ∷ xs) h =
     let users = b.catalog.users in
     let t = h.0.0 in
     let choice : choice_of (Rel alias rel sign path) x ≡ ChosenTuple t = ap (choice_of (Rel alias rel sign path)) h.0.1 in
-    let slot : slot_of users (choice_of (Rel alias rel sign path) x) ≡ x = ap (slot_of users) choice ∙ sym h.0.1 in
-    (
+    let slot : slot_of users (choice_of (Rel alias rel sign path) x) ≡ x = ap (slot_of users) choice ∙ sym h.0.1 in (
       ap (λ y. y ∷ xs) (sym slot) ∙ ap (λ ys. slot_of users (choice_of (Rel alias rel sign path) x) ∷ ys) rest.0,
       ap (λ c. is_of_kind (Rel alias rel sign path) c && are_of_kind items (choices_of items xs)) choice ∙ rest.1,
       ap (λ c. is_choice users c && list_all (is_choice users) (choices_of items xs)) choice ∙ rest.2,
@@ -293,12 +291,14 @@ held_slots_of_row b q row f a =
     let chosen = a.0 in
     let users = b.catalog.users in
     let k = and_parts (items_hold b chosen q.items chosen) (list_all (cond_holds users chosen) q.conds) a.1 in
-    let kinds = kinds_hold b chosen q.items chosen k.0 in
-    (map (slot_of users) chosen, record {
-      items = items_hold_of_slots b (map (slot_of users) chosen) chosen q.items q.items chosen (same_paths b q.items chosen kinds.0 kinds.1) f k.0;
-      conds = conds_are_chosen users chosen kinds.1 q.conds ∙ k.1;
-      gives = row_is_chosen users chosen kinds.1 q.take ∙ a.2;
-    })
+    let kinds = kinds_hold b chosen q.items chosen k.0 in (
+      map (slot_of users) chosen,
+      record {
+        items = items_hold_of_slots b (map (slot_of users) chosen) chosen q.items q.items chosen (same_paths b q.items chosen kinds.0 kinds.1) f k.0;
+        conds = conds_are_chosen users chosen kinds.1 q.conds ∙ k.1;
+        gives = row_is_chosen users chosen kinds.1 q.take ∙ a.2;
+      },
+    )
 
 pub held_row_of_slots : (b : Contents) (q : Query) (row : List Value) → list_all (item_fits b.catalog q.items) q.items ≡ true → (slots : List (Option Tuple)) → AreHeldSlots b q slots row → IsHeldRow b q row
 held_row_of_slots b q row f slots a =
@@ -306,8 +306,9 @@ held_row_of_slots b q row f slots a =
     let chosen = choices_of q.items slots in
     let are = slots_are_choices b slots q.items slots a.items in
     let same : (item : Item) → item_fits b.catalog q.items item ≡ true → SamePaths slots chosen item =
-    λ item g. subst (λ s. SamePaths s chosen item) (sym are.0) (same_paths b q.items chosen are.1 are.2 item g) in
-    (chosen,
+    λ item g. subst (λ s. SamePaths s chosen item) (sym are.0) (same_paths b q.items chosen are.1 are.2 item g) in (
+      chosen,
       and_from (items_hold b chosen q.items chosen) (list_all (cond_holds users chosen) q.conds) (items_hold_of_choices b slots chosen q.items q.items slots same f a.items)
-      (sym (conds_are_chosen users chosen are.2 q.conds) ∙ ap (λ s. must_all_hold s q.conds) (sym are.0) ∙ a.conds),
-      sym (row_is_chosen users chosen are.2 q.take) ∙ ap (λ s. known_row s q.take) (sym are.0) ∙ a.gives)
+          (sym (conds_are_chosen users chosen are.2 q.conds) ∙ ap (λ s. must_all_hold s q.conds) (sym are.0) ∙ a.conds),
+      sym (row_is_chosen users chosen are.2 q.take) ∙ ap (λ s. known_row s q.take) (sym are.0) ∙ a.gives,
+    )

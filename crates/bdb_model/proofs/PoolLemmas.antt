@@ -110,9 +110,10 @@ plus_is_stated stmts w rel t f =
     let k = and_parts (is_plus_of rel h) (same_tuple h.tuple t) found.1 in
     let m = and_parts (nat_eq h.tuple.rel rel) (same_sign h.sign Plus) k.0 in
     let same : h.tuple ≡ t = (same_tuple-Decides h.tuple t).0 k.1 in
-    let sign : h.sign ≡ Plus = (same_sign-Decides h.sign Plus).0 m.1 in
-    (ap (λ u. u.rel) (sym same) ∙ (Decides-eqb h.tuple.rel rel).0 m.0,
-      ap (λ u. stated (λ _. 1) stmts w u Plus) (sym same) ∙ ap (λ s. stated (λ _. 1) stmts w h.tuple s) (sym sign) ∙ stated_row stmts w h found.2)
+    let sign : h.sign ≡ Plus = (same_sign-Decides h.sign Plus).0 m.1 in (
+      ap (λ u. u.rel) (sym same) ∙ (Decides-eqb h.tuple.rel rel).0 m.0,
+      ap (λ u. stated (λ _. 1) stmts w u Plus) (sym same) ∙ ap (λ s. stated (λ _. 1) stmts w h.tuple s) (sym sign) ∙ stated_row stmts w h found.2,
+    )
 
 pub stated_is_plus : (stmts : List Stmt) (w : List ℕ) (rel : ℕ) (t : Tuple) → t.rel ≡ rel → stated (λ _. 1) stmts w t Plus ≡ true → Found t (plus_tuples rel (world_of (λ _. 1) stmts w))
 stated_is_plus stmts w rel t r e =

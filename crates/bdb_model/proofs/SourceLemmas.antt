@@ -140,10 +140,11 @@ fresh_parts items sources r o e h = elim (cases_Bool (is_some (source_in items s
 from_cases : (items : List Item) (sources : List Cond) (c e : Cond) → source_from items sources c ≡ Some e
     → (c.cmp ≡ Eq) × ((fresh_source items sources c.left c.right ≡ Some e) ⊎ (turned_source items sources c.left c.right ≡ Some e))
 from_cases items sources c e h = elim (cases_Bool (is_equality c.cmp)) [
-  | inl k ↦
-      (is_equality_is c.cmp k,
-        there_cases (fresh_source items sources c.left c.right) (turned_source items sources c.left c.right) e
-        (sym (cond-true (is_equality c.cmp) (first_there (fresh_source items sources c.left c.right) (turned_source items sources c.left c.right)) None k) ∙ h))
+  | inl k ↦ (
+    is_equality_is c.cmp k,
+    there_cases (fresh_source items sources c.left c.right) (turned_source items sources c.left c.right) e
+        (sym (cond-true (is_equality c.cmp) (first_there (fresh_source items sources c.left c.right) (turned_source items sources c.left c.right)) None k) ∙ h),
+  )
   | inr k ↦
       let none : None ≡ Some e = sym (cond-false (is_equality c.cmp) (first_there (fresh_source items sources c.left c.right) (turned_source items sources c.left c.right)) None k) ∙ h in
       cc
@@ -181,9 +182,9 @@ from_left items sources c e s eq h =
       fresh = ap (λ d. is_some (source_in items sources d.left)) parts.1.2 ∙ parts.0;
       simple = ap (is_source items) parts.1.2 ∙ source_is_simple items sources s c.right src parts.1.1;
       holds = λ slots a b.
-      let both = equal_values (known slots c.left) (known_operand slots c.right) (ap (λ m. compare_so m (known slots c.left) (known_operand slots c.right)) (sym eq) ∙ a) in
-      ap (must_hold slots) parts.1.2
-      ∙ values_equal (known slots c.left) (known_operand slots src) both.0 both.1 (source_has_value items sources slots s b c.right src both.0 parts.1.1 both.2);
+          let both = equal_values (known slots c.left) (known_operand slots c.right) (ap (λ m. compare_so m (known slots c.left) (known_operand slots c.right)) (sym eq) ∙ a) in
+          ap (must_hold slots) parts.1.2
+          ∙ values_equal (known slots c.left) (known_operand slots src) both.0 both.1 (source_has_value items sources slots s b c.right src both.0 parts.1.1 both.2);
     }
 
 from_right : (items : List Item) (sources : List Cond) (l : Ref) (o : Operand) (e : Cond) → list_all (is_source items) sources ≡ true → turned_source items sources l o ≡ Some e
@@ -197,9 +198,9 @@ from_right items sources l (Col r) e s h =
       fresh = ap (λ d. is_some (source_in items sources d.left)) parts.1.2 ∙ parts.0;
       simple = ap (is_source items) parts.1.2 ∙ source_is_simple items sources s (Col l) src parts.1.1;
       holds = λ slots a b.
-      let both = equal_values (known slots l) (known slots r) a in
-      ap (must_hold slots) parts.1.2
-      ∙ values_equal (known slots r) (known_operand slots src) both.0 both.2 (source_has_value items sources slots s b (Col l) src both.0 parts.1.1 both.1);
+          let both = equal_values (known slots l) (known slots r) a in
+          ap (must_hold slots) parts.1.2
+          ∙ values_equal (known slots r) (known_operand slots src) both.0 both.2 (source_has_value items sources slots s b (Col l) src both.0 parts.1.1 both.1);
     }
 
 from_one : (items : List Item) (sources : List Cond) (c e : Cond) → list_all (is_source items) sources ≡ true → source_from items sources c ≡ Some e → IsSourceFrom items sources c e

@@ -166,6 +166,7 @@ has_value (def ∷ rels) zero vals v h = some_value def.cols vals (first_column 
     first_column : (def : RelDef) → is_valid_relation def ≡ true → nat_lt 0 (length def.cols) ≡ true
     first_column def h =
         (and_parts (nat_lt 0 (length def.cols)) (nat_le (length def.cols) 16) (and_parts (nat_lt 0 (length def.cols) && nat_le (length def.cols) 16) _ h).0).0
+
     some_value : (cols : List ColDef) (vals : List Value) → nat_lt 0 (length cols) ≡ true → fits_columns cols vals ≡ true → nat_lt 0 (length vals) ≡ true
     some_value [] vals n h = absurd (false≢true n)
     some_value (c ∷ cs) [] n h = absurd (false≢true h)

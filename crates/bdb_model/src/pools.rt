@@ -129,11 +129,7 @@ fn push_plus_pools(
     }
 }
 
-fn plus_pool(
-    alloc: Global,
-    item: &Item,
-    world: &[Held],
-) -> Result<Option<List<Tuple>>, AllocError>
+fn plus_pool(alloc: Global, item: &Item, world: &[Held]) -> Result<Option<List<Tuple>>, AllocError>
     ensures { IfOk result (λ pool. pool ≡ plus_pool item.now world.now) }
 {
     match item {

@@ -71,15 +71,12 @@ fn copied(alloc: Global, slot: &Option<Tuple>) -> Result<Option<Tuple>, AllocErr
 }
 
 /// Whether no comparison is known to fail once a tuple is chosen for the item at a place.
-pub fn may_all_hold_with(
-    slots: &[Option<Tuple>],
-    at: usize,
-    tuple: &Tuple,
-    conds: &[Cond],
-) -> bool
+pub fn may_all_hold_with(slots: &[Option<Tuple>], at: usize, tuple: &Tuple, conds: &[Cond]) -> bool
     ensures { result ≡ may_all_hold (slice_set slots.now at (Some tuple.now)) conds.now }
 {
-    conds.iter().all(|cond| may_hold_with(slots, at, tuple, cond))
+    conds
+        .iter()
+        .all(|cond| may_hold_with(slots, at, tuple, cond))
 }
 
 fn may_hold_with(slots: &[Option<Tuple>], at: usize, tuple: &Tuple, cond: &Cond) -> bool

@@ -15,7 +15,12 @@ pub fn sources_of(alloc: Global, q: &Query) -> Result<List<Cond>, AllocError>
 {
     let mut sources = List::new(alloc);
     loop {
-        match next_source(alloc, q.items.as_slice(), sources.as_slice(), q.conds.as_slice())? {
+        match next_source(
+            alloc,
+            q.items.as_slice(),
+            sources.as_slice(),
+            q.conds.as_slice(),
+        )? {
             Some(source) => sources.push(source)?,
             None => return Ok(sources),
         }

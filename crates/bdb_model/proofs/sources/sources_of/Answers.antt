@@ -22,7 +22,7 @@ loop-sources-preserved c =
     let next : next_source c.args.q.now.items c.loop-sources.sources c.args.q.now.conds ≡ Some c.in-Some.source = search rules in
     record {
       simple = ap (list_all (is_source c.args.q.now.items)) c.in_ok-push-in-Some.ensures.ok
-      ∙ simple_grows c.args.q.now.items c.loop-sources.sources c.args.q.now.conds c.in-Some.source c.loop-sources.invariant.simple next;
+          ∙ simple_grows c.args.q.now.items c.loop-sources.sources c.args.q.now.conds c.in-Some.source c.loop-sources.invariant.simple next;
       follow = λ slots h. ap (must_all_hold slots) c.in_ok-push-in-Some.ensures.ok
-      ∙ follow_grows c.args.q.now.items c.loop-sources.sources c.args.q.now.conds c.in-Some.source c.loop-sources.invariant.simple next c.loop-sources.invariant.follow slots h;
+          ∙ follow_grows c.args.q.now.items c.loop-sources.sources c.args.q.now.conds c.in-Some.source c.loop-sources.invariant.simple next c.loop-sources.invariant.follow slots h;
     }
