@@ -1,8 +1,8 @@
 -- The columns that are known in the end are the bound ones.
-use Rattle.std.proofs.Common.{◌≡◌, ◌∙◌, ◌↔◌, ℕ, Bool, true, false, ◌&&◌, ◌||◌, List, [], ◌∷◌, ◌++◌, Option, Some, None, refl, sym, ap, subst, inl, inr}
+use Rattle.std.proofs.Common.{◌≡◌, ◌∙◌, Bool, true, false, ◌&&◌, ◌||◌, List, [], ◌∷◌, ◌++◌, Option, Some, None, refl, sym, ap, subst, inl, inr}
 use Rattle.std.specs.Option.{option_or}
 use Rattle.std.specs.List.{list_any, slice_get}
-use Rattle.std.proofs.lemmas.Bool.{cases_Bool, cond-true, cond-false, and_from, and_parts, or_left, or_right, or_cases}
+use Rattle.std.proofs.lemmas.Bool.{cases_Bool, cond-true, cond-false, and_parts, or_left, or_right, or_cases}
 use Rattle.std.proofs.lemmas.List.Folds.{list_any-append}
 use Rattle.bdb_base.specs.declared.kinds.Cond.{Cond}
 use Rattle.bdb_base.specs.declared.kinds.Item.{Item}
@@ -12,8 +12,8 @@ use Rattle.bdb_base.specs.declared.kinds.Query.{Query}
 use Rattle.bdb_base.specs.declared.kinds.Ref.{Ref}
 use Rattle.bdb_base.specs.Queries.{option_list}
 use Rattle.bdb_base.specs.Safety.{is_given, same_column, is_equality, is_column, is_literal, pins, links, IsBound}
-use Rattle.bdb_bind.specs.Safe.{is_known, is_known_side, unknown_side, unknown_of_two, made_known, next_known, known_after, bound_columns, is_bound, TestTellsBound}
-use Rattle.bdb_bind.proofs.ColumnLemmas.{same_column_equal, same_column_itself, column_is, linked_left, linked_right, pinned_left}
+use Rattle.bdb_bind.specs.Safe.{is_known, is_known_side, unknown_side, unknown_of_two, made_known, next_known, known_after, bound_columns, TestTellsBound}
+use Rattle.bdb_bind.proofs.ColumnLemmas.{same_column_equal, column_is, linked_left, linked_right, pinned_left}
 use Rattle.bdb_bind.proofs.KnownLemmas.{Makes, made, nothing_left}
 
 -- ---- what is known is bound

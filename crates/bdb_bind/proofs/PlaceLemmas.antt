@@ -1,15 +1,14 @@
 -- Where names differ, a name that stands at a place is found there.
-use Rattle.std.proofs.Common.{◌≡◌, ◌∙◌, ℕ, ◌+◌, zero, suc, Bool, true, false, not, ◌&&◌, List, [], ◌∷◌, map, Option, Some, None, find, refl, sym, ap, inl, inr, arith, zero-add}
+use Rattle.std.proofs.Common.{◌≡◌, ◌∙◌, ℕ, ◌+◌, zero, suc, true, not, List, [], ◌∷◌, map, Option, Some, None, refl, sym, ap, inl, inr, arith, zero-add}
 use Rattle.std.specs.Option.{option_map}
 use Rattle.std.specs.List.{list_any, slice_get, position_from}
 use Rattle.std.proofs.lemmas.Bool.{cases_Bool, cond-true, cond-false, and_parts, not-true, or_left, or_right}
 use Rattle.std.proofs.lemmas.List.{map-id}
-use Rattle.bdb_base.specs.declared.kinds.ColDef.{ColDef}
 use Rattle.bdb_base.specs.declared.kinds.RelDef.{RelDef}
 use Rattle.bdb_base.specs.Bases.{are_distinct}
 use Rattle.bdb_base.specs.Same.{same_text}
 use Rattle.bdb_bind.specs.Lookup.{uid_of, is_name, number_of, columns_in, columns_of}
-use Rattle.bdb_bind.proofs.Founds.{same_text_equal, same_text_itself, found}
+use Rattle.bdb_bind.proofs.Founds.{same_text_equal, found}
 
 -- a name of a list is among the names
 among : {X : Type 0} (f : X → List ℕ) (xs : List X) (at : ℕ) (name first : List ℕ) → is_name name (option_map f (slice_get xs at)) ≡ true → same_text first name ≡ true

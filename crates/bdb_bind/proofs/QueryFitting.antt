@@ -1,23 +1,19 @@
 -- The law of fitting for queries.
-use Rattle.std.proofs.Common.{◌≡◌, ◌∙◌, ℕ, zero, suc, codes, ◌<◌, ◌≤◌, ◌^◌, Bool, true, false, not, ◌&&◌, ◌||◌, nat_eq, nat_lt, List, [], ◌∷◌, ◌++◌, length, map, Option, Some, None, cond, find, refl, sym, ap, subst, inl, inr, arith, zero-add}
+use Rattle.std.proofs.Common.{◌≡◌, ◌∙◌, ℕ, zero, suc, codes, ◌≤◌, ◌^◌, true, false, nat_eq, nat_lt, List, [], ◌∷◌, length, map, Option, Some, None, refl, sym, ap, inl, inr, arith, zero-add}
 use Rattle.std.specs.Option.{option_map, option_and_then, is_some, unwrap_or}
-use Rattle.std.specs.List.{list_any, list_all, slice_get, position_from}
+use Rattle.std.specs.List.{list_any, list_all, slice_get}
 use Rattle.std.proofs.lemmas.Bool.{cases_Bool, cond-true, cond-false, and_from, and_parts, or_parts, or_cases, not-false, not_from_false, eqb-true, lt-ltb}
 use Rattle.std.proofs.lemmas.List.{length-map}
 use Rattle.std.proofs.lemmas.Option.{slice_get-map}
 use Rattle.bdb_base.specs.declared.kinds.Catalog.{Catalog}
-use Rattle.bdb_base.specs.declared.kinds.ColDef.{ColDef}
-use Rattle.bdb_base.specs.declared.kinds.Item.{Item}
 use Rattle.bdb_base.specs.declared.kinds.Item.TheVariants as item
 use Rattle.bdb_base.specs.declared.kinds.Kind.{Kind}
 use Rattle.bdb_base.specs.declared.kinds.RelDef.{RelDef}
 use Rattle.bdb_base.specs.declared.kinds.Value.{Value}
 use Rattle.bdb_base.specs.declared.kinds.Value.TheVariants as value
 use Rattle.bdb_base.specs.declared.kinds.Kind.TheVariants as kind
-use Rattle.bdb_base.specs.declared.kinds.Who.{Who}
-use Rattle.bdb_base.specs.declared.kinds.Who.TheVariants as user
 use Rattle.bdb_base.specs.Bases.{IsCatalog, is_plain}
-use Rattle.bdb_base.specs.Same.{same_text, same_kind}
+use Rattle.bdb_base.specs.Same.{same_text}
 use Rattle.bdb_base.specs.Queries.{columns_at, columns_of_definition}
 use Rattle.bdb_base.specs.Safety.{item_kinds, column_kind, literal_kind, operand_kind, one_kind, joins_one_kind, is_users_item, who_fits, begins_with_another, fixed_differ, item_fits, query_fits}
 use Rattle.bdb_syntax.specs.declared.command.RawCol.{RawCol}
@@ -29,14 +25,14 @@ use Rattle.bdb_syntax.specs.declared.command.RawSide.TheVariants.{Col, Lit}
 use Rattle.bdb_syntax.specs.declared.command.RawWho.{RawWho}
 use Rattle.bdb_syntax.specs.declared.command.RawWho.TheVariants as who
 use Rattle.bdb_bind.specs.declared.bound.BindError.{BindError}
-use Rattle.bdb_bind.specs.Firsts.{or_next, first_in}
+use Rattle.bdb_bind.specs.Firsts.{first_in}
 use Rattle.bdb_bind.specs.Fits.{is_unclean}
 use Rattle.bdb_bind.specs.Kinds.{kind_of, are_one_kind}
-use Rattle.bdb_bind.specs.Lookup.{uid_of, is_user_name, number_of, columns_in, columns_of, column_at, has_column, kind_at}
+use Rattle.bdb_bind.specs.Lookup.{uid_of, is_user_name, number_of, columns_in, columns_of, column_at}
 use Rattle.bdb_bind.specs.Parts.{value_texts, side_texts, is_long}
 use Rattle.bdb_bind.specs.QueryBinding.{place_named, query_column_at, query_side, query_cond, query_who, query_item, bound_query}
 use Rattle.bdb_bind.specs.QueryLines.{item_relation, who_user, item_user, in_who, in_path, in_side, in_cond, in_later_columns, in_columns, column_alias, column_missing, column_not_uid, begins_with_name, repeats_name, kind_named, kind_of_side, cond_kind}
-use Rattle.bdb_bind.specs.Scope.{is_users, item_place, item_of, user_columns, item_columns, columns_found, columns_named, are_users, is_uid}
+use Rattle.bdb_bind.specs.Scope.{is_users, item_place, item_of, user_columns, item_columns, columns_found, columns_named, are_users}
 use Rattle.bdb_bind.proofs.Cleared.{neither, not_refused}
 use Rattle.bdb_bind.proofs.CatalogLemmas.{relation_found}
 use Rattle.bdb_bind.proofs.FitLemmas.{column_found, plain_text}

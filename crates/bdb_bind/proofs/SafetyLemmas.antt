@@ -1,5 +1,5 @@
 -- The test of safety tells exactly the safe queries.
-use Rattle.std.proofs.Common.{◌≡◌, ◌∙◌, ◌↔◌, ℕ, ◌+◌, zero, suc, Bool, true, false, List, [], ◌∷◌, map, Option, Some, None, refl, sym, ap, inl, inr, arith, zero-add, add-zero}
+use Rattle.std.proofs.Common.{◌≡◌, ◌∙◌, ℕ, ◌+◌, zero, suc, true, List, [], ◌∷◌, map, Option, Some, None, refl, sym, ap, inl, inr, arith, zero-add}
 use Rattle.std.specs.Option.{option_or, option_map, option_and_then, is_some, is_none}
 use Rattle.std.specs.List.{slice_get}
 use Rattle.std.proofs.lemmas.Bool.{cases_Bool, cond-true, cond-false}
@@ -12,8 +12,8 @@ use Rattle.bdb_base.specs.declared.kinds.Ref.{Ref}
 use Rattle.bdb_base.specs.declared.kinds.RelDef.{RelDef}
 use Rattle.bdb_base.specs.declared.kinds.Sign.TheVariants.{Plus, Minus}
 use Rattle.bdb_base.specs.Queries.{columns_at}
-use Rattle.bdb_base.specs.Safety.{item_kinds, column_kind, is_minus, IsBound, IsMinusColumn, IsSafe}
-use Rattle.bdb_bind.specs.Safe.{is_known, bound_columns, is_bound, unbound_from, unbound_of, unbound_among, first_unbound, is_safe, TestTellsSafe}
+use Rattle.bdb_base.specs.Safety.{item_kinds, column_kind, is_minus, IsMinusColumn, IsSafe}
+use Rattle.bdb_bind.specs.Safe.{is_known, bound_columns, unbound_from, unbound_of, unbound_among, first_unbound, is_safe, TestTellsSafe}
 use Rattle.bdb_bind.proofs.BoundLemmas.{test_tells_bound}
 
 -- ---- the columns of one item

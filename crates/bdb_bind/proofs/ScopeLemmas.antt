@@ -1,5 +1,5 @@
 -- The columns of an alias.
-use Rattle.std.proofs.Common.{◌≡◌, ℕ, ◌≤◌, List, length, Option, Some, None, find, inl, inr, arith, ap, subst, sym}
+use Rattle.std.proofs.Common.{ℕ, ◌≤◌, List, length, Option, Some, None, inl, inr, arith, subst, sym}
 use Rattle.std.proofs.lemmas.Bool.{cases_Bool, cond-true, cond-false}
 use Rattle.bdb_base.specs.declared.kinds.Catalog.{Catalog}
 use Rattle.bdb_base.specs.declared.kinds.ColDef.{ColDef}

@@ -1,5 +1,5 @@
 -- The reasons to refuse a command, one by one.
-use Rattle.std.specs.Prelude.{map, ◌++◌, ℕ, Bool, true, false, not, ◌||◌, ◌==◌, nat_lt, List, [], ◌∷◌, length, Option, None, Some, find, if◌then◌else◌}
+use Rattle.std.specs.Prelude.{map, ◌++◌, ℕ, Bool, false, not, ◌||◌, ◌==◌, nat_lt, List, [], ◌∷◌, length, Option, None, Some, find, if◌then◌else◌}
 use Rattle.std.specs.Option.{option_map, option_and_then, is_some}
 use Rattle.std.specs.List.{list_any}
 use Rattle.bdb_base.specs.declared.kinds.Catalog.{Catalog}
@@ -19,7 +19,7 @@ use Rattle.bdb_bind.specs.declared.bound.BindError.{BindError}
 use Rattle.bdb_bind.specs.declared.bound.BindError.TheVariants as error
 use Rattle.bdb_bind.specs.Firsts.{refused_if, or_next}
 use Rattle.bdb_bind.specs.Kinds.{kind_of, are_one_kind}
-use Rattle.bdb_bind.specs.Lookup.{is_user_name, number_of, columns_of, has_column, kind_at}
+use Rattle.bdb_bind.specs.Lookup.{is_user_name, number_of, has_column, kind_at}
 use Rattle.bdb_bind.specs.Parts.{query_of, change_columns, path_names, depth_limit, relation_name, new_columns, cond_columns, is_long, some_text}
 use Rattle.bdb_bind.specs.QueryLines.{query_items, query_relation, query_user, query_alias_twice, query_alias, query_column, query_repeat, query_deep, query_kind}
 

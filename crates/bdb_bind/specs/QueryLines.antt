@@ -1,5 +1,5 @@
 -- The reasons to refuse a query, one by one.
-use Rattle.std.specs.Prelude.{ℕ, Bool, true, false, not, ◌&&◌, ◌||◌, nat_lt, List, [], ◌∷◌, ◌++◌, length, Option, None, Some}
+use Rattle.std.specs.Prelude.{ℕ, Bool, false, not, ◌||◌, nat_lt, List, [], ◌∷◌, ◌++◌, length, Option, None, Some}
 use Rattle.std.specs.Option.{is_some, unwrap_or}
 use Rattle.std.specs.List.{list_any}
 use Rattle.bdb_base.specs.declared.kinds.Kind.{Kind}

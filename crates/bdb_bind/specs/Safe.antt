@@ -1,17 +1,17 @@
 -- The columns of a query that are bound, computed; and the first of its minus items that isn't.
-use Rattle.std.specs.Prelude.{◌≡◌, ◌↔◌, ℕ, ◌+◌, Bool, true, false, ◌||◌, List, [], ◌∷◌, ◌++◌, Option, None, Some, if◌then◌else◌}
+use Rattle.std.specs.Prelude.{◌≡◌, ◌↔◌, ℕ, ◌+◌, Bool, true, ◌||◌, List, [], ◌∷◌, ◌++◌, Option, None, Some, if◌then◌else◌}
 use Rattle.std.specs.Option.{option_or, is_none}
 use Rattle.std.specs.List.{list_any, slice_get}
 use Rattle.bdb_base.specs.declared.kinds.ColDef.{ColDef}
 use Rattle.bdb_base.specs.declared.kinds.Cond.{Cond}
 use Rattle.bdb_base.specs.declared.kinds.Item.{Item}
-use Rattle.bdb_base.specs.declared.kinds.Item.TheVariants.{Users, Rel}
+use Rattle.bdb_base.specs.declared.kinds.Item.TheVariants.{Rel}
 use Rattle.bdb_base.specs.declared.kinds.Operand.{Operand}
 use Rattle.bdb_base.specs.declared.kinds.Operand.TheVariants.{Col, Lit}
 use Rattle.bdb_base.specs.declared.kinds.Query.{Query}
 use Rattle.bdb_base.specs.declared.kinds.Ref.{Ref}
 use Rattle.bdb_base.specs.declared.kinds.RelDef.{RelDef}
-use Rattle.bdb_base.specs.declared.kinds.Sign.TheVariants.{Plus, Minus}
+use Rattle.bdb_base.specs.declared.kinds.Sign.TheVariants.{Minus}
 use Rattle.bdb_base.specs.Queries.{option_list, columns_at}
 use Rattle.bdb_base.specs.Safety.{is_given, same_column, is_equality, IsBound, IsSafe}
 

@@ -2,7 +2,7 @@
 ghost use Rattle.std.specs.Prelude.{◌≡◌, ◌≢◌, true, None, Some, IfOk, IfErr};
 ghost use Rattle.bdb_base.specs.Bases.{IsCatalog};
 ghost use Rattle.bdb_bind.specs.Lookup.{path_of};
-ghost use Rattle.bdb_bind.specs.Parts.{is_built, path_names, relation_place, change_columns};
+ghost use Rattle.bdb_bind.specs.Parts.{path_names, relation_place, change_columns};
 ghost use Rattle.bdb_bind.specs.Firsts.{Checks};
 ghost use Rattle.bdb_bind.specs.Refusal.{names_refused, refusal_of};
 ghost use Rattle.bdb_bind.specs.Binding.{bound_of};
@@ -82,11 +82,4 @@ fn check(
     check_arity(found.cols, command)?;
     check_kinds(alloc, catalog, found.cols, command)?;
     Ok(ids)
-}
-
-/// Whether a command is of a kind that is answered so far.
-pub fn is_built(command: &Command) -> bool
-    ensures { result ≡ is_built command.now }
-{
-    !matches!(command, Command::Explain { .. })
 }

@@ -23,7 +23,7 @@ mod shape;
 mod tests;
 mod unsafes;
 
-pub use binding::{bind, bind_by, is_built};
+pub use binding::{bind, bind_by};
 pub use bound::{BindError, Bound};
 pub use index::NameIndex;
 pub use laws::{test_tells_bound, test_tells_safe, what_is_bound_fits};

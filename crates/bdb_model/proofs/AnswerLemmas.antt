@@ -1,5 +1,5 @@
 -- The rows that are found are the answers.
-use Rattle.std.proofs.Common.{◌≡◌, ◌∙◌, ℕ, suc, ◌+◌, ◌^◌, ◌<◌, ◌≤◌, Bool, true, false, ◌&&◌, ◌||◌, inl, inr, nat_lt, nat_le, List, [], ◌∷◌, Option, None, Some, refl, ap, sym, subst, cond, length, map, arith}
+use Rattle.std.proofs.Common.{◌≡◌, ◌∙◌, ℕ, suc, ◌+◌, ◌^◌, ◌≤◌, Bool, true, false, ◌||◌, inl, inr, nat_lt, nat_le, List, [], ◌∷◌, Option, None, Some, refl, ap, sym, subst, length, map, arith}
 use Rattle.std.specs.declared.cmp.Ordering.{Ordering}
 use Rattle.std.specs.declared.cmp.Ordering.TheVariants.{Less, Equal, Greater}
 use Rattle.std.specs.List.{list_any, list_all, slice_get}
@@ -14,29 +14,29 @@ use Rattle.bdb_base.specs.declared.kinds.Query.{Query}
 use Rattle.bdb_base.specs.declared.kinds.Stmt.{Stmt}
 use Rattle.bdb_base.specs.declared.kinds.Value.{Value}
 use Rattle.bdb_base.specs.declared.tuple.Tuple.{Tuple}
-use Rattle.bdb_base.specs.Bases.{Contents, IsValid, is_valid_relation}
+use Rattle.bdb_base.specs.Bases.{Contents, IsValid}
 use Rattle.bdb_base.specs.Order.{row_cmp}
 use Rattle.bdb_base.specs.OrderLemmas.{row_exact}
 use Rattle.bdb_base.specs.Queries.{active_domain, HasValues, answers_of, answers_over, option_list}
-use Rattle.bdb_base.specs.Safety.{query_fits, item_fits, joins_one_kind, column_kind, IsSafe}
-use Rattle.bdb_base.specs.SortedSet.{is_member, put_at, put_in, sorted_set, put_all}
+use Rattle.bdb_base.specs.Safety.{query_fits, item_fits, IsSafe}
+use Rattle.bdb_base.specs.SortedSet.{put_at, put_in, sorted_set, put_all}
 use Rattle.bdb_base.proofs.SetLemmas.{set_is_ascending, set_keeps_members, is_eq_itself, loop_makes_set}
 use Rattle.bdb_queries.specs.QueryLaws.{IsHeldRow}
 use Rattle.bdb_queries.proofs.AnswerLemmas.{row_of_option}
 use Rattle.bdb_queries.proofs.DomainLemmas.{answers_are_what_holds, answers_need_no_domain}
-use Rattle.bdb_model.specs.Answering.{last_rows, rows_of_tuples, rows_of_worlds, rows_of_users, open_slots, all_rows}
+use Rattle.bdb_model.specs.Answering.{last_rows, rows_of_tuples, rows_of_users, open_slots, all_rows}
 use Rattle.bdb_model.specs.Choosing.{chosen_rows}
-use Rattle.bdb_model.specs.Collected.{Collected, has_room, with_row, with_rows}
+use Rattle.bdb_model.specs.Collected.{Collected, with_rows}
 use Rattle.bdb_model.specs.Limits.{up_to}
 use Rattle.bdb_model.specs.Pools.{item_world, user_pool, plus_pools, minus_pools}
-use Rattle.bdb_model.specs.Slots.{slot_at, may_all_hold, must_all_hold, known_row}
+use Rattle.bdb_model.specs.Slots.{slot_at, must_all_hold, known_row}
 use Rattle.bdb_model.specs.Sources.{AreSources}
 use Rattle.bdb_model.proofs.ChainLemmas.{Comes, come_below, come_hold}
 use Rattle.bdb_model.proofs.ChoosingLemmas.{with_rows_full}
-use Rattle.bdb_model.proofs.HoldingLemmas.{AreHeldSlots, held_slots_of_row, held_row_of_slots}
+use Rattle.bdb_model.proofs.HoldingLemmas.{held_slots_of_row, held_row_of_slots}
 use Rattle.bdb_model.proofs.PassLemmas.{Chosen, chosen_from_rows, rows_from_chosen}
-use Rattle.bdb_model.proofs.SlotLemmas.{Below, below_itself, below_then, below_may, below_path}
-use Rattle.bdb_model.proofs.WholeLemmas.{users_part, given_part, parts_below, AreSearched, held_come}
+use Rattle.bdb_model.proofs.SlotLemmas.{below_then, below_may, below_path}
+use Rattle.bdb_model.proofs.WholeLemmas.{users_part, given_part, parts_below, held_come}
 
 -- ---- lengths
 

@@ -1,7 +1,6 @@
 -- From choices at each stage to slots that hold.
-use Rattle.std.proofs.Common.{◌≡◌, ◌∙◌, ℕ, suc, ◌+◌, Bool, true, false, ◌&&◌, nat_lt, List, [], ◌∷◌, Option, None, Some, refl, inl, inr, ap, sym, subst, cond, length, map, arith}
-use Rattle.std.specs.List.{list_all, slice_get}
-use Rattle.std.specs.Option.{option_map, option_and_then}
+use Rattle.std.proofs.Common.{◌≡◌, ◌∙◌, ℕ, ◌+◌, true, false, ◌&&◌, nat_lt, List, [], ◌∷◌, Option, None, Some, refl, inl, inr, ap, sym, subst, length, map}
+use Rattle.std.specs.List.{slice_get}
 use Rattle.std.proofs.lemmas.Bool.{false≢true, cases_Bool, cond-true, cond-false, or_cases, and_parts}
 use Rattle.bdb_base.specs.declared.kinds.Cond.{Cond}
 use Rattle.bdb_base.specs.declared.kinds.Held.{Held}
@@ -9,20 +8,17 @@ use Rattle.bdb_base.specs.declared.kinds.Item.{Item}
 use Rattle.bdb_base.specs.declared.kinds.Item.TheVariants.{Users, Rel}
 use Rattle.bdb_base.specs.declared.kinds.RelDef.{RelDef}
 use Rattle.bdb_base.specs.declared.kinds.Sign.TheVariants.{Plus, Minus}
-use Rattle.bdb_base.specs.declared.kinds.Stmt.{Stmt}
 use Rattle.bdb_base.specs.declared.kinds.Value.{Value}
 use Rattle.bdb_base.specs.declared.kinds.Who.{Who}
 use Rattle.bdb_base.specs.declared.tuple.Tuple.{Tuple}
-use Rattle.bdb_base.specs.Alternation.{alternates}
 use Rattle.bdb_base.specs.Bases.{Contents, AreStatements, fits_relation, fits_definition}
 use Rattle.bdb_base.specs.Queries.{columns_at, path_believes}
 use Rattle.bdb_base.specs.Same.{same_tuple}
 use Rattle.bdb_base.specs.SameLemmas.{same_tuple-Decides}
-use Rattle.bdb_base.specs.Worlds.{believes}
 use Rattle.bdb_queries.proofs.FoundLemmas.{Found}
 use Rattle.bdb_model.specs.Answering.{open_slots}
 use Rattle.bdb_model.specs.Pools.{item_world, world_at, user_pool, plus_pools, minus_pools, sourced_values, tuple_of, denies, is_denied, denied_tuples}
-use Rattle.bdb_model.specs.Slots.{path_of, user_tuples}
+use Rattle.bdb_model.specs.Slots.{path_of}
 use Rattle.bdb_model.proofs.HoldingLemmas.{SlotsHold}
 use Rattle.bdb_model.proofs.PassLemmas.{Chosen}
 use Rattle.bdb_model.proofs.PoolLemmas.{found_nowhere, user_of_tuple, plus_is_believed, denied_at, believed_fits}

@@ -3,10 +3,8 @@ use Rattle.std.proofs.Common.{◌≡◌, ◌∙◌, ℕ, suc, ◌-◌, ◌<◌, 
 use Prim.Native.Nat.{zero}
 use Rattle.std.specs.List.{list_all, slice_get}
 use Rattle.std.specs.Option.{option_map, option_and_then, is_some}
-use Rattle.std.proofs.lemmas.Bool.{false≢true, cond-true, cond-false, and_parts, and_from, le-ltb, lt-ltb, leb-true, ltb-true}
+use Rattle.std.proofs.lemmas.Bool.{false≢true, cond-true, cond-false, and_parts, and_from, leb-true, ltb-true}
 use Rattle.std.proofs.lemmas.Bool.Decides.{Decides-eqb, nat_tests}
-use Rattle.std.proofs.lemmas.Option.{slice_get-map, slice_get_past}
-use Rattle.bdb_base.specs.declared.kinds.Cmp.{Cmp}
 use Rattle.bdb_base.specs.declared.kinds.Cond.{Cond}
 use Rattle.bdb_base.specs.declared.kinds.Item.{Item}
 use Rattle.bdb_base.specs.declared.kinds.Item.TheVariants.{Users, Rel}
@@ -21,7 +19,7 @@ use Rattle.bdb_base.specs.declared.kinds.Who.TheVariants.{User, Of}
 use Rattle.bdb_base.specs.declared.tuple.Tuple.{Tuple}
 use Rattle.bdb_base.specs.Bases.{Contents, is_user, fits_relation}
 use Rattle.bdb_base.specs.Conditions.{compare_so}
-use Rattle.bdb_base.specs.Queries.{Choice, ChosenUser, ChosenTuple, user_name, user_column, choice_column, chosen_value, chosen_operand, cond_holds, chosen_user, user_of, chosen_path, path_believes, item_holds, items_hold, holds_in, chosen_row}
+use Rattle.bdb_base.specs.Queries.{Choice, ChosenUser, ChosenTuple, user_name, user_column, choice_column, chosen_value, chosen_operand, cond_holds, chosen_user, user_of, chosen_path, path_believes, item_holds, items_hold, chosen_row}
 use Rattle.bdb_base.specs.Safety.{is_users_item, who_fits, fixed_differ, item_fits}
 use Rattle.bdb_queries.specs.QueryLaws.{IsHeldRow}
 use Rattle.bdb_model.specs.Slots.{slot_at, known, known_operand, must_hold, must_all_hold, known_row, uid_of, path_of, user_tuple}

@@ -1,9 +1,9 @@
 -- Slots that hold come by the three stages.
-use Rattle.std.proofs.Common.{◌≡◌, ◌∙◌, ℕ, suc, ◌+◌, ◌<◌, Bool, true, false, ◌&&◌, nat_lt, nat_le, List, [], ◌∷◌, Option, None, Some, inl, inr, refl, ap, sym, subst, cond, length, map, arith}
+use Rattle.std.proofs.Common.{◌≡◌, ◌∙◌, ℕ, suc, ◌+◌, true, false, ◌&&◌, nat_lt, nat_le, List, [], ◌∷◌, Option, None, Some, refl, ap, sym, subst, length, map, arith}
 use Prim.Native.Nat.{zero}
 use Rattle.std.specs.List.{list_all, slice_get}
 use Rattle.std.specs.Option.{option_map, option_and_then, is_some}
-use Rattle.std.proofs.lemmas.Bool.{false≢true, cond-true, cond-false, and_parts, and_from, lt-ltb, ltb-true}
+use Rattle.std.proofs.lemmas.Bool.{false≢true, cond-true, cond-false, and_parts, and_from, lt-ltb}
 use Rattle.bdb_base.specs.declared.kinds.ColDef.{ColDef}
 use Rattle.bdb_base.specs.declared.kinds.Cond.{Cond}
 use Rattle.bdb_base.specs.declared.kinds.Item.{Item}
@@ -18,17 +18,16 @@ use Rattle.bdb_base.specs.declared.kinds.Value.{Value}
 use Rattle.bdb_base.specs.declared.kinds.Who.{Who}
 use Rattle.bdb_base.specs.declared.kinds.Who.TheVariants.{User, Of}
 use Rattle.bdb_base.specs.declared.tuple.Tuple.{Tuple}
-use Rattle.bdb_base.specs.Bases.{Contents, IsCatalog, is_valid_relation, fits_kind, fits_columns, fits_definition, fits_relation}
+use Rattle.bdb_base.specs.Bases.{Contents, is_valid_relation, fits_kind, fits_columns, fits_definition, fits_relation}
 use Rattle.bdb_base.specs.Queries.{columns_of_definition, columns_at, path_believes}
-use Rattle.bdb_base.specs.Safety.{is_given, is_minus, is_users_item, who_fits, fixed_differ, item_fits, item_kinds, column_kind, is_equality, IsMinusColumn, IsSafe}
+use Rattle.bdb_base.specs.Safety.{is_given, is_minus, is_users_item, who_fits, fixed_differ, item_fits, item_kinds, column_kind, is_equality, IsSafe}
 use Rattle.bdb_queries.proofs.FoundLemmas.{Found, found_first}
 use Rattle.bdb_model.specs.Answering.{open_slots}
-use Rattle.bdb_model.specs.Pools.{item_world, world_at, user_pool, plus_pools, minus_pools, sourced_value, sourced_values, tuple_of, denies, is_denied, denied_tuples}
+use Rattle.bdb_model.specs.Pools.{world_at, sourced_value, sourced_values, tuple_of, denies, is_denied, denied_tuples}
 use Rattle.bdb_model.specs.Slots.{slot_at, known, known_operand, must_hold, must_all_hold, uid_of, path_of, user_tuple}
 use Rattle.bdb_model.specs.Sources.{source_of, source_in, is_simple, is_source, AreSources}
 use Rattle.bdb_model.proofs.ChainLemmas.{Comes}
 use Rattle.bdb_model.proofs.HoldingLemmas.{SlotsHold}
-use Rattle.bdb_model.proofs.PassLemmas.{Chosen}
 use Rattle.bdb_model.proofs.PoolLemmas.{found_user_tuple, believed_is_plus, believed_at}
 use Rattle.bdb_model.proofs.SlotLemmas.{Below}
 use Rattle.bdb_model.proofs.SourceLemmas.{found_source, source_value}

@@ -1,5 +1,5 @@
 -- What can be chosen for the items of a query.
-use Rattle.std.specs.Prelude.{ℕ, ◌+◌, Bool, ◌&&◌, nat_eq, nat_lt, List, [], ◌∷◌, map, filter, length, find, Option, None, Some, cond}
+use Rattle.std.specs.Prelude.{ℕ, ◌+◌, Bool, ◌&&◌, nat_eq, nat_lt, List, [], ◌∷◌, map, filter, length, Option, None, Some, cond}
 use Rattle.std.specs.List.{list_any, slice_get}
 use Rattle.std.specs.Option.{option_map, option_and_then}
 use Rattle.bdb_base.specs.declared.kinds.ColDef.{ColDef}

@@ -1,6 +1,6 @@
 -- What is chosen so far for a query's items: for each item a tuple, or nothing yet. A chosen user stands as a tuple of its
 -- number and name, with its number in place of a relation's.
-use Rattle.std.specs.Prelude.{ℕ, Bool, true, suc, List, [], ◌∷◌, map, Option, None, Some, pos, slice_set}
+use Rattle.std.specs.Prelude.{ℕ, Bool, true, suc, List, [], ◌∷◌, Option, Some, pos}
 use Rattle.std.specs.List.{list_all, slice_get}
 use Rattle.std.specs.Option.{option_map, option_and_then}
 use Rattle.bdb_base.specs.declared.kinds.Cmp.{Cmp}

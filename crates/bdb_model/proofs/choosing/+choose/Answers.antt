@@ -1,4 +1,4 @@
-use Rattle.std.proofs.Common.{◌≡◌, ◌∙◌, ap, ℕ, ◌+◌, ◌-◌, true, take, drop, length, rules}
+use Rattle.std.proofs.Common.{◌≡◌, ◌∙◌, ap, ◌+◌, ◌-◌, true, take, drop, length, rules}
 use Rattle.bdb_model.specs.Choosing.{chosen_rows, rows_with}
 use Rattle.bdb_model.specs.Collected.{with_rows}
 use Rattle.bdb_model.specs.Slots.{may_all_hold}

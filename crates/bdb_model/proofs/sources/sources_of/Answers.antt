@@ -1,4 +1,4 @@
-use Rattle.std.proofs.Common.{◌≡◌, ◌∙◌, ◌<◌, ap, sym, subst, rules, Some, None, true, length}
+use Rattle.std.proofs.Common.{◌≡◌, ◌∙◌, ◌<◌, ap, sym, subst, rules, Some, None, length}
 use Rattle.std.specs.List.{list_all}
 use Rattle.bdb_model.specs.Slots.{must_all_hold}
 use Rattle.bdb_model.specs.Sources.{next_source, is_source, missing}

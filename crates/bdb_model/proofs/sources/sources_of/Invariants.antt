@@ -1,6 +1,5 @@
-use Rattle.std.proofs.Common.{◌≡◌, List, Option, Bool, true, filter, length, not}
-use Rattle.std.specs.List.{list_all, flat_map}
-use Rattle.std.specs.Option.{is_some}
+use Rattle.std.proofs.Common.{◌≡◌, List, Option, true, length}
+use Rattle.std.specs.List.{list_all}
 use Rattle.bdb_base.specs.declared.tuple.Tuple.{Tuple}
 use Rattle.bdb_model.specs.Slots.{must_all_hold}
 use Rattle.bdb_model.specs.Sources.{is_source, missing}
