@@ -1,8 +1,9 @@
 // Answers over small bases. Alice is user 1, Bob is user 2; S has the columns k and v, N the number n.
 use crate::queries::rows_up_to;
+use crate::{answers as all_answers, answers_up_to};
 use bdb_base::{
-    Catalog, Cmp, ColDef, Cond, Exact, Item, Kind, List, Operand, Path, Query, Ref, RelDef, Sign,
-    Stmt, Tuple, Txt, Value, Who,
+    Base, Catalog, Cmp, ColDef, Cond, Item, Kind, List, Operand, Path, Query, Ref, RelDef, Sign, Stmt,
+    Tuple, Txt, Value, Who,
 };
 use std::alloc::{AllocError, Global};
 use std::test::Fail;
@@ -10,14 +11,8 @@ use std::test::Fail;
 /// A statement of S: its path, its sign, and its two columns.
 type Given<'a> = (&'a [u32], Sign, &'a str, &'a str);
 
-/// An item of a query: a `Users` item, or one of S with a sign and a path.
-type Asked<'a> = Option<(Sign, &'a [Who])>;
-
 /// A column of an item, both by place.
 type Column = (u32, u32);
-
-/// A column that equals another, or else a text.
-type Equal<'a> = (Column, Option<Column>, &'a str);
 
 const EAGLE: Given = (&[], Sign::Plus, "s1", "eagle");
 
@@ -25,56 +20,69 @@ const BOB_DENIES: Given = (&[2], Sign::Minus, "s1", "eagle");
 
 const CROW: Given = (&[1], Sign::Plus, "s1", "crow");
 
+// An item is `u` for the users, or its sign and its path: `a` for Alice, `b` for Bob, or the place of a `Users` item.
 #[test]
 fn answers(rt: HostRuntime) -> Result<(), Fail> {
     let alloc = rt.alloc();
-    let of_first = [Who::Of(0)];
-    let of_both = [Who::Of(0), Who::Of(1)];
-    let of_alice = [Who::User(1), Who::Of(0)];
-    let bob = [Who::User(2)];
-    let cases: [(&[Given], &[Asked], &[Equal], &[Column], &str); 4] = [
+    let cases: [(&[Given], &[&str], &[(Column, Column)], &[(Column, &str)], &[Column], &str); 4] = [
         (
             &[EAGLE, CROW, BOB_DENIES],
-            &[
-                None,
-                Some((Sign::Plus, &[])),
-                Some((Sign::Minus, &of_first)),
-            ],
-            &[((2, 0), Some((1, 0)), ""), ((2, 1), Some((1, 1)), "")],
+            &["u", "+", "-0"],
+            &[((2, 0), (1, 0)), ((2, 1), (1, 1))],
+            &[],
             &[(0, 1)],
             "Alice; Bob; ",
         ),
         (
             &[EAGLE],
-            &[None, None, Some((Sign::Plus, &of_both))],
-            &[((2, 0), None, "s1")],
+            &["u", "u", "+01"],
+            &[],
+            &[((2, 0), "s1")],
             &[(0, 1), (1, 1)],
             "Alice Bob; Bob Alice; ",
         ),
         (
             &[EAGLE, BOB_DENIES],
-            &[None, Some((Sign::Minus, &of_alice))],
-            &[((1, 0), None, "s1"), ((1, 1), None, "eagle")],
+            &["u", "-a0"],
+            &[],
+            &[((1, 0), "s1"), ((1, 1), "eagle")],
             &[(0, 1)],
             "Bob; ",
         ),
         (
             &[],
-            &[Some((Sign::Minus, &bob))],
-            &[((0, 0), None, "s1"), ((0, 1), None, "crow")],
+            &["-b"],
+            &[],
+            &[((0, 0), "s1"), ((0, 1), "crow")],
             &[(0, 1)],
             "",
         ),
     ];
     let catalog = catalog_of(alloc)?;
     assert!(rt; catalog.users.len() <= 256);
-    for (given, items, conds, take, want) in cases {
+    for (given, items, joins, pins, take, want) in cases {
         let stmts = stmts_of(alloc, given)?;
-        let q = query_of(alloc, items, conds, take)?;
+        let q = query_of(alloc, items, joins, pins, take)?;
         let rows = rows_up_to(alloc, &catalog, stmts.as_slice(), &q, 10)?;
         let text = text_of(alloc, &rows.ok_or("many")?)?;
         assert_eq!(rt; text.as_str(), want);
     }
+    Ok(())
+}
+
+// A query with no item has the one answer with no column.
+#[test]
+fn limits(rt: HostRuntime) -> Result<(), Fail> {
+    let alloc = rt.alloc();
+    let base = Base::empty(alloc);
+    let q = Query {
+        take: List::new(alloc),
+        items: List::new(alloc),
+        conds: List::new(alloc),
+    };
+    assert_eq!(rt; all_answers(alloc, &base, &q)?.len(), 1);
+    assert!(rt; answers_up_to(alloc, &base, &q, 1)?.is_some());
+    assert!(rt; answers_up_to(alloc, &base, &q, 0)?.is_none());
     Ok(())
 }
 
@@ -115,54 +123,62 @@ fn stmts_of(alloc: Global, given: &[Given]) -> Result<List<Stmt>, Fail> {
 
 fn query_of(
     alloc: Global,
-    items: &[Asked],
-    conds: &[Equal],
+    items: &[&str],
+    joins: &[(Column, Column)],
+    pins: &[(Column, &str)],
     take: &[Column],
 ) -> Result<Query, AllocError> {
-    let mut q = Query {
-        take: List::new(alloc),
-        items: List::new(alloc),
-        conds: List::new(alloc),
-    };
-    for asked in items {
-        q.items.push(item_of(alloc, asked)?)?;
+    let mut all = List::new(alloc);
+    for text in items {
+        all.push(item_of(alloc, *text)?)?;
     }
-    for (left, column, text) in conds {
-        q.conds.push(Cond {
-            left: ref_of(*left),
-            cmp: Cmp::Eq,
-            right: operand_of(alloc, *column, *text)?,
-        })?;
+    let mut conds = List::new(alloc);
+    for (left, right) in joins {
+        conds.push(equality(*left, Operand::Col(ref_of(*right))))?;
     }
+    for (left, text) in pins {
+        let value = Value::Text(Txt::try_new(alloc, *text)?);
+        conds.push(equality(*left, Operand::Lit(value)))?;
+    }
+    let mut selected = List::new(alloc);
     for column in take {
-        q.take.push(ref_of(*column))?;
+        selected.push(ref_of(*column))?;
     }
-    Ok(q)
+    Ok(Query {
+        take: selected,
+        items: all,
+        conds,
+    })
 }
 
-fn item_of(alloc: Global, asked: &Asked) -> Result<Item, AllocError> {
+fn item_of(alloc: Global, text: &str) -> Result<Item, AllocError> {
     let alias = Txt::try_new(alloc, "X")?;
-    match asked {
-        Some((sign, whos)) => {
-            let mut path = List::new(alloc);
-            for who in *whos {
-                path.push(*who)?;
-            }
-            Ok(Item::Rel {
-                alias,
-                rel: 0,
-                sign: *sign,
-                path,
-            })
+    let mut sign = Sign::Plus;
+    let mut path = List::new(alloc);
+    for byte in text.as_bytes() {
+        match *byte {
+            b'u' => return Ok(Item::Users { alias }),
+            b'-' => sign = Sign::Minus,
+            b'a' => path.push(Who::User(1))?,
+            b'b' => path.push(Who::User(2))?,
+            b'0' => path.push(Who::Of(0))?,
+            b'1' => path.push(Who::Of(1))?,
+            _ => {}
         }
-        None => Ok(Item::Users { alias }),
     }
+    Ok(Item::Rel {
+        alias,
+        rel: 0,
+        sign,
+        path,
+    })
 }
 
-fn operand_of(alloc: Global, column: Option<Column>, text: &str) -> Result<Operand, AllocError> {
-    match column {
-        Some(column) => Ok(Operand::Col(ref_of(column))),
-        None => Ok(Operand::Lit(Value::Text(Txt::try_new(alloc, text)?))),
+fn equality(left: Column, right: Operand) -> Cond {
+    Cond {
+        left: ref_of(left),
+        cmp: Cmp::Eq,
+        right,
     }
 }
 
