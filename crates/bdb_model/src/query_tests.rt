@@ -2,8 +2,8 @@
 use crate::queries::rows_up_to;
 use crate::{answers as all_answers, answers_up_to};
 use bdb_base::{
-    Base, Catalog, Cmp, ColDef, Cond, Item, Kind, List, Operand, Path, Query, Ref, RelDef, Sign, Stmt,
-    Tuple, Txt, Value, Who,
+    Base, Catalog, Cmp, ColDef, Cond, Item, Kind, List, Operand, Path, Query, Ref, RelDef, Sign,
+    Stmt, Tuple, Txt, Value, Who,
 };
 use std::alloc::{AllocError, Global};
 use std::test::Fail;
@@ -24,7 +24,14 @@ const CROW: Given = (&[1], Sign::Plus, "s1", "crow");
 #[test]
 fn answers(rt: HostRuntime) -> Result<(), Fail> {
     let alloc = rt.alloc();
-    let cases: [(&[Given], &[&str], &[(Column, Column)], &[(Column, &str)], &[Column], &str); 4] = [
+    let cases: [(
+        &[Given],
+        &[&str],
+        &[(Column, Column)],
+        &[(Column, &str)],
+        &[Column],
+        &str,
+    ); 4] = [
         (
             &[EAGLE, CROW, BOB_DENIES],
             &["u", "+", "-0"],
