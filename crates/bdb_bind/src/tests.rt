@@ -25,11 +25,11 @@ fn curators(alloc: Global) -> Result<Catalog, AllocError>
     Ok(Catalog { rels, users })
 }
 
-/// The texts as names.
-fn names(alloc: Global, texts: &[&str]) -> Result<List<Txt>, AllocError> {
+/// The words of a line as names.
+fn names(alloc: Global, line: &str) -> Result<List<Txt>, AllocError> {
     let mut list = List::new(alloc);
-    for text in texts {
-        list.push(Txt::try_new(alloc, text)?)?;
+    for word in line.split_whitespace() {
+        list.push(Txt::try_new(alloc, word)?)?;
     }
     Ok(list)
 }
@@ -42,20 +42,16 @@ fn value(alloc: Global, content: &str) -> Result<Value, AllocError> {
     Ok(Value::Text(Txt::try_new(alloc, content)?))
 }
 
-fn values(alloc: Global, contents: &[&str]) -> Result<List<Value>, AllocError> {
+/// The words of a line as values.
+fn values(alloc: Global, line: &str) -> Result<List<Value>, AllocError> {
     let mut list = List::new(alloc);
-    for content in contents {
-        list.push(value(alloc, content)?)?;
+    for word in line.split_whitespace() {
+        list.push(value(alloc, word)?)?;
     }
     Ok(list)
 }
 
-fn insert(
-    alloc: Global,
-    users: List<Txt>,
-    rel: &str,
-    vals: &[&str],
-) -> Result<Command, AllocError> {
+fn insert(alloc: Global, users: List<Txt>, rel: &str, vals: &str) -> Result<Command, AllocError> {
     let sign = Sign::Plus;
     let rel = Txt::try_new(alloc, rel)?;
     let vals = values(alloc, vals)?;
@@ -116,39 +112,15 @@ fn wrong_index(alloc: Global, catalog: &Catalog) -> Result<NameIndex, AllocError
 fn inserts_are_bound_or_refused(rt: HostRuntime) -> Result<(), Fail> {
     let alloc = rt.alloc();
     let rows = [
-        (
-            ["Bob", "Bob"].as_slice(),
-            "S",
-            ["-"].as_slice(),
-            "repeat",
-            "",
-        ),
-        (
-            ["Bob", "Bob"].as_slice(),
-            "S",
-            ["a", "b"].as_slice(),
-            "repeat",
-            "",
-        ),
-        ([].as_slice(), "S", ["-", "-"].as_slice(), "kind", "k"),
-        ([].as_slice(), "S", ["-", "x"].as_slice(), "kind", "k"),
-        ([].as_slice(), "S", ["a", "-"].as_slice(), "kind", "v"),
-        ([].as_slice(), "S", ["a"].as_slice(), "arity", ""),
-        (["Zoe"].as_slice(), "T", ["-"].as_slice(), "relation", "T"),
-        (
-            ["Bob", "Zoe", "Yan"].as_slice(),
-            "S",
-            ["-"].as_slice(),
-            "user",
-            "Zoe",
-        ),
-        (
-            ["Bob", "Alice"].as_slice(),
-            "S",
-            ["a", "b"].as_slice(),
-            "ok",
-            "",
-        ),
+        ("Bob Bob", "S", "-", "repeat", ""),
+        ("Bob Bob", "S", "a b", "repeat", ""),
+        ("", "S", "- -", "kind", "k"),
+        ("", "S", "- x", "kind", "k"),
+        ("", "S", "a -", "kind", "v"),
+        ("", "S", "a", "arity", ""),
+        ("Zoe", "T", "-", "relation", "T"),
+        ("Bob Zoe Yan", "S", "-", "user", "Zoe"),
+        ("Bob Alice", "S", "a b", "ok", ""),
     ];
     for (users, rel, vals, word, named) in rows {
         let command = insert(alloc, names(alloc, users)?, rel, vals)?;
@@ -178,12 +150,19 @@ fn whos(alloc: Global, who: &str) -> Result<List<RawWho>, AllocError> {
     Ok(path)
 }
 
-/// Items: a path of one user or none, `not` or nothing, the relation, the alias.
-fn items(alloc: Global, rows: &[(&str, &str, &str, &str)]) -> Result<List<RawItem>, AllocError> {
+/// Up to two items, four words each: a path of one user or `-`, `not` or `-`, the relation, the alias.
+fn items(alloc: Global, line: &str) -> Result<List<RawItem>, AllocError> {
     let mut list = List::new(alloc);
-    for (who, not, rel, alias) in rows {
+    let mut words = line.split_whitespace();
+    for _ in 0..2 {
+        let (Some(who), Some(not)) = (words.next(), words.next()) else {
+            return Ok(list);
+        };
+        let (Some(rel), Some(alias)) = (words.next(), words.next()) else {
+            return Ok(list);
+        };
         let path = whos(alloc, who)?;
-        let sign = if *not == "not" {
+        let sign = if not == "not" {
             Sign::Minus
         } else {
             Sign::Plus
@@ -200,10 +179,17 @@ fn items(alloc: Global, rows: &[(&str, &str, &str, &str)]) -> Result<List<RawIte
     Ok(list)
 }
 
-/// Comparisons of a column with a text.
-fn conds(alloc: Global, rows: &[(&str, &str, &str)]) -> Result<List<RawCond>, AllocError> {
+/// Up to two comparisons of a column with a text, three words each.
+fn conds(alloc: Global, line: &str) -> Result<List<RawCond>, AllocError> {
     let mut list = List::new(alloc);
-    for (alias, name, text) in rows {
+    let mut words = line.split_whitespace();
+    for _ in 0..2 {
+        let (Some(alias), Some(name)) = (words.next(), words.next()) else {
+            return Ok(list);
+        };
+        let Some(text) = words.next() else {
+            return Ok(list);
+        };
         let left = col(alloc, alias, name)?;
         let right = RawSide::Lit(value(alloc, text)?);
         list.push(RawCond {
@@ -243,55 +229,15 @@ fn is_query_outcome(
 #[test]
 fn queries_are_bound_or_refused(rt: HostRuntime) -> Result<(), Fail> {
     let alloc = rt.alloc();
-    let one = [("", "", "S", "X")];
-    let denied = [("Bob", "not", "S", "Y")];
-    let key = [("Y", "k", "s1")];
-    let both = [("Y", "k", "s1"), ("Y", "v", "crow")];
-    let unknown = [("", "", "T", "X")];
-    let twice = [("", "", "S", "X"), ("", "", "S", "X")];
-    let later = [("U.uid", "", "S", "X"), ("", "", "Users", "U")];
-    let no_users = [("", "not", "Users", "U")];
     let rows = [
-        (
-            "X",
-            "k",
-            unknown.as_slice(),
-            [].as_slice(),
-            "relation",
-            "",
-            "T",
-        ),
-        ("X", "z", one.as_slice(), [].as_slice(), "column", "X", "z"),
-        ("Z", "k", one.as_slice(), [].as_slice(), "alias", "", "Z"),
-        (
-            "X",
-            "k",
-            twice.as_slice(),
-            [].as_slice(),
-            "alias twice",
-            "",
-            "X",
-        ),
-        (
-            "Y",
-            "v",
-            denied.as_slice(),
-            key.as_slice(),
-            "unsafe",
-            "Y",
-            "v",
-        ),
-        ("Y", "v", denied.as_slice(), both.as_slice(), "ok", "", ""),
-        ("U", "name", later.as_slice(), [].as_slice(), "ok", "", ""),
-        (
-            "U",
-            "name",
-            no_users.as_slice(),
-            [].as_slice(),
-            "relation",
-            "",
-            "Users",
-        ),
+        ("X", "k", "- - T X", "", "relation", "", "T"),
+        ("X", "z", "- - S X", "", "column", "X", "z"),
+        ("Z", "k", "- - S X", "", "alias", "", "Z"),
+        ("X", "k", "- - S X - - S X", "", "alias twice", "", "X"),
+        ("Y", "v", "Bob not S Y", "Y k s1", "unsafe", "Y", "v"),
+        ("Y", "v", "Bob not S Y", "Y k s1 Y v crow", "ok", "", ""),
+        ("U", "name", "U.uid - S X - - Users U", "", "ok", "", ""),
+        ("U", "name", "- not Users U", "", "relation", "", "Users"),
     ];
     for (from, name, froms, tests, word, alias, named) in rows {
         let mut take = List::new(alloc);

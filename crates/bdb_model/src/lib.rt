@@ -10,8 +10,6 @@ mod found;
 mod levels;
 mod pools;
 mod queries;
-#[cfg(test)]
-mod query_tests;
 mod rows;
 mod slots;
 mod sources;
