@@ -158,9 +158,19 @@ fn scripts_and_replies(rt: HostRuntime) -> Result<(), Fail> {
             1,
         ),
         (
-            "select X.k from S X; show tables;",
-            "error syntax\nerror syntax\n",
+            "insert into S values('s1','eagle'); insert into BELIEF 'Bob' not S values('s1','eagle'); insert into BELIEF 'Alice' S values('s1','crow'); select U.name from Users U, S X, BELIEF U.uid not S Y where Y.k = X.k and Y.v = X.v;",
+            "ok 1\nok 1\nok 1\n'Alice'\n'Bob'\nok 2\n",
+            0,
+        ),
+        (
+            "select Y.v from BELIEF 'Bob' not S Y where Y.k = 's1'; select Y.v from BELIEF 'Bob' not S Y where Y.k = 's1' and Y.v = 'crow'; explain select X.k from S X;",
+            "error unsafe Y.v\nok 0\nerror syntax\n",
             1,
+        ),
+        (
+            "insert into BELIEF 'Alice' BELIEF 'Bob' S values('s1','eagle'); show tables;",
+            "ok 1\nuser 1 'Alice'\nuser 2 'Bob'\nrelation S(k text, v text)\ntuple S('s1', 'eagle')\nworld / depth 0\nworld /'Alice' depth 1 suffix /\nworld /'Alice'/'Bob' depth 2 suffix /\nedge / 'Alice' /'Alice'\nedge / 'Bob' /\nedge /'Alice' 'Bob' /'Alice'/'Bob'\nedge /'Alice'/'Bob' 'Alice' /'Alice'\nrow /'Alice'/'Bob' + S('s1', 'eagle') explicit\nok 12\n",
+            0,
         ),
         ("insert into S values('a", "error unfinished\n", 1),
     ];
