@@ -1,5 +1,5 @@
-// States, suffixes and counts of a short session. Alice is user 1, Bob is user 2, Carol is user 3.
-use crate::{deepest_suffix, new_state_count, states_of};
+// States and counts of a short session. Alice is user 1, Bob is user 2, Carol is user 3.
+use crate::{new_state_count, states_of};
 use bdb_base::{List, Path, Sign, Stmt, Tuple, Value};
 use std::alloc::Global;
 use std::test::Fail;
@@ -27,17 +27,6 @@ fn states_are_prefixes(rt: HostRuntime) -> Result<(), Fail> {
     assert_eq!(rt; states.len(), 4);
     for (state, users) in states.as_slice().iter().zip(&want) {
         assert_eq!(rt; state.as_slice(), *users);
-    }
-    let suffixes: [(&[u32], usize); 6] = [
-        (&[], 0),
-        (&[2], 0),
-        (&[3, 2], 0),
-        (&[2, 1], 1),
-        (&[1, 3], 2),
-        (&[2, 3, 1], 3),
-    ];
-    for (path, place) in suffixes {
-        assert_eq!(rt; deepest_suffix(states.as_slice(), path), place);
     }
     let counts: [(&[u32], usize); 5] = [
         (&[], 0),
