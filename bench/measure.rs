@@ -216,7 +216,7 @@ fn inserting(bench: &Bench) {
         insert_row(bench, &format!("{count} at one path, all tuples different"), 1, at_one_path(1, count));
     }
     for count in [1_000, 2_000, 5_000, 10_000, 20_000] {
-        insert_row(bench, &format!("{count} at so many paths, over 1,000 tuples"), 256, at_many_paths(count));
+        insert_row(bench, &format!("{count} at up to 1,600 paths, over 1,000 tuples"), 256, at_many_paths(count));
     }
 }
 

@@ -77,14 +77,15 @@ pub fn at_one_path(uid: u32, count: usize) -> Vec<Stmt> {
     mixed(count).map(|number| statement(vec![uid], number)).collect()
 }
 
-/// Statements of different paths of two users each, over 1,000 tuples.
+/// Statements of up to 1,600 different paths of two users each, over 1,000 tuples.
 pub fn at_many_paths(count: usize) -> Vec<Stmt> {
+    let paths = 1_600;
     let path = |number: usize| {
         let (first, second) = (number / 255, number % 255);
         let second = if second < first { second } else { second + 1 };
         vec![first as u32 + 1, second as u32 + 1]
     };
-    mixed(count).map(|number| statement(path(number), number % 1_000)).collect()
+    mixed(count).map(|number| statement(path(number % paths), (number % paths + number / paths) % 1_000)).collect()
 }
 
 /// A path of two users who take turns, ending with the second.

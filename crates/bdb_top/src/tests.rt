@@ -100,7 +100,7 @@ fn ran_again(alloc: Global, first: &[&str], next: &[&str]) -> Result<(u8, MemSin
     Ok((status, out, keeper.commits()))
 }
 
-/// The same over a keeper that fails these calls.
+/// The status, the replies and the keeper of a script over a keeper that fails these calls.
 fn ran_failing(
     alloc: Global,
     script: &[&str],
