@@ -26,7 +26,7 @@ const COMMANDS: [&str; 4] = [
 const REPLIES: &[u8] = b"ok\nok\nok\nok 1\n";
 
 /// How many bytes of replies a sink of these tests takes.
-const ROOM: usize = 4096;
+const ROOM: usize = 2_000_000;
 
 fn words(alloc: Global) -> Result<List<Txt>, Fail> {
     let mut words = List::new(alloc);
@@ -163,6 +163,31 @@ fn scripts_and_replies(rt: HostRuntime) -> Result<(), Fail> {
             0,
         ),
         (
+            "insert into BELIEF 'Bob' BELIEF 'Bob' S values(1); insert into BELIEF 'Bob' BELIEF 'Bob' S values('a','b'); insert into S values(1,2); insert into S values('a',1); insert into S values('a'); insert into BELIEF 'Zoe' T values(1); insert into BELIEF 'Zoe' S values(1); create relation T(k text, k int); create relation S(k text, k int);",
+            "error repeat\nerror repeat\nerror kind k\nerror kind v\nerror arity\nerror relation T\nerror user 'Zoe'\nerror taken k\nerror taken S\n",
+            1,
+        ),
+        (
+            "select X.k from T X; select X.z from S X; select Z.k from S X; select X.k from S X, S X; select U.name from BELIEF U.uid S X, Users U; select U.name from not Users U;",
+            "error relation T\nerror column X.z\nerror alias Z\nerror alias twice X\nok 0\nerror relation Users\n",
+            1,
+        ),
+        (
+            "insert into S values('s1','eagle'); select U.name, W.name from Users U, Users W, BELIEF U.uid BELIEF W.uid S X where X.k = 's1';",
+            "ok 1\n'Alice', 'Bob'\n'Bob', 'Alice'\nok 2\n",
+            0,
+        ),
+        (
+            "insert into S values('s1','eagle'); insert into BELIEF 'Bob' not S values('s1','eagle'); show world BELIEF 'Alice' BELIEF 'Bob' BELIEF 'Alice' BELIEF 'Bob' BELIEF 'Alice' BELIEF 'Bob' BELIEF 'Alice' BELIEF 'Bob' BELIEF 'Alice' BELIEF 'Bob' BELIEF 'Alice' BELIEF 'Bob' BELIEF 'Alice' BELIEF 'Bob' BELIEF 'Alice' BELIEF 'Bob' BELIEF 'Alice' BELIEF 'Bob' BELIEF 'Alice' BELIEF 'Bob' BELIEF 'Alice' BELIEF 'Bob' BELIEF 'Alice' BELIEF 'Bob' BELIEF 'Alice' BELIEF 'Bob' BELIEF 'Alice' BELIEF 'Bob' BELIEF 'Alice' BELIEF 'Bob' BELIEF 'Alice' BELIEF 'Bob' BELIEF 'Alice' BELIEF 'Bob' BELIEF 'Alice' BELIEF 'Bob' BELIEF 'Alice' BELIEF 'Bob' BELIEF 'Alice' BELIEF 'Bob'; select U.name from Users U, BELIEF 'Alice' BELIEF U.uid not S Y where Y.k = 's1' and Y.v = 'eagle';",
+            "ok 1\nok 1\n- S('s1', 'eagle') inherited\nok 1\n'Bob'\nok 1\n",
+            0,
+        ),
+        (
+            "create user 'Carol'; insert into BELIEF 'Carol' BELIEF 'Alice' S values('s1','eagle'); insert into BELIEF 'Alice' S values('s2','crow'); show tables;",
+            "ok\nok 1\nok 1\nuser 1 'Alice'\nuser 2 'Bob'\nuser 3 'Carol'\nrelation S(k text, v text)\ntuple S('s1', 'eagle')\ntuple S('s2', 'crow')\nworld / depth 0\nworld /'Alice' depth 1 suffix /\nworld /'Carol' depth 1 suffix /\nworld /'Carol'/'Alice' depth 2 suffix /'Alice'\nedge / 'Alice' /'Alice'\nedge / 'Bob' /\nedge / 'Carol' /'Carol'\nedge /'Alice' 'Bob' /\nedge /'Alice' 'Carol' /'Carol'\nedge /'Carol' 'Alice' /'Carol'/'Alice'\nedge /'Carol' 'Bob' /\nedge /'Carol'/'Alice' 'Bob' /\nedge /'Carol'/'Alice' 'Carol' /'Carol'\nrow /'Alice' + S('s2', 'crow') explicit\nrow /'Carol'/'Alice' + S('s1', 'eagle') explicit\nrow /'Carol'/'Alice' + S('s2', 'crow') inherited\nok 22\n",
+            0,
+        ),
+        (
             "select Y.v from BELIEF 'Bob' not S Y where Y.k = 's1'; select Y.v from BELIEF 'Bob' not S Y where Y.k = 's1' and Y.v = 'crow'; explain select X.k from S X;",
             "error unsafe Y.v\nok 0\nerror syntax\n",
             1,
@@ -184,6 +209,24 @@ fn scripts_and_replies(rt: HostRuntime) -> Result<(), Fail> {
             "{script}"
         );
     }
+    Ok(())
+}
+
+#[test]
+fn answers_have_a_limit(rt: HostRuntime) -> Result<(), Fail> {
+    let rows = [
+        SETUP,
+        "create relation N(k int); insert into N values(0); insert into N values(1); insert into N values(2); insert into N values(3);",
+        "insert into N values(4); insert into N values(5); insert into N values(6); insert into N values(7); insert into N values(8);",
+        "insert into N values(9); select A.k, B.k, C.k, D.k, E.k from N A, N B, N C, N D, N E;",
+        "insert into N values(10); select A.k, B.k, C.k, D.k, E.k from N A, N B, N C, N D, N E;",
+    ];
+    let (status, out, _) = ran_quietly(rt.alloc(), &rows)?;
+    assert_eq!(rt; status, 1);
+    assert!(rt;
+        out.bytes()
+            .ends_with(b"\n9, 9, 9, 9, 9\nok 100000\nok 1\nerror many\n")
+    );
     Ok(())
 }
 
