@@ -1,12 +1,18 @@
 #!/bin/sh
-# Measures the built program and prints a table of the figures in docs/PERFORMANCE.md.
-#   bench/run.sh PROGRAM [RUNS]
-# PROGRAM is the built beliefdb. Each figure is the least of RUNS runs (5 where none is named). Nothing is left behind.
+# Measures the built program, and the small program for what no script can reach, and prints tables of figures for
+# docs/PERFORMANCE.md.
+#   bench/run.sh PROGRAM [RUNS [SMALL]]
+# PROGRAM is the built beliefdb, SMALL the built bdb_bench (which is left out where none is named; it wants python3, whose sqlite3
+# it measures beside). Each figure is the least of RUNS runs (5 where none is named). Nothing is left behind.
 set -eu
-[ $# -ge 1 ] || { echo "usage: bench/run.sh PROGRAM [RUNS]" >&2; exit 2; }
+[ $# -ge 1 ] || { echo "usage: bench/run.sh PROGRAM [RUNS [SMALL]]" >&2; exit 2; }
 here=$(cd "$(dirname "$0")" && pwd)
 work=$(mktemp -d)
 trap 'rm -rf "$work"' EXIT
 rustc -O --edition 2021 -o "$work/measure" "$here/measure.rs"
 cp "$1" "$work/beliefdb"
 "$work/measure" "$work/beliefdb" "$work" "${2:-5}"
+[ $# -ge 3 ] || exit 0
+BENCH_FOLDER="$here" rustc -O --edition 2021 -o "$work/kept" "$here/kept.rs"
+cp "$3" "$work/bdb_bench"
+"$work/kept" "$work/bdb_bench" "$work" "${2:-5}"

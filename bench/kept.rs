@@ -1,0 +1,172 @@
+// Measures the small program for what no script can reach, beside plain Rust and the system's SQLite in the same run. Times are
+// those of the clock, since the program tells the time of each part by it: leave the machine alone meanwhile.
+mod plain;
+
+use std::collections::BTreeMap;
+use std::fs;
+use std::hint::black_box;
+use std::path::{Path, PathBuf};
+use std::process::{Command, Stdio};
+use std::time::Instant;
+
+/// The worked script of three curators, their sightings and their comments, with two queries.
+const SIGHTINGS: &str = include_str!("sightings.bsql");
+
+struct Bench {
+    program: PathBuf,
+    work: PathBuf,
+    runs: usize,
+}
+
+impl Bench {
+    /// What the program prints: names and numbers in turn; of each number that is a time the least over the runs.
+    fn told(&self, words: &[&str], input: Option<&Path>, before: impl Fn()) -> BTreeMap<String, f64> {
+        let mut least = BTreeMap::new();
+        for _ in 0..self.runs {
+            before();
+            let mut command = Command::new(&self.program);
+            command.args(words).stderr(Stdio::null());
+            if let Some(file) = input {
+                command.stdin(fs::File::open(file).expect("a script"));
+            }
+            merge(&mut least, &command.output().expect("the program").stdout);
+        }
+        least
+    }
+
+    /// The same of the system's SQLite.
+    fn sqlite(&self, words: &[&str], before: impl Fn()) -> BTreeMap<String, f64> {
+        let mut least = BTreeMap::new();
+        for _ in 0..self.runs {
+            before();
+            let script = Path::new(env!("BENCH_FOLDER")).join("sqlite.py");
+            let output = Command::new("python3").arg(script).args(words).output().expect("python3");
+            merge(&mut least, &output.stdout);
+        }
+        least
+    }
+
+    fn least(&self, mut action: impl FnMut()) -> f64 {
+        let mut least = f64::INFINITY;
+        for _ in 0..self.runs {
+            let start = Instant::now();
+            action();
+            least = least.min(start.elapsed().as_secs_f64() * 1e6);
+        }
+        least
+    }
+}
+
+fn merge(least: &mut BTreeMap<String, f64>, output: &[u8]) {
+    let text = String::from_utf8_lossy(output);
+    let words: Vec<&str> = text.split_whitespace().collect();
+    for pair in words.chunks(2) {
+        if let [name, value] = pair {
+            assert_ne!(*value, "false", "{text}");
+            let value = value.parse().unwrap_or(1.0);
+            let entry = least.entry(name.to_string()).or_insert(value);
+            *entry = entry.min(value);
+        }
+    }
+}
+
+fn head(title: &str, columns: &str) {
+    println!("\n{title}\n\n| {columns} |");
+    println!("|{}", "---|".repeat(columns.split('|').count()));
+}
+
+fn reading(bench: &Bench) {
+    head("Cutting, tokens and parse alone", "script of 32 MiB | all, MB/s | cut alone, MB/s | plain scan, MB/s | all / scan");
+    let short = "insert into BELIEF 'Alice' R values('s1','bald eagle', 12);\n";
+    for (name, command) in [("the worked script", SIGHTINGS), ("inserts of 60 bytes", short), ("`show world;`", "show world;\n")] {
+        let script = command.repeat((32 << 20) / command.len());
+        let file = bench.work.join("script");
+        fs::write(&file, &script).expect("a script");
+        let told = bench.told(&["read"], Some(&file), || {});
+        let scan = bench.least(|| {
+            black_box(plain::scan(black_box(script.as_bytes())));
+        });
+        let speed = |micros: f64| format!("{:.0}", script.len() as f64 / micros);
+        println!("| {name} | {} | {} | {} | {:.1} |", speed(told["all"]), speed(told["cut"]), speed(scan), told["all"] / scan);
+    }
+}
+
+fn key_of(number: u64) -> [u8; 24] {
+    let mixed = number.wrapping_mul(0x9E37_79B9_7F4A_7C15).to_be_bytes();
+    let mut key = [0; 24];
+    key[..8].copy_from_slice(&mixed);
+    key[8..16].copy_from_slice(&number.to_be_bytes());
+    key[16..].copy_from_slice(&mixed);
+    key
+}
+
+fn keeping(bench: &Bench) {
+    head("The keeper in memory: a million rows of 24-byte keys", "work | keeper | `BTreeMap` | ratio");
+    let count = 1_000_000;
+    let told = bench.told(&["kept", &count.to_string()], None, || {});
+    let mut rows: BTreeMap<Vec<u8>, Vec<u8>> = BTreeMap::new();
+    let put = bench.least(|| {
+        rows = (0..count).fold(BTreeMap::new(), |mut rows, number| {
+            rows.insert(key_of(number).to_vec(), 0u32.to_be_bytes().to_vec());
+            rows
+        });
+    });
+    let get = bench.least(|| {
+        let mut row = Vec::new();
+        for number in 0..count {
+            row.clear();
+            row.extend_from_slice(&rows[key_of(number).as_slice()]);
+            black_box(&row);
+        }
+    });
+    let next = bench.least(|| {
+        let (mut low, mut found) = (Vec::new(), 0);
+        while let Some((key, row)) = rows.range(low.clone()..).next() {
+            low = key.clone();
+            low.push(0);
+            black_box(row.clone());
+            found += 1;
+        }
+        assert_eq!(found, count);
+    });
+    for (name, plain) in [("put", put), ("get", get), ("next", next)] {
+        println!("| {name} | {:.2} us | {:.2} us | {:.1} |", told[name] / count as f64, plain / count as f64, told[name] / plain);
+    }
+}
+
+fn filing(bench: &Bench) {
+    head("The keeper over a file: commits", "rows of a commit, commits | each commit | SQLite | ratio");
+    let file = bench.work.join("rows.db");
+    let clean = || {
+        for end in ["", "-wal", "-shm", "-journal"] {
+            let _ = fs::remove_file(format!("{}{end}", file.display()));
+        }
+    };
+    let path = file.display().to_string();
+    for (rows, commits) in [("1", 300.0), ("10", 300.0), ("100", 100.0), ("1000", 10.0)] {
+        let times = format!("{commits}");
+        let told = bench.told(&["filed", &path, &times, rows], None, clean);
+        let sqlite = bench.sqlite(&["filed", &path, &times, rows], clean);
+        let (each, plain) = (told["commit"] / commits, sqlite["commit"] / commits);
+        println!("| {rows}, {commits} | {each:.0} us | {plain:.0} us | {:.1} |", each / plain);
+    }
+    head("The keeper over a file: opening", "rows | time | each row");
+    for rows in ["1000", "10000", "100000"] {
+        clean();
+        bench.told(&["filed", &path, "1", rows], None, clean);
+        let told = bench.told(&["open", &path], None, || {});
+        let count: f64 = rows.parse().expect("a number");
+        println!("| {rows} | {:.1} ms | {:.1} us |", told["open"] / 1e3, told["open"] / count);
+    }
+    clean();
+}
+
+fn main() {
+    let words: Vec<String> = std::env::args().skip(1).collect();
+    let [program, work, runs] = words.as_slice() else { panic!("words: PROGRAM FOLDER RUNS") };
+    let bench = Bench { program: program.into(), work: work.into(), runs: runs.parse().expect("a number") };
+    println!("The least of {} runs; time of the clock.", bench.runs);
+    reading(&bench);
+    keeping(&bench);
+    filing(&bench);
+}
