@@ -1,9 +1,6 @@
 // The texts of values, and the replies of worked commands.
 use super::*;
-use bdb_base::{
-    Catalog, ColDef, Held, Kind, List, Path, RelDef, Sign, Tuple, Txt, Value, What, World,
-};
-use bdb_canon::{Canon, CanonEdge, CanonRow, CanonWorld};
+use bdb_base::{Catalog, ColDef, Held, Kind, List, RelDef, Sign, Tuple, Txt, Value, What, World};
 use std::alloc::{AllocError, Global};
 use std::test::Fail;
 
@@ -161,58 +158,5 @@ fn refusals_print(rt: HostRuntime) -> Result<(), Fail> {
         let reply = refusal_reply(alloc, &catalog, refusal)?;
         assert_eq!(rt; reply.as_slice(), want.as_bytes());
     }
-    Ok(())
-}
-
-/// What stands where Alice believes that Bob believes that S('s1', 'eagle').
-fn believed_belief(alloc: Global) -> Result<Canon, Fail> {
-    let mut worlds = List::new(alloc);
-    let states: [(&[u32], Option<u32>); 3] = [(&[], None), (&[1], Some(0)), (&[1, 2], Some(0))];
-    for (users, suffix) in states {
-        let path = Path::try_new(alloc, users)?;
-        worlds.push(CanonWorld { path, suffix })?;
-    }
-    let mut edges = List::new(alloc);
-    for (from, uid, to) in [(0, 1, 1), (0, 2, 0), (1, 2, 2), (2, 1, 1)] {
-        edges.push(CanonEdge { from, uid, to })?;
-    }
-    let mut tuples = List::new(alloc);
-    tuples.push(sighting(alloc, "eagle")?)?;
-    let mut rows = List::new(alloc);
-    rows.push(CanonRow {
-        world: 2,
-        tuple: 0,
-        sign: Sign::Plus,
-        explicit: true,
-    })?;
-    Ok(Canon {
-        worlds,
-        tuples,
-        edges,
-        rows,
-    })
-}
-
-#[test]
-fn tables_print(rt: HostRuntime) -> Result<(), Fail> {
-    let alloc = rt.alloc();
-    let catalog = curators(alloc)?;
-    let canon = believed_belief(alloc)?;
-    let reply = tables_reply(alloc, &catalog, &canon)?;
-    let want = "user 1 'Alice'
-user 2 'Bob'
-relation S(k text, v text)
-tuple S('s1', 'eagle')
-world / depth 0
-world /'Alice' depth 1 suffix /
-world /'Alice'/'Bob' depth 2 suffix /
-edge / 'Alice' /'Alice'
-edge / 'Bob' /
-edge /'Alice' 'Bob' /'Alice'/'Bob'
-edge /'Alice'/'Bob' 'Alice' /'Alice'
-row /'Alice'/'Bob' + S('s1', 'eagle') explicit
-ok 12
-";
-    assert_eq!(rt; reply.as_slice(), want.as_bytes());
     Ok(())
 }
