@@ -1,9 +1,9 @@
 // Text literals.
-ghost use Rattle.std.specs.Prelude.{◌≡◌, true, false, nat_le, None, [], IfSome, IfNone, IfOk, OnOk, IsErrOf};
+ghost use Rattle.std.specs.Prelude.{◌≡◌, true, false, nat_eq, nat_le, None, [], IfSome, IfNone, IfOk, OnOk, IsErrOf};
 ghost use Rattle.std.specs.List.{list_all};
 ghost use Rattle.bdb_lex.specs.Tokens.{tokens_from, is_content};
 ghost use Rattle.bdb_lex.specs.Tokens.Reading.{in_text};
-ghost use Rattle.bdb_lex.specs.Reading.{ReadsOn, IsParted, is_no_quote};
+ghost use Rattle.bdb_lex.specs.Reading.{begins, ReadsOn, IsParted, is_no_quote};
 
 use crate::bytes::after_byte;
 use crate::token::{LexError, Token};
@@ -13,6 +13,32 @@ use std::alloc::Global;
 /// The text literal behind its first quote, and the bytes behind it. `NotTokens` comes exactly where it isn't closed or its
 /// content isn't allowed.
 pub fn text_behind(alloc: Global, bytes: &[u8]) -> Result<(Token, &[u8]), LexError>
+    ensures ok { IfOk result (λ read. ReadsOn (in_text []) bytes.now read.0 read.1.now) }
+    ensures not_tokens { IsErrOf result LexError.NotTokens → tokens_from (in_text []) bytes.now ≡ None }
+{
+    match undoubled(bytes) {
+        Some((content, after)) => {
+            let token = text_token(alloc, content)?;
+            Ok((token, after))
+        }
+        None => doubled_text_behind(alloc, bytes),
+    }
+}
+
+/// The bytes before the first quote, and those behind it; none where there is no quote, or another follows it.
+fn undoubled(bytes: &[u8]) -> Option<(&[u8], &[u8])>
+    ensures parted { IfSome result (λ parts. IsParted bytes.now parts.0.now parts.1.now) }
+    ensures ended { IfSome result (λ parts. begins (λ b. nat_eq b 39) parts.1.now ≡ false) }
+{
+    let (part, after) = parted(bytes)?;
+    match after_byte(b'\'', after) {
+        Some(_) => None,
+        None => Some((part, after)),
+    }
+}
+
+/// The same as `text_behind`, where quotes may be doubled. It puts the parts between them together.
+fn doubled_text_behind(alloc: Global, bytes: &[u8]) -> Result<(Token, &[u8]), LexError>
     ensures ok { IfOk result (λ read. ReadsOn (in_text []) bytes.now read.0 read.1.now) }
     ensures not_tokens { IsErrOf result LexError.NotTokens → tokens_from (in_text []) bytes.now ≡ None }
 {

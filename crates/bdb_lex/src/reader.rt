@@ -12,12 +12,15 @@ use crate::word::{num_at, word_at};
 use bdb_base::List;
 use std::alloc::Global;
 
+/// For how many tokens there is room from the start. Most commands have no more.
+const USUAL_COUNT: usize = 16;
+
 /// The tokens of a piece, each the longest that fits. `NotTokens` comes exactly where the piece is no list of tokens.
 pub fn tokens(alloc: Global, piece: &[u8]) -> Result<List<Token>, LexError>
     ensures ok { IfOk result (λ ts. tokens_of piece.now ≡ Some ts) }
     ensures not_tokens { IsErrOf result LexError.NotTokens → tokens_of piece.now ≡ None }
 {
-    let mut found = List::new(alloc);
+    let mut found = List::from_vec(Vec::with_capacity(alloc, USUAL_COUNT)?);
     let mut rest = after_gaps(piece);
     while let [first, ..] = rest {
         let (token, after) = token_at(alloc, *first, rest)?;

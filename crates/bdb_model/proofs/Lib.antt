@@ -2,6 +2,7 @@ pub mod AnswerLemmas
 pub mod BaseLemmas
 pub mod ClashLemmas
 pub mod ChoosingLemmas
+pub mod FoundLemmas
 pub mod ChainLemmas
 pub mod HoldingLemmas
 pub mod LevelLemmas

@@ -1,16 +1,19 @@
 // Rows as they are found.
 ghost use Rattle.std.specs.Prelude.{◌≡◌, [], IfOk, OnOk};
+ghost use Rattle.bdb_base.specs.Order.{row_cmp};
+ghost use Rattle.bdb_base.specs.SortedSet.{put_in};
 ghost use Rattle.bdb_model.specs.Collected.{has_room, with_row};
 ghost use Rattle.bdb_model.specs.Limits.{up_to};
 
-use bdb_base::{Exact, List, Ordered, Value, cmp_row, put};
+use bdb_base::{List, Value, cmp_row};
 use std::alloc::{AllocError, Global};
 use std::cmp::Ordering;
+use std::collections::BTreeSet;
 use std::marker::Model;
 
 /// A row of an answer, which contracts see as its values.
 #[derive(Drop)]
-pub struct Row {
+struct Row {
     values: List<Value>,
 }
 
@@ -22,22 +25,57 @@ impl Model for Row {
     ghost view = { λ r. r.values };
 }
 
-impl Exact for Row {
-    fn try_clone(&self, alloc: Global) -> Result<Self, AllocError> {
-        let values = self.values.try_clone(alloc)?;
-        Ok(Row { values })
-    }
-}
-
-impl Ordered for Row {
+impl PartialEq for Row {
+    ghost use Rattle.std.specs.Cmp.{partial_equiv_from_equiv, eq_by_cmp_equiv};
+    ghost use Rattle.std.specs.Ordering.{eq_by_cmp};
     ghost use Rattle.bdb_base.specs.Order.{row_cmp};
     ghost use Rattle.bdb_base.specs.OrderLemmas.{row_exact};
 
-    ghost order = { row_cmp };
+    ghost eq = { eq_by_cmp row_cmp };
 
-    ghost exact = { row_exact };
+    ghost laws = { partial_equiv_from_equiv (eq_by_cmp_equiv row_exact.total) };
 
-    fn compare(&self, other: &Self) -> Ordering {
+    fn eq(&self, other: &Self) -> bool {
+        cmp_row(self.values.as_slice(), other.values.as_slice()) == Ordering::Equal
+    }
+}
+
+impl Eq for Row {
+    ghost use Rattle.std.specs.Cmp.{eq_by_cmp_equiv};
+    ghost use Rattle.bdb_base.specs.OrderLemmas.{row_exact};
+
+    ghost laws = { eq_by_cmp_equiv row_exact.total };
+}
+
+impl PartialOrd for Row {
+    ghost use Rattle.std.specs.Prelude.{Some, refl};
+    ghost use Rattle.std.specs.Cmp.{po};
+    ghost use Rattle.bdb_base.specs.Order.{row_cmp};
+    ghost use Rattle.bdb_base.specs.OrderLemmas.{row_exact};
+
+    ghost partial_cmp = { λ a b. Some (row_cmp a b) };
+
+    ghost laws = { po row_exact.total (λ _ _. refl) };
+
+    fn partial_cmp(&self, other: &Self) -> Option<Ordering> {
+        Some(self.cmp(other))
+    }
+}
+
+impl Ord for Row {
+    ghost use Rattle.std.specs.Prelude.{refl};
+    ghost use Rattle.bdb_base.specs.Order.{row_cmp};
+    ghost use Rattle.bdb_base.specs.OrderLemmas.{row_exact};
+
+    ghost cmp = { row_cmp };
+
+    ghost total = { row_exact.total };
+
+    ghost matches_partial_cmp = { λ _ _. refl };
+
+    ghost matches_eq = { λ _ _. refl };
+
+    fn cmp(&self, other: &Self) -> Ordering {
         cmp_row(self.values.as_slice(), other.values.as_slice())
     }
 }
@@ -45,21 +83,16 @@ impl Ordered for Row {
 /// The rows found so far, in order, each once. Once there are more than there may be, it takes no more.
 #[derive(Drop)]
 pub struct Found {
-    rows: List<Row>,
+    rows: BTreeSet<Row>,
     most: usize,
 }
 
 impl Model for Found {
-    ghost use Rattle.std.specs.Prelude.{◌≡◌, true};
-    ghost use Rattle.bdb_base.specs.Order.{row_cmp};
-    ghost use Rattle.bdb_base.specs.SortedSet.{ascending};
     ghost use Rattle.bdb_model.specs.Collected.{Collected};
 
     ghost Value = { Collected };
 
-    ghost view = { λ f. record { rows = f.rows; most = f.most } };
-
-    ghost invariant = { λ f. ascending row_cmp f.rows ≡ true };
+    ghost view = { λ f. record { rows = f.rows.keys; most = f.most } };
 }
 
 impl Found {
@@ -68,7 +101,7 @@ impl Found {
         ensures { result ≡ record { rows = []; most = most } }
     {
         Found {
-            rows: List::new(alloc),
+            rows: BTreeSet::new(alloc),
             most,
         }
     }
@@ -84,10 +117,10 @@ impl Found {
     pub fn add(&mut self, values: List<Value>) -> Result<(), AllocError>
         ensures { OnOk result (self.new ≡ with_row self.old values) }
     {
-        if self.has_room() {
-            let _added = put(&mut self.rows, Row { values })?;
+        if !self.has_room() {
+            return Ok(());
         }
-        Ok(())
+        put_row(&mut self.rows, Row { values })
     }
 
     /// The rows; none where there are too many.
@@ -99,10 +132,20 @@ impl Found {
             return Ok(None);
         }
         let mut all = List::new(alloc);
-        for row in rows.into_vec() {
+        for row in rows {
             let Row { values } = row;
             all.push(values)?;
         }
         Ok(Some(all))
     }
+}
+
+/// Puts a row among others, unless it stands there.
+fn put_row(rows: &mut BTreeSet<Row>, row: Row) -> Result<(), AllocError>
+    ensures { OnOk result (rows.new.keys ≡ put_in row_cmp rows.old.keys row) }
+{
+    let Ok(_) = rows.insert(row) else {
+        return Err(AllocError);
+    };
+    Ok(())
 }

@@ -230,6 +230,67 @@ fn answers_have_a_limit(rt: HostRuntime) -> Result<(), Fail> {
     Ok(())
 }
 
+/// Adds the insert of an eagle at the path of two users.
+fn push_eagle(
+    alloc: Global,
+    script: &mut String,
+    outer: u32,
+    inner: u32,
+) -> Result<(), Fail> {
+    let path = format!(in alloc; "BELIEF '{outer}' BELIEF '{inner}'")?;
+    script.push_str("insert into ")?;
+    script.push_str(path.as_str())?;
+    script.push_str(" S values('s1','eagle');\n")?;
+    Ok(())
+}
+
+/// Users 1 to 45, and inserts at as many paths of two users as make 2,000 worlds.
+fn full_of_worlds(alloc: Global) -> Result<String, Fail> {
+    let mut script = String::new(alloc);
+    for user in 1..46 {
+        let name = format!(in alloc; "create user '{user}';\n")?;
+        script.push_str(name.as_str())?;
+    }
+    script.push_str("create relation S(k text, v text);\n")?;
+    for outer in 1..45 {
+        for inner in 1..45 {
+            if outer != inner {
+                push_eagle(alloc, &mut script, outer, inner)?;
+            }
+        }
+    }
+    for inner in 1..45 {
+        push_eagle(alloc, &mut script, 45, inner)?;
+    }
+    for outer in 1..19 {
+        push_eagle(alloc, &mut script, outer, 45)?;
+    }
+    Ok(script)
+}
+
+#[test]
+fn worlds_have_a_limit(rt: HostRuntime) -> Result<(), Fail> {
+    let alloc = rt.alloc();
+    let script = full_of_worlds(alloc)?;
+    let rows = [
+        script.as_str(),
+        "insert into BELIEF '19' BELIEF '45' S values('s1','eagle');",
+        "insert into BELIEF '1' BELIEF '45' S values('s2','owl');",
+    ];
+    let mut replies = Vec::new(alloc);
+    for _ in 0..46 {
+        replies.extend_from_slice(b"ok\n")?;
+    }
+    for _ in 0..1954 {
+        replies.extend_from_slice(b"ok 1\n")?;
+    }
+    replies.extend_from_slice(b"error full worlds\nok 1\n")?;
+    let (status, out, _) = ran_quietly(alloc, &rows)?;
+    assert_eq!(rt; status, 1);
+    assert_eq!(rt; out.bytes(), replies.as_slice());
+    Ok(())
+}
+
 #[test]
 fn runs_go_on_from_what_is_kept(rt: HostRuntime) -> Result<(), Fail> {
     let alloc = rt.alloc();
