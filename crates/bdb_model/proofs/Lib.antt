@@ -4,6 +4,7 @@ pub mod ClashLemmas
 pub mod ChoosingLemmas
 pub mod FoundLemmas
 pub mod ChainLemmas
+pub mod EndLemmas
 pub mod HoldingLemmas
 pub mod LevelLemmas
 pub mod PassLemmas

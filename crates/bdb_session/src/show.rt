@@ -10,10 +10,10 @@ use crate::reply::Reply;
 use crate::session::Session;
 use crate::stop::StopError;
 use crate::transact::commit_nothing;
-use bdb_base::{Catalog, List, Path, Stmt};
+use bdb_base::{Base, List, Path};
 use bdb_bind::Bound;
 use bdb_keep::Keeper;
-use bdb_model::world_among;
+use bdb_model::world_rows;
 use bdb_render::world_reply;
 use std::alloc::{AllocError, Global};
 
@@ -29,8 +29,7 @@ impl Session {
         ensures { IsServed self.now (refusal_of_bound self.now (Bound.ShowWorld path.now)) (accepted_reply self.now (Bound.ShowWorld path.now))
             (asked_base self.now (Bound.ShowWorld path.now)) self.now (K.seen keeper.old) (K.seen keeper.new) result }
     {
-        let stmts = self.base.stmts();
-        match world_text(self.alloc, self.base.catalog(), stmts, path.as_slice()) {
+        match world_text(self.alloc, &self.base, path.as_slice()) {
             Ok(text) => commit_nothing(keeper, text),
             Err(_) => Err(StopError::Memory),
         }
@@ -38,15 +37,10 @@ impl Session {
 }
 
 /// The text of the world of a path.
-fn world_text(
-    alloc: Global,
-    catalog: &Catalog,
-    stmts: &[Stmt],
-    path: &[u32],
-) -> Result<List<u8>, AllocError>
-    ensures { IfOk result (λ text. text ≡ world_reply catalog.now (world_at (record { catalog = catalog.now; stmts = stmts.now }) path.now)) }
+fn world_text(alloc: Global, base: &Base, path: &[u32]) -> Result<List<u8>, AllocError>
+    ensures { IfOk result (λ text. text ≡ world_reply base.now.catalog (world_at base.now path.now)) }
 {
-    let world = world_among(alloc, stmts, path)?;
-    let text = world_reply(alloc, catalog, &world)?;
+    let world = world_rows(alloc, base, path)?;
+    let text = world_reply(alloc, base.catalog(), &world)?;
     Ok(text)
 }
