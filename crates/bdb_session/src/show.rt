@@ -1,6 +1,7 @@
 // The command that shows a world.
 ghost use Rattle.std.specs.Prelude.{◌≡◌, IfOk};
 ghost use Rattle.bdb_keep.specs.Seen.{IsStill};
+ghost use Rattle.bdb_base.specs.Bases.{IsValid};
 ghost use Rattle.bdb_tables.specs.Holds.{Holds};
 ghost use Rattle.bdb_session.specs.Machine.{refusal_of_bound, asked_base, accepted_reply, world_at};
 ghost use Rattle.bdb_session.specs.Served.{IsServed};
@@ -36,11 +37,13 @@ impl Session {
     }
 }
 
-/// The text of the world of a path.
+/// The text of the world of a path. The base is valid, as each is.
 fn world_text(alloc: Global, base: &Base, path: &[u32]) -> Result<List<u8>, AllocError>
-    ensures { IfOk result (λ text. text ≡ world_reply base.now.catalog (world_at base.now path.now)) }
+    ensures text { IfOk result (λ text. text ≡ world_reply base.now.catalog (world_at base.now path.now)) }
+    ensures valid { IsValid base.now.catalog base.now.stmts }
 {
+    let catalog = base.catalog();
     let world = world_rows(alloc, base, path)?;
-    let text = world_reply(alloc, base.catalog(), &world)?;
+    let text = world_reply(alloc, catalog, &world)?;
     Ok(text)
 }
