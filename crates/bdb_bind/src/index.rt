@@ -1,5 +1,5 @@
 // Where the names of a catalog stand.
-ghost use Rattle.std.specs.Prelude.{◌≡◌, ℕ, List, None, IfOk, OnOk};
+ghost use Rattle.std.specs.Prelude.{◌≡◌, ℕ, List, None, IfOk, OnOk, OnErr};
 ghost use Rattle.std.specs.BTreeMap.{get_by_text};
 ghost use Rattle.bdb_bind.specs.Indexes.{or_place, user_place, TellsOf};
 ghost use Rattle.bdb_bind.specs.Lookup.{number_of};
@@ -38,15 +38,21 @@ impl NameIndex {
     }
 
     /// A user of this name stands at this place. Where a user of this name is known, nothing changes.
+    /// After a refusal the index is unchanged.
     pub fn add_user(&mut self, alloc: Global, name: &Txt, at: usize) -> Result<(), AllocError>
-        ensures { OnOk result ((q : List ℕ) → get_by_text self.new.users q ≡ or_place (get_by_text self.old.users q) name.now at q) }
+        ensures users { OnOk result ((q : List ℕ) → get_by_text self.new.users q ≡ or_place (get_by_text self.old.users q) name.now at q) }
+        ensures rels { self.new.rels ≡ self.old.rels }
+        ensures err { OnErr result (self.new.users.entries ≡ self.old.users.entries) }
     {
         add_place(&mut self.users, alloc, name, at)
     }
 
-    /// A relation of this name stands at this place. Where a relation of this name is known, nothing changes.
+    /// A relation of this name stands at this place. Where a relation of this name is known, nothing
+    /// changes. After a refusal the index is unchanged.
     pub fn add_relation(&mut self, alloc: Global, name: &Txt, at: usize) -> Result<(), AllocError>
-        ensures { OnOk result ((q : List ℕ) → get_by_text self.new.rels q ≡ or_place (get_by_text self.old.rels q) name.now at q) }
+        ensures rels { OnOk result ((q : List ℕ) → get_by_text self.new.rels q ≡ or_place (get_by_text self.old.rels q) name.now at q) }
+        ensures users { self.new.users ≡ self.old.users }
+        ensures err { OnErr result (self.new.rels.entries ≡ self.old.rels.entries) }
     {
         add_place(&mut self.rels, alloc, name, at)
     }
@@ -66,14 +72,15 @@ impl NameIndex {
     }
 }
 
-/// A name stands at this place, unless it is known.
+/// A name stands at this place, unless it is known. After a refusal nothing changed.
 fn add_place(
     places: &mut BTreeMap<String, usize>,
     alloc: Global,
     name: &Txt,
     at: usize,
 ) -> Result<(), AllocError>
-    ensures { OnOk result ((q : List ℕ) → get_by_text places.new q ≡ or_place (get_by_text places.old q) name.now at q) }
+    ensures ok { OnOk result ((q : List ℕ) → get_by_text places.new q ≡ or_place (get_by_text places.old q) name.now at q) }
+    ensures err { OnErr result (places.new.entries ≡ places.old.entries) }
 {
     if places.get(name.as_str()).is_some() {
         return Ok(());

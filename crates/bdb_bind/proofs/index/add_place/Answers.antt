@@ -6,8 +6,8 @@ use Rattle.bdb_base.specs.Same.{same_text}
 use Rattle.bdb_bind.proofs.IndexLemmas.{added}
 use Rattle.bdb_bind.proofs.index.add_place.Goals as goal
 
-pub returns : goal.returns
-returns c = λ (q : List ℕ).
+pub returns-clause-ok : goal.returns-clause-ok
+returns-clause-ok c = λ (q : List ℕ).
     let none : get_by_text c.args.places.now c.args.name.now ≡ None = grind (arith, common_steps) in
     let new : get_by_text c.insert.new.self q ≡ cond (same_text c.args.name.now q) (Some c.args.at) (get_by_text c.args.places.now q) = grind (arith, text_keys) in
     added (get_by_text c.args.places.now) c.args.name.now c.args.at q _ none new
