@@ -1,4 +1,3 @@
-pub mod EndLemmas
 pub mod LineLemmas
 pub mod PlaceLemmas
 pub mod RangeLemmas

@@ -1,5 +1,5 @@
 -- What holds of the structure, in the subject's own words. Each law is the contract of a function of `laws`.
-use Rattle.std.specs.Prelude.{◌≡◌, ℕ, Bool, true, ◌&&◌, nat_eq, nat_lt, List, length, filter, Option, Some, None}
+use Rattle.std.specs.Prelude.{◌≡◌, ℕ, Bool, true, ◌&&◌, nat_eq, nat_lt, List, length, Option, Some, None}
 use Rattle.std.specs.List.{list_all, list_any, slice_get}
 use Rattle.std.specs.Option.{option_and_then}
 use Rattle.bdb_base.specs.declared.kinds.Sign.{Sign}
@@ -8,10 +8,9 @@ use Rattle.bdb_base.specs.declared.tuple.Tuple.{Tuple}
 use Rattle.bdb_base.specs.Bases.{Contents, key_lengths}
 use Rattle.bdb_base.specs.Order.{path_cmp, tuple_cmp}
 use Rattle.bdb_base.specs.Same.{same_sign}
-use Rattle.bdb_base.specs.Segments.{is_suffix}
 use Rattle.bdb_base.specs.SortedSet.{is_member}
 use Rattle.bdb_base.specs.States.{edge_target, is_state, states_of, suffix_link}
-use Rattle.bdb_base.specs.WorldRows.{tuples_of, world_of}
+use Rattle.bdb_base.specs.WorldRows.{tuples_of}
 use Rattle.bdb_base.specs.Worlds.{stated}
 use Rattle.bdb_canon.specs.declared.structure.Canon.{Canon}
 use Rattle.bdb_canon.specs.Canonical.{canon_of, link_place, place_in, target_place}
@@ -39,10 +38,6 @@ pub record HasPlaces (k : Canon) : Type 0 where
 -- the places of a base's structure are in range
 abbrev pub PlacesAreInRange : Type 0
 PlacesAreInRange = (b : Contents) → HasPlaces (canon_of b)
-
--- a world depends on the statements at the path's ends alone
-abbrev pub WorldsDependOnEnds : Type 0
-WorldsDependOnEnds = (keys : ℕ → ℕ) (stmts : List Stmt) (w : List ℕ) → world_of keys (filter (λ x. is_suffix x.path w) stmts) w ≡ world_of keys stmts w
 
 -- the structure has a row for a state and a tuple, both by place, with a sign
 abbrev pub has_row_for : Canon → ℕ → ℕ → Sign → Bool

@@ -1,5 +1,5 @@
 //! What holds of the structure, each law as the contract of a function that does nothing.
-ghost use Rattle.bdb_canon.specs.CanonLaws.{LinksLeadToStates, EdgesLeadToStates, PlacesAreInRange, RowsStandForPaths, WorldsDependOnEnds};
+ghost use Rattle.bdb_canon.specs.CanonLaws.{LinksLeadToStates, EdgesLeadToStates, PlacesAreInRange, RowsStandForPaths};
 
 /// The suffix link of a state leads to the place of its tail's deepest suffix that is a state.
 pub fn links_lead_to_states()
@@ -17,12 +17,6 @@ pub fn edges_lead_to_states()
 #[tactic(auto, using(crate::proofs::RangeLemmas::places_are_in_range))]
 pub fn places_are_in_range()
     ensures { PlacesAreInRange }
-{}
-
-/// A world depends on the statements at the path's ends alone.
-#[tactic(auto, using(crate::proofs::EndLemmas::worlds_depend_on_ends))]
-pub fn worlds_depend_on_ends()
-    ensures { WorldsDependOnEnds }
 {}
 
 /// The finite structure stands for the worlds of all paths: the world of any path has a signed tuple exactly where there

@@ -3,7 +3,6 @@
 
 mod building;
 mod edges;
-mod ends;
 pub mod laws;
 mod lines;
 mod places;

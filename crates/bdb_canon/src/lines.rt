@@ -1,11 +1,13 @@
 // Whether the structure has too many lines to be told.
-ghost use Rattle.std.specs.Prelude.{◌≡◌, ◌+◌, nat_lt, sum_by, IfOk};
+ghost use Rattle.std.specs.Prelude.{◌≡◌, ◌+◌, true, nat_lt, sum_by, IfOk};
+ghost use Rattle.bdb_base.specs.Order.{statement_cmp};
+ghost use Rattle.bdb_base.specs.SortedSet.{ascending};
 ghost use Rattle.bdb_canon.specs.Canonical.{canon_of, edge_count, left_after, line_count, row_count};
 
-use crate::ends::world_at;
 use crate::structure::Canon;
 use crate::users::user_numbers;
 use bdb_base::{Base, Catalog, Path, Stmt, path_is_suffix, tuples_of};
+use bdb_model::world_among;
 use bdb_paths::states_of;
 use std::alloc::{AllocError, Global};
 
@@ -41,6 +43,7 @@ fn has_more_parts(
     states: &[Path],
     most: usize,
 ) -> Result<bool, AllocError>
+    requires { ascending statement_cmp stmts.now ≡ true }
     ensures { IfOk result (λ more. more ≡ nat_lt most (sum_by (edge_count users.now) states.now + sum_by (row_count (λ _. 1) stmts.now) states.now)) }
 {
     match left_after_edges(users, states, most) {
@@ -88,11 +91,12 @@ fn left_after_rows(
     states: &[Path],
     most: usize,
 ) -> Result<Option<usize>, AllocError>
+    requires { ascending statement_cmp stmts.now ≡ true }
     ensures { IfOk result (λ left. left ≡ left_after most (sum_by (row_count (λ _. 1) stmts.now) states.now)) }
 {
     let mut left = most;
     for path in states {
-        let world = world_at(alloc, stmts, path.as_slice())?;
+        let world = world_among(alloc, stmts, path.as_slice())?;
         let count = world.held.len();
         if left < count {
             return Ok(None);

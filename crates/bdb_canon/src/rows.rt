@@ -1,13 +1,14 @@
 // The rows of the states' worlds.
-ghost use Rattle.std.specs.Prelude.{◌≡◌, ◌++◌, IfOk, OnOk};
+ghost use Rattle.std.specs.Prelude.{◌≡◌, ◌++◌, true, IfOk, OnOk};
 ghost use Rattle.std.specs.List.{flat_map};
-ghost use Rattle.bdb_base.specs.Order.{path_cmp};
+ghost use Rattle.bdb_base.specs.Order.{path_cmp, statement_cmp};
+ghost use Rattle.bdb_base.specs.SortedSet.{ascending};
 ghost use Rattle.bdb_canon.specs.Canonical.{AreStates, AreTuples, place_in, rows_from};
 
-use crate::ends::world_at;
 use crate::places::place_in;
 use crate::structure::CanonRow;
 use bdb_base::{List, Path, Stmt, Tuple};
+use bdb_model::world_among;
 use std::alloc::{AllocError, Global};
 
 /// The rows of the states' worlds, by world and tuple.
@@ -17,6 +18,7 @@ pub fn rows_of(
     states: &[Path],
     tuples: &[Tuple],
 ) -> Result<List<CanonRow>, AllocError>
+    requires stmts { ascending statement_cmp stmts.now ≡ true }
     requires states { AreStates states.now }
     requires tuples { AreTuples tuples.now }
     ensures { IfOk result (λ rows. rows ≡ flat_map (rows_from (λ _. 1) stmts.now states.now tuples.now) states.now) }
@@ -46,12 +48,13 @@ fn push_rows(
     world: u32,
     path: &[u32],
 ) -> Result<(), AllocError>
+    requires stmts { ascending statement_cmp stmts.now ≡ true }
     requires states { AreStates states.now }
     requires tuples { AreTuples tuples.now }
     requires place { world ≡ place_in path_cmp states.now path.now }
     ensures { OnOk result (rows.new ≡ rows.old ++ rows_from (λ _. 1) stmts.now states.now tuples.now path.now) }
 {
-    let found = world_at(alloc, stmts, path)?;
+    let found = world_among(alloc, stmts, path)?;
     for held in found.held.as_slice() {
         let tuple = place_in(tuples, &held.tuple) as u32;
         rows.push(CanonRow {

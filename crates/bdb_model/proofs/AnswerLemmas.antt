@@ -1,17 +1,15 @@
 -- The rows that are found are the answers.
-use Rattle.std.proofs.Common.{◌≡◌, ◌∙◌, ℕ, suc, ◌+◌, ◌^◌, ◌≤◌, Bool, true, false, ◌||◌, inl, inr, nat_lt, nat_le, List, [], ◌∷◌, Option, None, Some, refl, ap, sym, subst, length, map, arith}
+use Rattle.std.proofs.Common.{◌≡◌, ◌∙◌, ℕ, suc, ◌+◌, ◌^◌, ◌≤◌, Bool, true, false, ◌||◌, inl, inr, nat_lt, nat_le, List, [], ◌∷◌, Option, None, Some, refl, ap, sym, length, map, arith}
 use Rattle.std.specs.declared.cmp.Ordering.{Ordering}
 use Rattle.std.specs.declared.cmp.Ordering.TheVariants.{Less, Equal, Greater}
 use Rattle.std.specs.List.{list_any, list_all, slice_get}
 use Rattle.std.specs.Ordering.{is_eq}
 use Rattle.std.proofs.lemmas.Bool.{false≢true, cases_Bool, cond-true, cond-false, and_parts}
 use Rattle.std.proofs.lemmas.Bool.Decides.{nat_tests}
-use Rattle.bdb_base.specs.declared.kinds.Catalog.{Catalog}
 use Rattle.bdb_base.specs.declared.kinds.Cond.{Cond}
 use Rattle.bdb_base.specs.declared.kinds.Held.{Held}
 use Rattle.bdb_base.specs.declared.kinds.Item.{Item}
 use Rattle.bdb_base.specs.declared.kinds.Query.{Query}
-use Rattle.bdb_base.specs.declared.kinds.Stmt.{Stmt}
 use Rattle.bdb_base.specs.declared.kinds.Value.{Value}
 use Rattle.bdb_base.specs.declared.tuple.Tuple.{Tuple}
 use Rattle.bdb_base.specs.Bases.{Contents, IsValid}
@@ -194,12 +192,3 @@ all_rows_of b q sources conds more pools slots c m p s =
     ∙ ap (λ x. chosen_rows q.conds (rows_of_users b q x) 0 pools slots) m
     ∙ ap (λ x. chosen_rows q.conds (rows_of_users b q sources) 0 x slots) p
     ∙ ap (λ x. chosen_rows q.conds (rows_of_users b q sources) 0 (map (user_pool b.catalog.users) q.items) x) s
-
--- what a catalog and statements give, where they are those of a base
-abbrev Gives : Query → ℕ → Option (List (List Value)) → Catalog → List Stmt → Type 0
-Gives q most rows c xs = IsValid c xs → query_fits c q ≡ true → IsSafe c.rels q → rows ≡ up_to most (answers_of (record { catalog = c; stmts = xs }) q)
-
-pub of_parts : (b : Contents) (q : Query) (most : ℕ) (rows : Option (List (List Value))) (c : Catalog) (xs : List Stmt) → c ≡ b.catalog → xs ≡ b.stmts
-    → (IsValid c xs → query_fits c q ≡ true → IsSafe c.rels q → rows ≡ up_to most (answers_of (record { catalog = c; stmts = xs }) q))
-    → IsValid b.catalog b.stmts → query_fits b.catalog q ≡ true → IsSafe b.catalog.rels q → rows ≡ up_to most (answers_of b q)
-of_parts b q most rows c xs e d h = subst (λ ys. Gives q most rows b.catalog ys) d (subst (λ k. Gives q most rows k xs) e h)

@@ -1,7 +1,9 @@
 -- What is stated at each end of a path is all that its world depends on.
-use Rattle.std.proofs.Common.{◌≡◌, ◌∙◌, ℕ, Bool, true, false, not, ◌&&◌, ◌||◌, List, [], ◌∷◌, ◌++◌, inl, inr, refl, ap, sym, cond}
+use Rattle.std.proofs.Common.{◌≡◌, ◌∙◌, ℕ, Bool, true, false, not, ◌&&◌, ◌||◌, List, [], ◌∷◌, ◌++◌, inl, inr, refl, ap, sym, cond, filter, length, drop, append_assoc, arith, ◌<◌, ◌==◌}
 use Rattle.std.specs.List.{list_any, flat_map}
 use Rattle.std.proofs.lemmas.Bool.{cases_Bool, or_parts, cond-true, cond-false}
+use Rattle.std.proofs.lemmas.Bool.Decides.{nat_tests}
+use Rattle.std.proofs.lemmas.List.{append-nil}
 use Rattle.bdb_base.specs.declared.kinds.Held.{Held}
 use Rattle.bdb_base.specs.declared.kinds.Sign.{Sign}
 use Rattle.bdb_base.specs.declared.kinds.Sign.TheVariants.{Plus, Minus}
@@ -15,10 +17,10 @@ use Rattle.bdb_base.specs.SortedSet.{is_member, put_in}
 use Rattle.bdb_base.specs.WorldRows.{row_at, rows_at, tuples_of, world_of}
 use Rattle.bdb_base.specs.Worlds.{explicit, contradicted, stated}
 use Rattle.bdb_base.proofs.ClashLemmas.{same_tuple_turned, same_key_turned}
-use Rattle.bdb_base.proofs.ListLemmas.{or_false, or_move}
+use Rattle.bdb_base.proofs.ListLemmas.{filter_dropped_one, filter_kept_one, or_false, or_move}
 use Rattle.bdb_base.proofs.SetLemmas.{put_adds_member}
 use Rattle.bdb_model.specs.LevelSets.{Sets}
-use Rattle.bdb_model.specs.Levels.{key_tuple, no_level, with_stated, grown, grown_all, level_of, levels_of, has_stated, refuses, stated_by, row_by, rows_by}
+use Rattle.bdb_model.specs.Levels.{key_tuple, no_level, with_stated, with_all, level_of, level_if_any, levels_of, has_stated, refuses, stated_by, row_by, rows_by}
 
 pub and_true : (b : Bool) → (b && true) ≡ b
 and_true true = refl
@@ -31,6 +33,27 @@ and_false false = refl
 pub list_any_same : {X : Type 0} (p q : X → Bool) → ((x : X) → p x ≡ q x) → (xs : List X) → list_any p xs ≡ list_any q xs
 list_any_same p q h [] = refl
 list_any_same p q h (x ∷ xs) = ap (λ b. b || list_any p xs) (h x) ∙ ap (λ b. q x || b) (list_any_same p q h xs)
+
+-- a level with a statement, where it is one of this very path
+abbrev grown : (ℕ → ℕ) → List ℕ → Sets → Stmt → Sets
+grown keys w l x = cond (same_path x.path w) (with_stated keys l x.tuple x.sign) l
+
+-- a level with the statements of this very path
+abbrev grown_all : (ℕ → ℕ) → List ℕ → Sets → List Stmt → Sets
+grown_all keys w l [] = l
+grown_all keys w l (x ∷ xs) = grown_all keys w (grown keys w l x) xs
+
+-- to take those of this very path is to pass by the others
+with_all_grown : (keys : ℕ → ℕ) (w : List ℕ) (l : Sets) (xs : List Stmt) → with_all keys l (filter (λ x. same_path x.path w) xs) ≡ grown_all keys w l xs
+with_all_grown keys w l [] = refl
+with_all_grown keys w l (x ∷ xs) = elim (cases_Bool (same_path x.path w)) [
+  | inl e ↦
+      ap (with_all keys l) (filter_kept_one (λ y. same_path y.path w) x xs e) ∙ with_all_grown keys w (with_stated keys l x.tuple x.sign) xs
+      ∙ ap (λ k. grown_all keys w k xs) (sym (cond-true (same_path x.path w) (with_stated keys l x.tuple x.sign) l e))
+  | inr e ↦
+      ap (with_all keys l) (filter_dropped_one (λ y. same_path y.path w) x xs e) ∙ with_all_grown keys w l xs
+      ∙ ap (λ k. grown_all keys w k xs) (sym (cond-false (same_path x.path w) (with_stated keys l x.tuple x.sign) l e))
+]
 
 -- a set of a level has a member from before, or one that a statement of this very path brought
 pub grown_set : (keys : ℕ → ℕ) (w : List ℕ) (z : Tuple) (f : Sets → List Tuple) (q : Tuple → Sign → Bool)
@@ -68,15 +91,15 @@ keys_step keys t l u Plus = put_has l.keys (key_tuple keys u) (key_tuple keys t)
 keys_step keys t l u Minus = refl
 
 pub level_has : (keys : ℕ → ℕ) (stmts : List Stmt) (w : List ℕ) (t : Tuple) (s : Sign) → has_stated (level_of keys stmts w) t s ≡ explicit stmts w t s
-level_has keys stmts w t Plus = grown_set keys w t (λ l. l.plus) (λ u s. same_tuple u t && same_sign s Plus) (plus_step keys t) no_level stmts
-level_has keys stmts w t Minus = grown_set keys w t (λ l. l.minus) (λ u s. same_tuple u t && same_sign s Minus) (minus_step keys t) no_level stmts
+level_has keys stmts w t Plus = ap (λ l. is_member tuple_cmp l.plus t) (with_all_grown keys w no_level stmts) ∙ grown_set keys w t (λ l. l.plus) (λ u s. same_tuple u t && same_sign s Plus) (plus_step keys t) no_level stmts
+level_has keys stmts w t Minus = ap (λ l. is_member tuple_cmp l.minus t) (with_all_grown keys w no_level stmts) ∙ grown_set keys w t (λ l. l.minus) (λ u s. same_tuple u t && same_sign s Minus) (minus_step keys t) no_level stmts
 
 -- a statement of this very path has plus and the tuple's key
 abbrev keyed : (ℕ → ℕ) → List Stmt → List ℕ → Tuple → Bool
 keyed keys stmts w t = list_any (λ x. same_path x.path w && (same_sign x.sign Plus && same_key keys x.tuple t)) stmts
 
 level_keyed : (keys : ℕ → ℕ) (stmts : List Stmt) (w : List ℕ) (t : Tuple) → is_member tuple_cmp (level_of keys stmts w).keys (key_tuple keys t) ≡ keyed keys stmts w t
-level_keyed keys stmts w t = grown_set keys w (key_tuple keys t) (λ l. l.keys) (λ u s. same_sign s Plus && same_key keys u t) (keys_step keys t) no_level stmts
+level_keyed keys stmts w t = ap (λ l. is_member tuple_cmp l.keys (key_tuple keys t)) (with_all_grown keys w no_level stmts) ∙ grown_set keys w (key_tuple keys t) (λ l. l.keys) (λ u s. same_sign s Plus && same_key keys u t) (keys_step keys t) no_level stmts
 
 -- what clashes with a plus that is not stated: its denial, or a plus of its key
 plus_clash : (keys : ℕ → ℕ) (t u : Tuple) (s : Sign) (b : Bool) → (b && (same_tuple u t && same_sign s Plus)) ≡ false
@@ -126,10 +149,26 @@ or_where : (e a b c : Bool) → (e ≡ false → b ≡ c) → (e || (a && not b)
 or_where true a b c h = refl
 or_where false a b c h = ap (λ d. a && not d) (h refl)
 
+any_level : (keys : ℕ → ℕ) (x : Stmt) (xs : List Stmt) → level_if_any keys (x ∷ xs) ≡ with_all keys no_level (x ∷ xs) ∷ []
+any_level keys x xs =
+    let some : (length (x ∷ xs) == 0) ≡ false = grind (arith, nat_tests) in
+    cond-false (length (x ∷ xs) == 0) [] (with_all keys no_level (x ∷ xs) ∷ []) some
+
+-- a level at which nothing is stated may be left out
+one_level : (keys : ℕ → ℕ) (xs : List Stmt) (lower : List Sets) (t key : Tuple) (s : Sign)
+    → stated_by (level_if_any keys xs ++ lower) t key s ≡ (has_stated (with_all keys no_level xs) t s || (stated_by lower t key s && not (refuses (with_all keys no_level xs) t key s)))
+one_level keys [] lower t key Plus = sym (and_true (stated_by lower t key Plus))
+one_level keys [] lower t key Minus = sym (and_true (stated_by lower t key Minus))
+one_level keys (x ∷ xs) lower t key s = ap (λ ls. stated_by (ls ++ lower) t key s) (any_level keys x xs)
+
 pub stated_by_levels : (keys : ℕ → ℕ) (stmts : List Stmt) (w : List ℕ) (t : Tuple) (s : Sign) → stated_by (levels_of keys stmts w) t (key_tuple keys t) s ≡ stated keys stmts w t s
-stated_by_levels keys stmts [] t s = or_false (has_stated (level_of keys stmts []) t s) ∙ level_has keys stmts [] t s
+stated_by_levels keys stmts [] t s =
+    ap (λ ls. stated_by ls t (key_tuple keys t) s) (sym (append-nil (levels_of keys stmts [])))
+    ∙ one_level keys (filter (λ x. same_path x.path []) stmts) [] t (key_tuple keys t) s
+    ∙ or_false (has_stated (level_of keys stmts []) t s) ∙ level_has keys stmts [] t s
 stated_by_levels keys stmts (i ∷ w) t s =
-    ap (λ e. e || (stated_by (levels_of keys stmts w) t (key_tuple keys t) s && not (refuses (level_of keys stmts (i ∷ w)) t (key_tuple keys t) s))) (level_has keys stmts (i ∷ w) t s)
+    one_level keys (filter (λ x. same_path x.path (i ∷ w)) stmts) (levels_of keys stmts w) t (key_tuple keys t) s
+    ∙ ap (λ e. e || (stated_by (levels_of keys stmts w) t (key_tuple keys t) s && not (refuses (level_of keys stmts (i ∷ w)) t (key_tuple keys t) s))) (level_has keys stmts (i ∷ w) t s)
     ∙ ap (λ e. explicit stmts (i ∷ w) t s || (e && not (refuses (level_of keys stmts (i ∷ w)) t (key_tuple keys t) s))) (stated_by_levels keys stmts w t s)
     ∙ or_where (explicit stmts (i ∷ w) t s) (stated keys stmts w t s) (refuses (level_of keys stmts (i ∷ w)) t (key_tuple keys t) s) (contradicted keys stmts (i ∷ w) t s)
     (level_refuses keys stmts (i ∷ w) t s)
@@ -154,3 +193,28 @@ flat_map_same f g h (x ∷ xs) = ap (λ ys. ys ++ flat_map f xs) (h x) ∙ ap (�
 -- the rows by levels of all tuples are the world
 pub world_by_levels : (keys : ℕ → ℕ) (stmts : List Stmt) (w : List ℕ) → flat_map (rows_by keys (levels_of keys stmts w) (level_of keys stmts w)) (tuples_of stmts) ≡ world_of keys stmts w
 world_by_levels keys stmts w = flat_map_same (rows_by keys (levels_of keys stmts w) (level_of keys stmts w)) (rows_at keys stmts w) (rows_by_levels keys stmts w) (tuples_of stmts)
+
+-- ---- the levels one by one, from the path's on
+
+levels_on : (keys : ℕ → ℕ) (stmts : List Stmt) (w : List ℕ) → 0 < length w
+    → levels_of keys stmts w ≡ level_if_any keys (filter (λ x. same_path x.path w) stmts) ++ levels_of keys stmts (drop 1 w)
+levels_on keys stmts [] l = absurd (omega arith)
+levels_on keys stmts (i ∷ w) l = refl
+
+levels_end : (keys : ℕ → ℕ) (stmts : List Stmt) (w : List ℕ) → length w < 1 → levels_of keys stmts w ≡ level_if_any keys (filter (λ x. same_path x.path w) stmts)
+levels_end keys stmts [] l = refl
+levels_end keys stmts (i ∷ w) l = absurd (omega arith)
+
+pub next_level : (keys : ℕ → ℕ) (stmts own : List Stmt) (path w rest : List ℕ) (levels new : List Sets) → 0 < length w → rest ≡ drop 1 w
+    → own ≡ filter (λ x. same_path x.path w) stmts → levels_of keys stmts path ≡ levels ++ levels_of keys stmts w → new ≡ levels ++ level_if_any keys own
+    → levels_of keys stmts path ≡ new ++ levels_of keys stmts rest
+next_level keys stmts own path w rest levels new l is e h n =
+    h ∙ ap (λ ls. levels ++ ls) (levels_on keys stmts w l) ∙ ap (λ xs. levels ++ (level_if_any keys xs ++ levels_of keys stmts (drop 1 w))) (sym e)
+    ∙ ap (λ v. levels ++ (level_if_any keys own ++ levels_of keys stmts v)) (sym is)
+    ∙ sym (append_assoc levels (level_if_any keys own) (levels_of keys stmts rest)) ∙ ap (λ ls. ls ++ levels_of keys stmts rest) (sym n)
+
+pub last_level : (keys : ℕ → ℕ) (stmts own : List Stmt) (path w : List ℕ) (levels new : List Sets) → length w < 1
+    → own ≡ filter (λ x. same_path x.path w) stmts → levels_of keys stmts path ≡ levels ++ levels_of keys stmts w → new ≡ levels ++ level_if_any keys own
+    → new ≡ levels_of keys stmts path
+last_level keys stmts own path w levels new l e h n =
+    n ∙ ap (λ xs. levels ++ level_if_any keys xs) e ∙ ap (λ ls. levels ++ ls) (sym (levels_end keys stmts w l)) ∙ sym h

@@ -3,6 +3,7 @@ pub mod BaseLemmas
 pub mod ClashLemmas
 pub mod ChoosingLemmas
 pub mod ChainLemmas
+pub mod EndLemmas
 pub mod HoldingLemmas
 pub mod LevelLemmas
 pub mod PassLemmas

@@ -1,5 +1,5 @@
 -- Worlds from what is stated at each end of a path.
-use Rattle.std.specs.Prelude.{ℕ, Bool, false, not, ◌&&◌, ◌||◌, List, [], ◌∷◌, ◌++◌, cond}
+use Rattle.std.specs.Prelude.{ℕ, ◌==◌, Bool, false, not, ◌&&◌, ◌||◌, List, [], ◌∷◌, ◌++◌, length, filter, cond}
 use Rattle.bdb_base.specs.declared.kinds.Held.{Held}
 use Rattle.bdb_base.specs.declared.kinds.Sign.{Sign}
 use Rattle.bdb_base.specs.declared.kinds.Sign.TheVariants.{Plus, Minus}
@@ -24,23 +24,24 @@ abbrev pub with_stated : (ℕ → ℕ) → Sets → Tuple → Sign → Sets
 with_stated keys l t Plus = record { plus = put_in tuple_cmp l.plus t; minus = l.minus; keys = put_in tuple_cmp l.keys (key_tuple keys t) }
 with_stated keys l t Minus = record { plus = l.plus; minus = put_in tuple_cmp l.minus t; keys = l.keys }
 
--- a level with a statement, where it is one of this very path
-abbrev pub grown : (ℕ → ℕ) → List ℕ → Sets → Stmt → Sets
-grown keys w l x = cond (same_path x.path w) (with_stated keys l x.tuple x.sign) l
-
--- a level with the statements of this very path
-abbrev pub grown_all : (ℕ → ℕ) → List ℕ → Sets → List Stmt → Sets
-grown_all keys w l [] = l
-grown_all keys w l (x ∷ xs) = grown_all keys w (grown keys w l x) xs
+-- a level with all that statements state
+abbrev pub with_all : (ℕ → ℕ) → Sets → List Stmt → Sets
+with_all keys l [] = l
+with_all keys l (x ∷ xs) = with_all keys (with_stated keys l x.tuple x.sign) xs
 
 -- what is stated at this very path
 abbrev pub level_of : (ℕ → ℕ) → List Stmt → List ℕ → Sets
-level_of keys stmts w = grown_all keys w no_level stmts
+level_of keys stmts w = with_all keys no_level (filter (λ x. same_path x.path w) stmts)
 
--- the level of the path, then that of the path without its first user, and so on to the empty path
+-- the level of statements, unless there are none
+abbrev pub level_if_any : (ℕ → ℕ) → List Stmt → List Sets
+level_if_any keys stmts = cond (length stmts == 0) [] (with_all keys no_level stmts ∷ [])
+
+-- the level of the path, then that of the path without its first user, and so on to the empty path, without those at
+-- which nothing is stated
 abbrev pub levels_of : (ℕ → ℕ) → List Stmt → List ℕ → List Sets
-levels_of keys stmts [] = level_of keys stmts [] ∷ []
-levels_of keys stmts (i ∷ w) = level_of keys stmts (i ∷ w) ∷ levels_of keys stmts w
+levels_of keys stmts [] = level_if_any keys (filter (λ x. same_path x.path []) stmts)
+levels_of keys stmts (i ∷ w) = level_if_any keys (filter (λ x. same_path x.path (i ∷ w)) stmts) ++ levels_of keys stmts w
 
 -- a level states a signed tuple
 abbrev pub has_stated : Sets → Tuple → Sign → Bool
@@ -52,7 +53,7 @@ abbrev pub refuses : Sets → Tuple → Tuple → Sign → Bool
 refuses l t key Plus = is_member tuple_cmp l.minus t || is_member tuple_cmp l.keys key
 refuses l t key Minus = is_member tuple_cmp l.plus t
 
--- the world of the first level's path has a signed tuple
+-- the world of the levels' path has a signed tuple
 abbrev pub stated_by : List Sets → Tuple → Tuple → Sign → Bool
 stated_by [] t key s = false
 stated_by (l ∷ lower) t key s = has_stated l t s || (stated_by lower t key s && not (refuses l t key s))

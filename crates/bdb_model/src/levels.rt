@@ -1,10 +1,10 @@
 // What is stated at each end of a path, which is all that its world depends on.
-ghost use Rattle.std.specs.Prelude.{◌≡◌, true, [], IfOk, OnOk};
-ghost use Rattle.bdb_base.specs.Order.{tuple_cmp};
+ghost use Rattle.std.specs.Prelude.{◌≡◌, ◌++◌, true, [], IfOk, OnOk};
+ghost use Rattle.bdb_base.specs.Order.{statement_cmp, tuple_cmp};
 ghost use Rattle.bdb_base.specs.SortedSet.{ascending, is_member};
-ghost use Rattle.bdb_model.specs.Levels.{key_tuple, with_stated, level_of, levels_of, has_stated, refuses, stated_by};
+ghost use Rattle.bdb_model.specs.Levels.{key_tuple, no_level, with_stated, with_all, level_of, level_if_any, levels_of, has_stated, refuses, stated_by};
 
-use crate::beliefs::is_at;
+use crate::ends::at_path;
 use bdb_base::{Exact, List, Sign, Stmt, Tuple, key_of, place_of, put, put_copy};
 use std::alloc::{AllocError, Global};
 use std::marker::Model;
@@ -81,32 +81,52 @@ impl Level {
 
 /// What is stated at this very path.
 pub fn level_of(alloc: Global, stmts: &[Stmt], path: &[u32]) -> Result<Level, AllocError>
+    requires { ascending statement_cmp stmts.now ≡ true }
     ensures { IfOk result (λ level. level ≡ level_of (λ _. 1) stmts.now path.now) }
+{
+    let level = level_with(alloc, at_path(stmts, path))?;
+    Ok(level)
+}
+
+/// The level at which all of these statements stand.
+fn level_with(alloc: Global, stmts: &[Stmt]) -> Result<Level, AllocError>
+    ensures { IfOk result (λ level. level ≡ with_all (λ _. 1) no_level stmts.now) }
 {
     let mut level = Level::new(alloc);
     for x in stmts {
-        if is_at(x, path) {
-            level.add(alloc, x)?;
-        }
+        level.add(alloc, x)?;
     }
     Ok(level)
 }
 
-/// The level of the path, then that of the path without its first user, and so on to the empty path.
+/// The level of the path, then that of the path without its first user, and so on to the empty path, without those at
+/// which nothing is stated.
 pub fn levels_of(alloc: Global, stmts: &[Stmt], path: &[u32]) -> Result<Vec<Level>, AllocError>
+    requires { ascending statement_cmp stmts.now ≡ true }
     ensures { IfOk result (λ levels. levels.items ≡ levels_of (λ _. 1) stmts.now path.now) }
 {
     let mut levels = Vec::new(alloc);
     let mut rest = path;
     while let [_, others @ ..] = rest {
-        levels.push(level_of(alloc, stmts, rest)?)?;
+        push_if_any(alloc, &mut levels, at_path(stmts, rest))?;
         rest = others;
     }
-    levels.push(level_of(alloc, stmts, rest)?)?;
+    push_if_any(alloc, &mut levels, at_path(stmts, rest))?;
     Ok(levels)
 }
 
-/// Whether the world of the first level's path has a signed tuple.
+/// Adds the level at which all of these statements stand, if there are any.
+fn push_if_any(alloc: Global, levels: &mut Vec<Level>, stmts: &[Stmt]) -> Result<(), AllocError>
+    ensures { OnOk result (levels.new.items ≡ levels.old.items ++ level_if_any (λ _. 1) stmts.now) }
+{
+    if stmts.is_empty() {
+        return Ok(());
+    }
+    levels.push(level_with(alloc, stmts)?)?;
+    Ok(())
+}
+
+/// Whether the world of the levels' path has a signed tuple.
 pub fn stated_by(levels: &[Level], t: &Tuple, key: &Tuple, s: Sign) -> bool
     ensures { result ≡ stated_by levels.now t.now key.now s }
 {

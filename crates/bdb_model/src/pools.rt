@@ -1,8 +1,10 @@
 // What can be chosen for the items of a query.
-ghost use Rattle.std.specs.Prelude.{◌≡◌, ◌≤◌, ◌<◌, ◌+◌, ◌++◌, ◌^◌, length, map, IfOk, OnOk};
+ghost use Rattle.std.specs.Prelude.{◌≡◌, ◌≤◌, ◌<◌, ◌+◌, ◌++◌, ◌^◌, true, length, map, IfOk, OnOk};
 ghost use Rattle.std.specs.Option.{option_copied};
 ghost use Rattle.std.specs.List.{slice_get};
+ghost use Rattle.bdb_base.specs.Order.{statement_cmp};
 ghost use Rattle.bdb_base.specs.Queries.{columns_at};
+ghost use Rattle.bdb_base.specs.SortedSet.{ascending};
 ghost use Rattle.bdb_model.specs.Pools.{world_at, item_world, user_pool, plus_tuples, plus_pool, plus_pools, sourced_value, sourced_values, denies, is_denied, denied_tuples, minus_pool, minus_pools};
 ghost use Rattle.bdb_model.specs.Slots.{user_tuples};
 
@@ -23,6 +25,7 @@ pub fn worlds_of(
     slots: &[Option<Tuple>],
     items: &[Item],
 ) -> Result<Vec<List<Held>>, AllocError>
+    requires { ascending statement_cmp stmts.now ≡ true }
     ensures { IfOk result (λ worlds. worlds.items ≡ map (item_world stmts.now slots.now) items.now) }
 {
     let mut worlds = Vec::new(alloc);
@@ -38,6 +41,7 @@ fn item_world(
     slots: &[Option<Tuple>],
     item: &Item,
 ) -> Result<List<Held>, AllocError>
+    requires { ascending statement_cmp stmts.now ≡ true }
     ensures { IfOk result (λ world. world ≡ item_world stmts.now slots.now item.now) }
 {
     match item {
@@ -54,6 +58,7 @@ fn item_world(
 
 /// The world of a path that has no equal neighbours; else nothing.
 fn world_at(alloc: Global, stmts: &[Stmt], users: &[u32]) -> Result<List<Held>, AllocError>
+    requires { ascending statement_cmp stmts.now ≡ true }
     ensures { IfOk result (λ world. world ≡ world_at stmts.now (Some users.now)) }
 {
     match Path::try_new(alloc, users) {

@@ -1,7 +1,6 @@
 // The answers of a query.
-ghost use Rattle.std.specs.Prelude.{◌≡◌, ◌≤◌, true, List, IfOk, length};
+ghost use Rattle.std.specs.Prelude.{◌≡◌, true, List, IfOk};
 ghost use Rattle.bdb_base.specs.declared.kinds.Value.{Value};
-ghost use Rattle.bdb_base.specs.Bases.{IsValid};
 ghost use Rattle.bdb_base.specs.Queries.{active_domain, HasValues, answers_of, answers_over};
 ghost use Rattle.bdb_base.specs.Safety.{query_fits, IsSafe};
 ghost use Rattle.bdb_model.specs.Answering.{open_slots};
@@ -12,7 +11,7 @@ use crate::found::Found;
 use crate::pools::user_pools;
 use crate::sources::sources_of;
 use crate::stages::UsersChosen;
-use bdb_base::{Base, Catalog, Item, List, Query, Stmt, Tuple, Value};
+use bdb_base::{Base, Item, List, Query, Tuple, Value};
 use std::alloc::{AllocError, Global};
 
 /// The answers of a safe query over a base, in order, each once. They are the same over each domain that has the values
@@ -42,30 +41,26 @@ pub fn answers_up_to(
     ensures rows { IfOk result (λ rows. rows ≡ up_to most (answers_of base.now q.now)) }
     ensures domains { IfOk result (λ rows. (dom : List Value) → HasValues dom (active_domain base.now q.now) → rows ≡ up_to most (answers_over base.now dom q.now)) }
 {
-    let rows = rows_up_to(alloc, base.catalog(), base.stmts(), q, most)?;
+    let rows = rows_up_to(alloc, base, q, most)?;
     Ok(rows)
 }
 
 /// The rows that answer a query, where there are at most so many; none exactly where there are more. They are the answers
-/// where the base is valid, and the query fits its catalog and is safe.
+/// where the query fits the catalog and is safe.
 pub fn rows_up_to(
     alloc: Global,
-    catalog: &Catalog,
-    stmts: &[Stmt],
+    base: &Base,
     q: &Query,
     most: usize,
 ) -> Result<Option<List<List<Value>>>, AllocError>
-    requires { length catalog.now.users ≤ 256 }
-    ensures { IfOk result (λ rows. IsValid catalog.now stmts.now → query_fits catalog.now q.now ≡ true → IsSafe catalog.now.rels q.now
-        → rows ≡ up_to most (answers_of (record { catalog = catalog.now; stmts = stmts.now }) q.now)) }
+    ensures { IfOk result (λ rows. query_fits base.now.catalog q.now ≡ true → IsSafe base.now.catalog.rels q.now → rows ≡ up_to most (answers_of base.now q.now)) }
 {
     let items = q.items.as_slice();
     let sources = sources_of(alloc, q)?;
-    let pools = user_pools(alloc, catalog.users.as_slice(), items)?;
+    let pools = user_pools(alloc, base.catalog().users.as_slice(), items)?;
     let slots = open_slots(alloc, items)?;
     let stage = UsersChosen {
-        catalog,
-        stmts,
+        base,
         query: q,
         sources: sources.as_slice(),
     };

@@ -1,15 +1,29 @@
 // The world of a path as a list of rows.
-ghost use Rattle.std.specs.Prelude.{◌≡◌, ◌++◌, IfOk, OnOk};
+ghost use Rattle.std.specs.Prelude.{◌≡◌, ◌++◌, true, IfOk, OnOk};
+ghost use Rattle.bdb_base.specs.Order.{statement_cmp};
+ghost use Rattle.bdb_base.specs.SortedSet.{ascending};
 ghost use Rattle.bdb_base.specs.WorldRows.{world_of};
 ghost use Rattle.bdb_model.specs.Levels.{row_by, rows_by};
 
+use crate::ends::at_ends;
 use crate::levels::{Level, key_tuple, level_of, levels_of, stated_by};
 use bdb_base::{Exact, Held, List, Sign, Stmt, Tuple, World, tuples_of};
 use std::alloc::{AllocError, Global};
 
-/// The world of a path, where these statements stand, by tuple. A row is explicit exactly where it is a statement of
-/// this very path.
+/// The world of a path, where these statements stand, in order, by tuple. It is made from the statements at the path's
+/// ends alone. A row is explicit exactly where it is a statement of this very path.
 pub fn world_among(alloc: Global, stmts: &[Stmt], path: &[u32]) -> Result<World, AllocError>
+    requires { ascending statement_cmp stmts.now ≡ true }
+    ensures { IfOk result (λ world. world.held ≡ world_of (λ _. 1) stmts.now path.now) }
+{
+    let near = at_ends(alloc, stmts, path)?;
+    let world = world_from(alloc, near.as_slice(), path)?;
+    Ok(world)
+}
+
+/// The world of a path, where these statements stand, with a look at each of their tuples.
+fn world_from(alloc: Global, stmts: &[Stmt], path: &[u32]) -> Result<World, AllocError>
+    requires { ascending statement_cmp stmts.now ≡ true }
     ensures { IfOk result (λ world. world.held ≡ world_of (λ _. 1) stmts.now path.now) }
 {
     let tuples = tuples_of(alloc, stmts)?;

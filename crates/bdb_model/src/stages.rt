@@ -8,14 +8,13 @@ use crate::choosing::{Stage, choose};
 use crate::found::Found;
 use crate::pools::{minus_pools, plus_pools, worlds_of};
 use crate::slots::{known_row, must_all_hold};
-use bdb_base::{Catalog, Cond, Held, List, Query, Stmt, Tuple};
+use bdb_base::{Base, Catalog, Cond, Held, List, Query, Tuple};
 use std::alloc::{AllocError, Global};
 
 /// All users are chosen.
 #[derive(Drop)]
 pub struct UsersChosen<'a> {
-    pub catalog: &'a Catalog,
-    pub stmts: &'a [Stmt],
+    pub base: &'a Base,
     pub query: &'a Query,
     pub sources: &'a [Cond],
 }
@@ -38,7 +37,7 @@ struct AllChosen<'a> {
 impl Stage for UsersChosen<'_> {
     ghost use Rattle.bdb_model.specs.Answering.{rows_of_users};
 
-    ghost rows = { λ s slots. rows_of_users (record { catalog = s.catalog.now; stmts = s.stmts.now }) s.query.now s.sources.now slots };
+    ghost rows = { λ s slots. rows_of_users s.base.now s.query.now s.sources.now slots };
 
     fn add_rows(
         &self,
@@ -47,10 +46,10 @@ impl Stage for UsersChosen<'_> {
         found: &mut Found,
     ) -> Result<(), AllocError> {
         let items = self.query.items.as_slice();
-        let worlds = worlds_of(alloc, self.stmts, slots, items)?;
+        let worlds = worlds_of(alloc, self.base.stmts(), slots, items)?;
         let pools = plus_pools(alloc, items, worlds.as_slice())?;
         let stage = TuplesChosen {
-            catalog: self.catalog,
+            catalog: self.base.catalog(),
             query: self.query,
             sources: self.sources,
             worlds: worlds.as_slice(),

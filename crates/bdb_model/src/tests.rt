@@ -1,6 +1,10 @@
 // Worlds and beliefs of a short session. Alice is user 1, Bob is user 2.
-use crate::{believes_among, clashing_among, stated_among, world_among};
-use bdb_base::{List, Path, Sign, Stmt, Tuple, Txt, Value, World};
+ghost use Rattle.std.specs.Prelude.{◌≡◌, true, IfOk};
+ghost use Rattle.bdb_base.specs.Order.{statement_cmp};
+ghost use Rattle.bdb_base.specs.SortedSet.{ascending};
+
+use crate::{at_ends, believes_among, clashing_among, stated_among, world_among};
+use bdb_base::{List, Path, Sign, Stmt, Tuple, Txt, Value, World, put};
 use std::alloc::{AllocError, Global};
 use std::test::Fail;
 
@@ -23,13 +27,14 @@ const BOB_B: Given = (&[2], Sign::Plus, "b", "y");
 fn worlds(rt: HostRuntime) -> Result<(), Fail> {
     let alloc = rt.alloc();
     let deep = [1, 2, 1, 2, 1, 2, 1, 2, 1, 2];
-    let cases: [(&[Given], &[u32], &str); 9] = [
+    let cases: [(&[Given], &[u32], &str); 10] = [
         (&[], &[], ""),
         (&[EAGLE, BOB_DENIES], &[2], "- s1 eagle explicit; "),
         (&[EAGLE, BOB_DENIES], &[1, 2], "- s1 eagle inherited; "),
         (&[EAGLE, BOB_DENIES], &[2, 1], "+ s1 eagle inherited; "),
         (&[EAGLE, BOB_DENIES], &deep, "- s1 eagle inherited; "),
         (&[EAGLE, CROW, BOB_DENIES], &[1], "+ s1 crow explicit; "),
+        (&[EAGLE, CROW, BOB_DENIES], &[2, 1], "+ s1 crow inherited; "),
         (
             &[EAGLE, CROW, NO_RAVEN, BOB_DENIES],
             &[1],
@@ -47,6 +52,18 @@ fn worlds(rt: HostRuntime) -> Result<(), Fail> {
         let world = world_among(alloc, stmts.as_slice(), path)?;
         let text = text_of(alloc, &world)?;
         assert_eq!(rt; text.as_str(), want);
+    }
+    Ok(())
+}
+
+#[test]
+fn statements_at_ends(rt: HostRuntime) -> Result<(), Fail> {
+    let alloc = rt.alloc();
+    let stmts = stmts_of(alloc, &[EAGLE, CROW, NO_RAVEN, BOB_DENIES])?;
+    let cases: [(&[u32], usize); 4] = [(&[], 1), (&[1], 3), (&[1, 2], 2), (&[3], 1)];
+    for (path, count) in cases {
+        let near = at_ends(alloc, stmts.as_slice(), path)?;
+        assert_eq!(rt; near.len(), count);
     }
     Ok(())
 }
@@ -88,16 +105,23 @@ fn clashes(rt: HostRuntime) -> Result<(), Fail> {
     Ok(())
 }
 
-fn stmts_of(alloc: Global, given: &[Given]) -> Result<List<Stmt>, Fail> {
+fn stmts_of(alloc: Global, given: &[Given]) -> Result<List<Stmt>, Fail>
+    ensures { IfOk result (λ stmts. ascending statement_cmp stmts ≡ true) }
+{
     let mut stmts = List::new(alloc);
     for (path, sign, k, v) in given {
-        stmts.push(Stmt {
-            path: Path::try_new(alloc, *path)?,
-            sign: *sign,
-            tuple: tuple_of(alloc, *k, *v)?,
-        })?;
+        let stmt = stmt_of(alloc, *path, *sign, *k, *v)?;
+        let _added = put(&mut stmts, stmt)?;
     }
     Ok(stmts)
+}
+
+fn stmt_of(alloc: Global, path: &[u32], sign: Sign, k: &str, v: &str) -> Result<Stmt, Fail> {
+    Ok(Stmt {
+        path: Path::try_new(alloc, path)?,
+        sign,
+        tuple: tuple_of(alloc, k, v)?,
+    })
 }
 
 fn tuple_of(alloc: Global, k: &str, v: &str) -> Result<Tuple, AllocError> {

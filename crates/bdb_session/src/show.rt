@@ -1,5 +1,7 @@
 // The command that shows a world.
-ghost use Rattle.std.specs.Prelude.{◌≡◌, IfOk};
+ghost use Rattle.std.specs.Prelude.{◌≡◌, true, IfOk};
+ghost use Rattle.bdb_base.specs.Order.{statement_cmp};
+ghost use Rattle.bdb_base.specs.SortedSet.{ascending};
 ghost use Rattle.bdb_keep.specs.Seen.{IsStill};
 ghost use Rattle.bdb_tables.specs.Holds.{Holds};
 ghost use Rattle.bdb_session.specs.Machine.{refusal_of_bound, asked_base, accepted_reply, world_at};
@@ -37,13 +39,14 @@ impl Session {
     }
 }
 
-/// The text of the world of a path.
+/// The text of the world of a path, where these statements stand, in order.
 fn world_text(
     alloc: Global,
     catalog: &Catalog,
     stmts: &[Stmt],
     path: &[u32],
 ) -> Result<List<u8>, AllocError>
+    requires { ascending statement_cmp stmts.now ≡ true }
     ensures { IfOk result (λ text. text ≡ world_reply catalog.now (world_at (record { catalog = catalog.now; stmts = stmts.now }) path.now)) }
 {
     let world = world_among(alloc, stmts, path)?;

@@ -1,16 +1,13 @@
-use Rattle.std.proofs.Common.{◌∙◌, ◌≤◌, length, ap, arith}
-use Rattle.std.specs.List.{flat_map}
-use Rattle.std.proofs.lemmas.List.{take_all}
-use Rattle.bdb_base.specs.WorldRows.{tuples_of}
-use Rattle.bdb_model.specs.Levels.{rows_by, levels_of, level_of}
-use Rattle.bdb_model.proofs.LevelLemmas.{world_by_levels}
+use Rattle.std.proofs.Common.{◌∙◌, ap}
+use Rattle.bdb_base.specs.Order.{statement_cmp}
+use Rattle.bdb_base.specs.SortedSet.{ascending}
+use Rattle.bdb_base.specs.WorldRows.{world_of}
+use Rattle.bdb_model.proofs.EndLemmas.{ends_ascend, worlds_depend_on_ends}
 use Rattle.bdb_model.proofs.rows.world_among.Goals as goal
 
+pub world_from-requires : goal.world_from-requires
+world_from-requires c = ap (ascending statement_cmp) (c.as_slice.ensures ∙ c.in_ok-near.ensures) ∙ ends_ascend c.args.path.now c.args.stmts.now c.requires
+
 pub returns : goal.returns
-returns c =
-    let same = ap length (c.as_slice-tuple-items.ensures ∙ c.in_ok-tuples.ensures) in
-    let past : length (tuples_of c.args.stmts.now) ≤ c.loop-tuple.tuple-index = omega arith in
-    c.loop-tuple.invariant
-    ∙ ap (flat_map (rows_by (λ _. 1) (levels_of (λ _. 1) c.args.stmts.now c.args.path.now) (level_of (λ _. 1) c.args.stmts.now c.args.path.now)))
-    (take_all c.loop-tuple.tuple-index (tuples_of c.args.stmts.now) past)
-    ∙ world_by_levels (λ _. 1) c.args.stmts.now c.args.path.now
+returns c = c.in_ok-world.ensures ∙ ap (λ xs. world_of (λ _. 1) xs c.args.path.now) (c.as_slice.ensures ∙ c.in_ok-near.ensures)
+    ∙ worlds_depend_on_ends (λ _. 1) c.args.stmts.now c.args.path.now
