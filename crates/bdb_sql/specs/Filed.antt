@@ -34,10 +34,12 @@ pub record Answers {S T : Type 0} (old new : Filed S) (result : Result T KeepErr
   pub conn : new.conn ≡ old.conn
 
 -- How a commit ends. Where the keeper doesn't work it is refused, always in the same way. After any refusal the keeper
--- doesn't work, and each call from then on is refused with what it was refused with before, else with a fault.
+-- doesn't work, and each call from then on is refused with what it was refused with before, else with a fault. None is
+-- accepted without a connection.
 pub record Commits {S T : Type 0} (old new : Filed S) (result : Result T KeepError) : Type 0 where
   pub refused : IfSome old.refusal (IsErrOf result)
   pub ok : OnOk result (new.refusal ≡ old.refusal)
+  pub file : OnOk result (IsSome old.conn × IsSome new.conn)
   pub err : OnErr result (new.refusal ≡ Some (unwrap_or old.refusal Fault))
 
 -- How a keeper begins: nothing runs, nothing was counted but a fault of loading, and each row is in tables 1 to 15.

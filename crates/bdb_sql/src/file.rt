@@ -1,5 +1,6 @@
 // A keeper over the file at a path.
-ghost use Rattle.bdb_sql.specs.Filed.{Begins};
+ghost use Rattle.std.specs.Prelude.{◌≡◌, true, IsSome};
+ghost use Rattle.bdb_sql.specs.Filed.{Begins, works};
 
 use crate::keeper::SqlKeeper;
 use crate::told::told;
@@ -11,7 +12,8 @@ impl SqlKeeper<FileStore<File>> {
     /// Opens the file at a path, or makes it, and loads its rows. Where the file can't be opened, is no database, or
     /// holds what is no row of tables 1 to 15, the keeper doesn't work. It takes memory.
     pub fn from_file(alloc: Global, rt: &HostRuntime, path: &str) -> Self
-        ensures { Begins result }
+        ensures begins { Begins result }
+        ensures file { works result ≡ true → IsSome result.conn }
     {
         match Connection::open(rt, path) {
             Ok(conn) => SqlKeeper::over(alloc, conn),

@@ -50,10 +50,11 @@ impl<S: Alter> Model for SqlKeeper<S> {
 
 impl<S: Alter> SqlKeeper<S> {
     /// Takes an open connection, makes the table unless it is there, and loads its rows. Where that is refused, or a
-    /// row fits no table 1 to 15, the keeper doesn't work.
+    /// row fits no table 1 to 15, the keeper doesn't work. It has the connection in either case.
     #[tactic(auto, using(crate::proofs::FitLemmas::fits_empty))]
     pub fn over(alloc: Global, mut conn: Connection<S>) -> Self
-        ensures { Begins result }
+        ensures begins { Begins result }
+        ensures conn { IsSome result.conn }
     {
         match load(alloc, &mut conn) {
             Ok(store) => SqlKeeper::begun(alloc, store, Some(conn), None),
@@ -64,7 +65,9 @@ impl<S: Alter> SqlKeeper<S> {
     /// A keeper with no file. It doesn't work.
     #[tactic(auto, using(crate::proofs::FitLemmas::fits_empty))]
     pub(crate) fn closed(alloc: Global, error: KeepError) -> Self
-        ensures { Begins result }
+        ensures begins { Begins result }
+        ensures refused { result.refusal ≡ Some error }
+        ensures conn { result.conn ≡ None }
     {
         SqlKeeper::begun(alloc, Store::new(alloc), None, Some(error))
     }
@@ -79,7 +82,9 @@ impl<S: Alter> SqlKeeper<S> {
         requires settled { store.kept ≡ store.last }
         requires fits { FitTables store.kept }
         requires empty { IsSome refusal → store.kept ≡ map.empty }
-        ensures { Begins result }
+        ensures begins { Begins result }
+        ensures conn { result.conn ≡ conn }
+        ensures refusal { result.refusal ≡ refusal }
     {
         SqlKeeper {
             alloc,
@@ -354,7 +359,9 @@ fn write_to<S: Alter>(
     alloc: Global,
     conn: &mut Option<Connection<S>>,
     store: &Store,
-) -> Result<(), KeepError> {
+) -> Result<(), KeepError>
+    ensures file { OnOk result (IsSome conn.old × IsSome conn.new) }
+{
     let Some(conn) = conn else {
         return Err(KeepError::Fault);
     };
