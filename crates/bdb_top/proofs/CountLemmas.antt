@@ -1,8 +1,7 @@
 -- What the events that count tell of a run.
-use Rattle.std.proofs.Common.{◌≡◌, ◌≢◌, ◌∙◌, ℕ, ◌+◌, ◌-◌, ◌<◌, ◌≤◌, ◌^◌, Bool, true, false, ◌&&◌, nat_eq, nat_lt, cond, List, [], ◌∷◌, ◌++◌, take, drop, Option, Some, None, is_none, inl, inr, refl, ap, sym, subst, append_assoc, arith}
+use Rattle.std.proofs.Common.{◌≡◌, ◌≢◌, ◌∙◌, ℕ, ◌+◌, ◌-◌, ◌<◌, Bool, false, ◌&&◌, nat_eq, nat_lt, List, [], ◌∷◌, ◌++◌, take, drop, Option, Some, None, is_none, inl, inr, refl, ap, sym, subst, append_assoc, arith}
 use Rattle.std.specs.Bool.{if◌then◌else◌}
 use Rattle.std.proofs.lemmas.Bool.{cases_Bool, cond-true, cond-false, le-ltb, lt-ltb}
-use Rattle.std.specs.Io.KnownBytes.{Appends}
 use Rattle.std.proofs.lemmas.List.{take-append-drop}
 use Rattle.bdb_base.specs.Bases.{Contents}
 use Rattle.bdb_keep.specs.Seen.{Seen}
@@ -12,10 +11,9 @@ use Rattle.bdb_session.specs.declared.event.Event.{Event}
 use Rattle.bdb_session.specs.declared.reading.Reading.{Reading}
 use Rattle.bdb_session.specs.declared.reading.Reading.TheVariants.{Nothing, Says, Refused}
 use Rattle.bdb_session.specs.Machine.{counts, next_base, reply_of, base_by, reading_base, reading_at, refusal_at, has_token}
-use Rattle.bdb_session.specs.Opening.{opening}
 use Rattle.bdb_session.specs.Runs.{after, replies, IsFrontOf}
 use Rattle.bdb_top.specs.Counted.{counted, before_count, up_to_count}
-use Rattle.bdb_top.specs.Ran.{Ran, WritesPart}
+use Rattle.bdb_top.specs.Ran.{Ran}
 use Rattle.bdb_top.proofs.RunLemmas.{replies-push}
 use Rattle.bdb_top.specs.Laws.{IsToldByCount, CountTellsTheBase, BeginsWith, EndsByCount, RanEndsByCount}
 

@@ -1,5 +1,5 @@
 -- What tables without rows stand for.
-use Rattle.std.proofs.Common.{◌≡◌, refl, inr}
+use Rattle.std.proofs.Common.{refl, inr}
 use Rattle.bdb_base.specs.Bases.{IsValid, empty_contents}
 use Rattle.bdb_top.specs.Laws.{NoRowsStandForABase}
 

@@ -8,11 +8,11 @@ use Rattle.bdb_keep.specs.Tables.{Tables}
 use Rattle.bdb_tables.specs.Holds.{Holds, Stands}
 use Rattle.bdb_session.specs.declared.event.Event.{Event}
 use Rattle.bdb_session.specs.Opening.{opening}
-use Rattle.bdb_session.specs.Runs.{after, replies, accepts_all, events_of, IsFrontOf}
+use Rattle.bdb_session.specs.Runs.{after, replies, accepts_all, events_of}
 use Rattle.bdb_top.specs.Counted.{counted}
 use Rattle.bdb_top.specs.declared.stop.Stop.{Stop}
 use Rattle.bdb_top.specs.declared.stop.Stop.TheVariants.{Source, Sink, Keeper, Memory, Large}
-use Rattle.bdb_top.specs.Ran.{Carried, Comes, EndsEarly, Ends, EachBase, WritesPart, Ran, CommitsFor, status_of}
+use Rattle.bdb_top.specs.Ran.{Carried, EndsEarly, Ends, EachBase, Ran, CommitsFor, status_of}
 
 append_nil : {X : Type 0} (xs : List X) → xs ++ [] ≡ xs
 append_nil [] = refl

@@ -231,12 +231,7 @@ fn answers_have_a_limit(rt: HostRuntime) -> Result<(), Fail> {
 }
 
 /// Adds the insert of an eagle at the path of two users.
-fn push_eagle(
-    alloc: Global,
-    script: &mut String,
-    outer: u32,
-    inner: u32,
-) -> Result<(), Fail> {
+fn push_eagle(alloc: Global, script: &mut String, outer: u32, inner: u32) -> Result<(), Fail> {
     let path = format!(in alloc; "BELIEF '{outer}' BELIEF '{inner}'")?;
     script.push_str("insert into ")?;
     script.push_str(path.as_str())?;
