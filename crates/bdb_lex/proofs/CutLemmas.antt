@@ -1,16 +1,21 @@
 -- What runs of bytes do to the piece and to the state of a cutter.
-use Rattle.std.proofs.Common.{◌≡◌, ℕ, suc, ◌+◌, ◌<◌, ◌≤◌, Bool, true, false, cond, ◌||◌, List, [], ◌∷◌, ◌++◌, length, get_or, take, drop, refl, sym, ap, ◌∙◌, arith, append_assoc, add-one, drop-cons, length-append, nat_lt, inl, inr}
-use Rattle.std.proofs.Math.Seq.{take-suc}
-use Rattle.std.proofs.lemmas.Bool.{lt-ltb, le-ltb, cases_lt, cond-true, cond-false, le-leb, cases_Bool, and_from}
-use Rattle.std.proofs.lemmas.List.{append-nil}
+use Rattle.std.proofs.Common.{◌≡◌, ℕ, suc, ◌+◌, ◌<◌, ◌≤◌, Bool, true, false, cond, ◌||◌, List, [], ◌∷◌, ◌++◌, length, get_or, take, drop, refl, sym, ap, ◌∙◌, arith, append_assoc, add-one, drop-cons, length-append, nat_lt, nat_eq, inl, inr, not, ◌&&◌, slice_get, IfSome}
+use Rattle.std.proofs.Math.Seq.{take-suc, take-add}
+use Rattle.std.proofs.Math.Bool.{or-false, or_assoc}
+use Rattle.std.proofs.lemmas.Bool.{lt-ltb, le-ltb, cases_lt, cond-true, cond-false, le-leb, cases_Bool, and_from, and_parts, not-true, false≢true}
+use Rattle.std.proofs.lemmas.List.{append-nil, drop-drop, take-append-drop}
+use Rattle.std.proofs.lemmas.Option.{slice_get-get_or}
+use Rattle.std.proofs.Math.Path.{transport}
 use Rattle.bdb_lex.specs.declared.mode.Mode.{Mode}
 use Rattle.bdb_lex.specs.declared.token.Piece.{Piece}
 use Rattle.bdb_lex.specs.declared.token.Piece.TheVariants.{Cmd, Long}
-use Rattle.std.specs.List.{list_all}
+use Rattle.std.specs.List.{list_all, list_any}
 use Rattle.std.proofs.lemmas.List.Folds.{list_all-append}
 use Rattle.bdb_lex.specs.Cut.{CutState, start, longer, is_end, shows, next_mode, pieces_from, state_after, ended, next_state, grown, is_short}
 use Rattle.bdb_lex.specs.CutLaws.{NothingIsNoPiece, PiecesComeInParts, StatesComeInParts, PiecesAreShort}
-use Rattle.bdb_lex.specs.Runs.{state_of, longer_by, Leads}
+use Rattle.bdb_lex.specs.Runs.{state_of, longer_by, Leads, Runs, is_quiet}
+use Rattle.bdb_lex.specs.declared.run.Run.{Run}
+use Rattle.bdb_lex.specs.declared.mode.Mode.TheVariants.{Plain, Dash, Quoted, Comment}
 
 pub longer_by-long : (bytes : List ℕ) → longer_by Long bytes ≡ Long
 longer_by-long [] = refl
@@ -48,23 +53,73 @@ pub leads_on : (s now : CutState) (bytes rest : List ℕ) (then : CutState) (aft
     → Leads s bytes now rest → Leads now rest then after → Leads s bytes then after
 leads_on s now bytes rest then after a b = record { pieces = a.pieces ∙ b.pieces; state = a.state ∙ b.state }
 
-pub leads_more : (m : Mode) (h : Bool) (bytes : List ℕ) (now : Mode) (something : Bool) (len d : ℕ)
-    → len < length bytes → is_end now (get_or bytes len d) ≡ false
-    → ((p : Piece) → Leads (state_of m p h) bytes (state_of now (longer_by p (take len bytes)) something) (drop len bytes))
-    → (p : Piece) → Leads (state_of m p h) bytes
-    (state_of (next_mode now (get_or bytes len d)) (longer_by p (take (len + 1) bytes)) (something || shows now (get_or bytes len d))) (drop (len + 1) bytes)
-leads_more m h bytes now something len d lt e before p =
-    let byte = get_or bytes len d in
-    let cut : drop len bytes ≡ byte ∷ drop (suc len) bytes = drop-cons bytes len d lt in
-    let grew : longer_by p (take (suc len) bytes) ≡ longer (longer_by p (take len bytes)) byte =
-    ap (longer_by p) (take-suc bytes len d lt) ∙ longer_by-append p (take len bytes) (byte ∷ []) in
-    let step : Leads (state_of now (longer_by p (take len bytes)) something) (byte ∷ drop (suc len) bytes)
-    (state_of (next_mode now byte) (longer (longer_by p (take len bytes)) byte) (something || shows now byte)) (drop (suc len) bytes)
-    = leads_byte now (longer_by p (take len bytes)) something byte (drop (suc len) bytes) e in
+-- a run with a byte more, and whether it holds something then
+pub runs_more : (m : Mode) (h : Bool) (bytes : List ℕ) (r : Run) (something : Bool) → r.len < length bytes
+    → IfSome (slice_get bytes r.len) (λ b. is_end r.mode b ≡ false) → something ≡ (r.holds || shows r.mode (get_or bytes r.len 0))
+    → Runs m h bytes r → Runs m h bytes (record { len = r.len + 1; mode = next_mode r.mode (get_or bytes r.len 0); holds = something })
+runs_more m h bytes r something lt goes_on holds before p =
+    let b = get_or bytes r.len 0 in
+    let e : is_end r.mode b ≡ false =
+    transport (ap (λ o. IfSome o (λ b. is_end r.mode b ≡ false)) (slice_get-get_or bytes r.len 0 lt)) goes_on in
+    let cut : drop r.len bytes ≡ b ∷ drop (suc r.len) bytes = drop-cons bytes r.len 0 lt in
+    let grew : longer_by p (take (suc r.len) bytes) ≡ longer (longer_by p (take r.len bytes)) b =
+    ap (longer_by p) (take-suc bytes r.len 0 lt) ∙ longer_by-append p (take r.len bytes) (b ∷ []) in
+    let step = leads_byte r.mode (longer_by p (take r.len bytes)) r.holds b (drop (suc r.len) bytes) e in
     let so_far = before p in
-    rw (add-one, grew) record {
-      pieces = so_far.pieces ∙ (ap (pieces_from (state_of now (longer_by p (take len bytes)) something)) cut ∙ step.pieces);
-      state = so_far.state ∙ (ap (state_after (state_of now (longer_by p (take len bytes)) something)) cut ∙ step.state);
+    rw (add-one, grew, holds) record {
+      pieces = so_far.pieces ∙ (ap (pieces_from (state_of r.mode (longer_by p (take r.len bytes)) r.holds)) cut ∙ step.pieces);
+      state = so_far.state ∙ (ap (state_after (state_of r.mode (longer_by p (take r.len bytes)) r.holds)) cut ∙ step.state);
+    }
+
+-- a quiet byte changes no mode
+quiet_stays : (m : Mode) (b : ℕ) → is_quiet m b ≡ true → next_mode m b ≡ m
+quiet_stays Plain b q =
+    let parts = and_parts (not (nat_eq b 59)) (not (nat_eq b 39) && not (nat_eq b 45)) q in
+    let more = and_parts (not (nat_eq b 39)) (not (nat_eq b 45)) parts.1 in
+    rw (not-true (nat_eq b 39) more.0, not-true (nat_eq b 45) more.1) refl
+quiet_stays Dash b q = absurd (false≢true q)
+quiet_stays Quoted b q = rw (not-true (nat_eq b 39) q) refl
+quiet_stays Comment b q = rw (not-true (nat_eq b 10) q) refl
+
+-- and ends no piece
+quiet_goes_on : (m : Mode) (b : ℕ) → is_quiet m b ≡ true → is_end m b ≡ false
+quiet_goes_on Plain b q = not-true (nat_eq b 59) (and_parts (not (nat_eq b 59)) (not (nat_eq b 39) && not (nat_eq b 45)) q).0
+quiet_goes_on Dash b q = absurd (false≢true q)
+quiet_goes_on Quoted b q = refl
+quiet_goes_on Comment b q = refl
+
+-- quiet bytes make the piece longer, and may show something
+leads_quiet : (m : Mode) (p : Piece) (h : Bool) (quiet rest : List ℕ) → list_all (is_quiet m) quiet ≡ true
+    → Leads (state_of m p h) (quiet ++ rest) (state_of m (longer_by p quiet) (h || list_any (shows m) quiet)) rest
+leads_quiet m p h [] rest q = rw (or-false h) record { pieces = refl; state = refl }
+leads_quiet m p h (b ∷ quiet) rest q =
+    let parts = and_parts (is_quiet m b) (list_all (is_quiet m) quiet) q in
+    let stays : next_mode m b ≡ m = quiet_stays m b parts.0 in
+    let one = leads_byte m p h b (quiet ++ rest) (quiet_goes_on m b parts.0) in
+    let more = leads_quiet m (longer p b) (h || shows m b) quiet rest parts.1 in
+    let holds : (h || shows m b || list_any (shows m) quiet) ≡ (h || (shows m b || list_any (shows m) quiet)) = or_assoc h (shows m b) (list_any (shows m) quiet) in
+    rw (sym holds) record {
+      pieces = one.pieces ∙ (ap (λ now. pieces_from (state_of now (longer p b) (h || shows m b)) (quiet ++ rest)) stays ∙ more.pieces);
+      state = one.state ∙ (ap (λ now. state_after (state_of now (longer p b) (h || shows m b)) (quiet ++ rest)) stays ∙ more.state);
+    }
+
+-- a run with quiet bytes more
+pub runs_quiet : (m : Mode) (h : Bool) (bytes behind : List ℕ) (r : Run) (n : ℕ) (something : Bool) → behind ≡ drop r.len bytes
+    → list_all (is_quiet r.mode) (take n behind) ≡ true
+    → something ≡ (r.holds || list_any (shows r.mode) (take n behind)) → Runs m h bytes r
+    → Runs m h bytes (record { len = r.len + n; mode = r.mode; holds = something })
+runs_quiet m h bytes behind r n something is q holds before p =
+    let quiet = take n behind in
+    let rest = drop (r.len + n) bytes in
+    let cut : drop r.len bytes ≡ quiet ++ rest =
+    sym is ∙ (sym (take-append-drop n behind) ∙ ap (λ x. quiet ++ x) (ap (drop n) is ∙ drop-drop n r.len bytes)) in
+    let grew : longer_by p (take (r.len + n) bytes) ≡ longer_by (longer_by p (take r.len bytes)) quiet =
+    ap (longer_by p) (take-add r.len n bytes ∙ ap (λ x. take r.len bytes ++ take n x) (sym is)) ∙ longer_by-append p (take r.len bytes) quiet in
+    let step = leads_quiet r.mode (longer_by p (take r.len bytes)) r.holds quiet rest q in
+    let so_far = before p in
+    rw (grew, holds) record {
+      pieces = so_far.pieces ∙ (ap (pieces_from (state_of r.mode (longer_by p (take r.len bytes)) r.holds)) cut ∙ step.pieces);
+      state = so_far.state ∙ (ap (state_after (state_of r.mode (longer_by p (take r.len bytes)) r.holds)) cut ∙ step.state);
     }
 
 -- a byte that ends a piece cuts it off

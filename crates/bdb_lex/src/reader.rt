@@ -13,7 +13,7 @@ use bdb_base::List;
 use std::alloc::Global;
 
 /// For how many tokens there is room from the start. Most commands have no more.
-const USUAL_COUNT: usize = 16;
+const USUAL_COUNT: usize = 32;
 
 /// The tokens of a piece, each the longest that fits. `NotTokens` comes exactly where the piece is no list of tokens.
 pub fn tokens(alloc: Global, piece: &[u8]) -> Result<List<Token>, LexError>

@@ -1,7 +1,7 @@
 // The commands that show a world and the tables.
 ghost use Rattle.std.specs.Prelude.{◌≡◌, List};
 ghost use Rattle.bdb_parse.specs.Gives.{Gives};
-ghost use Rattle.bdb_parse.specs.Reading.{show_world_of, show_of};
+ghost use Rattle.bdb_parse.specs.Reading.{show_of};
 
 use crate::beliefs::beliefs;
 use crate::error::ParseError;
@@ -11,24 +11,16 @@ use bdb_lex::Token;
 use bdb_syntax::Command;
 use std::alloc::Global;
 
-/// What follows 'show world'.
-#[tactic(auto, unfolding(crate::specs::Reading::show_world_of))]
-fn show_world(alloc: Global, tokens: &[Token]) -> Result<Command, ParseError>
-    ensures { Gives (λ x. x) result (show_world_of tokens.now) }
-{
-    let (users, rest) = beliefs(alloc, tokens)?;
-    end(rest)?;
-    Ok(Command::ShowWorld { users })
-}
-
 /// What follows 'show'.
-#[tactic(auto, unfolding(crate::specs::Reading::show_of))]
+#[tactic(auto, unfolding(crate::specs::Reading::show_of, crate::specs::Reading::show_world_of))]
 pub fn show(alloc: Global, tokens: &[Token]) -> Result<Command, ParseError>
     ensures { Gives (λ x. x) result (show_of tokens.now) }
 {
     let (word, rest) = word(tokens)?;
     if is_keyword("world", word) {
-        return show_world(alloc, rest);
+        let (users, rest) = beliefs(alloc, rest)?;
+        end(rest)?;
+        return Ok(Command::ShowWorld { users });
     }
     if is_keyword("tables", word) {
         end(rest)?;
