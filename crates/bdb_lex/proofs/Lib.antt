@@ -1,4 +1,5 @@
 pub mod CutLemmas
+pub mod Rows
 pub mod TokenLemmas
 pub mod SpanLemmas
 pub mod SpellingLemmas

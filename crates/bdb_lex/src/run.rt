@@ -80,7 +80,7 @@ fn quiet_len(mode: Mode, bytes: &[u8]) -> usize
     }
 }
 
-/// The same outside texts and comments.
+/// How many bytes at the front, outside texts and comments, are no semicolon, no quote and no dash.
 fn plain_len(bytes: &[u8]) -> usize
     ensures bound { result ≤ length bytes.now }
     ensures quiet { list_all (is_quiet Mode.Plain) (take result bytes.now) ≡ true }
@@ -93,7 +93,7 @@ fn plain_len(bytes: &[u8]) -> usize
     bytes.len()
 }
 
-/// The same within a text.
+/// How many bytes at the front, within a text, are no quote.
 fn quoted_len(bytes: &[u8]) -> usize
     ensures bound { result ≤ length bytes.now }
     ensures quiet { list_all (is_quiet Mode.Quoted) (take result bytes.now) ≡ true }
@@ -106,7 +106,7 @@ fn quoted_len(bytes: &[u8]) -> usize
     bytes.len()
 }
 
-/// The same within a comment.
+/// How many bytes at the front, within a comment, are no line feed.
 fn comment_len(bytes: &[u8]) -> usize
     ensures bound { result ≤ length bytes.now }
     ensures quiet { list_all (is_quiet Mode.Comment) (take result bytes.now) ≡ true }
