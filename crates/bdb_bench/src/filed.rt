@@ -31,7 +31,7 @@ pub fn measure_open(rt: &HostRuntime, file: &str) -> io::Result<()> {
 }
 
 /// Commits so many rows so many times.
-fn commit_times<K: Keeper>(keeper: &mut K, commits: u32, rows: u32) -> Result<(), KeepError>
+pub fn commit_times<K: Keeper>(keeper: &mut K, commits: u32, rows: u32) -> Result<(), KeepError>
     requires { (K.seen keeper.old).running ≡ false }
 {
     for round in 0..commits {

@@ -1,8 +1,10 @@
 //! Measures what no script can reach, in microseconds of the clock: reading a script without answering it, the keeper in
-//! memory, and the keeper over a file. `bench/run.sh` calls it; without words it says how.
+//! memory, and the keeper over a file. `bench/run.sh` calls it; without words it says how. And it tells what the keeper makes
+//! of files that are there or not, which the gate compares.
 #![tactic(auto)]
 
 mod filed;
+mod files;
 mod kept;
 mod read;
 
@@ -33,7 +35,15 @@ fn measured(rt: &HostRuntime) -> io::Result<()> {
             number(rows.as_str()),
         ),
         [job, file] if job.as_str() == "open" => filed::measure_open(rt, file.as_str()),
-        _ => println!(rt; "read < SCRIPT | kept COUNT | filed FILE COMMITS ROWS | open FILE"),
+        [job, file, nowhere, other] if job.as_str() == "files" => files::tell(
+            rt,
+            file.as_str(),
+            nowhere.as_str(),
+            other.as_str(),
+        ),
+        _ => println!(rt;
+            "read < SCRIPT | kept COUNT | filed FILE COMMITS ROWS | open FILE | files NEW NOWHERE OTHER"
+        ),
     }
 }
 

@@ -1,5 +1,5 @@
 use super::*;
-use bdb_base::{List, Sign, Txt, Value};
+use bdb_base::{Exact, List, Sign, Txt, Value};
 use bdb_lex::{Token, tokens};
 use bdb_syntax::{Command, print};
 use std::alloc::{AllocError, Global};
@@ -139,21 +139,23 @@ fn aliases(rt: HostRuntime) -> Result<(), Fail> {
     Ok(())
 }
 
-/// The printed form of the command that a piece spells.
+/// The printed form of a copy of the command that a piece spells.
 fn reprinted(alloc: Global, piece: &[u8]) -> Result<List<u8>, Fail> {
     let tokens = match tokens(alloc, piece) {
         Ok(tokens) => tokens,
         Err(_) => return Err(Fail::from("this is a list of tokens")),
     };
     match parse(alloc, tokens.as_slice()) {
-        Ok(command) => Ok(print(alloc, &command)?),
+        Ok(command) => Ok(print(alloc, &command.try_clone(alloc)?)?),
         Err(_) => Err(Fail::from("this is a command")),
     }
 }
 
 /// Commands, and their printed forms.
-const PRINTED: [(&str, &str); 13] = [
+const PRINTED: [(&str, &str); 15] = [
     ("create user 'Alice'", "create user 'Alice'"),
+    ("create user 'Bob'", "create user 'Bob'"),
+    ("create user 'Carol'", "create user 'Carol'"),
     (
         "CREATE relation Sightings(sid text, observer text,species TEXT , place text)",
         "create relation Sightings(sid text, observer text, species text, place text)",

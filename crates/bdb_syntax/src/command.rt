@@ -14,7 +14,9 @@ pub struct RawCol {
 /// The right side of a comparison.
 #[derive(Drop)]
 pub enum RawSide {
+    /// A column.
     Col(RawCol),
+    /// A literal.
     Lit(Value),
 }
 
@@ -29,7 +31,9 @@ pub struct RawCond {
 /// A user of a query's path: a name, or a column of a `Users` item.
 #[derive(Drop)]
 pub enum RawWho {
+    /// The user of this name.
     Name(Txt),
+    /// Each user whom the column has in a row of its item.
     Col(RawCol),
 }
 
@@ -57,28 +61,33 @@ pub struct RawQuery {
     pub conds: List<RawCond>,
 }
 
-/// A command.
+/// A command, with names as they are written. The users of a path stand in its order, the outermost first.
 #[derive(Drop)]
 pub enum Command {
+    /// A new user.
     CreateUser {
         name: Txt,
     },
+    /// A new relation, whose first column is its key.
     CreateRelation {
         name: Txt,
         cols: List<ColDef>,
     },
+    /// A statement of a tuple at the path of the users.
     Insert {
         users: List<Txt>,
         sign: Sign,
         rel: Txt,
         vals: List<Value>,
     },
+    /// The statements of the path that meet all conditions are taken away.
     Delete {
         users: List<Txt>,
         sign: Sign,
         rel: Txt,
         conds: List<RawCond>,
     },
+    /// The statements of the path that meet all conditions get other values.
     Update {
         users: List<Txt>,
         sign: Sign,
@@ -86,15 +95,19 @@ pub enum Command {
         sets: List<RawSet>,
         conds: List<RawCond>,
     },
+    /// The answers of a query.
     Select {
         query: RawQuery,
     },
+    /// The plan of a query.
     Explain {
         query: RawQuery,
     },
+    /// What is believed at the path of the users.
     ShowWorld {
         users: List<Txt>,
     },
+    /// The structure that stands for all worlds.
     ShowTables,
 }
 

@@ -11,7 +11,8 @@ use bdb_base::{
 };
 use std::alloc::{AllocError, Global};
 
-/// The printed form of a command, without a semicolon. It reads back as the same command.
+/// The printed form of a command, without a semicolon. Where its names are words that aren't reserved, and its texts clean,
+/// it reads back as the same command.
 pub fn print(alloc: Global, command: &Command) -> Result<List<u8>, AllocError>
     ensures { IfOk result (λ bytes. bytes ≡ printed command.now) }
 {
