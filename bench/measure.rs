@@ -3,8 +3,8 @@
 mod plain;
 mod scripts;
 
-use scripts::{at_many_paths, at_one_path, beliefs, catalog, for_worlds, inserts, repeated, turns, Script};
-use std::collections::BTreeMap;
+use scripts::{at_many_paths, at_one_path, at_pairs, at_the_root, beliefs, catalog, for_worlds, inserts, repeated, turns, Script};
+use std::collections::{BTreeMap, BTreeSet};
 use std::fs::{self, File};
 use std::hint::black_box;
 use std::path::PathBuf;
@@ -90,6 +90,15 @@ impl Bench {
         let text = fs::read_to_string(&replies).expect("replies");
         let refused = text.lines().filter(|line| line.starts_with("error")).count();
         assert_eq!(refused, script.refused, "{}", text.lines().last().unwrap_or(""));
+    }
+
+    /// How many lines the last reply has, as it says itself.
+    fn lines(&self, script: &Script) -> usize {
+        let replies = self.work.join("replies");
+        self.run(&self.file(script), Stdio::from(File::create(&replies).expect("replies")));
+        let text = fs::read_to_string(&replies).expect("replies");
+        let count = text.lines().last().and_then(|line| line.strip_prefix("ok ")).expect("a count");
+        count.parse().expect("a number")
     }
 
     fn file(&self, script: &Script) -> PathBuf {
@@ -354,6 +363,20 @@ fn showing(bench: &Bench) {
     }
 }
 
+fn structure(bench: &Bench) {
+    head("One show tables", &["worlds", "users", "statements", "lines", "time", "each line"]);
+    let worlds = [230, 466, 954, 1_954].map(|paths| (45, at_pairs(45, paths)));
+    let users = [20, 60, 180].map(|users| (users, at_pairs(20, 380)));
+    let rows = [500, 1_000, 2_000, 3_900].map(|count| (20, at_the_root(20, count)));
+    for (users, stmts) in worlds.into_iter().chain(users).chain(rows) {
+        let script = Script::new(catalog(users, 1) + &inserts(&stmts));
+        let states: BTreeSet<&[u32]> = stmts.iter().flat_map(|stmt| (0..=stmt.path.len()).map(|len| &stmt.path[..len])).collect();
+        let lines = bench.lines(&script.and("show tables;", 1));
+        let time = bench.command(&script, "show tables;", 20);
+        row(&[states.len().to_string(), users.to_string(), stmts.len().to_string(), lines.to_string(), ms(time), format!("{:.2} us", time * 1e6 / lines as f64)]);
+    }
+}
+
 fn main() {
     let words: Vec<String> = std::env::args().skip(1).collect();
     let [program, work, runs] = words.as_slice() else { panic!("words: PROGRAM FOLDER RUNS") };
@@ -365,4 +388,5 @@ fn main() {
     binding(&bench);
     changing(&bench);
     showing(&bench);
+    structure(&bench);
 }

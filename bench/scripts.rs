@@ -107,3 +107,17 @@ pub fn for_worlds() -> Vec<Stmt> {
     }
     stmts
 }
+
+/// Statements of so many different paths of two of these users, each of a tuple of its own.
+pub fn at_pairs(users: u32, count: usize) -> Vec<Stmt> {
+    let pairs = (1..=users).flat_map(|first| (1..=users).filter(move |second| *second != first).map(move |second| vec![first, second]));
+    let stmts: Vec<Stmt> = pairs.take(count).enumerate().map(|(number, path)| statement(path, number)).collect();
+    assert_eq!(stmts.len(), count);
+    stmts
+}
+
+/// So many statements of the empty path, and one of each of these users.
+pub fn at_the_root(users: u32, count: usize) -> Vec<Stmt> {
+    let plain = mixed(count).map(|number| statement(Vec::new(), number));
+    plain.chain((1..=users).map(|uid| statement(vec![uid], 0))).collect()
+}
