@@ -109,10 +109,12 @@ pub trait Keeper {
         ensures cause { HasCause (seen self.old).faults (seen self.new).faults result KeepError.Fault }
         ensures err { OnErr result (IsDropped (seen self.old) (seen self.new)) };
 
-    /// Ends the transaction, if one runs, and goes back to the rows last committed. It can't be refused.
+    /// Ends the transaction, if one runs, and goes back to the rows last committed. It can't be refused, and counts no
+    /// fault.
     fn undo(&mut self)
         ensures rest { IsAtRest (seen self.old) }
         ensures dropped { IsDropped (seen self.old) (seen self.new) }
+        ensures faults { (seen self.new).faults ≡ (seen self.old).faults }
         ensures reads { (seen self.new).reads ≡ (seen self.old).reads }
         ensures writes { (seen self.new).writes ≡ (seen self.old).writes }
         ensures counts { NeverFall (seen self.old) (seen self.new) };

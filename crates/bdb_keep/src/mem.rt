@@ -304,6 +304,7 @@ impl Keeper for MemKeeper {
     fn undo(&mut self)
         ensures rest { IsAtRest self.old.seen }
         ensures dropped { IsDropped self.old.seen self.new.seen }
+        ensures faults { self.new.seen.faults ≡ self.old.seen.faults }
         ensures reads { self.new.seen.reads ≡ self.old.seen.reads }
         ensures writes { self.new.seen.writes ≡ self.old.seen.writes }
         ensures counts { NeverFall self.old.seen self.new.seen }

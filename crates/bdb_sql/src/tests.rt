@@ -95,6 +95,16 @@ fn reopened<S: Alter + Drop>(alloc: Global, keeper: SqlKeeper<S>) -> Option<SqlK
     }
 }
 
+/// How many rows the table in the file of a keeper has. The keeper is taken apart.
+fn row_count<S: Alter + Drop>(keeper: SqlKeeper<S>) -> Result<Option<i64>, Error> {
+    let Some(mut conn) = keeper.into_connection() else {
+        return Ok(None);
+    };
+    let row = conn.query_row("select count(*) from kept", &[])?;
+    let count = row.get(0)?;
+    Ok(Some(count))
+}
+
 #[test]
 fn a_file_has_what_was_committed(rt: HostRuntime) -> Result<(), Fail> {
     let alloc = rt.alloc();
@@ -122,35 +132,42 @@ fn a_file_has_what_was_committed(rt: HostRuntime) -> Result<(), Fail> {
 fn a_file_is_loaded_where_its_rows_fit(rt: HostRuntime) -> Result<(), Fail> {
     let alloc = rt.alloc();
     let files = [
-        (TABLE, "", true),
+        (TABLE, "", true, 0),
         (
             TABLE,
             "insert into kept values (1, x'', x''), (15, x'00', x'00')",
             true,
+            2,
         ),
         (
             TABLE,
             "insert into kept values (1, x'', x''), (16, x'', x'')",
             false,
+            2,
         ),
-        (TABLE, "insert into kept values (0, x'', x'')", false),
-        (TABLE, "insert into kept values (-1, x'', x'')", false),
-        (TABLE, "begin", false),
+        (TABLE, "insert into kept values (0, x'', x'')", false, 1),
+        (TABLE, "insert into kept values (-1, x'', x'')", false, 1),
+        (TABLE, "begin", false, 0),
         (
             "create table other(a)",
             "insert into other values (1)",
             true,
+            0,
         ),
-        ("create table kept(a)", "", false),
+        ("create table kept(a)", "", false, 0),
         (
             "create table kept(tab, k, v)",
             "insert into kept values (1, 'a', x'')",
             false,
+            1,
         ),
     ];
-    for (table, rows, works) in files {
-        let keeper = over(alloc, table, rows)?;
+    for (table, rows, works, count) in files {
+        let mut keeper = over(alloc, table, rows)?;
         assert_eq!(rt; keeper.works(), works, "{table}; {rows}");
+        let begun = if works { Ok(()) } else { Err(KeepError::Fault) };
+        assert_eq!(rt; keeper.begin(), begun, "{table}; {rows}");
+        assert_eq!(rt; row_count(keeper)?, Some(count), "{table}; {rows}");
     }
     Ok(())
 }
