@@ -1,8 +1,7 @@
 -- What is no row of its kind is no row of its table.
-use Rattle.std.proofs.Common.{◌≡◌, ℕ, ◌<◌, List, [], length, true, false, lit<, refl, sym, ap, ◌∙◌, arith}
+use Rattle.std.proofs.Common.{ℕ, ◌<◌, List, length, true, false, lit<, sym, ap, ◌∙◌, arith}
 use Rattle.std.proofs.lemmas.Bool.{false≢true}
 use Rattle.bdb_base.specs.declared.kinds.Sign.TheVariants as signs
-use Rattle.bdb_key.specs.declared.row.TabRow.{TabRow}
 use Rattle.bdb_key.specs.declared.row.TabRow.TheVariants as rows
 use Rattle.bdb_key.specs.Bytes.{num_bytes, text_bytes}
 use Rattle.bdb_key.specs.Grammar.{IsNum, IsPlain}

@@ -1,5 +1,5 @@
-//! Keys and rows of the tables as bytes. Each key and row has one spelling, and keys of one shape come in the order of
-//! their parts.
+//! Keys and rows of the tables as bytes. No two keys of one shape are written alike, nor two rows of one table, and keys
+//! of one shape come in the order of their parts.
 #![tactic(auto)]
 
 mod laws;
@@ -12,7 +12,7 @@ mod row_write;
 mod take;
 mod write;
 
-pub use laws::{keys_have_one_spelling, keys_keep_order};
+pub use laws::{keys_have_one_spelling, keys_keep_order, rows_have_one_spelling};
 pub use part::{KeyError, Part, RowError, Slot};
 pub use read::{num_of, only_num, path_of, text_of, value_of, values_of};
 pub use row::TabRow;

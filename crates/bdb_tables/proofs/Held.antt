@@ -5,14 +5,15 @@ use Rattle.std.specs.declared.cmp.Ordering.TheVariants.{Less, Equal, Greater}
 use Rattle.std.specs.Ordering.{is_eq, is_le, is_lt, eq_by_cmp, nat_cmp, ordering_then}
 use Rattle.std.specs.Bool.{MatchBool}
 use Rattle.std.specs.FinMap as map
-use Rattle.std.specs.FinMap.{get-insert, get-remove}
+use Rattle.std.specs.FinMap.{get-from_entries, get-insert, get-remove}
 use Rattle.std.proofs.lemmas.Bool.{cases_Bool}
 use Rattle.std.proofs.lemmas.Cmp.{nat_list_cmp_total}
 use Rattle.bdb_keep.specs.Tables.{Tables, bytes_cmp}
 use Rattle.bdb_key.proofs.Forms.{same_bytes}
 use Rattle.bdb_key.proofs.Numbers.{less}
-use Rattle.bdb_tables.specs.Codec.{Codec, IsEntryOf, IsKeyOf, IsRowOf, HasFirst, HasLeast, KeepsOrder, place}
+use Rattle.bdb_tables.specs.Codec.{Codec, IsEntryOf, IsKeyOf, IsRowOf, HasFirst, HasLeast, KeepsOrder, TableFits, place}
 use Rattle.bdb_tables.specs.Grammar.{IsEntry, InGrammar}
+use Rattle.bdb_tables.specs.InUse.{meta_codec, user_codec, rel_codec, plain_codec}
 
 -- ---- places
 
@@ -70,11 +71,27 @@ module _ (P : ℕ → List ℕ → List ℕ → Type 0) where
 pub remove_keeps : (t : Tables) (p : List ℕ) → InGrammar t → InGrammar (map.remove t p)
 remove_keeps t p h = remove_keeps_each IsEntry t p h
 
+-- no rows at all are in it
+pub empty_in_grammar : InGrammar map.empty
+empty_in_grammar n k r e = let none = sym (get-from_entries nat_list_cmp_total [] (n ∷ k)) ∙ e in absurd cc
+
+-- tables in the grammar fit each table in use
+pub meta_fits : (t : Tables) → InGrammar t → TableFits meta_codec t
+meta_fits t h k r found = h 1 k r found
+
+pub user_fits : (t : Tables) → InGrammar t → TableFits user_codec t
+user_fits t h k r found = h 2 k r found
+
+pub rel_fits : (t : Tables) → InGrammar t → TableFits rel_codec t
+rel_fits t h k r found = h 3 k r found
+
+pub plain_fits : (t : Tables) → InGrammar t → TableFits plain_codec t
+plain_fits t h k r found = h 12 k r found
+
 module _ {Key Row : Type 0} where
   -- what stands in a table is an entry of it
-  pub held : (c : Codec Key Row) (t : Tables) → InGrammar t → ((k r : List ℕ) → IsEntry c.number k r → IsEntryOf c k r)
-      → (n : ℕ) (k r : List ℕ) → n ≡ c.number → map.get t (n ∷ k) ≡ Some r → IsEntryOf c k r
-  held c t h entry n k r e found = entry k r (h c.number k r (ap (λ m. map.get t (m ∷ k)) (sym e) ∙ found))
+  pub held : (c : Codec Key Row) (t : Tables) → TableFits c t → (n : ℕ) (k r : List ℕ) → n ≡ c.number → map.get t (n ∷ k) ≡ Some r → IsEntryOf c k r
+  held c t h n k r e found = h k r (ap (λ m. map.get t (m ∷ k)) (sym e) ∙ found)
 
   pub key_of_entry : (c : Codec Key Row) (k r : List ℕ) → IsEntryOf c k r → IsKeyOf c k
   key_of_entry c k r e = (e.key, e.key_reads)

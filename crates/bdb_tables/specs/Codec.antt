@@ -30,6 +30,10 @@ module _ {Key Row : Type 0} where
     pub key_reads : Reads c.IsKey c.key_bytes k key
     pub row_reads : Reads c.IsRow c.row_bytes r row
 
+  -- every key and row that stands under the table's number is one of the table
+  abbrev pub TableFits : Codec Key Row → Tables → Type 0
+  TableFits c t = (k r : List ℕ) → map.get t (c.number ∷ k) ≡ Some r → IsEntryOf c k r
+
   -- these bytes are a row of the table
   abbrev pub IsRowOf : Codec Key Row → List ℕ → Type 0
   IsRowOf c r = (row : Row) × Reads c.IsRow c.row_bytes r row

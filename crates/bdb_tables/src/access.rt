@@ -5,7 +5,7 @@ ghost use Rattle.std.specs.FinMap as map;
 ghost use Rattle.bdb_base.specs.Causes.{RoseBy};
 ghost use Rattle.bdb_keep.specs.Seen.{IsAtRest, NeverFall, Steps};
 ghost use Rattle.bdb_key.specs.Reading.{Reads};
-ghost use Rattle.bdb_tables.specs.Codec.{HasAt, HasFirst, HasLeast, IsKeyOf, IsRowOf, place};
+ghost use Rattle.bdb_tables.specs.Codec.{HasAt, HasFirst, HasLeast, IsKeyOf, IsRowOf, TableFits, place};
 ghost use Rattle.bdb_tables.specs.Grammar.{InGrammar};
 
 use crate::tab::{Tab, TabError};
@@ -19,7 +19,7 @@ pub fn get<T: Tab, K: Keeper>(
     keeper: &mut K,
     key: &T::Key,
 ) -> Result<Option<T::Row>, TabError>
-    requires grammar { InGrammar (K.seen keeper.old).kept }
+    requires grammar { TableFits T.codec (K.seen keeper.old).kept }
     requires key { T.codec.MayBeKey key.now }
     ensures rest { IsAtRest (K.seen keeper.old) }
     ensures found { IfOk result (HasAt T.codec (K.seen keeper.old).kept key.now) }
@@ -54,7 +54,7 @@ pub fn first<T: Tab, K: Keeper>(
     alloc: Global,
     keeper: &mut K,
 ) -> Result<Option<(T::Key, T::Row)>, TabError>
-    requires grammar { InGrammar (K.seen keeper.old).kept }
+    requires grammar { TableFits T.codec (K.seen keeper.old).kept }
     ensures rest { IsAtRest (K.seen keeper.old) }
     ensures found { IfOk result (HasFirst T.codec (K.seen keeper.old).kept (λ _. true)) }
     ensures kept { OnOk result ((K.seen keeper.new).kept ≡ (K.seen keeper.old).kept) }
@@ -72,7 +72,7 @@ pub fn next<T: Tab, K: Keeper>(
     keeper: &mut K,
     low: &T::Key,
 ) -> Result<Option<(T::Key, T::Row)>, TabError>
-    requires grammar { InGrammar (K.seen keeper.old).kept }
+    requires grammar { TableFits T.codec (K.seen keeper.old).kept }
     requires low { T.codec.MayBeKey low.now }
     ensures rest { IsAtRest (K.seen keeper.old) }
     ensures found { IfOk result (HasFirst T.codec (K.seen keeper.old).kept (λ key. is_le (T.codec.key_cmp low.now key))) }
@@ -96,7 +96,7 @@ pub fn after<T: Tab, K: Keeper>(
     keeper: &mut K,
     key: &T::Key,
 ) -> Result<Option<(T::Key, T::Row)>, TabError>
-    requires grammar { InGrammar (K.seen keeper.old).kept }
+    requires grammar { TableFits T.codec (K.seen keeper.old).kept }
     requires key { T.codec.MayBeKey key.now }
     ensures rest { IsAtRest (K.seen keeper.old) }
     ensures found { IfOk result (HasFirst T.codec (K.seen keeper.old).kept (λ q. is_lt (T.codec.key_cmp key.now q))) }
@@ -179,7 +179,7 @@ fn first_from<T: Tab, K: Keeper>(
     keeper: &mut K,
     low: &[u8],
 ) -> Result<Option<(T::Key, T::Row)>, TabError>
-    requires grammar { InGrammar (K.seen keeper.old).kept }
+    requires grammar { TableFits T.codec (K.seen keeper.old).kept }
     ensures rest { IsAtRest (K.seen keeper.old) }
     ensures found { IfOk result (HasLeast T.codec (K.seen keeper.old).kept low.now) }
     ensures kept { OnOk result ((K.seen keeper.new).kept ≡ (K.seen keeper.old).kept) }

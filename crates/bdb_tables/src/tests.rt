@@ -38,6 +38,44 @@ fn read_back<K: Keeper>(
     Ok(users.len() == 2 && rels.is_empty() && signs)
 }
 
+/// Whether the row found is of a statement of these users with this sign.
+fn is_of(found: &Option<((Path, Tuple), Sign)>, users: &[u32], sign: Sign) -> bool {
+    match found {
+        Some((key, found)) => key.0.as_slice() == users && *found == sign,
+        None => false,
+    }
+}
+
+/// Puts two statements, and asks what comes next: at each of them, between them and beyond the last.
+fn ask_next<K: Keeper>(
+    alloc: Global,
+    keeper: &mut K,
+    low: &(Path, Tuple),
+    between: &(Path, Tuple),
+    high: &(Path, Tuple),
+    beyond: &(Path, Tuple),
+) -> Result<bool, TabError>
+    requires running { (K.seen keeper.old).running ≡ true }
+    requires grammar { InGrammar (K.seen keeper.old).kept }
+    requires low { MayBePlain low.now }
+    requires between { MayBePlain between.now }
+    requires high { MayBePlain high.now }
+    requires beyond { MayBePlain beyond.now }
+{
+    put::<PlainTab, K>(alloc, keeper, high, &Sign::Minus)?;
+    put::<PlainTab, K>(alloc, keeper, low, &Sign::Plus)?;
+    let at_low = next::<PlainTab, K>(alloc, keeper, low)?;
+    let at_between = next::<PlainTab, K>(alloc, keeper, between)?;
+    let at_high = next::<PlainTab, K>(alloc, keeper, high)?;
+    let at_beyond = next::<PlainTab, K>(alloc, keeper, beyond)?;
+    Ok(
+        is_of(&at_low, &[2], Sign::Plus)
+            && is_of(&at_between, &[1, 2], Sign::Minus)
+            && is_of(&at_high, &[1, 2], Sign::Minus)
+            && at_beyond.is_none(),
+    )
+}
+
 /// A key of a statement.
 fn key_of(alloc: Global, users: &[u32], number: i64) -> Result<(Path, Tuple), Fail>
     requires { length users.now < 16 }
@@ -58,5 +96,21 @@ fn what_was_put_is_read_back(rt: HostRuntime) -> Result<(), Fail> {
     let mut keeper = QuietKeeper::new(alloc);
     assert!(rt; keeper.begin().is_ok());
     assert_eq!(rt; read_back(alloc, &mut keeper, &name, &low, &high), Ok(true));
+    Ok(())
+}
+
+#[test]
+fn what_comes_next_is_found(rt: HostRuntime) -> Result<(), Fail> {
+    let alloc = rt.alloc();
+    let low = key_of(alloc, &[2], 7)?;
+    let between = key_of(alloc, &[2], 8)?;
+    let high = key_of(alloc, &[1, 2], -7)?;
+    let beyond = key_of(alloc, &[1, 2], -6)?;
+    let mut keeper = QuietKeeper::new(alloc);
+    assert!(rt; keeper.begin().is_ok());
+    assert_eq!(rt;
+        ask_next(alloc, &mut keeper, &low, &between, &high, &beyond),
+        Ok(true)
+    );
     Ok(())
 }

@@ -1,4 +1,4 @@
-use Rattle.bdb_key.proofs.TabRows.{none_11, above_11}
+use Rattle.bdb_key.proofs.TabRows.{none_11}
 use Rattle.bdb_key.proofs.row_take.mark_row.Goals as goal
 
 pub returns-in-None-clause-none : goal.returns-in-None-clause-none

@@ -1,4 +1,4 @@
-use Rattle.std.proofs.Common.{◌≡◌, ◌++◌, ℕ, List, length}
+use Rattle.std.proofs.Common.{◌≡◌, ◌++◌, List, length}
 use Rattle.std.specs.List.{AllByRecursion}
 use Rattle.bdb_key.specs.declared.part.Part.{Part}
 use Rattle.bdb_key.specs.declared.part.Slot.TheVariants as slots

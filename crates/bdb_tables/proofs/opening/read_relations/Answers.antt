@@ -1,9 +1,14 @@
-use Rattle.std.proofs.Common.{◌≡◌, ◌++◌, [], ◌∷◌, Some, None, rules}
+use Rattle.std.proofs.Common.{◌≡◌, sym, subst, ◌++◌, [], ◌∷◌, Some, None, rules}
 use Rattle.bdb_key.specs.Grammar.{IsNum}
 use Rattle.bdb_tables.specs.Codec.{HasRow}
 use Rattle.bdb_tables.specs.InUse.{rel_codec}
+use Rattle.bdb_tables.specs.Grammar.{InGrammar}
+use Rattle.bdb_tables.proofs.Held.{rel_fits}
 use Rattle.bdb_tables.proofs.Numbered.{at_old, relations_more, relations_none}
 use Rattle.bdb_tables.proofs.opening.read_relations.Goals as goal
+
+pub get-requires-clause-grammar : goal.get-requires-clause-grammar
+get-requires-clause-grammar g c = rel_fits _ (subst InGrammar (sym c.loop-rel.invariant.kept) c.requires.grammar)
 
 pub returns-in-Ok-None-clause-relations : goal.returns-in-Ok-None-clause-relations
 returns-in-Ok-None-clause-relations g c =

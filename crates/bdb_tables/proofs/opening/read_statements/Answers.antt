@@ -1,6 +1,14 @@
-use Rattle.std.proofs.Common.{◌≡◌, ◌++◌, [], ◌∷◌, rules}
+use Rattle.std.proofs.Common.{◌≡◌, sym, subst, ◌++◌, [], ◌∷◌, rules}
+use Rattle.bdb_tables.specs.Grammar.{InGrammar}
+use Rattle.bdb_tables.proofs.Held.{plain_fits}
 use Rattle.bdb_tables.proofs.Stated.{statement_of, first_next, key_may_be, statements_more, statements_none, next_after}
 use Rattle.bdb_tables.proofs.opening.read_statements.Goals as goal
+
+pub first-requires : goal.first-requires
+first-requires g c = record { grammar = plain_fits _ c.requires.grammar }
+
+pub after-requires-clause-grammar : goal.after-requires-clause-grammar
+after-requires-clause-grammar g c = plain_fits _ (subst InGrammar (sym c.loop.invariant.kept) c.requires.grammar)
 
 pub loop-init : goal.loop-init
 loop-init g c =

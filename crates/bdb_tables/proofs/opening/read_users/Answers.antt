@@ -1,9 +1,14 @@
-use Rattle.std.proofs.Common.{◌≡◌, ◌+◌, ◌++◌, [], ◌∷◌, Some, None, rules}
+use Rattle.std.proofs.Common.{◌≡◌, sym, subst, ◌+◌, ◌++◌, [], ◌∷◌, Some, None, rules}
 use Rattle.bdb_key.specs.Grammar.{IsNum}
 use Rattle.bdb_tables.specs.Codec.{HasRow}
 use Rattle.bdb_tables.specs.InUse.{user_codec}
+use Rattle.bdb_tables.specs.Grammar.{InGrammar}
+use Rattle.bdb_tables.proofs.Held.{user_fits}
 use Rattle.bdb_tables.proofs.Numbered.{at_old, users_more, users_none}
 use Rattle.bdb_tables.proofs.opening.read_users.Goals as goal
+
+pub get-requires-clause-grammar : goal.get-requires-clause-grammar
+get-requires-clause-grammar g c = user_fits _ (subst InGrammar (sym c.loop-number.invariant.kept) c.requires.grammar)
 
 pub returns-in-Ok-None-clause-users : goal.returns-in-Ok-None-clause-users
 returns-in-Ok-None-clause-users g c =

@@ -1,15 +1,11 @@
-use Rattle.std.proofs.Common.{◌≡◌, ℕ, List, [], ◌∷◌, refl, sym, subst, ◌∙◌, rules}
+use Rattle.std.proofs.Common.{◌≡◌, ℕ, List, [], ◌∷◌, refl, sym, subst, rules}
 use Rattle.std.specs.FinMap as map
-use Rattle.std.specs.FinMap.{get-from_entries}
 use Rattle.std.specs.Str.{is_utf8, chars}
-use Rattle.std.proofs.lemmas.Cmp.{nat_list_cmp_total}
 use lib.Utf8.{encode}
 use Rattle.bdb_key.specs.Grammar.{IsPlain}
 use Rattle.bdb_tables.specs.Grammar.{InGrammar}
+use Rattle.bdb_tables.proofs.Held.{empty_in_grammar}
 use Rattle.bdb_tables.proofs.tests.what_was_put_is_read_back.Goals as goal
-
-empty_in_grammar : InGrammar map.empty
-empty_in_grammar n k r e = let none = sym (get-from_entries nat_list_cmp_total [] (n ∷ k)) ∙ e in absurd cc
 
 pub read_back-requires-clause-grammar : goal.read_back-requires-clause-grammar
 read_back-requires-clause-grammar g c =

@@ -2,12 +2,13 @@ use Rattle.std.proofs.Common.{◌∙◌, sym, subst}
 use Rattle.bdb_tables.specs.Codec.{HasAt}
 use Rattle.bdb_tables.specs.Holds.{Holds}
 use Rattle.bdb_tables.specs.InUse.{meta_codec}
+use Rattle.bdb_tables.proofs.Held.{meta_fits}
 use Rattle.bdb_session.specs.Opening.{opening}
 use Rattle.bdb_session.proofs.OpenLemmas.{stands_in_grammar, held_with_format, empty_without_format, opening_empty, opening_held, on_ok, opened_read, holds_read, opened_new, rises_none, rises_once, one_and_none}
 use Rattle.bdb_session.proofs.session.Session.open.Goals as goal
 
 pub get-requires-clause-grammar : goal.get-requires-clause-grammar
-get-requires-clause-grammar g c = stands_in_grammar _ c.requires.base.0 c.requires.base.1
+get-requires-clause-grammar g c = meta_fits _ (stands_in_grammar _ c.requires.base.0 c.requires.base.1)
 
 pub read_session-requires-clause-base : goal.read_session-requires-clause-base
 read_session-requires-clause-base g c =
