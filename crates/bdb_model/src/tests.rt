@@ -1,10 +1,11 @@
 // Worlds and beliefs of a short session. Alice is user 1, Bob is user 2.
-ghost use Rattle.std.specs.Prelude.{◌≡◌, true, IfOk};
+ghost use Rattle.std.specs.Prelude.{◌≡◌, true, [], ◌∷◌, IfOk};
+ghost use Rattle.bdb_base.specs.declared.kinds.Item.TheVariants.{Users};
 ghost use Rattle.bdb_base.specs.Order.{statement_cmp};
 ghost use Rattle.bdb_base.specs.SortedSet.{ascending};
 
-use crate::{at_ends, believes_among, clashing_among, stated_among, world_among};
-use bdb_base::{List, Path, Sign, Stmt, Tuple, Txt, Value, World, put};
+use crate::{answers, at_ends, believes_among, clashing_among, stated_among, world_among};
+use bdb_base::{Base, Item, List, Path, Query, Ref, Sign, Stmt, Tuple, Txt, Value, World, put};
 use std::alloc::{AllocError, Global};
 use std::test::Fail;
 
@@ -103,6 +104,42 @@ fn clashes(rt: HostRuntime) -> Result<(), Fail> {
     assert!(rt; clashing_among(stmts.as_slice(), &[2], &raven, Sign::Plus).is_none());
     assert!(rt; clashing_among(stmts.as_slice(), &[2], &eagle, Sign::Plus).is_some());
     Ok(())
+}
+
+#[test]
+fn answers_of_a_query(rt: HostRuntime) -> Result<(), Fail> {
+    let alloc = rt.alloc();
+    let mut base = Base::empty(alloc);
+    base.add_user(Txt::try_new(alloc, "Ann")?)?;
+    let query = names_of_users(alloc, Txt::try_new(alloc, "U")?)?;
+    let rows = answers(alloc, &base, &query)?;
+    assert_eq!(rt; rows.len(), 1);
+    for row in rows.as_slice() {
+        assert_eq!(rt; row.len(), 1);
+        for value in row.as_slice() {
+            assert!(rt; is_text(value, "Ann"));
+        }
+    }
+    Ok(())
+}
+
+/// The query for the names of all users.
+fn names_of_users(alloc: Global, alias: Txt) -> Result<Query, Fail>
+    ensures { IfOk result (λ q. q ≡ record { take = record { item = 0; col = 1 } ∷ []; items = Users alias ∷ []; conds = [] }) }
+{
+    let mut take = List::new(alloc);
+    take.push(Ref { item: 0, col: 1 })?;
+    let mut items = List::new(alloc);
+    items.push(Item::Users { alias })?;
+    let conds = List::new(alloc);
+    Ok(Query { take, items, conds })
+}
+
+fn is_text(value: &Value, text: &str) -> bool {
+    match value {
+        Value::Text(t) => t.as_str() == text,
+        Value::Int(_) => false,
+    }
 }
 
 fn stmts_of(alloc: Global, given: &[Given]) -> Result<List<Stmt>, Fail>
