@@ -118,8 +118,8 @@ fn scripts_and_replies(rt: HostRuntime) -> Result<(), Fail> {
         ("", "", 0),
         ("; ; -- nothing\n;", "", 0),
         (
-            "insert into S values('s1','eagle'); insert into BELIEF 'Bob' not S values('s1','eagle'); show world BELIEF 'Alice' BELIEF 'Bob'; show world BELIEF 'Bob' BELIEF 'Alice';",
-            "ok 1\nok 1\n- S('s1', 'eagle') inherited\nok 1\n+ S('s1', 'eagle') inherited\nok 1\n",
+            "insert into S values('s1','eagle'); insert into BELIEF 'Bob' not S values('s1','eagle'); show world BELIEF 'Bob'; show world BELIEF 'Alice' BELIEF 'Bob'; show world BELIEF 'Bob' BELIEF 'Alice';",
+            "ok 1\nok 1\n- S('s1', 'eagle') explicit\nok 1\n- S('s1', 'eagle') inherited\nok 1\n+ S('s1', 'eagle') inherited\nok 1\n",
             0,
         ),
         (
@@ -193,8 +193,8 @@ fn scripts_and_replies(rt: HostRuntime) -> Result<(), Fail> {
             1,
         ),
         (
-            "insert into BELIEF 'Alice' BELIEF 'Bob' S values('s1','eagle'); show tables;",
-            "ok 1\nuser 1 'Alice'\nuser 2 'Bob'\nrelation S(k text, v text)\ntuple S('s1', 'eagle')\nworld / depth 0\nworld /'Alice' depth 1 suffix /\nworld /'Alice'/'Bob' depth 2 suffix /\nedge / 'Alice' /'Alice'\nedge / 'Bob' /\nedge /'Alice' 'Bob' /'Alice'/'Bob'\nedge /'Alice'/'Bob' 'Alice' /'Alice'\nrow /'Alice'/'Bob' + S('s1', 'eagle') explicit\nok 12\n",
+            "insert into BELIEF 'Alice' BELIEF 'Bob' S values('s1','eagle'); show tables; insert into BELIEF 'Alice' BELIEF 'Bob' BELIEF 'Alice' S values('s9','owl'); delete from BELIEF 'Alice' BELIEF 'Bob' BELIEF 'Alice' S; show tables;",
+            "ok 1\nuser 1 'Alice'\nuser 2 'Bob'\nrelation S(k text, v text)\ntuple S('s1', 'eagle')\nworld / depth 0\nworld /'Alice' depth 1 suffix /\nworld /'Alice'/'Bob' depth 2 suffix /\nedge / 'Alice' /'Alice'\nedge / 'Bob' /\nedge /'Alice' 'Bob' /'Alice'/'Bob'\nedge /'Alice'/'Bob' 'Alice' /'Alice'\nrow /'Alice'/'Bob' + S('s1', 'eagle') explicit\nok 12\nok 1\nok 1\nuser 1 'Alice'\nuser 2 'Bob'\nrelation S(k text, v text)\ntuple S('s1', 'eagle')\nworld / depth 0\nworld /'Alice' depth 1 suffix /\nworld /'Alice'/'Bob' depth 2 suffix /\nedge / 'Alice' /'Alice'\nedge / 'Bob' /\nedge /'Alice' 'Bob' /'Alice'/'Bob'\nedge /'Alice'/'Bob' 'Alice' /'Alice'\nrow /'Alice'/'Bob' + S('s1', 'eagle') explicit\nok 12\n",
             0,
         ),
         ("insert into S values('a", "error unfinished\n", 1),
@@ -308,6 +308,31 @@ fn runs_go_on_from_what_is_kept(rt: HostRuntime) -> Result<(), Fail> {
     Ok(())
 }
 
+/// The words `show world`, blanks up to so many bytes, and a semicolon.
+fn show_world_of(alloc: Global, size: usize) -> Result<String, Fail> {
+    let mut piece = String::new(alloc);
+    piece.push_str("show world")?;
+    for _ in 10..size {
+        piece.push_str(" ")?;
+    }
+    piece.push_str(";")?;
+    Ok(piece)
+}
+
+#[test]
+fn pieces_have_a_limit(rt: HostRuntime) -> Result<(), Fail> {
+    let alloc = rt.alloc();
+    let fits = show_world_of(alloc, 65_536)?;
+    let (status, out, _) = ran_quietly(alloc, &[fits.as_str()])?;
+    assert_eq!(rt; status, 0);
+    assert_eq!(rt; out.bytes(), b"ok 0\n".as_slice());
+    let long = show_world_of(alloc, 65_537)?;
+    let (status, out, _) = ran_quietly(alloc, &[long.as_str()])?;
+    assert_eq!(rt; status, 1);
+    assert_eq!(rt; out.bytes(), b"error long\n".as_slice());
+    Ok(())
+}
+
 /// Whether a keeper has the rows of one that was run over the first of the commands, as many as it committed.
 fn has_what_it_committed(alloc: Global, keeper: &MemKeeper) -> Result<bool, Fail> {
     let mut expected = MemKeeper::new(alloc, List::new(alloc));
@@ -365,6 +390,41 @@ fn a_fault_of_the_source_ends_the_run(rt: HostRuntime) -> Result<(), Fail> {
     let alloc = rt.alloc();
     assert_eq!(rt; ran_unread(alloc, words(alloc)?.as_slice())?, 3);
     assert_eq!(rt; ran_unread(alloc, &[])?, 2);
+    Ok(())
+}
+
+/// So many blocks of 65,536 blanks, and so many blanks more.
+fn blanks(alloc: Global, blocks: usize, more: usize) -> Result<Vec<u8>, Fail> {
+    let block = [b' '; 65_536];
+    let mut text = Vec::new(alloc);
+    for _ in 0..blocks {
+        text.extend_from_slice(&block)?;
+    }
+    for _ in 0..more {
+        text.push(b' ')?;
+    }
+    Ok(text)
+}
+
+/// The status of a script that is read in blocks, and how many bytes of replies it gets.
+fn ran_in_blocks(alloc: Global, script: Vec<u8>) -> Result<(u8, usize), Fail> {
+    let words = words(alloc)?;
+    let mut source = MemSource::new(script, 65_536, List::new(alloc));
+    let mut keeper = QuietKeeper::new(alloc);
+    let mut out = sink(alloc)?;
+    let status = run(alloc, words.as_slice(), &mut source, &mut out, &mut keeper);
+    Ok((status, out.bytes().len()))
+}
+
+#[test]
+fn scripts_have_a_limit(rt: HostRuntime) -> Result<(), Fail> {
+    let alloc = rt.alloc();
+    let (status, written) = ran_in_blocks(alloc, blanks(alloc, 1024, 0)?)?;
+    assert_eq!(rt; status, 0);
+    assert_eq!(rt; written, 0);
+    let (status, written) = ran_in_blocks(alloc, blanks(alloc, 1024, 1)?)?;
+    assert_eq!(rt; status, 8);
+    assert_eq!(rt; written, 0);
     Ok(())
 }
 
