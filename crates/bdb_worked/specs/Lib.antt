@@ -1,0 +1,5 @@
+pub mod Beliefs
+pub mod Changes
+pub mod Refusals
+pub mod Structure
+pub mod Worked

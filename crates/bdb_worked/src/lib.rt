@@ -1,0 +1,33 @@
+//! Worked sessions. The belief machine is a definition that computes: here it is computed, from the bytes of a script to the
+//! bytes of the replies, on short scripts whose replies were worked out by hand. So a reader can see that the definitions say
+//! what was meant, and not only that the program says what they do.
+#![tactic(auto)]
+
+ghost use Rattle.bdb_worked.specs.Beliefs as beliefs;
+ghost use Rattle.bdb_worked.specs.Changes as changes;
+ghost use Rattle.bdb_worked.specs.Refusals as refusals;
+ghost use Rattle.bdb_worked.specs.Structure as structure;
+ghost use Rattle.bdb_worked.specs.Worked.{IsAnswered};
+
+/// A sighting and a denial of it: what each user believes, and believes that the other does.
+pub fn beliefs_are_told()
+    ensures { IsAnswered beliefs.script beliefs.told }
+{}
+
+/// The states of two statements, their links, edges and rows.
+#[tactic(auto, using(crate::proofs::Computed::structure_is_told))]
+pub fn structure_is_told()
+    ensures { IsAnswered structure.script structure.told }
+{}
+
+/// An update that would join two tuples of one key is refused whole; a query of denials has to bind its columns.
+#[tactic(auto, using(crate::proofs::Computed::changes_are_told))]
+pub fn changes_are_told()
+    ensures { IsAnswered changes.script changes.told }
+{}
+
+/// Relations, users, columns and aliases that aren't there, or there already, and values that don't fit.
+#[tactic(auto, using(crate::proofs::Computed::refusals_are_told))]
+pub fn refusals_are_told()
+    ensures { IsAnswered refusals.script refusals.told }
+{}
