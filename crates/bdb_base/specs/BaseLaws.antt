@@ -4,6 +4,7 @@ use Rattle.std.specs.List.{list_any}
 use Rattle.bdb_base.specs.declared.kinds.Catalog.{Catalog}
 use Rattle.bdb_base.specs.declared.kinds.RelDef.{RelDef}
 use Rattle.bdb_base.specs.declared.kinds.Stmt.{Stmt}
+use Rattle.bdb_base.specs.Limits.{most_users, most_relations, most_statements, most_tuples, most_worlds}
 use Rattle.bdb_base.specs.Same.{same_text}
 use Rattle.bdb_base.specs.Worlds.{contradicted}
 use Rattle.bdb_base.specs.Bases.{IsValid, belongs, is_plain, is_valid_relation, key_lengths, stands, has_tuple, tuple_count, world_count, with_user, with_relation, with_statement, without_statement}
@@ -12,22 +13,22 @@ use Rattle.bdb_base.specs.Bases.{IsValid, belongs, is_plain, is_valid_relation, 
 -- where the limits leave room.
 abbrev pub PutIsValid : Type 0
 PutIsValid = (c : Catalog) (stmts : List Stmt) (s : Stmt) → IsValid c stmts → belongs c s ≡ true → contradicted (key_lengths c.rels) stmts s.path s.tuple s.sign ≡ false
-    → (stands stmts s ≡ false → length stmts < 20000) → tuple_count (with_statement stmts s) ≤ 4000
-    → world_count (with_statement stmts s) ≤ 2000
+    → (stands stmts s ≡ false → length stmts < most_statements) → tuple_count (with_statement stmts s) ≤ most_tuples
+    → world_count (with_statement stmts s) ≤ most_worlds
     → IsValid c (with_statement stmts s)
 
 -- a valid base stays valid without a statement
 abbrev pub TakeIsValid : Type 0
 TakeIsValid = (c : Catalog) (stmts : List Stmt) (s : Stmt) → IsValid c stmts → IsValid c (without_statement stmts s)
 
--- a valid base stays valid with one more user, of a plain name that no user has, where there are fewer than 256
+-- a valid base stays valid with one more user, of a plain name that no user has, where there is room
 abbrev pub AddUserIsValid : Type 0
-AddUserIsValid = (c : Catalog) (stmts : List Stmt) (name : List ℕ) → IsValid c stmts → is_plain name ≡ true → list_any (same_text name) c.users ≡ false → length c.users < 256
+AddUserIsValid = (c : Catalog) (stmts : List Stmt) (name : List ℕ) → IsValid c stmts → is_plain name ≡ true → list_any (same_text name) c.users ≡ false → length c.users < most_users
     → IsValid (with_user c name) stmts
 
--- a valid base stays valid with one more valid relation, of a name that none has, where there are fewer than 64
+-- a valid base stays valid with one more valid relation, of a name that none has, where there is room
 abbrev pub AddRelationIsValid : Type 0
-AddRelationIsValid = (c : Catalog) (stmts : List Stmt) (def : RelDef) → IsValid c stmts → is_valid_relation def ≡ true → list_any (same_text def.name) (map (λ r. r.name) c.rels) ≡ false → length c.rels < 64
+AddRelationIsValid = (c : Catalog) (stmts : List Stmt) (def : RelDef) → IsValid c stmts → is_valid_relation def ≡ true → list_any (same_text def.name) (map (λ r. r.name) c.rels) ≡ false → length c.rels < most_relations
     → IsValid (with_relation c def) stmts
 
 -- a put adds a tuple exactly where no statement has it

@@ -13,6 +13,7 @@ use Rattle.bdb_base.specs.declared.kinds.Stmt.{Stmt}
 use Rattle.bdb_base.specs.declared.tuple.Tuple.{Tuple}
 use Rattle.bdb_base.specs.Same.{same_text, same_path, same_tuple}
 use Rattle.bdb_base.specs.Alternation.{alternates}
+use Rattle.bdb_base.specs.Limits.{longest_text, most_columns, most_users, most_relations, deepest_statement, most_statements, most_tuples, most_worlds}
 use Rattle.bdb_base.specs.Order.{statement_cmp}
 use Rattle.bdb_base.specs.SortedSet.{is_member, ascending, put_in, taken_out}
 use Rattle.bdb_base.specs.States.{stated_prefixes}
@@ -35,9 +36,9 @@ is_user users uid = nat_lt 0 uid && nat_le uid (length users)
 abbrev pub is_clean : List ℕ → Bool
 is_clean text = is_utf8 text && list_all (λ c. nat_le 32 c) text
 
--- a clean text of at most 255 bytes
+-- a clean text, not too long
 abbrev pub is_plain : List ℕ → Bool
-is_plain text = nat_le (length text) 255 && is_clean text
+is_plain text = nat_le (length text) longest_text && is_clean text
 
 -- a value is of a kind; a text is a plain one
 abbrev pub fits_kind : Kind → Value → Bool
@@ -74,23 +75,23 @@ distinct_count same (x ∷ xs) = cond (list_any (same x) xs) 0 1 + distinct_coun
 abbrev pub users_name : List ℕ
 users_name = 85 ∷ 115 ∷ 101 ∷ 114 ∷ 115 ∷ []
 
--- one to 16 columns, plain names that differ, and a plain name that isn't `Users`
+-- at least one column and not too many, plain names that differ, and a plain name that isn't `Users`
 abbrev pub is_valid_relation : RelDef → Bool
-is_valid_relation def = nat_lt 0 (length def.cols) && nat_le (length def.cols) 16 && (are_distinct (map (λ c. c.name) def.cols)
+is_valid_relation def = nat_lt 0 (length def.cols) && nat_le (length def.cols) most_columns && (are_distinct (map (λ c. c.name) def.cols)
     && list_all (λ c. is_plain c.name) def.cols && (is_plain def.name && not (same_text def.name users_name)))
 
 -- the users and relations have plain names that differ, and are not too many
 pub record IsCatalog (c : Catalog) : Type 0 where
   pub users_differ : are_distinct c.users ≡ true
   pub users_plain : list_all is_plain c.users ≡ true
-  pub few_users : nat_le (length c.users) 256 ≡ true
+  pub few_users : nat_le (length c.users) most_users ≡ true
   pub rels_differ : are_distinct (map (λ r. r.name) c.rels) ≡ true
   pub rels_valid : list_all is_valid_relation c.rels ≡ true
-  pub few_rels : nat_le (length c.rels) 64 ≡ true
+  pub few_rels : nat_le (length c.rels) most_relations ≡ true
 
--- a statement's path is one of at most 16 users of the catalog, and its tuple fits its relation
+-- a statement's path is one of users of the catalog and not too deep, and its tuple fits its relation
 abbrev pub belongs : Catalog → Stmt → Bool
-belongs c x = alternates x.path && nat_le (length x.path) 16 && list_all (is_user c.users) x.path && fits_relation c.rels x.tuple
+belongs c x = alternates x.path && nat_le (length x.path) deepest_statement && list_all (is_user c.users) x.path && fits_relation c.rels x.tuple
 
 -- a statement has the tuple
 abbrev pub has_tuple : List Stmt → Tuple → Bool
@@ -110,9 +111,9 @@ pub record AreStatements (c : Catalog) (stmts : List Stmt) : Type 0 where
   pub sorted : ascending statement_cmp stmts ≡ true
   pub belong : list_all (belongs c) stmts ≡ true
   pub no_clash : list_all (λ x. not (contradicted (key_lengths c.rels) stmts x.path x.tuple x.sign)) stmts ≡ true
-  pub few_stmts : nat_le (length stmts) 20000 ≡ true
-  pub few_tuples : nat_le (tuple_count stmts) 4000 ≡ true
-  pub few_worlds : nat_le (world_count stmts) 2000 ≡ true
+  pub few_stmts : nat_le (length stmts) most_statements ≡ true
+  pub few_tuples : nat_le (tuple_count stmts) most_tuples ≡ true
+  pub few_worlds : nat_le (world_count stmts) most_worlds ≡ true
 
 -- a catalog and statements are those of a valid base
 pub record IsValid (c : Catalog) (xs : List Stmt) : Type 0 where

@@ -6,6 +6,7 @@ pub mod Changes
 pub mod Clash
 pub mod Conditions
 pub mod Laws
+pub mod Limits
 pub mod Order
 pub mod OrderLemmas
 pub mod Queries

@@ -7,6 +7,7 @@ use Rattle.bdb_base.specs.declared.kinds.Sign.{Sign}
 use Rattle.bdb_base.specs.declared.kinds.Stmt.{Stmt}
 use Rattle.bdb_base.specs.declared.tuple.Tuple.{Tuple}
 use Rattle.bdb_base.specs.Bases.{IsValid, fits_relation, key_lengths, tuple_count, world_count}
+use Rattle.bdb_base.specs.Limits.{most_statements, most_tuples, most_worlds}
 use Rattle.bdb_base.specs.Changes.{without_taken, updated, first_clashing}
 use Rattle.bdb_base.specs.Conditions.{changed}
 
@@ -17,8 +18,8 @@ UpdateIsValid = (c : Catalog) (stmts : List Stmt) (w : List ℕ) (s : Sign) (rel
     → IsValid c stmts
     → ((t : Tuple) → t.rel ≡ rel → fits_relation c.rels t ≡ true → fits_relation c.rels (changed sets t) ≡ true)
     → first_clashing (key_lengths c.rels) (updated w s rel conds sets stmts) w ≡ None
-    → tuple_count (updated w s rel conds sets stmts) ≤ 4000 → world_count (updated w s rel conds sets stmts) ≤ 2000
-    → length (updated w s rel conds sets stmts) ≤ 20000
+    → tuple_count (updated w s rel conds sets stmts) ≤ most_tuples → world_count (updated w s rel conds sets stmts) ≤ most_worlds
+    → length (updated w s rel conds sets stmts) ≤ most_statements
     → IsValid c (updated w s rel conds sets stmts)
 
 -- a valid base stays valid after a delete

@@ -9,6 +9,7 @@ mod conflict;
 mod counts;
 mod kinds;
 pub mod laws;
+pub mod limits;
 mod list;
 mod order;
 mod ordered;

@@ -5,6 +5,7 @@ ghost use Rattle.bdb_base.specs.Alternation.{alternates, begins_otherwise};
 use crate::list::{Exact, List};
 use std::alloc::{AllocError, Global};
 use std::marker::Model;
+use thiserror::Error;
 
 /// A belief path: the users, the outermost believer first. No two neighbours are equal; the empty path is the plain
 /// content of the database. Contracts see it as the list of its users' numbers.
@@ -25,11 +26,13 @@ impl Model for Path {
 }
 
 /// Why a list of users is no path.
-#[derive(Clone, Copy, Debug, PartialEq, Eq, Drop)]
+#[derive(Clone, Copy, Debug, PartialEq, Eq, Drop, Error)]
 pub enum PathError {
     /// Two neighbours are equal.
+    #[error("two neighbouring users of a path are equal")]
     Repeat,
     /// There is no memory.
+    #[error("out of memory")]
     Memory,
 }
 
@@ -39,6 +42,7 @@ impl Path {
         ensures ok { IfOk result (λ path. path ≡ users.now) }
         ensures fits { IfOk result (λ path. alternates path ≡ true) }
         ensures repeat { IsErrOf result PathError.Repeat → alternates users.now ≡ false }
+        ensures refuses { alternates users.now ≡ false → IsErrOf result PathError.Repeat }
     {
         if !is_alternating(users) {
             return Err(PathError::Repeat);
