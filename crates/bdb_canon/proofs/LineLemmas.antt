@@ -14,7 +14,8 @@ use Rattle.bdb_base.specs.States.{edge_target, states_of}
 use Rattle.bdb_base.specs.WorldRows.{tuples_of, world_of}
 use Rattle.bdb_base.proofs.ListLemmas.{filter_kept_one, filter_dropped_one}
 use Rattle.bdb_canon.specs.declared.structure.CanonEdge.{CanonEdge}
-use Rattle.bdb_canon.specs.Canonical.{canon_of, edge_count, edges_at, edges_from, left_after, line_count, place_in, row_count, row_entry, rows_from, world_entry}
+use Rattle.bdb_paths.specs.Places.{place_in}
+use Rattle.bdb_canon.specs.Canonical.{canon_of, edge_count, edges_at, edges_from, left_after, line_count, row_count, row_entry, rows_from, world_entry}
 
 -- ---- what is left
 

@@ -23,9 +23,11 @@ use Rattle.bdb_base.specs.Worlds.{explicit, stated}
 use Rattle.bdb_base.proofs.ListLemmas.{list_all_weaker}
 use Rattle.bdb_base.proofs.SetLemmas.{is_eq_itself}
 use Rattle.bdb_base.proofs.WorldRowsLemmas.{list_all-flat_map}
-use Rattle.bdb_canon.specs.Canonical.{edges_at, edges_from, link_place, place_in, row_entry, rows_from, world_entry}
+use Rattle.bdb_paths.specs.Places.{place_in}
+use Rattle.bdb_canon.specs.Canonical.{edges_at, edges_from, link_place, row_entry, rows_from, world_entry}
 use Rattle.bdb_canon.specs.CanonLaws.{PlacesAreInRange, is_below}
-use Rattle.bdb_canon.proofs.PlaceLemmas.{member_at_place, root_is_listed, target_within}
+use Rattle.bdb_paths.proofs.PlaceLemmas.{member_at_place, target_within}
+use Rattle.bdb_canon.proofs.PlaceLemmas.{root_is_listed}
 
 list_all_map : {X Y : Type 0} (p : X → Bool) (q : Y → Bool) (f : X → Y) → ((x : X) → p x ≡ true → q (f x) ≡ true) → (xs : List X) → list_all p xs ≡ true → list_all q (map f xs) ≡ true
 list_all_map p q f h [] a = refl

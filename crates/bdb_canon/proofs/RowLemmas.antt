@@ -24,9 +24,11 @@ use Rattle.bdb_base.proofs.WorldRowsLemmas.{list_any-flat_map, stated_is_member}
 use Rattle.bdb_paths.proofs.StateLemmas.{list_any_under}
 use Rattle.bdb_paths.proofs.SuffixLemmas.{deepest_is_member, states_stand_for_paths}
 use Rattle.bdb_canon.specs.declared.structure.CanonRow.{CanonRow}
-use Rattle.bdb_canon.specs.Canonical.{place_in, row_entry, rows_from}
+use Rattle.bdb_paths.specs.Places.{place_in}
+use Rattle.bdb_canon.specs.Canonical.{row_entry, rows_from}
 use Rattle.bdb_canon.specs.CanonLaws.{RowsStandForPaths}
-use Rattle.bdb_canon.proofs.PlaceLemmas.{listed_deepest, member_at_place, place_missing, root_is_listed}
+use Rattle.bdb_paths.proofs.PlaceLemmas.{member_at_place, place_missing}
+use Rattle.bdb_canon.proofs.PlaceLemmas.{listed_deepest, root_is_listed}
 use Rattle.bdb_canon.proofs.RangeLemmas.{items_are_members, member_within}
 
 -- tests that agree at each item that passes a third one find the same

@@ -13,7 +13,8 @@ use Rattle.bdb_base.specs.States.{edge_target, is_state, states_of, suffix_link}
 use Rattle.bdb_base.specs.WorldRows.{tuples_of}
 use Rattle.bdb_base.specs.Worlds.{stated}
 use Rattle.bdb_canon.specs.declared.structure.Canon.{Canon}
-use Rattle.bdb_canon.specs.Canonical.{canon_of, link_place, place_in, target_place}
+use Rattle.bdb_paths.specs.Places.{place_in, target_place}
+use Rattle.bdb_canon.specs.Canonical.{canon_of, link_place}
 
 -- the suffix link of a state leads to the place of its tail's deepest suffix that is a state
 abbrev pub LinksLeadToStates : Type 0

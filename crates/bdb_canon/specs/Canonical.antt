@@ -16,19 +16,11 @@ use Rattle.bdb_base.specs.Segments.{is_suffix}
 use Rattle.bdb_base.specs.SortedSet.{is_member, ascending}
 use Rattle.bdb_base.specs.States.{deepest_suffix, edge_target, states_of, suffix_link}
 use Rattle.bdb_base.specs.WorldRows.{tuples_of, world_of}
+use Rattle.bdb_paths.specs.Places.{place_in}
 use Rattle.bdb_canon.specs.declared.structure.Canon.{Canon}
 use Rattle.bdb_canon.specs.declared.structure.CanonEdge.{CanonEdge}
 use Rattle.bdb_canon.specs.declared.structure.CanonRow.{CanonRow}
 use Rattle.bdb_canon.specs.declared.structure.CanonWorld.{CanonWorld}
-
--- the place of an item in a list; the list's length where it is not there
-abbrev pub place_in : {X : Type 0} → (X → X → Ordering) → List X → X → ℕ
-place_in R [] x = 0
-place_in R (y ∷ ys) x = cond (is_eq (R y x)) 0 (suc (place_in R ys x))
-
--- the place of the state to which a path leads: of its deepest suffix
-abbrev pub target_place : List (List ℕ) → List ℕ → ℕ
-target_place states w = place_in path_cmp states (deepest_suffix (is_member path_cmp states) w)
 
 -- the place to which the suffix link of a state leads; the empty path has no link
 abbrev pub link_place : List (List ℕ) → List ℕ → Option ℕ

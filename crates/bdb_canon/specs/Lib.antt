@@ -1,2 +1,4 @@
 pub mod Canonical
 pub mod CanonLaws
+pub mod Samples
+pub mod Sizes

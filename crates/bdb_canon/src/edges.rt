@@ -4,7 +4,8 @@ ghost use Rattle.std.specs.List.{flat_map};
 ghost use Rattle.bdb_base.specs.Order.{path_cmp};
 ghost use Rattle.bdb_base.specs.SortedSet.{is_member};
 ghost use Rattle.bdb_base.specs.States.{edge_target};
-ghost use Rattle.bdb_canon.specs.Canonical.{AreStates, edges_at, edges_from, place_in};
+ghost use Rattle.bdb_paths.specs.Places.{place_in};
+ghost use Rattle.bdb_canon.specs.Canonical.{AreStates, edges_at, edges_from};
 
 use crate::places::target_place;
 use crate::structure::CanonEdge;

@@ -7,6 +7,7 @@ pub mod laws;
 mod lines;
 mod places;
 mod rows;
+mod sizes;
 mod structure;
 #[cfg(test)]
 mod tests;
@@ -15,4 +16,5 @@ mod worlds;
 
 pub use building::canon;
 pub use lines::{has_more_lines, line_count};
+pub use sizes::Counts;
 pub use structure::{Canon, CanonEdge, CanonRow, CanonWorld};

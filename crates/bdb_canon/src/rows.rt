@@ -3,7 +3,8 @@ ghost use Rattle.std.specs.Prelude.{◌≡◌, ◌++◌, true, IfOk, OnOk};
 ghost use Rattle.std.specs.List.{flat_map};
 ghost use Rattle.bdb_base.specs.Order.{path_cmp, statement_cmp};
 ghost use Rattle.bdb_base.specs.SortedSet.{ascending};
-ghost use Rattle.bdb_canon.specs.Canonical.{AreStates, AreTuples, place_in, rows_from};
+ghost use Rattle.bdb_paths.specs.Places.{place_in};
+ghost use Rattle.bdb_canon.specs.Canonical.{AreStates, AreTuples, rows_from};
 
 use crate::places::place_in;
 use crate::structure::CanonRow;

@@ -69,6 +69,8 @@ impl Sink for MemSink {
 
     ghost faults = { λ s. s.faults };
 
+    // It takes no memory. It fails exactly where the number of the write is listed, or where the piece is longer than the
+    // room that is left.
     fn write_all(&mut self, bytes: &[u8]) -> Result<(), Failed>
         ensures bytes { WritesPiece (Some self.old.written) (Some self.new.written) result bytes.now }
         ensures cause { HasCause self.old.faults self.new.faults result failed }

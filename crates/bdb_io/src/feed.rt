@@ -58,6 +58,7 @@ impl Source for MemSource {
 
     ghost given = { λ s. s.given };
 
+    // It takes no memory. It fails exactly where the number of the read is listed.
     fn read(&mut self, buf: &mut [u8]) -> Result<usize, Failed>
         requires { 0 < length buf.old }
         ensures bound { ReadsAtMost result buf.new }

@@ -45,6 +45,7 @@ impl Source for QuietSource {
 
     ghost given = { λ s. s.given };
 
+    // It takes no memory, and succeeds always.
     fn read(&mut self, buf: &mut [u8]) -> Result<usize, Failed>
         requires { 0 < length buf.old }
         ensures bound { ReadsAtMost result buf.new }
@@ -78,6 +79,7 @@ impl Sink for QuietSink {
 
     ghost faults = { λ _. 0 };
 
+    // It takes no memory, and succeeds always.
     fn write_all(&mut self, _bytes: &[u8]) -> Result<(), Failed>
         ensures succeeds { IsOk result }
         ensures bytes { WritesPiece None None result _bytes.now }
@@ -117,6 +119,7 @@ impl Source for NoSource {
 
     ghost given = { λ _. 0 };
 
+    // It fails always, and the count of faults rises.
     fn read(&mut self, buf: &mut [u8]) -> Result<usize, Failed>
         requires { 0 < length buf.old }
         ensures bound { ReadsAtMost result buf.new }

@@ -1,3 +1,4 @@
+pub mod PlaceLemmas
 pub mod SharedLemmas
 pub mod StateLemmas
 pub mod SuffixLemmas

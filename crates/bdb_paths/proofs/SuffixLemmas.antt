@@ -51,7 +51,7 @@ length-suffix v (j ∷ w) h = elim (or_cases (same_path v (j ∷ w)) (is_suffix 
   | inr b ↦ let k = length-suffix v w b in omega arith
 ]
 
-length-deepest : (P : List ℕ → Bool) (w : List ℕ) → length (deepest_suffix P w) ≤ length w
+pub length-deepest : (P : List ℕ → Bool) (w : List ℕ) → length (deepest_suffix P w) ≤ length w
 length-deepest P [] = omega arith
 length-deepest P (i ∷ w) = elim (cases_Bool (P (i ∷ w))) [
   | inl e ↦ let d = ap length (deepest_here P i w e) in omega arith
@@ -67,7 +67,7 @@ deepest_is_member P (i ∷ w) root = elim (cases_Bool (P (i ∷ w))) [
   | inr e ↦ ap P (deepest_past P i w e) ∙ deepest_is_member P w root
 ]
 
-deepest_is_suffix : (P : List ℕ → Bool) (w : List ℕ) → is_suffix (deepest_suffix P w) w ≡ true
+pub deepest_is_suffix : (P : List ℕ → Bool) (w : List ℕ) → is_suffix (deepest_suffix P w) w ≡ true
 deepest_is_suffix P [] = refl
 deepest_is_suffix P (i ∷ w) = elim (cases_Bool (P (i ∷ w))) [
   | inl e ↦ ap (λ v. is_suffix v (i ∷ w)) (deepest_here P i w e) ∙ suffix_itself (i ∷ w)
@@ -75,7 +75,7 @@ deepest_is_suffix P (i ∷ w) = elim (cases_Bool (P (i ∷ w))) [
       ∙ or_right (same_path (deepest_suffix P w) (i ∷ w)) (is_suffix (deepest_suffix P w) w) (deepest_is_suffix P w)
 ]
 
-none_is_longer : (P : List ℕ → Bool) (w v : List ℕ) → P v ≡ true → is_suffix v w ≡ true → length v ≤ length (deepest_suffix P w)
+pub none_is_longer : (P : List ℕ → Bool) (w v : List ℕ) → P v ≡ true → is_suffix v w ≡ true → length v ≤ length (deepest_suffix P w)
 none_is_longer P [] v e h = length-suffix v [] h
 none_is_longer P (i ∷ w) v e h = elim (cases_Bool (P (i ∷ w))) [
   | inl t ↦ let d = ap length (deepest_here P i w t) in let k = length-suffix v (i ∷ w) h in omega arith

@@ -12,4 +12,4 @@ mod tests;
 
 pub use counts::new_state_count;
 pub use states::states_of;
-pub use suffixes::deepest_suffix;
+pub use suffixes::{deepest_suffix, deepest_suffix_in_set};

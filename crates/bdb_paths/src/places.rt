@@ -1,5 +1,7 @@
-// Where a path stands in a set of paths.
+// Where a path stands among others.
 ghost use Rattle.std.specs.Prelude.{◌≡◌, true, slice_get, Some, MatchResult};
+ghost use Rattle.std.specs.List.{position};
+ghost use Rattle.std.specs.Ordering.{is_eq};
 ghost use Rattle.bdb_base.specs.Order.{path_cmp};
 ghost use Rattle.bdb_base.specs.SortedSet.{BelongsAt, ascending};
 
@@ -24,4 +26,13 @@ pub fn place_of_users(paths: &[Path], users: &[u32]) -> Result<usize, usize>
         }
     }
     Err(low)
+}
+
+/// The first place in a list of paths, in any order, where a path stands. None where it is not there.
+pub fn place_among(paths: &[Path], users: &[u32]) -> Option<usize>
+    ensures { result ≡ position (λ p. is_eq (path_cmp p users.now)) paths.now }
+{
+    paths
+        .iter()
+        .position(|path| cmp_path(path.as_slice(), users).is_eq())
 }

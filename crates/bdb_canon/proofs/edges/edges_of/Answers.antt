@@ -1,8 +1,8 @@
 use Rattle.std.proofs.Common.{◌∙◌, ap, sym}
 use Rattle.bdb_base.specs.Order.{path_cmp}
 use Rattle.bdb_base.specs.OrderLemmas.{path_exact}
-use Rattle.bdb_canon.specs.Canonical.{place_in}
-use Rattle.bdb_canon.proofs.PlaceLemmas.{place_of_item}
+use Rattle.bdb_paths.specs.Places.{place_in}
+use Rattle.bdb_paths.proofs.PlaceLemmas.{place_of_item}
 use Rattle.bdb_canon.proofs.edges.edges_of.Goals as goal
 
 pub push_edges-requires-clause-place : goal.push_edges-requires-clause-place

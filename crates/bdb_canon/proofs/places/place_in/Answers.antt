@@ -1,6 +1,6 @@
 use Rattle.std.proofs.Common.{sym}
 use Rattle.bdb_base.proofs.SetLemmas.{member_belongs}
-use Rattle.bdb_canon.proofs.PlaceLemmas.{place_found, place_missing}
+use Rattle.bdb_paths.proofs.PlaceLemmas.{place_found, place_missing}
 use Rattle.bdb_canon.proofs.places.place_in.Goals as goal
 
 pub returns-in-Ok : goal.returns-in-Ok

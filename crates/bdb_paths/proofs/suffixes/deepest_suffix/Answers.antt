@@ -1,36 +1,32 @@
-use Rattle.std.proofs.Common.{◌≡◌, ◌∙◌, ℕ, ◌-◌, ◌<◌, ◌≤◌, Bool, false, List, [], ◌∷◌, length, take, drop, refl, ap, sym, arith, Some}
-use Rattle.std.proofs.lemmas.List.{take_rest}
+use Rattle.std.proofs.Common.{◌≡◌, ◌∙◌, ap, slice_get, sym}
+use Rattle.std.proofs.lemmas.Bool.{false≢true}
 use Rattle.bdb_base.specs.Order.{path_cmp}
-use Rattle.bdb_base.specs.OrderLemmas.{path_exact}
 use Rattle.bdb_base.specs.SortedSet.{is_member}
-use Rattle.bdb_base.specs.States.{deepest_suffix}
-use Rattle.bdb_base.proofs.SetLemmas.{member_stands, member_belongs}
-use Rattle.bdb_paths.proofs.SuffixLemmas.{deepest_of_member, deepest_past, root_comes_first}
+use Rattle.bdb_paths.proofs.PlaceLemmas.{found_by_search, found_here, none_left, not_there, one_less, target_stands}
 use Rattle.bdb_paths.proofs.suffixes.deepest_suffix.Goals as goal
 
--- a path that is no member has the deepest suffix of its rest
-one_less : (P : List ℕ → Bool) (whole rest : List ℕ) → 1 ≤ length rest → P rest ≡ false → deepest_suffix P whole ≡ deepest_suffix P rest
-    → deepest_suffix P whole ≡ deepest_suffix P (take (length rest - 1) (drop 1 rest))
-one_less P whole [] l n e = absurd (omega arith)
-one_less P whole (i ∷ w) l n e = e ∙ deepest_past P i w n ∙ ap (deepest_suffix P) (sym (take_rest (i ∷ w) 1))
+pub returns-in-Some-clause-place : goal.returns-in-Some-clause-place
+returns-in-Some-clause-place c = found_here c.args.states.now c.args.path.now c.loop-rest.rest.now c.in-Some.at c.loop-rest.invariant
+    (sym c.in-Some.is ∙ found_by_search c.args.states.now c.as_slice.result.now c.loop-rest.rest.now c.place_among.result c.as_slice.ensures c.place_among.ensures)
 
-none_left : (P : List ℕ → Bool) (rest : List ℕ) → length rest < 1 → deepest_suffix P rest ≡ []
-none_left P [] l = refl
-none_left P (i ∷ w) l = absurd (omega arith)
-
-pub returns-in-Ok : goal.returns-in-Ok
-returns-in-Ok c =
-    let P = is_member path_cmp c.args.states.now in
-    c.in-Ok.ensures
-    ∙ ap Some (sym (c.loop-rest.invariant ∙ deepest_of_member P c.loop-rest.rest.now (member_stands path_exact c.args.states.now c.loop-rest.rest.now c.in-Ok.at c.in-Ok.ensures)))
+pub returns-in-Some-clause-suffix : goal.returns-in-Some-clause-suffix
+returns-in-Some-clause-suffix c = ap (slice_get c.args.states.now) (returns-in-Some-clause-place c) ∙ target_stands c.args.states.now c.args.path.now c.requires
 
 pub loop-rest-preserved : goal.loop-rest-preserved
 loop-rest-preserved c =
     one_less (is_member path_cmp c.args.states.now) c.args.path.now c.loop-rest.rest.now c.in-len1-up.len_at_least
-    (member_belongs path_exact c.args.states.now c.loop-rest.rest.now c.in_default-place_of_users.field-0 c.in_default-place_of_users.ensures) c.loop-rest.invariant
+    (not_there c.args.states.now c.loop-rest.rest.now (sym c.in_default-place_among.is
+    ∙ found_by_search c.args.states.now c.as_slice.result.now c.loop-rest.rest.now c.place_among.result c.as_slice.ensures c.place_among.ensures))
+    c.loop-rest.invariant
 
-pub returns : goal.returns
-returns c =
-    let P = is_member path_cmp c.args.states.now in
-    root_comes_first c.args.states.now c.requires.sorted c.requires.root
-    ∙ ap Some (sym (c.loop-rest.invariant ∙ none_left P c.loop-rest.rest.now c.in_default.len_below))
+pub unreachable-requires : goal.unreachable-requires
+unreachable-requires c = false≢true (sym (not_there c.args.states.now c.loop-rest.rest.now (sym c.in-None.is
+    ∙ found_by_search c.args.states.now c.as_slice-2.result.now c.loop-rest.rest.now c.place_among-2.result c.as_slice-2.ensures c.place_among-2.ensures))
+    ∙ ap (is_member path_cmp c.args.states.now) (none_left c.loop-rest.rest.now c.in_default.len_below) ∙ c.requires)
+
+pub returns-clause-place : goal.returns-clause-place
+returns-clause-place c = found_here c.args.states.now c.args.path.now c.loop-rest.rest.now c.in-Some-place_among.at c.loop-rest.invariant
+    (sym c.in-Some-place_among.is ∙ found_by_search c.args.states.now c.as_slice-2.result.now c.loop-rest.rest.now c.place_among-2.result c.as_slice-2.ensures c.place_among-2.ensures)
+
+pub returns-clause-suffix : goal.returns-clause-suffix
+returns-clause-suffix c = ap (slice_get c.args.states.now) (returns-clause-place c) ∙ target_stands c.args.states.now c.args.path.now c.requires

@@ -1,0 +1,46 @@
+-- The worked bases with which the tests try the structure. Alice is user 1, Bob is user 2, Carol is user 3.
+use Rattle.std.specs.Prelude.{ℕ, List, [], ◌∷◌, codes}
+use Rattle.bdb_base.specs.declared.kinds.Catalog.{Catalog}
+use Rattle.bdb_base.specs.declared.kinds.Kind.TheVariants as kind
+use Rattle.bdb_base.specs.declared.kinds.RelDef.{RelDef}
+use Rattle.bdb_base.specs.declared.kinds.Sign.{Sign}
+use Rattle.bdb_base.specs.declared.kinds.Sign.TheVariants.{Plus, Minus}
+use Rattle.bdb_base.specs.declared.kinds.Stmt.{Stmt}
+use Rattle.bdb_base.specs.declared.kinds.Value.TheVariants.{Text}
+use Rattle.bdb_base.specs.Bases.{Contents}
+
+-- S, with a key k and a value v
+abbrev pub sightings : RelDef
+sightings = record { name = codes "S"; cols = record { name = codes "k"; kind = kind.Text } ∷ record { name = codes "v"; kind = kind.Text } ∷ [] }
+
+-- a statement of a tuple of S
+abbrev pub stated_at : List ℕ → Sign → List ℕ → List ℕ → Stmt
+stated_at w s k v = record { path = w; sign = s; tuple = record { rel = 0; vals = Text k ∷ Text v ∷ [] } }
+
+abbrev pub two_users : List (List ℕ)
+two_users = codes "Alice" ∷ codes "Bob" ∷ []
+
+abbrev pub three_users : List (List ℕ)
+three_users = codes "Alice" ∷ codes "Bob" ∷ codes "Carol" ∷ []
+
+-- an eagle, which Bob denies
+abbrev pub denied : Contents
+denied = record {
+  catalog = record { rels = sightings ∷ []; users = two_users };
+  stmts = stated_at [] Plus (codes "s1") (codes "eagle") ∷ stated_at (2 ∷ []) Minus (codes "s1") (codes "eagle") ∷ [];
+}
+
+-- the same, where Alice sees a crow
+abbrev pub disputed : Contents
+disputed = record {
+  catalog = record { rels = sightings ∷ []; users = two_users };
+  stmts = stated_at [] Plus (codes "s1") (codes "eagle") ∷ stated_at (1 ∷ []) Plus (codes "s1") (codes "crow")
+      ∷ stated_at (2 ∷ []) Minus (codes "s1") (codes "eagle") ∷ [];
+}
+
+-- what Alice sees, and what Carol believes that Alice sees
+abbrev pub reported : Contents
+reported = record {
+  catalog = record { rels = sightings ∷ []; users = three_users };
+  stmts = stated_at (1 ∷ []) Plus (codes "s2") (codes "crow") ∷ stated_at (3 ∷ 1 ∷ []) Plus (codes "s1") (codes "eagle") ∷ [];
+}
