@@ -70,3 +70,15 @@ fn key_of(number: u32) -> [u8; 24] {
     key[16..].copy_from_slice(&mixed);
     key
 }
+
+/// The key of a number as the rows of stored worlds have it, in the order of the numbers: a world, a relation, the text of a
+/// key and a tuple's number.
+fn ordered_key(number: u32) -> [u8; 24] {
+    let mut key = [0; 24];
+    key[..4].copy_from_slice(&(number / 1000).to_be_bytes());
+    key[7] = 1;
+    key[8] = 2;
+    key[9..19].copy_from_slice(b"sighting a");
+    key[20..].copy_from_slice(&number.to_be_bytes());
+    key
+}

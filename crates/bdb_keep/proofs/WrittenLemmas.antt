@@ -2,12 +2,11 @@
 use Rattle.std.proofs.Common.{◌≡◌, ℕ, ◌<◌, Bool, true, false, cond, List, [], ◌∷◌, length, get_or, zero, suc, subst, arith, Option, Some, refl, sym, ap, ◌∙◌, ◌⊎◌, inl, inr}
 use Rattle.std.specs.Prelude.{slice_get}
 use Rattle.std.specs.Ordering.{eq_by_cmp}
-use Rattle.std.specs.declared.vec.Vec.{Vec}
 use Rattle.std.specs.FinMap as map
 use Rattle.std.proofs.lemmas.Cmp.{nat_list_cmp_total, eq_by_cmp_equiv}
 use Rattle.bdb_keep.specs.Tables.{Tables, bytes_cmp, set_at}
 use Rattle.bdb_keep.specs.Held.{IsPlace, written}
-use Rattle.bdb_keep.specs.Rows.{row_bytes, places_of, undone, HavePlaces}
+use Rattle.bdb_keep.specs.Rows.{Entries, places_of, undone, HavePlaces}
 use Rattle.bdb_keep.specs.declared.rows.Change.{Change}
 use Rattle.bdb_keep.proofs.RowsLemmas.{get-set_at, same_place, same_tables}
 
@@ -41,13 +40,13 @@ written-agrees (p ∷ ps) now t h = written-agrees ps now (set_at t p (map.get n
 -- changes that are undone differ at their places alone
 undone-agrees : (cs : List Change) (t : Tables) (q : List ℕ) → Among (places_of cs) q ⊎ (map.get t q ≡ map.get (undone cs t) q)
 undone-agrees [] t q = inr refl
-undone-agrees (c ∷ cs) t q = there (eq_by_cmp bytes_cmp q c.place.items) refl (undone-agrees cs t q)
+undone-agrees (c ∷ cs) t q = there (eq_by_cmp bytes_cmp q c.place) refl (undone-agrees cs t q)
   where
-    there : (b : Bool) → eq_by_cmp bytes_cmp q c.place.items ≡ b → Among (places_of cs) q ⊎ (map.get t q ≡ map.get (undone cs t) q)
-        → ((q ≡ c.place.items) ⊎ Among (places_of cs) q) ⊎ (map.get t q ≡ map.get (set_at (undone cs t) c.place.items (row_bytes c.before)) q)
-    there true e h = inl (inl (same_place q c.place.items e))
+    there : (b : Bool) → eq_by_cmp bytes_cmp q c.place ≡ b → Among (places_of cs) q ⊎ (map.get t q ≡ map.get (undone cs t) q)
+        → ((q ≡ c.place) ⊎ Among (places_of cs) q) ⊎ (map.get t q ≡ map.get (set_at (undone cs t) c.place c.before) q)
+    there true e h = inl (inl (same_place q c.place e))
     there false e (inl a) = inl (inr a)
-    there false e (inr s) = inr (s ∙ sym (get-set_at (undone cs t) c.place.items (row_bytes c.before) q ∙ ap (λ b. cond b (row_bytes c.before) (map.get (undone cs t) q)) e))
+    there false e (inr s) = inr (s ∙ sym (get-set_at (undone cs t) c.place c.before q ∙ ap (λ b. cond b c.before (map.get (undone cs t) q)) e))
 
 -- the changes, written over the rows last settled, give the rows
 pub written-undone : (cs : List Change) (t : Tables) → written (places_of cs) t (undone cs t) ≡ t
@@ -58,13 +57,13 @@ length-places_of [] = refl
 length-places_of (c ∷ cs) = ap suc (length-places_of cs)
 
 -- the place of a change in the list
-pub slice_get-places_of : (cs : List Change) (i : ℕ) (c : Change) → i < length cs → c ≡ get_or cs i c → slice_get (places_of cs) i ≡ Some c.place.items
+pub slice_get-places_of : (cs : List Change) (i : ℕ) (c : Change) → i < length cs → c ≡ get_or cs i c → slice_get (places_of cs) i ≡ Some c.place
 slice_get-places_of [] i c h e = absurd (omega arith)
-slice_get-places_of (d ∷ cs) zero c h e = ap (λ x. Some x.place.items) (sym e)
+slice_get-places_of (d ∷ cs) zero c h e = ap (λ x. Some x.place) (sym e)
 slice_get-places_of (d ∷ cs) (suc i) c h e = slice_get-places_of cs i c (omega arith) e
 
 -- each change has a place
-pub IsPlace-at : {A B : Type 0} (cs : List Change) (es : List (Vec ℕ A × Option (Vec ℕ B))) (i : ℕ) (c : Change) → HavePlaces cs es → i < length cs → c ≡ get_or cs i c → IsPlace c.place.items
+pub IsPlace-at : (cs : List Change) (es : Entries) (i : ℕ) (c : Change) → HavePlaces cs es → i < length cs → c ≡ get_or cs i c → IsPlace c.place
 IsPlace-at [] es i c v h e = absurd (omega arith)
-IsPlace-at (d ∷ cs) es zero c v h e = subst (λ x. IsPlace x.place.items) (sym e) v.0
+IsPlace-at (d ∷ cs) es zero c v h e = subst (λ x. IsPlace x.place) (sym e) v.0
 IsPlace-at (d ∷ cs) es (suc i) c v h e = IsPlace-at cs es i c v.2 (omega arith) e

@@ -24,3 +24,7 @@ coded_calm =
 -- its count of faults is always 0
 abbrev pub seen_of : Calm → Seen
 seen_of c = record { kept = c.kept; last = c.last; running = c.running; faults = 0; reads = c.reads; writes = c.writes; commits = c.commits }
+
+-- what it tells without that count
+abbrev pub calm_of : Seen → Calm
+calm_of s = record { kept = s.kept; last = s.last; running = s.running; reads = s.reads; writes = s.writes; commits = s.commits }

@@ -1,3 +1,4 @@
+pub mod Calls
 pub mod Calm
 pub mod Held
 pub mod Rows
@@ -5,3 +6,4 @@ pub mod Scans
 pub mod Seen
 pub mod Struck
 pub mod Tables
+pub mod Told

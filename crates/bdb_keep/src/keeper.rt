@@ -1,16 +1,21 @@
 // The trait of keepers.
-ghost use Rattle.std.specs.Prelude.{◌≡◌, ◌≤◌, [], ◌∷◌, true, false, IfOk, OnOk, OnErr, MatchBool, is_some, if◌then◌else◌};
+ghost use Rattle.std.specs.Prelude.{◌≡◌, ◌≤◌, [], ◌∷◌, true, false, IfOk, OnOk, MatchBool, is_some, if◌then◌else◌};
 ghost use Rattle.std.specs.FinMap as map;
-ghost use Rattle.bdb_base.specs.Causes.{HasCause, RoseBy};
+ghost use Rattle.bdb_base.specs.Causes.{RoseBy};
+ghost use Rattle.bdb_keep.specs.Calls.{IsBegin, IsRead, IsWrite, IsCommit, IsUndo};
 ghost use Rattle.bdb_keep.specs.Tables.{IsLeastFrom, NoneFrom};
-ghost use Rattle.bdb_keep.specs.Seen.{Seen, NeverFall, IsAtRest, IsDropped, GoesOn};
+ghost use Rattle.bdb_keep.specs.Seen.{Seen};
+
+use thiserror::Error;
 
 /// Why a keeper refused a call. After any refusal no transaction runs, and the rows are those last committed.
-#[derive(Clone, Copy, Debug, PartialEq, Eq, Drop)]
+#[derive(Clone, Copy, Debug, PartialEq, Eq, Drop, Error)]
 pub enum KeepError {
     /// The store failed. The keeper's count of faults rose.
+    #[error("the store failed")]
     Fault,
     /// There is no memory.
+    #[error("there is no memory")]
     Memory,
 }
 
@@ -23,30 +28,15 @@ pub trait Keeper {
     /// Begins a transaction.
     fn begin(&mut self) -> Result<(), KeepError>
         requires { (seen self.old).running ≡ false }
-        ensures rest { (seen self.old).kept ≡ (seen self.old).last }
-        ensures running { OnOk result ((seen self.new).running ≡ true) }
-        ensures kept { OnOk result ((seen self.new).kept ≡ (seen self.old).kept) }
-        ensures last { (seen self.new).last ≡ (seen self.old).last }
-        ensures commits { (seen self.new).commits ≡ (seen self.old).commits }
-        ensures reads { (seen self.new).reads ≡ (seen self.old).reads }
-        ensures writes { (seen self.new).writes ≡ (seen self.old).writes }
-        ensures counts { NeverFall (seen self.old) (seen self.new) }
-        ensures cause { HasCause (seen self.old).faults (seen self.new).faults result KeepError.Fault }
-        ensures err { OnErr result (IsDropped (seen self.old) (seen self.new)) };
+        ensures begins { IsBegin (seen self.old) (seen self.new) result KeepError.Fault };
 
     /// Reads the row at a key into `row`. The answer is false, and `row` empty, where there is none.
     fn get(&mut self, tab: u8, key: &[u8], row: &mut Vec<u8>) -> Result<bool, KeepError>
         requires table { (1 ≤ tab) × (tab ≤ 15) }
-        ensures rest { IsAtRest (seen self.old) }
         ensures found { IfOk result (λ found. map.get (seen self.old).kept (tab ∷ key.now) ≡ (if found then Some row.new.items else None)) }
         ensures empty { IfOk result (λ found. found ≡ false → row.new.items ≡ []) }
-        ensures kept { OnOk result ((seen self.new).kept ≡ (seen self.old).kept) }
-        ensures ok { OnOk result (GoesOn (seen self.old) (seen self.new)) }
         ensures reads { RoseBy 1 (seen self.old).reads (seen self.new).reads }
-        ensures writes { (seen self.new).writes ≡ (seen self.old).writes }
-        ensures counts { NeverFall (seen self.old) (seen self.new) }
-        ensures cause { HasCause (seen self.old).faults (seen self.new).faults result KeepError.Fault }
-        ensures err { OnErr result (IsDropped (seen self.old) (seen self.new)) };
+        ensures read { IsRead (seen self.old) (seen self.new) result KeepError.Fault };
 
     /// Reads the least key that isn't below `low`, and its row. The answer is false, and both are empty, where there
     /// is none.
@@ -58,30 +48,20 @@ pub trait Keeper {
         row: &mut Vec<u8>,
     ) -> Result<bool, KeepError>
         requires table { (1 ≤ tab) × (tab ≤ 15) }
-        ensures rest { IsAtRest (seen self.old) }
         ensures found { IfOk result (λ found. MatchBool found
             (IsLeastFrom (seen self.old).kept tab low.now key.new.items row.new.items)
             (NoneFrom (seen self.old).kept tab low.now)) }
         ensures empty { IfOk result (λ found. found ≡ false → (key.new.items ≡ []) × (row.new.items ≡ [])) }
-        ensures kept { OnOk result ((seen self.new).kept ≡ (seen self.old).kept) }
-        ensures ok { OnOk result (GoesOn (seen self.old) (seen self.new)) }
         ensures reads { RoseBy 1 (seen self.old).reads (seen self.new).reads }
-        ensures writes { (seen self.new).writes ≡ (seen self.old).writes }
-        ensures counts { NeverFall (seen self.old) (seen self.new) }
-        ensures cause { HasCause (seen self.old).faults (seen self.new).faults result KeepError.Fault }
-        ensures err { OnErr result (IsDropped (seen self.old) (seen self.new)) };
+        ensures read { IsRead (seen self.old) (seen self.new) result KeepError.Fault };
 
     /// Puts a row at a key, in place of the row that stood there.
     fn put(&mut self, tab: u8, key: &[u8], row: &[u8]) -> Result<(), KeepError>
         requires table { (1 ≤ tab) × (tab ≤ 15) }
         requires running { (seen self.old).running ≡ true }
         ensures kept { OnOk result ((seen self.new).kept ≡ map.insert (seen self.old).kept (tab ∷ key.now) row.now) }
-        ensures ok { OnOk result (GoesOn (seen self.old) (seen self.new)) }
-        ensures reads { (seen self.new).reads ≡ (seen self.old).reads }
         ensures writes { RoseBy 1 (seen self.old).writes (seen self.new).writes }
-        ensures counts { NeverFall (seen self.old) (seen self.new) }
-        ensures cause { HasCause (seen self.old).faults (seen self.new).faults result KeepError.Fault }
-        ensures err { OnErr result (IsDropped (seen self.old) (seen self.new)) };
+        ensures write { IsWrite (seen self.old) (seen self.new) result KeepError.Fault };
 
     /// Takes the row at a key away. The answer tells whether it was there.
     fn remove(&mut self, tab: u8, key: &[u8]) -> Result<bool, KeepError>
@@ -89,33 +69,16 @@ pub trait Keeper {
         requires running { (seen self.old).running ≡ true }
         ensures found { IfOk result (λ found. found ≡ is_some (map.get (seen self.old).kept (tab ∷ key.now))) }
         ensures kept { OnOk result ((seen self.new).kept ≡ map.remove (seen self.old).kept (tab ∷ key.now)) }
-        ensures ok { OnOk result (GoesOn (seen self.old) (seen self.new)) }
-        ensures reads { (seen self.new).reads ≡ (seen self.old).reads }
         ensures writes { RoseBy 1 (seen self.old).writes (seen self.new).writes }
-        ensures counts { NeverFall (seen self.old) (seen self.new) }
-        ensures cause { HasCause (seen self.old).faults (seen self.new).faults result KeepError.Fault }
-        ensures err { OnErr result (IsDropped (seen self.old) (seen self.new)) };
+        ensures write { IsWrite (seen self.old) (seen self.new) result KeepError.Fault };
 
     /// Makes the rows those last committed, and ends the transaction.
     fn commit(&mut self) -> Result<(), KeepError>
         requires { (seen self.old).running ≡ true }
-        ensures kept { OnOk result ((seen self.new).kept ≡ (seen self.old).kept) }
-        ensures last { OnOk result ((seen self.new).last ≡ (seen self.old).kept) }
-        ensures stopped { (seen self.new).running ≡ false }
-        ensures commits { OnOk result (RoseBy 1 (seen self.old).commits (seen self.new).commits) }
-        ensures reads { (seen self.new).reads ≡ (seen self.old).reads }
-        ensures writes { (seen self.new).writes ≡ (seen self.old).writes }
-        ensures counts { NeverFall (seen self.old) (seen self.new) }
-        ensures cause { HasCause (seen self.old).faults (seen self.new).faults result KeepError.Fault }
-        ensures err { OnErr result (IsDropped (seen self.old) (seen self.new)) };
+        ensures commit { IsCommit (seen self.old) (seen self.new) result KeepError.Fault };
 
     /// Ends the transaction, if one runs, and goes back to the rows last committed. It can't be refused, and counts no
     /// fault.
     fn undo(&mut self)
-        ensures rest { IsAtRest (seen self.old) }
-        ensures dropped { IsDropped (seen self.old) (seen self.new) }
-        ensures faults { (seen self.new).faults ≡ (seen self.old).faults }
-        ensures reads { (seen self.new).reads ≡ (seen self.old).reads }
-        ensures writes { (seen self.new).writes ≡ (seen self.old).writes }
-        ensures counts { NeverFall (seen self.old) (seen self.new) };
+        ensures undone { IsUndo (seen self.old) (seen self.new) };
 }

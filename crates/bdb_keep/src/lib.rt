@@ -2,7 +2,9 @@
 #![tactic(auto)]
 
 mod keeper;
+mod ledger;
 mod mem;
+mod place;
 mod quiet;
 mod rows;
 mod store;
@@ -10,6 +12,7 @@ mod store;
 mod tests;
 
 pub use keeper::{KeepError, Keeper};
+pub use ledger::Ledger;
 pub use mem::MemKeeper;
 pub use quiet::QuietKeeper;
 pub use store::Store;

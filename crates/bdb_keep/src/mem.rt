@@ -1,47 +1,34 @@
 // The keeper in memory that fails where it is told to.
-ghost use Rattle.std.specs.Prelude.{◌≡◌, ◌≤◌, [], ◌∷◌, true, false, IfOk, OnOk, OnErr, MatchBool, is_some, IsTrue, ◌↔◌, if◌then◌else◌};
-ghost use Rattle.std.specs.Bool.{OnTrue, OnFalse};
+ghost use Rattle.std.specs.Prelude.{◌≡◌, ◌≤◌, [], ◌∷◌, true, false, IfOk, OnOk, OnErr, IfErr, MatchBool, is_some, IsTrue, ◌↔◌, if◌then◌else◌};
 ghost use Rattle.std.specs.FinMap as map;
-ghost use Rattle.bdb_base.specs.Causes.{HasCause, Rose, RoseBy};
+ghost use Rattle.bdb_base.specs.Causes.{RoseBy};
+ghost use Rattle.bdb_keep.specs.Calls.{IsBegin, IsRead, IsWrite, IsCommit, IsUndo};
 ghost use Rattle.bdb_keep.specs.Tables.{IsLeastFrom, NoneFrom};
-ghost use Rattle.bdb_keep.specs.Seen.{NeverFall, IsAtRest, IsDropped, GoesOn};
 ghost use Rattle.bdb_keep.specs.Struck.{number_of_next, is_listed, Counted};
 
 use crate::keeper::{KeepError, Keeper};
-use crate::store::Store;
+use crate::ledger::Ledger;
 use bdb_base::List;
 use std::alloc::{AllocError, Global};
 use std::marker::Model;
 
 /// A keeper in memory that fails exactly the calls whose numbers, from 1, are listed. Each call of the trait but `undo`
-/// has a number.
+/// has a number. Neither to begin nor to commit nor to undo a transaction takes memory.
 #[derive(Drop)]
 pub struct MemKeeper {
-    store: Store,
-    running: bool,
-    faults: u64,
-    reads: u64,
-    writes: u64,
-    commits: u64,
+    ledger: Ledger,
     calls: u64,
     fails: List<u32>,
 }
 
 impl Model for MemKeeper {
-    ghost use Rattle.std.specs.Prelude.{◌≡◌, false};
     ghost use Rattle.bdb_keep.specs.Struck.{Struck, coded_struck};
 
     ghost Value = { Struck };
 
     ghost coded = { coded_struck };
 
-    ghost view = { λ k. record {
-      seen = record { kept = k.store.kept; last = k.store.last; running = k.running; faults = k.faults; reads = k.reads; writes = k.writes; commits = k.commits };
-      calls = k.calls;
-      fails = k.fails;
-    } };
-
-    ghost invariant = { λ k. k.running ≡ false → k.store.kept ≡ k.store.last };
+    ghost view = { λ k. record { seen = k.ledger.seen; calls = k.calls; fails = k.fails } };
 }
 
 impl MemKeeper {
@@ -54,12 +41,7 @@ impl MemKeeper {
         } }
     {
         MemKeeper {
-            store: Store::new(alloc),
-            running: false,
-            faults: 0,
-            reads: 0,
-            writes: 0,
-            commits: 0,
+            ledger: Ledger::new(alloc),
             calls: 0,
             fails,
         }
@@ -73,7 +55,7 @@ impl MemKeeper {
             self.new ≡ record self.old { seen = record self.old.seen { kept = t; last = t } }) }
         ensures err { OnErr result (self.new ≡ self.old) }
     {
-        self.store.preset(tab, key, row)
+        self.ledger.preset(tab, key, row)
     }
 
     /// Takes a row away as if that had been committed. It is no call of the trait, takes no memory, and looks at each
@@ -84,44 +66,30 @@ impl MemKeeper {
         ensures { let t = map.remove self.old.seen.kept (tab ∷ key.now) in
             self.new ≡ record self.old { seen = record self.old.seen { kept = t; last = t } } }
     {
-        self.store.unset(tab, key);
+        self.ledger.unset(tab, key);
     }
 
-    /// Whether both keepers have the same rows.
+    /// Whether both keepers have the same rows. It takes no memory.
     pub fn same_rows(&self, other: &Self) -> bool
         ensures { IsTrue result ↔ (self.now.seen.kept ≡ other.now.seen.kept) }
     {
-        self.store.same_rows(&other.store)
+        self.ledger.same_rows(&other.ledger)
     }
 
     /// How many transactions were committed.
     pub fn commits(&self) -> u64
         ensures { result ≡ self.now.seen.commits }
     {
-        self.commits
+        self.ledger.commits()
     }
 
-    /// Counts a call, and tells whether it fails. Then the transaction is undone, and the count of faults raised.
+    /// Counts a call, and tells whether it fails.
     fn fails_now(&mut self) -> bool
-        ensures calls { self.new.calls ≡ number_of_next self.old.calls }
-        ensures fails { self.new.fails ≡ self.old.fails }
+        ensures calls { self.new ≡ record self.old { calls = number_of_next self.old.calls } }
         ensures listed { result ≡ is_listed (number_of_next self.old.calls) self.old.fails }
-        ensures goes { OnFalse result (self.new.seen ≡ self.old.seen) }
-        ensures dropped { OnTrue result (IsDropped self.old.seen self.new.seen) }
-        ensures rose { OnTrue result (Rose self.old.seen.faults self.new.seen.faults) }
-        ensures counts { NeverFall self.old.seen self.new.seen }
-        ensures reads { self.new.seen.reads ≡ self.old.seen.reads }
-        ensures writes { self.new.seen.writes ≡ self.old.seen.writes }
-        ensures rest { IsAtRest self.old.seen }
     {
         self.calls = self.calls.saturating_add(1);
-        if lists(self.fails.as_slice(), self.calls) {
-            self.faults = self.faults.saturating_add(1);
-            self.store.undo();
-            self.running = false;
-            return true;
-        }
-        false
+        lists(self.fails.as_slice(), self.calls)
     }
 }
 
@@ -137,52 +105,35 @@ impl Keeper for MemKeeper {
 
     fn begin(&mut self) -> Result<(), KeepError>
         requires { self.old.seen.running ≡ false }
-        ensures rest { self.old.seen.kept ≡ self.old.seen.last }
-        ensures running { OnOk result (self.new.seen.running ≡ true) }
-        ensures kept { OnOk result (self.new.seen.kept ≡ self.old.seen.kept) }
-        ensures last { self.new.seen.last ≡ self.old.seen.last }
-        ensures commits { self.new.seen.commits ≡ self.old.seen.commits }
-        ensures reads { self.new.seen.reads ≡ self.old.seen.reads }
-        ensures writes { self.new.seen.writes ≡ self.old.seen.writes }
-        ensures counts { NeverFall self.old.seen self.new.seen }
-        ensures cause { HasCause self.old.seen.faults self.new.seen.faults result KeepError.Fault }
-        ensures err { OnErr result (IsDropped self.old.seen self.new.seen) }
+        ensures begins { IsBegin self.old.seen self.new.seen result KeepError.Fault }
 
         ensures exact { Counted self.old self.new result }
+        ensures only { IfErr result (λ error. error ≡ KeepError.Fault) }
     {
         if self.fails_now() {
+            self.ledger.refuse(KeepError::Fault);
             return Err(KeepError::Fault);
         }
-        self.running = true;
+        self.ledger.begin();
         Ok(())
     }
 
     fn get(&mut self, tab: u8, key: &[u8], row: &mut Vec<u8>) -> Result<bool, KeepError>
         requires table { (1 ≤ tab) × (tab ≤ 15) }
-        ensures rest { IsAtRest self.old.seen }
         ensures found { IfOk result (λ found. map.get self.old.seen.kept (tab ∷ key.now) ≡ (if found then Some row.new.items else None)) }
         ensures empty { IfOk result (λ found. found ≡ false → row.new.items ≡ []) }
-        ensures kept { OnOk result (self.new.seen.kept ≡ self.old.seen.kept) }
-        ensures ok { OnOk result (GoesOn self.old.seen self.new.seen) }
         ensures reads { RoseBy 1 self.old.seen.reads self.new.seen.reads }
-        ensures writes { self.new.seen.writes ≡ self.old.seen.writes }
-        ensures counts { NeverFall self.old.seen self.new.seen }
-        ensures cause { HasCause self.old.seen.faults self.new.seen.faults result KeepError.Fault }
-        ensures err { OnErr result (IsDropped self.old.seen self.new.seen) }
+        ensures read { IsRead self.old.seen self.new.seen result KeepError.Fault }
 
         ensures exact { Counted self.old self.new result }
     {
-        self.reads = self.reads.saturating_add(1);
         if self.fails_now() {
+            self.ledger.refuse_read(KeepError::Fault);
             return Err(KeepError::Fault);
         }
-        match self.store.get(tab, key, row) {
+        match self.ledger.get(tab, key, row) {
             Ok(found) => Ok(found),
-            Err(_) => {
-                self.store.undo();
-                self.running = false;
-                Err(KeepError::Memory)
-            }
+            Err(error) => Err(error),
         }
     }
 
@@ -194,32 +145,22 @@ impl Keeper for MemKeeper {
         row: &mut Vec<u8>,
     ) -> Result<bool, KeepError>
         requires table { (1 ≤ tab) × (tab ≤ 15) }
-        ensures rest { IsAtRest self.old.seen }
         ensures found { IfOk result (λ found. MatchBool found
             (IsLeastFrom self.old.seen.kept tab low.now key.new.items row.new.items)
             (NoneFrom self.old.seen.kept tab low.now)) }
         ensures empty { IfOk result (λ found. found ≡ false → (key.new.items ≡ []) × (row.new.items ≡ [])) }
-        ensures kept { OnOk result (self.new.seen.kept ≡ self.old.seen.kept) }
-        ensures ok { OnOk result (GoesOn self.old.seen self.new.seen) }
         ensures reads { RoseBy 1 self.old.seen.reads self.new.seen.reads }
-        ensures writes { self.new.seen.writes ≡ self.old.seen.writes }
-        ensures counts { NeverFall self.old.seen self.new.seen }
-        ensures cause { HasCause self.old.seen.faults self.new.seen.faults result KeepError.Fault }
-        ensures err { OnErr result (IsDropped self.old.seen self.new.seen) }
+        ensures read { IsRead self.old.seen self.new.seen result KeepError.Fault }
 
         ensures exact { Counted self.old self.new result }
     {
-        self.reads = self.reads.saturating_add(1);
         if self.fails_now() {
+            self.ledger.refuse_read(KeepError::Fault);
             return Err(KeepError::Fault);
         }
-        match self.store.next(tab, low, key, row) {
+        match self.ledger.next(tab, low, key, row) {
             Ok(found) => Ok(found),
-            Err(_) => {
-                self.store.undo();
-                self.running = false;
-                Err(KeepError::Memory)
-            }
+            Err(error) => Err(error),
         }
     }
 
@@ -227,26 +168,18 @@ impl Keeper for MemKeeper {
         requires table { (1 ≤ tab) × (tab ≤ 15) }
         requires running { self.old.seen.running ≡ true }
         ensures kept { OnOk result (self.new.seen.kept ≡ map.insert self.old.seen.kept (tab ∷ key.now) row.now) }
-        ensures ok { OnOk result (GoesOn self.old.seen self.new.seen) }
-        ensures reads { self.new.seen.reads ≡ self.old.seen.reads }
         ensures writes { RoseBy 1 self.old.seen.writes self.new.seen.writes }
-        ensures counts { NeverFall self.old.seen self.new.seen }
-        ensures cause { HasCause self.old.seen.faults self.new.seen.faults result KeepError.Fault }
-        ensures err { OnErr result (IsDropped self.old.seen self.new.seen) }
+        ensures write { IsWrite self.old.seen self.new.seen result KeepError.Fault }
 
         ensures exact { Counted self.old self.new result }
     {
-        self.writes = self.writes.saturating_add(1);
         if self.fails_now() {
+            self.ledger.refuse_write(KeepError::Fault);
             return Err(KeepError::Fault);
         }
-        match self.store.put(tab, key, row) {
+        match self.ledger.put(tab, key, row) {
             Ok(()) => Ok(()),
-            Err(_) => {
-                self.store.undo();
-                self.running = false;
-                Err(KeepError::Memory)
-            }
+            Err(error) => Err(error),
         }
     }
 
@@ -255,63 +188,41 @@ impl Keeper for MemKeeper {
         requires running { self.old.seen.running ≡ true }
         ensures found { IfOk result (λ found. found ≡ is_some (map.get self.old.seen.kept (tab ∷ key.now))) }
         ensures kept { OnOk result (self.new.seen.kept ≡ map.remove self.old.seen.kept (tab ∷ key.now)) }
-        ensures ok { OnOk result (GoesOn self.old.seen self.new.seen) }
-        ensures reads { self.new.seen.reads ≡ self.old.seen.reads }
         ensures writes { RoseBy 1 self.old.seen.writes self.new.seen.writes }
-        ensures counts { NeverFall self.old.seen self.new.seen }
-        ensures cause { HasCause self.old.seen.faults self.new.seen.faults result KeepError.Fault }
-        ensures err { OnErr result (IsDropped self.old.seen self.new.seen) }
+        ensures write { IsWrite self.old.seen self.new.seen result KeepError.Fault }
 
         ensures exact { Counted self.old self.new result }
     {
-        self.writes = self.writes.saturating_add(1);
         if self.fails_now() {
+            self.ledger.refuse_write(KeepError::Fault);
             return Err(KeepError::Fault);
         }
-        match self.store.remove(tab, key) {
+        match self.ledger.remove(tab, key) {
             Ok(found) => Ok(found),
-            Err(_) => {
-                self.store.undo();
-                self.running = false;
-                Err(KeepError::Memory)
-            }
+            Err(error) => Err(error),
         }
     }
 
     fn commit(&mut self) -> Result<(), KeepError>
         requires { self.old.seen.running ≡ true }
-        ensures kept { OnOk result (self.new.seen.kept ≡ self.old.seen.kept) }
-        ensures last { OnOk result (self.new.seen.last ≡ self.old.seen.kept) }
-        ensures stopped { self.new.seen.running ≡ false }
-        ensures commits { OnOk result (RoseBy 1 self.old.seen.commits self.new.seen.commits) }
-        ensures reads { self.new.seen.reads ≡ self.old.seen.reads }
-        ensures writes { self.new.seen.writes ≡ self.old.seen.writes }
-        ensures counts { NeverFall self.old.seen self.new.seen }
-        ensures cause { HasCause self.old.seen.faults self.new.seen.faults result KeepError.Fault }
-        ensures err { OnErr result (IsDropped self.old.seen self.new.seen) }
+        ensures commit { IsCommit self.old.seen self.new.seen result KeepError.Fault }
 
         ensures exact { Counted self.old self.new result }
+        ensures only { IfErr result (λ error. error ≡ KeepError.Fault) }
     {
         if self.fails_now() {
+            self.ledger.refuse(KeepError::Fault);
             return Err(KeepError::Fault);
         }
-        self.store.settle();
-        self.running = false;
-        self.commits = self.commits.saturating_add(1);
+        self.ledger.commit();
         Ok(())
     }
 
     fn undo(&mut self)
-        ensures rest { IsAtRest self.old.seen }
-        ensures dropped { IsDropped self.old.seen self.new.seen }
-        ensures faults { self.new.seen.faults ≡ self.old.seen.faults }
-        ensures reads { self.new.seen.reads ≡ self.old.seen.reads }
-        ensures writes { self.new.seen.writes ≡ self.old.seen.writes }
-        ensures counts { NeverFall self.old.seen self.new.seen }
+        ensures undone { IsUndo self.old.seen self.new.seen }
 
         ensures exact { (self.new.calls ≡ self.old.calls) × (self.new.fails ≡ self.old.fails) }
     {
-        self.store.undo();
-        self.running = false;
+        self.ledger.undo();
     }
 }

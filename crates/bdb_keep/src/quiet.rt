@@ -1,34 +1,32 @@
 // The keeper in memory that never fails.
-ghost use Rattle.std.specs.Prelude.{◌≡◌, ◌≤◌, ◌∷◌, OnOk, OnErr, IsTrue, ◌↔◌, false};
+ghost use Rattle.std.specs.Prelude.{◌≡◌, ◌≤◌, ◌∷◌, OnOk, OnErr, IsOk, IsTrue, ◌↔◌, true, false};
 ghost use Rattle.std.specs.FinMap as map;
+ghost use Rattle.bdb_keep.specs.Calls.{IsBegin, IsCommit};
 ghost use Rattle.bdb_keep.specs.Calm.{seen_of};
 
 use crate::keeper::{KeepError, Keeper};
-use crate::store::Store;
+use crate::ledger::Ledger;
 use std::alloc::{AllocError, Global};
 use std::marker::Model;
 
-/// A keeper in memory that has no faults. It is refused only by want of memory.
+/// A keeper in memory that has no faults. It is refused only by want of memory, and neither to begin nor to commit nor to
+/// undo a transaction takes memory.
 #[derive(Drop)]
 pub struct QuietKeeper {
-    store: Store,
-    running: bool,
-    reads: u64,
-    writes: u64,
-    commits: u64,
+    ledger: Ledger,
 }
 
 impl Model for QuietKeeper {
-    ghost use Rattle.std.specs.Prelude.{◌≡◌, false};
-    ghost use Rattle.bdb_keep.specs.Calm.{Calm, coded_calm};
+    ghost use Rattle.std.specs.Prelude.{◌≡◌};
+    ghost use Rattle.bdb_keep.specs.Calm.{Calm, coded_calm, calm_of};
 
     ghost Value = { Calm };
 
     ghost coded = { coded_calm };
 
-    ghost view = { λ k. record { kept = k.store.kept; last = k.store.last; running = k.running; reads = k.reads; writes = k.writes; commits = k.commits } };
+    ghost view = { λ k. calm_of k.ledger.seen };
 
-    ghost invariant = { λ k. k.running ≡ false → k.store.kept ≡ k.store.last };
+    ghost invariant = { λ k. k.ledger.seen.faults ≡ 0 };
 }
 
 impl QuietKeeper {
@@ -37,11 +35,7 @@ impl QuietKeeper {
         ensures { result ≡ record { kept = map.empty; last = map.empty; running = false; reads = 0; writes = 0; commits = 0 } }
     {
         QuietKeeper {
-            store: Store::new(alloc),
-            running: false,
-            reads: 0,
-            writes: 0,
-            commits: 0,
+            ledger: Ledger::new(alloc),
         }
     }
 
@@ -52,7 +46,7 @@ impl QuietKeeper {
         ensures ok { OnOk result (let t = map.insert self.old.kept (tab ∷ key.now) row.now in self.new ≡ record self.old { kept = t; last = t }) }
         ensures err { OnErr result (self.new ≡ self.old) }
     {
-        self.store.preset(tab, key, row)
+        self.ledger.preset(tab, key, row)
     }
 
     /// Takes a row away as if that had been committed. It is no call of the trait, takes no memory, and looks at each
@@ -62,41 +56,41 @@ impl QuietKeeper {
         requires still { self.old.running ≡ false }
         ensures { let t = map.remove self.old.kept (tab ∷ key.now) in self.new ≡ record self.old { kept = t; last = t } }
     {
-        self.store.unset(tab, key);
+        self.ledger.unset(tab, key);
     }
 
-    /// Whether both keepers have the same rows.
+    /// Whether both keepers have the same rows. It takes no memory.
     pub fn same_rows(&self, other: &Self) -> bool
         ensures { IsTrue result ↔ (self.now.kept ≡ other.now.kept) }
     {
-        self.store.same_rows(&other.store)
+        self.ledger.same_rows(&other.ledger)
     }
 
     /// How many transactions were committed.
     pub fn commits(&self) -> u64
         ensures { result ≡ self.now.commits }
     {
-        self.commits
+        self.ledger.commits()
     }
 }
 
 impl Keeper for QuietKeeper {
     ghost seen = { seen_of };
 
-    fn begin(&mut self) -> Result<(), KeepError> {
-        self.running = true;
+    /// It is never refused.
+    fn begin(&mut self) -> Result<(), KeepError>
+        requires { (seen_of self.old).running ≡ false }
+        ensures begins { IsBegin (seen_of self.old) (seen_of self.new) result KeepError.Fault }
+        ensures accepted { IsOk result }
+    {
+        self.ledger.begin();
         Ok(())
     }
 
     fn get(&mut self, tab: u8, key: &[u8], row: &mut Vec<u8>) -> Result<bool, KeepError> {
-        self.reads = self.reads.saturating_add(1);
-        match self.store.get(tab, key, row) {
+        match self.ledger.get(tab, key, row) {
             Ok(found) => Ok(found),
-            Err(_) => {
-                self.store.undo();
-                self.running = false;
-                Err(KeepError::Memory)
-            }
+            Err(error) => Err(error),
         }
     }
 
@@ -107,50 +101,37 @@ impl Keeper for QuietKeeper {
         key: &mut Vec<u8>,
         row: &mut Vec<u8>,
     ) -> Result<bool, KeepError> {
-        self.reads = self.reads.saturating_add(1);
-        match self.store.next(tab, low, key, row) {
+        match self.ledger.next(tab, low, key, row) {
             Ok(found) => Ok(found),
-            Err(_) => {
-                self.store.undo();
-                self.running = false;
-                Err(KeepError::Memory)
-            }
+            Err(error) => Err(error),
         }
     }
 
     fn put(&mut self, tab: u8, key: &[u8], row: &[u8]) -> Result<(), KeepError> {
-        self.writes = self.writes.saturating_add(1);
-        match self.store.put(tab, key, row) {
+        match self.ledger.put(tab, key, row) {
             Ok(()) => Ok(()),
-            Err(_) => {
-                self.store.undo();
-                self.running = false;
-                Err(KeepError::Memory)
-            }
+            Err(error) => Err(error),
         }
     }
 
     fn remove(&mut self, tab: u8, key: &[u8]) -> Result<bool, KeepError> {
-        self.writes = self.writes.saturating_add(1);
-        match self.store.remove(tab, key) {
+        match self.ledger.remove(tab, key) {
             Ok(found) => Ok(found),
-            Err(_) => {
-                self.store.undo();
-                self.running = false;
-                Err(KeepError::Memory)
-            }
+            Err(error) => Err(error),
         }
     }
 
-    fn commit(&mut self) -> Result<(), KeepError> {
-        self.store.settle();
-        self.running = false;
-        self.commits = self.commits.saturating_add(1);
+    /// It is never refused.
+    fn commit(&mut self) -> Result<(), KeepError>
+        requires { (seen_of self.old).running ≡ true }
+        ensures commit { IsCommit (seen_of self.old) (seen_of self.new) result KeepError.Fault }
+        ensures accepted { IsOk result }
+    {
+        self.ledger.commit();
         Ok(())
     }
 
     fn undo(&mut self) {
-        self.store.undo();
-        self.running = false;
+        self.ledger.undo();
     }
 }

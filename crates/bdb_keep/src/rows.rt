@@ -4,36 +4,27 @@ ghost use Rattle.std.specs.Option.{option_map};
 ghost use Rattle.std.specs.FinMap as map;
 ghost use Rattle.std.specs.Cmp.Lexicographic.{pointwise};
 ghost use Rattle.bdb_keep.specs.Held.{IsPlace};
-ghost use Rattle.bdb_keep.specs.Rows.{place_at, rows_of, undone, row_of, row_bytes, places_of, HavePlaces, KeepsPlaces};
+ghost use Rattle.bdb_keep.specs.Rows.{place_at, rows_of, undone, row_of, places_of, HavePlaces, KeepsPlaces};
 ghost use Rattle.bdb_keep.specs.Tables.{IsLeastFrom, NoneFrom, LieWithin, set_at};
 
+use crate::place::{Place, Row};
 use std::alloc::{AllocError, Global};
 use std::collections::BTreeMap;
 use std::mem::replace;
 
 /// The rows by place. A place with no row is one whose row was removed in the running transaction.
-pub type Rows = BTreeMap<Vec<u8>, Option<Vec<u8>>>;
+pub type Rows = BTreeMap<Place, Option<Row>>;
 
 /// A change of a transaction: where it was made, and the row that stood there before.
 #[derive(Drop)]
 pub struct Change {
-    pub place: Vec<u8>,
-    pub before: Option<Vec<u8>>,
-}
-
-/// Writes the place of a key in a table.
-pub fn fill(place: &mut Vec<u8>, tab: u8, key: &[u8]) -> Result<(), AllocError>
-    ensures { OnOk result (place.new.items ≡ tab ∷ key.now) }
-{
-    place.clear();
-    place.push(tab)?;
-    place.extend_from_slice(key)?;
-    Ok(())
+    pub place: Place,
+    pub before: Option<Row>,
 }
 
 /// Reads the row at a place.
 #[tactic(auto, using(crate::proofs::RowsLemmas::get_rows_of))]
-pub fn read(rows: &Rows, place: &[u8], row: &mut Vec<u8>) -> Result<bool, AllocError>
+pub fn read(rows: &Rows, place: &Place, row: &mut Vec<u8>) -> Result<bool, AllocError>
     ensures found { IfOk result (λ found. map.get (rows_of rows.now.entries) place.now ≡ (if found then Some row.new.items else None)) }
     ensures empty { IfOk result (λ found. found ≡ false → row.new.items ≡ []) }
 {
@@ -51,11 +42,11 @@ pub fn read(rows: &Rows, place: &[u8], row: &mut Vec<u8>) -> Result<bool, AllocE
 /// Puts what stands at a place, and answers what stood there. The answer is the new row where there is no such place.
 pub fn swap_row(
     rows: &mut Rows,
-    place: &[u8],
-    row: Option<Vec<u8>>,
-) -> Result<Option<Vec<u8>>, Option<Vec<u8>>>
+    place: &Place,
+    row: Option<Row>,
+) -> Result<Option<Row>, Option<Row>>
     ensures found { IfOk result (λ before. place_at rows.old.entries place.now ≡ Some before) }
-    ensures rows { OnOk result (rows_of rows.new.entries ≡ set_at (rows_of rows.old.entries) place.now (row_bytes row)) }
+    ensures rows { OnOk result (rows_of rows.new.entries ≡ set_at (rows_of rows.old.entries) place.now row) }
     ensures keeps { KeepsPlaces rows.old.entries rows.new.entries }
     ensures absent { OnErr result (place_at rows.old.entries place.now ≡ None) }
     ensures back { IfErr result (λ back. back ≡ row) }
@@ -67,44 +58,24 @@ pub fn swap_row(
     }
 }
 
-/// Puts a row at a new place.
-pub fn insert_row(rows: &mut Rows, place: Vec<u8>, row: Option<Vec<u8>>) -> Result<(), AllocError>
-    requires { place_at rows.old.entries place.items ≡ None }
-    ensures rows { OnOk result (rows_of rows.new.entries ≡ set_at (rows_of rows.old.entries) place.items (row_bytes row)) }
-    ensures here { OnOk result (IsSome (place_at rows.new.entries place.items)) }
-    ensures keeps { KeepsPlaces rows.old.entries rows.new.entries }
+/// Puts a row at a place, which may be new, and answers the row that stood there.
+pub fn insert_row(rows: &mut Rows, place: Place, row: Row) -> Result<Option<Row>, AllocError>
+    ensures before { IfOk result (λ before. row_of (place_at rows.old.entries place) ≡ before) }
+    ensures rows { OnOk result (rows_of rows.new.entries ≡ set_at (rows_of rows.old.entries) place (Some row)) }
+    ensures here { OnOk result (IsSome (place_at rows.new.entries place)) }
+    ensures keeps { OnOk result (KeepsPlaces rows.old.entries rows.new.entries) }
     ensures err { OnErr result (rows.new.entries ≡ rows.old.entries) }
 {
-    rows.insert(place, row)?;
-    Ok(())
-}
-
-/// Puts what stands at a place, which may be new, and answers the row that stood there.
-pub fn set_place(
-    alloc: Global,
-    rows: &mut Rows,
-    place: &[u8],
-    row: Option<Vec<u8>>,
-) -> Result<Option<Vec<u8>>, AllocError>
-    ensures before { IfOk result (λ before. row_of (place_at rows.old.entries place.now) ≡ row_bytes before) }
-    ensures rows { OnOk result (rows_of rows.new.entries ≡ set_at (rows_of rows.old.entries) place.now (row_bytes row)) }
-    ensures here { OnOk result (IsSome (place_at rows.new.entries place.now)) }
-    ensures keeps { KeepsPlaces rows.old.entries rows.new.entries }
-    ensures err { OnErr result (rows.new.entries ≡ rows.old.entries) }
-{
-    match swap_row(rows, place, row) {
-        Ok(before) => Ok(before),
-        Err(row) => {
-            let key = Vec::from_slice(alloc, place)?;
-            insert_row(rows, key, row)?;
-            Ok(None)
-        }
+    match rows.insert(place, Some(row)) {
+        Ok(Some(before)) => Ok(before),
+        Ok(None) => Ok(None),
+        Err(_) => Err(AllocError),
     }
 }
 
 /// Empties a place, and answers the row that stood there.
-pub fn empty_place(rows: &mut Rows, place: &[u8]) -> Option<Vec<u8>>
-    ensures row { row_bytes result ≡ map.get (rows_of rows.old.entries) place.now }
+pub fn empty_place(rows: &mut Rows, place: &Place) -> Option<Row>
+    ensures row { result ≡ map.get (rows_of rows.old.entries) place.now }
     ensures rows { rows_of rows.new.entries ≡ map.remove (rows_of rows.old.entries) place.now }
     ensures here { OnSome result (IsSome (place_at rows.new.entries place.now)) }
     ensures keeps { KeepsPlaces rows.old.entries rows.new.entries }
@@ -117,7 +88,7 @@ pub fn empty_place(rows: &mut Rows, place: &[u8]) -> Option<Vec<u8>>
 }
 
 /// Takes a place away where it is empty.
-pub fn drop_empty(rows: &mut Rows, place: &[u8])
+pub fn drop_empty(rows: &mut Rows, place: &Place)
     ensures { rows_of rows.new.entries ≡ rows_of rows.old.entries }
 {
     match rows.get(place) {
@@ -129,26 +100,33 @@ pub fn drop_empty(rows: &mut Rows, place: &[u8])
     }
 }
 
+/// Takes all empty places away, in one walk over the rows.
+pub fn drop_all_empty(rows: &mut Rows)
+    ensures { rows_of rows.new.entries ≡ rows_of rows.old.entries }
+{
+    rows.retain(|_, row| row.is_some());
+}
+
 /// Puts a row at a place, and keeps in the list of changes what stood there. After a refusal nothing changed.
 pub fn put_row(
     alloc: Global,
     rows: &mut Rows,
     changes: &mut Vec<Change>,
-    place: &[u8],
+    place: Place,
     row: &[u8],
 ) -> Result<(), AllocError>
-    requires place { IsPlace place.now }
+    requires place { IsPlace place }
     requires has { HavePlaces changes.old.items rows.old.entries }
-    ensures rows { OnOk result (rows_of rows.new.entries ≡ map.insert (rows_of rows.old.entries) place.now row.now) }
+    ensures rows { OnOk result (rows_of rows.new.entries ≡ map.insert (rows_of rows.old.entries) place row.now) }
     ensures last { undone changes.new.items (rows_of rows.new.entries) ≡ undone changes.old.items (rows_of rows.old.entries) }
-    ensures places { OnOk result (places_of changes.new.items ≡ places_of changes.old.items ++ place.now ∷ []) }
+    ensures places { OnOk result (places_of changes.new.items ≡ places_of changes.old.items ++ place ∷ []) }
     ensures has { HavePlaces changes.new.items rows.new.entries }
     ensures err { OnErr result ((rows.new.entries ≡ rows.old.entries) × (changes.new.items ≡ changes.old.items)) }
 {
     changes.reserve(1)?;
-    let saved = Vec::from_slice(alloc, place)?;
-    let copy = Vec::from_slice(alloc, row)?;
-    let before = set_place(alloc, rows, place, Some(copy))?;
+    let saved = place.copy(alloc)?;
+    let copy = Row::of(alloc, row)?;
+    let before = insert_row(rows, place, copy)?;
     changes.push_reserved(Change {
         place: saved,
         before,
@@ -159,26 +137,24 @@ pub fn put_row(
 /// Empties a place, and keeps in the list of changes the row that stood there. The answer tells whether there was one.
 /// After a refusal nothing changed.
 pub fn take_row(
-    alloc: Global,
     rows: &mut Rows,
     changes: &mut Vec<Change>,
-    place: &[u8],
+    place: Place,
 ) -> Result<bool, AllocError>
-    requires place { IsPlace place.now }
+    requires place { IsPlace place }
     requires has { HavePlaces changes.old.items rows.old.entries }
-    ensures found { IfOk result (λ found. found ≡ is_some (map.get (rows_of rows.old.entries) place.now)) }
-    ensures rows { OnOk result (rows_of rows.new.entries ≡ map.remove (rows_of rows.old.entries) place.now) }
+    ensures found { IfOk result (λ found. found ≡ is_some (map.get (rows_of rows.old.entries) place)) }
+    ensures rows { OnOk result (rows_of rows.new.entries ≡ map.remove (rows_of rows.old.entries) place) }
     ensures last { undone changes.new.items (rows_of rows.new.entries) ≡ undone changes.old.items (rows_of rows.old.entries) }
-    ensures places { IfOk result (λ found. places_of changes.new.items ≡ (if found then places_of changes.old.items ++ place.now ∷ [] else places_of changes.old.items)) }
+    ensures places { IfOk result (λ found. places_of changes.new.items ≡ (if found then places_of changes.old.items ++ place ∷ [] else places_of changes.old.items)) }
     ensures has { HavePlaces changes.new.items rows.new.entries }
     ensures err { OnErr result ((rows.new.entries ≡ rows.old.entries) × (changes.new.items ≡ changes.old.items)) }
 {
     changes.reserve(1)?;
-    let saved = Vec::from_slice(alloc, place)?;
-    match empty_place(rows, place) {
+    match empty_place(rows, &place) {
         Some(row) => {
             changes.push_reserved(Change {
-                place: saved,
+                place,
                 before: Some(row),
             });
             Ok(true)
@@ -187,13 +163,31 @@ pub fn take_row(
     }
 }
 
-/// Forgets the changes, and takes the empty places away.
-pub fn settle(rows: &mut Rows, changes: &mut Vec<Change>)
+/// How many of the changes have a row that stood there before: at most so many places are empty.
+pub fn count_rows_before(changes: &[Change]) -> usize {
+    changes
+        .iter()
+        .filter(|change| change.before.is_some())
+        .count()
+}
+
+/// Forgets the changes, and takes the empty places away, of which at most so many are among the places of the changes.
+/// Where they are many it walks over all rows, where there is none over nothing.
+pub fn settle(rows: &mut Rows, changes: &mut Vec<Change>, emptied: usize)
     ensures rows { rows_of rows.new.entries ≡ rows_of rows.old.entries }
     ensures none { changes.new.items ≡ [] }
 {
+    if emptied == 0 {
+        changes.clear();
+        return;
+    }
+    if emptied > rows.len() / 8 {
+        drop_all_empty(rows);
+        changes.clear();
+        return;
+    }
     while let Some(change) = changes.pop() {
-        drop_empty(rows, change.place.as_slice());
+        drop_empty(rows, &change.place);
     }
 }
 
@@ -211,16 +205,17 @@ pub fn roll_back(rows: &mut Rows, changes: &mut Vec<Change>)
 
 /// Undoes a change. Its place is there.
 pub fn put_back(rows: &mut Rows, change: &mut Change)
-    requires { IsSome (place_at rows.old.entries change.old.place.items) }
-    ensures rows { rows_of rows.new.entries ≡ set_at (rows_of rows.old.entries) change.old.place.items (row_bytes change.old.before) }
+    requires { IsSome (place_at rows.old.entries change.old.place) }
+    ensures rows { rows_of rows.new.entries ≡ set_at (rows_of rows.old.entries) change.old.place change.old.before }
     ensures keeps { KeepsPlaces rows.old.entries rows.new.entries }
 {
     let before = change.before.take();
-    let _ = swap_row(rows, change.place.as_slice(), before);
+    let _ = swap_row(rows, &change.place, before);
 }
 
 /// Reads the least key of a table that isn't below `low`, and its row.
 pub fn first_from(
+    alloc: Global,
     rows: &Rows,
     tab: u8,
     low: &[u8],
@@ -232,8 +227,8 @@ pub fn first_from(
         (NoneFrom (rows_of rows.now.entries) tab low.now)) }
     ensures empty { IfOk result (λ found. found ≡ false → (key.new.items ≡ []) × (row.new.items ≡ [])) }
 {
-    fill(key, tab, low)?;
-    let from: &Vec<u8> = key;
+    let from = Place::of(alloc, tab, low)?;
+    let from = &from;
     let mut rest = rows.range(from..);
     while let Some((place, found)) = rest.next() {
         match found {
@@ -296,7 +291,7 @@ pub fn lies_within(rows: &Rows, others: &Rows) -> bool
     ensures { IsTrue result ↔ LieWithin (rows_of rows.now.entries) (rows_of others.now.entries) }
 {
     for (place, row) in rows.iter() {
-        if !has_same(others, place.as_slice(), row) {
+        if !has_same(others, place, row) {
             return false;
         }
     }
@@ -304,8 +299,8 @@ pub fn lies_within(rows: &Rows, others: &Rows) -> bool
 }
 
 /// Whether a map has this row at a place. No row is had everywhere.
-fn has_same(others: &Rows, place: &[u8], row: &Option<Vec<u8>>) -> bool
-    ensures { IsTrue result ↔ IfSome (row_bytes row.now) (λ bytes. map.get (rows_of others.now.entries) place.now ≡ Some bytes) }
+fn has_same(others: &Rows, place: &Place, row: &Option<Row>) -> bool
+    ensures { IsTrue result ↔ IfSome row.now (λ bytes. map.get (rows_of others.now.entries) place.now ≡ Some bytes) }
 {
     match row {
         None => true,
@@ -319,7 +314,7 @@ fn has_same(others: &Rows, place: &[u8], row: &Option<Vec<u8>>) -> bool
 
 /// The row at a place, if there is one.
 #[tactic(auto, using(crate::proofs::RowsLemmas::get_rows_of))]
-pub fn row_at<'a>(rows: &'a Rows, place: &[u8]) -> Option<&'a [u8]>
+pub fn row_at<'a>(rows: &'a Rows, place: &Place) -> Option<&'a [u8]>
     ensures { option_map (λ row. row.now) result ≡ map.get (rows_of rows.now.entries) place.now }
 {
     match rows.get(place) {

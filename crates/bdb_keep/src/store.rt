@@ -5,9 +5,10 @@ ghost use Rattle.std.specs.FinMap as map;
 ghost use Rattle.bdb_keep.specs.Held.{IsPlace, written};
 ghost use Rattle.bdb_keep.specs.Tables.{IsLeastFrom, NoneFrom};
 
+use crate::place::{Place, Row};
 use crate::rows::{
-    Change, Rows, fill, first_from, lies_within, put_row, read, roll_back, row_at, set_place,
-    settle, split, take_row, unset_row,
+    Change, Rows, count_rows_before, first_from, insert_row, lies_within, put_row, read, roll_back,
+    row_at, settle, split, take_row, unset_row,
 };
 use std::alloc::{AllocError, Global};
 use std::collections::BTreeMap;
@@ -20,7 +21,6 @@ pub struct Store {
     alloc: Global,
     rows: Rows,
     changes: Vec<Change>,
-    place: Vec<u8>,
 }
 
 impl Model for Store {
@@ -46,18 +46,16 @@ impl Store {
             alloc,
             rows: BTreeMap::new(alloc),
             changes: Vec::new(alloc),
-            place: Vec::new(alloc),
         }
     }
 
     /// Reads the row at a key into `row`.
-    pub fn get(&mut self, tab: u8, key: &[u8], row: &mut Vec<u8>) -> Result<bool, AllocError>
-        ensures found { IfOk result (λ found. map.get self.old.kept (tab ∷ key.now) ≡ (if found then Some row.new.items else None)) }
+    pub fn get(&self, tab: u8, key: &[u8], row: &mut Vec<u8>) -> Result<bool, AllocError>
+        ensures found { IfOk result (λ found. map.get self.now.kept (tab ∷ key.now) ≡ (if found then Some row.new.items else None)) }
         ensures empty { IfOk result (λ found. found ≡ false → row.new.items ≡ []) }
-        ensures same { self.new ≡ self.old }
     {
-        fill(&mut self.place, tab, key)?;
-        read(&self.rows, &self.place, row)
+        let place = Place::of(self.alloc, tab, key)?;
+        read(&self.rows, &place, row)
     }
 
     /// Reads the least key that isn't below `low`, and its row.
@@ -73,7 +71,7 @@ impl Store {
             (NoneFrom self.now.kept tab low.now)) }
         ensures empty { IfOk result (λ found. found ≡ false → (key.new.items ≡ []) × (row.new.items ≡ [])) }
     {
-        first_from(&self.rows, tab, low, key, row)
+        first_from(self.alloc, &self.rows, tab, low, key, row)
     }
 
     /// Puts a row at a key.
@@ -84,14 +82,8 @@ impl Store {
         ensures changes { OnOk result (self.new.changes ≡ self.old.changes ++ (tab ∷ key.now) ∷ []) }
         ensures err { OnErr result (self.new ≡ self.old) }
     {
-        fill(&mut self.place, tab, key)?;
-        put_row(
-            self.alloc,
-            &mut self.rows,
-            &mut self.changes,
-            &self.place,
-            row,
-        )
+        let place = Place::of(self.alloc, tab, key)?;
+        put_row(self.alloc, &mut self.rows, &mut self.changes, place, row)
     }
 
     /// Takes the row at a key away. The answer tells whether it was there.
@@ -103,23 +95,25 @@ impl Store {
         ensures changes { IfOk result (λ found. self.new.changes ≡ (if found then self.old.changes ++ (tab ∷ key.now) ∷ [] else self.old.changes)) }
         ensures err { OnErr result (self.new ≡ self.old) }
     {
-        fill(&mut self.place, tab, key)?;
-        take_row(self.alloc, &mut self.rows, &mut self.changes, &self.place)
+        let place = Place::of(self.alloc, tab, key)?;
+        take_row(&mut self.rows, &mut self.changes, place)
     }
 
     /// Settles the changes: the rows are now those last settled. It takes no memory.
     pub fn settle(&mut self)
         ensures { self.new ≡ record { kept = self.old.kept; last = self.old.kept; changes = [] } }
     {
-        settle(&mut self.rows, &mut self.changes);
+        let emptied = count_rows_before(&self.changes);
+        settle(&mut self.rows, &mut self.changes, emptied);
     }
 
     /// Undoes the changes: the rows are those last settled. It takes no memory.
     pub fn undo(&mut self)
         ensures { self.new ≡ record { kept = self.old.last; last = self.old.last; changes = [] } }
     {
+        let emptied = self.changes.len();
         roll_back(&mut self.rows, &mut self.changes);
-        settle(&mut self.rows, &mut self.changes);
+        settle(&mut self.rows, &mut self.changes, emptied);
     }
 
     /// Settles the changes, and puts a row as if it had stood there.
@@ -127,10 +121,11 @@ impl Store {
         ensures ok { OnOk result (let t = map.insert self.old.kept (tab ∷ key.now) row.now in self.new ≡ record { kept = t; last = t; changes = [] }) }
         ensures err { OnErr result (self.new ≡ record { kept = self.old.kept; last = self.old.kept; changes = [] }) }
     {
-        settle(&mut self.rows, &mut self.changes);
-        fill(&mut self.place, tab, key)?;
-        let copy = Vec::from_slice(self.alloc, row)?;
-        set_place(self.alloc, &mut self.rows, &self.place, Some(copy))?;
+        let emptied = count_rows_before(&self.changes);
+        settle(&mut self.rows, &mut self.changes, emptied);
+        let place = Place::of(self.alloc, tab, key)?;
+        let copy = Row::of(self.alloc, row)?;
+        insert_row(&mut self.rows, place, copy)?;
         Ok(())
     }
 
@@ -139,7 +134,8 @@ impl Store {
     pub fn unset(&mut self, tab: u8, key: &[u8])
         ensures { let t = map.remove self.old.kept (tab ∷ key.now) in self.new ≡ record { kept = t; last = t; changes = [] } }
     {
-        settle(&mut self.rows, &mut self.changes);
+        let emptied = count_rows_before(&self.changes);
+        settle(&mut self.rows, &mut self.changes, emptied);
         unset_row(&mut self.rows, tab, key);
     }
 
@@ -173,6 +169,6 @@ impl Store {
         requires { at < length self.now.changes }
         ensures { IfSome (slice_get self.now.changes at) (λ place. option_map (λ row. row.now) result ≡ map.get self.now.kept place) }
     {
-        row_at(&self.rows, self.changes[at].place.as_slice())
+        row_at(&self.rows, &self.changes[at].place)
     }
 }

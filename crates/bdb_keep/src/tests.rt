@@ -121,3 +121,31 @@ fn a_store_lists_its_changes(rt: HostRuntime) -> Result<(), Fail> {
     }
     Ok(())
 }
+
+/// Keys that lie in the map itself and keys that don't, in no order and in their order.
+const KEYS: &str =
+    "bb aaaaaaaaaaaaaaaaaaaaaaaab aaaaaaaaaaaaaaaaaaaaaaab aaaaaaaaaaaaaaaaaaaaaaaaaaaaaaaaaaaaaaaaaaa aaaaaaaaaaaaaaaaaaaaaaaa a";
+
+const KEYS_IN_ORDER: &str =
+    "a aaaaaaaaaaaaaaaaaaaaaaaa aaaaaaaaaaaaaaaaaaaaaaaaaaaaaaaaaaaaaaaaaaa aaaaaaaaaaaaaaaaaaaaaaaab aaaaaaaaaaaaaaaaaaaaaaab bb";
+
+#[test]
+fn short_and_long_keys_come_in_order(rt: HostRuntime) -> Result<(), Fail> {
+    let alloc = rt.alloc();
+    let mut store = Store::new(alloc);
+    for word in KEYS.split_whitespace() {
+        store.preset(1, word.as_bytes(), word.as_bytes())?;
+    }
+    let mut low = Vec::new(alloc);
+    let mut key = Vec::new(alloc);
+    let mut row = Vec::new(alloc);
+    for word in KEYS_IN_ORDER.split_whitespace() {
+        assert!(rt; store.next(1, &low, &mut key, &mut row)?);
+        assert_eq!(rt; key.as_slice(), word.as_bytes());
+        assert_eq!(rt; row.as_slice(), word.as_bytes());
+        low.clear();
+        low.extend_from_slice(&key)?;
+        low.push(0)?;
+    }
+    Ok(())
+}

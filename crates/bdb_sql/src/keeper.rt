@@ -1,16 +1,16 @@
 // The keeper whose rows are in an SQLite file.
-ghost use Rattle.std.specs.Prelude.{◌≡◌, ◌≤◌, [], ◌∷◌, true, false, None, Some, IfOk, IsSome, IfSome, IfNone, OnOk, OnErr, MatchBool, is_some, if◌then◌else◌};
+ghost use Rattle.std.specs.Prelude.{◌≡◌, ◌≤◌, [], ◌∷◌, true, false, None, Some, IfOk, IsSome, OnOk, MatchBool, is_some, if◌then◌else◌};
 ghost use Rattle.std.specs.FinMap as map;
-ghost use Rattle.bdb_base.specs.Causes.{HasCause, Rose, RoseBy};
+ghost use Rattle.bdb_base.specs.Causes.{RoseBy};
+ghost use Rattle.bdb_keep.specs.Calls.{IsBegin, IsRead, IsWrite, IsCommit, IsUndo};
 ghost use Rattle.bdb_keep.specs.Tables.{IsLeastFrom, NoneFrom};
-ghost use Rattle.bdb_keep.specs.Seen.{NeverFall, IsAtRest, IsDropped, GoesOn};
 ghost use Rattle.bdb_sql.specs.Filed.{works, Answers, Commits, Begins};
 ghost use Rattle.bdb_sql.specs.Entries.{FitTables};
 
 use crate::load::load;
 use crate::told::told;
 use crate::write::write_changes;
-use bdb_keep::{KeepError, Keeper, Store};
+use bdb_keep::{KeepError, Keeper, Ledger, Store};
 use sqlite::{Alter, Connection};
 use std::alloc::Global;
 use std::marker::Model;
@@ -21,31 +21,19 @@ use std::marker::Model;
 #[derive(Drop)]
 pub struct SqlKeeper<S: Alter> {
     alloc: Global,
-    store: Store,
+    ledger: Ledger,
     conn: Option<Connection<S>>,
     refusal: Option<KeepError>,
-    running: bool,
-    faults: u64,
-    reads: u64,
-    writes: u64,
-    commits: u64,
 }
 
 impl<S: Alter> Model for SqlKeeper<S> {
-    ghost use Rattle.std.specs.Prelude.{◌≡◌, false};
     ghost use Rattle.bdb_sql.specs.Filed.{Filed, coded_filed};
 
     ghost Value = { Filed S };
 
     ghost coded = { coded_filed S.code };
 
-    ghost view = { λ k. record {
-      seen = record { kept = k.store.kept; last = k.store.last; running = k.running; faults = k.faults; reads = k.reads; writes = k.writes; commits = k.commits };
-      refusal = k.refusal;
-      conn = k.conn;
-    } };
-
-    ghost invariant = { λ k. k.running ≡ false → k.store.kept ≡ k.store.last };
+    ghost view = { λ k. record { seen = k.ledger.seen; refusal = k.refusal; conn = k.conn } };
 }
 
 impl<S: Alter> SqlKeeper<S> {
@@ -86,16 +74,12 @@ impl<S: Alter> SqlKeeper<S> {
         ensures conn { result.conn ≡ conn }
         ensures refusal { result.refusal ≡ refusal }
     {
+        let faults = u64::from(refusal == Some(KeepError::Fault));
         SqlKeeper {
             alloc,
-            store,
+            ledger: Ledger::over(store, faults),
             conn,
             refusal,
-            running: false,
-            faults: u64::from(refusal == Some(KeepError::Fault)),
-            reads: 0,
-            writes: 0,
-            commits: 0,
         }
     }
 
@@ -112,58 +96,11 @@ impl<S: Alter> SqlKeeper<S> {
     {
         let SqlKeeper {
             alloc: _,
-            store: _,
+            ledger: _,
             conn,
             refusal: _,
-            running: _,
-            faults: _,
-            reads: _,
-            writes: _,
-            commits: _,
         } = self;
         conn
-    }
-
-    /// What each call is refused with, where the keeper doesn't work. Then the transaction is undone, and a fault counted.
-    fn refused(&mut self) -> Option<KeepError>
-        ensures refusal { result ≡ self.old.refusal }
-        ensures goes { IfNone result (self.new ≡ self.old) }
-        ensures dropped { IfSome result (λ _. IsDropped self.old.seen self.new.seen) }
-        ensures rose { result ≡ Some KeepError.Fault → Rose self.old.seen.faults self.new.seen.faults }
-        ensures same { (self.new.refusal ≡ self.old.refusal) × (self.new.conn ≡ self.old.conn) }
-        ensures counts { NeverFall self.old.seen self.new.seen }
-        ensures reads { self.new.seen.reads ≡ self.old.seen.reads }
-        ensures writes { self.new.seen.writes ≡ self.old.seen.writes }
-        ensures rest { IsAtRest self.old.seen }
-    {
-        let error = self.refusal?;
-        self.give_up(error);
-        Some(error)
-    }
-
-    /// Undoes the transaction because of a refusal, and counts a fault.
-    fn give_up(&mut self, error: KeepError)
-        ensures dropped { IsDropped self.old.seen self.new.seen }
-        ensures rose { error ≡ KeepError.Fault → Rose self.old.seen.faults self.new.seen.faults }
-        ensures counts { NeverFall self.old.seen self.new.seen }
-        ensures reads { self.new.seen.reads ≡ self.old.seen.reads }
-        ensures writes { self.new.seen.writes ≡ self.old.seen.writes }
-        ensures rest { IsAtRest self.old.seen }
-        ensures same { (self.new.refusal ≡ self.old.refusal) × (self.new.conn ≡ self.old.conn) }
-    {
-        if error == KeepError::Fault {
-            self.faults = self.faults.saturating_add(1);
-        }
-        self.drop_changes();
-    }
-
-    /// Goes back to the rows last committed.
-    fn drop_changes(&mut self)
-        ensures dropped { self.new ≡ record self.old { seen = record self.old.seen { kept = self.old.seen.last; running = false } } }
-        ensures rest { IsAtRest self.old.seen }
-    {
-        self.store.undo();
-        self.running = false;
     }
 }
 
@@ -172,51 +109,34 @@ impl<S: Alter> Keeper for SqlKeeper<S> {
 
     fn begin(&mut self) -> Result<(), KeepError>
         requires { self.old.seen.running ≡ false }
-        ensures rest { self.old.seen.kept ≡ self.old.seen.last }
-        ensures running { OnOk result (self.new.seen.running ≡ true) }
-        ensures kept { OnOk result (self.new.seen.kept ≡ self.old.seen.kept) }
-        ensures last { self.new.seen.last ≡ self.old.seen.last }
-        ensures commits { self.new.seen.commits ≡ self.old.seen.commits }
-        ensures reads { self.new.seen.reads ≡ self.old.seen.reads }
-        ensures writes { self.new.seen.writes ≡ self.old.seen.writes }
-        ensures counts { NeverFall self.old.seen self.new.seen }
-        ensures cause { HasCause self.old.seen.faults self.new.seen.faults result KeepError.Fault }
-        ensures err { OnErr result (IsDropped self.old.seen self.new.seen) }
+        ensures begins { IsBegin self.old.seen self.new.seen result KeepError.Fault }
 
         ensures answers { Answers self.old self.new result }
     {
-        if let Some(error) = self.refused() {
+        if let Some(error) = self.refusal {
+            self.ledger.refuse(error);
             return Err(error);
         }
-        self.running = true;
+        self.ledger.begin();
         Ok(())
     }
 
     fn get(&mut self, tab: u8, key: &[u8], row: &mut Vec<u8>) -> Result<bool, KeepError>
         requires table { (1 ≤ tab) × (tab ≤ 15) }
-        ensures rest { IsAtRest self.old.seen }
         ensures found { IfOk result (λ found. map.get self.old.seen.kept (tab ∷ key.now) ≡ (if found then Some row.new.items else None)) }
         ensures empty { IfOk result (λ found. found ≡ false → row.new.items ≡ []) }
-        ensures kept { OnOk result (self.new.seen.kept ≡ self.old.seen.kept) }
-        ensures ok { OnOk result (GoesOn self.old.seen self.new.seen) }
         ensures reads { RoseBy 1 self.old.seen.reads self.new.seen.reads }
-        ensures writes { self.new.seen.writes ≡ self.old.seen.writes }
-        ensures counts { NeverFall self.old.seen self.new.seen }
-        ensures cause { HasCause self.old.seen.faults self.new.seen.faults result KeepError.Fault }
-        ensures err { OnErr result (IsDropped self.old.seen self.new.seen) }
+        ensures read { IsRead self.old.seen self.new.seen result KeepError.Fault }
 
         ensures answers { Answers self.old self.new result }
     {
-        self.reads = self.reads.saturating_add(1);
-        if let Some(error) = self.refused() {
+        if let Some(error) = self.refusal {
+            self.ledger.refuse_read(error);
             return Err(error);
         }
-        match self.store.get(tab, key, row) {
+        match self.ledger.get(tab, key, row) {
             Ok(found) => Ok(found),
-            Err(_) => {
-                self.give_up(KeepError::Memory);
-                Err(KeepError::Memory)
-            }
+            Err(error) => Err(error),
         }
     }
 
@@ -228,31 +148,22 @@ impl<S: Alter> Keeper for SqlKeeper<S> {
         row: &mut Vec<u8>,
     ) -> Result<bool, KeepError>
         requires table { (1 ≤ tab) × (tab ≤ 15) }
-        ensures rest { IsAtRest self.old.seen }
         ensures found { IfOk result (λ found. MatchBool found
             (IsLeastFrom self.old.seen.kept tab low.now key.new.items row.new.items)
             (NoneFrom self.old.seen.kept tab low.now)) }
         ensures empty { IfOk result (λ found. found ≡ false → (key.new.items ≡ []) × (row.new.items ≡ [])) }
-        ensures kept { OnOk result (self.new.seen.kept ≡ self.old.seen.kept) }
-        ensures ok { OnOk result (GoesOn self.old.seen self.new.seen) }
         ensures reads { RoseBy 1 self.old.seen.reads self.new.seen.reads }
-        ensures writes { self.new.seen.writes ≡ self.old.seen.writes }
-        ensures counts { NeverFall self.old.seen self.new.seen }
-        ensures cause { HasCause self.old.seen.faults self.new.seen.faults result KeepError.Fault }
-        ensures err { OnErr result (IsDropped self.old.seen self.new.seen) }
+        ensures read { IsRead self.old.seen self.new.seen result KeepError.Fault }
 
         ensures answers { Answers self.old self.new result }
     {
-        self.reads = self.reads.saturating_add(1);
-        if let Some(error) = self.refused() {
+        if let Some(error) = self.refusal {
+            self.ledger.refuse_read(error);
             return Err(error);
         }
-        match self.store.next(tab, low, key, row) {
+        match self.ledger.next(tab, low, key, row) {
             Ok(found) => Ok(found),
-            Err(_) => {
-                self.give_up(KeepError::Memory);
-                Err(KeepError::Memory)
-            }
+            Err(error) => Err(error),
         }
     }
 
@@ -260,25 +171,18 @@ impl<S: Alter> Keeper for SqlKeeper<S> {
         requires table { (1 ≤ tab) × (tab ≤ 15) }
         requires running { self.old.seen.running ≡ true }
         ensures kept { OnOk result (self.new.seen.kept ≡ map.insert self.old.seen.kept (tab ∷ key.now) row.now) }
-        ensures ok { OnOk result (GoesOn self.old.seen self.new.seen) }
-        ensures reads { self.new.seen.reads ≡ self.old.seen.reads }
         ensures writes { RoseBy 1 self.old.seen.writes self.new.seen.writes }
-        ensures counts { NeverFall self.old.seen self.new.seen }
-        ensures cause { HasCause self.old.seen.faults self.new.seen.faults result KeepError.Fault }
-        ensures err { OnErr result (IsDropped self.old.seen self.new.seen) }
+        ensures write { IsWrite self.old.seen self.new.seen result KeepError.Fault }
 
         ensures answers { Answers self.old self.new result }
     {
-        self.writes = self.writes.saturating_add(1);
-        if let Some(error) = self.refused() {
+        if let Some(error) = self.refusal {
+            self.ledger.refuse_write(error);
             return Err(error);
         }
-        match self.store.put(tab, key, row) {
+        match self.ledger.put(tab, key, row) {
             Ok(()) => Ok(()),
-            Err(_) => {
-                self.give_up(KeepError::Memory);
-                Err(KeepError::Memory)
-            }
+            Err(error) => Err(error),
         }
     }
 
@@ -287,54 +191,38 @@ impl<S: Alter> Keeper for SqlKeeper<S> {
         requires running { self.old.seen.running ≡ true }
         ensures found { IfOk result (λ found. found ≡ is_some (map.get self.old.seen.kept (tab ∷ key.now))) }
         ensures kept { OnOk result (self.new.seen.kept ≡ map.remove self.old.seen.kept (tab ∷ key.now)) }
-        ensures ok { OnOk result (GoesOn self.old.seen self.new.seen) }
-        ensures reads { self.new.seen.reads ≡ self.old.seen.reads }
         ensures writes { RoseBy 1 self.old.seen.writes self.new.seen.writes }
-        ensures counts { NeverFall self.old.seen self.new.seen }
-        ensures cause { HasCause self.old.seen.faults self.new.seen.faults result KeepError.Fault }
-        ensures err { OnErr result (IsDropped self.old.seen self.new.seen) }
+        ensures write { IsWrite self.old.seen self.new.seen result KeepError.Fault }
 
         ensures answers { Answers self.old self.new result }
     {
-        self.writes = self.writes.saturating_add(1);
-        if let Some(error) = self.refused() {
+        if let Some(error) = self.refusal {
+            self.ledger.refuse_write(error);
             return Err(error);
         }
-        match self.store.remove(tab, key) {
+        match self.ledger.remove(tab, key) {
             Ok(found) => Ok(found),
-            Err(_) => {
-                self.give_up(KeepError::Memory);
-                Err(KeepError::Memory)
-            }
+            Err(error) => Err(error),
         }
     }
 
     fn commit(&mut self) -> Result<(), KeepError>
         requires { self.old.seen.running ≡ true }
-        ensures kept { OnOk result (self.new.seen.kept ≡ self.old.seen.kept) }
-        ensures last { OnOk result (self.new.seen.last ≡ self.old.seen.kept) }
-        ensures stopped { self.new.seen.running ≡ false }
-        ensures commits { OnOk result (RoseBy 1 self.old.seen.commits self.new.seen.commits) }
-        ensures reads { self.new.seen.reads ≡ self.old.seen.reads }
-        ensures writes { self.new.seen.writes ≡ self.old.seen.writes }
-        ensures counts { NeverFall self.old.seen self.new.seen }
-        ensures cause { HasCause self.old.seen.faults self.new.seen.faults result KeepError.Fault }
-        ensures err { OnErr result (IsDropped self.old.seen self.new.seen) }
+        ensures commit { IsCommit self.old.seen self.new.seen result KeepError.Fault }
 
         ensures ends { Commits self.old self.new result }
     {
-        if let Some(error) = self.refused() {
+        if let Some(error) = self.refusal {
+            self.ledger.refuse(error);
             return Err(error);
         }
-        match write_to(self.alloc, &mut self.conn, &self.store) {
+        match write_to(self.alloc, &mut self.conn, self.ledger.store()) {
             Ok(()) => {
-                self.store.settle();
-                self.running = false;
-                self.commits = self.commits.saturating_add(1);
+                self.ledger.commit();
                 Ok(())
             }
             Err(error) => {
-                self.give_up(error);
+                self.ledger.refuse(error);
                 self.refusal = Some(KeepError::Fault);
                 Err(error)
             }
@@ -342,16 +230,11 @@ impl<S: Alter> Keeper for SqlKeeper<S> {
     }
 
     fn undo(&mut self)
-        ensures rest { IsAtRest self.old.seen }
-        ensures dropped { IsDropped self.old.seen self.new.seen }
-        ensures faults { self.new.seen.faults ≡ self.old.seen.faults }
-        ensures reads { self.new.seen.reads ≡ self.old.seen.reads }
-        ensures writes { self.new.seen.writes ≡ self.old.seen.writes }
-        ensures counts { NeverFall self.old.seen self.new.seen }
+        ensures undone { IsUndo self.old.seen self.new.seen }
 
         ensures same { (self.new.refusal ≡ self.old.refusal) × (self.new.conn ≡ self.old.conn) }
     {
-        self.drop_changes();
+        self.ledger.undo();
     }
 }
 

@@ -1,8 +1,14 @@
 use Rattle.bdb_keep.proofs.RowsLemmas.{rows_of-updates, KeepsPlaces-updates}
 use Rattle.bdb_keep.proofs.rows.insert_row.Goals as goal
 
-pub returns-clause-rows : goal.returns-clause-rows
-returns-clause-rows c = rows_of-updates _ _ c.args.place.items _ c.in_ok-insert.ensures.updates.1 c.in_ok-insert.ensures.updates.3
+pub returns-in-Ok-Some-clause-rows : goal.returns-in-Ok-Some-clause-rows
+returns-in-Ok-Some-clause-rows c = rows_of-updates _ _ c.args.place _ c.in-Ok-Some.ensures.updates.1 c.in-Ok-Some.ensures.updates.3
 
-pub returns-clause-keeps : goal.returns-clause-keeps
-returns-clause-keeps c = KeepsPlaces-updates _ _ c.args.place.items _ c.in_ok-insert.ensures.updates.1 c.in_ok-insert.ensures.updates.3
+pub returns-in-Ok-Some-clause-keeps : goal.returns-in-Ok-Some-clause-keeps
+returns-in-Ok-Some-clause-keeps c = KeepsPlaces-updates _ _ c.args.place _ c.in-Ok-Some.ensures.updates.1 c.in-Ok-Some.ensures.updates.3
+
+pub returns-in-Ok-None-clause-rows : goal.returns-in-Ok-None-clause-rows
+returns-in-Ok-None-clause-rows c = rows_of-updates _ _ c.args.place _ c.in-Ok-None.ensures.updates.1 c.in-Ok-None.ensures.updates.3
+
+pub returns-in-Ok-None-clause-keeps : goal.returns-in-Ok-None-clause-keeps
+returns-in-Ok-None-clause-keeps c = KeepsPlaces-updates _ _ c.args.place _ c.in-Ok-None.ensures.updates.1 c.in-Ok-None.ensures.updates.3

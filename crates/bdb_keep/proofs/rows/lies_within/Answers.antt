@@ -1,7 +1,7 @@
 use Rattle.std.proofs.Common.{◌≡◌, ◌∙◌, sym, subst, refl, Some}
 use Rattle.std.specs.Prelude.{IfSome}
 use Rattle.std.specs.FinMap as map
-use Rattle.bdb_keep.specs.Rows.{row_bytes, rows_of}
+use Rattle.bdb_keep.specs.Rows.{rows_of}
 use Rattle.std.proofs.lemmas.List.Elements.{recursion_from_All}
 use Rattle.bdb_keep.proofs.WithinLemmas.{IsWithinSoFar, so-far-start, so-far-step, so-far-end, so-far-same}
 use Rattle.bdb_keep.proofs.rows.lies_within.Goals as goal
@@ -17,8 +17,8 @@ loop-place-init c = (
 pub returns-then-not-has_same : goal.returns-then-not-has_same
 returns-then-not-has_same c = (
   λ t. absurd (cc),
-  λ lie. c.if-not-has_same.ensures.1 (subst (λ p. IfSome (row_bytes c.in-Some.row.now) (λ b. map.get (rows_of c.args.others.now.entries) p ≡ Some b)) (sym c.as_slice.ensures.value)
-      (so-far-same c.args.rows.now.entries c.loop-place.place-iterator c.next.new.self c.args.others.now.entries c.in-Some.place.now c.in-Some.row.now c.loop-place.invariant.2 c.in-Some.ensures.steps lie)),
+  λ lie. c.if-not-has_same.ensures.1
+      (so-far-same c.args.rows.now.entries c.loop-place.place-iterator c.next.new.self c.args.others.now.entries c.in-Some.place.now c.in-Some.row.now c.loop-place.invariant.2 c.in-Some.ensures.steps lie),
 )
 
 pub loop-place-preserved : goal.loop-place-preserved
@@ -26,7 +26,7 @@ loop-place-preserved c = (
   tt,
   tt,
   so-far-step c.args.rows.now.entries c.loop-place.place-iterator c.next.new.self c.args.others.now.entries c.in-Some.place.now c.in-Some.row.now c.loop-place.invariant.2 c.in-Some.ensures.steps
-      (subst (λ p. IfSome (row_bytes c.in-Some.row.now) (λ b. map.get (rows_of c.args.others.now.entries) p ≡ Some b)) c.as_slice.ensures.value (c.if-not-has_same.ensures.0 refl)),
+      (c.if-not-has_same.ensures.0 refl),
 )
 
 pub returns : goal.returns

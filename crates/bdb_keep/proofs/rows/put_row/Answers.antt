@@ -4,15 +4,15 @@ use Rattle.bdb_keep.proofs.rows.put_row.Goals as goal
 
 pub returns-clause-last : goal.returns-clause-last
 returns-clause-last c =
-    undone-kept c.args.changes.now.items _ c.push_reserved.new.self.items _ _ c.args.place.now c.args.rows.now.entries c.set_place.new.rows.entries c.reserve.ensures.items c.push_reserved.ensures.items
-    (search rules) (Some c.in_ok-copy.copy.items) c.in_ok-before.ensures.before c.in_ok-before.ensures.rows
+    undone-kept c.args.changes.now.items _ c.push_reserved.new.self.items _ _ c.args.place c.args.rows.now.entries c.insert_row.new.rows.entries c.reserve.ensures.items c.push_reserved.ensures.items
+    (search rules) (Some c.in_ok-copy.copy) c.in_ok-before.ensures.before c.in_ok-before.ensures.rows
 
 pub returns-clause-places : goal.returns-clause-places
 returns-clause-places c =
-    places_of-kept c.args.changes.now.items _ c.push_reserved.new.self.items _ _ c.args.place.now c.args.rows.now.entries c.set_place.new.rows.entries c.reserve.ensures.items c.push_reserved.ensures.items
+    places_of-kept c.args.changes.now.items _ c.push_reserved.new.self.items _ _ c.args.place c.args.rows.now.entries c.insert_row.new.rows.entries c.reserve.ensures.items c.push_reserved.ensures.items
     (search rules)
 
 pub returns-clause-has : goal.returns-clause-has
 returns-clause-has c =
-    HavePlaces-kept c.args.changes.now.items _ c.push_reserved.new.self.items _ _ c.args.place.now c.args.rows.now.entries c.set_place.new.rows.entries c.reserve.ensures.items c.push_reserved.ensures.items
-    (search rules) c.requires.has c.requires.place c.in_ok-before.ensures.here c.set_place.ensures.keeps
+    HavePlaces-kept c.args.changes.now.items _ c.push_reserved.new.self.items _ _ c.args.place c.args.rows.now.entries c.insert_row.new.rows.entries c.reserve.ensures.items c.push_reserved.ensures.items
+    (search rules) c.requires.has c.requires.place c.in_ok-before.ensures.here c.in_ok-before.ensures.keeps

@@ -7,13 +7,13 @@ use Rattle.bdb_keep.proofs.store.Store.changed_place.Goals as goal
 pub split-requires : goal.split-requires
 split-requires c =
     let h : c.args.at < length c.self.inside.changes.items = subst (λ n. c.args.at < n) (sym (ap (λ h. length h.changes) c.self.view_is) ∙ length-places_of c.self.inside.changes.items) c.requires in
-    subst IsPlace (sym c.as_slice.ensures.value) (IsPlace-at c.self.inside.changes.items c.self.inside.rows.entries c.args.at c.index.result.now c.self.invariant h c.index.ensures)
+    subst IsPlace (sym c.as_slice.ensures) (IsPlace-at c.self.inside.changes.items c.self.inside.rows.entries c.args.at c.index.result.now c.self.invariant h c.index.ensures)
 
 pub returns-clause-place : goal.returns-clause-place
 returns-clause-place c =
     let h : c.args.at < length c.self.inside.changes.items = subst (λ n. c.args.at < n) (sym (ap (λ h. length h.changes) c.self.view_is) ∙ length-places_of c.self.inside.changes.items) c.requires in
     subst (λ l. slice_get l c.args.at ≡ Some (c.split.result.0 ∷ c.split.result.1.now)) (ap (λ h. h.changes) c.self.view_is)
-    (slice_get-places_of c.self.inside.changes.items c.args.at c.index.result.now h c.index.ensures ∙ ap Some (sym c.as_slice.ensures.value ∙ c.split.ensures.place))
+    (slice_get-places_of c.self.inside.changes.items c.args.at c.index.result.now h c.index.ensures ∙ ap Some (sym c.as_slice.ensures ∙ c.split.ensures.place))
 
 pub index-requires : goal.index-requires
 index-requires c =

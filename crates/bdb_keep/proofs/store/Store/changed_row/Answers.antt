@@ -9,10 +9,10 @@ use Rattle.bdb_keep.proofs.store.Store.changed_row.Goals as goal
 pub returns : goal.returns
 returns c =
     let h : c.args.at < length c.self.inside.changes.items = subst (λ n. c.args.at < n) (sym (ap (λ h. length h.changes) c.self.view_is) ∙ length-places_of c.self.inside.changes.items) c.requires in
-    let s : slice_get c.args.self.now.changes c.args.at ≡ Some c.index.result.now.place.items =
+    let s : slice_get c.args.self.now.changes c.args.at ≡ Some c.index.result.now.place =
     sym (ap (λ h. slice_get h.changes c.args.at) c.self.view_is) ∙ slice_get-places_of c.self.inside.changes.items c.args.at c.index.result.now h c.index.ensures in
     subst (λ o. IfSome o (λ place. option_map (λ row. row.now) c.row_at.result ≡ map.get c.args.self.now.kept place)) (sym s)
-    (c.row_at.ensures ∙ ap (map.get (rows_of c.self.inside.rows.entries)) c.as_slice.ensures.value ∙ ap (λ h. map.get h.kept c.index.result.now.place.items) c.self.view_is)
+    (c.row_at.ensures ∙ ap (λ h. map.get h.kept c.index.result.now.place) c.self.view_is)
 
 pub index-requires : goal.index-requires
 index-requires c =

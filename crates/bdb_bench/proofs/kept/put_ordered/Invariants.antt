@@ -1,0 +1,5 @@
+use Rattle.bdb_keep.specs.Seen.{GoesOn}
+use Rattle.bdb_bench.proofs.kept.put_ordered.Given as goal
+
+abbrev pub invariant-loop-number : goal.invariant-loop-number
+invariant-loop-number g l = GoesOn (g.K.Keeper.seen l.fn.keeper) (g.K.Keeper.seen l.keeper)

@@ -1,0 +1,97 @@
+-- Numbers of as many bytes come in the order of their bytes.
+use Rattle.std.proofs.Common.{◌≡◌, ℕ, zero, suc, ◌+◌, ◌*◌, ◌/◌, ◌%◌, ◌^◌, ◌<◌, ◌≤◌, List, ◌++◌, refl, sym, ap, ◌∙◌, lit<, lit≤, arith, inl, inr}
+use Rattle.std.specs.declared.cmp.Ordering.{Ordering}
+use Rattle.std.specs.declared.cmp.Ordering.TheVariants.{Less, Equal, Greater}
+use Rattle.std.specs.Ordering.{nat_cmp, ordering_then}
+use Rattle.std.specs.Cmp.Lexicographic.{slice_cmp}
+use Rattle.std.specs.Int.{byte_at, bytes_high_first, to_be_bytes, w64}
+use Rattle.std.proofs.Math.Arith.{mod-mul}
+use Rattle.std.proofs.Math.Nat.{pow-suc, one-le-pow, mul_comm, mod-eq_of_lt}
+use Rattle.std.proofs.lemmas.Nat.{mul-le, mod_below}
+use Rattle.std.proofs.lemmas.Bool.{cases_lt}
+use Rattle.std.proofs.lemmas.Map.Lookups.{exact_unsigned}
+use Rattle.std.proofs.lemmas.Bool.Decides.{nat_tests}
+
+pub less : (m n : ℕ) → m < n → nat_cmp m n ≡ Less
+less m n h = grind (arith, nat_tests)
+
+pub greater : (m n : ℕ) → n < m → nat_cmp m n ≡ Greater
+greater m n h = grind (arith, nat_tests)
+
+pub equal : (n : ℕ) → nat_cmp n n ≡ Equal
+equal n = grind (arith, nat_tests)
+
+pub then_assoc : (a b c : Ordering) → ordering_then (ordering_then a b) c ≡ ordering_then a (ordering_then b c)
+then_assoc Less b c = refl
+then_assoc Equal b c = refl
+then_assoc Greater b c = refl
+
+shifted : (k m n : ℕ) → nat_cmp (k + m) (k + n) ≡ nat_cmp m n
+shifted k m n = grind (arith, nat_tests)
+
+-- a digit and what is below it
+digits : (base a r c s : ℕ) → r < base → s < base → nat_cmp (a * base + r) (c * base + s) ≡ ordering_then (nat_cmp a c) (nat_cmp r s)
+digits base a r c s hr hs =
+    elim (cases_lt a c) [
+      | inl lt ↦
+          let h : (a + 1) * base ≤ c * base = mul-le (a + 1) base c base (omega arith) (omega arith) in
+          less (a * base + r) (c * base + s) (omega arith) ∙ ap (λ o. ordering_then o (nat_cmp r s)) (sym (less a c lt))
+      | inr le ↦ elim (cases_lt c a) [
+        | inl gt ↦
+            let h : (c + 1) * base ≤ a * base = mul-le (c + 1) base a base (omega arith) (omega arith) in
+            greater (a * base + r) (c * base + s) (omega arith) ∙ ap (λ o. ordering_then o (nat_cmp r s)) (sym (greater a c gt))
+        | inr ge ↦
+            let e : a ≡ c = omega arith in
+            ap (λ n. nat_cmp (n * base + r) (c * base + s)) e ∙ shifted (c * base) r s ∙ ap (λ o. ordering_then o (nat_cmp r s)) (sym (equal c)) ∙ ap (λ n. ordering_then (nat_cmp n c) (nat_cmp r s)) (sym e)
+      ]
+    ]
+
+byte_is : (k n : ℕ) → byte_at k n ≡ n / 256 ^ k % 256
+byte_is zero n = omega arith
+byte_is (suc k) n = refl
+
+high_first : (k m n : ℕ) (x y : List ℕ) → slice_cmp nat_cmp (bytes_high_first k m ++ x) (bytes_high_first k n ++ y)
+    ≡ ordering_then (nat_cmp (m % 256 ^ k) (n % 256 ^ k)) (slice_cmp nat_cmp x y)
+high_first zero m n x y =
+    let a : m % 256 ^ 0 ≡ 0 = omega arith in
+    let b : n % 256 ^ 0 ≡ 0 = omega arith in
+    rw (a, b) refl
+high_first (suc k) m n x y =
+    let base = 256 ^ k in
+    let some : 0 < base = one-le-pow k 256 (lit≤ tt) in
+    let C = slice_cmp nat_cmp x y in
+    let whole : (n : ℕ) → n % 256 ^ suc k ≡ byte_at k n * 256 ^ k + n % 256 ^ k = λ n. ap (λ b. n % b) (pow-suc 256 k ∙ mul_comm (256 ^ k) 256) ∙ mod-mul n {m = 256} {c = 256 ^ k} (lit< tt) some ∙ ap (λ b. b * 256 ^ k + n % 256 ^ k) (sym (byte_is k n)) in
+    ap (λ o. ordering_then (nat_cmp (byte_at k m) (byte_at k n)) o) (high_first k m n x y)
+    ∙ sym (then_assoc (nat_cmp (byte_at k m) (byte_at k n)) (nat_cmp (m % base) (n % base)) C)
+    ∙ ap (λ o. ordering_then o C) (sym (digits base (byte_at k m) (m % base) (byte_at k n) (n % base) (mod_below m base some) (mod_below n base some)))
+    ∙ ap (λ (v : ℕ). ordering_then (nat_cmp v (byte_at k n * base + n % base)) C) (sym (whole m))
+    ∙ ap (λ (v : ℕ). ordering_then (nat_cmp (m % 256 ^ suc k) v) C) (sym (whole n))
+
+-- two numbers of as many bytes
+pub numbers : (k m n : ℕ) (x y : List ℕ) → m < 256 ^ k → n < 256 ^ k → slice_cmp nat_cmp (bytes_high_first k m ++ x) (bytes_high_first k n ++ y)
+    ≡ ordering_then (nat_cmp m n) (slice_cmp nat_cmp x y)
+numbers k m n x y hm hn =
+    high_first k m n x y
+    ∙ ap (λ (v : ℕ). ordering_then (nat_cmp v (n % 256 ^ k)) (slice_cmp nat_cmp x y)) (mod-eq_of_lt hm)
+    ∙ ap (λ (v : ℕ). ordering_then (nat_cmp m v) (slice_cmp nat_cmp x y)) (mod-eq_of_lt hn)
+
+-- bytes that begin with eight each compare by the numbers of these, and then by what follows
+pub words : (a b x y : List ℕ) (m n : ℕ) → a ≡ to_be_bytes w64 m ++ x → b ≡ to_be_bytes w64 n ++ y → m < 2 ^ 64 → n < 2 ^ 64
+    → slice_cmp nat_cmp a b ≡ ordering_then (nat_cmp m n) (slice_cmp nat_cmp x y)
+words a b x y m n e f hm hn =
+    ap (λ (v : List ℕ). slice_cmp nat_cmp v b) e ∙ ap (λ (v : List ℕ). slice_cmp nat_cmp (to_be_bytes w64 m ++ x) v) f ∙ numbers 8 m n x y hm hn
+
+-- the same where these numbers differ
+pub words_apart : (a b x y : List ℕ) (m n : ℕ) (r : Ordering) → a ≡ to_be_bytes w64 m ++ x → b ≡ to_be_bytes w64 n ++ y → m < 2 ^ 64 → n < 2 ^ 64
+    → (m ≡ n → ⊥) → r ≡ nat_cmp m n → r ≡ slice_cmp nat_cmp a b
+words_apart a b x y m n r e f hm hn apart h = h ∙ decided (nat_cmp m n) refl ∙ sym (words a b x y m n e f hm hn)
+  where
+    decided : (o : Ordering) → nat_cmp m n ≡ o → o ≡ ordering_then o (slice_cmp nat_cmp x y)
+    decided Less t = refl
+    decided Equal t = absurd (apart (exact_unsigned m n t))
+    decided Greater t = refl
+
+-- the same where these numbers are equal
+pub words_same : (a b x y : List ℕ) (m n : ℕ) (r : Ordering) → a ≡ to_be_bytes w64 m ++ x → b ≡ to_be_bytes w64 n ++ y → m < 2 ^ 64 → n < 2 ^ 64
+    → m ≡ n → r ≡ slice_cmp nat_cmp x y → r ≡ slice_cmp nat_cmp a b
+words_same a b x y m n r e f hm hn same h = h ∙ ap (λ o. ordering_then o (slice_cmp nat_cmp x y)) (sym (ap (λ k. nat_cmp k n) same ∙ equal n)) ∙ sym (words a b x y m n e f hm hn)
