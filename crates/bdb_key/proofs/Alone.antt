@@ -1,41 +1,26 @@
--- Keys and rows whole: the order of their bytes, and that no two are written alike.
+-- Rows whole: no two are written alike.
 use Rattle.std.proofs.Common.{◌≡◌, ℕ, List, [], ◌∷◌, ◌++◌, refl, sym, ap, ◌∙◌}
 use Rattle.std.specs.declared.cmp.Ordering.{Ordering}
 use Rattle.std.specs.declared.cmp.Ordering.TheVariants.{Less, Equal, Greater}
-use Rattle.std.specs.Ordering.{nat_cmp, ordering_then}
-use Rattle.std.specs.Cmp.Lexicographic.{slice_cmp}
+use Rattle.std.specs.Ordering.{ordering_then}
 use Rattle.std.specs.List.{AllByRecursion}
-use Rattle.bdb_base.specs.Order.{path_cmp, tuple_cmp}
 use Rattle.bdb_base.specs.declared.kinds.ColDef.{ColDef}
 use Rattle.bdb_base.specs.declared.kinds.RelDef.{RelDef}
 use Rattle.bdb_base.specs.declared.kinds.Value.{Value}
 use Rattle.bdb_base.specs.declared.kinds.Sign.{Sign}
 use Rattle.bdb_base.specs.declared.kinds.Sign.TheVariants as signs
 use Rattle.bdb_base.specs.declared.tuple.Tuple.{Tuple}
-use Rattle.bdb_key.specs.Bytes.{num_bytes, text_bytes, path_bytes, values_bytes}
-use Rattle.bdb_key.specs.Grammar.{IsNum, IsPlain, IsKeyPath}
+use Rattle.bdb_key.specs.Bytes.{num_bytes, text_bytes, values_bytes}
+use Rattle.bdb_key.specs.Grammar.{IsNum, IsPlain}
 use Rattle.bdb_key.specs.Rows.{IsCol, IsRelRow, IsTupleRow, cols_bytes, rel_bytes, tuple_bytes, sign_bytes}
-use Rattle.bdb_key.proofs.Compared.{nums, rows, rows_tie, paths}
+use Rattle.bdb_key.proofs.Compared.{rows, rows_tie}
 use Rattle.bdb_key.proofs.Forms.{tied}
-use Rattle.bdb_key.proofs.Readings.{num_form, text_form, path_form, col_forms}
+use Rattle.bdb_key.proofs.Readings.{num_form, text_form, col_forms}
 
-then_equal : (o : Ordering) → ordering_then o Equal ≡ o
+pub then_equal : (o : Ordering) → ordering_then o Equal ≡ o
 then_equal Less = refl
 then_equal Equal = refl
 then_equal Greater = refl
-
-pub nums_in_order : (a b : ℕ) → IsNum a → IsNum b → slice_cmp nat_cmp (num_bytes a) (num_bytes b) ≡ nat_cmp a b
-nums_in_order a b fa fb = nums a b [] [] fa fb ∙ then_equal (nat_cmp a b)
-
-pub tuples_in_order : (s t : Tuple) → IsTupleRow s → IsTupleRow t → slice_cmp nat_cmp (tuple_bytes s) (tuple_bytes t) ≡ tuple_cmp s t
-tuples_in_order s t fs ft =
-    nums s.rel t.rel (values_bytes s.vals) (values_bytes t.vals) fs.rel ft.rel
-    ∙ ap (λ o. ordering_then (nat_cmp s.rel t.rel) o) (rows s.vals t.vals fs.plain ft.plain)
-
-pub plain_keys_in_order : (p q : List ℕ) (s t : Tuple) → IsKeyPath p → IsKeyPath q → IsTupleRow s → IsTupleRow t
-    → slice_cmp nat_cmp (path_bytes p ++ tuple_bytes s) (path_bytes q ++ tuple_bytes t) ≡ ordering_then (path_cmp p q) (tuple_cmp s t)
-plain_keys_in_order p q s t fp fq fs ft =
-    paths p q (tuple_bytes s) (tuple_bytes t) fp fq ∙ ap (λ o. ordering_then (path_cmp p q) o) (tuples_in_order s t fs ft)
 
 pub one_num : (a b : ℕ) → IsNum a → IsNum b → num_bytes a ≡ num_bytes b → a ≡ b
 one_num a b fa fb e = (num_form a b [] [] fa fb (ap (λ (x : List ℕ). x ++ []) e)).0
@@ -69,14 +54,6 @@ one_tuple a b fa fb e =
     let form = num_form a.rel b.rel (values_bytes a.vals) (values_bytes b.vals) fa.rel fb.rel e in
     let vals = rows_tie a.vals b.vals (sym (rows a.vals b.vals fa.plain fb.plain) ∙ tied (values_bytes a.vals) (values_bytes b.vals) form.1) in
     ap (λ r. tuple_made r a.vals) form.0 ∙ ap (λ v. tuple_made b.rel v) vals
-
-pub one_plain_key : (a b : List ℕ × Tuple) → IsKeyPath a.0 → IsKeyPath b.0 → IsTupleRow a.1 → IsTupleRow b.1
-    → path_bytes a.0 ++ tuple_bytes a.1 ≡ path_bytes b.0 ++ tuple_bytes b.1 → a ≡ b
-one_plain_key a b pa pb ta tb e =
-    let form = path_form a.0 b.0 (tuple_bytes a.1) (tuple_bytes b.1) pa pb e in
-    let same = one_tuple a.1 b.1 ta tb form.1 in
-    let paired : List ℕ → Tuple → List ℕ × Tuple = λ p t. (p, t) in
-    ap (λ p. paired p a.1) form.0 ∙ ap (λ t. paired b.0 t) same
 
 pub one_sign : (a b : Sign) → sign_bytes a ≡ sign_bytes b → a ≡ b
 one_sign signs.Plus signs.Plus e = refl

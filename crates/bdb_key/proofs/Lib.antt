@@ -2,6 +2,7 @@ pub mod Alone
 pub mod Compared
 pub mod Forms
 pub mod Keys
+pub mod Marks
 pub mod Numbers
 pub mod OneRow
 pub mod Readings

@@ -1,13 +1,11 @@
 -- What is no row of its kind is no row of its table.
-use Rattle.std.proofs.Common.{ℕ, ◌<◌, List, length, true, false, lit<, sym, ap, ◌∙◌, arith}
+use Rattle.std.proofs.Common.{ℕ, ◌<◌, List, length, ap, arith}
 use Rattle.std.proofs.lemmas.Bool.{false≢true}
-use Rattle.bdb_base.specs.declared.kinds.Sign.TheVariants as signs
 use Rattle.bdb_key.specs.declared.row.TabRow.TheVariants as rows
 use Rattle.bdb_key.specs.Bytes.{num_bytes, text_bytes}
 use Rattle.bdb_key.specs.Grammar.{IsNum, IsPlain}
-use Rattle.bdb_key.specs.Reading.{Reads, NoneReads}
-use Rattle.bdb_key.specs.Rows.{IsRow, IsRelRow, IsTupleRow, IsAnySign, row_bytes, rel_bytes, tuple_bytes, sign_bytes}
-use Rattle.bdb_key.proofs.Alone.{one_num}
+use Rattle.bdb_key.specs.Reading.{NoneReads}
+use Rattle.bdb_key.specs.Rows.{IsRow, IsRelRow, IsTupleRow, IsAnySign, IsAnyMark, row_bytes, rel_bytes, tuple_bytes, sign_bytes, mark_bytes}
 
 pub none_1 : (bytes : List ℕ) → NoneReads IsNum num_bytes bytes → NoneReads (IsRow 1) row_bytes bytes
 none_1 bytes none (rows.Meta n) h = none n (record { fits = h.fits.fits; spelled = h.spelled })
@@ -49,20 +47,9 @@ pub none_10 : (bytes : List ℕ) → 0 < length bytes → NoneReads (IsRow 10) r
 none_10 bytes some rows.Empty h = let e = ap length h.spelled in omega arith
 none_10 bytes some row h = false≢true h.fits.of
 
-pub none_11 : (bytes : List ℕ) → NoneReads IsNum num_bytes bytes → NoneReads (IsRow 11) row_bytes bytes
-none_11 bytes none (rows.Val signs.Plus false) h = none 0 (record { fits = lit< tt; spelled = h.spelled })
-none_11 bytes none (rows.Val signs.Plus true) h = none 1 (record { fits = lit< tt; spelled = h.spelled })
-none_11 bytes none (rows.Val signs.Minus false) h = none 2 (record { fits = lit< tt; spelled = h.spelled })
-none_11 bytes none (rows.Val signs.Minus true) h = none 3 (record { fits = lit< tt; spelled = h.spelled })
+pub none_11 : (bytes : List ℕ) → NoneReads IsAnyMark mark_bytes bytes → NoneReads (IsRow 11) row_bytes bytes
+none_11 bytes none (rows.Val s m) h = none (s, m) (record { fits = tt; spelled = h.spelled })
 none_11 bytes none row h = false≢true h.fits.of
-
--- a number above 3 is no sign and mark
-pub above_11 : (bytes : List ℕ) (n : ℕ) → Reads IsNum num_bytes bytes n → 3 < n → NoneReads (IsRow 11) row_bytes bytes
-above_11 bytes n r lt (rows.Val signs.Plus false) h = let e = one_num 0 n (lit< tt) r.fits (h.spelled ∙ sym r.spelled) in omega arith
-above_11 bytes n r lt (rows.Val signs.Plus true) h = let e = one_num 1 n (lit< tt) r.fits (h.spelled ∙ sym r.spelled) in omega arith
-above_11 bytes n r lt (rows.Val signs.Minus false) h = let e = one_num 2 n (lit< tt) r.fits (h.spelled ∙ sym r.spelled) in omega arith
-above_11 bytes n r lt (rows.Val signs.Minus true) h = let e = one_num 3 n (lit< tt) r.fits (h.spelled ∙ sym r.spelled) in omega arith
-above_11 bytes n r lt row h = false≢true h.fits.of
 
 pub none_12 : (bytes : List ℕ) → NoneReads IsAnySign sign_bytes bytes → NoneReads (IsRow 12) row_bytes bytes
 none_12 bytes none (rows.Plain s) h = none s (record { fits = h.fits.fits; spelled = h.spelled })

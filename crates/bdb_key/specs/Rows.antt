@@ -58,6 +58,14 @@ mark_number signs.Plus true = 1
 mark_number signs.Minus false = 2
 mark_number signs.Minus true = 3
 
+-- a sign and a mark as a row
+abbrev pub mark_bytes : Sign × Bool → List ℕ
+mark_bytes mark = num_bytes (mark_number mark.0 mark.1)
+
+-- every sign and mark has a spelling
+abbrev pub IsAnyMark : Sign × Bool → Type 0
+IsAnyMark mark = Unit {0}
+
 -- a row
 abbrev pub row_bytes : TabRow → List ℕ
 row_bytes (rows.Meta format) = num_bytes format

@@ -4,6 +4,7 @@ ghost use Rattle.bdb_key.specs.declared.part.KeyError.TheVariants.{Memory};
 
 use bdb_base::{Exact, Path, Value};
 use std::alloc::{AllocError, AllocFailed, Global};
+use thiserror::Error;
 
 /// A part of a key.
 #[derive(Drop)]
@@ -27,20 +28,24 @@ pub enum Slot {
 }
 
 /// Why bytes were not read as a key.
-#[derive(Clone, Copy, Debug, PartialEq, Eq, Drop)]
+#[derive(Clone, Copy, Debug, PartialEq, Eq, Drop, Error)]
 pub enum KeyError {
     /// The bytes are no key of that shape.
+    #[error("the bytes are no key of the table")]
     NotAKey,
     /// There is no memory.
+    #[error("out of memory")]
     Memory,
 }
 
 /// Why bytes were not read as a row.
-#[derive(Clone, Copy, Debug, PartialEq, Eq, Drop)]
+#[derive(Clone, Copy, Debug, PartialEq, Eq, Drop, Error)]
 pub enum RowError {
     /// The bytes are no row of that table.
+    #[error("the bytes are no row of the table")]
     NotARow,
     /// There is no memory.
+    #[error("out of memory")]
     Memory,
 }
 

@@ -5,7 +5,7 @@ ghost use Rattle.std.specs.List.{AllByRecursion};
 ghost use Rattle.bdb_key.specs.Grammar.{IsPlain};
 ghost use Rattle.bdb_key.specs.Bytes.{text_bytes};
 ghost use Rattle.bdb_key.specs.Reading.{Leads, NoneLeads, Reads, NoneReads};
-ghost use Rattle.bdb_key.specs.Rows.{IsAnyKind, kind_bytes, IsCol, col_bytes, cols_bytes, IsRelRow, rel_bytes, IsTupleRow, tuple_bytes, IsAnySign, sign_bytes};
+ghost use Rattle.bdb_key.specs.Rows.{IsAnyKind, kind_bytes, IsCol, col_bytes, cols_bytes, IsRelRow, rel_bytes, IsTupleRow, tuple_bytes, IsAnySign, sign_bytes, IsAnyMark, mark_bytes};
 
 use crate::part::KeyError;
 use crate::read::{int_of, num_of, only_num, text_of, values_of};
@@ -59,6 +59,20 @@ pub fn sign_of(bytes: &[u8]) -> Option<Sign>
     match only_num(bytes) {
         Some(0) => Some(Sign::Plus),
         Some(1) => Some(Sign::Minus),
+        Some(_) => None,
+        None => None,
+    }
+}
+
+/// The sign and the mark of a tuple in a world that these bytes are; true for explicit. None exactly where they are none.
+pub fn mark_of(bytes: &[u8]) -> Option<(Sign, bool)>
+    ensures { MatchOption result (NoneReads IsAnyMark mark_bytes bytes.now) (Reads IsAnyMark mark_bytes bytes.now) }
+{
+    match only_num(bytes) {
+        Some(0) => Some((Sign::Plus, false)),
+        Some(1) => Some((Sign::Plus, true)),
+        Some(2) => Some((Sign::Minus, false)),
+        Some(3) => Some((Sign::Minus, true)),
         Some(_) => None,
         None => None,
     }

@@ -7,8 +7,7 @@ ghost use Rattle.bdb_key.specs.Rows.{IsRow, row_bytes};
 use crate::part::{KeyError, RowError};
 use crate::read::only_num;
 use crate::row::TabRow;
-use crate::row_read::{only_text, rel_of, sign_of, tuple_of};
-use bdb_base::Sign;
+use crate::row_read::{mark_of, only_text, rel_of, sign_of, tuple_of};
 use std::alloc::Global;
 
 /// The row of a table that these bytes are. `NotARow` comes exactly where they are no row of that table.
@@ -120,24 +119,8 @@ fn mark_row(bytes: &[u8]) -> Result<TabRow, RowError>
     ensures ok { IfOk result (Reads (IsRow 11) row_bytes bytes.now) }
     ensures none { IsErrOf result RowError.NotARow → NoneReads (IsRow 11) row_bytes bytes.now }
 {
-    match only_num(bytes) {
-        Some(0) => Ok(TabRow::Val {
-            sign: Sign::Plus,
-            explicit: false,
-        }),
-        Some(1) => Ok(TabRow::Val {
-            sign: Sign::Plus,
-            explicit: true,
-        }),
-        Some(2) => Ok(TabRow::Val {
-            sign: Sign::Minus,
-            explicit: false,
-        }),
-        Some(3) => Ok(TabRow::Val {
-            sign: Sign::Minus,
-            explicit: true,
-        }),
-        Some(_) => Err(RowError::NotARow),
+    match mark_of(bytes) {
+        Some((sign, explicit)) => Ok(TabRow::Val { sign, explicit }),
         None => Err(RowError::NotARow),
     }
 }

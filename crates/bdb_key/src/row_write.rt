@@ -1,9 +1,9 @@
 // Rows into bytes.
 ghost use Rattle.std.specs.Prelude.{◌≡◌, ◌++◌, pos, OnOk, OnErr};
 ghost use Rattle.std.specs.List.{AllByRecursion};
-ghost use Rattle.bdb_key.specs.Bytes.{num_bytes, int_bytes, Grows};
+ghost use Rattle.bdb_key.specs.Bytes.{Grows};
 ghost use Rattle.bdb_key.specs.Grammar.{IsNum, IsWhole};
-ghost use Rattle.bdb_key.specs.Rows.{kind_bytes, cols_bytes, rel_bytes, tuple_bytes, sign_bytes, mark_number, row_bytes};
+ghost use Rattle.bdb_key.specs.Rows.{kind_bytes, cols_bytes, rel_bytes, tuple_bytes, sign_bytes, mark_bytes, row_bytes};
 
 use crate::row::TabRow;
 use crate::write::{put_num, put_text, put_value, put_values};
@@ -50,6 +50,19 @@ pub fn put_sign(out: &mut Vec<u8>, sign: Sign) -> Result<(), AllocError>
     match sign {
         Sign::Plus => put_num(out, 0),
         Sign::Minus => put_num(out, 1),
+    }
+}
+
+/// Appends the sign of a tuple in a world, and whether it is explicit there. After a refusal the bytes are unchanged.
+pub fn put_mark(out: &mut Vec<u8>, sign: Sign, explicit: bool) -> Result<(), AllocError>
+    ensures ok { OnOk result (out.new.items ≡ out.old.items ++ mark_bytes (sign, explicit)) }
+    ensures err { OnErr result (out.new.items ≡ out.old.items) }
+{
+    match (sign, explicit) {
+        (Sign::Plus, false) => put_num(out, 0),
+        (Sign::Plus, true) => put_num(out, 1),
+        (Sign::Minus, false) => put_num(out, 2),
+        (Sign::Minus, true) => put_num(out, 3),
     }
 }
 
@@ -114,17 +127,4 @@ fn push_tuple(out: &mut Vec<u8>, tuple: &Tuple) -> Result<(), AllocError>
     put_num(out, tuple.rel)?;
     put_values(out, tuple.vals.as_slice())?;
     Ok(())
-}
-
-// Appends the number of a sign and a mark. After a refusal the bytes are unchanged.
-fn put_mark(out: &mut Vec<u8>, sign: Sign, explicit: bool) -> Result<(), AllocError>
-    ensures ok { OnOk result (out.new.items ≡ out.old.items ++ num_bytes (mark_number sign explicit)) }
-    ensures err { OnErr result (out.new.items ≡ out.old.items) }
-{
-    match (sign, explicit) {
-        (Sign::Plus, false) => put_num(out, 0),
-        (Sign::Plus, true) => put_num(out, 1),
-        (Sign::Minus, false) => put_num(out, 2),
-        (Sign::Minus, true) => put_num(out, 3),
-    }
 }

@@ -31,21 +31,21 @@ is_equal Greater e = absurd cc
 pub same_place : (p q : List ℕ) → eq_by_cmp bytes_cmp p q ≡ true → p ≡ q
 same_place p q e = same_bytes p q (is_equal (bytes_cmp p q) e)
 
-head_same : (m n : ℕ) (j k : List ℕ) → m ∷ j ≡ n ∷ k → m ≡ n
+pub head_same : (m n : ℕ) (j k : List ℕ) → m ∷ j ≡ n ∷ k → m ≡ n
 head_same m n j k e = cc
 
 tail_same : (m n : ℕ) (j k : List ℕ) → m ∷ j ≡ n ∷ k → j ≡ k
 tail_same m n j k e = cc
 
-some_same : (r s : List ℕ) → Some r ≡ Some s → r ≡ s
+pub some_same : (r s : List ℕ) → Some r ≡ Some s → r ≡ s
 some_same r s e = cc
 
-none_some : (r : List ℕ) → None ≡ Some r → ⊥
+pub none_some : (r : List ℕ) → None ≡ Some r → ⊥
 none_some r e = cc
 
 -- a fact of the row at each place, after a put or a removal
 module _ (P : ℕ → List ℕ → List ℕ → Type 0) where
-  put_keeps_each : (t : Tables) (m : ℕ) (j s : List ℕ) → P m j s → ((n : ℕ) (k r : List ℕ) → map.get t (n ∷ k) ≡ Some r → P n k r)
+  pub put_keeps_each : (t : Tables) (m : ℕ) (j s : List ℕ) → P m j s → ((n : ℕ) (k r : List ℕ) → map.get t (n ∷ k) ≡ Some r → P n k r)
       → (n : ℕ) (k r : List ℕ) → map.get (map.insert t (m ∷ j) s) (n ∷ k) ≡ Some r → P n k r
   put_keeps_each t m j s here h n k r found =
       let after = get_after_insert t (m ∷ j) s (n ∷ k) in
@@ -57,7 +57,7 @@ module _ (P : ℕ → List ℕ → List ℕ → Type 0) where
         | inr e ↦ h n k r (sym (after ∙ ap (λ b. cond b (Some s) (map.get t (n ∷ k))) e) ∙ found)
       ]
 
-  remove_keeps_each : (t : Tables) (p : List ℕ) → ((n : ℕ) (k r : List ℕ) → map.get t (n ∷ k) ≡ Some r → P n k r)
+  pub remove_keeps_each : (t : Tables) (p : List ℕ) → ((n : ℕ) (k r : List ℕ) → map.get t (n ∷ k) ≡ Some r → P n k r)
       → (n : ℕ) (k r : List ℕ) → map.get (map.remove t p) (n ∷ k) ≡ Some r → P n k r
   remove_keeps_each t p h n k r found =
       let after = get_after_remove t p (n ∷ k) in

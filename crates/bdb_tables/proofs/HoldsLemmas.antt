@@ -24,11 +24,11 @@ use Rattle.bdb_base.specs.declared.kinds.Stmt.{Stmt}
 use Rattle.bdb_base.specs.declared.tuple.Tuple.{Tuple}
 use Rattle.bdb_key.specs.Grammar.{IsNum, IsPlain}
 use Rattle.bdb_key.specs.Rows.{IsRelRow}
-use Rattle.bdb_key.proofs.Alone.{nums_in_order, one_plain_key}
 use Rattle.bdb_key.proofs.Numbers.{greater}
 use Rattle.bdb_key.proofs.Readings.{all_push}
 use Rattle.bdb_tables.specs.Codec.{place}
 use Rattle.bdb_tables.specs.Grammar.{IsEntry}
+use Rattle.bdb_tables.specs.InUseLaws.{numbers_in_order, plains_are_one}
 use Rattle.bdb_tables.specs.InUse.{meta_codec, user_codec, rel_codec, plain_codec}
 use Rattle.bdb_tables.specs.Holds.{format_row, user_row, user_rows, rel_row, rel_rows, statement_row, catalog_rows, base_rows, IsStatement}
 use Rattle.bdb_tables.specs.Laws.{HeldIsInGrammar, FormatRowHoldsEmpty, PutAddsUser, PutAddsRelation, PutAddsStatement, DropTakesStatement}
@@ -52,12 +52,12 @@ free_rels p h rel (def ∷ defs) = (h (rel_codec.key_bytes rel), free_rels p h (
 later_user : (uid k : ℕ) (names : List (List ℕ)) → uid + length names ≤ k → IsNum k → IsFree (place user_codec k) (user_rows uid names)
 later_user uid k [] le h = tt
 later_user uid k (name ∷ names) le h =
-    (ap is_eq (nums_in_order k uid h (omega arith) ∙ greater k uid (omega arith)), later_user (suc uid) k names (omega arith) h)
+    (ap is_eq (numbers_in_order k uid h (omega arith) ∙ greater k uid (omega arith)), later_user (suc uid) k names (omega arith) h)
 
 later_rel : (rel k : ℕ) (defs : List RelDef) → rel + length defs ≤ k → IsNum k → IsFree (place rel_codec k) (rel_rows rel defs)
 later_rel rel k [] le h = tt
 later_rel rel k (def ∷ defs) le h =
-    (ap is_eq (nums_in_order k rel h (omega arith) ∙ greater k rel (omega arith)), later_rel (suc rel) k defs (omega arith) h)
+    (ap is_eq (numbers_in_order k rel h (omega arith) ∙ greater k rel (omega arith)), later_rel (suc rel) k defs (omega arith) h)
 
 -- ---- users and relations
 
@@ -146,7 +146,7 @@ pub record AreAtOne (x y : Stmt) : Type 0 where
 pub at_one : (x y : Stmt) → IsStatement x → IsStatement y → same (statement_row x).0 (statement_row y).0 ≡ true → AreAtOne x y
 at_one x y fx fy e =
     let k : plain_codec.key_bytes (x.path, x.tuple) ≡ plain_codec.key_bytes (y.path, y.tuple) = tail_same 12 12 _ _ (same_place (statement_row x).0 (statement_row y).0 e) in
-    let pair = one_plain_key (x.path, x.tuple) (y.path, y.tuple) fx.path fy.path fx.tuple fy.tuple k in
+    let pair = plains_are_one (x.path, x.tuple) (y.path, y.tuple) (fx.path, fx.tuple) (fy.path, fy.tuple) k in
     record { path = ap (λ (z : List ℕ × Tuple). z.0) pair; tuple = ap (λ (z : List ℕ × Tuple). z.1) pair }
 
 pub equal_itself : (x : Stmt) → is_eq (statement_cmp x x) ≡ true

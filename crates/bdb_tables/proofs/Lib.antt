@@ -1,11 +1,16 @@
 pub mod Climbs
+pub mod DifferenceLemmas
 pub mod Fitting
 pub mod Finds
 pub mod Held
 pub mod HoldsLemmas
-pub mod Reading
+pub mod Loops
+pub mod SpanLemmas
 pub mod Stated
 pub mod StatementLemmas
 pub mod Numbered
 pub mod OneBase
+pub mod PartLemmas
 pub mod Plain
+pub mod Prefixes
+pub mod WriteLemmas

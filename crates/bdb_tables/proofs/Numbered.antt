@@ -14,9 +14,9 @@ use Rattle.bdb_base.specs.declared.kinds.Stmt.{Stmt}
 use Rattle.bdb_keep.specs.Tables.{Tables}
 use Rattle.bdb_key.specs.Grammar.{IsNum, IsPlain}
 use Rattle.bdb_key.specs.Rows.{IsRelRow}
-use Rattle.bdb_key.proofs.Alone.{nums_in_order, one_text, one_rel}
 use Rattle.bdb_key.proofs.Numbers.{greater}
 use Rattle.bdb_tables.specs.Codec.{Codec, place, HasRow, HasAt}
+use Rattle.bdb_tables.specs.InUseLaws.{numbers_in_order, text_rows_are_one, rel_rows_are_one}
 use Rattle.bdb_tables.specs.InUse.{user_codec, rel_codec}
 use Rattle.bdb_tables.specs.Holds.{Holds, user_rows, rel_rows, statement_row, base_rows}
 use Rattle.bdb_tables.specs.Opening.{IsHeld}
@@ -76,7 +76,7 @@ user_at uid zero k (name ∷ names) rest e num free =
 user_at uid (suc n) k (name ∷ names) rest e num free =
     let lt : uid < k = omega (arith, e) in
     let small : IsNum uid = omega (arith, num, lt) in
-    let apart : same (place user_codec k) (place user_codec uid) ≡ false = ap is_eq (nums_in_order k uid num small ∙ greater k uid lt) in
+    let apart : same (place user_codec k) (place user_codec uid) ≡ false = ap is_eq (numbers_in_order k uid num small ∙ greater k uid lt) in
     ap (λ b. cond b (Some (user_codec.row_bytes name)) (found (place user_codec k) (user_rows (suc uid) names ++ rest))) apart
     ∙ user_at (suc uid) n k names rest (omega (arith, e)) num free
 
@@ -89,7 +89,7 @@ rel_at rel zero k (def ∷ defs) rest e num free =
 rel_at rel (suc n) k (def ∷ defs) rest e num free =
     let lt : rel < k = omega (arith, e) in
     let small : IsNum rel = omega (arith, num, lt) in
-    let apart : same (place rel_codec k) (place rel_codec rel) ≡ false = ap is_eq (nums_in_order k rel num small ∙ greater k rel lt) in
+    let apart : same (place rel_codec k) (place rel_codec rel) ≡ false = ap is_eq (numbers_in_order k rel num small ∙ greater k rel lt) in
     ap (λ b. cond b (Some (rel_codec.row_bytes def)) (found (place rel_codec k) (rel_rows (suc rel) defs ++ rest))) apart
     ∙ rel_at (suc rel) n k defs rest (omega (arith, e)) num free
 
@@ -153,7 +153,7 @@ pub users_more : (t : Tables) (n : ℕ) (name : List ℕ) (xs : List (List ℕ))
     → IsHeld (λ b. take n b.catalog.users) t xs → IsHeld (λ b. take (n + 1) b.catalog.users) t (xs ++ name ∷ [])
 users_more t n name xs num row is b h v =
     let users = b.catalog.users in
-    let at = back IsPlain user_codec.row_bytes one_text users n name h.written.users row.in_grammar (sym (held_user t b n h num) ∙ row.found) in
+    let at = back IsPlain user_codec.row_bytes text_rows_are_one users n name h.written.users row.in_grammar (sym (held_user t b n h num) ∙ row.found) in
     ap (λ ys. ys ++ name ∷ []) (is b h v) ∙ sym (take_more n users name at) ∙ ap (λ k. take k users) (one_more n)
 
 pub users_none : (t : Tables) (n : ℕ) (xs : List (List ℕ)) → IsNum (n + 1) → tables.get t (place user_codec (n + 1)) ≡ None
@@ -166,7 +166,7 @@ pub relations_more : (t : Tables) (n : ℕ) (def : RelDef) (xs : List RelDef) �
     → IsHeld (λ b. take n b.catalog.rels) t xs → IsHeld (λ b. take (n + 1) b.catalog.rels) t (xs ++ def ∷ [])
 relations_more t n def xs num row is b h v =
     let rels = b.catalog.rels in
-    let at = back IsRelRow rel_codec.row_bytes one_rel rels n def h.written.rels row.in_grammar (sym (held_relation t b n h num) ∙ row.found) in
+    let at = back IsRelRow rel_codec.row_bytes rel_rows_are_one rels n def h.written.rels row.in_grammar (sym (held_relation t b n h num) ∙ row.found) in
     ap (λ ys. ys ++ def ∷ []) (is b h v) ∙ sym (take_more n rels def at) ∙ ap (λ k. take k rels) (one_more n)
 
 pub relations_none : (t : Tables) (n : ℕ) (xs : List RelDef) → IsNum n → tables.get t (place rel_codec n) ≡ None

@@ -13,7 +13,7 @@ use Rattle.bdb_base.proofs.SetLemmas.{members_make_set}
 use Rattle.bdb_keep.specs.Tables.{Tables}
 use Rattle.bdb_key.specs.Grammar.{IsPlain}
 use Rattle.bdb_key.specs.Rows.{IsRelRow}
-use Rattle.bdb_key.proofs.Alone.{one_text, one_rel}
+use Rattle.bdb_tables.specs.InUseLaws.{text_rows_are_one, rel_rows_are_one}
 use Rattle.bdb_tables.specs.InUse.{user_codec, rel_codec}
 use Rattle.bdb_tables.specs.Holds.{Holds, IsStatement}
 use Rattle.bdb_tables.specs.Laws.{HeldUserHasRow, HeldRelationHasRow, HeldStatementHasRow, HeldBaseIsOne}
@@ -65,14 +65,14 @@ one_answer false q f g = sym (false_from_ne_true q (λ e. false≢true (g e)))
 one_users : (t : Tables) (a b : Contents) → Holds t a → Holds t b → a.catalog.users ≡ b.catalog.users
 one_users t a b h k = same_by_place a.catalog.users b.catalog.users (λ n.
     elim (cases_lt (n + 1) (2 ^ 32)) as (λ _. slice_get a.catalog.users n ≡ slice_get b.catalog.users n) [
-      | inl num ↦ both IsPlain user_codec.row_bytes one_text a.catalog.users b.catalog.users n h.written.users k.written.users (sym (held_user t a n h num) ∙ held_user t b n k num)
+      | inl num ↦ both IsPlain user_codec.row_bytes text_rows_are_one a.catalog.users b.catalog.users n h.written.users k.written.users (sym (held_user t a n h num) ∙ held_user t b n k num)
       | inr past ↦ slice_get_past a.catalog.users n (omega (arith, past, h.written.user_numbers)) ∙ sym (slice_get_past b.catalog.users n (omega (arith, past, k.written.user_numbers)))
     ])
 
 one_relations : (t : Tables) (a b : Contents) → Holds t a → Holds t b → a.catalog.rels ≡ b.catalog.rels
 one_relations t a b h k = same_by_place a.catalog.rels b.catalog.rels (λ n.
     elim (cases_lt n (2 ^ 32)) as (λ _. slice_get a.catalog.rels n ≡ slice_get b.catalog.rels n) [
-      | inl num ↦ both IsRelRow rel_codec.row_bytes one_rel a.catalog.rels b.catalog.rels n h.written.rels k.written.rels (sym (held_relation t a n h num) ∙ held_relation t b n k num)
+      | inl num ↦ both IsRelRow rel_codec.row_bytes rel_rows_are_one a.catalog.rels b.catalog.rels n h.written.rels k.written.rels (sym (held_relation t a n h num) ∙ held_relation t b n k num)
       | inr past ↦ slice_get_past a.catalog.rels n (omega (arith, past, h.written.rel_numbers)) ∙ sym (slice_get_past b.catalog.rels n (omega (arith, past, k.written.rel_numbers)))
     ])
 

@@ -15,8 +15,8 @@ use Rattle.bdb_base.specs.declared.tuple.Tuple.{Tuple}
 use Rattle.bdb_base.proofs.SetLemmas.{is_lt-Less}
 use Rattle.bdb_keep.specs.Tables.{Tables}
 use Rattle.bdb_key.specs.Grammar.{ArePlain, HasPlainText}
-use Rattle.bdb_key.proofs.Alone.{plain_keys_in_order, one_plain_key, one_sign}
 use Rattle.bdb_tables.specs.Codec.{HasFirst}
+use Rattle.bdb_tables.specs.InUseLaws.{plains_in_order, plains_are_one, sign_rows_are_one}
 use Rattle.bdb_tables.specs.InUse.{plain_codec, MayBePlain}
 use Rattle.bdb_tables.specs.Holds.{Holds, IsStatement, statement_row, catalog_rows}
 use Rattle.bdb_tables.specs.Opening.{IsHeld}
@@ -40,9 +40,9 @@ row_among [] x h fx e = absurd cc
 row_among (y ∷ ys) x h fx e = elim (cases_Bool (same (statement_row x).0 (statement_row y).0)) [
   | inl s ↦
       let k : plain_codec.key_bytes (y.path, y.tuple) ≡ plain_codec.key_bytes (x.path, x.tuple) = tail_same 12 12 _ _ (sym (same_place (statement_row x).0 (statement_row y).0 s)) in
-      let pair = one_plain_key (y.path, y.tuple) (x.path, x.tuple) h.0.path fx.path h.0.tuple fx.tuple k in
+      let pair = plains_are_one (y.path, y.tuple) (x.path, x.tuple) (h.0.path, h.0.tuple) (fx.path, fx.tuple) k in
       let r : Some (statement_row y).1 ≡ Some (statement_row x).1 = sym (ap (λ b. cond b (Some (statement_row y).1) (found (statement_row x).0 (map statement_row ys))) s) ∙ e in
-      let sign = one_sign y.sign x.sign (some_is r) in
+      let sign = sign_rows_are_one y.sign x.sign tt tt (some_is r) in
       inl (ap (λ (z : (List ℕ × Tuple) × Sign). statement_of z) (ap (λ (p : List ℕ × Tuple). (p, y.sign)) pair ∙ ap (λ (s : Sign). ((x.path, x.tuple), s)) sign))
   | inr s ↦ inr (row_among ys x h.1 fx (sym (ap (λ b. cond b (Some (statement_row y).1) (found (statement_row x).0 (map statement_row ys))) s) ∙ e))
 ]
@@ -59,7 +59,7 @@ row_found (y ∷ ys) x up h fx (inl e) =
 row_found (y ∷ ys) x up h fx (inr a) =
     let less : key_order y x ≡ Less = all_among (λ z. key_order y z ≡ Less) ys x up.0 a in
     let other : same (statement_row x).0 (statement_row y).0 ≡ false =
-    ap is_eq (plain_keys_in_order x.path y.path x.tuple y.tuple fx.path h.0.path fx.tuple h.0.tuple ∙ key_total.antisymm x y ∙ ap ordering_reverse less) in
+    ap is_eq (plains_in_order (x.path, x.tuple) (y.path, y.tuple) (fx.path, fx.tuple) (h.0.path, h.0.tuple) ∙ key_total.antisymm x y ∙ ap ordering_reverse less) in
     ap (λ b. cond b (Some (statement_row y).1) (found (statement_row x).0 (map statement_row ys))) other ∙ row_found ys x up.1 h.1 fx a
 
 pub held_climbs : (b : Contents) → IsValid b.catalog b.stmts → Climbs b.stmts

@@ -18,6 +18,32 @@ pub record Codec (Key Row : Type 0) : Type 1 where
   pub IsRow : Row → Type 0
   pub row_bytes : Row → List ℕ
 
+-- Keys of one form: which are in the grammar, their bytes and their order.
+pub record Keys (Key : Type 0) : Type 1 where
+  pub MayBe : Key → Type 0
+  pub Is : Key → Type 0
+  pub bytes : Key → List ℕ
+  pub cmp : Key → Key → Ordering
+
+-- Rows of one form: which are in the grammar, and their bytes.
+pub record Rows (Row : Type 0) : Type 1 where
+  pub MayBe : Row → Type 0
+  pub Is : Row → Type 0
+  pub bytes : Row → List ℕ
+
+-- a table of keys and rows of these forms
+abbrev pub codec_of : {Key Row : Type 0} → ℕ → Keys Key → Rows Row → Codec Key Row
+codec_of number keys rows = record {
+  number = number;
+  MayBeKey = keys.MayBe;
+  IsKey = keys.Is;
+  key_bytes = keys.bytes;
+  key_cmp = keys.cmp;
+  MayBeRow = rows.MayBe;
+  IsRow = rows.Is;
+  row_bytes = rows.bytes;
+}
+
 module _ {Key Row : Type 0} where
   -- the place of a key
   abbrev pub place : Codec Key Row → Key → List ℕ
@@ -85,3 +111,15 @@ module _ {Key Row : Type 0} where
   -- no two rows are written alike
   abbrev pub HasOneRow : Codec Key Row → Type 0
   HasOneRow c = (a b : Row) → c.IsRow a → c.IsRow b → c.row_bytes a ≡ c.row_bytes b → a ≡ b
+
+-- keys are written in their order
+abbrev pub KeysInOrder : {Key : Type 0} → Keys Key → Type 0
+KeysInOrder {Key} keys = (a b : Key) → keys.Is a → keys.Is b → bytes_cmp (keys.bytes a) (keys.bytes b) ≡ keys.cmp a b
+
+-- no two keys are written alike
+abbrev pub KeysAreOne : {Key : Type 0} → Keys Key → Type 0
+KeysAreOne {Key} keys = (a b : Key) → keys.Is a → keys.Is b → keys.bytes a ≡ keys.bytes b → a ≡ b
+
+-- no two rows are written alike
+abbrev pub RowsAreOne : {Row : Type 0} → Rows Row → Type 0
+RowsAreOne {Row} rows = (a b : Row) → rows.Is a → rows.Is b → rows.bytes a ≡ rows.bytes b → a ≡ b

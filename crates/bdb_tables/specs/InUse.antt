@@ -1,54 +1,83 @@
--- The tables in use, each with the bytes of its keys and rows.
-use Rattle.std.specs.Prelude.{◌≡◌, ℕ, true, List, ◌++◌, length}
+-- The twelve tables, each by its number, its keys and its rows. Tables 13 to 15 have no row.
+use Rattle.std.specs.Prelude.{◌≡◌, ℕ, Bool, true, List, [], ◌++◌, length}
 use Rattle.std.specs.declared.cmp.Ordering.TheVariants.{Equal}
 use Rattle.std.specs.Ordering.{nat_cmp, ordering_then}
 use Rattle.bdb_base.specs.Alternation.{alternates}
-use Rattle.bdb_base.specs.Order.{path_cmp, tuple_cmp}
+use Rattle.bdb_base.specs.Order.{value_cmp, path_cmp, tuple_cmp}
 use Rattle.bdb_base.specs.declared.kinds.RelDef.{RelDef}
 use Rattle.bdb_base.specs.declared.kinds.Sign.{Sign}
+use Rattle.bdb_base.specs.declared.kinds.Value.{Value}
 use Rattle.bdb_base.specs.declared.tuple.Tuple.{Tuple}
-use Rattle.bdb_key.specs.Bytes.{num_bytes, text_bytes, path_bytes}
-use Rattle.bdb_key.specs.Grammar.{IsNum, IsPlain, IsKeyPath}
-use Rattle.bdb_key.specs.Rows.{IsRelRow, IsTupleRow, MayBeTuple, rel_bytes, tuple_bytes, sign_number}
-use Rattle.bdb_tables.specs.Codec.{Codec}
+use Rattle.bdb_key.specs.Bytes.{num_bytes, text_bytes, value_bytes, path_bytes}
+use Rattle.bdb_key.specs.Grammar.{IsNum, IsPlain, IsPlainValue, HasPlainText, IsKeyPath}
+use Rattle.bdb_key.specs.Rows.{IsRelRow, IsTupleRow, MayBeTuple, IsAnySign, IsAnyMark, rel_bytes, tuple_bytes, sign_bytes, mark_bytes}
+use Rattle.bdb_tables.specs.Codec.{Codec, Keys, Rows, codec_of}
 
--- table 1, with one row at most: the format
-abbrev pub meta_codec : Codec (Unit {0}) ℕ
-meta_codec = record {
-  number = 1;
-  MayBeKey = λ _. Unit {0};
-  IsKey = λ _. Unit {0};
-  key_bytes = λ _. num_bytes 0;
-  key_cmp = λ _ _. Equal;
-  MayBeRow = λ _. Unit {0};
-  IsRow = IsNum;
-  row_bytes = num_bytes;
+-- ---- keys
+
+-- the one key of a table with one row
+abbrev pub only_key : Keys (Unit {0})
+only_key = record { MayBe = λ _. Unit {0}; Is = λ _. Unit {0}; bytes = λ _. num_bytes 0; cmp = λ _ _. Equal }
+
+-- a number
+abbrev pub number_keys : Keys ℕ
+number_keys = record { MayBe = λ _. Unit {0}; Is = IsNum; bytes = num_bytes; cmp = nat_cmp }
+
+-- two numbers of four bytes
+pub record IsPair (key : ℕ × ℕ) : Type 0 where
+  pub first : IsNum key.0
+  pub second : IsNum key.1
+
+abbrev pub pair_bytes : ℕ × ℕ → List ℕ
+pair_bytes key = num_bytes key.0 ++ num_bytes key.1
+
+-- two numbers
+abbrev pub pair_keys : Keys (ℕ × ℕ)
+pair_keys = record { MayBe = λ _. Unit {0}; Is = IsPair; bytes = pair_bytes; cmp = λ a b. ordering_then (nat_cmp a.0 b.0) (nat_cmp a.1 b.1) }
+
+-- three numbers of four bytes
+pub record IsTriple (key : ℕ × ℕ × ℕ) : Type 0 where
+  pub first : IsNum key.0
+  pub second : IsNum key.1
+  pub third : IsNum key.2
+
+abbrev pub triple_bytes : ℕ × ℕ × ℕ → List ℕ
+triple_bytes key = num_bytes key.0 ++ num_bytes key.1 ++ num_bytes key.2
+
+-- three numbers
+abbrev pub triple_keys : Keys (ℕ × ℕ × ℕ)
+triple_keys = record {
+  MayBe = λ _. Unit {0};
+  Is = IsTriple;
+  bytes = triple_bytes;
+  cmp = λ a b. ordering_then (nat_cmp a.0 b.0) (ordering_then (nat_cmp a.1 b.1) (nat_cmp a.2 b.2));
 }
 
--- table 2: the users' names by number
-abbrev pub user_codec : Codec ℕ (List ℕ)
-user_codec = record {
-  number = 2;
-  MayBeKey = λ _. Unit {0};
-  IsKey = IsNum;
-  key_bytes = num_bytes;
-  key_cmp = nat_cmp;
-  MayBeRow = IsPlain;
-  IsRow = IsPlain;
-  row_bytes = text_bytes;
-}
+-- a tuple
+abbrev pub tuple_keys : Keys Tuple
+tuple_keys = record { MayBe = MayBeTuple; Is = IsTupleRow; bytes = tuple_bytes; cmp = tuple_cmp }
 
--- table 3: the relations by number
-abbrev pub rel_codec : Codec ℕ RelDef
-rel_codec = record {
-  number = 3;
-  MayBeKey = λ _. Unit {0};
-  IsKey = IsNum;
-  key_bytes = num_bytes;
-  key_cmp = nat_cmp;
-  MayBeRow = IsRelRow;
-  IsRow = IsRelRow;
-  row_bytes = rel_bytes;
+-- a world, a relation, the value of the relation's key and the number of a tuple
+abbrev pub ValKey : Type 0
+ValKey = ℕ × ℕ × Value × ℕ
+
+-- numbers of four bytes, and an integer of eight or a plain text
+pub record IsValKey (key : ValKey) : Type 0 where
+  pub world : IsNum key.0
+  pub rel : IsNum key.1
+  pub value : IsPlainValue key.2
+  pub tuple : IsNum key.3
+
+abbrev pub val_bytes : ValKey → List ℕ
+val_bytes key = num_bytes key.0 ++ num_bytes key.1 ++ value_bytes key.2 ++ num_bytes key.3
+
+-- a world, a relation, a key and a tuple
+abbrev pub val_keys : Keys ValKey
+val_keys = record {
+  MayBe = λ key. HasPlainText key.2;
+  Is = IsValKey;
+  bytes = val_bytes;
+  cmp = λ a b. ordering_then (nat_cmp a.0 b.0) (ordering_then (nat_cmp a.1 b.1) (ordering_then (value_cmp a.2 b.2) (nat_cmp a.3 b.3)));
 }
 
 -- a path and a tuple, without the sizes of their numbers
@@ -57,15 +86,91 @@ pub record MayBePlain (key : List ℕ × Tuple) : Type 0 where
   pub short : IsNum (length key.0)
   pub tuple : MayBeTuple key.1
 
+-- a path and a tuple
+abbrev pub plain_keys : Keys (List ℕ × Tuple)
+plain_keys = record {
+  MayBe = MayBePlain;
+  Is = λ key. IsKeyPath key.0 × IsTupleRow key.1;
+  bytes = λ key. path_bytes key.0 ++ tuple_bytes key.1;
+  cmp = λ a b. ordering_then (path_cmp a.0 b.0) (tuple_cmp a.1 b.1);
+}
+
+-- ---- rows
+
+-- a number
+abbrev pub number_rows : Rows ℕ
+number_rows = record { MayBe = λ _. Unit {0}; Is = IsNum; bytes = num_bytes }
+
+-- a name
+abbrev pub text_rows : Rows (List ℕ)
+text_rows = record { MayBe = IsPlain; Is = IsPlain; bytes = text_bytes }
+
+-- a relation
+abbrev pub rel_rows : Rows RelDef
+rel_rows = record { MayBe = IsRelRow; Is = IsRelRow; bytes = rel_bytes }
+
+-- a tuple
+abbrev pub tuple_rows : Rows Tuple
+tuple_rows = record { MayBe = MayBeTuple; Is = IsTupleRow; bytes = tuple_bytes }
+
+-- nothing
+abbrev pub empty_rows : Rows (Unit {0})
+empty_rows = record { MayBe = λ _. Unit {0}; Is = λ _. Unit {0}; bytes = λ _. [] }
+
+-- a sign, and whether it is explicit
+abbrev pub mark_rows : Rows (Sign × Bool)
+mark_rows = record { MayBe = λ _. Unit {0}; Is = IsAnyMark; bytes = mark_bytes }
+
+-- a sign
+abbrev pub sign_rows : Rows Sign
+sign_rows = record { MayBe = λ _. Unit {0}; Is = IsAnySign; bytes = sign_bytes }
+
+-- ---- tables
+
+-- table 1, with one row at most: the format
+abbrev pub meta_codec : Codec (Unit {0}) ℕ
+meta_codec = codec_of 1 only_key number_rows
+
+-- table 2: the users' names by number
+abbrev pub user_codec : Codec ℕ (List ℕ)
+user_codec = codec_of 2 number_keys text_rows
+
+-- table 3: the relations by number
+abbrev pub rel_codec : Codec ℕ RelDef
+rel_codec = codec_of 3 number_keys rel_rows
+
+-- table 4: the tuples by number
+abbrev pub tuple_codec : Codec ℕ Tuple
+tuple_codec = codec_of 4 number_keys tuple_rows
+
+-- table 5: the number of each tuple
+abbrev pub tuple_ix_codec : Codec Tuple ℕ
+tuple_ix_codec = codec_of 5 tuple_keys number_rows
+
+-- table 6: the depth of each world
+abbrev pub depth_codec : Codec ℕ ℕ
+depth_codec = codec_of 6 number_keys number_rows
+
+-- table 7: the world to which each world's suffix link leads
+abbrev pub link_codec : Codec ℕ ℕ
+link_codec = codec_of 7 number_keys number_rows
+
+-- table 8: the suffix links turned round, each by the world to which it leads and the world that has it
+abbrev pub linked_codec : Codec (ℕ × ℕ) (Unit {0})
+linked_codec = codec_of 8 pair_keys empty_rows
+
+-- table 9: the world to which each world's edge for a user leads
+abbrev pub edge_codec : Codec (ℕ × ℕ) ℕ
+edge_codec = codec_of 9 pair_keys number_rows
+
+-- table 10: the edges turned round, each by the world to which it leads, the world that has it, and the user
+abbrev pub led_codec : Codec (ℕ × ℕ × ℕ) (Unit {0})
+led_codec = codec_of 10 triple_keys empty_rows
+
+-- table 11: the sign of each tuple in each world, and whether it is explicit there
+abbrev pub val_codec : Codec ValKey (Sign × Bool)
+val_codec = codec_of 11 val_keys mark_rows
+
 -- table 12: the sign of each statement by path and tuple
 abbrev pub plain_codec : Codec (List ℕ × Tuple) Sign
-plain_codec = record {
-  number = 12;
-  MayBeKey = MayBePlain;
-  IsKey = λ key. IsKeyPath key.0 × IsTupleRow key.1;
-  key_bytes = λ key. path_bytes key.0 ++ tuple_bytes key.1;
-  key_cmp = λ a b. ordering_then (path_cmp a.0 b.0) (tuple_cmp a.1 b.1);
-  MayBeRow = λ _. Unit {0};
-  IsRow = λ _. Unit {0};
-  row_bytes = λ sign. num_bytes (sign_number sign);
-}
+plain_codec = codec_of 12 plain_keys sign_rows

@@ -1,8 +1,16 @@
 pub mod Codec
+pub mod Differences
 pub mod Grammar
+pub mod Holds
 pub mod InUse
 pub mod InUseLaws
-pub mod Holds
 pub mod Laws
+pub mod Marks
+pub mod Names
 pub mod Opening
+pub mod Parts
+pub mod Rows
+pub mod Spans
 pub mod Statements
+pub mod States
+pub mod Writes

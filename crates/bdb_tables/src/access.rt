@@ -3,7 +3,7 @@ ghost use Rattle.std.specs.Prelude.{◌≡◌, true, [], ◌∷◌, ◌++◌, If
 ghost use Rattle.std.specs.Ordering.{is_le, is_lt};
 ghost use Rattle.std.specs.FinMap as map;
 ghost use Rattle.bdb_base.specs.Causes.{RoseBy};
-ghost use Rattle.bdb_keep.specs.Seen.{IsAtRest, NeverFall, Steps};
+ghost use Rattle.bdb_keep.specs.Calls.{IsRead, IsWrite};
 ghost use Rattle.bdb_key.specs.Reading.{Reads};
 ghost use Rattle.bdb_tables.specs.Codec.{HasAt, HasFirst, HasLeast, IsKeyOf, IsRowOf, TableFits, place};
 ghost use Rattle.bdb_tables.specs.Grammar.{InGrammar};
@@ -21,13 +21,9 @@ pub fn get<T: Tab, K: Keeper>(
 ) -> Result<Option<T::Row>, TabError>
     requires grammar { TableFits T.codec (K.seen keeper.old).kept }
     requires key { T.codec.MayBeKey key.now }
-    ensures rest { IsAtRest (K.seen keeper.old) }
     ensures found { IfOk result (HasAt T.codec (K.seen keeper.old).kept key.now) }
-    ensures kept { OnOk result ((K.seen keeper.new).kept ≡ (K.seen keeper.old).kept) }
     ensures reads { OnOk result (RoseBy 1 (K.seen keeper.old).reads (K.seen keeper.new).reads) }
-    ensures writes { (K.seen keeper.new).writes ≡ (K.seen keeper.old).writes }
-    ensures counts { NeverFall (K.seen keeper.old) (K.seen keeper.new) }
-    ensures steps { Steps (K.seen keeper.old) (K.seen keeper.new) result TabError.Fault }
+    ensures read { IsRead (K.seen keeper.old) (K.seen keeper.new) result TabError.Fault }
 {
     let mut bytes = Vec::new(alloc);
     if T::key_bytes(key, &mut bytes).is_err() {
@@ -55,13 +51,9 @@ pub fn first<T: Tab, K: Keeper>(
     keeper: &mut K,
 ) -> Result<Option<(T::Key, T::Row)>, TabError>
     requires grammar { TableFits T.codec (K.seen keeper.old).kept }
-    ensures rest { IsAtRest (K.seen keeper.old) }
     ensures found { IfOk result (HasFirst T.codec (K.seen keeper.old).kept (λ _. true)) }
-    ensures kept { OnOk result ((K.seen keeper.new).kept ≡ (K.seen keeper.old).kept) }
     ensures reads { OnOk result (RoseBy 1 (K.seen keeper.old).reads (K.seen keeper.new).reads) }
-    ensures writes { (K.seen keeper.new).writes ≡ (K.seen keeper.old).writes }
-    ensures counts { NeverFall (K.seen keeper.old) (K.seen keeper.new) }
-    ensures steps { Steps (K.seen keeper.old) (K.seen keeper.new) result TabError.Fault }
+    ensures read { IsRead (K.seen keeper.old) (K.seen keeper.new) result TabError.Fault }
 {
     first_from::<T, K>(alloc, keeper, &[])
 }
@@ -74,13 +66,9 @@ pub fn next<T: Tab, K: Keeper>(
 ) -> Result<Option<(T::Key, T::Row)>, TabError>
     requires grammar { TableFits T.codec (K.seen keeper.old).kept }
     requires low { T.codec.MayBeKey low.now }
-    ensures rest { IsAtRest (K.seen keeper.old) }
     ensures found { IfOk result (HasFirst T.codec (K.seen keeper.old).kept (λ key. is_le (T.codec.key_cmp low.now key))) }
-    ensures kept { OnOk result ((K.seen keeper.new).kept ≡ (K.seen keeper.old).kept) }
     ensures reads { OnOk result (RoseBy 1 (K.seen keeper.old).reads (K.seen keeper.new).reads) }
-    ensures writes { (K.seen keeper.new).writes ≡ (K.seen keeper.old).writes }
-    ensures counts { NeverFall (K.seen keeper.old) (K.seen keeper.new) }
-    ensures steps { Steps (K.seen keeper.old) (K.seen keeper.new) result TabError.Fault }
+    ensures read { IsRead (K.seen keeper.old) (K.seen keeper.new) result TabError.Fault }
 {
     let mut bytes = Vec::new(alloc);
     if T::key_bytes(low, &mut bytes).is_err() {
@@ -98,13 +86,9 @@ pub fn after<T: Tab, K: Keeper>(
 ) -> Result<Option<(T::Key, T::Row)>, TabError>
     requires grammar { TableFits T.codec (K.seen keeper.old).kept }
     requires key { T.codec.MayBeKey key.now }
-    ensures rest { IsAtRest (K.seen keeper.old) }
     ensures found { IfOk result (HasFirst T.codec (K.seen keeper.old).kept (λ q. is_lt (T.codec.key_cmp key.now q))) }
-    ensures kept { OnOk result ((K.seen keeper.new).kept ≡ (K.seen keeper.old).kept) }
     ensures reads { OnOk result (RoseBy 1 (K.seen keeper.old).reads (K.seen keeper.new).reads) }
-    ensures writes { (K.seen keeper.new).writes ≡ (K.seen keeper.old).writes }
-    ensures counts { NeverFall (K.seen keeper.old) (K.seen keeper.new) }
-    ensures steps { Steps (K.seen keeper.old) (K.seen keeper.new) result TabError.Fault }
+    ensures read { IsRead (K.seen keeper.old) (K.seen keeper.new) result TabError.Fault }
 {
     let mut bytes = Vec::new(alloc);
     if behind::<T>(key, &mut bytes).is_err() {
@@ -128,10 +112,8 @@ pub fn put<T: Tab, K: Keeper>(
     ensures key_fits { OnOk result (T.codec.IsKey key.now) }
     ensures row_fits { OnOk result (T.codec.IsRow row.now) }
     ensures grammar { OnOk result (InGrammar (K.seen keeper.old).kept → InGrammar (K.seen keeper.new).kept) }
-    ensures reads { (K.seen keeper.new).reads ≡ (K.seen keeper.old).reads }
     ensures writes { OnOk result (RoseBy 1 (K.seen keeper.old).writes (K.seen keeper.new).writes) }
-    ensures counts { NeverFall (K.seen keeper.old) (K.seen keeper.new) }
-    ensures steps { Steps (K.seen keeper.old) (K.seen keeper.new) result TabError.Fault }
+    ensures write { IsWrite (K.seen keeper.old) (K.seen keeper.new) result TabError.Fault }
 {
     let mut key_bytes = Vec::new(alloc);
     let mut row_bytes = Vec::new(alloc);
@@ -157,10 +139,8 @@ pub fn drop_row<T: Tab, K: Keeper>(
     ensures kept { OnOk result ((K.seen keeper.new).kept ≡ map.remove (K.seen keeper.old).kept (place T.codec key.now)) }
     ensures key_fits { OnOk result (T.codec.IsKey key.now) }
     ensures grammar { OnOk result (InGrammar (K.seen keeper.old).kept → InGrammar (K.seen keeper.new).kept) }
-    ensures reads { (K.seen keeper.new).reads ≡ (K.seen keeper.old).reads }
     ensures writes { OnOk result (RoseBy 1 (K.seen keeper.old).writes (K.seen keeper.new).writes) }
-    ensures counts { NeverFall (K.seen keeper.old) (K.seen keeper.new) }
-    ensures steps { Steps (K.seen keeper.old) (K.seen keeper.new) result TabError.Fault }
+    ensures write { IsWrite (K.seen keeper.old) (K.seen keeper.new) result TabError.Fault }
 {
     let mut bytes = Vec::new(alloc);
     if T::key_bytes(key, &mut bytes).is_err() {
@@ -180,13 +160,9 @@ fn first_from<T: Tab, K: Keeper>(
     low: &[u8],
 ) -> Result<Option<(T::Key, T::Row)>, TabError>
     requires grammar { TableFits T.codec (K.seen keeper.old).kept }
-    ensures rest { IsAtRest (K.seen keeper.old) }
     ensures found { IfOk result (HasLeast T.codec (K.seen keeper.old).kept low.now) }
-    ensures kept { OnOk result ((K.seen keeper.new).kept ≡ (K.seen keeper.old).kept) }
     ensures reads { OnOk result (RoseBy 1 (K.seen keeper.old).reads (K.seen keeper.new).reads) }
-    ensures writes { (K.seen keeper.new).writes ≡ (K.seen keeper.old).writes }
-    ensures counts { NeverFall (K.seen keeper.old) (K.seen keeper.new) }
-    ensures steps { Steps (K.seen keeper.old) (K.seen keeper.new) result TabError.Fault }
+    ensures read { IsRead (K.seen keeper.old) (K.seen keeper.new) result TabError.Fault }
 {
     let mut key = Vec::new(alloc);
     let mut row = Vec::new(alloc);
@@ -216,7 +192,11 @@ fn behind<T: Tab>(key: &T::Key, out: &mut Vec<u8>) -> Result<(), AllocError>
 }
 
 // The key and the row of a table's bytes.
-fn entry_from<T: Tab>(alloc: Global, key: &[u8], row: &[u8]) -> Result<(T::Key, T::Row), AllocError>
+pub fn entry_from<T: Tab>(
+    alloc: Global,
+    key: &[u8],
+    row: &[u8],
+) -> Result<(T::Key, T::Row), AllocError>
     requires key { IsKeyOf T.codec key.now }
     requires row { IsRowOf T.codec row.now }
     ensures key { IfOk result (λ e. Reads T.codec.IsKey T.codec.key_bytes key.now e.0) }
@@ -252,7 +232,7 @@ fn row_from<T: Tab>(alloc: Global, bytes: &[u8]) -> Result<T::Row, AllocError>
 }
 
 // A keeper's error as a table's.
-fn told(error: KeepError) -> TabError
+pub fn told(error: KeepError) -> TabError
     ensures { result ≡ TabError.Fault → error ≡ KeepError.Fault }
 {
     match error {

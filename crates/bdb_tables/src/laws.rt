@@ -1,4 +1,5 @@
-// What single rows do to the base that tables hold.
+// What single rows do to the base that tables hold, and where tables differ.
+ghost use Rattle.bdb_tables.specs.Differences.{DifferencesAdd, DifferencesAreCounted};
 ghost use Rattle.bdb_tables.specs.Laws.{HeldIsInGrammar, FormatRowHoldsEmpty, PutAddsUser, PutAddsRelation, PutAddsStatement, PutAddsStatements, DropTakesStatement, DropTakesStatements, HeldUserHasRow, HeldRelationHasRow, HeldStatementHasRow, HeldBaseIsOne};
 
 /// Tables that hold a base are in the grammar.
@@ -59,4 +60,15 @@ pub fn held_statement_has_row()
 /// Two valid bases that the same tables hold are one.
 pub fn held_base_is_one()
     ensures { HeldBaseIsOne }
+{}
+
+/// Tables that differ at some places from others, which differ from third ones at other places, differ from those at all of
+/// them.
+pub fn differences_add()
+    ensures { DifferencesAdd }
+{}
+
+/// The places where tables differ have one number.
+pub fn differences_are_counted()
+    ensures { DifferencesAreCounted }
 {}

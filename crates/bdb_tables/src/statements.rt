@@ -2,7 +2,7 @@
 ghost use Rattle.std.specs.Prelude.{◌≡◌, ◌≤◌, true, IfOk, OnOk, length};
 ghost use Rattle.std.specs.List.{AllByRecursion};
 ghost use Rattle.bdb_base.specs.Causes.{Rises, RoseBy};
-ghost use Rattle.bdb_keep.specs.Seen.{NeverFall, Steps};
+ghost use Rattle.bdb_keep.specs.Calls.{IsWrite};
 ghost use Rattle.bdb_tables.specs.Holds.{IsStatement};
 ghost use Rattle.bdb_tables.specs.Statements.{MayBeStatement, with_row, without_row, with_rows, without_rows};
 
@@ -19,10 +19,8 @@ pub fn put_statement<K: Keeper>(alloc: Global, keeper: &mut K, stmt: &Stmt) -> R
     requires statement { MayBeStatement stmt.now }
     ensures kept { OnOk result ((K.seen keeper.new).kept ≡ with_row (K.seen keeper.old).kept stmt.now) }
     ensures fits { OnOk result (IsStatement stmt.now) }
-    ensures reads { (K.seen keeper.new).reads ≡ (K.seen keeper.old).reads }
     ensures writes { OnOk result (RoseBy 1 (K.seen keeper.old).writes (K.seen keeper.new).writes) }
-    ensures counts { NeverFall (K.seen keeper.old) (K.seen keeper.new) }
-    ensures steps { Steps (K.seen keeper.old) (K.seen keeper.new) result TabError.Fault }
+    ensures write { IsWrite (K.seen keeper.old) (K.seen keeper.new) result TabError.Fault }
 {
     let key = match key_of(alloc, stmt) {
         Ok(key) => key,
@@ -47,10 +45,8 @@ pub fn put_statements<K: Keeper>(
     requires statements { AllByRecursion MayBeStatement stmts.now }
     ensures kept { OnOk result ((K.seen keeper.new).kept ≡ with_rows (K.seen keeper.old).kept stmts.now) }
     ensures fits { OnOk result (AllByRecursion IsStatement stmts.now) }
-    ensures reads { (K.seen keeper.new).reads ≡ (K.seen keeper.old).reads }
     ensures writes { OnOk result (Rises (length stmts.now) (K.seen keeper.old).writes (K.seen keeper.new).writes) }
-    ensures counts { NeverFall (K.seen keeper.old) (K.seen keeper.new) }
-    ensures steps { Steps (K.seen keeper.old) (K.seen keeper.new) result TabError.Fault }
+    ensures write { IsWrite (K.seen keeper.old) (K.seen keeper.new) result TabError.Fault }
 {
     for stmt in stmts {
         match put_statement(alloc, keeper, stmt) {
@@ -70,10 +66,8 @@ pub fn drop_statements<K: Keeper>(
     requires running { (K.seen keeper.old).running ≡ true }
     requires statements { AllByRecursion MayBeStatement stmts.now }
     ensures kept { OnOk result ((K.seen keeper.new).kept ≡ without_rows (K.seen keeper.old).kept stmts.now) }
-    ensures reads { (K.seen keeper.new).reads ≡ (K.seen keeper.old).reads }
     ensures writes { OnOk result (Rises (length stmts.now) (K.seen keeper.old).writes (K.seen keeper.new).writes) }
-    ensures counts { NeverFall (K.seen keeper.old) (K.seen keeper.new) }
-    ensures steps { Steps (K.seen keeper.old) (K.seen keeper.new) result TabError.Fault }
+    ensures write { IsWrite (K.seen keeper.old) (K.seen keeper.new) result TabError.Fault }
 {
     for stmt in stmts {
         match drop_statement(alloc, keeper, stmt) {
@@ -89,10 +83,8 @@ fn drop_statement<K: Keeper>(alloc: Global, keeper: &mut K, stmt: &Stmt) -> Resu
     requires running { (K.seen keeper.old).running ≡ true }
     requires statement { MayBeStatement stmt.now }
     ensures kept { OnOk result ((K.seen keeper.new).kept ≡ without_row (K.seen keeper.old).kept stmt.now) }
-    ensures reads { (K.seen keeper.new).reads ≡ (K.seen keeper.old).reads }
     ensures writes { OnOk result (RoseBy 1 (K.seen keeper.old).writes (K.seen keeper.new).writes) }
-    ensures counts { NeverFall (K.seen keeper.old) (K.seen keeper.new) }
-    ensures steps { Steps (K.seen keeper.old) (K.seen keeper.new) result TabError.Fault }
+    ensures write { IsWrite (K.seen keeper.old) (K.seen keeper.new) result TabError.Fault }
 {
     let key = match key_of(alloc, stmt) {
         Ok(key) => key,

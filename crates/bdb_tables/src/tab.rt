@@ -7,13 +7,16 @@ ghost use Rattle.bdb_tables.specs.Grammar.{IsEntry};
 
 use bdb_key::{KeyError, RowError};
 use std::alloc::{AllocError, Global};
+use thiserror::Error;
 
 /// Why a table was not read or written. After either no transaction runs, and the rows are those last committed.
-#[derive(Clone, Copy, Debug, PartialEq, Eq, Drop)]
+#[derive(Clone, Copy, Debug, PartialEq, Eq, Drop, Error)]
 pub enum TabError {
     /// The store failed. The keeper's count of faults rose.
+    #[error("the store failed")]
     Fault,
     /// There is no memory.
+    #[error("out of memory")]
     Memory,
 }
 

@@ -2,7 +2,7 @@
 ghost use Rattle.std.specs.Prelude.{ℕ, refl};
 ghost use Rattle.std.proofs.Common.{rules};
 ghost use Rattle.bdb_tables.specs.InUse.{meta_codec, user_codec, rel_codec, plain_codec};
-ghost use Rattle.bdb_tables.specs.InUseLaws.{users_in_order, rels_in_order, plain_in_order, meta_key, user_key, rel_key, plain_key, meta_row, user_row, rel_row, plain_row};
+ghost use Rattle.bdb_tables.specs.InUseLaws.{numbers_in_order, numbers_are_one, plains_in_order, plains_are_one, only_key_is_one, number_rows_are_one, text_rows_are_one, rel_rows_are_one, sign_rows_are_one};
 
 use crate::tab::Tab;
 use bdb_base::{Path, RelDef, Sign, Tuple, Txt};
@@ -62,9 +62,9 @@ impl Tab for MetaTab {
 
     ghost in_order = { λ _ _ _ _. refl };
 
-    ghost one_key = { meta_key };
+    ghost one_key = { only_key_is_one };
 
-    ghost one_row = { meta_row };
+    ghost one_row = { number_rows_are_one };
 
     ghost entry = { λ _ _ h. h };
 
@@ -107,11 +107,11 @@ impl Tab for UserTab {
 
     ghost number_ok = { Prim.search rules };
 
-    ghost in_order = { users_in_order };
+    ghost in_order = { numbers_in_order };
 
-    ghost one_key = { user_key };
+    ghost one_key = { numbers_are_one };
 
-    ghost one_row = { user_row };
+    ghost one_row = { text_rows_are_one };
 
     ghost entry = { λ _ _ h. h };
 
@@ -154,11 +154,11 @@ impl Tab for RelTab {
 
     ghost number_ok = { Prim.search rules };
 
-    ghost in_order = { rels_in_order };
+    ghost in_order = { numbers_in_order };
 
-    ghost one_key = { rel_key };
+    ghost one_key = { numbers_are_one };
 
-    ghost one_row = { rel_row };
+    ghost one_row = { rel_rows_are_one };
 
     ghost entry = { λ _ _ h. h };
 
@@ -207,11 +207,11 @@ impl Tab for PlainTab {
 
     ghost number_ok = { Prim.search rules };
 
-    ghost in_order = { plain_in_order };
+    ghost in_order = { plains_in_order };
 
-    ghost one_key = { plain_key };
+    ghost one_key = { plains_are_one };
 
-    ghost one_row = { plain_row };
+    ghost one_row = { sign_rows_are_one };
 
     ghost entry = { λ _ _ h. h };
 

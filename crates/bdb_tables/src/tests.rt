@@ -1,7 +1,7 @@
 // Tests of tables over a keeper in memory.
 ghost use Rattle.std.specs.Prelude.{◌≡◌, true, length, ◌<◌, IfOk};
 ghost use Rattle.bdb_tables.specs.Grammar.{InGrammar};
-ghost use Rattle.bdb_key.specs.Grammar.{IsPlain};
+ghost use Rattle.bdb_key.specs.Grammar.{HasPlainText, IsPlain};
 ghost use Rattle.bdb_tables.specs.InUse.{MayBePlain};
 
 use super::*;
@@ -76,6 +76,55 @@ fn ask_next<K: Keeper>(
     )
 }
 
+/// Writes four marks, of which the last takes the first away, and reads the world's rows.
+fn marks_of_a_world<K: Keeper>(
+    alloc: Global,
+    keeper: &mut K,
+    value: &Value,
+) -> Result<bool, TabError>
+    requires running { (K.seen keeper.old).running ≡ true }
+    requires grammar { InGrammar (K.seen keeper.old).kept }
+    requires value { HasPlainText value.now }
+{
+    let mut room = Room::new(alloc);
+    write_mark(keeper, &mut room, 0, 0, value, 0, Some((Sign::Plus, true)))?;
+    write_mark(
+        keeper,
+        &mut room,
+        0,
+        0,
+        value,
+        7,
+        Some((Sign::Minus, false)),
+    )?;
+    write_mark(keeper, &mut room, 1, 0, value, 0, Some((Sign::Plus, false)))?;
+    write_mark(keeper, &mut room, 0, 0, value, 0, None)?;
+    let rows = rows_under::<ValTab, K>(alloc, keeper, &[0, 0, 0, 0, 0, 0, 0, 0])?;
+    match rows.as_slice() {
+        [(key, mark)] => Ok(key.0 == 0 && key.3 == 7 && mark.0 == Sign::Minus && !mark.1),
+        _ => Ok(false),
+    }
+}
+
+/// Writes edges in one call, of which the last goes again, and reads those of a world.
+fn edges_of_a_world<K: Keeper>(alloc: Global, keeper: &mut K) -> Result<bool, TabError>
+    requires running { (K.seen keeper.old).running ≡ true }
+    requires grammar { InGrammar (K.seen keeper.old).kept }
+{
+    let changes = [
+        ((0, 1), Some(1)),
+        ((0, 2), Some(5)),
+        ((1, 2), Some(0)),
+        ((0, 1), None),
+    ];
+    write_rows::<EdgeTab, K>(alloc, keeper, &changes)?;
+    let rows = rows_under::<EdgeTab, K>(alloc, keeper, &[0, 0, 0, 0])?;
+    match rows.as_slice() {
+        [(key, target)] => Ok(key.1 == 2 && *target == 5),
+        _ => Ok(false),
+    }
+}
+
 /// A key of a statement.
 fn key_of(alloc: Global, users: &[u32], number: i64) -> Result<(Path, Tuple), Fail>
     requires { length users.now < 16 }
@@ -112,5 +161,40 @@ fn what_comes_next_is_found(rt: HostRuntime) -> Result<(), Fail> {
         ask_next(alloc, &mut keeper, &low, &between, &high, &beyond),
         Ok(true)
     );
+    Ok(())
+}
+
+#[test]
+fn rows_of_a_world_are_found(rt: HostRuntime) -> Result<(), Fail> {
+    let alloc = rt.alloc();
+    let value = Value::Int(1);
+    let mut keeper = QuietKeeper::new(alloc);
+    assert!(rt; keeper.begin().is_ok());
+    assert_eq!(rt; marks_of_a_world(alloc, &mut keeper, &value), Ok(true));
+    Ok(())
+}
+
+#[test]
+fn edges_of_a_world_are_found(rt: HostRuntime) -> Result<(), Fail> {
+    let alloc = rt.alloc();
+    let mut keeper = QuietKeeper::new(alloc);
+    assert!(rt; keeper.begin().is_ok());
+    assert_eq!(rt; edges_of_a_world(alloc, &mut keeper), Ok(true));
+    Ok(())
+}
+
+#[test]
+fn writes_the_worked_keys(rt: HostRuntime) -> Result<(), Fail> {
+    let alloc = rt.alloc();
+    let text = Txt::try_new(alloc, "s1")?;
+    let mut out = Vec::new(alloc);
+    ValTab::key_bytes(&(0, 0, Value::Text(text), 0), &mut out)?;
+    let want: &[u8] = b"\0\0\0\0\0\0\0\0\x02s1\0\0\0\0\0";
+    assert_eq!(rt; out.as_slice(), want);
+    out.clear();
+    EdgeIx::key_bytes(&(1, 256, 2), &mut out)?;
+    put_pair(&mut out, 7, 1 << 24)?;
+    let want: &[u8] = b"\0\0\0\x01\0\0\x01\0\0\0\0\x02\0\0\0\x07\x01\0\0\0";
+    assert_eq!(rt; out.as_slice(), want);
     Ok(())
 }

@@ -1,6 +1,6 @@
 use Rattle.std.proofs.Common.{take}
 use Rattle.bdb_tables.specs.Opening.{IsHeld}
-use Rattle.bdb_tables.proofs.Reading.{IsReading}
+use Rattle.bdb_tables.proofs.Loops.{IsReading}
 use Rattle.bdb_tables.proofs.opening.read_relations.Given as goal
 
 abbrev pub invariant-loop-rel : goal.invariant-loop-rel

@@ -1,6 +1,6 @@
 use Rattle.std.proofs.Common.{take}
 use Rattle.bdb_tables.specs.Opening.{IsHeld}
-use Rattle.bdb_tables.proofs.Reading.{IsReading}
+use Rattle.bdb_tables.proofs.Loops.{IsReading}
 use Rattle.bdb_tables.proofs.Stated.{IsNext}
 use Rattle.bdb_tables.proofs.opening.read_statements.Given as goal
 

@@ -8,12 +8,12 @@ next-requires-clause-grammar g c = plain_fits _ (c.in_ok-put-2.ensures.grammar (
 
 pub next-requires-2-clause-grammar : goal.next-requires-2-clause-grammar
 next-requires-2-clause-grammar g c =
-    plain_fits _ (subst InGrammar (sym c.in_ok-at_low.ensures.kept) (c.in_ok-put-2.ensures.grammar (c.in_ok-put.ensures.grammar c.requires.grammar)))
+    plain_fits _ (subst InGrammar (sym c.in_ok-at_low.ensures.read.kept) (c.in_ok-put-2.ensures.grammar (c.in_ok-put.ensures.grammar c.requires.grammar)))
 
 pub next-requires-3-clause-grammar : goal.next-requires-3-clause-grammar
 next-requires-3-clause-grammar g c =
-    plain_fits _ (subst InGrammar (sym (c.in_ok-at_between.ensures.kept ∙ c.in_ok-at_low.ensures.kept)) (c.in_ok-put-2.ensures.grammar (c.in_ok-put.ensures.grammar c.requires.grammar)))
+    plain_fits _ (subst InGrammar (sym (c.in_ok-at_between.ensures.read.kept ∙ c.in_ok-at_low.ensures.read.kept)) (c.in_ok-put-2.ensures.grammar (c.in_ok-put.ensures.grammar c.requires.grammar)))
 
 pub next-requires-4-clause-grammar : goal.next-requires-4-clause-grammar
 next-requires-4-clause-grammar g c =
-    plain_fits _ (subst InGrammar (sym (c.in_ok-at_high.ensures.kept ∙ (c.in_ok-at_between.ensures.kept ∙ c.in_ok-at_low.ensures.kept))) (c.in_ok-put-2.ensures.grammar (c.in_ok-put.ensures.grammar c.requires.grammar)))
+    plain_fits _ (subst InGrammar (sym (c.in_ok-at_high.ensures.read.kept ∙ (c.in_ok-at_between.ensures.read.kept ∙ c.in_ok-at_low.ensures.read.kept))) (c.in_ok-put-2.ensures.grammar (c.in_ok-put.ensures.grammar c.requires.grammar)))

@@ -1,0 +1,92 @@
+-- Bytes that begin alike lie side by side in the order of bytes.
+use Rattle.std.proofs.Common.{◌≡◌, ℕ, true, false, List, [], ◌∷◌, refl, sym, ap, ◌∙◌, arith}
+use Rattle.std.specs.Prelude.{nat_eq, ◌&&◌}
+use Rattle.std.specs.FinMap.{nat_cmp-IsAntisymmetric}
+use Rattle.std.specs.declared.cmp.Ordering.{Ordering}
+use Rattle.std.specs.declared.cmp.Ordering.TheVariants.{Less, Equal, Greater}
+use Rattle.std.specs.Ordering.{is_le, nat_cmp, ordering_then, ordering_reverse}
+use Rattle.std.proofs.lemmas.Bool.{and_parts, and_from, eqb-true}
+use Rattle.std.proofs.lemmas.Cmp.{nat_list_cmp_total, nat_cmp_total, tied_itself}
+use Rattle.bdb_base.specs.Segments.{is_prefix}
+use Rattle.bdb_keep.specs.Tables.{bytes_cmp}
+use Rattle.bdb_keep.specs.Scans.{next_key}
+use Rattle.bdb_keep.proofs.Scans.{above_key}
+use Rattle.bdb_key.proofs.Forms.{same_bytes}
+use Rattle.bdb_key.proofs.Numbers.{equal}
+
+-- ---- the order of bytes
+
+pub le_itself : (a : List ℕ) → is_le (bytes_cmp a a) ≡ true
+le_itself a = ap is_le (tied_itself nat_list_cmp_total a)
+
+pub lt_le_lt : (a b c : List ℕ) → bytes_cmp a b ≡ Less → is_le (bytes_cmp b c) ≡ true → bytes_cmp a c ≡ Less
+lt_le_lt a b c lt le = by (bytes_cmp b c) refl le
+  where
+    by : (r : Ordering) → bytes_cmp b c ≡ r → is_le r ≡ true → bytes_cmp a c ≡ Less
+    by Less e h = nat_list_cmp_total.trans a b c lt e
+    by Equal e h = ap (bytes_cmp a) (sym (same_bytes b c e)) ∙ lt
+    by Greater e h = absurd cc
+
+pub le_trans : (a b c : List ℕ) → is_le (bytes_cmp a b) ≡ true → is_le (bytes_cmp b c) ≡ true → is_le (bytes_cmp a c) ≡ true
+le_trans a b c ab bc = by (bytes_cmp a b) refl ab
+  where
+    by : (r : Ordering) → bytes_cmp a b ≡ r → is_le r ≡ true → is_le (bytes_cmp a c) ≡ true
+    by Less e h = ap is_le (lt_le_lt a b c e bc)
+    by Equal e h = ap (λ x. is_le (bytes_cmp x c)) (same_bytes a b e) ∙ bc
+    by Greater e h = absurd cc
+
+-- what isn't from a place on lies below it
+pub lt_from_not_le : (a b : List ℕ) → is_le (bytes_cmp a b) ≡ false → bytes_cmp b a ≡ Less
+lt_from_not_le a b h = nat_list_cmp_total.antisymm b a ∙ by (bytes_cmp a b) h
+  where
+    by : (r : Ordering) → is_le r ≡ false → ordering_reverse r ≡ Less
+    by Less e = absurd cc
+    by Equal e = absurd cc
+    by Greater e = refl
+
+pub not_le_from_lt : (a b : List ℕ) → bytes_cmp b a ≡ Less → is_le (bytes_cmp a b) ≡ false
+not_le_from_lt a b h = ap is_le (nat_list_cmp_total.antisymm a b ∙ ap ordering_reverse h)
+
+-- a key lies below the least that is above it
+pub below_next : (k : List ℕ) → bytes_cmp k (next_key k) ≡ Less
+below_next k = above_key k (next_key k) (le_itself (next_key k))
+
+-- ---- beginnings
+
+pub prefix_itself : (p : List ℕ) → is_prefix p p ≡ true
+prefix_itself [] = refl
+prefix_itself (i ∷ p) = and_from (nat_eq i i) (is_prefix p p) (nat_same i) (prefix_itself p)
+  where
+    nat_same : (n : ℕ) → nat_eq n n ≡ true
+    nat_same n = grind arith
+
+pub prefix_le : (p q : List ℕ) → is_prefix p q ≡ true → is_le (bytes_cmp p q) ≡ true
+prefix_le [] [] h = refl
+prefix_le [] (j ∷ q) h = refl
+prefix_le (i ∷ p) [] h = absurd cc
+prefix_le (i ∷ p) (j ∷ q) h =
+    let both = and_parts (nat_eq i j) (is_prefix p q) h in
+    let same : i ≡ j = eqb-true i j both.0 in
+    ap (λ o. is_le (ordering_then o (bytes_cmp p q))) (ap (λ n. nat_cmp n j) same ∙ equal j) ∙ prefix_le p q both.1
+
+-- what lies between a beginning and bytes that begin so begins so too
+pub prefix_convex : (p k q : List ℕ) → is_prefix p q ≡ true → is_le (bytes_cmp p k) ≡ true → is_le (bytes_cmp k q) ≡ true → is_prefix p k ≡ true
+prefix_convex [] k q h pk kq = refl
+prefix_convex (i ∷ p) k [] h pk kq = absurd cc
+prefix_convex (i ∷ p) [] (j ∷ q) h pk kq = absurd cc
+prefix_convex (i ∷ p) (m ∷ k) (j ∷ q) h pk kq = by (prefix_convex p k q both.1) (nat_cmp i m) refl pk turned
+  where
+    both : (nat_eq i j ≡ true) × (is_prefix p q ≡ true)
+    both = and_parts (nat_eq i j) (is_prefix p q) h
+
+    turned : is_le (ordering_then (ordering_reverse (nat_cmp i m)) (bytes_cmp k q)) ≡ true
+    turned = ap (λ o. is_le (ordering_then o (bytes_cmp k q))) (sym (ap (nat_cmp m) (sym (eqb-true i j both.0)) ∙ nat_cmp_total.antisymm m i)) ∙ kq
+
+    here : i ≡ m → nat_eq i m ≡ true
+    here e = grind arith
+
+    by : (is_le (bytes_cmp p k) ≡ true → is_le (bytes_cmp k q) ≡ true → is_prefix p k ≡ true) → (r : Ordering) → nat_cmp i m ≡ r → is_le (ordering_then r (bytes_cmp p k)) ≡ true
+        → is_le (ordering_then (ordering_reverse r) (bytes_cmp k q)) ≡ true → nat_eq i m && is_prefix p k ≡ true
+    by more Less e a b = absurd cc
+    by more Greater e a b = absurd cc
+    by more Equal e a b = and_from (nat_eq i m) (is_prefix p k) (here (nat_cmp-IsAntisymmetric i m e)) (more a b)

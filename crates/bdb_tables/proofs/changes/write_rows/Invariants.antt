@@ -1,0 +1,15 @@
+use Rattle.std.proofs.Common.{◌≡◌, take, drop}
+use Rattle.std.specs.List.{AllByRecursion}
+use Rattle.bdb_base.specs.Causes.{Rises}
+use Rattle.bdb_tables.specs.Grammar.{InGrammar}
+use Rattle.bdb_tables.specs.Writes.{IsChange, with_changes}
+use Rattle.bdb_tables.proofs.Loops.{IsWriting}
+use Rattle.bdb_tables.proofs.changes.write_rows.Given as goal
+
+abbrev pub invariant-loop-change : goal.invariant-loop-change
+invariant-loop-change g l = IsWriting (g.K.Keeper.seen l.fn.keeper) (g.K.Keeper.seen l.keeper) (record {
+  left : with_changes g.T.Tab.codec (g.K.Keeper.seen l.keeper).kept (drop l.change-index l.changes) ≡ with_changes g.T.Tab.codec (g.K.Keeper.seen l.fn.keeper).kept l.changes;
+  fits : AllByRecursion (IsChange g.T.Tab.codec) (take l.change-index l.changes);
+  grammar : InGrammar (g.K.Keeper.seen l.fn.keeper).kept → InGrammar (g.K.Keeper.seen l.keeper).kept;
+  writes : Rises l.change-index (g.K.Keeper.seen l.fn.keeper).writes (g.K.Keeper.seen l.keeper).writes;
+})

@@ -1,0 +1,38 @@
+use Rattle.std.proofs.Common.{◌≡◌, ◌+◌, ◌≤◌, ◌++◌, [], ◌∷◌, length, sym, ap, subst, ◌∙◌, arith, rules}
+use Rattle.std.proofs.lemmas.List.{length_push}
+use Rattle.bdb_tables.specs.Codec.{TableFits}
+use Rattle.bdb_tables.specs.declared.tab.TabError.TheVariants.{Fault}
+use Rattle.bdb_tables.proofs.Loops.{reading_more}
+use Rattle.bdb_tables.proofs.SpanLemmas.{Covers, covers_none, rows_more, rows_end}
+use Rattle.bdb_tables.proofs.spans.rows_under.Goals as goal
+
+pub loop-init : goal.loop-init
+loop-init g c =
+    let t = (g.K.Keeper.seen c.args.keeper.now).kept in
+    let low = c.in-Ok.ensures.items_if_clones_equal (λ x y e. e) in
+    let covers = subst (λ l. Covers g.T.Tab.codec t c.args.prefix.now l c.new-rows.result.items) (sym low)
+    (covers_none g.T.Tab.codec t c.args.prefix.now c.new-rows.result.items c.new-rows.ensures.items) in
+    record { goes = search rules; kept = search rules; writes = search rules; counts = search rules; read = (covers, omega arith) }
+
+pub next_under-requires-clause-grammar : goal.next_under-requires-clause-grammar
+next_under-requires-clause-grammar g c = subst (TableFits g.T.Tab.codec) (sym c.loop.invariant.kept) c.requires.grammar
+
+pub returns-in-Ok-None-clause-rows : goal.returns-in-Ok-None-clause-rows
+returns-in-Ok-None-clause-rows g c =
+    rows_end g.T.Tab.codec (g.K.Keeper.seen c.args.keeper.now).kept (g.K.Keeper.seen c.loop.keeper).kept c.args.prefix.now c.loop.low.items c.next_under.new.low.items c.loop.rows.items c.in-Ok-None.field-0
+    c.loop.invariant.kept c.in-Ok-None.field-0-is c.loop.invariant.read.0 c.in-Ok-None.ensures.found
+
+pub loop-preserved : goal.loop-preserved
+loop-preserved g c =
+    let old = g.K.Keeper.seen c.args.keeper.now in
+    let now = g.K.Keeper.seen c.loop.keeper in
+    let new = g.K.Keeper.seen c.next_under.new.keeper in
+    let e = c.in-Ok-Some.entry in
+    let h = c.loop.invariant in
+    let pushed : c.push.new.self.items ≡ c.loop.rows.items ++ e ∷ [] = search rules in
+    let more = rows_more g.T.Tab.codec old.kept now.kept c.args.prefix.now c.loop.low.items c.next_under.new.low.items c.loop.rows.items c.in-Ok-Some.field-0 e h.kept c.in-Ok-Some.field-0-is h.read.0 c.in-Ok-Some.ensures.found in
+    let count : length c.push.new.self.items ≡ length c.loop.rows.items + 1 = ap length pushed ∙ length_push c.loop.rows.items e in
+    let within : now.reads ≤ old.reads + length c.loop.rows.items = h.read.1 in
+    let reads : new.reads ≤ old.reads + length c.push.new.self.items = omega (arith, c.in-Ok-Some.ensures.reads, within, count) in
+    reading_more old now new c.in-Ok-Some.field-0 Fault h c.in-Ok-Some.ensures.read
+    (subst (Covers g.T.Tab.codec old.kept c.args.prefix.now c.next_under.new.low.items) (sym pushed) more, reads)

@@ -1,0 +1,91 @@
+// Reading the rows whose keys begin with some bytes.
+ghost use Rattle.std.specs.Prelude.{◌≡◌, ◌+◌, ◌≤◌, true, IfOk, OnOk, length};
+ghost use Rattle.std.specs.Ordering.{is_le};
+ghost use Rattle.bdb_base.specs.Causes.{RoseBy};
+ghost use Rattle.bdb_keep.specs.Calls.{IsRead};
+ghost use Rattle.bdb_keep.specs.Tables.{bytes_cmp};
+ghost use Rattle.bdb_tables.specs.Codec.{TableFits};
+ghost use Rattle.bdb_tables.specs.Spans.{AreUnder, HasNextUnder};
+
+use crate::access::{entry_from, told};
+use crate::tab::{Tab, TabError};
+use bdb_keep::Keeper;
+use std::alloc::Global;
+use std::mem;
+
+/// The rows whose keys begin with these bytes, in order. One read more than there are rows.
+pub fn rows_under<T: Tab, K: Keeper>(
+    alloc: Global,
+    keeper: &mut K,
+    prefix: &[u8],
+) -> Result<Vec<(T::Key, T::Row)>, TabError>
+    requires grammar { TableFits T.codec (K.seen keeper.old).kept }
+    ensures rows { IfOk result (λ rows. AreUnder T.codec (K.seen keeper.old).kept prefix.now rows.items) }
+    ensures reads { IfOk result (λ rows. (K.seen keeper.new).reads ≤ (K.seen keeper.old).reads + (length rows.items + 1)) }
+    ensures read { IsRead (K.seen keeper.old) (K.seen keeper.new) result TabError.Fault }
+{
+    let mut rows = Vec::new(alloc);
+    let mut key = Vec::new(alloc);
+    let mut row = Vec::new(alloc);
+    let mut low = match prefix.to_vec(alloc) {
+        Ok(low) => low,
+        Err(_) => {
+            keeper.undo();
+            return Err(TabError::Memory);
+        }
+    };
+    for _ in 0..u64::MAX {
+        match next_under::<T, K>(alloc, keeper, prefix, &mut low, &mut key, &mut row) {
+            Ok(Some(entry)) => {
+                if rows.push(entry).is_err() {
+                    keeper.undo();
+                    return Err(TabError::Memory);
+                }
+            }
+            Ok(None) => return Ok(rows),
+            Err(error) => return Err(error),
+        }
+    }
+    keeper.undo();
+    Err(TabError::Memory)
+}
+
+// The first row from `low` on whose key begins with these bytes. Where there is one, `low` becomes what lies right behind
+// its key. `key` and `row` are room for bytes.
+fn next_under<T: Tab, K: Keeper>(
+    alloc: Global,
+    keeper: &mut K,
+    prefix: &[u8],
+    low: &mut Vec<u8>,
+    key: &mut Vec<u8>,
+    row: &mut Vec<u8>,
+) -> Result<Option<(T::Key, T::Row)>, TabError>
+    requires grammar { TableFits T.codec (K.seen keeper.old).kept }
+    requires from { is_le (bytes_cmp prefix.now low.old.items) ≡ true }
+    ensures found { IfOk result (HasNextUnder T.codec (K.seen keeper.old).kept prefix.now low.old.items low.new.items) }
+    ensures reads { OnOk result (RoseBy 1 (K.seen keeper.old).reads (K.seen keeper.new).reads) }
+    ensures read { IsRead (K.seen keeper.old) (K.seen keeper.new) result TabError.Fault }
+{
+    match keeper.next(T::NUMBER, low, key, row) {
+        Ok(true) => {}
+        Ok(false) => return Ok(None),
+        Err(error) => return Err(told(error)),
+    }
+    if !key.starts_with(prefix) {
+        return Ok(None);
+    }
+    match entry_from::<T>(alloc, key, row) {
+        Ok(entry) => {
+            if key.push(0).is_err() {
+                keeper.undo();
+                return Err(TabError::Memory);
+            }
+            mem::swap(low, key);
+            Ok(Some(entry))
+        }
+        Err(_) => {
+            keeper.undo();
+            Err(TabError::Memory)
+        }
+    }
+}
