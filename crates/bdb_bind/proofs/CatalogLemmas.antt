@@ -7,6 +7,7 @@ use Rattle.bdb_base.specs.declared.kinds.Catalog.{Catalog}
 use Rattle.bdb_base.specs.declared.kinds.RelDef.{RelDef}
 use Rattle.bdb_base.specs.declared.kinds.Sign.{Sign}
 use Rattle.bdb_base.specs.declared.kinds.Value.{Value}
+use Rattle.bdb_base.specs.Limits.{most_users, most_relations, most_columns}
 use Rattle.bdb_base.specs.Alternation.{alternates}
 use Rattle.bdb_base.specs.Bases.{IsCatalog, is_valid_relation}
 use Rattle.bdb_base.specs.Same.{same_text}
@@ -20,10 +21,10 @@ use Rattle.bdb_bind.proofs.Founds.{IsFound, found, is_there}
 use Rattle.bdb_bind.proofs.PathLemmas.{path_alternates}
 use Rattle.bdb_bind.proofs.Cleared.{cleared, neither, users_known, names_apart, not_refused}
 
-pub users_few : (c : Catalog) → IsCatalog c → length c.users ≤ 256
+pub users_few : (c : Catalog) → IsCatalog c → length c.users ≤ most_users
 users_few c valid = leb-true (length c.users) 256 valid.few_users
 
-pub relations_few : (c : Catalog) → IsCatalog c → length c.rels ≤ 64
+pub relations_few : (c : Catalog) → IsCatalog c → length c.rels ≤ most_relations
 relations_few c valid = leb-true (length c.rels) 64 valid.few_rels
 
 pub all_at : {X : Type 0} (p : X → Bool) (xs : List X) (at : ℕ) (x : X) → list_all p xs ≡ true → slice_get xs at ≡ Some x → p x ≡ true
@@ -32,14 +33,14 @@ all_at p (y ∷ ys) zero x all there =
     let here = and_parts (p y) (list_all p ys) all in let same : y ≡ x = cc in ap p (sym same) ∙ here.0
 all_at p (y ∷ ys) (suc at) x all there = all_at p ys at x (and_parts (p y) (list_all p ys) all).1 there
 
--- a valid relation has one to 16 columns
-pub columns_within : (def : RelDef) → is_valid_relation def ≡ true → (0 < length def.cols) × (length def.cols ≤ 16)
+-- a valid relation has a column, and not too many
+pub columns_within : (def : RelDef) → is_valid_relation def ≡ true → (0 < length def.cols) × (length def.cols ≤ most_columns)
 columns_within def valid =
     let counts = and_parts (nat_lt 0 (length def.cols) && nat_le (length def.cols) 16) _ valid in
     let both = and_parts (nat_lt 0 (length def.cols)) (nat_le (length def.cols) 16) counts.0 in
     (ltb-true 0 (length def.cols) both.0, leb-true (length def.cols) 16 both.1)
 
-few_of : (rels : List RelDef) (name : List ℕ) → list_all is_valid_relation rels ≡ true → length (columns_of rels name) ≤ 16
+few_of : (rels : List RelDef) (name : List ℕ) → list_all is_valid_relation rels ≡ true → length (columns_of rels name) ≤ most_columns
 few_of [] name valid = omega arith
 few_of (r ∷ rs) name valid =
     let parts = and_parts (is_valid_relation r) (list_all is_valid_relation rs) valid in
@@ -49,7 +50,7 @@ few_of (r ∷ rs) name valid =
       | inr other ↦ subst Few (sym (cond-false (same_text r.name name) (Some r) (find (λ x. same_text x.name name) rs) other)) (few_of rs name parts.1)
     ]
 
-pub columns_few : (c : Catalog) (name : List ℕ) → IsCatalog c → length (columns_of c.rels name) ≤ 16
+pub columns_few : (c : Catalog) (name : List ℕ) → IsCatalog c → length (columns_of c.rels name) ≤ most_columns
 columns_few c name valid = few_of c.rels name valid.rels_valid
 
 -- the relation of a name that is found, and its number
@@ -88,22 +89,22 @@ insert_filled catalog users sign rel vals valid accepted =
     let counted = insert_arity catalog users sign rel vals clear.arity in
     omega (arith, ap length same)
 
-placed : (c : Catalog) (name : Option (List ℕ)) (at : ℕ) → IsCatalog c → option_and_then (number_of c.rels) name ≡ Some at → at < 64
+placed : (c : Catalog) (name : Option (List ℕ)) (at : ℕ) → IsCatalog c → option_and_then (number_of c.rels) name ≡ Some at → at < most_relations
 placed c None at valid same = cc
 placed c (Some name) at valid same =
     let f = found (λ r. same_text r.name name) 0 c.rels at same in
     let few = relations_few c valid in
     omega (arith, f.place, f.within)
 
--- the place of the relation that a change names is below 64
-pub place_few : (c : Catalog) (cmd : Command) (place : Option ℕ) → IsCatalog c → place ≡ relation_place c.rels cmd → IfSome place (λ at. at < 64)
+-- the place of the relation that a change names is below the most relations
+pub place_few : (c : Catalog) (cmd : Command) (place : Option ℕ) → IsCatalog c → place ≡ relation_place c.rels cmd → IfSome place (λ at. at < most_relations)
 place_few c cmd None valid same = tt
 place_few c cmd (Some at) valid same = placed c (relation_name cmd) at valid (sym same)
 
-few_for : (c : Catalog) (name : Option (List ℕ)) → IsCatalog c → length (columns_for c.rels name) ≤ 16
+few_for : (c : Catalog) (name : Option (List ℕ)) → IsCatalog c → length (columns_for c.rels name) ≤ most_columns
 few_for c None valid = omega arith
 few_for c (Some name) valid = columns_few c name valid
 
 -- a change has few columns
-pub change_columns_few : (c : Catalog) (cmd : Command) → IsCatalog c → length (change_columns c.rels cmd) ≤ 16
+pub change_columns_few : (c : Catalog) (cmd : Command) → IsCatalog c → length (change_columns c.rels cmd) ≤ most_columns
 change_columns_few c cmd valid = few_for c (relation_name cmd) valid

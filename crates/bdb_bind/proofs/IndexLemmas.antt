@@ -20,7 +20,7 @@ pushed p start (y ∷ ys) x n many = elim (cases_Bool (p y)) [
       ∙ sym (ap (λ o. option_or o (cond (p x) (Some n) None)) (cond-false (p y) (Some start) (position_from p (start + 1) ys) other))
 ]
 
-place_more : {X : Type 0} (p : X → Bool) (xs : List X) (at : ℕ) (x : X) → at < length xs → x ≡ get_or xs at x
+pub place_more : {X : Type 0} (p : X → Bool) (xs : List X) (at : ℕ) (x : X) → at < length xs → x ≡ get_or xs at x
     → position_from p 0 (take (at + 1) xs) ≡ option_or (position_from p 0 (take at xs)) (cond (p x) (Some at) None)
 place_more p xs at x below item =
     let more : take (at + 1) xs ≡ take at xs ++ x ∷ [] = take_more xs at x below ∙ ap (λ y. take at xs ++ y ∷ []) (sym item) in

@@ -1,3 +1,4 @@
+pub mod AliasLemmas
 pub mod BoundLemmas
 pub mod CatalogLemmas
 pub mod Cleared
@@ -11,6 +12,7 @@ pub mod Misfits
 pub mod PathLemmas
 pub mod PlaceLemmas
 pub mod QueryFitting
+pub mod RefusalLemmas
 pub mod Repeats
 pub mod SafeLemmas
 pub mod SafetyLemmas

@@ -3,7 +3,6 @@ use Rattle.std.proofs.Common.{◌≡◌, ◌∙◌, ℕ, ◌<◌, ◌≤◌, ◌
 use Rattle.std.specs.Option.{option_and_then}
 use Rattle.std.specs.List.{list_all, slice_get}
 use Rattle.std.proofs.lemmas.Bool.{and_from, and_parts, or_parts, ltb-true, ltb-false, lt-ltb}
-use Rattle.std.proofs.lemmas.List.{length-map}
 use Rattle.bdb_base.specs.declared.kinds.Catalog.{Catalog}
 use Rattle.bdb_base.specs.declared.kinds.Query.{Query}
 use Rattle.bdb_base.specs.declared.kinds.RelDef.{RelDef}
@@ -11,13 +10,9 @@ use Rattle.bdb_base.specs.Bases.{IsCatalog, is_valid_relation}
 use Rattle.bdb_base.specs.Queries.{columns_of_definition, columns_at}
 use Rattle.bdb_base.specs.Safety.{query_fits}
 use Rattle.bdb_syntax.specs.declared.command.Command.{Command}
-use Rattle.bdb_syntax.specs.declared.command.Command.TheVariants.{CreateUser, CreateRelation, Insert, Delete, Update, Select, Explain, ShowWorld, ShowTables}
 use Rattle.bdb_syntax.specs.declared.command.RawQuery.{RawQuery}
-use Rattle.bdb_bind.specs.declared.bound.Bound.TheVariants as bound
-use Rattle.bdb_bind.specs.Binding.{bound_of}
 use Rattle.bdb_bind.specs.Lines.{items_line}
 use Rattle.bdb_bind.specs.Parts.{query_of}
-use Rattle.bdb_bind.specs.QueryBinding.{bound_query, query_item}
 use Rattle.bdb_bind.specs.QueryLines.{query_items}
 use Rattle.bdb_bind.specs.Refusal.{names_refused}
 use Rattle.bdb_bind.proofs.CatalogLemmas.{all_at, columns_within}
@@ -57,33 +52,3 @@ few_by_line c q line same =
 
 pub few_of_query : (catalog : Catalog) (c : Command) (q : RawQuery) → names_refused catalog c ≡ None → query_of c ≡ Some q → length q.items ≤ 8
 few_of_query catalog c q accepted same = few_by_line c q (cleared catalog c accepted).items same
-
-few_bound : (catalog : Catalog) (raw : RawQuery) (q : Query) → length raw.items ≤ 8 → bound_query catalog raw ≡ q → length q.items < 2 ^ 32
-unfolding bound_query
-few_bound catalog raw q few same =
-    let many : length q.items ≡ length raw.items = ap (λ x. length x.items) (sym same) ∙ length-map raw.items (query_item catalog raw.items) in
-    omega arith
-
-pub selected_few : (catalog : Catalog) (c : Command) (q : Query) → names_refused catalog c ≡ None → bound_of catalog c ≡ bound.Select q → length q.items < 2 ^ 32
-selected_few catalog (Select raw) q accepted e =
-    let same : bound_query catalog raw ≡ q = cc in few_bound catalog raw q (few_of_query catalog (Select raw) raw accepted refl) same
-selected_few catalog (CreateUser name) q accepted e = cc
-selected_few catalog (CreateRelation name cols) q accepted e = cc
-selected_few catalog (Insert users sign rel vals) q accepted e = cc
-selected_few catalog (Delete users sign rel conds) q accepted e = cc
-selected_few catalog (Update users sign rel sets conds) q accepted e = cc
-selected_few catalog (Explain raw) q accepted e = cc
-selected_few catalog (ShowWorld users) q accepted e = cc
-selected_few catalog ShowTables q accepted e = cc
-
-pub explained_few : (catalog : Catalog) (c : Command) (q : Query) → names_refused catalog c ≡ None → bound_of catalog c ≡ bound.Explain q → length q.items < 2 ^ 32
-explained_few catalog (Explain raw) q accepted e =
-    let same : bound_query catalog raw ≡ q = cc in few_bound catalog raw q (few_of_query catalog (Explain raw) raw accepted refl) same
-explained_few catalog (CreateUser name) q accepted e = cc
-explained_few catalog (CreateRelation name cols) q accepted e = cc
-explained_few catalog (Insert users sign rel vals) q accepted e = cc
-explained_few catalog (Delete users sign rel conds) q accepted e = cc
-explained_few catalog (Update users sign rel sets conds) q accepted e = cc
-explained_few catalog (Select raw) q accepted e = cc
-explained_few catalog (ShowWorld users) q accepted e = cc
-explained_few catalog ShowTables q accepted e = cc

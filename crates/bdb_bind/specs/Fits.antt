@@ -2,6 +2,7 @@
 use Rattle.std.specs.Prelude.{◌≡◌, ℕ, Bool, true, false, not, ◌&&◌, nat_eq, nat_lt, nat_le, List, [], ◌∷◌, ◌++◌, length, map, Option, None, Some}
 use Rattle.std.specs.Option.{option_map}
 use Rattle.std.specs.List.{list_all, slice_get}
+use Rattle.bdb_base.specs.Limits.{deepest_statement, deepest_query}
 use Rattle.bdb_base.specs.declared.kinds.Catalog.{Catalog}
 use Rattle.bdb_base.specs.declared.kinds.ColDef.{ColDef}
 use Rattle.bdb_base.specs.declared.kinds.RelDef.{RelDef}
@@ -79,13 +80,13 @@ abbrev pub fits_catalog : Catalog → Bound → Bool
 fits_catalog catalog (bound.CreateUser name) = is_plain name && are_distinct (catalog.users ++ name ∷ [])
 fits_catalog catalog (bound.CreateRelation def) = is_valid_relation def && are_distinct (map (λ r. r.name) (catalog.rels ++ def ∷ []))
 fits_catalog catalog (bound.Insert x) = belongs catalog x
-fits_catalog catalog (bound.Delete path sign rel conds) = fits_path catalog.users 16 path && (nat_lt rel (length catalog.rels)
+fits_catalog catalog (bound.Delete path sign rel conds) = fits_path catalog.users deepest_statement path && (nat_lt rel (length catalog.rels)
     && list_all (cond_fits (columns_numbered catalog.rels rel)) conds)
-fits_catalog catalog (bound.Update path sign rel sets conds) = fits_path catalog.users 16 path && (nat_lt rel (length catalog.rels)
+fits_catalog catalog (bound.Update path sign rel sets conds) = fits_path catalog.users deepest_statement path && (nat_lt rel (length catalog.rels)
     && (list_all (set_fits (columns_numbered catalog.rels rel)) sets && list_all (cond_fits (columns_numbered catalog.rels rel)) conds))
 fits_catalog catalog (bound.Select query) = can_be_answered catalog query
 fits_catalog catalog (bound.Explain query) = can_be_answered catalog query
-fits_catalog catalog (bound.ShowWorld path) = fits_path catalog.users 1024 path
+fits_catalog catalog (bound.ShowWorld path) = fits_path catalog.users deepest_query path
 fits_catalog catalog bound.ShowTables = true
 
 -- what an allowed command that isn't refused is bound to fits the catalog

@@ -2,6 +2,7 @@
 use Rattle.std.specs.Prelude.{map, ◌++◌, ℕ, Bool, false, not, ◌||◌, ◌==◌, nat_lt, List, [], ◌∷◌, length, Option, None, Some, find, if◌then◌else◌}
 use Rattle.std.specs.Option.{option_map, option_and_then, is_some}
 use Rattle.std.specs.List.{list_any}
+use Rattle.bdb_base.specs.Limits.{most_columns}
 use Rattle.bdb_base.specs.declared.kinds.Catalog.{Catalog}
 use Rattle.bdb_base.specs.declared.kinds.ColDef.{ColDef}
 use Rattle.bdb_base.specs.declared.kinds.RelDef.{RelDef}
@@ -23,13 +24,17 @@ use Rattle.bdb_bind.specs.Lookup.{is_user_name, number_of, has_column, kind_at}
 use Rattle.bdb_bind.specs.Parts.{query_of, change_columns, path_names, depth_limit, relation_name, new_columns, cond_columns, is_long, some_text}
 use Rattle.bdb_bind.specs.QueryLines.{query_items, query_relation, query_user, query_alias_twice, query_alias, query_column, query_repeat, query_deep, query_kind}
 
--- a text has more than 255 bytes
+-- a text has too many bytes
 unfoldable pub text_line : Command → Option BindError
 text_line c = refused_if (some_text is_long c) error.Text
 
--- a new relation has more than 16 columns, or a query too many items or columns
+-- a new relation has too many columns
+abbrev pub too_many_columns : Command → Option BindError
+too_many_columns c = refused_if (nat_lt most_columns (length (new_columns c))) error.Items
+
+-- a new relation has too many columns, or a query too many items or columns
 unfoldable pub items_line : Command → Option BindError
-items_line c = or_next (refused_if (nat_lt 16 (length (new_columns c))) error.Items) (option_and_then query_items (query_of c))
+items_line c = or_next (too_many_columns c) (option_and_then query_items (query_of c))
 
 -- a name that should be a relation's is none
 abbrev pub unknown_relation : List RelDef → Option (List ℕ) → Option BindError
@@ -93,13 +98,21 @@ abbrev pub has_repeat : List (List ℕ) → Bool
 has_repeat [] = false
 has_repeat (n ∷ ns) = begins_with n ns || has_repeat ns
 
+-- the path of a change, or of a world that is shown, names one user twice in a row
+abbrev pub path_repeats : Command → Option BindError
+path_repeats c = refused_if (has_repeat (path_names c)) error.Repeat
+
 -- a path names one user twice in a row
 unfoldable pub repeat_line : Command → Option BindError
-repeat_line c = or_next (refused_if (has_repeat (path_names c)) error.Repeat) (option_and_then query_repeat (query_of c))
+repeat_line c = or_next (path_repeats c) (option_and_then query_repeat (query_of c))
+
+-- the path of a change, or of a world that is shown, is too long
+abbrev pub path_too_deep : Command → Option BindError
+path_too_deep c = refused_if (nat_lt (depth_limit c) (length (path_names c))) error.Deep
 
 -- a path is too long
 unfoldable pub deep_line : Command → Option BindError
-deep_line c = or_next (refused_if (nat_lt (depth_limit c) (length (path_names c))) error.Deep) (option_and_then query_deep (query_of c))
+deep_line c = or_next (path_too_deep c) (option_and_then query_deep (query_of c))
 
 -- an insert has another number of values than there are columns
 abbrev pub change_arity : List ColDef → Command → Option BindError

@@ -2,6 +2,7 @@
 use Rattle.std.specs.Prelude.{ℕ, Bool, false, ◌||◌, nat_lt, List, [], ◌∷◌, ◌++◌, length, Option, None, Some}
 use Rattle.std.specs.Option.{option_and_then}
 use Rattle.std.specs.List.{list_any}
+use Rattle.bdb_base.specs.Limits.{longest_text, deepest_statement, deepest_query}
 use Rattle.bdb_base.specs.declared.kinds.ColDef.{ColDef}
 use Rattle.bdb_base.specs.declared.kinds.RelDef.{RelDef}
 use Rattle.bdb_base.specs.declared.kinds.Value.{Value}
@@ -32,8 +33,8 @@ path_names _ = []
 
 -- the longest path that a command with one path may have
 abbrev pub depth_limit : Command → ℕ
-depth_limit (ShowWorld users) = 1024
-depth_limit _ = 16
+depth_limit (ShowWorld users) = deepest_query
+depth_limit _ = deepest_statement
 
 -- the relation that a change names
 abbrev pub relation_name : Command → Option (List ℕ)
@@ -80,9 +81,9 @@ abbrev pub side_texts : RawSide → List (List ℕ)
 side_texts (Col c) = []
 side_texts (Lit v) = value_texts v
 
--- a text has more than 255 bytes
+-- a text has too many bytes
 abbrev pub is_long : List ℕ → Bool
-is_long text = nat_lt 255 (length text)
+is_long text = nat_lt longest_text (length text)
 
 -- a test holds of a name after BELIEF
 abbrev pub some_who_text : (List ℕ → Bool) → RawWho → Bool

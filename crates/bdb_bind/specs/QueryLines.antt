@@ -2,6 +2,7 @@
 use Rattle.std.specs.Prelude.{ℕ, Bool, false, not, ◌||◌, nat_lt, List, [], ◌∷◌, ◌++◌, length, Option, None, Some}
 use Rattle.std.specs.Option.{is_some, unwrap_or}
 use Rattle.std.specs.List.{list_any}
+use Rattle.bdb_base.specs.Limits.{most_items, most_select_columns, deepest_query}
 use Rattle.bdb_base.specs.declared.kinds.Kind.{Kind}
 use Rattle.bdb_base.specs.declared.kinds.RelDef.{RelDef}
 use Rattle.bdb_base.specs.Same.{same_text}
@@ -20,9 +21,9 @@ use Rattle.bdb_bind.specs.Kinds.{kind_of, are_one_kind}
 use Rattle.bdb_bind.specs.Lookup.{is_user_name, number_of, has_column, kind_at}
 use Rattle.bdb_bind.specs.Scope.{is_users, item_place, columns_named, is_uid}
 
--- more than 8 items, or more than 32 select columns
+-- too many items, or too many select columns
 abbrev pub query_items : RawQuery → Option BindError
-query_items q = refused_if (nat_lt 8 (length q.items) || nat_lt 32 (length q.take)) error.Items
+query_items q = refused_if (nat_lt most_items (length q.items) || nat_lt most_select_columns (length q.take)) error.Items
 
 -- an item's relation isn't in the catalog
 abbrev pub item_relation : List RelDef → RawItem → Option BindError
@@ -116,7 +117,7 @@ query_repeat q = refused_if (list_any (λ i. repeats_name i.path) q.items) error
 
 -- a path is too long
 abbrev pub query_deep : RawQuery → Option BindError
-query_deep q = refused_if (list_any (λ i. nat_lt 1024 (length i.path)) q.items) error.Deep
+query_deep q = refused_if (list_any (λ i. nat_lt deepest_query (length i.path)) q.items) error.Deep
 
 -- the kind of a column
 abbrev pub kind_named : List RelDef → List RawItem → RawCol → Option Kind

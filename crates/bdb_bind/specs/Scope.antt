@@ -1,5 +1,5 @@
 -- What the aliases and columns of a query stand for.
-use Rattle.std.specs.Prelude.{ℕ, Bool, false, ◌&&◌, ◌==◌, List, [], ◌∷◌, length, Option, None, Some, find, if◌then◌else◌, codes}
+use Rattle.std.specs.Prelude.{◌≡◌, ℕ, Bool, false, ◌&&◌, ◌==◌, List, [], ◌∷◌, length, Option, None, Some, find, if◌then◌else◌, codes}
 use Rattle.std.specs.List.{position_from}
 use Rattle.bdb_base.specs.declared.kinds.ColDef.{ColDef}
 use Rattle.bdb_base.specs.declared.kinds.Kind.TheVariants as kind
@@ -7,6 +7,8 @@ use Rattle.bdb_base.specs.declared.kinds.RelDef.{RelDef}
 use Rattle.bdb_base.specs.declared.kinds.Sign.TheVariants.{Plus}
 use Rattle.bdb_base.specs.Bases.{users_name}
 use Rattle.bdb_base.specs.Same.{same_text, same_sign}
+use Rattle.indexmap.specs.IndexMap.{IndexMap, get_by}
+use Rattle.std.specs.Borrow.{Bor}
 use Rattle.bdb_syntax.specs.declared.command.RawCol.{RawCol}
 use Rattle.bdb_syntax.specs.declared.command.RawItem.{RawItem}
 use Rattle.bdb_bind.specs.Lookup.{columns_of}
@@ -19,6 +21,10 @@ is_users i = same_text i.rel users_name && (same_sign i.sign Plus && (length i.p
 abbrev pub item_place : List RawItem → Option (List ℕ) → Option ℕ
 item_place items None = None
 item_place items (Some alias) = position_from (λ i. same_text i.alias alias) 0 items
+
+-- a map tells of each alias the place of the first item that has it
+abbrev pub TellsPlaces : {S : Type 0} → IndexMap (Bor (List ℕ)) ℕ S → List RawItem → Type 0
+TellsPlaces places items = (alias : List ℕ) → get_by (λ k. same_text alias k.now) places ≡ item_place items (Some alias)
 
 -- the first item of an alias
 abbrev pub item_of : List RawItem → Option (List ℕ) → Option RawItem

@@ -1,82 +1,40 @@
-// The checks of a query's aliases.
-ghost use Rattle.std.specs.Prelude.{◌≡◌, []};
-ghost use Rattle.std.specs.List.{list_any};
-ghost use Rattle.bdb_base.specs.Same.{same_text};
+// The check of a query's aliases.
+ghost use Rattle.std.specs.Prelude.{◌≡◌};
 ghost use Rattle.bdb_bind.specs.Firsts.{Checks, first_in};
-ghost use Rattle.bdb_bind.specs.Lines.{alias_twice_line, alias_line};
-ghost use Rattle.bdb_bind.specs.QueryLines.{alias_twice, in_side, in_cond, in_who, in_path, column_alias, query_alias};
+ghost use Rattle.bdb_bind.specs.QueryLines.{in_cond, in_who, in_path, column_alias, query_alias};
 
 use crate::bound::BindError;
-use crate::lookup::is_same;
-use crate::parts::query_of;
-use crate::refusals::{repeated_alias, unknown_alias};
-use crate::scope::item_place;
-use bdb_base::Txt;
-use bdb_syntax::{Command, RawCol, RawCond, RawItem, RawQuery, RawSide, RawWho};
+use crate::query_items::QueryItems;
+use crate::refusals::unknown_alias;
+use bdb_syntax::{RawCol, RawCond, RawItem, RawQuery, RawSide, RawWho};
 use std::alloc::Global;
 
-/// Refuses the first alias that stands at an earlier item too.
-#[tactic(auto, unfolding(crate::specs::Lines::alias_twice_line))]
-pub fn check_aliases_differ(alloc: Global, command: &Command) -> Result<(), BindError>
-    ensures { Checks result (alias_twice_line command.now) }
-{
-    if let Some(query) = query_of(command) {
-        check_differ(alloc, query.items.as_slice())?;
-    }
-    Ok(())
-}
-
-/// Refuses the first item whose alias stands at an earlier item.
-fn check_differ(alloc: Global, items: &[RawItem]) -> Result<(), BindError>
-    ensures { Checks result (alias_twice [] items.now) }
-{
-    for (at, item) in items.iter().enumerate() {
-        if has_alias(&items[..at], &item.alias) {
-            return Err(repeated_alias(alloc, &item.alias));
-        }
-    }
-    Ok(())
-}
-
-/// Whether an item has this alias.
-fn has_alias(items: &[RawItem], alias: &Txt) -> bool
-    ensures { result ≡ list_any (λ e. same_text alias.now e.alias) items.now }
-{
-    items.iter().any(|item| is_same(alias, &item.alias))
-}
-
 /// Refuses the first column whose alias no item has.
-#[tactic(auto, unfolding(crate::specs::Lines::alias_line))]
-pub fn check_aliases(alloc: Global, command: &Command) -> Result<(), BindError>
-    ensures { Checks result (alias_line command.now) }
-{
-    if let Some(query) = query_of(command) {
-        check_query(alloc, query)?;
-    }
-    Ok(())
-}
-
-fn check_query(alloc: Global, query: &RawQuery) -> Result<(), BindError>
+pub fn check_query_aliases(
+    alloc: Global,
+    items: &QueryItems,
+    query: &RawQuery,
+) -> Result<(), BindError>
+    requires items { items.now ≡ query.now.items }
     ensures { Checks result (query_alias query.now) }
 {
-    let items = query.items.as_slice();
     check_columns(alloc, items, query.take.as_slice())?;
-    check_paths(alloc, items, items)?;
+    check_paths(alloc, items, items.as_slice())?;
     check_conds(alloc, items, query.conds.as_slice())?;
     Ok(())
 }
 
 /// Refuses a column whose alias no item has.
-fn check_column(alloc: Global, items: &[RawItem], col: &RawCol) -> Result<(), BindError>
+fn check_column(alloc: Global, items: &QueryItems, col: &RawCol) -> Result<(), BindError>
     ensures { Checks result (column_alias items.now col.now) }
 {
-    if item_place(items, &col.alias).is_none() {
+    if items.place(&col.alias).is_none() {
         return Err(unknown_alias(alloc, col));
     }
     Ok(())
 }
 
-fn check_columns(alloc: Global, items: &[RawItem], cols: &[RawCol]) -> Result<(), BindError>
+fn check_columns(alloc: Global, items: &QueryItems, cols: &[RawCol]) -> Result<(), BindError>
     ensures { Checks result (first_in (column_alias items.now) cols.now) }
 {
     for col in cols {
@@ -86,7 +44,7 @@ fn check_columns(alloc: Global, items: &[RawItem], cols: &[RawCol]) -> Result<()
 }
 
 /// Refuses the first column after BELIEF whose alias no item has.
-fn check_paths(alloc: Global, items: &[RawItem], rest: &[RawItem]) -> Result<(), BindError>
+fn check_paths(alloc: Global, items: &QueryItems, rest: &[RawItem]) -> Result<(), BindError>
     ensures { Checks result (first_in (in_path (column_alias items.now)) rest.now) }
 {
     for item in rest {
@@ -95,7 +53,7 @@ fn check_paths(alloc: Global, items: &[RawItem], rest: &[RawItem]) -> Result<(),
     Ok(())
 }
 
-fn check_path(alloc: Global, items: &[RawItem], path: &[RawWho]) -> Result<(), BindError>
+fn check_path(alloc: Global, items: &QueryItems, path: &[RawWho]) -> Result<(), BindError>
     ensures { Checks result (first_in (in_who (column_alias items.now)) path.now) }
 {
     for who in path {
@@ -106,7 +64,7 @@ fn check_path(alloc: Global, items: &[RawItem], path: &[RawWho]) -> Result<(), B
     Ok(())
 }
 
-fn check_conds(alloc: Global, items: &[RawItem], conds: &[RawCond]) -> Result<(), BindError>
+fn check_conds(alloc: Global, items: &QueryItems, conds: &[RawCond]) -> Result<(), BindError>
     ensures { Checks result (first_in (in_cond (column_alias items.now)) conds.now) }
 {
     for cond in conds {

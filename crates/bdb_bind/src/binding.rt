@@ -2,22 +2,31 @@
 ghost use Rattle.std.specs.Prelude.{◌≡◌, ◌≢◌, true, None, Some, IfOk, IfErr};
 ghost use Rattle.bdb_base.specs.Bases.{IsCatalog};
 ghost use Rattle.bdb_bind.specs.Lookup.{path_of};
-ghost use Rattle.bdb_bind.specs.Parts.{path_names, relation_place, change_columns};
+ghost use Rattle.bdb_bind.specs.Parts.{query_of, path_names, relation_place, change_columns};
 ghost use Rattle.bdb_bind.specs.Firsts.{Checks};
-ghost use Rattle.bdb_bind.specs.Refusal.{names_refused, refusal_of};
+ghost use Rattle.bdb_bind.specs.Lines.{text_line};
+ghost use Rattle.bdb_bind.specs.Refusal.{query_names_refused, change_refused, query_refusal, refusal_of};
 ghost use Rattle.bdb_bind.specs.Binding.{bound_of};
+ghost use Rattle.bdb_bind.specs.QueryBinding.{bound_query};
 
-use crate::aliases::{check_aliases, check_aliases_differ};
+use crate::aliases::check_query_aliases;
 use crate::bound::{BindError, Bound};
+use crate::columns::check_query_columns;
 use crate::found::{Found, find_relation};
 use crate::index::NameIndex;
 use crate::kinds::check_kinds;
-use crate::making::bound_of;
+use crate::making::bound_change;
 use crate::names::{check_columns, check_relation, check_taken, check_users};
+use crate::queries::{
+    check_query_depth, check_query_items, check_query_kinds, check_query_relations,
+    check_query_repeat, check_query_users,
+};
+use crate::query_items::QueryItems;
+use crate::query_making::bound_query;
 use crate::shape::{check_arity, check_depth, check_items, check_repeat, check_texts};
 use crate::unsafes::check_safe;
-use bdb_base::{Catalog, List};
-use bdb_syntax::Command;
+use bdb_base::{Catalog, List, Query};
+use bdb_syntax::{Command, RawQuery};
 use std::alloc::Global;
 
 /// Binds a command over a catalog. It is refused exactly where a reason to refuse it applies, and the first of them in
@@ -32,7 +41,7 @@ pub fn bind(alloc: Global, catalog: &Catalog, command: &Command) -> Result<Bound
 }
 
 /// The same, where an index tells where names stand: that of the catalog makes it fast, whatever the catalog's size.
-#[tactic(auto, unfolding(crate::specs::Refusal::refusal_of))]
+#[tactic(auto, using(crate::proofs::RefusalLemmas::select_refusal, crate::proofs::RefusalLemmas::explain_refusal, crate::proofs::RefusalLemmas::text_refused, crate::proofs::RefusalLemmas::change_refusal))]
 pub fn bind_by(
     alloc: Global,
     catalog: &Catalog,
@@ -43,20 +52,88 @@ pub fn bind_by(
     ensures ok { IfOk result (λ b. (refusal_of catalog.now command.now ≡ None) × (b ≡ bound_of catalog.now command.now)) }
     ensures refused { IfErr result (λ e. e ≢ BindError.Memory → refusal_of catalog.now command.now ≡ Some e) }
 {
-    let found = find_relation(catalog, index, command);
-    let ids = check(alloc, catalog, index, &found, command)?;
-    match bound_of(alloc, catalog, &found, ids.as_slice(), command) {
+    check_texts(command)?;
+    match command {
+        Command::Select { query } => {
+            let query = bind_query(alloc, catalog, query)?;
+            Ok(Bound::Select { query })
+        }
+        Command::Explain { query } => {
+            let query = bind_query(alloc, catalog, query)?;
+            Ok(Bound::Explain { query })
+        }
+        _ => {
+            let bound = bind_change(alloc, catalog, index, command)?;
+            Ok(bound)
+        }
+    }
+}
+
+/// Binds a query.
+#[tactic(auto, using(crate::proofs::RefusalLemmas::few_items_each, crate::proofs::RefusalLemmas::few_bound_items, crate::proofs::SafeLemmas::catalog_few))]
+fn bind_query(alloc: Global, catalog: &Catalog, query: &RawQuery) -> Result<Query, BindError>
+    requires catalog { IsCatalog catalog.now }
+    ensures checks { Checks result (query_refusal catalog.now query.now) }
+    ensures bound { IfOk result (λ b. b ≡ bound_query catalog.now query.now) }
+{
+    let rels = catalog.rels.as_slice();
+    let items = check_query(alloc, catalog, query)?;
+    check_query_kinds(alloc, rels, &items, query)?;
+    match bound_query(alloc, catalog, &items, query) {
         Ok(bound) => {
-            check_safe(alloc, catalog, command, &bound)?;
+            check_safe(alloc, rels, &bound)?;
             Ok(bound)
         }
         Err(_) => Err(BindError::Memory),
     }
 }
 
-/// The uids of a command's one path. The first reason to refuse the command's names and values is answered.
-#[tactic(auto, unfolding(crate::specs::Refusal::names_refused, crate::specs::Lines::arity_line))]
-fn check(
+/// The items of a query, by alias. The first reason to refuse the query's names and sizes is answered.
+fn check_query<'a>(
+    alloc: Global,
+    catalog: &Catalog,
+    query: &'a RawQuery,
+) -> Result<QueryItems<'a>, BindError>
+    ensures checks { Checks result (query_names_refused catalog.now query.now) }
+    ensures items { IfOk result (λ items. items ≡ query.now.items) }
+{
+    let rels = catalog.rels.as_slice();
+    check_query_items(query)?;
+    check_query_relations(alloc, rels, query)?;
+    check_query_users(alloc, catalog.users.as_slice(), query)?;
+    let items = QueryItems::of(alloc, query.items.as_slice())?;
+    check_query_aliases(alloc, &items, query)?;
+    check_query_columns(alloc, rels, &items, query)?;
+    check_query_repeat(query)?;
+    check_query_depth(query)?;
+    Ok(items)
+}
+
+/// Binds a command that is no query.
+#[tactic(auto, using(crate::proofs::RefusalLemmas::change_names))]
+fn bind_change(
+    alloc: Global,
+    catalog: &Catalog,
+    index: &NameIndex,
+    command: &Command,
+) -> Result<Bound, BindError>
+    requires catalog { IsCatalog catalog.now }
+    requires change { query_of command.now ≡ None }
+    requires texts { text_line command.now ≡ None }
+    ensures checks { Checks result (change_refused catalog.now command.now) }
+    ensures bound { IfOk result (λ b. b ≡ bound_of catalog.now command.now) }
+{
+    let found = find_relation(catalog, index, command);
+    let ids = check_change(alloc, catalog, index, &found, command)?;
+    match bound_change(alloc, catalog, &found, ids.as_slice(), command) {
+        Ok(bound) => Ok(bound),
+        Err(_) => Err(BindError::Memory),
+    }
+}
+
+/// The uids of the one path of a command that is no query. The first reason to refuse its names and values is answered.
+#[tactic(auto, unfolding(crate::specs::Lines::arity_line))]
+fn check_change(
     alloc: Global,
     catalog: &Catalog,
     index: &NameIndex,
@@ -66,20 +143,17 @@ fn check(
     requires catalog { IsCatalog catalog.now }
     requires place { found.now.place ≡ relation_place catalog.now.rels command.now }
     requires cols { found.now.cols.now ≡ change_columns catalog.now.rels command.now }
-    ensures checks { Checks result (names_refused catalog.now command.now) }
+    ensures checks { Checks result (change_refused catalog.now command.now) }
     ensures ids { IfOk result (λ ids. ids ≡ path_of catalog.now.users (path_names command.now)) }
 {
-    check_texts(command)?;
     check_items(command)?;
     check_relation(alloc, catalog, found.place, command)?;
     let ids = check_users(alloc, catalog, index, command)?;
-    check_aliases_differ(alloc, command)?;
-    check_aliases(alloc, command)?;
-    check_columns(alloc, catalog, found.cols, command)?;
+    check_columns(alloc, found.cols, command)?;
     check_taken(alloc, catalog, command)?;
     check_repeat(command)?;
     check_depth(command)?;
     check_arity(found.cols, command)?;
-    check_kinds(alloc, catalog, found.cols, command)?;
+    check_kinds(alloc, found.cols, command)?;
     Ok(ids)
 }

@@ -1,5 +1,6 @@
 // What commands are bound to, and why a command is refused.
 use bdb_base::{Cond, List, Path, Query, RelDef, SetCol, Sign, Stmt, Txt};
+use thiserror::Error;
 
 /// A command over a catalog: users by uid, relations and columns by place.
 #[derive(Drop)]
@@ -48,36 +49,51 @@ pub enum Bound {
 }
 
 /// Why a command is refused over a catalog.
-#[derive(Drop)]
+#[derive(Debug, Drop, Error)]
 pub enum BindError {
-    /// A text has more than 255 bytes.
+    /// A text has more bytes than `LONGEST_TEXT`.
+    #[error("a text is too long")]
     Text,
-    /// A new relation has more than 16 columns, or a query more than 8 items or 32 select columns.
+    /// A new relation has too many columns, or a query too many items or select columns.
+    #[error("there are too many items or columns")]
     Items,
     /// The catalog has no relation of this name.
+    #[error("no relation has this name")]
     Relation(Txt),
     /// No user has this name.
+    #[error("no user has this name")]
     User(Txt),
     /// This alias stands at an earlier item.
+    #[error("an alias stands twice")]
     AliasTwice(Txt),
     /// No item has this alias.
+    #[error("no item has this alias")]
     Alias(Txt),
     /// The relation has no such column, or a column after BELIEF isn't the number of a user.
+    #[error("there is no such column")]
     Column { alias: Option<Txt>, col: Txt },
     /// A user has this name.
+    #[error("a user has this name")]
     TakenUser(Txt),
     /// A relation has this name, or it is `Users`, or a column of this name stands earlier.
+    #[error("this name is taken")]
     TakenName(Txt),
     /// Two neighbours of a path are one user.
+    #[error("a path names one user twice in a row")]
     Repeat,
     /// A path has too many users.
+    #[error("a path is too long")]
     Deep,
     /// The number of values is not the number of columns.
+    #[error("the number of values is not the number of columns")]
     Arity,
     /// A value and a column, or two columns, are of different kinds.
+    #[error("two kinds are joined")]
     Kind { alias: Option<Txt>, col: Txt },
     /// Nothing binds this column of a negated item.
+    #[error("nothing binds a column of a negated item")]
     Unsafe { alias: Txt, col: Txt },
     /// There is no memory.
+    #[error("there is no memory")]
     Memory,
 }

@@ -2,6 +2,7 @@
 ghost use Rattle.std.specs.Prelude.{◌≡◌, ◌<◌, ◌≤◌, [], None, true, length, map, IfOk, IfSome};
 ghost use Rattle.std.specs.List.{slice_get};
 ghost use Rattle.std.specs.Option.{option_map};
+ghost use Rattle.bdb_base.specs.Limits.{most_users};
 ghost use Rattle.bdb_base.specs.Bases.{IsCatalog, are_distinct};
 ghost use Rattle.bdb_bind.specs.Firsts.{Checks};
 ghost use Rattle.bdb_bind.specs.Lookup.{uid_of, path_of, is_name, number_of, columns_of};
@@ -95,7 +96,7 @@ pub fn find_users(
     names: &[Txt],
 ) -> Result<List<u32>, BindError>
     requires differ { are_distinct users.now ≡ true }
-    requires few { length users.now ≤ 256 }
+    requires few { length users.now ≤ most_users }
     ensures checks { Checks result (unknown_user users.now names.now) }
     ensures ids { IfOk result (λ ids. ids ≡ path_of users.now names.now) }
 {

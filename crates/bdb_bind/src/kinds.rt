@@ -4,38 +4,17 @@ ghost use Rattle.std.specs.Option.{option_map};
 ghost use Rattle.bdb_base.specs.Same.{same_kind};
 ghost use Rattle.bdb_bind.specs.Firsts.{Checks};
 ghost use Rattle.bdb_bind.specs.Kinds.{kind_of, are_one_kind};
-ghost use Rattle.bdb_bind.specs.Lines.{misfit, side_kind, fits_set, fits_cond, set_kinds, cond_kinds, change_kind, kind_line};
-ghost use Rattle.bdb_bind.specs.Parts.{change_columns};
+ghost use Rattle.bdb_bind.specs.Lines.{misfit, side_kind, fits_set, fits_cond, set_kinds, cond_kinds, change_kind};
 
 use crate::bound::BindError;
 use crate::lookup::kind_at;
-use crate::parts::query_of;
-use crate::queries::check_query_kinds;
 use crate::refusals::wrong_kind;
-use bdb_base::{Catalog, ColDef, Kind, Value};
+use bdb_base::{ColDef, Kind, Value};
 use bdb_syntax::{Command, RawCond, RawSet, RawSide};
 use std::alloc::Global;
 
-/// Refuses a value, a set or a comparison that joins two kinds.
-#[tactic(auto, unfolding(crate::specs::Lines::kind_line))]
-pub fn check_kinds(
-    alloc: Global,
-    catalog: &Catalog,
-    cols: &[ColDef],
-    command: &Command,
-) -> Result<(), BindError>
-    requires cols { cols.now ≡ change_columns catalog.now.rels command.now }
-    ensures { Checks result (kind_line catalog.now command.now) }
-{
-    check_change_kinds(alloc, cols, command)?;
-    if let Some(query) = query_of(command) {
-        check_query_kinds(alloc, catalog.rels.as_slice(), query)?;
-    }
-    Ok(())
-}
-
 /// Refuses a value, a set or a comparison of a change that joins two kinds.
-fn check_change_kinds(alloc: Global, cols: &[ColDef], command: &Command) -> Result<(), BindError>
+pub fn check_kinds(alloc: Global, cols: &[ColDef], command: &Command) -> Result<(), BindError>
     ensures { Checks result (change_kind cols.now command.now) }
 {
     match command {

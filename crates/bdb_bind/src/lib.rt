@@ -14,6 +14,7 @@ mod making;
 mod names;
 mod parts;
 mod queries;
+mod query_items;
 mod query_making;
 mod refusals;
 mod safety;

@@ -1,17 +1,17 @@
 // What a command that isn't refused is bound to.
 ghost use Rattle.std.specs.Prelude.{◌≡◌, ◌<◌, ◌≤◌, ◌^◌, true, None, length, map, IfOk, IfSome};
 ghost use Rattle.std.specs.Option.{unwrap_or};
+ghost use Rattle.bdb_base.specs.Limits.{most_users, most_relations, most_columns};
 ghost use Rattle.bdb_base.specs.Alternation.{alternates};
 ghost use Rattle.bdb_base.specs.Bases.{IsCatalog};
 ghost use Rattle.bdb_bind.specs.Lookup.{uid_of, path_of};
-ghost use Rattle.bdb_bind.specs.Parts.{path_names, relation_place, change_columns};
+ghost use Rattle.bdb_bind.specs.Parts.{query_of, path_names, relation_place, change_columns};
 ghost use Rattle.bdb_bind.specs.Refusal.{names_refused};
 ghost use Rattle.bdb_bind.specs.Binding.{relation_at, place_of, bound_column, bound_side, bound_cond, bound_set, bound_of};
 
 use crate::bound::Bound;
 use crate::found::Found;
 use crate::lookup::{column_at, number_of, uid_of};
-use crate::query_making::bound_query;
 use bdb_base::{
     Catalog, ColDef, Cond, Exact, List, Operand, Path, PathError, Ref, RelDef, SetCol, Sign, Stmt,
     Tuple, Txt, Value,
@@ -21,7 +21,7 @@ use std::alloc::{AllocError, Global};
 
 /// The uid of a name that is a user's.
 pub fn uid_at(users: &[Txt], name: &Txt) -> u32
-    requires { length users.now ≤ 256 }
+    requires { length users.now ≤ most_users }
     ensures { result ≡ unwrap_or (uid_of users.now name.now) 0 }
 {
     match uid_of(users, name) {
@@ -44,7 +44,7 @@ fn path_of(alloc: Global, ids: &[u32]) -> Result<Path, AllocError>
 
 /// The number of a relation that stands at a place.
 fn number_at(place: Option<usize>) -> u32
-    requires { IfSome place (λ at. at < 64) }
+    requires { IfSome place (λ at. at < most_relations) }
     ensures { result ≡ unwrap_or place 0 }
 {
     match place {
@@ -55,7 +55,7 @@ fn number_at(place: Option<usize>) -> u32
 
 /// The number of a relation that is there.
 pub fn relation_at(rels: &[RelDef], name: &Txt) -> u32
-    requires { length rels.now ≤ 64 }
+    requires { length rels.now ≤ most_relations }
     ensures { result ≡ relation_at rels.now name.now }
 {
     match number_of(rels, name) {
@@ -66,7 +66,7 @@ pub fn relation_at(rels: &[RelDef], name: &Txt) -> u32
 
 /// A column that is there, of item 0.
 fn bound_column(cols: &[ColDef], name: &Txt) -> Ref
-    requires { length cols.now ≤ 16 }
+    requires { length cols.now ≤ most_columns }
     ensures { result ≡ bound_column cols.now name.now }
 {
     Ref {
@@ -77,7 +77,7 @@ fn bound_column(cols: &[ColDef], name: &Txt) -> Ref
 
 /// The place of a column that is there.
 fn place_of(cols: &[ColDef], name: &Txt) -> u32
-    requires { length cols.now ≤ 16 }
+    requires { length cols.now ≤ most_columns }
     ensures { result ≡ place_of cols.now name.now }
 {
     match column_at(cols, name) {
@@ -87,7 +87,7 @@ fn place_of(cols: &[ColDef], name: &Txt) -> u32
 }
 
 fn bound_side(alloc: Global, cols: &[ColDef], side: &RawSide) -> Result<Operand, AllocError>
-    requires { length cols.now ≤ 16 }
+    requires { length cols.now ≤ most_columns }
     ensures { IfOk result (λ b. b ≡ bound_side cols.now side.now) }
 {
     match side {
@@ -97,7 +97,7 @@ fn bound_side(alloc: Global, cols: &[ColDef], side: &RawSide) -> Result<Operand,
 }
 
 fn bound_cond(alloc: Global, cols: &[ColDef], cond: &RawCond) -> Result<Cond, AllocError>
-    requires { length cols.now ≤ 16 }
+    requires { length cols.now ≤ most_columns }
     ensures { IfOk result (λ b. b ≡ bound_cond cols.now cond.now) }
 {
     let right = bound_side(alloc, cols, &cond.right)?;
@@ -109,7 +109,7 @@ fn bound_cond(alloc: Global, cols: &[ColDef], cond: &RawCond) -> Result<Cond, Al
 }
 
 fn bound_conds(alloc: Global, cols: &[ColDef], conds: &[RawCond]) -> Result<List<Cond>, AllocError>
-    requires { length cols.now ≤ 16 }
+    requires { length cols.now ≤ most_columns }
     ensures { IfOk result (λ b. b ≡ map (bound_cond cols.now) conds.now) }
 {
     let mut bound = List::new(alloc);
@@ -120,7 +120,7 @@ fn bound_conds(alloc: Global, cols: &[ColDef], conds: &[RawCond]) -> Result<List
 }
 
 fn bound_set(alloc: Global, cols: &[ColDef], set: &RawSet) -> Result<SetCol, AllocError>
-    requires { length cols.now ≤ 16 }
+    requires { length cols.now ≤ most_columns }
     ensures { IfOk result (λ b. b ≡ bound_set cols.now set.now) }
 {
     let to = set.to.try_clone(alloc)?;
@@ -131,7 +131,7 @@ fn bound_set(alloc: Global, cols: &[ColDef], set: &RawSet) -> Result<SetCol, All
 }
 
 fn bound_sets(alloc: Global, cols: &[ColDef], sets: &[RawSet]) -> Result<List<SetCol>, AllocError>
-    requires { length cols.now ≤ 16 }
+    requires { length cols.now ≤ most_columns }
     ensures { IfOk result (λ b. b ≡ map (bound_set cols.now) sets.now) }
 {
     let mut bound = List::new(alloc);
@@ -170,7 +170,7 @@ fn bound_delete(
     conds: &[RawCond],
 ) -> Result<Bound, AllocError>
     requires alternates { alternates ids.now ≡ true }
-    requires few { length cols.now ≤ 16 }
+    requires few { length cols.now ≤ most_columns }
     ensures { IfOk result (λ b. b ≡ Bound.Delete ids.now sign rel (map (bound_cond cols.now) conds.now)) }
 {
     let path = path_of(alloc, ids)?;
@@ -194,7 +194,7 @@ fn bound_update(
     conds: &[RawCond],
 ) -> Result<Bound, AllocError>
     requires alternates { alternates ids.now ≡ true }
-    requires few { length cols.now ≤ 16 }
+    requires few { length cols.now ≤ most_columns }
     ensures { IfOk result (λ b. b ≡ Bound.Update ids.now sign rel (map (bound_set cols.now) sets.now) (map (bound_cond cols.now) conds.now)) }
 {
     let path = path_of(alloc, ids)?;
@@ -228,9 +228,9 @@ fn bound_world(alloc: Global, ids: &[u32]) -> Result<Bound, AllocError>
     Ok(Bound::ShowWorld { path })
 }
 
-/// What a command that isn't refused is bound to, once its relation and the users of its path are found.
+/// What a command that is no query and isn't refused is bound to, once its relation and the users of its path are found.
 #[tactic(auto, using(crate::proofs::CatalogLemmas::place_few, crate::proofs::CatalogLemmas::change_columns_few, crate::proofs::CatalogLemmas::accepted_alternates))]
-pub fn bound_of(
+pub fn bound_change(
     alloc: Global,
     catalog: &Catalog,
     found: &Found,
@@ -238,6 +238,7 @@ pub fn bound_of(
     command: &Command,
 ) -> Result<Bound, AllocError>
     requires catalog { IsCatalog catalog.now }
+    requires change { query_of command.now ≡ None }
     requires accepted { names_refused catalog.now command.now ≡ None }
     requires place { found.now.place ≡ relation_place catalog.now.rels command.now }
     requires cols { found.now.cols.now ≡ change_columns catalog.now.rels command.now }
@@ -264,14 +265,8 @@ pub fn bound_of(
             let (sets, conds) = (sets.as_slice(), conds.as_slice());
             bound_update(alloc, ids, *sign, rel, cols, sets, conds)
         }
-        Command::Select { query } => {
-            let query = bound_query(alloc, catalog, query)?;
-            Ok(Bound::Select { query })
-        }
-        Command::Explain { query } => {
-            let query = bound_query(alloc, catalog, query)?;
-            Ok(Bound::Explain { query })
-        }
+        Command::Select { .. } => unreachable!(),
+        Command::Explain { .. } => unreachable!(),
         Command::ShowWorld { .. } => bound_world(alloc, ids),
         Command::ShowTables => Ok(Bound::ShowTables),
     }

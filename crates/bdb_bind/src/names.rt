@@ -5,24 +5,21 @@ ghost use Rattle.std.specs.List.{list_any};
 ghost use Rattle.bdb_base.specs.Same.{same_text};
 ghost use Rattle.bdb_base.specs.Bases.{IsCatalog};
 ghost use Rattle.bdb_bind.specs.Lookup.{path_of};
-ghost use Rattle.bdb_bind.specs.Parts.{path_names, relation_name, relation_place, change_columns, cond_columns};
+ghost use Rattle.bdb_bind.specs.Parts.{path_names, relation_name, relation_place, cond_columns};
 ghost use Rattle.bdb_bind.specs.Firsts.{Checks};
-ghost use Rattle.bdb_bind.specs.Lines.{unknown_relation, relation_line, user_line, missing_column, change_column, column_line, first_repeated, taken_line};
+ghost use Rattle.bdb_bind.specs.Lines.{unknown_relation, unknown_user, missing_column, change_column, first_repeated, taken_line};
 
 use crate::bound::BindError;
-use crate::columns::check_query_columns;
 use crate::found::find_users;
 use crate::index::NameIndex;
 use crate::lookup::{column_at, is_same, number_of, uid_of};
-use crate::parts::{path_names, query_of, relation_name};
-use crate::queries::{check_query_relations, check_query_users};
+use crate::parts::{path_names, relation_name};
 use crate::refusals::{taken_name, taken_user, unknown_column, unknown_relation};
-use bdb_base::{Catalog, ColDef, List, RelDef, Txt};
+use bdb_base::{Catalog, ColDef, List, Txt};
 use bdb_syntax::{Command, RawCond, RawSet, RawSide};
 use std::alloc::Global;
 
-/// Refuses the first relation that isn't in the catalog.
-#[tactic(auto, unfolding(crate::specs::Lines::relation_line))]
+/// Refuses a change of a relation that isn't in the catalog.
 pub fn check_relation(
     alloc: Global,
     catalog: &Catalog,
@@ -30,31 +27,16 @@ pub fn check_relation(
     command: &Command,
 ) -> Result<(), BindError>
     requires place { place ≡ relation_place catalog.now.rels command.now }
-    ensures { Checks result (relation_line catalog.now command.now) }
+    ensures { Checks result (unknown_relation catalog.now.rels (relation_name command.now)) }
 {
-    let rels = catalog.rels.as_slice();
-    if place.is_none() {
-        check_change_relation(alloc, rels, command)?;
-    }
-    if let Some(query) = query_of(command) {
-        check_query_relations(alloc, rels, query)?;
-    }
-    Ok(())
-}
-
-/// Refuses a change of a relation that isn't in the catalog.
-fn check_change_relation(alloc: Global, rels: &[RelDef], command: &Command) -> Result<(), BindError>
-    requires nowhere { relation_place rels.now command.now ≡ None }
-    ensures { Checks result (unknown_relation rels.now (relation_name command.now)) }
-{
-    match relation_name(command) {
-        Some(name) => Err(unknown_relation(alloc, name)),
-        None => Ok(()),
+    match (relation_name(command), place) {
+        (Some(name), None) => Err(unknown_relation(alloc, name)),
+        _ => Ok(()),
     }
 }
 
-/// The uids of a command's one path. The first name after BELIEF that is no user's is refused.
-#[tactic(auto, unfolding(crate::specs::Lines::user_line), using(crate::proofs::CatalogLemmas::users_few))]
+/// The uids of a change's path. The first name after BELIEF that is no user's is refused.
+#[tactic(auto, using(crate::proofs::CatalogLemmas::users_few))]
 pub fn check_users(
     alloc: Global,
     catalog: &Catalog,
@@ -62,37 +44,16 @@ pub fn check_users(
     command: &Command,
 ) -> Result<List<u32>, BindError>
     requires catalog { IsCatalog catalog.now }
-    ensures checks { Checks result (user_line catalog.now command.now) }
+    ensures checks { Checks result (unknown_user catalog.now.users (path_names command.now)) }
     ensures ids { IfOk result (λ ids. ids ≡ path_of catalog.now.users (path_names command.now)) }
 {
     let users = catalog.users.as_slice();
     let ids = find_users(alloc, users, index, path_names(command))?;
-    if let Some(query) = query_of(command) {
-        check_query_users(alloc, users, query)?;
-    }
     Ok(ids)
 }
 
-/// Refuses the first column that isn't there.
-#[tactic(auto, unfolding(crate::specs::Lines::column_line))]
-pub fn check_columns(
-    alloc: Global,
-    catalog: &Catalog,
-    cols: &[ColDef],
-    command: &Command,
-) -> Result<(), BindError>
-    requires cols { cols.now ≡ change_columns catalog.now.rels command.now }
-    ensures { Checks result (column_line catalog.now command.now) }
-{
-    check_change_columns(alloc, cols, command)?;
-    if let Some(query) = query_of(command) {
-        check_query_columns(alloc, catalog.rels.as_slice(), query)?;
-    }
-    Ok(())
-}
-
 /// Refuses the first column of a change that is none of these.
-fn check_change_columns(alloc: Global, cols: &[ColDef], command: &Command) -> Result<(), BindError>
+pub fn check_columns(alloc: Global, cols: &[ColDef], command: &Command) -> Result<(), BindError>
     ensures { Checks result (change_column cols.now command.now) }
 {
     match command {

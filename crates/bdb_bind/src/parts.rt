@@ -2,21 +2,11 @@
 ghost use Rattle.std.specs.Prelude.{◌≡◌};
 ghost use Rattle.std.specs.Option.{option_copied};
 ghost use Rattle.std.specs.List.{list_any};
-ghost use Rattle.bdb_bind.specs.Parts.{query_of, path_names, depth_limit, relation_name, new_columns, value_texts, side_texts, is_long, some_who_text, some_query_text, some_text};
+ghost use Rattle.bdb_bind.specs.Parts.{path_names, depth_limit, relation_name, new_columns, value_texts, side_texts, is_long, some_who_text, some_query_text, some_text};
 
+use bdb_base::limits::{DEEPEST_QUERY, DEEPEST_STATEMENT, LONGEST_TEXT};
 use bdb_base::{ColDef, Txt, Value};
 use bdb_syntax::{Command, RawCond, RawItem, RawQuery, RawSet, RawSide, RawWho};
-
-/// The query of a command.
-pub fn query_of(command: &Command) -> Option<&RawQuery>
-    ensures { option_copied result ≡ query_of command.now }
-{
-    match command {
-        Command::Select { query } => Some(query),
-        Command::Explain { query } => Some(query),
-        _ => None,
-    }
-}
 
 /// The names of a command's one path.
 pub fn path_names(command: &Command) -> &[Txt]
@@ -36,8 +26,8 @@ pub fn depth_limit(command: &Command) -> usize
     ensures { result ≡ depth_limit command.now }
 {
     match command {
-        Command::ShowWorld { .. } => 1024,
-        _ => 16,
+        Command::ShowWorld { .. } => DEEPEST_QUERY,
+        _ => DEEPEST_STATEMENT,
     }
 }
 
@@ -63,7 +53,7 @@ pub fn new_columns(command: &Command) -> &[ColDef]
     }
 }
 
-/// Whether a text of a command has more than 255 bytes.
+/// Whether a text of a command is too long.
 pub fn has_long_text(command: &Command) -> bool
     ensures { result ≡ some_text is_long command.now }
 {
@@ -92,14 +82,14 @@ pub fn has_long_text(command: &Command) -> bool
     }
 }
 
-/// Whether a text has more than 255 bytes.
+/// Whether a text is too long.
 fn is_long(text: &Txt) -> bool
     ensures { result ≡ is_long text.now }
 {
-    text.len() > 255
+    text.len() > LONGEST_TEXT
 }
 
-/// Whether a value is a text of more than 255 bytes.
+/// Whether a value is a text that is too long.
 fn is_long_value(value: &Value) -> bool
     ensures { result ≡ list_any is_long (value_texts value.now) }
 {
@@ -109,7 +99,7 @@ fn is_long_value(value: &Value) -> bool
     }
 }
 
-/// Whether a comparison's right side is a text of more than 255 bytes.
+/// Whether a comparison's right side is a text that is too long.
 fn is_long_side(side: &RawSide) -> bool
     ensures { result ≡ list_any is_long (side_texts side.now) }
 {
@@ -143,7 +133,7 @@ fn has_long_cond(conds: &[RawCond]) -> bool
     conds.iter().any(|cond| is_long_side(&cond.right))
 }
 
-/// Whether a text of a query has more than 255 bytes.
+/// Whether a text of a query is too long.
 fn has_long_query(query: &RawQuery) -> bool
     ensures { result ≡ some_query_text is_long query.now }
 {
@@ -162,7 +152,7 @@ fn has_long_who(path: &[RawWho]) -> bool
     path.iter().any(|who| is_long_who(who))
 }
 
-/// Whether a name after BELIEF has more than 255 bytes.
+/// Whether a name after BELIEF is too long.
 fn is_long_who(who: &RawWho) -> bool
     ensures { result ≡ some_who_text is_long who.now }
 {

@@ -1,23 +1,26 @@
 // The other checks of a query: its sizes, its relations and users, and its kinds.
 ghost use Rattle.std.specs.Prelude.{◌≡◌, nat_lt, length};
 ghost use Rattle.std.specs.List.{list_any};
+ghost use Rattle.bdb_base.specs.Limits.{deepest_query};
 ghost use Rattle.bdb_bind.specs.Firsts.{Checks, first_in};
 ghost use Rattle.bdb_bind.specs.QueryLines.{query_items, item_relation, query_relation, who_user, item_user, query_user, begins_with_name, repeats_name, query_repeat, query_deep, kind_of_side, cond_kind, query_kind};
 
 use crate::bound::BindError;
 use crate::kinds::{are_one_kind, kind_of};
 use crate::lookup::{is_same, number_of, uid_of};
+use crate::query_items::QueryItems;
 use crate::refusals::{unknown_relation, unknown_user, wrong_query_kind};
 use crate::scope::{is_users, kind_named};
+use bdb_base::limits::{DEEPEST_QUERY, MOST_ITEMS, MOST_SELECT_COLUMNS};
 use bdb_base::{Kind, RelDef, Txt};
 use bdb_syntax::{RawCond, RawItem, RawQuery, RawSide, RawWho};
 use std::alloc::Global;
 
-/// Refuses more than 8 items, and more than 32 select columns.
+/// Refuses too many items, and too many select columns.
 pub fn check_query_items(query: &RawQuery) -> Result<(), BindError>
     ensures { Checks result (query_items query.now) }
 {
-    if query.items.len() > 8 || query.take.len() > 32 {
+    if query.items.len() > MOST_ITEMS || query.take.len() > MOST_SELECT_COLUMNS {
         return Err(BindError::Items);
     }
     Ok(())
@@ -132,16 +135,22 @@ pub fn check_query_depth(query: &RawQuery) -> Result<(), BindError>
 }
 
 fn some_is_deep(items: &[RawItem]) -> bool
-    ensures { result ≡ list_any (λ i. nat_lt 1024 (length i.path)) items.now }
+    ensures { result ≡ list_any (λ i. nat_lt deepest_query (length i.path)) items.now }
 {
-    items.iter().any(|item| item.path.len() > 1024)
+    items.iter().any(|item| item.path.len() > DEEPEST_QUERY)
 }
 
 /// Refuses the first comparison that joins two kinds.
-pub fn check_query_kinds(alloc: Global, rels: &[RelDef], query: &RawQuery) -> Result<(), BindError>
+pub fn check_query_kinds(
+    alloc: Global,
+    rels: &[RelDef],
+    items: &QueryItems,
+    query: &RawQuery,
+) -> Result<(), BindError>
+    requires items { items.now ≡ query.now.items }
     ensures { Checks result (query_kind rels.now query.now) }
 {
-    let (items, conds) = (query.items.as_slice(), query.conds.as_slice());
+    let conds = query.conds.as_slice();
     for cond in conds {
         check_cond(alloc, rels, items, cond)?;
     }
@@ -151,7 +160,7 @@ pub fn check_query_kinds(alloc: Global, rels: &[RelDef], query: &RawQuery) -> Re
 fn check_cond(
     alloc: Global,
     rels: &[RelDef],
-    items: &[RawItem],
+    items: &QueryItems,
     cond: &RawCond,
 ) -> Result<(), BindError>
     ensures { Checks result (cond_kind rels.now items.now cond.now) }
@@ -164,7 +173,7 @@ fn check_cond(
 }
 
 /// The kind of a comparison's right side.
-fn kind_of_side(rels: &[RelDef], items: &[RawItem], side: &RawSide) -> Option<Kind>
+fn kind_of_side(rels: &[RelDef], items: &QueryItems, side: &RawSide) -> Option<Kind>
     ensures { result ≡ kind_of_side rels.now items.now side.now }
 {
     match side {

@@ -1,24 +1,31 @@
 // What a query that isn't refused is bound to.
 ghost use Rattle.std.specs.Prelude.{◌≡◌, ◌≤◌, length, map, IfOk};
+ghost use Rattle.bdb_base.specs.Limits.{most_items};
 ghost use Rattle.bdb_base.specs.Bases.{IsCatalog};
 ghost use Rattle.bdb_bind.specs.QueryBinding.{place_named, query_column_at, query_side, query_cond, query_who, query_item, bound_query};
 
 use crate::making::{relation_at, uid_at};
-use crate::scope::{column_place, is_users, item_place};
+use crate::query_items::QueryItems;
+use crate::scope::{column_place, is_users};
 use bdb_base::{Catalog, Cond, Exact, Item, List, Operand, Query, Ref, Txt, Who};
 use bdb_syntax::{RawCol, RawCond, RawItem, RawQuery, RawSide, RawWho};
 use std::alloc::{AllocError, Global};
 
 /// A query, with its users, relations and columns by number.
 #[tactic(auto, unfolding(crate::specs::QueryBinding::bound_query))]
-pub fn bound_query(alloc: Global, catalog: &Catalog, query: &RawQuery) -> Result<Query, AllocError>
+pub fn bound_query(
+    alloc: Global,
+    catalog: &Catalog,
+    items: &QueryItems,
+    query: &RawQuery,
+) -> Result<Query, AllocError>
     requires catalog { IsCatalog catalog.now }
-    requires few { length query.now.items ≤ 8 }
+    requires items { items.now ≡ query.now.items }
+    requires few { length query.now.items ≤ most_items }
     ensures { IfOk result (λ b. b ≡ bound_query catalog.now query.now) }
 {
-    let items = query.items.as_slice();
     let take = bound_columns(alloc, catalog, items, query.take.as_slice())?;
-    let bound = bound_items(alloc, catalog, items, items)?;
+    let bound = bound_items(alloc, catalog, items, items.as_slice())?;
     let conds = bound_conds(alloc, catalog, items, query.conds.as_slice())?;
     Ok(Query {
         take,
@@ -28,11 +35,11 @@ pub fn bound_query(alloc: Global, catalog: &Catalog, query: &RawQuery) -> Result
 }
 
 /// The place of an item that is there.
-fn place_named(items: &[RawItem], alias: &Option<Txt>) -> u32
-    requires { length items.now ≤ 8 }
+fn place_named(items: &QueryItems, alias: &Option<Txt>) -> u32
+    requires { length items.now ≤ most_items }
     ensures { result ≡ place_named items.now alias.now }
 {
-    match item_place(items, alias) {
+    match items.place(alias) {
         Some(place) => place as u32,
         None => 0,
     }
@@ -40,9 +47,9 @@ fn place_named(items: &[RawItem], alias: &Option<Txt>) -> u32
 
 /// A column that is there, by places.
 #[tactic(auto, using(crate::proofs::ScopeLemmas::named_few))]
-fn query_column_at(catalog: &Catalog, items: &[RawItem], col: &RawCol) -> Ref
+fn query_column_at(catalog: &Catalog, items: &QueryItems, col: &RawCol) -> Ref
     requires catalog { IsCatalog catalog.now }
-    requires few { length items.now ≤ 8 }
+    requires few { length items.now ≤ most_items }
     ensures { result ≡ query_column_at catalog.now.rels items.now col.now }
 {
     let item = place_named(items, &col.alias);
@@ -56,11 +63,11 @@ fn query_column_at(catalog: &Catalog, items: &[RawItem], col: &RawCol) -> Ref
 fn bound_columns(
     alloc: Global,
     catalog: &Catalog,
-    items: &[RawItem],
+    items: &QueryItems,
     cols: &[RawCol],
 ) -> Result<List<Ref>, AllocError>
     requires catalog { IsCatalog catalog.now }
-    requires few { length items.now ≤ 8 }
+    requires few { length items.now ≤ most_items }
     ensures { IfOk result (λ b. b ≡ map (query_column_at catalog.now.rels items.now) cols.now) }
 {
     let mut bound = List::new(alloc);
@@ -73,11 +80,11 @@ fn bound_columns(
 fn query_side(
     alloc: Global,
     catalog: &Catalog,
-    items: &[RawItem],
+    items: &QueryItems,
     side: &RawSide,
 ) -> Result<Operand, AllocError>
     requires catalog { IsCatalog catalog.now }
-    requires few { length items.now ≤ 8 }
+    requires few { length items.now ≤ most_items }
     ensures { IfOk result (λ b. b ≡ query_side catalog.now.rels items.now side.now) }
 {
     match side {
@@ -89,11 +96,11 @@ fn query_side(
 fn query_cond(
     alloc: Global,
     catalog: &Catalog,
-    items: &[RawItem],
+    items: &QueryItems,
     cond: &RawCond,
 ) -> Result<Cond, AllocError>
     requires catalog { IsCatalog catalog.now }
-    requires few { length items.now ≤ 8 }
+    requires few { length items.now ≤ most_items }
     ensures { IfOk result (λ b. b ≡ query_cond catalog.now.rels items.now cond.now) }
 {
     let right = query_side(alloc, catalog, items, &cond.right)?;
@@ -107,11 +114,11 @@ fn query_cond(
 fn bound_conds(
     alloc: Global,
     catalog: &Catalog,
-    items: &[RawItem],
+    items: &QueryItems,
     conds: &[RawCond],
 ) -> Result<List<Cond>, AllocError>
     requires catalog { IsCatalog catalog.now }
-    requires few { length items.now ≤ 8 }
+    requires few { length items.now ≤ most_items }
     ensures { IfOk result (λ b. b ≡ map (query_cond catalog.now.rels items.now) conds.now) }
 {
     let mut bound = List::new(alloc);
@@ -123,9 +130,9 @@ fn bound_conds(
 
 /// A user of a path.
 #[tactic(auto, using(crate::proofs::CatalogLemmas::users_few))]
-fn query_who(catalog: &Catalog, items: &[RawItem], who: &RawWho) -> Who
+fn query_who(catalog: &Catalog, items: &QueryItems, who: &RawWho) -> Who
     requires catalog { IsCatalog catalog.now }
-    requires few { length items.now ≤ 8 }
+    requires few { length items.now ≤ most_items }
     ensures { result ≡ query_who catalog.now.users items.now who.now }
 {
     match who {
@@ -137,11 +144,11 @@ fn query_who(catalog: &Catalog, items: &[RawItem], who: &RawWho) -> Who
 fn bound_path(
     alloc: Global,
     catalog: &Catalog,
-    items: &[RawItem],
+    items: &QueryItems,
     path: &[RawWho],
 ) -> Result<List<Who>, AllocError>
     requires catalog { IsCatalog catalog.now }
-    requires few { length items.now ≤ 8 }
+    requires few { length items.now ≤ most_items }
     ensures { IfOk result (λ b. b ≡ map (query_who catalog.now.users items.now) path.now) }
 {
     let mut bound = List::new(alloc);
@@ -155,11 +162,11 @@ fn bound_path(
 fn query_item(
     alloc: Global,
     catalog: &Catalog,
-    items: &[RawItem],
+    items: &QueryItems,
     item: &RawItem,
 ) -> Result<Item, AllocError>
     requires catalog { IsCatalog catalog.now }
-    requires few { length items.now ≤ 8 }
+    requires few { length items.now ≤ most_items }
     ensures { IfOk result (λ b. b ≡ query_item catalog.now items.now item.now) }
 {
     let alias = item.alias.try_clone(alloc)?;
@@ -178,11 +185,11 @@ fn query_item(
 fn bound_items(
     alloc: Global,
     catalog: &Catalog,
-    items: &[RawItem],
+    items: &QueryItems,
     rest: &[RawItem],
 ) -> Result<List<Item>, AllocError>
     requires catalog { IsCatalog catalog.now }
-    requires few { length items.now ≤ 8 }
+    requires few { length items.now ≤ most_items }
     ensures { IfOk result (λ b. b ≡ map (query_item catalog.now items.now) rest.now) }
 {
     let mut bound = List::new(alloc);

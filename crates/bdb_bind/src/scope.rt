@@ -1,10 +1,10 @@
 // What the aliases and columns of a query stand for.
 ghost use Rattle.std.specs.Prelude.{◌≡◌, ◌<◌, length, IfSome};
-ghost use Rattle.std.specs.Option.{option_copied};
 ghost use Rattle.bdb_bind.specs.Lookup.{column_at, kind_at};
-ghost use Rattle.bdb_bind.specs.Scope.{is_users, item_place, item_of, user_columns, item_columns, columns_named, are_users, is_uid};
+ghost use Rattle.bdb_bind.specs.Scope.{is_users, user_columns, item_columns, columns_named, is_uid};
 
-use crate::lookup::{column_at, columns_of, is_same, kind_at};
+use crate::lookup::{column_at, columns_of, kind_at};
+use crate::query_items::QueryItems;
 use bdb_base::{Kind, RelDef, Sign, Txt};
 use bdb_syntax::{RawCol, RawItem};
 
@@ -15,53 +15,22 @@ pub fn is_users(item: &RawItem) -> bool
     item.rel.as_str() == "Users" && matches!(item.sign, Sign::Plus) && item.path.is_empty()
 }
 
-/// The place of the first item of an alias.
-pub fn item_place(items: &[RawItem], alias: &Option<Txt>) -> Option<usize>
-    ensures place { result ≡ item_place items.now alias.now }
-    ensures within { IfSome result (λ place. place < length items.now) }
-{
-    let Some(wanted) = alias else {
-        return None;
-    };
-    for (at, item) in items.iter().enumerate() {
-        if is_same(&item.alias, wanted) {
-            return Some(at);
-        }
-    }
-    None
-}
-
-/// The first item of an alias.
-fn item_of<'a>(items: &'a [RawItem], alias: &Option<Txt>) -> Option<&'a RawItem>
-    ensures { option_copied result ≡ item_of items.now alias.now }
-{
-    let Some(wanted) = alias else {
-        return None;
-    };
-    for item in items {
-        if is_same(&item.alias, wanted) {
-            return Some(item);
-        }
-    }
-    None
-}
-
 /// Whether a column is the number of a user.
-pub fn is_uid(items: &[RawItem], col: &RawCol) -> bool
+pub fn is_uid(items: &QueryItems, col: &RawCol) -> bool
     ensures { result ≡ is_uid items.now col.now }
 {
-    match item_of(items, &col.alias) {
+    match items.item(&col.alias) {
         Some(item) => is_users(item) && col.col.as_str() == "uid",
         None => false,
     }
 }
 
 /// The place of a column in its item.
-pub fn column_place(rels: &[RelDef], items: &[RawItem], col: &RawCol) -> Option<usize>
+pub fn column_place(rels: &[RelDef], items: &QueryItems, col: &RawCol) -> Option<usize>
     ensures place { result ≡ column_at (columns_named rels.now items.now col.now.alias) col.now.col }
     ensures within { IfSome result (λ at. at < length (columns_named rels.now items.now col.now.alias)) }
 {
-    match item_of(items, &col.alias) {
+    match items.item(&col.alias) {
         Some(item) => place_in_item(rels, item, &col.col),
         None => None,
     }
@@ -94,10 +63,10 @@ fn user_column_at(name: &Txt) -> Option<usize>
 }
 
 /// The kind of a column.
-pub fn kind_named(rels: &[RelDef], items: &[RawItem], col: &RawCol) -> Option<Kind>
+pub fn kind_named(rels: &[RelDef], items: &QueryItems, col: &RawCol) -> Option<Kind>
     ensures { result ≡ kind_at (columns_named rels.now items.now col.now.alias) col.now.col }
 {
-    match item_of(items, &col.alias) {
+    match items.item(&col.alias) {
         Some(item) => kind_in_item(rels, item, &col.col),
         None => None,
     }

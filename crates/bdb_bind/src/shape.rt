@@ -1,16 +1,16 @@
 // The checks of a command's sizes.
 ghost use Rattle.std.specs.Prelude.{◌≡◌};
 ghost use Rattle.bdb_bind.specs.Firsts.{Checks};
-ghost use Rattle.bdb_bind.specs.Lines.{text_line, items_line, begins_with, has_repeat, repeat_line, deep_line, change_arity};
+ghost use Rattle.bdb_bind.specs.Lines.{text_line, too_many_columns, begins_with, has_repeat, path_repeats, path_too_deep, change_arity};
 
 use crate::bound::BindError;
 use crate::lookup::is_same;
-use crate::parts::{depth_limit, has_long_text, new_columns, path_names, query_of};
-use crate::queries::{check_query_depth, check_query_items, check_query_repeat};
+use crate::parts::{depth_limit, has_long_text, new_columns, path_names};
+use bdb_base::limits::MOST_COLUMNS;
 use bdb_base::{ColDef, Txt};
 use bdb_syntax::Command;
 
-/// Refuses a text of more than 255 bytes.
+/// Refuses a text that is too long.
 #[tactic(auto, unfolding(crate::specs::Lines::text_line))]
 pub fn check_texts(command: &Command) -> Result<(), BindError>
     ensures { Checks result (text_line command.now) }
@@ -21,30 +21,22 @@ pub fn check_texts(command: &Command) -> Result<(), BindError>
     Ok(())
 }
 
-/// Refuses a relation of more than 16 columns, and a query of too many items or columns.
-#[tactic(auto, unfolding(crate::specs::Lines::items_line))]
+/// Refuses a relation of too many columns.
 pub fn check_items(command: &Command) -> Result<(), BindError>
-    ensures { Checks result (items_line command.now) }
+    ensures { Checks result (too_many_columns command.now) }
 {
-    if new_columns(command).len() > 16 {
+    if new_columns(command).len() > MOST_COLUMNS {
         return Err(BindError::Items);
-    }
-    if let Some(query) = query_of(command) {
-        check_query_items(query)?;
     }
     Ok(())
 }
 
 /// Refuses a path with two equal neighbours.
-#[tactic(auto, unfolding(crate::specs::Lines::repeat_line))]
 pub fn check_repeat(command: &Command) -> Result<(), BindError>
-    ensures { Checks result (repeat_line command.now) }
+    ensures { Checks result (path_repeats command.now) }
 {
     if has_repeat(path_names(command)) {
         return Err(BindError::Repeat);
-    }
-    if let Some(query) = query_of(command) {
-        check_query_repeat(query)?;
     }
     Ok(())
 }
@@ -74,15 +66,11 @@ fn begins_with(name: &Txt, names: &[Txt]) -> bool
 }
 
 /// Refuses a path that is too long.
-#[tactic(auto, unfolding(crate::specs::Lines::deep_line))]
 pub fn check_depth(command: &Command) -> Result<(), BindError>
-    ensures { Checks result (deep_line command.now) }
+    ensures { Checks result (path_too_deep command.now) }
 {
     if path_names(command).len() > depth_limit(command) {
         return Err(BindError::Deep);
-    }
-    if let Some(query) = query_of(command) {
-        check_query_depth(query)?;
     }
     Ok(())
 }

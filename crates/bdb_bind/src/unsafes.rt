@@ -14,33 +14,7 @@ use bdb_syntax::Command;
 use std::alloc::{AllocError, Global};
 
 /// Refuses a query that isn't safe.
-#[tactic(auto, unfolding(crate::specs::Refusal::unsafe_line), using(crate::proofs::SafeLemmas::selected_few, crate::proofs::SafeLemmas::explained_few, crate::proofs::SafeLemmas::catalog_few))]
-pub fn check_safe(
-    alloc: Global,
-    catalog: &Catalog,
-    command: &Command,
-    bound: &Bound,
-) -> Result<(), BindError>
-    requires catalog { IsCatalog catalog.now }
-    requires accepted { names_refused catalog.now command.now ≡ None }
-    requires made { bound.now ≡ bound_of catalog.now command.now }
-    ensures { Checks result (unsafe_line catalog.now command.now) }
-{
-    let rels = catalog.rels.as_slice();
-    match bound {
-        Bound::Select { query } => {
-            check_query(alloc, rels, query)?;
-            Ok(())
-        }
-        Bound::Explain { query } => {
-            check_query(alloc, rels, query)?;
-            Ok(())
-        }
-        _ => Ok(()),
-    }
-}
-
-fn check_query(alloc: Global, rels: &[RelDef], query: &Query) -> Result<(), BindError>
+pub fn check_safe(alloc: Global, rels: &[RelDef], query: &Query) -> Result<(), BindError>
     requires items { length query.now.items < 2 ^ 32 }
     requires columns { list_all (λ def. nat_lt (length def.cols) (2 ^ 32)) rels.now ≡ true }
     ensures { Checks result (query_unsafe rels.now query.now) }

@@ -6,6 +6,7 @@ use Rattle.std.proofs.lemmas.Bool.{lt-ltb, le-ltb, cases_lt, cond-true, cond-fal
 use Rattle.std.proofs.lemmas.List.{append-nil, drop-drop, take-append-drop}
 use Rattle.std.proofs.lemmas.Option.{slice_get-get_or}
 use Rattle.std.proofs.Math.Path.{transport}
+use Rattle.bdb_base.specs.Limits.{longest_command}
 use Rattle.bdb_lex.specs.declared.mode.Mode.{Mode}
 use Rattle.bdb_lex.specs.declared.token.Piece.{Piece}
 use Rattle.bdb_lex.specs.declared.token.Piece.TheVariants.{Cmd, Long}
@@ -147,6 +148,11 @@ pub kept_long : (p : Piece) (is_long : Bool) (old run : List ℕ) → is_long �
 kept_long p is_long old run long is_p =
     let was : p ≡ Long = sym is_p ∙ cond-true _ _ _ long in
     was ∙ (sym (longer_by-long run) ∙ ap (λ q. longer_by q run) (sym was))
+
+-- a piece of few bytes is short, and so is a long one
+pub kept_short : (is_long : Bool) (bytes : List ℕ) → length bytes ≤ longest_command → is_short (cond is_long Long (Cmd bytes)) ≡ true
+kept_short true bytes few = refl
+kept_short false bytes few = le-leb (length bytes) longest_command few
 
 -- a test that looks at the second part only where the first fails
 pub or_later : (x y z b : Bool) → x ≡ false → z ≡ b → y ≡ b → z ≡ (x || y)

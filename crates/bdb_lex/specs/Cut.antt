@@ -1,5 +1,6 @@
 -- Cutting a script into pieces, one step for each byte.
 use Rattle.std.specs.Prelude.{◌≡◌, ℕ, Bool, true, false, not, ◌&&◌, ◌||◌, cond, nat_eq, nat_lt, nat_le, List, [], ◌∷◌, ◌++◌, length}
+use Rattle.bdb_base.specs.Limits.{longest_command}
 use Rattle.bdb_lex.specs.Bytes.{is_blank}
 use Rattle.bdb_lex.specs.declared.mode.Mode.{Mode}
 use Rattle.bdb_lex.specs.declared.mode.Mode.TheVariants.{Plain, Dash, Quoted, Comment}
@@ -14,6 +15,15 @@ pub record CutState : Type 0 where
   pub mode : Mode
   pub piece : Piece
   pub holds : Bool
+
+-- a cutter: what was read since the last cut, and whether it is spent, as a refusal leaves it
+pub record CutterState : Type 0 where
+  pub state : CutState
+  pub is_spent : Bool
+
+-- a cutter that may be fed
+abbrev pub ready : CutState → CutterState
+ready s = record { state = s; is_spent = false }
 
 -- nothing was read since the last cut
 abbrev pub start : CutState
@@ -46,7 +56,7 @@ shows Comment b = false
 
 -- the piece with one more byte: long from 65,537 bytes on
 abbrev pub longer : Piece → ℕ → Piece
-longer (Cmd bytes) b = cond (nat_lt (length bytes) 65536) (Cmd (bytes ++ b ∷ [])) Long
+longer (Cmd bytes) b = cond (nat_lt (length bytes) longest_command) (Cmd (bytes ++ b ∷ [])) Long
 longer Long b = Long
 
 -- the state after a byte that ends no piece
@@ -108,5 +118,5 @@ pub record GrewByFront {X : Type 0} (old new items : List X) : Type 0 where
 
 -- a piece has at most 65,536 bytes, or is long
 abbrev pub is_short : Piece → Bool
-is_short (Cmd bytes) = nat_le (length bytes) 65536
+is_short (Cmd bytes) = nat_le (length bytes) longest_command
 is_short Long = true

@@ -1,6 +1,7 @@
 -- A script as a list of spans, one after the other.
 use Rattle.std.specs.Prelude.{◌≡◌, ℕ, Bool, true, false, not, ◌&&◌, cond, nat_eq, nat_le, List, [], ◌∷◌, ◌++◌, length}
 use Rattle.std.specs.List.{list_all, list_any, flat_map}
+use Rattle.bdb_base.specs.Limits.{longest_command}
 use Rattle.bdb_lex.specs.declared.token.Piece.{Piece}
 use Rattle.bdb_lex.specs.declared.token.Piece.TheVariants.{Cmd, Long}
 use Rattle.bdb_lex.specs.Bytes.{is_blank}
@@ -64,7 +65,7 @@ pub record AreSpans (script : List ℕ) (spans : List Span) : Type 0 where
 
 -- the piece of these bytes
 abbrev pub piece_of : List ℕ → Piece
-piece_of bytes = cond (nat_le (length bytes) 65536) (Cmd bytes) Long
+piece_of bytes = cond (nat_le (length bytes) longest_command) (Cmd bytes) Long
 
 -- the pieces: the bytes before each end, back to the end before it, where some came before these spans
 abbrev pub pieces_between : List ℕ → List Span → List Piece

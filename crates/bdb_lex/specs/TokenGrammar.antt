@@ -1,6 +1,7 @@
 -- The tokens of a piece in the words of their spelling: 39 is the quote, 45 the dash and 10 the line feed.
 use Rattle.std.specs.Prelude.{◌≡◌, ◌↔◌, ◌⊎◌, ℕ, Bool, true, false, cond, nat_eq, nat_le, ◌&&◌, Some, List, [], ◌∷◌, ◌++◌, length}
 use Rattle.std.specs.List.{list_all}
+use Rattle.bdb_base.specs.Limits.{longest_word}
 use Rattle.bdb_lex.specs.declared.token.Token.{Token}
 use Rattle.bdb_lex.specs.declared.token.Token.TheVariants.{Word, Text, Num, Comma, Dot, ParenL, ParenR, Eq, Ne, Lt, Le, Gt, Ge}
 use Rattle.bdb_lex.specs.Bytes.{is_blank}
@@ -79,7 +80,7 @@ TokensAreSpelled = (piece : List ℕ) (ts : List Token) → (tokens_of piece ≡
 
 -- a word of a letter and of letters and digits, at most 255 bytes in all; a number; a text of allowed content; another token
 abbrev pub is_formed : Token → Bool
-is_formed (Word w) = is_word w && nat_le (length w) 255
+is_formed (Word w) = is_word w && nat_le (length w) longest_word
 is_formed (Num n) = is_num n
 is_formed t = is_allowed t
 

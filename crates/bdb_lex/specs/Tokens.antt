@@ -3,6 +3,7 @@ use Rattle.std.specs.Prelude.{ℕ, Bool, true, ◌&&◌, cond, nat_eq, nat_le, O
 use Rattle.std.specs.List.{list_all}
 use Rattle.std.specs.Str.{is_utf8}
 use Rattle.std.specs.Char.{is_ascii_digit}
+use Rattle.bdb_base.specs.Limits.{longest_word}
 use Rattle.bdb_lex.specs.Bytes.{is_blank, is_letter, is_word_byte}
 use Rattle.bdb_lex.specs.declared.token.Token.{Token}
 use Rattle.bdb_lex.specs.declared.token.Token.TheVariants.{Word, Text, Num, Comma, Dot, ParenL, ParenR, Eq, Ne, Lt, Le, Gt, Ge}
@@ -13,7 +14,7 @@ is_content bytes = is_utf8 bytes && list_all (λ b. nat_le 32 b) bytes
 
 -- a word of at most 255 bytes, a text of allowed content, or another token
 abbrev pub is_allowed : Token → Bool
-is_allowed (Word w) = nat_le (length w) 255
+is_allowed (Word w) = nat_le (length w) longest_word
 is_allowed (Text content) = is_content content
 is_allowed t = true
 

@@ -1,17 +1,17 @@
 // The piece that is being read.
-ghost use Rattle.std.specs.Prelude.{◌≡◌, [], OnOk};
+ghost use Rattle.std.specs.Prelude.{◌≡◌, true, [], OnOk};
+ghost use Rattle.bdb_lex.specs.Cut.{is_short};
 ghost use Rattle.bdb_lex.specs.Runs.{longer_by};
 
 use crate::token::Piece;
 use bdb_base::List;
+use bdb_base::limits::LONGEST_COMMAND;
 use std::alloc::{AllocError, Global};
 use std::marker::Model;
 use std::mem;
 
-/// How many bytes a piece may have. A longer one is `Long`.
-const LIMIT: usize = 65536;
-
-/// A piece that hasn't ended yet. No more than 65,536 bytes are kept.
+/// A piece that hasn't ended yet. No more bytes are kept than a command may have; of a longer piece, which
+/// is `Long`, none are.
 #[derive(Drop)]
 pub struct Growing {
     bytes: Vec<u8>,
@@ -19,7 +19,8 @@ pub struct Growing {
 }
 
 impl Model for Growing {
-    ghost use Rattle.std.specs.Prelude.{◌≤◌, length, cond};
+    ghost use Rattle.std.specs.Prelude.{◌≡◌, ◌≤◌, true, [], length, cond};
+    ghost use Rattle.bdb_base.specs.Limits.{longest_command};
     ghost use Rattle.bdb_lex.specs.declared.token.Piece.{Piece};
     ghost use Rattle.bdb_lex.specs.declared.token.Piece.TheVariants.{Cmd, Long};
 
@@ -27,7 +28,7 @@ impl Model for Growing {
 
     ghost view = { λ g. cond g.is_long Long (Cmd g.bytes.items) };
 
-    ghost invariant = { λ g. length g.bytes.items ≤ 65536 };
+    ghost invariant = { λ g. (length g.bytes.items ≤ longest_command) × (g.is_long ≡ true → g.bytes.items ≡ []) };
 }
 
 impl Growing {
@@ -42,13 +43,15 @@ impl Growing {
     }
 
     /// Adds bytes. The only error is want of memory.
+    #[tactic(auto, using(crate::proofs::CutLemmas::kept_short))]
     pub fn extend(&mut self, run: &[u8]) -> Result<(), AllocError>
-        ensures { OnOk result (self.new ≡ longer_by self.old run.now) }
+        ensures grown { OnOk result (self.new ≡ longer_by self.old run.now) }
+        ensures short { is_short self.new ≡ true }
     {
         if self.is_long {
             return Ok(());
         }
-        if run.len() > LIMIT - self.bytes.len() {
+        if run.len() > LONGEST_COMMAND - self.bytes.len() {
             self.is_long = true;
             self.bytes.clear();
             return Ok(());

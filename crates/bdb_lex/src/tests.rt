@@ -1,5 +1,6 @@
 // Worked pieces and tokens.
 use crate::{Cutter, LexError, Piece, Rest, Token, tokens};
+use bdb_base::limits::{LONGEST_COMMAND, LONGEST_WORD};
 use bdb_base::{Exact, List};
 use std::alloc::{AllocError, Global};
 use std::test::Fail;
@@ -84,7 +85,7 @@ fn reads_tokens(rt: HostRuntime) -> Result<(), Fail> {
 #[test]
 fn bounds_words(rt: HostRuntime) -> Result<(), Fail> {
     let mut word = Vec::new(rt.alloc());
-    for _ in 0..255 {
+    for _ in 0..LONGEST_WORD {
         word.push(b'w')?;
     }
     let line = shown(rt.alloc(), word.as_slice())?;
@@ -115,7 +116,7 @@ fn cut(alloc: Global, script: &[u8], size: usize) -> Result<(Vec<u8>, Rest), All
 
 #[test]
 fn cuts_pieces(rt: HostRuntime) -> Result<(), Fail> {
-    let cases: [(&[u8], &[u8], Rest); 16] = [
+    let cases: [(&[u8], &[u8], Rest); 18] = [
         (b"", b"", Rest::Nothing),
         (
             b"-- a; b\nshow world;;",
@@ -136,9 +137,19 @@ fn cuts_pieces(rt: HostRuntime) -> Result<(), Fail> {
         (b"'--';--'\n;", b"'--'|--'\n|", Rest::Nothing),
         (b"---;\n;", b"---;\n|", Rest::Nothing),
         (b"\xff;\0", b"\xff|", Rest::Unfinished),
+        (
+            b"create user 'A'; insert into S values('a",
+            b"create user 'A'|",
+            Rest::Unfinished,
+        ),
+        (
+            b"INSERT into S values('it''s','');-- a; b\nshow world;;",
+            b"INSERT into S values('it''s','')|-- a; b\nshow world||",
+            Rest::Nothing,
+        ),
     ];
     for (script, want, rest) in cases {
-        for size in [1, 2, 64] {
+        for size in [1, 2, 7, 4096] {
             let (line, said) = cut(rt.alloc(), script, size)?;
             assert_eq!(rt; line.as_slice(), want);
             assert_eq!(rt; said, rest);
@@ -150,9 +161,12 @@ fn cuts_pieces(rt: HostRuntime) -> Result<(), Fail> {
 #[test]
 fn cuts_long_pieces(rt: HostRuntime) -> Result<(), Fail> {
     let mut script = Vec::new(rt.alloc());
-    for _ in 0..65536 {
+    for _ in 0..LONGEST_COMMAND {
         script.push(b' ')?;
     }
+    let (line, rest) = cut(rt.alloc(), script.as_slice(), 4096)?;
+    assert_eq!(rt; line.len(), 0);
+    assert_eq!(rt; rest, Rest::Nothing);
     script.push(b';')?;
     let (line, _) = cut(rt.alloc(), script.as_slice(), 1000)?;
     assert_eq!(rt; line.len(), 65537);

@@ -3,6 +3,7 @@ ghost use Rattle.std.specs.Prelude.{◌≡◌, IfOk};
 
 use bdb_base::{Exact, List, Txt};
 use std::alloc::{AllocError, Global};
+use thiserror::Error;
 
 /// A token of BeliefSQL.
 #[derive(Drop)]
@@ -28,7 +29,7 @@ pub enum Token {
 /// A piece of a script, which ended with a semicolon.
 #[derive(Drop)]
 pub enum Piece {
-    /// A piece of at most 65,536 bytes, without the semicolon.
+    /// A piece of at most `LONGEST_COMMAND` bytes, without the semicolon.
     Cmd(List<u8>),
     /// A longer piece.
     Long,
@@ -44,11 +45,13 @@ pub enum Rest {
 }
 
 /// Why a piece has no tokens.
-#[derive(Clone, Copy, Debug, PartialEq, Eq, Drop)]
+#[derive(Clone, Copy, Debug, PartialEq, Eq, Drop, Error)]
 pub enum LexError {
     /// The piece is no list of tokens.
+    #[error("the piece is no list of tokens")]
     NotTokens,
     /// There is no memory.
+    #[error("there is no memory")]
     Memory,
 }
 

@@ -10,10 +10,8 @@ ghost use Rattle.bdb_lex.specs.Reading.{begins, begins_gap, begins_num, is_num, 
 use crate::bytes::{is_digit, is_word_byte};
 use crate::token::{LexError, Token};
 use bdb_base::Txt;
+use bdb_base::limits::LONGEST_WORD;
 use std::alloc::Global;
-
-/// How many bytes a word may have.
-const LONGEST_WORD: usize = 255;
 
 /// The word at the front, and the bytes behind it. `NotTokens` comes exactly where it is too long.
 pub fn word_at(alloc: Global, bytes: &[u8]) -> Result<(Token, &[u8]), LexError>

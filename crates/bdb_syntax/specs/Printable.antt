@@ -3,6 +3,7 @@ use Rattle.std.specs.Prelude.{◌≡◌, ℕ, Bool, true, false, ◌&&◌, ◌||
 use Rattle.std.specs.Char.{is_ascii_alphabetic, is_ascii_alphanumeric}
 use Rattle.std.specs.List.{list_all, AllByRecursion}
 use Rattle.std.specs.Str.{IsUtf8}
+use Rattle.bdb_base.specs.Limits.{longest_word}
 use Rattle.bdb_base.specs.declared.kinds.Value.{Value}
 use Rattle.bdb_base.specs.declared.kinds.Value.TheVariants as values
 use Rattle.bdb_base.specs.declared.kinds.ColDef.{ColDef}
@@ -31,7 +32,7 @@ is_in_word c = is_ascii_alphanumeric c || nat_eq c 95
 -- a letter or '_', then letters, digits or '_'; at most 255 bytes in all
 abbrev pub is_word : List ℕ → Bool
 is_word [] = false
-is_word (c ∷ cs) = begins_word c && (list_all is_in_word cs && nat_le (length (c ∷ cs)) 255)
+is_word (c ∷ cs) = begins_word c && (list_all is_in_word cs && nat_le (length (c ∷ cs)) longest_word)
 
 -- a word that isn't reserved
 abbrev pub IsName : List ℕ → Type 0

@@ -1,6 +1,0 @@
-use Rattle.std.proofs.Common.{◌≡◌, [], take, drop}
-use Rattle.bdb_bind.specs.QueryLines.{alias_twice}
-use Rattle.bdb_bind.proofs.aliases.check_differ.Given as goal
-
-abbrev pub invariant-loop-at : goal.invariant-loop-at
-invariant-loop-at l = alias_twice [] l.items ≡ alias_twice (take l.at l.items) (drop l.at l.items)
