@@ -1,11 +1,8 @@
 -- The rows that are found are the answers.
-use Rattle.std.proofs.Common.{◌≡◌, ◌∙◌, ℕ, suc, ◌+◌, ◌^◌, ◌≤◌, Bool, true, false, ◌||◌, inl, inr, nat_lt, nat_le, List, [], ◌∷◌, Option, None, Some, refl, ap, sym, length, map, arith}
-use Rattle.std.specs.declared.cmp.Ordering.{Ordering}
-use Rattle.std.specs.declared.cmp.Ordering.TheVariants.{Less, Equal, Greater}
-use Rattle.std.specs.List.{list_any, list_all, slice_get}
+use Rattle.std.proofs.Common.{◌≡◌, ◌∙◌, ℕ, suc, ◌+◌, Bool, true, false, ◌||◌, inl, inr, List, [], ◌∷◌, Option, None, Some, refl, ap, sym, length, map, arith}
+use Rattle.std.specs.List.{list_any, slice_get}
 use Rattle.std.specs.Ordering.{is_eq}
-use Rattle.std.proofs.lemmas.Bool.{false≢true, cases_Bool, cond-true, cond-false, and_parts}
-use Rattle.std.proofs.lemmas.Bool.Decides.{nat_tests}
+use Rattle.std.proofs.lemmas.Bool.{false≢true, cases_Bool, cond-true, cond-false}
 use Rattle.bdb_base.specs.declared.kinds.Cond.{Cond}
 use Rattle.bdb_base.specs.declared.kinds.Held.{Held}
 use Rattle.bdb_base.specs.declared.kinds.Item.{Item}
@@ -16,22 +13,22 @@ use Rattle.bdb_base.specs.Bases.{Contents, IsValid}
 use Rattle.bdb_base.specs.Order.{row_cmp}
 use Rattle.bdb_base.specs.OrderLemmas.{row_exact}
 use Rattle.bdb_base.specs.Queries.{active_domain, HasValues, answers_of, answers_over, option_list}
-use Rattle.bdb_base.specs.Safety.{query_fits, item_fits, IsSafe}
-use Rattle.bdb_base.specs.SortedSet.{put_at, put_in, sorted_set, put_all}
+use Rattle.bdb_base.specs.Safety.{query_fits, IsSafe}
+use Rattle.bdb_base.specs.SortedSet.{sorted_set}
 use Rattle.bdb_base.proofs.SetLemmas.{set_is_ascending, set_keeps_members, is_eq_itself, loop_makes_set}
 use Rattle.bdb_queries.specs.QueryLaws.{IsHeldRow}
 use Rattle.bdb_queries.proofs.AnswerLemmas.{row_of_option}
 use Rattle.bdb_queries.proofs.DomainLemmas.{answers_are_what_holds, answers_need_no_domain}
 use Rattle.bdb_model.specs.Answering.{last_rows, rows_of_tuples, rows_of_users, open_slots, all_rows}
 use Rattle.bdb_model.specs.Choosing.{chosen_rows}
-use Rattle.bdb_model.specs.Collected.{Collected, with_rows}
-use Rattle.bdb_model.specs.Limits.{up_to}
+use Rattle.bdb_queries.specs.Collected.{with_rows}
+use Rattle.bdb_queries.specs.Limits.{up_to}
 use Rattle.bdb_model.specs.Pools.{item_world, user_pool, plus_pools, minus_pools}
-use Rattle.bdb_model.specs.Slots.{slot_at, must_all_hold, known_row}
+use Rattle.bdb_queries.specs.Slots.{slot_at, must_all_hold, known_row}
 use Rattle.bdb_model.specs.Sources.{AreSources}
 use Rattle.bdb_model.proofs.ChainLemmas.{Comes, come_below, come_hold}
-use Rattle.bdb_model.proofs.ChoosingLemmas.{with_rows_full}
-use Rattle.bdb_model.proofs.HoldingLemmas.{held_slots_of_row, held_row_of_slots}
+use Rattle.bdb_queries.proofs.CollectedLemmas.{collected_rows}
+use Rattle.bdb_queries.proofs.HoldingLemmas.{items_fit, held_slots_of_row, held_row_of_slots}
 use Rattle.bdb_model.proofs.PassLemmas.{Chosen, chosen_from_rows, rows_from_chosen}
 use Rattle.bdb_model.proofs.SlotLemmas.{below_then, below_may, below_path}
 use Rattle.bdb_model.proofs.WholeLemmas.{users_part, given_part, parts_below, held_come}
@@ -68,9 +65,6 @@ last_row q slots row m = elim (cases_Bool (must_all_hold slots q.conds)) [
   | inl k ↦ (k, row_of_option (known_row slots q.take) row (ap (list_any (is_row row)) (sym (cond-true (must_all_hold slots q.conds) (option_list (known_row slots q.take)) [] k)) ∙ m))
   | inr k ↦ absurd (false≢true (ap (list_any (is_row row)) (sym (cond-false (must_all_hold slots q.conds) (option_list (known_row slots q.take)) [] k)) ∙ m))
 ]
-
-items_fit : (b : Contents) (q : Query) → query_fits b.catalog q ≡ true → list_all (item_fits b.catalog q.items) q.items ≡ true
-items_fit b q h = (and_parts (list_all (item_fits b.catalog q.items) q.items) _ (and_parts (list_all (λ def. nat_lt (length def.cols) (2 ^ 32)) b.catalog.rels) _ (and_parts (nat_lt (length q.items) (2 ^ 32)) _ h).1).1).0
 
 pub found_is_held : (b : Contents) (q : Query) (sources : List Cond) → IsValid b.catalog b.stmts → query_fits b.catalog q ≡ true → (row : List Value)
     → list_any (is_row row) (all_rows b q sources) ≡ true → IsHeldRow b q row
@@ -136,42 +130,6 @@ pub rows_are_answers : (b : Contents) (q : Query) (sources : List Cond) → IsVa
 rows_are_answers b q sources valid fits safe are = answers_are_what_holds b q safe (sorted_set row_cmp (all_rows b q sources)) (set_is_ascending row_exact (all_rows b q sources))
     (λ row m. found_is_held b q sources valid fits row (sym (set_keeps_members row_exact (all_rows b q sources) row) ∙ m))
     (λ row h. set_keeps_members row_exact (all_rows b q sources) row ∙ held_is_found b q sources valid fits safe are row h)
-
--- ---- rows that are collected
-
-put_length : (xs : List (List Value)) (x : List Value) → length xs ≤ length (put_in row_cmp xs x)
-put_length [] x = omega arith
-put_length (y ∷ ys) x = by_order (row_cmp y x) (put_length ys x)
-  where
-    by_order : (o : Ordering) → length ys ≤ length (put_in row_cmp ys x) → length (y ∷ ys) ≤ length (put_at o y ys x (put_in row_cmp ys x))
-    by_order Less h = omega arith
-    by_order Equal h = omega arith
-    by_order Greater h = omega arith
-
-all_length : (xs rows : List (List Value)) → length xs ≤ length (put_all row_cmp xs rows)
-all_length xs [] = omega arith
-all_length xs (row ∷ rows) =
-    let a = put_length xs row in
-    let b = all_length (put_in row_cmp xs row) rows in
-    omega arith
-
-too_many : (most : ℕ) (xs : List (List Value)) → nat_le (length xs) most ≡ false → up_to most xs ≡ None
-too_many most xs h = cond-false (nat_le (length xs) most) (Some xs) None h
-
-still_too_many : (most m n : ℕ) → nat_le m most ≡ false → m ≤ n → nat_le n most ≡ false
-still_too_many most m n h k = grind (arith, nat_tests)
-
-pub collected_rows : (most : ℕ) (xs rows : List (List Value)) → up_to most (with_rows (record { rows = xs; most = most }) rows).rows ≡ up_to most (put_all row_cmp xs rows)
-collected_rows most xs [] = refl
-collected_rows most xs (row ∷ rows) = elim (cases_Bool (nat_le (length xs) most)) [
-  | inl k ↦
-      ap (λ f. up_to most (with_rows f rows).rows) (cond-true (nat_le (length xs) most) (record { rows = put_in row_cmp xs row; most = most }) (record { rows = xs; most = most }) k)
-      ∙ collected_rows most (put_in row_cmp xs row) rows
-  | inr k ↦
-      let start : Collected = record { rows = xs; most = most } in
-      ap (λ f. up_to most f.rows) (with_rows_full start (row ∷ rows) k) ∙ too_many most xs k
-      ∙ sym (too_many most (put_all row_cmp xs (row ∷ rows)) (still_too_many most (length xs) (length (put_all row_cmp xs (row ∷ rows))) k (all_length xs (row ∷ rows))))
-]
 
 -- the rows that are collected are the answers
 pub collected_answers : (b : Contents) (q : Query) (sources : List Cond) (most : ℕ) → IsValid b.catalog b.stmts → query_fits b.catalog q ≡ true → IsSafe b.catalog.rels q → AreSources q sources

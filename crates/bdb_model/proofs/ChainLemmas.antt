@@ -18,10 +18,11 @@ use Rattle.bdb_base.specs.SameLemmas.{same_tuple-Decides}
 use Rattle.bdb_queries.proofs.FoundLemmas.{Found}
 use Rattle.bdb_model.specs.Answering.{open_slots}
 use Rattle.bdb_model.specs.Pools.{item_world, world_at, user_pool, plus_pools, minus_pools, sourced_values, tuple_of, denies, is_denied, denied_tuples}
-use Rattle.bdb_model.specs.Slots.{path_of}
-use Rattle.bdb_model.proofs.HoldingLemmas.{SlotsHold}
+use Rattle.bdb_queries.specs.Slots.{path_of}
+use Rattle.bdb_queries.proofs.HoldingLemmas.{SlotsHold}
 use Rattle.bdb_model.proofs.PassLemmas.{Chosen}
-use Rattle.bdb_model.proofs.PoolLemmas.{found_nowhere, user_of_tuple, plus_is_believed, denied_at, believed_fits}
+use Rattle.bdb_queries.proofs.UserLemmas.{found_nowhere, user_of_tuple}
+use Rattle.bdb_model.proofs.PoolLemmas.{plus_is_believed, denied_at, believed_fits}
 use Rattle.bdb_model.proofs.SlotLemmas.{Below}
 
 -- Slots of items come of one another by the three stages, from a place on. The worlds are those of the first slots, and

@@ -2,10 +2,8 @@ pub mod AnswerLemmas
 pub mod BaseLemmas
 pub mod ClashLemmas
 pub mod ChoosingLemmas
-pub mod FoundLemmas
 pub mod ChainLemmas
 pub mod EndLemmas
-pub mod HoldingLemmas
 pub mod LevelLemmas
 pub mod PassLemmas
 pub mod PoolLemmas

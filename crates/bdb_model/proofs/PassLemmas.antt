@@ -1,36 +1,15 @@
 -- What comes of choosing a tuple from each pool.
-use Rattle.std.proofs.Common.{◌≡◌, ◌∙◌, ℕ, ◌+◌, Bool, true, false, not, List, [], ◌∷◌, ◌++◌, Option, None, Some, inl, inr, refl, ap, sym, length, slice_set, arith, append_assoc, subst, ◌||◌}
-use Rattle.std.specs.List.{list_any, list_all}
-use Rattle.std.proofs.lemmas.Bool.{false≢true, cases_Bool, cond-true, cond-false, or_cases, and_parts}
+use Rattle.std.proofs.Common.{◌≡◌, ◌∙◌, ℕ, ◌+◌, Bool, true, List, [], ◌∷◌, ◌++◌, Option, None, Some, inl, inr, refl, ap, sym, length, slice_set, arith, append_assoc, subst}
+use Rattle.std.specs.List.{list_any}
+use Rattle.std.proofs.lemmas.Bool.{false≢true, cases_Bool, cond-true, cond-false}
 use Rattle.bdb_base.specs.declared.kinds.Cond.{Cond}
 use Rattle.bdb_base.specs.declared.kinds.Value.{Value}
 use Rattle.bdb_base.specs.declared.tuple.Tuple.{Tuple}
 use Rattle.bdb_base.proofs.WorldRowsLemmas.{list_any-flat_map}
-use Rattle.bdb_queries.proofs.FoundLemmas.{Found, found_first, found_later}
+use Rattle.bdb_queries.proofs.FoundLemmas.{Found, found_with}
 use Rattle.bdb_model.specs.Choosing.{chosen_rows, rows_with}
-use Rattle.bdb_model.specs.Slots.{may_all_hold}
+use Rattle.bdb_model.specs.Allowed.{may_all_hold}
 use Rattle.bdb_model.proofs.SlotLemmas.{Below, below_append}
-
--- some item that passes is in the list
-pub found_with : {X : Type 0} (p : X → Bool) (xs : List X) → list_any p xs ≡ true → (x : X) × (p x ≡ true) × Found x xs
-found_with p [] e = absurd (false≢true e)
-found_with p (x ∷ xs) e = elim (or_cases (p x) (list_any p xs) e) [
-  | inl k ↦ (x, k, found_first x xs)
-  | inr k ↦ let rest = found_with p xs k in (rest.0, rest.1, found_later rest.0 x xs rest.2)
-]
-
-all_refuse : {X : Type 0} (p : X → Bool) (xs : List X) → list_all p xs ≡ true → list_any (λ x. not (p x)) xs ≡ false
-all_refuse p [] h = refl
-all_refuse p (x ∷ xs) h =
-    let k = and_parts (p x) (list_all p xs) h in
-    ap (λ b. not b || list_any (λ y. not (p y)) xs) k.0 ∙ all_refuse p xs k.1
-
--- what all items pass, an item of the list passes
-pub found_passes : {X : Type 0} (p : X → Bool) (xs : List X) (x : X) → list_all p xs ≡ true → Found x xs → p x ≡ true
-found_passes p xs x h f = elim (cases_Bool (p x)) [
-  | inl k ↦ k
-  | inr k ↦ absurd (false≢true (sym (all_refuse p xs h) ∙ f (λ y. not (p y)) (ap not k)))
-]
 
 -- Slots come of others by a choice from each pool: where there is none they are as they were.
 abbrev pub Chosen : List (Option (List Tuple)) → List (Option Tuple) → List (Option Tuple) → Type 0

@@ -16,7 +16,8 @@ use Rattle.bdb_base.specs.Conditions.{compare_so}
 use Rattle.bdb_base.proofs.ListLemmas.{list_all_weaker}
 use Rattle.bdb_queries.proofs.FoundLemmas.{option_map_some}
 use Rattle.bdb_queries.proofs.RangeLemmas.{and_then_some}
-use Rattle.bdb_model.specs.Slots.{slot_at, known, known_operand, may_compare, may_hold, may_all_hold, must_hold, must_all_hold, uid_of, path_of}
+use Rattle.bdb_queries.specs.Slots.{slot_at, known, known_operand, must_hold, must_all_hold, uid_of, path_of}
+use Rattle.bdb_model.specs.Allowed.{may_compare, may_hold, may_all_hold}
 
 -- what is chosen in the former is chosen in the latter
 abbrev pub Below : List (Option Tuple) → List (Option Tuple) → Type 0

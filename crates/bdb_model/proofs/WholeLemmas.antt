@@ -24,11 +24,12 @@ use Rattle.bdb_base.specs.Safety.{is_given, is_minus, is_users_item, who_fits, f
 use Rattle.bdb_queries.proofs.FoundLemmas.{Found, found_first}
 use Rattle.bdb_model.specs.Answering.{open_slots}
 use Rattle.bdb_model.specs.Pools.{world_at, sourced_value, sourced_values, tuple_of, denies, is_denied, denied_tuples}
-use Rattle.bdb_model.specs.Slots.{slot_at, known, known_operand, must_hold, must_all_hold, uid_of, path_of, user_tuple}
+use Rattle.bdb_queries.specs.Slots.{slot_at, known, known_operand, must_hold, must_all_hold, uid_of, path_of, user_tuple}
 use Rattle.bdb_model.specs.Sources.{source_of, source_in, is_simple, is_source, AreSources}
 use Rattle.bdb_model.proofs.ChainLemmas.{Comes}
-use Rattle.bdb_model.proofs.HoldingLemmas.{SlotsHold}
-use Rattle.bdb_model.proofs.PoolLemmas.{found_user_tuple, believed_is_plus, believed_at}
+use Rattle.bdb_queries.proofs.HoldingLemmas.{SlotsHold}
+use Rattle.bdb_queries.proofs.UserLemmas.{found_user_tuple}
+use Rattle.bdb_model.proofs.PoolLemmas.{believed_is_plus, believed_at}
 use Rattle.bdb_model.proofs.SlotLemmas.{Below}
 use Rattle.bdb_model.proofs.SourceLemmas.{found_source, source_value}
 

@@ -12,7 +12,7 @@ use Rattle.bdb_base.specs.Bases.{Contents}
 use Rattle.bdb_base.specs.Queries.{option_list}
 use Rattle.bdb_model.specs.Choosing.{chosen_rows}
 use Rattle.bdb_model.specs.Pools.{item_world, user_pool, plus_pools, minus_pools}
-use Rattle.bdb_model.specs.Slots.{must_all_hold, known_row}
+use Rattle.bdb_queries.specs.Slots.{must_all_hold, known_row}
 
 -- the row of slots in which all is chosen, where all comparisons hold
 abbrev pub last_rows : Query → List (Option Tuple) → List (List Value)

@@ -4,7 +4,7 @@ use Rattle.std.specs.List.{flat_map}
 use Rattle.bdb_base.specs.declared.kinds.Cond.{Cond}
 use Rattle.bdb_base.specs.declared.kinds.Value.{Value}
 use Rattle.bdb_base.specs.declared.tuple.Tuple.{Tuple}
-use Rattle.bdb_model.specs.Slots.{may_all_hold}
+use Rattle.bdb_model.specs.Allowed.{may_all_hold}
 
 -- A place without a pool stays as it is. Each tuple of a pool is tried; where no comparison is known to fail, the choice
 -- goes on at the next place. `last` gives the rows of slots in which all is chosen.

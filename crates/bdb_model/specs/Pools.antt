@@ -19,7 +19,7 @@ use Rattle.bdb_base.specs.Clash.{clash}
 use Rattle.bdb_base.specs.Queries.{columns_at}
 use Rattle.bdb_base.specs.Same.{same_sign}
 use Rattle.bdb_base.specs.WorldRows.{world_of}
-use Rattle.bdb_model.specs.Slots.{known_operand, path_of, user_tuples}
+use Rattle.bdb_queries.specs.Slots.{known_operand, path_of, user_tuples}
 use Rattle.bdb_model.specs.Sources.{source_of}
 
 -- the world of a path, if it is there and has no equal neighbours; else nothing

@@ -12,7 +12,7 @@ use Rattle.bdb_base.specs.declared.kinds.Query.{Query}
 use Rattle.bdb_base.specs.declared.kinds.Ref.{Ref}
 use Rattle.bdb_base.specs.declared.tuple.Tuple.{Tuple}
 use Rattle.bdb_base.specs.Safety.{is_given, same_column, is_equality, IsBound}
-use Rattle.bdb_model.specs.Slots.{must_all_hold}
+use Rattle.bdb_queries.specs.Slots.{must_all_hold}
 
 -- the first source of a column
 abbrev pub source_of : List Cond → Ref → Option Operand

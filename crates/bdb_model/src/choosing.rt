@@ -1,11 +1,11 @@
 // Choosing a tuple from each of some pools.
 ghost use Rattle.std.specs.Prelude.{◌≡◌, ◌<◌, ◌+◌, ◌^◌, length, OnOk};
 ghost use Rattle.bdb_model.specs.Choosing.{chosen_rows};
-ghost use Rattle.bdb_model.specs.Collected.{with_rows};
+ghost use Rattle.bdb_queries.specs.Collected.{with_rows};
 
-use crate::found::Found;
-use crate::slots::{may_all_hold_with, with_chosen};
+use crate::allowed::may_all_hold_with;
 use bdb_base::{Cond, List, Tuple};
+use bdb_queries::{Found, with_chosen};
 use std::alloc::{AllocError, Global};
 
 /// What is done once a tuple is chosen from each pool.
@@ -13,7 +13,7 @@ pub trait Stage {
     ghost use Rattle.std.specs.Prelude.{◌≡◌, List, Option, OnOk};
     ghost use Rattle.bdb_base.specs.declared.kinds.Value.{Value};
     ghost use Rattle.bdb_base.specs.declared.tuple.Tuple.{Tuple};
-    ghost use Rattle.bdb_model.specs.Collected.{with_rows};
+    ghost use Rattle.bdb_queries.specs.Collected.{with_rows};
 
     ghost rows: { Self → List (Option Tuple) → List (List Value) };
 
@@ -27,7 +27,7 @@ pub trait Stage {
         ensures { OnOk result (found.new ≡ with_rows found.old (rows self.now slots.now)) };
 }
 
-#[tactic(auto, using(crate::proofs::ChoosingLemmas::with_rows_append, crate::proofs::ChoosingLemmas::with_rows_full))]
+#[tactic(auto, using(bdb_queries::proofs::CollectedLemmas::with_rows_append, bdb_queries::proofs::CollectedLemmas::with_rows_full))]
 /// Chooses a tuple from each pool, one place after the other, and takes the rows that come of it. It tries no choice
 /// with which a comparison is known to fail, and stops where there are too many rows.
 pub fn choose<S: Stage>(

@@ -1,18 +1,17 @@
 //! Worlds and belief, computed as they are defined: by going down the path, over the standing statements.
 #![tactic(auto)]
 
+mod allowed;
 mod bases;
 mod beliefs;
 mod choosing;
 mod conflicts;
 mod ends;
 mod fitting;
-mod found;
 mod levels;
 mod pools;
 mod queries;
 mod rows;
-mod slots;
 mod sources;
 mod stages;
 #[cfg(test)]

@@ -6,16 +6,16 @@ ghost use Rattle.bdb_base.specs.Order.{statement_cmp};
 ghost use Rattle.bdb_base.specs.Queries.{columns_at};
 ghost use Rattle.bdb_base.specs.SortedSet.{ascending};
 ghost use Rattle.bdb_model.specs.Pools.{world_at, item_world, user_pool, plus_tuples, plus_pool, plus_pools, sourced_value, sourced_values, denies, is_denied, denied_tuples, minus_pool, minus_pools};
-ghost use Rattle.bdb_model.specs.Slots.{user_tuples};
+ghost use Rattle.bdb_queries.specs.Slots.{user_tuples};
 
 use crate::fitting::fits_relation;
 use crate::rows::world_among;
-use crate::slots::{known_operand, path_of, user_tuples};
 use crate::sources::source_of;
 use bdb_base::{
     ColDef, Cond, Exact, Held, Item, List, Path, PathError, RelDef, Sign, Stmt, Tuple, Txt, Value,
     clash,
 };
+use bdb_queries::{known_operand, path_of, user_tuples};
 use std::alloc::{AllocError, Global};
 
 /// The worlds of the items' paths, with the chosen users put in.

@@ -4,14 +4,14 @@ ghost use Rattle.bdb_base.specs.declared.kinds.Value.{Value};
 ghost use Rattle.bdb_base.specs.Queries.{active_domain, HasValues, answers_of, answers_over};
 ghost use Rattle.bdb_base.specs.Safety.{query_fits, IsSafe};
 ghost use Rattle.bdb_model.specs.Answering.{open_slots};
-ghost use Rattle.bdb_model.specs.Limits.{up_to};
+ghost use Rattle.bdb_queries.specs.Limits.{up_to};
 
 use crate::choosing::choose;
-use crate::found::Found;
 use crate::pools::user_pools;
 use crate::sources::sources_of;
 use crate::stages::UsersChosen;
 use bdb_base::{Base, Item, List, Query, Tuple, Value};
+use bdb_queries::Found;
 use std::alloc::{AllocError, Global};
 
 /// The answers of a safe query over a base, in order, each once. They are the same over each domain that has the values

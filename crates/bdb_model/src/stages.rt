@@ -2,13 +2,12 @@
 // paths, then the one tuple of each minus item that its sources leave.
 ghost use Rattle.std.specs.Prelude.{◌≡◌, OnOk};
 ghost use Rattle.bdb_model.specs.Answering.{last_rows, rows_of_tuples, rows_of_users};
-ghost use Rattle.bdb_model.specs.Collected.{with_rows};
+ghost use Rattle.bdb_queries.specs.Collected.{with_rows};
 
 use crate::choosing::{Stage, choose};
-use crate::found::Found;
 use crate::pools::{minus_pools, plus_pools, worlds_of};
-use crate::slots::{known_row, must_all_hold};
 use bdb_base::{Base, Catalog, Cond, Held, List, Query, Tuple};
+use bdb_queries::{Found, known_row, must_all_hold};
 use std::alloc::{AllocError, Global};
 
 /// All users are chosen.

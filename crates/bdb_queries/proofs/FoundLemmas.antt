@@ -1,5 +1,5 @@
 -- What is found in lists that are made of others.
-use Rattle.std.proofs.Common.{◌≡◌, ◌∙◌, ℕ, Bool, true, false, ◌&&◌, ◌||◌, List, [], ◌∷◌, inl, inr, refl, ap, sym, suc, None, Some, Option, filter, map}
+use Rattle.std.proofs.Common.{◌≡◌, ◌∙◌, ℕ, Bool, true, false, not, ◌&&◌, ◌||◌, List, [], ◌∷◌, inl, inr, refl, ap, sym, suc, None, Some, Option, filter, map}
 use Prim.Native.Nat.{zero}
 use Rattle.std.specs.List.{list_any, list_all, slice_get, flat_map}
 use Rattle.std.specs.Option.{option_map}
@@ -72,3 +72,24 @@ found_both p q (x ∷ xs) h g =
 pub option_map_some : {X Y : Type 0} (f : X → Y) (o : Option X) (y : Y) → option_map f o ≡ Some y → (x : X) × (o ≡ Some x) × (f x ≡ y)
 option_map_some f None y e = cc
 option_map_some f (Some x) y e = (x, refl, cc)
+
+-- some item that passes is in the list
+pub found_with : {X : Type 0} (p : X → Bool) (xs : List X) → list_any p xs ≡ true → (x : X) × (p x ≡ true) × Found x xs
+found_with p [] e = absurd (false≢true e)
+found_with p (x ∷ xs) e = elim (or_cases (p x) (list_any p xs) e) [
+  | inl k ↦ (x, k, found_first x xs)
+  | inr k ↦ let rest = found_with p xs k in (rest.0, rest.1, found_later rest.0 x xs rest.2)
+]
+
+all_refuse : {X : Type 0} (p : X → Bool) (xs : List X) → list_all p xs ≡ true → list_any (λ x. not (p x)) xs ≡ false
+all_refuse p [] h = refl
+all_refuse p (x ∷ xs) h =
+    let k = and_parts (p x) (list_all p xs) h in
+    ap (λ b. not b || list_any (λ y. not (p y)) xs) k.0 ∙ all_refuse p xs k.1
+
+-- what all items pass, an item of the list passes
+pub found_passes : {X : Type 0} (p : X → Bool) (xs : List X) (x : X) → list_all p xs ≡ true → Found x xs → p x ≡ true
+found_passes p xs x h f = elim (cases_Bool (p x)) [
+  | inl k ↦ k
+  | inr k ↦ absurd (false≢true (sym (all_refuse p xs h) ∙ f (λ y. not (p y)) (ap not k)))
+]

@@ -51,7 +51,7 @@ equality_is Gt h = absurd (false≢true h)
 equality_is Ge h = absurd (false≢true h)
 
 -- an equality that holds has one value on both sides
-equal_sides : (a b : Option Value) → compare_so Eq a b ≡ true → (v : Value) × (a ≡ Some v) × (b ≡ Some v)
+pub equal_sides : (a b : Option Value) → compare_so Eq a b ≡ true → (v : Value) × (a ≡ Some v) × (b ≡ Some v)
 equal_sides None b h = absurd (false≢true h)
 equal_sides (Some x) None h = absurd (false≢true h)
 equal_sides (Some x) (Some y) h = (x, refl, ap Some (sym (value_exact.exact x y (is_eq-Equal (value_cmp x y) h))))

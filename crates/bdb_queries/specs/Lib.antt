@@ -1,1 +1,4 @@
+pub mod Collected
+pub mod Limits
 pub mod QueryLaws
+pub mod Slots

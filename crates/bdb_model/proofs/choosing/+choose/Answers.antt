@@ -1,8 +1,9 @@
 use Rattle.std.proofs.Common.{◌≡◌, ◌∙◌, ap, ◌+◌, ◌-◌, true, take, drop, length, rules}
 use Rattle.bdb_model.specs.Choosing.{chosen_rows, rows_with}
-use Rattle.bdb_model.specs.Collected.{with_rows}
-use Rattle.bdb_model.specs.Slots.{may_all_hold}
-use Rattle.bdb_model.proofs.ChoosingLemmas.{after_turn, rows_with_allowed}
+use Rattle.bdb_queries.specs.Collected.{with_rows}
+use Rattle.bdb_model.specs.Allowed.{may_all_hold}
+use Rattle.bdb_queries.proofs.CollectedLemmas.{after_turn}
+use Rattle.bdb_model.proofs.ChoosingLemmas.{rows_with_allowed}
 use Rattle.bdb_model.proofs.choosing.+choose.Goals as goal
 
 pub loop-tuple-preserved : goal.loop-tuple-preserved

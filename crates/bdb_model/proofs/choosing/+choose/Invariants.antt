@@ -1,7 +1,7 @@
 use Rattle.std.proofs.Common.{◌≡◌, drop, length}
 use Rattle.std.specs.List.{flat_map}
 use Rattle.bdb_model.specs.Choosing.{rows_with}
-use Rattle.bdb_model.specs.Collected.{with_rows}
+use Rattle.bdb_queries.specs.Collected.{with_rows}
 use Rattle.bdb_model.proofs.choosing.+choose.Given as goal
 
 abbrev pub decreases-choose : goal.decreases-choose

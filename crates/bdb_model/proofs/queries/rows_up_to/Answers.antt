@@ -2,11 +2,11 @@ use Rattle.std.proofs.Common.{◌≡◌, ◌∙◌, ap, rules, [], map}
 use Rattle.bdb_base.specs.Bases.{Contents}
 use Rattle.bdb_model.specs.Answering.{all_rows, rows_of_users, open_slots}
 use Rattle.bdb_model.specs.Choosing.{chosen_rows}
-use Rattle.bdb_model.specs.Collected.{Collected, with_rows}
-use Rattle.bdb_model.specs.Limits.{up_to}
+use Rattle.bdb_queries.specs.Collected.{Collected, with_rows}
+use Rattle.bdb_queries.specs.Limits.{up_to}
 use Rattle.bdb_model.specs.Pools.{user_pool}
 use Rattle.bdb_model.proofs.AnswerLemmas.{all_rows_of, collected_answers}
-use Rattle.bdb_model.proofs.ChoosingLemmas.{with_rows_most}
+use Rattle.bdb_queries.proofs.CollectedLemmas.{with_rows_most}
 use Rattle.bdb_model.proofs.queries.rows_up_to.Goals as goal
 
 pub returns : goal.returns

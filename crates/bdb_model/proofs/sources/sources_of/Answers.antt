@@ -1,6 +1,6 @@
 use Rattle.std.proofs.Common.{◌≡◌, ◌∙◌, ◌<◌, ap, sym, subst, rules, Some, None, length}
 use Rattle.std.specs.List.{list_all}
-use Rattle.bdb_model.specs.Slots.{must_all_hold}
+use Rattle.bdb_queries.specs.Slots.{must_all_hold}
 use Rattle.bdb_model.specs.Sources.{next_source, is_source, missing}
 use Rattle.bdb_model.proofs.SourceLemmas.{are_sources, simple_grows, follow_grows, fewer_missing}
 use Rattle.bdb_model.proofs.sources.sources_of.Goals as goal

@@ -1,7 +1,7 @@
 use Rattle.std.proofs.Common.{◌≡◌, List, Option, true, length}
 use Rattle.std.specs.List.{list_all}
 use Rattle.bdb_base.specs.declared.tuple.Tuple.{Tuple}
-use Rattle.bdb_model.specs.Slots.{must_all_hold}
+use Rattle.bdb_queries.specs.Slots.{must_all_hold}
 use Rattle.bdb_model.specs.Sources.{is_source, missing}
 use Rattle.bdb_model.proofs.sources.sources_of.Given as goal
 

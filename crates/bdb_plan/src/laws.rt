@@ -1,0 +1,7 @@
+//! The laws of plans.
+ghost use Rattle.bdb_plan.specs.PlanLaws.{MeaningIsChoices};
+
+/// What a plan means is the rows of all choices with which each step holds.
+pub fn meaning_is_choices()
+    ensures { MeaningIsChoices }
+{}

@@ -1,0 +1,495 @@
+-- The plan of a query uses only what an earlier step set.
+use Rattle.std.proofs.Common.{◌≡◌, ◌∙◌, ℕ, suc, ◌+◌, ◌-◌, ◌<◌, ◌≤◌, ◌^◌, ◌⊎◌, Bool, true, false, not, ◌&&◌, ◌||◌, nat_eq, nat_lt, nat_le, List, [], ◌∷◌, ◌++◌, Option, None, Some, inl, inr, refl, ap, sym, subst, length, map, filter, arith}
+use Prim.Native.Nat.{zero}
+use Rattle.std.specs.List.{list_any, list_all, slice_get}
+use Rattle.std.specs.Option.{option_map, option_and_then, is_some}
+use Rattle.std.proofs.lemmas.Bool.{false≢true, cases_Bool, cond-true, cond-false, or_cases, or_left, or_right, and_parts, and_from, eqb-true, lt-ltb, ltb-true}
+use Rattle.std.proofs.lemmas.Bool.Decides.{Decides-eqb, nat_tests}
+use Rattle.std.proofs.lemmas.Option.{slice_get_within}
+use Rattle.bdb_base.specs.declared.kinds.Catalog.{Catalog}
+use Rattle.bdb_base.specs.declared.kinds.ColDef.{ColDef}
+use Rattle.bdb_base.specs.declared.kinds.Cond.{Cond}
+use Rattle.bdb_base.specs.declared.kinds.Item.{Item}
+use Rattle.bdb_base.specs.declared.kinds.Item.TheVariants.{Users, Rel}
+use Rattle.bdb_base.specs.declared.kinds.Operand.{Operand}
+use Rattle.bdb_base.specs.declared.kinds.Operand.TheVariants.{Col, Lit}
+use Rattle.bdb_base.specs.declared.kinds.Query.{Query}
+use Rattle.bdb_base.specs.declared.kinds.Ref.{Ref}
+use Rattle.bdb_base.specs.declared.kinds.RelDef.{RelDef}
+use Rattle.bdb_base.specs.declared.kinds.Sign.TheVariants.{Plus, Minus}
+use Rattle.bdb_base.specs.declared.kinds.Who.{Who}
+use Rattle.bdb_base.specs.declared.kinds.Who.TheVariants.{User, Of}
+use Rattle.bdb_base.specs.Bases.{is_valid_relation}
+use Rattle.bdb_base.specs.Queries.{columns_at, columns_of_definition}
+use Rattle.bdb_base.specs.Safety.{is_given, is_minus, is_users_item, is_literal, who_fits, fixed_differ, item_fits, item_kinds, column_kind, operand_kind, joins_one_kind, query_fits, IsSafe}
+use Rattle.bdb_base.proofs.ListLemmas.{list_all_get, list_all_weaker, filter_kept_one, filter_dropped_one}
+use Rattle.bdb_queries.proofs.FoundLemmas.{list_all_from_gets}
+use Rattle.bdb_plan.specs.declared.step.Step.{Step}
+use Rattle.bdb_plan.specs.declared.step.Step.TheVariants as step
+use Rattle.bdb_plan.specs.Fitness.{Placed, is_among, is_bound, has_bound, is_set, operand_is_set, who_is_set, is_new, comes_next, is_whole, placed_if, with_item, placed_after, placed_at_end, takes_set, fits_from, at_first}
+use Rattle.bdb_plan.specs.PlanOf.{differ_from, walk_from, walk_of, bind_of, binds_from, setting, denying, operand_set, all_set, due, item_steps, steps_from, places, is_users, is_plus, is_minus_item, order_of}
+use Rattle.bdb_plan.specs.Sources.{source_of}
+use Rattle.bdb_trans.proofs.HoldLemmas.{some_is, there_in_order, both_there, set_after, comes_set}
+use Rattle.bdb_trans.proofs.PlaceLemmas.{from_zero}
+use Rattle.bdb_trans.proofs.SourceLemmas.{move_on, here_at, bound_has_source, IsSource, literal, column, source_is}
+
+-- ---- steps, one after the other
+
+pub placed_append : (n : ℕ) (w : ℕ → ℕ → Bool) (o : Option Placed) (xs ys : List Step) → placed_at_end n w o (xs ++ ys) ≡ placed_at_end n w (placed_at_end n w o xs) ys
+placed_append n w None xs ys = refl
+placed_append n w (Some p) [] ys = refl
+placed_append n w (Some p) (x ∷ xs) ys = placed_append n w (placed_after n w p x) xs ys
+
+-- steps lead from what is set to what is set
+abbrev Leads : ℕ → (ℕ → ℕ → Bool) → Placed → List Step → Placed → Type 0
+Leads n w p xs p' = placed_at_end n w (Some p) xs ≡ Some p'
+
+leads_both : (n : ℕ) (w : ℕ → ℕ → Bool) (p p' p'' : Placed) (xs ys : List Step) → Leads n w p xs p' → Leads n w p' ys p'' → Leads n w p (xs ++ ys) p''
+leads_both n w p p' p'' xs ys h g = placed_append n w (Some p) xs ys ∙ ap (λ o. placed_at_end n w o ys) h ∙ g
+
+leads_first : (n : ℕ) (w : ℕ → ℕ → Bool) (p p' p'' : Placed) (x : Step) (ys : List Step) → placed_after n w p x ≡ Some p' → Leads n w p' ys p'' → Leads n w p (x ∷ ys) p''
+leads_first n w p p' p'' x ys h g = ap (λ o. placed_at_end n w o ys) h ∙ g
+
+if_so : (t : Bool) (p : Placed) → t ≡ true → placed_if t p ≡ Some p
+if_so t p h = ap (λ b. placed_if b p) h
+
+-- one step that holds where a test does
+leads_one : (n : ℕ) (w : ℕ → ℕ → Bool) (p p' : Placed) (x : Step) (t : Bool) → placed_after n w p x ≡ placed_if t p' → t ≡ true → Leads n w p (x ∷ []) p'
+leads_one n w p p' x t e h = ap (λ o. placed_at_end n w o []) (e ∙ if_so t p' h)
+
+-- ---- walks
+
+differs : (n : ℕ) (w : ℕ → ℕ → Bool) (p : Placed) (item : ℕ) (before : Option Who) (who : Who) → ((b : Who) → before ≡ Some b → who_is_set p b ≡ true) → who_is_set p who ≡ true → Leads n w p (differ_from item before who) p
+differs n w p item None who h g = refl
+differs n w p item (Some (User i)) (User j) h g = refl
+differs n w p item (Some (User i)) (Of k) h g = leads_one n w p p (step.Differ item (User i) (Of k)) (is_among p.items k) refl g
+differs n w p item (Some (Of k)) who h g = leads_one n w p p (step.Differ item (Of k) who) (is_among p.items k && who_is_set p who) refl (and_from (is_among p.items k) (who_is_set p who) (h (Of k) refl) g)
+
+walks : (n : ℕ) (w : ℕ → ℕ → Bool) (p : Placed) (item : ℕ) (before : Option Who) (path : List Who) → ((b : Who) → before ≡ Some b → who_is_set p b ≡ true) → list_all (who_is_set p) path ≡ true → Leads n w p (walk_from item before path) p
+walks n w p item before [] h g = refl
+walks n w p item before (who ∷ whos) h g =
+    let k = and_parts (who_is_set p who) (list_all (who_is_set p) whos) g in
+    leads_both n w p p p (differ_from item before who) (step.Edge item who ∷ walk_from item (Some who) whos) (differs n w p item before who h k.0)
+    (leads_first n w p p p (step.Edge item who) (walk_from item (Some who) whos) (if_so (who_is_set p who) p k.0)
+    (walks n w p item (Some who) whos (λ b e. let same : who ≡ b = cc in ap (who_is_set p) (sym same) ∙ k.0) k.1))
+
+walk_leads : (n : ℕ) (w : ℕ → ℕ → Bool) (p : Placed) (item : ℕ) (path : List Who) → list_all (who_is_set p) path ≡ true → Leads n w p (walk_of item path) p
+walk_leads n w p item path g = walks n w p item None path (λ b e. cc) g
+
+-- ---- tests
+
+tests_lead : (n : ℕ) (w : ℕ → ℕ → Bool) (p : Placed) (cs : List Cond) → list_all (λ c. is_set p c.left && operand_is_set p c.right) cs ≡ true → Leads n w p (map step.Test cs) p
+tests_lead n w p [] h = refl
+tests_lead n w p (c ∷ cs) h =
+    let k = and_parts (is_set p c.left && operand_is_set p c.right) (list_all (λ c. is_set p c.left && operand_is_set p c.right) cs) h in
+    leads_first n w p p p (step.Test c) (map step.Test cs) (if_so (is_set p c.left && operand_is_set p c.right) p k.0) (tests_lead n w p cs k.1)
+
+-- what passes two tests, passes in the filtered list what follows from both
+filtered : {X : Type 0} (p q r : X → Bool) → ((x : X) → p x ≡ true → q x ≡ true → r x ≡ true) → (xs : List X) → list_all p xs ≡ true → list_all r (filter q xs) ≡ true
+filtered p q r h [] g = refl
+filtered p q r h (x ∷ xs) g =
+    let k = and_parts (p x) (list_all p xs) g in
+    elim (cases_Bool (q x)) [
+      | inl e ↦ ap (list_all r) (filter_kept_one q x xs e) ∙ and_from (r x) (list_all r (filter q xs)) (h x k.0 e) (filtered p q r h xs k.1)
+      | inr e ↦ ap (list_all r) (filter_dropped_one q x xs e) ∙ filtered p q r h xs k.1
+    ]
+
+-- the tests that are due use what is set, where each column of an item that is there is so
+due_set : (rels : List RelDef) (q : Query) (set : List ℕ) (at : ℕ) (p : Placed) → list_all (joins_one_kind rels q.items) q.conds ≡ true
+    → ((r : Ref) → is_among (at ∷ set) r.item ≡ true → is_some (column_kind rels q.items r) ≡ true → is_set p r ≡ true) → list_all (λ c. is_set p c.left && operand_is_set p c.right) (due set at q.conds) ≡ true
+due_set rels q set at p f h = filtered (joins_one_kind rels q.items) (λ c. all_set (at ∷ set) c && not (all_set set c)) (λ c. is_set p c.left && operand_is_set p c.right) one q.conds f
+  where
+    right : (o : Operand) → operand_set (at ∷ set) o ≡ true → is_some (operand_kind rels q.items o) ≡ true → operand_is_set p o ≡ true
+    right (Col r) a k = h r a k
+    right (Lit v) a k = refl
+
+    one : (c : Cond) → joins_one_kind rels q.items c ≡ true → all_set (at ∷ set) c && not (all_set set c) ≡ true → is_set p c.left && operand_is_set p c.right ≡ true
+    one c j a =
+        let there = both_there rels q.items c j in
+        let k = and_parts (is_among (at ∷ set) c.left.item) (operand_set (at ∷ set) c.right) (and_parts (all_set (at ∷ set) c) (not (all_set set c)) a).0 in
+        and_from (is_set p c.left) (operand_is_set p c.right) (h c.left k.0 there.0) (right c.right k.1 there.1)
+
+-- ---- items
+
+abbrev placed : List ℕ → Option (ℕ × ℕ) → Placed
+placed set o = record { items = set; bound = o }
+
+-- a user of a path is fixed, or among the items that are set
+abbrev who_among : List ℕ → Who → Bool
+who_among set (User i) = true
+who_among set (Of k) = is_among set k
+
+who_same : (set : List ℕ) (o : Option (ℕ × ℕ)) (who : Who) → who_among set who ≡ true → who_is_set (placed set o) who ≡ true
+who_same set o (User i) h = refl
+who_same set o (Of k) h = h
+
+-- what an item needs: the users of its path, and for a minus item all given items
+abbrev pub Needs : Query → List ℕ → Item → Type 0
+Needs q set (Users alias) = Unit {0}
+Needs q set (Rel alias rel Plus path) = list_all (who_among set) path ≡ true
+Needs q set (Rel alias rel Minus path) = (list_all (who_among set) path ≡ true) × ((k : ℕ) → is_given (slice_get q.items k) ≡ true → is_among set k ≡ true)
+
+column_within : (rels : List RelDef) (items : List Item) (r : Ref) (alias : List ℕ) (rel : ℕ) (path : List Who) → slice_get items r.item ≡ Some (Rel alias rel Minus path) → is_some (column_kind rels items r) ≡ true
+    → r.col < length (columns_at rels rel)
+column_within rels items r alias rel path e h =
+    let k = some_is (slice_get (map (λ c. c.kind) (columns_at rels rel)) r.col) (sym (ap (λ o. is_some (option_and_then (λ item. slice_get (item_kinds rels item) r.col) o)) e) ∙ h) in
+    subst (λ m. r.col < m) (map_long (columns_at rels rel)) (slice_get_within (map (λ c. c.kind) (columns_at rels rel)) r.col k.0 k.1)
+  where
+    map_long : (cols : List ColDef) → length (map (λ c. c.kind) cols) ≡ length cols
+    map_long [] = refl
+    map_long (c ∷ cs) = ap suc (map_long cs)
+
+or_set : (a b : Bool) → b ≡ true → (a || b) ≡ true
+or_set true b h = refl
+or_set false b h = h
+
+new_one : (n at : ℕ) (set : List ℕ) → at < n → is_among set at ≡ false → is_new n (placed set None) at ≡ true
+new_one n at set h g = and_from (nat_lt at n) (not (is_among set at) && true) (lt-ltb at n h) (ap (λ b. not b && true) g)
+
+-- one item's columns are bound
+source_set : (rels : List RelDef) (q : Query) (set : List ℕ) (o : Option (ℕ × ℕ)) → ((k : ℕ) → is_given (slice_get q.items k) ≡ true → is_among set k ≡ true) → (r : Ref) (x : Operand) → IsSource rels q r x → operand_is_set (placed set o) x ≡ true
+source_set rels q set o h r x (literal c e l j p) = lit c.right l
+  where
+    lit : (y : Operand) → is_literal y ≡ true → operand_is_set (placed set o) y ≡ true
+    lit (Col s) l = absurd (false≢true l)
+    lit (Lit v) l = refl
+source_set rels q set o h r x (column s j g) = or_left (is_among set s.item) (has_bound o s) (h s.item g)
+
+bind_leads : (n : ℕ) (w : ℕ → ℕ → Bool) (rels : List RelDef) (q : Query) (set : List ℕ) (o : Option (ℕ × ℕ)) (at col : ℕ) → ((k : ℕ) → is_given (slice_get q.items k) ≡ true → is_among set k ≡ true)
+    → comes_next n (placed set o) o at col ≡ true → is_some (source_of rels q (record { item = at; col = col })) ≡ true
+    → Leads n w (placed set o) (bind_of (record { item = at; col = col }) (source_of rels q (record { item = at; col = col }))) (placed set (Some (at, col + 1)))
+bind_leads n w rels q set o at col given next there =
+    let r : Ref = record { item = at; col = col } in
+    let src = some_is (source_of rels q r) there in
+    let set_there = source_set rels q set o given r src.0 (source_is rels q r src.0 src.1) in
+    subst (λ x. Leads n w (placed set o) (bind_of r x) (placed set (Some (at, col + 1)))) (sym src.1)
+    (leads_one n w (placed set o) (placed set (Some (at, col + 1))) (step.Bind at col src.0) (operand_is_set (placed set o) src.0 && comes_next n (placed set o) o at col) refl (and_from (operand_is_set (placed set o) src.0) (comes_next n (placed set o) o at col) set_there next))
+
+bound_next : (n : ℕ) (set : List ℕ) (at col : ℕ) → comes_next n (placed set (Some (at, col))) (Some (at, col)) at col ≡ true
+bound_next n set at col = and_from (nat_eq at at) (nat_eq col col) ((Decides-eqb at at).1 refl) ((Decides-eqb col col).1 refl)
+
+binds_lead : (n : ℕ) (w : ℕ → ℕ → Bool) (rels : List RelDef) (q : Query) (set : List ℕ) (o : Option (ℕ × ℕ)) (at col : ℕ) (c : ColDef) (cs : List ColDef) → ((k : ℕ) → is_given (slice_get q.items k) ≡ true → is_among set k ≡ true)
+    → comes_next n (placed set o) o at col ≡ true → ((k : ℕ) → k < length (c ∷ cs) → is_some (source_of rels q (record { item = at; col = col + k })) ≡ true)
+    → Leads n w (placed set o) (binds_from rels q at col (c ∷ cs)) (placed set (Some (at, col + length (c ∷ cs))))
+binds_lead n w rels q set o at col c [] given next there =
+    let r : Ref = record { item = at; col = col } in
+    let first : col + zero ≡ col = omega arith in
+    let one : col + 1 ≡ col + length (c ∷ []) = omega arith in
+    let bind = bind_leads n w rels q set o at col given next (ap (λ k. is_some (source_of rels q (record { item = at; col = k }))) (sym first) ∙ there 0 (omega arith)) in
+    leads_both n w (placed set o) (placed set (Some (at, col + 1))) (placed set (Some (at, col + length (c ∷ [])))) (bind_of r (source_of rels q r)) [] bind (ap (λ k. Some (placed set (Some (at, k)))) one)
+binds_lead n w rels q set o at col c (d ∷ ds) given next there =
+    let r : Ref = record { item = at; col = col } in
+    let first : col + zero ≡ col = omega arith in
+    let end : (col + 1) + length (d ∷ ds) ≡ col + length (c ∷ d ∷ ds) = omega arith in
+    let bind = bind_leads n w rels q set o at col given next (ap (λ k. is_some (source_of rels q (record { item = at; col = k }))) (sym first) ∙ there 0 (omega arith)) in
+    let rest = binds_lead n w rels q set (Some (at, col + 1)) at (col + 1) d ds given (bound_next n set at (col + 1)) (later col (d ∷ ds) there) in
+    leads_both n w (placed set o) (placed set (Some (at, col + 1))) (placed set (Some (at, col + length (c ∷ d ∷ ds)))) (bind_of r (source_of rels q r)) (binds_from rels q at (col + 1) (d ∷ ds)) bind
+    (rest ∙ ap (λ k. Some (placed set (Some (at, k)))) end)
+  where
+    later : (col : ℕ) (cs : List ColDef) → ((k : ℕ) → k < length (c ∷ cs) → is_some (source_of rels q (record { item = at; col = col + k })) ≡ true)
+        → (k : ℕ) → k < length cs → is_some (source_of rels q (record { item = at; col = (col + 1) + k })) ≡ true
+    later col cs h k lt =
+        let same : (col + 1) + k ≡ col + suc k = omega arith in
+        ap (λ i. is_some (source_of rels q (record { item = at; col = i }))) same ∙ h (suc k) (omega arith)
+
+-- what the lemmas on items need of a catalog and a query
+pub record IsFit (rels : List RelDef) (w : ℕ → ℕ → Bool) (q : Query) : Type 0 where
+  pub valid : list_all is_valid_relation rels ≡ true
+  pub whole : (rel : ℕ) → is_some (slice_get rels rel) ≡ true → w rel (length (columns_at rels rel)) ≡ true
+  pub conds : list_all (joins_one_kind rels q.items) q.conds ≡ true
+  pub rels_there : (i : ℕ) (alias : List ℕ) (rel : ℕ) (path : List Who) → slice_get q.items i ≡ Some (Rel alias rel Minus path) → is_some (slice_get rels rel) ≡ true
+  pub safe : IsSafe rels q
+
+some_column : (rels : List RelDef) (rel : ℕ) → list_all is_valid_relation rels ≡ true → is_some (slice_get rels rel) ≡ true → (c : ColDef) × (cs : List ColDef) × (columns_at rels rel ≡ c ∷ cs)
+some_column rels rel v h =
+    let def = some_is (slice_get rels rel) h in
+    let ok = list_all_get is_valid_relation rels rel def.0 v def.1 in
+    let few = (and_parts (nat_lt 0 (length def.0.cols)) (nat_le (length def.0.cols) 16) (and_parts (nat_lt 0 (length def.0.cols) && nat_le (length def.0.cols) 16) _ ok).0).0 in
+    let first = by def.0.cols few in
+    (first.0, first.1, ap columns_of_definition def.1 ∙ first.2)
+  where
+    by : (cols : List ColDef) → nat_lt 0 (length cols) ≡ true → (c : ColDef) × (cs : List ColDef) × (cols ≡ c ∷ cs)
+    by [] h = absurd (false≢true h)
+    by (c ∷ cs) h = (c, cs, refl)
+
+column_at_there : (cols : List ColDef) (k : ℕ) → k < length cols → is_some (slice_get (map (λ c. c.kind) cols) k) ≡ true
+column_at_there [] k h = absurd (omega arith)
+column_at_there (c ∷ cs) zero h = refl
+column_at_there (c ∷ cs) (suc k) h = column_at_there cs k (omega arith)
+
+-- all columns of a minus item are bound
+minus_binds : (n : ℕ) (w : ℕ → ℕ → Bool) (rels : List RelDef) (q : Query) → IsFit rels w q → (set : List ℕ) (at : ℕ) (alias : List ℕ) (rel : ℕ) (path : List Who) → at < n → is_among set at ≡ false
+    → slice_get q.items at ≡ Some (Rel alias rel Minus path) → Needs q set (Rel alias rel Minus path)
+    → Leads n w (placed set None) (binds_from rels q at 0 (columns_at rels rel)) (placed set (Some (at, length (columns_at rels rel))))
+minus_binds n w rels q fit set at alias rel path within apart e needs =
+    let cols = some_column rels rel fit.valid (fit.rels_there at alias rel path e) in
+    let start : comes_next n (placed set None) None at 0 ≡ true = and_from (is_new n (placed set None) at) true (new_one n at set within apart) refl in
+    let zero_more : 0 + length (columns_at rels rel) ≡ length (columns_at rels rel) = omega arith in
+    subst (λ cs. Leads n w (placed set None) (binds_from rels q at 0 cs) (placed set (Some (at, length cs)))) (sym cols.2)
+    (binds_lead n w rels q set None at 0 cols.0 cols.1 needs.1 start (λ k lt. source k (subst (λ cs. k < length cs) (sym cols.2) lt)) ∙ ap (λ k. Some (placed set (Some (at, k)))) (from_nothing (length (cols.0 ∷ cols.1))))
+  where
+    from_nothing : (k : ℕ) → 0 + k ≡ k
+    from_nothing k = omega arith
+
+    source : (k : ℕ) → k < length (columns_at rels rel) → is_some (source_of rels q (record { item = at; col = 0 + k })) ≡ true
+    source k lt =
+        let r : Ref = record { item = at; col = 0 + k } in
+        let there : is_some (column_kind rels q.items r) ≡ true = ap (λ o. is_some (option_and_then (λ item. slice_get (item_kinds rels item) (0 + k)) o)) e ∙ column_at_there (columns_at rels rel) (0 + k) (subst (λ i. i < length (columns_at rels rel)) (sym (from_nothing k)) lt) in
+        bound_has_source rels q fit.conds (fit.safe r (record { minus = ap is_minus e; there = there })) there
+
+item_leads : (n : ℕ) (w : ℕ → ℕ → Bool) (rels : List RelDef) (q : Query) → IsFit rels w q → (set : List ℕ) (at : ℕ) (item : Item) → at < n → is_among set at ≡ false → slice_get q.items at ≡ Some item → Needs q set item
+    → Leads n w (placed set None) (item_steps rels q set at (Some item)) (placed (at ∷ set) None)
+item_leads n w rels q fit set at (Users alias) within apart e needs =
+    let p = placed (at ∷ set) None in
+    let tests = tests_lead n w p (due set at q.conds) (due_set rels q set at p fit.conds (λ r a k. or_left (is_among (at ∷ set) r.item) false a)) in
+    leads_both n w (placed set None) p p (step.User at ∷ []) (map step.Test (due set at q.conds) ++ [])
+    (leads_one n w (placed set None) p (step.User at) (is_new n (placed set None) at) refl (new_one n at set within apart))
+    (leads_both n w p p p (map step.Test (due set at q.conds)) [] tests refl)
+item_leads n w rels q fit set at (Rel alias rel Plus path) within apart e needs =
+    let p = placed (at ∷ set) None in
+    let tests = tests_lead n w p (due set at q.conds) (due_set rels q set at p fit.conds (λ r a k. or_left (is_among (at ∷ set) r.item) false a)) in
+    leads_both n w (placed set None) p p (walk_of at path ++ (step.Pos at rel ∷ [])) (map step.Test (due set at q.conds) ++ [])
+    (leads_both n w (placed set None) (placed set None) p (walk_of at path) (step.Pos at rel ∷ []) (walk_leads n w (placed set None) at path (list_all_weaker (who_among set) (who_is_set (placed set None)) (who_same set None) path needs))
+    (leads_one n w (placed set None) p (step.Pos at rel) (is_new n (placed set None) at) refl (new_one n at set within apart)))
+    (leads_both n w p p p (map step.Test (due set at q.conds)) [] tests refl)
+item_leads n w rels q fit set at (Rel alias rel Minus path) within apart e needs =
+    let size = length (columns_at rels rel) in
+    let b = placed set (Some (at, size)) in
+    let end = placed (at ∷ set) None in
+    let binds = minus_binds n w rels q fit set at alias rel path within apart e needs in
+    let tests = tests_lead n w b (due set at q.conds) (due_set rels q set at b fit.conds there) in
+    let whole : is_whole w (Some (at, size)) at rel ≡ true = and_from (nat_eq at at) (w rel size) ((Decides-eqb at at).1 refl) (fit.whole rel (fit.rels_there at alias rel path e)) in
+    leads_both n w (placed set None) b end (binds_from rels q at 0 (columns_at rels rel)) (map step.Test (due set at q.conds) ++ (walk_of at path ++ (step.Neg at rel ∷ []))) binds
+    (leads_both n w b b end (map step.Test (due set at q.conds)) (walk_of at path ++ (step.Neg at rel ∷ [])) tests
+    (leads_both n w b b end (walk_of at path) (step.Neg at rel ∷ []) (walk_leads n w b at path (list_all_weaker (who_among set) (who_is_set b) (who_same set (Some (at, size))) path needs.0))
+    (leads_one n w b end (step.Neg at rel) (is_whole w (Some (at, size)) at rel) refl whole)))
+  where
+    there : (r : Ref) → is_among (at ∷ set) r.item ≡ true → is_some (column_kind rels q.items r) ≡ true → is_set (placed set (Some (at, length (columns_at rels rel)))) r ≡ true
+    there r a k = elim (or_cases (nat_eq r.item at) (is_among set r.item) a) [
+      | inl m ↦
+          let same : r.item ≡ at = eqb-true r.item at m in
+          let col = column_within rels q.items r alias rel path (ap (slice_get q.items) same ∙ e) k in
+          or_set (is_among set r.item) (nat_eq r.item at && nat_lt r.col (length (columns_at rels rel))) (and_from (nat_eq r.item at) (nat_lt r.col (length (columns_at rels rel))) m (lt-ltb r.col (length (columns_at rels rel)) col))
+      | inr m ↦ or_left (is_among set r.item) (has_bound (Some (at, length (columns_at rels rel))) r) m
+    ]
+
+-- ---- the order of items
+
+-- each item comes once, with what it needs
+abbrev pub OrderFits : Query → List ℕ → List ℕ → Type 0
+OrderFits q set [] = Unit {0}
+OrderFits q set (at ∷ order) = ((item : Item) × (slice_get q.items at ≡ Some item) × (is_among set at ≡ false) × Needs q set item) × OrderFits q (at ∷ set) order
+
+order_leads : (w : ℕ → ℕ → Bool) (rels : List RelDef) (q : Query) → IsFit rels w q → (set order : List ℕ) → OrderFits q set order
+    → Leads (length q.items) w (placed set None) (steps_from rels q set order) (placed (set_after set order) None)
+order_leads w rels q fit set [] h = refl
+order_leads w rels q fit set (at ∷ order) h =
+    let n = length q.items in
+    let (item, is, apart, needs) = h.0 in
+    let one : Leads n w (placed set None) (item_steps rels q set at (slice_get q.items at)) (placed (at ∷ set) None) =
+    subst (λ o. Leads n w (placed set None) (item_steps rels q set at o) (placed (at ∷ set) None)) (sym is) (item_leads n w rels q fit set at item (slice_get_within q.items at item is) apart is needs) in
+    leads_both n w (placed set None) (placed (at ∷ set) None) (placed (set_after set (at ∷ order)) None) (item_steps rels q set at (slice_get q.items at)) (steps_from rels q (at ∷ set) order) one
+    (order_leads w rels q fit (at ∷ set) order h.1)
+
+-- the item at a place passes
+abbrev passes : (Item → Bool) → Option Item → Bool
+passes p None = false
+passes p (Some item) = p item
+
+abbrev Within : List ℕ → List ℕ → Type 0
+Within set more = (k : ℕ) → is_among set k ≡ true → is_among more k ≡ true
+
+within_more : (set : List ℕ) (at : ℕ) → Within set (at ∷ set)
+within_more set at k h = or_set (nat_eq k at) (is_among set k) h
+
+past_end : (all : List Item) (at k : ℕ) → ((i : ℕ) → slice_get all (at + i) ≡ slice_get {X = Item} [] i) → at ≤ k → slice_get all k ≡ None
+past_end all at k h le =
+    let same : at + (k - at) ≡ k = omega arith in
+    ap (slice_get all) (sym same) ∙ h (k - at)
+
+newer : (q : Query) (p : Item → Bool) (set : List ℕ) (at : ℕ) → ((k : ℕ) → is_among set k ≡ true → passes p (slice_get q.items k) ≡ true → k < at)
+    → (k : ℕ) → is_among (at ∷ set) k ≡ true → passes p (slice_get q.items k) ≡ true → k < at + 1
+newer q p set at new k e y = elim (or_cases (nat_eq k at) (is_among set k) e) [
+  | inl m ↦ let same : k ≡ at = eqb-true k at m in omega arith
+  | inr m ↦ let lt = new k m y in omega arith
+]
+
+past : (q : Query) (p : Item → Bool) (k at : ℕ) → passes p (slice_get q.items at) ≡ false → passes p (slice_get q.items k) ≡ true → at ≤ k → at + 1 ≤ k
+past q p k at f e le = elim (cases_Bool (nat_eq k at)) [
+  | inl m ↦ absurd (false≢true (sym f ∙ ap (λ i. passes p (slice_get q.items i)) (sym (eqb-true k at m)) ∙ e))
+  | inr m ↦ grind (arith, nat_tests)
+]
+
+all_from : (q : Query) (p : Item → Bool) (set : List ℕ) (at : ℕ) (more : List ℕ) → Within (at ∷ set) more → ((k : ℕ) → passes p (slice_get q.items k) ≡ true → at + 1 ≤ k → is_among more k ≡ true)
+    → (k : ℕ) → passes p (slice_get q.items k) ≡ true → at ≤ k → is_among more k ≡ true
+all_from q p set at more m all k e le = elim (cases_Bool (nat_eq k at)) [
+  | inl s ↦ m k (or_left (nat_eq k at) (is_among set k) s)
+  | inr s ↦ all k e (further k at s le)
+]
+  where
+    further : (k at : ℕ) → nat_eq k at ≡ false → at ≤ k → at + 1 ≤ k
+    further k at s le = grind (arith, nat_tests)
+
+back_from : (q : Query) (p : Item → Bool) (set : List ℕ) (at : ℕ) (more : List ℕ) → passes p (slice_get q.items at) ≡ true
+    → ((k : ℕ) → is_among more k ≡ true → (is_among (at ∷ set) k ≡ true) ⊎ (passes p (slice_get q.items k) ≡ true))
+    → (k : ℕ) → is_among more k ≡ true → (is_among set k ≡ true) ⊎ (passes p (slice_get q.items k) ≡ true)
+back_from q p set at more pass back k e = elim (back k e) [
+  | inl a ↦ elim (or_cases (nat_eq k at) (is_among set k) a) [
+    | inl s ↦ inr (ap (λ i. passes p (slice_get q.items i)) (eqb-true k at s) ∙ pass)
+    | inr s ↦ inl s
+  ]
+  | inr a ↦ inr a
+]
+
+-- the places of items that pass, with what comes behind them
+segment : (q : Query) (p : Item → Bool) (items : List Item) (at : ℕ) (set rest : List ℕ) → ((k : ℕ) → slice_get q.items (at + k) ≡ slice_get items k)
+    → ((i : ℕ) (item : Item) (more : List ℕ) → slice_get q.items i ≡ Some item → p item ≡ true → Within set more → Needs q more item)
+    → ((k : ℕ) → is_among set k ≡ true → passes p (slice_get q.items k) ≡ true → k < at)
+    → ((more : List ℕ) → Within set more → ((k : ℕ) → passes p (slice_get q.items k) ≡ true → at ≤ k → is_among more k ≡ true)
+    → ((k : ℕ) → is_among more k ≡ true → (is_among set k ≡ true) ⊎ (passes p (slice_get q.items k) ≡ true)) → OrderFits q more rest)
+    → OrderFits q set (places p at items ++ rest)
+segment q p [] at set rest h needs new next = next set (λ k e. e) (λ k e le. absurd (false≢true (ap (passes p) (sym (past_end q.items at k h le)) ∙ e))) (λ k e. inl e)
+segment q p (item ∷ items) at set rest h needs new next = elim (cases_Bool (p item)) [
+  | inl t ↦
+      let here = here_at q.items items at item h in
+      let pass : passes p (slice_get q.items at) ≡ true = ap (passes p) here ∙ t in
+      let apart : is_among set at ≡ false = elim (cases_Bool (is_among set at)) [ inl a ↦ absurd (let bad : at < at = new at a pass in omega arith) | inr a ↦ a ] in
+      subst (λ xs. OrderFits q set (xs ++ rest)) (sym (cond-true (p item) (at ∷ places p (at + 1) items) (places p (at + 1) items) t)) (
+        (item, here, apart, needs at item set here t (λ k e. e)),
+        segment q p items (at + 1) (at ∷ set) rest (move_on q.items items at item h) (λ i x more e y m. needs i x more e y (λ k a. m k (within_more set at k a)))
+            (newer q p set at new)
+            (λ more m all back. next more (λ k a. m k (within_more set at k a)) (all_from q p set at more m all) (back_from q p set at more pass back)),
+      )
+  | inr t ↦
+      let here = here_at q.items items at item h in
+      let fails : passes p (slice_get q.items at) ≡ false = ap (passes p) here ∙ t in
+      subst (λ xs. OrderFits q set (xs ++ rest)) (sym (cond-false (p item) (at ∷ places p (at + 1) items) (places p (at + 1) items) t))
+      (segment q p items (at + 1) set rest (move_on q.items items at item h) needs (λ k a e. let lt = new k a e in let le : k < at + 1 = omega arith in le)
+      (λ more m all back. next more m (λ k e le. all k e (past q p k at fails e le)) back))
+]
+
+append_nothing : (xs : List ℕ) → xs ++ [] ≡ xs
+append_nothing [] = refl
+append_nothing (x ∷ xs) = ap (λ ys. x ∷ ys) (append_nothing xs)
+
+-- what is among nothing
+none_among : (k : ℕ) → is_among [] k ≡ true → ⊥
+none_among k h = false≢true h
+
+-- the users of a path are set
+path_needs : (catalog : Catalog) (items : List Item) (set : List ℕ) → ((k : ℕ) → passes is_users (slice_get items k) ≡ true → is_among set k ≡ true) → (path : List Who)
+    → list_all (who_fits catalog.users items) path ≡ true → list_all (who_among set) path ≡ true
+path_needs catalog items set h path f = list_all_weaker (who_fits catalog.users items) (who_among set) one path f
+  where
+    users_pass : (o : Option Item) → is_users_item o ≡ true → passes is_users o ≡ true
+    users_pass None h = h
+    users_pass (Some item) h = h
+
+    one : (who : Who) → who_fits catalog.users items who ≡ true → who_among set who ≡ true
+    one (User i) e = refl
+    one (Of k) e = h k (users_pass (slice_get items k) e)
+
+path_fits : (catalog : Catalog) (items : List Item) → list_all (item_fits catalog items) items ≡ true → (i : ℕ) (item : Item) → slice_get items i ≡ Some item → item_fits catalog items item ≡ true
+path_fits catalog items f i item e = list_all_get (item_fits catalog items) items i item f e
+
+pub order_fits : (catalog : Catalog) (q : Query) → list_all (item_fits catalog q.items) q.items ≡ true → OrderFits q [] (order_of q.items)
+order_fits catalog q f =
+    segment q is_users q.items 0 [] (places is_plus 0 q.items ++ places is_minus_item 0 q.items) (from_zero q.items) users_need (λ k a e. absurd (none_among k a))
+    (λ one m users back. segment q is_plus q.items 0 one (places is_minus_item 0 q.items) (from_zero q.items) (plus_need one (λ k e. users k e (least k))) (λ k a e. absurd (not_plus k (only_users k (back k a)) e))
+    (λ two m' plus back'. subst (OrderFits q two) (append_nothing (places is_minus_item 0 q.items))
+    (segment q is_minus_item q.items 0 two [] (from_zero q.items)
+    (minus_need two (λ k e. m' k (users k e (least k))) (λ k e. plus k e (least k)))
+    (λ k a e. absurd (not_minus k (only_given k one (λ b. only_users k (back k b)) (back' k a)) e)) (λ three x y z. tt))))
+  where
+    least : (k : ℕ) → 0 ≤ k
+    least k = omega arith
+
+    users_need : (i : ℕ) (item : Item) (more : List ℕ) → slice_get q.items i ≡ Some item → is_users item ≡ true → Within [] more → Needs q more item
+    users_need i (Users alias) more e h m = tt
+    users_need i (Rel alias rel sign path) more e h m = absurd (false≢true h)
+
+    plus_need : (one : List ℕ) → ((k : ℕ) → passes is_users (slice_get q.items k) ≡ true → is_among one k ≡ true)
+        → (i : ℕ) (item : Item) (more : List ℕ) → slice_get q.items i ≡ Some item → is_plus item ≡ true → Within one more → Needs q more item
+    plus_need one users i (Users alias) more e h m = tt
+    plus_need one users i (Rel alias rel Plus path) more e h m =
+        let k = and_parts (is_some (slice_get catalog.rels rel)) (list_all (who_fits catalog.users q.items) path && fixed_differ path) (path_fits catalog q.items f i (Rel alias rel Plus path) e) in
+        path_needs catalog q.items more (λ j g. m j (users j g)) path (and_parts (list_all (who_fits catalog.users q.items) path) (fixed_differ path) k.1).0
+    plus_need one users i (Rel alias rel Minus path) more e h m = absurd (false≢true h)
+
+    minus_need : (two : List ℕ) → ((k : ℕ) → passes is_users (slice_get q.items k) ≡ true → is_among two k ≡ true) → ((k : ℕ) → passes is_plus (slice_get q.items k) ≡ true → is_among two k ≡ true)
+        → (i : ℕ) (item : Item) (more : List ℕ) → slice_get q.items i ≡ Some item → is_minus_item item ≡ true → Within two more → Needs q more item
+    minus_need two users plus i (Users alias) more e h m = absurd (false≢true h)
+    minus_need two users plus i (Rel alias rel Plus path) more e h m = absurd (false≢true h)
+    minus_need two users plus i (Rel alias rel Minus path) more e h m =
+        let k = and_parts (is_some (slice_get catalog.rels rel)) (list_all (who_fits catalog.users q.items) path && fixed_differ path) (path_fits catalog q.items f i (Rel alias rel Minus path) e) in
+        (path_needs catalog q.items more (λ j g. m j (users j g)) path (and_parts (list_all (who_fits catalog.users q.items) path) (fixed_differ path) k.1).0, (λ j g. m j (given j (slice_get q.items j) refl g)))
+      where
+        given : (j : ℕ) (o : Option Item) → slice_get q.items j ≡ o → is_given o ≡ true → is_among two j ≡ true
+        given j None e g = absurd (false≢true g)
+        given j (Some (Users alias)) e g = users j (ap (passes is_users) e)
+        given j (Some (Rel alias rel Plus path)) e g = plus j (ap (passes is_plus) e)
+        given j (Some (Rel alias rel Minus path)) e g = absurd (false≢true g)
+
+    only_users : (k : ℕ) → (is_among [] k ≡ true) ⊎ (passes is_users (slice_get q.items k) ≡ true) → passes is_users (slice_get q.items k) ≡ true
+    only_users k (inl a) = absurd (none_among k a)
+    only_users k (inr a) = a
+
+    only_given : (k : ℕ) (one : List ℕ) → (is_among one k ≡ true → passes is_users (slice_get q.items k) ≡ true) → (is_among one k ≡ true) ⊎ (passes is_plus (slice_get q.items k) ≡ true) → is_given (slice_get q.items k) ≡ true
+    only_given k one u (inl a) = users_given (slice_get q.items k) (u a)
+      where
+        users_given : (o : Option Item) → passes is_users o ≡ true → is_given o ≡ true
+        users_given None h = absurd (false≢true h)
+        users_given (Some (Users alias)) h = refl
+        users_given (Some (Rel alias rel sign path)) h = absurd (false≢true h)
+    only_given k one u (inr a) = plus_given (slice_get q.items k) a
+      where
+        plus_given : (o : Option Item) → passes is_plus o ≡ true → is_given o ≡ true
+        plus_given None h = absurd (false≢true h)
+        plus_given (Some (Users alias)) h = refl
+        plus_given (Some (Rel alias rel Plus path)) h = refl
+        plus_given (Some (Rel alias rel Minus path)) h = absurd (false≢true h)
+
+    not_plus : (k : ℕ) → passes is_users (slice_get q.items k) ≡ true → passes is_plus (slice_get q.items k) ≡ true → ⊥
+    not_plus k = by (slice_get q.items k)
+      where
+        by : (o : Option Item) → passes is_users o ≡ true → passes is_plus o ≡ true → ⊥
+        by None h g = false≢true h
+        by (Some (Users alias)) h g = false≢true g
+        by (Some (Rel alias rel sign path)) h g = false≢true h
+
+    not_minus : (k : ℕ) → is_given (slice_get q.items k) ≡ true → passes is_minus_item (slice_get q.items k) ≡ true → ⊥
+    not_minus k = by (slice_get q.items k)
+      where
+        by : (o : Option Item) → is_given o ≡ true → passes is_minus_item o ≡ true → ⊥
+        by None h g = false≢true h
+        by (Some (Users alias)) h g = false≢true g
+        by (Some (Rel alias rel Plus path)) h g = false≢true g
+        by (Some (Rel alias rel Minus path)) h g = false≢true h
+
+-- ---- the whole plan
+
+pub query_is_fit : (w : ℕ → ℕ → Bool) (catalog : Catalog) (q : Query) → list_all is_valid_relation catalog.rels ≡ true
+    → ((rel : ℕ) → is_some (slice_get catalog.rels rel) ≡ true → w rel (length (columns_at catalog.rels rel)) ≡ true)
+    → list_all (item_fits catalog q.items) q.items ≡ true → list_all (joins_one_kind catalog.rels q.items) q.conds ≡ true → IsSafe catalog.rels q → IsFit catalog.rels w q
+query_is_fit w catalog q valid whole items conds safe = record {
+  valid = valid;
+  whole = whole;
+  conds = conds;
+  rels_there = λ i alias rel path e. (and_parts (is_some (slice_get catalog.rels rel)) (list_all (who_fits catalog.users q.items) path && fixed_differ path) (path_fits catalog q.items items i (Rel alias rel Minus path) e)).0;
+  safe = safe;
+}
+
+pub plan_is_fit : (w : ℕ → ℕ → Bool) (catalog : Catalog) (q : Query) → list_all is_valid_relation catalog.rels ≡ true
+    → ((rel : ℕ) → is_some (slice_get catalog.rels rel) ≡ true → w rel (length (columns_at catalog.rels rel)) ≡ true) → query_fits catalog q ≡ true → IsSafe catalog.rels q
+    → fits_from (length q.items) w q.take (Some at_first) (steps_from catalog.rels q [] (order_of q.items)) ≡ true
+plan_is_fit w catalog q valid whole fits safe =
+    let rels = catalog.rels in
+    let few = and_parts (nat_lt (length q.items) (2 ^ 32)) (list_all (λ def. nat_lt (length def.cols) (2 ^ 32)) rels && (list_all (item_fits catalog q.items) q.items && (list_all (λ r. is_some (column_kind rels q.items r)) q.take && list_all (joins_one_kind rels q.items) q.conds))) fits in
+    let columns = and_parts (list_all (λ def. nat_lt (length def.cols) (2 ^ 32)) rels) (list_all (item_fits catalog q.items) q.items && (list_all (λ r. is_some (column_kind rels q.items r)) q.take && list_all (joins_one_kind rels q.items) q.conds)) few.1 in
+    let items = and_parts (list_all (item_fits catalog q.items) q.items) (list_all (λ r. is_some (column_kind rels q.items r)) q.take && list_all (joins_one_kind rels q.items) q.conds) columns.1 in
+    let rest = and_parts (list_all (λ r. is_some (column_kind rels q.items r)) q.take) (list_all (joins_one_kind rels q.items) q.conds) items.1 in
+    let fit = query_is_fit w catalog q valid whole items.0 rest.1 safe in
+    let order = order_of q.items in
+    let end = placed (set_after [] order) None in
+    ap (takes_set q.take) (order_leads w rels q fit [] order (order_fits catalog q items.0))
+    ∙ list_all_weaker (λ r. is_some (column_kind rels q.items r)) (is_set end) (λ r e. or_left (is_among (set_after [] order) r.item) false (comes_set [] order r.item (there_in_order rels q.items r e))) q.take rest.0

@@ -1,0 +1,9 @@
+pub mod FitLemmas
+pub mod HoldLemmas
+pub mod ItemLemmas
+pub mod PlaceLemmas
+pub mod PlanLemmas
+pub mod SourceLemmas
+pub mod StepLemmas
+pub mod TurnLemmas
+pub mod WalkLemmas

@@ -1,0 +1,64 @@
+-- The plan of a query means the query's answers.
+use Rattle.std.proofs.Common.{◌≡◌, ◌∙◌, ℕ, Bool, true, List, [], Some, refl, ap, sym, length}
+use Rattle.std.specs.List.{list_all}
+use Rattle.std.proofs.lemmas.Bool.Decides.{Decides-eqb}
+use Rattle.bdb_base.specs.declared.kinds.Catalog.{Catalog}
+use Rattle.bdb_base.specs.declared.kinds.Query.{Query}
+use Rattle.bdb_base.specs.declared.kinds.Ref.{Ref}
+use Rattle.bdb_base.specs.declared.kinds.Value.{Value}
+use Rattle.bdb_base.specs.Bases.{Contents, IsValid, is_valid_relation}
+use Rattle.bdb_base.specs.Queries.{columns_at, answers_of}
+use Rattle.bdb_base.specs.Safety.{query_fits, IsSafe}
+use Rattle.bdb_queries.specs.QueryLaws.{IsHeldRow}
+use Rattle.bdb_queries.proofs.DomainLemmas.{answers_are_what_holds}
+use Rattle.bdb_queries.proofs.HoldingLemmas.{items_fit, held_slots_of_row, held_row_of_slots}
+use Rattle.bdb_plan.specs.declared.step.Step.{Step}
+use Rattle.bdb_plan.specs.Fitness.{at_width, fits_from, at_first, UsesOnlySet}
+use Rattle.bdb_plan.specs.Holding.{IsPlanRow}
+use Rattle.bdb_plan.specs.PlanLaws.{FitsSight}
+use Rattle.bdb_plan.specs.PlanOf.{plan_steps, plan_of, steps_from, order_of}
+use Rattle.bdb_plan.specs.Running.{meaning_of}
+use Rattle.bdb_plan.specs.Shown.{Shows}
+use Rattle.bdb_plan.specs.Sight.{Sight}
+use Rattle.bdb_plan.proofs.RunLemmas.{meaning_are_choices}
+use Rattle.bdb_trans.specs.TransLaws.{PlansMeanAnswers, PlansFitSights}
+use Rattle.bdb_trans.proofs.FitLemmas.{plan_is_fit}
+use Rattle.bdb_trans.proofs.HoldLemmas.{slots_from_steps, steps_from_slots}
+
+-- the rows of the plan's choices are those of the query's slots
+plan_row_held : (b : Contents) (sight : Sight) (number : List ℕ → ℕ) → Shows b sight number → IsValid b.catalog b.stmts → (q : Query) → query_fits b.catalog q ≡ true → IsSafe b.catalog.rels q
+    → (row : List Value) → IsPlanRow sight (plan_of b.catalog.rels q) row → IsHeldRow b q row
+unfolding plan_steps
+plan_row_held b sight number s valid q fits safe row (zs, long, hold, gives) =
+    let k = slots_from_steps b sight number s valid q fits safe zs long hold in
+    held_row_of_slots b q row (items_fit b q fits) zs (record { items = k.0; conds = k.1; gives = gives })
+
+held_row_planned : (b : Contents) (sight : Sight) (number : List ℕ → ℕ) → Shows b sight number → IsValid b.catalog b.stmts → (q : Query) → query_fits b.catalog q ≡ true
+    → (row : List Value) → IsHeldRow b q row → IsPlanRow sight (plan_of b.catalog.rels q) row
+unfolding plan_steps
+held_row_planned b sight number s valid q fits row h =
+    let slots = held_slots_of_row b q row (items_fit b q fits) h in
+    let k = steps_from_slots b sight number s valid q fits slots.0 slots.1.items slots.1.conds in
+    (slots.0, k.0, k.1, slots.1.gives)
+
+pub plans_fit_sights : PlansFitSights
+unfolding plan_steps
+plans_fit_sights b sight number q valid s fits safe =
+    plan_is_fit (at_width sight.width) b.catalog q valid.catalog.rels_valid (λ rel there. (Decides-eqb (sight.width rel) _).1 (s.width rel)) fits safe
+
+pub plans_mean_answers : PlansMeanAnswers
+plans_mean_answers b sight number q valid s fits safe =
+    let rows = meaning_of sight (plan_of b.catalog.rels q) in
+    let are = meaning_are_choices sight (plan_of b.catalog.rels q) (plans_fit_sights b sight number q valid s fits safe) in
+    answers_are_what_holds b q safe rows are.sorted
+    (λ row m. plan_row_held b sight number s valid q fits safe row ((are.members row).0 m))
+    (λ row h. (are.members row).1 (held_row_planned b sight number s valid q fits row h))
+
+-- the plan of a query uses only what is set
+pub uses_only_set : (catalog : Catalog) (q : Query) (items : ℕ) (steps : List Step) (take : List Ref) → list_all is_valid_relation catalog.rels ≡ true → query_fits catalog q ≡ true → IsSafe catalog.rels q
+    → items ≡ length q.items → steps ≡ plan_steps catalog.rels q → take ≡ q.take → UsesOnlySet items steps take
+unfolding plan_steps
+uses_only_set catalog q items steps take valid fits safe i s t =
+    let w : ℕ → ℕ → Bool = λ rel k. true in
+    ap (λ n. fits_from n w take (Some at_first) steps) i ∙ ap (λ x. fits_from (length q.items) w take (Some at_first) x) s ∙ ap (λ x. fits_from (length q.items) w x (Some at_first) (plan_steps catalog.rels q)) t
+    ∙ plan_is_fit w catalog q valid (λ rel there. refl) fits safe

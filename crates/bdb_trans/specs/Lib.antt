@@ -1,0 +1,4 @@
+pub mod Names
+pub mod Steps
+pub mod TransLaws
+pub mod Turns

@@ -1,0 +1,21 @@
+-- What holds of the plans of queries, in the subject's own words. Each law is the contract of a function of `laws`.
+use Rattle.std.specs.Prelude.{◌≡◌, ℕ, true, List}
+use Rattle.bdb_base.specs.declared.kinds.Query.{Query}
+use Rattle.bdb_base.specs.Bases.{Contents, IsValid}
+use Rattle.bdb_base.specs.Queries.{answers_of}
+use Rattle.bdb_base.specs.Safety.{query_fits, IsSafe}
+use Rattle.bdb_plan.specs.PlanLaws.{FitsSight}
+use Rattle.bdb_plan.specs.PlanOf.{plan_of}
+use Rattle.bdb_plan.specs.Running.{meaning_of}
+use Rattle.bdb_plan.specs.Shown.{Shows}
+use Rattle.bdb_plan.specs.Sight.{Sight}
+
+-- Whatever shows a valid base, the plan of each safe query that fits means the query's answers.
+abbrev pub PlansMeanAnswers : Type 0
+PlansMeanAnswers = (b : Contents) (sight : Sight) (number : List ℕ → ℕ) (q : Query) → IsValid b.catalog b.stmts → Shows b sight number
+    → query_fits b.catalog q ≡ true → IsSafe b.catalog.rels q → meaning_of sight (plan_of b.catalog.rels q) ≡ answers_of b q
+
+-- Whatever shows a valid base, each `Neg` of the plan of a safe query that fits stands behind a `Bind` for each column.
+abbrev pub PlansFitSights : Type 0
+PlansFitSights = (b : Contents) (sight : Sight) (number : List ℕ → ℕ) (q : Query) → IsValid b.catalog b.stmts → Shows b sight number
+    → query_fits b.catalog q ≡ true → IsSafe b.catalog.rels q → FitsSight sight (plan_of b.catalog.rels q)
