@@ -1,0 +1,13 @@
+pub mod AddedLemmas
+pub mod CountLemmas
+pub mod Ends
+pub mod Gains
+pub mod LessLemmas
+pub mod ListedLemmas
+pub mod MoreLemmas
+pub mod MoveLemmas
+pub mod NameLemmas
+pub mod NamedLemmas
+pub mod SearchLemmas
+pub mod TurnedLemmas
+pub mod UserLemmas

@@ -1,0 +1,4 @@
+pub mod Drops
+pub mod Moves
+pub mod Search
+pub mod Turned

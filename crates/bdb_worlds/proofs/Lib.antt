@@ -1,0 +1,14 @@
+pub mod FreeLemmas
+pub mod GoneLemmas
+pub mod GrowLemmas
+pub mod OutsideLemmas
+pub mod OwnLemmas
+pub mod ReachLemmas
+pub mod ReadLemmas
+pub mod RootLemmas
+pub mod StepLemmas
+pub mod StepsLemmas
+pub mod TakenLemmas
+pub mod UnderLemmas
+pub mod UserEdgeLemmas
+pub mod WalkLemmas

@@ -1,0 +1,18 @@
+use Rattle.std.proofs.Common.{◌≡◌, ◌+◌, drop, take, length}
+use Rattle.std.specs.List.{AllByRecursion}
+use Rattle.bdb_keep.specs.Seen.{NeverFall, GoesOn}
+use Rattle.bdb_tables.specs.Grammar.{InGrammar}
+use Rattle.bdb_worlds.proofs.GrowLemmas.{Growing}
+use Rattle.bdb_worlds.proofs.OutsideLemmas.{SameElsewhere}
+use Rattle.bdb_worlds.proofs.growing.add_states.Given as goal
+
+abbrev pub invariant-loop-k : goal.invariant-loop-k
+invariant-loop-k g l = record {
+  at : Growing (g.K.Keeper.seen l.fn.keeper).kept (g.K.Keeper.seen l.keeper).kept l.path l.worlds l.len l.numbers.items l.at l.low;
+  others : SameElsewhere (g.K.Keeper.seen l.fn.keeper).kept (g.K.Keeper.seen l.keeper).kept;
+  grammar : InGrammar (g.K.Keeper.seen l.keeper).kept;
+  done : l.k ≡ l.len + length l.numbers.items;
+  count : l.count ≡ l.worlds + length l.numbers.items;
+  counts : NeverFall (g.K.Keeper.seen l.fn.keeper) (g.K.Keeper.seen l.keeper);
+  goes_on : GoesOn (g.K.Keeper.seen l.fn.keeper) (g.K.Keeper.seen l.keeper);
+}

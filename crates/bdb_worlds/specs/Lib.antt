@@ -1,0 +1,9 @@
+pub mod Dropping
+pub mod Finds
+pub mod Free
+pub mod Growth
+pub mod Holding
+pub mod Owns
+pub mod Reach
+pub mod Root
+pub mod UserEdges

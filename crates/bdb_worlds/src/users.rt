@@ -1,0 +1,57 @@
+// The edges of a new user.
+ghost use Rattle.std.specs.Prelude.{◌≡◌, true, IfOk, OnOk};
+ghost use Rattle.bdb_keep.specs.Seen.{NeverFall, Steps};
+ghost use Rattle.bdb_tables.specs.Grammar.{InGrammar};
+ghost use Rattle.bdb_worlds.specs.Growth.{SameOutside};
+ghost use Rattle.bdb_worlds.specs.UserEdges.{AddsUser, HasNextNumber};
+
+use crate::making::make_edge;
+use bdb_keep::Keeper;
+use bdb_tables::{DepthTab, TabError, next};
+use std::alloc::Global;
+
+/// Makes an edge from each world to the empty path for a new user, whom no path names yet.
+pub fn add_user_edges<K: Keeper>(alloc: Global, keeper: &mut K, uid: u32) -> Result<(), TabError>
+    requires running { (K.seen keeper.old).running ≡ true }
+    requires grammar { InGrammar (K.seen keeper.old).kept }
+    ensures added { OnOk result (AddsUser (K.seen keeper.old).kept (K.seen keeper.new).kept uid) }
+    ensures others { OnOk result (SameOutside 6 10 (K.seen keeper.old).kept (K.seen keeper.new).kept) }
+    ensures grammar { OnOk result (InGrammar (K.seen keeper.new).kept) }
+    ensures counts { NeverFall (K.seen keeper.old) (K.seen keeper.new) }
+    ensures steps { Steps (K.seen keeper.old) (K.seen keeper.new) result TabError.Fault }
+{
+    let mut low: u64 = 0;
+    for _ in 0..u64::MAX {
+        let wid = match next_number(alloc, keeper, low) {
+            Ok(Some(wid)) => wid,
+            Ok(None) => return Ok(()),
+            Err(error) => return Err(error),
+        };
+        match make_edge(alloc, keeper, wid, uid, 0) {
+            Ok(()) => {}
+            Err(error) => return Err(error),
+        }
+        low = wid as u64 + 1;
+    }
+    keeper.undo();
+    Err(TabError::Memory)
+}
+
+/// The least number of a world from `low` on. One read, or none where `low` is beyond all numbers.
+fn next_number<K: Keeper>(alloc: Global, keeper: &mut K, low: u64) -> Result<Option<u32>, TabError>
+    requires grammar { InGrammar (K.seen keeper.old).kept }
+    ensures number { IfOk result (HasNextNumber (K.seen keeper.old).kept low) }
+    ensures kept { OnOk result ((K.seen keeper.new).kept ≡ (K.seen keeper.old).kept) }
+    ensures writes { (K.seen keeper.new).writes ≡ (K.seen keeper.old).writes }
+    ensures counts { NeverFall (K.seen keeper.old) (K.seen keeper.new) }
+    ensures steps { Steps (K.seen keeper.old) (K.seen keeper.new) result TabError.Fault }
+{
+    if low > u32::MAX as u64 {
+        return Ok(None);
+    }
+    match next::<DepthTab, K>(alloc, keeper, &(low as u32)) {
+        Ok(Some(entry)) => Ok(Some(entry.0)),
+        Ok(None) => Ok(None),
+        Err(error) => Err(error),
+    }
+}
