@@ -1,0 +1,52 @@
+-- Tables that store a base are in the grammar.
+use Rattle.std.proofs.Common.{◌≡◌, ℕ, Bool, true, false, ◌&&◌, nat_le, nat_eq, List, ◌∷◌, Option, Some, None, refl, ap, sym, subst, ◌∙◌, arith}
+use Rattle.std.specs.Bool.{MatchBool}
+use Rattle.std.specs.FinMap as tables
+use Rattle.std.proofs.lemmas.Bool.{eqb-true}
+use Rattle.std.proofs.lemmas.Bool.Decides.{nat_tests}
+use Rattle.bdb_base.specs.Bases.{Contents}
+use Rattle.bdb_keep.specs.Tables.{Tables}
+use Rattle.bdb_tables.specs.Codec.{Codec, IsEntryOf}
+use Rattle.bdb_tables.specs.Grammar.{IsEntry, InGrammar}
+use Rattle.bdb_tables.specs.InUse.{meta_codec, user_codec, rel_codec, tuple_codec, tuple_ix_codec, depth_codec, link_codec, linked_codec, edge_codec, led_codec, val_codec, plain_codec}
+use Rattle.bdb_tables.specs.Names.{Names}
+use Rattle.bdb_tables.specs.Rows.{Tuples}
+use Rattle.bdb_update.specs.Stored.{is_table, StoredAs, Stores}
+use Rattle.bdb_tables.specs.Writes.{Gives}
+use Rattle.bdb_tables.proofs.Held.{none_some}
+use Rattle.bdb_update.specs.StoredLaws.{StoredIsInGrammar}
+
+-- what holds whichever way a test answers
+pub by_test : (b : Bool) (P Q : Type 0) → (b ≡ true → P) → (b ≡ false → Q) → MatchBool b P Q
+by_test true P Q p q = p refl
+by_test false P Q p q = q refl
+
+-- the numbers of tables are told by twelve tests
+pub no_table : (n : ℕ) → nat_eq n 1 ≡ false → nat_eq n 2 ≡ false → nat_eq n 3 ≡ false → nat_eq n 4 ≡ false → nat_eq n 5 ≡ false → nat_eq n 6 ≡ false
+    → nat_eq n 7 ≡ false → nat_eq n 8 ≡ false → nat_eq n 9 ≡ false → nat_eq n 10 ≡ false → nat_eq n 11 ≡ false → nat_eq n 12 ≡ false → is_table n ≡ false
+no_table n a b c d e f g h i j k l = grind (arith, nat_tests)
+
+module _ {Key Row : Type 0} where
+  -- what stands under the number of a table that is given fits it
+  pub entry_under : (c : Codec Key Row) (t : Tables) (f : Key → Option Row) (n : ℕ) (k r : List ℕ) → Gives c t f → n ≡ c.number → tables.get t (n ∷ k) ≡ Some r → IsEntryOf c k r
+  entry_under c t f n k r g e found = g.fits k r (ap (λ m. tables.get t (m ∷ k)) (sym e) ∙ found)
+
+module _ (ns : Names) (ts : Tuples) (t : Tables) (b : Contents) (h : StoredAs ns ts t b) where
+  pub stored_in_grammar : InGrammar t
+  stored_in_grammar n k r found =
+      by_test (nat_eq n 1) _ _ (λ e. entry_under meta_codec t _ n k r h.format (eqb-true n 1 e) found) (λ n1.
+      by_test (nat_eq n 2) _ _ (λ e. entry_under user_codec t _ n k r h.users (eqb-true n 2 e) found) (λ n2.
+      by_test (nat_eq n 3) _ _ (λ e. entry_under rel_codec t _ n k r h.rels (eqb-true n 3 e) found) (λ n3.
+      by_test (nat_eq n 4) _ _ (λ e. entry_under tuple_codec t _ n k r h.tuples.tuples (eqb-true n 4 e) found) (λ n4.
+      by_test (nat_eq n 5) _ _ (λ e. entry_under tuple_ix_codec t _ n k r h.tuples.numbers (eqb-true n 5 e) found) (λ n5.
+      by_test (nat_eq n 6) _ _ (λ e. entry_under depth_codec t _ n k r h.states.tables.depth (eqb-true n 6 e) found) (λ n6.
+      by_test (nat_eq n 7) _ _ (λ e. entry_under link_codec t _ n k r h.states.tables.link (eqb-true n 7 e) found) (λ n7.
+      by_test (nat_eq n 8) _ _ (λ e. entry_under linked_codec t _ n k r h.states.tables.linked (eqb-true n 8 e) found) (λ n8.
+      by_test (nat_eq n 9) _ _ (λ e. entry_under edge_codec t _ n k r h.states.tables.edge (eqb-true n 9 e) found) (λ n9.
+      by_test (nat_eq n 10) _ _ (λ e. entry_under led_codec t _ n k r h.states.tables.led (eqb-true n 10 e) found) (λ n10.
+      by_test (nat_eq n 11) _ _ (λ e. entry_under val_codec t _ n k r h.rows (eqb-true n 11 e) found) (λ n11.
+      by_test (nat_eq n 12) _ _ (λ e. entry_under plain_codec t _ n k r h.plain (eqb-true n 12 e) found)
+      (λ n12. none_some r (sym (h.outside (n ∷ k) (no_table n n1 n2 n3 n4 n5 n6 n7 n8 n9 n10 n11 n12)) ∙ found)))))))))))))
+
+pub stored_is_in_grammar : StoredIsInGrammar
+stored_is_in_grammar t b s = stored_in_grammar s.names s.tuples t b s.stored

@@ -1,0 +1,13 @@
+pub mod ChangeLemmas
+pub mod DifferLemmas
+pub mod EmptyLemmas
+pub mod GrammarLemmas
+pub mod GroupLemmas
+pub mod NumberLemmas
+pub mod OneStored
+pub mod Ones
+pub mod ReachLemmas
+pub mod SameLemmas
+pub mod SaysLemmas
+pub mod StoreLemmas
+pub mod WithinLemmas

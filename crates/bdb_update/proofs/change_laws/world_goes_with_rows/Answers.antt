@@ -1,0 +1,5 @@
+use Rattle.bdb_update.proofs.ReachLemmas.{world_goes_with_rows}
+use Rattle.bdb_update.proofs.change_laws.world_goes_with_rows.Goals as goal
+
+pub returns : goal.returns
+returns c = world_goes_with_rows

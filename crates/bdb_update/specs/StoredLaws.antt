@@ -1,0 +1,45 @@
+-- What holds of tables that store a base with its worlds. Each law is the contract of a function of `stored_laws`.
+use Rattle.std.specs.Prelude.{◌≡◌, ℕ, ◌+◌, Bool, ◌||◌, nat_eq, List, length}
+use Rattle.std.specs.FinMap as tables
+use Rattle.bdb_base.specs.Bases.{Contents, IsValid, empty_contents, is_user, with_user, with_relation}
+use Rattle.bdb_base.specs.declared.kinds.RelDef.{RelDef}
+use Rattle.bdb_keep.specs.Tables.{Tables}
+use Rattle.bdb_key.specs.Grammar.{IsNum, IsPlain}
+use Rattle.bdb_key.specs.Rows.{IsRelRow}
+use Rattle.bdb_tables.specs.Codec.{place}
+use Rattle.bdb_tables.specs.Grammar.{InGrammar}
+use Rattle.bdb_tables.specs.InUse.{meta_codec, user_codec, rel_codec, depth_codec}
+use Rattle.bdb_tables.specs.Names.{Names}
+use Rattle.bdb_tables.specs.Rows.{Tuples}
+use Rattle.bdb_tables.specs.States.{HoldsStates}
+use Rattle.bdb_update.specs.Stored.{SameBut, StoredAs, Stores}
+
+-- tables that store a base are in the grammar
+abbrev pub StoredIsInGrammar : Type 0
+StoredIsInGrammar = (t : Tables) (b : Contents) → Stores t b → InGrammar t
+
+-- two valid bases that the same tables store are one
+abbrev pub StoredBaseIsOne : Type 0
+StoredBaseIsOne = (t : Tables) (a b : Contents) → Stores t a → Stores t b → IsValid a.catalog a.stmts → IsValid b.catalog b.stmts → a ≡ b
+
+-- the row of the format and the depth of world 0 store the empty base
+abbrev pub TwoRowsStoreEmpty : Type 0
+TwoRowsStoreEmpty = Stores (tables.insert (tables.insert tables.empty (place meta_codec tt) (meta_codec.row_bytes 2)) (place depth_codec 0) (depth_codec.row_bytes 0)) empty_contents
+
+-- the row of a relation whose number is the next adds the relation
+abbrev pub PutStoresRelation : Type 0
+PutStoresRelation = (t : Tables) (b : Contents) (rel : ℕ) (def : RelDef) → Stores t b → rel ≡ length b.catalog.rels → IsNum rel → IsRelRow def
+    → Stores (tables.insert t (place rel_codec rel) (rel_codec.row_bytes def)) (record b { catalog = with_relation b.catalog def })
+
+-- a table is one of the two of edges
+abbrev pub is_edges : ℕ → Bool
+is_edges n = nat_eq n 9 || nat_eq n 10
+
+-- Where the names of worlds stand for states over the users and one more, and all but edges is as after a put of the row
+-- of this user, whose number is the next, the tables store the base with the user.
+abbrev pub EdgesStoreUser : Type 0
+EdgesStoreUser = (ns : Names) (ts : Tuples) (t u : Tables) (b : Contents) (uid : ℕ) (name : List ℕ) → StoredAs ns ts t b
+    → uid ≡ length b.catalog.users + 1 → IsNum uid → IsPlain name
+    → HoldsStates (is_user (with_user b.catalog name).users) ns u
+    → SameBut is_edges (tables.insert t (place user_codec uid) (user_codec.row_bytes name)) u
+    → StoredAs ns ts u (record b { catalog = with_user b.catalog name })

@@ -1,0 +1,18 @@
+//! What changes of statements make of tables that store a base with its worlds. A change goes in steps: worlds and numbers
+//! come, a row becomes explicit or no longer is, its group is settled, worlds and numbers go. Each step has a law that says
+//! what the tables store after it.
+#![tactic(auto)]
+
+mod change_laws;
+mod stored_laws;
+
+pub use change_laws::{
+    drop_differs_at, drop_is_within, drop_leaves_states, drop_leaves_tuples, drop_says_none,
+    number_put_stores, number_taken_stores, other_worlds_store, plain_world_inherits,
+    put_differs_at, put_is_within, put_says_sign, same_reach_stores, settled_group_stores,
+    world_comes_with_rows, world_goes_with_rows,
+};
+pub use stored_laws::{
+    edges_store_user, put_stores_relation, stored_base_is_one, stored_is_in_grammar,
+    two_rows_store_empty,
+};

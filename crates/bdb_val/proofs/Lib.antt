@@ -1,0 +1,16 @@
+pub mod ApartLemmas
+pub mod Calls
+pub mod CopyLemmas
+pub mod HeldLemmas
+pub mod NextMarks
+pub mod ReadLemmas
+pub mod RealLemmas
+pub mod SettledLemmas
+pub mod SettlingLemmas
+pub mod StateLemmas
+pub mod StepLemmas
+pub mod StepsMade
+pub mod ToldLemmas
+pub mod VisitLemmas
+pub mod WalkLemmas
+pub mod WalkingLemmas

@@ -1,0 +1,84 @@
+-- A walk as the code goes on with it.
+use Rattle.std.proofs.Common.{◌≡◌, ◌∙◌, ℕ, ◌+◌, ◌-◌, ◌^◌, ◌≤◌, min, List, [], ◌∷◌, ◌++◌, ◌⊎◌, length, Option, inl, inr, refl, ap, sym, subst, arith, append_assoc}
+use Rattle.std.proofs.lemmas.List.{length-append}
+use Rattle.bdb_base.specs.Causes.{Rises}
+use Rattle.bdb_keep.specs.Seen.{Seen}
+use Rattle.bdb_keep.specs.Tables.{Tables}
+use Rattle.bdb_tables.specs.Grammar.{InGrammar}
+use Rattle.bdb_tables.specs.InUse.{ValKey}
+use Rattle.bdb_tables.specs.Marks.{Mark}
+use Rattle.bdb_val.specs.Reads.{HaveTuples}
+use Rattle.bdb_val.specs.Steps.{counted}
+use Rattle.bdb_val.specs.Visits.{ArePushed, IsTold, IsFirstVisit, IsNextVisit}
+use Rattle.bdb_val.specs.Walks.{AreLinkedTo, IsVisit, IsQuiet, Walked, changes_of, put_by, taken_by}
+use Rattle.bdb_val.specs.Walks.Walked.{first, next}
+use Rattle.bdb_val.specs.declared.stored.Settled.{Settled}
+use Rattle.bdb_val.proofs.Calls.{HasGone, gone_then}
+
+-- how far a walk has come: its changes are made, each by one write
+pub record IsWalking (old now : Seen) (prefix : ℕ → List ℕ) (start : ℕ) (list : List ℕ) (total : Settled) : Type 0 where
+  pub gone : HasGone old now
+  pub grammar : InGrammar now.kept
+  pub tuples : HaveTuples now.kept
+  pub made : List (ValKey × Option Mark)
+  pub put : ℕ
+  pub taken : ℕ
+  pub walked : Walked prefix old.kept start now.kept list made put taken
+  pub put_is : total.put ≡ counted put
+  pub taken_is : total.taken ≡ counted taken
+  pub writes : Rises (length made) old.writes now.writes
+
+counted_both : (a b m n : ℕ) → a ≡ counted m → b ≡ n → counted (a + b) ≡ counted (m + n)
+counted_both a b m n e f = omega arith
+
+-- the first visit
+pub walk_begins : (old new : Seen) (prefix : ℕ → List ℕ) (start : ℕ) (before list : List ℕ) (s sum : Settled) → HasGone old new → InGrammar new.kept → HaveTuples new.kept → sum.put ≡ counted s.put → sum.taken ≡ counted s.taken
+    → before ≡ [] → IsFirstVisit old new prefix start before list s → IsWalking old new prefix start list sum
+walk_begins old new prefix start before list s sum gone grammar tuples p q none v = record {
+  gone = gone;
+  grammar = grammar;
+  tuples = tuples;
+  made = changes_of v.visit;
+  put = put_by v.visit;
+  taken = taken_by v.visit;
+  walked = subst (λ xs. Walked prefix old.kept start new.kept xs (changes_of v.visit) (put_by v.visit) (taken_by v.visit)) (sym (v.pushed.list ∙ ap (λ (xs : List ℕ). xs ++ v.pushed.more) none)) (first new.kept v.pushed.more v.visit v.pushed.linked);
+  put_is = p ∙ ap counted v.told.put;
+  taken_is = q ∙ ap counted v.told.taken;
+  writes = v.told.writes;
+}
+
+rises_then : (m n a b c : ℕ) → a ≤ b → b ≤ c → Rises m a b → Rises n b c → Rises (m + n) a c
+rises_then m n a b c p q r s below =
+    let e : c ≡ b + n = s below in
+    let f : b ≡ a + m = r (omega arith) in
+    omega arith
+
+-- one visit more
+pub walk_more : (old now new : Seen) (prefix : ℕ → List ℕ) (start wid : ℕ) (list left after : List ℕ) (total s sum : Settled) → IsWalking old now prefix start list total → list ≡ left ++ wid ∷ []
+    → HasGone now new → InGrammar new.kept → HaveTuples new.kept → IsNextVisit now new prefix wid left after s
+    → sum.put ≡ counted (total.put + s.put) → sum.taken ≡ counted (total.taken + s.taken) → IsWalking old new prefix start after sum
+walk_more old now new prefix start wid list left after total s sum w is gone grammar tuples v p q =
+    let walked : Walked prefix old.kept start now.kept (left ++ wid ∷ []) w.made w.put w.taken = subst (λ xs. Walked prefix old.kept start now.kept xs w.made w.put w.taken) is w.walked in
+    let goes = λ (more : List ℕ) (e : after ≡ left ++ more) (l : ((more ≡ []) × IsQuiet v.visit) ⊎ AreLinkedTo new.kept wid more).
+    subst (λ xs. Walked prefix old.kept start new.kept xs (w.made ++ changes_of v.visit) (w.put + put_by v.visit) (w.taken + taken_by v.visit)) (sym e)
+    (next now.kept new.kept wid left more w.made w.put w.taken walked v.visit l) in
+    record {
+      gone = gone_then old now new w.gone gone;
+      grammar = grammar;
+      tuples = tuples;
+      made = w.made ++ changes_of v.visit;
+      put = w.put + put_by v.visit;
+      taken = w.taken + taken_by v.visit;
+      walked = elim v.pushed [
+        | inl k ↦ goes [] (k.0 ∙ sym (append_nothing left)) (inl (refl, k.1))
+        | inr k ↦ goes k.more k.list (inr k.linked)
+      ];
+      put_is = p ∙ counted_both total.put s.put w.put (put_by v.visit) w.put_is v.told.put;
+      taken_is = q ∙ counted_both total.taken s.taken w.taken (taken_by v.visit) w.taken_is v.told.taken;
+      writes = subst (λ n. Rises n old.writes new.writes) (sym (length-append w.made (changes_of v.visit)))
+          (rises_then (length w.made) (length (changes_of v.visit)) old.writes now.writes new.writes w.gone.counts.writes gone.counts.writes w.writes v.told.writes);
+    }
+  where
+    append_nothing : (xs : List ℕ) → xs ++ [] ≡ xs
+    append_nothing [] = refl
+    append_nothing (x ∷ xs) = ap (λ (ys : List ℕ). x ∷ ys) (append_nothing xs)

@@ -1,0 +1,30 @@
+use Rattle.std.proofs.Common.{ℕ, inl, inr, refl, sym, subst}
+use Rattle.std.proofs.lemmas.Bool.{not-true}
+use Rattle.bdb_keep.specs.Tables.{Tables}
+use Rattle.bdb_val.specs.Reads.{group_prefix}
+use Rattle.bdb_val.specs.Visits.{ArePushed}
+use Rattle.bdb_val.proofs.StepsMade.{visited, told, quiet}
+use Rattle.bdb_val.proofs.walk.visit_next.Goals as goal
+
+pub returns-then-not-settled-clause-visited : goal.returns-then-not-settled-clause-visited
+returns-then-not-settled-clause-visited g c =
+    let old = g.K.Keeper.seen c.args.keeper.now in
+    let mid = g.K.Keeper.seen c.settle_state.new.keeper in
+    let prefix = λ (w : ℕ). group_prefix w c.args.rel c.args.key.now in
+    record {
+      visit = visited old mid mid prefix c.args.wid c.in-Ok.settled c.in-Ok.ensures.settled refl refl;
+      told = told old mid mid prefix c.args.wid c.in-Ok.settled c.in-Ok.ensures.settled refl refl;
+      pushed = inl (refl, quiet old mid mid prefix c.args.wid c.in-Ok.settled c.in-Ok.ensures.settled refl refl (not-true c.in-Ok.settled.turned c.if-not-settled.true));
+    }
+
+pub returns-in-Ok-push_linked-clause-visited : goal.returns-in-Ok-push_linked-clause-visited
+returns-in-Ok-push_linked-clause-visited g c =
+    let old = g.K.Keeper.seen c.args.keeper.now in
+    let mid = g.K.Keeper.seen c.settle_state.new.keeper in
+    let new = g.K.Keeper.seen c.push_linked.new.keeper in
+    let prefix = λ (w : ℕ). group_prefix w c.args.rel c.args.key.now in
+    let read = c.in-Ok-push_linked.ensures.read in record {
+      visit = visited old mid new prefix c.args.wid c.in-Ok.settled c.in-Ok.ensures.settled read.kept read.writes;
+      told = told old mid new prefix c.args.wid c.in-Ok.settled c.in-Ok.ensures.settled read.kept read.writes;
+      pushed = inr (subst (λ (t : Tables). ArePushed t c.args.wid c.args.list.now.items c.push_linked.new.list.items) (sym read.kept) c.in-Ok-push_linked.ensures.pushed);
+    }

@@ -1,0 +1,36 @@
+use Rattle.std.proofs.Common.{◌≡◌, ◌∙◌, List, map, refl, ap, sym, subst}
+use Rattle.std.specs.List.{AllByRecursion}
+use Rattle.bdb_keep.specs.Tables.{Tables}
+use Rattle.bdb_tables.specs.InUse.{val_codec}
+use Rattle.bdb_tables.specs.Writes.{IsChange, MayBeChange, with_changes}
+use Rattle.bdb_val.specs.Reads.{world_prefix}
+use Rattle.bdb_val.specs.WorldCopies.{removed}
+use Rattle.bdb_val.proofs.CopyLemmas.{removals_may_be, clears_world, mapped_keep_tuples}
+use Rattle.bdb_val.proofs.worlds.clear_world.Goals as goal
+
+pub write_rows-requires-clause-changes : goal.write_rows-requires-clause-changes
+write_rows-requires-clause-changes g c =
+    let t = (g.K.Keeper.seen c.args.keeper.now).kept in
+    let made : c.deref-2.result.now ≡ map removed c.in-Ok.rows.items =
+    c.deref-2.ensures.value ∙ c.in-Ok-removals.ensures ∙ ap (map removed) c.deref.ensures.value in
+    subst (AllByRecursion (MayBeChange val_codec)) (sym made) (removals_may_be t (world_prefix c.args.wid) c.in-Ok.rows.items c.in-Ok.ensures.rows)
+
+pub returns-in-Ok-write_rows-clause-cleared : goal.returns-in-Ok-write_rows-clause-cleared
+returns-in-Ok-write_rows-clause-cleared g c =
+    let old = (g.K.Keeper.seen c.args.keeper.now).kept in
+    let new = (g.K.Keeper.seen c.write_rows.new.keeper).kept in
+    let made : c.deref-2.result.now ≡ map removed c.in-Ok.rows.items =
+    c.deref-2.ensures.value ∙ c.in-Ok-removals.ensures ∙ ap (map removed) c.deref.ensures.value in
+    clears_world old new c.args.wid c.in-Ok.rows.items c.ranges.wid.fits c.in-Ok.ensures.rows
+    (subst (AllByRecursion (IsChange val_codec)) made c.in-Ok-write_rows.ensures.fits)
+    (c.in-Ok-write_rows.ensures.kept ∙ ap (λ (t : Tables). with_changes val_codec t c.deref-2.result.now) c.in-Ok.ensures.read.kept ∙ ap (with_changes val_codec old) made)
+
+pub returns-in-Ok-write_rows-clause-tuples : goal.returns-in-Ok-write_rows-clause-tuples
+returns-in-Ok-write_rows-clause-tuples g c =
+    let old = (g.K.Keeper.seen c.args.keeper.now).kept in
+    let new = (g.K.Keeper.seen c.write_rows.new.keeper).kept in
+    let made : c.deref-2.result.now ≡ map removed c.in-Ok.rows.items =
+    c.deref-2.ensures.value ∙ c.in-Ok-removals.ensures ∙ ap (map removed) c.deref.ensures.value in
+    mapped_keep_tuples removed (λ e. refl) old new (world_prefix c.args.wid) c.in-Ok.rows.items c.requires.tuples c.in-Ok.ensures.rows
+    (subst (AllByRecursion (IsChange val_codec)) made c.in-Ok-write_rows.ensures.fits)
+    (c.in-Ok-write_rows.ensures.kept ∙ ap (λ (t : Tables). with_changes val_codec t c.deref-2.result.now) c.in-Ok.ensures.read.kept ∙ ap (with_changes val_codec old) made)

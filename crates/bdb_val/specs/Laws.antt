@@ -1,0 +1,81 @@
+-- What settled rows are. Each law is the contract of a function of `laws`.
+use Rattle.std.specs.Prelude.{◌≡◌, ◌≢◌, ℕ, Bool, true, false, List, [], Option, Some}
+use Rattle.std.specs.List.{AllByRecursion}
+use Rattle.bdb_base.specs.declared.kinds.Stmt.{Stmt}
+use Rattle.bdb_base.specs.declared.tuple.Tuple.{Tuple}
+use Rattle.bdb_base.specs.Worlds.{contradicted, IsConsistent}
+use Rattle.bdb_keep.specs.Tables.{Tables}
+use Rattle.bdb_tables.specs.InUse.{ValKey}
+use Rattle.bdb_tables.specs.Marks.{Mark, sign_of, explicit_sign}
+use Rattle.bdb_tables.specs.Names.{Names, AreNames, path_of, is_named}
+use Rattle.bdb_tables.specs.Rows.{Tuples, HoldsTuples, HoldsRows, row_for}
+use Rattle.bdb_val.specs.Middle.{worlds_of, HasExplicit, AreSettledBut}
+use Rattle.bdb_val.specs.Settled.{settled_mark, Worlds, AreLinked, Rows, IsSettled, IsRight, HasStates}
+use Rattle.bdb_val.specs.Settling.{mark_in, next_mark, settling, last_mark, AreNamed, are_apart, are_changes_apart, IsGroup, AreNumbered, AreExplicit}
+use Rattle.bdb_key.specs.Grammar.{IsNum, IsPlainValue}
+use Rattle.bdb_keep.specs.Seen.{Seen}
+use Rattle.bdb_base.specs.declared.kinds.Value.{Value}
+use Rattle.bdb_val.specs.Reads.{group_prefix}
+use Rattle.bdb_val.specs.Steps.{IsStep, WritesDifferences}
+use Rattle.bdb_val.specs.declared.stored.Settled.{Settled}
+use Rattle.bdb_val.specs.declared.stored.Stored.{Stored}
+
+-- where no two statements of one path clash and all rows of a tuple are settled, they are the rows of the worlds
+abbrev pub SettledRowsAreRight : Type 0
+SettledRowsAreRight = (keys : ℕ → ℕ) (stmts : List Stmt) (P : List ℕ → Bool) (n : Worlds) (t : Tuple) (f : Rows)
+    → IsConsistent keys stmts → HasStates stmts P → AreLinked P n
+    → ((wid : ℕ) → IsSettled keys stmts n t f wid) → (wid : ℕ) → IsRight keys stmts n t f wid
+
+-- where no two statements of one path clash, the rows of the worlds are settled
+abbrev pub RightRowsAreSettled : Type 0
+RightRowsAreSettled = (keys : ℕ → ℕ) (stmts : List Stmt) (P : List ℕ → Bool) (n : Worlds) (t : Tuple) (f : Rows)
+    → IsConsistent keys stmts → HasStates stmts P → AreLinked P n
+    → ((wid : ℕ) → IsRight keys stmts n t f wid) → (wid : ℕ) → IsSettled keys stmts n t f wid
+
+-- the row that a tuple is to have, by the rows that were read, is the settled one
+abbrev pub NextMarksAreSettled : Type 0
+NextMarksAreSettled = (keys : ℕ → ℕ) (stmts : List Stmt) (tuple : ℕ → Option Tuple) (test : Tuple → Bool) (own from : List Stored) (w : List ℕ)
+    → IsConsistent keys stmts → IsGroup keys test → AreNumbered tuple stmts → AreExplicit tuple test stmts w own
+    → (tid : ℕ) (t : Tuple) → tuple tid ≡ Some t → test t ≡ true
+    → next_mark keys own from tid t ≡ settled_mark (explicit_sign stmts w t) (contradicted keys stmts w t) (sign_of (mark_in from tid))
+
+-- after the changes that settle a world's rows each tuple has the row that it is to have
+abbrev pub SettlingIsRight : Type 0
+SettlingIsRight = (keys : ℕ → ℕ) (tuple : ℕ → Option Tuple) (stored own from : List Stored) → AreNamed tuple stored → AreNamed tuple own → AreNamed tuple from
+    → (tid : ℕ) (t : Tuple) → tuple tid ≡ Some t → last_mark (settling keys stored own from) tid (mark_in stored tid) ≡ next_mark keys own from tid t
+
+-- rows that are as they are to be need no change
+abbrev pub NoneSettlesTheSettled : Type 0
+NoneSettlesTheSettled = (keys : ℕ → ℕ) (tuple : ℕ → Option Tuple) (stored own from : List Stored) → AreNamed tuple stored → AreNamed tuple own → AreNamed tuple from
+    → ((tid : ℕ) (t : Tuple) → tuple tid ≡ Some t → mark_in stored tid ≡ next_mark keys own from tid t) → settling keys stored own from ≡ []
+
+-- no change leaves a row as it was
+abbrev pub SettlingIsReal : Type 0
+SettlingIsReal = (keys : ℕ → ℕ) (stored own from : List Stored) → AllByRecursion (λ x. mark_in stored x.0 ≢ x.2) (settling keys stored own from)
+
+-- where no number stands twice, none is changed twice
+abbrev pub SettlingIsApart : Type 0
+SettlingIsApart = (keys : ℕ → ℕ) (stored own from : List Stored) → are_apart stored ≡ true → are_apart own ≡ true → are_apart from ≡ true
+    → are_changes_apart (settling keys stored own from) ≡ true
+
+-- where the explicit rows are the statements and all rows are settled, the tables hold the rows of the worlds
+abbrev pub SettledRowsAreHeld : Type 0
+SettledRowsAreHeld = (stmts : List Stmt) (ns : Names) (tuple : ℕ → Option Tuple) (f : ValKey → Option Mark) (t : Tables)
+    → AreNames ns → HasStates stmts (is_named ns) → HasExplicit stmts (worlds_of ns) tuple f t → AreSettledBut stmts (worlds_of ns) tuple f (λ _ _. false)
+    → HoldsRows (λ _. 1) stmts (path_of ns) tuple t
+
+-- where tables hold tuples and the rows of the worlds, the explicit rows are the statements
+abbrev pub HeldRowsAreExplicit : Type 0
+HeldRowsAreExplicit = (stmts : List Stmt) (ns : Names) (ts : Tuples) (t : Tables)
+    → AreNames ns → HasStates stmts (is_named ns) → IsConsistent (λ _. 1) stmts → HoldsTuples stmts ts t → HoldsRows (λ _. 1) stmts (path_of ns) ts.tuple t
+    → HasExplicit stmts (worlds_of ns) ts.tuple (row_for (λ _. 1) stmts (path_of ns) ts.tuple) t
+
+-- the rows of the worlds are settled
+abbrev pub HeldRowsAreSettled : Type 0
+HeldRowsAreSettled = (stmts : List Stmt) (ns : Names) (ts : Tuples) (t : Tables)
+    → AreNames ns → HasStates stmts (is_named ns) → IsConsistent (λ _. 1) stmts → HoldsTuples stmts ts t
+    → AreSettledBut stmts (worlds_of ns) ts.tuple (row_for (λ _. 1) stmts (path_of ns) ts.tuple) (λ _ _. false)
+
+-- settling the group of a state makes as many writes as there are places at which the tables differ
+abbrev pub StepsWriteDifferences : Type 0
+StepsWriteDifferences = (old new : Seen) (wid rel : ℕ) (v : Value) (s : Settled) → IsNum wid → IsNum rel → IsPlainValue v → IsStep old new wid (λ w. group_prefix w rel v) s → WritesDifferences old new

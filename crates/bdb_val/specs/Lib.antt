@@ -1,0 +1,10 @@
+pub mod Groups
+pub mod Laws
+pub mod Middle
+pub mod Reads
+pub mod Settled
+pub mod Settling
+pub mod Steps
+pub mod Visits
+pub mod Walks
+pub mod WorldCopies

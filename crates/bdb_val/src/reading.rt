@@ -1,0 +1,130 @@
+// Reading rows of worlds with their tuples.
+ghost use Rattle.std.specs.Prelude.{◌≡◌, ◌++◌, ◌+◌, ◌*◌, ◌≤◌, true, IfOk, OnOk, length, is_some};
+ghost use Rattle.std.specs.FinMap as tables;
+ghost use Rattle.bdb_base.specs.Causes.{RoseBy};
+ghost use Rattle.bdb_keep.specs.Calls.{IsRead};
+ghost use Rattle.bdb_key.specs.Grammar.{HasPlainText, IsPlainValue};
+ghost use Rattle.bdb_tables.specs.Codec.{HasRow, place};
+ghost use Rattle.bdb_tables.specs.Grammar.{InGrammar};
+ghost use Rattle.bdb_tables.specs.InUse.{tuple_codec};
+ghost use Rattle.bdb_val.specs.Reads.{AreReadUnder, HaveTuples, world_prefix, group_prefix};
+
+use crate::stored::Stored;
+use bdb_base::{Tuple, Value};
+use bdb_keep::Keeper;
+use bdb_key::{put_num, put_value};
+use bdb_tables::{TabError, TupleTab, ValTab, get, rows_under};
+use std::alloc::{AllocError, Global};
+
+/// The rows of worlds whose keys begin with these bytes, with their tuples, in the order of the keys. Two reads for each
+/// row at most, and one more.
+pub fn read_stored<K: Keeper>(
+    alloc: Global,
+    keeper: &mut K,
+    prefix: &[u8],
+) -> Result<Vec<Stored>, TabError>
+    requires grammar { InGrammar (K.seen keeper.old).kept }
+    requires tuples { HaveTuples (K.seen keeper.old).kept }
+    ensures rows { IfOk result (λ rows. AreReadUnder (K.seen keeper.old).kept prefix.now rows.items) }
+    ensures reads { IfOk result (λ rows. (K.seen keeper.new).reads ≤ (K.seen keeper.old).reads + (2 * length rows.items + 1)) }
+    ensures read { IsRead (K.seen keeper.old) (K.seen keeper.new) result TabError.Fault }
+{
+    let entries = match rows_under::<ValTab, K>(alloc, keeper, prefix) {
+        Ok(entries) => entries,
+        Err(error) => return Err(error),
+    };
+    let mut rows = Vec::new(alloc);
+    for entry in &entries {
+        match tuple_of(alloc, keeper, entry.0.3) {
+            Ok(tuple) => {
+                let row = Stored {
+                    tid: entry.0.3,
+                    tuple,
+                    mark: entry.1,
+                };
+                if rows.push(row).is_err() {
+                    keeper.undo();
+                    return Err(TabError::Memory);
+                }
+            }
+            Err(error) => return Err(error),
+        }
+    }
+    Ok(rows)
+}
+
+// The tuple of a number that has one. One read.
+fn tuple_of<K: Keeper>(alloc: Global, keeper: &mut K, tid: u32) -> Result<Tuple, TabError>
+    requires grammar { InGrammar (K.seen keeper.old).kept }
+    requires there { is_some (tables.get (K.seen keeper.old).kept (place tuple_codec tid)) ≡ true }
+    ensures tuple { IfOk result (λ tuple. HasRow tuple_codec (K.seen keeper.old).kept tid tuple) }
+    ensures reads { OnOk result (RoseBy 1 (K.seen keeper.old).reads (K.seen keeper.new).reads) }
+    ensures read { IsRead (K.seen keeper.old) (K.seen keeper.new) result TabError.Fault }
+{
+    match get::<TupleTab, K>(alloc, keeper, &tid) {
+        Ok(Some(tuple)) => Ok(tuple),
+        Ok(None) => unreachable!(),
+        Err(error) => Err(error),
+    }
+}
+
+/// The rows of a world, with their tuples, in the order of the keys.
+pub fn read_world<K: Keeper>(
+    alloc: Global,
+    keeper: &mut K,
+    wid: u32,
+) -> Result<Vec<Stored>, TabError>
+    requires grammar { InGrammar (K.seen keeper.old).kept }
+    requires tuples { HaveTuples (K.seen keeper.old).kept }
+    ensures rows { IfOk result (λ rows. AreReadUnder (K.seen keeper.old).kept (world_prefix wid) rows.items) }
+    ensures reads { IfOk result (λ rows. (K.seen keeper.new).reads ≤ (K.seen keeper.old).reads + (2 * length rows.items + 1)) }
+    ensures read { IsRead (K.seen keeper.old) (K.seen keeper.new) result TabError.Fault }
+{
+    let mut prefix = Vec::new(alloc);
+    if put_num(&mut prefix, wid).is_err() {
+        keeper.undo();
+        return Err(TabError::Memory);
+    }
+    match read_stored(alloc, keeper, &prefix) {
+        Ok(rows) => Ok(rows),
+        Err(error) => Err(error),
+    }
+}
+
+/// The rows of a world for the tuples of a relation and a value of its key, with their tuples, in order of their numbers.
+pub fn read_group<K: Keeper>(
+    alloc: Global,
+    keeper: &mut K,
+    wid: u32,
+    rel: u32,
+    key: &Value,
+) -> Result<Vec<Stored>, TabError>
+    requires grammar { InGrammar (K.seen keeper.old).kept }
+    requires tuples { HaveTuples (K.seen keeper.old).kept }
+    requires text { HasPlainText key.now }
+    ensures rows { IfOk result (λ rows. AreReadUnder (K.seen keeper.old).kept (group_prefix wid rel key.now) rows.items) }
+    ensures fits { OnOk result (IsPlainValue key.now) }
+    ensures read { IsRead (K.seen keeper.old) (K.seen keeper.new) result TabError.Fault }
+{
+    let mut prefix = Vec::new(alloc);
+    if put_group(&mut prefix, wid, rel, key).is_err() {
+        keeper.undo();
+        return Err(TabError::Memory);
+    }
+    match read_stored(alloc, keeper, &prefix) {
+        Ok(rows) => Ok(rows),
+        Err(error) => Err(error),
+    }
+}
+
+// How the keys of a group of a world begin.
+fn put_group(prefix: &mut Vec<u8>, wid: u32, rel: u32, key: &Value) -> Result<(), AllocError>
+    requires text { HasPlainText key.now }
+    ensures bytes { OnOk result (prefix.new.items ≡ prefix.old.items ++ group_prefix wid rel key.now) }
+    ensures fits { OnOk result (IsPlainValue key.now) }
+{
+    put_num(prefix, wid)?;
+    put_num(prefix, rel)?;
+    put_value(prefix, key)?;
+    Ok(())
+}
