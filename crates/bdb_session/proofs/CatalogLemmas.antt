@@ -7,12 +7,14 @@ use Rattle.std.proofs.lemmas.List.Folds.{list_any-append}
 use Rattle.bdb_base.specs.declared.kinds.RelDef.{RelDef}
 use Rattle.bdb_base.specs.Same.{same_text}
 use Rattle.bdb_base.specs.Bases.{Contents, IsValid, is_plain, is_valid_relation, are_distinct, with_user, with_relation}
+use Rattle.bdb_base.specs.Limits.{most_users, most_relations}
 use Rattle.bdb_base.proofs.BaseLemmas.{add_user_is_valid, add_relation_is_valid}
 use Rattle.bdb_base.proofs.SameLemmas.{same_text-Decides}
 use Rattle.bdb_base.proofs.ClashLemmas.{turned}
 use Rattle.bdb_bind.specs.declared.bound.Bound.TheVariants.{CreateUser, CreateRelation}
 use Rattle.bdb_bind.specs.Fits.{fits_catalog}
-use Rattle.bdb_session.specs.Machine.{passed_limit, asked_base}
+use Rattle.bdb_session.specs.Machine.{with_catalog}
+use Rattle.bdb_session.specs.Sizes.{passed_limit}
 use Rattle.bdb_session.proofs.LimitLemmas.{within_limits}
 
 -- a name that may stand behind others is none of them
@@ -25,12 +27,12 @@ not_among (n ∷ ns) name h =
     let this = or_parts (same_text n name) false last.1 in
     or_from (same_text name n) (list_any (same_text name) ns) (turned same_text same_text-Decides name n ∙ this.0) (not_among ns name k.1)
 
-pub user_is_valid : (b : Contents) (name : List ℕ) → IsValid b.catalog b.stmts → fits_catalog b.catalog (CreateUser name) ≡ true → passed_limit (asked_base b (CreateUser name)) ≡ None
+pub user_is_valid : (b : Contents) (name : List ℕ) → IsValid b.catalog b.stmts → fits_catalog b.catalog (CreateUser name) ≡ true → passed_limit (with_catalog b (with_user b.catalog name)) ≡ None
     → IsValid (with_user b.catalog name) b.stmts
 user_is_valid b name valid fits fine =
-    let few = (within_limits (asked_base b (CreateUser name)) fine).users in
+    let few = (within_limits (with_catalog b (with_user b.catalog name)) fine).users in
     let more = length_push b.catalog.users name in
-    let room : length b.catalog.users < 256 = omega arith in
+    let room : length b.catalog.users < most_users = omega arith in
     let parts = and_parts (is_plain name) (are_distinct (b.catalog.users ++ name ∷ [])) fits in
     add_user_is_valid b.catalog b.stmts name valid parts.0 (not_among b.catalog.users name parts.1) room
 
@@ -39,12 +41,12 @@ names_push : (rels : List RelDef) (def : RelDef) → map (λ (r : RelDef). r.nam
 names_push [] def = refl
 names_push (r ∷ rs) def = ap (λ ns. r.name ∷ ns) (names_push rs def)
 
-pub relation_is_valid : (b : Contents) (def : RelDef) → IsValid b.catalog b.stmts → fits_catalog b.catalog (CreateRelation def) ≡ true → passed_limit (asked_base b (CreateRelation def)) ≡ None
+pub relation_is_valid : (b : Contents) (def : RelDef) → IsValid b.catalog b.stmts → fits_catalog b.catalog (CreateRelation def) ≡ true → passed_limit (with_catalog b (with_relation b.catalog def)) ≡ None
     → IsValid (with_relation b.catalog def) b.stmts
 relation_is_valid b def valid fits fine =
-    let few = (within_limits (asked_base b (CreateRelation def)) fine).rels in
+    let few = (within_limits (with_catalog b (with_relation b.catalog def)) fine).rels in
     let more = length_push b.catalog.rels def in
-    let room : length b.catalog.rels < 64 = omega arith in
+    let room : length b.catalog.rels < most_relations = omega arith in
     let parts = and_parts (is_valid_relation def) (are_distinct (map (λ (r : RelDef). r.name) (b.catalog.rels ++ def ∷ []))) fits in
     let apart = ap are_distinct (sym (names_push b.catalog.rels def)) ∙ parts.1 in
     add_relation_is_valid b.catalog b.stmts def valid parts.0 (not_among (map (λ (r : RelDef). r.name) b.catalog.rels) def.name apart) room

@@ -6,6 +6,7 @@ use Rattle.std.proofs.lemmas.List.{length-map}
 use Rattle.std.specs.List.{list_all}
 use Rattle.bdb_base.specs.declared.kinds.Catalog.{Catalog}
 use Rattle.bdb_base.specs.declared.kinds.Stmt.{Stmt}
+use Rattle.bdb_base.specs.Limits.{deepest_statement}
 use Rattle.bdb_base.specs.Alternation.{alternates}
 use Rattle.bdb_base.specs.States.{is_state, prefixes, new_states}
 use Rattle.bdb_base.proofs.ListLemmas.{length-filter_le, list_all_from_none, filter_all, filter_kept_one, filter_dropped_one}
@@ -23,10 +24,10 @@ use Rattle.bdb_base.proofs.BaseLemmas.{put_counts_tuple, put_counts_statement, p
 use Rattle.bdb_base.specs.Same.{same_path}
 use Rattle.bdb_base.specs.Clash.{clash}
 use Rattle.bdb_session.proofs.FindLemmas.{none_found}
-use Rattle.bdb_bind.specs.declared.bound.Bound.TheVariants.{Insert}
-use Rattle.bdb_session.specs.Machine.{refusal_of_bound, asked_base}
-use Rattle.bdb_session.proofs.AnswerLemmas.{fine_parts}
+use Rattle.bdb_session.specs.Machine.{clash_with, clashes_with, clashing, with_stmts}
+use Rattle.bdb_session.specs.Sizes.{passed_limit}
 use Rattle.bdb_session.proofs.LimitLemmas.{within_limits}
+use Rattle.bdb_session.proofs.OutcomeLemmas.{none_mapped}
 
 -- the count stays where a statement has the tuple
 pub counted_in : (xs : List Stmt) (s : Stmt) (n : ℕ) → n ≡ tuple_count xs → has_tuple xs s.tuple ≡ true → n ≡ tuple_count (with_statement xs s)
@@ -36,24 +37,21 @@ counted_in xs s n count has = let more = put_counts_tuple xs s ∙ ap (λ h. con
 pub counted_more : (xs : List Stmt) (s : Stmt) (n : ℕ) → n ≡ tuple_count xs → has_tuple xs s.tuple ≡ false → n + 1 ≡ tuple_count (with_statement xs s)
 counted_more xs s n count has = let more = put_counts_tuple xs s ∙ ap (λ h. cond h 0 1 + tuple_count xs) has in omega arith
 
--- how many statements there are with one that stands, and with one that does not
-pub length_stood : (b : Contents) (s : Stmt) → IsValid b.catalog b.stmts → stands b.stmts s ≡ true → length b.stmts + 0 ≡ length (with_statement b.stmts s)
-length_stood b s valid h = let e = put_counts_statement b.catalog b.stmts s valid ∙ ap (λ k. cond k 0 1 + length b.stmts) h in omega arith
-
+-- how many statements there are with one that does not stand
 pub length_more : (b : Contents) (s : Stmt) → IsValid b.catalog b.stmts → stands b.stmts s ≡ false → length b.stmts + 1 ≡ length (with_statement b.stmts s)
 length_more b s valid h = let e = put_counts_statement b.catalog b.stmts s valid ∙ ap (λ k. cond k 0 1 + length b.stmts) h in omega arith
 
--- an insert that isn't refused clashes with nothing
-pub insert_apart : (b : Contents) (s : Stmt) → refusal_of_bound b (Insert s) ≡ None → contradicted (key_lengths b.catalog.rels) b.stmts s.path s.tuple s.sign ≡ false
-insert_apart b s fine =
-    none_found (λ x. same_path x.path s.path && clash (key_lengths b.catalog.rels) s.tuple s.sign x.tuple x.sign) b.stmts (fine_parts b (Insert s) refl fine).0
+-- an insert with no clash clashes with nothing
+pub insert_apart : (b : Contents) (x : Stmt) → clashes_with (clashing b x) ≡ None → contradicted (key_lengths b.catalog.rels) b.stmts x.path x.tuple x.sign ≡ false
+insert_apart b x fine =
+    none_found (λ y. same_path y.path x.path && clash (key_lengths b.catalog.rels) x.tuple x.sign y.tuple y.sign) b.stmts (none_mapped clash_with (clashing b x) fine)
 
--- a base stays valid with a statement that belongs to it and isn't refused
-pub insert_is_valid : (b : Contents) (s : Stmt) → IsValid b.catalog b.stmts → belongs b.catalog s ≡ true → refusal_of_bound b (Insert s) ≡ None
-    → IsValid b.catalog (with_statement b.stmts s)
-insert_is_valid b s valid belong fine =
-    let few = within_limits (asked_base b (Insert s)) (fine_parts b (Insert s) refl fine).1 in
-    put_is_valid b.catalog b.stmts s valid belong (insert_apart b s fine) (λ k. let l = length_more b s valid k in let f = few.stmts in omega arith) few.tuples few.worlds
+-- a base stays valid with a statement that belongs to it and clashes with nothing, within the limits
+pub insert_is_valid : (b : Contents) (s : Stmt) → IsValid b.catalog b.stmts → belongs b.catalog s ≡ true → contradicted (key_lengths b.catalog.rels) b.stmts s.path s.tuple s.sign ≡ false
+    → passed_limit (with_stmts b (with_statement b.stmts s)) ≡ None → IsValid b.catalog (with_statement b.stmts s)
+insert_is_valid b s valid belong apart fine =
+    let few = within_limits (with_stmts b (with_statement b.stmts s)) fine in
+    put_is_valid b.catalog b.stmts s valid belong apart (λ k. let l = length_more b s valid k in let f = few.stmts in omega arith) few.tuples few.worlds
 
 -- a statement that is put in where it did not stand, and taken out again, leaves the list as it was
 back_at : (o : Ordering) (y s : Stmt) (ys : List Stmt) → statement_cmp y s ≡ o → is_eq (statement_cmp y s) ≡ false → stands ys s ≡ false
@@ -72,7 +70,7 @@ taken_back (y ∷ ys) s new =
     back_at (statement_cmp y s) y s ys refl parts.0 parts.1 (taken_back ys s parts.1)
 
 -- a path has few prefixes that are no states
-pub few_new_states : (xs : List Stmt) (w : List ℕ) → length w ≤ 16 → length (new_states xs w) ≤ 17
+pub few_new_states : (xs : List Stmt) (w : List ℕ) → length w ≤ deepest_statement → length (new_states xs w) ≤ deepest_statement + 1
 few_new_states xs w short =
     let fewer = length-filter_le (λ p. not (is_state xs p)) (prefixes w) in
     let all = count_prefixes w in
@@ -86,10 +84,10 @@ few_new_states xs w short =
 pub worlds_more : (xs : List Stmt) (s : Stmt) (n m : ℕ) → n ≡ world_count xs → m ≡ length (new_states xs s.path) → n + m ≡ world_count (with_statement xs s)
 worlds_more xs s n m e f = let more = put_counts_worlds xs s in omega arith
 
--- the path of a statement that fits has at most 16 users
-pub belonging_short : (c : Catalog) (s : Stmt) → belongs c s ≡ true → length s.path ≤ 16
+-- the path of a statement that fits is no longer than it may be
+pub belonging_short : (c : Catalog) (s : Stmt) → belongs c s ≡ true → length s.path ≤ deepest_statement
 belonging_short c s h =
-    let path = alternates s.path && nat_le (length s.path) 16 in
+    let path = alternates s.path && nat_le (length s.path) deepest_statement in
     let fit = and_parts (path && list_all (is_user c.users) s.path) (fits_relation c.rels s.tuple) h in
     let users = and_parts path (list_all (is_user c.users) s.path) fit.0 in
-    leb-true (length s.path) 16 (and_parts (alternates s.path) (nat_le (length s.path) 16) users.0).1
+    leb-true (length s.path) deepest_statement (and_parts (alternates s.path) (nat_le (length s.path) deepest_statement) users.0).1

@@ -1,11 +1,11 @@
 pub mod AllowedLemmas
-pub mod AnswerLemmas
 pub mod CatalogLemmas
 pub mod ChangeLemmas
 pub mod FindLemmas
 pub mod InsertLemmas
 pub mod LimitLemmas
 pub mod OpenLemmas
+pub mod OutcomeLemmas
 pub mod RowLemmas
 pub mod ServedLemmas
 pub mod UpdateFitLemmas

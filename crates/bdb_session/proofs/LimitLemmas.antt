@@ -5,8 +5,9 @@ use Rattle.std.proofs.lemmas.Bool.Decides.{nat_tests}
 use Rattle.bdb_base.specs.declared.kinds.What.{What}
 use Rattle.bdb_base.specs.declared.kinds.What.TheVariants.{Users, Relations, Worlds, Tuples, Statements}
 use Rattle.bdb_base.specs.Bases.{Contents, IsValid, tuple_count, world_count}
+use Rattle.bdb_base.specs.Limits.{most_users, most_relations, most_worlds, most_tuples, most_statements}
 use Rattle.bdb_session.specs.declared.limits.Counts.{Counts}
-use Rattle.bdb_session.specs.Machine.{passed_limit, limit_passed, counts_of}
+use Rattle.bdb_session.specs.Sizes.{passed_limit, limit_passed, counts_of}
 
 -- what is at most a number isn't above it
 above_false : (m n : ℕ) → leb n m ≡ true → ltb m n ≡ false
@@ -18,20 +19,20 @@ at_most m n h = grind (arith, nat_tests)
 -- a valid base passes no limit
 pub no_limit : (b : Contents) → IsValid b.catalog b.stmts → passed_limit b ≡ None
 no_limit b valid =
-    let users = above_false 256 (length b.catalog.users) valid.catalog.few_users in
-    let rels = above_false 64 (length b.catalog.rels) valid.catalog.few_rels in
-    let worlds = above_false 2000 (world_count b.stmts) valid.stmts.few_worlds in
-    let tuples = above_false 4000 (tuple_count b.stmts) valid.stmts.few_tuples in
-    let stmts = above_false 20000 (length b.stmts) valid.stmts.few_stmts in
+    let users = above_false most_users (length b.catalog.users) valid.catalog.few_users in
+    let rels = above_false most_relations (length b.catalog.rels) valid.catalog.few_rels in
+    let worlds = above_false most_worlds (world_count b.stmts) valid.stmts.few_worlds in
+    let tuples = above_false most_tuples (tuple_count b.stmts) valid.stmts.few_tuples in
+    let stmts = above_false most_statements (length b.stmts) valid.stmts.few_stmts in
     rw (users, rels, worlds, tuples, stmts) refl
 
 -- a base has no more of anything than it may
 pub record IsWithin (b : Contents) : Type 0 where
-  pub users : length b.catalog.users ≤ 256
-  pub rels : length b.catalog.rels ≤ 64
-  pub worlds : world_count b.stmts ≤ 2000
-  pub tuples : tuple_count b.stmts ≤ 4000
-  pub stmts : length b.stmts ≤ 20000
+  pub users : length b.catalog.users ≤ most_users
+  pub rels : length b.catalog.rels ≤ most_relations
+  pub worlds : world_count b.stmts ≤ most_worlds
+  pub tuples : tuple_count b.stmts ≤ most_tuples
+  pub stmts : length b.stmts ≤ most_statements
 
 -- nothing is found: the first test fails, and nothing is found behind it
 past : (t : Bool) (w : What) (rest : Option What) → (if t then Some w else rest) ≡ None → (t ≡ false) × (rest ≡ None)
@@ -41,22 +42,22 @@ past false w rest e = (refl, e)
 -- a base that passes no limit is within all
 pub within_limits : (b : Contents) → passed_limit b ≡ None → IsWithin b
 within_limits b e =
-    let users = ltb 256 (length b.catalog.users) in
-    let rels = ltb 64 (length b.catalog.rels) in
-    let worlds = ltb 2000 (world_count b.stmts) in
-    let tuples = ltb 4000 (tuple_count b.stmts) in
-    let stmts = ltb 20000 (length b.stmts) in
+    let users = ltb most_users (length b.catalog.users) in
+    let rels = ltb most_relations (length b.catalog.rels) in
+    let worlds = ltb most_worlds (world_count b.stmts) in
+    let tuples = ltb most_tuples (tuple_count b.stmts) in
+    let stmts = ltb most_statements (length b.stmts) in
     let p = past users Users (if rels then Some Relations else (if worlds then Some Worlds else (if tuples then Some Tuples else (if stmts then Some Statements else None)))) e in
     let q = past rels Relations (if worlds then Some Worlds else (if tuples then Some Tuples else (if stmts then Some Statements else None))) p.1 in
     let r = past worlds Worlds (if tuples then Some Tuples else (if stmts then Some Statements else None)) q.1 in
     let s = past tuples Tuples (if stmts then Some Statements else None) r.1 in
     let t = past stmts Statements None s.1 in
     record {
-      users = at_most 256 (length b.catalog.users) p.0;
-      rels = at_most 64 (length b.catalog.rels) q.0;
-      worlds = at_most 2000 (world_count b.stmts) r.0;
-      tuples = at_most 4000 (tuple_count b.stmts) s.0;
-      stmts = at_most 20000 (length b.stmts) t.0;
+      users = at_most most_users (length b.catalog.users) p.0;
+      rels = at_most most_relations (length b.catalog.rels) q.0;
+      worlds = at_most most_worlds (world_count b.stmts) r.0;
+      tuples = at_most most_tuples (tuple_count b.stmts) s.0;
+      stmts = at_most most_statements (length b.stmts) t.0;
     }
 
 -- the limit that is found by the counts of a base is the one that it passes

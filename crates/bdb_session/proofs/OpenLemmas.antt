@@ -16,6 +16,7 @@ use Rattle.bdb_tables.proofs.HoldsLemmas.{held_is_in_grammar, format_row_holds_e
 use Rattle.bdb_tables.proofs.Numbered.{held_at}
 use Rattle.bdb_session.specs.declared.stop.StopError.{StopError}
 use Rattle.bdb_session.specs.Opening.{opening}
+use Rattle.bdb_session.specs.Outcome.{State, start_from}
 
 no_row : {r : List ℕ} → None ≡ Some r → ⊥
 no_row e = cc
@@ -71,20 +72,20 @@ on_ok P (Ok x) p = p
 on_ok P (Err e) p = tt
 
 -- what is read from tables with a format is the base that they stand for
-pub opened_read : (t u : Tables) (format : ℕ) (r : Result Contents StopError) → u ≡ t → HasAt meta_codec t tt (Some format)
-    → IfOk r (λ s. (b : Contents) → Holds u b → IsValid b.catalog b.stmts → s ≡ b) → IfOk r (λ s. (b : Contents) → Stands t b → IsValid b.catalog b.stmts → s ≡ b)
+pub opened_read : (t u : Tables) (format : ℕ) (r : Result State StopError) → u ≡ t → HasAt meta_codec t tt (Some format)
+    → IfOk r (λ s. (b : Contents) → Holds u b → IsValid b.catalog b.stmts → s ≡ start_from b) → IfOk r (λ s. (b : Contents) → Stands t b → IsValid b.catalog b.stmts → s ≡ start_from b)
 opened_read t u format (Ok s) e found h = λ b stands valid. h b (subst (λ x. Holds x b) (sym e) (held_with_format t b format stands found)) valid
 opened_read t u format (Err stop) e found h = tt
 
-pub holds_read : (u new : Tables) (b : Contents) (r : Result Contents StopError) → new ≡ u → Holds u b → IsValid b.catalog b.stmts
-    → IfOk r (λ s. (b : Contents) → Holds u b → IsValid b.catalog b.stmts → s ≡ b) → IfOk r (λ s. Holds new s)
-holds_read u new b (Ok s) e holds valid h = subst (λ t. Holds t s) (sym e) (subst (Holds u) (sym (h b holds valid)) holds)
+pub holds_read : (u new : Tables) (b : Contents) (r : Result State StopError) → new ≡ u → Holds u b → IsValid b.catalog b.stmts
+    → IfOk r (λ s. (b : Contents) → Holds u b → IsValid b.catalog b.stmts → s ≡ start_from b) → IfOk r (λ s. Holds new s.base)
+holds_read u new b (Ok s) e holds valid h = subst (λ t. Holds t s.base) (sym e) (subst (λ (x : State). Holds u x.base) (sym (h b holds valid)) holds)
 holds_read u new b (Err stop) e holds valid h = tt
 
 -- and what is made of tables with none
-pub opened_new : (t : Tables) (r : Result Contents StopError) → HasAt meta_codec t tt None → IfOk r (λ s. s ≡ empty_contents)
-    → IfOk r (λ s. (b : Contents) → Stands t b → IsValid b.catalog b.stmts → s ≡ b)
-opened_new t (Ok s) found h = λ b stands valid. h ∙ sym (empty_without_format t b stands found).1
+pub opened_new : (t : Tables) (r : Result State StopError) → HasAt meta_codec t tt None → IfOk r (λ s. s ≡ start_from empty_contents)
+    → IfOk r (λ s. (b : Contents) → Stands t b → IsValid b.catalog b.stmts → s ≡ start_from b)
+opened_new t (Ok s) found h = λ b stands valid. h ∙ sym (ap (λ (x : Contents). start_from x) (empty_without_format t b stands found).1)
 opened_new t (Err stop) found h = tt
 
 -- ---- how often opening commits

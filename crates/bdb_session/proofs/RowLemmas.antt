@@ -7,6 +7,7 @@ use Rattle.std.proofs.lemmas.List.{length_push}
 use Rattle.std.proofs.lemmas.List.Folds.{list_all-append}
 use Rattle.bdb_base.specs.declared.kinds.RelDef.{RelDef}
 use Rattle.bdb_base.specs.Bases.{Contents, IsValid, is_plain, is_valid_relation, with_user, with_relation}
+use Rattle.bdb_base.specs.Limits.{most_users, most_relations}
 use Rattle.bdb_keep.specs.Tables.{Tables}
 use Rattle.bdb_key.specs.Grammar.{IsPlain}
 use Rattle.bdb_key.specs.Rows.{IsRelRow}
@@ -24,7 +25,7 @@ name_is_plain b name valid =
 pub user_rows_hold : (t : Tables) (b : Contents) (uid : ℕ) (name : List ℕ) → Holds t b → uid ≡ length b.catalog.users + 1 → IsValid (with_user b.catalog name) b.stmts
     → Holds (tables.insert t (place user_codec uid) (user_codec.row_bytes name)) (record b { catalog = with_user b.catalog name })
 user_rows_hold t b uid name h is valid =
-    let few = leb-true (length (b.catalog.users ++ name ∷ [])) 256 valid.catalog.few_users in
+    let few = leb-true (length (b.catalog.users ++ name ∷ [])) most_users valid.catalog.few_users in
     let more = length_push b.catalog.users name in
     put_adds_user t b uid name h is (omega arith) (name_is_plain b name valid)
 
@@ -36,6 +37,6 @@ relation_may_be b def valid =
 pub relation_rows_hold : (t : Tables) (b : Contents) (rel : ℕ) (def : RelDef) → Holds t b → rel ≡ length b.catalog.rels → IsValid (with_relation b.catalog def) b.stmts
     → Holds (tables.insert t (place rel_codec rel) (rel_codec.row_bytes def)) (record b { catalog = with_relation b.catalog def })
 relation_rows_hold t b rel def h is valid =
-    let few = leb-true (length (b.catalog.rels ++ def ∷ [])) 64 valid.catalog.few_rels in
+    let few = leb-true (length (b.catalog.rels ++ def ∷ [])) most_relations valid.catalog.few_rels in
     let more = length_push b.catalog.rels def in
     put_adds_relation t b rel def h is (omega arith) (relation_may_be b def valid)

@@ -3,7 +3,6 @@ use Rattle.std.proofs.Common.{◌≡◌, ◌∙◌, ℕ, true, ◌&&◌, List, [
 use Prim.Native.Nat.{zero}
 use Rattle.std.specs.Prelude.{slice_set, nat_lt}
 use Rattle.std.specs.List.{list_all, slice_get}
-use Rattle.std.specs.Option.{option_map}
 use Rattle.std.proofs.lemmas.Bool.{and_parts, and_from}
 use Rattle.bdb_base.specs.declared.kinds.ColDef.{ColDef}
 use Rattle.bdb_base.specs.declared.kinds.Cond.{Cond}
@@ -13,16 +12,17 @@ use Rattle.bdb_base.specs.declared.kinds.Sign.{Sign}
 use Rattle.bdb_base.specs.declared.kinds.Value.{Value}
 use Rattle.bdb_base.specs.declared.tuple.Tuple.{Tuple}
 use Rattle.bdb_base.specs.Bases.{Contents, IsValid, fits_kind, fits_columns, fits_definition, fits_relation, key_lengths}
-use Rattle.bdb_base.specs.Changes.{updated, first_clashing}
+use Rattle.bdb_base.specs.Limits.{deepest_statement}
+use Rattle.bdb_base.specs.Changes.{updated}
 use Rattle.bdb_base.specs.Conditions.{with_column, changed}
 use Rattle.bdb_base.proofs.UpdateLemmas.{update_is_valid}
 use Rattle.bdb_bind.specs.declared.bound.Bound.TheVariants.{Update}
 use Rattle.bdb_bind.specs.Fits.{fits_catalog, fits_found, fits_path, set_fits, cond_fits, columns_numbered}
 use Rattle.bdb_bind.specs.Lookup.{columns_in}
-use Rattle.bdb_render.specs.declared.refusal.Refusal.TheVariants as refusal
-use Rattle.bdb_session.specs.Machine.{statements_refusal, clash_with, passed_limit}
-use Rattle.bdb_session.proofs.AnswerLemmas.{neither_of, none_mapped}
+use Rattle.bdb_session.specs.Machine.{clash_with, clashes_with, clashing_within, with_stmts}
+use Rattle.bdb_session.specs.Sizes.{passed_limit}
 use Rattle.bdb_session.proofs.LimitLemmas.{within_limits}
+use Rattle.bdb_session.proofs.OutcomeLemmas.{none_mapped}
 
 -- values fit their columns with one of them set to a value that fits its column
 fits_set_value : (cols : List ColDef) (vals : List Value) (i : ℕ) (v : Value) → fits_columns cols vals ≡ true → fits_found (slice_get cols i) v ≡ true
@@ -53,15 +53,15 @@ sets_fit rels rel (s ∷ ss) h t r f =
 
 -- an update that fits and isn't refused keeps a base valid
 pub update_stays_valid : (b : Contents) (w : List ℕ) (s : Sign) (rel : ℕ) (conds : List Cond) (sets : List SetCol) → IsValid b.catalog b.stmts
-    → fits_catalog b.catalog (Update w s rel sets conds) ≡ true → statements_refusal b (updated w s rel conds sets b.stmts) w ≡ None
+    → fits_catalog b.catalog (Update w s rel sets conds) ≡ true → clashes_with (clashing_within (with_stmts b (updated w s rel conds sets b.stmts)) w) ≡ None
+    → passed_limit (with_stmts b (updated w s rel conds sets b.stmts)) ≡ None
     → IsValid b.catalog (updated w s rel conds sets b.stmts)
-update_stays_valid b w s rel conds sets valid fits fine =
+update_stays_valid b w s rel conds sets valid fits apart_all fine =
     let next = updated w s rel conds sets b.stmts in
     let cols = columns_numbered b.catalog.rels rel in
-    let path = and_parts (fits_path b.catalog.users 16 w) (nat_lt rel (length b.catalog.rels) && (list_all (set_fits cols) sets && list_all (cond_fits cols) conds)) fits in
+    let path = and_parts (fits_path b.catalog.users deepest_statement w) (nat_lt rel (length b.catalog.rels) && (list_all (set_fits cols) sets && list_all (cond_fits cols) conds)) fits in
     let there = and_parts (nat_lt rel (length b.catalog.rels)) (list_all (set_fits cols) sets && list_all (cond_fits cols) conds) path.1 in
     let both = and_parts (list_all (set_fits cols) sets) (list_all (cond_fits cols) conds) there.1 in
-    let parts = neither_of (option_map clash_with (first_clashing (key_lengths b.catalog.rels) next w)) (option_map refusal.Full (passed_limit (record b { stmts = next }))) fine in
-    let apart = none_mapped clash_with (first_clashing (key_lengths b.catalog.rels) next w) parts.0 in
-    let few = within_limits (record b { stmts = next }) (none_mapped refusal.Full (passed_limit (record b { stmts = next })) parts.1) in
+    let apart = none_mapped clash_with (clashing_within (with_stmts b next) w) apart_all in
+    let few = within_limits (with_stmts b next) fine in
     update_is_valid b.catalog b.stmts w s rel conds sets valid (sets_fit b.catalog.rels rel sets both.0) apart few.tuples few.worlds few.stmts

@@ -1,6 +1,5 @@
 -- Runs of the belief machine over the events of a script.
 use Rattle.std.specs.Prelude.{◌≡◌, ℕ, Bool, true, ◌&&◌, List, [], ◌∷◌, ◌++◌, map}
-use Rattle.bdb_base.specs.Bases.{Contents}
 use Rattle.bdb_lex.specs.declared.token.Piece.{Piece}
 use Rattle.bdb_lex.specs.declared.token.Piece.TheVariants as piece
 use Rattle.bdb_lex.specs.declared.token.Rest.{Rest}
@@ -8,7 +7,8 @@ use Rattle.bdb_lex.specs.declared.token.Rest.TheVariants.{Nothing, Unfinished}
 use Rattle.bdb_lex.specs.Cut.{pieces_of, has_rest, rest_of}
 use Rattle.bdb_session.specs.declared.event.Event.{Event}
 use Rattle.bdb_session.specs.declared.event.Event.TheVariants as event
-use Rattle.bdb_session.specs.Machine.{accepts, reply_of, next_base}
+use Rattle.bdb_session.specs.Machine.{accepts, reply_of, next_state}
+use Rattle.bdb_session.specs.Outcome.{State}
 
 -- what a piece asks for
 abbrev pub event_of : Piece → Event
@@ -24,20 +24,20 @@ rest_events Unfinished = event.Unfinished ∷ []
 abbrev pub events_of : List ℕ → List Event
 events_of script = map event_of (pieces_of script) ++ rest_events (rest_of (has_rest script))
 
--- the base after these events
-abbrev pub after : Contents → List Event → Contents
-after b [] = b
-after b (e ∷ es) = after (next_base b e) es
+-- the state after these events
+abbrev pub after : State → List Event → State
+after s [] = s
+after s (e ∷ es) = after (next_state s e) es
 
 -- the replies to these events, one behind the other
-abbrev pub replies : Contents → List Event → List ℕ
-replies b [] = []
-replies b (e ∷ es) = reply_of b e ++ replies (next_base b e) es
+abbrev pub replies : State → List Event → List ℕ
+replies s [] = []
+replies s (e ∷ es) = reply_of s e ++ replies (next_state s e) es
 
 -- none of these events is refused
-abbrev pub accepts_all : Contents → List Event → Bool
-accepts_all b [] = true
-accepts_all b (e ∷ es) = accepts b e && accepts_all (next_base b e) es
+abbrev pub accepts_all : State → List Event → Bool
+accepts_all s [] = true
+accepts_all s (e ∷ es) = accepts s e && accepts_all (next_state s e) es
 
 -- one list of events is the front of another
 abbrev pub IsFrontOf : List Event → List Event → Type 0

@@ -1,17 +1,17 @@
 // The commands that take statements away, or change them.
 ghost use Rattle.std.specs.Prelude.{◌≡◌, IfOk, true, None, [], length, map};
-ghost use Rattle.std.specs.List.{AllByRecursion};
-ghost use Rattle.bdb_base.specs.Bases.{IsValid};
 ghost use Rattle.bdb_base.specs.Changes.{is_taken, taken_by, without_taken, with_statements, updated, changed_statement};
 ghost use Rattle.bdb_base.specs.Order.{statement_cmp};
 ghost use Rattle.bdb_base.specs.SortedSet.{ascending};
 ghost use Rattle.bdb_bind.specs.Fits.{fits_catalog};
 ghost use Rattle.bdb_keep.specs.Seen.{IsStill};
 ghost use Rattle.bdb_render.specs.Replies.{count_reply};
-ghost use Rattle.bdb_tables.specs.Holds.{Holds, IsStatement};
-ghost use Rattle.bdb_tables.specs.Statements.{MayBeStatement, with_rows, without_rows};
-ghost use Rattle.bdb_session.specs.Machine.{refusal_of_bound, asked_base, accepted_reply, statements_refusal, passed_limit, counts_of};
+ghost use Rattle.bdb_tables.specs.Holds.{Holds};
+ghost use Rattle.bdb_session.specs.Changing.{MayBeMade};
+ghost use Rattle.bdb_session.specs.Machine.{bound_outcome, becomes, clashes_with, clashing_within, with_stmts};
+ghost use Rattle.bdb_session.specs.Outcome.{Done};
 ghost use Rattle.bdb_session.specs.Served.{IsServed};
+ghost use Rattle.bdb_session.specs.Sizes.{passed_limit, counts_of};
 
 use crate::limits::{Counts, counts_of, limit_passed};
 use crate::refusals::clash_with;
@@ -179,13 +179,12 @@ impl Session {
         selection: &Selection,
     ) -> Result<Reply, StopError>
         requires still { IsStill (K.seen keeper.old) }
-        requires agrees { Holds (K.seen keeper.old).kept self.old }
+        requires agrees { Holds (K.seen keeper.old).kept self.old.base }
         ensures { let c = Bound.Delete selection.now.path selection.now.sign selection.now.rel selection.now.conds in
-            IsServed self.old (refusal_of_bound self.old c) (accepted_reply self.old c) (asked_base self.old c)
-            self.new (K.seen keeper.old) (K.seen keeper.new) result }
+            IsServed self.old (bound_outcome self.old c) self.new (K.seen keeper.old) (K.seen keeper.new) result }
     {
         match delete_of(self.alloc, self.base.stmts(), selection) {
-            Ok(change) => self.replace(keeper, change),
+            Ok(change) => self.change_to(keeper, change),
             Err(_) => Err(StopError::Memory),
         }
     }
@@ -199,54 +198,58 @@ impl Session {
         sets: &List<SetCol>,
     ) -> Result<Reply, StopError>
         requires still { IsStill (K.seen keeper.old) }
-        requires agrees { Holds (K.seen keeper.old).kept self.old }
-        requires fits { fits_catalog self.old.catalog (Bound.Update selection.now.path selection.now.sign selection.now.rel sets.now selection.now.conds) ≡ true }
+        requires agrees { Holds (K.seen keeper.old).kept self.old.base }
+        requires fits { fits_catalog self.old.base.catalog (Bound.Update selection.now.path selection.now.sign selection.now.rel sets.now selection.now.conds) ≡ true }
         ensures { let c = Bound.Update selection.now.path selection.now.sign selection.now.rel sets.now selection.now.conds in
-            IsServed self.old (refusal_of_bound self.old c) (accepted_reply self.old c) (asked_base self.old c)
-            self.new (K.seen keeper.old) (K.seen keeper.new) result }
+            IsServed self.old (bound_outcome self.old c) self.new (K.seen keeper.old) (K.seen keeper.new) result }
     {
         let change = match update_of(self.alloc, self.base.stmts(), selection, sets.as_slice()) {
             Ok(change) => change,
             Err(_) => return Err(StopError::Memory),
         };
-        match self.change_refusal(&change, selection.path.as_slice()) {
+        match self.change_clash(&change, selection.path.as_slice()) {
             Ok(Some(refusal)) => self.refuse(&refusal),
-            Ok(None) => self.replace(keeper, change),
+            Ok(None) => self.change_to(keeper, change),
             Err(_) => Err(StopError::Memory),
         }
     }
 
-    /// Why the base can't have the statements of a change in place of its own, where those of one path were changed.
-    fn change_refusal(&self, change: &Change, path: &[u32]) -> Result<Option<Refusal>, AllocError>
+    /// The clash for which a change of statements of one path is refused.
+    fn change_clash(&self, change: &Change, path: &[u32]) -> Result<Option<Refusal>, AllocError>
         requires sorted { ascending statement_cmp change.now.next ≡ true }
-        requires counts { change.now.counts ≡ counts_of change.now.next }
-        ensures { IfOk result (λ r. r ≡ statements_refusal self.now change.now.next path.now) }
+        ensures { IfOk result (λ r. r ≡ clashes_with (clashing_within (with_stmts self.now.base change.now.next) path.now)) }
     {
         match first_clashing_among(change.next.as_slice(), path) {
             Some(least) => Ok(Some(clash_with(self.alloc, least)?)),
-            None => {
-                let users = self.base.catalog().users.len();
-                let rels = self.base.catalog().rels.len();
-                match limit_passed(users, rels, change.counts, change.next.len()) {
-                    Some(what) => Ok(Some(Refusal::Full(what))),
-                    None => Ok(None),
-                }
-            }
+            None => Ok(None),
+        }
+    }
+
+    /// Makes a change that leads to no clash, or refuses to where the base would pass a limit.
+    fn change_to<K: Keeper>(&mut self, keeper: &mut K, change: Change) -> Result<Reply, StopError>
+        requires still { IsStill (K.seen keeper.old) }
+        requires agrees { Holds (K.seen keeper.old).kept self.old.base }
+        requires counts { change.counts ≡ counts_of change.next }
+        requires fits { passed_limit (with_stmts self.old.base change.next) ≡ None → MayBeMade self.old.base (K.seen keeper.old).kept change }
+        ensures { IsServed self.old (becomes self.old (with_stmts self.old.base change.next) (count_reply (length change.taken)))
+            self.new (K.seen keeper.old) (K.seen keeper.new) result }
+    {
+        let users = self.base.catalog().users.len();
+        let rels = self.base.catalog().rels.len();
+        match limit_passed(users, rels, change.counts, change.next.len()) {
+            Some(what) => self.refuse(&Refusal::Full(what)),
+            None => self.replace(keeper, change),
         }
     }
 
     /// Makes a change that isn't refused, and answers how many statements were taken away.
     fn replace<K: Keeper>(&mut self, keeper: &mut K, change: Change) -> Result<Reply, StopError>
         requires still { IsStill (K.seen keeper.old) }
-        requires agrees { Holds (K.seen keeper.old).kept self.old }
+        requires agrees { Holds (K.seen keeper.old).kept self.old.base }
         requires counts { change.counts ≡ counts_of change.next }
-        requires valid { IsValid self.old.catalog change.next }
-        requires taken { AllByRecursion MayBeStatement change.taken }
-        requires added { AllByRecursion MayBeStatement change.added }
-        requires rows { AllByRecursion IsStatement change.added
-            → Holds (with_rows (without_rows (K.seen keeper.old).kept change.taken) change.added) (record self.old { stmts = change.next }) }
-        ensures { IsServed self.old None (count_reply (length change.taken)) (record self.old { stmts = change.next })
-            self.new (K.seen keeper.old) (K.seen keeper.new) result }
+        requires fits { MayBeMade self.old.base (K.seen keeper.old).kept change }
+        ensures { let next = record self.old { base = with_stmts self.old.base change.next } in
+            IsServed self.old (Done (count_reply (length change.taken)) 0 next) self.new (K.seen keeper.old) (K.seen keeper.new) result }
     {
         let text = match count_reply(self.alloc, change.taken.len()) {
             Ok(text) => text,

@@ -1,11 +1,12 @@
 // Commands that add to the catalog.
-ghost use Rattle.std.specs.Prelude.{◌≡◌, ◌+◌, true, None, IfOk, length};
+ghost use Rattle.std.specs.Prelude.{◌≡◌, ◌+◌, true, IfOk, length};
 ghost use Rattle.bdb_base.specs.Bases.{IsValid, with_user, with_relation};
 ghost use Rattle.bdb_bind.specs.Fits.{fits_catalog};
 ghost use Rattle.bdb_keep.specs.Seen.{IsStill};
 ghost use Rattle.bdb_render.specs.Replies.{ok_reply};
 ghost use Rattle.bdb_tables.specs.Holds.{Holds};
-ghost use Rattle.bdb_session.specs.Machine.{refusal_of_bound, asked_base};
+ghost use Rattle.bdb_session.specs.Machine.{bound_outcome, with_catalog};
+ghost use Rattle.bdb_session.specs.Outcome.{Done};
 ghost use Rattle.bdb_session.specs.Served.{IsServed};
 
 use crate::limits::limit_passed;
@@ -27,10 +28,9 @@ impl Session {
         name: Txt,
     ) -> Result<Reply, StopError>
         requires still { IsStill (K.seen keeper.old) }
-        requires agrees { Holds (K.seen keeper.old).kept self.old }
-        requires fits { fits_catalog self.old.catalog (Bound.CreateUser name) ≡ true }
-        ensures { IsServed self.old (refusal_of_bound self.old (Bound.CreateUser name)) ok_reply (asked_base self.old (Bound.CreateUser name))
-            self.new (K.seen keeper.old) (K.seen keeper.new) result }
+        requires agrees { Holds (K.seen keeper.old).kept self.old.base }
+        requires fits { fits_catalog self.old.base.catalog (Bound.CreateUser name) ≡ true }
+        ensures { IsServed self.old (bound_outcome self.old (Bound.CreateUser name)) self.new (K.seen keeper.old) (K.seen keeper.new) result }
     {
         let users = self.base.catalog().users.len() + 1;
         let rels = self.base.catalog().rels.len();
@@ -48,11 +48,11 @@ impl Session {
         uid: u32,
     ) -> Result<Reply, StopError>
         requires still { IsStill (K.seen keeper.old) }
-        requires agrees { Holds (K.seen keeper.old).kept self.old }
-        requires number { uid ≡ length self.old.catalog.users + 1 }
-        requires valid { IsValid (with_user self.old.catalog name) self.old.stmts }
-        ensures { IsServed self.old None ok_reply (asked_base self.old (Bound.CreateUser name))
-            self.new (K.seen keeper.old) (K.seen keeper.new) result }
+        requires agrees { Holds (K.seen keeper.old).kept self.old.base }
+        requires number { uid ≡ length self.old.base.catalog.users + 1 }
+        requires valid { IsValid (with_user self.old.base.catalog name) self.old.base.stmts }
+        ensures { let next = record self.old { base = with_catalog self.old.base (with_user self.old.base.catalog name) } in
+            IsServed self.old (Done ok_reply 0 next) self.new (K.seen keeper.old) (K.seen keeper.new) result }
     {
         let text = match ok_reply(self.alloc) {
             Ok(text) => text,
@@ -82,10 +82,9 @@ impl Session {
         def: RelDef,
     ) -> Result<Reply, StopError>
         requires still { IsStill (K.seen keeper.old) }
-        requires agrees { Holds (K.seen keeper.old).kept self.old }
-        requires fits { fits_catalog self.old.catalog (Bound.CreateRelation def) ≡ true }
-        ensures { IsServed self.old (refusal_of_bound self.old (Bound.CreateRelation def)) ok_reply (asked_base self.old (Bound.CreateRelation def))
-            self.new (K.seen keeper.old) (K.seen keeper.new) result }
+        requires agrees { Holds (K.seen keeper.old).kept self.old.base }
+        requires fits { fits_catalog self.old.base.catalog (Bound.CreateRelation def) ≡ true }
+        ensures { IsServed self.old (bound_outcome self.old (Bound.CreateRelation def)) self.new (K.seen keeper.old) (K.seen keeper.new) result }
     {
         let users = self.base.catalog().users.len();
         let rels = self.base.catalog().rels.len();
@@ -103,11 +102,11 @@ impl Session {
         rel: u32,
     ) -> Result<Reply, StopError>
         requires still { IsStill (K.seen keeper.old) }
-        requires agrees { Holds (K.seen keeper.old).kept self.old }
-        requires number { rel ≡ length self.old.catalog.rels }
-        requires valid { IsValid (with_relation self.old.catalog def) self.old.stmts }
-        ensures { IsServed self.old None ok_reply (asked_base self.old (Bound.CreateRelation def))
-            self.new (K.seen keeper.old) (K.seen keeper.new) result }
+        requires agrees { Holds (K.seen keeper.old).kept self.old.base }
+        requires number { rel ≡ length self.old.base.catalog.rels }
+        requires valid { IsValid (with_relation self.old.base.catalog def) self.old.base.stmts }
+        ensures { let next = record self.old { base = with_catalog self.old.base (with_relation self.old.base.catalog def) } in
+            IsServed self.old (Done ok_reply 0 next) self.new (K.seen keeper.old) (K.seen keeper.new) result }
     {
         let text = match ok_reply(self.alloc) {
             Ok(text) => text,

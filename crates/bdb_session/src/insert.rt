@@ -1,21 +1,24 @@
 // The command that adds a statement.
-ghost use Rattle.std.specs.Prelude.{◌≡◌, ◌≤◌, true, false, None, IfOk, length};
-ghost use Rattle.bdb_render.specs.Replies.{count_reply};
-ghost use Rattle.bdb_base.specs.Bases.{IsValid, key_lengths, stands, with_statement, world_count, tuple_count};
+ghost use Rattle.std.specs.Prelude.{◌≡◌, ◌≤◌, true, false, IfOk, length, if◌then◌else◌};
+ghost use Rattle.bdb_base.specs.Bases.{IsValid, belongs, key_lengths, stands, with_statement, world_count, tuple_count};
+ghost use Rattle.bdb_base.specs.Limits.{deepest_statement};
 ghost use Rattle.bdb_base.specs.Worlds.{contradicted};
 ghost use Rattle.bdb_bind.specs.Fits.{fits_catalog};
 ghost use Rattle.bdb_keep.specs.Seen.{IsStill};
+ghost use Rattle.bdb_render.specs.Replies.{count_reply};
 ghost use Rattle.bdb_tables.specs.Holds.{Holds};
-ghost use Rattle.bdb_session.specs.Machine.{refusal_of_bound, passed_limit, asked_base, accepted_reply, counts_of};
+ghost use Rattle.bdb_session.specs.Machine.{bound_outcome, clashes_with, clashing, becomes, with_stmts};
+ghost use Rattle.bdb_session.specs.Outcome.{Done};
 ghost use Rattle.bdb_session.specs.Served.{IsServed};
+ghost use Rattle.bdb_session.specs.Sizes.{counts_of};
 
 use crate::limits::{Counts, limit_passed};
 use crate::refusals::clash_with;
 use crate::reply::Reply;
 use crate::session::Session;
 use crate::stop::StopError;
-use crate::transact::{commit_nothing, commit_statement};
-use bdb_base::{Exact, List, Stmt, What, contains, has_tuple};
+use crate::transact::commit_statement;
+use bdb_base::{Exact, Stmt, has_tuple};
 use bdb_bind::Bound;
 use bdb_keep::Keeper;
 use bdb_model::clashing_among;
@@ -31,22 +34,20 @@ impl Session {
         stmt: Stmt,
     ) -> Result<Reply, StopError>
         requires still { IsStill (K.seen keeper.old) }
-        requires agrees { Holds (K.seen keeper.old).kept self.old }
-        requires fits { fits_catalog self.old.catalog (Bound.Insert stmt) ≡ true }
-        ensures { IsServed self.old (refusal_of_bound self.old (Bound.Insert stmt)) (accepted_reply self.old (Bound.Insert stmt)) (asked_base self.old (Bound.Insert stmt))
-            self.new (K.seen keeper.old) (K.seen keeper.new) result }
+        requires agrees { Holds (K.seen keeper.old).kept self.old.base }
+        requires fits { fits_catalog self.old.base.catalog (Bound.Insert stmt) ≡ true }
+        ensures { IsServed self.old (bound_outcome self.old (Bound.Insert stmt)) self.new (K.seen keeper.old) (K.seen keeper.new) result }
     {
-        match self.insert_refusal(&stmt) {
+        match self.insert_clash(&stmt) {
             Ok(Some(refusal)) => self.refuse(&refusal),
             Ok(None) => self.let_stand(keeper, stmt),
             Err(_) => Err(StopError::Memory),
         }
     }
 
-    /// Why an insert is refused.
-    fn insert_refusal(&self, stmt: &Stmt) -> Result<Option<Refusal>, AllocError>
-        requires { length stmt.now.path ≤ 16 }
-        ensures { IfOk result (λ r. r ≡ refusal_of_bound self.now (Bound.Insert stmt.now)) }
+    /// The clash for which an insert is refused.
+    fn insert_clash(&self, stmt: &Stmt) -> Result<Option<Refusal>, AllocError>
+        ensures { IfOk result (λ r. r ≡ clashes_with (clashing self.now.base stmt.now)) }
     {
         match clashing_among(
             self.base.stmts(),
@@ -55,29 +56,48 @@ impl Session {
             stmt.sign,
         ) {
             Some(least) => Ok(Some(clash_with(self.alloc, least)?)),
-            None => match self.limit_passed_with(stmt) {
-                Some(what) => Ok(Some(Refusal::Full(what))),
-                None => Ok(None),
-            },
+            None => Ok(None),
         }
     }
 
-    /// The limit that the base would pass with one more statement.
-    fn limit_passed_with(&self, stmt: &Stmt) -> Option<What>
-        requires { length stmt.now.path ≤ 16 }
-        ensures { result ≡ passed_limit (asked_base self.now (Bound.Insert stmt.now)) }
+    /// Lets a statement stand that clashes with nothing, or refuses it where the base would pass a limit.
+    fn let_stand<K: Keeper>(&mut self, keeper: &mut K, stmt: Stmt) -> Result<Reply, StopError>
+        requires still { IsStill (K.seen keeper.old) }
+        requires agrees { Holds (K.seen keeper.old).kept self.old.base }
+        requires belongs { belongs self.old.base.catalog stmt ≡ true }
+        requires apart { contradicted (key_lengths self.old.base.catalog.rels) self.old.base.stmts stmt.path stmt.tuple stmt.sign ≡ false }
+        ensures { IsServed self.old
+            (becomes self.old (with_stmts self.old.base (with_statement self.old.base.stmts stmt)) (count_reply (if stands self.old.base.stmts stmt then 0 else 1)))
+            self.new (K.seen keeper.old) (K.seen keeper.new) result }
     {
         let users = self.base.catalog().users.len();
         let rels = self.base.catalog().rels.len();
-        let more = if self.base.stands(stmt) { 0 } else { 1 };
-        let counts = self.counts_with(stmt);
-        limit_passed(users, rels, counts, self.base.stmts().len() + more)
+        if self.base.stands(&stmt) {
+            return self.add_nothing(keeper);
+        }
+        let counts = self.counts_with(&stmt);
+        match limit_passed(users, rels, counts, self.base.stmts().len() + 1) {
+            Some(what) => self.refuse(&Refusal::Full(what)),
+            None => self.add_statement(keeper, stmt, counts),
+        }
+    }
+
+    /// Answers that no statement was added.
+    fn add_nothing<K: Keeper>(&self, keeper: &mut K) -> Result<Reply, StopError>
+        requires still { IsStill (K.seen keeper.old) }
+        requires agrees { Holds (K.seen keeper.old).kept self.now.base }
+        ensures { IsServed self.now (Done (count_reply 0) 0 self.now) self.now (K.seen keeper.old) (K.seen keeper.new) result }
+    {
+        match count_reply(self.alloc, 0) {
+            Ok(text) => self.tell(keeper, text, 0),
+            Err(_) => Err(StopError::Memory),
+        }
     }
 
     /// The counts with one more statement.
     fn counts_with(&self, stmt: &Stmt) -> Counts
-        requires { length stmt.now.path ≤ 16 }
-        ensures { result ≡ counts_of (with_statement self.now.stmts stmt.now) }
+        requires { length stmt.now.path ≤ deepest_statement }
+        ensures { result ≡ counts_of (with_statement self.now.base.stmts stmt.now) }
     {
         let worlds = self.worlds_with(stmt);
         let tuples = self.tuples_with(stmt);
@@ -86,15 +106,15 @@ impl Session {
 
     /// How many worlds there would be with one more statement.
     fn worlds_with(&self, stmt: &Stmt) -> usize
-        requires { length stmt.now.path ≤ 16 }
-        ensures { result ≡ world_count (with_statement self.now.stmts stmt.now) }
+        requires { length stmt.now.path ≤ deepest_statement }
+        ensures { result ≡ world_count (with_statement self.now.base.stmts stmt.now) }
     {
         self.counts.worlds + new_state_count(self.base.stmts(), stmt.path.as_slice())
     }
 
     /// How many different tuples there would be with one more statement.
     fn tuples_with(&self, stmt: &Stmt) -> usize
-        ensures { result ≡ tuple_count (with_statement self.now.stmts stmt.now) }
+        ensures { result ≡ tuple_count (with_statement self.now.base.stmts stmt.now) }
     {
         if has_tuple(self.base.stmts(), &stmt.tuple) {
             self.counts.tuples
@@ -103,55 +123,28 @@ impl Session {
         }
     }
 
-    /// Lets a statement stand that isn't refused.
-    fn let_stand<K: Keeper>(&mut self, keeper: &mut K, stmt: Stmt) -> Result<Reply, StopError>
-        requires still { IsStill (K.seen keeper.old) }
-        requires agrees { Holds (K.seen keeper.old).kept self.old }
-        requires fits { fits_catalog self.old.catalog (Bound.Insert stmt) ≡ true }
-        requires fine { refusal_of_bound self.old (Bound.Insert stmt) ≡ None }
-        ensures { IsServed self.old None (accepted_reply self.old (Bound.Insert stmt)) (asked_base self.old (Bound.Insert stmt))
-            self.new (K.seen keeper.old) (K.seen keeper.new) result }
-    {
-        if contains(self.base.stmts(), &stmt) {
-            return self.add_nothing(keeper);
-        }
-        match count_reply(self.alloc, 1) {
-            Ok(text) => self.add_statement(keeper, stmt, text),
-            Err(_) => Err(StopError::Memory),
-        }
-    }
-
-    /// Answers that no statement was added.
-    fn add_nothing<K: Keeper>(&self, keeper: &mut K) -> Result<Reply, StopError>
-        requires still { IsStill (K.seen keeper.old) }
-        requires agrees { Holds (K.seen keeper.old).kept self.now }
-        ensures { IsServed self.now None (count_reply 0) self.now self.now (K.seen keeper.old) (K.seen keeper.new) result }
-    {
-        match count_reply(self.alloc, 0) {
-            Ok(text) => commit_nothing(keeper, text),
-            Err(_) => Err(StopError::Memory),
-        }
-    }
-
     /// Adds a statement that isn't refused and doesn't stand. It is taken back where its row is not committed.
     fn add_statement<K: Keeper>(
         &mut self,
         keeper: &mut K,
         stmt: Stmt,
-        text: List<u8>,
+        counts: Counts,
     ) -> Result<Reply, StopError>
         requires still { IsStill (K.seen keeper.old) }
-        requires agrees { Holds (K.seen keeper.old).kept self.old }
-        requires short { length stmt.path ≤ 16 }
-        requires new { stands self.old.stmts stmt ≡ false }
-        requires apart { contradicted (key_lengths self.old.catalog.rels) self.old.stmts stmt.path stmt.tuple stmt.sign ≡ false }
-        requires valid { IsValid self.old.catalog (with_statement self.old.stmts stmt) }
-        ensures { IsServed self.old None text (asked_base self.old (Bound.Insert stmt))
-            self.new (K.seen keeper.old) (K.seen keeper.new) result }
+        requires agrees { Holds (K.seen keeper.old).kept self.old.base }
+        requires counts { counts ≡ counts_of (with_statement self.old.base.stmts stmt) }
+        requires new { stands self.old.base.stmts stmt ≡ false }
+        requires apart { contradicted (key_lengths self.old.base.catalog.rels) self.old.base.stmts stmt.path stmt.tuple stmt.sign ≡ false }
+        requires valid { IsValid self.old.base.catalog (with_statement self.old.base.stmts stmt) }
+        ensures { let next = record self.old { base = with_stmts self.old.base (with_statement self.old.base.stmts stmt) } in
+            IsServed self.old (Done (count_reply 1) 0 next) self.new (K.seen keeper.old) (K.seen keeper.new) result }
     {
-        let counts = self.counts_with(&stmt);
         let copy = match stmt.try_clone(self.alloc) {
             Ok(copy) => copy,
+            Err(_) => return Err(StopError::Memory),
+        };
+        let text = match count_reply(self.alloc, 1) {
+            Ok(text) => text,
             Err(_) => return Err(StopError::Memory),
         };
         match self.base.put(stmt) {

@@ -1,7 +1,6 @@
 //! The belief machine, one command at a time.
 #![tactic(auto)]
 
-mod ask;
 mod change;
 mod create;
 mod event;
@@ -14,7 +13,6 @@ mod reply;
 mod session;
 mod show;
 mod stop;
-mod structure;
 mod transact;
 
 pub use event::Event;

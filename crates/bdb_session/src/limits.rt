@@ -1,28 +1,11 @@
-// The limits of a base.
+// Which limit of a base is passed.
 ghost use Rattle.std.specs.Prelude.{◌≡◌, IfOk};
-ghost use Rattle.bdb_session.specs.Machine.{limit_passed, counts_of};
+ghost use Rattle.bdb_session.specs.Sizes.{limit_passed, counts_of};
 
+use bdb_base::limits::{MOST_RELATIONS, MOST_STATEMENTS, MOST_TUPLES, MOST_USERS, MOST_WORLDS};
 use bdb_base::{Stmt, What, distinct_tuples};
 use bdb_paths::states_of;
 use std::alloc::{AllocError, Global};
-
-/// How many users there may be.
-const MOST_USERS: usize = 256;
-
-/// How many relations there may be.
-const MOST_RELATIONS: usize = 64;
-
-/// How many worlds the statements may bring into being.
-const MOST_WORLDS: usize = 2000;
-
-/// How many different tuples the statements may have.
-const MOST_TUPLES: usize = 4000;
-
-/// How many statements there may be.
-const MOST_STATEMENTS: usize = 20000;
-
-/// How many lines a command may be answered with.
-pub(crate) const MOST_LINES: usize = 100_000;
 
 /// How many worlds and different tuples statements have.
 #[derive(Clone, Copy, Drop)]

@@ -3,9 +3,10 @@ ghost use Rattle.std.specs.Prelude.{◌≡◌, false, IfOk, OnOk, OnErr};
 ghost use Rattle.std.specs.FinMap as tables;
 ghost use Rattle.bdb_base.specs.Bases.{Contents, IsValid, empty_contents};
 ghost use Rattle.bdb_base.specs.Causes.{HasCause, Rises};
-ghost use Rattle.bdb_keep.specs.Seen.{IsAtRest, IsStill, Unchanged};
+ghost use Rattle.bdb_keep.specs.Seen.{IsAtRest, IsStill, NeverFall, Unchanged};
 ghost use Rattle.bdb_tables.specs.Holds.{Holds, Stands, rows_of_base};
 ghost use Rattle.bdb_session.specs.Opening.{opening};
+ghost use Rattle.bdb_session.specs.Outcome.{start_from};
 ghost use Rattle.bdb_session.specs.Served.{Commits};
 
 use crate::limits::{Counts, counts_of};
@@ -25,11 +26,12 @@ impl Session {
         requires stopped { (K.seen keeper.old).running ≡ false }
         requires base { (b : Contents) × Stands (K.seen keeper.old).kept b × IsValid b.catalog b.stmts }
         ensures rest { IsAtRest (K.seen keeper.old) }
-        ensures opened { IfOk result (λ session. (b : Contents) → Stands (K.seen keeper.old).kept b → IsValid b.catalog b.stmts → session ≡ b) }
-        ensures holds { IfOk result (λ session. Holds (K.seen keeper.new).kept session) }
+        ensures opened { IfOk result (λ session. (b : Contents) → Stands (K.seen keeper.old).kept b → IsValid b.catalog b.stmts → session ≡ start_from b) }
+        ensures holds { IfOk result (λ session. Holds (K.seen keeper.new).kept session.base) }
         ensures commits { OnOk result (Rises (opening (K.seen keeper.old).kept) (K.seen keeper.old).commits (K.seen keeper.new).commits) }
         ensures unchanged { OnOk result (opening (K.seen keeper.old).kept ≡ 0 → Unchanged (K.seen keeper.old) (K.seen keeper.new)) }
         ensures still { IsStill (K.seen keeper.new) }
+        ensures never_fall { NeverFall (K.seen keeper.old) (K.seen keeper.new) }
         ensures cause { HasCause (K.seen keeper.old).faults (K.seen keeper.new).faults result StopError.Fault }
         ensures err { OnErr result (Unchanged (K.seen keeper.old) (K.seen keeper.new)) }
     {
@@ -45,9 +47,10 @@ impl Session {
 fn read_session<K: Keeper>(alloc: Global, keeper: &mut K) -> Result<Session, StopError>
     requires still { IsStill (K.seen keeper.old) }
     requires base { (b : Contents) × Holds (K.seen keeper.old).kept b × IsValid b.catalog b.stmts }
-    ensures opened { IfOk result (λ session. (b : Contents) → Holds (K.seen keeper.old).kept b → IsValid b.catalog b.stmts → session ≡ b) }
+    ensures opened { IfOk result (λ session. (b : Contents) → Holds (K.seen keeper.old).kept b → IsValid b.catalog b.stmts → session ≡ start_from b) }
     ensures unchanged { Unchanged (K.seen keeper.old) (K.seen keeper.new) }
     ensures still { IsStill (K.seen keeper.new) }
+    ensures never_fall { NeverFall (K.seen keeper.old) (K.seen keeper.new) }
     ensures cause { HasCause (K.seen keeper.old).faults (K.seen keeper.new).faults result StopError.Fault }
 {
     let users = match read_users(alloc, keeper) {
@@ -82,7 +85,7 @@ fn read_session<K: Keeper>(alloc: Global, keeper: &mut K) -> Result<Session, Sto
 fn new_session<K: Keeper>(alloc: Global, keeper: &mut K) -> Result<Session, StopError>
     requires still { IsStill (K.seen keeper.old) }
     requires empty { (K.seen keeper.old).kept ≡ tables.empty }
-    ensures opened { IfOk result (λ session. session ≡ empty_contents) }
+    ensures opened { IfOk result (λ session. session ≡ start_from empty_contents) }
     ensures commits { Commits (rows_of_base empty_contents) (K.seen keeper.old) (K.seen keeper.new) result }
 {
     match commit_format(alloc, keeper) {

@@ -20,7 +20,7 @@ pub enum Reading {
     Refused(Refusal),
 }
 
-ghost use Rattle.bdb_session.specs.Machine.{reading_of, reading_of_tokens, reading_of_command, begins_explain, IsFit};
+ghost use Rattle.bdb_session.specs.Reading.{reading_of, reading_of_tokens, reading_of_command, begins_explain, IsFit};
 
 /// What a piece says.
 pub fn read_piece(alloc: Global, piece: &[u8]) -> Result<Reading, AllocError>

@@ -1,4 +1,4 @@
-// Refusals to bind, as refusals of a command.
+// Refusals to bind and clashes, as refusals of a command.
 ghost use Rattle.std.specs.Prelude.{◌≡◌, IfOk};
 ghost use Rattle.bdb_session.specs.Machine.{refusal_from, clash_with};
 
@@ -30,7 +30,7 @@ pub(crate) fn refusal_from(error: BindError) -> Option<Refusal>
     }
 }
 
-/// The clash that a statement stands for.
+/// The clash with a statement.
 pub(crate) fn clash_with(alloc: Global, stmt: &Stmt) -> Result<Refusal, AllocError>
     ensures { IfOk result (λ r. r ≡ clash_with stmt.now) }
 {

@@ -1,9 +1,10 @@
 // The session: the base so far, and the commands that change it.
-ghost use Rattle.std.specs.Prelude.{◌≡◌, IfOk, OnOk, OnErr, IsErrOf, true, false};
+ghost use Rattle.std.specs.Prelude.{◌≡◌, IfOk, OnOk, OnErr, true};
 ghost use Rattle.bdb_base.specs.Causes.{HasCause, Rises};
-ghost use Rattle.bdb_keep.specs.Seen.{IsStill, Unchanged};
+ghost use Rattle.bdb_keep.specs.Seen.{IsStill, NeverFall, Unchanged};
 ghost use Rattle.bdb_tables.specs.Holds.{Holds};
 ghost use Rattle.bdb_session.specs.declared.event.Event.TheVariants as event;
+ghost use Rattle.bdb_session.specs.declared.reading.Reading.TheVariants as reading;
 
 use crate::change::Selection;
 use crate::event::Event;
@@ -20,7 +21,8 @@ use bdb_syntax::Command;
 use std::alloc::Global;
 use std::marker::Model;
 
-/// A session: the base that the accepted commands have reached. Contracts see it as that base.
+/// A session: the base that the accepted commands have reached. Contracts see it as the state of
+/// the belief machine.
 #[derive(Drop)]
 pub struct Session {
     pub(crate) base: Base,
@@ -31,43 +33,47 @@ pub struct Session {
 
 impl Model for Session {
     ghost use Rattle.std.specs.Prelude.{◌≡◌};
-    ghost use Rattle.bdb_base.specs.Bases.{Contents};
-    ghost use Rattle.bdb_session.specs.Machine.{counts_of};
+    ghost use Rattle.bdb_session.specs.Outcome.{State};
+    ghost use Rattle.bdb_session.specs.Sizes.{counts_of};
 
-    ghost Value = { Contents };
+    ghost Value = { State };
 
-    ghost view = { λ s. s.base };
+    ghost view = { λ s. record { base = s.base } };
 
     ghost invariant = { λ s. s.counts ≡ counts_of s.base.stmts };
 }
 
-ghost use Rattle.bdb_bind.specs.Binding.{bound_of};
 ghost use Rattle.bdb_bind.specs.Fits.{fits_catalog, is_allowed};
-ghost use Rattle.bdb_render.specs.Refusals.{refusal_reply};
-ghost use Rattle.bdb_session.specs.Machine.{reply_of, accepts, next_base, counts, refusal_of_command, refusal_of_bound, accepted_reply, asked_base};
-ghost use Rattle.bdb_session.specs.Served.{IsServed};
+ghost use Rattle.bdb_session.specs.Reading.{reading_of};
+ghost use Rattle.bdb_session.specs.Machine.{reply_of, accepts, answers_to, next_state, counts, bound_outcome, command_outcome};
+ghost use Rattle.bdb_session.specs.Outcome.{Refused};
+ghost use Rattle.bdb_session.specs.Served.{IsServed, IsTold};
 
 impl Session {
     /// The relations and users of the base.
     pub fn catalog(&self) -> &Catalog
-        ensures { result.now ≡ self.now.catalog }
+        ensures { result.now ≡ self.now.base.catalog }
     {
         self.base.catalog()
     }
 
-    /// Answers a piece of a script: the reply is that of the belief machine to it over the base so far, and the base is
-    /// the one that the machine reaches. An accepted piece with a token is committed once; another leaves the keeper
-    /// alone. After an Err the base and the tables are as they were.
+    /// Answers a piece of a script: the reply is that of the belief machine to it in the state so far, and the state is
+    /// the one that the machine reaches. An accepted piece with a token is committed once; after a refused one rows and
+    /// commits are as they were. A piece without tokens leaves the keeper alone. After an Err the state and the tables
+    /// are as they were.
     pub fn apply<K: Keeper>(&mut self, keeper: &mut K, piece: &[u8]) -> Result<Reply, StopError>
         requires still { IsStill (K.seen keeper.old) }
-        requires agrees { Holds (K.seen keeper.old).kept self.old }
+        requires agrees { Holds (K.seen keeper.old).kept self.old.base }
         ensures text { IfOk result (λ r. r.text ≡ reply_of self.old (event.Piece piece.now)) }
         ensures accepted { IfOk result (λ r. r.accepted ≡ accepts self.old (event.Piece piece.now)) }
-        ensures next { OnOk result (self.new ≡ next_base self.old (event.Piece piece.now)) }
-        ensures holds { Holds (K.seen keeper.new).kept self.new }
+        ensures answers { IfOk result (λ r. r.answers ≡ answers_to self.old (event.Piece piece.now)) }
+        ensures next { OnOk result (self.new ≡ next_state self.old (event.Piece piece.now)) }
+        ensures holds { Holds (K.seen keeper.new).kept self.new.base }
         ensures commits { OnOk result (Rises (counts self.old (event.Piece piece.now)) (K.seen keeper.old).commits (K.seen keeper.new).commits) }
-        ensures alone { OnOk result (counts self.old (event.Piece piece.now) ≡ 0 → K.seen keeper.new ≡ K.seen keeper.old) }
+        ensures alone { OnOk result (counts self.old (event.Piece piece.now) ≡ 0 → Unchanged (K.seen keeper.old) (K.seen keeper.new)) }
+        ensures untouched { reading_of piece.now ≡ reading.Nothing → keeper.new ≡ keeper.old }
         ensures still { IsStill (K.seen keeper.new) }
+        ensures never_fall { NeverFall (K.seen keeper.old) (K.seen keeper.new) }
         ensures cause { HasCause (K.seen keeper.old).faults (K.seen keeper.new).faults result StopError.Fault }
         ensures err { OnErr result (Unchanged (K.seen keeper.old) (K.seen keeper.new)) }
         ensures same { OnErr result (self.new ≡ self.old) }
@@ -84,14 +90,16 @@ impl Session {
     /// ended, are refused.
     pub fn answer<K: Keeper>(&mut self, keeper: &mut K, event: &Event) -> Result<Reply, StopError>
         requires still { IsStill (K.seen keeper.old) }
-        requires agrees { Holds (K.seen keeper.old).kept self.old }
+        requires agrees { Holds (K.seen keeper.old).kept self.old.base }
         ensures text { IfOk result (λ r. r.text ≡ reply_of self.old event.now) }
         ensures accepted { IfOk result (λ r. r.accepted ≡ accepts self.old event.now) }
-        ensures next { OnOk result (self.new ≡ next_base self.old event.now) }
-        ensures holds { Holds (K.seen keeper.new).kept self.new }
+        ensures answers { IfOk result (λ r. r.answers ≡ answers_to self.old event.now) }
+        ensures next { OnOk result (self.new ≡ next_state self.old event.now) }
+        ensures holds { Holds (K.seen keeper.new).kept self.new.base }
         ensures commits { OnOk result (Rises (counts self.old event.now) (K.seen keeper.old).commits (K.seen keeper.new).commits) }
-        ensures alone { OnOk result (counts self.old event.now ≡ 0 → K.seen keeper.new ≡ K.seen keeper.old) }
+        ensures alone { OnOk result (counts self.old event.now ≡ 0 → Unchanged (K.seen keeper.old) (K.seen keeper.new)) }
         ensures still { IsStill (K.seen keeper.new) }
+        ensures never_fall { NeverFall (K.seen keeper.old) (K.seen keeper.new) }
         ensures cause { HasCause (K.seen keeper.old).faults (K.seen keeper.new).faults result StopError.Fault }
         ensures err { OnErr result (Unchanged (K.seen keeper.old) (K.seen keeper.new)) }
         ensures same { OnErr result (self.new ≡ self.old) }
@@ -105,9 +113,7 @@ impl Session {
 
     /// The reply to what is refused. The only error is want of memory.
     pub(crate) fn refuse(&self, refusal: &Refusal) -> Result<Reply, StopError>
-        ensures text { IfOk result (λ r. r.text ≡ refusal_reply self.now.catalog refusal.now) }
-        ensures refused { IfOk result (λ r. r.accepted ≡ false) }
-        ensures memory { IsErrOf result StopError.Fault → ⊥ }
+        ensures { IsTold self.now.base.catalog (Refused refusal.now) result }
     {
         match refusal_reply(self.alloc, self.base.catalog(), refusal) {
             Ok(text) => Ok(Reply::refused(text)),
@@ -122,10 +128,9 @@ impl Session {
         command: &Command,
     ) -> Result<Reply, StopError>
         requires still { IsStill (K.seen keeper.old) }
-        requires agrees { Holds (K.seen keeper.old).kept self.old }
+        requires agrees { Holds (K.seen keeper.old).kept self.old.base }
         requires allowed { is_allowed command.now ≡ true }
-        ensures { IsServed self.old (refusal_of_command self.old command.now) (accepted_reply self.old (bound_of self.old.catalog command.now))
-            (asked_base self.old (bound_of self.old.catalog command.now)) self.new (K.seen keeper.old) (K.seen keeper.new) result }
+        ensures { IsServed self.old (command_outcome self.old command.now) self.new (K.seen keeper.old) (K.seen keeper.new) result }
     {
         match bind_by(self.alloc, self.base.catalog(), &self.index, command) {
             Ok(bound) => self.execute(keeper, bound),
@@ -139,10 +144,9 @@ impl Session {
     /// Carries out a bound command, or refuses it.
     fn execute<K: Keeper>(&mut self, keeper: &mut K, bound: Bound) -> Result<Reply, StopError>
         requires still { IsStill (K.seen keeper.old) }
-        requires agrees { Holds (K.seen keeper.old).kept self.old }
-        requires fits { fits_catalog self.old.catalog bound ≡ true }
-        ensures { IsServed self.old (refusal_of_bound self.old bound) (accepted_reply self.old bound) (asked_base self.old bound)
-            self.new (K.seen keeper.old) (K.seen keeper.new) result }
+        requires agrees { Holds (K.seen keeper.old).kept self.old.base }
+        requires fits { fits_catalog self.old.base.catalog bound ≡ true }
+        ensures { IsServed self.old (bound_outcome self.old bound) self.new (K.seen keeper.old) (K.seen keeper.new) result }
     {
         match bound {
             Bound::CreateUser { name } => self.create_user(keeper, name),

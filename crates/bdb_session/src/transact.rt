@@ -1,5 +1,5 @@
 // Transactions of a keeper.
-ghost use Rattle.std.specs.Prelude.{◌≡◌, true, IfOk, OnOk};
+ghost use Rattle.std.specs.Prelude.{◌≡◌, OnOk};
 ghost use Rattle.std.specs.List.{AllByRecursion};
 ghost use Rattle.std.specs.FinMap as tables;
 ghost use Rattle.bdb_keep.specs.Seen.{IsStill};
@@ -11,9 +11,8 @@ ghost use Rattle.bdb_tables.specs.Holds.{IsStatement};
 ghost use Rattle.bdb_tables.specs.Statements.{MayBeStatement, with_row, with_rows, without_rows};
 ghost use Rattle.bdb_session.specs.Served.{Commits};
 
-use crate::reply::Reply;
 use crate::stop::StopError;
-use bdb_base::{List, RelDef, Stmt, Txt};
+use bdb_base::{RelDef, Stmt, Txt};
 use bdb_keep::{KeepError, Keeper};
 use bdb_tables::{
     MetaTab, RelTab, TabError, UserTab, drop_statements, put, put_statement, put_statements,
@@ -23,19 +22,17 @@ use std::alloc::Global;
 /// The format of the tables.
 const FORMAT: u32 = 1;
 
-/// Commits nothing, and gives the reply to what was accepted.
-pub(crate) fn commit_nothing<K: Keeper>(keeper: &mut K, text: List<u8>) -> Result<Reply, StopError>
+/// Commits that nothing is changed.
+pub(crate) fn commit_nothing<K: Keeper>(keeper: &mut K) -> Result<(), StopError>
     requires still { IsStill (K.seen keeper.old) }
-    ensures text { IfOk result (λ r. r.text ≡ text) }
-    ensures accepted { IfOk result (λ r. r.accepted ≡ true) }
-    ensures commits { Commits (K.seen keeper.old).kept (K.seen keeper.old) (K.seen keeper.new) result }
+    ensures { Commits (K.seen keeper.old).kept (K.seen keeper.old) (K.seen keeper.new) result }
 {
     match keeper.begin() {
         Ok(()) => {}
         Err(error) => return Err(stop_of(error)),
     }
     match keeper.commit() {
-        Ok(()) => Ok(Reply::accepted(text)),
+        Ok(()) => Ok(()),
         Err(error) => Err(stop_of(error)),
     }
 }

@@ -1,34 +1,27 @@
 -- What the events that count tell of a run.
-use Rattle.std.proofs.Common.{◌≡◌, ◌≢◌, ◌∙◌, ℕ, ◌+◌, ◌-◌, ◌<◌, Bool, false, ◌&&◌, nat_eq, nat_lt, List, [], ◌∷◌, ◌++◌, take, drop, Option, Some, None, is_none, inl, inr, refl, ap, sym, subst, append_assoc, arith}
-use Rattle.std.specs.Bool.{if◌then◌else◌}
+use Rattle.std.proofs.Common.{◌≡◌, ◌≢◌, ◌∙◌, ℕ, ◌+◌, ◌-◌, ◌<◌, Bool, false, ◌&&◌, nat_eq, nat_lt, List, [], ◌∷◌, ◌++◌, take, drop, Option, Some, None, IfSome, inl, inr, refl, ap, sym, subst, append_assoc, arith}
 use Rattle.std.proofs.lemmas.Bool.{cases_Bool, cond-true, cond-false, le-ltb, lt-ltb}
 use Rattle.std.proofs.lemmas.List.{take-append-drop}
-use Rattle.bdb_base.specs.Bases.{Contents}
 use Rattle.bdb_keep.specs.Seen.{Seen}
 use Rattle.bdb_tables.specs.Holds.{Stands}
-use Rattle.bdb_render.specs.declared.refusal.Refusal.{Refusal}
 use Rattle.bdb_session.specs.declared.event.Event.{Event}
-use Rattle.bdb_session.specs.declared.reading.Reading.{Reading}
-use Rattle.bdb_session.specs.declared.reading.Reading.TheVariants.{Nothing, Says, Refused}
-use Rattle.bdb_session.specs.Machine.{counts, next_base, reply_of, base_by, reading_base, reading_at, refusal_at, has_token}
-use Rattle.bdb_session.specs.Runs.{after, replies, IsFrontOf}
+use Rattle.bdb_session.specs.Machine.{counts, next_state, reply_of, outcome_of}
+use Rattle.bdb_session.specs.Outcome.{State, start_from, Outcome, Blank, Refused, Done, state_after, commit_count}
+use Rattle.bdb_session.specs.Runs.{after, replies, events_of, IsFrontOf}
 use Rattle.bdb_top.specs.Counted.{counted, before_count, up_to_count}
-use Rattle.bdb_top.specs.Ran.{Ran}
+use Rattle.bdb_top.specs.Ran.{Ran, EachBase}
 use Rattle.bdb_top.proofs.RunLemmas.{replies-push}
-use Rattle.bdb_top.specs.Laws.{IsToldByCount, CountTellsTheBase, BeginsWith, EndsByCount, RanEndsByCount}
-
-abbrev one_if : Bool → ℕ
-one_if t = if t then 1 else 0
+use Rattle.bdb_top.specs.ByCount.{BeginsWith, EndsByCount, CommitsTell}
+use Rattle.bdb_top.specs.Laws.{IsToldByCount, CountTellsTheState}
 
 -- what doesn't count changes nothing
-same_by : (b : Contents) (r : Option Refusal) (q : Reading) → one_if (has_token q && is_none r) ≡ 0 → base_by b r (reading_base b q) ≡ b
-same_by b (Some r) q h = refl
-same_by b None Nothing h = refl
-same_by b None (Refused r) h = refl
-same_by b None (Says c) h = absurd (omega (arith, h))
+same_by : (s : State) (o : Outcome) → commit_count o ≡ 0 → state_after s o ≡ s
+same_by s Blank h = refl
+same_by s (Refused r) h = refl
+same_by s (Done text answers next) h = absurd (omega (arith, h))
 
-uncounted : (b : Contents) (e : Event) → counts b e ≡ 0 → next_base b e ≡ b
-uncounted b e h = same_by b (refusal_at b e) (reading_at e) h
+uncounted : (s : State) (e : Event) → counts s e ≡ 0 → next_state s e ≡ s
+uncounted s e h = same_by s (outcome_of s e) h
 
 more_less : (m n : ℕ) → m + n - m ≡ n
 more_less m n = omega arith
@@ -40,15 +33,15 @@ front_none : (xs : List Event) → IsFrontOf [] xs
 front_none xs = (xs, refl)
 
 -- none of the events counts that come before the first that does
-before_first : (b : Contents) (es : List Event) → after b (before_count 0 b es) ≡ b
+before_first : (b : State) (es : List Event) → after b (before_count 0 b es) ≡ b
 before_first b [] = refl
 before_first b (e ∷ es) = elim (cases_Bool (nat_lt 0 (counts b e))) [
-  | inl t ↦ ap (after b) (cond-true (nat_lt 0 (counts b e)) [] (e ∷ before_count (0 - counts b e) (next_base b e) es) t)
+  | inl t ↦ ap (after b) (cond-true (nat_lt 0 (counts b e)) [] (e ∷ before_count (0 - counts b e) (next_state b e) es) t)
   | inr f ↦
       let none : counts b e ≡ 0 = zero_if (counts b e) f in
-      ap (after b) (cond-false (nat_lt 0 (counts b e)) [] (e ∷ before_count (0 - counts b e) (next_base b e) es) f)
-      ∙ ap (λ n. after (next_base b e) (before_count n (next_base b e) es)) (none_less (counts b e))
-      ∙ before_first (next_base b e) es ∙ uncounted b e none
+      ap (after b) (cond-false (nat_lt 0 (counts b e)) [] (e ∷ before_count (0 - counts b e) (next_state b e) es) f)
+      ∙ ap (λ n. after (next_state b e) (before_count n (next_state b e) es)) (none_less (counts b e))
+      ∙ before_first (next_state b e) es ∙ uncounted b e none
 ]
   where
     zero_if : (n : ℕ) → nat_lt 0 n ≡ false → n ≡ 0
@@ -58,36 +51,36 @@ before_first b (e ∷ es) = elim (cases_Bool (nat_lt 0 (counts b e))) [
     none_less n = omega arith
 
 -- the events before the next that counts begin with those done
-before_is : (b : Contents) (e : Event) (d rest : List Event) → before_count (counted b (e ∷ d)) b (e ∷ (d ++ rest)) ≡ e ∷ before_count (counted (next_base b e) d) (next_base b e) (d ++ rest)
+before_is : (b : State) (e : Event) (d rest : List Event) → before_count (counted b (e ∷ d)) b (e ∷ (d ++ rest)) ≡ e ∷ before_count (counted (next_state b e) d) (next_state b e) (d ++ rest)
 before_is b e d rest =
     let c = counts b e in
-    let n = counted (next_base b e) d in
-    cond-false (nat_lt (c + n) c) [] (e ∷ before_count (c + n - c) (next_base b e) (d ++ rest)) (le-ltb (c + n) c (omega arith))
-    ∙ ap (λ m. e ∷ before_count m (next_base b e) (d ++ rest)) (more_less c n)
+    let n = counted (next_state b e) d in
+    cond-false (nat_lt (c + n) c) [] (e ∷ before_count (c + n - c) (next_state b e) (d ++ rest)) (le-ltb (c + n) c (omega arith))
+    ∙ ap (λ m. e ∷ before_count m (next_state b e) (d ++ rest)) (more_less c n)
 
-base_told : (b : Contents) (done rest : List Event) → after b done ≡ after b (before_count (counted b done) b (done ++ rest))
-base_told b [] rest = sym (before_first b rest)
-base_told b (e ∷ d) rest = base_told (next_base b e) d rest ∙ sym (ap (after b) (before_is b e d rest))
+state_told : (b : State) (done rest : List Event) → after b done ≡ after b (before_count (counted b done) b (done ++ rest))
+state_told b [] rest = sym (before_first b rest)
+state_told b (e ∷ d) rest = state_told (next_state b e) d rest ∙ sym (ap (after b) (before_is b e d rest))
 
-no_more_told : (b : Contents) (done rest : List Event) → IsFrontOf done (before_count (counted b done) b (done ++ rest))
+no_more_told : (b : State) (done rest : List Event) → IsFrontOf done (before_count (counted b done) b (done ++ rest))
 no_more_told b [] rest = front_none (before_count 0 b rest)
-no_more_told b (e ∷ d) rest = subst (λ (l : List Event). IsFrontOf (e ∷ d) l) (sym (before_is b e d rest)) (front_cons e d (before_count (counted (next_base b e) d) (next_base b e) (d ++ rest)) (no_more_told (next_base b e) d rest))
+no_more_told b (e ∷ d) rest = subst (λ (l : List Event). IsFrontOf (e ∷ d) l) (sym (before_is b e d rest)) (front_cons e d (before_count (counted (next_state b e) d) (next_state b e) (d ++ rest)) (no_more_told (next_state b e) d rest))
 
-up_to_none : (b : Contents) (es : List Event) → up_to_count 0 b es ≡ []
+up_to_none : (b : State) (es : List Event) → up_to_count 0 b es ≡ []
 up_to_none b [] = refl
 up_to_none b (e ∷ es) = refl
 
-all_told : (b : Contents) (done rest : List Event) → IsFrontOf (up_to_count (counted b done) b (done ++ rest)) done
+all_told : (b : State) (done rest : List Event) → IsFrontOf (up_to_count (counted b done) b (done ++ rest)) done
 all_told b [] rest = ([], sym (ap (λ (l : List Event). l ++ []) (up_to_none b rest)))
 all_told b (e ∷ d) rest =
     let c = counts b e in
-    let n = counted (next_base b e) d in
-    let more = up_to_count (c + n - c) (next_base b e) (d ++ rest) in
+    let n = counted (next_state b e) d in
+    let more = up_to_count (c + n - c) (next_state b e) (d ++ rest) in
     elim (cases_Bool (nat_eq (c + n) 0)) [
       | inl t ↦ subst (λ (l : List Event). IsFrontOf l (e ∷ d)) (sym (cond-true (nat_eq (c + n) 0) [] (e ∷ more) t)) (front_none (e ∷ d))
       | inr f ↦ subst (λ (l : List Event). IsFrontOf l (e ∷ d))
-          (sym (cond-false (nat_eq (c + n) 0) [] (e ∷ more) f ∙ ap (λ m. e ∷ up_to_count m (next_base b e) (d ++ rest)) (more_less c n)))
-          (front_cons e (up_to_count n (next_base b e) (d ++ rest)) d (all_told (next_base b e) d rest))
+          (sym (cond-false (nat_eq (c + n) 0) [] (e ∷ more) f ∙ ap (λ m. e ∷ up_to_count m (next_state b e) (d ++ rest)) (more_less c n)))
+          (front_cons e (up_to_count n (next_state b e) (d ++ rest)) d (all_told (next_state b e) d rest))
     ]
 
 one_less : (c n : ℕ) → c + n - 1 - c ≡ n - 1
@@ -97,47 +90,47 @@ still_some : (c n : ℕ) → nat_lt (c + n - 1) c ≡ false → c + n ≢ 0 → 
 still_some c n g some none = grind (arith, g)
 
 -- the events before the last that counts of those done are the first of them
-before_on : (b : Contents) (e : Event) (front es : List Event) (n : ℕ) → counts b e + n ≢ 0
-    → (n ≢ 0 → IsFrontOf (before_count (n - 1) (next_base b e) es) front) → IsFrontOf (before_count (counts b e + n - 1) b (e ∷ es)) (e ∷ front)
+before_on : (b : State) (e : Event) (front es : List Event) (n : ℕ) → counts b e + n ≢ 0
+    → (n ≢ 0 → IsFrontOf (before_count (n - 1) (next_state b e) es) front) → IsFrontOf (before_count (counts b e + n - 1) b (e ∷ es)) (e ∷ front)
 before_on b e front es n some rest =
     let c = counts b e in
-    let more = before_count (c + n - 1 - c) (next_base b e) es in
+    let more = before_count (c + n - 1 - c) (next_state b e) es in
     elim (cases_Bool (nat_lt (c + n - 1) c)) [
       | inl t ↦ subst (λ (l : List Event). IsFrontOf l (e ∷ front)) (sym (cond-true (nat_lt (c + n - 1) c) [] (e ∷ more) t)) (front_none (e ∷ front))
       | inr g ↦ subst (λ (l : List Event). IsFrontOf l (e ∷ front))
-          (sym (cond-false (nat_lt (c + n - 1) c) [] (e ∷ more) g ∙ ap (λ m. e ∷ before_count m (next_base b e) es) (one_less c n)))
-          (front_cons e (before_count (n - 1) (next_base b e) es) front (rest (still_some c n g some)))
+          (sym (cond-false (nat_lt (c + n - 1) c) [] (e ∷ more) g ∙ ap (λ m. e ∷ before_count m (next_state b e) es) (one_less c n)))
+          (front_cons e (before_count (n - 1) (next_state b e) es) front (rest (still_some c n g some)))
     ]
 
-before_done : (b : Contents) (done rest : List Event) → counted b done ≢ 0 → IsFrontOf (before_count (counted b done - 1) b (done ++ rest)) done
+before_done : (b : State) (done rest : List Event) → counted b done ≢ 0 → IsFrontOf (before_count (counted b done - 1) b (done ++ rest)) done
 before_done b [] rest some = absurd (some refl)
-before_done b (e ∷ d) rest some = before_on b e d (d ++ rest) (counted (next_base b e) d) some (λ more. before_done (next_base b e) d rest more)
+before_done b (e ∷ d) rest some = before_on b e d (d ++ rest) (counted (next_state b e) d) some (λ more. before_done (next_state b e) d rest more)
 
 -- and of all but the last of them
-before_last : (b : Contents) (front : List Event) (last : Event) (rest : List Event) → counted b (front ++ last ∷ []) ≢ 0
+before_last : (b : State) (front : List Event) (last : Event) (rest : List Event) → counted b (front ++ last ∷ []) ≢ 0
     → IsFrontOf (before_count (counted b (front ++ last ∷ []) - 1) b (front ++ last ∷ [] ++ rest)) front
 before_last b [] last rest some =
     let c = counts b last in
     subst (λ (l : List Event). IsFrontOf l [])
-    (sym (cond-true (nat_lt (c + 0 - 1) c) [] (last ∷ before_count (c + 0 - 1 - c) (next_base b last) rest) (lt-ltb (c + 0 - 1) c (positive c some))))
+    (sym (cond-true (nat_lt (c + 0 - 1) c) [] (last ∷ before_count (c + 0 - 1 - c) (next_state b last) rest) (lt-ltb (c + 0 - 1) c (positive c some))))
     (front_none [])
   where
     positive : (c : ℕ) → c + 0 ≢ 0 → c + 0 - 1 < c
     positive c some = omega (arith, some)
 before_last b (e ∷ f) last rest some =
-    before_on b e f (f ++ last ∷ [] ++ rest) (counted (next_base b e) (f ++ last ∷ [])) some (λ more. before_last (next_base b e) f last rest more)
+    before_on b e f (f ++ last ∷ [] ++ rest) (counted (next_state b e) (f ++ last ∷ [])) some (λ more. before_last (next_state b e) f last rest more)
 
-told : (b : Contents) (done rest : List Event) → IsToldByCount b (done ++ rest) done (counted b done)
-told b done rest = record { base = base_told b done rest; all_of = all_told b done rest; no_more = no_more_told b done rest }
+told : (b : State) (done rest : List Event) → IsToldByCount b (done ++ rest) done (counted b done)
+told b done rest = record { state = state_told b done rest; all_of = all_told b done rest; no_more = no_more_told b done rest }
 
-pub count_tells_the_base : CountTellsTheBase
-count_tells_the_base b events done is = subst (λ (l : List Event). IsToldByCount b l done (counted b done)) (sym is.1) (told b done is.0)
+pub count_tells_the_state : CountTellsTheState
+count_tells_the_state b events done is = subst (λ (l : List Event). IsToldByCount b l done (counted b done)) (sym is.1) (told b done is.0)
 
-replies-append : (b : Contents) (xs ys : List Event) → replies b (xs ++ ys) ≡ replies b xs ++ replies (after b xs) ys
+replies-append : (b : State) (xs ys : List Event) → replies b (xs ++ ys) ≡ replies b xs ++ replies (after b xs) ys
 replies-append b [] ys = refl
-replies-append b (x ∷ xs) ys = ap (λ l. reply_of b x ++ l) (replies-append (next_base b x) xs ys) ∙ sym (append_assoc (reply_of b x) (replies (next_base b x) xs) (replies (after (next_base b x) xs) ys))
+replies-append b (x ∷ xs) ys = ap (λ l. reply_of b x ++ l) (replies-append (next_state b x) xs ys) ∙ sym (append_assoc (reply_of b x) (replies (next_state b x) xs) (replies (after (next_state b x) xs) ys))
 
-replies_begin : (b : Contents) (xs ys : List Event) → IsFrontOf xs ys → BeginsWith (replies b ys) (replies b xs)
+replies_begin : (b : State) (xs ys : List Event) → IsFrontOf xs ys → BeginsWith (replies b ys) (replies b xs)
 replies_begin b xs ys h = (replies (after b xs) h.0, ap (replies b) h.1 ∙ replies-append b xs h.0)
 
 begins_on : (x y z : List ℕ) → BeginsWith x y → BeginsWith y z → BeginsWith x z
@@ -150,11 +143,11 @@ begins_more x y z h = (h.0 ++ y, ap (λ l. l ++ y) h.1 ∙ append_assoc z h.0 y)
 part_begins : (x y : List ℕ) (n : ℕ) → BeginsWith (x ++ y) (x ++ take n y)
 part_begins x y n = (drop n y, ap (λ l. x ++ l) (sym (take-append-drop n y)) ∙ sym (append_assoc x (take n y) (drop n y)))
 
-before_whole : (b : Contents) (events done : List Event) → IsFrontOf done events → counted b done ≢ 0 → IsFrontOf (before_count (counted b done - 1) b events) done
+before_whole : (b : State) (events done : List Event) → IsFrontOf done events → counted b done ≢ 0 → IsFrontOf (before_count (counted b done - 1) b events) done
 before_whole b events done h some =
     subst (λ (l : List Event). IsFrontOf (before_count (counted b done - 1) b l) done) (sym h.1) (before_done b done h.0 some)
 
-before_part : (b : Contents) (events done front : List Event) (last : Event) → done ≡ front ++ last ∷ [] → IsFrontOf done events → counted b done ≢ 0
+before_part : (b : State) (events done front : List Event) (last : Event) → done ≡ front ++ last ∷ [] → IsFrontOf done events → counted b done ≢ 0
     → IsFrontOf (before_count (counted b done - 1) b events) front
 before_part b events done front last is h some =
     subst (λ (d : List Event). IsFrontOf (before_count (counted b d - 1) b events) front) (sym is)
@@ -162,13 +155,13 @@ before_part b events done front last is h some =
     (before_last b front last h.0 (λ e. some (ap (counted b) is ∙ e))))
 
 -- the run by the events that are done
-by_done : (b : Contents) (events : List Event) (first now : Seen) (old new : Option (List ℕ)) (status : ℕ) (ran : Ran b events first now old new status)
+by_done : (b : State) (events : List Event) (first now : Seen) (old new : Option (List ℕ)) (status : ℕ) (ran : Ran b events first now old new status)
     → EndsByCount b events now old new status (counted b ran.done)
 by_done b events first now old new status ran =
     let done = ran.done in
     let k = counted b done in
-    let is = count_tells_the_base b events done ran.front in
-    let stand = subst (λ (x : Contents). Stands now.last x) is.base ran.stands in
+    let is = count_tells_the_state b events done ran.front in
+    let stand = subst (λ (x : State). Stands now.last x.base) is.state ran.stands in
     let more = replies_begin b done (before_count k b events) is.no_more in
     elim (cases_Bool (nat_eq status 4)) [
       | inl t ↦
@@ -194,6 +187,13 @@ by_done b events first now old new status ran =
       }
     ]
 
-pub ran_ends_by_count : RanEndsByCount
-ran_ends_by_count b events first now old new status ran below =
-    subst (λ (k : ℕ). EndsByCount b events now old new status k) (ran.commits below) (by_done b events first now old new status ran)
+commits_tell : (s : State) (events : List Event) (first now : Seen) (old new : Option (List ℕ)) (status : ℕ) → Ran s events first now old new status → CommitsTell s events first now old new status
+commits_tell s events first now old new status ran below =
+    subst (λ (k : ℕ). EndsByCount s events now old new status k) (ran.commits below) (by_done s events first now old new status ran)
+
+-- the same for each base and text
+pub each_by_count : (before : Option (List ℕ)) (first now : Seen) (old new : Option (List ℕ)) (status : ℕ)
+    → IfSome before (λ text. EachBase first.kept (λ b. Ran (start_from b) (events_of text) first now old new status))
+    → IfSome before (λ text. EachBase first.kept (λ b. CommitsTell (start_from b) (events_of text) first now old new status))
+each_by_count None first now old new status h = tt
+each_by_count (Some text) first now old new status h = λ b stands valid. commits_tell (start_from b) (events_of text) first now old new status (h b stands valid)

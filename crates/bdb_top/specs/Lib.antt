@@ -1,3 +1,4 @@
+pub mod ByCount
 pub mod Counted
 pub mod Laws
 pub mod Ran

@@ -10,7 +10,9 @@ use Rattle.bdb_tables.specs.Holds.{Holds, Stands}
 use Rattle.bdb_session.specs.declared.event.Event.{Event}
 use Rattle.bdb_session.specs.Machine.{reply_of, accepts}
 use Rattle.bdb_session.specs.Opening.{opening}
+use Rattle.bdb_session.specs.Outcome.{State}
 use Rattle.bdb_session.specs.Runs.{after, replies, accepts_all, IsFrontOf}
+use Rattle.bdb_top.specs.ByCount.{commits_between}
 use Rattle.bdb_top.specs.Counted.{counted}
 use Rattle.bdb_top.specs.declared.stop.Stop.{Stop}
 use Rattle.bdb_top.specs.declared.stop.Stop.TheVariants.{Source, Sink, Keeper, Memory, Large}
@@ -19,49 +21,49 @@ use Rattle.bdb_top.specs.declared.stop.Stop.TheVariants.{Source, Sink, Keeper, M
 abbrev pub EachBase : Tables → (Contents → Type 0) → Type 0
 EachBase t P = (b : Contents) → Stands t b → IsValid b.catalog b.stmts → P b
 
--- A session and a keeper have come from a base, and from what the keeper told first, by these events: the session has the
--- base after them, the tables hold it, and there was one commit for each event that counts.
-pub record Carried (b : Contents) (done : List Event) (session : Contents) (first now : Seen) : Type 0 where
-  pub base : session ≡ after b done
-  pub holds : Holds now.kept session
-  pub commits : Rises (counted b done) first.commits now.commits
+-- A session and a keeper have come from a state, and from what the keeper told first, by these events: the session has the
+-- state after them, the tables hold its base, and there was one commit for each event that counts.
+pub record Carried (s : State) (done : List Event) (session : State) (first now : Seen) : Type 0 where
+  pub state : session ≡ after s done
+  pub holds : Holds now.kept session.base
+  pub commits : Rises (counted s done) first.commits now.commits
 
 -- the replies to these events were written, but perhaps a part of the last
-pub record WritesPart (b : Contents) (done : List Event) (old new : Option (List ℕ)) : Type 0 where
+pub record WritesPart (s : State) (done : List Event) (old new : Option (List ℕ)) : Type 0 where
   pub front : List Event
   pub last : Event
   pub is : done ≡ front ++ last ∷ []
   pub part : ℕ
-  pub written : Appends old new (replies b front ++ take part (reply_of (after b front) last))
+  pub written : Appends old new (replies s front ++ take part (reply_of (after s front) last))
 
 -- How one event was answered: with an Ok it was carried out and the reply is written; where the sink failed it was carried
 -- out and a part of the reply is written; after another Err nothing was carried out or written.
-abbrev pub IsAnswer : Contents → Event → Contents → Seen → Seen → Option (List ℕ) → Option (List ℕ) → Result Bool Stop → Type 0
-IsAnswer b e session first now old new (Ok accepted) = Carried b (e ∷ []) session first now × (accepted ≡ accepts b e) × Appends old new (reply_of b e)
-IsAnswer b e session first now old new (Err Sink) = Carried b (e ∷ []) session first now × ((part : ℕ) × Appends old new (take part (reply_of b e)))
-IsAnswer b e session first now old new (Err _) = Carried b [] session first now × Appends old new []
+abbrev pub IsAnswer : State → Event → State → Seen → Seen → Option (List ℕ) → Option (List ℕ) → Result Bool Stop → Type 0
+IsAnswer s e session first now old new (Ok accepted) = Carried s (e ∷ []) session first now × (accepted ≡ accepts s e) × Appends old new (reply_of s e)
+IsAnswer s e session first now old new (Err Sink) = Carried s (e ∷ []) session first now × ((part : ℕ) × Appends old new (take part (reply_of s e)))
+IsAnswer s e session first now old new (Err _) = Carried s [] session first now × Appends old new []
 
 -- The run has come through these events, each accepted or not, and all replies are written.
-pub record Comes (b : Contents) (done : List Event) (session : Contents) (first now : Seen) (old new : Option (List ℕ)) (accepted : Bool) : Type 0 where
-  pub carried : Carried b done session first now
-  pub written : Appends old new (replies b done)
-  pub none_refused : accepted ≡ accepts_all b done
+pub record Comes (s : State) (done : List Event) (session : State) (first now : Seen) (old new : Option (List ℕ)) (accepted : Bool) : Type 0 where
+  pub carried : Carried s done session first now
+  pub written : Appends old new (replies s done)
+  pub none_refused : accepted ≡ accepts_all s done
 
 -- the replies to these events were written, but where the sink failed perhaps a part of the last alone
-abbrev pub Writes : Stop → Contents → List Event → Option (List ℕ) → Option (List ℕ) → Type 0
-Writes Sink b done old new = WritesPart b done old new
-Writes _ b done old new = Appends old new (replies b done)
+abbrev pub Writes : Stop → State → List Event → Option (List ℕ) → Option (List ℕ) → Type 0
+Writes Sink s done old new = WritesPart s done old new
+Writes _ s done old new = Appends old new (replies s done)
 
 -- The run has come through the first of these events alone.
-pub record EndsEarly (b : Contents) (events : List Event) (session : Contents) (first now : Seen) (old new : Option (List ℕ)) (stop : Stop) : Type 0 where
+pub record EndsEarly (s : State) (events : List Event) (session : State) (first now : Seen) (old new : Option (List ℕ)) (stop : Stop) : Type 0 where
   pub done : List Event
   pub front : IsFrontOf done events
-  pub carried : Carried b done session first now
-  pub written : Writes stop b done old new
+  pub carried : Carried s done session first now
+  pub written : Writes stop s done old new
 
 -- how a run over these events ends
-abbrev pub Ends : Contents → List Event → Contents → Seen → Seen → Option (List ℕ) → Option (List ℕ) → Result Bool Stop → Type 0
-Ends b events session first now old new result = MatchResult result (Comes b events session first now old new) (EndsEarly b events session first now old new)
+abbrev pub Ends : State → List Event → State → Seen → Seen → Option (List ℕ) → Option (List ℕ) → Result Bool Stop → Type 0
+Ends s events session first now old new result = MatchResult result (Comes s events session first now old new) (EndsEarly s events session first now old new)
 
 -- the status of a run
 abbrev pub status_of : Result Bool Stop → ℕ
@@ -73,10 +75,9 @@ status_of (Err Keeper) = 5
 status_of (Err Memory) = 6
 status_of (Err Large) = 8
 
--- how many of the commits between two states of a keeper are of events that count, unless the count stands at the end of
--- its type: all but the one of opening
+-- as many commits between two states of a keeper are of events that count, unless the count stands at the end of its type
 abbrev pub CommitsFor : ℕ → Seen → Seen → Type 0
-CommitsFor k first now = now.commits < 2 ^ 64 - 1 → k ≡ now.commits - first.commits - opening first.kept
+CommitsFor k first now = now.commits < 2 ^ 64 - 1 → k ≡ commits_between first now
 
 -- The keeper was opened and nothing more: rows of a base stay as they were, and where there were none the rows are those of
 -- the empty base; no more was committed than that.
@@ -84,20 +85,20 @@ pub record IsOpened (first now : Seen) : Type 0 where
   pub rows : (now.kept ≡ first.kept) ⊎ ((first.kept ≡ tables.empty) × Holds now.kept empty_contents)
   pub commits : Rises (opening first.kept) first.commits now.commits
 
--- A run over these events from a base has ended with a status. The first of the events are done, with 0 and 1 all of them.
+-- A run over these events from a state has ended with a status. The first of the events are done, with 0 and 1 all of them.
 -- The tables hold the base after them, a valid one; only where the keeper was not opened, with 5 or 6, they may still have no row and
 -- stand for the empty base. There was one commit for each event that counts, and the one of opening. The replies to the
 -- events are written, but where the sink failed perhaps a part of the last alone.
-pub record Ran (b : Contents) (events : List Event) (first now : Seen) (old new : Option (List ℕ)) (status : ℕ) : Type 0 where
+pub record Ran (s : State) (events : List Event) (first now : Seen) (old new : Option (List ℕ)) (status : ℕ) : Type 0 where
   pub done : List Event
   pub front : IsFrontOf done events
-  pub valid : IsValid (after b done).catalog (after b done).stmts
-  pub stands : Stands now.last (after b done)
-  pub holds : status ≢ 5 → status ≢ 6 → Holds now.last (after b done)
-  pub committed : now.commits ≢ first.commits → Holds now.last (after b done)
-  pub commits : CommitsFor (counted b done) first now
-  pub written : status ≢ 4 → Appends old new (replies b done)
-  pub part : status ≡ 4 → WritesPart b done old new
+  pub valid : IsValid (after s done).base.catalog (after s done).base.stmts
+  pub stands : Stands now.last (after s done).base
+  pub holds : status ≢ 5 → status ≢ 6 → Holds now.last (after s done).base
+  pub committed : now.commits ≢ first.commits → Holds now.last (after s done).base
+  pub commits : CommitsFor (counted s done) first now
+  pub written : status ≢ 4 → Appends old new (replies s done)
+  pub part : status ≡ 4 → WritesPart s done old new
   pub all : status ≤ 1 → done ≡ events
-  pub accepted : status ≡ 0 → accepts_all b events ≡ true
-  pub refused : status ≡ 1 → accepts_all b events ≡ false
+  pub accepted : status ≡ 0 → accepts_all s events ≡ true
+  pub refused : status ≡ 1 → accepts_all s events ≡ false

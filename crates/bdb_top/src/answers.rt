@@ -2,9 +2,9 @@
 ghost use Rattle.std.specs.Prelude.{◌≡◌, ◌≤◌, OnErr, IsErrOf, take};
 ghost use Rattle.std.specs.Io.KnownBytes.{Appends};
 ghost use Rattle.bdb_base.specs.Causes.{Rose, HasCause};
-ghost use Rattle.bdb_keep.specs.Seen.{IsStill};
+ghost use Rattle.bdb_keep.specs.Seen.{IsStill, NeverFall};
 ghost use Rattle.bdb_tables.specs.Holds.{Holds};
-ghost use Rattle.bdb_session.specs.Machine.{accepts, reply_of, next_base};
+ghost use Rattle.bdb_session.specs.Machine.{accepts, reply_of, next_state};
 ghost use Rattle.bdb_top.specs.Ran.{Ends, IsAnswer};
 
 use crate::stop::Stop;
@@ -20,10 +20,11 @@ fn answer<O: Sink, K: Keeper>(
     event: &Event,
 ) -> Result<bool, Stop>
     requires still { IsStill (K.seen keeper.old) }
-    requires agrees { Holds (K.seen keeper.old).kept session.old }
+    requires agrees { Holds (K.seen keeper.old).kept session.old.base }
     ensures answered { IsAnswer session.old event.now session.new (K.seen keeper.old) (K.seen keeper.new) (O.written out.old) (O.written out.new) result }
     ensures still { IsStill (K.seen keeper.new) }
-    ensures agrees { Holds (K.seen keeper.new).kept session.new }
+    ensures agrees { Holds (K.seen keeper.new).kept session.new.base }
+    ensures never_fall { NeverFall (K.seen keeper.old) (K.seen keeper.new) }
     ensures keeper { HasCause (K.seen keeper.old).faults (K.seen keeper.new).faults result Stop.Keeper }
     ensures later { O.faults out.old ≤ O.faults out.new }
     ensures sink { IsErrOf result Stop.Sink → Rose (O.faults out.old) (O.faults out.new) }
@@ -49,9 +50,10 @@ pub fn carry_out<O: Sink, K: Keeper>(
     events: &[Event],
 ) -> Result<bool, Stop>
     requires still { IsStill (K.seen keeper.old) }
-    requires agrees { Holds (K.seen keeper.old).kept session.old }
+    requires agrees { Holds (K.seen keeper.old).kept session.old.base }
     ensures ends { Ends session.old events.now session.new (K.seen keeper.old) (K.seen keeper.new) (O.written out.old) (O.written out.new) result }
     ensures still { IsStill (K.seen keeper.new) }
+    ensures never_fall { NeverFall (K.seen keeper.old) (K.seen keeper.new) }
     ensures keeper { HasCause (K.seen keeper.old).faults (K.seen keeper.new).faults result Stop.Keeper }
     ensures later { O.faults out.old ≤ O.faults out.new }
     ensures sink { IsErrOf result Stop.Sink → Rose (O.faults out.old) (O.faults out.new) }

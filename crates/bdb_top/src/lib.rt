@@ -12,7 +12,7 @@ mod tests;
 mod top;
 mod words;
 
-pub use laws::{count_tells_the_base, no_rows_stand_for_a_base, ran_ends_by_count};
+pub use laws::{count_tells_the_state, no_rows_stand_for_a_base};
 pub use stop::Stop;
 pub use top::run;
 pub use words::{Job, WordsError, job_of};

@@ -197,6 +197,26 @@ fn scripts_and_replies(rt: HostRuntime) -> Result<(), Fail> {
             "ok 1\nuser 1 'Alice'\nuser 2 'Bob'\nrelation S(k text, v text)\ntuple S('s1', 'eagle')\nworld / depth 0\nworld /'Alice' depth 1 suffix /\nworld /'Alice'/'Bob' depth 2 suffix /\nedge / 'Alice' /'Alice'\nedge / 'Bob' /\nedge /'Alice' 'Bob' /'Alice'/'Bob'\nedge /'Alice'/'Bob' 'Alice' /'Alice'\nrow /'Alice'/'Bob' + S('s1', 'eagle') explicit\nok 12\nok 1\nok 1\nuser 1 'Alice'\nuser 2 'Bob'\nrelation S(k text, v text)\ntuple S('s1', 'eagle')\nworld / depth 0\nworld /'Alice' depth 1 suffix /\nworld /'Alice'/'Bob' depth 2 suffix /\nedge / 'Alice' /'Alice'\nedge / 'Bob' /\nedge /'Alice' 'Bob' /'Alice'/'Bob'\nedge /'Alice'/'Bob' 'Alice' /'Alice'\nrow /'Alice'/'Bob' + S('s1', 'eagle') explicit\nok 12\n",
             0,
         ),
+        (
+            "insert into BELIEF 'Bob' S values('a','x'); insert into BELIEF 'Bob' not S values('a','y'); update BELIEF 'Bob' S set v = 'y'; update BELIEF 'Bob' S set v = 'y', v = 'z' where k <> v; show world BELIEF 'Bob';",
+            "ok 1\nok 1\nerror clash + S('a', 'y')\nok 1\n- S('a', 'y') explicit\n+ S('a', 'z') explicit\nok 2\n",
+            1,
+        ),
+        (
+            "insert into not S values('a','x'); insert into not S values('b','x'); update not S set k = 'c'; show world;",
+            "ok 1\nok 1\nok 2\n- S('c', 'x') explicit\nok 1\n",
+            0,
+        ),
+        (
+            "insert into BELIEF 'Alice' BELIEF 'Bob' BELIEF 'Alice' BELIEF 'Bob' BELIEF 'Alice' BELIEF 'Bob' BELIEF 'Alice' BELIEF 'Bob' BELIEF 'Alice' BELIEF 'Bob' BELIEF 'Alice' BELIEF 'Bob' BELIEF 'Alice' BELIEF 'Bob' BELIEF 'Alice' BELIEF 'Bob' S values('s1','eagle');",
+            "ok 1\n",
+            0,
+        ),
+        (
+            "insert into BELIEF 'Alice' BELIEF 'Bob' BELIEF 'Alice' BELIEF 'Bob' BELIEF 'Alice' BELIEF 'Bob' BELIEF 'Alice' BELIEF 'Bob' BELIEF 'Alice' BELIEF 'Bob' BELIEF 'Alice' BELIEF 'Bob' BELIEF 'Alice' BELIEF 'Bob' BELIEF 'Alice' BELIEF 'Bob' BELIEF 'Alice' S values('s1','eagle');",
+            "error deep\n",
+            1,
+        ),
         ("insert into S values('a", "error unfinished\n", 1),
     ];
     for (script, replies, status) in cases {
@@ -281,6 +301,24 @@ fn worlds_have_a_limit(rt: HostRuntime) -> Result<(), Fail> {
     }
     replies.extend_from_slice(b"error full worlds\nok 1\n")?;
     let (status, out, _) = ran_quietly(alloc, &rows)?;
+    assert_eq!(rt; status, 1);
+    assert_eq!(rt; out.bytes(), replies.as_slice());
+    Ok(())
+}
+
+#[test]
+fn users_have_a_limit(rt: HostRuntime) -> Result<(), Fail> {
+    let alloc = rt.alloc();
+    let mut script = String::new(alloc);
+    let mut replies = Vec::new(alloc);
+    for user in 1..257 {
+        let name = format!(in alloc; "create user '{user}';\n")?;
+        script.push_str(name.as_str())?;
+        replies.extend_from_slice(b"ok\n")?;
+    }
+    script.push_str("create user 'Alice';")?;
+    replies.extend_from_slice(b"error full users\n")?;
+    let (status, out, _) = ran_quietly(alloc, &[script.as_str()])?;
     assert_eq!(rt; status, 1);
     assert_eq!(rt; out.bytes(), replies.as_slice());
     Ok(())
@@ -376,21 +414,14 @@ fn a_fault_of_the_sink_ends_the_run(rt: HostRuntime) -> Result<(), Fail> {
     Ok(())
 }
 
-/// The status of these words over a source that fails at its first read.
-fn ran_unread(alloc: Global, words: &[Txt]) -> Result<u8, Fail> {
+/// The status of these words over a source that fails at its first read, and how many bytes of replies they get.
+fn ran_unread(alloc: Global, words: &[Txt]) -> Result<(u8, usize), Fail> {
     let script = Vec::from_slice(alloc, b"create user 'A';")?;
     let mut source = MemSource::new(script, 1, listed(alloc, &[1])?);
     let mut keeper = QuietKeeper::new(alloc);
     let mut out = sink(alloc)?;
-    Ok(run(alloc, words, &mut source, &mut out, &mut keeper))
-}
-
-#[test]
-fn a_fault_of_the_source_ends_the_run(rt: HostRuntime) -> Result<(), Fail> {
-    let alloc = rt.alloc();
-    assert_eq!(rt; ran_unread(alloc, words(alloc)?.as_slice())?, 3);
-    assert_eq!(rt; ran_unread(alloc, &[])?, 2);
-    Ok(())
+    let status = run(alloc, words, &mut source, &mut out, &mut keeper);
+    Ok((status, out.bytes().len()))
 }
 
 /// So many blocks of 65,536 blanks, and so many blanks more.
@@ -440,7 +471,9 @@ fn words_name_jobs(rt: HostRuntime) -> Result<(), Fail> {
         ("run --script=a", false),
         ("run --script a --script b", false),
         ("run --db a", false),
+        ("run --help", false),
         ("check", false),
+        ("gen --seed x --size 1", false),
         ("Run", false),
     ];
     for (line, is_job) in cases {
@@ -449,6 +482,9 @@ fn words_name_jobs(rt: HostRuntime) -> Result<(), Fail> {
             words.push(Txt::try_new(alloc, word)?)?;
         }
         assert_eq!(rt; job_of(alloc, words.as_slice()).is_ok(), is_job, "{line}");
+        let (status, written) = ran_unread(alloc, words.as_slice())?;
+        assert_eq!(rt; status, if is_job { 3 } else { 2 }, "{line}");
+        assert_eq!(rt; written, 0, "{line}");
     }
     Ok(())
 }

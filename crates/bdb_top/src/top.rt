@@ -1,11 +1,14 @@
 // The top call.
-ghost use Rattle.std.specs.Prelude.{◌≡◌, ◌≢◌, ◌<◌, ◌≤◌, ◌^◌, ℕ, ◌↔◌, ◌⊎◌, false, IfSome, OnOk, IsErrOf, None, length};
+ghost use Rattle.std.specs.Prelude.{◌≡◌, ◌≢◌, ◌<◌, ◌≤◌, ℕ, ◌↔◌, ◌⊎◌, false, IfSome, OnOk, IsErrOf, None, length};
 ghost use Rattle.std.specs.Io.KnownBytes.{IsAtEnd};
 ghost use Rattle.bdb_base.specs.Bases.{Contents, IsValid};
 ghost use Rattle.bdb_base.specs.Causes.{Rose, Rises, RisesOver};
-ghost use Rattle.bdb_keep.specs.Seen.{IsStill};
+ghost use Rattle.bdb_base.specs.Limits.{longest_script};
+ghost use Rattle.bdb_keep.specs.Seen.{IsStill, NeverFall};
 ghost use Rattle.bdb_tables.specs.Holds.{Stands};
+ghost use Rattle.bdb_session.specs.Outcome.{start_from};
 ghost use Rattle.bdb_session.specs.Runs.{events_of};
+ghost use Rattle.bdb_top.specs.ByCount.{CommitsTell};
 ghost use Rattle.bdb_top.specs.Ran.{EachBase, Ran, IsOpened, status_of};
 ghost use Rattle.bdb_top.specs.Words.{named_job};
 
@@ -14,7 +17,7 @@ use crate::cutting::events_of_script;
 use crate::script::read_script;
 use crate::status::status_of;
 use crate::stop::Stop;
-use crate::words::is_job;
+use crate::words::script_of;
 use bdb_base::Txt;
 use bdb_io::{Sink, Source};
 use bdb_keep::Keeper;
@@ -44,7 +47,9 @@ pub fn run<S: Source, O: Sink, K: Keeper>(
     requires idle { (K.seen keeper.old).running ≡ false }
     requires base { (b : Contents) × Stands (K.seen keeper.old).kept b × IsValid b.catalog b.stmts }
     ensures headline { result ≢ 2 → IfSome (S.left script.old) (λ text. EachBase (K.seen keeper.old).kept (λ b.
-        Ran b (events_of text) (K.seen keeper.old) (K.seen keeper.new) (O.written out.old) (O.written out.new) result)) }
+        Ran (start_from b) (events_of text) (K.seen keeper.old) (K.seen keeper.new) (O.written out.old) (O.written out.new) result)) }
+    ensures by_count { result ≢ 2 → IfSome (S.left script.old) (λ text. EachBase (K.seen keeper.old).kept (λ b.
+        CommitsTell (start_from b) (events_of text) (K.seen keeper.old) (K.seen keeper.new) (O.written out.old) (O.written out.new) result)) }
     ensures words { (result ≡ 2) ↔ (named_job words.now ≡ None) }
     ensures untouched { result ≡ 2 → (script.new ≡ script.old) × (out.new ≡ out.old) × (keeper.new ≡ keeper.old) }
     ensures still { result ≢ 2 → IsStill (K.seen keeper.new) }
@@ -52,24 +57,28 @@ pub fn run<S: Source, O: Sink, K: Keeper>(
     ensures statuses { (result ≤ 8) × (result ≢ 7) }
     ensures unread_failed { result ≡ 3 → (out.new ≡ out.old) × IsOpened (K.seen keeper.old) (K.seen keeper.new) }
     ensures unread_large { result ≡ 8 → (out.new ≡ out.old) × IsOpened (K.seen keeper.old) (K.seen keeper.new) }
-    ensures taken { result ≤ 1 → IsAtEnd (S.left script.new) × IfSome (S.left script.old) (λ text. length text ≤ 2 ^ 26) }
+    ensures ended { result ≤ 1 → IsAtEnd (S.left script.new) }
+    ensures short { result ≤ 1 → IfSome (S.left script.old) (λ text. length text ≤ longest_script) }
     ensures source { result ≡ 3 → Rose (S.faults script.old) (S.faults script.new) }
     ensures sink { result ≡ 4 → Rose (O.faults out.old) (O.faults out.new) }
     ensures keeper { result ≡ 5 → Rose (K.seen keeper.old).faults (K.seen keeper.new).faults }
-    ensures large { result ≡ 8 → RisesOver (2 ^ 26) (S.given script.old) (S.given script.new) }
-    ensures many { result ≡ 8 → IfSome (S.left script.old) (λ text. 2 ^ 26 < length text) }
-    ensures small { result ≤ 1 → (n : ℕ) × (n ≤ 2 ^ 26) × Rises n (S.given script.old) (S.given script.new) }
+    ensures large { result ≡ 8 → RisesOver longest_script (S.given script.old) (S.given script.new) }
+    ensures source_counts { (S.faults script.old ≤ S.faults script.new) × (S.given script.old ≤ S.given script.new) }
+    ensures sink_count { O.faults out.old ≤ O.faults out.new }
+    ensures keeper_counts { NeverFall (K.seen keeper.old) (K.seen keeper.new) }
+    ensures many { result ≡ 8 → IfSome (S.left script.old) (λ text. longest_script < length text) }
+    ensures small { result ≤ 1 → (n : ℕ) × (n ≤ longest_script) × Rises n (S.given script.old) (S.given script.new) }
     ensures complete { named_job words.now ≢ None
         → ¬ Rose (S.faults script.old) (S.faults script.new)
         → ¬ Rose (O.faults out.old) (O.faults out.new)
         → ¬ Rose (K.seen keeper.old).faults (K.seen keeper.new).faults
-        → ¬ RisesOver (2 ^ 26) (S.given script.old) (S.given script.new)
+        → ¬ RisesOver longest_script (S.given script.old) (S.given script.new)
         → (result ≤ 1) ⊎ (result ≡ 6) }
 {
-    if !is_job(words) {
-        return 2;
+    match script_of(words) {
+        Some(_) => status_of(run_script(alloc, script, out, keeper)),
+        None => 2,
     }
-    status_of(run_script(alloc, script, out, keeper))
 }
 
 /// Runs the script that the source gives.
@@ -82,18 +91,21 @@ fn run_script<S: Source, O: Sink, K: Keeper>(
     requires idle { (K.seen keeper.old).running ≡ false }
     requires base { (b : Contents) × Stands (K.seen keeper.old).kept b × IsValid b.catalog b.stmts }
     ensures ran { IfSome (S.left script.old) (λ text. EachBase (K.seen keeper.old).kept (λ b.
-        Ran b (events_of text) (K.seen keeper.old) (K.seen keeper.new) (O.written out.old) (O.written out.new) (status_of result))) }
+        Ran (start_from b) (events_of text) (K.seen keeper.old) (K.seen keeper.new) (O.written out.old) (O.written out.new) (status_of result))) }
     ensures still { IsStill (K.seen keeper.new) }
     ensures base { (b : Contents) × Stands (K.seen keeper.new).kept b × IsValid b.catalog b.stmts }
     ensures unread_failed { IsErrOf result Stop.Source → (out.new ≡ out.old) × IsOpened (K.seen keeper.old) (K.seen keeper.new) }
     ensures unread_large { IsErrOf result Stop.Large → (out.new ≡ out.old) × IsOpened (K.seen keeper.old) (K.seen keeper.new) }
-    ensures taken { OnOk result (IsAtEnd (S.left script.new) × IfSome (S.left script.old) (λ text. length text ≤ 2 ^ 26)) }
+    ensures taken { OnOk result (IsAtEnd (S.left script.new) × IfSome (S.left script.old) (λ text. length text ≤ longest_script)) }
     ensures source { IsErrOf result Stop.Source → Rose (S.faults script.old) (S.faults script.new) }
     ensures sink { IsErrOf result Stop.Sink → Rose (O.faults out.old) (O.faults out.new) }
     ensures keeper { IsErrOf result Stop.Keeper → Rose (K.seen keeper.old).faults (K.seen keeper.new).faults }
-    ensures large { IsErrOf result Stop.Large → RisesOver (2 ^ 26) (S.given script.old) (S.given script.new) }
-    ensures many { IsErrOf result Stop.Large → IfSome (S.left script.old) (λ text. 2 ^ 26 < length text) }
-    ensures small { OnOk result ((n : ℕ) × (n ≤ 2 ^ 26) × Rises n (S.given script.old) (S.given script.new)) }
+    ensures large { IsErrOf result Stop.Large → RisesOver longest_script (S.given script.old) (S.given script.new) }
+    ensures source_counts { (S.faults script.old ≤ S.faults script.new) × (S.given script.old ≤ S.given script.new) }
+    ensures sink_count { O.faults out.old ≤ O.faults out.new }
+    ensures keeper_counts { NeverFall (K.seen keeper.old) (K.seen keeper.new) }
+    ensures many { IsErrOf result Stop.Large → IfSome (S.left script.old) (λ text. longest_script < length text) }
+    ensures small { OnOk result ((n : ℕ) × (n ≤ longest_script) × Rises n (S.given script.old) (S.given script.new)) }
 {
     let mut session = match Session::open(alloc, keeper) {
         Ok(session) => session,

@@ -1,10 +1,12 @@
 // The words of the command line.
-ghost use Rattle.std.specs.Prelude.{◌≡◌, IfOk, IsErrOf, Some, None, is_some};
+ghost use Rattle.std.specs.Prelude.{◌≡◌, IfOk, IsErrOf, MatchOption, Some, None};
+ghost use Rattle.std.specs.Option.{option_copied};
 ghost use Rattle.bdb_base.specs.Same.{same_text};
 ghost use Rattle.bdb_top.specs.Words.{named_job, is_value};
 
 use bdb_base::{Exact, Txt};
 use std::alloc::Global;
+use thiserror::Error;
 
 /// What the program is asked to do.
 #[derive(Drop)]
@@ -14,11 +16,13 @@ pub enum Job {
 }
 
 /// Why words name no job.
-#[derive(Clone, Copy, Debug, PartialEq, Eq, Drop)]
+#[derive(Clone, Copy, Debug, PartialEq, Eq, Drop, Error)]
 pub enum WordsError {
     /// The words are in no line of the table.
+    #[error("the words name no job")]
     BadWords,
     /// There is no memory.
+    #[error("there is no memory")]
     Memory,
 }
 
@@ -28,31 +32,27 @@ pub fn job_of(alloc: Global, words: &[Txt]) -> Result<Job, WordsError>
     ensures ok { IfOk result (λ job. named_job words.now ≡ Some job) }
     ensures bad { IsErrOf result WordsError.BadWords → named_job words.now ≡ None }
 {
-    match words {
-        [word] if is_word(word, "run") => Ok(Job::Run { script: None }),
-        [word, option, value]
-            if is_word(word, "run")
-                && is_word(option, "--script")
-                && is_option_value(value.as_bytes()) => {
-            match value.try_clone(alloc) {
-                Ok(file) => Ok(Job::Run { script: Some(file) }),
-                Err(_) => Err(WordsError::Memory),
-            }
-        }
-        _ => Err(WordsError::BadWords),
+    match script_of(words) {
+        None => Err(WordsError::BadWords),
+        Some(None) => Ok(Job::Run { script: None }),
+        Some(Some(file)) => match file.try_clone(alloc) {
+            Ok(file) => Ok(Job::Run { script: Some(file) }),
+            Err(_) => Err(WordsError::Memory),
+        },
     }
 }
 
-/// Whether words name a job.
-pub fn is_job(words: &[Txt]) -> bool
-    ensures { result ≡ is_some (named_job words.now) }
+/// The file of the script that words ask to run, where they name one; none where the words name no job.
+pub(crate) fn script_of(words: &[Txt]) -> Option<Option<&Txt>>
+    ensures { MatchOption result (named_job words.now ≡ None) (λ file. named_job words.now ≡ Some (Job.Run (option_copied file))) }
 {
     match words {
-        [word] => is_word(word, "run"),
-        [word, option, value] => {
-            is_word(word, "run") && is_word(option, "--script") && is_option_value(value.as_bytes())
-        }
-        _ => false,
+        [word] if is_word(word, "run") => Some(None),
+        [word, option, file]
+            if is_word(word, "run")
+                && is_word(option, "--script")
+                && is_option_value(file.as_bytes()) => { Some(Some(file)) }
+        _ => None,
     }
 }
 

@@ -1,6 +1,7 @@
 -- What a script is answered, line by line.
 use Rattle.std.specs.Prelude.{◌≡◌, ℕ, List, [], ◌∷◌, ◌++◌}
 use Rattle.bdb_base.specs.Bases.{empty_contents}
+use Rattle.bdb_session.specs.Outcome.{start_from}
 use Rattle.bdb_session.specs.Runs.{events_of, replies}
 
 -- the bytes of lines, each with its line feed
@@ -10,4 +11,4 @@ lines (l ∷ ls) = l ++ 10 ∷ lines ls
 
 -- the belief machine answers the script, from the empty base on, with exactly these lines
 abbrev pub IsAnswered : List (List ℕ) → List (List ℕ) → Type 0
-IsAnswered script told = replies empty_contents (events_of (lines script)) ≡ lines told
+IsAnswered script told = replies (start_from empty_contents) (events_of (lines script)) ≡ lines told

@@ -1,5 +1,5 @@
 use Rattle.std.proofs.Common.{rules, arith, take, drop, ◌+◌}
-use Rattle.bdb_top.proofs.RunLemmas.{comes_one, comes_stops, front_step, front_split}
+use Rattle.bdb_top.proofs.RunLemmas.{comes_one, comes_stops, front_step, front_split, never_fall_on}
 use Rattle.bdb_top.proofs.answers.carry_out.Goals as goal
 
 pub returns-in-Err-clause-ends : goal.returns-in-Err-clause-ends
@@ -19,6 +19,6 @@ loop-event-preserved g c =
       come = comes_one c.args.session.now (take i events) (take (i + 1) events) e c.loop-event.session c.answer.new.session _ _ _ _ _ _ c.loop-event.accepted c.in-Ok.fine
           (front_step events i e (omega (arith, c.loop-event-test.true)) c.event-item.is) c.loop-event.invariant.come c.in-Ok.ensures.answered;
       still = search rules;
-      keeper = omega (arith, c.answer.ensures.keeper.later);
+      keeper = never_fall_on _ _ _ c.loop-event.invariant.keeper c.answer.ensures.never_fall;
       sink = omega (arith, c.answer.ensures.later);
     }

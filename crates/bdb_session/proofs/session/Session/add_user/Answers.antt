@@ -2,15 +2,21 @@ use Rattle.std.proofs.Common.{◌∙◌, ap}
 use Rattle.bdb_base.specs.Bases.{Contents, with_user}
 use Rattle.bdb_base.specs.declared.kinds.Catalog.{Catalog}
 use Rattle.bdb_render.specs.Replies.{ok_reply}
+use Rattle.bdb_session.specs.Machine.{with_catalog}
+use Rattle.bdb_session.specs.Outcome.{State, start_from}
 use Rattle.bdb_session.proofs.RowLemmas.{user_rows_hold}
-use Rattle.bdb_session.proofs.ServedLemmas.{accepted_is_served}
+use Rattle.bdb_session.proofs.ServedLemmas.{done_is_served}
 use Rattle.bdb_session.proofs.session.Session.add_user.Goals as goal
 
 pub returns : goal.returns
 returns g c =
-    let b = c.args.self.now in
+    let s = c.args.self.now in
+    let b = s.base in
     let name = c.args.name in
-    let catalog = c.in-Ok-catalog_with_user.ensures ∙ ap (λ (k : Catalog). with_user k name) (c.catalog.ensures.value ∙ ap (λ (x : Contents). x.catalog) c.self.view_is) in
-    let next = c.set_catalog.ensures ∙ ap (λ (k : Catalog). record c.self.inside.base { catalog = k }) catalog ∙ ap (λ (x : Contents). record x { catalog = with_user b.catalog name }) c.self.view_is in
-    accepted_is_served b ok_reply (record b { catalog = with_user b.catalog name }) _ _ _ _ _ _ (c.accepted.ensures.text ∙ c.in-Ok.ensures) c.accepted.ensures.accepted next
+    let here = ap (λ (x : State). x.base) c.self.view_is in
+    let catalog = c.in-Ok-catalog_with_user.ensures ∙ ap (λ (k : Catalog). with_user k name) (c.catalog.ensures.value ∙ ap (λ (x : Contents). x.catalog) here) in
+    let next = c.set_catalog.ensures ∙ ap (λ (k : Catalog). record c.self.inside.base { catalog = k }) catalog ∙ ap (λ (x : Contents). record x { catalog = with_user b.catalog name }) here in
+    done_is_served s ok_reply 0 (record s { base = with_catalog b (with_user b.catalog name) }) _ _ _ _ _ _
+    (record { text = c.accepted.ensures.text ∙ c.in-Ok.ensures; accepted = c.accepted.ensures.accepted; answers = c.accepted.ensures.answers })
+    (ap (λ (x : Contents). start_from x) next)
     (user_rows_hold _ b c.args.uid name c.requires.agrees c.requires.number c.requires.valid) c.in-Ok-commit_user.ensures.commits

@@ -1,5 +1,0 @@
-use Rattle.bdb_top.proofs.CountLemmas as lemmas
-use Rattle.bdb_top.proofs.laws.count_tells_the_base.Goals as goal
-
-pub returns : goal.returns
-returns c = lemmas.count_tells_the_base
