@@ -22,6 +22,8 @@ pub fn measure(rt: &HostRuntime, count: u32) -> io::Result<()> {
     let start = Instant::now(rt)?;
     let found = next_rows(alloc, &mut keeper, count).unwrap_or(0);
     let next = micros(rt, &start)?;
+    // Nothing runs here: reading began no transaction.
+    keeper.undo();
     let start = Instant::now(rt)?;
     let is_taken = take_all(&mut keeper, count).is_ok();
     let take = micros(rt, &start)?;
