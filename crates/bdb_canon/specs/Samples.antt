@@ -1,5 +1,12 @@
 -- The worked bases with which the tests try the structure. Alice is user 1, Bob is user 2, Carol is user 3.
 use Rattle.std.specs.Prelude.{ℕ, List, [], ◌∷◌, codes}
+use Rattle.bdb_base.specs.declared.kinds.Cmp.TheVariants.{Eq}
+use Rattle.bdb_base.specs.declared.kinds.Cond.{Cond}
+use Rattle.bdb_base.specs.declared.kinds.Item.TheVariants.{Users, Rel}
+use Rattle.bdb_base.specs.declared.kinds.Operand.TheVariants.{Col}
+use Rattle.bdb_base.specs.declared.kinds.Query.{Query}
+use Rattle.bdb_base.specs.declared.kinds.Ref.{Ref}
+use Rattle.bdb_base.specs.declared.kinds.Who.TheVariants.{Of}
 use Rattle.bdb_base.specs.declared.kinds.Catalog.{Catalog}
 use Rattle.bdb_base.specs.declared.kinds.Kind.TheVariants as kind
 use Rattle.bdb_base.specs.declared.kinds.RelDef.{RelDef}
@@ -43,4 +50,20 @@ abbrev pub reported : Contents
 reported = record {
   catalog = record { rels = sightings ∷ []; users = three_users };
   stmts = stated_at (1 ∷ []) Plus (codes "s2") (codes "crow") ∷ stated_at (3 ∷ 1 ∷ []) Plus (codes "s1") (codes "eagle") ∷ [];
+}
+
+abbrev pub column_at : ℕ → ℕ → Ref
+column_at item col = record { item = item; col = col }
+
+-- two columns are equal
+abbrev pub joined : Ref → Ref → Cond
+joined r s = record { left = r; cmp = Eq; right = Col s }
+
+-- the names of the users who don't believe what is seen: select U.name from Users U, S X, BELIEF U.uid not S Y where Y.k = X.k
+-- and Y.v = X.v
+abbrev pub deniers : Query
+deniers = record {
+  take = column_at 0 1 ∷ [];
+  items = Users (codes "U") ∷ Rel (codes "X") 0 Plus [] ∷ Rel (codes "Y") 0 Minus (Of 0 ∷ []) ∷ [];
+  conds = joined (column_at 2 0) (column_at 1 0) ∷ joined (column_at 2 1) (column_at 1 1) ∷ [];
 }

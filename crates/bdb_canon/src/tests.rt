@@ -1,11 +1,14 @@
 // The structures of worked bases. Alice is user 1, Bob is user 2, Carol is user 3.
-ghost use Rattle.std.specs.Prelude.{◌≡◌, [], ◌∷◌, IfOk};
-ghost use Rattle.bdb_canon.specs.Samples.{sightings, stated_at};
+ghost use Rattle.std.specs.Prelude.{◌≡◌, true, [], ◌∷◌, IfOk};
+ghost use Rattle.bdb_base.specs.Safety.{query_fits, IsSafe};
+ghost use Rattle.bdb_canon.specs.Samples.{sightings, stated_at, denied, disputed, reported, joined, deniers};
 
 use crate::{Canon, canon, has_more_lines, line_count};
 use bdb_base::{
-    Base, Catalog, ColDef, Kind, List, Path, RelDef, Sign, Stmt, Tuple, Txt, Value, append_decimal,
+    Base, Catalog, Cmp, ColDef, Cond, Item, Kind, List, Operand, Path, Query, Ref, RelDef, Sign,
+    Stmt, Tuple, Txt, Value, Who, append_decimal,
 };
+use bdb_model::{answers, believes, clashing, stated, world_rows};
 use std::alloc::{AllocError, Global};
 use std::test::Fail;
 
@@ -47,7 +50,9 @@ fn statement(alloc: Global, users: &[u32], sign: Sign, key: &str, value: &str) -
 }
 
 /// An eagle, which Bob denies.
-fn denied(alloc: Global) -> Result<Base, Fail> {
+fn denied(alloc: Global) -> Result<Base, Fail>
+    ensures { IfOk result (λ b. b.catalog ≡ denied.catalog) }
+{
     let mut users = List::new(alloc);
     users.push(Txt::try_new(alloc, "Alice")?)?;
     users.push(Txt::try_new(alloc, "Bob")?)?;
@@ -59,7 +64,9 @@ fn denied(alloc: Global) -> Result<Base, Fail> {
 }
 
 /// The same, where Alice sees a crow.
-fn disputed(alloc: Global) -> Result<Base, Fail> {
+fn disputed(alloc: Global) -> Result<Base, Fail>
+    ensures { IfOk result (λ b. b.catalog ≡ disputed.catalog) }
+{
     let mut users = List::new(alloc);
     users.push(Txt::try_new(alloc, "Alice")?)?;
     users.push(Txt::try_new(alloc, "Bob")?)?;
@@ -72,7 +79,9 @@ fn disputed(alloc: Global) -> Result<Base, Fail> {
 }
 
 /// What Alice sees, and what Carol believes that Alice sees.
-fn reported(alloc: Global) -> Result<Base, Fail> {
+fn reported(alloc: Global) -> Result<Base, Fail>
+    ensures { IfOk result (λ b. b.catalog ≡ reported.catalog) }
+{
     let mut users = List::new(alloc);
     users.push(Txt::try_new(alloc, "Alice")?)?;
     users.push(Txt::try_new(alloc, "Bob")?)?;
@@ -137,5 +146,211 @@ fn structures_of_worked_bases(rt: HostRuntime) -> Result<(), Fail> {
     let text =
         "> 1>0 3>0 31>1 0.1>1 0.2>0 0.3>2 1.2>0 1.3>2 2.1>3 2.2>0 3.2>0 3.3>2 1+1e 3+0e 3+1i ";
     assert!(rt; reads(alloc, &reported(alloc)?, text, 22)?);
+    Ok(())
+}
+
+fn tuple(alloc: Global, key: &str, value: &str) -> Result<Tuple, AllocError> {
+    let mut vals = List::new(alloc);
+    vals.push(Value::Text(Txt::try_new(alloc, key)?))?;
+    vals.push(Value::Text(Txt::try_new(alloc, value)?))?;
+    Ok(Tuple { rel: 0, vals })
+}
+
+/// What a path believes of a tuple: whether its world has it with plus and with minus, whether it believes it and its
+/// negation, and whether a statement of the path clashes with it and with its negation; 1 or 0 for each.
+fn told(base: &Base, path: &[u32], t: &Tuple) -> [bool; 6] {
+    [
+        stated(base, path, t, Sign::Plus),
+        stated(base, path, t, Sign::Minus),
+        believes(base, path, t, Sign::Plus),
+        believes(base, path, t, Sign::Minus),
+        clashing(base, path, t, Sign::Plus).is_some(),
+        clashing(base, path, t, Sign::Minus).is_some(),
+    ]
+}
+
+/// The rows of a path's world: for each its sign, e where it is explicit, and its values.
+fn world_text(alloc: Global, base: &Base, path: &[u32]) -> Result<Vec<u8>, AllocError> {
+    let world = world_rows(alloc, base, path)?;
+    let mut out = Vec::new(alloc);
+    for row in world.held.as_slice() {
+        out.push(if row.sign == Sign::Plus { b'+' } else { b'-' })?;
+        out.push(if row.explicit { b'e' } else { b'i' })?;
+        for value in row.tuple.vals.as_slice() {
+            if let Value::Text(text) = value {
+                out.push(b' ')?;
+                for byte in text.as_str().as_bytes() {
+                    out.push(*byte)?;
+                }
+            }
+        }
+        out.push(b';')?;
+    }
+    Ok(out)
+}
+
+#[test]
+fn beliefs_of_worked_bases(rt: HostRuntime) -> Result<(), Fail> {
+    let alloc = rt.alloc();
+    let eagle = tuple(alloc, "s1", "eagle")?;
+    let raven = tuple(alloc, "s1", "raven")?;
+    let denied = denied(alloc)?;
+    let disputed = disputed(alloc)?;
+    let reported = reported(alloc)?;
+    let cases: [(&Base, &[u32], &Tuple, [bool; 6]); 7] = [
+        (
+            &denied,
+            &[],
+            &eagle,
+            [true, false, true, false, false, true],
+        ),
+        (
+            &denied,
+            &[2],
+            &eagle,
+            [false, true, false, true, true, false],
+        ),
+        (
+            &denied,
+            &[1, 2],
+            &eagle,
+            [false, true, false, true, false, false],
+        ),
+        (
+            &denied,
+            &[2, 1],
+            &eagle,
+            [true, false, true, false, false, false],
+        ),
+        (
+            &disputed,
+            &[1],
+            &eagle,
+            [false, false, false, true, true, false],
+        ),
+        (
+            &disputed,
+            &[2, 1],
+            &raven,
+            [false, false, false, true, false, false],
+        ),
+        (
+            &reported,
+            &[3, 1],
+            &raven,
+            [false, false, false, true, true, false],
+        ),
+    ];
+    for (base, path, t, want) in cases {
+        assert!(rt; told(base, path, t) == want);
+    }
+    Ok(())
+}
+
+#[test]
+fn worlds_of_worked_bases(rt: HostRuntime) -> Result<(), Fail> {
+    let alloc = rt.alloc();
+    let denied = denied(alloc)?;
+    let disputed = disputed(alloc)?;
+    let reported = reported(alloc)?;
+    let cases: [(&Base, &[u32], &str); 7] = [
+        (&denied, &[2], "-e s1 eagle;"),
+        (&denied, &[1, 2], "-i s1 eagle;"),
+        (&denied, &[2, 1], "+i s1 eagle;"),
+        (&disputed, &[1], "+e s1 crow;"),
+        (&disputed, &[], "+e s1 eagle;"),
+        (&reported, &[2, 3, 1], "+i s1 eagle;+i s2 crow;"),
+        (&reported, &[3, 1], "+e s1 eagle;+i s2 crow;"),
+    ];
+    for (base, path, want) in cases {
+        let found = world_text(alloc, base, path)?;
+        assert!(rt; found.as_slice() == want.as_bytes());
+    }
+    Ok(())
+}
+
+/// A comparison that says that two columns are equal.
+fn joined(left: Ref, right: Ref) -> Cond
+    ensures { result ≡ joined left right }
+{
+    let cmp = Cmp::Eq;
+    let right = Operand::Col(right);
+    Cond { left, cmp, right }
+}
+
+/// The query for the users who don't believe what is seen.
+fn deniers(alloc: Global) -> Result<Query, Fail>
+    ensures { IfOk result (λ q. q ≡ deniers) }
+{
+    let items = denied_items(alloc)?;
+    let mut take = List::new(alloc);
+    take.push(Ref { item: 0, col: 1 })?;
+    let mut conds = List::new(alloc);
+    conds.push(joined(Ref { item: 2, col: 0 }, Ref { item: 1, col: 0 }))?;
+    conds.push(joined(Ref { item: 2, col: 1 }, Ref { item: 1, col: 1 }))?;
+    Ok(Query { take, items, conds })
+}
+
+fn denied_items(alloc: Global) -> Result<List<Item>, Fail>
+    ensures { IfOk result (λ items. items ≡ deniers.items) }
+{
+    let alias = Txt::try_new(alloc, "U")?;
+    let mut items = List::new(alloc);
+    items.push(Item::Users { alias })?;
+    let alias = Txt::try_new(alloc, "X")?;
+    let path = List::new(alloc);
+    let sign = Sign::Plus;
+    items.push(Item::Rel {
+        alias,
+        rel: 0,
+        sign,
+        path,
+    })?;
+    let alias = Txt::try_new(alloc, "Y")?;
+    let mut path = List::new(alloc);
+    path.push(Who::Of(0))?;
+    let sign = Sign::Minus;
+    items.push(Item::Rel {
+        alias,
+        rel: 0,
+        sign,
+        path,
+    })?;
+    Ok(items)
+}
+
+/// The names that the query for deniers gives over a base.
+fn names_told(alloc: Global, base: &Base, query: &Query) -> Result<Vec<u8>, AllocError>
+    requires fits { query_fits base.now.catalog query.now ≡ true }
+    requires safe { IsSafe base.now.catalog.rels query.now }
+{
+    let rows = answers(alloc, base, query)?;
+    let mut out = Vec::new(alloc);
+    for row in rows.as_slice() {
+        for value in row.as_slice() {
+            if let Value::Text(text) = value {
+                for byte in text.as_str().as_bytes() {
+                    out.push(*byte)?;
+                }
+                out.push(b';')?;
+            }
+        }
+    }
+    Ok(out)
+}
+
+#[test]
+fn answers_over_worked_bases(rt: HostRuntime) -> Result<(), Fail> {
+    let alloc = rt.alloc();
+    let query = deniers(alloc)?;
+    let denied = denied(alloc)?;
+    let names = names_told(alloc, &denied, &query)?;
+    assert!(rt; names.as_slice() == "Bob;".as_bytes());
+    let disputed = disputed(alloc)?;
+    let names = names_told(alloc, &disputed, &query)?;
+    assert!(rt; names.as_slice() == "Alice;Bob;".as_bytes());
+    let reported = reported(alloc)?;
+    let names = names_told(alloc, &reported, &query)?;
+    assert!(rt; names.is_empty());
     Ok(())
 }

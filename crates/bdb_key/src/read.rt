@@ -10,6 +10,7 @@ ghost use Rattle.bdb_key.specs.Grammar.{IsNum, IsPlain, IsPlainValue, ArePlain, 
 ghost use Rattle.bdb_key.specs.Reading.{Leads, NoneLeads, Reads, NoneReads, AreNums, nums_bytes, HasNoEnd, EndsAt};
 
 use crate::part::KeyError;
+use bdb_base::limits::LONGEST_TEXT;
 use bdb_base::{List, Path, PathError, Txt, Value};
 use std::alloc::Global;
 
@@ -171,7 +172,7 @@ fn split_at_end(bytes: &[u8]) -> Option<(&[u8], &[u8])>
 fn plain_of(bytes: &[u8]) -> Option<&str>
     ensures { MatchOption result (is_plain bytes.now ≡ false) (λ text. (text.now ≡ bytes.now) × (is_plain bytes.now ≡ true)) }
 {
-    if bytes.len() > 255 || !is_printing(bytes) {
+    if bytes.len() > LONGEST_TEXT || !is_printing(bytes) {
         return None;
     }
     utf8_of(bytes)

@@ -3,6 +3,7 @@ ghost use Rattle.std.specs.Prelude.{◌≡◌, nat_le};
 ghost use Rattle.std.specs.List.{list_all, slice_get};
 ghost use Rattle.bdb_base.specs.Bases.{is_plain, fits_kind, fits_columns, fits_definition};
 
+use bdb_base::limits::LONGEST_TEXT;
 use bdb_base::{ColDef, Kind, RelDef, Txt, Value};
 
 /// Whether values fit a relation, if there is one of this number: one for each column, of its kind.
@@ -37,11 +38,11 @@ fn fits_kind(kind: Kind, value: &Value) -> bool
     }
 }
 
-/// Whether a text has at most 255 bytes and no character below U+0020.
+/// Whether a text is plain: not too long, and without a character below U+0020.
 fn is_plain(text: &Txt) -> bool
     ensures { result ≡ is_plain text.now }
 {
-    text.len() <= 255 && are_printable(text.as_str().as_bytes())
+    text.len() <= LONGEST_TEXT && are_printable(text.as_str().as_bytes())
 }
 
 fn are_printable(bytes: &[u8]) -> bool

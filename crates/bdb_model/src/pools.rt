@@ -2,6 +2,7 @@
 ghost use Rattle.std.specs.Prelude.{◌≡◌, ◌≤◌, ◌<◌, ◌+◌, ◌++◌, ◌^◌, true, length, map, IfOk, OnOk};
 ghost use Rattle.std.specs.Option.{option_copied};
 ghost use Rattle.std.specs.List.{slice_get};
+ghost use Rattle.bdb_base.specs.Limits.{most_users};
 ghost use Rattle.bdb_base.specs.Order.{statement_cmp};
 ghost use Rattle.bdb_base.specs.Queries.{columns_at};
 ghost use Rattle.bdb_base.specs.SortedSet.{ascending};
@@ -77,7 +78,7 @@ pub fn user_pools(
     users: &[Txt],
     items: &[Item],
 ) -> Result<Vec<Option<List<Tuple>>>, AllocError>
-    requires { length users.now ≤ 256 }
+    requires { length users.now ≤ most_users }
     ensures { IfOk result (λ pools. pools.items ≡ map (user_pool users.now) items.now) }
 {
     let mut pools = Vec::new(alloc);
@@ -88,7 +89,7 @@ pub fn user_pools(
 }
 
 fn user_pool(alloc: Global, users: &[Txt], item: &Item) -> Result<Option<List<Tuple>>, AllocError>
-    requires { length users.now ≤ 256 }
+    requires { length users.now ≤ most_users }
     ensures { IfOk result (λ pool. pool ≡ user_pool users.now item.now) }
 {
     match item {

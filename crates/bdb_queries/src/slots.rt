@@ -2,6 +2,7 @@
 // its number and name, with its number in place of a relation's.
 ghost use Rattle.std.specs.Prelude.{◌≡◌, ◌<◌, ◌≤◌, ◌+◌, ◌^◌, length, slice_set, Some, IfOk};
 ghost use Rattle.std.specs.Option.{option_copied, option_map};
+ghost use Rattle.bdb_base.specs.Limits.{most_users};
 ghost use Rattle.bdb_queries.specs.Slots.{slot_at, known, known_operand, must_hold, must_all_hold, known_row, uid_of, path_of, user_tuple, user_tuples};
 
 use bdb_base::{Cond, Exact, List, Operand, Ref, Tuple, Txt, Value, Who, cmp_value, compares};
@@ -138,7 +139,7 @@ pub fn uid_of(slots: &[Option<Tuple>], who: Who) -> Option<u32>
 
 /// The users as tuples.
 pub fn user_tuples(alloc: Global, users: &[Txt]) -> Result<List<Tuple>, AllocError>
-    requires { length users.now ≤ 256 }
+    requires { length users.now ≤ most_users }
     ensures { IfOk result (λ tuples. tuples ≡ user_tuples 1 users.now) }
 {
     let mut tuples = List::new(alloc);

@@ -12,6 +12,6 @@ plain_by text bytes b same short utf8 e =
     ∙ sym (ap (λ u. u && list_all (λ c. nat_le 32 c) text) (ap is_utf8 (sym same) ∙ is_utf8-from_IsUtf8 bytes utf8))
     ∙ sym (ap (λ u. u && (is_utf8 text && list_all (λ c. nat_le 32 c) text)) (le-leb (length text) 255 short))
 
-pub returns-then-len-le255 : goal.returns-then-len-le255
-returns-then-len-le255 c =
+pub returns-then-len-le-LONGEST_TEXT : goal.returns-then-len-le-LONGEST_TEXT
+returns-then-len-le-LONGEST_TEXT c =
     plain_by c.args.text.now c.as_bytes.result.now c.are_printable.result (c.as_bytes.ensures.value ∙ c.as_str.ensures) (omega arith) c.as_bytes.ensures.utf8 c.are_printable.ensures
