@@ -15,7 +15,7 @@ use Rattle.bdb_keep.specs.Tables.{Tables}
 use Rattle.bdb_tables.specs.Holds.{Holds, IsStatement}
 use Rattle.bdb_tables.specs.Statements.{MayBeStatement, with_rows, without_rows}
 use Rattle.bdb_tables.proofs.Fitting.{belonging_may_all_be}
-use Rattle.bdb_tables.proofs.HoldsLemmas.{or_false}
+use Rattle.bdb_tables.proofs.SignLemmas.{or_false}
 use Rattle.bdb_tables.proofs.StatementLemmas.{put_adds_statements, drop_takes_statements}
 
 -- what holds of all statements with more holds of those more

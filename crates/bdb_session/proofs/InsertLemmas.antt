@@ -19,7 +19,7 @@ use Rattle.std.specs.declared.cmp.Ordering.TheVariants.{Less, Equal, Greater}
 use Rattle.bdb_base.specs.SortedSet.{put_at}
 use Rattle.bdb_base.specs.Worlds.{contradicted}
 use Rattle.bdb_base.proofs.SetLemmas.{is_eq_itself}
-use Rattle.bdb_tables.proofs.HoldsLemmas.{or_false}
+use Rattle.bdb_tables.proofs.SignLemmas.{or_false}
 use Rattle.bdb_base.proofs.BaseLemmas.{put_counts_tuple, put_counts_statement, put_is_valid}
 use Rattle.bdb_base.specs.Same.{same_path}
 use Rattle.bdb_base.specs.Clash.{clash}

@@ -11,9 +11,8 @@ use Rattle.bdb_keep.specs.Tables.{Tables, bytes_cmp}
 use Rattle.bdb_tables.specs.Codec.{place, HasAt}
 use Rattle.bdb_tables.specs.Grammar.{InGrammar}
 use Rattle.bdb_tables.specs.InUse.{meta_codec}
-use Rattle.bdb_tables.specs.Holds.{Holds, Stands, rows_of_base}
+use Rattle.bdb_tables.specs.Holds.{Holds, Stands}
 use Rattle.bdb_tables.proofs.HoldsLemmas.{held_is_in_grammar, format_row_holds_empty}
-use Rattle.bdb_tables.proofs.Numbered.{held_at}
 use Rattle.bdb_session.specs.declared.stop.StopError.{StopError}
 use Rattle.bdb_session.specs.Opening.{opening}
 use Rattle.bdb_session.specs.Outcome.{State, start_from}
@@ -26,7 +25,7 @@ none_in : (t : Tables) (p : List ℕ) → t ≡ tables.empty → tables.get t p 
 none_in t p e = ap (λ (u : Tables). tables.get u p) e ∙ get-empty bytes_cmp p
 
 format_found : (t : Tables) (b : Contents) → Holds t b → tables.get t (place meta_codec tt) ≡ Some (meta_codec.row_bytes 1)
-format_found t b h = held_at t b (place meta_codec tt) h
+format_found t b h = h.format.rows tt tt
 
 pub stands_in_grammar : (t : Tables) (b : Contents) → Stands t b → InGrammar t
 stands_in_grammar t b (inl h) n k r f = held_is_in_grammar t b h n k r f
@@ -61,10 +60,6 @@ opening_held t b h = by (tables.len t) refl
     by zero e = absurd (no_row (sym (none_in t (place meta_codec tt) (empty_of_len t e)) ∙ format_found t b h))
     by (suc n) e = let some : nat_eq (suc n) 0 ≡ false = grind (arith, nat_tests) in ap opening_by some
 
--- the row of the format alone is the tables of the empty base
-pub format_rows : (t : Tables) → t ≡ tables.empty → tables.insert t (place meta_codec tt) (meta_codec.row_bytes 1) ≡ rows_of_base empty_contents
-format_rows t e = ap (λ (u : Tables). tables.insert u (place meta_codec tt) (meta_codec.row_bytes 1)) e ∙ format_row_holds_empty.rows
-
 -- ---- the base that a session is opened over
 
 pub on_ok : {T : Type 0} (P : Type 0) (r : Result T StopError) → P → OnOk r P
@@ -87,6 +82,13 @@ pub opened_new : (t : Tables) (r : Result State StopError) → HasAt meta_codec 
     → IfOk r (λ s. (b : Contents) → Stands t b → IsValid b.catalog b.stmts → s ≡ start_from b)
 opened_new t (Ok s) found h = λ b stands valid. h ∙ sym (ap (λ (x : Contents). start_from x) (empty_without_format t b stands found).1)
 opened_new t (Err stop) found h = tt
+
+abbrev format_row : Tables → Tables
+format_row t = tables.insert t (place meta_codec tt) (meta_codec.row_bytes 1)
+
+-- the row of the format alone holds the empty base
+pub format_holds : (t u : Tables) (b : Contents) → t ≡ tables.empty → u ≡ format_row t → b ≡ empty_contents → Holds u b
+format_holds t u b e made is = subst (Holds u) (sym is) (subst (λ v. Holds v empty_contents) (sym (made ∙ ap format_row e)) format_row_holds_empty)
 
 -- ---- how often opening commits
 

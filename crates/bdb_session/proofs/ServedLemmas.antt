@@ -6,7 +6,7 @@ use Rattle.bdb_render.specs.declared.refusal.Refusal.{Refusal}
 use Rattle.bdb_tables.specs.Holds.{Holds}
 use Rattle.bdb_session.specs.declared.reply.Reply.{Reply}
 use Rattle.bdb_session.specs.declared.stop.StopError.{StopError}
-use Rattle.bdb_session.specs.declared.stop.StopError.TheVariants.{Fault}
+use Rattle.bdb_session.specs.declared.stop.StopError.TheVariants.{Fault, Memory}
 use Rattle.bdb_session.specs.Outcome.{State, Outcome, Refused, Done}
 use Rattle.bdb_session.specs.Served.{Commits, IsReply, IsTold, IsServed}
 
@@ -51,6 +51,21 @@ refused_is_served s outcome x old result e still holds told = served_as s outcom
       cause = record { later = omega arith; rose = λ e. absurd (told.memory e) };
       err = as_it_was old;
     }
+
+-- want of memory before a transaction leaves all as it was
+pub unmade_is_served : (s : State) (outcome : Outcome) (old : Seen) → IsStill old → Holds old.kept s.base → IsServed s outcome s old old (Err Memory)
+unmade_is_served s outcome old still holds = record {
+  reply = tt;
+  next = tt;
+  same = refl;
+  holds = holds;
+  commits = tt;
+  alone = tt;
+  still = still;
+  never_fall = nothing_falls old;
+  cause = record { later = omega arith; rose = λ e. absurd cc };
+  err = as_it_was old;
+}
 
 -- where a transaction is stopped, all is as it was
 pub stopped_is_served : {T : Type 0} (s : State) (outcome : Outcome) (rows : Tables) (old new : Seen) (stop : StopError)

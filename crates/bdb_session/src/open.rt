@@ -4,7 +4,9 @@ ghost use Rattle.std.specs.FinMap as tables;
 ghost use Rattle.bdb_base.specs.Bases.{Contents, IsValid, empty_contents};
 ghost use Rattle.bdb_base.specs.Causes.{HasCause, Rises};
 ghost use Rattle.bdb_keep.specs.Seen.{IsAtRest, IsStill, NeverFall, Unchanged};
-ghost use Rattle.bdb_tables.specs.Holds.{Holds, Stands, rows_of_base};
+ghost use Rattle.bdb_tables.specs.Codec.{place};
+ghost use Rattle.bdb_tables.specs.InUse.{meta_codec};
+ghost use Rattle.bdb_tables.specs.Holds.{Holds, Stands};
 ghost use Rattle.bdb_session.specs.Opening.{opening};
 ghost use Rattle.bdb_session.specs.Outcome.{start_from};
 ghost use Rattle.bdb_session.specs.Served.{Commits};
@@ -86,7 +88,9 @@ fn new_session<K: Keeper>(alloc: Global, keeper: &mut K) -> Result<Session, Stop
     requires still { IsStill (K.seen keeper.old) }
     requires empty { (K.seen keeper.old).kept ≡ tables.empty }
     ensures opened { IfOk result (λ session. session ≡ start_from empty_contents) }
-    ensures commits { Commits (rows_of_base empty_contents) (K.seen keeper.old) (K.seen keeper.new) result }
+    ensures holds { IfOk result (λ session. Holds (K.seen keeper.new).kept session.base) }
+    ensures commits { Commits (tables.insert (K.seen keeper.old).kept (place meta_codec tt) (meta_codec.row_bytes 1))
+        (K.seen keeper.old) (K.seen keeper.new) result }
 {
     match commit_format(alloc, keeper) {
         Ok(()) => {}

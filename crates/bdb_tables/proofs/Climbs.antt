@@ -6,19 +6,23 @@ use Rattle.std.specs.declared.cmp.Ordering.TheVariants.{Less, Equal, Greater}
 use Rattle.std.specs.Ordering.{is_eq, is_lt, is_le, ordering_then, ordering_reverse}
 use Rattle.std.specs.Cmp.{IsTotalOrder}
 use Rattle.std.specs.List.{AllByRecursion, list_all, slice_get}
-use Rattle.std.proofs.lemmas.Bool.{and_parts, false≢true}
+use Rattle.std.proofs.lemmas.Bool.{and_parts, false≢true, or_cases, or_left, or_right, not-true}
 use Rattle.std.proofs.lemmas.Cmp.{then_total, on_total, tied_itself}
-use Rattle.bdb_base.specs.Bases.{key_lengths}
+use Rattle.bdb_base.specs.Bases.{Contents, IsValid, key_lengths, stands}
 use Rattle.bdb_base.specs.Clash.{clash}
 use Rattle.bdb_base.specs.Order.{path_cmp, tuple_cmp, sign_cmp, statement_cmp}
 use Rattle.bdb_base.specs.OrderLemmas.{path_total, tuple_total, path_exact, tuple_exact, statement_exact}
-use Rattle.bdb_base.specs.Same.{same_path}
+use Rattle.bdb_base.specs.Same.{same_path, same_tuple}
+use Rattle.bdb_base.specs.SameLemmas.{same_path-Decides, same_tuple-Decides}
 use Rattle.bdb_base.specs.SortedSet.{ascending}
 use Rattle.bdb_base.specs.Worlds.{contradicted}
-use Rattle.bdb_base.specs.declared.kinds.RelDef.{RelDef}
+use Rattle.bdb_base.specs.declared.kinds.Sign.{Sign}
+use Rattle.bdb_base.specs.declared.kinds.Sign.TheVariants as signs
 use Rattle.bdb_base.specs.declared.kinds.Stmt.{Stmt}
-use Rattle.bdb_base.proofs.SetLemmas.{is_lt-Less, greater_from_less}
-use Rattle.bdb_tables.proofs.HoldsLemmas.{AreAtOne, tie, or_false, not_false}
+use Rattle.bdb_base.specs.declared.tuple.Tuple.{Tuple}
+use Rattle.bdb_base.proofs.SetLemmas.{is_lt-Less, greater_from_less, is_eq_itself}
+use Rattle.bdb_tables.proofs.HoldsLemmas.{equal_is}
+use Rattle.bdb_tables.proofs.SignLemmas.{or_false}
 
 -- by path, then tuple
 abbrev pub key_order : Stmt → Stmt → Ordering
@@ -50,6 +54,18 @@ abbrev pub Among : Stmt → List Stmt → Type 0
 Among x [] = ⊥
 Among x (y ∷ ys) = (y ≡ x) ⊎ Among x ys
 
+pub stands_among : (xs : List Stmt) (x : Stmt) → stands xs x ≡ true → Among x xs
+stands_among [] x e = absurd (false≢true e)
+stands_among (y ∷ ys) x e = elim (or_cases (is_eq (statement_cmp y x)) (stands ys x) e) [
+  | inl f ↦ inl (equal_is y x f)
+  | inr f ↦ inr (stands_among ys x f)
+]
+
+pub among_stands : (xs : List Stmt) (x : Stmt) → Among x xs → stands xs x ≡ true
+among_stands [] x a = absurd a
+among_stands (y ∷ ys) x (inl e) = or_left (is_eq (statement_cmp y x)) (stands ys x) (ap (λ z. is_eq (statement_cmp z x)) e ∙ is_eq_itself statement_exact x)
+among_stands (y ∷ ys) x (inr a) = or_right (is_eq (statement_cmp y x)) (stands ys x) (among_stands ys x a)
+
 pub all_among : (P : Stmt → Type 0) (xs : List Stmt) (x : Stmt) → AllByRecursion P xs → Among x xs → P x
 all_among P [] x h a = absurd a
 all_among P (y ∷ ys) x h (inl e) = subst P e h.0
@@ -61,6 +77,28 @@ among_at (y ∷ ys) zero x e = let s : y ≡ x = cc in inl s
 among_at (y ∷ ys) (suc n) x e = inr (among_at ys n x e)
 
 -- ---- statements of a valid base climb
+
+-- statements at one place
+record AreAtOne (x y : Stmt) : Type 0 where
+  pub path : x.path ≡ y.path
+  pub tuple : x.tuple ≡ y.tuple
+
+stmt_of : List ℕ → Sign → Tuple → Stmt
+stmt_of p s t = record { path = p; sign = s; tuple = t }
+
+tie_by : (keys : ℕ → ℕ) (p : List ℕ) (t : Tuple) (r s : Sign) → is_eq (statement_cmp (stmt_of p s t) (stmt_of p r t)) ≡ false → (same_path p p && clash keys t r t s) ≡ false → ⊥
+tie_by keys p t signs.Plus signs.Plus e f = false≢true (sym e ∙ is_eq_itself statement_exact (stmt_of p signs.Plus t))
+tie_by keys p t signs.Minus signs.Minus e f = false≢true (sym e ∙ is_eq_itself statement_exact (stmt_of p signs.Minus t))
+tie_by keys p t signs.Plus signs.Minus e f = false≢true (sym f ∙ ap (λ b. b && same_tuple t t) ((same_path-Decides p p).1 refl) ∙ (same_tuple-Decides t t).1 refl)
+tie_by keys p t signs.Minus signs.Plus e f = false≢true (sym f ∙ ap (λ b. b && same_tuple t t) ((same_path-Decides p p).1 refl) ∙ (same_tuple-Decides t t).1 refl)
+
+-- statements at one place that differ clash
+tie : (keys : ℕ → ℕ) (x y : Stmt) → AreAtOne x y → is_eq (statement_cmp y x) ≡ false → (same_path y.path x.path && clash keys x.tuple x.sign y.tuple y.sign) ≡ false → ⊥
+unfolding stmt_of
+tie keys x y h e f =
+    tie_by keys x.path x.tuple x.sign y.sign
+    (subst (λ t. is_eq (statement_cmp (stmt_of x.path y.sign t) x) ≡ false) (sym h.tuple) (subst (λ p. is_eq (statement_cmp (stmt_of p y.sign y.tuple) x) ≡ false) (sym h.path) e))
+    (subst (λ t. (same_path x.path x.path && clash keys x.tuple x.sign t y.sign) ≡ false) (sym h.tuple) (subst (λ p. (same_path p x.path && clash keys x.tuple x.sign y.tuple y.sign) ≡ false) (sym h.path) f))
 
 by_path : (keys : ℕ → ℕ) (x y : Stmt) (p t s : Ordering) → path_cmp x.path y.path ≡ p → tuple_cmp x.tuple y.tuple ≡ t → ordering_then p (ordering_then t s) ≡ Less
     → (AreAtOne x y → ⊥) → ordering_then p t ≡ Less
@@ -103,11 +141,10 @@ free_from : (keys : ℕ → ℕ) (all xs : List Stmt) → list_all (λ x. not (c
 free_from keys all [] h = tt
 free_from keys all (x ∷ xs) h =
     let a = and_parts (not (contradicted keys all x.path x.tuple x.sign)) (list_all (λ y. not (contradicted keys all y.path y.tuple y.sign)) xs) h in
-    (not_false (contradicted keys all x.path x.tuple x.sign) a.0, free_from keys all xs a.1)
+    (not-true (contradicted keys all x.path x.tuple x.sign) a.0, free_from keys all xs a.1)
 
-pub climbs : (rels : List RelDef) (xs : List Stmt) → ascending statement_cmp xs ≡ true
-    → list_all (λ x. not (contradicted (key_lengths rels) xs x.path x.tuple x.sign)) xs ≡ true → Climbs xs
-climbs rels xs up free = climbs_by (key_lengths rels) xs up (free_from (key_lengths rels) xs xs free)
+pub climbs : (b : Contents) → IsValid b.catalog b.stmts → Climbs b.stmts
+climbs b v = climbs_by (key_lengths b.catalog.rels) b.stmts v.stmts.sorted (free_from (key_lengths b.catalog.rels) b.stmts b.stmts v.stmts.no_clash)
 
 -- ---- the first one, and the one after another
 

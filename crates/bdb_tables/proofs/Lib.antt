@@ -1,10 +1,12 @@
+pub mod CatalogLemmas
 pub mod Climbs
 pub mod DifferenceLemmas
 pub mod Fitting
-pub mod Finds
 pub mod Held
 pub mod HoldsLemmas
 pub mod Loops
+pub mod SameLemmas
+pub mod SignLemmas
 pub mod SpanLemmas
 pub mod Stated
 pub mod StatementLemmas

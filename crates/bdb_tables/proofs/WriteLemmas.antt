@@ -96,7 +96,7 @@ module _ {Key Row : Type 0} where
     written = λ key fits. subst (λ o. MatchOption o (Unit {0}) c.IsRow) (same key fits) (h.written key fits);
   }
 
-  one_row_of : (c : Codec Key Row) → HasOneRow c → (x y : Option Row) → MatchOption x (Unit {0}) c.IsRow → MatchOption y (Unit {0}) c.IsRow
+  pub one_row_of : (c : Codec Key Row) → HasOneRow c → (x y : Option Row) → MatchOption x (Unit {0}) c.IsRow → MatchOption y (Unit {0}) c.IsRow
       → option_map c.row_bytes x ≡ option_map c.row_bytes y → x ≡ y
   one_row_of c one None None fx fy e = refl
   one_row_of c one None (Some y) fx fy e = absurd cc

@@ -13,4 +13,5 @@ pub mod Rows
 pub mod Spans
 pub mod Statements
 pub mod States
+pub mod Stored
 pub mod Writes

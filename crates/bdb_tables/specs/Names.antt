@@ -7,6 +7,10 @@ use Rattle.bdb_base.specs.Same.{same_path}
 use Rattle.bdb_base.specs.Segments.{is_suffix}
 use Rattle.bdb_base.specs.States.{HasPrefixes, suffix_link, edge_target}
 
+-- worlds that may have numbers
+abbrev pub most_numbered : ℕ
+most_numbered = 65536
+
 -- which path each number stands for, which number stands for each path, and the numbers in use
 pub record Names : Type 0 where
   pub path : ℕ → Option (List ℕ)
@@ -67,7 +71,7 @@ pub record AreNames (ns : Names) : Type 0 where
   pub short : (w : List ℕ) → is_named ns w ≡ true → length w < 2 ^ 32
   pub counted : (n : ℕ) → is_listed n ns.used ≡ is_some (path_of ns n)
   pub once : are_once ns.used ≡ true
-  pub few : length ns.used ≤ 65536
+  pub few : length ns.used ≤ most_numbered
 
 -- the length of the path that a number stands for
 abbrev pub depth_of : Names → ℕ → Option ℕ

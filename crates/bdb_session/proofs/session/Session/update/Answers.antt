@@ -13,7 +13,7 @@ use Rattle.bdb_session.specs.Outcome.{State}
 use Rattle.bdb_session.specs.Sizes.{passed_limit}
 use Rattle.bdb_session.proofs.ChangeLemmas.{taken_may_be, added_may_be, update_rows}
 use Rattle.bdb_session.proofs.OutcomeLemmas.{unless_some, unless_none}
-use Rattle.bdb_session.proofs.ServedLemmas.{served_as, refused_is_served}
+use Rattle.bdb_session.proofs.ServedLemmas.{served_as, refused_is_served, unmade_is_served}
 use Rattle.bdb_session.proofs.UpdateFitLemmas.{update_stays_valid}
 use Rattle.bdb_session.proofs.session.Session.update.Goals as goal
 
@@ -90,3 +90,9 @@ returns-in-Ok-None g c =
     ∙ sym (ap (λ (xs : List Stmt). becomes state (with_stmts b xs) (count_reply (length change.taken))) next
     ∙ ap (λ (xs : List Stmt). becomes state (with_stmts b (updated w s rel conds sets b.stmts)) (count_reply (length xs))) taken))
     c.change_to.ensures
+
+pub returns-in-Err : goal.returns-in-Err
+returns-in-Err g c = unmade_is_served c.args.self.now _ (g.K.Keeper.seen c.args.keeper.now) c.requires.still c.requires.agrees
+
+pub returns-in-Err-change_clash : goal.returns-in-Err-change_clash
+returns-in-Err-change_clash g c = unmade_is_served c.args.self.now _ (g.K.Keeper.seen c.args.keeper.now) c.requires.still c.requires.agrees
