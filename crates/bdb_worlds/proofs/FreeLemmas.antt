@@ -1,20 +1,19 @@
 -- The least number that is not in use.
-use Rattle.std.proofs.Common.{◌≡◌, ◌∙◌, ℕ, ◌+◌, ◌≤◌, ◌<◌, ◌^◌, Bool, true, false, nat_eq, cond, List, [], ◌∷◌, refl, ap, sym, subst, inl, inr, ◌⊎◌, suc, arith, length, Option, Some, None}
-use Rattle.std.specs.Prelude.{MatchOption}
+use Rattle.std.proofs.Common.{◌≡◌, ◌∙◌, ℕ, ◌+◌, ◌≤◌, ◌<◌, true, false, List, refl, ap, sym, inl, inr, arith, length, Option, Some, None}
 use Rattle.std.specs.Option.{option_map, is_some}
-use Rattle.std.specs.Ordering.{is_le, nat_cmp}
+use Rattle.std.specs.Ordering.{is_le}
 use Rattle.std.specs.FinMap as tables
-use Rattle.std.proofs.lemmas.Bool.{cases_Bool, false≢true, true_from_ne_false, cases_lt}
+use Rattle.std.proofs.lemmas.Bool.{false≢true, cases_lt}
 use Rattle.bdb_keep.specs.Tables.{Tables}
 use Rattle.bdb_key.specs.Bytes.{num_bytes}
 use Rattle.bdb_key.specs.Grammar.{IsNum}
 use Rattle.bdb_tables.specs.Codec.{HasFirst, HasAt, place}
 use Rattle.bdb_tables.specs.InUse.{depth_codec}
-use Rattle.bdb_tables.specs.Names.{Names, AreNames, path_of, number_of, is_listed, depth_of}
+use Rattle.bdb_tables.specs.Names.{path_of, depth_of}
 use Rattle.bdb_tables.specs.States.{HoldsStates}
 use Rattle.bdb_names.proofs.CountLemmas.{AllBelow, none_missing}
-use Rattle.bdb_names.proofs.NameLemmas.{some_of, none_is_some}
-use Rattle.bdb_worlds.specs.Free.{IsLeastFree, FindsFree}
+use Rattle.bdb_names.proofs.NameLemmas.{some_of}
+use Rattle.bdb_worlds.specs.Free.{FindsFree}
 use Rattle.bdb_worlds.specs.Holding.{Worlds}
 use Rattle.bdb_worlds.proofs.ReadLemmas.{number_le}
 

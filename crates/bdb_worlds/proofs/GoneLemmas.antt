@@ -1,19 +1,17 @@
 -- What tables hold once a state is taken away.
-use Rattle.std.proofs.Common.{◌≡◌, ◌∙◌, ℕ, ◌<◌, ◌^◌, Bool, true, false, not, ◌&&◌, ◌||◌, nat_eq, cond, List, [], ◌∷◌, ◌++◌, refl, ap, sym, subst, inl, inr, ◌⊎◌, arith, length, map, Option, Some, None}
-use Rattle.std.specs.Prelude.{MatchOption}
+use Rattle.std.proofs.Common.{◌≡◌, ◌∙◌, ℕ, Bool, true, false, not, ◌&&◌, ◌||◌, nat_eq, cond, List, [], ◌∷◌, ◌++◌, refl, ap, sym, subst, inl, inr, map, Option, Some, None}
 use Rattle.std.specs.List.{AllByRecursion, list_any}
-use Rattle.std.proofs.lemmas.Bool.{cases_Bool, and_parts, and_from, and_left, and_right, or_cases, or_parts, or_left, or_right, false≢true, false_from_ne_true, cond-true, cond-false, not-true, eqb-true, eq-eqb, ne_eqb, eqb-false}
+use Rattle.std.proofs.lemmas.Bool.{and_parts, and_from, and_right, or_cases, or_parts, or_left, or_right, false≢true, false_from_ne_true, cond-true, cond-false, not-true, eqb-true, eq-eqb, ne_eqb}
 use Rattle.bdb_base.specs.Segments.{is_suffix}
 use Rattle.bdb_base.specs.States.{deepest_suffix}
 use Rattle.bdb_paths.proofs.SuffixLemmas.{deepest_is_suffix}
 use Rattle.bdb_keep.specs.Tables.{Tables}
 use Rattle.bdb_key.specs.Grammar.{IsNum}
-use Rattle.bdb_tables.specs.Codec.{HasAt}
 use Rattle.bdb_tables.specs.InUse.{IsPair, depth_codec, link_codec, linked_codec, edge_codec, led_codec}
 use Rattle.bdb_tables.specs.InUseLaws.{numbers_in_order}
 use Rattle.bdb_tables.specs.Names.{Names, path_of, number_of, is_named, is_listed, are_once, leads_to, without_name, depth_of, link_of, edge_of}
 use Rattle.bdb_tables.specs.States.{HoldsStates, TablesAre}
-use Rattle.bdb_tables.specs.Writes.{with_change, with_row_at}
+use Rattle.bdb_tables.specs.Writes.{with_row_at}
 use Rattle.bdb_tables.proofs.WriteLemmas.{change_gives, change_elsewhere, gives_same}
 use Rattle.bdb_names.specs.Drops.{IsLast, led_past}
 use Rattle.bdb_names.specs.Turned.{link_set, with_link, links_led, with_links, edge_set, same_edge, with_edge, look}
@@ -152,7 +150,7 @@ module _ (w : Worlds) (t : Tables) (h : HoldsStates w.users w.names t) (p : List
   link_size = let l = link_found ms n s gone.led in h.names.sized (deepest_suffix (is_named ms) l.back) s l.target
 
   -- no edge of the world leads to it
-  not_itself : (j : ℕ) → edge_of w.users ms (n, j) ≡ Some n → ⊥
+  pub not_itself : (j : ℕ) → edge_of w.users ms (n, j) ≡ Some n → ⊥
   not_itself j e =
       let f = edge_found w.users ms n j n e in
       let front : f.front ≡ p = same_some f.front p (sym f.path ∙ h.names.numbered p n gone.number) in
@@ -195,13 +193,13 @@ module _ (w : Worlds) (t : Tables) (h : HoldsStates w.users w.names t) (p : List
       | inr r ↦ pair_size ys f.1 k r
     ]
 
-    sizes : AllByRecursion IsPair es
+    pub sizes : AllByRecursion IsPair es
     sizes = pairs_sized t n size led rows.led.each
 
-    pairs_lead : (k : ℕ × ℕ) → list_any (same_edge k) es ≡ true → edge k ≡ Some n
+    pub pairs_lead : (k : ℕ × ℕ) → list_any (same_edge k) es ≡ true → edge k ≡ Some n
     pairs_lead k e = leads_is (edge k) n (sym (in_led k (pair_size es sizes k e)) ∙ e)
 
-    kids_lead : (k : ℕ) → is_listed k ks ≡ true → link k ≡ Some n
+    pub kids_lead : (k : ℕ) → is_listed k ks ≡ true → link k ≡ Some n
     kids_lead k e = leads_is (link k) n (sym (in_linked k (kids_sized t n size linked rows.linked.each k e)) ∙ e)
 
     abbrev u1 : Tables
@@ -216,13 +214,13 @@ module _ (w : Worlds) (t : Tables) (h : HoldsStates w.users w.names t) (p : List
     second : TablesAre u2 (depth_of ms) (with_links link s ks) (with_pairs edge s es)
     second = links_led_are u1 (depth_of ms) link (with_pairs edge s es) n s link_size ks (kids_sized t n size linked rows.linked.each) (kids_once t n size linked rows.linked.each rows.linked.sorted) kids_lead first
 
-    own_once : are_once (users_of xs) ≡ true
+    pub own_once : are_once (users_of xs) ≡ true
     own_once = edges_once t n size own rows.owned.each rows.owned.sorted
 
-    own_sizes : AllByRecursion (λ x. IsNum x.0 × IsNum x.1) xs
+    pub own_sizes : AllByRecursion (λ x. IsNum x.0 × IsNum x.1) xs
     own_sizes = edges_sized t n size own rows.owned.each
 
-    look_is : (j : ℕ) → IsNum j → look xs j ≡ edge (n, j)
+    pub look_is : (j : ℕ) → IsNum j → look xs j ≡ edge (n, j)
     look_is j f = edges_are t n size edge h.tables.edge own rows.owned j f
 
     -- an edge of the world itself is none of those that lead to it

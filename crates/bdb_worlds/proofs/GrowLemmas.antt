@@ -1,34 +1,31 @@
 -- One state more, and the prefixes of a path one after the other.
-use Rattle.std.proofs.Common.{◌≡◌, ◌∙◌, ℕ, ◌+◌, ◌-◌, ◌*◌, ◌≤◌, ◌<◌, ◌^◌, Bool, true, false, not, ◌&&◌, ◌||◌, nat_eq, cond, List, [], ◌∷◌, ◌++◌, refl, ap, sym, subst, inl, inr, ◌⊎◌, suc, zero, arith, length, take, drop, get_or, map, Option, Some, None}
+use Rattle.std.proofs.Common.{◌≡◌, ◌∙◌, ℕ, ◌+◌, ◌-◌, ◌≤◌, ◌<◌, ◌^◌, Bool, true, false, ◌&&◌, ◌||◌, nat_eq, cond, List, [], ◌∷◌, ◌++◌, refl, ap, sym, subst, inl, inr, suc, zero, arith, length, take, get_or, Option, Some, None}
 use Rattle.std.specs.Option.{is_some, option_map}
-use Rattle.std.specs.List.{list_all, AllByRecursion}
 use Rattle.std.specs.FinMap as tables
-use Rattle.std.proofs.lemmas.Bool.{cases_Bool, and_parts, and_from, or_left, or_right, or_cases, or_from, or_parts, false≢true, false_from_ne_true, cond-true, cond-false, eqb-true, eq-eqb, ne_eqb, eqb-false, cases_lt}
+use Rattle.std.proofs.lemmas.Bool.{and_parts, and_from, or_left, or_right, or_cases, or_from, false≢true, false_from_ne_true, cond-true, eqb-true, eq-eqb, cases_lt}
 use Rattle.bdb_base.specs.Alternation.{alternates}
 use Rattle.bdb_base.specs.Same.{same_path}
 use Rattle.bdb_base.specs.SameLemmas.{same_path-Decides}
 use Rattle.bdb_base.specs.Segments.{is_prefix}
-use Rattle.bdb_base.proofs.SegmentLemmas.{is_prefix_begins}
 use Rattle.bdb_base.specs.States.{deepest_suffix}
 use Rattle.bdb_keep.specs.Tables.{Tables}
 use Rattle.bdb_key.specs.Bytes.{num_bytes}
 use Rattle.bdb_key.specs.Grammar.{IsNum}
 use Rattle.bdb_tables.specs.Codec.{HasAt, place}
 use Rattle.bdb_tables.specs.InUse.{IsPair, edge_codec}
-use Rattle.bdb_tables.specs.Names.{Names, AreNames, path_of, number_of, is_named, is_listed, with_name, depth_of, link_of, edge_of}
+use Rattle.bdb_tables.specs.Names.{Names, path_of, number_of, is_named, is_listed, with_name, depth_of, link_of, edge_of}
 use Rattle.bdb_tables.specs.States.{HoldsStates, TablesAre}
-use Rattle.bdb_names.specs.Moves.{IsLeaf, AreMovers, edge_moves, link_moves}
+use Rattle.bdb_names.specs.Moves.{IsLeaf, AreMovers}
 use Rattle.bdb_names.specs.Turned.{links_led, edges_led, with_links, with_edges}
 use Rattle.bdb_names.proofs.AddedLemmas.{edges_led_are, links_led_are, moved_links, moved_edges, state_added}
-use Rattle.bdb_names.proofs.Ends.{no_own_end, length_more}
+use Rattle.bdb_names.proofs.Ends.{no_own_end}
 use Rattle.bdb_names.proofs.ListedLemmas.{both_ways_true}
 use Rattle.bdb_names.proofs.MoveLemmas.{moved_edge_led, moved_link_led, edge_moves_parts, link_moves_parts}
-use Rattle.bdb_names.proofs.NameLemmas.{same_some, none_is_some, is_named_by, number_is, deep_number, edge_at, edge_is, path_is_named}
+use Rattle.bdb_names.proofs.NameLemmas.{is_named_by, deep_number, edge_at, edge_is}
 use Rattle.bdb_names.proofs.TurnedLemmas.{tables_same}
-use Rattle.bdb_worlds.specs.Finds.{FindsMovers}
 use Rattle.bdb_worlds.specs.Free.{IsLeastFree, FindsFree}
-use Rattle.bdb_worlds.specs.Growth.{IsTaken, IsAdded, with_state, with_prefixes, AreLeast, MayGrow, HasGrown, AddsStates}
-use Rattle.bdb_worlds.specs.Holding.{Worlds, HoldSome}
+use Rattle.bdb_worlds.specs.Growth.{IsAdded, with_state, with_prefixes, AreLeast, MayGrow, HasGrown, AddsStates}
+use Rattle.bdb_worlds.specs.Holding.{Worlds}
 use Rattle.bdb_worlds.specs.Owns.{AreOwnEdges}
 use Rattle.bdb_worlds.specs.Reach.{Reaches, ReachesState}
 use Rattle.bdb_worlds.proofs.ReadLemmas.{edge_read}
@@ -158,7 +155,7 @@ named_more ns n p w = by (same_path w p) (ns.number w)
     by false (Some x) = refl
 
 -- what has a name when prefixes have come had one before, or is a prefix
-named_old : (ns : Names) (path : List ℕ) (len : ℕ) (new : List ℕ) (w : List ℕ) → is_named (with_prefixes ns path len new) w ≡ true → (is_named ns w || is_prefix w path) ≡ true
+pub named_old : (ns : Names) (path : List ℕ) (len : ℕ) (new : List ℕ) (w : List ℕ) → is_named (with_prefixes ns path len new) w ≡ true → (is_named ns w || is_prefix w path) ≡ true
 named_old ns path len [] w h = or_left (is_named ns w) (is_prefix w path) h
 named_old ns path len (n ∷ new) w h =
     let p = take (suc len) path in
@@ -252,8 +249,8 @@ module _ (t u : Tables) (path : List ℕ) (worlds len : ℕ) (new : List ℕ) (a
     abbrev ws : Worlds
     ws = record { users = s.users; names = with_prefixes s.names path len new }
 
-    next : IsNext s.users ms q i at
-    next = record {
+    pub next_is : IsNext s.users ms q i at
+    next_is = record {
       start = ap (λ n. number_of ms (take n path)) is ∙ now.number;
       user = all_at s.users path k inside g.own;
       apart = ap alternates (sym part) ∙ alternates_take path (k + 1) apart;
@@ -261,30 +258,30 @@ module _ (t u : Tables) (path : List ℕ) (worlds len : ℕ) (new : List ℕ) (a
     }
 
     pub has_edge : is_some (tables.get u (place edge_codec (at, i))) ≡ true
-    has_edge = edge_has_row ws u now.states q i at next
+    has_edge = edge_has_row ws u now.states q i at next_is
 
     pub is_room : worlds + length new < 65536
     is_room = let b = now.before in omega arith
 
     module _ (count depth number before after : ℕ) (u' : Tables) (count_is : count ≡ worlds + length new) (deep : depth ≡ k + 1) (free : FindsFree u count low number) (added : IsAdded u u' at i depth number before after) where
-      found : IsLeastFree ms number
-      found = free.least ws now.states (now.used ∙ sym count_is) now.below
+      pub found_is : IsLeastFree ms number
+      found_is = free.least ws now.states (now.used ∙ sym count_is) now.below
 
       long : length (q ++ i ∷ []) ≡ k + 1
       long = ap length (sym part) ∙ length-take-is path (k + 1) (omega arith)
 
-      holds : HoldsStates s.users (with_name ms number (q ++ i ∷ [])) u'
-      holds =
+      pub holds_now : HoldsStates s.users (with_name ms number (q ++ i ∷ [])) u'
+      holds_now =
           let small = g.short in
           let room = is_room in
-          added_holds ws u now.states q i at next u' depth number before after added free.fits found.free (deep ∙ sym long) (omega arith)
+          added_holds ws u now.states q i at next_is u' depth number before after added free.fits found_is.free (deep ∙ sym long) (omega arith)
           (let e = now.used in omega arith)
 
       last : take (suc (len + length new)) path ≡ q ++ i ∷ []
       last = let e : suc (len + length new) ≡ k + 1 = omega arith in ap (λ n. take n path) e ∙ part
 
-      names_are : with_prefixes s.names path len (new ++ number ∷ []) ≡ with_name ms number (q ++ i ∷ [])
-      names_are = push_prefixes s.names path len new number ∙ ap (with_name ms number) last
+      pub names_now : with_prefixes s.names path len (new ++ number ∷ []) ≡ with_name ms number (q ++ i ∷ [])
+      names_now = push_prefixes s.names path len new number ∙ ap (with_name ms number) last
 
       path_there : (j : ℕ) (b : Bool) (o : Option (List ℕ)) → is_some o ≡ true → is_some (cond b (Some (q ++ i ∷ [])) o) ≡ true
       path_there j true o e = refl
@@ -292,11 +289,11 @@ module _ (t u : Tables) (path : List ℕ) (worlds len : ℕ) (new : List ℕ) (a
 
       pub grown : IsGrowing s u' path worlds len (new ++ number ∷ []) number number
       grown = record {
-        states = subst (λ x. HoldsStates s.users x u') (sym names_are) holds;
-        least = push_least s.names path len new number now.least found;
+        states = subst (λ x. HoldsStates s.users x u') (sym names_now) holds_now;
+        least = push_least s.names path len new number now.least found_is;
         number =
             let e : len + length (new ++ number ∷ []) ≡ suc (len + length new) = ap (λ n. len + n) (length-snoc new number) ∙ omega arith in
-            ap (λ x. number_of x (take (len + length (new ++ number ∷ [])) path)) names_are
+            ap (λ x. number_of x (take (len + length (new ++ number ∷ [])) path)) names_now
             ∙ ap (λ n. number_of (with_name ms number (q ++ i ∷ [])) (take n path)) e
             ∙ ap (number_of (with_name ms number (q ++ i ∷ []))) last
             ∙ cond-true (same_path (q ++ i ∷ []) (q ++ i ∷ [])) (Some number) (number_of ms (q ++ i ∷ [])) ((same_path-Decides (q ++ i ∷ []) (q ++ i ∷ [])).1 refl);
@@ -304,15 +301,15 @@ module _ (t u : Tables) (path : List ℕ) (worlds len : ℕ) (new : List ℕ) (a
             let e = length-snoc new number in
             let f = now.used in
             let l : suc (length ms.used) ≡ worlds + length (new ++ number ∷ []) = omega arith in
-            ap (λ (x : Names). length x.used) names_are ∙ l;
+            ap (λ (x : Names). length x.used) names_now ∙ l;
         fresh = λ j l m.
             let e = length-snoc new number in
             let w = length-take-is path j m in
             let differs : same_path (take j path) (q ++ i ∷ []) ≡ false = false_from_ne_true (same_path (take j path) (q ++ i ∷ [])) (λ t.
             let x = ap length ((same_path-Decides (take j path) (q ++ i ∷ [])).0 t) in let y = long in absurd (omega arith)) in
-            ap (λ x. is_named x (take j path)) names_are ∙ named_more ms number (q ++ i ∷ []) (take j path)
+            ap (λ x. is_named x (take j path)) names_now ∙ named_more ms number (q ++ i ∷ []) (take j path)
             ∙ or_from (is_named ms (take j path)) (same_path (take j path) (q ++ i ∷ [])) (now.fresh j (omega arith) m) differs;
-        below = λ j l. ap (λ x. is_some (path_of x j)) names_are ∙ path_there j (nat_eq j number) (path_of ms j) (found.least j l);
+        below = λ j l. ap (λ x. is_some (path_of x j)) names_now ∙ path_there j (nat_eq j number) (path_of ms j) (found_is.least j l);
         before = now.before;
       }
 

@@ -1,5 +1,5 @@
 -- Changes of worlds leave all other tables as they were.
-use Rattle.std.proofs.Common.{◌≡◌, ◌∙◌, ℕ, Bool, true, false, ◌&&◌, nat_le, cond, List, [], ◌∷◌, refl, ap, sym, subst, Option, Some, None}
+use Rattle.std.proofs.Common.{◌≡◌, ◌∙◌, ℕ, true, false, ◌&&◌, nat_le, cond, List, [], ◌∷◌, refl, ap, sym, subst, Option, Some, None}
 use Rattle.std.specs.Option.{option_map}
 use Rattle.std.specs.Ordering.{eq_by_cmp}
 use Rattle.std.specs.FinMap as map
@@ -22,7 +22,7 @@ same_itself t n k o = refl
 pub outside_then : (t u v : Tables) → SameElsewhere t u → SameElsewhere u v → SameElsewhere t v
 outside_then t u v h g n k o = g n k o ∙ h n k o
 
-change_outside : {Key Row : Type 0} (c : Codec Key Row) → (nat_le 6 c.number && nat_le c.number 10) ≡ true → (t : Tables) (x : Key × Option Row) → SameElsewhere t (with_change c t x)
+pub change_outside : {Key Row : Type 0} (c : Codec Key Row) → (nat_le 6 c.number && nat_le c.number 10) ≡ true → (t : Tables) (x : Key × Option Row) → SameElsewhere t (with_change c t x)
 change_outside c inside t x n k o =
     let other : eq_by_cmp bytes_cmp (n ∷ k) (place c x.0) ≡ false = false_from_ne_true (eq_by_cmp bytes_cmp (n ∷ k) (place c x.0)) (λ e.
     let same : n ≡ c.number = head_same _ _ _ _ (same_place (n ∷ k) (place c x.0) e) in

@@ -1,24 +1,24 @@
 -- Reading the edges of one world.
-use Rattle.std.proofs.Common.{◌≡◌, ◌∙◌, ℕ, ◌+◌, ◌≤◌, ◌<◌, ◌^◌, Bool, true, false, not, ◌&&◌, ◌||◌, nat_eq, cond, List, [], ◌∷◌, ◌++◌, refl, ap, sym, subst, inl, inr, ◌⊎◌, suc, zero, arith, map, Option, Some, None}
+use Rattle.std.proofs.Common.{◌≡◌, ◌∙◌, ℕ, ◌+◌, ◌≤◌, ◌<◌, Bool, true, false, nat_eq, cond, List, [], ◌∷◌, ◌++◌, refl, ap, sym, subst, inl, inr, arith, map, Option, Some, None}
 use Rattle.std.specs.Prelude.{MatchOption}
 use Rattle.std.specs.Option.{option_map, is_some}
 use Rattle.std.specs.List.{AllByRecursion}
-use Rattle.std.specs.Ordering.{is_le, nat_cmp, ordering_then}
+use Rattle.std.specs.Ordering.{is_le, nat_cmp}
 use Rattle.std.specs.FinMap as tables
-use Rattle.std.proofs.lemmas.Bool.{cases_Bool, and_parts, or_cases, or_left, or_right, false≢true, false_from_ne_true, cond-true, cond-false, eqb-true, eq-eqb, ne_eqb, eqb-false, cases_lt}
+use Rattle.std.proofs.lemmas.Bool.{cases_Bool, or_cases, false≢true, false_from_ne_true, cond-true, cond-false, eqb-true, ne_eqb, eqb-false, cases_lt}
 use Rattle.bdb_keep.specs.Tables.{Tables}
 use Rattle.bdb_key.specs.Bytes.{num_bytes}
 use Rattle.bdb_key.specs.Grammar.{IsNum}
 use Rattle.bdb_key.proofs.Alone.{one_num}
 use Rattle.bdb_tables.specs.Codec.{HasFirst, IsFirst, place}
 use Rattle.bdb_tables.specs.InUse.{IsPair, edge_codec}
-use Rattle.bdb_tables.specs.Names.{Names, path_of, is_listed, are_once, edge_of}
+use Rattle.bdb_tables.specs.Names.{Names, is_listed, are_once, edge_of}
 use Rattle.bdb_tables.specs.States.{HoldsStates, TablesAre}
 use Rattle.bdb_names.specs.Turned.{look}
 use Rattle.bdb_names.proofs.ListedLemmas.{listed_snoc, once_snoc}
-use Rattle.bdb_names.proofs.NameLemmas.{edge_found, none_is_some, same_some}
+use Rattle.bdb_names.proofs.NameLemmas.{edge_found, same_some}
 use Rattle.bdb_worlds.specs.Holding.{Worlds}
-use Rattle.bdb_worlds.specs.Owns.{IsNextEdge, HasNextEdge, IsOwnEdge, AreOwnEdges, FindsEdges}
+use Rattle.bdb_worlds.specs.Owns.{IsNextEdge, HasNextEdge, IsOwnEdge, FindsEdges}
 use Rattle.bdb_worlds.proofs.ReadLemmas.{le_parts, le_same, le_number, number_le, none_unless}
 
 -- ---- the next edge

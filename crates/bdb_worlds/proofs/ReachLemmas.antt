@@ -1,19 +1,19 @@
 -- The longest prefix of a path that is a state.
-use Rattle.std.proofs.Common.{◌≡◌, ◌∙◌, ℕ, ◌+◌, ◌≤◌, ◌<◌, ◌^◌, Bool, true, false, nat_eq, List, [], ◌∷◌, ◌++◌, refl, ap, sym, subst, inl, inr, ◌⊎◌, suc, zero, arith, length, take, get_or, Option, Some, None}
+use Rattle.std.proofs.Common.{◌≡◌, ◌∙◌, ℕ, ◌+◌, ◌≤◌, ◌<◌, Bool, true, false, List, [], ◌∷◌, refl, ap, sym, subst, suc, zero, arith, length, take, get_or, Option, Some, None}
 use Rattle.std.specs.List.{list_all}
-use Rattle.std.proofs.lemmas.Bool.{cases_Bool, false≢true, false_from_ne_true}
+use Rattle.std.proofs.lemmas.Bool.{false_from_ne_true}
 use Rattle.bdb_base.specs.Alternation.{alternates}
 use Rattle.bdb_base.specs.States.{deepest_suffix}
 use Rattle.bdb_paths.proofs.SuffixLemmas.{deepest_of_member, deepest_is_suffix}
 use Rattle.bdb_keep.specs.Tables.{Tables}
 use Rattle.bdb_tables.specs.Codec.{HasAt}
 use Rattle.bdb_tables.specs.InUse.{edge_codec, depth_codec}
-use Rattle.bdb_tables.specs.Names.{Names, path_of, number_of, is_named, depth_of}
+use Rattle.bdb_tables.specs.Names.{number_of, is_named}
 use Rattle.bdb_tables.specs.States.{HoldsStates}
 use Rattle.bdb_names.proofs.Ends.{whole_end}
-use Rattle.bdb_names.proofs.NameLemmas.{same_some, none_is_some, is_named_by, deep_number, deep_is_named, depth_at}
+use Rattle.bdb_names.proofs.NameLemmas.{same_some, none_is_some, is_named_by, deep_number, depth_at}
 use Rattle.bdb_worlds.specs.Holding.{Worlds, HoldSome}
-use Rattle.bdb_worlds.specs.Reach.{Reaches, ReachesState}
+use Rattle.bdb_worlds.specs.Reach.{ReachesState}
 use Rattle.bdb_worlds.proofs.ReadLemmas.{depth_read}
 use Rattle.bdb_worlds.proofs.WalkLemmas.{take_next, all_at, alternates_take, step_found}
 

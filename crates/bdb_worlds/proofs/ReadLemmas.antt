@@ -1,17 +1,11 @@
 -- What reads of the tables of worlds show.
-use Rattle.std.proofs.Common.{◌≡◌, ◌∙◌, ℕ, ◌+◌, ◌≤◌, ◌<◌, ◌^◌, Bool, true, false, not, ◌&&◌, nat_eq, cond, List, [], ◌∷◌, ◌++◌, refl, ap, sym, subst, inl, inr, ◌⊎◌, arith, Option, Some, None, IsTrue}
+use Rattle.std.proofs.Common.{◌≡◌, ◌∙◌, ℕ, ◌≤◌, ◌<◌, Bool, true, false, nat_eq, cond, [], refl, ap, sym, subst, inl, inr, ◌⊎◌, arith, Option, Some, None}
 use Rattle.std.specs.Prelude.{MatchOption}
 use Rattle.std.specs.Option.{option_map, is_some}
-use Rattle.std.specs.List.{list_all}
 use Rattle.std.specs.Ordering.{is_le, nat_cmp, ordering_then}
 use Rattle.std.specs.declared.cmp.Ordering.{Ordering}
-use Rattle.std.specs.declared.cmp.Ordering.TheVariants.{Less, Equal, Greater}
 use Rattle.std.specs.FinMap as map
-use Rattle.std.proofs.lemmas.Bool.{cases_Bool, and_parts, false≢true, cond-true, cond-false, eqb-true, eq-eqb, ne_eqb, eqb-false, cases_order}
-use Rattle.std.proofs.lemmas.Bool.Decides.{nat_tests}
-use Rattle.bdb_base.specs.Alternation.{alternates}
-use Rattle.bdb_base.specs.States.{deepest_suffix}
-use Rattle.bdb_paths.proofs.SuffixLemmas.{suffixes_extend, deepest_is_suffix}
+use Rattle.std.proofs.lemmas.Bool.{cases_Bool, false≢true, cond-true, cond-false, eqb-true, eqb-false, cases_order}
 use Rattle.bdb_keep.specs.Tables.{Tables}
 use Rattle.bdb_key.specs.Grammar.{IsNum}
 use Rattle.bdb_key.proofs.Numbers.{less, greater, equal}
@@ -19,13 +13,10 @@ use Rattle.bdb_tables.specs.Codec.{Codec, HasAt, HasFirst, IsFirst, HasOneRow, T
 use Rattle.bdb_tables.specs.Grammar.{InGrammar}
 use Rattle.bdb_tables.specs.InUse.{IsPair, depth_codec, link_codec, linked_codec, edge_codec, led_codec}
 use Rattle.bdb_tables.specs.InUseLaws.{number_rows_are_one}
-use Rattle.bdb_tables.specs.Names.{Names, AreNames, path_of, number_of, is_named, leads_to, link_of, edge_of}
-use Rattle.bdb_tables.specs.States.{TablesAre, HoldsStates, row_where}
+use Rattle.bdb_tables.specs.Names.{leads_to}
+use Rattle.bdb_tables.specs.States.{TablesAre, row_where}
 use Rattle.bdb_tables.specs.Writes.{Gives}
-use Rattle.bdb_names.proofs.Ends.{no_own_end, ends_otherwise}
-use Rattle.bdb_names.proofs.NameLemmas.{edge_at, edge_is}
 use Rattle.bdb_worlds.specs.Finds.{HasNextChild, IsNextChild}
-use Rattle.bdb_worlds.specs.Holding.{LeadsTo}
 
 -- ---- the grammar
 

@@ -1,25 +1,25 @@
 -- Tables with the one world of the empty path.
-use Rattle.std.proofs.Common.{◌≡◌, ◌∙◌, ℕ, ◌<◌, ◌≤◌, ◌^◌, Bool, true, false, not, ◌&&◌, ◌||◌, nat_eq, nat_le, cond, List, [], ◌∷◌, ◌++◌, refl, ap, sym, subst, inl, inr, arith, length, Option, Some, None, lit<}
+use Rattle.std.proofs.Common.{◌≡◌, ◌∙◌, ℕ, ◌<◌, ◌^◌, Bool, true, false, nat_eq, cond, List, [], ◌∷◌, ◌++◌, refl, ap, sym, subst, inl, inr, arith, length, Option, Some, None, lit<}
 use Rattle.std.specs.Option.{is_some, option_map}
 use Rattle.std.specs.List.{list_all}
 use Rattle.std.specs.FinMap as map
-use Rattle.std.proofs.lemmas.Bool.{cases_Bool, false≢true, cond-true, cond-false, eqb-true, eq-eqb}
+use Rattle.std.proofs.lemmas.Bool.{cases_Bool, false≢true, cond-true, cond-false, eqb-true}
 use Rattle.bdb_base.specs.Alternation.{alternates}
 use Rattle.bdb_base.specs.Same.{same_path}
 use Rattle.bdb_base.specs.SameLemmas.{same_path-Decides}
 use Rattle.bdb_base.proofs.ListLemmas.{or_false}
 use Rattle.bdb_keep.specs.Tables.{Tables}
 use Rattle.bdb_key.specs.Grammar.{IsNum}
-use Rattle.bdb_tables.specs.Codec.{Codec, place}
+use Rattle.bdb_tables.specs.Codec.{Codec}
 use Rattle.bdb_tables.specs.InUse.{depth_codec, link_codec, linked_codec, edge_codec, led_codec}
 use Rattle.bdb_tables.specs.InUseLaws.{numbers_in_order}
-use Rattle.bdb_tables.specs.Names.{Names, AreNames, path_of, number_of, is_named, is_listed, leads_to, depth_of, link_of, edge_of}
-use Rattle.bdb_tables.specs.States.{HoldsStates, TablesAre, row_where}
-use Rattle.bdb_tables.specs.Writes.{Gives, with_change, with_row_at}
+use Rattle.bdb_tables.specs.Names.{AreNames, path_of, number_of, is_named, leads_to, depth_of, link_of, edge_of}
+use Rattle.bdb_tables.specs.States.{row_where}
+use Rattle.bdb_tables.specs.Writes.{Gives, with_row_at}
 use Rattle.bdb_tables.proofs.WriteLemmas.{change_gives, change_elsewhere, gives_same}
-use Rattle.bdb_names.proofs.NameLemmas.{none_is_some, same_some, link_at_root, link_at_none, edge_at, edge_at_none, edge_found}
+use Rattle.bdb_names.proofs.NameLemmas.{none_is_some, same_some, link_at_root, link_at_none, edge_found}
 use Rattle.bdb_names.proofs.TurnedLemmas.{number_eq}
-use Rattle.bdb_worlds.specs.Root.{root_names, HaveNoWorlds, RootIsWorld}
+use Rattle.bdb_worlds.specs.Root.{root_names, RootIsWorld}
 
 none_gives : {Key Row : Type 0} (c : Codec Key Row) (t : Tables) → ((k : List ℕ) → map.get t (c.number ∷ k) ≡ None) → Gives c t (λ _. None)
 none_gives c t none = record { fits = λ k r found. absurd (none_is_some r (sym (none k) ∙ found)); rows = λ key fits. none (c.key_bytes key); written = λ key fits. tt }

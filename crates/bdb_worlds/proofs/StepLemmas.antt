@@ -1,14 +1,11 @@
 -- Steps of the search for what a new world takes over, whichever states the tables hold.
-use Rattle.std.proofs.Common.{◌≡◌, ◌∙◌, ℕ, ◌+◌, ◌≤◌, ◌<◌, ◌^◌, Bool, List, [], ◌∷◌, refl, ap, sym, subst, suc, zero, arith, length, slice_get, get_or, Option, Some, None}
-use Rattle.std.specs.FinMap as map
+use Rattle.std.proofs.Common.{◌≡◌, ℕ, ◌+◌, ◌≤◌, ◌<◌, Bool, List, [], ◌∷◌, refl, sym, subst, suc, zero, arith, length, slice_get, get_or, Option, Some, None}
 use Rattle.bdb_keep.specs.Tables.{Tables}
 use Rattle.bdb_key.specs.Grammar.{IsNum}
-use Rattle.bdb_tables.specs.Codec.{place}
-use Rattle.bdb_tables.specs.InUse.{linked_codec}
-use Rattle.bdb_tables.specs.Names.{Names, AreNames, path_of, link_of, edge_of}
+use Rattle.bdb_tables.specs.Names.{Names, path_of, link_of, edge_of}
 use Rattle.bdb_tables.specs.States.{HoldsStates}
-use Rattle.bdb_names.specs.Moves.{IsLeaf, AreMovers, edge_moves}
-use Rattle.bdb_names.specs.Search.{sources_after, met_after}
+use Rattle.bdb_names.specs.Moves.{IsLeaf}
+use Rattle.bdb_names.specs.Search.{sources_after}
 use Rattle.bdb_names.proofs.ListedLemmas.{listed_get}
 use Rattle.bdb_names.proofs.MoveLemmas.{edge_moves_parts}
 use Rattle.bdb_names.proofs.NameLemmas.{link_found}

@@ -1,8 +1,7 @@
 -- How calls end that are made of several calls.
-use Rattle.std.proofs.Common.{◌≡◌, ◌∙◌, ℕ, ◌+◌, ◌-◌, ◌≤◌, ◌^◌, Result, Ok, Err, sym, ap, subst, arith, refl}
-use Rattle.std.specs.Prelude.{OnOk, OnErr, min}
+use Rattle.std.proofs.Common.{◌≡◌, ◌∙◌, ℕ, ◌≤◌, Ok, Err, arith}
 use Rattle.std.specs.Result.{IsErrOf}
-use Rattle.bdb_base.specs.Causes.{HasCause, Rose}
+use Rattle.bdb_base.specs.Causes.{Rose}
 use Rattle.bdb_keep.specs.Calls.{IsUndo}
 use Rattle.bdb_keep.specs.Seen.{Seen, GoesOn, IsDropped, NeverFall, Steps}
 

@@ -1,15 +1,10 @@
 -- What was read before anything is written.
-use Rattle.std.proofs.Common.{◌≡◌, ◌∙◌, ℕ, ◌+◌, ◌-◌, ◌*◌, ◌^◌, ◌<◌, ◌≤◌, Bool, true, List, refl, ap, sym, subst, arith, length, Some}
-use Rattle.std.specs.Option.{is_some}
-use Rattle.std.specs.FinMap as map
-use Rattle.bdb_base.specs.Causes.{Rises}
+use Rattle.std.proofs.Common.{◌≡◌, ℕ, List, subst, Some}
 use Rattle.bdb_keep.specs.Tables.{Tables}
 use Rattle.bdb_tables.specs.Codec.{HasAt}
 use Rattle.bdb_tables.specs.InUse.{edge_codec}
-use Rattle.bdb_names.specs.Turned.{links_led, edges_led, edges_made, state_made}
-use Rattle.bdb_worlds.specs.Dropping.{pairs_led, edges_dropped, state_dropped, without_state}
 use Rattle.bdb_worlds.specs.Finds.{FindsMovers}
-use Rattle.bdb_worlds.specs.Growth.{IsTaken, with_state, state_writes}
+use Rattle.bdb_worlds.specs.Growth.{IsTaken}
 use Rattle.bdb_worlds.specs.Owns.{FindsEdges}
 
 -- reads of tables that stay are reads of the first ones

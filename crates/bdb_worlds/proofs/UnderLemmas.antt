@@ -3,20 +3,19 @@ use Rattle.std.proofs.Common.{◌≡◌, ◌∙◌, ℕ, Bool, true, false, not,
 use Rattle.std.specs.Prelude.{MatchOption}
 use Rattle.std.specs.Option.{option_map}
 use Rattle.std.specs.List.{AllByRecursion, list_any, list_all}
-use Rattle.std.specs.Ordering.{is_eq, is_lt, eq_by_cmp, nat_cmp, ordering_then}
+use Rattle.std.specs.Ordering.{is_eq, is_lt, eq_by_cmp}
 use Rattle.std.specs.declared.cmp.Ordering.{Ordering}
 use Rattle.std.specs.declared.cmp.Ordering.TheVariants.{Less, Equal, Greater}
-use Rattle.std.specs.FinMap as tables
 use Rattle.std.specs.FinMap.{find}
-use Rattle.std.proofs.lemmas.Bool.{cases_Bool, and_parts, and_from, and_left, or_left, or_from, or_cases, false≢true, false_from_ne_true, cond-true, cond-false, eqb-true, eq-eqb}
+use Rattle.std.proofs.lemmas.Bool.{and_parts, and_from, or_from, or_cases, false≢true, eqb-true, eq-eqb}
 use Rattle.bdb_base.specs.Segments.{is_prefix}
 use Rattle.bdb_base.specs.SortedSet.{ascending}
 use Rattle.bdb_keep.specs.Tables.{Tables, bytes_cmp}
 use Rattle.bdb_key.specs.Bytes.{num_bytes}
 use Rattle.bdb_key.specs.Grammar.{IsNum}
 use Rattle.bdb_key.proofs.Readings.{num_form}
-use Rattle.bdb_tables.specs.Codec.{Codec, KeepsOrder, HasOneRow, place}
-use Rattle.bdb_tables.specs.InUse.{IsPair, IsTriple, pair_bytes, triple_bytes, linked_codec, edge_codec, led_codec}
+use Rattle.bdb_tables.specs.Codec.{Codec, KeepsOrder, HasOneRow}
+use Rattle.bdb_tables.specs.InUse.{IsPair, pair_bytes, triple_bytes, linked_codec, edge_codec, led_codec}
 use Rattle.bdb_tables.specs.InUseLaws.{pairs_in_order, triples_in_order, number_rows_are_one, empty_rows_are_one}
 use Rattle.bdb_tables.specs.Names.{is_listed, are_once, leads_to}
 use Rattle.bdb_tables.specs.Spans.{AreUnder, IsUnder, entry_bytes, entry_cmp}

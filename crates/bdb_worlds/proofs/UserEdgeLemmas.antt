@@ -1,20 +1,19 @@
 -- An edge of each world for a new user, one world after the other.
-use Rattle.std.proofs.Common.{◌≡◌, ◌∙◌, ℕ, ◌+◌, ◌≤◌, ◌<◌, ◌^◌, Bool, true, false, not, ◌&&◌, nat_eq, nat_lt, cond, List, [], ◌∷◌, refl, ap, sym, subst, inl, inr, ◌⊎◌, suc, zero, arith, length, Option, Some, None}
-use Rattle.std.specs.Prelude.{MatchOption}
+use Rattle.std.proofs.Common.{◌≡◌, ◌∙◌, ℕ, ◌+◌, ◌≤◌, ◌<◌, Bool, true, false, ◌&&◌, nat_eq, nat_lt, cond, List, refl, ap, sym, subst, inl, inr, arith, length, Option, Some, None}
 use Rattle.std.specs.Option.{option_map, is_some}
-use Rattle.std.specs.Ordering.{is_le, nat_cmp}
+use Rattle.std.specs.Ordering.{is_le}
 use Rattle.std.specs.FinMap as tables
-use Rattle.std.proofs.lemmas.Bool.{cases_Bool, and_parts, and_from, and_left, and_right, false≢true, false_from_ne_true, cond-true, cond-false, eqb-true, eq-eqb, ne_eqb, eqb-false, ltb-true, lt-ltb, le-ltb, cases_lt}
+use Rattle.std.proofs.lemmas.Bool.{cases_Bool, and_right, false≢true, cond-true, cond-false, eqb-true, eqb-false, lt-ltb, le-ltb, cases_lt}
 use Rattle.bdb_keep.specs.Tables.{Tables}
 use Rattle.bdb_key.specs.Bytes.{num_bytes}
 use Rattle.bdb_key.specs.Grammar.{IsNum}
 use Rattle.bdb_tables.specs.Codec.{HasFirst, IsFirst, place}
 use Rattle.bdb_tables.specs.InUse.{depth_codec}
-use Rattle.bdb_tables.specs.Names.{Names, path_of, depth_of, link_of, edge_of}
+use Rattle.bdb_tables.specs.Names.{path_of, depth_of, link_of, edge_of}
 use Rattle.bdb_tables.specs.States.{HoldsStates, TablesAre}
 use Rattle.bdb_names.specs.Drops.{with_one_user}
 use Rattle.bdb_names.specs.Turned.{edge_set, with_edge}
-use Rattle.bdb_names.proofs.NameLemmas.{edge_found, none_is_some, some_of}
+use Rattle.bdb_names.proofs.NameLemmas.{edge_found}
 use Rattle.bdb_names.proofs.TurnedLemmas.{edge_set_is, tables_same}
 use Rattle.bdb_names.proofs.UserLemmas.{edges_with_user, own_with_user}
 use Rattle.bdb_worlds.specs.Holding.{Worlds}

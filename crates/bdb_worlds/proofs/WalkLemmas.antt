@@ -1,19 +1,18 @@
 -- One step of the walk of a path: the edge of a world for the next user.
-use Rattle.std.proofs.Common.{◌≡◌, ◌∙◌, ℕ, ◌+◌, ◌-◌, ◌≤◌, ◌<◌, ◌^◌, Bool, true, false, ◌&&◌, List, [], ◌∷◌, ◌++◌, refl, ap, sym, subst, inl, inr, suc, zero, arith, length, take, get_or, Option, Some, None}
+use Rattle.std.proofs.Common.{◌≡◌, ◌∙◌, ℕ, ◌+◌, ◌-◌, ◌<◌, ◌^◌, Bool, true, ◌&&◌, List, [], ◌∷◌, ◌++◌, refl, ap, sym, suc, zero, arith, length, take, get_or, Option, Some, None}
 use Rattle.std.specs.List.{list_all}
-use Rattle.std.proofs.lemmas.Bool.{and_parts, false≢true}
+use Rattle.std.proofs.lemmas.Bool.{and_parts}
 use Rattle.bdb_base.specs.Alternation.{alternates, begins_otherwise}
 use Rattle.bdb_base.specs.Causes.{Rises, RoseBy}
 use Rattle.bdb_base.specs.States.{deepest_suffix}
 use Rattle.bdb_paths.proofs.SuffixLemmas.{suffixes_extend, deepest_is_suffix}
 use Rattle.bdb_keep.specs.Tables.{Tables}
-use Rattle.bdb_key.specs.Grammar.{IsNum}
 use Rattle.bdb_tables.specs.Codec.{HasAt}
 use Rattle.bdb_tables.specs.InUse.{IsPair, edge_codec}
-use Rattle.bdb_tables.specs.Names.{Names, path_of, number_of, is_named, edge_of}
+use Rattle.bdb_tables.specs.Names.{Names, number_of, is_named}
 use Rattle.bdb_tables.specs.States.{HoldsStates}
 use Rattle.bdb_names.proofs.Ends.{no_own_end, ends_otherwise}
-use Rattle.bdb_names.proofs.NameLemmas.{edge_at, edge_is, deep_number, deep_is_named, none_is_some, same_some}
+use Rattle.bdb_names.proofs.NameLemmas.{edge_at, edge_is, deep_number, none_is_some}
 use Rattle.bdb_worlds.specs.Holding.{Worlds, HoldSome, LeadsTo}
 use Rattle.bdb_worlds.proofs.ReadLemmas.{edge_read}
 

@@ -1,5 +1,6 @@
 -- How a state goes.
-use Rattle.std.specs.Prelude.{◌≡◌, ◌≢◌, ℕ, Bool, false, List, [], ◌∷◌, ◌++◌, Option, None, Some, map}
+use Rattle.std.specs.Prelude.{◌≡◌, ◌≢◌, ℕ, ◌+◌, ◌*◌, Bool, false, List, [], ◌∷◌, ◌++◌, length, None, Some, map}
+use Rattle.bdb_base.specs.Causes.{Rises}
 use Rattle.bdb_keep.specs.Tables.{Tables}
 use Rattle.bdb_key.specs.Bytes.{num_bytes}
 use Rattle.bdb_tables.specs.Codec.{HasAt}
@@ -8,7 +9,7 @@ use Rattle.bdb_tables.specs.Names.{Names, number_of, is_named, without_name}
 use Rattle.bdb_tables.specs.Spans.{AreUnder}
 use Rattle.bdb_tables.specs.States.{HoldsStates}
 use Rattle.bdb_tables.specs.Writes.{with_change}
-use Rattle.bdb_names.specs.Turned.{link_set, edge_set, same_edge, links_led}
+use Rattle.bdb_names.specs.Turned.{link_set, edge_set, links_led}
 
 -- the edges of these worlds and users lead to `n` in place of `s`
 abbrev pub pairs_led : Tables → ℕ → ℕ → List (ℕ × ℕ) → Tables
@@ -60,3 +61,12 @@ pub record IsDroppedState (t u : Tables) (n : ℕ) : Type 0 where
 abbrev pub DropTakesState : Type 0
 DropTakesState = (users : ℕ → Bool) (ns : Names) (t u : Tables) (n : ℕ) (p : List ℕ) → HoldsStates users ns t → IsDroppedState t u n → number_of ns p ≡ Some n
     → p ≢ [] → ((i : ℕ) → is_named ns (p ++ i ∷ []) ≡ false) → HoldsStates users (without_name ns n p) u
+
+-- how many writes that takes: three for each edge and link that led to the state, two for each of its own edges, and three
+abbrev pub dropped_writes : List ((ℕ × ℕ × ℕ) × Unit {0}) → List ((ℕ × ℕ) × Unit {0}) → List ((ℕ × ℕ) × ℕ) → ℕ
+dropped_writes edges links own = 3 * length edges + (3 * length links + (2 * length own + 3))
+
+-- a state is taken away, in so many writes
+pub record IsDropped (t u : Tables) (n before now : ℕ) : Type 0 where
+  pub state : IsDroppedState t u n
+  pub count : Rises (dropped_writes state.led_rows state.linked_rows state.edge_rows) before now

@@ -1,5 +1,5 @@
 -- How states are added along a path.
-use Rattle.std.specs.Prelude.{◌≡◌, ℕ, ◌+◌, ◌-◌, ◌*◌, ◌≤◌, ◌<◌, suc, Bool, true, false, ◌&&◌, ◌||◌, nat_le, List, [], ◌∷◌, length, take, Option, Some}
+use Rattle.std.specs.Prelude.{◌≡◌, ℕ, ◌+◌, ◌-◌, ◌*◌, ◌≤◌, ◌<◌, suc, true, false, ◌&&◌, ◌||◌, nat_le, List, [], ◌∷◌, length, take, Some}
 use Rattle.std.specs.List.{list_all}
 use Rattle.std.specs.FinMap as map
 use Rattle.bdb_base.specs.Causes.{Rises}
@@ -7,7 +7,7 @@ use Rattle.bdb_base.specs.Segments.{is_prefix}
 use Rattle.bdb_keep.specs.Tables.{Tables}
 use Rattle.bdb_tables.specs.Codec.{HasAt}
 use Rattle.bdb_tables.specs.InUse.{edge_codec}
-use Rattle.bdb_tables.specs.Names.{Names, path_of, number_of, is_named, with_name}
+use Rattle.bdb_tables.specs.Names.{Names, most_numbered, is_named, with_name}
 use Rattle.bdb_tables.specs.States.{HoldsStates}
 use Rattle.bdb_names.specs.Turned.{links_led, edges_led, edges_made, state_made}
 use Rattle.bdb_worlds.specs.Finds.{FindsMovers}
@@ -54,7 +54,7 @@ AreLeast ns path len [] = Unit {0}
 AreLeast ns path len (n ∷ new) = IsLeastFree ns n × AreLeast (with_name ns n (take (suc len) path)) path (suc len) new
 
 -- Tables hold as many states as `worlds`, over users among whom are those of a path, and with the prefixes of the path
--- there are at most 65,536.
+-- there are no more than may have numbers.
 pub record MayGrow (s : Worlds) (t : Tables) (path : List ℕ) (worlds : ℕ) : Type 0 where
   pub states : HoldsStates s.users s.names t
   pub own : list_all s.users path ≡ true
@@ -62,8 +62,8 @@ pub record MayGrow (s : Worlds) (t : Tables) (path : List ℕ) (worlds : ℕ) : 
   pub stands : ℕ
   pub within : stands ≤ length path
   pub named : is_named s.names (take stands path) ≡ true
-  pub room : worlds + (length path - stands) ≤ 65536
-  pub short : length path < 65536
+  pub room : worlds + (length path - stands) ≤ most_numbered
+  pub short : length path < most_numbered
 
 -- The prefixes of a path are states: those that were none have these numbers, shortest first, each the least one not in
 -- use.

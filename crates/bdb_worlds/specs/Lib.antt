@@ -1,3 +1,4 @@
+pub mod Bounds
 pub mod Dropping
 pub mod Finds
 pub mod Free
@@ -6,4 +7,6 @@ pub mod Holding
 pub mod Owns
 pub mod Reach
 pub mod Root
+pub mod Shrinking
+pub mod Staying
 pub mod UserEdges

@@ -1,5 +1,5 @@
 -- The tables of a base without statements: one world, the empty path's.
-use Rattle.std.specs.Prelude.{◌≡◌, ℕ, ◌≤◌, Bool, false, ◌&&◌, nat_eq, nat_le, true, cond, List, [], ◌∷◌, Option, None, Some}
+use Rattle.std.specs.Prelude.{◌≡◌, ℕ, false, ◌&&◌, nat_eq, nat_le, true, cond, List, [], ◌∷◌, None, Some}
 use Rattle.std.specs.FinMap as map
 use Rattle.bdb_base.specs.Same.{same_path}
 use Rattle.bdb_keep.specs.Tables.{Tables}

@@ -1,8 +1,9 @@
 // States along a path that come to be.
-ghost use Rattle.std.specs.Prelude.{◌≡◌, true, IfOk, OnOk};
+ghost use Rattle.std.specs.Prelude.{◌≡◌, ◌+◌, true, IfOk, OnOk, length};
 ghost use Rattle.bdb_base.specs.Alternation.{alternates};
 ghost use Rattle.bdb_keep.specs.Seen.{NeverFall, Steps};
 ghost use Rattle.bdb_tables.specs.Grammar.{InGrammar};
+ghost use Rattle.bdb_worlds.specs.Bounds.{WritesWithin};
 ghost use Rattle.bdb_worlds.specs.Growth.{AddsStates, SomeMayGrow, SameOutside};
 
 use crate::free::free_number;
@@ -13,7 +14,8 @@ use bdb_tables::TabError;
 use std::alloc::Global;
 
 /// Makes states of all prefixes of a path, where the tables hold as many states as `worlds`: the numbers of the new
-/// states, shortest first. Each is the least number that was not in use.
+/// states, shortest first. Each is the least number that was not in use. For each place at which the rows before and
+/// after differ, no more writes are made than the path has users, and two.
 pub fn add_states<K: Keeper>(
     alloc: Global,
     keeper: &mut K,
@@ -27,6 +29,7 @@ pub fn add_states<K: Keeper>(
     ensures added { IfOk result (λ new. AddsStates (K.seen keeper.old).kept (K.seen keeper.new).kept path.now worlds new.items) }
     ensures others { OnOk result (SameOutside 6 10 (K.seen keeper.old).kept (K.seen keeper.new).kept) }
     ensures grammar { OnOk result (InGrammar (K.seen keeper.new).kept) }
+    ensures writes { OnOk result (WritesWithin (length path.now + 2) (K.seen keeper.old) (K.seen keeper.new)) }
     ensures counts { NeverFall (K.seen keeper.old) (K.seen keeper.new) }
     ensures steps { Steps (K.seen keeper.old) (K.seen keeper.new) result TabError.Fault }
 {

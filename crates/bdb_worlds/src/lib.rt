@@ -3,18 +3,23 @@
 #![tactic(auto)]
 
 mod children;
+mod dropping;
 mod free;
 mod growing;
 pub mod laws;
 mod leading;
+mod leaving;
 mod making;
 mod moving;
 mod owning;
 mod reach;
+mod staying;
 mod taking;
 mod users;
 mod walk;
 
+pub use dropping::drop_states;
 pub use growing::add_states;
+pub use reach::longest_state;
 pub use users::add_user_edges;
 pub use walk::resolve;

@@ -1,4 +1,4 @@
-use Rattle.std.proofs.Common.{◌≡◌, ◌∙◌, sym, subst, refl, rules, Some, None}
+use Rattle.std.proofs.Common.{sym, subst, refl, rules, Some, None}
 use Rattle.bdb_key.specs.Grammar.{IsNum}
 use Rattle.bdb_tables.specs.Codec.{HasFirst}
 use Rattle.bdb_tables.specs.Grammar.{InGrammar}
@@ -6,7 +6,7 @@ use Rattle.bdb_tables.specs.InUse.{depth_codec}
 use Rattle.bdb_tables.proofs.Numbered.{at_old}
 use Rattle.bdb_worlds.proofs.FreeLemmas.{count_is_free, all_begin, all_more, tried_is_free}
 use Rattle.bdb_worlds.proofs.ReadLemmas.{depths_fit}
-use Rattle.bdb_worlds.proofs.StepsLemmas.{goes_then, falls_then, steps_err, steps_ok}
+use Rattle.bdb_worlds.proofs.StepsLemmas.{steps_err}
 use Rattle.bdb_worlds.proofs.UserEdgeLemmas.{number_from_low}
 use Rattle.bdb_worlds.proofs.free.free_number.Goals as goal
 

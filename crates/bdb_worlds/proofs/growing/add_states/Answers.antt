@@ -1,10 +1,11 @@
-use Rattle.std.proofs.Common.{◌≡◌, ◌∙◌, ◌+◌, ◌<◌, ◌≤◌, get_or, sym, ap, subst, refl, rules, arith, length, true}
+use Rattle.std.proofs.Common.{◌≡◌, ◌∙◌, ◌+◌, ◌<◌, get_or, sym, ap, subst, refl, rules, arith, length, true}
 use Rattle.std.specs.Option.{is_some}
 use Rattle.std.specs.FinMap as map
 use Rattle.bdb_tables.specs.Codec.{place}
 use Rattle.bdb_tables.specs.InUse.{edge_codec}
 use Rattle.bdb_tables.specs.declared.tab.TabError.TheVariants.{Fault, Memory}
 use Rattle.bdb_worlds.proofs.GrowLemmas.{growing_begins, growing_at, growing_more, growing_ends, added_at, has_edge, is_room, length-snoc}
+use Rattle.bdb_worlds.proofs.MadeLemmas.{Making, making_begins, making_more, making_ends}
 use Rattle.bdb_worlds.proofs.OutsideLemmas.{SameElsewhere, same_itself, outside_then, added_outside}
 use Rattle.bdb_worlds.proofs.StepsLemmas.{goes_then, falls_then, steps_undone}
 use Rattle.bdb_worlds.proofs.growing.add_states.Goals as goal
@@ -20,6 +21,7 @@ loop-k-init g c =
     record {
       at = growing_at t t u c.args.path.now c.args.worlds c.in-Ok.found.0 _ c.in-Ok.found.1 0 c.in-Ok.ensures.kept
           (growing_begins t c.args.path.now c.args.worlds c.in-Ok.found.0 c.in-Ok.found.1 _ c.new-numbers.ensures.items c.in-Ok.ensures.found);
+      made = making_begins t c.args.path.now c.args.worlds c.in-Ok.found.0 _ _ _ c.new-numbers.ensures.items c.in-Ok.ensures.writes;
       others = subst (SameElsewhere t) (sym c.in-Ok.ensures.kept) (same_itself t);
       grammar = search rules;
       done = omega arith;
@@ -58,6 +60,9 @@ loop-k-preserved g c =
     record {
       at = growing_more t u c.args.path.now c.args.worlds c.in-Ok.found.0 _ c.loop-k.at c.loop-k.low c.loop-k.k done c.requires.apart inside c.loop-k.invariant.at
           c.loop-k.count _ c.in-Ok-free_number.number _ _ v count refl c.in-Ok-free_number.ensures.number added _ c.in-Ok-push.ensures.items;
+      made = making_more t u c.args.path.now c.args.worlds c.in-Ok.found.0 _ c.loop-k.at c.loop-k.low c.loop-k.k done c.requires.apart inside c.loop-k.invariant.at
+          c.loop-k.count _ c.in-Ok-free_number.number _ _ v count refl c.in-Ok-free_number.ensures.number added _ c.in-Ok-push.ensures.items
+          _ (subst (λ w. Making t c.args.path.now c.args.worlds c.in-Ok.found.0 c.loop-k.numbers.items (g.K.Keeper.seen c.args.keeper.now).writes w) (sym c.in-Ok-free_number.ensures.writes) c.loop-k.invariant.made);
       others = outside_then t u v c.loop-k.invariant.others (added_outside u v c.loop-k.at _ _ _ _ _ added);
       grammar = c.in-Ok-add_next.ensures.grammar;
       done = omega arith;
@@ -73,6 +78,13 @@ returns-clause-added g c =
     let done = c.loop-k.invariant.done in
     let whole : c.in-Ok.found.0 + length c.loop-k.numbers.items ≡ length c.args.path.now = search rules in
     growing_ends t u c.args.path.now c.args.worlds c.in-Ok.found.0 _ c.loop-k.at c.loop-k.low whole c.loop-k.invariant.at
+
+pub returns-clause-writes : goal.returns-clause-writes
+returns-clause-writes g c =
+    let done = c.loop-k.invariant.done in
+    let whole : c.in-Ok.found.0 + length c.loop-k.numbers.items ≡ length c.args.path.now = search rules in
+    making_ends (g.K.Keeper.seen c.args.keeper.now) (g.K.Keeper.seen c.loop-k.keeper) c.args.path.now c.args.worlds c.in-Ok.found.0 c.loop-k.numbers.items c.loop-k.at c.loop-k.low
+    c.requires.room whole c.loop-k.invariant.at c.loop-k.invariant.made
 
 pub returns-in-Err-push-clause-steps : goal.returns-in-Err-push-clause-steps
 returns-in-Err-push-clause-steps g c =

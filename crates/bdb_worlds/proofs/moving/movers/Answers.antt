@@ -1,4 +1,4 @@
-use Rattle.std.proofs.Common.{◌≡◌, sym, ap, ◌∙◌, rules, arith, ◌≤◌, ◌<◌, ◌+◌, length, refl, slice_get, Some, None}
+use Rattle.std.proofs.Common.{◌≡◌, sym, ap, ◌∙◌, rules, ◌≤◌, ◌<◌, length, refl, slice_get, Some, None}
 use Rattle.bdb_worlds.proofs.StepLemmas.{get_at, child_at, visit_at, searching_from, searching_child, searching_next, searching_ends}
 use Rattle.bdb_worlds.proofs.moving.movers.Goals as goal
 

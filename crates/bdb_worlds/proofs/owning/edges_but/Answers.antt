@@ -1,6 +1,6 @@
-use Rattle.std.proofs.Common.{◌≡◌, ◌∙◌, sym, ap, subst, refl, rules, nat_eq, true, false, Some, None}
+use Rattle.std.proofs.Common.{◌≡◌, refl, rules, nat_eq, true, false, Some, None}
 use Rattle.bdb_key.specs.Grammar.{IsNum}
-use Rattle.bdb_worlds.proofs.OwnLemmas.{next_at, read_begins, read_past, read_more, read_ends}
+use Rattle.bdb_worlds.proofs.OwnLemmas.{next_at, read_past, read_more, read_ends}
 use Rattle.bdb_worlds.proofs.owning.edges_but.Goals as goal
 
 pub returns-in-Ok-None-clause-edges : goal.returns-in-Ok-None-clause-edges

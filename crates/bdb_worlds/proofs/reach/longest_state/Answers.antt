@@ -1,10 +1,9 @@
-use Rattle.std.proofs.Common.{◌≡◌, ◌∙◌, ◌+◌, sym, ap, subst, refl, rules, Some, None}
-use Rattle.bdb_keep.specs.Seen.{Seen, GoesOn}
+use Rattle.std.proofs.Common.{◌≡◌, ◌∙◌, ◌+◌, sym, subst, rules, Some, None}
 use Rattle.bdb_tables.specs.Grammar.{InGrammar}
 use Rattle.bdb_tables.specs.InUse.{edge_codec, depth_codec}
 use Rattle.bdb_tables.proofs.Numbered.{at_old}
-use Rattle.bdb_worlds.proofs.ReachLemmas.{reached_more, reach_ends, edge_is_there, depth_is_there, reach_whole}
-use Rattle.bdb_worlds.proofs.ReadLemmas.{edges_fit, depths_fit}
+use Rattle.bdb_worlds.proofs.ReachLemmas.{reached_more, reach_ends, edge_is_there, depth_is_there}
+use Rattle.bdb_worlds.proofs.ReadLemmas.{depths_fit}
 use Rattle.bdb_worlds.proofs.StepsLemmas.{goes_then, falls_then, steps_err, steps_ok}
 use Rattle.bdb_worlds.proofs.reach.longest_state.Goals as goal
 

@@ -1,5 +1,3 @@
-use Rattle.std.proofs.Common.{◌≡◌, ◌+◌, drop, take, length}
-use Rattle.std.specs.List.{AllByRecursion}
 use Rattle.bdb_keep.specs.Seen.{NeverFall, GoesOn}
 use Rattle.bdb_tables.specs.Grammar.{InGrammar}
 use Rattle.bdb_worlds.proofs.UserEdgeLemmas.{UserAddedTo}

@@ -1,5 +1,4 @@
 use Rattle.std.proofs.Common.{sym, ap, ◌∙◌, rules, Some, None}
-use Rattle.bdb_tables.specs.Codec.{HasAt}
 use Rattle.bdb_tables.specs.InUse.{edge_codec}
 use Rattle.bdb_tables.proofs.Numbered.{at_old}
 use Rattle.bdb_worlds.proofs.WalkLemmas.{rises_more, step_leads, step_there}
