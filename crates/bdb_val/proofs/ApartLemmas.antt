@@ -1,10 +1,9 @@
 -- Where no number stands twice among rows, none is changed twice.
-use Rattle.std.proofs.Common.{◌≡◌, ◌∙◌, ℕ, Bool, true, false, ◌&&◌, ◌||◌, nat_eq, List, [], ◌∷◌, ◌++◌, cond, inl, inr, refl, ap, sym, is_some}
+use Rattle.std.proofs.Common.{◌≡◌, ◌∙◌, ℕ, Bool, true, false, nat_eq, List, [], ◌∷◌, ◌++◌, cond, inl, inr, refl, ap, sym, is_some}
 use Rattle.std.specs.List.{list_any, flat_map}
-use Rattle.std.proofs.lemmas.Bool.{true≢false, false≢true, cases_Bool, or_cases, or_left, or_right, or_from, or_parts, false_from_ne_true, cond-true, cond-false, eqb-true, eq-eqb}
+use Rattle.std.proofs.lemmas.Bool.{false≢true, cases_Bool, or_cases, or_left, or_right, or_from, or_parts, false_from_ne_true, cond-true, cond-false, eqb-true, eq-eqb}
 use Rattle.std.proofs.lemmas.List.Folds.{list_any-append}
-use Rattle.bdb_base.proofs.WorldRowsLemmas.{list_any-flat_map}
-use Rattle.bdb_val.specs.Settling.{Change, mark_in, next_mark, same_mark, change_at, has_mark, fresh_change, settling, are_apart, are_changes_apart}
+use Rattle.bdb_val.specs.Settling.{Change, mark_in, next_mark, same_mark, change_at, has_mark, fresh_change, are_apart, are_changes_apart}
 use Rattle.bdb_val.specs.Laws.{SettlingIsApart}
 use Rattle.bdb_val.specs.declared.stored.Stored.{Stored}
 use Rattle.bdb_val.proofs.SettlingLemmas.{mark_is_some}

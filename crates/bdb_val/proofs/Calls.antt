@@ -1,8 +1,8 @@
 -- Calls that read and then write, one after the other.
-use Rattle.std.proofs.Common.{◌≡◌, ◌∙◌, ℕ, ◌≤◌, Ok, Err, refl, ap, sym, arith}
+use Rattle.std.proofs.Common.{◌∙◌, Ok, Err, arith}
 use Rattle.std.specs.Result.{IsErrOf}
 use Rattle.bdb_keep.specs.Calls.{IsRead, IsWrite, IsUndo}
-use Rattle.bdb_keep.specs.Seen.{Seen, GoesOn, NeverFall, Steps}
+use Rattle.bdb_keep.specs.Seen.{Seen, GoesOn, NeverFall}
 use Rattle.bdb_tables.proofs.Loops.{goes_then, counts_then, steps_ok, steps_err}
 use Rattle.bdb_val.specs.Steps.{IsChanging}
 

@@ -1,11 +1,10 @@
 -- What copying and clearing worlds does to the rows that the tables give.
-use Rattle.std.proofs.Common.{◌≡◌, ◌∙◌, ℕ, Bool, true, false, not, ◌&&◌, ◌||◌, nat_eq, List, [], ◌∷◌, ◌++◌, ◌⊎◌, length, Option, Some, None, MatchOption, cond, inl, inr, is_some, map, refl, ap, sym, subst}
+use Rattle.std.proofs.Common.{◌≡◌, ◌∙◌, ℕ, true, false, ◌||◌, nat_eq, List, [], ◌∷◌, ◌++◌, ◌⊎◌, Option, Some, None, cond, inl, inr, is_some, map, refl, ap, sym, subst}
 use Rattle.std.specs.List.{list_any, list_all, AllByRecursion}
 use Rattle.std.specs.Option.{option_map}
 use Rattle.std.specs.Ordering.{is_eq, is_lt, eq_by_cmp}
 use Rattle.std.specs.FinMap as tables
 use Rattle.std.proofs.lemmas.Bool.{true≢false, false≢true, cases_Bool, and_parts, or_cases, or_left, or_right, false_from_ne_true, cond-true, cond-false, eqb-true, eq-eqb}
-use Rattle.bdb_base.specs.declared.kinds.Value.{Value}
 use Rattle.bdb_base.specs.Segments.{is_prefix}
 use Rattle.bdb_base.specs.SortedSet.{ascending}
 use Rattle.bdb_keep.specs.Tables.{Tables, bytes_cmp}
@@ -17,7 +16,7 @@ use Rattle.bdb_tables.specs.Codec.{place}
 use Rattle.bdb_tables.specs.InUse.{ValKey, IsValKey, val_bytes, val_codec}
 use Rattle.bdb_tables.specs.InUseLaws.{vals_are_one, vals_in_order, mark_rows_are_one}
 use Rattle.bdb_tables.specs.Marks.{Mark}
-use Rattle.bdb_tables.specs.Spans.{AreUnder, IsUnder, entry_bytes, entry_cmp}
+use Rattle.bdb_tables.specs.Spans.{AreUnder, IsUnder, entry_cmp}
 use Rattle.bdb_tables.specs.Writes.{IsChange, MayBeChange, Gives, with_changes, with_row_at, with_rows_at}
 use Rattle.bdb_tables.proofs.Held.{same_place, some_same, none_some}
 use Rattle.bdb_tables.proofs.WriteLemmas.{changes_give, gives_same}
@@ -29,13 +28,13 @@ use Rattle.bdb_val.proofs.ToldLemmas.{entries_stand}
 
 -- ---- each row is found by its key
 
-not_below_itself : (b : List ℕ) → is_lt (bytes_cmp b b) ≡ true → ⊥
+pub not_below_itself : (b : List ℕ) → is_lt (bytes_cmp b b) ≡ true → ⊥
 not_below_itself b e = true≢false (sym e ∙ ap is_lt (tied b b refl))
 
-abbrev IsFoundIn : List (ValKey × Mark) → ValKey × Mark → Type 0
+abbrev pub IsFoundIn : List (ValKey × Mark) → ValKey × Mark → Type 0
 IsFoundIn es e = rows_at es (val_bytes e.0) ≡ Some (mark_bytes e.1)
 
-each_found : (es : List (ValKey × Mark)) → ascending (entry_cmp val_codec) es ≡ true → AllByRecursion (IsFoundIn es) es
+pub each_found : (es : List (ValKey × Mark)) → ascending (entry_cmp val_codec) es ≡ true → AllByRecursion (IsFoundIn es) es
 each_found [] a = tt
 each_found (e ∷ es) a =
     let p = and_parts (list_all (λ y. is_lt (entry_cmp val_codec e y)) es) (ascending (entry_cmp val_codec) es) a in (
@@ -75,10 +74,10 @@ same_key a b fa fb e = vals_are_one a b fa fb (same_place (val_bytes a) (val_byt
 same_key_from : (a b : ValKey) → IsValKey a → IsValKey b → a ≡ b → is_eq (val_codec.key_cmp a b) ≡ true
 same_key_from a b fa fb e = ap is_eq (sym (vals_in_order a b fa fb)) ∙ ap is_eq (tied (val_bytes a) (val_bytes b) (ap val_bytes e))
 
-key_in_fits : (wid : ℕ) (k : ValKey) → IsNum wid → IsValKey k → IsValKey (key_in wid k)
+pub key_in_fits : (wid : ℕ) (k : ValKey) → IsNum wid → IsValKey k → IsValKey (key_in wid k)
 key_in_fits wid k n f = record { world = n; rel = f.rel; value = f.value; tuple = f.tuple }
 
-key_in_own : (wid : ℕ) (k : ValKey) → k.0 ≡ wid → key_in wid k ≡ k
+pub key_in_own : (wid : ℕ) (k : ValKey) → k.0 ≡ wid → key_in wid k ≡ k
 key_in_own wid k e = ap (λ (n : ℕ). key_in n k) (sym e)
 
 module _ (t : Tables) (f : ValKey → Option Mark) (h : Gives val_codec t f) (wid : ℕ) (n : IsNum wid) (es : List (ValKey × Mark)) (u : AreUnder val_codec t (world_prefix wid) es) where

@@ -1,35 +1,31 @@
 -- Settled rows are those of tables that hold the rows of the worlds, and the other way round.
-use Rattle.std.proofs.Common.{◌≡◌, ◌∙◌, ℕ, Bool, true, false, not, ◌&&◌, ◌||◌, nat_eq, List, [], ◌∷◌, Option, Some, None, MatchOption, cond, inl, inr, refl, ap, sym, subst, is_some, length, take, ◌<◌, arith}
-use Rattle.std.specs.List.{list_any, AllByRecursion}
+use Rattle.std.proofs.Common.{◌≡◌, ◌∙◌, ℕ, Bool, true, false, not, ◌&&◌, nat_eq, List, [], ◌∷◌, Option, Some, None, MatchOption, cond, inl, inr, refl, ap, sym, subst, is_some, length, take, ◌<◌, arith}
 use Rattle.std.specs.Option.{option_and_then}
-use Rattle.std.proofs.lemmas.Bool.{true≢false, false≢true, cases_Bool, and_parts, and_from, or_left, false_from_ne_true, cond-true, cond-false, eqb-true, eq-eqb}
+use Rattle.std.proofs.lemmas.Bool.{false≢true, cases_Bool, and_parts, and_from, or_left, cond-true, cond-false, eqb-true, eq-eqb}
 use Rattle.bdb_base.specs.declared.kinds.Sign.{Sign}
 use Rattle.bdb_base.specs.declared.kinds.Sign.TheVariants.{Plus, Minus}
 use Rattle.bdb_base.specs.declared.kinds.Stmt.{Stmt}
 use Rattle.bdb_base.specs.declared.kinds.Value.{Value}
 use Rattle.bdb_base.specs.declared.tuple.Tuple.{Tuple}
 use Rattle.bdb_base.specs.Clash.{key_of}
-use Rattle.bdb_base.specs.Same.{same_tuple, same_values}
+use Rattle.bdb_base.specs.Same.{same_values}
 use Rattle.bdb_base.specs.SameLemmas.{same_values-Decides, same_tuple-Decides}
-use Rattle.bdb_base.specs.States.{is_state, deepest_suffix, suffix_link}
+use Rattle.bdb_base.specs.States.{deepest_suffix, suffix_link}
 use Rattle.bdb_base.specs.Worlds.{explicit, stated, contradicted, IsConsistent}
 use Rattle.bdb_base.proofs.WorldLemmas.{explicit_tuple, worlds_are_consistent}
 use Rattle.bdb_paths.proofs.SuffixLemmas.{deepest_is_member}
 use Rattle.bdb_keep.specs.Tables.{Tables}
-use Rattle.bdb_key.specs.Grammar.{IsNum}
 use Rattle.bdb_key.specs.Rows.{IsTupleRow}
 use Rattle.bdb_tables.specs.InUse.{ValKey, IsValKey, val_codec}
-use Rattle.bdb_tables.specs.Marks.{Mark, sign_by, sign_in, sign_of, explicit_of, explicit_sign, marked, mark_of}
-use Rattle.bdb_tables.specs.Names.{Names, AreNames, path_of, number_of, is_named, link_of}
-use Rattle.bdb_tables.specs.Rows.{Tuples, HoldsTuples, HoldsRows, has_key, row_named, row_for}
-use Rattle.bdb_tables.specs.Writes.{Gives}
+use Rattle.bdb_tables.specs.Marks.{Mark, sign_by, explicit_of, explicit_sign, marked, mark_of}
+use Rattle.bdb_tables.specs.Names.{Names, AreNames, path_of, number_of, is_named}
+use Rattle.bdb_tables.specs.Rows.{Tuples, HoldsTuples, has_key, row_named, row_for}
 use Rattle.bdb_tables.proofs.WriteLemmas.{gives_same}
 use Rattle.bdb_val.specs.Laws.{SettledRowsAreHeld, HeldRowsAreExplicit, HeldRowsAreSettled}
 use Rattle.bdb_val.specs.Middle.{worlds_of, HasExplicit, AreSettledBut}
-use Rattle.bdb_val.specs.Reads.{HasRows}
-use Rattle.bdb_val.specs.Settled.{Worlds, AreLinked, Rows, HasStates}
-use Rattle.bdb_val.specs.Settling.{key_value, row_key, AreNumbered}
-use Rattle.bdb_val.proofs.ReadLemmas.{key_fits, tuple_row}
+use Rattle.bdb_val.specs.Settled.{AreLinked, HasStates}
+use Rattle.bdb_val.specs.Settling.{key_value, row_key}
+use Rattle.bdb_val.proofs.ReadLemmas.{tuple_row}
 use Rattle.bdb_val.proofs.SettledLemmas.{settled_rows_are_right, right_rows_are_settled}
 
 -- ---- names are linked
@@ -128,7 +124,7 @@ settled_rows_are_held stmts ns tuple f t names states h settled =
 
 -- ---- held rows are explicit where there are statements, and settled. Tuples of other statements may have numbers too.
 
-explicit_is_stated : (keys : ℕ → ℕ) (stmts : List Stmt) (w : List ℕ) (u : Tuple) (s : Sign) → explicit stmts w u s ≡ true → stated keys stmts w u s ≡ true
+pub explicit_is_stated : (keys : ℕ → ℕ) (stmts : List Stmt) (w : List ℕ) (u : Tuple) (s : Sign) → explicit stmts w u s ≡ true → stated keys stmts w u s ≡ true
 explicit_is_stated keys stmts [] u s e = e
 explicit_is_stated keys stmts (i ∷ w) u s e = or_left (explicit stmts (i ∷ w) u s) (stated keys stmts w u s && not (contradicted keys stmts (i ∷ w) u s)) e
 

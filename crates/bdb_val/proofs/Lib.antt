@@ -1,8 +1,12 @@
 pub mod ApartLemmas
 pub mod Calls
 pub mod CopyLemmas
+pub mod CopyTells
 pub mod HeldLemmas
 pub mod NextMarks
+pub mod NumberedLemmas
+pub mod OtherLemmas
+pub mod PlaceLemmas
 pub mod ReadLemmas
 pub mod RealLemmas
 pub mod SettledLemmas
@@ -11,6 +15,8 @@ pub mod StateLemmas
 pub mod StepLemmas
 pub mod StepsMade
 pub mod ToldLemmas
+pub mod TreeLemmas
 pub mod VisitLemmas
 pub mod WalkLemmas
 pub mod WalkingLemmas
+pub mod WorldLemmas

@@ -1,19 +1,19 @@
 -- The row that a tuple is to have, by the rows that were read, is the settled one.
-use Rattle.std.proofs.Common.{◌≡◌, ◌∙◌, ℕ, Bool, true, false, ◌&&◌, nat_eq, List, [], ◌∷◌, Option, Some, None, cond, inl, inr, refl, ap, sym, MatchOption}
-use Rattle.std.specs.List.{list_any, AllByRecursion}
-use Rattle.std.proofs.lemmas.Bool.{true≢false, false≢true, cases_Bool, and_parts, and_from, or_cases, or_left, or_right, false_from_ne_true, cond-true, cond-false, eqb-true}
+use Rattle.std.proofs.Common.{◌≡◌, ◌∙◌, ℕ, Bool, true, false, ◌&&◌, nat_eq, List, [], ◌∷◌, Option, Some, None, cond, inl, inr, refl, ap, sym}
+use Rattle.std.specs.List.{AllByRecursion}
+use Rattle.std.proofs.lemmas.Bool.{false≢true, cases_Bool, and_parts, and_from, or_cases, or_left, or_right, false_from_ne_true, cond-true, cond-false, eqb-true}
 use Rattle.bdb_base.specs.declared.kinds.Sign.{Sign}
 use Rattle.bdb_base.specs.declared.kinds.Sign.TheVariants.{Plus, Minus}
 use Rattle.bdb_base.specs.declared.kinds.Stmt.{Stmt}
 use Rattle.bdb_base.specs.declared.tuple.Tuple.{Tuple}
 use Rattle.bdb_base.specs.Clash.{clash}
 use Rattle.bdb_base.specs.Same.{same_tuple, same_path, same_sign}
-use Rattle.bdb_base.specs.SameLemmas.{same_tuple-Decides, same_path-Decides, same_sign-Decides}
+use Rattle.bdb_base.specs.SameLemmas.{same_tuple-Decides, same_sign-Decides}
 use Rattle.bdb_base.specs.Worlds.{explicit, contradicted, IsConsistent}
 use Rattle.bdb_base.proofs.WorldLemmas.{explicit_apart}
-use Rattle.bdb_tables.specs.Marks.{Mark, sign_by, sign_of, explicit_of, explicit_sign}
+use Rattle.bdb_tables.specs.Marks.{Mark, sign_of, explicit_of, explicit_sign}
 use Rattle.bdb_val.specs.Settled.{passed_on, is_barred, settled_mark}
-use Rattle.bdb_val.specs.Settling.{mark_in, barred_by, next_mark, AreNamed, IsGroup, AreNumbered, IsStatedAt, AreExplicit}
+use Rattle.bdb_val.specs.Settling.{mark_in, barred_by, AreNamed, IsGroup, AreNumbered, IsStatedAt, AreExplicit}
 use Rattle.bdb_val.specs.Laws.{NextMarksAreSettled}
 use Rattle.bdb_val.specs.declared.stored.Stored.{Stored}
 

@@ -1,12 +1,11 @@
 -- The rows that are read from tables are those of the function that the tables give.
-use Rattle.std.proofs.Common.{◌≡◌, ◌∙◌, ℕ, Bool, true, false, not, ◌&&◌, ◌||◌, nat_eq, List, [], ◌∷◌, ◌++◌, Option, Some, None, MatchOption, cond, inl, inr, refl, ap, sym, subst, is_some, map, length, ◌<◌, arith}
-use Rattle.std.specs.declared.cmp.Ordering.TheVariants.{Less, Equal, Greater}
+use Rattle.std.proofs.Common.{◌≡◌, ◌∙◌, ℕ, Bool, true, false, nat_eq, List, [], ◌∷◌, ◌++◌, Option, Some, None, MatchOption, cond, inl, inr, refl, ap, sym, subst, is_some, map, length, ◌<◌, arith}
 use Rattle.std.specs.List.{list_any, list_all, AllByRecursion}
 use Rattle.std.specs.Option.{option_map}
 use Rattle.std.specs.Ordering.{is_eq, is_lt, eq_by_cmp}
 use Rattle.std.specs.FinMap as tables
 use Rattle.std.specs.FinMap.{find}
-use Rattle.std.proofs.lemmas.Bool.{true≢false, false≢true, cases_Bool, and_parts, and_from, or_from, or_cases, false_from_ne_true, cond-true, cond-false, eqb-true, eq-eqb}
+use Rattle.std.proofs.lemmas.Bool.{true≢false, false≢true, cases_Bool, and_parts, and_from, or_from, false_from_ne_true, cond-true, cond-false, eqb-true, eq-eqb}
 use Rattle.bdb_base.specs.declared.kinds.Value.{Value}
 use Rattle.bdb_base.specs.declared.tuple.Tuple.{Tuple}
 use Rattle.bdb_base.specs.Same.{same_value}
@@ -19,15 +18,14 @@ use Rattle.bdb_key.specs.Grammar.{IsNum, IsPlainValue, ArePlain}
 use Rattle.bdb_key.specs.Rows.{IsTupleRow, tuple_bytes, mark_bytes}
 use Rattle.bdb_key.proofs.Forms.{tied}
 use Rattle.bdb_key.proofs.Readings.{num_form, value_form}
-use Rattle.bdb_tables.specs.Codec.{HasRow, place}
+use Rattle.bdb_tables.specs.Codec.{HasRow}
 use Rattle.bdb_tables.specs.InUse.{ValKey, IsValKey, val_bytes, tuple_codec, val_codec}
 use Rattle.bdb_tables.specs.InUseLaws.{vals_are_one, mark_rows_are_one, tuple_rows_are_one}
 use Rattle.bdb_tables.specs.Spans.{AreUnder, IsUnder, entry_bytes, entry_cmp}
-use Rattle.bdb_tables.specs.Writes.{Gives}
 use Rattle.bdb_tables.proofs.Held.{same_place, some_same, none_some}
 use Rattle.bdb_tables.specs.Marks.{Mark}
 use Rattle.bdb_val.specs.Settling.{mark_in, AreNamed, are_apart, key_value, row_key}
-use Rattle.bdb_val.specs.Reads.{IsTold, AreTold, AreReadUnder, HasRows, IsSpan, world_prefix, group_prefix, is_of_group}
+use Rattle.bdb_val.specs.Reads.{AreTold, AreReadUnder, HasRows, IsSpan, world_prefix, group_prefix, is_of_group}
 use Rattle.bdb_val.specs.declared.stored.Stored.{Stored}
 
 -- the rows as they are found by the bytes of their keys
@@ -213,7 +211,7 @@ prefix_shorter (i ∷ p) r [] e = e
 prefix_shorter (i ∷ p) r (j ∷ q) e = let k = and_parts (nat_eq i j) (is_prefix (p ++ r) q) e in and_from (nat_eq i j) (is_prefix p q) k.0 (prefix_shorter p r q k.1)
 
 -- what follows a beginning
-prefix_rest : (p q : List ℕ) → is_prefix p q ≡ true → (r : List ℕ) × (q ≡ p ++ r)
+pub prefix_rest : (p q : List ℕ) → is_prefix p q ≡ true → (r : List ℕ) × (q ≡ p ++ r)
 prefix_rest [] q e = (q, refl)
 prefix_rest (i ∷ p) [] e = absurd (false≢true e)
 prefix_rest (i ∷ p) (j ∷ q) e =

@@ -1,9 +1,9 @@
 -- The changes that settle a world are at different places, and each alters its row.
-use Rattle.std.proofs.Common.{◌≡◌, ◌≢◌, ◌∙◌, ℕ, suc, Bool, true, false, not, ◌&&◌, ◌||◌, nat_eq, List, [], ◌∷◌, length, Option, Some, None, MatchOption, cond, inl, inr, map, refl, ap, sym, subst}
+use Rattle.std.proofs.Common.{◌≡◌, ◌≢◌, ◌∙◌, ℕ, suc, Bool, true, false, not, nat_eq, List, [], ◌∷◌, length, Option, Some, None, MatchOption, inl, inr, map, refl, ap, sym, subst}
 use Rattle.std.specs.List.{list_any, AllByRecursion}
 use Rattle.std.specs.Option.{option_map}
 use Rattle.std.specs.FinMap as tables
-use Rattle.std.proofs.lemmas.Bool.{true≢false, false≢true, cases_Bool, and_from, or_from, or_parts, not_from_false, false_from_ne_true, cond-true, cond-false, eq-eqb}
+use Rattle.std.proofs.lemmas.Bool.{false≢true, cases_Bool, and_from, or_from, or_parts, not_from_false, false_from_ne_true, cond-true, cond-false, eq-eqb}
 use Rattle.bdb_base.specs.Bases.{are_distinct}
 use Rattle.bdb_base.specs.Causes.{Rises}
 use Rattle.bdb_base.specs.Same.{same_text}
@@ -19,14 +19,12 @@ use Rattle.bdb_tables.specs.Differences.{AreDifferences, AreReal}
 use Rattle.bdb_tables.specs.InUse.{ValKey, val_bytes, link_codec, val_codec}
 use Rattle.bdb_tables.specs.InUseLaws.{vals_are_one, mark_rows_are_one}
 use Rattle.bdb_tables.specs.Marks.{Mark}
-use Rattle.bdb_tables.specs.Writes.{with_changes}
 use Rattle.bdb_tables.proofs.DifferenceLemmas.{changes_differ, differences_are_counted}
 use Rattle.bdb_tables.proofs.Held.{some_same, none_some}
 use Rattle.bdb_val.specs.Reads.{HasRows, AreReadUnder, is_of_group, group_prefix}
 use Rattle.bdb_val.specs.Settling.{Change, mark_in, settling, are_apart, are_changes_apart, row_key, keyed}
 use Rattle.bdb_val.specs.Steps.{AreSpans, IsSettling, IsStep, WritesDifferences, rows_made}
 use Rattle.bdb_val.specs.declared.stored.Settled.{Settled}
-use Rattle.bdb_val.specs.declared.stored.Stored.{Stored}
 use Rattle.bdb_val.proofs.ApartLemmas.{settling_is_apart}
 use Rattle.bdb_val.proofs.ReadLemmas.{key_fits, read_apart, group_span}
 use Rattle.bdb_val.proofs.SettlingLemmas.{settling_is_real}
@@ -38,7 +36,7 @@ one_mark None (Some n) e = absurd (none_some (mark_bytes n) e)
 one_mark (Some m) None e = absurd (none_some (mark_bytes m) (sym e))
 one_mark (Some m) (Some n) e = ap Some (mark_rows_are_one m n tt tt (some_same (mark_bytes m) (mark_bytes n) e))
 
-tail_same : (n : ℕ) (j k : List ℕ) → n ∷ j ≡ n ∷ k → j ≡ k
+pub tail_same : (n : ℕ) (j k : List ℕ) → n ∷ j ≡ n ∷ k → j ≡ k
 tail_same n j k e = cc
 
 module _ (tuple : ℕ → Option Tuple) (f : ValKey → Option Mark) (t : Tables) (h : HasRows tuple f t) (test : Tuple → Bool) (prefix : ℕ → List ℕ) (spans : AreSpans test prefix) (wid : ℕ) (w : IsNum wid) where
@@ -104,7 +102,7 @@ module _ (tuple : ℕ → Option Tuple) (f : ValKey → Option Mark) (t : Tables
     settling_differs = subst (λ v. AreDifferences (tables.get t) (tables.get v) (map (λ x. place val_codec x.0) (rows_made wid s.own s.from))) (sym s.written)
         (changes_differ val_codec t (rows_made wid s.own s.from) settling_real)
 
-length_mapped : {X Y : Type 0} (m : X → Y) (xs : List X) → length (map m xs) ≡ length xs
+pub length_mapped : {X Y : Type 0} (m : X → Y) (xs : List X) → length (map m xs) ≡ length xs
 length_mapped m [] = refl
 length_mapped m (x ∷ xs) = ap (λ n. suc n) (length_mapped m xs)
 

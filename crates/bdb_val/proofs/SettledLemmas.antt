@@ -1,6 +1,5 @@
 -- Settled rows are the rows of the worlds, and the other way round.
 use Rattle.std.proofs.Common.{◌≡◌, ◌∙◌, ℕ, Bool, true, false, not, ◌&&◌, ◌||◌, List, [], ◌∷◌, Option, Some, None, inl, inr, refl, ap, sym}
-use Rattle.std.specs.List.{list_any}
 use Rattle.std.proofs.lemmas.Bool.{true≢false, false≢true, cases_Bool, and_parts, and_from, false_from_ne_true}
 use Rattle.bdb_base.specs.declared.kinds.Sign.{Sign}
 use Rattle.bdb_base.specs.declared.kinds.Sign.TheVariants.{Plus, Minus}
@@ -8,13 +7,13 @@ use Rattle.bdb_base.specs.declared.kinds.Stmt.{Stmt}
 use Rattle.bdb_base.specs.declared.tuple.Tuple.{Tuple}
 use Rattle.bdb_base.specs.Clash.{clash}
 use Rattle.bdb_base.specs.Same.{same_tuple, same_path, same_sign}
-use Rattle.bdb_base.specs.SameLemmas.{same_tuple-Decides, same_path-Decides, same_sign-Decides}
+use Rattle.bdb_base.specs.SameLemmas.{same_tuple-Decides, same_sign-Decides}
 use Rattle.bdb_base.specs.States.{is_state, deepest_suffix}
 use Rattle.bdb_base.specs.Worlds.{explicit, stated, contradicted, IsConsistent}
-use Rattle.bdb_base.proofs.WorldLemmas.{list_any_weaker, plain_inheritance, worlds_are_consistent, explicit_apart}
-use Rattle.bdb_paths.proofs.SuffixLemmas.{deepest_here, deepest_past, deepest_of_member}
-use Rattle.bdb_tables.specs.Marks.{Mark, sign_by, sign_in, sign_of, explicit_sign, marked, mark_of}
-use Rattle.bdb_val.specs.Settled.{passed_on, is_barred, settled_mark, Worlds, AreLinked, Rows, sign_at, IsSettled, IsRight, HasStates}
+use Rattle.bdb_base.proofs.WorldLemmas.{list_any_weaker, plain_inheritance, worlds_are_consistent}
+use Rattle.bdb_paths.proofs.SuffixLemmas.{deepest_here, deepest_past}
+use Rattle.bdb_tables.specs.Marks.{sign_by, sign_in, sign_of, explicit_sign, marked, mark_of}
+use Rattle.bdb_val.specs.Settled.{passed_on, is_barred, settled_mark, Worlds, AreLinked, Rows, sign_at, IsSettled, HasStates}
 use Rattle.bdb_val.specs.Laws.{SettledRowsAreRight, RightRowsAreSettled}
 
 -- a test of signs by its two answers

@@ -1,15 +1,12 @@
 -- What the changes that settle a world's rows do.
-use Rattle.std.proofs.Common.{◌≡◌, ◌≢◌, ◌∙◌, ℕ, Bool, true, false, ◌&&◌, ◌||◌, nat_eq, List, [], ◌∷◌, ◌++◌, ◌⊎◌, Option, Some, None, cond, inl, inr, refl, ap, sym, subst, is_some}
+use Rattle.std.proofs.Common.{◌≡◌, ◌≢◌, ◌∙◌, ℕ, Bool, true, false, ◌||◌, nat_eq, List, [], ◌∷◌, ◌++◌, ◌⊎◌, Option, Some, None, cond, inl, inr, refl, ap, sym, subst, is_some}
 use Rattle.std.specs.Bool.{beq}
 use Rattle.std.specs.List.{list_any, flat_map, AllByRecursion}
-use Rattle.std.proofs.lemmas.Bool.{true≢false, false≢true, cases_Bool, and_parts, and_from, or_cases, or_left, or_right, or_from, or_parts, false_from_ne_true, cond-true, cond-false, eqb-true, eq-eqb}
+use Rattle.std.proofs.lemmas.Bool.{true≢false, false≢true, cases_Bool, and_parts, and_from, or_cases, or_left, or_right, or_from, cond-true, cond-false, eqb-true}
 use Rattle.std.proofs.lemmas.List.Folds.{list_any-append}
-use Rattle.bdb_base.specs.declared.kinds.Sign.{Sign}
 use Rattle.bdb_base.specs.declared.tuple.Tuple.{Tuple}
 use Rattle.bdb_base.specs.Same.{same_sign}
 use Rattle.bdb_base.specs.SameLemmas.{same_sign-Decides}
-use Rattle.bdb_base.proofs.WorldLemmas.{list_any_weaker}
-use Rattle.bdb_base.proofs.WorldRowsLemmas.{list_any-flat_map}
 use Rattle.bdb_tables.specs.Marks.{Mark, sign_of, explicit_of}
 use Rattle.bdb_val.specs.Settled.{settled_mark}
 use Rattle.bdb_val.specs.Settling.{Change, mark_in, barred_by, next_mark, same_mark, change_at, has_mark, fresh_change, settling, last_mark, AreNamed}

@@ -1,23 +1,22 @@
 -- What the code that settles one world owes.
-use Rattle.std.proofs.Common.{◌≡◌, ◌∙◌, ℕ, ◌<◌, Bool, true, false, List, [], ◌∷◌, length, Option, Some, None, MatchOption, cond, inl, inr, is_some, map, refl, ap, sym, subst, arith}
+use Rattle.std.proofs.Common.{◌≡◌, ◌∙◌, ℕ, ◌<◌, true, List, [], ◌∷◌, length, Option, Some, None, MatchOption, inl, inr, is_some, map, ap, sym, subst, arith}
 use Rattle.std.specs.List.{AllByRecursion}
-use Rattle.std.specs.Ordering.{is_eq, eq_by_cmp}
+use Rattle.std.specs.Ordering.{eq_by_cmp}
 use Rattle.std.specs.Option.{option_map}
 use Rattle.std.specs.FinMap as tables
-use Rattle.std.proofs.lemmas.Bool.{cases_Bool, cond-true, cond-false}
+use Rattle.std.proofs.lemmas.Bool.{cases_Bool, cond-false}
 use Rattle.bdb_base.specs.declared.kinds.Value.{Value}
 use Rattle.bdb_base.specs.declared.kinds.Value.TheVariants.{Int, Text}
 use Rattle.bdb_keep.specs.Tables.{Tables, bytes_cmp}
 use Rattle.bdb_key.specs.Grammar.{IsPlainValue, ArePlain, HasPlainText}
-use Rattle.bdb_key.specs.Rows.{tuple_bytes}
 use Rattle.bdb_tables.specs.Codec.{place}
-use Rattle.bdb_tables.specs.InUse.{ValKey, IsValKey, val_bytes, tuple_codec, val_codec}
+use Rattle.bdb_tables.specs.InUse.{ValKey, val_bytes, tuple_codec, val_codec}
 use Rattle.bdb_tables.specs.InUseLaws.{vals_are_one}
 use Rattle.bdb_tables.specs.Marks.{Mark}
 use Rattle.bdb_tables.specs.Writes.{IsChange, MayBeChange, with_change, with_changes}
 use Rattle.bdb_tables.proofs.Held.{same_place}
 use Rattle.bdb_tables.proofs.WriteLemmas.{get_after_change, row_elsewhere}
-use Rattle.bdb_val.specs.Reads.{IsTold, AreTold, AreReadUnder, HaveTuples}
+use Rattle.bdb_val.specs.Reads.{AreTold, AreReadUnder, HaveTuples}
 use Rattle.bdb_val.specs.Settling.{Change, next_mark, settling, key_value, row_key, keyed}
 use Rattle.bdb_val.specs.Steps.{rows_made, HasPlainKey}
 use Rattle.bdb_val.specs.declared.stored.Stored.{Stored}

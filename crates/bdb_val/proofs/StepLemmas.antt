@@ -1,8 +1,8 @@
 -- What one settling does to the rows that the tables give.
-use Rattle.std.proofs.Common.{◌≡◌, ◌∙◌, ℕ, Bool, true, false, ◌&&◌, ◌||◌, nat_eq, List, [], ◌∷◌, Option, Some, None, MatchOption, cond, inl, inr, refl, ap, sym, subst, map}
+use Rattle.std.proofs.Common.{◌≡◌, ◌∙◌, ℕ, Bool, true, false, ◌||◌, nat_eq, List, [], ◌∷◌, Option, Some, None, MatchOption, cond, inl, inr, refl, ap, sym, subst, map}
 use Rattle.std.specs.List.{list_any, AllByRecursion}
-use Rattle.std.specs.Ordering.{is_eq, eq_by_cmp}
-use Rattle.std.proofs.lemmas.Bool.{true≢false, false≢true, cases_Bool, and_parts, and_from, false_from_ne_true, cond-true, cond-false, eqb-true, eq-eqb}
+use Rattle.std.specs.Ordering.{is_eq}
+use Rattle.std.proofs.lemmas.Bool.{true≢false, false≢true, cases_Bool, false_from_ne_true, cond-true, cond-false, eqb-true, eq-eqb}
 use Rattle.bdb_base.specs.declared.kinds.Sign.{Sign}
 use Rattle.bdb_base.specs.declared.kinds.Sign.TheVariants.{Plus, Minus}
 use Rattle.bdb_base.specs.declared.kinds.Stmt.{Stmt}
@@ -13,14 +13,13 @@ use Rattle.bdb_key.specs.Grammar.{IsNum}
 use Rattle.bdb_key.proofs.Forms.{tied}
 use Rattle.bdb_tables.specs.InUse.{ValKey, IsValKey, val_bytes, val_codec}
 use Rattle.bdb_tables.specs.InUseLaws.{vals_are_one, vals_in_order}
-use Rattle.bdb_tables.specs.Spans.{AreUnder, IsUnder}
-use Rattle.bdb_tables.specs.Writes.{IsChange, Gives, with_changes, with_row_at, with_rows_at}
+use Rattle.bdb_tables.specs.Writes.{IsChange, Gives, with_row_at, with_rows_at}
 use Rattle.bdb_tables.proofs.Held.{same_place}
 use Rattle.bdb_tables.proofs.WriteLemmas.{changes_give}
 use Rattle.bdb_tables.specs.Marks.{Mark, sign_by, sign_of, explicit_of, explicit_sign}
 use Rattle.bdb_val.specs.Settled.{settled_mark, sign_at}
-use Rattle.bdb_val.specs.Settling.{Change, mark_in, next_mark, change_at, settling, last_mark, AreNamed, are_apart, IsGroup, AreNumbered, IsStatedAt, AreExplicit, row_key, keyed}
-use Rattle.bdb_val.specs.Reads.{IsTold, AreTold, AreReadUnder, HasRows, IsSpan}
+use Rattle.bdb_val.specs.Settling.{Change, mark_in, next_mark, settling, last_mark, AreNamed, are_apart, IsGroup, AreNumbered, IsStatedAt, AreExplicit, row_key, keyed}
+use Rattle.bdb_val.specs.Reads.{AreReadUnder, HasRows}
 use Rattle.bdb_val.specs.Steps.{AreSpans, IsSettling}
 use Rattle.bdb_val.specs.declared.stored.Stored.{Stored}
 use Rattle.bdb_val.proofs.NextMarks.{next_marks_are_settled}
@@ -51,7 +50,7 @@ settling_of keys tuple test stored own from a b c d e f =
     (both (λ x. tuple x.tid ≡ Some x.tuple) (λ x. test x.tuple ≡ true) from c f)
 
 -- a mark that is found among rows of which no number stands twice
-mark_of_each : (xs all : List Stored) → ((tid : ℕ) (m : Mark) → mark_in xs tid ≡ Some m → mark_in all tid ≡ Some m) → are_apart xs ≡ true → AllByRecursion (λ x. mark_in all x.tid ≡ Some x.mark) xs
+pub mark_of_each : (xs all : List Stored) → ((tid : ℕ) (m : Mark) → mark_in xs tid ≡ Some m → mark_in all tid ≡ Some m) → are_apart xs ≡ true → AllByRecursion (λ x. mark_in all x.tid ≡ Some x.mark) xs
 mark_of_each [] all h a = tt
 mark_of_each (x ∷ xs) all h a = elim (cases_Bool (list_any (λ y. nat_eq y.tid x.tid) xs)) [
   | inl e ↦ absurd (false≢true (sym (cond-true (list_any (λ y. nat_eq y.tid x.tid) xs) false (are_apart xs) e) ∙ a))

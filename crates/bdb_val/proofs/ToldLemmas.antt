@@ -1,16 +1,12 @@
 -- Rows as they are read, one more at a time.
-use Rattle.std.proofs.Common.{◌≡◌, ◌∙◌, ℕ, ◌+◌, ◌<◌, Bool, true, false, List, [], ◌∷◌, ◌++◌, length, take, get_or, Option, Some, cond, is_some, map, refl, ap, sym, subst}
+use Rattle.std.proofs.Common.{◌≡◌, ◌∙◌, ℕ, ◌+◌, ◌<◌, true, List, [], ◌∷◌, ◌++◌, length, take, get_or, is_some, ap, sym, subst}
 use Rattle.std.specs.List.{AllByRecursion}
-use Rattle.std.specs.Ordering.{eq_by_cmp}
 use Rattle.std.specs.FinMap as tables
-use Rattle.std.specs.FinMap.{find}
-use Rattle.std.proofs.lemmas.Bool.{cond-true}
 use Rattle.std.proofs.lemmas.List.{take_more}
-use Rattle.bdb_keep.specs.Tables.{Tables, bytes_cmp}
-use Rattle.bdb_key.specs.Rows.{mark_bytes}
+use Rattle.bdb_keep.specs.Tables.{Tables}
 use Rattle.bdb_tables.specs.Codec.{place}
 use Rattle.bdb_tables.specs.InUse.{ValKey, IsValKey, val_bytes, val_codec}
-use Rattle.bdb_tables.specs.Spans.{AreUnder, IsUnder, entry_bytes}
+use Rattle.bdb_tables.specs.Spans.{AreUnder, IsUnder}
 use Rattle.bdb_tables.specs.Marks.{Mark}
 use Rattle.bdb_val.specs.Reads.{IsTold, AreTold}
 use Rattle.bdb_val.specs.declared.stored.Stored.{Stored}

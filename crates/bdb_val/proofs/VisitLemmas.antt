@@ -1,11 +1,9 @@
 -- What one visit of a walk does to the rows of all worlds.
-use Rattle.std.proofs.Common.{◌≡◌, ◌∙◌, ℕ, ◌<◌, ◌≤◌, Bool, true, false, not, ◌&&◌, ◌||◌, nat_eq, List, [], ◌∷◌, ◌++◌, ◌⊎◌, length, Option, Some, None, MatchOption, cond, inl, inr, is_some, map, refl, ap, sym, subst, arith}
+use Rattle.std.proofs.Common.{◌≡◌, ◌∙◌, ℕ, ◌<◌, Bool, true, false, ◌&&◌, nat_eq, List, [], ◌∷◌, ◌⊎◌, length, Option, Some, None, MatchOption, cond, inl, inr, is_some, map, refl, ap, sym, subst, arith}
 use Rattle.std.specs.List.{list_any, AllByRecursion}
 use Rattle.std.specs.Option.{option_map, option_and_then}
-use Rattle.std.specs.Ordering.{is_eq, eq_by_cmp}
-use Rattle.std.specs.FinMap as tables
-use Rattle.std.specs.FinMap.{find}
-use Rattle.std.proofs.lemmas.Bool.{true≢false, false≢true, cases_Bool, and_parts, and_from, or_left, or_right, or_cases, or_parts, and_cases, not-false, false_from_ne_true, cond-true, cond-false, eqb-true, eq-eqb}
+use Rattle.std.specs.Ordering.{is_eq}
+use Rattle.std.proofs.lemmas.Bool.{false≢true, cases_Bool, and_parts, or_parts, and_cases, not-false, cond-true, cond-false, eqb-true, eq-eqb}
 use Rattle.bdb_base.specs.declared.kinds.Sign.{Sign}
 use Rattle.bdb_base.specs.declared.kinds.Stmt.{Stmt}
 use Rattle.bdb_base.specs.declared.tuple.Tuple.{Tuple}
@@ -13,30 +11,29 @@ use Rattle.bdb_base.specs.SameLemmas.{same_sign-Decides}
 use Rattle.bdb_base.specs.States.{deepest_suffix, suffix_link}
 use Rattle.bdb_base.specs.Worlds.{contradicted}
 use Rattle.bdb_paths.proofs.SuffixLemmas.{length-deepest}
-use Rattle.bdb_keep.specs.Tables.{Tables, bytes_cmp}
+use Rattle.bdb_keep.specs.Tables.{Tables}
 use Rattle.bdb_key.specs.Bytes.{num_bytes}
 use Rattle.bdb_key.specs.Grammar.{IsNum}
-use Rattle.bdb_tables.specs.Codec.{HasAt, place}
-use Rattle.bdb_tables.specs.InUse.{ValKey, IsValKey, IsPair, pair_bytes, val_bytes, link_codec, linked_codec, tuple_codec, val_codec}
-use Rattle.bdb_tables.specs.InUseLaws.{number_rows_are_one, pairs_are_one, vals_are_one, vals_in_order}
+use Rattle.bdb_tables.specs.Codec.{HasAt}
+use Rattle.bdb_tables.specs.InUse.{ValKey, IsValKey, val_bytes, link_codec, linked_codec, tuple_codec, val_codec}
+use Rattle.bdb_tables.specs.InUseLaws.{number_rows_are_one, vals_are_one, vals_in_order}
 use Rattle.bdb_tables.specs.Marks.{Mark, sign_of, explicit_of, explicit_sign}
-use Rattle.bdb_tables.specs.Names.{Names, AreNames, path_of, number_of, is_named, link_of, leads_to, is_listed}
-use Rattle.bdb_tables.specs.Spans.{AreUnder, IsUnder, entry_bytes}
+use Rattle.bdb_tables.specs.Names.{Names, AreNames, path_of, number_of, is_named, link_of, leads_to}
 use Rattle.bdb_tables.specs.States.{row_where}
-use Rattle.bdb_tables.specs.Writes.{Gives, with_changes, with_row_at, with_rows_at}
+use Rattle.bdb_tables.specs.Writes.{Gives, with_row_at, with_rows_at}
 use Rattle.bdb_tables.proofs.Held.{same_place, some_same, none_some}
 use Rattle.bdb_tables.proofs.WriteLemmas.{changes_elsewhere}
 use Rattle.bdb_val.specs.Groups.{HasLinks}
 use Rattle.bdb_val.specs.Middle.{worlds_of, HasExplicit, IsSettledAt}
 use Rattle.bdb_val.specs.Reads.{HasRows}
-use Rattle.bdb_val.specs.Settled.{settled_mark, passed_on, is_barred, sign_at}
+use Rattle.bdb_val.specs.Settled.{settled_mark, passed_on, sign_at}
 use Rattle.bdb_val.specs.Settling.{Change, mark_in, settling, last_mark, IsGroup, row_key, keyed}
-use Rattle.bdb_val.specs.Steps.{AreSpans, IsSettling, rows_made, same_signs, turns}
+use Rattle.bdb_val.specs.Steps.{AreSpans, same_signs, turns}
 use Rattle.bdb_val.specs.Walks.{IsVisit, IsQuiet, changes_of}
 use Rattle.bdb_val.specs.declared.stored.Stored.{Stored}
 use Rattle.bdb_val.proofs.HeldLemmas.{names_are_linked}
 use Rattle.bdb_val.proofs.ReadLemmas.{one_number, key_fits}
-use Rattle.bdb_val.proofs.StepLemmas.{IsOf, after_changes, other_rows, made_of, own_mark, rows_after, gives_after, settled_after}
+use Rattle.bdb_val.proofs.StepLemmas.{IsOf, after_changes, other_rows, made_of, own_mark, gives_after, settled_after}
 
 -- ---- links
 
@@ -69,6 +66,26 @@ no_loop ns names wid (i ∷ w) p l =
     let e = ap length (some_path (i ∷ w) (deepest_suffix (is_named ns) w) q) in
     let k = length-deepest (is_named ns) w in
     absurd (omega arith)
+  where
+    some_number : (a b : ℕ) → Some a ≡ Some b → a ≡ b
+    some_number a b e = cc
+
+    some_path : (a b : List ℕ) → Some a ≡ Some b → a ≡ b
+    some_path a b e = cc
+
+-- a world is named by a longer path than the one to which it is linked
+pub link_is_shorter : (ns : Names) → AreNames ns → (m wid : ℕ) (v w : List ℕ) → path_of ns m ≡ Some v → path_of ns wid ≡ Some w → link_of ns m ≡ Some wid → length w < length v
+link_is_shorter ns names m wid [] w p q l = absurd (none_is ((names_are_linked ns names).root m p) l)
+  where
+    none_is : {o : Option ℕ} → o ≡ None → o ≡ Some wid → ⊥
+    none_is a b = cc
+link_is_shorter ns names m wid (i ∷ v) w p q l =
+    let k = (names_are_linked ns names).link m i v p in
+    let same : k.0 ≡ wid = some_number k.0 wid (sym k.1 ∙ l) in
+    let e : w ≡ deepest_suffix (is_named ns) v = some_path w (deepest_suffix (is_named ns) v) (sym q ∙ ap (path_of ns) (sym same) ∙ k.2) in
+    let n : length w ≡ length (deepest_suffix (is_named ns) v) = ap length e in
+    let k = length-deepest (is_named ns) v in
+    omega arith
   where
     some_number : (a b : ℕ) → Some a ≡ Some b → a ≡ b
     some_number a b e = cc

@@ -1,11 +1,10 @@
 -- After a walk all rows are settled.
-use Rattle.std.proofs.Common.{◌≡◌, ◌∙◌, ℕ, ◌<◌, ◌≤◌, Bool, true, false, not, ◌&&◌, ◌||◌, nat_eq, List, [], ◌∷◌, ◌++◌, ◌⊎◌, length, take, Option, Some, None, MatchOption, cond, inl, inr, is_some, map, refl, ap, sym, subst, arith}
-use Rattle.std.specs.List.{list_any, AllByRecursion}
+use Rattle.std.proofs.Common.{◌≡◌, ◌∙◌, ℕ, Bool, true, false, not, ◌&&◌, ◌||◌, nat_eq, List, [], ◌∷◌, ◌++◌, ◌⊎◌, take, Option, Some, None, cond, inl, inr, is_some, map, refl, ap, sym, subst}
+use Rattle.std.specs.List.{AllByRecursion}
 use Rattle.std.specs.Option.{option_map}
 use Rattle.std.specs.Ordering.{is_eq, eq_by_cmp}
-use Rattle.std.specs.FinMap as tables
 use Rattle.std.specs.FinMap.{find}
-use Rattle.std.proofs.lemmas.Bool.{true≢false, false≢true, cases_Bool, and_parts, and_from, and_left, and_right, or_left, or_right, or_from, or_cases, or_parts, and_cases, false_from_ne_true, cond-true, cond-false, eqb-true, eq-eqb}
+use Rattle.std.proofs.lemmas.Bool.{true≢false, false≢true, cases_Bool, and_parts, and_from, and_left, and_right, or_left, or_right, or_from, or_cases, or_parts, false_from_ne_true, cond-true, cond-false, eqb-true, eq-eqb}
 use Rattle.std.proofs.lemmas.List.Folds.{list_any-append}
 use Rattle.bdb_base.specs.declared.kinds.Stmt.{Stmt}
 use Rattle.bdb_base.specs.declared.kinds.Value.{Value}
@@ -19,24 +18,25 @@ use Rattle.bdb_keep.specs.Tables.{Tables, bytes_cmp}
 use Rattle.bdb_key.specs.Bytes.{num_bytes}
 use Rattle.bdb_key.specs.Grammar.{IsNum, IsPlainValue}
 use Rattle.bdb_key.proofs.Forms.{tied}
+use Rattle.bdb_key.proofs.Readings.{num_form}
 use Rattle.bdb_tables.specs.InUse.{ValKey, IsPair, pair_bytes, linked_codec, val_codec}
 use Rattle.bdb_tables.specs.InUseLaws.{pairs_are_one}
-use Rattle.bdb_tables.specs.Marks.{Mark, sign_of}
-use Rattle.bdb_tables.specs.Names.{Names, AreNames, path_of, is_named, link_of, leads_to, is_listed}
-use Rattle.bdb_tables.specs.Spans.{AreUnder, IsUnder, entry_bytes}
+use Rattle.bdb_tables.specs.Marks.{Mark}
+use Rattle.bdb_tables.specs.Names.{Names, AreNames, path_of, link_of, leads_to, is_listed}
+use Rattle.bdb_tables.specs.Spans.{IsUnder, entry_bytes}
 use Rattle.bdb_tables.specs.States.{row_where}
-use Rattle.bdb_tables.specs.Writes.{Gives, with_row_at, with_rows_at}
+use Rattle.bdb_tables.specs.Writes.{with_row_at, with_rows_at}
 use Rattle.bdb_tables.proofs.Held.{same_place}
-use Rattle.bdb_val.specs.Groups.{HasLinks, IsUnsettled, is_near, SettlesGroup}
+use Rattle.bdb_val.specs.Groups.{HasLinks, IsUnsettled, SettlesGroup}
 use Rattle.bdb_val.specs.Middle.{worlds_of, HasExplicit, IsSettledAt, AreSettledBut}
 use Rattle.bdb_val.specs.Reads.{is_of_group, group_prefix}
-use Rattle.bdb_val.specs.Settling.{IsGroup, key_value, row_key}
+use Rattle.bdb_val.specs.Settling.{IsGroup, key_value}
 use Rattle.bdb_val.specs.Steps.{AreSpans}
 use Rattle.bdb_val.specs.Walks.{AreLinkedTo, IsVisit, IsQuiet, Walked, changes_of}
 use Rattle.bdb_val.specs.Walks.Walked.{first, next}
 use Rattle.bdb_val.proofs.HeldLemmas.{some_is, settled_rows_are_held}
-use Rattle.bdb_val.proofs.ReadLemmas.{prefix_append, group_span}
-use Rattle.bdb_val.proofs.VisitLemmas.{linked_is_named, seen, links_after, explicit_after, settled_here, settled_there, settled_other, quiet_signs}
+use Rattle.bdb_val.proofs.ReadLemmas.{prefix_append, prefix_rest, group_span}
+use Rattle.bdb_val.proofs.VisitLemmas.{linked_is_named, links_after, explicit_after, settled_here, settled_there, settled_other, quiet_signs}
 
 -- ---- the worlds linked to a world
 
@@ -81,8 +81,14 @@ linked_is_listed ns t h wid more w l m n e =
           (go ds a.1 (ap is_some (sym (cond-false (eq_by_cmp bytes_cmp (pair_bytes (wid, m)) (pair_bytes d.0)) (Some []) (links_at ds (pair_bytes (wid, m))) c)) ∙ s))
     ]
 
--- a listed world is linked to another
-listed_is_linked : (ns : Names) (t : Tables) → HasLinks ns t → (wid : ℕ) (more : List ℕ) → AreLinkedTo t wid more → (m : ℕ) → is_listed m more ≡ true → (k : ℕ) × (link_of ns m ≡ Some k)
+-- a pair whose bytes begin with a number has it first
+pub first_is : (wid : ℕ) → IsNum wid → (k : ℕ × ℕ) → IsPair k → is_prefix (num_bytes wid) (pair_bytes k) ≡ true → k.0 ≡ wid
+first_is wid n k p e =
+    let r = prefix_rest (num_bytes wid) (pair_bytes k) e in
+    (num_form k.0 wid (num_bytes k.1) r.0 p.first n r.1).0
+
+-- a listed world is linked to another, the one whose worlds are listed
+pub listed_is_linked : (ns : Names) (t : Tables) → HasLinks ns t → (wid : ℕ) (more : List ℕ) → AreLinkedTo t wid more → (m : ℕ) → is_listed m more ≡ true → (k : ℕ) × (link_of ns m ≡ Some k) × (IsNum wid → k ≡ wid)
 listed_is_linked ns t h wid more l m s = go l.entries l.under.each (link_found l.entries l.entries (λ q k. k)) (ap (is_listed m) (sym l.listed) ∙ s)
   where
     stands : (b : Bool) (o : Option (List ℕ)) → option_map (λ _. []) (row_where b) ≡ o → is_some o ≡ true → b ≡ true
@@ -90,13 +96,13 @@ listed_is_linked ns t h wid more l m s = go l.entries l.under.each (link_found l
     stands false o e k = absurd (false≢true (ap is_some e ∙ k))
 
     go : (es : List ((ℕ × ℕ) × Unit {0})) → AllByRecursion (IsUnder linked_codec (num_bytes wid)) es → AllByRecursion (λ e. is_some (links_at l.entries (pair_bytes e.0)) ≡ true) es
-        → is_listed m (map (λ e. e.0.1) es) ≡ true → (k : ℕ) × (link_of ns m ≡ Some k)
+        → is_listed m (map (λ e. e.0.1) es) ≡ true → (k : ℕ) × (link_of ns m ≡ Some k) × (IsNum wid → k ≡ wid)
     go [] a b e = absurd (false≢true e)
     go (d ∷ ds) a b e = elim (or_cases (nat_eq m d.0.1) (is_listed m (map (λ z. z.0.1) ds)) e) [
       | inl c ↦
           let i = eqb-true m d.0.1 c in
           let k = stands (leads_to (link_of ns d.0.1) d.0.0) (links_at l.entries (pair_bytes d.0)) (sym (h.linked.rows d.0 a.0.key) ∙ l.under.found (pair_bytes d.0) a.0.begins) b.0 in
-          (d.0.0, ap (link_of ns) i ∙ leads_tells (link_of ns d.0.1) d.0.0 k)
+          (d.0.0, ap (link_of ns) i ∙ leads_tells (link_of ns d.0.1) d.0.0 k, λ n. first_is wid n d.0 a.0.key a.0.begins)
       | inr c ↦ go ds a.1 b.1 c
     ]
 

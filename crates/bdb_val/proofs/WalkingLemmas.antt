@@ -1,16 +1,15 @@
 -- A walk as the code goes on with it.
-use Rattle.std.proofs.Common.{◌≡◌, ◌∙◌, ℕ, ◌+◌, ◌-◌, ◌^◌, ◌≤◌, min, List, [], ◌∷◌, ◌++◌, ◌⊎◌, length, Option, inl, inr, refl, ap, sym, subst, arith, append_assoc}
+use Rattle.std.proofs.Common.{◌≡◌, ◌∙◌, ℕ, ◌+◌, ◌≤◌, List, [], ◌∷◌, ◌++◌, ◌⊎◌, length, Option, inl, inr, refl, ap, sym, subst, arith}
 use Rattle.std.proofs.lemmas.List.{length-append}
 use Rattle.bdb_base.specs.Causes.{Rises}
 use Rattle.bdb_keep.specs.Seen.{Seen}
-use Rattle.bdb_keep.specs.Tables.{Tables}
 use Rattle.bdb_tables.specs.Grammar.{InGrammar}
 use Rattle.bdb_tables.specs.InUse.{ValKey}
 use Rattle.bdb_tables.specs.Marks.{Mark}
 use Rattle.bdb_val.specs.Reads.{HaveTuples}
 use Rattle.bdb_val.specs.Steps.{counted}
-use Rattle.bdb_val.specs.Visits.{ArePushed, IsTold, IsFirstVisit, IsNextVisit}
-use Rattle.bdb_val.specs.Walks.{AreLinkedTo, IsVisit, IsQuiet, Walked, changes_of, put_by, taken_by}
+use Rattle.bdb_val.specs.Visits.{IsFirstVisit, IsNextVisit}
+use Rattle.bdb_val.specs.Walks.{AreLinkedTo, IsQuiet, Walked, changes_of, put_by, taken_by}
 use Rattle.bdb_val.specs.Walks.Walked.{first, next}
 use Rattle.bdb_val.specs.declared.stored.Settled.{Settled}
 use Rattle.bdb_val.proofs.Calls.{HasGone, gone_then}

@@ -3,6 +3,7 @@ use Rattle.std.specs.Prelude.{◌≡◌, ℕ, Bool, true, ◌&&◌, ◌||◌, na
 use Rattle.bdb_base.specs.declared.kinds.Stmt.{Stmt}
 use Rattle.bdb_base.specs.declared.kinds.Value.{Value}
 use Rattle.bdb_base.specs.declared.tuple.Tuple.{Tuple}
+use Rattle.bdb_keep.specs.Seen.{Seen}
 use Rattle.bdb_keep.specs.Tables.{Tables}
 use Rattle.bdb_tables.specs.InUse.{ValKey, link_codec, linked_codec}
 use Rattle.bdb_tables.specs.Marks.{Mark}
@@ -10,9 +11,11 @@ use Rattle.bdb_tables.specs.Names.{Names, AreNames, path_of, is_named, link_of, 
 use Rattle.bdb_tables.specs.Rows.{HoldsRows}
 use Rattle.bdb_tables.specs.States.{row_where}
 use Rattle.bdb_tables.specs.Writes.{Gives}
+use Rattle.bdb_val.specs.Counts.{TellsDifferences}
 use Rattle.bdb_val.specs.Middle.{worlds_of, HasExplicit, AreSettledBut}
 use Rattle.bdb_val.specs.Reads.{is_of_group}
 use Rattle.bdb_val.specs.Settled.{HasStates}
+use Rattle.bdb_val.specs.declared.stored.Settled.{Settled}
 
 -- what tables have of suffix links, and of the links turned round
 pub record HasLinks (ns : Names) (t : Tables) : Type 0 where
@@ -38,3 +41,9 @@ pub record IsUnsettled (stmts : List Stmt) (ns : Names) (tuple : ℕ → Option 
 abbrev pub SettlesGroup : Tables → Tables → ℕ → ℕ → Value → Type 0
 SettlesGroup t u wid rel v = (stmts : List Stmt) (ns : Names) (tuple : ℕ → Option Tuple) (f : ValKey → Option Mark) → IsUnsettled stmts ns tuple f t wid (is_of_group rel v)
     → HoldsRows (λ _. 1) stmts (path_of ns) tuple u
+
+-- whichever statements they are, where only those rows were not settled one write was made for each row that is another, and
+-- it is told how many rows were put where there was none and how many were taken away
+abbrev pub TellsGroup : Seen → Seen → ℕ → ℕ → Value → Settled → Type 0
+TellsGroup old new wid rel v s = (stmts : List Stmt) (ns : Names) (tuple : ℕ → Option Tuple) (f : ValKey → Option Mark) → IsUnsettled stmts ns tuple f old.kept wid (is_of_group rel v)
+    → TellsDifferences old new s.put s.taken

@@ -1,6 +1,9 @@
+pub mod Counts
 pub mod Groups
 pub mod Laws
 pub mod Middle
+pub mod Numbered
+pub mod Others
 pub mod Reads
 pub mod Settled
 pub mod Settling
@@ -8,3 +11,4 @@ pub mod Steps
 pub mod Visits
 pub mod Walks
 pub mod WorldCopies
+pub mod WorldReads

@@ -1,5 +1,5 @@
 -- The rows that the tuples of a world are to have, and the changes that bring them about.
-use Rattle.std.specs.Prelude.{◌≡◌, ◌≢◌, ℕ, pos, Bool, true, false, ◌&&◌, ◌||◌, nat_eq, List, [], ◌∷◌, ◌++◌, Option, Some, None, is_some, cond}
+use Rattle.std.specs.Prelude.{◌≡◌, ℕ, pos, Bool, true, false, ◌&&◌, ◌||◌, nat_eq, List, [], ◌∷◌, ◌++◌, Option, Some, None, is_some, cond}
 use Rattle.std.specs.Bool.{beq}
 use Rattle.std.specs.List.{list_any, flat_map, AllByRecursion}
 use Rattle.bdb_base.specs.declared.kinds.Sign.{Sign}

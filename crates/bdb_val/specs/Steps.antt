@@ -1,11 +1,10 @@
 -- What settles the rows of one world: what was read, and what was written.
 use Rattle.std.specs.Prelude.{◌≡◌, ℕ, ◌-◌, ◌^◌, min, Bool, true, false, not, ◌&&◌, List, [], length, filter, Option, Some, None, is_some, MatchOption, Result, map}
-use Rattle.std.specs.List.{list_any, AllByRecursion}
+use Rattle.std.specs.List.{list_any}
 use Rattle.std.specs.FinMap as tables
 use Rattle.bdb_base.specs.Causes.{Rises}
 use Rattle.bdb_base.specs.Same.{same_sign}
 use Rattle.bdb_base.specs.declared.kinds.Sign.{Sign}
-use Rattle.bdb_base.specs.declared.kinds.Value.{Value}
 use Rattle.bdb_base.specs.declared.tuple.Tuple.{Tuple}
 use Rattle.bdb_keep.specs.Seen.{Seen, NeverFall, Steps}
 use Rattle.bdb_keep.specs.Tables.{Tables}

@@ -1,5 +1,5 @@
 -- Walks down the tree of suffix links, which settle one world after the other.
-use Rattle.std.specs.Prelude.{◌≡◌, ℕ, ◌+◌, Bool, false, ◌⊎◌, List, [], ◌∷◌, ◌++◌, length, filter, Option, map}
+use Rattle.std.specs.Prelude.{◌≡◌, ℕ, ◌+◌, false, ◌⊎◌, List, [], ◌∷◌, ◌++◌, length, filter, Option, map}
 use Rattle.std.specs.List.{list_any}
 use Rattle.bdb_keep.specs.Tables.{Tables}
 use Rattle.bdb_key.specs.Bytes.{num_bytes}

@@ -1,10 +1,14 @@
 -- What copying a world's rows to another world does, and what clearing a world does.
 use Rattle.std.specs.Prelude.{◌≡◌, ℕ, false, nat_eq, List, length, Option, Some, None, cond}
+use Rattle.std.specs.FinMap as tables
+use Rattle.bdb_keep.specs.Seen.{Seen}
 use Rattle.bdb_keep.specs.Tables.{Tables}
-use Rattle.bdb_tables.specs.InUse.{ValKey, val_codec}
+use Rattle.bdb_tables.specs.Codec.{place}
+use Rattle.bdb_tables.specs.InUse.{ValKey, IsValKey, val_codec}
 use Rattle.bdb_tables.specs.Marks.{Mark}
 use Rattle.bdb_tables.specs.Spans.{AreUnder}
 use Rattle.bdb_tables.specs.Writes.{Gives}
+use Rattle.bdb_val.specs.Counts.{TellsDifferences}
 use Rattle.bdb_val.specs.Reads.{world_prefix}
 
 -- a row as an inherited one; where there is none, another
@@ -45,3 +49,11 @@ copied to e = (key_in to e.0, Some (e.1.0, false))
 -- a row as the change that takes it away
 abbrev pub removed : ValKey × Mark → ValKey × Option Mark
 removed e = (e.0, None)
+
+-- a world has no row
+abbrev pub IsBare : Tables → ℕ → Type 0
+IsBare t wid = (k : ValKey) → IsValKey k → k.0 ≡ wid → tables.get t (place val_codec k) ≡ None
+
+-- where the world to which rows were copied had none, so many came, each by one write
+abbrev pub TellsCopy : Seen → Seen → ℕ → ℕ → Type 0
+TellsCopy old new to n = IsBare old.kept to → TellsDifferences old new n 0

@@ -2,7 +2,8 @@
 ghost use Rattle.std.specs.Prelude.{◌≡◌, ◌++◌, map, IfOk, OnOk};
 ghost use Rattle.bdb_val.specs.Settling.{settling, change_at, fresh_change, keyed};
 
-use crate::marks::{has_mark, mark_in, next_mark, same_mark};
+use crate::marks::{has_mark, next_mark, same_mark};
+use crate::numbered::Numbered;
 use crate::stored::Stored;
 use bdb_base::{Exact, Sign, Value, key_of};
 use std::alloc::{AllocError, Global};
@@ -23,15 +24,37 @@ pub fn settling(
 ) -> Result<Vec<RowChange>, AllocError>
     ensures { IfOk result (λ changes. changes.items ≡ map (keyed wid) (settling (λ _. 1) stored.now own.now from.now)) }
 {
+    let before = Numbered::of(stored);
+    let bars = Numbered::of(own);
+    let passed = Numbered::of(from);
+    let none = Numbered::of(&[]);
     let mut changes = Vec::new(alloc);
     for row in stored {
-        push_change(alloc, &mut changes, wid, stored, own, from, row)?;
+        push_change(alloc, &mut changes, wid, &before, &bars, &passed, row)?;
     }
     for row in own {
-        push_fresh(alloc, &mut changes, wid, stored, own, from, &[], row)?;
+        push_fresh(
+            alloc,
+            &mut changes,
+            wid,
+            &before,
+            &bars,
+            &passed,
+            &none,
+            row,
+        )?;
     }
     for row in from {
-        push_fresh(alloc, &mut changes, wid, stored, own, from, own, row)?;
+        push_fresh(
+            alloc,
+            &mut changes,
+            wid,
+            &before,
+            &bars,
+            &passed,
+            &bars,
+            row,
+        )?;
     }
     Ok(changes)
 }
@@ -41,15 +64,15 @@ fn push_change(
     alloc: Global,
     changes: &mut Vec<RowChange>,
     wid: u32,
-    stored: &[Stored],
-    own: &[Stored],
-    from: &[Stored],
+    stored: &Numbered<'_>,
+    own: &Numbered<'_>,
+    from: &Numbered<'_>,
     row: &Stored,
 ) -> Result<(), AllocError>
     ensures { OnOk result (changes.new.items ≡ changes.old.items ++ map (keyed wid) (change_at (λ _. 1) stored.now own.now from.now row.now)) }
 {
     let next = next_mark(own, from, row.tid, &row.tuple);
-    if same_mark(mark_in(stored, row.tid), next) {
+    if same_mark(stored.mark(row.tid), next) {
         return Ok(());
     }
     let key = key_of(&row.tuple).try_clone(alloc)?;
@@ -62,10 +85,10 @@ fn push_fresh(
     alloc: Global,
     changes: &mut Vec<RowChange>,
     wid: u32,
-    stored: &[Stored],
-    own: &[Stored],
-    from: &[Stored],
-    before: &[Stored],
+    stored: &Numbered<'_>,
+    own: &Numbered<'_>,
+    from: &Numbered<'_>,
+    before: &Numbered<'_>,
     row: &Stored,
 ) -> Result<(), AllocError>
     ensures { OnOk result (changes.new.items ≡ changes.old.items ++ map (keyed wid) (fresh_change (λ _. 1) stored.now own.now from.now before.now row.now)) }

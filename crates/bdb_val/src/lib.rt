@@ -4,10 +4,12 @@
 mod changes;
 mod laws;
 mod marks;
+mod numbered;
 mod reading;
 mod settle;
 mod stored;
 mod walk;
+mod world_rows;
 mod worlds;
 
 pub use changes::settling;
@@ -21,4 +23,5 @@ pub use reading::{read_group, read_stored, read_world};
 pub use settle::settle_state;
 pub use stored::{Settled, Stored};
 pub use walk::settle_group;
+pub use world_rows::world_at;
 pub use worlds::{clear_world, copy_world};

@@ -3,28 +3,17 @@ ghost use Rattle.std.specs.Prelude.{◌≡◌, ◌&&◌, None};
 ghost use Rattle.bdb_base.specs.Clash.{clash};
 ghost use Rattle.bdb_tables.specs.Marks.{sign_of};
 ghost use Rattle.bdb_val.specs.Settled.{settled_mark};
-ghost use Rattle.bdb_val.specs.Settling.{mark_in, barred_by, next_mark, same_mark, has_mark};
+ghost use Rattle.bdb_val.specs.Settling.{barred_by, next_mark, same_mark, has_mark};
 
+use crate::numbered::Numbered;
 use crate::stored::Stored;
 use bdb_base::{Sign, Tuple, clash};
 
-/// The mark of the row of a tuple's number among rows.
-pub fn mark_in(rows: &[Stored], tid: u32) -> Option<(Sign, bool)>
-    ensures { result ≡ mark_in rows.now tid }
-{
-    for row in rows {
-        if row.tid == tid {
-            return Some(row.mark);
-        }
-    }
-    None
-}
-
 /// Whether a tuple's number has a row among either.
-pub fn has_mark(rows: &[Stored], others: &[Stored], tid: u32) -> bool
+pub fn has_mark(rows: &Numbered<'_>, others: &Numbered<'_>, tid: u32) -> bool
     ensures { result ≡ has_mark rows.now others.now tid }
 {
-    mark_in(rows, tid).is_some() || mark_in(others, tid).is_some()
+    rows.mark(tid).is_some() || others.mark(tid).is_some()
 }
 
 /// Whether two marks are one, or there is none of either.
@@ -39,18 +28,23 @@ pub fn same_mark(a: Option<(Sign, bool)>, b: Option<(Sign, bool)>) -> bool
 }
 
 /// The row that a tuple is to have, by the explicit rows of its world and the rows of the world to which that is linked.
-pub fn next_mark(own: &[Stored], from: &[Stored], tid: u32, tuple: &Tuple) -> Option<(Sign, bool)>
+pub fn next_mark(
+    own: &Numbered<'_>,
+    from: &Numbered<'_>,
+    tid: u32,
+    tuple: &Tuple,
+) -> Option<(Sign, bool)>
     ensures { result ≡ next_mark (λ _. 1) own.now from.now tid tuple.now }
 {
-    match mark_in(own, tid) {
+    match own.mark(tid) {
         Some((sign, true)) => Some((sign, true)),
-        Some((_, false)) => passed_on(own, mark_in(from, tid), tuple),
-        None => passed_on(own, mark_in(from, tid), tuple),
+        Some((_, false)) => passed_on(own, from.mark(tid), tuple),
+        None => passed_on(own, from.mark(tid), tuple),
     }
 }
 
 // The row that a tuple inherits over a suffix link, where no explicit row contradicts it.
-fn passed_on(own: &[Stored], from: Option<(Sign, bool)>, tuple: &Tuple) -> Option<(Sign, bool)>
+fn passed_on(own: &Numbered<'_>, from: Option<(Sign, bool)>, tuple: &Tuple) -> Option<(Sign, bool)>
     ensures { result ≡ settled_mark None (barred_by (λ _. 1) own.now tuple.now) (sign_of from) }
 {
     match from {
@@ -66,10 +60,10 @@ fn passed_on(own: &[Stored], from: Option<(Sign, bool)>, tuple: &Tuple) -> Optio
 }
 
 // Whether a signed tuple clashes with an explicit row.
-fn barred_by(rows: &[Stored], tuple: &Tuple, sign: Sign) -> bool
-    ensures { result ≡ barred_by (λ _. 1) rows.now tuple.now sign }
+fn barred_by(own: &Numbered<'_>, tuple: &Tuple, sign: Sign) -> bool
+    ensures { result ≡ barred_by (λ _. 1) own.now tuple.now sign }
 {
-    rows.iter().any(|row| bars(row, tuple, sign))
+    own.rows().iter().any(|row| bars(row, tuple, sign))
 }
 
 // Whether a row is explicit and a signed tuple clashes with it.

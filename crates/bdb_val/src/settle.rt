@@ -1,5 +1,5 @@
 // Settling the rows of one world.
-ghost use Rattle.std.specs.Prelude.{◌≡◌, true, not, ◌&&◌, filter, length, is_some, MatchOption, [], IfOk, OnOk};
+ghost use Rattle.std.specs.Prelude.{◌≡◌, nat_eq, true, not, ◌&&◌, filter, length, is_some, MatchOption, [], IfOk, OnOk};
 ghost use Rattle.std.specs.List.{AllByRecursion, list_any};
 ghost use Rattle.bdb_base.specs.Causes.{Rises};
 ghost use Rattle.bdb_keep.specs.Calls.{IsRead, IsWrite};
@@ -7,11 +7,12 @@ ghost use Rattle.bdb_key.specs.Grammar.{HasPlainText, IsPlainValue};
 ghost use Rattle.bdb_tables.specs.Grammar.{InGrammar};
 ghost use Rattle.bdb_tables.specs.InUse.{val_codec};
 ghost use Rattle.bdb_tables.specs.Writes.{IsChange, with_changes};
+ghost use Rattle.bdb_val.specs.Others.{SameBut};
 ghost use Rattle.bdb_val.specs.Reads.{AreReadUnder, HaveTuples, group_prefix};
 ghost use Rattle.bdb_val.specs.Steps.{rows_made, same_signs, turns, is_new, is_gone, Tells, IsChanging, IsStep, HasPlainKey};
 
 use crate::changes::{RowChange, settling};
-use crate::marks::mark_in;
+use crate::numbered::Numbered;
 use crate::reading::read_group;
 use crate::stored::{Settled, Stored};
 use bdb_base::{Sign, Value};
@@ -34,6 +35,7 @@ pub fn settle_state<K: Keeper>(
     requires tuples { HaveTuples (K.seen keeper.old).kept }
     requires text { HasPlainText key.now }
     ensures settled { IfOk result (IsStep (K.seen keeper.old) (K.seen keeper.new) wid (λ w. group_prefix w rel key.now)) }
+    ensures others { OnOk result (SameBut (λ n. nat_eq n 11) (K.seen keeper.old).kept (K.seen keeper.new).kept) }
     ensures grammar { OnOk result (InGrammar (K.seen keeper.new).kept) }
     ensures tuples { OnOk result (HaveTuples (K.seen keeper.new).kept) }
     ensures fits { OnOk result (IsPlainValue key.now) }
@@ -116,38 +118,39 @@ pub fn settle_rows<K: Keeper>(
 fn told(own: &[Stored], changes: &[RowChange]) -> Settled
     ensures { Tells own.now changes.now result }
 {
-    let turned = any_turns(own, changes);
-    let put = count_new(own, changes);
-    let taken = count_gone(own, changes);
+    let rows = Numbered::of(own);
+    let turned = any_turns(&rows, changes);
+    let put = count_new(&rows, changes);
+    let taken = count_gone(&rows, changes);
     Settled { turned, put, taken }
 }
 
 // Whether a change gives a tuple another sign.
-fn any_turns(own: &[Stored], changes: &[RowChange]) -> bool
+fn any_turns(own: &Numbered<'_>, changes: &[RowChange]) -> bool
     ensures { result ≡ list_any (turns own.now) changes.now }
 {
     changes.iter().any(|change| turns(own, change))
 }
 
 // How many changes put a row where there was none.
-fn count_new(own: &[Stored], changes: &[RowChange]) -> usize
+fn count_new(own: &Numbered<'_>, changes: &[RowChange]) -> usize
     ensures { result ≡ length (filter (is_new own.now) changes.now) }
 {
     changes.iter().filter(|change| is_new(own, change)).count()
 }
 
 // How many changes take a row away.
-fn count_gone(own: &[Stored], changes: &[RowChange]) -> usize
+fn count_gone(own: &Numbered<'_>, changes: &[RowChange]) -> usize
     ensures { result ≡ length (filter (is_gone own.now) changes.now) }
 {
     changes.iter().filter(|change| is_gone(own, change)).count()
 }
 
 // Whether a change gives a tuple another sign, a first one or none any more.
-fn turns(own: &[Stored], change: &RowChange) -> bool
+fn turns(own: &Numbered<'_>, change: &RowChange) -> bool
     ensures { result ≡ turns own.now change.now }
 {
-    match (mark_in(own, change.0.3), change.1) {
+    match (own.mark(change.0.3), change.1) {
         (None, None) => false,
         (Some((sign, _)), Some((other, _))) => sign != other,
         _ => true,
@@ -155,15 +158,15 @@ fn turns(own: &[Stored], change: &RowChange) -> bool
 }
 
 // Whether a change puts a row where there was none.
-fn is_new(own: &[Stored], change: &RowChange) -> bool
+fn is_new(own: &Numbered<'_>, change: &RowChange) -> bool
     ensures { result ≡ is_new own.now change.now }
 {
-    mark_in(own, change.0.3).is_none() && change.1.is_some()
+    own.mark(change.0.3).is_none() && change.1.is_some()
 }
 
 // Whether a change takes a row away.
-fn is_gone(own: &[Stored], change: &RowChange) -> bool
+fn is_gone(own: &Numbered<'_>, change: &RowChange) -> bool
     ensures { result ≡ is_gone own.now change.now }
 {
-    mark_in(own, change.0.3).is_some() && change.1.is_none()
+    own.mark(change.0.3).is_some() && change.1.is_none()
 }

@@ -1,12 +1,13 @@
 // Settling a group of rows at a state and at all states whose suffix links lead to it.
-ghost use Rattle.std.specs.Prelude.{◌≡◌, ◌+◌, ◌++◌, map, true, IfOk, OnOk};
+ghost use Rattle.std.specs.Prelude.{◌≡◌, nat_eq, ◌+◌, ◌++◌, map, true, IfOk, OnOk};
 ghost use Rattle.bdb_keep.specs.Calls.{IsRead};
 ghost use Rattle.bdb_key.specs.Grammar.{HasPlainText, IsPlainValue};
 ghost use Rattle.bdb_key.specs.Bytes.{num_bytes};
 ghost use Rattle.bdb_tables.specs.Grammar.{InGrammar};
 ghost use Rattle.bdb_tables.specs.InUse.{linked_codec};
 ghost use Rattle.bdb_tables.specs.Spans.{AreUnder};
-ghost use Rattle.bdb_val.specs.Groups.{SettlesGroup};
+ghost use Rattle.bdb_val.specs.Groups.{SettlesGroup, TellsGroup};
+ghost use Rattle.bdb_val.specs.Others.{SameBut};
 ghost use Rattle.bdb_val.specs.Reads.{HaveTuples, group_prefix};
 ghost use Rattle.bdb_val.specs.Steps.{counted, IsChanging};
 ghost use Rattle.bdb_val.specs.Visits.{ArePushed, IsFirstVisit, IsNextVisit};
@@ -21,7 +22,8 @@ use std::alloc::{AllocError, Global};
 
 /// Settles the rows of the tuples of a relation and a value of its key, at a state and at all states whose suffix links lead
 /// to it: each is explicit, or inherited where no explicit row contradicts it. It goes on from a state only where a sign
-/// there is another.
+/// there is another. One write for each row that is another afterwards; it tells how many rows were put at keys that had none,
+/// and how many were taken away.
 pub fn settle_group<K: Keeper>(
     alloc: Global,
     keeper: &mut K,
@@ -34,6 +36,8 @@ pub fn settle_group<K: Keeper>(
     requires tuples { HaveTuples (K.seen keeper.old).kept }
     requires text { HasPlainText key.now }
     ensures settled { OnOk result (SettlesGroup (K.seen keeper.old).kept (K.seen keeper.new).kept wid rel key.now) }
+    ensures tells { IfOk result (TellsGroup (K.seen keeper.old) (K.seen keeper.new) wid rel key.now) }
+    ensures others { OnOk result (SameBut (λ n. nat_eq n 11) (K.seen keeper.old).kept (K.seen keeper.new).kept) }
     ensures grammar { OnOk result (InGrammar (K.seen keeper.new).kept) }
     ensures tuples { OnOk result (HaveTuples (K.seen keeper.new).kept) }
     ensures changing { IsChanging (K.seen keeper.old) (K.seen keeper.new) result TabError.Fault }

@@ -1,13 +1,15 @@
 // Rows of whole worlds: copied to another world, or taken away.
-ghost use Rattle.std.specs.Prelude.{◌≡◌, map, true, IfOk, OnOk};
+ghost use Rattle.std.specs.Prelude.{◌≡◌, nat_eq, map, true, IfOk, OnOk};
 ghost use Rattle.bdb_base.specs.Causes.{Rises};
 ghost use Rattle.bdb_keep.specs.Calls.{IsRead};
 ghost use Rattle.bdb_tables.specs.Grammar.{InGrammar};
 ghost use Rattle.bdb_tables.specs.InUse.{val_codec};
 ghost use Rattle.bdb_tables.specs.Spans.{AreUnder};
+ghost use Rattle.bdb_val.specs.Counts.{TellsDifferences};
+ghost use Rattle.bdb_val.specs.Others.{SameBut};
 ghost use Rattle.bdb_val.specs.Reads.{HaveTuples, world_prefix};
 ghost use Rattle.bdb_val.specs.Steps.{IsChanging};
-ghost use Rattle.bdb_val.specs.WorldCopies.{CopiesWorld, ClearsWorld, IsRowCount, copied, removed};
+ghost use Rattle.bdb_val.specs.WorldCopies.{CopiesWorld, ClearsWorld, TellsCopy, IsRowCount, copied, removed};
 
 use crate::changes::RowChange;
 use bdb_base::{Exact, Sign, Value};
@@ -27,8 +29,10 @@ pub fn copy_world<K: Keeper>(
     requires grammar { InGrammar (K.seen keeper.old).kept }
     requires tuples { HaveTuples (K.seen keeper.old).kept }
     ensures copied { OnOk result (CopiesWorld (K.seen keeper.old).kept (K.seen keeper.new).kept from to) }
+    ensures others { OnOk result (SameBut (λ n. nat_eq n 11) (K.seen keeper.old).kept (K.seen keeper.new).kept) }
     ensures counted { IfOk result (IsRowCount (K.seen keeper.old).kept from) }
     ensures writes { IfOk result (λ n. Rises n (K.seen keeper.old).writes (K.seen keeper.new).writes) }
+    ensures tells { IfOk result (TellsCopy (K.seen keeper.old) (K.seen keeper.new) to) }
     ensures grammar { OnOk result (InGrammar (K.seen keeper.new).kept) }
     ensures tuples { OnOk result (HaveTuples (K.seen keeper.new).kept) }
     ensures changing { IsChanging (K.seen keeper.old) (K.seen keeper.new) result TabError.Fault }
@@ -56,8 +60,10 @@ pub fn clear_world<K: Keeper>(alloc: Global, keeper: &mut K, wid: u32) -> Result
     requires grammar { InGrammar (K.seen keeper.old).kept }
     requires tuples { HaveTuples (K.seen keeper.old).kept }
     ensures cleared { OnOk result (ClearsWorld (K.seen keeper.old).kept (K.seen keeper.new).kept wid) }
+    ensures others { OnOk result (SameBut (λ n. nat_eq n 11) (K.seen keeper.old).kept (K.seen keeper.new).kept) }
     ensures counted { IfOk result (IsRowCount (K.seen keeper.old).kept wid) }
     ensures writes { IfOk result (λ n. Rises n (K.seen keeper.old).writes (K.seen keeper.new).writes) }
+    ensures tells { IfOk result (TellsDifferences (K.seen keeper.old) (K.seen keeper.new) 0) }
     ensures grammar { OnOk result (InGrammar (K.seen keeper.new).kept) }
     ensures tuples { OnOk result (HaveTuples (K.seen keeper.new).kept) }
     ensures changing { IsChanging (K.seen keeper.old) (K.seen keeper.new) result TabError.Fault }

@@ -2,12 +2,12 @@ use Rattle.std.proofs.Common.{◌≡◌, ◌∙◌, ℕ, List, [], length, Match
 use Rattle.std.specs.List.{AllByRecursion}
 use Rattle.bdb_base.specs.Causes.{Rises}
 use Rattle.bdb_keep.specs.Tables.{Tables}
-use Rattle.bdb_tables.specs.Codec.{HasAt}
-use Rattle.bdb_tables.specs.InUse.{link_codec, val_codec}
-use Rattle.bdb_tables.specs.Writes.{IsChange, with_changes}
+use Rattle.bdb_tables.specs.InUse.{val_codec}
+use Rattle.bdb_tables.specs.Writes.{with_changes}
 use Rattle.bdb_val.specs.Reads.{AreReadUnder, HaveTuples, group_prefix}
 use Rattle.bdb_val.specs.Steps.{rows_made, Tells, HasPlainKey}
 use Rattle.bdb_val.specs.declared.stored.Stored.{Stored}
+use Rattle.bdb_val.proofs.OtherLemmas.{made_same}
 use Rattle.bdb_val.proofs.StateLemmas.{read_plain, read_tuples, linked_each, made_keep_tuples, HaveTheirTuples}
 use Rattle.bdb_val.proofs.settle.settle_state.Goals as goal
 
@@ -78,3 +78,10 @@ returns-in-Ok-settle_rows-clause-tuples g c =
     (subst (λ (t : Tables). HaveTheirTuples t from) (sym b)
     (linked_each (HaveTheirTuples grouped.kept) grouped.kept prefix c.in-Ok.link from tt (λ m r. read_tuples grouped.kept (prefix m) from r) c.in-Ok-read_linked.ensures.rows)))
     c.in-Ok-settle_rows.ensures.fits c.in-Ok-settle_rows.ensures.written
+
+pub returns-in-Ok-settle_rows-clause-others : goal.returns-in-Ok-settle_rows-clause-others
+returns-in-Ok-settle_rows-clause-others g c =
+    let same = c.in-Ok-read_linked.ensures.read.kept ∙ c.in-Ok-read_group.ensures.read.kept ∙ c.in-Ok.ensures.read.kept in
+    let made = rows_made c.args.wid c.deref.result.now c.deref-2.result.now in
+    made_same (g.K.Keeper.seen c.args.keeper.now).kept (g.K.Keeper.seen c.settle_rows.new.keeper).kept made
+    (c.in-Ok-settle_rows.ensures.written ∙ ap (λ (t : Tables). with_changes val_codec t made) same)

@@ -1,4 +1,4 @@
-use Rattle.std.proofs.Common.{◌≡◌, ◌∙◌, ◌++◌, List, map, refl, ap, sym}
+use Rattle.std.proofs.Common.{◌∙◌, ◌++◌, map, refl, ap}
 use Rattle.bdb_val.proofs.walk.push_linked.Goals as goal
 
 pub returns-in-Ok-push_sources-clause-pushed : goal.returns-in-Ok-push_sources-clause-pushed

@@ -1,8 +1,10 @@
-use Rattle.std.proofs.Common.{◌≡◌, ◌∙◌, ℕ, List, [], ◌∷◌, ◌++◌, ◌-◌, take, ap, sym, subst}
+use Rattle.std.proofs.Common.{◌≡◌, ◌∙◌, ℕ, List, [], ◌++◌, ◌-◌, take, ap, subst}
 use Rattle.bdb_tables.specs.declared.tab.TabError.TheVariants.{Fault, Memory}
 use Rattle.bdb_val.specs.Reads.{group_prefix}
 use Rattle.bdb_val.specs.Walks.{Walked}
-use Rattle.bdb_val.proofs.Calls.{HasGone, gone_changing, changing_ok, changing_err, changing_undone}
+use Rattle.bdb_val.proofs.Calls.{gone_changing, changing_ok, changing_err, changing_undone}
+use Rattle.bdb_val.proofs.OtherLemmas.{walked_same}
+use Rattle.bdb_val.proofs.TreeLemmas.{walk_tells}
 use Rattle.bdb_val.proofs.WalkLemmas.{walk_settles}
 use Rattle.bdb_val.proofs.WalkingLemmas.{walk_begins, walk_more}
 use Rattle.bdb_val.proofs.walk.settle_group.Goals as goal
@@ -47,3 +49,14 @@ loop-preserved g c =
 
 pub returns-clause-changing : goal.returns-clause-changing
 returns-clause-changing g c = changing_undone (g.K.Keeper.seen c.args.keeper.now) (g.K.Keeper.seen c.loop.keeper) (g.K.Keeper.seen c.undo.new.self) Memory Fault c.loop.invariant.gone c.undo.ensures.undone (λ is. cc)
+
+pub returns-in-None-clause-others : goal.returns-in-None-clause-others
+returns-in-None-clause-others g c =
+    let h = c.loop.invariant in
+    walked_same (λ w. group_prefix w c.args.rel c.args.key.now) (g.K.Keeper.seen c.args.keeper.now).kept c.args.wid (g.K.Keeper.seen c.loop.keeper).kept c.loop.list.items h.made h.put h.taken h.walked
+
+pub returns-in-None-clause-tells : goal.returns-in-None-clause-tells
+returns-in-None-clause-tells g c =
+    let h = c.loop.invariant in
+    walk_tells (g.K.Keeper.seen c.args.keeper.now) (g.K.Keeper.seen c.loop.keeper) c.args.wid c.args.rel c.args.key.now c.loop.list.items h.made h.put h.taken c.loop.total c.ranges.rel.fits c.in-Ok.ensures.fits
+    h.walked h.put_is h.taken_is h.writes

@@ -1,6 +1,6 @@
 use Rattle.std.proofs.Common.{◌≡◌, drop}
 use Rattle.bdb_val.specs.Settling.{mark_in}
-use Rattle.bdb_val.proofs.marks.mark_in.Given as goal
+use Rattle.bdb_val.proofs.numbered.first_mark.Given as goal
 
 -- the mark is that among the rows that are left
 abbrev pub invariant-loop-row : goal.invariant-loop-row
