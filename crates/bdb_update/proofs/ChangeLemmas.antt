@@ -1,36 +1,32 @@
 -- A change of one explicit row, and what is settled and what is not after it.
-use Rattle.std.proofs.Common.{◌≡◌, ℕ, Bool, true, false, ◌&&◌, ◌||◌, nat_eq, cond, List, [], ◌∷◌, Option, Some, None, MatchOption, is_some, refl, ap, sym, subst, ◌∙◌, inl, inr}
-use Rattle.std.specs.List.{list_any}
+use Rattle.std.proofs.Common.{◌≡◌, ℕ, Bool, true, false, ◌&&◌, ◌||◌, nat_eq, List, [], ◌∷◌, Option, Some, None, MatchOption, is_some, refl, ap, sym, subst, ◌∙◌, inl, inr}
 use Rattle.std.specs.Ordering.{is_eq}
-use Rattle.std.proofs.lemmas.Bool.{cases_Bool, false≢true, false_from_ne_true, and_parts, and_from, or_left, or_right, eqb-true, eq-eqb, cond-true, cond-false}
-use Rattle.bdb_base.specs.Bases.{Contents}
+use Rattle.std.proofs.lemmas.Bool.{cases_Bool, false≢true, false_from_ne_true, and_parts, and_from, or_left, or_right, eq-eqb, cond-true, cond-false}
 use Rattle.bdb_base.specs.Same.{same_path, same_tuple, same_value}
 use Rattle.bdb_base.specs.SameLemmas.{same_path-Decides, same_tuple-Decides, same_value-Decides}
 use Rattle.bdb_base.specs.Worlds.{contradicted, IsConsistent}
 use Rattle.bdb_base.specs.declared.kinds.Sign.{Sign}
 use Rattle.bdb_base.specs.declared.kinds.Stmt.{Stmt}
-use Rattle.bdb_base.specs.declared.kinds.Value.{Value}
 use Rattle.bdb_base.specs.declared.tuple.Tuple.{Tuple}
-use Rattle.bdb_base.proofs.WorldLemmas.{explicit_tuple}
-use Rattle.bdb_keep.specs.Tables.{Tables, bytes_cmp}
+use Rattle.bdb_keep.specs.Tables.{Tables}
 use Rattle.bdb_key.specs.Grammar.{IsNum}
 use Rattle.bdb_key.specs.Rows.{IsAnyMark}
 use Rattle.bdb_key.proofs.Forms.{tied}
 use Rattle.bdb_tables.specs.InUse.{ValKey, IsValKey, val_bytes, val_codec, tuple_codec, link_codec, linked_codec}
 use Rattle.bdb_tables.specs.InUseLaws.{vals_are_one, vals_in_order}
-use Rattle.bdb_tables.specs.Marks.{Mark, sign_of, explicit_of, explicit_sign, mark_of}
-use Rattle.bdb_tables.specs.Names.{Names, AreNames, path_of, number_of, is_named, link_of, leads_to}
+use Rattle.bdb_tables.specs.Marks.{Mark, sign_of, explicit_of, explicit_sign}
+use Rattle.bdb_tables.specs.Names.{Names, path_of, number_of, is_named, link_of, leads_to}
 use Rattle.bdb_tables.specs.Rows.{Tuples, HoldsTuples, HoldsRows, row_for}
 use Rattle.bdb_tables.specs.States.{HoldsStates}
-use Rattle.bdb_tables.specs.Writes.{with_change, with_row_at, IsChange, Gives}
+use Rattle.bdb_tables.specs.Writes.{with_change, with_row_at}
 use Rattle.bdb_tables.proofs.Held.{same_place}
 use Rattle.bdb_tables.proofs.WriteLemmas.{change_gives, change_elsewhere}
 use Rattle.bdb_val.specs.Groups.{IsUnsettled, is_near}
-use Rattle.bdb_val.specs.Middle.{worlds_of, HasExplicit, IsSettledAt}
+use Rattle.bdb_val.specs.Middle.{worlds_of, IsSettledAt}
 use Rattle.bdb_val.specs.Reads.{HasRows, is_of_group}
 use Rattle.bdb_val.specs.Settled.{HasStates, settled_mark, sign_at}
 use Rattle.bdb_val.specs.Settling.{AreNumbered, key_value, row_key}
-use Rattle.bdb_val.proofs.HeldLemmas.{some_is, names_are_linked, explicit_mark, right_row, held_names}
+use Rattle.bdb_val.proofs.HeldLemmas.{names_are_linked, explicit_mark, right_row, held_names}
 use Rattle.bdb_val.proofs.NextMarks.{settled_alike}
 use Rattle.bdb_val.proofs.ReadLemmas.{key_fits}
 use Rattle.bdb_val.proofs.SettledLemmas.{right_rows_are_settled}

@@ -1,50 +1,32 @@
 -- The two rows that store the empty base.
-use Rattle.std.proofs.Common.{◌≡◌, ℕ, suc, ◌<◌, ◌≤◌, ◌^◌, Bool, true, false, not, ◌&&◌, ◌||◌, nat_eq, nat_le, nat_lt, cond, List, [], ◌∷◌, ◌++◌, length, Option, Some, None, MatchOption, is_some, refl, ap, sym, subst, ◌∙◌, inl, inr, arith, lit<}
+use Rattle.std.proofs.Common.{◌≡◌, ℕ, suc, ◌<◌, ◌^◌, true, false, not, ◌&&◌, ◌||◌, nat_eq, cond, List, [], ◌∷◌, length, Option, Some, None, is_some, refl, ap, sym, ◌∙◌, arith, lit<}
 use Prim.Native.Nat.{zero}
-use Rattle.std.specs.List.{slice_get, list_all, list_any}
-use Rattle.std.specs.Option.{option_map, option_and_then}
+use Rattle.std.specs.List.{slice_get, list_all}
 use Rattle.std.specs.Ordering.{is_eq, nat_cmp}
 use Rattle.std.specs.FinMap as tables
-use Rattle.std.specs.FinMap.{get-from_entries}
-use Rattle.std.proofs.lemmas.Cmp.{nat_list_cmp_total}
-use Rattle.std.proofs.lemmas.Bool.{cases_Bool, false≢true, false_from_ne_true, eqb-true, eq-eqb, cond-true, cond-false}
+use Rattle.std.proofs.lemmas.Bool.{false≢true, false_from_ne_true, eqb-true, cond-false}
 use Rattle.std.proofs.lemmas.Bool.Decides.{nat_tests}
 use Rattle.bdb_base.specs.Alternation.{alternates}
-use Rattle.bdb_base.specs.Bases.{Contents, empty_contents, is_user}
+use Rattle.bdb_base.specs.Bases.{is_user}
 use Rattle.bdb_base.specs.declared.kinds.RelDef.{RelDef}
-use Rattle.bdb_base.specs.declared.tuple.Tuple.{Tuple}
-use Rattle.bdb_base.specs.Same.{same_path}
 use Rattle.bdb_base.specs.Segments.{is_suffix}
 use Rattle.bdb_base.specs.States.{HasPrefixes, is_state, edge_target}
 use Rattle.bdb_names.proofs.TurnedLemmas.{number_eq}
 use Rattle.bdb_keep.specs.Tables.{Tables}
-use Rattle.bdb_tables.specs.Codec.{Codec, TableFits, place}
+use Rattle.bdb_tables.specs.Codec.{Codec}
 use Rattle.bdb_tables.specs.InUse.{ValKey, meta_codec, user_codec, rel_codec, tuple_codec, tuple_ix_codec, depth_codec, link_codec, linked_codec, edge_codec, led_codec, val_codec, plain_codec}
 use Rattle.bdb_tables.specs.InUseLaws.{numbers_in_order}
-use Rattle.bdb_tables.specs.Names.{Names, AreNames, path_of, number_of, is_named, is_listed, leads_to, depth_of, link_of, edge_from, edge_of}
+use Rattle.bdb_tables.specs.Names.{Names, AreNames, number_of, is_named, is_listed, leads_to, depth_of, link_of, edge_of}
 use Rattle.bdb_tables.specs.Rows.{Tuples, row_for, row_named}
-use Rattle.bdb_tables.specs.States.{TablesAre, HoldsStates, row_where}
-use Rattle.bdb_update.specs.Stored.{is_in, is_table, SameBut, name_of, StoredOver, StoredAs, Stores}
+use Rattle.bdb_tables.specs.States.{TablesAre, row_where}
+use Rattle.bdb_tables.specs.Stored.{name_of}
 use Rattle.bdb_tables.specs.Writes.{Gives, with_change, with_row_at}
+use Rattle.bdb_tables.proofs.CatalogLemmas.{no_rows, empty_gives, no_names}
+use Rattle.bdb_tables.proofs.SameLemmas.{outside_one, change_same}
 use Rattle.bdb_tables.proofs.WriteLemmas.{change_gives, change_elsewhere, gives_same}
 use Rattle.bdb_update.specs.StoredLaws.{TwoRowsStoreEmpty}
-use Rattle.bdb_update.proofs.GroupLemmas.{outside_one}
-use Rattle.bdb_update.proofs.SameLemmas.{change_same}
 
--- ---- tables with no row
-
-abbrev none_kept : Tables
-none_kept = tables.empty
-
-no_rows : (q : List ℕ) → tables.get none_kept q ≡ None
-no_rows q = get-from_entries nat_list_cmp_total [] q
-
-empty_gives : {Key Row : Type 0} (c : Codec Key Row) → Gives c tables.empty (λ _. None)
-empty_gives c = record {
-  fits = λ k r found. let none = sym (no_rows (c.number ∷ k)) ∙ found in absurd cc;
-  rows = λ key fits. no_rows (place c key);
-  written = λ key fits. tt;
-}
+-- ---- the two rows
 
 abbrev format_put : Tables
 format_put = with_change meta_codec tables.empty (tt, Some 2)
@@ -149,10 +131,6 @@ root_tables = record {
 
 -- ---- the empty base
 
-no_names : (n : ℕ) → None ≡ name_of [] n
-no_names zero = refl
-no_names (suc n) = refl
-
 abbrev no_rel : List RelDef
 no_rel = []
 
@@ -194,8 +172,8 @@ two_rows_store_empty = record {
     worlds = root_states;
     rows = gives_same val_codec two_rows (λ _. None) _ (λ k f. no_held k) (nothing_else val_codec (λ e. cc) (λ e. cc));
     plain = nothing_else plain_codec (λ e. cc) (λ e. cc);
-    outside = λ q out.
-        change_same depth_codec (λ n. nat_eq n 6) format_put (0, Some 0) refl q (outside_one 6 refl q out)
-        ∙ change_same meta_codec (λ n. nat_eq n 1) tables.empty (tt, Some 2) refl q (outside_one 1 refl q out) ∙ no_rows q;
+    outside = λ n k out.
+        change_same depth_codec (λ m. nat_eq m 6) format_put (0, Some 0) refl n k (outside_one 6 refl n out)
+        ∙ change_same meta_codec (λ m. nat_eq m 1) tables.empty (tt, Some 2) refl n k (outside_one 1 refl n out) ∙ no_rows (n ∷ k);
   };
 }

@@ -1,19 +1,18 @@
 -- Tables that store a base are in the grammar.
-use Rattle.std.proofs.Common.{◌≡◌, ℕ, Bool, true, false, ◌&&◌, nat_le, nat_eq, List, ◌∷◌, Option, Some, None, refl, ap, sym, subst, ◌∙◌, arith}
+use Rattle.std.proofs.Common.{◌≡◌, ℕ, Bool, true, false, nat_eq, List, refl, sym, ◌∙◌, arith}
 use Rattle.std.specs.Bool.{MatchBool}
-use Rattle.std.specs.FinMap as tables
 use Rattle.std.proofs.lemmas.Bool.{eqb-true}
 use Rattle.std.proofs.lemmas.Bool.Decides.{nat_tests}
 use Rattle.bdb_base.specs.Bases.{Contents}
 use Rattle.bdb_keep.specs.Tables.{Tables}
-use Rattle.bdb_tables.specs.Codec.{Codec, IsEntryOf}
-use Rattle.bdb_tables.specs.Grammar.{IsEntry, InGrammar}
+use Rattle.bdb_tables.specs.Grammar.{InGrammar}
 use Rattle.bdb_tables.specs.InUse.{meta_codec, user_codec, rel_codec, tuple_codec, tuple_ix_codec, depth_codec, link_codec, linked_codec, edge_codec, led_codec, val_codec, plain_codec}
 use Rattle.bdb_tables.specs.Names.{Names}
 use Rattle.bdb_tables.specs.Rows.{Tuples}
-use Rattle.bdb_update.specs.Stored.{is_table, StoredAs, Stores}
-use Rattle.bdb_tables.specs.Writes.{Gives}
+use Rattle.bdb_tables.specs.Stored.{is_table, StoredOver}
+use Rattle.bdb_base.specs.declared.kinds.Stmt.{Stmt}
 use Rattle.bdb_tables.proofs.Held.{none_some}
+use Rattle.bdb_tables.proofs.HoldsLemmas.{entry_under}
 use Rattle.bdb_update.specs.StoredLaws.{StoredIsInGrammar}
 
 -- what holds whichever way a test answers
@@ -26,14 +25,9 @@ pub no_table : (n : ℕ) → nat_eq n 1 ≡ false → nat_eq n 2 ≡ false → n
     → nat_eq n 7 ≡ false → nat_eq n 8 ≡ false → nat_eq n 9 ≡ false → nat_eq n 10 ≡ false → nat_eq n 11 ≡ false → nat_eq n 12 ≡ false → is_table n ≡ false
 no_table n a b c d e f g h i j k l = grind (arith, nat_tests)
 
-module _ {Key Row : Type 0} where
-  -- what stands under the number of a table that is given fits it
-  pub entry_under : (c : Codec Key Row) (t : Tables) (f : Key → Option Row) (n : ℕ) (k r : List ℕ) → Gives c t f → n ≡ c.number → tables.get t (n ∷ k) ≡ Some r → IsEntryOf c k r
-  entry_under c t f n k r g e found = g.fits k r (ap (λ m. tables.get t (m ∷ k)) (sym e) ∙ found)
-
-module _ (ns : Names) (ts : Tuples) (t : Tables) (b : Contents) (h : StoredAs ns ts t b) where
-  pub stored_in_grammar : InGrammar t
-  stored_in_grammar n k r found =
+module _ (reached told : List Stmt) (ns : Names) (ts : Tuples) (t : Tables) (b : Contents) (h : StoredOver reached told ns ts t b) where
+  pub over_in_grammar : InGrammar t
+  over_in_grammar n k r found =
       by_test (nat_eq n 1) _ _ (λ e. entry_under meta_codec t _ n k r h.format (eqb-true n 1 e) found) (λ n1.
       by_test (nat_eq n 2) _ _ (λ e. entry_under user_codec t _ n k r h.users (eqb-true n 2 e) found) (λ n2.
       by_test (nat_eq n 3) _ _ (λ e. entry_under rel_codec t _ n k r h.rels (eqb-true n 3 e) found) (λ n3.
@@ -46,7 +40,7 @@ module _ (ns : Names) (ts : Tuples) (t : Tables) (b : Contents) (h : StoredAs ns
       by_test (nat_eq n 10) _ _ (λ e. entry_under led_codec t _ n k r h.states.tables.led (eqb-true n 10 e) found) (λ n10.
       by_test (nat_eq n 11) _ _ (λ e. entry_under val_codec t _ n k r h.rows (eqb-true n 11 e) found) (λ n11.
       by_test (nat_eq n 12) _ _ (λ e. entry_under plain_codec t _ n k r h.plain (eqb-true n 12 e) found)
-      (λ n12. none_some r (sym (h.outside (n ∷ k) (no_table n n1 n2 n3 n4 n5 n6 n7 n8 n9 n10 n11 n12)) ∙ found)))))))))))))
+      (λ n12. none_some r (sym (h.outside n k (no_table n n1 n2 n3 n4 n5 n6 n7 n8 n9 n10 n11 n12)) ∙ found)))))))))))))
 
 pub stored_is_in_grammar : StoredIsInGrammar
-stored_is_in_grammar t b s = stored_in_grammar s.names s.tuples t b s.stored
+stored_is_in_grammar t b s = over_in_grammar b.stmts b.stmts s.names s.tuples t b s.stored

@@ -1,27 +1,42 @@
 -- A group that is settled after a change of one explicit row, and the base that the tables then store.
-use Rattle.std.proofs.Common.{◌≡◌, ℕ, true, false, nat_eq, List, [], ◌∷◌, refl, ap, sym, ◌∙◌}
-use Rattle.std.proofs.lemmas.Bool.{false≢true, false_from_ne_true, eqb-true}
+use Rattle.std.proofs.Common.{◌≡◌, ℕ, nat_eq, List, Some, refl, ◌∙◌}
 use Rattle.bdb_base.proofs.WorldLemmas.{explicit_tuple}
 use Rattle.bdb_tables.specs.InUse.{meta_codec, user_codec, rel_codec, plain_codec}
-use Rattle.bdb_update.specs.Stored.{is_in, is_table}
-use Rattle.bdb_val.specs.Settling.{AreNumbered}
+use Rattle.bdb_base.specs.Bases.{Contents}
+use Rattle.bdb_base.specs.Worlds.{IsConsistent}
+use Rattle.bdb_base.specs.declared.kinds.Stmt.{Stmt}
+use Rattle.bdb_base.specs.declared.tuple.Tuple.{Tuple}
+use Rattle.bdb_keep.specs.Tables.{Tables}
+use Rattle.bdb_tables.specs.InUse.{val_codec}
+use Rattle.bdb_tables.specs.Names.{Names, path_of}
+use Rattle.bdb_tables.specs.Rows.{Tuples, row_for}
+use Rattle.bdb_tables.specs.Writes.{with_change, with_row_at}
+use Rattle.bdb_val.specs.Groups.{IsUnsettled}
+use Rattle.bdb_val.specs.Reads.{is_of_group}
+use Rattle.bdb_val.specs.Settling.{AreNumbered, key_value}
+use Rattle.bdb_update.specs.Differing.{AreWithin, DifferAt, said_at}
+use Rattle.bdb_tables.specs.Stored.{StoredOver}
 use Rattle.bdb_val.proofs.HeldLemmas.{some_is}
 use Rattle.bdb_update.specs.ChangeLaws.{SettledGroupStores}
 use Rattle.bdb_update.proofs.ChangeLemmas.{changed_row_unsettles}
-use Rattle.bdb_update.proofs.SameLemmas.{gives_still, tuples_still, states_still}
+use Rattle.bdb_tables.proofs.SameLemmas.{outside_one, gives_still, tuples_still, states_still}
 
--- a place outside of all tables is outside of one of them
-pub outside_one : (one : ℕ) → is_table one ≡ true → (q : List ℕ) → is_in is_table q ≡ false → is_in (λ n. nat_eq n one) q ≡ false
-outside_one one t [] h = refl
-outside_one one t (n ∷ k) h = false_from_ne_true (nat_eq n one) (λ e. false≢true (sym h ∙ ap is_table (eqb-true n one e) ∙ t))
-
-pub settled_group_stores : SettledGroupStores
-settled_group_stores reached told next ns ts t v b w u wid tid h old new c d differ path name settles same =
+-- after the change of one row, only rows of its group are not settled
+pub group_unsettled : (reached told next : List Stmt) (ns : Names) (ts : Tuples) (t : Tables) (b : Contents) (w : List ℕ) (u : Tuple) (wid tid : ℕ)
+    → StoredOver reached told ns ts t b → AreWithin b.stmts reached told → AreWithin next reached told → IsConsistent (λ _. 1) b.stmts → IsConsistent (λ _. 1) next
+    → DifferAt b.stmts next w u → path_of ns wid ≡ Some w → ts.tuple tid ≡ Some u
+    → IsUnsettled next ns ts.tuple (with_row_at val_codec (row_for (λ _. 1) b.stmts (path_of ns) ts.tuple) (said_at next w wid tid u)) (with_change val_codec t (said_at next w wid tid u)) wid
+    (is_of_group u.rel (key_value u.vals))
+group_unsettled reached told next ns ts t b w u wid tid h old new c d differ path name =
     let numbered : AreNumbered ts.tuple next = λ p x s e. (
     let n = some_is (ts.number x) (h.tuples.stated x ∙ new.tuples x (explicit_tuple next p x s e)) in
     (n.0, h.tuples.numbered x n.0 n.1)) in
-    let unsettled = changed_row_unsettles b.stmts next told _ ns ts t w u wid tid h.states h.tuples h.rows
-    (λ p e. h.worlds p ∙ old.states p e) (λ p e. h.worlds p ∙ new.states p e) numbered c d differ path name in
+    changed_row_unsettles b.stmts next told _ ns ts t w u wid tid h.states h.tuples h.rows
+    (λ p e. h.worlds p ∙ old.states p e) (λ p e. h.worlds p ∙ new.states p e) numbered c d differ path name
+
+pub settled_group_stores : SettledGroupStores
+settled_group_stores reached told next ns ts t v b w u wid tid h old new c d differ path name settles same =
+    let unsettled = group_unsettled reached told next ns ts t b w u wid tid h old new c d differ path name in
     record {
       format = gives_still (λ n. nat_eq n 11) t v same meta_codec _ refl h.format;
       users = gives_still (λ n. nat_eq n 11) t v same user_codec _ refl h.users;
@@ -31,5 +46,5 @@ settled_group_stores reached told next ns ts t v b w u wid tid h old new c d dif
       worlds = h.worlds;
       rows = settles next ns ts.tuple _ unsettled;
       plain = gives_still (λ n. nat_eq n 11) t v same plain_codec _ refl h.plain;
-      outside = λ q out. same q (outside_one 11 refl q out) ∙ h.outside q out;
+      outside = λ n k out. same n k (outside_one 11 refl n out) ∙ h.outside n k out;
     }

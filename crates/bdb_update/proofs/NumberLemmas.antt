@@ -1,15 +1,11 @@
 -- Tuples get numbers and lose them, and what tables then store.
-use Rattle.std.proofs.Common.{◌≡◌, ℕ, Bool, true, false, not, ◌&&◌, ◌||◌, nat_eq, cond, List, [], ◌∷◌, Option, Some, None, MatchOption, is_some, refl, ap, sym, subst, ◌∙◌, inl, inr}
-use Rattle.std.specs.List.{list_any}
-use Rattle.std.specs.Ordering.{is_eq, nat_cmp}
+use Rattle.std.proofs.Common.{◌≡◌, ℕ, Bool, true, false, not, ◌&&◌, ◌||◌, nat_eq, cond, List, Option, Some, None, MatchOption, is_some, refl, ap, sym, subst, ◌∙◌, inl, inr}
 use Rattle.std.proofs.lemmas.Bool.{cases_Bool, false≢true, false_from_ne_true, or_from, eqb-true, eq-eqb, cond-true, cond-false}
 use Rattle.bdb_base.specs.Bases.{Contents, with_statement, without_statement}
-use Rattle.bdb_base.specs.Order.{tuple_cmp}
 use Rattle.bdb_base.specs.OrderLemmas.{statement_exact, is_eq_tuple_cmp}
 use Rattle.bdb_base.specs.Same.{same_tuple}
 use Rattle.bdb_base.specs.SameLemmas.{same_tuple-Decides}
 use Rattle.bdb_base.specs.Worlds.{explicit, stated}
-use Rattle.bdb_base.specs.declared.kinds.Sign.{Sign}
 use Rattle.bdb_base.specs.declared.kinds.Sign.TheVariants.{Plus, Minus}
 use Rattle.bdb_base.specs.declared.kinds.Stmt.{Stmt}
 use Rattle.bdb_base.specs.declared.tuple.Tuple.{Tuple}
@@ -24,16 +20,14 @@ use Rattle.bdb_tables.specs.InUseLaws.{numbers_in_order, tuples_in_order}
 use Rattle.bdb_tables.specs.Marks.{Mark, sign_by, marked, mark_of}
 use Rattle.bdb_tables.specs.Names.{Names, path_of}
 use Rattle.bdb_tables.specs.Rows.{Tuples, HoldsTuples, has_key, row_named, row_for}
-use Rattle.bdb_update.specs.Stored.{is_in, is_table, SameBut, StoredOver}
+use Rattle.bdb_tables.specs.Stored.{is_table, SameBut, StoredOver}
 use Rattle.bdb_tables.specs.Writes.{Gives, with_change, with_row_at}
-use Rattle.bdb_update.proofs.Ones.{one_answer}
+use Rattle.bdb_tables.proofs.SignLemmas.{one_answer, drop_unfelt}
+use Rattle.bdb_tables.proofs.SameLemmas.{outside_one, change_same, same_then, gives_still, states_still}
 use Rattle.bdb_tables.proofs.WriteLemmas.{change_gives, change_elsewhere, gives_same}
 use Rattle.bdb_update.specs.ChangeLaws.{NumberPutStores, NumberTakenStores, DropLeavesTuples}
 use Rattle.bdb_update.specs.Differing.{has_told}
 use Rattle.bdb_update.specs.Numbering.{with_number, without_number, number_put, number_taken}
-use Rattle.bdb_update.proofs.DifferLemmas.{drop_unfelt}
-use Rattle.bdb_update.proofs.GroupLemmas.{outside_one}
-use Rattle.bdb_update.proofs.SameLemmas.{change_same, same_then, gives_still, states_still}
 
 tuple_turned : (a b : Tuple) → same_tuple a b ≡ same_tuple b a
 tuple_turned a b = one_answer (same_tuple a b) (same_tuple b a) (λ e. (same_tuple-Decides b a).1 (sym ((same_tuple-Decides a b).0 e))) (λ e. (same_tuple-Decides a b).1 (sym ((same_tuple-Decides b a).0 e)))
@@ -68,17 +62,16 @@ no_tuple_named stmts k (Some w) = refl
 
 -- ---- the two tables of tuples
 
-abbrev of_tuples : ℕ → Bool
+abbrev pub of_tuples : ℕ → Bool
 of_tuples n = nat_eq n 4 || nat_eq n 5
 
-two_same : (t : Tables) (x : ℕ × Option Tuple) (y : Tuple × Option ℕ) → SameBut of_tuples t (with_change tuple_ix_codec (with_change tuple_codec t x) y)
+pub two_same : (t : Tables) (x : ℕ × Option Tuple) (y : Tuple × Option ℕ) → SameBut of_tuples t (with_change tuple_ix_codec (with_change tuple_codec t x) y)
 two_same t x y =
     same_then of_tuples t (with_change tuple_codec t x) (with_change tuple_ix_codec (with_change tuple_codec t x) y)
     (change_same tuple_codec of_tuples t x refl) (change_same tuple_ix_codec of_tuples (with_change tuple_codec t x) y refl)
 
-outside_tuples : (q : List ℕ) → is_in is_table q ≡ false → is_in of_tuples q ≡ false
-outside_tuples [] h = refl
-outside_tuples (n ∷ k) h = or_from (nat_eq n 4) (nat_eq n 5) (outside_one 4 refl (n ∷ k) h) (outside_one 5 refl (n ∷ k) h)
+outside_tuples : (n : ℕ) → is_table n ≡ false → of_tuples n ≡ false
+outside_tuples n h = or_from (nat_eq n 4) (nat_eq n 5) (outside_one 4 refl n h) (outside_one 5 refl n h)
 
 -- where two tables of tuples have changed, and no row of a world is another, the tables store the base with these tuples
 with_tuples : (reached told less : List Stmt) (ns : Names) (ts us : Tuples) (t : Tables) (b : Contents) (x : ℕ × Option Tuple) (y : Tuple × Option ℕ)
@@ -98,7 +91,7 @@ with_tuples reached told less ns ts us t b x y h tuples rows =
       rows = gives_same val_codec u (row_for (λ _. 1) b.stmts (path_of ns) ts.tuple) (row_for (λ _. 1) b.stmts (path_of ns) us.tuple) (λ k f. rows k)
           (gives_still of_tuples t u same val_codec _ refl h.rows);
       plain = gives_still of_tuples t u same plain_codec _ refl h.plain;
-      outside = λ q out. same q (outside_tuples q out) ∙ h.outside q out;
+      outside = λ n k out. same n k (outside_tuples n out) ∙ h.outside n k out;
     }
 
 -- a number's row, and the row of its tuple, as those of functions

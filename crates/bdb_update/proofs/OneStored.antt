@@ -1,66 +1,32 @@
 -- Tables store one base.
-use Rattle.std.proofs.Common.{◌≡◌, ℕ, suc, ◌<◌, ◌≤◌, ◌^◌, Bool, true, false, ◌&&◌, cond, nat_le, List, [], ◌∷◌, length, Option, Some, None, is_some, refl, ap, sym, subst, ◌∙◌, arith, inl, inr}
-use Rattle.std.specs.List.{list_any, slice_get}
-use Rattle.std.proofs.lemmas.Bool.{cases_Bool, cases_lt, false≢true, false_from_ne_true, leb-true}
-use Rattle.std.proofs.lemmas.Option.{slice_get_past}
-use Rattle.bdb_base.specs.Bases.{Contents, IsValid, stands}
-use Rattle.bdb_base.specs.Limits.{most_users, most_relations}
-use Rattle.bdb_base.specs.Order.{statement_cmp}
-use Rattle.bdb_base.specs.OrderLemmas.{statement_exact, is_eq_statement_cmp}
-use Rattle.bdb_base.specs.Same.{same_tuple, same_sign, same_statement}
-use Rattle.std.specs.Ordering.{is_eq}
-use Rattle.bdb_base.specs.SameLemmas.{same_tuple-Decides}
+use Rattle.std.proofs.Common.{◌≡◌, ℕ, true, ◌&&◌, List, [], ◌∷◌, Some, refl, ap, sym, ◌∙◌, inl, inr}
+use Rattle.std.proofs.lemmas.Bool.{cases_Bool, false≢true}
+use Rattle.bdb_base.specs.Bases.{Contents, IsValid}
+use Rattle.bdb_base.specs.OrderLemmas.{statement_exact}
+use Rattle.bdb_base.specs.Same.{same_tuple, same_sign}
 use Rattle.bdb_base.specs.States.{is_state}
 use Rattle.bdb_base.specs.Worlds.{explicit, IsConsistent}
-use Rattle.bdb_base.specs.declared.kinds.RelDef.{RelDef}
 use Rattle.bdb_base.specs.declared.kinds.Sign.{Sign}
-use Rattle.bdb_base.specs.declared.kinds.Sign.TheVariants.{Plus, Minus}
 use Rattle.bdb_base.specs.declared.kinds.Stmt.{Stmt}
 use Rattle.bdb_base.specs.declared.tuple.Tuple.{Tuple}
 use Rattle.bdb_base.proofs.SetLemmas.{members_make_set}
 use Rattle.bdb_base.proofs.WorldLemmas.{valid_is_consistent, nothing_stands, explicit_tuple}
 use Rattle.bdb_names.proofs.NamedLemmas.{names_are_one}
-use Rattle.bdb_paths.proofs.StateLemmas.{list_any_same}
 use Rattle.bdb_keep.specs.Tables.{Tables}
-use Rattle.bdb_key.specs.Grammar.{IsNum}
-use Rattle.bdb_tables.specs.InUse.{user_codec, rel_codec, tuple_codec, val_codec}
-use Rattle.bdb_tables.specs.InUseLaws.{text_rows_are_one, rel_rows_are_one, tuple_rows_are_one, mark_rows_are_one}
-use Rattle.bdb_tables.specs.Marks.{sign_by, explicit_of, explicit_sign}
-use Rattle.bdb_tables.specs.Names.{Names, path_of, is_named}
+use Rattle.bdb_tables.specs.InUse.{tuple_codec, val_codec}
+use Rattle.bdb_tables.specs.InUseLaws.{tuple_rows_are_one, mark_rows_are_one}
+use Rattle.bdb_tables.specs.Marks.{explicit_of}
+use Rattle.bdb_tables.specs.Names.{Names, path_of}
 use Rattle.bdb_tables.specs.Rows.{Tuples, row_for}
-use Rattle.bdb_update.specs.Stored.{name_of, StoredAs, Stores}
-use Rattle.bdb_tables.proofs.Numbered.{same_by_place}
-use Rattle.bdb_update.proofs.Ones.{one_answer, contents_of}
+use Rattle.bdb_tables.specs.Stored.{StoredAs}
+use Rattle.bdb_tables.proofs.CatalogLemmas.{one_users, one_relations, one_contents}
+use Rattle.bdb_tables.proofs.SignLemmas.{one_answer, one_sign, sign_is_explicit, stands_is_explicit}
 use Rattle.bdb_tables.proofs.WriteLemmas.{gives_one}
 use Rattle.bdb_val.specs.Middle.{worlds_of, HasExplicit}
 use Rattle.bdb_val.specs.Settling.{row_key}
 use Rattle.bdb_val.proofs.HeldLemmas.{some_is, held_rows_are_explicit}
 use Rattle.bdb_val.proofs.ReadLemmas.{key_fits}
 use Rattle.bdb_update.specs.StoredLaws.{StoredBaseIsOne}
-
--- ---- explicit signs
-
--- where no statements of one path clash, a statement's sign is the only one
-pub one_sign : (stmts : List Stmt) (w : List ℕ) (u : Tuple) (s : Sign) → IsConsistent (λ _. 1) stmts → explicit stmts w u s ≡ true → explicit_sign stmts w u ≡ Some s
-one_sign stmts w u Plus c e = ap (λ b. sign_by b (explicit stmts w u Minus)) e
-one_sign stmts w u Minus c e =
-    let none : explicit stmts w u Plus ≡ false = false_from_ne_true (explicit stmts w u Plus) (λ p. false≢true (sym (c w u u Plus Minus p e) ∙ (same_tuple-Decides u u).1 refl)) in
-    ap (λ b. sign_by b (explicit stmts w u Minus)) none ∙ ap (λ b. sign_by false b) e
-
--- an explicit sign is that of a statement
-pub sign_is_explicit : (stmts : List Stmt) (w : List ℕ) (u : Tuple) (s : Sign) → explicit_sign stmts w u ≡ Some s → explicit stmts w u s ≡ true
-sign_is_explicit stmts w u s e = by (explicit stmts w u Plus) (explicit stmts w u Minus) refl refl s e
-  where
-    by : (p m : Bool) → explicit stmts w u Plus ≡ p → explicit stmts w u Minus ≡ m → (s : Sign) → sign_by (explicit stmts w u Plus) (explicit stmts w u Minus) ≡ Some s → explicit stmts w u s ≡ true
-    by true m a b Plus e = a
-    by true m a b Minus e = let f : sign_by (explicit stmts w u Plus) (explicit stmts w u Minus) ≡ Some Plus = ap (λ x. sign_by x (explicit stmts w u Minus)) a in absurd cc
-    by false true a b Plus e = let f : sign_by (explicit stmts w u Plus) (explicit stmts w u Minus) ≡ Some Minus = ap (λ x. sign_by x (explicit stmts w u Minus)) a ∙ ap (λ x. sign_by false x) b in absurd cc
-    by false true a b Minus e = b
-    by false false a b s e = let f : sign_by (explicit stmts w u Plus) (explicit stmts w u Minus) ≡ None = ap (λ x. sign_by x (explicit stmts w u Minus)) a ∙ ap (λ x. sign_by false x) b in absurd cc
-
--- a statement stands where it is explicit at its own path
-pub stands_is_explicit : (stmts : List Stmt) (x : Stmt) → stands stmts x ≡ explicit stmts x.path x.tuple x.sign
-stands_is_explicit stmts x = list_any_same (λ y. is_eq (statement_cmp y x)) (λ y. same_statement y x) (λ y. is_eq_statement_cmp y x) stmts
 
 -- the path of a statement is a state
 pub explicit_state : (stmts : List Stmt) (w : List ℕ) (u : Tuple) (s : Sign) → explicit stmts w u s ≡ true → is_state stmts w ≡ true
@@ -96,26 +62,6 @@ module _ (ns ms : Names) (ts us : Tuples) (t : Tables) (a b : Contents) (h : Sto
       sign_is_explicit b.stmts w u s
       (sym (q.explicit wid.0 w tid.0 u path2 name2) ∙ ap explicit_of (sym one) ∙ p.explicit wid.0 w tid.0 u path name ∙ one_sign a.stmts w u s (consistent a v) e)
 
-  one_users : a.catalog.users ≡ b.catalog.users
-  one_users = same_by_place a.catalog.users b.catalog.users (λ n.
-      elim (cases_lt (suc n) (2 ^ 32)) as (λ _. slice_get a.catalog.users n ≡ slice_get b.catalog.users n) [
-        | inl num ↦ gives_one user_codec text_rows_are_one t (name_of a.catalog.users) (name_of b.catalog.users) h.users k.users (suc n) num
-        | inr past ↦
-            let few : length a.catalog.users ≤ most_users = leb-true (length a.catalog.users) most_users v.catalog.few_users in
-            let few2 : length b.catalog.users ≤ most_users = leb-true (length b.catalog.users) most_users z.catalog.few_users in
-            slice_get_past a.catalog.users n (omega (arith, past, few)) ∙ sym (slice_get_past b.catalog.users n (omega (arith, past, few2)))
-      ])
-
-  one_relations : a.catalog.rels ≡ b.catalog.rels
-  one_relations = same_by_place a.catalog.rels b.catalog.rels (λ n.
-      elim (cases_lt n (2 ^ 32)) as (λ _. slice_get a.catalog.rels n ≡ slice_get b.catalog.rels n) [
-        | inl num ↦ gives_one rel_codec rel_rows_are_one t (slice_get a.catalog.rels) (slice_get b.catalog.rels) h.rels k.rels n num
-        | inr past ↦
-            let few : length a.catalog.rels ≤ most_relations = leb-true (length a.catalog.rels) most_relations v.catalog.few_rels in
-            let few2 : length b.catalog.rels ≤ most_relations = leb-true (length b.catalog.rels) most_relations z.catalog.few_rels in
-            slice_get_past a.catalog.rels n (omega (arith, past, few)) ∙ sym (slice_get_past b.catalog.rels n (omega (arith, past, few2)))
-      ])
-
 pub stored_base_is_one : StoredBaseIsOne
 stored_base_is_one t a b p q v z =
     let h = p.stored in
@@ -128,6 +74,6 @@ stored_base_is_one t a b p q v z =
     (explicit_too n m p.tuples q.tuples t a b h k v z x.path x.tuple x.sign)
     (explicit_too m n q.tuples p.tuples t b a k h z v x.path x.tuple x.sign)
     ∙ sym (stands_is_explicit b.stmts x)) in
-    ap (λ users. contents_of users a.catalog.rels a.stmts) (one_users n m p.tuples q.tuples t a b h k v z)
-    ∙ ap (λ rels. contents_of b.catalog.users rels a.stmts) (one_relations n m p.tuples q.tuples t a b h k v z)
-    ∙ ap (λ stmts. contents_of b.catalog.users b.catalog.rels stmts) stmts
+    one_contents a b
+    (one_users t a.catalog.users b.catalog.users h.users k.users v.catalog.few_users z.catalog.few_users)
+    (one_relations t a.catalog.rels b.catalog.rels h.rels k.rels v.catalog.few_rels z.catalog.few_rels) stmts

@@ -1,7 +1,6 @@
 -- Worlds that come and go, and their rows.
-use Rattle.std.proofs.Common.{◌≡◌, ℕ, Bool, true, false, not, ◌&&◌, ◌||◌, nat_eq, nat_le, cond, List, [], ◌∷◌, Option, Some, None, refl, ap, sym, ◌∙◌, arith, inl, inr}
-use Rattle.std.specs.List.{list_any}
-use Rattle.std.proofs.lemmas.Bool.{cases_Bool, cond-true, cond-false}
+use Rattle.std.proofs.Common.{◌≡◌, ℕ, Bool, true, false, ◌&&◌, nat_eq, cond, List, [], ◌∷◌, Option, Some, None, refl, ap, sym, ◌∙◌, arith, inl, inr}
+use Rattle.std.proofs.lemmas.Bool.{cases_Bool}
 use Rattle.std.proofs.lemmas.Bool.Decides.{nat_tests}
 use Rattle.bdb_base.specs.Same.{same_tuple, same_sign}
 use Rattle.bdb_base.specs.States.{is_state, deepest_suffix}
@@ -12,22 +11,17 @@ use Rattle.bdb_base.specs.declared.kinds.Stmt.{Stmt}
 use Rattle.bdb_base.specs.declared.tuple.Tuple.{Tuple}
 use Rattle.bdb_base.proofs.WorldLemmas.{plain_inheritance, nothing_stands}
 use Rattle.bdb_paths.proofs.SuffixLemmas.{deepest_here, deepest_past}
-use Rattle.bdb_tables.specs.InUse.{ValKey, meta_codec, user_codec, rel_codec, plain_codec}
-use Rattle.bdb_tables.specs.Marks.{Mark, sign_by, sign_in, marked, mark_of}
-use Rattle.bdb_tables.specs.Names.{Names, path_of}
-use Rattle.bdb_tables.specs.Rows.{Tuples, row_named}
-use Rattle.bdb_update.specs.Stored.{is_in, is_table, StoredOver}
+use Rattle.bdb_tables.specs.InUse.{meta_codec, user_codec, rel_codec, plain_codec}
+use Rattle.bdb_tables.specs.Marks.{sign_by, sign_in, marked}
+use Rattle.bdb_tables.specs.Rows.{row_named}
+use Rattle.bdb_tables.specs.Stored.{is_table}
 use Rattle.bdb_val.specs.Settled.{HasStates}
 use Rattle.bdb_update.specs.ChangeLaws.{is_of_worlds, inherited, OtherWorldsStore, WorldGoesWithRows, WorldComesWithRows, PlainWorldInherits}
-use Rattle.bdb_update.proofs.SameLemmas.{gives_still, tuples_still}
+use Rattle.bdb_tables.proofs.SameLemmas.{gives_still, tuples_still}
 
 -- a table of worlds is one of the twelve
 no_world_table : (n : ℕ) → is_table n ≡ false → is_of_worlds n ≡ false
 no_world_table n h = grind (arith, nat_tests)
-
-outside_worlds : (q : List ℕ) → is_in is_table q ≡ false → is_in is_of_worlds q ≡ false
-outside_worlds [] h = refl
-outside_worlds (n ∷ k) h = no_world_table n h
 
 pub other_worlds_store : OtherWorldsStore
 other_worlds_store reached others told ns ms ts t u b h states worlds rows same = record {
@@ -39,7 +33,7 @@ other_worlds_store reached others told ns ms ts t u b h states worlds rows same 
   worlds = worlds;
   rows = rows;
   plain = gives_still is_of_worlds t u same plain_codec _ refl h.plain;
-  outside = λ q out. same q (outside_worlds q out) ∙ h.outside q out;
+  outside = λ n k out. same n k (no_world_table n out) ∙ h.outside n k out;
 }
 
 pub world_goes_with_rows : WorldGoesWithRows

@@ -1,8 +1,8 @@
 -- States and tuples of statements with one more or one less.
-use Rattle.std.proofs.Common.{◌≡◌, ℕ, Bool, true, false, not, ◌&&◌, ◌||◌, nat_eq, List, [], ◌∷◌, filter, refl, ap, sym, ◌∙◌, inl, inr}
+use Rattle.std.proofs.Common.{◌≡◌, ℕ, Bool, true, not, List, [], ◌∷◌, refl, sym, ◌∙◌}
 use Rattle.std.specs.List.{list_any}
 use Rattle.std.specs.Ordering.{is_eq}
-use Rattle.std.proofs.lemmas.Bool.{cases_Bool, or_cases, or_left, or_right, false≢true}
+use Rattle.std.proofs.lemmas.Bool.{or_right}
 use Rattle.bdb_base.specs.Bases.{with_statement, without_statement}
 use Rattle.bdb_base.specs.Order.{statement_cmp}
 use Rattle.bdb_base.specs.OrderLemmas.{statement_exact}
@@ -10,26 +10,12 @@ use Rattle.bdb_base.specs.Same.{same_tuple}
 use Rattle.bdb_base.specs.Segments.{is_prefix}
 use Rattle.bdb_base.specs.States.{is_state}
 use Rattle.bdb_base.specs.declared.kinds.Stmt.{Stmt}
-use Rattle.bdb_base.specs.declared.tuple.Tuple.{Tuple}
-use Rattle.bdb_base.proofs.ListLemmas.{filter_kept_one, filter_dropped_one}
 use Rattle.bdb_base.proofs.SetLemmas.{list_any-put_in}
+use Rattle.bdb_tables.proofs.SignLemmas.{found_before, drop_unfelt}
 use Rattle.bdb_update.specs.ChangeLaws.{PutIsWithin, DropIsWithin, DropLeavesStates, SameReachStores}
-use Rattle.bdb_update.specs.Differing.{has_told}
-use Rattle.bdb_update.proofs.DifferLemmas.{drop_unfelt}
 
 found_still : (p : Stmt → Bool) (stmts : List Stmt) (x : Stmt) → list_any p stmts ≡ true → list_any p (with_statement stmts x) ≡ true
 found_still p stmts x e = list_any-put_in statement_exact p stmts x ∙ or_right (p x) (list_any p stmts) e
-
--- what is found among some of a list is found in it
-pub found_before : (p q : Stmt → Bool) (xs : List Stmt) → list_any p (filter q xs) ≡ true → list_any p xs ≡ true
-found_before p q [] e = e
-found_before p q (x ∷ xs) e = elim (cases_Bool (q x)) [
-  | inl k ↦ elim (or_cases (p x) (list_any p (filter q xs)) (sym (ap (list_any p) (filter_kept_one q x xs k)) ∙ e)) [
-    | inl a ↦ or_left (p x) (list_any p xs) a
-    | inr a ↦ or_right (p x) (list_any p xs) (found_before p q xs a)
-  ]
-  | inr k ↦ or_right (p x) (list_any p xs) (found_before p q xs (sym (ap (list_any p) (filter_dropped_one q x xs k)) ∙ e))
-]
 
 still_state : (stmts : List Stmt) (x : Stmt) (w : List ℕ) → is_state stmts w ≡ true → is_state (with_statement stmts x) w ≡ true
 still_state stmts x [] e = refl

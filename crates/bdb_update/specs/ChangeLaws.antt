@@ -16,7 +16,7 @@ use Rattle.bdb_tables.specs.Marks.{Mark, explicit_sign, mark_of}
 use Rattle.bdb_tables.specs.Names.{Names, path_of, is_named, with_name, without_name}
 use Rattle.bdb_tables.specs.Rows.{Tuples, HoldsRows, row_for, row_named}
 use Rattle.bdb_tables.specs.States.{HoldsStates}
-use Rattle.bdb_update.specs.Stored.{SameBut, StoredOver}
+use Rattle.bdb_tables.specs.Stored.{SameBut, StoredOver}
 use Rattle.bdb_tables.specs.Writes.{with_change}
 use Rattle.bdb_val.specs.Groups.{SettlesGroup}
 use Rattle.bdb_val.specs.Settled.{HasStates}

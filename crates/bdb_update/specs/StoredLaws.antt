@@ -12,7 +12,7 @@ use Rattle.bdb_tables.specs.InUse.{meta_codec, user_codec, rel_codec, depth_code
 use Rattle.bdb_tables.specs.Names.{Names}
 use Rattle.bdb_tables.specs.Rows.{Tuples}
 use Rattle.bdb_tables.specs.States.{HoldsStates}
-use Rattle.bdb_update.specs.Stored.{SameBut, StoredAs, Stores}
+use Rattle.bdb_tables.specs.Stored.{SameBut, StoredAs, Stores}
 
 -- tables that store a base are in the grammar
 abbrev pub StoredIsInGrammar : Type 0

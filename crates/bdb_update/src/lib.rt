@@ -3,15 +3,36 @@
 //! what the tables store after it.
 #![tactic(auto)]
 
+mod adding;
+mod answer;
 mod change_laws;
+mod changing;
+mod dropping;
+mod elsewhere;
+mod filling;
+mod inserting;
+mod joining;
+mod leaving;
+mod looking;
+mod parting;
+mod reached;
+mod reading;
+mod replacing;
 mod stored_laws;
+mod trying;
+mod weighing;
 
+pub use adding::add_statement;
+pub use answer::{Added, UpdateError};
 pub use change_laws::{
     drop_differs_at, drop_is_within, drop_leaves_states, drop_leaves_tuples, drop_says_none,
     number_put_stores, number_taken_stores, other_worlds_store, plain_world_inherits,
     put_differs_at, put_is_within, put_says_sign, same_reach_stores, settled_group_stores,
     world_comes_with_rows, world_goes_with_rows,
 };
+pub use changing::change_statements;
+pub use dropping::drop_statement;
+pub use reading::is_told;
 pub use stored_laws::{
     edges_store_user, put_stores_relation, stored_base_is_one, stored_is_in_grammar,
     two_rows_store_empty,

@@ -1,4 +1,4 @@
-use Rattle.bdb_update.proofs.SaysLemmas.{drop_says_none}
+use Rattle.bdb_tables.proofs.SignLemmas.{drop_says_none}
 use Rattle.bdb_update.proofs.change_laws.drop_says_none.Goals as goal
 
 pub returns : goal.returns

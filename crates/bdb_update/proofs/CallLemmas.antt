@@ -1,0 +1,49 @@
+-- Calls one after the other.
+use Rattle.std.proofs.Common.{◌≡◌, ◌∙◌, true, Ok, Err, refl, sym, arith}
+use Rattle.std.proofs.lemmas.Bool.{false≢true}
+use Rattle.bdb_keep.specs.Calls.{IsRead}
+use Rattle.bdb_keep.specs.Seen.{Seen, GoesOn, IsAtRest, NeverFall}
+use Rattle.bdb_tables.proofs.Loops.{goes_then, counts_then, steps_ok, steps_err}
+use Rattle.bdb_val.proofs.Calls.{HasGone}
+
+pub gone_itself : (s : Seen) → HasGone s s
+gone_itself s = record {
+  goes = record { faults = omega arith; running = refl; last = refl; commits = refl };
+  counts = record { faults = omega arith; reads = omega arith; writes = omega arith; commits = omega arith };
+}
+
+-- ---- reads while a transaction runs
+
+-- nothing was written, and no count fell
+pub record IsQuiet (old new : Seen) : Type 0 where
+  pub goes : GoesOn old new
+  pub kept : new.kept ≡ old.kept
+  pub writes : new.writes ≡ old.writes
+  pub counts : NeverFall old new
+
+pub quiet_read : {T E : Type 0} (old new : Seen) (x : T) (fault : E) → IsRead {T = T} {E = E} old new (Ok x) fault → IsQuiet old new
+quiet_read old new x fault r = record { goes = r.steps.ok; kept = r.kept; writes = r.writes; counts = r.counts }
+
+pub quiet_then : (a b c : Seen) → IsQuiet a b → IsQuiet b c → IsQuiet a c
+quiet_then a b c g h = record { goes = goes_then a b c g.goes h.goes; kept = h.kept ∙ g.kept; writes = h.writes ∙ g.writes; counts = counts_then a b c g.counts h.counts }
+
+at_work : (s : Seen) → s.running ≡ true → IsAtRest s
+at_work s e f = absurd (false≢true (sym f ∙ e))
+
+pub read_ok : {T E : Type 0} (old new : Seen) (x : T) (fault : E) → old.running ≡ true → IsQuiet old new → IsRead {T = T} {E = E} old new (Ok x) fault
+read_ok old new x fault e q = record { rest = at_work old e; kept = q.kept; writes = q.writes; counts = q.counts; steps = steps_ok old new x fault q.goes }
+
+pub read_err : {T U E : Type 0} (old a b : Seen) (e fault : E) → old.running ≡ true → IsQuiet old a → IsRead {T = T} {E = E} a b (Err e) fault → IsRead {T = U} {E = E} old b (Err e) fault
+read_err old a b e fault run q r = record {
+  rest = at_work old run;
+  kept = tt;
+  writes = r.writes ∙ q.writes;
+  counts = counts_then old a b q.counts r.counts;
+  steps = steps_err old a b e fault q.goes r.steps;
+}
+
+pub quiet_itself : (s : Seen) → IsQuiet s s
+quiet_itself s = let g = gone_itself s in record { goes = g.goes; kept = refl; writes = refl; counts = g.counts }
+
+pub quiet_gone : (a b : Seen) → IsQuiet a b → HasGone a b
+quiet_gone a b q = record { goes = q.goes; counts = q.counts }

@@ -1,0 +1,98 @@
+-- What is said of a statement by what was read is right.
+use Rattle.std.proofs.Common.{◌≡◌, ◌∙◌, ℕ, ◌+◌, ◌-◌, ◌≤◌, Bool, true, false, nat_lt, cond, List, length, take, drop, refl, ap, sym, subst, inl, inr, Option, Some, None, is_some, suc}
+use Rattle.std.specs.Prelude.{if◌then◌else◌}
+use Rattle.std.specs.List.{list_any}
+use Rattle.std.proofs.lemmas.Bool.{false≢true, leb-true, cases_lt}
+use Rattle.std.proofs.lemmas.List.{take-append-drop, take_all}
+use Rattle.bdb_base.specs.Bases.{Contents, stands, tuple_count, world_count}
+use Rattle.bdb_base.specs.Limits.{most_worlds, most_tuples, most_statements}
+use Rattle.bdb_base.specs.declared.kinds.Stmt.{Stmt}
+use Rattle.bdb_base.specs.declared.kinds.What.{What}
+use Rattle.bdb_base.specs.declared.kinds.What.TheVariants.{Worlds, Tuples, Statements}
+use Rattle.bdb_canon.specs.Sizes.{counts_of}
+use Rattle.bdb_canon.specs.declared.sizes.Counts.{Counts}
+use Rattle.bdb_keep.specs.Tables.{Tables}
+use Rattle.bdb_tables.specs.Names.{number_of, is_named}
+use Rattle.bdb_val.specs.declared.stored.Stored.{Stored}
+use Rattle.bdb_worlds.specs.Reach.{ReachesState}
+use Rattle.bdb_update.specs.Calls.{MayMeet, SomeMayMeet, clash_of, size_passed, with_one}
+use Rattle.bdb_update.specs.Examining.{AreSizes, IsVerdict, Examines}
+use Rattle.bdb_update.specs.Joining.{IsWorldIfAny}
+use Rattle.bdb_update.specs.Looking.{IsPlace, IsSmall, is_own, least_row, counts_with, filled_by, joined_by, judged_by, judged}
+use Rattle.bdb_update.specs.declared.looking.Place.{Place}
+use Rattle.bdb_update.proofs.JudgeLemmas.{clash_found, no_clash_found, standing_found, none_standing, worlds_with, tuples_with, stmts_with}
+use Rattle.bdb_update.proofs.StageLemmas.{belongs_parts}
+
+-- ---- limits
+
+-- the first limit that is passed by so many
+passed_by : ℕ → ℕ → ℕ → Option What
+passed_by w t s = if nat_lt most_worlds w then Some Worlds else (if nat_lt most_tuples t then Some Tuples else (if nat_lt most_statements s then Some Statements else None))
+
+sizes_pass : (a b : Counts) → AreSizes a b → size_passed a ≡ size_passed b
+unfolding passed_by
+sizes_pass a b e = ap (λ n. passed_by n a.tuples a.stmts) e.worlds ∙ ap (λ n. passed_by b.worlds n a.stmts) e.tuples ∙ ap (λ n. passed_by b.worlds b.tuples n) e.stmts
+
+-- ---- the number of the path
+
+pub world_if_any : (t : Tables) (w : List ℕ) (len wid : ℕ) → ReachesState t w len wid → IsWorldIfAny t w wid
+world_if_any t w len wid reaches s h own named =
+    let r = reaches s h own in
+    elim (cases_lt len (length w)) [
+      | inl lt ↦
+          let p = take (suc len) w in
+          absurd (false≢true (sym (r.longest lt) ∙ h.names.prefixes p (drop (suc len) w) (ap (is_named s.names) (take-append-drop (suc len) w) ∙ named)))
+      | inr ge ↦ ap (number_of s.names) (sym (take_all len w ge)) ∙ r.number
+    ]
+
+module _ (t : Tables) (c : Counts) (x : Stmt) (p : Place) (place : IsPlace t x p) (b : Contents) (may : MayMeet t c x b) where
+  sizes : stands b.stmts x ≡ false → AreSizes (counts_with x p c) (counts_of (with_one b x))
+  sizes fresh =
+      let s = may.base.stored in
+      let v = may.base.valid in
+      let e = may.base.counted in
+      record {
+        worlds = ap (λ (k : Counts). k.worlds + (length x.path - p.len)) e ∙ sym (worlds_with t x p place b s v may.belongs);
+        tuples = ap (λ (k : Counts). k.tuples + cond (is_some p.tid) 0 1) e ∙ sym (tuples_with t x p place b s v may.belongs);
+        stmts = ap (λ (k : Counts). k.stmts + 1) e ∙ sym (stmts_with t x p place b s v may.belongs fresh);
+      }
+
+  verdict : IsVerdict t b x (judged x p c)
+  verdict = by_row (least_row x p.rows.items) refl
+    where
+      by_size : clash_of b x ≡ None → stands b.stmts x ≡ false → (o : Option What) → size_passed (counts_with x p c) ≡ o → IsVerdict t b x (filled_by p (counts_with x p c) o)
+      by_size apart fresh None e = record {
+        fresh = fresh;
+        apart = apart;
+        room = sym (sizes_pass (counts_with x p c) (counts_of (with_one b x)) (sizes fresh)) ∙ e;
+        sizes = sizes fresh;
+        world = world_if_any t x.path p.len p.wid place.reaches;
+        number = place.number;
+        fits = place.fits;
+      }
+      by_size apart fresh (Some what) e = (apart, sym (sizes_pass (counts_with x p c) (counts_of (with_one b x)) (sizes fresh)) ∙ e)
+
+      by_own : clash_of b x ≡ None → (own : Bool) → list_any (is_own x) p.rows.items ≡ own → IsVerdict t b x (joined_by x p c own)
+      by_own apart true e = standing_found t x p place b may.base.stored may.base.valid may.belongs e
+      by_own apart false e = by_size apart (none_standing t x p place b may.base.stored may.base.valid may.belongs e) (size_passed (counts_with x p c)) refl
+
+      by_row : (o : Option Stored) → least_row x p.rows.items ≡ o → IsVerdict t b x (judged_by x p c o)
+      by_row (Some r) e = clash_found t x p place b may.base.stored may.base.valid may.belongs r e
+      by_row None e = by_own (no_clash_found t x p place b may.base.stored may.base.valid may.belongs e) (list_any (is_own x) p.rows.items) refl
+
+pub examined : (t : Tables) (c : Counts) (x : Stmt) (p : Place) → IsPlace t x p → Examines t c x (judged x p c)
+examined t c x p place b may = verdict t c x p place b may
+
+-- the sizes are small enough to be counted
+pub small : (t : Tables) (c : Counts) (x : Stmt) (p : Place) → IsPlace t x p → SomeMayMeet t c x → IsSmall x p c
+small t c x p place some =
+    let v = some.may.base.valid.stmts in
+    let e = some.may.base.counted in
+    let b = some.base in
+    record {
+      worlds = subst (λ n. n ≤ most_worlds) (sym (ap (λ (k : Counts). k.worlds) e)) (leb-true (world_count b.stmts) most_worlds v.few_worlds);
+      tuples = subst (λ n. n ≤ most_tuples) (sym (ap (λ (k : Counts). k.tuples) e)) (leb-true (tuple_count b.stmts) most_tuples v.few_tuples);
+      stmts = subst (λ n. n ≤ most_statements) (sym (ap (λ (k : Counts). k.stmts) e)) (leb-true (length b.stmts) most_statements v.few_stmts);
+      within = place.within;
+      short = (belongs_parts b.catalog x some.may.belongs).short;
+    }

@@ -1,0 +1,276 @@
+-- Statements go, and others come, one after the other.
+use Rattle.std.proofs.Common.{◌≡◌, ◌∙◌, ℕ, ◌≤◌, ◌<◌, Bool, true, false, ◌||◌, nat_lt, List, [], ◌∷◌, Some, None, Ok, Err, refl, ap, sym, subst, inl, inr, arith, length}
+use Rattle.std.specs.Prelude.{if◌then◌else◌}
+use Rattle.std.specs.List.{list_any, list_all}
+use Rattle.std.specs.Ordering.{is_eq}
+use Rattle.std.proofs.lemmas.Bool.{cases_Bool, and_parts, or_cases, or_left, or_right, false≢true, leb-true, ltb-true}
+use Rattle.bdb_base.specs.Bases.{Contents, IsValid, belongs, key_lengths, stands, tuple_count, world_count, with_statement, without_statement}
+use Rattle.bdb_base.specs.Changes.{with_statements}
+use Rattle.bdb_base.specs.Laws.{ClashesAt}
+use Rattle.bdb_base.specs.Limits.{most_statements, most_tuples, most_worlds}
+use Rattle.bdb_base.specs.Order.{statement_cmp}
+use Rattle.bdb_base.specs.OrderLemmas.{statement_exact, is_eq_statement_cmp}
+use Rattle.bdb_base.specs.Same.{same_statement}
+use Rattle.bdb_base.specs.SortedSet.{ascending}
+use Rattle.bdb_base.specs.declared.kinds.Catalog.{Catalog}
+use Rattle.bdb_base.specs.declared.kinds.Stmt.{Stmt}
+use Rattle.bdb_base.specs.declared.kinds.What.{What}
+use Rattle.bdb_base.specs.declared.kinds.What.TheVariants.{Worlds, Tuples, Statements}
+use Rattle.bdb_base.specs.Causes.{Rose}
+use Rattle.bdb_base.proofs.BaseLemmas.{take_is_valid}
+use Rattle.bdb_base.proofs.FirstLemmas.{statement_explicit}
+use Rattle.bdb_base.proofs.LeastLemmas.{least_clash_is_least}
+use Rattle.bdb_base.proofs.SetLemmas.{list_any-put_in, members_make_set, put_adds_member, put_keeps_order, is_eq_itself, is_eq-Equal}
+use Rattle.bdb_base.proofs.WorldLemmas.{valid_is_consistent}
+use Rattle.bdb_canon.specs.Sizes.{counts_of}
+use Rattle.bdb_canon.specs.declared.sizes.Counts.{Counts}
+use Rattle.bdb_keep.specs.Seen.{Seen, GoesOn, IsDropped, NeverFall}
+use Rattle.bdb_keep.specs.Tables.{Tables}
+use Rattle.bdb_tables.specs.declared.tab.TabError.{TabError}
+use Rattle.bdb_tables.specs.declared.tab.TabError.TheVariants as stop
+use Rattle.bdb_val.specs.Steps.{IsChanging}
+use Rattle.bdb_val.proofs.Calls.{HasGone, gone_then, changing_err}
+use Rattle.bdb_update.specs.Calls.{StoresSized, MayMeet, SomeMayMeet, Drops, IsDropping, Adds, IsAdding, clash_of, of_stmts, size_passed, with_one, without_one, without_statements}
+use Rattle.bdb_update.specs.Replacing.{MayGo, SomeMayGo, Go, MayCome, SomeMayCome, Come, MayReplaceAll, SomeMayReplace, Replace, is_stop}
+use Rattle.bdb_tables.specs.Stored.{Stores}
+use Rattle.bdb_update.specs.Trying.{stopped_by}
+use Rattle.bdb_update.specs.declared.answer.Added.{Added}
+use Rattle.bdb_update.specs.declared.answer.Added.TheVariants.{New, Already}
+use Rattle.bdb_update.specs.declared.answer.UpdateError.{UpdateError}
+use Rattle.bdb_update.specs.declared.answer.UpdateError.TheVariants.{Clash, Full, Fault, Memory}
+use Rattle.bdb_update.proofs.NextLemmas.{first_is_valid}
+use Rattle.bdb_update.proofs.ReachedLemmas.{goes_first}
+
+-- ---- how calls end
+
+-- after a stop
+stopped : {T : Type 0} (old new : Seen) (e : TabError) → IsDropped old new → NeverFall old new → (e ≡ stop.Fault → Rose old.faults new.faults) → IsChanging {T = T} {E = TabError} old new (Err e) stop.Fault
+stopped old new e d c f = record {
+  counts = c;
+  steps = record { cause = record { later = c.faults; rose = λ is. f (let same : e ≡ stop.Fault = cc in same) }; ok = tt; err = d };
+}
+
+-- ---- a statement goes
+
+pub stands_belongs : (c : Catalog) (stmts : List Stmt) (x : Stmt) → list_all (belongs c) stmts ≡ true → stands stmts x ≡ true → belongs c x ≡ true
+stands_belongs c [] x h e = absurd (false≢true e)
+stands_belongs c (y ∷ ys) x h e =
+    let k = and_parts (belongs c y) (list_all (belongs c) ys) h in
+    elim (or_cases (is_eq (statement_cmp y x)) (stands ys x) e) [
+      | inl a ↦ ap (belongs c) (sym (statement_exact.exact y x (is_eq-Equal (statement_cmp y x) a))) ∙ k.0
+      | inr a ↦ stands_belongs c ys x k.1 a
+    ]
+
+may_meet : (t : Tables) (c : Counts) (x : Stmt) (gone : List Stmt) (b : Contents) → MayGo t c (x ∷ gone) b → MayMeet t c x b
+may_meet t c x gone b m = record {
+  base = m.base;
+  belongs = stands_belongs b.catalog b.stmts x m.base.valid.stmts.belong (and_parts (stands b.stmts x) (list_all (stands b.stmts) gone) m.stand).0;
+}
+
+-- the statements that are left to go, and what the base comes to
+pub record IsLeft (t : Tables) (c : Counts) (gone end : List Stmt) (b : Contents) : Type 0 where
+  pub stmts : List Stmt
+  pub may : MayGo t c gone (of_stmts b stmts)
+  pub ends : without_statements stmts gone ≡ end
+
+-- statements have gone, and these are left
+pub record IsGoing (old new : Seen) (before now : Counts) (all rest : List Stmt) : Type 0 where
+  pub gone : HasGone old new
+  pub left : (b : Contents) → MayGo old.kept before all b → IsLeft new.kept now rest (without_statements b.stmts all) b
+
+pub going_begins : (s : Seen) (c : Counts) (all : List Stmt) → HasGone s s → IsGoing s s c c all all
+going_begins s c all g = record { gone = g; left = λ b m. record { stmts = b.stmts; may = m; ends = refl } }
+
+pub going_ends : (old new : Seen) (before now : Counts) (all : List Stmt) → IsGoing old new before now all [] → Go old.kept new.kept before now all
+going_ends old new before now all g b m =
+    let l = g.left b m in subst (λ ys. StoresSized new.kept now (of_stmts b ys)) l.ends l.may.base
+
+pub some_left : (old new : Seen) (before now : Counts) (all : List Stmt) (x : Stmt) (rest : List Stmt) → IsGoing old new before now all (x ∷ rest) → SomeMayGo old.kept before all → SomeMayMeet new.kept now x
+some_left old new before now all x rest g s =
+    let l = g.left s.base s.may in record { base = of_stmts s.base l.stmts; may = may_meet new.kept now x rest (of_stmts s.base l.stmts) l.may }
+
+-- how a drop went on
+went_on : (b : Contents) (x : Stmt) (old new : Seen) (c d : Counts) (r : Bool) → IsDropping b x old new c d (Ok r) → GoesOn old new
+went_on b x old new c d true h = h.becomes.goes_on
+went_on b x old new c d false h = h.untouched.goes_on
+
+one_left : (b : Contents) (x : Stmt) (rest : List Stmt) (old new : Seen) (c d : Counts) (r : Bool) → MayGo old.kept c (x ∷ rest) b → IsDropping b x old new c d (Ok r) → MayGo new.kept d rest (without_one b x)
+one_left b x rest old new c d true m h =
+    let k = goes_first b.stmts x rest m.stand m.apart in
+    record {
+      base = record { stored = h.becomes.stored; valid = take_is_valid b.catalog b.stmts x m.base.valid; counted = h.becomes.counted };
+      stand = k.later;
+      apart = k.apart;
+    }
+one_left b x rest old new c d false m h = absurd (false≢true (sym h.none ∙ (and_parts (stands b.stmts x) (list_all (stands b.stmts) rest) m.stand).0))
+
+pub going_more : (old mid new : Seen) (before now next : Counts) (all : List Stmt) (x : Stmt) (rest : List Stmt) (r : Bool) → SomeMayGo old.kept before all → IsGoing old mid before now all (x ∷ rest)
+    → Drops mid new now next x (Ok r) → NeverFall mid new → IsGoing old new before next all rest
+going_more old mid new before now next all x rest r some g d f =
+    let l = g.left some.base some.may in
+    let b0 = of_stmts some.base l.stmts in
+    record {
+      gone = gone_then old mid new g.gone (record { goes = went_on b0 x mid new now next r (d b0 (may_meet mid.kept now x rest b0 l.may)); counts = f });
+      left = λ b m. let k = g.left b m in let c = of_stmts b k.stmts in record {
+        stmts = without_statement k.stmts x;
+        may = one_left c x rest mid new now next r k.may (d c (may_meet mid.kept now x rest c k.may));
+        ends = k.ends;
+      };
+    }
+
+drop_stops : {T : Type 0} (b : Contents) (x : Stmt) (old new : Seen) (c d : Counts) (e : TabError) → IsDropping b x old new c d (Err e) → NeverFall old new → IsChanging {T = T} {E = TabError} old new (Err e) stop.Fault
+drop_stops b x old new c d stop.Fault h f = stopped old new stop.Fault h.stopped.dropped f (λ _. h.rose)
+drop_stops b x old new c d stop.Memory h f = stopped old new stop.Memory h.dropped f (λ k. absurd cc)
+
+pub going_stops : {T : Type 0} (old mid new : Seen) (before now next : Counts) (all : List Stmt) (x : Stmt) (rest : List Stmt) (e : TabError) → SomeMayGo old.kept before all → IsGoing old mid before now all (x ∷ rest)
+    → Drops mid new now next x (Err e) → NeverFall mid new → IsChanging {T = T} {E = TabError} old new (Err e) stop.Fault
+going_stops {T} old mid new before now next all x rest e some g d f =
+    let l = g.left some.base some.may in
+    let b0 = of_stmts some.base l.stmts in
+    changing_err {T = T} {U = T} old mid new e stop.Fault g.gone (drop_stops {T = T} b0 x mid new now next e (d b0 (may_meet mid.kept now x rest b0 l.may)) f)
+
+-- ---- a statement comes
+
+may_add : (t : Tables) (c : Counts) (x : Stmt) (come : List Stmt) (b : Contents) → MayCome t c (x ∷ come) b → MayMeet t c x b
+may_add t c x come b m = record { base = m.base; belongs = (and_parts (belongs b.catalog x) (list_all (belongs b.catalog) come) m.belong).0 }
+
+with_valid : (t : Tables) (c : Counts) (x : Stmt) (come : List Stmt) (b : Contents) → MayCome t c (x ∷ come) b → IsValid b.catalog (with_statement b.stmts x)
+with_valid t c x come b m = first_is_valid b.catalog b.stmts x come m.base.valid.stmts.sorted m.next
+
+-- a statement of a valid base clashes with none of it
+no_clash : (b : Contents) (x least : Stmt) → IsValid b.catalog b.stmts → IsValid b.catalog (with_statement b.stmts x) → clash_of b x ≡ Some least → ⊥
+no_clash b x least v w e =
+    let at : ClashesAt (λ _. 1) b.stmts x.path x.tuple x.sign least = (least_clash_is_least (key_lengths b.catalog.rels) b.stmts v.stmts.sorted x.path x.tuple x.sign least e).0 in
+    let next = with_statement b.stmts x in
+    let here : list_any (same_statement x) next ≡ true = list_any-put_in statement_exact (same_statement x) b.stmts x ∙ or_left (same_statement x x) (list_any (same_statement x) b.stmts) (itself x) in
+    let there : list_any (same_statement least) next ≡ true = list_any-put_in statement_exact (same_statement least) b.stmts x ∙ or_right (same_statement least x) (list_any (same_statement least) b.stmts) at.0 in
+    let free = valid_is_consistent b.catalog next w x.path x.tuple least.tuple x.sign least.sign (statement_explicit next x.path x here refl) (statement_explicit next x.path least there at.1) in
+    false≢true (sym free ∙ at.2)
+  where
+    itself : (x : Stmt) → same_statement x x ≡ true
+    itself x = sym (is_eq_statement_cmp x x) ∙ is_eq_itself statement_exact x
+
+-- a valid base passes no limit
+no_limit : (b : Contents) (what : What) → IsValid b.catalog b.stmts → size_passed (counts_of b) ≡ Some what → ⊥
+no_limit b what v e = by (world_count b.stmts) (tuple_count b.stmts) (length b.stmts) (leb-true (world_count b.stmts) most_worlds v.stmts.few_worlds) (leb-true (tuple_count b.stmts) most_tuples v.stmts.few_tuples)
+    (leb-true (length b.stmts) most_statements v.stmts.few_stmts) e
+  where
+    not_lt : (m n : ℕ) → n ≤ m → nat_lt m n ≡ false
+    not_lt m n le = elim (cases_Bool (nat_lt m n)) [ inl a ↦ let lt : m < n = ltb-true m n a in absurd (omega arith) | inr a ↦ a ]
+
+    by : (w t s : ℕ) → w ≤ most_worlds → t ≤ most_tuples → s ≤ most_statements
+        → (if nat_lt most_worlds w then Some Worlds else (if nat_lt most_tuples t then Some Tuples else (if nat_lt most_statements s then Some Statements else None))) ≡ Some what → ⊥
+    by w t s a b c e = go (nat_lt most_worlds w) (nat_lt most_tuples t) (nat_lt most_statements s) (not_lt most_worlds w a) (not_lt most_tuples t b) (not_lt most_statements s c) e
+      where
+        go : (x y z : Bool) → x ≡ false → y ≡ false → z ≡ false → (if x then Some Worlds else (if y then Some Tuples else (if z then Some Statements else None))) ≡ Some what → ⊥
+        go true y z p q r e = absurd cc
+        go false true z p q r e = absurd cc
+        go false false true p q r e = absurd cc
+        go false false false p q r e = cc
+
+-- with one that stands, statements are the same
+stands_already : (stmts : List Stmt) (x : Stmt) → ascending statement_cmp stmts ≡ true → stands stmts x ≡ true → with_statement stmts x ≡ stmts
+stands_already stmts x s e = members_make_set statement_exact (with_statement stmts x) stmts (put_keeps_order statement_exact stmts x s) s
+    (λ z. put_adds_member statement_exact stmts x z ∙ elim (cases_Bool (is_eq (statement_cmp x z))) [
+      | inl a ↦ ap (λ b. b || stands stmts z) a ∙ sym (ap (stands stmts) (sym (statement_exact.exact x z (is_eq-Equal (statement_cmp x z) a))) ∙ e)
+      | inr a ↦ ap (λ b. b || stands stmts z) a
+    ])
+
+-- the statements that are left to come, and what the base comes to
+pub record IsToCome (t : Tables) (c : Counts) (come end : List Stmt) (b : Contents) : Type 0 where
+  pub stmts : List Stmt
+  pub may : MayCome t c come (of_stmts b stmts)
+  pub ends : with_statements stmts come ≡ end
+
+-- statements have come, and these are left
+pub record IsComing (old new : Seen) (before now : Counts) (all rest : List Stmt) : Type 0 where
+  pub gone : HasGone old new
+  pub left : (b : Contents) → MayCome old.kept before all b → IsToCome new.kept now rest (with_statements b.stmts all) b
+
+pub coming_begins : (s : Seen) (c : Counts) (all : List Stmt) → HasGone s s → IsComing s s c c all all
+coming_begins s c all g = record { gone = g; left = λ b m. record { stmts = b.stmts; may = m; ends = refl } }
+
+pub coming_ends : (old new : Seen) (before now : Counts) (all : List Stmt) → IsComing old new before now all [] → Come old.kept new.kept before now all
+coming_ends old new before now all g b m =
+    let l = g.left b m in subst (λ ys. StoresSized new.kept now (of_stmts b ys)) l.ends l.may.base
+
+pub some_to_come : (old new : Seen) (before now : Counts) (all : List Stmt) (x : Stmt) (rest : List Stmt) → IsComing old new before now all (x ∷ rest) → SomeMayCome old.kept before all → SomeMayMeet new.kept now x
+some_to_come old new before now all x rest g s =
+    let l = g.left s.base s.may in record { base = of_stmts s.base l.stmts; may = may_add new.kept now x rest (of_stmts s.base l.stmts) l.may }
+
+came_on : (b : Contents) (x : Stmt) (old new : Seen) (c d : Counts) (r : Added) → IsAdding b x old new c d (Ok r) → GoesOn old new
+came_on b x old new c d New h = h.becomes.goes_on
+came_on b x old new c d Already h = h.untouched.goes_on
+
+one_came : (b : Contents) (x : Stmt) (rest : List Stmt) (old new : Seen) (c d : Counts) (r : Added) → MayCome old.kept c (x ∷ rest) b → IsAdding b x old new c d (Ok r) → MayCome new.kept d rest (with_one b x)
+one_came b x rest old new c d New m h = record {
+  base = record { stored = h.becomes.stored; valid = with_valid old.kept c x rest b m; counted = h.becomes.counted };
+  belong = (and_parts (belongs b.catalog x) (list_all (belongs b.catalog) rest) m.belong).1;
+  next = m.next;
+}
+one_came b x rest old new c d Already m h =
+    let same : b.stmts ≡ with_statement b.stmts x = sym (stands_already b.stmts x m.base.valid.stmts.sorted h.there) in
+    let base : StoresSized new.kept d (with_one b x) = subst (λ ys. StoresSized new.kept d (of_stmts b ys)) same (record {
+      stored = subst (λ (t : Tables). Stores t b) (sym h.untouched.kept) m.base.stored;
+      valid = m.base.valid;
+      counted = h.untouched.counts ∙ m.base.counted;
+    }) in
+    record {
+      base = base;
+      belong = (and_parts (belongs b.catalog x) (list_all (belongs b.catalog) rest) m.belong).1;
+      next = m.next;
+    }
+
+pub coming_more : (old mid new : Seen) (before now next : Counts) (all : List Stmt) (x : Stmt) (rest : List Stmt) (r : Added) → SomeMayCome old.kept before all → IsComing old mid before now all (x ∷ rest)
+    → Adds mid new now next x (Ok r) → NeverFall mid new → IsComing old new before next all rest
+coming_more old mid new before now next all x rest r some g d f =
+    let l = g.left some.base some.may in
+    let b0 = of_stmts some.base l.stmts in
+    record {
+      gone = gone_then old mid new g.gone (record { goes = came_on b0 x mid new now next r (d b0 (may_add mid.kept now x rest b0 l.may)); counts = f });
+      left = λ b m. let k = g.left b m in let c = of_stmts b k.stmts in record {
+        stmts = with_statement k.stmts x;
+        may = one_came c x rest mid new now next r k.may (d c (may_add mid.kept now x rest c k.may));
+        ends = k.ends;
+      };
+    }
+
+-- nothing else refuses it than a fault or want of memory
+is_stopped : (b : Contents) (x : Stmt) (rest : List Stmt) (old new : Seen) (c d : Counts) (e : UpdateError) → MayCome old.kept c (x ∷ rest) b → IsAdding b x old new c d (Err e) → is_stop e ≡ true
+is_stopped b x rest old new c d (Clash least) m h = absurd (no_clash b x least m.base.valid (with_valid old.kept c x rest b m) h.clash)
+is_stopped b x rest old new c d (Full what) m h = absurd (no_limit (with_one b x) what (with_valid old.kept c x rest b m) h.passed)
+is_stopped b x rest old new c d Fault m h = refl
+is_stopped b x rest old new c d Memory m h = refl
+
+pub coming_is_stopped : (old mid new : Seen) (before now next : Counts) (all : List Stmt) (x : Stmt) (rest : List Stmt) (e : UpdateError) → SomeMayCome old.kept before all → IsComing old mid before now all (x ∷ rest)
+    → Adds mid new now next x (Err e) → is_stop e ≡ true
+coming_is_stopped old mid new before now next all x rest e some g d =
+    let l = g.left some.base some.may in
+    let b0 = of_stmts some.base l.stmts in
+    is_stopped b0 x rest mid new now next e l.may (d b0 (may_add mid.kept now x rest b0 l.may))
+
+add_stops : {T : Type 0} (b : Contents) (x : Stmt) (old new : Seen) (c d : Counts) (e : TabError) → IsAdding b x old new c d (Err (stopped_by e)) → NeverFall old new → IsChanging {T = T} {E = TabError} old new (Err e) stop.Fault
+add_stops b x old new c d stop.Fault h f = stopped old new stop.Fault h.stopped.dropped f (λ _. h.rose)
+add_stops b x old new c d stop.Memory h f = stopped old new stop.Memory h.dropped f (λ k. absurd cc)
+
+pub coming_stops : {T : Type 0} (old mid new : Seen) (before now next : Counts) (all : List Stmt) (x : Stmt) (rest : List Stmt) (u : UpdateError) (e : TabError) → u ≡ stopped_by e → SomeMayCome old.kept before all
+    → IsComing old mid before now all (x ∷ rest) → Adds mid new now next x (Err u) → NeverFall mid new → IsChanging {T = T} {E = TabError} old new (Err e) stop.Fault
+coming_stops {T} old mid new before now next all x rest u e is some g d f =
+    let l = g.left some.base some.may in
+    let b0 = of_stmts some.base l.stmts in
+    let h : IsAdding b0 x mid new now next (Err (stopped_by e)) = subst (λ z. IsAdding b0 x mid new now next (Err z)) is (d b0 (may_add mid.kept now x rest b0 l.may)) in
+    changing_err {T = T} {U = T} old mid new e stop.Fault g.gone (add_stops {T = T} b0 x mid new now next e h f)
+
+-- ---- statements go, and others come
+
+pub some_gone : (t : Tables) (c : Counts) (gone come : List Stmt) → SomeMayReplace t c gone come → SomeMayGo t c gone
+some_gone t c gone come s = record { base = s.base; may = s.may.may }
+
+to_come : (t u : Tables) (c d : Counts) (gone come : List Stmt) (b : Contents) → Go t u c d gone → MayReplaceAll t c gone come b → MayCome u d come (of_stmts b (without_statements b.stmts gone))
+to_come t u c d gone come b g m = record { base = g b m.may; belong = m.belong; next = m.next }
+
+pub some_come : (t u : Tables) (c d : Counts) (gone come : List Stmt) → Go t u c d gone → SomeMayReplace t c gone come → SomeMayCome u d come
+some_come t u c d gone come g s = record { base = of_stmts s.base (without_statements s.base.stmts gone); may = to_come t u c d gone come s.base g s.may }
+
+pub replaced : (t u v : Tables) (a b c : Counts) (gone come : List Stmt) → Go t u a b gone → Come u v b c come → Replace t v a c gone come
+replaced t u v a b c gone come g k base m = k (of_stmts base (without_statements base.stmts gone)) (to_come t u a b gone come base g m)

@@ -1,0 +1,281 @@
+-- The statements at a path, by the rows of its world.
+use Rattle.std.proofs.Common.{◌≡◌, ◌∙◌, ℕ, Bool, true, false, ◌&&◌, ◌||◌, nat_eq, cond, List, [], ◌∷◌, ◌++◌, refl, ap, sym, subst, inl, inr, Option, Some, None}
+use Rattle.std.specs.List.{list_any, AllByRecursion}
+use Rattle.std.specs.Ordering.{is_eq}
+use Rattle.std.proofs.lemmas.Bool.{cases_Bool, and_parts, and_from, or_cases, or_left, or_right, cond-true, cond-false, false≢true, false_from_ne_true, eqb-true, eq-eqb}
+use Rattle.bdb_base.specs.Bases.{Contents, is_user, stands}
+use Rattle.bdb_base.specs.Changes.{with_statements}
+use Rattle.bdb_base.specs.Order.{statement_cmp}
+use Rattle.bdb_base.specs.OrderLemmas.{statement_exact}
+use Rattle.bdb_base.specs.Same.{same_path}
+use Rattle.bdb_base.specs.SameLemmas.{same_path-Decides, same_tuple-Decides}
+use Rattle.bdb_base.specs.SortedSet.{ascending}
+use Rattle.bdb_base.specs.Worlds.{explicit, IsConsistent}
+use Rattle.bdb_base.specs.declared.kinds.Sign.{Sign}
+use Rattle.bdb_base.specs.declared.kinds.Sign.TheVariants.{Plus, Minus}
+use Rattle.bdb_base.specs.declared.kinds.Stmt.{Stmt}
+use Rattle.bdb_base.specs.declared.tuple.Tuple.{Tuple}
+use Rattle.bdb_base.proofs.SetLemmas.{members_make_set, filter_keeps_order, is_eq-Equal, is_eq_itself}
+use Rattle.bdb_base.proofs.UpdateLemmas.{list_any-with, with_keeps_order}
+use Rattle.bdb_base.proofs.WorldLemmas.{explicit_tuple, valid_is_consistent}
+use Rattle.bdb_keep.specs.Tables.{Tables}
+use Rattle.bdb_key.specs.Grammar.{IsNum}
+use Rattle.bdb_paths.proofs.StateLemmas.{list_any_same}
+use Rattle.bdb_tables.specs.InUse.{ValKey}
+use Rattle.bdb_tables.specs.Marks.{Mark, sign_by, explicit_of, explicit_sign}
+use Rattle.bdb_tables.specs.Names.{Names, path_of, number_of}
+use Rattle.bdb_tables.specs.Rows.{Tuples, row_for}
+use Rattle.bdb_val.specs.Middle.{worlds_of, HasExplicit}
+use Rattle.bdb_val.specs.Reads.{AreReadUnder, IsSpan, world_prefix}
+use Rattle.bdb_val.specs.Settling.{mark_in, are_apart, AreNamed}
+use Rattle.bdb_val.specs.declared.stored.Stored.{Stored}
+use Rattle.bdb_val.proofs.HeldLemmas.{some_is, held_rows_are_explicit}
+use Rattle.bdb_val.proofs.ReadLemmas.{read_named, read_mark, read_apart, world_span}
+use Rattle.bdb_worlds.specs.Holding.{HoldSome}
+use Rattle.bdb_worlds.specs.Reach.{ReachesState}
+use Rattle.bdb_update.specs.Reached.{HasState, SomeHasState, StandAt, at_path, said_of, said_at}
+use Rattle.bdb_tables.specs.Stored.{Stores, StoredAs}
+use Rattle.bdb_update.proofs.ExamineLemmas.{world_if_any}
+use Rattle.bdb_update.proofs.JudgeLemmas.{stands_is}
+use Rattle.bdb_update.proofs.OwnLemmas.{IsSaid}
+use Rattle.bdb_update.proofs.ReachedLemmas.{any-filter}
+
+-- ---- marks and signs
+
+by_sign : (p m : Bool) (s : Sign) → sign_by p m ≡ Some s → (s ≡ Plus → p ≡ true) × (s ≡ Minus → m ≡ true)
+by_sign true m Plus e = (λ _. refl, λ k. absurd cc)
+by_sign true m Minus e = absurd cc
+by_sign false true Plus e = absurd cc
+by_sign false true Minus e = (λ k. absurd cc, λ _. refl)
+by_sign false false s e = absurd cc
+
+sign_explicit : (stmts : List Stmt) (w : List ℕ) (u : Tuple) (s : Sign) → explicit_sign stmts w u ≡ Some s → explicit stmts w u s ≡ true
+sign_explicit stmts w u Plus e = (by_sign (explicit stmts w u Plus) (explicit stmts w u Minus) Plus e).0 refl
+sign_explicit stmts w u Minus e = (by_sign (explicit stmts w u Plus) (explicit stmts w u Minus) Minus e).1 refl
+
+explicit_is_sign : (stmts : List Stmt) (w : List ℕ) (u : Tuple) (s : Sign) → IsConsistent (λ _. 1) stmts → explicit stmts w u s ≡ true → explicit_sign stmts w u ≡ Some s
+explicit_is_sign stmts w u Plus c e = cond-true (explicit stmts w u Plus) (Some Plus) (cond (explicit stmts w u Minus) (Some Minus) None) e
+explicit_is_sign stmts w u Minus c e =
+    cond-false (explicit stmts w u Plus) (Some Plus) (cond (explicit stmts w u Minus) (Some Minus) None)
+    (false_from_ne_true (explicit stmts w u Plus) (λ p. false≢true (sym (c w u u Plus Minus p e) ∙ (same_tuple-Decides u u).1 refl)))
+    ∙ cond-true (explicit stmts w u Minus) (Some Minus) None e
+
+explicit_is : (o : Option Mark) (s : Sign) → explicit_of o ≡ Some s → o ≡ Some (s, true)
+explicit_is None s e = absurd cc
+explicit_is (Some m) s e = by m.1 refl
+  where
+    by : (b : Bool) → m.1 ≡ b → Some m ≡ Some (s, true)
+    by true k = let f : Some m.0 ≡ Some s = sym (cond-true m.1 (Some m.0) None k) ∙ e in let g : m.0 ≡ s = cc in ap (λ (b : Bool). Some (m.0, b)) k ∙ ap (λ (r : Sign). Some (r, true)) g
+    by false k = let f : None ≡ Some s = sym (cond-false m.1 (Some m.0) None k) ∙ e in absurd cc
+
+mark_of_each : (xs all : List Stored) → ((tid : ℕ) (m : Mark) → mark_in xs tid ≡ Some m → mark_in all tid ≡ Some m) → are_apart xs ≡ true → AllByRecursion (λ x. mark_in all x.tid ≡ Some x.mark) xs
+mark_of_each [] all h a = tt
+mark_of_each (x ∷ xs) all h a = elim (cases_Bool (list_any (λ y. nat_eq y.tid x.tid) xs)) [
+  | inl e ↦ absurd (false≢true (sym (cond-true (list_any (λ y. nat_eq y.tid x.tid) xs) false (are_apart xs) e) ∙ a))
+  | inr e ↦ (
+    h x.tid x.mark (cond-true (nat_eq x.tid x.tid) (Some x.mark) (mark_in xs x.tid) (eq-eqb x.tid x.tid refl)),
+    mark_of_each xs all (later e) (sym (cond-false (list_any (λ y. nat_eq y.tid x.tid) xs) false (are_apart xs) e) ∙ a),
+  )
+]
+  where
+    later : list_any (λ y. nat_eq y.tid x.tid) xs ≡ false → (tid : ℕ) (m : Mark) → mark_in xs tid ≡ Some m → mark_in all tid ≡ Some m
+    later e tid m k = h tid m (cond-false (nat_eq x.tid tid) (Some x.mark) (mark_in xs tid) (false_from_ne_true (nat_eq x.tid tid) (λ c.
+        none (mark_in xs tid) m (absent xs tid (ap (λ i. list_any (λ y. nat_eq y.tid i) xs) (sym (eqb-true x.tid tid c)) ∙ e)) k)) ∙ k)
+      where
+        none : (o : Option Mark) (m : Mark) → o ≡ None → o ≡ Some m → ⊥
+        none o m p q = cc
+
+        absent : (ys : List Stored) (i : ℕ) → list_any (λ y. nat_eq y.tid i) ys ≡ false → mark_in ys i ≡ None
+        absent [] i e = refl
+        absent (y ∷ ys) i e = elim (cases_Bool (nat_eq y.tid i)) [
+          | inl c ↦ absurd (false≢true (sym e ∙ ap (λ b. b || list_any (λ z. nat_eq z.tid i) ys) c))
+          | inr c ↦ cond-false (nat_eq y.tid i) (Some y.mark) (mark_in ys i) c ∙ absent ys i (sym (ap (λ b. b || list_any (λ z. nat_eq z.tid i) ys) c) ∙ e)
+        ]
+
+-- the row whose mark is found, with what holds of each row
+row_found : (Q : Stored → Type 0) (xs : List Stored) (tid : ℕ) (m : Mark) → AllByRecursion Q xs → mark_in xs tid ≡ Some m → (r : Stored) × (r.tid ≡ tid) × (r.mark ≡ m) × Q r
+row_found Q [] tid m a e = absurd cc
+row_found Q (x ∷ xs) tid m a e = elim (cases_Bool (nat_eq x.tid tid)) [
+  | inl c ↦
+      let f : Some x.mark ≡ Some m = sym (cond-true (nat_eq x.tid tid) (Some x.mark) (mark_in xs tid) c) ∙ e in
+      (x, eqb-true x.tid tid c, the_one x.mark m f, a.0)
+  | inr c ↦ row_found Q xs tid m a.1 (sym (cond-false (nat_eq x.tid tid) (Some x.mark) (mark_in xs tid) c) ∙ e)
+]
+  where
+    the_one : (a b : Mark) → Some a ≡ Some b → a ≡ b
+    the_one a b e = cc
+
+both : (P Q : Stored → Type 0) (xs : List Stored) → AllByRecursion P xs → AllByRecursion Q xs → AllByRecursion (λ x. P x × Q x) xs
+both P Q [] p q = tt
+both P Q (x ∷ xs) p q = ((p.0, q.0), both P Q xs p.1 q.1)
+
+any-append : {X : Type 0} (p : X → Bool) (xs ys : List X) → list_any p (xs ++ ys) ≡ (list_any p xs || list_any p ys)
+any-append p [] ys = refl
+any-append p (x ∷ xs) ys = ap (λ b. p x || b) (any-append p xs ys) ∙ grouped (p x) (list_any p xs) (list_any p ys)
+  where
+    grouped : (a b c : Bool) → (a || (b || c)) ≡ ((a || b) || c)
+    grouped true b c = refl
+    grouped false b c = refl
+
+-- ---- the rows of a world and the statements of its path
+
+module _ (t : Tables) (b : Contents) (ns : Names) (ts : Tuples) (stored : StoredAs ns ts t b) (consistent : IsConsistent (λ _. 1) b.stmts) (w : List ℕ) (wid : ℕ) (number : number_of ns w ≡ Some wid)
+    (rows : List Stored) (read : AreReadUnder t (world_prefix wid) rows) where
+  abbrev held : ValKey → Option Mark
+  held = row_for (λ _. 1) b.stmts (path_of ns) ts.tuple
+
+  named : path_of ns wid ≡ Some w
+  named = stored.states.names.numbered w wid number
+
+  wid_fits : IsNum wid
+  wid_fits = stored.states.names.sized w wid number
+
+  has : HasExplicit b.stmts (worlds_of ns) ts.tuple held t
+  has = held_rows_are_explicit b.stmts ns ts t stored.states.names (λ v e. stored.worlds v ∙ e) consistent stored.tuples stored.rows
+
+  span : IsSpan wid (λ _. true) (world_prefix wid)
+  span = world_span wid wid_fits
+
+  tuples : AreNamed ts.tuple rows
+  tuples = read_named ts.tuple held t has.rows (world_prefix wid) rows read
+
+  marks : AllByRecursion (λ r. mark_in rows r.tid ≡ Some r.mark) rows
+  marks = mark_of_each rows rows (λ _ _ k. k) (read_apart ts.tuple held t has.rows wid (λ _. true) (world_prefix wid) rows span read)
+
+  mark : (tid : ℕ) (v : Tuple) → ts.tuple tid ≡ Some v → explicit_of (mark_in rows tid) ≡ explicit_sign b.stmts w v
+  mark tid v n =
+      ap explicit_of (read_mark ts.tuple held t has.rows wid (λ _. true) (world_prefix wid) rows wid_fits span read tid v n refl)
+      ∙ has.explicit wid w tid v named n
+
+  -- each explicit row is a statement
+  said : AllByRecursion (IsSaid b.stmts w) rows
+  said = go rows tuples marks
+    where
+      go : (rs : List Stored) → AreNamed ts.tuple rs → AllByRecursion (λ r. mark_in rows r.tid ≡ Some r.mark) rs → AllByRecursion (IsSaid b.stmts w) rs
+      go [] a m = tt
+      go (r ∷ rs) a m = (
+        (λ e. sign_explicit b.stmts w r.tuple r.mark.0
+            (sym (mark r.tid r.tuple a.0) ∙ ap explicit_of m.0 ∙ cond-true r.mark.1 (Some r.mark.0) None e)),
+        go rs a.1 m.1,
+      )
+
+  -- each statement of the path has an explicit row, of which holds what holds of all
+  row_of : (Q : Stored → Type 0) → AllByRecursion Q rows → (v : Tuple) (s : Sign) → explicit b.stmts w v s ≡ true → (r : Stored) × (r.tuple ≡ v) × (r.mark ≡ (s, true)) × Q r
+  row_of Q all v s e =
+      let n = some_is (ts.number v) (stored.tuples.stated v ∙ explicit_tuple b.stmts w v s e) in
+      let k = stored.tuples.numbered v n.0 n.1 in
+      let m = explicit_is (mark_in rows n.0) s (mark n.0 v k ∙ explicit_is_sign b.stmts w v s consistent e) in
+      let r = row_found (λ q. (ts.tuple q.tid ≡ Some q.tuple) × Q q) rows n.0 (s, true) (both (λ q. ts.tuple q.tid ≡ Some q.tuple) Q rows tuples all) m in
+      (r.0, same (ts.tuple n.0) (ap ts.tuple (sym r.1) ∙ r.3.0) k, r.2, r.3.1)
+    where
+      same : {x y : Tuple} (o : Option Tuple) → o ≡ Some x → o ≡ Some y → x ≡ y
+      same o p q = cc
+
+  -- the statement that a row is, if it is explicit
+  abbrev made : Stored → Stmt
+  made r = record { path = w; sign = r.mark.0; tuple = r.tuple }
+
+  module _ (z : Stmt) where
+    abbrev p : Stmt → Bool
+    p y = is_eq (statement_cmp y z)
+
+    -- a statement is among those that rows are only where it stands at the path
+    one_said : (r : Stored) → IsSaid b.stmts w r → list_any p (said_of w r) ≡ true → (same_path z.path w && stands b.stmts z) ≡ true
+    one_said r h e = elim (cases_Bool r.mark.1) [
+      | inr f ↦ absurd (false≢true (sym (ap (list_any p) (cond-false r.mark.1 (made r ∷ []) [] f)) ∙ e))
+      | inl f ↦
+          let g : (p (made r) || false) ≡ true = sym (ap (list_any p) (cond-true r.mark.1 (made r ∷ []) [] f)) ∙ e in
+          let same : made r ≡ z = statement_exact.exact (made r) z (is_eq-Equal (statement_cmp (made r) z) (only (p (made r)) g)) in
+          subst (λ (y : Stmt). (same_path y.path w && stands b.stmts y) ≡ true) same
+          (and_from (same_path w w) (stands b.stmts (made r)) ((same_path-Decides w w).1 refl) (stands_is b.stmts (made r) ∙ h f))
+    ]
+      where
+        only : (a : Bool) → (a || false) ≡ true → a ≡ true
+        only true e = refl
+        only false e = e
+
+    some_said : (rs : List Stored) → AllByRecursion (IsSaid b.stmts w) rs → list_any p (said_at w rs) ≡ true → (same_path z.path w && stands b.stmts z) ≡ true
+    some_said [] a e = absurd (false≢true e)
+    some_said (r ∷ rs) a e = elim (or_cases (list_any p (said_of w r)) (list_any p (said_at w rs)) (sym (any-append p (said_of w r) (said_at w rs)) ∙ e)) [
+      | inl f ↦ one_said r a.0 f
+      | inr f ↦ some_said rs a.1 f
+    ]
+
+    abbrev IsAmong : Stored → Type 0
+    IsAmong r = list_any p (said_of w r) ≡ true → list_any p (said_at w rows) ≡ true
+
+    each_among : (rs : List Stored) → (list_any p (said_at w rs) ≡ true → list_any p (said_at w rows) ≡ true) → AllByRecursion IsAmong rs
+    each_among [] f = tt
+    each_among (r ∷ rs) f = (
+      (λ e. f (any-append p (said_of w r) (said_at w rs) ∙ or_left (list_any p (said_of w r)) (list_any p (said_at w rs)) e)),
+      each_among rs (λ e. f (any-append p (said_of w r) (said_at w rs) ∙ or_right (list_any p (said_of w r)) (list_any p (said_at w rs)) e)),
+    )
+
+    -- and is where it stands there
+    all_said : (same_path z.path w && stands b.stmts z) ≡ true → list_any p (said_at w rows) ≡ true
+    all_said e =
+        let k = and_parts (same_path z.path w) (stands b.stmts z) e in
+        let here = (same_path-Decides z.path w).0 k.0 in
+        let r = row_of IsAmong (each_among rows (λ h. h)) z.tuple z.sign (ap (λ v. explicit b.stmts v z.tuple z.sign) (sym here) ∙ sym (stands_is b.stmts z) ∙ k.1) in
+        let m : r.0.mark.1 ≡ true = ap (λ (n : Mark). n.1) r.2 in
+        let same : z ≡ made r.0 = built z (made r.0) here (sym r.1) (ap (λ (n : Mark). n.0) (sym r.2)) in
+        r.3 (ap (list_any p) (cond-true r.0.mark.1 (made r.0 ∷ []) [] m) ∙ or_left (p (made r.0)) false (ap (λ (y : Stmt). is_eq (statement_cmp y z)) (sym same) ∙ is_eq_itself statement_exact z))
+      where
+        stmt : List ℕ → Sign → Tuple → Stmt
+        stmt v g u = record { path = v; sign = g; tuple = u }
+
+        built : (x y : Stmt) → x.path ≡ y.path → x.tuple ≡ y.tuple → x.sign ≡ y.sign → x ≡ y
+        built x y e f g = ap (λ v. stmt v x.sign x.tuple) e ∙ ap (λ k. stmt y.path k x.tuple) g ∙ ap (λ u. stmt y.path y.sign u) f
+
+    -- what stands among a path's statements
+    stands_at : stands (at_path w b.stmts) z ≡ (same_path z.path w && stands b.stmts z)
+    stands_at = any-filter p (λ y. same_path y.path w) b.stmts ∙ list_any_same (λ y. same_path y.path w && p y) (λ y. same_path z.path w && p y) swap b.stmts ∙ out (same_path z.path w) b.stmts
+      where
+        swap : (y : Stmt) → (same_path y.path w && p y) ≡ (same_path z.path w && p y)
+        swap y = elim (cases_Bool (p y)) [
+          | inl e ↦ ap (λ (x : Stmt). same_path x.path w && p y) (statement_exact.exact y z (is_eq-Equal (statement_cmp y z) e))
+          | inr e ↦ ap (λ c. same_path y.path w && c) e ∙ never (same_path y.path w) (same_path z.path w) ∙ sym (ap (λ c. same_path z.path w && c) e)
+        ]
+          where
+            never : (a c : Bool) → (a && false) ≡ (c && false)
+            never true true = refl
+            never true false = refl
+            never false true = refl
+            never false false = refl
+
+        out : (a : Bool) (xs : List Stmt) → list_any (λ y. a && p y) xs ≡ (a && list_any p xs)
+        out true xs = refl
+        out false [] = refl
+        out false (x ∷ xs) = out false xs
+
+    both_stand : stands (with_statements [] (said_at w rows)) z ≡ stands (at_path w b.stmts) z
+    both_stand = list_any-with p [] (said_at w rows) ∙ ways (list_any p (said_at w rows)) (same_path z.path w && stands b.stmts z) (some_said rows said) all_said ∙ sym stands_at
+      where
+        ways : (a c : Bool) → (a ≡ true → c ≡ true) → (c ≡ true → a ≡ true) → a ≡ c
+        ways true c f g = sym (f refl)
+        ways false true f g = g refl
+        ways false false f g = refl
+
+  pub read_are_stated : ascending statement_cmp b.stmts ≡ true → with_statements [] (said_at w rows) ≡ at_path w b.stmts
+  read_are_stated s = members_make_set statement_exact (with_statements [] (said_at w rows)) (at_path w b.stmts) (with_keeps_order [] (said_at w rows) refl)
+      (filter_keeps_order statement_exact (λ y. same_path y.path w) b.stmts s) both_stand
+
+-- ---- what is read of a path
+
+-- the number of a state
+pub state_number : (t : Tables) (w : List ℕ) (len wid : ℕ) → ReachesState t w len wid → (b : Contents) → HasState t w b → (s : Stores t b) → number_of s.names w ≡ Some wid
+state_number t w len wid reaches b h s =
+    world_if_any t w len wid reaches (record { users = is_user b.catalog.users; names = s.names }) s.stored.states h.users (s.stored.worlds w ∙ h.state)
+
+pub stand_at : (t u : Tables) (w : List ℕ) (len wid : ℕ) (rows : List Stored) (xs : List Stmt) → u ≡ t → ReachesState t w len wid → AreReadUnder u (world_prefix wid) rows
+    → xs ≡ with_statements [] (said_at w rows) → StandAt t w xs wid
+stand_at t u w len wid rows xs kept reaches read is b h =
+    let s = h.stored in
+    record {
+      stmts = is ∙ read_are_stated t b s.names s.tuples s.stored (valid_is_consistent b.catalog b.stmts h.valid) w wid (state_number t w len wid reaches b h s) rows
+          (subst (λ (v : Tables). AreReadUnder v (world_prefix wid) rows) kept read) h.valid.stmts.sorted;
+      world = state_number t w len wid reaches b h;
+    }
+
+pub hold_some : (t : Tables) (w : List ℕ) → SomeHasState t w → HoldSome t w
+hold_some t w s = record { worlds = record { users = is_user s.base.catalog.users; names = s.has.stored.names }; states = s.has.stored.stored.states; own = s.has.users }

@@ -1,0 +1,36 @@
+use Rattle.std.proofs.Common.{◌∙◌, ℕ, ◌+◌, nat_eq, Some, refl, ap}
+use Rattle.bdb_val.specs.Steps.{counted}
+use Rattle.bdb_update.specs.ChangeLaws.{is_of_worlds}
+use Rattle.bdb_update.proofs.InsertLemmas.{number_still}
+use Rattle.bdb_update.proofs.LeaveLemmas.{some_parted, some_fewer, leaves, counts_left}
+use Rattle.bdb_update.proofs.leaving.leave.Goals as goal
+
+pub drop_worlds-requires-clause-base : goal.drop_worlds-requires-clause-base
+drop_worlds-requires-clause-base g c =
+    some_parted (g.K.Keeper.seen c.args.keeper.now).kept (g.K.Keeper.seen c.part_statement.new.keeper).kept c.args.stmt.now c.requires.base c.in-Ok.ensures.parted
+
+pub drop_number-requires-clause-base : goal.drop_number-requires-clause-base
+drop_number-requires-clause-base g c =
+    let t = (g.K.Keeper.seen c.args.keeper.now).kept in
+    let u = (g.K.Keeper.seen c.part_statement.new.keeper).kept in
+    some_fewer u (g.K.Keeper.seen c.drop_worlds.new.keeper).kept c.args.stmt.now (some_parted t u c.args.stmt.now c.requires.base c.in-Ok.ensures.parted) c.in-Ok-drop_worlds.ensures.worlds
+
+pub drop_number-requires-clause-number : goal.drop_number-requires-clause-number
+drop_number-requires-clause-number g c =
+    let t = (g.K.Keeper.seen c.args.keeper.now).kept in
+    let u = (g.K.Keeper.seen c.part_statement.new.keeper).kept in
+    let v = (g.K.Keeper.seen c.drop_worlds.new.keeper).kept in
+    number_still is_of_worlds u v c.args.stmt.now.tuple (Some c.args.tid) c.in-Ok-drop_worlds.ensures.others refl
+    (number_still (λ n. nat_eq n 11) t u c.args.stmt.now.tuple (Some c.args.tid) c.in-Ok.ensures.others refl c.requires.number)
+
+pub returns-in-Ok-drop_number-clause-left : goal.returns-in-Ok-drop_number-clause-left
+returns-in-Ok-drop_number-clause-left g c =
+    leaves (g.K.Keeper.seen c.args.keeper.now).kept (g.K.Keeper.seen c.part_statement.new.keeper).kept (g.K.Keeper.seen c.drop_worlds.new.keeper).kept (g.K.Keeper.seen c.drop_number.new.keeper).kept
+    c.args.stmt.now c.in-Ok.ensures.parted c.in-Ok-drop_worlds.ensures.worlds c.in-Ok-drop_number.ensures.number
+
+pub returns-in-Ok-drop_number-clause-counted : goal.returns-in-Ok-drop_number-clause-counted
+returns-in-Ok-drop_number-clause-counted g c =
+    counts_left (g.K.Keeper.seen c.args.keeper.now).kept (g.K.Keeper.seen c.part_statement.new.keeper).kept (g.K.Keeper.seen c.drop_worlds.new.keeper).kept (g.K.Keeper.seen c.drop_number.new.keeper).kept
+    c.args.stmt.now _ c.in-Ok.settled.taken c.in-Ok-drop_worlds.found.1
+    (c.both-in-Ok-drop_number.ensures ∙ ap (λ (n : ℕ). counted (n + c.in-Ok-drop_worlds.found.1)) c.both.ensures) c.in-Ok.ensures.parted c.in-Ok.ensures.rows c.in-Ok-drop_worlds.ensures.worlds c.in-Ok-drop_worlds.ensures.counted
+    c.in-Ok-drop_worlds.ensures.rows c.in-Ok-drop_number.ensures.number c.in-Ok-drop_number.ensures.tells c.in-Ok-drop_number.ensures.others

@@ -1,0 +1,74 @@
+use Rattle.std.proofs.Common.{sym}
+use Rattle.bdb_tables.specs.declared.tab.TabError.TheVariants.{Fault}
+use Rattle.bdb_tables.proofs.Fitting.{belonging_may_be}
+use Rattle.bdb_tables.proofs.Loops.{goes_then}
+use Rattle.bdb_update.proofs.CallLemmas.{quiet_read}
+use Rattle.bdb_update.proofs.GrammarLemmas.{stored_is_in_grammar}
+use Rattle.bdb_update.proofs.LeaveLemmas.{some_may_part, world_now, drop_absent, drop_stops, drop_leaves, may_lose_now}
+use Rattle.bdb_update.proofs.StageLemmas.{belongs_parts, over_has_tuples}
+use Rattle.bdb_update.proofs.leaving.try_drop.Goals as goal
+
+pub look-requires-clause-grammar : goal.look-requires-clause-grammar
+look-requires-clause-grammar g c = stored_is_in_grammar (g.K.Keeper.seen c.args.keeper.now).kept c.requires.base.base c.requires.base.may.base.stored
+
+pub look-requires-clause-tuples : goal.look-requires-clause-tuples
+look-requires-clause-tuples g c =
+    let b = c.requires.base.base in
+    let s = c.requires.base.may.base.stored in
+    over_has_tuples b.stmts b.stmts s.names s.tuples (g.K.Keeper.seen c.args.keeper.now).kept b s.stored
+
+pub look-requires-clause-states : goal.look-requires-clause-states
+look-requires-clause-states g c =
+    let b = c.requires.base.base in
+    let m = c.requires.base.may in
+    record {
+      worlds = record { users = _; names = m.base.stored.names };
+      states = m.base.stored.stored.states;
+      own = (belongs_parts b.catalog c.args.stmt.now m.belongs).users;
+    }
+
+pub look-requires-clause-apart : goal.look-requires-clause-apart
+look-requires-clause-apart g c = (belongs_parts c.requires.base.base.catalog c.args.stmt.now c.requires.base.may.belongs).apart
+
+pub look-requires-clause-tuple : goal.look-requires-clause-tuple
+look-requires-clause-tuple g c = (belonging_may_be c.requires.base.base.catalog c.args.stmt.now c.requires.base.may.base.valid.catalog c.requires.base.may.belongs).tuple
+
+pub returns-in-Err-clause-tried : goal.returns-in-Err-clause-tried
+returns-in-Err-clause-tried g c =
+    let old = g.K.Keeper.seen c.args.keeper.now in
+    drop_stops old (g.K.Keeper.seen c.look.new.keeper) c.args.counts.now c.args.stmt.now c.in-Err.error (record { counts = c.in-Err.ensures.read.counts; steps = c.in-Err.ensures.read.steps })
+
+pub returns-in-None-clause-tried : goal.returns-in-None-clause-tried
+returns-in-None-clause-tried g c =
+    let old = g.K.Keeper.seen c.args.keeper.now in
+    let mid = g.K.Keeper.seen c.look.new.keeper in
+    drop_absent old mid c.args.counts.now c.args.stmt.now c.in-Ok.place (quiet_read old mid c.in-Ok.place Fault c.in-Ok.ensures.read) c.in-Ok.ensures.place (sym c.in-None.ensures)
+
+pub leave-requires-clause-base : goal.leave-requires-clause-base
+leave-requires-clause-base g c =
+    let old = g.K.Keeper.seen c.args.keeper.now in
+    let mid = g.K.Keeper.seen c.look.new.keeper in
+    some_may_part old mid c.args.counts.now c.args.stmt.now c.in-Ok.place c.in-Ok.ensures.place (quiet_read old mid c.in-Ok.place Fault c.in-Ok.ensures.read) c.in-Some.tid (sym c.in-Some.ensures) c.requires.base
+
+pub leave-requires-clause-world : goal.leave-requires-clause-world
+leave-requires-clause-world g c =
+    let old = g.K.Keeper.seen c.args.keeper.now in
+    let mid = g.K.Keeper.seen c.look.new.keeper in
+    world_now old mid c.args.counts.now c.args.stmt.now c.in-Ok.place c.in-Ok.ensures.place (quiet_read old mid c.in-Ok.place Fault c.in-Ok.ensures.read) c.in-Some.tid (sym c.in-Some.ensures) c.requires.base
+
+pub counts_less-requires : goal.counts_less-requires
+counts_less-requires g c =
+    let old = g.K.Keeper.seen c.args.keeper.now in
+    let mid = g.K.Keeper.seen c.look.new.keeper in
+    may_lose_now old mid (g.K.Keeper.seen c.leave.new.keeper) c.args.counts.now c.args.stmt.now c.in-Ok.place c.in-Ok.ensures.place (quiet_read old mid c.in-Ok.place Fault c.in-Ok.ensures.read)
+    c.in-Some.tid (sym c.in-Some.ensures) c.in-Ok-leave.gone c.in-Ok-leave.ensures.counted c.requires.base
+
+pub returns-in-Ok-leave-clause-tried : goal.returns-in-Ok-leave-clause-tried
+returns-in-Ok-leave-clause-tried g c =
+    let old = g.K.Keeper.seen c.args.keeper.now in
+    let mid = g.K.Keeper.seen c.look.new.keeper in
+    let new = g.K.Keeper.seen c.leave.new.keeper in
+    let quiet = quiet_read old mid c.in-Ok.place Fault c.in-Ok.ensures.read in
+    drop_leaves old mid new c.args.counts.now c.args.stmt.now c.in-Ok.place c.in-Ok.ensures.place quiet
+    c.in-Some.tid (sym c.in-Some.ensures) c.in-Ok-leave.gone c.in-Ok-leave.ensures.counted c.counts_less.result c.counts_less.ensures c.in-Ok-leave.ensures.left
+    (goes_then old mid new quiet.goes c.in-Ok-leave.ensures.changing.steps.ok)

@@ -1,0 +1,43 @@
+use Rattle.std.proofs.Common.{◌∷◌, ℕ, subst, rules}
+use Rattle.bdb_key.specs.Grammar.{IsNum}
+use Rattle.bdb_val.specs.Groups.{SettlesGroup, TellsGroup}
+use Rattle.bdb_update.proofs.GrammarLemmas.{stored_is_in_grammar}
+use Rattle.bdb_update.proofs.PartLemmas.{part_may_be_tuple, parted, parted_rows, parted_same, row_gone_tuple}
+use Rattle.bdb_update.proofs.SettleLemmas.{first_plain}
+use Rattle.bdb_update.proofs.parting.part_statement.Goals as goal
+
+pub settle_group-requires-clause-grammar : goal.settle_group-requires-clause-grammar
+settle_group-requires-clause-grammar g c =
+    c.in-Ok.ensures.grammar (stored_is_in_grammar (g.K.Keeper.seen c.args.keeper.now).kept c.requires.base.base c.requires.base.stored)
+
+pub settle_group-requires-clause-tuples : goal.settle_group-requires-clause-tuples
+settle_group-requires-clause-tuples g c =
+    let num : IsNum c.args.tid = search rules in
+    row_gone_tuple (g.K.Keeper.seen c.args.keeper.now).kept (g.K.Keeper.seen c.take_row.new.keeper).kept c.args.stmt.now c.args.wid c.args.tid c.key_of-key.result.now c.requires.base c.requires.fits num
+    c.requires.number c.in-Ok.ensures.fits c.in-Ok.ensures.taken
+
+pub take_row-requires-clause-text : goal.take_row-requires-clause-text
+take_row-requires-clause-text g c =
+    first_plain c.args.stmt.now.tuple.vals c.key_of-key.result.now c.key_of-key.ensures (part_may_be_tuple c.requires.base.base c.args.stmt.now c.requires.base.may).texts
+
+pub returns-in-Ok-settle_group-clause-parted : goal.returns-in-Ok-settle_group-clause-parted
+returns-in-Ok-settle_group-clause-parted g c =
+    parted (g.K.Keeper.seen c.args.keeper.now).kept (g.K.Keeper.seen c.take_row.new.keeper).kept (g.K.Keeper.seen c.settle_group.new.keeper).kept c.args.stmt.now c.args.wid c.args.tid
+    c.key_of-key.result.now c.key_of-key.ensures c.in-Ok.ensures.taken
+    (subst (λ (n : ℕ). SettlesGroup (g.K.Keeper.seen c.take_row.new.keeper).kept (g.K.Keeper.seen c.settle_group.new.keeper).kept c.args.wid n c.key_of-key.result.now) c.rel_of-rel.ensures
+    c.in-Ok-settle_group.ensures.settled) (λ n k out. c.in-Ok-settle_group.ensures.others (n ∷ k) out)
+    c.requires.world c.requires.fits c.requires.number
+
+pub returns-in-Ok-settle_group-clause-others : goal.returns-in-Ok-settle_group-clause-others
+returns-in-Ok-settle_group-clause-others g c =
+    parted_same (g.K.Keeper.seen c.args.keeper.now).kept (g.K.Keeper.seen c.take_row.new.keeper).kept (g.K.Keeper.seen c.settle_group.new.keeper).kept c.args.stmt.now c.args.wid c.args.tid
+    c.key_of-key.result.now c.in-Ok.ensures.taken (λ n k out. c.in-Ok-settle_group.ensures.others (n ∷ k) out)
+
+pub returns-in-Ok-settle_group-clause-rows : goal.returns-in-Ok-settle_group-clause-rows
+returns-in-Ok-settle_group-clause-rows g c =
+    let mid = g.K.Keeper.seen c.take_row.new.keeper in
+    let new = g.K.Keeper.seen c.settle_group.new.keeper in
+    parted_rows (g.K.Keeper.seen c.args.keeper.now).kept mid new c.args.stmt.now c.args.wid c.args.tid
+    c.key_of-key.result.now c.in-Ok-settle_group.settled c.key_of-key.ensures c.in-Ok.ensures.taken
+    (subst (λ (n : ℕ). TellsGroup mid new c.args.wid n c.key_of-key.result.now c.in-Ok-settle_group.settled) c.rel_of-rel.ensures c.in-Ok-settle_group.ensures.tells)
+    c.in-Ok-settle_group.ensures.others c.requires.world c.requires.fits c.requires.number

@@ -1,0 +1,44 @@
+use Rattle.std.proofs.Common.{◌≡◌, ◌∙◌, ◌+◌, ◌∷◌, ap, sym, subst, drop}
+use Rattle.std.proofs.lemmas.List.{drop_more}
+use Rattle.std.proofs.lemmas.List as list
+use Rattle.bdb_update.proofs.ReplaceLemmas.{IsGoing, some_left, going_more, going_stops, going_ends}
+use Rattle.bdb_update.proofs.replacing.drop_all.Goals as goal
+
+pub drop_statement-requires-clause-base : goal.drop_statement-requires-clause-base
+drop_statement-requires-clause-base g c =
+    let gone = c.args.gone.now in
+    let x = c.stmt-item.result in
+    let rest = drop (c.loop-stmt.stmt-index + 1) gone in
+    let old = g.K.Keeper.seen c.args.keeper.now in
+    let mid = g.K.Keeper.seen c.loop-stmt.keeper in
+    let split : drop c.loop-stmt.stmt-index gone ≡ x ∷ rest = drop_more gone c.loop-stmt.stmt-index x c.loop-stmt-test.true ∙ ap (λ y. y ∷ rest) (sym c.stmt-item.is) in
+    some_left old mid c.args.counts.now c.loop-stmt.counts gone x rest (subst (IsGoing old mid c.args.counts.now c.loop-stmt.counts gone) split c.loop-stmt.invariant) c.requires.base
+
+pub returns-in-Err-clause-changing : goal.returns-in-Err-clause-changing
+returns-in-Err-clause-changing g c =
+    let gone = c.args.gone.now in
+    let x = c.stmt-item.result in
+    let rest = drop (c.loop-stmt.stmt-index + 1) gone in
+    let old = g.K.Keeper.seen c.args.keeper.now in
+    let mid = g.K.Keeper.seen c.loop-stmt.keeper in
+    let split : drop c.loop-stmt.stmt-index gone ≡ x ∷ rest = drop_more gone c.loop-stmt.stmt-index x c.loop-stmt-test.true ∙ ap (λ y. y ∷ rest) (sym c.stmt-item.is) in
+    going_stops old mid (g.K.Keeper.seen c.drop_statement.new.keeper) c.args.counts.now c.loop-stmt.counts c.drop_statement.new.counts gone x rest c.in-Err.error c.requires.base
+    (subst (IsGoing old mid c.args.counts.now c.loop-stmt.counts gone) split c.loop-stmt.invariant) c.in-Err.ensures.dropped c.in-Err.ensures.counts
+
+pub loop-stmt-preserved : goal.loop-stmt-preserved
+loop-stmt-preserved g c =
+    let gone = c.args.gone.now in
+    let x = c.stmt-item.result in
+    let rest = drop (c.loop-stmt.stmt-index + 1) gone in
+    let old = g.K.Keeper.seen c.args.keeper.now in
+    let mid = g.K.Keeper.seen c.loop-stmt.keeper in
+    let split : drop c.loop-stmt.stmt-index gone ≡ x ∷ rest = drop_more gone c.loop-stmt.stmt-index x c.loop-stmt-test.true ∙ ap (λ y. y ∷ rest) (sym c.stmt-item.is) in
+    going_more old mid (g.K.Keeper.seen c.drop_statement.new.keeper) c.args.counts.now c.loop-stmt.counts c.drop_statement.new.counts gone x rest c.in-Ok.field-0 c.requires.base
+    (subst (IsGoing old mid c.args.counts.now c.loop-stmt.counts gone) split c.loop-stmt.invariant) c.in-Ok.ensures.dropped c.in-Ok.ensures.counts
+
+pub returns-clause-gone : goal.returns-clause-gone
+returns-clause-gone g c =
+    let old = g.K.Keeper.seen c.args.keeper.now in
+    let now = g.K.Keeper.seen c.loop-stmt.keeper in
+    going_ends old now c.args.counts.now c.loop-stmt.counts c.args.gone.now
+    (subst (IsGoing old now c.args.counts.now c.loop-stmt.counts c.args.gone.now) (list.drop_all c.loop-stmt.stmt-index c.args.gone.now c.loop-stmt-test.false) c.loop-stmt.invariant)

@@ -1,0 +1,42 @@
+-- What is said of a statement before anything is written is right, whichever base the tables store.
+use Rattle.std.specs.Prelude.{◌≡◌, true, false, Some, None}
+use Rattle.bdb_base.specs.Bases.{Contents, stands}
+use Rattle.bdb_base.specs.declared.kinds.Stmt.{Stmt}
+use Rattle.bdb_canon.specs.Sizes.{counts_of}
+use Rattle.bdb_canon.specs.declared.sizes.Counts.{Counts}
+use Rattle.bdb_keep.specs.Tables.{Tables}
+use Rattle.bdb_key.specs.Rows.{IsTupleRow}
+use Rattle.bdb_tables.specs.Codec.{HasAt}
+use Rattle.bdb_tables.specs.InUse.{tuple_ix_codec}
+use Rattle.bdb_update.specs.Calls.{MayMeet, clash_of, size_passed, with_one}
+use Rattle.bdb_update.specs.Joining.{IsWorldIfAny}
+use Rattle.bdb_update.specs.declared.looking.Ready.{Ready}
+use Rattle.bdb_update.specs.declared.looking.Verdict.{Verdict}
+use Rattle.bdb_update.specs.declared.looking.Verdict.TheVariants.{Clashes, Stands, Fills, Fits}
+
+-- sizes are one but for the rows
+pub record AreSizes (a b : Counts) : Type 0 where
+  pub worlds : a.worlds ≡ b.worlds
+  pub tuples : a.tuples ≡ b.tuples
+  pub stmts : a.stmts ≡ b.stmts
+
+-- A statement may join a base: it neither stands nor clashes, and no limit is passed. These are the sizes with it, the number of
+-- its path, if that is a state, and the number of its tuple, if it has one.
+pub record IsReady (t : Tables) (b : Contents) (x : Stmt) (r : Ready) : Type 0 where
+  pub fresh : stands b.stmts x ≡ false
+  pub apart : clash_of b x ≡ None
+  pub room : size_passed (counts_of (with_one b x)) ≡ None
+  pub sizes : AreSizes r.next (counts_of (with_one b x))
+  pub world : IsWorldIfAny t x.path r.wid
+  pub number : HasAt tuple_ix_codec t x.tuple r.tid
+  pub fits : IsTupleRow x.tuple
+
+-- what is said of a statement and a base
+abbrev pub IsVerdict : Tables → Contents → Stmt → Verdict → Type 0
+IsVerdict t b x (Clashes least) = clash_of b x ≡ Some least
+IsVerdict t b x Stands = stands b.stmts x ≡ true
+IsVerdict t b x (Fills what) = (clash_of b x ≡ None) × (size_passed (counts_of (with_one b x)) ≡ Some what)
+IsVerdict t b x (Fits r) = IsReady t b x r
+
+abbrev pub Examines : Tables → Counts → Stmt → Verdict → Type 0
+Examines t counts x verdict = (b : Contents) → MayMeet t counts x b → IsVerdict t b x verdict

@@ -1,0 +1,36 @@
+// Adding a statement.
+ghost use Rattle.std.specs.Prelude.{◌≡◌, true};
+ghost use Rattle.bdb_keep.specs.Seen.{NeverFall};
+ghost use Rattle.bdb_update.specs.Calls.{Adds, SomeMayMeet};
+
+use crate::answer::{Added, UpdateError};
+use crate::trying::try_add;
+use bdb_base::Stmt;
+use bdb_canon::Counts;
+use bdb_keep::Keeper;
+use std::alloc::Global;
+
+/// Adds a statement to the base that the tables store, whose sizes are `counts`, and settles the rows of the worlds that
+/// inherit it. `Already` comes exactly where it stands, `Clash` exactly where a statement of its path clashes with it, with
+/// the least such one, and `Full` exactly where none clashes and the base would pass a limit, with the first of worlds,
+/// tuples and statements.
+pub fn add_statement<K: Keeper>(
+    alloc: Global,
+    keeper: &mut K,
+    counts: &mut Counts,
+    stmt: &Stmt,
+) -> Result<Added, UpdateError>
+    requires running { (K.seen keeper.old).running ≡ true }
+    requires base { SomeMayMeet (K.seen keeper.old).kept counts.old stmt.now }
+    ensures added { Adds (K.seen keeper.old) (K.seen keeper.new) counts.old counts.new stmt.now result }
+    ensures counts { NeverFall (K.seen keeper.old) (K.seen keeper.new) }
+{
+    match try_add(alloc, keeper, counts, stmt) {
+        Ok(Some(next)) => {
+            *counts = next;
+            Ok(Added::New)
+        }
+        Ok(None) => Ok(Added::Already),
+        Err(error) => Err(error),
+    }
+}

@@ -1,0 +1,60 @@
+// Changing statements of one path.
+ghost use Rattle.std.specs.Prelude.{◌≡◌, true};
+ghost use Rattle.bdb_keep.specs.Seen.{NeverFall};
+ghost use Rattle.bdb_update.specs.Calls.{Changes, SomeMayChange};
+ghost use Rattle.bdb_update.specs.Trying.{stopped_by};
+
+use crate::answer::UpdateError;
+use crate::replacing::replace;
+use crate::weighing::{Weight, weigh};
+use bdb_base::{Stmt, What};
+use bdb_canon::Counts;
+use bdb_keep::Keeper;
+use bdb_tables::TabError;
+use std::alloc::Global;
+
+/// Puts statements of a path in place of others of it, in the base that the tables store, whose sizes are `counts`. `Clash`
+/// comes exactly where two statements of the path would clash then, with the least that clashes with another, and `Full`
+/// exactly where none would and there would be too many tuples. It reads the path's rows and, for each statement that goes,
+/// a row of each world; then it takes statements away and adds others, one after the other.
+pub fn change_statements<K: Keeper>(
+    alloc: Global,
+    keeper: &mut K,
+    counts: &mut Counts,
+    path: &[u32],
+    gone: &[Stmt],
+    come: &[Stmt],
+) -> Result<(), UpdateError>
+    requires running { (K.seen keeper.old).running ≡ true }
+    requires base { SomeMayChange (K.seen keeper.old).kept counts.old path.now gone.now come.now }
+    ensures changed { Changes (K.seen keeper.old) (K.seen keeper.new) counts.old counts.new path.now gone.now come.now result }
+    ensures counts { NeverFall (K.seen keeper.old) (K.seen keeper.new) }
+{
+    let first = match gone.first() {
+        Some(first) => first,
+        None => return Ok(()),
+    };
+    match weigh(alloc, keeper, counts, &first.path, gone, come) {
+        Ok(Weight::Fits) => {}
+        Ok(Weight::Clashes(least)) => return Err(UpdateError::Clash(least)),
+        Ok(Weight::Fills) => return Err(UpdateError::Full(What::Tuples)),
+        Err(error) => return Err(error_of(error)),
+    }
+    match replace(alloc, keeper, counts, gone, come) {
+        Ok(next) => {
+            *counts = next;
+            Ok(())
+        }
+        Err(error) => Err(error_of(error)),
+    }
+}
+
+// Why nothing is changed, where tables could not be read or written.
+fn error_of(error: TabError) -> UpdateError
+    ensures { result ≡ stopped_by error }
+{
+    match error {
+        TabError::Fault => UpdateError::Fault,
+        TabError::Memory => UpdateError::Memory,
+    }
+}

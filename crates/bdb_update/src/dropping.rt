@@ -1,0 +1,34 @@
+// Taking a statement away.
+ghost use Rattle.std.specs.Prelude.{◌≡◌, true};
+ghost use Rattle.bdb_keep.specs.Seen.{NeverFall};
+ghost use Rattle.bdb_update.specs.Calls.{Drops, SomeMayMeet};
+
+use crate::leaving::try_drop;
+use bdb_base::Stmt;
+use bdb_canon::Counts;
+use bdb_keep::Keeper;
+use bdb_tables::TabError;
+use std::alloc::Global;
+
+/// Takes a statement away from the base that the tables store, whose sizes are `counts`, and settles the rows of the worlds
+/// that inherited it. Worlds and numbers of tuples that no statement has any more go. True exactly where it stood.
+pub fn drop_statement<K: Keeper>(
+    alloc: Global,
+    keeper: &mut K,
+    counts: &mut Counts,
+    stmt: &Stmt,
+) -> Result<bool, TabError>
+    requires running { (K.seen keeper.old).running ≡ true }
+    requires base { SomeMayMeet (K.seen keeper.old).kept counts.old stmt.now }
+    ensures dropped { Drops (K.seen keeper.old) (K.seen keeper.new) counts.old counts.new stmt.now result }
+    ensures counts { NeverFall (K.seen keeper.old) (K.seen keeper.new) }
+{
+    match try_drop(alloc, keeper, counts, stmt) {
+        Ok(Some(next)) => {
+            *counts = next;
+            Ok(true)
+        }
+        Ok(None) => Ok(false),
+        Err(error) => Err(error),
+    }
+}

@@ -1,0 +1,118 @@
+// A statement leaves a base, all steps together.
+ghost use Rattle.std.specs.Prelude.{◌≡◌, true, Some, IfOk, OnOk};
+ghost use Rattle.bdb_keep.specs.Seen.{NeverFall};
+ghost use Rattle.bdb_key.specs.Rows.{IsTupleRow};
+ghost use Rattle.bdb_tables.specs.Codec.{HasAt};
+ghost use Rattle.bdb_tables.specs.InUse.{tuple_ix_codec};
+ghost use Rattle.bdb_update.specs.Calls.{SomeMayMeet};
+ghost use Rattle.bdb_update.specs.Joining.{IsWorld};
+ghost use Rattle.bdb_update.specs.Leaving.{CountsLeft, MayLose, TriesDrop, counts_less, standing};
+ghost use Rattle.bdb_update.specs.Parting.{Leaves, SomeMayPart};
+ghost use Rattle.bdb_val.specs.Steps.{IsChanging, counted};
+
+use crate::filling::both;
+use crate::looking::{Place, has_own, look};
+use crate::parting::{drop_number, drop_worlds, part_statement};
+use bdb_base::Stmt;
+use bdb_canon::Counts;
+use bdb_keep::Keeper;
+use bdb_tables::TabError;
+use std::alloc::Global;
+
+/// What goes with a statement: how many worlds, whether its tuple's number, and how many rows of worlds came and went.
+#[derive(Clone, Copy, Drop)]
+pub struct Gone {
+    pub worlds: usize,
+    pub tuple: bool,
+    pub came: usize,
+    pub went: usize,
+}
+
+/// Takes a statement away from the base that the tables store, whose sizes are `counts`. It tells the sizes without it, or
+/// nothing where it did not stand.
+pub fn try_drop<K: Keeper>(
+    alloc: Global,
+    keeper: &mut K,
+    counts: &Counts,
+    stmt: &Stmt,
+) -> Result<Option<Counts>, TabError>
+    requires running { (K.seen keeper.old).running ≡ true }
+    requires base { SomeMayMeet (K.seen keeper.old).kept counts.now stmt.now }
+    ensures tried { TriesDrop (K.seen keeper.old) (K.seen keeper.new) counts.now stmt.now result }
+    ensures counts { NeverFall (K.seen keeper.old) (K.seen keeper.new) }
+{
+    let place = match look(alloc, keeper, stmt) {
+        Ok(place) => place,
+        Err(error) => return Err(error),
+    };
+    let tid = match number_if_stands(stmt, &place) {
+        Some(tid) => tid,
+        None => return Ok(None),
+    };
+    match leave(alloc, keeper, stmt, place.wid, tid) {
+        Ok(gone) => Ok(Some(counts_less(counts, gone))),
+        Err(error) => Err(error),
+    }
+}
+
+// The number of a statement's tuple, where by what was read the statement stands.
+fn number_if_stands(stmt: &Stmt, place: &Place) -> Option<u32>
+    ensures { result ≡ standing stmt.now place.now }
+{
+    if has_own(stmt, &place.rows) {
+        return place.tid;
+    }
+    None
+}
+
+// Lets a statement leave a base: its row goes and its group is settled, its worlds go and its tuple's number, where no other
+// statement needs them. `wid` is the number of its path, and `tid` that of its tuple.
+fn leave<K: Keeper>(
+    alloc: Global,
+    keeper: &mut K,
+    stmt: &Stmt,
+    wid: u32,
+    tid: u32,
+) -> Result<Gone, TabError>
+    requires running { (K.seen keeper.old).running ≡ true }
+    requires base { SomeMayPart (K.seen keeper.old).kept stmt.now }
+    requires world { IsWorld (K.seen keeper.old).kept stmt.now.path wid }
+    requires fits { IsTupleRow stmt.now.tuple }
+    requires number { HasAt tuple_ix_codec (K.seen keeper.old).kept stmt.now.tuple (Some tid) }
+    ensures left { OnOk result (Leaves (K.seen keeper.old).kept (K.seen keeper.new).kept stmt.now) }
+    ensures counted { IfOk result (CountsLeft (K.seen keeper.old).kept stmt.now) }
+    ensures changing { IsChanging (K.seen keeper.old) (K.seen keeper.new) result TabError.Fault }
+{
+    let settled = match part_statement(alloc, keeper, stmt, wid, tid) {
+        Ok(settled) => settled,
+        Err(error) => return Err(error),
+    };
+    let (worlds, rows) = match drop_worlds(alloc, keeper, stmt) {
+        Ok(found) => found,
+        Err(error) => return Err(error),
+    };
+    match drop_number(alloc, keeper, stmt, tid) {
+        Ok(tuple) => Ok(Gone {
+            worlds,
+            tuple,
+            came: settled.put,
+            went: both(both(settled.taken, 1), rows),
+        }),
+        Err(error) => Err(error),
+    }
+}
+
+// The sizes without what goes with a statement.
+fn counts_less(counts: &Counts, gone: Gone) -> Counts
+    requires { MayLose counts.now gone }
+    ensures { result ≡ counts_less counts.now gone }
+{
+    let tuple = if gone.tuple { 1 } else { 0 };
+    let rows = counts.rows as usize + gone.came - gone.went;
+    Counts {
+        worlds: counts.worlds - gone.worlds as u32,
+        tuples: counts.tuples - tuple,
+        stmts: counts.stmts - 1,
+        rows: rows as u32,
+    }
+}

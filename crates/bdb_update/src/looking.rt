@@ -1,0 +1,293 @@
+// What is known of a statement before anything is written.
+ghost use Rattle.std.specs.Prelude.{◌≡◌, true, IfOk, OnOk, [], ◌&&◌, is_some, cond};
+ghost use Rattle.std.specs.List.{list_any};
+ghost use Rattle.std.specs.Option.{option_copied};
+ghost use Rattle.bdb_key.specs.Rows.{IsTupleRow, MayBeTuple};
+ghost use Rattle.bdb_keep.specs.Calls.{IsRead};
+ghost use Rattle.bdb_tables.specs.Codec.{HasAt};
+ghost use Rattle.bdb_tables.specs.Grammar.{InGrammar};
+ghost use Rattle.bdb_tables.specs.InUse.{tuple_ix_codec};
+ghost use Rattle.bdb_update.specs.Calls.{SomeMayMeet, size_passed};
+ghost use Rattle.bdb_update.specs.Examining.{Examines};
+ghost use Rattle.bdb_update.specs.Looking.{AreRowsIf, IsPlace, IsSmall, counts_with, filled_by, first_of, is_clashing, is_own, joined_by, judged, least_row, prefix_of};
+ghost use Rattle.bdb_val.specs.Reads.{AreReadUnder, HaveTuples};
+ghost use Rattle.bdb_worlds.specs.Holding.{HoldSome};
+ghost use Rattle.bdb_base.specs.Alternation.{alternates};
+
+use bdb_base::limits::{MOST_STATEMENTS, MOST_TUPLES, MOST_WORLDS};
+use bdb_base::{Exact, Stmt, Tuple, What, clash, cmp_tuple, key_of, same_tuple};
+use bdb_canon::Counts;
+use bdb_keep::Keeper;
+use bdb_tables::{Tab, TabError, TupleIx, get};
+use bdb_val::{Stored, read_group};
+use bdb_worlds::longest_state;
+use std::alloc::{AllocError, Global};
+
+/// What is read of a statement: how many users of its path are those of a state and that state's number, the rows of its
+/// tuple's relation and key there, where the whole path is a state, and the number of its tuple, if it has one.
+#[derive(Drop)]
+pub struct Place {
+    pub len: usize,
+    pub wid: u32,
+    pub rows: Vec<Stored>,
+    pub tid: Option<u32>,
+}
+
+/// What is said of a statement that is to join a base.
+#[derive(Drop)]
+pub enum Verdict {
+    /// It clashes with this statement of its path.
+    Clashes(Stmt),
+    /// It stands.
+    Stands,
+    /// With it there would be too many of these.
+    Fills(What),
+    /// It may join.
+    Fits(Ready),
+}
+
+/// What there is to know of a statement that may join a base: the number of its path, if that is a state, the number of its
+/// tuple, if it has one, and the sizes with it, but for the rows.
+#[derive(Clone, Copy, Drop)]
+pub struct Ready {
+    pub wid: u32,
+    pub tid: Option<u32>,
+    pub next: Counts,
+}
+
+/// Reads what there is to know of a statement.
+pub fn look<K: Keeper>(alloc: Global, keeper: &mut K, stmt: &Stmt) -> Result<Place, TabError>
+    requires running { (K.seen keeper.old).running ≡ true }
+    requires grammar { InGrammar (K.seen keeper.old).kept }
+    requires tuples { HaveTuples (K.seen keeper.old).kept }
+    requires states { HoldSome (K.seen keeper.old).kept stmt.now.path }
+    requires apart { alternates stmt.now.path ≡ true }
+    requires tuple { MayBeTuple stmt.now.tuple }
+    ensures place { IfOk result (IsPlace (K.seen keeper.old).kept stmt.now) }
+    ensures read { IsRead (K.seen keeper.old) (K.seen keeper.new) result TabError.Fault }
+{
+    let path = stmt.path.as_slice();
+    let (len, wid) = match longest_state(alloc, keeper, path) {
+        Ok(found) => found,
+        Err(error) => return Err(error),
+    };
+    let rows = match read_rows(alloc, keeper, wid, len == path.len(), &stmt.tuple) {
+        Ok(rows) => rows,
+        Err(error) => return Err(error),
+    };
+    match find_tuple(alloc, keeper, &stmt.tuple) {
+        Ok(tid) => Ok(Place {
+            len,
+            wid,
+            rows,
+            tid,
+        }),
+        Err(error) => Err(error),
+    }
+}
+
+// The rows of a world for a tuple's relation and key, or none where they are not asked for.
+fn read_rows<K: Keeper>(
+    alloc: Global,
+    keeper: &mut K,
+    wid: u32,
+    asked: bool,
+    tuple: &Tuple,
+) -> Result<Vec<Stored>, TabError>
+    requires running { (K.seen keeper.old).running ≡ true }
+    requires grammar { InGrammar (K.seen keeper.old).kept }
+    requires tuples { HaveTuples (K.seen keeper.old).kept }
+    requires tuple { MayBeTuple tuple.now }
+    ensures rows { IfOk result (λ rows. AreRowsIf (K.seen keeper.old).kept wid tuple.now asked rows.items) }
+    ensures read { IsRead (K.seen keeper.old) (K.seen keeper.new) result TabError.Fault }
+{
+    if !asked {
+        return Ok(Vec::new(alloc));
+    }
+    match read_group(alloc, keeper, wid, tuple.rel, key_of(tuple)) {
+        Ok(rows) => Ok(rows),
+        Err(error) => Err(error),
+    }
+}
+
+// The number of a tuple, if it has one. Its bytes tell that its numbers and integers are of the sizes of their types.
+fn find_tuple<K: Keeper>(
+    alloc: Global,
+    keeper: &mut K,
+    tuple: &Tuple,
+) -> Result<Option<u32>, TabError>
+    requires grammar { InGrammar (K.seen keeper.old).kept }
+    requires tuple { MayBeTuple tuple.now }
+    ensures found { IfOk result (HasAt tuple_ix_codec (K.seen keeper.old).kept tuple.now) }
+    ensures fits { OnOk result (IsTupleRow tuple.now) }
+    ensures read { IsRead (K.seen keeper.old) (K.seen keeper.new) result TabError.Fault }
+{
+    match spell(alloc, tuple) {
+        Ok(()) => {}
+        Err(_) => {
+            keeper.undo();
+            return Err(TabError::Memory);
+        }
+    }
+    match get::<TupleIx, K>(alloc, keeper, tuple) {
+        Ok(found) => Ok(found),
+        Err(error) => Err(error),
+    }
+}
+
+// Spells the bytes of a tuple.
+fn spell(alloc: Global, tuple: &Tuple) -> Result<(), AllocError>
+    requires { MayBeTuple tuple.now }
+    ensures { OnOk result (IsTupleRow tuple.now) }
+{
+    let mut bytes = Vec::new(alloc);
+    TupleIx::key_bytes(tuple, &mut bytes)?;
+    Ok(())
+}
+
+/// Reads what there is to know of a statement, and says whether it may join the base.
+pub fn examine<K: Keeper>(
+    alloc: Global,
+    keeper: &mut K,
+    stmt: &Stmt,
+    counts: &Counts,
+) -> Result<Verdict, TabError>
+    requires running { (K.seen keeper.old).running ≡ true }
+    requires base { SomeMayMeet (K.seen keeper.old).kept counts.now stmt.now }
+    ensures examined { IfOk result (Examines (K.seen keeper.old).kept counts.now stmt.now) }
+    ensures read { IsRead (K.seen keeper.old) (K.seen keeper.new) result TabError.Fault }
+{
+    let place = match look(alloc, keeper, stmt) {
+        Ok(place) => place,
+        Err(error) => return Err(error),
+    };
+    match judge(alloc, stmt, &place, counts) {
+        Ok(verdict) => Ok(verdict),
+        Err(_) => {
+            keeper.undo();
+            Err(TabError::Memory)
+        }
+    }
+}
+
+// What is said of a statement by what was read, and by the sizes of the base.
+fn judge(alloc: Global, stmt: &Stmt, place: &Place, counts: &Counts) -> Result<Verdict, AllocError>
+    requires { IsSmall stmt.now place.now counts.now }
+    ensures { IfOk result (λ verdict. verdict ≡ judged stmt.now place.now counts.now) }
+{
+    match least_row(stmt, &place.rows) {
+        Some(row) => {
+            let path = stmt.path.try_clone(alloc)?;
+            let tuple = row.tuple.try_clone(alloc)?;
+            Ok(Verdict::Clashes(Stmt {
+                path,
+                sign: row.mark.0,
+                tuple,
+            }))
+        }
+        None => Ok(join_verdict(stmt, place, counts)),
+    }
+}
+
+// What is said of a statement with which no row clashes.
+fn join_verdict(stmt: &Stmt, place: &Place, counts: &Counts) -> Verdict
+    requires { IsSmall stmt.now place.now counts.now }
+    ensures { result ≡ joined_by stmt.now place.now counts.now (list_any (is_own stmt.now) place.now.rows.items) }
+{
+    if has_own(stmt, &place.rows) {
+        return Verdict::Stands;
+    }
+    let next = counts_with(stmt, place, counts);
+    match size_passed(&next) {
+        Some(what) => Verdict::Fills(what),
+        None => Verdict::Fits(Ready {
+            wid: place.wid,
+            tid: place.tid,
+            next,
+        }),
+    }
+}
+
+// The row whose tuple comes first among those that clash with a statement.
+fn least_row<'a>(stmt: &Stmt, rows: &'a [Stored]) -> Option<&'a Stored>
+    ensures { option_copied result ≡ least_row stmt.now rows.now }
+{
+    match rows {
+        [] => None,
+        [row, rest @ ..] => {
+            let least = least_row(stmt, rest);
+            if is_clashing(stmt, row) {
+                return Some(first_of(row, least));
+            }
+            least
+        }
+    }
+}
+
+// Of a row and another, if there is one, that whose tuple comes first.
+fn first_of<'a>(row: &'a Stored, other: Option<&'a Stored>) -> &'a Stored
+    ensures { result.now ≡ first_of row.now (option_copied other.entry) }
+{
+    match other {
+        None => row,
+        Some(other) => {
+            if cmp_tuple(&other.tuple, &row.tuple).is_lt() {
+                other
+            } else {
+                row
+            }
+        }
+    }
+}
+
+// Whether a row is explicit and clashes with a statement.
+fn is_clashing(stmt: &Stmt, row: &Stored) -> bool
+    ensures { result ≡ is_clashing stmt.now row.now }
+{
+    row.mark.1 && clash(&stmt.tuple, stmt.sign, &row.tuple, row.mark.0)
+}
+
+/// Whether a statement has a row.
+pub fn has_own(stmt: &Stmt, rows: &[Stored]) -> bool
+    ensures { result ≡ list_any (is_own stmt.now) rows.now }
+{
+    rows.iter().any(|row| is_own(stmt, row))
+}
+
+// Whether a row is explicit, and that of a statement.
+fn is_own(stmt: &Stmt, row: &Stored) -> bool
+    ensures { result ≡ is_own stmt.now row.now }
+{
+    row.mark.1 && same_tuple(&row.tuple, &stmt.tuple) && row.mark.0 == stmt.sign
+}
+
+// The sizes with one statement more, but for the rows.
+fn counts_with(stmt: &Stmt, place: &Place, counts: &Counts) -> Counts
+    requires { IsSmall stmt.now place.now counts.now }
+    ensures { result ≡ counts_with stmt.now place.now counts.now }
+{
+    let more = (stmt.path.as_slice().len() - place.len) as u32;
+    let tuples = if place.tid.is_some() { 0 } else { 1 };
+    Counts {
+        worlds: counts.worlds + more,
+        tuples: counts.tuples + tuples,
+        stmts: counts.stmts + 1,
+        rows: counts.rows,
+    }
+}
+
+// The first limit that is passed by so many worlds, tuples and statements.
+fn size_passed(counts: &Counts) -> Option<What>
+    ensures { result ≡ size_passed counts.now }
+{
+    if counts.worlds as usize > MOST_WORLDS {
+        return Some(What::Worlds);
+    }
+    if counts.tuples as usize > MOST_TUPLES {
+        return Some(What::Tuples);
+    }
+    if counts.stmts as usize > MOST_STATEMENTS {
+        return Some(What::Statements);
+    }
+    None
+}

@@ -1,0 +1,149 @@
+// What stands at a path, and what comes to stand there.
+ghost use Rattle.std.specs.Prelude.{◌≡◌, ◌&&◌, ◌++◌, [], true, IfOk, OnOk};
+ghost use Rattle.std.specs.Option.{option_copied};
+ghost use Rattle.bdb_base.specs.Changes.{first_clashing, with_statements};
+ghost use Rattle.bdb_base.specs.Clash.{clash};
+ghost use Rattle.bdb_base.specs.Order.{statement_cmp};
+ghost use Rattle.bdb_base.specs.Same.{same_path};
+ghost use Rattle.bdb_base.specs.SortedSet.{ascending};
+ghost use Rattle.bdb_base.specs.Worlds.{contradicted};
+ghost use Rattle.bdb_keep.specs.Calls.{IsRead};
+ghost use Rattle.bdb_update.specs.Calls.{without_statements};
+ghost use Rattle.bdb_update.specs.Reached.{SomeHasState, StandAt, said_at, said_of};
+
+use bdb_base::{Exact, List, Path, Stmt, clash, put_copy, take};
+use bdb_keep::Keeper;
+use bdb_tables::TabError;
+use bdb_val::{Stored, read_world};
+use bdb_worlds::longest_state;
+use std::alloc::{AllocError, Global};
+
+/// The statements at a path that is a state, in order, and the state's number.
+pub fn read_statements<K: Keeper>(
+    alloc: Global,
+    keeper: &mut K,
+    path: &Path,
+) -> Result<(List<Stmt>, u32), TabError>
+    requires running { (K.seen keeper.old).running ≡ true }
+    requires base { SomeHasState (K.seen keeper.old).kept path.now }
+    ensures found { IfOk result (λ found. StandAt (K.seen keeper.old).kept path.now found.0 found.1) }
+    ensures sorted { IfOk result (λ found. ascending statement_cmp found.0 ≡ true) }
+    ensures read { IsRead (K.seen keeper.old) (K.seen keeper.new) result TabError.Fault }
+{
+    let (_, wid) = match longest_state(alloc, keeper, path.as_slice()) {
+        Ok(found) => found,
+        Err(error) => return Err(error),
+    };
+    let rows = match read_world(alloc, keeper, wid) {
+        Ok(rows) => rows,
+        Err(error) => return Err(error),
+    };
+    match stated_at(alloc, path, &rows) {
+        Ok(stmts) => Ok((stmts, wid)),
+        Err(_) => {
+            keeper.undo();
+            Err(TabError::Memory)
+        }
+    }
+}
+
+// The statements that the explicit rows of a path's world are, in order.
+fn stated_at(alloc: Global, path: &Path, rows: &[Stored]) -> Result<List<Stmt>, AllocError>
+    ensures stated { IfOk result (λ stmts. stmts ≡ with_statements [] (said_at path.now rows.now)) }
+    ensures sorted { IfOk result (λ stmts. ascending statement_cmp stmts ≡ true) }
+{
+    let said = said_at(alloc, path, rows)?;
+    let stmts = with_statements(alloc, List::new(alloc), said.as_slice())?;
+    Ok(stmts)
+}
+
+// The same, in the order of the rows.
+fn said_at(alloc: Global, path: &Path, rows: &[Stored]) -> Result<List<Stmt>, AllocError>
+    ensures { IfOk result (λ said. said ≡ said_at path.now rows.now) }
+{
+    let mut said = List::new(alloc);
+    for row in rows {
+        push_said(alloc, &mut said, path, row)?;
+    }
+    Ok(said)
+}
+
+// Adds the statement that a row is, if it is explicit.
+fn push_said(
+    alloc: Global,
+    said: &mut List<Stmt>,
+    path: &Path,
+    row: &Stored,
+) -> Result<(), AllocError>
+    ensures { OnOk result (said.new ≡ said.old ++ said_of path.now row.now) }
+{
+    if !row.mark.1 {
+        return Ok(());
+    }
+    let path = path.try_clone(alloc)?;
+    let tuple = row.tuple.try_clone(alloc)?;
+    said.push(Stmt {
+        path,
+        sign: row.mark.0,
+        tuple,
+    })?;
+    Ok(())
+}
+
+/// Statements with more of them.
+pub fn with_statements(
+    alloc: Global,
+    stmts: List<Stmt>,
+    come: &[Stmt],
+) -> Result<List<Stmt>, AllocError>
+    requires { ascending statement_cmp stmts ≡ true }
+    ensures next { IfOk result (λ next. next ≡ with_statements stmts come.now) }
+    ensures sorted { IfOk result (λ next. ascending statement_cmp next ≡ true) }
+{
+    let mut next = stmts;
+    for stmt in come {
+        let _added = put_copy(alloc, &mut next, stmt)?;
+    }
+    Ok(next)
+}
+
+/// Statements without some of them.
+pub fn without_statements(stmts: List<Stmt>, gone: &[Stmt]) -> List<Stmt>
+    requires { ascending statement_cmp stmts ≡ true }
+    ensures left { result ≡ without_statements stmts gone.now }
+    ensures sorted { ascending statement_cmp result ≡ true }
+{
+    let mut left = stmts;
+    for stmt in gone {
+        let _taken = take(&mut left, stmt);
+    }
+    left
+}
+
+/// The first of these statements at this very path that clashes with another one at it; none exactly where none does.
+pub fn first_clashing<'a>(stmts: &'a [Stmt], path: &[u32]) -> Option<&'a Stmt>
+    ensures { option_copied result ≡ first_clashing (λ _. 1) stmts.now path.now }
+{
+    stmts.iter().find(|x| clashes_within(stmts, path, x))
+}
+
+// Whether a statement of this very path clashes with another one at it.
+fn clashes_within(stmts: &[Stmt], path: &[u32], x: &Stmt) -> bool
+    ensures { result ≡ (same_path x.now.path path.now && contradicted (λ _. 1) stmts.now path.now x.now.tuple x.now.sign) }
+{
+    x.path.as_slice() == path && is_contradicted(stmts, path, x)
+}
+
+// Whether a statement clashes with one of this very path.
+fn is_contradicted(stmts: &[Stmt], path: &[u32], x: &Stmt) -> bool
+    ensures { result ≡ contradicted (λ _. 1) stmts.now path.now x.now.tuple x.now.sign }
+{
+    stmts.iter().any(|y| clashes_at(path, x, y))
+}
+
+// Whether a statement is one of this very path, and another clashes with it.
+fn clashes_at(path: &[u32], x: &Stmt, y: &Stmt) -> bool
+    ensures { result ≡ (same_path y.now.path path.now && clash (λ _. 1) x.now.tuple x.now.sign y.now.tuple y.now.sign) }
+{
+    y.path.as_slice() == path && clash(&x.tuple, x.sign, &y.tuple, y.sign)
+}
