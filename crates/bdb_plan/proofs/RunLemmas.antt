@@ -1,10 +1,10 @@
 -- Running a plan finds exactly the rows of choices for all items with which each step holds.
-use Rattle.std.proofs.Common.{◌≡◌, ◌∙◌, ℕ, suc, ◌+◌, ◌<◌, ◌↔◌, Bool, true, false, not, ◌&&◌, ◌||◌, nat_eq, nat_lt, List, [], ◌∷◌, ◌++◌, Option, None, Some, inl, inr, refl, ap, sym, subst, length, map, filter, slice_set, replicate, cond, arith}
+use Rattle.std.proofs.Common.{◌≡◌, ◌∙◌, ℕ, suc, ◌+◌, ◌↔◌, Bool, true, false, ◌&&◌, ◌||◌, nat_eq, List, [], ◌∷◌, Option, None, Some, inl, inr, refl, ap, sym, subst, length, map, filter, replicate, cond}
 use Prim.Native.Nat.{zero}
-use Rattle.std.specs.List.{list_any, list_all, slice_get, flat_map}
+use Rattle.std.specs.List.{list_any, list_all, flat_map}
 use Rattle.std.specs.Option.{option_map, option_and_then, is_some}
 use Rattle.std.specs.Ordering.{is_eq}
-use Rattle.std.proofs.lemmas.Bool.{false≢true, cases_Bool, cond-true, cond-false, or_cases, or_left, or_right, and_parts, and_from, eqb-true}
+use Rattle.std.proofs.lemmas.Bool.{false≢true, cond-true, or_cases, or_left, and_parts, and_from, eqb-true}
 use Rattle.std.proofs.lemmas.Bool.Decides.{Decides-eqb}
 use Rattle.bdb_base.specs.declared.kinds.Cond.{Cond}
 use Rattle.bdb_base.specs.declared.kinds.Operand.{Operand}
@@ -12,15 +12,14 @@ use Rattle.bdb_base.specs.declared.kinds.Ref.{Ref}
 use Rattle.bdb_base.specs.declared.kinds.Sign.{Sign}
 use Rattle.bdb_base.specs.declared.kinds.Sign.TheVariants.{Plus}
 use Rattle.bdb_base.specs.declared.kinds.Value.{Value}
-use Rattle.bdb_base.specs.declared.kinds.Who.{Who}
 use Rattle.bdb_base.specs.declared.tuple.Tuple.{Tuple}
 use Rattle.bdb_base.specs.Conditions.{compare_so}
-use Rattle.bdb_base.specs.Order.{row_cmp, value_cmp}
+use Rattle.bdb_base.specs.Order.{row_cmp}
 use Rattle.bdb_base.specs.OrderLemmas.{row_exact, value_exact}
 use Rattle.bdb_base.specs.Queries.{option_list}
 use Rattle.bdb_base.specs.Same.{same_tuple, same_sign}
 use Rattle.bdb_base.specs.SameLemmas.{same_tuple-Decides}
-use Rattle.bdb_base.specs.SortedSet.{is_member, sorted_set}
+use Rattle.bdb_base.specs.SortedSet.{is_member}
 use Rattle.bdb_base.proofs.CountLemmas.{list_any-map}
 use Rattle.bdb_base.proofs.SetLemmas.{is_eq-Equal, is_eq_itself, set_is_ascending, set_keeps_members}
 use Rattle.bdb_base.proofs.WorldRowsLemmas.{list_any-flat_map}
@@ -29,10 +28,10 @@ use Rattle.bdb_queries.proofs.FoundLemmas.{Found, found_with, list_any-filter, o
 use Rattle.bdb_queries.proofs.RangeLemmas.{equal_sides}
 use Rattle.bdb_plan.specs.declared.step.Step.{Step}
 use Rattle.bdb_plan.specs.declared.step.Step.TheVariants as step
-use Rattle.bdb_plan.specs.Fitness.{Fields, Placed, is_among, is_set, operand_is_set, who_is_set, is_new, comes_next, is_whole, at_width, placed_if, with_item, placed_after, placed_at_end, takes_set, fits_from, at_first}
-use Rattle.bdb_plan.specs.Holding.{differ, equality, world_if, world_after, world_at_end, steps_hold, IsPlanRow}
+use Rattle.bdb_plan.specs.Fitness.{Fields, Placed, is_set, operand_is_set, who_is_set, is_new, comes_next, is_whole, at_width, placed_if, with_item, placed_after, fits_from, at_first}
+use Rattle.bdb_plan.specs.Holding.{differ, equality, world_if, world_after, world_at_end, IsPlanRow}
 use Rattle.bdb_plan.specs.PlanLaws.{MeaningIsChoices}
-use Rattle.bdb_plan.specs.Running.{Reached, with_world, with_slot, plus_tuples, tuple_of, with_value, reached_if, denied, settled, choices, with_choice, after, rows_from, start_of, meaning_of}
+use Rattle.bdb_plan.specs.Running.{Reached, with_world, with_slot, plus_tuples, tuple_of, with_value, reached_if, denied, settled, choices, after, rows_from, start_of, meaning_of}
 use Rattle.bdb_plan.specs.Sight.{Sight, is_user_of, has_signed, is_plus_row, rows_deny, is_denied}
 use Rattle.bdb_plan.proofs.StandLemmas.{Stands, Above, above_itself, known_same, operand_same, who_same, is_new_tells, new_stands, new_below, new_above, before_of, next_stands, next_below, next_above, is_whole_tells, whole_stands, whole_below, whole_above}
 

@@ -6,3 +6,5 @@ pub mod Shown
 pub mod Sources
 pub mod PlanOf
 pub mod PlanLaws
+pub mod PlanText
+pub mod Listings

@@ -4,7 +4,9 @@
 
 pub mod laws;
 mod plan;
+mod printing;
 mod step;
 
 pub use plan::Plan;
+pub use printing::print_plan;
 pub use step::Step;

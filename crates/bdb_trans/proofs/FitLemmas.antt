@@ -1,9 +1,9 @@
 -- The plan of a query uses only what an earlier step set.
 use Rattle.std.proofs.Common.{◌≡◌, ◌∙◌, ℕ, suc, ◌+◌, ◌-◌, ◌<◌, ◌≤◌, ◌^◌, ◌⊎◌, Bool, true, false, not, ◌&&◌, ◌||◌, nat_eq, nat_lt, nat_le, List, [], ◌∷◌, ◌++◌, Option, None, Some, inl, inr, refl, ap, sym, subst, length, map, filter, arith}
 use Prim.Native.Nat.{zero}
-use Rattle.std.specs.List.{list_any, list_all, slice_get}
-use Rattle.std.specs.Option.{option_map, option_and_then, is_some}
-use Rattle.std.proofs.lemmas.Bool.{false≢true, cases_Bool, cond-true, cond-false, or_cases, or_left, or_right, and_parts, and_from, eqb-true, lt-ltb, ltb-true}
+use Rattle.std.specs.List.{list_all, slice_get}
+use Rattle.std.specs.Option.{option_and_then, is_some}
+use Rattle.std.proofs.lemmas.Bool.{false≢true, cases_Bool, cond-true, cond-false, or_cases, or_left, and_parts, and_from, eqb-true, lt-ltb}
 use Rattle.std.proofs.lemmas.Bool.Decides.{Decides-eqb, nat_tests}
 use Rattle.std.proofs.lemmas.Option.{slice_get_within}
 use Rattle.bdb_base.specs.declared.kinds.Catalog.{Catalog}
@@ -23,11 +23,10 @@ use Rattle.bdb_base.specs.Bases.{is_valid_relation}
 use Rattle.bdb_base.specs.Queries.{columns_at, columns_of_definition}
 use Rattle.bdb_base.specs.Safety.{is_given, is_minus, is_users_item, is_literal, who_fits, fixed_differ, item_fits, item_kinds, column_kind, operand_kind, joins_one_kind, query_fits, IsSafe}
 use Rattle.bdb_base.proofs.ListLemmas.{list_all_get, list_all_weaker, filter_kept_one, filter_dropped_one}
-use Rattle.bdb_queries.proofs.FoundLemmas.{list_all_from_gets}
 use Rattle.bdb_plan.specs.declared.step.Step.{Step}
 use Rattle.bdb_plan.specs.declared.step.Step.TheVariants as step
-use Rattle.bdb_plan.specs.Fitness.{Placed, is_among, is_bound, has_bound, is_set, operand_is_set, who_is_set, is_new, comes_next, is_whole, placed_if, with_item, placed_after, placed_at_end, takes_set, fits_from, at_first}
-use Rattle.bdb_plan.specs.PlanOf.{differ_from, walk_from, walk_of, bind_of, binds_from, setting, denying, operand_set, all_set, due, item_steps, steps_from, places, is_users, is_plus, is_minus_item, order_of}
+use Rattle.bdb_plan.specs.Fitness.{Placed, is_among, has_bound, is_set, operand_is_set, who_is_set, is_new, comes_next, is_whole, placed_if, placed_after, placed_at_end, takes_set, fits_from, at_first}
+use Rattle.bdb_plan.specs.PlanOf.{differ_from, walk_from, walk_of, bind_of, binds_from, operand_set, all_set, due, item_steps, steps_from, places, is_users, is_plus, is_minus_item, order_of}
 use Rattle.bdb_plan.specs.Sources.{source_of}
 use Rattle.bdb_trans.proofs.HoldLemmas.{some_is, there_in_order, both_there, set_after, comes_set}
 use Rattle.bdb_trans.proofs.PlaceLemmas.{from_zero}
@@ -115,7 +114,7 @@ abbrev placed : List ℕ → Option (ℕ × ℕ) → Placed
 placed set o = record { items = set; bound = o }
 
 -- a user of a path is fixed, or among the items that are set
-abbrev who_among : List ℕ → Who → Bool
+abbrev pub who_among : List ℕ → Who → Bool
 who_among set (User i) = true
 who_among set (Of k) = is_among set k
 
@@ -389,7 +388,7 @@ path_needs catalog items set h path f = list_all_weaker (who_fits catalog.users 
     one (User i) e = refl
     one (Of k) e = h k (users_pass (slice_get items k) e)
 
-path_fits : (catalog : Catalog) (items : List Item) → list_all (item_fits catalog items) items ≡ true → (i : ℕ) (item : Item) → slice_get items i ≡ Some item → item_fits catalog items item ≡ true
+pub path_fits : (catalog : Catalog) (items : List Item) → list_all (item_fits catalog items) items ≡ true → (i : ℕ) (item : Item) → slice_get items i ≡ Some item → item_fits catalog items item ≡ true
 path_fits catalog items f i item e = list_all_get (item_fits catalog items) items i item f e
 
 pub order_fits : (catalog : Catalog) (q : Query) → list_all (item_fits catalog q.items) q.items ≡ true → OrderFits q [] (order_of q.items)

@@ -1,7 +1,7 @@
 -- The steps of a query's plan hold exactly of the slots that hold of the query.
-use Rattle.std.proofs.Common.{◌≡◌, ◌∙◌, ℕ, suc, ◌+◌, ◌^◌, nat_lt, Bool, true, false, not, ◌&&◌, ◌||◌, nat_eq, List, [], ◌∷◌, ◌++◌, Option, None, Some, inl, inr, refl, ap, sym, subst, length, map, filter, arith}
+use Rattle.std.proofs.Common.{◌≡◌, ◌∙◌, ℕ, suc, ◌+◌, ◌^◌, nat_lt, Bool, true, false, not, ◌&&◌, ◌||◌, nat_eq, List, [], ◌∷◌, ◌++◌, Option, None, Some, inl, inr, refl, ap, sym, subst, length, map, arith}
 use Prim.Native.Nat.{zero}
-use Rattle.std.specs.List.{list_any, list_all, slice_get}
+use Rattle.std.specs.List.{list_all, slice_get}
 use Rattle.std.specs.Option.{option_map, option_and_then, is_some}
 use Rattle.std.proofs.lemmas.Bool.{false≢true, cases_Bool, cond-true, cond-false, or_cases, or_left, and_parts, and_from}
 use Rattle.bdb_base.specs.declared.kinds.ColDef.{ColDef}
@@ -22,7 +22,7 @@ use Rattle.bdb_base.specs.declared.kinds.Who.{Who}
 use Rattle.bdb_base.specs.declared.kinds.Who.TheVariants.{User, Of}
 use Rattle.bdb_base.specs.declared.tuple.Tuple.{Tuple}
 use Rattle.bdb_base.specs.Bases.{Contents, IsValid, is_user, is_plain, fits_kind, fits_columns, fits_definition, fits_relation}
-use Rattle.bdb_base.specs.Queries.{columns_at, columns_of_definition, user_name, path_believes}
+use Rattle.bdb_base.specs.Queries.{columns_at, columns_of_definition}
 use Rattle.bdb_base.specs.Safety.{is_given, is_minus, is_users_item, is_literal, who_fits, fixed_differ, item_fits, item_kinds, column_kind, operand_kind, literal_kind, one_kind, joins_one_kind, query_fits, IsSafe}
 use Rattle.bdb_base.proofs.ListLemmas.{list_all_get, list_all-filter}
 use Rattle.bdb_queries.specs.Slots.{slot_at, known, known_operand, must_hold, must_all_hold, uid_of, path_of, user_tuple}
@@ -32,12 +32,12 @@ use Rattle.bdb_queries.proofs.HoldingLemmas.{SlotHolds, SlotsHold, items_fit}
 use Rattle.bdb_queries.proofs.UserLemmas.{named_at}
 use Rattle.bdb_plan.specs.declared.step.Step.{Step}
 use Rattle.bdb_plan.specs.Fitness.{is_among}
-use Rattle.bdb_plan.specs.Holding.{equality, world_if, world_at_end, steps_hold}
+use Rattle.bdb_plan.specs.Holding.{world_if, world_at_end, steps_hold}
 use Rattle.bdb_plan.specs.PlanOf.{places, is_users, is_plus, is_minus_item, operand_set, all_set, due, item_steps, steps_from, order_of}
 use Rattle.bdb_plan.specs.Shown.{Shows}
 use Rattle.bdb_plan.specs.Sight.{Sight}
 use Rattle.bdb_plan.specs.Sources.{source_of}
-use Rattle.bdb_trans.proofs.ItemLemmas.{Means, PathIs, KnownPath, IsDeniedSlot, EqualsSource, EqualSources, SettingSays, DenyingSays, ItemSays, item_means, Each, OrderSays, order_means}
+use Rattle.bdb_trans.proofs.ItemLemmas.{Means, KnownPath, EqualsSource, EqualSources, SettingSays, DenyingSays, item_means, Each, OrderSays, order_means}
 use Rattle.bdb_trans.proofs.PlaceLemmas.{each_of_all, each_at, each_place, from_zero, place_found, in_order}
 use Rattle.bdb_trans.proofs.SourceLemmas.{move_on, here_at, one_kind_is, joined_keeps, conds_keep_kinds, bound_has_source, IsSource, literal, column, source_is, source_known, source_holds}
 use Rattle.bdb_trans.proofs.StepLemmas.{end_append}

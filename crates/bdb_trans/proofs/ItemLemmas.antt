@@ -1,8 +1,7 @@
 -- The steps of each item hold exactly where the item does.
-use Rattle.std.proofs.Common.{◌≡◌, ◌∙◌, ℕ, ◌+◌, Bool, true, false, not, ◌&&◌, ◌||◌, nat_eq, List, [], ◌∷◌, ◌++◌, Option, None, Some, inl, inr, refl, ap, sym, subst, length, map, filter, arith}
+use Rattle.std.proofs.Common.{◌≡◌, ◌∙◌, ℕ, ◌+◌, Bool, true, false, ◌&&◌, nat_eq, List, [], ◌∷◌, ◌++◌, Option, None, Some, inl, inr, refl, ap, sym, length, map}
 use Rattle.std.specs.List.{list_any, list_all, slice_get}
-use Rattle.std.specs.Option.{option_map, option_and_then, is_some}
-use Rattle.std.proofs.lemmas.Bool.{false≢true, cases_Bool, cond-true, cond-false, or_cases, or_left, or_right, and_parts, and_from, eqb-true, eq-eqb}
+use Rattle.std.proofs.lemmas.Bool.{false≢true, and_parts, and_from, eqb-true, eq-eqb}
 use Rattle.bdb_base.specs.declared.kinds.ColDef.{ColDef}
 use Rattle.bdb_base.specs.declared.kinds.Cond.{Cond}
 use Rattle.bdb_base.specs.declared.kinds.Item.{Item}
@@ -13,13 +12,12 @@ use Rattle.bdb_base.specs.declared.kinds.Ref.{Ref}
 use Rattle.bdb_base.specs.declared.kinds.RelDef.{RelDef}
 use Rattle.bdb_base.specs.declared.kinds.Sign.{Sign}
 use Rattle.bdb_base.specs.declared.kinds.Sign.TheVariants.{Plus, Minus}
-use Rattle.bdb_base.specs.declared.kinds.Stmt.{Stmt}
 use Rattle.bdb_base.specs.declared.kinds.Who.{Who}
 use Rattle.bdb_base.specs.declared.tuple.Tuple.{Tuple}
 use Rattle.bdb_base.specs.Alternation.{alternates}
-use Rattle.bdb_base.specs.Bases.{Contents, IsValid, AreStatements, belongs, is_user, fits_relation, key_lengths}
+use Rattle.bdb_base.specs.Bases.{Contents, AreStatements, belongs, is_user, fits_relation, key_lengths}
 use Rattle.bdb_base.specs.Clash.{clash}
-use Rattle.bdb_base.specs.Queries.{columns_at, user_name, path_believes}
+use Rattle.bdb_base.specs.Queries.{columns_at, path_believes}
 use Rattle.bdb_base.specs.Safety.{fixed_differ}
 use Rattle.bdb_base.specs.Same.{same_tuple, same_sign}
 use Rattle.bdb_base.specs.SameLemmas.{same_tuple-Decides, same_sign-Decides}
@@ -27,18 +25,18 @@ use Rattle.bdb_base.specs.States.{is_state, deepest_suffix}
 use Rattle.bdb_base.specs.Worlds.{stated, believes}
 use Rattle.bdb_base.proofs.WorldLemmas.{stated_tuples_are_explicit, rival_from_clash, clash_from_rival, negations_are_believed}
 use Rattle.bdb_paths.proofs.SuffixLemmas.{deepest_is_member, states_stand_for_paths}
-use Rattle.bdb_queries.specs.Slots.{slot_at, must_hold, path_of, user_tuple, user_tuples}
+use Rattle.bdb_queries.specs.Slots.{slot_at, must_hold, path_of, user_tuple}
 use Rattle.bdb_queries.proofs.FoundLemmas.{found_with, found_both}
 use Rattle.bdb_queries.proofs.UserLemmas.{user_of_test, found_user_tuple}
 use Rattle.bdb_queries.proofs.HoldingLemmas.{SlotHolds}
 use Rattle.bdb_plan.specs.declared.step.Step.{Step}
 use Rattle.bdb_plan.specs.declared.step.Step.TheVariants as step
-use Rattle.bdb_plan.specs.Holding.{equality, world_if, world_after, world_at_end}
+use Rattle.bdb_plan.specs.Holding.{equality}
 use Rattle.bdb_plan.specs.PlanOf.{walk_of, bind_of, binds_from, setting, denying, due, item_steps, steps_from}
 use Rattle.bdb_plan.specs.Shown.{Shows}
 use Rattle.bdb_plan.specs.Sight.{Sight, is_user_of, has_signed, is_plus_row, rows_deny, is_denied}
 use Rattle.bdb_plan.specs.Sources.{source_of}
-use Rattle.bdb_trans.proofs.StepLemmas.{IsTest, both_tests, first_test, one_test, tests_test}
+use Rattle.bdb_trans.proofs.StepLemmas.{IsTest, both_tests, one_test, tests_test}
 use Rattle.bdb_trans.proofs.WalkLemmas.{walk_comes}
 
 -- Steps hold, from a world, exactly where a fact does.

@@ -1,5 +1,5 @@
 -- The plan of a query means the query's answers.
-use Rattle.std.proofs.Common.{◌≡◌, ◌∙◌, ℕ, Bool, true, List, [], Some, refl, ap, sym, length}
+use Rattle.std.proofs.Common.{◌≡◌, ◌∙◌, ℕ, Bool, true, List, Some, refl, ap, length}
 use Rattle.std.specs.List.{list_all}
 use Rattle.std.proofs.lemmas.Bool.Decides.{Decides-eqb}
 use Rattle.bdb_base.specs.declared.kinds.Catalog.{Catalog}
@@ -7,7 +7,6 @@ use Rattle.bdb_base.specs.declared.kinds.Query.{Query}
 use Rattle.bdb_base.specs.declared.kinds.Ref.{Ref}
 use Rattle.bdb_base.specs.declared.kinds.Value.{Value}
 use Rattle.bdb_base.specs.Bases.{Contents, IsValid, is_valid_relation}
-use Rattle.bdb_base.specs.Queries.{columns_at, answers_of}
 use Rattle.bdb_base.specs.Safety.{query_fits, IsSafe}
 use Rattle.bdb_queries.specs.QueryLaws.{IsHeldRow}
 use Rattle.bdb_queries.proofs.DomainLemmas.{answers_are_what_holds}
@@ -15,8 +14,7 @@ use Rattle.bdb_queries.proofs.HoldingLemmas.{items_fit, held_slots_of_row, held_
 use Rattle.bdb_plan.specs.declared.step.Step.{Step}
 use Rattle.bdb_plan.specs.Fitness.{at_width, fits_from, at_first, UsesOnlySet}
 use Rattle.bdb_plan.specs.Holding.{IsPlanRow}
-use Rattle.bdb_plan.specs.PlanLaws.{FitsSight}
-use Rattle.bdb_plan.specs.PlanOf.{plan_steps, plan_of, steps_from, order_of}
+use Rattle.bdb_plan.specs.PlanOf.{plan_steps, plan_of}
 use Rattle.bdb_plan.specs.Running.{meaning_of}
 use Rattle.bdb_plan.specs.Shown.{Shows}
 use Rattle.bdb_plan.specs.Sight.{Sight}

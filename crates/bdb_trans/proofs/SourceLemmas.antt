@@ -1,5 +1,5 @@
 -- Where the values of columns come from.
-use Rattle.std.proofs.Common.{◌≡◌, ◌∙◌, ℕ, suc, ◌+◌, Bool, true, false, ◌&&◌, ◌||◌, nat_eq, List, [], ◌∷◌, ◌++◌, Option, None, Some, inl, inr, refl, ap, sym, subst, find, cond, map, arith}
+use Rattle.std.proofs.Common.{◌≡◌, ◌∙◌, ℕ, suc, ◌+◌, Bool, true, false, ◌&&◌, ◌||◌, nat_eq, List, [], ◌∷◌, ◌++◌, Option, None, Some, inl, inr, refl, ap, sym, subst, find, cond, arith}
 use Prim.Native.Nat.{zero}
 use Rattle.std.specs.List.{list_any, list_all, slice_get}
 use Rattle.std.specs.Option.{option_map, option_and_then, is_some}
@@ -10,7 +10,6 @@ use Rattle.bdb_base.specs.declared.kinds.Cmp.{Cmp}
 use Rattle.bdb_base.specs.declared.kinds.Cmp.TheVariants.{Eq, Ne, Lt, Le, Gt, Ge}
 use Rattle.bdb_base.specs.declared.kinds.Cond.{Cond}
 use Rattle.bdb_base.specs.declared.kinds.Item.{Item}
-use Rattle.bdb_base.specs.declared.kinds.Item.TheVariants.{Users, Rel}
 use Rattle.bdb_base.specs.declared.kinds.Kind.{Kind}
 use Rattle.bdb_base.specs.declared.kinds.Operand.{Operand}
 use Rattle.bdb_base.specs.declared.kinds.Operand.TheVariants.{Col, Lit}
@@ -22,13 +21,10 @@ use Rattle.bdb_base.specs.declared.tuple.Tuple.{Tuple}
 use Rattle.bdb_base.specs.Conditions.{compare_so}
 use Rattle.bdb_base.specs.Order.{value_cmp}
 use Rattle.bdb_base.specs.OrderLemmas.{value_exact}
-use Rattle.bdb_base.specs.Safety.{is_given, is_equality, is_literal, is_column, pins, links, same_column, item_kinds, column_kind, operand_kind, literal_kind, one_kind, joins_one_kind, IsBound, given, pinned, linked}
-use Rattle.bdb_base.specs.Same.{same_kind}
+use Rattle.bdb_base.specs.Safety.{is_given, is_equality, is_literal, is_column, pins, links, same_column, item_kinds, column_kind, operand_kind, one_kind, joins_one_kind, IsBound, given, pinned, linked}
 use Rattle.bdb_base.specs.SameLemmas.{same_kind-Decides}
 use Rattle.bdb_base.proofs.SetLemmas.{is_eq-Equal, is_eq_itself}
-use Rattle.bdb_base.proofs.ListLemmas.{list_all_weaker}
-use Rattle.bdb_queries.specs.Slots.{slot_at, known, known_operand, must_hold, must_all_hold}
-use Rattle.bdb_queries.proofs.FoundLemmas.{Found, found_first, found_later}
+use Rattle.bdb_queries.specs.Slots.{known, known_operand, must_hold, must_all_hold}
 use Rattle.bdb_queries.proofs.RangeLemmas.{same_column_is}
 use Rattle.bdb_plan.specs.Holding.{equality}
 use Rattle.bdb_plan.specs.Sources.{renamed, renamed_by, stands_for, joined, pins_chain, columns_from, given_columns, first_there, source_of}

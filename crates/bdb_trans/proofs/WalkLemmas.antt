@@ -1,18 +1,18 @@
 -- A walk comes to the deepest state at the end of its path, exactly where the path has no equal neighbours.
-use Rattle.std.proofs.Common.{◌≡◌, ◌∙◌, ℕ, Bool, true, false, not, ◌&&◌, ◌||◌, nat_eq, List, [], ◌∷◌, ◌++◌, Option, None, Some, inl, inr, refl, ap, sym, subst, append_assoc, cond, arith}
+use Rattle.std.proofs.Common.{◌≡◌, ◌∙◌, ℕ, Bool, true, false, not, ◌&&◌, ◌||◌, nat_eq, List, [], ◌∷◌, ◌++◌, Option, None, Some, inl, inr, refl, ap, sym, subst, append_assoc, arith}
 use Rattle.std.specs.List.{list_all}
 use Rattle.std.specs.Option.{option_map, option_and_then}
-use Rattle.std.proofs.lemmas.Bool.{false≢true, cases_Bool, cond-true, cond-false, and_parts}
+use Rattle.std.proofs.lemmas.Bool.{cases_Bool, cond-true, cond-false, and_parts}
 use Rattle.std.proofs.lemmas.Bool.Decides.{nat_tests}
 use Rattle.bdb_base.specs.declared.tuple.Tuple.{Tuple}
 use Rattle.bdb_base.specs.declared.kinds.Who.{Who}
 use Rattle.bdb_base.specs.declared.kinds.Who.TheVariants.{User, Of}
-use Rattle.bdb_base.specs.Alternation.{alternates, begins_otherwise}
+use Rattle.bdb_base.specs.Alternation.{alternates}
 use Rattle.bdb_base.specs.Bases.{Contents, is_user}
 use Rattle.bdb_base.specs.Safety.{fixed_differ, begins_with_another}
 use Rattle.bdb_base.specs.Same.{same_path}
 use Rattle.bdb_base.specs.Segments.{is_suffix}
-use Rattle.bdb_base.specs.States.{is_state, deepest_suffix, edge_target}
+use Rattle.bdb_base.specs.States.{is_state, deepest_suffix}
 use Rattle.bdb_paths.proofs.StateLemmas.{states_have_prefixes}
 use Rattle.bdb_paths.proofs.SuffixLemmas.{deepest_is_member, suffixes_extend}
 use Rattle.bdb_queries.specs.Slots.{uid_of, path_of}

@@ -1,5 +1,5 @@
 -- Names of columns, one for all that chains of equalities join, as a list of renamings.
-use Rattle.std.specs.Prelude.{◌≡◌, ℕ, Bool, false, ◌&&◌, List, [], ◌∷◌, Option, cond, find}
+use Rattle.std.specs.Prelude.{◌≡◌, ℕ, Bool, ◌&&◌, List, [], ◌∷◌, Option, cond, find}
 use Rattle.std.specs.Option.{option_map}
 use Rattle.bdb_base.specs.declared.kinds.Cond.{Cond}
 use Rattle.bdb_base.specs.declared.kinds.Item.{Item}

@@ -3,6 +3,7 @@ ghost use Rattle.std.specs.Prelude.{◌≡◌, ◌+◌, ◌<◌, ◌≤◌, ◌^
 ghost use Rattle.std.specs.Option.{option_copied};
 ghost use Rattle.std.specs.List.{list_all, slice_get};
 ghost use Rattle.bdb_base.specs.Bases.{is_valid_relation};
+ghost use Rattle.bdb_base.specs.Limits.{most_columns};
 ghost use Rattle.bdb_base.specs.Queries.{columns_at};
 ghost use Rattle.bdb_plan.specs.Sources.{columns_from, given_columns};
 ghost use Rattle.bdb_trans.specs.Names.{item_columns, pins_name, has_name, source_by_names};
@@ -90,7 +91,7 @@ fn append_columns(
 pub fn columns_of(rels: &[RelDef], rel: u32) -> &[ColDef]
     requires { list_all is_valid_relation rels.now ≡ true }
     ensures columns { result.now ≡ columns_at rels.now rel }
-    ensures few { length result.now ≤ 16 }
+    ensures few { length result.now ≤ most_columns }
 {
     match rels.get(rel as usize) {
         Some(def) => def.cols.as_slice(),

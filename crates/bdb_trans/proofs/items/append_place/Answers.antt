@@ -1,6 +1,5 @@
-use Rattle.std.proofs.Common.{◌≡◌, ◌∙◌, sym, None}
+use Rattle.std.proofs.Common.{sym}
 use Rattle.std.specs.List.{slice_get}
-use Rattle.bdb_base.specs.declared.kinds.Item.{Item}
 use Rattle.bdb_trans.proofs.TurnLemmas.{none_made}
 use Rattle.bdb_trans.proofs.items.append_place.Goals as goal
 

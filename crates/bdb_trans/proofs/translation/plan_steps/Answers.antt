@@ -1,4 +1,4 @@
-use Rattle.std.proofs.Common.{◌≡◌, ◌∙◌, ap, [], ◌++◌}
+use Rattle.std.proofs.Common.{◌∙◌, ap, [], ◌++◌}
 use Rattle.bdb_plan.specs.PlanOf.{plan_steps, steps_from, order_of}
 use Rattle.bdb_trans.proofs.translation.plan_steps.Goals as goal
 

@@ -1,4 +1,4 @@
-use Rattle.std.proofs.Common.{◌≡◌, ◌∙◌, ap}
+use Rattle.std.proofs.Common.{◌∙◌, ap}
 use Rattle.bdb_plan.specs.PlanOf.{plan_steps}
 use Rattle.bdb_trans.proofs.PlanLemmas.{uses_only_set}
 use Rattle.bdb_trans.proofs.translation.translate.Goals as goal

@@ -1,0 +1,410 @@
+-- Rows of one key, and when the rows of a world deny a tuple.
+use Rattle.std.proofs.Common.{◌≡◌, ◌∙◌, ℕ, suc, ◌≤◌, ◌<◌, ◌^◌, Bool, true, false, not, ◌&&◌, ◌||◌, cond, nat_eq, nat_lt, List, [], ◌∷◌, ◌++◌, Option, Some, None, length, map, filter, take, refl, ap, sym, subst, arith}
+use Rattle.std.specs.List.{list_any, list_all, AllByRecursion, slice_get}
+use Rattle.std.specs.Ordering.{is_eq}
+use Rattle.std.proofs.lemmas.Bool.{and_parts, and_from, cond-true, cond-false, false≢true, false_from_ne_true, eqb-true, eq-eqb}
+use Rattle.std.proofs.lemmas.Bool.Decides.{nat_tests}
+use Rattle.std.proofs.lemmas.Cmp.{tied_itself}
+use Rattle.bdb_base.specs.OrderLemmas.{value_exact}
+use Rattle.bdb_base.specs.Clash.{clash, same_key, key_of}
+use Rattle.bdb_base.specs.Order.{value_cmp}
+use Rattle.bdb_base.specs.Same.{same_value, same_values, same_tuple}
+use Rattle.bdb_base.specs.SameLemmas.{same_value-Decides, same_tuple-Decides}
+use Rattle.bdb_base.specs.Segments.{is_prefix}
+use Rattle.bdb_base.specs.declared.kinds.Sign.{Sign}
+use Rattle.bdb_base.specs.declared.kinds.Sign.TheVariants.{Plus, Minus}
+use Rattle.bdb_base.specs.declared.kinds.Value.{Value}
+use Rattle.bdb_base.specs.declared.kinds.Value.TheVariants.{Int, Text}
+use Rattle.bdb_base.specs.declared.tuple.Tuple.{Tuple}
+use Rattle.bdb_keep.specs.Tables.{Tables}
+use Rattle.bdb_key.specs.Bytes.{num_bytes, value_bytes}
+use Rattle.bdb_key.specs.Grammar.{IsNum, IsPlainValue}
+use Rattle.bdb_key.proofs.Compared.{values_tie}
+use Rattle.bdb_key.proofs.Readings.{num_form, value_form}
+use Rattle.bdb_plan.specs.Running.{plus_tuples}
+use Rattle.bdb_plan.specs.Sight.{rows_deny}
+use Rattle.bdb_tables.specs.Codec.{HasRow}
+use Rattle.bdb_tables.specs.InUse.{ValKey, IsValKey, val_bytes, tuple_codec, val_codec}
+use Rattle.bdb_tables.specs.InUseLaws.{vals_are_one, mark_rows_are_one}
+use Rattle.bdb_tables.specs.Marks.{Mark}
+use Rattle.bdb_tables.specs.Names.{leads_to}
+use Rattle.bdb_tables.specs.Spans.{AreUnder, IsUnder}
+use Rattle.bdb_exec.specs.Keys.{key_is, of_key}
+use Rattle.bdb_exec.specs.Readable.{CanBeRun}
+use Rattle.bdb_exec.specs.Rows.{IsNumberOf, signed_of, row_denies, is_written, world_prefix, key_prefix}
+use Rattle.bdb_exec.specs.Seen.{rows_at, signed_in, signed_under, sight_of}
+use Rattle.bdb_exec.proofs.TypedLemmas.{raw}
+use Rattle.bdb_exec.proofs.WorldLemmas.{AreTyped, IsThere, IsTold, typed_under, typed_rows, shown, signed_is, has_row, tuple_named, all_told, all_both}
+
+-- ---- tests and lists
+
+abbrev pair : ValKey → Mark → ValKey × Mark
+pair k m = (k, m)
+
+first : List (List ℕ × List ℕ) → List ℕ × List ℕ
+first [] = ([], [])
+first (x ∷ xs) = x
+
+pub both_ways : (a b : Bool) → (a ≡ true → b ≡ true) → (b ≡ true → a ≡ true) → a ≡ b
+both_ways true b f g = sym (f refl)
+both_ways false true f g = g refl
+both_ways false false f g = refl
+
+filter_narrow : {X : Type 0} (p q : X → Bool) (xs : List X) → ((x : X) → p x ≡ true → q x ≡ true) → filter p xs ≡ filter p (filter q xs)
+filter_narrow p q [] f = refl
+filter_narrow p q (x ∷ xs) f = by (filter_narrow p q xs f) (q x) refl
+  where
+    none : p x ≡ false → filter p (x ∷ xs) ≡ filter p xs
+    none e = cond-false (p x) (x ∷ filter p xs) (filter p xs) e
+
+    by : filter p xs ≡ filter p (filter q xs) → (b : Bool) → q x ≡ b → filter p (x ∷ xs) ≡ filter p (cond b (x ∷ filter q xs) (filter q xs))
+    by rest true e = ap (λ r. cond (p x) (x ∷ r) r) rest
+    by rest false e = none (false_from_ne_true (p x) (λ k. false≢true (sym e ∙ f x k))) ∙ rest
+
+filter_map : {X Y : Type 0} (f : X → Y) (p : Y → Bool) (xs : List X) → filter p (map f xs) ≡ map f (filter (λ x. p (f x)) xs)
+filter_map f p [] = refl
+filter_map f p (x ∷ xs) = by (filter_map f p xs) (p (f x))
+  where
+    by : filter p (map f xs) ≡ map f (filter (λ y. p (f y)) xs) → (b : Bool) → cond b (f x ∷ filter p (map f xs)) (filter p (map f xs)) ≡ map f (cond b (x ∷ filter (λ y. p (f y)) xs) (filter (λ y. p (f y)) xs))
+    by rest true = ap (λ r. f x ∷ r) rest
+    by rest false = rest
+
+length_filter : {X : Type 0} (p : X → Bool) (xs : List X) → length (filter p xs) ≤ length xs
+length_filter p [] = omega arith
+length_filter p (x ∷ xs) = by (length_filter p xs) (p x)
+  where
+    by : length (filter p xs) ≤ length xs → (b : Bool) → length (cond b (x ∷ filter p xs) (filter p xs)) ≤ length (x ∷ xs)
+    by rest true = omega (arith, rest)
+    by rest false = omega (arith, rest)
+
+pub length_map : {X Y : Type 0} (f : X → Y) (xs : List X) → length (map f xs) ≡ length xs
+length_map f [] = refl
+length_map f (x ∷ xs) = ap suc (length_map f xs)
+
+-- ---- beginnings
+
+prefix_rest : (p q : List ℕ) → is_prefix p q ≡ true → (r : List ℕ) × (q ≡ p ++ r)
+prefix_rest [] q e = (q, refl)
+prefix_rest (i ∷ p) [] e = absurd (false≢true e)
+prefix_rest (i ∷ p) (j ∷ q) e =
+    let k = and_parts (nat_eq i j) (is_prefix p q) e in
+    let r = prefix_rest p q k.1 in
+    (r.0, ap (λ n. n ∷ q) (sym (eqb-true i j k.0)) ∙ ap (λ (x : List ℕ). i ∷ x) r.1)
+
+pub prefix_append : (p q : List ℕ) → is_prefix p (p ++ q) ≡ true
+prefix_append [] q = refl
+prefix_append (i ∷ p) q = and_from (nat_eq i i) (is_prefix p (p ++ q)) (eq-eqb i i refl) (prefix_append p q)
+
+prefix_shorter : (p r q : List ℕ) → is_prefix (p ++ r) q ≡ true → is_prefix p q ≡ true
+prefix_shorter [] r q e = refl
+prefix_shorter (i ∷ p) r [] e = e
+prefix_shorter (i ∷ p) r (j ∷ q) e = let k = and_parts (nat_eq i j) (is_prefix (p ++ r) q) e in and_from (nat_eq i j) (is_prefix p q) k.0 (prefix_shorter p r q k.1)
+
+-- the world and the relation of a key
+pub world_parts : (w rel : ℕ) → IsNum w → IsNum rel → (k : ValKey) → IsValKey k → is_prefix (world_prefix w rel) (val_bytes k) ≡ true → (k.0 ≡ w) × (k.1 ≡ rel)
+world_parts w rel nw nr k f e =
+    let s = prefix_rest (world_prefix w rel) (val_bytes k) e in
+    let one = num_form k.0 w (num_bytes k.1 ++ value_bytes k.2 ++ num_bytes k.3) (num_bytes rel ++ s.0) f.world nw s.1 in
+    let two = num_form k.1 rel (value_bytes k.2 ++ num_bytes k.3) s.0 f.rel nr one.1 in
+    (one.0, two.0)
+
+-- a key begins with a value exactly where it has it
+value_part : (w rel : ℕ) (v : Value) → IsNum w → IsNum rel → IsPlainValue v → (k : ValKey) → IsValKey k → is_prefix (key_prefix w rel v) (val_bytes k) ≡ true → k.2 ≡ v
+value_part w rel v nw nr nv k f e =
+    let s = prefix_rest (key_prefix w rel v) (val_bytes k) e in
+    let one = num_form k.0 w (num_bytes k.1 ++ value_bytes k.2 ++ num_bytes k.3) (num_bytes rel ++ value_bytes v ++ s.0) f.world nw s.1 in
+    let two = num_form k.1 rel (value_bytes k.2 ++ num_bytes k.3) (value_bytes v ++ s.0) f.rel nr one.1 in
+    (value_form k.2 v (num_bytes k.3) s.0 f.value nv two.1).0
+
+begins_with : (w rel : ℕ) (v : Value) (k : ValKey) → k.0 ≡ w → k.1 ≡ rel → k.2 ≡ v → is_prefix (key_prefix w rel v) (val_bytes k) ≡ true
+begins_with w rel v k a b c =
+    ap (λ n. is_prefix (key_prefix w rel v) (val_bytes (n, k.1, k.2, k.3))) a
+    ∙ ap (λ n. is_prefix (key_prefix w rel v) (val_bytes (w, n, k.2, k.3))) b
+    ∙ ap (λ n. is_prefix (key_prefix w rel v) (val_bytes (w, rel, n, k.3))) c
+    ∙ prefix_append (key_prefix w rel v) (num_bytes k.3)
+
+-- ---- the first value of a tuple
+
+-- a tuple's first value
+record HasFirst (u : Tuple) (x : Value) : Type 0 where
+  rest : List Value
+  vals : u.vals ≡ x ∷ rest
+
+first_of : (vs : List Value) (x : Value) → slice_get vs 0 ≡ Some x → (rest : List Value) × (vs ≡ x ∷ rest)
+first_of [] x e = absurd cc
+first_of (y ∷ vs) x e = (vs, ap (λ z. z ∷ vs) (some_value e))
+  where
+    some_value : {a b : Value} → Some a ≡ Some b → a ≡ b
+    some_value e = cc
+
+key_first : (u : Tuple) (x : Value) → same_values (key_of (λ _. 1) u) (x ∷ []) ≡ true → (rest : List Value) × (u.vals ≡ x ∷ rest)
+key_first u x e = by u.vals refl
+  where
+    by : (vs : List Value) → u.vals ≡ vs → (rest : List Value) × (u.vals ≡ x ∷ rest)
+    by [] k = absurd (false≢true (sym (ap (λ v. same_values (take 1 v) (x ∷ [])) k) ∙ e))
+    by (y ∷ vs) k =
+        let p = and_parts (same_value y x) true (sym (ap (λ v. same_values (take 1 v) (x ∷ [])) k) ∙ e) in
+        (vs, k ∙ ap (λ z. z ∷ vs) ((same_value-Decides y x).0 p.0))
+
+-- a tuple has a key exactly where its first value is the key
+key_is_first : (u : Tuple) (x v : Value) (rest : List Value) → u.vals ≡ x ∷ rest → key_is (Some v) u ≡ is_eq (value_cmp x v)
+key_is_first u x v rest e = ap (λ vs. Rattle.bdb_base.specs.Conditions.compare_so Rattle.bdb_base.specs.declared.kinds.Cmp.TheVariants.Eq (slice_get vs 0) (Some v)) e
+
+is_equal_value : (x v : Value) → is_eq (value_cmp x v) ≡ true → x ≡ v
+is_equal_value x v e = by (value_cmp x v) refl e
+  where
+    by : (o : Rattle.std.specs.declared.cmp.Ordering.Ordering) → value_cmp x v ≡ o → is_eq o ≡ true → x ≡ v
+    by Rattle.std.specs.declared.cmp.Ordering.TheVariants.Less a b = absurd (false≢true b)
+    by Rattle.std.specs.declared.cmp.Ordering.TheVariants.Equal a b = values_tie x v a
+    by Rattle.std.specs.declared.cmp.Ordering.TheVariants.Greater a b = absurd (false≢true b)
+
+value_equal : (x v : Value) → x ≡ v → is_eq (value_cmp x v) ≡ true
+value_equal x v e = ap (λ y. is_eq (value_cmp x y)) (sym e) ∙ ap is_eq (tied_itself value_exact.total x)
+
+-- ---- rows of one world and relation
+
+module _ (t : Tables) (h : CanBeRun t) (w rel : ℕ) (nw : IsNum w) (nr : IsNum rel) where
+  pub rows_of : (sight_of t).rows w rel ≡ signed_under t (world_prefix w rel)
+  unfolding sight_of
+  rows_of = cond-true (nat_lt rel (2 ^ 32)) (signed_under t (world_prefix w rel)) [] (below rel nr)
+    where
+      below : (n : ℕ) → n < 2 ^ 32 → nat_lt n (2 ^ 32) ≡ true
+      below n lt = grind (arith, nat_tests)
+
+  keys_of : (sight_of t).keys ≡ (λ _. 1)
+  unfolding sight_of
+  keys_of = refl
+
+  pub all : List (ValKey × Mark)
+  all = (typed_rows t (world_prefix w rel) h.rows.fits).0
+
+  pub are_typed : AreTyped t (world_prefix w rel) all
+  unfolding all
+  are_typed = (typed_rows t (world_prefix w rel) h.rows.fits).1
+
+  -- a row of the world and the relation, with its tuple
+  pub record IsHere (e : ValKey × Mark) : Type 0 where
+    pub u : Tuple
+    pub key : IsValKey e.0
+    pub row : HasRow tuple_codec t e.0.3 u
+    pub named : h.tuples.tuple e.0.3 ≡ Some u
+    pub at_world : e.0.0 ≡ w
+    pub at_rel : e.0.1 ≡ rel
+    pub of_rel : u.rel ≡ rel
+    pub rest : List Value
+    pub vals : u.vals ≡ e.0.2 ∷ rest
+
+  here : (e : ValKey × Mark) → IsUnder val_codec (world_prefix w rel) e → IsTold t h e → IsHere e
+  here e a k =
+      let p = world_parts w rel nw nr e.0 a.key a.begins in
+      let q = and_parts (nat_eq k.0.rel e.0.1) (same_values (key_of (λ _. 1) k.0) (e.0.2 ∷ [])) k.2 in
+      let f = key_first k.0 e.0.2 q.1 in
+      record {
+        u = k.0;
+        key = a.key;
+        row = has_row t h e.0.3 k.0 k.1;
+        named = k.1;
+        at_world = p.0;
+        at_rel = p.1;
+        of_rel = eqb-true k.0.rel e.0.1 q.0 ∙ p.1;
+        rest = f.0;
+        vals = f.1;
+      }
+
+  pub all_here : AllByRecursion IsHere all
+  all_here = all_both (IsUnder val_codec (world_prefix w rel)) (IsTold t h) IsHere all here are_typed.each (all_told t h (world_prefix w rel) all are_typed)
+
+  pub shown_all : (sight_of t).rows w rel ≡ map (signed_of t) all
+  shown_all = rows_of ∙ shown t (world_prefix w rel) all are_typed
+
+  -- ---- rows of one key
+
+  module _ (v : Value) where
+    -- a row is of the key
+    abbrev of_value : ValKey × Mark → Bool
+    of_value e = is_prefix (key_prefix w rel v) (val_bytes e.0)
+
+    key_same : (e : ValKey × Mark) (k : IsHere e) → key_is (Some v) k.u ≡ is_eq (value_cmp e.0.2 v)
+    key_same e k = key_is_first k.u e.0.2 v k.rest k.vals
+
+    tested : IsPlainValue v → (e : ValKey × Mark) (k : IsHere e) → of_value e ≡ key_is (Some v) k.u
+    tested nv e k = both_ways (of_value e) (key_is (Some v) k.u)
+        (λ b. key_same e k ∙ value_equal e.0.2 v (value_part w rel v nw nr nv e.0 k.key b))
+        (λ b. begins_with w rel v e.0 k.at_world k.at_rel (is_equal_value e.0.2 v (sym (key_same e k) ∙ b)))
+
+    rows_narrow : rows_at t (val_codec.number ∷ key_prefix w rel v) ≡ map (raw val_codec) (filter of_value all)
+    rows_narrow =
+        filter_narrow (λ e. is_prefix (val_codec.number ∷ key_prefix w rel v) e.0) (λ e. is_prefix (val_codec.number ∷ world_prefix w rel) e.0) (Rattle.std.specs.FinMap.entries t)
+        (λ e b. prefix_shorter (val_codec.number ∷ world_prefix w rel) (value_bytes v) e.0 b)
+        ∙ ap (filter (λ e. is_prefix (val_codec.number ∷ key_prefix w rel v) e.0)) are_typed.rows
+        ∙ filter_map (raw val_codec) (λ e. is_prefix (val_codec.number ∷ key_prefix w rel v) e.0) all
+
+    narrow_shown : signed_under t (key_prefix w rel v) ≡ map (signed_of t) (filter of_value all)
+    narrow_shown = ap (map (signed_in t)) rows_narrow ∙ twice (filter of_value all)
+      where
+        twice : (es : List (ValKey × Mark)) → map (signed_in t) (map (raw val_codec) es) ≡ map (signed_of t) es
+        twice [] = refl
+        twice (e ∷ es) = ap (λ (x : List (Tuple × Sign)). signed_of t e ∷ x) (twice es)
+
+    pub key_length : length (signed_under t (key_prefix w rel v)) ≤ length ((sight_of t).rows w rel)
+    key_length =
+        let a = ap length narrow_shown ∙ length_map (signed_of t) (filter of_value all) in
+        let b = ap length shown_all ∙ length_map (signed_of t) all in
+        let c = length_filter of_value all in
+        omega (arith, a, b, c)
+
+    -- ---- tuples with plus
+
+    pool_step : (b : Bool) (u : Tuple) (s : Sign) (xs ys : List (Tuple × Sign)) → key_is (Some v) u ≡ b → plus_tuples xs ≡ of_key (Some v) (plus_tuples ys)
+        → plus_tuples (cond b ((u, s) ∷ xs) xs) ≡ of_key (Some v) (plus_tuples ((u, s) ∷ ys))
+    pool_step true u Plus xs ys e rest = ap (λ (x : List Tuple). u ∷ x) rest ∙ sym (cond-true (key_is (Some v) u) (u ∷ of_key (Some v) (plus_tuples ys)) (of_key (Some v) (plus_tuples ys)) e)
+    pool_step false u Plus xs ys e rest = rest ∙ sym (cond-false (key_is (Some v) u) (u ∷ of_key (Some v) (plus_tuples ys)) (of_key (Some v) (plus_tuples ys)) e)
+    pool_step true u Minus xs ys e rest = rest
+    pool_step false u Minus xs ys e rest = rest
+
+    map_cond : (b : Bool) (e : ValKey × Mark) (r : List (ValKey × Mark)) → map (signed_of t) (cond b (e ∷ r) r) ≡ cond b (signed_of t e ∷ map (signed_of t) r) (map (signed_of t) r)
+    map_cond true e r = refl
+    map_cond false e r = refl
+
+    keyed_pool : IsPlainValue v → (es : List (ValKey × Mark)) → AllByRecursion IsHere es → plus_tuples (map (signed_of t) (filter of_value es)) ≡ of_key (Some v) (plus_tuples (map (signed_of t) es))
+    keyed_pool nv [] a = refl
+    keyed_pool nv (e ∷ es) a =
+        let same = signed_is t e a.0.u a.0.row in
+        let xs = map (signed_of t) (filter of_value es) in
+        let ys = map (signed_of t) es in
+        ap plus_tuples (map_cond (of_value e) e (filter of_value es))
+        ∙ ap (λ x. plus_tuples (cond (of_value e) (x ∷ xs) xs)) same
+        ∙ pool_step (of_value e) a.0.u e.1.0 xs ys (sym (tested nv e a.0)) (keyed_pool nv es a.1)
+        ∙ ap (λ x. of_key (Some v) (plus_tuples (x ∷ ys))) (sym same)
+
+    pub key_tuples : IsPlainValue v → plus_tuples (signed_under t (key_prefix w rel v)) ≡ of_key (Some v) (plus_tuples ((sight_of t).rows w rel))
+    key_tuples nv = ap plus_tuples narrow_shown ∙ keyed_pool nv all all_here ∙ ap (λ r. of_key (Some v) (plus_tuples r)) (sym shown_all)
+
+    -- a value that no key may have
+    plain_written : (x : Value) → IsPlainValue x → is_written x ≡ true
+    plain_written (Int m) p = refl
+    plain_written (Text s) p = p
+
+    not_of_key : is_written v ≡ false → (e : ValKey × Mark) (k : IsHere e) → key_is (Some v) k.u ≡ false
+    not_of_key no_text e k = false_from_ne_true (key_is (Some v) k.u)
+        (λ b. false≢true (sym no_text ∙ ap is_written (sym (is_equal_value e.0.2 v (sym (key_same e k) ∙ b))) ∙ plain_written e.0.2 k.key.value))
+
+    none_of_key : is_written v ≡ false → (es : List (ValKey × Mark)) → AllByRecursion IsHere es → of_key (Some v) (plus_tuples (map (signed_of t) es)) ≡ []
+    none_of_key n [] a = refl
+    none_of_key n (e ∷ es) a =
+        ap (λ x. of_key (Some v) (plus_tuples (x ∷ map (signed_of t) es))) (signed_is t e a.0.u a.0.row)
+        ∙ sym (pool_step false a.0.u e.1.0 [] (map (signed_of t) es) (not_of_key n e a.0) (sym (none_of_key n es a.1)))
+
+    pub unwritten : is_written v ≡ false → [] ≡ of_key (Some v) (plus_tuples ((sight_of t).rows w rel))
+    unwritten n = sym (ap (λ r. of_key (Some v) (plus_tuples r)) shown_all ∙ none_of_key n all all_here)
+
+-- ---- rows that deny a tuple
+
+module _ (t : Tables) (h : CanBeRun t) where
+  -- a tuple's number leads to a row's exactly where the row's tuple is the tuple
+  own_number : (u0 u : Tuple) (number : Option ℕ) (tid : ℕ) → IsNumberOf t u0 number → IsNum tid → HasRow tuple_codec t tid u → leads_to number tid ≡ same_tuple u0 u
+  own_number u0 u None tid none n r =
+      sym (false_from_ne_true (same_tuple u0 u) (λ b. none tid n (subst (HasRow tuple_codec t tid) (sym ((same_tuple-Decides u0 u).0 b)) r)))
+  own_number u0 u (Some m) tid some n r = both_ways (nat_eq m tid) (same_tuple u0 u)
+      (λ b. (same_tuple-Decides u0 u).1 (one (h.tuples.tuple tid) u0 u (tuple_named t h tid u0 n (subst (λ k. HasRow tuple_codec t k u0) (eqb-true m tid b) some.1)) (tuple_named t h tid u n r)))
+      (λ b. eq-eqb m tid (two (h.tuples.number u0) m tid (h.held.named m u0 (tuple_named t h m u0 some.0 some.1))
+      (ap h.tuples.number ((same_tuple-Decides u0 u).0 b) ∙ h.held.named tid u (tuple_named t h tid u n r))))
+    where
+      one : (o : Option Tuple) (a b : Tuple) → o ≡ Some a → o ≡ Some b → a ≡ b
+      one o a b e f = cc
+
+      two : (o : Option ℕ) (a b : ℕ) → o ≡ Some a → o ≡ Some b → a ≡ b
+      two o a b e f = cc
+
+  -- keys and rows in the grammar are told by their places
+  raw_one : (p q : List ℕ) (xs ys : List (ValKey × Mark)) → AllByRecursion (IsUnder val_codec p) xs → AllByRecursion (IsUnder val_codec q) ys → map (raw val_codec) xs ≡ map (raw val_codec) ys → xs ≡ ys
+  unfolding first
+  raw_one p q [] [] a b e = refl
+  raw_one p q [] (y ∷ ys) a b e = absurd cc
+  raw_one p q (x ∷ xs) [] a b e = absurd cc
+  raw_one p q (x ∷ xs) (y ∷ ys) a b e =
+      let heads = ap (λ l. first l) e in
+      let k : x.0 ≡ y.0 = vals_are_one x.0 y.0 a.0.key b.0.key (ap (λ l. Rattle.std.specs.Prelude.drop 1 l.0) heads) in
+      let m : x.1 ≡ y.1 = mark_rows_are_one x.1 y.1 tt tt (ap (λ l. l.1) heads) in
+      ap (λ z. pair z x.1 ∷ xs) k ∙ ap (λ z. pair y.0 z ∷ xs) m ∙ ap (λ (r : List (ValKey × Mark)). y ∷ r) (raw_one p q xs ys a.1 b.1 (ap (λ l. Rattle.std.specs.Prelude.drop 1 l) e))
+
+module _ (t : Tables) (h : CanBeRun t) (w rel : ℕ) (nw : IsNum w) (nr : IsNum rel) (v : Value) (u0 : Tuple) (of : u0.rel ≡ rel) (leads : slice_get u0.vals 0 ≡ Some v) where
+  rest0 : (rest : List Value) × (u0.vals ≡ v ∷ rest)
+  rest0 = first_of u0.vals v leads
+
+  -- two tuples of one relation have one key exactly where their first values are one
+  keys_are : (e : ValKey × Mark) (k : IsHere t h w rel nw nr e) → same_key (λ _. 1) u0 k.u ≡ key_is (Some v) k.u
+  keys_are e k =
+      both_ways (same_key (λ _. 1) u0 k.u) (key_is (Some v) k.u)
+      (λ b.
+      let p = and_parts (nat_eq u0.rel k.u.rel) (same_values (key_of (λ _. 1) u0) (key_of (λ _. 1) k.u)) b in
+      let q : same_values (v ∷ []) (e.0.2 ∷ []) ≡ true = ap (λ vs. same_values (take 1 vs) (e.0.2 ∷ [])) (sym rest0.1) ∙ ap (λ vs. same_values (key_of (λ _. 1) u0) (take 1 vs)) (sym k.vals) ∙ p.1 in
+      let r = and_parts (same_value v e.0.2) true q in
+      key_same t h w rel nw nr v e k ∙ value_equal e.0.2 v (sym ((same_value-Decides v e.0.2).0 r.0)))
+      (λ b.
+      let x : e.0.2 ≡ v = is_equal_value e.0.2 v (sym (key_same t h w rel nw nr v e k) ∙ b) in
+      and_from (nat_eq u0.rel k.u.rel) (same_values (key_of (λ _. 1) u0) (key_of (λ _. 1) k.u)) (eq-eqb u0.rel k.u.rel (of ∙ sym k.of_rel))
+      (ap (λ vs. same_values (take 1 vs) (key_of (λ _. 1) k.u)) rest0.1 ∙ ap (λ vs. same_values (v ∷ []) (take 1 vs)) k.vals
+      ∙ and_from (same_value v e.0.2) true ((same_value-Decides v e.0.2).1 (sym x)) refl))
+
+  same_has_key : (e : ValKey × Mark) (k : IsHere t h w rel nw nr e) → same_tuple u0 k.u ≡ true → key_is (Some v) k.u ≡ true
+  same_has_key e k b =
+      let same : u0 ≡ k.u = (same_tuple-Decides u0 k.u).0 b in
+      ap (key_is (Some v)) (sym same) ∙ key_is_first u0 v v rest0.0 rest0.1 ∙ value_equal v v refl
+
+  denied_by : (e : ValKey × Mark) (k : IsHere t h w rel nw nr e) (own : Bool) (s : Sign) → own ≡ same_tuple u0 k.u → clash (λ _. 1) u0 Plus k.u s ≡ (key_is (Some v) k.u && Rattle.bdb_exec.specs.Rows.denies_by s own)
+  denied_by e k own Plus o = ap (λ b. b && not (same_tuple u0 k.u)) (keys_are e k) ∙ ap (λ b. key_is (Some v) k.u && not b) (sym o)
+  denied_by e k own Minus o = within (same_tuple u0 k.u) (key_is (Some v) k.u) (same_has_key e k) ∙ ap (λ b. key_is (Some v) k.u && b) (sym o)
+    where
+      within : (a b : Bool) → (a ≡ true → b ≡ true) → a ≡ (b && a)
+      within true b f = sym (ap (λ x. x && true) (f refl))
+      within false true f = refl
+      within false false f = refl
+
+  -- among all rows of the relation those of the key deny the tuple
+  some_deny : (number : Option ℕ) → IsNumberOf t u0 number → IsPlainValue v → (es : List (ValKey × Mark)) → AllByRecursion (IsHere t h w rel nw nr) es
+      → list_any (row_denies number) (filter (of_value t h w rel nw nr v) es) ≡ rows_deny (λ _. 1) (map (signed_of t) es) u0
+  some_deny number is nv [] a = refl
+  some_deny number is nv (e ∷ es) a =
+      let k = a.0 in
+      let same = signed_is t e k.u k.row in
+      any_cond (of_value t h w rel nw nr v e) e (filter (of_value t h w rel nw nr v) es)
+      ∙ ap (λ b. (b && row_denies number e) || list_any (row_denies number) (filter (of_value t h w rel nw nr v) es)) (tested t h w rel nw nr v nv e k)
+      ∙ ap (λ b. b || list_any (row_denies number) (filter (of_value t h w rel nw nr v) es)) (sym (denied_by e k (leads_to number e.0.3) e.1.0 (own_number t h u0 k.u number e.0.3 is k.key.tuple k.row)))
+      ∙ ap (λ b. clash (λ _. 1) u0 Plus k.u e.1.0 || b) (some_deny number is nv es a.1)
+      ∙ ap (λ x. clash (λ _. 1) u0 Plus x.0 x.1 || rows_deny (λ _. 1) (map (signed_of t) es) u0) (sym same)
+    where
+      any_cond : (b : Bool) (x : ValKey × Mark) (r : List (ValKey × Mark)) → list_any (row_denies number) (cond b (x ∷ r) r) ≡ ((b && row_denies number x) || list_any (row_denies number) r)
+      any_cond true x r = refl
+      any_cond false x r = refl
+
+  denied_here : (rows : List (Tuple × Sign)) → rows ≡ map (signed_of t) (all t h w rel nw nr) → rows_deny (λ _. 1) (map (signed_of t) (all t h w rel nw nr)) u0 ≡ rows_deny (sight_of t).keys rows u0
+  denied_here rows e = ap (λ r. rows_deny (λ _. 1) r u0) (sym e) ∙ ap (λ f. rows_deny f rows u0) (sym (keys_of t h w rel nw nr))
+
+  pub denied_is : (number : Option ℕ) (es : List (ValKey × Mark)) → IsNumberOf t u0 number → IsPlainValue v → AreUnder val_codec t (key_prefix w rel v) es
+      → list_any (row_denies number) es ≡ rows_deny (sight_of t).keys ((sight_of t).rows w rel) u0
+  denied_is number es is nv under =
+      let read = typed_under t (key_prefix w rel v) es under in
+      let narrow = filter (of_value t h w rel nw nr v) (all t h w rel nw nr) in
+      let same : es ≡ narrow = raw_one t h (key_prefix w rel v) (world_prefix w rel) es narrow read.each
+      (Rattle.bdb_exec.proofs.WorldLemmas.all_filter (IsUnder val_codec (world_prefix w rel)) (of_value t h w rel nw nr v) (all t h w rel nw nr) (are_typed t h w rel nw nr).each) (sym read.rows ∙ rows_narrow t h w rel nw nr v) in
+      ap (list_any (row_denies number)) same ∙ some_deny number is nv (all t h w rel nw nr) (all_here t h w rel nw nr) ∙ denied_here ((sight_of t).rows w rel) (shown_all t h w rel nw nr)
+
+  none_deny : is_written v ≡ false → (es : List (ValKey × Mark)) → AllByRecursion (IsHere t h w rel nw nr) es → rows_deny (λ _. 1) (map (signed_of t) es) u0 ≡ false
+  none_deny n [] a = refl
+  none_deny n (e ∷ es) a =
+      let k = a.0 in
+      let not_key = not_of_key t h w rel nw nr v n e k in
+      ap (λ x. clash (λ _. 1) u0 Plus x.0 x.1 || rows_deny (λ _. 1) (map (signed_of t) es) u0) (signed_is t e k.u k.row)
+      ∙ ap (λ b. b || rows_deny (λ _. 1) (map (signed_of t) es) u0) (denied_by e k (same_tuple u0 k.u) e.1.0 refl ∙ ap (λ b. b && Rattle.bdb_exec.specs.Rows.denies_by e.1.0 (same_tuple u0 k.u)) not_key)
+      ∙ none_deny n es a.1
+
+  pub unwritten_denied : is_written v ≡ false → false ≡ rows_deny (sight_of t).keys ((sight_of t).rows w rel) u0
+  unwritten_denied n = sym (none_deny n (all t h w rel nw nr) (all_here t h w rel nw nr)) ∙ denied_here ((sight_of t).rows w rel) (shown_all t h w rel nw nr)
+
+  pub denied_reads : (es : List (ValKey × Mark)) → AreUnder val_codec t (key_prefix w rel v) es → length es ≤ length ((sight_of t).rows w rel)
+  denied_reads es under =
+      let read = typed_under t (key_prefix w rel v) es under in
+      let a = ap length (shown t (key_prefix w rel v) es read) ∙ length_map (signed_of t) es in
+      let b = key_length t h w rel nw nr v in
+      omega (arith, a, b)

@@ -1,0 +1,9 @@
+mod LookLemmas
+mod SpelledLemmas
+mod TypedLemmas
+mod KeyLemmas
+mod RunLemmas
+mod WorldLemmas
+mod DenyLemmas
+mod LookingLemmas
+mod ShownLemmas

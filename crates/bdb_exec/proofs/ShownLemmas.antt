@@ -1,0 +1,545 @@
+-- Tables that have a base show it.
+use Rattle.std.proofs.Common.{◌≡◌, ◌∙◌, ℕ, zero, suc, ◌+◌, ◌*◌, ◌/◌, ◌≤◌, ◌<◌, ◌^◌, lit<, pos, Bool, true, false, not, ◌&&◌, ◌||◌, cond, nat_eq, nat_lt, nat_le, List, [], ◌∷◌, ◌++◌, Option, Some, None, MatchOption, is_some, length, map, refl, ap, sym, subst, inl, inr, arith}
+use Rattle.std.specs.List.{list_any, list_all, flat_map, AllByRecursion, slice_get}
+use Rattle.std.specs.Option.{option_map, unwrap_or, option_and_then}
+use Rattle.std.specs.Ordering.{is_lt, is_eq, eq_by_cmp, nat_cmp}
+use Rattle.std.specs.FinMap as tables
+use Rattle.std.specs.FinMap.{find}
+use Rattle.std.proofs.lemmas.Bool.{and_parts, and_from, or_right, or_cases, cond-true, cond-false, false≢true, false_from_ne_true, eqb-true, eq-eqb}
+use Rattle.std.proofs.lemmas.Bool.Decides.{nat_tests}
+use Rattle.std.proofs.lemmas.List.{append_assoc}
+use Rattle.bdb_base.specs.Bases.{Contents, IsValid, is_user, key_lengths}
+use Rattle.bdb_base.specs.Clash.{key_of}
+use Rattle.bdb_base.specs.Queries.{columns_at}
+use Rattle.bdb_base.specs.Same.{same_tuple, same_sign, same_values, same_path}
+use Rattle.bdb_base.specs.SameLemmas.{same_tuple-Decides, same_sign-Decides, same_value-Decides}
+use Rattle.bdb_base.specs.Segments.{is_prefix, is_suffix}
+use Rattle.bdb_base.specs.SortedSet.{ascending}
+use Rattle.bdb_base.specs.States.{is_state, edge_target}
+use Rattle.bdb_base.specs.Worlds.{stated, explicit, contradicted}
+use Rattle.bdb_base.specs.declared.kinds.ColDef.{ColDef}
+use Rattle.bdb_base.specs.declared.kinds.Kind.{Kind}
+use Rattle.bdb_base.specs.declared.kinds.Kind.TheVariants as kinds
+use Rattle.bdb_base.specs.declared.kinds.RelDef.{RelDef}
+use Rattle.bdb_base.specs.declared.kinds.Sign.{Sign}
+use Rattle.bdb_base.specs.declared.kinds.Sign.TheVariants.{Plus, Minus}
+use Rattle.bdb_base.specs.declared.kinds.Stmt.{Stmt}
+use Rattle.bdb_base.specs.declared.kinds.Value.{Value}
+use Rattle.bdb_base.specs.declared.kinds.Value.TheVariants.{Int, Text}
+use Rattle.bdb_base.specs.declared.tuple.Tuple.{Tuple}
+use Rattle.bdb_base.proofs.WorldLemmas.{worlds_are_consistent, valid_is_consistent, list_any_weaker}
+use Rattle.bdb_paths.proofs.SuffixLemmas.{deepest_same, deepest_is_member}
+use Rattle.bdb_keep.specs.Tables.{Tables, bytes_cmp}
+use Rattle.bdb_key.specs.Bytes.{num_bytes, text_bytes, value_bytes, values_bytes}
+use Rattle.bdb_key.specs.Grammar.{IsNum, IsPlain, ArePlain, IsPlainValue}
+use Rattle.bdb_key.specs.Rows.{IsRelRow, IsCol, mark_bytes, rel_bytes, cols_bytes, kind_bytes}
+use Rattle.bdb_queries.specs.Slots.{user_tuple, user_tuples}
+use Rattle.bdb_plan.specs.Sight.{has_signed}
+use Rattle.bdb_tables.specs.Codec.{place}
+use Rattle.bdb_tables.specs.InUse.{ValKey, IsValKey, user_codec, rel_codec, edge_codec, val_codec}
+use Rattle.bdb_tables.specs.InUseLaws.{numbers_in_order, numbers_are_one, vals_are_one, mark_rows_are_one}
+use Rattle.bdb_tables.specs.Marks.{Mark, mark_of, sign_in, sign_by, marked}
+use Rattle.bdb_tables.specs.Names.{Names, path_of, number_of, is_named, edge_from, edge_of}
+use Rattle.bdb_tables.specs.Rows.{Tuples, has_key, row_named, row_for}
+use Rattle.bdb_tables.specs.Spans.{AreUnder, IsUnder, entry_bytes, entry_cmp}
+use Rattle.bdb_tables.proofs.Held.{same_place, some_same, none_some}
+use Rattle.bdb_exec.specs.Based.{HaveBase, ShowBase, TablesShowBase, world_number}
+use Rattle.bdb_exec.specs.Readable.{CanBeRun}
+use Rattle.bdb_exec.specs.Rows.{signed_of, world_prefix}
+use Rattle.bdb_exec.specs.Seen.{rows_at, signed_under, sight_of, width_in}
+use Rattle.bdb_exec.specs.Spelled.{number_in, values_in}
+use Rattle.bdb_exec.proofs.SpelledLemmas.{number_back, values_back, values_short}
+use Rattle.bdb_exec.proofs.TypedLemmas.{raw, at_find}
+use Rattle.bdb_exec.proofs.WorldLemmas.{IsThere, signed_is, has_row}
+use Rattle.bdb_exec.proofs.DenyLemmas.{both_ways, all, are_typed, IsHere, all_here, shown_all, prefix_append}
+use Rattle.bdb_exec.proofs.LookingLemmas.{users_are}
+
+-- ---- users
+
+-- names with their numbers
+numbered : ℕ → List (List ℕ) → List (ℕ × List ℕ)
+numbered uid [] = []
+numbered uid (name ∷ names) = (uid, name) ∷ numbered (suc uid) names
+
+-- the name of a number among these
+among : ℕ → List (List ℕ) → ℕ → Option (List ℕ)
+among uid [] n = None
+among uid (name ∷ names) n = cond (nat_eq n uid) (Some name) (among (suc uid) names n)
+
+users_listed : (uid : ℕ) (names : List (List ℕ)) → map (λ e. user_tuple e.0 e.1) (numbered uid names) ≡ user_tuples uid names
+unfolding numbered
+users_listed uid [] = refl
+users_listed uid (name ∷ names) = ap (λ (x : List Tuple). user_tuple uid name ∷ x) (users_listed (suc uid) names)
+
+later : (uid n : ℕ) → n < uid → nat_eq n uid ≡ false
+later uid n lt = grind (arith, nat_tests)
+
+among_below : (uid : ℕ) (names : List (List ℕ)) (n : ℕ) → n < uid → among uid names n ≡ None
+unfolding among
+among_below uid [] n lt = refl
+among_below uid (name ∷ names) n lt = cond-false (nat_eq n uid) (Some name) (among (suc uid) names n) (later uid n lt) ∙ among_below (suc uid) names n (omega arith)
+
+among_at : (uid : ℕ) (names : List (List ℕ)) (i n : ℕ) → n ≡ uid + i → among uid names n ≡ slice_get names i
+unfolding among
+among_at uid [] i n e = refl
+among_at uid (name ∷ names) zero n e = cond-true (nat_eq n uid) (Some name) (among (suc uid) names n) (eq-eqb n uid (omega arith))
+among_at uid (name ∷ names) (suc i) n e = cond-false (nat_eq n uid) (Some name) (among (suc uid) names n) (apart n uid i e) ∙ among_at (suc uid) names i n (omega arith)
+  where
+    apart : (n uid i : ℕ) → n ≡ uid + suc i → nat_eq n uid ≡ false
+    apart n uid i e = grind (arith, nat_tests)
+
+number_same : (m n : ℕ) → IsNum m → IsNum n → eq_by_cmp bytes_cmp (num_bytes m) (num_bytes n) ≡ nat_eq m n
+number_same m n hm hn = both_ways (eq_by_cmp bytes_cmp (num_bytes m) (num_bytes n)) (nat_eq m n)
+    (λ e. eq-eqb m n (numbers_are_one m n hm hn (same_place (num_bytes m) (num_bytes n) e)))
+    (λ e. ap is_eq (numbers_in_order m n hm hn) ∙ ap (λ k. is_eq (nat_cmp m k)) (sym (eqb-true m n e)) ∙ same_number m)
+  where
+    same_number : (k : ℕ) → is_eq (nat_cmp k k) ≡ true
+    same_number k = ap is_eq (Rattle.bdb_key.proofs.Numbers.equal k)
+
+number_found : (uid : ℕ) (names : List (List ℕ)) (n : ℕ) → IsNum n → uid + length names ≤ 2 ^ 32 → find bytes_cmp (num_bytes n) (map (entry_bytes user_codec) (numbered uid names)) ≡ option_map text_bytes (among uid names n)
+unfolding numbered among
+number_found uid [] n h few = refl
+number_found uid (name ∷ names) n h few =
+    ap (λ b. cond b (Some (text_bytes name)) (find bytes_cmp (num_bytes n) (map (entry_bytes user_codec) (numbered (suc uid) names)))) (number_same n uid h (omega arith))
+    ∙ ap (λ o. cond (nat_eq n uid) (Some (text_bytes name)) o) (number_found (suc uid) names n h (omega arith))
+    ∙ chosen (nat_eq n uid) name (among (suc uid) names n)
+  where
+    chosen : (b : Bool) (x : List ℕ) (o : Option (List ℕ)) → cond b (Some (text_bytes x)) (option_map text_bytes o) ≡ option_map text_bytes (cond b (Some x) o)
+    chosen true x o = refl
+    chosen false x o = refl
+
+-- what is found is found by a number
+found_number : (uid : ℕ) (names : List (List ℕ)) (q r : List ℕ) → uid + length names ≤ 2 ^ 32 → find bytes_cmp q (map (entry_bytes user_codec) (numbered uid names)) ≡ Some r → (n : ℕ) × (q ≡ num_bytes n) × IsNum n
+unfolding numbered
+found_number uid [] q r few e = absurd (none_some r e)
+found_number uid (name ∷ names) q r few e = by (λ f. found_number (suc uid) names q r (omega arith) f) (eq_by_cmp bytes_cmp q (num_bytes uid)) refl e
+  where
+    small : IsNum uid
+    small = omega arith
+
+    by : (find bytes_cmp q (map (entry_bytes user_codec) (numbered (suc uid) names)) ≡ Some r → (n : ℕ) × (q ≡ num_bytes n) × IsNum n) → (b : Bool) → eq_by_cmp bytes_cmp q (num_bytes uid) ≡ b
+        → cond b (Some (text_bytes name)) (find bytes_cmp q (map (entry_bytes user_codec) (numbered (suc uid) names))) ≡ Some r → (n : ℕ) × (q ≡ num_bytes n) × IsNum n
+    by rest true b f = (uid, same_place q (num_bytes uid) b, small)
+    by rest false b f = rest f
+
+numbers_rise : (uid m : ℕ) (names : List (List ℕ)) (name : List ℕ) → uid < m → m + length names ≤ 2 ^ 32 → list_all (λ y. is_lt (entry_cmp user_codec (uid, name) y)) (numbered m names) ≡ true
+unfolding numbered
+numbers_rise uid m [] name lt few = refl
+numbers_rise uid m (x ∷ names) name lt few =
+    and_from (is_lt (bytes_cmp (num_bytes uid) (num_bytes m))) (list_all (λ y. is_lt (entry_cmp user_codec (uid, name) y)) (numbered (suc m) names))
+    (ap is_lt (numbers_in_order uid m (omega arith) (omega arith) ∙ Rattle.bdb_key.proofs.Numbers.less uid m lt)) (numbers_rise uid (suc m) names name (omega arith) (omega arith))
+
+numbered_sorted : (uid : ℕ) (names : List (List ℕ)) → uid + length names ≤ 2 ^ 32 → ascending (entry_cmp user_codec) (numbered uid names) ≡ true
+unfolding numbered
+numbered_sorted uid [] few = refl
+numbered_sorted uid (name ∷ names) few =
+    and_from (list_all (λ y. is_lt (entry_cmp user_codec (uid, name) y)) (numbered (suc uid) names)) (ascending (entry_cmp user_codec) (numbered (suc uid) names))
+    (numbers_rise uid (suc uid) names name (omega arith) (omega arith)) (numbered_sorted (suc uid) names (omega arith))
+
+numbered_each : (uid : ℕ) (names : List (List ℕ)) → uid + length names ≤ 2 ^ 32 → AllByRecursion IsPlain names → AllByRecursion (IsUnder user_codec []) (numbered uid names)
+unfolding numbered
+numbered_each uid [] few a = tt
+numbered_each uid (name ∷ names) few a = (record { key = omega arith; row = a.0; begins = refl }, numbered_each (suc uid) names (omega arith) a.1)
+
+all_plain : (names : List (List ℕ)) → list_all Rattle.bdb_base.specs.Bases.is_plain names ≡ true → AllByRecursion IsPlain names
+all_plain [] e = tt
+all_plain (x ∷ names) e = let p = and_parts (Rattle.bdb_base.specs.Bases.is_plain x) (list_all Rattle.bdb_base.specs.Bases.is_plain names) e in (p.0, all_plain names p.1)
+
+few_users : (n : ℕ) → nat_le n 256 ≡ true → 1 + n ≤ 2 ^ 32
+few_users n h = grind (arith, nat_tests)
+
+-- ---- columns
+
+kind_value : Kind → Value
+kind_value kinds.Int = Int (pos 0)
+kind_value kinds.Text = Int (pos 1)
+
+col_values : List ColDef → List Value
+col_values [] = []
+col_values (c ∷ cs) = Text c.name ∷ kind_value c.kind ∷ col_values cs
+
+kind_spelled : (k : Kind) → value_bytes (kind_value k) ≡ kind_bytes k
+unfolding kind_value
+kind_spelled kinds.Int = refl
+kind_spelled kinds.Text = refl
+
+kind_plain : (k : Kind) → IsPlainValue (kind_value k)
+unfolding kind_value
+kind_plain kinds.Int = record { sfits = lit< tt }
+kind_plain kinds.Text = record { sfits = lit< tt }
+
+cols_spelled : (cs : List ColDef) → values_bytes (col_values cs) ≡ cols_bytes cs
+unfolding col_values
+cols_spelled [] = refl
+cols_spelled (c ∷ cs) =
+    ap (λ k. text_bytes c.name ++ (k ++ values_bytes (col_values cs))) (kind_spelled c.kind)
+    ∙ ap (λ (r : List ℕ). text_bytes c.name ++ (kind_bytes c.kind ++ r)) (cols_spelled cs)
+    ∙ sym (append_assoc (text_bytes c.name) (kind_bytes c.kind) (cols_bytes cs))
+
+cols_plain : (cs : List ColDef) → AllByRecursion IsCol cs → ArePlain (col_values cs)
+unfolding col_values
+cols_plain [] a = tt
+cols_plain (c ∷ cs) a = (a.0, (kind_plain c.kind, cols_plain cs a.1))
+
+cols_many : (cs : List ColDef) → length (col_values cs) ≡ 2 * length cs
+unfolding col_values
+cols_many [] = refl
+cols_many (c ∷ cs) = let rest = cols_many cs in omega arith
+
+half : (n : ℕ) → (1 + 2 * n) / 2 ≡ n
+half n = omega arith
+
+width_of : (def : RelDef) → IsRelRow def → width_in (Some (rel_bytes def)) ≡ length def.cols
+width_of def h =
+    let vals : List Value = Text def.name ∷ col_values def.cols in
+    let spelled : values_bytes vals ≡ rel_bytes def = ap (λ (r : List ℕ). text_bytes def.name ++ r) (cols_spelled def.cols) in
+    let back : values_in (length (values_bytes vals)) (values_bytes vals) ≡ vals = values_back (length (values_bytes vals)) vals (h.name, cols_plain def.cols h.names) (values_short vals) in
+    let many : length vals ≡ 1 + 2 * length def.cols = let rest = cols_many def.cols in omega arith in
+    ap (λ r. length (values_in (length r) r) / 2) (sym spelled) ∙ ap (λ vs. length vs / 2) back ∙ ap (λ n. n / 2) many ∙ half (length def.cols)
+
+-- ---- statements
+
+told_by : (keys : ℕ → ℕ) (stmts : List Stmt) (w : List ℕ) (u : Tuple) (s : Sign) → stated keys stmts w u s ≡ true → list_any (λ x. same_tuple x.tuple u) stmts ≡ true
+told_by keys stmts [] u s e = explicit_told stmts [] u s e
+  where
+    explicit_told : (stmts : List Stmt) (w : List ℕ) (u : Tuple) (s : Sign) → explicit stmts w u s ≡ true → list_any (λ x. same_tuple x.tuple u) stmts ≡ true
+    explicit_told stmts w u s e = list_any_weaker (λ x. same_path x.path w && (same_tuple x.tuple u && same_sign x.sign s)) (λ x. same_tuple x.tuple u)
+        (λ x k. (and_parts (same_tuple x.tuple u) (same_sign x.sign s) (and_parts (same_path x.path w) (same_tuple x.tuple u && same_sign x.sign s) k).1).0) stmts e
+told_by keys stmts (i ∷ w) u s e = elim (or_cases (explicit stmts (i ∷ w) u s) (stated keys stmts w u s && not (contradicted keys stmts (i ∷ w) u s)) e) [
+  | inl a ↦ list_any_weaker (λ x. same_path x.path (i ∷ w) && (same_tuple x.tuple u && same_sign x.sign s)) (λ x. same_tuple x.tuple u)
+      (λ x k. (and_parts (same_tuple x.tuple u) (same_sign x.sign s) (and_parts (same_path x.path (i ∷ w)) (same_tuple x.tuple u && same_sign x.sign s) k).1).0) stmts a
+  | inr b ↦ told_by keys stmts w u s (and_parts (stated keys stmts w u s) (not (contradicted keys stmts (i ∷ w) u s)) b).0
+]
+
+-- a sign by its tests is one that holds
+sign_holds : (plus minus : Bool) (s : Sign) → sign_by plus minus ≡ Some s → (s ≡ Plus → plus ≡ true) × (s ≡ Minus → minus ≡ true)
+sign_holds true minus s e = (λ _. refl, λ m. absurd (apart (some_sign (e ∙ ap Some m))))
+  where
+    some_sign : {a b : Sign} → Some a ≡ Some b → a ≡ b
+    some_sign e = cc
+
+    apart : Plus ≡ Minus → ⊥
+    apart e = cc
+sign_holds false true s e = (λ p. absurd (apart (some_sign (e ∙ ap Some p))), λ _. refl)
+  where
+    some_sign : {a b : Sign} → Some a ≡ Some b → a ≡ b
+    some_sign e = cc
+
+    apart : Minus ≡ Plus → ⊥
+    apart e = cc
+sign_holds false false s e = absurd cc
+
+abbrev nothing : Mark
+nothing = (Plus, true)
+
+abbrev sign_of_mark : Mark → Sign
+sign_of_mark m = m.0
+
+module _ (ns : Names) (ts : Tuples) (t : Tables) (b : Contents) (valid : IsValid b.catalog b.stmts) (h : HaveBase ns ts t b) where
+  abbrev run : CanBeRun t
+  run = record {
+    users = h.users.fits;
+    edges = h.states.tables.edge.fits;
+    told = b.stmts;
+    tuples = ts;
+    held = h.tuples;
+    stmts = b.stmts;
+    path = path_of ns;
+    rows = h.rows;
+  }
+
+  -- ---- users
+
+  few : 1 + length b.catalog.users ≤ 2 ^ 32
+  few = few_users (length b.catalog.users) valid.catalog.few_users
+
+  named : (n : ℕ) → among 1 b.catalog.users n ≡ h.name n
+  named zero = among_below 1 b.catalog.users 0 (lit< tt) ∙ sym h.none
+  named (suc n) = among_at 1 b.catalog.users n (suc n) (omega arith) ∙ sym (h.names n)
+
+  users_under : AreUnder user_codec t [] (numbered 1 b.catalog.users)
+  users_under = record {
+    each = numbered_each 1 b.catalog.users few (all_plain b.catalog.users valid.catalog.users_plain);
+    sorted = numbered_sorted 1 b.catalog.users few;
+    found = λ q _. by q (tables.get t (user_codec.number ∷ q)) refl;
+  }
+    where
+      at_number : (n : ℕ) → IsNum n → tables.get t (user_codec.number ∷ num_bytes n) ≡ find bytes_cmp (num_bytes n) (map (entry_bytes user_codec) (numbered 1 b.catalog.users))
+      at_number n k = h.users.rows n k ∙ ap (option_map text_bytes) (sym (named n)) ∙ sym (number_found 1 b.catalog.users n k few)
+
+      by : (q : List ℕ) (o : Option (List ℕ)) → tables.get t (user_codec.number ∷ q) ≡ o → tables.get t (user_codec.number ∷ q) ≡ find bytes_cmp q (map (entry_bytes user_codec) (numbered 1 b.catalog.users))
+      by q (Some r) e =
+          let k = h.users.fits q r e in
+          ap (λ x. tables.get t (user_codec.number ∷ x)) (sym k.key_reads.spelled) ∙ at_number k.key k.key_reads.fits
+          ∙ ap (λ x. find bytes_cmp x (map (entry_bytes user_codec) (numbered 1 b.catalog.users))) k.key_reads.spelled
+      by q None e = e ∙ sym (none (find bytes_cmp q (map (entry_bytes user_codec) (numbered 1 b.catalog.users))) refl)
+        where
+          none : (o : Option (List ℕ)) → find bytes_cmp q (map (entry_bytes user_codec) (numbered 1 b.catalog.users)) ≡ o → o ≡ None
+          none None f = refl
+          none (Some r) f =
+              let k = found_number 1 b.catalog.users q r few f in
+              absurd (none_some r (sym e ∙ ap (λ x. tables.get t (user_codec.number ∷ x)) k.1 ∙ at_number k.0 k.2 ∙ ap (λ x. find bytes_cmp x (map (entry_bytes user_codec) (numbered 1 b.catalog.users))) (sym k.1) ∙ f))
+
+  users_shown : (sight_of t).users ≡ user_tuples 1 b.catalog.users
+  users_shown = sym (users_are t (numbered 1 b.catalog.users) users_under) ∙ users_listed 1 b.catalog.users
+
+  -- ---- numbers of worlds
+
+  number_named : (w : List ℕ) → is_state b.stmts w ≡ true → number_of ns w ≡ Some (world_number ns w)
+  number_named w e = by (number_of ns w) (h.worlds w ∙ e)
+    where
+      by : (o : Option ℕ) → is_some o ≡ true → o ≡ Some (unwrap_or o 0)
+      by None k = absurd (false≢true k)
+      by (Some n) k = refl
+
+  path_numbered : (w : List ℕ) → is_state b.stmts w ≡ true → path_of ns (world_number ns w) ≡ Some w
+  path_numbered w e = h.states.names.numbered w (world_number ns w) (number_named w e)
+
+  number_sized : (w : List ℕ) → is_state b.stmts w ≡ true → IsNum (world_number ns w)
+  number_sized w e = h.states.names.sized w (world_number ns w) (number_named w e)
+
+  -- ---- edges
+
+  edges_shown : (w : List ℕ) (i : ℕ) → is_state b.stmts w ≡ true → is_user b.catalog.users i ≡ true → is_suffix (i ∷ []) w ≡ false
+      → (sight_of t).edge (world_number ns w) i ≡ Some (world_number ns (edge_target (is_state b.stmts) w i))
+  unfolding sight_of
+  edges_shown w i state user apart =
+      let users = is_user b.catalog.users in
+      let n = world_number ns w in
+      let v = edge_target (is_state b.stmts) w i in
+      let target : is_state b.stmts v ≡ true = deepest_is_member (is_state b.stmts) (w ++ i ∷ []) refl in
+      let same : edge_target (is_named ns) w i ≡ v = deepest_same (is_named ns) (is_state b.stmts) h.worlds (w ++ i ∷ []) in
+      let edge : edge_of users ns (n, i) ≡ Some (world_number ns v) =
+      ap (option_and_then (edge_from users ns i)) (path_numbered w state)
+      ∙ cond-true (users i && not (is_suffix (i ∷ []) w)) (number_of ns (edge_target (is_named ns) w i)) None (and_from (users i) (not (is_suffix (i ∷ []) w)) user (ap not apart))
+      ∙ ap (number_of ns) same ∙ number_named v target in
+      let row : tables.get t (place edge_codec (n, i)) ≡ Some (num_bytes (world_number ns v)) =
+      h.states.tables.edge.rows (n, i) (record { first = number_sized w state; second = h.states.numbers i user }) ∙ ap (option_map num_bytes) edge in
+      ap (option_map number_in) row ∙ ap Some (number_back (world_number ns v) (number_sized v target))
+
+  -- ---- widths
+
+  width_shown : (rel : ℕ) → (sight_of t).width rel ≡ length (columns_at b.catalog.rels rel)
+  unfolding sight_of
+  width_shown rel = by (nat_lt rel (2 ^ 32)) refl
+    where
+      small : nat_lt rel (2 ^ 32) ≡ true → IsNum rel
+      small e = grind (arith, nat_tests)
+
+      large : (n : ℕ) → nat_lt rel (2 ^ 32) ≡ false → nat_le n 64 ≡ true → n ≤ rel
+      large n e few = grind (arith, nat_tests)
+
+      beyond : (xs : List RelDef) (at : ℕ) → length xs ≤ at → slice_get xs at ≡ None
+      beyond [] at le = refl
+      beyond (x ∷ xs) zero le = absurd (omega arith)
+      beyond (x ∷ xs) (suc at) le = beyond xs at (omega arith)
+
+      inside : (o : Option RelDef) → MatchOption o (Unit {0}) IsRelRow → width_in (option_map rel_bytes o) ≡ length (Rattle.bdb_base.specs.Queries.columns_of_definition o)
+      inside None k = refl
+      inside (Some def) k = width_of def k
+
+      by : (c : Bool) → nat_lt rel (2 ^ 32) ≡ c → cond c (width_in (tables.get t (place rel_codec rel))) 0 ≡ length (columns_at b.catalog.rels rel)
+      by true e = ap width_in (h.rels.rows rel (small e)) ∙ inside (slice_get b.catalog.rels rel) (h.rels.written rel (small e))
+      by false e = sym (ap (λ o. length (Rattle.bdb_base.specs.Queries.columns_of_definition o)) (beyond b.catalog.rels rel (large (length b.catalog.rels) e valid.catalog.few_rels)))
+
+  -- ---- rows
+
+  keys : ℕ → ℕ
+  keys = key_lengths b.catalog.rels
+
+  -- what a state's row of a tuple is
+  sign_of_row : (w : List ℕ) (u : Tuple) (s : Sign) → stated keys b.stmts w u s ≡ true → sign_in keys b.stmts w u ≡ Some s
+  unfolding keys
+  sign_of_row w u s e = by s (stated keys b.stmts w u Plus) refl (stated keys b.stmts w u Minus) refl e
+    where
+      clean : stated keys b.stmts w u Plus ≡ true → stated keys b.stmts w u Minus ≡ true → ⊥
+      clean p m = false≢true (sym (worlds_are_consistent keys b.stmts (valid_is_consistent b.catalog b.stmts valid) w u u Plus Minus p m) ∙ (same_tuple-Decides u u).1 refl)
+
+      by : (s : Sign) (p : Bool) → stated keys b.stmts w u Plus ≡ p → (m : Bool) → stated keys b.stmts w u Minus ≡ m → stated keys b.stmts w u s ≡ true → sign_by p m ≡ Some s
+      by Plus true a m c e = refl
+      by Plus false a m c e = absurd (false≢true (sym a ∙ e))
+      by Minus true a m c e = absurd (clean a e)
+      by Minus false a true c e = refl
+      by Minus false a false c e = absurd (false≢true (sym c ∙ e))
+
+  -- the number of a tuple that a state has
+  number_told : (w : List ℕ) (u : Tuple) (s : Sign) → stated keys b.stmts w u s ≡ true → (tid : ℕ) × (ts.number u ≡ Some tid)
+  number_told w u s e = by (ts.number u) refl (h.tuples.stated u ∙ told_by keys b.stmts w u s e)
+    where
+      by : (o : Option ℕ) → ts.number u ≡ o → is_some o ≡ true → (tid : ℕ) × (ts.number u ≡ Some tid)
+      by None f i = absurd (false≢true i)
+      by (Some tid) f i = (tid, f)
+
+  first_of : (vs : List Value) → 0 < length vs → (v : Value) × (rest : List Value) × (vs ≡ v ∷ rest)
+  first_of [] l = absurd (omega arith)
+  first_of (v ∷ vs) l = (v, vs, refl)
+
+  module _ (w : List ℕ) (rel : ℕ) (u : Tuple) (s : Sign) (state : is_state b.stmts w ≡ true) (nr : IsNum rel) where
+    n : ℕ
+    n = world_number ns w
+
+    es : List (ValKey × Mark)
+    es = all t run (world_number ns w) rel (number_sized w state) nr
+
+    abbrev Here : ValKey × Mark → Type 0
+    Here e = IsHere t run (world_number ns w) rel (number_sized w state) nr e
+
+    here : AllByRecursion Here es
+    unfolding es
+    here = all_here t run (world_number ns w) rel (number_sized w state) nr
+
+    there : AllByRecursion (IsThere t) es
+    unfolding es
+    there = (are_typed t run (world_number ns w) rel (number_sized w state) nr).there
+
+    shows : Tuple × Sign → Bool
+    shows x = same_tuple x.0 u && same_sign x.1 s
+
+    mark_there : (e : ValKey × Mark) (k : Here e) → IsThere t e → sign_in keys b.stmts w k.u ≡ Some e.1.0
+    unfolding keys
+    mark_there e k i = signed_by (sign_in keys b.stmts w k.u) (keyed (has_key keys e.0 k.u) refl (sym named_row ∙ mapped (row_for keys b.stmts (path_of ns) ts.tuple e.0) (sym (h.rows.rows e.0 k.key) ∙ i)))
+      where
+        mapped : (o : Option Mark) → option_map mark_bytes o ≡ Some (mark_bytes e.1) → o ≡ Some e.1
+        mapped None f = absurd (none_some (mark_bytes e.1) f)
+        mapped (Some m) f = ap Some (mark_rows_are_one m e.1 tt tt (some_same (mark_bytes m) (mark_bytes e.1) f))
+
+        named_row : row_for keys b.stmts (path_of ns) ts.tuple e.0 ≡ cond (has_key keys e.0 k.u) (mark_of keys b.stmts w k.u) None
+        named_row =
+            ap (λ x. row_named keys b.stmts e.0 x (ts.tuple e.0.3)) (ap (path_of ns) k.at_world ∙ path_numbered w state)
+            ∙ ap (row_named keys b.stmts e.0 (Some w)) k.named
+
+        keyed : (c : Bool) → has_key keys e.0 k.u ≡ c → cond (has_key keys e.0 k.u) (mark_of keys b.stmts w k.u) None ≡ Some e.1 → mark_of keys b.stmts w k.u ≡ Some e.1
+        keyed true a f = sym (cond-true (has_key keys e.0 k.u) (mark_of keys b.stmts w k.u) None a) ∙ f
+        keyed false a f = absurd (no_mark (sym (cond-false (has_key keys e.0 k.u) (mark_of keys b.stmts w k.u) None a) ∙ f))
+          where
+            no_mark : {m : Mark} → None ≡ Some m → ⊥
+            no_mark f = cc
+
+        signed_by : (o : Option Sign) → marked (explicit b.stmts w k.u) o ≡ Some e.1 → o ≡ Some e.1.0
+        signed_by None f = absurd cc
+        signed_by (Some x) f = ap (λ (m : Option Mark). Some (sign_of_mark (unwrap_or m nothing))) f
+
+    one_stated : (e : ValKey × Mark) → Here e → IsThere t e → shows (signed_of t e) ≡ true → (nat_eq u.rel rel && stated keys b.stmts w u s) ≡ true
+    unfolding shows
+    one_stated e k i f =
+        let p = and_parts (same_tuple k.u u) (same_sign e.1.0 s) (sym (ap (λ x. same_tuple x.0 u && same_sign x.1 s) (signed_is t e k.u k.row)) ∙ f) in
+        let same : k.u ≡ u = (same_tuple-Decides k.u u).0 p.0 in
+        let sign : e.1.0 ≡ s = (same_sign-Decides e.1.0 s).0 p.1 in
+        let holds = sign_holds (stated keys b.stmts w k.u Plus) (stated keys b.stmts w k.u Minus) e.1.0 (mark_there e k i) in
+        and_from (nat_eq u.rel rel) (stated keys b.stmts w u s) (eq-eqb u.rel rel (ap (λ x. x.rel) (sym same) ∙ k.of_rel))
+        (ap (λ x. stated keys b.stmts w x s) (sym same) ∙ ap (stated keys b.stmts w k.u) (sym sign) ∙ by e.1.0 refl holds)
+      where
+        by : (x : Sign) → e.1.0 ≡ x → (e.1.0 ≡ Plus → stated keys b.stmts w k.u Plus ≡ true) × (e.1.0 ≡ Minus → stated keys b.stmts w k.u Minus ≡ true) → stated keys b.stmts w k.u e.1.0 ≡ true
+        by Plus a g = ap (stated keys b.stmts w k.u) a ∙ g.0 a
+        by Minus a g = ap (stated keys b.stmts w k.u) a ∙ g.1 a
+
+    some_stated : (xs : List (ValKey × Mark)) → AllByRecursion Here xs → AllByRecursion (IsThere t) xs → list_any shows (map (signed_of t) xs) ≡ true → (nat_eq u.rel rel && stated keys b.stmts w u s) ≡ true
+    some_stated [] a i f = absurd (false≢true f)
+    some_stated (e ∷ xs) a i f = elim (or_cases (shows (signed_of t e)) (list_any shows (map (signed_of t) xs)) f) [
+      | inl g ↦ one_stated e a.0 i.0 g
+      | inr g ↦ some_stated xs a.1 i.1 g
+    ]
+
+    found_one : (k : ValKey) (m : Mark) → IsValKey k → ts.tuple k.3 ≡ Some u → m.0 ≡ s → (xs : List (ValKey × Mark)) → AllByRecursion Here xs → find bytes_cmp (place val_codec k) (map (raw val_codec) xs) ≡ Some (mark_bytes m)
+        → list_any shows (map (signed_of t) xs) ≡ true
+    unfolding shows
+    found_one k m vk tuple sign [] a f = absurd (none_some (mark_bytes m) f)
+    found_one k m vk tuple sign (e ∷ xs) a f = by (λ g. found_one k m vk tuple sign xs a.1 g) (eq_by_cmp bytes_cmp (place val_codec k) (place val_codec e.0)) refl f
+      where
+        one : (o : Option Tuple) (x y : Tuple) → o ≡ Some x → o ≡ Some y → x ≡ y
+        one o x y p q = cc
+
+        by : (find bytes_cmp (place val_codec k) (map (raw val_codec) xs) ≡ Some (mark_bytes m) → list_any (λ x. same_tuple x.0 u && same_sign x.1 s) (map (signed_of t) xs) ≡ true) → (c : Bool) → eq_by_cmp bytes_cmp (place val_codec k) (place val_codec e.0) ≡ c
+            → cond c (Some (mark_bytes e.1)) (find bytes_cmp (place val_codec k) (map (raw val_codec) xs)) ≡ Some (mark_bytes m) → list_any (λ x. same_tuple x.0 u && same_sign x.1 s) (map (signed_of t) (e ∷ xs)) ≡ true
+        by rest true c g =
+            let key : k ≡ e.0 = vals_are_one k e.0 vk a.0.key (ap (λ x. Rattle.std.specs.Prelude.drop 1 x) (same_place (place val_codec k) (place val_codec e.0) c)) in
+            let mark : e.1 ≡ m = mark_rows_are_one e.1 m tt tt (some_same (mark_bytes e.1) (mark_bytes m) g) in
+            let same : a.0.u ≡ u = one (ts.tuple e.0.3) a.0.u u a.0.named (ap (λ (x : ValKey). ts.tuple x.3) (sym key) ∙ tuple) in
+            or_from_left (same_tuple (signed_of t e).0 u && same_sign (signed_of t e).1 s) (list_any (λ x. same_tuple x.0 u && same_sign x.1 s) (map (signed_of t) xs))
+            (ap (λ x. same_tuple x.0 u && same_sign x.1 s) (signed_is t e a.0.u a.0.row)
+            ∙ and_from (same_tuple a.0.u u) (same_sign e.1.0 s) ((same_tuple-Decides a.0.u u).1 same) ((same_sign-Decides e.1.0 s).1 (ap (λ (x : Mark). x.0) mark ∙ sign)))
+          where
+            or_from_left : (x y : Bool) → x ≡ true → (x || y) ≡ true
+            or_from_left true y p = refl
+            or_from_left false y p = absurd (false≢true p)
+        by rest false c g = or_right (same_tuple (signed_of t e).0 u && same_sign (signed_of t e).1 s) (list_any (λ x. same_tuple x.0 u && same_sign x.1 s) (map (signed_of t) xs)) (rest g)
+
+    stated_there : (nat_eq u.rel rel && stated keys b.stmts w u s) ≡ true → list_any shows (map (signed_of t) es) ≡ true
+    unfolding es keys
+    stated_there f =
+        let p = and_parts (nat_eq u.rel rel) (stated keys b.stmts w u s) f in
+        let of : u.rel ≡ rel = eqb-true u.rel rel p.0 in
+        let id = number_told w u s p.1 in
+        let tuple : ts.tuple id.0 ≡ Some u = h.tuples.numbered u id.0 id.1 in
+        let row = has_row t run id.0 u tuple in
+        let v = first_of u.vals row.in_grammar.some in
+        let k : ValKey = (world_number ns w, rel, v.0, id.0) in
+        let m : Mark = (s, explicit b.stmts w u s) in
+        let vk : IsValKey k = record {
+          world = number_sized w state;
+          rel = nr;
+          value = (subst ArePlain v.2 row.in_grammar.plain).0;
+          tuple = h.tuples.sized id.0 u tuple;
+        } in
+        let has : has_key keys k u ≡ true = and_from (nat_eq u.rel rel) (same_values (key_of keys u) (v.0 ∷ [])) (eq-eqb u.rel rel of)
+        (ap (λ vs. same_values (Rattle.std.specs.Prelude.take 1 vs) (v.0 ∷ [])) v.2 ∙ and_from (Rattle.bdb_base.specs.Same.same_value v.0 v.0) true ((same_value-Decides v.0 v.0).1 refl) refl) in
+        let is : row_for keys b.stmts (path_of ns) ts.tuple k ≡ Some m =
+        ap (λ x. row_named keys b.stmts k x (ts.tuple id.0)) (path_numbered w state)
+        ∙ ap (row_named keys b.stmts k (Some w)) tuple
+        ∙ cond-true (has_key keys k u) (mark_of keys b.stmts w u) None has
+        ∙ ap (marked (explicit b.stmts w u)) (sign_of_row w u s p.1) in
+        let begins : is_prefix (val_codec.number ∷ world_prefix (world_number ns w) rel) (place val_codec k) ≡ true = prefix_append (world_prefix (world_number ns w) rel) (value_bytes v.0 ++ num_bytes id.0) in
+        let found : find bytes_cmp (place val_codec k) (rows_at t (val_codec.number ∷ world_prefix (world_number ns w) rel)) ≡ Some (mark_bytes m) =
+        at_find val_codec t (val_codec.number ∷ world_prefix (world_number ns w) rel) (place val_codec k)
+        ∙ cond-true (is_prefix (val_codec.number ∷ world_prefix (world_number ns w) rel) (place val_codec k)) (tables.get t (place val_codec k)) None begins
+        ∙ h.rows.rows k vk ∙ ap (option_map mark_bytes) is in
+        found_one k m vk tuple refl es here (ap (find bytes_cmp (place val_codec k)) (sym (are_typed t run (world_number ns w) rel (number_sized w state) nr).rows) ∙ found)
+
+    rows_inside : has_signed ((sight_of t).rows (world_number ns w) rel) u s ≡ (nat_eq u.rel rel && stated keys b.stmts w u s)
+    unfolding es shows
+    rows_inside =
+        ap (list_any shows) (shown_all t run (world_number ns w) rel (number_sized w state) nr)
+        ∙ both_ways (list_any shows (map (signed_of t) es)) (nat_eq u.rel rel && stated keys b.stmts w u s) (some_stated es here there) stated_there
+
+  no_rows : (w : List ℕ) (rel : ℕ) → nat_lt rel (2 ^ 32) ≡ false → (sight_of t).rows (world_number ns w) rel ≡ []
+  unfolding sight_of
+  no_rows w rel e = cond-false (nat_lt rel (2 ^ 32)) (signed_under t (num_bytes (world_number ns w) ++ num_bytes rel)) [] e
+
+  rows_shown : (w : List ℕ) (rel : ℕ) (u : Tuple) (s : Sign) → is_state b.stmts w ≡ true
+      → has_signed ((sight_of t).rows (world_number ns w) rel) u s ≡ (nat_eq u.rel rel && stated (key_lengths b.catalog.rels) b.stmts w u s)
+  unfolding keys
+  rows_shown w rel u s state = by (nat_lt rel (2 ^ 32)) refl
+    where
+      small : nat_lt rel (2 ^ 32) ≡ true → IsNum rel
+      small e = grind (arith, nat_tests)
+
+      large : (n : ℕ) → n < 2 ^ 32 → n ≡ rel → nat_lt rel (2 ^ 32) ≡ true
+      large n lt e = grind (arith, nat_tests)
+
+      by : (c : Bool) → nat_lt rel (2 ^ 32) ≡ c → has_signed ((sight_of t).rows (world_number ns w) rel) u s ≡ (nat_eq u.rel rel && stated (key_lengths b.catalog.rels) b.stmts w u s)
+      by true e = rows_inside w rel u s state (small e)
+      by false e = ap (λ r. has_signed r u s) (no_rows w rel e) ∙ sym (false_from_ne_true (nat_eq u.rel rel && stated (key_lengths b.catalog.rels) b.stmts w u s) (λ f.
+          let p = and_parts (nat_eq u.rel rel) (stated (key_lengths b.catalog.rels) b.stmts w u s) f in
+          let id = number_told w u s p.1 in
+          let row = has_row t run id.0 u (h.tuples.numbered u id.0 id.1) in
+          false≢true (sym e ∙ large u.rel row.in_grammar.rel (eqb-true u.rel rel p.0))))
+
+  keys_shown : (sight_of t).keys ≡ key_lengths b.catalog.rels
+  unfolding sight_of
+  keys_shown = refl
+
+  base_shown : ShowBase ns t b
+  base_shown = record {
+    run = run;
+    shown = record {
+      users = users_shown;
+      root = ap (λ o. unwrap_or o 0) h.states.names.root;
+      edges = edges_shown;
+      rows = rows_shown;
+      width = width_shown;
+      keys = keys_shown;
+    };
+  }
+
+pub tables_show_base : TablesShowBase
+tables_show_base = base_shown

@@ -1,0 +1,55 @@
+-- Rows of worlds as they are read.
+use Rattle.std.specs.Prelude.{◌≡◌, ℕ, Bool, true, not, List, [], ◌∷◌, ◌++◌, Option, MatchOption}
+use Rattle.bdb_base.specs.Bases.{is_plain}
+use Rattle.bdb_base.specs.declared.kinds.Sign.{Sign}
+use Rattle.bdb_base.specs.declared.kinds.Sign.TheVariants.{Plus, Minus}
+use Rattle.bdb_base.specs.declared.kinds.Value.{Value}
+use Rattle.bdb_base.specs.declared.kinds.Value.TheVariants.{Int, Text}
+use Rattle.bdb_base.specs.declared.tuple.Tuple.{Tuple}
+use Rattle.bdb_keep.specs.Tables.{Tables}
+use Rattle.bdb_key.specs.Bytes.{num_bytes, value_bytes}
+use Rattle.bdb_key.specs.Grammar.{IsNum}
+use Rattle.bdb_tables.specs.Codec.{HasRow, place}
+use Rattle.bdb_tables.specs.InUse.{ValKey, tuple_codec, val_codec}
+use Rattle.bdb_tables.specs.Marks.{Mark}
+use Rattle.bdb_tables.specs.Names.{leads_to}
+use Rattle.bdb_exec.specs.Seen.{signed_in}
+
+-- a text is one that keys may have
+abbrev pub is_written : Value → Bool
+is_written (Int n) = true
+is_written (Text t) = is_plain t
+
+-- how the keys of a world's rows of a relation begin
+abbrev pub world_prefix : ℕ → ℕ → List ℕ
+world_prefix world rel = num_bytes world ++ num_bytes rel
+
+-- how the keys of those rows begin whose tuples have a value as their key
+abbrev pub key_prefix : ℕ → ℕ → Value → List ℕ
+key_prefix world rel v = world_prefix world rel ++ value_bytes v
+
+-- a row's signed tuple, as the tables show it
+abbrev pub signed_of : Tables → ValKey × Mark → Tuple × Sign
+signed_of t e = signed_in t (place val_codec e.0, val_codec.row_bytes e.1)
+
+-- the number of a row's tuple stands for a tuple
+abbrev pub HasTuple : Tables → ValKey × Mark → Type 0
+HasTuple t e = (u : Tuple) × HasRow tuple_codec t e.0.3 u
+
+-- the number that stands for a tuple; none where none does
+abbrev pub IsNumberOf : Tables → Tuple → Option ℕ → Type 0
+IsNumberOf t u number = MatchOption number ((tid : ℕ) → IsNum tid → HasRow tuple_codec t tid u → ⊥) (λ tid. IsNum tid × HasRow tuple_codec t tid u)
+
+-- a row of the key of a tuple denies it, by its sign and by whether it is the tuple's own
+abbrev pub denies_by : Sign → Bool → Bool
+denies_by Plus own = not own
+denies_by Minus own = own
+
+-- a row of the key of the tuple that has this number denies the tuple
+abbrev pub row_denies : Option ℕ → ValKey × Mark → Bool
+row_denies number e = denies_by e.1.0 (leads_to number e.0.3)
+
+-- the tuple of a number was appended where its sign is plus
+abbrev pub HasPushed : Tables → ℕ → Sign → List Tuple → List Tuple → Type 0
+HasPushed t tid Plus old new = (u : Tuple) × (new ≡ old ++ u ∷ []) × HasRow tuple_codec t tid u
+HasPushed t tid Minus old new = new ≡ old

@@ -1,0 +1,55 @@
+-- What tables show to plans.
+use Rattle.std.specs.Prelude.{ℕ, ◌-◌, ◌/◌, ◌^◌, nat_lt, cond, List, [], ◌∷◌, ◌++◌, Option, Some, None, length, map, filter, drop}
+use Rattle.std.specs.Option.{option_map, unwrap_or}
+use Rattle.std.specs.FinMap as tables
+use Rattle.bdb_base.specs.Segments.{is_prefix}
+use Rattle.bdb_base.specs.declared.kinds.Sign.{Sign}
+use Rattle.bdb_base.specs.declared.kinds.Sign.TheVariants.{Plus, Minus}
+use Rattle.bdb_base.specs.declared.tuple.Tuple.{Tuple}
+use Rattle.bdb_keep.specs.Tables.{Tables}
+use Rattle.bdb_key.specs.Bytes.{num_bytes}
+use Rattle.bdb_queries.specs.Slots.{user_tuple}
+use Rattle.bdb_plan.specs.Sight.{Sight}
+use Rattle.bdb_tables.specs.Codec.{place}
+use Rattle.bdb_tables.specs.InUse.{user_codec, rel_codec, tuple_codec, edge_codec, val_codec}
+use Rattle.bdb_exec.specs.Spelled.{number_in, before_end, values_in, tuple_in}
+
+-- the rows of tables whose places begin so, in order
+abbrev pub rows_at : Tables → List ℕ → List (List ℕ × List ℕ)
+rows_at t begin = filter (λ e. is_prefix begin e.0) (tables.entries t)
+
+-- the user of a row of users: its number, and its name behind the byte that marks a text
+abbrev pub user_in : List ℕ × List ℕ → Tuple
+user_in e = user_tuple (number_in (drop 1 e.0)) (before_end (drop 1 e.1))
+
+-- the tuple whose number stands at the end of a place
+abbrev pub tuple_at : Tables → List ℕ → Tuple
+tuple_at t key = tuple_in (unwrap_or (tables.get t (tuple_codec.number ∷ drop (length key - 4) key)) [])
+
+-- the sign of a row of a world
+abbrev pub sign_in : List ℕ → Sign
+sign_in row = cond (nat_lt (number_in row) 2) Plus Minus
+
+-- the signed tuple of a row of a world
+abbrev pub signed_in : Tables → List ℕ × List ℕ → Tuple × Sign
+signed_in t e = (tuple_at t e.0, sign_in e.1)
+
+-- the signed tuples of the rows of worlds whose keys begin so, in the order of the keys
+abbrev pub signed_under : Tables → List ℕ → List (Tuple × Sign)
+signed_under t begin = map (signed_in t) (rows_at t (val_codec.number ∷ begin))
+
+-- how many columns a relation's row has: it has its name, and then a name and a kind for each
+abbrev pub width_in : Option (List ℕ) → ℕ
+width_in None = 0
+width_in (Some row) = length (values_in (length row) row) / 2
+
+-- What tables show: the users by number; where edges lead; the rows of worlds by key; how many columns relations have. The
+-- key of a tuple is its first value.
+unfoldable pub sight_of : Tables → Sight
+sight_of t = record {
+  users = map user_in (rows_at t (user_codec.number ∷ []));
+  edge = λ world uid. option_map number_in (tables.get t (place edge_codec (world, uid)));
+  rows = λ world rel. cond (nat_lt rel (2 ^ 32)) (signed_under t (num_bytes world ++ num_bytes rel)) [];
+  width = λ rel. cond (nat_lt rel (2 ^ 32)) (width_in (tables.get t (place rel_codec rel))) 0;
+  keys = λ rel. 1;
+}

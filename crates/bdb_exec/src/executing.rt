@@ -1,0 +1,75 @@
+// The rows of a plan.
+ghost use Rattle.std.specs.Prelude.{◌≡◌, ◌≤◌, ◌<◌, ◌+◌, IfOk, OnOk, length};
+ghost use Rattle.std.specs.Result.{IsErrOf};
+ghost use Rattle.bdb_base.specs.Limits.{most_lines};
+ghost use Rattle.bdb_queries.specs.Limits.{up_to};
+ghost use Rattle.bdb_plan.specs.Running.{meaning_of, reads_from, start_of};
+ghost use Rattle.bdb_exec.specs.Looks.{Looks, IsExecuted};
+ghost use Rattle.bdb_exec.specs.Readable.{CanBeRun};
+ghost use Rattle.bdb_exec.specs.Seen.{sight_of};
+
+use crate::errors::ExecError;
+use crate::running::run;
+use crate::state::State;
+use bdb_base::limits::MOST_LINES;
+use bdb_base::{List, Value};
+use bdb_keep::Keeper;
+use bdb_plan::Plan;
+use bdb_queries::Found;
+use bdb_tables::TabError;
+use std::alloc::Global;
+
+/// Rows of an answer.
+pub type Rows = List<List<Value>>;
+
+/// The rows that a plan means over what the tables of a keeper show: in order, each once. `TooMany` comes exactly where
+/// there are more than an answer may have. A user, and a row of the world that a walk comes to, is read for each choice
+/// made before it.
+pub fn execute<K: Keeper>(alloc: Global, keeper: &mut K, plan: &Plan) -> Result<Rows, ExecError>
+    requires run { CanBeRun (K.seen keeper.old).kept }
+    ensures rows { IfOk result (λ rows. rows ≡ meaning_of (sight_of (K.seen keeper.old).kept) plan.now) }
+    ensures few { IfOk result (λ rows. length rows ≤ most_lines) }
+    ensures many { IsErrOf result ExecError.TooMany → most_lines < length (meaning_of (sight_of (K.seen keeper.old).kept) plan.now) }
+    ensures reads { OnOk result ((K.seen keeper.new).reads ≤ (K.seen keeper.old).reads + reads_from (sight_of (K.seen keeper.old).kept) plan.now.steps (start_of plan.now.items)) }
+    ensures execution { IsExecuted (K.seen keeper.old) (K.seen keeper.new) result }
+{
+    match rows_up_to(alloc, keeper, plan, MOST_LINES) {
+        Ok(Some(rows)) => Ok(rows),
+        Ok(None) => Err(ExecError::TooMany),
+        Err(TabError::Fault) => Err(ExecError::Fault),
+        Err(TabError::Memory) => Err(ExecError::Memory),
+    }
+}
+
+// The rows of a plan, where there are at most so many; none exactly where there are more.
+fn rows_up_to<K: Keeper>(
+    alloc: Global,
+    keeper: &mut K,
+    plan: &Plan,
+    most: usize,
+) -> Result<Option<Rows>, TabError>
+    requires run { CanBeRun (K.seen keeper.old).kept }
+    ensures rows { IfOk result (λ rows. rows ≡ up_to most (meaning_of (sight_of (K.seen keeper.old).kept) plan.now)) }
+    ensures reads { OnOk result ((K.seen keeper.new).reads ≤ (K.seen keeper.old).reads + reads_from (sight_of (K.seen keeper.old).kept) plan.now.steps (start_of plan.now.items)) }
+    ensures looks { Looks (K.seen keeper.old) (K.seen keeper.new) result TabError.Fault }
+{
+    let state = match State::start(alloc, plan.items()) {
+        Ok(state) => state,
+        Err(_) => {
+            keeper.undo();
+            return Err(TabError::Memory);
+        }
+    };
+    let mut found = Found::new(alloc, most);
+    match run(alloc, keeper, plan.steps(), plan.take(), state, &mut found) {
+        Ok(()) => {}
+        Err(error) => return Err(error),
+    }
+    match found.into_rows(alloc) {
+        Ok(rows) => Ok(rows),
+        Err(_) => {
+            keeper.undo();
+            Err(TabError::Memory)
+        }
+    }
+}

@@ -1,0 +1,15 @@
+//! Running plans over tables: the rows that a plan means, over what the tables of a keeper show.
+#![tactic(auto)]
+
+mod errors;
+mod executing;
+mod keys;
+pub mod laws;
+mod looking;
+mod reading;
+mod running;
+mod settling;
+mod state;
+
+pub use errors::ExecError;
+pub use executing::{Rows, execute};

@@ -1,0 +1,375 @@
+// What tables show, read from a keeper.
+ghost use Rattle.std.specs.Prelude.{◌≡◌, ◌≤◌, ◌+◌, ◌*◌, ◌++◌, nat_le, Some, IfOk, OnOk, length, map};
+ghost use Rattle.std.specs.List.{AllByRecursion, list_any, list_all, slice_get};
+ghost use Rattle.bdb_base.specs.Bases.{is_plain};
+ghost use Rattle.bdb_base.specs.Causes.{RoseBy};
+ghost use Rattle.bdb_base.specs.declared.tuple.Tuple.{Tuple};
+ghost use Rattle.bdb_keep.specs.Calls.{IsRead};
+ghost use Rattle.bdb_key.specs.Grammar.{HasPlainText, IsPlainValue};
+ghost use Rattle.bdb_queries.specs.Slots.{user_tuple};
+ghost use Rattle.bdb_plan.specs.Running.{plus_tuples};
+ghost use Rattle.bdb_plan.specs.Sight.{rows_deny};
+ghost use Rattle.bdb_tables.specs.Codec.{HasRow};
+ghost use Rattle.bdb_tables.specs.InUse.{tuple_codec};
+ghost use Rattle.bdb_exec.specs.Keys.{of_key};
+ghost use Rattle.bdb_exec.specs.Looks.{Looks};
+ghost use Rattle.bdb_exec.specs.Readable.{CanBeRun};
+ghost use Rattle.bdb_exec.specs.Rows.{HasTuple, IsNumberOf, HasPushed, signed_of, row_denies, is_written, world_prefix, key_prefix};
+ghost use Rattle.bdb_exec.specs.Seen.{sight_of, signed_under};
+
+use bdb_base::limits::LONGEST_TEXT;
+use bdb_base::{List, Sign, Tuple, Txt, Value};
+use bdb_keep::Keeper;
+use bdb_key::{put_num, put_tuple, put_value};
+use bdb_queries::user_tuple;
+use bdb_tables::{EdgeTab, TabError, TupleIx, TupleTab, UserTab, ValTab, get, rows_under};
+use std::alloc::{AllocError, Global};
+
+/// The users, by number. One read more than there are users.
+pub fn users<K: Keeper>(alloc: Global, keeper: &mut K) -> Result<List<Tuple>, TabError>
+    requires run { CanBeRun (K.seen keeper.old).kept }
+    ensures users { IfOk result (λ users. users ≡ (sight_of (K.seen keeper.old).kept).users) }
+    ensures reads { OnOk result ((K.seen keeper.new).reads ≤ (K.seen keeper.old).reads + (length (sight_of (K.seen keeper.old).kept).users + 1)) }
+    ensures looks { Looks (K.seen keeper.old) (K.seen keeper.new) result TabError.Fault }
+{
+    let entries = match rows_under::<UserTab, K>(alloc, keeper, &[]) {
+        Ok(entries) => entries,
+        Err(error) => return Err(error),
+    };
+    match users_of(alloc, entries.as_slice()) {
+        Ok(users) => Ok(users),
+        Err(_) => {
+            keeper.undo();
+            Err(TabError::Memory)
+        }
+    }
+}
+
+// The users of rows.
+fn users_of(alloc: Global, entries: &[(u32, Txt)]) -> Result<List<Tuple>, AllocError>
+    ensures { IfOk result (λ users. users ≡ map (λ e. user_tuple e.0 e.1) entries.now) }
+{
+    let mut users = List::new(alloc);
+    for entry in entries {
+        users.push(user_tuple(alloc, entry.0, &entry.1)?)?;
+    }
+    Ok(users)
+}
+
+/// Where the edge of a world for a user leads. One read.
+pub fn edge<K: Keeper>(
+    alloc: Global,
+    keeper: &mut K,
+    world: u32,
+    uid: u32,
+) -> Result<Option<u32>, TabError>
+    requires run { CanBeRun (K.seen keeper.old).kept }
+    ensures target { IfOk result (λ target. target ≡ (sight_of (K.seen keeper.old).kept).edge world uid) }
+    ensures reads { OnOk result ((K.seen keeper.new).reads ≤ (K.seen keeper.old).reads + 1) }
+    ensures looks { Looks (K.seen keeper.old) (K.seen keeper.new) result TabError.Fault }
+{
+    let key = (world, uid);
+    match get::<EdgeTab, K>(alloc, keeper, &key) {
+        Ok(target) => Ok(target),
+        Err(error) => Err(error),
+    }
+}
+
+/// The tuples of a relation that a world has with plus. At most two reads for each row of the world and the relation, and
+/// one more.
+pub fn plus_tuples<K: Keeper>(
+    alloc: Global,
+    keeper: &mut K,
+    world: u32,
+    rel: u32,
+) -> Result<List<Tuple>, TabError>
+    requires run { CanBeRun (K.seen keeper.old).kept }
+    ensures tuples { IfOk result (λ tuples. tuples ≡ plus_tuples ((sight_of (K.seen keeper.old).kept).rows world rel)) }
+    ensures reads { OnOk result ((K.seen keeper.new).reads ≤ (K.seen keeper.old).reads + (2 * length ((sight_of (K.seen keeper.old).kept).rows world rel) + 1)) }
+    ensures looks { Looks (K.seen keeper.old) (K.seen keeper.new) result TabError.Fault }
+{
+    let mut prefix = Vec::new(alloc);
+    if put_world(&mut prefix, world, rel).is_err() {
+        keeper.undo();
+        return Err(TabError::Memory);
+    }
+    match plus_under(alloc, keeper, prefix.as_slice()) {
+        Ok(tuples) => Ok(tuples),
+        Err(error) => Err(error),
+    }
+}
+
+/// As `plus_tuples`, but only the tuples whose first value is this one.
+pub fn plus_tuples_of_key<K: Keeper>(
+    alloc: Global,
+    keeper: &mut K,
+    world: u32,
+    rel: u32,
+    key: &Value,
+) -> Result<List<Tuple>, TabError>
+    requires run { CanBeRun (K.seen keeper.old).kept }
+    ensures tuples { IfOk result (λ tuples. tuples ≡ of_key (Some key.now) (plus_tuples ((sight_of (K.seen keeper.old).kept).rows world rel))) }
+    ensures reads { OnOk result ((K.seen keeper.new).reads ≤ (K.seen keeper.old).reads + (2 * length ((sight_of (K.seen keeper.old).kept).rows world rel) + 1)) }
+    ensures looks { Looks (K.seen keeper.old) (K.seen keeper.new) result TabError.Fault }
+{
+    if !is_written(key) {
+        return Ok(List::new(alloc));
+    }
+    let mut prefix = Vec::new(alloc);
+    if put_key(&mut prefix, world, rel, key).is_err() {
+        keeper.undo();
+        return Err(TabError::Memory);
+    }
+    match plus_under(alloc, keeper, prefix.as_slice()) {
+        Ok(tuples) => Ok(tuples),
+        Err(error) => Err(error),
+    }
+}
+
+// The tuples with plus of the rows of worlds whose keys begin so.
+fn plus_under<K: Keeper>(
+    alloc: Global,
+    keeper: &mut K,
+    prefix: &[u8],
+) -> Result<List<Tuple>, TabError>
+    requires run { CanBeRun (K.seen keeper.old).kept }
+    ensures tuples { IfOk result (λ tuples. tuples ≡ plus_tuples (signed_under (K.seen keeper.old).kept prefix.now)) }
+    ensures reads { OnOk result ((K.seen keeper.new).reads ≤ (K.seen keeper.old).reads + (2 * length (signed_under (K.seen keeper.old).kept prefix.now) + 1)) }
+    ensures looks { Looks (K.seen keeper.old) (K.seen keeper.new) result TabError.Fault }
+{
+    let entries = match rows_under::<ValTab, K>(alloc, keeper, prefix) {
+        Ok(entries) => entries,
+        Err(error) => return Err(error),
+    };
+    match plus_of(alloc, keeper, entries.as_slice()) {
+        Ok(tuples) => Ok(tuples),
+        Err(error) => Err(error),
+    }
+}
+
+// The tuples with plus of these rows. A read for each.
+fn plus_of<K: Keeper>(
+    alloc: Global,
+    keeper: &mut K,
+    entries: &[((u32, u32, Value, u32), (Sign, bool))],
+) -> Result<List<Tuple>, TabError>
+    requires run { CanBeRun (K.seen keeper.old).kept }
+    requires there { AllByRecursion (HasTuple (K.seen keeper.old).kept) entries.now }
+    ensures tuples { IfOk result (λ tuples. tuples ≡ plus_tuples (map (signed_of (K.seen keeper.old).kept) entries.now)) }
+    ensures reads { OnOk result ((K.seen keeper.new).reads ≤ (K.seen keeper.old).reads + length entries.now) }
+    ensures looks { Looks (K.seen keeper.old) (K.seen keeper.new) result TabError.Fault }
+{
+    let mut tuples = List::new(alloc);
+    for entry in entries {
+        match push_plus(alloc, keeper, entry.0.3, entry.1.0, &mut tuples) {
+            Ok(()) => {}
+            Err(error) => return Err(error),
+        }
+    }
+    Ok(tuples)
+}
+
+// Appends the tuple of a number, where its sign is plus. One read at most.
+fn push_plus<K: Keeper>(
+    alloc: Global,
+    keeper: &mut K,
+    tid: u32,
+    sign: Sign,
+    tuples: &mut List<Tuple>,
+) -> Result<(), TabError>
+    requires run { CanBeRun (K.seen keeper.old).kept }
+    requires there { (u : Tuple) × HasRow tuple_codec (K.seen keeper.old).kept tid u }
+    ensures pushed { OnOk result (HasPushed (K.seen keeper.old).kept tid sign tuples.old tuples.new) }
+    ensures reads { OnOk result ((K.seen keeper.new).reads ≤ (K.seen keeper.old).reads + 1) }
+    ensures looks { Looks (K.seen keeper.old) (K.seen keeper.new) result TabError.Fault }
+{
+    match sign {
+        Sign::Plus => match tuple_of(alloc, keeper, tid) {
+            Ok(tuple) => {
+                if tuples.push(tuple).is_err() {
+                    keeper.undo();
+                    return Err(TabError::Memory);
+                }
+                Ok(())
+            }
+            Err(error) => Err(error),
+        },
+        Sign::Minus => Ok(()),
+    }
+}
+
+// The tuple of a number that has one. One read.
+fn tuple_of<K: Keeper>(alloc: Global, keeper: &mut K, tid: u32) -> Result<Tuple, TabError>
+    requires run { CanBeRun (K.seen keeper.old).kept }
+    requires there { (u : Tuple) × HasRow tuple_codec (K.seen keeper.old).kept tid u }
+    ensures tuple { IfOk result (λ tuple. HasRow tuple_codec (K.seen keeper.old).kept tid tuple) }
+    ensures reads { OnOk result (RoseBy 1 (K.seen keeper.old).reads (K.seen keeper.new).reads) }
+    ensures read { IsRead (K.seen keeper.old) (K.seen keeper.new) result TabError.Fault }
+{
+    match get::<TupleTab, K>(alloc, keeper, &tid) {
+        Ok(Some(tuple)) => Ok(tuple),
+        Ok(None) => unreachable!(),
+        Err(error) => Err(error),
+    }
+}
+
+/// Whether a world denies a tuple: it has the tuple with minus, or another tuple of its relation and key with plus. At most
+/// a read for each row of the world and the relation, and two more.
+pub fn denies<K: Keeper>(
+    alloc: Global,
+    keeper: &mut K,
+    world: u32,
+    tuple: &Tuple,
+) -> Result<bool, TabError>
+    requires run { CanBeRun (K.seen keeper.old).kept }
+    ensures denies { IfOk result (λ denies. denies ≡ rows_deny (sight_of (K.seen keeper.old).kept).keys ((sight_of (K.seen keeper.old).kept).rows world tuple.now.rel) tuple.now) }
+    ensures reads { OnOk result ((K.seen keeper.new).reads ≤ (K.seen keeper.old).reads + (length ((sight_of (K.seen keeper.old).kept).rows world tuple.now.rel) + 3)) }
+    ensures looks { Looks (K.seen keeper.old) (K.seen keeper.new) result TabError.Fault }
+{
+    match tuple.vals.get(0) {
+        Some(key) => match denies_with(alloc, keeper, world, tuple.rel, key, tuple) {
+            Ok(denies) => Ok(denies),
+            Err(error) => Err(error),
+        },
+        None => Ok(false),
+    }
+}
+
+// Whether a world denies a tuple of this relation that has this key.
+fn denies_with<K: Keeper>(
+    alloc: Global,
+    keeper: &mut K,
+    world: u32,
+    rel: u32,
+    key: &Value,
+    tuple: &Tuple,
+) -> Result<bool, TabError>
+    requires run { CanBeRun (K.seen keeper.old).kept }
+    requires relation { tuple.now.rel ≡ rel }
+    requires key { slice_get tuple.now.vals 0 ≡ Some key.now }
+    ensures denies { IfOk result (λ denies. denies ≡ rows_deny (sight_of (K.seen keeper.old).kept).keys ((sight_of (K.seen keeper.old).kept).rows world rel) tuple.now) }
+    ensures reads { OnOk result ((K.seen keeper.new).reads ≤ (K.seen keeper.old).reads + (length ((sight_of (K.seen keeper.old).kept).rows world rel) + 3)) }
+    ensures looks { Looks (K.seen keeper.old) (K.seen keeper.new) result TabError.Fault }
+{
+    if !is_written(key) {
+        return Ok(false);
+    }
+    let number = match number_of(alloc, keeper, tuple) {
+        Ok(number) => number,
+        Err(error) => return Err(error),
+    };
+    let mut prefix = Vec::new(alloc);
+    if put_key(&mut prefix, world, rel, key).is_err() {
+        keeper.undo();
+        return Err(TabError::Memory);
+    }
+    match rows_under::<ValTab, K>(alloc, keeper, prefix.as_slice()) {
+        Ok(entries) => Ok(one_denies(entries.as_slice(), number)),
+        Err(error) => Err(error),
+    }
+}
+
+// Whether one of these rows of a tuple's key denies the tuple of this number.
+fn one_denies(entries: &[((u32, u32, Value, u32), (Sign, bool))], number: Option<u32>) -> bool
+    ensures { result ≡ list_any (row_denies number) entries.now }
+{
+    entries.iter().any(|entry| row_denies(entry, number))
+}
+
+// Whether a row of a tuple's key denies the tuple of this number.
+fn row_denies(entry: &((u32, u32, Value, u32), (Sign, bool)), number: Option<u32>) -> bool
+    ensures { result ≡ row_denies number entry.now }
+{
+    let own = match number {
+        Some(tid) => tid == entry.0.3,
+        None => false,
+    };
+    match entry.1.0 {
+        Sign::Plus => !own,
+        Sign::Minus => own,
+    }
+}
+
+// The number of a tuple; none where it has none. One read at most.
+fn number_of<K: Keeper>(
+    alloc: Global,
+    keeper: &mut K,
+    tuple: &Tuple,
+) -> Result<Option<u32>, TabError>
+    requires run { CanBeRun (K.seen keeper.old).kept }
+    ensures number { IfOk result (IsNumberOf (K.seen keeper.old).kept tuple.now) }
+    ensures reads { OnOk result ((K.seen keeper.new).reads ≤ (K.seen keeper.old).reads + 1) }
+    ensures looks { Looks (K.seen keeper.old) (K.seen keeper.new) result TabError.Fault }
+{
+    if !are_written(tuple.vals.as_slice()) {
+        return Ok(None);
+    }
+    let mut bytes = Vec::new(alloc);
+    if put_tuple(&mut bytes, tuple).is_err() {
+        keeper.undo();
+        return Err(TabError::Memory);
+    }
+    match get::<TupleIx, K>(alloc, keeper, tuple) {
+        Ok(number) => Ok(number),
+        Err(error) => Err(error),
+    }
+}
+
+// Whether the texts of values are those that keys may have.
+fn are_written(values: &[Value]) -> bool
+    ensures { result ≡ list_all is_written values.now }
+{
+    values.iter().all(|value| is_written(value))
+}
+
+// Whether a text is one that keys may have.
+fn is_written(value: &Value) -> bool
+    ensures { result ≡ is_written value.now }
+{
+    match value {
+        Value::Int(_) => true,
+        Value::Text(text) => is_plain(text.as_bytes()),
+    }
+}
+
+// Whether bytes are a plain text.
+#[tactic(auto, using(bdb_key::proofs::Readings::utf8_true, bdb_key::proofs::Readings::utf8_false))]
+fn is_plain(bytes: &[u8]) -> bool
+    ensures { result ≡ is_plain bytes.now }
+{
+    if bytes.len() > LONGEST_TEXT || !is_printing(bytes) {
+        return false;
+    }
+    match std::str::from_utf8(bytes) {
+        Ok(_) => true,
+        Err(_) => false,
+    }
+}
+
+// Whether no byte is one of a character below U+0020.
+fn is_printing(bytes: &[u8]) -> bool
+    ensures { result ≡ list_all (λ c. nat_le 32 c) bytes.now }
+{
+    bytes.iter().all(|byte| *byte >= 32)
+}
+
+// How the keys of a world's rows of a relation begin.
+fn put_world(prefix: &mut Vec<u8>, world: u32, rel: u32) -> Result<(), AllocError>
+    ensures { OnOk result (prefix.new.items ≡ prefix.old.items ++ world_prefix world rel) }
+{
+    put_num(prefix, world)?;
+    put_num(prefix, rel)?;
+    Ok(())
+}
+
+// How the keys of those rows begin whose tuples have a value as their key.
+fn put_key(prefix: &mut Vec<u8>, world: u32, rel: u32, key: &Value) -> Result<(), AllocError>
+    requires text { HasPlainText key.now }
+    ensures bytes { OnOk result (prefix.new.items ≡ prefix.old.items ++ key_prefix world rel key.now) }
+    ensures fits { OnOk result (IsPlainValue key.now) }
+{
+    put_num(prefix, world)?;
+    put_num(prefix, rel)?;
+    put_value(prefix, key)?;
+    Ok(())
+}

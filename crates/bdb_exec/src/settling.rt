@@ -1,0 +1,121 @@
+// Steps at which nothing is chosen.
+ghost use Rattle.std.specs.Prelude.{◌≡◌, ◌≤◌, ◌+◌, IfOk, OnOk, length};
+ghost use Rattle.std.specs.Option.{option_map, option_and_then};
+ghost use Rattle.bdb_queries.specs.Slots.{slot_at, uid_of, must_hold};
+ghost use Rattle.bdb_plan.specs.Holding.{differ};
+ghost use Rattle.bdb_plan.specs.Running.{with_world, denied, settled, settled_reads, reached_if};
+ghost use Rattle.bdb_exec.specs.Looks.{Looks};
+ghost use Rattle.bdb_exec.specs.Readable.{CanBeRun};
+ghost use Rattle.bdb_exec.specs.Seen.{sight_of};
+
+use crate::looking::{denies, edge};
+use crate::state::{State, of_relation};
+use bdb_base::Who;
+use bdb_keep::Keeper;
+use bdb_plan::Step;
+use bdb_queries::{must_hold, uid_of};
+use bdb_tables::TabError;
+use std::alloc::Global;
+
+/// Where a step leads at which nothing is chosen; none where it doesn't hold.
+pub fn settle<K: Keeper>(
+    alloc: Global,
+    keeper: &mut K,
+    step: &Step,
+    state: State,
+) -> Result<Option<State>, TabError>
+    requires run { CanBeRun (K.seen keeper.old).kept }
+    ensures next { IfOk result (λ next. next ≡ settled (sight_of (K.seen keeper.old).kept) state step.now) }
+    ensures reads { OnOk result ((K.seen keeper.new).reads ≤ (K.seen keeper.old).reads + settled_reads (sight_of (K.seen keeper.old).kept) state step.now) }
+    ensures looks { Looks (K.seen keeper.old) (K.seen keeper.new) result TabError.Fault }
+{
+    match step {
+        Step::User { .. } => Ok(None),
+        Step::Start { .. } => Ok(Some(state.at(0))),
+        Step::Edge { who, .. } => match follow(alloc, keeper, *who, state) {
+            Ok(next) => Ok(next),
+            Err(error) => Err(error),
+        },
+        Step::Differ { left, right, .. } => Ok(where_they_differ(*left, *right, state)),
+        Step::Pos { .. } => Ok(None),
+        Step::Bind { item, right, .. } => match state.bound(alloc, *item, right) {
+            Ok(next) => Ok(next),
+            Err(_) => {
+                keeper.undo();
+                Err(TabError::Memory)
+            }
+        },
+        Step::Neg { item, rel } => match deny(alloc, keeper, *item, *rel, state) {
+            Ok(next) => Ok(next),
+            Err(error) => Err(error),
+        },
+        Step::Test { cond } => Ok(reached_if(must_hold(state.slots(), cond), state)),
+    }
+}
+
+// The state where a test holds.
+fn reached_if(test: bool, state: State) -> Option<State>
+    ensures { result ≡ reached_if test state }
+{
+    if test { Some(state) } else { None }
+}
+
+// The state where two users differ.
+fn where_they_differ(left: Who, right: Who, state: State) -> Option<State>
+    ensures { result ≡ reached_if (differ (uid_of state.slots left) (uid_of state.slots right)) state }
+{
+    match (uid_of(state.slots(), left), uid_of(state.slots(), right)) {
+        (Some(i), Some(j)) => reached_if(i != j, state),
+        _ => None,
+    }
+}
+
+// Along the edge of a user.
+fn follow<K: Keeper>(
+    alloc: Global,
+    keeper: &mut K,
+    who: Who,
+    state: State,
+) -> Result<Option<State>, TabError>
+    requires run { CanBeRun (K.seen keeper.old).kept }
+    ensures next { IfOk result (λ next. next ≡ option_map (with_world state) (option_and_then ((sight_of (K.seen keeper.old).kept).edge state.world) (uid_of state.slots who))) }
+    ensures reads { OnOk result ((K.seen keeper.new).reads ≤ (K.seen keeper.old).reads + 1) }
+    ensures looks { Looks (K.seen keeper.old) (K.seen keeper.new) result TabError.Fault }
+{
+    match uid_of(state.slots(), who) {
+        Some(uid) => match edge(alloc, keeper, state.world(), uid) {
+            Ok(Some(target)) => Ok(Some(state.at(target))),
+            Ok(None) => Ok(None),
+            Err(error) => Err(error),
+        },
+        None => Ok(None),
+    }
+}
+
+// With a tuple of the relation, where the world denies it.
+fn deny<K: Keeper>(
+    alloc: Global,
+    keeper: &mut K,
+    item: u32,
+    rel: u32,
+    state: State,
+) -> Result<Option<State>, TabError>
+    requires run { CanBeRun (K.seen keeper.old).kept }
+    ensures next { IfOk result (λ next. next ≡ denied (sight_of (K.seen keeper.old).kept).keys ((sight_of (K.seen keeper.old).kept).rows state.world rel) state item rel (slot_at state.slots item)) }
+    ensures reads { OnOk result ((K.seen keeper.new).reads ≤ (K.seen keeper.old).reads + (length ((sight_of (K.seen keeper.old).kept).rows state.world rel) + 3)) }
+    ensures looks { Looks (K.seen keeper.old) (K.seen keeper.new) result TabError.Fault }
+{
+    let tuple = match of_relation(alloc, state.slots(), item, rel) {
+        Ok(Some(tuple)) => tuple,
+        Ok(None) => return Ok(None),
+        Err(_) => {
+            keeper.undo();
+            return Err(TabError::Memory);
+        }
+    };
+    match denies(alloc, keeper, state.world(), &tuple) {
+        Ok(true) => Ok(Some(state.with(item, tuple))),
+        Ok(false) => Ok(None),
+        Err(error) => Err(error),
+    }
+}
