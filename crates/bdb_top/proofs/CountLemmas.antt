@@ -1,5 +1,5 @@
 -- What the events that count tell of a run.
-use Rattle.std.proofs.Common.{◌≡◌, ◌≢◌, ◌∙◌, ℕ, ◌+◌, ◌-◌, ◌<◌, Bool, false, ◌&&◌, nat_eq, nat_lt, List, [], ◌∷◌, ◌++◌, take, drop, Option, Some, None, IfSome, inl, inr, refl, ap, sym, subst, append_assoc, arith}
+use Rattle.std.proofs.Common.{◌≡◌, ◌≢◌, ◌∙◌, ℕ, ◌+◌, ◌-◌, ◌<◌, false, nat_eq, nat_lt, List, [], ◌∷◌, ◌++◌, take, drop, Option, Some, None, IfSome, inl, inr, refl, ap, sym, subst, append_assoc, arith}
 use Rattle.std.proofs.lemmas.Bool.{cases_Bool, cond-true, cond-false, le-ltb, lt-ltb}
 use Rattle.std.proofs.lemmas.List.{take-append-drop}
 use Rattle.bdb_keep.specs.Seen.{Seen}
@@ -10,7 +10,7 @@ use Rattle.bdb_session.specs.Outcome.{State, start_from, Outcome, Blank, Refused
 use Rattle.bdb_session.specs.Runs.{after, replies, events_of, IsFrontOf}
 use Rattle.bdb_top.specs.Counted.{counted, before_count, up_to_count}
 use Rattle.bdb_top.specs.Ran.{Ran, EachBase}
-use Rattle.bdb_top.proofs.RunLemmas.{replies-push}
+use Rattle.bdb_top.proofs.RunLemmas.{replies-append}
 use Rattle.bdb_top.specs.ByCount.{BeginsWith, EndsByCount, CommitsTell}
 use Rattle.bdb_top.specs.Laws.{IsToldByCount, CountTellsTheState}
 
@@ -126,10 +126,6 @@ told b done rest = record { state = state_told b done rest; all_of = all_told b 
 pub count_tells_the_state : CountTellsTheState
 count_tells_the_state b events done is = subst (λ (l : List Event). IsToldByCount b l done (counted b done)) (sym is.1) (told b done is.0)
 
-replies-append : (b : State) (xs ys : List Event) → replies b (xs ++ ys) ≡ replies b xs ++ replies (after b xs) ys
-replies-append b [] ys = refl
-replies-append b (x ∷ xs) ys = ap (λ l. reply_of b x ++ l) (replies-append (next_state b x) xs ys) ∙ sym (append_assoc (reply_of b x) (replies (next_state b x) xs) (replies (after (next_state b x) xs) ys))
-
 replies_begin : (b : State) (xs ys : List Event) → IsFrontOf xs ys → BeginsWith (replies b ys) (replies b xs)
 replies_begin b xs ys h = (replies (after b xs) h.0, ap (replies b) h.1 ∙ replies-append b xs h.0)
 
@@ -154,10 +150,18 @@ before_part b events done front last is h some =
     (subst (λ (l : List Event). IsFrontOf (before_count (counted b (front ++ last ∷ []) - 1) b l) front) (sym (h.1 ∙ ap (λ d. d ++ h.0) is))
     (before_last b front last h.0 (λ e. some (ap (counted b) is ∙ e))))
 
+append_nil : {X : Type 0} (xs : List X) → xs ++ [] ≡ xs
+append_nil [] = refl
+append_nil (x ∷ xs) = ap (λ l. x ∷ l) (append_nil xs)
+
+replies-push : (b : State) (xs : List Event) (e : Event) → replies b (xs ++ e ∷ []) ≡ replies b xs ++ reply_of (after b xs) e
+replies-push b xs e = replies-append b xs (e ∷ []) ∙ ap (λ l. replies b xs ++ l) (append_nil (reply_of (after b xs) e))
+
 -- the run by the events that are done
-by_done : (b : State) (events : List Event) (first now : Seen) (old new : Option (List ℕ)) (status : ℕ) (ran : Ran b events first now old new status)
-    → EndsByCount b events now old new status (counted b ran.done)
-by_done b events first now old new status ran =
+by_done : (b : State) (text : List ℕ) (left : Option (List ℕ)) (first now : Seen) (old new : Option (List ℕ)) (status : ℕ) (ran : Ran b text left first now old new status)
+    → EndsByCount b (events_of text) now old new status (counted b ran.done)
+by_done b text left first now old new status ran =
+    let events = events_of text in
     let done = ran.done in
     let k = counted b done in
     let is = count_tells_the_state b events done ran.front in
@@ -187,13 +191,13 @@ by_done b events first now old new status ran =
       }
     ]
 
-commits_tell : (s : State) (events : List Event) (first now : Seen) (old new : Option (List ℕ)) (status : ℕ) → Ran s events first now old new status → CommitsTell s events first now old new status
-commits_tell s events first now old new status ran below =
-    subst (λ (k : ℕ). EndsByCount s events now old new status k) (ran.commits below) (by_done s events first now old new status ran)
+commits_tell : (s : State) (text : List ℕ) (left : Option (List ℕ)) (first now : Seen) (old new : Option (List ℕ)) (status : ℕ) → Ran s text left first now old new status → CommitsTell s text first now old new status
+commits_tell s text left first now old new status ran below =
+    subst (λ (k : ℕ). EndsByCount s (events_of text) now old new status k) (ran.commits below) (by_done s text left first now old new status ran)
 
 -- the same for each base and text
-pub each_by_count : (before : Option (List ℕ)) (first now : Seen) (old new : Option (List ℕ)) (status : ℕ)
-    → IfSome before (λ text. EachBase first.kept (λ b. Ran (start_from b) (events_of text) first now old new status))
-    → IfSome before (λ text. EachBase first.kept (λ b. CommitsTell (start_from b) (events_of text) first now old new status))
-each_by_count None first now old new status h = tt
-each_by_count (Some text) first now old new status h = λ b stands valid. commits_tell (start_from b) (events_of text) first now old new status (h b stands valid)
+pub each_by_count : (before left : Option (List ℕ)) (first now : Seen) (old new : Option (List ℕ)) (status : ℕ)
+    → IfSome before (λ text. EachBase first.kept (λ b. Ran (start_from b) text left first now old new status))
+    → IfSome before (λ text. EachBase first.kept (λ b. CommitsTell (start_from b) text first now old new status))
+each_by_count None left first now old new status h = tt
+each_by_count (Some text) left first now old new status h = λ b stands valid. commits_tell (start_from b) text left first now old new status (h b stands valid)

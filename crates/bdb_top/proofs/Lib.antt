@@ -1,4 +1,6 @@
 pub mod RunLemmas
 pub mod CountLemmas
+pub mod StreamLemmas
 pub mod RanLemmas
 pub mod EmptyLemmas
+pub mod GeneratedLemmas

@@ -1,5 +1,5 @@
 -- The steps of a run over events.
-use Rattle.std.proofs.Common.{◌≡◌, ◌∙◌, ℕ, ◌+◌, ◌≤◌, Bool, true, false, ◌&&◌, List, [], ◌∷◌, ◌++◌, take, drop, length, get_or, Option, Some, None, Ok, Err, refl, ap, sym, append_assoc, arith}
+use Rattle.std.proofs.Common.{◌≡◌, ◌∙◌, ℕ, ◌+◌, ◌≤◌, Bool, true, false, ◌&&◌, List, [], ◌∷◌, ◌++◌, take, drop, length, get_or, Option, Some, None, Ok, Err, refl, ap, sym, subst, append_assoc, arith}
 use Rattle.std.specs.Io.KnownBytes.{Appends}
 use Rattle.std.proofs.lemmas.List.{take_more, take-append-drop}
 use Rattle.bdb_base.specs.Causes.{Rises}
@@ -11,19 +11,19 @@ use Rattle.bdb_session.specs.Runs.{after, replies, accepts_all}
 use Rattle.bdb_top.specs.Counted.{counted}
 use Rattle.bdb_top.specs.declared.stop.Stop.{Stop}
 use Rattle.bdb_top.specs.declared.stop.Stop.TheVariants.{Source, Sink, Keeper, Memory, Large}
-use Rattle.bdb_top.specs.Ran.{Carried, Comes, EndsEarly, IsAnswer}
+use Rattle.bdb_top.specs.Ran.{Carried, Comes, EndsEarly, IsAnswer, Writes, WritesPart}
 
 append_nil : {X : Type 0} (xs : List X) → xs ++ [] ≡ xs
 append_nil [] = refl
 append_nil (x ∷ xs) = ap (λ l. x ∷ l) (append_nil xs)
 
-after-push : (b : State) (xs : List Event) (e : Event) → after b (xs ++ e ∷ []) ≡ next_state (after b xs) e
-after-push b [] e = refl
-after-push b (x ∷ xs) e = after-push (next_state b x) xs e
+after-append : (b : State) (xs ys : List Event) → after b (xs ++ ys) ≡ after (after b xs) ys
+after-append b [] ys = refl
+after-append b (x ∷ xs) ys = after-append (next_state b x) xs ys
 
-pub replies-push : (b : State) (xs : List Event) (e : Event) → replies b (xs ++ e ∷ []) ≡ replies b xs ++ reply_of (after b xs) e
-replies-push b [] e = append_nil (reply_of b e)
-replies-push b (x ∷ xs) e = ap (λ l. reply_of b x ++ l) (replies-push (next_state b x) xs e) ∙ sym (append_assoc (reply_of b x) (replies (next_state b x) xs) (reply_of (after (next_state b x) xs) e))
+pub replies-append : (b : State) (xs ys : List Event) → replies b (xs ++ ys) ≡ replies b xs ++ replies (after b xs) ys
+replies-append b [] ys = refl
+replies-append b (x ∷ xs) ys = ap (λ l. reply_of b x ++ l) (replies-append (next_state b x) xs ys) ∙ sym (append_assoc (reply_of b x) (replies (next_state b x) xs) (replies (after (next_state b x) xs) ys))
 
 zero_and : (n : ℕ) → n ≡ 0 + n
 zero_and n = omega arith
@@ -31,9 +31,9 @@ zero_and n = omega arith
 three : (k m n : ℕ) → k + (m + n) ≡ k + m + n
 three k m n = omega arith
 
-counted-push : (b : State) (xs : List Event) (e : Event) → counted b (xs ++ e ∷ []) ≡ counted b xs + (counts (after b xs) e + 0)
-counted-push b [] e = zero_and (counts b e + 0)
-counted-push b (x ∷ xs) e = ap (λ n. counts b x + n) (counted-push (next_state b x) xs e) ∙ three (counts b x) (counted (next_state b x) xs) (counts (after (next_state b x) xs) e + 0)
+counted-append : (b : State) (xs ys : List Event) → counted b (xs ++ ys) ≡ counted b xs + counted (after b xs) ys
+counted-append b [] ys = zero_and (counted b ys)
+counted-append b (x ∷ xs) ys = ap (λ n. counts b x + n) (counted-append (next_state b x) xs ys) ∙ three (counts b x) (counted (next_state b x) xs) (counted (after (next_state b x) xs) ys)
 
 and_assoc : (a b c : Bool) → (a && b) && c ≡ a && (b && c)
 and_assoc true b c = refl
@@ -43,18 +43,18 @@ and_true : (a : Bool) → a && true ≡ a
 and_true true = refl
 and_true false = refl
 
-accepts_all-push : (b : State) (xs : List Event) (e : Event) → accepts_all b (xs ++ e ∷ []) ≡ accepts_all b xs && accepts (after b xs) e
-accepts_all-push b [] e = and_true (accepts b e)
-accepts_all-push b (x ∷ xs) e = ap (λ t. accepts b x && t) (accepts_all-push (next_state b x) xs e) ∙ sym (and_assoc (accepts b x) (accepts_all (next_state b x) xs) (accepts (after (next_state b x) xs) e))
+accepts_all-append : (b : State) (xs ys : List Event) → accepts_all b (xs ++ ys) ≡ accepts_all b xs && accepts_all (after b xs) ys
+accepts_all-append b [] ys = refl
+accepts_all-append b (x ∷ xs) ys = ap (λ t. accepts b x && t) (accepts_all-append (next_state b x) xs ys) ∙ sym (and_assoc (accepts b x) (accepts_all (next_state b x) xs) (accepts_all (after (next_state b x) xs) ys))
 
 -- one growth behind another
-grows_on : (a b c : Option (List ℕ)) (x y : List ℕ) → Appends a b x → Appends b c y → Appends a c (x ++ y)
+pub grows_on : (a b c : Option (List ℕ)) (x y : List ℕ) → Appends a b x → Appends b c y → Appends a c (x ++ y)
 grows_on None b c x y h k = tt
 grows_on (Some s) None c x y h k = absurd h
 grows_on (Some s) (Some t) None x y h k = absurd k
 grows_on (Some s) (Some t) (Some u) x y h k = k ∙ ap (λ l. l ++ y) h ∙ append_assoc s x y
 
-grows_as : (a b : Option (List ℕ)) (x y : List ℕ) → x ≡ y → Appends a b x → Appends a b y
+pub grows_as : (a b : Option (List ℕ)) (x y : List ℕ) → x ≡ y → Appends a b x → Appends a b y
 grows_as None b x y e h = tt
 grows_as (Some s) None x y e h = absurd h
 grows_as (Some s) (Some t) x y e h = h ∙ ap (λ l. s ++ l) e
@@ -73,65 +73,101 @@ front_step xs i e below is = take_more xs i e (omega arith) ∙ ap (λ x. take i
 pub front_split : (xs : List Event) (i : ℕ) (e : Event) → i + 1 ≤ length xs → e ≡ get_or xs i e → xs ≡ take i xs ++ (e ∷ drop (i + 1) xs)
 front_split xs i e below is = sym (take-append-drop (i + 1) xs) ∙ ap (λ (l : List Event). l ++ drop (i + 1) xs) (front_step xs i e below is) ∙ append_assoc (take i xs) (e ∷ []) (drop (i + 1) xs)
 
--- the state is come to by one more event
-state_on : (b : State) (xs ys : List Event) (e : Event) (now next : State) → ys ≡ xs ++ e ∷ [] → now ≡ after b xs → next ≡ next_state now e → next ≡ after b ys
-state_on b xs ys e now next is come then = then ∙ ap (λ s. next_state s e) come ∙ sym (ap (after b) is ∙ after-push b xs e)
+-- the state is come to by more events
+state_on : (b : State) (xs ys zs : List Event) (now next : State) → zs ≡ xs ++ ys → now ≡ after b xs → next ≡ after now ys → next ≡ after b zs
+state_on b xs ys zs now next is come then = then ∙ ap (λ s. after s ys) come ∙ sym (ap (after b) is ∙ after-append b xs ys)
 
--- one more event was carried out
-carried_on : (b : State) (xs ys : List Event) (e : Event) (now next : State) (first mid last : Seen) → ys ≡ xs ++ e ∷ []
-    → Carried b xs now first mid → Carried now (e ∷ []) next mid last → Carried b ys next first last
-carried_on b xs ys e now next first mid last is come then = record {
-  state = state_on b xs ys e now next is come.state then.state;
+-- more events were carried out
+pub carried_on : (b : State) (xs ys zs : List Event) (now next : State) (first mid last : Seen) → zs ≡ xs ++ ys
+    → Carried b xs now first mid → Carried now ys next mid last → Carried b zs next first last
+carried_on b xs ys zs now next first mid last is come then = record {
+  state = state_on b xs ys zs now next is come.state then.state;
   holds = then.holds;
-  commits = rises_on (counted b xs) (counts now e + 0) (counted b ys) first.commits mid.commits last.commits
-      (ap (counted b) is ∙ counted-push b xs e ∙ ap (λ s. counted b xs + (counts s e + 0)) (sym come.state)) come.commits then.commits;
+  commits = rises_on (counted b xs) (counted now ys) (counted b zs) first.commits mid.commits last.commits
+      (ap (counted b) is ∙ counted-append b xs ys ∙ ap (λ s. counted b xs + counted s ys) (sym come.state)) come.commits then.commits;
 }
 
--- nothing more was carried out
-carried_still : (b : State) (xs : List Event) (now next : State) (first mid last : Seen)
-    → Carried b xs now first mid → Carried now [] next mid last → Carried b xs next first last
-carried_still b xs now next first mid last come then = record {
-  state = then.state ∙ come.state;
-  holds = then.holds;
-  commits = rises_on (counted b xs) 0 (counted b xs) first.commits mid.commits last.commits (omega arith) come.commits then.commits;
+-- the run has come through more events
+pub comes_on : (b : State) (xs ys zs : List Event) (now next : State) (first mid last : Seen) (old middle new : Option (List ℕ)) (accepted fine : Bool) → zs ≡ xs ++ ys
+    → Comes b xs now first mid old middle accepted → Comes now ys next mid last middle new fine → Comes b zs next first last old new (accepted && fine)
+comes_on b xs ys zs now next first mid last old middle new accepted fine is come then = record {
+  carried = carried_on b xs ys zs now next first mid last is come.carried then.carried;
+  written = grows_as old new (replies b xs ++ replies now ys) (replies b zs)
+      (ap (λ s. replies b xs ++ replies s ys) come.carried.state ∙ sym (ap (replies b) is ∙ replies-append b xs ys))
+      (grows_on old middle new (replies b xs) (replies now ys) come.written then.written);
+  none_refused = ap (λ t. t && fine) come.none_refused ∙ ap (λ t. accepts_all b xs && t) (then.none_refused ∙ ap (λ s. accepts_all s ys) come.carried.state) ∙ sym (ap (accepts_all b) is ∙ accepts_all-append b xs ys);
 }
+
+-- the replies to more events were written, but perhaps a part of the last
+part_on : (b : State) (xs done : List Event) (old middle new : Option (List ℕ)) → Appends old middle (replies b xs) → WritesPart (after b xs) done middle new → WritesPart b (xs ++ done) old new
+part_on b xs done old middle new h w =
+    let s = after b xs in
+    let reply = take w.part (reply_of (after s w.front) w.last) in
+    record {
+      front = xs ++ w.front;
+      last = w.last;
+      is = ap (λ l. xs ++ l) w.is ∙ sym (append_assoc xs w.front (w.last ∷ []));
+      part = w.part;
+      written = grows_as old new (replies b xs ++ (replies s w.front ++ reply)) (replies b (xs ++ w.front) ++ take w.part (reply_of (after b (xs ++ w.front)) w.last))
+          (sym (append_assoc (replies b xs) (replies s w.front) reply)
+          ∙ ap (λ l. l ++ reply) (sym (replies-append b xs w.front))
+          ∙ ap (λ (x : State). replies b (xs ++ w.front) ++ take w.part (reply_of x w.last)) (sym (after-append b xs w.front)))
+          (grows_on old middle new (replies b xs) (replies s w.front ++ reply) h w.written);
+    }
+
+whole_on : (b : State) (xs done : List Event) (old middle new : Option (List ℕ)) → Appends old middle (replies b xs) → Appends middle new (replies (after b xs) done) → Appends old new (replies b (xs ++ done))
+whole_on b xs done old middle new h w =
+    grows_as old new (replies b xs ++ replies (after b xs) done) (replies b (xs ++ done)) (sym (replies-append b xs done)) (grows_on old middle new (replies b xs) (replies (after b xs) done) h w)
+
+pub writes_on : (b : State) (xs done : List Event) (old middle new : Option (List ℕ)) (stop : Stop) → Appends old middle (replies b xs) → Writes stop (after b xs) done middle new → Writes stop b (xs ++ done) old new
+writes_on b xs done old middle new Sink h w = part_on b xs done old middle new h w
+writes_on b xs done old middle new Source h w = whole_on b xs done old middle new h w
+writes_on b xs done old middle new Keeper h w = whole_on b xs done old middle new h w
+writes_on b xs done old middle new Memory h w = whole_on b xs done old middle new h w
+writes_on b xs done old middle new Large h w = whole_on b xs done old middle new h w
+
+-- the run comes through some events, and stops at one of those behind
+abbrev pub ends_on : (b : State) (events xs ys : List Event) (now next : State) (first mid last : Seen) (old middle new : Option (List ℕ)) (accepted : Bool) (stop : Stop) → events ≡ xs ++ ys
+    → Comes b xs now first mid old middle accepted → EndsEarly now ys next mid last middle new stop → EndsEarly b events next first last old new stop
+ends_on b events xs ys now next first mid last old middle new accepted stop is come ends = record {
+  done = xs ++ ends.done;
+  front = (ends.front.0, is ∙ ap (λ l. xs ++ l) ends.front.1 ∙ sym (append_assoc xs ends.done ends.front.0));
+  carried = carried_on b xs ends.done (xs ++ ends.done) now next first mid last refl come.carried ends.carried;
+  written = writes_on b xs ends.done old middle new stop come.written (subst (λ (s : State). Writes stop s ends.done middle new) come.carried.state ends.written);
+}
+
+-- one event was answered, and the run comes through it
+one_comes : (b : State) (e : Event) (next : State) (first last : Seen) (old new : Option (List ℕ)) (fine : Bool) → IsAnswer b e next first last old new (Ok fine) → Comes b (e ∷ []) next first last old new fine
+one_comes b e next first last old new fine answer = record {
+  carried = answer.0;
+  written = grows_as old new (reply_of b e) (reply_of b e ++ []) (sym (append_nil (reply_of b e))) answer.2;
+  none_refused = answer.1 ∙ sym (and_true (accepts b e));
+}
+
+-- or stops at it
+pub one_stops : (b : State) (e : Event) (rest : List Event) (next : State) (first last : Seen) (old new : Option (List ℕ)) (stop : Stop) → IsAnswer b e next first last old new (Err stop) → EndsEarly b (e ∷ rest) next first last old new stop
+one_stops b e rest next first last old new Sink answer = record {
+  done = e ∷ [];
+  front = (rest, refl);
+  carried = answer.0;
+  written = record { front = []; last = e; is = refl; part = answer.1.0; written = answer.1.1 };
+}
+one_stops b e rest next first last old new Source answer = record { done = []; front = (e ∷ rest, refl); carried = answer.0; written = answer.1 }
+one_stops b e rest next first last old new Keeper answer = record { done = []; front = (e ∷ rest, refl); carried = answer.0; written = answer.1 }
+one_stops b e rest next first last old new Memory answer = record { done = []; front = (e ∷ rest, refl); carried = answer.0; written = answer.1 }
+one_stops b e rest next first last old new Large answer = record { done = []; front = (e ∷ rest, refl); carried = answer.0; written = answer.1 }
 
 -- the run has come through one more event
 pub comes_one : (b : State) (xs ys : List Event) (e : Event) (now next : State) (first mid last : Seen) (old middle new : Option (List ℕ)) (accepted fine : Bool) → ys ≡ xs ++ e ∷ []
     → Comes b xs now first mid old middle accepted → IsAnswer now e next mid last middle new (Ok fine) → Comes b ys next first last old new (accepted && fine)
-comes_one b xs ys e now next first mid last old middle new accepted fine is come answer = record {
-  carried = carried_on b xs ys e now next first mid last is come.carried answer.0;
-  written = grows_as old new (replies b xs ++ reply_of now e) (replies b ys)
-      (ap (λ s. replies b xs ++ reply_of s e) come.carried.state ∙ sym (ap (replies b) is ∙ replies-push b xs e))
-      (grows_on old middle new (replies b xs) (reply_of now e) come.written answer.2);
-  none_refused = ap (λ t. t && fine) come.none_refused ∙ ap (λ t. accepts_all b xs && t) (answer.1 ∙ ap (λ s. accepts s e) come.carried.state) ∙ sym (ap (accepts_all b) is ∙ accepts_all-push b xs e);
-}
-
--- nothing more was written
-quiet : (b : State) (xs : List Event) (old mid new : Option (List ℕ)) → Appends old mid (replies b xs) → Appends mid new [] → Appends old new (replies b xs)
-quiet b xs old mid new h k = grows_as old new (replies b xs ++ []) (replies b xs) (append_nil (replies b xs)) (grows_on old mid new (replies b xs) [] h k)
+comes_one b xs ys e now next first mid last old middle new accepted fine is come answer =
+    comes_on b xs (e ∷ []) ys now next first mid last old middle new accepted fine is come (one_comes now e next mid last middle new fine answer)
 
 -- the run stops at an event
 pub comes_stops : (b : State) (events xs : List Event) (e : Event) (rest : List Event) (now next : State) (first mid last : Seen) (old middle new : Option (List ℕ)) (accepted : Bool) (stop : Stop)
     → events ≡ xs ++ (e ∷ rest) → Comes b xs now first mid old middle accepted → IsAnswer now e next mid last middle new (Err stop) → EndsEarly b events next first last old new stop
-comes_stops b events xs e rest now next first mid last old middle new accepted Sink is come answer = record {
-  done = xs ++ e ∷ [];
-  front = (rest, is ∙ sym (append_assoc xs (e ∷ []) rest));
-  carried = carried_on b xs (xs ++ e ∷ []) e now next first mid last refl come.carried answer.0;
-  written = record {
-    front = xs;
-    last = e;
-    is = refl;
-    part = answer.1.0;
-    written = grows_as old new (replies b xs ++ take answer.1.0 (reply_of now e)) (replies b xs ++ take answer.1.0 (reply_of (after b xs) e))
-        (ap (λ s. replies b xs ++ take answer.1.0 (reply_of s e)) come.carried.state)
-        (grows_on old middle new (replies b xs) (take answer.1.0 (reply_of now e)) come.written answer.1.1);
-  };
-}
-comes_stops b events xs e rest now next first mid last old middle new accepted Source is come answer = record { done = xs; front = (e ∷ rest, is); carried = carried_still b xs now next first mid last come.carried answer.0; written = quiet b xs old middle new come.written answer.1 }
-comes_stops b events xs e rest now next first mid last old middle new accepted Keeper is come answer = record { done = xs; front = (e ∷ rest, is); carried = carried_still b xs now next first mid last come.carried answer.0; written = quiet b xs old middle new come.written answer.1 }
-comes_stops b events xs e rest now next first mid last old middle new accepted Memory is come answer = record { done = xs; front = (e ∷ rest, is); carried = carried_still b xs now next first mid last come.carried answer.0; written = quiet b xs old middle new come.written answer.1 }
-comes_stops b events xs e rest now next first mid last old middle new accepted Large is come answer = record { done = xs; front = (e ∷ rest, is); carried = carried_still b xs now next first mid last come.carried answer.0; written = quiet b xs old middle new come.written answer.1 }
+comes_stops b events xs e rest now next first mid last old middle new accepted stop is come answer =
+    ends_on b events xs (e ∷ rest) now next first mid last old middle new accepted stop is come (one_stops now e rest next mid last middle new stop answer)
 
 -- counts that don't fall twice don't fall
 pub never_fall_on : (a b c : Seen) → NeverFall a b → NeverFall b c → NeverFall a c

@@ -6,7 +6,7 @@ use Rattle.bdb_tables.specs.Holds.{Stands}
 use Rattle.bdb_session.specs.declared.event.Event.{Event}
 use Rattle.bdb_session.specs.Opening.{opening}
 use Rattle.bdb_session.specs.Outcome.{State}
-use Rattle.bdb_session.specs.Runs.{after, replies}
+use Rattle.bdb_session.specs.Runs.{after, replies, events_of}
 use Rattle.bdb_top.specs.Counted.{before_count, up_to_count}
 
 -- some bytes are the first of others
@@ -28,6 +28,6 @@ pub record EndsByCount (s : State) (events : List Event) (now : Seen) (old new :
 abbrev pub commits_between : Seen → Seen → ℕ
 commits_between first now = now.commits - first.commits - opening first.kept
 
--- the count of commits, unless it stands at the end of its type, tells how a run ends
-abbrev pub CommitsTell : State → List Event → Seen → Seen → Option (List ℕ) → Option (List ℕ) → ℕ → Type 0
-CommitsTell s events first now old new status = now.commits < 2 ^ 64 - 1 → EndsByCount s events now old new status (commits_between first now)
+-- the count of commits, unless it stands at the end of its type, tells how a run over a script ends
+abbrev pub CommitsTell : State → List ℕ → Seen → Seen → Option (List ℕ) → Option (List ℕ) → ℕ → Type 0
+CommitsTell s text first now old new status = now.commits < 2 ^ 64 - 1 → EndsByCount s (events_of text) now old new status (commits_between first now)

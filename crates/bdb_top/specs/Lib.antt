@@ -1,5 +1,7 @@
 pub mod ByCount
 pub mod Counted
+pub mod Generated
 pub mod Laws
 pub mod Ran
+pub mod Streams
 pub mod Words

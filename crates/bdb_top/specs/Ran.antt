@@ -1,19 +1,18 @@
 -- How a run of the top call ends.
-use Rattle.std.specs.Prelude.{◌≡◌, ◌≢◌, ℕ, ◌-◌, ◌^◌, ◌<◌, ◌≤◌, Bool, true, false, List, [], ◌∷◌, ◌++◌, ◌⊎◌, take, Option, Result, Ok, Err, MatchResult}
-use Rattle.std.specs.FinMap as tables
+use Rattle.std.specs.Prelude.{◌≡◌, ◌≢◌, ℕ, ◌-◌, ◌^◌, ◌<◌, ◌≤◌, Bool, true, false, List, [], ◌∷◌, ◌++◌, take, Option, Some, Result, Ok, Err, MatchResult, IfSome, IfOk, OnOk}
 use Rattle.std.specs.Io.KnownBytes.{Appends}
-use Rattle.bdb_base.specs.Bases.{Contents, IsValid, empty_contents}
+use Rattle.bdb_base.specs.Bases.{Contents, IsValid}
 use Rattle.bdb_base.specs.Causes.{Rises}
 use Rattle.bdb_keep.specs.Tables.{Tables}
 use Rattle.bdb_keep.specs.Seen.{Seen}
 use Rattle.bdb_tables.specs.Holds.{Holds, Stands}
 use Rattle.bdb_session.specs.declared.event.Event.{Event}
 use Rattle.bdb_session.specs.Machine.{reply_of, accepts}
-use Rattle.bdb_session.specs.Opening.{opening}
 use Rattle.bdb_session.specs.Outcome.{State}
-use Rattle.bdb_session.specs.Runs.{after, replies, accepts_all, IsFrontOf}
+use Rattle.bdb_session.specs.Runs.{after, replies, accepts_all, events_of, IsFrontOf}
 use Rattle.bdb_top.specs.ByCount.{commits_between}
 use Rattle.bdb_top.specs.Counted.{counted}
+use Rattle.bdb_top.specs.Streams.{KeepsUp}
 use Rattle.bdb_top.specs.declared.stop.Stop.{Stop}
 use Rattle.bdb_top.specs.declared.stop.Stop.TheVariants.{Source, Sink, Keeper, Memory, Large}
 
@@ -79,19 +78,29 @@ status_of (Err Large) = 8
 abbrev pub CommitsFor : ℕ → Seen → Seen → Type 0
 CommitsFor k first now = now.commits < 2 ^ 64 - 1 → k ≡ commits_between first now
 
--- The keeper was opened and nothing more: rows of a base stay as they were, and where there were none the rows are those of
--- the empty base; no more was committed than that.
-pub record IsOpened (first now : Seen) : Type 0 where
-  pub rows : (now.kept ≡ first.kept) ⊎ ((first.kept ≡ tables.empty) × Holds now.kept empty_contents)
-  pub commits : Rises (opening first.kept) first.commits now.commits
+-- the replies to these events were written, where the run was stopped by the sink perhaps a part of the last alone
+abbrev pub WritesBy : Result Bool Stop → State → List Event → Option (List ℕ) → Option (List ℕ) → Type 0
+WritesBy (Ok _) s done old new = Appends old new (replies s done)
+WritesBy (Err stop) s done old new = Writes stop s done old new
 
--- A run over these events from a state has ended with a status. The first of the events are done, with 0 and 1 all of them.
+-- A run over what a source gives has come through the first of its events, with an Ok through all of them.
+pub record Streams (s : State) (before left : Option (List ℕ)) (session : State) (first now : Seen) (old new : Option (List ℕ)) (result : Result Bool Stop) : Type 0 where
+  pub done : List Event
+  pub front : IfSome before (λ text. IsFrontOf done (events_of text))
+  pub all : OnOk result (IfSome before (λ text. done ≡ events_of text))
+  pub accepted : IfOk result (λ accepted. accepted ≡ accepts_all s done)
+  pub carried : Carried s done session first now
+  pub written : WritesBy result s done old new
+  pub keeps_up : KeepsUp s before left done old new (status_of result)
+
+-- A run over a script from a state has ended with a status. The first of its events are done, with 0 and 1 all of them.
 -- The tables hold the base after them, a valid one; only where the keeper was not opened, with 5 or 6, they may still have no row and
 -- stand for the empty base. There was one commit for each event that counts, and the one of opening. The replies to the
--- events are written, but where the sink failed perhaps a part of the last alone.
-pub record Ran (s : State) (events : List Event) (first now : Seen) (old new : Option (List ℕ)) (status : ℕ) : Type 0 where
+-- events are written, but where the sink failed perhaps a part of the last alone. The events done keep up with the bytes that
+-- were taken of the script.
+pub record Ran (s : State) (text : List ℕ) (left : Option (List ℕ)) (first now : Seen) (old new : Option (List ℕ)) (status : ℕ) : Type 0 where
   pub done : List Event
-  pub front : IsFrontOf done events
+  pub front : IsFrontOf done (events_of text)
   pub valid : IsValid (after s done).base.catalog (after s done).base.stmts
   pub stands : Stands now.last (after s done).base
   pub holds : status ≢ 5 → status ≢ 6 → Holds now.last (after s done).base
@@ -99,6 +108,7 @@ pub record Ran (s : State) (events : List Event) (first now : Seen) (old new : O
   pub commits : CommitsFor (counted s done) first now
   pub written : status ≢ 4 → Appends old new (replies s done)
   pub part : status ≡ 4 → WritesPart s done old new
-  pub all : status ≤ 1 → done ≡ events
-  pub accepted : status ≡ 0 → accepts_all s events ≡ true
-  pub refused : status ≡ 1 → accepts_all s events ≡ false
+  pub all : status ≤ 1 → done ≡ events_of text
+  pub accepted : status ≡ 0 → accepts_all s (events_of text) ≡ true
+  pub refused : status ≡ 1 → accepts_all s (events_of text) ≡ false
+  pub keeps_up : KeepsUp s (Some text) left done old new status

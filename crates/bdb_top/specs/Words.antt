@@ -1,16 +1,60 @@
 -- The words of the command line, and the job that they name.
-use Rattle.std.specs.Prelude.{ℕ, Bool, false, not, ◌&&◌, nat_eq, List, [], ◌∷◌, Option, Some, None, cond, codes}
+use Rattle.std.specs.Prelude.{ℕ, ◌+◌, ◌-◌, ◌*◌, ◌^◌, Bool, false, not, ◌&&◌, nat_eq, nat_le, nat_lt, List, [], ◌∷◌, length, Option, Some, None, cond, codes}
+use Rattle.std.specs.Char.{is_ascii_digit}
+use Rattle.bdb_base.specs.Limits.{most_generated}
 use Rattle.bdb_base.specs.Same.{same_text}
 use Rattle.bdb_top.specs.declared.words.Job.{Job}
-use Rattle.bdb_top.specs.declared.words.Job.TheVariants.{Run}
+use Rattle.bdb_top.specs.declared.words.Job.TheVariants.{Run, Gen}
 
 -- an option's value is not empty and does not begin with a dash
 abbrev pub is_value : List ℕ → Bool
 is_value [] = false
 is_value (c ∷ cs) = not (nat_eq c 45)
 
+-- a number with one more digit
+abbrev pub with_digit : ℕ → ℕ → ℕ
+with_digit n d = n * 10 + (d - 48)
+
+-- the number that digits make behind another; none where one is no digit, or where it isn't below 2^64
+abbrev pub number_behind : ℕ → List ℕ → Option ℕ
+number_behind n [] = Some n
+number_behind n (d ∷ ds) = cond (is_ascii_digit d && nat_lt (with_digit n d) (2 ^ 64)) (number_behind (with_digit n d) ds) None
+
+-- the most digits that a number of the command line has
+abbrev pub most_digits : ℕ
+most_digits = 20
+
+-- the number below 2^64 that 1 to 20 digits spell
+abbrev pub number_of : List ℕ → Option ℕ
+number_of digits = cond (nat_lt 0 (length digits) && nat_le (length digits) most_digits) (number_behind 0 digits) None
+
+-- the job of words that ask to run a script: that of a file, or of standard input
+abbrev pub run_job : List (List ℕ) → Option Job
+run_job (word ∷ []) = cond (same_text word (codes "run")) (Some (Run None)) None
+run_job (word ∷ option ∷ value ∷ []) = cond (same_text word (codes "run") && (same_text option (codes "--script") && is_value value)) (Some (Run (Some value))) None
+run_job _ = None
+
+-- the job of a seed and a size
+abbrev pub generating : Option ℕ → Option ℕ → Option Job
+generating (Some seed) (Some size) = cond (nat_le size most_generated) (Some (Gen seed size)) None
+generating _ _ = None
+
+-- the job of two options with their values: a seed and a size in any order
+abbrev pub generating_by : List ℕ → List ℕ → List ℕ → List ℕ → Option Job
+generating_by first a second b =
+    cond (same_text first (codes "--seed") && same_text second (codes "--size")) (generating (number_of a) (number_of b))
+    (cond (same_text first (codes "--size") && same_text second (codes "--seed")) (generating (number_of b) (number_of a)) None)
+
+-- the job of words that ask for a generated script
+abbrev pub gen_job : List (List ℕ) → Option Job
+gen_job (word ∷ first ∷ a ∷ second ∷ b ∷ []) = cond (same_text word (codes "gen")) (generating_by first a second b) None
+gen_job _ = None
+
+-- the first job, or where there is none the other
+abbrev pub either_job : Option Job → Option Job → Option Job
+either_job (Some job) other = Some job
+either_job None other = other
+
 -- the job of these words; none where they are in no line of the table
 abbrev pub named_job : List (List ℕ) → Option Job
-named_job (word ∷ []) = cond (same_text word (codes "run")) (Some (Run None)) None
-named_job (word ∷ option ∷ value ∷ []) = cond (same_text word (codes "run") && (same_text option (codes "--script") && is_value value)) (Some (Run (Some value))) None
-named_job _ = None
+named_job words = either_job (run_job words) (gen_job words)

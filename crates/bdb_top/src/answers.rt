@@ -13,7 +13,7 @@ use bdb_keep::Keeper;
 use bdb_session::{Event, Session, StopError};
 
 /// Answers one event, and writes the reply.
-fn answer<O: Sink, K: Keeper>(
+pub fn answer<O: Sink, K: Keeper>(
     session: &mut Session,
     keeper: &mut K,
     out: &mut O,
@@ -53,6 +53,7 @@ pub fn carry_out<O: Sink, K: Keeper>(
     requires agrees { Holds (K.seen keeper.old).kept session.old.base }
     ensures ends { Ends session.old events.now session.new (K.seen keeper.old) (K.seen keeper.new) (O.written out.old) (O.written out.new) result }
     ensures still { IsStill (K.seen keeper.new) }
+    ensures agrees { Holds (K.seen keeper.new).kept session.new.base }
     ensures never_fall { NeverFall (K.seen keeper.old) (K.seen keeper.new) }
     ensures keeper { HasCause (K.seen keeper.old).faults (K.seen keeper.new).faults result Stop.Keeper }
     ensures later { O.faults out.old ≤ O.faults out.new }

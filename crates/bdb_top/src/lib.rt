@@ -3,10 +3,12 @@
 
 mod answers;
 mod cutting;
+mod generated;
 mod laws;
-mod script;
 mod status;
 mod stop;
+mod stream;
+mod tally;
 #[cfg(test)]
 mod tests;
 mod top;

@@ -25,6 +25,28 @@ const COMMANDS: [&str; 4] = [
 /// The replies to these commands.
 const REPLIES: &[u8] = b"ok\nok\nok\nok 1\n";
 
+/// Three users and what they believe of each other's sightings, with two queries.
+const SIGHTINGS: &str = "create user 'Alice'; create user 'Bob'; create user 'Carol';\n\
+create relation Sightings(sid text, observer text, species text, place text);\n\
+create relation Comments(cid text, note text, sid text);\n\
+insert into Sightings values('s1','Carol','bald eagle','Lake Forest');\n\
+insert into BELIEF 'Bob' not Sightings values('s1','Carol','bald eagle','Lake Forest');\n\
+insert into BELIEF 'Alice' Sightings values('s2','Alice','crow','Lake Placid');\n\
+insert into BELIEF 'Alice' Comments values('c1','found feathers','s2');\n\
+insert into BELIEF 'Bob' Sightings values('s2','Alice','raven','Lake Placid');\n\
+insert into BELIEF 'Bob' BELIEF 'Alice' Comments values('c2','black feathers','s2');\n\
+-- who disputes what Alice believes\n\
+select U.name, X.sid, X.species\n\
+from Users as U, BELIEF 'Alice' Sightings as X, BELIEF U.uid not Sightings as Y\n\
+where Y.sid = X.sid and Y.observer = X.observer and Y.species = X.species and Y.place = X.place;\n\
+-- what Bob believes that Alice comments on s2\n\
+select C.cid, C.note from BELIEF 'Bob' BELIEF 'Alice' Comments C where C.sid = 's2';\n";
+
+/// The replies to these.
+const SIGHTINGS_REPLIES: &str = "ok\nok\nok\nok\nok\nok 1\nok 1\nok 1\nok 1\nok 1\nok 1\n\
+'Bob', 's1', 'bald eagle'\n'Bob', 's2', 'crow'\nok 2\n\
+'c1', 'found feathers'\n'c2', 'black feathers'\nok 2\n";
+
 /// How many bytes of replies a sink of these tests takes.
 const ROOM: usize = 2_000_000;
 
@@ -368,6 +390,12 @@ fn pieces_have_a_limit(rt: HostRuntime) -> Result<(), Fail> {
     let (status, out, _) = ran_quietly(alloc, &[long.as_str()])?;
     assert_eq!(rt; status, 1);
     assert_eq!(rt; out.bytes(), b"error long\n".as_slice());
+    let (status, out, _) = ran_quietly(alloc, &[long.as_str(), fits.as_str(), "'"])?;
+    assert_eq!(rt; status, 1);
+    assert_eq!(rt;
+        out.bytes(),
+        b"error long\nok 0\nerror unfinished\n".as_slice()
+    );
     Ok(())
 }
 
@@ -414,20 +442,82 @@ fn a_fault_of_the_sink_ends_the_run(rt: HostRuntime) -> Result<(), Fail> {
     Ok(())
 }
 
-/// The status of these words over a source that fails at its first read, and how many bytes of replies they get.
-fn ran_unread(alloc: Global, words: &[Txt]) -> Result<(u8, usize), Fail> {
-    let script = Vec::from_slice(alloc, b"create user 'A';")?;
-    let mut source = MemSource::new(script, 1, listed(alloc, &[1])?);
+/// The status of these words over a source and a keeper without rows, and the replies.
+fn ran_from(alloc: Global, words: &[Txt], mut source: MemSource) -> Result<(u8, MemSink), Fail> {
     let mut keeper = QuietKeeper::new(alloc);
     let mut out = sink(alloc)?;
     let status = run(alloc, words, &mut source, &mut out, &mut keeper);
-    Ok((status, out.bytes().len()))
+    Ok((status, out))
 }
 
-/// So many blocks of 65,536 blanks, and so many blanks more.
-fn blanks(alloc: Global, blocks: usize, more: usize) -> Result<Vec<u8>, Fail> {
+/// The status of a script that is read so many bytes at a time, by reads of which these fail, and the replies.
+fn ran_in_steps(
+    alloc: Global,
+    script: &[u8],
+    step: usize,
+    fails: &[u32],
+) -> Result<(u8, MemSink), Fail> {
+    let words = words(alloc)?;
+    let text = Vec::from_slice(alloc, script)?;
+    let source = MemSource::new(text, step.max(1), listed(alloc, fails)?);
+    ran_from(alloc, words.as_slice(), source)
+}
+
+#[test]
+fn parts_of_reading_change_nothing(rt: HostRuntime) -> Result<(), Fail> {
+    let alloc = rt.alloc();
+    for step in [1, 2, 7, 4_096] {
+        let (status, out) = ran_in_steps(alloc, SIGHTINGS.as_bytes(), step, &[])?;
+        assert_eq!(rt; status, 0);
+        assert_eq!(rt; out.bytes(), SIGHTINGS_REPLIES.as_bytes(), "{step}");
+    }
+    let cases = [
+        ("show world", "error unfinished\n", 1),
+        ("show world; -", "ok 0\nerror unfinished\n", 1),
+        ("show world; -- open", "ok 0\n", 0),
+        ("show world; 'a; -- b\n", "ok 0\nerror unfinished\n", 1),
+        ("show world;-- a; 'b\n;show world;", "ok 0\nok 0\n", 0),
+    ];
+    for (script, replies, ends) in cases {
+        for step in [1, 2, 7, 4_096] {
+            let (status, out) = ran_in_steps(alloc, script.as_bytes(), step, &[])?;
+            assert_eq!(rt; status, ends, "{script}");
+            assert_eq!(rt; out.bytes(), replies.as_bytes(), "{script}");
+        }
+    }
+    Ok(())
+}
+
+#[test]
+fn a_fault_of_the_source_ends_the_run(rt: HostRuntime) -> Result<(), Fail> {
+    let alloc = rt.alloc();
+    let cases = [
+        (1, "", 3),
+        (2, "ok\n", 3),
+        (3, "ok\nok\n", 3),
+        (4, "ok\nok\n", 3),
+        (5, "ok\nok\nok\n", 3),
+        (6, "ok\nok\nok\n", 3),
+        (7, "ok\nok\nok\nok 1\n", 3),
+        (8, "ok\nok\nok\nok 1\nerror unfinished\n", 1),
+    ];
+    let mut script = String::new(alloc);
+    for command in COMMANDS {
+        script.push_str(command)?;
+    }
+    script.push_str("show")?;
+    for (read, replies, ends) in cases {
+        let (status, out) = ran_in_steps(alloc, script.as_str().as_bytes(), 20, &[read])?;
+        assert_eq!(rt; status, ends, "{read}");
+        assert_eq!(rt; out.bytes(), replies.as_bytes(), "{read}");
+    }
+    Ok(())
+}
+
+/// A text, so many blocks of 65,536 blanks, and so many blanks more.
+fn with_blanks(alloc: Global, first: &[u8], blocks: usize, more: usize) -> Result<Vec<u8>, Fail> {
     let block = [b' '; 65_536];
-    let mut text = Vec::new(alloc);
+    let mut text = Vec::from_slice(alloc, first)?;
     for _ in 0..blocks {
         text.extend_from_slice(&block)?;
     }
@@ -437,25 +527,23 @@ fn blanks(alloc: Global, blocks: usize, more: usize) -> Result<Vec<u8>, Fail> {
     Ok(text)
 }
 
-/// The status of a script that is read in blocks, and how many bytes of replies it gets.
-fn ran_in_blocks(alloc: Global, script: Vec<u8>) -> Result<(u8, usize), Fail> {
+/// The status of a script that is read in blocks, and the replies.
+fn ran_in_blocks(alloc: Global, script: Vec<u8>) -> Result<(u8, MemSink), Fail> {
     let words = words(alloc)?;
-    let mut source = MemSource::new(script, 65_536, List::new(alloc));
-    let mut keeper = QuietKeeper::new(alloc);
-    let mut out = sink(alloc)?;
-    let status = run(alloc, words.as_slice(), &mut source, &mut out, &mut keeper);
-    Ok((status, out.bytes().len()))
+    let source = MemSource::new(script, 65_536, List::new(alloc));
+    ran_from(alloc, words.as_slice(), source)
 }
 
 #[test]
 fn scripts_have_a_limit(rt: HostRuntime) -> Result<(), Fail> {
     let alloc = rt.alloc();
-    let (status, written) = ran_in_blocks(alloc, blanks(alloc, 1024, 0)?)?;
+    let (status, out) = ran_in_blocks(alloc, with_blanks(alloc, b"", 1024, 0)?)?;
     assert_eq!(rt; status, 0);
-    assert_eq!(rt; written, 0);
-    let (status, written) = ran_in_blocks(alloc, blanks(alloc, 1024, 1)?)?;
+    assert_eq!(rt; out.bytes().len(), 0);
+    let script = with_blanks(alloc, b"show world;", 1023, 65_526)?;
+    let (status, out) = ran_in_blocks(alloc, script)?;
     assert_eq!(rt; status, 8);
-    assert_eq!(rt; written, 0);
+    assert_eq!(rt; out.bytes(), b"ok 0\n".as_slice());
     Ok(())
 }
 
@@ -474,17 +562,71 @@ fn words_name_jobs(rt: HostRuntime) -> Result<(), Fail> {
         ("run --help", false),
         ("check", false),
         ("gen --seed x --size 1", false),
+        ("gen --seed 1", false),
+        ("gen --seed 1 --seed 1", false),
+        ("gen --seed 1 --size 10001", false),
+        ("gen --seed 18446744073709551616 --size 1", false),
+        ("gen --seed 000000000000000000001 --size 1", false),
+        ("gen --seed 1 --size 1 --seed 1", false),
         ("Run", false),
     ];
     for (line, is_job) in cases {
-        let mut words = List::new(alloc);
-        for word in line.split_whitespace() {
-            words.push(Txt::try_new(alloc, word)?)?;
-        }
+        let words = words_of(alloc, line)?;
         assert_eq!(rt; job_of(alloc, words.as_slice()).is_ok(), is_job, "{line}");
-        let (status, written) = ran_unread(alloc, words.as_slice())?;
+        let (status, out) = ran_words(alloc, line)?;
         assert_eq!(rt; status, if is_job { 3 } else { 2 }, "{line}");
-        assert_eq!(rt; written, 0, "{line}");
+        assert_eq!(rt; out.bytes().len(), 0, "{line}");
     }
+    Ok(())
+}
+
+/// The words of a line.
+fn words_of(alloc: Global, line: &str) -> Result<List<Txt>, Fail> {
+    let mut words = List::new(alloc);
+    for word in line.split_whitespace() {
+        words.push(Txt::try_new(alloc, word)?)?;
+    }
+    Ok(words)
+}
+
+/// The status of the words of a line over a source that fails at its first read, and what is written.
+fn ran_words(alloc: Global, line: &str) -> Result<(u8, MemSink), Fail> {
+    let words = words_of(alloc, line)?;
+    let script = Vec::from_slice(alloc, b"create user 'A';")?;
+    let source = MemSource::new(script, 1, listed(alloc, &[1])?);
+    ran_from(alloc, words.as_slice(), source)
+}
+
+#[test]
+fn generated_scripts_are_told_of(rt: HostRuntime) -> Result<(), Fail> {
+    let alloc = rt.alloc();
+    let cases = [
+        (
+            "gen --seed 7 --size 0",
+            "accepted 9\nrefused 0\nworlds 1\nrows 0\nanswers 0\n",
+        ),
+        (
+            "gen --seed 0 --size 1",
+            "accepted 10\nrefused 0\nworlds 1\nrows 0\nanswers 0\n",
+        ),
+        (
+            "gen --size 1 --seed 1",
+            "accepted 10\nrefused 0\nworlds 1\nrows 1\nanswers 0\n",
+        ),
+        (
+            "gen --seed 18446744073709551615 --size 00000000000000000000",
+            "accepted 9\nrefused 0\nworlds 1\nrows 0\nanswers 0\n",
+        ),
+    ];
+    for (line, summary) in cases {
+        let (status, out) = ran_words(alloc, line)?;
+        assert_eq!(rt; status, 0, "{line}");
+        assert_eq!(rt; out.bytes(), summary.as_bytes(), "{line}");
+    }
+    let (status, first) = ran_words(alloc, "gen --seed 3 --size 200")?;
+    assert_eq!(rt; status, 0);
+    let (status, next) = ran_words(alloc, "gen --size 200 --seed 3")?;
+    assert_eq!(rt; status, 0);
+    assert_eq!(rt; first.bytes(), next.bytes());
     Ok(())
 }

@@ -1,5 +1,5 @@
 // The top call.
-ghost use Rattle.std.specs.Prelude.{◌≡◌, ◌≢◌, ◌<◌, ◌≤◌, ℕ, ◌↔◌, ◌⊎◌, false, IfSome, OnOk, IsErrOf, None, length};
+ghost use Rattle.std.specs.Prelude.{◌≡◌, ◌≢◌, ◌<◌, ◌≤◌, ℕ, ◌↔◌, ◌⊎◌, false, IfSome, OnOk, IsErrOf, None, Some, length};
 ghost use Rattle.std.specs.Io.KnownBytes.{IsAtEnd};
 ghost use Rattle.bdb_base.specs.Bases.{Contents, IsValid};
 ghost use Rattle.bdb_base.specs.Causes.{Rose, Rises, RisesOver};
@@ -7,36 +7,44 @@ ghost use Rattle.bdb_base.specs.Limits.{longest_script};
 ghost use Rattle.bdb_keep.specs.Seen.{IsStill, NeverFall};
 ghost use Rattle.bdb_tables.specs.Holds.{Stands};
 ghost use Rattle.bdb_session.specs.Outcome.{start_from};
-ghost use Rattle.bdb_session.specs.Runs.{events_of};
 ghost use Rattle.bdb_top.specs.ByCount.{CommitsTell};
-ghost use Rattle.bdb_top.specs.Ran.{EachBase, Ran, IsOpened, status_of};
-ghost use Rattle.bdb_top.specs.Words.{named_job};
+ghost use Rattle.bdb_top.specs.Ran.{EachBase, Ran, status_of};
+ghost use Rattle.bdb_top.specs.Generated.{IsSummarized};
+ghost use Rattle.bdb_top.specs.Words.{named_job, run_job};
+ghost use Rattle.bdb_top.specs.declared.words.Job.TheVariants.{Gen};
 
-use crate::answers::carry_out;
-use crate::cutting::events_of_script;
-use crate::script::read_script;
+use crate::generated::summarize;
 use crate::status::status_of;
 use crate::stop::Stop;
-use crate::words::script_of;
+use crate::stream::carry_out_script;
+use crate::words::{recipe_of, script_of};
 use bdb_base::Txt;
 use bdb_io::{Sink, Source};
 use bdb_keep::Keeper;
 use bdb_session::{Session, StopError};
 use std::alloc::Global;
 
-/// Does all that the program does: runs the script that the source gives over the base that the keeper's tables stand for,
-/// writes the replies to the sink, and answers the status.
+/// Does all that the program does. Mostly it runs the script that the source gives over the base that the keeper's tables stand for,
+/// writes the replies to the sink, and answers the status. A command is carried out as soon as the bytes are read in which
+/// it ends, at most 65,536 at a time, and its reply is written at once.
 ///
 /// | status | it comes |
 /// |---|---|
 /// | 0 | the script was read to its end, and every command was accepted |
 /// | 1 | the script was read to its end, and a command was refused |
 /// | 2 | exactly where the words name no job; nothing is read, written or kept |
-/// | 3 | a read failed; nothing was written, and the keeper was opened alone |
+/// | 3 | a read failed; each command that ends in the bytes given was carried out, and its reply written |
 /// | 4 | a write failed; what was written is a front of the replies |
 /// | 5 | the keeper failed; what was written is whole replies |
 /// | 6 | want of memory; what was written is whole replies |
-/// | 8 | the source gave more than 2^26 bytes; nothing was written, and the keeper was opened alone |
+/// | 8 | the source gave more than 2^26 bytes; each command that ends in the first 2^26 was carried out, and its reply written |
+///
+/// With 4, 5 and 6 each command that ends more than 65,536 bytes before the end of the bytes given was carried out, and its
+/// reply written. What stands behind the last semicolon is told as unfinished at the end of the script alone.
+///
+/// Where the words ask for a generated script it is run over a keeper of its own, and five lines tell of the run: how many
+/// replies accept and refuse, the worlds and rows at the end, and the answers. Then the status is 0, or 4 or 6, and neither the
+/// source nor the keeper is called.
 pub fn run<S: Source, O: Sink, K: Keeper>(
     alloc: Global,
     words: &[Txt],
@@ -46,19 +54,20 @@ pub fn run<S: Source, O: Sink, K: Keeper>(
 ) -> u8
     requires idle { (K.seen keeper.old).running ≡ false }
     requires base { (b : Contents) × Stands (K.seen keeper.old).kept b × IsValid b.catalog b.stmts }
-    ensures headline { result ≢ 2 → IfSome (S.left script.old) (λ text. EachBase (K.seen keeper.old).kept (λ b.
-        Ran (start_from b) (events_of text) (K.seen keeper.old) (K.seen keeper.new) (O.written out.old) (O.written out.new) result)) }
-    ensures by_count { result ≢ 2 → IfSome (S.left script.old) (λ text. EachBase (K.seen keeper.old).kept (λ b.
-        CommitsTell (start_from b) (events_of text) (K.seen keeper.old) (K.seen keeper.new) (O.written out.old) (O.written out.new) result)) }
+    ensures headline { run_job words.now ≢ None → IfSome (S.left script.old) (λ text. EachBase (K.seen keeper.old).kept (λ b.
+        Ran (start_from b) text (S.left script.new) (K.seen keeper.old) (K.seen keeper.new) (O.written out.old) (O.written out.new) result)) }
+    ensures by_count { run_job words.now ≢ None → IfSome (S.left script.old) (λ text. EachBase (K.seen keeper.old).kept (λ b.
+        CommitsTell (start_from b) text (K.seen keeper.old) (K.seen keeper.new) (O.written out.old) (O.written out.new) result)) }
     ensures words { (result ≡ 2) ↔ (named_job words.now ≡ None) }
     ensures untouched { result ≡ 2 → (script.new ≡ script.old) × (out.new ≡ out.old) × (keeper.new ≡ keeper.old) }
-    ensures still { result ≢ 2 → IsStill (K.seen keeper.new) }
+    ensures still { run_job words.now ≢ None → IsStill (K.seen keeper.new) }
+    ensures generated { (seed size : ℕ) → named_job words.now ≡ Some (Gen seed size)
+        → IsSummarized seed size (O.written out.old) (O.written out.new) result × (script.new ≡ script.old) × (keeper.new ≡ keeper.old) }
+    ensures idle { (K.seen keeper.new).running ≡ false }
     ensures base { (b : Contents) × Stands (K.seen keeper.new).kept b × IsValid b.catalog b.stmts }
     ensures statuses { (result ≤ 8) × (result ≢ 7) }
-    ensures unread_failed { result ≡ 3 → (out.new ≡ out.old) × IsOpened (K.seen keeper.old) (K.seen keeper.new) }
-    ensures unread_large { result ≡ 8 → (out.new ≡ out.old) × IsOpened (K.seen keeper.old) (K.seen keeper.new) }
-    ensures ended { result ≤ 1 → IsAtEnd (S.left script.new) }
-    ensures short { result ≤ 1 → IfSome (S.left script.old) (λ text. length text ≤ longest_script) }
+    ensures ended { run_job words.now ≢ None → result ≤ 1 → IsAtEnd (S.left script.new) }
+    ensures short { run_job words.now ≢ None → result ≤ 1 → IfSome (S.left script.old) (λ text. length text ≤ longest_script) }
     ensures source { result ≡ 3 → Rose (S.faults script.old) (S.faults script.new) }
     ensures sink { result ≡ 4 → Rose (O.faults out.old) (O.faults out.new) }
     ensures keeper { result ≡ 5 → Rose (K.seen keeper.old).faults (K.seen keeper.new).faults }
@@ -67,7 +76,7 @@ pub fn run<S: Source, O: Sink, K: Keeper>(
     ensures sink_count { O.faults out.old ≤ O.faults out.new }
     ensures keeper_counts { NeverFall (K.seen keeper.old) (K.seen keeper.new) }
     ensures many { result ≡ 8 → IfSome (S.left script.old) (λ text. longest_script < length text) }
-    ensures small { result ≤ 1 → (n : ℕ) × (n ≤ longest_script) × Rises n (S.given script.old) (S.given script.new) }
+    ensures small { run_job words.now ≢ None → result ≤ 1 → (n : ℕ) × (n ≤ longest_script) × Rises n (S.given script.old) (S.given script.new) }
     ensures complete { named_job words.now ≢ None
         → ¬ Rose (S.faults script.old) (S.faults script.new)
         → ¬ Rose (O.faults out.old) (O.faults out.new)
@@ -77,7 +86,10 @@ pub fn run<S: Source, O: Sink, K: Keeper>(
 {
     match script_of(words) {
         Some(_) => status_of(run_script(alloc, script, out, keeper)),
-        None => 2,
+        None => match recipe_of(words) {
+            Some(recipe) => summarize(alloc, recipe.seed, recipe.size, out),
+            None => 2,
+        },
     }
 }
 
@@ -91,11 +103,9 @@ fn run_script<S: Source, O: Sink, K: Keeper>(
     requires idle { (K.seen keeper.old).running ≡ false }
     requires base { (b : Contents) × Stands (K.seen keeper.old).kept b × IsValid b.catalog b.stmts }
     ensures ran { IfSome (S.left script.old) (λ text. EachBase (K.seen keeper.old).kept (λ b.
-        Ran (start_from b) (events_of text) (K.seen keeper.old) (K.seen keeper.new) (O.written out.old) (O.written out.new) (status_of result))) }
+        Ran (start_from b) text (S.left script.new) (K.seen keeper.old) (K.seen keeper.new) (O.written out.old) (O.written out.new) (status_of result))) }
     ensures still { IsStill (K.seen keeper.new) }
     ensures base { (b : Contents) × Stands (K.seen keeper.new).kept b × IsValid b.catalog b.stmts }
-    ensures unread_failed { IsErrOf result Stop.Source → (out.new ≡ out.old) × IsOpened (K.seen keeper.old) (K.seen keeper.new) }
-    ensures unread_large { IsErrOf result Stop.Large → (out.new ≡ out.old) × IsOpened (K.seen keeper.old) (K.seen keeper.new) }
     ensures taken { OnOk result (IsAtEnd (S.left script.new) × IfSome (S.left script.old) (λ text. length text ≤ longest_script)) }
     ensures source { IsErrOf result Stop.Source → Rose (S.faults script.old) (S.faults script.new) }
     ensures sink { IsErrOf result Stop.Sink → Rose (O.faults out.old) (O.faults out.new) }
@@ -112,15 +122,7 @@ fn run_script<S: Source, O: Sink, K: Keeper>(
         Err(StopError::Fault) => return Err(Stop::Keeper),
         Err(StopError::Memory) => return Err(Stop::Memory),
     };
-    let text = match read_script(alloc, script) {
-        Ok(text) => text,
-        Err(stop) => return Err(stop),
-    };
-    let events = match events_of_script(alloc, text.as_slice()) {
-        Ok(events) => events,
-        Err(_) => return Err(Stop::Memory),
-    };
-    match carry_out(&mut session, keeper, out, events.as_slice()) {
+    match carry_out_script(alloc, script, &mut session, keeper, out) {
         Ok(accepted) => Ok(accepted),
         Err(stop) => Err(stop),
     }

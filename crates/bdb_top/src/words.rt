@@ -1,9 +1,12 @@
 // The words of the command line.
-ghost use Rattle.std.specs.Prelude.{◌≡◌, IfOk, IsErrOf, MatchOption, Some, None};
+ghost use Rattle.std.specs.Prelude.{◌≡◌, ◌≤◌, [], ◌∷◌, IfOk, IfSome, IsErrOf, MatchOption, Some, None};
 ghost use Rattle.std.specs.Option.{option_copied};
 ghost use Rattle.bdb_base.specs.Same.{same_text};
-ghost use Rattle.bdb_top.specs.Words.{named_job, is_value};
+ghost use Rattle.bdb_base.specs.Limits.{most_generated};
+ghost use Rattle.bdb_top.specs.Words.{named_job, run_job, gen_job, generating, generating_by, is_value, number_behind, number_of};
+ghost use Rattle.bdb_top.specs.declared.words.Job.TheVariants.{Gen};
 
+use bdb_base::limits::MOST_GENERATED;
 use bdb_base::{Exact, Txt};
 use std::alloc::Global;
 use thiserror::Error;
@@ -13,7 +16,20 @@ use thiserror::Error;
 pub enum Job {
     /// Runs a script: that of a file, or of standard input where none is named.
     Run { script: Option<Txt> },
+    /// Runs the script that is generated from a seed, and tells of the run in five lines. The size says how many commands
+    /// are generated behind the first nine, at most 10,000.
+    Gen { seed: u64, size: u32 },
 }
+
+/// What a script is generated from.
+#[derive(Clone, Copy, Debug, PartialEq, Eq, Drop)]
+pub struct Recipe {
+    pub seed: u64,
+    pub size: u32,
+}
+
+/// The most digits of a number.
+const MOST_DIGITS: usize = 20;
 
 /// Why words name no job.
 #[derive(Clone, Copy, Debug, PartialEq, Eq, Drop, Error)]
@@ -26,14 +42,27 @@ pub enum WordsError {
     Memory,
 }
 
-/// The job that the words after the program's name ask for: `run`, or `run --script FILE`, where FILE is not empty and
-/// does not begin with a dash. `BadWords` comes exactly where the words are others.
+/// The job that the words after the program's name ask for.
+///
+/// | words | job |
+/// |---|---|
+/// | `run` | a script from standard input |
+/// | `run --script FILE` | the script in a file; FILE is not empty and does not begin with a dash |
+/// | `gen --seed N --size N`, options in any order | a generated script; N is 1 to 20 digits of a number below 2^64, that of size at most 10,000 |
+///
+/// `BadWords` comes exactly where the words are others.
 pub fn job_of(alloc: Global, words: &[Txt]) -> Result<Job, WordsError>
     ensures ok { IfOk result (λ job. named_job words.now ≡ Some job) }
     ensures bad { IsErrOf result WordsError.BadWords → named_job words.now ≡ None }
 {
     match script_of(words) {
-        None => Err(WordsError::BadWords),
+        None => match recipe_of(words) {
+            Some(recipe) => Ok(Job::Gen {
+                seed: recipe.seed,
+                size: recipe.size,
+            }),
+            None => Err(WordsError::BadWords),
+        },
         Some(None) => Ok(Job::Run { script: None }),
         Some(Some(file)) => match file.try_clone(alloc) {
             Ok(file) => Ok(Job::Run { script: Some(file) }),
@@ -42,9 +71,9 @@ pub fn job_of(alloc: Global, words: &[Txt]) -> Result<Job, WordsError>
     }
 }
 
-/// The file of the script that words ask to run, where they name one; none where the words name no job.
+/// The file of the script that words ask to run, where they name one; none where the words don't ask to run one.
 pub(crate) fn script_of(words: &[Txt]) -> Option<Option<&Txt>>
-    ensures { MatchOption result (named_job words.now ≡ None) (λ file. named_job words.now ≡ Some (Job.Run (option_copied file))) }
+    ensures { MatchOption result (run_job words.now ≡ None) (λ file. run_job words.now ≡ Some (Job.Run (option_copied file))) }
 {
     match words {
         [word] if is_word(word, "run") => Some(None),
@@ -53,6 +82,90 @@ pub(crate) fn script_of(words: &[Txt]) -> Option<Option<&Txt>>
                 && is_word(option, "--script")
                 && is_option_value(file.as_bytes()) => { Some(Some(file)) }
         _ => None,
+    }
+}
+
+/// What words ask to generate a script from; none where they don't ask for that.
+pub(crate) fn recipe_of(words: &[Txt]) -> Option<Recipe>
+    ensures job { MatchOption result (gen_job words.now ≡ None) (λ r. gen_job words.now ≡ Some (Gen r.seed r.size)) }
+    ensures size { IfSome result (λ r. r.size ≤ most_generated) }
+{
+    match words {
+        [word, first, a, second, b] if is_word(word, "gen") => recipe_by(first, a, second, b),
+        _ => None,
+    }
+}
+
+/// The recipe of two options with their values.
+fn recipe_by(first: &Txt, a: &Txt, second: &Txt, b: &Txt) -> Option<Recipe>
+    ensures job { MatchOption result (generating_by first.now a.now second.now b.now ≡ None) (λ r. generating_by first.now a.now second.now b.now ≡ Some (Gen r.seed r.size)) }
+    ensures size { IfSome result (λ r. r.size ≤ most_generated) }
+{
+    if is_word(first, "--seed") && is_word(second, "--size") {
+        return recipe_from(a.as_bytes(), b.as_bytes());
+    }
+    if is_word(first, "--size") && is_word(second, "--seed") {
+        return recipe_from(b.as_bytes(), a.as_bytes());
+    }
+    None
+}
+
+/// The recipe of a seed and a size.
+fn recipe_from(seed: &[u8], size: &[u8]) -> Option<Recipe>
+    ensures job { MatchOption result (generating (number_of seed.now) (number_of size.now) ≡ None) (λ r. generating (number_of seed.now) (number_of size.now) ≡ Some (Gen r.seed r.size)) }
+    ensures size { IfSome result (λ r. r.size ≤ most_generated) }
+{
+    match number_of(seed) {
+        None => None,
+        Some(seed) => match number_of(size) {
+            None => None,
+            Some(size) => {
+                if size > MOST_GENERATED as u64 {
+                    return None;
+                }
+                Some(Recipe {
+                    seed,
+                    size: size as u32,
+                })
+            }
+        },
+    }
+}
+
+/// The number that 1 to 20 digits spell, where it is below 2^64.
+fn number_of(digits: &[u8]) -> Option<u64>
+    ensures { result ≡ number_of digits.now }
+{
+    if digits.is_empty() || digits.len() > MOST_DIGITS {
+        return None;
+    }
+    number_from(digits)
+}
+
+/// The number that digits spell, where it is below 2^64.
+fn number_from(digits: &[u8]) -> Option<u64>
+    ensures { result ≡ number_behind 0 digits.now }
+{
+    let mut number = 0;
+    for digit in digits {
+        number = match with_digit(number, *digit) {
+            Some(next) => next,
+            None => return None,
+        };
+    }
+    Some(number)
+}
+
+/// A number with one more digit, where it is below 2^64.
+fn with_digit(number: u64, digit: u8) -> Option<u64>
+    ensures { result ≡ number_behind number (digit ∷ []) }
+{
+    if !digit.is_ascii_digit() {
+        return None;
+    }
+    match number.checked_mul(10) {
+        Some(tens) => tens.checked_add(u64::from(digit - b'0')),
+        None => None,
     }
 }
 

@@ -41,6 +41,7 @@ fn run_words(rt: &HostRuntime, words: &[Txt]) -> u8 {
             Err(_) => run_over(rt, words, &mut NoSource::new()),
         },
         Ok(Job::Run { script: None }) => run_over(rt, words, &mut ReadSource::new(rt.reader())),
+        Ok(Job::Gen { .. }) => run_over(rt, words, &mut NoSource::new()),
         Err(WordsError::BadWords) => run_over(rt, words, &mut NoSource::new()),
         Err(WordsError::Memory) => NO_MEMORY,
     }

@@ -1,0 +1,9 @@
+use Rattle.std.proofs.Common.{◌≡◌, ◌∙◌, ℕ, List, IfOk, ap, subst}
+use Rattle.bdb_session.specs.Runs.{events_of}
+use Rattle.bdb_top.specs.Generated.{summary_of}
+use Rattle.bdb_top.proofs.generated.summary.Goals as goal
+
+pub returns : goal.returns
+returns c =
+    let events = c.as_slice-2.ensures.value ∙ c.in_ok-events.ensures ∙ ap events_of (c.as_slice.ensures.value ∙ c.in_ok-script.ensures) in
+    subst (λ (l : List ℕ). IfOk c.summary_of.result (λ text. text.items ≡ l)) (ap summary_of events) c.summary_of.ensures

@@ -1,0 +1,66 @@
+-- The summary of the run over a generated script.
+use Rattle.std.specs.Prelude.{◌≡◌, ◌⊎◌, ℕ, ◌+◌, Bool, not, ◌&&◌, nat_lt, List, [], ◌∷◌, ◌++◌, length, take, Option, codes, if◌then◌else◌}
+use Rattle.std.specs.Fmt.{decimal}
+use Rattle.std.specs.Io.KnownBytes.{Appends}
+use Rattle.bdb_base.specs.Bases.{Contents, empty_contents}
+use Rattle.bdb_canon.specs.Sizes.{counts_of}
+use Rattle.bdb_gen.specs.Scripts.{script}
+use Rattle.bdb_session.specs.declared.event.Event.{Event}
+use Rattle.bdb_session.specs.Machine.{accepts, answers_to, next_state, reply_of}
+use Rattle.bdb_session.specs.Outcome.{State, start_from}
+use Rattle.bdb_session.specs.Runs.{after, events_of}
+use Rattle.bdb_top.specs.declared.tally.Tally.{Tally}
+
+-- one, where this holds
+abbrev pub one_if : Bool → ℕ
+one_if test = if test then 1 else 0
+
+-- an event has a reply
+abbrev pub is_replied : State → Event → Bool
+is_replied s e = nat_lt 0 (length (reply_of s e))
+
+-- nothing was replied yet
+abbrev pub no_replies : Tally
+no_replies = record { accepted = 0; refused = 0; answers = 0 }
+
+-- the tally with the reply to one more event
+abbrev pub tally_with : Tally → State → Event → Tally
+tally_with t s e = record {
+  accepted = t.accepted + one_if (accepts s e && is_replied s e);
+  refused = t.refused + one_if (not (accepts s e));
+  answers = t.answers + answers_to s e;
+}
+
+-- the tally with the replies to more events
+abbrev pub tally_from : Tally → State → List Event → Tally
+tally_from t s [] = t
+tally_from t s (e ∷ es) = tally_from (tally_with t s e) (next_state s e) es
+
+-- a line of the summary: what is counted, and the count
+unfoldable pub summary_line : List ℕ → ℕ → List ℕ
+summary_line name count = name ++ decimal count ++ 10 ∷ []
+
+-- the lines that tell of a tally and of the base at the end
+abbrev pub summary_text : Tally → ℕ → ℕ → List ℕ
+summary_text t worlds rows =
+    summary_line (codes "accepted ") t.accepted ++ summary_line (codes "refused ") t.refused ++ summary_line (codes "worlds ") worlds
+    ++ summary_line (codes "rows ") rows ++ summary_line (codes "answers ") t.answers
+
+-- the base after events from the empty one
+abbrev pub base_after : List Event → Contents
+base_after events = (after (start_from empty_contents) events).base
+
+-- the summary of events from the empty base
+abbrev pub summary_of : List Event → List ℕ
+summary_of events = summary_text (tally_from no_replies (start_from empty_contents) events) (counts_of (base_after events)).worlds (counts_of (base_after events)).rows
+
+-- the summary of the script of a seed and a size
+abbrev pub summary : ℕ → ℕ → List ℕ
+summary seed size = summary_of (events_of (script seed size))
+
+-- How a run that generates a script ends: with 0 the summary is written, with 4 a part of it, with 6 nothing.
+pub record IsSummarized (seed size : ℕ) (old new : Option (List ℕ)) (status : ℕ) : Type 0 where
+  pub statuses : (status ≡ 0) ⊎ ((status ≡ 4) ⊎ (status ≡ 6))
+  pub whole : status ≡ 0 → Appends old new (summary seed size)
+  pub part : status ≡ 4 → (n : ℕ) × Appends old new (take n (summary seed size))
+  pub none : status ≡ 6 → Appends old new []

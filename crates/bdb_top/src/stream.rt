@@ -1,0 +1,152 @@
+// Carrying out a script while it is read.
+ghost use Rattle.std.specs.Prelude.{◌≡◌, ◌<◌, ◌≤◌, ℕ, true, false, IfSome, OnOk, OnErr, IsErrOf, length, map};
+ghost use Rattle.std.specs.Io.KnownBytes.{IsAtEnd};
+ghost use Rattle.bdb_base.specs.Causes.{Rose, Rises, RisesOver, HasCause};
+ghost use Rattle.bdb_base.specs.Limits.{longest_script};
+ghost use Rattle.bdb_keep.specs.Seen.{IsStill, NeverFall};
+ghost use Rattle.bdb_lex.specs.Cut.{ready, pieces_from, state_after};
+ghost use Rattle.bdb_session.specs.Runs.{event_of, rest_events};
+ghost use Rattle.bdb_tables.specs.Holds.{Holds};
+ghost use Rattle.bdb_top.specs.Ran.{Ends, Streams};
+ghost use Rattle.bdb_top.specs.Streams.{longest_read};
+
+use crate::answers::{answer, carry_out};
+use crate::cutting::events_from;
+use crate::stop::Stop;
+use bdb_base::List;
+use bdb_base::limits::{LONGEST_COMMAND, LONGEST_SCRIPT};
+use bdb_io::{Failed, Sink, Source};
+use bdb_keep::Keeper;
+use bdb_lex::{Cutter, Rest};
+use bdb_session::{Event, Session};
+use std::alloc::Global;
+
+/// How many bytes are read at a time: as many as a command may have.
+const BLOCK: usize = LONGEST_COMMAND;
+
+/// Carries out the script that a source gives, each command as soon as the bytes are read in which it ends. Ok tells
+/// whether each was accepted.
+pub fn carry_out_script<S: Source, O: Sink, K: Keeper>(
+    alloc: Global,
+    script: &mut S,
+    session: &mut Session,
+    keeper: &mut K,
+    out: &mut O,
+) -> Result<bool, Stop>
+    requires still { IsStill (K.seen keeper.old) }
+    requires agrees { Holds (K.seen keeper.old).kept session.old.base }
+    ensures streams { Streams session.old (S.left script.old) (S.left script.new) session.new (K.seen keeper.old) (K.seen keeper.new) (O.written out.old) (O.written out.new) result }
+    ensures end { OnOk result (IsAtEnd (S.left script.new)) }
+    ensures short { OnOk result (IfSome (S.left script.old) (λ text. length text ≤ longest_script)) }
+    ensures still { IsStill (K.seen keeper.new) }
+    ensures agrees { Holds (K.seen keeper.new).kept session.new.base }
+    ensures source { IsErrOf result Stop.Source → Rose (S.faults script.old) (S.faults script.new) }
+    ensures sink { IsErrOf result Stop.Sink → Rose (O.faults out.old) (O.faults out.new) }
+    ensures keeper { IsErrOf result Stop.Keeper → Rose (K.seen keeper.old).faults (K.seen keeper.new).faults }
+    ensures large { IsErrOf result Stop.Large → RisesOver longest_script (S.given script.old) (S.given script.new) }
+    ensures many { IsErrOf result Stop.Large → IfSome (S.left script.old) (λ text. longest_script < length text) }
+    ensures small { OnOk result ((n : ℕ) × (n ≤ longest_script) × Rises n (S.given script.old) (S.given script.new)) }
+    ensures source_counts { (S.faults script.old ≤ S.faults script.new) × (S.given script.old ≤ S.given script.new) }
+    ensures sink_count { O.faults out.old ≤ O.faults out.new }
+    ensures keeper_counts { NeverFall (K.seen keeper.old) (K.seen keeper.new) }
+{
+    let mut cutter = Cutter::new(alloc);
+    let mut block = [0; BLOCK];
+    let mut accepted = true;
+    let mut taken = 0;
+    loop {
+        let room = LONGEST_SCRIPT - taken;
+        let part = &mut block[..size_of_read(room)];
+        let count = match script.read(part) {
+            Ok(count) => count,
+            Err(Failed) => return Err(Stop::Source),
+        };
+        if count == 0 {
+            match answer_rest(session, keeper, out, cutter.finish()) {
+                Ok(fine) => return Ok(accepted & fine),
+                Err(stop) => return Err(stop),
+            }
+        }
+        if room == 0 {
+            return Err(Stop::Large);
+        }
+        taken += count;
+        match answer_block(alloc, &mut cutter, &part[..count], session, keeper, out) {
+            Ok(fine) => accepted &= fine,
+            Err(stop) => return Err(stop),
+        }
+    }
+}
+
+/// How many bytes to read where so many more may come: one, where no more may, to see whether there are more.
+fn size_of_read(room: usize) -> usize
+    ensures some { 0 < result }
+    ensures few { result ≤ longest_read }
+    ensures fits { 0 < room → result ≤ room }
+{
+    if room == 0 { 1 } else { room.min(BLOCK) }
+}
+
+/// Answers the pieces that end in a block of bytes.
+fn answer_block<O: Sink, K: Keeper>(
+    alloc: Global,
+    cutter: &mut Cutter,
+    block: &[u8],
+    session: &mut Session,
+    keeper: &mut K,
+    out: &mut O,
+) -> Result<bool, Stop>
+    requires ready { cutter.old.is_spent ≡ false }
+    requires still { IsStill (K.seen keeper.old) }
+    requires agrees { Holds (K.seen keeper.old).kept session.old.base }
+    ensures cutter { OnOk result (cutter.new ≡ ready (state_after cutter.old.state block.now)) }
+    ensures ends { Ends session.old (map event_of (pieces_from cutter.old.state block.now)) session.new (K.seen keeper.old) (K.seen keeper.new) (O.written out.old) (O.written out.new) result }
+    ensures still { IsStill (K.seen keeper.new) }
+    ensures agrees { Holds (K.seen keeper.new).kept session.new.base }
+    ensures never_fall { NeverFall (K.seen keeper.old) (K.seen keeper.new) }
+    ensures keeper { HasCause (K.seen keeper.old).faults (K.seen keeper.new).faults result Stop.Keeper }
+    ensures later { O.faults out.old ≤ O.faults out.new }
+    ensures sink { IsErrOf result Stop.Sink → Rose (O.faults out.old) (O.faults out.new) }
+    ensures others { OnErr result ((IsErrOf result Stop.Source → ⊥) × (IsErrOf result Stop.Large → ⊥)) }
+{
+    let mut pieces = List::new(alloc);
+    match cutter.feed(alloc, block, &mut pieces) {
+        Ok(()) => {}
+        Err(_) => return Err(Stop::Memory),
+    }
+    let events = match events_from(alloc, pieces) {
+        Ok(events) => events,
+        Err(_) => return Err(Stop::Memory),
+    };
+    match carry_out(session, keeper, out, events.as_slice()) {
+        Ok(accepted) => Ok(accepted),
+        Err(stop) => Err(stop),
+    }
+}
+
+/// Answers what stands behind the last semicolon of a script.
+fn answer_rest<O: Sink, K: Keeper>(
+    session: &mut Session,
+    keeper: &mut K,
+    out: &mut O,
+    rest: Rest,
+) -> Result<bool, Stop>
+    requires still { IsStill (K.seen keeper.old) }
+    requires agrees { Holds (K.seen keeper.old).kept session.old.base }
+    ensures ends { Ends session.old (rest_events rest) session.new (K.seen keeper.old) (K.seen keeper.new) (O.written out.old) (O.written out.new) result }
+    ensures still { IsStill (K.seen keeper.new) }
+    ensures agrees { Holds (K.seen keeper.new).kept session.new.base }
+    ensures never_fall { NeverFall (K.seen keeper.old) (K.seen keeper.new) }
+    ensures keeper { HasCause (K.seen keeper.old).faults (K.seen keeper.new).faults result Stop.Keeper }
+    ensures later { O.faults out.old ≤ O.faults out.new }
+    ensures sink { IsErrOf result Stop.Sink → Rose (O.faults out.old) (O.faults out.new) }
+    ensures others { OnErr result ((IsErrOf result Stop.Source → ⊥) × (IsErrOf result Stop.Large → ⊥)) }
+{
+    match rest {
+        Rest::Nothing => Ok(true),
+        Rest::Unfinished => match answer(session, keeper, out, &Event::Unfinished) {
+            Ok(accepted) => Ok(accepted),
+            Err(stop) => Err(stop),
+        },
+    }
+}

@@ -1,0 +1,87 @@
+// Counting the replies to events.
+ghost use Rattle.std.specs.Prelude.{◌≡◌, ◌+◌, IfOk, OnOk};
+ghost use Rattle.bdb_keep.specs.Seen.{IsStill};
+ghost use Rattle.bdb_session.specs.Machine.{next_state};
+ghost use Rattle.bdb_session.specs.Runs.{after};
+ghost use Rattle.bdb_tables.specs.Holds.{Holds};
+ghost use Rattle.bdb_top.specs.Generated.{no_replies, tally_from, tally_with};
+
+use bdb_keep::Keeper;
+use bdb_session::{Event, Session};
+use std::alloc::AllocError;
+
+/// How many replies accept, how many refuse, and how many answers they have.
+#[derive(Clone, Copy, Debug, PartialEq, Eq, Drop)]
+pub struct Tally {
+    pub accepted: u64,
+    pub refused: u64,
+    pub answers: u64,
+}
+
+/// Answers events in order, and counts their replies.
+pub fn tally_events<K: Keeper>(
+    session: &mut Session,
+    keeper: &mut K,
+    events: &[Event],
+) -> Result<Tally, AllocError>
+    requires still { IsStill (K.seen keeper.old) }
+    requires agrees { Holds (K.seen keeper.old).kept session.old.base }
+    ensures tally { IfOk result (λ tally. tally ≡ tally_from no_replies session.old events.now) }
+    ensures state { OnOk result (session.new ≡ after session.old events.now) }
+    ensures still { IsStill (K.seen keeper.new) }
+    ensures agrees { Holds (K.seen keeper.new).kept session.new.base }
+{
+    let mut tally = Tally {
+        accepted: 0,
+        refused: 0,
+        answers: 0,
+    };
+    for event in events {
+        tally = match tally_event(session, keeper, tally, event) {
+            Ok(next) => next,
+            Err(error) => return Err(error),
+        };
+    }
+    Ok(tally)
+}
+
+/// Answers an event, and counts its reply.
+fn tally_event<K: Keeper>(
+    session: &mut Session,
+    keeper: &mut K,
+    tally: Tally,
+    event: &Event,
+) -> Result<Tally, AllocError>
+    requires still { IsStill (K.seen keeper.old) }
+    requires agrees { Holds (K.seen keeper.old).kept session.old.base }
+    ensures tally { IfOk result (λ next. next ≡ tally_with tally session.old event.now) }
+    ensures state { OnOk result (session.new ≡ next_state session.old event.now) }
+    ensures still { IsStill (K.seen keeper.new) }
+    ensures agrees { Holds (K.seen keeper.new).kept session.new.base }
+{
+    let reply = match session.answer(keeper, event) {
+        Ok(reply) => reply,
+        Err(_) => return Err(AllocError),
+    };
+    let accepted = added(
+        tally.accepted,
+        u64::from(reply.accepted && !reply.text.is_empty()),
+    )?;
+    let refused = added(tally.refused, u64::from(!reply.accepted))?;
+    let answers = added(tally.answers, u64::from(reply.answers))?;
+    Ok(Tally {
+        accepted,
+        refused,
+        answers,
+    })
+}
+
+/// A count and more. One that doesn't fit is told as want of memory.
+fn added(count: u64, more: u64) -> Result<u64, AllocError>
+    ensures { IfOk result (λ sum. sum ≡ count + more) }
+{
+    match count.checked_add(more) {
+        Some(sum) => Ok(sum),
+        None => Err(AllocError),
+    }
+}
