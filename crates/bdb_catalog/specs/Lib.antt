@@ -1,0 +1,5 @@
+pub mod Bases
+pub mod Creating
+pub mod Opening
+pub mod Showing
+pub mod Taking

@@ -1,0 +1,15 @@
+//! What is made and read of tables that store a base with its worlds, all but changes of statements: the empty base, its
+//! users and relations, the world of a path, and the statements that a change is about.
+#![tactic(auto)]
+
+mod creating;
+mod opening;
+mod showing;
+mod taking;
+mod users;
+
+pub use creating::{add_relation, write_empty};
+pub use opening::{read_format, read_relations, read_users};
+pub use showing::{plain_paths_inherit, world_of_path};
+pub use taking::taken;
+pub use users::add_user;

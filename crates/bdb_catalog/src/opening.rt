@@ -1,0 +1,79 @@
+// Reading what tables tell when they are opened.
+ghost use Rattle.std.specs.Prelude.{◌≡◌, IfOk, OnOk};
+ghost use Rattle.bdb_base.specs.Causes.{RoseBy};
+ghost use Rattle.bdb_keep.specs.Calls.{IsRead};
+ghost use Rattle.bdb_keep.specs.Seen.{NeverFall, Steps};
+ghost use Rattle.bdb_catalog.specs.Bases.{StoresSome};
+ghost use Rattle.bdb_catalog.specs.Opening.{IsPartOf, StandForSome, TellsFormat};
+
+use bdb_base::{List, RelDef, Txt};
+use bdb_keep::Keeper;
+use bdb_tables::{MetaTab, RelTab, TabError, UserTab, get};
+use std::alloc::Global;
+
+/// The format of the tables: none where they have no row, else that of the base that they store. One read.
+pub fn read_format<K: Keeper>(alloc: Global, keeper: &mut K) -> Result<Option<u32>, TabError>
+    requires base { StandForSome (K.seen keeper.old).kept }
+    ensures format { IfOk result (TellsFormat (K.seen keeper.old).kept) }
+    ensures reads { OnOk result (RoseBy 1 (K.seen keeper.old).reads (K.seen keeper.new).reads) }
+    ensures read { IsRead (K.seen keeper.old) (K.seen keeper.new) result TabError.Fault }
+{
+    match get::<MetaTab, K>(alloc, keeper, &()) {
+        Ok(Some(format)) => Ok(Some(format)),
+        Ok(None) => Ok(None),
+        Err(error) => Err(error),
+    }
+}
+
+/// The names of the users, by number from 1.
+pub fn read_users<K: Keeper>(alloc: Global, keeper: &mut K) -> Result<List<Txt>, TabError>
+    requires base { StoresSome (K.seen keeper.old).kept }
+    ensures users { IfOk result (IsPartOf (λ b. b.catalog.users) (K.seen keeper.old).kept) }
+    ensures kept { OnOk result ((K.seen keeper.new).kept ≡ (K.seen keeper.old).kept) }
+    ensures writes { (K.seen keeper.new).writes ≡ (K.seen keeper.old).writes }
+    ensures counts { NeverFall (K.seen keeper.old) (K.seen keeper.new) }
+    ensures steps { Steps (K.seen keeper.old) (K.seen keeper.new) result TabError.Fault }
+{
+    let mut users = List::new(alloc);
+    for number in 0..u32::MAX {
+        let uid = number + 1;
+        match get::<UserTab, K>(alloc, keeper, &uid) {
+            Ok(Some(name)) => {
+                if users.push(name).is_err() {
+                    keeper.undo();
+                    return Err(TabError::Memory);
+                }
+            }
+            Ok(None) => return Ok(users),
+            Err(error) => return Err(error),
+        }
+    }
+    keeper.undo();
+    Err(TabError::Memory)
+}
+
+/// The relations, by number from 0.
+pub fn read_relations<K: Keeper>(alloc: Global, keeper: &mut K) -> Result<List<RelDef>, TabError>
+    requires base { StoresSome (K.seen keeper.old).kept }
+    ensures relations { IfOk result (IsPartOf (λ b. b.catalog.rels) (K.seen keeper.old).kept) }
+    ensures kept { OnOk result ((K.seen keeper.new).kept ≡ (K.seen keeper.old).kept) }
+    ensures writes { (K.seen keeper.new).writes ≡ (K.seen keeper.old).writes }
+    ensures counts { NeverFall (K.seen keeper.old) (K.seen keeper.new) }
+    ensures steps { Steps (K.seen keeper.old) (K.seen keeper.new) result TabError.Fault }
+{
+    let mut rels = List::new(alloc);
+    for rel in 0..u32::MAX {
+        match get::<RelTab, K>(alloc, keeper, &rel) {
+            Ok(Some(def)) => {
+                if rels.push(def).is_err() {
+                    keeper.undo();
+                    return Err(TabError::Memory);
+                }
+            }
+            Ok(None) => return Ok(rels),
+            Err(error) => return Err(error),
+        }
+    }
+    keeper.undo();
+    Err(TabError::Memory)
+}

@@ -1,0 +1,4 @@
+pub mod CountingLemmas
+pub mod ItemLemmas
+pub mod KeyLemmas
+pub mod PathSums
