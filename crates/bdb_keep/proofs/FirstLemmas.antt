@@ -1,21 +1,17 @@
 -- Lemmas on the first row from a place on.
-use Rattle.std.proofs.Common.{◌≡◌, ℕ, Bool, true, false, ◌&&◌, cond, List, [], ◌∷◌, Option, Some, None, refl, sym, ap, ◌∙◌, subst}
+use Rattle.std.proofs.Common.{◌≡◌, ℕ, Bool, true, false, cond, List, [], ◌∷◌, Option, Some, None, refl, sym, ap, ◌∙◌, subst}
 use Rattle.std.specs.Prelude.{IsTrue, IsSome, is_some, filter, Result, Ok, Err, IfOk, MatchBool}
-use Rattle.std.specs.List.{AllByRecursion}
-use Rattle.std.specs.List.Sorted.{IsStrictlySortedBy}
-use Rattle.std.specs.Map.{keys_of}
-use Rattle.std.specs.Ordering.{is_eq, is_le, nat_cmp, eq_by_cmp, ordering_then, ordering_reverse}
+use Rattle.std.specs.Ordering.{is_le, nat_cmp, eq_by_cmp, ordering_then, ordering_reverse}
 use mathlib.Core.Bool.{true≢false}
 use Rattle.std.specs.declared.cmp.Ordering.{Ordering}
 use Rattle.std.specs.declared.cmp.Ordering.TheVariants.{Less, Equal, Greater}
 use Rattle.std.specs.FinMap as finmap
 use Rattle.std.proofs.lemmas.Cmp.{nat_cmp_total, nat_list_cmp_total, eq_by_cmp_equiv, tied_itself}
-use Rattle.std.proofs.lemmas.Map.Entries.{lookup-filter-keys}
-use Rattle.std.proofs.lemmas.Map.Keys.{sorted_head, sorted_tail}
 use Rattle.std.proofs.lemmas.Map.Lookups.{exact_unsigned}
-use Rattle.std.proofs.lemmas.List.Kept.{IsStrictlySortedBy-filter}
 use Rattle.bdb_keep.specs.Tables.{bytes_cmp, set_at, IsLeastFrom, NoneFrom}
-use Rattle.bdb_keep.specs.Rows.{Entries, row_of, place_at, rows_of}
+use Rattle.bdb_keep.specs.Entries.{Entries, row_of, place_at, rows_of, AreAbove, IsAscending}
+use Rattle.bdb_keep.specs.Blocks.{IsRest}
+use Rattle.bdb_keep.proofs.EntriesLemmas.{place_at-above}
 use Rattle.bdb_keep.proofs.RowsLemmas.{get_rows_of, same_place, set_at-same}
 
 -- orders
@@ -38,34 +34,19 @@ first_between tab first low rest q a b =
 inside : (tab : ℕ) (a b : List ℕ) → bytes_cmp (tab ∷ a) (tab ∷ b) ≡ bytes_cmp a b
 inside tab a b = ap (λ r. ordering_then r (bytes_cmp a b)) (tied_itself nat_cmp_total tab)
 
-all-filter : (p : List ℕ) (ks : List (List ℕ)) → AllByRecursion (λ k. IsTrue (is_le (bytes_cmp p k))) (filter (λ k. is_le (bytes_cmp p k) && true) ks)
-all-filter p [] = tt
-all-filter p (k ∷ ks) = there (is_le (bytes_cmp p k)) refl (all-filter p ks)
-  where
-    there : (b : Bool) → is_le (bytes_cmp p k) ≡ b → AllByRecursion (λ k. IsTrue (is_le (bytes_cmp p k))) (filter (λ k. is_le (bytes_cmp p k) && true) ks)
-        → AllByRecursion (λ k. IsTrue (is_le (bytes_cmp p k))) (cond (b && true) (k ∷ filter (λ k. is_le (bytes_cmp p k) && true) ks) (filter (λ k. is_le (bytes_cmp p k) && true) ks))
-    there true e h = (e, h)
-    there false e h = h
-
--- a key below all others is found nowhere among them
-absent_above : (k : List ℕ) (es : Entries) → AllByRecursion (λ y. bytes_cmp k y ≡ Less) (keys_of es) → place_at es k ≡ None
-absent_above k [] h = refl
-absent_above k (e ∷ es) h = ap (λ r. cond (is_eq r) (Some e.1) (place_at es k)) h.0 ∙ absent_above k es h.1
-
 -- the entries without the empty places stand for the same rows
-pub rows_of-kept : (es : Entries) → IsStrictlySortedBy bytes_cmp (keys_of es) → rows_of (filter (λ e. is_some e.1) es) ≡ rows_of es
+pub rows_of-kept : (es : Entries) → IsAscending es → rows_of (filter (λ e. is_some e.1) es) ≡ rows_of es
 rows_of-kept [] s = refl
-rows_of-kept (e ∷ es) s = there e.1 refl (rows_of-kept es (sorted_tail bytes_cmp e.0 (keys_of es) s))
+rows_of-kept (e ∷ es) s = there e.1 refl (rows_of-kept es s.1)
   where
     there : (r : Option (List ℕ)) → e.1 ≡ r → rows_of (filter (λ e. is_some e.1) es) ≡ rows_of es
         → rows_of (cond (is_some r) (e ∷ filter (λ e. is_some e.1) es) (filter (λ e. is_some e.1) es)) ≡ set_at (rows_of es) e.0 e.1
     there (Some b) h same = ap (λ t. set_at t e.0 e.1) same
     there None h same =
-        same ∙ sym (ap (set_at (rows_of es) e.0) h
-        ∙ set_at-same (rows_of es) e.0 None (get_rows_of es e.0 ∙ ap row_of (absent_above e.0 es (sorted_head bytes_cmp e.0 (keys_of es) s))))
+        same ∙ sym (ap (set_at (rows_of es) e.0) h ∙ set_at-same (rows_of es) e.0 None (get_rows_of es e.0 ∙ ap row_of (place_at-above e.0 es s.0)))
 
 -- what is found is above a key that is below all others
-found_above : (k : List ℕ) (es : Entries) (q : List ℕ) → AllByRecursion (λ y. bytes_cmp k y ≡ Less) (keys_of es) → IsSome (place_at es q) → bytes_cmp k q ≡ Less
+found_above : (k : List ℕ) (es : Entries) (q : List ℕ) → AreAbove k es → IsSome (place_at es q) → bytes_cmp k q ≡ Less
 found_above k [] q h s = absurd (true≢false (sym s))
 found_above k (e ∷ es) q h s = there (eq_by_cmp bytes_cmp q e.0) refl s (λ s. found_above k es q h.1 s)
   where
@@ -73,43 +54,19 @@ found_above k (e ∷ es) q h s = there (eq_by_cmp bytes_cmp q e.0) refl s (λ s.
     there true t s more = ap (bytes_cmp k) (same_place q e.0 t) ∙ h.0
     there false t s more = more s
 
--- `rest` has the rows of `es` from a place on, in order
-pub record IsRest (es rest : Entries) (p : List ℕ) : Type 0 where
-  pub same : (q : List ℕ) → IsTrue (is_le (bytes_cmp p q)) → row_of (place_at rest q) ≡ row_of (place_at es q)
-  pub above : AllByRecursion (λ k. IsTrue (is_le (bytes_cmp p k))) (keys_of rest)
-  pub sorted : IsStrictlySortedBy bytes_cmp (keys_of rest)
-
-keys-filter : (f : List ℕ → Bool) (es : Entries) → keys_of (filter (λ e. f e.0) es) ≡ filter f (keys_of es)
-keys-filter f [] = refl
-keys-filter f (e ∷ es) = there (f e.0) ∙ ap (λ ks. cond (f e.0) (e.0 ∷ ks) ks) (keys-filter f es)
-  where
-    there : (b : Bool) → keys_of (cond b (e ∷ filter (λ e. f e.0) es) (filter (λ e. f e.0) es)) ≡ cond b (e.0 ∷ keys_of (filter (λ e. f e.0) es)) (keys_of (filter (λ e. f e.0) es))
-    there true = refl
-    there false = refl
-
--- at the start
-pub rest-start : (es : Entries) (p : List ℕ) → IsStrictlySortedBy bytes_cmp (keys_of es) → IsRest es (filter (λ e. is_le (bytes_cmp p e.0) && true) es) p
-rest-start es p s =
-    let f : List ℕ → Bool = λ k. is_le (bytes_cmp p k) && true in
-    record {
-      same = λ q h. ap row_of (lookup-filter-keys (λ k. is_eq (bytes_cmp q k)) f true (λ k t. ap (λ x. is_le (bytes_cmp p x) && true) (sym (same_place q k t)) ∙ ap (λ b. b && true) h) es);
-      above = subst (λ ks. AllByRecursion (λ k. IsTrue (is_le (bytes_cmp p k))) ks) (sym (keys-filter f es)) (all-filter p (keys_of es));
-      sorted = subst (λ ks. IsStrictlySortedBy bytes_cmp ks) (sym (keys-filter f es)) (IsStrictlySortedBy-filter bytes_cmp f (keys_of es) s);
-    }
-
 -- past an empty place
 pub rest-skip : (es rest more : Entries) (p : List ℕ) (k : List ℕ) (r : Option (List ℕ)) → IsRest es rest p → rest ≡ (k, r) ∷ more → r ≡ None → IsRest es more p
 rest-skip es rest more p k r w e n =
     let w' : IsRest es ((k, r) ∷ more) p = subst (λ x. IsRest es x p) e w in
-    let below : AllByRecursion (λ y. bytes_cmp k y ≡ Less) (keys_of more) = sorted_head bytes_cmp k (keys_of more) w'.sorted in
-    record { same = λ q h. there q (eq_by_cmp bytes_cmp q k) refl below ∙ w'.same q h; above = w'.above.1; sorted = sorted_tail bytes_cmp k (keys_of more) w'.sorted }
+    let below : AreAbove k more = w'.sorted.0 in
+    record { same = λ q h. there q (eq_by_cmp bytes_cmp q k) refl below ∙ w'.same q h; above = w'.above.1; sorted = w'.sorted.1 }
   where
-    there : (q : List ℕ) (b : Bool) → eq_by_cmp bytes_cmp q k ≡ b → AllByRecursion (λ y. bytes_cmp k y ≡ Less) (keys_of more) → row_of (place_at more q) ≡ row_of (cond (eq_by_cmp bytes_cmp q k) (Some r) (place_at more q))
-    there q true t h = ap (λ x. row_of (place_at more x)) (same_place q k t) ∙ ap row_of (absent_above k more h) ∙ sym n ∙ ap (λ b. row_of (cond b (Some r) (place_at more q))) (sym t)
+    there : (q : List ℕ) (b : Bool) → eq_by_cmp bytes_cmp q k ≡ b → AreAbove k more → row_of (place_at more q) ≡ row_of (cond (eq_by_cmp bytes_cmp q k) (Some r) (place_at more q))
+    there q true t h = ap (λ x. row_of (place_at more x)) (same_place q k t) ∙ ap row_of (place_at-above k more h) ∙ sym n ∙ ap (λ b. row_of (cond b (Some r) (place_at more q))) (sym t)
     there q false t h = ap (λ b. row_of (cond b (Some r) (place_at more q))) (sym t)
 
 -- a row that is there is not below the first
-first-below : (more : Entries) (k : List ℕ) (r : Option (List ℕ)) (q : List ℕ) → AllByRecursion (λ y. bytes_cmp k y ≡ Less) (keys_of more) → IsSome (row_of (place_at ((k, r) ∷ more) q)) → IsTrue (is_le (bytes_cmp k q))
+first-below : (more : Entries) (k : List ℕ) (r : Option (List ℕ)) (q : List ℕ) → AreAbove k more → IsSome (row_of (place_at ((k, r) ∷ more) q)) → IsTrue (is_le (bytes_cmp k q))
 first-below more k r q h s = there (eq_by_cmp bytes_cmp q k) refl s
   where
     some : (x : Option (Option (List ℕ))) → IsSome (row_of x) → IsSome x
@@ -125,7 +82,7 @@ pub rest-found : (es rest more : Entries) (tab : ℕ) (low key row : List ℕ) (
 rest-found es rest more tab low key row k bytes w e i b =
     let w' : IsRest es ((k, Some bytes) ∷ more) (tab ∷ low) = subst (λ x. IsRest es x (tab ∷ low)) e w in
     let at : IsTrue (is_le (bytes_cmp (tab ∷ low) (tab ∷ key))) = subst (λ x. IsTrue (is_le (bytes_cmp (tab ∷ low) x))) i w'.above.0 in
-    let below : AllByRecursion (λ y. bytes_cmp k y ≡ Less) (keys_of more) = sorted_head bytes_cmp k (keys_of more) w'.sorted in
+    let below : AreAbove k more = w'.sorted.0 in
     record {
       found = get_rows_of es (tab ∷ key) ∙ sym (w'.same (tab ∷ key) at)
           ∙ ap (λ b. row_of (cond b (Some (Some bytes)) (place_at more (tab ∷ key)))) (ap (λ x. eq_by_cmp bytes_cmp (tab ∷ key) x) i ∙ (eq_by_cmp_equiv nat_list_cmp_total).refl (tab ∷ key)) ∙ ap Some (sym b);
@@ -138,7 +95,7 @@ rest-found es rest more tab low key row k bytes w e i b =
 pub rest-other : (es rest more : Entries) (tab : ℕ) (low : List ℕ) (k : List ℕ) (bytes : List ℕ) → IsRest es rest (tab ∷ low) → rest ≡ (k, Some bytes) ∷ more → ((q : List ℕ) → k ≡ tab ∷ q → ⊥) → NoneFrom (rows_of es) tab low
 rest-other es rest more tab low k bytes w e other q h =
     let w' : IsRest es ((k, Some bytes) ∷ more) (tab ∷ low) = subst (λ x. IsRest es x (tab ∷ low)) e w in
-    let below : AllByRecursion (λ y. bytes_cmp k y ≡ Less) (keys_of more) = sorted_head bytes_cmp k (keys_of more) w'.sorted in
+    let below : AreAbove k more = w'.sorted.0 in
     there (finmap.get (rows_of es) (tab ∷ q)) refl w'.above.0
     (λ s. first-below more k (Some bytes) (tab ∷ q) below (ap is_some (w'.same (tab ∷ q) (ap is_le (inside tab low q) ∙ h) ∙ sym (get_rows_of es (tab ∷ q))) ∙ s))
   where
@@ -155,12 +112,14 @@ pub rest-end : (es rest : Entries) (tab : ℕ) (low : List ℕ) → IsRest es re
 rest-end es rest tab low w e q h = get_rows_of es (tab ∷ q) ∙ sym (w.same (tab ∷ q) (ap is_le (inside tab low q) ∙ h)) ∙ ap (λ x. row_of (place_at x (tab ∷ q))) e
 
 -- what is found, by what was given
-pub rest-given : {E : Type 0} (es rest more : Entries) (tab : ℕ) (low key row place given : List ℕ) (k : List ℕ) (r : Option (List ℕ)) (bytes : List ℕ) (result : Result Bool E)
-    → IsRest es rest (tab ∷ low) → rest ≡ (k, r) ∷ more → r ≡ Some bytes → place ≡ k → given ≡ bytes
-    → IfOk result (λ found. found ≡ true → place ≡ tab ∷ key) → IfOk result (λ found. found ≡ true → row ≡ given) → IfOk result (λ found. found ≡ false → (q : List ℕ) → place ≡ tab ∷ q → ⊥)
+pub rest-given : {E : Type 0} (es rest more : Entries) (tab : ℕ) (low key row : List ℕ) (e : List ℕ × Option (List ℕ)) (result : Result Bool E)
+    → IsRest es rest (tab ∷ low) → rest ≡ e ∷ more → is_some e.1 ≡ true
+    → IfOk result (λ found. found ≡ true → e ≡ (tab ∷ key, Some row)) → IfOk result (λ found. found ≡ false → is_some e.1 ≡ true → (q : List ℕ) → e.0 ≡ tab ∷ q → ⊥)
     → IfOk result (λ found. MatchBool found (IsLeastFrom (rows_of es) tab low key row) (NoneFrom (rows_of es) tab low))
-rest-given es rest more tab low key row place given k r bytes (Err e) w h n p g a b c = tt
-rest-given es rest more tab low key row place given k r bytes (Ok true) w h n p g a b c =
-    rest-found es rest more tab low key row k bytes w (h ∙ ap (λ x. (k, x) ∷ more) n) (sym p ∙ a refl) (b refl ∙ g)
-rest-given es rest more tab low key row place given k r bytes (Ok false) w h n p g a b c =
-    rest-other es rest more tab low k bytes w (h ∙ ap (λ x. (k, x) ∷ more) n) (λ q e. c refl q (p ∙ e))
+rest-given es rest more tab low key row e (Err x) w h s a b = tt
+rest-given es rest more tab low key row e (Ok true) w h s a b = rest-found es rest more tab low key row (tab ∷ key) row w (h ∙ ap (λ x. x ∷ more) (a refl)) refl refl
+rest-given es rest more tab low key row e (Ok false) w h s a b = there e.1 refl s
+  where
+    there : (r : Option (List ℕ)) → e.1 ≡ r → is_some r ≡ true → NoneFrom (rows_of es) tab low
+    there None n s = absurd (true≢false (sym s))
+    there (Some bytes) n t = rest-other es rest more tab low e.0 bytes w (h ∙ ap (λ x. (e.0, x) ∷ more) n) (b refl s)

@@ -1,3 +1,5 @@
+pub mod BlocksLemmas
+pub mod EntriesLemmas
 pub mod FirstLemmas
 pub mod Gets
 pub mod Numbers

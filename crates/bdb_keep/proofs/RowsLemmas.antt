@@ -4,14 +4,14 @@ use Rattle.std.proofs.Common.{◌≡◌, ℕ, ◌<◌, length, take, get_or, suc
 use Rattle.std.specs.Prelude.{IsSome, is_some, IfNone, OnSome}
 use Rattle.std.specs.Ordering.{is_eq, eq_by_cmp}
 use Rattle.std.proofs.lemmas.Cmp.{nat_list_cmp_total}
-use Rattle.std.specs.Map.{KeepsOthers}
 use Rattle.std.proofs.lemmas.Map.Lookups.{exact_bytes}
 use Rattle.std.specs.FinMap as map
 use Rattle.std.specs.FinMap.{get-empty, get-insert, get-remove, same_map}
 use Rattle.bdb_keep.specs.Tables.{Tables, bytes_cmp, set_at}
-use Rattle.bdb_keep.specs.Rows.{Entries, row_of, place_at, rows_of, places_of, undone, HavePlaces, KeepsPlaces}
+use Rattle.bdb_keep.specs.Entries.{Entries, row_of, place_at, rows_of, KeepsPlaces, IsSetAt}
+use Rattle.bdb_keep.specs.Changes.{places_of, undone, HavePlaces}
 use Rattle.bdb_keep.specs.Held.{IsPlace}
-use Rattle.bdb_keep.specs.declared.rows.Change.{Change}
+use Rattle.bdb_keep.specs.declared.changes.Change.{Change}
 use Rattle.std.specs.declared.cmp.Ordering.{Ordering}
 use Rattle.std.specs.declared.cmp.Ordering.TheVariants.{Less, Equal, Greater}
 
@@ -79,30 +79,25 @@ pub HavePlaces-push : (cs : List Change) (c : Change) (es : Entries) → HavePla
 HavePlaces-push [] c es h p s = (p, s, tt)
 HavePlaces-push (d ∷ cs) c es h p s = (h.0, h.1, HavePlaces-push cs c es h.2 p s)
 
--- an update at a place leaves what stands at another
-place-others : (es fs : Entries) (p q : List ℕ) → KeepsOthers (eq_by_cmp bytes_cmp) (λ k. is_eq (bytes_cmp p k)) es fs → eq_by_cmp bytes_cmp q p ≡ false → place_at fs q ≡ place_at es q
-unfolding KeepsOthers
-place-others es fs p q h e = h (λ k. is_eq (bytes_cmp q k)) (λ x y t. ap (λ w. is_eq (bytes_cmp w y)) (same_place q x t)) (λ k t. ap (λ w. is_eq (bytes_cmp q w)) (sym (same_place p k t)) ∙ e)
-
 -- an update sets the row at its place
-pub rows_of-updates : (es fs : Entries) (p : List ℕ) (w : Option (Option (List ℕ))) → place_at fs p ≡ w → KeepsOthers (eq_by_cmp bytes_cmp) (λ k. is_eq (bytes_cmp p k)) es fs → rows_of fs ≡ set_at (rows_of es) p (row_of w)
-rows_of-updates es fs p w here h = same_tables _ _ (λ q. get_rows_of fs q ∙ there q (eq_by_cmp bytes_cmp q p) refl ∙ ap (cond (eq_by_cmp bytes_cmp q p) (row_of w)) (sym (get_rows_of es q)) ∙ sym (get-set_at (rows_of es) p (row_of w) q))
+pub rows_of-updates : (es fs : Entries) (p : List ℕ) (w : Option (Option (List ℕ))) → IsSetAt es fs p w → rows_of fs ≡ set_at (rows_of es) p (row_of w)
+rows_of-updates es fs p w h = same_tables _ _ (λ q. get_rows_of fs q ∙ there q (eq_by_cmp bytes_cmp q p) refl ∙ ap (cond (eq_by_cmp bytes_cmp q p) (row_of w)) (sym (get_rows_of es q)) ∙ sym (get-set_at (rows_of es) p (row_of w) q))
   where
     there : (q : List ℕ) (b : Bool) → eq_by_cmp bytes_cmp q p ≡ b → row_of (place_at fs q) ≡ cond b (row_of w) (row_of (place_at es q))
-    there q true e = ap (λ x. row_of (place_at fs x)) (same_place q p e) ∙ ap row_of here
-    there q false e = ap row_of (place-others es fs p q h e)
+    there q true e = ap (λ x. row_of (place_at fs x)) (same_place q p e) ∙ ap row_of h.here
+    there q false e = ap row_of (h.others q e)
 
 -- an update that puts something keeps all places
-pub KeepsPlaces-updates : (es fs : Entries) (p : List ℕ) (x : Option (List ℕ)) → place_at fs p ≡ Some x → KeepsOthers (eq_by_cmp bytes_cmp) (λ k. is_eq (bytes_cmp p k)) es fs → KeepsPlaces es fs
-KeepsPlaces-updates es fs p x here h q = there (eq_by_cmp bytes_cmp q p) refl
+pub KeepsPlaces-updates : (es fs : Entries) (p : List ℕ) (x : Option (List ℕ)) → IsSetAt es fs p (Some x) → KeepsPlaces es fs
+KeepsPlaces-updates es fs p x h q = there (eq_by_cmp bytes_cmp q p) refl
   where
     there : (b : Bool) → eq_by_cmp bytes_cmp q p ≡ b → IsSome (place_at es q) → IsSome (place_at fs q)
-    there true e s = ap is_some (ap (place_at fs) (same_place q p e) ∙ here)
-    there false e s = ap is_some (place-others es fs p q h e) ∙ s
+    there true e s = ap is_some (ap (place_at fs) (same_place q p e) ∙ h.here)
+    there false e s = ap is_some (h.others q e) ∙ s
 
 -- an empty place can go
-pub rows_of-emptied : (es fs : Entries) (p : List ℕ) → place_at es p ≡ Some None → place_at fs p ≡ None → KeepsOthers (eq_by_cmp bytes_cmp) (λ k. is_eq (bytes_cmp p k)) es fs → rows_of fs ≡ rows_of es
-rows_of-emptied es fs p was here h = rows_of-updates es fs p None here h ∙ set_at-same (rows_of es) p None (get_rows_of es p ∙ ap row_of was)
+pub rows_of-emptied : (es fs : Entries) (p : List ℕ) → place_at es p ≡ Some None → IsSetAt es fs p None → rows_of fs ≡ rows_of es
+rows_of-emptied es fs p was h = rows_of-updates es fs p None h ∙ set_at-same (rows_of es) p None (get_rows_of es p ∙ ap row_of was)
 
 module _ (old mid new : List Change) (v : List ℕ) (b : Option (List ℕ)) (p : List ℕ) (es fs : Entries)
     (m : mid ≡ old) (n : new ≡ mid ++ record { place = v; before = b } ∷ []) (e : v ≡ p) where

@@ -1,18 +1,19 @@
 -- Lemmas on rows that lie within others, and on rows without one of them.
-use Rattle.std.proofs.Common.{◌≡◌, ℕ, Bool, true, false, not, cond, List, [], ◌∷◌, Option, Some, None, refl, sym, ap, ◌∙◌, subst, ◌⊎◌, inl, inr}
-use Rattle.std.specs.Prelude.{IsTrue, IfSome, ◌↔◌, nat_eq, filter}
+use Rattle.std.proofs.Common.{◌≡◌, ℕ, zero, suc, ◌<◌, ◌+◌, arith, length, get_or, take, take-suc, Bool, true, false, cond, List, [], ◌∷◌, ◌++◌, Option, Some, None, refl, sym, ap, ◌∙◌, subst}
+use Rattle.std.specs.Prelude.{IsTrue, IfSome, ◌↔◌, nat_eq}
 use Rattle.std.specs.Bool.{Decides}
 use Rattle.std.specs.Cmp.{unsigned_Decides}
 use Rattle.std.specs.Cmp.Lexicographic.{pointwise}
-use Rattle.std.specs.List.{AllByRecursion}
-use Rattle.std.specs.Ordering.{is_eq, eq_by_cmp}
+use Rattle.std.specs.Ordering.{eq_by_cmp}
 use Rattle.std.specs.FinMap as map
 use Rattle.std.specs.FinMap.{get-empty}
 use Rattle.std.proofs.lemmas.Cmp.{nat_list_cmp_total, eq_by_cmp_equiv}
-use Rattle.std.proofs.lemmas.Map.Entries.{lookup-filter-keys}
 use Rattle.std.proofs.lemmas.Slice.Eq.{slice_eq-Decides}
 use Rattle.bdb_keep.specs.Tables.{Tables, bytes_cmp, LieWithin}
-use Rattle.bdb_keep.specs.Rows.{Entries, row_of, place_at, rows_of}
+use Rattle.bdb_keep.specs.Entries.{Entries, row_of, place_at, rows_of, IsAscending, IsAmong, AreAmong}
+use Rattle.bdb_keep.specs.Blocks.{joined}
+use Rattle.bdb_keep.proofs.EntriesLemmas.{place_at-above}
+use Rattle.bdb_keep.proofs.BlocksLemmas.{joined-take-more}
 use Rattle.bdb_keep.proofs.RowsLemmas.{get-set_at, get_rows_of, same_place, same_tables}
 
 -- a row was compared with the row that stands at its place
@@ -28,73 +29,64 @@ pub same-none : (es : Entries) (p : List ℕ) (row : Option (List ℕ)) (bytes :
 same-none es p row bytes e h =
     subst (λ w. IsTrue false ↔ IfSome w (λ b. map.get (rows_of es) p ≡ Some b)) (sym e) (λ t. absurd (cc), λ g. let n : map.get (rows_of es) p ≡ None = get_rows_of es p ∙ h in absurd (cc))
 
--- both tests of two keys answer alike
-tests_agree : (q p : List ℕ) → pointwise nat_eq q p ≡ eq_by_cmp bytes_cmp q p
-tests_agree q p = told (pointwise nat_eq q p) (eq_by_cmp bytes_cmp q p) refl (slice_eq-Decides unsigned_Decides q p (pointwise nat_eq q p) refl)
+-- what is among some rows, entry by entry
+pub among-append : (t : Tables) (xs ys : Entries) → AreAmong t xs → AreAmong t ys → AreAmong t (xs ++ ys)
+among-append t [] ys a b = b
+among-append t (x ∷ xs) ys a b = (a.0, among-append t xs ys a.1 b)
+
+pub among-parts : (t : Tables) (xs ys : Entries) → AreAmong t (xs ++ ys) → AreAmong t xs × AreAmong t ys
+among-parts t [] ys a = (tt, a)
+among-parts t (x ∷ xs) ys a = let more = among-parts t xs ys a.1 in ((a.0, more.0), more.1)
+
+pub among-at : (t : Tables) (es : Entries) (i : ℕ) (d : List ℕ × Option (List ℕ)) → AreAmong t es → i < length es → IsAmong t (get_or es i d)
+among-at t [] i d a h = absurd (omega arith)
+among-at t (e ∷ es) zero d a h = a.0
+among-at t (e ∷ es) (suc i) d a h = among-at t es i d a.1 (omega arith)
+
+pub among-block : (t : Tables) (bs : List Entries) (i : ℕ) (d : Entries) → AreAmong t (joined bs) → i < length bs → AreAmong t (get_or bs i d)
+among-block t [] i d a h = absurd (omega arith)
+among-block t (b ∷ bs) zero d a h = (among-parts t b (joined bs) a).0
+among-block t (b ∷ bs) (suc i) d a h = among-block t bs i d (among-parts t b (joined bs) a).1 (omega arith)
+
+-- one entry more of the front
+pub among-more : (t : Tables) (es : Entries) (i : ℕ) (d : List ℕ × Option (List ℕ)) → i < length es → AreAmong t (take i es) → IsAmong t (get_or es i d) → AreAmong t (take (i + 1) es)
+among-more t es i d h a e =
+    let next : i + 1 ≡ suc i = omega arith in
+    subst (AreAmong t) (sym (ap (λ n. take n es) next ∙ take-suc es i d h)) (among-append t (take i es) (get_or es i d ∷ []) a (e, tt))
+
+-- one block more of the front
+pub among-block-more : (t : Tables) (bs : List Entries) (i : ℕ) (d : Entries) → i < length bs → AreAmong t (joined (take i bs)) → AreAmong t (get_or bs i d) → AreAmong t (joined (take (i + 1) bs))
+among-block-more t bs i d h a e =
+    let next : i + 1 ≡ suc i = omega arith in
+    subst (AreAmong t) (sym (ap (λ n. joined (take n bs)) next ∙ joined-take-more bs i d h)) (among-append t (joined (take i bs)) (get_or bs i d) a e)
+
+-- rows of which each is among others lie within them
+pub lie-from-among : (t : Tables) (es : Entries) → AreAmong t es → LieWithin (rows_of es) t
+lie-from-among t [] a q row h = let n : map.get (rows_of []) q ≡ None = get-empty bytes_cmp q in absurd (cc)
+lie-from-among t (e ∷ es) a q row h = there (eq_by_cmp bytes_cmp q e.0) refl (sym (get-set_at (rows_of es) e.0 e.1 q) ∙ h) (lie-from-among t es a.1 q row)
   where
-    told : (a b : Bool) → eq_by_cmp bytes_cmp q p ≡ b → Decides a (q ≡ p) → a ≡ b
-    told true true e d = refl
-    told false false e d = refl
-    told true false e d = sym ((eq_by_cmp_equiv nat_list_cmp_total).refl p) ∙ ap (λ x. eq_by_cmp bytes_cmp x p) (sym (d.0 refl)) ∙ e
-    told false true e d = d.1 (same_place q p e)
+    had : (x : Option (List ℕ)) → IfSome x (λ b. map.get t e.0 ≡ Some b) → x ≡ Some row → map.get t e.0 ≡ Some row
+    had None s n = absurd (cc)
+    had (Some b) s n = s ∙ n
 
--- the entries without those at a place are the rows without that one
-pub rows_of-without : (es : Entries) (p : List ℕ) → rows_of (filter (λ e. not (pointwise nat_eq e.0 p)) es) ≡ map.remove (rows_of es) p
-rows_of-without es p = same_tables _ _ (λ q. get_rows_of (filter (λ e. not (pointwise nat_eq e.0 p)) es) q
-    ∙ ap row_of (lookup-filter-keys (λ k. is_eq (bytes_cmp q k)) (λ k. not (pointwise nat_eq k p)) (not (pointwise nat_eq q p)) (λ k t. ap (λ x. not (pointwise nat_eq x p)) (sym (same_place q k t))) es)
-    ∙ turned (pointwise nat_eq q p) (place_at es q)
-    ∙ ap (λ b. cond b None (row_of (place_at es q))) (tests_agree q p)
-    ∙ ap (cond (eq_by_cmp bytes_cmp q p) None) (sym (get_rows_of es q))
-    ∙ sym (get-set_at (rows_of es) p None q))
+    there : (b : Bool) → eq_by_cmp bytes_cmp q e.0 ≡ b → cond b e.1 (map.get (rows_of es) q) ≡ Some row → (map.get (rows_of es) q ≡ Some row → map.get t q ≡ Some row) → map.get t q ≡ Some row
+    there true s h more = ap (map.get t) (same_place q e.0 s) ∙ had e.1 a.0 h
+    there false s h more = more h
+
+-- and the other way round
+pub among-from-lie : (t : Tables) (es : Entries) → IsAscending es → LieWithin (rows_of es) t → AreAmong t es
+among-from-lie t [] s lie = tt
+among-from-lie t (e ∷ es) s lie = (here e.1 refl, among-from-lie t es s.1 (λ q row h. lie q row (get-set_at (rows_of es) e.0 e.1 q ∙ later q row h (eq_by_cmp bytes_cmp q e.0) refl)))
   where
-    turned : (b : Bool) (x : Option (Option (List ℕ))) → row_of (cond (not b) x None) ≡ cond b None (row_of x)
-    turned true x = refl
-    turned false x = refl
+    here : (x : Option (List ℕ)) → e.1 ≡ x → IfSome x (λ b. map.get t e.0 ≡ Some b)
+    here None n = tt
+    here (Some b) n = lie e.0 b (get-set_at (rows_of es) e.0 e.1 e.0 ∙ ap (λ y. cond y e.1 (map.get (rows_of es) e.0)) ((eq_by_cmp_equiv nat_list_cmp_total).refl e.0) ∙ n)
 
--- each row of `es` that isn't among `rest` any more is a row of `fs`, and what is left are rows of `es`
-pub record IsWithinSoFar (es rest : Entries) (fs : Entries) : Type 0 where
-  pub known : AllByRecursion (λ e. place_at es e.0 ≡ Some e.1) rest
-  pub left : (q row : List ℕ) → map.get (rows_of es) q ≡ Some row → (map.get (rows_of rest) q ≡ Some row) ⊎ (map.get (rows_of fs) q ≡ Some row)
-
--- at the start
-pub so-far-start : (es fs : Entries) → AllByRecursion (λ e. place_at es e.0 ≡ Some e.1) es → IsWithinSoFar es es fs
-so-far-start es fs k = record { known = k; left = λ q row h. inl h }
-
--- past an entry whose row is among the others
-pub so-far-step : (es rest more : Entries) (fs : Entries) (k : List ℕ) (r : Option (List ℕ)) → IsWithinSoFar es rest fs → rest ≡ (k, r) ∷ more → IfSome r (λ b. map.get (rows_of fs) k ≡ Some b) → IsWithinSoFar es more fs
-so-far-step es rest more fs k r w e same =
-    let w' : IsWithinSoFar es ((k, r) ∷ more) fs = subst (λ x. IsWithinSoFar es x fs) e w in
-    record { known = w'.known.1; left = λ q row h. there q row (w'.left q row h) }
-  where
-    had : (x : Option (List ℕ)) (row : List ℕ) → IfSome x (λ b. map.get (rows_of fs) k ≡ Some b) → x ≡ Some row → map.get (rows_of fs) k ≡ Some row
-    had None row s n = absurd (cc)
-    had (Some b) row s n = s ∙ n
-
-    here : (q row : List ℕ) (b : Bool) → eq_by_cmp bytes_cmp q k ≡ b → cond b r (map.get (rows_of more) q) ≡ Some row → (map.get (rows_of more) q ≡ Some row) ⊎ (map.get (rows_of fs) q ≡ Some row)
-    here q row true t h = inr (ap (map.get (rows_of fs)) (same_place q k t) ∙ had r row same h)
-    here q row false t h = inl h
-
-    there : (q row : List ℕ) → (map.get (rows_of ((k, r) ∷ more)) q ≡ Some row) ⊎ (map.get (rows_of fs) q ≡ Some row) → (map.get (rows_of more) q ≡ Some row) ⊎ (map.get (rows_of fs) q ≡ Some row)
-    there q row (inl h) = here q row (eq_by_cmp bytes_cmp q k) refl (sym (get-set_at (rows_of more) k r q) ∙ h)
-    there q row (inr h) = inr h
-
--- past the last entry
-pub so-far-end : (es rest : Entries) (fs : Entries) → IsWithinSoFar es rest fs → rest ≡ [] → LieWithin (rows_of es) (rows_of fs)
-so-far-end es rest fs w e q row h = there (w.left q row h)
-  where
-    there : (map.get (rows_of rest) q ≡ Some row) ⊎ (map.get (rows_of fs) q ≡ Some row) → map.get (rows_of fs) q ≡ Some row
-    there (inl g) = let n : map.get (rows_of rest) q ≡ None = ap (λ x. map.get (rows_of x) q) e ∙ get-empty bytes_cmp q in absurd (cc)
-    there (inr g) = g
-
--- where the rows lie within the others, so does the row of each entry
-pub so-far-same : (es rest more : Entries) (fs : Entries) (k : List ℕ) (r : Option (List ℕ)) → IsWithinSoFar es rest fs → rest ≡ (k, r) ∷ more → LieWithin (rows_of es) (rows_of fs) → IfSome r (λ b. map.get (rows_of fs) k ≡ Some b)
-so-far-same es rest more fs k r w e lie =
-    let w' : IsWithinSoFar es ((k, r) ∷ more) fs = subst (λ x. IsWithinSoFar es x fs) e w in
-    there r (get_rows_of es k ∙ ap row_of w'.known.0)
-  where
-    there : (x : Option (List ℕ)) → map.get (rows_of es) k ≡ x → IfSome x (λ b. map.get (rows_of fs) k ≡ Some b)
-    there None h = tt
-    there (Some b) h = lie k b h
+    later : (q row : List ℕ) → map.get (rows_of es) q ≡ Some row → (b : Bool) → eq_by_cmp bytes_cmp q e.0 ≡ b → cond b e.1 (map.get (rows_of es) q) ≡ Some row
+    later q row h false n = h
+    later q row h true n =
+        let none : map.get (rows_of es) q ≡ None = ap (map.get (rows_of es)) (same_place q e.0 n) ∙ get_rows_of es e.0 ∙ ap row_of (place_at-above e.0 es s.0) in
+        absurd (cc)
 
 -- rows that lie within each other are the same
 pub same_within : (t u : Tables) → LieWithin t u → LieWithin u t → t ≡ u

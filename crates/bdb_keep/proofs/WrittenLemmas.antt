@@ -1,13 +1,14 @@
 -- The changes of a store, written over the rows last settled, give the rows.
-use Rattle.std.proofs.Common.{◌≡◌, ℕ, ◌<◌, Bool, true, false, cond, List, [], ◌∷◌, length, get_or, zero, suc, subst, arith, Option, Some, refl, sym, ap, ◌∙◌, ◌⊎◌, inl, inr}
+use Rattle.std.proofs.Common.{◌≡◌, ℕ, ◌<◌, Bool, true, false, cond, List, [], ◌∷◌, length, get_or, zero, suc, subst, arith, Some, refl, sym, ap, ◌∙◌, ◌⊎◌, inl, inr}
 use Rattle.std.specs.Prelude.{slice_get}
 use Rattle.std.specs.Ordering.{eq_by_cmp}
 use Rattle.std.specs.FinMap as map
 use Rattle.std.proofs.lemmas.Cmp.{nat_list_cmp_total, eq_by_cmp_equiv}
 use Rattle.bdb_keep.specs.Tables.{Tables, bytes_cmp, set_at}
 use Rattle.bdb_keep.specs.Held.{IsPlace, written}
-use Rattle.bdb_keep.specs.Rows.{Entries, places_of, undone, HavePlaces}
-use Rattle.bdb_keep.specs.declared.rows.Change.{Change}
+use Rattle.bdb_keep.specs.Entries.{Entries}
+use Rattle.bdb_keep.specs.Changes.{places_of, undone, HavePlaces}
+use Rattle.bdb_keep.specs.declared.changes.Change.{Change}
 use Rattle.bdb_keep.proofs.RowsLemmas.{get-set_at, same_place, same_tables}
 
 abbrev Among : List (List ℕ) → List ℕ → Type 0

@@ -1,7 +1,9 @@
+pub mod Blocks
 pub mod Calls
 pub mod Calm
+pub mod Changes
+pub mod Entries
 pub mod Held
-pub mod Rows
 pub mod Scans
 pub mod Seen
 pub mod Struck

@@ -1,6 +1,9 @@
 //! Keepers of rows: tables of byte keys and byte rows with transactions, and the keepers in memory.
 #![tactic(auto)]
 
+mod block;
+mod changes;
+mod finding;
 mod keeper;
 mod ledger;
 mod mem;

@@ -11,15 +11,16 @@ use std::marker::Model;
 /// The place of a row: the number of its table, and its key. A key of at most 24 bytes lies in the value itself.
 #[derive(Drop)]
 pub struct Place {
-    bytes: SmallVec<u8, 25>,
+    tab: u8,
+    key: SmallVec<u8, 24>,
 }
 
 impl Model for Place {
-    ghost use Rattle.std.specs.Prelude.{ℕ, List};
+    ghost use Rattle.std.specs.Prelude.{ℕ, List, ◌∷◌};
 
     ghost Value = { List ℕ };
 
-    ghost view = { λ p. p.bytes.items };
+    ghost view = { λ p. p.tab ∷ p.key.items };
 }
 
 impl Place {
@@ -27,30 +28,30 @@ impl Place {
     pub fn of(alloc: Global, tab: u8, key: &[u8]) -> Result<Self, AllocError>
         ensures { IfOk result (λ place. place ≡ tab ∷ key.now) }
     {
-        let mut bytes = SmallVec::new(alloc);
-        bytes.push(tab)?;
-        bytes.extend_from_slice(key)?;
-        Ok(Place { bytes })
+        let key = SmallVec::from_slice(alloc, key)?;
+        Ok(Place { tab, key })
     }
 
-    /// The same place once more.
-    pub fn copy(&self, alloc: Global) -> Result<Self, AllocError>
-        ensures { IfOk result (λ place. place ≡ self.now) }
+    /// The number of the table, and the key.
+    pub fn parts(&self) -> (u8, &[u8])
+        ensures { self.now ≡ result.0 ∷ result.1.now }
     {
-        let bytes = SmallVec::from_slice(alloc, self.bytes.as_slice())?;
-        Ok(Place { bytes })
+        (self.tab, self.key.as_slice())
     }
 
-    /// The table's number, and then the key.
-    pub fn as_slice(&self) -> &[u8]
-        ensures { result.now ≡ self.now }
+    /// How the place compares with that of a key in a table.
+    pub fn compare(&self, tab: u8, key: &[u8]) -> Ordering
+        ensures { result ≡ bytes_cmp self.now (tab ∷ key.now) }
     {
-        self.bytes.as_slice()
+        match self.tab.cmp(&tab) {
+            Ordering::Equal => compare(self.key.as_slice(), key),
+            other => other,
+        }
     }
 }
 
 /// How two strings of bytes compare. Where both have 24 bytes, these compare as three numbers.
-pub fn compare(a: &[u8], b: &[u8]) -> Ordering
+fn compare(a: &[u8], b: &[u8]) -> Ordering
     ensures { result ≡ bytes_cmp a.now b.now }
 {
     match (head_of(a), head_of(b)) {
@@ -123,61 +124,6 @@ fn word_of(bytes: &[u8]) -> Option<(u64, &[u8])>
         return None;
     }
     Some(number_of(bytes))
-}
-
-impl PartialEq for Place {
-    ghost use Rattle.std.specs.Cmp.{partial_equiv_from_equiv, eq_by_cmp_equiv};
-    ghost use Rattle.std.specs.Ordering.{eq_by_cmp};
-    ghost use Rattle.bdb_keep.specs.Tables.{bytes_cmp};
-    ghost use Rattle.std.proofs.lemmas.Cmp.{nat_list_cmp_total};
-
-    ghost eq = { eq_by_cmp bytes_cmp };
-
-    ghost laws = { partial_equiv_from_equiv (eq_by_cmp_equiv nat_list_cmp_total) };
-
-    fn eq(&self, other: &Self) -> bool {
-        compare(self.bytes.as_slice(), other.bytes.as_slice()) == Ordering::Equal
-    }
-}
-
-impl Eq for Place {
-    ghost use Rattle.std.specs.Cmp.{eq_by_cmp_equiv};
-    ghost use Rattle.std.proofs.lemmas.Cmp.{nat_list_cmp_total};
-
-    ghost laws = { eq_by_cmp_equiv nat_list_cmp_total };
-}
-
-impl PartialOrd for Place {
-    ghost use Rattle.std.specs.Prelude.{Some, refl};
-    ghost use Rattle.std.specs.Cmp.{po};
-    ghost use Rattle.bdb_keep.specs.Tables.{bytes_cmp};
-    ghost use Rattle.std.proofs.lemmas.Cmp.{nat_list_cmp_total};
-
-    ghost partial_cmp = { λ a b. Some (bytes_cmp a b) };
-
-    ghost laws = { po nat_list_cmp_total (λ _ _. refl) };
-
-    fn partial_cmp(&self, other: &Self) -> Option<Ordering> {
-        Some(self.cmp(other))
-    }
-}
-
-impl Ord for Place {
-    ghost use Rattle.std.specs.Prelude.{refl};
-    ghost use Rattle.bdb_keep.specs.Tables.{bytes_cmp};
-    ghost use Rattle.std.proofs.lemmas.Cmp.{nat_list_cmp_total};
-
-    ghost cmp = { bytes_cmp };
-
-    ghost total = { nat_list_cmp_total };
-
-    ghost matches_partial_cmp = { λ _ _. refl };
-
-    ghost matches_eq = { λ _ _. refl };
-
-    fn cmp(&self, other: &Self) -> Ordering {
-        compare(self.bytes.as_slice(), other.bytes.as_slice())
-    }
 }
 
 /// The bytes of a row. At most 16 of them lie in the value itself.

@@ -5,13 +5,10 @@ ghost use Rattle.std.specs.FinMap as map;
 ghost use Rattle.bdb_keep.specs.Held.{IsPlace, written};
 ghost use Rattle.bdb_keep.specs.Tables.{IsLeastFrom, NoneFrom};
 
+use crate::changes::{Change, count_rows_before, insert_row, put_row, roll_back, settle, take_row};
 use crate::place::{Place, Row};
-use crate::rows::{
-    Change, Rows, count_rows_before, first_from, insert_row, lies_within, put_row, read, roll_back,
-    row_at, settle, split, take_row, unset_row,
-};
+use crate::rows::Rows;
 use std::alloc::{AllocError, Global};
-use std::collections::BTreeMap;
 use std::marker::Model;
 
 /// Rows in memory that remember how they were when they were last settled. The room to undo a change is taken before
@@ -30,11 +27,12 @@ impl Model for Store {
 
     ghost coded = { coded_held };
 
-    ghost use Rattle.bdb_keep.specs.Rows.{rows_of, undone, places_of, HavePlaces};
+    ghost use Rattle.bdb_keep.specs.Entries.{rows_of};
+    ghost use Rattle.bdb_keep.specs.Changes.{undone, places_of, HavePlaces};
 
-    ghost view = { λ s. record { kept = rows_of s.rows.entries; last = undone s.changes.items (rows_of s.rows.entries); changes = places_of s.changes.items } };
+    ghost view = { λ s. record { kept = rows_of s.rows; last = undone s.changes.items (rows_of s.rows); changes = places_of s.changes.items } };
 
-    ghost invariant = { λ s. HavePlaces s.changes.items s.rows.entries };
+    ghost invariant = { λ s. HavePlaces s.changes.items s.rows };
 }
 
 impl Store {
@@ -44,34 +42,35 @@ impl Store {
     {
         Store {
             alloc,
-            rows: BTreeMap::new(alloc),
+            rows: Rows::new(alloc),
             changes: Vec::new(alloc),
         }
     }
 
     /// Reads the row at a key into `row`.
-    pub fn get(&self, tab: u8, key: &[u8], row: &mut Vec<u8>) -> Result<bool, AllocError>
-        ensures found { IfOk result (λ found. map.get self.now.kept (tab ∷ key.now) ≡ (if found then Some row.new.items else None)) }
+    pub fn get(&mut self, tab: u8, key: &[u8], row: &mut Vec<u8>) -> Result<bool, AllocError>
+        ensures found { IfOk result (λ found. map.get self.old.kept (tab ∷ key.now) ≡ (if found then Some row.new.items else None)) }
         ensures empty { IfOk result (λ found. found ≡ false → row.new.items ≡ []) }
+        ensures same { self.new ≡ self.old }
     {
-        let place = Place::of(self.alloc, tab, key)?;
-        read(&self.rows, &place, row)
+        self.rows.read(tab, key, row)
     }
 
     /// Reads the least key that isn't below `low`, and its row.
     pub fn next(
-        &self,
+        &mut self,
         tab: u8,
         low: &[u8],
         key: &mut Vec<u8>,
         row: &mut Vec<u8>,
     ) -> Result<bool, AllocError>
         ensures found { IfOk result (λ found. MatchBool found
-            (IsLeastFrom self.now.kept tab low.now key.new.items row.new.items)
-            (NoneFrom self.now.kept tab low.now)) }
+            (IsLeastFrom self.old.kept tab low.now key.new.items row.new.items)
+            (NoneFrom self.old.kept tab low.now)) }
         ensures empty { IfOk result (λ found. found ≡ false → (key.new.items ≡ []) × (row.new.items ≡ [])) }
+        ensures same { self.new ≡ self.old }
     {
-        first_from(self.alloc, &self.rows, tab, low, key, row)
+        self.rows.first_from(tab, low, key, row)
     }
 
     /// Puts a row at a key.
@@ -82,8 +81,7 @@ impl Store {
         ensures changes { OnOk result (self.new.changes ≡ self.old.changes ++ (tab ∷ key.now) ∷ []) }
         ensures err { OnErr result (self.new ≡ self.old) }
     {
-        let place = Place::of(self.alloc, tab, key)?;
-        put_row(self.alloc, &mut self.rows, &mut self.changes, place, row)
+        put_row(self.alloc, &mut self.rows, &mut self.changes, tab, key, row)
     }
 
     /// Takes the row at a key away. The answer tells whether it was there.
@@ -123,27 +121,25 @@ impl Store {
     {
         let emptied = count_rows_before(&self.changes);
         settle(&mut self.rows, &mut self.changes, emptied);
-        let place = Place::of(self.alloc, tab, key)?;
         let copy = Row::of(self.alloc, row)?;
-        insert_row(&mut self.rows, place, copy)?;
+        insert_row(&mut self.rows, tab, key, copy)?;
         Ok(())
     }
 
-    /// Settles the changes, and takes a row away as if it had not stood there. It takes no memory, and looks at each
-    /// place.
+    /// Settles the changes, and takes a row away as if it had not stood there. It takes no memory.
     pub fn unset(&mut self, tab: u8, key: &[u8])
         ensures { let t = map.remove self.old.kept (tab ∷ key.now) in self.new ≡ record { kept = t; last = t; changes = [] } }
     {
         let emptied = count_rows_before(&self.changes);
         settle(&mut self.rows, &mut self.changes, emptied);
-        unset_row(&mut self.rows, tab, key);
+        self.rows.remove(tab, key);
     }
 
     /// Whether both stores have the same rows. It takes no memory.
     pub fn same_rows(&self, other: &Self) -> bool
         ensures { IsTrue result ↔ (self.now.kept ≡ other.now.kept) }
     {
-        lies_within(&self.rows, &other.rows) && lies_within(&other.rows, &self.rows)
+        self.rows.lies_within(&other.rows) && other.rows.lies_within(&self.rows)
     }
 
     /// How many changes are not settled. To write the rows that are now at their places over the rows last settled
@@ -161,7 +157,7 @@ impl Store {
         ensures place { slice_get self.now.changes at ≡ Some (result.0 ∷ result.1.now) }
         ensures table { (1 ≤ result.0) × (result.0 ≤ 15) }
     {
-        split(self.changes[at].place.as_slice())
+        self.changes[at].place.parts()
     }
 
     /// The row that is now at the place of a change; none where it was taken away.
@@ -169,6 +165,7 @@ impl Store {
         requires { at < length self.now.changes }
         ensures { IfSome (slice_get self.now.changes at) (λ place. option_map (λ row. row.now) result ≡ map.get self.now.kept place) }
     {
-        row_at(&self.rows, &self.changes[at].place)
+        let (tab, key) = self.changes[at].place.parts();
+        self.rows.row_at(tab, key)
     }
 }

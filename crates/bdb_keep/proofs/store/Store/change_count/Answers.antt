@@ -1,6 +1,6 @@
 use Rattle.std.proofs.Common.{◌≡◌, ◌∙◌, sym, ap, subst, length, rules}
 use Rattle.bdb_keep.specs.Held.{written}
-use Rattle.bdb_keep.specs.Rows.{rows_of}
+use Rattle.bdb_keep.specs.Entries.{rows_of}
 use Rattle.bdb_keep.proofs.WrittenLemmas.{written-undone, length-places_of}
 use Rattle.bdb_keep.proofs.store.Store.change_count.Goals as goal
 
@@ -10,4 +10,4 @@ returns-clause-count c =
     e ∙ sym (length-places_of c.self.inside.changes.items) ∙ ap (λ h. length h.changes) c.self.view_is
 
 pub returns-clause-written : goal.returns-clause-written
-returns-clause-written c = subst (λ h. written h.changes h.kept h.last ≡ h.kept) c.self.view_is (written-undone c.self.inside.changes.items (rows_of c.self.inside.rows.entries))
+returns-clause-written c = subst (λ h. written h.changes h.kept h.last ≡ h.kept) c.self.view_is (written-undone c.self.inside.changes.items (rows_of c.self.inside.rows))

@@ -1,0 +1,15 @@
+use Rattle.std.proofs.Common.{ap, ◌∙◌}
+use Rattle.bdb_keep.specs.Entries.{rows_of}
+use Rattle.bdb_keep.specs.Blocks.{joined}
+use Rattle.bdb_keep.proofs.FirstLemmas.{rows_of-kept}
+use Rattle.bdb_keep.proofs.BlocksLemmas.{sorted-without, joined-without}
+use Rattle.bdb_keep.proofs.rows.Rows.drop_all_empty.Goals as goal
+
+pub invariant_of-self : goal.invariant_of-self
+invariant_of-self c =
+    sorted-without c.self.inside.blocks.items c.drop_empty_blocks.new.blocks.items c.self.invariant (c.drop_empty_blocks.ensures.same ∙ ap joined c.drop_empty_places.ensures) c.drop_empty_blocks.ensures.full
+
+pub returns : goal.returns
+returns c =
+    ap rows_of (c.drop_empty_blocks.ensures.same ∙ ap joined c.drop_empty_places.ensures ∙ joined-without c.self.inside.blocks.items)
+    ∙ rows_of-kept (joined c.self.inside.blocks.items) c.self.invariant.ascends ∙ ap rows_of c.self.view_is

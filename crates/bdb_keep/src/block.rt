@@ -1,0 +1,143 @@
+// A block of places in their order.
+ghost use Rattle.std.specs.Prelude.{◌≡◌, ◌<◌, ◌≤◌, ◌∷◌, ◌++◌, [], Some, None, IfOk, OnOk, OnErr, not, length, take, drop, slice_set};
+ghost use Prim.Native.Nat.{suc};
+ghost use Rattle.std.specs.Ordering.{is_lt};
+ghost use Rattle.bdb_keep.specs.Tables.{bytes_cmp};
+ghost use Rattle.bdb_keep.specs.Entries.{AreBelow, NoneBelow, IsAscending};
+ghost use Rattle.bdb_keep.specs.Blocks.{entry_at, starts_within, without_empty, has_any};
+
+use crate::place::{Place, Row};
+use std::alloc::{AllocError, Global};
+use std::marker::Model;
+use std::mem::replace;
+
+/// The most places of a block.
+pub const CAPACITY: usize = 64;
+
+/// A place with its row, or with none where the row was removed in the running transaction.
+pub type Entry = (Place, Option<Row>);
+
+/// A block of places in ascending order.
+#[derive(Drop)]
+pub struct Block {
+    entries: Vec<Entry>,
+}
+
+impl Model for Block {
+    ghost use Rattle.bdb_keep.specs.Entries.{Entries};
+
+    ghost Value = { Entries };
+
+    ghost view = { λ b. b.entries.items };
+}
+
+impl Block {
+    /// A block of one place with its row.
+    pub fn of(alloc: Global, place: Place, row: Row) -> Result<Self, AllocError>
+        ensures { IfOk result (λ block. block ≡ (place, Some row) ∷ []) }
+    {
+        let mut entries = Vec::new(alloc);
+        entries.push((place, Some(row)))?;
+        Ok(Block { entries })
+    }
+
+    /// How many places there are.
+    pub fn len(&self) -> usize
+        ensures { result ≡ length self.now }
+    {
+        self.entries.len()
+    }
+
+    /// Whether there is no place.
+    pub fn is_empty(&self) -> bool
+        ensures { result ≡ not (has_any self.now) }
+    {
+        self.entries.is_empty()
+    }
+
+    /// The entry at an index.
+    pub fn entry(&self, index: usize) -> &Entry
+        requires { index < length self.now }
+        ensures { result.now ≡ entry_at self.now index }
+    {
+        &self.entries[index]
+    }
+
+    /// All entries.
+    pub fn entries(&self) -> &[Entry]
+        ensures { result.now ≡ self.now }
+    {
+        self.entries.as_slice()
+    }
+
+    /// Whether the first place isn't above that of a key in a table.
+    pub fn starts_within(&self, tab: u8, key: &[u8]) -> bool
+        ensures { result ≡ starts_within (tab ∷ key.now) self.now }
+    {
+        match self.entries.first() {
+            Some(entry) => entry.0.compare(tab, key).is_le(),
+            None => true,
+        }
+    }
+
+    /// The index of the first place that isn't below that of a key in a table.
+    pub fn lower_bound(&self, tab: u8, key: &[u8]) -> usize
+        requires { IsAscending self.now }
+        ensures within { result ≤ length self.now }
+        ensures below { AreBelow (tab ∷ key.now) (take result self.now) }
+        ensures above { NoneBelow (tab ∷ key.now) (drop result self.now) }
+    {
+        self.entries.as_slice().partition_point(
+            |entry: &Entry| -> bool
+                ensures { result ≡ is_lt (bytes_cmp entry.now.0 (tab ∷ key.entry.now)) }
+            { entry.0.compare(tab, key).is_lt() },
+        )
+    }
+
+    /// Puts another row at an index, and answers what stood there.
+    pub fn replace(&mut self, index: usize, row: Option<Row>) -> Option<Row>
+        requires { index < length self.old }
+        ensures before { result ≡ (entry_at self.old index).1 }
+        ensures block { self.new ≡ slice_set self.old index ((entry_at self.old index).0, row) }
+    {
+        replace(&mut self.entries[index].1, row)
+    }
+
+    /// Puts a place with its row in at an index.
+    pub fn insert(&mut self, index: usize, place: Place, row: Row) -> Result<(), AllocError>
+        requires { index ≤ length self.old }
+        ensures ok { OnOk result (self.new ≡ take index self.old ++ (place, Some row) ∷ drop index self.old) }
+        ensures err { OnErr result (self.new ≡ self.old) }
+    {
+        match self.entries.insert(index, (place, Some(row))) {
+            Ok(()) => Ok(()),
+            Err(_) => Err(AllocError),
+        }
+    }
+
+    /// Takes the place at an index out.
+    pub fn remove(&mut self, index: usize)
+        requires { index < length self.old }
+        ensures { self.new ≡ take index self.old ++ drop (suc index) self.old }
+    {
+        self.entries.remove(index);
+    }
+
+    /// Cuts the places from an index on off.
+    pub fn split_off(&mut self, index: usize) -> Result<Block, AllocError>
+        requires { index ≤ length self.old }
+        ensures front { OnOk result (self.new ≡ take index self.old) }
+        ensures back { IfOk result (λ block. block ≡ drop index self.old) }
+        ensures err { OnErr result (self.new ≡ self.old) }
+    {
+        let entries = self.entries.split_off(index)?;
+        Ok(Block { entries })
+    }
+
+    /// Takes all empty places out.
+    pub fn drop_empty(&mut self)
+        ensures { self.new ≡ without_empty self.old }
+    {
+        self.entries.retain(|entry| entry.1.is_some());
+    }
+}

@@ -1,0 +1,173 @@
+// The changes that a transaction made to the rows.
+ghost use Rattle.std.specs.Prelude.{◌≡◌, ◌++◌, ◌∷◌, [], Some, None, IfOk, IfErr, IfNone, OnSome, OnOk, OnErr, IsSome, is_some, if◌then◌else◌};
+ghost use Rattle.std.specs.FinMap as map;
+ghost use Rattle.bdb_keep.specs.Held.{IsPlace};
+ghost use Rattle.bdb_keep.specs.Entries.{place_at, rows_of, row_of, KeepsPlaces};
+ghost use Rattle.bdb_keep.specs.Changes.{undone, places_of, HavePlaces};
+ghost use Rattle.bdb_keep.specs.Tables.{set_at};
+
+use crate::block::CAPACITY;
+use crate::place::{Place, Row};
+use crate::rows::Rows;
+use std::alloc::{AllocError, Global};
+
+/// A change of a transaction: where it was made, and the row that stood there before.
+#[derive(Drop)]
+pub struct Change {
+    pub place: Place,
+    pub before: Option<Row>,
+}
+
+/// Puts what stands at a place, and answers what stood there. The answer is the new row where there is no such place.
+pub fn swap_row(
+    rows: &mut Rows,
+    place: &Place,
+    row: Option<Row>,
+) -> Result<Option<Row>, Option<Row>>
+    ensures found { IfOk result (λ before. place_at rows.old place.now ≡ Some before) }
+    ensures rows { OnOk result (rows_of rows.new ≡ set_at (rows_of rows.old) place.now row) }
+    ensures keeps { KeepsPlaces rows.old rows.new }
+    ensures absent { OnErr result (place_at rows.old place.now ≡ None) }
+    ensures back { IfErr result (λ back. back ≡ row) }
+    ensures same { OnErr result (rows.new ≡ rows.old) }
+{
+    let (tab, key) = place.parts();
+    match rows.swap(tab, key, row) {
+        Ok(before) => Ok(before),
+        Err(row) => Err(row),
+    }
+}
+
+/// Puts a row at a place, which may be new, and answers the row that stood there.
+pub fn insert_row(rows: &mut Rows, tab: u8, key: &[u8], row: Row) -> Result<Option<Row>, AllocError>
+    ensures before { IfOk result (λ before. row_of (place_at rows.old (tab ∷ key.now)) ≡ before) }
+    ensures rows { OnOk result (rows_of rows.new ≡ set_at (rows_of rows.old) (tab ∷ key.now) (Some row)) }
+    ensures here { OnOk result (IsSome (place_at rows.new (tab ∷ key.now))) }
+    ensures keeps { OnOk result (KeepsPlaces rows.old rows.new) }
+    ensures err { OnErr result (rows.new ≡ rows.old) }
+{
+    match rows.insert(tab, key, row) {
+        Ok(Some(before)) => Ok(before),
+        Ok(None) => Ok(None),
+        Err(error) => Err(error),
+    }
+}
+
+/// Empties a place, and answers the row that stood there.
+pub fn empty_place(rows: &mut Rows, place: &Place) -> Option<Row>
+    ensures row { result ≡ map.get (rows_of rows.old) place.now }
+    ensures rows { rows_of rows.new ≡ map.remove (rows_of rows.old) place.now }
+    ensures here { OnSome result (IsSome (place_at rows.new place.now)) }
+    ensures keeps { KeepsPlaces rows.old rows.new }
+    ensures same { IfNone result (rows_of rows.new ≡ rows_of rows.old) }
+{
+    match swap_row(rows, place, None) {
+        Ok(before) => before,
+        Err(_) => None,
+    }
+}
+
+/// Puts a row at a place, and keeps in the list of changes what stood there. After a refusal nothing changed.
+pub fn put_row(
+    alloc: Global,
+    rows: &mut Rows,
+    changes: &mut Vec<Change>,
+    tab: u8,
+    key: &[u8],
+    row: &[u8],
+) -> Result<(), AllocError>
+    requires place { IsPlace (tab ∷ key.now) }
+    requires has { HavePlaces changes.old.items rows.old }
+    ensures rows { OnOk result (rows_of rows.new ≡ map.insert (rows_of rows.old) (tab ∷ key.now) row.now) }
+    ensures last { undone changes.new.items (rows_of rows.new) ≡ undone changes.old.items (rows_of rows.old) }
+    ensures places { OnOk result (places_of changes.new.items ≡ places_of changes.old.items ++ (tab ∷ key.now) ∷ []) }
+    ensures has { HavePlaces changes.new.items rows.new }
+    ensures err { OnErr result ((rows.new ≡ rows.old) × (changes.new.items ≡ changes.old.items)) }
+{
+    changes.reserve(1)?;
+    let place = Place::of(alloc, tab, key)?;
+    let copy = Row::of(alloc, row)?;
+    let before = insert_row(rows, tab, key, copy)?;
+    changes.push_reserved(Change { place, before });
+    Ok(())
+}
+
+/// Empties a place, and keeps in the list of changes the row that stood there. The answer tells whether there was one.
+/// After a refusal nothing changed.
+pub fn take_row(
+    rows: &mut Rows,
+    changes: &mut Vec<Change>,
+    place: Place,
+) -> Result<bool, AllocError>
+    requires place { IsPlace place }
+    requires has { HavePlaces changes.old.items rows.old }
+    ensures found { IfOk result (λ found. found ≡ is_some (map.get (rows_of rows.old) place)) }
+    ensures rows { OnOk result (rows_of rows.new ≡ map.remove (rows_of rows.old) place) }
+    ensures last { undone changes.new.items (rows_of rows.new) ≡ undone changes.old.items (rows_of rows.old) }
+    ensures places { IfOk result (λ found. places_of changes.new.items ≡ (if found then places_of changes.old.items ++ place ∷ [] else places_of changes.old.items)) }
+    ensures has { HavePlaces changes.new.items rows.new }
+    ensures err { OnErr result ((rows.new ≡ rows.old) × (changes.new.items ≡ changes.old.items)) }
+{
+    changes.reserve(1)?;
+    match empty_place(rows, &place) {
+        Some(row) => {
+            changes.push_reserved(Change {
+                place,
+                before: Some(row),
+            });
+            Ok(true)
+        }
+        None => Ok(false),
+    }
+}
+
+/// How many of the changes have a row that stood there before: at most so many places are empty.
+pub fn count_rows_before(changes: &[Change]) -> usize {
+    changes
+        .iter()
+        .filter(|change| change.before.is_some())
+        .count()
+}
+
+/// Forgets the changes, and takes the empty places away, of which at most so many are among the places of the changes.
+/// Where they are many it walks over all rows, where there is none over nothing.
+pub fn settle(rows: &mut Rows, changes: &mut Vec<Change>, emptied: usize)
+    ensures rows { rows_of rows.new ≡ rows_of rows.old }
+    ensures none { changes.new.items ≡ [] }
+{
+    if emptied == 0 {
+        changes.clear();
+        return;
+    }
+    if emptied / CAPACITY > rows.block_count() / 8 {
+        rows.drop_all_empty();
+        changes.clear();
+        return;
+    }
+    while let Some(change) = changes.pop() {
+        let (tab, key) = change.place.parts();
+        rows.drop_empty(tab, key);
+    }
+}
+
+/// Undoes the changes, the newest first, and leaves their places.
+pub fn roll_back(rows: &mut Rows, changes: &mut Vec<Change>)
+    requires { HavePlaces changes.old.items rows.old }
+    ensures { rows_of rows.new ≡ undone changes.old.items (rows_of rows.old) }
+{
+    let mut at = changes.len();
+    while at > 0 {
+        at -= 1;
+        put_back(rows, &mut changes[at]);
+    }
+}
+
+/// Undoes a change. Its place is there.
+pub fn put_back(rows: &mut Rows, change: &mut Change)
+    requires { IsSome (place_at rows.old change.old.place) }
+    ensures rows { rows_of rows.new ≡ set_at (rows_of rows.old) change.old.place change.old.before }
+    ensures keeps { KeepsPlaces rows.old rows.new }
+{
+    let before = change.before.take();
+    let _ = swap_row(rows, &change.place, before);
+}
