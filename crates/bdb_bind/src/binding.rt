@@ -25,7 +25,7 @@ use crate::query_items::QueryItems;
 use crate::query_making::bound_query;
 use crate::shape::{check_arity, check_depth, check_items, check_repeat, check_texts};
 use crate::unsafes::check_safe;
-use bdb_base::{Catalog, List, Query};
+use bdb_base::{Catalog, Exact, List, Query};
 use bdb_syntax::{Command, RawQuery};
 use std::alloc::Global;
 
@@ -36,37 +36,60 @@ pub fn bind(alloc: Global, catalog: &Catalog, command: &Command) -> Result<Bound
     ensures ok { IfOk result (λ b. (refusal_of catalog.now command.now ≡ None) × (b ≡ bound_of catalog.now command.now)) }
     ensures refused { IfErr result (λ e. e ≢ BindError.Memory → refusal_of catalog.now command.now ≡ Some e) }
 {
-    let bound = bind_by(alloc, catalog, &NameIndex::new(alloc), command)?;
-    Ok(bound)
+    match command.try_clone(alloc) {
+        Ok(copy) => {
+            let bound = bind_by(alloc, catalog, &NameIndex::new(alloc), copy)?;
+            Ok(bound)
+        }
+        Err(_) => Err(BindError::Memory),
+    }
 }
 
-/// The same, where an index tells where names stand: that of the catalog makes it fast, whatever the catalog's size.
-#[tactic(auto, using(crate::proofs::RefusalLemmas::select_refusal, crate::proofs::RefusalLemmas::explain_refusal, crate::proofs::RefusalLemmas::text_refused, crate::proofs::RefusalLemmas::change_refusal))]
+/// The same of a command that is given up, whose values are moved; and where an index tells where names stand: that of the
+/// catalog makes it fast, whatever the catalog's size.
 pub fn bind_by(
     alloc: Global,
     catalog: &Catalog,
     index: &NameIndex,
-    command: &Command,
+    command: Command,
 ) -> Result<Bound, BindError>
     requires catalog { IsCatalog catalog.now }
-    ensures ok { IfOk result (λ b. (refusal_of catalog.now command.now ≡ None) × (b ≡ bound_of catalog.now command.now)) }
-    ensures refused { IfErr result (λ e. e ≢ BindError.Memory → refusal_of catalog.now command.now ≡ Some e) }
+    ensures ok { IfOk result (λ b. (refusal_of catalog.now command ≡ None) × (b ≡ bound_of catalog.now command)) }
+    ensures refused { IfErr result (λ e. e ≢ BindError.Memory → refusal_of catalog.now command ≡ Some e) }
+{
+    let mut command = command;
+    match bind_taking(alloc, catalog, index, &mut command) {
+        Ok(bound) => Ok(bound),
+        Err(error) => Err(error),
+    }
+}
+
+/// Binds a command, whose values may be taken out of it.
+#[tactic(auto, using(crate::proofs::RefusalLemmas::select_refusal, crate::proofs::RefusalLemmas::explain_refusal, crate::proofs::RefusalLemmas::text_refused, crate::proofs::RefusalLemmas::change_refusal))]
+fn bind_taking(
+    alloc: Global,
+    catalog: &Catalog,
+    index: &NameIndex,
+    command: &mut Command,
+) -> Result<Bound, BindError>
+    requires catalog { IsCatalog catalog.now }
+    ensures ok { IfOk result (λ b. (refusal_of catalog.now command.old ≡ None) × (b ≡ bound_of catalog.now command.old)) }
+    ensures refused { IfErr result (λ e. e ≢ BindError.Memory → refusal_of catalog.now command.old ≡ Some e) }
 {
     check_texts(command)?;
-    match command {
+    match &*command {
         Command::Select { query } => {
             let query = bind_query(alloc, catalog, query)?;
-            Ok(Bound::Select { query })
+            return Ok(Bound::Select { query });
         }
         Command::Explain { query } => {
             let query = bind_query(alloc, catalog, query)?;
-            Ok(Bound::Explain { query })
+            return Ok(Bound::Explain { query });
         }
-        _ => {
-            let bound = bind_change(alloc, catalog, index, command)?;
-            Ok(bound)
-        }
+        _ => {}
     }
+    let bound = bind_change(alloc, catalog, index, command)?;
+    Ok(bound)
 }
 
 /// Binds a query.
@@ -115,13 +138,13 @@ fn bind_change(
     alloc: Global,
     catalog: &Catalog,
     index: &NameIndex,
-    command: &Command,
+    command: &mut Command,
 ) -> Result<Bound, BindError>
     requires catalog { IsCatalog catalog.now }
-    requires change { query_of command.now ≡ None }
-    requires texts { text_line command.now ≡ None }
-    ensures checks { Checks result (change_refused catalog.now command.now) }
-    ensures bound { IfOk result (λ b. b ≡ bound_of catalog.now command.now) }
+    requires change { query_of command.old ≡ None }
+    requires texts { text_line command.old ≡ None }
+    ensures checks { Checks result (change_refused catalog.now command.old) }
+    ensures bound { IfOk result (λ b. b ≡ bound_of catalog.now command.old) }
 {
     let found = find_relation(catalog, index, command);
     let ids = check_change(alloc, catalog, index, &found, command)?;

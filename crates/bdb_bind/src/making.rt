@@ -18,6 +18,7 @@ use bdb_base::{
 };
 use bdb_syntax::{Command, RawCond, RawSet, RawSide};
 use std::alloc::{AllocError, Global};
+use std::mem;
 
 /// The uid of a name that is a user's.
 pub fn uid_at(users: &[Txt], name: &Txt) -> u32
@@ -147,14 +148,13 @@ fn bound_insert(
     ids: &[u32],
     sign: Sign,
     rel: u32,
-    vals: &List<Value>,
+    vals: List<Value>,
 ) -> Result<Bound, AllocError>
     requires alternates { alternates ids.now ≡ true }
-    requires filled { 0 < length vals.now }
-    ensures { IfOk result (λ b. b ≡ Bound.Insert (record { path = ids.now; sign = sign; tuple = record { rel = rel; vals = vals.now } })) }
+    requires filled { 0 < length vals }
+    ensures { IfOk result (λ b. b ≡ Bound.Insert (record { path = ids.now; sign = sign; tuple = record { rel = rel; vals = vals } })) }
 {
     let path = path_of(alloc, ids)?;
-    let vals = vals.try_clone(alloc)?;
     let tuple = Tuple { rel, vals };
     let stmt = Stmt { path, sign, tuple };
     Ok(Bound::Insert { stmt })
@@ -235,15 +235,15 @@ pub fn bound_change(
     catalog: &Catalog,
     found: &Found,
     ids: &[u32],
-    command: &Command,
+    command: &mut Command,
 ) -> Result<Bound, AllocError>
     requires catalog { IsCatalog catalog.now }
-    requires change { query_of command.now ≡ None }
-    requires accepted { names_refused catalog.now command.now ≡ None }
-    requires place { found.now.place ≡ relation_place catalog.now.rels command.now }
-    requires cols { found.now.cols.now ≡ change_columns catalog.now.rels command.now }
-    requires ids { ids.now ≡ path_of catalog.now.users (path_names command.now) }
-    ensures { IfOk result (λ b. b ≡ bound_of catalog.now command.now) }
+    requires change { query_of command.old ≡ None }
+    requires accepted { names_refused catalog.now command.old ≡ None }
+    requires place { found.now.place ≡ relation_place catalog.now.rels command.old }
+    requires cols { found.now.cols.now ≡ change_columns catalog.now.rels command.old }
+    requires ids { ids.now ≡ path_of catalog.now.users (path_names command.old) }
+    ensures { IfOk result (λ b. b ≡ bound_of catalog.now command.old) }
 {
     let (rel, cols) = (number_at(found.place), found.cols);
     match command {
@@ -252,7 +252,10 @@ pub fn bound_change(
             Ok(Bound::CreateUser { name })
         }
         Command::CreateRelation { name, cols } => bound_relation(alloc, name, cols),
-        Command::Insert { sign, vals, .. } => bound_insert(alloc, ids, *sign, rel, vals),
+        Command::Insert { sign, vals, .. } => {
+            let vals = mem::replace(vals, List::new(alloc));
+            bound_insert(alloc, ids, *sign, rel, vals)
+        }
         Command::Delete { sign, conds, .. } => {
             bound_delete(alloc, ids, *sign, rel, cols, conds.as_slice())
         }

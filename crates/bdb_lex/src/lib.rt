@@ -15,6 +15,7 @@ mod run;
 mod tests;
 mod token;
 mod token_laws;
+mod token_text;
 mod word;
 
 pub use cut::Cutter;
@@ -26,3 +27,4 @@ pub use mode::Mode;
 pub use reader::tokens;
 pub use token::{LexError, Piece, Rest, Token};
 pub use token_laws::{tokens_are_formed, tokens_are_spelled};
+pub use token_text::TokenText;

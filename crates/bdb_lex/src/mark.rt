@@ -9,7 +9,7 @@ use crate::token::Token;
 
 /// The token of marks that begins with this byte and these behind it, and the bytes behind the token; none where there is
 /// none.
-pub fn mark_behind(first: u8, bytes: &[u8]) -> Option<(Token, &[u8])>
+pub fn mark_behind(first: u8, bytes: &[u8]) -> Option<(Token<'_>, &[u8])>
     requires { is_mark_byte first ≡ true }
     ensures some { IfSome result (λ read. ReadsOn (started first) bytes.now read.0 read.1.now) }
     ensures none { IfNone result (tokens_from (started first) bytes.now ≡ None) }
@@ -26,7 +26,7 @@ pub fn mark_behind(first: u8, bytes: &[u8]) -> Option<(Token, &[u8])>
 }
 
 /// The token that this byte is by itself, whatever follows it; none where it is none.
-fn single_mark(byte: u8) -> Option<Token>
+fn single_mark<'a>(byte: u8) -> Option<Token<'a>>
     requires mark { is_mark_byte byte ≡ true }
     requires no_bang { byte ≢ 33 }
     requires no_less { byte ≢ 60 }
@@ -50,7 +50,7 @@ fn single_mark(byte: u8) -> Option<Token>
 }
 
 /// The token that a `!` and these bytes begin with; none where there is none.
-fn after_bang(bytes: &[u8]) -> Option<(Token, &[u8])>
+fn after_bang(bytes: &[u8]) -> Option<(Token<'_>, &[u8])>
     ensures some { IfSome result (λ read. ReadsOn after_bang bytes.now read.0 read.1.now) }
     ensures none { IfNone result (tokens_from after_bang bytes.now ≡ None) }
 {
@@ -61,7 +61,7 @@ fn after_bang(bytes: &[u8]) -> Option<(Token, &[u8])>
 }
 
 /// The token that a `<` and these bytes begin with.
-fn after_less(bytes: &[u8]) -> (Token, &[u8])
+fn after_less(bytes: &[u8]) -> (Token<'_>, &[u8])
     ensures { ReadsOn (whole Token.Lt) bytes.now result.0 result.1.now }
 {
     match bytes {
@@ -72,7 +72,7 @@ fn after_less(bytes: &[u8]) -> (Token, &[u8])
 }
 
 /// The token that a `>` and these bytes begin with.
-fn after_greater(bytes: &[u8]) -> (Token, &[u8])
+fn after_greater(bytes: &[u8]) -> (Token<'_>, &[u8])
     ensures { ReadsOn (whole Token.Gt) bytes.now result.0 result.1.now }
 {
     match bytes {

@@ -7,18 +7,18 @@ ghost use Rattle.bdb_lex.specs.Reading.{begins, ReadsOn, IsParted, is_no_quote};
 
 use crate::bytes::after_byte;
 use crate::token::{LexError, Token};
-use crate::word::text_of;
+use crate::word::{own_text_of, text_of};
 use std::alloc::Global;
 
 /// The text literal behind its first quote, and the bytes behind it. `NotTokens` comes exactly where it isn't closed or its
 /// content isn't allowed.
-pub fn text_behind(alloc: Global, bytes: &[u8]) -> Result<(Token, &[u8]), LexError>
+pub fn text_behind(alloc: Global, bytes: &[u8]) -> Result<(Token<'_>, &[u8]), LexError>
     ensures ok { IfOk result (λ read. ReadsOn (in_text []) bytes.now read.0 read.1.now) }
     ensures not_tokens { IsErrOf result LexError.NotTokens → tokens_from (in_text []) bytes.now ≡ None }
 {
     match undoubled(bytes) {
         Some((content, after)) => {
-            let token = text_token(alloc, content)?;
+            let token = text_token(content)?;
             Ok((token, after))
         }
         None => doubled_text_behind(alloc, bytes),
@@ -38,7 +38,7 @@ fn undoubled(bytes: &[u8]) -> Option<(&[u8], &[u8])>
 }
 
 /// The same as `text_behind`, where quotes may be doubled. It puts the parts between them together.
-fn doubled_text_behind(alloc: Global, bytes: &[u8]) -> Result<(Token, &[u8]), LexError>
+fn doubled_text_behind(alloc: Global, bytes: &[u8]) -> Result<(Token<'_>, &[u8]), LexError>
     ensures ok { IfOk result (λ read. ReadsOn (in_text []) bytes.now read.0 read.1.now) }
     ensures not_tokens { IsErrOf result LexError.NotTokens → tokens_from (in_text []) bytes.now ≡ None }
 {
@@ -50,7 +50,7 @@ fn doubled_text_behind(alloc: Global, bytes: &[u8]) -> Result<(Token, &[u8]), Le
         };
         content.extend_from_slice(part)?;
         let Some(others) = after_byte(b'\'', after) else {
-            let token = text_token(alloc, content.as_slice())?;
+            let token = own_text_token(content)?;
             return Ok((token, after));
         };
         content.extend_from_slice(b"'")?;
@@ -72,7 +72,7 @@ fn parted(bytes: &[u8]) -> Option<(&[u8], &[u8])>
 }
 
 /// The text literal of a content. `NotTokens` comes exactly where the content isn't allowed.
-fn text_token(alloc: Global, content: &[u8]) -> Result<Token, LexError>
+fn text_token(content: &[u8]) -> Result<Token<'_>, LexError>
     ensures ok { IfOk result (λ token. token ≡ Token.Text content.now) }
     ensures allowed { OnOk result (is_content content.now ≡ true) }
     ensures not_tokens { IsErrOf result LexError.NotTokens → is_content content.now ≡ false }
@@ -80,7 +80,20 @@ fn text_token(alloc: Global, content: &[u8]) -> Result<Token, LexError>
     if !has_no_control(content) {
         return Err(LexError::NotTokens);
     }
-    let text = text_of(alloc, content)?;
+    let text = text_of(content)?;
+    Ok(Token::Text(text))
+}
+
+/// The same, of a content that was put together.
+fn own_text_token<'a>(content: Vec<u8>) -> Result<Token<'a>, LexError>
+    ensures ok { IfOk result (λ token. token ≡ Token.Text content.items) }
+    ensures allowed { OnOk result (is_content content.items ≡ true) }
+    ensures not_tokens { IsErrOf result LexError.NotTokens → is_content content.items ≡ false }
+{
+    if !has_no_control(content.as_slice()) {
+        return Err(LexError::NotTokens);
+    }
+    let text = own_text_of(content)?;
     Ok(Token::Text(text))
 }
 

@@ -12,15 +12,15 @@ use crate::word::{num_at, word_at};
 use bdb_base::List;
 use std::alloc::Global;
 
-/// For how many tokens there is room from the start. Most commands have no more.
-const USUAL_COUNT: usize = 32;
+/// For how many tokens there is room from the start, at most. Most commands have no more.
+const USUAL_COUNT: usize = 24;
 
 /// The tokens of a piece, each the longest that fits. `NotTokens` comes exactly where the piece is no list of tokens.
-pub fn tokens(alloc: Global, piece: &[u8]) -> Result<List<Token>, LexError>
+pub fn tokens(alloc: Global, piece: &[u8]) -> Result<List<Token<'_>>, LexError>
     ensures ok { IfOk result (λ ts. tokens_of piece.now ≡ Some ts) }
     ensures not_tokens { IsErrOf result LexError.NotTokens → tokens_of piece.now ≡ None }
 {
-    let mut found = List::from_vec(Vec::with_capacity(alloc, USUAL_COUNT)?);
+    let mut found = List::from_vec(Vec::with_capacity(alloc, usual_count(piece.len()))?);
     let mut rest = after_gaps(piece);
     while let [first, ..] = rest {
         let (token, after) = token_at(alloc, *first, rest)?;
@@ -30,17 +30,23 @@ pub fn tokens(alloc: Global, piece: &[u8]) -> Result<List<Token>, LexError>
     Ok(found)
 }
 
+/// For how many tokens there is room from the start in a piece of so many bytes: for one in four bytes, and no more than
+/// most commands have.
+fn usual_count(len: usize) -> usize {
+    (len / 4 + 1).min(USUAL_COUNT)
+}
+
 /// The token at the front, and the bytes behind it. `NotTokens` comes exactly where there is none.
-fn token_at(alloc: Global, first: u8, bytes: &[u8]) -> Result<(Token, &[u8]), LexError>
+fn token_at(alloc: Global, first: u8, bytes: &[u8]) -> Result<(Token<'_>, &[u8]), LexError>
     requires first { begins (λ b. nat_eq first b) bytes.now ≡ true }
     requires no_gap { begins_gap bytes.now ≡ false }
     ensures ok { IfOk result (λ read. Reads bytes.now read.0 read.1.now) }
     ensures not_tokens { IsErrOf result LexError.NotTokens → tokens_of bytes.now ≡ None }
 {
     if is_letter(first) {
-        word_at(alloc, bytes)
+        word_at(bytes)
     } else if is_digit(first) || first == b'-' {
-        num_at(alloc, bytes)
+        num_at(bytes)
     } else if first == b'\'' {
         text_behind(alloc, &bytes[1..])
     } else {

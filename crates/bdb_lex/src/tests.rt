@@ -23,7 +23,7 @@ fn shown(alloc: Global, piece: &[u8]) -> Result<String, AllocError> {
     Ok(line)
 }
 
-fn spelled(token: &Token) -> (&str, &str) {
+fn spelled<'a>(token: &'a Token<'_>) -> (&'a str, &'a str) {
     match token {
         Token::Word(text) => ("w:", text.as_str()),
         Token::Text(text) => ("t:", text.as_str()),

@@ -1,19 +1,20 @@
 // Pieces and tokens.
 ghost use Rattle.std.specs.Prelude.{◌≡◌, IfOk};
 
-use bdb_base::{Exact, List, Txt};
+use crate::token_text::TokenText;
+use bdb_base::{Exact, List};
 use std::alloc::{AllocError, Global};
 use thiserror::Error;
 
 /// A token of BeliefSQL.
 #[derive(Drop)]
-pub enum Token {
+pub enum Token<'a> {
     /// A keyword or a name, as written.
-    Word(Txt),
+    Word(TokenText<'a>),
     /// A text literal: its content, where a doubled quote stands once.
-    Text(Txt),
+    Text(TokenText<'a>),
     /// A number literal, as written.
-    Num(Txt),
+    Num(TokenText<'a>),
     Comma,
     Dot,
     ParenL,
@@ -66,7 +67,7 @@ impl From<AllocError> for LexError {
     }
 }
 
-impl Exact for Token {
+impl<'a> Exact for Token<'a> {
     fn try_clone(&self, alloc: Global) -> Result<Self, AllocError> {
         match self {
             Token::Word(text) => Ok(Token::Word(text.try_clone(alloc)?)),

@@ -9,12 +9,11 @@ ghost use Rattle.bdb_lex.specs.Reading.{begins, begins_gap, begins_num, is_num, 
 
 use crate::bytes::{is_digit, is_word_byte};
 use crate::token::{LexError, Token};
-use bdb_base::Txt;
+use crate::token_text::TokenText;
 use bdb_base::limits::LONGEST_WORD;
-use std::alloc::Global;
 
 /// The word at the front, and the bytes behind it. `NotTokens` comes exactly where it is too long.
-pub fn word_at(alloc: Global, bytes: &[u8]) -> Result<(Token, &[u8]), LexError>
+pub fn word_at(bytes: &[u8]) -> Result<(Token<'_>, &[u8]), LexError>
     requires { begins is_letter bytes.now ≡ true }
     ensures ok { IfOk result (λ read. Reads bytes.now read.0 read.1.now) }
     ensures not_tokens { IsErrOf result LexError.NotTokens → tokens_of bytes.now ≡ None }
@@ -24,12 +23,11 @@ pub fn word_at(alloc: Global, bytes: &[u8]) -> Result<(Token, &[u8]), LexError>
         return Err(LexError::NotTokens);
     }
     let (word, rest) = bytes.split_at(len);
-    let text = text_of(alloc, word)?;
-    Ok((Token::Word(text), rest))
+    Ok((Token::Word(utf8_text(word)), rest))
 }
 
 /// The number at the front, and the bytes behind it. `NotTokens` comes exactly where a dash has no digit behind it.
-pub fn num_at(alloc: Global, bytes: &[u8]) -> Result<(Token, &[u8]), LexError>
+pub fn num_at(bytes: &[u8]) -> Result<(Token<'_>, &[u8]), LexError>
     requires start { begins (λ b. is_ascii_digit b || nat_eq b 45) bytes.now ≡ true }
     requires no_gap { begins_gap bytes.now ≡ false }
     ensures ok { IfOk result (λ read. Reads bytes.now read.0 read.1.now) }
@@ -40,8 +38,7 @@ pub fn num_at(alloc: Global, bytes: &[u8]) -> Result<(Token, &[u8]), LexError>
         return Err(LexError::NotTokens);
     }
     let (num, rest) = bytes.split_at(len);
-    let text = text_of(alloc, num)?;
-    Ok((Token::Num(text), rest))
+    Ok((Token::Num(utf8_text(num)), rest))
 }
 
 /// How many bytes the word at the front has.
@@ -88,14 +85,36 @@ fn digits_len(bytes: &[u8]) -> usize
     bytes.len()
 }
 
+/// The bytes of a text. No byte is looked at: words and numbers, which are ASCII, are the most of a script.
+fn utf8_text(bytes: &[u8]) -> TokenText<'_>
+    requires { is_utf8 bytes.now ≡ true }
+    ensures { result ≡ bytes.now }
+{
+    // SAFETY: the bytes are UTF-8, as is required.
+    let text = unsafe { str::from_utf8_unchecked(bytes) };
+    TokenText::borrowed(text)
+}
+
 /// The bytes as a text. `NotTokens` comes exactly where they are no UTF-8.
-pub fn text_of(alloc: Global, bytes: &[u8]) -> Result<Txt, LexError>
+pub fn text_of(bytes: &[u8]) -> Result<TokenText<'_>, LexError>
     ensures ok { IfOk result (λ text. text ≡ bytes.now) }
     ensures utf8 { IfOk result (λ text. is_utf8 bytes.now ≡ true) }
     ensures not_tokens { IsErrOf result LexError.NotTokens → is_utf8 bytes.now ≡ false }
 {
     match str::from_utf8(bytes) {
-        Ok(text) => Ok(Txt::try_new(alloc, text)?),
+        Ok(text) => Ok(TokenText::borrowed(text)),
+        Err(_) => Err(LexError::NotTokens),
+    }
+}
+
+/// The same, of bytes that were put together.
+pub fn own_text_of<'a>(bytes: Vec<u8>) -> Result<TokenText<'a>, LexError>
+    ensures ok { IfOk result (λ text. text ≡ bytes.items) }
+    ensures utf8 { IfOk result (λ text. is_utf8 bytes.items ≡ true) }
+    ensures not_tokens { IsErrOf result LexError.NotTokens → is_utf8 bytes.items ≡ false }
+{
+    match String::from_utf8(bytes) {
+        Ok(text) => Ok(TokenText::owned(text)),
         Err(_) => Err(LexError::NotTokens),
     }
 }

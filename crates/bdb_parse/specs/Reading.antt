@@ -92,10 +92,10 @@ abbrev pub beliefs_at : List Token → List (List ℕ) × List Token
 beliefs_at (Word w ∷ Text t ∷ ts) = if is_keyword (codes "belief") w then (t ∷ (beliefs_at ts).0, (beliefs_at ts).1) else ([], Word w ∷ Text t ∷ ts)
 beliefs_at ts = ([], ts)
 
--- 'belief' and a text
-abbrev pub belief_at : List Token → Option (List ℕ × List Token)
-belief_at (Word w ∷ Text t ∷ ts) = if is_keyword (codes "belief") w then Some (t, ts) else None
-belief_at _ = None
+-- the user of 'belief' and a text
+abbrev pub believer : Token → Token → Option (List ℕ)
+believer (Word w) (Text t) = if is_keyword (codes "belief") w then Some t else None
+believer _ _ = None
 
 -- the tokens after 'not', or all where it isn't there
 abbrev pub sign_of : List Token → Option (List Token) → Sign × List Token

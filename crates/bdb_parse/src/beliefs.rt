@@ -2,22 +2,22 @@
 ghost use Rattle.std.specs.Prelude.{◌≡◌, List, Some};
 ghost use Rattle.std.specs.Option.{option_map};
 ghost use Rattle.bdb_parse.specs.Gives.{Gives};
-ghost use Rattle.bdb_parse.specs.Reading.{belief_at, beliefs_at};
+ghost use Rattle.bdb_parse.specs.Reading.{believer, beliefs_at};
 
+use crate::cut::is_word;
 use crate::error::ParseError;
-use crate::keywords::is_keyword;
-use bdb_base::{Exact, List, Txt};
-use bdb_lex::Token;
+use bdb_base::{List, Txt};
+use bdb_lex::{Token, TokenText};
 use std::alloc::Global;
 
-/// One user, behind 'belief'.
-fn belief(tokens: &[Token]) -> Option<(&Txt, &[Token])>
-    ensures { option_map (λ x. (x.0.now, x.1.now)) result ≡ belief_at tokens.now }
+/// The user of a text behind 'belief'.
+fn believer<'a, 'p>(first: &Token<'_>, second: &'a Token<'p>) -> Option<&'a TokenText<'p>>
+    ensures { option_map (λ x. x.now) result ≡ believer first.now second.now }
 {
-    match tokens {
-        [Token::Word(word), Token::Text(user), rest @ ..] => {
-            if is_keyword("belief", word) {
-                Some((user, rest))
+    match second {
+        Token::Text(user) => {
+            if is_word("belief", first) {
+                Some(user)
             } else {
                 None
             }
@@ -27,13 +27,19 @@ fn belief(tokens: &[Token]) -> Option<(&Txt, &[Token])>
 }
 
 /// The users, each behind 'belief', and the tokens after them.
-pub fn beliefs(alloc: Global, tokens: &[Token]) -> Result<(List<Txt>, &[Token]), ParseError>
+pub fn beliefs<'a, 'p>(
+    alloc: Global,
+    tokens: &'a [Token<'p>],
+) -> Result<(List<Txt>, &'a [Token<'p>]), ParseError>
     ensures { Gives (λ x. (x.0, x.1.now)) result (Some (beliefs_at tokens.now)) }
 {
     let mut users = List::new(alloc);
     let mut rest = tokens;
-    while let Some((user, others)) = belief(rest) {
-        users.push(user.try_clone(alloc)?)?;
+    while let [first, second, others @ ..] = rest {
+        let Some(user) = believer(first, second) else {
+            return Ok((users, rest));
+        };
+        users.push(user.to_txt(alloc)?)?;
         rest = others;
     }
     Ok((users, rest))

@@ -20,7 +20,7 @@ use std::alloc::Global;
 
 /// What follows 'insert'.
 #[tactic(auto, unfolding(crate::specs::Reading::insert_of))]
-pub fn insert(alloc: Global, wide: Wide, tokens: &[Token]) -> Result<Command, ParseError>
+pub fn insert(alloc: Global, wide: Wide, tokens: &[Token<'_>]) -> Result<Command, ParseError>
     ensures { Gives (λ x. x) result (insert_of (number_in wide) tokens.now) }
 {
     let rest = keyword("into", tokens)?;
@@ -39,7 +39,7 @@ pub fn insert(alloc: Global, wide: Wide, tokens: &[Token]) -> Result<Command, Pa
 
 /// What follows 'delete'.
 #[tactic(auto, unfolding(crate::specs::Reading::delete_of))]
-pub fn delete(alloc: Global, wide: Wide, tokens: &[Token]) -> Result<Command, ParseError>
+pub fn delete(alloc: Global, wide: Wide, tokens: &[Token<'_>]) -> Result<Command, ParseError>
     ensures { Gives (λ x. x) result (delete_of (number_in wide) tokens.now) }
 {
     let rest = keyword("from", tokens)?;
@@ -58,7 +58,7 @@ pub fn delete(alloc: Global, wide: Wide, tokens: &[Token]) -> Result<Command, Pa
 
 /// What follows 'update'.
 #[tactic(auto, unfolding(crate::specs::Reading::update_of))]
-pub fn update(alloc: Global, wide: Wide, tokens: &[Token]) -> Result<Command, ParseError>
+pub fn update(alloc: Global, wide: Wide, tokens: &[Token<'_>]) -> Result<Command, ParseError>
     ensures { Gives (λ x. x) result (update_of (number_in wide) tokens.now) }
 {
     let (target, rest) = target_of(alloc, tokens)?;

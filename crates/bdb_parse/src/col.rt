@@ -17,14 +17,14 @@ pub struct Taken;
 impl Part<RawCol> for Taken {
     ghost item = { λ _. col_of };
 
-    fn read(&self, alloc: Global, part: &[Token]) -> Result<RawCol, ParseError> {
+    fn read(&self, alloc: Global, part: &[Token<'_>]) -> Result<RawCol, ParseError> {
         col(alloc, part)
     }
 }
 
 /// A column without an alias, and nothing else.
 #[tactic(auto, unfolding(crate::specs::Reading::bare_of))]
-pub fn bare(alloc: Global, tokens: &[Token]) -> Result<RawCol, ParseError>
+pub fn bare(alloc: Global, tokens: &[Token<'_>]) -> Result<RawCol, ParseError>
     ensures { Gives (λ x. x) result (bare_of tokens.now) }
 {
     let (col, rest) = name(alloc, tokens)?;
@@ -34,7 +34,10 @@ pub fn bare(alloc: Global, tokens: &[Token]) -> Result<RawCol, ParseError>
 
 /// A column behind an alias, and the tokens after it.
 #[tactic(auto, unfolding(crate::specs::Reading::col_at))]
-pub fn first_col(alloc: Global, tokens: &[Token]) -> Result<(RawCol, &[Token]), ParseError>
+pub fn first_col<'a, 'p>(
+    alloc: Global,
+    tokens: &'a [Token<'p>],
+) -> Result<(RawCol, &'a [Token<'p>]), ParseError>
     ensures { Gives (λ x. (x.0, x.1.now)) result (col_at tokens.now) }
 {
     let (alias, rest) = name(alloc, tokens)?;
@@ -46,7 +49,7 @@ pub fn first_col(alloc: Global, tokens: &[Token]) -> Result<(RawCol, &[Token]), 
 
 /// A column behind an alias, and nothing else.
 #[tactic(auto, unfolding(crate::specs::Reading::col_of))]
-pub fn col(alloc: Global, tokens: &[Token]) -> Result<RawCol, ParseError>
+pub fn col(alloc: Global, tokens: &[Token<'_>]) -> Result<RawCol, ParseError>
     ensures { Gives (λ x. x) result (col_of tokens.now) }
 {
     let (col, rest) = first_col(alloc, tokens)?;

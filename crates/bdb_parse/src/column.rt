@@ -7,8 +7,8 @@ use crate::error::ParseError;
 use crate::keywords::is_keyword;
 use crate::list::Part;
 use crate::tokens::{end, name, word};
-use bdb_base::{ColDef, Kind, Txt};
-use bdb_lex::Token;
+use bdb_base::{ColDef, Kind};
+use bdb_lex::{Token, TokenText};
 use std::alloc::Global;
 
 /// Reads the columns of a new relation.
@@ -18,14 +18,14 @@ pub struct Columns;
 impl Part<ColDef> for Columns {
     ghost item = { λ _. column_of };
 
-    fn read(&self, alloc: Global, part: &[Token]) -> Result<ColDef, ParseError> {
+    fn read(&self, alloc: Global, part: &[Token<'_>]) -> Result<ColDef, ParseError> {
         column(alloc, part)
     }
 }
 
 /// The kind that a word names.
 #[tactic(auto, unfolding(crate::specs::Reading::kind_of))]
-fn kind(word: &Txt) -> Result<Kind, ParseError>
+fn kind(word: &TokenText<'_>) -> Result<Kind, ParseError>
     ensures { Gives (λ x. x) result (kind_of word.now) }
 {
     if is_keyword("int", word) {
@@ -39,7 +39,7 @@ fn kind(word: &Txt) -> Result<Kind, ParseError>
 
 /// A column's name and its kind.
 #[tactic(auto, unfolding(crate::specs::Reading::column_of))]
-fn column(alloc: Global, tokens: &[Token]) -> Result<ColDef, ParseError>
+fn column(alloc: Global, tokens: &[Token<'_>]) -> Result<ColDef, ParseError>
     ensures { Gives (λ x. x) result (column_of tokens.now) }
 {
     let (name, rest) = name(alloc, tokens)?;

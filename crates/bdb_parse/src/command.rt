@@ -17,25 +17,30 @@ use std::alloc::Global;
 
 /// A command, by its first word, where a number outside i64 is taken as this reading has it.
 #[tactic(auto, unfolding(crate::specs::Reading::command_by, crate::specs::Reading::command_after))]
-pub fn command(alloc: Global, wide: Wide, tokens: &[Token]) -> Result<Command, ParseError>
+pub fn command(alloc: Global, wide: Wide, tokens: &[Token<'_>]) -> Result<Command, ParseError>
     ensures { Gives (λ x. x) result (command_by (number_in wide) tokens.now) }
 {
     let (word, rest) = word(tokens)?;
     if is_keyword("create", word) {
-        create(alloc, rest)
-    } else if is_keyword("insert", word) {
-        insert(alloc, wide, rest)
-    } else if is_keyword("delete", word) {
-        delete(alloc, wide, rest)
-    } else if is_keyword("update", word) {
-        update(alloc, wide, rest)
-    } else if is_keyword("select", word) {
-        select(alloc, wide, rest)
-    } else if is_keyword("explain", word) {
-        explain(alloc, wide, rest)
-    } else if is_keyword("show", word) {
-        show(alloc, rest)
-    } else {
-        Err(ParseError::Syntax)
+        return create(alloc, rest);
     }
+    if is_keyword("insert", word) {
+        return insert(alloc, wide, rest);
+    }
+    if is_keyword("delete", word) {
+        return delete(alloc, wide, rest);
+    }
+    if is_keyword("update", word) {
+        return update(alloc, wide, rest);
+    }
+    if is_keyword("select", word) {
+        return select(alloc, wide, rest);
+    }
+    if is_keyword("explain", word) {
+        return explain(alloc, wide, rest);
+    }
+    if is_keyword("show", word) {
+        return show(alloc, rest);
+    }
+    Err(ParseError::Syntax)
 }

@@ -25,7 +25,7 @@ pub struct Tests {
 impl Part<RawCond> for Tests {
     ghost item = { λ s. test_of (number_in s.wide) };
 
-    fn read(&self, alloc: Global, part: &[Token]) -> Result<RawCond, ParseError> {
+    fn read(&self, alloc: Global, part: &[Token<'_>]) -> Result<RawCond, ParseError> {
         test(alloc, self.wide, part)
     }
 }
@@ -39,13 +39,13 @@ pub struct QueryConds {
 impl Part<RawCond> for QueryConds {
     ghost item = { λ s. cond_of (number_in s.wide) };
 
-    fn read(&self, alloc: Global, part: &[Token]) -> Result<RawCond, ParseError> {
+    fn read(&self, alloc: Global, part: &[Token<'_>]) -> Result<RawCond, ParseError> {
         cond(alloc, self.wide, part)
     }
 }
 
 /// Whether the first token is a word.
-fn begins_with_word(tokens: &[Token]) -> bool
+fn begins_with_word(tokens: &[Token<'_>]) -> bool
     ensures { result ≡ begins_with_word tokens.now }
 {
     matches!(tokens, [Token::Word(_), ..])
@@ -53,7 +53,7 @@ fn begins_with_word(tokens: &[Token]) -> bool
 
 /// The right side of a change's condition.
 #[tactic(auto, unfolding(crate::specs::Reading::side_of))]
-fn bare_side(alloc: Global, wide: Wide, tokens: &[Token]) -> Result<RawSide, ParseError>
+fn bare_side(alloc: Global, wide: Wide, tokens: &[Token<'_>]) -> Result<RawSide, ParseError>
     ensures { Gives (λ x. x) result (side_of bare_of (number_in wide) tokens.now) }
 {
     if begins_with_word(tokens) {
@@ -64,7 +64,7 @@ fn bare_side(alloc: Global, wide: Wide, tokens: &[Token]) -> Result<RawSide, Par
 
 /// The right side of a query's condition.
 #[tactic(auto, unfolding(crate::specs::Reading::side_of))]
-fn side(alloc: Global, wide: Wide, tokens: &[Token]) -> Result<RawSide, ParseError>
+fn side(alloc: Global, wide: Wide, tokens: &[Token<'_>]) -> Result<RawSide, ParseError>
     ensures { Gives (λ x. x) result (side_of col_of (number_in wide) tokens.now) }
 {
     if begins_with_word(tokens) {
@@ -75,7 +75,7 @@ fn side(alloc: Global, wide: Wide, tokens: &[Token]) -> Result<RawSide, ParseErr
 
 /// A condition of a change.
 #[tactic(auto, unfolding(crate::specs::Reading::test_of))]
-fn test(alloc: Global, wide: Wide, tokens: &[Token]) -> Result<RawCond, ParseError>
+fn test(alloc: Global, wide: Wide, tokens: &[Token<'_>]) -> Result<RawCond, ParseError>
     ensures { Gives (λ x. x) result (test_of (number_in wide) tokens.now) }
 {
     let (col, rest) = name(alloc, tokens)?;
@@ -87,7 +87,7 @@ fn test(alloc: Global, wide: Wide, tokens: &[Token]) -> Result<RawCond, ParseErr
 
 /// A condition of a query.
 #[tactic(auto, unfolding(crate::specs::Reading::cond_of))]
-fn cond(alloc: Global, wide: Wide, tokens: &[Token]) -> Result<RawCond, ParseError>
+fn cond(alloc: Global, wide: Wide, tokens: &[Token<'_>]) -> Result<RawCond, ParseError>
     ensures { Gives (λ x. x) result (cond_of (number_in wide) tokens.now) }
 {
     let (left, rest) = first_col(alloc, tokens)?;
@@ -100,7 +100,7 @@ fn cond(alloc: Global, wide: Wide, tokens: &[Token]) -> Result<RawCond, ParseErr
 pub fn conds<R: Part<RawCond>>(
     alloc: Global,
     reader: &R,
-    tokens: Option<&[Token]>,
+    tokens: Option<&[Token<'_>]>,
 ) -> Result<List<RawCond>, ParseError>
     ensures { Gives (λ xs. xs) result (conds_of (R.item reader.now) (option_copied tokens.entry)) }
 {

@@ -16,7 +16,7 @@ use std::alloc::Global;
 
 /// The tokens in parentheses, behind which nothing stands.
 #[tactic(auto, unfolding(crate::specs::Reading::inside_of))]
-pub fn inside(tokens: &[Token]) -> Result<&[Token], ParseError>
+pub fn inside<'a, 'p>(tokens: &'a [Token<'p>]) -> Result<&'a [Token<'p>], ParseError>
     ensures { Gives (λ x. x.now) result (inside_of tokens.now) }
 {
     let body = open(tokens)?;
@@ -30,7 +30,7 @@ pub fn inside(tokens: &[Token]) -> Result<&[Token], ParseError>
 
 /// What follows 'create user'.
 #[tactic(auto, unfolding(crate::specs::Reading::create_user_of))]
-fn create_user(alloc: Global, tokens: &[Token]) -> Result<Command, ParseError>
+fn create_user(alloc: Global, tokens: &[Token<'_>]) -> Result<Command, ParseError>
     ensures { Gives (λ x. x) result (create_user_of tokens.now) }
 {
     let (name, rest) = text(alloc, tokens)?;
@@ -40,7 +40,7 @@ fn create_user(alloc: Global, tokens: &[Token]) -> Result<Command, ParseError>
 
 /// What follows 'create relation'.
 #[tactic(auto, unfolding(crate::specs::Reading::create_relation_of))]
-fn create_relation(alloc: Global, tokens: &[Token]) -> Result<Command, ParseError>
+fn create_relation(alloc: Global, tokens: &[Token<'_>]) -> Result<Command, ParseError>
     ensures { Gives (λ x. x) result (create_relation_of tokens.now) }
 {
     let (name, rest) = name(alloc, tokens)?;
@@ -51,7 +51,7 @@ fn create_relation(alloc: Global, tokens: &[Token]) -> Result<Command, ParseErro
 
 /// What follows 'create'.
 #[tactic(auto, unfolding(crate::specs::Reading::create_of))]
-pub fn create(alloc: Global, tokens: &[Token]) -> Result<Command, ParseError>
+pub fn create(alloc: Global, tokens: &[Token<'_>]) -> Result<Command, ParseError>
     ensures { Gives (λ x. x) result (create_of tokens.now) }
 {
     let (word, rest) = word(tokens)?;

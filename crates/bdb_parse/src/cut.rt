@@ -8,7 +8,7 @@ use crate::stop::Stop;
 use bdb_lex::Token;
 
 /// Whether a token is this keyword.
-fn is_word(keyword: &str, token: &Token) -> bool
+pub fn is_word(keyword: &str, token: &Token<'_>) -> bool
     ensures { result ≡ is_word keyword.now token.now }
 {
     match token {
@@ -18,7 +18,7 @@ fn is_word(keyword: &str, token: &Token) -> bool
 }
 
 /// Whether a token is this stop.
-fn is_stop(stop: Stop, token: &Token) -> bool
+fn is_stop(stop: Stop, token: &Token<'_>) -> bool
     ensures { result ≡ is_stop stop token.now }
 {
     match stop {
@@ -31,7 +31,10 @@ fn is_stop(stop: Stop, token: &Token) -> bool
 }
 
 /// The tokens before the first stop, and those after it where there is one.
-pub fn cut(stop: Stop, tokens: &[Token]) -> (&[Token], Option<&[Token]>)
+pub fn cut<'a, 'p>(
+    stop: Stop,
+    tokens: &'a [Token<'p>],
+) -> (&'a [Token<'p>], Option<&'a [Token<'p>]>)
     ensures before { result.0.now ≡ (cut stop tokens.now).0 }
     ensures after { option_copied result.1 ≡ (cut stop tokens.now).1 }
 {

@@ -2,17 +2,17 @@
 ghost use Rattle.std.specs.Prelude.{◌≡◌};
 ghost use Rattle.bdb_syntax.specs.Keywords.{is_keyword, is_reserved};
 
-use bdb_base::Txt;
+use bdb_lex::TokenText;
 
 /// Whether a word is this keyword, in any case.
-pub fn is_keyword(keyword: &str, word: &Txt) -> bool
+pub fn is_keyword(keyword: &str, word: &TokenText<'_>) -> bool
     ensures { result ≡ is_keyword keyword.now word.now }
 {
     word.as_str().eq_ignore_ascii_case(keyword)
 }
 
 /// Whether a word is a keyword that is no name, in any case.
-pub fn is_reserved(word: &Txt) -> bool
+pub fn is_reserved(word: &TokenText<'_>) -> bool
     ensures { result ≡ is_reserved word.now }
 {
     is_keyword("and", word)

@@ -17,7 +17,7 @@ pub trait Part<X> {
     ghost item: { Self → List Token → Option X };
 
     /// Reads an item, which takes up the whole part.
-    fn read(&self, alloc: Global, part: &[Token]) -> Result<X, ParseError>
+    fn read(&self, alloc: Global, part: &[Token<'_>]) -> Result<X, ParseError>
         ensures { Gives (λ x. x) result (item self.now part.now) };
 }
 
@@ -27,7 +27,7 @@ pub fn list_of<X: Exact, R: Part<X>>(
     alloc: Global,
     reader: &R,
     stop: Stop,
-    tokens: &[Token],
+    tokens: &[Token<'_>],
 ) -> Result<List<X>, ParseError>
     ensures { Gives (λ xs. xs) result (list_of (R.item reader.now) stop tokens.now) }
 {

@@ -7,7 +7,7 @@ use crate::error::ParseError;
 use crate::list::Part;
 use crate::number::number;
 use crate::wide::Wide;
-use bdb_base::{Exact, Value};
+use bdb_base::Value;
 use bdb_lex::Token;
 use std::alloc::Global;
 
@@ -20,18 +20,21 @@ pub struct Literals {
 impl Part<Value> for Literals {
     ghost item = { λ s. literal_of (number_in s.wide) };
 
-    fn read(&self, alloc: Global, part: &[Token]) -> Result<Value, ParseError> {
+    fn read(&self, alloc: Global, part: &[Token<'_>]) -> Result<Value, ParseError> {
         literal(alloc, self.wide, part)
     }
 }
 
 /// A literal, and nothing else.
-pub fn literal(alloc: Global, wide: Wide, tokens: &[Token]) -> Result<Value, ParseError>
+pub fn literal(alloc: Global, wide: Wide, tokens: &[Token<'_>]) -> Result<Value, ParseError>
     ensures { Gives (λ x. x) result (literal_of (number_in wide) tokens.now) }
 {
     match tokens {
-        [Token::Text(text)] => Ok(Value::Text(text.try_clone(alloc)?)),
-        [Token::Num(spelling)] => Ok(Value::Int(number(wide, spelling)?)),
+        [token] => match token {
+            Token::Text(text) => Ok(Value::Text(text.to_txt(alloc)?)),
+            Token::Num(spelling) => Ok(Value::Int(number(wide, spelling.as_str())?)),
+            _ => Err(ParseError::Syntax),
+        },
         _ => Err(ParseError::Syntax),
     }
 }

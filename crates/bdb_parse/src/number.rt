@@ -7,7 +7,6 @@ ghost use Rattle.bdb_parse.specs.Numbers.{is_number, are_digits};
 
 use crate::error::ParseError;
 use crate::wide::Wide;
-use bdb_base::Txt;
 
 /// Whether each byte is a digit.
 fn have_digits(bytes: &[u8]) -> bool
@@ -34,13 +33,13 @@ fn is_number(spelling: &[u8]) -> bool
 }
 
 /// The number that a spelling writes.
-pub fn number(wide: Wide, spelling: &Txt) -> Result<i64, ParseError>
+pub fn number(wide: Wide, spelling: &str) -> Result<i64, ParseError>
     ensures { Gives (λ n. n) result (number_in wide spelling.now) }
 {
     if !is_number(spelling.as_bytes()) {
         return Err(ParseError::Syntax);
     }
-    match (spelling.as_str().parse::<i64>(), wide) {
+    match (spelling.parse::<i64>(), wide) {
         (Ok(number), _) => Ok(number),
         (Err(_), Wide::Refused) => Err(ParseError::Syntax),
         (Err(_), Wide::Zero) => Ok(0),

@@ -20,7 +20,7 @@ use std::alloc::Global;
 
 /// A query, behind its 'select'.
 #[tactic(auto, unfolding(crate::specs::Reading::query_of))]
-fn query(alloc: Global, wide: Wide, tokens: &[Token]) -> Result<RawQuery, ParseError>
+fn query(alloc: Global, wide: Wide, tokens: &[Token<'_>]) -> Result<RawQuery, ParseError>
     ensures { Gives (λ x. x) result (query_of (number_in wide) tokens.now) }
 {
     let (cols, rest) = cut(Stop::From, tokens);
@@ -35,7 +35,7 @@ fn query(alloc: Global, wide: Wide, tokens: &[Token]) -> Result<RawQuery, ParseE
 }
 
 /// What follows 'select'.
-pub fn select(alloc: Global, wide: Wide, tokens: &[Token]) -> Result<Command, ParseError>
+pub fn select(alloc: Global, wide: Wide, tokens: &[Token<'_>]) -> Result<Command, ParseError>
     ensures { Gives (λ x. x) result (option_map Select (query_of (number_in wide) tokens.now)) }
 {
     let query = query(alloc, wide, tokens)?;
@@ -44,7 +44,7 @@ pub fn select(alloc: Global, wide: Wide, tokens: &[Token]) -> Result<Command, Pa
 
 /// What follows 'explain'.
 #[tactic(auto, unfolding(crate::specs::Reading::explain_of))]
-pub fn explain(alloc: Global, wide: Wide, tokens: &[Token]) -> Result<Command, ParseError>
+pub fn explain(alloc: Global, wide: Wide, tokens: &[Token<'_>]) -> Result<Command, ParseError>
     ensures { Gives (λ x. x) result (explain_of (number_in wide) tokens.now) }
 {
     let rest = keyword("select", tokens)?;

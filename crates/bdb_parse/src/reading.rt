@@ -16,7 +16,7 @@ use std::alloc::Global;
 
 /// Reads the command that the tokens spell. `Syntax` comes exactly where they are outside the grammar, and `Number`
 /// exactly where they are in it and a number is below -9223372036854775808 or above 9223372036854775807.
-pub fn parse(alloc: Global, tokens: &[Token]) -> Result<Command, ParseError>
+pub fn parse(alloc: Global, tokens: &[Token<'_>]) -> Result<Command, ParseError>
     ensures ok { IfOk result (λ c. (command_of tokens.now ≡ Some c) × (fits c ≡ true)) }
     ensures syntax { IsErrOf result ParseError.Syntax → command_of tokens.now ≡ None }
     ensures number { IsErrOf result ParseError.Number → (c : Command) × (command_of tokens.now ≡ Some c) × (fits c ≡ false) }

@@ -21,14 +21,14 @@ pub struct Sets {
 impl Part<RawSet> for Sets {
     ghost item = { λ s. set_of (number_in s.wide) };
 
-    fn read(&self, alloc: Global, part: &[Token]) -> Result<RawSet, ParseError> {
+    fn read(&self, alloc: Global, part: &[Token<'_>]) -> Result<RawSet, ParseError> {
         set(alloc, self.wide, part)
     }
 }
 
 /// A column, an equals sign and a literal.
 #[tactic(auto, unfolding(crate::specs::Reading::set_of))]
-fn set(alloc: Global, wide: Wide, tokens: &[Token]) -> Result<RawSet, ParseError>
+fn set(alloc: Global, wide: Wide, tokens: &[Token<'_>]) -> Result<RawSet, ParseError>
     ensures { Gives (λ x. x) result (set_of (number_in wide) tokens.now) }
 {
     let (col, rest) = name(alloc, tokens)?;

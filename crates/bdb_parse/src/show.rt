@@ -13,7 +13,7 @@ use std::alloc::Global;
 
 /// What follows 'show'.
 #[tactic(auto, unfolding(crate::specs::Reading::show_of, crate::specs::Reading::show_world_of))]
-pub fn show(alloc: Global, tokens: &[Token]) -> Result<Command, ParseError>
+pub fn show(alloc: Global, tokens: &[Token<'_>]) -> Result<Command, ParseError>
     ensures { Gives (λ x. x) result (show_of tokens.now) }
 {
     let (word, rest) = word(tokens)?;

@@ -20,7 +20,7 @@ pub struct Target {
 
 /// The sign: minus where 'not' stands, and the tokens after it.
 #[tactic(auto, unfolding(crate::specs::Reading::sign_at))]
-pub fn sign(tokens: &[Token]) -> (Sign, &[Token])
+pub fn sign<'a, 'p>(tokens: &'a [Token<'p>]) -> (Sign, &'a [Token<'p>])
     ensures sign { result.0 ≡ (sign_at tokens.now).0 }
     ensures rest { result.1.now ≡ (sign_at tokens.now).1 }
 {
@@ -32,7 +32,10 @@ pub fn sign(tokens: &[Token]) -> (Sign, &[Token])
 
 /// The users, the sign and the relation of a change, and the tokens after them.
 #[tactic(auto, unfolding(crate::specs::Reading::target_at))]
-pub fn target_of(alloc: Global, tokens: &[Token]) -> Result<(Target, &[Token]), ParseError>
+pub fn target_of<'a, 'p>(
+    alloc: Global,
+    tokens: &'a [Token<'p>],
+) -> Result<(Target, &'a [Token<'p>]), ParseError>
     ensures { Gives (λ x. (x.0, x.1.now)) result (target_at tokens.now) }
 {
     let (users, rest) = beliefs(alloc, tokens)?;

@@ -1,14 +1,14 @@
 use super::*;
-use bdb_base::{Exact, List, Sign, Txt, Value};
-use bdb_lex::{Token, tokens};
+use bdb_base::{Exact, List, Sign, Value};
+use bdb_lex::{Token, TokenText, tokens};
 use bdb_syntax::{Command, print};
 use std::alloc::{AllocError, Global};
 use std::test::Fail;
 
 // A token of a piece between blanks. A text has its opening quote alone.
-fn token(alloc: Global, piece: &str) -> Result<Token, AllocError> {
-    let text = Txt::try_new(alloc, piece)?;
-    Ok(match piece {
+fn token(piece: &str) -> Token<'_> {
+    let text = TokenText::borrowed(piece);
+    match piece {
         "," => Token::Comma,
         "." => Token::Dot,
         "(" => Token::ParenL,
@@ -21,13 +21,13 @@ fn token(alloc: Global, piece: &str) -> Result<Token, AllocError> {
             [b'-' | b'0'..=b'9', ..] => Token::Num(text),
             _ => Token::Word(text),
         },
-    })
+    }
 }
 
 fn read(alloc: Global, line: &str) -> Result<Result<Command, ParseError>, AllocError> {
     let mut tokens = List::new(alloc);
     for piece in line.split_whitespace() {
-        tokens.push(token(alloc, piece)?)?;
+        tokens.push(token(piece))?;
     }
     Ok(parse(alloc, tokens.as_slice()))
 }

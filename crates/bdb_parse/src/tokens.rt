@@ -4,14 +4,15 @@ ghost use Rattle.std.specs.Option.{option_copied};
 ghost use Rattle.bdb_parse.specs.Gives.{Gives};
 ghost use Rattle.bdb_parse.specs.Reading.{end_at, word_at, text_at, dot_at, equals_at, open_at, cmp_at, keyword_at, name_at};
 
+use crate::cut::is_word;
 use crate::error::ParseError;
-use crate::keywords::{is_keyword, is_reserved};
-use bdb_base::{Cmp, Exact, Txt};
-use bdb_lex::Token;
+use crate::keywords::is_reserved;
+use bdb_base::{Cmp, Txt};
+use bdb_lex::{Token, TokenText};
 use std::alloc::Global;
 
 /// Nothing is left.
-pub fn end(tokens: &[Token]) -> Result<&[Token], ParseError>
+pub fn end<'a, 'p>(tokens: &'a [Token<'p>]) -> Result<&'a [Token<'p>], ParseError>
     ensures { Gives (λ x. x.now) result (end_at tokens.now) }
 {
     match tokens {
@@ -21,27 +22,38 @@ pub fn end(tokens: &[Token]) -> Result<&[Token], ParseError>
 }
 
 /// A word.
-pub fn word(tokens: &[Token]) -> Result<(&Txt, &[Token]), ParseError>
+pub fn word<'a, 'p>(
+    tokens: &'a [Token<'p>],
+) -> Result<(&'a TokenText<'p>, &'a [Token<'p>]), ParseError>
     ensures { Gives (λ x. (x.0.now, x.1.now)) result (word_at tokens.now) }
 {
     match tokens {
-        [Token::Word(word), rest @ ..] => Ok((word, rest)),
-        _ => Err(ParseError::Syntax),
+        [] => Err(ParseError::Syntax),
+        [first, rest @ ..] => match first {
+            Token::Word(word) => Ok((word, rest)),
+            _ => Err(ParseError::Syntax),
+        },
     }
 }
 
 /// A text.
-pub fn text(alloc: Global, tokens: &[Token]) -> Result<(Txt, &[Token]), ParseError>
+pub fn text<'a, 'p>(
+    alloc: Global,
+    tokens: &'a [Token<'p>],
+) -> Result<(Txt, &'a [Token<'p>]), ParseError>
     ensures { Gives (λ x. (x.0, x.1.now)) result (text_at tokens.now) }
 {
     match tokens {
-        [Token::Text(text), rest @ ..] => Ok((text.try_clone(alloc)?, rest)),
-        _ => Err(ParseError::Syntax),
+        [] => Err(ParseError::Syntax),
+        [first, rest @ ..] => match first {
+            Token::Text(text) => Ok((text.to_txt(alloc)?, rest)),
+            _ => Err(ParseError::Syntax),
+        },
     }
 }
 
 /// A dot.
-pub fn dot(tokens: &[Token]) -> Result<&[Token], ParseError>
+pub fn dot<'a, 'p>(tokens: &'a [Token<'p>]) -> Result<&'a [Token<'p>], ParseError>
     ensures { Gives (λ x. x.now) result (dot_at tokens.now) }
 {
     match tokens {
@@ -51,7 +63,7 @@ pub fn dot(tokens: &[Token]) -> Result<&[Token], ParseError>
 }
 
 /// An equals sign.
-pub fn equals(tokens: &[Token]) -> Result<&[Token], ParseError>
+pub fn equals<'a, 'p>(tokens: &'a [Token<'p>]) -> Result<&'a [Token<'p>], ParseError>
     ensures { Gives (λ x. x.now) result (equals_at tokens.now) }
 {
     match tokens {
@@ -61,7 +73,7 @@ pub fn equals(tokens: &[Token]) -> Result<&[Token], ParseError>
 }
 
 /// An opening parenthesis.
-pub fn open(tokens: &[Token]) -> Result<&[Token], ParseError>
+pub fn open<'a, 'p>(tokens: &'a [Token<'p>]) -> Result<&'a [Token<'p>], ParseError>
     ensures { Gives (λ x. x.now) result (open_at tokens.now) }
 {
     match tokens {
@@ -71,7 +83,7 @@ pub fn open(tokens: &[Token]) -> Result<&[Token], ParseError>
 }
 
 /// A comparison's sign.
-pub fn cmp(tokens: &[Token]) -> Result<(Cmp, &[Token]), ParseError>
+pub fn cmp<'a, 'p>(tokens: &'a [Token<'p>]) -> Result<(Cmp, &'a [Token<'p>]), ParseError>
     ensures { Gives (λ x. (x.0, x.1.now)) result (cmp_at tokens.now) }
 {
     match tokens {
@@ -87,23 +99,26 @@ pub fn cmp(tokens: &[Token]) -> Result<(Cmp, &[Token]), ParseError>
 
 /// The tokens after this keyword, where it stands first, in any case.
 #[tactic(auto, unfolding(crate::specs::Reading::keyword_at))]
-pub fn after_keyword<'a>(keyword: &str, tokens: &'a [Token]) -> Option<&'a [Token]>
+pub fn after_keyword<'a, 'p>(keyword: &str, tokens: &'a [Token<'p>]) -> Option<&'a [Token<'p>]>
     ensures { option_copied result ≡ keyword_at keyword.now tokens.now }
 {
     match tokens {
-        [Token::Word(word), rest @ ..] => {
-            if is_keyword(keyword, word) {
+        [] => None,
+        [first, rest @ ..] => {
+            if is_word(keyword, first) {
                 Some(rest)
             } else {
                 None
             }
         }
-        _ => None,
     }
 }
 
 /// This keyword, in any case.
-pub fn keyword<'a>(keyword: &str, tokens: &'a [Token]) -> Result<&'a [Token], ParseError>
+pub fn keyword<'a, 'p>(
+    keyword: &str,
+    tokens: &'a [Token<'p>],
+) -> Result<&'a [Token<'p>], ParseError>
     ensures { Gives (λ x. x.now) result (keyword_at keyword.now tokens.now) }
 {
     match after_keyword(keyword, tokens) {
@@ -114,12 +129,15 @@ pub fn keyword<'a>(keyword: &str, tokens: &'a [Token]) -> Result<&'a [Token], Pa
 
 /// A word that isn't reserved, as written.
 #[tactic(auto, unfolding(crate::specs::Reading::name_at))]
-pub fn name(alloc: Global, tokens: &[Token]) -> Result<(Txt, &[Token]), ParseError>
+pub fn name<'a, 'p>(
+    alloc: Global,
+    tokens: &'a [Token<'p>],
+) -> Result<(Txt, &'a [Token<'p>]), ParseError>
     ensures { Gives (λ x. (x.0, x.1.now)) result (name_at tokens.now) }
 {
     let (word, rest) = word(tokens)?;
     if is_reserved(word) {
         return Err(ParseError::Syntax);
     }
-    Ok((word.try_clone(alloc)?, rest))
+    Ok((word.to_txt(alloc)?, rest))
 }

@@ -9,6 +9,9 @@ use bdb_base::{
 };
 use std::alloc::AllocError;
 
+/// For how many bytes a reply has room from the start. Most replies of one line have no more.
+pub const USUAL_LENGTH: usize = 64;
+
 /// Appends values with a comma and a space between each two.
 pub fn append_row(out: &mut Vec<u8>, vals: &List<Value>) -> Result<(), AllocError>
     ensures { OnOk result (out.new.items ≡ out.old.items ++ row_text vals.now) }

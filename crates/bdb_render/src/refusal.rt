@@ -63,7 +63,7 @@ pub fn refusal_reply(
 ) -> Result<List<u8>, AllocError>
     ensures { IfOk result (λ text. text ≡ refusal_reply catalog.now refusal.now) }
 {
-    let mut out = Vec::new(alloc);
+    let mut out = Vec::with_capacity(alloc, lines::USUAL_LENGTH)?;
     out.extend_from_slice(b"error ")?;
     append_cause(&mut out, catalog, refusal)?;
     out.push(b'\n')?;

@@ -47,7 +47,7 @@ pub fn ok_reply(alloc: Global) -> Result<List<u8>, AllocError>
 pub fn count_reply(alloc: Global, n: usize) -> Result<List<u8>, AllocError>
     ensures { IfOk result (λ text. text ≡ count_reply n) }
 {
-    let mut out = Vec::new(alloc);
+    let mut out = Vec::with_capacity(alloc, lines::USUAL_LENGTH)?;
     lines::append_count(&mut out, n)?;
     Ok(List::from_vec(out))
 }
@@ -56,7 +56,7 @@ pub fn count_reply(alloc: Global, n: usize) -> Result<List<u8>, AllocError>
 pub fn world_reply(alloc: Global, catalog: &Catalog, world: &World) -> Result<List<u8>, AllocError>
     ensures { IfOk result (λ text. text ≡ world_reply catalog.now world.now) }
 {
-    let mut out = Vec::new(alloc);
+    let mut out = Vec::with_capacity(alloc, lines::USUAL_LENGTH)?;
     for held in world.held.as_slice() {
         lines::append_held(&mut out, catalog, held)?;
     }
@@ -68,7 +68,7 @@ pub fn world_reply(alloc: Global, catalog: &Catalog, world: &World) -> Result<Li
 pub fn rows_reply(alloc: Global, rows: &List<List<Value>>) -> Result<List<u8>, AllocError>
     ensures { IfOk result (λ text. text ≡ rows_reply rows.now) }
 {
-    let mut out = Vec::new(alloc);
+    let mut out = Vec::with_capacity(alloc, lines::USUAL_LENGTH)?;
     for vals in rows.as_slice() {
         lines::append_answer(&mut out, vals)?;
     }

@@ -1,7 +1,5 @@
-use Rattle.std.proofs.Common.{◌∙◌, ap, sym, arith, length}
+use Rattle.std.proofs.Common.{◌∙◌, ap, arith, length}
 use Rattle.std.proofs.lemmas.Result.{err_from_is_err_and}
-use Rattle.bdb_lex.specs.declared.token.Token.TheVariants.{Text}
-use Rattle.bdb_lex.specs.Tokens.{is_content}
 use Rattle.bdb_lex.proofs.TokenLemmas.{err_again, text_unclosed, text_reads, text_fails, text_goes_on, parted_shorter}
 use Rattle.bdb_lex.proofs.quoted.doubled_text_behind.Goals as goal
 
@@ -14,14 +12,14 @@ returns-in_err-token-clause-not_tokens c =
     let p = err_from_is_err_and c.from_residual-in_err-token.result c.from_residual-in_err-token.ensures.1 in
     rw (p.1, p.2) (λ h. c.loop-part.invariant.0 ∙ text_fails c.loop-part.content.items c.extend_from_slice.new.self.items c.loop-part.rest.now
     c.in-Some.part.now c.in-Some.after.now c.in_ok-extend_from_slice.ensures.items c.in-Some.ensures.some c.in_default-after_byte.ensures.none
-    (ap is_content (sym c.as_slice.ensures.value) ∙ c.in_err-token.ensures.not_tokens (err_again h)))
+    (c.in_err-token.ensures.not_tokens (err_again h)))
 
 pub returns-in_default-after_byte-clause-ok : goal.returns-in_default-after_byte-clause-ok
 returns-in_default-after_byte-clause-ok c = record {
   tokens = c.loop-part.invariant.0 ∙ text_reads c.loop-part.content.items c.extend_from_slice.new.self.items c.loop-part.rest.now
       c.in-Some.part.now c.in-Some.after.now c.in_ok-token.token c.in_ok-extend_from_slice.ensures.items c.in-Some.ensures.some
-      c.in_default-after_byte.ensures.none (ap is_content (sym c.as_slice.ensures.value) ∙ c.in_ok-token.ensures.allowed)
-      (c.in_ok-token.ensures.ok ∙ ap Text c.as_slice.ensures.value);
+      c.in_default-after_byte.ensures.none c.in_ok-token.ensures.allowed
+      c.in_ok-token.ensures.ok;
   shorter = omega (arith, parted_shorter c.loop-part.rest.now c.in-Some.part.now c.in-Some.after.now c.in-Some.ensures.some, c.loop-part.invariant.1);
 }
 
