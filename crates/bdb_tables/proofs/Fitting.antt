@@ -16,7 +16,7 @@ use Rattle.bdb_base.specs.declared.kinds.Value.TheVariants.{Int, Text}
 use Rattle.bdb_base.proofs.ListLemmas.{list_all_get}
 use Rattle.bdb_key.specs.Grammar.{HasPlainText}
 use Rattle.bdb_key.specs.Rows.{IsRelRow, IsCol}
-use Rattle.bdb_tables.specs.Statements.{MayBeStatement}
+use Rattle.bdb_tables.specs.InUse.{MayBePlain}
 
 -- ---- values
 
@@ -69,7 +69,7 @@ values_of rels (Some def) n vals valid is h =
     let row = relation_row def (list_all_get is_valid_relation rels n def valid is) in
     (some_values def.cols vals row.some h, texts_plain def.cols vals h)
 
-pub belonging_may_be : (c : Catalog) (x : Stmt) → IsCatalog c → belongs c x ≡ true → MayBeStatement x
+pub belonging_may_be : (c : Catalog) (x : Stmt) → IsCatalog c → belongs c x ≡ true → MayBePlain (x.path, x.tuple)
 belonging_may_be c x valid h =
     let path = alternates x.path && nat_le (length x.path) 16 in
     let fit = and_parts (path && list_all (is_user c.users) x.path) (fits_relation c.rels x.tuple) h in
@@ -78,9 +78,3 @@ belonging_may_be c x valid h =
     let few : length x.path ≤ 16 = leb-true (length x.path) 16 apart.1 in
     let vals = values_of c.rels (slice_get c.rels x.tuple.rel) x.tuple.rel x.tuple.vals valid.rels_valid refl fit.1 in
     record { apart = apart.0; short = omega (arith, few); tuple = record { some = vals.0; texts = vals.1 } }
-
-pub belonging_may_all_be : (c : Catalog) (xs : List Stmt) → IsCatalog c → list_all (belongs c) xs ≡ true → AllByRecursion MayBeStatement xs
-belonging_may_all_be c [] valid h = tt
-belonging_may_all_be c (x ∷ xs) valid h =
-    let parts = and_parts (belongs c x) (list_all (belongs c) xs) h in
-    (belonging_may_be c x valid parts.0, belonging_may_all_be c xs valid parts.1)

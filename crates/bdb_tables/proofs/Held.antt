@@ -139,21 +139,6 @@ module _ {Key Row : Type 0} where
         (h.least.least (c.key_bytes q) (subst IsTrue (sym (behind (c.key_bytes key) (c.key_bytes q) ∙ ap is_lt (order key q fits fq))) lt) some);
   }
 
--- no bytes are below none
-lowest : (q : List ℕ) → is_le (bytes_cmp [] q) ≡ true
-lowest [] = refl
-lowest (b ∷ q) = refl
-
-module _ {Key Row : Type 0} where
-  pub first_of_all : (c : Codec Key Row) → KeepsOrder c → (t : Tables) (found : Option (Key × Row)) → HasLeast c t [] found → HasFirst c t (λ _. true) found
-  first_of_all c order t None h = λ q fq is. h (c.key_bytes q) (lowest (c.key_bytes q))
-  first_of_all c order t (Some e) h = record {
-    in_grammar = h.key_fits;
-    passes = refl;
-    found = record { in_grammar = h.row_fits; found = h.least.found };
-    least = λ q fq is some. subst (λ o. IsTrue (is_le o)) (order e.0 q h.key_fits fq) (h.least.least (c.key_bytes q) (lowest (c.key_bytes q)) some);
-  }
-
 module _ {Key Row : Type 0} where
   -- tables that are others after a put
   pub put_kept : (c : Codec Key Row) → ((k r : List ℕ) → IsEntryOf c k r → IsEntry c.number k r) → (t u : Tables) (key : Key) (row : Row)

@@ -1,17 +1,12 @@
 pub mod CatalogLemmas
-pub mod Climbs
 pub mod DifferenceLemmas
 pub mod Fitting
 pub mod Held
-pub mod HoldsLemmas
 pub mod Loops
 pub mod SameLemmas
 pub mod SignLemmas
 pub mod SpanLemmas
-pub mod Stated
-pub mod StatementLemmas
 pub mod Numbered
-pub mod OneBase
 pub mod PartLemmas
 pub mod Plain
 pub mod Prefixes

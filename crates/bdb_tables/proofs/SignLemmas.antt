@@ -1,8 +1,8 @@
 -- What statements say of a tuple at a path, also with one statement more or less.
 use Rattle.std.proofs.Common.{◌≡◌, ℕ, Bool, true, false, not, ◌&&◌, ◌||◌, List, [], ◌∷◌, Some, None, filter, refl, ap, sym, ◌∙◌, inl, inr}
-use Rattle.std.specs.List.{list_any, list_all}
+use Rattle.std.specs.List.{list_any}
 use Rattle.std.specs.Ordering.{is_eq}
-use Rattle.std.proofs.lemmas.Bool.{cases_Bool, false≢true, false_from_ne_true, and_parts, and_from, or_cases, or_left, or_right, not-true}
+use Rattle.std.proofs.lemmas.Bool.{cases_Bool, false≢true, false_from_ne_true, and_parts, and_from, or_cases, or_left, or_right}
 use Rattle.std.proofs.lemmas.Map.Views.{any-filter_same}
 use Rattle.bdb_base.specs.Bases.{stands, with_statement, without_statement}
 use Rattle.bdb_base.specs.Clash.{clash}
@@ -10,15 +10,14 @@ use Rattle.bdb_base.specs.Order.{statement_cmp}
 use Rattle.bdb_base.specs.OrderLemmas.{statement_exact, is_eq_statement_cmp}
 use Rattle.bdb_base.specs.Same.{same_path, same_tuple, same_sign, same_statement}
 use Rattle.bdb_base.specs.SameLemmas.{same_path-Decides, same_tuple-Decides, same_sign-Decides}
-use Rattle.bdb_base.specs.Worlds.{explicit, contradicted, IsConsistent}
+use Rattle.bdb_base.specs.SortedSet.{ascending}
+use Rattle.bdb_base.specs.Worlds.{explicit, IsConsistent}
 use Rattle.bdb_base.specs.declared.kinds.Sign.{Sign}
 use Rattle.bdb_base.specs.declared.kinds.Sign.TheVariants.{Plus, Minus}
 use Rattle.bdb_base.specs.declared.kinds.Stmt.{Stmt}
 use Rattle.bdb_base.specs.declared.tuple.Tuple.{Tuple}
-use Rattle.bdb_base.proofs.BaseLemmas.{clash_itself}
 use Rattle.bdb_base.proofs.ListLemmas.{filter_kept_one, filter_dropped_one}
-use Rattle.bdb_base.proofs.SetLemmas.{is_eq-Equal, list_any-put_in}
-use Rattle.bdb_base.proofs.WorldLemmas.{explicit_at, explicit_apart}
+use Rattle.bdb_base.proofs.SetLemmas.{is_eq-Equal, list_any-put_in, put_keeps_order, put_adds_member, members_make_set}
 use Rattle.bdb_tables.specs.Marks.{sign_by, explicit_sign}
 
 -- ---- tests
@@ -53,6 +52,20 @@ drop_unfelt p xs x none = any-filter_same p (λ y. not (is_eq (statement_cmp y x
     false≢true (sym none ∙ ap p (sym (statement_exact.exact y x (is_eq-Equal (statement_cmp y x) c))) ∙ e))))
     xs
 
+-- statements that compare as equal are one
+equal_is : (x y : Stmt) → is_eq (statement_cmp x y) ≡ true → x ≡ y
+equal_is x y e = statement_exact.exact x y (is_eq-Equal (statement_cmp x y) e)
+
+-- a statement put where it stands changes nothing
+pub put_stands : (xs : List Stmt) (y : Stmt) → ascending statement_cmp xs ≡ true → stands xs y ≡ true → with_statement xs y ≡ xs
+put_stands xs y up here = members_make_set statement_exact (with_statement xs y) xs (put_keeps_order statement_exact xs y up) up (λ z. put_adds_member statement_exact xs y z ∙ by z)
+  where
+    by : (z : Stmt) → (is_eq (statement_cmp y z) || stands xs z) ≡ stands xs z
+    by z = elim (cases_Bool (is_eq (statement_cmp y z))) [
+      | inl e ↦ ap (λ b. b || stands xs z) e ∙ sym here ∙ ap (stands xs) (equal_is y z e)
+      | inr e ↦ ap (λ b. b || stands xs z) e
+    ]
+
 -- ---- one sign
 
 -- a sign is the only one where none that clashes with it is explicit
@@ -81,11 +94,6 @@ sign_is_explicit stmts w u s e = by (explicit stmts w u Plus) (explicit stmts w 
 pub stands_is_explicit : (stmts : List Stmt) (x : Stmt) → stands stmts x ≡ explicit stmts x.path x.tuple x.sign
 stands_is_explicit [] x = refl
 stands_is_explicit (y ∷ ys) x = ap (λ b. b || stands ys x) (is_eq_statement_cmp y x) ∙ ap (λ b. same_statement y x || b) (stands_is_explicit ys x)
-
--- where none is contradicted, no statements of one path clash
-pub consistent_by : (keys : ℕ → ℕ) (stmts : List Stmt) → list_all (λ x. not (contradicted keys stmts x.path x.tuple x.sign)) stmts ≡ true → IsConsistent keys stmts
-consistent_by keys stmts h w u v s r e f =
-    explicit_apart keys stmts w u v s r (not-true (contradicted keys stmts w u s) (explicit_at (λ p t q. not (contradicted keys stmts p t q)) stmts w u s h e)) f
 
 -- ---- other places
 
@@ -123,19 +131,6 @@ put_is_explicit stmts x =
 -- statements with one more say its sign of its tuple at its path
 pub put_says_sign : (stmts : List Stmt) (x : Stmt) → IsConsistent (λ _. 1) (with_statement stmts x) → explicit_sign (with_statement stmts x) x.path x.tuple ≡ Some x.sign
 put_says_sign stmts x c = one_sign (with_statement stmts x) x.path x.tuple x.sign c (put_is_explicit stmts x)
-
--- so they do where it clashed with none
-pub put_says_new_sign : (stmts : List Stmt) (x : Stmt) → contradicted (λ _. 1) stmts x.path x.tuple x.sign ≡ false → explicit_sign (with_statement stmts x) x.path x.tuple ≡ Some x.sign
-put_says_new_sign stmts x apart = one_sign_by (with_statement stmts x) x.path x.tuple x.sign
-    (λ r k. put_unfelt (at x.path x.tuple r) stmts x (not_own r k)
-    ∙ false_from_ne_true (explicit stmts x.path x.tuple r) (λ e. false≢true (sym (explicit_apart (λ _. 1) stmts x.path x.tuple x.tuple x.sign r apart e) ∙ k)))
-    (put_is_explicit stmts x)
-  where
-    not_own : (r : Sign) → clash (λ _. 1) x.tuple x.sign x.tuple r ≡ true → at x.path x.tuple r x ≡ false
-    not_own r k = false_from_ne_true (at x.path x.tuple r x) (λ e.
-        let a = and_parts (same_path x.path x.path) (same_tuple x.tuple x.tuple && same_sign x.sign r) e in
-        let b = and_parts (same_tuple x.tuple x.tuple) (same_sign x.sign r) a.1 in
-        false≢true (sym (clash_itself (λ _. 1) x.tuple x.sign) ∙ ap (clash (λ _. 1) x.tuple x.sign x.tuple) ((same_sign-Decides x.sign r).0 b.1) ∙ k))
 
 module _ (stmts : List Stmt) (x : Stmt) (c : IsConsistent (λ _. 1) stmts) (here : explicit stmts x.path x.tuple x.sign ≡ true) where
   gone : (s : Sign) → x.sign ≡ s → explicit (without_statement stmts x) x.path x.tuple s ≡ false

@@ -1,17 +1,13 @@
 pub mod Codec
 pub mod Differences
 pub mod Grammar
-pub mod Holds
 pub mod InUse
 pub mod InUseLaws
-pub mod Laws
 pub mod Marks
 pub mod Names
-pub mod Opening
 pub mod Parts
 pub mod Rows
 pub mod Spans
-pub mod Statements
 pub mod States
 pub mod Stored
 pub mod Writes

@@ -1,5 +1,5 @@
--- When tables store a base with its worlds: in place of a row for each statement (as `Holds` says it) they have the tuples
--- by number, the worlds with their links and edges, and each row that a world has.
+-- When tables store a base with its worlds: they have the tuples by number, the worlds with their links and edges, and each
+-- row that a world has. A statement is a row of its path's world that is marked explicit.
 use Rattle.std.specs.Prelude.{◌≡◌, ℕ, suc, Bool, false, ◌&&◌, nat_le, List, ◌∷◌, Option, Some, None}
 use Prim.Native.Nat.{zero}
 use Rattle.std.specs.List.{slice_get}

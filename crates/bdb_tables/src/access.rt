@@ -45,19 +45,6 @@ pub fn get<T: Tab, K: Keeper>(
     }
 }
 
-/// The first row of the table. None exactly where there is none. One read.
-pub fn first<T: Tab, K: Keeper>(
-    alloc: Global,
-    keeper: &mut K,
-) -> Result<Option<(T::Key, T::Row)>, TabError>
-    requires grammar { TableFits T.codec (K.seen keeper.old).kept }
-    ensures found { IfOk result (HasFirst T.codec (K.seen keeper.old).kept (λ _. true)) }
-    ensures reads { OnOk result (RoseBy 1 (K.seen keeper.old).reads (K.seen keeper.new).reads) }
-    ensures read { IsRead (K.seen keeper.old) (K.seen keeper.new) result TabError.Fault }
-{
-    first_from::<T, K>(alloc, keeper, &[])
-}
-
 /// The first row whose key isn't below `low`. None exactly where there is none. One read.
 pub fn next<T: Tab, K: Keeper>(
     alloc: Global,

@@ -1,7 +1,6 @@
 // Tests of tables over a keeper in memory.
 ghost use Rattle.std.specs.Prelude.{◌≡◌, true, length, ◌<◌, IfOk};
 ghost use Rattle.bdb_tables.specs.Grammar.{InGrammar};
-ghost use Rattle.bdb_key.specs.Grammar.{HasPlainText, IsPlain};
 ghost use Rattle.bdb_tables.specs.InUse.{MayBePlain};
 
 use super::*;
@@ -9,34 +8,6 @@ use bdb_base::{List, Path, Sign, Tuple, Txt, Value};
 use bdb_keep::{Keeper, QuietKeeper};
 use std::alloc::Global;
 use std::test::Fail;
-
-/// Puts two users and two statements, and reads them back.
-fn read_back<K: Keeper>(
-    alloc: Global,
-    keeper: &mut K,
-    name: &Txt,
-    low: &(Path, Tuple),
-    high: &(Path, Tuple),
-) -> Result<bool, TabError>
-    requires running { (K.seen keeper.old).running ≡ true }
-    requires grammar { InGrammar (K.seen keeper.old).kept }
-    requires name { IsPlain name.now }
-    requires low { MayBePlain low.now }
-    requires high { MayBePlain high.now }
-{
-    put::<UserTab, K>(alloc, keeper, &1, name)?;
-    put::<UserTab, K>(alloc, keeper, &2, name)?;
-    put::<PlainTab, K>(alloc, keeper, high, &Sign::Minus)?;
-    put::<PlainTab, K>(alloc, keeper, low, &Sign::Plus)?;
-    let users = read_users(alloc, keeper)?;
-    let rels = read_relations(alloc, keeper)?;
-    let stmts = read_statements(alloc, keeper)?;
-    let signs = match stmts.as_slice() {
-        [first, second] => first.sign == Sign::Plus && second.sign == Sign::Minus,
-        _ => false,
-    };
-    Ok(users.len() == 2 && rels.is_empty() && signs)
-}
 
 /// Whether the row found is of a statement of these users with this sign.
 fn is_of(found: &Option<((Path, Tuple), Sign)>, users: &[u32], sign: Sign) -> bool {
@@ -76,36 +47,6 @@ fn ask_next<K: Keeper>(
     )
 }
 
-/// Writes four marks, of which the last takes the first away, and reads the world's rows.
-fn marks_of_a_world<K: Keeper>(
-    alloc: Global,
-    keeper: &mut K,
-    value: &Value,
-) -> Result<bool, TabError>
-    requires running { (K.seen keeper.old).running ≡ true }
-    requires grammar { InGrammar (K.seen keeper.old).kept }
-    requires value { HasPlainText value.now }
-{
-    let mut room = Room::new(alloc);
-    write_mark(keeper, &mut room, 0, 0, value, 0, Some((Sign::Plus, true)))?;
-    write_mark(
-        keeper,
-        &mut room,
-        0,
-        0,
-        value,
-        7,
-        Some((Sign::Minus, false)),
-    )?;
-    write_mark(keeper, &mut room, 1, 0, value, 0, Some((Sign::Plus, false)))?;
-    write_mark(keeper, &mut room, 0, 0, value, 0, None)?;
-    let rows = rows_under::<ValTab, K>(alloc, keeper, &[0, 0, 0, 0, 0, 0, 0, 0])?;
-    match rows.as_slice() {
-        [(key, mark)] => Ok(key.0 == 0 && key.3 == 7 && mark.0 == Sign::Minus && !mark.1),
-        _ => Ok(false),
-    }
-}
-
 /// Writes edges in one call, of which the last goes again, and reads those of a world.
 fn edges_of_a_world<K: Keeper>(alloc: Global, keeper: &mut K) -> Result<bool, TabError>
     requires running { (K.seen keeper.old).running ≡ true }
@@ -137,18 +78,6 @@ fn key_of(alloc: Global, users: &[u32], number: i64) -> Result<(Path, Tuple), Fa
 }
 
 #[test]
-fn what_was_put_is_read_back(rt: HostRuntime) -> Result<(), Fail> {
-    let alloc = rt.alloc();
-    let name = Txt::try_new(alloc, "Ann")?;
-    let low = key_of(alloc, &[2], 7)?;
-    let high = key_of(alloc, &[1, 2], -7)?;
-    let mut keeper = QuietKeeper::new(alloc);
-    assert!(rt; keeper.begin().is_ok());
-    assert_eq!(rt; read_back(alloc, &mut keeper, &name, &low, &high), Ok(true));
-    Ok(())
-}
-
-#[test]
 fn what_comes_next_is_found(rt: HostRuntime) -> Result<(), Fail> {
     let alloc = rt.alloc();
     let low = key_of(alloc, &[2], 7)?;
@@ -161,16 +90,6 @@ fn what_comes_next_is_found(rt: HostRuntime) -> Result<(), Fail> {
         ask_next(alloc, &mut keeper, &low, &between, &high, &beyond),
         Ok(true)
     );
-    Ok(())
-}
-
-#[test]
-fn rows_of_a_world_are_found(rt: HostRuntime) -> Result<(), Fail> {
-    let alloc = rt.alloc();
-    let value = Value::Int(1);
-    let mut keeper = QuietKeeper::new(alloc);
-    assert!(rt; keeper.begin().is_ok());
-    assert_eq!(rt; marks_of_a_world(alloc, &mut keeper, &value), Ok(true));
     Ok(())
 }
 

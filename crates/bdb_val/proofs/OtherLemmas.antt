@@ -1,5 +1,5 @@
 -- Changes of rows leave all other tables as they were.
-use Rattle.std.proofs.Common.{◌≡◌, ◌∙◌, ℕ, Bool, true, nat_eq, List, [], ◌∷◌, ◌++◌, Option, cond, refl, ap, sym, subst}
+use Rattle.std.proofs.Common.{◌≡◌, ◌∙◌, ℕ, Bool, true, nat_eq, List, [], ◌∷◌, Option, cond, refl, ap, sym, subst}
 use Rattle.std.specs.Option.{option_map}
 use Rattle.std.specs.Ordering.{eq_by_cmp}
 use Rattle.std.specs.FinMap as tables
@@ -12,9 +12,6 @@ use Rattle.bdb_tables.specs.Writes.{with_change, with_changes}
 use Rattle.bdb_tables.proofs.Held.{same_place}
 use Rattle.bdb_tables.proofs.WriteLemmas.{get_after_change}
 use Rattle.bdb_val.specs.Others.{is_in, SameBut}
-use Rattle.bdb_val.specs.Steps.{rows_made}
-use Rattle.bdb_val.specs.Walks.{Walked}
-use Rattle.bdb_val.specs.Walks.Walked.{first, next}
 
 -- a change is in its table alone
 change_same : {Key Row : Type 0} (d : Codec Key Row) (test : ℕ → Bool) (t : Tables) (x : Key × Option Row) → test d.number ≡ true → SameBut test t (with_change d t x)
@@ -33,8 +30,3 @@ is_rows n = nat_eq n 11
 
 pub made_same : (t u : Tables) (xs : List (ValKey × Option Mark)) → u ≡ with_changes val_codec t xs → SameBut is_rows t u
 made_same t u xs e = subst (SameBut is_rows t) (sym e) (changes_same val_codec is_rows t xs refl)
-
-pub walked_same : (prefix : ℕ → List ℕ) (t : Tables) (start : ℕ) (u : Tables) (left : List ℕ) (made : List (ValKey × Option Mark)) (put taken : ℕ) → Walked prefix t start u left made put taken → SameBut is_rows t u
-walked_same prefix t start _ _ _ _ _ (first u more s l) = made_same t u (rows_made start s.settling.own s.settling.from) s.settling.written
-walked_same prefix t start _ _ _ _ _ (next u v wid left more made put taken walked s l) =
-    λ q out. made_same u v (rows_made wid s.settling.own s.settling.from) s.settling.written q out ∙ walked_same prefix t start u (left ++ wid ∷ []) made put taken walked q out

@@ -73,7 +73,7 @@ module _ (tuple : ℕ → Option Tuple) (f : ValKey → Option Mark) (t : Tables
   -- ---- each entry has its tuple's key
 
   -- an entry's key is that of the row of the tuple of its number
-  abbrev HasKey : ValKey × Mark → Type 0
+  abbrev pub HasKey : ValKey × Mark → Type 0
   HasKey e = (u : Tuple) × (tuple e.0.3 ≡ Some u) × (row_key e.0.0 e.0.3 u ≡ e.0)
 
   entries_keyed : (prefix : List ℕ) (es all : List (ValKey × Mark)) → AllByRecursion (IsUnder val_codec prefix) es
@@ -89,7 +89,7 @@ module _ (tuple : ℕ → Option Tuple) (f : ValKey → Option Mark) (t : Tables
       stands None e s = absurd (false≢true (ap is_some e ∙ s))
       stands (Some m) e s = refl
 
-  keyed_under : (prefix : List ℕ) (es : List (ValKey × Mark)) → AreUnder val_codec t prefix es → AllByRecursion HasKey es
+  pub keyed_under : (prefix : List ℕ) (es : List (ValKey × Mark)) → AreUnder val_codec t prefix es → AllByRecursion HasKey es
   keyed_under prefix es u = entries_keyed prefix es es u.each u.found (entry_found es es (λ q s. s))
 
   -- ---- what is found by a tuple's number

@@ -56,11 +56,11 @@ none_in xs tid e = none (mark_in xs tid) e
 
 -- ---- what holds of each change
 
-all_append : {X : Type 0} (P : X → Type 0) (xs ys : List X) → AllByRecursion P xs → AllByRecursion P ys → AllByRecursion P (xs ++ ys)
+pub all_append : {X : Type 0} (P : X → Type 0) (xs ys : List X) → AllByRecursion P xs → AllByRecursion P ys → AllByRecursion P (xs ++ ys)
 all_append P [] ys a b = b
 all_append P (x ∷ xs) ys a b = (a.0, all_append P xs ys a.1 b)
 
-all_flat_map : {X Y : Type 0} (Q : X → Type 0) (P : Y → Type 0) (f : X → List Y) → ((x : X) → Q x → AllByRecursion P (f x)) → (xs : List X) → AllByRecursion Q xs → AllByRecursion P (flat_map f xs)
+pub all_flat_map : {X Y : Type 0} (Q : X → Type 0) (P : Y → Type 0) (f : X → List Y) → ((x : X) → Q x → AllByRecursion P (f x)) → (xs : List X) → AllByRecursion Q xs → AllByRecursion P (flat_map f xs)
 all_flat_map Q P f h [] a = tt
 all_flat_map Q P f h (x ∷ xs) a = all_append P (f x) (flat_map f xs) (h x a.0) (all_flat_map Q P f h xs a.1)
 
@@ -203,7 +203,7 @@ settling_is_right keys tuple stored own from a b c tid t e =
 
 -- ---- where nothing is to be another
 
-no_changes : (f : Stored → List Change) (Q : Stored → Type 0) → ((x : Stored) → Q x → f x ≡ []) → (xs : List Stored) → AllByRecursion Q xs → flat_map f xs ≡ []
+pub no_changes : (f : Stored → List Change) (Q : Stored → Type 0) → ((x : Stored) → Q x → f x ≡ []) → (xs : List Stored) → AllByRecursion Q xs → flat_map f xs ≡ []
 no_changes f Q h [] a = refl
 no_changes f Q h (x ∷ xs) a = ap (λ ys. ys ++ flat_map f xs) (h x a.0) ∙ no_changes f Q h xs a.1
 

@@ -1,6 +1,6 @@
--- What the code that settles one world owes.
-use Rattle.std.proofs.Common.{◌≡◌, ◌∙◌, ℕ, ◌<◌, true, List, [], ◌∷◌, length, Option, Some, None, MatchOption, inl, inr, is_some, map, ap, sym, subst, arith}
-use Rattle.std.specs.List.{AllByRecursion}
+-- What the code that settles a group of one world owes.
+use Rattle.std.proofs.Common.{◌≡◌, ◌∙◌, ℕ, Bool, true, false, List, [], ◌∷◌, length, filter, Option, Some, None, MatchOption, cond, inl, inr, is_some, refl, ap, sym, subst}
+use Rattle.std.specs.List.{list_any, flat_map, AllByRecursion}
 use Rattle.std.specs.Ordering.{eq_by_cmp}
 use Rattle.std.specs.Option.{option_map}
 use Rattle.std.specs.FinMap as tables
@@ -8,19 +8,25 @@ use Rattle.std.proofs.lemmas.Bool.{cases_Bool, cond-false}
 use Rattle.bdb_base.specs.declared.kinds.Value.{Value}
 use Rattle.bdb_base.specs.declared.kinds.Value.TheVariants.{Int, Text}
 use Rattle.bdb_keep.specs.Tables.{Tables, bytes_cmp}
-use Rattle.bdb_key.specs.Grammar.{IsPlainValue, ArePlain, HasPlainText}
-use Rattle.bdb_tables.specs.Codec.{place}
-use Rattle.bdb_tables.specs.InUse.{ValKey, val_bytes, tuple_codec, val_codec}
+use Rattle.bdb_key.specs.Grammar.{IsNum, IsPlainValue, HasPlainText}
+use Rattle.bdb_paths.proofs.StateLemmas.{list_any_same}
+use Rattle.bdb_tables.specs.Codec.{HasAt, place}
+use Rattle.bdb_tables.specs.InUse.{ValKey, val_bytes, link_codec, tuple_codec, val_codec}
 use Rattle.bdb_tables.specs.InUseLaws.{vals_are_one}
 use Rattle.bdb_tables.specs.Marks.{Mark}
+use Rattle.bdb_tables.specs.Spans.{AreUnder}
 use Rattle.bdb_tables.specs.Writes.{IsChange, MayBeChange, with_change, with_changes}
 use Rattle.bdb_tables.proofs.Held.{same_place}
 use Rattle.bdb_tables.proofs.WriteLemmas.{get_after_change, row_elsewhere}
-use Rattle.bdb_val.specs.Reads.{AreTold, AreReadUnder, HaveTuples}
-use Rattle.bdb_val.specs.Settling.{Change, next_mark, settling, key_value, row_key, keyed}
-use Rattle.bdb_val.specs.Steps.{rows_made, HasPlainKey}
+use Rattle.bdb_val.specs.GroupChanges.{mark_under, is_explicit_plus, handed_down, group_change, own_change, new_change, group_changes}
+use Rattle.bdb_val.specs.Reads.{AreTold, HaveTuples}
+use Rattle.bdb_val.specs.Settling.{mark_in, same_mark}
+use Rattle.bdb_val.specs.Steps.{turns_from, comes, goes, turns, is_new, is_gone, Tells}
+use Rattle.bdb_val.specs.declared.stored.Settled.{Settled}
 use Rattle.bdb_val.specs.declared.stored.Stored.{Stored}
-use Rattle.bdb_val.proofs.SettlingLemmas.{settling_each, change_each}
+use Rattle.bdb_val.proofs.GroupLemmas.{mark_told}
+use Rattle.bdb_val.proofs.SettlingLemmas.{all_append, all_flat_map, all_of}
+use Rattle.bdb_val.proofs.ToldLemmas.{Stands, entries_stand}
 
 -- ---- texts are plain
 
@@ -28,32 +34,33 @@ pub plain_text : (v : Value) → IsPlainValue v → HasPlainText v
 plain_text (Int m) h = tt
 plain_text (Text b) h = h
 
-first_text : (vs : List Value) → 0 < length vs → ArePlain vs → HasPlainText (key_value vs)
-first_text [] l h = absurd (omega arith)
-first_text (v ∷ vs) l h = plain_text v h.0
+-- ---- changes of a group
 
-told_plain : (t : Tables) (es : List (ValKey × Mark)) (xs : List Stored) → AreTold t es xs → AllByRecursion HasPlainKey xs
-told_plain t [] [] a = tt
-told_plain t [] (x ∷ xs) a = absurd a
-told_plain t (e ∷ es) [] a = absurd a
-told_plain t (e ∷ es) (x ∷ xs) a = (first_text x.tuple.vals a.0.tuple.in_grammar.some a.0.tuple.in_grammar.plain, told_plain t es xs a.1)
+change_each : (P : ValKey × Option Mark → Type 0) (x : ValKey) (next : Option Mark) (b : Bool) → P (x, next) → AllByRecursion P (cond b [] ((x, next) ∷ []))
+change_each P x next true p = tt
+change_each P x next false p = (p, tt)
 
-pub read_plain : (t : Tables) (prefix : List ℕ) (xs : List Stored) → AreReadUnder t prefix xs → AllByRecursion HasPlainKey xs
-read_plain t prefix xs r = told_plain t r.entries xs r.told
+cond_each : (P : ValKey × Option Mark → Type 0) (xs : List (ValKey × Option Mark)) (b : Bool) → AllByRecursion P xs → AllByRecursion P (cond b [] xs)
+cond_each P xs true a = tt
+cond_each P xs false a = a
 
-all_keyed : (wid : ℕ) (P : ValKey × Option Mark → Type 0) (cs : List Change) → AllByRecursion (λ x. P (keyed wid x)) cs → AllByRecursion P (map (keyed wid) cs)
-all_keyed wid P [] a = tt
-all_keyed wid P (x ∷ xs) a = (a.0, all_keyed wid P xs a.1)
+-- what holds of the change of each row to any mark holds of the changes that settle a group
+group_each : (wid rel : ℕ) (v : Value) (own from : List (ValKey × Mark)) (Q : ValKey × Mark → Type 0) (P : ValKey × Option Mark → Type 0)
+    → ((e : ValKey × Mark) (m : Option Mark) → Q e → P ((wid, rel, v, e.0.3), m)) → AllByRecursion Q own → AllByRecursion Q from → AllByRecursion P (group_changes wid rel v own from)
+group_each wid rel v own from Q P h a b =
+    let barred = list_any is_explicit_plus own in
+    all_append P (flat_map (own_change wid rel v barred from) own) (flat_map (new_change wid rel v barred own) from)
+    (all_flat_map Q P (own_change wid rel v barred from) (λ e q.
+    let next = handed_down barred (mark_under from e.0.3) in
+    cond_each P (group_change wid rel v e.0.3 (Some e.1) next) e.1.1 (change_each P (wid, rel, v, e.0.3) next (same_mark (Some e.1) next) (h e next q))) own a)
+    (all_flat_map Q P (new_change wid rel v barred own) (λ e q.
+    let next = handed_down barred (Some e.1) in
+    cond_each P (group_change wid rel v e.0.3 None next) (is_some (mark_under own e.0.3)) (change_each P (wid, rel, v, e.0.3) next (same_mark None next) (h e next q))) from b)
 
--- what holds of the change of each row to any mark holds of the changes that settle a world
-made_each : (wid : ℕ) (own from : List Stored) (Q : Stored → Type 0) (P : ValKey × Option Mark → Type 0) → ((x : Stored) (m : Option Mark) → Q x → P (row_key wid x.tid x.tuple, m))
-    → AllByRecursion Q own → AllByRecursion Q from → AllByRecursion P (rows_made wid own from)
-made_each wid own from Q P h a b = all_keyed wid P (settling (λ _. 1) own own from)
-    (settling_each (λ _. 1) own own from Q (λ x. P (keyed wid x))
-    (λ x q. change_each (λ _. 1) own own from (λ y. P (keyed wid y)) x (λ _. h x (next_mark (λ _. 1) own from x.tid x.tuple) q)) a a b)
-
-pub made_may_be : (wid : ℕ) (own from : List Stored) → AllByRecursion HasPlainKey own → AllByRecursion HasPlainKey from → AllByRecursion (MayBeChange val_codec) (rows_made wid own from)
-made_may_be wid own from a b = made_each wid own from HasPlainKey (MayBeChange val_codec) (λ x m q. record { key = q; row = any m }) a b
+-- the changes that settle a group may be made, where the text of its key is plain
+pub group_may_be : (wid rel : ℕ) (v : Value) (own from : List (ValKey × Mark)) → HasPlainText v → AllByRecursion (MayBeChange val_codec) (group_changes wid rel v own from)
+group_may_be wid rel v own from p =
+    group_each wid rel v own from (λ _. Unit {0}) (MayBeChange val_codec) (λ e m _. record { key = p; row = any m }) (all_of (λ _. Unit {0}) (λ _. tt) own) (all_of (λ _. Unit {0}) (λ _. tt) from)
   where
     any : (m : Option Mark) → MatchOption m (Unit {0}) (λ _. Unit {0})
     any None = tt
@@ -64,12 +71,6 @@ made_may_be wid own from a b = made_each wid own from HasPlainKey (MayBeChange v
 -- a tuple's number has a row
 abbrev pub HasTuple : Tables → ℕ → Type 0
 HasTuple t tid = is_some (tables.get t (place tuple_codec tid)) ≡ true
-
-told_tuples : (t : Tables) (es : List (ValKey × Mark)) (xs : List Stored) → AreTold t es xs → AllByRecursion (λ x. HasTuple t x.tid) xs
-told_tuples t [] [] a = tt
-told_tuples t [] (x ∷ xs) a = absurd a
-told_tuples t (e ∷ es) [] a = absurd a
-told_tuples t (e ∷ es) (x ∷ xs) a = (ap is_some a.0.tuple.found, told_tuples t es xs a.1)
 
 tuple_stays : (t : Tables) (x : ValKey × Option Mark) (tid : ℕ) → tables.get (with_change val_codec t x) (place tuple_codec tid) ≡ tables.get t (place tuple_codec tid)
 tuple_stays t x tid = row_elsewhere tuple_codec val_codec (λ e. cc) t x (tuple_codec.key_bytes tid)
@@ -95,21 +96,41 @@ changes_keep (x ∷ xs) t h c r = changes_keep xs (with_change val_codec t x) (o
     later [] a = tt
     later (y ∷ ys) a = (ap is_some (tuple_stays t x y.0.3) ∙ a.0, later ys a.1)
 
--- rows of numbers of tuples that have their rows
-abbrev pub HaveTheirTuples : Tables → List Stored → Type 0
-HaveTheirTuples t xs = AllByRecursion (λ x. HasTuple t x.tid) xs
+-- rows that are read have tuples
+under_tuples : (t : Tables) (prefix : List ℕ) (es : List (ValKey × Mark)) → HaveTuples t → AreUnder val_codec t prefix es → AllByRecursion (λ e. HasTuple t e.0.3) es
+under_tuples t prefix es h u = go es (entries_stand t prefix es u)
+  where
+    go : (ds : List (ValKey × Mark)) → AllByRecursion (Stands t) ds → AllByRecursion (λ e. HasTuple t e.0.3) ds
+    go [] a = tt
+    go (d ∷ ds) a = (h d.0 a.0.0 a.0.1, go ds a.1)
 
-pub read_tuples : (t : Tables) (prefix : List ℕ) (xs : List Stored) → AreReadUnder t prefix xs → HaveTheirTuples t xs
-read_tuples t prefix xs r = told_tuples t r.entries xs r.told
+-- after the changes that settle a group each row has its tuple
+pub group_keeps_tuples : (t u : Tables) (wid rel : ℕ) (v : Value) (link : Option ℕ) (prefix : ℕ → List ℕ) (own from : List (ValKey × Mark)) → HaveTuples t
+    → AreUnder val_codec t (prefix wid) own → MatchOption link (from ≡ []) (λ m. AreUnder val_codec t (prefix m) from)
+    → AllByRecursion (IsChange val_codec) (group_changes wid rel v own from) → u ≡ with_changes val_codec t (group_changes wid rel v own from) → HaveTuples u
+group_keeps_tuples t u wid rel v link prefix own from h a b c w =
+    subst HaveTuples (sym w) (changes_keep (group_changes wid rel v own from) t h c
+    (group_each wid rel v own from (λ e. HasTuple t e.0.3) (λ x. HasTuple t x.0.3) (λ e m q. q) (under_tuples t (prefix wid) own h a) (over link b)))
+  where
+    over : (o : Option ℕ) → MatchOption o (from ≡ []) (λ m. AreUnder val_codec t (prefix m) from) → AllByRecursion (λ e. HasTuple t e.0.3) from
+    over None e = subst (AllByRecursion (λ e. HasTuple t e.0.3)) (sym e) tt
+    over (Some m) e = under_tuples t (prefix m) from h e
 
--- after the changes that settle a world each row has its tuple
-pub made_keep_tuples : (t u : Tables) (wid : ℕ) (own from : List Stored) → HaveTuples t → HaveTheirTuples t own → HaveTheirTuples t from
-    → AllByRecursion (IsChange val_codec) (rows_made wid own from) → u ≡ with_changes val_codec t (rows_made wid own from) → HaveTuples u
-made_keep_tuples t u wid own from h a b c w =
-    subst HaveTuples (sym w) (changes_keep (rows_made wid own from) t h c (made_each wid own from (λ x. HasTuple t x.tid) (λ x. HasTuple t x.0.3) (λ x m q. q) a b))
+-- a link that is read is a number
+pub fits_at : (t : Tables) (wid : ℕ) (link : Option ℕ) → HasAt link_codec t wid link → MatchOption link (Unit {0}) IsNum
+fits_at t wid None h = tt
+fits_at t wid (Some m) h = h.in_grammar
 
--- what was read over a link, or nothing
-pub linked_each : (P : List Stored → Type 0) (t : Tables) (prefix : ℕ → List ℕ) (link : Option ℕ) (xs : List Stored) → P [] → ((m : ℕ) → AreReadUnder t (prefix m) xs → P xs)
-    → MatchOption link (xs ≡ []) (λ m. AreReadUnder t (prefix m) xs) → P xs
-linked_each P t prefix None xs none some h = subst P (sym h) none
-linked_each P t prefix (Some m) xs none some h = some m h
+-- ---- what is told
+
+-- what is told by numbers is told of the rows with their tuples
+pub group_tells : (t : Tables) (es : List (ValKey × Mark)) (xs : List Stored) (made : List (ValKey × Option Mark)) (s : Settled) → AreTold t es xs → Tells (mark_under es) made s → Tells (mark_in xs) made s
+group_tells t es xs made s a h = record {
+  turned = h.turned ∙ list_any_same (turns (mark_under es)) (turns (mark_in xs)) (λ x. ap (λ m. turns_from m x.1) (mark_told t es xs a x.0.3)) made;
+  put = h.put ∙ ap length (filter_same (is_new (mark_under es)) (is_new (mark_in xs)) (λ x. ap (λ m. comes m x.1) (mark_told t es xs a x.0.3)) made);
+  taken = h.taken ∙ ap length (filter_same (is_gone (mark_under es)) (is_gone (mark_in xs)) (λ x. ap (λ m. goes m x.1) (mark_told t es xs a x.0.3)) made);
+}
+  where
+    filter_same : (p q : ValKey × Option Mark → Bool) → ((x : ValKey × Option Mark) → p x ≡ q x) → (cs : List (ValKey × Option Mark)) → filter p cs ≡ filter q cs
+    filter_same p q e [] = refl
+    filter_same p q e (c ∷ cs) = ap (λ b. cond b (c ∷ filter p cs) (filter p cs)) (e c) ∙ ap (λ r. cond (q c) (c ∷ r) r) (filter_same p q e cs)

@@ -191,19 +191,19 @@ module _ (tuple : ℕ → Option Tuple) (g : ValKey → Option Mark) (u : Tables
 
   -- so many of the places had no row before
   pub put_counts : put_by s ≡ length (filter (has_none u) (map at_place (changes_of s)))
-  put_counts = filter_mapped (is_new s.settling.own) (has_none u) at_place (changes_of s) (go (settling (λ _. 1) s.settling.own s.settling.own s.settling.from) of real)
+  put_counts = filter_mapped (is_new (mark_in s.settling.own)) (has_none u) at_place (changes_of s) (go (settling (λ _. 1) s.settling.own s.settling.own s.settling.from) of real)
     where
       go : (ds : List Change) → AllByRecursion (IsOf tuple test) ds → AllByRecursion (λ d. mark_in s.settling.own d.0 ≢ d.2) ds
-          → AllByRecursion (λ x. is_new s.settling.own x ≡ has_none u (at_place x)) (map (keyed wid) ds)
+          → AllByRecursion (λ x. is_new (mark_in s.settling.own) x ≡ has_none u (at_place x)) (map (keyed wid) ds)
       go [] a b = tt
       go (d ∷ ds) a b = (new_is (mark_in s.settling.own d.0) d.2 b.0 ∙ sym (had d a.0), go ds a.1 b.1)
 
   -- so many have none afterwards
   pub taken_counts : taken_by s ≡ length (filter (has_none v) (map at_place (changes_of s)))
-  taken_counts = filter_mapped (is_gone s.settling.own) (has_none v) at_place (changes_of s) (go (settling (λ _. 1) s.settling.own s.settling.own s.settling.from) of real nexts)
+  taken_counts = filter_mapped (is_gone (mark_in s.settling.own)) (has_none v) at_place (changes_of s) (go (settling (λ _. 1) s.settling.own s.settling.own s.settling.from) of real nexts)
     where
       go : (ds : List Change) → AllByRecursion (IsOf tuple test) ds → AllByRecursion (λ d. mark_in s.settling.own d.0 ≢ d.2) ds
-          → AllByRecursion (λ d. d.2 ≡ next_mark (λ _. 1) s.settling.own s.settling.from d.0 d.1) ds → AllByRecursion (λ x. is_gone s.settling.own x ≡ has_none v (at_place x)) (map (keyed wid) ds)
+          → AllByRecursion (λ d. d.2 ≡ next_mark (λ _. 1) s.settling.own s.settling.from d.0 d.1) ds → AllByRecursion (λ x. is_gone (mark_in s.settling.own) x ≡ has_none v (at_place x)) (map (keyed wid) ds)
       go [] a b e = tt
       go (d ∷ ds) a b e = (gone_is (mark_in s.settling.own d.0) d.2 b.0 ∙ sym (gets d a.0 e.0), go ds a.1 b.1 e.1)
 

@@ -146,11 +146,11 @@ last_sign (c ∷ cs) tid m z a e = last_sign cs tid (cond (nat_eq c.0 tid) c.2 m
   | inr k ↦ ap sign_of (cond-false (nat_eq c.0 tid) c.2 m k) ∙ e
 ])
 
-quiet_each : (wid : ℕ) (own : List Stored) (cs : List Change) → list_any (turns own) (map (keyed wid) cs) ≡ false → (tid : ℕ)
+quiet_each : (wid : ℕ) (own : List Stored) (cs : List Change) → list_any (turns (mark_in own)) (map (keyed wid) cs) ≡ false → (tid : ℕ)
     → AllByRecursion (λ c. nat_eq c.0 tid ≡ true → sign_of c.2 ≡ sign_of (mark_in own tid)) cs
 quiet_each wid own [] q tid = tt
 quiet_each wid own (c ∷ cs) q tid =
-    let p = or_parts (turns own (keyed wid c)) (list_any (turns own) (map (keyed wid) cs)) q in (
+    let p = or_parts (turns (mark_in own) (keyed wid c)) (list_any (turns (mark_in own)) (map (keyed wid) cs)) q in (
       (λ k. sym (same_signs_tells (sign_of (mark_in own c.0)) (sign_of c.2) (not-false (same_signs (sign_of (mark_in own c.0)) (sign_of c.2)) p.0))
           ∙ ap (λ i. sign_of (mark_in own i)) (eqb-true c.0 tid k)),
       quiet_each wid own cs p.1 tid,

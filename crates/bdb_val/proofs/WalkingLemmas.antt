@@ -1,24 +1,34 @@
 -- A walk as the code goes on with it.
 use Rattle.std.proofs.Common.{◌≡◌, ◌∙◌, ℕ, ◌+◌, ◌≤◌, List, [], ◌∷◌, ◌++◌, ◌⊎◌, length, Option, inl, inr, refl, ap, sym, subst, arith}
-use Rattle.std.proofs.lemmas.List.{length-append}
+use Rattle.std.proofs.lemmas.List.{append-nil, length-append}
 use Rattle.bdb_base.specs.Causes.{Rises}
+use Rattle.bdb_base.specs.declared.kinds.Stmt.{Stmt}
+use Rattle.bdb_base.specs.declared.kinds.Value.{Value}
+use Rattle.bdb_base.specs.declared.tuple.Tuple.{Tuple}
 use Rattle.bdb_keep.specs.Seen.{Seen}
+use Rattle.bdb_key.specs.Grammar.{IsNum, IsPlainValue}
 use Rattle.bdb_tables.specs.Grammar.{InGrammar}
-use Rattle.bdb_tables.specs.InUse.{ValKey}
+use Rattle.bdb_tables.specs.InUse.{ValKey, val_codec}
 use Rattle.bdb_tables.specs.Marks.{Mark}
-use Rattle.bdb_val.specs.Reads.{HaveTuples}
+use Rattle.bdb_tables.specs.Names.{Names}
+use Rattle.bdb_tables.specs.Writes.{with_rows_at}
+use Rattle.bdb_val.specs.Groups.{IsUnsettled}
+use Rattle.bdb_val.specs.Middle.{worlds_of}
+use Rattle.bdb_val.specs.Others.{SameBut}
+use Rattle.bdb_val.specs.Reads.{HaveTuples, is_of_group, group_prefix}
+use Rattle.bdb_val.specs.Stated.{WhereStated}
 use Rattle.bdb_val.specs.Steps.{counted}
 use Rattle.bdb_val.specs.Visits.{IsFirstVisit, IsNextVisit}
 use Rattle.bdb_val.specs.Walks.{AreLinkedTo, IsQuiet, Walked, changes_of, put_by, taken_by}
 use Rattle.bdb_val.specs.Walks.Walked.{first, next}
 use Rattle.bdb_val.specs.declared.stored.Settled.{Settled}
 use Rattle.bdb_val.proofs.Calls.{HasGone, gone_then}
+use Rattle.bdb_val.proofs.OtherLemmas.{is_rows}
+use Rattle.bdb_val.proofs.ReadLemmas.{group_span}
+use Rattle.bdb_val.proofs.WalkLemmas.{is_group, walk_on_way}
 
 -- how far a walk has come: its changes are made, each by one write
-pub record IsWalking (old now : Seen) (prefix : ℕ → List ℕ) (start : ℕ) (list : List ℕ) (total : Settled) : Type 0 where
-  pub gone : HasGone old now
-  pub grammar : InGrammar now.kept
-  pub tuples : HaveTuples now.kept
+pub record IsWalked (old now : Seen) (prefix : ℕ → List ℕ) (start : ℕ) (list : List ℕ) (total : Settled) : Type 0 where
   pub made : List (ValKey × Option Mark)
   pub put : ℕ
   pub taken : ℕ
@@ -27,16 +37,22 @@ pub record IsWalking (old now : Seen) (prefix : ℕ → List ℕ) (start : ℕ) 
   pub taken_is : total.taken ≡ counted taken
   pub writes : Rises (length made) old.writes now.writes
 
+-- a walk goes on: this far it has come, whichever statements they are where only a group was not settled
+pub record IsWalking (old now : Seen) (rel : ℕ) (v : Value) (start : ℕ) (list : List ℕ) (total : Settled) : Type 0 where
+  pub gone : HasGone old now
+  pub grammar : InGrammar now.kept
+  pub tuples : HaveTuples now.kept
+  pub others : SameBut is_rows old.kept now.kept
+  pub walked : (stmts : List Stmt) (ns : Names) (tuple : ℕ → Option Tuple) (f : ValKey → Option Mark) → IsUnsettled stmts ns tuple f old.kept start (is_of_group rel v)
+      → IsWalked old now (λ w. group_prefix w rel v) start list total
+
 counted_both : (a b m n : ℕ) → a ≡ counted m → b ≡ n → counted (a + b) ≡ counted (m + n)
 counted_both a b m n e f = omega arith
 
 -- the first visit
-pub walk_begins : (old new : Seen) (prefix : ℕ → List ℕ) (start : ℕ) (before list : List ℕ) (s sum : Settled) → HasGone old new → InGrammar new.kept → HaveTuples new.kept → sum.put ≡ counted s.put → sum.taken ≡ counted s.taken
-    → before ≡ [] → IsFirstVisit old new prefix start before list s → IsWalking old new prefix start list sum
-walk_begins old new prefix start before list s sum gone grammar tuples p q none v = record {
-  gone = gone;
-  grammar = grammar;
-  tuples = tuples;
+first_walked : (old new : Seen) (prefix : ℕ → List ℕ) (start : ℕ) (before list : List ℕ) (s sum : Settled) → sum.put ≡ counted s.put → sum.taken ≡ counted s.taken → before ≡ []
+    → IsFirstVisit old new prefix start before list s → IsWalked old new prefix start list sum
+first_walked old new prefix start before list s sum p q none v = record {
   made = changes_of v.visit;
   put = put_by v.visit;
   taken = taken_by v.visit;
@@ -46,6 +62,16 @@ walk_begins old new prefix start before list s sum gone grammar tuples p q none 
   writes = v.told.writes;
 }
 
+pub walk_begins : (old new : Seen) (rel : ℕ) (v : Value) (start : ℕ) (before list : List ℕ) (s sum : Settled) → HasGone old new → InGrammar new.kept → HaveTuples new.kept → SameBut is_rows old.kept new.kept
+    → sum.put ≡ counted s.put → sum.taken ≡ counted s.taken → before ≡ [] → WhereStated old.kept (IsFirstVisit old new (λ w. group_prefix w rel v) start before list s) → IsWalking old new rel v start list sum
+walk_begins old new rel v start before list s sum gone grammar tuples others p q none visit = record {
+  gone = gone;
+  grammar = grammar;
+  tuples = tuples;
+  others = others;
+  walked = λ stmts ns tuple f h. first_walked old new (λ w. group_prefix w rel v) start before list s sum p q none (visit stmts (worlds_of ns) tuple f h.explicit);
+}
+
 rises_then : (m n a b c : ℕ) → a ≤ b → b ≤ c → Rises m a b → Rises n b c → Rises (m + n) a c
 rises_then m n a b c p q r s below =
     let e : c ≡ b + n = s below in
@@ -53,31 +79,39 @@ rises_then m n a b c p q r s below =
     omega arith
 
 -- one visit more
-pub walk_more : (old now new : Seen) (prefix : ℕ → List ℕ) (start wid : ℕ) (list left after : List ℕ) (total s sum : Settled) → IsWalking old now prefix start list total → list ≡ left ++ wid ∷ []
-    → HasGone now new → InGrammar new.kept → HaveTuples new.kept → IsNextVisit now new prefix wid left after s
-    → sum.put ≡ counted (total.put + s.put) → sum.taken ≡ counted (total.taken + s.taken) → IsWalking old new prefix start after sum
-walk_more old now new prefix start wid list left after total s sum w is gone grammar tuples v p q =
+next_walked : (old now new : Seen) (prefix : ℕ → List ℕ) (start wid : ℕ) (list left after : List ℕ) (total s sum : Settled) → HasGone old now → HasGone now new → IsWalked old now prefix start list total
+    → list ≡ left ++ wid ∷ [] → IsNextVisit now new prefix wid left after s → sum.put ≡ counted (total.put + s.put) → sum.taken ≡ counted (total.taken + s.taken) → IsWalked old new prefix start after sum
+next_walked old now new prefix start wid list left after total s sum before gone w is v p q =
     let walked : Walked prefix old.kept start now.kept (left ++ wid ∷ []) w.made w.put w.taken = subst (λ xs. Walked prefix old.kept start now.kept xs w.made w.put w.taken) is w.walked in
     let goes = λ (more : List ℕ) (e : after ≡ left ++ more) (l : ((more ≡ []) × IsQuiet v.visit) ⊎ AreLinkedTo new.kept wid more).
     subst (λ xs. Walked prefix old.kept start new.kept xs (w.made ++ changes_of v.visit) (w.put + put_by v.visit) (w.taken + taken_by v.visit)) (sym e)
     (next now.kept new.kept wid left more w.made w.put w.taken walked v.visit l) in
     record {
-      gone = gone_then old now new w.gone gone;
-      grammar = grammar;
-      tuples = tuples;
       made = w.made ++ changes_of v.visit;
       put = w.put + put_by v.visit;
       taken = w.taken + taken_by v.visit;
       walked = elim v.pushed [
-        | inl k ↦ goes [] (k.0 ∙ sym (append_nothing left)) (inl (refl, k.1))
+        | inl k ↦ goes [] (k.0 ∙ sym (append-nil left)) (inl (refl, k.1))
         | inr k ↦ goes k.more k.list (inr k.linked)
       ];
       put_is = p ∙ counted_both total.put s.put w.put (put_by v.visit) w.put_is v.told.put;
       taken_is = q ∙ counted_both total.taken s.taken w.taken (taken_by v.visit) w.taken_is v.told.taken;
       writes = subst (λ n. Rises n old.writes new.writes) (sym (length-append w.made (changes_of v.visit)))
-          (rises_then (length w.made) (length (changes_of v.visit)) old.writes now.writes new.writes w.gone.counts.writes gone.counts.writes w.writes v.told.writes);
+          (rises_then (length w.made) (length (changes_of v.visit)) old.writes now.writes new.writes before.counts.writes gone.counts.writes w.writes v.told.writes);
     }
-  where
-    append_nothing : (xs : List ℕ) → xs ++ [] ≡ xs
-    append_nothing [] = refl
-    append_nothing (x ∷ xs) = ap (λ (ys : List ℕ). x ∷ ys) (append_nothing xs)
+
+pub walk_more : (old now new : Seen) (rel : ℕ) (v : Value) (start wid : ℕ) (list left after : List ℕ) (total s sum : Settled) → IsNum rel → IsPlainValue v → IsWalking old now rel v start list total
+    → list ≡ left ++ wid ∷ [] → HasGone now new → InGrammar new.kept → HaveTuples new.kept → SameBut is_rows now.kept new.kept
+    → WhereStated now.kept (IsNextVisit now new (λ w. group_prefix w rel v) wid left after s)
+    → sum.put ≡ counted (total.put + s.put) → sum.taken ≡ counted (total.taken + s.taken) → IsWalking old new rel v start after sum
+walk_more old now new rel v start wid list left after total s sum r plain w is gone grammar tuples others visit p q = record {
+  gone = gone_then old now new w.gone gone;
+  grammar = grammar;
+  tuples = tuples;
+  others = λ place out. others place out ∙ w.others place out;
+  walked = λ stmts ns tuple f h.
+      let k = w.walked stmts ns tuple f h in
+      let prefix = λ (m : ℕ). group_prefix m rel v in
+      let way = walk_on_way stmts ns tuple (is_of_group rel v) prefix h.names (λ m n. group_span m rel v n r plain) (is_group rel v) f old.kept start h now.kept list k.made k.put k.taken k.walked in
+      next_walked old now new prefix start wid list left after total s sum w.gone gone k is (visit stmts (worlds_of ns) tuple (with_rows_at val_codec f k.made) way.explicit) p q;
+}

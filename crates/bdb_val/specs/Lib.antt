@@ -1,4 +1,5 @@
 pub mod Counts
+pub mod GroupChanges
 pub mod Groups
 pub mod Laws
 pub mod Middle
@@ -7,6 +8,7 @@ pub mod Others
 pub mod Reads
 pub mod Settled
 pub mod Settling
+pub mod Stated
 pub mod Steps
 pub mod Visits
 pub mod Walks

@@ -8,14 +8,14 @@ use Rattle.bdb_base.specs.declared.kinds.Sign.{Sign}
 use Rattle.bdb_base.specs.declared.tuple.Tuple.{Tuple}
 use Rattle.bdb_keep.specs.Seen.{Seen, NeverFall, Steps}
 use Rattle.bdb_keep.specs.Tables.{Tables}
-use Rattle.bdb_key.specs.Grammar.{IsNum, HasPlainText}
+use Rattle.bdb_key.specs.Grammar.{IsNum}
 use Rattle.bdb_tables.specs.InUse.{ValKey, link_codec, val_codec}
 use Rattle.bdb_tables.specs.Codec.{HasAt}
 use Rattle.bdb_tables.specs.Marks.{Mark, sign_of}
 use Rattle.bdb_tables.specs.Writes.{with_changes}
 use Rattle.bdb_tables.specs.Differences.{AreDifferences}
 use Rattle.bdb_val.specs.Reads.{AreReadUnder, HasRows, IsSpan}
-use Rattle.bdb_val.specs.Settling.{mark_in, settling, key_value, keyed}
+use Rattle.bdb_val.specs.Settling.{mark_in, settling, keyed}
 use Rattle.bdb_val.specs.declared.stored.Stored.{Stored}
 use Rattle.bdb_val.specs.declared.stored.Settled.{Settled}
 
@@ -42,17 +42,29 @@ same_signs None (Some t) = false
 same_signs (Some s) None = false
 same_signs (Some s) (Some t) = same_sign s t
 
--- a change gives a tuple another sign, or a first or no sign
-abbrev pub turns : List Stored → ValKey × Option Mark → Bool
-turns own x = not (same_signs (sign_of (mark_in own x.0.3)) (sign_of x.1))
+-- a row has another sign than it had, or a first or no sign
+abbrev pub turns_from : Option Mark → Option Mark → Bool
+turns_from before next = not (same_signs (sign_of before) (sign_of next))
+
+-- a row comes where there was none
+abbrev pub comes : Option Mark → Option Mark → Bool
+comes before next = not (is_some before) && is_some next
+
+-- a row goes
+abbrev pub goes : Option Mark → Option Mark → Bool
+goes before next = is_some before && not (is_some next)
+
+-- a change of rows, whose marks are looked up by number, gives a tuple another sign, or a first or no sign
+abbrev pub turns : (ℕ → Option Mark) → ValKey × Option Mark → Bool
+turns mark x = turns_from (mark x.0.3) x.1
 
 -- a change puts a row where there was none
-abbrev pub is_new : List Stored → ValKey × Option Mark → Bool
-is_new own x = not (is_some (mark_in own x.0.3)) && is_some x.1
+abbrev pub is_new : (ℕ → Option Mark) → ValKey × Option Mark → Bool
+is_new mark x = comes (mark x.0.3) x.1
 
 -- a change takes a row away
-abbrev pub is_gone : List Stored → ValKey × Option Mark → Bool
-is_gone own x = is_some (mark_in own x.0.3) && not (is_some x.1)
+abbrev pub is_gone : (ℕ → Option Mark) → ValKey × Option Mark → Bool
+is_gone mark x = goes (mark x.0.3) x.1
 
 -- a count that stays at the end of its type
 abbrev pub counted : ℕ → ℕ
@@ -60,10 +72,10 @@ counted n = min n (2 ^ 64 - 1)
 
 -- What a settling tells of its changes: whether one gives a tuple another sign, how many put a row where there was none, and
 -- how many take one away.
-pub record Tells (own : List Stored) (made : List (ValKey × Option Mark)) (s : Settled) : Type 0 where
-  pub turned : s.turned ≡ list_any (turns own) made
-  pub put : s.put ≡ length (filter (is_new own) made)
-  pub taken : s.taken ≡ length (filter (is_gone own) made)
+pub record Tells (mark : ℕ → Option Mark) (made : List (ValKey × Option Mark)) (s : Settled) : Type 0 where
+  pub turned : s.turned ≡ list_any (turns mark) made
+  pub put : s.put ≡ length (filter (is_new mark) made)
+  pub taken : s.taken ≡ length (filter (is_gone mark) made)
 
 -- How a call ends that reads and writes: no count falls, and it tells a fault only where the count of faults rose.
 pub record IsChanging {T E : Type 0} (old new : Seen) (result : Result T E) (fault : E) : Type 0 where
@@ -75,12 +87,8 @@ pub record IsStep (old new : Seen) (wid : ℕ) (prefix : ℕ → List ℕ) (s : 
   pub link : Option ℕ
   pub linked : HasAt link_codec old.kept wid link
   pub settling : IsSettling old.kept new.kept wid link prefix
-  pub tells : Tells settling.own (rows_made wid settling.own settling.from) s
+  pub tells : Tells (mark_in settling.own) (rows_made wid settling.own settling.from) s
   pub writes : Rises (length (rows_made wid settling.own settling.from)) old.writes new.writes
-
--- a row's key has a text, if it is one, that is plain
-abbrev pub HasPlainKey : Stored → Type 0
-HasPlainKey x = HasPlainText (key_value x.tuple.vals)
 
 -- whichever rows the tables have, as many writes were made as there are places at which they differ
 abbrev pub WritesDifferences : Seen → Seen → Type 0

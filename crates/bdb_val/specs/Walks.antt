@@ -7,6 +7,7 @@ use Rattle.bdb_tables.specs.Codec.{HasAt}
 use Rattle.bdb_tables.specs.InUse.{ValKey, link_codec, linked_codec}
 use Rattle.bdb_tables.specs.Marks.{Mark}
 use Rattle.bdb_tables.specs.Spans.{AreUnder}
+use Rattle.bdb_val.specs.Settling.{mark_in}
 use Rattle.bdb_val.specs.Steps.{IsSettling, rows_made, turns, is_new, is_gone}
 
 -- the worlds whose suffix links lead to a world, as they are read
@@ -27,15 +28,15 @@ changes_of {prefix} {t} {u} {wid} s = rows_made wid s.settling.own s.settling.fr
 
 -- how many rows a visit puts where there was none
 abbrev pub put_by : {prefix : ℕ → List ℕ} {t u : Tables} {wid : ℕ} → IsVisit prefix t u wid → ℕ
-put_by s = length (filter (is_new s.settling.own) (changes_of s))
+put_by s = length (filter (is_new (mark_in s.settling.own)) (changes_of s))
 
 -- how many rows a visit takes away
 abbrev pub taken_by : {prefix : ℕ → List ℕ} {t u : Tables} {wid : ℕ} → IsVisit prefix t u wid → ℕ
-taken_by s = length (filter (is_gone s.settling.own) (changes_of s))
+taken_by s = length (filter (is_gone (mark_in s.settling.own)) (changes_of s))
 
 -- no tuple has another sign after a visit
 abbrev pub IsQuiet : {prefix : ℕ → List ℕ} {t u : Tables} {wid : ℕ} → IsVisit prefix t u wid → Type 0
-IsQuiet s = list_any (turns s.settling.own) (changes_of s) ≡ false
+IsQuiet s = list_any (turns (mark_in s.settling.own)) (changes_of s) ≡ false
 
 -- A walk from a world: it is visited, and the worlds linked to it are listed; then those on the list are visited, and the
 -- worlds linked to them listed too, unless no sign is another. The walk has come to these tables, with these worlds left, and

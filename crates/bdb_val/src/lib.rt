@@ -12,7 +12,6 @@ mod walk;
 mod world_rows;
 mod worlds;
 
-pub use changes::settling;
 pub use laws::{
     held_rows_are_explicit, held_rows_are_settled, next_marks_are_settled,
     none_settles_the_settled, right_rows_are_settled, settled_rows_are_held,

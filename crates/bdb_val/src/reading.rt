@@ -6,15 +6,20 @@ ghost use Rattle.bdb_keep.specs.Calls.{IsRead};
 ghost use Rattle.bdb_key.specs.Grammar.{HasPlainText, IsPlainValue};
 ghost use Rattle.bdb_tables.specs.Codec.{HasRow, place};
 ghost use Rattle.bdb_tables.specs.Grammar.{InGrammar};
-ghost use Rattle.bdb_tables.specs.InUse.{tuple_codec};
+ghost use Rattle.bdb_tables.specs.InUse.{tuple_codec, val_codec};
+ghost use Rattle.bdb_tables.specs.Spans.{AreUnder};
 ghost use Rattle.bdb_val.specs.Reads.{AreReadUnder, HaveTuples, world_prefix, group_prefix};
 
+use crate::changes::Row;
 use crate::stored::Stored;
 use bdb_base::{Tuple, Value};
 use bdb_keep::Keeper;
 use bdb_key::{put_num, put_value};
 use bdb_tables::{TabError, TupleTab, ValTab, get, rows_under};
 use std::alloc::{AllocError, Global};
+
+/// Room for the bytes with which the keys of a group begin, unless its key is a long text.
+pub const PREFIX_ROOM: usize = 64;
 
 /// The rows of worlds whose keys begin with these bytes, with their tuples, in the order of the keys. Two reads for each
 /// row at most, and one more.
@@ -106,12 +111,45 @@ pub fn read_group<K: Keeper>(
     ensures fits { OnOk result (IsPlainValue key.now) }
     ensures read { IsRead (K.seen keeper.old) (K.seen keeper.new) result TabError.Fault }
 {
-    let mut prefix = Vec::new(alloc);
+    let mut prefix = match Vec::with_capacity(alloc, PREFIX_ROOM) {
+        Ok(prefix) => prefix,
+        Err(_) => {
+            keeper.undo();
+            return Err(TabError::Memory);
+        }
+    };
     if put_group(&mut prefix, wid, rel, key).is_err() {
         keeper.undo();
         return Err(TabError::Memory);
     }
     match read_stored(alloc, keeper, &prefix) {
+        Ok(rows) => Ok(rows),
+        Err(error) => Err(error),
+    }
+}
+
+/// The rows of a world for the tuples of a relation and a value of its key, by their keys, in order of the tuples' numbers.
+/// `prefix` is room for bytes.
+pub fn group_rows<K: Keeper>(
+    alloc: Global,
+    keeper: &mut K,
+    wid: u32,
+    rel: u32,
+    key: &Value,
+    prefix: &mut Vec<u8>,
+) -> Result<Vec<Row>, TabError>
+    requires grammar { InGrammar (K.seen keeper.old).kept }
+    requires text { HasPlainText key.now }
+    ensures rows { IfOk result (λ rows. AreUnder val_codec (K.seen keeper.old).kept (group_prefix wid rel key.now) rows.items) }
+    ensures fits { OnOk result (IsPlainValue key.now) }
+    ensures read { IsRead (K.seen keeper.old) (K.seen keeper.new) result TabError.Fault }
+{
+    prefix.clear();
+    if put_group(prefix, wid, rel, key).is_err() {
+        keeper.undo();
+        return Err(TabError::Memory);
+    }
+    match rows_under::<ValTab, K>(alloc, keeper, prefix.as_slice()) {
         Ok(rows) => Ok(rows),
         Err(error) => Err(error),
     }

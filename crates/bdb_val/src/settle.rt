@@ -1,20 +1,23 @@
 // Settling the rows of one world.
-ghost use Rattle.std.specs.Prelude.{◌≡◌, nat_eq, true, not, ◌&&◌, filter, length, is_some, MatchOption, [], IfOk, OnOk};
-ghost use Rattle.std.specs.List.{AllByRecursion, list_any};
+ghost use Rattle.std.specs.Prelude.{◌≡◌, ◌+◌, ◌-◌, ◌<◌, ◌^◌, ◌||◌, nat_eq, true, cond, length, MatchOption, [], IfOk, OnOk};
+ghost use Rattle.std.specs.List.{AllByRecursion};
 ghost use Rattle.bdb_base.specs.Causes.{Rises};
 ghost use Rattle.bdb_keep.specs.Calls.{IsRead, IsWrite};
 ghost use Rattle.bdb_key.specs.Grammar.{HasPlainText, IsPlainValue};
 ghost use Rattle.bdb_tables.specs.Grammar.{InGrammar};
 ghost use Rattle.bdb_tables.specs.InUse.{val_codec};
+ghost use Rattle.bdb_tables.specs.Spans.{AreUnder};
 ghost use Rattle.bdb_tables.specs.Writes.{IsChange, with_changes};
+ghost use Rattle.bdb_val.specs.GroupChanges.{group_changes, mark_under};
 ghost use Rattle.bdb_val.specs.Others.{SameBut};
-ghost use Rattle.bdb_val.specs.Reads.{AreReadUnder, HaveTuples, group_prefix};
-ghost use Rattle.bdb_val.specs.Steps.{rows_made, same_signs, turns, is_new, is_gone, Tells, IsChanging, IsStep, HasPlainKey};
+ghost use Rattle.bdb_val.specs.Reads.{HaveTuples, group_prefix};
+ghost use Rattle.bdb_val.specs.Stated.{WhereStated};
+ghost use Rattle.bdb_val.specs.Steps.{turns_from, comes, goes, Tells, IsChanging, IsStep};
 
-use crate::changes::{RowChange, settling};
+use crate::changes::{Row, RowChange, group_changes};
 use crate::numbered::Numbered;
-use crate::reading::read_group;
-use crate::stored::{Settled, Stored};
+use crate::reading::{PREFIX_ROOM, group_rows};
+use crate::stored::Settled;
 use bdb_base::{Sign, Value};
 use bdb_keep::Keeper;
 use bdb_tables::{SuffixTab, TabError, ValTab, get, write_rows};
@@ -22,7 +25,8 @@ use std::alloc::Global;
 
 /// Settles the rows of a world for the tuples of a relation and a value of its key: each is explicit, or what the world
 /// inherits from the world to which it is linked, where no explicit row contradicts it. One write for each row that is
-/// another afterwards.
+/// another afterwards. No tuple is read: where the explicit rows are statements, the numbers of tuples tell which rows of a group
+/// contradict each other.
 pub fn settle_state<K: Keeper>(
     alloc: Global,
     keeper: &mut K,
@@ -34,7 +38,7 @@ pub fn settle_state<K: Keeper>(
     requires grammar { InGrammar (K.seen keeper.old).kept }
     requires tuples { HaveTuples (K.seen keeper.old).kept }
     requires text { HasPlainText key.now }
-    ensures settled { IfOk result (IsStep (K.seen keeper.old) (K.seen keeper.new) wid (λ w. group_prefix w rel key.now)) }
+    ensures settled { IfOk result (λ settled. WhereStated (K.seen keeper.old).kept (IsStep (K.seen keeper.old) (K.seen keeper.new) wid (λ w. group_prefix w rel key.now) settled)) }
     ensures others { OnOk result (SameBut (λ n. nat_eq n 11) (K.seen keeper.old).kept (K.seen keeper.new).kept) }
     ensures grammar { OnOk result (InGrammar (K.seen keeper.new).kept) }
     ensures tuples { OnOk result (HaveTuples (K.seen keeper.new).kept) }
@@ -45,37 +49,44 @@ pub fn settle_state<K: Keeper>(
         Ok(link) => link,
         Err(error) => return Err(error),
     };
-    let own = match read_group(alloc, keeper, wid, rel, key) {
+    let mut prefix = match Vec::with_capacity(alloc, PREFIX_ROOM) {
+        Ok(prefix) => prefix,
+        Err(_) => {
+            keeper.undo();
+            return Err(TabError::Memory);
+        }
+    };
+    let own = match group_rows(alloc, keeper, wid, rel, key, &mut prefix) {
         Ok(own) => own,
         Err(error) => return Err(error),
     };
-    let from = match read_linked(alloc, keeper, link, rel, key) {
+    let from = match linked_rows(alloc, keeper, link, rel, key, &mut prefix) {
         Ok(from) => from,
         Err(error) => return Err(error),
     };
-    match settle_rows(alloc, keeper, wid, &own, &from) {
+    match settle_rows(alloc, keeper, wid, rel, key, &own, &from) {
         Ok(settled) => Ok(settled),
         Err(error) => Err(error),
     }
 }
 
-// The rows of the world to which another is linked; none where there is no such world.
-fn read_linked<K: Keeper>(
+// The rows of a group of the world to which another is linked; none where there is no such world.
+fn linked_rows<K: Keeper>(
     alloc: Global,
     keeper: &mut K,
     link: Option<u32>,
     rel: u32,
     key: &Value,
-) -> Result<Vec<Stored>, TabError>
+    prefix: &mut Vec<u8>,
+) -> Result<Vec<Row>, TabError>
     requires running { (K.seen keeper.old).running ≡ true }
     requires grammar { InGrammar (K.seen keeper.old).kept }
-    requires tuples { HaveTuples (K.seen keeper.old).kept }
     requires text { HasPlainText key.now }
-    ensures rows { IfOk result (λ rows. MatchOption link (rows.items ≡ []) (λ m. AreReadUnder (K.seen keeper.old).kept (group_prefix m rel key.now) rows.items)) }
+    ensures rows { IfOk result (λ rows. MatchOption link (rows.items ≡ []) (λ m. AreUnder val_codec (K.seen keeper.old).kept (group_prefix m rel key.now) rows.items)) }
     ensures read { IsRead (K.seen keeper.old) (K.seen keeper.new) result TabError.Fault }
 {
     match link {
-        Some(wid) => match read_group(alloc, keeper, wid, rel, key) {
+        Some(wid) => match group_rows(alloc, keeper, wid, rel, key, prefix) {
             Ok(rows) => Ok(rows),
             Err(error) => Err(error),
         },
@@ -83,25 +94,26 @@ fn read_linked<K: Keeper>(
     }
 }
 
-// Makes the changes that settle a world's rows, over the rows of the world to which it is linked.
-pub fn settle_rows<K: Keeper>(
+// Makes the changes that settle a group of a world, over the rows of the world to which it is linked.
+fn settle_rows<K: Keeper>(
     alloc: Global,
     keeper: &mut K,
     wid: u32,
-    own: &[Stored],
-    from: &[Stored],
+    rel: u32,
+    key: &Value,
+    own: &[Row],
+    from: &[Row],
 ) -> Result<Settled, TabError>
     requires running { (K.seen keeper.old).running ≡ true }
-    requires own { AllByRecursion HasPlainKey own.now }
-    requires from { AllByRecursion HasPlainKey from.now }
-    ensures written { OnOk result ((K.seen keeper.new).kept ≡ with_changes val_codec (K.seen keeper.old).kept (rows_made wid own.now from.now)) }
-    ensures fits { OnOk result (AllByRecursion (IsChange val_codec) (rows_made wid own.now from.now)) }
-    ensures tells { IfOk result (Tells own.now (rows_made wid own.now from.now)) }
+    requires text { HasPlainText key.now }
+    ensures written { OnOk result ((K.seen keeper.new).kept ≡ with_changes val_codec (K.seen keeper.old).kept (group_changes wid rel key.now own.now from.now)) }
+    ensures fits { OnOk result (AllByRecursion (IsChange val_codec) (group_changes wid rel key.now own.now from.now)) }
+    ensures tells { IfOk result (Tells (mark_under own.now) (group_changes wid rel key.now own.now from.now)) }
     ensures grammar { OnOk result (InGrammar (K.seen keeper.old).kept → InGrammar (K.seen keeper.new).kept) }
-    ensures writes { OnOk result (Rises (length (rows_made wid own.now from.now)) (K.seen keeper.old).writes (K.seen keeper.new).writes) }
+    ensures writes { OnOk result (Rises (length (group_changes wid rel key.now own.now from.now)) (K.seen keeper.old).writes (K.seen keeper.new).writes) }
     ensures write { IsWrite (K.seen keeper.old) (K.seen keeper.new) result TabError.Fault }
 {
-    let changes = match settling(alloc, wid, own, own, from) {
+    let changes = match group_changes(alloc, wid, rel, key, own, from) {
         Ok(changes) => changes,
         Err(_) => {
             keeper.undo();
@@ -115,58 +127,50 @@ pub fn settle_rows<K: Keeper>(
 }
 
 // What changes do to a world's rows.
-fn told(own: &[Stored], changes: &[RowChange]) -> Settled
-    ensures { Tells own.now changes.now result }
+fn told(own: &[Row], changes: &[RowChange]) -> Settled
+    ensures { Tells (mark_under own.now) changes.now result }
 {
     let rows = Numbered::of(own);
-    let turned = any_turns(&rows, changes);
-    let put = count_new(&rows, changes);
-    let taken = count_gone(&rows, changes);
-    Settled { turned, put, taken }
-}
-
-// Whether a change gives a tuple another sign.
-fn any_turns(own: &Numbered<'_>, changes: &[RowChange]) -> bool
-    ensures { result ≡ list_any (turns own.now) changes.now }
-{
-    changes.iter().any(|change| turns(own, change))
-}
-
-// How many changes put a row where there was none.
-fn count_new(own: &Numbered<'_>, changes: &[RowChange]) -> usize
-    ensures { result ≡ length (filter (is_new own.now) changes.now) }
-{
-    changes.iter().filter(|change| is_new(own, change)).count()
-}
-
-// How many changes take a row away.
-fn count_gone(own: &Numbered<'_>, changes: &[RowChange]) -> usize
-    ensures { result ≡ length (filter (is_gone own.now) changes.now) }
-{
-    changes.iter().filter(|change| is_gone(own, change)).count()
-}
-
-// Whether a change gives a tuple another sign, a first one or none any more.
-fn turns(own: &Numbered<'_>, change: &RowChange) -> bool
-    ensures { result ≡ turns own.now change.now }
-{
-    match (own.mark(change.0.3), change.1) {
-        (None, None) => false,
-        (Some((sign, _)), Some((other, _))) => sign != other,
-        _ => true,
+    let mut settled = Settled {
+        turned: false,
+        put: 0,
+        taken: 0,
+    };
+    for change in changes {
+        settled = with_change(settled, rows.mark(change.0.3), change.1);
     }
+    settled
 }
 
-// Whether a change puts a row where there was none.
-fn is_new(own: &Numbered<'_>, change: &RowChange) -> bool
-    ensures { result ≡ is_new own.now change.now }
+// What was done, where one more row becomes another.
+fn with_change(
+    settled: Settled,
+    before: Option<(Sign, bool)>,
+    next: Option<(Sign, bool)>,
+) -> Settled
+    requires put { settled.put < 2 ^ 64 - 1 }
+    requires taken { settled.taken < 2 ^ 64 - 1 }
+    ensures turned { result.turned ≡ (settled.turned || turns_from before next) }
+    ensures put { result.put ≡ cond (comes before next) (settled.put + 1) settled.put }
+    ensures taken { result.taken ≡ cond (goes before next) (settled.taken + 1) settled.taken }
 {
-    own.mark(change.0.3).is_none() && change.1.is_some()
-}
-
-// Whether a change takes a row away.
-fn is_gone(own: &Numbered<'_>, change: &RowChange) -> bool
-    ensures { result ≡ is_gone own.now change.now }
-{
-    own.mark(change.0.3).is_some() && change.1.is_none()
+    let Settled { turned, put, taken } = settled;
+    match (before, next) {
+        (None, None) => settled,
+        (None, Some(_)) => Settled {
+            turned: true,
+            put: put + 1,
+            taken,
+        },
+        (Some(_), None) => Settled {
+            turned: true,
+            put,
+            taken: taken + 1,
+        },
+        (Some((sign, _)), Some((other, _))) => Settled {
+            turned: turned || sign != other,
+            put,
+            taken,
+        },
+    }
 }

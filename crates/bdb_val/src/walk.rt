@@ -9,6 +9,7 @@ ghost use Rattle.bdb_tables.specs.Spans.{AreUnder};
 ghost use Rattle.bdb_val.specs.Groups.{SettlesGroup, TellsGroup};
 ghost use Rattle.bdb_val.specs.Others.{SameBut};
 ghost use Rattle.bdb_val.specs.Reads.{HaveTuples, group_prefix};
+ghost use Rattle.bdb_val.specs.Stated.{WhereStated};
 ghost use Rattle.bdb_val.specs.Steps.{counted, IsChanging};
 ghost use Rattle.bdb_val.specs.Visits.{ArePushed, IsFirstVisit, IsNextVisit};
 
@@ -75,7 +76,8 @@ fn visit_first<K: Keeper>(
     requires grammar { InGrammar (K.seen keeper.old).kept }
     requires tuples { HaveTuples (K.seen keeper.old).kept }
     requires text { HasPlainText key.now }
-    ensures visited { IfOk result (IsFirstVisit (K.seen keeper.old) (K.seen keeper.new) (λ w. group_prefix w rel key.now) wid list.old.items list.new.items) }
+    ensures visited { IfOk result (λ settled. WhereStated (K.seen keeper.old).kept (IsFirstVisit (K.seen keeper.old) (K.seen keeper.new) (λ w. group_prefix w rel key.now) wid list.old.items list.new.items settled)) }
+    ensures others { OnOk result (SameBut (λ n. nat_eq n 11) (K.seen keeper.old).kept (K.seen keeper.new).kept) }
     ensures grammar { OnOk result (InGrammar (K.seen keeper.new).kept) }
     ensures tuples { OnOk result (HaveTuples (K.seen keeper.new).kept) }
     ensures fits { OnOk result (IsPlainValue key.now) }
@@ -104,7 +106,8 @@ fn visit_next<K: Keeper>(
     requires grammar { InGrammar (K.seen keeper.old).kept }
     requires tuples { HaveTuples (K.seen keeper.old).kept }
     requires text { HasPlainText key.now }
-    ensures visited { IfOk result (IsNextVisit (K.seen keeper.old) (K.seen keeper.new) (λ w. group_prefix w rel key.now) wid list.old.items list.new.items) }
+    ensures visited { IfOk result (λ settled. WhereStated (K.seen keeper.old).kept (IsNextVisit (K.seen keeper.old) (K.seen keeper.new) (λ w. group_prefix w rel key.now) wid list.old.items list.new.items settled)) }
+    ensures others { OnOk result (SameBut (λ n. nat_eq n 11) (K.seen keeper.old).kept (K.seen keeper.new).kept) }
     ensures grammar { OnOk result (InGrammar (K.seen keeper.new).kept) }
     ensures tuples { OnOk result (HaveTuples (K.seen keeper.new).kept) }
     ensures changing { IsChanging (K.seen keeper.old) (K.seen keeper.new) result TabError.Fault }

@@ -11,8 +11,7 @@ ghost use Rattle.bdb_val.specs.Reads.{HaveTuples, world_prefix};
 ghost use Rattle.bdb_val.specs.Steps.{IsChanging};
 ghost use Rattle.bdb_val.specs.WorldCopies.{CopiesWorld, ClearsWorld, TellsCopy, IsRowCount, copied, removed};
 
-use crate::changes::RowChange;
-use bdb_base::{Exact, Sign, Value};
+use crate::changes::{Row, RowChange};
 use bdb_keep::Keeper;
 use bdb_key::put_num;
 use bdb_tables::{TabError, ValTab, rows_under, write_rows};
@@ -41,7 +40,8 @@ pub fn copy_world<K: Keeper>(
         Ok(rows) => rows,
         Err(error) => return Err(error),
     };
-    let changes = match copies(alloc, to, &rows) {
+    let many = rows.len();
+    let changes = match copies(alloc, to, rows) {
         Ok(changes) => changes,
         Err(_) => {
             keeper.undo();
@@ -49,7 +49,7 @@ pub fn copy_world<K: Keeper>(
         }
     };
     match write_rows::<ValTab, K>(alloc, keeper, &changes) {
-        Ok(()) => Ok(rows.len()),
+        Ok(()) => Ok(many),
         Err(error) => Err(error),
     }
 }
@@ -72,7 +72,8 @@ pub fn clear_world<K: Keeper>(alloc: Global, keeper: &mut K, wid: u32) -> Result
         Ok(rows) => rows,
         Err(error) => return Err(error),
     };
-    let changes = match removals(alloc, &rows) {
+    let many = rows.len();
+    let changes = match removals(alloc, rows) {
         Ok(changes) => changes,
         Err(_) => {
             keeper.undo();
@@ -80,17 +81,13 @@ pub fn clear_world<K: Keeper>(alloc: Global, keeper: &mut K, wid: u32) -> Result
         }
     };
     match write_rows::<ValTab, K>(alloc, keeper, &changes) {
-        Ok(()) => Ok(rows.len()),
+        Ok(()) => Ok(many),
         Err(error) => Err(error),
     }
 }
 
 // The rows of a world, by their keys.
-fn rows_of<K: Keeper>(
-    alloc: Global,
-    keeper: &mut K,
-    wid: u32,
-) -> Result<Vec<((u32, u32, Value, u32), (Sign, bool))>, TabError>
+fn rows_of<K: Keeper>(alloc: Global, keeper: &mut K, wid: u32) -> Result<Vec<Row>, TabError>
     requires grammar { InGrammar (K.seen keeper.old).kept }
     ensures rows { IfOk result (λ rows. AreUnder val_codec (K.seen keeper.old).kept (world_prefix wid) rows.items) }
     ensures read { IsRead (K.seen keeper.old) (K.seen keeper.new) result TabError.Fault }
@@ -107,32 +104,31 @@ fn rows_of<K: Keeper>(
 }
 
 // The changes that put rows into a world as inherited ones.
-fn copies(
-    alloc: Global,
-    to: u32,
-    rows: &[((u32, u32, Value, u32), (Sign, bool))],
-) -> Result<Vec<RowChange>, AllocError>
-    ensures { IfOk result (λ changes. changes.items ≡ map (copied to) rows.now) }
+fn copies(alloc: Global, to: u32, rows: Vec<Row>) -> Result<Vec<RowChange>, AllocError>
+    ensures { IfOk result (λ changes. changes.items ≡ map (copied to) rows.items) }
 {
-    let mut changes = Vec::new(alloc);
+    let mut changes = Vec::with_capacity(alloc, rows.len())?;
     for row in rows {
-        let key = row.0.2.try_clone(alloc)?;
-        changes.push(((to, row.0.1, key, row.0.3), Some((row.1.0, false))))?;
+        changes.push(copied(to, row))?;
     }
     Ok(changes)
 }
 
-// The changes that take rows away.
-fn removals(
-    alloc: Global,
-    rows: &[((u32, u32, Value, u32), (Sign, bool))],
-) -> Result<Vec<RowChange>, AllocError>
-    ensures { IfOk result (λ changes. changes.items ≡ map removed rows.now) }
+// The change that puts a row into a world as an inherited one.
+fn copied(to: u32, row: Row) -> RowChange
+    ensures { result ≡ copied to row }
 {
-    let mut changes = Vec::new(alloc);
+    let ((_, rel, key, tid), (sign, _)) = row;
+    ((to, rel, key, tid), Some((sign, false)))
+}
+
+// The changes that take rows away.
+fn removals(alloc: Global, rows: Vec<Row>) -> Result<Vec<RowChange>, AllocError>
+    ensures { IfOk result (λ changes. changes.items ≡ map removed rows.items) }
+{
+    let mut changes = Vec::with_capacity(alloc, rows.len())?;
     for row in rows {
-        let key = row.0.2.try_clone(alloc)?;
-        changes.push(((row.0.0, row.0.1, key, row.0.3), None))?;
+        changes.push((row.0, None))?;
     }
     Ok(changes)
 }

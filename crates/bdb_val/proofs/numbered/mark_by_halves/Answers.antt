@@ -28,7 +28,7 @@ pub returns-else-row-tid-2 : goal.returns-else-row-tid-2
 returns-else-row-tid-2 c =
     let mid = c.loop-low.low + (c.loop-low.high - c.loop-low.low) / 2 in
     let within : mid < length c.args.rows.now = omega arith in
-    let same : c.index-rows-mid.result.tid ≡ c.args.tid = omega arith in
+    let same : c.index-rows-mid.result.0.3 ≡ c.args.tid = omega arith in
     sym (mark_at c.args.rows.now mid c.index-rows-mid.result c.args.tid c.requires within c.index-rows-mid.is same)
 
 pub returns : goal.returns

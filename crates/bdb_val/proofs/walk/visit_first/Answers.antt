@@ -1,18 +1,25 @@
 use Rattle.std.proofs.Common.{ℕ, sym, subst}
 use Rattle.bdb_keep.specs.Tables.{Tables}
+use Rattle.bdb_val.specs.Others.{SameBut}
 use Rattle.bdb_val.specs.Reads.{group_prefix}
 use Rattle.bdb_val.specs.Visits.{ArePushed}
+use Rattle.bdb_val.proofs.OtherLemmas.{is_rows}
 use Rattle.bdb_val.proofs.StepsMade.{visited, told}
 use Rattle.bdb_val.proofs.walk.visit_first.Goals as goal
 
 pub returns-in-Ok-push_linked-clause-visited : goal.returns-in-Ok-push_linked-clause-visited
-returns-in-Ok-push_linked-clause-visited g c =
+returns-in-Ok-push_linked-clause-visited g c stmts n tuple f h =
     let old = g.K.Keeper.seen c.args.keeper.now in
     let mid = g.K.Keeper.seen c.settle_state.new.keeper in
     let new = g.K.Keeper.seen c.push_linked.new.keeper in
     let prefix = λ (w : ℕ). group_prefix w c.args.rel c.args.key.now in
+    let step = c.in-Ok.ensures.settled stmts n tuple f h in
     let read = c.in-Ok-push_linked.ensures.read in record {
-      visit = visited old mid new prefix c.args.wid c.in-Ok.settled c.in-Ok.ensures.settled read.kept read.writes;
-      told = told old mid new prefix c.args.wid c.in-Ok.settled c.in-Ok.ensures.settled read.kept read.writes;
+      visit = visited old mid new prefix c.args.wid c.in-Ok.settled step read.kept read.writes;
+      told = told old mid new prefix c.args.wid c.in-Ok.settled step read.kept read.writes;
       pushed = subst (λ (t : Tables). ArePushed t c.args.wid c.args.list.now.items c.push_linked.new.list.items) (sym read.kept) c.in-Ok-push_linked.ensures.pushed;
     }
+
+pub returns-in-Ok-push_linked-clause-others : goal.returns-in-Ok-push_linked-clause-others
+returns-in-Ok-push_linked-clause-others g c =
+    subst (λ (t : Tables). SameBut is_rows (g.K.Keeper.seen c.args.keeper.now).kept t) (sym c.in-Ok-push_linked.ensures.read.kept) c.in-Ok.ensures.others

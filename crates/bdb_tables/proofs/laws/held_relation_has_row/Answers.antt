@@ -1,5 +1,0 @@
-use Rattle.bdb_tables.proofs.OneBase.{held_relation_has_row}
-use Rattle.bdb_tables.proofs.laws.held_relation_has_row.Goals as goal
-
-pub returns : goal.returns
-returns c = held_relation_has_row

@@ -1,0 +1,13 @@
+-- What holds where the explicit rows of tables are statements.
+use Rattle.std.specs.Prelude.{ℕ, List, Option}
+use Rattle.bdb_base.specs.declared.kinds.Stmt.{Stmt}
+use Rattle.bdb_base.specs.declared.tuple.Tuple.{Tuple}
+use Rattle.bdb_keep.specs.Tables.{Tables}
+use Rattle.bdb_tables.specs.InUse.{ValKey}
+use Rattle.bdb_tables.specs.Marks.{Mark}
+use Rattle.bdb_val.specs.Middle.{HasExplicit}
+use Rattle.bdb_val.specs.Settled.{Worlds}
+
+-- something holds, whichever statements the explicit rows of tables are
+abbrev pub WhereStated : Tables → Type 0 → Type 0
+WhereStated t P = (stmts : List Stmt) (n : Worlds) (tuple : ℕ → Option Tuple) (f : ValKey → Option Mark) → HasExplicit stmts n tuple f t → P
