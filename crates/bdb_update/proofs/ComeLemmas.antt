@@ -1,11 +1,11 @@
 -- How many rows there are while worlds that have come get theirs.
-use Rattle.std.proofs.Common.{◌≡◌, ◌≢◌, ◌∙◌, ℕ, suc, ◌+◌, ◌≤◌, Bool, true, false, not, ◌||◌, nat_eq, cond, List, [], ◌∷◌, ◌++◌, length, take, filter, Option, Some, None, is_some, refl, sym, ap, subst, arith, inl, inr}
+use Rattle.std.proofs.Common.{◌≡◌, ◌≢◌, ◌∙◌, ℕ, suc, ◌+◌, ◌≤◌, Bool, true, false, not, ◌||◌, nat_eq, cond, List, [], ◌∷◌, ◌++◌, length, take, filter, Option, Some, None, is_some, refl, sym, ap, subst, arith}
 use Rattle.std.specs.Prelude.{sum_by}
 use Rattle.std.specs.List.{AllByRecursion}
 use Rattle.std.specs.Option.{option_map}
 use Rattle.bdb_base.specs.Causes.{Rises}
 use Rattle.std.specs.FinMap as tables
-use Rattle.std.proofs.lemmas.Bool.{cases_Bool, and_from, cond-false, eqb-true}
+use Rattle.std.proofs.lemmas.Bool.{and_from}
 use Rattle.bdb_base.specs.declared.kinds.Stmt.{Stmt}
 use Rattle.bdb_keep.specs.Seen.{Seen}
 use Rattle.bdb_keep.specs.Tables.{Tables}
@@ -21,6 +21,7 @@ use Rattle.bdb_worlds.specs.Growth.{with_prefixes, AreLeast}
 use Rattle.bdb_update.specs.Filling.{AreTold, Before, HaveCome, names_now}
 use Rattle.bdb_tables.specs.Stored.{SameBut}
 use Rattle.bdb_update.specs.Tallies.{HasRowCount, vals_at, nothing_at}
+use Rattle.bdb_update.proofs.BetweenLemmas.{vals_same}
 use Rattle.bdb_update.proofs.PrefixLemmas.{least_front, least_behind, still_named, prefixes_split}
 use Rattle.bdb_update.proofs.RowLemmas.{AreUsed, rows_counted, rows_of}
 use Rattle.bdb_tables.proofs.SameLemmas.{tuples_still}
@@ -37,27 +38,14 @@ rows_same t u a same x = record {
   are = record {
     once = x.are.once;
     each = go x.places x.are.each;
-    only = λ q out. meet q ∙ x.are.only q out;
+    only = λ q out. vals_same t u same q ∙ x.are.only q out;
   };
   many = x.many;
 }
   where
-    meet : (q : List ℕ) → vals_at u q ≡ vals_at t q
-    meet [] = refl
-    meet (n ∷ k) = elim (cases_Bool (nat_eq n 11)) [
-      | inl e ↦ ap (λ (o : Option (List ℕ)). cond (nat_eq n 11) o None) (at n (eqb n e))
-      | inr e ↦ cond-false (nat_eq n 11) (tables.get u (n ∷ k)) None e ∙ sym (cond-false (nat_eq n 11) (tables.get t (n ∷ k)) None e)
-    ]
-      where
-        eqb : (m : ℕ) → nat_eq m 11 ≡ true → m ≡ 11
-        eqb m e = eqb-true m 11 e
-
-        at : (m : ℕ) → m ≡ 11 → tables.get u (m ∷ k) ≡ tables.get t (m ∷ k)
-        at m e = ap (λ j. tables.get u (j ∷ k)) e ∙ same k ∙ sym (ap (λ j. tables.get t (j ∷ k)) e)
-
     go : (ps : List (List ℕ)) → AllByRecursion (λ p. vals_at t p ≢ nothing_at p) ps → AllByRecursion (λ p. vals_at u p ≢ nothing_at p) ps
     go [] h = tt
-    go (p ∷ ps) h = ((λ e. h.0 (sym (meet p) ∙ e)), go ps h.1)
+    go (p ∷ ps) h = ((λ e. h.0 (sym (vals_same t u same p) ∙ e)), go ps h.1)
 
 -- ---- the numbers of worlds, one more after the other
 

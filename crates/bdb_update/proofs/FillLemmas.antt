@@ -4,6 +4,7 @@ use Rattle.std.proofs.lemmas.Bool.{cases_Bool, cond-true, cond-false, false_from
 use Rattle.std.proofs.lemmas.List.{take-append-drop, take_more, take_all, drop_more}
 use Rattle.std.specs.Option.{option_map}
 use Rattle.std.specs.FinMap as tables
+use Rattle.bdb_base.specs.Causes.{Rises}
 use Rattle.bdb_base.specs.States.{is_state, deepest_suffix}
 use Rattle.bdb_base.specs.declared.kinds.Stmt.{Stmt}
 use Rattle.bdb_base.specs.declared.tuple.Tuple.{Tuple}
@@ -169,11 +170,13 @@ rows_alone n = nat_eq n 11
 -- so many of the worlds have their rows, and these are so many more
 pub record IsFilling (old now : Seen) (wids : List ℕ) (k count : ℕ) : Type 0 where
   pub gone : HasGone old now
+  pub alone : others.SameBut rows_alone old.kept now.kept
   pub others : SameBut rows_alone old.kept now.kept
   pub grammar : InGrammar now.kept
   pub tuples : HaveTuples now.kept
   pub filled : (s : Before) → HaveCome s old.kept wids → HoldsRows (λ _. 1) s.stmts (path_of (names_now s (take k wids))) s.tuples.tuple now.kept
   pub counted : (s : Before) (told : List Stmt) → HaveCome s old.kept wids → AreTold s told old.kept → (a z : ℕ) → HasRowCount old.kept a → HasRowCount now.kept z → z ≡ a + count
+  pub writes : Rises count old.writes now.writes
 
 pub filling_begins : (old : Seen) (wids : List ℕ) (count : ℕ) → count ≡ 0 → InGrammar old.kept → HaveTuples old.kept → IsFilling old old wids 0 count
 filling_begins old wids count none g h = record {
@@ -183,6 +186,8 @@ filling_begins old wids count none g h = record {
   tuples = h;
   filled = λ s c. c.rows;
   counted = λ s told c t a z x y. let e = rows_one old.kept a z x y in omega arith;
+  alone = λ q out. refl;
+  writes = λ small. omega arith;
 }
 
 wids_split : (wids : List ℕ) (k n : ℕ) → k < length wids → n ≡ get_or wids k 0 → wids ≡ take k wids ++ n ∷ drop (k + 1) wids
@@ -198,7 +203,7 @@ has_link old now wids k n count f lt e some =
     ap is_some (f.others 7 (num_bytes n) refl) ∙ link_there some.before old.kept (take k wids) (drop (k + 1) wids) n c
 
 module _ {T E : Type 0} (old now new : Seen) (wids : List ℕ) (k n count rows more : ℕ) (x : T) (fault : E) (f : IsFilling old now wids k count) (lt : k < length wids) (e : n ≡ get_or wids k 0)
-    (filled : IsFilled now.kept new.kept n) (tells : TellsCopy now new n rows) (alone : others.SameBut rows_alone now.kept new.kept) (sum : more ≡ capped (count + rows))
+    (filled : IsFilled now.kept new.kept n) (tells : TellsCopy now new n rows) (alone : others.SameBut rows_alone now.kept new.kept) (written : Rises rows now.writes new.writes) (sum : more ≡ capped (count + rows))
     (grammar : InGrammar new.kept) (tuples : HaveTuples new.kept) (changing : IsChanging {T = T} {E = E} now new (Ok x) fault) where
   abbrev xs : List ℕ
   xs = take k wids
@@ -249,6 +254,12 @@ module _ {T E : Type 0} (old now new : Seen) (wids : List ℕ) (k n count rows m
     tuples = tuples;
     filled = λ s c. subst (λ zs. HoldsRows (λ _. 1) s.stmts (path_of (names_now s zs)) s.tuples.tuple new.kept) (sym taken) (rows_more s c);
     counted = counted_more;
+    alone = λ q out. alone q out ∙ f.alone q out;
+    writes = λ small.
+        let last = changing.counts.writes in
+        let before = f.writes (omega arith) in
+        let after = written small in
+        omega arith;
   }
 
 pub filling_ends : (old now : Seen) (wids : List ℕ) (k count : ℕ) → IsFilling old now wids k count → length wids ≤ k → FillsWorlds old.kept now.kept wids

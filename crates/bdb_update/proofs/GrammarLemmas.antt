@@ -11,8 +11,7 @@ use Rattle.bdb_tables.specs.Names.{Names}
 use Rattle.bdb_tables.specs.Rows.{Tuples}
 use Rattle.bdb_tables.specs.Stored.{is_table, StoredOver}
 use Rattle.bdb_base.specs.declared.kinds.Stmt.{Stmt}
-use Rattle.bdb_tables.proofs.Held.{none_some}
-use Rattle.bdb_tables.proofs.HoldsLemmas.{entry_under}
+use Rattle.bdb_tables.proofs.Held.{held, none_some}
 use Rattle.bdb_update.specs.StoredLaws.{StoredIsInGrammar}
 
 -- what holds whichever way a test answers
@@ -28,18 +27,18 @@ no_table n a b c d e f g h i j k l = grind (arith, nat_tests)
 module _ (reached told : List Stmt) (ns : Names) (ts : Tuples) (t : Tables) (b : Contents) (h : StoredOver reached told ns ts t b) where
   pub over_in_grammar : InGrammar t
   over_in_grammar n k r found =
-      by_test (nat_eq n 1) _ _ (λ e. entry_under meta_codec t _ n k r h.format (eqb-true n 1 e) found) (λ n1.
-      by_test (nat_eq n 2) _ _ (λ e. entry_under user_codec t _ n k r h.users (eqb-true n 2 e) found) (λ n2.
-      by_test (nat_eq n 3) _ _ (λ e. entry_under rel_codec t _ n k r h.rels (eqb-true n 3 e) found) (λ n3.
-      by_test (nat_eq n 4) _ _ (λ e. entry_under tuple_codec t _ n k r h.tuples.tuples (eqb-true n 4 e) found) (λ n4.
-      by_test (nat_eq n 5) _ _ (λ e. entry_under tuple_ix_codec t _ n k r h.tuples.numbers (eqb-true n 5 e) found) (λ n5.
-      by_test (nat_eq n 6) _ _ (λ e. entry_under depth_codec t _ n k r h.states.tables.depth (eqb-true n 6 e) found) (λ n6.
-      by_test (nat_eq n 7) _ _ (λ e. entry_under link_codec t _ n k r h.states.tables.link (eqb-true n 7 e) found) (λ n7.
-      by_test (nat_eq n 8) _ _ (λ e. entry_under linked_codec t _ n k r h.states.tables.linked (eqb-true n 8 e) found) (λ n8.
-      by_test (nat_eq n 9) _ _ (λ e. entry_under edge_codec t _ n k r h.states.tables.edge (eqb-true n 9 e) found) (λ n9.
-      by_test (nat_eq n 10) _ _ (λ e. entry_under led_codec t _ n k r h.states.tables.led (eqb-true n 10 e) found) (λ n10.
-      by_test (nat_eq n 11) _ _ (λ e. entry_under val_codec t _ n k r h.rows (eqb-true n 11 e) found) (λ n11.
-      by_test (nat_eq n 12) _ _ (λ e. entry_under plain_codec t _ n k r h.plain (eqb-true n 12 e) found)
+      by_test (nat_eq n 1) _ _ (λ e. held meta_codec t h.format.fits n k r (eqb-true n 1 e) found) (λ n1.
+      by_test (nat_eq n 2) _ _ (λ e. held user_codec t h.users.fits n k r (eqb-true n 2 e) found) (λ n2.
+      by_test (nat_eq n 3) _ _ (λ e. held rel_codec t h.rels.fits n k r (eqb-true n 3 e) found) (λ n3.
+      by_test (nat_eq n 4) _ _ (λ e. held tuple_codec t h.tuples.tuples.fits n k r (eqb-true n 4 e) found) (λ n4.
+      by_test (nat_eq n 5) _ _ (λ e. held tuple_ix_codec t h.tuples.numbers.fits n k r (eqb-true n 5 e) found) (λ n5.
+      by_test (nat_eq n 6) _ _ (λ e. held depth_codec t h.states.tables.depth.fits n k r (eqb-true n 6 e) found) (λ n6.
+      by_test (nat_eq n 7) _ _ (λ e. held link_codec t h.states.tables.link.fits n k r (eqb-true n 7 e) found) (λ n7.
+      by_test (nat_eq n 8) _ _ (λ e. held linked_codec t h.states.tables.linked.fits n k r (eqb-true n 8 e) found) (λ n8.
+      by_test (nat_eq n 9) _ _ (λ e. held edge_codec t h.states.tables.edge.fits n k r (eqb-true n 9 e) found) (λ n9.
+      by_test (nat_eq n 10) _ _ (λ e. held led_codec t h.states.tables.led.fits n k r (eqb-true n 10 e) found) (λ n10.
+      by_test (nat_eq n 11) _ _ (λ e. held val_codec t h.rows.fits n k r (eqb-true n 11 e) found) (λ n11.
+      by_test (nat_eq n 12) _ _ (λ e. held plain_codec t h.plain.fits n k r (eqb-true n 12 e) found)
       (λ n12. none_some r (sym (h.outside n k (no_table n n1 n2 n3 n4 n5 n6 n7 n8 n9 n10 n11 n12)) ∙ found)))))))))))))
 
 pub stored_is_in_grammar : StoredIsInGrammar

@@ -1,5 +1,8 @@
 pub mod ArriveLemmas
+pub mod BetweenLemmas
+pub mod BoundLemmas
 pub mod CallLemmas
+pub mod ChangeBounds
 pub mod ChangeLemmas
 pub mod ChangingLemmas
 pub mod ClearLemmas
@@ -15,11 +18,15 @@ pub mod GroupLemmas
 pub mod InsertLemmas
 pub mod JoinLemmas
 pub mod JudgeLemmas
+pub mod KeepLemmas
 pub mod LeastLemmas
+pub mod LeastNumbers
 pub mod LeaveLemmas
+pub mod LostLemmas
 pub mod MissingLemmas
 pub mod NextLemmas
 pub mod NumberLemmas
+pub mod OneLemmas
 pub mod OneStored
 pub mod OwnLemmas
 pub mod PartCountLemmas
@@ -36,6 +43,7 @@ pub mod ReadingLemmas
 pub mod ReplaceLemmas
 pub mod RowLemmas
 pub mod SettleLemmas
+pub mod SpendLemmas
 pub mod StageLemmas
 pub mod StandLemmas
 pub mod StepLemmas

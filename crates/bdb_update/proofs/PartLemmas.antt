@@ -93,13 +93,12 @@ module _ (t m v : Tables) (x : Stmt) (wid tid : ℕ) (key : Value) (first : slic
             (subst (λ (z : Tables). SameBut (λ n. nat_eq n 11) z v) made same));
       }
 
--- what is told of the group's rows balances the numbers of rows
+-- what is told of the group's rows
 module _ (t : Tables) (mid new : Seen) (x : Stmt) (wid tid : ℕ) (key : Value) (s : Settled) (first : slice_get x.tuple.vals 0 ≡ Some key)
-    (taken : mid.kept ≡ row_taken t x wid tid key)
-    (tells : TellsGroup mid new wid x.tuple.rel key s) (same : others.SameBut (λ n. nat_eq n 11) mid.kept new.kept)
+    (taken : mid.kept ≡ row_taken t x wid tid key) (tells : TellsGroup mid new wid x.tuple.rel key s)
     (world : IsWorld t x.path wid) (fits : IsTupleRow x.tuple) (has : HasAt tuple_ix_codec t x.tuple (Some tid)) where
-  pub parted_rows : PartsRows t new.kept x s.put s.taken
-  parted_rows b h may n m a z ln lm =
+  pub parting_tells : (b : Contents) → Stores t b → MayPart b x → TellsDifferences mid new s.put s.taken
+  parting_tells b h may =
       let next = without_statement b.stmts x in
       let consistent : IsConsistent (λ _. 1) b.stmts = valid_is_consistent b.catalog b.stmts may.valid in
       let less = consistent_before b.stmts x consistent in
@@ -115,9 +114,24 @@ module _ (t : Tables) (mid new : Seen) (x : Stmt) (wid tid : ℕ) (key : Value) 
       let unsettled = group_unsettled b.stmts b.stmts next h.names h.tuples t b x.path x.tuple wid tid h.stored (record { states = λ w e. e; tuples = λ u e. e }) (drop_is_within b.stmts x)
       consistent less (drop_differs_at b.stmts x) path tuple in
       let changed : ValKey → Option Mark = with_row_at val_codec (row_for (λ _. 1) b.stmts (path_of h.names) h.tuples.tuple) (said_at next x.path wid tid x.tuple) in
-      let told : TellsDifferences mid new s.put s.taken = tells next h.names h.tuples.tuple changed
+      tells next h.names h.tuples.tuple changed
       (subst (λ (v : Tables). IsUnsettled next h.names h.tuples.tuple changed v wid (is_of_group x.tuple.rel key)) (sym made)
-      (subst (λ (y : Value). IsUnsettled next h.names h.tuples.tuple changed (with_change val_codec t (said_at next x.path wid tid x.tuple)) wid (is_of_group x.tuple.rel y)) (first_value x.tuple.vals key first) unsettled)) in
+      (subst (λ (y : Value). IsUnsettled next h.names h.tuples.tuple changed (with_change val_codec t (said_at next x.path wid tid x.tuple)) wid (is_of_group x.tuple.rel y)) (first_value x.tuple.vals key first) unsettled))
+
+-- it balances the numbers of rows
+module _ (t : Tables) (mid new : Seen) (x : Stmt) (wid tid : ℕ) (key : Value) (s : Settled) (first : slice_get x.tuple.vals 0 ≡ Some key)
+    (taken : mid.kept ≡ row_taken t x wid tid key)
+    (tells : TellsGroup mid new wid x.tuple.rel key s) (same : others.SameBut (λ n. nat_eq n 11) mid.kept new.kept)
+    (world : IsWorld t x.path wid) (fits : IsTupleRow x.tuple) (has : HasAt tuple_ix_codec t x.tuple (Some tid)) where
+  pub parted_rows : PartsRows t new.kept x s.put s.taken
+  parted_rows b h may n m a z ln lm =
+      let consistent : IsConsistent (λ _. 1) b.stmts = valid_is_consistent b.catalog b.stmts may.valid in
+      let there = sym (stands_is_explicit b.stmts x) ∙ may.there in
+      let key_is : row_key wid tid x.tuple ≡ (wid, x.tuple.rel, key, tid) = ap (λ (y : Value). row_of wid x.tuple.rel y tid) (first_value x.tuple.vals key first) in
+      let named = world (record { users = is_user b.catalog.users; names = h.names }) h.stored.states (belongs_parts b.catalog x may.belongs).users in
+      let path = h.stored.states.names.numbered x.path wid named in
+      let tuple = h.stored.tuples.numbered x.tuple tid (sym (number_read b.stmts h.tuples t x.tuple (Some tid) h.stored.tuples fits has)) in
+      let told = parting_tells t mid new x wid tid key s first taken tells world fits has b h may in
       let row = explicit_has_row t b x h consistent wid tid path tuple there in
       let one = one_row_less t (key_made x wid tid key) n a (ap (λ (k : ValKey). is_some (tables.get t (place val_codec k))) (sym key_is) ∙ row) in
       let few = one.one in
@@ -126,12 +140,6 @@ module _ (t : Tables) (mid new : Seen) (x : Stmt) (wid tid : ℕ) (key : Value) 
       let came = e.few_came in
       let went = e.few_went in
       record { balance = omega arith; few_came = came; few_went = omega arith }
-
--- the row's table alone has changed
-pub parted_same : (t m v : Tables) (x : Stmt) (wid tid : ℕ) (key : Value) → m ≡ row_taken t x wid tid key → SameBut (λ n. nat_eq n 11) m v → SameBut (λ n. nat_eq n 11) t v
-parted_same t m v x wid tid key taken same =
-    same_then (λ n. nat_eq n 11) t m v
-    (subst (λ (z : Tables). SameBut (λ n. nat_eq n 11) t z) (sym taken) (change_same val_codec (λ n. nat_eq n 11) t (key_made x wid tid key, None) refl)) same
 
 -- after the row is taken away each row has its tuple
 pub row_gone_tuple : (t m : Tables) (x : Stmt) (wid tid : ℕ) (key : Value) → SomeMayPart t x → IsTupleRow x.tuple → IsNum tid → HasAt tuple_ix_codec t x.tuple (Some tid)

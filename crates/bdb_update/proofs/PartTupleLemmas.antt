@@ -1,5 +1,5 @@
 -- A statement has left: its tuple keeps its number where another statement has it, and loses it where none has.
-use Rattle.std.proofs.Common.{◌≡◌, ◌∙◌, ℕ, Bool, true, false, not, List, refl, ap, sym, subst, inl, inr, Some, None}
+use Rattle.std.proofs.Common.{◌≡◌, ◌∙◌, ℕ, Bool, true, false, not, List, refl, ap, sym, subst, inl, inr, Some}
 use Rattle.std.proofs.lemmas.Bool.{cases_Bool}
 use Rattle.bdb_base.specs.Bases.{Contents, without_statement}
 use Rattle.bdb_base.specs.Same.{same_tuple}
@@ -14,14 +14,13 @@ use Rattle.bdb_tables.specs.Grammar.{InGrammar}
 use Rattle.bdb_tables.specs.InUse.{tuple_ix_codec}
 use Rattle.bdb_update.specs.Calls.{without_one}
 use Rattle.bdb_update.specs.Differing.{has_told}
-use Rattle.bdb_update.specs.Joining.{is_of_tuples}
 use Rattle.bdb_update.specs.Numbering.{number_taken, without_number}
 use Rattle.bdb_update.specs.Parting.{MayPart, HasFewerWorlds, SomeHasFewerWorlds, LosesNumber, TellsNumber}
 use Rattle.bdb_update.specs.Reads.{TellsTold}
-use Rattle.bdb_tables.specs.Stored.{SameBut, StoredOver}
+use Rattle.bdb_tables.specs.Stored.{StoredOver}
 use Rattle.bdb_tables.proofs.SignLemmas.{drop_unfelt}
 use Rattle.bdb_update.proofs.GrammarLemmas.{over_in_grammar}
-use Rattle.bdb_update.proofs.NumberLemmas.{drop_leaves_tuples, number_taken_stores, two_same}
+use Rattle.bdb_update.proofs.NumberLemmas.{drop_leaves_tuples, number_taken_stores}
 use Rattle.bdb_update.proofs.PartWorldLemmas.{consistent_before}
 use Rattle.bdb_update.proofs.TupleLemmas.{number_read}
 use Rattle.bdb_update.proofs.WithinLemmas.{drop_is_within, same_reach_stores}
@@ -68,10 +67,6 @@ module _ (t : Tables) (x : Stmt) (tid : ℕ) (fits : IsTupleRow x.tuple) (has : 
 
   pub number_told : (went is : Bool) → went ≡ not is → TellsTold t x.tuple tid is → TellsNumber t x went
   number_told went is e tells b h may = e ∙ ap not (told_is b h may is tells)
-
--- the tables of tuples alone have changed
-pub taken_same : (t u : Tables) (tid : ℕ) (tuple : Tuple) → u ≡ number_taken t tid tuple → SameBut is_of_tuples t u
-taken_same t u tid tuple e = subst (λ (v : Tables). SameBut is_of_tuples t v) (sym e) (two_same t (tid, None) (tuple, None))
 
 -- ---- what there is before
 

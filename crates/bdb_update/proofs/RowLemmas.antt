@@ -48,7 +48,7 @@ use Rattle.bdb_update.specs.Tallies.{HasRowCount, vals_at, nothing_at}
 among_append : (p : List ℕ) (xs ys : List (List ℕ)) → is_among p (xs ++ ys) ≡ (is_among p xs || is_among p ys)
 among_append p xs ys = list_any-append (same_text p) xs ys
 
-append_distinct : (xs ys : List (List ℕ)) → are_distinct xs ≡ true → are_distinct ys ≡ true → AllByRecursion (λ p. is_among p ys ≡ false) xs → are_distinct (xs ++ ys) ≡ true
+pub append_distinct : (xs ys : List (List ℕ)) → are_distinct xs ≡ true → are_distinct ys ≡ true → AllByRecursion (λ p. is_among p ys ≡ false) xs → are_distinct (xs ++ ys) ≡ true
 append_distinct [] ys dx dy apart = dy
 append_distinct (x ∷ xs) ys dx dy apart =
     let k = and_parts (not (is_among x xs)) (are_distinct xs) dx in
@@ -74,13 +74,13 @@ sign_there true m f = refl
 sign_there false true f = refl
 sign_there false false f = refl
 
-stated_marked : (stmts : List Stmt) (w : List ℕ) (u : Tuple) (s : Sign) → stated (λ _. 1) stmts w u s ≡ true → is_some (mark_of (λ _. 1) stmts w u) ≡ true
+pub stated_marked : (stmts : List Stmt) (w : List ℕ) (u : Tuple) (s : Sign) → stated (λ _. 1) stmts w u s ≡ true → is_some (mark_of (λ _. 1) stmts w u) ≡ true
 stated_marked stmts w u Plus e =
     sign_there (stated (λ _. 1) stmts w u Plus) (stated (λ _. 1) stmts w u Minus) (explicit stmts w u) ∙ or_left (stated (λ _. 1) stmts w u Plus) (stated (λ _. 1) stmts w u Minus) e
 stated_marked stmts w u Minus e =
     sign_there (stated (λ _. 1) stmts w u Plus) (stated (λ _. 1) stmts w u Minus) (explicit stmts w u) ∙ or_right (stated (λ _. 1) stmts w u Plus) (stated (λ _. 1) stmts w u Minus) e
 
-marked_stated : (stmts : List Stmt) (w : List ℕ) (u : Tuple) → is_some (mark_of (λ _. 1) stmts w u) ≡ true → (s : Sign) × (stated (λ _. 1) stmts w u s ≡ true)
+pub marked_stated : (stmts : List Stmt) (w : List ℕ) (u : Tuple) → is_some (mark_of (λ _. 1) stmts w u) ≡ true → (s : Sign) × (stated (λ _. 1) stmts w u s ≡ true)
 marked_stated stmts w u e = elim (or_cases (stated (λ _. 1) stmts w u Plus) (stated (λ _. 1) stmts w u Minus)
     (sym (sign_there (stated (λ _. 1) stmts w u Plus) (stated (λ _. 1) stmts w u Minus) (explicit stmts w u)) ∙ e)) [
       | inl a ↦ (Plus, a)

@@ -19,6 +19,7 @@ use Rattle.bdb_tables.specs.Rows.{row_for}
 use Rattle.bdb_tables.specs.Names.{path_of}
 use Rattle.bdb_tables.specs.Writes.{with_change, with_row_at}
 use Rattle.bdb_tables.proofs.Fitting.{belonging_may_be}
+use Rattle.bdb_val.specs.Counts.{TellsDifferences}
 use Rattle.bdb_val.specs.Groups.{IsUnsettled, SettlesGroup, TellsGroup}
 use Rattle.bdb_val.specs.Others as others
 use Rattle.bdb_val.specs.Steps.{counted as capped}
@@ -28,7 +29,7 @@ use Rattle.bdb_val.specs.Settling.{key_value, row_key}
 use Rattle.bdb_val.proofs.StateLemmas.{changes_keep}
 use Rattle.bdb_update.specs.Calls.{with_one}
 use Rattle.bdb_update.specs.Differing.{explicit_row, said_at}
-use Rattle.bdb_update.specs.Joining.{CountsSettled, MayJoin, SomeHasNumber, IsWorld, Settles, key_made, row_put}
+use Rattle.bdb_update.specs.Joining.{CountsSettled, HasNumber, MayJoin, SomeHasNumber, IsWorld, Settles, key_made, row_put}
 use Rattle.bdb_tables.specs.Stored.{SameBut}
 use Rattle.bdb_update.proofs.DifferLemmas.{put_differs_at}
 use Rattle.bdb_update.proofs.GroupLemmas.{group_unsettled, settled_group_stores}
@@ -101,12 +102,11 @@ row_has_tuple t m x wid tid key some fits num has key_fits put =
 
 -- ---- how many rows came and went
 
-module _ (t : Tables) (mid new : Seen) (x : Stmt) (wid tid : ℕ) (key : Value) (stood : Bool) (s : Settled) (first : slice_get x.tuple.vals 0 ≡ Some key) (put : mid.kept ≡ row_put t x wid tid key)
-    (had : stood ≡ is_some (tables.get t (place val_codec (key_made x wid tid key)))) (settles : SettlesGroup mid.kept new.kept wid x.tuple.rel key)
-    (tells : TellsGroup mid new wid x.tuple.rel key s) (alone : others.SameBut (λ n. nat_eq n 11) mid.kept new.kept)
-    (world : IsWorld t x.path wid) (fits : IsTupleRow x.tuple) (has : HasAt tuple_ix_codec t x.tuple (Some tid)) where
-  pub counts_settle : (more : ℕ) → more ≡ capped (s.put + cond stood 0 1) → CountsSettled t new.kept x more s.taken
-  counts_settle more sum b h may a z before after =
+-- what is told of the group's rows
+module _ (t : Tables) (mid new : Seen) (x : Stmt) (wid tid : ℕ) (key : Value) (s : Settled) (first : slice_get x.tuple.vals 0 ≡ Some key) (put : mid.kept ≡ row_put t x wid tid key)
+    (tells : TellsGroup mid new wid x.tuple.rel key s) (world : IsWorld t x.path wid) (fits : IsTupleRow x.tuple) (has : HasAt tuple_ix_codec t x.tuple (Some tid)) where
+  pub settling_tells : (b : Contents) → HasNumber t b x → MayJoin b x → TellsDifferences mid new s.put s.taken
+  settling_tells b h may =
       let next = with_statement b.stmts x in
       let consistent : IsConsistent (λ _. 1) next = valid_is_consistent b.catalog next may.next in
       let said : explicit_sign next x.path x.tuple ≡ Some x.sign = put_says_sign b.stmts x consistent in
@@ -120,9 +120,19 @@ module _ (t : Tables) (mid new : Seen) (x : Stmt) (wid tid : ℕ) (key : Value) 
       let unsettled = group_unsettled next next next h.names h.tuples t b x.path x.tuple wid tid h.stored within (record { states = λ w e. e; tuples = λ u e. e })
       (valid_is_consistent b.catalog b.stmts may.valid) consistent (put_differs_at b.stmts x) (h.stored.states.names.numbered x.path wid named) (h.stored.tuples.numbered x.tuple tid (sym read)) in
       let f : ValKey → Option Mark = with_row_at val_codec (row_for (λ _. 1) b.stmts (path_of h.names) h.tuples.tuple) (said_at next x.path wid tid x.tuple) in
-      let told = tells next h.names h.tuples.tuple f
+      tells next h.names h.tuples.tuple f
       (subst (λ (v : Value). IsUnsettled next h.names h.tuples.tuple f mid.kept wid (is_of_group x.tuple.rel v)) (first_value x.tuple.vals key first)
-      (subst (λ (u : Tables). IsUnsettled next h.names h.tuples.tuple f u wid (is_of_group x.tuple.rel (key_value x.tuple.vals))) (sym made) unsettled)) in
+      (subst (λ (u : Tables). IsUnsettled next h.names h.tuples.tuple f u wid (is_of_group x.tuple.rel (key_value x.tuple.vals))) (sym made) unsettled))
+
+module _ (t : Tables) (mid new : Seen) (x : Stmt) (wid tid : ℕ) (key : Value) (stood : Bool) (s : Settled) (first : slice_get x.tuple.vals 0 ≡ Some key) (put : mid.kept ≡ row_put t x wid tid key)
+    (had : stood ≡ is_some (tables.get t (place val_codec (key_made x wid tid key)))) (settles : SettlesGroup mid.kept new.kept wid x.tuple.rel key)
+    (tells : TellsGroup mid new wid x.tuple.rel key s) (alone : others.SameBut (λ n. nat_eq n 11) mid.kept new.kept)
+    (world : IsWorld t x.path wid) (fits : IsTupleRow x.tuple) (has : HasAt tuple_ix_codec t x.tuple (Some tid)) where
+  pub counts_settle : (more : ℕ) → more ≡ capped (s.put + cond stood 0 1) → CountsSettled t new.kept x more s.taken
+  counts_settle more sum b h may a z before after =
+      let next = with_statement b.stmts x in
+      let within = put_is_within b.stmts x in
+      let told = settling_tells t mid new x wid tid key s first put tells world fits has b h may in
       let count = put_count t mid.kept (key_made x wid tid key) (x.sign, true) put a before in
       let few = over_few next next h.names h.tuples t b h.stored may.valid within.tuples a before in
       let stored = settled t mid.kept new.kept x wid tid key first put settles (λ n k out. alone (n ∷ k) out) world fits has b h may in

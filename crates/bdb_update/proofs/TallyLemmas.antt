@@ -19,10 +19,10 @@ use Rattle.bdb_update.specs.Tallies.{vals_at, nothing_at, HasRowCount, Balances}
 
 -- ---- lists of places
 
-abbrev Places : Type 0
+abbrev pub Places : Type 0
 Places = List (List ℕ)
 
-filter_parts : (p : List ℕ → Bool) (x : List ℕ) (xs : Places) → (length (filter p (x ∷ xs)) ≡ cond (p x) 1 0 + length (filter p xs))
+pub filter_parts : (p : List ℕ → Bool) (x : List ℕ) (xs : Places) → (length (filter p (x ∷ xs)) ≡ cond (p x) 1 0 + length (filter p xs))
 filter_parts p x xs = by (p x)
   where
     by : (b : Bool) → length (cond b (x ∷ filter p xs) (filter p xs)) ≡ cond b 1 0 + length (filter p xs)
@@ -54,7 +54,7 @@ filter_append p (x ∷ xs) ys = by (p x) (filter_append p xs ys)
     by true e = ap (λ (zs : Places). x ∷ zs) e
     by false e = e
 
-length_append : (xs ys : Places) → length (xs ++ ys) ≡ length xs + length ys
+pub length_append : (xs ys : Places) → length (xs ++ ys) ≡ length xs + length ys
 length_append [] ys = omega arith
 length_append (x ∷ xs) ys = let e = length_append xs ys in omega arith
 
@@ -88,7 +88,7 @@ among_filter p q (x ∷ xs) h = by (p x) (among_filter p q xs) h
     by false r e = or_right (same_text q x) (is_among q xs) (r e)
 
 -- one among some that passes a test is among those that do
-among_passing : (p : List ℕ → Bool) (q : List ℕ) (xs : Places) → is_among q xs ≡ true → p q ≡ true → is_among q (filter p xs) ≡ true
+pub among_passing : (p : List ℕ → Bool) (q : List ℕ) (xs : Places) → is_among q xs ≡ true → p q ≡ true → is_among q (filter p xs) ≡ true
 among_passing p q [] h e = h
 among_passing p q (x ∷ xs) h e = elim (or_cases (same_text q x) (is_among q xs) h) [
   | inl a ↦
@@ -101,7 +101,7 @@ among_passing p q (x ∷ xs) h e = elim (or_cases (same_text q x) (is_among q xs
     later true r = or_right (same_text q x) (is_among q (filter p xs)) r
     later false r = r
 
-filter_distinct : (p : List ℕ → Bool) (xs : Places) → are_distinct xs ≡ true → are_distinct (filter p xs) ≡ true
+pub filter_distinct : (p : List ℕ → Bool) (xs : Places) → are_distinct xs ≡ true → are_distinct (filter p xs) ≡ true
 filter_distinct p [] h = h
 filter_distinct p (x ∷ xs) h =
     let k = and_parts (not (is_among x xs)) (are_distinct xs) h in
@@ -112,7 +112,7 @@ filter_distinct p (x ∷ xs) h =
         (not_from_false (is_among x (filter p xs)) (false_from_ne_true (is_among x (filter p xs)) (λ e. false≢true (sym n ∙ among_filter p x xs e)))) r
     by false r n = r
 
-all_filter : (P : List ℕ → Type 0) (p : List ℕ → Bool) (xs : Places) → AllByRecursion (λ x. p x ≡ true → P x) xs → AllByRecursion P (filter p xs)
+pub all_filter : (P : List ℕ → Type 0) (p : List ℕ → Bool) (xs : Places) → AllByRecursion (λ x. p x ≡ true → P x) xs → AllByRecursion P (filter p xs)
 all_filter P p [] h = tt
 all_filter P p (x ∷ xs) h = by (p x) refl (all_filter P p xs h.1)
   where
@@ -120,11 +120,11 @@ all_filter P p (x ∷ xs) h = by (p x) refl (all_filter P p xs h.1)
     by true e r = (h.0 e, r)
     by false e r = r
 
-all_of : (P : List ℕ → Type 0) → ((x : List ℕ) → P x) → (xs : Places) → AllByRecursion P xs
+pub all_of : (P : List ℕ → Type 0) → ((x : List ℕ) → P x) → (xs : Places) → AllByRecursion P xs
 all_of P h [] = tt
 all_of P h (x ∷ xs) = (h x, all_of P h xs)
 
-all_weaker : (P Q : List ℕ → Type 0) → ((x : List ℕ) → P x → Q x) → (xs : Places) → AllByRecursion P xs → AllByRecursion Q xs
+pub all_weaker : (P Q : List ℕ → Type 0) → ((x : List ℕ) → P x → Q x) → (xs : Places) → AllByRecursion P xs → AllByRecursion Q xs
 all_weaker P Q f [] h = tt
 all_weaker P Q f (x ∷ xs) h = (f x h.0, all_weaker P Q f xs h.1)
 
@@ -133,12 +133,16 @@ all_append P [] ys h k = k
 all_append P (x ∷ xs) ys h k = (h.0, all_append P xs ys h.1 k)
 
 -- all of some, each of which is among them
-all_among : (xs : Places) → AllByRecursion (λ x. is_among x xs ≡ true) xs
+pub all_among : (xs : Places) → AllByRecursion (λ x. is_among x xs ≡ true) xs
 all_among [] = tt
 all_among (x ∷ xs) = (
   or_left (same_text x x) (is_among x xs) ((same_text-Decides x x).1 refl),
   all_weaker (λ y. is_among y xs ≡ true) (λ y. is_among y (x ∷ xs) ≡ true) (λ y h. or_right (same_text y x) (is_among y xs) h) xs (all_among xs),
 )
+
+pub not_twice : (c : Bool) → not (not c) ≡ c
+not_twice true = refl
+not_twice false = refl
 
 -- ---- rows
 
@@ -148,14 +152,14 @@ same_row None (Some b) = false
 same_row (Some a) None = false
 same_row (Some a) (Some b) = same_text a b
 
-same_row_is : (a b : Option (List ℕ)) → same_row a b ≡ true → a ≡ b
+pub same_row_is : (a b : Option (List ℕ)) → same_row a b ≡ true → a ≡ b
 unfolding same_row
 same_row_is None None e = refl
 same_row_is None (Some b) e = absurd (false≢true e)
 same_row_is (Some a) None e = absurd (false≢true e)
 same_row_is (Some a) (Some b) e = ap Some ((same_text-Decides a b).0 e)
 
-same_row_from : (a b : Option (List ℕ)) → a ≡ b → same_row a b ≡ true
+pub same_row_from : (a b : Option (List ℕ)) → a ≡ b → same_row a b ≡ true
 unfolding same_row
 same_row_from None None e = refl
 same_row_from None (Some b) e = absurd cc
@@ -179,14 +183,14 @@ row_there t (n ∷ k) h = by (nat_eq n 11) refl
     by true e = some_there (tables.get t (n ∷ k)) (λ f. h (cond-true (nat_eq n 11) (tables.get t (n ∷ k)) None e ∙ f))
     by false e = absurd (h (cond-false (nat_eq n 11) (tables.get t (n ∷ k)) None e))
 
-abbrev rows_alone : ℕ → Bool
+abbrev pub rows_alone : ℕ → Bool
 rows_alone n = nat_eq n 11
 
-in_rows : (q : List ℕ) (t : Tables) → vals_at t q ≢ None → others.is_in rows_alone q ≡ true
+pub in_rows : (q : List ℕ) (t : Tables) → vals_at t q ≢ None → others.is_in rows_alone q ≡ true
 in_rows [] t h = absurd (h refl)
 in_rows (n ∷ k) t h = elim (cases_Bool (nat_eq n 11)) [ inl e ↦ e | inr e ↦ absurd (h (cond-false (nat_eq n 11) (tables.get t (n ∷ k)) None e)) ]
 
-vals_is : (t : Tables) (q : List ℕ) → others.is_in rows_alone q ≡ true → vals_at t q ≡ tables.get t q
+pub vals_is : (t : Tables) (q : List ℕ) → others.is_in rows_alone q ≡ true → vals_at t q ≡ tables.get t q
 vals_is t [] e = absurd (false≢true e)
 vals_is t (n ∷ k) e = cond-true (nat_eq n 11) (tables.get t (n ∷ k)) None e
 
@@ -225,10 +229,6 @@ module _ (t u : Tables) (n m : ℕ) (same : others.SameBut rows_alone t u) (a : 
 
   abbrev stayed : Places
   stayed = filter (λ q. not (has_none t q)) qs
-
-  not_twice : (c : Bool) → not (not c) ≡ c
-  not_twice true = refl
-  not_twice false = refl
 
   here_too : AllByRecursion (λ p. is_among p stayed ≡ true) stay
   here_too = all_filter (λ p. is_among p stayed ≡ true) (λ p. not (has_none u p)) ps

@@ -14,6 +14,7 @@ use Rattle.bdb_update.specs.Calls.{MayMeet, SomeMayMeet, IsUntouched, HasStopped
 use Rattle.bdb_update.specs.Examining.{AreSizes, IsReady, Examines}
 use Rattle.bdb_update.specs.Joining.{CountsJoined, MayJoin, SomeMayJoin, Joins}
 use Rattle.bdb_tables.specs.Stored.{Stores}
+use Rattle.bdb_update.specs.Numbering.{HoldsSomeTuples}
 use Rattle.bdb_update.specs.Trying.{Tries, stopped_by}
 use Rattle.bdb_update.specs.declared.answer.UpdateError.{UpdateError}
 use Rattle.bdb_update.specs.declared.answer.UpdateError.TheVariants.{Clash, Full}
@@ -100,3 +101,10 @@ module _ (old mid : Seen) (c : Counts) (x : Stmt) (r : Ready) (e : Examines old.
 
   pub ready_now : IsReady mid.kept some.base x r
   ready_now = subst (λ (t : Tables). IsReady t some.base x r) (sym q.kept) (e some.base some.may)
+
+-- so many tuples have numbers
+pub tuples_now : (old mid : Seen) (c : Counts) (x : Stmt) → IsQuiet old mid → SomeMayMeet old.kept c x → HoldsSomeTuples mid.kept c.tuples
+tuples_now old mid c x q some =
+    let s = some.may.base.stored in
+    subst (λ (t : Tables). HoldsSomeTuples t c.tuples) (sym q.kept)
+    (record { told = some.base.stmts; numbers = s.tuples; held = s.stored.tuples; counted = ap (λ (k : Counts). k.tuples) some.may.base.counted })

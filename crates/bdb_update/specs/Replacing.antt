@@ -1,11 +1,14 @@
 -- Statements go, and others come, one after the other. Tables are told of by whichever base they store.
-use Rattle.std.specs.Prelude.{◌≡◌, Bool, true, false, List}
+use Rattle.std.specs.Prelude.{◌≡◌, ◌+◌, Bool, true, false, List, [], ◌∷◌, length, Result, OnOk}
 use Rattle.std.specs.List.{list_all}
 use Rattle.bdb_base.specs.Bases.{Contents, IsValid, belongs, stands}
 use Rattle.bdb_base.specs.Changes.{with_statements}
 use Rattle.bdb_base.specs.declared.kinds.Stmt.{Stmt}
 use Rattle.bdb_canon.specs.declared.sizes.Counts.{Counts}
+use Rattle.bdb_keep.specs.Seen.{Seen}
 use Rattle.bdb_keep.specs.Tables.{Tables}
+use Rattle.bdb_tables.specs.declared.tab.TabError.{TabError}
+use Rattle.bdb_update.specs.Bounds.{WritesWithin}
 use Rattle.bdb_update.specs.Calls.{StoresSized, are_apart, of_stmts, with_others, without_statements}
 use Rattle.bdb_update.specs.declared.answer.UpdateError.{UpdateError}
 use Rattle.bdb_update.specs.declared.answer.UpdateError.TheVariants.{Clash, Full, Fault, Memory}
@@ -23,6 +26,11 @@ pub record SomeMayGo (t : Tables) (counts : Counts) (gone : List Stmt) : Type 0 
 -- the statements have gone
 abbrev pub Go : Tables → Tables → Counts → Counts → List Stmt → Type 0
 Go t u before after gone = (b : Contents) → MayGo t before gone b → StoresSized u after (of_stmts b (without_statements b.stmts gone))
+
+-- One statement that goes alone is taken away with as many writes as are told of taking it away by itself: for each place at which
+-- the rows before and after differ no more than its path has users, and two; and eight more in all.
+abbrev pub WritesForOne : List Stmt → Seen → Seen → Result (Unit {0}) TabError → Type 0
+WritesForOne gone old new result = (x : Stmt) → gone ≡ x ∷ [] → OnOk result (WritesWithin (length x.path + 2) 8 old new)
 
 -- tables store a base of these sizes, which is valid with all of some statements of its catalog
 pub record MayCome (t : Tables) (counts : Counts) (come : List Stmt) (b : Contents) : Type 0 where

@@ -1,7 +1,9 @@
 // Adding a statement.
-ghost use Rattle.std.specs.Prelude.{◌≡◌, true};
+ghost use Rattle.std.specs.Prelude.{◌≡◌, ◌+◌, true, length, OnOk};
 ghost use Rattle.bdb_keep.specs.Seen.{NeverFall};
+ghost use Rattle.bdb_update.specs.Bounds.{WritesWithin};
 ghost use Rattle.bdb_update.specs.Calls.{Adds, SomeMayMeet};
+ghost use Rattle.bdb_update.specs.Numbering.{TakesLeast};
 
 use crate::answer::{Added, UpdateError};
 use crate::trying::try_add;
@@ -13,7 +15,8 @@ use std::alloc::Global;
 /// Adds a statement to the base that the tables store, whose sizes are `counts`, and settles the rows of the worlds that
 /// inherit it. `Already` comes exactly where it stands, `Clash` exactly where a statement of its path clashes with it, with
 /// the least such one, and `Full` exactly where none clashes and the base would pass a limit, with the first of worlds,
-/// tuples and statements.
+/// tuples and statements. A tuple that had no number gets the least one not in use. For each place at which the rows before and after differ, no more writes are made than the path
+/// has users, and two, and eight more in all.
 pub fn add_statement<K: Keeper>(
     alloc: Global,
     keeper: &mut K,
@@ -23,6 +26,8 @@ pub fn add_statement<K: Keeper>(
     requires running { (K.seen keeper.old).running ≡ true }
     requires base { SomeMayMeet (K.seen keeper.old).kept counts.old stmt.now }
     ensures added { Adds (K.seen keeper.old) (K.seen keeper.new) counts.old counts.new stmt.now result }
+    ensures number { OnOk result (TakesLeast (K.seen keeper.old).kept (K.seen keeper.new).kept stmt.now.tuple) }
+    ensures writes { OnOk result (WritesWithin (length stmt.now.path + 2) 8 (K.seen keeper.old) (K.seen keeper.new)) }
     ensures counts { NeverFall (K.seen keeper.old) (K.seen keeper.new) }
 {
     match try_add(alloc, keeper, counts, stmt) {

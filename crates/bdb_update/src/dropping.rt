@@ -1,6 +1,7 @@
 // Taking a statement away.
-ghost use Rattle.std.specs.Prelude.{◌≡◌, true};
+ghost use Rattle.std.specs.Prelude.{◌≡◌, ◌+◌, true, length, OnOk};
 ghost use Rattle.bdb_keep.specs.Seen.{NeverFall};
+ghost use Rattle.bdb_update.specs.Bounds.{WritesWithin};
 ghost use Rattle.bdb_update.specs.Calls.{Drops, SomeMayMeet};
 
 use crate::leaving::try_drop;
@@ -12,6 +13,8 @@ use std::alloc::Global;
 
 /// Takes a statement away from the base that the tables store, whose sizes are `counts`, and settles the rows of the worlds
 /// that inherited it. Worlds and numbers of tuples that no statement has any more go. True exactly where it stood.
+/// For each place at which the rows before and after differ, no more writes are made than the path has users, and two, and
+/// eight more in all.
 pub fn drop_statement<K: Keeper>(
     alloc: Global,
     keeper: &mut K,
@@ -21,6 +24,7 @@ pub fn drop_statement<K: Keeper>(
     requires running { (K.seen keeper.old).running ≡ true }
     requires base { SomeMayMeet (K.seen keeper.old).kept counts.old stmt.now }
     ensures dropped { Drops (K.seen keeper.old) (K.seen keeper.new) counts.old counts.new stmt.now result }
+    ensures writes { OnOk result (WritesWithin (length stmt.now.path + 2) 8 (K.seen keeper.old) (K.seen keeper.new)) }
     ensures counts { NeverFall (K.seen keeper.old) (K.seen keeper.new) }
 {
     match try_drop(alloc, keeper, counts, stmt) {

@@ -1,13 +1,13 @@
 // Rows for worlds that have come.
 ghost use Rattle.std.specs.Prelude.{◌≡◌, ◌+◌, true, nat_eq, Some, IfOk, OnOk};
+ghost use Rattle.bdb_base.specs.Causes.{Rises};
 ghost use Rattle.bdb_keep.specs.Calls.{IsRead};
 ghost use Rattle.bdb_tables.specs.Codec.{HasAt};
 ghost use Rattle.bdb_tables.specs.Grammar.{InGrammar};
 ghost use Rattle.bdb_tables.specs.InUse.{link_codec};
 ghost use Rattle.bdb_update.specs.Filling.{CountsCome, FillsWorlds, HasLink, IsFilled, SomeHaveCome};
-ghost use Rattle.bdb_tables.specs.Stored.{SameBut};
 ghost use Rattle.bdb_val.specs.Reads.{HaveTuples};
-ghost use Rattle.bdb_val.specs.Others as others;
+ghost use Rattle.bdb_val.specs.Others.{SameBut};
 ghost use Rattle.bdb_val.specs.Steps.{IsChanging, counted};
 ghost use Rattle.bdb_val.specs.WorldCopies.{TellsCopy};
 
@@ -16,7 +16,8 @@ use bdb_tables::{SuffixTab, TabError, get};
 use bdb_val::copy_world;
 use std::alloc::Global;
 
-/// Gives worlds that have come along a path, shortest first, the rows that they inherit. It tells how many rows that makes.
+/// Gives worlds that have come along a path, shortest first, the rows that they inherit. It tells how many rows that makes,
+/// each by one write.
 pub fn fill_worlds<K: Keeper>(
     alloc: Global,
     keeper: &mut K,
@@ -29,6 +30,7 @@ pub fn fill_worlds<K: Keeper>(
     ensures filled { OnOk result (FillsWorlds (K.seen keeper.old).kept (K.seen keeper.new).kept wids.now) }
     ensures counted { IfOk result (CountsCome (K.seen keeper.old).kept (K.seen keeper.new).kept wids.now) }
     ensures others { OnOk result (SameBut (λ n. nat_eq n 11) (K.seen keeper.old).kept (K.seen keeper.new).kept) }
+    ensures writes { IfOk result (λ n. Rises n (K.seen keeper.old).writes (K.seen keeper.new).writes) }
     ensures grammar { OnOk result (InGrammar (K.seen keeper.new).kept) }
     ensures tuples { OnOk result (HaveTuples (K.seen keeper.new).kept) }
     ensures changing { IsChanging (K.seen keeper.old) (K.seen keeper.new) result TabError.Fault }
@@ -58,7 +60,8 @@ fn fill_world<K: Keeper>(alloc: Global, keeper: &mut K, wid: u32) -> Result<usiz
     requires linked { HasLink (K.seen keeper.old).kept wid }
     ensures filled { OnOk result (IsFilled (K.seen keeper.old).kept (K.seen keeper.new).kept wid) }
     ensures tells { IfOk result (TellsCopy (K.seen keeper.old) (K.seen keeper.new) wid) }
-    ensures others { OnOk result (others.SameBut (λ n. nat_eq n 11) (K.seen keeper.old).kept (K.seen keeper.new).kept) }
+    ensures others { OnOk result (SameBut (λ n. nat_eq n 11) (K.seen keeper.old).kept (K.seen keeper.new).kept) }
+    ensures writes { IfOk result (λ n. Rises n (K.seen keeper.old).writes (K.seen keeper.new).writes) }
     ensures grammar { OnOk result (InGrammar (K.seen keeper.new).kept) }
     ensures tuples { OnOk result (HaveTuples (K.seen keeper.new).kept) }
     ensures changing { IsChanging (K.seen keeper.old) (K.seen keeper.new) result TabError.Fault }

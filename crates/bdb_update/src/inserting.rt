@@ -1,9 +1,11 @@
 // A statement joins a base, all steps together.
-ghost use Rattle.std.specs.Prelude.{◌≡◌, true, IfOk, OnOk};
+ghost use Rattle.std.specs.Prelude.{◌≡◌, ◌+◌, true, length, IfOk, OnOk};
 ghost use Rattle.bdb_key.specs.Rows.{IsTupleRow};
 ghost use Rattle.bdb_tables.specs.Codec.{HasAt};
 ghost use Rattle.bdb_tables.specs.InUse.{tuple_ix_codec};
+ghost use Rattle.bdb_update.specs.Bounds.{WritesWithin};
 ghost use Rattle.bdb_update.specs.Joining.{CountsJoined, IsWorldIfAny, Joins, SomeMayJoin};
+ghost use Rattle.bdb_update.specs.Numbering.{HoldsSomeTuples, TakesLeast};
 ghost use Rattle.bdb_val.specs.Steps.{IsChanging};
 
 use crate::filling::both;
@@ -35,8 +37,11 @@ pub fn insert<K: Keeper>(
     requires world { IsWorldIfAny (K.seen keeper.old).kept stmt.now.path ready.now.wid }
     requires fits { IsTupleRow stmt.now.tuple }
     requires number { HasAt tuple_ix_codec (K.seen keeper.old).kept stmt.now.tuple ready.now.tid }
+    requires counted { HoldsSomeTuples (K.seen keeper.old).kept tuples }
     ensures joined { OnOk result (Joins (K.seen keeper.old).kept (K.seen keeper.new).kept stmt.now) }
     ensures counted { IfOk result (λ moved. CountsJoined (K.seen keeper.old).kept stmt.now moved.came moved.went) }
+    ensures number { OnOk result (TakesLeast (K.seen keeper.old).kept (K.seen keeper.new).kept stmt.now.tuple) }
+    ensures writes { OnOk result (WritesWithin (length stmt.now.path + 2) 8 (K.seen keeper.old) (K.seen keeper.new)) }
     ensures changing { IsChanging (K.seen keeper.old) (K.seen keeper.new) result TabError.Fault }
 {
     let (wid, rows) = match add_worlds(alloc, keeper, stmt, ready.wid, worlds) {

@@ -1,17 +1,21 @@
 // A statement joins a base, step by step.
-ghost use Rattle.std.specs.Prelude.{◌≡◌, ◌+◌, true, nat_eq, cond, Some, None, is_some, IfOk, OnOk};
+ghost use Rattle.std.specs.Prelude.{◌≡◌, ◌+◌, true, nat_eq, cond, Some, None, is_some, length, IfOk, OnOk};
 ghost use Rattle.std.specs.FinMap as tables;
+ghost use Rattle.bdb_base.specs.Causes.{Rises};
 ghost use Rattle.bdb_key.specs.Rows.{IsTupleRow, MayBeTuple};
 ghost use Rattle.bdb_keep.specs.Calls.{IsRead};
 ghost use Rattle.bdb_tables.specs.Codec.{HasAt, place};
 ghost use Rattle.bdb_tables.specs.Grammar.{InGrammar};
 ghost use Rattle.bdb_tables.specs.InUse.{IsValKey, tuple_codec, tuple_ix_codec, val_codec};
 ghost use Rattle.bdb_key.specs.Grammar.{HasPlainText};
+ghost use Rattle.bdb_update.specs.Bounds.{KeepsNames, KeepsTuples, RowWrites, StateWrites};
 ghost use Rattle.bdb_update.specs.ChangeLaws.{is_of_worlds};
 ghost use Rattle.bdb_update.specs.Joining.{Arrive, CountsArrived, CountsSettled, IsWorld, IsWorldIfAny, Joins, Numbers, Settles, SomeHasNumber, SomeHasWorlds, SomeMayJoin, is_of_tuples, key_made, last_or, row_put};
-ghost use Rattle.bdb_update.specs.Numbering.{number_put};
+ghost use Rattle.bdb_update.specs.Numbering.{HoldsSomeTuples, IsLeastNumber, TakesLeast, number_put};
 ghost use Rattle.bdb_tables.specs.Stored.{SameBut};
+ghost use Rattle.bdb_val.specs.Others as others;
 ghost use Rattle.bdb_val.specs.Steps.{IsChanging, counted};
+ghost use Rattle.bdb_worlds.specs.Bounds.{RisesWithin};
 
 use crate::filling::{both, fill_worlds};
 use bdb_base::{Exact, Stmt, Tuple, Value, key_of};
@@ -36,6 +40,8 @@ pub fn add_worlds<K: Keeper>(
     requires world { IsWorldIfAny (K.seen keeper.old).kept stmt.now.path wid }
     ensures arrived { IfOk result (λ found. Arrive (K.seen keeper.old).kept (K.seen keeper.new).kept stmt.now found.0) }
     ensures counted { IfOk result (λ found. CountsArrived (K.seen keeper.old).kept (K.seen keeper.new).kept stmt.now found.1) }
+    ensures names { OnOk result (KeepsNames (K.seen keeper.old).kept (K.seen keeper.new).kept) }
+    ensures writes { IfOk result (λ found. StateWrites (length stmt.now.path + 2) found.1 (K.seen keeper.old) (K.seen keeper.new)) }
     ensures others { OnOk result (SameBut is_of_worlds (K.seen keeper.old).kept (K.seen keeper.new).kept) }
     ensures changing { IsChanging (K.seen keeper.old) (K.seen keeper.new) result TabError.Fault }
 {
@@ -60,7 +66,8 @@ fn last_or(other: u32, numbers: &[u32]) -> u32
     last
 }
 
-/// Gives the tuple of a statement a number, unless it has the one that was found. There are as many tuples as `tuples`.
+/// Gives the tuple of a statement the least number not in use, unless it has the one that was found. There are as many tuples
+/// as `tuples`.
 pub fn number_tuple<K: Keeper>(
     alloc: Global,
     keeper: &mut K,
@@ -72,9 +79,13 @@ pub fn number_tuple<K: Keeper>(
     requires base { SomeHasWorlds (K.seen keeper.old).kept stmt.now }
     requires fits { IsTupleRow stmt.now.tuple }
     requires found { HasAt tuple_ix_codec (K.seen keeper.old).kept stmt.now.tuple found }
+    requires counted { HoldsSomeTuples (K.seen keeper.old).kept tuples }
     ensures numbered { OnOk result (Numbers (K.seen keeper.old).kept (K.seen keeper.new).kept stmt.now) }
     ensures here { IfOk result (λ tid. HasAt tuple_ix_codec (K.seen keeper.new).kept stmt.now.tuple (Some tid)) }
-    ensures others { OnOk result (SameBut is_of_tuples (K.seen keeper.old).kept (K.seen keeper.new).kept) }
+    ensures keeps { OnOk result (KeepsTuples (K.seen keeper.old).kept (K.seen keeper.new).kept) }
+    ensures least { OnOk result (TakesLeast (K.seen keeper.old).kept (K.seen keeper.new).kept stmt.now.tuple) }
+    ensures writes { OnOk result (RisesWithin 2 (K.seen keeper.old).writes (K.seen keeper.new).writes) }
+    ensures others { OnOk result (others.SameBut is_of_tuples (K.seen keeper.old).kept (K.seen keeper.new).kept) }
     ensures changing { IsChanging (K.seen keeper.old) (K.seen keeper.new) result TabError.Fault }
 {
     match found {
@@ -101,6 +112,7 @@ fn put_number<K: Keeper>(
     requires running { (K.seen keeper.old).running ≡ true }
     requires tuple { MayBeTuple tuple.now }
     ensures put { OnOk result ((K.seen keeper.new).kept ≡ number_put (K.seen keeper.old).kept tid tuple.now) }
+    ensures writes { OnOk result (Rises 2 (K.seen keeper.old).writes (K.seen keeper.new).writes) }
     ensures changing { IsChanging (K.seen keeper.old) (K.seen keeper.new) result TabError.Fault }
 {
     put::<TupleTab, K>(alloc, keeper, &tid, tuple)?;
@@ -108,10 +120,11 @@ fn put_number<K: Keeper>(
     Ok(())
 }
 
-// A number that no tuple has. Where the numbers in use have no gaps one read finds it: there are as many as `tuples`.
+// The least number that no tuple has. Where the numbers in use have no gaps one read finds it: there are as many as `tuples`.
 fn free_tuple<K: Keeper>(alloc: Global, keeper: &mut K, tuples: u32) -> Result<u32, TabError>
     requires grammar { InGrammar (K.seen keeper.old).kept }
-    ensures free { IfOk result (λ tid. tables.get (K.seen keeper.old).kept (place tuple_codec tid) ≡ None) }
+    requires counted { HoldsSomeTuples (K.seen keeper.old).kept tuples }
+    ensures least { IfOk result (IsLeastNumber (K.seen keeper.old).kept) }
     ensures read { IsRead (K.seen keeper.old) (K.seen keeper.new) result TabError.Fault }
 {
     match next::<TupleTab, K>(alloc, keeper, &tuples) {
@@ -146,6 +159,8 @@ pub fn settle_statement<K: Keeper>(
     requires number { HasAt tuple_ix_codec (K.seen keeper.old).kept stmt.now.tuple (Some tid) }
     ensures settled { OnOk result (Settles (K.seen keeper.old).kept (K.seen keeper.new).kept stmt.now) }
     ensures counted { IfOk result (λ s. CountsSettled (K.seen keeper.old).kept (K.seen keeper.new).kept stmt.now s.put s.taken) }
+    ensures writes { OnOk result (RowWrites 2 (K.seen keeper.old) (K.seen keeper.new)) }
+    ensures others { OnOk result (others.SameBut (λ n. nat_eq n 11) (K.seen keeper.old).kept (K.seen keeper.new).kept) }
     ensures changing { IsChanging (K.seen keeper.old) (K.seen keeper.new) result TabError.Fault }
 {
     let key = key_of(&stmt.tuple);
@@ -221,6 +236,7 @@ fn put_row<K: Keeper>(
     requires running { (K.seen keeper.old).running ≡ true }
     requires text { HasPlainText key.now }
     ensures put { OnOk result ((K.seen keeper.new).kept ≡ row_put (K.seen keeper.old).kept stmt.now wid tid key.now) }
+    ensures writes { OnOk result (Rises 1 (K.seen keeper.old).writes (K.seen keeper.new).writes) }
     ensures fits { OnOk result (IsValKey (key_made stmt.now wid tid key.now)) }
     ensures grammar { OnOk result (InGrammar (K.seen keeper.old).kept → InGrammar (K.seen keeper.new).kept) }
     ensures changing { IsChanging (K.seen keeper.old) (K.seen keeper.new) result TabError.Fault }

@@ -1,9 +1,10 @@
 // A statement leaves a base, all steps together.
-ghost use Rattle.std.specs.Prelude.{◌≡◌, true, Some, IfOk, OnOk};
+ghost use Rattle.std.specs.Prelude.{◌≡◌, ◌+◌, true, length, Some, IfOk, OnOk};
 ghost use Rattle.bdb_keep.specs.Seen.{NeverFall};
 ghost use Rattle.bdb_key.specs.Rows.{IsTupleRow};
 ghost use Rattle.bdb_tables.specs.Codec.{HasAt};
 ghost use Rattle.bdb_tables.specs.InUse.{tuple_ix_codec};
+ghost use Rattle.bdb_update.specs.Bounds.{WritesWithin};
 ghost use Rattle.bdb_update.specs.Calls.{SomeMayMeet};
 ghost use Rattle.bdb_update.specs.Joining.{IsWorld};
 ghost use Rattle.bdb_update.specs.Leaving.{CountsLeft, MayLose, TriesDrop, counts_less, standing};
@@ -39,6 +40,7 @@ pub fn try_drop<K: Keeper>(
     requires running { (K.seen keeper.old).running ≡ true }
     requires base { SomeMayMeet (K.seen keeper.old).kept counts.now stmt.now }
     ensures tried { TriesDrop (K.seen keeper.old) (K.seen keeper.new) counts.now stmt.now result }
+    ensures writes { OnOk result (WritesWithin (length stmt.now.path + 2) 8 (K.seen keeper.old) (K.seen keeper.new)) }
     ensures counts { NeverFall (K.seen keeper.old) (K.seen keeper.new) }
 {
     let place = match look(alloc, keeper, stmt) {
@@ -81,6 +83,7 @@ fn leave<K: Keeper>(
     requires number { HasAt tuple_ix_codec (K.seen keeper.old).kept stmt.now.tuple (Some tid) }
     ensures left { OnOk result (Leaves (K.seen keeper.old).kept (K.seen keeper.new).kept stmt.now) }
     ensures counted { IfOk result (CountsLeft (K.seen keeper.old).kept stmt.now) }
+    ensures writes { OnOk result (WritesWithin (length stmt.now.path + 2) 8 (K.seen keeper.old) (K.seen keeper.new)) }
     ensures changing { IsChanging (K.seen keeper.old) (K.seen keeper.new) result TabError.Fault }
 {
     let settled = match part_statement(alloc, keeper, stmt, wid, tid) {

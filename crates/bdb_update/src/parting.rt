@@ -1,17 +1,21 @@
 // A statement leaves a base, step by step.
-ghost use Rattle.std.specs.Prelude.{◌≡◌, true, nat_eq, length, Some, IfOk, OnOk};
+ghost use Rattle.std.specs.Prelude.{◌≡◌, ◌+◌, true, nat_eq, length, Some, IfOk, OnOk};
+ghost use Rattle.bdb_base.specs.Causes.{Rises};
 ghost use Rattle.bdb_key.specs.Grammar.{HasPlainText};
 ghost use Rattle.bdb_key.specs.Rows.{IsTupleRow, MayBeTuple};
 ghost use Rattle.bdb_tables.specs.Codec.{HasAt};
 ghost use Rattle.bdb_tables.specs.Grammar.{InGrammar};
 ghost use Rattle.bdb_tables.specs.InUse.{IsValKey, tuple_ix_codec};
+ghost use Rattle.bdb_update.specs.Bounds.{KeepsNames, RowWrites, StateWrites};
 ghost use Rattle.bdb_update.specs.ChangeLaws.{is_of_worlds};
 ghost use Rattle.bdb_update.specs.Joining.{IsWorld, is_of_tuples, key_made};
 ghost use Rattle.bdb_update.specs.Numbering.{number_taken};
 ghost use Rattle.bdb_update.specs.Parting.{ClearsWorlds, CountsWorlds, LosesNumber, LosesRows, LosesWorlds, Parts, PartsRows, SomeHasFewerWorlds, SomeHasParted, SomeMayPart, TellsNumber, row_taken};
 ghost use Rattle.bdb_tables.specs.Stored.{SameBut};
+ghost use Rattle.bdb_val.specs.Others as others;
 ghost use Rattle.bdb_val.specs.Reads.{HaveTuples};
 ghost use Rattle.bdb_val.specs.Steps.{IsChanging};
+ghost use Rattle.bdb_worlds.specs.Bounds.{RisesWithin};
 
 use crate::filling::both;
 use crate::joining::rel_of;
@@ -39,7 +43,8 @@ pub fn part_statement<K: Keeper>(
     requires number { HasAt tuple_ix_codec (K.seen keeper.old).kept stmt.now.tuple (Some tid) }
     ensures parted { OnOk result (Parts (K.seen keeper.old).kept (K.seen keeper.new).kept stmt.now) }
     ensures rows { IfOk result (λ s. PartsRows (K.seen keeper.old).kept (K.seen keeper.new).kept stmt.now s.put s.taken) }
-    ensures others { OnOk result (SameBut (λ n. nat_eq n 11) (K.seen keeper.old).kept (K.seen keeper.new).kept) }
+    ensures writes { OnOk result (RowWrites 2 (K.seen keeper.old) (K.seen keeper.new)) }
+    ensures others { OnOk result (others.SameBut (λ n. nat_eq n 11) (K.seen keeper.old).kept (K.seen keeper.new).kept) }
     ensures changing { IsChanging (K.seen keeper.old) (K.seen keeper.new) result TabError.Fault }
 {
     let key = key_of(&stmt.tuple);
@@ -66,6 +71,7 @@ fn take_row<K: Keeper>(
     requires running { (K.seen keeper.old).running ≡ true }
     requires text { HasPlainText key.now }
     ensures taken { OnOk result ((K.seen keeper.new).kept ≡ row_taken (K.seen keeper.old).kept stmt.now wid tid key.now) }
+    ensures writes { OnOk result (Rises 1 (K.seen keeper.old).writes (K.seen keeper.new).writes) }
     ensures fits { OnOk result (IsValKey (key_made stmt.now wid tid key.now)) }
     ensures grammar { OnOk result (InGrammar (K.seen keeper.old).kept → InGrammar (K.seen keeper.new).kept) }
     ensures changing { IsChanging (K.seen keeper.old) (K.seen keeper.new) result TabError.Fault }
@@ -93,6 +99,8 @@ pub fn drop_worlds<K: Keeper>(
     ensures worlds { OnOk result (LosesWorlds (K.seen keeper.old).kept (K.seen keeper.new).kept stmt.now) }
     ensures counted { IfOk result (λ gone. CountsWorlds (K.seen keeper.old).kept stmt.now gone.0) }
     ensures rows { IfOk result (λ gone. LosesRows (K.seen keeper.old).kept (K.seen keeper.new).kept gone.1) }
+    ensures names { OnOk result (KeepsNames (K.seen keeper.new).kept (K.seen keeper.old).kept) }
+    ensures writes { IfOk result (λ gone. StateWrites (length stmt.now.path + 2) gone.1 (K.seen keeper.old) (K.seen keeper.new)) }
     ensures others { OnOk result (SameBut is_of_worlds (K.seen keeper.old).kept (K.seen keeper.new).kept) }
     ensures changing { IsChanging (K.seen keeper.old) (K.seen keeper.new) result TabError.Fault }
 {
@@ -120,7 +128,8 @@ fn clear_worlds<K: Keeper>(alloc: Global, keeper: &mut K, wids: &[u32]) -> Resul
     requires tuples { HaveTuples (K.seen keeper.old).kept }
     ensures cleared { OnOk result (ClearsWorlds (K.seen keeper.old).kept (K.seen keeper.new).kept wids.now) }
     ensures rows { IfOk result (LosesRows (K.seen keeper.old).kept (K.seen keeper.new).kept) }
-    ensures others { OnOk result (SameBut (λ n. nat_eq n 11) (K.seen keeper.old).kept (K.seen keeper.new).kept) }
+    ensures writes { IfOk result (λ n. Rises n (K.seen keeper.old).writes (K.seen keeper.new).writes) }
+    ensures others { OnOk result (others.SameBut (λ n. nat_eq n 11) (K.seen keeper.old).kept (K.seen keeper.new).kept) }
     ensures changing { IsChanging (K.seen keeper.old) (K.seen keeper.new) result TabError.Fault }
 {
     let mut count: usize = 0;
@@ -147,7 +156,8 @@ pub fn drop_number<K: Keeper>(
     requires number { HasAt tuple_ix_codec (K.seen keeper.old).kept stmt.now.tuple (Some tid) }
     ensures number { OnOk result (LosesNumber (K.seen keeper.old).kept (K.seen keeper.new).kept stmt.now) }
     ensures tells { IfOk result (TellsNumber (K.seen keeper.old).kept stmt.now) }
-    ensures others { OnOk result (SameBut is_of_tuples (K.seen keeper.old).kept (K.seen keeper.new).kept) }
+    ensures writes { OnOk result (RisesWithin 2 (K.seen keeper.old).writes (K.seen keeper.new).writes) }
+    ensures others { OnOk result (others.SameBut is_of_tuples (K.seen keeper.old).kept (K.seen keeper.new).kept) }
     ensures changing { IsChanging (K.seen keeper.old) (K.seen keeper.new) result TabError.Fault }
 {
     match is_told(alloc, keeper, &stmt.tuple, tid) {
@@ -171,6 +181,7 @@ fn take_number<K: Keeper>(
     requires running { (K.seen keeper.old).running ≡ true }
     requires tuple { MayBeTuple tuple.now }
     ensures taken { OnOk result ((K.seen keeper.new).kept ≡ number_taken (K.seen keeper.old).kept tid tuple.now) }
+    ensures writes { OnOk result (Rises 2 (K.seen keeper.old).writes (K.seen keeper.new).writes) }
     ensures changing { IsChanging (K.seen keeper.old) (K.seen keeper.new) result TabError.Fault }
 {
     drop_row::<TupleTab, K>(alloc, keeper, &tid)?;

@@ -1,6 +1,6 @@
 // Statements go, and others come, one after the other.
 ghost use Rattle.std.specs.Prelude.{◌≡◌, true, IfOk, OnOk};
-ghost use Rattle.bdb_update.specs.Replacing.{Come, Go, Replace, SomeMayCome, SomeMayGo, SomeMayReplace, is_stop};
+ghost use Rattle.bdb_update.specs.Replacing.{Come, Go, Replace, SomeMayCome, SomeMayGo, SomeMayReplace, WritesForOne, is_stop};
 ghost use Rattle.bdb_update.specs.Trying.{stopped_by};
 ghost use Rattle.bdb_val.specs.Steps.{IsChanging};
 
@@ -28,7 +28,7 @@ pub fn replace<K: Keeper>(
     ensures changing { IsChanging (K.seen keeper.old) (K.seen keeper.new) result TabError.Fault }
 {
     let mut next = *counts;
-    match drop_all(alloc, keeper, &mut next, gone) {
+    match drop_statements(alloc, keeper, &mut next, gone) {
         Ok(()) => {}
         Err(error) => return Err(error),
     }
@@ -38,8 +38,9 @@ pub fn replace<K: Keeper>(
     }
 }
 
-// Takes statements away that stand, each once.
-fn drop_all<K: Keeper>(
+/// Takes statements away that stand, each once, from the base that the tables store, whose sizes are `counts`. For a single
+/// statement there are no more writes than `drop_statement` makes for it.
+pub fn drop_statements<K: Keeper>(
     alloc: Global,
     keeper: &mut K,
     counts: &mut Counts,
@@ -49,6 +50,7 @@ fn drop_all<K: Keeper>(
     requires base { SomeMayGo (K.seen keeper.old).kept counts.old gone.now }
     ensures gone { OnOk result (Go (K.seen keeper.old).kept (K.seen keeper.new).kept counts.old counts.new gone.now) }
     ensures changing { IsChanging (K.seen keeper.old) (K.seen keeper.new) result TabError.Fault }
+    ensures writes { WritesForOne gone.now (K.seen keeper.old) (K.seen keeper.new) result }
 {
     for stmt in gone {
         match drop_statement(alloc, keeper, counts, stmt) {

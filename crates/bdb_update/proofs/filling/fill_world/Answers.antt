@@ -1,4 +1,4 @@
-use Rattle.std.proofs.Common.{◌∙◌, ap, sym, subst}
+use Rattle.std.proofs.Common.{◌∙◌, ap, sym, subst, arith}
 use Rattle.std.specs.FinMap as tables
 use Rattle.bdb_keep.specs.Tables.{Tables}
 use Rattle.bdb_val.specs.WorldCopies.{CopiesWorld, IsBare}
@@ -22,3 +22,9 @@ returns-in-Ok-copy_world-clause-tells g c =
 
 pub returns-in-Ok-copy_world-clause-others : goal.returns-in-Ok-copy_world-clause-others
 returns-in-Ok-copy_world-clause-others g c = λ q out. c.in-Ok-copy_world.ensures.others q out ∙ ap (λ (t : Tables). tables.get t q) c.in-Ok.ensures.read.kept
+
+pub returns-in-Ok-copy_world-clause-writes : goal.returns-in-Ok-copy_world-clause-writes
+returns-in-Ok-copy_world-clause-writes g c = λ small.
+    let a = c.in-Ok-copy_world.ensures.writes small in
+    let b = c.in-Ok.ensures.read.writes in
+    omega arith

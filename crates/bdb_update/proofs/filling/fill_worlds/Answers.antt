@@ -13,7 +13,7 @@ fill_world-requires-clause-linked g c =
 pub loop-wid-preserved : goal.loop-wid-preserved
 loop-wid-preserved g c =
     filling_more (g.K.Keeper.seen c.args.keeper.now) (g.K.Keeper.seen c.loop-wid.keeper) (g.K.Keeper.seen c.fill_world.new.keeper) c.args.wids.now c.loop-wid.wid-index _ c.loop-wid.count c.in-Ok.rows
-    c.both-count.result c.in-Ok.rows Fault c.loop-wid.invariant c.loop-wid-test.true refl c.in-Ok.ensures.filled c.in-Ok.ensures.tells c.in-Ok.ensures.others c.both-count.ensures
+    c.both-count.result c.in-Ok.rows Fault c.loop-wid.invariant c.loop-wid-test.true refl c.in-Ok.ensures.filled c.in-Ok.ensures.tells c.in-Ok.ensures.others c.in-Ok.ensures.writes c.both-count.ensures
     c.in-Ok.ensures.grammar c.in-Ok.ensures.tuples c.in-Ok.ensures.changing
 
 pub returns-clause-filled : goal.returns-clause-filled

@@ -2,8 +2,12 @@ use Rattle.std.proofs.Common.{refl}
 use Rattle.bdb_tables.specs.declared.tab.TabError.TheVariants.{Fault}
 use Rattle.bdb_update.specs.ChangeLaws.{is_of_worlds}
 use Rattle.bdb_val.proofs.Calls.{gone_then, gone_changing, changing_ok, changing_err}
+use Rattle.bdb_update.specs.Joining.{is_of_tuples}
 use Rattle.bdb_update.proofs.CallLemmas.{gone_itself}
+use Rattle.bdb_update.proofs.ChangeBounds.{as_tables, join_within}
 use Rattle.bdb_update.proofs.InsertLemmas.{counts_join, number_still, some_worlds, some_number, here_now, joins}
+use Rattle.bdb_update.proofs.LeastNumbers.{some_still, takes_between}
+use Rattle.bdb_update.proofs.TallyLemmas.{rows_alone}
 use Rattle.bdb_update.proofs.inserting.insert.Goals as goal
 
 pub returns-in-Err-clause-changing : goal.returns-in-Err-clause-changing
@@ -35,7 +39,8 @@ settle_statement-requires-clause-base g c =
 pub settle_statement-requires-clause-world : goal.settle_statement-requires-clause-world
 settle_statement-requires-clause-world g c =
     here_now (g.K.Keeper.seen c.args.keeper.now).kept (g.K.Keeper.seen c.add_worlds.new.keeper).kept (g.K.Keeper.seen c.number_tuple.new.keeper).kept c.args.stmt.now c.args.worlds c.in-Ok.found.0
-    c.requires.base c.in-Ok.ensures.arrived c.in-Ok-number_tuple.ensures.others
+    c.requires.base c.in-Ok.ensures.arrived
+    (as_tables is_of_tuples (g.K.Keeper.seen c.add_worlds.new.keeper).kept (g.K.Keeper.seen c.number_tuple.new.keeper).kept c.in-Ok-number_tuple.ensures.others)
 
 pub returns-in-Ok-settle_statement-clause-joined : goal.returns-in-Ok-settle_statement-clause-joined
 returns-in-Ok-settle_statement-clause-joined g c =
@@ -64,4 +69,23 @@ returns-in-Ok-settle_statement-clause-counted g c =
     counts_join (g.K.Keeper.seen c.args.keeper.now).kept (g.K.Keeper.seen c.add_worlds.new.keeper).kept (g.K.Keeper.seen c.number_tuple.new.keeper).kept (g.K.Keeper.seen c.settle_statement.new.keeper).kept
     c.args.stmt.now c.in-Ok.found.0 c.in-Ok.found.1 c.in-Ok-settle_statement.settled.put c.in-Ok-settle_statement.settled.taken c.both.result
     c.in-Ok.ensures.arrived c.in-Ok-number_tuple.ensures.numbered c.in-Ok-settle_statement.ensures.settled c.in-Ok.ensures.counted c.in-Ok-settle_statement.ensures.counted
-    c.in-Ok-number_tuple.ensures.others c.both.ensures
+    (as_tables is_of_tuples (g.K.Keeper.seen c.add_worlds.new.keeper).kept (g.K.Keeper.seen c.number_tuple.new.keeper).kept c.in-Ok-number_tuple.ensures.others) c.both.ensures
+
+pub returns-in-Ok-settle_statement-clause-writes : goal.returns-in-Ok-settle_statement-clause-writes
+returns-in-Ok-settle_statement-clause-writes g c =
+    join_within (g.K.Keeper.seen c.args.keeper.now) (g.K.Keeper.seen c.add_worlds.new.keeper) (g.K.Keeper.seen c.number_tuple.new.keeper) (g.K.Keeper.seen c.settle_statement.new.keeper)
+    c.args.stmt.now c.args.worlds c.in-Ok.found.0 c.in-Ok.found.1 c.requires.base c.in-Ok.ensures.arrived c.in-Ok.ensures.counted c.in-Ok.ensures.names c.in-Ok.ensures.others c.in-Ok.ensures.writes
+    c.in-Ok-number_tuple.ensures.numbered c.in-Ok-number_tuple.ensures.keeps c.in-Ok-number_tuple.ensures.writes c.in-Ok-number_tuple.ensures.others
+    c.in-Ok-settle_statement.ensures.settled c.in-Ok-settle_statement.ensures.writes c.in-Ok-settle_statement.ensures.others
+    c.in-Ok-number_tuple.ensures.changing.counts.writes c.in-Ok-settle_statement.ensures.changing.counts.writes
+
+pub number_tuple-requires-clause-counted : goal.number_tuple-requires-clause-counted
+number_tuple-requires-clause-counted g c =
+    some_still is_of_worlds (g.K.Keeper.seen c.args.keeper.now).kept (g.K.Keeper.seen c.add_worlds.new.keeper).kept c.args.tuples refl refl c.in-Ok.ensures.others c.requires.counted
+
+pub returns-in-Ok-settle_statement-clause-number : goal.returns-in-Ok-settle_statement-clause-number
+returns-in-Ok-settle_statement-clause-number g c =
+    let v = (g.K.Keeper.seen c.number_tuple.new.keeper).kept in
+    let w = (g.K.Keeper.seen c.settle_statement.new.keeper).kept in
+    takes_between is_of_worlds rows_alone (g.K.Keeper.seen c.args.keeper.now).kept (g.K.Keeper.seen c.add_worlds.new.keeper).kept v w c.args.stmt.now.tuple refl refl refl
+    c.in-Ok.ensures.others (as_tables rows_alone v w c.in-Ok-settle_statement.ensures.others) c.in-Ok-number_tuple.ensures.least

@@ -1,12 +1,15 @@
-use Rattle.std.proofs.Common.{◌≡◌, ◌∙◌, ℕ, List, refl, ap, sym, subst}
+use Rattle.std.proofs.Common.{◌≡◌, ◌∙◌, ◌∷◌, ℕ, ◌+◌, List, length, refl, ap, sym, subst}
 use Rattle.bdb_tables.specs.declared.tab.TabError.TheVariants.{Fault}
 use Rattle.bdb_val.proofs.Calls.{HasGone, gone_then, gone_changing, changing_ok, changing_err}
+use Rattle.bdb_worlds.specs.Bounds as states
 use Rattle.bdb_worlds.specs.Growth.{SomeMayGrow, AddsStates}
 use Rattle.bdb_update.specs.Filling.{CountsCome, FillsWorlds, SomeHaveCome}
 use Rattle.bdb_update.specs.Joining.{Arrive, last_or}
 use Rattle.bdb_update.proofs.ArriveLemmas.{counts_arrive, in_worlds, some_may_grow, some_have_come, arrive, worlds_then_rows}
 use Rattle.bdb_update.proofs.CallLemmas.{gone_itself}
 use Rattle.bdb_update.proofs.GrammarLemmas.{stored_is_in_grammar}
+use Rattle.bdb_update.proofs.KeepLemmas.{names_come}
+use Rattle.bdb_update.proofs.SpendLemmas.{states_then_rows}
 use Rattle.bdb_update.proofs.StageLemmas.{over_has_tuples, tuples_still}
 use Rattle.bdb_update.proofs.joining.add_worlds.Goals as goal
 
@@ -47,12 +50,12 @@ returns-in-Ok-fill_worlds-clause-arrived g c =
     let filled = subst (FillsWorlds u v) c.deref.ensures.value c.in-Ok-fill_worlds.ensures.filled in
     let last : c.last_or.result ≡ last_or c.args.wid new = c.last_or.ensures ∙ ap (last_or c.args.wid) c.deref-in-Ok-fill_worlds.ensures.value in
     subst (Arrive t v c.args.stmt.now) (sym last)
-    (arrive t u v c.args.stmt.now c.args.worlds c.args.wid new added c.in-Ok.ensures.others c.requires.world filled c.in-Ok-fill_worlds.ensures.others c.requires.base)
+    (arrive t u v c.args.stmt.now c.args.worlds c.args.wid new added c.in-Ok.ensures.others c.requires.world filled (λ n k out. c.in-Ok-fill_worlds.ensures.others (n ∷ k) out) c.requires.base)
 
 pub returns-in-Ok-fill_worlds-clause-others : goal.returns-in-Ok-fill_worlds-clause-others
 returns-in-Ok-fill_worlds-clause-others g c =
     worlds_then_rows (g.K.Keeper.seen c.args.keeper.now).kept (g.K.Keeper.seen c.add_states.new.keeper).kept (g.K.Keeper.seen c.fill_worlds.new.keeper).kept
-    c.in-Ok.ensures.others c.in-Ok-fill_worlds.ensures.others
+    c.in-Ok.ensures.others (λ n k out. c.in-Ok-fill_worlds.ensures.others (n ∷ k) out)
 
 pub returns-in-Ok-fill_worlds-clause-changing : goal.returns-in-Ok-fill_worlds-clause-changing
 returns-in-Ok-fill_worlds-clause-changing g c =
@@ -78,3 +81,20 @@ returns-in-Ok-fill_worlds-clause-counted g c =
     let added = subst (λ (w : List ℕ). AddsStates t u w c.args.worlds new) c.as_slice.ensures.users c.in-Ok.ensures.added in
     counts_arrive t u v c.args.stmt.now c.args.worlds c.in-Ok-fill_worlds.rows new added c.in-Ok.ensures.others
     (subst (λ (ws : List ℕ). CountsCome u v ws c.in-Ok-fill_worlds.rows) c.deref.ensures.value c.in-Ok-fill_worlds.ensures.counted) c.requires.base
+
+pub returns-in-Ok-fill_worlds-clause-names : goal.returns-in-Ok-fill_worlds-clause-names
+returns-in-Ok-fill_worlds-clause-names g c =
+    let t = (g.K.Keeper.seen c.args.keeper.now).kept in
+    let u = (g.K.Keeper.seen c.add_states.new.keeper).kept in
+    let new = c.in-Ok.new.items in
+    let added = subst (λ (w : List ℕ). AddsStates t u w c.args.worlds new) c.as_slice.ensures.users c.in-Ok.ensures.added in
+    names_come t u (g.K.Keeper.seen c.fill_worlds.new.keeper).kept c.args.stmt.now c.args.worlds new added c.in-Ok.ensures.others (λ n k out. c.in-Ok-fill_worlds.ensures.others (n ∷ k) out)
+    c.requires.base
+
+pub returns-in-Ok-fill_worlds-clause-writes : goal.returns-in-Ok-fill_worlds-clause-writes
+returns-in-Ok-fill_worlds-clause-writes g c =
+    let old = g.K.Keeper.seen c.args.keeper.now in
+    let mid = g.K.Keeper.seen c.add_states.new.keeper in
+    states_then_rows (length c.args.stmt.now.path) c.in-Ok-fill_worlds.rows old mid (g.K.Keeper.seen c.fill_worlds.new.keeper)
+    (subst (λ (w : List ℕ). states.WritesWithin (length w + 2) old mid) c.as_slice.ensures.users c.in-Ok.ensures.writes) c.in-Ok.ensures.others c.in-Ok-fill_worlds.ensures.others
+    c.in-Ok-fill_worlds.ensures.writes c.in-Ok-fill_worlds.ensures.changing.counts.writes

@@ -1,14 +1,16 @@
-use Rattle.std.proofs.Common.{◌∙◌, ◌∷◌, ℕ, ap, sym, subst, rules}
+use Rattle.std.proofs.Common.{◌∙◌, ◌∷◌, ℕ, Some, true, ap, sym, subst, rules}
 use Rattle.bdb_base.specs.Bases.{with_statement}
+use Rattle.bdb_base.specs.Causes.{Rises}
 use Rattle.bdb_keep.specs.Tables.{Tables}
 use Rattle.bdb_key.specs.Grammar.{IsNum}
 use Rattle.bdb_tables.specs.Grammar.{InGrammar}
 use Rattle.bdb_tables.specs.declared.tab.TabError.TheVariants.{Fault}
 use Rattle.bdb_val.specs.Groups.{SettlesGroup, TellsGroup}
 use Rattle.bdb_val.proofs.Calls.{gone_read, gone_then, gone_changing, changing_ok, changing_err}
-use Rattle.bdb_update.specs.Joining.{CountsSettled, row_put}
+use Rattle.bdb_update.specs.Joining.{CountsSettled, key_made, row_put}
 use Rattle.bdb_update.proofs.GrammarLemmas.{over_in_grammar}
-use Rattle.bdb_update.proofs.SettleLemmas.{counts_settle, first_plain, may_be_tuple, row_has_tuple, settled}
+use Rattle.bdb_update.proofs.SettleLemmas.{counts_settle, first_plain, may_be_tuple, row_has_tuple, settled, settling_tells}
+use Rattle.bdb_update.proofs.SpendLemmas.{row_alone, row_then_group}
 use Rattle.bdb_update.proofs.joining.settle_statement.Goals as goal
 
 pub has_row-requires-clause-grammar : goal.has_row-requires-clause-grammar
@@ -82,3 +84,26 @@ returns-in-Err-settle_group-clause-changing g c =
     let mid = g.K.Keeper.seen c.put_row.new.keeper in
     changing_err old mid (g.K.Keeper.seen c.settle_group.new.keeper) c.in-Err-settle_group.error Fault
     (gone_then old a mid (gone_read old a c.in-Ok.stood Fault c.in-Ok.ensures.read) (gone_changing a mid c.in-Ok-put_row.field-0 Fault c.in-Ok-put_row.ensures.changing)) c.in-Err-settle_group.ensures.changing
+
+pub returns-in-Ok-settle_group-clause-writes : goal.returns-in-Ok-settle_group-clause-writes
+returns-in-Ok-settle_group-clause-writes g c =
+    let old = g.K.Keeper.seen c.args.keeper.now in
+    let a = g.K.Keeper.seen c.has_row.new.keeper in
+    let mid = g.K.Keeper.seen c.put_row.new.keeper in
+    let new = g.K.Keeper.seen c.settle_group.new.keeper in
+    let x = c.args.stmt.now in
+    let key = c.key_of-key.result.now in
+    let s = c.in-Ok-settle_group.settled in
+    let made = c.in-Ok-put_row.ensures.put ∙ ap (λ (t : Tables). row_put t x c.args.wid c.args.tid key) c.in-Ok.ensures.read.kept in
+    let tells = settling_tells old.kept mid new x c.args.wid c.args.tid key s c.key_of-key.ensures made
+    (subst (λ (n : ℕ). TellsGroup mid new c.args.wid n key s) c.rel_of-rel.ensures c.in-Ok-settle_group.ensures.tells)
+    c.requires.world c.requires.fits c.requires.number c.requires.base.base c.requires.base.number c.requires.base.may in
+    row_then_group old mid new (key_made x c.args.wid c.args.tid key, Some (x.sign, true)) s.put s.taken made
+    (subst (λ (n : ℕ). Rises 1 n mid.writes) c.in-Ok.ensures.read.writes c.in-Ok-put_row.ensures.writes) c.in-Ok-settle_group.ensures.changing.counts.writes c.in-Ok-settle_group.ensures.others tells
+
+pub returns-in-Ok-settle_group-clause-others : goal.returns-in-Ok-settle_group-clause-others
+returns-in-Ok-settle_group-clause-others g c =
+    let x = c.args.stmt.now in
+    let key = c.key_of-key.result.now in
+    row_alone (g.K.Keeper.seen c.args.keeper.now).kept (g.K.Keeper.seen c.put_row.new.keeper).kept (g.K.Keeper.seen c.settle_group.new.keeper).kept (key_made x c.args.wid c.args.tid key, Some (x.sign, true))
+    (c.in-Ok-put_row.ensures.put ∙ ap (λ (t : Tables). row_put t x c.args.wid c.args.tid key) c.in-Ok.ensures.read.kept) c.in-Ok-settle_group.ensures.others

@@ -1,6 +1,8 @@
 use Rattle.std.proofs.Common.{◌∙◌, ℕ, ◌+◌, nat_eq, Some, refl, ap}
 use Rattle.bdb_val.specs.Steps.{counted}
 use Rattle.bdb_update.specs.ChangeLaws.{is_of_worlds}
+use Rattle.bdb_update.specs.Joining.{is_of_tuples}
+use Rattle.bdb_update.proofs.ChangeBounds.{as_tables, leave_within}
 use Rattle.bdb_update.proofs.InsertLemmas.{number_still}
 use Rattle.bdb_update.proofs.LeaveLemmas.{some_parted, some_fewer, leaves, counts_left}
 use Rattle.bdb_update.proofs.leaving.leave.Goals as goal
@@ -21,7 +23,7 @@ drop_number-requires-clause-number g c =
     let u = (g.K.Keeper.seen c.part_statement.new.keeper).kept in
     let v = (g.K.Keeper.seen c.drop_worlds.new.keeper).kept in
     number_still is_of_worlds u v c.args.stmt.now.tuple (Some c.args.tid) c.in-Ok-drop_worlds.ensures.others refl
-    (number_still (λ n. nat_eq n 11) t u c.args.stmt.now.tuple (Some c.args.tid) c.in-Ok.ensures.others refl c.requires.number)
+    (number_still (λ n. nat_eq n 11) t u c.args.stmt.now.tuple (Some c.args.tid) (as_tables (λ n. nat_eq n 11) t u c.in-Ok.ensures.others) refl c.requires.number)
 
 pub returns-in-Ok-drop_number-clause-left : goal.returns-in-Ok-drop_number-clause-left
 returns-in-Ok-drop_number-clause-left g c =
@@ -33,4 +35,13 @@ returns-in-Ok-drop_number-clause-counted g c =
     counts_left (g.K.Keeper.seen c.args.keeper.now).kept (g.K.Keeper.seen c.part_statement.new.keeper).kept (g.K.Keeper.seen c.drop_worlds.new.keeper).kept (g.K.Keeper.seen c.drop_number.new.keeper).kept
     c.args.stmt.now _ c.in-Ok.settled.taken c.in-Ok-drop_worlds.found.1
     (c.both-in-Ok-drop_number.ensures ∙ ap (λ (n : ℕ). counted (n + c.in-Ok-drop_worlds.found.1)) c.both.ensures) c.in-Ok.ensures.parted c.in-Ok.ensures.rows c.in-Ok-drop_worlds.ensures.worlds c.in-Ok-drop_worlds.ensures.counted
-    c.in-Ok-drop_worlds.ensures.rows c.in-Ok-drop_number.ensures.number c.in-Ok-drop_number.ensures.tells c.in-Ok-drop_number.ensures.others
+    c.in-Ok-drop_worlds.ensures.rows c.in-Ok-drop_number.ensures.number c.in-Ok-drop_number.ensures.tells
+    (as_tables is_of_tuples (g.K.Keeper.seen c.drop_worlds.new.keeper).kept (g.K.Keeper.seen c.drop_number.new.keeper).kept c.in-Ok-drop_number.ensures.others)
+
+pub returns-in-Ok-drop_number-clause-writes : goal.returns-in-Ok-drop_number-clause-writes
+returns-in-Ok-drop_number-clause-writes g c =
+    leave_within (g.K.Keeper.seen c.args.keeper.now) (g.K.Keeper.seen c.part_statement.new.keeper) (g.K.Keeper.seen c.drop_worlds.new.keeper) (g.K.Keeper.seen c.drop_number.new.keeper)
+    c.args.stmt.now c.in-Ok-drop_worlds.found.1 c.requires.base c.in-Ok.ensures.parted c.in-Ok.ensures.writes c.in-Ok.ensures.others
+    c.in-Ok-drop_worlds.ensures.worlds c.in-Ok-drop_worlds.ensures.rows c.in-Ok-drop_worlds.ensures.names c.in-Ok-drop_worlds.ensures.others c.in-Ok-drop_worlds.ensures.writes
+    c.in-Ok-drop_number.ensures.writes c.in-Ok-drop_number.ensures.others
+    c.in-Ok-drop_worlds.ensures.changing.counts.writes c.in-Ok-drop_number.ensures.changing.counts.writes

@@ -1,10 +1,11 @@
-use Rattle.std.proofs.Common.{sym}
+use Rattle.std.proofs.Common.{◌+◌, length, sym}
 use Rattle.bdb_tables.specs.declared.tab.TabError.TheVariants.{Fault}
 use Rattle.bdb_tables.proofs.Fitting.{belonging_may_be}
 use Rattle.bdb_tables.proofs.Loops.{goes_then}
 use Rattle.bdb_update.proofs.CallLemmas.{quiet_read}
 use Rattle.bdb_update.proofs.GrammarLemmas.{stored_is_in_grammar}
 use Rattle.bdb_update.proofs.LeaveLemmas.{some_may_part, world_now, drop_absent, drop_stops, drop_leaves, may_lose_now}
+use Rattle.bdb_update.proofs.SpendLemmas.{none_within, quiet_within}
 use Rattle.bdb_update.proofs.StageLemmas.{belongs_parts, over_has_tuples}
 use Rattle.bdb_update.proofs.leaving.try_drop.Goals as goal
 
@@ -72,3 +73,13 @@ returns-in-Ok-leave-clause-tried g c =
     drop_leaves old mid new c.args.counts.now c.args.stmt.now c.in-Ok.place c.in-Ok.ensures.place quiet
     c.in-Some.tid (sym c.in-Some.ensures) c.in-Ok-leave.gone c.in-Ok-leave.ensures.counted c.counts_less.result c.counts_less.ensures c.in-Ok-leave.ensures.left
     (goes_then old mid new quiet.goes c.in-Ok-leave.ensures.changing.steps.ok)
+
+pub returns-in-None-clause-writes : goal.returns-in-None-clause-writes
+returns-in-None-clause-writes g c =
+    none_within (length c.args.stmt.now.path + 2) 8 (g.K.Keeper.seen c.args.keeper.now) (g.K.Keeper.seen c.look.new.keeper) c.in-Ok.ensures.read.writes
+
+pub returns-in-Ok-leave-clause-writes : goal.returns-in-Ok-leave-clause-writes
+returns-in-Ok-leave-clause-writes g c =
+    let old = g.K.Keeper.seen c.args.keeper.now in
+    let mid = g.K.Keeper.seen c.look.new.keeper in
+    quiet_within (length c.args.stmt.now.path + 2) 8 old mid (g.K.Keeper.seen c.leave.new.keeper) (quiet_read old mid c.in-Ok.place Fault c.in-Ok.ensures.read) c.in-Ok-leave.ensures.writes

@@ -1,10 +1,11 @@
-use Rattle.std.proofs.Common.{◌∙◌, true, false, refl, ap, sym, subst}
+use Rattle.std.proofs.Common.{◌∙◌, true, false, refl, ap, sym, subst, arith}
 use Rattle.bdb_keep.specs.Tables.{Tables}
 use Rattle.bdb_update.specs.Numbering.{number_taken}
 use Rattle.bdb_update.specs.Parting.{LosesNumber}
 use Rattle.bdb_update.specs.Reads.{TellsTold}
 use Rattle.bdb_update.proofs.PartLemmas.{part_may_be_tuple}
-use Rattle.bdb_update.proofs.PartTupleLemmas.{number_kept, number_lost, number_told, taken_same, fewer_over}
+use Rattle.bdb_update.proofs.PartTupleLemmas.{number_kept, number_lost, number_told, fewer_over}
+use Rattle.bdb_update.proofs.SpendLemmas.{number_gone_alone}
 use Rattle.bdb_update.proofs.parting.drop_number.Goals as goal
 
 pub is_told-requires-clause-grammar : goal.is_told-requires-clause-grammar
@@ -42,6 +43,14 @@ returns-in-Ok-clause-tells g c =
 
 pub returns-in-Ok-clause-others : goal.returns-in-Ok-clause-others
 returns-in-Ok-clause-others g c =
-    let t = (g.K.Keeper.seen c.args.keeper.now).kept in
-    taken_same t (g.K.Keeper.seen c.take_number.new.keeper).kept c.args.tid c.args.stmt.now.tuple
+    number_gone_alone (g.K.Keeper.seen c.args.keeper.now).kept (g.K.Keeper.seen c.take_number.new.keeper).kept c.args.tid c.args.stmt.now.tuple
     (c.in-Ok.ensures.taken ∙ ap (λ (v : Tables). number_taken v c.args.tid c.args.stmt.now.tuple) c.in-Ok-false.ensures.read.kept)
+
+pub returns-in-Ok-true-clause-writes : goal.returns-in-Ok-true-clause-writes
+returns-in-Ok-true-clause-writes g c = λ small. let a = c.in-Ok-true.ensures.read.writes in omega arith
+
+pub returns-in-Ok-clause-writes : goal.returns-in-Ok-clause-writes
+returns-in-Ok-clause-writes g c = λ small.
+    let a = c.in-Ok.ensures.writes small in
+    let b = c.in-Ok-false.ensures.read.writes in
+    omega arith

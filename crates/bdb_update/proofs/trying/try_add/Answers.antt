@@ -1,10 +1,14 @@
-use Rattle.std.proofs.Common.{subst}
+use Rattle.std.proofs.Common.{◌+◌, length, subst}
 use Rattle.bdb_tables.specs.declared.tab.TabError.TheVariants.{Fault}
 use Rattle.bdb_val.proofs.Calls.{changing_err}
 use Rattle.bdb_tables.proofs.Loops.{goes_then}
+use Rattle.bdb_keep.specs.Tables.{Tables}
 use Rattle.bdb_update.specs.Examining.{Examines}
+use Rattle.bdb_update.specs.Numbering.{TakesLeast}
 use Rattle.bdb_update.proofs.CallLemmas.{quiet_read, quiet_gone}
-use Rattle.bdb_update.proofs.TryLemmas.{moved_fits, try_stands, try_clashes, try_fills, try_stops, try_joins, may_join_now, ready_now}
+use Rattle.bdb_update.proofs.LeastNumbers.{takes_nothing}
+use Rattle.bdb_update.proofs.SpendLemmas.{none_within, quiet_within}
+use Rattle.bdb_update.proofs.TryLemmas.{moved_fits, try_stands, try_clashes, try_fills, try_stops, try_joins, may_join_now, ready_now, tuples_now}
 use Rattle.bdb_update.proofs.trying.try_add.Goals as goal
 
 pub returns-in-Ok-Stands-clause-tried : goal.returns-in-Ok-Stands-clause-tried
@@ -96,3 +100,27 @@ returns-in-Err-insert-clause-tried g c =
     let new = g.K.Keeper.seen c.insert.new.keeper in
     try_stops {T = Unit {0}} old new c.args.counts.now c.args.stmt.now c.in-Err-insert.error c.stopped_by-in-Err-insert.result c.stopped_by-in-Err-insert.ensures
     (changing_err old mid new c.in-Err-insert.error Fault (quiet_gone old mid (quiet_read old mid c.in-Ok-Fits.field-0 Fault c.in-Ok-Fits.ensures.read)) c.in-Err-insert.ensures.changing)
+
+pub returns-in-Ok-Stands-clause-writes : goal.returns-in-Ok-Stands-clause-writes
+returns-in-Ok-Stands-clause-writes g c =
+    none_within (length c.args.stmt.now.path + 2) 8 (g.K.Keeper.seen c.args.keeper.now) (g.K.Keeper.seen c.examine.new.keeper) c.in-Ok-Stands.ensures.read.writes
+
+pub returns-in-Ok-clause-writes : goal.returns-in-Ok-clause-writes
+returns-in-Ok-clause-writes g c =
+    let old = g.K.Keeper.seen c.args.keeper.now in
+    let mid = g.K.Keeper.seen c.examine.new.keeper in
+    quiet_within (length c.args.stmt.now.path + 2) 8 old mid (g.K.Keeper.seen c.insert.new.keeper) (quiet_read old mid c.in-Ok-Fits.field-0 Fault c.in-Ok-Fits.ensures.read) c.in-Ok.ensures.writes
+
+pub insert-requires-clause-counted : goal.insert-requires-clause-counted
+insert-requires-clause-counted g c =
+    let old = g.K.Keeper.seen c.args.keeper.now in
+    let mid = g.K.Keeper.seen c.examine.new.keeper in
+    tuples_now old mid c.args.counts.now c.args.stmt.now (quiet_read old mid c.in-Ok-Fits.field-0 Fault c.in-Ok-Fits.ensures.read) c.requires.base
+
+pub returns-in-Ok-Stands-clause-number : goal.returns-in-Ok-Stands-clause-number
+returns-in-Ok-Stands-clause-number g c =
+    takes_nothing (g.K.Keeper.seen c.args.keeper.now).kept (g.K.Keeper.seen c.examine.new.keeper).kept c.args.stmt.now.tuple c.in-Ok-Stands.ensures.read.kept
+
+pub returns-in-Ok-clause-number : goal.returns-in-Ok-clause-number
+returns-in-Ok-clause-number g c =
+    subst (λ (t : Tables). TakesLeast t (g.K.Keeper.seen c.insert.new.keeper).kept c.args.stmt.now.tuple) c.in-Ok-Fits.ensures.read.kept c.in-Ok.ensures.number

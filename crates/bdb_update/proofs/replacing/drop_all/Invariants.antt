@@ -1,6 +1,0 @@
-use Rattle.std.proofs.Common.{drop}
-use Rattle.bdb_update.proofs.ReplaceLemmas.{IsGoing}
-use Rattle.bdb_update.proofs.replacing.drop_all.Given as goal
-
-abbrev pub invariant-loop-stmt : goal.invariant-loop-stmt
-invariant-loop-stmt g l = IsGoing (g.K.Keeper.seen l.fn.keeper) (g.K.Keeper.seen l.keeper) l.fn.counts l.counts l.gone (drop l.stmt-index l.gone)
