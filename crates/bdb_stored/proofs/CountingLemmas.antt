@@ -44,9 +44,9 @@ use Rattle.bdb_val.specs.WorldReads.{AreRowsAt}
 use Rattle.bdb_val.proofs.HeldLemmas.{some_is}
 use Rattle.bdb_stored.specs.Counting.{AreWorlds, CountsRows, TellsCounts, explicit_rows}
 use Rattle.bdb_stored.specs.Items.{items_of}
-use Rattle.bdb_stored.specs.Valid.{StoresValid, StoreSome}
+use Rattle.bdb_stored.specs.Valid.{StoresValid, StoreSome, IsPartOf}
 use Rattle.bdb_stored.proofs.ItemLemmas.{AllNamed, ascending_apart, first_named, items_apart, items_cons, items_make_set, items_many, rest_named, sum_ones, sum_sorted}
-use Rattle.bdb_stored.proofs.KeyLemmas.{numbers_are, numbers_once}
+use Rattle.bdb_stored.proofs.KeyLemmas.{numbers_are, numbers_once, rows_are_items}
 use Rattle.bdb_stored.proofs.PathSums.{at_path, explicit_are_statements, paths_are_members, sum_of_paths}
 
 -- the numbers of rows
@@ -189,12 +189,20 @@ module _ (t : Tables) (b : Contents) (v : StoresValid t b) where
         (λ u e. let n = some_is (ts.number u) (sym (tuple_member u) ∙ e) in (n.0, h.tuples.numbered u n.0 n.1))
         (λ n u e. tuple_member u ∙ ap is_some (h.tuples.named n u e))
 
+    pub tuples_told : sorted_set tuple_cmp (map (λ (e : ℕ × Tuple). e.1) es) ≡ tuples_of b.stmts
+    tuples_told =
+        ap (sorted_set tuple_cmp) (sym (rows_are_items tuple_codec numbers_in_order number_eq (λ k f. f) (λ k f. f) tuple_rows_are_one t ts.tuple h.tuples.tuples es under)) ∙ tuples_are
+
     pub tuples_many : length es ≡ tuple_count b.stmts
     tuples_many =
         sym (length-map es (λ (e : ℕ × Tuple). e.0)) ∙ sym (items_many ts.tuple tids tids_named) ∙ sym (sum_ones (items_of ts.tuple tids))
         ∙ sym (sum_sorted tuple_exact (λ u. 1) (items_of ts.tuple tids) (items_apart tuple_exact ts.tuple one_tuple tids tids_named tids_once))
         ∙ sum_ones (sorted_set tuple_cmp (items_of ts.tuple tids)) ∙ ap (λ (xs : List Tuple). length xs) (tuples_are ∙ sym (loop_makes_set tuple_exact (map (λ (x : Stmt). x.tuple) b.stmts)))
         ∙ put_all_count same_tuple same_tuple-Decides tuple_exact (map (λ (x : Stmt). x.tuple) b.stmts)
+
+-- the rows of depths are as many as the states
+pub states_counted : (t : Tables) (es : List (ℕ × ℕ)) → AreUnder depth_codec t [] es → IsPartOf (λ b. length (states_of b.stmts)) t (length es)
+states_counted t es under b v = worlds_many t b v es under ∙ sym (states_are_counted b.stmts)
 
 -- ---- one world more
 

@@ -4,7 +4,7 @@ use Rattle.std.specs.List.{AllByRecursion, list_all}
 use Rattle.std.specs.declared.cmp.Ordering.{Ordering}
 use Rattle.std.specs.declared.cmp.Ordering.TheVariants.{Less, Equal, Greater}
 use Rattle.std.specs.Ordering.{is_eq, is_lt}
-use Rattle.std.proofs.lemmas.Bool.{and_parts, and_from, or_from, or_cases, false≢true, eqb-true}
+use Rattle.std.proofs.lemmas.Bool.{and_parts, and_from, or_from, or_cases, false≢true, false_from_ne_true, cond-true, cond-false, eqb-true, eq-eqb}
 use Rattle.bdb_base.specs.SortedSet.{ascending}
 use Rattle.bdb_keep.specs.Tables.{Tables, bytes_cmp}
 use Rattle.bdb_key.specs.Grammar.{IsNum}
@@ -14,6 +14,7 @@ use Rattle.bdb_tables.specs.Names.{is_listed, are_once}
 use Rattle.bdb_tables.specs.Spans.{AreUnder, IsUnder, entry_cmp}
 use Rattle.bdb_tables.specs.Writes.{Gives}
 use Rattle.bdb_worlds.proofs.UnderLemmas.{row_in, under_is}
+use Rattle.bdb_stored.specs.Items.{with_item, items_of}
 
 module _ {Row : Type 0} (c : Codec ℕ Row) (order : KeepsOrder c) (test : (a b : ℕ) → is_eq (c.key_cmp a b) ≡ nat_eq a b) (fit : (k : ℕ) → c.IsKey k → IsNum k) (fits : (k : ℕ) → IsNum k → c.IsKey k) where
   abbrev numbers : List (ℕ × Row) → List ℕ
@@ -63,3 +64,42 @@ module _ {Row : Type 0} (c : Codec ℕ Row) (order : KeepsOrder c) (test : (a b 
           let p = and_parts (is_lt (entry_cmp c e d)) (list_all (λ x. is_lt (entry_cmp c e x)) ds) l in
           let other : nat_eq e.0 d.0 ≡ false = sym (test e.0 d.0) ∙ sym (ap is_eq (order e.0 d.0 a.0.key b.0.key)) ∙ differs (bytes_cmp (c.key_bytes e.0) (c.key_bytes d.0)) p.0 in
           or_from (nat_eq e.0 d.0) (is_listed e.0 (numbers ds)) other (none ds b.1 p.1)
+
+  -- ---- rows by their numbers
+
+  -- each row is found under its number
+  rows_found : (es : List (ℕ × Row)) → AllByRecursion (IsUnder c []) es → ascending (entry_cmp c) es ≡ true → AllByRecursion (λ (e : ℕ × Row). row_in c order es e.0 ≡ Some e.1) es
+  rows_found [] a s = tt
+  rows_found (e ∷ es) a s =
+      let k = and_parts (list_all (λ d. is_lt (entry_cmp c e d)) es) (ascending (entry_cmp c) es) s in (
+        cond-true (is_eq (c.key_cmp e.0 e.0)) (Some e.1) (row_in c order es e.0) (test e.0 e.0 ∙ eq-eqb e.0 e.0 refl),
+        later es a.1 k.0 (rows_found es a.1 k.1),
+      )
+    where
+      differs : (r : Ordering) → is_lt r ≡ true → is_eq r ≡ false
+      differs Less h = refl
+      differs Equal h = absurd (false≢true h)
+      differs Greater h = refl
+
+      turned : (m n : ℕ) → nat_eq m n ≡ false → nat_eq n m ≡ false
+      turned m n h = false_from_ne_true (nat_eq n m) (λ t. false≢true (sym h ∙ eq-eqb m n (sym (eqb-true n m t))))
+
+      later : (ds : List (ℕ × Row)) → AllByRecursion (IsUnder c []) ds → list_all (λ d. is_lt (entry_cmp c e d)) ds ≡ true → AllByRecursion (λ (d : ℕ × Row). row_in c order es d.0 ≡ Some d.1) ds
+          → AllByRecursion (λ (d : ℕ × Row). row_in c order (e ∷ es) d.0 ≡ Some d.1) ds
+      later [] b l f = tt
+      later (d ∷ ds) b l f =
+          let p = and_parts (is_lt (entry_cmp c e d)) (list_all (λ x. is_lt (entry_cmp c e x)) ds) l in
+          let other : nat_eq e.0 d.0 ≡ false = sym (test e.0 d.0) ∙ sym (ap is_eq (order e.0 d.0 a.0.key b.0.key)) ∙ differs (bytes_cmp (c.key_bytes e.0) (c.key_bytes d.0)) p.0 in (
+            cond-false (is_eq (c.key_cmp d.0 e.0)) (Some e.1) (row_in c order es d.0) (test d.0 e.0 ∙ turned e.0 d.0 other) ∙ f.0,
+            later ds b.1 p.1 f.1,
+          )
+
+  -- the items of the numbers are the rows
+  pub rows_are_items : HasOneRow c → (t : Tables) (f : ℕ → Option Row) → Gives c t f → (es : List (ℕ × Row)) → AreUnder c t [] es → items_of f (numbers es) ≡ map (λ (e : ℕ × Row). e.1) es
+  rows_are_items one t f h es under = each es under.each (rows_found es under.each under.sorted)
+    where
+      each : (ds : List (ℕ × Row)) → AllByRecursion (IsUnder c []) ds → AllByRecursion (λ (d : ℕ × Row). row_in c order es d.0 ≡ Some d.1) ds → items_of f (numbers ds) ≡ map (λ (d : ℕ × Row). d.1) ds
+      each [] a r = refl
+      each (d ∷ ds) a r =
+          ap (λ o. with_item o (items_of f (numbers ds))) (sym (under_is c order one t f h [] es under d.0 a.0.key refl) ∙ r.0)
+          ∙ ap (λ (xs : List Row). d.1 ∷ xs) (each ds a.1 r.1)

@@ -1,4 +1,17 @@
+pub mod ChildLemmas
+pub mod ClearLemmas
 pub mod CountingLemmas
+pub mod FrontLemmas
+pub mod GrowLemmas
 pub mod ItemLemmas
 pub mod KeyLemmas
+pub mod LinkLemmas
 pub mod PathSums
+pub mod PlaceLemmas
+pub mod ReadLemmas
+pub mod RowLemmas
+pub mod SetLoops
+pub mod StructureLemmas
+pub mod TreeLemmas
+pub mod UserLemmas
+pub mod WritingLemmas

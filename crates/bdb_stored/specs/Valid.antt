@@ -15,6 +15,10 @@ pub record StoreSome (t : Tables) : Type 0 where
   pub base : Contents
   pub is : StoresValid t base
 
+-- whichever valid base the tables store, this is a part of it
+abbrev pub IsPartOf : {X : Type 0} → (Contents → X) → Tables → X → Type 0
+IsPartOf part t x = (b : Contents) → StoresValid t b → x ≡ part b
+
 -- How a call ends that makes any number of reads, or none: an Ok leaves the rows as they were, and nothing is written.
 pub record OnlyReads {T E : Type 0} (old new : Seen) (result : Result T E) (fault : E) : Type 0 where
   pub kept : OnOk result (new.kept ≡ old.kept)

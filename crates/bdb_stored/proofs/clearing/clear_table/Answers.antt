@@ -1,0 +1,18 @@
+use Rattle.std.proofs.Common.{◌∙◌, ◌∷◌, ap}
+use Rattle.std.specs.FinMap as tables
+use Rattle.bdb_worlds.proofs.StepsLemmas.{falls_then, goes_then}
+use Rattle.bdb_stored.proofs.ClearLemmas.{remove_same, same_later}
+use Rattle.bdb_stored.proofs.clearing.clear_table.Goals as goal
+
+pub loop-preserved : goal.loop-preserved
+loop-preserved g c =
+    let t = (g.K.Keeper.seen c.args.keeper.now).kept in
+    let u = (g.K.Keeper.seen c.loop.keeper).kept in
+    let v = (g.K.Keeper.seen c.remove.new.self).kept in
+    let key = c.deref.result.now in
+    record {
+      same = same_later c.args.tab t u v c.loop.invariant.same
+          (remove_same u v c.args.tab key (c.in-Ok.ensures.kept ∙ ap (λ x. tables.remove x (c.args.tab ∷ key)) c.in-Ok-true.ensures.read.kept));
+      counts = falls_then _ _ _ c.loop.invariant.counts (falls_then _ _ _ c.in-Ok-true.ensures.read.counts c.in-Ok.ensures.write.counts);
+      goes_on = goes_then _ _ _ (goes_then _ _ _ c.loop.invariant.goes_on c.in-Ok-true.ensures.read.steps.ok) c.in-Ok.ensures.write.steps.ok;
+    }

@@ -1,0 +1,16 @@
+use Rattle.std.proofs.Common.{◌≡◌, length, subst, sym, rules}
+use Rattle.bdb_base.specs.States.{states_of}
+use Rattle.bdb_stored.specs.Valid.{IsPartOf}
+use Rattle.bdb_stored.specs.Worlds.{TellsStates}
+use Rattle.bdb_stored.proofs.CountingLemmas.{states_counted}
+use Rattle.bdb_stored.proofs.worlds.worlds_in_order.Goals as goal
+
+pub grow-requires-clause-count : goal.grow-requires-clause-count
+grow-requires-clause-count g c =
+    let t = (g.K.Keeper.seen c.args.keeper.now).kept in
+    let n : c.len.result ≡ length c.in-Ok.depths.items = search rules in
+    subst (λ u. IsPartOf (λ b. length (states_of b.stmts)) u c.len.result) (sym c.in-Ok.ensures.read.kept)
+    (subst (IsPartOf (λ b. length (states_of b.stmts)) t) (sym n) (states_counted t c.in-Ok.depths.items c.in-Ok.ensures.rows))
+
+pub returns-in-Ok-grow-clause-worlds : goal.returns-in-Ok-grow-clause-worlds
+returns-in-Ok-grow-clause-worlds g c = subst (λ u. TellsStates u c.in-Ok-grow.worlds.items) c.in-Ok.ensures.read.kept c.in-Ok-grow.ensures.worlds

@@ -1,0 +1,64 @@
+-- Tables that are cleared, and the base that is written into them piece by piece.
+use Rattle.std.specs.Prelude.{◌≡◌, ℕ, Bool, true, false, ◌&&◌, nat_eq, nat_le, nat_lt, List, [], ◌∷◌, take, None}
+use Rattle.std.specs.FinMap as tables
+use Rattle.bdb_base.specs.Bases.{Contents, IsValid, stands, with_statement}
+use Rattle.bdb_base.specs.declared.kinds.Catalog.{Catalog}
+use Rattle.bdb_base.specs.declared.kinds.RelDef.{RelDef}
+use Rattle.bdb_base.specs.declared.kinds.Stmt.{Stmt}
+use Rattle.bdb_canon.specs.Sizes.{counts_of}
+use Rattle.bdb_canon.specs.declared.sizes.Counts.{Counts}
+use Rattle.bdb_keep.specs.Tables.{Tables}
+use Rattle.bdb_tables.specs.Stored.{SameBut}
+use Rattle.bdb_update.specs.Calls.{MayMeet, StoresSized, clash_of, of_stmts, size_passed, with_one}
+
+-- the number of a table that is before another
+abbrev pub is_before : ℕ → ℕ → Bool
+is_before tab n = nat_le 1 n && nat_lt n tab
+
+-- the tables before one have no row, and the others are as they were
+pub record AreCleared (tab : ℕ) (t u : Tables) : Type 0 where
+  pub none : (n : ℕ) (k : List ℕ) → is_before tab n ≡ true → tables.get u (n ∷ k) ≡ None
+  pub others : SameBut (is_before tab) t u
+
+-- one table has no row, and the others are as they were
+pub record IsCleared (tab : ℕ) (t u : Tables) : Type 0 where
+  pub none : (k : List ℕ) → tables.get u (tab ∷ k) ≡ None
+  pub others : SameBut (nat_eq tab) t u
+
+-- no table has a row
+abbrev pub HaveNoRows : Tables → Type 0
+HaveNoRows t = (n : ℕ) (k : List ℕ) → tables.get t (n ∷ k) ≡ None
+
+-- the base of users, relations and statements
+abbrev pub base_of : List (List ℕ) → List RelDef → List Stmt → Contents
+base_of users rels stmts = record { catalog = record { rels = rels; users = users }; stmts = stmts }
+
+-- the base of the first users of a catalog
+abbrev pub with_users : Catalog → ℕ → Contents
+with_users c k = base_of (take k c.users) [] []
+
+-- the base of its users and its first relations
+abbrev pub with_relations : Catalog → ℕ → Contents
+with_relations c k = base_of c.users (take k c.rels) []
+
+-- the base of the first statements of another
+abbrev pub with_front : Contents → ℕ → Contents
+with_front b k = of_stmts b (take k b.stmts)
+
+-- tables store a valid base of these sizes, which a statement more leaves valid, and the statement neither stands nor
+-- clashes, and passes no limit
+pub record MayFollow (t : Tables) (counts : Counts) (x : Stmt) (b : Contents) : Type 0 where
+  pub meet : MayMeet t counts x b
+  pub fresh : stands b.stmts x ≡ false
+  pub apart : clash_of b x ≡ None
+  pub room : size_passed (counts_of (with_one b x)) ≡ None
+  pub valid : IsValid b.catalog (with_statement b.stmts x)
+
+-- there is such a base
+pub record SomeMayFollow (t : Tables) (counts : Counts) (x : Stmt) : Type 0 where
+  pub base : Contents
+  pub may : MayFollow t counts x base
+
+-- whichever base it is, the tables store it with the statement
+abbrev pub AddsNext : Tables → Tables → Counts → Counts → Stmt → Type 0
+AddsNext t u before after x = (b : Contents) → MayFollow t before x b → StoresSized u after (with_one b x)
