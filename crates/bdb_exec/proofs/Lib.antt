@@ -1,9 +1,9 @@
 mod LookLemmas
 mod SpelledLemmas
-mod TypedLemmas
+pub mod TypedLemmas
 mod KeyLemmas
 mod RunLemmas
-mod WorldLemmas
-mod DenyLemmas
+pub mod WorldLemmas
+pub mod DenyLemmas
 mod LookingLemmas
-mod ShownLemmas
+pub mod ShownLemmas

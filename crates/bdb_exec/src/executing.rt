@@ -31,6 +31,7 @@ pub fn execute<K: Keeper>(alloc: Global, keeper: &mut K, plan: &Plan) -> Result<
     ensures few { IfOk result (λ rows. length rows ≤ most_lines) }
     ensures many { IsErrOf result ExecError.TooMany → most_lines < length (meaning_of (sight_of (K.seen keeper.old).kept) plan.now) }
     ensures reads { OnOk result ((K.seen keeper.new).reads ≤ (K.seen keeper.old).reads + reads_from (sight_of (K.seen keeper.old).kept) plan.now.steps (start_of plan.now.items)) }
+    ensures reads_many { IsErrOf result ExecError.TooMany → (K.seen keeper.new).reads ≤ (K.seen keeper.old).reads + reads_from (sight_of (K.seen keeper.old).kept) plan.now.steps (start_of plan.now.items) }
     ensures execution { IsExecuted (K.seen keeper.old) (K.seen keeper.new) result }
 {
     match rows_up_to(alloc, keeper, plan, MOST_LINES) {

@@ -3,7 +3,7 @@ use Rattle.std.proofs.Common.{◌≡◌, ◌∙◌, ℕ, suc, ◌+◌, ◌<◌, 
 use Prim.Native.Nat.{zero}
 use Rattle.std.specs.List.{slice_get}
 use Rattle.std.specs.Option.{option_map, option_and_then}
-use Rattle.std.proofs.lemmas.Bool.{false≢true, cases_Bool, or_cases, and_parts, eqb-true, ltb-true}
+use Rattle.std.proofs.lemmas.Bool.{false≢true, cases_Bool, cond-false, or_cases, and_parts, eqb-true, ltb-true}
 use Rattle.std.proofs.lemmas.Bool.Decides.{Decides-eqb, nat_tests}
 use Rattle.bdb_base.specs.declared.kinds.Operand.{Operand}
 use Rattle.bdb_base.specs.declared.kinds.Operand.TheVariants.{Col, Lit}
@@ -14,7 +14,7 @@ use Rattle.bdb_base.specs.declared.kinds.Who.TheVariants.{User, Of}
 use Rattle.bdb_base.specs.declared.tuple.Tuple.{Tuple}
 use Rattle.bdb_queries.specs.Slots.{slot_at, known, known_operand, uid_of}
 use Rattle.bdb_queries.proofs.RangeLemmas.{and_then_some}
-use Rattle.bdb_plan.specs.Fitness.{Placed, is_among, is_bound, has_bound, is_set, operand_is_set, who_is_set, is_new, comes_next, is_whole, at_width}
+use Rattle.bdb_plan.specs.Fitness.{Placed, is_among, is_bound, has_bound, is_known, is_set, operand_is_set, who_is_set, is_new, comes_next, is_whole, at_width}
 use Rattle.bdb_plan.specs.Running.{tuple_of, with_value}
 
 -- ---- lists
@@ -122,19 +122,30 @@ known_bound n items slots zs (Some b) (t', is', long, apart, within) (t, u, rest
     ap (λ i. col (slot_at zs i)) item ∙ ap col up ∙ ap (λ vs. slice_get vs r.col) vals ∙ get_front t.vals rest r.col front
     ∙ sym (ap (λ i. col (slot_at slots i)) item ∙ ap col is)
 
-pub known_same : (n : ℕ) (p : Placed) (slots zs : List (Option Tuple)) → Stands n p.items p.bound slots → Above p.items p.bound slots zs → (r : Ref) → is_set p r ≡ true → known zs r ≡ known slots r
-known_same n p slots zs s a r h = elim (or_cases (is_among p.items r.item) (has_bound p.bound r) h) [
-  | inl k ↦ ap (option_and_then (λ t. slice_get t.vals r.col)) (a.chosen r.item k)
+-- the items for which a user is chosen are set
+abbrev pub UsersAreSet : Placed → Type 0
+UsersAreSet p = (i : ℕ) → is_among p.users i ≡ true → is_among p.items i ≡ true
+
+known_item : (p : Placed) (r : Ref) → UsersAreSet p → is_known p r ≡ true → is_among p.items r.item ≡ true
+known_item p r u h = elim (cases_Bool (is_among p.users r.item)) [
+  | inl e ↦ u r.item e
+  | inr e ↦ sym (cond-false (is_among p.users r.item) (nat_lt r.col 2) (is_among p.items r.item) e) ∙ h
+]
+
+pub known_same : (n : ℕ) (p : Placed) (slots zs : List (Option Tuple)) → UsersAreSet p → Stands n p.items p.bound slots → Above p.items p.bound slots zs → (r : Ref) → is_set p r ≡ true → known zs r ≡ known slots r
+known_same n p slots zs u s a r h = elim (or_cases (is_known p r) (has_bound p.bound r) h) [
+  | inl k ↦ ap (option_and_then (λ t. slice_get t.vals r.col)) (a.chosen r.item (known_item p r u k))
   | inr k ↦ known_bound n p.items slots zs p.bound s.bound a.bound r k
 ]
 
-pub operand_same : (n : ℕ) (p : Placed) (slots zs : List (Option Tuple)) → Stands n p.items p.bound slots → Above p.items p.bound slots zs → (o : Operand) → operand_is_set p o ≡ true → known_operand zs o ≡ known_operand slots o
-operand_same n p slots zs s a (Col r) h = known_same n p slots zs s a r h
-operand_same n p slots zs s a (Lit v) h = refl
+pub operand_same : (n : ℕ) (p : Placed) (slots zs : List (Option Tuple)) → UsersAreSet p → Stands n p.items p.bound slots → Above p.items p.bound slots zs → (o : Operand) → operand_is_set p o ≡ true
+    → known_operand zs o ≡ known_operand slots o
+operand_same n p slots zs u s a (Col r) h = known_same n p slots zs u s a r h
+operand_same n p slots zs u s a (Lit v) h = refl
 
-pub who_same : (p : Placed) (slots zs : List (Option Tuple)) → Above p.items p.bound slots zs → (who : Who) → who_is_set p who ≡ true → uid_of zs who ≡ uid_of slots who
-who_same p slots zs a (User i) h = refl
-who_same p slots zs a (Of item) h = ap (option_map (λ t. t.rel)) (a.chosen item h)
+pub who_same : (p : Placed) (slots zs : List (Option Tuple)) → UsersAreSet p → Above p.items p.bound slots zs → (who : Who) → who_is_set p who ≡ true → uid_of zs who ≡ uid_of slots who
+who_same p slots zs u a (User i) h = refl
+who_same p slots zs u a (Of item) h = ap (option_map (λ t. t.rel)) (a.chosen item (u item h))
 
 -- ---- one more item is chosen
 
@@ -318,16 +329,16 @@ pub record IsWhole (n : ℕ) (items : List ℕ) (o : Option (ℕ × ℕ)) (slots
   pub apart : is_among items item ≡ false
   pub within : item < n
 
-pub is_whole_tells : (n : ℕ) (width : ℕ → ℕ) (p : Placed) (slots : List (Option Tuple)) (item rel : ℕ) → Stands n p.items p.bound slots → is_whole (at_width width) p.bound item rel ≡ true
+pub is_whole_tells : (n : ℕ) (width : ℕ → ℕ) (p : Placed) (slots : List (Option Tuple)) (item rel : ℕ) → Stands n p.items p.bound slots → is_whole n (at_width width) p p.bound item rel ≡ true
     → IsWhole n p.items p.bound slots item (width rel)
 is_whole_tells n width p slots item rel s h = by p.bound s.bound h
   where
-    by : (o : Option (ℕ × ℕ)) → BoundStands n p.items slots o → is_whole (at_width width) o item rel ≡ true → IsWhole n p.items o slots item (width rel)
-    by None s h = absurd (false≢true h)
+    by : (o : Option (ℕ × ℕ)) → BoundStands n p.items slots o → is_whole n (at_width width) p o item rel ≡ true → IsWhole n p.items o slots item (width rel)
+    by None s h = absurd (false≢true (and_parts (is_new n p item) false h).1)
     by (Some b) (t, is, long, apart, within) h =
-        let k = and_parts (nat_eq item b.0) (nat_eq (width rel) b.1) h in
+        let k = and_parts (nat_eq item b.0) (at_width width rel b.1) h in
         let same : item ≡ b.0 = eqb-true item b.0 k.0 in
-        let size : width rel ≡ b.1 = eqb-true (width rel) b.1 k.1 in
+        let size : width rel ≡ b.1 = eqb-true (width rel) b.1 (and_parts (nat_lt 0 b.1) (nat_eq (width rel) b.1) k.1).1 in
         record {
           count = b.1;
           is = ap (λ i. Some (i, b.1)) (sym same);

@@ -15,10 +15,13 @@ pub record Fields : Type 0 where
   pub steps : List Step
   pub take : List Ref
 
--- What is set so far: the items for which all is chosen; and the item whose columns are being bound, with how many are.
+-- What is set so far: the items for which a user is chosen; the items whose columns are set, these among them; the item whose
+-- columns are being bound, with how many are; and the item whose walk began last.
 pub record Placed : Type 0 where
+  pub users : List ℕ
   pub items : List ℕ
   pub bound : Option (ℕ × ℕ)
+  pub walk : Option ℕ
 
 -- a place is among places
 abbrev pub is_among : List ℕ → ℕ → Bool
@@ -32,9 +35,13 @@ abbrev pub has_bound : Option (ℕ × ℕ) → Ref → Bool
 has_bound None r = false
 has_bound (Some b) r = nat_eq r.item b.0 && nat_lt r.col b.1
 
+-- of an item for which a user is chosen the number and the name are known, and of another one that is set each column
+abbrev pub is_known : Placed → Ref → Bool
+is_known p r = cond (is_among p.users r.item) (nat_lt r.col 2) (is_among p.items r.item)
+
 -- a column is set
 abbrev pub is_set : Placed → Ref → Bool
-is_set p r = is_among p.items r.item || has_bound p.bound r
+is_set p r = is_known p r || has_bound p.bound r
 
 abbrev pub operand_is_set : Placed → Operand → Bool
 operand_is_set p (Col r) = is_set p r
@@ -43,7 +50,12 @@ operand_is_set p (Lit v) = true
 -- a user of a path is fixed, or chosen
 abbrev pub who_is_set : Placed → Who → Bool
 who_is_set p (User uid) = true
-who_is_set p (Of item) = is_among p.items item
+who_is_set p (Of item) = is_among p.users item
+
+-- a walk has begun, and the last one is that of the item
+abbrev pub is_walked : Option ℕ → ℕ → Bool
+is_walked None item = false
+is_walked (Some at) item = nat_eq item at
 
 -- an item is one of the plan's, and nothing is set of it
 abbrev pub is_new : ℕ → Placed → ℕ → Bool
@@ -54,32 +66,49 @@ abbrev pub comes_next : ℕ → Placed → Option (ℕ × ℕ) → ℕ → ℕ �
 comes_next n p None item col = is_new n p item && nat_eq col 0
 comes_next n p (Some b) item col = nat_eq item b.0 && nat_eq col b.1
 
--- an item is being bound, and enough columns are for its relation
-abbrev pub is_whole : (ℕ → ℕ → Bool) → Option (ℕ × ℕ) → ℕ → ℕ → Bool
-is_whole whole None item rel = false
-is_whole whole (Some b) item rel = nat_eq item b.0 && whole rel b.1
+-- all columns of an item are bound: it is being bound, and so many are enough for its relation; or it is new, and none are
+abbrev pub is_whole : ℕ → (ℕ → ℕ → Bool) → Placed → Option (ℕ × ℕ) → ℕ → ℕ → Bool
+is_whole n whole p None item rel = is_new n p item && whole rel 0
+is_whole n whole p (Some b) item rel = nat_eq item b.0 && whole rel b.1
 
--- so many columns are all that a relation has
+-- so many columns are all that a relation has, and it has one at least
 abbrev pub at_width : (ℕ → ℕ) → ℕ → ℕ → Bool
-at_width width rel k = nat_eq (width rel) k
+at_width width rel k = nat_lt 0 k && nat_eq (width rel) k
 
 abbrev pub placed_if : Bool → Placed → Option Placed
 placed_if test p = cond test (Some p) None
 
-abbrev pub with_item : Placed → ℕ → Placed
-with_item p item = record { items = item ∷ p.items; bound = p.bound }
+-- with a user chosen for an item
+abbrev pub with_user : Placed → ℕ → Placed
+with_user p item = record { users = item ∷ p.users; items = item ∷ p.items; bound = p.bound; walk = p.walk }
 
--- What is set after a step; none where it uses what is not set, or sets what is. `whole` says whether so many bound columns
--- are enough for a relation.
+-- with the walk of an item begun
+abbrev pub with_walk : Placed → ℕ → Placed
+with_walk p item = record { users = p.users; items = p.items; bound = p.bound; walk = Some item }
+
+-- with a tuple chosen for an item
+abbrev pub with_tuple : Placed → ℕ → Placed
+with_tuple p item = record { users = p.users; items = item ∷ p.items; bound = p.bound; walk = p.walk }
+
+-- with a column of an item bound
+abbrev pub with_column : Placed → ℕ → ℕ → Placed
+with_column p item col = record { users = p.users; items = p.items; bound = Some (item, col + 1); walk = p.walk }
+
+-- with all columns of an item bound
+abbrev pub with_all_bound : Placed → ℕ → Placed
+with_all_bound p item = record { users = p.users; items = item ∷ p.items; bound = None; walk = p.walk }
+
+-- What is set after a step; none where it uses what is not set, or sets what is. `Edge`, `Differ`, `Pos` and `Neg` belong to
+-- the walk begun last, and a user of a path that is not fixed is one that `User` chose. `whole` says whether so many bound
+-- columns are enough for a relation.
 abbrev pub placed_after : ℕ → (ℕ → ℕ → Bool) → Placed → Step → Option Placed
-placed_after n whole p (step.User item) = placed_if (is_new n p item) (with_item p item)
-placed_after n whole p (step.Start item) = Some p
-placed_after n whole p (step.Edge item who) = placed_if (who_is_set p who) p
-placed_after n whole p (step.Differ item left right) = placed_if (who_is_set p left && who_is_set p right) p
-placed_after n whole p (step.Pos item rel) = placed_if (is_new n p item) (with_item p item)
-placed_after n whole p (step.Bind item col right) =
-    placed_if (operand_is_set p right && comes_next n p p.bound item col) (record { items = p.items; bound = Some (item, col + 1) })
-placed_after n whole p (step.Neg item rel) = placed_if (is_whole whole p.bound item rel) (record { items = item ∷ p.items; bound = None })
+placed_after n whole p (step.User item) = placed_if (is_new n p item) (with_user p item)
+placed_after n whole p (step.Start item) = placed_if (nat_lt item n) (with_walk p item)
+placed_after n whole p (step.Edge item who) = placed_if (is_walked p.walk item && who_is_set p who) p
+placed_after n whole p (step.Differ item left right) = placed_if (is_walked p.walk item && (who_is_set p left && who_is_set p right)) p
+placed_after n whole p (step.Pos item rel) = placed_if (is_walked p.walk item && is_new n p item) (with_tuple p item)
+placed_after n whole p (step.Bind item col right) = placed_if (operand_is_set p right && comes_next n p p.bound item col) (with_column p item col)
+placed_after n whole p (step.Neg item rel) = placed_if (is_walked p.walk item && is_whole n whole p p.bound item rel) (with_all_bound p item)
 placed_after n whole p (step.Test c) = placed_if (is_set p c.left && operand_is_set p c.right) p
 
 -- what is set after steps
@@ -97,10 +126,11 @@ takes_set take (Some p) = list_all (is_set p) take
 abbrev pub fits_from : ℕ → (ℕ → ℕ → Bool) → List Ref → Option Placed → List Step → Bool
 fits_from n whole take o xs = takes_set take (placed_at_end n whole o xs)
 
--- nothing is set
+-- nothing is set, and no walk has begun
 abbrev pub at_first : Placed
-at_first = record { items = []; bound = None }
+at_first = record { users = []; items = []; bound = None; walk = None }
 
--- each step, and each column taken, uses only what an earlier step set
+-- Each step, and each column taken, uses only what an earlier step set. A plan does not know how many columns a relation has:
+-- `Pos` sets them all, and `Neg` uses those that were bound.
 abbrev pub UsesOnlySet : ℕ → List Step → List Ref → Type 0
 UsesOnlySet items steps take = fits_from items (λ rel k. true) take (Some at_first) steps ≡ true

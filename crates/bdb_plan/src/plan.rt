@@ -7,7 +7,8 @@ use bdb_base::{List, Ref};
 use std::marker::Model;
 
 /// A plan: its steps in order, for so many items, and the columns that its rows have. Each step, and each column taken,
-/// uses only what an earlier step set.
+/// uses only what an earlier step set: columns that are set, users that were chosen, and the world of the walk that was
+/// begun last, which is of its own item.
 #[derive(Drop)]
 pub struct Plan {
     items: u32,

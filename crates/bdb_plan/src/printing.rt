@@ -74,33 +74,57 @@ fn append_step(
             append_who(out, catalog, query, *who)
         }
         Step::Differ { item, left, right } => {
-            out.extend_from_slice(b"differ ")?;
-            append_alias(out, query, *item)?;
-            out.push(b' ')?;
-            append_who(out, catalog, query, *left)?;
-            out.push(b' ')?;
-            append_who(out, catalog, query, *right)
+            append_differ(out, catalog, query, *item, *left, *right)
         }
         Step::Pos { item, .. } => {
             out.extend_from_slice(b"pos ")?;
             append_alias(out, query, *item)
         }
-        Step::Bind { item, col, right } => {
-            out.extend_from_slice(b"bind ")?;
-            let column = Ref {
-                item: *item,
-                col: *col,
-            };
-            append_ref(out, catalog, query, column)?;
-            out.push(b' ')?;
-            append_operand(out, catalog, query, right)
-        }
+        Step::Bind { item, col, right } => append_bind(out, catalog, query, *item, *col, right),
         Step::Neg { item, .. } => {
             out.extend_from_slice(b"neg ")?;
             append_alias(out, query, *item)
         }
         Step::Test { cond } => append_test(out, catalog, query, cond),
     }
+}
+
+// Appends the step that keeps two users of an item's path apart.
+#[tactic(auto, unfolding(crate::specs::PlanText::step_text))]
+fn append_differ(
+    out: &mut Vec<u8>,
+    catalog: &Catalog,
+    query: &Query,
+    item: u32,
+    left: Who,
+    right: Who,
+) -> Result<(), AllocError>
+    ensures { OnOk result (out.new.items ≡ out.old.items ++ step_text catalog.now query.now (Step.Differ item left right)) }
+{
+    out.extend_from_slice(b"differ ")?;
+    append_alias(out, query, item)?;
+    out.push(b' ')?;
+    append_who(out, catalog, query, left)?;
+    out.push(b' ')?;
+    append_who(out, catalog, query, right)
+}
+
+// Appends the step that sets a column of a minus item.
+#[tactic(auto, unfolding(crate::specs::PlanText::step_text))]
+fn append_bind(
+    out: &mut Vec<u8>,
+    catalog: &Catalog,
+    query: &Query,
+    item: u32,
+    col: u32,
+    right: &Operand,
+) -> Result<(), AllocError>
+    ensures { OnOk result (out.new.items ≡ out.old.items ++ step_text catalog.now query.now (Step.Bind item col right.now)) }
+{
+    out.extend_from_slice(b"bind ")?;
+    append_ref(out, catalog, query, Ref { item, col })?;
+    out.push(b' ')?;
+    append_operand(out, catalog, query, right)
 }
 
 // Appends the test of a comparison.

@@ -16,6 +16,7 @@ use Rattle.bdb_base.specs.declared.kinds.Operand.TheVariants.{Col, Lit}
 use Rattle.bdb_base.specs.declared.kinds.Query.{Query}
 use Rattle.bdb_base.specs.declared.kinds.Ref.{Ref}
 use Rattle.bdb_base.specs.declared.kinds.RelDef.{RelDef}
+use Rattle.bdb_base.specs.declared.kinds.Sign.{Sign}
 use Rattle.bdb_base.specs.declared.kinds.Sign.TheVariants.{Plus, Minus}
 use Rattle.bdb_base.specs.declared.kinds.Who.{Who}
 use Rattle.bdb_base.specs.declared.kinds.Who.TheVariants.{User, Of}
@@ -25,12 +26,12 @@ use Rattle.bdb_base.specs.Safety.{is_given, is_minus, is_users_item, is_literal,
 use Rattle.bdb_base.proofs.ListLemmas.{list_all_get, list_all_weaker, filter_kept_one, filter_dropped_one}
 use Rattle.bdb_plan.specs.declared.step.Step.{Step}
 use Rattle.bdb_plan.specs.declared.step.Step.TheVariants as step
-use Rattle.bdb_plan.specs.Fitness.{Placed, is_among, has_bound, is_set, operand_is_set, who_is_set, is_new, comes_next, is_whole, placed_if, placed_after, placed_at_end, takes_set, fits_from, at_first}
+use Rattle.bdb_plan.specs.Fitness.{Placed, is_among, has_bound, is_known, is_set, operand_is_set, who_is_set, is_walked, is_new, comes_next, is_whole, placed_if, with_user, with_tuple, with_all_bound, placed_after, placed_at_end, takes_set, fits_from, at_first}
 use Rattle.bdb_plan.specs.PlanOf.{differ_from, walk_from, walk_of, bind_of, binds_from, operand_set, all_set, due, item_steps, steps_from, places, is_users, is_plus, is_minus_item, order_of}
 use Rattle.bdb_plan.specs.Sources.{source_of}
 use Rattle.bdb_trans.proofs.HoldLemmas.{some_is, there_in_order, both_there, set_after, comes_set}
 use Rattle.bdb_trans.proofs.PlaceLemmas.{from_zero}
-use Rattle.bdb_trans.proofs.SourceLemmas.{move_on, here_at, bound_has_source, IsSource, literal, column, source_is}
+use Rattle.bdb_trans.proofs.SourceLemmas.{move_on, here_at, joined_keeps, conds_keep_kinds, bound_has_source, IsSource, literal, column, source_is}
 
 -- ---- steps, one after the other
 
@@ -58,22 +59,24 @@ leads_one n w p p' x t e h = ap (λ o. placed_at_end n w o []) (e ∙ if_so t p'
 
 -- ---- walks
 
-differs : (n : ℕ) (w : ℕ → ℕ → Bool) (p : Placed) (item : ℕ) (before : Option Who) (who : Who) → ((b : Who) → before ≡ Some b → who_is_set p b ≡ true) → who_is_set p who ≡ true → Leads n w p (differ_from item before who) p
-differs n w p item None who h g = refl
-differs n w p item (Some (User i)) (User j) h g = refl
-differs n w p item (Some (User i)) (Of k) h g = leads_one n w p p (step.Differ item (User i) (Of k)) (is_among p.items k) refl g
-differs n w p item (Some (Of k)) who h g = leads_one n w p p (step.Differ item (Of k) who) (is_among p.items k && who_is_set p who) refl (and_from (is_among p.items k) (who_is_set p who) (h (Of k) refl) g)
+differs : (n : ℕ) (w : ℕ → ℕ → Bool) (p : Placed) (item : ℕ) (before : Option Who) (who : Who) → is_walked p.walk item ≡ true → ((b : Who) → before ≡ Some b → who_is_set p b ≡ true) → who_is_set p who ≡ true
+    → Leads n w p (differ_from item before who) p
+differs n w p item None who m h g = refl
+differs n w p item (Some (User i)) (User j) m h g = refl
+differs n w p item (Some (User i)) (Of k) m h g =
+    leads_one n w p p (step.Differ item (User i) (Of k)) (is_walked p.walk item && is_among p.users k) refl (and_from (is_walked p.walk item) (is_among p.users k) m g)
+differs n w p item (Some (Of k)) who m h g =
+    leads_one n w p p (step.Differ item (Of k) who) (is_walked p.walk item && (is_among p.users k && who_is_set p who)) refl
+    (and_from (is_walked p.walk item) (is_among p.users k && who_is_set p who) m (and_from (is_among p.users k) (who_is_set p who) (h (Of k) refl) g))
 
-walks : (n : ℕ) (w : ℕ → ℕ → Bool) (p : Placed) (item : ℕ) (before : Option Who) (path : List Who) → ((b : Who) → before ≡ Some b → who_is_set p b ≡ true) → list_all (who_is_set p) path ≡ true → Leads n w p (walk_from item before path) p
-walks n w p item before [] h g = refl
-walks n w p item before (who ∷ whos) h g =
+walks : (n : ℕ) (w : ℕ → ℕ → Bool) (p : Placed) (item : ℕ) (before : Option Who) (path : List Who) → is_walked p.walk item ≡ true → ((b : Who) → before ≡ Some b → who_is_set p b ≡ true) → list_all (who_is_set p) path ≡ true
+    → Leads n w p (walk_from item before path) p
+walks n w p item before [] m h g = refl
+walks n w p item before (who ∷ whos) m h g =
     let k = and_parts (who_is_set p who) (list_all (who_is_set p) whos) g in
-    leads_both n w p p p (differ_from item before who) (step.Edge item who ∷ walk_from item (Some who) whos) (differs n w p item before who h k.0)
-    (leads_first n w p p p (step.Edge item who) (walk_from item (Some who) whos) (if_so (who_is_set p who) p k.0)
-    (walks n w p item (Some who) whos (λ b e. let same : who ≡ b = cc in ap (who_is_set p) (sym same) ∙ k.0) k.1))
-
-walk_leads : (n : ℕ) (w : ℕ → ℕ → Bool) (p : Placed) (item : ℕ) (path : List Who) → list_all (who_is_set p) path ≡ true → Leads n w p (walk_of item path) p
-walk_leads n w p item path g = walks n w p item None path (λ b e. cc) g
+    leads_both n w p p p (differ_from item before who) (step.Edge item who ∷ walk_from item (Some who) whos) (differs n w p item before who m h k.0)
+    (leads_first n w p p p (step.Edge item who) (walk_from item (Some who) whos) (if_so (is_walked p.walk item && who_is_set p who) p (and_from (is_walked p.walk item) (who_is_set p who) m k.0))
+    (walks n w p item (Some who) whos m (λ b e. let same : who ≡ b = cc in ap (who_is_set p) (sym same) ∙ k.0) k.1))
 
 -- ---- tests
 
@@ -110,17 +113,91 @@ due_set rels q set at p f h = filtered (joins_one_kind rels q.items) (λ c. all_
 
 -- ---- items
 
-abbrev placed : List ℕ → Option (ℕ × ℕ) → Placed
-placed set o = record { items = set; bound = o }
+abbrev placed : List ℕ → List ℕ → Option (ℕ × ℕ) → Option ℕ → Placed
+placed users set o walk = record { users = users; items = set; bound = o; walk = walk }
+
+itself : (at : ℕ) → nat_eq at at ≡ true
+itself at = (Decides-eqb at at).1 refl
+
+or_set : (a b : Bool) → b ≡ true → (a || b) ≡ true
+or_set true b h = refl
+or_set false b h = h
+
+walk_leads : (n : ℕ) (w : ℕ → ℕ → Bool) (users set : List ℕ) (o : Option (ℕ × ℕ)) (walk : Option ℕ) (item : ℕ) (path : List Who) → item < n → list_all (who_is_set (placed users set o (Some item))) path ≡ true
+    → Leads n w (placed users set o walk) (walk_of item path) (placed users set o (Some item))
+walk_leads n w users set o walk item path within g =
+    let p = placed users set o (Some item) in
+    leads_first n w (placed users set o walk) p p (step.Start item) (walk_from item None path) (if_so (nat_lt item n) p (lt-ltb item n within)) (walks n w p item None path (itself item) (λ b e. cc) g)
+
+-- a `Users` item is at a place
+abbrev is_user_at : Query → ℕ → Bool
+is_user_at q at = is_users_item (slice_get q.items at)
+
+-- the items for which a user is chosen
+abbrev chosen : Query → List ℕ → List ℕ
+chosen q set = filter (is_user_at q) set
+
+among_chosen : (q : Query) (set : List ℕ) (k : ℕ) → is_among set k ≡ true → is_user_at q k ≡ true → is_among (chosen q set) k ≡ true
+among_chosen q [] k h g = absurd (false≢true h)
+among_chosen q (at ∷ set) k h g = elim (or_cases (nat_eq k at) (is_among set k) h) [
+  | inl m ↦ ap (λ xs. is_among xs k) (filter_kept_one (is_user_at q) at set (ap (is_user_at q) (sym (eqb-true k at m)) ∙ g)) ∙ or_left (nat_eq k at) (is_among (chosen q set) k) m
+  | inr m ↦
+      let rest = among_chosen q set k m g in
+      elim (cases_Bool (is_user_at q at)) [
+        | inl e ↦ ap (λ xs. is_among xs k) (filter_kept_one (is_user_at q) at set e) ∙ or_set (nat_eq k at) (is_among (chosen q set) k) rest
+        | inr e ↦ ap (λ xs. is_among xs k) (filter_dropped_one (is_user_at q) at set e) ∙ rest
+      ]
+]
+
+chosen_is_user : (q : Query) (set : List ℕ) (k : ℕ) → is_among (chosen q set) k ≡ true → is_user_at q k ≡ true
+chosen_is_user q [] k h = absurd (false≢true h)
+chosen_is_user q (at ∷ set) k h = elim (cases_Bool (is_user_at q at)) [
+  | inl e ↦ elim (or_cases (nat_eq k at) (is_among (chosen q set) k) (sym (ap (λ xs. is_among xs k) (filter_kept_one (is_user_at q) at set e)) ∙ h)) [
+    | inl m ↦ ap (is_user_at q) (eqb-true k at m) ∙ e
+    | inr m ↦ chosen_is_user q set k m
+  ]
+  | inr e ↦ chosen_is_user q set k (sym (ap (λ xs. is_among xs k) (filter_dropped_one (is_user_at q) at set e)) ∙ h)
+]
+
+-- a column that is there is set, once its item is
+column_set : (rels : List RelDef) (q : Query) (set : List ℕ) (o : Option (ℕ × ℕ)) (walk : Option ℕ) (r : Ref) → is_among set r.item ≡ true → is_some (column_kind rels q.items r) ≡ true
+    → is_set (placed (chosen q set) set o walk) r ≡ true
+column_set rels q set o walk r a h =
+    let p = placed (chosen q set) set o walk in
+    or_left (is_known p r) (has_bound o r) (elim (cases_Bool (is_among (chosen q set) r.item)) [
+      | inl e ↦ cond-true (is_among (chosen q set) r.item) (nat_lt r.col 2) (is_among set r.item) e ∙ two (slice_get q.items r.item) r.col (chosen_is_user q set r.item e) h
+      | inr e ↦ cond-false (is_among (chosen q set) r.item) (nat_lt r.col 2) (is_among set r.item) e ∙ a
+    ])
+  where
+    two : (o : Option Item) (col : ℕ) → is_users_item o ≡ true → is_some (option_and_then (λ item. slice_get (item_kinds rels item) col) o) ≡ true → nat_lt col 2 ≡ true
+    two None col u h = absurd (false≢true u)
+    two (Some (Rel alias rel sign path)) col u h = absurd (false≢true u)
+    two (Some (Users alias)) zero u h = refl
+    two (Some (Users alias)) (suc zero) u h = refl
+    two (Some (Users alias)) (suc (suc col)) u h = absurd (false≢true h)
 
 -- a user of a path is fixed, or among the items that are set
 abbrev pub who_among : List ℕ → Who → Bool
 who_among set (User i) = true
 who_among set (Of k) = is_among set k
 
-who_same : (set : List ℕ) (o : Option (ℕ × ℕ)) (who : Who) → who_among set who ≡ true → who_is_set (placed set o) who ≡ true
-who_same set o (User i) h = refl
-who_same set o (Of k) h = h
+-- a user of a path is fixed, or that of a `Users` item
+abbrev names_user : Query → Who → Bool
+names_user q (User i) = true
+names_user q (Of k) = is_user_at q k
+
+path_set : (q : Query) (set : List ℕ) (o : Option (ℕ × ℕ)) (walk : Option ℕ) (path : List Who) → list_all (who_among set) path ≡ true → list_all (names_user q) path ≡ true
+    → list_all (who_is_set (placed (chosen q set) set o walk)) path ≡ true
+path_set q set o walk [] h g = refl
+path_set q set o walk (who ∷ whos) h g =
+    let k = and_parts (who_among set who) (list_all (who_among set) whos) h in
+    let m = and_parts (names_user q who) (list_all (names_user q) whos) g in
+    let p = placed (chosen q set) set o walk in
+    and_from (who_is_set p who) (list_all (who_is_set p) whos) (one who k.0 m.0) (path_set q set o walk whos k.1 m.1)
+  where
+    one : (who : Who) → who_among set who ≡ true → names_user q who ≡ true → who_is_set (placed (chosen q set) set o walk) who ≡ true
+    one (User i) h g = refl
+    one (Of k) h g = among_chosen q set k h g
 
 -- what an item needs: the users of its path, and for a minus item all given items
 abbrev pub Needs : Query → List ℕ → Item → Type 0
@@ -138,138 +215,189 @@ column_within rels items r alias rel path e h =
     map_long [] = refl
     map_long (c ∷ cs) = ap suc (map_long cs)
 
-or_set : (a b : Bool) → b ≡ true → (a || b) ≡ true
-or_set true b h = refl
-or_set false b h = h
-
-new_one : (n at : ℕ) (set : List ℕ) → at < n → is_among set at ≡ false → is_new n (placed set None) at ≡ true
-new_one n at set h g = and_from (nat_lt at n) (not (is_among set at) && true) (lt-ltb at n h) (ap (λ b. not b && true) g)
-
--- one item's columns are bound
-source_set : (rels : List RelDef) (q : Query) (set : List ℕ) (o : Option (ℕ × ℕ)) → ((k : ℕ) → is_given (slice_get q.items k) ≡ true → is_among set k ≡ true) → (r : Ref) (x : Operand) → IsSource rels q r x → operand_is_set (placed set o) x ≡ true
-source_set rels q set o h r x (literal c e l j p) = lit c.right l
-  where
-    lit : (y : Operand) → is_literal y ≡ true → operand_is_set (placed set o) y ≡ true
-    lit (Col s) l = absurd (false≢true l)
-    lit (Lit v) l = refl
-source_set rels q set o h r x (column s j g) = or_left (is_among set s.item) (has_bound o s) (h s.item g)
-
-bind_leads : (n : ℕ) (w : ℕ → ℕ → Bool) (rels : List RelDef) (q : Query) (set : List ℕ) (o : Option (ℕ × ℕ)) (at col : ℕ) → ((k : ℕ) → is_given (slice_get q.items k) ≡ true → is_among set k ≡ true)
-    → comes_next n (placed set o) o at col ≡ true → is_some (source_of rels q (record { item = at; col = col })) ≡ true
-    → Leads n w (placed set o) (bind_of (record { item = at; col = col }) (source_of rels q (record { item = at; col = col }))) (placed set (Some (at, col + 1)))
-bind_leads n w rels q set o at col given next there =
-    let r : Ref = record { item = at; col = col } in
-    let src = some_is (source_of rels q r) there in
-    let set_there = source_set rels q set o given r src.0 (source_is rels q r src.0 src.1) in
-    subst (λ x. Leads n w (placed set o) (bind_of r x) (placed set (Some (at, col + 1)))) (sym src.1)
-    (leads_one n w (placed set o) (placed set (Some (at, col + 1))) (step.Bind at col src.0) (operand_is_set (placed set o) src.0 && comes_next n (placed set o) o at col) refl (and_from (operand_is_set (placed set o) src.0) (comes_next n (placed set o) o at col) set_there next))
-
-bound_next : (n : ℕ) (set : List ℕ) (at col : ℕ) → comes_next n (placed set (Some (at, col))) (Some (at, col)) at col ≡ true
-bound_next n set at col = and_from (nat_eq at at) (nat_eq col col) ((Decides-eqb at at).1 refl) ((Decides-eqb col col).1 refl)
-
-binds_lead : (n : ℕ) (w : ℕ → ℕ → Bool) (rels : List RelDef) (q : Query) (set : List ℕ) (o : Option (ℕ × ℕ)) (at col : ℕ) (c : ColDef) (cs : List ColDef) → ((k : ℕ) → is_given (slice_get q.items k) ≡ true → is_among set k ≡ true)
-    → comes_next n (placed set o) o at col ≡ true → ((k : ℕ) → k < length (c ∷ cs) → is_some (source_of rels q (record { item = at; col = col + k })) ≡ true)
-    → Leads n w (placed set o) (binds_from rels q at col (c ∷ cs)) (placed set (Some (at, col + length (c ∷ cs))))
-binds_lead n w rels q set o at col c [] given next there =
-    let r : Ref = record { item = at; col = col } in
-    let first : col + zero ≡ col = omega arith in
-    let one : col + 1 ≡ col + length (c ∷ []) = omega arith in
-    let bind = bind_leads n w rels q set o at col given next (ap (λ k. is_some (source_of rels q (record { item = at; col = k }))) (sym first) ∙ there 0 (omega arith)) in
-    leads_both n w (placed set o) (placed set (Some (at, col + 1))) (placed set (Some (at, col + length (c ∷ [])))) (bind_of r (source_of rels q r)) [] bind (ap (λ k. Some (placed set (Some (at, k)))) one)
-binds_lead n w rels q set o at col c (d ∷ ds) given next there =
-    let r : Ref = record { item = at; col = col } in
-    let first : col + zero ≡ col = omega arith in
-    let end : (col + 1) + length (d ∷ ds) ≡ col + length (c ∷ d ∷ ds) = omega arith in
-    let bind = bind_leads n w rels q set o at col given next (ap (λ k. is_some (source_of rels q (record { item = at; col = k }))) (sym first) ∙ there 0 (omega arith)) in
-    let rest = binds_lead n w rels q set (Some (at, col + 1)) at (col + 1) d ds given (bound_next n set at (col + 1)) (later col (d ∷ ds) there) in
-    leads_both n w (placed set o) (placed set (Some (at, col + 1))) (placed set (Some (at, col + length (c ∷ d ∷ ds)))) (bind_of r (source_of rels q r)) (binds_from rels q at (col + 1) (d ∷ ds)) bind
-    (rest ∙ ap (λ k. Some (placed set (Some (at, k)))) end)
-  where
-    later : (col : ℕ) (cs : List ColDef) → ((k : ℕ) → k < length (c ∷ cs) → is_some (source_of rels q (record { item = at; col = col + k })) ≡ true)
-        → (k : ℕ) → k < length cs → is_some (source_of rels q (record { item = at; col = (col + 1) + k })) ≡ true
-    later col cs h k lt =
-        let same : (col + 1) + k ≡ col + suc k = omega arith in
-        ap (λ i. is_some (source_of rels q (record { item = at; col = i }))) same ∙ h (suc k) (omega arith)
+new_one : (n at : ℕ) (users set : List ℕ) (walk : Option ℕ) → at < n → is_among set at ≡ false → is_new n (placed users set None walk) at ≡ true
+new_one n at users set walk h g = and_from (nat_lt at n) (not (is_among set at) && true) (lt-ltb at n h) (ap (λ b. not b && true) g)
 
 -- what the lemmas on items need of a catalog and a query
 pub record IsFit (rels : List RelDef) (w : ℕ → ℕ → Bool) (q : Query) : Type 0 where
-  pub valid : list_all is_valid_relation rels ≡ true
   pub whole : (rel : ℕ) → is_some (slice_get rels rel) ≡ true → w rel (length (columns_at rels rel)) ≡ true
   pub conds : list_all (joins_one_kind rels q.items) q.conds ≡ true
   pub rels_there : (i : ℕ) (alias : List ℕ) (rel : ℕ) (path : List Who) → slice_get q.items i ≡ Some (Rel alias rel Minus path) → is_some (slice_get rels rel) ≡ true
+  pub users_named : (i : ℕ) (alias : List ℕ) (rel : ℕ) (sign : Sign) (path : List Who) → slice_get q.items i ≡ Some (Rel alias rel sign path) → list_all (names_user q) path ≡ true
   pub safe : IsSafe rels q
 
-some_column : (rels : List RelDef) (rel : ℕ) → list_all is_valid_relation rels ≡ true → is_some (slice_get rels rel) ≡ true → (c : ColDef) × (cs : List ColDef) × (columns_at rels rel ≡ c ∷ cs)
-some_column rels rel v h =
-    let def = some_is (slice_get rels rel) h in
-    let ok = list_all_get is_valid_relation rels rel def.0 v def.1 in
-    let few = (and_parts (nat_lt 0 (length def.0.cols)) (nat_le (length def.0.cols) 16) (and_parts (nat_lt 0 (length def.0.cols) && nat_le (length def.0.cols) 16) _ ok).0).0 in
-    let first = by def.0.cols few in
-    (first.0, first.1, ap columns_of_definition def.1 ∙ first.2)
+-- one item's columns are bound
+source_set : (w : ℕ → ℕ → Bool) (rels : List RelDef) (q : Query) → IsFit rels w q → (set : List ℕ) (o : Option (ℕ × ℕ)) (walk : Option ℕ) → ((k : ℕ) → is_given (slice_get q.items k) ≡ true → is_among set k ≡ true)
+    → (r : Ref) (x : Operand) → is_some (column_kind rels q.items r) ≡ true → IsSource rels q r x → operand_is_set (placed (chosen q set) set o walk) x ≡ true
+source_set w rels q fit set o walk h r x there (literal c e l j p) = lit c.right l
   where
-    by : (cols : List ColDef) → nat_lt 0 (length cols) ≡ true → (c : ColDef) × (cs : List ColDef) × (cols ≡ c ∷ cs)
-    by [] h = absurd (false≢true h)
-    by (c ∷ cs) h = (c, cs, refl)
+    lit : (y : Operand) → is_literal y ≡ true → operand_is_set (placed (chosen q set) set o walk) y ≡ true
+    lit (Col s) l = absurd (false≢true l)
+    lit (Lit v) l = refl
+source_set w rels q fit set o walk h r x there (column s j g) =
+    let keeps = joined_keeps (column_kind rels q.items) q.conds (conds_keep_kinds rels q.items q.conds fit.conds) r s j in
+    column_set rels q set o walk s (h s.item g) (ap is_some (sym keeps) ∙ there)
+
+-- a column is there, and has a source
+record HasSource (rels : List RelDef) (q : Query) (r : Ref) : Type 0 where
+  there : is_some (column_kind rels q.items r) ≡ true
+  source : is_some (source_of rels q r) ≡ true
+
+bind_leads : (n : ℕ) (w : ℕ → ℕ → Bool) (rels : List RelDef) (q : Query) → IsFit rels w q → (set : List ℕ) (o : Option (ℕ × ℕ)) (walk : Option ℕ) (at col : ℕ) → ((k : ℕ) → is_given (slice_get q.items k) ≡ true → is_among set k ≡ true)
+    → comes_next n (placed (chosen q set) set o walk) o at col ≡ true → HasSource rels q (record { item = at; col = col })
+    → Leads n w (placed (chosen q set) set o walk) (bind_of (record { item = at; col = col }) (source_of rels q (record { item = at; col = col }))) (placed (chosen q set) set (Some (at, col + 1)) walk)
+bind_leads n w rels q fit set o walk at col given next has =
+    let r : Ref = record { item = at; col = col } in
+    let p = placed (chosen q set) set o walk in
+    let end = placed (chosen q set) set (Some (at, col + 1)) walk in
+    let src = some_is (source_of rels q r) has.source in
+    let set_there = source_set w rels q fit set o walk given r src.0 has.there (source_is rels q r src.0 src.1) in
+    subst (λ x. Leads n w p (bind_of r x) end) (sym src.1)
+    (leads_one n w p end (step.Bind at col src.0) (operand_is_set p src.0 && comes_next n p o at col) refl (and_from (operand_is_set p src.0) (comes_next n p o at col) set_there next))
+
+bound_next : (n : ℕ) (p : Placed) (at col : ℕ) → comes_next n p (Some (at, col)) at col ≡ true
+bound_next n p at col = and_from (nat_eq at at) (nat_eq col col) (itself at) (itself col)
+
+first_source : (rels : List RelDef) (q : Query) (at col : ℕ) → HasSource rels q (record { item = at; col = col + zero }) → HasSource rels q (record { item = at; col = col })
+first_source rels q at col h =
+    let same : col + zero ≡ col = omega arith in
+    subst (λ i. HasSource rels q (record { item = at; col = i })) same h
+
+later_source : (rels : List RelDef) (q : Query) (at col k : ℕ) → HasSource rels q (record { item = at; col = col + suc k }) → HasSource rels q (record { item = at; col = (col + 1) + k })
+later_source rels q at col k h =
+    let same : col + suc k ≡ (col + 1) + k = omega arith in
+    subst (λ i. HasSource rels q (record { item = at; col = i })) same h
+
+binds_lead : (n : ℕ) (w : ℕ → ℕ → Bool) (rels : List RelDef) (q : Query) → IsFit rels w q → (set : List ℕ) (o : Option (ℕ × ℕ)) (walk : Option ℕ) (at col : ℕ) (c : ColDef) (cs : List ColDef)
+    → ((k : ℕ) → is_given (slice_get q.items k) ≡ true → is_among set k ≡ true) → comes_next n (placed (chosen q set) set o walk) o at col ≡ true → ((k : ℕ) → k < length (c ∷ cs) → HasSource rels q (record { item = at; col = col + k }))
+    → Leads n w (placed (chosen q set) set o walk) (binds_from rels q at col (c ∷ cs)) (placed (chosen q set) set (Some (at, col + length (c ∷ cs))) walk)
+binds_lead n w rels q fit set o walk at col c [] given next has =
+    let r : Ref = record { item = at; col = col } in
+    let us = chosen q set in
+    let one : col + 1 ≡ col + length (c ∷ []) = omega arith in
+    let bind = bind_leads n w rels q fit set o walk at col given next (first_source rels q at col (has 0 (omega arith))) in
+    leads_both n w (placed us set o walk) (placed us set (Some (at, col + 1)) walk) (placed us set (Some (at, col + length (c ∷ []))) walk) (bind_of r (source_of rels q r)) [] bind (ap (λ k. Some (placed us set (Some (at, k)) walk)) one)
+binds_lead n w rels q fit set o walk at col c (d ∷ ds) given next has =
+    let r : Ref = record { item = at; col = col } in
+    let us = chosen q set in
+    let more = placed us set (Some (at, col + 1)) walk in
+    let end : (col + 1) + length (d ∷ ds) ≡ col + length (c ∷ d ∷ ds) = omega arith in
+    let bind = bind_leads n w rels q fit set o walk at col given next (first_source rels q at col (has 0 (omega arith))) in
+    let rest = binds_lead n w rels q fit set (Some (at, col + 1)) walk at (col + 1) d ds given (bound_next n more at (col + 1)) (λ k lt. later_source rels q at col k (has (suc k) (omega arith))) in
+    leads_both n w (placed us set o walk) more (placed us set (Some (at, col + length (c ∷ d ∷ ds))) walk) (bind_of r (source_of rels q r)) (binds_from rels q at (col + 1) (d ∷ ds)) bind
+    (rest ∙ ap (λ k. Some (placed us set (Some (at, k)) walk)) end)
 
 column_at_there : (cols : List ColDef) (k : ℕ) → k < length cols → is_some (slice_get (map (λ c. c.kind) cols) k) ≡ true
 column_at_there [] k h = absurd (omega arith)
 column_at_there (c ∷ cs) zero h = refl
 column_at_there (c ∷ cs) (suc k) h = column_at_there cs k (omega arith)
 
--- all columns of a minus item are bound
-minus_binds : (n : ℕ) (w : ℕ → ℕ → Bool) (rels : List RelDef) (q : Query) → IsFit rels w q → (set : List ℕ) (at : ℕ) (alias : List ℕ) (rel : ℕ) (path : List Who) → at < n → is_among set at ≡ false
-    → slice_get q.items at ≡ Some (Rel alias rel Minus path) → Needs q set (Rel alias rel Minus path)
-    → Leads n w (placed set None) (binds_from rels q at 0 (columns_at rels rel)) (placed set (Some (at, length (columns_at rels rel))))
-minus_binds n w rels q fit set at alias rel path within apart e needs =
-    let cols = some_column rels rel fit.valid (fit.rels_there at alias rel path e) in
-    let start : comes_next n (placed set None) None at 0 ≡ true = and_from (is_new n (placed set None) at) true (new_one n at set within apart) refl in
-    let zero_more : 0 + length (columns_at rels rel) ≡ length (columns_at rels rel) = omega arith in
-    subst (λ cs. Leads n w (placed set None) (binds_from rels q at 0 cs) (placed set (Some (at, length cs)))) (sym cols.2)
-    (binds_lead n w rels q set None at 0 cols.0 cols.1 needs.1 start (λ k lt. source k (subst (λ cs. k < length cs) (sym cols.2) lt)) ∙ ap (λ k. Some (placed set (Some (at, k)))) (from_nothing (length (cols.0 ∷ cols.1))))
-  where
-    from_nothing : (k : ℕ) → 0 + k ≡ k
-    from_nothing k = omega arith
+-- what is bound of an item once each of these columns is
+abbrev all_bound : ℕ → List ColDef → Option (ℕ × ℕ)
+all_bound at [] = None
+all_bound at (c ∷ cs) = Some (at, length (c ∷ cs))
 
-    source : (k : ℕ) → k < length (columns_at rels rel) → is_some (source_of rels q (record { item = at; col = 0 + k })) ≡ true
-    source k lt =
+from_nothing : (k : ℕ) → 0 + k ≡ k
+from_nothing k = omega arith
+
+-- all columns of a minus item are bound
+minus_binds : (n : ℕ) (w : ℕ → ℕ → Bool) (rels : List RelDef) (q : Query) → IsFit rels w q → (set : List ℕ) (walk : Option ℕ) (at : ℕ) (alias : List ℕ) (rel : ℕ) (path : List Who) → at < n → is_among set at ≡ false
+    → slice_get q.items at ≡ Some (Rel alias rel Minus path) → Needs q set (Rel alias rel Minus path)
+    → Leads n w (placed (chosen q set) set None walk) (binds_from rels q at 0 (columns_at rels rel)) (placed (chosen q set) set (all_bound at (columns_at rels rel)) walk)
+minus_binds n w rels q fit set walk at alias rel path within apart e needs = by (columns_at rels rel) has
+  where
+    by : (cols : List ColDef) → ((k : ℕ) → k < length cols → HasSource rels q (record { item = at; col = 0 + k }))
+        → Leads n w (placed (chosen q set) set None walk) (binds_from rels q at 0 cols) (placed (chosen q set) set (all_bound at cols) walk)
+    by [] h = refl
+    by (c ∷ cs) h =
+        let p = placed (chosen q set) set None walk in
+        let start : comes_next n p None at 0 ≡ true = and_from (is_new n p at) true (new_one n at (chosen q set) set walk within apart) refl in
+        binds_lead n w rels q fit set None walk at 0 c cs needs.1 start h ∙ ap (λ k. Some (placed (chosen q set) set (Some (at, k)) walk)) (from_nothing (length (c ∷ cs)))
+
+    has : (k : ℕ) → k < length (columns_at rels rel) → HasSource rels q (record { item = at; col = 0 + k })
+    has k lt =
         let r : Ref = record { item = at; col = 0 + k } in
         let there : is_some (column_kind rels q.items r) ≡ true = ap (λ o. is_some (option_and_then (λ item. slice_get (item_kinds rels item) (0 + k)) o)) e ∙ column_at_there (columns_at rels rel) (0 + k) (subst (λ i. i < length (columns_at rels rel)) (sym (from_nothing k)) lt) in
-        bound_has_source rels q fit.conds (fit.safe r (record { minus = ap is_minus e; there = there })) there
+        record { there = there; source = bound_has_source rels q fit.conds (fit.safe r (record { minus = ap is_minus e; there = there })) there }
 
-item_leads : (n : ℕ) (w : ℕ → ℕ → Bool) (rels : List RelDef) (q : Query) → IsFit rels w q → (set : List ℕ) (at : ℕ) (item : Item) → at < n → is_among set at ≡ false → slice_get q.items at ≡ Some item → Needs q set item
-    → Leads n w (placed set None) (item_steps rels q set at (Some item)) (placed (at ∷ set) None)
-item_leads n w rels q fit set at (Users alias) within apart e needs =
-    let p = placed (at ∷ set) None in
-    let tests = tests_lead n w p (due set at q.conds) (due_set rels q set at p fit.conds (λ r a k. or_left (is_among (at ∷ set) r.item) false a)) in
-    leads_both n w (placed set None) p p (step.User at ∷ []) (map step.Test (due set at q.conds) ++ [])
-    (leads_one n w (placed set None) p (step.User at) (is_new n (placed set None) at) refl (new_one n at set within apart))
-    (leads_both n w p p p (map step.Test (due set at q.conds)) [] tests refl)
-item_leads n w rels q fit set at (Rel alias rel Plus path) within apart e needs =
-    let p = placed (at ∷ set) None in
-    let tests = tests_lead n w p (due set at q.conds) (due_set rels q set at p fit.conds (λ r a k. or_left (is_among (at ∷ set) r.item) false a)) in
-    leads_both n w (placed set None) p p (walk_of at path ++ (step.Pos at rel ∷ [])) (map step.Test (due set at q.conds) ++ [])
-    (leads_both n w (placed set None) (placed set None) p (walk_of at path) (step.Pos at rel ∷ []) (walk_leads n w (placed set None) at path (list_all_weaker (who_among set) (who_is_set (placed set None)) (who_same set None) path needs))
-    (leads_one n w (placed set None) p (step.Pos at rel) (is_new n (placed set None) at) refl (new_one n at set within apart)))
-    (leads_both n w p p p (map step.Test (due set at q.conds)) [] tests refl)
-item_leads n w rels q fit set at (Rel alias rel Minus path) within apart e needs =
-    let size = length (columns_at rels rel) in
-    let b = placed set (Some (at, size)) in
-    let end = placed (at ∷ set) None in
-    let binds = minus_binds n w rels q fit set at alias rel path within apart e needs in
+-- once all columns of a minus item are bound, each column of it is set, and it is whole
+column_bound : (users set : List ℕ) (walk : Option ℕ) (at : ℕ) (cols : List ColDef) (r : Ref) → nat_eq r.item at ≡ true → r.col < length cols → is_set (placed users set (all_bound at cols) walk) r ≡ true
+column_bound users set walk at [] r m lt = absurd (omega arith)
+column_bound users set walk at (c ∷ cs) r m lt =
+    let p = placed users set (all_bound at (c ∷ cs)) walk in
+    or_set (is_known p r) (nat_eq r.item at && nat_lt r.col (length (c ∷ cs))) (and_from (nat_eq r.item at) (nat_lt r.col (length (c ∷ cs))) m (lt-ltb r.col (length (c ∷ cs)) lt))
+
+all_whole : (n : ℕ) (w : ℕ → ℕ → Bool) (users set : List ℕ) (walk : Option ℕ) (at rel : ℕ) (cols : List ColDef) → at < n → is_among set at ≡ false → w rel (length cols) ≡ true
+    → is_whole n w (placed users set (all_bound at cols) walk) (all_bound at cols) at rel ≡ true
+all_whole n w users set walk at rel [] within apart h = and_from (is_new n (placed users set None walk) at) (w rel 0) (new_one n at users set walk within apart) h
+all_whole n w users set walk at rel (c ∷ cs) within apart h = and_from (nat_eq at at) (w rel (length (c ∷ cs))) (itself at) h
+
+-- steps lead from where some items are set to where others are, whichever walk is left
+abbrev LeadsOn : ℕ → (ℕ → ℕ → Bool) → Query → List ℕ → Option ℕ → List Step → List ℕ → Type 0
+LeadsOn n w q set walk xs more = (left : Option ℕ) × Leads n w (placed (chosen q set) set None walk) xs (placed (chosen q more) more None left)
+
+due_lead : (n : ℕ) (w : ℕ → ℕ → Bool) (rels : List RelDef) (q : Query) → IsFit rels w q → (set : List ℕ) (at : ℕ) (walk : Option ℕ)
+    → Leads n w (placed (chosen q (at ∷ set)) (at ∷ set) None walk) (map step.Test (due set at q.conds) ++ []) (placed (chosen q (at ∷ set)) (at ∷ set) None walk)
+due_lead n w rels q fit set at walk =
+    let p = placed (chosen q (at ∷ set)) (at ∷ set) None walk in
+    leads_both n w p p p (map step.Test (due set at q.conds)) [] (tests_lead n w p (due set at q.conds) (due_set rels q set at p fit.conds (λ r a k. column_set rels q (at ∷ set) None walk r a k))) refl
+
+-- of an item that is no `Users` item no user is chosen
+none_chosen : (q : Query) (set : List ℕ) (at : ℕ) (alias : List ℕ) (rel : ℕ) (sign : Sign) (path : List Who) → slice_get q.items at ≡ Some (Rel alias rel sign path) → chosen q set ≡ chosen q (at ∷ set)
+none_chosen q set at alias rel sign path e = sym (filter_dropped_one (is_user_at q) at set (ap is_users_item e))
+
+item_leads : (n : ℕ) (w : ℕ → ℕ → Bool) (rels : List RelDef) (q : Query) → IsFit rels w q → (set : List ℕ) (walk : Option ℕ) (at : ℕ) (item : Item) → at < n → is_among set at ≡ false → slice_get q.items at ≡ Some item → Needs q set item
+    → LeadsOn n w q set walk (item_steps rels q set at (Some item)) (at ∷ set)
+item_leads n w rels q fit set walk at (Users alias) within apart e needs =
+    let p = placed (chosen q set) set None walk in
+    let end = placed (chosen q (at ∷ set)) (at ∷ set) None walk in
+    let test = is_new n p at in
+    let same : placed_if test (with_user p at) ≡ placed_if test end = ap (λ us. placed_if test (placed us (at ∷ set) None walk)) (sym (filter_kept_one (is_user_at q) at set (ap is_users_item e))) in (
+      walk,
+      leads_both n w p end end (step.User at ∷ []) (map step.Test (due set at q.conds) ++ [])
+          (leads_one n w p end (step.User at) test same (new_one n at (chosen q set) set walk within apart))
+          (due_lead n w rels q fit set at walk),
+    )
+item_leads n w rels q fit set walk at (Rel alias rel Plus path) within apart e needs =
+    let us = chosen q set in
+    let p = placed us set None walk in
+    let walked = placed us set None (Some at) in
+    let end = placed (chosen q (at ∷ set)) (at ∷ set) None (Some at) in
+    let test = nat_eq at at && is_new n walked at in
+    let same : placed_if test (with_tuple walked at) ≡ placed_if test end = ap (λ xs. placed_if test (placed xs (at ∷ set) None (Some at))) (none_chosen q set at alias rel Plus path e) in
+    let path_there = path_set q set None (Some at) path needs (fit.users_named at alias rel Plus path e) in (
+      Some at,
+      leads_both n w p end end (walk_of at path ++ (step.Pos at rel ∷ [])) (map step.Test (due set at q.conds) ++ [])
+          (leads_both n w p walked end (walk_of at path) (step.Pos at rel ∷ []) (walk_leads n w us set None walk at path within path_there)
+          (leads_one n w walked end (step.Pos at rel) test same (and_from (nat_eq at at) (is_new n walked at) (itself at) (new_one n at us set (Some at) within apart))))
+          (due_lead n w rels q fit set at (Some at)),
+    )
+item_leads n w rels q fit set walk at (Rel alias rel Minus path) within apart e needs =
+    let cols = columns_at rels rel in
+    let us = chosen q set in
+    let o = all_bound at cols in
+    let p = placed us set None walk in
+    let b = placed us set o walk in
+    let walked = placed us set o (Some at) in
+    let end = placed (chosen q (at ∷ set)) (at ∷ set) None (Some at) in
+    let whole = is_whole n w walked o at rel in
+    let test = nat_eq at at && whole in
+    let same : placed_if test (with_all_bound walked at) ≡ placed_if test end = ap (λ xs. placed_if test (placed xs (at ∷ set) None (Some at))) (none_chosen q set at alias rel Minus path e) in
+    let binds = minus_binds n w rels q fit set walk at alias rel path within apart e needs in
     let tests = tests_lead n w b (due set at q.conds) (due_set rels q set at b fit.conds there) in
-    let whole : is_whole w (Some (at, size)) at rel ≡ true = and_from (nat_eq at at) (w rel size) ((Decides-eqb at at).1 refl) (fit.whole rel (fit.rels_there at alias rel path e)) in
-    leads_both n w (placed set None) b end (binds_from rels q at 0 (columns_at rels rel)) (map step.Test (due set at q.conds) ++ (walk_of at path ++ (step.Neg at rel ∷ []))) binds
-    (leads_both n w b b end (map step.Test (due set at q.conds)) (walk_of at path ++ (step.Neg at rel ∷ [])) tests
-    (leads_both n w b b end (walk_of at path) (step.Neg at rel ∷ []) (walk_leads n w b at path (list_all_weaker (who_among set) (who_is_set b) (who_same set (Some (at, size))) path needs.0))
-    (leads_one n w b end (step.Neg at rel) (is_whole w (Some (at, size)) at rel) refl whole)))
+    let path_there = path_set q set o (Some at) path needs.0 (fit.users_named at alias rel Minus path e) in
+    let is_there : whole ≡ true = all_whole n w us set (Some at) at rel cols within apart (fit.whole rel (fit.rels_there at alias rel path e)) in (
+      Some at,
+      leads_both n w p b end (binds_from rels q at 0 cols) (map step.Test (due set at q.conds) ++ (walk_of at path ++ (step.Neg at rel ∷ []))) binds
+          (leads_both n w b b end (map step.Test (due set at q.conds)) (walk_of at path ++ (step.Neg at rel ∷ [])) tests
+          (leads_both n w b walked end (walk_of at path) (step.Neg at rel ∷ []) (walk_leads n w us set o walk at path within path_there)
+          (leads_one n w walked end (step.Neg at rel) test same (and_from (nat_eq at at) whole (itself at) is_there)))),
+    )
   where
-    there : (r : Ref) → is_among (at ∷ set) r.item ≡ true → is_some (column_kind rels q.items r) ≡ true → is_set (placed set (Some (at, length (columns_at rels rel)))) r ≡ true
+    there : (r : Ref) → is_among (at ∷ set) r.item ≡ true → is_some (column_kind rels q.items r) ≡ true → is_set (placed (chosen q set) set (all_bound at (columns_at rels rel)) walk) r ≡ true
     there r a k = elim (or_cases (nat_eq r.item at) (is_among set r.item) a) [
-      | inl m ↦
-          let same : r.item ≡ at = eqb-true r.item at m in
-          let col = column_within rels q.items r alias rel path (ap (slice_get q.items) same ∙ e) k in
-          or_set (is_among set r.item) (nat_eq r.item at && nat_lt r.col (length (columns_at rels rel))) (and_from (nat_eq r.item at) (nat_lt r.col (length (columns_at rels rel))) m (lt-ltb r.col (length (columns_at rels rel)) col))
-      | inr m ↦ or_left (is_among set r.item) (has_bound (Some (at, length (columns_at rels rel))) r) m
+      | inl m ↦ column_bound (chosen q set) set walk at (columns_at rels rel) r m (column_within rels q.items r alias rel path (ap (slice_get q.items) (eqb-true r.item at m) ∙ e) k)
+      | inr m ↦ column_set rels q set (all_bound at (columns_at rels rel)) walk r m k
     ]
 
 -- ---- the order of items
@@ -279,16 +407,19 @@ abbrev pub OrderFits : Query → List ℕ → List ℕ → Type 0
 OrderFits q set [] = Unit {0}
 OrderFits q set (at ∷ order) = ((item : Item) × (slice_get q.items at ≡ Some item) × (is_among set at ≡ false) × Needs q set item) × OrderFits q (at ∷ set) order
 
-order_leads : (w : ℕ → ℕ → Bool) (rels : List RelDef) (q : Query) → IsFit rels w q → (set order : List ℕ) → OrderFits q set order
-    → Leads (length q.items) w (placed set None) (steps_from rels q set order) (placed (set_after set order) None)
-order_leads w rels q fit set [] h = refl
-order_leads w rels q fit set (at ∷ order) h =
+order_leads : (w : ℕ → ℕ → Bool) (rels : List RelDef) (q : Query) → IsFit rels w q → (set order : List ℕ) (walk : Option ℕ) → OrderFits q set order
+    → LeadsOn (length q.items) w q set walk (steps_from rels q set order) (set_after set order)
+order_leads w rels q fit set [] walk h = (walk, refl)
+order_leads w rels q fit set (at ∷ order) walk h =
     let n = length q.items in
     let (item, is, apart, needs) = h.0 in
-    let one : Leads n w (placed set None) (item_steps rels q set at (slice_get q.items at)) (placed (at ∷ set) None) =
-    subst (λ o. Leads n w (placed set None) (item_steps rels q set at o) (placed (at ∷ set) None)) (sym is) (item_leads n w rels q fit set at item (slice_get_within q.items at item is) apart is needs) in
-    leads_both n w (placed set None) (placed (at ∷ set) None) (placed (set_after set (at ∷ order)) None) (item_steps rels q set at (slice_get q.items at)) (steps_from rels q (at ∷ set) order) one
-    (order_leads w rels q fit (at ∷ set) order h.1)
+    let one : LeadsOn n w q set walk (item_steps rels q set at (slice_get q.items at)) (at ∷ set) =
+    subst (λ o. LeadsOn n w q set walk (item_steps rels q set at o) (at ∷ set)) (sym is) (item_leads n w rels q fit set walk at item (slice_get_within q.items at item is) apart is needs) in
+    let rest = order_leads w rels q fit (at ∷ set) order one.0 h.1 in
+    let p = placed (chosen q set) set None walk in
+    let more = placed (chosen q (at ∷ set)) (at ∷ set) None one.0 in
+    let end = placed (chosen q (set_after set (at ∷ order))) (set_after set (at ∷ order)) None rest.0 in
+    (rest.0, leads_both n w p more end (item_steps rels q set at (slice_get q.items at)) (steps_from rels q (at ∷ set) order) one.1 rest.1)
 
 -- the item at a place passes
 abbrev passes : (Item → Bool) → Option Item → Bool
@@ -467,28 +598,52 @@ order_fits catalog q f =
 
 -- ---- the whole plan
 
-pub query_is_fit : (w : ℕ → ℕ → Bool) (catalog : Catalog) (q : Query) → list_all is_valid_relation catalog.rels ≡ true
+query_is_fit : (w : ℕ → ℕ → Bool) (catalog : Catalog) (q : Query)
     → ((rel : ℕ) → is_some (slice_get catalog.rels rel) ≡ true → w rel (length (columns_at catalog.rels rel)) ≡ true)
     → list_all (item_fits catalog q.items) q.items ≡ true → list_all (joins_one_kind catalog.rels q.items) q.conds ≡ true → IsSafe catalog.rels q → IsFit catalog.rels w q
-query_is_fit w catalog q valid whole items conds safe = record {
-  valid = valid;
+query_is_fit w catalog q whole items conds safe = record {
   whole = whole;
   conds = conds;
-  rels_there = λ i alias rel path e. (and_parts (is_some (slice_get catalog.rels rel)) (list_all (who_fits catalog.users q.items) path && fixed_differ path) (path_fits catalog q.items items i (Rel alias rel Minus path) e)).0;
+  rels_there = λ i alias rel path e. (parts i alias rel Minus path e).0;
+  users_named = λ i alias rel sign path e.
+      list_all_weaker (who_fits catalog.users q.items) (names_user q) named path (and_parts (list_all (who_fits catalog.users q.items) path) (fixed_differ path) (parts i alias rel sign path e).1).0;
   safe = safe;
 }
+  where
+    parts : (i : ℕ) (alias : List ℕ) (rel : ℕ) (sign : Sign) (path : List Who) → slice_get q.items i ≡ Some (Rel alias rel sign path)
+        → (is_some (slice_get catalog.rels rel) ≡ true) × (list_all (who_fits catalog.users q.items) path && fixed_differ path ≡ true)
+    parts i alias rel sign path e = and_parts (is_some (slice_get catalog.rels rel)) (list_all (who_fits catalog.users q.items) path && fixed_differ path) (path_fits catalog q.items items i (Rel alias rel sign path) e)
 
-pub plan_is_fit : (w : ℕ → ℕ → Bool) (catalog : Catalog) (q : Query) → list_all is_valid_relation catalog.rels ≡ true
+    named : (who : Who) → who_fits catalog.users q.items who ≡ true → names_user q who ≡ true
+    named (User i) h = refl
+    named (Of k) h = h
+
+pub plan_is_fit : (w : ℕ → ℕ → Bool) (catalog : Catalog) (q : Query)
     → ((rel : ℕ) → is_some (slice_get catalog.rels rel) ≡ true → w rel (length (columns_at catalog.rels rel)) ≡ true) → query_fits catalog q ≡ true → IsSafe catalog.rels q
     → fits_from (length q.items) w q.take (Some at_first) (steps_from catalog.rels q [] (order_of q.items)) ≡ true
-plan_is_fit w catalog q valid whole fits safe =
+plan_is_fit w catalog q whole fits safe =
     let rels = catalog.rels in
     let few = and_parts (nat_lt (length q.items) (2 ^ 32)) (list_all (λ def. nat_lt (length def.cols) (2 ^ 32)) rels && (list_all (item_fits catalog q.items) q.items && (list_all (λ r. is_some (column_kind rels q.items r)) q.take && list_all (joins_one_kind rels q.items) q.conds))) fits in
     let columns = and_parts (list_all (λ def. nat_lt (length def.cols) (2 ^ 32)) rels) (list_all (item_fits catalog q.items) q.items && (list_all (λ r. is_some (column_kind rels q.items r)) q.take && list_all (joins_one_kind rels q.items) q.conds)) few.1 in
     let items = and_parts (list_all (item_fits catalog q.items) q.items) (list_all (λ r. is_some (column_kind rels q.items r)) q.take && list_all (joins_one_kind rels q.items) q.conds) columns.1 in
     let rest = and_parts (list_all (λ r. is_some (column_kind rels q.items r)) q.take) (list_all (joins_one_kind rels q.items) q.conds) items.1 in
-    let fit = query_is_fit w catalog q valid whole items.0 rest.1 safe in
+    let fit = query_is_fit w catalog q whole items.0 rest.1 safe in
     let order = order_of q.items in
-    let end = placed (set_after [] order) None in
-    ap (takes_set q.take) (order_leads w rels q fit [] order (order_fits catalog q items.0))
-    ∙ list_all_weaker (λ r. is_some (column_kind rels q.items r)) (is_set end) (λ r e. or_left (is_among (set_after [] order) r.item) false (comes_set [] order r.item (there_in_order rels q.items r e))) q.take rest.0
+    let end = set_after [] order in
+    let leads = order_leads w rels q fit [] order None (order_fits catalog q items.0) in
+    ap (takes_set q.take) leads.1
+    ∙ list_all_weaker (λ r. is_some (column_kind rels q.items r)) (is_set (placed (chosen q end) end None leads.0)) (λ r e. column_set rels q end None leads.0 r (comes_set [] order r.item (there_in_order rels q.items r e)) e) q.take rest.0
+
+-- ---- relations of a valid catalog
+
+pub some_column : (rels : List RelDef) (rel : ℕ) → list_all is_valid_relation rels ≡ true → is_some (slice_get rels rel) ≡ true → (c : ColDef) × (cs : List ColDef) × (columns_at rels rel ≡ c ∷ cs)
+some_column rels rel v h =
+    let def = some_is (slice_get rels rel) h in
+    let ok = list_all_get is_valid_relation rels rel def.0 v def.1 in
+    let few = (and_parts (nat_lt 0 (length def.0.cols)) (nat_le (length def.0.cols) 16) (and_parts (nat_lt 0 (length def.0.cols) && nat_le (length def.0.cols) 16) _ ok).0).0 in
+    let first = by def.0.cols few in
+    (first.0, first.1, ap columns_of_definition def.1 ∙ first.2)
+  where
+    by : (cols : List ColDef) → nat_lt 0 (length cols) ≡ true → (c : ColDef) × (cs : List ColDef) × (cols ≡ c ∷ cs)
+    by [] h = absurd (false≢true h)
+    by (c ∷ cs) h = (c, cs, refl)

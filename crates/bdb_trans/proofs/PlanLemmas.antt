@@ -1,12 +1,15 @@
 -- The plan of a query means the query's answers.
-use Rattle.std.proofs.Common.{◌≡◌, ◌∙◌, ℕ, Bool, true, List, Some, refl, ap, length}
-use Rattle.std.specs.List.{list_all}
+use Rattle.std.proofs.Common.{◌≡◌, ◌∙◌, ℕ, suc, ◌<◌, Bool, true, List, Some, refl, ap, length, nat_eq, nat_lt, arith}
+use Rattle.std.specs.List.{slice_get}
+use Rattle.std.specs.Option.{is_some}
+use Rattle.std.proofs.lemmas.Bool.{and_from, lt-ltb}
 use Rattle.std.proofs.lemmas.Bool.Decides.{Decides-eqb}
 use Rattle.bdb_base.specs.declared.kinds.Catalog.{Catalog}
 use Rattle.bdb_base.specs.declared.kinds.Query.{Query}
 use Rattle.bdb_base.specs.declared.kinds.Ref.{Ref}
 use Rattle.bdb_base.specs.declared.kinds.Value.{Value}
-use Rattle.bdb_base.specs.Bases.{Contents, IsValid, is_valid_relation}
+use Rattle.bdb_base.specs.Bases.{Contents, IsValid}
+use Rattle.bdb_base.specs.Queries.{columns_at}
 use Rattle.bdb_base.specs.Safety.{query_fits, IsSafe}
 use Rattle.bdb_queries.specs.QueryLaws.{IsHeldRow}
 use Rattle.bdb_queries.proofs.DomainLemmas.{answers_are_what_holds}
@@ -20,7 +23,7 @@ use Rattle.bdb_plan.specs.Shown.{Shows}
 use Rattle.bdb_plan.specs.Sight.{Sight}
 use Rattle.bdb_plan.proofs.RunLemmas.{meaning_are_choices}
 use Rattle.bdb_trans.specs.TransLaws.{PlansMeanAnswers, PlansFitSights}
-use Rattle.bdb_trans.proofs.FitLemmas.{plan_is_fit}
+use Rattle.bdb_trans.proofs.FitLemmas.{plan_is_fit, some_column}
 use Rattle.bdb_trans.proofs.HoldLemmas.{slots_from_steps, steps_from_slots}
 
 -- the rows of the plan's choices are those of the query's slots
@@ -42,7 +45,15 @@ held_row_planned b sight number s valid q fits row h =
 pub plans_fit_sights : PlansFitSights
 unfolding plan_steps
 plans_fit_sights b sight number q valid s fits safe =
-    plan_is_fit (at_width sight.width) b.catalog q valid.catalog.rels_valid (λ rel there. (Decides-eqb (sight.width rel) _).1 (s.width rel)) fits safe
+    plan_is_fit (at_width sight.width) b.catalog q whole fits safe
+  where
+    whole : (rel : ℕ) → is_some (slice_get b.catalog.rels rel) ≡ true → at_width sight.width rel (length (columns_at b.catalog.rels rel)) ≡ true
+    whole rel there =
+        let cols = columns_at b.catalog.rels rel in
+        let some = some_column b.catalog.rels rel valid.catalog.rels_valid there in
+        let long : length cols ≡ suc (length some.1) = ap length some.2 in
+        let more : 0 < length cols = omega arith in
+        and_from (nat_lt 0 (length cols)) (nat_eq (sight.width rel) (length cols)) (lt-ltb 0 (length cols) more) ((Decides-eqb (sight.width rel) (length cols)).1 (s.width rel))
 
 pub plans_mean_answers : PlansMeanAnswers
 plans_mean_answers b sight number q valid s fits safe =
@@ -53,10 +64,10 @@ plans_mean_answers b sight number q valid s fits safe =
     (λ row h. (are.members row).1 (held_row_planned b sight number s valid q fits row h))
 
 -- the plan of a query uses only what is set
-pub uses_only_set : (catalog : Catalog) (q : Query) (items : ℕ) (steps : List Step) (take : List Ref) → list_all is_valid_relation catalog.rels ≡ true → query_fits catalog q ≡ true → IsSafe catalog.rels q
+pub uses_only_set : (catalog : Catalog) (q : Query) (items : ℕ) (steps : List Step) (take : List Ref) → query_fits catalog q ≡ true → IsSafe catalog.rels q
     → items ≡ length q.items → steps ≡ plan_steps catalog.rels q → take ≡ q.take → UsesOnlySet items steps take
 unfolding plan_steps
-uses_only_set catalog q items steps take valid fits safe i s t =
+uses_only_set catalog q items steps take fits safe i s t =
     let w : ℕ → ℕ → Bool = λ rel k. true in
     ap (λ n. fits_from n w take (Some at_first) steps) i ∙ ap (λ x. fits_from (length q.items) w take (Some at_first) x) s ∙ ap (λ x. fits_from (length q.items) w x (Some at_first) (plan_steps catalog.rels q)) t
-    ∙ plan_is_fit w catalog q valid (λ rel there. refl) fits safe
+    ∙ plan_is_fit w catalog q (λ rel there. refl) fits safe

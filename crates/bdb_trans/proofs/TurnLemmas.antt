@@ -1,10 +1,11 @@
 -- Steps of loops, and names of columns.
-use Rattle.std.proofs.Common.{◌≡◌, ◌∙◌, ℕ, suc, ◌+◌, ◌<◌, ◌≤◌, Bool, true, ◌&&◌, nat_lt, nat_le, List, [], ◌∷◌, ◌++◌, Option, None, Some, refl, ap, sym, subst, length, drop, get_or, cond, find, arith, append_assoc, inl, inr, map}
+use Rattle.std.proofs.Common.{◌≡◌, ◌∙◌, ℕ, suc, ◌+◌, ◌<◌, ◌≤◌, ◌^◌, Bool, true, ◌&&◌, nat_lt, List, [], ◌∷◌, ◌++◌, Option, None, Some, refl, ap, sym, subst, length, drop, get_or, cond, find, arith, append_assoc, inl, inr, map}
 use Prim.Native.Nat.{zero}
 use Rattle.std.specs.List.{list_all, slice_get, flat_map}
 use Rattle.std.specs.Option.{option_map}
-use Rattle.std.proofs.lemmas.Bool.{cases_Bool, cond-true, cond-false, and_parts, leb-true}
+use Rattle.std.proofs.lemmas.Bool.{cases_Bool, cond-true, cond-false, and_parts, ltb-true}
 use Rattle.std.proofs.lemmas.List.{drop_more}
+use Rattle.bdb_base.specs.declared.kinds.Catalog.{Catalog}
 use Rattle.bdb_base.specs.declared.kinds.Cmp.{Cmp}
 use Rattle.bdb_base.specs.declared.kinds.Cmp.TheVariants.{Eq, Ne, Lt, Le, Gt, Ge}
 use Rattle.bdb_base.specs.declared.kinds.Cond.{Cond}
@@ -15,9 +16,8 @@ use Rattle.bdb_base.specs.declared.kinds.Query.{Query}
 use Rattle.bdb_base.specs.declared.kinds.Ref.{Ref}
 use Rattle.bdb_base.specs.declared.kinds.RelDef.{RelDef}
 use Rattle.bdb_base.specs.declared.kinds.Who.{Who}
-use Rattle.bdb_base.specs.Bases.{is_valid_relation}
 use Rattle.bdb_base.specs.Queries.{columns_at, columns_of_definition}
-use Rattle.bdb_base.specs.Safety.{is_equality, is_literal, same_column}
+use Rattle.bdb_base.specs.Safety.{is_equality, is_literal, same_column, query_fits}
 use Rattle.bdb_base.proofs.ListLemmas.{list_all_get, filter_kept_one, filter_dropped_one}
 use Rattle.bdb_queries.proofs.RangeLemmas.{same_column_is}
 use Rattle.bdb_plan.specs.declared.step.Step.{Step}
@@ -25,7 +25,7 @@ use Rattle.bdb_plan.specs.declared.step.Step.TheVariants as step
 use Rattle.bdb_plan.specs.PlanOf.{differ_from, walk_from, setting, denying, due, item_steps}
 use Rattle.bdb_plan.specs.Sources.{renamed, renamed_by, stands_for, joined, pins_chain, given_columns, first_there, source_of}
 use Rattle.bdb_trans.specs.Steps.{is_due, due_step}
-use Rattle.bdb_trans.specs.Names.{named, AreNames, TakesIn, has_name, pins_name, source_by_names}
+use Rattle.bdb_trans.specs.Names.{can_number_columns, named, AreNames, TakesIn, has_name, pins_name, source_by_names}
 
 -- one more user of a path
 pub walk_turn : (item : ℕ) (before : Option Who) (path : List Who) (i : ℕ) (who : Who) → i < length path → who ≡ get_or path i who
@@ -54,13 +54,17 @@ due_are_each set at (c ∷ cs) = elim (cases_Bool (is_due set at c)) [
       ∙ ap (λ xs. xs ++ flat_map (due_step set at) cs) (sym (cond-false (is_due set at c) (step.Test c ∷ []) [] k))
 ]
 
--- a relation of a valid catalog has few columns
-pub few_columns : (rels : List RelDef) (rel : ℕ) → list_all is_valid_relation rels ≡ true → length (columns_at rels rel) ≤ 16
-few_columns rels rel h = by (slice_get rels rel) (λ def e. list_all_get is_valid_relation rels rel def h e)
+-- the columns of a relation can be numbered
+pub few_columns : (rels : List RelDef) (rel : ℕ) → list_all can_number_columns rels ≡ true → length (columns_at rels rel) < 2 ^ 32
+few_columns rels rel h = by (slice_get rels rel) (λ def e. list_all_get can_number_columns rels rel def h e)
   where
-    by : (o : Option RelDef) → ((def : RelDef) → o ≡ Some def → is_valid_relation def ≡ true) → length (columns_of_definition o) ≤ 16
-    by None k = omega arith
-    by (Some def) k = leb-true (length def.cols) 16 ((and_parts (nat_lt 0 (length def.cols)) (nat_le (length def.cols) 16) (and_parts (nat_lt 0 (length def.cols) && nat_le (length def.cols) 16) _ (k def refl)).0).1)
+    by : (o : Option RelDef) → ((def : RelDef) → o ≡ Some def → can_number_columns def ≡ true) → length (columns_of_definition o) < 2 ^ 32
+    by None k = ltb-true 0 (2 ^ 32) refl
+    by (Some def) k = ltb-true (length def.cols) (2 ^ 32) (k def refl)
+
+-- a query fits a catalog each of whose relations has columns that can be numbered
+pub columns_are_numbered : (catalog : Catalog) (q : Query) → query_fits catalog q ≡ true → list_all can_number_columns catalog.rels ≡ true
+columns_are_numbered catalog q h = (and_parts (list_all can_number_columns catalog.rels) _ (and_parts (nat_lt (length q.items) (2 ^ 32)) _ h).1).0
 
 find_same : {X : Type 0} (p q : X → Bool) → ((x : X) → p x ≡ q x) → (xs : List X) → find p xs ≡ find q xs
 find_same p q h [] = refl

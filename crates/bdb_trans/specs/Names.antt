@@ -1,5 +1,5 @@
 -- Names of columns, one for all that chains of equalities join, as a list of renamings.
-use Rattle.std.specs.Prelude.{◌≡◌, ℕ, Bool, ◌&&◌, List, [], ◌∷◌, Option, cond, find}
+use Rattle.std.specs.Prelude.{◌≡◌, ℕ, ◌^◌, Bool, ◌&&◌, nat_lt, List, [], ◌∷◌, Option, cond, find, length}
 use Rattle.std.specs.Option.{option_map}
 use Rattle.bdb_base.specs.declared.kinds.Cond.{Cond}
 use Rattle.bdb_base.specs.declared.kinds.Item.{Item}
@@ -35,6 +35,10 @@ pins_name names name c = is_equality c.cmp && (is_literal c.right && has_name na
 -- where the value of a column comes from, by names
 abbrev pub source_by_names : List Cond → List (Ref × Ref) → List Ref → Ref → Option Operand
 source_by_names conds names given r = first_there (option_map (λ c. c.right) (find (pins_name names (named names r)) conds)) (option_map Col (find (has_name names (named names r)) given))
+
+-- a relation has fewer than 2^32 columns, so that each has a number
+abbrev pub can_number_columns : RelDef → Bool
+can_number_columns def = nat_lt (length def.cols) (2 ^ 32)
 
 -- the columns of a `Users` item or plus item
 abbrev pub item_columns : List RelDef → ℕ → Item → List Ref

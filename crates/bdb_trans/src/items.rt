@@ -1,11 +1,10 @@
 // The steps of items.
 ghost use Rattle.std.specs.Prelude.{◌≡◌, ◌+◌, ◌<◌, ◌^◌, ◌++◌, ◌∷◌, true, length, OnOk, Some};
 ghost use Rattle.std.specs.List.{flat_map, list_all, slice_get};
-ghost use Rattle.bdb_base.specs.Bases.{is_valid_relation};
 ghost use Rattle.bdb_plan.specs.Fitness.{is_among};
 ghost use Rattle.bdb_plan.specs.PlanOf.{all_set, binds_from, denying, item_steps, operand_set, setting, steps_from};
 ghost use Rattle.bdb_plan.specs.Sources.{given_columns};
-ghost use Rattle.bdb_trans.specs.Names.{AreNames};
+ghost use Rattle.bdb_trans.specs.Names.{AreNames, can_number_columns};
 ghost use Rattle.bdb_trans.specs.Steps.{bind_steps, due_step, is_due};
 
 use crate::sources::{columns_of, source_by_names};
@@ -32,7 +31,7 @@ pub fn append_steps(
     set: &mut Vec<u32>,
     order: &[u32],
 ) -> Result<(), AllocError>
-    requires relations { list_all is_valid_relation scope.now.rels.now ≡ true }
+    requires relations { list_all can_number_columns scope.now.rels.now ≡ true }
     requires names { AreNames scope.now.query.now.conds scope.now.names.now }
     requires given { scope.now.given.now ≡ given_columns scope.now.rels.now 0 scope.now.query.now.items }
     ensures { OnOk result (steps.new ≡ steps.old ++ steps_from scope.now.rels.now scope.now.query.now set.old.items order.now) }
@@ -56,7 +55,7 @@ fn append_place(
     set: &[u32],
     at: u32,
 ) -> Result<(), AllocError>
-    requires relations { list_all is_valid_relation scope.now.rels.now ≡ true }
+    requires relations { list_all can_number_columns scope.now.rels.now ≡ true }
     requires names { AreNames scope.now.query.now.conds scope.now.names.now }
     requires given { scope.now.given.now ≡ given_columns scope.now.rels.now 0 scope.now.query.now.items }
     ensures { OnOk result (steps.new ≡ steps.old ++ item_steps scope.now.rels.now scope.now.query.now set.now at (slice_get scope.now.query.now.items at)) }
@@ -83,7 +82,7 @@ fn append_item(
     at: u32,
     item: &Item,
 ) -> Result<(), AllocError>
-    requires relations { list_all is_valid_relation scope.now.rels.now ≡ true }
+    requires relations { list_all can_number_columns scope.now.rels.now ≡ true }
     requires names { AreNames scope.now.query.now.conds scope.now.names.now }
     requires given { scope.now.given.now ≡ given_columns scope.now.rels.now 0 scope.now.query.now.items }
     ensures { OnOk result (steps.new ≡ steps.old ++ item_steps scope.now.rels.now scope.now.query.now set.now at (Some item.now)) }
@@ -102,7 +101,7 @@ fn append_setting(
     at: u32,
     item: &Item,
 ) -> Result<(), AllocError>
-    requires relations { list_all is_valid_relation scope.now.rels.now ≡ true }
+    requires relations { list_all can_number_columns scope.now.rels.now ≡ true }
     requires names { AreNames scope.now.query.now.conds scope.now.names.now }
     requires given { scope.now.given.now ≡ given_columns scope.now.rels.now 0 scope.now.query.now.items }
     ensures { OnOk result (steps.new ≡ steps.old ++ setting scope.now.rels.now scope.now.query.now at (Some item.now)) }

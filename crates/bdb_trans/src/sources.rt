@@ -1,12 +1,10 @@
 // Where the values of columns come from.
-ghost use Rattle.std.specs.Prelude.{◌≡◌, ◌+◌, ◌<◌, ◌≤◌, ◌^◌, ◌++◌, true, length, map, find, IfOk, OnOk};
+ghost use Rattle.std.specs.Prelude.{◌≡◌, ◌+◌, ◌<◌, ◌^◌, ◌++◌, true, length, map, find, IfOk, OnOk};
 ghost use Rattle.std.specs.Option.{option_copied};
 ghost use Rattle.std.specs.List.{list_all, slice_get};
-ghost use Rattle.bdb_base.specs.Bases.{is_valid_relation};
-ghost use Rattle.bdb_base.specs.Limits.{most_columns};
 ghost use Rattle.bdb_base.specs.Queries.{columns_at};
 ghost use Rattle.bdb_plan.specs.Sources.{columns_from, given_columns};
-ghost use Rattle.bdb_trans.specs.Names.{item_columns, pins_name, has_name, source_by_names};
+ghost use Rattle.bdb_trans.specs.Names.{can_number_columns, item_columns, pins_name, has_name, source_by_names};
 
 use crate::names::{named, same_column};
 use bdb_base::{Cmp, ColDef, Cond, Exact, Item, Operand, Ref, RelDef, Sign};
@@ -14,7 +12,7 @@ use std::alloc::{AllocError, Global};
 
 /// The columns of a query's `Users` items and plus items.
 pub fn given_columns(alloc: Global, rels: &[RelDef], items: &[Item]) -> Result<Vec<Ref>, AllocError>
-    requires relations { list_all is_valid_relation rels.now ≡ true }
+    requires relations { list_all can_number_columns rels.now ≡ true }
     requires few { length items.now < 2 ^ 32 }
     ensures { IfOk result (λ columns. columns.items ≡ given_columns rels.now 0 items.now) }
 {
@@ -29,7 +27,7 @@ fn append_given(
     at: u32,
     items: &[Item],
 ) -> Result<(), AllocError>
-    requires relations { list_all is_valid_relation rels.now ≡ true }
+    requires relations { list_all can_number_columns rels.now ≡ true }
     requires few { at + length items.now < 2 ^ 32 }
     ensures { OnOk result (columns.new.items ≡ columns.old.items ++ given_columns rels.now at items.now) }
 {
@@ -50,7 +48,7 @@ fn append_item(
     at: u32,
     item: &Item,
 ) -> Result<(), AllocError>
-    requires { list_all is_valid_relation rels.now ≡ true }
+    requires { list_all can_number_columns rels.now ≡ true }
     ensures { OnOk result (columns.new.items ≡ columns.old.items ++ item_columns rels.now at item.now) }
 {
     match item {
@@ -89,9 +87,9 @@ fn append_columns(
 /// The columns of a relation, by its number.
 #[tactic(auto, using(crate::proofs::TurnLemmas::few_columns))]
 pub fn columns_of(rels: &[RelDef], rel: u32) -> &[ColDef]
-    requires { list_all is_valid_relation rels.now ≡ true }
+    requires { list_all can_number_columns rels.now ≡ true }
     ensures columns { result.now ≡ columns_at rels.now rel }
-    ensures few { length result.now ≤ most_columns }
+    ensures few { length result.now < 2 ^ 32 }
 {
     match rels.get(rel as usize) {
         Some(def) => def.cols.as_slice(),

@@ -1,9 +1,9 @@
 // From queries to plans.
 ghost use Rattle.std.specs.Prelude.{◌≡◌, ◌<◌, ◌^◌, true, length, IfOk};
 ghost use Rattle.std.specs.List.{list_all};
-ghost use Rattle.bdb_base.specs.Bases.{is_valid_relation};
 ghost use Rattle.bdb_base.specs.Safety.{query_fits, IsSafe};
 ghost use Rattle.bdb_plan.specs.PlanOf.{plan_steps, plan_of};
+ghost use Rattle.bdb_trans.specs.Names.{can_number_columns};
 
 use crate::items::{Scope, append_steps};
 use crate::names::renames_of;
@@ -13,9 +13,9 @@ use bdb_base::{Catalog, Exact, List, Query, RelDef};
 use bdb_plan::{Plan, Step};
 use std::alloc::{AllocError, Global};
 
-/// The plan of a safe query over a catalog. It looks at no stored rows. The only error is want of memory.
+/// The plan of a safe query that fits a catalog. It looks at no stored rows. The only error is want of memory.
+#[tactic(auto, using(crate::proofs::TurnLemmas::columns_are_numbered))]
 pub fn translate(alloc: Global, catalog: &Catalog, q: &Query) -> Result<Plan, AllocError>
-    requires relations { list_all is_valid_relation catalog.now.rels ≡ true }
     requires fits { query_fits catalog.now q.now ≡ true }
     requires safe { IsSafe catalog.now.rels q.now }
     ensures { IfOk result (λ plan. plan ≡ plan_of catalog.now.rels q.now) }
@@ -28,7 +28,7 @@ pub fn translate(alloc: Global, catalog: &Catalog, q: &Query) -> Result<Plan, Al
 
 /// The steps of a query's plan.
 fn plan_steps(alloc: Global, rels: &[RelDef], q: &Query) -> Result<List<Step>, AllocError>
-    requires relations { list_all is_valid_relation rels.now ≡ true }
+    requires relations { list_all can_number_columns rels.now ≡ true }
     requires few { length q.now.items < 2 ^ 32 }
     ensures { IfOk result (λ steps. steps ≡ plan_steps rels.now q.now) }
 {
