@@ -1,93 +1,148 @@
--- What a base has with one more statement.
-use Rattle.std.proofs.Common.{◌≡◌, ◌∙◌, ℕ, ◌+◌, ◌≤◌, nat_le, refl, [], ◌∷◌, true, false, not, cond, ◌&&◌, List, length, None, ap, sym, arith}
+-- What comes of an insert, by what is answered where the statement is added to tables.
+use Rattle.std.proofs.Common.{◌≡◌, ◌∙◌, ℕ, Bool, true, false, not, ◌&&◌, List, [], ◌∷◌, Some, None, Result, Ok, Err, refl, ap, sym, inl, inr}
+use Rattle.std.specs.Prelude.{find, if◌then◌else◌}
+use Rattle.std.specs.List.{list_any, list_all}
 use Rattle.std.specs.Ordering.{is_eq}
-use Rattle.std.proofs.lemmas.Bool.{false≢true, and_parts, leb-true}
-use Rattle.std.proofs.lemmas.List.{length-map}
-use Rattle.std.specs.List.{list_all}
-use Rattle.bdb_base.specs.declared.kinds.Catalog.{Catalog}
-use Rattle.bdb_base.specs.declared.kinds.Stmt.{Stmt}
-use Rattle.bdb_base.specs.Limits.{deepest_statement}
-use Rattle.bdb_base.specs.Alternation.{alternates}
-use Rattle.bdb_base.specs.States.{is_state, prefixes, new_states}
-use Rattle.bdb_base.proofs.ListLemmas.{length-filter_le, list_all_from_none, filter_all, filter_kept_one, filter_dropped_one}
-use Rattle.bdb_paths.proofs.StateLemmas.{put_counts_worlds}
-use Rattle.bdb_base.specs.Bases.{Contents, IsValid, belongs, is_user, fits_relation, key_lengths, has_tuple, tuple_count, world_count, stands, with_statement, without_statement}
+use Rattle.std.proofs.lemmas.Bool.{false≢true, and_parts, or_cases, or_parts, cond-false, not-true}
+use Rattle.bdb_base.specs.Bases.{Contents, IsValid, belongs, key_lengths, stands, with_statement}
+use Rattle.bdb_base.specs.Clash.{clash}
 use Rattle.bdb_base.specs.Order.{statement_cmp}
 use Rattle.bdb_base.specs.OrderLemmas.{statement_exact}
-use Rattle.std.specs.declared.cmp.Ordering.{Ordering}
-use Rattle.std.specs.declared.cmp.Ordering.TheVariants.{Less, Equal, Greater}
-use Rattle.bdb_base.specs.SortedSet.{put_at}
-use Rattle.bdb_base.specs.Worlds.{contradicted}
-use Rattle.bdb_base.proofs.SetLemmas.{is_eq_itself}
-use Rattle.bdb_tables.proofs.SignLemmas.{or_false}
-use Rattle.bdb_base.proofs.BaseLemmas.{put_counts_tuple, put_counts_statement, put_is_valid}
 use Rattle.bdb_base.specs.Same.{same_path}
-use Rattle.bdb_base.specs.Clash.{clash}
-use Rattle.bdb_session.proofs.FindLemmas.{none_found}
-use Rattle.bdb_session.specs.Machine.{clash_with, clashes_with, clashing, with_stmts}
-use Rattle.bdb_session.specs.Sizes.{passed_limit}
-use Rattle.bdb_session.proofs.LimitLemmas.{within_limits}
-use Rattle.bdb_session.proofs.OutcomeLemmas.{none_mapped}
+use Rattle.bdb_base.specs.Worlds.{contradicted}
+use Rattle.bdb_base.specs.declared.kinds.Stmt.{Stmt}
+use Rattle.bdb_base.specs.declared.kinds.What.{What}
+use Rattle.bdb_base.proofs.SetLemmas.{is_eq-Equal}
+use Rattle.bdb_bind.specs.declared.bound.Bound.TheVariants.{Insert}
+use Rattle.bdb_canon.specs.Sizes.{counts_of}
+use Rattle.bdb_canon.specs.declared.sizes.Counts.{Counts}
+use Rattle.bdb_keep.specs.Seen.{Seen, NeverFall}
+use Rattle.bdb_render.specs.Replies.{count_reply}
+use Rattle.bdb_render.specs.declared.refusal.Refusal.TheVariants as refusal
+use Rattle.bdb_tables.proofs.SignLemmas.{put_stands}
+use Rattle.bdb_update.specs.Calls.{MayMeet, SomeMayMeet, Adds, IsAdding, clash_of, size_passed, with_one}
+use Rattle.bdb_update.specs.declared.answer.Added.TheVariants.{New, Already}
+use Rattle.bdb_update.specs.declared.answer.UpdateError.{UpdateError}
+use Rattle.bdb_update.specs.declared.answer.UpdateError.TheVariants as change
+use Rattle.bdb_update.proofs.CallLemmas.{gone_itself}
+use Rattle.bdb_update.proofs.JoinLemmas.{may_join}
+use Rattle.bdb_session.specs.declared.reply.Reply.{Reply}
+use Rattle.bdb_session.specs.declared.stop.StopError.{StopError}
+use Rattle.bdb_session.specs.Known.{Known, Agrees, AgreesOnSome}
+use Rattle.bdb_session.specs.Machine.{bound_outcome, becomes, clash_with, clashes_with, clashing, with_stmts}
+use Rattle.bdb_session.specs.Outcome.{State, Refused, Done}
+use Rattle.bdb_session.specs.Within.{TellsWithin, IsSaid, Refuses, sized}
+use Rattle.bdb_session.proofs.ChangeFacts.{size_limit, change_stopped, change_failed, untouched_agrees}
+use Rattle.bdb_session.proofs.OutcomeLemmas.{becomes_done, becomes_full, becomes_itself, unless_none, unless_some}
+use Rattle.bdb_session.proofs.WithinLemmas.{said_tells}
 
--- the count stays where a statement has the tuple
-pub counted_in : (xs : List Stmt) (s : Stmt) (n : ℕ) → n ≡ tuple_count xs → has_tuple xs s.tuple ≡ true → n ≡ tuple_count (with_statement xs s)
-counted_in xs s n count has = let more = put_counts_tuple xs s ∙ ap (λ h. cond h 0 1 + tuple_count xs) has in omega arith
+-- what all statements pass is passed by one that stands
+member_passes : (p : Stmt → Bool) (stmts : List Stmt) (x : Stmt) → list_all p stmts ≡ true → stands stmts x ≡ true → p x ≡ true
+member_passes p [] x h e = absurd (false≢true e)
+member_passes p (y ∷ ys) x h e =
+    let k = and_parts (p y) (list_all p ys) h in
+    elim (or_cases (is_eq (statement_cmp y x)) (stands ys x) e) [
+      | inl a ↦ ap p (sym (statement_exact.exact y x (is_eq-Equal (statement_cmp y x) a))) ∙ k.0
+      | inr a ↦ member_passes p ys x k.1 a
+    ]
 
--- and is one more where none has it
-pub counted_more : (xs : List Stmt) (s : Stmt) (n : ℕ) → n ≡ tuple_count xs → has_tuple xs s.tuple ≡ false → n + 1 ≡ tuple_count (with_statement xs s)
-counted_more xs s n count has = let more = put_counts_tuple xs s ∙ ap (λ h. cond h 0 1 + tuple_count xs) has in omega arith
+-- nothing is found where no item passes
+nothing_found : {X : Type 0} (p : X → Bool) (xs : List X) → list_any p xs ≡ false → find p xs ≡ None
+nothing_found p [] e = refl
+nothing_found p (x ∷ xs) e = let k = or_parts (p x) (list_any p xs) e in cond-false (p x) (Some x) (find p xs) k.0 ∙ nothing_found p xs k.1
 
--- how many statements there are with one that does not stand
-pub length_more : (b : Contents) (s : Stmt) → IsValid b.catalog b.stmts → stands b.stmts s ≡ false → length b.stmts + 1 ≡ length (with_statement b.stmts s)
-length_more b s valid h = let e = put_counts_statement b.catalog b.stmts s valid ∙ ap (λ k. cond k 0 1 + length b.stmts) h in omega arith
+-- a statement of a valid base clashes with none of it
+standing_is_apart : (b : Contents) (x : Stmt) → IsValid b.catalog b.stmts → stands b.stmts x ≡ true → clashing b x ≡ None
+standing_is_apart b x valid there =
+    let keys = key_lengths b.catalog.rels in
+    nothing_found (λ y. same_path y.path x.path && clash keys x.tuple x.sign y.tuple y.sign) b.stmts
+    (not-true (contradicted keys b.stmts x.path x.tuple x.sign) (member_passes (λ y. not (contradicted keys b.stmts y.path y.tuple y.sign)) b.stmts x valid.stmts.no_clash there))
 
--- an insert with no clash clashes with nothing
-pub insert_apart : (b : Contents) (x : Stmt) → clashes_with (clashing b x) ≡ None → contradicted (key_lengths b.catalog.rels) b.stmts x.path x.tuple x.sign ≡ false
-insert_apart b x fine =
-    none_found (λ y. same_path y.path x.path && clash (key_lengths b.catalog.rels) x.tuple x.sign y.tuple y.sign) b.stmts (none_mapped clash_with (clashing b x) fine)
+-- ---- what comes of it
 
--- a base stays valid with a statement that belongs to it and clashes with nothing, within the limits
-pub insert_is_valid : (b : Contents) (s : Stmt) → IsValid b.catalog b.stmts → belongs b.catalog s ≡ true → contradicted (key_lengths b.catalog.rels) b.stmts s.path s.tuple s.sign ≡ false
-    → passed_limit (with_stmts b (with_statement b.stmts s)) ≡ None → IsValid b.catalog (with_statement b.stmts s)
-insert_is_valid b s valid belong apart fine =
-    let few = within_limits (with_stmts b (with_statement b.stmts s)) fine in
-    put_is_valid b.catalog b.stmts s valid belong apart (λ k. let l = length_more b s valid k in let f = few.stmts in omega arith) few.tuples few.worlds
+abbrev insert_text : State → Stmt → List ℕ
+insert_text s x = count_reply (if stands s.base.stmts x then 0 else 1)
 
--- a statement that is put in where it did not stand, and taken out again, leaves the list as it was
-back_at : (o : Ordering) (y s : Stmt) (ys : List Stmt) → statement_cmp y s ≡ o → is_eq (statement_cmp y s) ≡ false → stands ys s ≡ false
-    → without_statement (with_statement ys s) s ≡ ys → without_statement (put_at o y ys s (with_statement ys s)) s ≡ y ∷ ys
-back_at Less y s ys e f absent ih = filter_kept_one (λ z. not (is_eq (statement_cmp z s))) y (with_statement ys s) (ap not f) ∙ ap (λ zs. y ∷ zs) ih
-back_at Equal y s ys e f absent ih = absurd (false≢true (sym f ∙ ap is_eq e))
-back_at Greater y s ys e f absent ih =
-    let other = λ (z : Stmt). not (is_eq (statement_cmp z s)) in
-    filter_dropped_one other s (y ∷ ys) (ap not (is_eq_itself statement_exact s)) ∙ filter_kept_one other y ys (ap not f)
-    ∙ ap (λ zs. y ∷ zs) (filter_all other ys (list_all_from_none (λ z. is_eq (statement_cmp z s)) other (λ z k. ap not k) ys absent))
+-- an insert that clashes with nothing
+insert_apart : (s : State) (x : Stmt) → clash_of s.base x ≡ None → bound_outcome s (Insert x) ≡ becomes s (with_one s.base x) (insert_text s x)
+insert_apart s x e = unless_none (clashes_with (clashing s.base x)) (becomes s (with_one s.base x) (insert_text s x)) (ap clashes_with e)
 
-pub taken_back : (xs : List Stmt) (s : Stmt) → stands xs s ≡ false → without_statement (with_statement xs s) s ≡ xs
-taken_back [] s new = filter_dropped_one (λ z. not (is_eq (statement_cmp z s))) s [] (ap not (is_eq_itself statement_exact s))
-taken_back (y ∷ ys) s new =
-    let parts = or_false (is_eq (statement_cmp y s)) (stands ys s) new in
-    back_at (statement_cmp y s) y s ys refl parts.0 parts.1 (taken_back ys s parts.1)
+insert_new : (s : State) (x : Stmt) → IsValid s.base.catalog s.base.stmts → clash_of s.base x ≡ None → size_passed (counts_of (with_one s.base x)) ≡ None → stands s.base.stmts x ≡ false
+    → bound_outcome s (Insert x) ≡ Done (count_reply 1) 0 (record s { base = with_one s.base x })
+insert_new s x valid apart room fresh =
+    insert_apart s x apart
+    ∙ becomes_done s (with_one s.base x) (insert_text s x) (size_limit s.base (with_statement s.base.stmts x) valid ∙ room)
+    ∙ ap (λ (k : Bool). Done (count_reply (if k then 0 else 1)) 0 (record s { base = with_one s.base x })) fresh
 
--- a path has few prefixes that are no states
-pub few_new_states : (xs : List Stmt) (w : List ℕ) → length w ≤ deepest_statement → length (new_states xs w) ≤ deepest_statement + 1
-few_new_states xs w short =
-    let fewer = length-filter_le (λ p. not (is_state xs p)) (prefixes w) in
-    let all = count_prefixes w in
-    omega arith
-  where
-    count_prefixes : (w : List ℕ) → length (prefixes w) ≡ length w + 1
-    count_prefixes [] = refl
-    count_prefixes (i ∷ w) = let e = length-map (prefixes w) (λ p. i ∷ p) in let r = count_prefixes w in omega arith
+insert_already : (s : State) (x : Stmt) → IsValid s.base.catalog s.base.stmts → stands s.base.stmts x ≡ true → bound_outcome s (Insert x) ≡ Done (count_reply 0) 0 s
+insert_already s x valid there =
+    insert_apart s x (standing_is_apart s.base x valid there)
+    ∙ becomes_itself s (with_one s.base x) (insert_text s x) valid (ap (λ (xs : List Stmt). with_stmts s.base xs) (put_stands s.base.stmts x valid.stmts.sorted there))
+    ∙ ap (λ (k : Bool). Done (count_reply (if k then 0 else 1)) 0 s) there
 
--- how many worlds there are with one more statement
-pub worlds_more : (xs : List Stmt) (s : Stmt) (n m : ℕ) → n ≡ world_count xs → m ≡ length (new_states xs s.path) → n + m ≡ world_count (with_statement xs s)
-worlds_more xs s n m e f = let more = put_counts_worlds xs s in omega arith
+insert_clashes : (s : State) (x least : Stmt) → clash_of s.base x ≡ Some least → bound_outcome s (Insert x) ≡ Refused (clash_with least)
+insert_clashes s x least e = unless_some (clashes_with (clashing s.base x)) (clash_with least) (becomes s (with_one s.base x) (insert_text s x)) (ap clashes_with e)
 
--- the path of a statement that fits is no longer than it may be
-pub belonging_short : (c : Catalog) (s : Stmt) → belongs c s ≡ true → length s.path ≤ deepest_statement
-belonging_short c s h =
-    let path = alternates s.path && nat_le (length s.path) deepest_statement in
-    let fit = and_parts (path && list_all (is_user c.users) s.path) (fits_relation c.rels s.tuple) h in
-    let users = and_parts path (list_all (is_user c.users) s.path) fit.0 in
-    leb-true (length s.path) deepest_statement (and_parts (alternates s.path) (nat_le (length s.path) deepest_statement) users.0).1
+insert_fills : (s : State) (x : Stmt) (what : What) → IsValid s.base.catalog s.base.stmts → clash_of s.base x ≡ None → size_passed (counts_of (with_one s.base x)) ≡ Some what
+    → bound_outcome s (Insert x) ≡ Refused (refusal.Full what)
+insert_fills s x what valid apart full =
+    insert_apart s x apart ∙ becomes_full s (with_one s.base x) (insert_text s x) what (size_limit s.base (with_statement s.base.stmts x) valid ∙ full)
+
+-- ---- what is told of it
+
+module _ (k : Known) (x : Stmt) (before after : Counts) (old mid : Seen) (fits : belongs k.catalog x ≡ true) where
+  pub insert_meets : (s : State) → Agrees old.kept (sized k before) s → MayMeet old.kept before x s.base
+  insert_meets s a = record {
+    base = record { stored = a.base.stored; valid = a.base.valid; counted = a.counts };
+    belongs = ap (λ c. belongs c x) (sym a.catalog) ∙ fits;
+  }
+
+  pub insert_may_meet : AgreesOnSome old.kept (sized k before) → SomeMayMeet old.kept before x
+  insert_may_meet some = record { base = some.state.base; may = insert_meets some.state some.agrees }
+
+  new_agrees : (s : State) → Agrees old.kept (sized k before) s → IsAdding s.base x old mid before after (Ok New) → Agrees mid.kept (sized k after) (record s { base = with_one s.base x })
+  new_agrees s a h = record {
+    base = record {
+      stored = h.becomes.stored;
+      valid = (may_join s.base x a.base.valid (insert_meets s a).belongs h.apart h.room).next;
+    };
+    catalog = a.catalog;
+    counts = h.becomes.counted;
+  }
+
+  pub insert_tells_new : (new : Seen) (result : Result Reply StopError) → AgreesOnSome old.kept (sized k before) → NeverFall old mid → Adds old mid before after x (Ok New)
+      → ((s : State) → IsSaid k.catalog (Done (count_reply 1) 0 s) mid new result) → TellsWithin (λ s. bound_outcome s (Insert x)) (sized k before) (sized k after) old new result
+  insert_tells_new new result some fall adds said =
+      let at = λ (s : State) (a : Agrees old.kept (sized k before) s). adds s.base (insert_meets s a) in
+      said_tells (λ s. bound_outcome s (Insert x)) (λ s. Done (count_reply 1) 0 (record s { base = with_one s.base x })) (sized k before) (sized k after) old mid new result some
+      (record { goes = (at some.state some.agrees).becomes.goes_on; counts = fall })
+      (λ s a. let h = at s a in insert_new s x a.base.valid h.apart h.room h.fresh)
+      (λ s a. new_agrees s a (at s a)) (λ s e. refl) (λ s. said (record s { base = with_one s.base x }))
+
+  pub insert_tells_already : (new : Seen) (result : Result Reply StopError) → AgreesOnSome old.kept (sized k before) → NeverFall old mid → Adds old mid before after x (Ok Already)
+      → ((s : State) → IsSaid k.catalog (Done (count_reply 0) 0 s) mid new result) → TellsWithin (λ s. bound_outcome s (Insert x)) (sized k before) (sized k after) old new result
+  insert_tells_already new result some fall adds said =
+      let at = λ (s : State) (a : Agrees old.kept (sized k before) s). adds s.base (insert_meets s a) in
+      said_tells (λ s. bound_outcome s (Insert x)) (λ s. Done (count_reply 0) 0 s) (sized k before) (sized k after) old mid new result some
+      (record { goes = (at some.state some.agrees).untouched.goes_on; counts = fall })
+      (λ s a. insert_already s x a.base.valid (at s a).there)
+      (λ s a. untouched_agrees k before after old mid s (at s a).untouched a) (λ s e. refl) said
+
+  pub insert_tells_err : (new : Seen) (result : Result Reply StopError) (e : UpdateError) → AgreesOnSome old.kept (sized k before) → NeverFall old mid → Adds old mid before after x (Err e)
+      → Refuses k.catalog e mid new result → TellsWithin (λ s. bound_outcome s (Insert x)) (sized k before) (sized k after) old new result
+  insert_tells_err new result (change.Clash least) some fall adds said =
+      let at = λ (s : State) (a : Agrees old.kept (sized k before) s). adds s.base (insert_meets s a) in
+      said_tells (λ s. bound_outcome s (Insert x)) (λ s. Refused (clash_with least)) (sized k before) (sized k after) old mid new result some
+      (record { goes = (at some.state some.agrees).untouched.goes_on; counts = fall })
+      (λ s a. insert_clashes s x least (at s a).clash)
+      (λ s a. untouched_agrees k before after old mid s (at s a).untouched a) (λ s e. absurd cc) (λ s. said)
+  insert_tells_err new result (change.Full what) some fall adds said =
+      let at = λ (s : State) (a : Agrees old.kept (sized k before) s). adds s.base (insert_meets s a) in
+      said_tells (λ s. bound_outcome s (Insert x)) (λ s. Refused (refusal.Full what)) (sized k before) (sized k after) old mid new result some
+      (record { goes = (at some.state some.agrees).untouched.goes_on; counts = fall })
+      (λ s a. let h = at s a in insert_fills s x what a.base.valid h.apart h.passed)
+      (λ s a. untouched_agrees k before after old mid s (at s a).untouched a) (λ s e. absurd cc) (λ s. said)
+  insert_tells_err new result change.Fault some fall adds said =
+      change_failed (λ s. bound_outcome s (Insert x)) (sized k before) (sized k after) before after old old mid new result (gone_itself old) fall (adds some.state.base (insert_meets some.state some.agrees)) said
+  insert_tells_err new result change.Memory some fall adds said =
+      change_stopped (λ s. bound_outcome s (Insert x)) (sized k before) (sized k after) before after old old mid new result (gone_itself old) fall (adds some.state.base (insert_meets some.state some.agrees)) said

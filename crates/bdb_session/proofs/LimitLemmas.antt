@@ -6,14 +6,15 @@ use Rattle.bdb_base.specs.declared.kinds.What.{What}
 use Rattle.bdb_base.specs.declared.kinds.What.TheVariants.{Users, Relations, Worlds, Tuples, Statements}
 use Rattle.bdb_base.specs.Bases.{Contents, IsValid, tuple_count, world_count}
 use Rattle.bdb_base.specs.Limits.{most_users, most_relations, most_worlds, most_tuples, most_statements}
-use Rattle.bdb_session.specs.declared.limits.Counts.{Counts}
-use Rattle.bdb_session.specs.Sizes.{passed_limit, limit_passed, counts_of}
+use Rattle.bdb_canon.specs.Sizes.{counts_of}
+use Rattle.bdb_canon.specs.declared.sizes.Counts.{Counts}
+use Rattle.bdb_session.specs.Sizes.{passed_limit, limit_passed}
 
 -- what is at most a number isn't above it
 above_false : (m n : ℕ) → leb n m ≡ true → ltb m n ≡ false
 above_false m n h = grind (arith, nat_tests)
 
-at_most : (m n : ℕ) → ltb m n ≡ false → n ≤ m
+pub at_most : (m n : ℕ) → ltb m n ≡ false → n ≤ m
 at_most m n h = grind (arith, nat_tests)
 
 -- a valid base passes no limit
@@ -35,7 +36,7 @@ pub record IsWithin (b : Contents) : Type 0 where
   pub stmts : length b.stmts ≤ most_statements
 
 -- nothing is found: the first test fails, and nothing is found behind it
-past : (t : Bool) (w : What) (rest : Option What) → (if t then Some w else rest) ≡ None → (t ≡ false) × (rest ≡ None)
+pub past : (t : Bool) (w : What) (rest : Option What) → (if t then Some w else rest) ≡ None → (t ≡ false) × (rest ≡ None)
 past true w rest e = absurd cc
 past false w rest e = (refl, e)
 
@@ -61,14 +62,8 @@ within_limits b e =
     }
 
 -- the limit that is found by the counts of a base is the one that it passes
-pub limit_is : (b : Contents) (o : Option What) (users rels : ℕ) (counts : Counts) (n : ℕ) → o ≡ limit_passed users rels counts n
-    → users ≡ length b.catalog.users → rels ≡ length b.catalog.rels → counts ≡ counts_of b.stmts → n ≡ length b.stmts → o ≡ passed_limit b
-limit_is b o users rels counts n e u r c s =
-    e ∙ ap (λ k. limit_passed k rels counts n) u ∙ ap (λ k. limit_passed (length b.catalog.users) k counts n) r
-    ∙ ap (λ k. limit_passed (length b.catalog.users) (length b.catalog.rels) k n) c ∙ ap (limit_passed (length b.catalog.users) (length b.catalog.rels) (counts_of b.stmts)) s
-
-abbrev counted : ℕ → ℕ → Counts
-counted w t = record { worlds = w; tuples = t }
-
-pub same_counts : (v w s t : ℕ) → v ≡ w → s ≡ t → counted v s ≡ counted w t
-same_counts v w s t e f = ap (λ n. counted n s) e ∙ ap (counted w) f
+pub limit_is : (b : Contents) (o : Option What) (users rels : ℕ) (counts : Counts) → o ≡ limit_passed users rels counts
+    → users ≡ length b.catalog.users → rels ≡ length b.catalog.rels → counts ≡ counts_of b → o ≡ passed_limit b
+limit_is b o users rels counts e u r c =
+    e ∙ ap (λ k. limit_passed k rels counts) u ∙ ap (λ k. limit_passed (length b.catalog.users) k counts) r
+    ∙ ap (limit_passed (length b.catalog.users) (length b.catalog.rels)) c

@@ -1,5 +1,5 @@
 -- What opening finds in tables that stand for a base.
-use Rattle.std.proofs.Common.{◌≡◌, ◌∙◌, ℕ, suc, List, ◌∷◌, Some, None, refl, ap, sym, subst, Bool, false, inl, inr, Result, Ok, Err, IfOk, OnOk, arith}
+use Rattle.std.proofs.Common.{◌≡◌, ◌∙◌, ℕ, suc, Bool, false, List, [], Some, None, Result, Ok, Err, IfOk, OnOk, refl, ap, sym, subst, arith}
 use Rattle.std.specs.Prelude.{nat_eq, if◌then◌else◌}
 use Rattle.std.specs.FinMap as tables
 use Rattle.std.specs.FinMap.{get-empty, len-empty, empty_of_len}
@@ -7,39 +7,72 @@ use Rattle.std.proofs.lemmas.Bool.Decides.{nat_tests}
 use Prim.Native.Nat.{zero}
 use Rattle.bdb_base.specs.Bases.{Contents, IsValid, empty_contents}
 use Rattle.bdb_base.specs.Causes.{Rises}
+use Rattle.bdb_base.specs.declared.kinds.Catalog.{Catalog}
+use Rattle.bdb_base.specs.declared.kinds.RelDef.{RelDef}
+use Rattle.bdb_canon.specs.Sizes.{counts_of}
+use Rattle.bdb_canon.specs.declared.sizes.Counts.{Counts}
+use Rattle.bdb_catalog.specs.Bases.{StoresValid, StoresSome}
+use Rattle.bdb_catalog.specs.Opening.{StandForSome, HaveNoRow, HaveFormat, IsPartOf}
 use Rattle.bdb_keep.specs.Tables.{Tables, bytes_cmp}
-use Rattle.bdb_tables.specs.Codec.{place, HasAt}
-use Rattle.bdb_tables.specs.Grammar.{InGrammar}
+use Rattle.bdb_stored.specs.Counting.{TellsCounts}
+use Rattle.bdb_stored.specs.Valid as stored
+use Rattle.bdb_tables.specs.Codec.{place}
 use Rattle.bdb_tables.specs.InUse.{meta_codec}
-use Rattle.bdb_tables.specs.Holds.{Holds, Stands}
-use Rattle.bdb_tables.proofs.HoldsLemmas.{held_is_in_grammar, format_row_holds_empty}
+use Rattle.bdb_tables.specs.Stored.{Stores}
 use Rattle.bdb_session.specs.declared.stop.StopError.{StopError}
-use Rattle.bdb_session.specs.Opening.{opening}
-use Rattle.bdb_session.specs.Outcome.{State, start_from}
+use Rattle.bdb_session.specs.Known.{Known, Agrees, AgreesOnSome}
+use Rattle.bdb_session.specs.Opening.{opening, KnowsStored, Opens}
+use Rattle.bdb_session.specs.Outcome.{start_from}
 
-no_row : {r : List ℕ} → None ≡ Some r → ⊥
-no_row e = cc
+-- ---- what is known of the tables
 
--- tables with no row have none anywhere
-none_in : (t : Tables) (p : List ℕ) → t ≡ tables.empty → tables.get t p ≡ None
-none_in t p e = ap (λ (u : Tables). tables.get u p) e ∙ get-empty bytes_cmp p
+pub some_stored : (t : Tables) → StoresSome t → stored.StoreSome t
+some_stored t h = record { base = h.base; is = record { stored = h.stores.stored; valid = h.stores.valid } }
 
-format_found : (t : Tables) (b : Contents) → Holds t b → tables.get t (place meta_codec tt) ≡ Some (meta_codec.row_bytes 1)
-format_found t b h = h.format.rows tt tt
+pub knows_parts : (t : Tables) (users : List (List ℕ)) (rels : List RelDef) (counts : Counts) → IsPartOf (λ b. b.catalog.users) t users → IsPartOf (λ b. b.catalog.rels) t rels
+    → TellsCounts t counts → KnowsStored t (record { catalog = record { rels = rels; users = users }; counts = counts })
+knows_parts t users rels counts u r c = λ b h. record {
+  base = h;
+  catalog = ap (λ (us : List (List ℕ)). record { rels = rels; users = us }) (u b h) ∙ ap (λ (rs : List RelDef). record { rels = rs; users = b.catalog.users }) (r b h);
+  counts = c b (record { stored = h.stored; valid = h.valid });
+}
 
-pub stands_in_grammar : (t : Tables) (b : Contents) → Stands t b → InGrammar t
-stands_in_grammar t b (inl h) n k r f = held_is_in_grammar t b h n k r f
-stands_in_grammar t b (inr e) n k r f = absurd (no_row (sym (none_in t (n ∷ k) e.0) ∙ f))
+pub empty_is_valid : IsValid empty_contents.catalog empty_contents.stmts
+empty_is_valid = record {
+  catalog = record { users_differ = refl; users_plain = refl; few_users = refl; rels_differ = refl; rels_valid = refl; few_rels = refl };
+  stmts = record { sorted = refl; belong = refl; no_clash = refl; few_stmts = refl; few_tuples = refl; few_worlds = refl };
+}
 
--- tables with a format hold the base that they stand for
-pub held_with_format : (t : Tables) (b : Contents) (format : ℕ) → Stands t b → HasAt meta_codec t tt (Some format) → Holds t b
-held_with_format t b format (inl h) f = h
-held_with_format t b format (inr e) f = absurd (no_row (sym (none_in t (place meta_codec tt) e.0) ∙ f.found))
+pub agrees_empty : (t : Tables) (users : List (List ℕ)) (rels : List RelDef) → users ≡ [] → rels ≡ [] → Stores t empty_contents
+    → Agrees t (record { catalog = record { rels = rels; users = users }; counts = record { worlds = 1; tuples = 0; stmts = 0; rows = 0 } }) (start_from empty_contents)
+agrees_empty t users rels u r h = record {
+  base = record { stored = h; valid = empty_is_valid };
+  catalog = ap (λ (us : List (List ℕ)). record { rels = rels; users = us }) u ∙ ap (λ (rs : List RelDef). record { rels = rs; users = [] }) r;
+  counts = refl;
+}
 
--- tables without one have no row, and stand for the empty base
-pub empty_without_format : (t : Tables) (b : Contents) → Stands t b → HasAt meta_codec t tt None → (t ≡ tables.empty) × (b ≡ empty_contents)
-empty_without_format t b (inl h) f = absurd (no_row (sym f ∙ format_found t b h))
-empty_without_format t b (inr e) f = e
+-- ---- the base over which a session is opened
+
+-- tables with a format stand for what is read of them
+pub opened_read : (t u v : Tables) (format : ℕ) (r : Result Known StopError) → HaveFormat t format → u ≡ t → v ≡ u → IfOk r (λ k. KnowsStored u k) → IfOk r (λ k. Opens t v k)
+opened_read t u v format (Ok k) h e f knows = λ b stands.
+    subst (λ (x : Tables). Agrees x k (start_from b)) (sym f) (knows b (subst (λ (x : Tables). StoresValid x b) (sym e) (h.stores b stands)))
+opened_read t u v format (Err stop) h e f knows = tt
+
+-- tables without one stand for the base that is made
+pub opened_new : (t v : Tables) (r : Result Known StopError) → HaveNoRow t → IfOk r (λ k. Agrees v k (start_from empty_contents)) → IfOk r (λ k. Opens t v k)
+opened_new t v (Ok k) h made = λ b stands. subst (λ (x : Contents). Agrees v k (start_from x)) (sym (h.base b stands)) made
+opened_new t v (Err stop) h made = tt
+
+pub agrees_opened : (t v : Tables) (r : Result Known StopError) → StandForSome t → IfOk r (λ k. Opens t v k) → IfOk r (λ k. AgreesOnSome v k)
+agrees_opened t v (Ok k) h opens = record { state = start_from h.base; agrees = opens h.base h.stand }
+agrees_opened t v (Err stop) h opens = tt
+
+-- what is stored where there is a format
+pub some_with_format : (t u : Tables) (format : ℕ) → StandForSome t → HaveFormat t format → u ≡ t → StoresSome u
+some_with_format t u format some h e = record { base = some.base; stores = subst (λ (x : Tables). StoresValid x some.base) (sym e) (h.stores some.base some.stand) }
+
+-- ---- how often opening commits
 
 -- how often opening tables with so many rows commits
 abbrev opening_by : Bool → ℕ
@@ -53,44 +86,22 @@ opening_empty t e =
     let none : tables.len t ≡ 0 = ap (λ (u : Tables). tables.len u) e ∙ len-empty bytes_cmp (List ℕ) in
     ap opening_of none
 
-pub opening_held : (t : Tables) (b : Contents) → Holds t b → opening t ≡ 0
-opening_held t b h = by (tables.len t) refl
+pub opening_stored : (t : Tables) → StoresSome t → opening t ≡ 0
+opening_stored t h = by (tables.len t) refl
   where
-    by : (n : ℕ) → tables.len t ≡ n → opening_of n ≡ 0
-    by zero e = absurd (no_row (sym (none_in t (place meta_codec tt) (empty_of_len t e)) ∙ format_found t b h))
-    by (suc n) e = let some : nat_eq (suc n) 0 ≡ false = grind (arith, nat_tests) in ap opening_by some
+    found : tables.get t (place meta_codec tt) ≡ Some (meta_codec.row_bytes 2)
+    found = h.stores.stored.stored.format.rows tt tt
 
--- ---- the base that a session is opened over
+    none_in : t ≡ tables.empty → tables.get t (place meta_codec tt) ≡ None
+    none_in e = ap (λ (u : Tables). tables.get u (place meta_codec tt)) e ∙ get-empty bytes_cmp (place meta_codec tt)
+
+    by : (n : ℕ) → tables.len t ≡ n → opening_of n ≡ 0
+    by zero e = absurd (let both : None ≡ Some (meta_codec.row_bytes 2) = sym (none_in (empty_of_len t e)) ∙ found in cc)
+    by (suc n) e = let some : nat_eq (suc n) 0 ≡ false = grind (arith, nat_tests) in ap opening_by some
 
 pub on_ok : {T : Type 0} (P : Type 0) (r : Result T StopError) → P → OnOk r P
 on_ok P (Ok x) p = p
 on_ok P (Err e) p = tt
-
--- what is read from tables with a format is the base that they stand for
-pub opened_read : (t u : Tables) (format : ℕ) (r : Result State StopError) → u ≡ t → HasAt meta_codec t tt (Some format)
-    → IfOk r (λ s. (b : Contents) → Holds u b → IsValid b.catalog b.stmts → s ≡ start_from b) → IfOk r (λ s. (b : Contents) → Stands t b → IsValid b.catalog b.stmts → s ≡ start_from b)
-opened_read t u format (Ok s) e found h = λ b stands valid. h b (subst (λ x. Holds x b) (sym e) (held_with_format t b format stands found)) valid
-opened_read t u format (Err stop) e found h = tt
-
-pub holds_read : (u new : Tables) (b : Contents) (r : Result State StopError) → new ≡ u → Holds u b → IsValid b.catalog b.stmts
-    → IfOk r (λ s. (b : Contents) → Holds u b → IsValid b.catalog b.stmts → s ≡ start_from b) → IfOk r (λ s. Holds new s.base)
-holds_read u new b (Ok s) e holds valid h = subst (λ t. Holds t s.base) (sym e) (subst (λ (x : State). Holds u x.base) (sym (h b holds valid)) holds)
-holds_read u new b (Err stop) e holds valid h = tt
-
--- and what is made of tables with none
-pub opened_new : (t : Tables) (r : Result State StopError) → HasAt meta_codec t tt None → IfOk r (λ s. s ≡ start_from empty_contents)
-    → IfOk r (λ s. (b : Contents) → Stands t b → IsValid b.catalog b.stmts → s ≡ start_from b)
-opened_new t (Ok s) found h = λ b stands valid. h ∙ sym (ap (λ (x : Contents). start_from x) (empty_without_format t b stands found).1)
-opened_new t (Err stop) found h = tt
-
-abbrev format_row : Tables → Tables
-format_row t = tables.insert t (place meta_codec tt) (meta_codec.row_bytes 1)
-
--- the row of the format alone holds the empty base
-pub format_holds : (t u : Tables) (b : Contents) → t ≡ tables.empty → u ≡ format_row t → b ≡ empty_contents → Holds u b
-format_holds t u b e made is = subst (Holds u) (sym is) (subst (λ v. Holds v empty_contents) (sym (made ∙ ap format_row e)) format_row_holds_empty)
-
--- ---- how often opening commits
 
 pub rises_none : (o before got now : ℕ) → o ≡ 0 → got ≡ before → now ≡ got → Rises o before now
 rises_none o before got now z e f = λ _. omega arith

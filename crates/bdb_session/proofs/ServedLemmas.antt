@@ -1,19 +1,15 @@
 -- How a session answers what is refused, and what is done.
-use Rattle.std.proofs.Common.{◌≡◌, ℕ, List, Result, Ok, Err, IsErrOf, refl, sym, ap, subst, arith}
+use Rattle.std.proofs.Common.{◌≡◌, ◌∙◌, ℕ, List, Result, Ok, Err, refl, sym, ap, subst, arith}
+use Rattle.bdb_base.specs.Causes.{HasCause, Rises}
 use Rattle.bdb_keep.specs.Seen.{Seen, IsStill, NeverFall, Unchanged}
 use Rattle.bdb_keep.specs.Tables.{Tables}
 use Rattle.bdb_render.specs.declared.refusal.Refusal.{Refusal}
-use Rattle.bdb_tables.specs.Holds.{Holds}
 use Rattle.bdb_session.specs.declared.reply.Reply.{Reply}
 use Rattle.bdb_session.specs.declared.stop.StopError.{StopError}
 use Rattle.bdb_session.specs.declared.stop.StopError.TheVariants.{Fault, Memory}
-use Rattle.bdb_session.specs.Outcome.{State, Outcome, Refused, Done}
-use Rattle.bdb_session.specs.Served.{Commits, IsReply, IsTold, IsServed}
-
--- by what this comes of, where that is known
-pub served_as : (s : State) (outcome known : Outcome) (now : State) (old new : Seen) (result : Result Reply StopError) → outcome ≡ known
-    → IsServed s known now old new result → IsServed s outcome now old new result
-served_as s outcome known now old new result e h = subst (λ (o : Outcome). IsServed s o now old new result) (sym e) h
+use Rattle.bdb_session.specs.Known.{Known, Agrees, AgreesOnSome}
+use Rattle.bdb_session.specs.Outcome.{State, Outcome, Refused, Done, text_of, state_after}
+use Rattle.bdb_session.specs.Served.{Ends, IsReply, IsTold, IsServed, Serves}
 
 pub nothing_falls : (old : Seen) → NeverFall old old
 nothing_falls old = record { faults = omega arith; reads = omega arith; writes = omega arith; commits = omega arith }
@@ -21,83 +17,99 @@ nothing_falls old = record { faults = omega arith; reads = omega arith; writes =
 abbrev pub as_it_was : (old : Seen) → Unchanged old old
 as_it_was old = record { kept = refl; last = refl; commits = refl }
 
--- what is refused leaves the keeper alone
-pub refused_is_served : (s : State) (outcome : Outcome) (x : Refusal) (old : Seen) (result : Result Reply StopError)
-    → outcome ≡ Refused x → IsStill old → Holds old.kept s.base → IsTold s.base.catalog (Refused x) result → IsServed s outcome s old old result
-refused_is_served s outcome x old result e still holds told = served_as s outcome (Refused x) s old old result e (by result told)
-  where
-    by : (result : Result Reply StopError) → IsTold s.base.catalog (Refused x) result → IsServed s (Refused x) s old old result
-    by (Ok r) told = record {
-      reply = told.reply;
-      next = refl;
-      same = tt;
-      holds = holds;
-      commits = λ _. omega arith;
-      alone = λ _. as_it_was old;
-      still = still;
-      never_fall = nothing_falls old;
-      cause = record { later = omega arith; rose = λ e. absurd cc };
-      err = tt;
-    }
-    by (Err stop) told = record {
-      reply = tt;
-      next = tt;
-      same = refl;
-      holds = holds;
-      commits = tt;
-      alone = tt;
-      still = still;
-      never_fall = nothing_falls old;
-      cause = record { later = omega arith; rose = λ e. absurd (told.memory e) };
-      err = as_it_was old;
-    }
+-- where no row changes, a session that agreed with the tables still does
+pub still_agrees : (t u : Tables) (k : Known) (s : State) → u ≡ t → Agrees t k s → Agrees u k s
+still_agrees t u k s e h = subst (λ (x : Tables). Agrees x k s) (sym e) h
 
--- want of memory before a transaction leaves all as it was
-pub unmade_is_served : (s : State) (outcome : Outcome) (old : Seen) → IsStill old → Holds old.kept s.base → IsServed s outcome s old old (Err Memory)
-unmade_is_served s outcome old still holds = record {
-  reply = tt;
-  next = tt;
-  same = refl;
-  holds = holds;
-  commits = tt;
-  alone = tt;
-  still = still;
-  never_fall = nothing_falls old;
-  cause = record { later = omega arith; rose = λ e. absurd cc };
-  err = as_it_was old;
+-- by what this comes of, where that is known
+pub served_as : (s : State) (outcome known : Outcome) (now : Known) (old new : Seen) (result : Result Reply StopError) → outcome ≡ known
+    → IsServed s known now old new result → IsServed s outcome now old new result
+served_as s outcome known now old new result e h = subst (λ (o : Outcome). IsServed s o now old new result) (sym e) h
+
+pub serves_as : (outcome known : State → Outcome) (before now : Known) (old new : Seen) (result : Result Reply StopError)
+    → ((s : State) → Agrees old.kept before s → outcome s ≡ known s) → Serves known before now old new result → Serves outcome before now old new result
+serves_as outcome known before now old new result is h = record {
+  served = λ s a. served_as s (outcome s) (known s) now old new result (is s a) (h.served s a);
+  ends = h.ends;
 }
 
--- where a transaction is stopped, all is as it was
-pub stopped_is_served : {T : Type 0} (s : State) (outcome : Outcome) (rows : Tables) (old new : Seen) (stop : StopError)
-    → Holds old.kept s.base → Commits {T = T} rows old new (Err stop) → IsServed s outcome s old new (Err stop)
-stopped_is_served {T = T} s outcome rows old new stop holds done = record {
-  reply = tt;
-  next = tt;
-  same = refl;
-  holds = subst (λ t. Holds t s.base) (sym done.err.kept) holds;
-  commits = tt;
-  alone = tt;
-  still = done.still;
-  never_fall = done.never_fall;
-  cause = record { later = done.cause.later; rose = λ e. done.cause.rose (told stop e) };
-  err = done.err;
+-- what is refused leaves all as it was
+refused_served : (s : State) (x : Refusal) (k : Known) (old new : Seen) (result : Result Reply StopError) → Agrees old.kept k s → Unchanged old new → NeverFall old new
+    → IsTold k.catalog (Refused x) result → IsServed s (Refused x) k old new result
+refused_served s x k old new (Ok r) a same fall told = record {
+  reply = record { text = told.reply.text ∙ ap (λ c. text_of c (Refused x)) a.catalog; accepted = told.reply.accepted; answers = told.reply.answers };
+  next = still_agrees old.kept new.kept k s same.kept a;
+  commits = λ _. let e = same.commits in omega arith;
+  alone = λ _. same;
 }
-  where
-    told : (stop : StopError) → IsErrOf {T = Reply} (Err stop) Fault → IsErrOf {T = T} (Err stop) Fault
-    told stop e = let s : stop ≡ Fault = cc in ap Err s
+refused_served s x k old new (Err stop) a same fall told = record { reply = tt; next = tt; commits = tt; alone = tt }
 
--- what is done is committed
-pub done_is_served : {T : Type 0} (s : State) (text : List ℕ) (answers : ℕ) (next now : State) (rows : Tables) (old new : Seen) (u : T) (r : Reply)
-    → IsReply s.base.catalog (Done text answers next) r → now ≡ next → Holds rows next.base → Commits rows old new (Ok u) → IsServed s (Done text answers next) now old new (Ok r)
-done_is_served s text answers next now rows old new u r reply is holds done = record {
-  reply = reply;
-  next = is;
+refused_ends : (x : Refusal) (k : Known) (old new : Seen) (result : Result Reply StopError) → IsStill new → Unchanged old new → NeverFall old new
+    → IsTold k.catalog (Refused x) result → Ends k k old new result
+refused_ends x k old new (Ok r) still same fall told = record {
   same = tt;
-  holds = subst (λ t. Holds t now.base) (sym done.kept) (subst (λ (x : State). Holds rows x.base) (sym is) holds);
-  commits = done.commits;
-  alone = λ e. absurd cc;
-  still = done.still;
-  never_fall = done.never_fall;
-  cause = record { later = done.cause.later; rose = λ e. absurd cc };
+  still = still;
+  never_fall = fall;
+  cause = record { later = fall.faults; rose = λ e. absurd cc };
   err = tt;
+}
+refused_ends x k old new (Err stop) still same fall told = record {
+  same = refl;
+  still = still;
+  never_fall = fall;
+  cause = record { later = fall.faults; rose = λ e. absurd (told.memory e) };
+  err = same;
+}
+
+pub refusal_serves : (outcome : State → Outcome) (x : Refusal) (k : Known) (old new : Seen) (result : Result Reply StopError)
+    → ((s : State) → Agrees old.kept k s → outcome s ≡ Refused x) → IsStill new → Unchanged old new → NeverFall old new → IsTold k.catalog (Refused x) result
+    → Serves outcome k k old new result
+refusal_serves outcome x k old new result is still same fall told = record {
+  served = λ s a. served_as s (outcome s) (Refused x) k old new result (is s a) (refused_served s x k old new result a same fall told);
+  ends = refused_ends x k old new result still same fall told;
+}
+
+-- where nothing was done at all
+pub refused_serves : (outcome : State → Outcome) (x : Refusal) (k : Known) (old : Seen) (result : Result Reply StopError)
+    → ((s : State) → Agrees old.kept k s → outcome s ≡ Refused x) → IsStill old → IsTold k.catalog (Refused x) result → Serves outcome k k old old result
+refused_serves outcome x k old result is still told = refusal_serves outcome x k old old result is still (as_it_was old) (nothing_falls old) told
+
+-- an Err that leaves all as it was
+pub stop_serves : (outcome : State → Outcome) (k : Known) (old new : Seen) (stop : StopError) → IsStill new → Unchanged old new → NeverFall old new
+    → HasCause {T = Reply} {E = StopError} old.faults new.faults (Err stop) Fault → Serves outcome k k old new (Err stop)
+stop_serves outcome k old new stop still same fall cause = record {
+  served = λ s a. record { reply = tt; next = tt; commits = tt; alone = tt };
+  ends = record { same = refl; still = still; never_fall = fall; cause = cause; err = same };
+}
+
+-- want of memory before a transaction, or after one that was undone
+pub memory_serves : (outcome : State → Outcome) (k : Known) (old new : Seen) → IsStill new → Unchanged old new → NeverFall old new → Serves outcome k k old new (Err Memory)
+memory_serves outcome k old new still same fall = stop_serves outcome k old new Memory still same fall (record { later = fall.faults; rose = λ e. absurd cc })
+
+pub unmade_serves : (outcome : State → Outcome) (k : Known) (old : Seen) → IsStill old → Serves outcome k k old old (Err Memory)
+unmade_serves outcome k old still = memory_serves outcome k old old still (as_it_was old) (nothing_falls old)
+
+-- what is done is committed once, and the session agrees on the state after it
+pub done_serves : (outcome : State → Outcome) (text : State → List ℕ) (answers : State → ℕ) (next : State → State) (before now : Known) (old new : Seen) (r : Reply)
+    → ((s : State) → Agrees old.kept before s → outcome s ≡ Done (text s) (answers s) (next s))
+    → ((s : State) → Agrees old.kept before s → IsReply s.base.catalog (Done (text s) (answers s) (next s)) r)
+    → ((s : State) → Agrees old.kept before s → Agrees new.kept now (next s))
+    → Rises 1 old.commits new.commits → IsStill new → NeverFall old new → Serves outcome before now old new (Ok r)
+done_serves outcome text answers next before now old new r is reply agrees commits still fall = record {
+  served = λ s a. served_as s (outcome s) (Done (text s) (answers s) (next s)) now old new (Ok r) (is s a) (record {
+    reply = reply s a;
+    next = agrees s a;
+    commits = commits;
+    alone = λ e. absurd cc;
+  });
+  ends = record { same = tt; still = still; never_fall = fall; cause = record { later = fall.faults; rose = λ e. absurd cc }; err = tt };
+}
+
+-- a session that agreed with the tables on some state still does
+pub agrees_after : (outcome : State → Outcome) (before now : Known) (old new : Seen) (result : Result Reply StopError) → AgreesOnSome old.kept before
+    → Serves outcome before now old new result → AgreesOnSome new.kept now
+agrees_after outcome before now old new (Ok r) some h = record { state = state_after some.state (outcome some.state); agrees = (h.served some.state some.agrees).next }
+agrees_after outcome before now old new (Err stop) some h = record {
+  state = some.state;
+  agrees = subst (λ (k : Known). Agrees new.kept k some.state) (sym h.ends.same) (still_agrees old.kept new.kept before some.state h.ends.err.kept some.agrees);
 }

@@ -1,7 +1,8 @@
 -- The belief machine: what comes of each event of a script.
-use Rattle.std.specs.Prelude.{ℕ, Bool, List, length, Option, None, Some, if◌then◌else◌}
+use Rattle.std.specs.Prelude.{ℕ, ◌+◌, Bool, List, ◌++◌, length, Option, None, Some, if◌then◌else◌}
 use Rattle.std.specs.Option.{option_map, option_and_then}
 use Rattle.bdb_base.specs.declared.kinds.Catalog.{Catalog}
+use Rattle.bdb_base.specs.declared.kinds.Query.{Query}
 use Rattle.bdb_base.specs.declared.kinds.Stmt.{Stmt}
 use Rattle.bdb_base.specs.declared.kinds.World.{World}
 use Rattle.bdb_base.specs.Bases.{Contents, key_lengths, with_statement, with_user, with_relation, stands}
@@ -17,6 +18,8 @@ use Rattle.bdb_bind.specs.declared.bound.BindError.TheVariants as bind
 use Rattle.bdb_bind.specs.Refusal.{refusal_of}
 use Rattle.bdb_bind.specs.Binding.{bound_of}
 use Rattle.bdb_canon.specs.Canonical.{canon_of, line_count}
+use Rattle.bdb_plan.specs.PlanOf.{plan_of}
+use Rattle.bdb_plan.specs.PlanText.{plan_text}
 use Rattle.bdb_render.specs.declared.refusal.Refusal.{Refusal}
 use Rattle.bdb_render.specs.declared.refusal.Refusal.TheVariants as refusal
 use Rattle.bdb_render.specs.Tables.{tables_reply}
@@ -82,6 +85,10 @@ tells s lines text answers = unless (too_many lines) (Done text answers s)
 abbrev pub world_at : Contents → List ℕ → World
 world_at b path = record { held = world_of (key_lengths b.catalog.rels) b.stmts path }
 
+-- the text of a query's plan, and how many lines it has
+abbrev pub plan_reply : Catalog → Query → List ℕ
+plan_reply c q = plan_text c q (plan_of c.rels q) ++ count_reply (length (plan_of c.rels q).steps + 1)
+
 -- ---- what comes of a command that is bound
 
 abbrev pub bound_outcome : State → Bound → Outcome
@@ -96,7 +103,7 @@ bound_outcome s (Update path sign rel sets conds) =
     unless (clashes_with (clashing_within (with_stmts s.base (updated path sign rel conds sets s.base.stmts)) path))
     (becomes s (with_stmts s.base (updated path sign rel conds sets s.base.stmts)) (count_reply (length (taken_by path sign rel conds s.base.stmts))))
 bound_outcome s (Select query) = tells s (length (answers_of s.base query)) (rows_reply (answers_of s.base query)) (length (answers_of s.base query))
-bound_outcome s (Explain query) = Refused refusal.Syntax
+bound_outcome s (Explain query) = Done (plan_reply s.base.catalog query) 0 s
 bound_outcome s (ShowWorld path) = Done (world_reply s.base.catalog (world_at s.base path)) 0 s
 bound_outcome s ShowTables = tells s (line_count s.base.catalog (canon_of s.base)) (tables_reply s.base.catalog (canon_of s.base)) 0
 

@@ -1,8 +1,21 @@
--- What opening tables commits.
+-- What opening tables does.
 use Rattle.std.specs.Prelude.{ℕ, nat_eq, if◌then◌else◌}
 use Rattle.std.specs.FinMap as tables
+use Rattle.bdb_base.specs.Bases.{Contents}
+use Rattle.bdb_catalog.specs.Bases.{StoresValid}
+use Rattle.bdb_catalog.specs.Opening.{StandFor}
 use Rattle.bdb_keep.specs.Tables.{Tables}
+use Rattle.bdb_session.specs.Known.{Known, Agrees}
+use Rattle.bdb_session.specs.Outcome.{start_from}
 
 -- how often opening tables commits: once where they have no row
 abbrev pub opening : Tables → ℕ
 opening t = if nat_eq (tables.len t) 0 then 1 else 0
+
+-- a session over new tables agrees with them on the base for which the old ones stand, whichever it is
+abbrev pub Opens : Tables → Tables → Known → Type 0
+Opens t u k = (b : Contents) → StandFor t b → Agrees u k (start_from b)
+
+-- a session agrees with tables on the base that they store, whichever valid one it is
+abbrev pub KnowsStored : Tables → Known → Type 0
+KnowsStored t k = (b : Contents) → StoresValid t b → Agrees t k (start_from b)

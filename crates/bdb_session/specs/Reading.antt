@@ -1,9 +1,7 @@
 -- What the bytes of a piece say.
-use Rattle.std.specs.Prelude.{◌≡◌, ℕ, Bool, true, false, List, [], ◌∷◌, Option, None, Some, if◌then◌else◌, codes}
+use Rattle.std.specs.Prelude.{◌≡◌, ℕ, true, List, [], ◌∷◌, Option, None, Some, if◌then◌else◌}
 use Rattle.bdb_lex.specs.declared.token.Token.{Token}
-use Rattle.bdb_lex.specs.declared.token.Token.TheVariants.{Word}
 use Rattle.bdb_lex.specs.Tokens.{tokens_of}
-use Rattle.bdb_syntax.specs.Keywords.{is_keyword}
 use Rattle.bdb_syntax.specs.declared.command.Command.{Command}
 use Rattle.bdb_parse.specs.Reading.{command_of}
 use Rattle.bdb_parse.specs.Fits.{fits}
@@ -11,11 +9,6 @@ use Rattle.bdb_bind.specs.Fits.{is_allowed}
 use Rattle.bdb_render.specs.declared.refusal.Refusal.TheVariants as refusal
 use Rattle.bdb_session.specs.declared.reading.Reading.{Reading}
 use Rattle.bdb_session.specs.declared.reading.Reading.TheVariants as reading
-
--- plans are not told yet: the first word of the command tells
-abbrev pub begins_explain : Token → Bool
-begins_explain (Word w) = is_keyword (codes "explain") w
-begins_explain _ = false
 
 -- a command with literals that fit
 abbrev pub reading_of_command : Option Command → Reading
@@ -25,7 +18,7 @@ reading_of_command (Some c) = if fits c then reading.Says c else reading.Refused
 abbrev pub reading_of_tokens : Option (List Token) → Reading
 reading_of_tokens None = reading.Refused refusal.Syntax
 reading_of_tokens (Some []) = reading.Nothing
-reading_of_tokens (Some (t ∷ ts)) = if begins_explain t then reading.Refused refusal.Syntax else reading_of_command (command_of (t ∷ ts))
+reading_of_tokens (Some (t ∷ ts)) = reading_of_command (command_of (t ∷ ts))
 
 -- what the bytes of a piece say
 abbrev pub reading_of : List ℕ → Reading

@@ -7,6 +7,7 @@ mod event;
 mod insert;
 mod limits;
 mod open;
+mod query;
 mod reading;
 mod refusals;
 mod reply;
@@ -14,6 +15,7 @@ mod session;
 mod show;
 mod stop;
 mod transact;
+mod within;
 
 pub use event::Event;
 pub use reading::{Reading, read_piece};

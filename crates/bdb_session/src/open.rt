@@ -1,24 +1,26 @@
 // Opening a session over tables.
 ghost use Rattle.std.specs.Prelude.{◌≡◌, false, IfOk, OnOk, OnErr};
 ghost use Rattle.std.specs.FinMap as tables;
-ghost use Rattle.bdb_base.specs.Bases.{Contents, IsValid, empty_contents};
+ghost use Rattle.bdb_base.specs.Bases.{empty_contents};
 ghost use Rattle.bdb_base.specs.Causes.{HasCause, Rises};
+ghost use Rattle.bdb_catalog.specs.Bases.{StoresSome};
+ghost use Rattle.bdb_catalog.specs.Opening.{StandForSome};
 ghost use Rattle.bdb_keep.specs.Seen.{IsAtRest, IsStill, NeverFall, Unchanged};
-ghost use Rattle.bdb_tables.specs.Codec.{place};
-ghost use Rattle.bdb_tables.specs.InUse.{meta_codec};
-ghost use Rattle.bdb_tables.specs.Holds.{Holds, Stands};
-ghost use Rattle.bdb_session.specs.Opening.{opening};
+ghost use Rattle.bdb_tables.specs.Stored.{Stores};
+ghost use Rattle.bdb_session.specs.Committing.{IsCommitted};
+ghost use Rattle.bdb_session.specs.Known.{Agrees, AgreesOnSome};
+ghost use Rattle.bdb_session.specs.Opening.{opening, KnowsStored, Opens};
 ghost use Rattle.bdb_session.specs.Outcome.{start_from};
-ghost use Rattle.bdb_session.specs.Served.{Commits};
 
-use crate::limits::{Counts, counts_of};
 use crate::session::Session;
 use crate::stop::StopError;
-use crate::transact::{commit_format, stop_from};
-use bdb_base::{Base, Catalog};
+use crate::transact::{begin, commit, stop_from};
+use bdb_base::{Catalog, List};
 use bdb_bind::NameIndex;
+use bdb_canon::Counts;
+use bdb_catalog::{read_format, read_relations, read_users, write_empty};
 use bdb_keep::Keeper;
-use bdb_tables::{MetaTab, get, read_relations, read_statements, read_users};
+use bdb_stored::counts_of;
 use std::alloc::Global;
 
 impl Session {
@@ -26,10 +28,10 @@ impl Session {
     /// commit; others stay as they are.
     pub fn open<K: Keeper>(alloc: Global, keeper: &mut K) -> Result<Self, StopError>
         requires stopped { (K.seen keeper.old).running ≡ false }
-        requires base { (b : Contents) × Stands (K.seen keeper.old).kept b × IsValid b.catalog b.stmts }
+        requires base { StandForSome (K.seen keeper.old).kept }
         ensures rest { IsAtRest (K.seen keeper.old) }
-        ensures opened { IfOk result (λ session. (b : Contents) → Stands (K.seen keeper.old).kept b → IsValid b.catalog b.stmts → session ≡ start_from b) }
-        ensures holds { IfOk result (λ session. Holds (K.seen keeper.new).kept session.base) }
+        ensures opened { IfOk result (λ session. Opens (K.seen keeper.old).kept (K.seen keeper.new).kept session) }
+        ensures agrees { IfOk result (λ session. AgreesOnSome (K.seen keeper.new).kept session) }
         ensures commits { OnOk result (Rises (opening (K.seen keeper.old).kept) (K.seen keeper.old).commits (K.seen keeper.new).commits) }
         ensures unchanged { OnOk result (opening (K.seen keeper.old).kept ≡ 0 → Unchanged (K.seen keeper.old) (K.seen keeper.new)) }
         ensures still { IsStill (K.seen keeper.new) }
@@ -37,7 +39,7 @@ impl Session {
         ensures cause { HasCause (K.seen keeper.old).faults (K.seen keeper.new).faults result StopError.Fault }
         ensures err { OnErr result (Unchanged (K.seen keeper.old) (K.seen keeper.new)) }
     {
-        match get::<MetaTab, K>(alloc, keeper, &()) {
+        match read_format(alloc, keeper) {
             Ok(Some(_)) => read_session(alloc, keeper),
             Ok(None) => new_session(alloc, keeper),
             Err(error) => Err(stop_from(error)),
@@ -45,11 +47,11 @@ impl Session {
     }
 }
 
-/// A session over the base that the tables hold.
+/// A session over the base that the tables store.
 fn read_session<K: Keeper>(alloc: Global, keeper: &mut K) -> Result<Session, StopError>
     requires still { IsStill (K.seen keeper.old) }
-    requires base { (b : Contents) × Holds (K.seen keeper.old).kept b × IsValid b.catalog b.stmts }
-    ensures opened { IfOk result (λ session. (b : Contents) → Holds (K.seen keeper.old).kept b → IsValid b.catalog b.stmts → session ≡ start_from b) }
+    requires base { StoresSome (K.seen keeper.old).kept }
+    ensures knows { IfOk result (λ session. KnowsStored (K.seen keeper.old).kept session) }
     ensures unchanged { Unchanged (K.seen keeper.old) (K.seen keeper.new) }
     ensures still { IsStill (K.seen keeper.new) }
     ensures never_fall { NeverFall (K.seen keeper.old) (K.seen keeper.new) }
@@ -63,18 +65,14 @@ fn read_session<K: Keeper>(alloc: Global, keeper: &mut K) -> Result<Session, Sto
         Ok(rels) => rels,
         Err(error) => return Err(stop_from(error)),
     };
-    let stmts = match read_statements(alloc, keeper) {
-        Ok(stmts) => stmts,
+    let counts = match counts_of(alloc, keeper) {
+        Ok(counts) => counts,
         Err(error) => return Err(stop_from(error)),
     };
     let catalog = Catalog { rels, users };
-    let index = match NameIndex::of(alloc, &catalog) {
-        Ok(index) => index,
-        Err(_) => return Err(StopError::Memory),
-    };
-    match counts_of(alloc, stmts.as_slice()) {
-        Ok(counts) => Ok(Session {
-            base: Base::from_parts(catalog, stmts),
+    match NameIndex::of(alloc, &catalog) {
+        Ok(index) => Ok(Session {
+            catalog,
             counts,
             index,
             alloc,
@@ -87,22 +85,45 @@ fn read_session<K: Keeper>(alloc: Global, keeper: &mut K) -> Result<Session, Sto
 fn new_session<K: Keeper>(alloc: Global, keeper: &mut K) -> Result<Session, StopError>
     requires still { IsStill (K.seen keeper.old) }
     requires empty { (K.seen keeper.old).kept ≡ tables.empty }
-    ensures opened { IfOk result (λ session. session ≡ start_from empty_contents) }
-    ensures holds { IfOk result (λ session. Holds (K.seen keeper.new).kept session.base) }
-    ensures commits { Commits (tables.insert (K.seen keeper.old).kept (place meta_codec tt) (meta_codec.row_bytes 1))
-        (K.seen keeper.old) (K.seen keeper.new) result }
+    ensures agrees { IfOk result (λ session. Agrees (K.seen keeper.new).kept session (start_from empty_contents)) }
+    ensures committed { IsCommitted (K.seen keeper.old) (K.seen keeper.new) result StopError.Fault }
 {
-    match commit_format(alloc, keeper) {
+    match commit_empty(alloc, keeper) {
+        Ok(()) => Ok(Session {
+            catalog: Catalog {
+                rels: List::new(alloc),
+                users: List::new(alloc),
+            },
+            counts: Counts {
+                worlds: 1,
+                tuples: 0,
+                stmts: 0,
+                rows: 0,
+            },
+            index: NameIndex::new(alloc),
+            alloc,
+        }),
+        Err(stop) => Err(stop),
+    }
+}
+
+/// Makes the tables of the empty base, in a transaction of its own.
+fn commit_empty<K: Keeper>(alloc: Global, keeper: &mut K) -> Result<(), StopError>
+    requires still { IsStill (K.seen keeper.old) }
+    requires empty { (K.seen keeper.old).kept ≡ tables.empty }
+    ensures stored { OnOk result (Stores (K.seen keeper.new).kept empty_contents) }
+    ensures committed { IsCommitted (K.seen keeper.old) (K.seen keeper.new) result StopError.Fault }
+{
+    match begin(keeper) {
         Ok(()) => {}
         Err(stop) => return Err(stop),
     }
-    Ok(Session {
-        base: Base::empty(alloc),
-        counts: Counts {
-            worlds: 1,
-            tuples: 0,
-        },
-        index: NameIndex::new(alloc),
-        alloc,
-    })
+    match write_empty(alloc, keeper) {
+        Ok(()) => {}
+        Err(error) => return Err(stop_from(error)),
+    }
+    match commit(keeper) {
+        Ok(()) => Ok(()),
+        Err(stop) => Err(stop),
+    }
 }

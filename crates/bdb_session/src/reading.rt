@@ -4,7 +4,7 @@ ghost use Rattle.bdb_parse.specs.Reading.{command_of};
 ghost use Rattle.bdb_parse.specs.Spelled.{AreWellSpelled};
 
 use bdb_lex::{LexError, Token, tokens};
-use bdb_parse::{ParseError, is_keyword, parse};
+use bdb_parse::{ParseError, parse};
 use bdb_render::Refusal;
 use bdb_syntax::Command;
 use std::alloc::{AllocError, Global};
@@ -20,7 +20,7 @@ pub enum Reading {
     Refused(Refusal),
 }
 
-ghost use Rattle.bdb_session.specs.Reading.{reading_of, reading_of_tokens, reading_of_command, begins_explain, IsFit};
+ghost use Rattle.bdb_session.specs.Reading.{reading_of, reading_of_tokens, reading_of_command, IsFit};
 
 /// What a piece says.
 pub fn read_piece(alloc: Global, piece: &[u8]) -> Result<Reading, AllocError>
@@ -35,33 +35,18 @@ pub fn read_piece(alloc: Global, piece: &[u8]) -> Result<Reading, AllocError>
 }
 
 /// What tokens say.
-fn read_tokens(alloc: Global, tokens: &[Token]) -> Result<Reading, AllocError>
+fn read_tokens(alloc: Global, tokens: &[Token<'_>]) -> Result<Reading, AllocError>
     ensures reading { IfOk result (λ r. r ≡ reading_of_tokens (Some tokens.now)) }
     ensures fit { AreWellSpelled tokens.now → IfOk result IsFit }
 {
     match tokens {
         [] => Ok(Reading::Nothing),
-        [first, ..] => {
-            if is_explain(first) {
-                return Ok(Reading::Refused(Refusal::Syntax));
-            }
-            read_command(alloc, tokens)
-        }
-    }
-}
-
-/// Whether a token begins a command that tells a plan.
-fn is_explain(token: &Token) -> bool
-    ensures { result ≡ begins_explain token.now }
-{
-    match token {
-        Token::Word(word) => is_keyword("explain", word),
-        _ => false,
+        [_, ..] => read_command(alloc, tokens),
     }
 }
 
 /// What tokens say as a command.
-fn read_command(alloc: Global, tokens: &[Token]) -> Result<Reading, AllocError>
+fn read_command(alloc: Global, tokens: &[Token<'_>]) -> Result<Reading, AllocError>
     ensures reading { IfOk result (λ r. r ≡ reading_of_command (command_of tokens.now)) }
     ensures fit { AreWellSpelled tokens.now → IfOk result IsFit }
 {

@@ -1,31 +1,30 @@
-// The session: the base so far, and the commands that change it.
-ghost use Rattle.std.specs.Prelude.{◌≡◌, IfOk, OnOk, OnErr, true};
+// The session: what it knows of the stored base, and the commands that it carries out.
+ghost use Rattle.std.specs.Prelude.{◌≡◌, ℕ, List, IfOk, OnOk, OnErr, true};
 ghost use Rattle.bdb_base.specs.Causes.{HasCause, Rises};
 ghost use Rattle.bdb_keep.specs.Seen.{IsStill, NeverFall, Unchanged};
-ghost use Rattle.bdb_tables.specs.Holds.{Holds};
 ghost use Rattle.bdb_session.specs.declared.event.Event.TheVariants as event;
+ghost use Rattle.bdb_session.specs.declared.event.Event.TheVariants.{Piece};
 ghost use Rattle.bdb_session.specs.declared.reading.Reading.TheVariants as reading;
 
 use crate::change::Selection;
 use crate::event::Event;
-use crate::limits::Counts;
 use crate::reading::{Reading, read_piece};
 use crate::refusals::refusal_from;
 use crate::reply::Reply;
 use crate::stop::StopError;
-use bdb_base::{Base, Catalog, List};
+use bdb_base::{Catalog, List};
 use bdb_bind::{Bound, NameIndex, bind_by};
+use bdb_canon::Counts;
 use bdb_keep::Keeper;
 use bdb_render::{Refusal, refusal_reply};
 use bdb_syntax::Command;
 use std::alloc::Global;
 use std::marker::Model;
 
-/// A session: the base that the accepted commands have reached. Contracts see it as the state of
-/// the belief machine.
+/// A session: the relations, users and sizes of the base that a keeper's tables store. Contracts see it as what it knows.
 #[derive(Drop)]
 pub struct Session {
-    pub(crate) base: Base,
+    pub(crate) catalog: Catalog,
     pub(crate) counts: Counts,
     pub(crate) index: NameIndex,
     pub(crate) alloc: Global,
@@ -33,55 +32,67 @@ pub struct Session {
 
 impl Model for Session {
     ghost use Rattle.std.specs.Prelude.{◌≡◌};
-    ghost use Rattle.bdb_session.specs.Outcome.{State};
-    ghost use Rattle.bdb_session.specs.Sizes.{counts_of};
+    ghost use Rattle.bdb_session.specs.Known.{Known};
 
-    ghost Value = { State };
+    ghost Value = { Known };
 
-    ghost view = { λ s. record { base = s.base } };
+    ghost view = { λ s. record { catalog = s.catalog; counts = s.counts } };
 
-    ghost invariant = { λ s. s.counts ≡ counts_of s.base.stmts };
+    ghost invariant = { λ _. Unit {0} };
 }
 
 ghost use Rattle.bdb_bind.specs.Fits.{fits_catalog, is_allowed};
+ghost use Rattle.bdb_syntax.specs.declared.command.Command.{Command};
+ghost use Rattle.bdb_session.specs.Bounds.{CommandReads, CommandWrites, ReadsAsTold, WritesAsTold};
+ghost use Rattle.bdb_session.specs.Known.{Agrees, AgreesOnSome};
+ghost use Rattle.bdb_session.specs.Machine.{reply_of, accepts, answers_to, next_state, counts, bound_outcome, command_outcome, outcome_of};
+ghost use Rattle.bdb_session.specs.Outcome.{State, Refused};
 ghost use Rattle.bdb_session.specs.Reading.{reading_of};
-ghost use Rattle.bdb_session.specs.Machine.{reply_of, accepts, answers_to, next_state, counts, bound_outcome, command_outcome};
-ghost use Rattle.bdb_session.specs.Outcome.{Refused};
-ghost use Rattle.bdb_session.specs.Served.{IsServed, IsTold};
+ghost use Rattle.bdb_session.specs.Served.{IsTold, Serves};
 
 impl Session {
     /// The relations and users of the base.
     pub fn catalog(&self) -> &Catalog
-        ensures { result.now ≡ self.now.base.catalog }
+        ensures { result.now ≡ self.now.catalog }
     {
-        self.base.catalog()
+        &self.catalog
     }
 
-    /// Answers a piece of a script: the reply is that of the belief machine to it in the state so far, and the state is
-    /// the one that the machine reaches. An accepted piece with a token is committed once; after a refused one rows and
-    /// commits are as they were. A piece without tokens leaves the keeper alone. After an Err the state and the tables
-    /// are as they were.
+    /// How large the base is: its worlds, different tuples and statements, and the rows of its worlds.
+    pub fn counts(&self) -> &Counts
+        ensures { result.now ≡ self.now.counts }
+    {
+        &self.counts
+    }
+
+    /// Answers a piece of a script, over the tables with which the session agrees: the reply is that of the belief machine in
+    /// the state that they agree on, and afterwards they agree on the state that the machine reaches. An accepted piece
+    /// with a token is committed once; after a refused one rows and commits are as they were. A piece without tokens
+    /// leaves the keeper alone. After an Err the session and the tables are as they were. How often is read to show a world or
+    /// answer a query, and written to add or take away one statement, is bounded.
     pub fn apply<K: Keeper>(&mut self, keeper: &mut K, piece: &[u8]) -> Result<Reply, StopError>
         requires still { IsStill (K.seen keeper.old) }
-        requires agrees { Holds (K.seen keeper.old).kept self.old.base }
-        ensures text { IfOk result (λ r. r.text ≡ reply_of self.old (event.Piece piece.now)) }
-        ensures accepted { IfOk result (λ r. r.accepted ≡ accepts self.old (event.Piece piece.now)) }
-        ensures answers { IfOk result (λ r. r.answers ≡ answers_to self.old (event.Piece piece.now)) }
-        ensures next { OnOk result (self.new ≡ next_state self.old (event.Piece piece.now)) }
-        ensures holds { Holds (K.seen keeper.new).kept self.new.base }
-        ensures commits { OnOk result (Rises (counts self.old (event.Piece piece.now)) (K.seen keeper.old).commits (K.seen keeper.new).commits) }
-        ensures alone { OnOk result (counts self.old (event.Piece piece.now) ≡ 0 → Unchanged (K.seen keeper.old) (K.seen keeper.new)) }
+        requires agrees { AgreesOnSome (K.seen keeper.old).kept self.old }
+        ensures text { (s : State) → Agrees (K.seen keeper.old).kept self.old s → IfOk result (λ r. r.text ≡ reply_of s (event.Piece piece.now)) }
+        ensures accepted { (s : State) → Agrees (K.seen keeper.old).kept self.old s → IfOk result (λ r. r.accepted ≡ accepts s (event.Piece piece.now)) }
+        ensures answers { (s : State) → Agrees (K.seen keeper.old).kept self.old s → IfOk result (λ r. r.answers ≡ answers_to s (event.Piece piece.now)) }
+        ensures next { (s : State) → Agrees (K.seen keeper.old).kept self.old s → OnOk result (Agrees (K.seen keeper.new).kept self.new (next_state s (event.Piece piece.now))) }
+        ensures commits { (s : State) → Agrees (K.seen keeper.old).kept self.old s → OnOk result (Rises (counts s (event.Piece piece.now)) (K.seen keeper.old).commits (K.seen keeper.new).commits) }
+        ensures alone { (s : State) → Agrees (K.seen keeper.old).kept self.old s → OnOk result (counts s (event.Piece piece.now) ≡ 0 → Unchanged (K.seen keeper.old) (K.seen keeper.new)) }
+        ensures agrees { AgreesOnSome (K.seen keeper.new).kept self.new }
         ensures untouched { reading_of piece.now ≡ reading.Nothing → keeper.new ≡ keeper.old }
         ensures still { IsStill (K.seen keeper.new) }
         ensures never_fall { NeverFall (K.seen keeper.old) (K.seen keeper.new) }
         ensures cause { HasCause (K.seen keeper.old).faults (K.seen keeper.new).faults result StopError.Fault }
         ensures err { OnErr result (Unchanged (K.seen keeper.old) (K.seen keeper.new)) }
         ensures same { OnErr result (self.new ≡ self.old) }
+        ensures reads { (c : Command) → reading_of piece.now ≡ reading.Says c → CommandReads c self.old (K.seen keeper.old) (K.seen keeper.new) result }
+        ensures writes { (c : Command) → reading_of piece.now ≡ reading.Says c → CommandWrites c self.old (K.seen keeper.old) (K.seen keeper.new) result }
     {
         match read_piece(self.alloc, piece) {
             Ok(Reading::Nothing) => Ok(Reply::accepted(List::new(self.alloc))),
             Ok(Reading::Refused(refusal)) => self.refuse(&refusal),
-            Ok(Reading::Says(command)) => self.carry_out(keeper, &command),
+            Ok(Reading::Says(command)) => self.carry_out(keeper, command),
             Err(_) => Err(StopError::Memory),
         }
     }
@@ -90,14 +101,16 @@ impl Session {
     /// ended, are refused.
     pub fn answer<K: Keeper>(&mut self, keeper: &mut K, event: &Event) -> Result<Reply, StopError>
         requires still { IsStill (K.seen keeper.old) }
-        requires agrees { Holds (K.seen keeper.old).kept self.old.base }
-        ensures text { IfOk result (λ r. r.text ≡ reply_of self.old event.now) }
-        ensures accepted { IfOk result (λ r. r.accepted ≡ accepts self.old event.now) }
-        ensures answers { IfOk result (λ r. r.answers ≡ answers_to self.old event.now) }
-        ensures next { OnOk result (self.new ≡ next_state self.old event.now) }
-        ensures holds { Holds (K.seen keeper.new).kept self.new.base }
-        ensures commits { OnOk result (Rises (counts self.old event.now) (K.seen keeper.old).commits (K.seen keeper.new).commits) }
-        ensures alone { OnOk result (counts self.old event.now ≡ 0 → Unchanged (K.seen keeper.old) (K.seen keeper.new)) }
+        requires agrees { AgreesOnSome (K.seen keeper.old).kept self.old }
+        ensures text { (s : State) → Agrees (K.seen keeper.old).kept self.old s → IfOk result (λ r. r.text ≡ reply_of s event.now) }
+        ensures accepted { (s : State) → Agrees (K.seen keeper.old).kept self.old s → IfOk result (λ r. r.accepted ≡ accepts s event.now) }
+        ensures answers { (s : State) → Agrees (K.seen keeper.old).kept self.old s → IfOk result (λ r. r.answers ≡ answers_to s event.now) }
+        ensures next { (s : State) → Agrees (K.seen keeper.old).kept self.old s → OnOk result (Agrees (K.seen keeper.new).kept self.new (next_state s event.now)) }
+        ensures commits { (s : State) → Agrees (K.seen keeper.old).kept self.old s → OnOk result (Rises (counts s event.now) (K.seen keeper.old).commits (K.seen keeper.new).commits) }
+        ensures alone { (s : State) → Agrees (K.seen keeper.old).kept self.old s → OnOk result (counts s event.now ≡ 0 → Unchanged (K.seen keeper.old) (K.seen keeper.new)) }
+        ensures reads { (bytes : List ℕ) (c : Command) → event.now ≡ Piece bytes → reading_of bytes ≡ reading.Says c → CommandReads c self.old (K.seen keeper.old) (K.seen keeper.new) result }
+        ensures writes { (bytes : List ℕ) (c : Command) → event.now ≡ Piece bytes → reading_of bytes ≡ reading.Says c → CommandWrites c self.old (K.seen keeper.old) (K.seen keeper.new) result }
+        ensures agrees { AgreesOnSome (K.seen keeper.new).kept self.new }
         ensures still { IsStill (K.seen keeper.new) }
         ensures never_fall { NeverFall (K.seen keeper.old) (K.seen keeper.new) }
         ensures cause { HasCause (K.seen keeper.old).faults (K.seen keeper.new).faults result StopError.Fault }
@@ -113,26 +126,24 @@ impl Session {
 
     /// The reply to what is refused. The only error is want of memory.
     pub(crate) fn refuse(&self, refusal: &Refusal) -> Result<Reply, StopError>
-        ensures { IsTold self.now.base.catalog (Refused refusal.now) result }
+        ensures { IsTold self.now.catalog (Refused refusal.now) result }
     {
-        match refusal_reply(self.alloc, self.base.catalog(), refusal) {
+        match refusal_reply(self.alloc, &self.catalog, refusal) {
             Ok(text) => Ok(Reply::refused(text)),
             Err(_) => Err(StopError::Memory),
         }
     }
 
     /// Carries out a command, or refuses it.
-    fn carry_out<K: Keeper>(
-        &mut self,
-        keeper: &mut K,
-        command: &Command,
-    ) -> Result<Reply, StopError>
+    fn carry_out<K: Keeper>(&mut self, keeper: &mut K, command: Command) -> Result<Reply, StopError>
         requires still { IsStill (K.seen keeper.old) }
-        requires agrees { Holds (K.seen keeper.old).kept self.old.base }
-        requires allowed { is_allowed command.now ≡ true }
-        ensures { IsServed self.old (command_outcome self.old command.now) self.new (K.seen keeper.old) (K.seen keeper.new) result }
+        requires agrees { AgreesOnSome (K.seen keeper.old).kept self.old }
+        requires allowed { is_allowed command ≡ true }
+        ensures served { Serves (λ s. command_outcome s command) self.old self.new (K.seen keeper.old) (K.seen keeper.new) result }
+        ensures reads { CommandReads command self.old (K.seen keeper.old) (K.seen keeper.new) result }
+        ensures writes { CommandWrites command self.old (K.seen keeper.old) (K.seen keeper.new) result }
     {
-        match bind_by(self.alloc, self.base.catalog(), &self.index, command) {
+        match bind_by(self.alloc, &self.catalog, &self.index, command) {
             Ok(bound) => self.execute(keeper, bound),
             Err(error) => match refusal_from(error) {
                 Some(refusal) => self.refuse(&refusal),
@@ -144,14 +155,16 @@ impl Session {
     /// Carries out a bound command, or refuses it.
     fn execute<K: Keeper>(&mut self, keeper: &mut K, bound: Bound) -> Result<Reply, StopError>
         requires still { IsStill (K.seen keeper.old) }
-        requires agrees { Holds (K.seen keeper.old).kept self.old.base }
-        requires fits { fits_catalog self.old.base.catalog bound ≡ true }
-        ensures { IsServed self.old (bound_outcome self.old bound) self.new (K.seen keeper.old) (K.seen keeper.new) result }
+        requires agrees { AgreesOnSome (K.seen keeper.old).kept self.old }
+        requires fits { fits_catalog self.old.catalog bound ≡ true }
+        ensures served { Serves (λ s. bound_outcome s bound) self.old self.new (K.seen keeper.old) (K.seen keeper.new) result }
+        ensures reads { ReadsAsTold bound self.old (K.seen keeper.old) (K.seen keeper.new) result }
+        ensures writes { WritesAsTold bound self.old (K.seen keeper.old) (K.seen keeper.new) result }
     {
         match bound {
             Bound::CreateUser { name } => self.create_user(keeper, name),
             Bound::CreateRelation { def } => self.create_relation(keeper, def),
-            Bound::Insert { stmt } => self.insert(keeper, stmt),
+            Bound::Insert { stmt } => self.insert(keeper, &stmt),
             Bound::Delete {
                 path,
                 sign,
@@ -182,7 +195,7 @@ impl Session {
                 self.update(keeper, &selection, &sets)
             }
             Bound::Select { query } => self.select(keeper, &query),
-            Bound::Explain { query: _ } => self.refuse(&Refusal::Syntax),
+            Bound::Explain { query } => self.explain(keeper, &query),
             Bound::ShowWorld { path } => self.show_world(keeper, &path),
             Bound::ShowTables => self.show_tables(keeper),
         }

@@ -1,118 +1,100 @@
-// The commands that tell something of the base, and change nothing.
-ghost use Rattle.std.specs.Prelude.{◌≡◌, ◌≤◌, true, nat_lt, Some, None, IfOk, cond, length};
-ghost use Rattle.bdb_base.specs.Limits.{most_lines};
+// The commands that show the world of a path, and the whole structure.
+ghost use Rattle.std.specs.Prelude.{◌≡◌, ◌≤◌, true, nat_lt, length};
+ghost use Rattle.bdb_base.specs.Bases.{IsCatalog};
+ghost use Rattle.bdb_base.specs.Limits.{most_lines, most_relations, most_users};
 ghost use Rattle.bdb_bind.specs.Fits.{fits_catalog};
-ghost use Rattle.bdb_canon.specs.Canonical.{canon_of, line_count};
 ghost use Rattle.bdb_keep.specs.Seen.{IsStill};
-ghost use Rattle.bdb_render.specs.Replies.{rows_reply, world_reply};
+ghost use Rattle.bdb_render.specs.Replies.{world_reply};
 ghost use Rattle.bdb_render.specs.Tables.{tables_reply};
-ghost use Rattle.bdb_tables.specs.Holds.{Holds};
-ghost use Rattle.bdb_session.specs.Machine.{bound_outcome, world_at};
+ghost use Rattle.bdb_session.specs.Known.{AgreesOnSome};
+ghost use Rattle.bdb_session.specs.Lines.{lines_by};
+ghost use Rattle.bdb_session.specs.Machine.{bound_outcome};
 ghost use Rattle.bdb_session.specs.Outcome.{Done};
-ghost use Rattle.bdb_session.specs.Served.{IsServed};
+ghost use Rattle.bdb_session.specs.Served.{Serves};
+ghost use Rattle.bdb_session.specs.Telling.{CommitsNothing, ReadsWithin, world_reads};
 
 use crate::reply::Reply;
 use crate::session::Session;
 use crate::stop::StopError;
-use crate::transact::commit_nothing;
+use crate::transact::{begin, commit, stop_from};
 use bdb_base::limits::MOST_LINES;
-use bdb_base::{List, Path, Query, Value};
+use bdb_base::{List, Path, World};
 use bdb_bind::Bound;
-use bdb_canon::{canon, has_more_lines};
+use bdb_canon::{Canon, Counts};
+use bdb_catalog::world_of_path;
 use bdb_keep::Keeper;
-use bdb_model::{answers_up_to, world_rows};
-use bdb_render::{Refusal, rows_reply, tables_reply, world_reply};
-use std::alloc::AllocError;
+use bdb_render::{Refusal, tables_reply, world_reply};
+use bdb_stored::canon_of;
 
 impl Session {
-    /// Answers a query, or refuses it where it has too many answers.
-    pub(crate) fn select<K: Keeper>(
-        &self,
-        keeper: &mut K,
-        query: &Query,
-    ) -> Result<Reply, StopError>
-        requires still { IsStill (K.seen keeper.old) }
-        requires agrees { Holds (K.seen keeper.old).kept self.now.base }
-        requires fits { fits_catalog self.now.base.catalog (Bound.Select query.now) ≡ true }
-        ensures { IsServed self.now (bound_outcome self.now (Bound.Select query.now)) self.now (K.seen keeper.old) (K.seen keeper.new) result }
-    {
-        match answers_up_to(self.alloc, &self.base, query, MOST_LINES) {
-            Ok(Some(rows)) => self.tell_rows(keeper, &rows),
-            Ok(None) => self.refuse(&Refusal::Many),
-            Err(_) => Err(StopError::Memory),
-        }
-    }
-
-    /// Tells the answers of a query, which are few enough.
-    fn tell_rows<K: Keeper>(
-        &self,
-        keeper: &mut K,
-        rows: &List<List<Value>>,
-    ) -> Result<Reply, StopError>
-        requires still { IsStill (K.seen keeper.old) }
-        requires agrees { Holds (K.seen keeper.old).kept self.now.base }
-        requires few { length rows.now ≤ most_lines }
-        ensures { IsServed self.now (Done (rows_reply rows.now) (length rows.now) self.now) self.now (K.seen keeper.old) (K.seen keeper.new) result }
-    {
-        let answers = rows.len() as u32;
-        match rows_reply(self.alloc, rows) {
-            Ok(text) => self.tell(keeper, text, answers),
-            Err(_) => Err(StopError::Memory),
-        }
-    }
-
-    /// Shows the world of a path.
+    /// Shows the world of a path. A read for each user of the path, and two for each row of the world, at most.
     pub(crate) fn show_world<K: Keeper>(
         &self,
         keeper: &mut K,
         path: &Path,
     ) -> Result<Reply, StopError>
         requires still { IsStill (K.seen keeper.old) }
-        requires agrees { Holds (K.seen keeper.old).kept self.now.base }
-        ensures { IsServed self.now (bound_outcome self.now (Bound.ShowWorld path.now)) self.now (K.seen keeper.old) (K.seen keeper.new) result }
+        requires agrees { AgreesOnSome (K.seen keeper.old).kept self.now }
+        requires fits { fits_catalog self.now.catalog (Bound.ShowWorld path.now) ≡ true }
+        ensures served { Serves (λ s. bound_outcome s (Bound.ShowWorld path.now)) self.now self.now (K.seen keeper.old) (K.seen keeper.new) result }
+        ensures reads { ReadsWithin (λ s. world_reads s.base path.now) self.now (K.seen keeper.old) (K.seen keeper.new) result }
     {
-        match self.world_text(path.as_slice()) {
+        match world_of_path(self.alloc, keeper, path) {
+            Ok(world) => self.tell_world(keeper, &world),
+            Err(error) => Err(stop_from(error)),
+        }
+    }
+
+    /// Tells the rows of a world.
+    fn tell_world<K: Keeper>(&self, keeper: &mut K, world: &World) -> Result<Reply, StopError>
+        requires still { IsStill (K.seen keeper.old) }
+        ensures served { Serves (λ s. Done (world_reply self.now.catalog world.now) 0 s) self.now self.now (K.seen keeper.old) (K.seen keeper.new) result }
+        ensures reads { (K.seen keeper.new).reads ≡ (K.seen keeper.old).reads }
+    {
+        match world_reply(self.alloc, &self.catalog, world) {
             Ok(text) => self.tell(keeper, text, 0),
             Err(_) => Err(StopError::Memory),
         }
     }
 
-    /// The text of the world of a path.
-    fn world_text(&self, path: &[u32]) -> Result<List<u8>, AllocError>
-        ensures { IfOk result (λ text. text ≡ world_reply self.now.base.catalog (world_at self.now.base path.now)) }
-    {
-        let world = world_rows(self.alloc, &self.base, path)?;
-        let text = world_reply(self.alloc, self.base.catalog(), &world)?;
-        Ok(text)
-    }
-
-    /// Shows the structure, or refuses to where there are too many lines.
+    /// Shows the structure, or refuses to where there are too many lines. The sizes of the base tell how many there are, so
+    /// that nothing is read where it is refused.
     pub(crate) fn show_tables<K: Keeper>(&self, keeper: &mut K) -> Result<Reply, StopError>
         requires still { IsStill (K.seen keeper.old) }
-        requires agrees { Holds (K.seen keeper.old).kept self.now.base }
-        ensures { IsServed self.now (bound_outcome self.now Bound.ShowTables) self.now (K.seen keeper.old) (K.seen keeper.new) result }
+        requires agrees { AgreesOnSome (K.seen keeper.old).kept self.now }
+        ensures { Serves (λ s. bound_outcome s Bound.ShowTables) self.now self.now (K.seen keeper.old) (K.seen keeper.new) result }
     {
-        match self.tables_text() {
-            Ok(Some(text)) => self.tell(keeper, text, 0),
-            Ok(None) => self.refuse(&Refusal::Many),
+        if self.has_many_lines() {
+            return self.refuse(&Refusal::Many);
+        }
+        match canon_of(self.alloc, keeper) {
+            Ok(canon) => self.tell_tables(keeper, &canon),
+            Err(error) => Err(stop_from(error)),
+        }
+    }
+
+    /// Tells the structure.
+    fn tell_tables<K: Keeper>(&self, keeper: &mut K, canon: &Canon) -> Result<Reply, StopError>
+        requires still { IsStill (K.seen keeper.old) }
+        ensures { Serves (λ s. Done (tables_reply self.now.catalog canon.now) 0 s) self.now self.now (K.seen keeper.old) (K.seen keeper.new) result }
+    {
+        match tables_reply(self.alloc, &self.catalog, canon) {
+            Ok(text) => self.tell(keeper, text, 0),
             Err(_) => Err(StopError::Memory),
         }
     }
 
-    /// The text of the structure; none where there are too many lines. They are counted before it is built.
-    fn tables_text(&self) -> Result<Option<List<u8>>, AllocError>
-        ensures { IfOk result (λ text. text ≡ cond (nat_lt most_lines (line_count self.now.base.catalog (canon_of self.now.base)))
-            None (Some (tables_reply self.now.base.catalog (canon_of self.now.base)))) }
+    /// Whether the structure has more lines than may be told.
+    fn has_many_lines(&self) -> bool
+        requires catalog { IsCatalog self.now.catalog }
+        ensures { result ≡ nat_lt most_lines (lines_by (length self.now.catalog.users) (length self.now.catalog.rels) self.now.counts) }
     {
-        if has_more_lines(self.alloc, &self.base, MOST_LINES)? {
-            return Ok(None);
-        }
-        let structure = canon(self.alloc, &self.base)?;
-        let text = tables_reply(self.alloc, self.base.catalog(), &structure)?;
-        Ok(Some(text))
+        let users = self.catalog.users.len();
+        let rels = self.catalog.rels.len();
+        MOST_LINES < lines_by(users, rels, &self.counts)
     }
 
-    /// Answers with a text and a number of answers what changes nothing.
+    /// Answers with a text and a number of answers what changes nothing. Nothing is read.
     pub(crate) fn tell<K: Keeper>(
         &self,
         keeper: &mut K,
@@ -120,8 +102,8 @@ impl Session {
         answers: u32,
     ) -> Result<Reply, StopError>
         requires still { IsStill (K.seen keeper.old) }
-        requires agrees { Holds (K.seen keeper.old).kept self.now.base }
-        ensures { IsServed self.now (Done text answers self.now) self.now (K.seen keeper.old) (K.seen keeper.new) result }
+        ensures served { Serves (λ s. Done text answers s) self.now self.now (K.seen keeper.old) (K.seen keeper.new) result }
+        ensures reads { (K.seen keeper.new).reads ≡ (K.seen keeper.old).reads }
     {
         match commit_nothing(keeper) {
             Ok(()) => Ok(Reply {
@@ -132,4 +114,30 @@ impl Session {
             Err(stop) => Err(stop),
         }
     }
+}
+
+/// Commits that nothing changes.
+fn commit_nothing<K: Keeper>(keeper: &mut K) -> Result<(), StopError>
+    requires still { IsStill (K.seen keeper.old) }
+    ensures { CommitsNothing (K.seen keeper.old) (K.seen keeper.new) result }
+{
+    match begin(keeper) {
+        Ok(()) => {}
+        Err(stop) => return Err(stop),
+    }
+    match commit(keeper) {
+        Ok(()) => Ok(()),
+        Err(stop) => Err(stop),
+    }
+}
+
+/// How many lines tell the structure of a base of these sizes.
+fn lines_by(users: usize, rels: usize, counts: &Counts) -> usize
+    requires users { users ≤ most_users }
+    requires rels { rels ≤ most_relations }
+    ensures { result ≡ lines_by users rels counts.now }
+{
+    let worlds = counts.worlds as usize;
+    let edges = users + worlds.saturating_sub(1) * users.saturating_sub(1);
+    users + rels + counts.tuples as usize + worlds + edges + counts.rows as usize
 }

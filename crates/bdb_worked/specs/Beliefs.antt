@@ -1,7 +1,7 @@
 -- A sighting, a denial of it, and what each believes that others believe.
 use Rattle.std.specs.Prelude.{ℕ, List, [], ◌∷◌, codes}
 
--- Alice doesn't speak of the eagle that Bob denies, then names another bird, and takes that back
+-- Alice doesn't speak of the eagle that Bob denies, then names another bird, and takes that back; each query behind its plan
 abbrev pub script : List (List ℕ)
 script =
     codes "create user 'Alice'; create user 'Bob';"
@@ -12,7 +12,10 @@ script =
     ∷ codes "show world BELIEF 'Alice' BELIEF 'Bob';"
     ∷ codes "show world BELIEF 'Bob' BELIEF 'Alice';"
     ∷ codes "insert into BELIEF 'Alice' S values('s1','crow');"
+    ∷ codes "explain select U.name from Users U, S X, BELIEF U.uid not S Y where Y.k = X.k and Y.v = X.v;"
     ∷ codes "select U.name from Users U, S X, BELIEF U.uid not S Y where Y.k = X.k and Y.v = X.v;"
+    ∷ codes "explain select U.name, W.name from Users U, Users W, BELIEF U.uid BELIEF W.uid S X where X.k = 's1';"
+    ∷ codes "select U.name, W.name from Users U, Users W, BELIEF U.uid BELIEF W.uid S X where X.k = 's1';"
     ∷ codes "insert into BELIEF 'Alice' S values('s1','raven');"
     ∷ codes "insert into BELIEF 'Alice' not S values('s1','raven');"
     ∷ codes "insert into BELIEF 'Alice' S values('s1','crow');"
@@ -34,9 +37,33 @@ told =
     ∷ codes "+ S('s1', 'eagle') inherited"
     ∷ codes "ok 1"
     ∷ codes "ok 1"
+    ∷ codes "user U"
+    ∷ codes "start X"
+    ∷ codes "pos X"
+    ∷ codes "bind Y.k X.k"
+    ∷ codes "bind Y.v X.v"
+    ∷ codes "cond Y.k = X.k"
+    ∷ codes "cond Y.v = X.v"
+    ∷ codes "start Y"
+    ∷ codes "edge Y U.uid"
+    ∷ codes "neg Y"
+    ∷ codes "take U.name"
+    ∷ codes "ok 11"
     ∷ codes "'Alice'"
     ∷ codes "'Bob'"
     ∷ codes "ok 2"
+    ∷ codes "user U"
+    ∷ codes "user W"
+    ∷ codes "start X"
+    ∷ codes "edge X U.uid"
+    ∷ codes "differ X U.uid W.uid"
+    ∷ codes "edge X W.uid"
+    ∷ codes "pos X"
+    ∷ codes "cond X.k = 's1'"
+    ∷ codes "take U.name, W.name"
+    ∷ codes "ok 9"
+    ∷ codes "'Bob', 'Alice'"
+    ∷ codes "ok 1"
     ∷ codes "error clash + S('s1', 'crow')"
     ∷ codes "ok 1"
     ∷ codes "ok 0"

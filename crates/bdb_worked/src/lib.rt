@@ -9,7 +9,7 @@ ghost use Rattle.bdb_worked.specs.Refusals as refusals;
 ghost use Rattle.bdb_worked.specs.Structure as structure;
 ghost use Rattle.bdb_worked.specs.Worked.{IsAnswered};
 
-/// A sighting and a denial of it: what each user believes, and believes that the other does.
+/// A sighting and a denial of it: what each user believes, and believes that the other does. Queries, and their plans.
 pub fn beliefs_are_told()
     ensures { IsAnswered beliefs.script beliefs.told }
 {}

@@ -1,25 +1,32 @@
 use Rattle.std.proofs.Common.{◌∙◌, ap}
-use Rattle.bdb_base.specs.Bases.{Contents, with_relation}
-use Rattle.bdb_base.specs.declared.kinds.Catalog.{Catalog}
-use Rattle.bdb_render.specs.Replies.{ok_reply}
-use Rattle.bdb_session.specs.Machine.{with_catalog}
-use Rattle.bdb_session.specs.Outcome.{State, start_from}
-use Rattle.bdb_session.proofs.RowLemmas.{relation_may_be, relation_rows_hold}
-use Rattle.bdb_session.proofs.ServedLemmas.{done_is_served}
+use Rattle.bdb_base.specs.Bases.{with_relation}
+use Rattle.bdb_bind.specs.declared.bound.Bound.TheVariants.{CreateRelation}
+use Rattle.bdb_session.specs.Known.{Known}
+use Rattle.bdb_session.specs.Machine.{bound_outcome}
+use Rattle.bdb_session.proofs.CommitLemmas.{stopped_serves}
+use Rattle.bdb_session.proofs.CreateLemmas.{some_may_add_relation, relation_serves}
+use Rattle.bdb_session.proofs.ServedLemmas.{unmade_serves}
 use Rattle.bdb_session.proofs.session.Session.add_relation.Goals as goal
 
-pub commit_relation-requires-clause-row : goal.commit_relation-requires-clause-row
-commit_relation-requires-clause-row g c = relation_may_be c.args.self.now.base c.args.def c.requires.valid
+pub returns-in-Err : goal.returns-in-Err
+returns-in-Err g c = unmade_serves (λ s. bound_outcome s (CreateRelation c.args.def.now)) _ _ c.requires.still
+
+pub returns-in-Err-catalog_with_relation : goal.returns-in-Err-catalog_with_relation
+returns-in-Err-catalog_with_relation g c = unmade_serves (λ s. bound_outcome s (CreateRelation c.args.def.now)) _ _ c.requires.still
+
+pub returns-in-Err-of : goal.returns-in-Err-of
+returns-in-Err-of g c = unmade_serves (λ s. bound_outcome s (CreateRelation c.args.def.now)) _ _ c.requires.still
+
+pub commit_relation-requires-clause-base : goal.commit_relation-requires-clause-base
+commit_relation-requires-clause-base g c =
+    some_may_add_relation (g.K.Keeper.seen c.args.keeper.now).kept c.args.self.now c.args.def.now c.args.rel c.requires.number c.requires.fits c.requires.room c.requires.agrees
+
+pub returns-in-Err-commit_relation : goal.returns-in-Err-commit_relation
+returns-in-Err-commit_relation g c = stopped_serves (λ s. bound_outcome s (CreateRelation c.args.def.now)) _ _ _ _ c.in-Err-commit_relation.ensures.committed
 
 pub returns : goal.returns
 returns g c =
-    let s = c.args.self.now in
-    let b = s.base in
-    let def = c.args.def in
-    let here = ap (λ (x : State). x.base) c.self.view_is in
-    let catalog = c.in-Ok-catalog_with_relation.ensures ∙ ap (λ (k : Catalog). with_relation k def) (c.catalog.ensures.value ∙ ap (λ (x : Contents). x.catalog) here) in
-    let next = c.set_catalog.ensures ∙ ap (λ (k : Catalog). record c.self.inside.base { catalog = k }) catalog ∙ ap (λ (x : Contents). record x { catalog = with_relation b.catalog def }) here in
-    done_is_served s ok_reply 0 (record s { base = with_catalog b (with_relation b.catalog def) }) _ _ _ _ _ _
-    (record { text = c.accepted.ensures.text ∙ c.in-Ok.ensures; accepted = c.accepted.ensures.accepted; answers = c.accepted.ensures.answers })
-    (ap (λ (x : Contents). start_from x) next)
-    (relation_rows_hold _ b c.args.rel def c.requires.agrees c.requires.number c.requires.valid) c.in-Ok-commit_relation.ensures.commits
+    let catalog = c.in-Ok-catalog_with_relation.ensures ∙ ap (λ (k : Known). with_relation k.catalog c.args.def.now) c.self.view_is in
+    relation_serves _ c.args.self.now _ c.args.def.now c.args.rel _ _ _ c.requires.number c.requires.fits c.requires.room
+    c.in-Ok-commit_relation.ensures.added c.in-Ok-commit_relation.ensures.committed catalog (ap (λ (k : Known). k.counts) c.self.view_is)
+    (c.accepted.ensures.text ∙ c.in-Ok.ensures) c.accepted.ensures.accepted c.accepted.ensures.answers

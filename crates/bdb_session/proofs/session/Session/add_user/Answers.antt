@@ -1,22 +1,32 @@
 use Rattle.std.proofs.Common.{◌∙◌, ap}
-use Rattle.bdb_base.specs.Bases.{Contents, with_user}
-use Rattle.bdb_base.specs.declared.kinds.Catalog.{Catalog}
-use Rattle.bdb_render.specs.Replies.{ok_reply}
-use Rattle.bdb_session.specs.Machine.{with_catalog}
-use Rattle.bdb_session.specs.Outcome.{State, start_from}
-use Rattle.bdb_session.proofs.RowLemmas.{user_rows_hold}
-use Rattle.bdb_session.proofs.ServedLemmas.{done_is_served}
+use Rattle.bdb_base.specs.Bases.{with_user}
+use Rattle.bdb_bind.specs.declared.bound.Bound.TheVariants.{CreateUser}
+use Rattle.bdb_session.specs.Known.{Known}
+use Rattle.bdb_session.specs.Machine.{bound_outcome}
+use Rattle.bdb_session.proofs.CommitLemmas.{stopped_serves}
+use Rattle.bdb_session.proofs.CreateLemmas.{some_may_add_user, user_serves}
+use Rattle.bdb_session.proofs.ServedLemmas.{unmade_serves}
 use Rattle.bdb_session.proofs.session.Session.add_user.Goals as goal
+
+pub returns-in-Err : goal.returns-in-Err
+returns-in-Err g c = unmade_serves (λ s. bound_outcome s (CreateUser c.args.name.now)) _ _ c.requires.still
+
+pub returns-in-Err-catalog_with_user : goal.returns-in-Err-catalog_with_user
+returns-in-Err-catalog_with_user g c = unmade_serves (λ s. bound_outcome s (CreateUser c.args.name.now)) _ _ c.requires.still
+
+pub returns-in-Err-of : goal.returns-in-Err-of
+returns-in-Err-of g c = unmade_serves (λ s. bound_outcome s (CreateUser c.args.name.now)) _ _ c.requires.still
+
+pub commit_user-requires-clause-base : goal.commit_user-requires-clause-base
+commit_user-requires-clause-base g c =
+    some_may_add_user (g.K.Keeper.seen c.args.keeper.now).kept c.args.self.now c.args.name.now c.args.uid c.requires.number c.requires.fits c.requires.room c.requires.agrees
+
+pub returns-in-Err-commit_user : goal.returns-in-Err-commit_user
+returns-in-Err-commit_user g c = stopped_serves (λ s. bound_outcome s (CreateUser c.args.name.now)) _ _ _ _ c.in-Err-commit_user.ensures.committed
 
 pub returns : goal.returns
 returns g c =
-    let s = c.args.self.now in
-    let b = s.base in
-    let name = c.args.name in
-    let here = ap (λ (x : State). x.base) c.self.view_is in
-    let catalog = c.in-Ok-catalog_with_user.ensures ∙ ap (λ (k : Catalog). with_user k name) (c.catalog.ensures.value ∙ ap (λ (x : Contents). x.catalog) here) in
-    let next = c.set_catalog.ensures ∙ ap (λ (k : Catalog). record c.self.inside.base { catalog = k }) catalog ∙ ap (λ (x : Contents). record x { catalog = with_user b.catalog name }) here in
-    done_is_served s ok_reply 0 (record s { base = with_catalog b (with_user b.catalog name) }) _ _ _ _ _ _
-    (record { text = c.accepted.ensures.text ∙ c.in-Ok.ensures; accepted = c.accepted.ensures.accepted; answers = c.accepted.ensures.answers })
-    (ap (λ (x : Contents). start_from x) next)
-    (user_rows_hold _ b c.args.uid name c.requires.agrees c.requires.number c.requires.valid) c.in-Ok-commit_user.ensures.commits
+    let catalog = c.in-Ok-catalog_with_user.ensures ∙ ap (λ (k : Known). with_user k.catalog c.args.name.now) c.self.view_is in
+    user_serves _ c.args.self.now _ c.args.name.now c.args.uid _ _ _ c.requires.number c.requires.fits c.requires.room
+    c.in-Ok-commit_user.ensures.added c.in-Ok-commit_user.ensures.committed catalog (ap (λ (k : Known). k.counts) c.self.view_is)
+    (c.accepted.ensures.text ∙ c.in-Ok.ensures) c.accepted.ensures.accepted c.accepted.ensures.answers

@@ -1,35 +1,55 @@
-use Rattle.std.proofs.Common.{◌∙◌, ap, sym}
+use Rattle.std.proofs.Common.{◌∙◌, ap, sym, subst}
 use Rattle.std.specs.Option.{option_and_then}
-use Rattle.bdb_base.specs.Bases.{Contents}
+use Rattle.bdb_base.specs.Bases.{IsCatalog}
 use Rattle.bdb_base.specs.declared.kinds.Catalog.{Catalog}
 use Rattle.bdb_bind.specs.Binding.{bound_of}
 use Rattle.bdb_bind.specs.Refusal.{refusal_of}
 use Rattle.bdb_bind.specs.Fits.{fits_catalog}
 use Rattle.bdb_bind.proofs.Fitting.{what_is_bound_fits}
+use Rattle.bdb_session.specs.Known.{Known}
 use Rattle.bdb_session.specs.Machine.{refusal_from, bound_outcome, command_outcome}
-use Rattle.bdb_session.specs.Outcome.{State}
+use Rattle.bdb_session.proofs.BoundLemmas.{reads_as, writes_as, not_bound}
 use Rattle.bdb_session.proofs.OutcomeLemmas.{unless_some, refused_to_bind}
-use Rattle.bdb_session.proofs.ServedLemmas.{refused_is_served}
+use Rattle.bdb_session.proofs.ServedLemmas.{refused_serves}
 use Rattle.bdb_session.proofs.session.Session.carry_out.Goals as goal
 
 pub execute-requires-clause-fits : goal.execute-requires-clause-fits
 execute-requires-clause-fits g c =
-    let catalog = c.args.self.now.base.catalog in
-    let here = ap (λ (x : State). x.base) c.self.view_is in
-    let is = c.catalog.ensures.value ∙ ap (λ (x : Contents). x.catalog) here in
-    let valid = rw here at c.catalog.ensures.valid in
-    let fine = ap (λ (k : Catalog). refusal_of k c.args.command.now) (sym is) ∙ c.in-Ok.ensures.ok.0 in
-    let bound = c.in-Ok.ensures.ok.1 ∙ ap (λ (k : Catalog). bound_of k c.args.command.now) is in
-    ap (fits_catalog catalog) bound ∙ what_is_bound_fits catalog c.args.command.now valid.catalog c.requires.allowed fine
+    let catalog = c.args.self.now.catalog in
+    let command = c.args.command in
+    let a = c.requires.agrees.agrees in
+    let here = ap (λ (k : Known). k.catalog) c.self.view_is in
+    let valid = subst IsCatalog (sym a.catalog) a.base.valid.catalog in
+    let fine = ap (λ (k : Catalog). refusal_of k command) (sym here) ∙ c.in-Ok.ensures.ok.0 in
+    let bound = c.in-Ok.ensures.ok.1 ∙ ap (λ (k : Catalog). bound_of k command) here in
+    ap (fits_catalog catalog) bound ∙ what_is_bound_fits catalog command valid c.requires.allowed fine
 
-pub returns-in-Some : goal.returns-in-Some
-returns-in-Some g c =
-    let s = c.args.self.now in
-    let command = c.args.command.now in
-    let here = ap (λ (x : State). x.base) c.self.view_is in
-    let is = c.catalog.ensures.value ∙ ap (λ (x : Contents). x.catalog) here in
-    refused_is_served s (command_outcome s command) c.in-Some.refusal _ c.refuse.result
-    (unless_some (option_and_then refusal_from (refusal_of s.base.catalog command)) c.in-Some.refusal (bound_outcome s (bound_of s.base.catalog command))
+pub returns-in-Some-clause-served : goal.returns-in-Some-clause-served
+returns-in-Some-clause-served g c =
+    let command = c.args.command in
+    let here = ap (λ (k : Known). k.catalog) c.self.view_is in
+    refused_serves (λ s. command_outcome s command) c.in-Some.refusal c.args.self.now _ c.refuse.result
+    (λ s a. unless_some (option_and_then refusal_from (refusal_of s.base.catalog command)) c.in-Some.refusal (bound_outcome s (bound_of s.base.catalog command))
     (refused_to_bind (refusal_of s.base.catalog command) c.in-Err.error c.in-Some.refusal c.in-Some.ensures
-    (λ other. ap (λ (k : Catalog). refusal_of k command) (sym is) ∙ c.in-Err.ensures.refused other)))
-    c.requires.still c.requires.agrees c.refuse.ensures
+    (λ other. ap (λ (k : Catalog). refusal_of k command) (sym (here ∙ a.catalog)) ∙ c.in-Err.ensures.refused other)))
+    c.requires.still c.refuse.ensures
+
+pub returns-in-Ok-clause-reads : goal.returns-in-Ok-clause-reads
+returns-in-Ok-clause-reads g c = λ fine.
+    let here = ap (λ (k : Known). k.catalog) c.self.view_is in
+    reads_as _ _ _ _ _ _ (sym (c.in-Ok.ensures.ok.1 ∙ ap (λ (k : Catalog). bound_of k c.args.command) here)) c.execute.ensures.reads
+
+pub returns-in-Some-clause-reads : goal.returns-in-Some-clause-reads
+returns-in-Some-clause-reads g c = λ fine.
+    let here = ap (λ (k : Known). k.catalog) c.self.view_is in
+    absurd (not_bound _ c.in-Err.error c.in-Some.refusal c.in-Some.ensures c.in-Err.ensures.refused (ap (λ (k : Catalog). refusal_of k c.args.command) here ∙ fine))
+
+pub returns-in-Ok-clause-writes : goal.returns-in-Ok-clause-writes
+returns-in-Ok-clause-writes g c = λ fine.
+    let here = ap (λ (k : Known). k.catalog) c.self.view_is in
+    writes_as _ _ _ _ _ _ (sym (c.in-Ok.ensures.ok.1 ∙ ap (λ (k : Catalog). bound_of k c.args.command) here)) c.execute.ensures.writes
+
+pub returns-in-Some-clause-writes : goal.returns-in-Some-clause-writes
+returns-in-Some-clause-writes g c = λ fine.
+    let here = ap (λ (k : Known). k.catalog) c.self.view_is in
+    absurd (not_bound _ c.in-Err.error c.in-Some.refusal c.in-Some.ensures c.in-Err.ensures.refused (ap (λ (k : Catalog). refusal_of k c.args.command) here ∙ fine))

@@ -1,0 +1,155 @@
+-- What comes of a new user and of a new relation, and what the session knows after it.
+use Rattle.std.proofs.Common.{◌≡◌, ◌∙◌, ℕ, ◌+◌, ◌≤◌, ◌<◌, true, List, [], ◌∷◌, ◌++◌, length, Option, Some, None, Result, Ok, refl, sym, ap, arith, ltb}
+use Rattle.std.specs.Prelude.{if◌then◌else◌}
+use Rattle.std.proofs.lemmas.List.{length_push}
+use Rattle.bdb_base.specs.Bases.{with_user, with_relation}
+use Rattle.bdb_base.specs.Limits.{most_users, most_relations}
+use Rattle.bdb_base.specs.declared.kinds.Catalog.{Catalog}
+use Rattle.bdb_base.specs.declared.kinds.RelDef.{RelDef}
+use Rattle.bdb_base.specs.declared.kinds.What.{What}
+use Rattle.bdb_base.specs.declared.kinds.What.TheVariants.{Users, Relations}
+use Rattle.bdb_bind.specs.Fits.{fits_catalog}
+use Rattle.bdb_bind.specs.declared.bound.Bound.TheVariants.{CreateUser, CreateRelation}
+use Rattle.bdb_canon.specs.declared.sizes.Counts.{Counts}
+use Rattle.bdb_catalog.specs.Creating.{MayAddUser, SomeMayAddUser, AddsUserNamed, MayAddRelation, SomeMayAddRelation, AddsRelation}
+use Rattle.bdb_keep.specs.Seen.{Seen}
+use Rattle.bdb_keep.specs.Tables.{Tables}
+use Rattle.bdb_render.specs.Replies.{ok_reply}
+use Rattle.bdb_render.specs.declared.refusal.Refusal.TheVariants.{Full}
+use Rattle.bdb_update.specs.Calls.{size_passed}
+use Rattle.bdb_session.specs.Committing.{IsCommitted}
+use Rattle.bdb_session.specs.Known.{Known, Agrees, AgreesOnSome}
+use Rattle.bdb_session.specs.Machine.{bound_outcome, with_catalog}
+use Rattle.bdb_session.specs.Outcome.{State, Refused, Done}
+use Rattle.bdb_session.specs.Served.{Serves}
+use Rattle.bdb_session.specs.Sizes.{limit_passed, passed_limit}
+use Rattle.bdb_session.specs.declared.reply.Reply.{Reply}
+use Rattle.bdb_session.specs.declared.stop.StopError.TheVariants.{Fault}
+use Rattle.bdb_session.proofs.CatalogLemmas.{user_is_valid, relation_is_valid}
+use Rattle.bdb_session.proofs.LimitLemmas.{limit_is, at_most, past}
+use Rattle.bdb_session.proofs.OutcomeLemmas.{becomes_full, becomes_done}
+use Rattle.bdb_session.proofs.ServedLemmas.{done_serves}
+
+-- ---- so few that a number is the next
+
+pub few_users : (users rels : ℕ) (counts : Counts) → limit_passed users rels counts ≡ None → users ≤ most_users
+few_users users rels counts e =
+    at_most most_users users (past (ltb most_users users) Users (if ltb most_relations rels then Some Relations else size_passed counts) e).0
+
+pub few_rels : (users rels : ℕ) (counts : Counts) → limit_passed users rels counts ≡ None → rels ≤ most_relations
+few_rels users rels counts e =
+    at_most most_relations rels (past (ltb most_relations rels) Relations (size_passed counts)
+    (past (ltb most_users users) Users (if ltb most_relations rels then Some Relations else size_passed counts) e).1).0
+
+-- ---- a new user
+
+-- what the base becomes, and the limit that it then passes; its sizes stay as they are
+abbrev user_added : List ℕ → State → State
+user_added name s = record s { base = with_catalog s.base (with_user s.base.catalog name) }
+
+abbrev user_limit : Known → Option What
+user_limit k = limit_passed (length k.catalog.users + 1) (length k.catalog.rels) k.counts
+
+pub user_limit_is : (k : Known) (o : Option What) (users rels : ℕ) (counts : Counts) → o ≡ limit_passed users rels counts → users ≡ length k.catalog.users + 1
+    → rels ≡ length k.catalog.rels → counts ≡ k.counts → o ≡ user_limit k
+user_limit_is k o users rels counts e u r c =
+    e ∙ ap (λ n. limit_passed n rels counts) u ∙ ap (λ n. limit_passed (length k.catalog.users + 1) n counts) r
+    ∙ ap (limit_passed (length k.catalog.users + 1) (length k.catalog.rels)) c
+
+user_passes : (t : Tables) (k : Known) (s : State) (name : List ℕ) → Agrees t k s → user_limit k ≡ passed_limit (user_added name s).base
+user_passes t k s name a =
+    let users = ap (λ (c : Catalog). length c.users + 1) a.catalog ∙ sym (length_push s.base.catalog.users name) in
+    let rels = ap (λ (c : Catalog). length c.rels) a.catalog in
+    limit_is (user_added name s).base (user_limit k) (length k.catalog.users + 1) (length k.catalog.rels) k.counts refl users rels a.counts
+
+pub user_full : (t : Tables) (k : Known) (s : State) (name : List ℕ) (what : What) → user_limit k ≡ Some what → Agrees t k s
+    → bound_outcome s (CreateUser name) ≡ Refused (Full what)
+user_full t k s name what e a = becomes_full s (user_added name s).base ok_reply what (sym (user_passes t k s name a) ∙ e)
+
+user_done : (t : Tables) (k : Known) (s : State) (name : List ℕ) → user_limit k ≡ None → Agrees t k s
+    → bound_outcome s (CreateUser name) ≡ Done ok_reply 0 (user_added name s)
+user_done t k s name e a = becomes_done s (user_added name s).base ok_reply (sym (user_passes t k s name a) ∙ e)
+
+may_add_user : (t : Tables) (k : Known) (s : State) (name : List ℕ) (uid : ℕ) → uid ≡ length k.catalog.users + 1 → fits_catalog k.catalog (CreateUser name) ≡ true
+    → user_limit k ≡ None → Agrees t k s → MayAddUser t uid name s.base
+may_add_user t k s name uid number fits room a = record {
+  base = a.base;
+  next = number ∙ ap (λ (c : Catalog). length c.users + 1) a.catalog;
+  valid = user_is_valid s.base name a.base.valid (sym (ap (λ (c : Catalog). fits_catalog c (CreateUser name)) a.catalog) ∙ fits) (sym (user_passes t k s name a) ∙ room);
+}
+
+pub some_may_add_user : (t : Tables) (k : Known) (name : List ℕ) (uid : ℕ) → uid ≡ length k.catalog.users + 1 → fits_catalog k.catalog (CreateUser name) ≡ true
+    → user_limit k ≡ None → AgreesOnSome t k → SomeMayAddUser t uid name
+some_may_add_user t k name uid number fits room h = record { base = h.state.base; may = may_add_user t k h.state name uid number fits room h.agrees }
+
+pub user_serves : {T : Type 0} (x : T) (k now : Known) (name : List ℕ) (uid : ℕ) (old new : Seen) (r : Reply)
+    → uid ≡ length k.catalog.users + 1 → fits_catalog k.catalog (CreateUser name) ≡ true → user_limit k ≡ None
+    → AddsUserNamed old.kept new.kept uid name → IsCommitted {T = T} old new (Ok x) Fault
+    → now.catalog ≡ with_user k.catalog name → now.counts ≡ k.counts → r.text ≡ ok_reply → r.accepted ≡ true → r.answers ≡ 0
+    → Serves (λ s. bound_outcome s (CreateUser name)) k now old new (Ok r)
+user_serves x k now name uid old new r number fits room adds done catalog counts text accepted answers =
+    done_serves (λ s. bound_outcome s (CreateUser name)) (λ _. ok_reply) (λ _. 0) (user_added name) k now old new r
+    (λ s a. user_done old.kept k s name room a)
+    (λ s a. record { text = text; accepted = accepted; answers = answers })
+    (λ s a. record {
+      base = adds s.base (may_add_user old.kept k s name uid number fits room a);
+      catalog = catalog ∙ ap (λ (c : Catalog). with_user c name) a.catalog;
+      counts = counts ∙ a.counts;
+    })
+    done.commits done.still done.never_fall
+
+-- ---- a new relation
+
+abbrev relation_added : RelDef → State → State
+relation_added def s = record s { base = with_catalog s.base (with_relation s.base.catalog def) }
+
+abbrev relation_limit : Known → Option What
+relation_limit k = limit_passed (length k.catalog.users) (length k.catalog.rels + 1) k.counts
+
+pub relation_limit_is : (k : Known) (o : Option What) (users rels : ℕ) (counts : Counts) → o ≡ limit_passed users rels counts → users ≡ length k.catalog.users
+    → rels ≡ length k.catalog.rels + 1 → counts ≡ k.counts → o ≡ relation_limit k
+relation_limit_is k o users rels counts e u r c =
+    e ∙ ap (λ n. limit_passed n rels counts) u ∙ ap (λ n. limit_passed (length k.catalog.users) n counts) r
+    ∙ ap (limit_passed (length k.catalog.users) (length k.catalog.rels + 1)) c
+
+relation_passes : (t : Tables) (k : Known) (s : State) (def : RelDef) → Agrees t k s → relation_limit k ≡ passed_limit (relation_added def s).base
+relation_passes t k s def a =
+    let users = ap (λ (c : Catalog). length c.users) a.catalog in
+    let rels = ap (λ (c : Catalog). length c.rels + 1) a.catalog ∙ sym (length_push s.base.catalog.rels def) in
+    limit_is (relation_added def s).base (relation_limit k) (length k.catalog.users) (length k.catalog.rels + 1) k.counts refl users rels a.counts
+
+pub relation_full : (t : Tables) (k : Known) (s : State) (def : RelDef) (what : What) → relation_limit k ≡ Some what → Agrees t k s
+    → bound_outcome s (CreateRelation def) ≡ Refused (Full what)
+relation_full t k s def what e a = becomes_full s (relation_added def s).base ok_reply what (sym (relation_passes t k s def a) ∙ e)
+
+relation_done : (t : Tables) (k : Known) (s : State) (def : RelDef) → relation_limit k ≡ None → Agrees t k s
+    → bound_outcome s (CreateRelation def) ≡ Done ok_reply 0 (relation_added def s)
+relation_done t k s def e a = becomes_done s (relation_added def s).base ok_reply (sym (relation_passes t k s def a) ∙ e)
+
+may_add_relation : (t : Tables) (k : Known) (s : State) (def : RelDef) (rel : ℕ) → rel ≡ length k.catalog.rels → fits_catalog k.catalog (CreateRelation def) ≡ true
+    → relation_limit k ≡ None → Agrees t k s → MayAddRelation t rel def s.base
+may_add_relation t k s def rel number fits room a = record {
+  base = a.base;
+  next = number ∙ ap (λ (c : Catalog). length c.rels) a.catalog;
+  valid = relation_is_valid s.base def a.base.valid (sym (ap (λ (c : Catalog). fits_catalog c (CreateRelation def)) a.catalog) ∙ fits) (sym (relation_passes t k s def a) ∙ room);
+}
+
+pub some_may_add_relation : (t : Tables) (k : Known) (def : RelDef) (rel : ℕ) → rel ≡ length k.catalog.rels → fits_catalog k.catalog (CreateRelation def) ≡ true
+    → relation_limit k ≡ None → AgreesOnSome t k → SomeMayAddRelation t rel def
+some_may_add_relation t k def rel number fits room h = record { base = h.state.base; may = may_add_relation t k h.state def rel number fits room h.agrees }
+
+pub relation_serves : {T : Type 0} (x : T) (k now : Known) (def : RelDef) (rel : ℕ) (old new : Seen) (r : Reply)
+    → rel ≡ length k.catalog.rels → fits_catalog k.catalog (CreateRelation def) ≡ true → relation_limit k ≡ None
+    → AddsRelation old.kept new.kept rel def → IsCommitted {T = T} old new (Ok x) Fault
+    → now.catalog ≡ with_relation k.catalog def → now.counts ≡ k.counts → r.text ≡ ok_reply → r.accepted ≡ true → r.answers ≡ 0
+    → Serves (λ s. bound_outcome s (CreateRelation def)) k now old new (Ok r)
+relation_serves x k now def rel old new r number fits room adds done catalog counts text accepted answers =
+    done_serves (λ s. bound_outcome s (CreateRelation def)) (λ _. ok_reply) (λ _. 0) (relation_added def) k now old new r
+    (λ s a. relation_done old.kept k s def room a)
+    (λ s a. record { text = text; accepted = accepted; answers = answers })
+    (λ s a. record {
+      base = adds s.base (may_add_relation old.kept k s def rel number fits room a);
+      catalog = catalog ∙ ap (λ (c : Catalog). with_relation c def) a.catalog;
+      counts = counts ∙ a.counts;
+    })
+    done.commits done.still done.never_fall

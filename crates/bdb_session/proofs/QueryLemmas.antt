@@ -1,0 +1,154 @@
+-- What queries answer over tables that store a base.
+use Rattle.std.proofs.Common.{◌≡◌, ◌∙◌, ℕ, ◌<◌, ◌≤◌, true, nat_lt, List, Result, Some, None, Ok, Err, length, refl, sym, ap, subst}
+use Rattle.std.proofs.lemmas.Bool.{and_parts, cond-true, cond-false, lt-ltb, le-ltb}
+use Rattle.bdb_base.specs.Bases.{Contents, IsCatalog}
+use Rattle.bdb_base.specs.Limits.{most_lines}
+use Rattle.bdb_base.specs.Queries.{answers_of}
+use Rattle.bdb_base.specs.Safety.{query_fits, IsSafe}
+use Rattle.bdb_base.specs.declared.kinds.Catalog.{Catalog}
+use Rattle.bdb_base.specs.declared.kinds.Query.{Query}
+use Rattle.bdb_base.specs.declared.kinds.Value.{Value}
+use Rattle.bdb_bind.specs.Fits.{can_be_answered}
+use Rattle.bdb_bind.specs.Safe.{is_safe}
+use Rattle.bdb_bind.specs.declared.bound.Bound.TheVariants.{Select, Explain}
+use Rattle.bdb_bind.proofs.SafetyLemmas.{test_tells_safe}
+use Rattle.bdb_catalog.specs.Bases.{StoresValid}
+use Rattle.bdb_exec.specs.Based.{HaveBase, ShowBase, world_number}
+use Rattle.bdb_exec.specs.Looks.{Stays, IsExecuted}
+use Rattle.bdb_exec.specs.Readable.{CanBeRun}
+use Rattle.bdb_exec.specs.Seen.{sight_of}
+use Rattle.bdb_exec.specs.declared.errors.ExecError.{ExecError}
+use Rattle.bdb_exec.specs.declared.errors.ExecError.TheVariants as exec
+use Rattle.bdb_exec.proofs.ShownLemmas.{tables_show_base}
+use Rattle.bdb_keep.specs.Seen.{Seen, IsStill}
+use Rattle.bdb_keep.specs.Tables.{Tables}
+use Rattle.bdb_plan.specs.Fitness.{Fields}
+use Rattle.bdb_plan.specs.PlanOf.{plan_of}
+use Rattle.bdb_plan.specs.Running.{meaning_of}
+use Rattle.bdb_render.specs.Replies.{rows_reply}
+use Rattle.bdb_render.specs.declared.refusal.Refusal.TheVariants as refusal
+use Rattle.bdb_session.specs.Known.{Known, Agrees, AgreesOnSome}
+use Rattle.bdb_session.specs.Machine.{bound_outcome, plan_reply, tells}
+use Rattle.bdb_session.specs.Outcome.{State, Outcome, Refused, Done}
+use Rattle.bdb_session.specs.Served.{IsTold, Serves}
+use Rattle.bdb_session.specs.Sizes.{too_many}
+use Rattle.bdb_session.specs.declared.reply.Reply.{Reply}
+use Rattle.bdb_session.specs.declared.stop.StopError.{StopError}
+use Rattle.bdb_session.specs.declared.stop.StopError.TheVariants.{Fault, Memory}
+use Rattle.bdb_session.proofs.OutcomeLemmas.{unless_some, unless_none}
+use Rattle.bdb_session.proofs.ServedLemmas.{serves_as, refusal_serves}
+use Rattle.bdb_session.proofs.TellLemmas.{IsSame, later_serves, dropped_same, same_stop, other_cause}
+use Rattle.bdb_tables.specs.Names.{Names}
+use Rattle.bdb_tables.specs.Rows.{Tuples}
+use Rattle.bdb_tables.specs.Stored.{StoredAs, name_of}
+use Rattle.bdb_trans.proofs.PlanLemmas.{plans_mean_answers}
+
+-- ---- what tables show
+
+-- tables that store a base have it
+pub stored_has_base : (ns : Names) (ts : Tuples) (t : Tables) (b : Contents) → StoredAs ns ts t b → HaveBase ns ts t b
+stored_has_base ns ts t b h = record {
+  name = name_of b.catalog.users;
+  users = h.users;
+  none = refl;
+  names = λ n. refl;
+  rels = h.rels;
+  tuples = h.tuples;
+  states = h.states;
+  worlds = h.worlds;
+  rows = h.rows;
+}
+
+-- tables that store a valid base show it
+pub stored_shows : (t : Tables) (b : Contents) (h : StoresValid t b) → ShowBase h.stored.names t b
+stored_shows t b h = tables_show_base h.stored.names h.stored.tuples t b h.valid (stored_has_base h.stored.names h.stored.tuples t b h.stored.stored)
+
+pub plans_can_be_run : (t : Tables) (k : Known) → AgreesOnSome t k → CanBeRun t
+plans_can_be_run t k h = (stored_shows t h.state.base h.agrees.base).run
+
+-- the catalog that a session knows is a valid one
+pub known_catalog : (t : Tables) (k : Known) → AgreesOnSome t k → IsCatalog k.catalog
+known_catalog t k h = subst IsCatalog (sym h.agrees.catalog) h.agrees.base.valid.catalog
+
+-- ---- answers
+
+-- a query that can be answered is safe
+pub query_is_safe : (c : Catalog) (q : Query) → can_be_answered c q ≡ true → IsSafe c.rels q
+query_is_safe c q fits = (test_tells_safe c.rels q).0 (and_parts (query_fits c q) (is_safe c.rels q) fits).1
+
+-- the plan of a query means the answers over the base of each state
+pub plan_answers : (t : Tables) (k : Known) (s : State) (q : Query) → Agrees t k s → can_be_answered k.catalog q ≡ true
+    → meaning_of (sight_of t) (plan_of k.catalog.rels q) ≡ answers_of s.base q
+plan_answers t k s q a fits =
+    let c = s.base.catalog in
+    let here : can_be_answered c q ≡ true = ap (λ (x : Catalog). can_be_answered x q) (sym a.catalog) ∙ fits in
+    let fine = (and_parts (query_fits c q) (is_safe c.rels q) here).0 in
+    ap (λ (x : Catalog). meaning_of (sight_of t) (plan_of x.rels q)) a.catalog
+    ∙ plans_mean_answers s.base (sight_of t) (world_number a.base.stored.names) q a.base.valid (stored_shows t s.base a.base).shown fine (query_is_safe c q here)
+
+not_many : (n : ℕ) → n ≤ most_lines → too_many n ≡ None
+not_many n h = cond-false (nat_lt most_lines n) (Some refusal.Many) None (le-ltb most_lines n h)
+
+are_many : (n : ℕ) → most_lines < n → too_many n ≡ Some refusal.Many
+are_many n h = cond-true (nat_lt most_lines n) (Some refusal.Many) None (lt-ltb most_lines n h)
+
+-- few answers are told, and many refused
+rows_outcome : (s : State) (q : Query) (rows : List (List Value)) → rows ≡ answers_of s.base q → length rows ≤ most_lines
+    → bound_outcome s (Select q) ≡ Done (rows_reply rows) (length rows) s
+rows_outcome s q rows e few =
+    ap (λ (r : List (List Value)). tells s (length r) (rows_reply r) (length r)) (sym e)
+    ∙ unless_none (too_many (length rows)) (Done (rows_reply rows) (length rows) s) (not_many (length rows) few)
+
+many_outcome : (s : State) (q : Query) → most_lines < length (answers_of s.base q) → bound_outcome s (Select q) ≡ Refused refusal.Many
+many_outcome s q many =
+    let rows = answers_of s.base q in
+    unless_some (too_many (length rows)) refusal.Many (Done (rows_reply rows) (length rows) s) (are_many (length rows) many)
+
+-- ---- how a query is served
+
+-- nothing changes where a plan was run, or had too many rows
+stays_same : {T : Type 0} (old new : Seen) (result : Result T ExecError) → IsStill old → IsExecuted old new result → Stays old new → IsSame old new
+stays_same old new result still run h = record {
+  same = record { kept = h.kept; last = h.last; commits = h.commits };
+  still = record { stopped = h.running ∙ still.stopped; rest = h.kept ∙ still.rest ∙ sym h.last };
+  never_fall = run.counts;
+}
+
+pub answers_serve : (k : Known) (q : Query) (plan : Fields) (rows : List (List Value)) (old mid new : Seen) (result : Result Reply StopError)
+    → IsStill old → can_be_answered k.catalog q ≡ true → plan ≡ plan_of k.catalog.rels q → rows ≡ meaning_of (sight_of old.kept) plan → length rows ≤ most_lines
+    → IsExecuted old mid (Ok rows) → Serves (λ s. Done (rows_reply rows) (length rows) s) k k mid new result → Serves (λ s. bound_outcome s (Select q)) k k old new result
+answers_serve k q plan rows old mid new result still fits of_query means few run told =
+    let found = means ∙ ap (λ (p : Fields). meaning_of (sight_of old.kept) p) of_query in
+    serves_as (λ s. bound_outcome s (Select q)) (λ s. Done (rows_reply rows) (length rows) s) k k old new result
+    (λ s a. rows_outcome s q rows (found ∙ plan_answers old.kept k s q a fits) few)
+    (later_serves (λ s. Done (rows_reply rows) (length rows) s) k k old mid new result (stays_same old mid (Ok rows) still run run.ok) told)
+
+pub many_serve : {T : Type 0} (k : Known) (q : Query) (plan : Fields) (old mid : Seen) (result : Result Reply StopError)
+    → IsStill old → can_be_answered k.catalog q ≡ true → plan ≡ plan_of k.catalog.rels q → most_lines < length (meaning_of (sight_of old.kept) plan)
+    → IsExecuted {T = T} old mid (Err exec.TooMany) → IsTold k.catalog (Refused refusal.Many) result → Serves (λ s. bound_outcome s (Select q)) k k old mid result
+many_serve {T} k q plan old mid result still fits of_query many run told =
+    let same = stays_same {T = T} old mid (Err exec.TooMany) still run (run.many refl) in
+    let more = subst (λ (p : Fields). most_lines < length (meaning_of (sight_of old.kept) p)) of_query many in
+    refusal_serves (λ s. bound_outcome s (Select q)) refusal.Many k old mid result
+    (λ s a. many_outcome s q (subst (λ (r : List (List Value)). most_lines < length r) (plan_answers old.kept k s q a fits) more)) same.still same.same same.never_fall told
+
+pub fault_serves : {T : Type 0} (outcome : State → Outcome) (k : Known) (old mid : Seen) → IsStill old → IsExecuted {T = T} old mid (Err exec.Fault) → Serves outcome k k old mid (Err Fault)
+fault_serves {T} outcome k old mid still run =
+    same_stop outcome k old mid Fault (dropped_same old mid still run.counts (run.fault refl))
+    (other_cause {T = T} {S = Reply} old.faults mid.faults exec.Fault Fault exec.Fault Fault (λ e. refl) run.cause)
+
+pub no_memory_serves : {T : Type 0} (outcome : State → Outcome) (k : Known) (old mid : Seen) → IsStill old → IsExecuted {T = T} old mid (Err exec.Memory) → Serves outcome k k old mid (Err Memory)
+no_memory_serves {T} outcome k old mid still run =
+    same_stop outcome k old mid Memory (dropped_same old mid still run.counts (run.memory refl))
+    (other_cause {T = T} {S = Reply} old.faults mid.faults exec.Memory Memory exec.Fault Fault (λ e. absurd cc) run.cause)
+
+-- ---- how a plan is told
+
+pub plan_outcome : (t : Tables) (k : Known) (s : State) (q : Query) (text : List ℕ) → Agrees t k s → text ≡ plan_reply k.catalog q → bound_outcome s (Explain q) ≡ Done text 0 s
+plan_outcome t k s q text a is =
+    ap (λ (c : Catalog). Done (plan_reply c q) 0 s) (sym a.catalog) ∙ ap (λ (x : List ℕ). Done x 0 s) (sym is)
+
+pub plan_serves : (k : Known) (q : Query) (text : List ℕ) (old new : Seen) (result : Result Reply StopError) → text ≡ plan_reply k.catalog q
+    → Serves (λ s. Done text 0 s) k k old new result → Serves (λ s. bound_outcome s (Explain q)) k k old new result
+plan_serves k q text old new result is told =
+    serves_as (λ s. bound_outcome s (Explain q)) (λ s. Done text 0 s) k k old new result (λ s a. plan_outcome old.kept k s q text a is) told

@@ -1,0 +1,256 @@
+-- How often answering a query reads at most.
+use Rattle.std.proofs.Common.{◌≡◌, ◌∙◌, ℕ, ◌+◌, ◌≤◌, ◌^◌, Bool, true, false, ◌&&◌, nat_eq, nat_lt, List, [], ◌∷◌, Option, Some, None, is_some, Result, suc, length, map, refl, ap, sym, subst, inl, inr, arith}
+use Rattle.std.specs.Prelude.{T}
+use Rattle.std.specs.FinMap as tables
+use Rattle.std.specs.FinMap.Entries.{is_sorted, below_all, is_sorted-where_key}
+use Rattle.std.specs.List.{list_any, AllByRecursion}
+use Rattle.std.specs.Option.{unwrap_or}
+use Rattle.std.specs.Ordering.{is_lt}
+use Rattle.std.proofs.lemmas.Bool.{cases_Bool, and_parts, and_from, or_cases, or_left, or_right, or_from, cond-false, false≢true, false_from_ne_true}
+use Rattle.std.proofs.lemmas.Bool.Decides.{nat_tests}
+use Rattle.std.proofs.lemmas.Cmp.{nat_list_cmp_total, tied_itself}
+use Rattle.std.proofs.lemmas.List.{length-map}
+use Rattle.bdb_base.specs.Bases.{Contents, distinct_count, key_lengths}
+use Rattle.bdb_base.specs.Safety.{query_fits}
+use Rattle.bdb_base.specs.Same.{same_tuple, same_sign}
+use Rattle.bdb_base.specs.SameLemmas.{same_tuple-Decides, same_sign-Decides}
+use Rattle.bdb_base.specs.Segments.{is_prefix}
+use Rattle.bdb_base.specs.States.{is_state, deepest_suffix}
+use Rattle.bdb_base.specs.WorldRows.{has_row, same_row, world_of}
+use Rattle.bdb_base.specs.Worlds.{explicit, stated}
+use Rattle.bdb_base.specs.declared.kinds.Catalog.{Catalog}
+use Rattle.bdb_base.specs.declared.kinds.Held.{Held}
+use Rattle.bdb_base.specs.declared.kinds.Query.{Query}
+use Rattle.bdb_base.specs.declared.kinds.Sign.{Sign}
+use Rattle.bdb_base.specs.declared.kinds.Stmt.{Stmt}
+use Rattle.bdb_base.specs.declared.kinds.Value.{Value}
+use Rattle.bdb_base.specs.declared.tuple.Tuple.{Tuple}
+use Rattle.bdb_base.proofs.CountLemmas.{distinct_count-le, one_unless}
+use Rattle.bdb_base.proofs.WorldRowsLemmas.{rows_are_the_world, same_row_tells}
+use Rattle.bdb_bind.specs.Fits.{can_be_answered}
+use Rattle.bdb_bind.specs.Safe.{is_safe}
+use Rattle.bdb_catalog.specs.Bases.{StoresValid}
+use Rattle.bdb_catalog.specs.Showing.{inherited}
+use Rattle.bdb_catalog.proofs.ShowingLemmas.{plain_paths_inherit}
+use Rattle.bdb_exec.specs.Based.{world_number}
+use Rattle.bdb_exec.specs.Readable.{CanBeRun}
+use Rattle.bdb_exec.specs.Rows.{signed_of, world_prefix}
+use Rattle.bdb_exec.specs.Seen.{sight_of, signed_under}
+use Rattle.bdb_exec.proofs.DenyLemmas.{all, all_here, are_typed, IsHere, shown_all}
+use Rattle.bdb_exec.proofs.TypedLemmas.{raw}
+use Rattle.bdb_exec.proofs.WorldLemmas.{signed_is}
+use Rattle.bdb_keep.specs.Seen.{Seen}
+use Rattle.bdb_keep.specs.Tables.{Tables, bytes_cmp}
+use Rattle.bdb_key.specs.Grammar.{IsNum}
+use Rattle.bdb_paths.proofs.SuffixLemmas.{deepest_is_member, deepest_of_member}
+use Rattle.bdb_plan.specs.PlanOf.{plan_of}
+use Rattle.bdb_plan.specs.Fitness.{Fields}
+use Rattle.bdb_plan.specs.Running.{reads_from, start_of}
+use Rattle.bdb_plan.specs.Sight.{has_signed}
+use Rattle.bdb_queries.specs.Slots.{user_tuples}
+use Rattle.bdb_tables.specs.Codec.{place}
+use Rattle.bdb_tables.specs.InUse.{ValKey, val_codec}
+use Rattle.bdb_tables.specs.Marks.{Mark}
+use Rattle.bdb_tables.specs.Names.{number_of}
+use Rattle.bdb_trans.specs.Bounds.{AreSmall, product_of}
+use Rattle.bdb_trans.proofs.ReadLemmas.{plan_reads}
+use Rattle.bdb_session.specs.Known.{Known, Agrees}
+use Rattle.bdb_session.specs.Outcome.{State}
+use Rattle.bdb_session.specs.QueryReads.{HasFewRows, ReadsAsBounded}
+use Rattle.bdb_session.specs.declared.stop.StopError.{StopError}
+use Rattle.bdb_session.proofs.QueryLemmas.{stored_shows}
+use Rattle.bdb_session.proofs.TellLemmas.{always_ok}
+
+is_T : (b : Bool) → T b → b ≡ true
+is_T true h = refl
+is_T false h = absurd h
+
+-- ---- the rows of a world and a relation, whose tuples differ
+
+one : {X : Type 0} (o : Option X) (x y : X) → o ≡ Some x → o ≡ Some y → x ≡ y
+one o x y p q = cc
+
+same_first : (v x : Value) (vs xs : List Value) → v ∷ vs ≡ x ∷ xs → v ≡ x
+same_first v x vs xs e = cc
+
+module _ (t : Tables) (h : CanBeRun t) (w rel : ℕ) (nw : IsNum w) (nr : IsNum rel) where
+  abbrev Here : ValKey × Mark → Type 0
+  Here e = IsHere t h w rel nw nr e
+
+  abbrev tuple_in : ValKey × Mark → Tuple
+  tuple_in e = (signed_of t e).0
+
+  tuple_is : (e : ValKey × Mark) (k : Here e) → tuple_in e ≡ k.u
+  tuple_is e k = ap (λ (x : Tuple × Sign). x.0) (signed_is t e k.u k.row)
+
+  -- rows of one tuple have one key
+  one_key : (d e : ValKey × Mark) → Here d → Here e → tuple_in d ≡ tuple_in e → d.0 ≡ e.0
+  one_key d e j k same =
+      let u : j.u ≡ k.u = sym (tuple_is d j) ∙ same ∙ tuple_is e k in
+      let number : d.0.3 ≡ e.0.3 = one (h.tuples.number k.u) d.0.3 e.0.3 (ap h.tuples.number (sym u) ∙ h.held.named d.0.3 j.u j.named) (h.held.named e.0.3 k.u k.named) in
+      let value : d.0.2 ≡ e.0.2 = same_first d.0.2 e.0.2 j.rest k.rest (sym j.vals ∙ ap (λ (x : Tuple). x.vals) u ∙ k.vals) in
+      let world : d.0.0 ≡ e.0.0 = j.at_world ∙ sym k.at_world in
+      let relation : d.0.1 ≡ e.0.1 = j.at_rel ∙ sym k.at_rel in
+      ap (λ n. key n d.0.1 d.0.2 d.0.3) world ∙ ap (λ n. key e.0.0 n d.0.2 d.0.3) relation ∙ ap (λ v. key e.0.0 e.0.1 v d.0.3) value ∙ ap (λ n. key e.0.0 e.0.1 e.0.2 n) number
+    where
+      key : ℕ → ℕ → Value → ℕ → ValKey
+      key a b v c = (a, b, v, c)
+
+  none_again : (d : ValKey × Mark) → Here d → (es : List (ValKey × Mark)) → AllByRecursion Here es → below_all bytes_cmp (place val_codec d.0) (map (raw val_codec) es) ≡ true
+      → list_any (same_tuple (tuple_in d)) (map tuple_in es) ≡ false
+  none_again d j [] a b = refl
+  none_again d j (e ∷ es) a b =
+      let p = and_parts (is_lt (bytes_cmp (place val_codec d.0) (place val_codec e.0))) (below_all bytes_cmp (place val_codec d.0) (map (raw val_codec) es)) b in
+      or_from (same_tuple (tuple_in d) (tuple_in e)) (list_any (same_tuple (tuple_in d)) (map tuple_in es))
+      (false_from_ne_true (same_tuple (tuple_in d) (tuple_in e)) (λ s.
+      let key = one_key d e j a.0 ((same_tuple-Decides (tuple_in d) (tuple_in e)).0 s) in
+      false≢true (sym (ap is_lt (tied_itself nat_list_cmp_total (place val_codec d.0))) ∙ ap (λ (k : ValKey). is_lt (bytes_cmp (place val_codec d.0) (place val_codec k))) key ∙ p.0)))
+      (none_again d j es a.1 p.1)
+
+  tuples_differ : (es : List (ValKey × Mark)) → AllByRecursion Here es → is_sorted bytes_cmp (map (raw val_codec) es) ≡ true → distinct_count same_tuple (map tuple_in es) ≡ length es
+  tuples_differ [] a s = refl
+  tuples_differ (e ∷ es) a s =
+      let p = and_parts (below_all bytes_cmp (place val_codec e.0) (map (raw val_codec) es)) (is_sorted bytes_cmp (map (raw val_codec) es)) s in
+      let n : one_unless (list_any (same_tuple (tuple_in e)) (map tuple_in es)) ≡ 1 = ap one_unless (none_again e a.0 es a.1 p.0) in
+      let rest = tuples_differ es a.1 p.1 in
+      omega arith
+
+  abbrev here : List (ValKey × Mark)
+  here = all t h w rel nw nr
+
+  here_sorted : is_sorted bytes_cmp (map (raw val_codec) here) ≡ true
+  here_sorted =
+      ap (is_sorted bytes_cmp) (sym (are_typed t h w rel nw nr).rows)
+      ∙ is_T _ (is_sorted-where_key bytes_cmp (is_prefix (val_codec.number ∷ world_prefix w rel)) (tables.entries t) (tables.entries_sorted t))
+
+  -- the tuples that are shown
+  shown_tuples : map (λ (x : Tuple × Sign). x.0) ((sight_of t).rows w rel) ≡ map tuple_in here
+  shown_tuples = ap (map (λ (x : Tuple × Sign). x.0)) (shown_all t h w rel nw nr) ∙ twice here
+    where
+      twice : (es : List (ValKey × Mark)) → map (λ (x : Tuple × Sign). x.0) (map (signed_of t) es) ≡ map tuple_in es
+      twice [] = refl
+      twice (e ∷ es) = ap (λ (r : List Tuple). tuple_in e ∷ r) (twice es)
+
+  -- as many different tuples are shown as rows
+  pub shown_differ : distinct_count same_tuple (map (λ (x : Tuple × Sign). x.0) ((sight_of t).rows w rel)) ≡ length ((sight_of t).rows w rel)
+  shown_differ =
+      ap (distinct_count same_tuple) shown_tuples ∙ tuples_differ here (all_here t h w rel nw nr) here_sorted
+      ∙ sym (ap length (shown_all t h w rel nw nr) ∙ length-map here (signed_of t))
+
+-- ---- no more than the signed tuples of the world
+
+count-le : (xs : List Tuple) → distinct_count same_tuple xs ≤ length xs
+count-le [] = omega arith
+count-le (x ∷ xs) = let rest = count-le xs in by (list_any (same_tuple x) xs) rest
+  where
+    by : (b : Bool) → distinct_count same_tuple xs ≤ length xs → one_unless b + distinct_count same_tuple xs ≤ length (x ∷ xs)
+    by true le = omega arith
+    by false le = omega arith
+
+-- a tuple that is shown is shown with some sign
+some_sign : (y : Tuple) (rows : List (Tuple × Sign)) → list_any (same_tuple y) (map (λ (x : Tuple × Sign). x.0) rows) ≡ true → (s : Sign) × (has_signed rows y s ≡ true)
+some_sign y [] e = absurd (false≢true e)
+some_sign y (x ∷ rows) e = elim (or_cases (same_tuple y x.0) (list_any (same_tuple y) (map (λ (z : Tuple × Sign). z.0) rows)) e) [
+  | inl a ↦ (
+    x.1,
+    or_left (same_tuple x.0 y && same_sign x.1 x.1) (has_signed rows y x.1)
+        (and_from (same_tuple x.0 y) (same_sign x.1 x.1) ((same_tuple-Decides x.0 y).1 (sym ((same_tuple-Decides y x.0).0 a))) ((same_sign-Decides x.1 x.1).1 refl)),
+  )
+  | inr a ↦
+      let rest = some_sign y rows a in
+      (rest.0, or_right (same_tuple x.0 y && same_sign x.1 rest.0) (has_signed rows y rest.0) rest.1)
+]
+
+tuple_of_row : (y : Tuple) (g : Held) (rows : List Held) → g.tuple ≡ y → has_row rows g ≡ true → list_any (same_tuple y) (map (λ (r : Held). r.tuple) rows) ≡ true
+tuple_of_row y g [] e h = absurd (false≢true h)
+tuple_of_row y g (r ∷ rows) e h = elim (or_cases (same_row g r) (has_row rows g) h) [
+  | inl a ↦ or_left (same_tuple y r.tuple) (list_any (same_tuple y) (map (λ (x : Held). x.tuple) rows)) ((same_tuple-Decides y r.tuple).1 (sym e ∙ (same_row_tells g r a).0))
+  | inr a ↦ or_right (same_tuple y r.tuple) (list_any (same_tuple y) (map (λ (x : Held). x.tuple) rows)) (tuple_of_row y g rows e a)
+]
+
+-- the rows that tables show of a world and a relation, and the rows of the world of a path
+abbrev shown_at : (t : Tables) (b : Contents) → StoresValid t b → List ℕ → ℕ → List (Tuple × Sign)
+shown_at t b h v rel = (sight_of t).rows (world_number h.stored.names v) rel
+
+abbrev world_rows : Contents → List ℕ → List Held
+world_rows b v = world_of (key_lengths b.catalog.rels) b.stmts v
+
+abbrev signed_tuple : Tuple × Sign → Tuple
+signed_tuple x = x.0
+
+abbrev held_tuple : Held → Tuple
+held_tuple r = r.tuple
+
+no_rows : (t : Tables) (b : Contents) (h : StoresValid t b) (v : List ℕ) (rel : ℕ) → nat_lt rel (2 ^ 32) ≡ false → length (shown_at t b h v rel) ≡ 0
+unfolding sight_of
+no_rows t b h v rel e = ap length (cond-false (nat_lt rel (2 ^ 32)) (signed_under t (world_prefix (world_number h.stored.names v) rel)) [] e)
+
+-- a state's world has each tuple that is shown of it
+shown_is_told : (t : Tables) (b : Contents) (h : StoresValid t b) (v : List ℕ) (rel : ℕ) → is_state b.stmts v ≡ true → (y : Tuple) → list_any (same_tuple y) (map signed_tuple (shown_at t b h v rel)) ≡ true
+    → list_any (same_tuple y) (map held_tuple (world_rows b v)) ≡ true
+shown_is_told t b h v rel state y e =
+    let keys = key_lengths b.catalog.rels in
+    let s = some_sign y (shown_at t b h v rel) e in
+    let told = and_parts (nat_eq y.rel rel) (stated keys b.stmts v y s.0) (sym ((stored_shows t b h).shown.rows v rel y s.0 state) ∙ s.1) in
+    let g : Held = record { tuple = y; sign = s.0; explicit = explicit b.stmts v y s.0 } in
+    tuple_of_row y g (world_rows b v) refl ((rows_are_the_world keys b.stmts v g).1 (told.1, refl))
+
+there_is : (o : Option ℕ) → is_some o ≡ true → o ≡ Some (unwrap_or o 0)
+there_is None e = absurd (false≢true e)
+there_is (Some n) e = refl
+
+state_rows : (t : Tables) (b : Contents) (h : StoresValid t b) (v : List ℕ) (rel : ℕ) → is_state b.stmts v ≡ true → length (shown_at t b h v rel) ≤ length (world_rows b v)
+state_rows t b h v rel state = by (nat_lt rel (2 ^ 32)) refl
+  where
+    small : nat_lt rel (2 ^ 32) ≡ true → IsNum rel
+    small e = grind (arith, nat_tests)
+
+    by : (c : Bool) → nat_lt rel (2 ^ 32) ≡ c → length (shown_at t b h v rel) ≤ length (world_rows b v)
+    by true e =
+        let named = h.stored.stored.worlds v ∙ state in
+        let sized = h.stored.stored.states.names.sized v (world_number h.stored.names v) (there_is (number_of h.stored.names v) named) in
+        let differ = shown_differ t (stored_shows t b h).run (world_number h.stored.names v) rel sized (small e) in
+        let fewer = distinct_count-le same_tuple same_tuple-Decides (map signed_tuple (shown_at t b h v rel)) (map held_tuple (world_rows b v)) (shown_is_told t b h v rel state) in
+        let le = count-le (map held_tuple (world_rows b v)) in
+        let m = length-map (world_rows b v) held_tuple in
+        omega arith
+    by false e = let none = no_rows t b h v rel e in omega arith
+
+-- the world of a path has as many rows as that of the deepest state that it ends in
+world_as_long : (keys : ℕ → ℕ) (stmts : List Stmt) (w : List ℕ) → length (world_of keys stmts (deepest_suffix (is_state stmts) w)) ≡ length (world_of keys stmts w)
+world_as_long keys stmts w = elim (cases_Bool (is_state stmts w)) [
+  | inl e ↦ ap (λ v. length (world_of keys stmts v)) (deepest_of_member (is_state stmts) w e)
+  | inr e ↦ sym (ap length (plain_paths_inherit keys stmts w e) ∙ length-map (world_of keys stmts (deepest_suffix (is_state stmts) w)) inherited)
+]
+
+few_are_small : (t : Tables) (b : Contents) (h : StoresValid t b) (q : Query) (rows : ℕ → ℕ) → HasFewRows b q rows → AreSmall b (sight_of t) (world_number h.stored.names) q rows
+few_are_small t b h q rows few at alias rel sign path item slots w named own apart =
+    let v = deepest_suffix (is_state b.stmts) w in
+    let le = state_rows t b h v rel (deepest_is_member (is_state b.stmts) w refl) in
+    let same = world_as_long (key_lengths b.catalog.rels) b.stmts w in
+    let most = few at alias rel sign path item slots w named own apart in
+    omega arith
+
+-- there are as many user tuples as users
+users_counted : (uid : ℕ) (names : List (List ℕ)) → length (user_tuples uid names) ≡ length names
+users_counted uid [] = refl
+users_counted uid (name ∷ names) = ap suc (users_counted (suc uid) names)
+
+-- the plan of a query reads no more than the product
+pub plan_reads_few : (t : Tables) (k : Known) (s : State) (q : Query) (rows : ℕ → ℕ) → Agrees t k s → query_fits k.catalog q ≡ true → HasFewRows s.base q rows
+    → reads_from (sight_of t) (plan_of k.catalog.rels q).steps (start_of (plan_of k.catalog.rels q).items) ≤ product_of (length s.base.catalog.users) rows 0 q.items
+plan_reads_few t k s q rows a fits few =
+    let b = s.base in
+    let shown = (stored_shows t b a.base).shown in
+    let users = ap length shown.users ∙ users_counted 1 b.catalog.users in
+    let here : query_fits b.catalog q ≡ true = ap (λ (c : Catalog). query_fits c q) (sym a.catalog) ∙ fits in
+    let most = plan_reads b (sight_of t) (world_number a.base.stored.names) q (length b.catalog.users) rows a.base.valid shown here (omega arith) (few_are_small t b a.base q rows few) in
+    subst (λ (c : Catalog). reads_from (sight_of t) (plan_of c.rels q).steps (start_of (plan_of c.rels q).items) ≤ product_of (length b.catalog.users) rows 0 q.items) (sym a.catalog) most
+
+pub answers_read : {X : Type 0} (k : Known) (q : Query) (plan : Fields) (old mid new : Seen) (result : Result X StopError) → can_be_answered k.catalog q ≡ true → plan ≡ plan_of k.catalog.rels q
+    → mid.reads ≤ old.reads + reads_from (sight_of old.kept) plan.steps (start_of plan.items) → new.reads ≡ mid.reads → ReadsAsBounded q k old new result
+answers_read k q plan old mid new result fits of_query most same s rows a few =
+    let fine = (and_parts (query_fits k.catalog q) (is_safe k.catalog.rels q) fits).0 in
+    let least = plan_reads_few old.kept k s q rows a fine few in
+    let here = ap (λ (p : Fields). reads_from (sight_of old.kept) p.steps (start_of p.items)) of_query in
+    always_ok result (omega arith)

@@ -1,0 +1,124 @@
+-- How often is written where a step is told of within a transaction, and where the transaction ends.
+use Rattle.std.proofs.Common.{◌≡◌, ◌∙◌, ℕ, ◌+◌, ◌*◌, true, false, List, length, Result, Ok, Err, OnOk, refl, ap, sym, subst, inl, inr, arith}
+use Rattle.std.specs.FinMap as tables
+use Rattle.std.specs.List.{AllByRecursion}
+use Rattle.std.proofs.lemmas.Bool.{cases_Bool, false≢true, MatchBool-at_true, MatchBool-at_false}
+use Rattle.bdb_base.specs.Bases.{belongs}
+use Rattle.bdb_base.specs.Changes.{is_taken}
+use Rattle.bdb_base.specs.Limits.{deepest_statement}
+use Rattle.bdb_base.specs.declared.kinds.Catalog.{Catalog}
+use Rattle.bdb_base.specs.declared.kinds.Cond.{Cond}
+use Rattle.bdb_base.specs.declared.kinds.Sign.{Sign}
+use Rattle.bdb_base.specs.declared.kinds.Stmt.{Stmt}
+use Rattle.bdb_bind.specs.Fits.{fits_path}
+use Rattle.bdb_bind.specs.declared.bound.Bound.TheVariants.{Delete}
+use Rattle.bdb_canon.specs.declared.sizes.Counts.{Counts}
+use Rattle.bdb_catalog.specs.Taking.{AreTaken}
+use Rattle.bdb_keep.specs.Calls.{IsBegin}
+use Rattle.bdb_keep.specs.Seen.{Seen}
+use Rattle.bdb_keep.specs.Tables.{Tables}
+use Rattle.bdb_tables.specs.Differences.{AreDifferences}
+use Rattle.bdb_update.specs.Bounds.{WritesWithin}
+use Rattle.bdb_update.specs.Calls.{Adds}
+use Rattle.bdb_update.specs.Replacing.{WritesForOne}
+use Rattle.bdb_update.specs.declared.answer.UpdateError.{UpdateError}
+use Rattle.bdb_update.specs.declared.answer.UpdateError.TheVariants as change
+use Rattle.bdb_worlds.specs.Bounds.{RisesWithin}
+use Rattle.bdb_session.specs.Bounds.{RefusedUnwritten, WritesAsTold}
+use Rattle.bdb_session.specs.declared.reply.Reply.{Reply}
+use Rattle.bdb_session.specs.declared.stop.StopError.{StopError}
+use Rattle.bdb_session.specs.declared.stop.StopError.TheVariants.{Fault, Memory}
+use Rattle.bdb_session.specs.Known.{Known, Agrees, AgreesOnSome}
+use Rattle.bdb_session.specs.Outcome.{Outcome, is_accepted}
+use Rattle.bdb_session.specs.Within.{IsSaid, IsStopped, Refuses, IsKept, IsUndone, Settles, sized}
+use Rattle.bdb_session.proofs.DeleteLemmas.{gone_is}
+use Rattle.bdb_session.proofs.InsertLemmas.{insert_meets}
+use Rattle.bdb_session.proofs.ServedLemmas.{still_agrees}
+use Rattle.bdb_session.proofs.TakenLemmas.{all_taken, only_one, taken_at}
+
+-- ---- what is written
+
+rises_none : (n before now : ℕ) → now ≡ before → RisesWithin n before now
+rises_none n before now e = λ fits. omega (arith, e)
+
+nothing_written : (times more : ℕ) (old new : Seen) → new.writes ≡ old.writes → WritesWithin times more old new
+nothing_written times more old new e = λ ps d. rises_none (times * length ps + more) old.writes new.writes e
+
+-- a bound from one keeper to another is one from a keeper with the rows and writes of the first to one with those of the second
+same_writes : (times more : ℕ) (old from to new : Seen) → from.kept ≡ old.kept → from.writes ≡ old.writes → new.kept ≡ to.kept → new.writes ≡ to.writes
+    → WritesWithin times more from to → WritesWithin times more old new
+same_writes times more old from to new k w l v h = λ ps d.
+    let there = subst (λ (t : Tables). AreDifferences (tables.get t) (tables.get to.kept) ps) (sym k) (subst (λ (t : Tables). AreDifferences (tables.get old.kept) (tables.get t) ps) l d) in
+    subst (λ n. RisesWithin (times * length ps + more) old.writes n) (sym v) (subst (λ n. RisesWithin (times * length ps + more) n to.writes) w (h ps there))
+
+-- ---- within a transaction
+
+-- a reply writes nothing
+pub said_writes : (times more : ℕ) (c : Catalog) (o : Outcome) (old mid new : Seen) (result : Result Reply StopError) → WritesWithin times more old mid → IsSaid c o mid new result
+    → OnOk result (WritesWithin times more old new)
+said_writes times more c o old mid new (Ok r) h said = subst (λ (x : Seen). WritesWithin times more old x) (sym said.alone) h
+said_writes times more c o old mid new (Err stop) h said = tt
+
+-- what is accepted is not refused
+pub accepted_unrefused : (c : Catalog) (o : Outcome) (old mid new : Seen) (result : Result Reply StopError) → is_accepted o ≡ true → IsSaid c o mid new result → RefusedUnwritten old new result
+accepted_unrefused c o old mid new (Ok r) e said = λ f. absurd (false≢true (sym f ∙ said.reply.accepted ∙ e))
+accepted_unrefused c o old mid new (Err stop) e said = tt
+
+said_unwritten : (c : Catalog) (o : Outcome) (old mid new : Seen) (result : Result Reply StopError) → mid.writes ≡ old.writes → IsSaid c o mid new result → RefusedUnwritten old new result
+said_unwritten c o old mid new (Ok r) e said = λ _. ap (λ (x : Seen). x.writes) said.alone ∙ e
+said_unwritten c o old mid new (Err stop) e said = tt
+
+-- an error told is no reply
+stopped_writes : (times more : ℕ) (stop : StopError) (old mid new : Seen) (result : Result Reply StopError) → IsStopped stop mid new result
+    → OnOk result (WritesWithin times more old new) × RefusedUnwritten old new result
+stopped_writes times more stop old mid new result said =
+    subst (λ (r : Result Reply StopError). OnOk r (WritesWithin times more old new) × RefusedUnwritten old new r) (sym said.error) (tt, tt)
+
+-- an insert that is refused or stops
+module _ (k : Known) (x : Stmt) (before after : Counts) (old mid new : Seen) (result : Result Reply StopError) (fits : belongs k.catalog x ≡ true) (some : AgreesOnSome old.kept (sized k before)) where
+  said_refused : (o : Outcome) → mid.writes ≡ old.writes → IsSaid k.catalog o mid new result → OnOk result (WritesWithin (length x.path + 2) 8 old new) × RefusedUnwritten old new result
+  said_refused o e said =
+      (said_writes (length x.path + 2) 8 k.catalog o old mid new result (nothing_written (length x.path + 2) 8 old mid e) said, said_unwritten k.catalog o old mid new result e said)
+
+  pub insert_err_writes : (e : UpdateError) → Adds old mid before after x (Err e) → Refuses k.catalog e mid new result
+      → OnOk result (WritesWithin (length x.path + 2) 8 old new) × RefusedUnwritten old new result
+  insert_err_writes (change.Clash least) adds said = said_refused _ (adds some.state.base (insert_meets k x before after old mid fits some.state some.agrees)).untouched.writes said
+  insert_err_writes (change.Full what) adds said = said_refused _ (adds some.state.base (insert_meets k x before after old mid fits some.state some.agrees)).untouched.writes said
+  insert_err_writes change.Fault adds said = stopped_writes (length x.path + 2) 8 Fault old mid new result said
+  insert_err_writes change.Memory adds said = stopped_writes (length x.path + 2) 8 Memory old mid new result said
+
+-- a delete of one statement
+pub delete_writes : (k : Known) (before : Counts) (w : List ℕ) (sign : Sign) (rel : ℕ) (conds : List Cond) (gone : List Stmt) (old read mid new : Seen) (c : Catalog) (o : Outcome)
+    (result : Result Reply StopError) → fits_path k.catalog.users deepest_statement w ≡ true → AreTaken old.kept w sign rel conds gone → read.kept ≡ old.kept → read.writes ≡ old.writes
+    → WritesForOne gone read mid (Ok tt) → IsSaid c o mid new result → WritesAsTold (Delete w sign rel conds) (sized k before) old new result
+delete_writes k before w sign rel conds gone old read mid new c o result fits taken kept writes one said = λ s a single.
+    let is = gone_is k before old.kept read.kept w sign rel conds gone fits taken kept s a in
+    let here : AllByRecursion (λ (x : Stmt). x.path ≡ w) gone =
+    subst (AllByRecursion (λ (x : Stmt). x.path ≡ w)) (sym is) (all_taken (λ x. x.path ≡ w) (is_taken w sign rel conds) (taken_at w sign rel conds) s.base.stmts) in
+    let x = only_one (λ (x : Stmt). x.path ≡ w) gone here (ap length is ∙ single) in
+    let within = subst (λ (p : List ℕ). WritesWithin (length p + 2) 8 read mid) x.1.1 (one x.0 x.1.0) in
+    said_writes (length w + 2) 8 c o old mid new result (same_writes (length w + 2) 8 old read mid mid kept writes refl refl within) said
+
+-- ---- the end of a transaction
+
+module _ (times more : ℕ) (counts : Counts) (r : Reply) (before now : Known) (old run mid new : Seen) (began : IsBegin {T = Unit {0}} {E = StopError} old run (Ok tt) Fault)
+    (within : WritesWithin times more run mid) (refused : r.accepted ≡ false → mid.writes ≡ run.writes) where
+  kept_writes : (result : Result Reply StopError) → IsKept counts r before now mid new result → OnOk result (WritesWithin times more old new)
+  kept_writes (Ok q) k = same_writes times more old run mid new began.kept began.writes k.commit.kept k.commit.writes within
+  kept_writes (Err stop) k = tt
+
+  pub settled_writes : (result : Result Reply StopError) → Settles counts r before now mid new result → OnOk result (WritesWithin times more old new)
+  settled_writes result h = elim (cases_Bool r.accepted) [
+    | inl done ↦ kept_writes result (MatchBool-at_true (IsKept counts r before now mid new result) (IsUndone r before now mid new result) done h)
+    | inr undone ↦
+        let k = MatchBool-at_false (IsKept counts r before now mid new result) (IsUndone r before now mid new result) undone h in
+        subst (λ (x : Result Reply StopError). OnOk x (WritesWithin times more old new)) (sym k.reply) (nothing_written times more old new (k.undo.writes ∙ refused undone ∙ began.writes))
+  ]
+
+-- after its begin a session still knows the sizes
+pub delete_settles : (w : List ℕ) (sign : Sign) (rel : ℕ) (conds : List Cond) (start counts : Counts) (r : Reply) (before now : Known) (old run mid new : Seen) (result : Result Reply StopError)
+    → start ≡ before.counts → IsBegin {T = Unit {0}} {E = StopError} old run (Ok tt) Fault → WritesAsTold (Delete w sign rel conds) (sized before start) run mid (Ok r)
+    → (r.accepted ≡ false → mid.writes ≡ run.writes) → Settles counts r before now mid new result → WritesAsTold (Delete w sign rel conds) before old new result
+delete_settles w sign rel conds start counts r before now old run mid new result same began within refused h = λ s a one.
+    let here = subst (λ (n : Counts). Agrees run.kept (sized before n) s) (sym same) (still_agrees old.kept run.kept before s began.kept a) in
+    settled_writes (length w + 2) 8 counts r before now old run mid new began (within s here one) refused result h

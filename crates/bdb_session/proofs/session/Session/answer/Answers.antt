@@ -1,0 +1,15 @@
+use Rattle.std.proofs.Common.{ap, sym}
+use Rattle.bdb_render.specs.declared.refusal.Refusal.TheVariants as refusal
+use Rattle.bdb_session.specs.Machine.{outcome_of}
+use Rattle.bdb_session.proofs.ServedLemmas.{refused_serves}
+use Rattle.bdb_session.proofs.session.Session.answer.Goals as goal
+
+pub returns-in-Long-clause-next : goal.returns-in-Long-clause-next
+returns-in-Long-clause-next g c = λ s a.
+    ((refused_serves (λ s. outcome_of s c.args.event.now) refusal.Long c.args.self.now _ c.refuse.result
+    (λ s a. ap (outcome_of s) c.in-Long.is) c.requires.still c.refuse.ensures).served s a).next
+
+pub returns-in-Unfinished-clause-next : goal.returns-in-Unfinished-clause-next
+returns-in-Unfinished-clause-next g c = λ s a.
+    ((refused_serves (λ s. outcome_of s c.args.event.now) refusal.Unfinished c.args.self.now _ c.refuse-in-Unfinished.result
+    (λ s a. ap (outcome_of s) c.in-Unfinished.is) c.requires.still c.refuse-in-Unfinished.ensures).served s a).next

@@ -1,0 +1,30 @@
+-- What becomes of a keeper where something is told, and nothing changes.
+use Rattle.std.specs.Prelude.{◌≡◌, ℕ, ◌+◌, ◌*◌, List, length, Result, OnOk, OnErr}
+use Rattle.bdb_base.specs.Bases.{Contents, key_lengths}
+use Rattle.bdb_base.specs.Causes.{HasCause, Rises}
+use Rattle.bdb_base.specs.WorldRows.{world_of}
+use Rattle.bdb_keep.specs.Seen.{Seen, IsStill, NeverFall, Unchanged}
+use Rattle.bdb_session.specs.declared.stop.StopError.{StopError}
+use Rattle.bdb_session.specs.declared.stop.StopError.TheVariants.{Fault}
+use Rattle.bdb_session.specs.Known.{Known, Agrees}
+use Rattle.bdb_session.specs.Outcome.{State}
+use Rattle.bdb_worlds.specs.Bounds.{RisesWithin}
+
+-- It is committed that nothing changes: the rows stay, and none is read.
+pub record CommitsNothing {T : Type 0} (old new : Seen) (result : Result T StopError) : Type 0 where
+  pub still : IsStill new
+  pub kept : new.kept ≡ old.kept
+  pub last : new.last ≡ old.last
+  pub commits : OnOk result (Rises 1 old.commits new.commits)
+  pub err : OnErr result (Unchanged old new)
+  pub reads : new.reads ≡ old.reads
+  pub never_fall : NeverFall old new
+  pub cause : HasCause old.faults new.faults result Fault
+
+-- how often is read at most to show the world of a path: once for each user of the path, and twice for each of its rows
+abbrev pub world_reads : Contents → List ℕ → ℕ
+world_reads b path = length path + 2 * length (world_of (key_lengths b.catalog.rels) b.stmts path) + 8
+
+-- whichever state a session agrees on with the tables, an answer reads no more than this
+abbrev pub ReadsWithin : {T : Type 0} → (State → ℕ) → Known → Seen → Seen → Result T StopError → Type 0
+ReadsWithin most k old new result = (s : State) → Agrees old.kept k s → OnOk result (RisesWithin (most s) old.reads new.reads)

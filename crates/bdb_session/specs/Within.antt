@@ -1,0 +1,76 @@
+-- What a session does within a transaction: what it tells of a step there, and how the transaction ends.
+use Rattle.std.specs.Prelude.{◌≡◌, true, Result, Ok, Err, IfOk, OnOk, OnErr, IsErrOf, MatchBool}
+use Rattle.bdb_base.specs.declared.kinds.Catalog.{Catalog}
+use Rattle.bdb_canon.specs.declared.sizes.Counts.{Counts}
+use Rattle.bdb_keep.specs.Calls.{IsCommit, IsUndo}
+use Rattle.bdb_keep.specs.Seen.{Seen}
+use Rattle.bdb_render.specs.declared.refusal.Refusal.TheVariants as refusal
+use Rattle.bdb_update.specs.declared.answer.UpdateError.{UpdateError}
+use Rattle.bdb_update.specs.declared.answer.UpdateError.TheVariants as change
+use Rattle.bdb_val.specs.Steps.{IsChanging}
+use Rattle.bdb_session.specs.declared.reply.Reply.{Reply}
+use Rattle.bdb_session.specs.declared.stop.StopError.{StopError}
+use Rattle.bdb_session.specs.declared.stop.StopError.TheVariants.{Fault, Memory}
+use Rattle.bdb_session.specs.Known.{Known, Agrees}
+use Rattle.bdb_session.specs.Machine.{clash_with}
+use Rattle.bdb_session.specs.Outcome.{State, Outcome, Refused, state_after, commit_count}
+use Rattle.bdb_session.specs.Served.{IsReply}
+
+-- what a session knows where the base has these sizes
+abbrev pub sized : Known → Counts → Known
+sized k counts = record k { counts = counts }
+
+-- ---- a step
+
+-- What is told of a step that comes to this in a state. After an Ok it has answered so, and agrees with the tables on the state
+-- after; what it accepts is done.
+pub record IsToldWithin (s : State) (outcome : Outcome) (now : Known) (old new : Seen) (result : Result Reply StopError) : Type 0 where
+  pub reply : IfOk result (λ r. IsReply s.base.catalog outcome r)
+  pub next : OnOk result (Agrees new.kept now (state_after s outcome))
+  pub done : IfOk result (λ r. r.accepted ≡ true → commit_count outcome ≡ 1)
+
+-- What is told of a step, whichever state the session agrees on with the tables. After an Ok the transaction still runs, after an
+-- Err none does.
+pub record TellsWithin (outcome : State → Outcome) (before now : Known) (old new : Seen) (result : Result Reply StopError) : Type 0 where
+  pub told : (s : State) → Agrees old.kept before s → IsToldWithin s (outcome s) now old new result
+  pub changing : IsChanging old new result Fault
+
+-- ---- a reply
+
+-- A reply to what came to this is made, and nothing else is done. Where there is no memory for it, the transaction is undone.
+pub record IsSaid (c : Catalog) (outcome : Outcome) (old new : Seen) (result : Result Reply StopError) : Type 0 where
+  pub reply : IfOk result (λ r. IsReply c outcome r)
+  pub alone : OnOk result (new ≡ old)
+  pub memory : IsErrOf result Fault → ⊥
+  pub undone : OnErr result (IsUndo old new)
+
+-- this error is answered, and nothing is done
+pub record IsStopped (stop : StopError) (old new : Seen) (result : Result Reply StopError) : Type 0 where
+  pub error : result ≡ Err stop
+  pub alone : new ≡ old
+
+-- what is answered where a change is refused, or stopped
+abbrev pub Refuses : Catalog → UpdateError → Seen → Seen → Result Reply StopError → Type 0
+Refuses c (change.Clash least) old new result = IsSaid c (Refused (clash_with least)) old new result
+Refuses c (change.Full what) old new result = IsSaid c (Refused (refusal.Full what)) old new result
+Refuses c change.Fault old new result = IsStopped Fault old new result
+Refuses c change.Memory old new result = IsStopped Memory old new result
+
+-- ---- the end
+
+-- a step that was done is committed, and the session knows the sizes after it
+pub record IsKept (counts : Counts) (told : Reply) (before now : Known) (old new : Seen) (result : Result Reply StopError) : Type 0 where
+  pub reply : IfOk result (λ r. r ≡ told)
+  pub next : OnOk result (now ≡ sized before counts)
+  pub same : OnErr result (now ≡ before)
+  pub commit : IsCommit old new result Fault
+
+-- a step that was refused is undone
+pub record IsUndone (told : Reply) (before now : Known) (old new : Seen) (result : Result Reply StopError) : Type 0 where
+  pub reply : result ≡ Ok told
+  pub same : now ≡ before
+  pub undo : IsUndo old new
+
+-- how a transaction ends in which a step was told of
+abbrev pub Settles : Counts → Reply → Known → Known → Seen → Seen → Result Reply StopError → Type 0
+Settles counts told before now old new result = MatchBool told.accepted (IsKept counts told before now old new result) (IsUndone told before now old new result)
