@@ -1,9 +1,9 @@
 -- What the events that count tell of a run.
-use Rattle.std.proofs.Common.{◌≡◌, ◌≢◌, ◌∙◌, ℕ, ◌+◌, ◌-◌, ◌<◌, false, nat_eq, nat_lt, List, [], ◌∷◌, ◌++◌, take, drop, Option, Some, None, IfSome, inl, inr, refl, ap, sym, subst, append_assoc, arith}
+use Rattle.std.proofs.Common.{◌≡◌, ◌≢◌, ◌∙◌, ℕ, ◌+◌, ◌-◌, ◌<◌, true, false, nat_eq, nat_lt, List, [], ◌∷◌, ◌++◌, take, drop, Option, Some, None, IfSome, inl, inr, refl, ap, sym, subst, append_assoc, arith}
 use Rattle.std.proofs.lemmas.Bool.{cases_Bool, cond-true, cond-false, le-ltb, lt-ltb}
 use Rattle.std.proofs.lemmas.List.{take-append-drop}
+use Rattle.bdb_catalog.specs.Opening.{StandFor}
 use Rattle.bdb_keep.specs.Seen.{Seen}
-use Rattle.bdb_tables.specs.Holds.{Stands}
 use Rattle.bdb_session.specs.declared.event.Event.{Event}
 use Rattle.bdb_session.specs.Machine.{counts, next_state, reply_of, outcome_of}
 use Rattle.bdb_session.specs.Outcome.{State, start_from, Outcome, Blank, Refused, Done, state_after, commit_count}
@@ -157,6 +157,12 @@ append_nil (x ∷ xs) = ap (λ l. x ∷ l) (append_nil xs)
 replies-push : (b : State) (xs : List Event) (e : Event) → replies b (xs ++ e ∷ []) ≡ replies b xs ++ reply_of (after b xs) e
 replies-push b xs e = replies-append b xs (e ∷ []) ∙ ap (λ l. replies b xs ++ l) (append_nil (reply_of (after b xs) e))
 
+is_four : (n : ℕ) → nat_eq n 4 ≡ true → n ≡ 4
+is_four n h = grind (arith, h)
+
+not_four : (n : ℕ) → nat_eq n 4 ≡ false → n ≢ 4
+not_four n h e = grind (arith, h, e)
+
 -- the run by the events that are done
 by_done : (b : State) (text : List ℕ) (left : Option (List ℕ)) (first now : Seen) (old new : Option (List ℕ)) (status : ℕ) (ran : Ran b text left first now old new status)
     → EndsByCount b (events_of text) now old new status (counted b ran.done)
@@ -165,11 +171,11 @@ by_done b text left first now old new status ran =
     let done = ran.done in
     let k = counted b done in
     let is = count_tells_the_state b events done ran.front in
-    let stand = subst (λ (x : State). Stands now.last x.base) is.state ran.stands in
+    let stand = subst (λ (x : State). StandFor now.last x.base) is.state ran.stands in
     let more = replies_begin b done (before_count k b events) is.no_more in
     elim (cases_Bool (nat_eq status 4)) [
       | inl t ↦
-          let p = ran.part (grind (arith, t)) in
+          let p = ran.part (is_four status t) in
           let reply = reply_of (after b p.front) p.last in
           let all = subst (λ (l : List ℕ). BeginsWith l (replies b p.front ++ take p.part reply)) (sym (ap (replies b) p.is ∙ replies-push b p.front p.last)) (part_begins (replies b p.front) reply p.part) in
           record {
@@ -179,12 +185,12 @@ by_done b text left first now old new status ran =
             no_more = begins_on (replies b (before_count k b events)) (replies b done) (replies b p.front ++ take p.part reply) more all;
             before = λ some. begins_more (replies b p.front) (take p.part reply) (replies b (before_count (k - 1) b events))
                 (replies_begin b (before_count (k - 1) b events) p.front (before_part b events done p.front p.last p.is ran.front some));
-            whole = λ other. absurd (other (grind (arith, t)));
+            whole = λ other. absurd (other (is_four status t));
           }
       | inr f ↦ record {
         stands = stand;
         text = replies b done;
-        written = ran.written (λ e. grind (arith, f, e));
+        written = ran.written (not_four status f);
         no_more = more;
         before = λ some. replies_begin b (before_count (k - 1) b events) done (before_whole b events done ran.front some);
         whole = λ _. replies_begin b (up_to_count k b events) done is.all_of;
@@ -200,4 +206,4 @@ pub each_by_count : (before left : Option (List ℕ)) (first now : Seen) (old ne
     → IfSome before (λ text. EachBase first.kept (λ b. Ran (start_from b) text left first now old new status))
     → IfSome before (λ text. EachBase first.kept (λ b. CommitsTell (start_from b) text first now old new status))
 each_by_count None left first now old new status h = tt
-each_by_count (Some text) left first now old new status h = λ b stands valid. commits_tell (start_from b) text left first now old new status (h b stands valid)
+each_by_count (Some text) left first now old new status h = λ b stands. commits_tell (start_from b) text left first now old new status (h b stands)

@@ -1,13 +1,22 @@
--- What tables without rows stand for.
-use Rattle.std.proofs.Common.{refl, inr}
-use Rattle.bdb_base.specs.Bases.{IsValid, empty_contents}
+-- What tables without rows stand for, and sessions over stored tables.
+use Rattle.std.proofs.Common.{◌≡◌, refl, inl, inr, sym, subst}
+use Rattle.std.specs.FinMap as tables
+use Rattle.bdb_base.specs.Bases.{empty_contents}
+use Rattle.bdb_catalog.specs.Opening.{StandForSome}
+use Rattle.bdb_keep.specs.Tables.{Tables}
+use Rattle.bdb_session.specs.Known.{Known, AgreesOnSome}
 use Rattle.bdb_top.specs.Laws.{NoRowsStandForABase}
 
-pub empty_is_valid : IsValid empty_contents.catalog empty_contents.stmts
-empty_is_valid = record {
-  catalog = record { users_differ = refl; users_plain = refl; few_users = refl; rels_differ = refl; rels_valid = refl; few_rels = refl };
-  stmts = record { sorted = refl; belong = refl; no_clash = refl; few_stmts = refl; few_tuples = refl; few_worlds = refl };
-}
-
 pub no_rows_stand_for_a_base : NoRowsStandForABase
-no_rows_stand_for_a_base t none = (empty_contents, inr (none, refl), empty_is_valid)
+no_rows_stand_for_a_base t none = inr (none, refl)
+
+-- a keeper without rows can be opened
+pub no_rows_stand : (t : Tables) → t ≡ tables.empty → StandForSome t
+no_rows_stand t none = record { base = empty_contents; stand = no_rows_stand_for_a_base t none }
+
+-- so can one with which a session agrees, and one that is as it was
+pub agreed_stand : (t : Tables) (k : Known) → AgreesOnSome t k → StandForSome t
+agreed_stand t k h = record { base = h.state.base; stand = inl h.agrees.base }
+
+pub kept_stand : (t u : Tables) → u ≡ t → StandForSome t → StandForSome u
+kept_stand t u same h = subst StandForSome (sym same) h

@@ -4,3 +4,5 @@ pub mod StreamLemmas
 pub mod RanLemmas
 pub mod EmptyLemmas
 pub mod GeneratedLemmas
+pub mod TallyLemmas
+pub mod AnswerLemmas

@@ -1,13 +1,14 @@
 -- How a run ends, by its status.
 use Rattle.std.proofs.Common.{◌≡◌, ◌≢◌, ◌∙◌, ℕ, ◌-◌, ◌^◌, ◌<◌, ◌≤◌, ◌⊎◌, inl, inr, Bool, true, false, List, [], ◌∷◌, ◌++◌, Option, Some, None, Result, Ok, Err, IfSome, refl, ap, sym, subst, arith}
 use Rattle.std.specs.Io.KnownBytes.{Appends}
-use Rattle.bdb_base.specs.Bases.{Contents, IsValid}
 use Rattle.bdb_base.specs.Causes.{Rises}
+use Rattle.bdb_catalog.specs.Bases.{StoresValid}
+use Rattle.bdb_catalog.specs.Opening.{StandFor}
 use Rattle.bdb_keep.specs.Seen.{Seen, IsStill, Unchanged}
 use Rattle.bdb_keep.specs.Tables.{Tables}
-use Rattle.bdb_tables.specs.Holds.{Holds, Stands}
 use Rattle.bdb_session.specs.declared.event.Event.{Event}
-use Rattle.bdb_session.specs.Opening.{opening}
+use Rattle.bdb_session.specs.Known.{Known, Agrees}
+use Rattle.bdb_session.specs.Opening.{opening, Opens}
 use Rattle.bdb_session.specs.Outcome.{State, start_from}
 use Rattle.bdb_session.specs.Runs.{after, replies, accepts_all, events_of, IsFrontOf}
 use Rattle.bdb_top.specs.Counted.{counted}
@@ -24,11 +25,10 @@ nothing_grows : (a : Option (List ℕ)) → Appends a a []
 nothing_grows None = tt
 nothing_grows (Some s) = sym (append_nil s)
 
--- What a run from a base leaves of a keeper that was opened: the tables hold the base after these events, and there was a
+-- What a run from a base leaves of a keeper that was opened: the tables store the base after these events, and there was a
 -- commit for each that counts.
 record Left (s : State) (done : List Event) (first now : Seen) : Type 0 where
-  valid : IsValid (after s done).base.catalog (after s done).base.stmts
-  holds : Holds now.last (after s done).base
+  stores : StoresValid now.last (after s done).base
   commits : CommitsFor (counted s done) first now
 
 -- the commits of events, behind that of opening
@@ -38,11 +38,10 @@ commits_on k n a m z h i below =
     let first = h (omega arith) in
     omega arith
 
-left_by : (s : State) (done : List Event) (session : State) (first mid now : Seen)
-    → Rises (opening first.kept) first.commits mid.commits → Carried s done session mid now → IsStill now → IsValid session.base.catalog session.base.stmts → Left s done first now
-left_by s done session first mid now opened carried still valid = record {
-  valid = subst (λ (x : State). IsValid x.base.catalog x.base.stmts) carried.state valid;
-  holds = subst (λ (t : Tables). Holds t (after s done).base) still.rest (subst (λ (x : State). Holds now.kept x.base) carried.state carried.holds);
+left_by : (s : State) (done : List Event) (session : Known) (first mid now : Seen)
+    → Rises (opening first.kept) first.commits mid.commits → Carried s done session mid now → IsStill now → Left s done first now
+left_by s done session first mid now opened carried still = record {
+  stores = subst (λ (t : Tables). StoresValid t (after s done).base) still.rest carried.agrees.base;
   commits = commits_on (counted s done) (opening first.kept) first.commits mid.commits now.commits opened carried.commits;
 }
 
@@ -52,10 +51,9 @@ early : (s : State) (text : List ℕ) (left : Option (List ℕ)) (first now : Se
 early s text left first now old new status done front leaves written keeps_up high not_sink = record {
   done = done;
   front = front;
-  valid = leaves.valid;
-  stands = inl leaves.holds;
-  holds = λ _ _. leaves.holds;
-  committed = λ _. leaves.holds;
+  stands = inl leaves.stores;
+  stores = λ _ _. leaves.stores;
+  committed = λ _. leaves.stores;
   commits = leaves.commits;
   written = λ _. written;
   part = λ e. absurd (not_sink e);
@@ -67,13 +65,12 @@ early s text left first now old new status done front leaves written keeps_up hi
 
 -- a run whose keeper was not opened
 closed : (s : State) (text : List ℕ) (first now : Seen) (old : Option (List ℕ)) (status : ℕ)
-    → Stands first.kept s.base → IsValid s.base.catalog s.base.stmts → IsStill now → Unchanged first now → (status ≡ 5) ⊎ (status ≡ 6) → Ran s text (Some text) first now old old status
-closed s text first now old status stands valid still same is = record {
+    → StandFor first.kept s.base → IsStill now → Unchanged first now → (status ≡ 5) ⊎ (status ≡ 6) → Ran s text (Some text) first now old old status
+closed s text first now old status stands still same is = record {
   done = [];
   front = (events_of text, refl);
-  valid = valid;
-  stands = subst (λ (t : Tables). Stands t s.base) (sym same.kept ∙ still.rest) stands;
-  holds = λ not_five not_six. absurd (elim is [ inl e ↦ not_five e | inr e ↦ not_six e ]);
+  stands = subst (λ (t : Tables). StandFor t s.base) (sym same.kept ∙ still.rest) stands;
+  stores = λ not_five not_six. absurd (elim is [ inl e ↦ not_five e | inr e ↦ not_six e ]);
   committed = λ more. absurd (more same.commits);
   commits = λ _. none now.commits first.commits (opening first.kept) same.commits;
   written = λ _. nothing_grows old;
@@ -95,15 +92,15 @@ closed s text first now old status stands valid still same is = record {
 
 -- the same for each base and text
 ran_closed : (s : State) (text : List ℕ) (first now : Seen) (old : Option (List ℕ)) (stop : Stop)
-    → Stands first.kept s.base → IsValid s.base.catalog s.base.stmts → IsStill now → Unchanged first now → (stop ≡ Keeper) ⊎ (stop ≡ Memory) → Ran s text (Some text) first now old old (status_of (Err stop))
-ran_closed s text first now old stop stands valid still same (inl e) = subst (λ (x : Stop). Ran s text (Some text) first now old old (status_of (Err x))) (sym e) (closed s text first now old 5 stands valid still same (inl refl))
-ran_closed s text first now old stop stands valid still same (inr e) = subst (λ (x : Stop). Ran s text (Some text) first now old old (status_of (Err x))) (sym e) (closed s text first now old 6 stands valid still same (inr refl))
+    → StandFor first.kept s.base → IsStill now → Unchanged first now → (stop ≡ Keeper) ⊎ (stop ≡ Memory) → Ran s text (Some text) first now old old (status_of (Err stop))
+ran_closed s text first now old stop stands still same (inl e) = subst (λ (x : Stop). Ran s text (Some text) first now old old (status_of (Err x))) (sym e) (closed s text first now old 5 stands still same (inl refl))
+ran_closed s text first now old stop stands still same (inr e) = subst (λ (x : Stop). Ran s text (Some text) first now old old (status_of (Err x))) (sym e) (closed s text first now old 6 stands still same (inr refl))
 
 pub each_closed : (before : Option (List ℕ)) (first now : Seen) (old : Option (List ℕ)) (stop : Stop)
     → IsStill now → Unchanged first now → (stop ≡ Keeper) ⊎ (stop ≡ Memory)
     → IfSome before (λ text. EachBase first.kept (λ b. Ran (start_from b) text before first now old old (status_of (Err stop))))
 each_closed None first now old stop still same is = tt
-each_closed (Some text) first now old stop still same is = λ b stands valid. ran_closed (start_from b) text first now old stop stands valid still same is
+each_closed (Some text) first now old stop still same is = λ b stands. ran_closed (start_from b) text first now old stop stands still same is
 
 -- a run that has come through all its events
 through : (s : State) (text : List ℕ) (left : Option (List ℕ)) (first now : Seen) (old new : Option (List ℕ)) (accepted : Bool) (done : List Event) → done ≡ events_of text → IsFrontOf done (events_of text)
@@ -111,10 +108,9 @@ through : (s : State) (text : List ℕ) (left : Option (List ℕ)) (first now : 
 through s text left first now old new true done is front leaves written none keeps_up = record {
   done = done;
   front = front;
-  valid = leaves.valid;
-  stands = inl leaves.holds;
-  holds = λ _ _. leaves.holds;
-  committed = λ _. leaves.holds;
+  stands = inl leaves.stores;
+  stores = λ _ _. leaves.stores;
+  committed = λ _. leaves.stores;
   commits = leaves.commits;
   written = λ _. written;
   part = λ e. absurd (omega arith);
@@ -126,10 +122,9 @@ through s text left first now old new true done is front leaves written none kee
 through s text left first now old new false done is front leaves written none keeps_up = record {
   done = done;
   front = front;
-  valid = leaves.valid;
-  stands = inl leaves.holds;
-  holds = λ _ _. leaves.holds;
-  committed = λ _. leaves.holds;
+  stands = inl leaves.stores;
+  stores = λ _ _. leaves.stores;
+  committed = λ _. leaves.stores;
   commits = leaves.commits;
   written = λ _. written;
   part = λ e. absurd (omega arith);
@@ -139,27 +134,26 @@ through s text left first now old new false done is front leaves written none ke
   keeps_up = keeps_up;
 }
 
-ran_from : (s : State) (text : List ℕ) (left : Option (List ℕ)) (session : State) (first mid now : Seen) (old new : Option (List ℕ)) (result : Result Bool Stop)
-    → Rises (opening first.kept) first.commits mid.commits → IsStill now → IsValid session.base.catalog session.base.stmts → Streams s (Some text) left session mid now old new result → Ran s text left first now old new (status_of result)
-ran_from s text left session first mid now old new (Ok accepted) opened still valid run =
-    through s text left first now old new accepted run.done run.all run.front (left_by s run.done session first mid now opened run.carried still valid) run.written run.accepted run.keeps_up
-ran_from s text left session first mid now old new (Err Source) opened still valid run =
-    early s text left first now old new 3 run.done run.front (left_by s run.done session first mid now opened run.carried still valid) run.written run.keeps_up (omega arith) (λ e. omega arith)
-ran_from s text left session first mid now old new (Err Keeper) opened still valid run =
-    early s text left first now old new 5 run.done run.front (left_by s run.done session first mid now opened run.carried still valid) run.written run.keeps_up (omega arith) (λ e. omega arith)
-ran_from s text left session first mid now old new (Err Memory) opened still valid run =
-    early s text left first now old new 6 run.done run.front (left_by s run.done session first mid now opened run.carried still valid) run.written run.keeps_up (omega arith) (λ e. omega arith)
-ran_from s text left session first mid now old new (Err Large) opened still valid run =
-    early s text left first now old new 8 run.done run.front (left_by s run.done session first mid now opened run.carried still valid) run.written run.keeps_up (omega arith) (λ e. omega arith)
-ran_from s text left session first mid now old new (Err Sink) opened still valid run =
-    let leaves = left_by s run.done session first mid now opened run.carried still valid in
+ran_from : (s : State) (text : List ℕ) (left : Option (List ℕ)) (session : Known) (first mid now : Seen) (old new : Option (List ℕ)) (result : Result Bool Stop)
+    → Rises (opening first.kept) first.commits mid.commits → IsStill now → Streams s (Some text) left session mid now old new result → Ran s text left first now old new (status_of result)
+ran_from s text left session first mid now old new (Ok accepted) opened still run =
+    through s text left first now old new accepted run.done run.all run.front (left_by s run.done session first mid now opened run.carried still) run.written run.accepted run.keeps_up
+ran_from s text left session first mid now old new (Err Source) opened still run =
+    early s text left first now old new 3 run.done run.front (left_by s run.done session first mid now opened run.carried still) run.written run.keeps_up (omega arith) (λ e. omega arith)
+ran_from s text left session first mid now old new (Err Keeper) opened still run =
+    early s text left first now old new 5 run.done run.front (left_by s run.done session first mid now opened run.carried still) run.written run.keeps_up (omega arith) (λ e. omega arith)
+ran_from s text left session first mid now old new (Err Memory) opened still run =
+    early s text left first now old new 6 run.done run.front (left_by s run.done session first mid now opened run.carried still) run.written run.keeps_up (omega arith) (λ e. omega arith)
+ran_from s text left session first mid now old new (Err Large) opened still run =
+    early s text left first now old new 8 run.done run.front (left_by s run.done session first mid now opened run.carried still) run.written run.keeps_up (omega arith) (λ e. omega arith)
+ran_from s text left session first mid now old new (Err Sink) opened still run =
+    let leaves = left_by s run.done session first mid now opened run.carried still in
     record {
       done = run.done;
       front = run.front;
-      valid = leaves.valid;
-      stands = inl leaves.holds;
-      holds = λ _ _. leaves.holds;
-      committed = λ _. leaves.holds;
+      stands = inl leaves.stores;
+      stores = λ _ _. leaves.stores;
+      committed = λ _. leaves.stores;
       commits = leaves.commits;
       written = λ h. absurd (h refl);
       part = λ _. run.written;
@@ -170,13 +164,13 @@ ran_from s text left session first mid now old new (Err Sink) opened still valid
     }
 
 -- a run over what the source gives, from each base that the tables stand for
-pub each_run : (before left : Option (List ℕ)) (session next : State) (first mid now : Seen) (old new : Option (List ℕ)) (result : Result Bool Stop)
-    → ((b : Contents) → Stands first.kept b → IsValid b.catalog b.stmts → session ≡ start_from b) → Rises (opening first.kept) first.commits mid.commits
-    → IsStill now → IsValid next.base.catalog next.base.stmts → Streams session before left next mid now old new result
+pub each_run : (before left : Option (List ℕ)) (session next : Known) (first mid now : Seen) (old new : Option (List ℕ)) (result : Result Bool Stop)
+    → Opens first.kept mid.kept session → Rises (opening first.kept) first.commits mid.commits → IsStill now
+    → ((s : State) → Agrees mid.kept session s → Streams s before left next mid now old new result)
     → IfSome before (λ text. EachBase first.kept (λ b. Ran (start_from b) text left first now old new (status_of result)))
-each_run None left session next first mid now old new result is opened still valid run = tt
-each_run (Some text) left session next first mid now old new result is opened still valid run = λ b stands fine.
-    ran_from (start_from b) text left next first mid now old new result opened still valid (subst (λ (x : State). Streams x (Some text) left next mid now old new result) (is b stands fine) run)
+each_run None left session next first mid now old new result opens opened still run = tt
+each_run (Some text) left session next first mid now old new result opens opened still run = λ b stands.
+    ran_from (start_from b) text left next first mid now old new result opened still (run (start_from b) (opens b stands))
 
 -- the same run, by what its status is
 pub each_status : (before left : Option (List ℕ)) (first now : Seen) (old new : Option (List ℕ)) (status number : ℕ) → status ≡ number

@@ -1,11 +1,12 @@
 -- The steps of a run over events.
-use Rattle.std.proofs.Common.{◌≡◌, ◌∙◌, ℕ, ◌+◌, ◌≤◌, Bool, true, false, ◌&&◌, List, [], ◌∷◌, ◌++◌, take, drop, length, get_or, Option, Some, None, Ok, Err, refl, ap, sym, subst, append_assoc, arith}
+use Rattle.std.proofs.Common.{◌≡◌, ◌∙◌, ℕ, ◌+◌, ◌≤◌, Bool, true, false, ◌&&◌, List, [], ◌∷◌, ◌++◌, take, drop, length, get_or, Option, Some, None, Result, Ok, Err, refl, ap, sym, subst, append_assoc, arith}
 use Rattle.std.specs.Io.KnownBytes.{Appends}
-use Rattle.std.proofs.lemmas.List.{take_more, take-append-drop}
+use Rattle.std.proofs.lemmas.List.{take_more, drop_more, take-append-drop}
 use Rattle.bdb_base.specs.Causes.{Rises}
 use Rattle.bdb_keep.specs.Seen.{Seen, NeverFall}
 use Rattle.bdb_session.specs.declared.event.Event.{Event}
 use Rattle.bdb_session.specs.Machine.{accepts, reply_of, next_state, counts}
+use Rattle.bdb_session.specs.Known.{Known, Agrees}
 use Rattle.bdb_session.specs.Outcome.{State}
 use Rattle.bdb_session.specs.Runs.{after, replies, accepts_all}
 use Rattle.bdb_top.specs.Counted.{counted}
@@ -70,32 +71,29 @@ rises_on m n k a b c is h i below =
 pub front_step : (xs : List Event) (i : ℕ) (e : Event) → i + 1 ≤ length xs → e ≡ get_or xs i e → take (i + 1) xs ≡ take i xs ++ e ∷ []
 front_step xs i e below is = take_more xs i e (omega arith) ∙ ap (λ x. take i xs ++ x ∷ []) (sym is)
 
+pub left_step : (xs : List Event) (i : ℕ) (e : Event) → i + 1 ≤ length xs → e ≡ get_or xs i e → drop i xs ≡ e ∷ drop (i + 1) xs
+left_step xs i e below is = drop_more xs i e (omega arith) ∙ ap (λ x. x ∷ drop (i + 1) xs) (sym is)
+
 pub front_split : (xs : List Event) (i : ℕ) (e : Event) → i + 1 ≤ length xs → e ≡ get_or xs i e → xs ≡ take i xs ++ (e ∷ drop (i + 1) xs)
 front_split xs i e below is = sym (take-append-drop (i + 1) xs) ∙ ap (λ (l : List Event). l ++ drop (i + 1) xs) (front_step xs i e below is) ∙ append_assoc (take i xs) (e ∷ []) (drop (i + 1) xs)
 
--- the state is come to by more events
-state_on : (b : State) (xs ys zs : List Event) (now next : State) → zs ≡ xs ++ ys → now ≡ after b xs → next ≡ after now ys → next ≡ after b zs
-state_on b xs ys zs now next is come then = then ∙ ap (λ s. after s ys) come ∙ sym (ap (after b) is ∙ after-append b xs ys)
-
 -- more events were carried out
-pub carried_on : (b : State) (xs ys zs : List Event) (now next : State) (first mid last : Seen) → zs ≡ xs ++ ys
-    → Carried b xs now first mid → Carried now ys next mid last → Carried b zs next first last
+pub carried_on : (b : State) (xs ys zs : List Event) (now next : Known) (first mid last : Seen) → zs ≡ xs ++ ys
+    → Carried b xs now first mid → Carried (after b xs) ys next mid last → Carried b zs next first last
 carried_on b xs ys zs now next first mid last is come then = record {
-  state = state_on b xs ys zs now next is come.state then.state;
-  holds = then.holds;
-  commits = rises_on (counted b xs) (counted now ys) (counted b zs) first.commits mid.commits last.commits
-      (ap (counted b) is ∙ counted-append b xs ys ∙ ap (λ s. counted b xs + counted s ys) (sym come.state)) come.commits then.commits;
+  agrees = subst (Agrees last.kept next) (sym (ap (after b) is ∙ after-append b xs ys)) then.agrees;
+  commits = rises_on (counted b xs) (counted (after b xs) ys) (counted b zs) first.commits mid.commits last.commits
+      (ap (counted b) is ∙ counted-append b xs ys) come.commits then.commits;
 }
 
 -- the run has come through more events
-pub comes_on : (b : State) (xs ys zs : List Event) (now next : State) (first mid last : Seen) (old middle new : Option (List ℕ)) (accepted fine : Bool) → zs ≡ xs ++ ys
-    → Comes b xs now first mid old middle accepted → Comes now ys next mid last middle new fine → Comes b zs next first last old new (accepted && fine)
+pub comes_on : (b : State) (xs ys zs : List Event) (now next : Known) (first mid last : Seen) (old middle new : Option (List ℕ)) (accepted fine : Bool) → zs ≡ xs ++ ys
+    → Comes b xs now first mid old middle accepted → Comes (after b xs) ys next mid last middle new fine → Comes b zs next first last old new (accepted && fine)
 comes_on b xs ys zs now next first mid last old middle new accepted fine is come then = record {
   carried = carried_on b xs ys zs now next first mid last is come.carried then.carried;
-  written = grows_as old new (replies b xs ++ replies now ys) (replies b zs)
-      (ap (λ s. replies b xs ++ replies s ys) come.carried.state ∙ sym (ap (replies b) is ∙ replies-append b xs ys))
-      (grows_on old middle new (replies b xs) (replies now ys) come.written then.written);
-  none_refused = ap (λ t. t && fine) come.none_refused ∙ ap (λ t. accepts_all b xs && t) (then.none_refused ∙ ap (λ s. accepts_all s ys) come.carried.state) ∙ sym (ap (accepts_all b) is ∙ accepts_all-append b xs ys);
+  written = grows_as old new (replies b xs ++ replies (after b xs) ys) (replies b zs) (sym (ap (replies b) is ∙ replies-append b xs ys))
+      (grows_on old middle new (replies b xs) (replies (after b xs) ys) come.written then.written);
+  none_refused = ap (λ t. t && fine) come.none_refused ∙ ap (λ t. accepts_all b xs && t) then.none_refused ∙ sym (ap (accepts_all b) is ∙ accepts_all-append b xs ys);
 }
 
 -- the replies to more events were written, but perhaps a part of the last
@@ -127,17 +125,21 @@ writes_on b xs done old middle new Memory h w = whole_on b xs done old middle ne
 writes_on b xs done old middle new Large h w = whole_on b xs done old middle new h w
 
 -- the run comes through some events, and stops at one of those behind
-abbrev pub ends_on : (b : State) (events xs ys : List Event) (now next : State) (first mid last : Seen) (old middle new : Option (List ℕ)) (accepted : Bool) (stop : Stop) → events ≡ xs ++ ys
-    → Comes b xs now first mid old middle accepted → EndsEarly now ys next mid last middle new stop → EndsEarly b events next first last old new stop
+abbrev pub ends_on : (b : State) (events xs ys : List Event) (now next : Known) (first mid last : Seen) (old middle new : Option (List ℕ)) (accepted : Bool) (stop : Stop) → events ≡ xs ++ ys
+    → Comes b xs now first mid old middle accepted → EndsEarly (after b xs) ys next mid last middle new stop → EndsEarly b events next first last old new stop
 ends_on b events xs ys now next first mid last old middle new accepted stop is come ends = record {
   done = xs ++ ends.done;
   front = (ends.front.0, is ∙ ap (λ l. xs ++ l) ends.front.1 ∙ sym (append_assoc xs ends.done ends.front.0));
   carried = carried_on b xs ends.done (xs ++ ends.done) now next first mid last refl come.carried ends.carried;
-  written = writes_on b xs ends.done old middle new stop come.written (subst (λ (s : State). Writes stop s ends.done middle new) come.carried.state ends.written);
+  written = writes_on b xs ends.done old middle new stop come.written ends.written;
 }
 
+-- how one event was answered, whichever state the session agreed on with the tables
+abbrev pub AnswersOf : Event → Known → Known → Seen → Seen → Option (List ℕ) → Option (List ℕ) → Result Bool Stop → Type 0
+AnswersOf e before now first last old new result = (s : State) → Agrees first.kept before s → IsAnswer s e now first last old new result
+
 -- one event was answered, and the run comes through it
-one_comes : (b : State) (e : Event) (next : State) (first last : Seen) (old new : Option (List ℕ)) (fine : Bool) → IsAnswer b e next first last old new (Ok fine) → Comes b (e ∷ []) next first last old new fine
+pub one_comes : (b : State) (e : Event) (next : Known) (first last : Seen) (old new : Option (List ℕ)) (fine : Bool) → IsAnswer b e next first last old new (Ok fine) → Comes b (e ∷ []) next first last old new fine
 one_comes b e next first last old new fine answer = record {
   carried = answer.0;
   written = grows_as old new (reply_of b e) (reply_of b e ++ []) (sym (append_nil (reply_of b e))) answer.2;
@@ -145,7 +147,7 @@ one_comes b e next first last old new fine answer = record {
 }
 
 -- or stops at it
-pub one_stops : (b : State) (e : Event) (rest : List Event) (next : State) (first last : Seen) (old new : Option (List ℕ)) (stop : Stop) → IsAnswer b e next first last old new (Err stop) → EndsEarly b (e ∷ rest) next first last old new stop
+pub one_stops : (b : State) (e : Event) (rest : List Event) (next : Known) (first last : Seen) (old new : Option (List ℕ)) (stop : Stop) → IsAnswer b e next first last old new (Err stop) → EndsEarly b (e ∷ rest) next first last old new stop
 one_stops b e rest next first last old new Sink answer = record {
   done = e ∷ [];
   front = (rest, refl);
@@ -158,16 +160,18 @@ one_stops b e rest next first last old new Memory answer = record { done = []; f
 one_stops b e rest next first last old new Large answer = record { done = []; front = (e ∷ rest, refl); carried = answer.0; written = answer.1 }
 
 -- the run has come through one more event
-pub comes_one : (b : State) (xs ys : List Event) (e : Event) (now next : State) (first mid last : Seen) (old middle new : Option (List ℕ)) (accepted fine : Bool) → ys ≡ xs ++ e ∷ []
-    → Comes b xs now first mid old middle accepted → IsAnswer now e next mid last middle new (Ok fine) → Comes b ys next first last old new (accepted && fine)
-comes_one b xs ys e now next first mid last old middle new accepted fine is come answer =
-    comes_on b xs (e ∷ []) ys now next first mid last old middle new accepted fine is come (one_comes now e next mid last middle new fine answer)
+pub comes_one : (b : State) (xs ys : List Event) (e : Event) (now next : Known) (first mid last : Seen) (old middle new : Option (List ℕ)) (accepted fine : Bool) → ys ≡ xs ++ e ∷ []
+    → Comes b xs now first mid old middle accepted → AnswersOf e now next mid last middle new (Ok fine) → Comes b ys next first last old new (accepted && fine)
+comes_one b xs ys e now next first mid last old middle new accepted fine is come answers =
+    let s = after b xs in
+    comes_on b xs (e ∷ []) ys now next first mid last old middle new accepted fine is come (one_comes s e next mid last middle new fine (answers s come.carried.agrees))
 
 -- the run stops at an event
-pub comes_stops : (b : State) (events xs : List Event) (e : Event) (rest : List Event) (now next : State) (first mid last : Seen) (old middle new : Option (List ℕ)) (accepted : Bool) (stop : Stop)
-    → events ≡ xs ++ (e ∷ rest) → Comes b xs now first mid old middle accepted → IsAnswer now e next mid last middle new (Err stop) → EndsEarly b events next first last old new stop
-comes_stops b events xs e rest now next first mid last old middle new accepted stop is come answer =
-    ends_on b events xs (e ∷ rest) now next first mid last old middle new accepted stop is come (one_stops now e rest next mid last middle new stop answer)
+pub comes_stops : (b : State) (events xs : List Event) (e : Event) (rest : List Event) (now next : Known) (first mid last : Seen) (old middle new : Option (List ℕ)) (accepted : Bool) (stop : Stop)
+    → events ≡ xs ++ (e ∷ rest) → Comes b xs now first mid old middle accepted → AnswersOf e now next mid last middle new (Err stop) → EndsEarly b events next first last old new stop
+comes_stops b events xs e rest now next first mid last old middle new accepted stop is come answers =
+    let s = after b xs in
+    ends_on b events xs (e ∷ rest) now next first mid last old middle new accepted stop is come (one_stops s e rest next mid last middle new stop (answers s come.carried.agrees))
 
 -- counts that don't fall twice don't fall
 pub never_fall_on : (a b c : Seen) → NeverFall a b → NeverFall b c → NeverFall a c

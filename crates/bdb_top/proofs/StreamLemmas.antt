@@ -1,5 +1,5 @@
 -- Runs over what a source gives, block by block.
-use Rattle.std.proofs.Common.{◌≡◌, ◌≢◌, ◌∙◌, ℕ, ◌+◌, ◌-◌, ◌≤◌, Bool, true, false, ◌&&◌, List, [], ◌++◌, length, map, take, drop, Option, Some, None, Ok, Err, IfSome, refl, ap, sym, subst, append_assoc, arith}
+use Rattle.std.proofs.Common.{◌≡◌, ◌≢◌, ◌∙◌, ℕ, ◌+◌, ◌-◌, ◌<◌, ◌≤◌, Bool, true, false, ◌&&◌, List, [], ◌++◌, length, map, take, drop, Option, Some, None, Ok, Err, IfSome, refl, ap, sym, subst, append_assoc, arith}
 use Rattle.std.specs.Io.KnownBytes.{Appends, Consumes, IsAtEnd, Keeps}
 use Rattle.std.proofs.lemmas.List.{map-append, append-nil, length-append, take-append-drop, take-append-le, take_all}
 use Rattle.bdb_base.specs.Limits.{longest_script}
@@ -11,13 +11,14 @@ use Rattle.bdb_lex.specs.declared.token.Rest.TheVariants.{Unfinished}
 use Rattle.bdb_session.specs.declared.event.Event.{Event}
 use Rattle.bdb_session.specs.declared.event.Event.TheVariants as event
 use Rattle.bdb_session.specs.Machine.{reply_of}
+use Rattle.bdb_session.specs.Known.{Known, Agrees}
 use Rattle.bdb_session.specs.Outcome.{State}
 use Rattle.bdb_session.specs.Runs.{event_of, rest_events, events_of, after, replies, IsFrontOf}
 use Rattle.bdb_top.specs.declared.stop.Stop.{Stop}
 use Rattle.bdb_top.specs.declared.stop.Stop.TheVariants.{Source, Sink, Keeper, Memory, Large}
 use Rattle.bdb_top.specs.Ran.{Comes, EndsEarly, IsAnswer, Streams, Writes, status_of}
 use Rattle.bdb_top.specs.Streams.{longest_read, ended_in, before_last_read, AreAnswered}
-use Rattle.bdb_top.proofs.RunLemmas.{grows_on, grows_as, replies-append, comes_on, ends_on, one_stops}
+use Rattle.bdb_top.proofs.RunLemmas.{grows_on, grows_as, replies-append, comes_on, ends_on, one_comes, one_stops}
 
 -- ---- bytes that are taken
 
@@ -123,26 +124,35 @@ answered_these s xs old new h = record { first = ([], sym (append-nil xs)); repl
 -- ---- the run as it reads
 
 -- The bytes that were read so far were fed to the cutter, and the run has come through the pieces that end in them.
-pub record Reads (s : State) (before left : Option (List ℕ)) (bytes : List ℕ) (cutter : CutterState) (session : State) (first now : Seen) (old new : Option (List ℕ)) (accepted : Bool) : Type 0 where
+pub record Reads (s : State) (before left : Option (List ℕ)) (bytes : List ℕ) (cutter : CutterState) (session : Known) (first now : Seen) (old new : Option (List ℕ)) (accepted : Bool) : Type 0 where
   pub taken : Consumes before left bytes
   pub cut : cutter ≡ ready (state_after start bytes)
   pub come : Comes s (ended_in bytes) session first now old new accepted
 
+-- nothing was read yet
+pub reads_none : (s : State) (before : Option (List ℕ)) (cutter : CutterState) (session : Known) (first : Seen) (old : Option (List ℕ))
+    → cutter ≡ ready start → Agrees first.kept session s → Reads s before before [] cutter session first first old old true
+reads_none s before cutter session first old cut a = record {
+  taken = consumes_none before;
+  cut = cut;
+  come = record { carried = record { agrees = a; commits = λ _. omega arith }; written = nothing_grows old; none_refused = refl };
+}
+
 -- a block of the script was read and answered
-pub reads_on : (s : State) (before mid left : Option (List ℕ)) (bytes part : List ℕ) (cutter next_cutter : CutterState) (session next : State) (first seen now : Seen) (old middle new : Option (List ℕ)) (accepted fine : Bool)
+pub reads_on : (s : State) (before mid left : Option (List ℕ)) (bytes part : List ℕ) (cutter next_cutter : CutterState) (session next : Known) (first seen now : Seen) (old middle new : Option (List ℕ)) (accepted fine : Bool)
     → Reads s before mid bytes cutter session first seen old middle accepted → Consumes mid left part
     → next_cutter ≡ ready (state_after cutter.state part)
-    → Comes session (map event_of (pieces_from cutter.state part)) next seen now middle new fine
+    → ((x : State) → Agrees seen.kept session x → Comes x (map event_of (pieces_from cutter.state part)) next seen now middle new fine)
     → Reads s before left (bytes ++ part) next_cutter next first now old new (accepted && fine)
 reads_on s before mid left bytes part cutter next_cutter session next first seen now old middle new accepted fine reads taken cut come = record {
   taken = consumes_on before mid left bytes part reads.taken taken;
   cut = cut ∙ ap (λ (c : CutterState). ready (state_after c.state part)) reads.cut ∙ ap ready (sym (states_come_in_parts start bytes part));
   come = comes_on s (ended_in bytes) (map event_of (pieces_from cutter.state part)) (ended_in (bytes ++ part)) session next first seen now old middle new accepted fine
-      (ended-append bytes part ∙ ap (λ (c : CutterState). ended_in bytes ++ map event_of (pieces_from c.state part)) (sym reads.cut)) reads.come come;
+      (ended-append bytes part ∙ ap (λ (c : CutterState). ended_in bytes ++ map event_of (pieces_from c.state part)) (sym reads.cut)) reads.come (come (after s (ended_in bytes)) reads.come.carried.agrees);
 }
 
 -- a read failed
-pub read_fails : (s : State) (before mid left : Option (List ℕ)) (bytes : List ℕ) (cutter : CutterState) (session : State) (first now : Seen) (old new : Option (List ℕ)) (accepted : Bool)
+pub read_fails : (s : State) (before mid left : Option (List ℕ)) (bytes : List ℕ) (cutter : CutterState) (session : Known) (first now : Seen) (old new : Option (List ℕ)) (accepted : Bool)
     → Reads s before mid bytes cutter session first now old new accepted → Keeps mid left → Streams s before left session first now old new (Err Source)
 read_fails s before mid left bytes cutter session first now old new accepted reads kept =
     let consumed = consumes_kept before mid left bytes reads.taken kept in
@@ -163,7 +173,7 @@ read_fails s before mid left bytes cutter session first now old new accepted rea
     }
 
 -- the script goes on behind as many bytes as a script may have
-pub read_over : (s : State) (before mid left : Option (List ℕ)) (bytes part : List ℕ) (cutter : CutterState) (session : State) (first now : Seen) (old new : Option (List ℕ)) (accepted : Bool)
+pub read_over : (s : State) (before mid left : Option (List ℕ)) (bytes part : List ℕ) (cutter : CutterState) (session : Known) (first now : Seen) (old new : Option (List ℕ)) (accepted : Bool)
     → Reads s before mid bytes cutter session first now old new accepted → Consumes mid left part → length bytes ≡ longest_script → length part ≤ longest_read
     → Streams s before left session first now old new (Err Large)
 read_over s before mid left bytes part cutter session first now old new accepted reads taken many few = record {
@@ -191,10 +201,10 @@ not_read Memory h k = (λ e. omega (arith, e), λ e. omega (arith, e))
 not_read Large h k = absurd (k refl)
 
 -- a run stopped behind the pieces of what was read
-stopped_behind : (s : State) (before left : Option (List ℕ)) (bytes part : List ℕ) (events : List Event) (session next : State) (first seen now : Seen) (old middle new : Option (List ℕ)) (accepted : Bool) (stop : Stop)
+stopped_behind : (s : State) (before left : Option (List ℕ)) (bytes part : List ℕ) (events : List Event) (session next : Known) (first seen now : Seen) (old middle new : Option (List ℕ)) (accepted : Bool) (stop : Stop)
     → Comes s (ended_in bytes) session first seen old middle accepted → Consumes before left (bytes ++ part) → length part ≤ longest_read
     → (stop ≡ Source → ⊥) → (stop ≡ Large → ⊥)
-    → (ends : EndsEarly session events next seen now middle new stop)
+    → (ends : EndsEarly (after s (ended_in bytes)) events next seen now middle new stop)
     → IfSome before (λ text. IsFrontOf (ended_in bytes ++ ends.done) (events_of text))
     → Streams s before left next first now old new (Err stop)
 stopped_behind s before left bytes part events session next first seen now old middle new accepted stop come consumed few not_source not_large ends front =
@@ -210,7 +220,7 @@ stopped_behind s before left bytes part events session next first seen now old m
         taken = bytes ++ part;
         consumed = consumed;
         caught = caught_up s bytes part (ended_in bytes ++ ends.done) old new few
-            (answered_all s (ended_in bytes) ends.done (wrote session ends.done middle new stop ends.written).0 old middle new come.written (wrote session ends.done middle new stop ends.written).1);
+            (answered_all s (ended_in bytes) ends.done (wrote (after s (ended_in bytes)) ends.done middle new stop ends.written).0 old middle new come.written (wrote (after s (ended_in bytes)) ends.done middle new stop ends.written).1);
         source = λ e. absurd ((not_read stop not_source not_large).0 e);
         large = λ e. absurd ((not_read stop not_source not_large).1 e);
       };
@@ -220,12 +230,13 @@ front_behind : (xs ys zs : List Event) → IsFrontOf ys zs → IsFrontOf (xs ++ 
 front_behind xs ys zs h = (h.0, ap (λ l. xs ++ l) h.1 ∙ sym (append_assoc xs ys h.0))
 
 -- the run stopped at a piece that ends in the block that was read last
-pub block_stops : (s : State) (before mid left : Option (List ℕ)) (bytes part : List ℕ) (cutter : CutterState) (session next : State) (first seen now : Seen) (old middle new : Option (List ℕ)) (accepted : Bool) (stop : Stop)
+pub block_stops : (s : State) (before mid left : Option (List ℕ)) (bytes part : List ℕ) (cutter : CutterState) (session next : Known) (first seen now : Seen) (old middle new : Option (List ℕ)) (accepted : Bool) (stop : Stop)
     → Reads s before mid bytes cutter session first seen old middle accepted → Consumes mid left part → length part ≤ longest_read
     → (stop ≡ Source → ⊥) → (stop ≡ Large → ⊥)
-    → EndsEarly session (map event_of (pieces_from cutter.state part)) next seen now middle new stop
+    → ((x : State) → Agrees seen.kept session x → EndsEarly x (map event_of (pieces_from cutter.state part)) next seen now middle new stop)
     → Streams s before left next first now old new (Err stop)
-block_stops s before mid left bytes part cutter session next first seen now old middle new accepted stop reads taken few not_source not_large ends =
+block_stops s before mid left bytes part cutter session next first seen now old middle new accepted stop reads taken few not_source not_large stops =
+    let ends = stops (after s (ended_in bytes)) reads.come.carried.agrees in
     let consumed = consumes_on before mid left bytes part reads.taken taken in
     let events = map event_of (pieces_from cutter.state part) in
     stopped_behind s before left bytes part events session next first seen now old middle new accepted stop reads.come consumed few not_source not_large ends
@@ -239,12 +250,13 @@ rest_behind : (bytes : List ℕ) (cutter : CutterState) (rest : Rest) → cutter
 rest_behind bytes cutter rest cut is = ap (λ (c : CutterState). ended_in bytes ++ rest_events (rest_of (holds_something c.state))) (sym cut) ∙ ap (λ (r : Rest). ended_in bytes ++ rest_events r) (sym is)
 
 -- the script was read to its end, and the run stopped at its rest
-pub rest_stops : (s : State) (before mid left : Option (List ℕ)) (bytes : List ℕ) (cutter : CutterState) (rest : Rest) (session next : State) (first seen now : Seen) (old middle new : Option (List ℕ)) (accepted : Bool) (stop : Stop)
+pub rest_stops : (s : State) (before mid left : Option (List ℕ)) (bytes : List ℕ) (cutter : CutterState) (rest : Rest) (session next : Known) (first seen now : Seen) (old middle new : Option (List ℕ)) (accepted : Bool) (stop : Stop)
     → Reads s before mid bytes cutter session first seen old middle accepted → Consumes mid left [] → IsAtEnd left → rest ≡ rest_of (holds_something cutter.state)
     → (stop ≡ Source → ⊥) → (stop ≡ Large → ⊥)
-    → EndsEarly session (rest_events rest) next seen now middle new stop
+    → ((x : State) → Agrees seen.kept session x → EndsEarly x (rest_events rest) next seen now middle new stop)
     → Streams s before left next first now old new (Err stop)
-rest_stops s before mid left bytes cutter rest session next first seen now old middle new accepted stop reads taken end is not_source not_large ends =
+rest_stops s before mid left bytes cutter rest session next first seen now old middle new accepted stop reads taken end is not_source not_large stops =
+    let ends = stops (after s (ended_in bytes)) reads.come.carried.agrees in
     let consumed = consumes_on before mid left bytes [] reads.taken taken in
     let events = rest_events rest in
     stopped_behind s before left bytes [] events session next first seen now old middle new accepted stop reads.come consumed (omega arith) not_source not_large ends
@@ -257,11 +269,12 @@ not_status true = (λ e. omega (arith, e), λ e. omega (arith, e))
 not_status false = (λ e. omega (arith, e), λ e. omega (arith, e))
 
 -- the script was read to its end, and its rest was answered
-pub reads_all : (s : State) (before mid left : Option (List ℕ)) (bytes : List ℕ) (cutter : CutterState) (rest : Rest) (session next : State) (first seen now : Seen) (old middle new : Option (List ℕ)) (accepted fine : Bool)
+pub reads_all : (s : State) (before mid left : Option (List ℕ)) (bytes : List ℕ) (cutter : CutterState) (rest : Rest) (session next : Known) (first seen now : Seen) (old middle new : Option (List ℕ)) (accepted fine : Bool)
     → Reads s before mid bytes cutter session first seen old middle accepted → Consumes mid left [] → IsAtEnd left → rest ≡ rest_of (holds_something cutter.state)
-    → Comes session (rest_events rest) next seen now middle new fine
+    → ((x : State) → Agrees seen.kept session x → Comes x (rest_events rest) next seen now middle new fine)
     → Streams s before left next first now old new (Ok (accepted && fine))
-reads_all s before mid left bytes cutter rest session next first seen now old middle new accepted fine reads taken end is come =
+reads_all s before mid left bytes cutter rest session next first seen now old middle new accepted fine reads taken end is comes =
+    let come = comes (after s (ended_in bytes)) reads.come.carried.agrees in
     let consumed = subst (λ (l : List ℕ). Consumes before left l) (append-nil bytes) (consumes_on before mid left bytes [] reads.taken taken) in
     let events = rest_events rest in
     let all = comes_on s (ended_in bytes) events (events_of bytes) session next first seen now old middle new accepted fine (rest_behind bytes cutter rest reads.cut is) reads.come come in
@@ -277,17 +290,37 @@ reads_all s before mid left bytes cutter rest session next first seen now old mi
         consumed = consumed;
         caught = answered_less s (ended_in (before_last_read bytes)) (ended_in bytes) (events_of bytes) old new (ended_front (length bytes - longest_read) bytes)
             (subst (λ (l : List Event). AreAnswered s (ended_in bytes) l old new) (sym (rest_behind bytes cutter rest reads.cut is))
-            (answered_all s (ended_in bytes) events (replies session events) old middle new reads.come.written come.written));
+            (answered_all s (ended_in bytes) events (replies (after s (ended_in bytes)) events) old middle new reads.come.written come.written));
         source = λ e. absurd ((not_status (accepted && fine)).0 e);
         large = λ e. absurd ((not_status (accepted && fine)).1 e);
       };
     }
 
 -- the rest was refused, and the run stopped at its reply
-pub unfinished_stops : (s : State) (rest : Rest) (next : State) (first last : Seen) (old new : Option (List ℕ)) (stop : Stop)
+pub unfinished_stops : (s : State) (rest : Rest) (next : Known) (first last : Seen) (old new : Option (List ℕ)) (stop : Stop)
     → rest ≡ Unfinished → IsAnswer s event.Unfinished next first last old new (Err stop) → EndsEarly s (rest_events rest) next first last old new stop
 unfinished_stops s rest next first last old new stop is answer = subst (λ (r : Rest). EndsEarly s (rest_events r) next first last old new stop) (sym is) (one_stops s event.Unfinished [] next first last old new stop answer)
+
+-- and it went on at its reply
+pub unfinished_comes : (s : State) (rest : Rest) (next : Known) (first last : Seen) (old new : Option (List ℕ)) (fine : Bool)
+    → rest ≡ Unfinished → IsAnswer s event.Unfinished next first last old new (Ok fine) → Comes s (rest_events rest) next first last old new fine
+unfinished_comes s rest next first last old new fine is answer = subst (λ (r : Rest). Comes s (rest_events r) next first last old new fine) (sym is) (one_comes s event.Unfinished next first last old new fine answer)
 
 -- nothing was taken
 pub consumes_zero : (a b : Option (List ℕ)) (n : ℕ) (bytes : List ℕ) → n ≡ 0 → Consumes a b (take n bytes) → Consumes a b []
 consumes_zero a b n bytes none h = subst (λ (m : ℕ). Consumes a b (take m bytes)) none h
+
+-- a script that was read to its end is as long as what was read, and one that goes on is longer
+pub short_by : (before mid left : Option (List ℕ)) (bytes : List ℕ) → Consumes before mid bytes → Consumes mid left [] → IsAtEnd left → length bytes ≤ longest_script
+    → IfSome before (λ text. length text ≤ longest_script)
+short_by before mid left bytes h k end few =
+    at_end (λ text. length text ≤ longest_script) before left bytes (subst (λ (l : List ℕ). Consumes before left l) (append-nil bytes) (consumes_on before mid left bytes [] h k)) end few
+
+pub many_by : (before mid left : Option (List ℕ)) (bytes part : List ℕ) → Consumes before mid bytes → Consumes mid left part → length bytes ≡ longest_script → 0 < length part
+    → IfSome before (λ text. longest_script < length text)
+many_by None mid left bytes part h k all some = tt
+many_by (Some xs) None left bytes part h k all some = absurd h
+many_by (Some xs) (Some ys) None bytes part h k all some = absurd k
+many_by (Some xs) (Some ys) (Some zs) bytes part h k all some =
+    let long = ap length (h ∙ ap (λ l. bytes ++ l) k) in
+    omega (arith, long, length-append bytes (part ++ zs), length-append part zs, all, some)

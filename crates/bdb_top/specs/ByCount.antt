@@ -1,8 +1,8 @@
 -- How a run ends, as the count of commits alone tells it.
 use Rattle.std.specs.Prelude.{◌≡◌, ◌≢◌, ℕ, ◌-◌, ◌^◌, ◌<◌, List, ◌++◌, Option}
 use Rattle.std.specs.Io.KnownBytes.{Appends}
+use Rattle.bdb_catalog.specs.Opening.{StandFor}
 use Rattle.bdb_keep.specs.Seen.{Seen}
-use Rattle.bdb_tables.specs.Holds.{Stands}
 use Rattle.bdb_session.specs.declared.event.Event.{Event}
 use Rattle.bdb_session.specs.Opening.{opening}
 use Rattle.bdb_session.specs.Outcome.{State}
@@ -13,11 +13,11 @@ use Rattle.bdb_top.specs.Counted.{before_count, up_to_count}
 abbrev pub BeginsWith : List ℕ → List ℕ → Type 0
 BeginsWith whole front = (rest : List ℕ) × (whole ≡ front ++ rest)
 
--- How a run ends, by the number k of its commits that are of events that count. The base after the first k of these stands.
+-- How a run ends, by the number k of its commits that are of events that count. The tables stand for the base after the first k.
 -- What was written is the first bytes of the replies before that of the next one. It has whole every reply before that
 -- of number k, and unless the sink failed that one too.
 pub record EndsByCount (s : State) (events : List Event) (now : Seen) (old new : Option (List ℕ)) (status k : ℕ) : Type 0 where
-  pub stands : Stands now.last (after s (before_count k s events)).base
+  pub stands : StandFor now.last (after s (before_count k s events)).base
   pub text : List ℕ
   pub written : Appends old new text
   pub no_more : BeginsWith (replies s (before_count k s events)) text

@@ -15,21 +15,21 @@ use Rattle.bdb_top.specs.declared.tally.Tally.{Tally}
 abbrev pub one_if : Bool → ℕ
 one_if test = if test then 1 else 0
 
--- an event has a reply
-abbrev pub is_replied : State → Event → Bool
-is_replied s e = nat_lt 0 (length (reply_of s e))
-
 -- nothing was replied yet
 abbrev pub no_replies : Tally
 no_replies = record { accepted = 0; refused = 0; answers = 0 }
 
+-- the tally with one more reply: its text, whether it accepts, and how many answers it has; an empty one counts as none
+abbrev pub tally_reply : Tally → List ℕ → Bool → ℕ → Tally
+tally_reply t text accepted answers = record {
+  accepted = t.accepted + one_if (accepted && nat_lt 0 (length text));
+  refused = t.refused + one_if (not accepted);
+  answers = t.answers + answers;
+}
+
 -- the tally with the reply to one more event
 abbrev pub tally_with : Tally → State → Event → Tally
-tally_with t s e = record {
-  accepted = t.accepted + one_if (accepts s e && is_replied s e);
-  refused = t.refused + one_if (not (accepts s e));
-  answers = t.answers + answers_to s e;
-}
+tally_with t s e = tally_reply t (reply_of s e) (accepts s e) (answers_to s e)
 
 -- the tally with the replies to more events
 abbrev pub tally_from : Tally → State → List Event → Tally

@@ -1,9 +1,9 @@
 -- What the number of events that count tells, and what tables without rows stand for.
 use Rattle.std.specs.Prelude.{◌≡◌, ℕ, List}
 use Rattle.std.specs.FinMap as tables
-use Rattle.bdb_base.specs.Bases.{Contents, IsValid}
+use Rattle.bdb_base.specs.Bases.{empty_contents}
+use Rattle.bdb_catalog.specs.Opening.{StandFor}
 use Rattle.bdb_keep.specs.Tables.{Tables}
-use Rattle.bdb_tables.specs.Holds.{Stands}
 use Rattle.bdb_session.specs.declared.event.Event.{Event}
 use Rattle.bdb_session.specs.Outcome.{State}
 use Rattle.bdb_session.specs.Runs.{after, IsFrontOf}
@@ -19,6 +19,6 @@ pub record IsToldByCount (s : State) (events done : List Event) (k : ℕ) : Type
 abbrev pub CountTellsTheState : Type 0
 CountTellsTheState = (s : State) (events done : List Event) → IsFrontOf done events → IsToldByCount s events done (counted s done)
 
--- tables without rows stand for a valid base
+-- tables without rows stand for the empty base
 abbrev pub NoRowsStandForABase : Type 0
-NoRowsStandForABase = (t : Tables) → t ≡ tables.empty → (b : Contents) × Stands t b × IsValid b.catalog b.stmts
+NoRowsStandForABase = (t : Tables) → t ≡ tables.empty → StandFor t empty_contents

@@ -1,5 +1,6 @@
 pub mod ByCount
 pub mod Counted
+pub mod Failing
 pub mod Generated
 pub mod Laws
 pub mod Ran

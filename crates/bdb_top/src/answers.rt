@@ -1,14 +1,15 @@
 // Answering the events of a script.
-ghost use Rattle.std.specs.Prelude.{◌≡◌, ◌≤◌, OnErr, IsErrOf, take};
-ghost use Rattle.std.specs.Io.KnownBytes.{Appends};
+ghost use Rattle.std.specs.Prelude.{◌≡◌, ◌≤◌, OnErr, IsErrOf};
 ghost use Rattle.bdb_base.specs.Causes.{Rose, HasCause};
+ghost use Rattle.bdb_io.specs.Failure.{failed};
+ghost use Rattle.bdb_io.specs.Pieces.{WritesPiece};
 ghost use Rattle.bdb_keep.specs.Seen.{IsStill, NeverFall};
-ghost use Rattle.bdb_tables.specs.Holds.{Holds};
-ghost use Rattle.bdb_session.specs.Machine.{accepts, reply_of, next_state};
+ghost use Rattle.bdb_session.specs.Known.{Agrees, AgreesOnSome};
+ghost use Rattle.bdb_session.specs.Outcome.{State};
 ghost use Rattle.bdb_top.specs.Ran.{Ends, IsAnswer};
 
 use crate::stop::Stop;
-use bdb_io::Sink;
+use bdb_io::{Failed, Sink};
 use bdb_keep::Keeper;
 use bdb_session::{Event, Session, StopError};
 
@@ -20,10 +21,10 @@ pub fn answer<O: Sink, K: Keeper>(
     event: &Event,
 ) -> Result<bool, Stop>
     requires still { IsStill (K.seen keeper.old) }
-    requires agrees { Holds (K.seen keeper.old).kept session.old.base }
-    ensures answered { IsAnswer session.old event.now session.new (K.seen keeper.old) (K.seen keeper.new) (O.written out.old) (O.written out.new) result }
+    requires agrees { AgreesOnSome (K.seen keeper.old).kept session.old }
+    ensures answered { (s : State) → Agrees (K.seen keeper.old).kept session.old s → IsAnswer s event.now session.new (K.seen keeper.old) (K.seen keeper.new) (O.written out.old) (O.written out.new) result }
     ensures still { IsStill (K.seen keeper.new) }
-    ensures agrees { Holds (K.seen keeper.new).kept session.new.base }
+    ensures agrees { AgreesOnSome (K.seen keeper.new).kept session.new }
     ensures never_fall { NeverFall (K.seen keeper.old) (K.seen keeper.new) }
     ensures keeper { HasCause (K.seen keeper.old).faults (K.seen keeper.new).faults result Stop.Keeper }
     ensures later { O.faults out.old ≤ O.faults out.new }
@@ -35,11 +36,24 @@ pub fn answer<O: Sink, K: Keeper>(
         Err(StopError::Fault) => return Err(Stop::Keeper),
         Err(StopError::Memory) => return Err(Stop::Memory),
     };
-    let text = reply.text.as_slice();
-    if !text.is_empty() && out.write_all(text).is_err() {
-        return Err(Stop::Sink);
+    match write_reply(out, reply.text.as_slice()) {
+        Ok(()) => Ok(reply.accepted),
+        Err(_) => Err(Stop::Sink),
     }
-    Ok(reply.accepted)
+}
+
+/// Writes a reply, where it isn't empty.
+fn write_reply<O: Sink>(out: &mut O, text: &[u8]) -> Result<(), Failed>
+    ensures written { WritesPiece (O.written out.old) (O.written out.new) result text.now }
+    ensures cause { HasCause (O.faults out.old) (O.faults out.new) result failed }
+{
+    if text.is_empty() {
+        return Ok(());
+    }
+    match out.write_all(text) {
+        Ok(()) => Ok(()),
+        Err(Failed) => Err(Failed),
+    }
 }
 
 /// Answers events in order. Ok tells whether each was accepted.
@@ -50,10 +64,10 @@ pub fn carry_out<O: Sink, K: Keeper>(
     events: &[Event],
 ) -> Result<bool, Stop>
     requires still { IsStill (K.seen keeper.old) }
-    requires agrees { Holds (K.seen keeper.old).kept session.old.base }
-    ensures ends { Ends session.old events.now session.new (K.seen keeper.old) (K.seen keeper.new) (O.written out.old) (O.written out.new) result }
+    requires agrees { AgreesOnSome (K.seen keeper.old).kept session.old }
+    ensures ends { (s : State) → Agrees (K.seen keeper.old).kept session.old s → Ends s events.now session.new (K.seen keeper.old) (K.seen keeper.new) (O.written out.old) (O.written out.new) result }
     ensures still { IsStill (K.seen keeper.new) }
-    ensures agrees { Holds (K.seen keeper.new).kept session.new.base }
+    ensures agrees { AgreesOnSome (K.seen keeper.new).kept session.new }
     ensures never_fall { NeverFall (K.seen keeper.old) (K.seen keeper.new) }
     ensures keeper { HasCause (K.seen keeper.old).faults (K.seen keeper.new).faults result Stop.Keeper }
     ensures later { O.faults out.old ≤ O.faults out.new }

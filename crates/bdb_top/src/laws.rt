@@ -6,7 +6,7 @@ pub fn count_tells_the_state()
     ensures { CountTellsTheState }
 {}
 
-/// Tables without rows stand for a valid base: the empty one.
+/// Tables without rows stand for the empty base.
 pub fn no_rows_stand_for_a_base()
     ensures { NoRowsStandForABase }
 {}

@@ -3,6 +3,8 @@
 
 mod answers;
 mod cutting;
+#[cfg(test)]
+mod failing;
 mod generated;
 mod laws;
 mod status;

@@ -1,13 +1,14 @@
 // Counting the replies to events.
 ghost use Rattle.std.specs.Prelude.{◌≡◌, ◌+◌, IfOk, OnOk};
 ghost use Rattle.bdb_keep.specs.Seen.{IsStill};
+ghost use Rattle.bdb_session.specs.Known.{Agrees, AgreesOnSome};
 ghost use Rattle.bdb_session.specs.Machine.{next_state};
+ghost use Rattle.bdb_session.specs.Outcome.{State};
 ghost use Rattle.bdb_session.specs.Runs.{after};
-ghost use Rattle.bdb_tables.specs.Holds.{Holds};
-ghost use Rattle.bdb_top.specs.Generated.{no_replies, tally_from, tally_with};
+ghost use Rattle.bdb_top.specs.Generated.{no_replies, tally_from, tally_reply, tally_with};
 
 use bdb_keep::Keeper;
-use bdb_session::{Event, Session};
+use bdb_session::{Event, Reply, Session};
 use std::alloc::AllocError;
 
 /// How many replies accept, how many refuse, and how many answers they have.
@@ -25,11 +26,11 @@ pub fn tally_events<K: Keeper>(
     events: &[Event],
 ) -> Result<Tally, AllocError>
     requires still { IsStill (K.seen keeper.old) }
-    requires agrees { Holds (K.seen keeper.old).kept session.old.base }
-    ensures tally { IfOk result (λ tally. tally ≡ tally_from no_replies session.old events.now) }
-    ensures state { OnOk result (session.new ≡ after session.old events.now) }
+    requires agrees { AgreesOnSome (K.seen keeper.old).kept session.old }
+    ensures tally { (s : State) → Agrees (K.seen keeper.old).kept session.old s → IfOk result (λ tally. tally ≡ tally_from no_replies s events.now) }
+    ensures state { (s : State) → Agrees (K.seen keeper.old).kept session.old s → OnOk result (Agrees (K.seen keeper.new).kept session.new (after s events.now)) }
     ensures still { IsStill (K.seen keeper.new) }
-    ensures agrees { Holds (K.seen keeper.new).kept session.new.base }
+    ensures agrees { AgreesOnSome (K.seen keeper.new).kept session.new }
 {
     let mut tally = Tally {
         accepted: 0,
@@ -53,16 +54,24 @@ fn tally_event<K: Keeper>(
     event: &Event,
 ) -> Result<Tally, AllocError>
     requires still { IsStill (K.seen keeper.old) }
-    requires agrees { Holds (K.seen keeper.old).kept session.old.base }
-    ensures tally { IfOk result (λ next. next ≡ tally_with tally session.old event.now) }
-    ensures state { OnOk result (session.new ≡ next_state session.old event.now) }
+    requires agrees { AgreesOnSome (K.seen keeper.old).kept session.old }
+    ensures tally { (s : State) → Agrees (K.seen keeper.old).kept session.old s → IfOk result (λ next. next ≡ tally_with tally s event.now) }
+    ensures state { (s : State) → Agrees (K.seen keeper.old).kept session.old s → OnOk result (Agrees (K.seen keeper.new).kept session.new (next_state s event.now)) }
     ensures still { IsStill (K.seen keeper.new) }
-    ensures agrees { Holds (K.seen keeper.new).kept session.new.base }
+    ensures agrees { AgreesOnSome (K.seen keeper.new).kept session.new }
 {
     let reply = match session.answer(keeper, event) {
         Ok(reply) => reply,
         Err(_) => return Err(AllocError),
     };
+    let next = with_reply(tally, &reply)?;
+    Ok(next)
+}
+
+/// A tally with one more reply.
+fn with_reply(tally: Tally, reply: &Reply) -> Result<Tally, AllocError>
+    ensures { IfOk result (λ next. next ≡ tally_reply tally reply.now.text reply.now.accepted reply.now.answers) }
+{
     let accepted = added(
         tally.accepted,
         u64::from(reply.accepted && !reply.text.is_empty()),

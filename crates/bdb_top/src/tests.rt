@@ -1,8 +1,7 @@
 // Scripts and their replies, over a source, a sink and a keeper in memory.
 ghost use Rattle.std.specs.Prelude.{◌≡◌, false};
 ghost use Rattle.std.specs.FinMap as tables;
-ghost use Rattle.bdb_base.specs.Bases.{Contents, IsValid};
-ghost use Rattle.bdb_tables.specs.Holds.{Stands};
+ghost use Rattle.bdb_catalog.specs.Opening.{StandForSome};
 
 use super::*;
 use bdb_base::{List, Txt};
@@ -12,7 +11,8 @@ use std::alloc::Global;
 use std::test::Fail;
 
 /// Two curators and a relation.
-const SETUP: &str = "create user 'Alice'; create user 'Bob'; create relation S(k text, v text);\n";
+pub(crate) const SETUP: &str =
+    "create user 'Alice'; create user 'Bob'; create relation S(k text, v text);\n";
 
 /// The same, and an insert, a command each.
 const COMMANDS: [&str; 4] = [
@@ -65,7 +65,7 @@ fn listed(alloc: Global, numbers: &[u32]) -> Result<List<u32>, Fail> {
 }
 
 /// A sink that never fails.
-fn sink(alloc: Global) -> Result<MemSink, Fail> {
+pub(crate) fn sink(alloc: Global) -> Result<MemSink, Fail> {
     Ok(MemSink::new(alloc, List::new(alloc), 0, ROOM)?)
 }
 
@@ -77,9 +77,9 @@ fn ran_on<K: Keeper>(
     keeper: &mut K,
 ) -> Result<u8, Fail>
     requires idle { (K.seen keeper.old).running ≡ false }
-    requires base { (b : Contents) × Stands (K.seen keeper.old).kept b × IsValid b.catalog b.stmts }
+    requires base { StandForSome (K.seen keeper.old).kept }
     ensures idle { (K.seen keeper.new).running ≡ false }
-    ensures base { (b : Contents) × Stands (K.seen keeper.new).kept b × IsValid b.catalog b.stmts }
+    ensures base { StandForSome (K.seen keeper.new).kept }
 {
     let mut text = Vec::new(alloc);
     for part in script {
@@ -91,7 +91,7 @@ fn ran_on<K: Keeper>(
 }
 
 /// The same over a keeper without rows.
-fn ran<K: Keeper>(
+pub(crate) fn ran<K: Keeper>(
     alloc: Global,
     script: &[&str],
     out: &mut MemSink,
@@ -100,7 +100,7 @@ fn ran<K: Keeper>(
     requires idle { (K.seen keeper.old).running ≡ false }
     requires empty { (K.seen keeper.old).kept ≡ tables.empty }
     ensures idle { (K.seen keeper.new).running ≡ false }
-    ensures base { (b : Contents) × Stands (K.seen keeper.new).kept b × IsValid b.catalog b.stmts }
+    ensures base { StandForSome (K.seen keeper.new).kept }
 {
     ran_on(alloc, script, out, keeper)
 }
@@ -211,8 +211,18 @@ fn scripts_and_replies(rt: HostRuntime) -> Result<(), Fail> {
         ),
         (
             "select Y.v from BELIEF 'Bob' not S Y where Y.k = 's1'; select Y.v from BELIEF 'Bob' not S Y where Y.k = 's1' and Y.v = 'crow'; explain select X.k from S X;",
-            "error unsafe Y.v\nok 0\nerror syntax\n",
+            "error unsafe Y.v\nok 0\nstart X\npos X\ntake X.k\nok 3\n",
             1,
+        ),
+        (
+            "insert into S values('s1','eagle'); insert into BELIEF 'Bob' not S values('s1','eagle'); insert into BELIEF 'Alice' S values('s1','crow'); explain select U.name from Users U, S X, BELIEF U.uid not S Y where Y.k = X.k and Y.v = X.v;",
+            "ok 1\nok 1\nok 1\nuser U\nstart X\npos X\nbind Y.k X.k\nbind Y.v X.v\ncond Y.k = X.k\ncond Y.v = X.v\nstart Y\nedge Y U.uid\nneg Y\ntake U.name\nok 11\n",
+            0,
+        ),
+        (
+            "explain select U.name, W.name from Users U, Users W, BELIEF U.uid BELIEF W.uid S X where X.k = 's1';",
+            "user U\nuser W\nstart X\nedge X U.uid\ndiffer X U.uid W.uid\nedge X W.uid\npos X\ncond X.k = 's1'\ntake U.name, W.name\nok 9\n",
+            0,
         ),
         (
             "insert into BELIEF 'Alice' BELIEF 'Bob' S values('s1','eagle'); show tables; insert into BELIEF 'Alice' BELIEF 'Bob' BELIEF 'Alice' S values('s9','owl'); delete from BELIEF 'Alice' BELIEF 'Bob' BELIEF 'Alice' S; show tables;",
@@ -349,13 +359,14 @@ fn users_have_a_limit(rt: HostRuntime) -> Result<(), Fail> {
 #[test]
 fn runs_go_on_from_what_is_kept(rt: HostRuntime) -> Result<(), Fail> {
     let alloc = rt.alloc();
-    let mut format_alone = QuietKeeper::new(alloc);
-    format_alone.preset(1, &[0, 0, 0, 0], &[0, 0, 0, 1])?;
+    let mut empty_base = QuietKeeper::new(alloc);
+    empty_base.preset(1, &[0, 0, 0, 0], &[0, 0, 0, 2])?;
+    empty_base.preset(6, &[0, 0, 0, 0], &[0, 0, 0, 0])?;
     let (status, out, keeper) = ran_quietly(alloc, &[])?;
     assert_eq!(rt; status, 0);
     assert_eq!(rt; out.bytes().len(), 0);
     assert_eq!(rt; keeper.commits(), 1);
-    assert!(rt; keeper.same_rows(&format_alone));
+    assert!(rt; keeper.same_rows(&empty_base));
 
     let more = ["show world; create user 'Bob';"];
     let (status, out, commits) = ran_again(alloc, &COMMANDS, &more)?;
@@ -415,7 +426,7 @@ fn has_what_it_committed(alloc: Global, keeper: &MemKeeper) -> Result<bool, Fail
 #[test]
 fn each_call_of_the_keeper_fails_once(rt: HostRuntime) -> Result<(), Fail> {
     let alloc = rt.alloc();
-    for call in 1..100 {
+    for call in 1..1_000 {
         let (status, out, keeper) = ran_failing(alloc, &COMMANDS, &[call], sink(alloc)?)?;
         assert!(rt; has_what_it_committed(alloc, &keeper)?, "call {call}");
         if status != 5 {

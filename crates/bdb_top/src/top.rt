@@ -1,11 +1,10 @@
 // The top call.
 ghost use Rattle.std.specs.Prelude.{◌≡◌, ◌≢◌, ◌<◌, ◌≤◌, ℕ, ◌↔◌, ◌⊎◌, false, IfSome, OnOk, IsErrOf, None, Some, length};
 ghost use Rattle.std.specs.Io.KnownBytes.{IsAtEnd};
-ghost use Rattle.bdb_base.specs.Bases.{Contents, IsValid};
 ghost use Rattle.bdb_base.specs.Causes.{Rose, Rises, RisesOver};
 ghost use Rattle.bdb_base.specs.Limits.{longest_script};
+ghost use Rattle.bdb_catalog.specs.Opening.{StandForSome};
 ghost use Rattle.bdb_keep.specs.Seen.{IsStill, NeverFall};
-ghost use Rattle.bdb_tables.specs.Holds.{Stands};
 ghost use Rattle.bdb_session.specs.Outcome.{start_from};
 ghost use Rattle.bdb_top.specs.ByCount.{CommitsTell};
 ghost use Rattle.bdb_top.specs.Ran.{EachBase, Ran, status_of};
@@ -53,7 +52,7 @@ pub fn run<S: Source, O: Sink, K: Keeper>(
     keeper: &mut K,
 ) -> u8
     requires idle { (K.seen keeper.old).running ≡ false }
-    requires base { (b : Contents) × Stands (K.seen keeper.old).kept b × IsValid b.catalog b.stmts }
+    requires base { StandForSome (K.seen keeper.old).kept }
     ensures headline { run_job words.now ≢ None → IfSome (S.left script.old) (λ text. EachBase (K.seen keeper.old).kept (λ b.
         Ran (start_from b) text (S.left script.new) (K.seen keeper.old) (K.seen keeper.new) (O.written out.old) (O.written out.new) result)) }
     ensures by_count { run_job words.now ≢ None → IfSome (S.left script.old) (λ text. EachBase (K.seen keeper.old).kept (λ b.
@@ -64,7 +63,7 @@ pub fn run<S: Source, O: Sink, K: Keeper>(
     ensures generated { (seed size : ℕ) → named_job words.now ≡ Some (Gen seed size)
         → IsSummarized seed size (O.written out.old) (O.written out.new) result × (script.new ≡ script.old) × (keeper.new ≡ keeper.old) }
     ensures idle { (K.seen keeper.new).running ≡ false }
-    ensures base { (b : Contents) × Stands (K.seen keeper.new).kept b × IsValid b.catalog b.stmts }
+    ensures base { StandForSome (K.seen keeper.new).kept }
     ensures statuses { (result ≤ 8) × (result ≢ 7) }
     ensures ended { run_job words.now ≢ None → result ≤ 1 → IsAtEnd (S.left script.new) }
     ensures short { run_job words.now ≢ None → result ≤ 1 → IfSome (S.left script.old) (λ text. length text ≤ longest_script) }
@@ -101,11 +100,11 @@ fn run_script<S: Source, O: Sink, K: Keeper>(
     keeper: &mut K,
 ) -> Result<bool, Stop>
     requires idle { (K.seen keeper.old).running ≡ false }
-    requires base { (b : Contents) × Stands (K.seen keeper.old).kept b × IsValid b.catalog b.stmts }
+    requires base { StandForSome (K.seen keeper.old).kept }
     ensures ran { IfSome (S.left script.old) (λ text. EachBase (K.seen keeper.old).kept (λ b.
         Ran (start_from b) text (S.left script.new) (K.seen keeper.old) (K.seen keeper.new) (O.written out.old) (O.written out.new) (status_of result))) }
     ensures still { IsStill (K.seen keeper.new) }
-    ensures base { (b : Contents) × Stands (K.seen keeper.new).kept b × IsValid b.catalog b.stmts }
+    ensures base { StandForSome (K.seen keeper.new).kept }
     ensures taken { OnOk result (IsAtEnd (S.left script.new) × IfSome (S.left script.old) (λ text. length text ≤ longest_script)) }
     ensures source { IsErrOf result Stop.Source → Rose (S.faults script.old) (S.faults script.new) }
     ensures sink { IsErrOf result Stop.Sink → Rose (O.faults out.old) (O.faults out.new) }

@@ -1,11 +1,18 @@
-use Rattle.std.proofs.Common.{◌≡◌, ℕ, List, IfOk, subst}
-use Rattle.bdb_top.specs.Generated.{base_after}
+use Rattle.std.proofs.Common.{◌∙◌, ap, inr, refl}
+use Rattle.bdb_base.specs.Bases.{empty_contents}
+use Rattle.bdb_session.specs.Outcome.{start_from}
+use Rattle.bdb_top.proofs.EmptyLemmas.{no_rows_stand}
 use Rattle.bdb_top.proofs.GeneratedLemmas.{summary_is}
 use Rattle.bdb_top.proofs.generated.summary_of.Goals as goal
 
+pub open-requires-clause-base : goal.open-requires-clause-base
+open-requires-clause-base c = no_rows_stand c.new-keeper.result.kept (ap (λ k. k.kept) c.new-keeper.ensures)
+
 pub returns : goal.returns
 returns c =
-    let events = c.args.events.now in
-    let base = c.in_ok-base.ensures (base_after events) c.in_ok-tally.ensures.holds c.in_ok-tally.ensures.valid in
-    let is = summary_is events c.in_ok-tally.tally c.in_ok-base.base c.in_ok-structure.structure c.len.result c.len-2.result c.in_ok-tally.ensures.tally base c.in_ok-structure.ensures c.len.ensures c.len-2.ensures in
-    subst (λ (l : List ℕ). IfOk c.summary_text.result (λ text. text.items ≡ l)) is c.summary_text.ensures
+    let opened = c.in-Ok.ensures.opened empty_contents (inr (ap (λ k. k.kept) c.new-keeper.ensures, refl)) in
+    let start = start_from empty_contents in
+    let end = c.in-Ok-tally_events.ensures.state start opened in
+    c.in_ok-text.ensures
+    ∙ summary_is c.args.events.now c.in-Ok-tally_events.tally c.counts-counts.result.now c.from.result c.from-2.result
+    (c.in-Ok-tally_events.ensures.tally start opened) (c.counts-counts.ensures ∙ end.counts) c.from.ensures c.from-2.ensures

@@ -1,30 +1,30 @@
-use Rattle.std.proofs.Common.{rules, arith, ap, take, ◌++◌, Err}
+use Rattle.std.proofs.Common.{rules, arith, refl, ap, take, [], ◌++◌, Err}
 use Rattle.std.proofs.lemmas.List.{length-append}
-use Rattle.bdb_top.proofs.StreamLemmas.{read_fails, read_over, reads_all, reads_on, rest_stops, block_stops, consumes_zero}
+use Rattle.bdb_top.proofs.StreamLemmas.{read_fails, read_over, reads_all, reads_on, rest_stops, block_stops, consumes_zero, many_by, reads_none, short_by}
 use Rattle.bdb_top.proofs.stream.carry_out_script.Goals as goal
 
 pub returns-in-Err-clause-streams : goal.returns-in-Err-clause-streams
-returns-in-Err-clause-streams g c =
+returns-in-Err-clause-streams g c = λ s a.
     let r = c.loop-count.invariant.reads in
-    read_fails _ _ _ _ r.0 c.loop-count.cutter _ _ _ _ _ c.loop-count.accepted r.2 c.in-Err.ensures.bytes
+    read_fails s _ _ _ r.0 c.loop-count.cutter _ _ _ _ _ c.loop-count.accepted (r.2 s a) c.in-Err.ensures.bytes
 
 pub returns-in-Ok-answer_rest-clause-streams : goal.returns-in-Ok-answer_rest-clause-streams
-returns-in-Ok-answer_rest-clause-streams g c =
+returns-in-Ok-answer_rest-clause-streams g c = λ s a.
     let r = c.loop-count.invariant.reads in
-    reads_all _ _ _ _ r.0 c.loop-count.cutter c.finish.result c.loop-count.session _ _ (g.K.Keeper.seen c.loop-count.keeper) _ _ (g.O.Sink.written c.loop-count.out) _ c.loop-count.accepted c.in-Ok-answer_rest.fine r.2
+    reads_all s _ _ _ r.0 c.loop-count.cutter c.finish.result c.loop-count.session _ _ (g.K.Keeper.seen c.loop-count.keeper) _ _ (g.O.Sink.written c.loop-count.out) _ c.loop-count.accepted c.in-Ok-answer_rest.fine (r.2 s a)
     (consumes_zero _ _ c.in-Ok.count c.read.new.buf (omega (arith, c.if-count-eq0.true)) c.in-Ok.ensures.bytes.0) (search rules) c.finish.ensures c.in-Ok-answer_rest.ensures.ends
 
 pub returns-in-Err-answer_rest-clause-streams : goal.returns-in-Err-answer_rest-clause-streams
-returns-in-Err-answer_rest-clause-streams g c =
+returns-in-Err-answer_rest-clause-streams g c = λ s a.
     let r = c.loop-count.invariant.reads in
-    rest_stops _ _ _ _ r.0 c.loop-count.cutter c.finish.result c.loop-count.session _ _ (g.K.Keeper.seen c.loop-count.keeper) _ _ (g.O.Sink.written c.loop-count.out) _ c.loop-count.accepted c.in-Err-answer_rest.stop r.2
+    rest_stops s _ _ _ r.0 c.loop-count.cutter c.finish.result c.loop-count.session _ _ (g.K.Keeper.seen c.loop-count.keeper) _ _ (g.O.Sink.written c.loop-count.out) _ c.loop-count.accepted c.in-Err-answer_rest.stop (r.2 s a)
     (consumes_zero _ _ c.in-Ok.count c.read.new.buf (omega (arith, c.if-count-eq0.true)) c.in-Ok.ensures.bytes.0) (search rules) c.finish.ensures
     (λ e. c.in-Err-answer_rest.ensures.others.0 (ap Err e)) (λ e. c.in-Err-answer_rest.ensures.others.1 (ap Err e)) c.in-Err-answer_rest.ensures.ends
 
 pub returns-then-room-eq0-clause-streams : goal.returns-then-room-eq0-clause-streams
-returns-then-room-eq0-clause-streams g c =
+returns-then-room-eq0-clause-streams g c = λ s a.
     let r = c.loop-count.invariant.reads in
-    read_over _ _ _ _ r.0 (take c.in-Ok.count c.read.new.buf) c.loop-count.cutter _ _ _ _ _ c.loop-count.accepted r.2 c.in-Ok.ensures.bytes.0
+    read_over s _ _ _ r.0 (take c.in-Ok.count c.read.new.buf) c.loop-count.cutter _ _ _ _ _ c.loop-count.accepted (r.2 s a) c.in-Ok.ensures.bytes.0
     (omega (arith, r.1, c.if-room-eq0.true, c.loop-count.invariant.small)) (search rules)
 
 pub loop-count-preserved : goal.loop-count-preserved
@@ -35,7 +35,7 @@ loop-count-preserved g c =
       reads = (
         r.0 ++ part,
         omega (arith, r.1, length-append r.0 part, c.in-Ok.ensures.bound.1),
-        reads_on _ _ _ _ r.0 part c.loop-count.cutter c.answer_block.new.cutter c.loop-count.session _ _ (g.K.Keeper.seen c.loop-count.keeper) _ _ (g.O.Sink.written c.loop-count.out) _ c.loop-count.accepted c.in-Ok-answer_block.fine r.2
+        λ s a. reads_on s _ _ _ r.0 part c.loop-count.cutter c.answer_block.new.cutter c.loop-count.session _ _ (g.K.Keeper.seen c.loop-count.keeper) _ _ (g.O.Sink.written c.loop-count.out) _ c.loop-count.accepted c.in-Ok-answer_block.fine (r.2 s a)
             c.in-Ok.ensures.bytes.0 c.in-Ok-answer_block.ensures.cutter c.in-Ok-answer_block.ensures.ends,
       );
       ready = search rules;
@@ -50,8 +50,36 @@ loop-count-preserved g c =
     }
 
 pub returns-in-Err-answer_block-clause-streams : goal.returns-in-Err-answer_block-clause-streams
-returns-in-Err-answer_block-clause-streams g c =
+returns-in-Err-answer_block-clause-streams g c = λ s a.
     let r = c.loop-count.invariant.reads in
-    block_stops _ _ _ _ r.0 (take c.in-Ok.count c.read.new.buf) c.loop-count.cutter c.loop-count.session _ _ (g.K.Keeper.seen c.loop-count.keeper) _ _ (g.O.Sink.written c.loop-count.out) _ c.loop-count.accepted c.in-Err-answer_block.stop r.2
+    block_stops s _ _ _ r.0 (take c.in-Ok.count c.read.new.buf) c.loop-count.cutter c.loop-count.session _ _ (g.K.Keeper.seen c.loop-count.keeper) _ _ (g.O.Sink.written c.loop-count.out) _ c.loop-count.accepted c.in-Err-answer_block.stop (r.2 s a)
     c.in-Ok.ensures.bytes.0 (search rules)
     (λ e. c.in-Err-answer_block.ensures.others.0 (ap Err e)) (λ e. c.in-Err-answer_block.ensures.others.1 (ap Err e)) c.in-Err-answer_block.ensures.ends
+
+pub loop-count-init : goal.loop-count-init
+loop-count-init g c = record {
+  reads = ([], refl, λ s a. reads_none s _ c.new-cutter.result c.args.session.now _ _ c.new-cutter.ensures a);
+  ready = ap (λ x. x.is_spent) c.new-cutter.ensures;
+  small = search rules;
+  given = search rules;
+  source = search rules;
+  count = search rules;
+  still = c.requires.still;
+  agrees = c.requires.agrees;
+  keeper = search rules;
+  sink = search rules;
+}
+
+pub returns-in-Ok-answer_rest-clause-short : goal.returns-in-Ok-answer_rest-clause-short
+returns-in-Ok-answer_rest-clause-short g c =
+    let r = c.loop-count.invariant.reads in
+    let agreed = c.requires.agrees in
+    short_by _ _ _ r.0 (r.2 agreed.state agreed.agrees).taken (consumes_zero _ _ c.in-Ok.count c.read.new.buf (omega (arith, c.if-count-eq0.true)) c.in-Ok.ensures.bytes.0) (search rules)
+    (omega (arith, r.1, c.loop-count.invariant.small))
+
+pub returns-then-room-eq0-clause-many : goal.returns-then-room-eq0-clause-many
+returns-then-room-eq0-clause-many g c = λ _.
+    let r = c.loop-count.invariant.reads in
+    let agreed = c.requires.agrees in
+    many_by _ _ _ r.0 (take c.in-Ok.count c.read.new.buf) (r.2 agreed.state agreed.agrees).taken c.in-Ok.ensures.bytes.0 (omega (arith, r.1, c.if-room-eq0.true, c.loop-count.invariant.small))
+    (omega (arith, c.if-count-eq0.false, c.in-Ok.ensures.bound.1))

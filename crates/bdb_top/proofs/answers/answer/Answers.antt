@@ -1,0 +1,17 @@
+use Rattle.std.proofs.Common.{◌∙◌}
+use Rattle.bdb_top.proofs.AnswerLemmas.{answers_one, answers_part, carries_one}
+use Rattle.bdb_top.proofs.answers.answer.Goals as goal
+
+pub returns-in-Ok-write_reply-clause-answered : goal.returns-in-Ok-write_reply-clause-answered
+returns-in-Ok-write_reply-clause-answered g c = λ s a.
+    let told = c.in-Ok.ensures in
+    let e = c.args.event.now in
+    answers_one s e c.in-Ok.reply.accepted c.as_slice.result.now c.answer.new.self _ _ _ _
+    (carries_one s e c.answer.new.self _ _ (told.next s a) (told.commits s a)) (told.accepted s a) (c.as_slice.ensures ∙ told.text s a) c.in-Ok-write_reply.ensures.written
+
+pub returns-clause-answered : goal.returns-clause-answered
+returns-clause-answered g c = λ s a.
+    let told = c.in-Ok.ensures in
+    let e = c.args.event.now in
+    answers_part s e c.as_slice.result.now c.answer.new.self _ _ _ _
+    (carries_one s e c.answer.new.self _ _ (told.next s a) (told.commits s a)) (c.as_slice.ensures ∙ told.text s a) c.in-Err.ensures.written
