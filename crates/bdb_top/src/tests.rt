@@ -5,9 +5,11 @@ ghost use Rattle.bdb_catalog.specs.Opening.{StandForSome};
 
 use super::*;
 use bdb_base::{List, Txt};
-use bdb_io::{MemSink, MemSource};
+use bdb_io::{MemSink, MemSource, WriteSink};
 use bdb_keep::{Keeper, MemKeeper, QuietKeeper};
 use std::alloc::Global;
+use std::io;
+use std::io::Write;
 use std::test::Fail;
 
 /// Two curators and a relation.
@@ -24,6 +26,46 @@ const COMMANDS: [&str; 4] = [
 
 /// The replies to these commands.
 const REPLIES: &[u8] = b"ok\nok\nok\nok 1\n";
+
+/// The same, then worlds that come at depths of one to three, worlds that go, changed tuples and refused changes. The first
+/// command of each entry is accepted, so it commits; what stands behind it is refused.
+const CHANGES: [&str; 20] = [
+    "create user 'Alice';",
+    "create user 'Bob';",
+    "create relation S(k text, v text);",
+    "insert into S values('s1','eagle');",
+    "insert into BELIEF 'Bob' not S values('s1','eagle');",
+    "insert into BELIEF 'Alice' BELIEF 'Bob' S values('s1','crow');",
+    "show world BELIEF 'Alice' BELIEF 'Bob';",
+    "insert into BELIEF 'Alice' BELIEF 'Bob' S values('s2','owl'); insert into BELIEF 'Alice' BELIEF 'Bob' S values('s2','kite');",
+    "create user 'Carol';",
+    "insert into BELIEF 'Carol' BELIEF 'Alice' BELIEF 'Bob' S values('s3','gull');",
+    "show world BELIEF 'Carol' BELIEF 'Alice' BELIEF 'Bob';",
+    "update BELIEF 'Alice' BELIEF 'Bob' S set v = 'kite' where k = 's2'; update BELIEF 'Alice' BELIEF 'Bob' S set k = 's4';",
+    "delete from S;",
+    "select U.name from Users U, BELIEF 'Carol' BELIEF 'Alice' BELIEF U.uid S X where X.v = 'kite';",
+    "delete from BELIEF 'Alice' BELIEF 'Bob' S;",
+    "show world BELIEF 'Alice' BELIEF 'Bob';",
+    "insert into BELIEF 'Alice' S values('s3','gull');",
+    "show world BELIEF 'Carol' BELIEF 'Alice';",
+    "delete from BELIEF 'Carol' BELIEF 'Alice' BELIEF 'Bob' S;",
+    "show tables;",
+];
+
+/// The replies to these.
+const CHANGES_REPLIES: &str = "ok\nok\nok\nok 1\nok 1\n\
+ok 1\n+ S('s1', 'crow') explicit\n- S('s1', 'eagle') inherited\nok 2\n\
+ok 1\nerror clash + S('s2', 'owl')\nok\n\
+ok 1\n+ S('s1', 'crow') inherited\n- S('s1', 'eagle') inherited\n+ S('s2', 'owl') inherited\n+ S('s3', 'gull') explicit\nok 4\n\
+ok 1\nerror clash + S('s4', 'crow')\n\
+ok 1\n'Bob'\nok 1\n\
+ok 2\n- S('s1', 'eagle') inherited\nok 1\n\
+ok 1\n+ S('s3', 'gull') inherited\nok 1\n\
+ok 1\nuser 1 'Alice'\nuser 2 'Bob'\nuser 3 'Carol'\nrelation S(k text, v text)\ntuple S('s1', 'eagle')\ntuple S('s3', 'gull')\n\
+world / depth 0\nworld /'Alice' depth 1 suffix /\nworld /'Bob' depth 1 suffix /\n\
+edge / 'Alice' /'Alice'\nedge / 'Bob' /'Bob'\nedge / 'Carol' /\nedge /'Alice' 'Bob' /'Bob'\nedge /'Alice' 'Carol' /\n\
+edge /'Bob' 'Alice' /'Alice'\nedge /'Bob' 'Carol' /\n\
+row /'Alice' + S('s3', 'gull') explicit\nrow /'Bob' - S('s1', 'eagle') explicit\nok 18\n";
 
 /// Three users and what they believe of each other's sightings, with two queries.
 const SIGHTINGS: &str = "create user 'Alice'; create user 'Bob'; create user 'Carol';\n\
@@ -150,14 +192,19 @@ fn scripts_and_replies(rt: HostRuntime) -> Result<(), Fail> {
             1,
         ),
         (
-            "insert into BELIEF 'Bob' S values('a','x'); insert into BELIEF 'Bob' S values('b','y'); update BELIEF 'Bob' S set k = 'c' where v <> 'z'; show world BELIEF 'Bob';",
-            "ok 1\nok 1\nerror clash + S('c', 'x')\n+ S('a', 'x') explicit\n+ S('b', 'y') explicit\nok 2\n",
+            "insert into BELIEF 'Bob' S values('a','x'); insert into BELIEF 'Bob' S values('b','y'); update BELIEF 'Bob' S set k = 'c' where v <> 'z'; show world BELIEF 'Bob'; update BELIEF 'Bob' S set v = 'z' where k = 'a'; show world BELIEF 'Bob';",
+            "ok 1\nok 1\nerror clash + S('c', 'x')\n+ S('a', 'x') explicit\n+ S('b', 'y') explicit\nok 2\nok 1\n+ S('a', 'z') explicit\n+ S('b', 'y') explicit\nok 2\n",
             1,
         ),
         (
             "insert into S values('s1','eagle'); insert into BELIEF 'Alice' S values('s1','crow'); delete from BELIEF 'Alice' S where v = 'crow'; show world BELIEF 'Alice';",
             "ok 1\nok 1\nok 1\n+ S('s1', 'eagle') inherited\nok 1\n",
             0,
+        ),
+        (
+            "insert into S values('s1','eagle'); insert into BELIEF 'Bob' not S values('s1','eagle'); insert into BELIEF 'Alice' S values('s1','crow'); insert into BELIEF 'Alice' S values('s1','raven'); insert into BELIEF 'Alice' not S values('s1','raven'); insert into BELIEF 'Alice' S values('s1','crow'); delete from BELIEF 'Alice' S where v = 'crow'; show world BELIEF 'Alice';",
+            "ok 1\nok 1\nok 1\nerror clash + S('s1', 'crow')\nok 1\nok 0\nok 1\n+ S('s1', 'eagle') inherited\n- S('s1', 'raven') explicit\nok 2\n",
+            1,
         ),
         (
             "INSERT into S values('it''s',''); -- a; b\nshow world;;",
@@ -207,6 +254,16 @@ fn scripts_and_replies(rt: HostRuntime) -> Result<(), Fail> {
         (
             "create user 'Carol'; insert into BELIEF 'Carol' BELIEF 'Alice' S values('s1','eagle'); insert into BELIEF 'Alice' S values('s2','crow'); show tables;",
             "ok\nok 1\nok 1\nuser 1 'Alice'\nuser 2 'Bob'\nuser 3 'Carol'\nrelation S(k text, v text)\ntuple S('s1', 'eagle')\ntuple S('s2', 'crow')\nworld / depth 0\nworld /'Alice' depth 1 suffix /\nworld /'Carol' depth 1 suffix /\nworld /'Carol'/'Alice' depth 2 suffix /'Alice'\nedge / 'Alice' /'Alice'\nedge / 'Bob' /\nedge / 'Carol' /'Carol'\nedge /'Alice' 'Bob' /\nedge /'Alice' 'Carol' /'Carol'\nedge /'Carol' 'Alice' /'Carol'/'Alice'\nedge /'Carol' 'Bob' /\nedge /'Carol'/'Alice' 'Bob' /\nedge /'Carol'/'Alice' 'Carol' /'Carol'\nrow /'Alice' + S('s2', 'crow') explicit\nrow /'Carol'/'Alice' + S('s1', 'eagle') explicit\nrow /'Carol'/'Alice' + S('s2', 'crow') inherited\nok 22\n",
+            0,
+        ),
+        (
+            "create user 'Carol'; insert into BELIEF 'Carol' BELIEF 'Alice' S values('s1','eagle'); insert into BELIEF 'Alice' S values('s2','crow'); show world BELIEF 'Bob' BELIEF 'Carol' BELIEF 'Alice'; show world BELIEF 'Alice' BELIEF 'Bob'; show world BELIEF 'Bob' BELIEF 'Alice';",
+            "ok\nok 1\nok 1\n+ S('s1', 'eagle') inherited\n+ S('s2', 'crow') inherited\nok 2\nok 0\n+ S('s2', 'crow') inherited\nok 1\n",
+            0,
+        ),
+        (
+            "create user 'Carol'; insert into BELIEF 'Carol' BELIEF 'Alice' S values('s1','eagle'); insert into BELIEF 'Alice' S values('s2','crow'); delete from BELIEF 'Alice' S; show tables;",
+            "ok\nok 1\nok 1\nok 1\nuser 1 'Alice'\nuser 2 'Bob'\nuser 3 'Carol'\nrelation S(k text, v text)\ntuple S('s1', 'eagle')\nworld / depth 0\nworld /'Carol' depth 1 suffix /\nworld /'Carol'/'Alice' depth 2 suffix /\nedge / 'Alice' /\nedge / 'Bob' /\nedge / 'Carol' /'Carol'\nedge /'Carol' 'Alice' /'Carol'/'Alice'\nedge /'Carol' 'Bob' /\nedge /'Carol'/'Alice' 'Bob' /\nedge /'Carol'/'Alice' 'Carol' /'Carol'\nrow /'Carol'/'Alice' + S('s1', 'eagle') explicit\nok 16\n",
             0,
         ),
         (
@@ -356,6 +413,69 @@ fn users_have_a_limit(rt: HostRuntime) -> Result<(), Fail> {
     Ok(())
 }
 
+/// Inserts of the numbers from 0, so many of them, at a path, and the reply to each.
+fn push_numbers(
+    alloc: Global,
+    script: &mut String,
+    replies: &mut Vec<u8>,
+    path: &str,
+    count: u32,
+) -> Result<(), Fail> {
+    for number in 0..count {
+        let insert = format!(in alloc; "insert into {path} N values({number});\n")?;
+        script.push_str(insert.as_str())?;
+        replies.extend_from_slice(b"ok 1\n")?;
+    }
+    Ok(())
+}
+
+#[test]
+fn tuples_have_a_limit(rt: HostRuntime) -> Result<(), Fail> {
+    let alloc = rt.alloc();
+    let mut script = String::new(alloc);
+    let mut replies = Vec::new(alloc);
+    script.push_str("create user 'Bob'; create relation N(k int);\n")?;
+    replies.extend_from_slice(b"ok\nok\n")?;
+    push_numbers(alloc, &mut script, &mut replies, "", 4_000)?;
+    script.push_str("insert into N values(4000); insert into BELIEF 'Bob' not N values(4001);")?;
+    script.push_str(
+        "insert into BELIEF 'Bob' not N values(3999); delete from N where k = 0; insert into N values(4000);",
+    )?;
+    replies.extend_from_slice(b"error full tuples\nerror full tuples\nok 1\nok 1\nok 1\n")?;
+    let (status, out, _) = ran_quietly(alloc, &[script.as_str()])?;
+    assert_eq!(rt; status, 1);
+    assert_eq!(rt; out.bytes(), replies.as_slice());
+    Ok(())
+}
+
+#[test]
+fn statements_have_a_limit(rt: HostRuntime) -> Result<(), Fail> {
+    let alloc = rt.alloc();
+    let mut script = String::new(alloc);
+    let mut replies = Vec::new(alloc);
+    script.push_str(
+        "create user '1'; create user '2'; create user '3'; create user '4'; create user '5';\n",
+    )?;
+    script.push_str("create relation N(k int);\n")?;
+    replies.extend_from_slice(b"ok\nok\nok\nok\nok\nok\n")?;
+    for path in [
+        "BELIEF '1'",
+        "BELIEF '2'",
+        "BELIEF '3'",
+        "BELIEF '4'",
+        "BELIEF '5'",
+    ] {
+        push_numbers(alloc, &mut script, &mut replies, path, 4_000)?;
+    }
+    script.push_str("insert into N values(0); insert into BELIEF '5' N values(0);")?;
+    script.push_str("delete from BELIEF '5' N where k = 0; insert into N values(0);")?;
+    replies.extend_from_slice(b"error full statements\nok 0\nok 1\nok 1\n")?;
+    let (status, out, _) = ran_quietly(alloc, &[script.as_str()])?;
+    assert_eq!(rt; status, 1);
+    assert_eq!(rt; out.bytes(), replies.as_slice());
+    Ok(())
+}
+
 #[test]
 fn runs_go_on_from_what_is_kept(rt: HostRuntime) -> Result<(), Fail> {
     let alloc = rt.alloc();
@@ -410,32 +530,36 @@ fn pieces_have_a_limit(rt: HostRuntime) -> Result<(), Fail> {
     Ok(())
 }
 
-/// Whether a keeper has the rows of one that was run over the first of the commands, as many as it committed.
+/// Whether a keeper has the rows of one that was run over the first of the changes, as many as it committed after opening.
 fn has_what_it_committed(alloc: Global, keeper: &MemKeeper) -> Result<bool, Fail> {
-    let mut expected = MemKeeper::new(alloc, List::new(alloc));
-    for count in 0..COMMANDS.len() + 1 {
-        if expected.commits() == keeper.commits() {
-            return Ok(expected.same_rows(keeper));
-        }
-        let (_, _, next) = ran_failing(alloc, &COMMANDS[..count], &[], sink(alloc)?)?;
-        expected = next;
+    if keeper.commits() == 0 {
+        return Ok(MemKeeper::new(alloc, List::new(alloc)).same_rows(keeper));
     }
-    Ok(expected.commits() == keeper.commits() && expected.same_rows(keeper))
+    for count in 0..CHANGES.len() + 1 {
+        if keeper.commits() == (count as u64).saturating_add(1) {
+            let (_, _, expected) = ran_failing(alloc, &CHANGES[..count], &[], sink(alloc)?)?;
+            return Ok(expected.commits() == keeper.commits() && expected.same_rows(keeper));
+        }
+    }
+    Ok(false)
 }
 
 #[test]
 fn each_call_of_the_keeper_fails_once(rt: HostRuntime) -> Result<(), Fail> {
     let alloc = rt.alloc();
-    for call in 1..1_000 {
-        let (status, out, keeper) = ran_failing(alloc, &COMMANDS, &[call], sink(alloc)?)?;
+    for call in 1..10_000 {
+        let (status, out, keeper) = ran_failing(alloc, &CHANGES, &[call], sink(alloc)?)?;
         assert!(rt; has_what_it_committed(alloc, &keeper)?, "call {call}");
         if status != 5 {
-            assert_eq!(rt; status, 0);
-            assert_eq!(rt; out.bytes(), REPLIES);
-            assert!(rt; 12 < call, "call {call}");
+            assert_eq!(rt; status, 1);
+            assert_eq!(rt; out.bytes(), CHANGES_REPLIES.as_bytes());
+            assert!(rt; 100 < call, "call {call}");
             return Ok(());
         }
-        assert!(rt; REPLIES.starts_with(out.bytes()), "call {call}");
+        assert!(rt;
+            CHANGES_REPLIES.as_bytes().starts_with(out.bytes()),
+            "call {call}"
+        );
     }
     assert!(rt; false);
     Ok(())
@@ -445,7 +569,7 @@ fn each_call_of_the_keeper_fails_once(rt: HostRuntime) -> Result<(), Fail> {
 fn a_fault_of_the_sink_ends_the_run(rt: HostRuntime) -> Result<(), Fail> {
     let alloc = rt.alloc();
     let out = MemSink::new(alloc, listed(alloc, &[4])?, 1, ROOM)?;
-    let (status, out, keeper) = ran_failing(alloc, &COMMANDS, &[], out)?;
+    let (status, out, keeper) = ran_failing(alloc, &CHANGES, &[], out)?;
     assert_eq!(rt; status, 4);
     assert_eq!(rt; out.bytes(), b"ok\nok\nok\no".as_slice());
     assert_eq!(rt; keeper.commits(), 5);
@@ -486,6 +610,9 @@ fn parts_of_reading_change_nothing(rt: HostRuntime) -> Result<(), Fail> {
         ("show world", "error unfinished\n", 1),
         ("show world; -", "ok 0\nerror unfinished\n", 1),
         ("show world; -- open", "ok 0\n", 0),
+        ("show world -- open", "error unfinished\n", 1),
+        ("show world; -- open\n;;", "ok 0\n", 0),
+        ("show world; 'it''", "ok 0\nerror unfinished\n", 1),
         ("show world; 'a; -- b\n", "ok 0\nerror unfinished\n", 1),
         ("show world;-- a; 'b\n;show world;", "ok 0\nok 0\n", 0),
     ];
@@ -496,6 +623,72 @@ fn parts_of_reading_change_nothing(rt: HostRuntime) -> Result<(), Fail> {
             assert_eq!(rt; out.bytes(), replies.as_bytes(), "{script}");
         }
     }
+    Ok(())
+}
+
+#[test]
+fn long_pieces_are_read_in_parts(rt: HostRuntime) -> Result<(), Fail> {
+    let alloc = rt.alloc();
+    let cases = [
+        ("", "error unfinished\n"),
+        ("'", "error unfinished\n"),
+        ("--", "error unfinished\n"),
+        ("-", "error unfinished\n"),
+        (";", "error long\n"),
+        ("--;\n; show world", "error long\nerror unfinished\n"),
+        ("';'; show world;", "error long\nok 0\n"),
+    ];
+    for (end, replies) in cases {
+        let mut script = String::new(alloc);
+        script.push_str("show world")?;
+        for _ in 0..65_536 {
+            script.push_str(" ")?;
+        }
+        script.push_str(end)?;
+        for step in [1, 4_096] {
+            let (status, out) = ran_in_steps(alloc, script.as_str().as_bytes(), step, &[])?;
+            assert_eq!(rt; status, 1, "{end}");
+            assert_eq!(rt; out.bytes(), replies.as_bytes(), "{end}");
+        }
+    }
+    Ok(())
+}
+
+/// A writer that takes one byte at a time.
+#[derive(Drop)]
+struct OneByOne {
+    bytes: Vec<u8>,
+}
+
+impl Write for OneByOne {
+    fn write(&mut self, buf: &[u8]) -> io::Result<usize> {
+        match buf.first() {
+            Some(byte) => {
+                self.bytes.push(*byte)?;
+                Ok(1)
+            }
+            None => Ok(0),
+        }
+    }
+
+    fn flush(&mut self) -> io::Result<()> {
+        Ok(())
+    }
+}
+
+#[test]
+fn replies_are_written_in_parts(rt: HostRuntime) -> Result<(), Fail> {
+    let alloc = rt.alloc();
+    let words = words(alloc)?;
+    let text = Vec::from_slice(alloc, SIGHTINGS.as_bytes())?;
+    let mut source = MemSource::new(text, 1, List::new(alloc));
+    let mut out = WriteSink::new(OneByOne {
+        bytes: Vec::new(alloc),
+    });
+    let mut keeper = QuietKeeper::new(alloc);
+    let status = run(alloc, words.as_slice(), &mut source, &mut out, &mut keeper);
+    assert_eq!(rt; status, 0);
+    assert_eq!(rt; out.writer.bytes.as_slice(), SIGHTINGS_REPLIES.as_bytes());
     Ok(())
 }
 
