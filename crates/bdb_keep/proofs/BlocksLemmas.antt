@@ -1,5 +1,5 @@
 -- Lemmas on entries in blocks.
-use Rattle.std.proofs.Common.{◌≡◌, ℕ, zero, suc, ◌<◌, ◌≤◌, ◌+◌, ◌-◌, Bool, true, false, cond, map, length-drop, length-take-le, take-take, drop-drop, take-add, List, [], ◌∷◌, ◌++◌, length, take, drop, set, get_or, Option, Some, None, Less, refl, sym, ap, ◌∙◌, append_assoc, append-nil, length-set, take-append-drop, take-suc, drop-cons, take_all, drop_of_length-le, subst, arith}
+use Rattle.std.proofs.Common.{◌≡◌, ℕ, zero, suc, ◌<◌, ◌≤◌, ◌+◌, ◌-◌, Bool, true, false, cond, map, length-drop, length-take-le, take-take, drop-drop, take-add, List, [], ◌∷◌, ◌++◌, length, take, drop, set, get_or, Option, Some, None, Less, Equal, Greater, refl, sym, ap, ◌∙◌, append_assoc, append-nil, length-set, take-append-drop, take-suc, drop-cons, take_all, drop_of_length-le, subst, arith}
 use Rattle.std.specs.Prelude.{is_some, filter}
 use Rattle.std.specs.List.{AllWithin}
 use Rattle.std.specs.List.Sorted.{IsPartitionPoint, IsPartitionedBy}
@@ -8,7 +8,7 @@ use Rattle.std.proofs.lemmas.Cmp.{nat_list_cmp_total, eq_by_cmp_equiv}
 use mathlib.Core.Bool.{true≢false}
 use Rattle.bdb_keep.specs.Tables.{bytes_cmp}
 use Rattle.bdb_keep.specs.Entries.{Entries, place_at, row_of, IsSetAt, AreBelow, AreAbove, NoneBelow, IsAscending}
-use Rattle.bdb_keep.specs.Blocks.{joined, before, after, HasEntry, HaveEntries, AreSorted, IsBound, IsThere, entry_at, StandsAt, IsGap, starts_within, IsRest, without_empty, has_any, cut}
+use Rattle.bdb_keep.specs.Blocks.{joined, before, after, HasEntry, HaveEntries, AreSorted, IsBound, IsBlockFor, IsThere, entry_at, StandsAt, IsGap, starts_within, IsRest, without_empty, has_any, cut}
 use lib.Seq.{set_split, drop-append-le}
 use Rattle.std.proofs.lemmas.List.Edits.{length-remove}
 use Rattle.bdb_keep.proofs.RowsLemmas.{same_place}
@@ -273,6 +273,50 @@ gap-found bs q i j k l s b t e n =
 
 pub gap-end : (bs : List Entries) (q : List ℕ) (i j : ℕ) → IsBound bs q i j → after bs i j ≡ [] → IsGap bs q i j
 gap-end bs q i j b e = record { below = b.below; above = subst (AreAbove q) (sym e) tt; block = b.block; index = b.index }
+
+-- ---- what is known around a spot
+apart-below : (q : List ℕ) (xs : Entries) (e : List ℕ × Option (List ℕ)) (ys : Entries) → AreApart xs (e ∷ ys) → e.0 ≡ q → AreBelow q xs
+apart-below q [] e ys a h = tt
+apart-below q (x ∷ xs) e ys a h = (ap (bytes_cmp x.0) (sym h) ∙ a.0.0, apart-below q xs e ys a.1 h)
+
+-- the place itself stands here
+pub bound-here : (bs : List Entries) (q : List ℕ) (i j : ℕ) → AreSorted bs → IsThere bs i j → bytes_cmp (entry_at (get_or bs i []) j).0 q ≡ Equal → IsBound bs q i j
+bound-here bs q i j s t h =
+    let e = entry_at (get_or bs i []) j in
+    let parts = ascending-parts (before bs i j) (e ∷ after bs i (suc j)) (subst IsAscending (split bs i j ∙ ap (λ x. before bs i j ++ x) (after-here bs i j ([], None) t.block t.index)) s.ascends) in
+    let k = t.index in
+    record {
+      below = apart-below q (before bs i j) e (after bs i (suc j)) parts.2 (same_place e.0 q (ap is_eq h));
+      above = within-first bs q i j i j s t refl (ap is_lt h);
+      block = λ _. t.block;
+      index = omega arith;
+    }
+
+-- the one here is below, and none behind it is
+pub bound-behind : (bs : List Entries) (q : List ℕ) (i j k : ℕ) → AreSorted bs → IsThere bs i j → bytes_cmp (entry_at (get_or bs i []) j).0 q ≡ Less → k ≡ suc j → NoneBelow q (after bs i k) → IsBound bs q i k
+bound-behind bs q i j k s t h m a =
+    let l = t.index in
+    subst (IsBound bs q i) (sym m) (record {
+      below = above-last bs q i (suc j) (before bs i j) (entry_at (get_or bs i []) j) s (before-more bs i j ([], None) t.block t.index) (ap is_lt h);
+      above = subst (λ n. NoneBelow q (after bs i n)) m a;
+      block = λ _. t.block;
+      index = omega arith;
+    })
+
+-- the one here is above, and all before it are below
+pub bound-before : (bs : List Entries) (q : List ℕ) (i j : ℕ) → AreSorted bs → IsThere bs i j → bytes_cmp (entry_at (get_or bs i []) j).0 q ≡ Greater → AreBelow q (before bs i j) → IsBound bs q i j
+bound-before bs q i j s t h b =
+    let k = t.index in
+    record { below = b; above = within-first bs q i j i j s t refl (ap is_lt h); block = λ _. t.block; index = omega arith }
+
+-- found in the block where the place belongs
+pub bound-in : (q : List ℕ) (bs : List Entries) (i j : ℕ) → AreSorted bs → IsBlockFor bs q i → j ≤ length (get_or bs i []) → AreBelow q (take j (get_or bs i [])) → NoneBelow q (drop j (get_or bs i [])) → IsBound bs q i j
+bound-in q bs i j s f k b a = record {
+  below = bound-below q bs i j s.ascends s.full f.block b f.starts;
+  above = bound-above q bs i j s.ascends s.full f.block a f.ends;
+  block = λ _. f.block;
+  index = k;
+}
 
 -- past an empty place the rest stands for the same
 pub rest-past : (bs : List Entries) (es : Entries) (q : List ℕ) (i j k l m : ℕ) → IsRest es (after bs i j) q → IsThere bs k l → after bs k l ≡ after bs i j → is_some (entry_at (get_or bs k []) l).1 ≡ false → m ≡ suc l → IsRest es (after bs k m) q

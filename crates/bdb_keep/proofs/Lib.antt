@@ -2,6 +2,7 @@ pub mod BlocksLemmas
 pub mod EntriesLemmas
 pub mod FirstLemmas
 pub mod Gets
+pub mod HeadsLemmas
 pub mod Numbers
 pub mod RowsLemmas
 pub mod Scans

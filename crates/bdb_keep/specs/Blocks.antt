@@ -43,6 +43,17 @@ pub record IsBound (bs : List Entries) (q : List ℕ) (i j : ℕ) : Type 0 where
   pub block : 0 < length bs → i < length bs
   pub index : j ≤ length (slice_index_or bs i [])
 
+-- whether the first place of a block isn't above a place
+abbrev pub starts_within : List ℕ → Entries → Bool
+starts_within q [] = true
+starts_within q (e ∷ es) = is_le (bytes_cmp e.0 q)
+
+-- a place belongs in this block: it starts within the place, or is the first one, and the next one starts above
+pub record IsBlockFor (bs : List Entries) (q : List ℕ) (i : ℕ) : Type 0 where
+  pub block : i < length bs
+  pub starts : 0 < i → starts_within q (slice_index_or bs i []) ≡ true
+  pub ends : suc i < length bs → starts_within q (slice_index_or bs (suc i) []) ≡ false
+
 -- an entry stands here
 pub record IsThere (bs : List Entries) (i j : ℕ) : Type 0 where
   pub block : i < length bs
@@ -64,11 +75,6 @@ pub record IsGap (bs : List Entries) (q : List ℕ) (i j : ℕ) : Type 0 where
   pub above : AreAbove q (after bs i j)
   pub block : 0 < length bs → i < length bs
   pub index : j ≤ length (slice_index_or bs i [])
-
--- whether the first place of a block isn't above a place
-abbrev pub starts_within : List ℕ → Entries → Bool
-starts_within q [] = true
-starts_within q (e ∷ es) = is_le (bytes_cmp e.0 q)
 
 -- some entries have the same rows as the others from a place on, in order, and no place below it
 pub record IsRest (es rest : Entries) (p : List ℕ) : Type 0 where

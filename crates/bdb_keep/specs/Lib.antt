@@ -3,6 +3,7 @@ pub mod Calls
 pub mod Calm
 pub mod Changes
 pub mod Entries
+pub mod Heads
 pub mod Held
 pub mod Scans
 pub mod Seen

@@ -6,16 +6,17 @@ ghost use Rattle.bdb_keep.specs.Tables.{bytes_cmp};
 ghost use Rattle.bdb_keep.specs.Entries.{AreBelow, NoneBelow, IsAscending};
 ghost use Rattle.bdb_keep.specs.Blocks.{entry_at, starts_within, without_empty, has_any};
 
-use crate::place::{Place, Row};
+use crate::place::Row;
+use crate::words::{Probe, Words};
 use std::alloc::{AllocError, Global};
 use std::marker::Model;
 use std::mem::replace;
 
 /// The most places of a block.
-pub const CAPACITY: usize = 64;
+pub const CAPACITY: usize = 128;
 
 /// A place with its row, or with none where the row was removed in the running transaction.
-pub type Entry = (Place, Option<Row>);
+pub type Entry = (Words, Option<Row>);
 
 /// A block of places in ascending order.
 #[derive(Drop)]
@@ -33,7 +34,7 @@ impl Model for Block {
 
 impl Block {
     /// A block of one place with its row.
-    pub fn of(alloc: Global, place: Place, row: Row) -> Result<Self, AllocError>
+    pub fn of(alloc: Global, place: Words, row: Row) -> Result<Self, AllocError>
         ensures { IfOk result (λ block. block ≡ (place, Some row) ∷ []) }
     {
         let mut entries = Vec::new(alloc);
@@ -70,27 +71,27 @@ impl Block {
         self.entries.as_slice()
     }
 
-    /// Whether the first place isn't above that of a key in a table.
-    pub fn starts_within(&self, tab: u8, key: &[u8]) -> bool
-        ensures { result ≡ starts_within (tab ∷ key.now) self.now }
+    /// Whether the first place isn't above one that is looked for.
+    pub fn starts_within(&self, probe: &Probe<'_>) -> bool
+        ensures { result ≡ starts_within probe.now self.now }
     {
         match self.entries.first() {
-            Some(entry) => entry.0.compare(tab, key).is_le(),
+            Some(entry) => entry.0.compare(probe).is_le(),
             None => true,
         }
     }
 
-    /// The index of the first place that isn't below that of a key in a table.
-    pub fn lower_bound(&self, tab: u8, key: &[u8]) -> usize
+    /// The index of the first place that isn't below one that is looked for.
+    pub fn lower_bound(&self, probe: &Probe<'_>) -> usize
         requires { IsAscending self.now }
         ensures within { result ≤ length self.now }
-        ensures below { AreBelow (tab ∷ key.now) (take result self.now) }
-        ensures above { NoneBelow (tab ∷ key.now) (drop result self.now) }
+        ensures below { AreBelow probe.now (take result self.now) }
+        ensures above { NoneBelow probe.now (drop result self.now) }
     {
         self.entries.as_slice().partition_point(
             |entry: &Entry| -> bool
-                ensures { result ≡ is_lt (bytes_cmp entry.now.0 (tab ∷ key.entry.now)) }
-            { entry.0.compare(tab, key).is_lt() },
+                ensures { result ≡ is_lt (bytes_cmp entry.now.0 probe.entry.now) }
+            { entry.0.compare(probe).is_lt() },
         )
     }
 
@@ -104,7 +105,7 @@ impl Block {
     }
 
     /// Puts a place with its row in at an index.
-    pub fn insert(&mut self, index: usize, place: Place, row: Row) -> Result<(), AllocError>
+    pub fn insert(&mut self, index: usize, place: Words, row: Row) -> Result<(), AllocError>
         requires { index ≤ length self.old }
         ensures ok { OnOk result (self.new ≡ take index self.old ++ (place, Some row) ∷ drop index self.old) }
         ensures err { OnErr result (self.new ≡ self.old) }

@@ -9,6 +9,7 @@ ghost use Rattle.bdb_keep.specs.Tables.{set_at};
 use crate::block::CAPACITY;
 use crate::place::{Place, Row};
 use crate::rows::Rows;
+use crate::words::Probe;
 use std::alloc::{AllocError, Global};
 
 /// A change of a transaction: where it was made, and the row that stood there before.
@@ -31,22 +32,21 @@ pub fn swap_row(
     ensures back { IfErr result (λ back. back ≡ row) }
     ensures same { OnErr result (rows.new ≡ rows.old) }
 {
-    let (tab, key) = place.parts();
-    match rows.swap(tab, key, row) {
+    match rows.swap(&place.probe(), row) {
         Ok(before) => Ok(before),
         Err(row) => Err(row),
     }
 }
 
 /// Puts a row at a place, which may be new, and answers the row that stood there.
-pub fn insert_row(rows: &mut Rows, tab: u8, key: &[u8], row: Row) -> Result<Option<Row>, AllocError>
-    ensures before { IfOk result (λ before. row_of (place_at rows.old (tab ∷ key.now)) ≡ before) }
-    ensures rows { OnOk result (rows_of rows.new ≡ set_at (rows_of rows.old) (tab ∷ key.now) (Some row)) }
-    ensures here { OnOk result (IsSome (place_at rows.new (tab ∷ key.now))) }
+pub fn insert_row(rows: &mut Rows, probe: &Probe<'_>, row: Row) -> Result<Option<Row>, AllocError>
+    ensures before { IfOk result (λ before. row_of (place_at rows.old probe.now) ≡ before) }
+    ensures rows { OnOk result (rows_of rows.new ≡ set_at (rows_of rows.old) probe.now (Some row)) }
+    ensures here { OnOk result (IsSome (place_at rows.new probe.now)) }
     ensures keeps { OnOk result (KeepsPlaces rows.old rows.new) }
     ensures err { OnErr result (rows.new ≡ rows.old) }
 {
-    match rows.insert(tab, key, row) {
+    match rows.insert(probe, row) {
         Ok(Some(before)) => Ok(before),
         Ok(None) => Ok(None),
         Err(error) => Err(error),
@@ -87,7 +87,8 @@ pub fn put_row(
     changes.reserve(1)?;
     let place = Place::of(alloc, tab, key)?;
     let copy = Row::of(alloc, row)?;
-    let before = insert_row(rows, tab, key, copy)?;
+    let probe = Probe::of(tab, key);
+    let before = insert_row(rows, &probe, copy)?;
     changes.push_reserved(Change { place, before });
     Ok(())
 }
@@ -145,8 +146,7 @@ pub fn settle(rows: &mut Rows, changes: &mut Vec<Change>, emptied: usize)
         return;
     }
     while let Some(change) = changes.pop() {
-        let (tab, key) = change.place.parts();
-        rows.drop_empty(tab, key);
+        rows.drop_empty(&change.place.probe());
     }
 }
 

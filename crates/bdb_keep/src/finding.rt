@@ -1,23 +1,28 @@
 // Finding a place among sorted blocks.
 ghost use Rattle.std.specs.Prelude.{◌≡◌, ◌<◌, ◌≤◌, ◌-◌, ◌^◌, ◌∷◌, ◌++◌, [], true, IfOk, IfErr, IfSome, IfNone, is_some, length, slice_index_or};
+ghost use Rattle.std.specs.declared.cmp.Ordering.TheVariants.{Less, Greater};
+ghost use Rattle.bdb_keep.specs.Tables.{bytes_cmp};
 ghost use Rattle.bdb_keep.specs.Entries.{AreBelow, NoneBelow};
-ghost use Rattle.bdb_keep.specs.Blocks.{joined, before, after, entry_at, starts_within, AreSorted, HaveEntries, IsBound, IsThere, StandsAt, IsGap, IsRest};
+ghost use Rattle.bdb_keep.specs.Blocks.{joined, before, after, entry_at, starts_within, AreSorted, HaveEntries, IsBound, IsBlockFor, IsThere, StandsAt, IsGap, IsRest};
 
 use crate::block::{Block, Entry};
+use crate::cursors::Near;
+use crate::words::Probe;
+use std::cmp::Ordering;
 
 /// Where an entry stands, or would stand: a block, and an index in it.
 pub type Spot = (usize, usize);
 
-/// Where the place of a key in a table stands; at Err where it belongs. It looks first where `near` says.
-pub fn find(blocks: &[Block], near: Spot, tab: u8, key: &[u8]) -> Result<Spot, Spot>
+/// Where a place stands; at Err where it belongs. It looks first where `near` says.
+pub fn find(blocks: &[Block], near: Near, probe: &Probe<'_>) -> Result<Spot, Spot>
     requires { AreSorted blocks.now }
-    ensures there { IfOk result (λ spot. StandsAt blocks.now (tab ∷ key.now) spot.0 spot.1) }
-    ensures gap { IfErr result (λ spot. IsGap blocks.now (tab ∷ key.now) spot.0 spot.1) }
+    ensures there { IfOk result (λ spot. StandsAt blocks.now probe.now spot.0 spot.1) }
+    ensures gap { IfErr result (λ spot. IsGap blocks.now probe.now spot.0 spot.1) }
 {
-    let bound = seek(blocks, near, tab, key);
+    let bound = seek(blocks, near, probe);
     match first_at(blocks, bound) {
         Some(spot) => {
-            if entry_of(blocks, spot).0.compare(tab, key).is_eq() {
+            if entry_of(blocks, spot).0.compare(probe).is_eq() {
                 Ok(spot)
             } else {
                 Err(bound)
@@ -27,15 +32,15 @@ pub fn find(blocks: &[Block], near: Spot, tab: u8, key: &[u8]) -> Result<Spot, S
     }
 }
 
-/// Where the first place stands that isn't below that of a key in a table and has a row. It looks first where `near` says.
-pub fn find_row(blocks: &[Block], near: Spot, tab: u8, key: &[u8]) -> Option<Spot>
+/// Where the first place stands that isn't below the one that is looked for and has a row. It looks first where `near` says.
+pub fn find_row(blocks: &[Block], near: Near, probe: &Probe<'_>) -> Option<Spot>
     requires { AreSorted blocks.now }
     ensures there { IfSome result (λ spot. IsThere blocks.now spot.0 spot.1) }
     ensures row { IfSome result (λ spot. is_some (entry_at (slice_index_or blocks.now spot.0 []) spot.1).1 ≡ true) }
-    ensures first { IfSome result (λ spot. IsRest (joined blocks.now) (after blocks.now spot.0 spot.1) (tab ∷ key.now)) }
-    ensures none { IfNone result (IsRest (joined blocks.now) [] (tab ∷ key.now)) }
+    ensures first { IfSome result (λ spot. IsRest (joined blocks.now) (after blocks.now spot.0 spot.1) probe.now) }
+    ensures none { IfNone result (IsRest (joined blocks.now) [] probe.now) }
 {
-    let mut bound = seek(blocks, near, tab, key);
+    let mut bound = seek(blocks, near, probe);
     while let Some(spot) = first_at(blocks, bound) {
         if entry_of(blocks, spot).1.is_some() {
             return Some(spot);
@@ -45,32 +50,117 @@ pub fn find_row(blocks: &[Block], near: Spot, tab: u8, key: &[u8]) -> Option<Spo
     None
 }
 
-/// Where the first place stands, or would stand, that isn't below that of a key in a table.
-fn seek(blocks: &[Block], near: Spot, tab: u8, key: &[u8]) -> Spot
+/// Where the first place stands, or would stand, that isn't below the one that is looked for.
+fn seek(blocks: &[Block], near: Near, probe: &Probe<'_>) -> Spot
     requires { AreSorted blocks.now }
-    ensures { IsBound blocks.now (tab ∷ key.now) result.0 result.1 }
+    ensures { IsBound blocks.now probe.now result.0 result.1 }
 {
-    if is_above_last(blocks, near, tab, key) && is_within_first(blocks, near, tab, key) {
-        return near;
+    match seek_near(blocks, near.0, probe) {
+        Some(spot) => spot,
+        None => match seek_near(blocks, near.1, probe) {
+            Some(spot) => spot,
+            None => search(blocks, probe),
+        },
     }
-    search(blocks, tab, key)
+}
+
+/// The same where it lies in the block of a spot. It looks at the spot, at the ones beside it, and then at the whole block.
+fn seek_near(blocks: &[Block], spot: Spot, probe: &Probe<'_>) -> Option<Spot>
+    requires { AreSorted blocks.now }
+    ensures { IfSome result (λ at. IsBound blocks.now probe.now at.0 at.1) }
+{
+    match there_or_last(blocks, spot) {
+        Some(spot) => match entry_of(blocks, spot).0.compare(probe) {
+            Ordering::Less => seek_behind(blocks, spot, probe),
+            Ordering::Equal => Some(spot),
+            Ordering::Greater => seek_before(blocks, spot, probe),
+        },
+        None => None,
+    }
+}
+
+/// The spot, or the last one of its block where it lies behind.
+fn there_or_last(blocks: &[Block], spot: Spot) -> Option<Spot>
+    requires { HaveEntries blocks.now }
+    ensures there { IfSome result (λ at. IsThere blocks.now at.0 at.1) }
+    ensures small { IfSome result (λ at. at.1 < 2 ^ 64 - 1) }
+{
+    if spot.0 >= blocks.len() {
+        return None;
+    }
+    let last = block_at(blocks, spot.0).len().saturating_sub(1);
+    Some((spot.0, spot.1.min(last)))
+}
+
+/// The same where the one at the spot is below it.
+fn seek_behind(blocks: &[Block], spot: Spot, probe: &Probe<'_>) -> Option<Spot>
+    requires sorted { AreSorted blocks.now }
+    requires there { IsThere blocks.now spot.0 spot.1 }
+    requires small { spot.1 < 2 ^ 64 - 1 }
+    requires below { bytes_cmp (entry_at (slice_index_or blocks.now spot.0 []) spot.1).0 probe.now ≡ Less }
+    ensures { IfSome result (λ at. IsBound blocks.now probe.now at.0 at.1) }
+{
+    let behind = (spot.0, spot.1 + 1);
+    if is_within_first(blocks, behind, probe) {
+        return Some(behind);
+    }
+    seek_in(blocks, spot.0, probe)
+}
+
+/// The same where the one at the spot is above it.
+fn seek_before(blocks: &[Block], spot: Spot, probe: &Probe<'_>) -> Option<Spot>
+    requires sorted { AreSorted blocks.now }
+    requires there { IsThere blocks.now spot.0 spot.1 }
+    requires above { bytes_cmp (entry_at (slice_index_or blocks.now spot.0 []) spot.1).0 probe.now ≡ Greater }
+    ensures { IfSome result (λ at. IsBound blocks.now probe.now at.0 at.1) }
+{
+    if is_above_last(blocks, spot, probe) {
+        return Some(spot);
+    }
+    seek_in(blocks, spot.0, probe)
+}
+
+/// The same by halves in a block, where the place belongs there.
+fn seek_in(blocks: &[Block], at: usize, probe: &Probe<'_>) -> Option<Spot>
+    requires sorted { AreSorted blocks.now }
+    requires block { at < length blocks.now }
+    ensures { IfSome result (λ at. IsBound blocks.now probe.now at.0 at.1) }
+{
+    if !is_block_for(blocks, at, probe) {
+        return None;
+    }
+    Some((at, block_at(blocks, at).lower_bound(probe)))
+}
+
+/// Whether a place belongs in a block.
+fn is_block_for(blocks: &[Block], at: usize, probe: &Probe<'_>) -> bool
+    requires { at < length blocks.now }
+    ensures { result ≡ true → IsBlockFor blocks.now probe.now at }
+{
+    if at > 0 && !block_at(blocks, at).starts_within(probe) {
+        return false;
+    }
+    if at + 1 >= blocks.len() {
+        return true;
+    }
+    !block_at(blocks, at + 1).starts_within(probe)
 }
 
 /// The same by halves: first the block, and then the index in it.
-fn search(blocks: &[Block], tab: u8, key: &[u8]) -> Spot
+fn search(blocks: &[Block], probe: &Probe<'_>) -> Spot
     requires { AreSorted blocks.now }
-    ensures { IsBound blocks.now (tab ∷ key.now) result.0 result.1 }
+    ensures { IsBound blocks.now probe.now result.0 result.1 }
 {
     let above = blocks.partition_point(
         |block: &Block| -> bool
-            ensures { result ≡ starts_within (tab ∷ key.entry.now) block.now }
-        { block.starts_within(tab, key) },
+            ensures { result ≡ starts_within probe.entry.now block.now }
+        { block.starts_within(probe) },
     );
     let at = above.saturating_sub(1);
     if at >= blocks.len() {
         return (0, 0);
     }
-    (at, block_at(blocks, at).lower_bound(tab, key))
+    (at, block_at(blocks, at).lower_bound(probe))
 }
 
 /// A block.
@@ -89,14 +179,14 @@ pub fn entry_of(blocks: &[Block], spot: Spot) -> &Entry
     block_at(blocks, spot.0).entry(spot.1)
 }
 
-/// Whether a place of the same block stands before this spot, and the last one is below that of a key in a table.
-fn is_above_last(blocks: &[Block], spot: Spot, tab: u8, key: &[u8]) -> bool
+/// Whether a place of the same block stands before this spot, and the last one is below the one that is looked for.
+fn is_above_last(blocks: &[Block], spot: Spot, probe: &Probe<'_>) -> bool
     requires { AreSorted blocks.now }
     ensures within { result ≡ true → (spot.0 < length blocks.now) × (spot.1 ≤ length (slice_index_or blocks.now spot.0 [])) }
-    ensures below { result ≡ true → AreBelow (tab ∷ key.now) (before blocks.now spot.0 spot.1) }
+    ensures below { result ≡ true → AreBelow probe.now (before blocks.now spot.0 spot.1) }
 {
     match last_before(blocks, spot) {
-        Some(entry) => entry.0.compare(tab, key).is_lt(),
+        Some(entry) => entry.0.compare(probe).is_lt(),
         None => false,
     }
 }
@@ -116,13 +206,13 @@ fn last_before(blocks: &[Block], spot: Spot) -> Option<&Entry>
     Some(block.entry(spot.1 - 1))
 }
 
-/// Whether no place from this spot on is below that of a key in a table.
-fn is_within_first(blocks: &[Block], spot: Spot, tab: u8, key: &[u8]) -> bool
+/// Whether no place from this spot on is below the one that is looked for.
+fn is_within_first(blocks: &[Block], spot: Spot, probe: &Probe<'_>) -> bool
     requires { AreSorted blocks.now }
-    ensures { result ≡ true → NoneBelow (tab ∷ key.now) (after blocks.now spot.0 spot.1) }
+    ensures { result ≡ true → NoneBelow probe.now (after blocks.now spot.0 spot.1) }
 {
     match first_at(blocks, spot) {
-        Some(there) => entry_of(blocks, there).0.compare(tab, key).is_ge(),
+        Some(there) => entry_of(blocks, there).0.compare(probe).is_ge(),
         None => true,
     }
 }

@@ -2,8 +2,11 @@
 #![tactic(auto)]
 
 mod block;
+mod bytes;
 mod changes;
+mod cursors;
 mod finding;
+mod head;
 mod keeper;
 mod ledger;
 mod mem;
@@ -13,6 +16,7 @@ mod rows;
 mod store;
 #[cfg(test)]
 mod tests;
+mod words;
 
 pub use keeper::{KeepError, Keeper};
 pub use ledger::Ledger;

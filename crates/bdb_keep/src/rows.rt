@@ -9,18 +9,20 @@ ghost use Rattle.bdb_keep.specs.Blocks.{joined, before, after, AreSorted, HaveEn
 ghost use Rattle.bdb_keep.specs.Tables.{IsLeastFrom, NoneFrom, LieWithin, set_at};
 
 use crate::block::{Block, CAPACITY, Entry};
+use crate::cursors::Cursors;
 use crate::finding::{Spot, block_at, entry_of, find, find_row};
-use crate::place::{Place, Row};
+use crate::place::Row;
+use crate::words::{Probe, Words};
 use std::alloc::{AllocError, Global};
 use std::marker::Model;
 
-/// The rows by place. A place with no row is one whose row was removed in the running transaction. What was done last is
-/// remembered, so that what comes next in the order of the places is found at once.
+/// The rows by place. A place with no row is one whose row was removed in the running transaction. What was used last is
+/// remembered, so that what comes next in the order of the places of a table is found at once.
 #[derive(Drop)]
 pub struct Rows {
     alloc: Global,
     blocks: Vec<Block>,
-    near: Spot,
+    cursors: Cursors,
 }
 
 impl Model for Rows {
@@ -42,7 +44,7 @@ impl Rows {
         Rows {
             alloc,
             blocks: Vec::new(alloc),
-            near: (0, 0),
+            cursors: Cursors::new(),
         }
     }
 
@@ -51,70 +53,61 @@ impl Rows {
         self.blocks.len()
     }
 
-    /// What stands at the place of a key in a table.
-    pub fn get(&self, tab: u8, key: &[u8]) -> Option<&Option<Row>>
-        ensures { option_copied result ≡ place_at self.now (tab ∷ key.now) }
+    /// What stands at a place.
+    pub fn get(&self, probe: &Probe<'_>) -> Option<&Option<Row>>
+        ensures { option_copied result ≡ place_at self.now probe.now }
     {
-        match find(&self.blocks, self.near, tab, key) {
+        match find(&self.blocks, self.cursors.near(probe.tab()), probe) {
             Ok(spot) => Some(&entry_of(&self.blocks, spot).1),
             Err(_) => None,
         }
     }
 
-    /// Puts what stands at the place of a key in a table, and answers what stood there. The answer is the new row where there
+    /// Puts what stands at a place, and answers what stood there. The answer is the new row where there
     /// is no such place.
-    pub fn swap(
-        &mut self,
-        tab: u8,
-        key: &[u8],
-        row: Option<Row>,
-    ) -> Result<Option<Row>, Option<Row>>
-        ensures found { IfOk result (λ before. place_at self.old (tab ∷ key.now) ≡ Some before) }
-        ensures set { OnOk result (IsSetAt self.old self.new (tab ∷ key.now) (Some row)) }
-        ensures absent { OnErr result (place_at self.old (tab ∷ key.now) ≡ None) }
+    pub fn swap(&mut self, probe: &Probe<'_>, row: Option<Row>) -> Result<Option<Row>, Option<Row>>
+        ensures found { IfOk result (λ before. place_at self.old probe.now ≡ Some before) }
+        ensures set { OnOk result (IsSetAt self.old self.new probe.now (Some row)) }
+        ensures absent { OnErr result (place_at self.old probe.now ≡ None) }
         ensures back { IfErr result (λ back. back ≡ row) }
         ensures same { OnErr result (self.new ≡ self.old) }
     {
-        match find(&self.blocks, self.near, tab, key) {
+        match find(&self.blocks, self.cursors.near(probe.tab()), probe) {
             Ok(spot) => {
-                self.near = after_spot(spot);
+                self.cursors.remember(probe.tab(), spot);
                 Ok(replace_at(&mut self.blocks, spot, row))
             }
             Err(_) => Err(row),
         }
     }
 
-    /// Puts a row at the place of a key in a table, which may be new, and answers what stood there: at Some what the place
+    /// Puts a row at a place, which may be new, and answers what stood there: at Some what the place
     /// had, at None nothing.
-    pub fn insert(
-        &mut self,
-        tab: u8,
-        key: &[u8],
-        row: Row,
-    ) -> Result<Option<Option<Row>>, AllocError>
-        ensures found { IfOk result (λ before. place_at self.old (tab ∷ key.now) ≡ before) }
-        ensures set { OnOk result (IsSetAt self.old self.new (tab ∷ key.now) (Some (Some row))) }
+    pub fn insert(&mut self, probe: &Probe<'_>, row: Row) -> Result<Option<Option<Row>>, AllocError>
+        ensures found { IfOk result (λ before. place_at self.old probe.now ≡ before) }
+        ensures set { OnOk result (IsSetAt self.old self.new probe.now (Some (Some row))) }
         ensures err { OnErr result (self.new ≡ self.old) }
     {
-        match find(&self.blocks, self.near, tab, key) {
+        match find(&self.blocks, self.cursors.near(probe.tab()), probe) {
             Ok(spot) => {
-                self.near = after_spot(spot);
+                self.cursors.remember(probe.tab(), spot);
                 Ok(Some(replace_at(&mut self.blocks, spot, Some(row))))
             }
             Err(spot) => {
-                let spot = add(self.alloc, &mut self.blocks, spot, tab, key, row)?;
-                self.near = after_spot(spot);
+                let rises = is_behind(self.cursors.near(probe.tab()).0, spot);
+                let spot = add(self.alloc, &mut self.blocks, spot, rises, probe, row)?;
+                self.cursors.remember(probe.tab(), spot);
                 Ok(None)
             }
         }
     }
 
     /// Takes a place away where it is empty.
-    pub fn drop_empty(&mut self, tab: u8, key: &[u8])
+    pub fn drop_empty(&mut self, probe: &Probe<'_>)
         ensures { rows_of self.new ≡ rows_of self.old }
     {
-        match self.get(tab, key) {
-            Some(None) => self.remove(tab, key),
+        match self.get(probe) {
+            Some(None) => self.remove(probe),
             Some(Some(_)) => {}
             None => {}
         }
@@ -129,30 +122,34 @@ impl Rows {
     }
 
     /// Takes a place away, with what stands there.
-    pub fn remove(&mut self, tab: u8, key: &[u8])
-        ensures set { IsSetAt self.old self.new (tab ∷ key.now) None }
-        ensures rows { rows_of self.new ≡ map.remove (rows_of self.old) (tab ∷ key.now) }
+    pub fn remove(&mut self, probe: &Probe<'_>)
+        ensures set { IsSetAt self.old self.new probe.now None }
+        ensures rows { rows_of self.new ≡ map.remove (rows_of self.old) probe.now }
     {
-        match find(&self.blocks, self.near, tab, key) {
-            Ok(spot) => take_out(&mut self.blocks, spot),
+        match find(&self.blocks, self.cursors.near(probe.tab()), probe) {
+            Ok(spot) => {
+                self.cursors.remember(probe.tab(), spot);
+                take_out(&mut self.blocks, spot);
+            }
             Err(_) => {}
         }
     }
 }
 
 impl Rows {
-    /// Reads the row at a key of a table.
-    pub fn read(&mut self, tab: u8, key: &[u8], row: &mut Vec<u8>) -> Result<bool, AllocError>
-        ensures found { IfOk result (λ found. map.get (rows_of self.old) (tab ∷ key.now) ≡ (if found then Some row.new.items else None)) }
+    /// Reads the row at a place.
+    pub fn read(&mut self, probe: &Probe<'_>, row: &mut Vec<u8>) -> Result<bool, AllocError>
+        ensures found { IfOk result (λ found. map.get (rows_of self.old) probe.now ≡ (if found then Some row.new.items else None)) }
         ensures empty { IfOk result (λ found. found ≡ false → row.new.items ≡ []) }
         ensures same { self.new ≡ self.old }
     {
-        match find(&self.blocks, self.near, tab, key) {
+        match find(&self.blocks, self.cursors.near(probe.tab()), probe) {
             Ok(spot) => {
-                self.near = after_spot(spot);
+                self.cursors.remember(probe.tab(), spot);
                 copy_row(&entry_of(&self.blocks, spot).1, row)
             }
-            Err(_) => {
+            Err(spot) => {
+                self.cursors.remember(probe.tab(), spot);
                 row.clear();
                 Ok(false)
             }
@@ -173,9 +170,10 @@ impl Rows {
         ensures empty { IfOk result (λ found. found ≡ false → (key.new.items ≡ []) × (row.new.items ≡ [])) }
         ensures same { self.new ≡ self.old }
     {
-        match find_row(&self.blocks, self.near, tab, low) {
+        let probe = Probe::of(tab, low);
+        match find_row(&self.blocks, self.cursors.near(tab), &probe) {
             Some(spot) => {
-                self.near = after_spot(spot);
+                self.cursors.remember(tab, spot);
                 give(tab, entry_of(&self.blocks, spot), key, row)
             }
             None => {
@@ -186,12 +184,12 @@ impl Rows {
         }
     }
 
-    /// The row at a key of a table, if there is one.
+    /// The row at a place, if there is one.
     #[tactic(auto, using(crate::proofs::RowsLemmas::get_rows_of))]
-    pub fn row_at(&self, tab: u8, key: &[u8]) -> Option<&[u8]>
-        ensures { option_map (λ row. row.now) result ≡ map.get (rows_of self.now) (tab ∷ key.now) }
+    pub fn row_at(&self, probe: &Probe<'_>) -> Option<&[u8]>
+        ensures { option_map (λ row. row.now) result ≡ map.get (rows_of self.now) probe.now }
     {
-        match self.get(tab, key) {
+        match self.get(probe) {
             Some(Some(row)) => Some(row.as_slice()),
             Some(None) => None,
             None => None,
@@ -228,10 +226,10 @@ fn has_same(others: &Rows, entry: &Entry) -> bool
     ensures { IsTrue result ↔ IsAmong (rows_of others.now) entry.now }
 {
     let (place, row) = entry;
-    let (tab, key) = place.parts();
+    let probe = place.probe();
     match row {
         None => true,
-        Some(bytes) => match others.get(tab, key) {
+        Some(bytes) => match others.get(&probe) {
             Some(Some(other)) => *bytes.as_slice() == *other.as_slice(),
             Some(None) => false,
             None => false,
@@ -263,23 +261,17 @@ fn give(tab: u8, entry: &Entry, key: &mut Vec<u8>, row: &mut Vec<u8>) -> Result<
     key.clear();
     row.clear();
     let (place, found) = entry;
-    let (first, rest) = place.parts();
     match found {
         Some(bytes) => {
-            if first != tab {
+            if place.write_key(key)? != tab {
+                key.clear();
                 return Ok(false);
             }
-            key.extend_from_slice(rest)?;
             row.extend_from_slice(bytes.as_slice())?;
             Ok(true)
         }
         None => Ok(false),
     }
-}
-
-/// The spot behind a spot.
-fn after_spot(spot: Spot) -> Spot {
-    (spot.0, spot.1.saturating_add(1))
 }
 
 /// Puts another row where a place stands, and answers the one that stood there.
@@ -293,34 +285,35 @@ fn replace_at(blocks: &mut Vec<Block>, spot: Spot, row: Option<Row>) -> Option<R
     blocks[spot.0].replace(spot.1, row)
 }
 
-/// Adds a place that stands nowhere where it belongs, and answers where it stands.
+/// Adds a place that stands nowhere where it belongs, and answers where it stands. `rises` tells that it comes right behind the one
+/// that was used last.
 fn add(
     alloc: Global,
     blocks: &mut Vec<Block>,
     spot: Spot,
-    tab: u8,
-    key: &[u8],
+    rises: bool,
+    probe: &Probe<'_>,
     row: Row,
 ) -> Result<Spot, AllocError>
     requires sorted { AreSorted blocks.old.items }
-    requires gap { IsGap blocks.old.items (tab ∷ key.now) spot.0 spot.1 }
+    requires gap { IsGap blocks.old.items probe.now spot.0 spot.1 }
     ensures sorted { AreSorted blocks.new.items }
-    ensures ok { OnOk result (joined blocks.new.items ≡ before blocks.old.items spot.0 spot.1 ++ (tab ∷ key.now, Some row) ∷ after blocks.old.items spot.0 spot.1) }
+    ensures ok { OnOk result (joined blocks.new.items ≡ before blocks.old.items spot.0 spot.1 ++ (probe.now, Some row) ∷ after blocks.old.items spot.0 spot.1) }
     ensures err { OnErr result (joined blocks.new.items ≡ joined blocks.old.items) }
 {
-    let place = Place::of(alloc, tab, key)?;
+    let place = Words::of(alloc, probe)?;
     if blocks.is_empty() {
         let block = Block::of(alloc, place, row)?;
         blocks.push(block)?;
         return Ok(spot);
     }
-    let spot = make_room(blocks, spot)?;
+    let spot = make_room(blocks, spot, rises)?;
     blocks[spot.0].insert(spot.1, place, row)?;
     Ok(spot)
 }
 
 /// Cuts a full block in two, and answers where the spot is then.
-fn make_room(blocks: &mut Vec<Block>, spot: Spot) -> Result<Spot, AllocError>
+fn make_room(blocks: &mut Vec<Block>, spot: Spot, rises: bool) -> Result<Spot, AllocError>
     requires sorted { AreSorted blocks.old.items }
     requires block { spot.0 < length blocks.old.items }
     requires index { spot.1 ≤ length (slice_index_or blocks.old.items spot.0 []) }
@@ -334,7 +327,7 @@ fn make_room(blocks: &mut Vec<Block>, spot: Spot) -> Result<Spot, AllocError>
     if block_at(blocks, spot.0).len() < CAPACITY {
         return Ok(spot);
     }
-    let middle = middle_for(spot.1);
+    let middle = middle_for(spot.1, rises);
     cut_block(blocks, spot.0, middle)?;
     if spot.1 <= middle {
         Ok(spot)
@@ -358,16 +351,23 @@ fn cut_block(blocks: &mut Vec<Block>, at: usize, middle: usize) -> Result<(), Al
     }
 }
 
-/// Where a full block is cut: in the middle, or before its last place where one comes in at the end, so that places that come
-/// in their order leave full blocks.
-fn middle_for(index: usize) -> usize
-    ensures { (1 ≤ result) × (result < 64) }
+/// Where a full block is cut: in the middle; but where places come in their order, right behind the new one, so that they leave full
+/// blocks.
+fn middle_for(index: usize, rises: bool) -> usize
+    ensures { (1 ≤ result) × (result < 128) }
 {
-    if index < CAPACITY {
-        CAPACITY / 2
-    } else {
+    if index >= CAPACITY {
         CAPACITY - 1
+    } else if rises && index > 0 {
+        index
+    } else {
+        CAPACITY / 2
     }
+}
+
+/// Whether a spot is the one right behind another in its block.
+fn is_behind(last: Spot, spot: Spot) -> bool {
+    spot.0 == last.0 && spot.1 == last.1.saturating_add(1)
 }
 
 /// Takes an entry out, and its block where that is then empty.

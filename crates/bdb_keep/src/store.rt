@@ -8,6 +8,7 @@ ghost use Rattle.bdb_keep.specs.Tables.{IsLeastFrom, NoneFrom};
 use crate::changes::{Change, count_rows_before, insert_row, put_row, roll_back, settle, take_row};
 use crate::place::{Place, Row};
 use crate::rows::Rows;
+use crate::words::Probe;
 use std::alloc::{AllocError, Global};
 use std::marker::Model;
 
@@ -53,7 +54,7 @@ impl Store {
         ensures empty { IfOk result (λ found. found ≡ false → row.new.items ≡ []) }
         ensures same { self.new ≡ self.old }
     {
-        self.rows.read(tab, key, row)
+        self.rows.read(&Probe::of(tab, key), row)
     }
 
     /// Reads the least key that isn't below `low`, and its row.
@@ -122,7 +123,7 @@ impl Store {
         let emptied = count_rows_before(&self.changes);
         settle(&mut self.rows, &mut self.changes, emptied);
         let copy = Row::of(self.alloc, row)?;
-        insert_row(&mut self.rows, tab, key, copy)?;
+        insert_row(&mut self.rows, &Probe::of(tab, key), copy)?;
         Ok(())
     }
 
@@ -132,7 +133,7 @@ impl Store {
     {
         let emptied = count_rows_before(&self.changes);
         settle(&mut self.rows, &mut self.changes, emptied);
-        self.rows.remove(tab, key);
+        self.rows.remove(&Probe::of(tab, key));
     }
 
     /// Whether both stores have the same rows. It takes no memory.
@@ -165,7 +166,7 @@ impl Store {
         requires { at < length self.now.changes }
         ensures { IfSome (slice_get self.now.changes at) (λ place. option_map (λ row. row.now) result ≡ map.get self.now.kept place) }
     {
-        let (tab, key) = self.changes[at].place.parts();
-        self.rows.row_at(tab, key)
+        let probe = self.changes[at].place.probe();
+        self.rows.row_at(&probe)
     }
 }

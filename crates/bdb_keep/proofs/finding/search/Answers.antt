@@ -12,7 +12,7 @@ lower_bound-requires c =
 
 pub returns : goal.returns
 returns c =
-    let q = c.args.tab ∷ c.args.key.now in
+    let q = c.args.probe.now in
     let bs = c.args.blocks.now in
     let h : c.saturating_sub-at.result < length c.args.blocks.now = omega arith in
     let point = c.partition_point-above.ensures.partitioned (starts_within q) (always_returns_same _ _ _ (λ a r f k. search (rules, of_calls))) (starts-parted q bs c.requires.ascends c.requires.full) in

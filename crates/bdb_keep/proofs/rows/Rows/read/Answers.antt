@@ -9,7 +9,7 @@ use Rattle.bdb_keep.proofs.rows.Rows.read.Goals as goal
 
 pub returns-in-Ok-clause-found : goal.returns-in-Ok-clause-found
 returns-in-Ok-clause-found c =
-    let q = c.args.tab ∷ c.args.key.now in
+    let q = c.args.probe.now in
     let stands : StandsAt c.self.inside.blocks.items q c.in-Ok.spot.0 c.in-Ok.spot.1 = subst (λ bs. StandsAt bs q c.in-Ok.spot.0 c.in-Ok.spot.1) c.deref.ensures.value c.in-Ok.ensures.there in
     let entry : c.entry_of.result.now ≡ entry_at (get_or c.self.inside.blocks.items c.in-Ok.spot.0 []) c.in-Ok.spot.1 =
     c.entry_of.ensures ∙ ap (λ bs. entry_at (get_or bs c.in-Ok.spot.0 []) c.in-Ok.spot.1) c.deref-in-Ok.ensures.value in
@@ -19,6 +19,6 @@ returns-in-Ok-clause-found c =
 
 pub returns-in-Err-clause-found : goal.returns-in-Err-clause-found
 returns-in-Err-clause-found c =
-    let q = c.args.tab ∷ c.args.key.now in
-    let gap : IsGap c.self.inside.blocks.items q c.in-Err.field-0.0 c.in-Err.field-0.1 = subst (λ bs. IsGap bs q c.in-Err.field-0.0 c.in-Err.field-0.1) c.deref.ensures.value c.in-Err.ensures.gap in
-    get_rows_of c.args.self.now q ∙ ap (λ es. row_of (place_at es q)) (sym c.self.view_is) ∙ ap row_of (place_at-gap c.self.inside.blocks.items q c.in-Err.field-0.0 c.in-Err.field-0.1 gap)
+    let q = c.args.probe.now in
+    let gap : IsGap c.self.inside.blocks.items q c.in-Err.spot.0 c.in-Err.spot.1 = subst (λ bs. IsGap bs q c.in-Err.spot.0 c.in-Err.spot.1) c.deref.ensures.value c.in-Err.ensures.gap in
+    get_rows_of c.args.self.now q ∙ ap (λ es. row_of (place_at es q)) (sym c.self.view_is) ∙ ap row_of (place_at-gap c.self.inside.blocks.items q c.in-Err.spot.0 c.in-Err.spot.1 gap)

@@ -7,7 +7,7 @@ use Rattle.bdb_keep.proofs.rows.Rows.remove.Goals as goal
 
 pub returns-in-Ok : goal.returns-in-Ok
 returns-in-Ok c =
-    let q = c.args.tab ∷ c.args.key.now in
+    let q = c.args.probe.now in
     let stands : StandsAt c.self.inside.blocks.items q c.in-Ok.spot.0 c.in-Ok.spot.1 = subst (λ bs. StandsAt bs q c.in-Ok.spot.0 c.in-Ok.spot.1) c.deref.ensures.value c.in-Ok.ensures.there in
     let taken : IsSetAt c.args.self.now (joined c.take_out.new.blocks.items) q None =
     subst (λ es. IsSetAt es (joined c.take_out.new.blocks.items) q None) c.self.view_is
@@ -16,7 +16,7 @@ returns-in-Ok c =
 
 pub returns-in-Err : goal.returns-in-Err
 returns-in-Err c =
-    let q = c.args.tab ∷ c.args.key.now in
+    let q = c.args.probe.now in
     let gap : IsGap c.self.inside.blocks.items q c.in-Err.field-0.0 c.in-Err.field-0.1 = subst (λ bs. IsGap bs q c.in-Err.field-0.0 c.in-Err.field-0.1) c.deref.ensures.value c.in-Err.ensures.gap in
     let absent : IsSetAt c.args.self.now c.args.self.now q None =
     subst (λ es. IsSetAt es es q None) c.self.view_is (set-absent (joined c.self.inside.blocks.items) q (place_at-gap c.self.inside.blocks.items q c.in-Err.field-0.0 c.in-Err.field-0.1 gap)) in

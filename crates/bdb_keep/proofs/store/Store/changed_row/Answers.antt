@@ -12,7 +12,7 @@ returns c =
     let s : slice_get c.args.self.now.changes c.args.at ≡ Some c.index.result.now.place =
     sym (ap (λ h. slice_get h.changes c.args.at) c.self.view_is) ∙ slice_get-places_of c.self.inside.changes.items c.args.at c.index.result.now h c.index.ensures in
     subst (λ o. IfSome o (λ place. option_map (λ row. row.now) c.row_at.result ≡ map.get c.args.self.now.kept place)) (sym s)
-    (c.row_at.ensures ∙ ap (map.get (rows_of c.self.inside.rows)) (sym c.parts-tab.ensures) ∙ ap (λ h. map.get h.kept c.index.result.now.place) c.self.view_is)
+    (c.row_at.ensures ∙ ap (map.get (rows_of c.self.inside.rows)) c.probe-probe.ensures ∙ ap (λ h. map.get h.kept c.index.result.now.place) c.self.view_is)
 
 pub index-requires : goal.index-requires
 index-requires c =

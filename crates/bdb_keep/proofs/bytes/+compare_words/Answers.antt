@@ -1,5 +1,5 @@
 use Rattle.bdb_keep.proofs.Numbers.{words_apart}
-use Rattle.bdb_keep.proofs.place.+compare_words.Goals as goal
+use Rattle.bdb_keep.proofs.bytes.+compare_words.Goals as goal
 
 pub returns-else-x-y : goal.returns-else-x-y
 returns-else-x-y t c =

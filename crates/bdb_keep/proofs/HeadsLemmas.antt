@@ -1,0 +1,198 @@
+-- Lemmas on places as numbers.
+use Rattle.std.proofs.Common.{◌≡◌, ℕ, zero, suc, ◌+◌, ◌<◌, ◌^◌, List, [], ◌∷◌, ◌++◌, length, take, drop, get_or, Ordering, Less, Equal, Greater, true, false, refl, sym, ap, ◌∙◌, subst, arith, append-nil, append_assoc, drop-drop, take_all, length-take-le, inl, inr}
+use Rattle.std.specs.Ordering.{nat_cmp, ordering_then, ordering_reverse, is_le}
+use Rattle.std.specs.Int.{w64, to_be_bytes}
+use Rattle.std.proofs.lemmas.Cmp.{nat_list_cmp_total, tied_itself}
+use Rattle.std.specs.Prelude.{min}
+use Rattle.std.proofs.lemmas.Bool.{cases_lt}
+use Rattle.std.proofs.lemmas.Map.Lookups.{exact_unsigned}
+use Rattle.std.proofs.lemmas.Bool.Decides.{nat_tests}
+use mathlib.Core.Bool.{true≢false}
+use Rattle.bdb_keep.specs.Tables.{bytes_cmp}
+use Rattle.bdb_keep.specs.Heads.{padded, bytes_of, key_of, IsHeadOf, heads_cmp}
+use Rattle.bdb_keep.specs.declared.head.Head.{Head}
+use Rattle.bdb_keep.proofs.Numbers.{less, greater, equal, then_assoc, numbers}
+
+stepped : (m n : ℕ) → nat_cmp (suc m) (suc n) ≡ nat_cmp m n
+stepped m n = grind (arith, nat_tests)
+
+then_less : (r : Ordering) → is_le r ≡ true → ordering_then r Less ≡ Less
+then_less Less h = refl
+then_less Equal h = refl
+then_less Greater h = absurd (true≢false (sym h))
+
+then_greater : (r : Ordering) → is_le r ≡ true → ordering_then (ordering_reverse r) Greater ≡ Greater
+then_greater Less h = refl
+then_greater Equal h = refl
+then_greater Greater h = absurd (true≢false (sym h))
+
+then_equal : (r : Ordering) → ordering_then r Equal ≡ r
+then_equal Less = refl
+then_equal Equal = refl
+then_equal Greater = refl
+
+-- zeros are not above anything
+zeros_le : (n : ℕ) (key : List ℕ) → is_le (bytes_cmp (padded n []) (padded n key)) ≡ true
+zeros_le zero key = refl
+zeros_le (suc n) [] = ap (λ o. is_le (ordering_then o (bytes_cmp (padded n []) (padded n [])))) (equal 0) ∙ zeros_le n []
+zeros_le (suc n) (b ∷ key) = there b (zeros_le n key)
+  where
+    there : (b : ℕ) → is_le (bytes_cmp (padded n []) (padded n key)) ≡ true → is_le (ordering_then (nat_cmp 0 b) (bytes_cmp (padded n []) (padded n key))) ≡ true
+    there zero h = ap (λ o. is_le (ordering_then o (bytes_cmp (padded n []) (padded n key)))) (equal 0) ∙ h
+    there (suc m) h = ap (λ o. is_le (ordering_then o (bytes_cmp (padded n []) (padded n key)))) (less 0 (suc m) (omega arith))
+
+-- keys compare by their padded fronts, then by how many bytes these have, and then by what is behind
+padded_cmp : (n : ℕ) (x y : List ℕ) → bytes_cmp x y
+    ≡ ordering_then (bytes_cmp (padded n x) (padded n y)) (ordering_then (nat_cmp (length (take n x)) (length (take n y))) (bytes_cmp (drop n x) (drop n y)))
+padded_cmp zero [] [] = refl
+padded_cmp zero [] (b ∷ y) = refl
+padded_cmp zero (a ∷ x) [] = refl
+padded_cmp zero (a ∷ x) (b ∷ y) = refl
+padded_cmp (suc n) [] [] = sym (ap (λ o. ordering_then o (ordering_then (nat_cmp 0 0) Equal)) (tied_itself nat_list_cmp_total (padded (suc n) [])))
+padded_cmp (suc n) [] (b ∷ y) =
+    let c = bytes_cmp (padded (suc n) []) (padded (suc n) (b ∷ y)) in
+    sym (ap (λ o. ordering_then c (ordering_then o (bytes_cmp [] (drop n y)))) (less 0 (suc (length (take n y))) (omega arith)) ∙ then_less c (zeros_le (suc n) (b ∷ y)))
+padded_cmp (suc n) (a ∷ x) [] =
+    let c = bytes_cmp (padded (suc n) []) (padded (suc n) (a ∷ x)) in
+    let d = bytes_cmp (padded (suc n) (a ∷ x)) (padded (suc n) []) in
+    sym (ap (λ o. ordering_then d (ordering_then o (bytes_cmp (drop n x) []))) (greater (suc (length (take n x))) 0 (omega arith))
+    ∙ ap (λ o. ordering_then o Greater) (nat_list_cmp_total.antisymm (padded (suc n) (a ∷ x)) (padded (suc n) []))
+    ∙ then_greater c (zeros_le (suc n) (a ∷ x)))
+padded_cmp (suc n) (a ∷ x) (b ∷ y) =
+    let more = ordering_then (nat_cmp (length (take n x)) (length (take n y))) (bytes_cmp (drop n x) (drop n y)) in
+    ap (λ o. ordering_then (nat_cmp a b) o) (padded_cmp n x y)
+    ∙ sym (then_assoc (nat_cmp a b) (bytes_cmp (padded n x) (padded n y)) more)
+    ∙ ap (λ o. ordering_then (ordering_then (nat_cmp a b) (bytes_cmp (padded n x) (padded n y))) (ordering_then o (bytes_cmp (drop n x) (drop n y)))) (sym (stepped (length (take n x)) (length (take n y))))
+
+-- three numbers
+three : (a b c d e f : ℕ) → a < 2 ^ 64 → b < 2 ^ 64 → c < 2 ^ 64 → d < 2 ^ 64 → e < 2 ^ 64 → f < 2 ^ 64
+    → bytes_cmp (to_be_bytes w64 a ++ (to_be_bytes w64 b ++ (to_be_bytes w64 c ++ []))) (to_be_bytes w64 d ++ (to_be_bytes w64 e ++ (to_be_bytes w64 f ++ [])))
+    ≡ ordering_then (nat_cmp a d) (ordering_then (nat_cmp b e) (nat_cmp c f))
+three a b c d e f ha hb hc hd he hf =
+    numbers 8 a d (to_be_bytes w64 b ++ (to_be_bytes w64 c ++ [])) (to_be_bytes w64 e ++ (to_be_bytes w64 f ++ [])) ha hd
+    ∙ ap (λ o. ordering_then (nat_cmp a d) o)
+    (numbers 8 b e (to_be_bytes w64 c ++ []) (to_be_bytes w64 f ++ []) hb he
+    ∙ ap (λ o. ordering_then (nat_cmp b e) o) (numbers 8 c f [] [] hc hf ∙ then_equal (nat_cmp c f)))
+
+regroup : (t f s u n r : Ordering) → ordering_then t (ordering_then (ordering_then f (ordering_then s u)) (ordering_then n r)) ≡ ordering_then (ordering_then t (ordering_then f (ordering_then s (ordering_then u n)))) r
+regroup Less f s u n r = refl
+regroup Greater f s u n r = refl
+regroup Equal Less s u n r = refl
+regroup Equal Greater s u n r = refl
+regroup Equal Equal Less u n r = refl
+regroup Equal Equal Greater u n r = refl
+regroup Equal Equal Equal Less n r = refl
+regroup Equal Equal Equal Greater n r = refl
+regroup Equal Equal Equal Equal n r = refl
+
+-- places compare by their heads, and then by what is behind
+pub by_heads : (x y r s : List ℕ) (a b : Head) → IsHeadOf x a r → IsHeadOf y b s → bytes_cmp (a.tab ∷ x) (b.tab ∷ y) ≡ ordering_then (heads_cmp a b) (bytes_cmp r s)
+by_heads x y r s a b h k =
+    let front : bytes_cmp (padded 24 x) (padded 24 y) ≡ ordering_then (nat_cmp a.first b.first) (ordering_then (nat_cmp a.second b.second) (nat_cmp a.third b.third)) =
+    ap (λ l. bytes_cmp l (padded 24 y)) h.bytes ∙ ap (λ l. bytes_cmp (bytes_of a) l) k.bytes
+    ∙ three a.first a.second a.third b.first b.second b.third h.first_fits h.second_fits h.third_fits k.first_fits k.second_fits k.third_fits in
+    let counts : nat_cmp (length (take 24 x)) (length (take 24 y)) ≡ nat_cmp a.count b.count =
+    ap (λ n. nat_cmp n (length (take 24 y))) (sym h.count) ∙ ap (λ n. nat_cmp a.count n) (sym k.count) in
+    let behind : bytes_cmp (drop 24 x) (drop 24 y) ≡ bytes_cmp r s = ap (λ l. bytes_cmp l (drop 24 y)) (sym h.behind) ∙ ap (λ l. bytes_cmp r l) (sym k.behind) in
+    ap (λ o. ordering_then (nat_cmp a.tab b.tab) o)
+    (padded_cmp 24 x y
+    ∙ ap (λ o. ordering_then o (ordering_then (nat_cmp (length (take 24 x)) (length (take 24 y))) (bytes_cmp (drop 24 x) (drop 24 y)))) front
+    ∙ ap (λ o. ordering_then (ordering_then (nat_cmp a.first b.first) (ordering_then (nat_cmp a.second b.second) (nat_cmp a.third b.third))) (ordering_then o (bytes_cmp (drop 24 x) (drop 24 y)))) counts
+    ∙ ap (λ o. ordering_then (ordering_then (nat_cmp a.first b.first) (ordering_then (nat_cmp a.second b.second) (nat_cmp a.third b.third))) (ordering_then (nat_cmp a.count b.count) o)) behind)
+    ∙ regroup (nat_cmp a.tab b.tab) (nat_cmp a.first b.first) (nat_cmp a.second b.second) (nat_cmp a.third b.third) (nat_cmp a.count b.count) (bytes_cmp r s)
+
+padded_back : (n : ℕ) (key : List ℕ) → take (length (take n key)) (padded n key) ++ drop n key ≡ key
+padded_back zero [] = refl
+padded_back zero (b ∷ key) = refl
+padded_back (suc n) [] = refl
+padded_back (suc n) (b ∷ key) = ap (λ l. b ∷ l) (padded_back n key)
+
+-- the key of its head
+pub key_back : (key rest : List ℕ) (h : Head) → IsHeadOf key h rest → key_of h rest ≡ key
+key_back key rest h i =
+    ap (λ n. take n (bytes_of h) ++ rest) i.count ∙ ap (λ l. take (length (take 24 key)) l ++ rest) (sym i.bytes) ∙ ap (λ l. take (length (take 24 key)) (padded 24 key) ++ l) i.behind ∙ padded_back 24 key
+
+-- what is made of a key is a head of the key that it has
+pub head_itself : (key rest : List ℕ) (h : Head) → IsHeadOf key h rest → IsHeadOf (key_of h rest) h rest
+head_itself key rest h i = subst (λ k. IsHeadOf k h rest) (sym (key_back key rest h i)) i
+
+-- a sum that computes at its first number
+abbrev plus : ℕ → ℕ → ℕ
+plus zero n = n
+plus (suc m) n = suc (plus m n)
+
+padded_more : (m n : ℕ) (key : List ℕ) → padded (plus m n) key ≡ padded m key ++ padded n (drop m key)
+padded_more zero n [] = refl
+padded_more zero n (b ∷ key) = refl
+padded_more (suc m) n [] = ap (λ l. 0 ∷ l) (padded_more m n [] ∙ ap (λ l. padded m [] ++ padded n l) (drop_none m))
+  where
+    drop_none : (m : ℕ) → drop {A = ℕ} m [] ≡ []
+    drop_none zero = refl
+    drop_none (suc m) = refl
+padded_more (suc m) n (b ∷ key) = ap (λ l. b ∷ l) (padded_more m n key)
+
+-- the head of a key by its three words
+pub head_of_words : (key : List ℕ) (h : Head) → h.count ≡ length (take 24 key) → padded 8 key ≡ to_be_bytes w64 h.first → padded 8 (drop 8 key) ≡ to_be_bytes w64 h.second → padded 8 (drop 16 key) ≡ to_be_bytes w64 h.third
+    → h.first < 2 ^ 64 → h.second < 2 ^ 64 → h.third < 2 ^ 64 → IsHeadOf key h (drop 24 key)
+head_of_words key h n a b c i j k = record {
+  bytes = padded_more 8 16 key ∙ ap (λ l. l ++ padded 16 (drop 8 key)) a
+      ∙ ap (λ l. to_be_bytes w64 h.first ++ l)
+      (padded_more 8 8 (drop 8 key) ∙ ap (λ l. l ++ padded 8 (drop 8 (drop 8 key))) b ∙ ap (λ l. to_be_bytes w64 h.second ++ l) (ap (padded 8) (drop-drop 8 8 key) ∙ c ∙ sym (append-nil (to_be_bytes w64 h.third))));
+  count = n;
+  behind = refl;
+  first_fits = i;
+  second_fits = j;
+  third_fits = k;
+}
+
+-- the word of a key with eight bytes, and of one with fewer
+pub word_of_eight : (key rest : List ℕ) (n : ℕ) → key ≡ to_be_bytes w64 n ++ rest → padded 8 key ≡ to_be_bytes w64 n
+word_of_eight key rest n e = ap (padded 8) e
+
+pub word_of_fewer : (key : List ℕ) → length key < 8
+    → padded 8 key ≡ get_or key 0 0 ∷ (get_or key 1 0 ∷ (get_or key 2 0 ∷ (get_or key 3 0 ∷ (get_or key 4 0 ∷ (get_or key 5 0 ∷ (get_or key 6 0 ∷ (0 ∷ [])))))))
+word_of_fewer [] h = refl
+word_of_fewer (a ∷ []) h = refl
+word_of_fewer (a ∷ (b ∷ [])) h = refl
+word_of_fewer (a ∷ (b ∷ (c ∷ []))) h = refl
+word_of_fewer (a ∷ (b ∷ (c ∷ (d ∷ [])))) h = refl
+word_of_fewer (a ∷ (b ∷ (c ∷ (d ∷ (e ∷ []))))) h = refl
+word_of_fewer (a ∷ (b ∷ (c ∷ (d ∷ (e ∷ (f ∷ [])))))) h = refl
+word_of_fewer (a ∷ (b ∷ (c ∷ (d ∷ (e ∷ (f ∷ (g ∷ []))))))) h = refl
+word_of_fewer (a ∷ (b ∷ (c ∷ (d ∷ (e ∷ (f ∷ (g ∷ (i ∷ key)))))))) h = absurd (omega arith)
+
+-- numbers that differ decide, and those that don't leave it to what follows
+pub apart : (m n : ℕ) (r x : Ordering) → (m ≡ n → ⊥) → r ≡ nat_cmp m n → r ≡ ordering_then (nat_cmp m n) x
+apart m n r x d h = h ∙ there (nat_cmp m n) refl
+  where
+    there : (o : Ordering) → nat_cmp m n ≡ o → o ≡ ordering_then o x
+    there Less e = refl
+    there Equal e = absurd (d (exact_unsigned m n e))
+    there Greater e = refl
+
+pub alike : (m n : ℕ) (r x : Ordering) → m ≡ n → r ≡ x → r ≡ ordering_then (nat_cmp m n) x
+alike m n r x e h = h ∙ ap (λ o. ordering_then o x) (sym (ap (λ k. nat_cmp k n) e ∙ equal n))
+
+-- as many bytes as a key has, and at most 24
+pub count_is : (key : List ℕ) (n : ℕ) → n ≡ min (length key) 24 → n ≡ length (take 24 key)
+count_is key n h = elim (cases_lt (length key) 24) [
+  | inl lt ↦ let e = ap length (take_all 24 key (omega arith)) in omega arith
+  | inr le ↦ let e = length-take-le 24 key (omega arith) in omega arith
+]
+
+-- what writing the three numbers one after the other, and cutting, makes
+pub written : (w x y z v a b c : List ℕ) (m n : ℕ) → w ≡ [] → x ≡ w ++ a → y ≡ x ++ b → z ≡ y ++ c → v ≡ take m z → m ≡ n → v ≡ take n (a ++ (b ++ (c ++ [])))
+written w x y z v a b c m n d e f g h i =
+    h ∙ ap (λ k. take k z) i
+    ∙ ap (take n) (g ∙ ap (λ l. l ++ c) (f ∙ ap (λ l. l ++ b) (e ∙ ap (λ l. l ++ a) d)) ∙ append_assoc a b c ∙ ap (λ l. a ++ (b ++ l)) (sym (append-nil c)))
+
+-- how a place and one that is looked for compare, by what is inside them
+pub compared : (p q : List ℕ) (a b : Head) (r s : List ℕ) (o : Ordering) → a.tab ∷ key_of a r ≡ p → b.tab ∷ key_of b s ≡ q → IsHeadOf (key_of a r) a r → IsHeadOf (key_of b s) b s
+    → o ≡ ordering_then (heads_cmp a b) (bytes_cmp r s) → o ≡ bytes_cmp p q
+compared p q a b r s o e f h k d = d ∙ sym (by_heads (key_of a r) (key_of b s) r s a b h k) ∙ ap (λ l. bytes_cmp l (b.tab ∷ key_of b s)) e ∙ ap (bytes_cmp p) f
+
+-- heads that are not equal decide
+pub decided : (r o : Ordering) (x : Ordering) → r ≡ o → (o ≡ Equal → ⊥) → o ≡ ordering_then r x
+decided Less o x e d = sym e
+decided Equal o x e d = absurd (d (sym e))
+decided Greater o x e d = sym e

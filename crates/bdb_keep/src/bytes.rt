@@ -1,0 +1,89 @@
+// Bytes as numbers of eight bytes each, the highest first.
+ghost use Rattle.std.specs.Prelude.{◌≡◌, ◌++◌, ◌-◌, ◌<◌, ◌≤◌, ◌^◌, IfSome, length, drop, slice_index_or};
+ghost use Rattle.std.specs.Int.{w64, to_be_bytes};
+ghost use Rattle.bdb_keep.specs.Tables.{bytes_cmp};
+ghost use Rattle.bdb_keep.specs.Heads.{padded};
+
+use std::cmp::Ordering;
+
+/// The number of the first eight bytes, and the bytes after them.
+#[inline(always)]
+fn number_of(bytes: &[u8]) -> (u64, &[u8])
+    requires { 8 ≤ length bytes.now }
+    ensures front { bytes.now ≡ to_be_bytes w64 result.0 ++ result.1.now }
+    ensures small { result.0 < 2 ^ 64 }
+    ensures left { length result.1.now ≡ length bytes.now - 8 }
+{
+    let (b, rest) = bytes.split_at(8);
+    let n = u64::from_be_bytes([b[0], b[1], b[2], b[3], b[4], b[5], b[6], b[7]]);
+    (n, rest)
+}
+
+/// How two strings of bytes compare, eight bytes at a time as long as both have so many.
+#[tactic(auto, using(crate::proofs::Numbers::words))]
+pub fn compare_words(a: &[u8], b: &[u8]) -> Ordering
+    ensures { result ≡ bytes_cmp a.now b.now }
+{
+    match (word_of(a), word_of(b)) {
+        (Some((x, more)), Some((y, rest))) => {
+            if x == y {
+                compare_words(more, rest)
+            } else {
+                x.cmp(&y)
+            }
+        }
+        _ => a.cmp(&b),
+    }
+}
+
+/// The number of the first eight bytes, where there are so many.
+fn word_of(bytes: &[u8]) -> Option<(u64, &[u8])>
+    ensures front { IfSome result (λ x. bytes.now ≡ to_be_bytes w64 x.0 ++ x.1.now) }
+    ensures small { IfSome result (λ x. x.0 < 2 ^ 64) }
+{
+    if bytes.len() < 8 {
+        return None;
+    }
+    Some(number_of(bytes))
+}
+
+/// The number of the first eight bytes, with zeros behind fewer.
+pub fn padded_word(bytes: &[u8]) -> u64
+    ensures bytes { padded 8 bytes.now ≡ to_be_bytes w64 result }
+    ensures small { result < 2 ^ 64 }
+{
+    if bytes.len() >= 8 {
+        let (number, _) = number_of(bytes);
+        return number;
+    }
+    u64::from_be_bytes([
+        byte_at(bytes, 0),
+        byte_at(bytes, 1),
+        byte_at(bytes, 2),
+        byte_at(bytes, 3),
+        byte_at(bytes, 4),
+        byte_at(bytes, 5),
+        byte_at(bytes, 6),
+        0,
+    ])
+}
+
+/// A byte, or zero where there is none.
+fn byte_at(bytes: &[u8], at: usize) -> u8
+    ensures { result ≡ slice_index_or bytes.now at 0 }
+{
+    match bytes.get(at) {
+        Some(byte) => *byte,
+        None => 0,
+    }
+}
+
+/// The bytes from an index on.
+pub fn from_index(bytes: &[u8], index: usize) -> &[u8]
+    ensures { result.now ≡ drop index bytes.now }
+{
+    if index >= bytes.len() {
+        return &[];
+    }
+    &bytes[index..]
+}

@@ -1,0 +1,84 @@
+// The table and the first bytes of a place, as numbers.
+ghost use Rattle.std.specs.Prelude.{◌≡◌, ◌++◌, OnOk, drop, take};
+ghost use Rattle.std.specs.Int.{w64, to_be_bytes};
+ghost use Rattle.bdb_keep.specs.Heads.{IsHeadOf, bytes_of, heads_cmp, numbers_cmp};
+
+use crate::bytes::{from_index, padded_word};
+use std::alloc::AllocError;
+use std::cmp::Ordering;
+
+/// The table of a place, and the first 24 bytes of its key as three numbers, the highest byte first, with zeros behind the
+/// bytes of a shorter key.
+#[derive(Clone, Copy)]
+pub struct Head {
+    pub tab: u8,
+    /// How many bytes these are.
+    pub count: u8,
+    pub first: u64,
+    pub second: u64,
+    pub third: u64,
+}
+
+impl Head {
+    /// The head of the place of a key in a table.
+    pub fn of(tab: u8, key: &[u8]) -> Self
+        ensures tab { result.tab ≡ tab }
+        ensures head { IsHeadOf key.now result (drop 24 key.now) }
+    {
+        Head {
+            tab,
+            count: key.len().min(24) as u8,
+            first: padded_word(key),
+            second: padded_word(from_index(key, 8)),
+            third: padded_word(from_index(key, 16)),
+        }
+    }
+
+    /// How two heads compare.
+    #[inline(always)]
+    pub fn compare(&self, other: &Head) -> Ordering
+        ensures { result ≡ heads_cmp self.now other.now }
+    {
+        if self.tab != other.tab {
+            return self.tab.cmp(&other.tab);
+        }
+        self.compare_numbers(other)
+    }
+
+    /// How they compare in the same table.
+    #[inline(always)]
+    fn compare_numbers(&self, other: &Head) -> Ordering
+        ensures { result ≡ numbers_cmp self.now other.now }
+    {
+        if self.first != other.first {
+            return self.first.cmp(&other.first);
+        }
+        if self.second != other.second {
+            return self.second.cmp(&other.second);
+        }
+        if self.third != other.third {
+            return self.third.cmp(&other.third);
+        }
+        self.count.cmp(&other.count)
+    }
+
+    /// Writes the bytes of the key.
+    pub fn write(&self, key: &mut Vec<u8>) -> Result<(), AllocError>
+        ensures { OnOk result (key.new.items ≡ take self.now.count (bytes_of self.now)) }
+    {
+        key.clear();
+        write_number(key, self.first)?;
+        write_number(key, self.second)?;
+        write_number(key, self.third)?;
+        key.truncate(usize::from(self.count));
+        Ok(())
+    }
+}
+
+/// Writes the bytes of a number, the highest first.
+fn write_number(key: &mut Vec<u8>, number: u64) -> Result<(), AllocError>
+    ensures { OnOk result (key.new.items ≡ key.old.items ++ to_be_bytes w64 number) }
+{
+    key.extend_from_slice(&number.to_be_bytes())?;
+    Ok(())
+}

@@ -1,0 +1,143 @@
+// Places as numbers.
+ghost use Rattle.std.specs.Prelude.{◌≡◌, ◌∷◌, IfOk};
+ghost use Rattle.bdb_keep.specs.Tables.{bytes_cmp};
+
+use crate::bytes::{compare_words, from_index};
+use crate::head::Head;
+use std::alloc::{AllocError, Global};
+use std::cmp::Ordering;
+use std::marker::Model;
+
+/// The bytes of a key behind those of its head. They take memory only where there are some.
+#[derive(Drop)]
+pub struct Rest {
+    bytes: Option<Box<Vec<u8>>>,
+}
+
+impl Model for Rest {
+    ghost use Rattle.std.specs.Prelude.{ℕ, List, []};
+    ghost use Rattle.std.specs.Option.{option_map, unwrap_or};
+
+    ghost Value = { List ℕ };
+
+    ghost view = { λ r. unwrap_or (option_map (λ b. b.value.items) r.bytes) [] };
+}
+
+impl Rest {
+    /// A copy of these bytes.
+    fn of(alloc: Global, bytes: &[u8]) -> Result<Self, AllocError>
+        ensures { IfOk result (λ rest. rest ≡ bytes.now) }
+    {
+        if bytes.is_empty() {
+            return Ok(Rest { bytes: None });
+        }
+        let copy = Vec::from_slice(alloc, bytes)?;
+        let bytes = Box::new(alloc, copy)?;
+        Ok(Rest { bytes: Some(bytes) })
+    }
+
+    fn as_slice(&self) -> &[u8]
+        ensures { result.now ≡ self.now }
+    {
+        match &self.bytes {
+            Some(bytes) => bytes.as_slice(),
+            None => &[],
+        }
+    }
+}
+
+/// The place of a row as numbers: its head, and the bytes behind. So two places are mostly compared by a few numbers.
+#[derive(Drop)]
+pub struct Words {
+    head: Head,
+    rest: Rest,
+}
+
+impl Model for Words {
+    ghost use Rattle.std.specs.Prelude.{ℕ, List, ◌∷◌};
+    ghost use Rattle.bdb_keep.specs.Heads.{IsHeadOf, key_of};
+
+    ghost Value = { List ℕ };
+
+    ghost view = { λ w. w.head.tab ∷ key_of w.head w.rest };
+
+    ghost invariant = { λ w. IsHeadOf (key_of w.head w.rest) w.head w.rest };
+}
+
+impl Words {
+    /// A place that is a copy of one that is looked for.
+    pub fn of(alloc: Global, probe: &Probe<'_>) -> Result<Self, AllocError>
+        ensures { IfOk result (λ words. words ≡ probe.now) }
+    {
+        let rest = Rest::of(alloc, probe.rest)?;
+        Ok(Words {
+            head: probe.head,
+            rest,
+        })
+    }
+
+    /// The place, to be looked for elsewhere.
+    pub fn probe(&self) -> Probe<'_>
+        ensures { result ≡ self.now }
+    {
+        Probe {
+            head: self.head,
+            rest: self.rest.as_slice(),
+        }
+    }
+
+    /// How the place compares with one that is looked for.
+    #[inline(always)]
+    pub fn compare(&self, probe: &Probe<'_>) -> Ordering
+        ensures { result ≡ bytes_cmp self.now probe.now }
+    {
+        match self.head.compare(&probe.head) {
+            Ordering::Equal => compare_words(self.rest.as_slice(), probe.rest),
+            other => other,
+        }
+    }
+
+    /// Writes the key, and answers the number of the table.
+    pub fn write_key(&self, key: &mut Vec<u8>) -> Result<u8, AllocError>
+        ensures { IfOk result (λ tab. self.now ≡ tab ∷ key.new.items) }
+    {
+        self.head.write(key)?;
+        key.extend_from_slice(self.rest.as_slice())?;
+        Ok(self.head.tab)
+    }
+}
+
+/// A place that is looked for, in the form in which it is compared.
+#[derive(Drop)]
+pub struct Probe<'a> {
+    head: Head,
+    rest: &'a [u8],
+}
+
+impl<'a> Model for Probe<'a> {
+    ghost use Rattle.std.specs.Prelude.{ℕ, List, ◌∷◌};
+    ghost use Rattle.bdb_keep.specs.Heads.{IsHeadOf, key_of};
+
+    ghost Value = { List ℕ };
+
+    ghost view = { λ p. p.head.tab ∷ key_of p.head p.rest.now };
+
+    ghost invariant = { λ p. IsHeadOf (key_of p.head p.rest.now) p.head p.rest.now };
+}
+
+impl<'a> Probe<'a> {
+    /// The place of a key in a table.
+    pub fn of(tab: u8, key: &'a [u8]) -> Self
+        ensures { result ≡ tab ∷ key.now }
+    {
+        Probe {
+            head: Head::of(tab, key),
+            rest: from_index(key, 24),
+        }
+    }
+
+    /// The number of the table.
+    pub fn tab(&self) -> u8 {
+        self.head.tab
+    }
+}
