@@ -3,6 +3,7 @@ pub mod DifferenceLemmas
 pub mod Fitting
 pub mod Held
 pub mod Loops
+pub mod MarkLemmas
 pub mod SameLemmas
 pub mod SignLemmas
 pub mod SpanLemmas

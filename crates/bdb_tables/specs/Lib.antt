@@ -1,6 +1,7 @@
 pub mod Codec
 pub mod Differences
 pub mod Grammar
+pub mod GroupMarks
 pub mod InUse
 pub mod InUseLaws
 pub mod Marks

@@ -13,6 +13,9 @@ use bdb_keep::{KeepError, Keeper};
 use bdb_key::{KeyError, RowError};
 use std::alloc::{AllocError, Global};
 
+/// Most keys and rows have at most as many bytes.
+pub const USUAL_LENGTH: usize = 64;
+
 /// The row at a key. None exactly where there is no such row. One read.
 pub fn get<T: Tab, K: Keeper>(
     alloc: Global,
@@ -22,11 +25,12 @@ pub fn get<T: Tab, K: Keeper>(
     requires grammar { TableFits T.codec (K.seen keeper.old).kept }
     requires key { T.codec.MayBeKey key.now }
     ensures found { IfOk result (HasAt T.codec (K.seen keeper.old).kept key.now) }
+    ensures key_fits { OnOk result (T.codec.IsKey key.now) }
     ensures reads { OnOk result (RoseBy 1 (K.seen keeper.old).reads (K.seen keeper.new).reads) }
     ensures read { IsRead (K.seen keeper.old) (K.seen keeper.new) result TabError.Fault }
 {
     let mut bytes = Vec::new(alloc);
-    if T::key_bytes(key, &mut bytes).is_err() {
+    if spell_key::<T>(key, &mut bytes).is_err() {
         keeper.undo();
         return Err(TabError::Memory);
     }
@@ -58,7 +62,7 @@ pub fn next<T: Tab, K: Keeper>(
     ensures read { IsRead (K.seen keeper.old) (K.seen keeper.new) result TabError.Fault }
 {
     let mut bytes = Vec::new(alloc);
-    if T::key_bytes(low, &mut bytes).is_err() {
+    if spell_key::<T>(low, &mut bytes).is_err() {
         keeper.undo();
         return Err(TabError::Memory);
     }
@@ -104,7 +108,9 @@ pub fn put<T: Tab, K: Keeper>(
 {
     let mut key_bytes = Vec::new(alloc);
     let mut row_bytes = Vec::new(alloc);
-    if T::key_bytes(key, &mut key_bytes).is_err() || T::row_bytes(row, &mut row_bytes).is_err() {
+    if spell_key::<T>(key, &mut key_bytes).is_err()
+        || spell_row::<T>(row, &mut row_bytes).is_err()
+    {
         keeper.undo();
         return Err(TabError::Memory);
     }
@@ -130,7 +136,7 @@ pub fn drop_row<T: Tab, K: Keeper>(
     ensures write { IsWrite (K.seen keeper.old) (K.seen keeper.new) result TabError.Fault }
 {
     let mut bytes = Vec::new(alloc);
-    if T::key_bytes(key, &mut bytes).is_err() {
+    if spell_key::<T>(key, &mut bytes).is_err() {
         keeper.undo();
         return Err(TabError::Memory);
     }
@@ -173,8 +179,30 @@ fn behind<T: Tab>(key: &T::Key, out: &mut Vec<u8>) -> Result<(), AllocError>
     ensures ok { OnOk result (out.new.items ≡ out.old.items ++ T.codec.key_bytes key.now ++ 0 ∷ []) }
     ensures fits { OnOk result (T.codec.IsKey key.now) }
 {
-    T::key_bytes(key, out)?;
+    spell_key::<T>(key, out)?;
     out.push(0)?;
+    Ok(())
+}
+
+// Appends the bytes of a key, with room made once.
+pub fn spell_key<T: Tab>(key: &T::Key, out: &mut Vec<u8>) -> Result<(), AllocError>
+    requires { T.codec.MayBeKey key.now }
+    ensures ok { OnOk result (out.new.items ≡ out.old.items ++ T.codec.key_bytes key.now) }
+    ensures fits { OnOk result (T.codec.IsKey key.now) }
+{
+    out.reserve(USUAL_LENGTH)?;
+    T::key_bytes(key, out)?;
+    Ok(())
+}
+
+// Appends the bytes of a row, with room made once.
+pub fn spell_row<T: Tab>(row: &T::Row, out: &mut Vec<u8>) -> Result<(), AllocError>
+    requires { T.codec.MayBeRow row.now }
+    ensures ok { OnOk result (out.new.items ≡ out.old.items ++ T.codec.row_bytes row.now) }
+    ensures fits { OnOk result (T.codec.IsRow row.now) }
+{
+    out.reserve(USUAL_LENGTH)?;
+    T::row_bytes(row, out)?;
     Ok(())
 }
 

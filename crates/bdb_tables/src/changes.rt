@@ -6,7 +6,7 @@ ghost use Rattle.bdb_keep.specs.Calls.{IsWrite};
 ghost use Rattle.bdb_tables.specs.Grammar.{InGrammar};
 ghost use Rattle.bdb_tables.specs.Writes.{IsChange, MayBeChange, with_change, with_changes};
 
-use crate::access::told;
+use crate::access::{spell_key, spell_row, told};
 use crate::tab::{Tab, TabError};
 use bdb_keep::Keeper;
 use std::alloc::Global;
@@ -53,13 +53,13 @@ fn write_row<T: Tab, K: Keeper>(
 {
     key.clear();
     row.clear();
-    if T::key_bytes(&change.0, key).is_err() {
+    if spell_key::<T>(&change.0, key).is_err() {
         keeper.undo();
         return Err(TabError::Memory);
     }
     match &change.1 {
         Some(content) => {
-            if T::row_bytes(content, row).is_err() {
+            if spell_row::<T>(content, row).is_err() {
                 keeper.undo();
                 return Err(TabError::Memory);
             }

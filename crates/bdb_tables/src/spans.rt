@@ -7,10 +7,10 @@ ghost use Rattle.bdb_keep.specs.Tables.{bytes_cmp};
 ghost use Rattle.bdb_tables.specs.Codec.{TableFits};
 ghost use Rattle.bdb_tables.specs.Spans.{AreUnder, HasNextUnder};
 
-use crate::access::{entry_from, told};
+use crate::access::{USUAL_LENGTH, entry_from, told};
 use crate::tab::{Tab, TabError};
 use bdb_keep::Keeper;
-use std::alloc::Global;
+use std::alloc::{AllocError, Global};
 use std::mem;
 
 /// The rows whose keys begin with these bytes, in order. One read more than there are rows.
@@ -27,13 +27,11 @@ pub fn rows_under<T: Tab, K: Keeper>(
     let mut rows = Vec::new(alloc);
     let mut key = Vec::new(alloc);
     let mut row = Vec::new(alloc);
-    let mut low = match prefix.to_vec(alloc) {
-        Ok(low) => low,
-        Err(_) => {
-            keeper.undo();
-            return Err(TabError::Memory);
-        }
-    };
+    let mut low = Vec::new(alloc);
+    if begin_at(prefix, &mut low, &mut key).is_err() {
+        keeper.undo();
+        return Err(TabError::Memory);
+    }
     for _ in 0..u64::MAX {
         match next_under::<T, K>(alloc, keeper, prefix, &mut low, &mut key, &mut row) {
             Ok(Some(entry)) => {
@@ -50,9 +48,20 @@ pub fn rows_under<T: Tab, K: Keeper>(
     Err(TabError::Memory)
 }
 
-// The first row from `low` on whose key begins with these bytes. Where there is one, `low` becomes what lies right behind
-// its key. `key` and `row` are room for bytes.
-fn next_under<T: Tab, K: Keeper>(
+// Makes `low` these bytes, with room in it and in `key` for keys that begin so.
+pub fn begin_at(prefix: &[u8], low: &mut Vec<u8>, key: &mut Vec<u8>) -> Result<(), AllocError>
+    ensures { OnOk result (low.new.items ≡ prefix.now) }
+{
+    low.clear();
+    low.reserve(USUAL_LENGTH)?;
+    key.reserve(USUAL_LENGTH)?;
+    low.extend_from_slice(prefix)?;
+    Ok(())
+}
+
+/// The first row from `low` on whose key begins with these bytes. Where there is one, `low` becomes what lies right behind
+/// its key. `key` and `row` are room for bytes. One read.
+pub fn next_under<T: Tab, K: Keeper>(
     alloc: Global,
     keeper: &mut K,
     prefix: &[u8],

@@ -9,7 +9,7 @@ use Rattle.bdb_tables.proofs.spans.rows_under.Goals as goal
 pub loop-init : goal.loop-init
 loop-init g c =
     let t = (g.K.Keeper.seen c.args.keeper.now).kept in
-    let low = c.in-Ok.ensures.items_if_clones_equal (λ x y e. e) in
+    let low : c.begin_at.new.low.items ≡ c.args.prefix.now = search rules in
     let covers = subst (λ l. Covers g.T.Tab.codec t c.args.prefix.now l c.new-rows.result.items) (sym low)
     (covers_none g.T.Tab.codec t c.args.prefix.now c.new-rows.result.items c.new-rows.ensures.items) in
     record { goes = search rules; kept = search rules; writes = search rules; counts = search rules; read = (covers, omega arith) }

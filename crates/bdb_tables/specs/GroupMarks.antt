@@ -1,0 +1,89 @@
+-- The rows of table 11, told by the numbers of their tuples: under a beginning, and of one group, that of a world, a relation and
+-- a value of its key.
+use Rattle.std.specs.Prelude.{◌≡◌, ℕ, List, ◌++◌, Option, MatchOption, map}
+use Rattle.std.specs.List.{AllByRecursion}
+use Rattle.std.specs.Ordering.{nat_cmp}
+use Rattle.bdb_base.specs.declared.kinds.Value.{Value}
+use Rattle.bdb_keep.specs.Tables.{Tables}
+use Rattle.bdb_key.specs.Bytes.{num_bytes, value_bytes}
+use Rattle.bdb_key.specs.Grammar.{IsNum, IsPlainValue}
+use Rattle.bdb_key.specs.Reading.{Reads}
+use Rattle.bdb_key.specs.Rows.{IsAnyMark, mark_bytes}
+use Rattle.bdb_tables.specs.Codec.{Codec, HasAt, codec_of}
+use Rattle.bdb_tables.specs.InUse.{ValKey, IsValKey, mark_rows, val_bytes, val_codec}
+use Rattle.bdb_tables.specs.Marks.{Mark}
+use Rattle.bdb_tables.specs.Spans.{AreUnder, IsNextUnder, NoneUnder}
+use Rattle.bdb_tables.specs.Writes.{IsChange, with_changes}
+
+-- how the keys of the rows of a world, a relation and a value of its key begin
+abbrev pub group_bytes : ℕ → ℕ → Value → List ℕ
+group_bytes w r v = num_bytes w ++ num_bytes r ++ value_bytes v
+
+-- the keys of a world, a relation and a value begin so
+pub record BeginsGroup (prefix : List ℕ) (w r : ℕ) (v : Value) : Type 0 where
+  pub world : IsNum w
+  pub rel : IsNum r
+  pub value : IsPlainValue v
+  pub bytes : prefix ≡ group_bytes w r v
+
+-- the keys of some group begin so
+pub record IsGroup (prefix : List ℕ) : Type 0 where
+  pub world : ℕ
+  pub rel : ℕ
+  pub value : Value
+  pub begins : BeginsGroup prefix world rel value
+
+-- the number of a tuple, and what goes with it, with the whole key
+abbrev pub in_group : {X : Type 0} → ℕ → ℕ → Value → ℕ × X → ValKey × X
+in_group w r v x = ((w, r, v, x.0), x.1)
+
+-- these are the rows of the group whose keys begin so, in order
+abbrev pub AreMarks : Tables → List ℕ → List (ℕ × Mark) → Type 0
+AreMarks t prefix xs = (w r : ℕ) (v : Value) → BeginsGroup prefix w r v → AreUnder val_codec t prefix (map (in_group w r v) xs)
+
+-- what the group whose keys begin so has at the number of a tuple
+abbrev pub HasMark : Tables → List ℕ → ℕ → Option Mark → Type 0
+HasMark t prefix tid found = (w r : ℕ) (v : Value) → BeginsGroup prefix w r v → HasAt val_codec t (w, r, v, tid) found
+
+-- the second tables are the first with changes of the group whose keys begin so, made one after the other
+abbrev pub HaveMarks : Tables → Tables → List ℕ → List (ℕ × Option Mark) → Type 0
+HaveMarks t u prefix xs = (w r : ℕ) (v : Value) → BeginsGroup prefix w r v → u ≡ with_changes val_codec t (map (in_group w r v) xs)
+
+-- changes of the group whose keys begin so are in the grammar
+abbrev pub AreChanges : List ℕ → List (ℕ × Option Mark) → Type 0
+AreChanges prefix xs = (w r : ℕ) (v : Value) → BeginsGroup prefix w r v → AllByRecursion (IsChange val_codec) (map (in_group w r v) xs)
+
+-- the number of a row's tuple, and what the row has
+abbrev pub numbered : ValKey × Mark → ℕ × Mark
+numbered e = (e.0.3, e.1)
+
+-- these are the rows whose keys begin so, by the numbers of their tuples, in the order of the keys
+pub record AreNumbered (t : Tables) (prefix : List ℕ) (xs : List (ℕ × Mark)) : Type 0 where
+  pub entries : List (ValKey × Mark)
+  pub under : AreUnder val_codec t prefix entries
+  pub are : xs ≡ map numbered entries
+
+-- these bytes are the key and the row of a tuple's number
+pub record IsNumbered (key row : List ℕ) (x : ℕ × Mark) : Type 0 where
+  pub entry : ValKey × Mark
+  pub key_reads : Reads IsValKey val_bytes key entry.0
+  pub row_reads : Reads IsAnyMark mark_bytes row entry.1
+  pub is : x ≡ numbered entry
+
+-- the first row from `low` on whose key begins so; the bytes `behind` are the least above its key
+pub record IsNextNumbered (t : Tables) (prefix low behind : List ℕ) (x : ℕ × Mark) : Type 0 where
+  pub entry : ValKey × Mark
+  pub next : IsNextUnder val_codec t prefix low behind entry
+  pub is : x ≡ numbered entry
+
+-- what comes next under a beginning
+abbrev pub HasNextNumbered : Tables → List ℕ → List ℕ → List ℕ → Option (ℕ × Mark) → Type 0
+HasNextNumbered t prefix low behind found = MatchOption found (NoneUnder val_codec t prefix low) (IsNextNumbered t prefix low behind)
+
+-- these bytes are a number
+abbrev pub IsNumber : List ℕ → Type 0
+IsNumber bytes = (n : ℕ) × Reads IsNum num_bytes bytes n
+
+-- table 11 with keys that begin so, by the numbers that follow
+abbrev pub marks_codec : List ℕ → Codec ℕ Mark
+marks_codec prefix = codec_of 11 (record { MayBe = λ _. Unit {0}; Is = IsNum; bytes = λ tid. prefix ++ num_bytes tid; cmp = nat_cmp }) mark_rows

@@ -1,0 +1,341 @@
+// The rows of table 11 by the numbers of their tuples: no value is decoded, and none is written anew.
+ghost use Rattle.std.specs.Prelude.{◌≡◌, ◌+◌, ◌-◌, ◌≤◌, ◌++◌, true, IfOk, OnOk, length, drop};
+ghost use Rattle.std.specs.List.{AllByRecursion};
+ghost use Rattle.std.specs.Ordering.{is_le};
+ghost use Rattle.bdb_base.specs.Causes.{Rises, RoseBy};
+ghost use Rattle.bdb_keep.specs.Calls.{IsRead, IsWrite};
+ghost use Rattle.bdb_keep.specs.Tables.{bytes_cmp};
+ghost use Rattle.bdb_key.specs.Bytes.{num_bytes};
+ghost use Rattle.bdb_key.specs.Grammar.{IsNum};
+ghost use Rattle.bdb_key.specs.Reading.{Reads};
+ghost use Rattle.bdb_key.specs.Rows.{IsAnyMark, mark_bytes};
+ghost use Rattle.bdb_tables.specs.Codec.{HasAt, IsEntryOf, IsRowOf, TableFits};
+ghost use Rattle.bdb_tables.specs.Grammar.{InGrammar};
+ghost use Rattle.bdb_tables.specs.GroupMarks.{AreChanges, AreMarks, AreNumbered, HasMark, HasNextNumbered, HaveMarks, IsGroup, IsNumber, IsNumbered, marks_codec};
+ghost use Rattle.bdb_tables.specs.InUse.{val_codec};
+ghost use Rattle.bdb_tables.specs.Writes.{IsChange, with_change, with_changes};
+
+use crate::access::{USUAL_LENGTH, told};
+use crate::spans::begin_at;
+use crate::tab::TabError;
+use bdb_base::Sign;
+use bdb_keep::Keeper;
+use bdb_key::{mark_of, only_num, put_mark, put_num};
+use std::alloc::{AllocError, Global};
+use std::mem;
+
+// The number of the table of worlds' rows.
+const MARKS: u8 = 11;
+
+/// Room for the bytes of keys and rows, for as many calls as use it.
+#[derive(Drop)]
+pub struct Room {
+    key: Vec<u8>,
+    row: Vec<u8>,
+    low: Vec<u8>,
+}
+
+impl Room {
+    /// Room that grows with its first use.
+    pub fn new(alloc: Global) -> Self {
+        Room {
+            key: Vec::new(alloc),
+            row: Vec::new(alloc),
+            low: Vec::new(alloc),
+        }
+    }
+}
+
+/// The rows of worlds whose keys begin with these bytes, by the numbers of their tuples, in the order of the keys. One read more
+/// than there are rows.
+pub fn numbered_under<K: Keeper>(
+    alloc: Global,
+    keeper: &mut K,
+    prefix: &[u8],
+    room: &mut Room,
+) -> Result<Vec<(u32, (Sign, bool))>, TabError>
+    requires grammar { TableFits val_codec (K.seen keeper.old).kept }
+    ensures rows { IfOk result (λ rows. AreNumbered (K.seen keeper.old).kept prefix.now rows.items) }
+    ensures reads { IfOk result (λ rows. (K.seen keeper.new).reads ≤ (K.seen keeper.old).reads + (length rows.items + 1)) }
+    ensures read { IsRead (K.seen keeper.old) (K.seen keeper.new) result TabError.Fault }
+{
+    let Room { key, row, low } = room;
+    match read_numbered(alloc, keeper, prefix, low, key, row) {
+        Ok(rows) => Ok(rows),
+        Err(error) => Err(error),
+    }
+}
+
+/// The rows of the group whose keys begin with these bytes, by the numbers of their tuples, in order. One read more than there
+/// are rows.
+pub fn marks_under<K: Keeper>(
+    alloc: Global,
+    keeper: &mut K,
+    prefix: &[u8],
+    room: &mut Room,
+) -> Result<Vec<(u32, (Sign, bool))>, TabError>
+    requires grammar { TableFits val_codec (K.seen keeper.old).kept }
+    requires group { IsGroup prefix.now }
+    ensures rows { IfOk result (λ rows. AreMarks (K.seen keeper.old).kept prefix.now rows.items) }
+    ensures reads { IfOk result (λ rows. (K.seen keeper.new).reads ≤ (K.seen keeper.old).reads + (length rows.items + 1)) }
+    ensures read { IsRead (K.seen keeper.old) (K.seen keeper.new) result TabError.Fault }
+{
+    let Room { key, row, low } = room;
+    match read_numbered(alloc, keeper, prefix, low, key, row) {
+        Ok(rows) => Ok(rows),
+        Err(error) => Err(error),
+    }
+}
+
+/// The row of a tuple's number in the group whose keys begin with these bytes. None exactly where there is no such row. One read.
+pub fn mark_under<K: Keeper>(
+    keeper: &mut K,
+    prefix: &[u8],
+    tid: u32,
+    room: &mut Room,
+) -> Result<Option<(Sign, bool)>, TabError>
+    requires grammar { TableFits val_codec (K.seen keeper.old).kept }
+    ensures found { IfOk result (HasMark (K.seen keeper.old).kept prefix.now tid) }
+    ensures reads { OnOk result (RoseBy 1 (K.seen keeper.old).reads (K.seen keeper.new).reads) }
+    ensures read { IsRead (K.seen keeper.old) (K.seen keeper.new) result TabError.Fault }
+{
+    match read_mark(keeper, prefix, tid, &mut room.key, &mut room.row) {
+        Ok(mark) => Ok(mark),
+        Err(error) => Err(error),
+    }
+}
+
+/// Makes changes in the group whose keys begin with these bytes, one after the other: each puts a row at the number of a tuple, or
+/// takes the row there away. One write each.
+pub fn write_marks<K: Keeper>(
+    keeper: &mut K,
+    prefix: &[u8],
+    changes: &[(u32, Option<(Sign, bool)>)],
+    room: &mut Room,
+) -> Result<(), TabError>
+    requires running { (K.seen keeper.old).running ≡ true }
+    requires group { IsGroup prefix.now }
+    ensures kept { OnOk result (HaveMarks (K.seen keeper.old).kept (K.seen keeper.new).kept prefix.now changes.now) }
+    ensures fits { OnOk result (AreChanges prefix.now changes.now) }
+    ensures grammar { OnOk result (InGrammar (K.seen keeper.old).kept → InGrammar (K.seen keeper.new).kept) }
+    ensures writes { OnOk result (Rises (length changes.now) (K.seen keeper.old).writes (K.seen keeper.new).writes) }
+    ensures write { IsWrite (K.seen keeper.old) (K.seen keeper.new) result TabError.Fault }
+{
+    match change_marks(keeper, prefix, changes, &mut room.key, &mut room.row) {
+        Ok(()) => Ok(()),
+        Err(error) => Err(error),
+    }
+}
+
+// The rows whose keys begin with these bytes. `low`, `key` and `row` are room for bytes.
+fn read_numbered<K: Keeper>(
+    alloc: Global,
+    keeper: &mut K,
+    prefix: &[u8],
+    low: &mut Vec<u8>,
+    key: &mut Vec<u8>,
+    row: &mut Vec<u8>,
+) -> Result<Vec<(u32, (Sign, bool))>, TabError>
+    requires grammar { TableFits val_codec (K.seen keeper.old).kept }
+    ensures rows { IfOk result (λ rows. AreNumbered (K.seen keeper.old).kept prefix.now rows.items) }
+    ensures reads { IfOk result (λ rows. (K.seen keeper.new).reads ≤ (K.seen keeper.old).reads + (length rows.items + 1)) }
+    ensures read { IsRead (K.seen keeper.old) (K.seen keeper.new) result TabError.Fault }
+{
+    let mut rows = Vec::new(alloc);
+    if begin_at(prefix, low, key).is_err() {
+        keeper.undo();
+        return Err(TabError::Memory);
+    }
+    for _ in 0..u64::MAX {
+        match next_numbered(keeper, prefix, low, key, row) {
+            Ok(Some(entry)) => {
+                if rows.push(entry).is_err() {
+                    keeper.undo();
+                    return Err(TabError::Memory);
+                }
+            }
+            Ok(None) => return Ok(rows),
+            Err(error) => return Err(error),
+        }
+    }
+    keeper.undo();
+    Err(TabError::Memory)
+}
+
+// The first row from `low` on whose key begins with these bytes. Where there is one, `low` becomes what lies right behind
+// its key. `key` and `row` are room for bytes.
+fn next_numbered<K: Keeper>(
+    keeper: &mut K,
+    prefix: &[u8],
+    low: &mut Vec<u8>,
+    key: &mut Vec<u8>,
+    row: &mut Vec<u8>,
+) -> Result<Option<(u32, (Sign, bool))>, TabError>
+    requires grammar { TableFits val_codec (K.seen keeper.old).kept }
+    requires from { is_le (bytes_cmp prefix.now low.old.items) ≡ true }
+    ensures found { IfOk result (HasNextNumbered (K.seen keeper.old).kept prefix.now low.old.items low.new.items) }
+    ensures reads { OnOk result (RoseBy 1 (K.seen keeper.old).reads (K.seen keeper.new).reads) }
+    ensures read { IsRead (K.seen keeper.old) (K.seen keeper.new) result TabError.Fault }
+{
+    match keeper.next(MARKS, low, key, row) {
+        Ok(true) => {}
+        Ok(false) => return Ok(None),
+        Err(error) => return Err(told(error)),
+    }
+    if !key.starts_with(prefix) {
+        return Ok(None);
+    }
+    let entry = numbered_from(key, row);
+    if key.push(0).is_err() {
+        keeper.undo();
+        return Err(TabError::Memory);
+    }
+    mem::swap(low, key);
+    Ok(Some(entry))
+}
+
+// The row of a tuple's number in a group, as a table of its own. `key` and `row` are room for bytes.
+fn read_mark<K: Keeper>(
+    keeper: &mut K,
+    prefix: &[u8],
+    tid: u32,
+    key: &mut Vec<u8>,
+    row: &mut Vec<u8>,
+) -> Result<Option<(Sign, bool)>, TabError>
+    requires grammar { TableFits val_codec (K.seen keeper.old).kept }
+    ensures found { IfOk result (HasAt (marks_codec prefix.now) (K.seen keeper.old).kept tid) }
+    ensures reads { OnOk result (RoseBy 1 (K.seen keeper.old).reads (K.seen keeper.new).reads) }
+    ensures read { IsRead (K.seen keeper.old) (K.seen keeper.new) result TabError.Fault }
+{
+    if fill_key(key, prefix, tid).is_err() {
+        keeper.undo();
+        return Err(TabError::Memory);
+    }
+    match keeper.get(MARKS, key, row) {
+        Ok(true) => Ok(Some(mark_from(row))),
+        Ok(false) => Ok(None),
+        Err(error) => Err(told(error)),
+    }
+}
+
+// Makes changes of a group, as a table of its own. `key` and `row` are room for bytes.
+fn change_marks<K: Keeper>(
+    keeper: &mut K,
+    prefix: &[u8],
+    changes: &[(u32, Option<(Sign, bool)>)],
+    key: &mut Vec<u8>,
+    row: &mut Vec<u8>,
+) -> Result<(), TabError>
+    requires running { (K.seen keeper.old).running ≡ true }
+    requires group { IsGroup prefix.now }
+    ensures kept { OnOk result ((K.seen keeper.new).kept ≡ with_changes (marks_codec prefix.now) (K.seen keeper.old).kept changes.now) }
+    ensures fits { OnOk result (AllByRecursion (IsChange (marks_codec prefix.now)) changes.now) }
+    ensures grammar { OnOk result (InGrammar (K.seen keeper.old).kept → InGrammar (K.seen keeper.new).kept) }
+    ensures writes { OnOk result (Rises (length changes.now) (K.seen keeper.old).writes (K.seen keeper.new).writes) }
+    ensures write { IsWrite (K.seen keeper.old) (K.seen keeper.new) result TabError.Fault }
+{
+    for change in changes {
+        match change_mark(keeper, prefix, change, key, row) {
+            Ok(()) => {}
+            Err(error) => return Err(error),
+        }
+    }
+    Ok(())
+}
+
+// Makes a change of a group. `key` and `row` are room for bytes.
+fn change_mark<K: Keeper>(
+    keeper: &mut K,
+    prefix: &[u8],
+    change: &(u32, Option<(Sign, bool)>),
+    key: &mut Vec<u8>,
+    row: &mut Vec<u8>,
+) -> Result<(), TabError>
+    requires running { (K.seen keeper.old).running ≡ true }
+    requires group { IsGroup prefix.now }
+    ensures kept { OnOk result ((K.seen keeper.new).kept ≡ with_change (marks_codec prefix.now) (K.seen keeper.old).kept change.now) }
+    ensures fits { OnOk result (IsChange (marks_codec prefix.now) change.now) }
+    ensures grammar { OnOk result (InGrammar (K.seen keeper.old).kept → InGrammar (K.seen keeper.new).kept) }
+    ensures writes { OnOk result (RoseBy 1 (K.seen keeper.old).writes (K.seen keeper.new).writes) }
+    ensures write { IsWrite (K.seen keeper.old) (K.seen keeper.new) result TabError.Fault }
+{
+    if fill_key(key, prefix, change.0).is_err() {
+        keeper.undo();
+        return Err(TabError::Memory);
+    }
+    match &change.1 {
+        Some(mark) => {
+            if fill_row(row, mark).is_err() {
+                keeper.undo();
+                return Err(TabError::Memory);
+            }
+            match keeper.put(MARKS, key, row) {
+                Ok(()) => Ok(()),
+                Err(error) => Err(told(error)),
+            }
+        }
+        None => match keeper.remove(MARKS, key) {
+            Ok(_) => Ok(()),
+            Err(error) => Err(told(error)),
+        },
+    }
+}
+
+// Makes room hold the key of a tuple's number in a group.
+fn fill_key(key: &mut Vec<u8>, prefix: &[u8], tid: u32) -> Result<(), AllocError>
+    ensures ok { OnOk result (key.new.items ≡ prefix.now ++ num_bytes tid) }
+    ensures fits { OnOk result (IsNum tid) }
+{
+    key.clear();
+    key.reserve(USUAL_LENGTH)?;
+    key.extend_from_slice(prefix)?;
+    put_num(key, tid)?;
+    Ok(())
+}
+
+// Makes room hold the bytes of a row.
+fn fill_row(row: &mut Vec<u8>, mark: &(Sign, bool)) -> Result<(), AllocError>
+    ensures { OnOk result (row.new.items ≡ mark_bytes mark.now) }
+{
+    row.clear();
+    put_mark(row, mark.0, mark.1)?;
+    Ok(())
+}
+
+// The number of the tuple of an entry of the table, and its row.
+fn numbered_from(key: &[u8], row: &[u8]) -> (u32, (Sign, bool))
+    requires { IsEntryOf val_codec key.now row.now }
+    ensures { IsNumbered key.now row.now result }
+{
+    (number_from(last_four(key)), mark_from(row))
+}
+
+// The last four bytes.
+fn last_four(bytes: &[u8]) -> &[u8]
+    requires { 4 ≤ length bytes.now }
+    ensures { result.now ≡ drop (length bytes.now - 4) bytes.now }
+{
+    &bytes[bytes.len() - 4..]
+}
+
+// The number that these bytes are.
+fn number_from(bytes: &[u8]) -> u32
+    requires { IsNumber bytes.now }
+    ensures { Reads IsNum num_bytes bytes.now result }
+{
+    match only_num(bytes) {
+        Some(number) => number,
+        None => unreachable!(),
+    }
+}
+
+// The row that these bytes are.
+fn mark_from(bytes: &[u8]) -> (Sign, bool)
+    requires { IsRowOf val_codec bytes.now }
+    ensures { Reads IsAnyMark mark_bytes bytes.now result }
+{
+    match mark_of(bytes) {
+        Some(mark) => mark,
+        None => unreachable!(),
+    }
+}
