@@ -16,6 +16,7 @@ use Rattle.bdb_keep.specs.Tables.{Tables}
 use Rattle.bdb_key.specs.Grammar.{IsNum, IsPlainValue}
 use Rattle.bdb_key.specs.Rows.{tuple_bytes}
 use Rattle.bdb_tables.specs.Codec.{HasRow}
+use Rattle.bdb_tables.specs.GroupMarks.{in_group}
 use Rattle.bdb_tables.specs.InUse.{ValKey, tuple_codec, val_codec}
 use Rattle.bdb_tables.specs.Marks.{Mark, sign_of, explicit_of}
 use Rattle.bdb_tables.specs.Spans.{AreUnder, IsUnder}
@@ -33,12 +34,12 @@ use Rattle.bdb_val.proofs.StepLemmas.{mark_of_each}
 -- ---- marks
 
 -- rows have their marks by number, with their tuples or without
-pub mark_told : (t : Tables) (es : List (ValKey × Mark)) (xs : List Stored) → AreTold t es xs → (tid : ℕ) → mark_under es tid ≡ mark_in xs tid
-mark_told t [] [] a tid = refl
-mark_told t [] (x ∷ xs) a tid = absurd a
-mark_told t (e ∷ es) [] a tid = absurd a
-mark_told t (e ∷ es) (x ∷ xs) a tid =
-    ap (λ r. cond (nat_eq e.0.3 tid) (Some e.1) r) (mark_told t es xs a.1 tid)
+pub mark_told : (t : Tables) (wid rel : ℕ) (v : Value) (es : List (ℕ × Mark)) (xs : List Stored) → AreTold t (map (in_group wid rel v) es) xs → (tid : ℕ) → mark_under es tid ≡ mark_in xs tid
+mark_told t wid rel v [] [] a tid = refl
+mark_told t wid rel v [] (x ∷ xs) a tid = absurd a
+mark_told t wid rel v (e ∷ es) [] a tid = absurd a
+mark_told t wid rel v (e ∷ es) (x ∷ xs) a tid =
+    ap (λ r. cond (nat_eq e.0 tid) (Some e.1) r) (mark_told t wid rel v es xs a.1 tid)
     ∙ ap (λ i. cond (nat_eq i tid) (Some e.1) (mark_in xs tid)) (sym a.0.tid)
     ∙ ap (λ m. cond (nat_eq x.tid tid) (Some m) (mark_in xs tid)) (sym a.0.mark)
 
@@ -50,7 +51,7 @@ handed bars barred h (Some m) = ap (λ b. cond b None (Some (m.0, false))) (h m.
 
 -- a change of a row, by its key
 as_change : (wid rel : ℕ) (v : Value) (tid : ℕ) (u : Tuple) (b : Bool) (next : Option Mark) → row_key wid tid u ≡ (wid, rel, v, tid)
-    → map (keyed wid) (cond b [] ((tid, u, next) ∷ [])) ≡ cond b [] (((wid, rel, v, tid), next) ∷ [])
+    → map (keyed wid) (cond b [] ((tid, u, next) ∷ [])) ≡ map (in_group wid rel v) (cond b [] ((tid, next) ∷ []))
 as_change wid rel v tid u true next k = refl
 as_change wid rel v tid u false next k = ap (λ (z : ValKey). (z, next) ∷ []) k
 
@@ -75,23 +76,24 @@ module _ (u : Tuple) where
   minus_bars true Plus x d = d refl
   minus_bars true Minus x d = refl
 
-  all_plus : (t : Tables) (es : List (ValKey × Mark)) (xs : List Stored) → AreTold t es xs → AllByRecursion IsOther xs → barred_by (λ _. 1) xs u Plus ≡ list_any is_explicit_plus es
-  all_plus t [] [] a q = refl
-  all_plus t [] (x ∷ xs) a q = absurd a
-  all_plus t (e ∷ es) [] a q = absurd a
-  all_plus t (e ∷ es) (x ∷ xs) a q =
+  all_plus : (t : Tables) (wid rel : ℕ) (v : Value) (es : List (ℕ × Mark)) (xs : List Stored) → AreTold t (map (in_group wid rel v) es) xs → AllByRecursion IsOther xs
+      → barred_by (λ _. 1) xs u Plus ≡ list_any is_explicit_plus es
+  all_plus t wid rel v [] [] a q = refl
+  all_plus t wid rel v [] (x ∷ xs) a q = absurd a
+  all_plus t wid rel v (e ∷ es) [] a q = absurd a
+  all_plus t wid rel v (e ∷ es) (x ∷ xs) a q =
       ap (λ b. b || barred_by (λ _. 1) xs u Plus) (plus_bars x.mark.1 x.mark.0 x.tuple q.0.0 q.0.1 ∙ ap (λ (m : Mark). m.1 && same_sign m.0 Plus) a.0.mark)
-      ∙ ap (λ b. is_explicit_plus e || b) (all_plus t es xs a.1 q.1)
+      ∙ ap (λ b. is_explicit_plus e || b) (all_plus t wid rel v es xs a.1 q.1)
 
   all_minus : (xs : List Stored) → AllByRecursion IsOther xs → barred_by (λ _. 1) xs u Minus ≡ false
   all_minus [] q = refl
   all_minus (x ∷ xs) q = ap (λ b. b || barred_by (λ _. 1) xs u Minus) (minus_bars x.mark.1 x.mark.0 x.tuple q.0.0) ∙ all_minus xs q.1
 
   -- rows of other tuples of the group bar a plus row where one of them is explicit and plus, and no minus row
-  others_bar : (t : Tables) (es : List (ValKey × Mark)) (xs : List Stored) → AreTold t es xs → AllByRecursion IsOther xs
+  others_bar : (t : Tables) (wid rel : ℕ) (v : Value) (es : List (ℕ × Mark)) (xs : List Stored) → AreTold t (map (in_group wid rel v) es) xs → AllByRecursion IsOther xs
       → (s : Sign) → barred_by (λ _. 1) xs u s ≡ (same_sign s Plus && list_any is_explicit_plus es)
-  others_bar t es xs a q Plus = all_plus t es xs a q
-  others_bar t es xs a q Minus = all_minus xs q
+  others_bar t wid rel v es xs a q Plus = all_plus t wid rel v es xs a q
+  others_bar t wid rel v es xs a q Minus = all_minus xs q
 
 -- ---- tuples of one group
 
@@ -152,7 +154,8 @@ module _ (stmts : List Stmt) (n : Worlds) (tuple : ℕ → Option Tuple) (f : Va
   some_length : (tid : ℕ) (u : Tuple) → tuple tid ≡ Some u → 0 < length u.vals
   some_length tid u e = (tuple_row tuple f t h.rows tid u e).some
 
-  module _ (wid : ℕ) (w : IsNum wid) (es fs : List (ValKey × Mark)) (xs ys : List Stored) (own_told : AreTold t es xs) (from_told : AreTold t fs ys)
+  module _ (wid base : ℕ) (w : IsNum wid) (es fs : List (ℕ × Mark)) (xs ys : List Stored) (own_told : AreTold t (map (in_group wid rel v) es) xs)
+      (from_told : AreTold t (map (in_group base rel v) fs) ys)
       (read : AreReadUnder t (group_prefix wid rel v) xs) (from_in : AllByRecursion (IsIn ys) ys) where
     own_in : AllByRecursion (IsIn xs) xs
     own_in = read_in wid xs w read
@@ -200,10 +203,10 @@ module _ (stmts : List Stmt) (n : Worlds) (tuple : ℕ → Option Tuple) (f : Va
     next_is tid u i e none o k =
         ap (λ s. settled_mark s (barred_by (λ _. 1) xs u) (sign_of (mark_in ys tid))) none
         ∙ ap (λ m. settled_mark None (barred_by (λ _. 1) xs u) (sign_of m)) k
-        ∙ handed (barred_by (λ _. 1) xs u) barred (others_bar u t es xs own_told (others tid u i e none xs own_in)) o
+        ∙ handed (barred_by (λ _. 1) xs u) barred (others_bar u t wid rel v es xs own_told (others tid u i e none xs own_in)) o
 
     -- the change of a row of the world
-    own_is : (e : ValKey × Mark) (x : Stored) → x.tid ≡ e.0.3 → x.mark ≡ e.1 → IsIn xs x → own_change wid rel v barred fs e ≡ map (keyed wid) (change_at (λ _. 1) xs xs ys x)
+    own_is : (e : ℕ × Mark) (x : Stored) → x.tid ≡ e.0 → x.mark ≡ e.1 → IsIn xs x → map (in_group wid rel v) (own_change barred fs e) ≡ map (keyed wid) (change_at (λ _. 1) xs xs ys x)
     own_is e x i m k = elim (cases_Bool e.1.1) [
       | inl c ↦
           let stated : x.mark.1 ≡ true = ap (λ (z : Mark). z.1) m ∙ c in
@@ -211,56 +214,60 @@ module _ (stmts : List Stmt) (n : Worlds) (tuple : ℕ → Option Tuple) (f : Va
           ap (λ s. settled_mark s (barred_by (λ _. 1) xs x.tuple) (sign_of (mark_in ys x.tid))) (ap explicit_of k.2 ∙ explicit_some x.mark stated) ∙ ap (λ b. Some (x.mark.0, b)) (sym stated) in
           let same : same_mark (mark_in xs x.tid) (next_mark (λ _. 1) xs ys x.tid x.tuple) ≡ true =
           ap (λ o. same_mark o (next_mark (λ _. 1) xs ys x.tid x.tuple)) k.2 ∙ ap (same_mark (Some x.mark)) next ∙ same_mark_itself (Some x.mark) in
-          cond-true e.1.1 [] (group_change wid rel v e.0.3 (Some e.1) (handed_down barred (mark_under fs e.0.3))) c
+          ap (map (in_group wid rel v)) (cond-true e.1.1 [] (group_change e.0 (Some e.1) (handed_down barred (mark_under fs e.0))) c)
           ∙ sym (ap (map (keyed wid)) (cond-true (same_mark (mark_in xs x.tid) (next_mark (λ _. 1) xs ys x.tid x.tuple)) [] ((x.tid, x.tuple, next_mark (λ _. 1) xs ys x.tid x.tuple) ∷ []) same))
       | inr c ↦
           let loose : explicit_of (mark_in xs x.tid) ≡ None = ap explicit_of k.2 ∙ cond-false x.mark.1 (Some x.mark.0) None (ap (λ (z : Mark). z.1) m ∙ c) in
-          let over : mark_in ys x.tid ≡ mark_under fs e.0.3 = sym (mark_told t fs ys from_told x.tid) ∙ ap (mark_under fs) i in
-          let next = next_is x.tid x.tuple k.0 k.1 loose (mark_under fs e.0.3) over in
-          cond-false e.1.1 [] (group_change wid rel v e.0.3 (Some e.1) (handed_down barred (mark_under fs e.0.3))) c
-          ∙ ap (λ (j : ℕ). group_change wid rel v j (Some e.1) (handed_down barred (mark_under fs e.0.3))) (sym i)
-          ∙ ap (λ (z : Mark). group_change wid rel v x.tid (Some z) (handed_down barred (mark_under fs e.0.3))) (sym m)
-          ∙ ap (λ o. group_change wid rel v x.tid o (handed_down barred (mark_under fs e.0.3))) (sym k.2)
-          ∙ ap (group_change wid rel v x.tid (mark_in xs x.tid)) (sym next)
+          let over : mark_in ys x.tid ≡ mark_under fs e.0 = sym (mark_told t base rel v fs ys from_told x.tid) ∙ ap (mark_under fs) i in
+          let next = next_is x.tid x.tuple k.0 k.1 loose (mark_under fs e.0) over in
+          ap (map (in_group wid rel v)) (cond-false e.1.1 [] (group_change e.0 (Some e.1) (handed_down barred (mark_under fs e.0))) c
+          ∙ ap (λ (j : ℕ). group_change j (Some e.1) (handed_down barred (mark_under fs e.0))) (sym i)
+          ∙ ap (λ (z : Mark). group_change x.tid (Some z) (handed_down barred (mark_under fs e.0))) (sym m)
+          ∙ ap (λ o. group_change x.tid o (handed_down barred (mark_under fs e.0))) (sym k.2)
+          ∙ ap (group_change x.tid (mark_in xs x.tid)) (sym next))
           ∙ sym (as_change wid rel v x.tid x.tuple (same_mark (mark_in xs x.tid) (next_mark (λ _. 1) xs ys x.tid x.tuple)) (next_mark (λ _. 1) xs ys x.tid x.tuple) (key_is rel v wid x.tid x.tuple k.1))
     ]
 
     -- what is handed down where the world has no row
-    new_is : (e : ValKey × Mark) (y : Stored) → y.tid ≡ e.0.3 → y.mark ≡ e.1 → IsIn ys y → new_change wid rel v barred es e ≡ map (keyed wid) (fresh_change (λ _. 1) xs xs ys xs y)
+    new_is : (e : ℕ × Mark) (y : Stored) → y.tid ≡ e.0 → y.mark ≡ e.1 → IsIn ys y → map (in_group wid rel v) (new_change barred es e) ≡ map (keyed wid) (fresh_change (λ _. 1) xs xs ys xs y)
     new_is e y i m k =
-        let here : is_some (mark_under es e.0.3) ≡ is_some (mark_in xs y.tid) = ap is_some (ap (mark_under es) (sym i) ∙ mark_told t es xs own_told y.tid) in
+        let here : is_some (mark_under es e.0) ≡ is_some (mark_in xs y.tid) = ap is_some (ap (mark_under es) (sym i) ∙ mark_told t wid rel v es xs own_told y.tid) in
         let both : has_mark xs xs y.tid ≡ is_some (mark_in xs y.tid) = or_same (is_some (mark_in xs y.tid)) in
         elim (cases_Bool (is_some (mark_in xs y.tid))) [
           | inl c ↦
-              cond-true (is_some (mark_under es e.0.3)) [] (group_change wid rel v e.0.3 None (handed_down barred (Some e.1))) (here ∙ c)
+              ap (map (in_group wid rel v)) (cond-true (is_some (mark_under es e.0)) [] (group_change e.0 None (handed_down barred (Some e.1))) (here ∙ c))
               ∙ sym (ap (map (keyed wid)) (cond-true (has_mark xs xs y.tid) [] (change_at (λ _. 1) xs xs ys y) (both ∙ c)))
           | inr c ↦
               let none = none_in xs y.tid c in
               let next = next_is y.tid y.tuple k.0 k.1 (ap explicit_of none) (Some y.mark) k.2 in
-              cond-false (is_some (mark_under es e.0.3)) [] (group_change wid rel v e.0.3 None (handed_down barred (Some e.1))) (here ∙ c)
-              ∙ ap (λ (j : ℕ). group_change wid rel v j None (handed_down barred (Some e.1))) (sym i)
-              ∙ ap (λ (z : Mark). group_change wid rel v y.tid None (handed_down barred (Some z))) (sym m)
-              ∙ ap (λ o. group_change wid rel v y.tid o (handed_down barred (Some y.mark))) (sym none)
-              ∙ ap (group_change wid rel v y.tid (mark_in xs y.tid)) (sym next)
+              ap (map (in_group wid rel v)) (cond-false (is_some (mark_under es e.0)) [] (group_change e.0 None (handed_down barred (Some e.1))) (here ∙ c)
+              ∙ ap (λ (j : ℕ). group_change j None (handed_down barred (Some e.1))) (sym i)
+              ∙ ap (λ (z : Mark). group_change y.tid None (handed_down barred (Some z))) (sym m)
+              ∙ ap (λ o. group_change y.tid o (handed_down barred (Some y.mark))) (sym none)
+              ∙ ap (group_change y.tid (mark_in xs y.tid)) (sym next))
               ∙ sym (as_change wid rel v y.tid y.tuple (same_mark (mark_in xs y.tid) (next_mark (λ _. 1) xs ys y.tid y.tuple)) (next_mark (λ _. 1) xs ys y.tid y.tuple) (key_is rel v wid y.tid y.tuple k.1))
               ∙ sym (ap (map (keyed wid)) (cond-false (has_mark xs xs y.tid) [] (change_at (λ _. 1) xs xs ys y) (both ∙ c)))
         ]
 
-    all_own : (ds : List (ValKey × Mark)) (zs : List Stored) → AreTold t ds zs → AllByRecursion (IsIn xs) zs → flat_map (own_change wid rel v barred fs) ds ≡ map (keyed wid) (flat_map (change_at (λ _. 1) xs xs ys) zs)
+    all_own : (ds : List (ℕ × Mark)) (zs : List Stored) → AreTold t (map (in_group wid rel v) ds) zs → AllByRecursion (IsIn xs) zs
+        → map (in_group wid rel v) (flat_map (own_change barred fs) ds) ≡ map (keyed wid) (flat_map (change_at (λ _. 1) xs xs ys) zs)
     all_own [] [] a k = refl
     all_own [] (z ∷ zs) a k = absurd a
     all_own (d ∷ ds) [] a k = absurd a
     all_own (d ∷ ds) (z ∷ zs) a k =
-        ap (λ cs. cs ++ flat_map (own_change wid rel v barred fs) ds) (own_is d z a.0.tid a.0.mark k.0)
+        map-append (in_group wid rel v) (own_change barred fs d) (flat_map (own_change barred fs) ds)
+        ∙ ap (λ cs. cs ++ map (in_group wid rel v) (flat_map (own_change barred fs) ds)) (own_is d z a.0.tid a.0.mark k.0)
         ∙ ap (λ cs. map (keyed wid) (change_at (λ _. 1) xs xs ys z) ++ cs) (all_own ds zs a.1 k.1)
         ∙ sym (map-append (keyed wid) (change_at (λ _. 1) xs xs ys z) (flat_map (change_at (λ _. 1) xs xs ys) zs))
 
-    all_new : (ds : List (ValKey × Mark)) (zs : List Stored) → AreTold t ds zs → AllByRecursion (IsIn ys) zs → flat_map (new_change wid rel v barred es) ds ≡ map (keyed wid) (flat_map (fresh_change (λ _. 1) xs xs ys xs) zs)
+    all_new : (ds : List (ℕ × Mark)) (zs : List Stored) → AreTold t (map (in_group base rel v) ds) zs → AllByRecursion (IsIn ys) zs
+        → map (in_group wid rel v) (flat_map (new_change barred es) ds) ≡ map (keyed wid) (flat_map (fresh_change (λ _. 1) xs xs ys xs) zs)
     all_new [] [] a k = refl
     all_new [] (z ∷ zs) a k = absurd a
     all_new (d ∷ ds) [] a k = absurd a
     all_new (d ∷ ds) (z ∷ zs) a k =
-        ap (λ cs. cs ++ flat_map (new_change wid rel v barred es) ds) (new_is d z a.0.tid a.0.mark k.0)
+        map-append (in_group wid rel v) (new_change barred es d) (flat_map (new_change barred es) ds)
+        ∙ ap (λ cs. cs ++ map (in_group wid rel v) (flat_map (new_change barred es) ds)) (new_is d z a.0.tid a.0.mark k.0)
         ∙ ap (λ cs. map (keyed wid) (fresh_change (λ _. 1) xs xs ys xs z) ++ cs) (all_new ds zs a.1 k.1)
         ∙ sym (map-append (keyed wid) (fresh_change (λ _. 1) xs xs ys xs z) (flat_map (fresh_change (λ _. 1) xs xs ys xs) zs))
 
@@ -270,44 +277,45 @@ module _ (stmts : List Stmt) (n : Worlds) (tuple : ℕ → Option Tuple) (f : Va
         (λ x k. cond-true (has_mark xs [] x.tid) [] (change_at (λ _. 1) xs xs ys x) (ap (λ o. is_some o || is_some (mark_in [] x.tid)) k.2)) xs own_in
 
     -- the changes told by numbers are those of the rows with their tuples
-    pub made_alike : group_changes wid rel v es fs ≡ rows_made wid xs ys
+    pub made_alike : map (in_group wid rel v) (group_changes es fs) ≡ rows_made wid xs ys
     made_alike =
         let one = flat_map (change_at (λ _. 1) xs xs ys) xs in
         let three = flat_map (fresh_change (λ _. 1) xs xs ys xs) ys in
-        ap (λ cs. cs ++ flat_map (new_change wid rel v barred es) fs) (all_own es xs own_told own_in)
+        map-append (in_group wid rel v) (flat_map (own_change barred fs) es) (flat_map (new_change barred es) fs)
+        ∙ ap (λ cs. cs ++ map (in_group wid rel v) (flat_map (new_change barred es) fs)) (all_own es xs own_told own_in)
         ∙ ap (λ cs. map (keyed wid) one ++ cs) (all_new fs ys from_told from_in)
         ∙ sym (map-append (keyed wid) one three)
         ∙ ap (λ (cs : List Change). map (keyed wid) (cs ++ three)) (sym (append-nil one) ∙ ap (λ (cs : List Change). one ++ cs) (sym none_fresh))
 
   -- What settles a group, with the tuples: the rows that were read, and the changes made.
-  pub record IsGroupRead (wid : ℕ) (link : Option ℕ) (es fs : List (ValKey × Mark)) : Type 0 where
+  pub record IsGroupRead (wid : ℕ) (link : Option ℕ) (es fs : List (ℕ × Mark)) : Type 0 where
     pub own : List Stored
     pub from : List Stored
-    pub told : AreTold t es own
+    pub told : AreTold t (map (in_group wid rel v) es) own
     pub own_read : AreReadUnder t (group_prefix wid rel v) own
     pub from_read : MatchOption link (from ≡ []) (λ m. AreReadUnder t (group_prefix m rel v) from)
-    pub made : group_changes wid rel v es fs ≡ rows_made wid own from
+    pub made : map (in_group wid rel v) (group_changes es fs) ≡ rows_made wid own from
 
-  pub group_read : (wid : ℕ) (link : Option ℕ) (es fs : List (ValKey × Mark)) → IsNum wid → MatchOption link (Unit {0}) IsNum → AreUnder val_codec t (group_prefix wid rel v) es
-      → MatchOption link (fs ≡ []) (λ m. AreUnder val_codec t (group_prefix m rel v) fs) → IsGroupRead wid link es fs
+  pub group_read : (wid : ℕ) (link : Option ℕ) (es fs : List (ℕ × Mark)) → IsNum wid → MatchOption link (Unit {0}) IsNum → AreUnder val_codec t (group_prefix wid rel v) (map (in_group wid rel v) es)
+      → MatchOption link (fs ≡ []) (λ m. AreUnder val_codec t (group_prefix m rel v) (map (in_group m rel v) fs)) → IsGroupRead wid link es fs
   group_read wid None es fs w l under none =
-      let own = read_with (group_prefix wid rel v) es under in
+      let own = read_with (group_prefix wid rel v) (map (in_group wid rel v) es) under in
       record {
         own = own.0;
         from = [];
         told = own.1;
         own_read = own.2;
         from_read = refl;
-        made = ap (group_changes wid rel v es) none ∙ made_alike wid w es [] own.0 [] own.1 tt own.2 tt;
+        made = ap (λ (ds : List (ℕ × Mark)). map (in_group wid rel v) (group_changes es ds)) none ∙ made_alike wid wid w es [] own.0 [] own.1 tt own.2 tt;
       }
   group_read wid (Some m) es fs w l under over =
-      let own = read_with (group_prefix wid rel v) es under in
-      let from = read_with (group_prefix m rel v) fs over in
+      let own = read_with (group_prefix wid rel v) (map (in_group wid rel v) es) under in
+      let from = read_with (group_prefix m rel v) (map (in_group m rel v) fs) over in
       record {
         own = own.0;
         from = from.0;
         told = own.1;
         own_read = own.2;
         from_read = from.2;
-        made = made_alike wid w es fs own.0 from.0 own.1 from.1 own.2 (read_in m from.0 l from.2);
+        made = made_alike wid m w es fs own.0 from.0 own.1 from.1 own.2 (read_in m from.0 l from.2);
       }

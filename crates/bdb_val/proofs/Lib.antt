@@ -4,6 +4,7 @@ pub mod CopyLemmas
 pub mod CopyTells
 pub mod GroupLemmas
 pub mod HeldLemmas
+pub mod LinkLemmas
 pub mod NextMarks
 pub mod NumberedLemmas
 pub mod OtherLemmas

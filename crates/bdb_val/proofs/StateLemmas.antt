@@ -1,5 +1,5 @@
 -- What the code that settles a group of one world owes.
-use Rattle.std.proofs.Common.{◌≡◌, ◌∙◌, ℕ, Bool, true, false, List, [], ◌∷◌, length, filter, Option, Some, None, MatchOption, cond, inl, inr, is_some, refl, ap, sym, subst}
+use Rattle.std.proofs.Common.{◌≡◌, ◌∙◌, ℕ, suc, Bool, true, false, ◌||◌, List, [], ◌∷◌, length, filter, Option, Some, None, MatchOption, cond, inl, inr, is_some, map, refl, ap, sym, subst}
 use Rattle.std.specs.List.{list_any, flat_map, AllByRecursion}
 use Rattle.std.specs.Ordering.{eq_by_cmp}
 use Rattle.std.specs.Option.{option_map}
@@ -9,23 +9,23 @@ use Rattle.bdb_base.specs.declared.kinds.Value.{Value}
 use Rattle.bdb_base.specs.declared.kinds.Value.TheVariants.{Int, Text}
 use Rattle.bdb_keep.specs.Tables.{Tables, bytes_cmp}
 use Rattle.bdb_key.specs.Grammar.{IsNum, IsPlainValue, HasPlainText}
-use Rattle.bdb_paths.proofs.StateLemmas.{list_any_same}
 use Rattle.bdb_tables.specs.Codec.{HasAt, place}
+use Rattle.bdb_tables.specs.GroupMarks.{in_group}
 use Rattle.bdb_tables.specs.InUse.{ValKey, val_bytes, link_codec, tuple_codec, val_codec}
 use Rattle.bdb_tables.specs.InUseLaws.{vals_are_one}
 use Rattle.bdb_tables.specs.Marks.{Mark}
 use Rattle.bdb_tables.specs.Spans.{AreUnder}
-use Rattle.bdb_tables.specs.Writes.{IsChange, MayBeChange, with_change, with_changes}
+use Rattle.bdb_tables.specs.Writes.{IsChange, with_change, with_changes}
 use Rattle.bdb_tables.proofs.Held.{same_place}
 use Rattle.bdb_tables.proofs.WriteLemmas.{get_after_change, row_elsewhere}
-use Rattle.bdb_val.specs.GroupChanges.{mark_under, is_explicit_plus, handed_down, group_change, own_change, new_change, group_changes}
-use Rattle.bdb_val.specs.Reads.{AreTold, HaveTuples}
+use Rattle.bdb_val.specs.GroupChanges.{mark_under, is_explicit_plus, handed_down, group_change, own_change, new_change, group_changes, turns_at, comes_at, goes_at, TellsMarks}
+use Rattle.bdb_val.specs.Reads.{AreTold, HaveTuples, group_prefix}
 use Rattle.bdb_val.specs.Settling.{mark_in, same_mark}
 use Rattle.bdb_val.specs.Steps.{turns_from, comes, goes, turns, is_new, is_gone, Tells}
 use Rattle.bdb_val.specs.declared.stored.Settled.{Settled}
 use Rattle.bdb_val.specs.declared.stored.Stored.{Stored}
 use Rattle.bdb_val.proofs.GroupLemmas.{mark_told}
-use Rattle.bdb_val.proofs.SettlingLemmas.{all_append, all_flat_map, all_of}
+use Rattle.bdb_val.proofs.SettlingLemmas.{all_append, all_flat_map}
 use Rattle.bdb_val.proofs.ToldLemmas.{Stands, entries_stand}
 
 -- ---- texts are plain
@@ -36,35 +36,35 @@ plain_text (Text b) h = h
 
 -- ---- changes of a group
 
-change_each : (P : ValKey × Option Mark → Type 0) (x : ValKey) (next : Option Mark) (b : Bool) → P (x, next) → AllByRecursion P (cond b [] ((x, next) ∷ []))
-change_each P x next true p = tt
-change_each P x next false p = (p, tt)
+change_each : (P : ℕ × Option Mark → Type 0) (tid : ℕ) (next : Option Mark) (b : Bool) → P (tid, next) → AllByRecursion P (cond b [] ((tid, next) ∷ []))
+change_each P tid next true p = tt
+change_each P tid next false p = (p, tt)
 
-cond_each : (P : ValKey × Option Mark → Type 0) (xs : List (ValKey × Option Mark)) (b : Bool) → AllByRecursion P xs → AllByRecursion P (cond b [] xs)
+cond_each : (P : ℕ × Option Mark → Type 0) (xs : List (ℕ × Option Mark)) (b : Bool) → AllByRecursion P xs → AllByRecursion P (cond b [] xs)
 cond_each P xs true a = tt
 cond_each P xs false a = a
 
 -- what holds of the change of each row to any mark holds of the changes that settle a group
-group_each : (wid rel : ℕ) (v : Value) (own from : List (ValKey × Mark)) (Q : ValKey × Mark → Type 0) (P : ValKey × Option Mark → Type 0)
-    → ((e : ValKey × Mark) (m : Option Mark) → Q e → P ((wid, rel, v, e.0.3), m)) → AllByRecursion Q own → AllByRecursion Q from → AllByRecursion P (group_changes wid rel v own from)
-group_each wid rel v own from Q P h a b =
+group_each : (own from : List (ℕ × Mark)) (Q : ℕ → Type 0) → AllByRecursion (λ e. Q e.0) own → AllByRecursion (λ e. Q e.0) from → AllByRecursion (λ x. Q x.0) (group_changes own from)
+group_each own from Q a b =
+    let P : ℕ × Option Mark → Type 0 = λ x. Q x.0 in
     let barred = list_any is_explicit_plus own in
-    all_append P (flat_map (own_change wid rel v barred from) own) (flat_map (new_change wid rel v barred own) from)
-    (all_flat_map Q P (own_change wid rel v barred from) (λ e q.
-    let next = handed_down barred (mark_under from e.0.3) in
-    cond_each P (group_change wid rel v e.0.3 (Some e.1) next) e.1.1 (change_each P (wid, rel, v, e.0.3) next (same_mark (Some e.1) next) (h e next q))) own a)
-    (all_flat_map Q P (new_change wid rel v barred own) (λ e q.
+    all_append P (flat_map (own_change barred from) own) (flat_map (new_change barred own) from)
+    (all_flat_map (λ (e : ℕ × Mark). Q e.0) P (own_change barred from) (λ e q.
+    let next = handed_down barred (mark_under from e.0) in
+    cond_each P (group_change e.0 (Some e.1) next) e.1.1 (change_each P e.0 next (same_mark (Some e.1) next) q)) own a)
+    (all_flat_map (λ (e : ℕ × Mark). Q e.0) P (new_change barred own) (λ e q.
     let next = handed_down barred (Some e.1) in
-    cond_each P (group_change wid rel v e.0.3 None next) (is_some (mark_under own e.0.3)) (change_each P (wid, rel, v, e.0.3) next (same_mark None next) (h e next q))) from b)
+    cond_each P (group_change e.0 None next) (is_some (mark_under own e.0)) (change_each P e.0 next (same_mark None next) q)) from b)
 
--- the changes that settle a group may be made, where the text of its key is plain
-pub group_may_be : (wid rel : ℕ) (v : Value) (own from : List (ValKey × Mark)) → HasPlainText v → AllByRecursion (MayBeChange val_codec) (group_changes wid rel v own from)
-group_may_be wid rel v own from p =
-    group_each wid rel v own from (λ _. Unit {0}) (MayBeChange val_codec) (λ e m _. record { key = p; row = any m }) (all_of (λ _. Unit {0}) (λ _. tt) own) (all_of (λ _. Unit {0}) (λ _. tt) from)
-  where
-    any : (m : Option Mark) → MatchOption m (Unit {0}) (λ _. Unit {0})
-    any None = tt
-    any (Some m) = tt
+-- what holds of keys holds of the numbers to which they are given, and back
+all_keyed : {X : Type 0} (wid rel : ℕ) (v : Value) (Q : ℕ → Type 0) (xs : List (ℕ × X)) → AllByRecursion (λ x. Q x.0) xs → AllByRecursion (λ (e : ValKey × X). Q e.0.3) (map (in_group wid rel v) xs)
+all_keyed wid rel v Q [] a = tt
+all_keyed wid rel v Q (x ∷ xs) a = (a.0, all_keyed wid rel v Q xs a.1)
+
+all_numbered : {X : Type 0} (wid rel : ℕ) (v : Value) (Q : ℕ → Type 0) (xs : List (ℕ × X)) → AllByRecursion (λ (e : ValKey × X). Q e.0.3) (map (in_group wid rel v) xs) → AllByRecursion (λ x. Q x.0) xs
+all_numbered wid rel v Q [] a = tt
+all_numbered wid rel v Q (x ∷ xs) a = (a.0, all_numbered wid rel v Q xs a.1)
 
 -- ---- each row has its tuple still
 
@@ -105,16 +105,17 @@ under_tuples t prefix es h u = go es (entries_stand t prefix es u)
     go (d ∷ ds) a = (h d.0 a.0.0 a.0.1, go ds a.1)
 
 -- after the changes that settle a group each row has its tuple
-pub group_keeps_tuples : (t u : Tables) (wid rel : ℕ) (v : Value) (link : Option ℕ) (prefix : ℕ → List ℕ) (own from : List (ValKey × Mark)) → HaveTuples t
-    → AreUnder val_codec t (prefix wid) own → MatchOption link (from ≡ []) (λ m. AreUnder val_codec t (prefix m) from)
-    → AllByRecursion (IsChange val_codec) (group_changes wid rel v own from) → u ≡ with_changes val_codec t (group_changes wid rel v own from) → HaveTuples u
-group_keeps_tuples t u wid rel v link prefix own from h a b c w =
-    subst HaveTuples (sym w) (changes_keep (group_changes wid rel v own from) t h c
-    (group_each wid rel v own from (λ e. HasTuple t e.0.3) (λ x. HasTuple t x.0.3) (λ e m q. q) (under_tuples t (prefix wid) own h a) (over link b)))
+pub group_keeps_tuples : (t u : Tables) (wid rel : ℕ) (v : Value) (link : Option ℕ) (own from : List (ℕ × Mark)) → HaveTuples t
+    → AreUnder val_codec t (group_prefix wid rel v) (map (in_group wid rel v) own) → MatchOption link (from ≡ []) (λ m. AreUnder val_codec t (group_prefix m rel v) (map (in_group m rel v) from))
+    → AllByRecursion (IsChange val_codec) (map (in_group wid rel v) (group_changes own from)) → u ≡ with_changes val_codec t (map (in_group wid rel v) (group_changes own from)) → HaveTuples u
+group_keeps_tuples t u wid rel v link own from h a b c w =
+    subst HaveTuples (sym w) (changes_keep (map (in_group wid rel v) (group_changes own from)) t h c
+    (all_keyed wid rel v (HasTuple t) (group_changes own from)
+    (group_each own from (HasTuple t) (all_numbered wid rel v (HasTuple t) own (under_tuples t (group_prefix wid rel v) (map (in_group wid rel v) own) h a)) (over link b))))
   where
-    over : (o : Option ℕ) → MatchOption o (from ≡ []) (λ m. AreUnder val_codec t (prefix m) from) → AllByRecursion (λ e. HasTuple t e.0.3) from
-    over None e = subst (AllByRecursion (λ e. HasTuple t e.0.3)) (sym e) tt
-    over (Some m) e = under_tuples t (prefix m) from h e
+    over : (o : Option ℕ) → MatchOption o (from ≡ []) (λ m. AreUnder val_codec t (group_prefix m rel v) (map (in_group m rel v) from)) → AllByRecursion (λ e. HasTuple t e.0) from
+    over None e = subst (AllByRecursion (λ e. HasTuple t e.0)) (sym e) tt
+    over (Some m) e = all_numbered m rel v (HasTuple t) from (under_tuples t (group_prefix m rel v) (map (in_group m rel v) from) h e)
 
 -- a link that is read is a number
 pub fits_at : (t : Tables) (wid : ℕ) (link : Option ℕ) → HasAt link_codec t wid link → MatchOption link (Unit {0}) IsNum
@@ -124,13 +125,25 @@ fits_at t wid (Some m) h = h.in_grammar
 -- ---- what is told
 
 -- what is told by numbers is told of the rows with their tuples
-pub group_tells : (t : Tables) (es : List (ValKey × Mark)) (xs : List Stored) (made : List (ValKey × Option Mark)) (s : Settled) → AreTold t es xs → Tells (mark_under es) made s → Tells (mark_in xs) made s
-group_tells t es xs made s a h = record {
-  turned = h.turned ∙ list_any_same (turns (mark_under es)) (turns (mark_in xs)) (λ x. ap (λ m. turns_from m x.1) (mark_told t es xs a x.0.3)) made;
-  put = h.put ∙ ap length (filter_same (is_new (mark_under es)) (is_new (mark_in xs)) (λ x. ap (λ m. comes m x.1) (mark_told t es xs a x.0.3)) made);
-  taken = h.taken ∙ ap length (filter_same (is_gone (mark_under es)) (is_gone (mark_in xs)) (λ x. ap (λ m. goes m x.1) (mark_told t es xs a x.0.3)) made);
+pub group_tells : (t : Tables) (wid rel : ℕ) (v : Value) (es : List (ℕ × Mark)) (xs : List Stored) (made : List (ℕ × Option Mark)) (s : Settled) → AreTold t (map (in_group wid rel v) es) xs
+    → TellsMarks (mark_under es) made s → Tells (mark_in xs) (map (in_group wid rel v) made) s
+group_tells t wid rel v es xs made s a h = record {
+  turned = h.turned ∙ any_keyed (turns_at (mark_under es)) (turns (mark_in xs)) (λ x. ap (λ m. turns_from m x.1) (mark_told t wid rel v es xs a x.0)) made;
+  put = h.put ∙ count_keyed (comes_at (mark_under es)) (is_new (mark_in xs)) (λ x. ap (λ m. comes m x.1) (mark_told t wid rel v es xs a x.0)) made;
+  taken = h.taken ∙ count_keyed (goes_at (mark_under es)) (is_gone (mark_in xs)) (λ x. ap (λ m. goes m x.1) (mark_told t wid rel v es xs a x.0)) made;
 }
   where
-    filter_same : (p q : ValKey × Option Mark → Bool) → ((x : ValKey × Option Mark) → p x ≡ q x) → (cs : List (ValKey × Option Mark)) → filter p cs ≡ filter q cs
-    filter_same p q e [] = refl
-    filter_same p q e (c ∷ cs) = ap (λ b. cond b (c ∷ filter p cs) (filter p cs)) (e c) ∙ ap (λ r. cond (q c) (c ∷ r) r) (filter_same p q e cs)
+    any_keyed : (p : ℕ × Option Mark → Bool) (q : ValKey × Option Mark → Bool) → ((x : ℕ × Option Mark) → p x ≡ q (in_group wid rel v x)) → (cs : List (ℕ × Option Mark))
+        → list_any p cs ≡ list_any q (map (in_group wid rel v) cs)
+    any_keyed p q e [] = refl
+    any_keyed p q e (c ∷ cs) = ap (λ b. b || list_any p cs) (e c) ∙ ap (λ b. q (in_group wid rel v c) || b) (any_keyed p q e cs)
+
+    count_keyed : (p : ℕ × Option Mark → Bool) (q : ValKey × Option Mark → Bool) → ((x : ℕ × Option Mark) → p x ≡ q (in_group wid rel v x)) → (cs : List (ℕ × Option Mark))
+        → length (filter p cs) ≡ length (filter q (map (in_group wid rel v) cs))
+    count_keyed p q e [] = refl
+    count_keyed p q e (c ∷ cs) = ap (λ b. length (cond b (c ∷ filter p cs) (filter p cs))) (e c) ∙ step (q (in_group wid rel v c)) (count_keyed p q e cs)
+      where
+        step : (b : Bool) → length (filter p cs) ≡ length (filter q (map (in_group wid rel v) cs))
+            → length (cond b (c ∷ filter p cs) (filter p cs)) ≡ length (cond b (in_group wid rel v c ∷ filter q (map (in_group wid rel v) cs)) (filter q (map (in_group wid rel v) cs)))
+        step true k = ap suc k
+        step false k = k

@@ -1,11 +1,35 @@
 -- A step of the code as a visit of a walk.
-use Rattle.std.proofs.Common.{◌≡◌, ◌∙◌, ℕ, false, List, length, sym, subst}
+use Rattle.std.proofs.Common.{◌≡◌, ◌∙◌, ℕ, false, List, [], length, MatchOption, ap, sym, subst}
 use Rattle.bdb_base.specs.Causes.{Rises}
 use Rattle.bdb_keep.specs.Seen.{Seen}
-use Rattle.bdb_val.specs.Steps.{IsStep}
+use Rattle.bdb_keep.specs.Tables.{Tables}
+use Rattle.bdb_tables.specs.Codec.{HasAt}
+use Rattle.bdb_tables.specs.InUse.{link_codec, val_codec}
+use Rattle.bdb_tables.specs.Writes.{with_changes}
+use Rattle.bdb_val.specs.Reads.{AreReadUnder}
+use Rattle.bdb_val.specs.Steps.{IsStep, rows_made}
 use Rattle.bdb_val.specs.Visits.{IsTold}
 use Rattle.bdb_val.specs.Walks.{IsVisit, IsQuiet, changes_of}
 use Rattle.bdb_val.specs.declared.stored.Settled.{Settled}
+
+-- a step after a read, as one from before the read
+pub step_from : (old start mid : Seen) (prefix : ℕ → List ℕ) (wid : ℕ) (s : Settled) → start.kept ≡ old.kept → start.writes ≡ old.writes → IsStep start mid wid prefix s → IsStep old mid wid prefix s
+step_from old start mid prefix wid s kept writes step =
+    let own = step.settling.own in
+    let from = step.settling.from in
+    record {
+      link = step.link;
+      linked = subst (λ (t : Tables). HasAt link_codec t wid step.link) kept step.linked;
+      settling = record {
+        own = own;
+        from = from;
+        own_read = subst (λ (t : Tables). AreReadUnder t (prefix wid) own) kept step.settling.own_read;
+        from_read = subst (λ (t : Tables). MatchOption step.link (from ≡ []) (λ m. AreReadUnder t (prefix m) from)) kept step.settling.from_read;
+        written = step.settling.written ∙ ap (λ (t : Tables). with_changes val_codec t (rows_made wid own from)) kept;
+      };
+      tells = step.tells;
+      writes = subst (λ n. Rises (length (rows_made wid own from)) n mid.writes) writes step.writes;
+    }
 
 module _ (old mid new : Seen) (prefix : ℕ → List ℕ) (wid : ℕ) (s : Settled) (step : IsStep old mid wid prefix s) (kept : new.kept ≡ mid.kept) (writes : new.writes ≡ mid.writes) where
   -- the visit that a step made, where nothing was written after it

@@ -41,10 +41,10 @@ use Rattle.bdb_val.proofs.VisitLemmas.{linked_is_named, links_after, explicit_af
 -- ---- the worlds linked to a world
 
 -- links as they are found by the bytes of their keys
-abbrev links_at : List ((ℕ × ℕ) × Unit {0}) → List ℕ → Option (List ℕ)
+abbrev pub links_at : List ((ℕ × ℕ) × Unit {0}) → List ℕ → Option (List ℕ)
 links_at es q = find bytes_cmp q (map (entry_bytes linked_codec) es)
 
-link_found : (es all : List ((ℕ × ℕ) × Unit {0})) → ((q : List ℕ) → is_some (links_at es q) ≡ true → is_some (links_at all q) ≡ true) → AllByRecursion (λ e. is_some (links_at all (pair_bytes e.0)) ≡ true) es
+pub link_found : (es all : List ((ℕ × ℕ) × Unit {0})) → ((q : List ℕ) → is_some (links_at es q) ≡ true → is_some (links_at all q) ≡ true) → AllByRecursion (λ e. is_some (links_at all (pair_bytes e.0)) ≡ true) es
 link_found [] all k = tt
 link_found (e ∷ es) all k = (
   k (pair_bytes e.0) (ap is_some (cond-true (eq_by_cmp bytes_cmp (pair_bytes e.0) (pair_bytes e.0)) (Some []) (links_at es (pair_bytes e.0)) (ap is_eq (tied (pair_bytes e.0) (pair_bytes e.0) refl)))),
@@ -55,7 +55,7 @@ link_found (e ∷ es) all k = (
     later true o s = refl
     later false o s = s
 
-leads_tells : (o : Option ℕ) (n : ℕ) → leads_to o n ≡ true → o ≡ Some n
+pub leads_tells : (o : Option ℕ) (n : ℕ) → leads_to o n ≡ true → o ≡ Some n
 leads_tells None n e = absurd (false≢true e)
 leads_tells (Some m) n e = ap Some (eqb-true m n e)
 

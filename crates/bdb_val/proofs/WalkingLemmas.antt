@@ -1,6 +1,7 @@
 -- A walk as the code goes on with it.
 use Rattle.std.proofs.Common.{◌≡◌, ◌∙◌, ℕ, ◌+◌, ◌≤◌, List, [], ◌∷◌, ◌++◌, ◌⊎◌, length, Option, inl, inr, refl, ap, sym, subst, arith}
-use Rattle.std.proofs.lemmas.List.{append-nil, length-append}
+use Rattle.std.specs.List.{AllByRecursion}
+use Rattle.std.proofs.lemmas.List.{append-nil, length-append, map-append}
 use Rattle.bdb_base.specs.Causes.{Rises}
 use Rattle.bdb_base.specs.declared.kinds.Stmt.{Stmt}
 use Rattle.bdb_base.specs.declared.kinds.Value.{Value}
@@ -12,7 +13,7 @@ use Rattle.bdb_tables.specs.InUse.{ValKey, val_codec}
 use Rattle.bdb_tables.specs.Marks.{Mark}
 use Rattle.bdb_tables.specs.Names.{Names}
 use Rattle.bdb_tables.specs.Writes.{with_rows_at}
-use Rattle.bdb_val.specs.Groups.{IsUnsettled}
+use Rattle.bdb_val.specs.Groups.{HasLinks, IsUnsettled}
 use Rattle.bdb_val.specs.Middle.{worlds_of}
 use Rattle.bdb_val.specs.Others.{SameBut}
 use Rattle.bdb_val.specs.Reads.{HaveTuples, is_of_group, group_prefix}
@@ -23,22 +24,25 @@ use Rattle.bdb_val.specs.Walks.{AreLinkedTo, IsQuiet, Walked, changes_of, put_by
 use Rattle.bdb_val.specs.Walks.Walked.{first, next}
 use Rattle.bdb_val.specs.declared.stored.Settled.{Settled}
 use Rattle.bdb_val.proofs.Calls.{HasGone, gone_then}
+use Rattle.bdb_val.proofs.LinkLemmas.{IsLink, worlds_with, linked_to, links_are, still_link, all_parts}
 use Rattle.bdb_val.proofs.OtherLemmas.{is_rows}
 use Rattle.bdb_val.proofs.ReadLemmas.{group_span}
+use Rattle.bdb_val.proofs.SettlingLemmas.{all_append}
 use Rattle.bdb_val.proofs.WalkLemmas.{is_group, walk_on_way}
 
 -- how far a walk has come: its changes are made, each by one write
-pub record IsWalked (old now : Seen) (prefix : ℕ → List ℕ) (start : ℕ) (list : List ℕ) (total : Settled) : Type 0 where
+pub record IsWalked (old now : Seen) (prefix : ℕ → List ℕ) (start : ℕ) (list : List (ℕ × ℕ)) (total : Settled) : Type 0 where
   pub made : List (ValKey × Option Mark)
   pub put : ℕ
   pub taken : ℕ
-  pub walked : Walked prefix old.kept start now.kept list made put taken
+  pub walked : Walked prefix old.kept start now.kept (worlds_with list) made put taken
+  pub links : AllByRecursion (IsLink old.kept) list
   pub put_is : total.put ≡ counted put
   pub taken_is : total.taken ≡ counted taken
   pub writes : Rises (length made) old.writes now.writes
 
 -- a walk goes on: this far it has come, whichever statements they are where only a group was not settled
-pub record IsWalking (old now : Seen) (rel : ℕ) (v : Value) (start : ℕ) (list : List ℕ) (total : Settled) : Type 0 where
+pub record IsWalking (old now : Seen) (rel : ℕ) (v : Value) (start : ℕ) (list : List (ℕ × ℕ)) (total : Settled) : Type 0 where
   pub gone : HasGone old now
   pub grammar : InGrammar now.kept
   pub tuples : HaveTuples now.kept
@@ -50,26 +54,31 @@ counted_both : (a b m n : ℕ) → a ≡ counted m → b ≡ n → counted (a + 
 counted_both a b m n e f = omega arith
 
 -- the first visit
-first_walked : (old new : Seen) (prefix : ℕ → List ℕ) (start : ℕ) (before list : List ℕ) (s sum : Settled) → sum.put ≡ counted s.put → sum.taken ≡ counted s.taken → before ≡ []
-    → IsFirstVisit old new prefix start before list s → IsWalked old new prefix start list sum
-first_walked old new prefix start before list s sum p q none v = record {
-  made = changes_of v.visit;
-  put = put_by v.visit;
-  taken = taken_by v.visit;
-  walked = subst (λ xs. Walked prefix old.kept start new.kept xs (changes_of v.visit) (put_by v.visit) (taken_by v.visit)) (sym (v.pushed.list ∙ ap (λ (xs : List ℕ). xs ++ v.pushed.more) none)) (first new.kept v.pushed.more v.visit v.pushed.linked);
-  put_is = p ∙ ap counted v.told.put;
-  taken_is = q ∙ ap counted v.told.taken;
-  writes = v.told.writes;
-}
+first_walked : (ns : Names) (old new : Seen) (prefix : ℕ → List ℕ) (start : ℕ) (before list : List (ℕ × ℕ)) (s sum : Settled) → HasLinks ns old.kept → SameBut is_rows old.kept new.kept
+    → sum.put ≡ counted s.put → sum.taken ≡ counted s.taken → before ≡ [] → IsFirstVisit old new prefix start before list s → IsWalked old new prefix start list sum
+first_walked ns old new prefix start before list s sum links same p q none v =
+    let more = v.pushed.more in
+    let is : list ≡ more = v.pushed.list ∙ ap (λ (xs : List (ℕ × ℕ)). xs ++ more) none in
+    record {
+      made = changes_of v.visit;
+      put = put_by v.visit;
+      taken = taken_by v.visit;
+      walked = subst (λ xs. Walked prefix old.kept start new.kept xs (changes_of v.visit) (put_by v.visit) (taken_by v.visit)) (sym (ap worlds_with is))
+          (first new.kept (worlds_with more) v.visit (linked_to new.kept start more v.pushed.linked));
+      links = subst (AllByRecursion (IsLink old.kept)) (sym is) (links_are ns old.kept new.kept links same start more v.pushed.linked);
+      put_is = p ∙ ap counted v.told.put;
+      taken_is = q ∙ ap counted v.told.taken;
+      writes = v.told.writes;
+    }
 
-pub walk_begins : (old new : Seen) (rel : ℕ) (v : Value) (start : ℕ) (before list : List ℕ) (s sum : Settled) → HasGone old new → InGrammar new.kept → HaveTuples new.kept → SameBut is_rows old.kept new.kept
+pub walk_begins : (old new : Seen) (rel : ℕ) (v : Value) (start : ℕ) (before list : List (ℕ × ℕ)) (s sum : Settled) → HasGone old new → InGrammar new.kept → HaveTuples new.kept → SameBut is_rows old.kept new.kept
     → sum.put ≡ counted s.put → sum.taken ≡ counted s.taken → before ≡ [] → WhereStated old.kept (IsFirstVisit old new (λ w. group_prefix w rel v) start before list s) → IsWalking old new rel v start list sum
 walk_begins old new rel v start before list s sum gone grammar tuples others p q none visit = record {
   gone = gone;
   grammar = grammar;
   tuples = tuples;
   others = others;
-  walked = λ stmts ns tuple f h. first_walked old new (λ w. group_prefix w rel v) start before list s sum p q none (visit stmts (worlds_of ns) tuple f h.explicit);
+  walked = λ stmts ns tuple f h. first_walked ns old new (λ w. group_prefix w rel v) start before list s sum h.links others p q none (visit stmts (worlds_of ns) tuple f h.explicit);
 }
 
 rises_then : (m n a b c : ℕ) → a ≤ b → b ≤ c → Rises m a b → Rises n b c → Rises (m + n) a c
@@ -79,20 +88,26 @@ rises_then m n a b c p q r s below =
     omega arith
 
 -- one visit more
-next_walked : (old now new : Seen) (prefix : ℕ → List ℕ) (start wid : ℕ) (list left after : List ℕ) (total s sum : Settled) → HasGone old now → HasGone now new → IsWalked old now prefix start list total
-    → list ≡ left ++ wid ∷ [] → IsNextVisit now new prefix wid left after s → sum.put ≡ counted (total.put + s.put) → sum.taken ≡ counted (total.taken + s.taken) → IsWalked old new prefix start after sum
-next_walked old now new prefix start wid list left after total s sum before gone w is v p q =
-    let walked : Walked prefix old.kept start now.kept (left ++ wid ∷ []) w.made w.put w.taken = subst (λ xs. Walked prefix old.kept start now.kept xs w.made w.put w.taken) is w.walked in
-    let goes = λ (more : List ℕ) (e : after ≡ left ++ more) (l : ((more ≡ []) × IsQuiet v.visit) ⊎ AreLinkedTo new.kept wid more).
+next_walked : (ns : Names) (old now new : Seen) (prefix : ℕ → List ℕ) (start : ℕ) (at : ℕ × ℕ) (list left after : List (ℕ × ℕ)) (total s sum : Settled) → HasLinks ns old.kept → SameBut is_rows old.kept new.kept
+    → HasGone old now → HasGone now new → IsWalked old now prefix start list total → AllByRecursion (IsLink old.kept) left
+    → list ≡ left ++ at ∷ [] → IsNextVisit now new prefix at.0 left after s → sum.put ≡ counted (total.put + s.put) → sum.taken ≡ counted (total.taken + s.taken) → IsWalked old new prefix start after sum
+next_walked ns old now new prefix start at list left after total s sum links same before gone w behind is v p q =
+    let walked : Walked prefix old.kept start now.kept (worlds_with left ++ at.0 ∷ []) w.made w.put w.taken =
+    subst (λ xs. Walked prefix old.kept start now.kept xs w.made w.put w.taken) (ap worlds_with is ∙ map-append (λ (x : ℕ × ℕ). x.0) left (at ∷ [])) w.walked in
+    let goes = λ (more : List ℕ) (e : worlds_with after ≡ worlds_with left ++ more) (l : ((more ≡ []) × IsQuiet v.visit) ⊎ AreLinkedTo new.kept at.0 more).
     subst (λ xs. Walked prefix old.kept start new.kept xs (w.made ++ changes_of v.visit) (w.put + put_by v.visit) (w.taken + taken_by v.visit)) (sym e)
-    (next now.kept new.kept wid left more w.made w.put w.taken walked v.visit l) in
+    (next now.kept new.kept at.0 (worlds_with left) more w.made w.put w.taken walked v.visit l) in
     record {
       made = w.made ++ changes_of v.visit;
       put = w.put + put_by v.visit;
       taken = w.taken + taken_by v.visit;
       walked = elim v.pushed [
-        | inl k ↦ goes [] (k.0 ∙ sym (append-nil left)) (inl (refl, k.1))
-        | inr k ↦ goes k.more k.list (inr k.linked)
+        | inl k ↦ goes [] (ap worlds_with k.0 ∙ sym (append-nil (worlds_with left))) (inl (refl, k.1))
+        | inr k ↦ goes (worlds_with k.more) (ap worlds_with k.list ∙ map-append (λ (x : ℕ × ℕ). x.0) left k.more) (inr (linked_to new.kept at.0 k.more k.linked))
+      ];
+      links = elim v.pushed [
+        | inl k ↦ subst (AllByRecursion (IsLink old.kept)) (sym k.0) behind
+        | inr k ↦ subst (AllByRecursion (IsLink old.kept)) (sym k.list) (all_append (IsLink old.kept) left k.more behind (links_are ns old.kept new.kept links same at.0 k.more k.linked))
       ];
       put_is = p ∙ counted_both total.put s.put w.put (put_by v.visit) w.put_is v.told.put;
       taken_is = q ∙ counted_both total.taken s.taken w.taken (taken_by v.visit) w.taken_is v.told.taken;
@@ -100,18 +115,22 @@ next_walked old now new prefix start wid list left after total s sum before gone
           (rises_then (length w.made) (length (changes_of v.visit)) old.writes now.writes new.writes before.counts.writes gone.counts.writes w.writes v.told.writes);
     }
 
-pub walk_more : (old now new : Seen) (rel : ℕ) (v : Value) (start wid : ℕ) (list left after : List ℕ) (total s sum : Settled) → IsNum rel → IsPlainValue v → IsWalking old now rel v start list total
-    → list ≡ left ++ wid ∷ [] → HasGone now new → InGrammar new.kept → HaveTuples new.kept → SameBut is_rows now.kept new.kept
-    → WhereStated now.kept (IsNextVisit now new (λ w. group_prefix w rel v) wid left after s)
+pub walk_more : (old now new : Seen) (rel : ℕ) (v : Value) (start : ℕ) (at : ℕ × ℕ) (list left after : List (ℕ × ℕ)) (total s sum : Settled) → IsNum rel → IsPlainValue v → IsWalking old now rel v start list total
+    → list ≡ left ++ at ∷ [] → HasGone now new → InGrammar new.kept → HaveTuples new.kept → SameBut is_rows now.kept new.kept
+    → (IsLink now.kept at → WhereStated now.kept (IsNextVisit now new (λ w. group_prefix w rel v) at.0 left after s))
     → sum.put ≡ counted (total.put + s.put) → sum.taken ≡ counted (total.taken + s.taken) → IsWalking old new rel v start after sum
-walk_more old now new rel v start wid list left after total s sum r plain w is gone grammar tuples others visit p q = record {
-  gone = gone_then old now new w.gone gone;
-  grammar = grammar;
-  tuples = tuples;
-  others = λ place out. others place out ∙ w.others place out;
-  walked = λ stmts ns tuple f h.
-      let k = w.walked stmts ns tuple f h in
-      let prefix = λ (m : ℕ). group_prefix m rel v in
-      let way = walk_on_way stmts ns tuple (is_of_group rel v) prefix h.names (λ m n. group_span m rel v n r plain) (is_group rel v) f old.kept start h now.kept list k.made k.put k.taken k.walked in
-      next_walked old now new prefix start wid list left after total s sum w.gone gone k is (visit stmts (worlds_of ns) tuple (with_rows_at val_codec f k.made) way.explicit) p q;
-}
+walk_more old now new rel v start at list left after total s sum r plain w is gone grammar tuples others visit p q =
+    let same : SameBut is_rows old.kept new.kept = λ place out. others place out ∙ w.others place out in
+    record {
+      gone = gone_then old now new w.gone gone;
+      grammar = grammar;
+      tuples = tuples;
+      others = same;
+      walked = λ stmts ns tuple f h.
+          let k = w.walked stmts ns tuple f h in
+          let prefix = λ (m : ℕ). group_prefix m rel v in
+          let way = walk_on_way stmts ns tuple (is_of_group rel v) prefix h.names (λ m n. group_span m rel v n r plain) (is_group rel v) f old.kept start h now.kept (worlds_with list) k.made k.put k.taken k.walked in
+          let parts = all_parts (IsLink old.kept) left at (subst (AllByRecursion (IsLink old.kept)) is k.links) in
+          let seen = visit (still_link old.kept now.kept w.others at parts.1) stmts (worlds_of ns) tuple (with_rows_at val_codec f k.made) way.explicit in
+          next_walked ns old now new prefix start at list left after total s sum h.links same w.gone gone k parts.0 is seen p q;
+    }

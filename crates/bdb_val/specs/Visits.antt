@@ -1,15 +1,28 @@
 -- What visits of a walk read, write and list.
-use Rattle.std.specs.Prelude.{◌≡◌, ℕ, ◌⊎◌, List, ◌++◌, length}
+use Rattle.std.specs.Prelude.{◌≡◌, ℕ, ◌⊎◌, List, ◌++◌, length, map}
 use Rattle.bdb_base.specs.Causes.{Rises}
 use Rattle.bdb_keep.specs.Seen.{Seen}
 use Rattle.bdb_keep.specs.Tables.{Tables}
-use Rattle.bdb_val.specs.Walks.{AreLinkedTo, IsVisit, IsQuiet, changes_of, put_by, taken_by}
+use Rattle.bdb_key.specs.Bytes.{num_bytes}
+use Rattle.bdb_tables.specs.InUse.{linked_codec}
+use Rattle.bdb_tables.specs.Spans.{AreUnder}
+use Rattle.bdb_val.specs.Walks.{IsVisit, IsQuiet, changes_of, put_by, taken_by}
 use Rattle.bdb_val.specs.declared.stored.Settled.{Settled}
 
--- the worlds linked to a world come at the end of a list
-pub record ArePushed (t : Tables) (wid : ℕ) (before after : List ℕ) : Type 0 where
-  pub more : List ℕ
-  pub linked : AreLinkedTo t wid more
+-- a link as it is walked: the world that has it, and the one to which it leads
+abbrev pub turned_round : (ℕ × ℕ) × Unit {0} → ℕ × ℕ
+turned_round e = (e.0.1, e.0.0)
+
+-- the suffix links that lead to a world, as they are read
+pub record AreLinksTo (t : Tables) (wid : ℕ) (more : List (ℕ × ℕ)) : Type 0 where
+  pub entries : List ((ℕ × ℕ) × Unit {0})
+  pub under : AreUnder linked_codec t (num_bytes wid) entries
+  pub listed : more ≡ map turned_round entries
+
+-- the links that lead to a world come at the end of a list
+pub record ArePushed (t : Tables) (wid : ℕ) (before after : List (ℕ × ℕ)) : Type 0 where
+  pub more : List (ℕ × ℕ)
+  pub linked : AreLinksTo t wid more
   pub list : after ≡ before ++ more
 
 -- what is told of a visit, and one write for each of its changes
@@ -18,14 +31,14 @@ pub record IsTold (old new : Seen) (prefix : ℕ → List ℕ) (wid : ℕ) (s : 
   pub taken : s.taken ≡ taken_by visit
   pub writes : Rises (length (changes_of visit)) old.writes new.writes
 
--- a visit that puts the worlds linked to the visited one at the end of a list
-pub record IsFirstVisit (old new : Seen) (prefix : ℕ → List ℕ) (wid : ℕ) (before after : List ℕ) (s : Settled) : Type 0 where
+-- a visit that puts the links that lead to the visited world at the end of a list
+pub record IsFirstVisit (old new : Seen) (prefix : ℕ → List ℕ) (wid : ℕ) (before after : List (ℕ × ℕ)) (s : Settled) : Type 0 where
   pub visit : IsVisit prefix old.kept new.kept wid
   pub told : IsTold old new prefix wid s visit
   pub pushed : ArePushed new.kept wid before after
 
 -- a visit that does so unless no sign is another
-pub record IsNextVisit (old new : Seen) (prefix : ℕ → List ℕ) (wid : ℕ) (before after : List ℕ) (s : Settled) : Type 0 where
+pub record IsNextVisit (old new : Seen) (prefix : ℕ → List ℕ) (wid : ℕ) (before after : List (ℕ × ℕ)) (s : Settled) : Type 0 where
   pub visit : IsVisit prefix old.kept new.kept wid
   pub told : IsTold old new prefix wid s visit
   pub pushed : ((after ≡ before) × IsQuiet visit) ⊎ ArePushed new.kept wid before after

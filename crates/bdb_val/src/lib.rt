@@ -6,6 +6,7 @@ mod laws;
 mod marks;
 mod numbered;
 mod reading;
+mod room;
 mod settle;
 mod stored;
 mod walk;
@@ -19,7 +20,6 @@ pub use laws::{
     steps_write_differences,
 };
 pub use reading::{read_group, read_stored, read_world};
-pub use settle::settle_state;
 pub use stored::{Settled, Stored};
 pub use walk::settle_group;
 pub use world_rows::world_at;

@@ -3,24 +3,23 @@ ghost use Rattle.std.specs.Prelude.{◌≡◌, true};
 ghost use Rattle.bdb_val.specs.GroupChanges.{mark_under};
 ghost use Rattle.bdb_val.specs.Numbered.{AreRising};
 
-use crate::changes::Row;
+use crate::changes::Marked;
 use bdb_base::Sign;
 use std::marker::Model;
 
-/// Rows of a world by the numbers of their tuples. Contracts see the list of the rows.
+/// Rows of a group of a world by the numbers of their tuples. Contracts see the list of the rows.
 #[derive(Drop)]
 pub struct Numbered<'a> {
-    rows: &'a [Row],
+    rows: &'a [Marked],
     rising: bool,
 }
 
 impl<'a> Model for Numbered<'a> {
-    ghost use Rattle.std.specs.Prelude.{◌≡◌, true, List};
-    ghost use Rattle.bdb_tables.specs.InUse.{ValKey};
+    ghost use Rattle.std.specs.Prelude.{◌≡◌, ℕ, true, List};
     ghost use Rattle.bdb_tables.specs.Marks.{Mark};
     ghost use Rattle.bdb_val.specs.Numbered.{AreRising};
 
-    ghost Value = { List (ValKey × Mark) };
+    ghost Value = { List (ℕ × Mark) };
 
     ghost view = { λ n. n.rows.now };
 
@@ -29,7 +28,7 @@ impl<'a> Model for Numbered<'a> {
 
 impl<'a> Numbered<'a> {
     /// Rows, whose order by number is found out once.
-    pub fn of(rows: &'a [Row]) -> Self
+    pub fn of(rows: &'a [Marked]) -> Self
         ensures { result ≡ rows.now }
     {
         Numbered {
@@ -51,11 +50,11 @@ impl<'a> Numbered<'a> {
 }
 
 // Whether the numbers of rows rise.
-fn are_rising(rows: &[Row]) -> bool
+fn are_rising(rows: &[Marked]) -> bool
     ensures { result ≡ true → AreRising rows.now }
 {
     for at in 1..rows.len() {
-        if rows[at].0.3 <= rows[at - 1].0.3 {
+        if rows[at].0 <= rows[at - 1].0 {
             return false;
         }
     }
@@ -63,7 +62,7 @@ fn are_rising(rows: &[Row]) -> bool
 }
 
 // The mark of a number among rows whose numbers rise.
-fn mark_by_halves(rows: &[Row], tid: u32) -> Option<(Sign, bool)>
+fn mark_by_halves(rows: &[Marked], tid: u32) -> Option<(Sign, bool)>
     requires { AreRising rows.now }
     ensures { result ≡ mark_under rows.now tid }
 {
@@ -72,9 +71,9 @@ fn mark_by_halves(rows: &[Row], tid: u32) -> Option<(Sign, bool)>
     while low < high {
         let mid = low + (high - low) / 2;
         let row = &rows[mid];
-        if row.0.3 < tid {
+        if row.0 < tid {
             low = mid + 1;
-        } else if row.0.3 > tid {
+        } else if row.0 > tid {
             high = mid;
         } else {
             return Some(row.1);
@@ -84,11 +83,11 @@ fn mark_by_halves(rows: &[Row], tid: u32) -> Option<(Sign, bool)>
 }
 
 // The mark of the first row of a number.
-fn first_mark(rows: &[Row], tid: u32) -> Option<(Sign, bool)>
+fn first_mark(rows: &[Marked], tid: u32) -> Option<(Sign, bool)>
     ensures { result ≡ mark_under rows.now tid }
 {
     for row in rows {
-        if row.0.3 == tid {
+        if row.0 == tid {
             return Some(row.1);
         }
     }

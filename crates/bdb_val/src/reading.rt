@@ -1,25 +1,24 @@
 // Reading rows of worlds with their tuples.
-ghost use Rattle.std.specs.Prelude.{◌≡◌, ◌++◌, ◌+◌, ◌*◌, ◌≤◌, true, IfOk, OnOk, length, is_some};
+ghost use Rattle.std.specs.Prelude.{◌≡◌, ◌+◌, ◌*◌, ◌≤◌, true, IfOk, OnOk, length, map, is_some};
 ghost use Rattle.std.specs.FinMap as tables;
 ghost use Rattle.bdb_base.specs.Causes.{RoseBy};
 ghost use Rattle.bdb_keep.specs.Calls.{IsRead};
 ghost use Rattle.bdb_key.specs.Grammar.{HasPlainText, IsPlainValue};
 ghost use Rattle.bdb_tables.specs.Codec.{HasRow, place};
 ghost use Rattle.bdb_tables.specs.Grammar.{InGrammar};
+ghost use Rattle.bdb_tables.specs.GroupMarks.{in_group};
 ghost use Rattle.bdb_tables.specs.InUse.{tuple_codec, val_codec};
 ghost use Rattle.bdb_tables.specs.Spans.{AreUnder};
 ghost use Rattle.bdb_val.specs.Reads.{AreReadUnder, HaveTuples, world_prefix, group_prefix};
 
-use crate::changes::Row;
+use crate::changes::Marked;
+use crate::room::{PREFIX_ROOM, WalkRoom};
 use crate::stored::Stored;
 use bdb_base::{Tuple, Value};
 use bdb_keep::Keeper;
 use bdb_key::{put_num, put_value};
-use bdb_tables::{TabError, TupleTab, ValTab, get, rows_under};
+use bdb_tables::{Room, TabError, TupleTab, get, marks_under, numbered_under};
 use std::alloc::{AllocError, Global};
-
-/// Room for the bytes with which the keys of a group begin, unless its key is a long text.
-pub const PREFIX_ROOM: usize = 64;
 
 /// The rows of worlds whose keys begin with these bytes, with their tuples, in the order of the keys. Two reads for each
 /// row at most, and one more.
@@ -34,16 +33,17 @@ pub fn read_stored<K: Keeper>(
     ensures reads { IfOk result (λ rows. (K.seen keeper.new).reads ≤ (K.seen keeper.old).reads + (2 * length rows.items + 1)) }
     ensures read { IsRead (K.seen keeper.old) (K.seen keeper.new) result TabError.Fault }
 {
-    let entries = match rows_under::<ValTab, K>(alloc, keeper, prefix) {
+    let mut room = Room::new(alloc);
+    let entries = match numbered_under(alloc, keeper, prefix, &mut room) {
         Ok(entries) => entries,
         Err(error) => return Err(error),
     };
     let mut rows = Vec::new(alloc);
     for entry in &entries {
-        match tuple_of(alloc, keeper, entry.0.3) {
+        match tuple_of(alloc, keeper, entry.0) {
             Ok(tuple) => {
                 let row = Stored {
-                    tid: entry.0.3,
+                    tid: entry.0,
                     tuple,
                     mark: entry.1,
                 };
@@ -128,39 +128,43 @@ pub fn read_group<K: Keeper>(
     }
 }
 
-/// The rows of a world for the tuples of a relation and a value of its key, by their keys, in order of the tuples' numbers.
-/// `prefix` is room for bytes.
-pub fn group_rows<K: Keeper>(
+/// The rows of a world for the tuples of a relation and a value of its key, by the tuples' numbers, in their order. The
+/// room's `prefix` becomes the bytes with which the rows' keys begin.
+pub fn group_marks<K: Keeper>(
     alloc: Global,
     keeper: &mut K,
     wid: u32,
     rel: u32,
     key: &Value,
-    prefix: &mut Vec<u8>,
-) -> Result<Vec<Row>, TabError>
+    room: &mut WalkRoom,
+) -> Result<Vec<Marked>, TabError>
     requires grammar { InGrammar (K.seen keeper.old).kept }
     requires text { HasPlainText key.now }
-    ensures rows { IfOk result (λ rows. AreUnder val_codec (K.seen keeper.old).kept (group_prefix wid rel key.now) rows.items) }
+    ensures rows { IfOk result (λ rows. AreUnder val_codec (K.seen keeper.old).kept (group_prefix wid rel key.now) (map (in_group wid rel key.now) rows.items)) }
+    ensures prefix { OnOk result (room.new.prefix.items ≡ group_prefix wid rel key.now) }
     ensures fits { OnOk result (IsPlainValue key.now) }
     ensures read { IsRead (K.seen keeper.old) (K.seen keeper.new) result TabError.Fault }
 {
-    prefix.clear();
-    if put_group(prefix, wid, rel, key).is_err() {
-        keeper.undo();
-        return Err(TabError::Memory);
+    match put_group(&mut room.prefix, wid, rel, key) {
+        Ok(()) => {}
+        Err(_) => {
+            keeper.undo();
+            return Err(TabError::Memory);
+        }
     }
-    match rows_under::<ValTab, K>(alloc, keeper, prefix.as_slice()) {
+    match marks_under(alloc, keeper, &room.prefix, &mut room.marks) {
         Ok(rows) => Ok(rows),
         Err(error) => Err(error),
     }
 }
 
-// How the keys of a group of a world begin.
+// Makes bytes those with which the keys of a group of a world begin.
 fn put_group(prefix: &mut Vec<u8>, wid: u32, rel: u32, key: &Value) -> Result<(), AllocError>
     requires text { HasPlainText key.now }
-    ensures bytes { OnOk result (prefix.new.items ≡ prefix.old.items ++ group_prefix wid rel key.now) }
+    ensures bytes { OnOk result (prefix.new.items ≡ group_prefix wid rel key.now) }
     ensures fits { OnOk result (IsPlainValue key.now) }
 {
+    prefix.clear();
     put_num(prefix, wid)?;
     put_num(prefix, rel)?;
     put_value(prefix, key)?;

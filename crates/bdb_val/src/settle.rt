@@ -1,92 +1,91 @@
 // Settling the rows of one world.
-ghost use Rattle.std.specs.Prelude.{◌≡◌, ◌+◌, ◌-◌, ◌<◌, ◌^◌, ◌||◌, nat_eq, true, cond, length, MatchOption, [], IfOk, OnOk};
-ghost use Rattle.std.specs.List.{AllByRecursion};
-ghost use Rattle.bdb_base.specs.Causes.{Rises};
-ghost use Rattle.bdb_keep.specs.Calls.{IsRead, IsWrite};
+ghost use Rattle.std.specs.Prelude.{◌≡◌, ◌+◌, ◌-◌, ◌<◌, ◌^◌, ◌||◌, nat_eq, true, cond, map, MatchOption, [], IfOk, OnOk};
+ghost use Rattle.bdb_keep.specs.Calls.{IsRead};
 ghost use Rattle.bdb_key.specs.Grammar.{HasPlainText, IsPlainValue};
+ghost use Rattle.bdb_tables.specs.Codec.{HasAt};
 ghost use Rattle.bdb_tables.specs.Grammar.{InGrammar};
-ghost use Rattle.bdb_tables.specs.InUse.{val_codec};
+ghost use Rattle.bdb_tables.specs.GroupMarks.{in_group};
+ghost use Rattle.bdb_tables.specs.InUse.{link_codec, val_codec};
 ghost use Rattle.bdb_tables.specs.Spans.{AreUnder};
-ghost use Rattle.bdb_tables.specs.Writes.{IsChange, with_changes};
-ghost use Rattle.bdb_val.specs.GroupChanges.{group_changes, mark_under};
+ghost use Rattle.bdb_val.specs.GroupChanges.{mark_under, TellsMarks};
 ghost use Rattle.bdb_val.specs.Others.{SameBut};
 ghost use Rattle.bdb_val.specs.Reads.{HaveTuples, group_prefix};
 ghost use Rattle.bdb_val.specs.Stated.{WhereStated};
-ghost use Rattle.bdb_val.specs.Steps.{turns_from, comes, goes, Tells, IsChanging, IsStep};
+ghost use Rattle.bdb_val.specs.Steps.{turns_from, comes, goes, IsChanging, IsStep};
 
-use crate::changes::{Row, RowChange, group_changes};
+use crate::changes::{MarkChange, Marked, put_changes};
 use crate::numbered::Numbered;
-use crate::reading::{PREFIX_ROOM, group_rows};
+use crate::reading::group_marks;
+use crate::room::WalkRoom;
 use crate::stored::Settled;
 use bdb_base::{Sign, Value};
 use bdb_keep::Keeper;
-use bdb_tables::{SuffixTab, TabError, ValTab, get, write_rows};
+use bdb_tables::{TabError, write_marks};
 use std::alloc::Global;
 
 /// Settles the rows of a world for the tuples of a relation and a value of its key: each is explicit, or what the world
-/// inherits from the world to which it is linked, where no explicit row contradicts it. One write for each row that is
+/// inherits from the world to which its suffix link leads, where no explicit row contradicts it. One write for each row that is
 /// another afterwards. No tuple is read: where the explicit rows are statements, the numbers of tuples tell which rows of a group
 /// contradict each other.
 pub fn settle_state<K: Keeper>(
     alloc: Global,
     keeper: &mut K,
     wid: u32,
+    link: Option<u32>,
     rel: u32,
     key: &Value,
+    room: &mut WalkRoom,
 ) -> Result<Settled, TabError>
     requires running { (K.seen keeper.old).running ≡ true }
     requires grammar { InGrammar (K.seen keeper.old).kept }
     requires tuples { HaveTuples (K.seen keeper.old).kept }
     requires text { HasPlainText key.now }
-    ensures settled { IfOk result (λ settled. WhereStated (K.seen keeper.old).kept (IsStep (K.seen keeper.old) (K.seen keeper.new) wid (λ w. group_prefix w rel key.now) settled)) }
+    ensures settled { IfOk result (λ settled. HasAt link_codec (K.seen keeper.old).kept wid link
+        → WhereStated (K.seen keeper.old).kept (IsStep (K.seen keeper.old) (K.seen keeper.new) wid (λ w. group_prefix w rel key.now) settled)) }
     ensures others { OnOk result (SameBut (λ n. nat_eq n 11) (K.seen keeper.old).kept (K.seen keeper.new).kept) }
     ensures grammar { OnOk result (InGrammar (K.seen keeper.new).kept) }
     ensures tuples { OnOk result (HaveTuples (K.seen keeper.new).kept) }
     ensures fits { OnOk result (IsPlainValue key.now) }
     ensures changing { IsChanging (K.seen keeper.old) (K.seen keeper.new) result TabError.Fault }
 {
-    let link = match get::<SuffixTab, K>(alloc, keeper, &wid) {
-        Ok(link) => link,
+    let from = match linked_marks(alloc, keeper, link, rel, key, room) {
+        Ok(from) => from,
         Err(error) => return Err(error),
     };
-    let mut prefix = match Vec::with_capacity(alloc, PREFIX_ROOM) {
-        Ok(prefix) => prefix,
+    let own = match group_marks(alloc, keeper, wid, rel, key, room) {
+        Ok(own) => own,
+        Err(error) => return Err(error),
+    };
+    match put_changes(&mut room.changes, &own, &from) {
+        Ok(()) => {}
         Err(_) => {
             keeper.undo();
             return Err(TabError::Memory);
         }
-    };
-    let own = match group_rows(alloc, keeper, wid, rel, key, &mut prefix) {
-        Ok(own) => own,
-        Err(error) => return Err(error),
-    };
-    let from = match linked_rows(alloc, keeper, link, rel, key, &mut prefix) {
-        Ok(from) => from,
-        Err(error) => return Err(error),
-    };
-    match settle_rows(alloc, keeper, wid, rel, key, &own, &from) {
-        Ok(settled) => Ok(settled),
+    }
+    match write_marks(keeper, &room.prefix, &room.changes, &mut room.marks) {
+        Ok(()) => Ok(told(&own, &room.changes)),
         Err(error) => Err(error),
     }
 }
 
 // The rows of a group of the world to which another is linked; none where there is no such world.
-fn linked_rows<K: Keeper>(
+fn linked_marks<K: Keeper>(
     alloc: Global,
     keeper: &mut K,
     link: Option<u32>,
     rel: u32,
     key: &Value,
-    prefix: &mut Vec<u8>,
-) -> Result<Vec<Row>, TabError>
+    room: &mut WalkRoom,
+) -> Result<Vec<Marked>, TabError>
     requires running { (K.seen keeper.old).running ≡ true }
     requires grammar { InGrammar (K.seen keeper.old).kept }
     requires text { HasPlainText key.now }
-    ensures rows { IfOk result (λ rows. MatchOption link (rows.items ≡ []) (λ m. AreUnder val_codec (K.seen keeper.old).kept (group_prefix m rel key.now) rows.items)) }
+    ensures rows { IfOk result (λ rows. MatchOption link (rows.items ≡ []) (λ m. AreUnder val_codec (K.seen keeper.old).kept (group_prefix m rel key.now) (map (in_group m rel key.now) rows.items))) }
     ensures read { IsRead (K.seen keeper.old) (K.seen keeper.new) result TabError.Fault }
 {
     match link {
-        Some(wid) => match group_rows(alloc, keeper, wid, rel, key, prefix) {
+        Some(wid) => match group_marks(alloc, keeper, wid, rel, key, room) {
             Ok(rows) => Ok(rows),
             Err(error) => Err(error),
         },
@@ -94,41 +93,9 @@ fn linked_rows<K: Keeper>(
     }
 }
 
-// Makes the changes that settle a group of a world, over the rows of the world to which it is linked.
-fn settle_rows<K: Keeper>(
-    alloc: Global,
-    keeper: &mut K,
-    wid: u32,
-    rel: u32,
-    key: &Value,
-    own: &[Row],
-    from: &[Row],
-) -> Result<Settled, TabError>
-    requires running { (K.seen keeper.old).running ≡ true }
-    requires text { HasPlainText key.now }
-    ensures written { OnOk result ((K.seen keeper.new).kept ≡ with_changes val_codec (K.seen keeper.old).kept (group_changes wid rel key.now own.now from.now)) }
-    ensures fits { OnOk result (AllByRecursion (IsChange val_codec) (group_changes wid rel key.now own.now from.now)) }
-    ensures tells { IfOk result (Tells (mark_under own.now) (group_changes wid rel key.now own.now from.now)) }
-    ensures grammar { OnOk result (InGrammar (K.seen keeper.old).kept → InGrammar (K.seen keeper.new).kept) }
-    ensures writes { OnOk result (Rises (length (group_changes wid rel key.now own.now from.now)) (K.seen keeper.old).writes (K.seen keeper.new).writes) }
-    ensures write { IsWrite (K.seen keeper.old) (K.seen keeper.new) result TabError.Fault }
-{
-    let changes = match group_changes(alloc, wid, rel, key, own, from) {
-        Ok(changes) => changes,
-        Err(_) => {
-            keeper.undo();
-            return Err(TabError::Memory);
-        }
-    };
-    match write_rows::<ValTab, K>(alloc, keeper, &changes) {
-        Ok(()) => Ok(told(own, &changes)),
-        Err(error) => Err(error),
-    }
-}
-
 // What changes do to a world's rows.
-fn told(own: &[Row], changes: &[RowChange]) -> Settled
-    ensures { Tells (mark_under own.now) changes.now result }
+fn told(own: &[Marked], changes: &[MarkChange]) -> Settled
+    ensures { TellsMarks (mark_under own.now) changes.now result }
 {
     let rows = Numbered::of(own);
     let mut settled = Settled {
@@ -137,7 +104,7 @@ fn told(own: &[Row], changes: &[RowChange]) -> Settled
         taken: 0,
     };
     for change in changes {
-        settled = with_change(settled, rows.mark(change.0.3), change.1);
+        settled = with_change(settled, rows.mark(change.0), change.1);
     }
     settled
 }

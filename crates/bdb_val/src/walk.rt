@@ -1,11 +1,14 @@
 // Settling a group of rows at a state and at all states whose suffix links lead to it.
-ghost use Rattle.std.specs.Prelude.{◌≡◌, nat_eq, ◌+◌, ◌++◌, map, true, IfOk, OnOk};
+ghost use Rattle.std.specs.Prelude.{◌≡◌, nat_eq, ◌+◌, true, Some, IfOk, OnOk};
+ghost use Rattle.std.specs.Ordering.{is_le};
 ghost use Rattle.bdb_keep.specs.Calls.{IsRead};
+ghost use Rattle.bdb_keep.specs.Tables.{bytes_cmp};
 ghost use Rattle.bdb_key.specs.Grammar.{HasPlainText, IsPlainValue};
 ghost use Rattle.bdb_key.specs.Bytes.{num_bytes};
+ghost use Rattle.bdb_tables.specs.Codec.{HasAt};
 ghost use Rattle.bdb_tables.specs.Grammar.{InGrammar};
-ghost use Rattle.bdb_tables.specs.InUse.{linked_codec};
-ghost use Rattle.bdb_tables.specs.Spans.{AreUnder};
+ghost use Rattle.bdb_tables.specs.InUse.{link_codec, linked_codec};
+ghost use Rattle.bdb_tables.specs.Spans.{HasNextUnder};
 ghost use Rattle.bdb_val.specs.Groups.{SettlesGroup, TellsGroup};
 ghost use Rattle.bdb_val.specs.Others.{SameBut};
 ghost use Rattle.bdb_val.specs.Reads.{HaveTuples, group_prefix};
@@ -13,12 +16,13 @@ ghost use Rattle.bdb_val.specs.Stated.{WhereStated};
 ghost use Rattle.bdb_val.specs.Steps.{counted, IsChanging};
 ghost use Rattle.bdb_val.specs.Visits.{ArePushed, IsFirstVisit, IsNextVisit};
 
+use crate::room::{LinkRoom, WalkRoom};
 use crate::settle::settle_state;
 use crate::stored::Settled;
 use bdb_base::Value;
 use bdb_keep::Keeper;
 use bdb_key::put_num;
-use bdb_tables::{SuffixIx, TabError, rows_under};
+use bdb_tables::{SuffixIx, SuffixTab, TabError, get, next_under};
 use std::alloc::{AllocError, Global};
 
 /// Settles the rows of the tuples of a relation and a value of its key, at a state and at all states whose suffix links lead
@@ -43,8 +47,15 @@ pub fn settle_group<K: Keeper>(
     ensures tuples { OnOk result (HaveTuples (K.seen keeper.new).kept) }
     ensures changing { IsChanging (K.seen keeper.old) (K.seen keeper.new) result TabError.Fault }
 {
+    let mut room = match WalkRoom::new(alloc) {
+        Ok(room) => room,
+        Err(_) => {
+            keeper.undo();
+            return Err(TabError::Memory);
+        }
+    };
     let mut list = Vec::new(alloc);
-    let first = match visit_first(alloc, keeper, wid, rel, key, &mut list) {
+    let first = match visit_first(alloc, keeper, wid, rel, key, &mut list, &mut room) {
         Ok(settled) => settled,
         Err(error) => return Err(error),
     };
@@ -54,7 +65,7 @@ pub fn settle_group<K: Keeper>(
             Some(next) => next,
             None => return Ok(total),
         };
-        match visit_next(alloc, keeper, next, rel, key, &mut list) {
+        match visit_next(alloc, keeper, next, rel, key, &mut list, &mut room) {
             Ok(settled) => total = both(total, settled),
             Err(error) => return Err(error),
         }
@@ -63,14 +74,15 @@ pub fn settle_group<K: Keeper>(
     Err(TabError::Memory)
 }
 
-// Settles a state, and puts all states linked to it on the list.
+// Settles a state, and puts all links that lead to it on the list.
 fn visit_first<K: Keeper>(
     alloc: Global,
     keeper: &mut K,
     wid: u32,
     rel: u32,
     key: &Value,
-    list: &mut Vec<u32>,
+    list: &mut Vec<(u32, u32)>,
+    room: &mut WalkRoom,
 ) -> Result<Settled, TabError>
     requires running { (K.seen keeper.old).running ≡ true }
     requires grammar { InGrammar (K.seen keeper.old).kept }
@@ -83,101 +95,148 @@ fn visit_first<K: Keeper>(
     ensures fits { OnOk result (IsPlainValue key.now) }
     ensures changing { IsChanging (K.seen keeper.old) (K.seen keeper.new) result TabError.Fault }
 {
-    let settled = match settle_state(alloc, keeper, wid, rel, key) {
+    let link = match get::<SuffixTab, K>(alloc, keeper, &wid) {
+        Ok(link) => link,
+        Err(error) => return Err(error),
+    };
+    let settled = match settle_state(alloc, keeper, wid, link, rel, key, room) {
         Ok(settled) => settled,
         Err(error) => return Err(error),
     };
-    match push_linked(alloc, keeper, wid, list) {
+    match push_linked(alloc, keeper, wid, list, &mut room.links) {
         Ok(()) => Ok(settled),
         Err(error) => Err(error),
     }
 }
 
-// Settles a state, and puts the states linked to it on the list where a sign there is another.
+// Settles the state that has a link, and puts the links that lead to it on the list where a sign there is another.
 fn visit_next<K: Keeper>(
     alloc: Global,
     keeper: &mut K,
-    wid: u32,
+    next: (u32, u32),
     rel: u32,
     key: &Value,
-    list: &mut Vec<u32>,
+    list: &mut Vec<(u32, u32)>,
+    room: &mut WalkRoom,
 ) -> Result<Settled, TabError>
     requires running { (K.seen keeper.old).running ≡ true }
     requires grammar { InGrammar (K.seen keeper.old).kept }
     requires tuples { HaveTuples (K.seen keeper.old).kept }
     requires text { HasPlainText key.now }
-    ensures visited { IfOk result (λ settled. WhereStated (K.seen keeper.old).kept (IsNextVisit (K.seen keeper.old) (K.seen keeper.new) (λ w. group_prefix w rel key.now) wid list.old.items list.new.items settled)) }
+    ensures visited { IfOk result (λ settled. HasAt link_codec (K.seen keeper.old).kept next.0 (Some next.1)
+        → WhereStated (K.seen keeper.old).kept (IsNextVisit (K.seen keeper.old) (K.seen keeper.new) (λ w. group_prefix w rel key.now) next.0 list.old.items list.new.items settled)) }
     ensures others { OnOk result (SameBut (λ n. nat_eq n 11) (K.seen keeper.old).kept (K.seen keeper.new).kept) }
     ensures grammar { OnOk result (InGrammar (K.seen keeper.new).kept) }
     ensures tuples { OnOk result (HaveTuples (K.seen keeper.new).kept) }
     ensures changing { IsChanging (K.seen keeper.old) (K.seen keeper.new) result TabError.Fault }
 {
-    let settled = match settle_state(alloc, keeper, wid, rel, key) {
+    let settled = match settle_state(alloc, keeper, next.0, Some(next.1), rel, key, room) {
         Ok(settled) => settled,
         Err(error) => return Err(error),
     };
     if !settled.turned {
         return Ok(settled);
     }
-    match push_linked(alloc, keeper, wid, list) {
+    match push_linked(alloc, keeper, next.0, list, &mut room.links) {
         Ok(()) => Ok(settled),
         Err(error) => Err(error),
     }
 }
 
-// Puts the states whose suffix links lead to a state on the list.
+// Puts the suffix links that lead to a state on the list, each by the state that has it and the one to which it leads.
 fn push_linked<K: Keeper>(
     alloc: Global,
     keeper: &mut K,
     wid: u32,
-    list: &mut Vec<u32>,
+    list: &mut Vec<(u32, u32)>,
+    room: &mut LinkRoom,
 ) -> Result<(), TabError>
     requires grammar { InGrammar (K.seen keeper.old).kept }
     ensures pushed { OnOk result (ArePushed (K.seen keeper.old).kept wid list.old.items list.new.items) }
     ensures read { IsRead (K.seen keeper.old) (K.seen keeper.new) result TabError.Fault }
 {
-    let links = match links_to(alloc, keeper, wid) {
-        Ok(links) => links,
-        Err(error) => return Err(error),
-    };
-    match push_sources(list, &links) {
-        Ok(()) => Ok(()),
+    match put_world(&mut room.prefix, wid) {
+        Ok(()) => {}
         Err(_) => {
             keeper.undo();
-            Err(TabError::Memory)
+            return Err(TabError::Memory);
         }
     }
-}
-
-// The suffix links that lead to a state, each by that state and the one that has it.
-fn links_to<K: Keeper>(
-    alloc: Global,
-    keeper: &mut K,
-    wid: u32,
-) -> Result<Vec<((u32, u32), ())>, TabError>
-    requires grammar { InGrammar (K.seen keeper.old).kept }
-    ensures links { IfOk result (λ links. AreUnder linked_codec (K.seen keeper.old).kept (num_bytes wid) links.items) }
-    ensures read { IsRead (K.seen keeper.old) (K.seen keeper.new) result TabError.Fault }
-{
-    let mut prefix = Vec::new(alloc);
-    if put_num(&mut prefix, wid).is_err() {
-        keeper.undo();
-        return Err(TabError::Memory);
+    match put_world(&mut room.low, wid) {
+        Ok(()) => {}
+        Err(_) => {
+            keeper.undo();
+            return Err(TabError::Memory);
+        }
     }
-    match rows_under::<SuffixIx, K>(alloc, keeper, &prefix) {
-        Ok(links) => Ok(links),
+    match push_links(alloc, keeper, wid, list, room) {
+        Ok(()) => Ok(()),
         Err(error) => Err(error),
     }
 }
 
-// Puts the states that have these links at the end of a list.
-fn push_sources(list: &mut Vec<u32>, links: &[((u32, u32), ())]) -> Result<(), AllocError>
-    ensures { OnOk result (list.new.items ≡ list.old.items ++ map (λ e. e.0.1) links.now) }
+// Makes bytes those with which the keys of the links that lead to a state begin.
+fn put_world(prefix: &mut Vec<u8>, wid: u32) -> Result<(), AllocError>
+    ensures { OnOk result (prefix.new.items ≡ num_bytes wid) }
 {
-    for link in links {
-        list.push(link.0.1)?;
-    }
+    prefix.clear();
+    put_num(prefix, wid)?;
     Ok(())
+}
+
+// Puts the suffix links that lead to a state on the list. `room` has the bytes with which their keys begin, twice.
+fn push_links<K: Keeper>(
+    alloc: Global,
+    keeper: &mut K,
+    wid: u32,
+    list: &mut Vec<(u32, u32)>,
+    room: &mut LinkRoom,
+) -> Result<(), TabError>
+    requires grammar { InGrammar (K.seen keeper.old).kept }
+    requires prefix { room.old.prefix.items ≡ num_bytes wid }
+    requires low { room.old.low.items ≡ num_bytes wid }
+    ensures pushed { OnOk result (ArePushed (K.seen keeper.old).kept wid list.old.items list.new.items) }
+    ensures read { IsRead (K.seen keeper.old) (K.seen keeper.new) result TabError.Fault }
+{
+    for _ in 0..u64::MAX {
+        match next_link(alloc, keeper, room) {
+            Ok(Some(link)) => {
+                if list.push((link.0.1, link.0.0)).is_err() {
+                    keeper.undo();
+                    return Err(TabError::Memory);
+                }
+            }
+            Ok(None) => return Ok(()),
+            Err(error) => return Err(error),
+        }
+    }
+    keeper.undo();
+    Err(TabError::Memory)
+}
+
+// The next link whose key begins as `room` has it.
+fn next_link<K: Keeper>(
+    alloc: Global,
+    keeper: &mut K,
+    room: &mut LinkRoom,
+) -> Result<Option<((u32, u32), ())>, TabError>
+    requires grammar { InGrammar (K.seen keeper.old).kept }
+    requires from { is_le (bytes_cmp room.old.prefix.items room.old.low.items) ≡ true }
+    ensures found { IfOk result (HasNextUnder linked_codec (K.seen keeper.old).kept room.old.prefix.items room.old.low.items room.new.low.items) }
+    ensures prefix { room.new.prefix ≡ room.old.prefix }
+    ensures read { IsRead (K.seen keeper.old) (K.seen keeper.new) result TabError.Fault }
+{
+    match next_under::<SuffixIx, K>(
+        alloc,
+        keeper,
+        &room.prefix,
+        &mut room.low,
+        &mut room.key,
+        &mut room.row,
+    ) {
+        Ok(link) => Ok(link),
+        Err(error) => Err(error),
+    }
 }
 
 // What a first settling did.

@@ -11,11 +11,18 @@ ghost use Rattle.bdb_val.specs.Reads.{HaveTuples, world_prefix};
 ghost use Rattle.bdb_val.specs.Steps.{IsChanging};
 ghost use Rattle.bdb_val.specs.WorldCopies.{CopiesWorld, ClearsWorld, TellsCopy, IsRowCount, copied, removed};
 
-use crate::changes::{Row, RowChange};
+use bdb_base::{Sign, Value};
 use bdb_keep::Keeper;
 use bdb_key::put_num;
 use bdb_tables::{TabError, ValTab, rows_under, write_rows};
 use std::alloc::{AllocError, Global};
+
+/// A row of a world: its key, of a world, a relation, the value of the relation's key and the number of a tuple; its sign, and
+/// whether it is explicit.
+pub type Row = ((u32, u32, Value, u32), (Sign, bool));
+
+/// A change of a row: its key, and the row that it is to have, if any.
+pub type RowChange = ((u32, u32, Value, u32), Option<(Sign, bool)>);
 
 /// Copies the rows of a world to another one, where they are inherited. It gives their number, and makes as many writes.
 pub fn copy_world<K: Keeper>(

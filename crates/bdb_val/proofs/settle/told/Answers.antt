@@ -1,8 +1,7 @@
 use Rattle.std.proofs.Common.{take, arith}
 use Rattle.std.proofs.lemmas.List.{length-take-le}
 use Rattle.bdb_base.proofs.ListLemmas.{length-filter_le}
-use Rattle.bdb_val.specs.GroupChanges.{mark_under}
-use Rattle.bdb_val.specs.Steps.{is_new, is_gone}
+use Rattle.bdb_val.specs.GroupChanges.{mark_under, comes_at, goes_at}
 use Rattle.bdb_val.proofs.settle.told.Goals as goal
 
 pub with_change-settled-requires : goal.with_change-settled-requires
@@ -12,6 +11,6 @@ with_change-settled-requires c =
     let own = c.args.own.now in
     let h = c.loop-change.invariant in
     let seen = length-take-le i xs c.loop-change.auto.change-index-end in
-    let put = length-filter_le (is_new (mark_under own)) (take i xs) in
-    let taken = length-filter_le (is_gone (mark_under own)) (take i xs) in
+    let put = length-filter_le (comes_at (mark_under own)) (take i xs) in
+    let taken = length-filter_le (goes_at (mark_under own)) (take i xs) in
     record { put = omega (arith, h.put, put, seen, c.loop-change-test.true); taken = omega (arith, h.taken, taken, seen, c.loop-change-test.true) }

@@ -1,7 +1,6 @@
 use Rattle.std.proofs.Common.{take}
-use Rattle.bdb_val.specs.GroupChanges.{mark_under}
-use Rattle.bdb_val.specs.Steps.{Tells}
+use Rattle.bdb_val.specs.GroupChanges.{mark_under, TellsMarks}
 use Rattle.bdb_val.proofs.settle.told.Given as goal
 
 abbrev pub invariant-loop-change : goal.invariant-loop-change
-invariant-loop-change l = Tells (mark_under l.own) (take l.change-index l.changes) l.settled
+invariant-loop-change l = TellsMarks (mark_under l.own) (take l.change-index l.changes) l.settled

@@ -1,25 +1,37 @@
 use Rattle.std.proofs.Common.{ℕ, sym, subst}
 use Rattle.bdb_keep.specs.Tables.{Tables}
+use Rattle.bdb_tables.specs.Codec.{HasAt}
+use Rattle.bdb_tables.specs.InUse.{link_codec}
+use Rattle.bdb_val.specs.Middle.{HasExplicit}
 use Rattle.bdb_val.specs.Others.{SameBut}
 use Rattle.bdb_val.specs.Reads.{group_prefix}
 use Rattle.bdb_val.specs.Visits.{ArePushed}
 use Rattle.bdb_val.proofs.OtherLemmas.{is_rows}
-use Rattle.bdb_val.proofs.StepsMade.{visited, told}
+use Rattle.bdb_val.proofs.StepsMade.{step_from, visited, told}
 use Rattle.bdb_val.proofs.walk.visit_first.Goals as goal
+
+pub get-requires-clause-grammar : goal.get-requires-clause-grammar
+get-requires-clause-grammar g c = λ k r found. c.requires.grammar 7 k r found
 
 pub returns-in-Ok-push_linked-clause-visited : goal.returns-in-Ok-push_linked-clause-visited
 returns-in-Ok-push_linked-clause-visited g c stmts n tuple f h =
     let old = g.K.Keeper.seen c.args.keeper.now in
+    let start = g.K.Keeper.seen c.get.new.keeper in
     let mid = g.K.Keeper.seen c.settle_state.new.keeper in
     let new = g.K.Keeper.seen c.push_linked.new.keeper in
     let prefix = λ (w : ℕ). group_prefix w c.args.rel c.args.key.now in
-    let step = c.in-Ok.ensures.settled stmts n tuple f h in
+    let s = c.in-Ok-settle_state.settled in
+    let link = c.in-Ok.ensures.read in
+    let found = subst (λ (t : Tables). HasAt link_codec t c.args.wid c.in-Ok.link) (sym link.kept) c.in-Ok.ensures.found in
+    let settled = c.in-Ok-settle_state.ensures.settled found stmts n tuple f (subst (HasExplicit stmts n tuple f) (sym link.kept) h) in
+    let step = step_from old start mid prefix c.args.wid s link.kept link.writes settled in
     let read = c.in-Ok-push_linked.ensures.read in record {
-      visit = visited old mid new prefix c.args.wid c.in-Ok.settled step read.kept read.writes;
-      told = told old mid new prefix c.args.wid c.in-Ok.settled step read.kept read.writes;
+      visit = visited old mid new prefix c.args.wid s step read.kept read.writes;
+      told = told old mid new prefix c.args.wid s step read.kept read.writes;
       pushed = subst (λ (t : Tables). ArePushed t c.args.wid c.args.list.now.items c.push_linked.new.list.items) (sym read.kept) c.in-Ok-push_linked.ensures.pushed;
     }
 
 pub returns-in-Ok-push_linked-clause-others : goal.returns-in-Ok-push_linked-clause-others
 returns-in-Ok-push_linked-clause-others g c =
-    subst (λ (t : Tables). SameBut is_rows (g.K.Keeper.seen c.args.keeper.now).kept t) (sym c.in-Ok-push_linked.ensures.read.kept) c.in-Ok.ensures.others
+    subst (λ (t : Tables). SameBut is_rows (g.K.Keeper.seen c.args.keeper.now).kept t) (sym c.in-Ok-push_linked.ensures.read.kept)
+    (subst (λ (t : Tables). SameBut is_rows t (g.K.Keeper.seen c.settle_state.new.keeper).kept) c.in-Ok.ensures.read.kept c.in-Ok-settle_state.ensures.others)

@@ -1,4 +1,0 @@
-use Rattle.bdb_val.proofs.walk.links_to.Goals as goal
-
-pub rows_under-requires : goal.rows_under-requires
-rows_under-requires g c = record { grammar = λ k r found. c.requires.grammar 8 k r found }
