@@ -19,4 +19,5 @@ pub mod StepsLemmas
 pub mod TakenLemmas
 pub mod UnderLemmas
 pub mod UserEdgeLemmas
+pub mod UserWriteLemmas
 pub mod WalkLemmas

@@ -44,11 +44,11 @@ number_at t u low o p e f h = subst (HasNextNumber t low) f (subst (λ x. HasNex
 
 -- ---- rows of depths
 
-path_absent : (o : Option (List ℕ)) → option_map num_bytes (option_map (λ (w : List ℕ). length w) o) ≡ None → o ≡ None
+pub path_absent : (o : Option (List ℕ)) → option_map num_bytes (option_map (λ (w : List ℕ). length w) o) ≡ None → o ≡ None
 path_absent None e = refl
 path_absent (Some w) e = absurd cc
 
-path_present : (o : Option (List ℕ)) → is_some (option_map num_bytes (option_map (λ (w : List ℕ). length w) o)) ≡ true → is_some o ≡ true
+pub path_present : (o : Option (List ℕ)) → is_some (option_map num_bytes (option_map (λ (w : List ℕ). length w) o)) ≡ true → is_some o ≡ true
 path_present None e = e
 path_present (Some w) e = refl
 

@@ -1,6 +1,8 @@
 -- Edges for a new user.
-use Rattle.std.specs.Prelude.{◌≡◌, ℕ, ◌≤◌, ◌<◌, true, false, Option, None, MatchOption, is_some}
+use Rattle.std.specs.Prelude.{◌≡◌, ℕ, ◌*◌, ◌≤◌, ◌<◌, true, false, length, Option, None, MatchOption, is_some}
 use Rattle.std.specs.FinMap as tables
+use Rattle.bdb_base.specs.Causes.{Rises}
+use Rattle.bdb_keep.specs.Seen.{Seen}
 use Rattle.bdb_keep.specs.Tables.{Tables}
 use Rattle.bdb_key.specs.Grammar.{IsNum}
 use Rattle.bdb_tables.specs.Codec.{place}
@@ -23,3 +25,7 @@ HasNextNumber t low found = MatchOption found ((k : ℕ) → low ≤ k → IsNum
 -- whichever states the tables held over users without this one, they hold them over the users with this one
 abbrev pub AddsUser : Tables → Tables → ℕ → Type 0
 AddsUser t u uid = (s : Worlds) → HoldsStates s.users s.names t → s.users uid ≡ false → HoldsStates (with_one_user s.users uid) s.names u
+
+-- whichever states the tables held over users without this one, two writes were made for each of their worlds
+abbrev pub WritesEdges : Seen → Seen → ℕ → Type 0
+WritesEdges old new uid = (s : Worlds) → HoldsStates s.users s.names old.kept → s.users uid ≡ false → Rises (2 * length s.names.used) old.writes new.writes

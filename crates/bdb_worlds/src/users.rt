@@ -3,20 +3,22 @@ ghost use Rattle.std.specs.Prelude.{◌≡◌, true, IfOk, OnOk};
 ghost use Rattle.bdb_keep.specs.Seen.{NeverFall, Steps};
 ghost use Rattle.bdb_tables.specs.Grammar.{InGrammar};
 ghost use Rattle.bdb_worlds.specs.Growth.{SameOutside};
-ghost use Rattle.bdb_worlds.specs.UserEdges.{AddsUser, HasNextNumber};
+ghost use Rattle.bdb_worlds.specs.UserEdges.{AddsUser, HasNextNumber, WritesEdges};
 
 use crate::making::make_edge;
 use bdb_keep::Keeper;
 use bdb_tables::{DepthTab, TabError, next};
 use std::alloc::Global;
 
-/// Makes an edge from each world to the empty path for a new user, whom no path names yet.
+/// Makes an edge from each world to the empty path for a new user, whom no path names yet. Two writes for each
+/// world; no table but the two of edges changes.
 pub fn add_user_edges<K: Keeper>(alloc: Global, keeper: &mut K, uid: u32) -> Result<(), TabError>
     requires running { (K.seen keeper.old).running ≡ true }
     requires grammar { InGrammar (K.seen keeper.old).kept }
     ensures added { OnOk result (AddsUser (K.seen keeper.old).kept (K.seen keeper.new).kept uid) }
-    ensures others { OnOk result (SameOutside 6 10 (K.seen keeper.old).kept (K.seen keeper.new).kept) }
+    ensures others { OnOk result (SameOutside 9 10 (K.seen keeper.old).kept (K.seen keeper.new).kept) }
     ensures grammar { OnOk result (InGrammar (K.seen keeper.new).kept) }
+    ensures writes { OnOk result (WritesEdges (K.seen keeper.old) (K.seen keeper.new) uid) }
     ensures counts { NeverFall (K.seen keeper.old) (K.seen keeper.new) }
     ensures steps { Steps (K.seen keeper.old) (K.seen keeper.new) result TabError.Fault }
 {
