@@ -1,13 +1,14 @@
 -- The worlds of a statement come, with their rows.
-use Rattle.std.proofs.Common.{◌≡◌, ◌∙◌, ℕ, ◌+◌, ◌≤◌, Bool, true, false, ◌&&◌, ◌||◌, nat_eq, nat_le, List, [], ◌∷◌, refl, ap, sym, suc, arith, length, take, Option, Some, is_some}
-use Rattle.std.proofs.lemmas.Bool.{or_left, or_right, leb-true, cond-true}
+use Rattle.std.proofs.Common.{◌≡◌, ◌∙◌, ℕ, ◌+◌, ◌≤◌, Bool, true, false, ◌&&◌, ◌||◌, nat_eq, nat_le, List, [], ◌∷◌, ◌++◌, refl, ap, sym, suc, arith, length, take, drop, inl, inr, Option, Some, None, is_some}
+use Rattle.std.proofs.lemmas.Bool.{false≢true, cases_Bool, or_left, or_right, leb-true, cond-true}
 use Rattle.std.proofs.lemmas.Bool.Decides.{nat_tests}
-use Rattle.std.proofs.lemmas.List.{take_all}
+use Rattle.std.proofs.lemmas.List.{take-append-drop, take_all}
 use Rattle.bdb_base.specs.Bases.{Contents, is_user, with_statement, world_count}
 use Rattle.bdb_base.specs.Limits.{most_worlds, most_statements}
 use Rattle.bdb_base.specs.Same.{same_path}
 use Rattle.bdb_base.specs.SameLemmas.{same_path-Decides}
 use Rattle.bdb_base.specs.Segments.{is_prefix}
+use Rattle.bdb_base.proofs.SegmentLemmas.{is_prefix_begins}
 use Rattle.bdb_base.specs.States.{is_state}
 use Rattle.bdb_base.specs.declared.kinds.Stmt.{Stmt}
 use Rattle.bdb_base.proofs.WorldLemmas.{is_prefix_itself, valid_is_consistent}
@@ -19,14 +20,16 @@ use Rattle.bdb_tables.specs.Names.{Names, number_of, is_named, with_name}
 use Rattle.bdb_tables.specs.States.{HoldsStates}
 use Rattle.bdb_worlds.specs.Growth.{with_prefixes, MayGrow, SomeMayGrow, HasGrown, AddsStates, SameOutside}
 use Rattle.bdb_worlds.specs.Holding.{Worlds}
+use Rattle.bdb_update.specs.Bounds.{KeepsNames}
 use Rattle.bdb_update.specs.ChangeLaws.{is_of_worlds}
 use Rattle.bdb_update.specs.Filling.{Before, CountsCome, HaveCome, SomeHaveCome, FillsWorlds, names_now}
-use Rattle.bdb_update.specs.Joining.{CountsArrived, MayJoin, SomeMayJoin, IsWorld, IsWorldIfAny, last_or, HaveArrived, Arrive}
+use Rattle.bdb_update.specs.Joining.{CountsArrived, MayJoin, SomeMayJoin, IsWorld, IsWorldFound, IsWorldIfAny, last_or, HaveArrived, Arrive}
 use Rattle.bdb_tables.specs.Stored.{SameBut, Stores}
 use Rattle.bdb_update.proofs.CountLemmas.{numbers_are_counted}
 use Rattle.bdb_update.proofs.OneStored.{stored_base_is_one}
 use Rattle.bdb_update.proofs.ReachLemmas.{other_worlds_store}
-use Rattle.bdb_update.proofs.ComeLemmas.{rows_same}
+use Rattle.bdb_update.proofs.ComeLemmas.{rows_one, rows_same}
+use Rattle.bdb_update.proofs.WithinLemmas.{same_reach_stores}
 use Rattle.bdb_tables.proofs.SameLemmas.{gives_still, states_still, tuples_still}
 use Rattle.bdb_update.proofs.StageLemmas.{belongs_parts}
 
@@ -181,3 +184,41 @@ counts_arrive t u v x worlds n new added outside counts some b s may a z first l
       few = leb-true (length b.stmts) most_statements may.valid.stmts.few_stmts;
     })
     a z (rows_same t u a (λ k. outside 11 k refl) first) last
+
+-- ---- a path that is a state already
+
+-- where the path is no state, any number will do
+pub no_world : (t : Tables) (w : List ℕ) (wid : ℕ) → IsWorldFound t w None → IsWorldIfAny t w wid
+no_world t w wid none s h own named = absurd (false≢true (sym (none s h own) ∙ named))
+
+pub names_stay : (t : Tables) → KeepsNames t t
+names_stay t s z hs hz n w e = sym (names_are_one s.users z.users s.names z.names t hs hz n) ∙ e
+
+pub rows_stay : (t : Tables) (x : Stmt) → CountsArrived t t x 0
+rows_stay t x b s may a z first last = let e = rows_one t z a last first in omega (arith, e)
+
+-- its statements reach what they reached without this one
+pub arrived_already : (t : Tables) (x : Stmt) (wid : ℕ) → IsWorld t x.path wid → Arrive t t x wid
+arrived_already t x wid here b s may = record {
+  worlds = record { names = s.names; tuples = s.tuples; stored = same_reach_stores b.stmts (with_statement b.stmts x) b.stmts b.stmts s.names s.tuples t b s.stored reach (λ u. refl) };
+  here = here;
+}
+  where
+    ws : Worlds
+    ws = record { users = is_user b.catalog.users; names = s.names }
+
+    named : is_named s.names x.path ≡ true
+    named = ap is_some (here ws s.stored.states (belongs_parts b.catalog x may.belongs).users)
+
+    front : (w : List ℕ) → is_prefix w x.path ≡ true → is_state b.stmts w ≡ true
+    front w e =
+        let begins : w ≡ take (length w) x.path = (same_path-Decides w (take (length w) x.path)).0 (sym (is_prefix_begins w x.path) ∙ e) in
+        sym (s.stored.worlds w)
+        ∙ s.stored.states.names.prefixes w (drop (length w) x.path)
+        (ap (is_named s.names) (ap (λ v. v ++ drop (length w) x.path) begins ∙ take-append-drop (length w) x.path) ∙ named)
+
+    reach : (w : List ℕ) → is_state (with_statement b.stmts x) w ≡ is_state b.stmts w
+    reach w = put_makes_states b.stmts x w ∙ elim (cases_Bool (is_prefix w x.path)) [
+      | inl e ↦ ap (λ c. c || is_state b.stmts w) e ∙ sym (front w e)
+      | inr e ↦ ap (λ c. c || is_state b.stmts w) e
+    ]

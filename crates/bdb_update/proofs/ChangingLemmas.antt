@@ -19,6 +19,7 @@ use Rattle.bdb_val.specs.Steps.{IsChanging}
 use Rattle.bdb_update.specs.Calls.{MayChange, SomeMayChange, Changes, IsUntouched, HasStopped, StoresSized, of_stmts, with_others}
 use Rattle.bdb_update.specs.Replacing.{MayReplaceAll, SomeMayReplace, Replace}
 use Rattle.bdb_tables.specs.Stored.{Stores}
+use Rattle.bdb_update.specs.Steps.{ChangesThrough, ReplacesThrough, WritesThrough, steps_of}
 use Rattle.bdb_update.specs.Trying.{stopped_by}
 use Rattle.bdb_update.specs.Weighing.{MayWeigh, SomeMayWeigh, IsWeight, Weighs}
 use Rattle.bdb_update.specs.declared.answer.UpdateError.{UpdateError}
@@ -27,6 +28,7 @@ use Rattle.bdb_update.specs.declared.weighing.Weight.{Weight}
 use Rattle.bdb_update.specs.declared.weighing.Weight.TheVariants.{Clashes, Fills, Fits}
 use Rattle.bdb_update.proofs.CallLemmas.{IsQuiet, quiet_itself}
 use Rattle.bdb_update.proofs.NextLemmas.{next_is_valid}
+use Rattle.bdb_update.proofs.ReplaceLemmas.{from_still}
 use Rattle.bdb_update.proofs.WeighLemmas.{may_replace}
 
 -- ---- nothing goes
@@ -108,6 +110,19 @@ module _ (old mid : Seen) (c : Counts) (w : List ℕ) (gone come : List Stmt) (x
         room = k.1;
         becomes = record { stored = s.stored; counted = s.counted; goes_on = goes };
       }
+
+-- ---- how often is written
+
+pub nothing_through : (s : Seen) (c : Counts) (w : List ℕ) (gone come : List Stmt) → slice_get gone 0 ≡ None → ChangesThrough c w gone come s s
+nothing_through s c w gone come e b m =
+    let g = no_items gone e in
+    let k = none_come come gone g m.no_more in
+    subst (λ (xs : List Stmt). WritesThrough s (steps_of b xs come) s) (sym g) (subst (λ (ys : List Stmt). WritesThrough s (steps_of b [] ys) s) (sym k) (refl, refl))
+
+pub changed_through : (old mid new : Seen) (c : Counts) (w : List ℕ) (gone come : List Stmt) (x : Stmt) → slice_get gone 0 ≡ Some x → IsQuiet old mid → Weighs old.kept c x.path gone come Fits
+    → ReplacesThrough c gone come mid new → ChangesThrough c w gone come old new
+changed_through old mid new c w gone come x first q h r b m =
+    from_still old mid new (steps_of b gone come) q.kept q.writes (r b (subst (λ (t : Tables). MayReplaceAll t c gone come b) (sym q.kept) (may_replace_all old.kept c w gone come x first h b m)))
 
 -- ---- nothing could be read or written
 

@@ -1,8 +1,5 @@
 -- Whether a tuple is told at another path than a world's, by the rows of the other worlds.
-use Rattle.std.proofs.Common.{◌≡◌, ◌∙◌, ℕ, Bool, true, false, not, ◌&&◌, ◌||◌, nat_eq, cond, List, [], ◌∷◌, ◌++◌, append_assoc, filter, refl, ap, sym, subst, inl, inr, arith, length, ◌<◌, Option, Some, None, is_some}
-use Rattle.std.specs.List.{list_any}
-use Rattle.std.specs.Option.{option_map}
-use Rattle.std.specs.Ordering.{is_eq, nat_cmp}
+use Rattle.std.proofs.Common.{◌≡◌, ◌∙◌, ℕ, Bool, true, false, not, ◌&&◌, ◌||◌, nat_eq, cond, List, [], ◌∷◌, ◌++◌, append_assoc, filter, refl, ap, sym, subst, inl, inr, Option, Some, None, is_some}
 use Rattle.std.proofs.lemmas.Bool.{cases_Bool, and_parts, and_from, or_cases, or_left, or_right, cond-true, cond-false, false≢true, false_from_ne_true, not_from_false, not-true, eqb-true, eq-eqb}
 use Rattle.bdb_base.specs.Bases.{Contents, has_tuple}
 use Rattle.bdb_base.specs.Same.{same_path, same_tuple, same_sign}
@@ -11,67 +8,33 @@ use Rattle.bdb_base.specs.Worlds.{explicit, IsConsistent}
 use Rattle.bdb_base.specs.declared.kinds.Sign.{Sign}
 use Rattle.bdb_base.specs.declared.kinds.Sign.TheVariants.{Plus, Minus}
 use Rattle.bdb_base.specs.declared.kinds.Stmt.{Stmt}
-use Rattle.bdb_base.specs.declared.kinds.Value.{Value}
 use Rattle.bdb_base.specs.declared.tuple.Tuple.{Tuple}
 use Rattle.bdb_base.proofs.ClashLemmas.{same_tuple_turned}
 use Rattle.bdb_keep.specs.Tables.{Tables}
-use Rattle.bdb_key.specs.Grammar.{IsNum, IsPlainValue, ArePlain}
+use Rattle.bdb_key.specs.Grammar.{IsNum}
 use Rattle.bdb_key.specs.Rows.{IsTupleRow}
-use Rattle.bdb_names.proofs.TurnedLemmas.{number_eq}
 use Rattle.bdb_paths.proofs.StateLemmas.{list_any_same}
 use Rattle.bdb_tables.specs.Codec.{HasAt}
-use Rattle.bdb_tables.specs.InUse.{IsValKey, ValKey, depth_codec, tuple_ix_codec, val_codec}
-use Rattle.bdb_tables.specs.InUseLaws.{numbers_in_order, number_rows_are_one, mark_rows_are_one}
+use Rattle.bdb_tables.specs.InUse.{ValKey, tuple_ix_codec}
 use Rattle.bdb_tables.specs.Marks.{Mark, explicit_of, explicit_sign}
-use Rattle.bdb_tables.specs.Names.{Names, path_of, number_of, depth_of}
+use Rattle.bdb_tables.specs.Names.{Names, path_of, number_of}
 use Rattle.bdb_tables.specs.Rows.{row_for, row_named}
-use Rattle.bdb_tables.specs.Spans.{AreUnder}
 use Rattle.bdb_val.specs.Middle.{worlds_of, HasExplicit}
-use Rattle.bdb_val.specs.Settling.{row_key, key_value}
+use Rattle.bdb_val.specs.Settling.{row_key}
 use Rattle.bdb_val.proofs.HeldLemmas.{some_is, held_rows_are_explicit}
-use Rattle.bdb_worlds.proofs.ReadLemmas.{found_is}
-use Rattle.bdb_worlds.proofs.UnderLemmas.{row_in, under_is}
 use Rattle.bdb_update.specs.Differing.{has_told}
-use Rattle.bdb_update.specs.Elsewhere.{Tells, TellsAny, IsLost, AreLost, IsFresh, AreFresh, is_told_by, kept_if}
+use Rattle.bdb_update.specs.Elsewhere.{IsLost, AreLost, IsFresh, AreFresh, kept_if}
+use Rattle.bdb_update.specs.Keys.{key_rest}
+use Rattle.bdb_update.specs.Reads.{AnyTells, TellsAt}
 use Rattle.bdb_update.specs.Reached.{told_elsewhere, lost_of, fresh_of}
 use Rattle.bdb_tables.specs.Stored.{Stores}
 use Rattle.bdb_update.proofs.OneStored.{explicit_state}
+use Rattle.bdb_update.proofs.ReadingLemmas.{explicit_row, row_explicit}
 use Rattle.bdb_update.proofs.TupleLemmas.{number_read}
-
--- ---- one world's row
-
-pub tuple_key : (wid tid : ℕ) (u : Tuple) → IsNum wid → IsNum tid → IsTupleRow u → IsValKey (row_key wid tid u)
-tuple_key wid tid u w n fits = record { world = w; rel = fits.rel; value = first u.vals fits.some fits.plain; tuple = n }
-  where
-    first : (vs : List Value) → 0 < length vs → ArePlain vs → IsPlainValue (key_value vs)
-    first [] l a = absurd (omega arith)
-    first (v ∷ vs) l a = a.0
-
--- what is read of a world's row tells whether it is explicit
-module _ (t : Tables) (but wid tid : ℕ) (u : Tuple) (w : IsNum wid) (n : IsNum tid) (fits : IsTupleRow u) where
-  row_read : (found : Option Mark) → HasAt val_codec t (row_key wid tid u) found → (b : Contents) (s : Stores t b)
-      → found ≡ row_for (λ _. 1) b.stmts (path_of s.names) s.tuples.tuple (row_key wid tid u)
-  row_read found has b s = found_is val_codec mark_rows_are_one t (row_for (λ _. 1) b.stmts (path_of s.names) s.tuples.tuple) s.stored.rows (row_key wid tid u) (tuple_key wid tid u w n fits) found has
-
-  pub tells_some : (mark : Mark) → HasAt val_codec t (row_key wid tid u) (Some mark) → Tells t but u tid wid (not (nat_eq wid but) && mark.1)
-  tells_some mark has b s = ap (λ c. not (nat_eq wid but) && c) (explicit mark) ∙ ap (λ o. not (nat_eq wid but) && is_some (explicit_of o)) (row_read (Some mark) has b s)
-    where
-      explicit : (m : Mark) → m.1 ≡ is_some (explicit_of (Some m))
-      explicit m = elim (cases_Bool m.1) [
-        | inl e ↦ e ∙ sym (ap is_some (cond-true m.1 (Some m.0) None e))
-        | inr e ↦ e ∙ sym (ap is_some (cond-false m.1 (Some m.0) None e))
-      ]
-
-  pub tells_none : HasAt val_codec t (row_key wid tid u) None → Tells t but u tid wid false
-  tells_none has b s = never (not (nat_eq wid but)) ∙ ap (λ o. not (nat_eq wid but) && is_some (explicit_of o)) (row_read None has b s)
-    where
-      never : (a : Bool) → false ≡ (a && false)
-      never true = refl
-      never false = refl
 
 -- ---- all worlds' rows
 
-module _ (t : Tables) (worlds : List (ℕ × ℕ)) (under : AreUnder depth_codec t [] worlds) (u : Tuple) (tid : ℕ) (b : Contents) (s : Stores t b) (w : List ℕ) (wid : ℕ)
+module _ (t : Tables) (u : Tuple) (tid : ℕ) (num : IsNum tid) (fits : IsTupleRow u) (b : Contents) (s : Stores t b) (w : List ℕ) (wid : ℕ)
     (consistent : IsConsistent (λ _. 1) b.stmts) (number : number_of s.names w ≡ Some wid) (tuple : s.tuples.tuple tid ≡ Some u) where
   abbrev ns : Names
   ns = s.names
@@ -131,63 +94,63 @@ module _ (t : Tables) (worlds : List (ℕ × ℕ)) (under : AreUnder depth_codec
     | inr a ↦ ap is_some (cond-false (explicit b.stmts v u Plus) (Some Plus) (cond (explicit b.stmts v u Minus) (Some Minus) None) a ∙ cond-true (explicit b.stmts v u Minus) (Some Minus) None e)
   ]
 
+  abbrev rest : List ℕ
+  rest = key_rest u tid
+
   -- a world that tells a tuple has a path, at which it is stated
-  told_path : (k : ℕ) → is_told_by t b s wid u tid k ≡ true → told_elsewhere b.stmts w u ≡ true
-  told_path k e = by (path_of ns k) refl
+  told_path : (k : ℕ) → TellsAt t rest (Some wid) k → told_elsewhere b.stmts w u ≡ true
+  told_path k x = by (path_of ns k) refl
     where
-      parts : (not (nat_eq k wid) ≡ true) × (is_some (explicit_of (held (row_key k tid u))) ≡ true)
-      parts = and_parts (not (nat_eq k wid)) (is_some (explicit_of (held (row_key k tid u)))) e
+      row : held (row_key k tid u) ≡ Some (x.explicit.sign, true)
+      row = explicit_row t b.stmts ns s.tuples s.stored.rows u tid k num fits x.explicit
 
       by : (o : Option (List ℕ)) → path_of ns k ≡ o → told_elsewhere b.stmts w u ≡ true
-      by None p = absurd (false≢true (ap (λ o. is_some (explicit_of (row_named (λ _. 1) b.stmts (row_key k tid u) o (s.tuples.tuple tid)))) (sym p) ∙ parts.1))
+      by None p = absurd (false≢true (ap (λ o. is_some (row_named (λ _. 1) b.stmts (row_key k tid u) o (s.tuples.tuple tid))) (sym p) ∙ ap is_some row))
       by (Some v) p =
-          let g = sign_stated v (ap is_some (sym (has.explicit k v tid u p tuple)) ∙ parts.1) in
+          let g = sign_stated v (ap is_some (sym (has.explicit k v tid u p tuple) ∙ ap explicit_of row)) in
           stated_elsewhere v g.0 b.stmts (false_from_ne_true (same_path v w) (λ h.
           let same : v ≡ w = (same_path-Decides v w).0 h in
           let k2 : k ≡ wid = one_number (number_of ns w) (ap (number_of ns) (sym same) ∙ s.stored.states.names.named k v p) number in
-          false≢true (sym (not-true (nat_eq k wid) parts.0) ∙ eq-eqb k wid k2))) g.1
-
-  told_path_any : (es : List (ℕ × ℕ)) → list_any (λ e. is_told_by t b s wid u tid e.0) es ≡ true → told_elsewhere b.stmts w u ≡ true
-  told_path_any [] e = absurd (false≢true e)
-  told_path_any (x ∷ xs) e = elim (or_cases (is_told_by t b s wid u tid x.0) (list_any (λ e. is_told_by t b s wid u tid e.0) xs) e) [
-    | inl h ↦ told_path x.0 h
-    | inr h ↦ told_path_any xs h
-  ]
-
-  -- a number that has a row is among the entries
-  among : (p : ℕ → Bool) (k : ℕ) → p k ≡ true → (es : List (ℕ × ℕ)) → is_some (row_in depth_codec numbers_in_order es k) ≡ true → list_any (λ e. p e.0) es ≡ true
-  among p k h [] e = absurd (false≢true e)
-  among p k h (x ∷ xs) e = elim (cases_Bool (is_eq (nat_cmp k x.0))) [
-    | inl a ↦ or_left (p x.0) (list_any (λ e. p e.0) xs) (ap p (sym (same_number k x.0 a)) ∙ h)
-    | inr a ↦ or_right (p x.0) (list_any (λ e. p e.0) xs) (among p k h xs (ap is_some (sym (cond-false (is_eq (nat_cmp k x.0)) (Some x.1) (row_in depth_codec numbers_in_order xs k) a)) ∙ e))
-  ]
-    where
-      same_number : (a c : ℕ) → is_eq (nat_cmp a c) ≡ true → a ≡ c
-      same_number a c e = eqb-true a c (sym (number_eq a c) ∙ e)
+          false≢true (sym (not-true (nat_eq k wid) x.beside) ∙ eq-eqb k wid k2))) g.1
 
   -- a tuple that is told elsewhere is told by a world
-  path_told : told_elsewhere b.stmts w u ≡ true → list_any (λ e. is_told_by t b s wid u tid e.0) worlds ≡ true
+  path_told : told_elsewhere b.stmts w u ≡ true → (k : ℕ) × TellsAt t rest (Some wid) k
   path_told e =
       let r = stated_at b.stmts e in
       let v = r.0 in
       let k = some_is (number_of ns v) (s.stored.worlds v ∙ explicit_state b.stmts v u r.1 r.3) in
       let p : path_of ns k.0 ≡ Some v = s.stored.states.names.numbered v k.0 k.1 in
-      let num : IsNum k.0 = s.stored.states.names.sized v k.0 k.1 in
+      let size : IsNum k.0 = s.stored.states.names.sized v k.0 k.1 in
       let apart : nat_eq k.0 wid ≡ false = false_from_ne_true (nat_eq k.0 wid) (λ h.
       let same : v ≡ w = one_path (path_of ns k.0) p (ap (path_of ns) (eqb-true k.0 wid h) ∙ s.stored.states.names.numbered w wid number) in
       false≢true (sym r.2 ∙ (same_path-Decides v w).1 same)) in
-      let told : is_told_by t b s wid u tid k.0 ≡ true = and_from (not (nat_eq k.0 wid)) (is_some (explicit_of (held (row_key k.0 tid u)))) (not_from_false (nat_eq k.0 wid) apart)
-      (ap is_some (has.explicit k.0 v tid u p tuple) ∙ stated_sign v r.1 r.3) in
-      let depth : row_in depth_codec numbers_in_order worlds k.0 ≡ depth_of ns k.0 = under_is depth_codec numbers_in_order number_rows_are_one t (depth_of ns) s.stored.states.tables.depth [] worlds under k.0 num refl in
-      among (λ n. is_told_by t b s wid u tid n) k.0 told worlds (ap is_some (depth ∙ ap (λ o. option_map (λ z. length z) o) p))
-
-  pub told_is : list_any (λ e. is_told_by t b s wid u tid e.0) worlds ≡ told_elsewhere b.stmts w u
-  told_is = ways (list_any (λ e. is_told_by t b s wid u tid e.0) worlds) (told_elsewhere b.stmts w u) (told_path_any worlds) path_told
+      let some = some_is (explicit_of (held (row_key k.0 tid u))) (ap is_some (has.explicit k.0 v tid u p tuple) ∙ stated_sign v r.1 r.3) in (
+        k.0,
+        record {
+          explicit = row_explicit t b.stmts ns s.tuples s.stored.rows u tid k.0 num fits some.0 size (explicit_mark (held (row_key k.0 tid u)) some.0 some.1);
+          beside = not_from_false (nat_eq k.0 wid) apart;
+        },
+      )
     where
-      ways : (a c : Bool) → (a ≡ true → c ≡ true) → (c ≡ true → a ≡ true) → a ≡ c
-      ways true c f g = sym (f refl)
-      ways false true f g = g refl
-      ways false false f g = refl
+      explicit_mark : (o : Option Mark) (g : Sign) → explicit_of o ≡ Some g → o ≡ Some (g, true)
+      explicit_mark None g e = absurd cc
+      explicit_mark (Some m) g e = elim (cases_Bool m.1) [
+        | inl a ↦ ap (λ (z : Bool). Some (pair m.0 z)) a ∙ ap (λ (z : Sign). Some (pair z true)) (one_sign m.0 g (sym (cond-true m.1 (Some m.0) None a) ∙ e))
+        | inr a ↦ absurd (none_is_some g (sym (cond-false m.1 (Some m.0) None a) ∙ e))
+      ]
+        where
+          pair : Sign → Bool → Mark
+          pair s b = (s, b)
+
+          one_sign : (x y : Sign) → Some x ≡ Some y → x ≡ y
+          one_sign x y e = cc
+
+          none_is_some : (x : Sign) → None ≡ Some x → ⊥
+          none_is_some x e = cc
+
+  pub told_is : (is : Bool) → AnyTells t rest (Some wid) is → is ≡ told_elsewhere b.stmts w u
+  told_is true x = sym (told_path x.0 x.1)
+  told_is false none = sym (false_from_ne_true (told_elsewhere b.stmts w u) (λ e. let x = path_told e in none x.0 x.1))
 
 -- ---- a tuple's number
 
@@ -221,11 +184,11 @@ module _ (t : Tables) (u : Tuple) (fits : IsTupleRow u) where
         | inr h ↦ or_right (same_tuple u x.tuple) (has_tuple xs u) (elsewhere xs h)
       ]
 
-  pub lost_some : (worlds : List (ℕ × ℕ)) (wid tid : ℕ) (reached : List Stmt) (is : Bool) → AreUnder depth_codec t [] worlds → HasAt tuple_ix_codec t u (Some tid)
-      → TellsAny t wid u tid worlds is → IsLost t wid reached u (not (has_tuple reached u || is))
-  lost_some worlds wid tid reached is under has tells b s w c n =
+  pub lost_some : (wid tid : ℕ) (reached : List Stmt) (is : Bool) → IsNum tid → HasAt tuple_ix_codec t u (Some tid) → AnyTells t (key_rest u tid) (Some wid) is
+      → IsLost t wid reached u (not (has_tuple reached u || is))
+  lost_some wid tid reached is num has tells b s w c n =
       let tuple : s.tuples.tuple tid ≡ Some u = s.stored.tuples.numbered u tid (sym (number_read b.stmts s.tuples t u (Some tid) s.stored.tuples fits has)) in
-      ap (λ a. not (has_tuple reached u || a)) (tells b s ∙ told_is t worlds under u tid b s w wid c n tuple)
+      ap (λ a. not (has_tuple reached u || a)) (told_is t u tid num fits b s w wid c n tuple is tells)
 
 -- a tuple that one of some has is not lost
 pub lost_held : (t : Tables) (u : Tuple) (wid : ℕ) (reached : List Stmt) → has_tuple reached u ≡ true → IsLost t wid reached u false
@@ -281,20 +244,3 @@ fresh_all t come kept h b s = sym (append_none kept) ∙ h b s
     append_none : (xs : List Stmt) → xs ++ [] ≡ xs
     append_none [] = refl
     append_none (x ∷ xs) = ap (λ l. x ∷ l) (append_none xs)
-
--- no world so far tells a tuple
-abbrev pub NoneSoFar : Tables → ℕ → Tuple → ℕ → List (ℕ × ℕ) → List (ℕ × ℕ) → Type 0
-NoneSoFar t but u tid worlds rest = (b : Contents) (s : Stores t b) → list_any (λ e. is_told_by t b s but u tid e.0) rest ≡ list_any (λ e. is_told_by t b s but u tid e.0) worlds
-
-pub none_more : (t v : Tables) (but : ℕ) (u : Tuple) (tid : ℕ) (worlds : List (ℕ × ℕ)) (x : ℕ × ℕ) (rest : List (ℕ × ℕ)) → v ≡ t → NoneSoFar t but u tid worlds (x ∷ rest) → Tells v but u tid x.0 false
-    → NoneSoFar t but u tid worlds rest
-none_more t v but u tid worlds x rest same h l b s =
-    ap (λ a. a || list_any (λ e. is_told_by t b s but u tid e.0) rest) (subst (λ (z : Tables). Tells z but u tid x.0 false) same l b s) ∙ h b s
-
-pub one_tells : (t v : Tables) (but : ℕ) (u : Tuple) (tid : ℕ) (worlds : List (ℕ × ℕ)) (x : ℕ × ℕ) (rest : List (ℕ × ℕ)) → v ≡ t → NoneSoFar t but u tid worlds (x ∷ rest) → Tells v but u tid x.0 true
-    → TellsAny t but u tid worlds true
-one_tells t v but u tid worlds x rest same h l b s =
-    ap (λ a. a || list_any (λ e. is_told_by t b s but u tid e.0) rest) (subst (λ (z : Tables). Tells z but u tid x.0 true) same l b s) ∙ h b s
-
-pub none_tells : (t : Tables) (but : ℕ) (u : Tuple) (tid : ℕ) (worlds : List (ℕ × ℕ)) → NoneSoFar t but u tid worlds [] → TellsAny t but u tid worlds false
-none_tells t but u tid worlds h b s = h b s

@@ -1,8 +1,8 @@
 -- What is said of a statement by what was read is right.
-use Rattle.std.proofs.Common.{◌≡◌, ◌∙◌, ℕ, ◌+◌, ◌-◌, ◌≤◌, Bool, true, false, nat_lt, cond, List, length, take, drop, refl, ap, sym, subst, inl, inr, Option, Some, None, is_some, suc}
+use Rattle.std.proofs.Common.{◌≡◌, ◌∙◌, ℕ, ◌+◌, ◌-◌, ◌<◌, ◌≤◌, Bool, true, false, nat_eq, nat_lt, cond, List, length, take, drop, refl, ap, sym, subst, inl, inr, Option, Some, None, is_some, suc, arith}
 use Rattle.std.specs.Prelude.{if◌then◌else◌}
 use Rattle.std.specs.List.{list_any}
-use Rattle.std.proofs.lemmas.Bool.{false≢true, leb-true, cases_lt}
+use Rattle.std.proofs.lemmas.Bool.{false≢true, false_from_ne_true, leb-true, cases_Bool, cases_lt, cond-true, cond-false, eqb-true, eq-eqb}
 use Rattle.std.proofs.lemmas.List.{take-append-drop, take_all}
 use Rattle.bdb_base.specs.Bases.{Contents, stands, tuple_count, world_count}
 use Rattle.bdb_base.specs.Limits.{most_worlds, most_tuples, most_statements}
@@ -17,8 +17,8 @@ use Rattle.bdb_val.specs.declared.stored.Stored.{Stored}
 use Rattle.bdb_worlds.specs.Reach.{ReachesState}
 use Rattle.bdb_update.specs.Calls.{MayMeet, SomeMayMeet, clash_of, size_passed, with_one}
 use Rattle.bdb_update.specs.Examining.{AreSizes, IsVerdict, Examines}
-use Rattle.bdb_update.specs.Joining.{IsWorldIfAny}
-use Rattle.bdb_update.specs.Looking.{IsPlace, IsSmall, is_own, least_row, counts_with, filled_by, joined_by, judged_by, judged}
+use Rattle.bdb_update.specs.Joining.{IsWorldFound, IsWorldIfAny}
+use Rattle.bdb_update.specs.Looking.{IsPlace, IsSmall, is_own, least_row, counts_with, filled_by, joined_by, judged_by, judged, state_of}
 use Rattle.bdb_update.specs.declared.looking.Place.{Place}
 use Rattle.bdb_update.proofs.JudgeLemmas.{clash_found, no_clash_found, standing_found, none_standing, worlds_with, tuples_with, stmts_with}
 use Rattle.bdb_update.proofs.StageLemmas.{belongs_parts}
@@ -45,6 +45,21 @@ world_if_any t w len wid reaches s h own named =
       | inr ge ↦ ap (number_of s.names) (sym (take_all len w ge)) ∙ r.number
     ]
 
+world_found : (t : Tables) (x : Stmt) (p : Place) → ReachesState t x.path p.len p.wid → p.len ≤ length x.path → IsWorldFound t x.path (state_of x p)
+world_found t x p reaches within = elim (cases_Bool (nat_eq p.len (length x.path))) [
+  | inl e ↦ subst (IsWorldFound t x.path) (sym (cond-true (nat_eq p.len (length x.path)) (Some p.wid) None e)) (λ s h own.
+      let whole : p.len ≡ length x.path = eqb-true p.len (length x.path) e in
+      ap (number_of s.names) (sym (take_all p.len x.path (omega arith))) ∙ (reaches s h own).number)
+  | inr e ↦ subst (IsWorldFound t x.path) (sym (cond-false (nat_eq p.len (length x.path)) (Some p.wid) None e)) (λ s h own.
+      false_from_ne_true (is_named s.names x.path) (λ named.
+      let front = take (suc p.len) x.path in
+      false≢true (sym ((reaches s h own).longest (below (λ q. false≢true (sym e ∙ eq-eqb p.len (length x.path) q))))
+      ∙ h.names.prefixes front (drop (suc p.len) x.path) (ap (is_named s.names) (take-append-drop (suc p.len) x.path) ∙ named))))
+]
+  where
+    below : (p.len ≡ length x.path → ⊥) → p.len < length x.path
+    below bad = elim (cases_lt p.len (length x.path)) [ inl lt ↦ lt | inr ge ↦ absurd (bad (omega (arith, within, ge))) ]
+
 module _ (t : Tables) (c : Counts) (x : Stmt) (p : Place) (place : IsPlace t x p) (b : Contents) (may : MayMeet t c x b) where
   sizes : stands b.stmts x ≡ false → AreSizes (counts_with x p c) (counts_of (with_one b x))
   sizes fresh =
@@ -60,13 +75,13 @@ module _ (t : Tables) (c : Counts) (x : Stmt) (p : Place) (place : IsPlace t x p
   verdict : IsVerdict t b x (judged x p c)
   verdict = by_row (least_row x p.rows.items) refl
     where
-      by_size : clash_of b x ≡ None → stands b.stmts x ≡ false → (o : Option What) → size_passed (counts_with x p c) ≡ o → IsVerdict t b x (filled_by p (counts_with x p c) o)
+      by_size : clash_of b x ≡ None → stands b.stmts x ≡ false → (o : Option What) → size_passed (counts_with x p c) ≡ o → IsVerdict t b x (filled_by x p (counts_with x p c) o)
       by_size apart fresh None e = record {
         fresh = fresh;
         apart = apart;
         room = sym (sizes_pass (counts_with x p c) (counts_of (with_one b x)) (sizes fresh)) ∙ e;
         sizes = sizes fresh;
-        world = world_if_any t x.path p.len p.wid place.reaches;
+        world = world_found t x p place.reaches place.within;
         number = place.number;
         fits = place.fits;
       }

@@ -36,13 +36,15 @@ use Rattle.bdb_worlds.proofs.GrowLemmas.{take_split}
 use Rattle.bdb_worlds.specs.Holding.{Worlds}
 use Rattle.bdb_worlds.specs.Reach.{Reaches}
 use Rattle.bdb_update.specs.Calls.{clash_of}
-use Rattle.bdb_update.specs.Looking.{IsPlace, is_clashing, is_own, least_row}
+use Rattle.bdb_update.specs.Looking.{IsPlace, is_clashing, is_own, least_row, prefix_of}
 use Rattle.bdb_tables.specs.Stored.{Stores}
 use Rattle.bdb_update.specs.declared.looking.Place.{Place}
+use Rattle.bdb_update.proofs.ExplicitLemmas.{AmongAll, among_all, filtered, is_explicit_row, unfiltered}
+use Rattle.bdb_update.proofs.GrammarLemmas.{stored_is_in_grammar}
 use Rattle.bdb_update.proofs.LeastLemmas.{IsLeastRow, IsNotBelow, least_is, none_clash}
 use Rattle.bdb_update.proofs.MissingLemmas.{missing_behind}
 use Rattle.bdb_update.proofs.OwnLemmas.{IsSaid, rows_said, said_rows}
-use Rattle.bdb_update.proofs.StageLemmas.{belongs_parts}
+use Rattle.bdb_update.proofs.StageLemmas.{belongs_parts, over_has_tuples}
 use Rattle.bdb_update.proofs.TupleLemmas.{number_read}
 
 none_some : {X : Type 0} (x : X) (o : Option X) → o ≡ None → o ≡ Some x → ⊥
@@ -114,12 +116,19 @@ module _ (t : Tables) (x : Stmt) (p : Place) (place : IsPlace t x p) (b : Conten
     number : number_of s.names x.path ≡ Some p.wid
     number = ap (number_of s.names) (sym (take_all p.len x.path (omega arith))) ∙ reached.number
 
+    among : AmongAll t (prefix_of p.wid x) rows
+    among = among_all t (prefix_of p.wid x) rows (stored_is_in_grammar t b s) (over_has_tuples b.stmts b.stmts s.names s.tuples t b s.stored) (place.rows full)
+
     said : AllByRecursion (IsSaid b.stmts x.path) rows
-    said = rows_said t b s.names s.tuples s.stored consistent x.path p.wid number x.tuple place.fits rows (place.rows full)
+    said = subst (AllByRecursion (IsSaid b.stmts x.path)) (sym among.are) (filtered (IsSaid b.stmts x.path) is_explicit_row among.all
+        (rows_said t b s.names s.tuples s.stored consistent x.path p.wid number x.tuple place.fits among.all among.read))
 
     found : (Q : Stored → Type 0) → AllByRecursion Q rows → (v : Tuple) (r : Sign) → explicit b.stmts x.path v r ≡ true → is_of_group x.tuple.rel (key_value x.tuple.vals) v ≡ true
         → (q : Stored) × (q.tuple ≡ v) × (q.mark ≡ (r, true)) × Q q
-    found = said_rows t b s.names s.tuples s.stored consistent x.path p.wid number x.tuple place.fits rows (place.rows full)
+    found Q all v r e like =
+        let k = said_rows t b s.names s.tuples s.stored consistent x.path p.wid number x.tuple place.fits among.all among.read (λ q. is_explicit_row q ≡ true → Q q)
+        (unfiltered Q is_explicit_row among.all (subst (AllByRecursion Q) among.are all)) v r e like in
+        (k.0, k.1, k.2, k.3 (ap (λ (m : Sign × Bool). m.1) k.2))
 
     like_itself : is_of_group x.tuple.rel (key_value x.tuple.vals) x.tuple ≡ true
     like_itself = and_from (nat_eq x.tuple.rel x.tuple.rel) (same_value (key_value x.tuple.vals) (key_value x.tuple.vals)) (eq-eqb x.tuple.rel x.tuple.rel refl)

@@ -12,6 +12,7 @@ pub mod DifferLemmas
 pub mod ElsewhereLemmas
 pub mod EmptyLemmas
 pub mod ExamineLemmas
+pub mod ExplicitLemmas
 pub mod FillLemmas
 pub mod GrammarLemmas
 pub mod GroupLemmas

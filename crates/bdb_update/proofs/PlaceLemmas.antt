@@ -7,14 +7,15 @@ use Rattle.bdb_keep.specs.Tables.{Tables}
 use Rattle.bdb_key.specs.Rows.{IsTupleRow}
 use Rattle.bdb_tables.specs.Codec.{HasAt}
 use Rattle.bdb_tables.specs.InUse.{tuple_ix_codec}
-use Rattle.bdb_val.specs.Reads.{AreReadUnder, group_prefix}
+use Rattle.bdb_val.specs.Reads.{group_prefix}
 use Rattle.bdb_val.specs.Settling.{key_value}
 use Rattle.bdb_val.specs.declared.stored.Stored.{Stored}
 use Rattle.bdb_worlds.specs.Reach.{ReachesState}
+use Rattle.bdb_update.specs.Groups.{AreExplicitUnder}
 use Rattle.bdb_update.specs.Looking.{AreRowsIf, IsPlace, prefix_of}
 use Rattle.bdb_update.specs.declared.looking.Place.{Place}
 
-rows_asked : (t : Tables) (wid : ℕ) (u : Tuple) (asked : Bool) (rows : List Stored) → AreRowsIf t wid u asked rows → asked ≡ true → AreReadUnder t (group_prefix wid u.rel (key_value u.vals)) rows
+rows_asked : (t : Tables) (wid : ℕ) (u : Tuple) (asked : Bool) (rows : List Stored) → AreRowsIf t wid u asked rows → asked ≡ true → AreExplicitUnder t (group_prefix wid u.rel (key_value u.vals)) rows
 rows_asked t wid u true rows h e = h
 rows_asked t wid u false rows h e = absurd cc
 
@@ -29,7 +30,7 @@ place_is t u v x p w e f g reaches within rows number fits =
     record {
       reaches = subst (λ z. ReachesState t z p.len p.wid) e reaches;
       within = subst (λ n. p.len ≤ n) l within;
-      rows = λ d. subst (λ (z : Tables). AreReadUnder z (prefix_of p.wid x) p.rows.items) f
+      rows = λ d. subst (λ (z : Tables). AreExplicitUnder z (prefix_of p.wid x) p.rows.items) f
           (rows_asked u p.wid x.tuple (nat_eq p.len (length w)) p.rows.items rows (eq-eqb p.len (length w) (d ∙ sym l)));
       none = λ d. rows_not_asked u p.wid x.tuple (nat_eq p.len (length w)) p.rows.items rows
           (false_from_ne_true (nat_eq p.len (length w)) (λ k. d (eqb-true p.len (length w) k ∙ l)));

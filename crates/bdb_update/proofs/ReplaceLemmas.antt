@@ -1,5 +1,5 @@
 -- Statements go, and others come, one after the other.
-use Rattle.std.proofs.Common.{◌≡◌, ◌∙◌, ℕ, ◌≤◌, ◌<◌, Bool, true, false, ◌||◌, nat_lt, List, [], ◌∷◌, Some, None, Ok, Err, refl, ap, sym, subst, inl, inr, arith, length}
+use Rattle.std.proofs.Common.{◌≡◌, ◌∙◌, ℕ, ◌+◌, ◌≤◌, ◌<◌, Bool, true, false, ◌||◌, nat_lt, List, [], ◌∷◌, ◌++◌, Some, None, Ok, Err, refl, ap, sym, subst, inl, inr, arith, length}
 use Rattle.std.specs.Prelude.{if◌then◌else◌}
 use Rattle.std.specs.List.{list_any, list_all}
 use Rattle.std.specs.Ordering.{is_eq}
@@ -33,6 +33,8 @@ use Rattle.bdb_val.proofs.Calls.{HasGone, gone_then, changing_err}
 use Rattle.bdb_update.specs.Calls.{StoresSized, MayMeet, SomeMayMeet, Drops, IsDropping, Adds, IsAdding, clash_of, of_stmts, size_passed, with_one, without_one, without_statements}
 use Rattle.bdb_update.specs.Replacing.{MayGo, SomeMayGo, Go, MayCome, SomeMayCome, Come, MayReplaceAll, SomeMayReplace, Replace, is_stop}
 use Rattle.bdb_tables.specs.Stored.{Stores}
+use Rattle.bdb_update.specs.Bounds.{WritesWithin}
+use Rattle.bdb_update.specs.Steps.{ComesThrough, GoesThrough, ReplacesThrough, WritesThrough, steps_with, steps_without}
 use Rattle.bdb_update.specs.Trying.{stopped_by}
 use Rattle.bdb_update.specs.declared.answer.Added.{Added}
 use Rattle.bdb_update.specs.declared.answer.Added.TheVariants.{New, Already}
@@ -40,6 +42,7 @@ use Rattle.bdb_update.specs.declared.answer.UpdateError.{UpdateError}
 use Rattle.bdb_update.specs.declared.answer.UpdateError.TheVariants.{Clash, Full, Fault, Memory}
 use Rattle.bdb_update.proofs.NextLemmas.{first_is_valid}
 use Rattle.bdb_update.proofs.ReachedLemmas.{goes_first}
+use Rattle.bdb_update.proofs.SpendLemmas.{still_within}
 
 -- ---- how calls end
 
@@ -67,23 +70,28 @@ may_meet t c x gone b m = record {
   belongs = stands_belongs b.catalog b.stmts x m.base.valid.stmts.belong (and_parts (stands b.stmts x) (list_all (stands b.stmts) gone) m.stand).0;
 }
 
--- the statements that are left to go, and what the base comes to
-pub record IsLeft (t : Tables) (c : Counts) (gone end : List Stmt) (b : Contents) : Type 0 where
+-- the statements that are left to go, what the base comes to, and that what is written for those that are left makes of what was
+-- written so far what is written for all
+pub record IsLeft (old now : Seen) (c : Counts) (all gone end : List Stmt) (b : Contents) : Type 0 where
   pub stmts : List Stmt
-  pub may : MayGo t c gone (of_stmts b stmts)
+  pub may : MayGo now.kept c gone (of_stmts b stmts)
   pub ends : without_statements stmts gone ≡ end
+  pub through : (last : Seen) → WritesThrough now (steps_without (of_stmts b stmts) gone) last → WritesThrough old (steps_without b all) last
 
 -- statements have gone, and these are left
 pub record IsGoing (old new : Seen) (before now : Counts) (all rest : List Stmt) : Type 0 where
   pub gone : HasGone old new
-  pub left : (b : Contents) → MayGo old.kept before all b → IsLeft new.kept now rest (without_statements b.stmts all) b
+  pub left : (b : Contents) → MayGo old.kept before all b → IsLeft old new now all rest (without_statements b.stmts all) b
 
 pub going_begins : (s : Seen) (c : Counts) (all : List Stmt) → HasGone s s → IsGoing s s c c all all
-going_begins s c all g = record { gone = g; left = λ b m. record { stmts = b.stmts; may = m; ends = refl } }
+going_begins s c all g = record { gone = g; left = λ b m. record { stmts = b.stmts; may = m; ends = refl; through = λ last h. h } }
 
 pub going_ends : (old new : Seen) (before now : Counts) (all : List Stmt) → IsGoing old new before now all [] → Go old.kept new.kept before now all
 going_ends old new before now all g b m =
     let l = g.left b m in subst (λ ys. StoresSized new.kept now (of_stmts b ys)) l.ends l.may.base
+
+pub gone_through : (old new : Seen) (before now : Counts) (all : List Stmt) → IsGoing old new before now all [] → GoesThrough before all old new
+gone_through old new before now all g b m = (g.left b m).through new (refl, refl)
 
 pub some_left : (old new : Seen) (before now : Counts) (all : List Stmt) (x : Stmt) (rest : List Stmt) → IsGoing old new before now all (x ∷ rest) → SomeMayGo old.kept before all → SomeMayMeet new.kept now x
 some_left old new before now all x rest g s =
@@ -105,8 +113,8 @@ one_left b x rest old new c d true m h =
 one_left b x rest old new c d false m h = absurd (false≢true (sym h.none ∙ (and_parts (stands b.stmts x) (list_all (stands b.stmts) rest) m.stand).0))
 
 pub going_more : (old mid new : Seen) (before now next : Counts) (all : List Stmt) (x : Stmt) (rest : List Stmt) (r : Bool) → SomeMayGo old.kept before all → IsGoing old mid before now all (x ∷ rest)
-    → Drops mid new now next x (Ok r) → NeverFall mid new → IsGoing old new before next all rest
-going_more old mid new before now next all x rest r some g d f =
+    → Drops mid new now next x (Ok r) → WritesWithin (length x.path + 2) 8 mid new → NeverFall mid new → IsGoing old new before next all rest
+going_more old mid new before now next all x rest r some g d w f =
     let l = g.left some.base some.may in
     let b0 = of_stmts some.base l.stmts in
     record {
@@ -115,6 +123,7 @@ going_more old mid new before now next all x rest r some g d f =
         stmts = without_statement k.stmts x;
         may = one_left c x rest mid new now next r k.may (d c (may_meet mid.kept now x rest c k.may));
         ends = k.ends;
+        through = λ last h. k.through last (new, (one_left c x rest mid new now next r k.may (d c (may_meet mid.kept now x rest c k.may))).base.stored, w, h);
       };
     }
 
@@ -176,23 +185,27 @@ stands_already stmts x s e = members_make_set statement_exact (with_statement st
       | inr a ↦ ap (λ b. b || stands stmts z) a
     ])
 
--- the statements that are left to come, and what the base comes to
-pub record IsToCome (t : Tables) (c : Counts) (come end : List Stmt) (b : Contents) : Type 0 where
+-- the statements that are left to come, what the base comes to, and what is written for all
+pub record IsToCome (old now : Seen) (c : Counts) (all come end : List Stmt) (b : Contents) : Type 0 where
   pub stmts : List Stmt
-  pub may : MayCome t c come (of_stmts b stmts)
+  pub may : MayCome now.kept c come (of_stmts b stmts)
   pub ends : with_statements stmts come ≡ end
+  pub through : (last : Seen) → WritesThrough now (steps_with (of_stmts b stmts) come) last → WritesThrough old (steps_with b all) last
 
 -- statements have come, and these are left
 pub record IsComing (old new : Seen) (before now : Counts) (all rest : List Stmt) : Type 0 where
   pub gone : HasGone old new
-  pub left : (b : Contents) → MayCome old.kept before all b → IsToCome new.kept now rest (with_statements b.stmts all) b
+  pub left : (b : Contents) → MayCome old.kept before all b → IsToCome old new now all rest (with_statements b.stmts all) b
 
 pub coming_begins : (s : Seen) (c : Counts) (all : List Stmt) → HasGone s s → IsComing s s c c all all
-coming_begins s c all g = record { gone = g; left = λ b m. record { stmts = b.stmts; may = m; ends = refl } }
+coming_begins s c all g = record { gone = g; left = λ b m. record { stmts = b.stmts; may = m; ends = refl; through = λ last h. h } }
 
 pub coming_ends : (old new : Seen) (before now : Counts) (all : List Stmt) → IsComing old new before now all [] → Come old.kept new.kept before now all
 coming_ends old new before now all g b m =
     let l = g.left b m in subst (λ ys. StoresSized new.kept now (of_stmts b ys)) l.ends l.may.base
+
+pub come_through : (old new : Seen) (before now : Counts) (all : List Stmt) → IsComing old new before now all [] → ComesThrough before all old new
+come_through old new before now all g b m = (g.left b m).through new (refl, refl)
 
 pub some_to_come : (old new : Seen) (before now : Counts) (all : List Stmt) (x : Stmt) (rest : List Stmt) → IsComing old new before now all (x ∷ rest) → SomeMayCome old.kept before all → SomeMayMeet new.kept now x
 some_to_come old new before now all x rest g s =
@@ -222,8 +235,8 @@ one_came b x rest old new c d Already m h =
     }
 
 pub coming_more : (old mid new : Seen) (before now next : Counts) (all : List Stmt) (x : Stmt) (rest : List Stmt) (r : Added) → SomeMayCome old.kept before all → IsComing old mid before now all (x ∷ rest)
-    → Adds mid new now next x (Ok r) → NeverFall mid new → IsComing old new before next all rest
-coming_more old mid new before now next all x rest r some g d f =
+    → Adds mid new now next x (Ok r) → WritesWithin (length x.path + 2) 8 mid new → NeverFall mid new → IsComing old new before next all rest
+coming_more old mid new before now next all x rest r some g d w f =
     let l = g.left some.base some.may in
     let b0 = of_stmts some.base l.stmts in
     record {
@@ -232,6 +245,7 @@ coming_more old mid new before now next all x rest r some g d f =
         stmts = with_statement k.stmts x;
         may = one_came c x rest mid new now next r k.may (d c (may_add mid.kept now x rest c k.may));
         ends = k.ends;
+        through = λ last h. k.through last (new, (one_came c x rest mid new now next r k.may (d c (may_add mid.kept now x rest c k.may))).base.stored, w, h);
       };
     }
 
@@ -274,3 +288,20 @@ some_come t u c d gone come g s = record { base = of_stmts s.base (without_state
 
 pub replaced : (t u v : Tables) (a b c : Counts) (gone come : List Stmt) → Go t u a b gone → Come u v b c come → Replace t v a c gone come
 replaced t u v a b c gone come g k base m = k (of_stmts base (without_statements base.stmts gone)) (to_come t u a b gone come base g m)
+
+-- ---- how often is written
+
+-- a first moment with the same rows and count of writes
+pub from_still : (old mid new : Seen) (es : List (Stmt × Contents)) → mid.kept ≡ old.kept → mid.writes ≡ old.writes → WritesThrough mid es new → WritesThrough old es new
+from_still old mid new [] kept writes h = (h.0 ∙ kept, h.1 ∙ writes)
+from_still old mid new (e ∷ es) kept writes h = (h.0, h.1, still_within (length e.0.path + 2) 8 old mid h.0 kept writes h.2, h.3)
+
+-- steps and then others
+through_then : (old mid new : Seen) (es fs : List (Stmt × Contents)) → WritesThrough old es mid → WritesThrough mid fs new → WritesThrough old (es ++ fs) new
+through_then old mid new [] fs h k = from_still old mid new fs h.0 h.1 k
+through_then old mid new (e ∷ es) fs h k = (h.0, h.1, h.2, through_then h.0 mid new es fs h.3 k)
+
+pub replaced_through : (old mid new : Seen) (c d : Counts) (gone come : List Stmt) → Go old.kept mid.kept c d gone → GoesThrough c gone old mid → ComesThrough d come mid new → ReplacesThrough c gone come old new
+replaced_through old mid new c d gone come g h k b m =
+    let next = of_stmts b (without_statements b.stmts gone) in
+    through_then old mid new (steps_without b gone) (steps_with next come) (h b m.may) (k next (to_come old.kept mid.kept c d gone come b g m))

@@ -164,9 +164,12 @@ states_then_rows d rows old mid new within outside alone rises later ps diff sma
 
 -- ---- where tables were only read
 
+pub still_within : (times more : ℕ) (old mid new : Seen) → mid.kept ≡ old.kept → mid.writes ≡ old.writes → WritesWithin times more mid new → WritesWithin times more old new
+still_within times more old mid new kept writes h ps d =
+    subst (λ n. RisesWithin (times * length ps + more) n new.writes) writes (h ps (subst (λ (t : Tables). AreDifferences (tables.get t) (tables.get new.kept) ps) (sym kept) d))
+
 pub quiet_within : (times more : ℕ) (old mid new : Seen) → IsQuiet old mid → WritesWithin times more mid new → WritesWithin times more old new
-quiet_within times more old mid new q h ps d =
-    subst (λ n. RisesWithin (times * length ps + more) n new.writes) q.writes (h ps (subst (λ (t : Tables). AreDifferences (tables.get t) (tables.get new.kept) ps) (sym q.kept) d))
+quiet_within times more old mid new q h = still_within times more old mid new q.kept q.writes h
 
 pub none_within : (times more : ℕ) (old new : Seen) → new.writes ≡ old.writes → WritesWithin times more old new
 none_within times more old new e ps d small = omega (arith, e)

@@ -9,7 +9,7 @@ use Rattle.bdb_key.specs.Rows.{IsTupleRow}
 use Rattle.bdb_tables.specs.Codec.{HasAt}
 use Rattle.bdb_tables.specs.InUse.{tuple_ix_codec}
 use Rattle.bdb_update.specs.Calls.{MayMeet, clash_of, size_passed, with_one}
-use Rattle.bdb_update.specs.Joining.{IsWorldIfAny}
+use Rattle.bdb_update.specs.Joining.{IsWorldFound}
 use Rattle.bdb_update.specs.declared.looking.Ready.{Ready}
 use Rattle.bdb_update.specs.declared.looking.Verdict.{Verdict}
 use Rattle.bdb_update.specs.declared.looking.Verdict.TheVariants.{Clashes, Stands, Fills, Fits}
@@ -27,7 +27,7 @@ pub record IsReady (t : Tables) (b : Contents) (x : Stmt) (r : Ready) : Type 0 w
   pub apart : clash_of b x ≡ None
   pub room : size_passed (counts_of (with_one b x)) ≡ None
   pub sizes : AreSizes r.next (counts_of (with_one b x))
-  pub world : IsWorldIfAny t x.path r.wid
+  pub world : IsWorldFound t x.path r.wid
   pub number : HasAt tuple_ix_codec t x.tuple r.tid
   pub fits : IsTupleRow x.tuple
 

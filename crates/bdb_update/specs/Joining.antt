@@ -1,6 +1,6 @@
 -- How a statement joins a base: its worlds come, its tuple gets a number, and its row is put and its group settled. Tables are
 -- told of by whichever base they store.
-use Rattle.std.specs.Prelude.{◌≡◌, ℕ, ◌+◌, ◌^◌, ◌<◌, ◌≤◌, Bool, true, ◌||◌, nat_eq, List, [], ◌∷◌, Some}
+use Rattle.std.specs.Prelude.{◌≡◌, ℕ, ◌+◌, ◌^◌, ◌<◌, ◌≤◌, Bool, true, false, ◌||◌, nat_eq, List, [], ◌∷◌, Option, Some, None}
 use Rattle.std.specs.List.{list_all}
 use Rattle.bdb_base.specs.Bases.{Contents, IsValid, belongs, with_statement, world_count}
 use Rattle.bdb_base.specs.declared.kinds.Stmt.{Stmt}
@@ -51,6 +51,11 @@ IsWorld t w wid = (s : Worlds) → HoldsStates s.users s.names t → list_all s.
 -- the same, where the path is a state
 abbrev pub IsWorldIfAny : Tables → List ℕ → ℕ → Type 0
 IsWorldIfAny t w wid = (s : Worlds) → HoldsStates s.users s.names t → list_all s.users w ≡ true → is_named s.names w ≡ true → number_of s.names w ≡ Some wid
+
+-- the number of a path where it is a state, and none where it is none
+abbrev pub IsWorldFound : Tables → List ℕ → Option ℕ → Type 0
+IsWorldFound t w (Some wid) = IsWorld t w wid
+IsWorldFound t w None = (s : Worlds) → HoldsStates s.users s.names t → list_all s.users w ≡ true → is_named s.names w ≡ false
 
 -- the last of some numbers, if there is one
 abbrev pub last_or : ℕ → List ℕ → ℕ

@@ -5,7 +5,9 @@ pub mod Differing
 pub mod Elsewhere
 pub mod Examining
 pub mod Filling
+pub mod Groups
 pub mod Joining
+pub mod Keys
 pub mod Leaving
 pub mod Looking
 pub mod Numbering
@@ -13,6 +15,7 @@ pub mod Parting
 pub mod Reached
 pub mod Reads
 pub mod Replacing
+pub mod Steps
 pub mod StoredLaws
 pub mod Tallies
 pub mod Trying

@@ -1,5 +1,5 @@
 -- What is read of a statement before anything is written, and what is said of it.
-use Rattle.std.specs.Prelude.{◌≡◌, ℕ, ◌+◌, ◌-◌, ◌≤◌, Bool, ◌&&◌, List, [], ◌∷◌, length, Option, Some, None, is_some, cond}
+use Rattle.std.specs.Prelude.{◌≡◌, ℕ, ◌+◌, ◌-◌, ◌≤◌, Bool, ◌&&◌, nat_eq, List, [], ◌∷◌, length, Option, Some, None, is_some, cond}
 use Rattle.std.specs.Bool.{MatchBool}
 use Rattle.std.specs.List.{list_any}
 use Rattle.std.specs.Ordering.{is_lt}
@@ -15,11 +15,12 @@ use Rattle.bdb_key.specs.Rows.{IsTupleRow}
 use Rattle.bdb_keep.specs.Tables.{Tables}
 use Rattle.bdb_tables.specs.Codec.{HasAt}
 use Rattle.bdb_tables.specs.InUse.{tuple_ix_codec}
-use Rattle.bdb_val.specs.Reads.{AreReadUnder, group_prefix}
+use Rattle.bdb_val.specs.Reads.{group_prefix}
 use Rattle.bdb_val.specs.Settling.{key_value}
 use Rattle.bdb_val.specs.declared.stored.Stored.{Stored}
 use Rattle.bdb_worlds.specs.Reach.{ReachesState}
 use Rattle.bdb_update.specs.Calls.{size_passed}
+use Rattle.bdb_update.specs.Groups.{AreExplicitUnder}
 use Rattle.bdb_update.specs.declared.looking.Place.{Place}
 use Rattle.bdb_update.specs.declared.looking.Verdict.{Verdict}
 use Rattle.bdb_update.specs.declared.looking.Verdict.TheVariants.{Clashes, Stands, Fills, Fits}
@@ -28,16 +29,16 @@ use Rattle.bdb_update.specs.declared.looking.Verdict.TheVariants.{Clashes, Stand
 abbrev pub prefix_of : ℕ → Stmt → List ℕ
 prefix_of wid x = group_prefix wid x.tuple.rel (key_value x.tuple.vals)
 
--- the rows of a world for a tuple's relation and key, or none
+-- the explicit rows of a world for a tuple's relation and key, or none
 abbrev pub AreRowsIf : Tables → ℕ → Tuple → Bool → List Stored → Type 0
-AreRowsIf t wid u asked rows = MatchBool asked (AreReadUnder t (group_prefix wid u.rel (key_value u.vals)) rows) (rows ≡ [])
+AreRowsIf t wid u asked rows = MatchBool asked (AreExplicitUnder t (group_prefix wid u.rel (key_value u.vals)) rows) (rows ≡ [])
 
--- What is read: how far a statement's path goes along states and the number of the last of them, the rows of the tuple's relation
+-- What is read: how far a statement's path goes along states and the number of the last of them, the explicit rows of the tuple's relation
 -- and key there where the whole path is a state, and the number of the tuple, if it has one.
 pub record IsPlace (t : Tables) (x : Stmt) (p : Place) : Type 0 where
   pub reaches : ReachesState t x.path p.len p.wid
   pub within : p.len ≤ length x.path
-  pub rows : p.len ≡ length x.path → AreReadUnder t (prefix_of p.wid x) p.rows.items
+  pub rows : p.len ≡ length x.path → AreExplicitUnder t (prefix_of p.wid x) p.rows.items
   pub none : (p.len ≡ length x.path → ⊥) → p.rows.items ≡ []
   pub number : HasAt tuple_ix_codec t x.tuple p.tid
   pub fits : IsTupleRow x.tuple
@@ -69,14 +70,18 @@ counts_with x p c = record {
   rows = c.rows;
 }
 
+-- the number of a statement's path, where the whole path is a state
+abbrev pub state_of : Stmt → Place → Option ℕ
+state_of x p = cond (nat_eq p.len (length x.path)) (Some p.wid) None
+
 -- what is said where a limit is passed, and where none is
-abbrev pub filled_by : Place → Counts → Option What → Verdict
-filled_by p c (Some what) = Fills what
-filled_by p c None = Fits (record { wid = p.wid; tid = p.tid; next = c })
+abbrev pub filled_by : Stmt → Place → Counts → Option What → Verdict
+filled_by x p c (Some what) = Fills what
+filled_by x p c None = Fits (record { wid = state_of x p; tid = p.tid; next = c })
 
 -- what is said where no row clashes: the statement has a row, or it has none
 abbrev pub joined_by : Stmt → Place → Counts → Bool → Verdict
-joined_by x p c own = cond own Stands (filled_by p (counts_with x p c) (size_passed (counts_with x p c)))
+joined_by x p c own = cond own Stands (filled_by x p (counts_with x p c) (size_passed (counts_with x p c)))
 
 -- what is said by the row that clashes, if there is one
 abbrev pub judged_by : Stmt → Place → Counts → Option Stored → Verdict

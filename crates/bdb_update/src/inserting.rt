@@ -4,7 +4,7 @@ ghost use Rattle.bdb_key.specs.Rows.{IsTupleRow};
 ghost use Rattle.bdb_tables.specs.Codec.{HasAt};
 ghost use Rattle.bdb_tables.specs.InUse.{tuple_ix_codec};
 ghost use Rattle.bdb_update.specs.Bounds.{WritesWithin};
-ghost use Rattle.bdb_update.specs.Joining.{CountsJoined, IsWorldIfAny, Joins, SomeMayJoin};
+ghost use Rattle.bdb_update.specs.Joining.{CountsJoined, IsWorldFound, Joins, SomeMayJoin};
 ghost use Rattle.bdb_update.specs.Numbering.{HoldsSomeTuples, TakesLeast};
 ghost use Rattle.bdb_val.specs.Steps.{IsChanging};
 
@@ -34,7 +34,7 @@ pub fn insert<K: Keeper>(
 ) -> Result<Moved, TabError>
     requires running { (K.seen keeper.old).running ≡ true }
     requires base { SomeMayJoin (K.seen keeper.old).kept stmt.now worlds }
-    requires world { IsWorldIfAny (K.seen keeper.old).kept stmt.now.path ready.now.wid }
+    requires world { IsWorldFound (K.seen keeper.old).kept stmt.now.path ready.now.wid }
     requires fits { IsTupleRow stmt.now.tuple }
     requires number { HasAt tuple_ix_codec (K.seen keeper.old).kept stmt.now.tuple ready.now.tid }
     requires counted { HoldsSomeTuples (K.seen keeper.old).kept tuples }

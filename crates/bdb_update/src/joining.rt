@@ -1,8 +1,8 @@
 // A statement joins a base, step by step.
-ghost use Rattle.std.specs.Prelude.{◌≡◌, ◌+◌, true, nat_eq, cond, Some, None, is_some, length, IfOk, OnOk};
+ghost use Rattle.std.specs.Prelude.{◌≡◌, ◌+◌, ◌∷◌, true, nat_eq, cond, Some, None, is_some, length, IfOk, OnOk};
 ghost use Rattle.std.specs.FinMap as tables;
 ghost use Rattle.bdb_base.specs.Causes.{Rises};
-ghost use Rattle.bdb_key.specs.Rows.{IsTupleRow, MayBeTuple};
+ghost use Rattle.bdb_key.specs.Rows.{IsTupleRow, MayBeTuple, mark_bytes};
 ghost use Rattle.bdb_keep.specs.Calls.{IsRead};
 ghost use Rattle.bdb_tables.specs.Codec.{HasAt, place};
 ghost use Rattle.bdb_tables.specs.Grammar.{InGrammar};
@@ -10,7 +10,7 @@ ghost use Rattle.bdb_tables.specs.InUse.{IsValKey, tuple_codec, tuple_ix_codec, 
 ghost use Rattle.bdb_key.specs.Grammar.{HasPlainText};
 ghost use Rattle.bdb_update.specs.Bounds.{KeepsNames, KeepsTuples, RowWrites, StateWrites};
 ghost use Rattle.bdb_update.specs.ChangeLaws.{is_of_worlds};
-ghost use Rattle.bdb_update.specs.Joining.{Arrive, CountsArrived, CountsSettled, IsWorld, IsWorldIfAny, Joins, Numbers, Settles, SomeHasNumber, SomeHasWorlds, SomeMayJoin, is_of_tuples, key_made, last_or, row_put};
+ghost use Rattle.bdb_update.specs.Joining.{Arrive, CountsArrived, CountsSettled, IsWorld, IsWorldFound, Joins, Numbers, Settles, SomeHasNumber, SomeHasWorlds, SomeMayJoin, is_of_tuples, key_made, last_or, row_put};
 ghost use Rattle.bdb_update.specs.Numbering.{HoldsSomeTuples, IsLeastNumber, TakesLeast, number_put};
 ghost use Rattle.bdb_tables.specs.Stored.{SameBut};
 ghost use Rattle.bdb_val.specs.Others as others;
@@ -18,26 +18,28 @@ ghost use Rattle.bdb_val.specs.Steps.{IsChanging, counted};
 ghost use Rattle.bdb_worlds.specs.Bounds.{RisesWithin};
 
 use crate::filling::{both, fill_worlds};
-use bdb_base::{Exact, Stmt, Tuple, Value, key_of};
+use crate::keys::{row_key, table_error};
+use bdb_base::{Sign, Stmt, Tuple, Value, key_of};
 use bdb_keep::Keeper;
-use bdb_tables::{TabError, TupleIx, TupleTab, ValTab, get, next, put};
+use bdb_key::put_mark;
+use bdb_tables::{Tab, TabError, TupleIx, TupleTab, ValTab, get, next, put};
 use bdb_val::{Settled, settle_group};
 use bdb_worlds::add_states;
 use std::alloc::Global;
 
 /// Makes states of all prefixes of a statement's path, and gives each new one the rows that it inherits. `wid` is the number
-/// of the path, if it is a state, and there are as many states as `worlds`. It tells the number of the path, and how many rows
-/// came.
+/// of the path, if it is a state, and then nothing is read; there are as many states as `worlds`. It tells the number of the
+/// path, and how many rows came.
 pub fn add_worlds<K: Keeper>(
     alloc: Global,
     keeper: &mut K,
     stmt: &Stmt,
-    wid: u32,
+    wid: Option<u32>,
     worlds: u32,
 ) -> Result<(u32, usize), TabError>
     requires running { (K.seen keeper.old).running ≡ true }
     requires base { SomeMayJoin (K.seen keeper.old).kept stmt.now worlds }
-    requires world { IsWorldIfAny (K.seen keeper.old).kept stmt.now.path wid }
+    requires world { IsWorldFound (K.seen keeper.old).kept stmt.now.path wid }
     ensures arrived { IfOk result (λ found. Arrive (K.seen keeper.old).kept (K.seen keeper.new).kept stmt.now found.0) }
     ensures counted { IfOk result (λ found. CountsArrived (K.seen keeper.old).kept (K.seen keeper.new).kept stmt.now found.1) }
     ensures names { OnOk result (KeepsNames (K.seen keeper.old).kept (K.seen keeper.new).kept) }
@@ -45,12 +47,16 @@ pub fn add_worlds<K: Keeper>(
     ensures others { OnOk result (SameBut is_of_worlds (K.seen keeper.old).kept (K.seen keeper.new).kept) }
     ensures changing { IsChanging (K.seen keeper.old) (K.seen keeper.new) result TabError.Fault }
 {
+    match wid {
+        Some(wid) => return Ok((wid, 0)),
+        None => {}
+    }
     let new = match add_states(alloc, keeper, stmt.path.as_slice(), worlds) {
         Ok(new) => new,
         Err(error) => return Err(error),
     };
     match fill_worlds(alloc, keeper, &new) {
-        Ok(rows) => Ok((last_or(wid, &new), rows)),
+        Ok(rows) => Ok((last_or(0, &new), rows)),
         Err(error) => Err(error),
     }
 }
@@ -165,14 +171,10 @@ pub fn settle_statement<K: Keeper>(
 {
     let key = key_of(&stmt.tuple);
     let rel = rel_of(&stmt.tuple);
-    let stood = match has_row(alloc, keeper, stmt, wid, tid, key) {
+    let stood = match put_row(alloc, keeper, stmt, wid, tid, key) {
         Ok(stood) => stood,
         Err(error) => return Err(error),
     };
-    match put_row(alloc, keeper, stmt, wid, tid, key) {
-        Ok(()) => {}
-        Err(error) => return Err(error),
-    }
     match settle_group(alloc, keeper, wid, rel, key) {
         Ok(settled) => Ok(with_row(settled, stood)),
         Err(error) => Err(error),
@@ -192,31 +194,6 @@ fn with_row(settled: Settled, stood: bool) -> Settled
     }
 }
 
-// Whether a world has a row for the tuple of a statement.
-fn has_row<K: Keeper>(
-    alloc: Global,
-    keeper: &mut K,
-    stmt: &Stmt,
-    wid: u32,
-    tid: u32,
-    key: &Value,
-) -> Result<bool, TabError>
-    requires grammar { InGrammar (K.seen keeper.old).kept }
-    requires text { HasPlainText key.now }
-    ensures found { IfOk result (λ stood. stood ≡ is_some (tables.get (K.seen keeper.old).kept (place val_codec (key_made stmt.now wid tid key.now)))) }
-    ensures read { IsRead (K.seen keeper.old) (K.seen keeper.new) result TabError.Fault }
-{
-    let value = match key.try_clone(alloc) {
-        Ok(value) => value,
-        Err(_) => {
-            keeper.undo();
-            return Err(TabError::Memory);
-        }
-    };
-    let found = get::<ValTab, K>(alloc, keeper, &(wid, rel_of(&stmt.tuple), value, tid))?;
-    Ok(found.is_some())
-}
-
 /// The relation of a tuple.
 pub fn rel_of(tuple: &Tuple) -> u32
     ensures { result ≡ tuple.now.rel }
@@ -224,7 +201,7 @@ pub fn rel_of(tuple: &Tuple) -> u32
     tuple.rel
 }
 
-// Puts the row of a statement into a world.
+// Puts the row of a statement into a world. True where the world had a row for the statement's tuple.
 fn put_row<K: Keeper>(
     alloc: Global,
     keeper: &mut K,
@@ -232,27 +209,57 @@ fn put_row<K: Keeper>(
     wid: u32,
     tid: u32,
     key: &Value,
-) -> Result<(), TabError>
+) -> Result<bool, TabError>
     requires running { (K.seen keeper.old).running ≡ true }
     requires text { HasPlainText key.now }
+    ensures found { IfOk result (λ stood. stood ≡ is_some (tables.get (K.seen keeper.old).kept (place val_codec (key_made stmt.now wid tid key.now)))) }
     ensures put { OnOk result ((K.seen keeper.new).kept ≡ row_put (K.seen keeper.old).kept stmt.now wid tid key.now) }
     ensures writes { OnOk result (Rises 1 (K.seen keeper.old).writes (K.seen keeper.new).writes) }
     ensures fits { OnOk result (IsValKey (key_made stmt.now wid tid key.now)) }
     ensures grammar { OnOk result (InGrammar (K.seen keeper.old).kept → InGrammar (K.seen keeper.new).kept) }
     ensures changing { IsChanging (K.seen keeper.old) (K.seen keeper.new) result TabError.Fault }
 {
-    let value = match key.try_clone(alloc) {
-        Ok(value) => value,
+    let bytes = match row_key(alloc, wid, rel_of(&stmt.tuple), key, tid) {
+        Ok(bytes) => bytes,
         Err(_) => {
             keeper.undo();
             return Err(TabError::Memory);
         }
     };
-    put::<ValTab, K>(
-        alloc,
-        keeper,
-        &(wid, rel_of(&stmt.tuple), value, tid),
-        &(stmt.sign, true),
-    )?;
-    Ok(())
+    match put_explicit(alloc, keeper, &bytes, stmt.sign) {
+        Ok(stood) => Ok(stood),
+        Err(error) => Err(error),
+    }
+}
+
+// Puts the explicit row of a sign at a key. True where a row stood there.
+fn put_explicit<K: Keeper>(
+    alloc: Global,
+    keeper: &mut K,
+    key: &[u8],
+    sign: Sign,
+) -> Result<bool, TabError>
+    requires running { (K.seen keeper.old).running ≡ true }
+    ensures found { IfOk result (λ stood. stood ≡ is_some (tables.get (K.seen keeper.old).kept (11 ∷ key.now))) }
+    ensures put { OnOk result ((K.seen keeper.new).kept ≡ tables.insert (K.seen keeper.old).kept (11 ∷ key.now) (mark_bytes (sign, true))) }
+    ensures writes { OnOk result (Rises 1 (K.seen keeper.old).writes (K.seen keeper.new).writes) }
+    ensures changing { IsChanging (K.seen keeper.old) (K.seen keeper.new) result TabError.Fault }
+{
+    let mut row = Vec::new(alloc);
+    let stood = match keeper.get(ValTab::NUMBER, key, &mut row) {
+        Ok(stood) => stood,
+        Err(error) => return Err(table_error(error)),
+    };
+    row.clear();
+    match put_mark(&mut row, sign, true) {
+        Ok(()) => {}
+        Err(_) => {
+            keeper.undo();
+            return Err(TabError::Memory);
+        }
+    }
+    match keeper.put(ValTab::NUMBER, key, &row) {
+        Ok(()) => Ok(stood),
+        Err(error) => Err(table_error(error)),
+    }
 }

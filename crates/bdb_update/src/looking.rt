@@ -1,30 +1,30 @@
 // What is known of a statement before anything is written.
-ghost use Rattle.std.specs.Prelude.{◌≡◌, true, IfOk, OnOk, [], ◌&&◌, is_some, cond};
+ghost use Rattle.std.specs.Prelude.{◌≡◌, true, IfOk, [], ◌&&◌, is_some, cond};
 ghost use Rattle.std.specs.List.{list_any};
 ghost use Rattle.std.specs.Option.{option_copied};
-ghost use Rattle.bdb_key.specs.Rows.{IsTupleRow, MayBeTuple};
+ghost use Rattle.bdb_key.specs.Rows.{MayBeTuple};
 ghost use Rattle.bdb_keep.specs.Calls.{IsRead};
-ghost use Rattle.bdb_tables.specs.Codec.{HasAt};
 ghost use Rattle.bdb_tables.specs.Grammar.{InGrammar};
-ghost use Rattle.bdb_tables.specs.InUse.{tuple_ix_codec};
 ghost use Rattle.bdb_update.specs.Calls.{SomeMayMeet, size_passed};
 ghost use Rattle.bdb_update.specs.Examining.{Examines};
-ghost use Rattle.bdb_update.specs.Looking.{AreRowsIf, IsPlace, IsSmall, counts_with, filled_by, first_of, is_clashing, is_own, joined_by, judged, least_row, prefix_of};
+ghost use Rattle.bdb_update.specs.Looking.{AreRowsIf, IsPlace, IsSmall, counts_with, filled_by, first_of, is_clashing, is_own, joined_by, judged, least_row, state_of};
 ghost use Rattle.bdb_val.specs.Reads.{AreReadUnder, HaveTuples};
 ghost use Rattle.bdb_worlds.specs.Holding.{HoldSome};
 ghost use Rattle.bdb_base.specs.Alternation.{alternates};
 
+use crate::groups::read_explicit;
+use crate::numbers::number_of;
 use bdb_base::limits::{MOST_STATEMENTS, MOST_TUPLES, MOST_WORLDS};
 use bdb_base::{Exact, Stmt, Tuple, What, clash, cmp_tuple, key_of, same_tuple};
 use bdb_canon::Counts;
 use bdb_keep::Keeper;
-use bdb_tables::{Tab, TabError, TupleIx, get};
-use bdb_val::{Stored, read_group};
+use bdb_tables::TabError;
+use bdb_val::Stored;
 use bdb_worlds::longest_state;
 use std::alloc::{AllocError, Global};
 
-/// What is read of a statement: how many users of its path are those of a state and that state's number, the rows of its
-/// tuple's relation and key there, where the whole path is a state, and the number of its tuple, if it has one.
+/// What is read of a statement: how many users of its path are those of a state and that state's number, the explicit rows of
+/// its tuple's relation and key there, where the whole path is a state, and the number of its tuple, if it has one.
 #[derive(Drop)]
 pub struct Place {
     pub len: usize,
@@ -50,7 +50,7 @@ pub enum Verdict {
 /// tuple, if it has one, and the sizes with it, but for the rows.
 #[derive(Clone, Copy, Drop)]
 pub struct Ready {
-    pub wid: u32,
+    pub wid: Option<u32>,
     pub tid: Option<u32>,
     pub next: Counts,
 }
@@ -75,7 +75,7 @@ pub fn look<K: Keeper>(alloc: Global, keeper: &mut K, stmt: &Stmt) -> Result<Pla
         Ok(rows) => rows,
         Err(error) => return Err(error),
     };
-    match find_tuple(alloc, keeper, &stmt.tuple) {
+    match number_of(alloc, keeper, &stmt.tuple) {
         Ok(tid) => Ok(Place {
             len,
             wid,
@@ -86,7 +86,7 @@ pub fn look<K: Keeper>(alloc: Global, keeper: &mut K, stmt: &Stmt) -> Result<Pla
     }
 }
 
-// The rows of a world for a tuple's relation and key, or none where they are not asked for.
+// The explicit rows of a world for a tuple's relation and key, or none where they are not asked for.
 fn read_rows<K: Keeper>(
     alloc: Global,
     keeper: &mut K,
@@ -104,45 +104,10 @@ fn read_rows<K: Keeper>(
     if !asked {
         return Ok(Vec::new(alloc));
     }
-    match read_group(alloc, keeper, wid, tuple.rel, key_of(tuple)) {
+    match read_explicit(alloc, keeper, wid, tuple.rel, key_of(tuple)) {
         Ok(rows) => Ok(rows),
         Err(error) => Err(error),
     }
-}
-
-// The number of a tuple, if it has one. Its bytes tell that its numbers and integers are of the sizes of their types.
-fn find_tuple<K: Keeper>(
-    alloc: Global,
-    keeper: &mut K,
-    tuple: &Tuple,
-) -> Result<Option<u32>, TabError>
-    requires grammar { InGrammar (K.seen keeper.old).kept }
-    requires tuple { MayBeTuple tuple.now }
-    ensures found { IfOk result (HasAt tuple_ix_codec (K.seen keeper.old).kept tuple.now) }
-    ensures fits { OnOk result (IsTupleRow tuple.now) }
-    ensures read { IsRead (K.seen keeper.old) (K.seen keeper.new) result TabError.Fault }
-{
-    match spell(alloc, tuple) {
-        Ok(()) => {}
-        Err(_) => {
-            keeper.undo();
-            return Err(TabError::Memory);
-        }
-    }
-    match get::<TupleIx, K>(alloc, keeper, tuple) {
-        Ok(found) => Ok(found),
-        Err(error) => Err(error),
-    }
-}
-
-// Spells the bytes of a tuple.
-fn spell(alloc: Global, tuple: &Tuple) -> Result<(), AllocError>
-    requires { MayBeTuple tuple.now }
-    ensures { OnOk result (IsTupleRow tuple.now) }
-{
-    let mut bytes = Vec::new(alloc);
-    TupleIx::key_bytes(tuple, &mut bytes)?;
-    Ok(())
 }
 
 /// Reads what there is to know of a statement, and says whether it may join the base.
@@ -201,10 +166,21 @@ fn join_verdict(stmt: &Stmt, place: &Place, counts: &Counts) -> Verdict
     match size_passed(&next) {
         Some(what) => Verdict::Fills(what),
         None => Verdict::Fits(Ready {
-            wid: place.wid,
+            wid: state_of(stmt, place),
             tid: place.tid,
             next,
         }),
+    }
+}
+
+// The number of a statement's path, where the whole path is a state.
+fn state_of(stmt: &Stmt, place: &Place) -> Option<u32>
+    ensures { result ≡ state_of stmt.now place.now }
+{
+    if place.len == stmt.path.as_slice().len() {
+        Some(place.wid)
+    } else {
+        None
     }
 }
 

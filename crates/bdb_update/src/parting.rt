@@ -19,10 +19,11 @@ ghost use Rattle.bdb_worlds.specs.Bounds.{RisesWithin};
 
 use crate::filling::both;
 use crate::joining::rel_of;
+use crate::keys::{row_key, table_error};
 use crate::reading::is_told;
-use bdb_base::{Exact, Stmt, Tuple, Value, key_of};
+use bdb_base::{Stmt, Tuple, Value, key_of};
 use bdb_keep::Keeper;
-use bdb_tables::{TabError, TupleIx, TupleTab, ValTab, drop_row};
+use bdb_tables::{Tab, TabError, TupleIx, TupleTab, ValTab, drop_row};
 use bdb_val::{Settled, clear_world, settle_group};
 use bdb_worlds::drop_states;
 use std::alloc::Global;
@@ -76,15 +77,17 @@ fn take_row<K: Keeper>(
     ensures grammar { OnOk result (InGrammar (K.seen keeper.old).kept → InGrammar (K.seen keeper.new).kept) }
     ensures changing { IsChanging (K.seen keeper.old) (K.seen keeper.new) result TabError.Fault }
 {
-    let value = match key.try_clone(alloc) {
-        Ok(value) => value,
+    let bytes = match row_key(alloc, wid, rel_of(&stmt.tuple), key, tid) {
+        Ok(bytes) => bytes,
         Err(_) => {
             keeper.undo();
             return Err(TabError::Memory);
         }
     };
-    drop_row::<ValTab, K>(alloc, keeper, &(wid, stmt.tuple.rel, value, tid))?;
-    Ok(())
+    match keeper.remove(ValTab::NUMBER, &bytes) {
+        Ok(_) => Ok(()),
+        Err(error) => Err(table_error(error)),
+    }
 }
 
 /// Takes the worlds away that are no states any more once a statement has left, with their rows. It tells how many worlds

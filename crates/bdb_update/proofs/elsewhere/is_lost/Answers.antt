@@ -1,8 +1,10 @@
-use Rattle.std.proofs.Common.{◌∙◌, Option, ℕ, not, ◌||◌, sym, subst}
+use Rattle.std.proofs.Common.{◌∙◌, Option, Some, ℕ, not, ◌||◌, sym, subst}
 use Rattle.bdb_tables.specs.Codec.{HasAt}
 use Rattle.bdb_tables.specs.InUse.{tuple_ix_codec}
 use Rattle.bdb_keep.specs.Tables.{Tables}
-use Rattle.bdb_update.specs.Elsewhere.{IsLost, TellsAny}
+use Rattle.bdb_update.specs.Elsewhere.{IsLost}
+use Rattle.bdb_update.specs.Keys.{key_rest}
+use Rattle.bdb_update.specs.Reads.{AnyTells}
 use Rattle.bdb_update.proofs.ElsewhereLemmas.{lost_held, lost_none, lost_some}
 use Rattle.bdb_update.proofs.elsewhere.is_lost.Goals as goal
 
@@ -21,7 +23,7 @@ pub returns-in-Ok-clause-lost : goal.returns-in-Ok-clause-lost
 returns-in-Ok-clause-lost g c =
     let t = (g.K.Keeper.seen c.args.keeper.now).kept in
     let u = c.args.tuple.now in
+    let has = subst (λ (o : Option ℕ). HasAt tuple_ix_codec t u o) c.in-Ok-Some.field-0-is c.in-Ok-Some.ensures.found in
     subst (λ b. IsLost t c.args.wid c.args.reached.now u (not (b || c.in-Ok.told))) (sym c.has_tuple.ensures ∙ c.if-has_tuple.false)
-    (lost_some t u c.in-Ok-Some.ensures.fits c.args.worlds.now c.args.wid c.in-Ok-Some.tid c.args.reached.now c.in-Ok.told c.requires.worlds
-    (subst (λ (o : Option ℕ). HasAt tuple_ix_codec t u o) c.in-Ok-Some.field-0-is c.in-Ok-Some.ensures.found)
-    (subst (λ (v : Tables). TellsAny v c.args.wid u c.in-Ok-Some.tid c.args.worlds.now c.in-Ok.told) c.in-Ok-Some.ensures.read.kept c.in-Ok.ensures.told))
+    (lost_some t u c.in-Ok-Some.ensures.fits c.args.wid c.in-Ok-Some.tid c.args.reached.now c.in-Ok.told has.in_grammar has
+    (subst (λ (v : Tables). AnyTells v (key_rest u c.in-Ok-Some.tid) (Some c.args.wid) c.in-Ok.told) c.in-Ok-Some.ensures.read.kept c.in-Ok.ensures.told))

@@ -1,11 +1,26 @@
-use Rattle.std.proofs.Common.{subst}
-use Rattle.bdb_keep.specs.Tables.{Tables}
-use Rattle.bdb_update.specs.Elsewhere.{AreLost}
+use Rattle.std.proofs.Common.{◌≡◌, ◌∙◌, ◌+◌, ◌∷◌, ap, sym, subst, drop}
+use Rattle.std.proofs.lemmas.List.{drop_more, drop_all}
+use Rattle.bdb_tables.specs.declared.tab.TabError.TheVariants.{Fault}
+use Rattle.bdb_update.proofs.ElsewhereLemmas.{LostSoFar, lost_more, lost_all}
+use Rattle.bdb_update.proofs.QuietLemmas.{looking_more}
 use Rattle.bdb_update.proofs.elsewhere.lost_of.Goals as goal
 
-pub rows_under-requires : goal.rows_under-requires
-rows_under-requires g c = record { grammar = λ k r found. c.requires.grammar 6 k r found }
+pub loop-stmt-preserved : goal.loop-stmt-preserved
+loop-stmt-preserved g c =
+    let old = g.K.Keeper.seen c.args.keeper.now in
+    let mid = g.K.Keeper.seen c.loop-stmt.keeper in
+    let gone = c.args.gone.now in
+    let x = c.stmt-item.result in
+    let rest = drop (c.loop-stmt.stmt-index + 1) gone in
+    let h = c.loop-stmt.invariant in
+    let split : drop c.loop-stmt.stmt-index gone ≡ x ∷ rest = drop_more gone c.loop-stmt.stmt-index x c.loop-stmt-test.true ∙ ap (λ y. y ∷ rest) (sym c.stmt-item.is) in
+    looking_more old mid (g.K.Keeper.seen c.is_lost.new.keeper) c.in-Ok.missing Fault h c.in-Ok.ensures.read
+    (lost_more old.kept mid.kept c.args.wid c.args.reached.now gone x rest c.loop-stmt.lost c.keep_if.new.kept c.in-Ok.missing h.quiet.kept
+    (subst (λ xs. LostSoFar old.kept c.args.wid c.args.reached.now gone xs c.loop-stmt.lost) split h.read) c.in-Ok.ensures.lost c.in-Ok-keep_if.ensures)
 
-pub returns-in-Ok-lost_among-clause-lost : goal.returns-in-Ok-lost_among-clause-lost
-returns-in-Ok-lost_among-clause-lost g c =
-    subst (λ (t : Tables). AreLost t c.args.wid c.args.reached.now c.args.gone.now c.in-Ok-lost_among.lost) c.in-Ok.ensures.read.kept c.in-Ok-lost_among.ensures.lost
+pub returns-clause-lost : goal.returns-clause-lost
+returns-clause-lost g c =
+    let t = (g.K.Keeper.seen c.args.keeper.now).kept in
+    let gone = c.args.gone.now in
+    lost_all t c.args.wid c.args.reached.now gone c.loop-stmt.lost
+    (subst (λ xs. LostSoFar t c.args.wid c.args.reached.now gone xs c.loop-stmt.lost) (drop_all c.loop-stmt.stmt-index gone c.loop-stmt-test.false) c.loop-stmt.invariant.read)

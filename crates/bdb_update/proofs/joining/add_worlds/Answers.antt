@@ -1,11 +1,11 @@
-use Rattle.std.proofs.Common.{◌≡◌, ◌∙◌, ◌∷◌, ℕ, ◌+◌, List, length, refl, ap, sym, subst}
+use Rattle.std.proofs.Common.{◌≡◌, ◌∙◌, ◌∷◌, ℕ, ◌+◌, List, length, refl, ap, sym, subst, arith}
 use Rattle.bdb_tables.specs.declared.tab.TabError.TheVariants.{Fault}
 use Rattle.bdb_val.proofs.Calls.{HasGone, gone_then, gone_changing, changing_ok, changing_err}
 use Rattle.bdb_worlds.specs.Bounds as states
 use Rattle.bdb_worlds.specs.Growth.{SomeMayGrow, AddsStates}
 use Rattle.bdb_update.specs.Filling.{CountsCome, FillsWorlds, SomeHaveCome}
-use Rattle.bdb_update.specs.Joining.{Arrive, last_or}
-use Rattle.bdb_update.proofs.ArriveLemmas.{counts_arrive, in_worlds, some_may_grow, some_have_come, arrive, worlds_then_rows}
+use Rattle.bdb_update.specs.Joining.{Arrive, IsWorldFound, last_or}
+use Rattle.bdb_update.proofs.ArriveLemmas.{arrived_already, counts_arrive, in_worlds, names_stay, no_world, rows_stay, some_may_grow, some_have_come, arrive, worlds_then_rows}
 use Rattle.bdb_update.proofs.CallLemmas.{gone_itself}
 use Rattle.bdb_update.proofs.GrammarLemmas.{stored_is_in_grammar}
 use Rattle.bdb_update.proofs.KeepLemmas.{names_come}
@@ -48,9 +48,10 @@ returns-in-Ok-fill_worlds-clause-arrived g c =
     let new = c.in-Ok.new.items in
     let added = subst (λ (w : List ℕ). AddsStates t u w c.args.worlds new) c.as_slice.ensures.users c.in-Ok.ensures.added in
     let filled = subst (FillsWorlds u v) c.deref.ensures.value c.in-Ok-fill_worlds.ensures.filled in
-    let last : c.last_or.result ≡ last_or c.args.wid new = c.last_or.ensures ∙ ap (last_or c.args.wid) c.deref-in-Ok-fill_worlds.ensures.value in
+    let last : c.last_or.result ≡ last_or 0 new = c.last_or.ensures ∙ ap (last_or 0) c.deref-in-Ok-fill_worlds.ensures.value in
+    let none = no_world t c.args.stmt.now.path 0 (subst (IsWorldFound t c.args.stmt.now.path) c.in-None.is c.requires.world) in
     subst (Arrive t v c.args.stmt.now) (sym last)
-    (arrive t u v c.args.stmt.now c.args.worlds c.args.wid new added c.in-Ok.ensures.others c.requires.world filled (λ n k out. c.in-Ok-fill_worlds.ensures.others (n ∷ k) out) c.requires.base)
+    (arrive t u v c.args.stmt.now c.args.worlds 0 new added c.in-Ok.ensures.others none filled (λ n k out. c.in-Ok-fill_worlds.ensures.others (n ∷ k) out) c.requires.base)
 
 pub returns-in-Ok-fill_worlds-clause-others : goal.returns-in-Ok-fill_worlds-clause-others
 returns-in-Ok-fill_worlds-clause-others g c =
@@ -98,3 +99,25 @@ returns-in-Ok-fill_worlds-clause-writes g c =
     states_then_rows (length c.args.stmt.now.path) c.in-Ok-fill_worlds.rows old mid (g.K.Keeper.seen c.fill_worlds.new.keeper)
     (subst (λ (w : List ℕ). states.WritesWithin (length w + 2) old mid) c.as_slice.ensures.users c.in-Ok.ensures.writes) c.in-Ok.ensures.others c.in-Ok-fill_worlds.ensures.others
     c.in-Ok-fill_worlds.ensures.writes c.in-Ok-fill_worlds.ensures.changing.counts.writes
+
+pub returns-in-Some-clause-arrived : goal.returns-in-Some-clause-arrived
+returns-in-Some-clause-arrived g c =
+    let t = (g.K.Keeper.seen c.args.keeper.now).kept in
+    arrived_already t c.args.stmt.now c.in-Some.wid (subst (IsWorldFound t c.args.stmt.now.path) c.in-Some.is c.requires.world)
+
+pub returns-in-Some-clause-counted : goal.returns-in-Some-clause-counted
+returns-in-Some-clause-counted g c = rows_stay (g.K.Keeper.seen c.args.keeper.now).kept c.args.stmt.now
+
+pub returns-in-Some-clause-names : goal.returns-in-Some-clause-names
+returns-in-Some-clause-names g c = names_stay (g.K.Keeper.seen c.args.keeper.now).kept
+
+pub returns-in-Some-clause-writes : goal.returns-in-Some-clause-writes
+returns-in-Some-clause-writes g c = λ ps are small. omega arith
+
+pub returns-in-Some-clause-others : goal.returns-in-Some-clause-others
+returns-in-Some-clause-others g c = λ n k out. refl
+
+pub returns-in-Some-clause-changing : goal.returns-in-Some-clause-changing
+returns-in-Some-clause-changing g c =
+    let old = g.K.Keeper.seen c.args.keeper.now in
+    changing_ok old old _ Fault (gone_itself old)

@@ -1,36 +1,25 @@
-use Rattle.std.proofs.Common.{◌∙◌, ◌∷◌, ℕ, Some, true, ap, sym, subst, rules}
+use Rattle.std.proofs.Common.{◌∷◌, ℕ, Some, true, sym, subst, rules}
 use Rattle.bdb_base.specs.Bases.{with_statement}
-use Rattle.bdb_base.specs.Causes.{Rises}
-use Rattle.bdb_keep.specs.Tables.{Tables}
 use Rattle.bdb_key.specs.Grammar.{IsNum}
-use Rattle.bdb_tables.specs.Grammar.{InGrammar}
 use Rattle.bdb_tables.specs.declared.tab.TabError.TheVariants.{Fault}
 use Rattle.bdb_val.specs.Groups.{SettlesGroup, TellsGroup}
-use Rattle.bdb_val.proofs.Calls.{gone_read, gone_then, gone_changing, changing_ok, changing_err}
-use Rattle.bdb_update.specs.Joining.{CountsSettled, key_made, row_put}
+use Rattle.bdb_val.proofs.Calls.{gone_then, gone_changing, changing_ok, changing_err}
+use Rattle.bdb_update.specs.Joining.{CountsSettled, key_made}
+use Rattle.bdb_update.proofs.CallLemmas.{gone_itself}
 use Rattle.bdb_update.proofs.GrammarLemmas.{over_in_grammar}
 use Rattle.bdb_update.proofs.SettleLemmas.{counts_settle, first_plain, may_be_tuple, row_has_tuple, settled, settling_tells}
 use Rattle.bdb_update.proofs.SpendLemmas.{row_alone, row_then_group}
 use Rattle.bdb_update.proofs.joining.settle_statement.Goals as goal
 
-pub has_row-requires-clause-grammar : goal.has_row-requires-clause-grammar
-has_row-requires-clause-grammar g c =
-    let n = c.requires.base.number in
-    let told = with_statement c.requires.base.base.stmts c.args.stmt.now in
-    over_in_grammar told told n.names n.tuples (g.K.Keeper.seen c.args.keeper.now).kept c.requires.base.base n.stored
-
-pub returns-in-Err-put_row-clause-changing : goal.returns-in-Err-put_row-clause-changing
-returns-in-Err-put_row-clause-changing g c =
-    let old = g.K.Keeper.seen c.args.keeper.now in
-    let a = g.K.Keeper.seen c.has_row.new.keeper in
-    changing_err old a (g.K.Keeper.seen c.put_row.new.keeper) c.in-Err-put_row.error Fault (gone_read old a c.in-Ok.stood Fault c.in-Ok.ensures.read) c.in-Err-put_row.ensures.changing
+pub put_row-requires-clause-text : goal.put_row-requires-clause-text
+put_row-requires-clause-text g c =
+    first_plain c.args.stmt.now.tuple.vals c.key_of-key.result.now c.key_of-key.ensures (may_be_tuple c.requires.base.base c.args.stmt.now c.requires.base.may).texts
 
 pub settle_group-requires-clause-grammar : goal.settle_group-requires-clause-grammar
 settle_group-requires-clause-grammar g c =
     let n = c.requires.base.number in
     let told = with_statement c.requires.base.base.stmts c.args.stmt.now in
-    c.in-Ok-put_row.ensures.grammar (subst InGrammar (sym c.in-Ok.ensures.read.kept)
-    (over_in_grammar told told n.names n.tuples (g.K.Keeper.seen c.args.keeper.now).kept c.requires.base.base n.stored))
+    c.in-Ok.ensures.grammar (over_in_grammar told told n.names n.tuples (g.K.Keeper.seen c.args.keeper.now).kept c.requires.base.base n.stored)
 
 pub settle_group-requires-clause-tuples : goal.settle_group-requires-clause-tuples
 settle_group-requires-clause-tuples g c =
@@ -38,7 +27,7 @@ settle_group-requires-clause-tuples g c =
     let x = c.args.stmt.now in
     let key = c.key_of-key.result.now in
     row_has_tuple (g.K.Keeper.seen c.args.keeper.now).kept (g.K.Keeper.seen c.put_row.new.keeper).kept x c.args.wid c.args.tid key c.requires.base c.requires.fits num
-    c.requires.number c.in-Ok-put_row.ensures.fits (c.in-Ok-put_row.ensures.put ∙ ap (λ (t : Tables). row_put t x c.args.wid c.args.tid key) c.in-Ok.ensures.read.kept)
+    c.requires.number c.in-Ok.ensures.fits (c.in-Ok.ensures.put)
 
 pub settle_group-requires-clause-text : goal.settle_group-requires-clause-text
 settle_group-requires-clause-text g c =
@@ -49,7 +38,7 @@ returns-in-Ok-settle_group-clause-settled g c =
     let x = c.args.stmt.now in
     let key = c.key_of-key.result.now in
     settled (g.K.Keeper.seen c.args.keeper.now).kept (g.K.Keeper.seen c.put_row.new.keeper).kept (g.K.Keeper.seen c.settle_group.new.keeper).kept x c.args.wid c.args.tid
-    key c.key_of-key.ensures (c.in-Ok-put_row.ensures.put ∙ ap (λ (t : Tables). row_put t x c.args.wid c.args.tid key) c.in-Ok.ensures.read.kept)
+    key c.key_of-key.ensures (c.in-Ok.ensures.put)
     (subst (λ (n : ℕ). SettlesGroup (g.K.Keeper.seen c.put_row.new.keeper).kept (g.K.Keeper.seen c.settle_group.new.keeper).kept c.args.wid n key) c.rel_of-rel.ensures
     c.in-Ok-settle_group.ensures.settled) (λ n k out. c.in-Ok-settle_group.ensures.others (n ∷ k) out)
     c.requires.world c.requires.fits c.requires.number
@@ -62,7 +51,7 @@ returns-in-Ok-settle_group-clause-counted g c =
     let x = c.args.stmt.now in
     let key = c.key_of-key.result.now in
     let counts = counts_settle t mid new x c.args.wid c.args.tid key c.in-Ok.stood c.in-Ok-settle_group.settled c.key_of-key.ensures
-    (c.in-Ok-put_row.ensures.put ∙ ap (λ (u : Tables). row_put u x c.args.wid c.args.tid key) c.in-Ok.ensures.read.kept) c.in-Ok.ensures.found
+    (c.in-Ok.ensures.put) c.in-Ok.ensures.found
     (subst (λ (n : ℕ). SettlesGroup mid.kept new.kept c.args.wid n key) c.rel_of-rel.ensures c.in-Ok-settle_group.ensures.settled)
     (subst (λ (n : ℕ). TellsGroup mid new c.args.wid n key c.in-Ok-settle_group.settled) c.rel_of-rel.ensures c.in-Ok-settle_group.ensures.tells)
     c.in-Ok-settle_group.ensures.others c.requires.world c.requires.fits c.requires.number in
@@ -71,39 +60,41 @@ returns-in-Ok-settle_group-clause-counted g c =
 pub returns-in-Ok-settle_group-clause-changing : goal.returns-in-Ok-settle_group-clause-changing
 returns-in-Ok-settle_group-clause-changing g c =
     let old = g.K.Keeper.seen c.args.keeper.now in
-    let a = g.K.Keeper.seen c.has_row.new.keeper in
     let mid = g.K.Keeper.seen c.put_row.new.keeper in
     let new = g.K.Keeper.seen c.settle_group.new.keeper in
-    changing_ok old new _ Fault (gone_then old mid new (gone_then old a mid (gone_read old a c.in-Ok.stood Fault c.in-Ok.ensures.read) (gone_changing a mid c.in-Ok-put_row.field-0 Fault c.in-Ok-put_row.ensures.changing))
+    changing_ok old new _ Fault (gone_then old mid new (gone_changing old mid c.in-Ok.stood Fault c.in-Ok.ensures.changing)
     (gone_changing mid new c.in-Ok-settle_group.settled Fault c.in-Ok-settle_group.ensures.changing))
 
 pub returns-in-Err-settle_group-clause-changing : goal.returns-in-Err-settle_group-clause-changing
 returns-in-Err-settle_group-clause-changing g c =
     let old = g.K.Keeper.seen c.args.keeper.now in
-    let a = g.K.Keeper.seen c.has_row.new.keeper in
     let mid = g.K.Keeper.seen c.put_row.new.keeper in
     changing_err old mid (g.K.Keeper.seen c.settle_group.new.keeper) c.in-Err-settle_group.error Fault
-    (gone_then old a mid (gone_read old a c.in-Ok.stood Fault c.in-Ok.ensures.read) (gone_changing a mid c.in-Ok-put_row.field-0 Fault c.in-Ok-put_row.ensures.changing)) c.in-Err-settle_group.ensures.changing
+    (gone_changing old mid c.in-Ok.stood Fault c.in-Ok.ensures.changing) c.in-Err-settle_group.ensures.changing
 
 pub returns-in-Ok-settle_group-clause-writes : goal.returns-in-Ok-settle_group-clause-writes
 returns-in-Ok-settle_group-clause-writes g c =
     let old = g.K.Keeper.seen c.args.keeper.now in
-    let a = g.K.Keeper.seen c.has_row.new.keeper in
     let mid = g.K.Keeper.seen c.put_row.new.keeper in
     let new = g.K.Keeper.seen c.settle_group.new.keeper in
     let x = c.args.stmt.now in
     let key = c.key_of-key.result.now in
     let s = c.in-Ok-settle_group.settled in
-    let made = c.in-Ok-put_row.ensures.put ∙ ap (λ (t : Tables). row_put t x c.args.wid c.args.tid key) c.in-Ok.ensures.read.kept in
+    let made = c.in-Ok.ensures.put in
     let tells = settling_tells old.kept mid new x c.args.wid c.args.tid key s c.key_of-key.ensures made
     (subst (λ (n : ℕ). TellsGroup mid new c.args.wid n key s) c.rel_of-rel.ensures c.in-Ok-settle_group.ensures.tells)
     c.requires.world c.requires.fits c.requires.number c.requires.base.base c.requires.base.number c.requires.base.may in
     row_then_group old mid new (key_made x c.args.wid c.args.tid key, Some (x.sign, true)) s.put s.taken made
-    (subst (λ (n : ℕ). Rises 1 n mid.writes) c.in-Ok.ensures.read.writes c.in-Ok-put_row.ensures.writes) c.in-Ok-settle_group.ensures.changing.counts.writes c.in-Ok-settle_group.ensures.others tells
+    c.in-Ok.ensures.writes c.in-Ok-settle_group.ensures.changing.counts.writes c.in-Ok-settle_group.ensures.others tells
 
 pub returns-in-Ok-settle_group-clause-others : goal.returns-in-Ok-settle_group-clause-others
 returns-in-Ok-settle_group-clause-others g c =
     let x = c.args.stmt.now in
     let key = c.key_of-key.result.now in
     row_alone (g.K.Keeper.seen c.args.keeper.now).kept (g.K.Keeper.seen c.put_row.new.keeper).kept (g.K.Keeper.seen c.settle_group.new.keeper).kept (key_made x c.args.wid c.args.tid key, Some (x.sign, true))
-    (c.in-Ok-put_row.ensures.put ∙ ap (λ (t : Tables). row_put t x c.args.wid c.args.tid key) c.in-Ok.ensures.read.kept) c.in-Ok-settle_group.ensures.others
+    (c.in-Ok.ensures.put) c.in-Ok-settle_group.ensures.others
+
+pub returns-in-Err-clause-changing : goal.returns-in-Err-clause-changing
+returns-in-Err-clause-changing g c =
+    let old = g.K.Keeper.seen c.args.keeper.now in
+    changing_err old old (g.K.Keeper.seen c.put_row.new.keeper) c.in-Err.error Fault (gone_itself old) c.in-Err.ensures.changing

@@ -5,30 +5,30 @@ use Rattle.bdb_update.proofs.CallLemmas.{IsQuiet, quiet_read, quiet_then, read_o
 use Rattle.bdb_update.proofs.PlaceLemmas.{place_is}
 use Rattle.bdb_update.proofs.looking.look.Goals as goal
 
-pub find_tuple-requires-clause-grammar : goal.find_tuple-requires-clause-grammar
-find_tuple-requires-clause-grammar g c = subst InGrammar (sym (c.in-Ok-read_rows.ensures.read.kept ∙ c.in-Ok.ensures.kept)) c.requires.grammar
+pub number_of-requires-clause-grammar : goal.number_of-requires-clause-grammar
+number_of-requires-clause-grammar g c = subst InGrammar (sym (c.in-Ok-read_rows.ensures.read.kept ∙ c.in-Ok.ensures.kept)) c.requires.grammar
 
-pub returns-in-Ok-find_tuple-clause-place : goal.returns-in-Ok-find_tuple-clause-place
-returns-in-Ok-find_tuple-clause-place g c =
+pub returns-in-Ok-number_of-clause-place : goal.returns-in-Ok-number_of-clause-place
+returns-in-Ok-number_of-clause-place g c =
     place_is (g.K.Keeper.seen c.args.keeper.now).kept (g.K.Keeper.seen c.longest_state.new.keeper).kept (g.K.Keeper.seen c.read_rows.new.keeper).kept c.args.stmt.now _ c.as_slice-path.result.now
     c.as_slice-path.ensures.users c.in-Ok.ensures.kept (c.in-Ok-read_rows.ensures.read.kept ∙ c.in-Ok.ensures.kept) c.in-Ok.ensures.found c.in-Ok.ensures.within
-    c.in-Ok-read_rows.ensures.rows c.in-Ok-find_tuple.ensures.found c.in-Ok-find_tuple.ensures.fits
+    c.in-Ok-read_rows.ensures.rows c.in-Ok-number_of.ensures.found c.in-Ok-number_of.ensures.fits
 
-pub returns-in-Ok-find_tuple-clause-read : goal.returns-in-Ok-find_tuple-clause-read
-returns-in-Ok-find_tuple-clause-read g c =
+pub returns-in-Ok-number_of-clause-read : goal.returns-in-Ok-number_of-clause-read
+returns-in-Ok-number_of-clause-read g c =
     let old = g.K.Keeper.seen c.args.keeper.now in
     let a = g.K.Keeper.seen c.longest_state.new.keeper in
     let b = g.K.Keeper.seen c.read_rows.new.keeper in
-    let new = g.K.Keeper.seen c.find_tuple.new.keeper in
+    let new = g.K.Keeper.seen c.number_of.new.keeper in
     let first : IsQuiet old a = record { goes = c.in-Ok.ensures.steps.ok; kept = c.in-Ok.ensures.kept; writes = c.in-Ok.ensures.writes; counts = c.in-Ok.ensures.counts } in
     read_ok old new _ Fault c.requires.running
-    (quiet_then old b new (quiet_then old a b first (quiet_read a b c.in-Ok-read_rows.rows Fault c.in-Ok-read_rows.ensures.read)) (quiet_read b new c.in-Ok-find_tuple.tid Fault c.in-Ok-find_tuple.ensures.read))
+    (quiet_then old b new (quiet_then old a b first (quiet_read a b c.in-Ok-read_rows.rows Fault c.in-Ok-read_rows.ensures.read)) (quiet_read b new c.in-Ok-number_of.tid Fault c.in-Ok-number_of.ensures.read))
 
-pub returns-in-Err-find_tuple-clause-read : goal.returns-in-Err-find_tuple-clause-read
-returns-in-Err-find_tuple-clause-read g c =
+pub returns-in-Err-number_of-clause-read : goal.returns-in-Err-number_of-clause-read
+returns-in-Err-number_of-clause-read g c =
     let old = g.K.Keeper.seen c.args.keeper.now in
     let a = g.K.Keeper.seen c.longest_state.new.keeper in
     let b = g.K.Keeper.seen c.read_rows.new.keeper in
     let first : IsQuiet old a = record { goes = c.in-Ok.ensures.steps.ok; kept = c.in-Ok.ensures.kept; writes = c.in-Ok.ensures.writes; counts = c.in-Ok.ensures.counts } in
-    read_err old b (g.K.Keeper.seen c.find_tuple.new.keeper) c.in-Err-find_tuple.error Fault c.requires.running
-    (quiet_then old a b first (quiet_read a b c.in-Ok-read_rows.rows Fault c.in-Ok-read_rows.ensures.read)) c.in-Err-find_tuple.ensures.read
+    read_err old b (g.K.Keeper.seen c.number_of.new.keeper) c.in-Err-number_of.error Fault c.requires.running
+    (quiet_then old a b first (quiet_read a b c.in-Ok-read_rows.rows Fault c.in-Ok-read_rows.ensures.read)) c.in-Err-number_of.ensures.read

@@ -8,8 +8,8 @@ use Rattle.bdb_update.proofs.PartTupleLemmas.{number_kept, number_lost, number_t
 use Rattle.bdb_update.proofs.SpendLemmas.{number_gone_alone}
 use Rattle.bdb_update.proofs.parting.drop_number.Goals as goal
 
-pub is_told-requires-clause-grammar : goal.is_told-requires-clause-grammar
-is_told-requires-clause-grammar g c = fewer_over (g.K.Keeper.seen c.args.keeper.now).kept c.args.stmt.now c.requires.base
+pub is_told-requires : goal.is_told-requires
+is_told-requires g c = record { grammar = fewer_over (g.K.Keeper.seen c.args.keeper.now).kept c.args.stmt.now c.requires.base }
 
 pub returns-in-Ok-true-clause-number : goal.returns-in-Ok-true-clause-number
 returns-in-Ok-true-clause-number g c =

@@ -1,29 +1,5 @@
-use Rattle.bdb_tables.specs.declared.tab.TabError.TheVariants.{Fault}
-use Rattle.bdb_tables.proofs.Loops.{reading_more}
-use Rattle.bdb_update.proofs.ReadingLemmas.{row_tells, no_row_tells, goes_on, ends_over, ends_told}
+use Rattle.bdb_update.proofs.ReadingLemmas.{any_tells}
 use Rattle.bdb_update.proofs.reading.is_told.Goals as goal
 
-pub returns-in-Ok-Told-clause-told : goal.returns-in-Ok-Told-clause-told
-returns-in-Ok-Told-clause-told g c =
-    let t = (g.K.Keeper.seen c.args.keeper.now).kept in
-    let now = (g.K.Keeper.seen c.loop-other.keeper).kept in
-    let h = c.loop-other.invariant in
-    row_tells t c.args.tuple.now c.args.tid c.ranges.tid.fits c.loop-other.wid
-    (ends_told t now c.args.tuple.now c.args.tid c.loop-other.wid h.kept h.read c.in-Ok-Told.field-0 c.in-Ok-Told.ensures.looks c.in-Ok-Told.field-0-is)
-
-pub loop-other-preserved : goal.loop-other-preserved
-loop-other-preserved g c =
-    let old = g.K.Keeper.seen c.args.keeper.now in
-    let now = g.K.Keeper.seen c.loop-other.keeper in
-    let new = g.K.Keeper.seen c.look_from.new.keeper in
-    let h = c.loop-other.invariant in
-    reading_more old now new c.in-Ok-From.field-0 Fault h c.in-Ok-From.ensures.read
-    (goes_on old.kept now.kept c.args.tuple.now c.args.tid c.loop-other.wid h.kept h.read c.in-Ok-From.field-0 c.in-Ok-From.ensures.looks c.in-Ok-From.other c.in-Ok-From.field-0-is)
-
-pub returns-in-Ok-Over-clause-told : goal.returns-in-Ok-Over-clause-told
-returns-in-Ok-Over-clause-told g c =
-    let t = (g.K.Keeper.seen c.args.keeper.now).kept in
-    let now = (g.K.Keeper.seen c.loop-other.keeper).kept in
-    let h = c.loop-other.invariant in
-    no_row_tells t c.args.tuple.now c.args.tid c.ranges.tid.fits
-    (ends_over t now c.args.tuple.now c.args.tid c.loop-other.wid h.kept h.read c.in-Ok-Over.field-0 c.in-Ok-Over.ensures.looks c.in-Ok-Over.field-0-is)
+pub returns-in-Ok-clause-told : goal.returns-in-Ok-clause-told
+returns-in-Ok-clause-told g c = any_tells (g.K.Keeper.seen c.args.keeper.now).kept c.args.tuple.now c.args.tid c.ranges.tid.fits c.in-Ok.told c.in-Ok.ensures.told

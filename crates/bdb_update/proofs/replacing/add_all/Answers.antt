@@ -1,6 +1,6 @@
 use Rattle.std.proofs.Common.{◌≡◌, ◌∙◌, ◌+◌, ◌∷◌, ap, sym, subst, drop}
 use Rattle.std.proofs.lemmas.List.{drop_more, drop_all}
-use Rattle.bdb_update.proofs.ReplaceLemmas.{IsComing, some_to_come, coming_is_stopped, coming_more, coming_stops, coming_ends}
+use Rattle.bdb_update.proofs.ReplaceLemmas.{IsComing, some_to_come, coming_is_stopped, coming_more, coming_stops, coming_ends, come_through}
 use Rattle.bdb_update.proofs.replacing.add_all.Goals as goal
 
 pub add_statement-requires-clause-base : goal.add_statement-requires-clause-base
@@ -44,11 +44,18 @@ loop-stmt-preserved g c =
     let mid = g.K.Keeper.seen c.loop-stmt.keeper in
     let split : drop c.loop-stmt.stmt-index come ≡ x ∷ rest = drop_more come c.loop-stmt.stmt-index x c.loop-stmt-test.true ∙ ap (λ y. y ∷ rest) (sym c.stmt-item.is) in
     coming_more old mid (g.K.Keeper.seen c.add_statement.new.keeper) c.args.counts.now c.loop-stmt.counts c.add_statement.new.counts come x rest c.in-Ok.field-0 c.requires.base
-    (subst (IsComing old mid c.args.counts.now c.loop-stmt.counts come) split c.loop-stmt.invariant) c.in-Ok.ensures.added c.in-Ok.ensures.counts
+    (subst (IsComing old mid c.args.counts.now c.loop-stmt.counts come) split c.loop-stmt.invariant) c.in-Ok.ensures.added c.in-Ok.ensures.writes c.in-Ok.ensures.counts
 
 pub returns-clause-come : goal.returns-clause-come
 returns-clause-come g c =
     let old = g.K.Keeper.seen c.args.keeper.now in
     let now = g.K.Keeper.seen c.loop-stmt.keeper in
     coming_ends old now c.args.counts.now c.loop-stmt.counts c.args.come.now
+    (subst (IsComing old now c.args.counts.now c.loop-stmt.counts c.args.come.now) (drop_all c.loop-stmt.stmt-index c.args.come.now c.loop-stmt-test.false) c.loop-stmt.invariant)
+
+pub returns-clause-steps : goal.returns-clause-steps
+returns-clause-steps g c =
+    let old = g.K.Keeper.seen c.args.keeper.now in
+    let now = g.K.Keeper.seen c.loop-stmt.keeper in
+    come_through old now c.args.counts.now c.loop-stmt.counts c.args.come.now
     (subst (IsComing old now c.args.counts.now c.loop-stmt.counts c.args.come.now) (drop_all c.loop-stmt.stmt-index c.args.come.now c.loop-stmt-test.false) c.loop-stmt.invariant)

@@ -1,0 +1,133 @@
+// The explicit rows of a group: those of a world, a relation and a value of its key.
+ghost use Rattle.std.specs.Prelude.{◌≡◌, ◌++◌, true, is_some, IfOk, OnOk};
+ghost use Rattle.std.specs.FinMap as tables;
+ghost use Rattle.std.specs.List.{AllByRecursion};
+ghost use Rattle.bdb_keep.specs.Calls.{IsRead};
+ghost use Rattle.bdb_tables.specs.Codec.{HasRow, place};
+ghost use Rattle.bdb_tables.specs.Grammar.{InGrammar};
+ghost use Rattle.bdb_tables.specs.InUse.{tuple_codec};
+ghost use Rattle.bdb_update.specs.Groups.{AreExplicit, AreExplicitUnder, HasTuple, IsPicked};
+ghost use Rattle.bdb_val.specs.Reads.{HaveTuples, group_prefix};
+
+use crate::keys::KEY_ROOM;
+use bdb_base::{Sign, Tuple, Value};
+use bdb_keep::Keeper;
+use bdb_key::put_value;
+use bdb_tables::{TabError, TupleTab, ValTab, get, put_pair, rows_under};
+use bdb_val::Stored;
+use std::alloc::{AllocError, Global};
+
+// A row of a world: its key, of the world, a relation, the value of the relation's key and the number of a tuple; and its mark.
+type Row = ((u32, u32, Value, u32), (Sign, bool));
+
+/// The explicit rows of a world for the tuples of a relation and a value of its key, with their tuples, in order of their
+/// numbers. One read for each row, one more for each explicit one, and one.
+pub fn read_explicit<K: Keeper>(
+    alloc: Global,
+    keeper: &mut K,
+    wid: u32,
+    rel: u32,
+    key: &Value,
+) -> Result<Vec<Stored>, TabError>
+    requires running { (K.seen keeper.old).running ≡ true }
+    requires grammar { InGrammar (K.seen keeper.old).kept }
+    requires tuples { HaveTuples (K.seen keeper.old).kept }
+    ensures rows { IfOk result (λ rows. AreExplicitUnder (K.seen keeper.old).kept (group_prefix wid rel key.now) rows.items) }
+    ensures read { IsRead (K.seen keeper.old) (K.seen keeper.new) result TabError.Fault }
+{
+    let prefix = match group_prefix(alloc, wid, rel, key) {
+        Ok(prefix) => prefix,
+        Err(_) => {
+            keeper.undo();
+            return Err(TabError::Memory);
+        }
+    };
+    let entries = match rows_under::<ValTab, K>(alloc, keeper, &prefix) {
+        Ok(entries) => entries,
+        Err(error) => return Err(error),
+    };
+    match explicit_among(alloc, keeper, &entries) {
+        Ok(rows) => Ok(rows),
+        Err(error) => Err(error),
+    }
+}
+
+// How the keys of a group of a world begin.
+fn group_prefix(alloc: Global, wid: u32, rel: u32, key: &Value) -> Result<Vec<u8>, AllocError>
+    ensures { IfOk result (λ prefix. prefix.items ≡ group_prefix wid rel key.now) }
+{
+    let mut prefix = Vec::with_capacity(alloc, KEY_ROOM)?;
+    put_pair(&mut prefix, wid, rel)?;
+    put_value(&mut prefix, key)?;
+    Ok(prefix)
+}
+
+// The explicit ones of some rows, with their tuples.
+fn explicit_among<K: Keeper>(
+    alloc: Global,
+    keeper: &mut K,
+    entries: &[Row],
+) -> Result<Vec<Stored>, TabError>
+    requires running { (K.seen keeper.old).running ≡ true }
+    requires grammar { InGrammar (K.seen keeper.old).kept }
+    requires there { AllByRecursion (HasTuple (K.seen keeper.old).kept) entries.now }
+    ensures rows { IfOk result (λ rows. AreExplicit (K.seen keeper.old).kept entries.now rows.items) }
+    ensures read { IsRead (K.seen keeper.old) (K.seen keeper.new) result TabError.Fault }
+{
+    let mut rows = Vec::new(alloc);
+    for entry in entries {
+        match push_explicit(alloc, keeper, &mut rows, entry) {
+            Ok(()) => {}
+            Err(error) => return Err(error),
+        }
+    }
+    Ok(rows)
+}
+
+// Adds a row with its tuple, if it is explicit.
+fn push_explicit<K: Keeper>(
+    alloc: Global,
+    keeper: &mut K,
+    rows: &mut Vec<Stored>,
+    entry: &Row,
+) -> Result<(), TabError>
+    requires running { (K.seen keeper.old).running ≡ true }
+    requires grammar { InGrammar (K.seen keeper.old).kept }
+    requires there { HasTuple (K.seen keeper.old).kept entry.now }
+    ensures pushed { OnOk result (IsPicked (K.seen keeper.old).kept entry.now rows.old.items rows.new.items) }
+    ensures read { IsRead (K.seen keeper.old) (K.seen keeper.new) result TabError.Fault }
+{
+    if !entry.1.1 {
+        return Ok(());
+    }
+    let tuple = match tuple_of(alloc, keeper, entry.0.3) {
+        Ok(tuple) => tuple,
+        Err(error) => return Err(error),
+    };
+    let row = Stored {
+        tid: entry.0.3,
+        tuple,
+        mark: entry.1,
+    };
+    match rows.push(row) {
+        Ok(()) => Ok(()),
+        Err(_) => {
+            keeper.undo();
+            Err(TabError::Memory)
+        }
+    }
+}
+
+// The tuple of a number that has one. One read.
+fn tuple_of<K: Keeper>(alloc: Global, keeper: &mut K, tid: u32) -> Result<Tuple, TabError>
+    requires grammar { InGrammar (K.seen keeper.old).kept }
+    requires there { is_some (tables.get (K.seen keeper.old).kept (place tuple_codec tid)) ≡ true }
+    ensures tuple { IfOk result (λ tuple. HasRow tuple_codec (K.seen keeper.old).kept tid tuple) }
+    ensures read { IsRead (K.seen keeper.old) (K.seen keeper.new) result TabError.Fault }
+{
+    match get::<TupleTab, K>(alloc, keeper, &tid) {
+        Ok(Some(tuple)) => Ok(tuple),
+        Ok(None) => unreachable!(),
+        Err(error) => Err(error),
+    }
+}
