@@ -1,5 +1,7 @@
+pub mod AskingLemmas
 pub mod CreatingLemmas
 pub mod OpeningLemmas
+pub mod RowLemmas
 pub mod ShowingLemmas
 pub mod StoredFacts
 pub mod TakingLemmas

@@ -43,7 +43,7 @@ as_deep P w root = elim (cases_Bool (P w)) [
       let less = no_state_shorter P w root e in omega arith) ∙ sym e
 ]
 
-nothing_explicit : (stmts : List Stmt) (w : List ℕ) (t : Tuple) (s : Sign) → is_state stmts w ≡ false → explicit stmts w t s ≡ false
+pub nothing_explicit : (stmts : List Stmt) (w : List ℕ) (t : Tuple) (s : Sign) → is_state stmts w ≡ false → explicit stmts w t s ≡ false
 nothing_explicit stmts [] t s e = absurd (false≢true (sym e))
 nothing_explicit stmts (i ∷ w) t s e = nothing_stands stmts i w (λ x. same_tuple x.tuple t && same_sign x.sign s) e
 

@@ -1,34 +1,47 @@
--- The explicit rows of a path's world that are chosen are the statements that are taken.
-use Rattle.std.proofs.Common.{◌≡◌, ◌∙◌, ℕ, Bool, true, false, ◌&&◌, ◌||◌, nat_eq, cond, List, [], ◌∷◌, map, filter, refl, ap, sym, subst, inl, inr}
-use Rattle.std.specs.declared.cmp.Ordering.{Ordering}
-use Rattle.std.specs.declared.cmp.Ordering.TheVariants.{Less, Equal, Greater}
-use Rattle.std.specs.List.{list_all}
-use Rattle.std.specs.Ordering.{is_eq, is_lt, ordering_then}
-use Rattle.std.proofs.lemmas.Bool.{cases_Bool, and_parts, and_from, or_left, false≢true, cond-true, cond-false}
-use Rattle.std.proofs.lemmas.Cmp.{tied_itself}
+-- The statements of the tuples that are read of a path's world are those that are taken.
+use Rattle.std.proofs.Common.{◌≡◌, ◌∙◌, ◌⊎◌, ℕ, ◌+◌, ◌≤◌, Bool, true, false, ◌&&◌, ◌||◌, nat_eq, cond, List, [], ◌∷◌, ◌++◌, length, map, filter, Some, MatchOption, refl, ap, sym, subst, arith, inl, inr}
+use Rattle.std.specs.List.{list_any, AllByRecursion}
+use Rattle.std.specs.Ordering.{is_eq}
+use Rattle.std.proofs.lemmas.Bool.{cases_Bool, and_parts, and_from, or_cases, or_left, or_right, false≢true}
+use Rattle.bdb_base.specs.Bases.{Contents, is_user, key_lengths, stands}
 use Rattle.bdb_base.specs.Changes.{is_taken, taken_by}
 use Rattle.bdb_base.specs.Conditions.{meets}
-use Rattle.bdb_base.specs.Order.{tuple_cmp, sign_cmp, statement_cmp}
-use Rattle.bdb_base.specs.OrderLemmas.{path_total, statement_exact}
-use Rattle.bdb_base.specs.Same.{same_path, same_sign}
-use Rattle.bdb_base.specs.SameLemmas.{same_path-Decides, same_sign-Decides}
-use Rattle.bdb_base.specs.SortedSet.{ascending}
-use Rattle.bdb_base.specs.Bases.{stands}
-use Rattle.bdb_base.specs.WorldRows.{world_of, has_row, same_row, row_tuple_cmp}
-use Rattle.bdb_base.specs.Worlds.{explicit, stated, IsConsistent}
+use Rattle.bdb_base.specs.Order.{statement_cmp}
+use Rattle.bdb_base.specs.OrderLemmas.{statement_exact}
+use Rattle.bdb_base.specs.Same.{same_path, same_sign, same_tuple}
+use Rattle.bdb_base.specs.SameLemmas.{same_path-Decides, same_sign-Decides, same_tuple-Decides}
+use Rattle.bdb_base.specs.SortedSet.{ascending, put_in, put_all}
+use Rattle.bdb_base.specs.States.{is_state}
+use Rattle.bdb_base.specs.WorldRows.{world_of}
+use Rattle.bdb_base.specs.Worlds.{explicit}
 use Rattle.bdb_base.specs.declared.kinds.Cond.{Cond}
-use Rattle.bdb_base.specs.declared.kinds.Held.{Held}
 use Rattle.bdb_base.specs.declared.kinds.Sign.{Sign}
 use Rattle.bdb_base.specs.declared.kinds.Stmt.{Stmt}
 use Rattle.bdb_base.specs.declared.tuple.Tuple.{Tuple}
 use Rattle.bdb_base.proofs.ListLemmas.{filter_kept_one, filter_dropped_one}
-use Rattle.bdb_base.proofs.SetLemmas.{is_eq-Equal, is_eq_itself, filter_keeps_order, members_make_set}
-use Rattle.bdb_base.proofs.WorldRowsLemmas.{rows_are_the_world, tuples_stand_once, same_row_tells, same_row_from}
+use Rattle.bdb_base.proofs.SetLemmas.{is_eq-Equal, is_eq_itself, filter_keeps_order, members_make_set, put_all_is_ascending, list_any-put_all}
+use Rattle.bdb_base.proofs.WorldLemmas.{explicit_tuple}
+use Rattle.bdb_keep.specs.Seen.{Seen}
 use Rattle.bdb_keep.specs.Tables.{Tables}
+use Rattle.bdb_key.specs.Grammar.{IsNum, IsPlainValue}
+use Rattle.bdb_key.specs.Rows.{IsTupleRow}
+use Rattle.bdb_paths.proofs.SuffixLemmas.{deepest_of_member}
+use Rattle.bdb_tables.specs.InUse.{val_codec}
+use Rattle.bdb_tables.specs.Names.{Names, path_of, number_of, is_named}
+use Rattle.bdb_tables.specs.Rows.{Tuples}
+use Rattle.bdb_tables.specs.Spans.{AreUnder}
+use Rattle.bdb_tables.specs.Stored.{StoredAs}
 use Rattle.bdb_tables.proofs.SignLemmas.{one_answer, stands_is_explicit}
 use Rattle.bdb_update.proofs.OneStored.{consistent}
-use Rattle.bdb_catalog.specs.Showing.{IsWorldOf}
-use Rattle.bdb_catalog.specs.Taking.{is_chosen, statement_at, chosen, AreTaken}
+use Rattle.bdb_val.specs.Reads.{IsSpan}
+use Rattle.bdb_val.proofs.HeldLemmas.{some_is}
+use Rattle.bdb_worlds.specs.Bounds.{RisesWithin}
+use Rattle.bdb_catalog.specs.Bases.{HasUsers}
+use Rattle.bdb_catalog.specs.Showing.{FindsState, IsStateOf}
+use Rattle.bdb_catalog.specs.Taking.{AreTuplesRead, AreTuplesOf, beginning, is_asked, is_said, key_asked, may_be_there, rows_asked, rows_said, statement_at, statements_of}
+use Rattle.bdb_catalog.proofs.AskingLemmas.{meets_asked, asked_rel, asked_span, none_meets}
+use Rattle.bdb_catalog.proofs.RowLemmas.{tuples_are_stated, stated_are_read, rows_within, tuples_within, as_many}
+use Rattle.bdb_catalog.proofs.ShowingLemmas.{nothing_explicit}
 
 spread : (a b c : Bool) → ((a && c) || (b && c)) ≡ ((a || b) && c)
 spread true b true = refl
@@ -65,149 +78,202 @@ filtered_stands q (y ∷ ys) x =
     step true e = ap (λ zs. stands zs x) (filter_kept_one q y ys e) ∙ sym (ap (λ c. cond c (is_eq (statement_cmp y x)) false || stands (filter q ys) x) e)
     step false e = ap (λ zs. stands zs x) (filter_dropped_one q y ys e) ∙ sym (ap (λ c. cond c (is_eq (statement_cmp y x)) false || stands (filter q ys) x) e)
 
--- ---- the chosen rows
+-- ---- statements of tuples
 
 stmt_of : List ℕ → Sign → Tuple → Stmt
 stmt_of p s t = record { path = p; sign = s; tuple = t }
 
-held_of : Tuple → Sign → Bool → Held
-held_of t s b = record { tuple = t; sign = s; explicit = b }
+put_all_more : (xs ys : List Stmt) (y : Stmt) → put_all statement_cmp xs (ys ++ y ∷ []) ≡ put_in statement_cmp (put_all statement_cmp xs ys) y
+put_all_more xs [] y = refl
+put_all_more xs (z ∷ ys) y = put_all_more (put_in statement_cmp xs z) ys y
 
-module _ (w : List ℕ) (s : Sign) (rel : ℕ) (conds : List Cond) where
-  abbrev pick : Held → Bool
-  pick h = is_chosen s rel conds h
+module _ (w : List ℕ) (s : Sign) (conds : List Cond) where
+  abbrev made : Tuple → Stmt
+  made u = statement_at w s u
 
-  abbrev made : Held → Stmt
-  made h = statement_at w s h
+  made_more : (us : List Tuple) (u : Tuple) → map made (filter (meets conds) (us ++ u ∷ [])) ≡ map made (filter (meets conds) us) ++ map made (cond (meets conds u) (u ∷ []) [])
+  made_more [] u = refl
+  made_more (v ∷ us) u = by (meets conds v) (made_more us u)
+    where
+      by : (b : Bool) → map made (filter (meets conds) (us ++ u ∷ [])) ≡ map made (filter (meets conds) us) ++ map made (cond (meets conds u) (u ∷ []) [])
+          → map made (cond b (v ∷ filter (meets conds) (us ++ u ∷ [])) (filter (meets conds) (us ++ u ∷ [])))
+          ≡ map made (cond b (v ∷ filter (meets conds) us) (filter (meets conds) us)) ++ map made (cond (meets conds u) (u ∷ []) [])
+      by true e = ap (λ xs. made v ∷ xs) e
+      by false e = e
 
-  abbrev own_row : Stmt → Held
-  own_row x = record { tuple = x.tuple; sign = x.sign; explicit = true }
+  append_nil : (xs : List Stmt) → xs ++ [] ≡ xs
+  append_nil [] = refl
+  append_nil (x ∷ xs) = ap (λ ys. x ∷ ys) (append_nil xs)
 
-  chosen_is : (h : Held) → pick h ≡ true → (same_row (own_row (made h)) h && is_taken w s rel conds (made h)) ≡ true
-  chosen_is h e =
-      let a = and_parts h.explicit (same_sign h.sign s && (nat_eq h.tuple.rel rel && meets conds h.tuple)) e in
-      let b = and_parts (same_sign h.sign s) (nat_eq h.tuple.rel rel && meets conds h.tuple) a.1 in
-      and_from (same_row (own_row (made h)) h) (is_taken w s rel conds (made h))
-      (same_row_from (own_row (made h)) h refl (sym ((same_sign-Decides h.sign s).0 b.0)) (sym a.0))
-      (and_from (same_path w w) (same_sign s s && (nat_eq h.tuple.rel rel && meets conds h.tuple)) ((same_path-Decides w w).1 refl)
-      (and_from (same_sign s s) (nat_eq h.tuple.rel rel && meets conds h.tuple) ((same_sign-Decides s s).1 refl) b.1))
+  -- a tuple more that meets all tests, and one that doesn't
+  pub statements_more : (us : List Tuple) (u : Tuple) → meets conds u ≡ true → statements_of w s conds (us ++ u ∷ []) ≡ put_in statement_cmp (statements_of w s conds us) (made u)
+  statements_more us u m =
+      ap (put_all statement_cmp []) (made_more us u ∙ ap (λ b. map made (filter (meets conds) us) ++ map made (cond b (u ∷ []) [])) m)
+      ∙ put_all_more [] (map made (filter (meets conds) us)) (made u)
 
-  row_is : (h : Held) (x : Stmt) → (same_row (own_row x) h && is_taken w s rel conds x) ≡ true → (pick h ≡ true) × (made h ≡ x)
+  pub statements_still : (us : List Tuple) (u : Tuple) → meets conds u ≡ false → statements_of w s conds (us ++ u ∷ []) ≡ statements_of w s conds us
+  statements_still us u m =
+      ap (put_all statement_cmp [])
+      (made_more us u ∙ ap (λ b. map made (filter (meets conds) us) ++ map made (cond b (u ∷ []) [])) m ∙ append_nil (map made (filter (meets conds) us)))
+
+  pub statements_ascend : (us : List Tuple) → ascending statement_cmp (statements_of w s conds us) ≡ true
+  statements_ascend us = put_all_is_ascending statement_exact [] (map made (filter (meets conds) us)) refl
+
+-- ---- they are those that are taken
+
+module _ (stmts : List Stmt) (w : List ℕ) (s : Sign) (rel : ℕ) (conds : List Cond) (us : List Tuple)
+    (each : AllByRecursion (λ u. (explicit stmts w u s ≡ true) × (nat_eq u.rel rel ≡ true)) us)
+    (all : (u : Tuple) → explicit stmts w u s ≡ true → nat_eq u.rel rel ≡ true → meets conds u ≡ true → list_any (same_tuple u) us ≡ true) where
+  abbrev of_path : Tuple → Stmt
+  of_path u = statement_at w s u
+
+  abbrev IsSaid : Tuple → Type 0
+  IsSaid u = (explicit stmts w u s ≡ true) × (nat_eq u.rel rel ≡ true)
+
+  abbrev among : Stmt → List Stmt → Bool
+  among y xs = list_any (λ z. is_eq (statement_cmp z y)) xs
+
+  abbrev stands_taken : Stmt → Bool
+  stands_taken y = stands stmts y && is_taken w s rel conds y
+
+  taken_here : (u : Tuple) → nat_eq u.rel rel ≡ true → meets conds u ≡ true → is_taken w s rel conds (of_path u) ≡ true
+  taken_here u r m = and_from (same_path w w) (same_sign s s && (nat_eq u.rel rel && meets conds u)) ((same_path-Decides w w).1 refl)
+      (and_from (same_sign s s) (nat_eq u.rel rel && meets conds u) ((same_sign-Decides s s).1 refl) (and_from (nat_eq u.rel rel) (meets conds u) r m))
+
+  made_taken : (vs : List Tuple) → AllByRecursion IsSaid vs → (y : Stmt) → among y (map of_path (filter (meets conds) vs)) ≡ true → stands_taken y ≡ true
+  made_taken [] a y e = absurd (false≢true e)
+  made_taken (u ∷ vs) a y e = by (meets conds u) refl e (λ k. made_taken vs a.1 y k)
+    where
+      by : (b : Bool) → meets conds u ≡ b → among y (map of_path (cond b (u ∷ filter (meets conds) vs) (filter (meets conds) vs))) ≡ true
+          → (among y (map of_path (filter (meets conds) vs)) ≡ true → stands_taken y ≡ true) → stands_taken y ≡ true
+      by true m e rest = elim (or_cases (is_eq (statement_cmp (of_path u) y)) (among y (map of_path (filter (meets conds) vs))) e) [
+        | inl k ↦
+            let same : of_path u ≡ y = statement_exact.exact (of_path u) y (is_eq-Equal (statement_cmp (of_path u) y) k) in
+            subst (λ (z : Stmt). stands_taken z ≡ true) same
+            (and_from (stands stmts (of_path u)) (is_taken w s rel conds (of_path u)) (stands_is_explicit stmts (of_path u) ∙ a.0.0) (taken_here u a.0.1 m))
+        | inr k ↦ rest k
+      ]
+      by false m e rest = rest e
+
+  in_made : (vs : List Tuple) (u : Tuple) → meets conds u ≡ true → list_any (same_tuple u) vs ≡ true → among (of_path u) (map of_path (filter (meets conds) vs)) ≡ true
+  in_made [] u m e = absurd (false≢true e)
+  in_made (v ∷ vs) u m e = by (meets conds v) refl (or_cases (same_tuple u v) (list_any (same_tuple u) vs) e) (λ k. in_made vs u m k)
+    where
+      by : (b : Bool) → meets conds v ≡ b → (same_tuple u v ≡ true) ⊎ (list_any (same_tuple u) vs ≡ true) → (list_any (same_tuple u) vs ≡ true → among (of_path u) (map of_path (filter (meets conds) vs)) ≡ true)
+          → among (of_path u) (map of_path (cond b (v ∷ filter (meets conds) vs) (filter (meets conds) vs))) ≡ true
+      by true c (inl k) rest =
+          let same : v ≡ u = sym ((same_tuple-Decides u v).0 k) in
+          or_left (is_eq (statement_cmp (of_path v) (of_path u))) (among (of_path u) (map of_path (filter (meets conds) vs)))
+          (ap (λ x. is_eq (statement_cmp (of_path x) (of_path u))) same ∙ is_eq_itself statement_exact (of_path u))
+      by true c (inr k) rest = or_right (is_eq (statement_cmp (of_path v) (of_path u))) (among (of_path u) (map of_path (filter (meets conds) vs))) (rest k)
+      by false c (inl k) rest = absurd (false≢true (sym c ∙ ap (meets conds) (sym ((same_tuple-Decides u v).0 k)) ∙ m))
+      by false c (inr k) rest = rest k
+
+  taken_made : (y : Stmt) → stands_taken y ≡ true → among y (map of_path (filter (meets conds) us)) ≡ true
   unfolding stmt_of
-  row_is h x e =
-      let p = and_parts (same_row (own_row x) h) (is_taken w s rel conds x) e in
-      let r = same_row_tells (own_row x) h p.0 in
-      let a = and_parts (same_path x.path w) (same_sign x.sign s && (nat_eq x.tuple.rel rel && meets conds x.tuple)) p.1 in
-      let b = and_parts (same_sign x.sign s) (nat_eq x.tuple.rel rel && meets conds x.tuple) a.1 in
-      let path : w ≡ x.path = sym ((same_path-Decides x.path w).0 a.0) in
-      let sign : s ≡ x.sign = sym ((same_sign-Decides x.sign s).0 b.0) in (
-        and_from h.explicit (same_sign h.sign s && (nat_eq h.tuple.rel rel && meets conds h.tuple)) (sym r.2)
-            (and_from (same_sign h.sign s) (nat_eq h.tuple.rel rel && meets conds h.tuple) (ap (λ g. same_sign g s) (sym r.1) ∙ b.0)
-            (ap (λ (t : Tuple). nat_eq t.rel rel && meets conds t) (sym r.0) ∙ b.1)),
-        ap (λ p. stmt_of p s h.tuple) path ∙ ap (λ g. stmt_of x.path g h.tuple) sign ∙ ap (λ t. stmt_of x.path x.sign t) (sym r.0),
-      )
+  taken_made y e =
+      let p = and_parts (stands stmts y) (is_taken w s rel conds y) e in
+      let q = and_parts (same_path y.path w) (same_sign y.sign s && (nat_eq y.tuple.rel rel && meets conds y.tuple)) p.1 in
+      let r = and_parts (same_sign y.sign s) (nat_eq y.tuple.rel rel && meets conds y.tuple) q.1 in
+      let m = and_parts (nat_eq y.tuple.rel rel) (meets conds y.tuple) r.1 in
+      let path : w ≡ y.path = sym ((same_path-Decides y.path w).0 q.0) in
+      let sign : s ≡ y.sign = sym ((same_sign-Decides y.sign s).0 r.0) in
+      let said : explicit stmts w y.tuple s ≡ true =
+      ap (λ v. explicit stmts v y.tuple s) path ∙ ap (λ g. explicit stmts y.path y.tuple g) sign ∙ sym (stands_is_explicit stmts y) ∙ p.0 in
+      let is : of_path y.tuple ≡ y = ap (λ v. stmt_of v s y.tuple) path ∙ ap (λ g. stmt_of y.path g y.tuple) sign in
+      subst (λ (z : Stmt). among z (map of_path (filter (meets conds) us)) ≡ true) is (in_made us y.tuple m.1 (all y.tuple said m.0 m.1))
 
-  chosen_here : (h : Held) (x : Stmt) → cond (pick h) (is_eq (statement_cmp (made h) x)) false ≡ (same_row (own_row x) h && is_taken w s rel conds x)
-  chosen_here h x = one_answer (cond (pick h) (is_eq (statement_cmp (made h) x)) false) (same_row (own_row x) h && is_taken w s rel conds x)
-      (λ e. from (pick h) refl e)
-      (λ e.
-      let k = row_is h x e in
-      cond-true (pick h) (is_eq (statement_cmp (made h) x)) false k.0 ∙ ap (λ y. is_eq (statement_cmp y x)) k.1 ∙ is_eq_itself statement_exact x)
-    where
-      from : (b : Bool) → pick h ≡ b → cond (pick h) (is_eq (statement_cmp (made h) x)) false ≡ true → (same_row (own_row x) h && is_taken w s rel conds x) ≡ true
-      from true p e =
-          let same : made h ≡ x = statement_exact.exact (made h) x (is_eq-Equal (statement_cmp (made h) x) (sym (cond-true (pick h) (is_eq (statement_cmp (made h) x)) false p) ∙ e)) in
-          subst (λ (y : Stmt). (same_row (own_row y) h && is_taken w s rel conds y) ≡ true) same (chosen_is h p)
-      from false p e = absurd (false≢true (sym (cond-false (pick h) (is_eq (statement_cmp (made h) x)) false p) ∙ e))
-
-  chosen_stands : (rows : List Held) (x : Stmt) → stands (chosen w s rel conds rows) x ≡ (has_row rows (own_row x) && is_taken w s rel conds x)
-  chosen_stands [] x = refl
-  chosen_stands (h ∷ rows) x =
-      let t = is_taken w s rel conds x in
-      let here = same_row (own_row x) h in
-      step (pick h) refl ∙ ap (λ b. b || stands (chosen w s rel conds rows) x) (chosen_here h x) ∙ ap (λ b. (here && t) || b) (chosen_stands rows x) ∙ spread here (has_row rows (own_row x)) t
-    where
-      step : (b : Bool) → pick h ≡ b → stands (chosen w s rel conds (h ∷ rows)) x ≡ (cond (pick h) (is_eq (statement_cmp (made h) x)) false || stands (chosen w s rel conds rows) x)
-      step true e = ap (λ zs. stands (map (statement_at w s) zs) x) (filter_kept_one (is_chosen s rel conds) h rows e)
-          ∙ sym (ap (λ c. cond c (is_eq (statement_cmp (made h) x)) false || stands (chosen w s rel conds rows) x) e)
-      step false e = ap (λ zs. stands (map (statement_at w s) zs) x) (filter_dropped_one (is_chosen s rel conds) h rows e)
-          ∙ sym (ap (λ c. cond c (is_eq (statement_cmp (made h) x)) false || stands (chosen w s rel conds rows) x) e)
-
-  -- ---- their order
-
-  above_made : (g h : Held) → is_lt (row_tuple_cmp g h) ≡ true → is_lt (statement_cmp (made g) (made h)) ≡ true
-  above_made g h e =
-      ap (λ o. is_lt (ordering_then o (ordering_then (tuple_cmp g.tuple h.tuple) (sign_cmp s s)))) (tied_itself path_total w)
-      ∙ by (tuple_cmp g.tuple h.tuple) e
-    where
-      by : (o : Ordering) → is_lt o ≡ true → is_lt (ordering_then o (sign_cmp s s)) ≡ true
-      by Less k = refl
-      by Equal k = absurd (false≢true k)
-      by Greater k = absurd (false≢true k)
-
-  all_above : (g : Held) (rows : List Held) → list_all (λ h. is_lt (row_tuple_cmp g h)) rows ≡ true → list_all (λ y. is_lt (statement_cmp (made g) y)) (chosen w s rel conds rows) ≡ true
-  all_above g [] e = refl
-  all_above g (h ∷ rows) e =
-      let k = and_parts (is_lt (row_tuple_cmp g h)) (list_all (λ z. is_lt (row_tuple_cmp g z)) rows) e in
-      step (above_made g h k.0) (all_above g rows k.1) (pick h) refl
-    where
-      step : is_lt (statement_cmp (made g) (made h)) ≡ true → list_all (λ y. is_lt (statement_cmp (made g) y)) (chosen w s rel conds rows) ≡ true
-          → (b : Bool) → pick h ≡ b → list_all (λ y. is_lt (statement_cmp (made g) y)) (chosen w s rel conds (h ∷ rows)) ≡ true
-      step here rest true p = ap (λ zs. list_all (λ y. is_lt (statement_cmp (made g) y)) (map (statement_at w s) zs)) (filter_kept_one (is_chosen s rel conds) h rows p)
-          ∙ and_from (is_lt (statement_cmp (made g) (made h))) (list_all (λ y. is_lt (statement_cmp (made g) y)) (chosen w s rel conds rows)) here rest
-      step here rest false p = ap (λ zs. list_all (λ y. is_lt (statement_cmp (made g) y)) (map (statement_at w s) zs)) (filter_dropped_one (is_chosen s rel conds) h rows p) ∙ rest
-
-  chosen_ascend : (rows : List Held) → ascending row_tuple_cmp rows ≡ true → ascending statement_cmp (chosen w s rel conds rows) ≡ true
-  chosen_ascend [] e = refl
-  chosen_ascend (h ∷ rows) e =
-      let k = and_parts (list_all (λ z. is_lt (row_tuple_cmp h z)) rows) (ascending row_tuple_cmp rows) e in
-      step (all_above h rows k.0) (chosen_ascend rows k.1) (pick h) refl
-    where
-      step : list_all (λ y. is_lt (statement_cmp (made h) y)) (chosen w s rel conds rows) ≡ true → ascending statement_cmp (chosen w s rel conds rows) ≡ true
-          → (b : Bool) → pick h ≡ b → ascending statement_cmp (chosen w s rel conds (h ∷ rows)) ≡ true
-      step here rest true p = ap (λ zs. ascending statement_cmp (map (statement_at w s) zs)) (filter_kept_one (is_chosen s rel conds) h rows p)
-          ∙ and_from (list_all (λ y. is_lt (statement_cmp (made h) y)) (chosen w s rel conds rows)) (ascending statement_cmp (chosen w s rel conds rows)) here rest
-      step here rest false p = ap (λ zs. ascending statement_cmp (map (statement_at w s) zs)) (filter_dropped_one (is_chosen s rel conds) h rows p) ∙ rest
-
-  -- ---- they are those that are taken
-
-  said_is_stated : (stmts : List Stmt) (v : List ℕ) (t : Tuple) (r : Sign) → explicit stmts v t r ≡ true → stated (λ _. 1) stmts v t r ≡ true
-  said_is_stated stmts [] t r e = e
-  said_is_stated stmts (i ∷ v) t r e = or_left (explicit stmts (i ∷ v) t r) _ e
-
-  taken_stand : (stmts : List Stmt) (x : Stmt) → (has_row (world_of (λ _. 1) stmts w) (own_row x) && is_taken w s rel conds x) ≡ (stands stmts x && is_taken w s rel conds x)
-  taken_stand stmts x = by (is_taken w s rel conds x) refl
-    where
-      here : is_taken w s rel conds x ≡ true → x.path ≡ w
-      here e = (same_path-Decides x.path w).0 (and_parts (same_path x.path w) (same_sign x.sign s && (nat_eq x.tuple.rel rel && meets conds x.tuple)) e).0
-
-      said : is_taken w s rel conds x ≡ true → stands stmts x ≡ explicit stmts w x.tuple x.sign
-      said e = stands_is_explicit stmts x ∙ ap (λ v. explicit stmts v x.tuple x.sign) (here e)
-
-      same : is_taken w s rel conds x ≡ true → has_row (world_of (λ _. 1) stmts w) (own_row x) ≡ stands stmts x
-      same e = one_answer (has_row (world_of (λ _. 1) stmts w) (own_row x)) (stands stmts x)
-          (λ k. said e ∙ sym ((rows_are_the_world (λ _. 1) stmts w (own_row x)).0 k).1)
-          (λ k.
-          let t : explicit stmts w x.tuple x.sign ≡ true = sym (said e) ∙ k in
-          (rows_are_the_world (λ _. 1) stmts w (own_row x)).1 (said_is_stated stmts w x.tuple x.sign t, sym t))
-
-      none : (b : Bool) → (b && false) ≡ false
-      none true = refl
-      none false = refl
-
-      by : (b : Bool) → is_taken w s rel conds x ≡ b → (has_row (world_of (λ _. 1) stmts w) (own_row x) && is_taken w s rel conds x) ≡ (stands stmts x && is_taken w s rel conds x)
-      by true e = ap (λ b. b && is_taken w s rel conds x) (same e)
-      by false e = ap (λ b. has_row (world_of (λ _. 1) stmts w) (own_row x) && b) e ∙ none (has_row (world_of (λ _. 1) stmts w) (own_row x))
-          ∙ sym (none (stands stmts x)) ∙ sym (ap (λ b. stands stmts x && b) e)
-
-  chosen_are_taken : (stmts : List Stmt) → IsConsistent (λ _. 1) stmts → ascending statement_cmp stmts ≡ true → chosen w s rel conds (world_of (λ _. 1) stmts w) ≡ taken_by w s rel conds stmts
-  chosen_are_taken stmts c up =
-      let rows = world_of (λ _. 1) stmts w in
-      members_make_set statement_exact (chosen w s rel conds rows) (taken_by w s rel conds stmts)
-      (chosen_ascend rows (tuples_stand_once (λ _. 1) stmts c w))
+  pub statements_are_taken : ascending statement_cmp stmts ≡ true → statements_of w s conds us ≡ taken_by w s rel conds stmts
+  statements_are_taken up =
+      members_make_set statement_exact (statements_of w s conds us) (taken_by w s rel conds stmts)
+      (put_all_is_ascending statement_exact [] (map of_path (filter (meets conds) us)) refl)
       (filter_keeps_order statement_exact (is_taken w s rel conds) stmts up)
-      (λ x. chosen_stands rows x ∙ taken_stand stmts x ∙ sym (filtered_stands (is_taken w s rel conds) stmts x))
+      (λ y. list_any-put_all statement_exact (λ z. is_eq (statement_cmp z y)) [] (map of_path (filter (meets conds) us))
+      ∙ one_answer (among y (map of_path (filter (meets conds) us))) (stands_taken y) (made_taken us each y) (taken_made y)
+      ∙ sym (filtered_stands (is_taken w s rel conds) stmts y))
 
-pub world_is_taken : (t : Tables) (w : List ℕ) (s : Sign) (rel : ℕ) (conds : List Cond) (rows : List Held) → IsWorldOf t w rows → AreTaken t w s rel conds (chosen w s rel conds rows)
-world_is_taken t w s rel conds rows is b h =
-    ap (chosen w s rel conds) (is b h) ∙ chosen_are_taken w s rel conds b.stmts (consistent b h.base.valid) h.base.valid.stmts.sorted
+-- ---- what is read
+
+reads_all : (d r u n m a b c : ℕ) → b ≤ c → RisesWithin (d + 1) a b → c ≤ b + (n + m + 1) → n ≤ r → m ≤ u → RisesWithin (d + r + u + 2) a c
+reads_all d r u n m a b c le first more few fewer below = let e = first (omega arith) in omega arith
+
+module _ (t : Tables) (w : List ℕ) (wid : ℕ) (own : Bool) (state : FindsState t w (wid, own)) (s : Sign) (rel : ℕ) (conds : List Cond) (b : Contents) (has : HasUsers t w b) where
+  abbrev ns : Names
+  ns = has.base.stored.names
+
+  abbrev ts : Tuples
+  ts = has.base.stored.tuples
+
+  stored : StoredAs ns ts t b
+  stored = has.base.stored.stored
+
+  is : IsStateOf (record { users = is_user b.catalog.users; names = ns }) w (wid, own)
+  is = state (record { users = is_user b.catalog.users; names = ns }) stored.states has.own
+
+  -- a path that is no state has no statements
+  pub none_at_paths : own ≡ false → [] ≡ taken_by w s rel conds b.stmts
+  none_at_paths other =
+      let out : is_state b.stmts w ≡ false = sym (stored.worlds w) ∙ sym is.own ∙ other in
+      statements_are_taken b.stmts w s rel conds [] tt (λ u x r m. absurd (false≢true (sym (nothing_explicit b.stmts w u s out) ∙ x))) has.base.valid.stmts.sorted
+
+  -- nor has any with a value that no tuple has
+  pub none_with_key : may_be_there (key_asked conds) ≡ false → [] ≡ taken_by w s rel conds b.stmts
+  none_with_key out = statements_are_taken b.stmts w s rel conds [] tt none has.base.valid.stmts.sorted
+    where
+      none : (u : Tuple) → explicit b.stmts w u s ≡ true → nat_eq u.rel rel ≡ true → meets conds u ≡ true → list_any (same_tuple u) [] ≡ true
+      none u x r m =
+          let number = some_is (ts.number u) (stored.tuples.stated u ∙ explicit_tuple b.stmts w u s x) in
+          let named = stored.tuples.numbered u number.0 number.1 in
+          let row : IsTupleRow u = subst (λ o. MatchOption o (Unit {0}) IsTupleRow) named (stored.tuples.tuples.written number.0 (stored.tuples.sized number.0 u named)) in
+          absurd (none_meets conds u row out m)
+
+  module _ (yes : own ≡ true) (nr : IsNum rel) (old new : Seen) (same : old.kept ≡ t) (plain : MatchOption (key_asked conds) (Unit {0}) IsPlainValue) (us : List Tuple)
+      (read : AreTuplesRead old new (beginning wid rel (key_asked conds)) s us) where
+    number : number_of ns w ≡ Some wid
+    number = ap (number_of ns) (sym (deepest_of_member (is_named ns) w (sym is.own ∙ yes))) ∙ is.number
+
+    path : path_of ns wid ≡ Some w
+    path = stored.states.names.numbered w wid number
+
+    small : IsNum wid
+    small = stored.states.names.sized w wid number
+
+    span : IsSpan wid (is_asked rel (key_asked conds)) (beginning wid rel (key_asked conds))
+    span = asked_span wid rel (key_asked conds) small nr plain
+
+    under : AreUnder val_codec t (beginning wid rel (key_asked conds)) read.rows
+    under = subst (λ u. AreUnder val_codec u (beginning wid rel (key_asked conds)) read.rows) same read.under
+
+    told : AreTuplesOf t (filter (is_said s) read.rows) us
+    told = subst (λ u. AreTuplesOf u (filter (is_said s) read.rows) us) same read.told
+
+    of_rel : (vs : List Tuple) → AllByRecursion (λ u. (explicit b.stmts w u s ≡ true) × (is_asked rel (key_asked conds) u ≡ true)) vs
+        → AllByRecursion (λ u. (explicit b.stmts w u s ≡ true) × (nat_eq u.rel rel ≡ true)) vs
+    of_rel [] a = tt
+    of_rel (u ∷ vs) a = ((a.0.0, asked_rel rel (key_asked conds) u a.0.1), of_rel vs a.1)
+
+    pub read_are_taken : statements_of w s conds us ≡ taken_by w s rel conds b.stmts
+    read_are_taken =
+        statements_are_taken b.stmts w s rel conds us
+        (of_rel us (tuples_are_stated b.stmts ns ts t (consistent b has.base.valid) stored.tuples stored.rows wid small w path s (is_asked rel (key_asked conds))
+        (beginning wid rel (key_asked conds)) span read.rows us under told))
+        (λ u x r m. stated_are_read b.stmts ns ts t (consistent b has.base.valid) stored.tuples stored.rows wid small w path s (is_asked rel (key_asked conds))
+        (beginning wid rel (key_asked conds)) span read.rows us under told u x (meets_asked conds rel u r m))
+        has.base.valid.stmts.sorted
+
+    few_rows : length read.rows ≤ length (rows_asked rel (key_asked conds) (world_of (key_lengths b.catalog.rels) b.stmts w))
+    few_rows = rows_within b.stmts ns ts t (consistent b has.base.valid) stored.tuples stored.rows wid small w path s (is_asked rel (key_asked conds))
+        (beginning wid rel (key_asked conds)) span read.rows under
+
+    few_tuples : length us ≤ length (rows_said s rel (key_asked conds) (world_of (key_lengths b.catalog.rels) b.stmts w))
+    few_tuples =
+        let within = tuples_within b.stmts ns ts t (consistent b has.base.valid) stored.tuples stored.rows wid small w path s (is_asked rel (key_asked conds))
+        (beginning wid rel (key_asked conds)) span read.rows us under told in
+        subst (λ n. n ≤ length (rows_said s rel (key_asked conds) (world_of (key_lengths b.catalog.rels) b.stmts w))) (sym (as_many t (filter (is_said s) read.rows) us told)) within
+
+    pub reads_are_few : (a : ℕ) → old.reads ≤ new.reads → RisesWithin (length w + 1) a old.reads
+        → RisesWithin (length w + length (rows_asked rel (key_asked conds) (world_of (key_lengths b.catalog.rels) b.stmts w))
+        + length (rows_said s rel (key_asked conds) (world_of (key_lengths b.catalog.rels) b.stmts w)) + 2) a new.reads
+    reads_are_few a le first =
+        reads_all (length w) (length (rows_asked rel (key_asked conds) (world_of (key_lengths b.catalog.rels) b.stmts w)))
+        (length (rows_said s rel (key_asked conds) (world_of (key_lengths b.catalog.rels) b.stmts w))) (length read.rows) (length us) a old.reads new.reads le first read.reads few_rows few_tuples

@@ -1,5 +1,5 @@
 -- A user more in the catalog of a stored base.
-use Rattle.std.proofs.Common.{◌≡◌, ◌∙◌, ℕ, ◌+◌, Bool, true, false, not, ◌&&◌, ◌||◌, nat_eq, nat_lt, nat_le, cond, List, [], ◌∷◌, ◌++◌, length, refl, sym, ap, subst, arith, Option, Some, None}
+use Rattle.std.proofs.Common.{◌≡◌, ◌∙◌, ℕ, ◌+◌, ◌*◌, ◌≤◌, Bool, true, false, not, ◌&&◌, ◌||◌, nat_eq, nat_lt, nat_le, cond, List, [], ◌∷◌, ◌++◌, length, refl, sym, ap, subst, arith, Option, Some, None}
 use Rattle.std.specs.List.{list_all}
 use Rattle.std.specs.Option.{option_and_then}
 use Rattle.std.specs.FinMap as tables
@@ -7,45 +7,39 @@ use Rattle.std.proofs.lemmas.Bool.{and_parts}
 use Rattle.std.proofs.lemmas.Bool.Decides.{nat_tests}
 use Rattle.std.proofs.lemmas.List.{length_push}
 use Rattle.std.proofs.lemmas.List.Folds.{list_all-append}
-use Rattle.bdb_base.specs.Bases.{is_plain, is_user}
+use Rattle.bdb_base.specs.Bases.{Contents, is_plain, is_user, world_count}
+use Rattle.bdb_base.specs.Causes.{Rises, RoseBy}
 use Rattle.bdb_base.specs.Segments.{is_suffix}
 use Rattle.bdb_base.specs.States.{edge_target}
+use Rattle.bdb_keep.specs.Seen.{Seen}
 use Rattle.bdb_keep.specs.Tables.{Tables}
 use Rattle.bdb_key.specs.Grammar.{IsNum, IsPlain}
 use Rattle.bdb_names.specs.Drops.{with_one_user}
-use Rattle.bdb_names.specs.Turned.{led, edge_set}
 use Rattle.bdb_names.proofs.TurnedLemmas.{tables_same}
 use Rattle.bdb_tables.specs.Codec.{place}
 use Rattle.bdb_tables.specs.Grammar.{InGrammar}
-use Rattle.bdb_tables.specs.InUse.{user_codec, edge_codec, led_codec}
+use Rattle.bdb_tables.specs.InUse.{user_codec}
 use Rattle.bdb_tables.specs.Names.{Names, path_of, number_of, is_named, depth_of, link_of, edge_of, edge_from}
 use Rattle.bdb_tables.specs.States.{HoldsStates}
 use Rattle.bdb_tables.specs.Stored.{SameBut}
 use Rattle.bdb_tables.specs.Writes.{with_change}
-use Rattle.bdb_tables.proofs.SameLemmas.{change_same, same_then, states_still}
+use Rattle.bdb_tables.proofs.SameLemmas.{change_same, states_still}
 use Rattle.bdb_update.specs.StoredLaws.{is_edges}
+use Rattle.bdb_update.proofs.CountLemmas.{numbers_are_counted}
 use Rattle.bdb_update.proofs.GrammarLemmas.{stored_is_in_grammar}
 use Rattle.bdb_update.proofs.StoreLemmas.{edges_store_user}
-use Rattle.bdb_worlds.specs.UserEdges.{AddsUser}
-use Rattle.bdb_catalog.specs.Creating.{SomeMayAddUser, AddsUserNamed}
+use Rattle.bdb_worlds.specs.Growth.{SameOutside}
+use Rattle.bdb_worlds.specs.UserEdges.{AddsUser, WritesEdges}
+use Rattle.bdb_catalog.specs.Creating.{MayAddUser, SomeMayAddUser, AddsUserNamed, WritesUser}
 
 -- ---- what changes
 
-pub edges_itself : (t : Tables) → SameBut is_edges t t
-edges_itself t n k o = refl
+no_edges : (n : ℕ) → (nat_eq n 9 || nat_eq n 10) ≡ false → (nat_le 9 n && nat_le n 10) ≡ false
+no_edges n e = grind (arith, nat_tests)
 
-led_same : (t : Tables) (o : Option ℕ) (k : ℕ × ℕ) → SameBut is_edges t (led t o k)
-led_same t None k = edges_itself t
-led_same t (Some n) k = change_same led_codec is_edges t ((n, k.0, k.1), Some tt) refl
-
--- a new edge is in the tables of edges alone
-pub edge_same : (t : Tables) (n : ℕ) (k : ℕ × ℕ) → SameBut is_edges t (edge_set t None (Some n) k)
-edge_same t n k =
-    let t1 = with_change edge_codec t (k, Some n) in
-    same_then is_edges t t1 (edge_set t None (Some n) k) (change_same edge_codec is_edges t (k, Some n) refl) (led_same t1 (Some n) k)
-
-pub edges_then : (t u v : Tables) → SameBut is_edges t u → SameBut is_edges u v → SameBut is_edges t v
-edges_then t u v a b = same_then is_edges t u v a b
+-- the range of two tables is those of edges
+edges_alone : (t u : Tables) → SameOutside 9 10 t u → SameBut is_edges t u
+edges_alone t u same n k other = same n k (no_edges n other)
 
 -- ---- states over users that are the same
 
@@ -84,18 +78,24 @@ name_may_be t uid name h =
 pub user_grammar : (t : Tables) (uid : ℕ) (name : List ℕ) → SomeMayAddUser t uid name → InGrammar t
 user_grammar t uid name h = stored_is_in_grammar t h.base h.may.base.stored
 
-pub user_added : (t m u : Tables) (uid : ℕ) (name : List ℕ) → IsNum uid → IsPlain name → m ≡ tables.insert t (place user_codec uid) (user_codec.row_bytes name)
-    → AddsUser m u uid → SameBut is_edges m u → AddsUserNamed t u uid name
-user_added t m u uid name num plain put adds same b h =
-    let s = h.base.stored in
-    let ns = s.names in
-    let users = b.catalog.users in
+-- the row of the user leaves the states as they were
+pub states_before : (t m : Tables) (uid : ℕ) (name : List ℕ) → m ≡ tables.insert t (place user_codec uid) (user_codec.row_bytes name)
+    → (b : Contents) → (h : MayAddUser t uid name b) → HoldsStates (is_user b.catalog.users) h.base.stored.names m
+states_before t m uid name put b h =
     let x : ℕ × Option (List ℕ) = (uid, Some name) in
     let v = with_change user_codec t x in
     let two : ℕ → Bool = λ n. nat_eq n 2 in
     let first : SameBut two t v = change_same user_codec two t x refl in
-    let before : HoldsStates (is_user users) ns m =
-    subst (HoldsStates (is_user users) ns) (sym put) (states_still two t v first (is_user users) ns refl refl refl refl refl s.stored.states) in
+    subst (HoldsStates (is_user b.catalog.users) h.base.stored.names) (sym put)
+    (states_still two t v first (is_user b.catalog.users) h.base.stored.names refl refl refl refl refl h.base.stored.stored.states)
+
+pub user_added : (t m u : Tables) (uid : ℕ) (name : List ℕ) → IsNum uid → IsPlain name → m ≡ tables.insert t (place user_codec uid) (user_codec.row_bytes name)
+    → AddsUser m u uid → SameOutside 9 10 m u → AddsUserNamed t u uid name
+user_added t m u uid name num plain put adds same b h =
+    let s = h.base.stored in
+    let ns = s.names in
+    let users = b.catalog.users in
+    let before = states_before t m uid name put b h in
     let after = adds (record { users = is_user users; names = ns }) before (not_yet (length users) uid h.next) in
     let more : (i : ℕ) → with_one_user (is_user users) uid i ≡ is_user (users ++ name ∷ []) i = λ i.
     one_user_more (length users) uid i h.next ∙ ap (λ n. nat_lt 0 i && nat_le i n) (sym (length_push users name)) in
@@ -105,7 +105,21 @@ user_added t m u uid name num plain put adds same b h =
         tuples = s.tuples;
         stored = edges_store_user ns s.tuples t u b uid name s.stored h.next num plain
             (states_as (with_one_user (is_user users) uid) (is_user (users ++ name ∷ [])) ns u more after)
-            (subst (λ z. SameBut is_edges z u) put same);
+            (subst (λ z. SameBut is_edges z u) put (edges_alone m u same));
       };
       valid = h.valid;
     }
+
+-- ---- how many rows come
+
+user_and_edges : (n k a b c : ℕ) → b ≤ c → n ≡ k → RoseBy 1 a b → Rises (2 * n) b c → Rises (2 * k + 1) a c
+user_and_edges n k a b c le same one edges below = let e = edges below in omega arith
+
+pub user_written : (old mid new : Seen) (uid : ℕ) (name : List ℕ) → mid.kept ≡ tables.insert old.kept (place user_codec uid) (user_codec.row_bytes name)
+    → mid.writes ≤ new.writes → RoseBy 1 old.writes mid.writes → WritesEdges mid new uid → WritesUser old new uid name
+user_written old mid new uid name put le one edges b h =
+    let s = h.base.stored in
+    let before = states_before old.kept mid.kept uid name put b h in
+    user_and_edges (length s.names.used) (world_count b.stmts) old.writes mid.writes new.writes le
+    (numbers_are_counted s.names s.stored.states.names b.stmts s.stored.worlds) one
+    (edges (record { users = is_user b.catalog.users; names = s.names }) before (not_yet (length b.catalog.users) uid h.next))

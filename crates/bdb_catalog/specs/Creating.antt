@@ -1,7 +1,9 @@
 -- What is added to the catalog of the base that tables store.
-use Rattle.std.specs.Prelude.{◌≡◌, ℕ, ◌+◌, List, length}
-use Rattle.bdb_base.specs.Bases.{Contents, IsValid, with_user, with_relation}
+use Rattle.std.specs.Prelude.{◌≡◌, ℕ, ◌+◌, ◌*◌, List, length}
+use Rattle.bdb_base.specs.Bases.{Contents, IsValid, with_user, with_relation, world_count}
+use Rattle.bdb_base.specs.Causes.{Rises}
 use Rattle.bdb_base.specs.declared.kinds.RelDef.{RelDef}
+use Rattle.bdb_keep.specs.Seen.{Seen}
 use Rattle.bdb_keep.specs.Tables.{Tables}
 use Rattle.bdb_catalog.specs.Bases.{StoresValid}
 
@@ -42,3 +44,7 @@ pub record SomeMayAddUser (t : Tables) (uid : ℕ) (name : List ℕ) : Type 0 wh
 -- whichever base it is, the tables store it with the user
 abbrev pub AddsUserNamed : Tables → Tables → ℕ → List ℕ → Type 0
 AddsUserNamed t u uid name = (b : Contents) → MayAddUser t uid name b → StoresValid u (with_one_user b name)
+
+-- whichever base it is, two writes were made for each of its worlds, and one for the user
+abbrev pub WritesUser : Seen → Seen → ℕ → List ℕ → Type 0
+WritesUser old new uid name = (b : Contents) → MayAddUser old.kept uid name b → Rises (2 * world_count b.stmts + 1) old.writes new.writes

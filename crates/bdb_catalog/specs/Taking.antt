@@ -1,28 +1,122 @@
--- The statements that a delete or an update takes, as they are read from the world of their path.
-use Rattle.std.specs.Prelude.{◌≡◌, ℕ, Bool, ◌&&◌, nat_eq, List, map, filter}
-use Rattle.bdb_base.specs.Bases.{Contents}
+-- The statements that a delete or an update takes, as they are read from the rows of the world of their path.
+use Rattle.std.specs.Prelude.{◌≡◌, ℕ, ◌+◌, ◌≤◌, Bool, true, ◌&&◌, nat_eq, List, [], ◌∷◌, ◌++◌, length, map, filter, Option, None, Some, cond}
+use Rattle.bdb_base.specs.Bases.{Contents, is_plain, key_lengths}
 use Rattle.bdb_base.specs.Changes.{taken_by}
 use Rattle.bdb_base.specs.Conditions.{meets}
-use Rattle.bdb_base.specs.Same.{same_sign}
+use Rattle.bdb_base.specs.Order.{statement_cmp}
+use Rattle.bdb_base.specs.Safety.{is_equality}
+use Rattle.bdb_base.specs.Same.{same_sign, same_value}
+use Rattle.bdb_base.specs.SortedSet.{put_all}
+use Rattle.bdb_base.specs.WorldRows.{world_of}
 use Rattle.bdb_base.specs.declared.kinds.Cond.{Cond}
 use Rattle.bdb_base.specs.declared.kinds.Held.{Held}
+use Rattle.bdb_base.specs.declared.kinds.Operand.{Operand}
+use Rattle.bdb_base.specs.declared.kinds.Operand.TheVariants.{Col, Lit}
 use Rattle.bdb_base.specs.declared.kinds.Sign.{Sign}
 use Rattle.bdb_base.specs.declared.kinds.Stmt.{Stmt}
+use Rattle.bdb_base.specs.declared.kinds.Value.{Value}
+use Rattle.bdb_base.specs.declared.kinds.Value.TheVariants.{Int, Text}
+use Rattle.bdb_base.specs.declared.tuple.Tuple.{Tuple}
+use Rattle.bdb_keep.specs.Seen.{Seen}
 use Rattle.bdb_keep.specs.Tables.{Tables}
+use Rattle.bdb_key.specs.Bytes.{num_bytes, value_bytes}
+use Rattle.bdb_tables.specs.Codec.{HasRow}
+use Rattle.bdb_tables.specs.InUse.{ValKey, tuple_codec, val_codec}
+use Rattle.bdb_tables.specs.Marks.{Mark}
+use Rattle.bdb_tables.specs.Spans.{AreUnder}
+use Rattle.bdb_val.specs.Settling.{key_value}
+use Rattle.bdb_worlds.specs.Bounds.{RisesWithin}
 use Rattle.bdb_catalog.specs.Bases.{HasUsers}
-
--- a row is explicit, with this sign and relation, and its tuple meets all tests
-abbrev pub is_chosen : Sign → ℕ → List Cond → Held → Bool
-is_chosen s rel conds h = h.explicit && (same_sign h.sign s && (nat_eq h.tuple.rel rel && meets conds h.tuple))
-
--- the statement of a row at a path
-abbrev pub statement_at : List ℕ → Sign → Held → Stmt
-statement_at w s h = record { path = w; sign = s; tuple = h.tuple }
-
--- the statements of a path's rows that are chosen
-abbrev pub chosen : List ℕ → Sign → ℕ → List Cond → List Held → List Stmt
-chosen w s rel conds rows = map (statement_at w s) (filter (is_chosen s rel conds) rows)
 
 -- whichever valid base the tables store with the users of a path, these are the statements of it that are taken
 abbrev pub AreTaken : Tables → List ℕ → Sign → ℕ → List Cond → List Stmt → Type 0
 AreTaken t w s rel conds xs = (b : Contents) → HasUsers t w b → xs ≡ taken_by w s rel conds b.stmts
+
+-- ---- the value of the first column
+
+-- the value of a literal
+abbrev pub literal_of : Operand → Option Value
+literal_of (Col r) = None
+literal_of (Lit v) = Some v
+
+-- a test asks for equality of the first column
+abbrev pub asks_for_first : Cond → Bool
+asks_for_first c = is_equality c.cmp && (nat_eq c.left.item 0 && nat_eq c.left.col 0)
+
+-- the value that a test asks for of the first column, where it is a literal
+abbrev pub key_of_test : Cond → Option Value
+key_of_test c = cond (asks_for_first c) (literal_of c.right) None
+
+abbrev pub first_there : Option Value → Option Value → Option Value
+first_there None o = o
+first_there (Some v) o = Some v
+
+-- the value that tests ask for of the first column: that of the first test that asks for one
+abbrev pub key_asked : List Cond → Option Value
+key_asked [] = None
+key_asked (c ∷ cs) = first_there (key_of_test c) (key_asked cs)
+
+-- a value is one that tuples may have: a text has to be plain
+abbrev pub is_written : Value → Bool
+is_written (Int n) = true
+is_written (Text t) = is_plain t
+
+-- what is asked for is a value that tuples may have
+abbrev pub may_be_there : Option Value → Bool
+may_be_there None = true
+may_be_there (Some v) = is_written v
+
+-- a tuple is of a relation, and its first value is the one that is asked for
+abbrev pub is_asked : ℕ → Option Value → Tuple → Bool
+is_asked rel None u = nat_eq u.rel rel
+is_asked rel (Some v) u = nat_eq u.rel rel && same_value (key_value u.vals) v
+
+-- how the keys of a world's rows begin whose tuples are asked for
+abbrev pub beginning : ℕ → ℕ → Option Value → List ℕ
+beginning wid rel None = num_bytes wid ++ num_bytes rel
+beginning wid rel (Some v) = num_bytes wid ++ num_bytes rel ++ value_bytes v
+
+-- ---- rows and their tuples
+
+-- a row is explicit, with this sign
+abbrev pub is_said : Sign → ValKey × Mark → Bool
+is_said s e = e.1.1 && same_sign e.1.0 s
+
+-- tuples are those of rows, one by one
+abbrev pub AreTuplesOf : Tables → List (ValKey × Mark) → List Tuple → Type 0
+AreTuplesOf t [] [] = Unit {0}
+AreTuplesOf t [] (u ∷ us) = ⊥
+AreTuplesOf t (e ∷ es) [] = ⊥
+AreTuplesOf t (e ∷ es) (u ∷ us) = HasRow tuple_codec t e.0.3 u × AreTuplesOf t es us
+
+-- Of the rows whose keys begin so those that are explicit with a sign have these tuples, of which no other was read.
+pub record AreTuplesRead (old new : Seen) (begin : List ℕ) (s : Sign) (us : List Tuple) : Type 0 where
+  pub rows : List (ValKey × Mark)
+  pub under : AreUnder val_codec old.kept begin rows
+  pub told : AreTuplesOf old.kept (filter (is_said s) rows) us
+  pub reads : new.reads ≤ old.reads + (length rows + length us + 1)
+
+-- a tuple as a statement at a path
+abbrev pub statement_at : List ℕ → Sign → Tuple → Stmt
+statement_at w s u = record { path = w; sign = s; tuple = u }
+
+-- the statements of those tuples that meet all tests, in order
+abbrev pub statements_of : List ℕ → Sign → List Cond → List Tuple → List Stmt
+statements_of w s conds us = put_all statement_cmp [] (map (statement_at w s) (filter (meets conds) us))
+
+-- ---- how much is read
+
+-- the rows of a world whose tuples are asked for
+abbrev pub rows_asked : ℕ → Option Value → List Held → List Held
+rows_asked rel key rows = filter (λ h. is_asked rel key h.tuple) rows
+
+-- those of them that are explicit, with this sign
+abbrev pub rows_said : Sign → ℕ → Option Value → List Held → List Held
+rows_said s rel key rows = filter (λ h. is_asked rel key h.tuple && (h.explicit && same_sign h.sign s)) rows
+
+-- Whichever valid base the tables store with the users of a path: one read for each of these users, one for each row of the
+-- world of the path whose tuple is asked for, one more for each of those that are explicit with the sign, and two, at most.
+abbrev pub ReadsTaken : Seen → Seen → List ℕ → Sign → ℕ → Option Value → Type 0
+ReadsTaken old new w s rel key = (b : Contents) → HasUsers old.kept w b
+    → RisesWithin (length w + length (rows_asked rel key (world_of (key_lengths b.catalog.rels) b.stmts w))
+    + length (rows_said s rel key (world_of (key_lengths b.catalog.rels) b.stmts w)) + 2) old.reads new.reads

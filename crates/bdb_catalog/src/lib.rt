@@ -2,6 +2,7 @@
 //! users and relations, the world of a path, and the statements that a change is about.
 #![tactic(auto)]
 
+mod asking;
 mod creating;
 mod opening;
 mod showing;

@@ -47,8 +47,13 @@ pub fn world_of_path<K: Keeper>(
     }
 }
 
-// The number of the deepest state that a path ends in, and whether that is the path itself.
-fn state_of<K: Keeper>(alloc: Global, keeper: &mut K, path: &[u32]) -> Result<(u32, bool), TabError>
+/// The number of the deepest state that a path ends in, and whether that is the path itself. A read for each user of the
+/// path, and one more.
+pub fn state_of<K: Keeper>(
+    alloc: Global,
+    keeper: &mut K,
+    path: &[u32],
+) -> Result<(u32, bool), TabError>
     requires grammar { InGrammar (K.seen keeper.old).kept }
     requires states { HoldSome (K.seen keeper.old).kept path.now }
     requires apart { alternates path.now ≡ true }

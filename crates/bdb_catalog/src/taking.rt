@@ -1,17 +1,31 @@
 // The statements that a delete or an update takes.
-ghost use Rattle.std.specs.Prelude.{◌≡◌, filter, map, IfOk, OnOk};
+ghost use Rattle.std.specs.Prelude.{◌≡◌, ◌++◌, true, IfOk, OnOk, MatchOption, is_some};
+ghost use Rattle.std.specs.FinMap as tables;
+ghost use Rattle.std.specs.List.{list_all};
+ghost use Rattle.std.specs.Option.{option_copied};
+ghost use Rattle.bdb_base.specs.Causes.{RoseBy};
+ghost use Rattle.bdb_keep.specs.Calls.{IsRead};
 ghost use Rattle.bdb_keep.specs.Seen.{NeverFall, Steps};
+ghost use Rattle.bdb_key.specs.Grammar.{IsWhole};
+ghost use Rattle.bdb_tables.specs.Codec.{HasRow, place};
+ghost use Rattle.bdb_tables.specs.Grammar.{InGrammar};
+ghost use Rattle.bdb_tables.specs.InUse.{tuple_codec};
+ghost use Rattle.bdb_val.specs.Reads.{HaveTuples};
 ghost use Rattle.bdb_catalog.specs.Bases.{SomeHasUsers};
-ghost use Rattle.bdb_catalog.specs.Taking.{AreTaken, chosen, is_chosen, statement_at};
+ghost use Rattle.bdb_catalog.specs.Taking.{AreTaken, AreTuplesRead, ReadsTaken, beginning, is_said, key_asked, may_be_there, statements_of};
 
-use crate::showing::world_of_path;
-use bdb_base::{Cond, Exact, Held, List, Path, Sign, Stmt, meets};
+use crate::asking::{key_asked, may_be_there};
+use crate::showing::state_of;
+use bdb_base::{Cond, Exact, List, Path, Sign, Stmt, Tuple, Value, meets, put};
 use bdb_keep::Keeper;
-use bdb_tables::TabError;
+use bdb_key::{put_num, put_value};
+use bdb_tables::{TabError, TupleTab, ValTab, get, rows_under};
 use std::alloc::{AllocError, Global};
 
-/// The statements of exactly this path, sign and relation whose tuples meet all tests, in order. They are read from the
-/// world of the path, of which they are explicit rows.
+/// The statements of exactly this path, sign and relation whose tuples meet all tests, in order. They are the explicit rows
+/// of the path's world, of which there are none where the path is no state. A read for each user of the path and for each
+/// row of its world and the relation, and one more for each of these that is explicit with the sign, at most. Where a test
+/// asks for a value of the first column, only the rows with this value are read.
 pub fn taken<K: Keeper>(
     alloc: Global,
     keeper: &mut K,
@@ -22,23 +36,29 @@ pub fn taken<K: Keeper>(
 ) -> Result<List<Stmt>, TabError>
     requires base { SomeHasUsers (K.seen keeper.old).kept path.now }
     ensures taken { IfOk result (AreTaken (K.seen keeper.old).kept path.now sign rel conds.now) }
+    ensures reads { OnOk result (ReadsTaken (K.seen keeper.old) (K.seen keeper.new) path.now sign rel (key_asked conds.now)) }
     ensures kept { OnOk result ((K.seen keeper.new).kept ≡ (K.seen keeper.old).kept) }
     ensures writes { (K.seen keeper.new).writes ≡ (K.seen keeper.old).writes }
     ensures counts { NeverFall (K.seen keeper.old) (K.seen keeper.new) }
     ensures steps { Steps (K.seen keeper.old) (K.seen keeper.new) result TabError.Fault }
 {
-    let world = match world_of_path(alloc, keeper, path) {
-        Ok(world) => world,
+    let (wid, own) = match state_of(alloc, keeper, path.as_slice()) {
+        Ok(found) => found,
         Err(error) => return Err(error),
     };
-    match chosen(
-        alloc,
-        world.held.as_slice(),
-        path,
-        sign,
-        rel,
-        conds.as_slice(),
-    ) {
+    if !own {
+        return Ok(List::new(alloc));
+    }
+    let conds = conds.as_slice();
+    let key = key_asked(conds);
+    if !may_be_there(key) {
+        return Ok(List::new(alloc));
+    }
+    let tuples = match explicit_tuples(alloc, keeper, wid, sign, rel, key) {
+        Ok(tuples) => tuples,
+        Err(error) => return Err(error),
+    };
+    match statements_of(alloc, path, sign, conds, tuples) {
         Ok(stmts) => Ok(stmts),
         Err(_) => {
             keeper.undo();
@@ -47,65 +67,127 @@ pub fn taken<K: Keeper>(
     }
 }
 
-// The statements of a path's rows that are chosen.
-fn chosen(
+// The tuples that a world's rows of a relation state with a sign, only those with one first value where it is asked for.
+fn explicit_tuples<K: Keeper>(
     alloc: Global,
-    rows: &[Held],
-    path: &Path,
+    keeper: &mut K,
+    wid: u32,
     sign: Sign,
     rel: u32,
-    conds: &[Cond],
-) -> Result<List<Stmt>, AllocError>
-    ensures { IfOk result (λ stmts. stmts ≡ chosen path.now sign rel conds.now rows.now) }
+    key: Option<&Value>,
+) -> Result<Vec<Tuple>, TabError>
+    requires grammar { InGrammar (K.seen keeper.old).kept }
+    requires tuples { HaveTuples (K.seen keeper.old).kept }
+    ensures tuples { IfOk result (λ tuples. AreTuplesRead (K.seen keeper.old) (K.seen keeper.new) (beginning wid rel (option_copied key.entry)) sign tuples.items) }
+    ensures whole { OnOk result (MatchOption (option_copied key.entry) (Unit {0}) IsWhole) }
+    ensures read { IsRead (K.seen keeper.old) (K.seen keeper.new) result TabError.Fault }
 {
-    let rows = chosen_rows(alloc, rows, sign, rel, conds)?;
-    let stmts = statements_at(alloc, path, sign, rows)?;
-    Ok(stmts)
+    let mut prefix = Vec::new(alloc);
+    if put_beginning(&mut prefix, wid, rel, key).is_err() {
+        keeper.undo();
+        return Err(TabError::Memory);
+    }
+    match tuples_under(alloc, keeper, prefix.as_slice(), sign) {
+        Ok(tuples) => Ok(tuples),
+        Err(error) => Err(error),
+    }
 }
 
-// Copies of the rows that are chosen.
-fn chosen_rows(
-    alloc: Global,
-    rows: &[Held],
-    sign: Sign,
+// How the keys of a world's rows of a relation begin, where they have a value of the relation's key if one is asked for.
+fn put_beginning(
+    prefix: &mut Vec<u8>,
+    wid: u32,
     rel: u32,
-    conds: &[Cond],
-) -> Result<List<Held>, AllocError>
-    ensures { IfOk result (λ some. some ≡ filter (is_chosen sign rel conds.now) rows.now) }
+    key: Option<&Value>,
+) -> Result<(), AllocError>
+    ensures bytes { OnOk result (prefix.new.items ≡ prefix.old.items ++ beginning wid rel (option_copied key.entry)) }
+    ensures whole { OnOk result (MatchOption (option_copied key.entry) (Unit {0}) IsWhole) }
 {
-    let mut some = List::new(alloc);
-    for row in rows {
-        if is_chosen(row, sign, rel, conds) {
-            some.push(row.try_clone(alloc)?)?;
+    put_num(prefix, wid)?;
+    put_num(prefix, rel)?;
+    match key {
+        Some(value) => {
+            put_value(prefix, value)?;
+            Ok(())
+        }
+        None => Ok(()),
+    }
+}
+
+// The tuples of those rows whose keys begin so that are explicit with a sign. A read for each row, one for each tuple, and
+// one more.
+fn tuples_under<K: Keeper>(
+    alloc: Global,
+    keeper: &mut K,
+    prefix: &[u8],
+    sign: Sign,
+) -> Result<Vec<Tuple>, TabError>
+    requires grammar { InGrammar (K.seen keeper.old).kept }
+    requires tuples { HaveTuples (K.seen keeper.old).kept }
+    ensures tuples { IfOk result (λ tuples. AreTuplesRead (K.seen keeper.old) (K.seen keeper.new) prefix.now sign tuples.items) }
+    ensures read { IsRead (K.seen keeper.old) (K.seen keeper.new) result TabError.Fault }
+{
+    let rows = match rows_under::<ValTab, K>(alloc, keeper, prefix) {
+        Ok(rows) => rows,
+        Err(error) => return Err(error),
+    };
+    let mut tuples = Vec::new(alloc);
+    for row in &rows {
+        if !is_said(row, sign) {
+            continue;
+        }
+        match tuple_of(alloc, keeper, row.0.3) {
+            Ok(tuple) => {
+                if tuples.push(tuple).is_err() {
+                    keeper.undo();
+                    return Err(TabError::Memory);
+                }
+            }
+            Err(error) => return Err(error),
         }
     }
-    Ok(some)
+    Ok(tuples)
 }
 
-// Whether a row is chosen.
-fn is_chosen(row: &Held, sign: Sign, rel: u32, conds: &[Cond]) -> bool
-    ensures { result ≡ is_chosen sign rel conds.now row.now }
+// Whether a row is explicit, with this sign.
+fn is_said(row: &((u32, u32, Value, u32), (Sign, bool)), sign: Sign) -> bool
+    ensures { result ≡ is_said sign row.now }
 {
-    row.explicit && row.sign == sign && row.tuple.rel == rel && meets(&row.tuple, conds)
+    row.1.1 && row.1.0 == sign
 }
 
-// Rows as statements of a path.
-fn statements_at(
+// The tuple of a number that has one. One read.
+fn tuple_of<K: Keeper>(alloc: Global, keeper: &mut K, tid: u32) -> Result<Tuple, TabError>
+    requires grammar { InGrammar (K.seen keeper.old).kept }
+    requires there { is_some (tables.get (K.seen keeper.old).kept (place tuple_codec tid)) ≡ true }
+    ensures tuple { IfOk result (λ tuple. HasRow tuple_codec (K.seen keeper.old).kept tid tuple) }
+    ensures reads { OnOk result (RoseBy 1 (K.seen keeper.old).reads (K.seen keeper.new).reads) }
+    ensures read { IsRead (K.seen keeper.old) (K.seen keeper.new) result TabError.Fault }
+{
+    match get::<TupleTab, K>(alloc, keeper, &tid) {
+        Ok(Some(tuple)) => Ok(tuple),
+        Ok(None) => unreachable!(),
+        Err(error) => Err(error),
+    }
+}
+
+// Those tuples that meet all tests as statements of a path, in order.
+fn statements_of(
     alloc: Global,
     path: &Path,
     sign: Sign,
-    rows: List<Held>,
+    conds: &[Cond],
+    tuples: Vec<Tuple>,
 ) -> Result<List<Stmt>, AllocError>
-    ensures { IfOk result (λ stmts. stmts ≡ map (statement_at path.now sign) rows) }
+    ensures { IfOk result (λ stmts. stmts ≡ statements_of path.now sign conds.now tuples.items) }
 {
     let mut stmts = List::new(alloc);
-    for row in rows.into_vec() {
+    for tuple in tuples {
+        if !meets(&tuple, conds) {
+            continue;
+        }
         let path = path.try_clone(alloc)?;
-        stmts.push(Stmt {
-            path,
-            sign,
-            tuple: row.tuple,
-        })?;
+        put(&mut stmts, Stmt { path, sign, tuple })?;
     }
     Ok(stmts)
 }

@@ -1,0 +1,143 @@
+-- What tests ask for of the first column, and the keys of the rows that have it.
+use Rattle.std.proofs.Common.{◌≡◌, ◌∙◌, ℕ, ◌<◌, Bool, true, false, ◌&&◌, nat_eq, List, [], ◌∷◌, ◌++◌, length, Option, Some, None, MatchOption, refl, ap, sym, arith}
+use Rattle.std.specs.List.{slice_get}
+use Rattle.std.proofs.lemmas.Bool.{and_parts, and_from, cond-true, cond-false, eqb-true, eq-eqb, false≢true}
+use Rattle.bdb_base.specs.Conditions.{meets, meets_one, value_at, operand_at, compare_so}
+use Rattle.bdb_base.specs.Order.{value_cmp}
+use Rattle.bdb_base.specs.OrderLemmas.{value_exact}
+use Rattle.bdb_base.specs.Safety.{is_equality}
+use Rattle.bdb_base.specs.Same.{same_value}
+use Rattle.bdb_base.specs.SameLemmas.{same_value-Decides}
+use Rattle.bdb_base.specs.Segments.{is_prefix}
+use Rattle.bdb_base.specs.declared.kinds.Cmp.{Cmp}
+use Rattle.bdb_base.specs.declared.kinds.Cmp.TheVariants.{Eq, Ne, Lt, Le, Gt, Ge}
+use Rattle.bdb_base.specs.declared.kinds.Cond.{Cond}
+use Rattle.bdb_base.specs.declared.kinds.Operand.{Operand}
+use Rattle.bdb_base.specs.declared.kinds.Operand.TheVariants.{Col, Lit}
+use Rattle.bdb_base.specs.declared.kinds.Value.{Value}
+use Rattle.bdb_base.specs.declared.kinds.Value.TheVariants.{Int, Text}
+use Rattle.bdb_base.specs.declared.tuple.Tuple.{Tuple}
+use Rattle.bdb_base.proofs.SetLemmas.{is_eq-Equal}
+use Rattle.bdb_key.specs.Bytes.{num_bytes, value_bytes}
+use Rattle.bdb_key.specs.Grammar.{IsNum, IsWhole, IsPlainValue, ArePlain}
+use Rattle.bdb_key.specs.Rows.{IsTupleRow}
+use Rattle.bdb_key.proofs.Readings.{num_form}
+use Rattle.bdb_tables.specs.InUse.{val_bytes}
+use Rattle.bdb_val.specs.Reads.{IsSpan}
+use Rattle.bdb_val.specs.Settling.{key_value, row_key}
+use Rattle.bdb_val.proofs.ReadLemmas.{prefix_append, prefix_rest, group_span}
+use Rattle.bdb_catalog.specs.Taking.{literal_of, asks_for_first, key_of_test, first_there, key_asked, is_written, may_be_there, is_asked, beginning}
+
+-- ---- what a tuple has that meets tests
+
+none_some : (v : Value) → None ≡ Some v → ⊥
+none_some v e = cc
+
+some_value : (a b : Value) → Some a ≡ Some b → a ≡ b
+some_value a b e = cc
+
+equal_values : (o : Option Value) (v : Value) → compare_so Eq o (Some v) ≡ true → o ≡ Some v
+equal_values None v e = absurd (false≢true e)
+equal_values (Some x) v e = ap Some (value_exact.exact x v (is_eq-Equal (value_cmp x v) e))
+
+equality : (c : Cmp) → is_equality c ≡ true → c ≡ Eq
+equality Eq e = refl
+equality Ne e = absurd (false≢true e)
+equality Lt e = absurd (false≢true e)
+equality Le e = absurd (false≢true e)
+equality Gt e = absurd (false≢true e)
+equality Ge e = absurd (false≢true e)
+
+literal_is : (u : Tuple) (o : Operand) (v : Value) → literal_of o ≡ Some v → operand_at u o ≡ Some v
+literal_is u (Col r) v e = absurd (none_some v e)
+literal_is u (Lit x) v e = e
+
+-- a tuple that meets a test has the first value that the test asks for
+test_tells : (c : Cond) (u : Tuple) (v : Value) → key_of_test c ≡ Some v → meets_one u c ≡ true → slice_get u.vals 0 ≡ Some v
+test_tells c u v k m = by (asks_for_first c) refl
+  where
+    by : (b : Bool) → asks_for_first c ≡ b → slice_get u.vals 0 ≡ Some v
+    by true a =
+        let p = and_parts (is_equality c.cmp) (nat_eq c.left.item 0 && nat_eq c.left.col 0) a in
+        let q = and_parts (nat_eq c.left.item 0) (nat_eq c.left.col 0) p.1 in
+        let right : operand_at u c.right ≡ Some v = literal_is u c.right v (sym (cond-true (asks_for_first c) (literal_of c.right) None a) ∙ k) in
+        let left : value_at u c.left ≡ slice_get u.vals 0 =
+        cond-true (nat_eq c.left.item 0) (slice_get u.vals c.left.col) None q.0 ∙ ap (λ n. slice_get u.vals n) (eqb-true c.left.col 0 q.1) in
+        equal_values (slice_get u.vals 0) v
+        (sym (ap (λ cmp. compare_so cmp (value_at u c.left) (operand_at u c.right)) (equality c.cmp p.0)
+        ∙ ap (λ o. compare_so Eq o (operand_at u c.right)) left ∙ ap (λ o. compare_so Eq (slice_get u.vals 0) o) right) ∙ m)
+    by false a = absurd (none_some v (sym (cond-false (asks_for_first c) (literal_of c.right) None a) ∙ k))
+
+first_is : (vs : List Value) (v : Value) → slice_get vs 0 ≡ Some v → key_value vs ≡ v
+first_is [] v e = absurd (none_some v e)
+first_is (x ∷ vs) v e = some_value x v e
+
+-- a tuple that meets all tests has the first value that they ask for
+asked_met : (conds : List Cond) (u : Tuple) (v : Value) → key_asked conds ≡ Some v → meets conds u ≡ true → key_value u.vals ≡ v
+asked_met [] u v k m = absurd (none_some v k)
+asked_met (c ∷ cs) u v k m = by (key_of_test c) refl (λ e. asked_met cs u v e parts.1)
+  where
+    parts : (meets_one u c ≡ true) × (meets cs u ≡ true)
+    parts = and_parts (meets_one u c) (meets cs u) m
+
+    by : (o : Option Value) → key_of_test c ≡ o → (key_asked cs ≡ Some v → key_value u.vals ≡ v) → key_value u.vals ≡ v
+    by None e rest = rest (sym (ap (λ o. first_there o (key_asked cs)) e) ∙ k)
+    by (Some x) e rest = first_is u.vals v (test_tells c u v (e ∙ (sym (ap (λ o. first_there o (key_asked cs)) e) ∙ k)) parts.0)
+
+pub meets_asked : (conds : List Cond) (rel : ℕ) (u : Tuple) → nat_eq u.rel rel ≡ true → meets conds u ≡ true → is_asked rel (key_asked conds) u ≡ true
+meets_asked conds rel u r m = by (key_asked conds) refl
+  where
+    by : (o : Option Value) → key_asked conds ≡ o → is_asked rel (key_asked conds) u ≡ true
+    by None e = ap (λ o. is_asked rel o u) e ∙ r
+    by (Some v) e = ap (λ o. is_asked rel o u) e ∙ and_from (nat_eq u.rel rel) (same_value (key_value u.vals) v) r ((same_value-Decides (key_value u.vals) v).1 (asked_met conds u v e m))
+
+pub asked_rel : (rel : ℕ) (key : Option Value) (u : Tuple) → is_asked rel key u ≡ true → nat_eq u.rel rel ≡ true
+asked_rel rel None u e = e
+asked_rel rel (Some v) u e = (and_parts (nat_eq u.rel rel) (same_value (key_value u.vals) v) e).0
+
+-- ---- values that no tuple has
+
+first_plain : (vs : List Value) → 0 < length vs → ArePlain vs → IsPlainValue (key_value vs)
+first_plain [] l a = absurd (omega arith)
+first_plain (v ∷ vs) l a = a.0
+
+written : (v : Value) → IsPlainValue v → is_written v ≡ true
+written (Int n) h = refl
+written (Text t) h = h
+
+-- no tuple meets tests that ask for a value that no tuple has
+pub none_meets : (conds : List Cond) (u : Tuple) → IsTupleRow u → may_be_there (key_asked conds) ≡ false → meets conds u ≡ true → ⊥
+none_meets conds u g out m = by (key_asked conds) refl
+  where
+    by : (o : Option Value) → key_asked conds ≡ o → ⊥
+    by None e = false≢true (sym out ∙ ap may_be_there e)
+    by (Some v) e =
+        let there : is_written v ≡ true = ap is_written (sym (asked_met conds u v e m)) ∙ written (key_value u.vals) (first_plain u.vals g.some g.plain) in
+        false≢true (sym out ∙ ap may_be_there e ∙ there)
+
+pub plain_key : (key : Option Value) → may_be_there key ≡ true → MatchOption key (Unit {0}) IsWhole → MatchOption key (Unit {0}) IsPlainValue
+plain_key None a b = tt
+plain_key (Some (Int n)) a b = b
+plain_key (Some (Text t)) a b = a
+
+-- ---- keys
+
+-- the keys of a world's rows of a relation are those that begin with the two
+rel_span : (wid rel : ℕ) → IsNum wid → IsNum rel → IsSpan wid (λ u. nat_eq u.rel rel) (num_bytes wid ++ num_bytes rel)
+rel_span wid rel w r = record {
+  world = λ k f e.
+      let s = prefix_rest (num_bytes wid ++ num_bytes rel) (val_bytes k) e in
+      (num_form k.0 wid (num_bytes k.1 ++ value_bytes k.2 ++ num_bytes k.3) (num_bytes rel ++ s.0) f.world w s.1).0;
+  begins = λ tid u e.
+      ap (λ x. is_prefix (num_bytes wid ++ num_bytes rel) (val_bytes (wid, x, key_value u.vals, tid))) (eqb-true u.rel rel e)
+      ∙ prefix_append (num_bytes wid ++ num_bytes rel) (value_bytes (key_value u.vals) ++ num_bytes tid);
+  inside = λ tid u g e.
+      let s = prefix_rest (num_bytes wid ++ num_bytes rel) (val_bytes (row_key wid tid u)) e in
+      let one = num_form wid wid (num_bytes u.rel ++ value_bytes (key_value u.vals) ++ num_bytes tid) (num_bytes rel ++ s.0) w w s.1 in
+      let two = num_form u.rel rel (value_bytes (key_value u.vals) ++ num_bytes tid) s.0 g.rel r one.1 in
+      eq-eqb u.rel rel two.0;
+}
+
+pub asked_span : (wid rel : ℕ) (key : Option Value) → IsNum wid → IsNum rel → MatchOption key (Unit {0}) IsPlainValue → IsSpan wid (is_asked rel key) (beginning wid rel key)
+asked_span wid rel None w r p = rel_span wid rel w r
+asked_span wid rel (Some v) w r p = group_span wid rel v w r p
