@@ -1,7 +1,6 @@
 -- Tables from which all rows are taken, and the two rows that then store the empty base.
-use Rattle.std.proofs.Common.{◌≡◌, ◌∙◌, ℕ, ◌+◌, ◌≤◌, Bool, true, false, not, ◌&&◌, nat_eq, nat_le, nat_lt, cond, List, [], ◌∷◌, Option, Some, None, refl, ap, sym, subst, inl, inr, arith, lit<}
+use Rattle.std.proofs.Common.{◌≡◌, ◌∙◌, ℕ, ◌+◌, ◌≤◌, true, false, not, ◌&&◌, nat_eq, nat_le, nat_lt, cond, List, [], ◌∷◌, Option, Some, None, refl, ap, sym, subst, inl, inr, arith, lit<}
 use Rattle.std.specs.Prelude.{IsTrue}
-use Rattle.std.specs.Bool.{MatchBool}
 use Rattle.std.specs.FinMap as tables
 use Rattle.std.specs.FinMap.{get-remove}
 use Rattle.std.specs.List.{list_all, slice_get}
@@ -15,13 +14,13 @@ use Rattle.bdb_base.specs.Segments.{is_suffix}
 use Rattle.bdb_base.specs.States.{edge_target, is_state}
 use Rattle.bdb_base.specs.declared.kinds.RelDef.{RelDef}
 use Rattle.bdb_keep.specs.Tables.{Tables, bytes_cmp, NoneFrom}
+use Rattle.bdb_keep.proofs.Gets.{get_after_insert, get_empty}
 use Rattle.bdb_tables.specs.Codec.{Codec, place}
-use Rattle.bdb_tables.specs.Grammar.{InGrammar, IsEntry}
 use Rattle.bdb_tables.specs.InUse.{ValKey, meta_codec, user_codec, rel_codec, tuple_codec, tuple_ix_codec, depth_codec, edge_codec, led_codec, val_codec, plain_codec}
 use Rattle.bdb_tables.specs.Names.{number_of, is_named, path_of, leads_to, edge_from, edge_of}
 use Rattle.bdb_tables.specs.Rows.{Tuples, row_for, row_named}
 use Rattle.bdb_tables.specs.States.{HoldsStates, row_where}
-use Rattle.bdb_tables.specs.Stored.{is_table, name_of, SameBut, Stores}
+use Rattle.bdb_tables.specs.Stored.{name_of, SameBut, Stores}
 use Rattle.bdb_tables.specs.Writes.{Gives, with_change, with_row_at}
 use Rattle.bdb_tables.proofs.CatalogLemmas.{no_names}
 use Rattle.bdb_tables.proofs.Held.{same_place}
@@ -29,7 +28,7 @@ use Rattle.bdb_tables.proofs.SameLemmas.{outside_one, change_same}
 use Rattle.bdb_tables.proofs.WriteLemmas.{change_gives, change_elsewhere, gives_same}
 use Rattle.bdb_worlds.specs.Root.{root_names}
 use Rattle.bdb_worlds.proofs.RootLemmas.{root_is_world}
-use Rattle.bdb_stored.specs.Writing.{AreCleared, HaveNoRows, IsCleared, is_before}
+use Rattle.bdb_stored.specs.Writing.{AreCleared, HaveNoRows, IsCleared, LieInTables, is_before}
 
 -- ---- one table
 
@@ -82,40 +81,39 @@ cleared_more t u v tab next le is a c = record {
 
 -- ---- no other table has rows
 
-skip : (A : Type 0) {B : Type 0} (c : Bool) → c ≡ false → MatchBool c A B → B
-skip A true e x = absurd (false≢true (sym e))
-skip A false e x = x
-
-no_entry : (n : ℕ) (k r : List ℕ) → is_table n ≡ false → IsEntry n k r → ⊥
-no_entry n k r out x =
-    skip _ (nat_eq n 12) (outside_one 12 refl n out)
-    (skip _ (nat_eq n 11) (outside_one 11 refl n out)
-    (skip _ (nat_eq n 10) (outside_one 10 refl n out)
-    (skip _ (nat_eq n 9) (outside_one 9 refl n out)
-    (skip _ (nat_eq n 8) (outside_one 8 refl n out)
-    (skip _ (nat_eq n 7) (outside_one 7 refl n out)
-    (skip _ (nat_eq n 6) (outside_one 6 refl n out)
-    (skip _ (nat_eq n 5) (outside_one 5 refl n out)
-    (skip _ (nat_eq n 4) (outside_one 4 refl n out)
-    (skip _ (nat_eq n 3) (outside_one 3 refl n out)
-    (skip _ (nat_eq n 2) (outside_one 2 refl n out)
-    (skip _ (nat_eq n 1) (outside_one 1 refl n out) x)))))))))))
-
-no_row_outside : (t : Tables) → InGrammar t → (n : ℕ) (k : List ℕ) → is_table n ≡ false → tables.get t (n ∷ k) ≡ None
-no_row_outside t g n k out = by (tables.get t (n ∷ k)) refl
+-- no table is there before or behind those that a keeper has
+no_row_outside : (t : Tables) → LieInTables t → (n : ℕ) (k : List ℕ) → is_before 16 n ≡ false → tables.get t (n ∷ k) ≡ None
+no_row_outside t lie n k out = by (tables.get t (n ∷ k)) refl
   where
+    within : (m : ℕ) → 1 ≤ m → m ≤ 15 → is_before 16 m ≡ true
+    within m low high = grind (arith, nat_tests)
+
     by : (o : Option (List ℕ)) → tables.get t (n ∷ k) ≡ o → o ≡ None
     by None e = refl
-    by (Some r) e = absurd (no_entry n k r out (g n k r e))
+    by (Some r) e = let there = lie n k r e in absurd (false≢true (sym out ∙ within n there.0 there.1))
 
-pub all_cleared : (t u : Tables) → InGrammar t → AreCleared 13 t u → HaveNoRows u
-all_cleared t u g a n k = elim (cases_Bool (is_before 13 n)) [
+pub all_cleared : (t u : Tables) → LieInTables t → AreCleared 16 t u → HaveNoRows u
+all_cleared t u lie a n k = elim (cases_Bool (is_before 16 n)) [
   | inl e ↦ a.none n k e
-  | inr e ↦ a.others n k e ∙ no_row_outside t g n k (outside n e)
+  | inr e ↦ a.others n k e ∙ no_row_outside t lie n k e
+]
+
+-- ---- tables into which rows are put
+
+pub none_in_tables : LieInTables tables.empty
+none_in_tables n k row e = let none : None ≡ Some row = sym (get_empty (n ∷ k)) ∙ e in absurd cc
+
+pub put_in_tables : (t : Tables) (tab : ℕ) (key row : List ℕ) → 1 ≤ tab → tab ≤ 15 → LieInTables t → LieInTables (tables.insert t (tab ∷ key) row)
+put_in_tables t tab key row low high lie n k found e = elim (cases_Bool (eq_by_cmp bytes_cmp (n ∷ k) (tab ∷ key))) [
+  | inl s ↦ (let same : n ≡ tab = first n (same_place (n ∷ k) (tab ∷ key) s) in (omega arith, omega arith))
+  | inr s ↦ lie n k found (sym (elsewhere s) ∙ e)
 ]
   where
-    outside : (m : ℕ) → is_before 13 m ≡ false → is_table m ≡ false
-    outside m e = grind (arith, nat_tests)
+    first : (m : ℕ) → m ∷ k ≡ tab ∷ key → m ≡ tab
+    first m s = cc
+
+    elsewhere : eq_by_cmp bytes_cmp (n ∷ k) (tab ∷ key) ≡ false → tables.get (tables.insert t (tab ∷ key) row) (n ∷ k) ≡ tables.get t (n ∷ k)
+    elsewhere s = get_after_insert t (tab ∷ key) row (n ∷ k) ∙ ap (λ b. cond b (Some row) (tables.get t (n ∷ k))) s
 
 -- ---- the empty base
 

@@ -1,5 +1,5 @@
 -- What is counted in the tables of a base are its sizes.
-use Rattle.std.proofs.Common.{◌≡◌, ◌∙◌, ℕ, ◌+◌, ◌-◌, ◌^◌, ◌<◌, ◌≤◌, true, List, [], ◌∷◌, ◌++◌, length, map, take, get_or, Option, Some, None, is_some, refl, ap, sym, subst, arith}
+use Rattle.std.proofs.Common.{◌≡◌, ◌∙◌, ℕ, ◌+◌, ◌-◌, ◌*◌, ◌^◌, ◌<◌, ◌≤◌, true, List, [], ◌∷◌, ◌++◌, length, map, take, get_or, Option, Some, None, is_some, refl, ap, sym, subst, arith}
 use Rattle.std.specs.Prelude.{sum_by, min}
 use Rattle.std.specs.Option.{option_map}
 use Rattle.std.proofs.lemmas.Bool.{leb-true}
@@ -193,11 +193,16 @@ module _ (t : Tables) (b : Contents) (v : StoresValid t b) where
     tuples_told =
         ap (sorted_set tuple_cmp) (sym (rows_are_items tuple_codec numbers_in_order number_eq (λ k f. f) (λ k f. f) tuple_rows_are_one t ts.tuple h.tuples.tuples es under)) ∙ tuples_are
 
-    pub tuples_many : length es ≡ tuple_count b.stmts
-    tuples_many =
+    -- the rows are as many as the tuples
+    pub tuples_as_many : length es ≡ length (tuples_of b.stmts)
+    tuples_as_many =
         sym (length-map es (λ (e : ℕ × Tuple). e.0)) ∙ sym (items_many ts.tuple tids tids_named) ∙ sym (sum_ones (items_of ts.tuple tids))
         ∙ sym (sum_sorted tuple_exact (λ u. 1) (items_of ts.tuple tids) (items_apart tuple_exact ts.tuple one_tuple tids tids_named tids_once))
-        ∙ sum_ones (sorted_set tuple_cmp (items_of ts.tuple tids)) ∙ ap (λ (xs : List Tuple). length xs) (tuples_are ∙ sym (loop_makes_set tuple_exact (map (λ (x : Stmt). x.tuple) b.stmts)))
+        ∙ sum_ones (sorted_set tuple_cmp (items_of ts.tuple tids)) ∙ ap (λ (xs : List Tuple). length xs) tuples_are
+
+    pub tuples_many : length es ≡ tuple_count b.stmts
+    tuples_many =
+        tuples_as_many ∙ ap (λ (xs : List Tuple). length xs) (sym (loop_makes_set tuple_exact (map (λ (x : Stmt). x.tuple) b.stmts)))
         ∙ put_all_count same_tuple same_tuple-Decides tuple_exact (map (λ (x : Stmt). x.tuple) b.stmts)
 
 -- the rows of depths are as many as the states
@@ -223,6 +228,14 @@ counts_more t es i stmts rows next_stmts next_rows x lt c r p q = record {
   explicit = (let a = c.explicit in let b = sum_by_push explicit_rows c.held x in omega arith);
   all = (let a = c.all in let b = sum_by_push (λ h. length h) c.held x in omega arith);
 }
+
+-- the reads with one world more
+pub reads_more : (before now after i rows next more : ℕ) → (rows < 2 ^ 64 - 1 → now ≤ before + (i + 2 * rows)) → next ≡ min (rows + more) (2 ^ 64 - 1)
+    → after ≤ now + (2 * more + 1) → next < 2 ^ 64 - 1 → after ≤ before + (i + 1 + 2 * next)
+reads_more before now after i rows next more h e r below =
+    let few : rows < 2 ^ 64 - 1 = omega arith in
+    let k = h few in
+    omega (arith, k)
 
 -- ---- all sizes
 

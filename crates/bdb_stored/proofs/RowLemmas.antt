@@ -1,5 +1,5 @@
 -- The rows of the states' worlds, by the places of states and tuples.
-use Rattle.std.proofs.Common.{◌≡◌, ◌∙◌, ℕ, ◌+◌, ◌<◌, ◌≤◌, List, [], ◌++◌, length, map, take, get_or, refl, ap, sym, arith}
+use Rattle.std.proofs.Common.{◌≡◌, ◌∙◌, ℕ, ◌+◌, ◌<◌, ◌≤◌, List, [], ◌++◌, length, map, take, get_or, refl, ap, sym, arith, length-append}
 use Rattle.std.specs.List.{flat_map}
 use Rattle.std.proofs.lemmas.List.{length-map, take_all}
 use Rattle.bdb_base.specs.Order.{path_cmp}
@@ -27,6 +27,11 @@ FirstRows k t xs = IsPartOf (λ b. flat_map (rows_from (λ _. 1) b.stmts (states
 -- a row with a world's place
 placed_at : (tuples : List Tuple) (m n : ℕ) → m ≡ n → (hs : List Held) → map (row_placed tuples m) hs ≡ map (row_placed tuples n) hs
 placed_at tuples m n e hs = ap (λ k. map (row_placed tuples k) hs) e
+
+-- the rows with those of one world more
+pub rows_many : (tuples : List Tuple) (place : ℕ) (held : List Held) (now next : List CanonRow) → next ≡ now ++ map (row_placed tuples place) held → length next ≡ length now + length held
+rows_many tuples place held now next made =
+    ap (λ (rs : List CanonRow). length rs) made ∙ length-append now (map (row_placed tuples place) held) ∙ ap (λ n. length now + n) (length-map held (row_placed tuples place))
 
 module _ (t : Tables) (worlds : List NamedWorld) (are : TellsStates t worlds) where
   pub rows_begin : FirstRows 0 t []

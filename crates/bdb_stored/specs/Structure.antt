@@ -1,5 +1,5 @@
 -- What calls tell of the structure of a stored base.
-use Rattle.std.specs.Prelude.{◌≡◌, ℕ, true, List, [], map, Option}
+use Rattle.std.specs.Prelude.{◌≡◌, ℕ, ◌≤◌, ◌+◌, ◌*◌, true, length, List, [], map, Option}
 use Rattle.std.specs.List.{list_all, flat_map}
 use Rattle.bdb_base.specs.Bases.{Contents, is_user}
 use Rattle.bdb_base.specs.declared.kinds.Held.{Held}
@@ -9,9 +9,11 @@ use Rattle.bdb_base.specs.Queries.{user_numbers}
 use Rattle.bdb_base.specs.States.{states_of}
 use Rattle.bdb_base.specs.WorldRows.{tuples_of}
 use Rattle.bdb_canon.specs.Canonical.{edges_at, edges_from, rows_from, world_entry}
+use Rattle.bdb_canon.specs.declared.structure.Canon.{Canon}
 use Rattle.bdb_canon.specs.declared.structure.CanonEdge.{CanonEdge}
 use Rattle.bdb_canon.specs.declared.structure.CanonRow.{CanonRow}
 use Rattle.bdb_canon.specs.declared.structure.CanonWorld.{CanonWorld}
+use Rattle.bdb_keep.specs.Seen.{Seen}
 use Rattle.bdb_keep.specs.Tables.{Tables}
 use Rattle.bdb_paths.specs.Places.{place_in}
 use Rattle.bdb_stored.specs.Items.{with_item}
@@ -52,3 +54,13 @@ TellsEdges t worlds x from uids found = (b : Contents) (v : StoresValid t b) →
 -- a row of the world at a place, with the place of its tuple
 abbrev pub row_placed : List Tuple → ℕ → Held → CanonRow
 row_placed tuples world h = record { world = world; tuple = place_in tuple_cmp tuples h.tuple; sign = h.sign; explicit = h.explicit }
+
+-- How many reads a base's structure takes at most, for so many users: one for each user and each tuple, and three that end the
+-- tables of users, states and tuples; three for each state, for its depth, its link and the end of its rows; two for each row; and
+-- three for each state and user, two that look for the state one user deeper, and one for the edge.
+abbrev pub canon_reads : ℕ → Canon → ℕ
+canon_reads users k = let worlds = length k.worlds in 3 * (worlds * users) + 3 * worlds + users + length k.tuples + 2 * length k.rows + 3
+
+-- whichever valid base the tables store, reading its structure takes no more reads
+abbrev pub ReadsAsCanon : Seen → Seen → Canon → Type 0
+ReadsAsCanon old new k = (b : Contents) → StoresValid old.kept b → new.reads ≤ old.reads + canon_reads (length b.catalog.users) k

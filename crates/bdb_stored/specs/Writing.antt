@@ -1,5 +1,5 @@
 -- Tables that are cleared, and the base that is written into them piece by piece.
-use Rattle.std.specs.Prelude.{◌≡◌, ℕ, Bool, true, false, ◌&&◌, nat_eq, nat_le, nat_lt, List, [], ◌∷◌, take, None}
+use Rattle.std.specs.Prelude.{◌≡◌, ℕ, ◌≤◌, Bool, true, false, ◌&&◌, nat_eq, nat_le, nat_lt, List, [], ◌∷◌, take, Some, None}
 use Rattle.std.specs.FinMap as tables
 use Rattle.bdb_base.specs.Bases.{Contents, IsValid, stands, with_statement}
 use Rattle.bdb_base.specs.declared.kinds.Catalog.{Catalog}
@@ -24,6 +24,10 @@ pub record AreCleared (tab : ℕ) (t u : Tables) : Type 0 where
 pub record IsCleared (tab : ℕ) (t u : Tables) : Type 0 where
   pub none : (k : List ℕ) → tables.get u (tab ∷ k) ≡ None
   pub others : SameBut (nat_eq tab) t u
+
+-- each row is in one of the tables 1 to 15, which a keeper has
+abbrev pub LieInTables : Tables → Type 0
+LieInTables t = (n : ℕ) (k row : List ℕ) → tables.get t (n ∷ k) ≡ Some row → (1 ≤ n) × (n ≤ 15)
 
 -- no table has a row
 abbrev pub HaveNoRows : Tables → Type 0

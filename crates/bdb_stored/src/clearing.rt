@@ -1,20 +1,19 @@
 // Taking all rows of tables away.
 ghost use Rattle.std.specs.Prelude.{◌≡◌, ◌≤◌, true, OnOk};
 ghost use Rattle.bdb_keep.specs.Seen.{NeverFall, Steps};
-ghost use Rattle.bdb_tables.specs.Grammar.{InGrammar};
-ghost use Rattle.bdb_stored.specs.Writing.{HaveNoRows, IsCleared};
+ghost use Rattle.bdb_stored.specs.Writing.{HaveNoRows, IsCleared, LieInTables};
 
 use bdb_keep::{KeepError, Keeper};
 use bdb_tables::TabError;
 use std::alloc::Global;
 
-/// How many tables may have rows.
-const TABLES: u8 = 12;
+/// How many tables a keeper has.
+const TABLES: u8 = 15;
 
-/// Takes all rows away. Two calls for each row, and one for each table.
+/// Takes all rows away, whatever they are. Two calls for each row, and one for each table.
 pub fn clear_tables<K: Keeper>(alloc: Global, keeper: &mut K) -> Result<(), TabError>
     requires running { (K.seen keeper.old).running ≡ true }
-    requires grammar { InGrammar (K.seen keeper.old).kept }
+    requires tables { LieInTables (K.seen keeper.old).kept }
     ensures cleared { OnOk result (HaveNoRows (K.seen keeper.new).kept) }
     ensures counts { NeverFall (K.seen keeper.old) (K.seen keeper.new) }
     ensures steps { Steps (K.seen keeper.old) (K.seen keeper.new) result TabError.Fault }

@@ -1,5 +1,5 @@
 // The sizes of a stored base.
-ghost use Rattle.std.specs.Prelude.{◌≡◌, IfOk};
+ghost use Rattle.std.specs.Prelude.{◌≡◌, ◌≤◌, ◌<◌, ◌+◌, ◌-◌, ◌*◌, ◌^◌, length, IfOk};
 ghost use Rattle.bdb_keep.specs.Calls.{IsRead};
 ghost use Rattle.bdb_tables.specs.Grammar.{InGrammar};
 ghost use Rattle.bdb_val.specs.Reads.{HaveTuples};
@@ -18,6 +18,7 @@ use std::alloc::Global;
 pub fn counts_of<K: Keeper>(alloc: Global, keeper: &mut K) -> Result<Counts, TabError>
     requires base { StoreSome (K.seen keeper.old).kept }
     ensures counts { IfOk result (TellsCounts (K.seen keeper.old).kept) }
+    ensures reads { IfOk result (λ counts. (K.seen keeper.new).reads ≤ (K.seen keeper.old).reads + (2 * counts.worlds + counts.tuples + 2 * counts.rows + 2)) }
     ensures read { IsRead (K.seen keeper.old) (K.seen keeper.new) result TabError.Fault }
 {
     let worlds = match rows_under::<DepthTab, K>(alloc, keeper, &[]) {
@@ -48,6 +49,7 @@ fn count_rows<K: Keeper>(
     requires grammar { InGrammar (K.seen keeper.old).kept }
     requires tuples { HaveTuples (K.seen keeper.old).kept }
     ensures counts { IfOk result (λ counts. CountsRows (K.seen keeper.old).kept worlds.now counts.0 counts.1) }
+    ensures reads { IfOk result (λ counts. counts.1 < 2 ^ 64 - 1 → (K.seen keeper.new).reads ≤ (K.seen keeper.old).reads + (length worlds.now + 2 * counts.1)) }
     ensures reading { OnlyReads (K.seen keeper.old) (K.seen keeper.new) result TabError.Fault }
 {
     let mut stmts: usize = 0;

@@ -1,5 +1,6 @@
 // The edges of the states of a stored base.
-ghost use Rattle.std.specs.Prelude.{◌≡◌, ◌<◌, ◌^◌, length, IfOk};
+ghost use Rattle.std.specs.Prelude.{◌≡◌, ◌<◌, ◌^◌, length, ◌≤◌, ◌+◌, ◌*◌, OnOk, IfOk};
+ghost use Rattle.bdb_base.specs.Causes.{RoseBy};
 ghost use Rattle.bdb_base.specs.Queries.{user_numbers};
 ghost use Rattle.bdb_keep.specs.Calls.{IsRead};
 ghost use Rattle.bdb_tables.specs.Grammar.{InGrammar};
@@ -27,6 +28,7 @@ pub fn edges_of<K: Keeper>(
     requires users { IsPartOf (λ b. user_numbers b.catalog.users) (K.seen keeper.old).kept users.now }
     requires few { length worlds.now < 2 ^ 32 }
     ensures edges { IfOk result (IsPartOf edges_of (K.seen keeper.old).kept) }
+    ensures reads { OnOk result ((K.seen keeper.new).reads ≤ (K.seen keeper.old).reads + length worlds.now * length users.now) }
     ensures reading { OnlyReads (K.seen keeper.old) (K.seen keeper.new) result TabError.Fault }
 {
     let mut edges = Vec::new(alloc);
@@ -58,6 +60,7 @@ fn edges_from<K: Keeper>(
     requires grammar { InGrammar (K.seen keeper.old).kept }
     requires few { length worlds.now < 2 ^ 32 }
     ensures edges { IfOk result (λ edges. TellsEdges (K.seen keeper.old).kept worlds.now world.now from users.now edges.items) }
+    ensures reads { OnOk result ((K.seen keeper.new).reads ≤ (K.seen keeper.old).reads + length users.now) }
     ensures reading { OnlyReads (K.seen keeper.old) (K.seen keeper.new) result TabError.Fault }
 {
     let mut edges = Vec::new(alloc);
@@ -89,6 +92,7 @@ fn edge_for<K: Keeper>(
     requires grammar { InGrammar (K.seen keeper.old).kept }
     requires few { length worlds.now < 2 ^ 32 }
     ensures edge { IfOk result (TellsEdge (K.seen keeper.old).kept worlds.now world.now from uid) }
+    ensures reads { OnOk result (RoseBy 1 (K.seen keeper.old).reads (K.seen keeper.new).reads) }
     ensures read { IsRead (K.seen keeper.old) (K.seen keeper.new) result TabError.Fault }
 {
     match get::<EdgeTab, K>(alloc, keeper, &(world.wid, uid)) {

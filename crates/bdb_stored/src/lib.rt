@@ -10,6 +10,8 @@ mod links;
 mod named;
 mod rows;
 mod structure;
+#[cfg(test)]
+mod tests;
 mod tuples;
 mod users;
 mod worlds;

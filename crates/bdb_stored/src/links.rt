@@ -1,6 +1,7 @@
 // The states of a stored base with their suffix links.
-ghost use Rattle.std.specs.Prelude.{◌≡◌, ◌<◌, ◌^◌, length, IfOk};
+ghost use Rattle.std.specs.Prelude.{◌≡◌, ◌<◌, ◌^◌, length, ◌≤◌, ◌+◌, OnOk, IfOk};
 ghost use Rattle.std.specs.Option.{option_map};
+ghost use Rattle.bdb_base.specs.Causes.{RoseBy};
 ghost use Rattle.bdb_keep.specs.Calls.{IsRead};
 ghost use Rattle.bdb_tables.specs.Grammar.{InGrammar};
 ghost use Rattle.bdb_stored.specs.Structure.{TellsLink, worlds_with_links};
@@ -24,6 +25,7 @@ pub fn worlds_with_links<K: Keeper>(
     requires worlds { TellsStates (K.seen keeper.old).kept worlds.now }
     requires few { length worlds.now < 2 ^ 32 }
     ensures linked { IfOk result (IsPartOf worlds_with_links (K.seen keeper.old).kept) }
+    ensures reads { OnOk result ((K.seen keeper.new).reads ≤ (K.seen keeper.old).reads + length worlds.now) }
     ensures reading { OnlyReads (K.seen keeper.old) (K.seen keeper.new) result TabError.Fault }
 {
     let mut linked = List::new(alloc);
@@ -53,6 +55,7 @@ fn with_link<K: Keeper>(
     requires grammar { InGrammar (K.seen keeper.old).kept }
     requires few { length worlds.now < 2 ^ 32 }
     ensures link { IfOk result (TellsLink (K.seen keeper.old).kept worlds.now world.now) }
+    ensures reads { OnOk result (RoseBy 1 (K.seen keeper.old).reads (K.seen keeper.new).reads) }
     ensures read { IsRead (K.seen keeper.old) (K.seen keeper.new) result TabError.Fault }
 {
     let link = match get::<SuffixTab, K>(alloc, keeper, &world.wid) {

@@ -1,5 +1,5 @@
 // The rows of the states' worlds of a stored base.
-ghost use Rattle.std.specs.Prelude.{◌≡◌, ◌<◌, ◌^◌, ◌++◌, true, length, map, IfOk, OnOk};
+ghost use Rattle.std.specs.Prelude.{◌≡◌, ◌<◌, ◌^◌, ◌++◌, true, length, map, IfOk, ◌≤◌, ◌+◌, ◌*◌, OnOk};
 ghost use Rattle.bdb_base.specs.Order.{tuple_cmp};
 ghost use Rattle.bdb_base.specs.SortedSet.{ascending};
 ghost use Rattle.bdb_base.specs.WorldRows.{tuples_of};
@@ -33,6 +33,7 @@ pub fn rows_of<K: Keeper>(
     requires few_worlds { length worlds.now < 2 ^ 32 }
     requires few_tuples { length tuples.now < 2 ^ 32 }
     ensures rows { IfOk result (IsPartOf rows_of (K.seen keeper.old).kept) }
+    ensures reads { IfOk result (λ rows. (K.seen keeper.new).reads ≤ (K.seen keeper.old).reads + (length worlds.now + 2 * length rows)) }
     ensures reading { OnlyReads (K.seen keeper.old) (K.seen keeper.new) result TabError.Fault }
 {
     let mut rows = List::new(alloc);

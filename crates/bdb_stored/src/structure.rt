@@ -2,6 +2,7 @@
 ghost use Rattle.std.specs.Prelude.{◌≡◌, IfOk};
 ghost use Rattle.bdb_canon.specs.Canonical.{canon_of};
 ghost use Rattle.bdb_keep.specs.Calls.{IsRead};
+ghost use Rattle.bdb_stored.specs.Structure.{ReadsAsCanon};
 ghost use Rattle.bdb_stored.specs.Valid.{IsPartOf, OnlyReads, StoreSome};
 
 use crate::edges::edges_of;
@@ -20,6 +21,7 @@ use std::alloc::Global;
 pub fn canon_of<K: Keeper>(alloc: Global, keeper: &mut K) -> Result<Canon, TabError>
     requires base { StoreSome (K.seen keeper.old).kept }
     ensures canon { IfOk result (IsPartOf canon_of (K.seen keeper.old).kept) }
+    ensures reads { IfOk result (ReadsAsCanon (K.seen keeper.old) (K.seen keeper.new)) }
     ensures read { IsRead (K.seen keeper.old) (K.seen keeper.new) result TabError.Fault }
 {
     let users = match user_numbers(alloc, keeper) {

@@ -1,5 +1,5 @@
 // The tuples of the statements of a stored base.
-ghost use Rattle.std.specs.Prelude.{◌≡◌, ℕ, IfOk, map};
+ghost use Rattle.std.specs.Prelude.{◌≡◌, ℕ, IfOk, ◌≤◌, ◌+◌, length, map};
 ghost use Rattle.bdb_base.specs.Order.{tuple_cmp};
 ghost use Rattle.bdb_base.specs.SortedSet.{sorted_set};
 ghost use Rattle.bdb_base.specs.WorldRows.{tuples_of};
@@ -16,6 +16,7 @@ use std::alloc::{AllocError, Global};
 pub fn tuples_in_order<K: Keeper>(alloc: Global, keeper: &mut K) -> Result<List<Tuple>, TabError>
     requires base { StoreSome (K.seen keeper.old).kept }
     ensures tuples { IfOk result (IsPartOf (λ b. tuples_of b.stmts) (K.seen keeper.old).kept) }
+    ensures reads { IfOk result (λ tuples. (K.seen keeper.new).reads ≤ (K.seen keeper.old).reads + (length tuples + 1)) }
     ensures read { IsRead (K.seen keeper.old) (K.seen keeper.new) result TabError.Fault }
 {
     let rows = match rows_under::<TupleTab, K>(alloc, keeper, &[]) {

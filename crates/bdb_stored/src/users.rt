@@ -1,5 +1,5 @@
 // The numbers of the users of a stored base.
-ghost use Rattle.std.specs.Prelude.{◌≡◌, ℕ, List, IfOk, map};
+ghost use Rattle.std.specs.Prelude.{◌≡◌, ℕ, List, IfOk, ◌≤◌, ◌+◌, length, map};
 ghost use Rattle.bdb_base.specs.Queries.{user_numbers};
 ghost use Rattle.bdb_keep.specs.Calls.{IsRead};
 ghost use Rattle.bdb_stored.specs.Valid.{IsPartOf, StoreSome};
@@ -13,6 +13,7 @@ use std::alloc::{AllocError, Global};
 pub fn user_numbers<K: Keeper>(alloc: Global, keeper: &mut K) -> Result<Vec<u32>, TabError>
     requires base { StoreSome (K.seen keeper.old).kept }
     ensures numbers { IfOk result (λ numbers. IsPartOf (λ b. user_numbers b.catalog.users) (K.seen keeper.old).kept numbers.items) }
+    ensures reads { IfOk result (λ numbers. (K.seen keeper.new).reads ≤ (K.seen keeper.old).reads + (length numbers.items + 1)) }
     ensures read { IsRead (K.seen keeper.old) (K.seen keeper.new) result TabError.Fault }
 {
     let rows = match rows_under::<UserTab, K>(alloc, keeper, &[]) {

@@ -1,5 +1,5 @@
 // The worlds of a stored base, in the order of their paths.
-ghost use Rattle.std.specs.Prelude.{◌≡◌, false, [], ◌∷◌, ◌++◌, length, IfOk, IsErrOf};
+ghost use Rattle.std.specs.Prelude.{◌≡◌, false, [], ◌∷◌, ◌++◌, length, IfOk, ◌≤◌, ◌+◌, ◌*◌, OnOk, IsErrOf};
 ghost use Rattle.bdb_base.specs.Alternation.{alternates};
 ghost use Rattle.bdb_base.specs.Queries.{user_numbers};
 ghost use Rattle.bdb_base.specs.States.{states_of};
@@ -25,6 +25,7 @@ pub fn worlds_in_order<K: Keeper>(
     requires base { StoreSome (K.seen keeper.old).kept }
     requires users { IsPartOf (λ b. user_numbers b.catalog.users) (K.seen keeper.old).kept users.now }
     ensures worlds { IfOk result (λ worlds. TellsStates (K.seen keeper.old).kept worlds.items) }
+    ensures reads { IfOk result (λ worlds. (K.seen keeper.new).reads ≤ (K.seen keeper.old).reads + (length worlds.items + 1 + length worlds.items * (2 * length users.now))) }
     ensures read { IsRead (K.seen keeper.old) (K.seen keeper.new) result TabError.Fault }
 {
     let depths = match rows_under::<DepthTab, K>(alloc, keeper, &[]) {
@@ -48,6 +49,7 @@ fn grow<K: Keeper>(
     requires users { IsPartOf (λ b. user_numbers b.catalog.users) (K.seen keeper.old).kept users.now }
     requires count { IsPartOf (λ b. length (states_of b.stmts)) (K.seen keeper.old).kept count }
     ensures worlds { IfOk result (λ worlds. TellsStates (K.seen keeper.old).kept worlds.items) }
+    ensures reads { OnOk result ((K.seen keeper.new).reads ≤ (K.seen keeper.old).reads + count * (2 * length users.now)) }
     ensures reading { OnlyReads (K.seen keeper.old) (K.seen keeper.new) result TabError.Fault }
 {
     let mut worlds = match root_alone(alloc) {
@@ -94,6 +96,7 @@ fn children_of<K: Keeper>(
 ) -> Result<Vec<NamedWorld>, TabError>
     requires grammar { InGrammar (K.seen keeper.old).kept }
     ensures children { IfOk result (λ children. TellsChildren (K.seen keeper.old).kept world.now users.now children.items) }
+    ensures reads { OnOk result ((K.seen keeper.new).reads ≤ (K.seen keeper.old).reads + 2 * length users.now) }
     ensures reading { OnlyReads (K.seen keeper.old) (K.seen keeper.new) result TabError.Fault }
 {
     let mut children = Vec::new(alloc);
@@ -122,6 +125,7 @@ fn child_of<K: Keeper>(
 ) -> Result<Option<NamedWorld>, TabError>
     requires grammar { InGrammar (K.seen keeper.old).kept }
     ensures child { IfOk result (TellsChild (K.seen keeper.old).kept world.now uid) }
+    ensures reads { OnOk result ((K.seen keeper.new).reads ≤ (K.seen keeper.old).reads + 2) }
     ensures read { IsRead (K.seen keeper.old) (K.seen keeper.new) result TabError.Fault }
 {
     let target = match get::<EdgeTab, K>(alloc, keeper, &(world.wid, uid)) {

@@ -1,4 +1,4 @@
-use Rattle.std.proofs.Common.{◌≡◌, ◌∙◌, [], sym, length, subst, rules, arith}
+use Rattle.std.proofs.Common.{◌≡◌, ◌∙◌, ℕ, ◌<◌, ◌-◌, ◌^◌, List, [], ap, sym, length, subst, rules, arith}
 use Rattle.bdb_keep.specs.Tables.{Tables}
 use Rattle.bdb_tables.specs.InUse.{tuple_codec}
 use Rattle.bdb_tables.specs.Spans.{AreUnder}
@@ -84,3 +84,23 @@ returns-in-Ok-count_rows-clause-counts g c =
     subst (λ n. TellsCounts t (record { worlds = n; tuples = c.len-in-Ok-count_rows.result; stmts = c.in-Ok-count_rows.stmts; rows = c.in-Ok-count_rows.rows })) (sym a)
     (subst (λ n. TellsCounts t (record { worlds = length es; tuples = n; stmts = c.in-Ok-count_rows.stmts; rows = c.in-Ok-count_rows.rows })) (sym d)
     (sizes_told t es ds c.in-Ok-count_rows.stmts c.in-Ok-count_rows.rows r))
+
+pub returns-in-Ok-count_rows-clause-reads : goal.returns-in-Ok-count_rows-clause-reads
+returns-in-Ok-count_rows-clause-reads g c =
+    let t = (g.K.Keeper.seen c.args.keeper.now).kept in
+    let es = c.in-Ok.worlds.items in
+    let ds = c.in-Ok-rows_under.tuples.items in
+    let two = c.in-Ok-rows_under.ensures.read.kept ∙ c.in-Ok.ensures.read.kept in
+    let r : AreRead t es ds c.in-Ok-count_rows.stmts c.in-Ok-count_rows.rows = record {
+      worlds = c.in-Ok.ensures.rows;
+      tuples = subst (λ (u : Tables). AreUnder tuple_codec u [] ds) c.in-Ok.ensures.read.kept c.in-Ok-rows_under.ensures.rows;
+      counts = subst (λ xs. CountsRows t xs c.in-Ok-count_rows.stmts c.in-Ok-count_rows.rows) c.deref.ensures.value
+          (subst (λ (u : Tables). CountsRows u c.deref.result.now c.in-Ok-count_rows.stmts c.in-Ok-count_rows.rows) two c.in-Ok-count_rows.ensures.counts);
+    } in
+    let few = rows_few t es ds c.in-Ok-count_rows.stmts c.in-Ok-count_rows.rows r c.requires.base in
+    let a : c.len.result ≡ length es = search rules in
+    let d : c.len-in-Ok-count_rows.result ≡ length ds = search rules in
+    let w = ap (λ (xs : List (ℕ × ℕ)). length xs) c.deref.ensures.value in
+    let below : c.in-Ok-count_rows.rows < 2 ^ 64 - 1 = omega arith in
+    let k = c.in-Ok-count_rows.ensures.reads below in
+    omega (arith, k, w, a, d, c.in-Ok.ensures.reads, c.in-Ok-rows_under.ensures.reads)

@@ -1,15 +1,16 @@
-use Rattle.std.proofs.Common.{◌∙◌, ◌<◌, ◌^◌, List, length, ap, subst, sym}
+use Rattle.std.proofs.Common.{◌∙◌, ◌<◌, ◌^◌, List, length, ap, subst, sym, ◌≡◌, ℕ}
 use Rattle.bdb_base.specs.Order.{tuple_cmp}
 use Rattle.bdb_base.specs.SortedSet.{ascending}
 use Rattle.bdb_base.specs.WorldRows.{tuples_of}
 use Rattle.bdb_base.specs.declared.tuple.Tuple.{Tuple}
 use Rattle.bdb_tables.specs.Grammar.{InGrammar}
 use Rattle.bdb_val.specs.Reads.{HaveTuples}
+use Rattle.bdb_stored.specs.Structure.{worlds_with_links}
 use Rattle.bdb_stored.specs.Valid.{IsPartOf}
 use Rattle.bdb_stored.specs.Worlds.{TellsStates}
 use Rattle.bdb_stored.specs.declared.named.NamedWorld.{NamedWorld}
 use Rattle.bdb_stored.proofs.CountingLemmas.{valid_has_tuples, valid_in_grammar}
-use Rattle.bdb_stored.proofs.StructureLemmas.{states_few, tuples_in_set}
+use Rattle.bdb_stored.proofs.StructureLemmas.{linked_as_many, read_in_all, states_few, tuples_in_set, users_as_many}
 use Rattle.bdb_stored.proofs.structure.canon_of.Goals as goal
 
 pub worlds_with_links-requires-clause-worlds : goal.worlds_with_links-requires-clause-worlds
@@ -65,3 +66,23 @@ rows_of-requires-clause-few_tuples g c =
     subst (λ (xs : List Tuple). length xs < 2 ^ 32) (sym c.as_slice.ensures)
     (tuples_in_set (g.K.Keeper.seen c.args.keeper.now).kept c.in-Ok-tuples_in_order.tuples c.requires.base
     (subst (λ t. IsPartOf (λ b. tuples_of b.stmts) t c.in-Ok-tuples_in_order.tuples) back c.in-Ok-tuples_in_order.ensures.tuples)).few
+
+pub returns-in-Ok-rows_of-clause-reads : goal.returns-in-Ok-rows_of-clause-reads
+returns-in-Ok-rows_of-clause-reads g c b v =
+    let t = (g.K.Keeper.seen c.args.keeper.now).kept in
+    let u = c.in-Ok.users.items in
+    let w = c.in-Ok-worlds_in_order.worlds.items in
+    let k = c.in-Ok-worlds_with_links.linked in
+    let users : length u ≡ length b.catalog.users = users_as_many t u b v c.in-Ok.ensures.numbers in
+    let back = c.in-Ok-tuples_in_order.ensures.read.kept ∙ c.in-Ok-worlds_in_order.ensures.read.kept ∙ c.in-Ok.ensures.read.kept in
+    let many : length k ≡ length w =
+    linked_as_many t w k b v (subst (λ x. TellsStates x w) c.in-Ok.ensures.read.kept c.in-Ok-worlds_in_order.ensures.worlds) (subst (λ x. IsPartOf worlds_with_links x k) back c.in-Ok-worlds_with_links.ensures.linked) in
+    let d : length c.deref.result.now ≡ length u = ap (λ (xs : List ℕ). length xs) c.deref.ensures.value in
+    let d2 : length c.deref-2.result.now ≡ length w = ap (λ (xs : List NamedWorld). length xs) c.deref-2.ensures.value in
+    let d3 : length c.deref-3.result.now ≡ length w = ap (λ (xs : List NamedWorld). length xs) c.deref-3.ensures.value in
+    let d4 : length c.deref-4.result.now ≡ length u = ap (λ (xs : List ℕ). length xs) c.deref-4.ensures.value in
+    let d5 : length c.deref-5.result.now ≡ length w = ap (λ (xs : List NamedWorld). length xs) c.deref-5.ensures.value in
+    read_in_all _ _ _ _ _ _ _ (length b.catalog.users) (length k) (length c.in-Ok-tuples_in_order.tuples) (length c.in-Ok-rows_of.rows)
+    (length u) (length c.deref.result.now) (length w) (length c.deref-2.result.now) (length c.deref-3.result.now) (length c.deref-4.result.now) (length c.deref-5.result.now)
+    users many d d2 d3 d4 d5 c.in-Ok.ensures.reads c.in-Ok-worlds_in_order.ensures.reads c.in-Ok-tuples_in_order.ensures.reads
+    c.in-Ok-worlds_with_links.ensures.reads c.in-Ok-edges_of.ensures.reads c.in-Ok-rows_of.ensures.reads
