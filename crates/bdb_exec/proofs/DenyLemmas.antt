@@ -24,6 +24,7 @@ use Rattle.bdb_key.proofs.Readings.{num_form, value_form}
 use Rattle.bdb_plan.specs.Running.{plus_tuples}
 use Rattle.bdb_plan.specs.Sight.{rows_deny}
 use Rattle.bdb_tables.specs.Codec.{HasRow}
+use Rattle.bdb_tables.specs.GroupMarks.{numbered}
 use Rattle.bdb_tables.specs.InUse.{ValKey, IsValKey, val_bytes, tuple_codec, val_codec}
 use Rattle.bdb_tables.specs.InUseLaws.{vals_are_one, mark_rows_are_one}
 use Rattle.bdb_tables.specs.Marks.{Mark}
@@ -31,7 +32,7 @@ use Rattle.bdb_tables.specs.Names.{leads_to}
 use Rattle.bdb_tables.specs.Spans.{AreUnder, IsUnder}
 use Rattle.bdb_exec.specs.Keys.{key_is, of_key}
 use Rattle.bdb_exec.specs.Readable.{CanBeRun}
-use Rattle.bdb_exec.specs.Rows.{IsNumberOf, signed_of, row_denies, is_written, world_prefix, key_prefix}
+use Rattle.bdb_exec.specs.Rows.{IsNumberOf, signed_of, mark_denies, row_denies, is_written, world_prefix, key_prefix}
 use Rattle.bdb_exec.specs.Seen.{rows_at, signed_in, signed_under, sight_of}
 use Rattle.bdb_exec.proofs.TypedLemmas.{raw}
 use Rattle.bdb_exec.proofs.WorldLemmas.{AreTyped, IsThere, IsTold, typed_under, typed_rows, shown, signed_is, has_row, tuple_named, all_told, all_both}
@@ -408,3 +409,8 @@ module _ (t : Tables) (h : CanBeRun t) (w rel : ℕ) (nw : IsNum w) (nr : IsNum 
       let a = ap length (shown t (key_prefix w rel v) es read) ∙ length_map (signed_of t) es in
       let b = key_length t h w rel nw nr v in
       omega (arith, a, b)
+
+-- whether a row denies is told by the number of its tuple
+pub denied_by_number : (number : Option ℕ) (es : List (ValKey × Mark)) → list_any (mark_denies number) (map numbered es) ≡ list_any (row_denies number) es
+denied_by_number number [] = refl
+denied_by_number number (e ∷ es) = ap (λ b. row_denies number e || b) (denied_by_number number es)

@@ -7,3 +7,4 @@ pub mod WorldLemmas
 pub mod DenyLemmas
 mod LookingLemmas
 pub mod ShownLemmas
+mod SlotLemmas

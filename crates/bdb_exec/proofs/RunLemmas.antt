@@ -1,8 +1,8 @@
 -- Running steps: up to a choice, for each choice, and to the end.
-use Rattle.std.proofs.Common.{◌≡◌, ◌∙◌, ℕ, ◌+◌, ◌≤◌, ◌<◌, List, [], ◌∷◌, length, drop, get_or, ap, sym, arith}
+use Rattle.std.proofs.Common.{◌≡◌, ◌∙◌, ℕ, ◌+◌, ◌≤◌, ◌<◌, List, [], ◌∷◌, ◌++◌, length, drop, get_or, reverse, refl, ap, sym, subst, arith}
 use Rattle.std.specs.List.{flat_map, sum_by}
-use Rattle.std.proofs.lemmas.List.{drop_more}
-use Rattle.std.proofs.lemmas.List.Sums.{sum_by-drop_more}
+use Rattle.std.proofs.lemmas.List.{drop_more, reverse-append}
+use Rattle.std.proofs.lemmas.List.Sums.{sum_by-cons}
 use Rattle.bdb_base.specs.Order.{row_cmp}
 use Rattle.bdb_base.specs.OrderLemmas.{row_exact}
 use Rattle.bdb_base.proofs.SetLemmas.{loop_makes_set}
@@ -10,9 +10,9 @@ use Rattle.bdb_base.specs.SortedSet.{sorted_set}
 use Rattle.bdb_base.specs.declared.kinds.Ref.{Ref}
 use Rattle.bdb_base.specs.declared.kinds.Value.{Value}
 use Rattle.bdb_base.specs.declared.tuple.Tuple.{Tuple}
-use Rattle.bdb_queries.specs.Collected.{with_rows}
+use Rattle.bdb_queries.specs.Collected.{Collected, with_rows}
 use Rattle.bdb_queries.specs.Limits.{up_to}
-use Rattle.bdb_queries.proofs.CollectedLemmas.{collected_rows}
+use Rattle.bdb_queries.proofs.CollectedLemmas.{collected_rows, with_rows_append}
 use Rattle.bdb_plan.specs.Running.{Reached, with_slot, after, rows_from, reads_from, choice_reads, settled_reads}
 use Rattle.bdb_plan.specs.Sight.{Sight}
 use Rattle.bdb_plan.specs.declared.step.Step.{Step}
@@ -40,12 +40,45 @@ reads_of_choice sight steps start s i item x pool old now new lt at chosen inv o
     let fewer = reads_before sight s x rest item pool chosen in
     omega (arith, all, fewer, inv, own)
 
--- one more tuple of a pool
-pub reads_after_turn : (F : Tuple → ℕ) (pool : List Tuple) (i : ℕ) (x : Tuple) (now new whole : ℕ) → i < length pool → x ≡ get_or pool i x → now + sum_by F (drop i pool) ≤ whole → new ≤ now + F x
-    → new + sum_by F (drop (i + 1) pool) ≤ whole
-reads_after_turn F pool i x now new whole lt at inv step =
-    let split : sum_by F (drop i pool) ≡ F x + sum_by F (drop (i + 1) pool) = sum_by-drop_more F pool i x lt ∙ ap (λ y. F y + sum_by F (drop (i + 1) pool)) (sym at) in
+-- ---- tuples that are left, the next of them at the end
+
+reverse_twice : (xs : List Tuple) → reverse (reverse xs) ≡ xs
+reverse_twice [] = refl
+reverse_twice (x ∷ xs) = ap reverse (reverse-append (x ∷ []) xs) ∙ reverse-append (reverse xs) (x ∷ []) ∙ ap (λ (ys : List Tuple). x ∷ ys) (reverse_twice xs)
+
+turned : (left more : List Tuple) (x : Tuple) → left ≡ more ++ x ∷ [] → reverse left ≡ x ∷ reverse more
+turned left more x e = ap reverse e ∙ reverse-append more (x ∷ [])
+
+-- after one more tuple the rows of those that are left still make the whole
+pub rows_after_turn : (F : Tuple → List (List Value)) (f g whole : Collected) (left more : List Tuple) (x : Tuple) → left ≡ more ++ x ∷ [] → g ≡ with_rows f (F x)
+    → with_rows f (flat_map F (reverse left)) ≡ whole → with_rows g (flat_map F (reverse more)) ≡ whole
+rows_after_turn F f g whole left more x e next inv =
+    ap (λ h. with_rows h (flat_map F (reverse more))) next
+    ∙ sym (with_rows_append f (F x) (flat_map F (reverse more)))
+    ∙ ap (λ ys. with_rows f (flat_map F ys)) (sym (turned left more x e))
+    ∙ inv
+
+-- and the reads are still few enough
+pub reads_after_turn : (G : Tuple → ℕ) (left more : List Tuple) (x : Tuple) (now new whole : ℕ) → left ≡ more ++ x ∷ [] → now + sum_by G (reverse left) ≤ whole → new ≤ now + G x
+    → new + sum_by G (reverse more) ≤ whole
+reads_after_turn G left more x now new whole e inv step =
+    let split : sum_by G (reverse left) ≡ G x + sum_by G (reverse more) = ap (sum_by G) (turned left more x e) ∙ sum_by-cons G x (reverse more) in
     omega (arith, split, inv, step)
+
+-- where none is left
+pub rows_at_end : (F : Tuple → List (List Value)) (f whole : Collected) (left : List Tuple) → left ≡ [] → with_rows f (flat_map F (reverse left)) ≡ whole → f ≡ whole
+rows_at_end F f whole left e inv = sym (ap (λ xs. with_rows f (flat_map F (reverse xs))) e) ∙ inv
+
+pub reads_at_end : (G : Tuple → ℕ) (left : List Tuple) (now whole : ℕ) → now + sum_by G (reverse left) ≤ whole → now ≤ whole
+reads_at_end G left now whole inv = omega (arith, inv)
+
+-- before the first
+pub rows_at_first : (F : Tuple → List (List Value)) (f : Collected) (left pool : List Tuple) (rows : List (List Value)) → left ≡ reverse pool → rows ≡ flat_map F pool
+    → with_rows f (flat_map F (reverse left)) ≡ with_rows f rows
+rows_at_first F f left pool rows e made = ap (λ xs. with_rows f (flat_map F xs)) (ap reverse e ∙ reverse_twice pool) ∙ ap (with_rows f) (sym made)
+
+pub reads_at_first : (G : Tuple → ℕ) (left pool : List Tuple) (now whole : ℕ) → left ≡ reverse pool → now + sum_by G pool ≤ whole → now + sum_by G (reverse left) ≤ whole
+reads_at_first G left pool now whole e few = subst (λ xs. now + sum_by G xs ≤ whole) (sym (ap reverse e ∙ reverse_twice pool)) few
 
 -- the rows collected are the set of those found
 pub rows_collected : (most : ℕ) (rows : List (List Value)) → up_to most (with_rows (record { rows = []; most = most }) rows).rows ≡ up_to most (sorted_set row_cmp rows)

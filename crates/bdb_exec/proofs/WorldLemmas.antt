@@ -26,11 +26,12 @@ use Rattle.bdb_tables.specs.Codec.{HasRow, TableFits, place}
 use Rattle.bdb_tables.specs.InUse.{ValKey, IsValKey, tuple_codec, val_codec}
 use Rattle.bdb_tables.specs.InUseLaws.{tuple_rows_are_one}
 use Rattle.bdb_tables.specs.Marks.{Mark, mark_of}
+use Rattle.bdb_tables.specs.GroupMarks.{numbered}
 use Rattle.bdb_tables.specs.Rows.{has_key, row_named, row_for}
 use Rattle.bdb_tables.specs.Spans.{AreUnder, IsUnder}
 use Rattle.bdb_tables.proofs.Held.{some_same, none_some}
 use Rattle.bdb_exec.specs.Readable.{CanBeRun}
-use Rattle.bdb_exec.specs.Rows.{HasTuple, HasPushed, signed_of}
+use Rattle.bdb_exec.specs.Rows.{HasTuple, HasPushed, signed_at, signed_of}
 use Rattle.bdb_exec.specs.Seen.{rows_at, sign_in, signed_in, signed_under}
 use Rattle.bdb_exec.specs.Spelled.{tuple_in}
 use Rattle.bdb_exec.proofs.SpelledLemmas.{tuple_back, sign_back}
@@ -188,9 +189,9 @@ module _ (t : Tables) where
   plus_append ((u, Plus) ∷ xs) ys = ap (λ (x : List Tuple). u ∷ x) (plus_append xs ys)
   plus_append ((u, Minus) ∷ xs) ys = plus_append xs ys
 
-  map_append : (xs ys : List (ValKey × Mark)) → map (signed_of t) (xs ++ ys) ≡ map (signed_of t) xs ++ map (signed_of t) ys
+  map_append : (xs ys : List (ℕ × Mark)) → map (signed_at t) (xs ++ ys) ≡ map (signed_at t) xs ++ map (signed_at t) ys
   map_append [] ys = refl
-  map_append (x ∷ xs) ys = ap (λ (r : List (Tuple × Sign)). signed_of t x ∷ r) (map_append xs ys)
+  map_append (x ∷ xs) ys = ap (λ (r : List (Tuple × Sign)). signed_at t x ∷ r) (map_append xs ys)
 
   plus_one : (x : Tuple × Sign) (s : Sign) (old new : List Tuple) → x.1 ≡ s → (s ≡ Plus → new ≡ old ++ x.0 ∷ []) → (s ≡ Minus → new ≡ old) → new ≡ old ++ plus_tuples (x ∷ [])
   plus_one (u, Plus) Plus old new e p m = p refl
@@ -202,27 +203,40 @@ module _ (t : Tables) where
       append_nil [] = refl
       append_nil (x ∷ xs) = ap (λ (r : List Tuple). x ∷ r) (append_nil xs)
 
-  pushed_one : (e : ValKey × Mark) (old new : List Tuple) → HasPushed t e.0.3 e.1.0 old new → new ≡ old ++ plus_tuples (signed_of t e ∷ [])
-  pushed_one e old new h = plus_one (signed_of t e) e.1.0 old new (sign_is e) (plus e.1.0 h) (minus e.1.0 h)
+  tuple_is : (n : ℕ) (u : Tuple) → HasRow tuple_codec t n u → tuple_in (unwrap_or (tables.get t (place tuple_codec n)) []) ≡ u
+  tuple_is n u r = ap (λ o. tuple_in (unwrap_or o [])) r.found ∙ tuple_back u r.in_grammar
+
+  pushed_one : (x : ℕ × Mark) (old new : List Tuple) → HasPushed t x.0 x.1.0 old new → new ≡ old ++ plus_tuples (signed_at t x ∷ [])
+  pushed_one x old new h = plus_one (signed_at t x) x.1.0 old new refl (plus x.1.0 h) (minus x.1.0 h)
     where
-      plus : (s : Sign) → HasPushed t e.0.3 s old new → s ≡ Plus → new ≡ old ++ (signed_of t e).0 ∷ []
-      plus Plus h p = h.1 ∙ ap (λ (u : Tuple). old ++ u ∷ []) (sym (ap (λ (x : Tuple × Sign). x.0) (signed_is e h.0 h.2)))
+      plus : (s : Sign) → HasPushed t x.0 s old new → s ≡ Plus → new ≡ old ++ (signed_at t x).0 ∷ []
+      plus Plus h p = h.1 ∙ ap (λ (u : Tuple). old ++ u ∷ []) (sym (tuple_is x.0 h.0 h.2))
       plus Minus h p = absurd cc
 
-      minus : (s : Sign) → HasPushed t e.0.3 s old new → s ≡ Minus → new ≡ old
+      minus : (s : Sign) → HasPushed t x.0 s old new → s ≡ Minus → new ≡ old
       minus Plus h p = absurd cc
       minus Minus h p = h
 
   -- one more row of a list
-  pub pushed_more : (es : List (ValKey × Mark)) (i : ℕ) (e : ValKey × Mark) (old new : List Tuple) → i < length es → e ≡ get_or es i e → old ≡ plus_tuples (map (signed_of t) (take i es))
-      → HasPushed t e.0.3 e.1.0 old new → new ≡ plus_tuples (map (signed_of t) (take (i + 1) es))
-  pushed_more es i e old new lt at inv h =
-      pushed_one e old new h
-      ∙ ap (λ (x : List Tuple). x ++ plus_tuples (signed_of t e ∷ [])) inv
-      ∙ sym (plus_append (map (signed_of t) (take i es)) (signed_of t e ∷ []))
-      ∙ ap plus_tuples (sym (map_append (take i es) (e ∷ [])))
-      ∙ ap (λ x. plus_tuples (map (signed_of t) (take i es ++ x ∷ []))) at
-      ∙ ap (λ x. plus_tuples (map (signed_of t) x)) (sym (take_more es i e lt))
+  pub pushed_more : (xs : List (ℕ × Mark)) (i : ℕ) (x : ℕ × Mark) (old new : List Tuple) → i < length xs → x ≡ get_or xs i x → old ≡ plus_tuples (map (signed_at t) (take i xs))
+      → HasPushed t x.0 x.1.0 old new → new ≡ plus_tuples (map (signed_at t) (take (i + 1) xs))
+  pushed_more xs i x old new lt at inv h =
+      pushed_one x old new h
+      ∙ ap (λ (y : List Tuple). y ++ plus_tuples (signed_at t x ∷ [])) inv
+      ∙ sym (plus_append (map (signed_at t) (take i xs)) (signed_at t x ∷ []))
+      ∙ ap plus_tuples (sym (map_append (take i xs) (x ∷ [])))
+      ∙ ap (λ y. plus_tuples (map (signed_at t) (take i xs ++ y ∷ []))) at
+      ∙ ap (λ y. plus_tuples (map (signed_at t) y)) (sym (take_more xs i x lt))
+
+  -- rows are told by the numbers of their tuples
+  pub told_by_number : (es : List (ValKey × Mark)) → map (signed_of t) es ≡ map (signed_at t) (map numbered es)
+  told_by_number [] = refl
+  told_by_number (e ∷ es) = ap (λ (x : Tuple × Sign). x ∷ map (signed_of t) es) (one e) ∙ ap (λ (xs : List (Tuple × Sign)). signed_at t (numbered e) ∷ xs) (told_by_number es)
+    where
+      one : (e : ValKey × Mark) → signed_of t e ≡ signed_at t (numbered e)
+      one e =
+          ap (λ b. signed (tuple_in (unwrap_or (tables.get t (tuple_codec.number ∷ b)) [])) (sign_in (mark_bytes e.1))) (number_at_end e.0)
+          ∙ ap (signed (tuple_in (unwrap_or (tables.get t (place tuple_codec e.0.3)) []))) (sign_back e.1.0 e.1.1)
 
 -- ---- where plans can be run
 
@@ -263,5 +277,9 @@ module _ (t : Tables) (h : CanBeRun t) where
   pub all_told : (prefix : List ℕ) (es : List (ValKey × Mark)) → AreTyped t prefix es → AllByRecursion IsTold es
   all_told prefix es r = all_both (IsUnder val_codec prefix) (IsThere t) IsTold es (λ e u i. one_told e u.key i) r.each r.there
 
-  pub all_have : (prefix : List ℕ) (es : List (ValKey × Mark)) → AreTyped t prefix es → AllByRecursion (HasTuple t) es
-  all_have prefix es r = all_map IsTold (HasTuple t) es (λ e k. (k.0, has_row e.0.3 k.0 k.1)) (all_told prefix es r)
+  pub all_have : (prefix : List ℕ) (es : List (ValKey × Mark)) → AreTyped t prefix es → AllByRecursion (HasTuple t) (map numbered es)
+  all_have prefix es r = have es (all_told prefix es r)
+    where
+      have : (es : List (ValKey × Mark)) → AllByRecursion IsTold es → AllByRecursion (HasTuple t) (map numbered es)
+      have [] k = tt
+      have (e ∷ es) k = ((k.0.0, has_row e.0.3 k.0.0 k.0.1), have es k.1)

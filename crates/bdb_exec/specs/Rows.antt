@@ -1,5 +1,7 @@
 -- Rows of worlds as they are read.
 use Rattle.std.specs.Prelude.{◌≡◌, ℕ, Bool, true, not, List, [], ◌∷◌, ◌++◌, Option, MatchOption}
+use Rattle.std.specs.FinMap as tables
+use Rattle.std.specs.Option.{unwrap_or}
 use Rattle.bdb_base.specs.Bases.{is_plain}
 use Rattle.bdb_base.specs.declared.kinds.Sign.{Sign}
 use Rattle.bdb_base.specs.declared.kinds.Sign.TheVariants.{Plus, Minus}
@@ -14,6 +16,7 @@ use Rattle.bdb_tables.specs.InUse.{ValKey, tuple_codec, val_codec}
 use Rattle.bdb_tables.specs.Marks.{Mark}
 use Rattle.bdb_tables.specs.Names.{leads_to}
 use Rattle.bdb_exec.specs.Seen.{signed_in}
+use Rattle.bdb_exec.specs.Spelled.{tuple_in}
 
 -- a text is one that keys may have
 abbrev pub is_written : Value → Bool
@@ -32,9 +35,13 @@ key_prefix world rel v = world_prefix world rel ++ value_bytes v
 abbrev pub signed_of : Tables → ValKey × Mark → Tuple × Sign
 signed_of t e = signed_in t (place val_codec e.0, val_codec.row_bytes e.1)
 
--- the number of a row's tuple stands for a tuple
-abbrev pub HasTuple : Tables → ValKey × Mark → Type 0
-HasTuple t e = (u : Tuple) × HasRow tuple_codec t e.0.3 u
+-- the tuple of a number, with the sign that is told beside it
+abbrev pub signed_at : Tables → ℕ × Mark → Tuple × Sign
+signed_at t x = (tuple_in (unwrap_or (tables.get t (place tuple_codec x.0)) []), x.1.0)
+
+-- the number stands for a tuple
+abbrev pub HasTuple : Tables → ℕ × Mark → Type 0
+HasTuple t x = (u : Tuple) × HasRow tuple_codec t x.0 u
 
 -- the number that stands for a tuple; none where none does
 abbrev pub IsNumberOf : Tables → Tuple → Option ℕ → Type 0
@@ -48,6 +55,10 @@ denies_by Minus own = own
 -- a row of the key of the tuple that has this number denies the tuple
 abbrev pub row_denies : Option ℕ → ValKey × Mark → Bool
 row_denies number e = denies_by e.1.0 (leads_to number e.0.3)
+
+-- the same, told by the number of a row's tuple
+abbrev pub mark_denies : Option ℕ → ℕ × Mark → Bool
+mark_denies number x = denies_by x.1.0 (leads_to number x.0)
 
 -- the tuple of a number was appended where its sign is plus
 abbrev pub HasPushed : Tables → ℕ → Sign → List Tuple → List Tuple → Type 0

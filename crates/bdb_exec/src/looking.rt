@@ -14,16 +14,21 @@ ghost use Rattle.bdb_tables.specs.InUse.{tuple_codec};
 ghost use Rattle.bdb_exec.specs.Keys.{of_key};
 ghost use Rattle.bdb_exec.specs.Looks.{Looks};
 ghost use Rattle.bdb_exec.specs.Readable.{CanBeRun};
-ghost use Rattle.bdb_exec.specs.Rows.{HasTuple, IsNumberOf, HasPushed, signed_of, row_denies, is_written, world_prefix, key_prefix};
+ghost use Rattle.bdb_exec.specs.Rows.{HasTuple, IsNumberOf, HasPushed, signed_at, mark_denies, is_written, world_prefix, key_prefix};
 ghost use Rattle.bdb_exec.specs.Seen.{sight_of, signed_under};
 
 use bdb_base::limits::LONGEST_TEXT;
 use bdb_base::{List, Sign, Tuple, Txt, Value};
 use bdb_keep::Keeper;
-use bdb_key::{put_num, put_tuple, put_value};
+use bdb_key::{put_num, put_value};
 use bdb_queries::user_tuple;
-use bdb_tables::{EdgeTab, TabError, TupleIx, TupleTab, UserTab, ValTab, get, rows_under};
+use bdb_tables::{
+    EdgeTab, Room, TabError, TupleIx, TupleTab, UserTab, get, numbered_under, rows_under,
+};
 use std::alloc::{AllocError, Global};
+
+// Most beginnings of keys have at most as many bytes.
+const PREFIX_ROOM: usize = 64;
 
 /// The users, by number. One read more than there are users.
 pub fn users<K: Keeper>(alloc: Global, keeper: &mut K) -> Result<List<Tuple>, TabError>
@@ -137,7 +142,8 @@ fn plus_under<K: Keeper>(
     ensures reads { OnOk result ((K.seen keeper.new).reads ≤ (K.seen keeper.old).reads + (2 * length (signed_under (K.seen keeper.old).kept prefix.now) + 1)) }
     ensures looks { Looks (K.seen keeper.old) (K.seen keeper.new) result TabError.Fault }
 {
-    let entries = match rows_under::<ValTab, K>(alloc, keeper, prefix) {
+    let mut room = Room::new(alloc);
+    let entries = match numbered_under(alloc, keeper, prefix, &mut room) {
         Ok(entries) => entries,
         Err(error) => return Err(error),
     };
@@ -151,17 +157,17 @@ fn plus_under<K: Keeper>(
 fn plus_of<K: Keeper>(
     alloc: Global,
     keeper: &mut K,
-    entries: &[((u32, u32, Value, u32), (Sign, bool))],
+    entries: &[(u32, (Sign, bool))],
 ) -> Result<List<Tuple>, TabError>
     requires run { CanBeRun (K.seen keeper.old).kept }
     requires there { AllByRecursion (HasTuple (K.seen keeper.old).kept) entries.now }
-    ensures tuples { IfOk result (λ tuples. tuples ≡ plus_tuples (map (signed_of (K.seen keeper.old).kept) entries.now)) }
+    ensures tuples { IfOk result (λ tuples. tuples ≡ plus_tuples (map (signed_at (K.seen keeper.old).kept) entries.now)) }
     ensures reads { OnOk result ((K.seen keeper.new).reads ≤ (K.seen keeper.old).reads + length entries.now) }
     ensures looks { Looks (K.seen keeper.old) (K.seen keeper.new) result TabError.Fault }
 {
     let mut tuples = List::new(alloc);
     for entry in entries {
-        match push_plus(alloc, keeper, entry.0.3, entry.1.0, &mut tuples) {
+        match push_plus(alloc, keeper, entry.0, entry.1.0, &mut tuples) {
             Ok(()) => {}
             Err(error) => return Err(error),
         }
@@ -263,25 +269,26 @@ fn denies_with<K: Keeper>(
         keeper.undo();
         return Err(TabError::Memory);
     }
-    match rows_under::<ValTab, K>(alloc, keeper, prefix.as_slice()) {
+    let mut room = Room::new(alloc);
+    match numbered_under(alloc, keeper, prefix.as_slice(), &mut room) {
         Ok(entries) => Ok(one_denies(entries.as_slice(), number)),
         Err(error) => Err(error),
     }
 }
 
 // Whether one of these rows of a tuple's key denies the tuple of this number.
-fn one_denies(entries: &[((u32, u32, Value, u32), (Sign, bool))], number: Option<u32>) -> bool
-    ensures { result ≡ list_any (row_denies number) entries.now }
+fn one_denies(entries: &[(u32, (Sign, bool))], number: Option<u32>) -> bool
+    ensures { result ≡ list_any (mark_denies number) entries.now }
 {
     entries.iter().any(|entry| row_denies(entry, number))
 }
 
 // Whether a row of a tuple's key denies the tuple of this number.
-fn row_denies(entry: &((u32, u32, Value, u32), (Sign, bool)), number: Option<u32>) -> bool
-    ensures { result ≡ row_denies number entry.now }
+fn row_denies(entry: &(u32, (Sign, bool)), number: Option<u32>) -> bool
+    ensures { result ≡ mark_denies number entry.now }
 {
     let own = match number {
-        Some(tid) => tid == entry.0.3,
+        Some(tid) => tid == entry.0,
         None => false,
     };
     match entry.1.0 {
@@ -303,11 +310,6 @@ fn number_of<K: Keeper>(
 {
     if !are_written(tuple.vals.as_slice()) {
         return Ok(None);
-    }
-    let mut bytes = Vec::new(alloc);
-    if put_tuple(&mut bytes, tuple).is_err() {
-        keeper.undo();
-        return Err(TabError::Memory);
     }
     match get::<TupleIx, K>(alloc, keeper, tuple) {
         Ok(number) => Ok(number),
@@ -357,6 +359,7 @@ fn is_printing(bytes: &[u8]) -> bool
 fn put_world(prefix: &mut Vec<u8>, world: u32, rel: u32) -> Result<(), AllocError>
     ensures { OnOk result (prefix.new.items ≡ prefix.old.items ++ world_prefix world rel) }
 {
+    prefix.reserve(PREFIX_ROOM)?;
     put_num(prefix, world)?;
     put_num(prefix, rel)?;
     Ok(())
@@ -368,6 +371,7 @@ fn put_key(prefix: &mut Vec<u8>, world: u32, rel: u32, key: &Value) -> Result<()
     ensures bytes { OnOk result (prefix.new.items ≡ prefix.old.items ++ key_prefix world rel key.now) }
     ensures fits { OnOk result (IsPlainValue key.now) }
 {
+    prefix.reserve(PREFIX_ROOM)?;
     put_num(prefix, world)?;
     put_num(prefix, rel)?;
     put_value(prefix, key)?;

@@ -1,5 +1,5 @@
 // Steps, one after the other, for each choice.
-ghost use Rattle.std.specs.Prelude.{◌≡◌, ◌≤◌, ◌+◌, IfOk, OnOk};
+ghost use Rattle.std.specs.Prelude.{◌≡◌, ◌≤◌, ◌+◌, IfOk, OnOk, reverse};
 ghost use Rattle.bdb_base.specs.Queries.{option_list};
 ghost use Rattle.bdb_queries.specs.Collected.{with_rows};
 ghost use Rattle.bdb_queries.specs.Slots.{known_row};
@@ -75,7 +75,8 @@ pub fn advance<K: Keeper>(
     Ok(Came::End { state })
 }
 
-/// Takes the rows that come of steps. It stops where there are too many.
+/// Takes the rows that come of steps. It stops where there are too many. The last tuple that is chosen from goes on with the state
+/// itself, each other with a copy.
 pub fn run<K: Keeper>(
     alloc: Global,
     keeper: &mut K,
@@ -103,14 +104,20 @@ pub fn run<K: Keeper>(
                 done,
                 item,
                 pool,
-                state,
+                state: here,
             },
         ) => {
             let rest = &steps[done..];
-            let here = &state;
-            for tuple in pool.as_slice() {
+            let mut left = in_turn(pool);
+            while let Some(tuple) = left.pop() {
                 if !found.has_room() {
                     return Ok(());
+                }
+                if left.as_slice().is_empty() {
+                    return match run(alloc, keeper, rest, take, here.with(item, tuple), found) {
+                        Ok(()) => Ok(()),
+                        Err(error) => Err(error),
+                    };
                 }
                 let next = match here.copy_with(alloc, item, tuple) {
                     Ok(next) => next,
@@ -128,6 +135,15 @@ pub fn run<K: Keeper>(
         }
         Err(error) => Err(error),
     }
+}
+
+// Tuples, the first of them at the end.
+fn in_turn(pool: List<Tuple>) -> Vec<Tuple>
+    ensures { result.items ≡ reverse pool }
+{
+    let mut items = pool.into_vec();
+    items.reverse();
+    items
 }
 
 // Takes the row of what is chosen.

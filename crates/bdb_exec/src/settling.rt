@@ -3,14 +3,14 @@ ghost use Rattle.std.specs.Prelude.{◌≡◌, ◌≤◌, ◌+◌, IfOk, OnOk, l
 ghost use Rattle.std.specs.Option.{option_map, option_and_then};
 ghost use Rattle.bdb_queries.specs.Slots.{slot_at, uid_of, must_hold};
 ghost use Rattle.bdb_plan.specs.Holding.{differ};
-ghost use Rattle.bdb_plan.specs.Running.{with_world, denied, settled, settled_reads, reached_if};
+ghost use Rattle.bdb_plan.specs.Running.{with_world, denied, settled, settled_reads, reached_if, tuple_of};
 ghost use Rattle.bdb_exec.specs.Looks.{Looks};
 ghost use Rattle.bdb_exec.specs.Readable.{CanBeRun};
 ghost use Rattle.bdb_exec.specs.Seen.{sight_of};
 
 use crate::looking::{denies, edge};
-use crate::state::{State, of_relation};
-use bdb_base::Who;
+use crate::state::State;
+use bdb_base::{Tuple, Who};
 use bdb_keep::Keeper;
 use bdb_plan::Step;
 use bdb_queries::{must_hold, uid_of};
@@ -105,17 +105,22 @@ fn deny<K: Keeper>(
     ensures reads { OnOk result ((K.seen keeper.new).reads ≤ (K.seen keeper.old).reads + (length ((sight_of (K.seen keeper.old).kept).rows state.world rel) + 3)) }
     ensures looks { Looks (K.seen keeper.old) (K.seen keeper.new) result TabError.Fault }
 {
-    let tuple = match of_relation(alloc, state.slots(), item, rel) {
-        Ok(Some(tuple)) => tuple,
-        Ok(None) => return Ok(None),
-        Err(_) => {
-            keeper.undo();
-            return Err(TabError::Memory);
-        }
+    let (state, chosen) = state.taken(item);
+    let tuple = match chosen {
+        Some(tuple) => of_relation(tuple, rel),
+        None => return Ok(None),
     };
     match denies(alloc, keeper, state.world(), &tuple) {
         Ok(true) => Ok(Some(state.with(item, tuple))),
         Ok(false) => Ok(None),
         Err(error) => Err(error),
     }
+}
+
+// The values of a tuple, as a tuple of a relation.
+fn of_relation(tuple: Tuple, rel: u32) -> Tuple
+    ensures { result ≡ tuple_of rel tuple.vals }
+{
+    let Tuple { vals, .. } = tuple;
+    Tuple { rel, vals }
 }

@@ -1,13 +1,15 @@
 // How far a run has come.
-ghost use Rattle.std.specs.Prelude.{◌≡◌, IfOk};
+ghost use Rattle.std.specs.Prelude.{◌≡◌, IfOk, Option, slice_set};
 ghost use Rattle.std.specs.Option.{option_map};
+ghost use Rattle.bdb_base.specs.declared.tuple.Tuple.{Tuple};
 ghost use Rattle.bdb_queries.specs.Slots.{slot_at, known_operand};
-ghost use Rattle.bdb_plan.specs.Running.{start_of, with_world, with_slot, with_value, tuple_of};
+ghost use Rattle.bdb_plan.specs.Running.{start_of, with_world, with_slot, with_value};
 
 use bdb_base::{Exact, List, Operand, Tuple, Value};
-use bdb_queries::{known_operand, slot_at, with_chosen};
+use bdb_queries::known_operand;
 use std::alloc::{AllocError, Global};
 use std::marker::Model;
+use std::mem;
 
 /// How far a run has come: the world at which the last walk stands, and what is chosen for each item.
 #[derive(Drop)]
@@ -70,14 +72,26 @@ impl State {
     }
 
     /// A copy, with a tuple for an item.
-    pub fn copy_with(&self, alloc: Global, item: u32, tuple: &Tuple) -> Result<Self, AllocError>
-        ensures { IfOk result (λ s. s ≡ with_slot self.now item tuple.now) }
+    pub fn copy_with(&self, alloc: Global, item: u32, tuple: Tuple) -> Result<Self, AllocError>
+        ensures { IfOk result (λ s. s ≡ with_slot self.now item tuple) }
     {
-        let slots = with_chosen(alloc, self.slots.as_slice(), item as usize, tuple)?;
-        Ok(State {
+        let slots = copied_slots(alloc, self.slots.as_slice())?;
+        let copy = State {
             world: self.world,
             slots,
-        })
+        };
+        Ok(copy.with(item, tuple))
+    }
+
+    /// The same with nothing chosen for an item, and what was chosen for it.
+    pub fn taken(self, item: u32) -> (Self, Option<Tuple>)
+        ensures found { result.1 ≡ slot_at self.slots item }
+        ensures world { result.0.world ≡ self.world }
+        ensures again { (t : Tuple) → with_slot result.0 item t ≡ with_slot self item t }
+    {
+        let State { world, mut slots } = self;
+        let found = take_slot(&mut slots, item as usize);
+        (State { world, slots }, found)
     }
 
     /// The same, with one more value bound of an item; none where the value isn't known.
@@ -89,54 +103,65 @@ impl State {
     ) -> Result<Option<Self>, AllocError>
         ensures { IfOk result (λ next. next ≡ option_map (λ v. with_slot self item (with_value (slot_at self.slots item) v)) (known_operand self.slots right.now)) }
     {
-        let tuple = match known_operand(self.slots.as_slice(), right) {
-            Some(value) => with_value(alloc, self.slots.as_slice(), item, value)?,
+        let value = match known_operand(self.slots.as_slice(), right) {
+            Some(value) => value.try_clone(alloc)?,
             None => return Ok(None),
         };
-        Ok(Some(self.with(item, tuple)))
+        let (state, before) = self.taken(item);
+        let tuple = with_value(alloc, before, value)?;
+        Ok(Some(state.with(item, tuple)))
+    }
+}
+
+// Takes what is chosen for an item.
+fn take_slot(slots: &mut Vec<Option<Tuple>>, at: usize) -> Option<Tuple>
+    ensures found { result ≡ slot_at slots.old.items at }
+    ensures again { (x : Option Tuple) → slice_set slots.new.items at x ≡ slice_set slots.old.items at x }
+{
+    if at < slots.len() {
+        return mem::replace(&mut slots[at], None);
+    }
+    None
+}
+
+// A copy of what is chosen.
+fn copied_slots(alloc: Global, slots: &[Option<Tuple>]) -> Result<Vec<Option<Tuple>>, AllocError>
+    ensures { IfOk result (λ copy. copy.items ≡ slots.now) }
+{
+    let mut copy = Vec::with_capacity(alloc, slots.len())?;
+    for slot in slots {
+        copy.push(copied_slot(alloc, slot)?)?;
+    }
+    Ok(copy)
+}
+
+// A copy of what is chosen for one item.
+fn copied_slot(alloc: Global, slot: &Option<Tuple>) -> Result<Option<Tuple>, AllocError>
+    ensures { IfOk result (λ copy. copy ≡ slot.now) }
+{
+    match slot {
+        Some(tuple) => {
+            let copy = tuple.try_clone(alloc)?;
+            Ok(Some(copy))
+        }
+        None => Ok(None),
     }
 }
 
 // What is bound of an item's tuple, with one more value.
-fn with_value(
-    alloc: Global,
-    slots: &[Option<Tuple>],
-    item: u32,
-    value: &Value,
-) -> Result<Tuple, AllocError>
-    ensures { IfOk result (λ t. t ≡ with_value (slot_at slots.now item) value.now) }
+fn with_value(alloc: Global, bound: Option<Tuple>, value: Value) -> Result<Tuple, AllocError>
+    ensures { IfOk result (λ t. t ≡ with_value bound value) }
 {
-    match slot_at(slots, item as usize) {
+    match bound {
         Some(tuple) => {
-            let mut vals = tuple.vals.try_clone(alloc)?;
-            vals.push(value.try_clone(alloc)?)?;
-            Ok(Tuple {
-                rel: tuple.rel,
-                vals,
-            })
+            let Tuple { rel, mut vals } = tuple;
+            vals.push(value)?;
+            Ok(Tuple { rel, vals })
         }
         None => {
             let mut vals = List::new(alloc);
-            vals.push(value.try_clone(alloc)?)?;
+            vals.push(value)?;
             Ok(Tuple { rel: 0, vals })
         }
-    }
-}
-
-/// What is chosen for an item, as a tuple of a relation.
-pub fn of_relation(
-    alloc: Global,
-    slots: &[Option<Tuple>],
-    item: u32,
-    rel: u32,
-) -> Result<Option<Tuple>, AllocError>
-    ensures { IfOk result (λ found. found ≡ option_map (λ t. tuple_of rel t.vals) (slot_at slots.now item)) }
-{
-    match slot_at(slots, item as usize) {
-        Some(tuple) => {
-            let vals = tuple.vals.try_clone(alloc)?;
-            Ok(Some(Tuple { rel, vals }))
-        }
-        None => Ok(None),
     }
 }
