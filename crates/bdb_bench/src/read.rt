@@ -53,7 +53,7 @@ fn count_commands(alloc: Global, script: &[u8]) -> Result<usize, AllocError> {
 }
 
 /// Whether a piece is a command.
-fn is_command(alloc: Global, piece: &Piece) -> bool {
+fn is_command(alloc: Global, piece: &Piece<'_>) -> bool {
     let Piece::Cmd(bytes) = piece else {
         return false;
     };

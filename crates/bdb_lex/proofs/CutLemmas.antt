@@ -49,11 +49,6 @@ pub leads_byte : (m : Mode) (p : Piece) (h : Bool) (b : ℕ) (bytes : List ℕ) 
     → Leads (state_of m p h) (b ∷ bytes) (state_of (next_mode m b) (longer p b) (h || shows m b)) bytes
 leads_byte m p h b bytes e = record { pieces = rw e refl; state = rw e refl }
 
--- and so it goes on from run to run
-pub leads_on : (s now : CutState) (bytes rest : List ℕ) (then : CutState) (after : List ℕ)
-    → Leads s bytes now rest → Leads now rest then after → Leads s bytes then after
-leads_on s now bytes rest then after a b = record { pieces = a.pieces ∙ b.pieces; state = a.state ∙ b.state }
-
 -- a run with a byte more, and whether it holds something then
 pub runs_more : (m : Mode) (h : Bool) (bytes : List ℕ) (r : Run) (something : Bool) → r.len < length bytes
     → IfSome (slice_get bytes r.len) (λ b. is_end r.mode b ≡ false) → something ≡ (r.holds || shows r.mode (get_or bytes r.len 0))
@@ -123,13 +118,6 @@ runs_quiet m h bytes behind r n something is q holds before p =
       state = so_far.state ∙ (ap (state_after (state_of r.mode (longer_by p (take r.len bytes)) r.holds)) cut ∙ step.state);
     }
 
--- a byte that ends a piece cuts it off
-pub cut_pieces : (s : CutState) (b : ℕ) (bytes : List ℕ) → is_end s.mode b ≡ true → pieces_from s (b ∷ bytes) ≡ s.piece ∷ pieces_from start bytes
-cut_pieces s b bytes e = rw e refl
-
-pub cut_state : (s : CutState) (b : ℕ) (bytes : List ℕ) → is_end s.mode b ≡ true → state_after s (b ∷ bytes) ≡ state_after start bytes
-cut_state s b bytes e = rw e refl
-
 -- the piece of a long flag and of bytes that are kept
 pub kept_fits : (p : Piece) (is_long : Bool) (old new run : List ℕ) → is_long ≡ false → cond is_long Long (Cmd old) ≡ p → new ≡ old ++ run
     → length old + length run ≤ 65536 → cond is_long Long (Cmd new) ≡ longer_by p run
@@ -148,6 +136,10 @@ pub kept_long : (p : Piece) (is_long : Bool) (old run : List ℕ) → is_long �
 kept_long p is_long old run long is_p =
     let was : p ≡ Long = sym is_p ∙ cond-true _ _ _ long in
     was ∙ (sym (longer_by-long run) ∙ ap (λ q. longer_by q run) (sym was))
+
+-- a piece that had no byte is the bytes behind it
+pub whole_piece : (p : Piece) (run : List ℕ) → p ≡ Cmd [] → length run ≤ longest_command → Cmd run ≡ longer_by p run
+whole_piece p run none fits = sym (longer_by-fits [] run (omega arith)) ∙ ap (λ q. longer_by q run) (sym none)
 
 -- a piece of few bytes is short, and so is a long one
 pub kept_short : (is_long : Bool) (bytes : List ℕ) → length bytes ≤ longest_command → is_short (cond is_long Long (Cmd bytes)) ≡ true

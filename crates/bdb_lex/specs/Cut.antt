@@ -105,6 +105,11 @@ abbrev pub rest_of : Bool → Rest
 rest_of true = Unfinished
 rest_of false = Nothing
 
+-- from a state over these bytes, the piece ends first, and then those of the rest
+pub record EndsFirst (s : CutState) (bytes : List ℕ) (piece : Piece) (rest : List ℕ) : Type 0 where
+  pub pieces : pieces_from s bytes ≡ piece ∷ pieces_from start rest
+  pub state : state_after s bytes ≡ state_after start rest
+
 -- the list is the other with more behind it
 pub record IsFront {X : Type 0} (front all : List X) : Type 0 where
   pub rest : List X

@@ -1,11 +1,11 @@
 // Cutting a script into pieces.
-ghost use Rattle.std.specs.Prelude.{◌≡◌, ◌≤◌, true, false, [], ◌∷◌, ◌++◌, length, IfOk, OnOk, OnErr};
-ghost use Rattle.bdb_lex.specs.Cut.{start, ready, pieces_from, state_after, holds_something, rest_of, GrewByFront};
-ghost use Rattle.bdb_lex.specs.Runs.{IsAtEnd, Leads};
+ghost use Rattle.std.specs.Prelude.{◌≡◌, ◌<◌, true, false, [], ◌++◌, length, IfOk, IfSome, IfNone, OnOk, OnErr};
+ghost use Rattle.bdb_lex.specs.Cut.{start, ready, pieces_from, state_after, holds_something, rest_of, EndsFirst, GrewByFront};
+ghost use Rattle.bdb_lex.specs.Runs.{longer_by, state_of};
 
 use crate::growing::Growing;
 use crate::mode::Mode;
-use crate::run::run_of;
+use crate::run::{Run, run_of};
 use crate::token::{Piece, Rest};
 use bdb_base::List;
 use std::alloc::{AllocError, Global};
@@ -52,13 +52,74 @@ impl Cutter {
         self.is_spent
     }
 
-    /// Takes the next block of the script, and adds each piece that ends in it. The only error is want of memory: a front of
-    /// these pieces was added, whole and in order, and the cutter is spent.
-    pub fn feed(
+    /// Takes the bytes of a block up to the first semicolon that ends a piece, and gives that piece and the bytes behind it;
+    /// all of them, where none ends there. A piece that began in the block is borrowed from it. The only error is want of
+    /// memory, and the cutter is spent then.
+    pub fn next_piece<'a>(
         &mut self,
         alloc: Global,
-        bytes: &[u8],
-        out: &mut List<Piece>,
+        bytes: &'a [u8],
+    ) -> Result<Option<(Piece<'a>, &'a [u8])>, AllocError>
+        requires ready { self.old.is_spent ≡ false }
+        ensures some { IfOk result (λ next. IfSome next (λ found. EndsFirst self.old.state bytes.now found.0 found.1.now)) }
+        ensures start { IfOk result (λ next. IfSome next (λ _. self.new ≡ ready start)) }
+        ensures shorter { IfOk result (λ next. IfSome next (λ found. length found.1.now < length bytes.now)) }
+        ensures none { IfOk result (λ next. IfNone next (pieces_from self.old.state bytes.now ≡ [])) }
+        ensures state { IfOk result (λ next. IfNone next (self.new ≡ ready (state_after self.old.state bytes.now))) }
+        ensures spent { OnErr result (self.new.is_spent ≡ true) }
+    {
+        let run = run_of(self.mode, self.holds, bytes);
+        let (last, behind) = bytes.split_at(run.len);
+        match behind {
+            [] => match self.keep(last, run) {
+                Ok(()) => Ok(None),
+                Err(_) => Err(self.spend()),
+            },
+            [_, others @ ..] => match self.end(alloc, last) {
+                Ok(piece) => Ok(Some((piece, others))),
+                Err(_) => Err(self.spend()),
+            },
+        }
+    }
+
+    /// Keeps the bytes of a run, in which no piece ends.
+    fn keep(&mut self, bytes: &[u8], run: Run) -> Result<(), AllocError>
+        ensures state { OnOk result (self.new.state ≡ state_of run.mode (longer_by self.old.state.piece bytes.now) run.holds) }
+        ensures spent { self.new.is_spent ≡ self.old.is_spent }
+    {
+        self.piece.extend(bytes)?;
+        self.mode = run.mode;
+        self.holds = run.holds;
+        Ok(())
+    }
+
+    /// Ends the piece with these bytes, and begins another.
+    fn end<'a>(&mut self, alloc: Global, last: &'a [u8]) -> Result<Piece<'a>, AllocError>
+        ensures piece { IfOk result (λ piece. piece ≡ longer_by self.old.state.piece last.now) }
+        ensures start { OnOk result (self.new.state ≡ start) }
+        ensures spent { self.new.is_spent ≡ self.old.is_spent }
+    {
+        let piece = self.piece.end(alloc, last)?;
+        self.mode = Mode::Plain;
+        self.holds = false;
+        Ok(piece)
+    }
+
+    /// Spends the cutter for want of memory.
+    fn spend(&mut self) -> AllocError
+        ensures { self.new.is_spent ≡ true }
+    {
+        self.is_spent = true;
+        AllocError
+    }
+
+    /// Takes the next block of the script, and adds each piece that ends in it. The only error is want of memory: a front of
+    /// these pieces was added, whole and in order, and the cutter is spent.
+    pub fn feed<'a>(
+        &mut self,
+        alloc: Global,
+        bytes: &'a [u8],
+        out: &mut List<Piece<'a>>,
     ) -> Result<(), AllocError>
         requires ready { self.old.is_spent ≡ false }
         ensures pieces { OnOk result (out.new ≡ out.old ++ pieces_from self.old.state bytes.now) }
@@ -66,66 +127,17 @@ impl Cutter {
         ensures front { OnErr result (GrewByFront out.old out.new (pieces_from self.old.state bytes.now)) }
         ensures spent { OnErr result (self.new.is_spent ≡ true) }
     {
-        match self.feed_runs(alloc, bytes, out) {
-            Ok(()) => Ok(()),
-            Err(stop) => {
-                self.is_spent = true;
-                Err(stop)
-            }
-        }
-    }
-
-    /// Takes the bytes run by run, and adds each piece that ends in them.
-    fn feed_runs(
-        &mut self,
-        alloc: Global,
-        bytes: &[u8],
-        out: &mut List<Piece>,
-    ) -> Result<(), AllocError>
-        ensures pieces { OnOk result (out.new ≡ out.old ++ pieces_from self.old.state bytes.now) }
-        ensures state { OnOk result (self.new.state ≡ state_after self.old.state bytes.now) }
-        ensures spent { OnOk result (self.new.is_spent ≡ self.old.is_spent) }
-        ensures front { OnErr result (GrewByFront out.old out.new (pieces_from self.old.state bytes.now)) }
-    {
         let mut rest = bytes;
         loop {
-            rest = self.take_run(rest)?;
-            match rest {
-                [] => return Ok(()),
-                [_, others @ ..] => {
-                    self.cut(alloc, out)?;
-                    rest = others;
-                }
+            match self.next_piece(alloc, rest) {
+                Ok(None) => return Ok(()),
+                Ok(Some((piece, others))) => match out.push(piece) {
+                    Ok(()) => rest = others,
+                    Err(_) => return Err(self.spend()),
+                },
+                Err(stop) => return Err(stop),
             }
         }
-    }
-
-    /// Takes the bytes up to the next end, and gives those from there on.
-    fn take_run<'a>(&mut self, bytes: &'a [u8]) -> Result<&'a [u8], AllocError>
-        ensures leads { IfOk result (λ after. Leads self.old.state bytes.now self.new.state after.now) }
-        ensures at_end { IfOk result (λ after. IsAtEnd self.new.state.mode after.now) }
-        ensures shorter { IfOk result (λ after. length after.now ≤ length bytes.now) }
-        ensures spent { self.new.is_spent ≡ self.old.is_spent }
-    {
-        let run = run_of(self.mode, self.holds, bytes);
-        let (part, after) = bytes.split_at(run.len);
-        self.piece.extend(part)?;
-        self.mode = run.mode;
-        self.holds = run.holds;
-        Ok(after)
-    }
-
-    /// Ends the piece. After a refusal no piece was added.
-    fn cut(&mut self, alloc: Global, out: &mut List<Piece>) -> Result<(), AllocError>
-        ensures ok { OnOk result (out.new ≡ out.old ++ self.old.state.piece ∷ []) }
-        ensures start { OnOk result (self.new.state ≡ start) }
-        ensures spent { self.new.is_spent ≡ self.old.is_spent }
-        ensures err { OnErr result (out.new ≡ out.old) }
-    {
-        let piece = self.piece.take(alloc);
-        self.mode = Mode::Plain;
-        self.holds = false;
-        out.push(piece)
     }
 
     /// Ends the script: `Unfinished` exactly where something stands behind the last cut outside blanks and comments.

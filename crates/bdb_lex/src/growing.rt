@@ -1,10 +1,10 @@
 // The piece that is being read.
-ghost use Rattle.std.specs.Prelude.{◌≡◌, true, [], OnOk};
+ghost use Rattle.std.specs.Prelude.{◌≡◌, true, [], IfOk, OnOk};
 ghost use Rattle.bdb_lex.specs.Cut.{is_short};
 ghost use Rattle.bdb_lex.specs.Runs.{longer_by};
 
+use crate::piece_bytes::PieceBytes;
 use crate::token::Piece;
-use bdb_base::List;
 use bdb_base::limits::LONGEST_COMMAND;
 use std::alloc::{AllocError, Global};
 use std::marker::Model;
@@ -60,8 +60,30 @@ impl Growing {
         Ok(())
     }
 
+    /// Whether the piece has no byte.
+    fn is_empty(&self) -> bool
+        ensures { result ≡ true → self.now ≡ Piece.Cmd [] }
+    {
+        !self.is_long && self.bytes.is_empty()
+    }
+
+    /// Ends the piece with these bytes, and begins another. Where it has no others they are borrowed. The only error is want
+    /// of memory.
+    #[tactic(auto, using(crate::proofs::CutLemmas::whole_piece))]
+    pub fn end<'a>(&mut self, alloc: Global, last: &'a [u8]) -> Result<Piece<'a>, AllocError>
+        ensures piece { IfOk result (λ piece. piece ≡ longer_by self.old last.now) }
+        ensures rest { OnOk result (self.new ≡ Piece.Cmd []) }
+        ensures short { is_short self.new ≡ true }
+    {
+        if self.is_empty() && last.len() <= LONGEST_COMMAND {
+            return Ok(Piece::Cmd(PieceBytes::borrowed(last)));
+        }
+        self.extend(last)?;
+        Ok(self.take(alloc))
+    }
+
     /// Ends the piece, and begins another.
-    pub fn take(&mut self, alloc: Global) -> Piece
+    fn take<'a>(&mut self, alloc: Global) -> Piece<'a>
         ensures value { result ≡ self.old }
         ensures rest { self.new ≡ Piece.Cmd [] }
     {
@@ -70,7 +92,7 @@ impl Growing {
             self.is_long = false;
             Piece::Long
         } else {
-            Piece::Cmd(List::from_vec(bytes))
+            Piece::Cmd(PieceBytes::owned(bytes))
         }
     }
 }

@@ -8,6 +8,7 @@ mod gap;
 mod growing;
 mod mark;
 mod mode;
+mod piece_bytes;
 mod quoted;
 mod reader;
 mod run;
@@ -24,6 +25,7 @@ pub use cut_laws::{
     pieces_come_in_parts, rest_is_of_spans, spans_are_one_list, states_come_in_parts,
 };
 pub use mode::Mode;
+pub use piece_bytes::PieceBytes;
 pub use reader::tokens;
 pub use token::{LexError, Piece, Rest, Token};
 pub use token_laws::{tokens_are_formed, tokens_are_spelled};

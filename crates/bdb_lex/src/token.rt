@@ -1,8 +1,9 @@
 // Pieces and tokens.
 ghost use Rattle.std.specs.Prelude.{◌≡◌, IfOk};
 
+use crate::piece_bytes::PieceBytes;
 use crate::token_text::TokenText;
-use bdb_base::{Exact, List};
+use bdb_base::Exact;
 use std::alloc::{AllocError, Global};
 use thiserror::Error;
 
@@ -29,9 +30,9 @@ pub enum Token<'a> {
 
 /// A piece of a script, which ended with a semicolon.
 #[derive(Drop)]
-pub enum Piece {
+pub enum Piece<'a> {
     /// A piece of at most `LONGEST_COMMAND` bytes, without the semicolon.
-    Cmd(List<u8>),
+    Cmd(PieceBytes<'a>),
     /// A longer piece.
     Long,
 }
@@ -87,7 +88,7 @@ impl<'a> Exact for Token<'a> {
     }
 }
 
-impl Exact for Piece {
+impl<'a> Exact for Piece<'a> {
     fn try_clone(&self, alloc: Global) -> Result<Self, AllocError> {
         match self {
             Piece::Cmd(bytes) => Ok(Piece::Cmd(bytes.try_clone(alloc)?)),

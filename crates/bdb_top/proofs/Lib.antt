@@ -6,3 +6,4 @@ pub mod EmptyLemmas
 pub mod GeneratedLemmas
 pub mod TallyLemmas
 pub mod AnswerLemmas
+pub mod BlockLemmas

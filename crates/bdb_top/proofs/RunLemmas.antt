@@ -1,7 +1,7 @@
 -- The steps of a run over events.
 use Rattle.std.proofs.Common.{◌≡◌, ◌∙◌, ℕ, ◌+◌, ◌≤◌, Bool, true, false, ◌&&◌, List, [], ◌∷◌, ◌++◌, take, drop, length, get_or, Option, Some, None, Result, Ok, Err, refl, ap, sym, subst, append_assoc, arith}
 use Rattle.std.specs.Io.KnownBytes.{Appends}
-use Rattle.std.proofs.lemmas.List.{take_more, drop_more, take-append-drop}
+use Rattle.std.proofs.lemmas.List.{drop_more}
 use Rattle.bdb_base.specs.Causes.{Rises}
 use Rattle.bdb_keep.specs.Seen.{Seen, NeverFall}
 use Rattle.bdb_session.specs.declared.event.Event.{Event}
@@ -67,15 +67,9 @@ rises_on m n k a b c is h i below =
     let first = h (omega arith) in
     omega arith
 
--- the front with one more event
-pub front_step : (xs : List Event) (i : ℕ) (e : Event) → i + 1 ≤ length xs → e ≡ get_or xs i e → take (i + 1) xs ≡ take i xs ++ e ∷ []
-front_step xs i e below is = take_more xs i e (omega arith) ∙ ap (λ x. take i xs ++ x ∷ []) (sym is)
-
+-- the first of the events that are left
 pub left_step : (xs : List Event) (i : ℕ) (e : Event) → i + 1 ≤ length xs → e ≡ get_or xs i e → drop i xs ≡ e ∷ drop (i + 1) xs
 left_step xs i e below is = drop_more xs i e (omega arith) ∙ ap (λ x. x ∷ drop (i + 1) xs) (sym is)
-
-pub front_split : (xs : List Event) (i : ℕ) (e : Event) → i + 1 ≤ length xs → e ≡ get_or xs i e → xs ≡ take i xs ++ (e ∷ drop (i + 1) xs)
-front_split xs i e below is = sym (take-append-drop (i + 1) xs) ∙ ap (λ (l : List Event). l ++ drop (i + 1) xs) (front_step xs i e below is) ∙ append_assoc (take i xs) (e ∷ []) (drop (i + 1) xs)
 
 -- more events were carried out
 pub carried_on : (b : State) (xs ys zs : List Event) (now next : Known) (first mid last : Seen) → zs ≡ xs ++ ys

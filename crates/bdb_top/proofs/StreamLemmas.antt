@@ -114,7 +114,7 @@ wrote s done old new Large w = (replies s done, w)
 answered_all : (s : State) (xs more : List Event) (text : List ℕ) (old middle new : Option (List ℕ)) → Appends old middle (replies s xs) → Appends middle new text → AreAnswered s xs (xs ++ more) old new
 answered_all s xs more text old middle new h k = record { first = (more, refl); replied = (text, grows_on old middle new (replies s xs) text h k) }
 
-nothing_grows : (a : Option (List ℕ)) → Appends a a []
+pub nothing_grows : (a : Option (List ℕ)) → Appends a a []
 nothing_grows None = tt
 nothing_grows (Some s) = sym (append-nil s)
 

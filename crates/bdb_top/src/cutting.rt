@@ -8,22 +8,22 @@ use bdb_session::Event;
 use std::alloc::{AllocError, Global};
 
 /// The events of pieces.
-pub fn events_from(alloc: Global, pieces: List<Piece>) -> Result<Vec<Event>, AllocError>
-    ensures { IfOk result (λ events. events.items ≡ map event_of pieces) }
+pub fn events_from(alloc: Global, pieces: &[Piece<'_>]) -> Result<Vec<Event>, AllocError>
+    ensures { IfOk result (λ events. events.items ≡ map event_of pieces.now) }
 {
     let mut events = Vec::new(alloc);
-    for piece in pieces.into_vec() {
-        events.push(event_from(piece))?;
+    for piece in pieces {
+        events.push(event_from(alloc, piece)?)?;
     }
     Ok(events)
 }
 
 /// What a piece asks for.
-fn event_from(piece: Piece) -> Event
-    ensures { result ≡ event_of piece }
+fn event_from(alloc: Global, piece: &Piece<'_>) -> Result<Event, AllocError>
+    ensures { IfOk result (λ event. event ≡ event_of piece.now) }
 {
     match piece {
-        Piece::Cmd(bytes) => Event::Piece(bytes),
-        Piece::Long => Event::Long,
+        Piece::Cmd(bytes) => Ok(Event::Piece(List::from_vec(bytes.as_slice().to_vec(alloc)?))),
+        Piece::Long => Ok(Event::Long),
     }
 }

@@ -50,7 +50,7 @@ fn events_of_script(alloc: Global, script: &[u8]) -> Result<Vec<Event>, AllocErr
     let mut cutter = Cutter::new(alloc);
     let mut pieces = List::new(alloc);
     cutter.feed(alloc, script, &mut pieces)?;
-    let mut events = events_from(alloc, pieces)?;
+    let mut events = events_from(alloc, pieces.as_slice())?;
     match cutter.finish() {
         Rest::Nothing => {}
         Rest::Unfinished => events.push(Event::Unfinished)?,

@@ -11,10 +11,8 @@ ghost use Rattle.bdb_session.specs.Runs.{event_of, rest_events};
 ghost use Rattle.bdb_top.specs.Ran.{Ends, Streams};
 ghost use Rattle.bdb_top.specs.Streams.{longest_read};
 
-use crate::answers::{answer, carry_out};
-use crate::cutting::events_from;
+use crate::answers::{answer, answer_piece};
 use crate::stop::Stop;
-use bdb_base::List;
 use bdb_base::limits::{LONGEST_COMMAND, LONGEST_SCRIPT};
 use bdb_io::{Failed, Sink, Source};
 use bdb_keep::Keeper;
@@ -88,7 +86,7 @@ fn size_of_read(room: usize) -> usize
     if room == 0 { 1 } else { room.min(BLOCK) }
 }
 
-/// Answers the pieces that end in a block of bytes.
+/// Answers the pieces that end in a block of bytes, each as soon as it is cut.
 fn answer_block<O: Sink, K: Keeper>(
     alloc: Global,
     cutter: &mut Cutter,
@@ -110,18 +108,20 @@ fn answer_block<O: Sink, K: Keeper>(
     ensures sink { IsErrOf result Stop.Sink → Rose (O.faults out.old) (O.faults out.new) }
     ensures others { OnErr result ((IsErrOf result Stop.Source → ⊥) × (IsErrOf result Stop.Large → ⊥)) }
 {
-    let mut pieces = List::new(alloc);
-    match cutter.feed(alloc, block, &mut pieces) {
-        Ok(()) => {}
-        Err(_) => return Err(Stop::Memory),
-    }
-    let events = match events_from(alloc, pieces) {
-        Ok(events) => events,
-        Err(_) => return Err(Stop::Memory),
-    };
-    match carry_out(session, keeper, out, events.as_slice()) {
-        Ok(accepted) => Ok(accepted),
-        Err(stop) => Err(stop),
+    let mut rest = block;
+    let mut accepted = true;
+    loop {
+        match cutter.next_piece(alloc, rest) {
+            Ok(Some((piece, others))) => match answer_piece(session, keeper, out, &piece) {
+                Ok(fine) => {
+                    accepted &= fine;
+                    rest = others;
+                }
+                Err(stop) => return Err(stop),
+            },
+            Ok(None) => return Ok(accepted),
+            Err(_) => return Err(Stop::Memory),
+        }
     }
 }
 

@@ -1,0 +1,120 @@
+// The words of a command line, and generated scripts.
+use crate::job_of;
+use crate::tests::{listed, ran_from};
+use bdb_base::{List, Txt};
+use bdb_io::{MemSink, MemSource};
+use std::alloc::Global;
+use std::test::Fail;
+
+#[test]
+fn words_name_jobs(rt: HostRuntime) -> Result<(), Fail> {
+    let alloc = rt.alloc();
+    let cases = [
+        ("run", true),
+        ("run --script a", true),
+        ("", false),
+        ("run --script", false),
+        ("run --script -a", false),
+        ("run --script=a", false),
+        ("run --script a --script b", false),
+        ("run --db a", false),
+        ("run --help", false),
+        ("check", false),
+        ("gen --seed x --size 1", false),
+        ("gen --seed 1", false),
+        ("gen --seed 1 --seed 1", false),
+        ("gen --seed 1 --size 10001", false),
+        ("gen --seed 18446744073709551616 --size 1", false),
+        ("gen --seed 000000000000000000001 --size 1", false),
+        ("gen --seed 1 --size 1 --seed 1", false),
+        ("Run", false),
+    ];
+    for (line, is_job) in cases {
+        let words = words_of(alloc, line)?;
+        assert_eq!(rt; job_of(alloc, words.as_slice()).is_ok(), is_job, "{line}");
+        let (status, out) = ran_words(alloc, line)?;
+        assert_eq!(rt; status, if is_job { 3 } else { 2 }, "{line}");
+        assert_eq!(rt; out.bytes().len(), 0, "{line}");
+    }
+    Ok(())
+}
+
+/// The words of a line.
+fn words_of(alloc: Global, line: &str) -> Result<List<Txt>, Fail> {
+    let mut words = List::new(alloc);
+    for word in line.split_whitespace() {
+        words.push(Txt::try_new(alloc, word)?)?;
+    }
+    Ok(words)
+}
+
+/// The status of the words of a line over a source that fails at its first read, and what is written.
+fn ran_words(alloc: Global, line: &str) -> Result<(u8, MemSink), Fail> {
+    let words = words_of(alloc, line)?;
+    let script = Vec::from_slice(alloc, b"create user 'A';")?;
+    let source = MemSource::new(script, 1, listed(alloc, &[1])?);
+    ran_from(alloc, words.as_slice(), source)
+}
+
+#[test]
+fn generated_scripts_are_told_of(rt: HostRuntime) -> Result<(), Fail> {
+    let alloc = rt.alloc();
+    let cases = [
+        (
+            "gen --seed 7 --size 0",
+            "accepted 9\nrefused 0\nworlds 1\nrows 0\nanswers 0\n",
+        ),
+        (
+            "gen --seed 0 --size 1",
+            "accepted 10\nrefused 0\nworlds 1\nrows 0\nanswers 0\n",
+        ),
+        (
+            "gen --size 1 --seed 1",
+            "accepted 10\nrefused 0\nworlds 1\nrows 1\nanswers 0\n",
+        ),
+        (
+            "gen --seed 18446744073709551615 --size 00000000000000000000",
+            "accepted 9\nrefused 0\nworlds 1\nrows 0\nanswers 0\n",
+        ),
+    ];
+    for (line, summary) in cases {
+        let (status, out) = ran_words(alloc, line)?;
+        assert_eq!(rt; status, 0, "{line}");
+        assert_eq!(rt; out.bytes(), summary.as_bytes(), "{line}");
+    }
+    let (status, first) = ran_words(alloc, "gen --seed 3 --size 200")?;
+    assert_eq!(rt; status, 0);
+    let (status, next) = ran_words(alloc, "gen --size 200 --seed 3")?;
+    assert_eq!(rt; status, 0);
+    assert_eq!(rt; first.bytes(), next.bytes());
+    Ok(())
+}
+
+/// The number that stands at a place among these words.
+fn number_at(words: &[Txt], at: usize) -> Option<u64> {
+    words.get(at)?.as_str().parse::<u64>().ok()
+}
+
+/// How many commands a summary tells of, accepted or refused.
+fn commands_told_of(alloc: Global, summary: &[u8]) -> Result<Option<u64>, Fail> {
+    let words = words_of(alloc, std::str::from_utf8(summary)?)?;
+    match (
+        number_at(words.as_slice(), 1),
+        number_at(words.as_slice(), 3),
+    ) {
+        (Some(accepted), Some(refused)) => Ok(accepted.checked_add(refused)),
+        _ => Ok(None),
+    }
+}
+
+#[test]
+fn the_largest_generated_script_is_told_of(rt: HostRuntime) -> Result<(), Fail> {
+    let alloc = rt.alloc();
+    let (status, first) = ran_words(alloc, "gen --seed 7 --size 10000")?;
+    assert_eq!(rt; status, 0);
+    assert_eq!(rt; commands_told_of(alloc, first.bytes())?, Some(10_009));
+    let (status, next) = ran_words(alloc, "gen --seed 7 --size 10000")?;
+    assert_eq!(rt; status, 0);
+    assert_eq!(rt; first.bytes(), next.bytes());
+    Ok(())
+}
