@@ -45,8 +45,8 @@ pub fn bind(alloc: Global, catalog: &Catalog, command: &Command) -> Result<Bound
     }
 }
 
-/// The same of a command that is given up, whose values are moved; and where an index tells where names stand: that of the
-/// catalog makes it fast, whatever the catalog's size.
+/// The same of a command that is given up, whose texts are moved, but for those of a query; and where an index tells where
+/// names stand: that of the catalog makes it fast, whatever the catalog's size.
 pub fn bind_by(
     alloc: Global,
     catalog: &Catalog,
@@ -64,7 +64,7 @@ pub fn bind_by(
     }
 }
 
-/// Binds a command, whose values may be taken out of it.
+/// Binds a command, whose texts may be taken out of it.
 #[tactic(auto, using(crate::proofs::RefusalLemmas::select_refusal, crate::proofs::RefusalLemmas::explain_refusal, crate::proofs::RefusalLemmas::text_refused, crate::proofs::RefusalLemmas::change_refusal))]
 fn bind_taking(
     alloc: Global,

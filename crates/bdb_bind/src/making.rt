@@ -13,8 +13,8 @@ use crate::bound::Bound;
 use crate::found::Found;
 use crate::lookup::{column_at, number_of, uid_of};
 use bdb_base::{
-    Catalog, ColDef, Cond, Exact, List, Operand, Path, PathError, Ref, RelDef, SetCol, Sign, Stmt,
-    Tuple, Txt, Value,
+    Catalog, ColDef, Cond, List, Operand, Path, PathError, Ref, RelDef, SetCol, Sign, Stmt, Tuple,
+    Txt, Value,
 };
 use bdb_syntax::{Command, RawCond, RawSet, RawSide};
 use std::alloc::{AllocError, Global};
@@ -87,57 +87,63 @@ fn place_of(cols: &[ColDef], name: &Txt) -> u32
     }
 }
 
-fn bound_side(alloc: Global, cols: &[ColDef], side: &RawSide) -> Result<Operand, AllocError>
+fn bound_side(cols: &[ColDef], side: RawSide) -> Operand
     requires { length cols.now ≤ most_columns }
-    ensures { IfOk result (λ b. b ≡ bound_side cols.now side.now) }
+    ensures { result ≡ bound_side cols.now side }
 {
     match side {
-        RawSide::Col(right) => Ok(Operand::Col(bound_column(cols, &right.col))),
-        RawSide::Lit(value) => Ok(Operand::Lit(value.try_clone(alloc)?)),
+        RawSide::Col(right) => Operand::Col(bound_column(cols, &right.col)),
+        RawSide::Lit(value) => Operand::Lit(value),
     }
 }
 
-fn bound_cond(alloc: Global, cols: &[ColDef], cond: &RawCond) -> Result<Cond, AllocError>
+fn bound_cond(cols: &[ColDef], cond: RawCond) -> Cond
     requires { length cols.now ≤ most_columns }
-    ensures { IfOk result (λ b. b ≡ bound_cond cols.now cond.now) }
+    ensures { result ≡ bound_cond cols.now cond }
 {
-    let right = bound_side(alloc, cols, &cond.right)?;
-    Ok(Cond {
+    Cond {
         left: bound_column(cols, &cond.left.col),
         cmp: cond.cmp,
-        right,
-    })
+        right: bound_side(cols, cond.right),
+    }
 }
 
-fn bound_conds(alloc: Global, cols: &[ColDef], conds: &[RawCond]) -> Result<List<Cond>, AllocError>
+fn bound_conds(
+    alloc: Global,
+    cols: &[ColDef],
+    conds: List<RawCond>,
+) -> Result<List<Cond>, AllocError>
     requires { length cols.now ≤ most_columns }
-    ensures { IfOk result (λ b. b ≡ map (bound_cond cols.now) conds.now) }
+    ensures { IfOk result (λ b. b ≡ map (bound_cond cols.now) conds) }
 {
     let mut bound = List::new(alloc);
-    for cond in conds {
-        bound.push(bound_cond(alloc, cols, cond)?)?;
+    for cond in conds.into_vec() {
+        bound.push(bound_cond(cols, cond))?;
     }
     Ok(bound)
 }
 
-fn bound_set(alloc: Global, cols: &[ColDef], set: &RawSet) -> Result<SetCol, AllocError>
+fn bound_set(cols: &[ColDef], set: RawSet) -> SetCol
     requires { length cols.now ≤ most_columns }
-    ensures { IfOk result (λ b. b ≡ bound_set cols.now set.now) }
+    ensures { result ≡ bound_set cols.now set }
 {
-    let to = set.to.try_clone(alloc)?;
-    Ok(SetCol {
+    SetCol {
         col: place_of(cols, &set.col),
-        to,
-    })
+        to: set.to,
+    }
 }
 
-fn bound_sets(alloc: Global, cols: &[ColDef], sets: &[RawSet]) -> Result<List<SetCol>, AllocError>
+fn bound_sets(
+    alloc: Global,
+    cols: &[ColDef],
+    sets: List<RawSet>,
+) -> Result<List<SetCol>, AllocError>
     requires { length cols.now ≤ most_columns }
-    ensures { IfOk result (λ b. b ≡ map (bound_set cols.now) sets.now) }
+    ensures { IfOk result (λ b. b ≡ map (bound_set cols.now) sets) }
 {
     let mut bound = List::new(alloc);
-    for set in sets {
-        bound.push(bound_set(alloc, cols, set)?)?;
+    for set in sets.into_vec() {
+        bound.push(bound_set(cols, set))?;
     }
     Ok(bound)
 }
@@ -167,11 +173,11 @@ fn bound_delete(
     sign: Sign,
     rel: u32,
     cols: &[ColDef],
-    conds: &[RawCond],
+    conds: List<RawCond>,
 ) -> Result<Bound, AllocError>
     requires alternates { alternates ids.now ≡ true }
     requires few { length cols.now ≤ most_columns }
-    ensures { IfOk result (λ b. b ≡ Bound.Delete ids.now sign rel (map (bound_cond cols.now) conds.now)) }
+    ensures { IfOk result (λ b. b ≡ Bound.Delete ids.now sign rel (map (bound_cond cols.now) conds)) }
 {
     let path = path_of(alloc, ids)?;
     let conds = bound_conds(alloc, cols, conds)?;
@@ -190,12 +196,12 @@ fn bound_update(
     sign: Sign,
     rel: u32,
     cols: &[ColDef],
-    sets: &[RawSet],
-    conds: &[RawCond],
+    sets: List<RawSet>,
+    conds: List<RawCond>,
 ) -> Result<Bound, AllocError>
     requires alternates { alternates ids.now ≡ true }
     requires few { length cols.now ≤ most_columns }
-    ensures { IfOk result (λ b. b ≡ Bound.Update ids.now sign rel (map (bound_set cols.now) sets.now) (map (bound_cond cols.now) conds.now)) }
+    ensures { IfOk result (λ b. b ≡ Bound.Update ids.now sign rel (map (bound_set cols.now) sets) (map (bound_cond cols.now) conds)) }
 {
     let path = path_of(alloc, ids)?;
     let sets = bound_sets(alloc, cols, sets)?;
@@ -209,12 +215,33 @@ fn bound_update(
     })
 }
 
-/// The new relation.
-fn bound_relation(alloc: Global, name: &Txt, cols: &List<ColDef>) -> Result<Bound, AllocError>
-    ensures { IfOk result (λ b. b ≡ Bound.CreateRelation (record { name = name.now; cols = cols.now })) }
+/// Takes a text out of its place, and leaves an empty one there.
+fn take_text(alloc: Global, place: &mut Txt) -> Result<Txt, AllocError>
+    ensures { IfOk result (λ text. text ≡ place.old) }
 {
-    let name = name.try_clone(alloc)?;
-    let cols = cols.try_clone(alloc)?;
+    let empty = Txt::try_new(alloc, "")?;
+    let text = mem::replace(place, empty);
+    Ok(text)
+}
+
+/// The new user.
+fn bound_user(alloc: Global, name: &mut Txt) -> Result<Bound, AllocError>
+    ensures { IfOk result (λ b. b ≡ Bound.CreateUser name.old) }
+{
+    let name = take_text(alloc, name)?;
+    Ok(Bound::CreateUser { name })
+}
+
+/// The new relation.
+fn bound_relation(
+    alloc: Global,
+    name: &mut Txt,
+    cols: &mut List<ColDef>,
+) -> Result<Bound, AllocError>
+    ensures { IfOk result (λ b. b ≡ Bound.CreateRelation (record { name = name.old; cols = cols.old })) }
+{
+    let name = take_text(alloc, name)?;
+    let cols = mem::replace(cols, List::new(alloc));
     let def = RelDef { name, cols };
     Ok(Bound::CreateRelation { def })
 }
@@ -229,6 +256,7 @@ fn bound_world(alloc: Global, ids: &[u32]) -> Result<Bound, AllocError>
 }
 
 /// What a command that is no query and isn't refused is bound to, once its relation and the users of its path are found.
+/// Its texts are taken out of it.
 #[tactic(auto, using(crate::proofs::CatalogLemmas::place_few, crate::proofs::CatalogLemmas::change_columns_few, crate::proofs::CatalogLemmas::accepted_alternates))]
 pub fn bound_change(
     alloc: Global,
@@ -247,17 +275,15 @@ pub fn bound_change(
 {
     let (rel, cols) = (number_at(found.place), found.cols);
     match command {
-        Command::CreateUser { name } => {
-            let name = name.try_clone(alloc)?;
-            Ok(Bound::CreateUser { name })
-        }
+        Command::CreateUser { name } => bound_user(alloc, name),
         Command::CreateRelation { name, cols } => bound_relation(alloc, name, cols),
         Command::Insert { sign, vals, .. } => {
             let vals = mem::replace(vals, List::new(alloc));
             bound_insert(alloc, ids, *sign, rel, vals)
         }
         Command::Delete { sign, conds, .. } => {
-            bound_delete(alloc, ids, *sign, rel, cols, conds.as_slice())
+            let conds = mem::replace(conds, List::new(alloc));
+            bound_delete(alloc, ids, *sign, rel, cols, conds)
         }
         Command::Update {
             sign,
@@ -265,7 +291,8 @@ pub fn bound_change(
             conds,
             ..
         } => {
-            let (sets, conds) = (sets.as_slice(), conds.as_slice());
+            let sets = mem::replace(sets, List::new(alloc));
+            let conds = mem::replace(conds, List::new(alloc));
             bound_update(alloc, ids, *sign, rel, cols, sets, conds)
         }
         Command::Select { .. } => unreachable!(),

@@ -37,15 +37,11 @@ fn append_steps(
 ) -> Result<(), AllocError>
     ensures { OnOk result (out.new.items ≡ out.old.items ++ flat_map ended (map (step_text catalog.now query.now) steps.now)) }
 {
-    match steps {
-        [] => Ok(()),
-        [step, rest @ ..] => {
-            append_step(out, catalog, query, step)?;
-            out.push(b'\n')?;
-            append_steps(out, catalog, query, rest)?;
-            Ok(())
-        }
+    for step in steps {
+        append_step(out, catalog, query, step)?;
+        out.push(b'\n')?;
     }
+    Ok(())
 }
 
 // Appends a step: its word, and what it is about.

@@ -1,6 +1,6 @@
-use Rattle.std.proofs.Common.{◌≡◌, map, take}
+use Rattle.std.proofs.Common.{◌≡◌, map}
 use Rattle.bdb_bind.specs.Binding.{bound_cond}
 use Rattle.bdb_bind.proofs.making.bound_conds.Given as goal
 
 abbrev pub invariant-loop-cond : goal.invariant-loop-cond
-invariant-loop-cond l = l.bound ≡ map (bound_cond l.cols) (take l.cond-index l.conds)
+invariant-loop-cond l = l.bound ≡ map (bound_cond l.cols) l.yielded
