@@ -1,5 +1,5 @@
 -- How a transaction ends: it isn't begun, a step within it is refused, it isn't committed, or it is.
-use Rattle.std.proofs.Common.{◌≡◌, ◌∙◌, ℕ, ◌≤◌, Result, Ok, Err, refl, sym, ap, arith}
+use Rattle.std.proofs.Common.{◌≡◌, ◌∙◌, ℕ, ◌≤◌, Ok, Err, sym, ap, arith}
 use Rattle.bdb_base.specs.Causes.{Rose}
 use Rattle.bdb_keep.specs.Calls.{IsBegin, IsCommit}
 use Rattle.bdb_keep.specs.Seen.{Seen, IsStill, NeverFall, IsDropped, Unchanged, Steps}

@@ -68,7 +68,7 @@ module _ (k : Known) (before : Counts) (t u : Tables) (w : List ℕ) (sign : Sig
   pub left_is : (s : State) → Agrees t (sized k before) s → without_statements s.base.stmts gone ≡ without_taken w sign rel conds s.base.stmts
   left_is s a = ap (without_statements s.base.stmts) (gone_is s a) ∙ others_are_left (is_taken w sign rel conds) s.base.stmts a.base.valid.stmts.sorted
 
-  may_go : (s : State) → Agrees t (sized k before) s → MayGo u before gone s.base
+  pub may_go : (s : State) → Agrees t (sized k before) s → MayGo u before gone s.base
   may_go s a = record { base = stores_sized s a; stand = gone_stand s a; apart = gone_apart s a }
 
   pub some_may_go : AgreesOnSome t (sized k before) → SomeMayGo u before gone

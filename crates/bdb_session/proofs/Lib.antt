@@ -14,6 +14,7 @@ pub mod OutcomeLemmas
 pub mod QueryLemmas
 pub mod ReadLemmas
 pub mod ServedLemmas
+pub mod StepLemmas
 pub mod TablesLemmas
 pub mod TakenLemmas
 pub mod TellLemmas

@@ -7,9 +7,7 @@ use Rattle.std.proofs.lemmas.Bool.Decides.{nat_tests}
 use Prim.Native.Nat.{zero}
 use Rattle.bdb_base.specs.Bases.{Contents, IsValid, empty_contents}
 use Rattle.bdb_base.specs.Causes.{Rises}
-use Rattle.bdb_base.specs.declared.kinds.Catalog.{Catalog}
 use Rattle.bdb_base.specs.declared.kinds.RelDef.{RelDef}
-use Rattle.bdb_canon.specs.Sizes.{counts_of}
 use Rattle.bdb_canon.specs.declared.sizes.Counts.{Counts}
 use Rattle.bdb_catalog.specs.Bases.{StoresValid, StoresSome}
 use Rattle.bdb_catalog.specs.Opening.{StandForSome, HaveNoRow, HaveFormat, IsPartOf}

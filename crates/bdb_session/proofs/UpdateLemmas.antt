@@ -137,7 +137,7 @@ module _ (k : Known) (before : Counts) (t u : Tables) (w : List ℕ) (sign : Sig
   path_fits : fits_path k.catalog.users deepest_statement w ≡ true
   path_fits = update_path_fits k.catalog w sign rel sets conds fits
 
-  may_change : (s : State) → Agrees t (sized k before) s → MayChange u before w gone come s.base
+  pub may_change : (s : State) → Agrees t (sized k before) s → MayChange u before w gone come s.base
   may_change s a =
       let is = gone_is k before t u w sign rel conds gone path_fits taken same s a in
       let q = is_taken w sign rel conds in

@@ -4,14 +4,13 @@ use Rattle.std.specs.FinMap as tables
 use Rattle.std.specs.List.{AllByRecursion}
 use Rattle.std.proofs.lemmas.Bool.{cases_Bool, false≢true, MatchBool-at_true, MatchBool-at_false}
 use Rattle.bdb_base.specs.Bases.{belongs}
-use Rattle.bdb_base.specs.Changes.{is_taken}
+use Rattle.bdb_base.specs.Changes.{is_taken, taken_by}
 use Rattle.bdb_base.specs.Limits.{deepest_statement}
 use Rattle.bdb_base.specs.declared.kinds.Catalog.{Catalog}
 use Rattle.bdb_base.specs.declared.kinds.Cond.{Cond}
 use Rattle.bdb_base.specs.declared.kinds.Sign.{Sign}
 use Rattle.bdb_base.specs.declared.kinds.Stmt.{Stmt}
 use Rattle.bdb_bind.specs.Fits.{fits_path}
-use Rattle.bdb_bind.specs.declared.bound.Bound.TheVariants.{Delete}
 use Rattle.bdb_canon.specs.declared.sizes.Counts.{Counts}
 use Rattle.bdb_catalog.specs.Taking.{AreTaken}
 use Rattle.bdb_keep.specs.Calls.{IsBegin}
@@ -24,16 +23,15 @@ use Rattle.bdb_update.specs.Replacing.{WritesForOne}
 use Rattle.bdb_update.specs.declared.answer.UpdateError.{UpdateError}
 use Rattle.bdb_update.specs.declared.answer.UpdateError.TheVariants as change
 use Rattle.bdb_worlds.specs.Bounds.{RisesWithin}
-use Rattle.bdb_session.specs.Bounds.{RefusedUnwritten, WritesAsTold}
+use Rattle.bdb_session.specs.Bounds.{RefusedUnwritten}
 use Rattle.bdb_session.specs.declared.reply.Reply.{Reply}
 use Rattle.bdb_session.specs.declared.stop.StopError.{StopError}
 use Rattle.bdb_session.specs.declared.stop.StopError.TheVariants.{Fault, Memory}
 use Rattle.bdb_session.specs.Known.{Known, Agrees, AgreesOnSome}
-use Rattle.bdb_session.specs.Outcome.{Outcome, is_accepted}
+use Rattle.bdb_session.specs.Outcome.{State, Outcome, is_accepted}
 use Rattle.bdb_session.specs.Within.{IsSaid, IsStopped, Refuses, IsKept, IsUndone, Settles, sized}
 use Rattle.bdb_session.proofs.DeleteLemmas.{gone_is}
 use Rattle.bdb_session.proofs.InsertLemmas.{insert_meets}
-use Rattle.bdb_session.proofs.ServedLemmas.{still_agrees}
 use Rattle.bdb_session.proofs.TakenLemmas.{all_taken, only_one, taken_at}
 
 -- ---- what is written
@@ -45,7 +43,7 @@ nothing_written : (times more : ℕ) (old new : Seen) → new.writes ≡ old.wri
 nothing_written times more old new e = λ ps d. rises_none (times * length ps + more) old.writes new.writes e
 
 -- a bound from one keeper to another is one from a keeper with the rows and writes of the first to one with those of the second
-same_writes : (times more : ℕ) (old from to new : Seen) → from.kept ≡ old.kept → from.writes ≡ old.writes → new.kept ≡ to.kept → new.writes ≡ to.writes
+pub same_writes : (times more : ℕ) (old from to new : Seen) → from.kept ≡ old.kept → from.writes ≡ old.writes → new.kept ≡ to.kept → new.writes ≡ to.writes
     → WritesWithin times more from to → WritesWithin times more old new
 same_writes times more old from to new k w l v h = λ ps d.
     let there = subst (λ (t : Tables). AreDifferences (tables.get t) (tables.get to.kept) ps) (sym k) (subst (λ (t : Tables). AreDifferences (tables.get old.kept) (tables.get t) ps) l d) in
@@ -88,10 +86,11 @@ module _ (k : Known) (x : Stmt) (before after : Counts) (old mid new : Seen) (re
   insert_err_writes change.Memory adds said = stopped_writes (length x.path + 2) 8 Memory old mid new result said
 
 -- a delete of one statement
-pub delete_writes : (k : Known) (before : Counts) (w : List ℕ) (sign : Sign) (rel : ℕ) (conds : List Cond) (gone : List Stmt) (old read mid new : Seen) (c : Catalog) (o : Outcome)
+pub one_delete_writes : (k : Known) (before : Counts) (w : List ℕ) (sign : Sign) (rel : ℕ) (conds : List Cond) (gone : List Stmt) (old read mid new : Seen) (c : Catalog) (o : Outcome)
     (result : Result Reply StopError) → fits_path k.catalog.users deepest_statement w ≡ true → AreTaken old.kept w sign rel conds gone → read.kept ≡ old.kept → read.writes ≡ old.writes
-    → WritesForOne gone read mid (Ok tt) → IsSaid c o mid new result → WritesAsTold (Delete w sign rel conds) (sized k before) old new result
-delete_writes k before w sign rel conds gone old read mid new c o result fits taken kept writes one said = λ s a single.
+    → WritesForOne gone read mid (Ok tt) → IsSaid c o mid new result → (s : State) → Agrees old.kept (sized k before) s → length (taken_by w sign rel conds s.base.stmts) ≡ 1
+    → OnOk result (WritesWithin (length w + 2) 8 old new)
+one_delete_writes k before w sign rel conds gone old read mid new c o result fits taken kept writes one said s a single =
     let is = gone_is k before old.kept read.kept w sign rel conds gone fits taken kept s a in
     let here : AllByRecursion (λ (x : Stmt). x.path ≡ w) gone =
     subst (AllByRecursion (λ (x : Stmt). x.path ≡ w)) (sym is) (all_taken (λ x. x.path ≡ w) (is_taken w sign rel conds) (taken_at w sign rel conds) s.base.stmts) in
@@ -114,11 +113,3 @@ module _ (times more : ℕ) (counts : Counts) (r : Reply) (before now : Known) (
         let k = MatchBool-at_false (IsKept counts r before now mid new result) (IsUndone r before now mid new result) undone h in
         subst (λ (x : Result Reply StopError). OnOk x (WritesWithin times more old new)) (sym k.reply) (nothing_written times more old new (k.undo.writes ∙ refused undone ∙ began.writes))
   ]
-
--- after its begin a session still knows the sizes
-pub delete_settles : (w : List ℕ) (sign : Sign) (rel : ℕ) (conds : List Cond) (start counts : Counts) (r : Reply) (before now : Known) (old run mid new : Seen) (result : Result Reply StopError)
-    → start ≡ before.counts → IsBegin {T = Unit {0}} {E = StopError} old run (Ok tt) Fault → WritesAsTold (Delete w sign rel conds) (sized before start) run mid (Ok r)
-    → (r.accepted ≡ false → mid.writes ≡ run.writes) → Settles counts r before now mid new result → WritesAsTold (Delete w sign rel conds) before old new result
-delete_settles w sign rel conds start counts r before now old run mid new result same began within refused h = λ s a one.
-    let here = subst (λ (n : Counts). Agrees run.kept (sized before n) s) (sym same) (still_agrees old.kept run.kept before s began.kept a) in
-    settled_writes (length w + 2) 8 counts r before now old run mid new began (within s here one) refused result h

@@ -1,19 +1,23 @@
 -- How often a command reads and writes at most, where that is told of it.
-use Rattle.std.specs.Prelude.{◌≡◌, ◌+◌, false, length, None, Result, IfOk, OnOk}
-use Rattle.bdb_base.specs.Changes.{taken_by}
+use Rattle.std.specs.Prelude.{◌≡◌, ℕ, ◌+◌, true, false, List, length, map, None, Result, IfOk, OnOk}
+use Rattle.bdb_base.specs.Bases.{Contents}
+use Rattle.bdb_base.specs.Changes.{changed_statement, taken_by}
+use Rattle.bdb_base.specs.declared.kinds.SetCol.{SetCol}
+use Rattle.bdb_base.specs.declared.kinds.Stmt.{Stmt}
 use Rattle.bdb_bind.specs.declared.bound.Bound.{Bound}
-use Rattle.bdb_bind.specs.declared.bound.Bound.TheVariants.{Insert, Delete, Select, ShowWorld}
+use Rattle.bdb_bind.specs.declared.bound.Bound.TheVariants.{Insert, Delete, Update, Select, Explain, ShowWorld, ShowTables}
 use Rattle.bdb_bind.specs.Binding.{bound_of}
 use Rattle.bdb_bind.specs.Refusal.{refusal_of}
 use Rattle.bdb_keep.specs.Seen.{Seen}
 use Rattle.bdb_syntax.specs.declared.command.Command.{Command}
 use Rattle.bdb_update.specs.Bounds.{WritesWithin}
+use Rattle.bdb_update.specs.Steps.{WritesThrough, steps_of, steps_without}
 use Rattle.bdb_session.specs.declared.reply.Reply.{Reply}
 use Rattle.bdb_session.specs.declared.stop.StopError.{StopError}
 use Rattle.bdb_session.specs.Known.{Known, Agrees}
 use Rattle.bdb_session.specs.Outcome.{State}
 use Rattle.bdb_session.specs.QueryReads.{ReadsAsBounded}
-use Rattle.bdb_session.specs.Telling.{ReadsWithin, world_reads}
+use Rattle.bdb_session.specs.Telling.{ReadsWithin, WritesNothing, world_reads}
 
 -- The world of a path is read by its users and its rows, whatever else the tables have; a query by the product of one factor for
 -- each item.
@@ -22,12 +26,31 @@ ReadsAsTold (ShowWorld path) k old new result = ReadsWithin (λ s. world_reads s
 ReadsAsTold (Select q) k old new result = ReadsAsBounded q k old new result
 ReadsAsTold _ k old new result = Unit {0}
 
--- For one statement that is added or taken away there are at most as many writes for each place at which the rows differ as its
--- path has users, and two; and eight in all.
+-- Statements of a path are taken away. One alone takes no more writes, for each place at which the rows differ, than its path has
+-- users, and two; and eight more in all. Several take as many each, one after the other, and none takes no write.
+pub record DeletesThrough (b : Contents) (path : List ℕ) (gone : List Stmt) (old new : Seen) (result : Result Reply StopError) : Type 0 where
+  pub one : length gone ≡ 1 → OnOk result (WritesWithin (length path + 2) 8 old new)
+  pub steps : OnOk result (WritesThrough old (steps_without b gone) new)
+
+-- Statements are changed. Where that is accepted, each that goes and then each that comes takes as many writes as one alone; where it
+-- is refused nothing is written, and the rows stay.
+pub record UpdatesThrough (b : Contents) (gone : List Stmt) (sets : List SetCol) (old new : Seen) (result : Result Reply StopError) : Type 0 where
+  pub steps : IfOk result (λ r. r.accepted ≡ true → WritesThrough old (steps_of b gone (map (changed_statement sets) gone)) new)
+  pub refused : IfOk result (λ r. r.accepted ≡ false → WritesNothing old new result)
+
+-- A statement is added with at most as many writes for each place at which the rows differ as its path has users, and two; and eight in
+-- all. Statements are taken away or changed step by step, whichever base the tables store. What is shown, answered or explained writes
+-- nothing.
 abbrev pub WritesAsTold : Bound → Known → Seen → Seen → Result Reply StopError → Type 0
 WritesAsTold (Insert x) k old new result = OnOk result (WritesWithin (length x.path + 2) 8 old new)
-WritesAsTold (Delete path sign rel conds) k old new result = (s : State) → Agrees old.kept k s → length (taken_by path sign rel conds s.base.stmts) ≡ 1
-    → OnOk result (WritesWithin (length path + 2) 8 old new)
+WritesAsTold (Delete path sign rel conds) k old new result =
+    (s : State) → Agrees old.kept k s → DeletesThrough s.base path (taken_by path sign rel conds s.base.stmts) old new result
+WritesAsTold (Update path sign rel sets conds) k old new result =
+    (s : State) → Agrees old.kept k s → UpdatesThrough s.base (taken_by path sign rel conds s.base.stmts) sets old new result
+WritesAsTold (Select q) k old new result = WritesNothing old new result
+WritesAsTold (Explain q) k old new result = WritesNothing old new result
+WritesAsTold (ShowWorld path) k old new result = WritesNothing old new result
+WritesAsTold ShowTables k old new result = WritesNothing old new result
 WritesAsTold _ k old new result = Unit {0}
 
 -- a command reads and writes so, where binding it is not refused

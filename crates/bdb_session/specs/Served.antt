@@ -1,5 +1,5 @@
 -- What becomes of a keeper where a session answers.
-use Rattle.std.specs.Prelude.{◌≡◌, ℕ, List, Result, IfOk, OnOk, OnErr, IsErrOf}
+use Rattle.std.specs.Prelude.{◌≡◌, Result, IfOk, OnOk, OnErr, IsErrOf}
 use Rattle.bdb_base.specs.declared.kinds.Catalog.{Catalog}
 use Rattle.bdb_base.specs.Causes.{HasCause, Rises}
 use Rattle.bdb_keep.specs.Seen.{Seen, IsStill, NeverFall, Unchanged}

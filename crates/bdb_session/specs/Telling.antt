@@ -10,7 +10,12 @@ use Rattle.bdb_session.specs.Known.{Known, Agrees}
 use Rattle.bdb_session.specs.Outcome.{State}
 use Rattle.bdb_worlds.specs.Bounds.{RisesWithin}
 
--- It is committed that nothing changes: the rows stay, and none is read.
+-- Nothing is written, and the rows stay.
+pub record WritesNothing {T : Type 0} (old new : Seen) (result : Result T StopError) : Type 0 where
+  pub kept : OnOk result (new.kept ≡ old.kept)
+  pub writes : new.writes ≡ old.writes
+
+-- It is committed that nothing changes: the rows stay, and none is read or written.
 pub record CommitsNothing {T : Type 0} (old new : Seen) (result : Result T StopError) : Type 0 where
   pub still : IsStill new
   pub kept : new.kept ≡ old.kept
@@ -18,6 +23,7 @@ pub record CommitsNothing {T : Type 0} (old new : Seen) (result : Result T StopE
   pub commits : OnOk result (Rises 1 old.commits new.commits)
   pub err : OnErr result (Unchanged old new)
   pub reads : new.reads ≡ old.reads
+  pub writes : new.writes ≡ old.writes
   pub never_fall : NeverFall old new
   pub cause : HasCause old.faults new.faults result Fault
 

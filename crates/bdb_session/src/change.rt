@@ -5,7 +5,7 @@ ghost use Rattle.bdb_bind.specs.Fits.{fits_catalog};
 ghost use Rattle.bdb_catalog.specs.Bases.{SomeHasUsers};
 ghost use Rattle.bdb_catalog.specs.Taking.{AreTaken};
 ghost use Rattle.bdb_keep.specs.Seen.{IsStill};
-ghost use Rattle.bdb_session.specs.Bounds.{RefusedUnwritten, WritesAsTold};
+ghost use Rattle.bdb_session.specs.Bounds.{WritesAsTold};
 ghost use Rattle.bdb_session.specs.Known.{AgreesOnSome};
 ghost use Rattle.bdb_session.specs.Machine.{bound_outcome};
 ghost use Rattle.bdb_session.specs.Served.{Serves};
@@ -35,7 +35,7 @@ pub(crate) struct Selection {
 
 impl Session {
     /// Takes statements away. One alone takes no more writes, for each place at which the rows differ, than its path has
-    /// users, and two; and eight more in all.
+    /// users, and two; and eight more in all. Several take as many each, one after the other.
     pub(crate) fn delete<K: Keeper>(
         &mut self,
         keeper: &mut K,
@@ -72,7 +72,7 @@ impl Session {
         ensures told { TellsWithin (λ s. bound_outcome s (Bound.Delete selection.now.path selection.now.sign selection.now.rel selection.now.conds))
             (sized self.now counts.old) (sized self.now counts.new) (K.seen keeper.old) (K.seen keeper.new) result }
         ensures writes { WritesAsTold (Bound.Delete selection.now.path selection.now.sign selection.now.rel selection.now.conds) (sized self.now counts.old) (K.seen keeper.old) (K.seen keeper.new) result }
-        ensures refused { RefusedUnwritten (K.seen keeper.old) (K.seen keeper.new) result }
+        ensures accepted { IfOk result (λ r. r.accepted ≡ true) }
     {
         let stmts = match selected(self.alloc, keeper, selection) {
             Ok(stmts) => stmts,
@@ -85,7 +85,8 @@ impl Session {
     }
 
     /// Takes statements away and adds each of them changed, or refuses to where two statements of the path would clash
-    /// or the base would pass a limit.
+    /// or the base would pass a limit. Each that goes and each that comes takes as many writes as one alone; what is refused
+    /// takes none.
     pub(crate) fn update<K: Keeper>(
         &mut self,
         keeper: &mut K,
@@ -95,8 +96,9 @@ impl Session {
         requires still { IsStill (K.seen keeper.old) }
         requires agrees { AgreesOnSome (K.seen keeper.old).kept self.old }
         requires fits { fits_catalog self.old.catalog (Bound.Update selection.now.path selection.now.sign selection.now.rel sets.now selection.now.conds) ≡ true }
-        ensures { Serves (λ s. bound_outcome s (Bound.Update selection.now.path selection.now.sign selection.now.rel sets.now selection.now.conds))
+        ensures served { Serves (λ s. bound_outcome s (Bound.Update selection.now.path selection.now.sign selection.now.rel sets.now selection.now.conds))
             self.old self.new (K.seen keeper.old) (K.seen keeper.new) result }
+        ensures writes { WritesAsTold (Bound.Update selection.now.path selection.now.sign selection.now.rel sets.now selection.now.conds) self.old (K.seen keeper.old) (K.seen keeper.new) result }
     {
         match begin(keeper) {
             Ok(()) => {}
@@ -120,8 +122,9 @@ impl Session {
         requires running { (K.seen keeper.old).running ≡ true }
         requires agrees { AgreesOnSome (K.seen keeper.old).kept (sized self.now counts.old) }
         requires fits { fits_catalog self.now.catalog (Bound.Update selection.now.path selection.now.sign selection.now.rel sets.now selection.now.conds) ≡ true }
-        ensures { TellsWithin (λ s. bound_outcome s (Bound.Update selection.now.path selection.now.sign selection.now.rel sets.now selection.now.conds))
+        ensures told { TellsWithin (λ s. bound_outcome s (Bound.Update selection.now.path selection.now.sign selection.now.rel sets.now selection.now.conds))
             (sized self.now counts.old) (sized self.now counts.new) (K.seen keeper.old) (K.seen keeper.new) result }
+        ensures writes { WritesAsTold (Bound.Update selection.now.path selection.now.sign selection.now.rel sets.now selection.now.conds) (sized self.now counts.old) (K.seen keeper.old) (K.seen keeper.new) result }
     {
         let gone = match selected(self.alloc, keeper, selection) {
             Ok(gone) => gone,

@@ -11,6 +11,7 @@ ghost use Rattle.bdb_session.specs.Machine.{bound_outcome, plan_reply};
 ghost use Rattle.bdb_session.specs.Outcome.{Done};
 ghost use Rattle.bdb_session.specs.QueryReads.{ReadsAsBounded};
 ghost use Rattle.bdb_session.specs.Served.{Serves};
+ghost use Rattle.bdb_session.specs.Telling.{WritesNothing};
 
 use crate::reply::Reply;
 use crate::session::Session;
@@ -37,6 +38,7 @@ impl Session {
         requires fits { fits_catalog self.now.catalog (Bound.Select query.now) ≡ true }
         ensures served { Serves (λ s. bound_outcome s (Bound.Select query.now)) self.now self.now (K.seen keeper.old) (K.seen keeper.new) result }
         ensures reads { ReadsAsBounded query.now self.now (K.seen keeper.old) (K.seen keeper.new) result }
+        ensures writes { WritesNothing (K.seen keeper.old) (K.seen keeper.new) result }
     {
         let plan = match self.plan_of(query) {
             Ok(plan) => plan,
@@ -56,6 +58,7 @@ impl Session {
         requires few { length rows.now ≤ most_lines }
         ensures served { Serves (λ s. Done (rows_reply rows.now) (length rows.now) s) self.now self.now (K.seen keeper.old) (K.seen keeper.new) result }
         ensures reads { (K.seen keeper.new).reads ≡ (K.seen keeper.old).reads }
+        ensures writes { WritesNothing (K.seen keeper.old) (K.seen keeper.new) result }
     {
         let answers = rows.len() as u32;
         match rows_reply(self.alloc, rows) {
@@ -73,7 +76,8 @@ impl Session {
         requires still { IsStill (K.seen keeper.old) }
         requires agrees { AgreesOnSome (K.seen keeper.old).kept self.now }
         requires fits { fits_catalog self.now.catalog (Bound.Explain query.now) ≡ true }
-        ensures { Serves (λ s. bound_outcome s (Bound.Explain query.now)) self.now self.now (K.seen keeper.old) (K.seen keeper.new) result }
+        ensures served { Serves (λ s. bound_outcome s (Bound.Explain query.now)) self.now self.now (K.seen keeper.old) (K.seen keeper.new) result }
+        ensures writes { WritesNothing (K.seen keeper.old) (K.seen keeper.new) result }
     {
         match self.plan_text(query) {
             Ok(text) => self.tell(keeper, text, 0),

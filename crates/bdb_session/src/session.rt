@@ -69,7 +69,7 @@ impl Session {
     /// the state that they agree on, and afterwards they agree on the state that the machine reaches. An accepted piece
     /// with a token is committed once; after a refused one rows and commits are as they were. A piece without tokens
     /// leaves the keeper alone. After an Err the session and the tables are as they were. How often is read to show a world or
-    /// answer a query, and written to add or take away one statement, is bounded.
+    /// answer a query, and written to add, take away or change statements, is bounded.
     pub fn apply<K: Keeper>(&mut self, keeper: &mut K, piece: &[u8]) -> Result<Reply, StopError>
         requires still { IsStill (K.seen keeper.old) }
         requires agrees { AgreesOnSome (K.seen keeper.old).kept self.old }
@@ -108,6 +108,7 @@ impl Session {
         ensures next { (s : State) → Agrees (K.seen keeper.old).kept self.old s → OnOk result (Agrees (K.seen keeper.new).kept self.new (next_state s event.now)) }
         ensures commits { (s : State) → Agrees (K.seen keeper.old).kept self.old s → OnOk result (Rises (counts s event.now) (K.seen keeper.old).commits (K.seen keeper.new).commits) }
         ensures alone { (s : State) → Agrees (K.seen keeper.old).kept self.old s → OnOk result (counts s event.now ≡ 0 → Unchanged (K.seen keeper.old) (K.seen keeper.new)) }
+        ensures untouched { (bytes : List ℕ) → event.now ≡ Piece bytes → reading_of bytes ≡ reading.Nothing → keeper.new ≡ keeper.old }
         ensures reads { (bytes : List ℕ) (c : Command) → event.now ≡ Piece bytes → reading_of bytes ≡ reading.Says c → CommandReads c self.old (K.seen keeper.old) (K.seen keeper.new) result }
         ensures writes { (bytes : List ℕ) (c : Command) → event.now ≡ Piece bytes → reading_of bytes ≡ reading.Says c → CommandWrites c self.old (K.seen keeper.old) (K.seen keeper.new) result }
         ensures agrees { AgreesOnSome (K.seen keeper.new).kept self.new }

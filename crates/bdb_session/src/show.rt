@@ -11,7 +11,7 @@ ghost use Rattle.bdb_session.specs.Lines.{lines_by};
 ghost use Rattle.bdb_session.specs.Machine.{bound_outcome};
 ghost use Rattle.bdb_session.specs.Outcome.{Done};
 ghost use Rattle.bdb_session.specs.Served.{Serves};
-ghost use Rattle.bdb_session.specs.Telling.{CommitsNothing, ReadsWithin, world_reads};
+ghost use Rattle.bdb_session.specs.Telling.{CommitsNothing, ReadsWithin, WritesNothing, world_reads};
 
 use crate::reply::Reply;
 use crate::session::Session;
@@ -38,6 +38,7 @@ impl Session {
         requires fits { fits_catalog self.now.catalog (Bound.ShowWorld path.now) ≡ true }
         ensures served { Serves (λ s. bound_outcome s (Bound.ShowWorld path.now)) self.now self.now (K.seen keeper.old) (K.seen keeper.new) result }
         ensures reads { ReadsWithin (λ s. world_reads s.base path.now) self.now (K.seen keeper.old) (K.seen keeper.new) result }
+        ensures writes { WritesNothing (K.seen keeper.old) (K.seen keeper.new) result }
     {
         match world_of_path(self.alloc, keeper, path) {
             Ok(world) => self.tell_world(keeper, &world),
@@ -50,6 +51,7 @@ impl Session {
         requires still { IsStill (K.seen keeper.old) }
         ensures served { Serves (λ s. Done (world_reply self.now.catalog world.now) 0 s) self.now self.now (K.seen keeper.old) (K.seen keeper.new) result }
         ensures reads { (K.seen keeper.new).reads ≡ (K.seen keeper.old).reads }
+        ensures writes { WritesNothing (K.seen keeper.old) (K.seen keeper.new) result }
     {
         match world_reply(self.alloc, &self.catalog, world) {
             Ok(text) => self.tell(keeper, text, 0),
@@ -62,7 +64,8 @@ impl Session {
     pub(crate) fn show_tables<K: Keeper>(&self, keeper: &mut K) -> Result<Reply, StopError>
         requires still { IsStill (K.seen keeper.old) }
         requires agrees { AgreesOnSome (K.seen keeper.old).kept self.now }
-        ensures { Serves (λ s. bound_outcome s Bound.ShowTables) self.now self.now (K.seen keeper.old) (K.seen keeper.new) result }
+        ensures served { Serves (λ s. bound_outcome s Bound.ShowTables) self.now self.now (K.seen keeper.old) (K.seen keeper.new) result }
+        ensures writes { WritesNothing (K.seen keeper.old) (K.seen keeper.new) result }
     {
         if self.has_many_lines() {
             return self.refuse(&Refusal::Many);
@@ -76,7 +79,8 @@ impl Session {
     /// Tells the structure.
     fn tell_tables<K: Keeper>(&self, keeper: &mut K, canon: &Canon) -> Result<Reply, StopError>
         requires still { IsStill (K.seen keeper.old) }
-        ensures { Serves (λ s. Done (tables_reply self.now.catalog canon.now) 0 s) self.now self.now (K.seen keeper.old) (K.seen keeper.new) result }
+        ensures served { Serves (λ s. Done (tables_reply self.now.catalog canon.now) 0 s) self.now self.now (K.seen keeper.old) (K.seen keeper.new) result }
+        ensures writes { WritesNothing (K.seen keeper.old) (K.seen keeper.new) result }
     {
         match tables_reply(self.alloc, &self.catalog, canon) {
             Ok(text) => self.tell(keeper, text, 0),
@@ -104,6 +108,7 @@ impl Session {
         requires still { IsStill (K.seen keeper.old) }
         ensures served { Serves (λ s. Done text answers s) self.now self.now (K.seen keeper.old) (K.seen keeper.new) result }
         ensures reads { (K.seen keeper.new).reads ≡ (K.seen keeper.old).reads }
+        ensures writes { WritesNothing (K.seen keeper.old) (K.seen keeper.new) result }
     {
         match commit_nothing(keeper) {
             Ok(()) => Ok(Reply {

@@ -1,4 +1,4 @@
-use Rattle.std.proofs.Common.{ap, sym}
+use Rattle.std.proofs.Common.{ap}
 use Rattle.bdb_render.specs.declared.refusal.Refusal.TheVariants as refusal
 use Rattle.bdb_session.specs.Machine.{outcome_of}
 use Rattle.bdb_session.proofs.ServedLemmas.{refused_serves}

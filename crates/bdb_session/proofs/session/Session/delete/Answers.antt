@@ -3,8 +3,8 @@ use Rattle.bdb_bind.specs.declared.bound.Bound.TheVariants.{Delete}
 use Rattle.bdb_session.specs.Known.{Known}
 use Rattle.bdb_session.specs.Machine.{bound_outcome}
 use Rattle.bdb_session.specs.Within.{sized}
+use Rattle.bdb_session.proofs.StepLemmas.{delete_settles}
 use Rattle.bdb_session.proofs.WithinLemmas.{begin_stops, step_stops, step_serves}
-use Rattle.bdb_session.proofs.WriteLemmas.{delete_settles}
 use Rattle.bdb_session.proofs.session.Session.delete.Goals as goal
 
 pub returns-in-Err-clause-served : goal.returns-in-Err-clause-served
@@ -27,6 +27,6 @@ returns-in-Err-delete_within-clause-served g c =
 pub returns-in-Ok-delete_within-clause-writes : goal.returns-in-Ok-delete_within-clause-writes
 returns-in-Ok-delete_within-clause-writes g c =
     let x = c.args.selection.now in
-    delete_settles x.path x.sign x.rel x.conds c.self.inside.counts c.delete_within.new.counts c.in-Ok-delete_within.told c.args.self.now c.settle.new.self (g.K.Keeper.seen c.args.keeper.now)
+    delete_settles c.self.inside.counts c.delete_within.new.counts c.in-Ok-delete_within.told c.args.self.now c.settle.new.self (g.K.Keeper.seen c.args.keeper.now)
     (g.K.Keeper.seen c.begin.new.keeper) (g.K.Keeper.seen c.delete_within.new.keeper) (g.K.Keeper.seen c.settle.new.keeper) c.settle.result (ap (λ (u : Known). u.counts) c.self.view_is)
-    c.in-Ok.ensures c.in-Ok-delete_within.ensures.writes c.in-Ok-delete_within.ensures.refused c.settle.ensures
+    c.in-Ok.ensures x.path x.sign x.rel x.conds c.in-Ok-delete_within.ensures.writes c.in-Ok-delete_within.ensures.accepted c.settle.ensures

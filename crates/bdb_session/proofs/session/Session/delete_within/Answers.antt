@@ -7,8 +7,8 @@ use Rattle.bdb_update.proofs.CallLemmas.{gone_itself}
 use Rattle.bdb_session.specs.Machine.{bound_outcome}
 use Rattle.bdb_session.specs.Within.{sized}
 use Rattle.bdb_session.proofs.DeleteLemmas.{delete_path_fits, some_has_users, some_may_go, delete_tells}
+use Rattle.bdb_session.proofs.StepLemmas.{delete_writes, said_accepted}
 use Rattle.bdb_session.proofs.WithinLemmas.{call_stops, tables_stop}
-use Rattle.bdb_session.proofs.WriteLemmas.{accepted_unrefused, delete_writes}
 use Rattle.bdb_session.proofs.session.Session.delete_within.Goals as goal
 
 pub selected-requires : goal.selected-requires
@@ -67,9 +67,9 @@ returns-in-Ok-drop_statements-clause-writes g c =
     delete_writes k c.args.counts.now x.path x.sign x.rel x.conds c.as_slice.result.now old (g.K.Keeper.seen c.selected.new.keeper) (g.K.Keeper.seen c.drop_statements.new.keeper)
     (g.K.Keeper.seen c.tell_count.new.keeper) k.catalog _ c.tell_count.result (delete_path_fits k.catalog x.path x.sign x.rel x.conds c.requires.fits)
     (subst (λ (l : List Stmt). AreTaken old.kept x.path x.sign x.rel x.conds l) (sym c.as_slice.ensures) c.in-Ok.ensures.taken) c.in-Ok.ensures.kept c.in-Ok.ensures.writes
-    c.in-Ok-drop_statements.ensures.writes (c.tell_count.ensures c.requires.agrees.state)
+    c.in-Ok-drop_statements.ensures.writes c.in-Ok-drop_statements.ensures.steps (c.tell_count.ensures c.requires.agrees.state)
 
-pub returns-in-Ok-drop_statements-clause-refused : goal.returns-in-Ok-drop_statements-clause-refused
-returns-in-Ok-drop_statements-clause-refused g c =
-    accepted_unrefused c.args.self.now.catalog _ (g.K.Keeper.seen c.args.keeper.now) (g.K.Keeper.seen c.drop_statements.new.keeper) (g.K.Keeper.seen c.tell_count.new.keeper)
-    c.tell_count.result refl (c.tell_count.ensures c.requires.agrees.state)
+pub returns-in-Ok-drop_statements-clause-accepted : goal.returns-in-Ok-drop_statements-clause-accepted
+returns-in-Ok-drop_statements-clause-accepted g c =
+    said_accepted c.args.self.now.catalog _ (g.K.Keeper.seen c.drop_statements.new.keeper) (g.K.Keeper.seen c.tell_count.new.keeper) c.tell_count.result refl
+    (c.tell_count.ensures c.requires.agrees.state)

@@ -10,10 +10,10 @@ pub returns-in-Delete-clause-served : goal.returns-in-Delete-clause-served
 returns-in-Delete-clause-served g c = serves_as _ _ _ _ _ _ _ (λ s a. ap (bound_outcome s) c.in-Delete.is) c.delete.ensures.served
 
 pub returns-in-Update-clause-served : goal.returns-in-Update-clause-served
-returns-in-Update-clause-served g c = serves_as _ _ _ _ _ _ _ (λ s a. ap (bound_outcome s) c.in-Update.is) c.update.ensures
+returns-in-Update-clause-served g c = serves_as _ _ _ _ _ _ _ (λ s a. ap (bound_outcome s) c.in-Update.is) c.update.ensures.served
 
 pub returns-in-Explain-clause-served : goal.returns-in-Explain-clause-served
-returns-in-Explain-clause-served g c = serves_as _ _ _ _ _ _ _ (λ s a. ap (bound_outcome s) c.in-Explain.is) c.explain.ensures
+returns-in-Explain-clause-served g c = serves_as _ _ _ _ _ _ _ (λ s a. ap (bound_outcome s) c.in-Explain.is) c.explain.ensures.served
 
 pub returns-in-ShowWorld-clause-served : goal.returns-in-ShowWorld-clause-served
 returns-in-ShowWorld-clause-served g c = serves_as _ _ _ _ _ _ _ (λ s a. ap (bound_outcome s) c.in-ShowWorld.is) c.show_world.ensures.served

@@ -1,0 +1,167 @@
+-- How often is written step by step where statements are taken away or changed, and where the transaction ends.
+use Rattle.std.proofs.Common.{◌≡◌, ◌∙◌, ℕ, ◌+◌, true, false, List, [], ◌∷◌, length, map, Result, Ok, Err, IfOk, OnOk, refl, ap, sym, subst, inl, inr}
+use Rattle.std.proofs.lemmas.Bool.{cases_Bool, false≢true, MatchBool-at_true, MatchBool-at_false}
+use Rattle.bdb_base.specs.Bases.{Contents}
+use Rattle.bdb_base.specs.Changes.{changed_statement, taken_by}
+use Rattle.bdb_base.specs.Limits.{deepest_statement}
+use Rattle.bdb_base.specs.declared.kinds.Catalog.{Catalog}
+use Rattle.bdb_base.specs.declared.kinds.Cond.{Cond}
+use Rattle.bdb_base.specs.declared.kinds.SetCol.{SetCol}
+use Rattle.bdb_base.specs.declared.kinds.Sign.{Sign}
+use Rattle.bdb_base.specs.declared.kinds.Stmt.{Stmt}
+use Rattle.bdb_bind.specs.Fits.{fits_catalog, fits_path}
+use Rattle.bdb_bind.specs.declared.bound.Bound.TheVariants.{Delete, Update}
+use Rattle.bdb_canon.specs.declared.sizes.Counts.{Counts}
+use Rattle.bdb_catalog.specs.Taking.{AreTaken}
+use Rattle.bdb_keep.specs.Calls.{IsBegin}
+use Rattle.bdb_keep.specs.Seen.{Seen}
+use Rattle.bdb_render.specs.declared.refusal.Refusal.TheVariants as refusal
+use Rattle.bdb_update.specs.Calls.{Changes}
+use Rattle.bdb_update.specs.Replacing.{WritesForOne}
+use Rattle.bdb_update.specs.Steps.{ChangesThrough, GoesThrough, WritesThrough, steps_of, steps_without}
+use Rattle.bdb_update.specs.declared.answer.UpdateError.{UpdateError}
+use Rattle.bdb_update.specs.declared.answer.UpdateError.TheVariants as change
+use Rattle.bdb_session.specs.Bounds.{UpdatesThrough, WritesAsTold}
+use Rattle.bdb_session.specs.declared.reply.Reply.{Reply}
+use Rattle.bdb_session.specs.declared.stop.StopError.{StopError}
+use Rattle.bdb_session.specs.declared.stop.StopError.TheVariants.{Fault, Memory}
+use Rattle.bdb_session.specs.Known.{Known, Agrees}
+use Rattle.bdb_session.specs.Machine.{clash_with}
+use Rattle.bdb_session.specs.Outcome.{State, Outcome, Refused, is_accepted}
+use Rattle.bdb_session.specs.Within.{IsSaid, IsStopped, Refuses, IsKept, IsUndone, Settles, sized}
+use Rattle.bdb_session.proofs.DeleteLemmas.{gone_is, may_go}
+use Rattle.bdb_session.proofs.ServedLemmas.{still_agrees}
+use Rattle.bdb_session.proofs.UpdateLemmas.{may_change, update_path_fits}
+use Rattle.bdb_session.proofs.WriteLemmas.{one_delete_writes, same_writes, settled_writes}
+
+-- steps from one keeper to another are steps from a keeper with the rows and writes of the first to one with those of the second
+through_same : (es : List (Stmt × Contents)) (old from to new : Seen) → from.kept ≡ old.kept → from.writes ≡ old.writes → new.kept ≡ to.kept → new.writes ≡ to.writes
+    → WritesThrough from es to → WritesThrough old es new
+through_same [] old from to new k w l v h = (l ∙ h.0 ∙ k, v ∙ h.1 ∙ w)
+through_same (e ∷ es) old from to new k w l v h =
+    (h.0, h.1, same_writes (length e.0.path + 2) 8 old from h.0 h.0 k w refl refl h.2, through_same es h.0 h.0 to new refl refl l v h.3)
+
+-- ---- within a transaction
+
+-- a reply writes nothing
+said_through : (es : List (Stmt × Contents)) (c : Catalog) (o : Outcome) (old read mid new : Seen) (result : Result Reply StopError) → read.kept ≡ old.kept → read.writes ≡ old.writes
+    → WritesThrough read es mid → IsSaid c o mid new result → OnOk result (WritesThrough old es new)
+said_through es c o old read mid new (Ok r) k w h said = through_same es old read mid new k w (ap (λ (x : Seen). x.kept) said.alone) (ap (λ (x : Seen). x.writes) said.alone) h
+said_through es c o old read mid new (Err stop) k w h said = tt
+
+pub said_accepted : (c : Catalog) (o : Outcome) (mid new : Seen) (result : Result Reply StopError) → is_accepted o ≡ true → IsSaid c o mid new result → IfOk result (λ r. r.accepted ≡ true)
+said_accepted c o mid new (Ok r) e said = said.reply.accepted ∙ e
+said_accepted c o mid new (Err stop) e said = tt
+
+-- a delete
+pub delete_writes : (k : Known) (before : Counts) (w : List ℕ) (sign : Sign) (rel : ℕ) (conds : List Cond) (gone : List Stmt) (old read mid new : Seen) (c : Catalog) (o : Outcome)
+    (result : Result Reply StopError) → fits_path k.catalog.users deepest_statement w ≡ true → AreTaken old.kept w sign rel conds gone → read.kept ≡ old.kept → read.writes ≡ old.writes
+    → WritesForOne gone read mid (Ok tt) → GoesThrough before gone read mid → IsSaid c o mid new result → WritesAsTold (Delete w sign rel conds) (sized k before) old new result
+delete_writes k before w sign rel conds gone old read mid new c o result fits taken kept writes one through said = λ s a.
+    let is = gone_is k before old.kept read.kept w sign rel conds gone fits taken kept s a in
+    let goes = through s.base (may_go k before old.kept read.kept w sign rel conds gone fits taken kept s a) in
+    record {
+      one = one_delete_writes k before w sign rel conds gone old read mid new c o result fits taken kept writes one said s a;
+      steps = said_through (steps_without s.base (taken_by w sign rel conds s.base.stmts)) c o old read mid new result kept writes
+          (subst (λ (xs : List Stmt). WritesThrough read (steps_without s.base xs) mid) is goes) said;
+    }
+
+-- an update that is accepted, one that is refused, and one that stops
+accepted_through : (b : Contents) (gone : List Stmt) (sets : List SetCol) (c : Catalog) (o : Outcome) (old read mid new : Seen) (result : Result Reply StopError) → is_accepted o ≡ true
+    → read.kept ≡ old.kept → read.writes ≡ old.writes → WritesThrough read (steps_of b gone (map (changed_statement sets) gone)) mid → IsSaid c o mid new result
+    → UpdatesThrough b gone sets old new result
+accepted_through b gone sets c o old read mid new (Ok r) e k w h said = record {
+  steps = λ _. said_through (steps_of b gone (map (changed_statement sets) gone)) c o old read mid new (Ok r) k w h said;
+  refused = λ f. absurd (false≢true (sym f ∙ said.reply.accepted ∙ e));
+}
+accepted_through b gone sets c o old read mid new (Err stop) e k w h said = record { steps = tt; refused = tt }
+
+refused_through : (b : Contents) (gone : List Stmt) (sets : List SetCol) (c : Catalog) (o : Outcome) (old mid new : Seen) (result : Result Reply StopError) → is_accepted o ≡ false
+    → mid.kept ≡ old.kept → mid.writes ≡ old.writes → IsSaid c o mid new result → UpdatesThrough b gone sets old new result
+refused_through b gone sets c o old mid new (Ok r) e k w said = record {
+  steps = λ f. absurd (false≢true (sym (said.reply.accepted ∙ e) ∙ f));
+  refused = λ _. record { kept = ap (λ (x : Seen). x.kept) said.alone ∙ k; writes = ap (λ (x : Seen). x.writes) said.alone ∙ w };
+}
+refused_through b gone sets c o old mid new (Err stop) e k w said = record { steps = tt; refused = tt }
+
+stopped_through : (b : Contents) (gone : List Stmt) (sets : List SetCol) (stop : StopError) (old mid new : Seen) (result : Result Reply StopError) → IsStopped stop mid new result
+    → UpdatesThrough b gone sets old new result
+stopped_through b gone sets stop old mid new result said =
+    subst (λ (r : Result Reply StopError). UpdatesThrough b gone sets old new r) (sym said.error) (record { steps = tt; refused = tt })
+
+-- an update, after its statements were read
+module _ (k : Known) (before : Counts) (w : List ℕ) (sign : Sign) (rel : ℕ) (conds : List Cond) (sets : List SetCol) (gone come : List Stmt) (old read mid new : Seen)
+    (fits : fits_catalog k.catalog (Update w sign rel sets conds) ≡ true) (taken : AreTaken old.kept w sign rel conds gone) (kept : read.kept ≡ old.kept) (writes : read.writes ≡ old.writes)
+    (changes : come ≡ map (changed_statement sets) gone) (result : Result Reply StopError) where
+  pub update_writes : (o : Outcome) → is_accepted o ≡ true → ChangesThrough before w gone come read mid → IsSaid k.catalog o mid new result
+      → WritesAsTold (Update w sign rel sets conds) (sized k before) old new result
+  update_writes o e through said = λ s a.
+      let is = gone_is k before old.kept read.kept w sign rel conds gone (update_path_fits k.catalog w sign rel sets conds fits) taken kept s a in
+      let goes = through s.base (may_change k before old.kept read.kept w sign rel conds sets gone come fits taken kept changes s a) in
+      let next = subst (λ (xs : List Stmt). WritesThrough read (steps_of s.base gone xs) mid) changes goes in
+      accepted_through s.base (taken_by w sign rel conds s.base.stmts) sets k.catalog o old read mid new result e kept writes
+      (subst (λ (xs : List Stmt). WritesThrough read (steps_of s.base xs (map (changed_statement sets) xs)) mid) is next) said
+
+  pub update_err_writes : (after : Counts) (e : UpdateError) → Changes read mid before after w gone come (Err e) → Refuses k.catalog e mid new result
+      → WritesAsTold (Update w sign rel sets conds) (sized k before) old new result
+  update_err_writes after (change.Clash least) h said = λ s a.
+      let un = (h s.base (may_change k before old.kept read.kept w sign rel conds sets gone come fits taken kept changes s a)).untouched in
+      refused_through s.base (taken_by w sign rel conds s.base.stmts) sets k.catalog (Refused (clash_with least)) old mid new result refl (un.kept ∙ kept) (un.writes ∙ writes) said
+  update_err_writes after (change.Full what) h said = λ s a.
+      let un = (h s.base (may_change k before old.kept read.kept w sign rel conds sets gone come fits taken kept changes s a)).untouched in
+      refused_through s.base (taken_by w sign rel conds s.base.stmts) sets k.catalog (Refused (refusal.Full what)) old mid new result refl (un.kept ∙ kept) (un.writes ∙ writes) said
+  update_err_writes after change.Fault h said = λ s a. stopped_through s.base (taken_by w sign rel conds s.base.stmts) sets Fault old mid new result said
+  update_err_writes after change.Memory h said = λ s a. stopped_through s.base (taken_by w sign rel conds s.base.stmts) sets Memory old mid new result said
+
+-- ---- the end of a transaction
+
+module _ (counts : Counts) (r : Reply) (before now : Known) (old run mid new : Seen) (began : IsBegin {T = Unit {0}} {E = StopError} old run (Ok tt) Fault) where
+  kept_through : (es : List (Stmt × Contents)) → WritesThrough run es mid → (result : Result Reply StopError) → IsKept counts r before now mid new result → OnOk result (WritesThrough old es new)
+  kept_through es h (Ok q) k = through_same es old run mid new began.kept began.writes k.commit.kept k.commit.writes h
+  kept_through es h (Err stop) k = tt
+
+  done_through : (es : List (Stmt × Contents)) → r.accepted ≡ true → WritesThrough run es mid → (result : Result Reply StopError) → Settles counts r before now mid new result
+      → OnOk result (WritesThrough old es new)
+  done_through es done h result e =
+      kept_through es h result (MatchBool-at_true (IsKept counts r before now mid new result) (IsUndone r before now mid new result) done e)
+
+  kept_updates : (b : Contents) (gone : List Stmt) (sets : List SetCol) → r.accepted ≡ true → WritesThrough run (steps_of b gone (map (changed_statement sets) gone)) mid
+      → (result : Result Reply StopError) → IsKept counts r before now mid new result → UpdatesThrough b gone sets old new result
+  kept_updates b gone sets done h (Ok q) k = record {
+    steps = λ _. kept_through (steps_of b gone (map (changed_statement sets) gone)) h (Ok q) k;
+    refused = λ f. absurd (false≢true (sym f ∙ ap (λ (x : Reply). x.accepted) k.reply ∙ done));
+  }
+  kept_updates b gone sets done h (Err stop) k = record { steps = tt; refused = tt }
+
+  settled_updates : (b : Contents) (gone : List Stmt) (sets : List SetCol) → mid.last ≡ run.last → UpdatesThrough b gone sets run mid (Ok r) → (result : Result Reply StopError)
+      → Settles counts r before now mid new result → UpdatesThrough b gone sets old new result
+  settled_updates b gone sets last h result e = elim (cases_Bool r.accepted) [
+    | inl done ↦
+        kept_updates b gone sets done (h.steps done) result (MatchBool-at_true (IsKept counts r before now mid new result) (IsUndone r before now mid new result) done e)
+    | inr undone ↦
+        let k = MatchBool-at_false (IsKept counts r before now mid new result) (IsUndone r before now mid new result) undone e in
+        subst (λ (x : Result Reply StopError). UpdatesThrough b gone sets old new x) (sym k.reply) (record {
+          steps = λ f. absurd (false≢true (sym undone ∙ f));
+          refused = λ _. record { kept = k.undo.dropped.undone ∙ last ∙ began.last ∙ sym began.rest; writes = k.undo.writes ∙ (h.refused undone).writes ∙ began.writes };
+        })
+  ]
+
+-- after its begin a session still knows the sizes
+module _ (start counts : Counts) (r : Reply) (before now : Known) (old run mid new : Seen) (result : Result Reply StopError) (same : start ≡ before.counts)
+    (began : IsBegin {T = Unit {0}} {E = StopError} old run (Ok tt) Fault) where
+  begun_agrees : (s : State) → Agrees old.kept before s → Agrees run.kept (sized before start) s
+  begun_agrees s a = subst (λ (n : Counts). Agrees run.kept (sized before n) s) (sym same) (still_agrees old.kept run.kept before s began.kept a)
+
+  pub delete_settles : (w : List ℕ) (sign : Sign) (rel : ℕ) (conds : List Cond) → WritesAsTold (Delete w sign rel conds) (sized before start) run mid (Ok r) → r.accepted ≡ true
+      → Settles counts r before now mid new result → WritesAsTold (Delete w sign rel conds) before old new result
+  delete_settles w sign rel conds within done e = λ s a.
+      let h = within s (begun_agrees s a) in
+      record {
+        one = λ single. settled_writes (length w + 2) 8 counts r before now old run mid new began (h.one single) (λ f. absurd (false≢true (sym f ∙ done))) result e;
+        steps = done_through counts r before now old run mid new began (steps_without s.base (taken_by w sign rel conds s.base.stmts)) done h.steps result e;
+      }
+
+  pub update_settles : (w : List ℕ) (sign : Sign) (rel : ℕ) (sets : List SetCol) (conds : List Cond) → WritesAsTold (Update w sign rel sets conds) (sized before start) run mid (Ok r)
+      → mid.last ≡ run.last → Settles counts r before now mid new result → WritesAsTold (Update w sign rel sets conds) before old new result
+  update_settles w sign rel sets conds within last e = λ s a.
+      settled_updates counts r before now old run mid new began s.base (taken_by w sign rel conds s.base.stmts) sets last (within s (begun_agrees s a)) result e
