@@ -8,7 +8,7 @@ use crate::tuple::Tuple;
 use std::alloc::{AllocError, Global};
 
 /// A value of a column.
-#[derive(Drop)]
+#[derive(Debug, Drop)]
 pub enum Value {
     Int(i64),
     Text(Txt),
@@ -29,7 +29,7 @@ pub enum Sign {
 }
 
 /// An explicit statement: who states it, with which sign, of which tuple.
-#[derive(Drop)]
+#[derive(Debug, Drop)]
 pub struct Stmt {
     pub path: Path,
     pub sign: Sign,

@@ -13,7 +13,7 @@ pub trait Exact: Drop {
 }
 
 /// A list of items, which contracts see as the list itself.
-#[derive(Drop)]
+#[derive(Debug, Drop)]
 pub struct List<X> {
     items: Vec<X>,
 }

@@ -9,7 +9,7 @@ use thiserror::Error;
 
 /// A belief path: the users, the outermost believer first. No two neighbours are equal; the empty path is the plain
 /// content of the database. Contracts see it as the list of its users' numbers.
-#[derive(Drop)]
+#[derive(Debug, Drop)]
 pub struct Path {
     users: List<u32>,
 }

@@ -7,7 +7,7 @@ use std::alloc::{AllocError, Global};
 use std::marker::Model;
 
 /// A tuple: the number of its relation, and one value for each column. There is at least one value.
-#[derive(Drop)]
+#[derive(Debug, Drop)]
 pub struct Tuple {
     pub rel: u32,
     pub vals: List<Value>,
