@@ -5,15 +5,13 @@ use Rattle.std.specs.List.{AllWithin}
 use Rattle.std.specs.List.Sorted.{IsPartitionPoint, IsPartitionedBy}
 use Rattle.std.specs.Ordering.{is_le, is_lt, is_eq}
 use Rattle.std.proofs.lemmas.Cmp.{nat_list_cmp_total, eq_by_cmp_equiv}
-use mathlib.Core.Bool.{true≢false}
 use Rattle.bdb_keep.specs.Tables.{bytes_cmp}
-use Rattle.bdb_keep.specs.Entries.{Entries, place_at, row_of, IsSetAt, AreBelow, AreAbove, NoneBelow, IsAscending}
-use Rattle.bdb_keep.specs.Blocks.{joined, before, after, HasEntry, HaveEntries, AreSorted, IsBound, IsBlockFor, IsThere, entry_at, StandsAt, IsGap, starts_within, IsRest, without_empty, has_any, cut}
+use Rattle.bdb_keep.specs.Entries.{Entries, place_at, AreBelow, AreAbove, NoneBelow, IsAscending}
+use Rattle.bdb_keep.specs.Blocks.{joined, before, after, HasEntry, HaveEntries, AreSorted, IsBound, IsBlockFor, IsThere, entry_at, StandsAt, IsGap, starts_within, without_empty, has_any, cut}
 use lib.Seq.{set_split, drop-append-le}
 use Rattle.std.proofs.lemmas.List.Edits.{length-remove}
 use Rattle.bdb_keep.proofs.RowsLemmas.{same_place}
-use Rattle.bdb_keep.proofs.FirstLemmas.{rest-skip}
-use Rattle.bdb_keep.proofs.EntriesLemmas.{AreApart, less_from_is_lt, le_from_not_lt, above_from_first, place_at-here, place_at-below, place_at-above, ascending-replace, ascending-insert, ascending-remove, set-replace, set-insert, set-remove, below_from_le, less_le, less_from_not_le, AreBelow-append, NoneBelow-append, AreAbove-parts, ascending-parts, none_below_from_first, below_from_last}
+use Rattle.bdb_keep.proofs.EntriesLemmas.{AreApart, less_from_is_lt, le_from_not_lt, above_from_first, place_at-here, place_at-below, place_at-above, ascending-replace, ascending-insert, ascending-remove, less_le, less_from_not_le, AreBelow-append, NoneBelow-append, AreAbove-parts, ascending-parts, none_below_from_first, below_from_last}
 
 -- what stands before a place and from it on are all entries
 pub split : (bs : List Entries) (i j : ℕ) → joined bs ≡ before bs i j ++ after bs i j
@@ -33,11 +31,11 @@ after-here [] i j d h k = absurd (omega arith)
 after-here (b ∷ bs) zero j d h k = ap (λ x. x ++ joined bs) (drop-cons b j d k)
 after-here (b ∷ bs) (suc i) j d h k = after-here bs i j d (omega arith) k
 
-after-start : (bs : List Entries) → after bs 0 0 ≡ joined bs
+pub after-start : (bs : List Entries) → after bs 0 0 ≡ joined bs
 after-start [] = refl
 after-start (b ∷ bs) = refl
 
-before-start : (bs : List Entries) → before bs 0 0 ≡ []
+pub before-start : (bs : List Entries) → before bs 0 0 ≡ []
 before-start [] = refl
 before-start (b ∷ bs) = refl
 
@@ -157,11 +155,6 @@ sorted-replaced bs i j s sorted t = record {
   full = full-set bs i _ sorted.full (has_entry _ (subst (λ n. 0 < n) (sym (length-set (get_or bs i []) j ((entry_at (get_or bs i []) j).0, s))) (let k = t.index in omega arith)));
 }
 
-pub set-replaced : (bs : List Entries) (es : Entries) (q : List ℕ) (i j : ℕ) (s : Option (List ℕ)) → StandsAt bs q i j → es ≡ before bs i j ++ ((entry_at (get_or bs i []) j).0, s) ∷ after bs i (suc j) → IsSetAt (joined bs) es q (Some s)
-set-replaced bs es q i j s h e =
-    subst (λ x. IsSetAt (joined bs) x q (Some s)) (sym (e ∙ ap (λ p. before bs i j ++ (p, s) ∷ after bs i (suc j)) h.here))
-    (subst (λ x. IsSetAt x (before bs i j ++ (q, s) ∷ after bs i (suc j)) q (Some s)) (sym (joined-stands bs q i j h)) (set-replace (before bs i j) (after bs i (suc j)) q (entry_at (get_or bs i []) j).1 s h.below))
-
 -- where all blocks are sorted, each is
 pub ascending-block : (bs : List Entries) (i : ℕ) (d : Entries) → IsAscending (joined bs) → i < length bs → IsAscending (get_or bs i d)
 ascending-block [] i d a h = absurd (omega arith)
@@ -174,36 +167,12 @@ sorted-before bs i j s = (ascending-parts (before bs i j) (after bs i j) (subst 
 pub sorted-after : (bs : List Entries) (i j : ℕ) → AreSorted bs → IsAscending (after bs i j)
 sorted-after bs i j s = (ascending-parts (before bs i j) (after bs i j) (subst IsAscending (split bs i j) s.ascends)).1
 
--- from a bound on are the rows of all from its place on
-pub rest-bound : (bs : List Entries) (q : List ℕ) (i j : ℕ) → AreSorted bs → IsBound bs q i j → IsRest (joined bs) (after bs i j) q
-rest-bound bs q i j s b = record {
-  same = λ r h. ap row_of (sym (ap (λ es. place_at es r) (split bs i j) ∙ place_at-below r (before bs i j) (after bs i j) (below_from_le q r (before bs i j) b.below h)));
-  above = b.above;
-  sorted = sorted-after bs i j s;
-}
-
 -- one place more where it belongs
 pub sorted-added : (bs cs : List Entries) (q : List ℕ) (r : Option (List ℕ)) (i j : ℕ) → AreSorted bs → IsGap bs q i j → joined cs ≡ before bs i j ++ (q, r) ∷ after bs i j → HaveEntries cs → AreSorted cs
 sorted-added bs cs q r i j s g e f = record {
   ascends = subst IsAscending (sym e) (ascending-insert (before bs i j) (after bs i j) (q, r) (subst IsAscending (split bs i j) s.ascends) g.below g.above);
   full = f;
 }
-
-pub set-added : (bs : List Entries) (es : Entries) (q : List ℕ) (r : Option (List ℕ)) (i j : ℕ) → IsGap bs q i j → es ≡ before bs i j ++ (q, r) ∷ after bs i j → IsSetAt (joined bs) es q (Some r)
-set-added bs es q r i j g e =
-    subst (λ xs. IsSetAt (joined bs) xs q (Some r)) (sym e)
-    (subst (λ xs. IsSetAt xs (before bs i j ++ (q, r) ∷ after bs i j) q (Some r)) (sym (split bs i j)) (set-insert (before bs i j) (after bs i j) q r g.below))
-
--- one place less where it stood
-pub set-taken : (bs : List Entries) (es : Entries) (q : List ℕ) (i j : ℕ) → AreSorted bs → StandsAt bs q i j → es ≡ before bs i j ++ after bs i (suc j) → IsSetAt (joined bs) es q None
-set-taken bs es q i j s h e =
-    let sorted : IsAscending ((q, (entry_at (get_or bs i []) j).1) ∷ after bs i (suc j)) = subst IsAscending (after-stands bs q i j h) (sorted-after bs i j s) in
-    subst (λ xs. IsSetAt (joined bs) xs q None) (sym e)
-    (subst (λ xs. IsSetAt xs (before bs i j ++ after bs i (suc j)) q None) (sym (joined-stands bs q i j h)) (set-remove (before bs i j) (after bs i (suc j)) q (entry_at (get_or bs i []) j).1 h.below sorted.0))
-
--- a place that stood nowhere is set to nothing
-pub set-absent : (es : Entries) (q : List ℕ) → place_at es q ≡ None → IsSetAt es es q None
-set-absent es q h = record { here = h; others = λ r n. refl }
 
 -- ---- what searches find
 -- where all before an index pass the test "below", they are
@@ -317,16 +286,6 @@ bound-in q bs i j s f k b a = record {
   block = λ _. f.block;
   index = k;
 }
-
--- past an empty place the rest stands for the same
-pub rest-past : (bs : List Entries) (es : Entries) (q : List ℕ) (i j k l m : ℕ) → IsRest es (after bs i j) q → IsThere bs k l → after bs k l ≡ after bs i j → is_some (entry_at (get_or bs k []) l).1 ≡ false → m ≡ suc l → IsRest es (after bs k m) q
-rest-past bs es q i j k l m w t e n h =
-    subst (λ x. IsRest es (after bs k x) q) (sym h)
-    (rest-skip es (after bs i j) (after bs k (suc l)) q (entry_at (get_or bs k []) l).0 (entry_at (get_or bs k []) l).1 w (sym e ∙ after-here bs k l ([], None) t.block t.index) (none (entry_at (get_or bs k []) l).1 n))
-  where
-    none : (x : Option (List ℕ)) → is_some x ≡ false → x ≡ None
-    none None h = refl
-    none (Some y) h = absurd (true≢false h)
 
 -- ---- a block cut in two
 pub joined-cut : (bs : List Entries) (i h : ℕ) → i < length bs → joined (cut bs i h) ≡ joined bs

@@ -54,17 +54,6 @@ found_above k (e ∷ es) q h s = there (eq_by_cmp bytes_cmp q e.0) refl s (λ s.
     there true t s more = ap (bytes_cmp k) (same_place q e.0 t) ∙ h.0
     there false t s more = more s
 
--- past an empty place
-pub rest-skip : (es rest more : Entries) (p : List ℕ) (k : List ℕ) (r : Option (List ℕ)) → IsRest es rest p → rest ≡ (k, r) ∷ more → r ≡ None → IsRest es more p
-rest-skip es rest more p k r w e n =
-    let w' : IsRest es ((k, r) ∷ more) p = subst (λ x. IsRest es x p) e w in
-    let below : AreAbove k more = w'.sorted.0 in
-    record { same = λ q h. there q (eq_by_cmp bytes_cmp q k) refl below ∙ w'.same q h; above = w'.above.1; sorted = w'.sorted.1 }
-  where
-    there : (q : List ℕ) (b : Bool) → eq_by_cmp bytes_cmp q k ≡ b → AreAbove k more → row_of (place_at more q) ≡ row_of (cond (eq_by_cmp bytes_cmp q k) (Some r) (place_at more q))
-    there q true t h = ap (λ x. row_of (place_at more x)) (same_place q k t) ∙ ap row_of (place_at-above k more h) ∙ sym n ∙ ap (λ b. row_of (cond b (Some r) (place_at more q))) (sym t)
-    there q false t h = ap (λ b. row_of (cond b (Some r) (place_at more q))) (sym t)
-
 -- a row that is there is not below the first
 first-below : (more : Entries) (k : List ℕ) (r : Option (List ℕ)) (q : List ℕ) → AreAbove k more → IsSome (row_of (place_at ((k, r) ∷ more) q)) → IsTrue (is_le (bytes_cmp k q))
 first-below more k r q h s = there (eq_by_cmp bytes_cmp q k) refl s

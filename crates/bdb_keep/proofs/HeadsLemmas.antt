@@ -1,5 +1,5 @@
 -- Lemmas on places as numbers.
-use Rattle.std.proofs.Common.{◌≡◌, ℕ, zero, suc, ◌+◌, ◌<◌, ◌^◌, List, [], ◌∷◌, ◌++◌, length, take, drop, get_or, Ordering, Less, Equal, Greater, true, false, refl, sym, ap, ◌∙◌, subst, arith, append-nil, append_assoc, drop-drop, take_all, length-take-le, inl, inr}
+use Rattle.std.proofs.Common.{◌≡◌, ℕ, zero, suc, ◌<◌, ◌^◌, List, [], ◌∷◌, ◌++◌, length, take, drop, get_or, Ordering, Less, Equal, Greater, true, refl, sym, ap, ◌∙◌, subst, arith, append-nil, append_assoc, drop-drop, take_all, length-take-le, inl, inr}
 use Rattle.std.specs.Ordering.{nat_cmp, ordering_then, ordering_reverse, is_le}
 use Rattle.std.specs.Int.{w64, to_be_bytes}
 use Rattle.std.proofs.lemmas.Cmp.{nat_list_cmp_total, tied_itself}
@@ -9,7 +9,7 @@ use Rattle.std.proofs.lemmas.Map.Lookups.{exact_unsigned}
 use Rattle.std.proofs.lemmas.Bool.Decides.{nat_tests}
 use mathlib.Core.Bool.{true≢false}
 use Rattle.bdb_keep.specs.Tables.{bytes_cmp}
-use Rattle.bdb_keep.specs.Heads.{padded, bytes_of, key_of, IsHeadOf, heads_cmp}
+use Rattle.bdb_keep.specs.Heads.{padded, bytes_of, key_of, IsHeadOf, IsHeadOfPlace, heads_cmp}
 use Rattle.bdb_keep.specs.declared.head.Head.{Head}
 use Rattle.bdb_keep.proofs.Numbers.{less, greater, equal, then_assoc, numbers}
 
@@ -196,3 +196,16 @@ pub decided : (r o : Ordering) (x : Ordering) → r ≡ o → (o ≡ Equal → �
 decided Less o x e d = sym e
 decided Equal o x e d = absurd (d (sym e))
 decided Greater o x e d = sym e
+
+-- the head that is inside a place is its head
+pub head_within : (p : List ℕ) (h : Head) (rest : List ℕ) → h.tab ∷ key_of h rest ≡ p → IsHeadOf (key_of h rest) h rest → IsHeadOfPlace h p
+head_within p h rest e i = subst (IsHeadOfPlace h) e (refl, subst (IsHeadOf (key_of h rest) h) i.behind i)
+
+-- how a place with a head and one that is looked for compare, where the heads tell
+pub head_tells : (p q : List ℕ) (a b : Head) (s : List ℕ) (o : Ordering) → b.tab ∷ key_of b s ≡ q → IsHeadOf (key_of b s) b s → o ≡ heads_cmp a b → IsHeadOfPlace a p → (o ≡ Equal → ⊥) → o ≡ bytes_cmp p q
+head_tells [] q a b s o e k d h n = absurd h
+head_tells (tab ∷ key) q a b s o e k d h n =
+    decided (heads_cmp a b) o (bytes_cmp (drop 24 key) s) (sym d) n
+    ∙ sym (by_heads key (key_of b s) (drop 24 key) s a b h.1 k)
+    ∙ ap (λ t. bytes_cmp (t ∷ key) (b.tab ∷ key_of b s)) h.0
+    ∙ ap (bytes_cmp (tab ∷ key)) e

@@ -1,3 +1,4 @@
+pub mod BesideLemmas
 pub mod BlocksLemmas
 pub mod EntriesLemmas
 pub mod FirstLemmas
@@ -6,5 +7,6 @@ pub mod HeadsLemmas
 pub mod Numbers
 pub mod RowsLemmas
 pub mod Scans
+pub mod ShelvesLemmas
 pub mod WithinLemmas
 pub mod WrittenLemmas

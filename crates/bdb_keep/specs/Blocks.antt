@@ -3,6 +3,8 @@ use Rattle.std.specs.Prelude.{◌≡◌, ℕ, ◌<◌, ◌≤◌, Bool, true, fa
 use Rattle.std.specs.Ordering.{is_le}
 use Prim.Native.Nat.{zero, suc}
 use Rattle.bdb_keep.specs.Tables.{bytes_cmp}
+use Rattle.bdb_keep.specs.declared.head.Head.{Head}
+use Rattle.bdb_keep.specs.Heads.{IsHeadOfPlace}
 use Rattle.bdb_keep.specs.Entries.{Entries, row_of, place_at, AreBelow, AreAbove, NoneBelow, IsAscending}
 
 -- the entries of all blocks
@@ -42,6 +44,11 @@ pub record IsBound (bs : List Entries) (q : List ℕ) (i j : ℕ) : Type 0 where
   pub above : NoneBelow q (after bs i j)
   pub block : 0 < length bs → i < length bs
   pub index : j ≤ length (slice_index_or bs i [])
+
+-- a head is that of the first place, if there is one
+abbrev pub HasFirst : Head → Entries → Type 0
+HasFirst h [] = Unit {0}
+HasFirst h (e ∷ es) = IsHeadOfPlace h e.0
 
 -- whether the first place of a block isn't above a place
 abbrev pub starts_within : List ℕ → Entries → Bool

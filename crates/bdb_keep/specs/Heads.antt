@@ -29,6 +29,11 @@ pub record IsHeadOf (key : List ℕ) (h : Head) (rest : List ℕ) : Type 0 where
   pub second_fits : h.second < 2 ^ 64
   pub third_fits : h.third < 2 ^ 64
 
+-- a head is that of a place
+abbrev pub IsHeadOfPlace : Head → List ℕ → Type 0
+IsHeadOfPlace h [] = ⊥
+IsHeadOfPlace h (tab ∷ key) = (h.tab ≡ tab) × IsHeadOf key h (drop 24 key)
+
 -- how heads compare in one table: by the bytes, and where these are the same by how many there are
 abbrev pub numbers_cmp : Head → Head → Ordering
 numbers_cmp a b = ordering_then (nat_cmp a.first b.first) (ordering_then (nat_cmp a.second b.second) (ordering_then (nat_cmp a.third b.third) (nat_cmp a.count b.count)))

@@ -7,6 +7,7 @@ pub mod Heads
 pub mod Held
 pub mod Scans
 pub mod Seen
+pub mod Shelves
 pub mod Struck
 pub mod Tables
 pub mod Told

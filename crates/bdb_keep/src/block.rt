@@ -1,19 +1,22 @@
 // A block of places in their order.
 ghost use Rattle.std.specs.Prelude.{◌≡◌, ◌<◌, ◌≤◌, ◌∷◌, ◌++◌, [], Some, None, IfOk, OnOk, OnErr, not, length, take, drop, slice_set};
 ghost use Prim.Native.Nat.{suc};
-ghost use Rattle.std.specs.Ordering.{is_lt};
+ghost use Rattle.std.specs.Ordering.{is_le, is_lt};
 ghost use Rattle.bdb_keep.specs.Tables.{bytes_cmp};
 ghost use Rattle.bdb_keep.specs.Entries.{AreBelow, NoneBelow, IsAscending};
-ghost use Rattle.bdb_keep.specs.Blocks.{entry_at, starts_within, without_empty, has_any};
+ghost use Rattle.bdb_keep.specs.Heads.{IsHeadOfPlace};
+ghost use Rattle.bdb_keep.specs.Blocks.{entry_at, starts_within, without_empty, has_any, HasFirst};
 
+use crate::head::Head;
 use crate::place::Row;
 use crate::words::{Probe, Words};
 use std::alloc::{AllocError, Global};
+use std::cmp::Ordering;
 use std::marker::Model;
 use std::mem::replace;
 
 /// The most places of a block.
-pub const CAPACITY: usize = 128;
+pub const CAPACITY: usize = 32;
 
 /// A place with its row, or with none where the row was removed in the running transaction.
 pub type Entry = (Words, Option<Row>);
@@ -21,6 +24,8 @@ pub type Entry = (Words, Option<Row>);
 /// A block of places in ascending order.
 #[derive(Drop)]
 pub struct Block {
+    /// The head of the first place, if there is one, so that a search among blocks looks at no entry.
+    first: Head,
     entries: Vec<Entry>,
 }
 
@@ -30,6 +35,10 @@ impl Model for Block {
     ghost Value = { Entries };
 
     ghost view = { λ b. b.entries.items };
+
+    ghost use Rattle.bdb_keep.specs.Blocks.{HasFirst};
+
+    ghost invariant = { λ b. HasFirst b.first b.entries.items };
 }
 
 impl Block {
@@ -37,9 +46,10 @@ impl Block {
     pub fn of(alloc: Global, place: Words, row: Row) -> Result<Self, AllocError>
         ensures { IfOk result (λ block. block ≡ (place, Some row) ∷ []) }
     {
-        let mut entries = Vec::new(alloc);
+        let first = place.head();
+        let mut entries = Vec::with_capacity(alloc, CAPACITY)?;
         entries.push((place, Some(row)))?;
-        Ok(Block { entries })
+        Ok(Block { first, entries })
     }
 
     /// How many places there are.
@@ -76,7 +86,7 @@ impl Block {
         ensures { result ≡ starts_within probe.now self.now }
     {
         match self.entries.first() {
-            Some(entry) => entry.0.compare(probe).is_le(),
+            Some(entry) => is_within(&self.first, entry, probe),
             None => true,
         }
     }
@@ -110,8 +120,14 @@ impl Block {
         ensures ok { OnOk result (self.new ≡ take index self.old ++ (place, Some row) ∷ drop index self.old) }
         ensures err { OnErr result (self.new ≡ self.old) }
     {
+        let head = place.head();
         match self.entries.insert(index, (place, Some(row))) {
-            Ok(()) => Ok(()),
+            Ok(()) => {
+                if index == 0 {
+                    self.first = head;
+                }
+                Ok(())
+            }
             Err(_) => Err(AllocError),
         }
     }
@@ -122,6 +138,9 @@ impl Block {
         ensures { self.new ≡ take index self.old ++ drop (suc index) self.old }
     {
         self.entries.remove(index);
+        if index == 0 {
+            self.first = head_of_first(&self.entries, self.first);
+        }
     }
 
     /// Cuts the places from an index on off.
@@ -131,8 +150,11 @@ impl Block {
         ensures back { IfOk result (λ block. block ≡ drop index self.old) }
         ensures err { OnErr result (self.new ≡ self.old) }
     {
-        let entries = self.entries.split_off(index)?;
-        Ok(Block { entries })
+        let mut entries = self.entries.split_off(index)?;
+        // Room for what will come in. It isn't needed yet, so its want is no error.
+        let _ = entries.reserve(CAPACITY.saturating_sub(entries.len()));
+        let first = head_of_first(&entries, self.first);
+        Ok(Block { first, entries })
     }
 
     /// Takes all empty places out.
@@ -140,5 +162,29 @@ impl Block {
         ensures { self.new ≡ without_empty self.old }
     {
         self.entries.retain(|entry| entry.1.is_some());
+        self.first = head_of_first(&self.entries, self.first);
+    }
+}
+
+/// The head of the first place; any other where there is none.
+fn head_of_first(entries: &[Entry], other: Head) -> Head
+    ensures { HasFirst result entries.now }
+{
+    match entries.first() {
+        Some(entry) => entry.0.head(),
+        None => other,
+    }
+}
+
+/// Whether a place with this head isn't above one that is looked for. It looks at the place where the head doesn't tell.
+#[inline(always)]
+fn is_within(head: &Head, entry: &Entry, probe: &Probe<'_>) -> bool
+    requires { IsHeadOfPlace head.now entry.now.0 }
+    ensures { result ≡ is_le (bytes_cmp entry.now.0 probe.now) }
+{
+    match probe.compare_head(head) {
+        Ordering::Less => true,
+        Ordering::Equal => entry.0.compare(probe).is_le(),
+        Ordering::Greater => false,
     }
 }

@@ -52,29 +52,19 @@ pub fn padded_word(bytes: &[u8]) -> u64
     ensures bytes { padded 8 bytes.now ≡ to_be_bytes w64 result }
     ensures small { result < 2 ^ 64 }
 {
-    if bytes.len() >= 8 {
-        let (number, _) = number_of(bytes);
-        return number;
-    }
-    u64::from_be_bytes([
-        byte_at(bytes, 0),
-        byte_at(bytes, 1),
-        byte_at(bytes, 2),
-        byte_at(bytes, 3),
-        byte_at(bytes, 4),
-        byte_at(bytes, 5),
-        byte_at(bytes, 6),
-        0,
-    ])
-}
-
-/// A byte, or zero where there is none.
-fn byte_at(bytes: &[u8], at: usize) -> u8
-    ensures { result ≡ slice_index_or bytes.now at 0 }
-{
-    match bytes.get(at) {
-        Some(byte) => *byte,
-        None => 0,
+    match bytes {
+        [] => 0,
+        [a] => u64::from_be_bytes([*a, 0, 0, 0, 0, 0, 0, 0]),
+        [a, b] => u64::from_be_bytes([*a, *b, 0, 0, 0, 0, 0, 0]),
+        [a, b, c] => u64::from_be_bytes([*a, *b, *c, 0, 0, 0, 0, 0]),
+        [a, b, c, d] => u64::from_be_bytes([*a, *b, *c, *d, 0, 0, 0, 0]),
+        [a, b, c, d, e] => u64::from_be_bytes([*a, *b, *c, *d, *e, 0, 0, 0]),
+        [a, b, c, d, e, f] => u64::from_be_bytes([*a, *b, *c, *d, *e, *f, 0, 0]),
+        [a, b, c, d, e, f, g] => u64::from_be_bytes([*a, *b, *c, *d, *e, *f, *g, 0]),
+        [_, _, _, _, _, _, _, _, ..] => {
+            let (number, _) = number_of(bytes);
+            number
+        }
     }
 }
 

@@ -6,17 +6,17 @@ ghost use Rattle.bdb_keep.specs.Entries.{place_at, rows_of, row_of, KeepsPlaces}
 ghost use Rattle.bdb_keep.specs.Changes.{undone, places_of, HavePlaces};
 ghost use Rattle.bdb_keep.specs.Tables.{set_at};
 
-use crate::block::CAPACITY;
 use crate::place::{Place, Row};
 use crate::rows::Rows;
 use crate::words::Probe;
 use std::alloc::{AllocError, Global};
 
-/// A change of a transaction: where it was made, and the row that stood there before.
+/// A change of a transaction: where it was made, the row that stood there before, and whether it emptied the place.
 #[derive(Drop)]
 pub struct Change {
     pub place: Place,
     pub before: Option<Row>,
+    pub emptied: bool,
 }
 
 /// Puts what stands at a place, and answers what stood there. The answer is the new row where there is no such place.
@@ -89,7 +89,11 @@ pub fn put_row(
     let copy = Row::of(alloc, row)?;
     let probe = Probe::of(tab, key);
     let before = insert_row(rows, &probe, copy)?;
-    changes.push_reserved(Change { place, before });
+    changes.push_reserved(Change {
+        place,
+        before,
+        emptied: false,
+    });
     Ok(())
 }
 
@@ -115,6 +119,7 @@ pub fn take_row(
             changes.push_reserved(Change {
                 place,
                 before: Some(row),
+                emptied: true,
             });
             Ok(true)
         }
@@ -122,30 +127,37 @@ pub fn take_row(
     }
 }
 
-/// How many of the changes have a row that stood there before: at most so many places are empty.
-pub fn count_rows_before(changes: &[Change]) -> usize {
-    changes
-        .iter()
-        .filter(|change| change.before.is_some())
-        .count()
+/// How many of the changes emptied their place: at most so many places are empty.
+fn count_emptied(changes: &[Change]) -> usize {
+    changes.iter().filter(|change| change.emptied).count()
 }
 
-/// Forgets the changes, and takes the empty places away, of which at most so many are among the places of the changes.
-/// Where they are many it walks over all rows, where there is none over nothing.
-pub fn settle(rows: &mut Rows, changes: &mut Vec<Change>, emptied: usize)
+/// Forgets the changes, and takes the places away that they left empty. Where these are more than there are blocks, it walks over all
+/// rows; where no place was emptied, it looks at none.
+pub fn settle(rows: &mut Rows, changes: &mut Vec<Change>)
     ensures rows { rows_of rows.new ≡ rows_of rows.old }
     ensures none { changes.new.items ≡ [] }
 {
+    let emptied = count_emptied(changes);
     if emptied == 0 {
         changes.clear();
         return;
     }
-    if emptied / CAPACITY > rows.block_count() / 8 {
+    if emptied > rows.block_count() {
         rows.drop_all_empty();
         changes.clear();
         return;
     }
     while let Some(change) = changes.pop() {
+        drop_emptied(rows, &change);
+    }
+}
+
+/// Takes the place of a change away where the change emptied it, and it is empty.
+fn drop_emptied(rows: &mut Rows, change: &Change)
+    ensures { rows_of rows.new ≡ rows_of rows.old }
+{
+    if change.emptied {
         rows.drop_empty(&change.place.probe());
     }
 }
@@ -169,5 +181,6 @@ pub fn put_back(rows: &mut Rows, change: &mut Change)
     ensures keeps { KeepsPlaces rows.old rows.new }
 {
     let before = change.before.take();
+    change.emptied = before.is_none();
     let _ = swap_row(rows, &change.place, before);
 }

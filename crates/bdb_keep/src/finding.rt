@@ -3,15 +3,18 @@ ghost use Rattle.std.specs.Prelude.{◌≡◌, ◌<◌, ◌≤◌, ◌-◌, ◌^
 ghost use Rattle.std.specs.declared.cmp.Ordering.TheVariants.{Less, Greater};
 ghost use Rattle.bdb_keep.specs.Tables.{bytes_cmp};
 ghost use Rattle.bdb_keep.specs.Entries.{AreBelow, NoneBelow};
-ghost use Rattle.bdb_keep.specs.Blocks.{joined, before, after, entry_at, starts_within, AreSorted, HaveEntries, IsBound, IsBlockFor, IsThere, StandsAt, IsGap, IsRest};
+ghost use Rattle.bdb_keep.specs.Blocks.{joined, before, after, entry_at, starts_within, AreSorted, HaveEntries, IsBound, IsBlockFor, IsThere, StandsAt, IsGap};
+ghost use Rattle.bdb_keep.specs.Shelves.{NoRowFrom, BelongsAmong};
 
 use crate::block::{Block, Entry};
-use crate::cursors::Near;
 use crate::words::Probe;
 use std::cmp::Ordering;
 
 /// Where an entry stands, or would stand: a block, and an index in it.
 pub type Spot = (usize, usize);
+
+/// Two spots where a search looks first.
+pub type Near = (Spot, Spot);
 
 /// Where a place stands; at Err where it belongs. It looks first where `near` says.
 pub fn find(blocks: &[Block], near: Near, probe: &Probe<'_>) -> Result<Spot, Spot>
@@ -37,10 +40,25 @@ pub fn find_row(blocks: &[Block], near: Near, probe: &Probe<'_>) -> Option<Spot>
     requires { AreSorted blocks.now }
     ensures there { IfSome result (λ spot. IsThere blocks.now spot.0 spot.1) }
     ensures row { IfSome result (λ spot. is_some (entry_at (slice_index_or blocks.now spot.0 []) spot.1).1 ≡ true) }
-    ensures first { IfSome result (λ spot. IsRest (joined blocks.now) (after blocks.now spot.0 spot.1) probe.now) }
-    ensures none { IfNone result (IsRest (joined blocks.now) [] probe.now) }
+    ensures passed { IfSome result (λ spot. NoRowFrom probe.now (before blocks.now spot.0 spot.1)) }
+    ensures reached { IfSome result (λ spot. NoneBelow probe.now (after blocks.now spot.0 spot.1)) }
+    ensures none { IfNone result (NoRowFrom probe.now (joined blocks.now)) }
 {
-    let mut bound = seek(blocks, near, probe);
+    let bound = seek(blocks, near, probe);
+    row_from(blocks, bound, probe)
+}
+
+/// The same where it is known where the first place stands that isn't below.
+pub fn row_from(blocks: &[Block], start: Spot, probe: &Probe<'_>) -> Option<Spot>
+    requires sorted { AreSorted blocks.now }
+    requires bound { IsBound blocks.now probe.now start.0 start.1 }
+    ensures there { IfSome result (λ spot. IsThere blocks.now spot.0 spot.1) }
+    ensures row { IfSome result (λ spot. is_some (entry_at (slice_index_or blocks.now spot.0 []) spot.1).1 ≡ true) }
+    ensures passed { IfSome result (λ spot. NoRowFrom probe.now (before blocks.now spot.0 spot.1)) }
+    ensures reached { IfSome result (λ spot. NoneBelow probe.now (after blocks.now spot.0 spot.1)) }
+    ensures none { IfNone result (NoRowFrom probe.now (joined blocks.now)) }
+{
+    let mut bound = start;
     while let Some(spot) = first_at(blocks, bound) {
         if entry_of(blocks, spot).1.is_some() {
             return Some(spot);
@@ -48,6 +66,80 @@ pub fn find_row(blocks: &[Block], near: Near, probe: &Probe<'_>) -> Option<Spot>
         bound = (spot.0, spot.1 + 1);
     }
     None
+}
+
+/// Where a place stands, at Err where it belongs, if the one at a spot is this place, the last one below it, or the first one above
+/// it. None also where it may belong behind these blocks; `is_last` tells that there is nothing behind them.
+pub fn find_beside(
+    blocks: &[Block],
+    spot: Spot,
+    is_last: bool,
+    probe: &Probe<'_>,
+) -> Option<Result<Spot, Spot>>
+    requires { AreSorted blocks.now }
+    ensures there { IfSome result (λ found. IfOk found (λ at. StandsAt blocks.now probe.now at.0 at.1)) }
+    ensures gap { IfSome result (λ found. IfErr found (λ at. IsGap blocks.now probe.now at.0 at.1)) }
+    ensures belongs { IfSome result (λ found. BelongsAmong (joined blocks.now) probe.now is_last) }
+{
+    match first_at(blocks, spot) {
+        Some(here) => match entry_of(blocks, here).0.compare(probe) {
+            Ordering::Less => find_behind(blocks, here, is_last, probe),
+            Ordering::Equal => Some(Ok(here)),
+            Ordering::Greater => find_before(blocks, here, is_last, probe),
+        },
+        None => None,
+    }
+}
+
+/// The same where the one at the spot is above it.
+fn find_before(
+    blocks: &[Block],
+    spot: Spot,
+    is_last: bool,
+    probe: &Probe<'_>,
+) -> Option<Result<Spot, Spot>>
+    requires sorted { AreSorted blocks.now }
+    requires there { IsThere blocks.now spot.0 spot.1 }
+    requires above { bytes_cmp (entry_at (slice_index_or blocks.now spot.0 []) spot.1).0 probe.now ≡ Greater }
+    ensures there { IfSome result (λ found. IfOk found (λ at. StandsAt blocks.now probe.now at.0 at.1)) }
+    ensures gap { IfSome result (λ found. IfErr found (λ at. IsGap blocks.now probe.now at.0 at.1)) }
+    ensures belongs { IfSome result (λ found. BelongsAmong (joined blocks.now) probe.now is_last) }
+{
+    if spot.1 == 0 {
+        return None;
+    }
+    let last = (spot.0, spot.1 - 1);
+    match entry_of(blocks, last).0.compare(probe) {
+        Ordering::Less => Some(Err(spot)),
+        Ordering::Equal => Some(Ok(last)),
+        Ordering::Greater => None,
+    }
+}
+
+/// The same where the one at the spot is below it.
+fn find_behind(
+    blocks: &[Block],
+    spot: Spot,
+    is_last: bool,
+    probe: &Probe<'_>,
+) -> Option<Result<Spot, Spot>>
+    requires sorted { AreSorted blocks.now }
+    requires there { IsThere blocks.now spot.0 spot.1 }
+    requires small { spot.1 < 2 ^ 64 - 1 }
+    requires below { bytes_cmp (entry_at (slice_index_or blocks.now spot.0 []) spot.1).0 probe.now ≡ Less }
+    ensures there { IfSome result (λ found. IfOk found (λ at. StandsAt blocks.now probe.now at.0 at.1)) }
+    ensures gap { IfSome result (λ found. IfErr found (λ at. IsGap blocks.now probe.now at.0 at.1)) }
+    ensures belongs { IfSome result (λ found. BelongsAmong (joined blocks.now) probe.now is_last) }
+{
+    let behind = (spot.0, spot.1 + 1);
+    match first_at(blocks, behind) {
+        Some(next) => match entry_of(blocks, next).0.compare(probe) {
+            Ordering::Less => None,
+            Ordering::Equal => Some(Ok(next)),
+            Ordering::Greater => Some(Err(behind)),
+        },
+        None => { if is_last { Some(Err(behind)) } else { None } }
+    }
 }
 
 /// Where the first place stands, or would stand, that isn't below the one that is looked for.

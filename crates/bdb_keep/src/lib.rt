@@ -1,7 +1,9 @@
 //! Keepers of rows: tables of byte keys and byte rows with transactions, and the keepers in memory.
 #![tactic(auto)]
 
+mod beside;
 mod block;
+mod blocks;
 mod bytes;
 mod changes;
 mod cursors;
@@ -12,7 +14,10 @@ mod ledger;
 mod mem;
 mod place;
 mod quiet;
+mod reading;
 mod rows;
+mod shelf;
+mod shelves;
 mod store;
 #[cfg(test)]
 mod tests;

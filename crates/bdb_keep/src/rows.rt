@@ -1,18 +1,17 @@
-// The rows by place, in sorted blocks, where a removed row leaves an empty place.
-ghost use Rattle.std.specs.Prelude.{◌≡◌, ◌≤◌, ◌∷◌, ◌++◌, [], Some, None, IfOk, IfErr, IfSome, ◌<◌, ◌↔◌, OnOk, OnErr, IsSome, IsTrue, MatchBool, is_some, true, false, List, ℕ, if◌then◌else◌};
-ghost use Prim.Native.Nat.{suc};
-ghost use Rattle.std.specs.Prelude.{length, slice_index_or, map as map_list};
+// The rows by place, on sorted shelves, where a removed row leaves an empty place.
+ghost use Rattle.std.specs.Prelude.{◌≡◌, ◌∷◌, [], Some, None, IfOk, IfErr, ◌↔◌, OnOk, OnErr, IsTrue, MatchBool, is_some, false, if◌then◌else◌};
 ghost use Rattle.std.specs.Option.{option_map, option_copied};
 ghost use Rattle.std.specs.FinMap as map;
-ghost use Rattle.bdb_keep.specs.Entries.{place_at, rows_of, row_of, IsSetAt, IsAmong, AreAmong};
-ghost use Rattle.bdb_keep.specs.Blocks.{joined, before, after, AreSorted, HaveEntries, IsGap, IsThere, without_empty, cut, entry_at};
-ghost use Rattle.bdb_keep.specs.Tables.{IsLeastFrom, NoneFrom, LieWithin, set_at};
+ghost use Rattle.bdb_keep.specs.Entries.{place_at, rows_of, IsSetAt, IsAmong, AreAmong};
+ghost use Rattle.bdb_keep.specs.Blocks.{joined};
+ghost use Rattle.bdb_keep.specs.Tables.{IsLeastFrom, NoneFrom, LieWithin};
 
-use crate::block::{Block, CAPACITY, Entry};
+use crate::block::{Block, Entry};
 use crate::cursors::Cursors;
-use crate::finding::{Spot, block_at, entry_of, find, find_row};
 use crate::place::Row;
-use crate::words::{Probe, Words};
+use crate::shelf::Shelf;
+use crate::shelves;
+use crate::words::Probe;
 use std::alloc::{AllocError, Global};
 use std::marker::Model;
 
@@ -21,7 +20,7 @@ use std::marker::Model;
 #[derive(Drop)]
 pub struct Rows {
     alloc: Global,
-    blocks: Vec<Block>,
+    shelves: Vec<Shelf>,
     cursors: Cursors,
 }
 
@@ -31,9 +30,9 @@ impl Model for Rows {
 
     ghost Value = { Entries };
 
-    ghost view = { λ r. joined r.blocks.items };
+    ghost view = { λ r. joined r.shelves.items };
 
-    ghost invariant = { λ r. AreSorted r.blocks.items };
+    ghost invariant = { λ r. AreSorted r.shelves.items };
 }
 
 impl Rows {
@@ -43,24 +42,25 @@ impl Rows {
     {
         Rows {
             alloc,
-            blocks: Vec::new(alloc),
+            shelves: Vec::new(alloc),
             cursors: Cursors::new(),
         }
     }
 
     /// How many blocks there are.
     pub fn block_count(&self) -> usize {
-        self.blocks.len()
+        let mut count = 0usize;
+        for shelf in &self.shelves {
+            count = count.saturating_add(shelf.block_count());
+        }
+        count
     }
 
     /// What stands at a place.
     pub fn get(&self, probe: &Probe<'_>) -> Option<&Option<Row>>
         ensures { option_copied result ≡ place_at self.now probe.now }
     {
-        match find(&self.blocks, self.cursors.near(probe.tab()), probe) {
-            Ok(spot) => Some(&entry_of(&self.blocks, spot).1),
-            Err(_) => None,
-        }
+        shelves::get(&self.shelves, self.cursors.to_read(probe.tab()), probe)
     }
 
     /// Puts what stands at a place, and answers what stood there. The answer is the new row where there
@@ -72,12 +72,13 @@ impl Rows {
         ensures back { IfErr result (λ back. back ≡ row) }
         ensures same { OnErr result (self.new ≡ self.old) }
     {
-        match find(&self.blocks, self.cursors.near(probe.tab()), probe) {
-            Ok(spot) => {
-                self.cursors.remember(probe.tab(), spot);
-                Ok(replace_at(&mut self.blocks, spot, row))
+        let near = self.cursors.to_write(probe.tab());
+        match shelves::swap(&mut self.shelves, near, probe, row) {
+            Ok((mark, before)) => {
+                self.cursors.remember_written(probe.tab(), mark);
+                Ok(before)
             }
-            Err(_) => Err(row),
+            Err(row) => Err(row),
         }
     }
 
@@ -88,37 +89,38 @@ impl Rows {
         ensures set { OnOk result (IsSetAt self.old self.new probe.now (Some (Some row))) }
         ensures err { OnErr result (self.new ≡ self.old) }
     {
-        match find(&self.blocks, self.cursors.near(probe.tab()), probe) {
-            Ok(spot) => {
-                self.cursors.remember(probe.tab(), spot);
-                Ok(Some(replace_at(&mut self.blocks, spot, Some(row))))
-            }
-            Err(spot) => {
-                let rises = is_behind(self.cursors.near(probe.tab()).0, spot);
-                let spot = add(self.alloc, &mut self.blocks, spot, rises, probe, row)?;
-                self.cursors.remember(probe.tab(), spot);
-                Ok(None)
-            }
-        }
+        let near = self.cursors.to_write(probe.tab());
+        let (mark, before) = shelves::insert(self.alloc, &mut self.shelves, near, probe, row)?;
+        self.cursors.remember_written(probe.tab(), mark);
+        Ok(before)
     }
 
     /// Takes a place away where it is empty.
     pub fn drop_empty(&mut self, probe: &Probe<'_>)
         ensures { rows_of self.new ≡ rows_of self.old }
     {
-        match self.get(probe) {
-            Some(None) => self.remove(probe),
-            Some(Some(_)) => {}
-            None => {}
+        if !self.has_row(probe) {
+            self.remove(probe);
         }
+    }
+
+    /// Whether there is a row at a place.
+    fn has_row(&mut self, probe: &Probe<'_>) -> bool
+        ensures found { result ≡ is_some (map.get (rows_of self.old) probe.now) }
+        ensures same { self.new ≡ self.old }
+    {
+        let near = self.cursors.to_read(probe.tab());
+        let (mark, found) = shelves::has_row(&self.shelves, near, probe);
+        self.cursors.remember_read(probe.tab(), mark);
+        found
     }
 
     /// Takes all empty places away, in one walk over the rows.
     pub fn drop_all_empty(&mut self)
         ensures { rows_of self.new ≡ rows_of self.old }
     {
-        drop_empty_places(&mut self.blocks);
-        drop_empty_blocks(&mut self.blocks);
+        shelves::drop_empty_places(&mut self.shelves);
+        shelves::drop_empty_shelves(&mut self.shelves);
     }
 
     /// Takes a place away, with what stands there.
@@ -126,13 +128,9 @@ impl Rows {
         ensures set { IsSetAt self.old self.new probe.now None }
         ensures rows { rows_of self.new ≡ map.remove (rows_of self.old) probe.now }
     {
-        match find(&self.blocks, self.cursors.near(probe.tab()), probe) {
-            Ok(spot) => {
-                self.cursors.remember(probe.tab(), spot);
-                take_out(&mut self.blocks, spot);
-            }
-            Err(_) => {}
-        }
+        let near = self.cursors.to_write(probe.tab());
+        let mark = shelves::remove(&mut self.shelves, near, probe);
+        self.cursors.remember_written(probe.tab(), mark);
     }
 }
 
@@ -143,17 +141,10 @@ impl Rows {
         ensures empty { IfOk result (λ found. found ≡ false → row.new.items ≡ []) }
         ensures same { self.new ≡ self.old }
     {
-        match find(&self.blocks, self.cursors.near(probe.tab()), probe) {
-            Ok(spot) => {
-                self.cursors.remember(probe.tab(), spot);
-                copy_row(&entry_of(&self.blocks, spot).1, row)
-            }
-            Err(spot) => {
-                self.cursors.remember(probe.tab(), spot);
-                row.clear();
-                Ok(false)
-            }
-        }
+        let near = self.cursors.to_read(probe.tab());
+        let (mark, found) = shelves::read(&self.shelves, near, probe, row)?;
+        self.cursors.remember_read(probe.tab(), mark);
+        Ok(found)
     }
 
     /// Reads the least key of a table that isn't below `low`, and its row.
@@ -170,18 +161,10 @@ impl Rows {
         ensures empty { IfOk result (λ found. found ≡ false → (key.new.items ≡ []) × (row.new.items ≡ [])) }
         ensures same { self.new ≡ self.old }
     {
-        let probe = Probe::of(tab, low);
-        match find_row(&self.blocks, self.cursors.near(tab), &probe) {
-            Some(spot) => {
-                self.cursors.remember(tab, spot);
-                give(tab, entry_of(&self.blocks, spot), key, row)
-            }
-            None => {
-                key.clear();
-                row.clear();
-                Ok(false)
-            }
-        }
+        let near = self.cursors.to_read(tab);
+        let (mark, found) = shelves::read_first(&self.shelves, near, tab, low, key, row)?;
+        self.cursors.remember_read(tab, mark);
+        Ok(found)
     }
 
     /// The row at a place, if there is one.
@@ -200,13 +183,25 @@ impl Rows {
     pub fn lies_within(&self, others: &Rows) -> bool
         ensures { IsTrue result ↔ LieWithin (rows_of self.now) (rows_of others.now) }
     {
-        for block in &self.blocks {
-            if !has_all(others, block.entries()) {
+        for shelf in &self.shelves {
+            if !has_blocks(others, shelf.blocks()) {
                 return false;
             }
         }
         true
     }
+}
+
+/// Whether each row of some blocks is in others.
+fn has_blocks(others: &Rows, blocks: &[Block]) -> bool
+    ensures { IsTrue result ↔ AreAmong (rows_of others.now) (joined blocks.now) }
+{
+    for block in blocks {
+        if !has_all(others, block.entries()) {
+            return false;
+        }
+    }
+    true
 }
 
 /// Whether each row of some entries is in others.
@@ -235,168 +230,4 @@ fn has_same(others: &Rows, entry: &Entry) -> bool
             None => false,
         },
     }
-}
-
-/// Copies a row, if there is one.
-fn copy_row(from: &Option<Row>, row: &mut Vec<u8>) -> Result<bool, AllocError>
-    ensures found { IfOk result (λ found. from.now ≡ (if found then Some row.new.items else None)) }
-    ensures empty { IfOk result (λ found. found ≡ false → row.new.items ≡ []) }
-{
-    row.clear();
-    match from {
-        Some(bytes) => {
-            row.extend_from_slice(bytes.as_slice())?;
-            Ok(true)
-        }
-        None => Ok(false),
-    }
-}
-
-/// Gives the key of an entry and its row, where it has one and its place is in a table.
-fn give(tab: u8, entry: &Entry, key: &mut Vec<u8>, row: &mut Vec<u8>) -> Result<bool, AllocError>
-    ensures place { IfOk result (λ found. found ≡ true → entry.now ≡ (tab ∷ key.new.items, Some row.new.items)) }
-    ensures other { IfOk result (λ found. found ≡ false → is_some entry.now.1 ≡ true → (q : List ℕ) → entry.now.0 ≡ tab ∷ q → ⊥) }
-    ensures empty { IfOk result (λ found. found ≡ false → (key.new.items ≡ []) × (row.new.items ≡ [])) }
-{
-    key.clear();
-    row.clear();
-    let (place, found) = entry;
-    match found {
-        Some(bytes) => {
-            if place.write_key(key)? != tab {
-                key.clear();
-                return Ok(false);
-            }
-            row.extend_from_slice(bytes.as_slice())?;
-            Ok(true)
-        }
-        None => Ok(false),
-    }
-}
-
-/// Puts another row where a place stands, and answers the one that stood there.
-fn replace_at(blocks: &mut Vec<Block>, spot: Spot, row: Option<Row>) -> Option<Row>
-    requires sorted { AreSorted blocks.old.items }
-    requires there { IsThere blocks.old.items spot.0 spot.1 }
-    ensures sorted { AreSorted blocks.new.items }
-    ensures before { result ≡ (entry_at (slice_index_or blocks.old.items spot.0 []) spot.1).1 }
-    ensures entries { joined blocks.new.items ≡ before blocks.old.items spot.0 spot.1 ++ ((entry_at (slice_index_or blocks.old.items spot.0 []) spot.1).0, row) ∷ after blocks.old.items spot.0 (suc spot.1) }
-{
-    blocks[spot.0].replace(spot.1, row)
-}
-
-/// Adds a place that stands nowhere where it belongs, and answers where it stands. `rises` tells that it comes right behind the one
-/// that was used last.
-fn add(
-    alloc: Global,
-    blocks: &mut Vec<Block>,
-    spot: Spot,
-    rises: bool,
-    probe: &Probe<'_>,
-    row: Row,
-) -> Result<Spot, AllocError>
-    requires sorted { AreSorted blocks.old.items }
-    requires gap { IsGap blocks.old.items probe.now spot.0 spot.1 }
-    ensures sorted { AreSorted blocks.new.items }
-    ensures ok { OnOk result (joined blocks.new.items ≡ before blocks.old.items spot.0 spot.1 ++ (probe.now, Some row) ∷ after blocks.old.items spot.0 spot.1) }
-    ensures err { OnErr result (joined blocks.new.items ≡ joined blocks.old.items) }
-{
-    let place = Words::of(alloc, probe)?;
-    if blocks.is_empty() {
-        let block = Block::of(alloc, place, row)?;
-        blocks.push(block)?;
-        return Ok(spot);
-    }
-    let spot = make_room(blocks, spot, rises)?;
-    blocks[spot.0].insert(spot.1, place, row)?;
-    Ok(spot)
-}
-
-/// Cuts a full block in two, and answers where the spot is then.
-fn make_room(blocks: &mut Vec<Block>, spot: Spot, rises: bool) -> Result<Spot, AllocError>
-    requires sorted { AreSorted blocks.old.items }
-    requires block { spot.0 < length blocks.old.items }
-    requires index { spot.1 ≤ length (slice_index_or blocks.old.items spot.0 []) }
-    ensures sorted { AreSorted blocks.new.items }
-    ensures same { joined blocks.new.items ≡ joined blocks.old.items }
-    ensures block { IfOk result (λ at. at.0 < length blocks.new.items) }
-    ensures index { IfOk result (λ at. at.1 ≤ length (slice_index_or blocks.new.items at.0 [])) }
-    ensures before { IfOk result (λ at. before blocks.new.items at.0 at.1 ≡ before blocks.old.items spot.0 spot.1) }
-    ensures after { IfOk result (λ at. after blocks.new.items at.0 at.1 ≡ after blocks.old.items spot.0 spot.1) }
-{
-    if block_at(blocks, spot.0).len() < CAPACITY {
-        return Ok(spot);
-    }
-    let middle = middle_for(spot.1, rises);
-    cut_block(blocks, spot.0, middle)?;
-    if spot.1 <= middle {
-        Ok(spot)
-    } else {
-        Ok((spot.0 + 1, spot.1 - middle))
-    }
-}
-
-/// Cuts a block in two.
-fn cut_block(blocks: &mut Vec<Block>, at: usize, middle: usize) -> Result<(), AllocError>
-    requires block { at < length blocks.old.items }
-    requires index { middle ≤ length (slice_index_or blocks.old.items at []) }
-    ensures ok { OnOk result (blocks.new.items ≡ cut blocks.old.items at middle) }
-    ensures err { OnErr result (blocks.new.items ≡ blocks.old.items) }
-{
-    blocks.reserve(1)?;
-    let back = blocks[at].split_off(middle)?;
-    match blocks.insert(at + 1, back) {
-        Ok(()) => Ok(()),
-        Err(_) => unreachable!(),
-    }
-}
-
-/// Where a full block is cut: in the middle; but where places come in their order, right behind the new one, so that they leave full
-/// blocks.
-fn middle_for(index: usize, rises: bool) -> usize
-    ensures { (1 ≤ result) × (result < 128) }
-{
-    if index >= CAPACITY {
-        CAPACITY - 1
-    } else if rises && index > 0 {
-        index
-    } else {
-        CAPACITY / 2
-    }
-}
-
-/// Whether a spot is the one right behind another in its block.
-fn is_behind(last: Spot, spot: Spot) -> bool {
-    spot.0 == last.0 && spot.1 == last.1.saturating_add(1)
-}
-
-/// Takes an entry out, and its block where that is then empty.
-fn take_out(blocks: &mut Vec<Block>, spot: Spot)
-    requires sorted { AreSorted blocks.old.items }
-    requires there { IsThere blocks.old.items spot.0 spot.1 }
-    ensures sorted { AreSorted blocks.new.items }
-    ensures rest { joined blocks.new.items ≡ before blocks.old.items spot.0 spot.1 ++ after blocks.old.items spot.0 (suc spot.1) }
-{
-    if block_at(blocks, spot.0).len() == 1 {
-        blocks.remove(spot.0);
-    } else {
-        blocks[spot.0].remove(spot.1);
-    }
-}
-
-/// Takes the empty places out of each block.
-fn drop_empty_places(blocks: &mut Vec<Block>)
-    ensures { blocks.new.items ≡ map_list without_empty blocks.old.items }
-{
-    for block in blocks.iter_mut() {
-        block.drop_empty();
-    }
-}
-
-/// Takes the blocks with no entry out.
-fn drop_empty_blocks(blocks: &mut Vec<Block>)
-    ensures same { joined blocks.new.items ≡ joined blocks.old.items }
-    ensures full { HaveEntries blocks.new.items }
-{
-    blocks.retain(|block| !block.is_empty());
 }

@@ -5,7 +5,7 @@ ghost use Rattle.std.specs.FinMap as map;
 ghost use Rattle.bdb_keep.specs.Held.{IsPlace, written};
 ghost use Rattle.bdb_keep.specs.Tables.{IsLeastFrom, NoneFrom};
 
-use crate::changes::{Change, count_rows_before, insert_row, put_row, roll_back, settle, take_row};
+use crate::changes::{Change, insert_row, put_row, roll_back, settle, take_row};
 use crate::place::{Place, Row};
 use crate::rows::Rows;
 use crate::words::Probe;
@@ -102,17 +102,15 @@ impl Store {
     pub fn settle(&mut self)
         ensures { self.new ≡ record { kept = self.old.kept; last = self.old.kept; changes = [] } }
     {
-        let emptied = count_rows_before(&self.changes);
-        settle(&mut self.rows, &mut self.changes, emptied);
+        settle(&mut self.rows, &mut self.changes);
     }
 
     /// Undoes the changes: the rows are those last settled. It takes no memory.
     pub fn undo(&mut self)
         ensures { self.new ≡ record { kept = self.old.last; last = self.old.last; changes = [] } }
     {
-        let emptied = self.changes.len();
         roll_back(&mut self.rows, &mut self.changes);
-        settle(&mut self.rows, &mut self.changes, emptied);
+        settle(&mut self.rows, &mut self.changes);
     }
 
     /// Settles the changes, and puts a row as if it had stood there.
@@ -120,8 +118,7 @@ impl Store {
         ensures ok { OnOk result (let t = map.insert self.old.kept (tab ∷ key.now) row.now in self.new ≡ record { kept = t; last = t; changes = [] }) }
         ensures err { OnErr result (self.new ≡ record { kept = self.old.kept; last = self.old.kept; changes = [] }) }
     {
-        let emptied = count_rows_before(&self.changes);
-        settle(&mut self.rows, &mut self.changes, emptied);
+        settle(&mut self.rows, &mut self.changes);
         let copy = Row::of(self.alloc, row)?;
         insert_row(&mut self.rows, &Probe::of(tab, key), copy)?;
         Ok(())
@@ -131,8 +128,7 @@ impl Store {
     pub fn unset(&mut self, tab: u8, key: &[u8])
         ensures { let t = map.remove self.old.kept (tab ∷ key.now) in self.new ≡ record { kept = t; last = t; changes = [] } }
     {
-        let emptied = count_rows_before(&self.changes);
-        settle(&mut self.rows, &mut self.changes, emptied);
+        settle(&mut self.rows, &mut self.changes);
         self.rows.remove(&Probe::of(tab, key));
     }
 

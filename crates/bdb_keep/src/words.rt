@@ -1,6 +1,8 @@
 // Places as numbers.
-ghost use Rattle.std.specs.Prelude.{◌≡◌, ◌∷◌, IfOk};
+ghost use Rattle.std.specs.Prelude.{◌≡◌, ◌∷◌, IfOk, ℕ, List};
+ghost use Rattle.std.specs.declared.cmp.Ordering.TheVariants.{Equal};
 ghost use Rattle.bdb_keep.specs.Tables.{bytes_cmp};
+ghost use Rattle.bdb_keep.specs.Heads.{IsHeadOfPlace};
 
 use crate::bytes::{compare_words, from_index};
 use crate::head::Head;
@@ -43,6 +45,17 @@ impl Rest {
             Some(bytes) => bytes.as_slice(),
             None => &[],
         }
+    }
+
+    /// How they compare with other bytes. Mostly there are none on both sides.
+    #[inline(always)]
+    fn compare(&self, other: &[u8]) -> Ordering
+        ensures { result ≡ bytes_cmp self.now other.now }
+    {
+        if self.bytes.is_none() && other.is_empty() {
+            return Ordering::Equal;
+        }
+        compare_words(self.as_slice(), other)
     }
 }
 
@@ -92,9 +105,16 @@ impl Words {
         ensures { result ≡ bytes_cmp self.now probe.now }
     {
         match self.head.compare(&probe.head) {
-            Ordering::Equal => compare_words(self.rest.as_slice(), probe.rest),
+            Ordering::Equal => self.rest.compare(probe.rest),
             other => other,
         }
+    }
+
+    /// The head.
+    pub fn head(&self) -> Head
+        ensures { IsHeadOfPlace result self.now }
+    {
+        self.head
     }
 
     /// Writes the key, and answers the number of the table.
@@ -139,5 +159,13 @@ impl<'a> Probe<'a> {
     /// The number of the table.
     pub fn tab(&self) -> u8 {
         self.head.tab
+    }
+
+    /// How a place with this head compares with the one that is looked for; at Equal the head doesn't tell.
+    #[inline(always)]
+    pub fn compare_head(&self, head: &Head) -> Ordering
+        ensures { (place : List ℕ) → IsHeadOfPlace head.now place → (result ≡ Equal → ⊥) → result ≡ bytes_cmp place self.now }
+    {
+        head.compare(&self.head)
     }
 }

@@ -1,4 +1,3 @@
-use Rattle.std.proofs.Common.{◌∷◌}
 use Rattle.bdb_keep.proofs.RowsLemmas.{rows_of-updates, KeepsPlaces-updates}
 use Rattle.bdb_keep.proofs.changes.insert_row.Goals as goal
 

@@ -1,4 +1,4 @@
-use Rattle.std.proofs.Common.{◌∷◌, rules}
+use Rattle.std.proofs.Common.{rules}
 use Rattle.bdb_keep.proofs.BlocksLemmas.{above-last}
 use Rattle.bdb_keep.proofs.finding.is_above_last.Goals as goal
 

@@ -1,4 +1,4 @@
-use Rattle.std.proofs.Common.{◌≡◌, ◌∷◌, true, false, Ordering, Less, Equal, Greater, refl, sym, ap, ◌∙◌, rules}
+use Rattle.std.proofs.Common.{◌≡◌, true, false, Ordering, Less, Equal, Greater, refl, sym, ap, ◌∙◌, rules}
 use Rattle.std.specs.Ordering.{is_ge, is_lt}
 use Rattle.bdb_keep.specs.Tables.{bytes_cmp}
 use Rattle.bdb_keep.proofs.BlocksLemmas.{within-first}

@@ -1,4 +1,4 @@
-use Rattle.std.proofs.Common.{◌∷◌, ◌<◌, ◌≤◌, [], length, take, drop, rules, of_calls, arith, subst, sym}
+use Rattle.std.proofs.Common.{◌<◌, ◌≤◌, [], length, take, drop, rules, of_calls, arith, subst, sym}
 use Rattle.std.proofs.lemmas.Fn.{always_returns_same}
 use Rattle.bdb_keep.specs.Blocks.{starts_within}
 use Rattle.bdb_keep.specs.Entries.{IsAscending, AreBelow, NoneBelow}

@@ -1,4 +1,4 @@
-use Rattle.std.proofs.Common.{◌∷◌, refl}
+use Rattle.std.proofs.Common.{refl}
 use Rattle.bdb_keep.proofs.BlocksLemmas.{bound-before}
 use Rattle.bdb_keep.proofs.finding.seek_before.Goals as goal
 

@@ -1,4 +1,4 @@
-use Rattle.std.proofs.Common.{◌∷◌, ◌+◌, refl, arith}
+use Rattle.std.proofs.Common.{◌+◌, refl, arith}
 use Rattle.bdb_keep.proofs.BlocksLemmas.{bound-behind}
 use Rattle.bdb_keep.proofs.finding.seek_behind.Goals as goal
 

@@ -1,4 +1,4 @@
-use Rattle.std.proofs.Common.{◌∷◌, ◌≤◌, [], length, take, drop, refl, sym, subst}
+use Rattle.std.proofs.Common.{◌≤◌, [], length, take, drop, refl, sym, subst}
 use Rattle.bdb_keep.specs.Entries.{IsAscending, AreBelow, NoneBelow}
 use Rattle.bdb_keep.proofs.BlocksLemmas.{ascending-block, bound-in}
 use Rattle.bdb_keep.proofs.finding.seek_in.Goals as goal

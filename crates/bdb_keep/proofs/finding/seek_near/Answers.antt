@@ -1,4 +1,4 @@
-use Rattle.std.proofs.Common.{◌∷◌, sym, ap, ◌∙◌}
+use Rattle.std.proofs.Common.{sym, ap, ◌∙◌}
 use Rattle.bdb_keep.specs.Tables.{bytes_cmp}
 use Rattle.bdb_keep.proofs.BlocksLemmas.{bound-here}
 use Rattle.bdb_keep.proofs.finding.seek_near.Goals as goal

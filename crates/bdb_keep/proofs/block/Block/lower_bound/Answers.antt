@@ -1,4 +1,4 @@
-use Rattle.std.proofs.Common.{◌≡◌, ◌∙◌, ◌∷◌, take, drop, rules, of_calls, subst, sym}
+use Rattle.std.proofs.Common.{◌≡◌, ◌∙◌, take, drop, rules, of_calls, subst, sym}
 use Rattle.std.specs.Ordering.{is_lt}
 use Rattle.std.proofs.lemmas.Fn.{always_returns_same}
 use Rattle.bdb_keep.specs.Tables.{bytes_cmp}

@@ -3,5 +3,5 @@ use Rattle.bdb_keep.specs.Entries.{rows_of, AreAmong}
 use Rattle.bdb_keep.specs.Blocks.{joined}
 use Rattle.bdb_keep.proofs.rows.Rows.lies_within.Given as goal
 
-abbrev pub invariant-loop-block : goal.invariant-loop-block
-invariant-loop-block l = AreAmong (rows_of l.others) (joined (take l.block-index l.block-items))
+abbrev pub invariant-loop-shelf : goal.invariant-loop-shelf
+invariant-loop-shelf l = AreAmong (rows_of l.others) (joined (take l.shelf-index l.shelf-items))

@@ -1,0 +1,115 @@
+// Finding and changing places beside the mark that was set last. In work in the order of the places this is where they are, and no
+// shelf is looked for.
+ghost use Rattle.std.specs.Prelude.{◌≡◌, ◌<◌, ◌≤◌, true, Some, None, IfOk, IfErr, IfSome, OnOk, OnErr, length};
+ghost use Prim.Native.Nat.{suc};
+ghost use Rattle.std.specs.Option.{option_copied};
+ghost use Rattle.bdb_keep.specs.Entries.{place_at, row_of, IsSetAt};
+ghost use Rattle.bdb_keep.specs.Blocks.{joined, AreSorted};
+ghost use Rattle.bdb_keep.specs.Shelves.{IsFirstRow};
+
+use crate::block::Entry;
+use crate::cursors::Mark;
+use crate::place::Row;
+use crate::shelf::Shelf;
+use crate::shelves::shelf_at;
+use crate::words::Probe;
+use std::alloc::Global;
+
+/// Where a place stands or would stand, and the row there, if there is one. None where it isn't beside the mark.
+pub fn row_beside<'a>(
+    shelves: &'a [Shelf],
+    mark: Mark,
+    probe: &Probe<'_>,
+) -> Option<(Mark, Option<&'a Row>)>
+    requires { AreSorted shelves.now }
+    ensures { IfSome result (λ found. option_copied found.1 ≡ row_of (place_at (joined shelves.now) probe.now)) }
+{
+    let (at, spot) = mark;
+    if at >= shelves.len() {
+        return None;
+    }
+    match shelf_at(shelves, at).row_beside(spot, probe) {
+        Some((spot, row)) => Some(((at, spot), row)),
+        None => None,
+    }
+}
+
+/// Where the first place stands that has a row and isn't below the one that is looked for, and its entry. None where it isn't beside
+/// the mark.
+pub fn first_row_beside<'a>(
+    shelves: &'a [Shelf],
+    mark: Mark,
+    probe: &Probe<'_>,
+) -> Option<(Mark, &'a Entry)>
+    requires { AreSorted shelves.now }
+    ensures { IfSome result (λ first. IsFirstRow (joined shelves.now) probe.now first.1.now) }
+{
+    let (at, spot) = mark;
+    if at >= shelves.len() {
+        return None;
+    }
+    match shelf_at(shelves, at).first_row_beside(spot, probe) {
+        Some((spot, entry)) => Some(((at, spot), entry)),
+        None => None,
+    }
+}
+
+/// Puts what stands at a place, and answers where, and what stood there. The answer is the new row where no such place is beside the
+/// mark.
+pub fn swap_beside(
+    shelves: &mut Vec<Shelf>,
+    mark: Mark,
+    probe: &Probe<'_>,
+    row: Option<Row>,
+) -> Result<(Mark, Option<Row>), Option<Row>>
+    requires { AreSorted shelves.old.items }
+    ensures sorted { AreSorted shelves.new.items }
+    ensures found { IfOk result (λ before. place_at (joined shelves.old.items) probe.now ≡ Some before.1) }
+    ensures set { OnOk result (IsSetAt (joined shelves.old.items) (joined shelves.new.items) probe.now (Some row)) }
+    ensures back { IfErr result (λ back. back ≡ row) }
+    ensures same { OnErr result (joined shelves.new.items ≡ joined shelves.old.items) }
+{
+    let (at, spot) = mark;
+    if at >= shelves.len() {
+        return Err(row);
+    }
+    match shelves[at].swap_beside(spot, probe, row) {
+        Ok((spot, before)) => Ok(((at, spot), before)),
+        Err(row) => Err(row),
+    }
+}
+
+/// Puts a row at a place, which may be new, and answers where, and what stood there: at Some what the place had, at None nothing. At
+/// Err it gives the row back where the place isn't beside the mark, and None where memory is wanting.
+pub fn insert_beside(
+    alloc: Global,
+    shelves: &mut Vec<Shelf>,
+    mark: Mark,
+    probe: &Probe<'_>,
+    row: Row,
+) -> Result<(Mark, Option<Option<Row>>), Option<Row>>
+    requires { AreSorted shelves.old.items }
+    ensures sorted { AreSorted shelves.new.items }
+    ensures found { IfOk result (λ before. place_at (joined shelves.old.items) probe.now ≡ before.1) }
+    ensures set { OnOk result (IsSetAt (joined shelves.old.items) (joined shelves.new.items) probe.now (Some (Some row))) }
+    ensures back { IfErr result (λ back. IfSome back (λ given. given ≡ row)) }
+    ensures same { OnErr result (joined shelves.new.items ≡ joined shelves.old.items) }
+{
+    let (at, spot) = mark;
+    if at >= shelves.len() {
+        return Err(Some(row));
+    }
+    let is_last = is_last_shelf(shelves, at);
+    match shelves[at].insert_beside(alloc, spot, is_last, probe, row) {
+        Ok((spot, before)) => Ok(((at, spot), before)),
+        Err(back) => Err(back),
+    }
+}
+
+/// Whether there is no shelf behind this one.
+fn is_last_shelf(shelves: &[Shelf], at: usize) -> bool
+    requires { at < length shelves.now }
+    ensures { result ≡ true → length shelves.now ≤ suc at }
+{
+    at + 1 >= shelves.len()
+}

@@ -1,0 +1,460 @@
+// Finding and changing places on sorted shelves.
+ghost use Rattle.std.specs.Prelude.{is_some, ◌≡◌, ◌<◌, ◌∷◌, [], true, Some, None, IfOk, IfErr, IfSome, IfNone, OnOk, OnErr, MatchBool, if◌then◌else◌, length, slice_index_or, map as map_list, false};
+ghost use Rattle.std.specs.Option.{option_copied};
+ghost use Rattle.bdb_keep.specs.Tables.{IsLeastFrom, NoneFrom};
+ghost use Rattle.bdb_keep.specs.Entries.{place_at, row_of, rows_of, IsSetAt};
+ghost use Rattle.bdb_keep.specs.Blocks.{joined, starts_within, AreSorted, HaveEntries, IsBlockFor, without_empty};
+ghost use Rattle.bdb_keep.specs.Shelves.{NoRowFrom, IsFirstRow};
+
+use crate::beside::{first_row_beside, insert_beside, row_beside, swap_beside};
+use crate::block::Entry;
+use crate::cursors::{Mark, Marks, spots_on};
+use crate::finding::{Near, Spot};
+use crate::place::Row;
+use crate::reading::{copy_row, give};
+use crate::shelf::Shelf;
+use crate::words::Probe;
+use std::alloc::{AllocError, Global};
+
+/// The most blocks of a shelf, unless there was no memory to cut it.
+const CAPACITY: usize = 128;
+
+/// What stands at a place.
+pub fn get<'a>(shelves: &'a [Shelf], near: Marks, probe: &Probe<'_>) -> Option<&'a Option<Row>>
+    requires { AreSorted shelves.now }
+    ensures { option_copied result ≡ place_at (joined shelves.now) probe.now }
+{
+    match shelf_for(shelves, near, probe) {
+        Some(at) => shelf_at(shelves, at).get(spots_on(near, at), probe),
+        None => None,
+    }
+}
+
+/// Reads the row at a place, and answers where it stands or would stand, and whether there is one.
+pub fn read(
+    shelves: &[Shelf],
+    near: Marks,
+    probe: &Probe<'_>,
+    row: &mut Vec<u8>,
+) -> Result<(Mark, bool), AllocError>
+    requires { AreSorted shelves.now }
+    ensures found { IfOk result (λ found. row_of (place_at (joined shelves.now) probe.now) ≡ (if found.1 then Some row.new.items else None)) }
+    ensures empty { IfOk result (λ found. found.1 ≡ false → row.new.items ≡ []) }
+{
+    let (mark, there) = row_at(shelves, near, probe);
+    let found = copy_row(there, row)?;
+    Ok((mark, found))
+}
+
+/// Where a place stands or would stand, and whether there is a row.
+pub fn has_row(shelves: &[Shelf], near: Marks, probe: &Probe<'_>) -> (Mark, bool)
+    requires { AreSorted shelves.now }
+    ensures { result.1 ≡ is_some (row_of (place_at (joined shelves.now) probe.now)) }
+{
+    let (mark, row) = row_at(shelves, near, probe);
+    match row {
+        Some(_) => (mark, true),
+        None => (mark, false),
+    }
+}
+
+/// Where a place stands or would stand, and the row there, if there is one.
+fn row_at<'a>(shelves: &'a [Shelf], near: Marks, probe: &Probe<'_>) -> (Mark, Option<&'a Row>)
+    requires { AreSorted shelves.now }
+    ensures { option_copied result.1 ≡ row_of (place_at (joined shelves.now) probe.now) }
+{
+    match row_beside(shelves, near.0, probe) {
+        Some(found) => found,
+        None => row_searched(shelves, near, probe),
+    }
+}
+
+/// The same by the shelf where the place belongs.
+fn row_searched<'a>(shelves: &'a [Shelf], near: Marks, probe: &Probe<'_>) -> (Mark, Option<&'a Row>)
+    requires { AreSorted shelves.now }
+    ensures { option_copied result.1 ≡ row_of (place_at (joined shelves.now) probe.now) }
+{
+    match shelf_for(shelves, near, probe) {
+        Some(at) => {
+            let (spot, row) = shelf_at(shelves, at).row_at(spots_on(near, at), probe);
+            ((at, spot), row)
+        }
+        None => (near.0, None),
+    }
+}
+
+/// Reads the least key of a table that isn't below `low`, and its row, and answers where it stands and
+/// whether there is one.
+pub fn read_first(
+    shelves: &[Shelf],
+    near: Marks,
+    tab: u8,
+    low: &[u8],
+    key: &mut Vec<u8>,
+    row: &mut Vec<u8>,
+) -> Result<(Mark, bool), AllocError>
+    requires { AreSorted shelves.now }
+    ensures found { IfOk result (λ found. MatchBool found.1
+        (IsLeastFrom (rows_of (joined shelves.now)) tab low.now key.new.items row.new.items)
+        (NoneFrom (rows_of (joined shelves.now)) tab low.now)) }
+    ensures empty { IfOk result (λ found. found.1 ≡ false → (key.new.items ≡ []) × (row.new.items ≡ [])) }
+{
+    match first_row(shelves, near, &Probe::of(tab, low)) {
+        Some((mark, entry)) => {
+            let found = give(tab, entry, key, row)?;
+            Ok((mark, found))
+        }
+        None => {
+            key.clear();
+            row.clear();
+            Ok((near.0, false))
+        }
+    }
+}
+
+/// Puts what stands at a place, and answers where, and what stood there. The answer is the new row where
+/// there is no such place.
+pub fn swap(
+    shelves: &mut Vec<Shelf>,
+    near: Marks,
+    probe: &Probe<'_>,
+    row: Option<Row>,
+) -> Result<(Mark, Option<Row>), Option<Row>>
+    requires { AreSorted shelves.old.items }
+    ensures sorted { AreSorted shelves.new.items }
+    ensures found { IfOk result (λ before. place_at (joined shelves.old.items) probe.now ≡ Some before.1) }
+    ensures set { OnOk result (IsSetAt (joined shelves.old.items) (joined shelves.new.items) probe.now (Some row)) }
+    ensures absent { OnErr result (place_at (joined shelves.old.items) probe.now ≡ None) }
+    ensures back { IfErr result (λ back. back ≡ row) }
+    ensures same { OnErr result (joined shelves.new.items ≡ joined shelves.old.items) }
+{
+    match swap_beside(shelves, near.0, probe, row) {
+        Ok(swapped) => Ok(swapped),
+        Err(row) => swap_searched(shelves, near, probe, row),
+    }
+}
+
+/// The same by the shelf where the place belongs.
+fn swap_searched(
+    shelves: &mut Vec<Shelf>,
+    near: Marks,
+    probe: &Probe<'_>,
+    row: Option<Row>,
+) -> Result<(Mark, Option<Row>), Option<Row>>
+    requires { AreSorted shelves.old.items }
+    ensures sorted { AreSorted shelves.new.items }
+    ensures found { IfOk result (λ before. place_at (joined shelves.old.items) probe.now ≡ Some before.1) }
+    ensures set { OnOk result (IsSetAt (joined shelves.old.items) (joined shelves.new.items) probe.now (Some row)) }
+    ensures absent { OnErr result (place_at (joined shelves.old.items) probe.now ≡ None) }
+    ensures back { IfErr result (λ back. back ≡ row) }
+    ensures same { OnErr result (joined shelves.new.items ≡ joined shelves.old.items) }
+{
+    match shelf_for(shelves, near, probe) {
+        Some(at) => swap_on(shelves, at, spots_on(near, at), probe, row),
+        None => Err(row),
+    }
+}
+
+/// The same on the shelf where the place belongs.
+fn swap_on(
+    shelves: &mut Vec<Shelf>,
+    at: usize,
+    near: Near,
+    probe: &Probe<'_>,
+    row: Option<Row>,
+) -> Result<(Mark, Option<Row>), Option<Row>>
+    requires sorted { AreSorted shelves.old.items }
+    requires shelf { IsBlockFor shelves.old.items probe.now at }
+    ensures sorted { AreSorted shelves.new.items }
+    ensures found { IfOk result (λ before. place_at (joined shelves.old.items) probe.now ≡ Some before.1) }
+    ensures set { OnOk result (IsSetAt (joined shelves.old.items) (joined shelves.new.items) probe.now (Some row)) }
+    ensures absent { OnErr result (place_at (joined shelves.old.items) probe.now ≡ None) }
+    ensures back { IfErr result (λ back. back ≡ row) }
+    ensures same { OnErr result (joined shelves.new.items ≡ joined shelves.old.items) }
+{
+    match shelves[at].swap(near, probe, row) {
+        Ok((spot, before)) => Ok(((at, spot), before)),
+        Err(row) => Err(row),
+    }
+}
+
+/// Puts a row at a place, which may be new, and answers where, and what stood there: at Some what the
+/// place had, at None nothing.
+pub fn insert(
+    alloc: Global,
+    shelves: &mut Vec<Shelf>,
+    near: Marks,
+    probe: &Probe<'_>,
+    row: Row,
+) -> Result<(Mark, Option<Option<Row>>), AllocError>
+    requires { AreSorted shelves.old.items }
+    ensures sorted { AreSorted shelves.new.items }
+    ensures found { IfOk result (λ before. place_at (joined shelves.old.items) probe.now ≡ before.1) }
+    ensures set { OnOk result (IsSetAt (joined shelves.old.items) (joined shelves.new.items) probe.now (Some (Some row))) }
+    ensures err { OnErr result (joined shelves.new.items ≡ joined shelves.old.items) }
+{
+    match insert_beside(alloc, shelves, near.0, probe, row) {
+        Ok((mark, before)) => Ok((cut_full(shelves, mark), before)),
+        Err(Some(row)) => insert_searched(alloc, shelves, near, probe, row),
+        Err(None) => Err(AllocError),
+    }
+}
+
+/// The same by the shelf where the place belongs.
+fn insert_searched(
+    alloc: Global,
+    shelves: &mut Vec<Shelf>,
+    near: Marks,
+    probe: &Probe<'_>,
+    row: Row,
+) -> Result<(Mark, Option<Option<Row>>), AllocError>
+    requires { AreSorted shelves.old.items }
+    ensures sorted { AreSorted shelves.new.items }
+    ensures found { IfOk result (λ before. place_at (joined shelves.old.items) probe.now ≡ before.1) }
+    ensures set { OnOk result (IsSetAt (joined shelves.old.items) (joined shelves.new.items) probe.now (Some (Some row))) }
+    ensures err { OnErr result (joined shelves.new.items ≡ joined shelves.old.items) }
+{
+    match shelf_for(shelves, near, probe) {
+        Some(at) => {
+            let (mark, before) = insert_on(alloc, shelves, at, spots_on(near, at), probe, row)?;
+            Ok((cut_full(shelves, mark), before))
+        }
+        None => {
+            let shelf = Shelf::of(alloc, probe, row)?;
+            shelves.push(shelf)?;
+            Ok(((0, (0, 0)), None))
+        }
+    }
+}
+
+/// The same on the shelf where the place belongs.
+fn insert_on(
+    alloc: Global,
+    shelves: &mut Vec<Shelf>,
+    at: usize,
+    near: Near,
+    probe: &Probe<'_>,
+    row: Row,
+) -> Result<(Mark, Option<Option<Row>>), AllocError>
+    requires sorted { AreSorted shelves.old.items }
+    requires shelf { IsBlockFor shelves.old.items probe.now at }
+    ensures sorted { AreSorted shelves.new.items }
+    ensures found { IfOk result (λ before. place_at (joined shelves.old.items) probe.now ≡ before.1) }
+    ensures set { OnOk result (IsSetAt (joined shelves.old.items) (joined shelves.new.items) probe.now (Some (Some row))) }
+    ensures err { OnErr result (joined shelves.new.items ≡ joined shelves.old.items) }
+{
+    match shelves[at].insert(alloc, near, probe, row) {
+        Ok((spot, before)) => Ok(((at, spot), before)),
+        Err(error) => Err(error),
+    }
+}
+
+/// Takes a place away, with what stands there, and answers where it stood or would stand.
+pub fn remove(shelves: &mut Vec<Shelf>, near: Marks, probe: &Probe<'_>) -> Mark
+    requires { AreSorted shelves.old.items }
+    ensures sorted { AreSorted shelves.new.items }
+    ensures set { IsSetAt (joined shelves.old.items) (joined shelves.new.items) probe.now None }
+{
+    match shelf_for(shelves, near, probe) {
+        Some(at) => (at, remove_on(shelves, at, spots_on(near, at), probe)),
+        None => near.0,
+    }
+}
+
+/// The same on the shelf where the place belongs. A shelf that is then empty goes.
+fn remove_on(shelves: &mut Vec<Shelf>, at: usize, near: Near, probe: &Probe<'_>) -> Spot
+    requires sorted { AreSorted shelves.old.items }
+    requires shelf { IsBlockFor shelves.old.items probe.now at }
+    ensures sorted { AreSorted shelves.new.items }
+    ensures set { IsSetAt (joined shelves.old.items) (joined shelves.new.items) probe.now None }
+{
+    let spot = shelves[at].remove(near, probe);
+    if shelves[at].is_empty() {
+        shelves.remove(at);
+    }
+    spot
+}
+
+/// Takes the empty places out of each shelf.
+pub fn drop_empty_places(shelves: &mut Vec<Shelf>)
+    ensures { shelves.new.items ≡ map_list without_empty shelves.old.items }
+{
+    for shelf in shelves.iter_mut() {
+        shelf.drop_empty();
+    }
+}
+
+/// Takes the shelves with no entry out.
+pub fn drop_empty_shelves(shelves: &mut Vec<Shelf>)
+    ensures same { joined shelves.new.items ≡ joined shelves.old.items }
+    ensures full { HaveEntries shelves.new.items }
+{
+    shelves.retain(|shelf| !shelf.is_empty());
+}
+
+/// Cuts a full shelf in two, and answers where a mark is then. Where memory is wanting the shelf stays whole.
+fn cut_full(shelves: &mut Vec<Shelf>, mark: Mark) -> Mark
+    requires { AreSorted shelves.old.items }
+    ensures sorted { AreSorted shelves.new.items }
+    ensures same { joined shelves.new.items ≡ joined shelves.old.items }
+{
+    let (at, spot) = mark;
+    if at >= shelves.len() {
+        return mark;
+    }
+    let count = shelf_at(shelves, at).block_count();
+    if count <= CAPACITY {
+        return mark;
+    }
+    let middle = middle_for(count, spot.0);
+    match cut_shelf(shelves, at, middle) {
+        Ok(true) => after_cut(mark, middle),
+        Ok(false) => mark,
+        Err(_) => mark,
+    }
+}
+
+/// Cuts a shelf in two, where blocks are on both sides. The answer tells whether there were.
+fn cut_shelf(shelves: &mut Vec<Shelf>, at: usize, middle: usize) -> Result<bool, AllocError>
+    requires sorted { AreSorted shelves.old.items }
+    requires shelf { at < length shelves.old.items }
+    ensures sorted { AreSorted shelves.new.items }
+    ensures same { joined shelves.new.items ≡ joined shelves.old.items }
+{
+    shelves.reserve(1)?;
+    match shelves[at].cut(middle)? {
+        Some(back) => match shelves.insert(at + 1, back) {
+            Ok(()) => Ok(true),
+            Err(_) => unreachable!(),
+        },
+        None => Ok(false),
+    }
+}
+
+/// Where a full shelf is cut: in the middle; but where places come in their order, before the last block, so that they leave
+/// full shelves.
+fn middle_for(count: usize, block: usize) -> usize {
+    if block.saturating_add(1) >= count {
+        block
+    } else {
+        count / 2
+    }
+}
+
+/// Where a mark is after its shelf was cut.
+fn after_cut(mark: Mark, middle: usize) -> Mark {
+    let (at, (block, index)) = mark;
+    if block < middle {
+        mark
+    } else {
+        (at.saturating_add(1), (block - middle, index))
+    }
+}
+
+/// Where the first place stands that has a row and isn't below the one that is looked for, and its entry.
+fn first_row<'a>(shelves: &'a [Shelf], near: Marks, probe: &Probe<'_>) -> Option<(Mark, &'a Entry)>
+    requires { AreSorted shelves.now }
+    ensures found { IfSome result (λ first. IsFirstRow (joined shelves.now) probe.now first.1.now) }
+    ensures none { IfNone result (NoRowFrom probe.now (joined shelves.now)) }
+{
+    match first_row_beside(shelves, near.0, probe) {
+        Some(first) => Some(first),
+        None => first_row_searched(shelves, near, probe),
+    }
+}
+
+/// The same by the shelf where the place belongs.
+fn first_row_searched<'a>(
+    shelves: &'a [Shelf],
+    near: Marks,
+    probe: &Probe<'_>,
+) -> Option<(Mark, &'a Entry)>
+    requires { AreSorted shelves.now }
+    ensures found { IfSome result (λ first. IsFirstRow (joined shelves.now) probe.now first.1.now) }
+    ensures none { IfNone result (NoRowFrom probe.now (joined shelves.now)) }
+{
+    match shelf_for(shelves, near, probe) {
+        Some(at) => first_row_from(shelves, at, near, probe),
+        None => None,
+    }
+}
+
+/// The same from the shelf on where the place belongs.
+fn first_row_from<'a>(
+    shelves: &'a [Shelf],
+    start: usize,
+    near: Marks,
+    probe: &Probe<'_>,
+) -> Option<(Mark, &'a Entry)>
+    requires sorted { AreSorted shelves.now }
+    requires shelf { IsBlockFor shelves.now probe.now start }
+    ensures found { IfSome result (λ first. IsFirstRow (joined shelves.now) probe.now first.1.now) }
+    ensures none { IfNone result (NoRowFrom probe.now (joined shelves.now)) }
+{
+    let mut at = start;
+    while at < shelves.len() {
+        match shelf_at(shelves, at).first_row(spots_on(near, at), probe) {
+            Some((spot, entry)) => return Some(((at, spot), entry)),
+            None => at += 1,
+        }
+    }
+    None
+}
+
+/// The shelf that a place belongs on. It looks first at those of the marks.
+fn shelf_for(shelves: &[Shelf], near: Marks, probe: &Probe<'_>) -> Option<usize>
+    requires { AreSorted shelves.now }
+    ensures shelf { IfSome result (λ at. IsBlockFor shelves.now probe.now at) }
+    ensures none { IfNone result (joined shelves.now ≡ []) }
+{
+    let (first, second) = near;
+    if is_shelf_for(shelves, first.0, probe) {
+        return Some(first.0);
+    }
+    if is_shelf_for(shelves, second.0, probe) {
+        return Some(second.0);
+    }
+    search(shelves, probe)
+}
+
+/// Whether a place belongs on a shelf.
+fn is_shelf_for(shelves: &[Shelf], at: usize, probe: &Probe<'_>) -> bool
+    ensures { result ≡ true → IsBlockFor shelves.now probe.now at }
+{
+    if at >= shelves.len() {
+        return false;
+    }
+    if at > 0 && !shelf_at(shelves, at).starts_within(probe) {
+        return false;
+    }
+    if at + 1 >= shelves.len() {
+        return true;
+    }
+    !shelf_at(shelves, at + 1).starts_within(probe)
+}
+
+/// The shelf that a place belongs on, by halves.
+fn search(shelves: &[Shelf], probe: &Probe<'_>) -> Option<usize>
+    requires { AreSorted shelves.now }
+    ensures shelf { IfSome result (λ at. IsBlockFor shelves.now probe.now at) }
+    ensures none { IfNone result (joined shelves.now ≡ []) }
+{
+    let above = shelves.partition_point(
+        |shelf: &Shelf| -> bool
+            ensures { result ≡ starts_within probe.entry.now shelf.now }
+        { shelf.starts_within(probe) },
+    );
+    let at = above.saturating_sub(1);
+    if at >= shelves.len() {
+        return None;
+    }
+    Some(at)
+}
+
+/// A shelf.
+pub fn shelf_at(shelves: &[Shelf], at: usize) -> &Shelf
+    requires { at < length shelves.now }
+    ensures { result.now ≡ slice_index_or shelves.now at [] }
+{
+    &shelves[at]
+}
