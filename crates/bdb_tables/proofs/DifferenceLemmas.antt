@@ -28,11 +28,11 @@ same_is p q e = (same_text-Decides p q).0 e
 same_itself : (p : List ℕ) → same_text p p ≡ true
 same_itself p = (same_text-Decides p p).1 refl
 
-false_parts : (a b : Bool) → a || b ≡ false → (a ≡ false) × (b ≡ false)
+pub false_parts : (a b : Bool) → a || b ≡ false → (a ≡ false) × (b ≡ false)
 false_parts true b e = absurd cc
 false_parts false b e = (refl, e)
 
-or_false : (a b : Bool) → a ≡ false → b ≡ false → a || b ≡ false
+pub or_false : (a b : Bool) → a ≡ false → b ≡ false → a || b ≡ false
 or_false a b e f = ap (λ x. x || b) e ∙ f
 
 not_true : (a : Bool) → not a ≡ true → a ≡ false

@@ -1,6 +1,10 @@
 pub mod CatalogLemmas
+pub mod CopyLemmas
 pub mod DifferenceLemmas
+pub mod ExplicitLemmas
+pub mod DifferenceLists
 pub mod Fitting
+pub mod GapLemmas
 pub mod Held
 pub mod Loops
 pub mod MarkLemmas

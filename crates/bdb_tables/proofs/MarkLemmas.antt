@@ -17,14 +17,14 @@ use Rattle.bdb_key.specs.Reading.{Reads}
 use Rattle.bdb_key.specs.Rows.{IsAnyMark, mark_bytes}
 use Rattle.bdb_tables.specs.Codec.{IsEntryOf, IsRowOf, HasAt}
 use Rattle.bdb_tables.specs.Grammar.{IsEntry}
-use Rattle.bdb_tables.specs.GroupMarks.{group_bytes, BeginsGroup, IsGroup, in_group, numbered, AreMarks, AreNumbered, HasMark, HaveMarks, HasNextNumbered, AreChanges, IsNextNumbered, IsNumber, IsNumbered, marks_codec}
+use Rattle.bdb_tables.specs.GroupMarks.{group_bytes, IsGroup, in_group, numbered, AreMarks, AreNumbered, HasMark, HaveMarks, HasNextNumbered, AreChanges, IsNextNumbered, IsNumber, IsNumbered, marks_codec}
 use Rattle.bdb_tables.specs.InUse.{ValKey, IsValKey, val_bytes, val_codec}
 use Rattle.bdb_tables.specs.Marks.{Mark}
 use Rattle.bdb_tables.specs.Spans.{IsUnder, AreUnder, NoneUnder}
 use Rattle.bdb_tables.specs.Writes.{IsChange, with_change, with_changes}
 use Rattle.bdb_tables.proofs.SpanLemmas.{Covers, covers_none, covers_more, covers_all, next_is_under}
 
-rest_from : (p q : List ℕ) → is_prefix p q ≡ true → (r : List ℕ) × (q ≡ p ++ r)
+pub rest_from : (p q : List ℕ) → is_prefix p q ≡ true → (r : List ℕ) × (q ≡ p ++ r)
 rest_from [] q e = (q, refl)
 rest_from (i ∷ p) [] e = absurd (false≢true e)
 rest_from (i ∷ p) (j ∷ q) e =

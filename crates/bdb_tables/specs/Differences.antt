@@ -23,6 +23,10 @@ DifferencesAdd = (t u v : Tables) (ps qs : List (List ℕ)) → AreDifferences (
 abbrev pub DifferencesAreCounted : Type 0
 DifferencesAreCounted = (t u : Tables) (ps qs : List (List ℕ)) → AreDifferences (tables.get t) (tables.get u) ps → AreDifferences (tables.get t) (tables.get u) qs → length ps ≡ length qs
 
+-- every two tables have a list of the places where they differ
+abbrev pub DifferencesAreListed : Type 0
+DifferencesAreListed = (t u : Tables) → (ps : List (List ℕ)) × AreDifferences (tables.get t) (tables.get u) ps
+
 -- Changes of rows, each at a key of its own, none of which leaves its row as it was.
 pub record AreReal {Key Row : Type 0} (c : Codec Key Row) (t : Tables) (xs : List (Key × Option Row)) : Type 0 where
   pub apart : are_distinct (map (λ x. place c x.0) xs) ≡ true

@@ -8,6 +8,7 @@ ghost use Rattle.bdb_key.specs.Reading.{Reads};
 ghost use Rattle.bdb_tables.specs.Codec.{HasAt, HasFirst, HasLeast, IsKeyOf, IsRowOf, TableFits, place};
 ghost use Rattle.bdb_tables.specs.Grammar.{InGrammar};
 
+use crate::room::Room;
 use crate::tab::{Tab, TabError};
 use bdb_keep::{KeepError, Keeper};
 use bdb_key::{KeyError, RowError};
@@ -29,18 +30,37 @@ pub fn get<T: Tab, K: Keeper>(
     ensures reads { OnOk result (RoseBy 1 (K.seen keeper.old).reads (K.seen keeper.new).reads) }
     ensures read { IsRead (K.seen keeper.old) (K.seen keeper.new) result TabError.Fault }
 {
-    let mut bytes = Vec::new(alloc);
-    if spell_key::<T>(key, &mut bytes).is_err() {
+    let mut room = Room::new(alloc);
+    match get_in::<T, K>(alloc, keeper, key, &mut room) {
+        Ok(row) => Ok(row),
+        Err(error) => Err(error),
+    }
+}
+
+/// The same with room for bytes, which many calls may use.
+pub fn get_in<T: Tab, K: Keeper>(
+    alloc: Global,
+    keeper: &mut K,
+    key: &T::Key,
+    room: &mut Room,
+) -> Result<Option<T::Row>, TabError>
+    requires grammar { TableFits T.codec (K.seen keeper.old).kept }
+    requires key { T.codec.MayBeKey key.now }
+    ensures found { IfOk result (HasAt T.codec (K.seen keeper.old).kept key.now) }
+    ensures key_fits { OnOk result (T.codec.IsKey key.now) }
+    ensures reads { OnOk result (RoseBy 1 (K.seen keeper.old).reads (K.seen keeper.new).reads) }
+    ensures read { IsRead (K.seen keeper.old) (K.seen keeper.new) result TabError.Fault }
+{
+    if fill_key::<T>(key, &mut room.key).is_err() {
         keeper.undo();
         return Err(TabError::Memory);
     }
-    let mut row = Vec::new(alloc);
-    match keeper.get(T::NUMBER, &bytes, &mut row) {
+    match keeper.get(T::NUMBER, &room.key, &mut room.row) {
         Ok(true) => {}
         Ok(false) => return Ok(None),
         Err(error) => return Err(told(error)),
     }
-    match row_from::<T>(alloc, &row) {
+    match row_from::<T>(alloc, &room.row) {
         Ok(row) => Ok(Some(row)),
         Err(_) => {
             keeper.undo();
@@ -61,12 +81,35 @@ pub fn next<T: Tab, K: Keeper>(
     ensures reads { OnOk result (RoseBy 1 (K.seen keeper.old).reads (K.seen keeper.new).reads) }
     ensures read { IsRead (K.seen keeper.old) (K.seen keeper.new) result TabError.Fault }
 {
-    let mut bytes = Vec::new(alloc);
-    if spell_key::<T>(low, &mut bytes).is_err() {
+    let mut room = Room::new(alloc);
+    match next_in::<T, K>(alloc, keeper, low, &mut room) {
+        Ok(entry) => Ok(entry),
+        Err(error) => Err(error),
+    }
+}
+
+/// The same with room for bytes, which many calls may use.
+pub fn next_in<T: Tab, K: Keeper>(
+    alloc: Global,
+    keeper: &mut K,
+    low: &T::Key,
+    room: &mut Room,
+) -> Result<Option<(T::Key, T::Row)>, TabError>
+    requires grammar { TableFits T.codec (K.seen keeper.old).kept }
+    requires low { T.codec.MayBeKey low.now }
+    ensures found { IfOk result (HasFirst T.codec (K.seen keeper.old).kept (λ key. is_le (T.codec.key_cmp low.now key))) }
+    ensures reads { OnOk result (RoseBy 1 (K.seen keeper.old).reads (K.seen keeper.new).reads) }
+    ensures read { IsRead (K.seen keeper.old) (K.seen keeper.new) result TabError.Fault }
+{
+    if fill_key::<T>(low, &mut room.low).is_err() {
         keeper.undo();
         return Err(TabError::Memory);
     }
-    first_from::<T, K>(alloc, keeper, &bytes)
+    let Room { key, row, low } = room;
+    match first_from::<T, K>(alloc, keeper, low, key, row) {
+        Ok(entry) => Ok(entry),
+        Err(error) => Err(error),
+    }
 }
 
 /// The first row whose key is above `key`. None exactly where there is none. One read.
@@ -86,7 +129,9 @@ pub fn after<T: Tab, K: Keeper>(
         keeper.undo();
         return Err(TabError::Memory);
     }
-    first_from::<T, K>(alloc, keeper, &bytes)
+    let mut key = Vec::new(alloc);
+    let mut row = Vec::new(alloc);
+    first_from::<T, K>(alloc, keeper, &bytes, &mut key, &mut row)
 }
 
 /// Puts a row at a key, in place of the row that stood there. One write.
@@ -106,15 +151,35 @@ pub fn put<T: Tab, K: Keeper>(
     ensures writes { OnOk result (RoseBy 1 (K.seen keeper.old).writes (K.seen keeper.new).writes) }
     ensures write { IsWrite (K.seen keeper.old) (K.seen keeper.new) result TabError.Fault }
 {
-    let mut key_bytes = Vec::new(alloc);
-    let mut row_bytes = Vec::new(alloc);
-    if spell_key::<T>(key, &mut key_bytes).is_err()
-        || spell_row::<T>(row, &mut row_bytes).is_err()
-    {
+    let mut room = Room::new(alloc);
+    match put_in::<T, K>(keeper, key, row, &mut room) {
+        Ok(()) => Ok(()),
+        Err(error) => Err(error),
+    }
+}
+
+/// The same with room for bytes, which many calls may use.
+pub fn put_in<T: Tab, K: Keeper>(
+    keeper: &mut K,
+    key: &T::Key,
+    row: &T::Row,
+    room: &mut Room,
+) -> Result<(), TabError>
+    requires running { (K.seen keeper.old).running ≡ true }
+    requires key { T.codec.MayBeKey key.now }
+    requires row { T.codec.MayBeRow row.now }
+    ensures kept { OnOk result ((K.seen keeper.new).kept ≡ map.insert (K.seen keeper.old).kept (place T.codec key.now) (T.codec.row_bytes row.now)) }
+    ensures key_fits { OnOk result (T.codec.IsKey key.now) }
+    ensures row_fits { OnOk result (T.codec.IsRow row.now) }
+    ensures grammar { OnOk result (InGrammar (K.seen keeper.old).kept → InGrammar (K.seen keeper.new).kept) }
+    ensures writes { OnOk result (RoseBy 1 (K.seen keeper.old).writes (K.seen keeper.new).writes) }
+    ensures write { IsWrite (K.seen keeper.old) (K.seen keeper.new) result TabError.Fault }
+{
+    if fill_key::<T>(key, &mut room.key).is_err() || fill_row::<T>(row, &mut room.row).is_err() {
         keeper.undo();
         return Err(TabError::Memory);
     }
-    match keeper.put(T::NUMBER, &key_bytes, &row_bytes) {
+    match keeper.put(T::NUMBER, &room.key, &room.row) {
         Ok(()) => Ok(()),
         Err(error) => Err(told(error)),
     }
@@ -135,36 +200,57 @@ pub fn drop_row<T: Tab, K: Keeper>(
     ensures writes { OnOk result (RoseBy 1 (K.seen keeper.old).writes (K.seen keeper.new).writes) }
     ensures write { IsWrite (K.seen keeper.old) (K.seen keeper.new) result TabError.Fault }
 {
-    let mut bytes = Vec::new(alloc);
-    if spell_key::<T>(key, &mut bytes).is_err() {
+    let mut room = Room::new(alloc);
+    match drop_in::<T, K>(keeper, key, &mut room) {
+        Ok(found) => Ok(found),
+        Err(error) => Err(error),
+    }
+}
+
+/// The same with room for bytes, which many calls may use.
+pub fn drop_in<T: Tab, K: Keeper>(
+    keeper: &mut K,
+    key: &T::Key,
+    room: &mut Room,
+) -> Result<bool, TabError>
+    requires running { (K.seen keeper.old).running ≡ true }
+    requires key { T.codec.MayBeKey key.now }
+    ensures found { IfOk result (λ found. found ≡ is_some (map.get (K.seen keeper.old).kept (place T.codec key.now))) }
+    ensures kept { OnOk result ((K.seen keeper.new).kept ≡ map.remove (K.seen keeper.old).kept (place T.codec key.now)) }
+    ensures key_fits { OnOk result (T.codec.IsKey key.now) }
+    ensures grammar { OnOk result (InGrammar (K.seen keeper.old).kept → InGrammar (K.seen keeper.new).kept) }
+    ensures writes { OnOk result (RoseBy 1 (K.seen keeper.old).writes (K.seen keeper.new).writes) }
+    ensures write { IsWrite (K.seen keeper.old) (K.seen keeper.new) result TabError.Fault }
+{
+    if fill_key::<T>(key, &mut room.key).is_err() {
         keeper.undo();
         return Err(TabError::Memory);
     }
-    match keeper.remove(T::NUMBER, &bytes) {
+    match keeper.remove(T::NUMBER, &room.key) {
         Ok(found) => Ok(found),
         Err(error) => Err(told(error)),
     }
 }
 
-// The first row whose key isn't below these bytes.
+// The first row whose key isn't below these bytes. `key` and `row` are room for bytes.
 fn first_from<T: Tab, K: Keeper>(
     alloc: Global,
     keeper: &mut K,
     low: &[u8],
+    key: &mut Vec<u8>,
+    row: &mut Vec<u8>,
 ) -> Result<Option<(T::Key, T::Row)>, TabError>
     requires grammar { TableFits T.codec (K.seen keeper.old).kept }
     ensures found { IfOk result (HasLeast T.codec (K.seen keeper.old).kept low.now) }
     ensures reads { OnOk result (RoseBy 1 (K.seen keeper.old).reads (K.seen keeper.new).reads) }
     ensures read { IsRead (K.seen keeper.old) (K.seen keeper.new) result TabError.Fault }
 {
-    let mut key = Vec::new(alloc);
-    let mut row = Vec::new(alloc);
-    match keeper.next(T::NUMBER, low, &mut key, &mut row) {
+    match keeper.next(T::NUMBER, low, key, row) {
         Ok(true) => {}
         Ok(false) => return Ok(None),
         Err(error) => return Err(told(error)),
     }
-    match entry_from::<T>(alloc, &key, &row) {
+    match entry_from::<T>(alloc, key, row) {
         Ok(entry) => Ok(Some(entry)),
         Err(_) => {
             keeper.undo();
@@ -203,6 +289,28 @@ pub fn spell_row<T: Tab>(row: &T::Row, out: &mut Vec<u8>) -> Result<(), AllocErr
 {
     out.reserve(USUAL_LENGTH)?;
     T::row_bytes(row, out)?;
+    Ok(())
+}
+
+// Makes room hold the bytes of a key.
+fn fill_key<T: Tab>(key: &T::Key, room: &mut Vec<u8>) -> Result<(), AllocError>
+    requires { T.codec.MayBeKey key.now }
+    ensures ok { OnOk result (room.new.items ≡ T.codec.key_bytes key.now) }
+    ensures fits { OnOk result (T.codec.IsKey key.now) }
+{
+    room.clear();
+    spell_key::<T>(key, room)?;
+    Ok(())
+}
+
+// Makes room hold the bytes of a row.
+fn fill_row<T: Tab>(row: &T::Row, room: &mut Vec<u8>) -> Result<(), AllocError>
+    requires { T.codec.MayBeRow row.now }
+    ensures ok { OnOk result (room.new.items ≡ T.codec.row_bytes row.now) }
+    ensures fits { OnOk result (T.codec.IsRow row.now) }
+{
+    room.clear();
+    spell_row::<T>(row, room)?;
     Ok(())
 }
 

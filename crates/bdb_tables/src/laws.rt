@@ -1,5 +1,5 @@
 // Where tables differ.
-ghost use Rattle.bdb_tables.specs.Differences.{DifferencesAdd, DifferencesAreCounted};
+ghost use Rattle.bdb_tables.specs.Differences.{DifferencesAdd, DifferencesAreCounted, DifferencesAreListed};
 
 /// Tables that differ at some places from others, which differ from third ones at other places, differ from those at all of
 /// them.
@@ -10,4 +10,9 @@ pub fn differences_add()
 /// The places where tables differ have one number.
 pub fn differences_are_counted()
     ensures { DifferencesAreCounted }
+{}
+
+/// Every two tables have a list of the places where they differ.
+pub fn differences_are_listed()
+    ensures { DifferencesAreListed }
 {}

@@ -4,9 +4,13 @@
 
 mod access;
 mod changes;
+mod copies;
+mod explicit;
+mod gaps;
 mod keys;
 mod laws;
 mod marks;
+mod room;
 mod spans;
 mod tab;
 mod tabs;
@@ -14,11 +18,15 @@ mod tabs;
 mod tests;
 mod world_tabs;
 
-pub use access::{after, drop_row, get, next, put};
+pub use access::{after, drop_in, drop_row, get, get_in, next, next_in, put, put_in};
 pub use changes::write_rows;
+pub use copies::{clear_rows, copy_rows};
+pub use explicit::has_explicit_under;
+pub use gaps::first_gap;
 pub use keys::put_pair;
-pub use laws::{differences_add, differences_are_counted};
-pub use marks::{Room, mark_under, marks_under, numbered_under, write_marks};
+pub use laws::{differences_add, differences_are_counted, differences_are_listed};
+pub use marks::{mark_under, marks_under, numbered_under, write_marks};
+pub use room::Room;
 pub use spans::{next_under, rows_under};
 pub use tab::{Tab, TabError};
 pub use tabs::{MetaTab, PlainTab, RelTab, UserTab};

@@ -16,6 +16,7 @@ ghost use Rattle.bdb_tables.specs.InUse.{val_codec};
 ghost use Rattle.bdb_tables.specs.Writes.{IsChange, with_change, with_changes};
 
 use crate::access::{USUAL_LENGTH, told};
+use crate::room::Room;
 use crate::spans::begin_at;
 use crate::tab::TabError;
 use bdb_base::Sign;
@@ -25,26 +26,7 @@ use std::alloc::{AllocError, Global};
 use std::mem;
 
 // The number of the table of worlds' rows.
-const MARKS: u8 = 11;
-
-/// Room for the bytes of keys and rows, for as many calls as use it.
-#[derive(Drop)]
-pub struct Room {
-    key: Vec<u8>,
-    row: Vec<u8>,
-    low: Vec<u8>,
-}
-
-impl Room {
-    /// Room that grows with its first use.
-    pub fn new(alloc: Global) -> Self {
-        Room {
-            key: Vec::new(alloc),
-            row: Vec::new(alloc),
-            low: Vec::new(alloc),
-        }
-    }
-}
+pub const MARKS: u8 = 11;
 
 /// The rows of worlds whose keys begin with these bytes, by the numbers of their tuples, in the order of the keys. One read more
 /// than there are rows.
@@ -57,6 +39,7 @@ pub fn numbered_under<K: Keeper>(
     requires grammar { TableFits val_codec (K.seen keeper.old).kept }
     ensures rows { IfOk result (λ rows. AreNumbered (K.seen keeper.old).kept prefix.now rows.items) }
     ensures reads { IfOk result (λ rows. (K.seen keeper.new).reads ≤ (K.seen keeper.old).reads + (length rows.items + 1)) }
+    ensures each_read { IfOk result (λ rows. Rises (length rows.items + 1) (K.seen keeper.old).reads (K.seen keeper.new).reads) }
     ensures read { IsRead (K.seen keeper.old) (K.seen keeper.new) result TabError.Fault }
 {
     let Room { key, row, low } = room;
@@ -75,13 +58,12 @@ pub fn marks_under<K: Keeper>(
     room: &mut Room,
 ) -> Result<Vec<(u32, (Sign, bool))>, TabError>
     requires grammar { TableFits val_codec (K.seen keeper.old).kept }
-    requires group { IsGroup prefix.now }
     ensures rows { IfOk result (λ rows. AreMarks (K.seen keeper.old).kept prefix.now rows.items) }
     ensures reads { IfOk result (λ rows. (K.seen keeper.new).reads ≤ (K.seen keeper.old).reads + (length rows.items + 1)) }
+    ensures each_read { IfOk result (λ rows. Rises (length rows.items + 1) (K.seen keeper.old).reads (K.seen keeper.new).reads) }
     ensures read { IsRead (K.seen keeper.old) (K.seen keeper.new) result TabError.Fault }
 {
-    let Room { key, row, low } = room;
-    match read_numbered(alloc, keeper, prefix, low, key, row) {
+    match numbered_under(alloc, keeper, prefix, room) {
         Ok(rows) => Ok(rows),
         Err(error) => Err(error),
     }
@@ -139,6 +121,7 @@ fn read_numbered<K: Keeper>(
     requires grammar { TableFits val_codec (K.seen keeper.old).kept }
     ensures rows { IfOk result (λ rows. AreNumbered (K.seen keeper.old).kept prefix.now rows.items) }
     ensures reads { IfOk result (λ rows. (K.seen keeper.new).reads ≤ (K.seen keeper.old).reads + (length rows.items + 1)) }
+    ensures each_read { IfOk result (λ rows. Rises (length rows.items + 1) (K.seen keeper.old).reads (K.seen keeper.new).reads) }
     ensures read { IsRead (K.seen keeper.old) (K.seen keeper.new) result TabError.Fault }
 {
     let mut rows = Vec::new(alloc);
@@ -164,7 +147,7 @@ fn read_numbered<K: Keeper>(
 
 // The first row from `low` on whose key begins with these bytes. Where there is one, `low` becomes what lies right behind
 // its key. `key` and `row` are room for bytes.
-fn next_numbered<K: Keeper>(
+pub(crate) fn next_numbered<K: Keeper>(
     keeper: &mut K,
     prefix: &[u8],
     low: &mut Vec<u8>,
@@ -294,7 +277,7 @@ fn fill_key(key: &mut Vec<u8>, prefix: &[u8], tid: u32) -> Result<(), AllocError
 }
 
 // Makes room hold the bytes of a row.
-fn fill_row(row: &mut Vec<u8>, mark: &(Sign, bool)) -> Result<(), AllocError>
+pub fn fill_row(row: &mut Vec<u8>, mark: &(Sign, bool)) -> Result<(), AllocError>
     ensures { OnOk result (row.new.items ≡ mark_bytes mark.now) }
 {
     row.clear();
@@ -330,7 +313,7 @@ fn number_from(bytes: &[u8]) -> u32
 }
 
 // The row that these bytes are.
-fn mark_from(bytes: &[u8]) -> (Sign, bool)
+pub fn mark_from(bytes: &[u8]) -> (Sign, bool)
     requires { IsRowOf val_codec bytes.now }
     ensures { Reads IsAnyMark mark_bytes bytes.now result }
 {

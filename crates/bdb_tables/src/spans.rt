@@ -1,7 +1,7 @@
 // Reading the rows whose keys begin with some bytes.
 ghost use Rattle.std.specs.Prelude.{◌≡◌, ◌+◌, ◌≤◌, true, IfOk, OnOk, length};
 ghost use Rattle.std.specs.Ordering.{is_le};
-ghost use Rattle.bdb_base.specs.Causes.{RoseBy};
+ghost use Rattle.bdb_base.specs.Causes.{Rises, RoseBy};
 ghost use Rattle.bdb_keep.specs.Calls.{IsRead};
 ghost use Rattle.bdb_keep.specs.Tables.{bytes_cmp};
 ghost use Rattle.bdb_tables.specs.Codec.{TableFits};
@@ -22,6 +22,7 @@ pub fn rows_under<T: Tab, K: Keeper>(
     requires grammar { TableFits T.codec (K.seen keeper.old).kept }
     ensures rows { IfOk result (λ rows. AreUnder T.codec (K.seen keeper.old).kept prefix.now rows.items) }
     ensures reads { IfOk result (λ rows. (K.seen keeper.new).reads ≤ (K.seen keeper.old).reads + (length rows.items + 1)) }
+    ensures each_read { IfOk result (λ rows. Rises (length rows.items + 1) (K.seen keeper.old).reads (K.seen keeper.new).reads) }
     ensures read { IsRead (K.seen keeper.old) (K.seen keeper.new) result TabError.Fault }
 {
     let mut rows = Vec::new(alloc);

@@ -66,6 +66,59 @@ fn edges_of_a_world<K: Keeper>(alloc: Global, keeper: &mut K) -> Result<bool, Ta
     }
 }
 
+/// Puts rows of a world and of the next one, copies those of the first to the second, clears the first, and reads what is left.
+fn rows_are_moved<K: Keeper>(alloc: Global, keeper: &mut K) -> Result<bool, TabError>
+    requires running { (K.seen keeper.old).running ≡ true }
+    requires grammar { InGrammar (K.seen keeper.old).kept }
+{
+    put::<ValTab, K>(
+        alloc,
+        keeper,
+        &(1, 0, Value::Int(7), 3),
+        &(Sign::Minus, true),
+    )?;
+    put::<ValTab, K>(
+        alloc,
+        keeper,
+        &(1, 4, Value::Int(9), 5),
+        &(Sign::Plus, false),
+    )?;
+    put::<ValTab, K>(
+        alloc,
+        keeper,
+        &(2, 4, Value::Int(9), 5),
+        &(Sign::Minus, true),
+    )?;
+    let copied = copy_rows(alloc, keeper, 1, 2)?;
+    let cleared = clear_rows(alloc, keeper, 1)?;
+    let rows = rows_under::<ValTab, K>(alloc, keeper, &[0, 0, 0])?;
+    match rows.as_slice() {
+        [(first, one), (second, two)] => Ok(
+            copied == 2
+                && cleared == 2
+                && first.0 == 2
+                && first.3 == 3
+                && *one == (Sign::Minus, false)
+                && second.0 == 2
+                && second.3 == 5
+                && *two == (Sign::Plus, false),
+        ),
+        _ => Ok(false),
+    }
+}
+
+/// Puts depths of the numbers 0, 1 and 3, and asks for the first number that has none: from 0 on, and from 3 on.
+fn first_gaps<K: Keeper>(alloc: Global, keeper: &mut K) -> Result<(u32, u32), TabError>
+    requires running { (K.seen keeper.old).running ≡ true }
+{
+    put::<DepthTab, K>(alloc, keeper, &0, &0)?;
+    put::<DepthTab, K>(alloc, keeper, &3, &2)?;
+    put::<DepthTab, K>(alloc, keeper, &1, &1)?;
+    let first = first_gap(alloc, keeper, DepthTab::NUMBER, 0)?;
+    let behind = first_gap(alloc, keeper, DepthTab::NUMBER, 3)?;
+    Ok((first, behind))
+}
+
 /// A key of a statement.
 fn key_of(alloc: Global, users: &[u32], number: i64) -> Result<(Path, Tuple), Fail>
     requires { length users.now < 16 }
@@ -99,6 +152,24 @@ fn edges_of_a_world_are_found(rt: HostRuntime) -> Result<(), Fail> {
     let mut keeper = QuietKeeper::new(alloc);
     assert!(rt; keeper.begin().is_ok());
     assert_eq!(rt; edges_of_a_world(alloc, &mut keeper), Ok(true));
+    Ok(())
+}
+
+#[test]
+fn rows_of_a_world_are_moved(rt: HostRuntime) -> Result<(), Fail> {
+    let alloc = rt.alloc();
+    let mut keeper = QuietKeeper::new(alloc);
+    assert!(rt; keeper.begin().is_ok());
+    assert_eq!(rt; rows_are_moved(alloc, &mut keeper), Ok(true));
+    Ok(())
+}
+
+#[test]
+fn first_gaps_are_found(rt: HostRuntime) -> Result<(), Fail> {
+    let alloc = rt.alloc();
+    let mut keeper = QuietKeeper::new(alloc);
+    assert!(rt; keeper.begin().is_ok());
+    assert_eq!(rt; first_gaps(alloc, &mut keeper), Ok((2, 4)));
     Ok(())
 }
 

@@ -1,11 +1,10 @@
 use Rattle.std.proofs.Common.{◌≡◌, ◌+◌, ◌≤◌, ◌++◌, [], ◌∷◌, length, sym, ap, subst, ◌∙◌, arith, rules}
 use Rattle.std.proofs.lemmas.List.{length_push}
-use Rattle.bdb_key.specs.Reading.{Reads}
-use Rattle.bdb_keep.specs.Tables.{bytes_cmp}
+use Rattle.bdb_base.specs.Causes.{Rises}
 use Rattle.bdb_tables.specs.Codec.{TableFits}
 use Rattle.bdb_tables.specs.InUse.{val_codec}
 use Rattle.bdb_tables.specs.declared.tab.TabError.TheVariants.{Fault}
-use Rattle.bdb_tables.proofs.Loops.{reading_more}
+use Rattle.bdb_tables.proofs.Loops.{reading_more, rises_more}
 use Rattle.bdb_tables.proofs.MarkLemmas.{CoversNumbered, numbered_none, numbered_more, numbered_end}
 use Rattle.bdb_tables.proofs.marks.read_numbered.Goals as goal
 
@@ -13,12 +12,14 @@ pub loop-init : goal.loop-init
 loop-init g c =
     let t = (g.K.Keeper.seen c.args.keeper.now).kept in
     let low : c.begin_at.new.low.items ≡ c.args.prefix.now = search rules in
+    let none : length c.new-rows.result.items ≡ 0 = ap length c.new-rows.ensures.items in
+    let none_read : Rises (length c.new-rows.result.items) (g.K.Keeper.seen c.args.keeper.now).reads (g.K.Keeper.seen c.args.keeper.now).reads = λ _. omega (arith, none) in
     record {
       goes = search rules;
       kept = search rules;
       writes = search rules;
       counts = search rules;
-      read = (numbered_none t c.args.prefix.now c.begin_at.new.low.items c.new-rows.result.items c.new-rows.ensures.items low, omega arith);
+      read = (numbered_none t c.args.prefix.now c.begin_at.new.low.items c.new-rows.result.items c.new-rows.ensures.items low, omega arith, none_read);
     }
 
 pub next_numbered-requires-clause-grammar : goal.next_numbered-requires-clause-grammar
@@ -44,5 +45,12 @@ loop-preserved g c =
     let count : length c.push.new.self.items ≡ length c.loop.rows.items + 1 = ap length pushed ∙ length_push c.loop.rows.items e in
     let within : now.reads ≤ old.reads + length c.loop.rows.items = h.read.1 in
     let reads : new.reads ≤ old.reads + length c.push.new.self.items = omega (arith, c.in-Ok-Some.ensures.reads, within, count) in
+    let each : Rises (length c.push.new.self.items) old.reads new.reads =
+    subst (λ k. Rises k old.reads new.reads) (sym count) (rises_more (length c.loop.rows.items) old.reads now.reads new.reads c.in-Ok-Some.ensures.read.counts.reads h.read.2 c.in-Ok-Some.ensures.reads) in
     reading_more old now new c.in-Ok-Some.field-0 Fault h c.in-Ok-Some.ensures.read
-    (subst (CoversNumbered old.kept c.args.prefix.now c.next_numbered.new.low.items) (sym pushed) more, reads)
+    (subst (CoversNumbered old.kept c.args.prefix.now c.next_numbered.new.low.items) (sym pushed) more, reads, each)
+
+pub returns-in-Ok-None-clause-each_read : goal.returns-in-Ok-None-clause-each_read
+returns-in-Ok-None-clause-each_read g c =
+    rises_more (length c.loop.rows.items) (g.K.Keeper.seen c.args.keeper.now).reads (g.K.Keeper.seen c.loop.keeper).reads (g.K.Keeper.seen c.next_numbered.new.keeper).reads
+    c.in-Ok-None.ensures.read.counts.reads c.loop.invariant.read.2 c.in-Ok-None.ensures.reads

@@ -1,8 +1,9 @@
 use Rattle.std.proofs.Common.{◌≡◌, ◌+◌, ◌≤◌, ◌++◌, [], ◌∷◌, length, sym, ap, subst, ◌∙◌, arith, rules}
 use Rattle.std.proofs.lemmas.List.{length_push}
+use Rattle.bdb_base.specs.Causes.{Rises}
 use Rattle.bdb_tables.specs.Codec.{TableFits}
 use Rattle.bdb_tables.specs.declared.tab.TabError.TheVariants.{Fault}
-use Rattle.bdb_tables.proofs.Loops.{reading_more}
+use Rattle.bdb_tables.proofs.Loops.{reading_more, rises_more}
 use Rattle.bdb_tables.proofs.SpanLemmas.{Covers, covers_none, rows_more, rows_end}
 use Rattle.bdb_tables.proofs.spans.rows_under.Goals as goal
 
@@ -12,7 +13,9 @@ loop-init g c =
     let low : c.begin_at.new.low.items ≡ c.args.prefix.now = search rules in
     let covers = subst (λ l. Covers g.T.Tab.codec t c.args.prefix.now l c.new-rows.result.items) (sym low)
     (covers_none g.T.Tab.codec t c.args.prefix.now c.new-rows.result.items c.new-rows.ensures.items) in
-    record { goes = search rules; kept = search rules; writes = search rules; counts = search rules; read = (covers, omega arith) }
+    let none : length c.new-rows.result.items ≡ 0 = ap length c.new-rows.ensures.items in
+    let none_read : Rises (length c.new-rows.result.items) (g.K.Keeper.seen c.args.keeper.now).reads (g.K.Keeper.seen c.args.keeper.now).reads = λ _. omega (arith, none) in
+    record { goes = search rules; kept = search rules; writes = search rules; counts = search rules; read = (covers, omega arith, none_read) }
 
 pub next_under-requires-clause-grammar : goal.next_under-requires-clause-grammar
 next_under-requires-clause-grammar g c = subst (TableFits g.T.Tab.codec) (sym c.loop.invariant.kept) c.requires.grammar
@@ -34,5 +37,12 @@ loop-preserved g c =
     let count : length c.push.new.self.items ≡ length c.loop.rows.items + 1 = ap length pushed ∙ length_push c.loop.rows.items e in
     let within : now.reads ≤ old.reads + length c.loop.rows.items = h.read.1 in
     let reads : new.reads ≤ old.reads + length c.push.new.self.items = omega (arith, c.in-Ok-Some.ensures.reads, within, count) in
+    let each : Rises (length c.push.new.self.items) old.reads new.reads =
+    subst (λ k. Rises k old.reads new.reads) (sym count) (rises_more (length c.loop.rows.items) old.reads now.reads new.reads c.in-Ok-Some.ensures.read.counts.reads h.read.2 c.in-Ok-Some.ensures.reads) in
     reading_more old now new c.in-Ok-Some.field-0 Fault h c.in-Ok-Some.ensures.read
-    (subst (Covers g.T.Tab.codec old.kept c.args.prefix.now c.next_under.new.low.items) (sym pushed) more, reads)
+    (subst (Covers g.T.Tab.codec old.kept c.args.prefix.now c.next_under.new.low.items) (sym pushed) more, reads, each)
+
+pub returns-in-Ok-None-clause-each_read : goal.returns-in-Ok-None-clause-each_read
+returns-in-Ok-None-clause-each_read g c =
+    rises_more (length c.loop.rows.items) (g.K.Keeper.seen c.args.keeper.now).reads (g.K.Keeper.seen c.loop.keeper).reads (g.K.Keeper.seen c.next_under.new.keeper).reads
+    c.in-Ok-None.ensures.read.counts.reads c.loop.invariant.read.2 c.in-Ok-None.ensures.reads

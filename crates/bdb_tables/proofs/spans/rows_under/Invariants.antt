@@ -1,4 +1,5 @@
 use Rattle.std.proofs.Common.{◌+◌, ◌≤◌, length}
+use Rattle.bdb_base.specs.Causes.{Rises}
 use Rattle.bdb_tables.proofs.Loops.{IsReading}
 use Rattle.bdb_tables.proofs.SpanLemmas.{Covers}
 use Rattle.bdb_tables.proofs.spans.rows_under.Given as goal
@@ -6,4 +7,5 @@ use Rattle.bdb_tables.proofs.spans.rows_under.Given as goal
 abbrev pub invariant-loop : goal.invariant-loop
 invariant-loop g l = IsReading (g.K.Keeper.seen l.fn.keeper) (g.K.Keeper.seen l.keeper)
     (Covers g.T.Tab.codec (g.K.Keeper.seen l.fn.keeper).kept l.prefix l.low.items l.rows.items
-    × ((g.K.Keeper.seen l.keeper).reads ≤ (g.K.Keeper.seen l.fn.keeper).reads + length l.rows.items))
+    × ((g.K.Keeper.seen l.keeper).reads ≤ (g.K.Keeper.seen l.fn.keeper).reads + length l.rows.items)
+    × Rises (length l.rows.items) (g.K.Keeper.seen l.fn.keeper).reads (g.K.Keeper.seen l.keeper).reads)

@@ -2,7 +2,7 @@ use Rattle.std.proofs.Common.{◌≡◌, rules}
 use Rattle.std.specs.FinMap as map
 use Rattle.bdb_tables.specs.Codec.{place}
 use Rattle.bdb_tables.proofs.Held.{put_kept}
-use Rattle.bdb_tables.proofs.access.put.Goals as goal
+use Rattle.bdb_tables.proofs.access.put_in.Goals as goal
 
 pub returns-in-Ok-clause-grammar : goal.returns-in-Ok-clause-grammar
 returns-in-Ok-clause-grammar g c =

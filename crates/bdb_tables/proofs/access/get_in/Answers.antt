@@ -1,6 +1,6 @@
 use Rattle.std.proofs.Common.{Some, None, cond, sym, ap, ◌∙◌}
 use Rattle.bdb_tables.proofs.Held.{held, row_of_entry}
-use Rattle.bdb_tables.proofs.access.get.Goals as goal
+use Rattle.bdb_tables.proofs.access.get_in.Goals as goal
 
 pub row_from-requires : goal.row_from-requires
 row_from-requires g c =
