@@ -1,5 +1,5 @@
 -- The least number that is not in use.
-use Rattle.std.proofs.Common.{◌≡◌, ◌∙◌, ℕ, ◌+◌, ◌≤◌, ◌<◌, true, false, List, refl, ap, sym, inl, inr, arith, length, Option, Some, None}
+use Rattle.std.proofs.Common.{◌≡◌, ◌∙◌, ℕ, ◌<◌, true, false, List, refl, ap, sym, inl, inr, arith, length, Option, Some, None}
 use Rattle.std.specs.Option.{option_map, is_some}
 use Rattle.std.specs.Ordering.{is_le}
 use Rattle.std.specs.FinMap as tables
@@ -7,7 +7,8 @@ use Rattle.std.proofs.lemmas.Bool.{false≢true, cases_lt}
 use Rattle.bdb_keep.specs.Tables.{Tables}
 use Rattle.bdb_key.specs.Bytes.{num_bytes}
 use Rattle.bdb_key.specs.Grammar.{IsNum}
-use Rattle.bdb_tables.specs.Codec.{HasFirst, HasAt, place}
+use Rattle.bdb_tables.specs.Codec.{HasFirst, place}
+use Rattle.bdb_tables.specs.Gaps.{IsFirstGap}
 use Rattle.bdb_tables.specs.InUse.{depth_codec}
 use Rattle.bdb_tables.specs.Names.{path_of, depth_of}
 use Rattle.bdb_tables.specs.States.{HoldsStates}
@@ -16,10 +17,6 @@ use Rattle.bdb_names.proofs.NameLemmas.{some_of}
 use Rattle.bdb_worlds.specs.Free.{FindsFree}
 use Rattle.bdb_worlds.specs.Holding.{Worlds}
 use Rattle.bdb_worlds.proofs.ReadLemmas.{number_le}
-
--- each number of a range has a row
-abbrev pub AllThere : Tables → ℕ → ℕ → Type 0
-AllThere t low high = (k : ℕ) → low ≤ k → k < high → is_some (tables.get t (place depth_codec k)) ≡ true
 
 is_there : (o : Option ℕ) → is_some (option_map num_bytes o) ≡ is_some o
 is_there None = refl
@@ -63,26 +60,18 @@ count_is_free t worlds low fits none = record {
       };
 }
 
-pub all_begin : (t : Tables) (low : ℕ) → AllThere t low low
-all_begin t low k a b = absurd (omega arith)
-
-row_found : (t : Tables) (k x : ℕ) → HasAt depth_codec t k (Some x) → is_some (tables.get t (place depth_codec k)) ≡ true
-row_found t k x h = ap is_some h.found
-
-pub all_more : (t : Tables) (low n past x : ℕ) → past ≡ n + 1 → AllThere t low n → HasAt depth_codec t n (Some x) → AllThere t low past
-all_more t low n past x e all has k a b = elim (cases_lt k n) [
-  | inl lt ↦ all k a lt
-  | inr ge ↦ let same : k ≡ n = omega arith in ap (λ j. is_some (tables.get t (place depth_codec j))) same ∙ row_found t n x has
-]
-
-pub tried_is_free : (t : Tables) (worlds low n : ℕ) → IsNum n → AllThere t low n → HasAt depth_codec t n None → FindsFree t worlds low n
-tried_is_free t worlds low n fits all gone = record {
-  fits = fits;
+-- the first number from `low` on that is no key of the table of depths
+pub gap_is_free : (t u : Tables) (worlds low n : ℕ) → u ≡ t → IsFirstGap u depth_codec.number low n → FindsFree t worlds low n
+gap_is_free t u worlds low n same gap = record {
+  fits = gap.fits;
   least = λ s h count below. record {
-    free = is_free s t h n fits gone;
+    free = is_free s t h n gap.fits (ap (λ v. tables.get v (place depth_codec n)) (sym same) ∙ gap.free);
     least = λ k lt. elim (cases_lt k low) [
       | inl b ↦ below k b
-      | inr b ↦ sym (row_is s t h k (omega arith)) ∙ all k b lt
+      | inr b ↦ sym (row_is s t h k (fits_below k gap.fits lt)) ∙ ap (λ v. is_some (tables.get v (place depth_codec k))) (sym same) ∙ gap.least k b lt
     ];
   };
 }
+  where
+    fits_below : (k : ℕ) → IsNum n → k < n → IsNum k
+    fits_below k fits lt = omega arith

@@ -5,7 +5,7 @@ ghost use Rattle.bdb_tables.specs.Grammar.{InGrammar};
 ghost use Rattle.bdb_worlds.specs.Finds.{HasNextChild};
 
 use bdb_keep::Keeper;
-use bdb_tables::{SuffixIx, TabError, next};
+use bdb_tables::{Room, SuffixIx, TabError, next_in};
 use std::alloc::Global;
 
 /// The least world from `low` on whose suffix link leads to `wid`. One read, or none where `low` is beyond all numbers.
@@ -14,6 +14,7 @@ pub fn next_child<K: Keeper>(
     keeper: &mut K,
     wid: u32,
     low: u64,
+    room: &mut Room,
 ) -> Result<Option<u32>, TabError>
     requires grammar { InGrammar (K.seen keeper.old).kept }
     ensures child { IfOk result (HasNextChild (K.seen keeper.old).kept wid low) }
@@ -26,7 +27,7 @@ pub fn next_child<K: Keeper>(
         return Ok(None);
     }
     let key = (wid, low as u32);
-    match next::<SuffixIx, K>(alloc, keeper, &key) {
+    match next_in::<SuffixIx, K>(alloc, keeper, &key, room) {
         Ok(Some(entry)) => Ok(child_of(wid, entry.0)),
         Ok(None) => Ok(None),
         Err(error) => Err(error),

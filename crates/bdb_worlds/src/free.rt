@@ -5,11 +5,11 @@ ghost use Rattle.bdb_tables.specs.Grammar.{InGrammar};
 ghost use Rattle.bdb_worlds.specs.Free.{FindsFree};
 
 use bdb_keep::Keeper;
-use bdb_tables::{DepthTab, TabError, get, next};
+use bdb_tables::{DepthTab, Tab, TabError, first_gap, next};
 use std::alloc::Global;
 
 /// The least number not in use, where `worlds` numbers are and all below `low` are. Where there are no gaps one read
-/// finds it; else numbers are tried from `low` on.
+/// finds it; else numbers are tried from `low` on, and no row of theirs is decoded.
 pub fn free_number<K: Keeper>(
     alloc: Global,
     keeper: &mut K,
@@ -28,13 +28,8 @@ pub fn free_number<K: Keeper>(
         Ok(None) => return Ok(worlds),
         Err(error) => return Err(error),
     }
-    for number in low..u32::MAX {
-        match get::<DepthTab, K>(alloc, keeper, &number) {
-            Ok(Some(_)) => {}
-            Ok(None) => return Ok(number),
-            Err(error) => return Err(error),
-        }
+    match first_gap(alloc, keeper, DepthTab::NUMBER, low) {
+        Ok(number) => Ok(number),
+        Err(error) => Err(error),
     }
-    keeper.undo();
-    Err(TabError::Memory)
 }

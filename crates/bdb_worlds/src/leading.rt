@@ -6,7 +6,7 @@ ghost use Rattle.bdb_tables.specs.Grammar.{InGrammar};
 ghost use Rattle.bdb_names.specs.Turned.{edge_set, edges_led, link_set, links_led};
 
 use bdb_keep::Keeper;
-use bdb_tables::{EdgeIx, EdgeTab, SuffixIx, SuffixTab, TabError, drop_row, put};
+use bdb_tables::{EdgeIx, EdgeTab, Room, SuffixIx, SuffixTab, TabError, drop_in, put_in};
 use std::alloc::Global;
 
 /// Leads the edges of worlds for a user to another world. Three writes each.
@@ -26,8 +26,9 @@ pub fn lead_edges<K: Keeper>(
     ensures counts { NeverFall (K.seen keeper.old) (K.seen keeper.new) }
     ensures steps { Steps (K.seen keeper.old) (K.seen keeper.new) result TabError.Fault }
 {
+    let mut room = Room::new(alloc);
     for wid in sources {
-        match lead_edge(alloc, keeper, *wid, uid, from, to) {
+        match lead_edge(keeper, *wid, uid, from, to, &mut room) {
             Ok(()) => {}
             Err(error) => return Err(error),
         }
@@ -51,8 +52,9 @@ pub fn lead_links<K: Keeper>(
     ensures counts { NeverFall (K.seen keeper.old) (K.seen keeper.new) }
     ensures steps { Steps (K.seen keeper.old) (K.seen keeper.new) result TabError.Fault }
 {
+    let mut room = Room::new(alloc);
     for wid in sources {
-        match lead_link(alloc, keeper, *wid, from, to) {
+        match lead_link(keeper, *wid, from, to, &mut room) {
             Ok(()) => {}
             Err(error) => return Err(error),
         }
@@ -62,12 +64,12 @@ pub fn lead_links<K: Keeper>(
 
 /// Leads the edge of a world for a user to another world.
 pub fn lead_edge<K: Keeper>(
-    alloc: Global,
     keeper: &mut K,
     wid: u32,
     uid: u32,
     from: u32,
     to: u32,
+    room: &mut Room,
 ) -> Result<(), TabError>
     requires running { (K.seen keeper.old).running ≡ true }
     ensures kept { OnOk result ((K.seen keeper.new).kept ≡ edge_set (K.seen keeper.old).kept (Some from) (Some to) (wid, uid)) }
@@ -77,19 +79,19 @@ pub fn lead_edge<K: Keeper>(
     ensures counts { NeverFall (K.seen keeper.old) (K.seen keeper.new) }
     ensures steps { Steps (K.seen keeper.old) (K.seen keeper.new) result TabError.Fault }
 {
-    put::<EdgeTab, K>(alloc, keeper, &(wid, uid), &to)?;
-    let _gone = drop_row::<EdgeIx, K>(alloc, keeper, &(from, wid, uid))?;
-    put::<EdgeIx, K>(alloc, keeper, &(to, wid, uid), &())?;
+    put_in::<EdgeTab, K>(keeper, &(wid, uid), &to, room)?;
+    let _gone = drop_in::<EdgeIx, K>(keeper, &(from, wid, uid), room)?;
+    put_in::<EdgeIx, K>(keeper, &(to, wid, uid), &(), room)?;
     Ok(())
 }
 
 /// Leads the suffix link of a world to another world.
 pub fn lead_link<K: Keeper>(
-    alloc: Global,
     keeper: &mut K,
     wid: u32,
     from: u32,
     to: u32,
+    room: &mut Room,
 ) -> Result<(), TabError>
     requires running { (K.seen keeper.old).running ≡ true }
     ensures kept { OnOk result ((K.seen keeper.new).kept ≡ link_set (K.seen keeper.old).kept (Some from) (Some to) wid) }
@@ -99,8 +101,8 @@ pub fn lead_link<K: Keeper>(
     ensures counts { NeverFall (K.seen keeper.old) (K.seen keeper.new) }
     ensures steps { Steps (K.seen keeper.old) (K.seen keeper.new) result TabError.Fault }
 {
-    put::<SuffixTab, K>(alloc, keeper, &wid, &to)?;
-    let _gone = drop_row::<SuffixIx, K>(alloc, keeper, &(from, wid))?;
-    put::<SuffixIx, K>(alloc, keeper, &(to, wid), &())?;
+    put_in::<SuffixTab, K>(keeper, &wid, &to, room)?;
+    let _gone = drop_in::<SuffixIx, K>(keeper, &(from, wid), room)?;
+    put_in::<SuffixIx, K>(keeper, &(to, wid), &(), room)?;
     Ok(())
 }

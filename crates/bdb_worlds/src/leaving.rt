@@ -13,7 +13,8 @@ use crate::leading::{lead_edge, lead_link};
 use bdb_keep::Keeper;
 use bdb_key::put_num;
 use bdb_tables::{
-    DepthTab, EdgeIx, EdgeTab, SuffixIx, SuffixTab, TabError, drop_row, get, rows_under,
+    DepthTab, EdgeIx, EdgeTab, Room, SuffixIx, SuffixTab, TabError, drop_in, drop_row, get,
+    rows_under,
 };
 use std::alloc::Global;
 
@@ -127,8 +128,9 @@ fn lead_pairs<K: Keeper>(
     ensures counts { NeverFall (K.seen keeper.old) (K.seen keeper.new) }
     ensures steps { Steps (K.seen keeper.old) (K.seen keeper.new) result TabError.Fault }
 {
+    let mut room = Room::new(alloc);
     for row in rows {
-        match lead_edge(alloc, keeper, row.0.1, row.0.2, from, to) {
+        match lead_edge(keeper, row.0.1, row.0.2, from, to, &mut room) {
             Ok(()) => {}
             Err(error) => return Err(error),
         }
@@ -151,8 +153,9 @@ fn lead_kids<K: Keeper>(
     ensures counts { NeverFall (K.seen keeper.old) (K.seen keeper.new) }
     ensures steps { Steps (K.seen keeper.old) (K.seen keeper.new) result TabError.Fault }
 {
+    let mut room = Room::new(alloc);
     for row in rows {
-        match lead_link(alloc, keeper, row.0.1, from, to) {
+        match lead_link(keeper, row.0.1, from, to, &mut room) {
             Ok(()) => {}
             Err(error) => return Err(error),
         }
@@ -174,8 +177,9 @@ fn drop_edges<K: Keeper>(
     ensures counts { NeverFall (K.seen keeper.old) (K.seen keeper.new) }
     ensures steps { Steps (K.seen keeper.old) (K.seen keeper.new) result TabError.Fault }
 {
+    let mut room = Room::new(alloc);
     for row in rows {
-        match drop_edge(alloc, keeper, wid, row.0.1, row.1) {
+        match drop_edge(keeper, wid, row.0.1, row.1, &mut room) {
             Ok(()) => {}
             Err(error) => return Err(error),
         }
@@ -185,11 +189,11 @@ fn drop_edges<K: Keeper>(
 
 /// Takes the edge of a world for a user away.
 fn drop_edge<K: Keeper>(
-    alloc: Global,
     keeper: &mut K,
     wid: u32,
     uid: u32,
     from: u32,
+    room: &mut Room,
 ) -> Result<(), TabError>
     requires running { (K.seen keeper.old).running ≡ true }
     ensures kept { OnOk result ((K.seen keeper.new).kept ≡ edge_set (K.seen keeper.old).kept (Some from) None (wid, uid)) }
@@ -198,8 +202,8 @@ fn drop_edge<K: Keeper>(
     ensures counts { NeverFall (K.seen keeper.old) (K.seen keeper.new) }
     ensures steps { Steps (K.seen keeper.old) (K.seen keeper.new) result TabError.Fault }
 {
-    let _edge = drop_row::<EdgeTab, K>(alloc, keeper, &(wid, uid))?;
-    let _turned = drop_row::<EdgeIx, K>(alloc, keeper, &(from, wid, uid))?;
+    let _edge = drop_in::<EdgeTab, K>(keeper, &(wid, uid), room)?;
+    let _turned = drop_in::<EdgeIx, K>(keeper, &(from, wid, uid), room)?;
     Ok(())
 }
 

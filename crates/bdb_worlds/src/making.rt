@@ -6,7 +6,7 @@ ghost use Rattle.bdb_tables.specs.Grammar.{InGrammar};
 ghost use Rattle.bdb_names.specs.Turned.{edge_set, edges_made, state_made};
 
 use bdb_keep::Keeper;
-use bdb_tables::{DepthTab, EdgeIx, EdgeTab, SuffixIx, SuffixTab, TabError, put};
+use bdb_tables::{DepthTab, EdgeIx, EdgeTab, Room, SuffixIx, SuffixTab, TabError, put, put_in};
 use std::alloc::Global;
 
 /// Makes edges of a world, each given by its user and the world to which it leads. Two writes each.
@@ -24,8 +24,9 @@ pub fn make_edges<K: Keeper>(
     ensures counts { NeverFall (K.seen keeper.old) (K.seen keeper.new) }
     ensures steps { Steps (K.seen keeper.old) (K.seen keeper.new) result TabError.Fault }
 {
+    let mut room = Room::new(alloc);
     for edge in edges {
-        match make_edge(alloc, keeper, wid, edge.0, edge.1) {
+        match make_edge(keeper, wid, edge.0, edge.1, &mut room) {
             Ok(()) => {}
             Err(error) => return Err(error),
         }
@@ -35,11 +36,11 @@ pub fn make_edges<K: Keeper>(
 
 /// Makes the edge of a world for a user.
 pub fn make_edge<K: Keeper>(
-    alloc: Global,
     keeper: &mut K,
     wid: u32,
     uid: u32,
     to: u32,
+    room: &mut Room,
 ) -> Result<(), TabError>
     requires running { (K.seen keeper.old).running ≡ true }
     ensures kept { OnOk result ((K.seen keeper.new).kept ≡ edge_set (K.seen keeper.old).kept None (Some to) (wid, uid)) }
@@ -49,8 +50,8 @@ pub fn make_edge<K: Keeper>(
     ensures counts { NeverFall (K.seen keeper.old) (K.seen keeper.new) }
     ensures steps { Steps (K.seen keeper.old) (K.seen keeper.new) result TabError.Fault }
 {
-    put::<EdgeTab, K>(alloc, keeper, &(wid, uid), &to)?;
-    put::<EdgeIx, K>(alloc, keeper, &(to, wid, uid), &())?;
+    put_in::<EdgeTab, K>(keeper, &(wid, uid), &to, room)?;
+    put_in::<EdgeIx, K>(keeper, &(to, wid, uid), &(), room)?;
     Ok(())
 }
 

@@ -7,7 +7,7 @@ ghost use Rattle.bdb_worlds.specs.Finds.{IsVisit, FindsMovers};
 
 use crate::children::next_child;
 use bdb_keep::Keeper;
-use bdb_tables::{EdgeTab, TabError, get};
+use bdb_tables::{EdgeTab, Room, TabError, get_in};
 use std::alloc::{AllocError, Global};
 
 /// The worlds whose edges for `uid`, and those whose suffix links, are to lead to the new world that the edge of `start`
@@ -35,15 +35,24 @@ pub fn movers<K: Keeper>(
             return Err(TabError::Memory);
         }
     };
+    let mut room = Room::new(alloc);
     let mut at: usize = 0;
     let mut low: u64 = 0;
     for _ in 0..u64::MAX {
         if at >= sources.len() {
             return Ok((sources, met));
         }
-        match next_child(alloc, keeper, sources[at], low) {
+        match next_child(alloc, keeper, sources[at], low, &mut room) {
             Ok(Some(child)) => {
-                match visit(alloc, keeper, child, uid, from, &mut sources, &mut met) {
+                match visit(
+                    alloc,
+                    keeper,
+                    (child, uid),
+                    from,
+                    &mut sources,
+                    &mut met,
+                    &mut room,
+                ) {
                     Ok(()) => {}
                     Err(error) => return Err(error),
                 }
@@ -69,31 +78,30 @@ fn only(alloc: Global, number: u32) -> Result<Vec<u32>, AllocError>
     Ok(numbers)
 }
 
-/// Reads the edge of a child for a user and notes what it shows: the child's edge moves, or the link of the world to
+/// Reads the edge of a child, given by the child and a user, and notes what it shows: the child's edge moves, or the link of the world to
 /// which it leads.
 fn visit<K: Keeper>(
     alloc: Global,
     keeper: &mut K,
-    child: u32,
-    uid: u32,
+    edge: (u32, u32),
     from: u32,
     sources: &mut Vec<u32>,
     met: &mut Vec<u32>,
+    room: &mut Room,
 ) -> Result<(), TabError>
     requires grammar { InGrammar (K.seen keeper.old).kept }
-    ensures visit { OnOk result (IsVisit (K.seen keeper.old).kept child uid from sources.old.items met.old.items sources.new.items met.new.items) }
+    ensures visit { OnOk result (IsVisit (K.seen keeper.old).kept edge.0 edge.1 from sources.old.items met.old.items sources.new.items met.new.items) }
     ensures kept { OnOk result ((K.seen keeper.new).kept ≡ (K.seen keeper.old).kept) }
     ensures writes { (K.seen keeper.new).writes ≡ (K.seen keeper.old).writes }
     ensures counts { NeverFall (K.seen keeper.old) (K.seen keeper.new) }
     ensures steps { Steps (K.seen keeper.old) (K.seen keeper.new) result TabError.Fault }
 {
-    let key = (child, uid);
-    let target = match get::<EdgeTab, K>(alloc, keeper, &key) {
+    let target = match get_in::<EdgeTab, K>(alloc, keeper, &edge, room) {
         Ok(Some(target)) => target,
         Ok(None) => return Ok(()),
         Err(error) => return Err(error),
     };
-    match note(child, target, from, sources, met) {
+    match note(edge.0, target, from, sources, met) {
         Ok(()) => Ok(()),
         Err(_) => {
             keeper.undo();

@@ -5,7 +5,7 @@ ghost use Rattle.bdb_tables.specs.Grammar.{InGrammar};
 ghost use Rattle.bdb_worlds.specs.Owns.{HasNextEdge, FindsEdges};
 
 use bdb_keep::Keeper;
-use bdb_tables::{EdgeTab, TabError, next};
+use bdb_tables::{EdgeTab, Room, TabError, next_in};
 use std::alloc::Global;
 
 /// The edges of a world but the one for `uid`, each by its user and the world to which it leads.
@@ -22,10 +22,11 @@ pub fn edges_but<K: Keeper>(
     ensures counts { NeverFall (K.seen keeper.old) (K.seen keeper.new) }
     ensures steps { Steps (K.seen keeper.old) (K.seen keeper.new) result TabError.Fault }
 {
+    let mut room = Room::new(alloc);
     let mut edges = Vec::new(alloc);
     let mut low: u64 = 0;
     for _ in 0..u64::MAX {
-        let edge = match next_edge(alloc, keeper, wid, low) {
+        let edge = match next_edge(alloc, keeper, wid, low, &mut room) {
             Ok(Some(edge)) => edge,
             Ok(None) => return Ok(edges),
             Err(error) => return Err(error),
@@ -52,6 +53,7 @@ pub fn next_edge<K: Keeper>(
     keeper: &mut K,
     wid: u32,
     low: u64,
+    room: &mut Room,
 ) -> Result<Option<(u32, u32)>, TabError>
     requires grammar { InGrammar (K.seen keeper.old).kept }
     ensures edge { IfOk result (HasNextEdge (K.seen keeper.old).kept wid low) }
@@ -64,7 +66,7 @@ pub fn next_edge<K: Keeper>(
         return Ok(None);
     }
     let key = (wid, low as u32);
-    match next::<EdgeTab, K>(alloc, keeper, &key) {
+    match next_in::<EdgeTab, K>(alloc, keeper, &key, room) {
         Ok(Some(entry)) => Ok(edge_in(wid, entry.0, entry.1)),
         Ok(None) => Ok(None),
         Err(error) => Err(error),

@@ -9,7 +9,7 @@ ghost use Rattle.bdb_worlds.specs.Shrinking.{AreAlong, IsNoState};
 
 use crate::staying::has_depth;
 use bdb_keep::Keeper;
-use bdb_tables::{DepthTab, EdgeTab, TabError, get};
+use bdb_tables::{DepthTab, EdgeTab, Room, TabError, get, get_in};
 use std::alloc::Global;
 
 /// The longest prefix of a path that is a state: how many users it has, and its number. The walk takes an edge for each
@@ -29,15 +29,16 @@ pub fn longest_state<K: Keeper>(
     ensures counts { NeverFall (K.seen keeper.old) (K.seen keeper.new) }
     ensures steps { Steps (K.seen keeper.old) (K.seen keeper.new) result TabError.Fault }
 {
+    let mut room = Room::new(alloc);
     let mut wid = 0;
     for (len, uid) in path.iter().enumerate() {
         let key = (wid, *uid);
-        let target = match get::<EdgeTab, K>(alloc, keeper, &key) {
+        let target = match get_in::<EdgeTab, K>(alloc, keeper, &key, &mut room) {
             Ok(Some(target)) => target,
             Ok(None) => unreachable!(),
             Err(error) => return Err(error),
         };
-        let depth = match get::<DepthTab, K>(alloc, keeper, &target) {
+        let depth = match get_in::<DepthTab, K>(alloc, keeper, &target, &mut room) {
             Ok(Some(depth)) => depth,
             Ok(None) => unreachable!(),
             Err(error) => return Err(error),

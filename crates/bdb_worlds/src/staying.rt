@@ -5,9 +5,9 @@ ghost use Rattle.bdb_tables.specs.Grammar.{InGrammar};
 ghost use Rattle.bdb_worlds.specs.Staying.{TellsExplicit, TellsDepth, TellsLonger, TellsNeeded};
 
 use crate::owning::next_edge;
-use bdb_base::Value;
 use bdb_keep::Keeper;
-use bdb_tables::{DepthTab, TabError, ValTab, after, get, next};
+use bdb_key::put_num;
+use bdb_tables::{DepthTab, Room, TabError, get, has_explicit_under};
 use std::alloc::Global;
 
 /// Whether the path of a world has to stay a state: it has an explicit row, or a state is one user longer, and so as deep
@@ -45,27 +45,16 @@ fn has_explicit<K: Keeper>(alloc: Global, keeper: &mut K, wid: u32) -> Result<bo
     ensures counts { NeverFall (K.seen keeper.old) (K.seen keeper.new) }
     ensures steps { Steps (K.seen keeper.old) (K.seen keeper.new) result TabError.Fault }
 {
-    let low = (wid, 0, Value::Int(i64::MIN), 0);
-    let mut row = match next::<ValTab, K>(alloc, keeper, &low) {
-        Ok(Some(row)) => row,
-        Ok(None) => return Ok(false),
-        Err(error) => return Err(error),
-    };
-    for _ in 0..u64::MAX {
-        if row.0.0 != wid {
-            return Ok(false);
-        }
-        if row.1.1 {
-            return Ok(true);
-        }
-        row = match after::<ValTab, K>(alloc, keeper, &row.0) {
-            Ok(Some(behind)) => behind,
-            Ok(None) => return Ok(false),
-            Err(error) => return Err(error),
-        };
+    let mut prefix = Vec::new(alloc);
+    if put_num(&mut prefix, wid).is_err() {
+        keeper.undo();
+        return Err(TabError::Memory);
     }
-    keeper.undo();
-    Err(TabError::Memory)
+    let mut room = Room::new(alloc);
+    match has_explicit_under(keeper, &prefix, &mut room) {
+        Ok(found) => Ok(found),
+        Err(error) => Err(error),
+    }
 }
 
 /// Whether a state is one user longer than the path of a world: whether an edge of the world leads to one as deep as
@@ -83,9 +72,10 @@ fn has_longer<K: Keeper>(
     ensures counts { NeverFall (K.seen keeper.old) (K.seen keeper.new) }
     ensures steps { Steps (K.seen keeper.old) (K.seen keeper.new) result TabError.Fault }
 {
+    let mut room = Room::new(alloc);
     let mut low: u64 = 0;
     for _ in 0..u64::MAX {
-        let edge = match next_edge(alloc, keeper, wid, low) {
+        let edge = match next_edge(alloc, keeper, wid, low, &mut room) {
             Ok(Some(edge)) => edge,
             Ok(None) => return Ok(false),
             Err(error) => return Err(error),

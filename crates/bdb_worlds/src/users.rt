@@ -7,7 +7,7 @@ ghost use Rattle.bdb_worlds.specs.UserEdges.{AddsUser, HasNextNumber, WritesEdge
 
 use crate::making::make_edge;
 use bdb_keep::Keeper;
-use bdb_tables::{DepthTab, TabError, next};
+use bdb_tables::{DepthTab, Room, TabError, next};
 use std::alloc::Global;
 
 /// Makes an edge from each world to the empty path for a new user, whom no path names yet. Two writes for each
@@ -22,6 +22,7 @@ pub fn add_user_edges<K: Keeper>(alloc: Global, keeper: &mut K, uid: u32) -> Res
     ensures counts { NeverFall (K.seen keeper.old) (K.seen keeper.new) }
     ensures steps { Steps (K.seen keeper.old) (K.seen keeper.new) result TabError.Fault }
 {
+    let mut room = Room::new(alloc);
     let mut low: u64 = 0;
     for _ in 0..u64::MAX {
         let wid = match next_number(alloc, keeper, low) {
@@ -29,7 +30,7 @@ pub fn add_user_edges<K: Keeper>(alloc: Global, keeper: &mut K, uid: u32) -> Res
             Ok(None) => return Ok(()),
             Err(error) => return Err(error),
         };
-        match make_edge(alloc, keeper, wid, uid, 0) {
+        match make_edge(keeper, wid, uid, 0, &mut room) {
             Ok(()) => {}
             Err(error) => return Err(error),
         }

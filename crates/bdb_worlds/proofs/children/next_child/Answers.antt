@@ -6,8 +6,8 @@ use Rattle.bdb_worlds.specs.Finds.{HasNextChild}
 use Rattle.bdb_worlds.proofs.ReadLemmas.{from_low, linked_fit, child_none, child_some}
 use Rattle.bdb_worlds.proofs.children.next_child.Goals as goal
 
-pub next-requires-clause-grammar : goal.next-requires-clause-grammar
-next-requires-clause-grammar g c = linked_fit _ c.requires.grammar
+pub next_in-requires-clause-grammar : goal.next_in-requires-clause-grammar
+next_in-requires-clause-grammar g c = linked_fit _ c.requires.grammar
 
 pub returns-in-Ok-Some-clause-child : goal.returns-in-Ok-Some-clause-child
 returns-in-Ok-Some-clause-child g c =

@@ -1,4 +1,4 @@
 use Rattle.bdb_worlds.proofs.leading.lead_link.Goals as goal
 
 pub returns-clause-grammar : goal.returns-clause-grammar
-returns-clause-grammar g c = λ h. c.in_ok-put-2.ensures.grammar (c.in_ok-_gone.ensures.grammar (c.in_ok-put.ensures.grammar h))
+returns-clause-grammar g c = λ h. c.in_ok-put_in-2.ensures.grammar (c.in_ok-_gone.ensures.grammar (c.in_ok-put_in.ensures.grammar h))

@@ -7,8 +7,8 @@ use Rattle.bdb_worlds.proofs.OwnLemmas.{edge_from_low, edge_none, edge_some}
 use Rattle.bdb_worlds.proofs.ReadLemmas.{edges_fit}
 use Rattle.bdb_worlds.proofs.owning.next_edge.Goals as goal
 
-pub next-requires-clause-grammar : goal.next-requires-clause-grammar
-next-requires-clause-grammar g c = edges_fit _ c.requires.grammar
+pub next_in-requires-clause-grammar : goal.next_in-requires-clause-grammar
+next_in-requires-clause-grammar g c = edges_fit _ c.requires.grammar
 
 pub returns-in-Ok-Some-clause-edge : goal.returns-in-Ok-Some-clause-edge
 returns-in-Ok-Some-clause-edge g c =
