@@ -13,17 +13,18 @@ use Rattle.bdb_key.specs.Grammar.{IsNum}
 use Rattle.bdb_key.specs.Rows.{mark_bytes}
 use Rattle.bdb_key.proofs.Forms.{tied}
 use Rattle.bdb_tables.specs.Codec.{place}
+use Rattle.bdb_tables.specs.Copies.{copied, removed}
 use Rattle.bdb_tables.specs.InUse.{ValKey, IsValKey, val_bytes, val_codec}
 use Rattle.bdb_tables.specs.InUseLaws.{vals_are_one, vals_in_order, mark_rows_are_one}
 use Rattle.bdb_tables.specs.Marks.{Mark}
 use Rattle.bdb_tables.specs.Spans.{AreUnder, IsUnder, entry_cmp}
-use Rattle.bdb_tables.specs.Writes.{IsChange, MayBeChange, Gives, with_changes, with_row_at, with_rows_at}
+use Rattle.bdb_tables.specs.Writes.{IsChange, Gives, with_changes, with_row_at, with_rows_at}
 use Rattle.bdb_tables.proofs.Held.{same_place, some_same, none_some}
 use Rattle.bdb_tables.proofs.WriteLemmas.{changes_give, gives_same}
 use Rattle.bdb_val.specs.Reads.{HaveTuples, world_prefix}
-use Rattle.bdb_val.specs.WorldCopies.{inherited_or, key_in, rows_copied, rows_cleared, CopiesWorld, ClearsWorld, copied, removed}
+use Rattle.bdb_val.specs.WorldCopies.{inherited_or, key_in, rows_copied, rows_cleared, CopiesWorld, ClearsWorld}
 use Rattle.bdb_val.proofs.ReadLemmas.{rows_at, prefix_append, world_of_key}
-use Rattle.bdb_val.proofs.StateLemmas.{HasTuple, plain_text, changes_keep}
+use Rattle.bdb_val.proofs.StateLemmas.{HasTuple, changes_keep}
 use Rattle.bdb_val.proofs.ToldLemmas.{entries_stand}
 
 -- ---- each row is found by its key
@@ -196,13 +197,6 @@ all_mapped : (m : ValKey × Mark → ValKey × Option Mark) (Q : ValKey × Mark 
     → AllByRecursion P (map m es)
 all_mapped m Q P h [] a = tt
 all_mapped m Q P h (e ∷ es) a = (h e a.0, all_mapped m Q P h es a.1)
-
--- the keys that change are those of rows, or of rows of other worlds
-pub copies_may_be : (t : Tables) (prefix : List ℕ) (to : ℕ) (es : List (ValKey × Mark)) → AreUnder val_codec t prefix es → AllByRecursion (MayBeChange val_codec) (map (copied to) es)
-copies_may_be t prefix to es u = all_mapped (copied to) (IsUnder val_codec prefix) (MayBeChange val_codec) (λ e a. record { key = plain_text e.0.2 a.key.value; row = tt }) es u.each
-
-pub removals_may_be : (t : Tables) (prefix : List ℕ) (es : List (ValKey × Mark)) → AreUnder val_codec t prefix es → AllByRecursion (MayBeChange val_codec) (map removed es)
-removals_may_be t prefix es u = all_mapped removed (IsUnder val_codec prefix) (MayBeChange val_codec) (λ e a. record { key = plain_text e.0.2 a.key.value; row = tt }) es u.each
 
 -- each row has its tuple still
 pub mapped_keep_tuples : (m : ValKey × Mark → ValKey × Option Mark) → ((e : ValKey × Mark) → (m e).0.3 ≡ e.0.3) → (t u : Tables) (prefix : List ℕ) (es : List (ValKey × Mark)) → HaveTuples t

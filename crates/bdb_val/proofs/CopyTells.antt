@@ -16,6 +16,7 @@ use Rattle.bdb_key.specs.Grammar.{IsNum}
 use Rattle.bdb_key.specs.Rows.{mark_bytes}
 use Rattle.bdb_key.proofs.Forms.{tied}
 use Rattle.bdb_tables.specs.Codec.{place}
+use Rattle.bdb_tables.specs.Copies.{copied, removed}
 use Rattle.bdb_tables.specs.Differences.{AreDifferences, AreReal}
 use Rattle.bdb_tables.specs.InUse.{ValKey, IsValKey, val_bytes, val_codec}
 use Rattle.bdb_tables.specs.InUseLaws.{vals_are_one}
@@ -27,7 +28,7 @@ use Rattle.bdb_tables.proofs.WriteLemmas.{get_after_change}
 use Rattle.bdb_val.specs.Counts.{has_none, TellsDifferences}
 use Rattle.bdb_val.specs.Reads.{world_prefix}
 use Rattle.bdb_val.specs.Steps.{counted}
-use Rattle.bdb_val.specs.WorldCopies.{key_in, IsBare, TellsCopy, copied, removed}
+use Rattle.bdb_val.specs.WorldCopies.{key_in, IsBare, TellsCopy}
 use Rattle.bdb_val.proofs.CopyLemmas.{IsFoundIn, not_below_itself, each_found, key_in_fits, key_in_own}
 use Rattle.bdb_val.proofs.PlaceLemmas.{filter_whole, filter_nothing}
 use Rattle.bdb_val.proofs.ReadLemmas.{world_of_key}

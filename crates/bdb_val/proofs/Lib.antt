@@ -11,6 +11,7 @@ pub mod OtherLemmas
 pub mod PlaceLemmas
 pub mod ReadLemmas
 pub mod RealLemmas
+pub mod RoomLemmas
 pub mod SettledLemmas
 pub mod SettlingLemmas
 pub mod StateLemmas

@@ -24,7 +24,7 @@ use Rattle.bdb_tables.proofs.Held.{some_same, none_some}
 use Rattle.bdb_val.specs.Reads.{HasRows, AreReadUnder, is_of_group, group_prefix}
 use Rattle.bdb_val.specs.Settling.{Change, mark_in, settling, are_apart, are_changes_apart, row_key, keyed}
 use Rattle.bdb_val.specs.Steps.{AreSpans, IsSettling, IsStep, WritesDifferences, rows_made}
-use Rattle.bdb_val.specs.declared.stored.Settled.{Settled}
+use Rattle.bdb_val.specs.declared.stored.SettledWorld.{SettledWorld}
 use Rattle.bdb_val.proofs.ApartLemmas.{settling_is_apart}
 use Rattle.bdb_val.proofs.ReadLemmas.{key_fits, read_apart, group_span}
 use Rattle.bdb_val.proofs.SettlingLemmas.{settling_is_real}
@@ -107,7 +107,7 @@ length_mapped m [] = refl
 length_mapped m (x ∷ xs) = ap (λ n. suc n) (length_mapped m xs)
 
 -- a step makes as many writes as there are places where the tables differ
-pub step_writes : (old new : Seen) (wid rel : ℕ) (v : Value) (s : Settled) → IsNum wid → IsNum rel → IsPlainValue v → IsStep old new wid (λ w. group_prefix w rel v) s → WritesDifferences old new
+pub step_writes : (old new : Seen) (wid rel : ℕ) (v : Value) (s : SettledWorld) → IsNum wid → IsNum rel → IsPlainValue v → IsStep old new wid (λ w. group_prefix w rel v) s → WritesDifferences old new
 step_writes old new wid rel v s w r p step tuple f h ps d =
     let spans = λ (m : ℕ) (n : IsNum m). group_span m rel v n r p in
     let made = rows_made wid step.settling.own step.settling.from in

@@ -10,10 +10,10 @@ use Rattle.bdb_val.specs.Reads.{AreReadUnder}
 use Rattle.bdb_val.specs.Steps.{IsStep, rows_made}
 use Rattle.bdb_val.specs.Visits.{IsTold}
 use Rattle.bdb_val.specs.Walks.{IsVisit, IsQuiet, changes_of}
-use Rattle.bdb_val.specs.declared.stored.Settled.{Settled}
+use Rattle.bdb_val.specs.declared.stored.SettledWorld.{SettledWorld}
 
 -- a step after a read, as one from before the read
-pub step_from : (old start mid : Seen) (prefix : ℕ → List ℕ) (wid : ℕ) (s : Settled) → start.kept ≡ old.kept → start.writes ≡ old.writes → IsStep start mid wid prefix s → IsStep old mid wid prefix s
+pub step_from : (old start mid : Seen) (prefix : ℕ → List ℕ) (wid : ℕ) (s : SettledWorld) → start.kept ≡ old.kept → start.writes ≡ old.writes → IsStep start mid wid prefix s → IsStep old mid wid prefix s
 step_from old start mid prefix wid s kept writes step =
     let own = step.settling.own in
     let from = step.settling.from in
@@ -31,7 +31,7 @@ step_from old start mid prefix wid s kept writes step =
       writes = subst (λ n. Rises (length (rows_made wid own from)) n mid.writes) writes step.writes;
     }
 
-module _ (old mid new : Seen) (prefix : ℕ → List ℕ) (wid : ℕ) (s : Settled) (step : IsStep old mid wid prefix s) (kept : new.kept ≡ mid.kept) (writes : new.writes ≡ mid.writes) where
+module _ (old mid new : Seen) (prefix : ℕ → List ℕ) (wid : ℕ) (s : SettledWorld) (step : IsStep old mid wid prefix s) (kept : new.kept ≡ mid.kept) (writes : new.writes ≡ mid.writes) where
   -- the visit that a step made, where nothing was written after it
   abbrev pub visited : IsVisit prefix old.kept new.kept wid
   visited = record {

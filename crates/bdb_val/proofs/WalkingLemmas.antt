@@ -23,6 +23,7 @@ use Rattle.bdb_val.specs.Visits.{IsFirstVisit, IsNextVisit}
 use Rattle.bdb_val.specs.Walks.{AreLinkedTo, IsQuiet, Walked, changes_of, put_by, taken_by}
 use Rattle.bdb_val.specs.Walks.Walked.{first, next}
 use Rattle.bdb_val.specs.declared.stored.Settled.{Settled}
+use Rattle.bdb_val.specs.declared.stored.SettledWorld.{SettledWorld}
 use Rattle.bdb_val.proofs.Calls.{HasGone, gone_then}
 use Rattle.bdb_val.proofs.LinkLemmas.{IsLink, worlds_with, linked_to, links_are, still_link, all_parts}
 use Rattle.bdb_val.proofs.OtherLemmas.{is_rows}
@@ -54,7 +55,7 @@ counted_both : (a b m n : ℕ) → a ≡ counted m → b ≡ n → counted (a + 
 counted_both a b m n e f = omega arith
 
 -- the first visit
-first_walked : (ns : Names) (old new : Seen) (prefix : ℕ → List ℕ) (start : ℕ) (before list : List (ℕ × ℕ)) (s sum : Settled) → HasLinks ns old.kept → SameBut is_rows old.kept new.kept
+first_walked : (ns : Names) (old new : Seen) (prefix : ℕ → List ℕ) (start : ℕ) (before list : List (ℕ × ℕ)) (s : SettledWorld) (sum : Settled) → HasLinks ns old.kept → SameBut is_rows old.kept new.kept
     → sum.put ≡ counted s.put → sum.taken ≡ counted s.taken → before ≡ [] → IsFirstVisit old new prefix start before list s → IsWalked old new prefix start list sum
 first_walked ns old new prefix start before list s sum links same p q none v =
     let more = v.pushed.more in
@@ -71,7 +72,7 @@ first_walked ns old new prefix start before list s sum links same p q none v =
       writes = v.told.writes;
     }
 
-pub walk_begins : (old new : Seen) (rel : ℕ) (v : Value) (start : ℕ) (before list : List (ℕ × ℕ)) (s sum : Settled) → HasGone old new → InGrammar new.kept → HaveTuples new.kept → SameBut is_rows old.kept new.kept
+pub walk_begins : (old new : Seen) (rel : ℕ) (v : Value) (start : ℕ) (before list : List (ℕ × ℕ)) (s : SettledWorld) (sum : Settled) → HasGone old new → InGrammar new.kept → HaveTuples new.kept → SameBut is_rows old.kept new.kept
     → sum.put ≡ counted s.put → sum.taken ≡ counted s.taken → before ≡ [] → WhereStated old.kept (IsFirstVisit old new (λ w. group_prefix w rel v) start before list s) → IsWalking old new rel v start list sum
 walk_begins old new rel v start before list s sum gone grammar tuples others p q none visit = record {
   gone = gone;
@@ -88,7 +89,7 @@ rises_then m n a b c p q r s below =
     omega arith
 
 -- one visit more
-next_walked : (ns : Names) (old now new : Seen) (prefix : ℕ → List ℕ) (start : ℕ) (at : ℕ × ℕ) (list left after : List (ℕ × ℕ)) (total s sum : Settled) → HasLinks ns old.kept → SameBut is_rows old.kept new.kept
+next_walked : (ns : Names) (old now new : Seen) (prefix : ℕ → List ℕ) (start : ℕ) (at : ℕ × ℕ) (list left after : List (ℕ × ℕ)) (total : Settled) (s : SettledWorld) (sum : Settled) → HasLinks ns old.kept → SameBut is_rows old.kept new.kept
     → HasGone old now → HasGone now new → IsWalked old now prefix start list total → AllByRecursion (IsLink old.kept) left
     → list ≡ left ++ at ∷ [] → IsNextVisit now new prefix at.0 left after s → sum.put ≡ counted (total.put + s.put) → sum.taken ≡ counted (total.taken + s.taken) → IsWalked old new prefix start after sum
 next_walked ns old now new prefix start at list left after total s sum links same before gone w behind is v p q =
@@ -115,7 +116,7 @@ next_walked ns old now new prefix start at list left after total s sum links sam
           (rises_then (length w.made) (length (changes_of v.visit)) old.writes now.writes new.writes before.counts.writes gone.counts.writes w.writes v.told.writes);
     }
 
-pub walk_more : (old now new : Seen) (rel : ℕ) (v : Value) (start : ℕ) (at : ℕ × ℕ) (list left after : List (ℕ × ℕ)) (total s sum : Settled) → IsNum rel → IsPlainValue v → IsWalking old now rel v start list total
+pub walk_more : (old now new : Seen) (rel : ℕ) (v : Value) (start : ℕ) (at : ℕ × ℕ) (list left after : List (ℕ × ℕ)) (total : Settled) (s : SettledWorld) (sum : Settled) → IsNum rel → IsPlainValue v → IsWalking old now rel v start list total
     → list ≡ left ++ at ∷ [] → HasGone now new → InGrammar new.kept → HaveTuples new.kept → SameBut is_rows now.kept new.kept
     → (IsLink now.kept at → WhereStated now.kept (IsNextVisit now new (λ w. group_prefix w rel v) at.0 left after s))
     → sum.put ≡ counted (total.put + s.put) → sum.taken ≡ counted (total.taken + s.taken) → IsWalking old new rel v start after sum

@@ -7,7 +7,7 @@ use Rattle.bdb_base.specs.declared.kinds.Sign.TheVariants.{Plus}
 use Rattle.bdb_tables.specs.Marks.{Mark}
 use Rattle.bdb_val.specs.Settling.{same_mark}
 use Rattle.bdb_val.specs.Steps.{turns_from, comes, goes}
-use Rattle.bdb_val.specs.declared.stored.Settled.{Settled}
+use Rattle.bdb_val.specs.declared.stored.SettledWorld.{SettledWorld}
 
 -- the mark of the row of a tuple's number among rows
 abbrev pub mark_under : List (ℕ × Mark) → ℕ → Option Mark
@@ -55,7 +55,7 @@ goes_at mark x = goes (mark x.0) x.1
 
 -- What is told of the changes of a group: whether one gives a tuple another sign, how many put a row where there was none, and
 -- how many take one away.
-pub record TellsMarks (mark : ℕ → Option Mark) (made : List (ℕ × Option Mark)) (s : Settled) : Type 0 where
+pub record TellsMarks (mark : ℕ → Option Mark) (made : List (ℕ × Option Mark)) (s : SettledWorld) : Type 0 where
   pub turned : s.turned ≡ list_any (turns_at mark) made
   pub put : s.put ≡ length (filter (comes_at mark) made)
   pub taken : s.taken ≡ length (filter (goes_at mark) made)

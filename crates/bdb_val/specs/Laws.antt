@@ -17,7 +17,7 @@ use Rattle.bdb_keep.specs.Seen.{Seen}
 use Rattle.bdb_base.specs.declared.kinds.Value.{Value}
 use Rattle.bdb_val.specs.Reads.{group_prefix}
 use Rattle.bdb_val.specs.Steps.{IsStep, WritesDifferences}
-use Rattle.bdb_val.specs.declared.stored.Settled.{Settled}
+use Rattle.bdb_val.specs.declared.stored.SettledWorld.{SettledWorld}
 use Rattle.bdb_val.specs.declared.stored.Stored.{Stored}
 
 -- where no two statements of one path clash and all rows of a tuple are settled, they are the rows of the worlds
@@ -78,4 +78,4 @@ HeldRowsAreSettled = (stmts : List Stmt) (ns : Names) (ts : Tuples) (t : Tables)
 
 -- settling the group of a state makes as many writes as there are places at which the tables differ
 abbrev pub StepsWriteDifferences : Type 0
-StepsWriteDifferences = (old new : Seen) (wid rel : ℕ) (v : Value) (s : Settled) → IsNum wid → IsNum rel → IsPlainValue v → IsStep old new wid (λ w. group_prefix w rel v) s → WritesDifferences old new
+StepsWriteDifferences = (old new : Seen) (wid rel : ℕ) (v : Value) (s : SettledWorld) → IsNum wid → IsNum rel → IsPlainValue v → IsStep old new wid (λ w. group_prefix w rel v) s → WritesDifferences old new

@@ -6,6 +6,7 @@ pub mod Middle
 pub mod Numbered
 pub mod Others
 pub mod Reads
+pub mod Rooms
 pub mod Settled
 pub mod Settling
 pub mod Stated

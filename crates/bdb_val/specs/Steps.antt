@@ -17,7 +17,7 @@ use Rattle.bdb_tables.specs.Differences.{AreDifferences}
 use Rattle.bdb_val.specs.Reads.{AreReadUnder, HasRows, IsSpan}
 use Rattle.bdb_val.specs.Settling.{mark_in, settling, keyed}
 use Rattle.bdb_val.specs.declared.stored.Stored.{Stored}
-use Rattle.bdb_val.specs.declared.stored.Settled.{Settled}
+use Rattle.bdb_val.specs.declared.stored.SettledWorld.{SettledWorld}
 
 -- in each world a beginning of keys is that of the tuples that pass a test
 abbrev pub AreSpans : (Tuple → Bool) → (ℕ → List ℕ) → Type 0
@@ -72,7 +72,7 @@ counted n = min n (2 ^ 64 - 1)
 
 -- What a settling tells of its changes: whether one gives a tuple another sign, how many put a row where there was none, and
 -- how many take one away.
-pub record Tells (mark : ℕ → Option Mark) (made : List (ValKey × Option Mark)) (s : Settled) : Type 0 where
+pub record Tells (mark : ℕ → Option Mark) (made : List (ValKey × Option Mark)) (s : SettledWorld) : Type 0 where
   pub turned : s.turned ≡ list_any (turns mark) made
   pub put : s.put ≡ length (filter (is_new mark) made)
   pub taken : s.taken ≡ length (filter (is_gone mark) made)
@@ -83,7 +83,7 @@ pub record IsChanging {T E : Type 0} (old new : Seen) (result : Result T E) (fau
   pub steps : Steps old new result fault
 
 -- The rows of a world under a beginning are settled: its link was read, and one write was made for each change.
-pub record IsStep (old new : Seen) (wid : ℕ) (prefix : ℕ → List ℕ) (s : Settled) : Type 0 where
+pub record IsStep (old new : Seen) (wid : ℕ) (prefix : ℕ → List ℕ) (s : SettledWorld) : Type 0 where
   pub link : Option ℕ
   pub linked : HasAt link_codec old.kept wid link
   pub settling : IsSettling old.kept new.kept wid link prefix

@@ -42,14 +42,6 @@ pub record IsRowCount (t : Tables) (wid : ℕ) (n : ℕ) : Type 0 where
   pub under : AreUnder val_codec t (world_prefix wid) rows
   pub many : n ≡ length rows
 
--- a row as the change that puts it into another world as an inherited one
-abbrev pub copied : ℕ → ValKey × Mark → ValKey × Option Mark
-copied to e = (key_in to e.0, Some (e.1.0, false))
-
--- a row as the change that takes it away
-abbrev pub removed : ValKey × Mark → ValKey × Option Mark
-removed e = (e.0, None)
-
 -- a world has no row
 abbrev pub IsBare : Tables → ℕ → Type 0
 IsBare t wid = (k : ValKey) → IsValKey k → k.0 ≡ wid → tables.get t (place val_codec k) ≡ None

@@ -1,8 +1,9 @@
 // Reading rows of worlds with their tuples.
-ghost use Rattle.std.specs.Prelude.{◌≡◌, ◌+◌, ◌*◌, ◌≤◌, true, IfOk, OnOk, length, map, is_some};
+ghost use Rattle.std.specs.Prelude.{◌≡◌, ◌+◌, ◌*◌, ◌≤◌, ◌++◌, true, IfOk, OnOk, length, drop, map, is_some};
 ghost use Rattle.std.specs.FinMap as tables;
 ghost use Rattle.bdb_base.specs.Causes.{RoseBy};
 ghost use Rattle.bdb_keep.specs.Calls.{IsRead};
+ghost use Rattle.bdb_key.specs.Bytes.{num_bytes};
 ghost use Rattle.bdb_key.specs.Grammar.{HasPlainText, IsPlainValue};
 ghost use Rattle.bdb_tables.specs.Codec.{HasRow, place};
 ghost use Rattle.bdb_tables.specs.Grammar.{InGrammar};
@@ -10,9 +11,10 @@ ghost use Rattle.bdb_tables.specs.GroupMarks.{in_group};
 ghost use Rattle.bdb_tables.specs.InUse.{tuple_codec, val_codec};
 ghost use Rattle.bdb_tables.specs.Spans.{AreUnder};
 ghost use Rattle.bdb_val.specs.Reads.{AreReadUnder, HaveTuples, world_prefix, group_prefix};
+ghost use Rattle.bdb_val.specs.Rooms.{MayBegin};
 
 use crate::changes::Marked;
-use crate::room::{PREFIX_ROOM, WalkRoom};
+use crate::room::{GroupRoom, PREFIX_ROOM};
 use crate::stored::Stored;
 use bdb_base::{Tuple, Value};
 use bdb_keep::Keeper;
@@ -108,6 +110,7 @@ pub fn read_group<K: Keeper>(
     requires tuples { HaveTuples (K.seen keeper.old).kept }
     requires text { HasPlainText key.now }
     ensures rows { IfOk result (λ rows. AreReadUnder (K.seen keeper.old).kept (group_prefix wid rel key.now) rows.items) }
+    ensures reads { IfOk result (λ rows. (K.seen keeper.new).reads ≤ (K.seen keeper.old).reads + (2 * length rows.items + 1)) }
     ensures fits { OnOk result (IsPlainValue key.now) }
     ensures read { IsRead (K.seen keeper.old) (K.seen keeper.new) result TabError.Fault }
 {
@@ -136,10 +139,11 @@ pub fn group_marks<K: Keeper>(
     wid: u32,
     rel: u32,
     key: &Value,
-    room: &mut WalkRoom,
+    room: &mut GroupRoom,
 ) -> Result<Vec<Marked>, TabError>
     requires grammar { InGrammar (K.seen keeper.old).kept }
     requires text { HasPlainText key.now }
+    requires begins { MayBegin room.old.prefix.items rel key.now }
     ensures rows { IfOk result (λ rows. AreUnder val_codec (K.seen keeper.old).kept (group_prefix wid rel key.now) (map (in_group wid rel key.now) rows.items)) }
     ensures prefix { OnOk result (room.new.prefix.items ≡ group_prefix wid rel key.now) }
     ensures fits { OnOk result (IsPlainValue key.now) }
@@ -158,15 +162,32 @@ pub fn group_marks<K: Keeper>(
     }
 }
 
-// Makes bytes those with which the keys of a group of a world begin.
+// Makes bytes those with which the keys of a group of a world begin. Where they are those of the group in another world, only the
+// world's number is replaced.
 fn put_group(prefix: &mut Vec<u8>, wid: u32, rel: u32, key: &Value) -> Result<(), AllocError>
     requires text { HasPlainText key.now }
+    requires begins { MayBegin prefix.old.items rel key.now }
     ensures bytes { OnOk result (prefix.new.items ≡ group_prefix wid rel key.now) }
     ensures fits { OnOk result (IsPlainValue key.now) }
 {
-    prefix.clear();
-    put_num(prefix, wid)?;
-    put_num(prefix, rel)?;
-    put_value(prefix, key)?;
+    if prefix.is_empty() {
+        put_num(prefix, wid)?;
+        put_num(prefix, rel)?;
+        put_value(prefix, key)?;
+        return Ok(());
+    }
+    set_world(prefix, wid);
     Ok(())
+}
+
+// Makes the number with which bytes begin that of a world.
+fn set_world(prefix: &mut Vec<u8>, wid: u32)
+    requires { 4 ≤ length prefix.old.items }
+    ensures { prefix.new.items ≡ num_bytes wid ++ drop 4 prefix.old.items }
+{
+    let [first, second, third, fourth] = wid.to_be_bytes();
+    prefix[0] = first;
+    prefix[1] = second;
+    prefix[2] = third;
+    prefix[3] = fourth;
 }

@@ -1,5 +1,8 @@
 // What a walk uses again at each world.
-use crate::changes::MarkChange;
+ghost use Rattle.std.specs.Prelude.{◌≡◌, true, [], None, Some, IfOk};
+ghost use Rattle.bdb_val.specs.Rooms.{is_from, unless_from};
+
+use crate::changes::{MarkChange, Marked};
 use bdb_tables::Room;
 use std::alloc::{AllocError, Global};
 
@@ -12,14 +15,29 @@ const LINK_ROOM: usize = 16;
 /// Room that a walk uses again at each world.
 #[derive(Drop)]
 pub struct WalkRoom {
-    /// For the bytes with which the keys of a group begin.
-    pub prefix: Vec<u8>,
-    /// For the bytes of the rows of a group.
-    pub marks: Room,
+    /// For the bytes of a group.
+    pub group: GroupRoom,
+    /// The rows that were handed down last.
+    pub handed: Handed,
     /// For the changes that settle a group.
     pub changes: Vec<MarkChange>,
     /// For the bytes of links.
     pub links: LinkRoom,
+}
+
+/// Room for the bytes of a group: those with which its keys begin, and those of its keys and rows.
+#[derive(Drop)]
+pub struct GroupRoom {
+    pub prefix: Vec<u8>,
+    pub marks: Room,
+}
+
+/// Rows of a group of a world that others inherit, kept for the next of its heirs.
+#[derive(Drop)]
+pub struct Handed {
+    /// The world, while these are its rows.
+    pub from: Option<u32>,
+    pub rows: Vec<Marked>,
 }
 
 /// Room for the bytes of links: how their keys begin, where to look next, and a key and a row that were read.
@@ -33,13 +51,61 @@ pub struct LinkRoom {
 
 impl WalkRoom {
     /// Room with nothing in it.
-    pub fn new(alloc: Global) -> Result<Self, AllocError> {
+    pub fn new(alloc: Global) -> Result<Self, AllocError>
+        ensures group { IfOk result (λ room. room.group.prefix.items ≡ []) }
+        ensures handed { IfOk result (λ room. room.handed.from ≡ None) }
+    {
         Ok(WalkRoom {
-            prefix: Vec::with_capacity(alloc, PREFIX_ROOM)?,
-            marks: Room::new(alloc),
+            group: GroupRoom::new(alloc)?,
+            handed: Handed::new(alloc),
             changes: Vec::new(alloc),
             links: LinkRoom::new(alloc)?,
         })
+    }
+}
+
+impl GroupRoom {
+    /// Room with nothing in it.
+    fn new(alloc: Global) -> Result<Self, AllocError>
+        ensures { IfOk result (λ room. room.prefix.items ≡ []) }
+    {
+        Ok(GroupRoom {
+            prefix: Vec::with_capacity(alloc, PREFIX_ROOM)?,
+            marks: Room::new(alloc),
+        })
+    }
+}
+
+impl Handed {
+    /// No rows.
+    fn new(alloc: Global) -> Self
+        ensures { result.from ≡ None }
+    {
+        Handed {
+            from: None,
+            rows: Vec::new(alloc),
+        }
+    }
+
+    /// Whether these are the rows of a world.
+    pub fn is_from(&self, wid: u32) -> bool
+        ensures is { result ≡ is_from wid self.now.from }
+        ensures from { result ≡ true → self.now.from ≡ Some wid }
+    {
+        match self.from {
+            Some(from) => from == wid,
+            None => false,
+        }
+    }
+
+    /// Forgets the rows if they are those of a world.
+    pub fn forget(&mut self, wid: u32)
+        ensures from { self.new.from ≡ unless_from wid self.old.from }
+        ensures rows { self.new.rows.items ≡ self.old.rows.items }
+    {
+        if self.is_from(wid) {
+            self.from = None;
+        }
     }
 }
 

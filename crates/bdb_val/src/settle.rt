@@ -10,14 +10,15 @@ ghost use Rattle.bdb_tables.specs.Spans.{AreUnder};
 ghost use Rattle.bdb_val.specs.GroupChanges.{mark_under, TellsMarks};
 ghost use Rattle.bdb_val.specs.Others.{SameBut};
 ghost use Rattle.bdb_val.specs.Reads.{HaveTuples, group_prefix};
+ghost use Rattle.bdb_val.specs.Rooms.{IsRoomFor};
 ghost use Rattle.bdb_val.specs.Stated.{WhereStated};
 ghost use Rattle.bdb_val.specs.Steps.{turns_from, comes, goes, IsChanging, IsStep};
 
 use crate::changes::{MarkChange, Marked, put_changes};
 use crate::numbered::Numbered;
 use crate::reading::group_marks;
-use crate::room::WalkRoom;
-use crate::stored::Settled;
+use crate::room::{GroupRoom, Handed, WalkRoom};
+use crate::stored::SettledWorld;
 use bdb_base::{Sign, Value};
 use bdb_keep::Keeper;
 use bdb_tables::{TabError, write_marks};
@@ -26,7 +27,7 @@ use std::alloc::Global;
 /// Settles the rows of a world for the tuples of a relation and a value of its key: each is explicit, or what the world
 /// inherits from the world to which its suffix link leads, where no explicit row contradicts it. One write for each row that is
 /// another afterwards. No tuple is read: where the explicit rows are statements, the numbers of tuples tell which rows of a group
-/// contradict each other.
+/// contradict each other. The rows of the world to which this one is linked are read where the room has others.
 pub fn settle_state<K: Keeper>(
     alloc: Global,
     keeper: &mut K,
@@ -35,70 +36,102 @@ pub fn settle_state<K: Keeper>(
     rel: u32,
     key: &Value,
     room: &mut WalkRoom,
-) -> Result<Settled, TabError>
+) -> Result<SettledWorld, TabError>
     requires running { (K.seen keeper.old).running ≡ true }
     requires grammar { InGrammar (K.seen keeper.old).kept }
     requires tuples { HaveTuples (K.seen keeper.old).kept }
     requires text { HasPlainText key.now }
+    requires room { IsRoomFor (K.seen keeper.old).kept rel key.now room.old.group.prefix.items room.old.handed.from room.old.handed.rows.items }
     ensures settled { IfOk result (λ settled. HasAt link_codec (K.seen keeper.old).kept wid link
         → WhereStated (K.seen keeper.old).kept (IsStep (K.seen keeper.old) (K.seen keeper.new) wid (λ w. group_prefix w rel key.now) settled)) }
     ensures others { OnOk result (SameBut (λ n. nat_eq n 11) (K.seen keeper.old).kept (K.seen keeper.new).kept) }
     ensures grammar { OnOk result (InGrammar (K.seen keeper.new).kept) }
     ensures tuples { OnOk result (HaveTuples (K.seen keeper.new).kept) }
     ensures fits { OnOk result (IsPlainValue key.now) }
+    ensures room { OnOk result (IsRoomFor (K.seen keeper.new).kept rel key.now room.new.group.prefix.items room.new.handed.from room.new.handed.rows.items) }
     ensures changing { IsChanging (K.seen keeper.old) (K.seen keeper.new) result TabError.Fault }
 {
-    let from = match linked_marks(alloc, keeper, link, rel, key, room) {
-        Ok(from) => from,
+    match keep_linked(
+        alloc,
+        keeper,
+        link,
+        rel,
+        key,
+        &mut room.group,
+        &mut room.handed,
+    ) {
+        Ok(()) => {}
         Err(error) => return Err(error),
-    };
-    let own = match group_marks(alloc, keeper, wid, rel, key, room) {
+    }
+    let own = match group_marks(alloc, keeper, wid, rel, key, &mut room.group) {
         Ok(own) => own,
         Err(error) => return Err(error),
     };
-    match put_changes(&mut room.changes, &own, &from) {
+    match put_changes(&mut room.changes, &own, &room.handed.rows) {
         Ok(()) => {}
         Err(_) => {
             keeper.undo();
             return Err(TabError::Memory);
         }
     }
-    match write_marks(keeper, &room.prefix, &room.changes, &mut room.marks) {
+    room.handed.forget(wid);
+    match write_marks(
+        keeper,
+        &room.group.prefix,
+        &room.changes,
+        &mut room.group.marks,
+    ) {
         Ok(()) => Ok(told(&own, &room.changes)),
         Err(error) => Err(error),
     }
 }
 
-// The rows of a group of the world to which another is linked; none where there is no such world.
-fn linked_marks<K: Keeper>(
+// Makes the rows that are kept those of a group of the world to which another is linked, and none where there is no such world.
+// They are read where those of another world were kept.
+fn keep_linked<K: Keeper>(
     alloc: Global,
     keeper: &mut K,
     link: Option<u32>,
     rel: u32,
     key: &Value,
-    room: &mut WalkRoom,
-) -> Result<Vec<Marked>, TabError>
+    room: &mut GroupRoom,
+    handed: &mut Handed,
+) -> Result<(), TabError>
     requires running { (K.seen keeper.old).running ≡ true }
     requires grammar { InGrammar (K.seen keeper.old).kept }
     requires text { HasPlainText key.now }
-    ensures rows { IfOk result (λ rows. MatchOption link (rows.items ≡ []) (λ m. AreUnder val_codec (K.seen keeper.old).kept (group_prefix m rel key.now) (map (in_group m rel key.now) rows.items))) }
+    requires room { IsRoomFor (K.seen keeper.old).kept rel key.now room.old.prefix.items handed.old.from handed.old.rows.items }
+    ensures rows { OnOk result (MatchOption link (handed.new.rows.items ≡ []) (λ m. AreUnder val_codec (K.seen keeper.old).kept (group_prefix m rel key.now) (map (in_group m rel key.now) handed.new.rows.items))) }
+    ensures room { OnOk result (IsRoomFor (K.seen keeper.old).kept rel key.now room.new.prefix.items handed.new.from handed.new.rows.items) }
     ensures read { IsRead (K.seen keeper.old) (K.seen keeper.new) result TabError.Fault }
 {
-    match link {
-        Some(wid) => match group_marks(alloc, keeper, wid, rel, key, room) {
-            Ok(rows) => Ok(rows),
-            Err(error) => Err(error),
-        },
-        None => Ok(Vec::new(alloc)),
+    let wid = match link {
+        Some(wid) => wid,
+        None => {
+            handed.from = None;
+            handed.rows.clear();
+            return Ok(());
+        }
+    };
+    if handed.is_from(wid) {
+        return Ok(());
+    }
+    match group_marks(alloc, keeper, wid, rel, key, room) {
+        Ok(rows) => {
+            handed.from = Some(wid);
+            handed.rows = rows;
+            Ok(())
+        }
+        Err(error) => Err(error),
     }
 }
 
 // What changes do to a world's rows.
-fn told(own: &[Marked], changes: &[MarkChange]) -> Settled
+fn told(own: &[Marked], changes: &[MarkChange]) -> SettledWorld
     ensures { TellsMarks (mark_under own.now) changes.now result }
 {
     let rows = Numbered::of(own);
-    let mut settled = Settled {
+    let mut settled = SettledWorld {
         turned: false,
         put: 0,
         taken: 0,
@@ -111,30 +144,30 @@ fn told(own: &[Marked], changes: &[MarkChange]) -> Settled
 
 // What was done, where one more row becomes another.
 fn with_change(
-    settled: Settled,
+    settled: SettledWorld,
     before: Option<(Sign, bool)>,
     next: Option<(Sign, bool)>,
-) -> Settled
+) -> SettledWorld
     requires put { settled.put < 2 ^ 64 - 1 }
     requires taken { settled.taken < 2 ^ 64 - 1 }
     ensures turned { result.turned ≡ (settled.turned || turns_from before next) }
     ensures put { result.put ≡ cond (comes before next) (settled.put + 1) settled.put }
     ensures taken { result.taken ≡ cond (goes before next) (settled.taken + 1) settled.taken }
 {
-    let Settled { turned, put, taken } = settled;
+    let SettledWorld { turned, put, taken } = settled;
     match (before, next) {
         (None, None) => settled,
-        (None, Some(_)) => Settled {
+        (None, Some(_)) => SettledWorld {
             turned: true,
             put: put + 1,
             taken,
         },
-        (Some(_), None) => Settled {
+        (Some(_), None) => SettledWorld {
             turned: true,
             put,
             taken: taken + 1,
         },
-        (Some((sign, _)), Some((other, _))) => Settled {
+        (Some((sign, _)), Some((other, _))) => SettledWorld {
             turned: turned || sign != other,
             put,
             taken,

@@ -9,11 +9,20 @@ pub struct Stored {
     pub mark: (Sign, bool),
 }
 
+/// What settling the rows of one world did.
+#[derive(Clone, Copy, Drop)]
+pub struct SettledWorld {
+    /// Whether a tuple has another sign, a first one, or none any more.
+    pub turned: bool,
+    /// How many rows were put at keys that had none.
+    pub put: usize,
+    /// How many rows were taken away.
+    pub taken: usize,
+}
+
 /// What settling the rows of worlds did.
 #[derive(Clone, Copy, Drop)]
 pub struct Settled {
-    /// Whether a tuple has another sign, a first one, or none any more.
-    pub turned: bool,
     /// How many rows were put at keys that had none.
     pub put: usize,
     /// How many rows were taken away.

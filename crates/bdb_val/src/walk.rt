@@ -12,13 +12,14 @@ ghost use Rattle.bdb_tables.specs.Spans.{HasNextUnder};
 ghost use Rattle.bdb_val.specs.Groups.{SettlesGroup, TellsGroup};
 ghost use Rattle.bdb_val.specs.Others.{SameBut};
 ghost use Rattle.bdb_val.specs.Reads.{HaveTuples, group_prefix};
+ghost use Rattle.bdb_val.specs.Rooms.{IsRoomFor};
 ghost use Rattle.bdb_val.specs.Stated.{WhereStated};
 ghost use Rattle.bdb_val.specs.Steps.{counted, IsChanging};
 ghost use Rattle.bdb_val.specs.Visits.{ArePushed, IsFirstVisit, IsNextVisit};
 
 use crate::room::{LinkRoom, WalkRoom};
 use crate::settle::settle_state;
-use crate::stored::Settled;
+use crate::stored::{Settled, SettledWorld};
 use bdb_base::Value;
 use bdb_keep::Keeper;
 use bdb_key::put_num;
@@ -83,16 +84,18 @@ fn visit_first<K: Keeper>(
     key: &Value,
     list: &mut Vec<(u32, u32)>,
     room: &mut WalkRoom,
-) -> Result<Settled, TabError>
+) -> Result<SettledWorld, TabError>
     requires running { (K.seen keeper.old).running ≡ true }
     requires grammar { InGrammar (K.seen keeper.old).kept }
     requires tuples { HaveTuples (K.seen keeper.old).kept }
     requires text { HasPlainText key.now }
+    requires room { IsRoomFor (K.seen keeper.old).kept rel key.now room.old.group.prefix.items room.old.handed.from room.old.handed.rows.items }
     ensures visited { IfOk result (λ settled. WhereStated (K.seen keeper.old).kept (IsFirstVisit (K.seen keeper.old) (K.seen keeper.new) (λ w. group_prefix w rel key.now) wid list.old.items list.new.items settled)) }
     ensures others { OnOk result (SameBut (λ n. nat_eq n 11) (K.seen keeper.old).kept (K.seen keeper.new).kept) }
     ensures grammar { OnOk result (InGrammar (K.seen keeper.new).kept) }
     ensures tuples { OnOk result (HaveTuples (K.seen keeper.new).kept) }
     ensures fits { OnOk result (IsPlainValue key.now) }
+    ensures room { OnOk result (IsRoomFor (K.seen keeper.new).kept rel key.now room.new.group.prefix.items room.new.handed.from room.new.handed.rows.items) }
     ensures changing { IsChanging (K.seen keeper.old) (K.seen keeper.new) result TabError.Fault }
 {
     let link = match get::<SuffixTab, K>(alloc, keeper, &wid) {
@@ -118,16 +121,18 @@ fn visit_next<K: Keeper>(
     key: &Value,
     list: &mut Vec<(u32, u32)>,
     room: &mut WalkRoom,
-) -> Result<Settled, TabError>
+) -> Result<SettledWorld, TabError>
     requires running { (K.seen keeper.old).running ≡ true }
     requires grammar { InGrammar (K.seen keeper.old).kept }
     requires tuples { HaveTuples (K.seen keeper.old).kept }
     requires text { HasPlainText key.now }
+    requires room { IsRoomFor (K.seen keeper.old).kept rel key.now room.old.group.prefix.items room.old.handed.from room.old.handed.rows.items }
     ensures visited { IfOk result (λ settled. HasAt link_codec (K.seen keeper.old).kept next.0 (Some next.1)
         → WhereStated (K.seen keeper.old).kept (IsNextVisit (K.seen keeper.old) (K.seen keeper.new) (λ w. group_prefix w rel key.now) next.0 list.old.items list.new.items settled)) }
     ensures others { OnOk result (SameBut (λ n. nat_eq n 11) (K.seen keeper.old).kept (K.seen keeper.new).kept) }
     ensures grammar { OnOk result (InGrammar (K.seen keeper.new).kept) }
     ensures tuples { OnOk result (HaveTuples (K.seen keeper.new).kept) }
+    ensures room { OnOk result (IsRoomFor (K.seen keeper.new).kept rel key.now room.new.group.prefix.items room.new.handed.from room.new.handed.rows.items) }
     ensures changing { IsChanging (K.seen keeper.old) (K.seen keeper.new) result TabError.Fault }
 {
     let settled = match settle_state(alloc, keeper, next.0, Some(next.1), rel, key, room) {
@@ -239,21 +244,23 @@ fn next_link<K: Keeper>(
     }
 }
 
-// What a first settling did.
-fn first_of(settled: Settled) -> Settled
+// What was done, where one world is settled.
+fn first_of(settled: SettledWorld) -> Settled
     ensures put { result.put ≡ counted settled.put }
     ensures taken { result.taken ≡ counted settled.taken }
 {
-    settled
+    Settled {
+        put: settled.put,
+        taken: settled.taken,
+    }
 }
 
-// What two settlings did.
-fn both(first: Settled, second: Settled) -> Settled
+// What was done, where one more world is settled.
+fn both(first: Settled, second: SettledWorld) -> Settled
     ensures put { result.put ≡ counted (first.put + second.put) }
     ensures taken { result.taken ≡ counted (first.taken + second.taken) }
 {
     Settled {
-        turned: first.turned || second.turned,
         put: first.put.saturating_add(second.put),
         taken: first.taken.saturating_add(second.taken),
     }

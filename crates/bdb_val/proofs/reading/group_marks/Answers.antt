@@ -10,13 +10,5 @@ returns-in-Ok-marks_under-clause-rows g c =
     subst (λ (xs : List ℕ). AreUnder val_codec (g.K.Keeper.seen c.args.keeper.now).kept xs (map (in_group c.args.wid c.args.rel c.args.key.now) c.in-Ok-marks_under.rows.items)) same
     (c.in-Ok-marks_under.ensures.rows c.args.wid c.args.rel c.args.key.now (record { world = c.ranges.wid.fits; rel = c.ranges.rel.fits; value = c.in-Ok.ensures.fits; bytes = same }))
 
-pub marks_under-requires-clause-grammar : goal.marks_under-requires-clause-grammar
-marks_under-requires-clause-grammar g c = λ k r found. c.requires.grammar 11 k r found
-
-pub marks_under-requires-clause-group : goal.marks_under-requires-clause-group
-marks_under-requires-clause-group g c = record {
-  world = c.args.wid;
-  rel = c.args.rel;
-  value = c.args.key.now;
-  begins = record { world = c.ranges.wid.fits; rel = c.ranges.rel.fits; value = c.in-Ok.ensures.fits; bytes = c.deref.ensures.value ∙ c.in-Ok.ensures.bytes };
-}
+pub marks_under-requires : goal.marks_under-requires
+marks_under-requires g c = record { grammar = λ k r found. c.requires.grammar 11 k r found }

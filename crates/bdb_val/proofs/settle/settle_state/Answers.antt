@@ -1,4 +1,4 @@
-use Rattle.std.proofs.Common.{◌≡◌, ◌∙◌, ℕ, List, length, map, Option, ap, sym, subst}
+use Rattle.std.proofs.Common.{◌≡◌, ◌∙◌, ℕ, List, length, map, Option, inr, ap, sym, subst}
 use Rattle.std.specs.List.{AllByRecursion}
 use Rattle.bdb_base.specs.Causes.{Rises}
 use Rattle.bdb_keep.specs.Tables.{Tables}
@@ -8,10 +8,12 @@ use Rattle.bdb_tables.specs.Marks.{Mark}
 use Rattle.bdb_tables.specs.Spans.{AreUnder}
 use Rattle.bdb_tables.specs.Writes.{IsChange, with_changes}
 use Rattle.bdb_val.specs.GroupChanges.{mark_under, group_changes, TellsMarks}
+use Rattle.bdb_val.specs.Rooms.{AreHanded}
 use Rattle.bdb_val.specs.Reads.{group_prefix}
 use Rattle.bdb_val.specs.Settling.{mark_in}
 use Rattle.bdb_val.specs.Steps.{rows_made, Tells}
 use Rattle.bdb_val.proofs.GroupLemmas.{group_read}
+use Rattle.bdb_val.proofs.RoomLemmas.{handed_stay}
 use Rattle.bdb_val.proofs.OtherLemmas.{made_same}
 use Rattle.bdb_val.proofs.RealLemmas.{length_mapped}
 use Rattle.bdb_val.proofs.StateLemmas.{fits_at, group_keeps_tuples, group_tells}
@@ -27,7 +29,7 @@ returns-in-Ok-write_marks-clause-settled g c linked stmts n tuple f h =
     let prefix = λ (w : ℕ). group_prefix w rel v in
     let link = c.args.link in
     let es = c.in-Ok-group_marks.own.items in
-    let fs = c.in-Ok.from.items in
+    let fs = c.keep_linked.new.handed.rows.items in
     let a = c.in-Ok.ensures.read in
     let b = c.in-Ok-group_marks.ensures.read in
     let kept = b.kept ∙ a.kept in
@@ -64,7 +66,7 @@ returns-in-Ok-write_marks-clause-tuples g c =
     let rel = c.args.rel in
     let v = c.args.key.now in
     let es = c.in-Ok-group_marks.own.items in
-    let fs = c.in-Ok.from.items in
+    let fs = c.keep_linked.new.handed.rows.items in
     let a = c.in-Ok.ensures.read in
     let kept = c.in-Ok-group_marks.ensures.read.kept ∙ a.kept in
     let under = subst (λ (t : Tables). AreUnder val_codec t (group_prefix wid rel v) (map (in_group wid rel v) es)) a.kept c.in-Ok-group_marks.ensures.rows in
@@ -94,3 +96,26 @@ write_marks-requires-clause-group g c = record {
   value = c.args.key.now;
   begins = record { world = c.ranges.wid.fits; rel = c.ranges.rel.fits; value = c.in-Ok-group_marks.ensures.fits; bytes = c.deref-3.ensures.value ∙ c.in-Ok-group_marks.ensures.prefix };
 }
+
+pub returns-in-Ok-write_marks-clause-room : goal.returns-in-Ok-write_marks-clause-room
+returns-in-Ok-write_marks-clause-room g c =
+    let old = g.K.Keeper.seen c.args.keeper.now in
+    let new = g.K.Keeper.seen c.write_marks.new.keeper in
+    let wid = c.args.wid in
+    let rel = c.args.rel in
+    let v = c.args.key.now in
+    let rows = c.keep_linked.new.handed.rows.items in
+    let kept = c.in-Ok-group_marks.ensures.read.kept ∙ c.in-Ok.ensures.read.kept in
+    let fits = c.in-Ok-group_marks.ensures.fits in
+    let cs = c.deref-4.result.now in
+    let bytes : BeginsGroup c.deref-3.result.now wid rel v = record { world = c.ranges.wid.fits; rel = c.ranges.rel.fits; value = fits; bytes = c.deref-3.ensures.value ∙ c.in-Ok-group_marks.ensures.prefix } in
+    record {
+      begins = inr (wid, record { world = c.ranges.wid.fits; rel = c.ranges.rel.fits; value = fits; bytes = c.in-Ok-group_marks.ensures.prefix });
+      handed = subst (AreHanded new.kept rel v c.forget.new.self.from) (sym c.forget.ensures.rows)
+          (subst (λ o. AreHanded new.kept rel v o rows) (sym c.forget.ensures.from)
+          (handed_stay old.kept new.kept wid rel v c.keep_linked.new.handed.from rows cs c.ranges.rel.fits fits (c.in-Ok-write_marks.ensures.fits wid rel v bytes)
+          (c.in-Ok-write_marks.ensures.kept wid rel v bytes ∙ ap (λ (t : Tables). with_changes val_codec t (map (in_group wid rel v) cs)) kept) c.in-Ok.ensures.room.handed));
+    }
+
+pub group_marks-requires-clause-begins : goal.group_marks-requires-clause-begins
+group_marks-requires-clause-begins g c = c.in-Ok.ensures.room.begins

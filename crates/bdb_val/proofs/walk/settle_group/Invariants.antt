@@ -1,5 +1,8 @@
+use Rattle.bdb_val.specs.Rooms.{IsRoomFor}
 use Rattle.bdb_val.proofs.WalkingLemmas.{IsWalking}
 use Rattle.bdb_val.proofs.walk.settle_group.Given as goal
 
 abbrev pub invariant-loop : goal.invariant-loop
-invariant-loop g l = IsWalking (g.K.Keeper.seen l.fn.keeper) (g.K.Keeper.seen l.keeper) l.rel l.key l.wid l.list.items l.total
+invariant-loop g l =
+    IsWalking (g.K.Keeper.seen l.fn.keeper) (g.K.Keeper.seen l.keeper) l.rel l.key l.wid l.list.items l.total
+    × IsRoomFor (g.K.Keeper.seen l.keeper).kept l.rel l.key l.room.group.prefix.items l.room.handed.from l.room.handed.rows.items

@@ -7,6 +7,7 @@ use Rattle.bdb_val.specs.Others.{SameBut}
 use Rattle.bdb_val.specs.Reads.{group_prefix}
 use Rattle.bdb_val.specs.Visits.{ArePushed}
 use Rattle.bdb_val.proofs.OtherLemmas.{is_rows}
+use Rattle.bdb_val.proofs.RoomLemmas.{same_room}
 use Rattle.bdb_val.proofs.StepsMade.{step_from, visited, told}
 use Rattle.bdb_val.proofs.walk.visit_first.Goals as goal
 
@@ -35,3 +36,15 @@ pub returns-in-Ok-push_linked-clause-others : goal.returns-in-Ok-push_linked-cla
 returns-in-Ok-push_linked-clause-others g c =
     subst (λ (t : Tables). SameBut is_rows (g.K.Keeper.seen c.args.keeper.now).kept t) (sym c.in-Ok-push_linked.ensures.read.kept)
     (subst (λ (t : Tables). SameBut is_rows t (g.K.Keeper.seen c.settle_state.new.keeper).kept) c.in-Ok.ensures.read.kept c.in-Ok-settle_state.ensures.others)
+
+pub returns-in-Ok-push_linked-clause-room : goal.returns-in-Ok-push_linked-clause-room
+returns-in-Ok-push_linked-clause-room g c =
+    let room = c.settle_state.new.room in
+    same_room (g.K.Keeper.seen c.settle_state.new.keeper).kept (g.K.Keeper.seen c.push_linked.new.keeper).kept c.args.rel c.args.key.now room.group.prefix.items room.handed.from room.handed.rows.items
+    c.in-Ok-push_linked.ensures.read.kept c.in-Ok-settle_state.ensures.room
+
+pub settle_state-requires-clause-room : goal.settle_state-requires-clause-room
+settle_state-requires-clause-room g c =
+    let room = c.args.room.now in
+    same_room (g.K.Keeper.seen c.args.keeper.now).kept (g.K.Keeper.seen c.get.new.keeper).kept c.args.rel c.args.key.now room.group.prefix.items room.handed.from room.handed.rows.items
+    c.in-Ok.ensures.read.kept c.requires.room

@@ -5,6 +5,7 @@ use Rattle.bdb_val.specs.Others.{SameBut}
 use Rattle.bdb_val.specs.Reads.{group_prefix}
 use Rattle.bdb_val.specs.Visits.{ArePushed}
 use Rattle.bdb_val.proofs.OtherLemmas.{is_rows}
+use Rattle.bdb_val.proofs.RoomLemmas.{same_room}
 use Rattle.bdb_val.proofs.StepsMade.{visited, told, quiet}
 use Rattle.bdb_val.proofs.walk.visit_next.Goals as goal
 
@@ -36,3 +37,9 @@ returns-in-Ok-push_linked-clause-visited g c link stmts n tuple f h =
 pub returns-in-Ok-push_linked-clause-others : goal.returns-in-Ok-push_linked-clause-others
 returns-in-Ok-push_linked-clause-others g c =
     subst (λ (t : Tables). SameBut is_rows (g.K.Keeper.seen c.args.keeper.now).kept t) (sym c.in-Ok-push_linked.ensures.read.kept) c.in-Ok.ensures.others
+
+pub returns-in-Ok-push_linked-clause-room : goal.returns-in-Ok-push_linked-clause-room
+returns-in-Ok-push_linked-clause-room g c =
+    let room = c.settle_state.new.room in
+    same_room (g.K.Keeper.seen c.settle_state.new.keeper).kept (g.K.Keeper.seen c.push_linked.new.keeper).kept c.args.rel c.args.key.now room.group.prefix.items room.handed.from room.handed.rows.items
+    c.in-Ok-push_linked.ensures.read.kept c.in-Ok.ensures.room

@@ -1,4 +1,0 @@
-use Rattle.bdb_val.proofs.worlds.rows_of.Goals as goal
-
-pub rows_under-requires : goal.rows_under-requires
-rows_under-requires g c = record { grammar = λ k r found. c.requires.grammar 11 k r found }

@@ -1,0 +1,37 @@
+-- What a walk keeps to use it again at the next world: the bytes with which a group's keys begin, and the rows that are handed down.
+use Rattle.std.specs.Prelude.{◌≡◌, ◌⊎◌, ℕ, Bool, false, nat_eq, List, [], Option, Some, None, MatchOption, cond, map}
+use Rattle.bdb_base.specs.declared.kinds.Value.{Value}
+use Rattle.bdb_keep.specs.Tables.{Tables}
+use Rattle.bdb_key.specs.Grammar.{IsNum}
+use Rattle.bdb_tables.specs.GroupMarks.{BeginsGroup, in_group}
+use Rattle.bdb_tables.specs.InUse.{val_codec}
+use Rattle.bdb_tables.specs.Marks.{Mark}
+use Rattle.bdb_tables.specs.Spans.{AreUnder}
+use Rattle.bdb_val.specs.Reads.{group_prefix}
+
+-- bytes are none yet, or those with which the keys of a group begin in some world
+abbrev pub MayBegin : List ℕ → ℕ → Value → Type 0
+MayBegin prefix rel v = (prefix ≡ []) ⊎ ((wid : ℕ) × BeginsGroup prefix wid rel v)
+
+-- these are the rows of a group of a world, by the numbers of their tuples
+pub record AreRowsOf (t : Tables) (rel : ℕ) (v : Value) (rows : List (ℕ × Mark)) (wid : ℕ) : Type 0 where
+  pub world : IsNum wid
+  pub under : AreUnder val_codec t (group_prefix wid rel v) (map (in_group wid rel v) rows)
+
+-- rows that are kept are those of the world that they are from, if any
+abbrev pub AreHanded : Tables → ℕ → Value → Option ℕ → List (ℕ × Mark) → Type 0
+AreHanded t rel v from rows = MatchOption from (Unit {0}) (AreRowsOf t rel v rows)
+
+-- what a walk keeps is of a group of the tables
+pub record IsRoomFor (t : Tables) (rel : ℕ) (v : Value) (prefix : List ℕ) (from : Option ℕ) (rows : List (ℕ × Mark)) : Type 0 where
+  pub begins : MayBegin prefix rel v
+  pub handed : AreHanded t rel v from rows
+
+-- rows that are kept are those of a world
+abbrev pub is_from : ℕ → Option ℕ → Bool
+is_from wid None = false
+is_from wid (Some m) = nat_eq m wid
+
+-- the world that rows are from, unless it is one whose rows change
+abbrev pub unless_from : ℕ → Option ℕ → Option ℕ
+unless_from wid from = cond (is_from wid from) None from
