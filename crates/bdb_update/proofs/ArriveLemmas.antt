@@ -20,7 +20,6 @@ use Rattle.bdb_tables.specs.Names.{Names, number_of, is_named, with_name}
 use Rattle.bdb_tables.specs.States.{HoldsStates}
 use Rattle.bdb_worlds.specs.Growth.{with_prefixes, MayGrow, SomeMayGrow, HasGrown, AddsStates, SameOutside}
 use Rattle.bdb_worlds.specs.Holding.{Worlds}
-use Rattle.bdb_update.specs.Bounds.{KeepsNames}
 use Rattle.bdb_update.specs.ChangeLaws.{is_of_worlds}
 use Rattle.bdb_update.specs.Filling.{Before, CountsCome, HaveCome, SomeHaveCome, FillsWorlds, names_now}
 use Rattle.bdb_update.specs.Joining.{CountsArrived, MayJoin, SomeMayJoin, IsWorld, IsWorldFound, IsWorldIfAny, last_or, HaveArrived, Arrive}
@@ -190,9 +189,6 @@ counts_arrive t u v x worlds n new added outside counts some b s may a z first l
 -- where the path is no state, any number will do
 pub no_world : (t : Tables) (w : List ℕ) (wid : ℕ) → IsWorldFound t w None → IsWorldIfAny t w wid
 no_world t w wid none s h own named = absurd (false≢true (sym (none s h own) ∙ named))
-
-pub names_stay : (t : Tables) → KeepsNames t t
-names_stay t s z hs hz n w e = sym (names_are_one s.users z.users s.names z.names t hs hz n) ∙ e
 
 pub rows_stay : (t : Tables) (x : Stmt) → CountsArrived t t x 0
 rows_stay t x b s may a z first last = let e = rows_one t z a last first in omega (arith, e)

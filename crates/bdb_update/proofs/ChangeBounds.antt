@@ -11,7 +11,8 @@ use Rattle.bdb_tables.specs.Rows.{row_for}
 use Rattle.bdb_tables.specs.Stored.{SameBut}
 use Rattle.bdb_val.specs.Others as others
 use Rattle.bdb_worlds.specs.Bounds.{RisesWithin}
-use Rattle.bdb_update.specs.Bounds.{KeepsNames, KeepsTuples, RowWrites, StateWrites, WritesWithin}
+use Rattle.bdb_update.specs.Bounds.{RowWrites, StateWrites, WritesWithin}
+use Rattle.bdb_update.specs.Keeping.{KeepsNames, KeepsTuples}
 use Rattle.bdb_update.specs.Calls.{with_one, without_one}
 use Rattle.bdb_update.specs.ChangeLaws.{is_of_worlds}
 use Rattle.bdb_update.specs.Differing.{has_told}

@@ -16,7 +16,7 @@ use Rattle.bdb_keep.specs.Tables.{Tables}
 use Rattle.bdb_tables.specs.declared.tab.TabError.{TabError}
 use Rattle.bdb_tables.specs.declared.tab.TabError.TheVariants as stop
 use Rattle.bdb_val.specs.Steps.{IsChanging}
-use Rattle.bdb_update.specs.Calls.{MayChange, SomeMayChange, Changes, IsUntouched, HasStopped, StoresSized, of_stmts, with_others}
+use Rattle.bdb_update.specs.Calls.{MayChange, SomeMayChange, Changes, IsUntouched, HasStopped, StoresSized, of_stmts, with_others, without_statements}
 use Rattle.bdb_update.specs.Replacing.{MayReplaceAll, SomeMayReplace, Replace}
 use Rattle.bdb_tables.specs.Stored.{Stores}
 use Rattle.bdb_update.specs.Steps.{ChangesThrough, ReplacesThrough, WritesThrough, steps_of}
@@ -29,6 +29,8 @@ use Rattle.bdb_update.specs.declared.weighing.Weight.TheVariants.{Clashes, Fills
 use Rattle.bdb_update.proofs.CallLemmas.{IsQuiet, quiet_itself}
 use Rattle.bdb_update.proofs.NextLemmas.{next_is_valid}
 use Rattle.bdb_update.proofs.ReplaceLemmas.{from_still}
+use Rattle.bdb_update.specs.Keeping.{ChangeKeeps, KeepsBetween, ReplaceKeeps}
+use Rattle.bdb_update.proofs.StayLemmas.{keeps_same}
 use Rattle.bdb_update.proofs.WeighLemmas.{may_replace}
 
 -- ---- nothing goes
@@ -123,6 +125,22 @@ pub changed_through : (old mid new : Seen) (c : Counts) (w : List ℕ) (gone com
     → ReplacesThrough c gone come mid new → ChangesThrough c w gone come old new
 changed_through old mid new c w gone come x first q h r b m =
     from_still old mid new (steps_of b gone come) q.kept q.writes (r b (subst (λ (t : Tables). MayReplaceAll t c gone come b) (sym q.kept) (may_replace_all old.kept c w gone come x first h b m)))
+
+-- ---- which numbers stay
+
+pub nothing_keeps : (s : Seen) (c : Counts) (w : List ℕ) (gone come : List Stmt) → slice_get gone 0 ≡ None → ChangeKeeps c w gone come s s
+nothing_keeps s c w gone come e b m = record {
+  between = s.kept;
+  stored = subst (λ (xs : List Stmt). Stores s.kept (of_stmts b (without_statements b.stmts xs))) (sym (no_items gone e)) m.base.stored;
+  before = keeps_same s.kept s.kept refl;
+  after = keeps_same s.kept s.kept refl;
+}
+
+pub changed_keeps : (old mid new : Seen) (c : Counts) (w : List ℕ) (gone come : List Stmt) (x : Stmt) → slice_get gone 0 ≡ Some x → IsQuiet old mid → Weighs old.kept c x.path gone come Fits
+    → ReplaceKeeps c gone come mid new → ChangeKeeps c w gone come old new
+changed_keeps old mid new c w gone come x first q h r b m =
+    subst (λ (t : Tables). KeepsBetween (of_stmts b (without_statements b.stmts gone)) t new.kept) q.kept
+    (r b (subst (λ (t : Tables). MayReplaceAll t c gone come b) (sym q.kept) (may_replace_all old.kept c w gone come x first h b m)))
 
 -- ---- nothing could be read or written
 

@@ -21,7 +21,7 @@ pub number_still : (test : ℕ → Bool) (t u : Tables) (tuple : Tuple) (o : Opt
 number_still test t u tuple None same out has = same 5 (tuple_ix_codec.key_bytes tuple) out ∙ has
 number_still test t u tuple (Some n) same out has = record { in_grammar = has.in_grammar; found = same 5 (tuple_ix_codec.key_bytes tuple) out ∙ has.found }
 
-same_back : (test : ℕ → Bool) (t u : Tables) → SameBut test t u → SameBut test u t
+pub same_back : (test : ℕ → Bool) (t u : Tables) → SameBut test t u → SameBut test u t
 same_back test t u same n k out = sym (same n k out)
 
 -- the number of a world stays where only tables of tuples have changed

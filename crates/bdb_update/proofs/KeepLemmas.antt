@@ -11,20 +11,21 @@ use Rattle.bdb_base.proofs.BaseLemmas.{take_is_valid}
 use Rattle.bdb_base.proofs.WorldLemmas.{valid_is_consistent}
 use Rattle.bdb_keep.specs.Tables.{Tables}
 use Rattle.bdb_key.specs.Rows.{IsTupleRow}
-use Rattle.bdb_names.proofs.NamedLemmas.{names_are_one}
+use Rattle.bdb_names.proofs.NamedLemmas.{named_path, names_are_one, path_is_told}
 use Rattle.bdb_tables.specs.Codec.{place}
 use Rattle.bdb_tables.specs.InUse.{tuple_codec}
 use Rattle.bdb_tables.specs.InUseLaws.{tuple_rows_are_one}
 use Rattle.bdb_tables.specs.Names.{Names, path_of, without_name}
 use Rattle.bdb_tables.specs.Rows.{Tuples, HoldsTuples, HoldsRows}
 use Rattle.bdb_tables.specs.Stored.{SameBut, Stores}
+use Rattle.bdb_tables.specs.States.{HoldsStates}
 use Rattle.bdb_tables.proofs.SameLemmas.{states_still}
 use Rattle.bdb_tables.proofs.SignLemmas.{stands_is_explicit}
 use Rattle.bdb_worlds.specs.Growth.{AddsStates, SameOutside, with_prefixes}
 use Rattle.bdb_worlds.specs.Holding.{Worlds}
 use Rattle.bdb_worlds.specs.Shrinking.{DropsStates, without_prefixes}
 use Rattle.bdb_worlds.proofs.ReadLemmas.{found_is}
-use Rattle.bdb_update.specs.Bounds.{KeepsNames, KeepsTuples}
+use Rattle.bdb_update.specs.Keeping.{KeepsNames, KeepsTuples}
 use Rattle.bdb_update.specs.ChangeLaws.{is_of_worlds}
 use Rattle.bdb_update.specs.Joining.{Arrive, MayJoin, Numbers, Settles, SomeMayJoin, is_of_tuples}
 use Rattle.bdb_update.specs.Parting.{LosesWorlds, MayPart, Parts, SomeHasParted}
@@ -43,12 +44,11 @@ worlds_of users names = record { users = users; names = names }
 
 -- worlds come, and then their rows
 pub names_come : (t u v : Tables) (x : Stmt) (worlds : ℕ) (new : List ℕ) → AddsStates t u x.path worlds new → SameOutside 6 10 t u → SameBut rows_alone u v → SomeMayJoin t x worlds → KeepsNames t v
-names_come t u v x worlds new added outside same some s z hs hz n w e =
+names_come t u v x worlds new added outside same some n w e =
     let ns = some.stored.names in
     let g = grown t u x worlds new added outside some.base some.stored some.may some.counted in
     let states = states_still rows_alone u v same _ (with_prefixes ns x.path g.stood new) refl refl refl refl refl g.states in
-    names_are_one z.users _ z.names (with_prefixes ns x.path g.stood new) v hz states n
-    ∙ still_named ns x.path g.stood new n w g.least (names_are_one _ s.users ns s.names t some.stored.stored.states hs n ∙ e)
+    path_is_told _ (with_prefixes ns x.path g.stood new) v states n w (still_named ns x.path g.stood new n w g.least (named_path _ ns t some.stored.stored.states e))
 
 none_some : {X : Type 0} (v : X) → None ≡ Some v → ⊥
 none_some v e = cc
@@ -64,7 +64,7 @@ stood_before ns path len (m ∷ gone) n w e =
 
 -- worlds go, and then their rows
 pub names_go : (t u v : Tables) (x : Stmt) (gone : List ℕ) → DropsStates t u x.path gone → SameBut rows_alone u v → SomeHasParted t x → KeepsNames v t
-names_go t u v x gone drops same some s z hs hz n w e =
+names_go t u v x gone drops same some n w e =
     let b = some.base in
     let ns = some.parted.names in
     let h = some.parted.stored in
@@ -72,8 +72,11 @@ names_go t u v x gone drops same some s z hs hz n w e =
     let k = drops (worlds_of (is_user b.catalog.users) ns) h.states (belongs_parts b.catalog x some.may.belongs).users named in
     let less = without_prefixes ns x.path (length x.path) gone in
     let states = states_still rows_alone u v same _ less refl refl refl refl refl k.states in
-    names_are_one z.users _ z.names ns t hz h.states n
-    ∙ stood_before ns x.path (length x.path) gone n w (names_are_one _ s.users less s.names v states hs n ∙ e)
+    path_is_told _ ns t h.states n w (stood_before ns x.path (length x.path) gone n w (named_path _ less v states e))
+
+-- which paths numbers stand for, by names of the worlds
+names_kept : (users others : ℕ → Bool) (ns ms : Names) (t u : Tables) → HoldsStates users ns t → HoldsStates others ms u → KeepsNames t u → (n : ℕ) (w : List ℕ) → path_of ns n ≡ Some w → path_of ms n ≡ Some w
+names_kept users others ns ms t u h k keeps n w e = named_path others ms u k (keeps n w (path_is_told users ns t h n w e))
 
 -- ---- tuples
 
@@ -87,7 +90,7 @@ tuple_stays told less ts us t u h k keeps n y e =
 pub kept_by_same : (test : ℕ → Bool) (t u : Tables) → test 4 ≡ false → SameBut test t u → KeepsTuples t u
 kept_by_same test t u out same k r e = same 4 k out ∙ e
 
-kept_back : (test : ℕ → Bool) (t u : Tables) → test 4 ≡ false → SameBut test t u → KeepsTuples u t
+pub kept_back : (test : ℕ → Bool) (t u : Tables) → test 4 ≡ false → SameBut test t u → KeepsTuples u t
 kept_back test t u out same k r e = sym (same 4 k out) ∙ e
 
 -- ---- a statement joins a base
@@ -119,7 +122,7 @@ stages_joined t u v w x wid arrive numbers settles names keeps worlds tuples row
       first_rows = s.stored.rows;
       rows = a.stored.rows;
       last_rows = q.stored.rows;
-      names_stay = λ n p e. names (worlds_of _ s.names) (worlds_of _ a.names) s.stored.states a.stored.states n p e;
+      names_stay = names_kept _ _ s.names a.names t u s.stored.states a.stored.states names;
       names_last = λ n p e. names_are_one _ _ q.names a.names w q.stored.states states n ∙ e;
       tuples_stay = tuple_stays b.stmts b.stmts s.tuples a.tuples t u s.stored.tuples a.stored.tuples (kept_by_same is_of_worlds t u refl worlds);
       tuples_stood = tuple_stays b.stmts b.stmts a.tuples s.tuples u t a.stored.tuples s.stored.tuples (kept_back is_of_worlds t u refl worlds);
@@ -157,7 +160,7 @@ stages_left t u v x parts loses names rows worlds b s may =
       first_rows = l.stored.rows;
       rows = p.stored.rows;
       last_rows = subst (λ (stmts : List Stmt). HoldsRows (λ _. 1) stmts (path_of s.names) s.tuples.tuple t) (sym back) s.stored.rows;
-      names_stay = λ n w e. names (worlds_of _ l.names) (worlds_of _ p.names) l.stored.states p.stored.states n w e;
+      names_stay = names_kept _ _ l.names p.names v u l.stored.states p.stored.states names;
       names_last = λ n w e. names_are_one _ _ s.names p.names u states p.stored.states n ∙ e;
       tuples_stay = tuple_stays b.stmts b.stmts l.tuples p.tuples v u l.stored.tuples p.stored.tuples (kept_back is_of_worlds u v refl worlds);
       tuples_stood = tuple_stays b.stmts b.stmts p.tuples l.tuples u v p.stored.tuples l.stored.tuples (kept_by_same is_of_worlds u v refl worlds);

@@ -16,6 +16,7 @@ use Rattle.bdb_key.specs.Bytes.{num_bytes}
 use Rattle.bdb_key.specs.Grammar.{IsNum}
 use Rattle.bdb_names.proofs.CountLemmas.{AllBelow, none_missing}
 use Rattle.bdb_tables.specs.Codec.{HasAt, HasFirst, place}
+use Rattle.bdb_tables.specs.Gaps.{IsFirstGap}
 use Rattle.bdb_tables.specs.InUse.{tuple_codec, tuple_ix_codec}
 use Rattle.bdb_tables.specs.InUseLaws.{number_rows_are_one}
 use Rattle.bdb_tables.specs.Names.{are_once, is_listed}
@@ -132,20 +133,12 @@ module _ (told : List Stmt) (ts : Tuples) (t : Tables) (h : HoldsTuples told ts 
 pub count_is_least : (t : Tables) (c : ℕ) → IsNum c → HoldsSomeTuples t c → HasFirst tuple_codec t (λ key. is_le (tuple_codec.key_cmp c key)) None → IsLeastNumber t c
 count_is_least t c fits some none = record { free = none c fits (number_le c c (omega arith)); least = below_in_use some.told some.numbers t some.held c some.counted none }
 
--- ---- numbers that are tried one after the other
-
--- each number up to this one is in use
-abbrev pub AllInUse : Tables → ℕ → Type 0
-AllInUse t n = (k : ℕ) → k < n → is_some (tables.get t (place tuple_codec k)) ≡ true
-
-pub none_tried : (t : Tables) → AllInUse t 0
-none_tried t k lt = absurd (omega arith)
-
-pub one_tried : (t : Tables) (n past : ℕ) (x : Tuple) → past ≡ n + 1 → AllInUse t n → HasAt tuple_codec t n (Some x) → AllInUse t past
-one_tried t n past x e all has k lt = elim (cases_lt k n) [
-  | inl l ↦ all k l
-  | inr ge ↦ let same : k ≡ n = omega arith in ap (λ j. is_some (tables.get t (place tuple_codec j))) same ∙ ap is_some has.found
-]
+-- the first number that is no key of the table of tuples
+pub gap_is_least : (t u : Tables) (tid : ℕ) → u ≡ t → IsFirstGap u tuple_codec.number 0 tid → IsLeastNumber t tid
+gap_is_least t u tid same gap = record {
+  free = ap (λ (v : Tables). tables.get v (place tuple_codec tid)) (sym same) ∙ gap.free;
+  least = λ n lt. ap (λ (v : Tables). is_some (tables.get v (place tuple_codec n))) (sym same) ∙ gap.least n (omega arith) lt;
+}
 
 -- ---- the number that a tuple gets
 

@@ -47,6 +47,7 @@ pub mod SettleLemmas
 pub mod SpendLemmas
 pub mod StageLemmas
 pub mod StandLemmas
+pub mod StayLemmas
 pub mod StepLemmas
 pub mod StoreLemmas
 pub mod StoredCounts

@@ -34,6 +34,7 @@ use Rattle.bdb_update.specs.Calls.{StoresSized, MayMeet, SomeMayMeet, Drops, IsD
 use Rattle.bdb_update.specs.Replacing.{MayGo, SomeMayGo, Go, MayCome, SomeMayCome, Come, MayReplaceAll, SomeMayReplace, Replace, is_stop}
 use Rattle.bdb_tables.specs.Stored.{Stores}
 use Rattle.bdb_update.specs.Bounds.{WritesWithin}
+use Rattle.bdb_update.specs.Keeping.{KeepsNumbers, ReplaceKeeps}
 use Rattle.bdb_update.specs.Steps.{ComesThrough, GoesThrough, ReplacesThrough, WritesThrough, steps_with, steps_without}
 use Rattle.bdb_update.specs.Trying.{stopped_by}
 use Rattle.bdb_update.specs.declared.answer.Added.{Added}
@@ -305,3 +306,6 @@ pub replaced_through : (old mid new : Seen) (c d : Counts) (gone come : List Stm
 replaced_through old mid new c d gone come g h k b m =
     let next = of_stmts b (without_statements b.stmts gone) in
     through_then old mid new (steps_without b gone) (steps_with next come) (h b m.may) (k next (to_come old.kept mid.kept c d gone come b g m))
+
+pub replaced_keeps : (old mid new : Seen) (c d : Counts) (gone come : List Stmt) → Go old.kept mid.kept c d gone → KeepsNumbers mid.kept old.kept → KeepsNumbers mid.kept new.kept → ReplaceKeeps c gone come old new
+replaced_keeps old mid new c d gone come g before after b m = record { between = mid.kept; stored = (g b m.may).stored; before = before; after = after }

@@ -3,7 +3,7 @@ use Rattle.std.proofs.Common.{◌≡◌, ◌≢◌, ◌∙◌, ℕ, ◌+◌, ◌
 use Rattle.std.specs.FinMap as tables
 use Rattle.std.specs.Option.{option_map}
 use Rattle.std.specs.Ordering.{eq_by_cmp}
-use Rattle.std.proofs.lemmas.Bool.{cases_Bool, and_from, cond-false, false≢true, false_from_ne_true, not-true, not_from_false, or_left, or_right}
+use Rattle.std.proofs.lemmas.Bool.{cases_Bool, and_from, cond-false, cond-true, false≢true, false_from_ne_true, not-true, not_from_false, or_left, or_right}
 use Rattle.std.proofs.lemmas.Bool.Decides.{nat_tests}
 use Rattle.bdb_base.specs.Bases.{are_distinct}
 use Rattle.bdb_base.specs.Causes.{Rises}
@@ -26,7 +26,8 @@ use Rattle.bdb_val.specs.Others.{SameBut}
 use Rattle.bdb_worlds.specs.Bounds.{RisesWithin}
 use Rattle.bdb_worlds.specs.Bounds as states
 use Rattle.bdb_worlds.specs.Growth.{SameOutside}
-use Rattle.bdb_update.specs.Bounds.{KeepsTuples, RowWrites, StateWrites, WritesWithin, is_of_states, part_at}
+use Rattle.bdb_update.specs.Keeping.{KeepsTuples}
+use Rattle.bdb_update.specs.Bounds.{RowWrites, StateWrites, WritesWithin, is_of_states, part_at}
 use Rattle.bdb_update.specs.Joining.{is_of_tuples}
 use Rattle.bdb_update.specs.Numbering.{number_put, number_taken}
 use Rattle.bdb_update.specs.Tallies.{vals_at}
@@ -73,6 +74,19 @@ number_keeps t u tid tuple free e k r found =
     ∙ cond-false (eq_by_cmp bytes_cmp (4 ∷ k) (place tuple_codec tid)) (Some (tuple_codec.row_bytes tuple)) (tables.get t (4 ∷ k))
     (false_from_ne_true (eq_by_cmp bytes_cmp (4 ∷ k) (place tuple_codec tid)) (λ s. none_some r (sym free ∙ ap (tables.get t) (sym (same_place (4 ∷ k) (place tuple_codec tid) s)) ∙ found))) in
     ap (λ (v : Tables). tables.get v (4 ∷ k)) e ∙ change_alone tuple_ix_codec (λ n. nat_eq n 5) m (tuple, Some tid) refl (4 ∷ k) refl ∙ first ∙ found
+
+-- where a number goes, each row of a tuple that is left stood before
+pub number_stood : (t u : Tables) (tid : ℕ) (tuple : Tuple) → u ≡ number_taken t tid tuple → KeepsTuples u t
+number_stood t u tid tuple e k r found =
+    let m = with_change tuple_codec t (tid, None) in
+    let is = eq_by_cmp bytes_cmp (4 ∷ k) (place tuple_codec tid) in
+    let after : tables.get m (4 ∷ k) ≡ cond is None (tables.get t (4 ∷ k)) = get_after_change tuple_codec t (tid, None) (4 ∷ k) in
+    let there : tables.get m (4 ∷ k) ≡ Some r =
+    sym (ap (λ (v : Tables). tables.get v (4 ∷ k)) e ∙ change_alone tuple_ix_codec (λ n. nat_eq n 5) m (tuple, None) refl (4 ∷ k) refl) ∙ found in
+    elim (cases_Bool is) [
+      | inl same ↦ absurd (none_some r (sym (after ∙ cond-true is None (tables.get t (4 ∷ k)) same) ∙ there))
+      | inr other ↦ sym (after ∙ cond-false is None (tables.get t (4 ∷ k)) other) ∙ there
+    ]
 
 -- a row's table alone has changed where a row of it did, and then its rows
 pub row_alone : (t m u : Tables) (x : ValKey × Option Mark) → m ≡ with_change val_codec t x → SameBut rows_alone m u → SameBut rows_alone t u

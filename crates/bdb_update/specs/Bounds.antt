@@ -13,16 +13,13 @@
 -- besides, which was written before it.
 -- Where a statement is taken away, the same comes in turn: its row goes and its group is settled, worlds go with their rows, and
 -- its tuple's number goes.
-use Rattle.std.specs.Prelude.{◌≡◌, ℕ, ◌+◌, ◌*◌, Bool, not, ◌||◌, nat_eq, cond, List, ◌∷◌, length, Option, Some, None}
+use Rattle.std.specs.Prelude.{ℕ, ◌+◌, ◌*◌, Bool, not, ◌||◌, nat_eq, cond, List, length, Option, None}
 use Rattle.std.specs.FinMap as tables
 use Rattle.bdb_keep.specs.Seen.{Seen}
 use Rattle.bdb_keep.specs.Tables.{Tables}
 use Rattle.bdb_tables.specs.Differences.{AreDifferences}
-use Rattle.bdb_tables.specs.Names.{path_of}
-use Rattle.bdb_tables.specs.States.{HoldsStates}
 use Rattle.bdb_val.specs.Others.{is_in}
 use Rattle.bdb_worlds.specs.Bounds.{RisesWithin}
-use Rattle.bdb_worlds.specs.Holding.{Worlds}
 use Rattle.bdb_update.specs.Joining.{is_of_tuples}
 use Rattle.bdb_update.specs.Tallies.{vals_at}
 
@@ -49,11 +46,3 @@ StateWrites times more old new = (ps : List (List ℕ)) → AreDifferences (part
 -- no more writes are made than rows of worlds differ, and some more
 abbrev pub RowWrites : ℕ → Seen → Seen → Type 0
 RowWrites more old new = (ps : List (List ℕ)) → AreDifferences (vals_at old.kept) (vals_at new.kept) ps → RisesWithin (length ps + more) old.writes new.writes
-
--- whichever worlds tables hold, and others afterwards, a number that stands for a path goes on to stand for it
-abbrev pub KeepsNames : Tables → Tables → Type 0
-KeepsNames t u = (s z : Worlds) → HoldsStates s.users s.names t → HoldsStates z.users z.names u → (n : ℕ) (w : List ℕ) → path_of s.names n ≡ Some w → path_of z.names n ≡ Some w
-
--- each row of a tuple stays
-abbrev pub KeepsTuples : Tables → Tables → Type 0
-KeepsTuples t u = (k r : List ℕ) → tables.get t (4 ∷ k) ≡ Some r → tables.get u (4 ∷ k) ≡ Some r

@@ -7,6 +7,7 @@ pub mod Examining
 pub mod Filling
 pub mod Groups
 pub mod Joining
+pub mod Keeping
 pub mod Keys
 pub mod Leaving
 pub mod Looking

@@ -1,6 +1,5 @@
 // What is answered where statements change.
 use bdb_base::{Stmt, What};
-use std::fmt;
 use thiserror::Error;
 
 /// Whether a statement was added.
@@ -14,7 +13,7 @@ pub enum Added {
 
 /// Why statements were not changed. After a clash, or where the base is full, nothing was written, and a transaction that
 /// ran still runs. After the others no transaction runs, and the rows are those last committed.
-#[derive(Drop, Error)]
+#[derive(Debug, Drop, Error)]
 pub enum UpdateError {
     /// It would clash with this statement of its path, the least such one.
     #[error("a statement of the path clashes")]
@@ -28,16 +27,4 @@ pub enum UpdateError {
     /// There is no memory.
     #[error("there is no memory")]
     Memory,
-}
-
-// A statement is not told in full.
-impl fmt::Debug for UpdateError {
-    fn fmt<W: fmt::Write>(&self, f: &mut fmt::Formatter<W>) -> Result<(), fmt::Error> {
-        match self {
-            UpdateError::Clash(_) => f.write_str("Clash(..)"),
-            UpdateError::Full(_) => f.write_str("Full(..)"),
-            UpdateError::Fault => f.write_str("Fault"),
-            UpdateError::Memory => f.write_str("Memory"),
-        }
-    }
 }

@@ -2,6 +2,7 @@
 ghost use Rattle.std.specs.Prelude.{◌≡◌, true, OnOk};
 ghost use Rattle.bdb_keep.specs.Seen.{NeverFall};
 ghost use Rattle.bdb_update.specs.Calls.{Changes, SomeMayChange};
+ghost use Rattle.bdb_update.specs.Keeping.{ChangeKeeps};
 ghost use Rattle.bdb_update.specs.Steps.{ChangesThrough};
 ghost use Rattle.bdb_update.specs.Trying.{stopped_by};
 
@@ -16,9 +17,10 @@ use std::alloc::Global;
 
 /// Puts statements of a path in place of others of it, in the base that the tables store, whose sizes are `counts`. `Clash`
 /// comes exactly where two statements of the path would clash then, with the least that clashes with another, and `Full`
-/// exactly where none would and there would be too many tuples. It reads the path's rows and, for each statement that goes,
-/// a row or two of each world; then it takes statements away and adds others, one after the other. For each of them there are
-/// no more writes than `drop_statement` or `add_statement` makes for it.
+/// exactly where none would and there would be too many tuples; at both nothing is written. Worlds and tuples of statements
+/// that stay keep their numbers. It reads the path's rows and, for each statement that goes, a row or two of each world; then
+/// it takes statements away and adds others, one after the other. For each of them there are no more writes than
+/// `drop_statement` or `add_statement` makes for it.
 pub fn change_statements<K: Keeper>(
     alloc: Global,
     keeper: &mut K,
@@ -30,6 +32,7 @@ pub fn change_statements<K: Keeper>(
     requires running { (K.seen keeper.old).running ≡ true }
     requires base { SomeMayChange (K.seen keeper.old).kept counts.old path.now gone.now come.now }
     ensures changed { Changes (K.seen keeper.old) (K.seen keeper.new) counts.old counts.new path.now gone.now come.now result }
+    ensures keeps { OnOk result (ChangeKeeps counts.old path.now gone.now come.now (K.seen keeper.old) (K.seen keeper.new)) }
     ensures writes { OnOk result (ChangesThrough counts.old path.now gone.now come.now (K.seen keeper.old) (K.seen keeper.new)) }
     ensures counts { NeverFall (K.seen keeper.old) (K.seen keeper.new) }
 {

@@ -5,6 +5,7 @@ ghost use Rattle.bdb_tables.specs.Codec.{HasAt};
 ghost use Rattle.bdb_tables.specs.InUse.{tuple_ix_codec};
 ghost use Rattle.bdb_update.specs.Bounds.{WritesWithin};
 ghost use Rattle.bdb_update.specs.Joining.{CountsJoined, IsWorldFound, Joins, SomeMayJoin};
+ghost use Rattle.bdb_update.specs.Keeping.{KeepsNumbers, TakesLeastNames};
 ghost use Rattle.bdb_update.specs.Numbering.{HoldsSomeTuples, TakesLeast};
 ghost use Rattle.bdb_val.specs.Steps.{IsChanging};
 
@@ -40,6 +41,8 @@ pub fn insert<K: Keeper>(
     requires counted { HoldsSomeTuples (K.seen keeper.old).kept tuples }
     ensures joined { OnOk result (Joins (K.seen keeper.old).kept (K.seen keeper.new).kept stmt.now) }
     ensures counted { IfOk result (λ moved. CountsJoined (K.seen keeper.old).kept stmt.now moved.came moved.went) }
+    ensures keeps { OnOk result (KeepsNumbers (K.seen keeper.old).kept (K.seen keeper.new).kept) }
+    ensures least { OnOk result (TakesLeastNames (K.seen keeper.old).kept (K.seen keeper.new).kept stmt.now.path) }
     ensures number { OnOk result (TakesLeast (K.seen keeper.old).kept (K.seen keeper.new).kept stmt.now.tuple) }
     ensures writes { OnOk result (WritesWithin (length stmt.now.path + 2) 8 (K.seen keeper.old) (K.seen keeper.new)) }
     ensures changing { IsChanging (K.seen keeper.old) (K.seen keeper.new) result TabError.Fault }

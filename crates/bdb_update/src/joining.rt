@@ -8,9 +8,10 @@ ghost use Rattle.bdb_tables.specs.Codec.{HasAt, place};
 ghost use Rattle.bdb_tables.specs.Grammar.{InGrammar};
 ghost use Rattle.bdb_tables.specs.InUse.{IsValKey, tuple_codec, tuple_ix_codec, val_codec};
 ghost use Rattle.bdb_key.specs.Grammar.{HasPlainText};
-ghost use Rattle.bdb_update.specs.Bounds.{KeepsNames, KeepsTuples, RowWrites, StateWrites};
+ghost use Rattle.bdb_update.specs.Bounds.{RowWrites, StateWrites};
 ghost use Rattle.bdb_update.specs.ChangeLaws.{is_of_worlds};
 ghost use Rattle.bdb_update.specs.Joining.{Arrive, CountsArrived, CountsSettled, IsWorld, IsWorldFound, Joins, Numbers, Settles, SomeHasNumber, SomeHasWorlds, SomeMayJoin, is_of_tuples, key_made, last_or, row_put};
+ghost use Rattle.bdb_update.specs.Keeping.{KeepsNames, KeepsTuples, TakesLeastNames};
 ghost use Rattle.bdb_update.specs.Numbering.{HoldsSomeTuples, IsLeastNumber, TakesLeast, number_put};
 ghost use Rattle.bdb_tables.specs.Stored.{SameBut};
 ghost use Rattle.bdb_val.specs.Others as others;
@@ -22,7 +23,7 @@ use crate::keys::{row_key, table_error};
 use bdb_base::{Sign, Stmt, Tuple, Value, key_of};
 use bdb_keep::Keeper;
 use bdb_key::put_mark;
-use bdb_tables::{Tab, TabError, TupleIx, TupleTab, ValTab, get, next, put};
+use bdb_tables::{Tab, TabError, TupleIx, TupleTab, ValTab, first_gap, next, put};
 use bdb_val::{Settled, settle_group};
 use bdb_worlds::add_states;
 use std::alloc::Global;
@@ -43,6 +44,7 @@ pub fn add_worlds<K: Keeper>(
     ensures arrived { IfOk result (λ found. Arrive (K.seen keeper.old).kept (K.seen keeper.new).kept stmt.now found.0) }
     ensures counted { IfOk result (λ found. CountsArrived (K.seen keeper.old).kept (K.seen keeper.new).kept stmt.now found.1) }
     ensures names { OnOk result (KeepsNames (K.seen keeper.old).kept (K.seen keeper.new).kept) }
+    ensures least { OnOk result (TakesLeastNames (K.seen keeper.old).kept (K.seen keeper.new).kept stmt.now.path) }
     ensures writes { IfOk result (λ found. StateWrites (length stmt.now.path + 2) found.1 (K.seen keeper.old) (K.seen keeper.new)) }
     ensures others { OnOk result (SameBut is_of_worlds (K.seen keeper.old).kept (K.seen keeper.new).kept) }
     ensures changing { IsChanging (K.seen keeper.old) (K.seen keeper.new) result TabError.Fault }
@@ -127,6 +129,7 @@ fn put_number<K: Keeper>(
 }
 
 // The least number that no tuple has. Where the numbers in use have no gaps one read finds it: there are as many as `tuples`.
+// Else numbers are tried from 0 on, and no row of theirs is decoded.
 fn free_tuple<K: Keeper>(alloc: Global, keeper: &mut K, tuples: u32) -> Result<u32, TabError>
     requires grammar { InGrammar (K.seen keeper.old).kept }
     requires counted { HoldsSomeTuples (K.seen keeper.old).kept tuples }
@@ -138,15 +141,10 @@ fn free_tuple<K: Keeper>(alloc: Global, keeper: &mut K, tuples: u32) -> Result<u
         Ok(None) => return Ok(tuples),
         Err(error) => return Err(error),
     }
-    for tid in 0..u32::MAX {
-        match get::<TupleTab, K>(alloc, keeper, &tid) {
-            Ok(Some(_)) => {}
-            Ok(None) => return Ok(tid),
-            Err(error) => return Err(error),
-        }
+    match first_gap(alloc, keeper, TupleTab::NUMBER, 0) {
+        Ok(tid) => Ok(tid),
+        Err(error) => Err(error),
     }
-    keeper.undo();
-    Err(TabError::Memory)
 }
 
 /// Puts the row of a statement into its path's world, of number `wid`, for its tuple, of number `tid`, and settles the rows of
@@ -188,7 +186,6 @@ fn with_row(settled: Settled, stood: bool) -> Settled
 {
     let one = if stood { 0 } else { 1 };
     Settled {
-        turned: settled.turned,
         put: both(settled.put, one),
         taken: settled.taken,
     }

@@ -6,9 +6,10 @@ ghost use Rattle.bdb_key.specs.Rows.{IsTupleRow, MayBeTuple};
 ghost use Rattle.bdb_tables.specs.Codec.{HasAt};
 ghost use Rattle.bdb_tables.specs.Grammar.{InGrammar};
 ghost use Rattle.bdb_tables.specs.InUse.{IsValKey, tuple_ix_codec};
-ghost use Rattle.bdb_update.specs.Bounds.{KeepsNames, RowWrites, StateWrites};
+ghost use Rattle.bdb_update.specs.Bounds.{RowWrites, StateWrites};
 ghost use Rattle.bdb_update.specs.ChangeLaws.{is_of_worlds};
 ghost use Rattle.bdb_update.specs.Joining.{IsWorld, is_of_tuples, key_made};
+ghost use Rattle.bdb_update.specs.Keeping.{KeepsNames, KeepsTuples};
 ghost use Rattle.bdb_update.specs.Numbering.{number_taken};
 ghost use Rattle.bdb_update.specs.Parting.{ClearsWorlds, CountsWorlds, LosesNumber, LosesRows, LosesWorlds, Parts, PartsRows, SomeHasFewerWorlds, SomeHasParted, SomeMayPart, TellsNumber, row_taken};
 ghost use Rattle.bdb_tables.specs.Stored.{SameBut};
@@ -158,6 +159,7 @@ pub fn drop_number<K: Keeper>(
     requires fits { IsTupleRow stmt.now.tuple }
     requires number { HasAt tuple_ix_codec (K.seen keeper.old).kept stmt.now.tuple (Some tid) }
     ensures number { OnOk result (LosesNumber (K.seen keeper.old).kept (K.seen keeper.new).kept stmt.now) }
+    ensures stood { OnOk result (KeepsTuples (K.seen keeper.new).kept (K.seen keeper.old).kept) }
     ensures tells { IfOk result (TellsNumber (K.seen keeper.old).kept stmt.now) }
     ensures writes { OnOk result (RisesWithin 2 (K.seen keeper.old).writes (K.seen keeper.new).writes) }
     ensures others { OnOk result (others.SameBut is_of_tuples (K.seen keeper.old).kept (K.seen keeper.new).kept) }

@@ -1,5 +1,6 @@
 // Statements go, and others come, one after the other.
 ghost use Rattle.std.specs.Prelude.{◌≡◌, true, IfOk, OnOk};
+ghost use Rattle.bdb_update.specs.Keeping.{KeepsNumbers, ReplaceKeeps};
 ghost use Rattle.bdb_update.specs.Replacing.{Come, Go, Replace, SomeMayCome, SomeMayGo, SomeMayReplace, WritesForOne, is_stop};
 ghost use Rattle.bdb_update.specs.Steps.{ComesThrough, GoesThrough, ReplacesThrough};
 ghost use Rattle.bdb_update.specs.Trying.{stopped_by};
@@ -27,6 +28,7 @@ pub fn replace<K: Keeper>(
     requires base { SomeMayReplace (K.seen keeper.old).kept counts.now gone.now come.now }
     ensures replaced { IfOk result (λ next. Replace (K.seen keeper.old).kept (K.seen keeper.new).kept counts.now next gone.now come.now) }
     ensures steps { OnOk result (ReplacesThrough counts.now gone.now come.now (K.seen keeper.old) (K.seen keeper.new)) }
+    ensures keeps { OnOk result (ReplaceKeeps counts.now gone.now come.now (K.seen keeper.old) (K.seen keeper.new)) }
     ensures changing { IsChanging (K.seen keeper.old) (K.seen keeper.new) result TabError.Fault }
 {
     let mut next = *counts;
@@ -40,8 +42,8 @@ pub fn replace<K: Keeper>(
     }
 }
 
-/// Takes statements away that stand, each once, from the base that the tables store, whose sizes are `counts`. For each there
-/// are no more writes than `drop_statement` makes for it.
+/// Takes statements away that stand, each once, from the base that the tables store, whose sizes are `counts`. Worlds and
+/// tuples that are left keep their numbers. For each statement there are no more writes than `drop_statement` makes for it.
 pub fn drop_statements<K: Keeper>(
     alloc: Global,
     keeper: &mut K,
@@ -52,6 +54,7 @@ pub fn drop_statements<K: Keeper>(
     requires base { SomeMayGo (K.seen keeper.old).kept counts.old gone.now }
     ensures gone { OnOk result (Go (K.seen keeper.old).kept (K.seen keeper.new).kept counts.old counts.new gone.now) }
     ensures steps { OnOk result (GoesThrough counts.old gone.now (K.seen keeper.old) (K.seen keeper.new)) }
+    ensures keeps { OnOk result (KeepsNumbers (K.seen keeper.new).kept (K.seen keeper.old).kept) }
     ensures changing { IsChanging (K.seen keeper.old) (K.seen keeper.new) result TabError.Fault }
     ensures writes { WritesForOne gone.now (K.seen keeper.old) (K.seen keeper.new) result }
 {
@@ -75,6 +78,7 @@ fn add_all<K: Keeper>(
     requires base { SomeMayCome (K.seen keeper.old).kept counts.old come.now }
     ensures come { OnOk result (Come (K.seen keeper.old).kept (K.seen keeper.new).kept counts.old counts.new come.now) }
     ensures steps { OnOk result (ComesThrough counts.old come.now (K.seen keeper.old) (K.seen keeper.new)) }
+    ensures keeps { OnOk result (KeepsNumbers (K.seen keeper.old).kept (K.seen keeper.new).kept) }
     ensures changing { IsChanging (K.seen keeper.old) (K.seen keeper.new) result TabError.Fault }
 {
     for stmt in come {

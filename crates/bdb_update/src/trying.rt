@@ -4,6 +4,7 @@ ghost use Rattle.bdb_keep.specs.Seen.{NeverFall};
 ghost use Rattle.bdb_update.specs.Bounds.{WritesWithin};
 ghost use Rattle.bdb_update.specs.Calls.{SomeMayMeet};
 ghost use Rattle.bdb_update.specs.Examining.{AreSizes};
+ghost use Rattle.bdb_update.specs.Keeping.{KeepsNumbers, TakesLeastNames};
 ghost use Rattle.bdb_update.specs.Numbering.{TakesLeast};
 ghost use Rattle.bdb_update.specs.Trying.{Tries, stopped_by};
 
@@ -27,6 +28,8 @@ pub fn try_add<K: Keeper>(
     requires running { (K.seen keeper.old).running ≡ true }
     requires base { SomeMayMeet (K.seen keeper.old).kept counts.now stmt.now }
     ensures tried { Tries (K.seen keeper.old) (K.seen keeper.new) counts.now stmt.now result }
+    ensures keeps { OnOk result (KeepsNumbers (K.seen keeper.old).kept (K.seen keeper.new).kept) }
+    ensures least { OnOk result (TakesLeastNames (K.seen keeper.old).kept (K.seen keeper.new).kept stmt.now.path) }
     ensures number { OnOk result (TakesLeast (K.seen keeper.old).kept (K.seen keeper.new).kept stmt.now.tuple) }
     ensures writes { OnOk result (WritesWithin (length stmt.now.path + 2) 8 (K.seen keeper.old) (K.seen keeper.new)) }
     ensures counts { NeverFall (K.seen keeper.old) (K.seen keeper.new) }

@@ -4,7 +4,7 @@ use Rattle.bdb_tables.specs.declared.tab.TabError.TheVariants.{Fault}
 use Rattle.bdb_tables.proofs.Loops.{goes_then}
 use Rattle.bdb_update.specs.Weighing.{Weighs}
 use Rattle.bdb_update.proofs.CallLemmas.{quiet_read}
-use Rattle.bdb_update.proofs.ChangingLemmas.{nothing_changes, nothing_through, change_clashes, may_replace_now, changed, changed_through}
+use Rattle.bdb_update.proofs.ChangingLemmas.{nothing_changes, nothing_keeps, nothing_through, change_clashes, may_replace_now, changed, changed_keeps, changed_through}
 use Rattle.bdb_update.proofs.changing.change_statements.Goals as goal
 
 pub returns-in-None-clause-changed : goal.returns-in-None-clause-changed
@@ -52,3 +52,16 @@ returns-in-Ok-clause-writes g c =
     changed_through old mid (g.K.Keeper.seen c.replace.new.keeper) c.args.counts.now c.args.path.now c.args.gone.now c.args.come.now x (sym c.first.ensures.value ∙ ap option_copied c.in-Some.is)
     (quiet_read old mid c.in-Ok-Fits.field-0 Fault c.in-Ok-Fits.ensures.read)
     (subst (Weighs old.kept c.args.counts.now x.path c.args.gone.now c.args.come.now) c.in-Ok-Fits.field-0-is c.in-Ok-Fits.ensures.weighed) c.in-Ok.ensures.steps
+
+pub returns-in-None-clause-keeps : goal.returns-in-None-clause-keeps
+returns-in-None-clause-keeps g c =
+    nothing_keeps (g.K.Keeper.seen c.args.keeper.now) c.args.counts.now c.args.path.now c.args.gone.now c.args.come.now (sym c.first.ensures.value ∙ ap option_copied c.in-None.is)
+
+pub returns-in-Ok-clause-keeps : goal.returns-in-Ok-clause-keeps
+returns-in-Ok-clause-keeps g c =
+    let old = g.K.Keeper.seen c.args.keeper.now in
+    let mid = g.K.Keeper.seen c.weigh.new.keeper in
+    let x = c.in-Some.first.now in
+    changed_keeps old mid (g.K.Keeper.seen c.replace.new.keeper) c.args.counts.now c.args.path.now c.args.gone.now c.args.come.now x (sym c.first.ensures.value ∙ ap option_copied c.in-Some.is)
+    (quiet_read old mid c.in-Ok-Fits.field-0 Fault c.in-Ok-Fits.ensures.read)
+    (subst (Weighs old.kept c.args.counts.now x.path c.args.gone.now c.args.come.now) c.in-Ok-Fits.field-0-is c.in-Ok-Fits.ensures.weighed) c.in-Ok.ensures.keeps

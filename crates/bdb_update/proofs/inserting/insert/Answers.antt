@@ -7,6 +7,7 @@ use Rattle.bdb_update.proofs.CallLemmas.{gone_itself}
 use Rattle.bdb_update.proofs.ChangeBounds.{as_tables, join_within}
 use Rattle.bdb_update.proofs.InsertLemmas.{counts_join, number_still, some_worlds, some_number, here_now, joins}
 use Rattle.bdb_update.proofs.LeastNumbers.{some_still, takes_between}
+use Rattle.bdb_update.proofs.StayLemmas.{insert_keeps, insert_least}
 use Rattle.bdb_update.proofs.TallyLemmas.{rows_alone}
 use Rattle.bdb_update.proofs.inserting.insert.Goals as goal
 
@@ -89,3 +90,19 @@ returns-in-Ok-settle_statement-clause-number g c =
     let w = (g.K.Keeper.seen c.settle_statement.new.keeper).kept in
     takes_between is_of_worlds rows_alone (g.K.Keeper.seen c.args.keeper.now).kept (g.K.Keeper.seen c.add_worlds.new.keeper).kept v w c.args.stmt.now.tuple refl refl refl
     c.in-Ok.ensures.others (as_tables rows_alone v w c.in-Ok-settle_statement.ensures.others) c.in-Ok-number_tuple.ensures.least
+
+pub returns-in-Ok-settle_statement-clause-keeps : goal.returns-in-Ok-settle_statement-clause-keeps
+returns-in-Ok-settle_statement-clause-keeps g c =
+    let u = (g.K.Keeper.seen c.add_worlds.new.keeper).kept in
+    let v = (g.K.Keeper.seen c.number_tuple.new.keeper).kept in
+    let w = (g.K.Keeper.seen c.settle_statement.new.keeper).kept in
+    insert_keeps (g.K.Keeper.seen c.args.keeper.now).kept u v w c.in-Ok.ensures.names c.in-Ok.ensures.others c.in-Ok-number_tuple.ensures.keeps
+    (as_tables is_of_tuples u v c.in-Ok-number_tuple.ensures.others) (as_tables rows_alone v w c.in-Ok-settle_statement.ensures.others)
+
+pub returns-in-Ok-settle_statement-clause-least : goal.returns-in-Ok-settle_statement-clause-least
+returns-in-Ok-settle_statement-clause-least g c =
+    let u = (g.K.Keeper.seen c.add_worlds.new.keeper).kept in
+    let v = (g.K.Keeper.seen c.number_tuple.new.keeper).kept in
+    let w = (g.K.Keeper.seen c.settle_statement.new.keeper).kept in
+    insert_least (g.K.Keeper.seen c.args.keeper.now).kept u v w c.args.stmt.now.path c.in-Ok.ensures.least
+    (as_tables is_of_tuples u v c.in-Ok-number_tuple.ensures.others) (as_tables rows_alone v w c.in-Ok-settle_statement.ensures.others)

@@ -5,12 +5,13 @@ use Rattle.bdb_worlds.specs.Bounds as states
 use Rattle.bdb_worlds.specs.Growth.{SomeMayGrow, AddsStates}
 use Rattle.bdb_update.specs.Filling.{CountsCome, FillsWorlds, SomeHaveCome}
 use Rattle.bdb_update.specs.Joining.{Arrive, IsWorldFound, last_or}
-use Rattle.bdb_update.proofs.ArriveLemmas.{arrived_already, counts_arrive, in_worlds, names_stay, no_world, rows_stay, some_may_grow, some_have_come, arrive, worlds_then_rows}
+use Rattle.bdb_update.proofs.ArriveLemmas.{arrived_already, counts_arrive, in_worlds, no_world, rows_stay, some_may_grow, some_have_come, arrive, worlds_then_rows}
 use Rattle.bdb_update.proofs.CallLemmas.{gone_itself}
 use Rattle.bdb_update.proofs.GrammarLemmas.{stored_is_in_grammar}
 use Rattle.bdb_update.proofs.KeepLemmas.{names_come}
 use Rattle.bdb_update.proofs.SpendLemmas.{states_then_rows}
 use Rattle.bdb_update.proofs.StageLemmas.{over_has_tuples, tuples_still}
+use Rattle.bdb_update.proofs.StayLemmas.{names_least, no_names}
 use Rattle.bdb_update.proofs.joining.add_worlds.Goals as goal
 
 pub add_states-requires-clause-grammar : goal.add_states-requires-clause-grammar
@@ -109,7 +110,19 @@ pub returns-in-Some-clause-counted : goal.returns-in-Some-clause-counted
 returns-in-Some-clause-counted g c = rows_stay (g.K.Keeper.seen c.args.keeper.now).kept c.args.stmt.now
 
 pub returns-in-Some-clause-names : goal.returns-in-Some-clause-names
-returns-in-Some-clause-names g c = names_stay (g.K.Keeper.seen c.args.keeper.now).kept
+returns-in-Some-clause-names g c = λ n w x. x
+
+pub returns-in-Some-clause-least : goal.returns-in-Some-clause-least
+returns-in-Some-clause-least g c = no_names (g.K.Keeper.seen c.args.keeper.now).kept (g.K.Keeper.seen c.args.keeper.now).kept c.args.stmt.now.path refl
+
+pub returns-in-Ok-fill_worlds-clause-least : goal.returns-in-Ok-fill_worlds-clause-least
+returns-in-Ok-fill_worlds-clause-least g c =
+    let t = (g.K.Keeper.seen c.args.keeper.now).kept in
+    let u = (g.K.Keeper.seen c.add_states.new.keeper).kept in
+    let new = c.in-Ok.new.items in
+    let added = subst (λ (w : List ℕ). AddsStates t u w c.args.worlds new) c.as_slice.ensures.users c.in-Ok.ensures.added in
+    names_least t u (g.K.Keeper.seen c.fill_worlds.new.keeper).kept c.args.stmt.now c.args.worlds new added c.in-Ok.ensures.others (λ n k out. c.in-Ok-fill_worlds.ensures.others (n ∷ k) out)
+    c.requires.base
 
 pub returns-in-Some-clause-writes : goal.returns-in-Some-clause-writes
 returns-in-Some-clause-writes g c = λ ps are small. omega arith

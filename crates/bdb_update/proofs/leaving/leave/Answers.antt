@@ -5,6 +5,7 @@ use Rattle.bdb_update.specs.Joining.{is_of_tuples}
 use Rattle.bdb_update.proofs.ChangeBounds.{as_tables, leave_within}
 use Rattle.bdb_update.proofs.InsertLemmas.{number_still}
 use Rattle.bdb_update.proofs.LeaveLemmas.{some_parted, some_fewer, leaves, counts_left}
+use Rattle.bdb_update.proofs.StayLemmas.{leave_keeps}
 use Rattle.bdb_update.proofs.leaving.leave.Goals as goal
 
 pub drop_worlds-requires-clause-base : goal.drop_worlds-requires-clause-base
@@ -45,3 +46,12 @@ returns-in-Ok-drop_number-clause-writes g c =
     c.in-Ok-drop_worlds.ensures.worlds c.in-Ok-drop_worlds.ensures.rows c.in-Ok-drop_worlds.ensures.names c.in-Ok-drop_worlds.ensures.others c.in-Ok-drop_worlds.ensures.writes
     c.in-Ok-drop_number.ensures.writes c.in-Ok-drop_number.ensures.others
     c.in-Ok-drop_worlds.ensures.changing.counts.writes c.in-Ok-drop_number.ensures.changing.counts.writes
+
+pub returns-in-Ok-drop_number-clause-keeps : goal.returns-in-Ok-drop_number-clause-keeps
+returns-in-Ok-drop_number-clause-keeps g c =
+    let t = (g.K.Keeper.seen c.args.keeper.now).kept in
+    let u = (g.K.Keeper.seen c.part_statement.new.keeper).kept in
+    let v = (g.K.Keeper.seen c.drop_worlds.new.keeper).kept in
+    let w = (g.K.Keeper.seen c.drop_number.new.keeper).kept in
+    leave_keeps t u v w (as_tables (λ n. nat_eq n 11) t u c.in-Ok.ensures.others) c.in-Ok-drop_worlds.ensures.names c.in-Ok-drop_worlds.ensures.others c.in-Ok-drop_number.ensures.stood
+    (as_tables is_of_tuples v w c.in-Ok-drop_number.ensures.others)

@@ -1,4 +1,5 @@
-use Rattle.std.proofs.Common.{◌+◌, length, sym}
+use Rattle.std.proofs.Common.{◌+◌, length, subst, sym}
+use Rattle.bdb_update.specs.Keeping.{KeepsNumbers}
 use Rattle.bdb_tables.specs.declared.tab.TabError.TheVariants.{Fault}
 use Rattle.bdb_tables.proofs.Fitting.{belonging_may_be}
 use Rattle.bdb_tables.proofs.Loops.{goes_then}
@@ -7,6 +8,7 @@ use Rattle.bdb_update.proofs.GrammarLemmas.{stored_is_in_grammar}
 use Rattle.bdb_update.proofs.LeaveLemmas.{some_may_part, world_now, drop_absent, drop_stops, drop_leaves, may_lose_now}
 use Rattle.bdb_update.proofs.SpendLemmas.{none_within, quiet_within}
 use Rattle.bdb_update.proofs.StageLemmas.{belongs_parts, over_has_tuples}
+use Rattle.bdb_update.proofs.StayLemmas.{keeps_same}
 use Rattle.bdb_update.proofs.leaving.try_drop.Goals as goal
 
 pub look-requires-clause-grammar : goal.look-requires-clause-grammar
@@ -83,3 +85,11 @@ returns-in-Ok-leave-clause-writes g c =
     let old = g.K.Keeper.seen c.args.keeper.now in
     let mid = g.K.Keeper.seen c.look.new.keeper in
     quiet_within (length c.args.stmt.now.path + 2) 8 old mid (g.K.Keeper.seen c.leave.new.keeper) (quiet_read old mid c.in-Ok.place Fault c.in-Ok.ensures.read) c.in-Ok-leave.ensures.writes
+
+pub returns-in-None-clause-keeps : goal.returns-in-None-clause-keeps
+returns-in-None-clause-keeps g c =
+    keeps_same (g.K.Keeper.seen c.look.new.keeper).kept (g.K.Keeper.seen c.args.keeper.now).kept (sym c.in-Ok.ensures.read.kept)
+
+pub returns-in-Ok-leave-clause-keeps : goal.returns-in-Ok-leave-clause-keeps
+returns-in-Ok-leave-clause-keeps g c =
+    subst (KeepsNumbers (g.K.Keeper.seen c.leave.new.keeper).kept) c.in-Ok.ensures.read.kept c.in-Ok-leave.ensures.keeps

@@ -1,11 +1,12 @@
 use Rattle.std.proofs.Common.{◌∙◌, true, false, refl, ap, sym, subst, arith}
 use Rattle.bdb_keep.specs.Tables.{Tables}
+use Rattle.bdb_update.specs.Keeping.{KeepsTuples}
 use Rattle.bdb_update.specs.Numbering.{number_taken}
 use Rattle.bdb_update.specs.Parting.{LosesNumber}
 use Rattle.bdb_update.specs.Reads.{TellsTold}
 use Rattle.bdb_update.proofs.PartLemmas.{part_may_be_tuple}
 use Rattle.bdb_update.proofs.PartTupleLemmas.{number_kept, number_lost, number_told, fewer_over}
-use Rattle.bdb_update.proofs.SpendLemmas.{number_gone_alone}
+use Rattle.bdb_update.proofs.SpendLemmas.{number_gone_alone, number_stood}
 use Rattle.bdb_update.proofs.parting.drop_number.Goals as goal
 
 pub is_told-requires : goal.is_told-requires
@@ -54,3 +55,13 @@ returns-in-Ok-clause-writes g c = λ small.
     let a = c.in-Ok.ensures.writes small in
     let b = c.in-Ok-false.ensures.read.writes in
     omega arith
+
+pub returns-in-Ok-true-clause-stood : goal.returns-in-Ok-true-clause-stood
+returns-in-Ok-true-clause-stood g c =
+    let t = (g.K.Keeper.seen c.args.keeper.now).kept in
+    subst (λ (v : Tables). KeepsTuples v t) (sym c.in-Ok-true.ensures.read.kept) (λ k r e. e)
+
+pub returns-in-Ok-clause-stood : goal.returns-in-Ok-clause-stood
+returns-in-Ok-clause-stood g c =
+    number_stood (g.K.Keeper.seen c.args.keeper.now).kept (g.K.Keeper.seen c.take_number.new.keeper).kept c.args.tid c.args.stmt.now.tuple
+    (c.in-Ok.ensures.taken ∙ ap (λ (v : Tables). number_taken v c.args.tid c.args.stmt.now.tuple) c.in-Ok-false.ensures.read.kept)

@@ -4,6 +4,7 @@ use Rattle.std.proofs.lemmas.List.{drop_more}
 use Rattle.std.proofs.lemmas.List as list
 use Rattle.bdb_update.proofs.OneLemmas.{one_more, one_gone}
 use Rattle.bdb_update.proofs.ReplaceLemmas.{IsGoing, some_left, going_more, going_stops, going_ends, gone_through}
+use Rattle.bdb_update.proofs.StayLemmas.{keeps_then}
 use Rattle.bdb_update.proofs.replacing.drop_statements.Goals as goal
 
 pub drop_statement-requires-clause-base : goal.drop_statement-requires-clause-base
@@ -38,6 +39,7 @@ loop-stmt-preserved g c =
       going_more old mid (g.K.Keeper.seen c.drop_statement.new.keeper) c.args.counts.now c.loop-stmt.counts c.drop_statement.new.counts gone x rest c.in-Ok.field-0 c.requires.base
           (subst (IsGoing old mid c.args.counts.now c.loop-stmt.counts gone) split c.loop-stmt.invariant.0) c.in-Ok.ensures.dropped c.in-Ok.ensures.writes c.in-Ok.ensures.counts,
       one_more old mid (g.K.Keeper.seen c.drop_statement.new.keeper) gone c.loop-stmt.stmt-index x rest split c.loop-stmt.invariant.1 c.in-Ok.ensures.writes,
+      keeps_then (g.K.Keeper.seen c.drop_statement.new.keeper).kept mid.kept old.kept c.in-Ok.ensures.keeps c.loop-stmt.invariant.2,
     )
 
 pub returns-clause-gone : goal.returns-clause-gone

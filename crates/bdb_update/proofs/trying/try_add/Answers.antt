@@ -4,10 +4,12 @@ use Rattle.bdb_val.proofs.Calls.{changing_err}
 use Rattle.bdb_tables.proofs.Loops.{goes_then}
 use Rattle.bdb_keep.specs.Tables.{Tables}
 use Rattle.bdb_update.specs.Examining.{Examines}
+use Rattle.bdb_update.specs.Keeping.{KeepsNumbers, TakesLeastNames}
 use Rattle.bdb_update.specs.Numbering.{TakesLeast}
 use Rattle.bdb_update.proofs.CallLemmas.{quiet_read, quiet_gone}
 use Rattle.bdb_update.proofs.LeastNumbers.{takes_nothing}
 use Rattle.bdb_update.proofs.SpendLemmas.{none_within, quiet_within}
+use Rattle.bdb_update.proofs.StayLemmas.{keeps_same, no_names}
 use Rattle.bdb_update.proofs.TryLemmas.{moved_fits, try_stands, try_clashes, try_fills, try_stops, try_joins, may_join_now, ready_now, tuples_now}
 use Rattle.bdb_update.proofs.trying.try_add.Goals as goal
 
@@ -124,3 +126,19 @@ returns-in-Ok-Stands-clause-number g c =
 pub returns-in-Ok-clause-number : goal.returns-in-Ok-clause-number
 returns-in-Ok-clause-number g c =
     subst (λ (t : Tables). TakesLeast t (g.K.Keeper.seen c.insert.new.keeper).kept c.args.stmt.now.tuple) c.in-Ok-Fits.ensures.read.kept c.in-Ok.ensures.number
+
+pub returns-in-Ok-Stands-clause-keeps : goal.returns-in-Ok-Stands-clause-keeps
+returns-in-Ok-Stands-clause-keeps g c =
+    keeps_same (g.K.Keeper.seen c.args.keeper.now).kept (g.K.Keeper.seen c.examine.new.keeper).kept c.in-Ok-Stands.ensures.read.kept
+
+pub returns-in-Ok-clause-keeps : goal.returns-in-Ok-clause-keeps
+returns-in-Ok-clause-keeps g c =
+    subst (λ (t : Tables). KeepsNumbers t (g.K.Keeper.seen c.insert.new.keeper).kept) c.in-Ok-Fits.ensures.read.kept c.in-Ok.ensures.keeps
+
+pub returns-in-Ok-Stands-clause-least : goal.returns-in-Ok-Stands-clause-least
+returns-in-Ok-Stands-clause-least g c =
+    no_names (g.K.Keeper.seen c.args.keeper.now).kept (g.K.Keeper.seen c.examine.new.keeper).kept c.args.stmt.now.path c.in-Ok-Stands.ensures.read.kept
+
+pub returns-in-Ok-clause-least : goal.returns-in-Ok-clause-least
+returns-in-Ok-clause-least g c =
+    subst (λ (t : Tables). TakesLeastNames t (g.K.Keeper.seen c.insert.new.keeper).kept c.args.stmt.now.path) c.in-Ok-Fits.ensures.read.kept c.in-Ok.ensures.least
