@@ -30,7 +30,7 @@ use Rattle.bdb_tables.specs.InUseLaws.{vals_are_one, mark_rows_are_one}
 use Rattle.bdb_tables.specs.Marks.{Mark}
 use Rattle.bdb_tables.specs.Names.{leads_to}
 use Rattle.bdb_tables.specs.Spans.{AreUnder, IsUnder}
-use Rattle.bdb_exec.specs.Keys.{key_is, of_key}
+use Rattle.bdb_exec.specs.Keys.{key_is, of_key, rows_of_key}
 use Rattle.bdb_exec.specs.Readable.{CanBeRun}
 use Rattle.bdb_exec.specs.Rows.{IsNumberOf, signed_of, mark_denies, row_denies, is_written, world_prefix, key_prefix}
 use Rattle.bdb_exec.specs.Seen.{rows_at, signed_in, signed_under, sight_of}
@@ -51,7 +51,7 @@ both_ways true b f g = sym (f refl)
 both_ways false true f g = g refl
 both_ways false false f g = refl
 
-filter_narrow : {X : Type 0} (p q : X → Bool) (xs : List X) → ((x : X) → p x ≡ true → q x ≡ true) → filter p xs ≡ filter p (filter q xs)
+pub filter_narrow : {X : Type 0} (p q : X → Bool) (xs : List X) → ((x : X) → p x ≡ true → q x ≡ true) → filter p xs ≡ filter p (filter q xs)
 filter_narrow p q [] f = refl
 filter_narrow p q (x ∷ xs) f = by (filter_narrow p q xs f) (q x) refl
   where
@@ -70,7 +70,7 @@ filter_map f p (x ∷ xs) = by (filter_map f p xs) (p (f x))
     by rest true = ap (λ r. f x ∷ r) rest
     by rest false = rest
 
-length_filter : {X : Type 0} (p : X → Bool) (xs : List X) → length (filter p xs) ≤ length xs
+pub length_filter : {X : Type 0} (p : X → Bool) (xs : List X) → length (filter p xs) ≤ length xs
 length_filter p [] = omega arith
 length_filter p (x ∷ xs) = by (length_filter p xs) (p x)
   where
@@ -247,12 +247,21 @@ module _ (t : Tables) (h : CanBeRun t) (w rel : ℕ) (nw : IsNum w) (nr : IsNum 
         twice [] = refl
         twice (e ∷ es) = ap (λ (x : List (Tuple × Sign)). signed_of t e ∷ x) (twice es)
 
-    pub key_length : length (signed_under t (key_prefix w rel v)) ≤ length ((sight_of t).rows w rel)
-    key_length =
-        let a = ap length narrow_shown ∙ length_map (signed_of t) (filter of_value all) in
-        let b = ap length shown_all ∙ length_map (signed_of t) all in
-        let c = length_filter of_value all in
-        omega (arith, a, b, c)
+    map_cond : (b : Bool) (e : ValKey × Mark) (r : List (ValKey × Mark)) → map (signed_of t) (cond b (e ∷ r) r) ≡ cond b (signed_of t e ∷ map (signed_of t) r) (map (signed_of t) r)
+    map_cond true e r = refl
+    map_cond false e r = refl
+
+    keyed_rows : IsPlainValue v → (es : List (ValKey × Mark)) → AllByRecursion IsHere es → map (signed_of t) (filter of_value es) ≡ rows_of_key (Some v) (map (signed_of t) es)
+    keyed_rows nv [] a = refl
+    keyed_rows nv (e ∷ es) a =
+        let r = map (signed_of t) (filter of_value es) in
+        map_cond (of_value e) e (filter of_value es)
+        ∙ ap (λ b. cond b (signed_of t e ∷ r) r) (tested nv e a.0 ∙ ap (λ x. key_is (Some v) x.0) (sym (signed_is t e a.0.u a.0.row)))
+        ∙ ap (λ x. cond (key_is (Some v) (signed_of t e).0) (signed_of t e ∷ x) x) (keyed_rows nv es a.1)
+
+    -- the rows whose keys begin with a value are those of the tuples that have it first
+    pub key_rows : IsPlainValue v → signed_under t (key_prefix w rel v) ≡ rows_of_key (Some v) ((sight_of t).rows w rel)
+    key_rows nv = narrow_shown ∙ keyed_rows nv all all_here ∙ ap (rows_of_key (Some v)) (sym shown_all)
 
     -- ---- tuples with plus
 
@@ -262,10 +271,6 @@ module _ (t : Tables) (h : CanBeRun t) (w rel : ℕ) (nw : IsNum w) (nr : IsNum 
     pool_step false u Plus xs ys e rest = rest ∙ sym (cond-false (key_is (Some v) u) (u ∷ of_key (Some v) (plus_tuples ys)) (of_key (Some v) (plus_tuples ys)) e)
     pool_step true u Minus xs ys e rest = rest
     pool_step false u Minus xs ys e rest = rest
-
-    map_cond : (b : Bool) (e : ValKey × Mark) (r : List (ValKey × Mark)) → map (signed_of t) (cond b (e ∷ r) r) ≡ cond b (signed_of t e ∷ map (signed_of t) r) (map (signed_of t) r)
-    map_cond true e r = refl
-    map_cond false e r = refl
 
     keyed_pool : IsPlainValue v → (es : List (ValKey × Mark)) → AllByRecursion IsHere es → plus_tuples (map (signed_of t) (filter of_value es)) ≡ of_key (Some v) (plus_tuples (map (signed_of t) es))
     keyed_pool nv [] a = refl
@@ -403,12 +408,10 @@ module _ (t : Tables) (h : CanBeRun t) (w rel : ℕ) (nw : IsNum w) (nr : IsNum 
   pub unwritten_denied : is_written v ≡ false → false ≡ rows_deny (sight_of t).keys ((sight_of t).rows w rel) u0
   unwritten_denied n = sym (none_deny n (all t h w rel nw nr) (all_here t h w rel nw nr)) ∙ denied_here ((sight_of t).rows w rel) (shown_all t h w rel nw nr)
 
-  pub denied_reads : (es : List (ValKey × Mark)) → AreUnder val_codec t (key_prefix w rel v) es → length es ≤ length ((sight_of t).rows w rel)
-  denied_reads es under =
-      let read = typed_under t (key_prefix w rel v) es under in
-      let a = ap length (shown t (key_prefix w rel v) es read) ∙ length_map (signed_of t) es in
-      let b = key_length t h w rel nw nr v in
-      omega (arith, a, b)
+  pub denied_reads : (es : List (ValKey × Mark)) → IsPlainValue v → AreUnder val_codec t (key_prefix w rel v) es → length es ≡ length (rows_of_key (Some v) ((sight_of t).rows w rel))
+  denied_reads es nv under =
+      sym (ap length (shown t (key_prefix w rel v) es (typed_under t (key_prefix w rel v) es under)) ∙ length_map (signed_of t) es)
+      ∙ ap length (key_rows t h w rel nw nr v nv)
 
 -- whether a row denies is told by the number of its tuple
 pub denied_by_number : (number : Option ℕ) (es : List (ValKey × Mark)) → list_any (mark_denies number) (map numbered es) ≡ list_any (row_denies number) es

@@ -1,32 +1,40 @@
--- A choice that the tests right behind it refuse gives no rows.
-use Rattle.std.proofs.Common.{◌≡◌, ◌∙◌, ℕ, zero, suc, ◌+◌, ◌≤◌, ◌<◌, Bool, true, false, not, ◌&&◌, cond, nat_eq, nat_lt, List, [], ◌∷◌, ◌++◌, Option, Some, None, length, map, filter, slice_set, refl, ap, sym, subst, arith}
+-- A choice that the tests right behind it refuse gives no rows, and they refuse what has another key than they ask for.
+use Rattle.std.proofs.Common.{◌≡◌, ◌∙◌, ℕ, zero, suc, ◌+◌, ◌≤◌, ◌<◌, Bool, true, false, not, ◌&&◌, cond, nat_eq, nat_lt, List, [], ◌∷◌, ◌++◌, Option, Some, None, length, map, filter, slice_set, refl, ap, sym, arith}
 use Rattle.std.specs.List.{flat_map, sum_by, slice_get}
 use Rattle.std.specs.Option.{option_and_then, unwrap_or}
+use Rattle.std.specs.Ordering.{is_eq, ordering_reverse}
+use Rattle.std.specs.declared.cmp.Ordering.{Ordering}
+use Rattle.std.specs.declared.cmp.Ordering.TheVariants.{Less, Equal, Greater}
 use Rattle.std.proofs.lemmas.Bool.{and_parts, cond-true, cond-false, eqb-true, true≢false}
 use Rattle.std.proofs.lemmas.Bool.Decides.{nat_tests}
 use Rattle.std.proofs.lemmas.List.Sums.{sum_by-cons}
 use Rattle.bdb_base.specs.Conditions.{compare_so}
 use Rattle.bdb_base.specs.Queries.{option_list}
-use Rattle.bdb_base.specs.Safety.{is_equality, same_column}
+use Rattle.bdb_base.specs.OrderLemmas.{value_exact}
+use Rattle.bdb_base.specs.Order.{value_cmp}
+use Rattle.bdb_base.specs.Safety.{is_column, is_equality, same_column}
 use Rattle.bdb_base.specs.declared.kinds.Cmp.{Cmp}
 use Rattle.bdb_base.specs.declared.kinds.Cmp.TheVariants.{Eq, Ne, Lt, Le, Gt, Ge}
 use Rattle.bdb_base.specs.declared.kinds.Cond.{Cond}
 use Rattle.bdb_base.specs.declared.kinds.Operand.{Operand}
 use Rattle.bdb_base.specs.declared.kinds.Operand.TheVariants.{Col, Lit}
 use Rattle.bdb_base.specs.declared.kinds.Ref.{Ref}
+use Rattle.bdb_base.specs.declared.kinds.Sign.{Sign}
 use Rattle.bdb_base.specs.declared.kinds.Value.{Value}
 use Rattle.bdb_base.specs.declared.tuple.Tuple.{Tuple}
 use Rattle.bdb_queries.specs.Slots.{slot_at, known, known_operand, must_hold}
-use Rattle.bdb_plan.specs.Running.{Reached, with_slot, plus_tuples, after, reached_if, rows_from, reads_from}
+use Rattle.bdb_plan.specs.Running.{Reached, with_slot, with_choice, choices, settled, after, reached_if, rows_from, reads_from, own_reads}
 use Rattle.bdb_plan.specs.Sight.{Sight}
 use Rattle.bdb_plan.specs.Sources.{first_there}
 use Rattle.bdb_plan.specs.declared.step.Step.{Step}
 use Rattle.bdb_plan.specs.declared.step.Step.TheVariants as step
-use Rattle.bdb_exec.specs.Keys.{key_is, names_another, asks_for_key, key_of_test, key_behind, of_key, key_asked, choices_before}
+use Rattle.bdb_exec.specs.Keys.{tests_hold, passes, key_is, first_column, names_another, asks_on_left, asks_on_right, key_of_test, key_behind, of_key, rows_of_key, key_asked, narrowed, choices_before, after_before}
+use Rattle.bdb_exec.specs.LookUps.{looks_from, own_looks, deny_looks}
+use Rattle.bdb_exec.proofs.DenyLemmas.{length_filter, filter_narrow}
 
 -- ---- slots with one more tuple
 
-set_here : (slots : List (Option Tuple)) (item : ℕ) (t : Tuple) → item < length slots → slot_at (slice_set slots item (Some t)) item ≡ Some t
+pub set_here : (slots : List (Option Tuple)) (item : ℕ) (t : Tuple) → item < length slots → slot_at (slice_set slots item (Some t)) item ≡ Some t
 set_here [] item t lt = absurd (omega arith)
 set_here (x ∷ slots) zero t lt = refl
 set_here (x ∷ slots) (suc item) t lt = set_here slots item t (omega arith)
@@ -34,7 +42,7 @@ set_here (x ∷ slots) (suc item) t lt = set_here slots item t (omega arith)
 lower : (m n : ℕ) → nat_eq (suc m) (suc n) ≡ false → nat_eq m n ≡ false
 lower m n e = grind (arith, nat_tests)
 
-set_elsewhere : (slots : List (Option Tuple)) (item other : ℕ) (t : Tuple) → nat_eq other item ≡ false → slot_at (slice_set slots item (Some t)) other ≡ slot_at slots other
+pub set_elsewhere : (slots : List (Option Tuple)) (item other : ℕ) (t : Tuple) → nat_eq other item ≡ false → slot_at (slice_set slots item (Some t)) other ≡ slot_at slots other
 set_elsewhere [] item other t e = refl
 set_elsewhere (x ∷ slots) zero zero t e = absurd (true≢false e)
 set_elsewhere (x ∷ slots) zero (suc other) t e = refl
@@ -49,100 +57,154 @@ other_known slots item t (Col r) e = ap (option_and_then (λ u. slice_get u.vals
     turned false e = refl
 other_known slots item t (Lit v) e = refl
 
--- a test that asks for a key holds exactly where the tuple has it
-asked_holds : (slots : List (Option Tuple)) (item : ℕ) (t : Tuple) (c : Cond) (v : Value) → item < length slots → asks_for_key item c ≡ true → known_operand slots c.right ≡ Some v
-    → must_hold (slice_set slots item (Some t)) c ≡ key_is (Some v) t
-asked_holds slots item t c v lt asks k =
-    let p = and_parts (is_equality c.cmp) (same_column (record { item = item; col = 0 }) c.left && names_another item c.right) asks in
-    let q = and_parts (same_column (record { item = item; col = 0 }) c.left) (names_another item c.right) p.1 in
-    let r = and_parts (nat_eq item c.left.item) (nat_eq 0 c.left.col) q.0 in
-    let i : c.left.item ≡ item = sym (eqb-true item c.left.item r.0) in
-    let j : c.left.col ≡ 0 = sym (eqb-true 0 c.left.col r.1) in
-    ap (λ cmp. compare_so cmp (known set c.left) (known_operand set c.right)) (equality c.cmp p.0)
-    ∙ ap (λ o. compare_so Eq (known set c.left) o) (other_known slots item t c.right q.1 ∙ k)
-    ∙ ap (λ o. compare_so Eq (option_and_then (λ u. slice_get u.vals c.left.col) o) (Some v)) (ap (slot_at set) i ∙ set_here slots item t lt)
-    ∙ ap (λ n. compare_so Eq (slice_get t.vals n) (Some v)) j
-  where
-    set : List (Option Tuple)
-    set = slice_set slots item (Some t)
-
-    equality : (cmp : Cmp) → is_equality cmp ≡ true → cmp ≡ Eq
-    equality Eq e = refl
-    equality Ne e = absurd (true≢false (sym e))
-    equality Lt e = absurd (true≢false (sym e))
-    equality Le e = absurd (true≢false (sym e))
-    equality Gt e = absurd (true≢false (sym e))
-    equality Ge e = absurd (true≢false (sym e))
-
 none_not : {X : Type 0} (x : X) → None ≡ Some x → ⊥
 none_not x e = cc
 
--- what a test asks for, with what it asks
-test_asks : (slots : List (Option Tuple)) (item : ℕ) (c : Cond) (v : Value) → key_of_test slots item c ≡ Some v → (asks_for_key item c ≡ true) × (known_operand slots c.right ≡ Some v)
-test_asks slots item c v e = by (asks_for_key item c) refl
+turned_off : (b : Bool) → not b ≡ true → b ≡ false
+turned_off true e = absurd (true≢false (sym e))
+turned_off false e = refl
+
+equality : (cmp : Cmp) → is_equality cmp ≡ true → cmp ≡ Eq
+equality Eq e = refl
+equality Ne e = absurd (true≢false (sym e))
+equality Lt e = absurd (true≢false (sym e))
+equality Le e = absurd (true≢false (sym e))
+equality Gt e = absurd (true≢false (sym e))
+equality Ge e = absurd (true≢false (sym e))
+
+-- an equality says the same either way round
+other_way : (v : Value) (o : Option Value) → compare_so Eq (Some v) o ≡ compare_so Eq o (Some v)
+other_way v None = refl
+other_way v (Some x) = ap is_eq (value_exact.total.antisymm v x) ∙ reversed (value_cmp x v)
   where
-    by : (b : Bool) → asks_for_key item c ≡ b → (asks_for_key item c ≡ true) × (known_operand slots c.right ≡ Some v)
-    by true a = (a, sym (cond-true (asks_for_key item c) (known_operand slots c.right) None a) ∙ e)
-    by false a = absurd (none_not v (sym (cond-false (asks_for_key item c) (known_operand slots c.right) None a) ∙ e))
+    reversed : (o : Ordering) → is_eq (ordering_reverse o) ≡ is_eq o
+    reversed Less = refl
+    reversed Equal = refl
+    reversed Greater = refl
 
-module _ (sight : Sight) (taken : List Ref) where
-  pub refused : (xs : List Step) (s : Reached) (item : ℕ) (t : Tuple) (v : Value) → item < length s.slots → key_behind s.slots item xs ≡ Some v → key_is (Some v) t ≡ false
-      → rows_from sight taken xs (with_slot s item t) ≡ []
-  refused [] s item t v lt k other = absurd (none_not v k)
-  refused (step.Test c ∷ xs) s item t v lt k other = by (λ e. refused xs s item t v lt e other) (key_of_test s.slots item c) refl
+module _ (slots : List (Option Tuple)) (item : ℕ) (t : Tuple) (lt : item < length slots) where
+  set : List (Option Tuple)
+  set = slice_set slots item (Some t)
+
+  -- the first column of the item is the first value of the tuple
+  first_known : (r : Ref) → same_column (first_column item) r ≡ true → known set r ≡ slice_get t.vals 0
+  unfolding set
+  first_known r e =
+      let p = and_parts (nat_eq item r.item) (nat_eq 0 r.col) e in
+      ap (λ i. option_and_then (λ u. slice_get u.vals r.col) (slot_at set i)) (sym (eqb-true item r.item p.0))
+      ∙ ap (option_and_then (λ u. slice_get u.vals r.col)) (set_here slots item t lt)
+      ∙ ap (slice_get t.vals) (sym (eqb-true 0 r.col p.1))
+
+  -- a test that asks for a key holds exactly where the tuple has it
+  left_holds : (c : Cond) (v : Value) → asks_on_left item c ≡ true → known_operand slots c.right ≡ Some v → must_hold set c ≡ key_is (Some v) t
+  unfolding set
+  left_holds c v asks k =
+      let p = and_parts (is_equality c.cmp) (same_column (first_column item) c.left && names_another item c.right) asks in
+      let q = and_parts (same_column (first_column item) c.left) (names_another item c.right) p.1 in
+      ap (λ cmp. compare_so cmp (known set c.left) (known_operand set c.right)) (equality c.cmp p.0)
+      ∙ ap (λ o. compare_so Eq (known set c.left) o) (other_known slots item t c.right q.1 ∙ k)
+      ∙ ap (λ o. compare_so Eq o (Some v)) (first_known c.left q.0)
+
+  right_known : (o : Operand) → is_column (first_column item) o ≡ true → known_operand set o ≡ slice_get t.vals 0
+  right_known (Col r) e = first_known r e
+  right_known (Lit v) e = absurd (true≢false (sym e))
+
+  right_holds : (c : Cond) (v : Value) → asks_on_right item c ≡ true → known slots c.left ≡ Some v → must_hold set c ≡ key_is (Some v) t
+  unfolding set
+  right_holds c v asks k =
+      let p = and_parts (is_equality c.cmp) (is_column (first_column item) c.right && not (nat_eq c.left.item item)) asks in
+      let q = and_parts (is_column (first_column item) c.right) (not (nat_eq c.left.item item)) p.1 in
+      ap (λ cmp. compare_so cmp (known set c.left) (known_operand set c.right)) (equality c.cmp p.0)
+      ∙ ap (λ o. compare_so Eq o (known_operand set c.right)) (ap (option_and_then (λ u. slice_get u.vals c.left.col)) (set_elsewhere slots item c.left.item t (turned_off (nat_eq c.left.item item) q.1)) ∙ k)
+      ∙ ap (compare_so Eq (Some v)) (right_known c.right q.0)
+      ∙ other_way v (slice_get t.vals 0)
+
+  test_holds : (c : Cond) (v : Value) → key_of_test slots item c ≡ Some v → must_hold set c ≡ key_is (Some v) t
+  test_holds c v e = by (asks_on_left item c) refl (asks_on_right item c) refl
     where
-      set : Reached
-      set = with_slot s item t
+      on_right : asks_on_left item c ≡ false → cond (asks_on_right item c) (known slots c.left) None ≡ Some v
+      on_right p = sym (cond-false (asks_on_left item c) (known_operand slots c.right) (cond (asks_on_right item c) (known slots c.left) None) p) ∙ e
 
-      tested : (b : Bool) → must_hold set.slots c ≡ b → (b ≡ true → rows_from sight taken xs set ≡ []) → flat_map (rows_from sight taken xs) (option_list (reached_if b set)) ≡ []
-      tested true m rest = ap (λ (x : List (List Value)). x ++ []) (rest refl)
-      tested false m rest = refl
+      by : (a : Bool) → asks_on_left item c ≡ a → (b : Bool) → asks_on_right item c ≡ b → must_hold set c ≡ key_is (Some v) t
+      by true p b q = left_holds c v p (sym (cond-true (asks_on_left item c) (known_operand slots c.right) (cond (asks_on_right item c) (known slots c.left) None) p) ∙ e)
+      by false p true q = right_holds c v q (sym (cond-true (asks_on_right item c) (known slots c.left) None q) ∙ on_right p)
+      by false p false q = absurd (none_not v (sym (cond-false (asks_on_right item c) (known slots c.left) None q) ∙ on_right p))
 
-      by : (key_behind s.slots item xs ≡ Some v → rows_from sight taken xs set ≡ []) → (o : Option Value) → key_of_test s.slots item c ≡ o → rows_from sight taken (step.Test c ∷ xs) set ≡ []
+  -- the tests refuse a tuple that has another key than they ask for
+  refused : (xs : List Step) (v : Value) → key_behind slots item xs ≡ Some v → key_is (Some v) t ≡ false → tests_hold set xs ≡ false
+  refused [] v k other = absurd (none_not v k)
+  refused (step.Test c ∷ xs) v k other = by (λ e. refused xs v e other) (key_of_test slots item c) refl
+    where
+      none : (b : Bool) → (b && false) ≡ false
+      none true = refl
+      none false = refl
+
+      by : (key_behind slots item xs ≡ Some v → tests_hold set xs ≡ false) → (o : Option Value) → key_of_test slots item c ≡ o → (must_hold set c && tests_hold set xs) ≡ false
       by rest (Some w) e =
-          let a = test_asks s.slots item c w e in
-          let same : w ≡ v = first (sym (ap (λ o. first_there o (key_behind s.slots item xs)) e) ∙ k) in
-          ap (λ b. flat_map (rows_from sight taken xs) (option_list (reached_if b set)))
-          (asked_holds s.slots item t c w lt a.0 a.1 ∙ ap (λ x. key_is (Some x) t) same ∙ other)
+          let same : w ≡ v = first (sym (ap (λ o. first_there o (key_behind slots item xs)) e) ∙ k) in
+          ap (λ b. b && tests_hold set xs) (test_holds c w e ∙ ap (λ x. key_is (Some x) t) same ∙ other)
         where
           first : {a b : Value} → Some a ≡ Some b → a ≡ b
           first e = cc
-      by rest None e = tested (must_hold set.slots c) refl (λ _. rest (sym (ap (λ o. first_there o (key_behind s.slots item xs)) e) ∙ k))
-  refused (step.User a ∷ xs) s item t v lt k other = absurd (none_not v k)
-  refused (step.Start a ∷ xs) s item t v lt k other = absurd (none_not v k)
-  refused (step.Edge a b ∷ xs) s item t v lt k other = absurd (none_not v k)
-  refused (step.Differ a b d ∷ xs) s item t v lt k other = absurd (none_not v k)
-  refused (step.Pos a b ∷ xs) s item t v lt k other = absurd (none_not v k)
-  refused (step.Bind a b d ∷ xs) s item t v lt k other = absurd (none_not v k)
-  refused (step.Neg a b ∷ xs) s item t v lt k other = absurd (none_not v k)
+      by rest None e = ap (λ b. must_hold set c && b) (rest (sym (ap (λ o. first_there o (key_behind slots item xs)) e) ∙ k)) ∙ none (must_hold set c)
+  refused (step.User a ∷ xs) v k other = absurd (none_not v k)
+  refused (step.Start a ∷ xs) v k other = absurd (none_not v k)
+  refused (step.Edge a b ∷ xs) v k other = absurd (none_not v k)
+  refused (step.Differ a b d ∷ xs) v k other = absurd (none_not v k)
+  refused (step.Pos a b ∷ xs) v k other = absurd (none_not v k)
+  refused (step.Bind a b d ∷ xs) v k other = absurd (none_not v k)
+  refused (step.Neg a b ∷ xs) v k other = absurd (none_not v k)
+
+  pub key_refused : (xs : List Step) (v : Value) → key_behind slots item xs ≡ Some v → key_is (Some v) t ≡ false → passes slots item xs t ≡ false
+  unfolding set
+  key_refused xs v k other = refused xs v k other
+
+-- among the tuples of the key that is asked for are all that the tests let through
+pub key_passes : (slots : List (Option Tuple)) (item : ℕ) (xs : List Step) (v : Value) (pool : List Tuple) → Some v ≡ key_asked slots item xs
+    → filter (passes slots item xs) (of_key (Some v) pool) ≡ filter (passes slots item xs) pool
+key_passes slots item xs v pool asked = by (nat_lt item (length slots)) refl
+  where
+    below : nat_lt item (length slots) ≡ true → item < length slots
+    below e = grind (arith, nat_tests)
+
+    by : (b : Bool) → nat_lt item (length slots) ≡ b → filter (passes slots item xs) (of_key (Some v) pool) ≡ filter (passes slots item xs) pool
+    by true e = sym (filter_narrow (passes slots item xs) (key_is (Some v)) pool (λ t p. kept t p (key_is (Some v) t) refl))
+      where
+        kept : (t : Tuple) → passes slots item xs t ≡ true → (b : Bool) → key_is (Some v) t ≡ b → key_is (Some v) t ≡ true
+        kept t p true k = k
+        kept t p false k = absurd (true≢false (sym p ∙ key_refused slots item t (below e) xs v (sym (asked ∙ cond-true (nat_lt item (length slots)) (key_behind slots item xs) None e)) k))
+    by false e = absurd (none_not v (sym (asked ∙ cond-false (nat_lt item (length slots)) (key_behind slots item xs) None e)))
+
+module _ (sight : Sight) (taken : List Ref) where
+  -- where a test refuses what is chosen, no rows come of the steps
+  untested : (xs : List Step) (z : Reached) → tests_hold z.slots xs ≡ false → rows_from sight taken xs z ≡ []
+  untested [] z e = absurd (true≢false e)
+  untested (step.Test c ∷ xs) z e = by (must_hold z.slots c) refl (λ h. untested xs z h)
+    where
+      by : (b : Bool) → must_hold z.slots c ≡ b → (tests_hold z.slots xs ≡ false → rows_from sight taken xs z ≡ []) → flat_map (rows_from sight taken xs) (option_list (reached_if b z)) ≡ []
+      by true m rest = ap (λ (x : List (List Value)). x ++ []) (rest (sym (ap (λ b. b && tests_hold z.slots xs) m) ∙ e))
+      by false m rest = refl
+  untested (step.User a ∷ xs) z e = absurd (true≢false e)
+  untested (step.Start a ∷ xs) z e = absurd (true≢false e)
+  untested (step.Edge a b ∷ xs) z e = absurd (true≢false e)
+  untested (step.Differ a b d ∷ xs) z e = absurd (true≢false e)
+  untested (step.Pos a b ∷ xs) z e = absurd (true≢false e)
+  untested (step.Bind a b d ∷ xs) z e = absurd (true≢false e)
+  untested (step.Neg a b ∷ xs) z e = absurd (true≢false e)
 
   -- ---- pools
 
-  narrowed : (F : Tuple → List (List Value)) (p : Tuple → Bool) (pool : List Tuple) → ((t : Tuple) → p t ≡ false → F t ≡ []) → flat_map F (filter p pool) ≡ flat_map F pool
-  narrowed F p [] h = refl
-  narrowed F p (t ∷ pool) h = by (narrowed F p pool h) (p t) refl
+  narrowed_rows : (F : Tuple → List (List Value)) (p : Tuple → Bool) (pool : List Tuple) → ((t : Tuple) → p t ≡ false → F t ≡ []) → flat_map F (filter p pool) ≡ flat_map F pool
+  narrowed_rows F p [] h = refl
+  narrowed_rows F p (t ∷ pool) h = by (narrowed_rows F p pool h) (p t) refl
     where
       by : flat_map F (filter p pool) ≡ flat_map F pool → (b : Bool) → p t ≡ b → flat_map F (cond b (t ∷ filter p pool) (filter p pool)) ≡ F t ++ flat_map F pool
       by rest true e = ap (λ (x : List (List Value)). F t ++ x) rest
       by rest false e = rest ∙ sym (ap (λ (x : List (List Value)). x ++ flat_map F pool) (h t e))
 
-  key_narrows : (xs : List Step) (s : Reached) (item : ℕ) (pool : List Tuple) → flat_map (λ t. rows_from sight taken xs (with_slot s item t)) (of_key (key_asked s.slots item xs) pool)
+  tests_narrow : (xs : List Step) (s : Reached) (item : ℕ) (pool : List Tuple) → flat_map (λ t. rows_from sight taken xs (with_slot s item t)) (filter (passes s.slots item xs) pool)
       ≡ flat_map (λ t. rows_from sight taken xs (with_slot s item t)) pool
-  key_narrows xs s item pool = by (nat_lt item (length s.slots)) refl
-    where
-      F : Tuple → List (List Value)
-      F t = rows_from sight taken xs (with_slot s item t)
-
-      below : nat_lt item (length s.slots) ≡ true → item < length s.slots
-      below e = grind (arith, nat_tests)
-
-      asked : (o : Option Value) → key_behind s.slots item xs ≡ o → item < length s.slots → flat_map F (of_key o pool) ≡ flat_map F pool
-      asked None e lt = refl
-      asked (Some v) e lt = narrowed F (key_is (Some v)) pool (λ t other. refused xs s item t v lt e other)
-
-      by : (b : Bool) → nat_lt item (length s.slots) ≡ b → flat_map F (of_key (cond b (key_behind s.slots item xs) None) pool) ≡ flat_map F pool
-      by true e = asked (key_behind s.slots item xs) refl (below e)
-      by false e = refl
+  tests_narrow xs s item pool = narrowed_rows (λ t. rows_from sight taken xs (with_slot s item t)) (passes s.slots item xs) pool (λ t e. untested xs (with_slot s item t) e)
 
   chosen_rows : (xs : List Step) (s : Reached) (item : ℕ) (pool : List Tuple) → flat_map (rows_from sight taken xs) (map (with_slot s item) pool) ≡ flat_map (λ t. rows_from sight taken xs (with_slot s item t)) pool
   chosen_rows xs s item [] = refl
@@ -164,74 +226,90 @@ choice_same e = (ap (λ o. (unwrap_or o nothing).0) e, ap (λ o. (unwrap_or o no
 none_chosen : {a : ℕ} {x : List Tuple} → ◌≡◌ {A = Choices} None (some_choices a x) → ⊥
 none_chosen e = cc
 
--- where a step chooses, its rows are those of the choices that the steps behind it don't refuse
+-- where a step chooses, its rows are those of the choices that the tests behind it don't refuse
 pub choice_before : (sight : Sight) (taken : List Ref) (s : Reached) (x : Step) (xs : List Step) (item : ℕ) (pool : List Tuple) → some_choices item pool ≡ choices_before sight s x xs
     → flat_map (rows_from sight taken xs) (after sight s x) ≡ flat_map (λ t. rows_from sight taken xs (with_slot s item t)) pool
-choice_before sight taken s (step.User a) xs item pool e =
-    let h = choice_same e in
-    chosen_rows sight taken xs s a sight.users
-    ∙ ap (λ i. flat_map (λ t. rows_from sight taken xs (with_slot s i t)) sight.users) (sym h.0)
-    ∙ ap (flat_map (λ t. rows_from sight taken xs (with_slot s item t))) (sym h.1)
-choice_before sight taken s (step.Pos a rel) xs item pool e =
-    let h = choice_same e in
-    let all = plus_tuples (sight.rows s.world rel) in
-    chosen_rows sight taken xs s a all
-    ∙ sym (key_narrows sight taken xs s a all)
-    ∙ ap (λ i. flat_map (λ t. rows_from sight taken xs (with_slot s i t)) (of_key (key_asked s.slots a xs) all)) (sym h.0)
-    ∙ ap (flat_map (λ t. rows_from sight taken xs (with_slot s item t))) (sym h.1)
-choice_before sight taken s (step.Start a) xs item pool e = absurd (none_chosen (sym e))
-choice_before sight taken s (step.Edge a b) xs item pool e = absurd (none_chosen (sym e))
-choice_before sight taken s (step.Differ a b d) xs item pool e = absurd (none_chosen (sym e))
-choice_before sight taken s (step.Bind a b d) xs item pool e = absurd (none_chosen (sym e))
-choice_before sight taken s (step.Neg a b) xs item pool e = absurd (none_chosen (sym e))
-choice_before sight taken s (step.Test c) xs item pool e = absurd (none_chosen (sym e))
+choice_before sight taken s x xs item pool e = by (choices sight s x) e
+  where
+    by : (o : Choices) → some_choices item pool ≡ narrowed s xs o → flat_map (rows_from sight taken xs) (with_choice s o (settled sight s x)) ≡ flat_map (λ t. rows_from sight taken xs (with_slot s item t)) pool
+    by None e = absurd (none_chosen (sym e))
+    by (Some c) e =
+        let h = choice_same e in
+        chosen_rows sight taken xs s c.0 c.1
+        ∙ sym (tests_narrow sight taken xs s c.0 c.1)
+        ∙ ap (λ i. flat_map (λ t. rows_from sight taken xs (with_slot s i t)) (filter (passes s.slots c.0 xs) c.1)) (sym h.0)
+        ∙ ap (flat_map (λ t. rows_from sight taken xs (with_slot s item t))) (sym h.1)
 
 -- ---- reads
 
-fewer_reads : (F : Tuple → ℕ) (p : Tuple → Bool) (pool : List Tuple) → sum_by F (filter p pool) ≤ sum_by F pool
-fewer_reads F p [] = omega arith
-fewer_reads F p (t ∷ pool) = by (fewer_reads F p pool) (p t)
+chosen_looks : (sight : Sight) (xs : List Step) (s : Reached) (item : ℕ) (pool : List Tuple) → sum_by (looks_from sight xs) (map (with_slot s item) pool) ≡ sum_by (λ t. looks_from sight xs (with_slot s item t)) pool
+chosen_looks sight xs s item [] = refl
+chosen_looks sight xs s item (t ∷ pool) =
+    sum_by-cons (looks_from sight xs) (with_slot s item t) (map (with_slot s item) pool)
+    ∙ ap (λ n. looks_from sight xs (with_slot s item t) + n) (chosen_looks sight xs s item pool)
+    ∙ sym (sum_by-cons (λ t. looks_from sight xs (with_slot s item t)) t pool)
+
+pub looks_before : (sight : Sight) (s : Reached) (x : Step) (xs : List Step) (item : ℕ) (pool : List Tuple) → some_choices item pool ≡ choices_before sight s x xs
+    → sum_by (looks_from sight xs) (after_before sight s x xs) ≡ sum_by (λ t. looks_from sight xs (with_slot s item t)) pool
+looks_before sight s x xs item pool e = sym (ap (λ o. sum_by (looks_from sight xs) (with_choice s o (settled sight s x))) e) ∙ chosen_looks sight xs s item pool
+
+module _ (F G : Reached → ℕ) (h : (z : Reached) → F z ≤ G z) where
+  sum_fewer : (zs : List Reached) → sum_by F zs ≤ sum_by G zs
+  sum_fewer [] = omega arith
+  sum_fewer (z ∷ zs) =
+      let a = sum_by-cons F z zs in
+      let b = sum_by-cons G z zs in
+      let one = h z in
+      let rest = sum_fewer zs in
+      omega (arith, a, b, one, rest)
+
+  chosen_fewer : (f : Tuple → Reached) (p : Tuple → Bool) (ts : List Tuple) → sum_by F (map f (filter p ts)) ≤ sum_by G (map f ts)
+  chosen_fewer f p [] = omega arith
+  chosen_fewer f p (t ∷ ts) = by (chosen_fewer f p ts) (p t)
+    where
+      one : F (f t) ≤ G (f t)
+      one = h (f t)
+
+      whole : sum_by G (f t ∷ map f ts) ≡ G (f t) + sum_by G (map f ts)
+      whole = sum_by-cons G (f t) (map f ts)
+
+      kept : sum_by F (f t ∷ map f (filter p ts)) ≡ F (f t) + sum_by F (map f (filter p ts))
+      kept = sum_by-cons F (f t) (map f (filter p ts))
+
+      by : sum_by F (map f (filter p ts)) ≤ sum_by G (map f ts) → (b : Bool) → sum_by F (map f (cond b (t ∷ filter p ts) (filter p ts))) ≤ sum_by G (f t ∷ map f ts)
+      by rest true = omega (arith, one, whole, kept, rest)
+      by rest false = omega (arith, whole, rest)
+
+  after_fewer : (sight : Sight) (s : Reached) (x : Step) (xs : List Step) → sum_by F (after_before sight s x xs) ≤ sum_by G (after sight s x)
+  after_fewer sight s x xs = by (choices sight s x)
+    where
+      by : (o : Choices) → sum_by F (with_choice s (narrowed s xs o) (settled sight s x)) ≤ sum_by G (with_choice s o (settled sight s x))
+      by None = sum_fewer (option_list (settled sight s x))
+      by (Some c) = chosen_fewer (with_slot s c.0) (passes s.slots c.0 xs) c.1
+
+-- the rows of a key are not more than all
+key_fewer : (o : Option Value) (rows : List (Tuple × Sign)) → length (rows_of_key o rows) ≤ length rows
+key_fewer None rows = omega arith
+key_fewer (Some v) rows = length_filter (λ x. key_is (Some v) x.0) rows
+
+own_fewer : (sight : Sight) (s : Reached) (x : Step) (xs : List Step) → own_looks sight s x xs ≤ own_reads sight s x
+own_fewer sight s (step.User a) xs = omega arith
+own_fewer sight s (step.Pos a rel) xs = let fewer = key_fewer (key_asked s.slots a xs) (sight.rows s.world rel) in omega (arith, fewer)
+own_fewer sight s (step.Neg a rel) xs = by (slot_at s.slots a)
   where
-    whole : sum_by F (t ∷ pool) ≡ F t + sum_by F pool
-    whole = sum_by-cons F t pool
+    by : (o : Option Tuple) → 0 + deny_looks (sight.rows s.world rel) o ≤ 0 + (length (sight.rows s.world rel) + 3)
+    by None = omega arith
+    by (Some t) = let fewer = key_fewer (slice_get t.vals 0) (sight.rows s.world rel) in omega (arith, fewer)
+own_fewer sight s (step.Start a) xs = omega arith
+own_fewer sight s (step.Edge a b) xs = omega arith
+own_fewer sight s (step.Differ a b d) xs = omega arith
+own_fewer sight s (step.Bind a b d) xs = omega arith
+own_fewer sight s (step.Test c) xs = omega arith
 
-    more : sum_by F (t ∷ filter p pool) ≡ F t + sum_by F (filter p pool)
-    more = sum_by-cons F t (filter p pool)
-
-    by : sum_by F (filter p pool) ≤ sum_by F pool → (b : Bool) → sum_by F (cond b (t ∷ filter p pool) (filter p pool)) ≤ sum_by F (t ∷ pool)
-    by rest true = omega (arith, whole, more)
-    by rest false = omega (arith, whole)
-
-fewer_of_key : (F : Tuple → ℕ) (o : Option Value) (pool : List Tuple) → sum_by F (of_key o pool) ≤ sum_by F pool
-fewer_of_key F None pool = omega arith
-fewer_of_key F (Some v) pool = fewer_reads F (key_is (Some v)) pool
-
-chosen_reads : (sight : Sight) (xs : List Step) (s : Reached) (item : ℕ) (pool : List Tuple) → sum_by (reads_from sight xs) (map (with_slot s item) pool) ≡ sum_by (λ t. reads_from sight xs (with_slot s item t)) pool
-chosen_reads sight xs s item [] = refl
-chosen_reads sight xs s item (t ∷ pool) =
-    sum_by-cons (reads_from sight xs) (with_slot s item t) (map (with_slot s item) pool)
-    ∙ ap (λ n. reads_from sight xs (with_slot s item t) + n) (chosen_reads sight xs s item pool)
-    ∙ sym (sum_by-cons (λ t. reads_from sight xs (with_slot s item t)) t pool)
-
-pub reads_before : (sight : Sight) (s : Reached) (x : Step) (xs : List Step) (item : ℕ) (pool : List Tuple) → some_choices item pool ≡ choices_before sight s x xs
-    → sum_by (λ t. reads_from sight xs (with_slot s item t)) pool ≤ sum_by (reads_from sight xs) (after sight s x)
-reads_before sight s (step.User a) xs item pool e =
-    let h = choice_same e in
-    subst (λ n. n ≤ sum_by (reads_from sight xs) (map (with_slot s a) sight.users))
-    (chosen_reads sight xs s a sight.users
-    ∙ ap (λ i. sum_by (λ t. reads_from sight xs (with_slot s i t)) sight.users) (sym h.0)
-    ∙ ap (sum_by (λ t. reads_from sight xs (with_slot s item t))) (sym h.1)) (omega arith)
-reads_before sight s (step.Pos a rel) xs item pool e =
-    let h = choice_same e in
-    let all = plus_tuples (sight.rows s.world rel) in
-    let one = chosen_reads sight xs s a all in
-    let two = fewer_of_key (λ t. reads_from sight xs (with_slot s a t)) (key_asked s.slots a xs) all in
-    subst (λ n. n ≤ sum_by (reads_from sight xs) (map (with_slot s a) all))
-    (ap (λ i. sum_by (λ t. reads_from sight xs (with_slot s i t)) (of_key (key_asked s.slots a xs) all)) (sym h.0)
-    ∙ ap (sum_by (λ t. reads_from sight xs (with_slot s item t))) (sym h.1)) (omega (arith, one, two))
-reads_before sight s (step.Start a) xs item pool e = absurd (none_chosen (sym e))
-reads_before sight s (step.Edge a b) xs item pool e = absurd (none_chosen (sym e))
-reads_before sight s (step.Differ a b d) xs item pool e = absurd (none_chosen (sym e))
-reads_before sight s (step.Bind a b d) xs item pool e = absurd (none_chosen (sym e))
-reads_before sight s (step.Neg a b) xs item pool e = absurd (none_chosen (sym e))
-reads_before sight s (step.Test c) xs item pool e = absurd (none_chosen (sym e))
+-- an execution reads not more often than each step by itself
+pub fewer_looks : (sight : Sight) (xs : List Step) (s : Reached) → looks_from sight xs s ≤ reads_from sight xs s
+fewer_looks sight [] s = omega arith
+fewer_looks sight (x ∷ xs) s =
+    let own = own_fewer sight s x xs in
+    let rest = after_fewer (looks_from sight xs) (reads_from sight xs) (λ z. fewer_looks sight xs z) sight s x xs in
+    omega (arith, own, rest)

@@ -1,4 +1,5 @@
 mod LookLemmas
+mod MemoLemmas
 mod SpelledLemmas
 pub mod TypedLemmas
 mod KeyLemmas

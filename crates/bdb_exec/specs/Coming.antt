@@ -7,8 +7,9 @@ use Rattle.bdb_base.specs.declared.tuple.Tuple.{Tuple}
 use Rattle.bdb_base.specs.Queries.{option_list}
 use Rattle.bdb_queries.specs.Slots.{known_row}
 use Rattle.bdb_plan.specs.declared.step.Step.{Step}
-use Rattle.bdb_plan.specs.Running.{Reached, with_slot, rows_from, reads_from}
+use Rattle.bdb_plan.specs.Running.{Reached, with_slot, rows_from}
 use Rattle.bdb_plan.specs.Sight.{Sight}
+use Rattle.bdb_exec.specs.LookUps.{looks_from}
 use Rattle.bdb_exec.specs.declared.running.Came.{Came}
 use Rattle.bdb_exec.specs.declared.running.Came.TheVariants.{Nothing, End, Choice}
 
@@ -17,8 +18,8 @@ abbrev pub rows_with : Sight → List Ref → List Step → Reached → ℕ → 
 rows_with sight take steps s item t = rows_from sight take steps (with_slot s item t)
 
 -- how often steps read at most once a tuple is chosen
-abbrev pub reads_with : Sight → List Step → Reached → ℕ → Tuple → ℕ
-reads_with sight steps s item t = reads_from sight steps (with_slot s item t)
+abbrev pub looks_with : Sight → List Step → Reached → ℕ → Tuple → ℕ
+looks_with sight steps s item t = looks_from sight steps (with_slot s item t)
 
 -- the rows that come of where steps came to
 abbrev pub came_rows : Sight → List Ref → List Step → Came → List (List Value)
@@ -27,9 +28,9 @@ came_rows sight take steps (End s) = option_list (known_row s.slots take)
 came_rows sight take steps (Choice done item pool s) = flat_map (rows_with sight take (drop done steps) s item) pool
 
 -- how often is read at most from there on
-abbrev pub came_reads : Sight → List Step → Came → ℕ
-came_reads sight steps (Choice done item pool s) = sum_by (reads_with sight (drop done steps) s item) pool
-came_reads sight steps _ = 0
+abbrev pub came_looks : Sight → List Step → Came → ℕ
+came_looks sight steps (Choice done item pool s) = sum_by (looks_with sight (drop done steps) s item) pool
+came_looks sight steps _ = 0
 
 -- the rows of steps are those of where they came to
 abbrev pub ComesTo : Sight → List Step → Reached → Came → Type 0

@@ -2,6 +2,8 @@ pub mod Spelled
 pub mod Seen
 pub mod Readable
 pub mod Keys
+pub mod LookUps
+pub mod Memos
 pub mod Looks
 pub mod Coming
 pub mod Rows

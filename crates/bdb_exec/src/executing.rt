@@ -4,11 +4,13 @@ ghost use Rattle.std.specs.Result.{IsErrOf};
 ghost use Rattle.bdb_base.specs.Limits.{most_lines};
 ghost use Rattle.bdb_queries.specs.Limits.{up_to};
 ghost use Rattle.bdb_plan.specs.Running.{meaning_of, reads_from, start_of};
+ghost use Rattle.bdb_exec.specs.LookUps.{looks_from};
 ghost use Rattle.bdb_exec.specs.Looks.{Looks, IsExecuted};
 ghost use Rattle.bdb_exec.specs.Readable.{CanBeRun};
 ghost use Rattle.bdb_exec.specs.Seen.{sight_of};
 
 use crate::errors::ExecError;
+use crate::memo::Memo;
 use crate::running::run;
 use crate::state::State;
 use bdb_base::limits::MOST_LINES;
@@ -23,8 +25,9 @@ use std::alloc::Global;
 pub type Rows = List<List<Value>>;
 
 /// The rows that a plan means over what the tables of a keeper show: in order, each once. `TooMany` comes exactly where
-/// there are more than an answer may have. A user, and a row of the world that a walk comes to, is read for each choice
-/// made before it.
+/// there are more than an answer may have. Of a world it reads the rows of a relation, or of one key where the tests behind
+/// the choice ask for a key. Users, edges, the tuples of a whole relation in a world, and each tuple that was decoded are remembered
+/// until the end; rows of a key are read at each choice.
 pub fn execute<K: Keeper>(alloc: Global, keeper: &mut K, plan: &Plan) -> Result<Rows, ExecError>
     requires run { CanBeRun (K.seen keeper.old).kept }
     ensures rows { IfOk result (λ rows. rows ≡ meaning_of (sight_of (K.seen keeper.old).kept) plan.now) }
@@ -32,6 +35,8 @@ pub fn execute<K: Keeper>(alloc: Global, keeper: &mut K, plan: &Plan) -> Result<
     ensures many { IsErrOf result ExecError.TooMany → most_lines < length (meaning_of (sight_of (K.seen keeper.old).kept) plan.now) }
     ensures reads { OnOk result ((K.seen keeper.new).reads ≤ (K.seen keeper.old).reads + reads_from (sight_of (K.seen keeper.old).kept) plan.now.steps (start_of plan.now.items)) }
     ensures reads_many { IsErrOf result ExecError.TooMany → (K.seen keeper.new).reads ≤ (K.seen keeper.old).reads + reads_from (sight_of (K.seen keeper.old).kept) plan.now.steps (start_of plan.now.items) }
+    ensures few_reads { OnOk result ((K.seen keeper.new).reads ≤ (K.seen keeper.old).reads + looks_from (sight_of (K.seen keeper.old).kept) plan.now.steps (start_of plan.now.items)) }
+    ensures few_reads_many { IsErrOf result ExecError.TooMany → (K.seen keeper.new).reads ≤ (K.seen keeper.old).reads + looks_from (sight_of (K.seen keeper.old).kept) plan.now.steps (start_of plan.now.items) }
     ensures execution { IsExecuted (K.seen keeper.old) (K.seen keeper.new) result }
 {
     match rows_up_to(alloc, keeper, plan, MOST_LINES) {
@@ -51,7 +56,7 @@ fn rows_up_to<K: Keeper>(
 ) -> Result<Option<Rows>, TabError>
     requires run { CanBeRun (K.seen keeper.old).kept }
     ensures rows { IfOk result (λ rows. rows ≡ up_to most (meaning_of (sight_of (K.seen keeper.old).kept) plan.now)) }
-    ensures reads { OnOk result ((K.seen keeper.new).reads ≤ (K.seen keeper.old).reads + reads_from (sight_of (K.seen keeper.old).kept) plan.now.steps (start_of plan.now.items)) }
+    ensures reads { OnOk result ((K.seen keeper.new).reads ≤ (K.seen keeper.old).reads + looks_from (sight_of (K.seen keeper.old).kept) plan.now.steps (start_of plan.now.items)) }
     ensures looks { Looks (K.seen keeper.old) (K.seen keeper.new) result TabError.Fault }
 {
     let state = match State::start(alloc, plan.items()) {
@@ -62,7 +67,16 @@ fn rows_up_to<K: Keeper>(
         }
     };
     let mut found = Found::new(alloc, most);
-    match run(alloc, keeper, plan.steps(), plan.take(), state, &mut found) {
+    let mut memo = Memo::new(alloc);
+    match run(
+        alloc,
+        keeper,
+        &mut memo,
+        plan.steps(),
+        plan.take(),
+        state,
+        &mut found,
+    ) {
         Ok(()) => {}
         Err(error) => return Err(error),
     }

@@ -6,9 +6,13 @@ mod executing;
 mod keys;
 pub mod laws;
 mod looking;
+mod memo;
+mod passing;
 mod reading;
 mod running;
 mod settling;
+mod shared;
+mod slots;
 mod state;
 
 pub use errors::ExecError;

@@ -11,27 +11,29 @@ ghost use Rattle.bdb_plan.specs.Running.{plus_tuples};
 ghost use Rattle.bdb_plan.specs.Sight.{rows_deny};
 ghost use Rattle.bdb_tables.specs.Codec.{HasRow};
 ghost use Rattle.bdb_tables.specs.InUse.{tuple_codec};
-ghost use Rattle.bdb_exec.specs.Keys.{of_key};
+ghost use Rattle.bdb_exec.specs.Keys.{of_key, rows_of_key};
+ghost use Rattle.bdb_exec.specs.LookUps.{deny_looks};
 ghost use Rattle.bdb_exec.specs.Looks.{Looks};
+ghost use Rattle.bdb_exec.specs.Memos.{Recalls};
 ghost use Rattle.bdb_exec.specs.Readable.{CanBeRun};
 ghost use Rattle.bdb_exec.specs.Rows.{HasTuple, IsNumberOf, HasPushed, signed_at, mark_denies, is_written, world_prefix, key_prefix};
 ghost use Rattle.bdb_exec.specs.Seen.{sight_of, signed_under};
 
+use crate::memo::{Memo, keep_tuple};
+use crate::shared::Shared;
 use bdb_base::limits::LONGEST_TEXT;
-use bdb_base::{List, Sign, Tuple, Txt, Value};
+use bdb_base::{Exact, List, Sign, Tuple, Txt, Value};
 use bdb_keep::Keeper;
 use bdb_key::{put_num, put_value};
 use bdb_queries::user_tuple;
-use bdb_tables::{
-    EdgeTab, Room, TabError, TupleIx, TupleTab, UserTab, get, numbered_under, rows_under,
-};
+use bdb_tables::{EdgeTab, TabError, TupleIx, TupleTab, UserTab, get, numbered_under, rows_under};
 use std::alloc::{AllocError, Global};
 
 // Most beginnings of keys have at most as many bytes.
 const PREFIX_ROOM: usize = 64;
 
 /// The users, by number. One read more than there are users.
-pub fn users<K: Keeper>(alloc: Global, keeper: &mut K) -> Result<List<Tuple>, TabError>
+pub fn users<K: Keeper>(alloc: Global, keeper: &mut K) -> Result<List<Shared>, TabError>
     requires run { CanBeRun (K.seen keeper.old).kept }
     ensures users { IfOk result (λ users. users ≡ (sight_of (K.seen keeper.old).kept).users) }
     ensures reads { OnOk result ((K.seen keeper.new).reads ≤ (K.seen keeper.old).reads + (length (sight_of (K.seen keeper.old).kept).users + 1)) }
@@ -51,32 +53,47 @@ pub fn users<K: Keeper>(alloc: Global, keeper: &mut K) -> Result<List<Tuple>, Ta
 }
 
 // The users of rows.
-fn users_of(alloc: Global, entries: &[(u32, Txt)]) -> Result<List<Tuple>, AllocError>
+fn users_of(alloc: Global, entries: &[(u32, Txt)]) -> Result<List<Shared>, AllocError>
     ensures { IfOk result (λ users. users ≡ map (λ e. user_tuple e.0 e.1) entries.now) }
 {
     let mut users = List::new(alloc);
     for entry in entries {
-        users.push(user_tuple(alloc, entry.0, &entry.1)?)?;
+        let tuple = user_tuple(alloc, entry.0, &entry.1)?;
+        users.push(Shared::new(alloc, tuple)?)?;
     }
     Ok(users)
 }
 
-/// Where the edge of a world for a user leads. One read.
+/// Where the edge of a world for a user leads. One read, the first time.
 pub fn edge<K: Keeper>(
     alloc: Global,
     keeper: &mut K,
+    memo: &mut Memo,
     world: u32,
     uid: u32,
 ) -> Result<Option<u32>, TabError>
     requires run { CanBeRun (K.seen keeper.old).kept }
+    requires memo { Recalls (K.seen keeper.old).kept memo.old }
     ensures target { IfOk result (λ target. target ≡ (sight_of (K.seen keeper.old).kept).edge world uid) }
     ensures reads { OnOk result ((K.seen keeper.new).reads ≤ (K.seen keeper.old).reads + 1) }
+    ensures memo { OnOk result (Recalls (K.seen keeper.old).kept memo.new) }
     ensures looks { Looks (K.seen keeper.old) (K.seen keeper.new) result TabError.Fault }
 {
     let key = (world, uid);
-    match get::<EdgeTab, K>(alloc, keeper, &key) {
-        Ok(target) => Ok(target),
-        Err(error) => Err(error),
+    match memo.edges.get(&key) {
+        Some(target) => return Ok(*target),
+        None => {}
+    }
+    let target = match get::<EdgeTab, K>(alloc, keeper, &key) {
+        Ok(target) => target,
+        Err(error) => return Err(error),
+    };
+    match memo.edges.insert(key, target) {
+        Ok(_) => Ok(target),
+        Err(_) => {
+            keeper.undo();
+            Err(TabError::Memory)
+        }
     }
 }
 
@@ -85,12 +102,15 @@ pub fn edge<K: Keeper>(
 pub fn plus_tuples<K: Keeper>(
     alloc: Global,
     keeper: &mut K,
+    memo: &mut Memo,
     world: u32,
     rel: u32,
-) -> Result<List<Tuple>, TabError>
+) -> Result<List<Shared>, TabError>
     requires run { CanBeRun (K.seen keeper.old).kept }
+    requires memo { Recalls (K.seen keeper.old).kept memo.old }
     ensures tuples { IfOk result (λ tuples. tuples ≡ plus_tuples ((sight_of (K.seen keeper.old).kept).rows world rel)) }
     ensures reads { OnOk result ((K.seen keeper.new).reads ≤ (K.seen keeper.old).reads + (2 * length ((sight_of (K.seen keeper.old).kept).rows world rel) + 1)) }
+    ensures memo { OnOk result (Recalls (K.seen keeper.old).kept memo.new) }
     ensures looks { Looks (K.seen keeper.old) (K.seen keeper.new) result TabError.Fault }
 {
     let mut prefix = Vec::new(alloc);
@@ -98,23 +118,26 @@ pub fn plus_tuples<K: Keeper>(
         keeper.undo();
         return Err(TabError::Memory);
     }
-    match plus_under(alloc, keeper, prefix.as_slice()) {
+    match plus_under(alloc, keeper, memo, prefix.as_slice()) {
         Ok(tuples) => Ok(tuples),
         Err(error) => Err(error),
     }
 }
 
-/// As `plus_tuples`, but only the tuples whose first value is this one.
+/// As `plus_tuples`, but only the tuples whose first value is this one, and only their rows are read.
 pub fn plus_tuples_of_key<K: Keeper>(
     alloc: Global,
     keeper: &mut K,
+    memo: &mut Memo,
     world: u32,
     rel: u32,
     key: &Value,
-) -> Result<List<Tuple>, TabError>
+) -> Result<List<Shared>, TabError>
     requires run { CanBeRun (K.seen keeper.old).kept }
+    requires memo { Recalls (K.seen keeper.old).kept memo.old }
     ensures tuples { IfOk result (λ tuples. tuples ≡ of_key (Some key.now) (plus_tuples ((sight_of (K.seen keeper.old).kept).rows world rel))) }
-    ensures reads { OnOk result ((K.seen keeper.new).reads ≤ (K.seen keeper.old).reads + (2 * length ((sight_of (K.seen keeper.old).kept).rows world rel) + 1)) }
+    ensures reads { OnOk result ((K.seen keeper.new).reads ≤ (K.seen keeper.old).reads + (2 * length (rows_of_key (Some key.now) ((sight_of (K.seen keeper.old).kept).rows world rel)) + 1)) }
+    ensures memo { OnOk result (Recalls (K.seen keeper.old).kept memo.new) }
     ensures looks { Looks (K.seen keeper.old) (K.seen keeper.new) result TabError.Fault }
 {
     if !is_written(key) {
@@ -125,7 +148,7 @@ pub fn plus_tuples_of_key<K: Keeper>(
         keeper.undo();
         return Err(TabError::Memory);
     }
-    match plus_under(alloc, keeper, prefix.as_slice()) {
+    match plus_under(alloc, keeper, memo, prefix.as_slice()) {
         Ok(tuples) => Ok(tuples),
         Err(error) => Err(error),
     }
@@ -135,19 +158,21 @@ pub fn plus_tuples_of_key<K: Keeper>(
 fn plus_under<K: Keeper>(
     alloc: Global,
     keeper: &mut K,
+    memo: &mut Memo,
     prefix: &[u8],
-) -> Result<List<Tuple>, TabError>
+) -> Result<List<Shared>, TabError>
     requires run { CanBeRun (K.seen keeper.old).kept }
+    requires memo { Recalls (K.seen keeper.old).kept memo.old }
     ensures tuples { IfOk result (λ tuples. tuples ≡ plus_tuples (signed_under (K.seen keeper.old).kept prefix.now)) }
     ensures reads { OnOk result ((K.seen keeper.new).reads ≤ (K.seen keeper.old).reads + (2 * length (signed_under (K.seen keeper.old).kept prefix.now) + 1)) }
+    ensures memo { OnOk result (Recalls (K.seen keeper.old).kept memo.new) }
     ensures looks { Looks (K.seen keeper.old) (K.seen keeper.new) result TabError.Fault }
 {
-    let mut room = Room::new(alloc);
-    let entries = match numbered_under(alloc, keeper, prefix, &mut room) {
+    let entries = match numbered_under(alloc, keeper, prefix, &mut memo.room) {
         Ok(entries) => entries,
         Err(error) => return Err(error),
     };
-    match plus_of(alloc, keeper, entries.as_slice()) {
+    match plus_of(alloc, keeper, memo, entries.as_slice()) {
         Ok(tuples) => Ok(tuples),
         Err(error) => Err(error),
     }
@@ -157,17 +182,20 @@ fn plus_under<K: Keeper>(
 fn plus_of<K: Keeper>(
     alloc: Global,
     keeper: &mut K,
+    memo: &mut Memo,
     entries: &[(u32, (Sign, bool))],
-) -> Result<List<Tuple>, TabError>
+) -> Result<List<Shared>, TabError>
     requires run { CanBeRun (K.seen keeper.old).kept }
+    requires memo { Recalls (K.seen keeper.old).kept memo.old }
     requires there { AllByRecursion (HasTuple (K.seen keeper.old).kept) entries.now }
     ensures tuples { IfOk result (λ tuples. tuples ≡ plus_tuples (map (signed_at (K.seen keeper.old).kept) entries.now)) }
     ensures reads { OnOk result ((K.seen keeper.new).reads ≤ (K.seen keeper.old).reads + length entries.now) }
+    ensures memo { OnOk result (Recalls (K.seen keeper.old).kept memo.new) }
     ensures looks { Looks (K.seen keeper.old) (K.seen keeper.new) result TabError.Fault }
 {
     let mut tuples = List::new(alloc);
     for entry in entries {
-        match push_plus(alloc, keeper, entry.0, entry.1.0, &mut tuples) {
+        match push_plus(alloc, keeper, memo, entry.0, entry.1.0, &mut tuples) {
             Ok(()) => {}
             Err(error) => return Err(error),
         }
@@ -179,18 +207,21 @@ fn plus_of<K: Keeper>(
 fn push_plus<K: Keeper>(
     alloc: Global,
     keeper: &mut K,
+    memo: &mut Memo,
     tid: u32,
     sign: Sign,
-    tuples: &mut List<Tuple>,
+    tuples: &mut List<Shared>,
 ) -> Result<(), TabError>
     requires run { CanBeRun (K.seen keeper.old).kept }
+    requires memo { Recalls (K.seen keeper.old).kept memo.old }
     requires there { (u : Tuple) × HasRow tuple_codec (K.seen keeper.old).kept tid u }
     ensures pushed { OnOk result (HasPushed (K.seen keeper.old).kept tid sign tuples.old tuples.new) }
     ensures reads { OnOk result ((K.seen keeper.new).reads ≤ (K.seen keeper.old).reads + 1) }
+    ensures memo { OnOk result (Recalls (K.seen keeper.old).kept memo.new) }
     ensures looks { Looks (K.seen keeper.old) (K.seen keeper.new) result TabError.Fault }
 {
     match sign {
-        Sign::Plus => match tuple_of(alloc, keeper, tid) {
+        Sign::Plus => match tuple_of(alloc, keeper, memo, tid) {
             Ok(tuple) => {
                 if tuples.push(tuple).is_err() {
                     keeper.undo();
@@ -204,8 +235,48 @@ fn push_plus<K: Keeper>(
     }
 }
 
-// The tuple of a number that has one. One read.
-fn tuple_of<K: Keeper>(alloc: Global, keeper: &mut K, tid: u32) -> Result<Tuple, TabError>
+// The tuple of a number that has one, read and decoded where it wasn't yet. One read, the first time.
+fn tuple_of<K: Keeper>(
+    alloc: Global,
+    keeper: &mut K,
+    memo: &mut Memo,
+    tid: u32,
+) -> Result<Shared, TabError>
+    requires run { CanBeRun (K.seen keeper.old).kept }
+    requires memo { Recalls (K.seen keeper.old).kept memo.old }
+    requires there { (u : Tuple) × HasRow tuple_codec (K.seen keeper.old).kept tid u }
+    ensures tuple { IfOk result (λ tuple. HasRow tuple_codec (K.seen keeper.old).kept tid tuple) }
+    ensures reads { OnOk result ((K.seen keeper.new).reads ≤ (K.seen keeper.old).reads + 1) }
+    ensures memo { OnOk result (Recalls (K.seen keeper.old).kept memo.new) }
+    ensures looks { Looks (K.seen keeper.old) (K.seen keeper.new) result TabError.Fault }
+{
+    match memo.tuples.get(&tid) {
+        Some(shared) => {
+            return match shared.try_clone(alloc) {
+                Ok(tuple) => Ok(tuple),
+                Err(_) => {
+                    keeper.undo();
+                    Err(TabError::Memory)
+                }
+            };
+        }
+        None => {}
+    }
+    let tuple = match read_tuple(alloc, keeper, tid) {
+        Ok(tuple) => tuple,
+        Err(error) => return Err(error),
+    };
+    match keep_tuple(alloc, &mut memo.tuples, tid, tuple) {
+        Ok(shared) => Ok(shared),
+        Err(_) => {
+            keeper.undo();
+            Err(TabError::Memory)
+        }
+    }
+}
+
+// The tuple of a number that has one, from its row. One read.
+fn read_tuple<K: Keeper>(alloc: Global, keeper: &mut K, tid: u32) -> Result<Tuple, TabError>
     requires run { CanBeRun (K.seen keeper.old).kept }
     requires there { (u : Tuple) × HasRow tuple_codec (K.seen keeper.old).kept tid u }
     ensures tuple { IfOk result (λ tuple. HasRow tuple_codec (K.seen keeper.old).kept tid tuple) }
@@ -220,20 +291,23 @@ fn tuple_of<K: Keeper>(alloc: Global, keeper: &mut K, tid: u32) -> Result<Tuple,
 }
 
 /// Whether a world denies a tuple: it has the tuple with minus, or another tuple of its relation and key with plus. At most
-/// a read for each row of the world and the relation, and two more.
+/// a read for each row of the world that has the tuple's relation and key, and two more.
 pub fn denies<K: Keeper>(
     alloc: Global,
     keeper: &mut K,
+    memo: &mut Memo,
     world: u32,
     tuple: &Tuple,
 ) -> Result<bool, TabError>
     requires run { CanBeRun (K.seen keeper.old).kept }
+    requires memo { Recalls (K.seen keeper.old).kept memo.old }
     ensures denies { IfOk result (λ denies. denies ≡ rows_deny (sight_of (K.seen keeper.old).kept).keys ((sight_of (K.seen keeper.old).kept).rows world tuple.now.rel) tuple.now) }
-    ensures reads { OnOk result ((K.seen keeper.new).reads ≤ (K.seen keeper.old).reads + (length ((sight_of (K.seen keeper.old).kept).rows world tuple.now.rel) + 3)) }
+    ensures reads { OnOk result ((K.seen keeper.new).reads ≤ (K.seen keeper.old).reads + deny_looks ((sight_of (K.seen keeper.old).kept).rows world tuple.now.rel) (Some tuple.now)) }
+    ensures memo { OnOk result (Recalls (K.seen keeper.old).kept memo.new) }
     ensures looks { Looks (K.seen keeper.old) (K.seen keeper.new) result TabError.Fault }
 {
     match tuple.vals.get(0) {
-        Some(key) => match denies_with(alloc, keeper, world, tuple.rel, key, tuple) {
+        Some(key) => match denies_with(alloc, keeper, memo, world, tuple.rel, key, tuple) {
             Ok(denies) => Ok(denies),
             Err(error) => Err(error),
         },
@@ -245,16 +319,19 @@ pub fn denies<K: Keeper>(
 fn denies_with<K: Keeper>(
     alloc: Global,
     keeper: &mut K,
+    memo: &mut Memo,
     world: u32,
     rel: u32,
     key: &Value,
     tuple: &Tuple,
 ) -> Result<bool, TabError>
     requires run { CanBeRun (K.seen keeper.old).kept }
+    requires memo { Recalls (K.seen keeper.old).kept memo.old }
     requires relation { tuple.now.rel ≡ rel }
     requires key { slice_get tuple.now.vals 0 ≡ Some key.now }
     ensures denies { IfOk result (λ denies. denies ≡ rows_deny (sight_of (K.seen keeper.old).kept).keys ((sight_of (K.seen keeper.old).kept).rows world rel) tuple.now) }
-    ensures reads { OnOk result ((K.seen keeper.new).reads ≤ (K.seen keeper.old).reads + (length ((sight_of (K.seen keeper.old).kept).rows world rel) + 3)) }
+    ensures reads { OnOk result ((K.seen keeper.new).reads ≤ (K.seen keeper.old).reads + (length (rows_of_key (Some key.now) ((sight_of (K.seen keeper.old).kept).rows world rel)) + 2)) }
+    ensures memo { OnOk result (Recalls (K.seen keeper.old).kept memo.new) }
     ensures looks { Looks (K.seen keeper.old) (K.seen keeper.new) result TabError.Fault }
 {
     if !is_written(key) {
@@ -269,8 +346,7 @@ fn denies_with<K: Keeper>(
         keeper.undo();
         return Err(TabError::Memory);
     }
-    let mut room = Room::new(alloc);
-    match numbered_under(alloc, keeper, prefix.as_slice(), &mut room) {
+    match numbered_under(alloc, keeper, prefix.as_slice(), &mut memo.room) {
         Ok(entries) => Ok(one_denies(entries.as_slice(), number)),
         Err(error) => Err(error),
     }

@@ -1,44 +1,53 @@
 // Steps at which something is chosen.
-ghost use Rattle.std.specs.Prelude.{◌≡◌, ◌≤◌, ◌+◌, ◌*◌, IfOk, OnOk, length};
-ghost use Rattle.std.specs.Option.{option_copied};
-ghost use Rattle.bdb_plan.specs.Running.{choice_reads, plus_tuples};
-ghost use Rattle.bdb_exec.specs.Keys.{choices_before, of_key, key_asked};
+ghost use Rattle.std.specs.Prelude.{◌≡◌, ◌≤◌, ◌+◌, ◌*◌, IfOk, OnOk, filter, length};
+ghost use Rattle.bdb_plan.specs.Running.{plus_tuples};
+ghost use Rattle.bdb_exec.specs.Keys.{choices_before, key_asked, passes, rows_of_key};
+ghost use Rattle.bdb_exec.specs.LookUps.{choice_looks};
 ghost use Rattle.bdb_exec.specs.Looks.{Looks};
+ghost use Rattle.bdb_exec.specs.Memos.{Recalls};
 ghost use Rattle.bdb_exec.specs.Readable.{CanBeRun};
 ghost use Rattle.bdb_exec.specs.Seen.{sight_of};
 
 use crate::keys::key_asked;
 use crate::looking::{plus_tuples, plus_tuples_of_key, users};
+use crate::memo::Memo;
+use crate::passing::{kept, passing};
+use crate::shared::Shared;
 use crate::state::State;
-use bdb_base::{List, Tuple};
+use bdb_base::List;
 use bdb_keep::Keeper;
 use bdb_plan::Step;
 use bdb_tables::TabError;
 use std::alloc::Global;
 
-/// What a step chooses from, and for which item; none where it chooses nothing. Where the steps right behind it ask for a
-/// key, it is only the tuples of that key.
+/// What a step chooses from, and for which item; none where it chooses nothing. It is only the tuples that the tests right
+/// behind the step let through.
 pub fn choices<K: Keeper>(
     alloc: Global,
     keeper: &mut K,
+    memo: &mut Memo,
     step: &Step,
     state: &State,
     behind: &[Step],
-) -> Result<Option<(u32, List<Tuple>)>, TabError>
+) -> Result<Option<(u32, List<Shared>)>, TabError>
     requires run { CanBeRun (K.seen keeper.old).kept }
+    requires memo { Recalls (K.seen keeper.old).kept memo.old }
     ensures choices { IfOk result (λ choices. choices ≡ choices_before (sight_of (K.seen keeper.old).kept) state.now step.now behind.now) }
-    ensures reads { OnOk result ((K.seen keeper.new).reads ≤ (K.seen keeper.old).reads + choice_reads (sight_of (K.seen keeper.old).kept) state.now step.now) }
+    ensures reads { OnOk result ((K.seen keeper.new).reads ≤ (K.seen keeper.old).reads + choice_looks (sight_of (K.seen keeper.old).kept) state.now step.now behind.now) }
+    ensures memo { OnOk result (Recalls (K.seen keeper.old).kept memo.new) }
     ensures looks { Looks (K.seen keeper.old) (K.seen keeper.new) result TabError.Fault }
 {
     match step {
-        Step::User { item } => match users(alloc, keeper) {
-            Ok(users) => Ok(Some((*item, users))),
+        Step::User { item } => match some_users(alloc, keeper, memo, *item, state, behind) {
+            Ok(pool) => Ok(Some((*item, pool))),
             Err(error) => Err(error),
         },
-        Step::Pos { item, rel } => match pool(alloc, keeper, *item, *rel, state, behind) {
-            Ok(tuples) => Ok(Some((*item, tuples))),
-            Err(error) => Err(error),
-        },
+        Step::Pos { item, rel } => {
+            match some_tuples(alloc, keeper, memo, *item, *rel, state, behind) {
+                Ok(pool) => Ok(Some((*item, pool))),
+                Err(error) => Err(error),
+            }
+        }
         Step::Start { .. } => Ok(None),
         Step::Edge { .. } => Ok(None),
         Step::Differ { .. } => Ok(None),
@@ -48,28 +57,141 @@ pub fn choices<K: Keeper>(
     }
 }
 
-// The tuples of a relation that the walk's world has with plus; where a key is asked for, only those of the key.
-fn pool<K: Keeper>(
+// The users that the tests right behind let through. They are read where they weren't yet.
+fn some_users<K: Keeper>(
     alloc: Global,
     keeper: &mut K,
+    memo: &mut Memo,
+    item: u32,
+    state: &State,
+    behind: &[Step],
+) -> Result<List<Shared>, TabError>
+    requires run { CanBeRun (K.seen keeper.old).kept }
+    requires memo { Recalls (K.seen keeper.old).kept memo.old }
+    ensures pool { IfOk result (λ pool. pool ≡ filter (passes state.now.slots item behind.now) (sight_of (K.seen keeper.old).kept).users) }
+    ensures reads { OnOk result ((K.seen keeper.new).reads ≤ (K.seen keeper.old).reads + (length (sight_of (K.seen keeper.old).kept).users + 1)) }
+    ensures memo { OnOk result (Recalls (K.seen keeper.old).kept memo.new) }
+    ensures looks { Looks (K.seen keeper.old) (K.seen keeper.new) result TabError.Fault }
+{
+    match &memo.users {
+        Some(all) => {
+            return match let_through(alloc, keeper, item, state, behind, all.as_slice()) {
+                Ok(pool) => Ok(pool),
+                Err(error) => Err(error),
+            };
+        }
+        None => {}
+    }
+    let all = match users(alloc, keeper) {
+        Ok(all) => all,
+        Err(error) => return Err(error),
+    };
+    match let_through(alloc, keeper, item, state, behind, all.as_slice()) {
+        Ok(pool) => {
+            memo.users = Some(all);
+            Ok(pool)
+        }
+        Err(error) => Err(error),
+    }
+}
+
+// Of the tuples of a relation that the walk's world has with plus, those that the tests right behind let through. Where the tests
+// ask for a key, only its rows are read.
+fn some_tuples<K: Keeper>(
+    alloc: Global,
+    keeper: &mut K,
+    memo: &mut Memo,
     item: u32,
     rel: u32,
     state: &State,
     behind: &[Step],
-) -> Result<List<Tuple>, TabError>
+) -> Result<List<Shared>, TabError>
     requires run { CanBeRun (K.seen keeper.old).kept }
-    ensures tuples { IfOk result (λ tuples. tuples ≡ of_key (key_asked state.now.slots item behind.now) (plus_tuples ((sight_of (K.seen keeper.old).kept).rows state.now.world rel))) }
-    ensures reads { OnOk result ((K.seen keeper.new).reads ≤ (K.seen keeper.old).reads + (2 * length ((sight_of (K.seen keeper.old).kept).rows state.now.world rel) + 1)) }
+    requires memo { Recalls (K.seen keeper.old).kept memo.old }
+    ensures pool { IfOk result (λ pool. pool ≡ filter (passes state.now.slots item behind.now) (plus_tuples ((sight_of (K.seen keeper.old).kept).rows state.now.world rel))) }
+    ensures reads { OnOk result ((K.seen keeper.new).reads ≤ (K.seen keeper.old).reads + (2 * length (rows_of_key (key_asked state.now.slots item behind.now) ((sight_of (K.seen keeper.old).kept).rows state.now.world rel)) + 1)) }
+    ensures memo { OnOk result (Recalls (K.seen keeper.old).kept memo.new) }
     ensures looks { Looks (K.seen keeper.old) (K.seen keeper.new) result TabError.Fault }
 {
-    match key_asked(state.slots(), item, behind) {
-        Some(key) => match plus_tuples_of_key(alloc, keeper, state.world(), rel, key) {
-            Ok(tuples) => Ok(tuples),
-            Err(error) => Err(error),
-        },
-        None => match plus_tuples(alloc, keeper, state.world(), rel) {
-            Ok(tuples) => Ok(tuples),
-            Err(error) => Err(error),
-        },
+    let key = match key_asked(state.slots(), item, behind) {
+        Some(key) => key,
+        None => {
+            return match of_relation(alloc, keeper, memo, item, rel, state, behind) {
+                Ok(pool) => Ok(pool),
+                Err(error) => Err(error),
+            };
+        }
+    };
+    match plus_tuples_of_key(alloc, keeper, memo, state.world(), rel, key) {
+        Ok(all) => Ok(kept(state.slots(), item, behind, all)),
+        Err(error) => Err(error),
+    }
+}
+
+// The same where the tests ask for no key. The world's tuples are read where they weren't yet.
+fn of_relation<K: Keeper>(
+    alloc: Global,
+    keeper: &mut K,
+    memo: &mut Memo,
+    item: u32,
+    rel: u32,
+    state: &State,
+    behind: &[Step],
+) -> Result<List<Shared>, TabError>
+    requires run { CanBeRun (K.seen keeper.old).kept }
+    requires memo { Recalls (K.seen keeper.old).kept memo.old }
+    ensures pool { IfOk result (λ pool. pool ≡ filter (passes state.now.slots item behind.now) (plus_tuples ((sight_of (K.seen keeper.old).kept).rows state.now.world rel))) }
+    ensures reads { OnOk result ((K.seen keeper.new).reads ≤ (K.seen keeper.old).reads + (2 * length ((sight_of (K.seen keeper.old).kept).rows state.now.world rel) + 1)) }
+    ensures memo { OnOk result (Recalls (K.seen keeper.old).kept memo.new) }
+    ensures looks { Looks (K.seen keeper.old) (K.seen keeper.new) result TabError.Fault }
+{
+    let world = state.world();
+    let place = (world, rel);
+    match memo.pools.get(&place) {
+        Some(all) => {
+            return match let_through(alloc, keeper, item, state, behind, all.as_slice()) {
+                Ok(pool) => Ok(pool),
+                Err(error) => Err(error),
+            };
+        }
+        None => {}
+    }
+    let all = match plus_tuples(alloc, keeper, memo, world, rel) {
+        Ok(all) => all,
+        Err(error) => return Err(error),
+    };
+    let pool = match let_through(alloc, keeper, item, state, behind, all.as_slice()) {
+        Ok(pool) => pool,
+        Err(error) => return Err(error),
+    };
+    match memo.pools.insert(place, all) {
+        Ok(_) => Ok(pool),
+        Err(_) => {
+            keeper.undo();
+            Err(TabError::Memory)
+        }
+    }
+}
+
+// The tuples that the tests right behind let through.
+fn let_through<K: Keeper>(
+    alloc: Global,
+    keeper: &mut K,
+    item: u32,
+    state: &State,
+    behind: &[Step],
+    all: &[Shared],
+) -> Result<List<Shared>, TabError>
+    requires run { CanBeRun (K.seen keeper.old).kept }
+    ensures pool { IfOk result (λ pool. pool ≡ filter (passes state.now.slots item behind.now) all.now) }
+    ensures reads { (K.seen keeper.new).reads ≡ (K.seen keeper.old).reads }
+    ensures looks { Looks (K.seen keeper.old) (K.seen keeper.new) result TabError.Fault }
+{
+    match passing(alloc, state.slots(), item, behind, all) {
+        Ok(pool) => Ok(pool),
+        Err(_) => {
+            keeper.undo();
+            Err(TabError::Memory)
+        }
     }
 }

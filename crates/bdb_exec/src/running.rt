@@ -1,21 +1,27 @@
 // Steps, one after the other, for each choice.
 ghost use Rattle.std.specs.Prelude.{◌≡◌, ◌≤◌, ◌+◌, IfOk, OnOk, reverse};
+ghost use Rattle.std.specs.List.{flat_map, sum_by};
 ghost use Rattle.bdb_base.specs.Queries.{option_list};
 ghost use Rattle.bdb_queries.specs.Collected.{with_rows};
 ghost use Rattle.bdb_queries.specs.Slots.{known_row};
-ghost use Rattle.bdb_plan.specs.Running.{rows_from, reads_from};
-ghost use Rattle.bdb_exec.specs.Coming.{ComesTo, ComesOn, came_reads};
+ghost use Rattle.bdb_plan.specs.Running.{rows_from};
+ghost use Rattle.bdb_exec.specs.Coming.{ComesTo, ComesOn, came_looks, looks_with, rows_with};
+ghost use Rattle.bdb_exec.specs.LookUps.{looks_from};
 ghost use Rattle.bdb_exec.specs.Looks.{Looks};
+ghost use Rattle.bdb_exec.specs.Memos.{Recalls};
 ghost use Rattle.bdb_exec.specs.Readable.{CanBeRun};
 ghost use Rattle.bdb_exec.specs.Seen.{sight_of};
 
+use crate::memo::Memo;
 use crate::reading::choices;
 use crate::settling::settle;
+use crate::shared::Shared;
+use crate::slots::known_row;
 use crate::state::State;
-use bdb_base::{List, Ref, Tuple};
+use bdb_base::{List, Ref};
 use bdb_keep::Keeper;
 use bdb_plan::Step;
-use bdb_queries::{Found, known_row};
+use bdb_queries::Found;
 use bdb_tables::TabError;
 use std::alloc::{AllocError, Global};
 
@@ -32,7 +38,7 @@ pub enum Came {
     Choice {
         done: usize,
         item: u32,
-        pool: List<Tuple>,
+        pool: List<Shared>,
         state: State,
     },
 }
@@ -41,20 +47,23 @@ pub enum Came {
 pub fn advance<K: Keeper>(
     alloc: Global,
     keeper: &mut K,
+    memo: &mut Memo,
     steps: &[Step],
     state: State,
 ) -> Result<Came, TabError>
     requires run { CanBeRun (K.seen keeper.old).kept }
+    requires memo { Recalls (K.seen keeper.old).kept memo.old }
     ensures rows { IfOk result (λ came. ComesTo (sight_of (K.seen keeper.old).kept) steps.now state came) }
     ensures on { IfOk result (λ came. ComesOn steps.now came) }
-    ensures reads { IfOk result (λ came. (K.seen keeper.new).reads + came_reads (sight_of (K.seen keeper.old).kept) steps.now came ≤ (K.seen keeper.old).reads + reads_from (sight_of (K.seen keeper.old).kept) steps.now state) }
+    ensures reads { IfOk result (λ came. (K.seen keeper.new).reads + came_looks (sight_of (K.seen keeper.old).kept) steps.now came ≤ (K.seen keeper.old).reads + looks_from (sight_of (K.seen keeper.old).kept) steps.now state) }
+    ensures memo { OnOk result (Recalls (K.seen keeper.old).kept memo.new) }
     ensures looks { Looks (K.seen keeper.old) (K.seen keeper.new) result TabError.Fault }
 {
     let mut state = state;
     let mut done = 0;
     for step in steps {
         done += 1;
-        match choices(alloc, keeper, step, &state, &steps[done..]) {
+        match choices(alloc, keeper, memo, step, &state, &steps[done..]) {
             Ok(Some((item, pool))) => {
                 return Ok(Came::Choice {
                     done,
@@ -66,7 +75,7 @@ pub fn advance<K: Keeper>(
             Ok(None) => {}
             Err(error) => return Err(error),
         }
-        match settle(alloc, keeper, step, state) {
+        match settle(alloc, keeper, memo, step, state) {
             Ok(Some(next)) => state = next,
             Ok(None) => return Ok(Came::Nothing),
             Err(error) => return Err(error),
@@ -75,22 +84,25 @@ pub fn advance<K: Keeper>(
     Ok(Came::End { state })
 }
 
-/// Takes the rows that come of steps. It stops where there are too many. The last tuple that is chosen from goes on with the state
-/// itself, each other with a copy.
+/// Takes the rows that come of steps. It stops where there are too many.
+#[cycle(running)]
 pub fn run<K: Keeper>(
     alloc: Global,
     keeper: &mut K,
+    memo: &mut Memo,
     steps: &[Step],
     take: &[Ref],
     state: State,
     found: &mut Found,
 ) -> Result<(), TabError>
     requires run { CanBeRun (K.seen keeper.old).kept }
+    requires memo { Recalls (K.seen keeper.old).kept memo.old }
     ensures rows { OnOk result (found.new ≡ with_rows found.old (rows_from (sight_of (K.seen keeper.old).kept) take.now steps.now state)) }
-    ensures reads { OnOk result ((K.seen keeper.new).reads ≤ (K.seen keeper.old).reads + reads_from (sight_of (K.seen keeper.old).kept) steps.now state) }
+    ensures reads { OnOk result ((K.seen keeper.new).reads ≤ (K.seen keeper.old).reads + looks_from (sight_of (K.seen keeper.old).kept) steps.now state) }
+    ensures memo { OnOk result (Recalls (K.seen keeper.old).kept memo.new) }
     ensures looks { Looks (K.seen keeper.old) (K.seen keeper.new) result TabError.Fault }
 {
-    match advance(alloc, keeper, steps, state) {
+    match advance(alloc, keeper, memo, steps, state) {
         Ok(Came::Nothing) => Ok(()),
         Ok(Came::End { state }) => match finish(alloc, take, &state, found) {
             Ok(()) => Ok(()),
@@ -106,39 +118,74 @@ pub fn run<K: Keeper>(
                 pool,
                 state: here,
             },
-        ) => {
-            let rest = &steps[done..];
-            let mut left = in_turn(pool);
-            while let Some(tuple) = left.pop() {
-                if !found.has_room() {
-                    return Ok(());
-                }
-                if left.as_slice().is_empty() {
-                    return match run(alloc, keeper, rest, take, here.with(item, tuple), found) {
-                        Ok(()) => Ok(()),
-                        Err(error) => Err(error),
-                    };
-                }
-                let next = match here.copy_with(alloc, item, tuple) {
-                    Ok(next) => next,
-                    Err(_) => {
-                        keeper.undo();
-                        return Err(TabError::Memory);
-                    }
-                };
-                match run(alloc, keeper, rest, take, next, found) {
-                    Ok(()) => {}
-                    Err(error) => return Err(error),
-                }
-            }
-            Ok(())
-        }
+        ) => match run_each(
+            alloc,
+            keeper,
+            memo,
+            &steps[done..],
+            take,
+            here,
+            item,
+            pool,
+            found,
+        ) {
+            Ok(()) => Ok(()),
+            Err(error) => Err(error),
+        },
         Err(error) => Err(error),
     }
 }
 
+// Takes the rows that come of steps once an item has each of these tuples in turn. The last tuple goes on with the state itself,
+// each other with a copy.
+#[cycle(running)]
+fn run_each<K: Keeper>(
+    alloc: Global,
+    keeper: &mut K,
+    memo: &mut Memo,
+    steps: &[Step],
+    take: &[Ref],
+    here: State,
+    item: u32,
+    pool: List<Shared>,
+    found: &mut Found,
+) -> Result<(), TabError>
+    requires run { CanBeRun (K.seen keeper.old).kept }
+    requires memo { Recalls (K.seen keeper.old).kept memo.old }
+    ensures rows { OnOk result (found.new ≡ with_rows found.old (flat_map (rows_with (sight_of (K.seen keeper.old).kept) take.now steps.now here item) pool)) }
+    ensures reads { OnOk result ((K.seen keeper.new).reads ≤ (K.seen keeper.old).reads + sum_by (looks_with (sight_of (K.seen keeper.old).kept) steps.now here item) pool) }
+    ensures memo { OnOk result (Recalls (K.seen keeper.old).kept memo.new) }
+    ensures looks { Looks (K.seen keeper.old) (K.seen keeper.new) result TabError.Fault }
+{
+    let mut left = in_turn(pool);
+    while let Some(tuple) = left.pop() {
+        if !found.has_room() {
+            return Ok(());
+        }
+        if left.as_slice().is_empty() {
+            let last = here.with(item, tuple);
+            match run(alloc, keeper, memo, steps, take, last, found) {
+                Ok(()) => return Ok(()),
+                Err(error) => return Err(error),
+            }
+        }
+        let next = match here.copy_with(alloc, item, tuple) {
+            Ok(next) => next,
+            Err(_) => {
+                keeper.undo();
+                return Err(TabError::Memory);
+            }
+        };
+        match run(alloc, keeper, memo, steps, take, next, found) {
+            Ok(()) => {}
+            Err(error) => return Err(error),
+        }
+    }
+    Ok(())
+}
+
 // Tuples, the first of them at the end.
-fn in_turn(pool: List<Tuple>) -> Vec<Tuple>
+fn in_turn(pool: List<Shared>) -> Vec<Shared>
     ensures { result.items ≡ reverse pool }
 {
     let mut items = pool.into_vec();

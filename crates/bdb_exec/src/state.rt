@@ -5,8 +5,9 @@ ghost use Rattle.bdb_base.specs.declared.tuple.Tuple.{Tuple};
 ghost use Rattle.bdb_queries.specs.Slots.{slot_at, known_operand};
 ghost use Rattle.bdb_plan.specs.Running.{start_of, with_world, with_slot, with_value};
 
+use crate::shared::Shared;
+use crate::slots::known_operand;
 use bdb_base::{Exact, List, Operand, Tuple, Value};
-use bdb_queries::known_operand;
 use std::alloc::{AllocError, Global};
 use std::marker::Model;
 use std::mem;
@@ -15,7 +16,7 @@ use std::mem;
 #[derive(Drop)]
 pub struct State {
     world: u32,
-    slots: Vec<Option<Tuple>>,
+    slots: Vec<Option<Shared>>,
 }
 
 impl Model for State {
@@ -46,7 +47,7 @@ impl State {
     }
 
     /// What is chosen for each item.
-    pub fn slots(&self) -> &[Option<Tuple>]
+    pub fn slots(&self) -> &[Option<Shared>]
         ensures { result.now ≡ self.now.slots }
     {
         self.slots.as_slice()
@@ -61,7 +62,7 @@ impl State {
     }
 
     /// The same, with a tuple for an item.
-    pub fn with(self, item: u32, tuple: Tuple) -> Self
+    pub fn with(self, item: u32, tuple: Shared) -> Self
         ensures { result ≡ with_slot self item tuple }
     {
         let State { world, mut slots } = self;
@@ -72,7 +73,7 @@ impl State {
     }
 
     /// A copy, with a tuple for an item.
-    pub fn copy_with(&self, alloc: Global, item: u32, tuple: Tuple) -> Result<Self, AllocError>
+    pub fn copy_with(&self, alloc: Global, item: u32, tuple: Shared) -> Result<Self, AllocError>
         ensures { IfOk result (λ s. s ≡ with_slot self.now item tuple) }
     {
         let slots = copied_slots(alloc, self.slots.as_slice())?;
@@ -84,7 +85,7 @@ impl State {
     }
 
     /// The same with nothing chosen for an item, and what was chosen for it.
-    pub fn taken(self, item: u32) -> (Self, Option<Tuple>)
+    pub fn taken(self, item: u32) -> (Self, Option<Shared>)
         ensures found { result.1 ≡ slot_at self.slots item }
         ensures world { result.0.world ≡ self.world }
         ensures again { (t : Tuple) → with_slot result.0 item t ≡ with_slot self item t }
@@ -114,7 +115,7 @@ impl State {
 }
 
 // Takes what is chosen for an item.
-fn take_slot(slots: &mut Vec<Option<Tuple>>, at: usize) -> Option<Tuple>
+fn take_slot(slots: &mut Vec<Option<Shared>>, at: usize) -> Option<Shared>
     ensures found { result ≡ slot_at slots.old.items at }
     ensures again { (x : Option Tuple) → slice_set slots.new.items at x ≡ slice_set slots.old.items at x }
 {
@@ -125,7 +126,7 @@ fn take_slot(slots: &mut Vec<Option<Tuple>>, at: usize) -> Option<Tuple>
 }
 
 // A copy of what is chosen.
-fn copied_slots(alloc: Global, slots: &[Option<Tuple>]) -> Result<Vec<Option<Tuple>>, AllocError>
+fn copied_slots(alloc: Global, slots: &[Option<Shared>]) -> Result<Vec<Option<Shared>>, AllocError>
     ensures { IfOk result (λ copy. copy.items ≡ slots.now) }
 {
     let mut copy = Vec::with_capacity(alloc, slots.len())?;
@@ -136,12 +137,12 @@ fn copied_slots(alloc: Global, slots: &[Option<Tuple>]) -> Result<Vec<Option<Tup
 }
 
 // A copy of what is chosen for one item.
-fn copied_slot(alloc: Global, slot: &Option<Tuple>) -> Result<Option<Tuple>, AllocError>
+fn copied_slot(alloc: Global, slot: &Option<Shared>) -> Result<Option<Shared>, AllocError>
     ensures { IfOk result (λ copy. copy ≡ slot.now) }
 {
     match slot {
-        Some(tuple) => {
-            let copy = tuple.try_clone(alloc)?;
+        Some(shared) => {
+            let copy = shared.try_clone(alloc)?;
             Ok(Some(copy))
         }
         None => Ok(None),
@@ -149,19 +150,21 @@ fn copied_slot(alloc: Global, slot: &Option<Tuple>) -> Result<Option<Tuple>, All
 }
 
 // What is bound of an item's tuple, with one more value.
-fn with_value(alloc: Global, bound: Option<Tuple>, value: Value) -> Result<Tuple, AllocError>
+fn with_value(alloc: Global, bound: Option<Shared>, value: Value) -> Result<Shared, AllocError>
     ensures { IfOk result (λ t. t ≡ with_value bound value) }
 {
     match bound {
-        Some(tuple) => {
-            let Tuple { rel, mut vals } = tuple;
+        Some(shared) => {
+            let Tuple { rel, mut vals } = shared.into_tuple(alloc)?;
             vals.push(value)?;
-            Ok(Tuple { rel, vals })
+            let tuple = Shared::new(alloc, Tuple { rel, vals })?;
+            Ok(tuple)
         }
         None => {
             let mut vals = List::new(alloc);
             vals.push(value)?;
-            Ok(Tuple { rel: 0, vals })
+            let tuple = Shared::new(alloc, Tuple { rel: 0, vals })?;
+            Ok(tuple)
         }
     }
 }

@@ -15,3 +15,6 @@ returns-in-Ok-into_rows-clause-rows g c =
     let rows = rows_from (sight_of (g.K.Keeper.seen c.args.keeper.now).kept) plan.take plan.steps (start_of plan.items) in
     let end : c.run.new.found ≡ with_rows start rows = search rules in
     c.in-Ok-into_rows.ensures ∙ ap (λ f. up_to f.most f.rows) end ∙ ap (λ m. up_to m (with_rows start rows).rows) (with_rows_most start rows) ∙ rows_collected most rows
+
+pub run-requires-clause-memo : goal.run-requires-clause-memo
+run-requires-clause-memo g c = c.new-memo.ensures (g.K.Keeper.seen c.args.keeper.now).kept

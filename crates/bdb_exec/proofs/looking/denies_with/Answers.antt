@@ -32,5 +32,6 @@ returns-in-Ok-numbered_under-clause-reads g c =
     let rows : AreNumbered t (key_prefix c.args.world c.args.rel c.args.key.now) xs =
     subst (λ p. AreNumbered t p xs) prefix (subst (λ u. AreNumbered u c.as_slice.result.now xs) c.in-Ok.ensures.looks.kept c.in-Ok-numbered_under.ensures.rows) in
     let told : length xs ≡ length rows.entries = ap length rows.are ∙ length_map numbered rows.entries in
-    let fewer = denied_reads t c.requires.run c.args.world c.args.rel c.ranges.world.fits c.ranges.rel.fits c.args.key.now c.args.tuple.now c.requires.relation c.requires.key rows.entries rows.under in
+    let fits : IsPlainValue c.args.key.now = search rules in
+    let fewer = denied_reads t c.requires.run c.args.world c.args.rel c.ranges.world.fits c.ranges.rel.fits c.args.key.now c.args.tuple.now c.requires.relation c.requires.key rows.entries fits rows.under in
     omega (arith, told, fewer, c.in-Ok.ensures.reads, c.in-Ok-numbered_under.ensures.reads)

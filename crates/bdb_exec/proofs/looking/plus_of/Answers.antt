@@ -4,6 +4,7 @@ use Rattle.bdb_base.specs.declared.kinds.Sign.TheVariants.{Plus}
 use Rattle.bdb_tables.specs.Marks.{Mark}
 use Rattle.bdb_tables.specs.declared.tab.TabError.TheVariants.{Fault}
 use Rattle.bdb_tables.proofs.Loops.{all_at_index}
+use Rattle.bdb_exec.specs.Memos.{Recalls}
 use Rattle.bdb_exec.specs.Readable.{CanBeRun}
 use Rattle.bdb_exec.specs.Rows.{HasTuple, HasPushed}
 use Rattle.bdb_exec.proofs.LookLemmas.{looking_more}
@@ -16,6 +17,9 @@ none = (0, (Plus, false))
 
 pub push_plus-requires-clause-run : goal.push_plus-requires-clause-run
 push_plus-requires-clause-run g c = subst CanBeRun (sym c.loop-entry.invariant.kept) c.requires.run
+
+pub push_plus-requires-clause-memo : goal.push_plus-requires-clause-memo
+push_plus-requires-clause-memo g c = subst (λ u. Recalls u c.loop-entry.memo) (sym c.loop-entry.invariant.kept) c.loop-entry.invariant.read.memo
 
 pub push_plus-requires-clause-there : goal.push_plus-requires-clause-there
 push_plus-requires-clause-there g c =
@@ -39,4 +43,5 @@ loop-entry-preserved g c =
     looking_more old now new c.in-Ok.field-0 Fault h c.in-Ok.ensures.looks (record {
       tuples = pushed_more old.kept c.args.entries.now i e c.loop-entry.tuples c.push_plus.new.tuples c.loop-entry-test.true (get_or_default c.args.entries.now i none e c.loop-entry-test.true) h.read.tuples pushed;
       reads = reads;
+      memo = subst (λ u. Recalls u c.push_plus.new.memo) h.kept c.in-Ok.ensures.memo;
     })

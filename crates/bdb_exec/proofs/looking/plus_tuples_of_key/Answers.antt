@@ -1,9 +1,9 @@
-use Rattle.std.proofs.Common.{◌≡◌, ◌∙◌, ◌+◌, ◌*◌, ◌≤◌, sym, subst, length, rules, arith}
+use Rattle.std.proofs.Common.{◌≡◌, ◌∙◌, ◌+◌, ◌*◌, ◌≤◌, ap, sym, subst, length, rules}
 use Rattle.bdb_key.specs.Grammar.{IsPlainValue}
 use Rattle.bdb_plan.specs.Running.{plus_tuples}
 use Rattle.bdb_exec.specs.Rows.{key_prefix}
 use Rattle.bdb_exec.specs.Seen.{signed_under}
-use Rattle.bdb_exec.proofs.DenyLemmas.{key_tuples, key_length, unwritten}
+use Rattle.bdb_exec.proofs.DenyLemmas.{key_tuples, key_rows, unwritten}
 use Rattle.bdb_exec.proofs.looking.plus_tuples_of_key.Goals as goal
 
 pub returns-then-not-is_written-clause-tuples : goal.returns-then-not-is_written-clause-tuples
@@ -24,6 +24,5 @@ returns-in-Ok-clause-reads g c =
     let new = (g.K.Keeper.seen c.plus_under.new.keeper).reads in
     let old = (g.K.Keeper.seen c.args.keeper.now).reads in
     let prefix : c.as_slice.result.now ≡ key_prefix c.args.world c.args.rel c.args.key.now = search rules in
-    let reads : new ≤ old + (2 * length (signed_under t (key_prefix c.args.world c.args.rel c.args.key.now)) + 1) = subst (λ p. new ≤ old + (2 * length (signed_under t p) + 1)) prefix c.in-Ok.ensures.reads in
-    let fewer = key_length t c.requires.run c.args.world c.args.rel c.ranges.world.fits c.ranges.rel.fits c.args.key.now in
-    omega (arith, reads, fewer)
+    let fits : IsPlainValue c.args.key.now = search rules in
+    subst (λ r. new ≤ old + (2 * length r + 1)) (ap (signed_under t) prefix ∙ key_rows t c.requires.run c.args.world c.args.rel c.ranges.world.fits c.ranges.rel.fits c.args.key.now fits) c.in-Ok.ensures.reads

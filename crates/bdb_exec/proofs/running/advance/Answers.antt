@@ -1,12 +1,12 @@
 use Rattle.std.proofs.Common.{◌≡◌, ◌∙◌, ◌+◌, ◌-◌, ◌≤◌, ap, sym, take, drop, length, subst}
 use Rattle.std.specs.List.{flat_map, sum_by}
 use Rattle.std.proofs.lemmas.List.{take_rest}
-use Rattle.bdb_plan.specs.Running.{choice_reads, reads_from}
-use Rattle.bdb_exec.specs.Coming.{rows_with, reads_with}
+use Rattle.bdb_exec.specs.Coming.{rows_with, looks_with}
 use Rattle.bdb_exec.specs.Keys.{choices_before}
+use Rattle.bdb_exec.specs.LookUps.{choice_looks, looks_from}
 use Rattle.bdb_exec.specs.Seen.{sight_of}
 use Rattle.bdb_exec.proofs.KeyLemmas.{some_choices}
-use Rattle.bdb_exec.proofs.RunLemmas.{rows_of_choice, reads_of_choice}
+use Rattle.bdb_exec.proofs.RunLemmas.{rows_of_choice, looks_of_choice}
 use Rattle.bdb_exec.proofs.running.advance.Goals as goal
 
 pub returns-in-Ok-Some-clause-rows : goal.returns-in-Ok-Some-clause-rows
@@ -32,8 +32,9 @@ returns-in-Ok-Some-clause-reads g c =
     let given : some_choices c.in-Ok-Some.item c.in-Ok-Some.pool ≡ choices_before (sight_of (g.K.Keeper.seen l.keeper).kept) l.state x (take (length steps - (l.done + 1)) (drop (l.done + 1) steps)) = sym c.in-Ok-Some.field-0-is ∙ c.in-Ok-Some.ensures.choices in
     let chosen = given ∙ ap (choices_before (sight_of (g.K.Keeper.seen l.keeper).kept) l.state x) (take_rest steps (l.done + 1)) ∙ ap (λ t. choices_before (sight_of t) l.state x (drop (l.done + 1) steps)) l.invariant.kept
     ∙ ap (λ n. choices_before sight l.state x (drop (n + 1) steps)) l.invariant.read.done in
-    let own : new ≤ (g.K.Keeper.seen l.keeper).reads + choice_reads sight l.state x =
-    subst (λ t. new ≤ (g.K.Keeper.seen l.keeper).reads + choice_reads (sight_of t) l.state x) l.invariant.kept c.in-Ok-Some.ensures.reads in
-    subst (λ n. new + sum_by (reads_with sight (drop (n + 1) steps) l.state c.in-Ok-Some.item) c.in-Ok-Some.pool ≤ old + reads_from sight steps c.args.state) (sym l.invariant.read.done)
-    (reads_of_choice sight steps c.args.state l.state l.step-index c.in-Ok-Some.item x c.in-Ok-Some.pool old (g.K.Keeper.seen l.keeper).reads new c.loop-step-test.true c.step-item.is chosen
+    let own : new ≤ (g.K.Keeper.seen l.keeper).reads + choice_looks sight l.state x (drop (l.step-index + 1) steps) =
+    subst (λ ys. new ≤ (g.K.Keeper.seen l.keeper).reads + choice_looks sight l.state x ys) (take_rest steps (l.done + 1) ∙ ap (λ n. drop (n + 1) steps) l.invariant.read.done)
+    (subst (λ t. new ≤ (g.K.Keeper.seen l.keeper).reads + choice_looks (sight_of t) l.state x (take (length steps - (l.done + 1)) (drop (l.done + 1) steps))) l.invariant.kept c.in-Ok-Some.ensures.reads) in
+    subst (λ n. new + sum_by (looks_with sight (drop (n + 1) steps) l.state c.in-Ok-Some.item) c.in-Ok-Some.pool ≤ old + looks_from sight steps c.args.state) (sym l.invariant.read.done)
+    (looks_of_choice sight steps c.args.state l.state l.step-index c.in-Ok-Some.item x c.in-Ok-Some.pool old (g.K.Keeper.seen l.keeper).reads new c.loop-step-test.true c.step-item.is chosen
     l.invariant.read.reads own)

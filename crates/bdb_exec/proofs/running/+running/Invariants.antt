@@ -1,0 +1,29 @@
+use Rattle.std.proofs.Common.{◌≡◌, ◌+◌, ◌*◌, ◌≤◌, length, reverse, vec_len}
+use Rattle.std.specs.List.{flat_map, sum_by}
+use Rattle.bdb_tables.proofs.Loops.{IsReading}
+use Rattle.bdb_queries.specs.Collected.{with_rows}
+use Rattle.bdb_exec.specs.Coming.{rows_with, looks_with}
+use Rattle.bdb_exec.specs.Memos.{Recalls}
+use Rattle.bdb_exec.specs.Seen.{sight_of}
+use Rattle.bdb_exec.proofs.running.+running.Given as goal
+
+abbrev pub decreases-run : goal.decreases-run
+decreases-run g l = 2 * length l.steps.now
+
+abbrev pub decreases-run_each : goal.decreases-run_each
+decreases-run_each g l = 2 * length l.steps.now + 1
+
+abbrev pub decreases-run_each-loop-tuple : goal.decreases-run_each-loop-tuple
+decreases-run_each-loop-tuple g l = vec_len l.left
+
+-- the tuples that are left make of the rows so far those of the whole pool, and are read often enough
+abbrev pub invariant-run_each-loop-tuple : goal.invariant-run_each-loop-tuple
+invariant-run_each-loop-tuple g l =
+    let old = g.K.Keeper.seen l.fn.keeper in
+    let sight = sight_of old.kept in
+    IsReading old (g.K.Keeper.seen l.keeper) (record {
+      here : l.here ≡ l.fn.here;
+      rows : with_rows l.found (flat_map (rows_with sight l.take l.steps l.fn.here l.item) (reverse l.left.items)) ≡ with_rows l.fn.found (flat_map (rows_with sight l.take l.steps l.fn.here l.item) l.fn.pool);
+      reads : (g.K.Keeper.seen l.keeper).reads + sum_by (looks_with sight l.steps l.fn.here l.item) (reverse l.left.items) ≤ old.reads + sum_by (looks_with sight l.steps l.fn.here l.item) l.fn.pool;
+      memo : Recalls old.kept l.memo;
+    })

@@ -1,0 +1,36 @@
+-- How often an execution reads at most: of a key that is asked for, only its rows; of what a test refuses, nothing more.
+use Rattle.std.specs.Prelude.{ℕ, ◌+◌, ◌*◌, List, [], ◌∷◌, Option, Some, None, length}
+use Rattle.std.specs.List.{slice_get, sum_by}
+use Rattle.bdb_base.specs.declared.kinds.Sign.{Sign}
+use Rattle.bdb_base.specs.declared.tuple.Tuple.{Tuple}
+use Rattle.bdb_queries.specs.Slots.{slot_at}
+use Rattle.bdb_plan.specs.Running.{Reached}
+use Rattle.bdb_plan.specs.Sight.{Sight}
+use Rattle.bdb_plan.specs.declared.step.Step.{Step}
+use Rattle.bdb_plan.specs.declared.step.Step.TheVariants as step
+use Rattle.bdb_exec.specs.Keys.{key_asked, rows_of_key, after_before}
+
+-- how often a step reads at most, to choose: where the steps behind it ask for a key, twice for each row of the key
+abbrev pub choice_looks : Sight → Reached → Step → List Step → ℕ
+choice_looks sight s (step.User item) behind = length sight.users + 1
+choice_looks sight s (step.Pos item rel) behind = 2 * length (rows_of_key (key_asked s.slots item behind) (sight.rows s.world rel)) + 1
+choice_looks sight s _ behind = 0
+
+-- how often is read at most to learn whether rows deny a tuple: once for each row of its key
+abbrev pub deny_looks : List (Tuple × Sign) → Option Tuple → ℕ
+deny_looks rows None = 0
+deny_looks rows (Some t) = length (rows_of_key (slice_get t.vals 0) rows) + 2
+
+-- how often a step reads at most at which nothing is chosen
+abbrev pub settled_looks : Sight → Reached → Step → ℕ
+settled_looks sight s (step.Edge item who) = 1
+settled_looks sight s (step.Neg item rel) = deny_looks (sight.rows s.world rel) (slot_at s.slots item)
+settled_looks sight s _ = 0
+
+abbrev pub own_looks : Sight → Reached → Step → List Step → ℕ
+own_looks sight s x behind = choice_looks sight s x behind + settled_looks sight s x
+
+-- how often steps read at most: the rest is run again for each choice that the tests right behind it let through
+abbrev pub looks_from : Sight → List Step → Reached → ℕ
+looks_from sight [] s = 0
+looks_from sight (x ∷ xs) s = own_looks sight s x xs + sum_by (looks_from sight xs) (after_before sight s x xs)
