@@ -28,6 +28,7 @@ use Rattle.bdb_plan.specs.Running.{meaning_of}
 use Rattle.bdb_render.specs.Replies.{rows_reply}
 use Rattle.bdb_render.specs.declared.refusal.Refusal.TheVariants as refusal
 use Rattle.bdb_session.specs.Known.{Known, Agrees, AgreesOnSome}
+use Rattle.bdb_session.specs.Laws.{StoredPlansMeanAnswers}
 use Rattle.bdb_session.specs.Machine.{bound_outcome, plan_reply, tells}
 use Rattle.bdb_session.specs.Outcome.{State, Outcome, Refused, Done}
 use Rattle.bdb_session.specs.Served.{IsTold, Serves}
@@ -76,6 +77,11 @@ known_catalog t k h = subst IsCatalog (sym h.agrees.catalog) h.agrees.base.valid
 pub query_is_safe : (c : Catalog) (q : Query) → can_be_answered c q ≡ true → IsSafe c.rels q
 query_is_safe c q fits = (test_tells_safe c.rels q).0 (and_parts (query_fits c q) (is_safe c.rels q) fits).1
 
+-- whichever tables store a base, the plan of a query means over them the answers over the base
+pub stored_plans_mean_answers : StoredPlansMeanAnswers
+stored_plans_mean_answers t b q h fits safe =
+    plans_mean_answers b (sight_of t) (world_number h.stored.names) q h.valid (stored_shows t b h).shown fits safe
+
 -- the plan of a query means the answers over the base of each state
 pub plan_answers : (t : Tables) (k : Known) (s : State) (q : Query) → Agrees t k s → can_be_answered k.catalog q ≡ true
     → meaning_of (sight_of t) (plan_of k.catalog.rels q) ≡ answers_of s.base q
@@ -84,7 +90,7 @@ plan_answers t k s q a fits =
     let here : can_be_answered c q ≡ true = ap (λ (x : Catalog). can_be_answered x q) (sym a.catalog) ∙ fits in
     let fine = (and_parts (query_fits c q) (is_safe c.rels q) here).0 in
     ap (λ (x : Catalog). meaning_of (sight_of t) (plan_of x.rels q)) a.catalog
-    ∙ plans_mean_answers s.base (sight_of t) (world_number a.base.stored.names) q a.base.valid (stored_shows t s.base a.base).shown fine (query_is_safe c q here)
+    ∙ stored_plans_mean_answers t s.base q a.base fine (query_is_safe c q here)
 
 not_many : (n : ℕ) → n ≤ most_lines → too_many n ≡ None
 not_many n h = cond-false (nat_lt most_lines n) (Some refusal.Many) None (le-ltb most_lines n h)

@@ -23,7 +23,7 @@ use Rattle.bdb_update.specs.Replacing.{WritesForOne}
 use Rattle.bdb_update.specs.declared.answer.UpdateError.{UpdateError}
 use Rattle.bdb_update.specs.declared.answer.UpdateError.TheVariants as change
 use Rattle.bdb_worlds.specs.Bounds.{RisesWithin}
-use Rattle.bdb_session.specs.Bounds.{RefusedUnwritten}
+use Rattle.bdb_session.specs.Bounds.{InsertsWithin, RefusedUnwritten}
 use Rattle.bdb_session.specs.declared.reply.Reply.{Reply}
 use Rattle.bdb_session.specs.declared.stop.StopError.{StopError}
 use Rattle.bdb_session.specs.declared.stop.StopError.TheVariants.{Fault, Memory}
@@ -113,3 +113,22 @@ module _ (times more : ℕ) (counts : Counts) (r : Reply) (before now : Known) (
         let k = MatchBool-at_false (IsKept counts r before now mid new result) (IsUndone r before now mid new result) undone h in
         subst (λ (x : Result Reply StopError). OnOk x (WritesWithin times more old new)) (sym k.reply) (nothing_written times more old new (k.undo.writes ∙ refused undone ∙ began.writes))
   ]
+
+  kept_unwritten : (result : Result Reply StopError) → r.accepted ≡ true → IsKept counts r before now mid new result → RefusedUnwritten old new result
+  kept_unwritten (Ok q) done k = λ f. absurd (false≢true (sym f ∙ ap (λ (x : Reply). x.accepted) k.reply ∙ done))
+  kept_unwritten (Err stop) done k = tt
+
+  settled_unwritten : (result : Result Reply StopError) → Settles counts r before now mid new result → RefusedUnwritten old new result
+  settled_unwritten result h = elim (cases_Bool r.accepted) [
+    | inl done ↦ kept_unwritten result done (MatchBool-at_true (IsKept counts r before now mid new result) (IsUndone r before now mid new result) done h)
+    | inr undone ↦
+        let k = MatchBool-at_false (IsKept counts r before now mid new result) (IsUndone r before now mid new result) undone h in
+        subst (λ (x : Result Reply StopError). RefusedUnwritten old new x) (sym k.reply) (λ _. k.undo.writes ∙ refused undone ∙ began.writes)
+  ]
+
+  -- an insert
+  pub insert_settles : (w : List ℕ) → times ≡ length w + 2 → more ≡ 8 → (result : Result Reply StopError) → Settles counts r before now mid new result → InsertsWithin w old new result
+  insert_settles w t m result h = record {
+    within = subst (λ n. OnOk result (WritesWithin n 8 old new)) t (subst (λ n. OnOk result (WritesWithin times n old new)) m (settled_writes result h));
+    refused = settled_unwritten result h;
+  }

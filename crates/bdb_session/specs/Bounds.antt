@@ -26,6 +26,16 @@ ReadsAsTold (ShowWorld path) k old new result = ReadsWithin (λ s. world_reads s
 ReadsAsTold (Select q) k old new result = ReadsAsBounded q k old new result
 ReadsAsTold _ k old new result = Unit {0}
 
+-- what is refused wrote nothing
+abbrev pub RefusedUnwritten : Seen → Seen → Result Reply StopError → Type 0
+RefusedUnwritten old new result = IfOk result (λ r. r.accepted ≡ false → new.writes ≡ old.writes)
+
+-- A statement is added. That takes no more writes, for each place at which the rows differ, than its path has users, and two; and eight
+-- more in all. Where it is refused nothing is written.
+pub record InsertsWithin (path : List ℕ) (old new : Seen) (result : Result Reply StopError) : Type 0 where
+  pub within : OnOk result (WritesWithin (length path + 2) 8 old new)
+  pub refused : RefusedUnwritten old new result
+
 -- Statements of a path are taken away. One alone takes no more writes, for each place at which the rows differ, than its path has
 -- users, and two; and eight more in all. Several take as many each, one after the other, and none takes no write.
 pub record DeletesThrough (b : Contents) (path : List ℕ) (gone : List Stmt) (old new : Seen) (result : Result Reply StopError) : Type 0 where
@@ -38,11 +48,10 @@ pub record UpdatesThrough (b : Contents) (gone : List Stmt) (sets : List SetCol)
   pub steps : IfOk result (λ r. r.accepted ≡ true → WritesThrough old (steps_of b gone (map (changed_statement sets) gone)) new)
   pub refused : IfOk result (λ r. r.accepted ≡ false → WritesNothing old new result)
 
--- A statement is added with at most as many writes for each place at which the rows differ as its path has users, and two; and eight in
--- all. Statements are taken away or changed step by step, whichever base the tables store. What is shown, answered or explained writes
--- nothing.
+-- A statement is added within its bound. Statements are taken away or changed step by step, whichever base the tables store. What is
+-- shown, answered or explained writes nothing.
 abbrev pub WritesAsTold : Bound → Known → Seen → Seen → Result Reply StopError → Type 0
-WritesAsTold (Insert x) k old new result = OnOk result (WritesWithin (length x.path + 2) 8 old new)
+WritesAsTold (Insert x) k old new result = InsertsWithin x.path old new result
 WritesAsTold (Delete path sign rel conds) k old new result =
     (s : State) → Agrees old.kept k s → DeletesThrough s.base path (taken_by path sign rel conds s.base.stmts) old new result
 WritesAsTold (Update path sign rel sets conds) k old new result =
@@ -59,7 +68,3 @@ CommandReads c k old new result = refusal_of k.catalog c ≡ None → ReadsAsTol
 
 abbrev pub CommandWrites : Command → Known → Seen → Seen → Result Reply StopError → Type 0
 CommandWrites c k old new result = refusal_of k.catalog c ≡ None → WritesAsTold (bound_of k.catalog c) k old new result
-
--- what is refused within a transaction wrote nothing
-abbrev pub RefusedUnwritten : Seen → Seen → Result Reply StopError → Type 0
-RefusedUnwritten old new result = IfOk result (λ r. r.accepted ≡ false → new.writes ≡ old.writes)

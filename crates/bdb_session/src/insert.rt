@@ -1,5 +1,5 @@
 // The command that adds a statement.
-ghost use Rattle.std.specs.Prelude.{◌≡◌, true};
+ghost use Rattle.std.specs.Prelude.{◌≡◌, ◌+◌, true, length, OnOk};
 ghost use Rattle.bdb_bind.specs.Fits.{fits_catalog};
 ghost use Rattle.bdb_keep.specs.Seen.{IsStill};
 ghost use Rattle.bdb_session.specs.Bounds.{RefusedUnwritten, WritesAsTold};
@@ -7,6 +7,7 @@ ghost use Rattle.bdb_session.specs.Known.{AgreesOnSome};
 ghost use Rattle.bdb_session.specs.Machine.{bound_outcome};
 ghost use Rattle.bdb_session.specs.Served.{Serves};
 ghost use Rattle.bdb_session.specs.Within.{TellsWithin, sized};
+ghost use Rattle.bdb_update.specs.Bounds.{WritesWithin};
 
 use crate::reply::Reply;
 use crate::session::Session;
@@ -20,7 +21,8 @@ use bdb_update::{Added, add_statement};
 
 impl Session {
     /// Lets a statement stand, or refuses it where it clashes with one of its path or the base would pass a limit. It takes no
-    /// more writes, for each place at which the rows differ, than the path has users, and two; and eight more in all.
+    /// more writes, for each place at which the rows differ, than the path has users, and two; and eight more in all. What is
+    /// refused takes none.
     pub(crate) fn insert<K: Keeper>(
         &mut self,
         keeper: &mut K,
@@ -55,7 +57,7 @@ impl Session {
         requires fits { fits_catalog self.now.catalog (Bound.Insert stmt.now) ≡ true }
         ensures told { TellsWithin (λ s. bound_outcome s (Bound.Insert stmt.now)) (sized self.now counts.old) (sized self.now counts.new)
             (K.seen keeper.old) (K.seen keeper.new) result }
-        ensures writes { WritesAsTold (Bound.Insert stmt.now) (sized self.now counts.old) (K.seen keeper.old) (K.seen keeper.new) result }
+        ensures writes { OnOk result (WritesWithin (length stmt.now.path + 2) 8 (K.seen keeper.old) (K.seen keeper.new)) }
         ensures refused { RefusedUnwritten (K.seen keeper.old) (K.seen keeper.new) result }
     {
         match add_statement(self.alloc, keeper, counts, stmt) {

@@ -5,6 +5,7 @@ mod change;
 mod create;
 mod event;
 mod insert;
+pub mod laws;
 mod limits;
 mod open;
 mod query;

@@ -1,5 +1,5 @@
 // What a piece says.
-ghost use Rattle.std.specs.Prelude.{◌≡◌, IfOk, Some};
+ghost use Rattle.std.specs.Prelude.{◌≡◌, true, IfOk, Some};
 ghost use Rattle.bdb_parse.specs.Reading.{command_of};
 ghost use Rattle.bdb_parse.specs.Spelled.{AreWellSpelled};
 
@@ -21,6 +21,17 @@ pub enum Reading {
 }
 
 ghost use Rattle.bdb_session.specs.Reading.{reading_of, reading_of_tokens, reading_of_command, IsFit};
+ghost use Rattle.bdb_session.specs.declared.reading.Reading.TheVariants as reading;
+
+/// Whether a piece has no byte, and so says nothing. A longer one may say nothing too.
+pub fn says_nothing(piece: &[u8]) -> bool
+    ensures { result ≡ true → reading_of piece.now ≡ reading.Nothing }
+{
+    match piece {
+        [] => true,
+        [_, ..] => false,
+    }
+}
 
 /// What a piece says.
 pub fn read_piece(alloc: Global, piece: &[u8]) -> Result<Reading, AllocError>

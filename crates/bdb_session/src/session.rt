@@ -8,7 +8,7 @@ ghost use Rattle.bdb_session.specs.declared.reading.Reading.TheVariants as readi
 
 use crate::change::Selection;
 use crate::event::Event;
-use crate::reading::{Reading, read_piece};
+use crate::reading::{Reading, read_piece, says_nothing};
 use crate::refusals::refusal_from;
 use crate::reply::Reply;
 use crate::stop::StopError;
@@ -89,6 +89,9 @@ impl Session {
         ensures reads { (c : Command) → reading_of piece.now ≡ reading.Says c → CommandReads c self.old (K.seen keeper.old) (K.seen keeper.new) result }
         ensures writes { (c : Command) → reading_of piece.now ≡ reading.Says c → CommandWrites c self.old (K.seen keeper.old) (K.seen keeper.new) result }
     {
+        if says_nothing(piece) {
+            return Ok(Reply::accepted(List::new(self.alloc)));
+        }
         match read_piece(self.alloc, piece) {
             Ok(Reading::Nothing) => Ok(Reply::accepted(List::new(self.alloc))),
             Ok(Reading::Refused(refusal)) => self.refuse(&refusal),

@@ -1,10 +1,10 @@
-use Rattle.std.proofs.Common.{◌+◌, length, ap}
+use Rattle.std.proofs.Common.{◌+◌, length, ap, refl}
 use Rattle.bdb_bind.specs.declared.bound.Bound.TheVariants.{Insert}
 use Rattle.bdb_session.specs.Known.{Known}
 use Rattle.bdb_session.specs.Machine.{bound_outcome}
 use Rattle.bdb_session.specs.Within.{sized}
 use Rattle.bdb_session.proofs.WithinLemmas.{begin_stops, step_stops, step_serves}
-use Rattle.bdb_session.proofs.WriteLemmas.{settled_writes}
+use Rattle.bdb_session.proofs.WriteLemmas.{insert_settles}
 use Rattle.bdb_session.proofs.session.Session.insert.Goals as goal
 
 pub returns-in-Err-clause-served : goal.returns-in-Err-clause-served
@@ -27,6 +27,12 @@ returns-in-Err-insert_within-clause-served g c =
 pub returns-in-Ok-insert_within-clause-writes : goal.returns-in-Ok-insert_within-clause-writes
 returns-in-Ok-insert_within-clause-writes g c =
     let run = g.K.Keeper.seen c.begin.new.keeper in
-    settled_writes (length c.args.stmt.now.path + 2) 8 c.insert_within.new.counts c.in-Ok-insert_within.told c.args.self.now c.settle.new.self (g.K.Keeper.seen c.args.keeper.now) run
+    insert_settles (length c.args.stmt.now.path + 2) 8 c.insert_within.new.counts c.in-Ok-insert_within.told c.args.self.now c.settle.new.self (g.K.Keeper.seen c.args.keeper.now) run
     (g.K.Keeper.seen c.insert_within.new.keeper) (g.K.Keeper.seen c.settle.new.keeper) c.in-Ok.ensures c.in-Ok-insert_within.ensures.writes c.in-Ok-insert_within.ensures.refused
-    c.settle.result c.settle.ensures
+    c.args.stmt.now.path refl refl c.settle.result c.settle.ensures
+
+pub returns-in-Err-clause-writes : goal.returns-in-Err-clause-writes
+returns-in-Err-clause-writes g c = record { within = tt; refused = tt }
+
+pub returns-in-Err-insert_within-clause-writes : goal.returns-in-Err-insert_within-clause-writes
+returns-in-Err-insert_within-clause-writes g c = record { within = tt; refused = tt }
