@@ -180,11 +180,9 @@ count_is key n h = elim (cases_lt (length key) 24) [
   | inr le ↦ let e = length-take-le 24 key (omega arith) in omega arith
 ]
 
--- what writing the three numbers one after the other, and cutting, makes
-pub written : (w x y z v a b c : List ℕ) (m n : ℕ) → w ≡ [] → x ≡ w ++ a → y ≡ x ++ b → z ≡ y ++ c → v ≡ take m z → m ≡ n → v ≡ take n (a ++ (b ++ (c ++ [])))
-written w x y z v a b c m n d e f g h i =
-    h ∙ ap (λ k. take k z) i
-    ∙ ap (take n) (g ∙ ap (λ l. l ++ c) (f ∙ ap (λ l. l ++ b) (e ∙ ap (λ l. l ++ a) d)) ∙ append_assoc a b c ∙ ap (λ l. a ++ (b ++ l)) (sym (append-nil c)))
+-- what writing bytes to a cleared key, and cutting, makes
+pub written : (w y v a b : List ℕ) (m n : ℕ) → w ≡ [] → y ≡ w ++ a → a ≡ b → v ≡ take m y → m ≡ n → v ≡ take n b
+written w y v a b m n d e f g h = g ∙ ap (λ k. take k y) h ∙ ap (take n) (e ∙ ap (λ l. l ++ a) d ∙ f)
 
 -- how a place and one that is looked for compare, by what is inside them
 pub compared : (p q : List ℕ) (a b : Head) (r s : List ℕ) (o : Ordering) → a.tab ∷ key_of a r ≡ p → b.tab ∷ key_of b s ≡ q → IsHeadOf (key_of a r) a r → IsHeadOf (key_of b s) b s

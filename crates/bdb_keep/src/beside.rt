@@ -9,7 +9,7 @@ ghost use Rattle.bdb_keep.specs.Shelves.{IsFirstRow};
 
 use crate::block::Entry;
 use crate::cursors::Mark;
-use crate::place::Row;
+use crate::row::Row;
 use crate::shelf::Shelf;
 use crate::shelves::shelf_at;
 use crate::words::Probe;

@@ -8,7 +8,7 @@ ghost use Rattle.bdb_keep.specs.Heads.{IsHeadOfPlace};
 ghost use Rattle.bdb_keep.specs.Blocks.{entry_at, starts_within, without_empty, has_any, HasFirst};
 
 use crate::head::Head;
-use crate::place::Row;
+use crate::row::Row;
 use crate::words::{Probe, Words};
 use std::alloc::{AllocError, Global};
 use std::cmp::Ordering;

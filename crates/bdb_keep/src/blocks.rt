@@ -6,7 +6,7 @@ ghost use Rattle.bdb_keep.specs.Blocks.{joined, before, after, AreSorted, HaveEn
 
 use crate::block::{Block, CAPACITY};
 use crate::finding::{Spot, block_at};
-use crate::place::Row;
+use crate::row::Row;
 use crate::words::{Probe, Words};
 use std::alloc::{AllocError, Global};
 

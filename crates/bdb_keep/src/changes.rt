@@ -6,7 +6,8 @@ ghost use Rattle.bdb_keep.specs.Entries.{place_at, rows_of, row_of, KeepsPlaces}
 ghost use Rattle.bdb_keep.specs.Changes.{undone, places_of, HavePlaces};
 ghost use Rattle.bdb_keep.specs.Tables.{set_at};
 
-use crate::place::{Place, Row};
+use crate::place::Place;
+use crate::row::Row;
 use crate::rows::Rows;
 use crate::words::Probe;
 use std::alloc::{AllocError, Global};

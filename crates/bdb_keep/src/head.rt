@@ -67,18 +67,20 @@ impl Head {
         ensures { OnOk result (key.new.items ≡ take self.now.count (bytes_of self.now)) }
     {
         key.clear();
-        write_number(key, self.first)?;
-        write_number(key, self.second)?;
-        write_number(key, self.third)?;
+        key.extend_from_slice(&all_bytes(self))?;
         key.truncate(usize::from(self.count));
         Ok(())
     }
 }
 
-/// Writes the bytes of a number, the highest first.
-fn write_number(key: &mut Vec<u8>, number: u64) -> Result<(), AllocError>
-    ensures { OnOk result (key.new.items ≡ key.old.items ++ to_be_bytes w64 number) }
+/// The bytes of the three numbers, the highest first.
+fn all_bytes(head: &Head) -> [u8; 24]
+    ensures { result ≡ bytes_of head.now }
 {
-    key.extend_from_slice(&number.to_be_bytes())?;
-    Ok(())
+    let [a, b, c, d, e, f, g, h] = head.first.to_be_bytes();
+    let [i, j, k, l, m, n, o, p] = head.second.to_be_bytes();
+    let [q, r, s, t, u, v, w, x] = head.third.to_be_bytes();
+    [
+        a, b, c, d, e, f, g, h, i, j, k, l, m, n, o, p, q, r, s, t, u, v, w, x,
+    ]
 }

@@ -15,6 +15,7 @@ mod mem;
 mod place;
 mod quiet;
 mod reading;
+mod row;
 mod rows;
 mod shelf;
 mod shelves;

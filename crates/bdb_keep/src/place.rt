@@ -1,4 +1,4 @@
-// The bytes of a place and of a row, of which short ones lie in the value itself.
+// The bytes of a place, of which a few lie in the value itself.
 ghost use Rattle.std.specs.Prelude.{◌≡◌, ◌∷◌, IfOk};
 
 use crate::words::Probe;
@@ -42,36 +42,5 @@ impl Place {
         ensures { result ≡ self.now }
     {
         Probe::of(self.tab, self.key.as_slice())
-    }
-}
-
-/// The bytes of a row. At most 16 of them lie in the value itself.
-#[derive(Drop)]
-pub struct Row {
-    bytes: SmallVec<u8, 16>,
-}
-
-impl Model for Row {
-    ghost use Rattle.std.specs.Prelude.{ℕ, List};
-
-    ghost Value = { List ℕ };
-
-    ghost view = { λ r. r.bytes.items };
-}
-
-impl Row {
-    /// A row with a copy of these bytes.
-    pub fn of(alloc: Global, bytes: &[u8]) -> Result<Self, AllocError>
-        ensures { IfOk result (λ row. row ≡ bytes.now) }
-    {
-        let bytes = SmallVec::from_slice(alloc, bytes)?;
-        Ok(Row { bytes })
-    }
-
-    /// The bytes.
-    pub fn as_slice(&self) -> &[u8]
-        ensures { result.now ≡ self.now }
-    {
-        self.bytes.as_slice()
     }
 }

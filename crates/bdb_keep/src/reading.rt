@@ -3,7 +3,7 @@ ghost use Rattle.std.specs.Prelude.{◌≡◌, ◌∷◌, [], Some, None, IfOk, 
 ghost use Rattle.std.specs.Option.{option_copied};
 
 use crate::block::Entry;
-use crate::place::Row;
+use crate::row::Row;
 use std::alloc::AllocError;
 
 /// Copies a row, if there is one.

@@ -8,7 +8,7 @@ ghost use Rattle.bdb_keep.specs.Tables.{IsLeastFrom, NoneFrom, LieWithin};
 
 use crate::block::{Block, Entry};
 use crate::cursors::Cursors;
-use crate::place::Row;
+use crate::row::Row;
 use crate::shelf::Shelf;
 use crate::shelves;
 use crate::words::Probe;

@@ -8,7 +8,7 @@ ghost use Rattle.bdb_keep.specs.Shelves.{IsChangedAt, NoRowFrom, IsFirstRow, IsC
 use crate::block::{Block, Entry};
 use crate::blocks::{add, drop_empty_blocks, drop_empty_places, is_behind, replace_at, take_out};
 use crate::finding::{Near, Spot, entry_of, find, find_beside, find_row, row_from};
-use crate::place::Row;
+use crate::row::Row;
 use crate::words::{Probe, Words};
 use std::alloc::{AllocError, Global};
 use std::marker::Model;

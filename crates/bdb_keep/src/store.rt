@@ -6,7 +6,8 @@ ghost use Rattle.bdb_keep.specs.Held.{IsPlace, written};
 ghost use Rattle.bdb_keep.specs.Tables.{IsLeastFrom, NoneFrom};
 
 use crate::changes::{Change, insert_row, put_row, roll_back, settle, take_row};
-use crate::place::{Place, Row};
+use crate::place::Place;
+use crate::row::Row;
 use crate::rows::Rows;
 use crate::words::Probe;
 use std::alloc::{AllocError, Global};

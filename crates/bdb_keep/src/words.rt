@@ -1,5 +1,5 @@
 // Places as numbers.
-ghost use Rattle.std.specs.Prelude.{◌≡◌, ◌∷◌, IfOk, ℕ, List};
+ghost use Rattle.std.specs.Prelude.{◌≡◌, ◌∷◌, ◌++◌, IfOk, OnOk, ℕ, List};
 ghost use Rattle.std.specs.declared.cmp.Ordering.TheVariants.{Equal};
 ghost use Rattle.bdb_keep.specs.Tables.{bytes_cmp};
 ghost use Rattle.bdb_keep.specs.Heads.{IsHeadOfPlace};
@@ -44,6 +44,19 @@ impl Rest {
         match &self.bytes {
             Some(bytes) => bytes.as_slice(),
             None => &[],
+        }
+    }
+
+    /// Appends them to a key.
+    fn append_to(&self, key: &mut Vec<u8>) -> Result<(), AllocError>
+        ensures { OnOk result (key.new.items ≡ key.old.items ++ self.now) }
+    {
+        match &self.bytes {
+            Some(bytes) => {
+                key.extend_from_slice(bytes.as_slice())?;
+                Ok(())
+            }
+            None => Ok(()),
         }
     }
 
@@ -122,7 +135,7 @@ impl Words {
         ensures { IfOk result (λ tab. self.now ≡ tab ∷ key.new.items) }
     {
         self.head.write(key)?;
-        key.extend_from_slice(self.rest.as_slice())?;
+        self.rest.append_to(key)?;
         Ok(self.head.tab)
     }
 }
