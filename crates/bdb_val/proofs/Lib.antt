@@ -2,6 +2,7 @@ pub mod ApartLemmas
 pub mod Calls
 pub mod CopyLemmas
 pub mod CopyTells
+pub mod FoundLinks
 pub mod GroupLemmas
 pub mod HeldLemmas
 pub mod LinkLemmas

@@ -58,11 +58,6 @@ links_are ns t u h same wid more l = subst (AllByRecursion (IsLink t)) (sym l.li
         (sym (h.linked.rows d.0 a.0.key) ∙ sym (same (place linked_codec d.0) refl) ∙ l.under.found (pair_bytes d.0) a.0.begins) b.0 in
         (one d.0 a.0.key (leads_tells (link_of ns d.0.1) d.0.0 k), go ds a.1 b.1)
 
--- what holds of all of a list holds of its parts
-pub all_parts : {X : Type 0} (P : X → Type 0) (xs : List X) (x : X) → AllByRecursion P (xs ++ x ∷ []) → AllByRecursion P xs × P x
-all_parts P [] x a = (tt, a.0)
-all_parts P (y ∷ ys) x a = let k = all_parts P ys x a.1 in ((a.0, k.0), k.1)
-
 -- ---- links that are read one by one
 
 -- the links whose keys are below `low` have come at the end of a list

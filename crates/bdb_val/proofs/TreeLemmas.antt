@@ -4,7 +4,7 @@ use Rattle.std.specs.List.{list_any, list_all, AllByRecursion}
 use Rattle.std.specs.Option.{option_map}
 use Rattle.std.specs.Ordering.{is_lt}
 use Rattle.std.specs.FinMap as tables
-use Rattle.std.proofs.lemmas.Bool.{true≢false, false≢true, cases_Bool, and_parts, and_from, or_left, or_right, or_from, or_cases, or_parts, not-true, not_from_false, false_from_ne_true, eqb-true, eq-eqb}
+use Rattle.std.proofs.lemmas.Bool.{true≢false, false≢true, cases_Bool, and_parts, and_from, or_left, or_right, or_from, or_cases, not-true, not_from_false, false_from_ne_true, eqb-true, eq-eqb}
 use Rattle.std.proofs.lemmas.List.{map-append, length-append}
 use Rattle.std.proofs.lemmas.List.Elements.{filter-append}
 use Rattle.std.proofs.lemmas.List.Folds.{list_any-append}
@@ -52,16 +52,8 @@ listed_append : (m : ℕ) (xs ys : List ℕ) → is_listed m (xs ++ ys) ≡ (is_
 listed_append m xs ys = list_any-append (nat_eq m) xs ys
 
 -- no number stands twice in a list without its last item, nor is that in it
-once_parts : (xs : List ℕ) (y : ℕ) → are_once (xs ++ y ∷ []) ≡ true → (are_once xs ≡ true) × (is_listed y xs ≡ false)
-once_parts [] y e = (refl, refl)
-once_parts (x ∷ xs) y e =
-    let p = and_parts (not (is_listed x (xs ++ y ∷ []))) (are_once (xs ++ y ∷ [])) e in
-    let r = once_parts xs y p.1 in
-    let o = or_parts (is_listed x xs) (is_listed x (y ∷ [])) (sym (listed_append x xs (y ∷ [])) ∙ not-true (is_listed x (xs ++ y ∷ [])) p.0) in
-    let n = or_parts (nat_eq x y) false o.1 in (
-      and_from (not (is_listed x xs)) (are_once xs) (not_from_false (is_listed x xs) o.0) r.0,
-      or_from (nat_eq y x) (is_listed y xs) (false_from_ne_true (nat_eq y x) (λ k. false≢true (sym n.0 ∙ eq-eqb x y (sym (eqb-true y x k))))) r.1,
-    )
+once_parts : (xs : List ℕ) (y : ℕ) → are_once (y ∷ xs) ≡ true → (are_once xs ≡ true) × (is_listed y xs ≡ false)
+once_parts xs y e = let p = and_parts (not (is_listed y xs)) (are_once xs) e in (p.1, not-true (is_listed y xs) p.0)
 
 once_append : (xs ys : List ℕ) → are_once xs ≡ true → are_once ys ≡ true → ((m : ℕ) → is_listed m xs ≡ true → is_listed m ys ≡ true → ⊥) → are_once (xs ++ ys) ≡ true
 once_append [] ys a b h = b
@@ -266,7 +258,7 @@ module _ (stmts : List Stmt) (ns : Names) (tuple : ℕ → Option Tuple) (test :
       some_path : (a b : List ℕ) → Some a ≡ Some b → a ≡ b
       some_path a b e = cc
 
-  walk_next : (g : ValKey → Option Mark) (u v : Tables) (wid : ℕ) (left more : List ℕ) (made : List (ValKey × Option Mark)) (put taken : ℕ) → HasWalked u (left ++ wid ∷ []) made put taken → HasRows tuple g u
+  walk_next : (g : ValKey → Option Mark) (u v : Tables) (wid : ℕ) (left more : List ℕ) (made : List (ValKey × Option Mark)) (put taken : ℕ) → HasWalked u (wid ∷ left) made put taken → HasRows tuple g u
       → (w : List ℕ) → path_of ns wid ≡ Some w → IsNum wid → (s : IsVisit prefix u v wid) → are_once more ≡ true → ((m : ℕ) → is_listed m more ≡ true → link_of ns m ≡ Some wid)
       → HasWalked v (left ++ more) (made ++ changes_of s) (put + put_by s) (taken + taken_by s)
   walk_next g u v wid left more made put taken k rows w named n s once children =
@@ -284,9 +276,9 @@ module _ (stmts : List Stmt) (ns : Names) (tuple : ℕ → Option Tuple) (test :
               (k.unseen m (before_listed m a))
           | inr a ↦ or_from (nat_eq m wid) (k.seen m)
               (false_from_ne_true (nat_eq m wid) (λ q. no_loop ns names wid w named (ap (link_of ns) (sym (eqb-true m wid q)) ∙ children m a)))
-              (false_from_ne_true (k.seen m) (λ q. not_before m (or_left (k.seen m) (is_listed m (left ++ wid ∷ [])) q) (children m a)))
+              (false_from_ne_true (k.seen m) (λ q. not_before m (or_left (k.seen m) (is_listed m (wid ∷ left)) q) (children m a)))
         ];
-        once = once_append left more parts.0 once (λ m a b. not_before m (or_right (k.seen m) (is_listed m (left ++ wid ∷ [])) (before_listed m a)) (children m b));
+        once = once_append left more parts.0 once (λ m a b. not_before m (or_right (k.seen m) (is_listed m (wid ∷ left)) (before_listed m a)) (children m b));
         linked = λ m e q. elim (where_from m e) [
           | inl a ↦ let r = k.linked m a q in (r.0, r.1, or_right (nat_eq r.0 wid) (k.seen r.0) r.2)
           | inr a ↦ (wid, children m a, or_left (nat_eq wid wid) (k.seen wid) (eq-eqb wid wid refl))
@@ -295,7 +287,7 @@ module _ (stmts : List Stmt) (ns : Names) (tuple : ℕ → Option Tuple) (test :
           | inl a ↦ k.deep m x a p
           | inr a ↦
               let lt = link_is_shorter ns names m wid x w p named (children m a) in
-              let le = k.deep wid w (or_right (k.seen wid) (is_listed wid (left ++ wid ∷ [])) listed_here) named in
+              let le = k.deep wid w (or_right (k.seen wid) (is_listed wid (wid ∷ left)) listed_here) named in
               omega (arith, lt, le)
         ];
         differ = subst (AreDifferences (tables.get t) (tables.get v)) (sym (map-append at_place made cs)) (differences_add (tables.get t) (tables.get u) (tables.get v) before here k.differ differs apart);
@@ -317,14 +309,14 @@ module _ (stmts : List Stmt) (ns : Names) (tuple : ℕ → Option Tuple) (test :
       parts : (are_once left ≡ true) × (is_listed wid left ≡ false)
       parts = once_parts left wid k.once
 
-      listed_here : is_listed wid (left ++ wid ∷ []) ≡ true
-      listed_here = listed_append wid left (wid ∷ []) ∙ or_right (is_listed wid left) (is_listed wid (wid ∷ [])) (or_left (nat_eq wid wid) false (eq-eqb wid wid refl))
+      listed_here : is_listed wid (wid ∷ left) ≡ true
+      listed_here = or_left (nat_eq wid wid) (is_listed wid left) (eq-eqb wid wid refl)
 
-      before_listed : (m : ℕ) → is_listed m left ≡ true → is_listed m (left ++ wid ∷ []) ≡ true
-      before_listed m a = listed_append m left (wid ∷ []) ∙ or_left (is_listed m left) (is_listed m (wid ∷ [])) a
+      before_listed : (m : ℕ) → is_listed m left ≡ true → is_listed m (wid ∷ left) ≡ true
+      before_listed m a = or_right (nat_eq m wid) (is_listed m left) a
 
       -- no world that came before is linked to the one that is visited now
-      not_before : (m : ℕ) → (k.seen m || is_listed m (left ++ wid ∷ [])) ≡ true → link_of ns m ≡ Some wid → ⊥
+      not_before : (m : ℕ) → (k.seen m || is_listed m (wid ∷ left)) ≡ true → link_of ns m ≡ Some wid → ⊥
       not_before m e l = elim (cases_Bool (nat_eq m start)) [
         | inr a ↦
             let r = k.linked m e a in
@@ -332,18 +324,18 @@ module _ (stmts : List Stmt) (ns : Names) (tuple : ℕ → Option Tuple) (test :
             true≢false (sym r.2 ∙ ap k.seen same ∙ k.unseen wid listed_here)
         | inl a ↦
             let lt = link_is_shorter ns names m wid root.0 w (ap (path_of ns) (eqb-true m start a) ∙ root.1) named l in
-            let le = k.deep wid w (or_right (k.seen wid) (is_listed wid (left ++ wid ∷ [])) listed_here) named in
+            let le = k.deep wid w (or_right (k.seen wid) (is_listed wid (wid ∷ left)) listed_here) named in
             absurd (omega (arith, lt, le))
       ]
 
-      where_from : (m : ℕ) → ((nat_eq m wid || k.seen m) || is_listed m (left ++ more)) ≡ true → ((k.seen m || is_listed m (left ++ wid ∷ [])) ≡ true) ⊎ (is_listed m more ≡ true)
+      where_from : (m : ℕ) → ((nat_eq m wid || k.seen m) || is_listed m (left ++ more)) ≡ true → ((k.seen m || is_listed m (wid ∷ left)) ≡ true) ⊎ (is_listed m more ≡ true)
       where_from m e = elim (or_cases (nat_eq m wid || k.seen m) (is_listed m (left ++ more)) e) [
         | inl a ↦ elim (or_cases (nat_eq m wid) (k.seen m) a) [
-          | inl b ↦ inl (or_right (k.seen m) (is_listed m (left ++ wid ∷ [])) (ap (λ z. is_listed z (left ++ wid ∷ [])) (eqb-true m wid b) ∙ listed_here))
-          | inr b ↦ inl (or_left (k.seen m) (is_listed m (left ++ wid ∷ [])) b)
+          | inl b ↦ inl (or_right (k.seen m) (is_listed m (wid ∷ left)) (ap (λ z. is_listed z (wid ∷ left)) (eqb-true m wid b) ∙ listed_here))
+          | inr b ↦ inl (or_left (k.seen m) (is_listed m (wid ∷ left)) b)
         ]
         | inr a ↦ elim (or_cases (is_listed m left) (is_listed m more) (sym (listed_append m left more) ∙ a)) [
-          | inl b ↦ inl (or_right (k.seen m) (is_listed m (left ++ wid ∷ [])) (before_listed m b))
+          | inl b ↦ inl (or_right (k.seen m) (is_listed m (wid ∷ left)) (before_listed m b))
           | inr b ↦ inr b
         ]
       ]
@@ -367,11 +359,11 @@ module _ (stmts : List Stmt) (ns : Names) (tuple : ℕ → Option Tuple) (test :
   pub walk_once : (u : Tables) (left : List ℕ) (made : List (ValKey × Option Mark)) (put taken : ℕ) → Walked prefix t start u left made put taken → HasWalked u left made put taken
   walk_once _ _ _ _ _ (first u more s l) = walk_first u more s l (walk_on_way stmts ns tuple test prefix names spans group f t start h u more (changes_of s) (put_by s) (taken_by s) (first u more s l)).links
   walk_once _ _ _ _ _ (next u v wid left more made put taken walked s l) =
-      let way = walk_on_way stmts ns tuple test prefix names spans group f t start h u (left ++ wid ∷ []) made put taken walked in
+      let way = walk_on_way stmts ns tuple test prefix names spans group f t start h u (wid ∷ left) made put taken walked in
       let after = walk_on_way stmts ns tuple test prefix names spans group f t start h v (left ++ more) (made ++ changes_of s) (put + put_by s) (taken + taken_by s) (next u v wid left more made put taken walked s l) in
-      let named = some_is (path_of ns wid) (way.named wid (listed_append wid left (wid ∷ []) ∙ or_right (is_listed wid left) (is_listed wid (wid ∷ [])) (or_left (nat_eq wid wid) false (eq-eqb wid wid refl)))) in
+      let named = some_is (path_of ns wid) (way.named wid (or_left (nat_eq wid wid) (is_listed wid left) (eq-eqb wid wid refl))) in
       let n = way.explicit.sized wid named.0 named.1 in
-      let k = walk_once u (left ++ wid ∷ []) made put taken walked in
+      let k = walk_once u (wid ∷ left) made put taken walked in
       elim l [
         | inl q ↦ walk_next _ u v wid left more made put taken k way.explicit.rows named.0 named.1 n s (ap are_once q.0) (λ m e. absurd (false≢true (ap (is_listed m) (sym q.0) ∙ e)))
         | inr d ↦ walk_next _ u v wid left more made put taken k way.explicit.rows named.0 named.1 n s (linked_once v wid more n d) (listed_links v after.links wid more n d)

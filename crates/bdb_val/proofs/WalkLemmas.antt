@@ -158,23 +158,23 @@ module _ (stmts : List Stmt) (ns : Names) (tuple : ℕ → Option Tuple) (test :
   listed_append : (m : ℕ) (xs ys : List ℕ) → is_listed m (xs ++ ys) ≡ (is_listed m xs || is_listed m ys)
   listed_append m xs ys = list_any-append (nat_eq m) xs ys
 
-  next_visit : (g : ValKey → Option Mark) (u v : Tables) (wid : ℕ) (left more : List ℕ) → IsOnWay g u (left ++ wid ∷ []) → (s : IsVisit prefix u v wid)
+  next_visit : (g : ValKey → Option Mark) (u v : Tables) (wid : ℕ) (left more : List ℕ) → IsOnWay g u (wid ∷ left) → (s : IsVisit prefix u v wid)
       → ((more ≡ []) × IsQuiet s) ⊎ AreLinkedTo v wid more → IsOnWay (with_rows_at val_codec g (changes_of s)) v (left ++ more)
   next_visit g u v wid left more h s l =
-      let w = some_is (path_of ns wid) (h.named wid (listed_append wid left (wid ∷ []) ∙ or_right (is_listed wid left) (is_listed wid (wid ∷ [])) (or_left (nat_eq wid wid) false (eq-eqb wid wid refl)))) in
+      let w = some_is (path_of ns wid) (h.named wid (or_left (nat_eq wid wid) (is_listed wid left) (eq-eqb wid wid refl))) in
       let links = links_after stmts ns tuple test prefix names spans group g u v h.explicit h.links wid w.0 w.1 s in
       record {
         explicit = explicit_after stmts ns tuple test prefix names spans group g u v h.explicit h.links wid w.0 w.1 s;
         links = links;
         named = λ m e. elim (or_cases (is_listed m left) (is_listed m more) (sym (listed_append m left more) ∙ e)) [
-          | inl a ↦ h.named m (listed_append m left (wid ∷ []) ∙ or_left (is_listed m left) (is_listed m (wid ∷ [])) a)
+          | inl a ↦ h.named m (or_right (nat_eq m wid) (is_listed m left) a)
           | inr a ↦ elim l [
             | inl q ↦ absurd (false≢true (ap (is_listed m) (sym q.0) ∙ a))
             | inr d ↦ more_named v links wid more d m a
           ]
         ];
         settled = λ m tid x p out. elim (cases_Bool (test x)) [
-          | inr e ↦ settled_other stmts ns tuple test prefix names spans group g u v h.explicit h.links wid w.0 w.1 s m tid x p e (h.settled m tid x p (and_left (test x) (is_listed m (left ++ wid ∷ [])) e))
+          | inr e ↦ settled_other stmts ns tuple test prefix names spans group g u v h.explicit h.links wid w.0 w.1 s m tid x p e (h.settled m tid x p (and_left (test x) (is_listed m (wid ∷ left)) e))
           | inl e ↦
               let gone = or_parts (is_listed m left) (is_listed m more) (sym (listed_append m left more) ∙ false_from_ne_true (is_listed m (left ++ more)) (λ k.
               true≢false (sym (and_from (test x) (is_listed m (left ++ more)) e k) ∙ out))) in
@@ -182,8 +182,7 @@ module _ (stmts : List Stmt) (ns : Names) (tuple : ℕ → Option Tuple) (test :
                 | inl c ↦ subst (λ z. IsSettledAt stmts (worlds_of ns) (with_rows_at val_codec g (changes_of s)) z tid x) (sym (eqb-true m wid c))
                     (settled_here stmts ns tuple test prefix names spans group g u v h.explicit h.links wid w.0 w.1 s tid x p e)
                 | inr c ↦
-                    let before = h.settled m tid x p (and_right (test x) (is_listed m (left ++ wid ∷ []))
-                    (listed_append m left (wid ∷ []) ∙ or_from (is_listed m left) (is_listed m (wid ∷ [])) gone.0 (or_from (nat_eq m wid) false c refl))) in
+                    let before = h.settled m tid x p (and_right (test x) (is_listed m (wid ∷ left)) (or_from (nat_eq m wid) (is_listed m left) c gone.0)) in
                     elim l [
                       | inl q ↦ settled_there stmts ns tuple test prefix names spans group g u v h.explicit h.links wid w.0 w.1 s m tid x p (not_same m wid c)
                           (λ k. quiet_signs stmts ns tuple test prefix names spans group g u v h.explicit h.links wid w.0 w.1 s q.1 tid x p e) before
@@ -200,7 +199,7 @@ module _ (stmts : List Stmt) (ns : Names) (tuple : ℕ → Option Tuple) (test :
   walk_on_way f t start h _ _ _ _ _ (first u more s l) = first_visit f t u start more h s l
   walk_on_way f t start h _ _ _ _ _ (next u v wid rest more before puts takes walked s l) =
       subst (λ g. IsOnWay g v (rest ++ more)) (sym (rows_append f before (changes_of s)))
-      (next_visit (with_rows_at val_codec f before) u v wid rest more (walk_on_way f t start h u (rest ++ wid ∷ []) before puts takes walked) s l)
+      (next_visit (with_rows_at val_codec f before) u v wid rest more (walk_on_way f t start h u (wid ∷ rest) before puts takes walked) s l)
 
 -- ---- groups
 

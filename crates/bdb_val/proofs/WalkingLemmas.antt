@@ -1,18 +1,22 @@
 -- A walk as the code goes on with it.
-use Rattle.std.proofs.Common.{◌≡◌, ◌∙◌, ℕ, ◌+◌, ◌≤◌, List, [], ◌∷◌, ◌++◌, ◌⊎◌, length, Option, inl, inr, refl, ap, sym, subst, arith}
+use Rattle.std.proofs.Common.{◌≡◌, ◌∙◌, ℕ, ◌+◌, ◌≤◌, List, [], ◌∷◌, ◌++◌, ◌⊎◌, length, drop, filter, Option, inl, inr, refl, ap, sym, subst, arith}
 use Rattle.std.specs.List.{AllByRecursion}
-use Rattle.std.proofs.lemmas.List.{append-nil, length-append, map-append}
+use Rattle.std.specs.FinMap as tables
+use Rattle.std.proofs.lemmas.List.{append-nil, length-append, map-append, drop-append-le}
 use Rattle.bdb_base.specs.Causes.{Rises}
 use Rattle.bdb_base.specs.declared.kinds.Stmt.{Stmt}
 use Rattle.bdb_base.specs.declared.kinds.Value.{Value}
 use Rattle.bdb_base.specs.declared.tuple.Tuple.{Tuple}
 use Rattle.bdb_keep.specs.Seen.{Seen}
+use Rattle.bdb_keep.specs.Tables.{Tables}
 use Rattle.bdb_key.specs.Grammar.{IsNum, IsPlainValue}
+use Rattle.bdb_tables.specs.Differences.{AreDifferences}
 use Rattle.bdb_tables.specs.Grammar.{InGrammar}
 use Rattle.bdb_tables.specs.InUse.{ValKey, val_codec}
 use Rattle.bdb_tables.specs.Marks.{Mark}
 use Rattle.bdb_tables.specs.Names.{Names}
 use Rattle.bdb_tables.specs.Writes.{with_rows_at}
+use Rattle.bdb_val.specs.Counts.{has_none, TellsDifferences}
 use Rattle.bdb_val.specs.Groups.{HasLinks, IsUnsettled}
 use Rattle.bdb_val.specs.Middle.{worlds_of}
 use Rattle.bdb_val.specs.Others.{SameBut}
@@ -25,7 +29,7 @@ use Rattle.bdb_val.specs.Walks.Walked.{first, next}
 use Rattle.bdb_val.specs.declared.stored.Settled.{Settled}
 use Rattle.bdb_val.specs.declared.stored.SettledWorld.{SettledWorld}
 use Rattle.bdb_val.proofs.Calls.{HasGone, gone_then}
-use Rattle.bdb_val.proofs.LinkLemmas.{IsLink, worlds_with, linked_to, links_are, still_link, all_parts}
+use Rattle.bdb_val.proofs.LinkLemmas.{IsLink, worlds_with, linked_to, links_are, still_link}
 use Rattle.bdb_val.proofs.OtherLemmas.{is_rows}
 use Rattle.bdb_val.proofs.ReadLemmas.{group_span}
 use Rattle.bdb_val.proofs.SettlingLemmas.{all_append}
@@ -88,13 +92,35 @@ rises_then m n a b c p q r s below =
     let f : b ≡ a + m = r (omega arith) in
     omega arith
 
+-- what is told after a read is told of the tables before it
+pub told_back : (old mid new : Seen) (put taken : ℕ) → mid.kept ≡ old.kept → mid.writes ≡ old.writes → TellsDifferences mid new put taken → TellsDifferences old new put taken
+told_back old mid new put taken k w h ps d =
+    let x = h ps (subst (λ (t : Tables). AreDifferences (tables.get t) (tables.get new.kept) ps) (sym k) d) in
+    record {
+      writes = subst (λ n. Rises (length ps) n new.writes) w x.writes;
+      came = x.came ∙ ap (λ (t : Tables). counted (length (filter (has_none t) ps))) k;
+      went = x.went;
+    }
+
+-- a visit that puts links at the end of a list puts them at the end of what is left of it
+pub left_of_visit : (old new : Seen) (prefix : ℕ → List ℕ) (wid n : ℕ) (before after : List (ℕ × ℕ)) (s : SettledWorld) → n ≤ length before → IsNextVisit old new prefix wid before after s
+    → IsNextVisit old new prefix wid (drop n before) (drop n after) s
+left_of_visit old new prefix wid n before after s le v = record {
+  visit = v.visit;
+  told = v.told;
+  pushed = elim v.pushed [
+    | inl k ↦ inl (ap (drop n) k.0, k.1)
+    | inr k ↦ inr (record { more = k.more; linked = k.linked; list = ap (drop n) k.list ∙ drop-append-le n before k.more le })
+  ];
+}
+
 -- one visit more
 next_walked : (ns : Names) (old now new : Seen) (prefix : ℕ → List ℕ) (start : ℕ) (at : ℕ × ℕ) (list left after : List (ℕ × ℕ)) (total : Settled) (s : SettledWorld) (sum : Settled) → HasLinks ns old.kept → SameBut is_rows old.kept new.kept
     → HasGone old now → HasGone now new → IsWalked old now prefix start list total → AllByRecursion (IsLink old.kept) left
-    → list ≡ left ++ at ∷ [] → IsNextVisit now new prefix at.0 left after s → sum.put ≡ counted (total.put + s.put) → sum.taken ≡ counted (total.taken + s.taken) → IsWalked old new prefix start after sum
+    → list ≡ at ∷ left → IsNextVisit now new prefix at.0 left after s → sum.put ≡ counted (total.put + s.put) → sum.taken ≡ counted (total.taken + s.taken) → IsWalked old new prefix start after sum
 next_walked ns old now new prefix start at list left after total s sum links same before gone w behind is v p q =
-    let walked : Walked prefix old.kept start now.kept (worlds_with left ++ at.0 ∷ []) w.made w.put w.taken =
-    subst (λ xs. Walked prefix old.kept start now.kept xs w.made w.put w.taken) (ap worlds_with is ∙ map-append (λ (x : ℕ × ℕ). x.0) left (at ∷ [])) w.walked in
+    let walked : Walked prefix old.kept start now.kept (at.0 ∷ worlds_with left) w.made w.put w.taken =
+    subst (λ xs. Walked prefix old.kept start now.kept xs w.made w.put w.taken) (ap worlds_with is) w.walked in
     let goes = λ (more : List ℕ) (e : worlds_with after ≡ worlds_with left ++ more) (l : ((more ≡ []) × IsQuiet v.visit) ⊎ AreLinkedTo new.kept at.0 more).
     subst (λ xs. Walked prefix old.kept start new.kept xs (w.made ++ changes_of v.visit) (w.put + put_by v.visit) (w.taken + taken_by v.visit)) (sym e)
     (next now.kept new.kept at.0 (worlds_with left) more w.made w.put w.taken walked v.visit l) in
@@ -117,7 +143,7 @@ next_walked ns old now new prefix start at list left after total s sum links sam
     }
 
 pub walk_more : (old now new : Seen) (rel : ℕ) (v : Value) (start : ℕ) (at : ℕ × ℕ) (list left after : List (ℕ × ℕ)) (total : Settled) (s : SettledWorld) (sum : Settled) → IsNum rel → IsPlainValue v → IsWalking old now rel v start list total
-    → list ≡ left ++ at ∷ [] → HasGone now new → InGrammar new.kept → HaveTuples new.kept → SameBut is_rows now.kept new.kept
+    → list ≡ at ∷ left → HasGone now new → InGrammar new.kept → HaveTuples new.kept → SameBut is_rows now.kept new.kept
     → (IsLink now.kept at → WhereStated now.kept (IsNextVisit now new (λ w. group_prefix w rel v) at.0 left after s))
     → sum.put ≡ counted (total.put + s.put) → sum.taken ≡ counted (total.taken + s.taken) → IsWalking old new rel v start after sum
 walk_more old now new rel v start at list left after total s sum r plain w is gone grammar tuples others visit p q =
@@ -131,7 +157,7 @@ walk_more old now new rel v start at list left after total s sum r plain w is go
           let k = w.walked stmts ns tuple f h in
           let prefix = λ (m : ℕ). group_prefix m rel v in
           let way = walk_on_way stmts ns tuple (is_of_group rel v) prefix h.names (λ m n. group_span m rel v n r plain) (is_group rel v) f old.kept start h now.kept (worlds_with list) k.made k.put k.taken k.walked in
-          let parts = all_parts (IsLink old.kept) left at (subst (AllByRecursion (IsLink old.kept)) is k.links) in
-          let seen = visit (still_link old.kept now.kept w.others at parts.1) stmts (worlds_of ns) tuple (with_rows_at val_codec f k.made) way.explicit in
-          next_walked ns old now new prefix start at list left after total s sum h.links same w.gone gone k parts.0 is seen p q;
+          let parts = subst (AllByRecursion (IsLink old.kept)) is k.links in
+          let seen = visit (still_link old.kept now.kept w.others at parts.0) stmts (worlds_of ns) tuple (with_rows_at val_codec f k.made) way.explicit in
+          next_walked ns old now new prefix start at list left after total s sum h.links same w.gone gone k parts.1 is seen p q;
     }

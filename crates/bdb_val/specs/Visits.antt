@@ -1,5 +1,5 @@
 -- What visits of a walk read, write and list.
-use Rattle.std.specs.Prelude.{◌≡◌, ℕ, ◌⊎◌, List, ◌++◌, length, map}
+use Rattle.std.specs.Prelude.{◌≡◌, ℕ, ◌⊎◌, Bool, true, nat_eq, List, [], ◌++◌, length, map}
 use Rattle.bdb_base.specs.Causes.{Rises}
 use Rattle.bdb_keep.specs.Seen.{Seen}
 use Rattle.bdb_keep.specs.Tables.{Tables}
@@ -18,6 +18,18 @@ pub record AreLinksTo (t : Tables) (wid : ℕ) (more : List (ℕ × ℕ)) : Type
   pub entries : List ((ℕ × ℕ) × Unit {0})
   pub under : AreUnder linked_codec t (num_bytes wid) entries
   pub listed : more ≡ map turned_round entries
+
+-- the world to which a link leads
+abbrev pub led_to : (ℕ × ℕ) × Unit {0} → ℕ
+led_to e = e.0.0
+
+-- a link leads to a world
+abbrev pub leads_to : ℕ → (ℕ × ℕ) × Unit {0} → Bool
+leads_to wid e = nat_eq (led_to e) wid
+
+-- where links were read, they are all that the tables have
+abbrev pub AreLinks : Tables → Bool → List ((ℕ × ℕ) × Unit {0}) → Type 0
+AreLinks t are_all links = are_all ≡ true → AreUnder linked_codec t [] links
 
 -- the links that lead to a world come at the end of a list
 pub record ArePushed (t : Tables) (wid : ℕ) (before after : List (ℕ × ℕ)) : Type 0 where

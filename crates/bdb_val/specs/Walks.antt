@@ -43,6 +43,6 @@ IsQuiet s = list_any (turns (mark_in s.settling.own)) (changes_of s) ≡ false
 -- has made these changes, of which so many put a new row, and so many took one away.
 pub data Walked (prefix : ℕ → List ℕ) (t : Tables) (start : ℕ) : Tables → List ℕ → List (ValKey × Option Mark) → ℕ → ℕ → Type 0 where
   first : (u : Tables) (more : List ℕ) (s : IsVisit prefix t u start) → AreLinkedTo u start more → Walked prefix t start u more (changes_of s) (put_by s) (taken_by s)
-  next : (u v : Tables) (wid : ℕ) (left more : List ℕ) (made : List (ValKey × Option Mark)) (put taken : ℕ) → Walked prefix t start u (left ++ wid ∷ []) made put taken
+  next : (u v : Tables) (wid : ℕ) (left more : List ℕ) (made : List (ValKey × Option Mark)) (put taken : ℕ) → Walked prefix t start u (wid ∷ left) made put taken
       → (s : IsVisit prefix u v wid) → ((more ≡ []) × IsQuiet s) ⊎ AreLinkedTo v wid more
       → Walked prefix t start v (left ++ more) (made ++ changes_of s) (put + put_by s) (taken + taken_by s)

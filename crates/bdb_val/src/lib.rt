@@ -3,6 +3,7 @@
 
 mod changes;
 mod laws;
+mod links;
 mod marks;
 mod numbered;
 mod reading;

@@ -15,8 +15,9 @@ ghost use Rattle.bdb_val.specs.Reads.{HaveTuples, group_prefix};
 ghost use Rattle.bdb_val.specs.Rooms.{IsRoomFor};
 ghost use Rattle.bdb_val.specs.Stated.{WhereStated};
 ghost use Rattle.bdb_val.specs.Steps.{counted, IsChanging};
-ghost use Rattle.bdb_val.specs.Visits.{ArePushed, IsFirstVisit, IsNextVisit};
+ghost use Rattle.bdb_val.specs.Visits.{AreLinks, ArePushed, IsFirstVisit, IsNextVisit};
 
+use crate::links::{Links, push_found, read_links};
 use crate::room::{LinkRoom, WalkRoom};
 use crate::settle::settle_state;
 use crate::stored::{Settled, SettledWorld};
@@ -29,7 +30,7 @@ use std::alloc::{AllocError, Global};
 /// Settles the rows of the tuples of a relation and a value of its key, at a state and at all states whose suffix links lead
 /// to it: each is explicit, or inherited where no explicit row contradicts it. It goes on from a state only where a sign
 /// there is another. One write for each row that is another afterwards; it tells how many rows were put at keys that had none,
-/// and how many were taken away.
+/// and how many were taken away. Where it begins at the root, which all links lead to in the end, they are read at once.
 pub fn settle_group<K: Keeper>(
     alloc: Global,
     keeper: &mut K,
@@ -48,6 +49,37 @@ pub fn settle_group<K: Keeper>(
     ensures tuples { OnOk result (HaveTuples (K.seen keeper.new).kept) }
     ensures changing { IsChanging (K.seen keeper.old) (K.seen keeper.new) result TabError.Fault }
 {
+    let links = match read_links(alloc, keeper, wid) {
+        Ok(links) => links,
+        Err(error) => return Err(error),
+    };
+    match settle_from(alloc, keeper, wid, rel, key, &links) {
+        Ok(settled) => Ok(settled),
+        Err(error) => Err(error),
+    }
+}
+
+// The same by links that were read, where they are all.
+fn settle_from<K: Keeper>(
+    alloc: Global,
+    keeper: &mut K,
+    wid: u32,
+    rel: u32,
+    key: &Value,
+    links: &Links,
+) -> Result<Settled, TabError>
+    requires running { (K.seen keeper.old).running ≡ true }
+    requires grammar { InGrammar (K.seen keeper.old).kept }
+    requires tuples { HaveTuples (K.seen keeper.old).kept }
+    requires text { HasPlainText key.now }
+    requires links { AreLinks (K.seen keeper.old).kept links.now.are_all links.now.list.items }
+    ensures settled { OnOk result (SettlesGroup (K.seen keeper.old).kept (K.seen keeper.new).kept wid rel key.now) }
+    ensures tells { IfOk result (TellsGroup (K.seen keeper.old) (K.seen keeper.new) wid rel key.now) }
+    ensures others { OnOk result (SameBut (λ n. nat_eq n 11) (K.seen keeper.old).kept (K.seen keeper.new).kept) }
+    ensures grammar { OnOk result (InGrammar (K.seen keeper.new).kept) }
+    ensures tuples { OnOk result (HaveTuples (K.seen keeper.new).kept) }
+    ensures changing { IsChanging (K.seen keeper.old) (K.seen keeper.new) result TabError.Fault }
+{
     let mut room = match WalkRoom::new(alloc) {
         Ok(room) => room,
         Err(_) => {
@@ -56,20 +88,22 @@ pub fn settle_group<K: Keeper>(
         }
     };
     let mut list = Vec::new(alloc);
-    let first = match visit_first(alloc, keeper, wid, rel, key, &mut list, &mut room) {
+    let first = match visit_first(alloc, keeper, wid, rel, key, links, &mut list, &mut room) {
         Ok(settled) => settled,
         Err(error) => return Err(error),
     };
     let mut total = first_of(first);
+    let mut at: usize = 0;
     for _ in 0..u64::MAX {
-        let next = match list.pop() {
-            Some(next) => next,
-            None => return Ok(total),
-        };
-        match visit_next(alloc, keeper, next, rel, key, &mut list, &mut room) {
+        if at >= list.len() {
+            return Ok(total);
+        }
+        let next = list[at];
+        match visit_next(alloc, keeper, next, rel, key, links, &mut list, &mut room) {
             Ok(settled) => total = both(total, settled),
             Err(error) => return Err(error),
         }
+        at += 1;
     }
     keeper.undo();
     Err(TabError::Memory)
@@ -82,6 +116,7 @@ fn visit_first<K: Keeper>(
     wid: u32,
     rel: u32,
     key: &Value,
+    links: &Links,
     list: &mut Vec<(u32, u32)>,
     room: &mut WalkRoom,
 ) -> Result<SettledWorld, TabError>
@@ -89,6 +124,7 @@ fn visit_first<K: Keeper>(
     requires grammar { InGrammar (K.seen keeper.old).kept }
     requires tuples { HaveTuples (K.seen keeper.old).kept }
     requires text { HasPlainText key.now }
+    requires links { AreLinks (K.seen keeper.old).kept links.now.are_all links.now.list.items }
     requires room { IsRoomFor (K.seen keeper.old).kept rel key.now room.old.group.prefix.items room.old.handed.from room.old.handed.rows.items }
     ensures visited { IfOk result (λ settled. WhereStated (K.seen keeper.old).kept (IsFirstVisit (K.seen keeper.old) (K.seen keeper.new) (λ w. group_prefix w rel key.now) wid list.old.items list.new.items settled)) }
     ensures others { OnOk result (SameBut (λ n. nat_eq n 11) (K.seen keeper.old).kept (K.seen keeper.new).kept) }
@@ -106,7 +142,7 @@ fn visit_first<K: Keeper>(
         Ok(settled) => settled,
         Err(error) => return Err(error),
     };
-    match push_linked(alloc, keeper, wid, list, &mut room.links) {
+    match push_linked(alloc, keeper, wid, links, list, &mut room.links) {
         Ok(()) => Ok(settled),
         Err(error) => Err(error),
     }
@@ -119,6 +155,7 @@ fn visit_next<K: Keeper>(
     next: (u32, u32),
     rel: u32,
     key: &Value,
+    links: &Links,
     list: &mut Vec<(u32, u32)>,
     room: &mut WalkRoom,
 ) -> Result<SettledWorld, TabError>
@@ -126,6 +163,7 @@ fn visit_next<K: Keeper>(
     requires grammar { InGrammar (K.seen keeper.old).kept }
     requires tuples { HaveTuples (K.seen keeper.old).kept }
     requires text { HasPlainText key.now }
+    requires links { AreLinks (K.seen keeper.old).kept links.now.are_all links.now.list.items }
     requires room { IsRoomFor (K.seen keeper.old).kept rel key.now room.old.group.prefix.items room.old.handed.from room.old.handed.rows.items }
     ensures visited { IfOk result (λ settled. HasAt link_codec (K.seen keeper.old).kept next.0 (Some next.1)
         → WhereStated (K.seen keeper.old).kept (IsNextVisit (K.seen keeper.old) (K.seen keeper.new) (λ w. group_prefix w rel key.now) next.0 list.old.items list.new.items settled)) }
@@ -142,14 +180,45 @@ fn visit_next<K: Keeper>(
     if !settled.turned {
         return Ok(settled);
     }
-    match push_linked(alloc, keeper, next.0, list, &mut room.links) {
+    match push_linked(alloc, keeper, next.0, links, list, &mut room.links) {
         Ok(()) => Ok(settled),
         Err(error) => Err(error),
     }
 }
 
-// Puts the suffix links that lead to a state on the list, each by the state that has it and the one to which it leads.
+// Puts the suffix links that lead to a state on the list, each by the state that has it and the one to which it leads. They are
+// read unless all were.
 fn push_linked<K: Keeper>(
+    alloc: Global,
+    keeper: &mut K,
+    wid: u32,
+    links: &Links,
+    list: &mut Vec<(u32, u32)>,
+    room: &mut LinkRoom,
+) -> Result<(), TabError>
+    requires running { (K.seen keeper.old).running ≡ true }
+    requires grammar { InGrammar (K.seen keeper.old).kept }
+    requires links { AreLinks (K.seen keeper.old).kept links.now.are_all links.now.list.items }
+    ensures pushed { OnOk result (ArePushed (K.seen keeper.old).kept wid list.old.items list.new.items) }
+    ensures read { IsRead (K.seen keeper.old) (K.seen keeper.new) result TabError.Fault }
+{
+    if !links.are_all {
+        match read_linked(alloc, keeper, wid, list, room) {
+            Ok(()) => return Ok(()),
+            Err(error) => return Err(error),
+        }
+    }
+    match push_found(links, wid, list) {
+        Ok(()) => Ok(()),
+        Err(_) => {
+            keeper.undo();
+            Err(TabError::Memory)
+        }
+    }
+}
+
+// Reads the suffix links that lead to a state, and puts them on the list.
+fn read_linked<K: Keeper>(
     alloc: Global,
     keeper: &mut K,
     wid: u32,

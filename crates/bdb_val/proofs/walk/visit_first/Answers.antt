@@ -6,6 +6,7 @@ use Rattle.bdb_val.specs.Middle.{HasExplicit}
 use Rattle.bdb_val.specs.Others.{SameBut}
 use Rattle.bdb_val.specs.Reads.{group_prefix}
 use Rattle.bdb_val.specs.Visits.{ArePushed}
+use Rattle.bdb_val.proofs.FoundLinks.{links_stay, links_same}
 use Rattle.bdb_val.proofs.OtherLemmas.{is_rows}
 use Rattle.bdb_val.proofs.RoomLemmas.{same_room}
 use Rattle.bdb_val.proofs.StepsMade.{step_from, visited, told}
@@ -48,3 +49,10 @@ settle_state-requires-clause-room g c =
     let room = c.args.room.now in
     same_room (g.K.Keeper.seen c.args.keeper.now).kept (g.K.Keeper.seen c.get.new.keeper).kept c.args.rel c.args.key.now room.group.prefix.items room.handed.from room.handed.rows.items
     c.in-Ok.ensures.read.kept c.requires.room
+
+pub push_linked-requires-clause-links : goal.push_linked-requires-clause-links
+push_linked-requires-clause-links g c =
+    let start = (g.K.Keeper.seen c.get.new.keeper).kept in
+    let links = c.args.links.now in
+    links_stay start (g.K.Keeper.seen c.settle_state.new.keeper).kept c.in-Ok-settle_state.ensures.others links.are_all links.list.items
+    (links_same (g.K.Keeper.seen c.args.keeper.now).kept start c.in-Ok.ensures.read.kept links.are_all links.list.items c.requires.links)

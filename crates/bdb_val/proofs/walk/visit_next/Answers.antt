@@ -4,6 +4,7 @@ use Rattle.bdb_keep.specs.Tables.{Tables}
 use Rattle.bdb_val.specs.Others.{SameBut}
 use Rattle.bdb_val.specs.Reads.{group_prefix}
 use Rattle.bdb_val.specs.Visits.{ArePushed}
+use Rattle.bdb_val.proofs.FoundLinks.{links_stay}
 use Rattle.bdb_val.proofs.OtherLemmas.{is_rows}
 use Rattle.bdb_val.proofs.RoomLemmas.{same_room}
 use Rattle.bdb_val.proofs.StepsMade.{visited, told, quiet}
@@ -43,3 +44,8 @@ returns-in-Ok-push_linked-clause-room g c =
     let room = c.settle_state.new.room in
     same_room (g.K.Keeper.seen c.settle_state.new.keeper).kept (g.K.Keeper.seen c.push_linked.new.keeper).kept c.args.rel c.args.key.now room.group.prefix.items room.handed.from room.handed.rows.items
     c.in-Ok-push_linked.ensures.read.kept c.in-Ok.ensures.room
+
+pub push_linked-requires-clause-links : goal.push_linked-requires-clause-links
+push_linked-requires-clause-links g c =
+    let links = c.args.links.now in
+    links_stay (g.K.Keeper.seen c.args.keeper.now).kept (g.K.Keeper.seen c.settle_state.new.keeper).kept c.in-Ok.ensures.others links.are_all links.list.items c.requires.links
