@@ -19,7 +19,7 @@ ghost use Rattle.bdb_exec.specs.Readable.{CanBeRun};
 ghost use Rattle.bdb_exec.specs.Rows.{HasTuple, IsNumberOf, HasPushed, signed_at, mark_denies, is_written, world_prefix, key_prefix};
 ghost use Rattle.bdb_exec.specs.Seen.{sight_of, signed_under};
 
-use crate::memo::{Memo, keep_tuple};
+use crate::memo::{Memo, keep_pool, keep_tuple, pool_of_key};
 use crate::shared::Shared;
 use bdb_base::limits::LONGEST_TEXT;
 use bdb_base::{Exact, List, Sign, Tuple, Txt, Value};
@@ -43,7 +43,7 @@ pub fn users<K: Keeper>(alloc: Global, keeper: &mut K) -> Result<List<Shared>, T
         Ok(entries) => entries,
         Err(error) => return Err(error),
     };
-    match users_of(alloc, entries.as_slice()) {
+    match users_of(alloc, entries) {
         Ok(users) => Ok(users),
         Err(_) => {
             keeper.undo();
@@ -53,12 +53,13 @@ pub fn users<K: Keeper>(alloc: Global, keeper: &mut K) -> Result<List<Shared>, T
 }
 
 // The users of rows.
-fn users_of(alloc: Global, entries: &[(u32, Txt)]) -> Result<List<Shared>, AllocError>
-    ensures { IfOk result (λ users. users ≡ map (λ e. user_tuple e.0 e.1) entries.now) }
+fn users_of(alloc: Global, entries: Vec<(u32, Txt)>) -> Result<List<Shared>, AllocError>
+    ensures { IfOk result (λ users. users ≡ map (λ e. user_tuple e.0 e.1) entries.items) }
 {
     let mut users = List::new(alloc);
     for entry in entries {
-        let tuple = user_tuple(alloc, entry.0, &entry.1)?;
+        let (uid, name) = entry;
+        let tuple = user_tuple(alloc, uid, name)?;
         users.push(Shared::new(alloc, tuple)?)?;
     }
     Ok(users)
@@ -124,8 +125,51 @@ pub fn plus_tuples<K: Keeper>(
     }
 }
 
-/// As `plus_tuples`, but only the tuples whose first value is this one, and only their rows are read.
+/// As `plus_tuples`, but only the tuples whose first value is this one, and only their rows are read. Nothing is read where the
+/// key is the last that was asked for of the world and the relation.
 pub fn plus_tuples_of_key<K: Keeper>(
+    alloc: Global,
+    keeper: &mut K,
+    memo: &mut Memo,
+    world: u32,
+    rel: u32,
+    key: &Value,
+) -> Result<List<Shared>, TabError>
+    requires run { CanBeRun (K.seen keeper.old).kept }
+    requires memo { Recalls (K.seen keeper.old).kept memo.old }
+    ensures tuples { IfOk result (λ tuples. tuples ≡ of_key (Some key.now) (plus_tuples ((sight_of (K.seen keeper.old).kept).rows world rel))) }
+    ensures reads { OnOk result ((K.seen keeper.new).reads ≤ (K.seen keeper.old).reads + (2 * length (rows_of_key (Some key.now) ((sight_of (K.seen keeper.old).kept).rows world rel)) + 1)) }
+    ensures memo { OnOk result (Recalls (K.seen keeper.old).kept memo.new) }
+    ensures looks { Looks (K.seen keeper.old) (K.seen keeper.new) result TabError.Fault }
+{
+    let place = (world, rel);
+    match pool_of_key(&memo.last_pools, &place, key) {
+        Some(tuples) => {
+            return match tuples.try_clone(alloc) {
+                Ok(copy) => Ok(copy),
+                Err(_) => {
+                    keeper.undo();
+                    Err(TabError::Memory)
+                }
+            };
+        }
+        None => {}
+    }
+    let tuples = match read_plus_of_key(alloc, keeper, memo, world, rel, key) {
+        Ok(tuples) => tuples,
+        Err(error) => return Err(error),
+    };
+    match keep_pool(alloc, &mut memo.last_pools, place, key, tuples) {
+        Ok(copy) => Ok(copy),
+        Err(_) => {
+            keeper.undo();
+            Err(TabError::Memory)
+        }
+    }
+}
+
+// The tuples of a relation and a key that a world has with plus, from their rows.
+fn read_plus_of_key<K: Keeper>(
     alloc: Global,
     keeper: &mut K,
     memo: &mut Memo,
@@ -406,22 +450,20 @@ fn is_written(value: &Value) -> bool
 {
     match value {
         Value::Int(_) => true,
-        Value::Text(text) => is_plain(text.as_bytes()),
+        Value::Text(text) => is_plain(text.as_str()),
     }
 }
 
-// Whether bytes are a plain text.
-#[tactic(auto, using(bdb_key::proofs::Readings::utf8_true, bdb_key::proofs::Readings::utf8_false))]
-fn is_plain(bytes: &[u8]) -> bool
-    ensures { result ≡ is_plain bytes.now }
+// Whether a text is a plain one.
+#[tactic(auto, using(bdb_key::proofs::Readings::utf8_true))]
+fn is_plain(text: &str) -> bool
+    ensures { result ≡ is_plain text.now }
 {
-    if bytes.len() > LONGEST_TEXT || !is_printing(bytes) {
+    let bytes = text.as_bytes();
+    if bytes.len() > LONGEST_TEXT {
         return false;
     }
-    match std::str::from_utf8(bytes) {
-        Ok(_) => true,
-        Err(_) => false,
-    }
+    is_printing(bytes)
 }
 
 // Whether no byte is one of a character below U+0020.

@@ -1,15 +1,24 @@
 // What an execution has read so far.
 ghost use Rattle.std.specs.Prelude.{◌≡◌, Some, IfOk, OnOk};
+ghost use Rattle.std.specs.Option.{option_copied};
 ghost use Rattle.std.specs.Ordering.{nat_cmp};
-ghost use Rattle.std.specs.BTreeMap.{Updates};
+ghost use Rattle.std.specs.BTreeMap.{get, Updates};
 ghost use Rattle.bdb_keep.specs.Tables.{Tables};
-ghost use Rattle.bdb_exec.specs.Memos.{Recalls};
+ghost use Rattle.bdb_exec.specs.Memos.{last_pool, pair_cmp, pool_of, Recalls};
 
 use crate::shared::Shared;
-use bdb_base::{Exact, List, Tuple};
+use bdb_base::{Exact, List, Tuple, Value, cmp_value};
 use bdb_tables::Room;
 use std::alloc::{AllocError, Global};
+use std::cmp::Ordering;
 use std::collections::BTreeMap;
+
+/// The tuples of a key that a world has with plus.
+#[derive(Drop)]
+pub struct KeyPool {
+    pub key: Value,
+    pub tuples: List<Shared>,
+}
 
 /// What an execution has read so far and needn't read or decode again, and room for the bytes of keys and rows.
 #[derive(Drop)]
@@ -20,6 +29,8 @@ pub struct Memo {
     pub tuples: BTreeMap<u32, Shared>,
     /// The tuples that a world has with plus, by world and relation.
     pub pools: BTreeMap<(u32, u32), List<Shared>>,
+    /// The tuples of the key that was asked for last, by world and relation.
+    pub last_pools: BTreeMap<(u32, u32), KeyPool>,
     /// Where edges lead, by world and user.
     pub edges: BTreeMap<(u32, u32), Option<u32>>,
     /// Room for the calls that read rows of worlds.
@@ -35,10 +46,46 @@ impl Memo {
             users: None,
             tuples: BTreeMap::new(alloc),
             pools: BTreeMap::new(alloc),
+            last_pools: BTreeMap::new(alloc),
             edges: BTreeMap::new(alloc),
             room: Room::new(alloc),
         }
     }
+}
+
+/// The tuples of a key at a place, where it is the key that was asked for last.
+pub fn pool_of_key<'a>(
+    pools: &'a BTreeMap<(u32, u32), KeyPool>,
+    place: &(u32, u32),
+    key: &Value,
+) -> Option<&'a List<Shared>>
+    ensures { option_copied result ≡ last_pool (get pair_cmp pools.now place.now) key.now }
+{
+    match pools.get(place) {
+        Some(pool) => match cmp_value(&pool.key, key) {
+            Ordering::Equal => Some(&pool.tuples),
+            Ordering::Less => None,
+            Ordering::Greater => None,
+        },
+        None => None,
+    }
+}
+
+/// Keeps the tuples of a key at a place, and gives them.
+pub fn keep_pool(
+    alloc: Global,
+    pools: &mut BTreeMap<(u32, u32), KeyPool>,
+    place: (u32, u32),
+    key: &Value,
+    tuples: List<Shared>,
+) -> Result<List<Shared>, AllocError>
+    ensures pool { IfOk result (λ pool. pool ≡ tuples) }
+    ensures kept { OnOk result (Updates pair_cmp pools.old pools.new place (Some (pool_of key.now tuples))) }
+{
+    let key = key.try_clone(alloc)?;
+    let copy = tuples.try_clone(alloc)?;
+    pools.insert(place, KeyPool { key, tuples })?;
+    Ok(copy)
 }
 
 /// Keeps the tuple of a number, and gives it.

@@ -43,6 +43,14 @@ pub enum Came {
     },
 }
 
+/// One of these tuples is chosen for an item, in a state.
+#[derive(Drop)]
+struct Choosing {
+    item: u32,
+    pool: List<Shared>,
+    state: State,
+}
+
 /// Takes steps up to the first at which something is chosen.
 pub fn advance<K: Keeper>(
     alloc: Global,
@@ -116,22 +124,15 @@ pub fn run<K: Keeper>(
                 done,
                 item,
                 pool,
-                state: here,
+                state,
             },
-        ) => match run_each(
-            alloc,
-            keeper,
-            memo,
-            &steps[done..],
-            take,
-            here,
-            item,
-            pool,
-            found,
-        ) {
-            Ok(()) => Ok(()),
-            Err(error) => Err(error),
-        },
+        ) => {
+            let choosing = Choosing { item, pool, state };
+            match run_each(alloc, keeper, memo, &steps[done..], take, choosing, found) {
+                Ok(()) => Ok(()),
+                Err(error) => Err(error),
+            }
+        }
         Err(error) => Err(error),
     }
 }
@@ -145,18 +146,21 @@ fn run_each<K: Keeper>(
     memo: &mut Memo,
     steps: &[Step],
     take: &[Ref],
-    here: State,
-    item: u32,
-    pool: List<Shared>,
+    choosing: Choosing,
     found: &mut Found,
 ) -> Result<(), TabError>
     requires run { CanBeRun (K.seen keeper.old).kept }
     requires memo { Recalls (K.seen keeper.old).kept memo.old }
-    ensures rows { OnOk result (found.new ≡ with_rows found.old (flat_map (rows_with (sight_of (K.seen keeper.old).kept) take.now steps.now here item) pool)) }
-    ensures reads { OnOk result ((K.seen keeper.new).reads ≤ (K.seen keeper.old).reads + sum_by (looks_with (sight_of (K.seen keeper.old).kept) steps.now here item) pool) }
+    ensures rows { OnOk result (found.new ≡ with_rows found.old (flat_map (rows_with (sight_of (K.seen keeper.old).kept) take.now steps.now choosing.state choosing.item) choosing.pool)) }
+    ensures reads { OnOk result ((K.seen keeper.new).reads ≤ (K.seen keeper.old).reads + sum_by (looks_with (sight_of (K.seen keeper.old).kept) steps.now choosing.state choosing.item) choosing.pool) }
     ensures memo { OnOk result (Recalls (K.seen keeper.old).kept memo.new) }
     ensures looks { Looks (K.seen keeper.old) (K.seen keeper.new) result TabError.Fault }
 {
+    let Choosing {
+        item,
+        pool,
+        state: here,
+    } = choosing;
     let mut left = in_turn(pool);
     while let Some(tuple) = left.pop() {
         if !found.has_room() {

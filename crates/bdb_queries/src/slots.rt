@@ -9,7 +9,7 @@ use bdb_base::{Cond, Exact, List, Operand, Ref, Tuple, Txt, Value, Who, cmp_valu
 use std::alloc::{AllocError, Global};
 
 /// What is chosen for the item at a place.
-pub fn slot_at(slots: &[Option<Tuple>], at: usize) -> Option<&Tuple>
+fn slot_at(slots: &[Option<Tuple>], at: usize) -> Option<&Tuple>
     ensures { option_copied result ≡ slot_at slots.now at }
 {
     match slots.get(at) {
@@ -79,7 +79,7 @@ pub fn must_all_hold(slots: &[Option<Tuple>], conds: &[Cond]) -> bool
 }
 
 /// Whether a comparison is known to hold.
-pub fn must_hold(slots: &[Option<Tuple>], cond: &Cond) -> bool
+fn must_hold(slots: &[Option<Tuple>], cond: &Cond) -> bool
     ensures { result ≡ must_hold slots.now cond.now }
 {
     match (known(slots, cond.left), known_operand(slots, &cond.right)) {
@@ -125,7 +125,7 @@ pub fn path_of(
 }
 
 /// A user of a path: a fixed one, or the one chosen for a `Users` item.
-pub fn uid_of(slots: &[Option<Tuple>], who: Who) -> Option<u32>
+fn uid_of(slots: &[Option<Tuple>], who: Who) -> Option<u32>
     ensures { result ≡ uid_of slots.now who }
 {
     match who {
@@ -145,18 +145,19 @@ pub fn user_tuples(alloc: Global, users: &[Txt]) -> Result<List<Tuple>, AllocErr
     let mut tuples = List::new(alloc);
     let mut uid = 1;
     for name in users {
-        tuples.push(user_tuple(alloc, uid, name)?)?;
+        let tuple = user_tuple(alloc, uid, name.try_clone(alloc)?)?;
+        tuples.push(tuple)?;
         uid += 1;
     }
     Ok(tuples)
 }
 
 /// A user as a tuple.
-pub fn user_tuple(alloc: Global, uid: u32, name: &Txt) -> Result<Tuple, AllocError>
-    ensures { IfOk result (λ tuple. tuple ≡ user_tuple uid name.now) }
+pub fn user_tuple(alloc: Global, uid: u32, name: Txt) -> Result<Tuple, AllocError>
+    ensures { IfOk result (λ tuple. tuple ≡ user_tuple uid name) }
 {
     let mut vals = List::new(alloc);
     vals.push(Value::Int(i64::from(uid)))?;
-    vals.push(Value::Text(name.try_clone(alloc)?))?;
+    vals.push(Value::Text(name))?;
     Ok(Tuple { rel: uid, vals })
 }

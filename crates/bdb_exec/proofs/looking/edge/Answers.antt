@@ -23,4 +23,5 @@ returns-in-Ok-insert-clause-memo g c =
       h.2,
       after_insert pair_cmp c.args.memo.now.edges c.insert.new.self (c.args.world, c.args.uid) c.in-Ok.target (λ place target. target ≡ (sight_of t).edge place.0 place.1) (pair_tied (c.args.world, c.args.uid))
           (edge_is t c.args.world c.args.uid c.in-Ok.target c.in-Ok.ensures.found) c.in-Ok-insert.ensures.updates h.3,
+      h.4,
     )

@@ -21,4 +21,5 @@ returns-in-Ok-keep_tuple-clause-memo g c =
           c.in-Ok-keep_tuple.ensures.kept h.1,
       h.2,
       h.3,
+      h.4,
     )

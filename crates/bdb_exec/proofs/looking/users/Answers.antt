@@ -1,11 +1,10 @@
-use Rattle.std.proofs.Common.{◌∙◌, ◌+◌, ◌≤◌, ap, map, subst}
-use Rattle.bdb_queries.specs.Slots.{user_tuple}
+use Rattle.std.proofs.Common.{◌∙◌, ◌+◌, ◌≤◌, subst}
 use Rattle.bdb_exec.proofs.LookingLemmas.{users_are, users_many}
 use Rattle.bdb_exec.proofs.looking.users.Goals as goal
 
 pub returns-in-Ok-users_of-clause-users : goal.returns-in-Ok-users_of-clause-users
 returns-in-Ok-users_of-clause-users g c =
-    c.in-Ok-users_of.ensures ∙ ap (map (λ e. user_tuple e.0 e.1)) c.as_slice.ensures.value ∙ users_are (g.K.Keeper.seen c.args.keeper.now).kept c.in-Ok.entries.items c.in-Ok.ensures.rows
+    c.in-Ok-users_of.ensures ∙ users_are (g.K.Keeper.seen c.args.keeper.now).kept c.in-Ok.entries.items c.in-Ok.ensures.rows
 
 pub returns-in-Ok-users_of-clause-reads : goal.returns-in-Ok-users_of-clause-reads
 returns-in-Ok-users_of-clause-reads g c =

@@ -25,4 +25,5 @@ returns-in-Ok-insert-clause-memo g c =
       after_insert pair_cmp c.plus_tuples.new.memo.pools c.insert.new.self (c.world-world.result, c.args.rel) c.in-Ok-plus_tuples.all (λ place pool. pool ≡ plus_tuples (sight.rows place.0 place.1))
           (pair_tied (c.world-world.result, c.args.rel)) c.in-Ok-plus_tuples.ensures.tuples c.in-Ok-insert.ensures.updates h.2,
       h.3,
+      h.4,
     )

@@ -20,8 +20,8 @@ run_each-loop-tuple-preserved g t c =
     let new = g.K.Keeper.seen c.run-in-Some.new.keeper in
     let sight = sight_of old.kept in
     let steps = c.args.steps.now in
-    let item = c.args.item in
-    let here = c.args.here in
+    let item = c.args.choosing.item in
+    let here = c.args.choosing.state in
     let h = c.loop-tuple.invariant in
     let x = c.in-Some.tuple in
     let left = c.loop-tuple.left.items in
@@ -36,42 +36,42 @@ run_each-loop-tuple-preserved g t c =
     (subst (λ u. new.reads ≤ now.reads + looks_from (sight_of u) steps c.in-Ok-copy_with.next) h.kept c.in-Ok-run.ensures.reads) in
     looking_more old now new c.in-Ok-run.field-0 Fault h c.in-Ok-run.ensures.looks (record {
       here = h.read.here;
-      rows = rows_after_turn F c.loop-tuple.found c.run-in-Some.new.found (with_rows c.args.found.now (flat_map F c.args.pool)) left more x c.in-Some.ensures.items rows h.read.rows;
-      reads = looks_after_turn G left more x now.reads new.reads (old.reads + sum_by G c.args.pool) c.in-Some.ensures.items h.read.reads reads;
+      rows = rows_after_turn F c.loop-tuple.found c.run-in-Some.new.found (with_rows c.args.found.now (flat_map F c.args.choosing.pool)) left more x c.in-Some.ensures.items rows h.read.rows;
+      reads = looks_after_turn G left more x now.reads new.reads (old.reads + sum_by G c.args.choosing.pool) c.in-Some.ensures.items h.read.reads reads;
       memo = subst (λ u. Recalls u c.run-in-Some.new.memo) h.kept c.in-Ok-run.ensures.memo;
     })
 
 pub run_each-returns-then-not-has_room-clause-rows : goal.run_each-returns-then-not-has_room-clause-rows
 run_each-returns-then-not-has_room-clause-rows g t c =
-    let F = rows_with (sight_of (g.K.Keeper.seen c.args.keeper.now).kept) c.args.take.now c.args.steps.now c.args.here c.args.item in
+    let F = rows_with (sight_of (g.K.Keeper.seen c.args.keeper.now).kept) c.args.take.now c.args.steps.now c.args.choosing.state c.args.choosing.item in
     sym (with_rows_full c.loop-tuple.found (flat_map F (reverse c.loop-tuple.left.items)) (sym c.has_room.ensures ∙ c.if-not-has_room.true)) ∙ c.loop-tuple.invariant.read.rows
 
 pub run_each-returns-then-not-has_room-clause-reads : goal.run_each-returns-then-not-has_room-clause-reads
 run_each-returns-then-not-has_room-clause-reads g t c =
     let old = g.K.Keeper.seen c.args.keeper.now in
-    let G = looks_with (sight_of old.kept) c.args.steps.now c.args.here c.args.item in
-    looks_at_end G c.loop-tuple.left.items (g.K.Keeper.seen c.loop-tuple.keeper).reads (old.reads + sum_by G c.args.pool) c.loop-tuple.invariant.read.reads
+    let G = looks_with (sight_of old.kept) c.args.steps.now c.args.choosing.state c.args.choosing.item in
+    looks_at_end G c.loop-tuple.left.items (g.K.Keeper.seen c.loop-tuple.keeper).reads (old.reads + sum_by G c.args.choosing.pool) c.loop-tuple.invariant.read.reads
 
 pub run_each-returns-in-Ok-clause-rows : goal.run_each-returns-in-Ok-clause-rows
 run_each-returns-in-Ok-clause-rows g t c =
     let sight = sight_of (g.K.Keeper.seen c.args.keeper.now).kept in
     let steps = c.args.steps.now in
     let take = c.args.take.now in
-    let F = rows_with sight take steps c.args.here c.args.item in
+    let F = rows_with sight take steps c.args.choosing.state c.args.choosing.item in
     let h = c.loop-tuple.invariant in
     let more = c.pop.new.self.items in
     let empty = none_left more (ap length (sym c.as_slice.ensures.value) ∙ eqb-true (length c.as_slice.result.now) 0 (sym c.is_empty.ensures ∙ c.if-is_empty.true)) in
-    rows_of_last F c.loop-tuple.found _ (with_rows c.args.found.now (flat_map F c.args.pool)) c.loop-tuple.left.items more c.in-Some.tuple c.in-Some.ensures.items empty
+    rows_of_last F c.loop-tuple.found _ (with_rows c.args.found.now (flat_map F c.args.choosing.pool)) c.loop-tuple.left.items more c.in-Some.tuple c.in-Some.ensures.items empty
     (rows_from (sight_of (g.K.Keeper.seen c.loop-tuple.keeper).kept) take steps c.with-last.result) c.in-Ok.ensures.rows
-    (ap (λ u. rows_from (sight_of u) take steps c.with-last.result) h.kept ∙ ap (rows_from sight take steps) (c.with-last.ensures ∙ ap (λ s. with_slot s c.args.item c.in-Some.tuple) h.read.here)) h.read.rows
+    (ap (λ u. rows_from (sight_of u) take steps c.with-last.result) h.kept ∙ ap (rows_from sight take steps) (c.with-last.ensures ∙ ap (λ s. with_slot s c.args.choosing.item c.in-Some.tuple) h.read.here)) h.read.rows
 
 pub run_each-returns-in-Ok-clause-reads : goal.run_each-returns-in-Ok-clause-reads
 run_each-returns-in-Ok-clause-reads g t c =
     let old = g.K.Keeper.seen c.args.keeper.now in
     let sight = sight_of old.kept in
     let steps = c.args.steps.now in
-    let G = looks_with sight steps c.args.here c.args.item in
+    let G = looks_with sight steps c.args.choosing.state c.args.choosing.item in
     let h = c.loop-tuple.invariant in
-    looks_of_last G c.loop-tuple.left.items c.pop.new.self.items c.in-Some.tuple (g.K.Keeper.seen c.loop-tuple.keeper).reads _ (old.reads + sum_by G c.args.pool) c.in-Some.ensures.items
+    looks_of_last G c.loop-tuple.left.items c.pop.new.self.items c.in-Some.tuple (g.K.Keeper.seen c.loop-tuple.keeper).reads _ (old.reads + sum_by G c.args.choosing.pool) c.in-Some.ensures.items
     (looks_from (sight_of (g.K.Keeper.seen c.loop-tuple.keeper).kept) steps c.with-last.result) c.in-Ok.ensures.reads
-    (ap (λ u. looks_from (sight_of u) steps c.with-last.result) h.kept ∙ ap (looks_from sight steps) (c.with-last.ensures ∙ ap (λ s. with_slot s c.args.item c.in-Some.tuple) h.read.here)) h.read.reads
+    (ap (λ u. looks_from (sight_of u) steps c.with-last.result) h.kept ∙ ap (looks_from sight steps) (c.with-last.ensures ∙ ap (λ s. with_slot s c.args.choosing.item c.in-Some.tuple) h.read.here)) h.read.reads

@@ -22,8 +22,8 @@ invariant-run_each-loop-tuple g l =
     let old = g.K.Keeper.seen l.fn.keeper in
     let sight = sight_of old.kept in
     IsReading old (g.K.Keeper.seen l.keeper) (record {
-      here : l.here ≡ l.fn.here;
-      rows : with_rows l.found (flat_map (rows_with sight l.take l.steps l.fn.here l.item) (reverse l.left.items)) ≡ with_rows l.fn.found (flat_map (rows_with sight l.take l.steps l.fn.here l.item) l.fn.pool);
-      reads : (g.K.Keeper.seen l.keeper).reads + sum_by (looks_with sight l.steps l.fn.here l.item) (reverse l.left.items) ≤ old.reads + sum_by (looks_with sight l.steps l.fn.here l.item) l.fn.pool;
+      here : l.here ≡ l.fn.choosing.state;
+      rows : with_rows l.found (flat_map (rows_with sight l.take l.steps l.fn.choosing.state l.fn.choosing.item) (reverse l.left.items)) ≡ with_rows l.fn.found (flat_map (rows_with sight l.take l.steps l.fn.choosing.state l.fn.choosing.item) l.fn.choosing.pool);
+      reads : (g.K.Keeper.seen l.keeper).reads + sum_by (looks_with sight l.steps l.fn.choosing.state l.fn.choosing.item) (reverse l.left.items) ≤ old.reads + sum_by (looks_with sight l.steps l.fn.choosing.state l.fn.choosing.item) l.fn.choosing.pool;
       memo : Recalls old.kept l.memo;
     })
