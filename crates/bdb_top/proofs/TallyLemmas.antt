@@ -1,12 +1,15 @@
 -- Counting the replies to events, one event after the other.
-use Rattle.std.proofs.Common.{◌≡◌, ◌∙◌, List, [], ◌∷◌, refl, ap, sym, subst}
+use Rattle.std.proofs.Common.{◌≡◌, ◌∙◌, ℕ, List, [], ◌∷◌, ◌++◌, map, refl, ap, sym, subst}
 use Rattle.bdb_keep.specs.Tables.{Tables}
+use Rattle.bdb_lex.specs.Cut.{CutState, CutterState, EndsFirst, holds_something, pieces_from, ready, rest_of, start, state_after}
+use Rattle.bdb_lex.specs.declared.token.Piece.{Piece}
+use Rattle.bdb_lex.specs.declared.token.Rest.{Rest}
 use Rattle.bdb_session.specs.declared.event.Event.{Event}
 use Rattle.bdb_session.specs.declared.reply.Reply.{Reply}
 use Rattle.bdb_session.specs.Known.{Known, Agrees}
 use Rattle.bdb_session.specs.Machine.{accepts, answers_to, next_state, reply_of}
 use Rattle.bdb_session.specs.Outcome.{State}
-use Rattle.bdb_session.specs.Runs.{after}
+use Rattle.bdb_session.specs.Runs.{after, event_of, rest_events}
 use Rattle.bdb_top.specs.declared.tally.Tally.{Tally}
 use Rattle.bdb_top.specs.Generated.{no_replies, tally_from, tally_reply, tally_with}
 
@@ -38,9 +41,30 @@ tallies_one s events left more e t u k next tally sum is h counted agrees = reco
   goes_on = h.goes_on ∙ ap (tally_from tally h.now) is ∙ ap (λ (x : Tally). tally_from x (next_state h.now e) more) (sym (counted h.now h.agrees));
 }
 
--- none is left
-pub tally_is : (s : State) (events left : List Event) (t : Tables) (k : Known) (tally : Tally) → left ≡ [] → Tallies s events left t k tally → tally ≡ tally_from no_replies s events
-tally_is s events left t k tally none h = sym (h.goes_on ∙ ap (tally_from tally h.now) none)
+-- the events that are left where these bytes are left
+abbrev pub events_left : CutState → List ℕ → List Event
+events_left s bytes = map event_of (pieces_from s bytes) ++ rest_events (rest_of (holds_something (state_after s bytes)))
 
-pub agrees_after : (s : State) (events left : List Event) (t : Tables) (k : Known) (tally : Tally) → left ≡ [] → Tallies s events left t k tally → Agrees t k (after s events)
-agrees_after s events left t k tally none h = subst (Agrees t k) (sym (h.state ∙ ap (after h.now) none)) h.agrees
+-- the next of them is that of the piece that ends first
+pub next_left : (s : CutState) (rest others : List ℕ) (piece : Piece) (cutter : CutterState) → EndsFirst s rest piece others → cutter ≡ ready start
+    → events_left s rest ≡ event_of piece ∷ events_left cutter.state others
+next_left s rest others piece cutter first is =
+    ap (λ (l : List Piece). map event_of l ++ rest_events (rest_of (holds_something (state_after s rest)))) first.pieces
+    ∙ ap (λ (x : CutState). (event_of piece ∷ map event_of (pieces_from start others)) ++ rest_events (rest_of (holds_something x))) first.state
+    ∙ ap (λ (c : CutterState). event_of piece ∷ events_left c.state others) (sym is)
+
+-- where no piece ends, it is what the rest asks for
+pub rest_left : (s : CutState) (bytes : List ℕ) (cutter : CutterState) (rest : Rest) → pieces_from s bytes ≡ [] → cutter ≡ ready (state_after s bytes)
+    → rest ≡ rest_of (holds_something cutter.state) → events_left s bytes ≡ rest_events rest
+rest_left s bytes cutter rest none is told =
+    ap (λ (l : List Piece). map event_of l ++ rest_events (rest_of (holds_something (state_after s bytes)))) none
+    ∙ sym (ap rest_events (told ∙ ap (λ (c : CutterState). rest_of (holds_something c.state)) is))
+
+-- with the rest all are answered
+pub tally_ends : (s : State) (events left : List Event) (t : Tables) (k : Known) (tally whole : Tally) (rest : Rest) → left ≡ rest_events rest → Tallies s events left t k tally
+    → ((x : State) → Agrees t k x → whole ≡ tally_from tally x (rest_events rest)) → whole ≡ tally_from no_replies s events
+tally_ends s events left t k tally whole rest is h counted = counted h.now h.agrees ∙ sym (h.goes_on ∙ ap (tally_from tally h.now) is)
+
+pub agrees_at_end : (s : State) (events left : List Event) (t u : Tables) (k next : Known) (tally : Tally) (rest : Rest) → left ≡ rest_events rest → Tallies s events left t k tally
+    → ((x : State) → Agrees t k x → Agrees u next (after x (rest_events rest))) → Agrees u next (after s events)
+agrees_at_end s events left t u k next tally rest is h agrees = subst (Agrees u next) (sym (h.state ∙ ap (after h.now) is)) (agrees h.now h.agrees)

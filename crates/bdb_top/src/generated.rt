@@ -5,14 +5,12 @@ ghost use Rattle.bdb_base.specs.Limits.{most_generated};
 ghost use Rattle.bdb_session.specs.Runs.{events_of};
 ghost use Rattle.bdb_top.specs.Generated.{summary, summary_line, summary_of, summary_text, IsSummarized};
 
-use crate::cutting::events_from;
-use crate::tally::{Tally, tally_events};
-use bdb_base::{List, append_decimal};
+use crate::tally::{Tally, tally_script};
+use bdb_base::append_decimal;
 use bdb_gen::generate;
 use bdb_io::Sink;
 use bdb_keep::QuietKeeper;
-use bdb_lex::{Cutter, Rest};
-use bdb_session::{Event, Session};
+use bdb_session::Session;
 use std::alloc::{AllocError, Global};
 
 /// Runs the script of a seed and a size over a keeper in memory of its own, and writes the summary. The status is 0, or 4
@@ -39,35 +37,19 @@ fn summary(alloc: Global, seed: u64, size: u32) -> Result<Vec<u8>, AllocError>
     ensures { IfOk result (λ text. text.items ≡ summary seed size) }
 {
     let script = generate(alloc, seed, size)?;
-    let events = events_of_script(alloc, script.as_slice())?;
-    summary_of(alloc, events.as_slice())
+    summary_of(alloc, script.as_slice())
 }
 
-/// The events of a script.
-fn events_of_script(alloc: Global, script: &[u8]) -> Result<Vec<Event>, AllocError>
-    ensures { IfOk result (λ events. events.items ≡ events_of script.now) }
-{
-    let mut cutter = Cutter::new(alloc);
-    let mut pieces = List::new(alloc);
-    cutter.feed(alloc, script, &mut pieces)?;
-    let mut events = events_from(alloc, pieces.as_slice())?;
-    match cutter.finish() {
-        Rest::Nothing => {}
-        Rest::Unfinished => events.push(Event::Unfinished)?,
-    }
-    Ok(events)
-}
-
-/// The summary of events from the empty base.
-fn summary_of(alloc: Global, events: &[Event]) -> Result<Vec<u8>, AllocError>
-    ensures { IfOk result (λ text. text.items ≡ summary_of events.now) }
+/// The summary of a script that is carried out from the empty base.
+fn summary_of(alloc: Global, script: &[u8]) -> Result<Vec<u8>, AllocError>
+    ensures { IfOk result (λ text. text.items ≡ summary_of (events_of script.now)) }
 {
     let mut keeper = QuietKeeper::new(alloc);
     let mut session = match Session::open(alloc, &mut keeper) {
         Ok(session) => session,
         Err(_) => return Err(AllocError),
     };
-    let tally = match tally_events(&mut session, &mut keeper, events) {
+    let tally = match tally_script(alloc, &mut session, &mut keeper, script) {
         Ok(tally) => tally,
         Err(error) => return Err(error),
     };

@@ -2,7 +2,6 @@
 #![tactic(auto)]
 
 mod answers;
-mod cutting;
 #[cfg(test)]
 mod failing;
 mod generated;

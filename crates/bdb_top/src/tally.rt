@@ -4,12 +4,14 @@ ghost use Rattle.bdb_keep.specs.Seen.{IsStill};
 ghost use Rattle.bdb_session.specs.Known.{Agrees, AgreesOnSome};
 ghost use Rattle.bdb_session.specs.Machine.{next_state};
 ghost use Rattle.bdb_session.specs.Outcome.{State};
-ghost use Rattle.bdb_session.specs.Runs.{after};
+ghost use Rattle.bdb_session.specs.Runs.{after, event_of, events_of, rest_events};
+ghost use Rattle.bdb_session.specs.declared.event.Event.TheVariants as event;
 ghost use Rattle.bdb_top.specs.Generated.{no_replies, tally_from, tally_reply, tally_with};
 
 use bdb_keep::Keeper;
+use bdb_lex::{Cutter, Piece, Rest};
 use bdb_session::{Event, Reply, Session};
-use std::alloc::AllocError;
+use std::alloc::{AllocError, Global};
 
 /// How many replies accept, how many refuse, and how many answers they have.
 #[derive(Clone, Copy, Debug, PartialEq, Eq, Drop)]
@@ -19,31 +21,114 @@ pub struct Tally {
     pub answers: u64,
 }
 
-/// Answers events in order, and counts their replies.
-pub fn tally_events<K: Keeper>(
+/// Carries out a script, each piece as it is cut, and counts the replies.
+pub fn tally_script<K: Keeper>(
+    alloc: Global,
     session: &mut Session,
     keeper: &mut K,
-    events: &[Event],
+    script: &[u8],
 ) -> Result<Tally, AllocError>
     requires still { IsStill (K.seen keeper.old) }
     requires agrees { AgreesOnSome (K.seen keeper.old).kept session.old }
-    ensures tally { (s : State) → Agrees (K.seen keeper.old).kept session.old s → IfOk result (λ tally. tally ≡ tally_from no_replies s events.now) }
-    ensures state { (s : State) → Agrees (K.seen keeper.old).kept session.old s → OnOk result (Agrees (K.seen keeper.new).kept session.new (after s events.now)) }
+    ensures tally { (s : State) → Agrees (K.seen keeper.old).kept session.old s → IfOk result (λ tally. tally ≡ tally_from no_replies s (events_of script.now)) }
+    ensures state { (s : State) → Agrees (K.seen keeper.old).kept session.old s → OnOk result (Agrees (K.seen keeper.new).kept session.new (after s (events_of script.now))) }
     ensures still { IsStill (K.seen keeper.new) }
     ensures agrees { AgreesOnSome (K.seen keeper.new).kept session.new }
 {
+    let mut cutter = Cutter::new(alloc);
     let mut tally = Tally {
         accepted: 0,
         refused: 0,
         answers: 0,
     };
-    for event in events {
-        tally = match tally_event(session, keeper, tally, event) {
-            Ok(next) => next,
+    let mut rest = script;
+    loop {
+        match cutter.next_piece(alloc, rest) {
+            Ok(Some((piece, others))) => match tally_piece(session, keeper, tally, &piece) {
+                Ok(next) => {
+                    tally = next;
+                    rest = others;
+                }
+                Err(error) => return Err(error),
+            },
+            Ok(None) => match tally_rest(session, keeper, tally, cutter.finish()) {
+                Ok(whole) => return Ok(whole),
+                Err(error) => return Err(error),
+            },
             Err(error) => return Err(error),
-        };
+        }
     }
-    Ok(tally)
+}
+
+/// Answers a piece, and counts its reply.
+fn tally_piece<K: Keeper>(
+    session: &mut Session,
+    keeper: &mut K,
+    tally: Tally,
+    piece: &Piece<'_>,
+) -> Result<Tally, AllocError>
+    requires still { IsStill (K.seen keeper.old) }
+    requires agrees { AgreesOnSome (K.seen keeper.old).kept session.old }
+    ensures tally { (s : State) → Agrees (K.seen keeper.old).kept session.old s → IfOk result (λ next. next ≡ tally_with tally s (event_of piece.now)) }
+    ensures state { (s : State) → Agrees (K.seen keeper.old).kept session.old s → OnOk result (Agrees (K.seen keeper.new).kept session.new (next_state s (event_of piece.now))) }
+    ensures still { IsStill (K.seen keeper.new) }
+    ensures agrees { AgreesOnSome (K.seen keeper.new).kept session.new }
+{
+    match piece {
+        Piece::Cmd(bytes) => match tally_command(session, keeper, tally, bytes.as_slice()) {
+            Ok(next) => Ok(next),
+            Err(error) => Err(error),
+        },
+        Piece::Long => match tally_event(session, keeper, tally, &Event::Long) {
+            Ok(next) => Ok(next),
+            Err(error) => Err(error),
+        },
+    }
+}
+
+/// Answers what stands behind the last semicolon of a script, and counts the reply.
+fn tally_rest<K: Keeper>(
+    session: &mut Session,
+    keeper: &mut K,
+    tally: Tally,
+    rest: Rest,
+) -> Result<Tally, AllocError>
+    requires still { IsStill (K.seen keeper.old) }
+    requires agrees { AgreesOnSome (K.seen keeper.old).kept session.old }
+    ensures tally { (s : State) → Agrees (K.seen keeper.old).kept session.old s → IfOk result (λ next. next ≡ tally_from tally s (rest_events rest)) }
+    ensures state { (s : State) → Agrees (K.seen keeper.old).kept session.old s → OnOk result (Agrees (K.seen keeper.new).kept session.new (after s (rest_events rest))) }
+    ensures still { IsStill (K.seen keeper.new) }
+    ensures agrees { AgreesOnSome (K.seen keeper.new).kept session.new }
+{
+    match rest {
+        Rest::Nothing => Ok(tally),
+        Rest::Unfinished => match tally_event(session, keeper, tally, &Event::Unfinished) {
+            Ok(next) => Ok(next),
+            Err(error) => Err(error),
+        },
+    }
+}
+
+/// Answers a piece of these bytes, and counts its reply.
+fn tally_command<K: Keeper>(
+    session: &mut Session,
+    keeper: &mut K,
+    tally: Tally,
+    bytes: &[u8],
+) -> Result<Tally, AllocError>
+    requires still { IsStill (K.seen keeper.old) }
+    requires agrees { AgreesOnSome (K.seen keeper.old).kept session.old }
+    ensures tally { (s : State) → Agrees (K.seen keeper.old).kept session.old s → IfOk result (λ next. next ≡ tally_with tally s (event.Piece bytes.now)) }
+    ensures state { (s : State) → Agrees (K.seen keeper.old).kept session.old s → OnOk result (Agrees (K.seen keeper.new).kept session.new (next_state s (event.Piece bytes.now))) }
+    ensures still { IsStill (K.seen keeper.new) }
+    ensures agrees { AgreesOnSome (K.seen keeper.new).kept session.new }
+{
+    let reply = match session.apply(keeper, bytes) {
+        Ok(reply) => reply,
+        Err(_) => return Err(AllocError),
+    };
+    let next = with_reply(tally, &reply)?;
+    Ok(next)
 }
 
 /// Answers an event, and counts its reply.

@@ -5,5 +5,4 @@ use Rattle.bdb_top.proofs.generated.summary.Goals as goal
 
 pub returns : goal.returns
 returns c =
-    let events = c.as_slice-2.ensures.value ∙ c.in_ok-events.ensures ∙ ap events_of (c.as_slice.ensures.value ∙ c.in_ok-script.ensures) in
-    subst (λ (l : List ℕ). IfOk c.summary_of.result (λ text. text.items ≡ l)) (ap summary_of events) c.summary_of.ensures
+    subst (λ (l : List ℕ). IfOk c.summary_of.result (λ text. text.items ≡ l)) (ap (λ (x : List ℕ). summary_of (events_of x)) (c.as_slice.ensures.value ∙ c.in_ok-script.ensures)) c.summary_of.ensures

@@ -1,6 +1,7 @@
 use Rattle.std.proofs.Common.{◌∙◌, ap, inr, refl}
 use Rattle.bdb_base.specs.Bases.{empty_contents}
 use Rattle.bdb_session.specs.Outcome.{start_from}
+use Rattle.bdb_session.specs.Runs.{events_of}
 use Rattle.bdb_top.proofs.EmptyLemmas.{no_rows_stand}
 use Rattle.bdb_top.proofs.GeneratedLemmas.{summary_is}
 use Rattle.bdb_top.proofs.generated.summary_of.Goals as goal
@@ -12,7 +13,7 @@ pub returns : goal.returns
 returns c =
     let opened = c.in-Ok.ensures.opened empty_contents (inr (ap (λ k. k.kept) c.new-keeper.ensures, refl)) in
     let start = start_from empty_contents in
-    let end = c.in-Ok-tally_events.ensures.state start opened in
+    let end = c.in-Ok-tally_script.ensures.state start opened in
     c.in_ok-text.ensures
-    ∙ summary_is c.args.events.now c.in-Ok-tally_events.tally c.counts-counts.result.now c.from.result c.from-2.result
-    (c.in-Ok-tally_events.ensures.tally start opened) (c.counts-counts.ensures ∙ end.counts) c.from.ensures c.from-2.ensures
+    ∙ summary_is (events_of c.args.script.now) c.in-Ok-tally_script.tally c.counts-counts.result.now c.from.result c.from-2.result
+    (c.in-Ok-tally_script.ensures.tally start opened) (c.counts-counts.ensures ∙ end.counts) c.from.ensures c.from-2.ensures
