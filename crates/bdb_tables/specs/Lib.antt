@@ -9,6 +9,7 @@ pub mod InUseLaws
 pub mod Marks
 pub mod Names
 pub mod Parts
+pub mod Raw
 pub mod Rows
 pub mod Spans
 pub mod States

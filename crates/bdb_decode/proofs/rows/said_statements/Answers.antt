@@ -1,0 +1,43 @@
+use Rattle.std.proofs.Common.{rules}
+use Rattle.bdb_tables.specs.declared.tab.TabError.TheVariants.{Fault}
+use Rattle.bdb_tables.proofs.Loops.{reading_more}
+use Rattle.bdb_decode.proofs.ReadLemmas.{none_told, some_told}
+use Rattle.bdb_decode.proofs.RowLemmas.{foreign_misplaced, row_misplaced, said_all, said_more, said_none}
+use Rattle.bdb_decode.proofs.rows.said_statements.Goals as goal
+
+pub loop-init : goal.loop-init
+loop-init g c = record {
+  goes = search rules;
+  kept = search rules;
+  writes = search rules;
+  counts = search rules;
+  read = said_none c.args.worlds.now c.args.tuples.now (g.K.Keeper.seen c.args.keeper.now).kept c.new-low.result.items c.new-stmts.result.items c.new-low.ensures.items c.new-stmts.ensures.items;
+}
+
+pub returns-in-Ok-Some-None-clause-statements : goal.returns-in-Ok-Some-None-clause-statements
+returns-in-Ok-Some-None-clause-statements g c =
+    let w = c.in-Ok-Some-None in
+    said_all c.args.worlds.now c.args.tuples.now (g.K.Keeper.seen c.args.keeper.now).kept (g.K.Keeper.seen c.loop.keeper).kept c.loop.low.items c.next_raw.new.low.items w.field-0-0 c.loop.stmts.items
+    c.loop.invariant.kept w.field-0-0-is c.loop.invariant.read (some_told _ _ w.field-0 w.field-0-0 w.field-0-is w.ensures.found)
+
+pub returns-in-Ok-None-clause-statements : goal.returns-in-Ok-None-clause-statements
+returns-in-Ok-None-clause-statements g c =
+    foreign_misplaced c.args.worlds.now c.args.tuples.now (g.K.Keeper.seen c.args.keeper.now).kept (g.K.Keeper.seen c.loop.keeper).kept c.loop.low.items c.loop.invariant.kept
+    (none_told _ _ c.in-Ok-None.field-0 c.in-Ok-None.field-0-is c.in-Ok-None.ensures.found)
+
+pub returns-in-Ok-false-clause-statements : goal.returns-in-Ok-false-clause-statements
+returns-in-Ok-false-clause-statements g c =
+    let w = c.in-Ok-Some-Some in
+    row_misplaced c.args.worlds.now c.args.tuples.now (g.K.Keeper.seen c.args.keeper.now).kept (g.K.Keeper.seen c.loop.keeper).kept c.loop.low.items c.next_raw.new.low.items w.field-0-0 w.row
+    c.in-Ok-false.field-0 c.loop.invariant.kept w.field-0-0-is c.in-Ok-false.field-0-test c.in-Ok-false.ensures.placed (some_told _ _ w.field-0 w.field-0-0 w.field-0-is w.ensures.found)
+
+pub loop-preserved : goal.loop-preserved
+loop-preserved g c =
+    let old = g.K.Keeper.seen c.args.keeper.now in
+    let now = g.K.Keeper.seen c.loop.keeper in
+    let new = g.K.Keeper.seen c.next_raw.new.keeper in
+    let w = c.in-Ok-Some-Some in
+    let p = c.in-Ok-true in
+    reading_more old now new w.field-0 Fault c.loop.invariant w.ensures.read
+    (said_more c.args.worlds.now c.args.tuples.now old.kept now.kept c.loop.low.items c.next_raw.new.low.items w.field-0-0 w.row c.loop.stmts.items c.push_said.new.stmts.items p.field-0
+    c.loop.invariant.kept w.field-0-0-is p.field-0-test p.ensures.placed p.ensures.said c.loop.invariant.read (some_told _ _ w.field-0 w.field-0-0 w.field-0-is w.ensures.found))

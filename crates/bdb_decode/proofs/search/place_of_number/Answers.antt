@@ -1,0 +1,43 @@
+use Rattle.std.proofs.Common.{◌≡◌, arith, subst, true, ◌+◌, ◌-◌, ◌/◌, ◌<◌, length, drop}
+use Rattle.std.specs.List.{list_all}
+use Rattle.std.specs.Ordering.{is_lt, nat_cmp}
+use Rattle.bdb_base.proofs.SetLemmas.{member_belongs}
+use Rattle.bdb_decode.proofs.SearchLemmas.{nat_exact, number_above, number_below, number_found}
+use Rattle.bdb_decode.proofs.search.place_of_number.Goals as goal
+
+pub loop-low-preserved-in-Less : goal.loop-low-preserved-in-Less
+loop-low-preserved-in-Less c =
+    let mid = c.loop-low.low + (c.loop-low.high - c.loop-low.low) / 2 in
+    let within : mid < length c.args.numbers.now = omega arith in
+    record {
+      in_order = omega arith;
+      within = c.loop-low.invariant.within;
+      below = number_above c.args.numbers.now c.args.number mid _ within c.requires c.in-Less.ensures;
+      above = c.loop-low.invariant.above;
+    }
+
+pub returns-in-Equal : goal.returns-in-Equal
+returns-in-Equal c =
+    let mid = c.loop-low.low + (c.loop-low.high - c.loop-low.low) / 2 in
+    let within : mid < length c.args.numbers.now = omega arith in
+    number_found c.args.numbers.now c.args.number mid _ within c.in-Equal.ensures
+
+pub loop-low-preserved : goal.loop-low-preserved
+loop-low-preserved c =
+    let mid = c.loop-low.low + (c.loop-low.high - c.loop-low.low) / 2 in
+    let within : mid < length c.args.numbers.now = omega arith in
+    record {
+      in_order = omega arith;
+      within = omega arith;
+      below = c.loop-low.invariant.below;
+      above = number_below c.args.numbers.now c.args.number mid _ within c.requires c.in-Greater.ensures;
+    }
+
+pub returns : goal.returns
+returns c =
+    let same : c.loop-low.high ≡ c.loop-low.low = omega arith in
+    member_belongs nat_exact c.args.numbers.now c.args.number c.loop-low.low (record {
+      within = omega arith;
+      below = c.loop-low.invariant.below;
+      above = subst (λ k. list_all (λ y. is_lt (nat_cmp c.args.number y)) (drop k c.args.numbers.now) ≡ true) same c.loop-low.invariant.above;
+    })

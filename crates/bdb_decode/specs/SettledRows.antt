@@ -1,0 +1,85 @@
+-- What the test of the rows of worlds tells.
+use Rattle.std.specs.Prelude.{◌≡◌, ℕ, Bool, true, false, nat_eq, List, [], Option, Some, MatchOption, is_some}
+use Rattle.std.specs.Bool.{MatchBool}
+use Rattle.std.specs.List.{list_any, AllByRecursion}
+use Rattle.std.specs.FinMap as tables
+use Rattle.bdb_base.specs.declared.kinds.Stmt.{Stmt}
+use Rattle.bdb_base.specs.declared.tuple.Tuple.{Tuple}
+use Rattle.bdb_base.specs.Worlds.{IsConsistent}
+use Rattle.bdb_keep.specs.Tables.{Tables}
+use Rattle.bdb_tables.specs.Codec.{HasRow, place}
+use Rattle.bdb_tables.specs.InUse.{ValKey, IsValKey, depth_codec, tuple_codec, val_codec}
+use Rattle.bdb_tables.specs.Marks.{Mark, explicit_of, explicit_sign}
+use Rattle.bdb_tables.specs.Names.{Names, AreNames, depth_of, is_named, link_of, path_of}
+use Rattle.bdb_tables.specs.Rows.{Tuples, HoldsTuples, HoldsRows}
+use Rattle.bdb_tables.specs.Spans.{IsNextUnder, NoneUnder}
+use Rattle.bdb_tables.specs.Writes.{Gives}
+use Rattle.bdb_val.specs.Reads.{AreReadUnder, world_prefix}
+use Rattle.bdb_val.specs.Settled.{HasStates}
+use Rattle.bdb_val.specs.Settling.{row_key}
+use Rattle.bdb_val.specs.declared.stored.Stored.{Stored}
+use Rattle.bdb_decode.specs.Settles.{settles}
+
+-- ---- worlds and tuples of rows
+
+-- a row's world has a depth, and its tuple a number; its relation and key are the tuple's
+pub record IsKeyed (t : Tables) (k : ValKey) : Type 0 where
+  pub world : is_some (tables.get t (place depth_codec k.0)) ≡ true
+  pub tuple : Tuple
+  pub stands : HasRow tuple_codec t k.3 tuple
+  pub same : row_key k.0 k.3 tuple ≡ k
+
+-- each row is of a world and a tuple that there are
+abbrev pub AreKeyed : Tables → Type 0
+AreKeyed t = (k : ValKey) → IsValKey k → is_some (tables.get t (place val_codec k)) ≡ true → IsKeyed t k
+
+-- the row that comes next is of a world and a tuple that there are, or it is not
+pub record TellsNext (t : Tables) (low behind : List ℕ) (b : Bool) : Type 0 where
+  pub entry : ValKey × Mark
+  pub next : IsNextUnder val_codec t [] low behind entry
+  pub told : MatchBool b (IsKeyed t entry.0) (IsKeyed t entry.0 → ⊥)
+
+-- what comes next among the rows
+abbrev pub HasNextKeyed : Tables → List ℕ → List ℕ → Option Bool → Type 0
+HasNextKeyed t low behind found = MatchOption found (NoneUnder val_codec t [] low) (TellsNext t low behind)
+
+-- ---- worlds, each with the number to which its suffix link leads
+
+-- the rows of a world, and those of the world to which its suffix link leads, pass the test, or they do not
+pub record TellsWorld (t : Tables) (x : ℕ × Option ℕ) (b : Bool) : Type 0 where
+  pub own : List Stored
+  pub from : List Stored
+  pub own_read : AreReadUnder t (world_prefix x.0) own
+  pub from_read : MatchOption x.1 (from ≡ []) (λ m. AreReadUnder t (world_prefix m) from)
+  pub told : b ≡ settles own from
+
+-- the rows of each world pass the test, or those of one do not
+abbrev pub TellsWorlds : Tables → List (ℕ × Option ℕ) → Bool → Type 0
+TellsWorlds t worlds b = MatchBool b (AllByRecursion (λ x. TellsWorld t x true) worlds) (AllByRecursion (λ x. TellsWorld t x false → ⊥) worlds → ⊥)
+
+-- these are the worlds that have names, each with the number to which its suffix link leads
+pub record AreWorldsOf (ns : Names) (worlds : List (ℕ × Option ℕ)) : Type 0 where
+  pub each : AllByRecursion (λ x. (is_some (path_of ns x.0) ≡ true) × (link_of ns x.0 ≡ x.1)) worlds
+  pub all : (wid : ℕ) → is_some (path_of ns wid) ≡ true → list_any (λ x. nat_eq x.0 wid) worlds ≡ true
+
+-- ---- the rows of the worlds
+
+-- the explicit rows of worlds and tuples with names are statements
+abbrev pub AreStated : List Stmt → Names → (ℕ → Option Tuple) → Tables → Type 0
+AreStated stmts ns tuple t = (f : ValKey → Option Mark) → Gives val_codec t f → (wid : ℕ) (w : List ℕ) (tid : ℕ) (u : Tuple)
+    → path_of ns wid ≡ Some w → tuple tid ≡ Some u → explicit_of (f (row_key wid tid u)) ≡ explicit_sign stmts w u
+
+-- Statements whose states, tuples and explicit rows the tables have, with these worlds. No two of one path clash.
+pub record AreCandidates (stmts : List Stmt) (ns : Names) (ts : Tuples) (worlds : List (ℕ × Option ℕ)) (t : Tables) : Type 0 where
+  pub names : AreNames ns
+  pub states : HasStates stmts (is_named ns)
+  pub consistent : IsConsistent (λ _. 1) stmts
+  pub tuples : HoldsTuples stmts ts t
+  pub depths : Gives depth_codec t (depth_of ns)
+  pub linked : AreWorldsOf ns worlds
+  pub stated : AreStated stmts ns ts.tuple t
+
+-- whether the tables hold the rows of the worlds, whichever statements it is whose states, tuples and explicit rows they have
+abbrev pub TellsRows : Tables → List (ℕ × Option ℕ) → Bool → Type 0
+TellsRows t worlds b = (stmts : List Stmt) (ns : Names) (ts : Tuples) → AreCandidates stmts ns ts worlds t
+    → MatchBool b (HoldsRows (λ _. 1) stmts (path_of ns) ts.tuple t) (HoldsRows (λ _. 1) stmts (path_of ns) ts.tuple t → ⊥)

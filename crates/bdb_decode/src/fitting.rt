@@ -1,0 +1,85 @@
+// Whether a statement belongs to a catalog.
+ghost use Rattle.std.specs.Prelude.{◌≡◌, ◌&&◌, nat_le, length};
+ghost use Rattle.std.specs.List.{list_all, slice_get};
+ghost use Rattle.bdb_base.specs.Alternation.{alternates};
+ghost use Rattle.bdb_base.specs.Bases.{belongs, fits_columns, fits_definition, fits_kind, fits_relation, is_user};
+ghost use Rattle.bdb_base.specs.Limits.{deepest_statement};
+
+use crate::validity::is_plain;
+use bdb_base::limits::DEEPEST_STATEMENT;
+use bdb_base::{Catalog, ColDef, Kind, Path, RelDef, Stmt, Tuple, Txt, Value};
+
+/// Whether each statement belongs to a catalog.
+pub fn all_belong(catalog: &Catalog, stmts: &[Stmt]) -> bool
+    ensures { result ≡ list_all (belongs catalog.now) stmts.now }
+{
+    stmts.iter().all(|stmt| belongs(catalog, stmt))
+}
+
+// Whether a statement's path is one of users of a catalog and not too deep, and its tuple fits its relation.
+fn belongs(catalog: &Catalog, stmt: &Stmt) -> bool
+    ensures { result ≡ belongs catalog.now stmt.now }
+{
+    is_path_of(catalog.users.as_slice(), &stmt.path)
+        && fits_relation(catalog.rels.as_slice(), &stmt.tuple)
+}
+
+// Whether a path is one of users and not too deep.
+fn is_path_of(users: &[Txt], path: &Path) -> bool
+    ensures { result ≡ (alternates path.now && nat_le (length path.now) deepest_statement && list_all (is_user users.now) path.now) }
+{
+    path.len() <= DEEPEST_STATEMENT && are_users(users, path.as_slice())
+}
+
+// Whether numbers are those of users.
+fn are_users(users: &[Txt], path: &[u32]) -> bool
+    ensures { result ≡ list_all (is_user users.now) path.now }
+{
+    path.iter().all(|user| is_user(users, *user))
+}
+
+// Whether a number is that of a user.
+fn is_user(users: &[Txt], user: u32) -> bool
+    ensures { result ≡ is_user users.now user }
+{
+    0 < user && user as usize <= users.len()
+}
+
+// Whether a tuple fits its relation, if there is one of its number: a value for each column, of its kind.
+fn fits_relation(rels: &[RelDef], tuple: &Tuple) -> bool
+    ensures { result ≡ fits_relation rels.now tuple.now }
+{
+    fits_definition(rels, tuple.rel, tuple.vals.as_slice())
+}
+
+// Whether values fit the relation of a number, if there is one.
+fn fits_definition(rels: &[RelDef], rel: u32, vals: &[Value]) -> bool
+    ensures { result ≡ fits_definition (slice_get rels.now rel) vals.now }
+{
+    match rels.get(rel as usize) {
+        Some(def) => fits_columns(def.cols.as_slice(), vals),
+        None => false,
+    }
+}
+
+fn fits_columns(cols: &[ColDef], vals: &[Value]) -> bool
+    ensures { result ≡ fits_columns cols.now vals.now }
+{
+    match cols {
+        [] => vals.is_empty(),
+        [col, cols @ ..] => match vals {
+            [] => false,
+            [value, vals @ ..] => fits_kind(col.kind, value) && fits_columns(cols, vals),
+        },
+    }
+}
+
+fn fits_kind(kind: Kind, value: &Value) -> bool
+    ensures { result ≡ fits_kind kind value.now }
+{
+    match (kind, value) {
+        (Kind::Int, Value::Int(_)) => true,
+        (Kind::Text, Value::Text(text)) => is_plain(text),
+        _ => false,
+    }
+}

@@ -1,0 +1,152 @@
+// The rows of the worlds in tables of any bytes.
+ghost use Rattle.std.specs.Prelude.{◌≡◌, ◌++◌, [], ◌∷◌, true, filter, IfOk, OnOk, MatchOption};
+ghost use Rattle.bdb_keep.specs.Calls.{IsRead};
+ghost use Rattle.bdb_tables.specs.Grammar.{InGrammar};
+ghost use Rattle.bdb_val.specs.Reads.{AreReadUnder, world_prefix};
+ghost use Rattle.bdb_val.specs.Settling.{are_apart};
+ghost use Rattle.bdb_decode.specs.Reading.{OnlyReads};
+ghost use Rattle.bdb_decode.specs.SettledRows.{AreKeyed, TellsRows, TellsWorld, TellsWorlds};
+ghost use Rattle.bdb_decode.specs.Settles.{is_explicit, is_inherited, settles};
+
+use crate::keyed::are_keyed;
+use crate::settles::are_settled;
+use bdb_keep::Keeper;
+use bdb_tables::TabError;
+use bdb_val::{Stored, read_world};
+use std::alloc::{AllocError, Global};
+
+/// Whether the tables hold the rows of the worlds, for the statements that the explicit rows are. The worlds are those that
+/// have names, each with the number to which its suffix link leads. The rows of two worlds at a time are kept.
+pub fn are_rows_held<K: Keeper>(
+    alloc: Global,
+    keeper: &mut K,
+    worlds: &[(u32, Option<u32>)],
+) -> Result<bool, TabError>
+    requires grammar { InGrammar (K.seen keeper.old).kept }
+    ensures held { IfOk result (TellsRows (K.seen keeper.old).kept worlds.now) }
+    ensures reading { OnlyReads (K.seen keeper.old) (K.seen keeper.new) result TabError.Fault }
+{
+    match are_keyed(alloc, keeper) {
+        Ok(true) => {}
+        Ok(false) => return Ok(false),
+        Err(error) => return Err(error),
+    }
+    match are_worlds_settled(alloc, keeper, worlds) {
+        Ok(settled) => Ok(settled),
+        Err(error) => Err(error),
+    }
+}
+
+// Whether the rows of each world are settled over those of the world to which its suffix link leads.
+fn are_worlds_settled<K: Keeper>(
+    alloc: Global,
+    keeper: &mut K,
+    worlds: &[(u32, Option<u32>)],
+) -> Result<bool, TabError>
+    requires grammar { InGrammar (K.seen keeper.old).kept }
+    requires keyed { AreKeyed (K.seen keeper.old).kept }
+    ensures settled { IfOk result (TellsWorlds (K.seen keeper.old).kept worlds.now) }
+    ensures reading { OnlyReads (K.seen keeper.old) (K.seen keeper.new) result TabError.Fault }
+{
+    for world in worlds {
+        match is_world_settled(alloc, keeper, world) {
+            Ok(true) => {}
+            Ok(false) => return Ok(false),
+            Err(error) => return Err(error),
+        }
+    }
+    Ok(true)
+}
+
+// Whether the rows of a world are settled over those of the world to which its suffix link leads.
+fn is_world_settled<K: Keeper>(
+    alloc: Global,
+    keeper: &mut K,
+    world: &(u32, Option<u32>),
+) -> Result<bool, TabError>
+    requires grammar { InGrammar (K.seen keeper.old).kept }
+    requires keyed { AreKeyed (K.seen keeper.old).kept }
+    ensures told { IfOk result (TellsWorld (K.seen keeper.old).kept world.now) }
+    ensures read { IsRead (K.seen keeper.old) (K.seen keeper.new) result TabError.Fault }
+{
+    let own = match read_rows(alloc, keeper, world.0) {
+        Ok(own) => own,
+        Err(error) => return Err(error),
+    };
+    let from = match read_linked(alloc, keeper, world.1) {
+        Ok(from) => from,
+        Err(error) => return Err(error),
+    };
+    match settles(alloc, own, &from) {
+        Ok(settled) => Ok(settled),
+        Err(_) => {
+            keeper.undo();
+            Err(TabError::Memory)
+        }
+    }
+}
+
+// The rows of the world to which a suffix link leads; none where there is no such world.
+fn read_linked<K: Keeper>(
+    alloc: Global,
+    keeper: &mut K,
+    link: Option<u32>,
+) -> Result<Vec<Stored>, TabError>
+    requires grammar { InGrammar (K.seen keeper.old).kept }
+    requires keyed { AreKeyed (K.seen keeper.old).kept }
+    ensures rows { IfOk result (λ rows. MatchOption link (rows.items ≡ []) (λ m. AreReadUnder (K.seen keeper.old).kept (world_prefix m) rows.items)) }
+    ensures apart { IfOk result (λ rows. are_apart rows.items ≡ true) }
+    ensures reading { OnlyReads (K.seen keeper.old) (K.seen keeper.new) result TabError.Fault }
+{
+    match link {
+        Some(wid) => match read_rows(alloc, keeper, wid) {
+            Ok(rows) => Ok(rows),
+            Err(error) => Err(error),
+        },
+        None => Ok(Vec::new(alloc)),
+    }
+}
+
+// The rows of a world, of which no two are of one tuple.
+fn read_rows<K: Keeper>(alloc: Global, keeper: &mut K, wid: u32) -> Result<Vec<Stored>, TabError>
+    requires grammar { InGrammar (K.seen keeper.old).kept }
+    requires keyed { AreKeyed (K.seen keeper.old).kept }
+    ensures rows { IfOk result (λ rows. AreReadUnder (K.seen keeper.old).kept (world_prefix wid) rows.items) }
+    ensures apart { IfOk result (λ rows. are_apart rows.items ≡ true) }
+    ensures read { IsRead (K.seen keeper.old) (K.seen keeper.new) result TabError.Fault }
+{
+    match read_world(alloc, keeper, wid) {
+        Ok(rows) => Ok(rows),
+        Err(error) => Err(error),
+    }
+}
+
+// Whether the rows of a world are settled over those of another one.
+fn settles(alloc: Global, own: Vec<Stored>, from: &[Stored]) -> Result<bool, AllocError>
+    requires from { are_apart from.now ≡ true }
+    ensures { IfOk result (λ settled. settled ≡ settles own.items from.now) }
+{
+    let mut stated = Vec::new(alloc);
+    let mut inherited = Vec::new(alloc);
+    for row in own {
+        put_row(&mut stated, &mut inherited, row)?;
+    }
+    Ok(are_settled(&stated, &inherited, from))
+}
+
+// Adds a row to the explicit ones, or else to the inherited ones.
+fn put_row(
+    stated: &mut Vec<Stored>,
+    inherited: &mut Vec<Stored>,
+    row: Stored,
+) -> Result<(), AllocError>
+    ensures stated { OnOk result (stated.new.items ≡ stated.old.items ++ filter is_explicit (row ∷ [])) }
+    ensures inherited { OnOk result (inherited.new.items ≡ inherited.old.items ++ filter is_inherited (row ∷ [])) }
+{
+    if row.mark.1 {
+        stated.push(row)?;
+        return Ok(());
+    }
+    inherited.push(row)?;
+    Ok(())
+}
