@@ -1,1 +1,4 @@
 pub mod FitLemmas
+pub mod LoadLemmas
+pub mod RowLemmas
+pub mod TextLemmas

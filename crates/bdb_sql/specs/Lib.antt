@@ -1,2 +1,5 @@
 pub mod Entries
 pub mod Filed
+pub mod Heads
+pub mod Kept
+pub mod Rows

@@ -3,15 +3,43 @@ ghost use Rattle.std.specs.Prelude.{◌≡◌, true, IsSome};
 ghost use Rattle.bdb_sql.specs.Filed.{Begins, works};
 
 use crate::keeper::SqlKeeper;
+use crate::look::{Sight, look_at};
 use crate::told::told;
 use bdb_keep::KeepError;
 use sqlite::{Connection, File, FileStore};
 use std::alloc::Global;
+use std::io::{self, ErrorKind};
 
 impl SqlKeeper<FileStore<File>> {
-    /// Opens the file at a path, or makes it, and loads its rows. Where the file can't be opened, is no database, or
-    /// holds what is no row of tables 1 to 15, the keeper doesn't work. It takes memory.
+    /// Opens the file at a path and loads its rows. Where there is none, or it has no byte, it becomes a database without
+    /// rows. Any other file that is no database in the keeper's form is left as it is, and the keeper doesn't work. It
+    /// takes memory.
     pub fn from_file(alloc: Global, rt: &HostRuntime, path: &str) -> Self
+        ensures begins { Begins result }
+        ensures file { works result ≡ true → IsSome result.conn }
+    {
+        match look_at(rt, path) {
+            Ok(Sight::Other) => SqlKeeper::closed(alloc, KeepError::Fault),
+            Ok(_) => SqlKeeper::opened(alloc, rt, path),
+            Err(error) => SqlKeeper::closed(alloc, refusal_of(&error)),
+        }
+    }
+
+    /// Opens the file at a path, which has to be there, and loads its rows. It makes no file, and where there is none, or
+    /// it has no byte, the keeper doesn't work. It takes memory.
+    pub fn from_present_file(alloc: Global, rt: &HostRuntime, path: &str) -> Self
+        ensures begins { Begins result }
+        ensures file { works result ≡ true → IsSome result.conn }
+    {
+        match look_at(rt, path) {
+            Ok(Sight::Database) => SqlKeeper::opened(alloc, rt, path),
+            Ok(_) => SqlKeeper::closed(alloc, KeepError::Fault),
+            Err(error) => SqlKeeper::closed(alloc, refusal_of(&error)),
+        }
+    }
+
+    /// Opens a file that was looked at.
+    fn opened(alloc: Global, rt: &HostRuntime, path: &str) -> Self
         ensures begins { Begins result }
         ensures file { works result ≡ true → IsSome result.conn }
     {
@@ -22,8 +50,12 @@ impl SqlKeeper<FileStore<File>> {
     }
 
     /// Closes the file, and copies the log that lies beside it into it. What was committed is in the two of them in any
-    /// case, and a transaction that runs is forgotten.
+    /// case, and a transaction that runs is forgotten. Where the keeper doesn't work, both are left as they are.
     pub fn close(self) -> Result<(), KeepError> {
+        if !self.works() {
+            self.leave();
+            return Ok(());
+        }
         let Some(conn) = self.into_connection() else {
             return Ok(());
         };
@@ -31,5 +63,21 @@ impl SqlKeeper<FileStore<File>> {
             Ok(()) => Ok(()),
             Err(error) => Err(told(error)),
         }
+    }
+
+    /// Closes the file, and leaves it and its log as they are. A transaction that runs is forgotten.
+    pub fn leave(self) {
+        if let Some(conn) = self.into_connection() {
+            drop(conn.into_store().close());
+        }
+    }
+}
+
+/// What a keeper answers where a file couldn't be looked at.
+fn refusal_of(error: &io::Error) -> KeepError {
+    if error.kind() == ErrorKind::OutOfMemory {
+        KeepError::Memory
+    } else {
+        KeepError::Fault
     }
 }

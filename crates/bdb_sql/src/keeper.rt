@@ -1,11 +1,15 @@
 // The keeper whose rows are in an SQLite file.
-ghost use Rattle.std.specs.Prelude.{◌≡◌, ◌≤◌, [], ◌∷◌, true, false, None, Some, IfOk, IsSome, OnOk, MatchBool, is_some, if◌then◌else◌};
+ghost use Rattle.std.specs.Prelude.{◌≡◌, ◌≤◌, [], ◌∷◌, true, false, None, Some, IfOk, IfSome, IsSome, OnOk, MatchBool, is_some, if◌then◌else◌};
 ghost use Rattle.std.specs.FinMap as map;
 ghost use Rattle.bdb_base.specs.Causes.{RoseBy};
 ghost use Rattle.bdb_keep.specs.Calls.{IsBegin, IsRead, IsWrite, IsCommit, IsUndo};
 ghost use Rattle.bdb_keep.specs.Tables.{IsLeastFrom, NoneFrom};
 ghost use Rattle.bdb_sql.specs.Filed.{works, Answers, Commits, Begins};
 ghost use Rattle.bdb_sql.specs.Entries.{FitTables};
+ghost use Rattle.bdb_sql.specs.Kept.{IsBareOrKept};
+ghost use Rattle.bdb_sql.specs.Rows.{Stores};
+ghost use Rattle.sqlite.specs.State.{HasCleanDisk, Survives};
+ghost use Rattle.sqlite.specs.Held.{state};
 
 use crate::load::load;
 use crate::told::told;
@@ -37,12 +41,16 @@ impl<S: Alter> Model for SqlKeeper<S> {
 }
 
 impl<S: Alter> SqlKeeper<S> {
-    /// Takes an open connection, makes the table unless it is there, and loads its rows. Where that is refused, or a
-    /// row fits no table 1 to 15, the keeper doesn't work. It has the connection in either case.
+    /// Takes an open connection and loads its rows. Where it has anything but the one table as the keeper makes it, or
+    /// a row that doesn't fit, the keeper doesn't work. It writes nothing: the first commit makes the table where there is
+    /// none. It has the connection in either case.
     #[tactic(auto, using(crate::proofs::FitLemmas::fits_empty))]
     pub fn over(alloc: Global, mut conn: Connection<S>) -> Self
         ensures begins { Begins result }
         ensures conn { IsSome result.conn }
+        ensures found { works result ≡ true → IsBareOrKept (state S.Store conn) }
+        ensures rows { works result ≡ true → IfSome result.conn (λ c. HasCleanDisk (state S.Store c) → Stores (state S.Store conn).now result.seen.kept) }
+        ensures survives { IfSome result.conn (λ c. Survives (state S.Store conn) (state S.Store c) (λ _. ⊥)) }
     {
         match load(alloc, &mut conn) {
             Ok(store) => SqlKeeper::begun(alloc, store, Some(conn), None),
@@ -73,6 +81,7 @@ impl<S: Alter> SqlKeeper<S> {
         ensures begins { Begins result }
         ensures conn { result.conn ≡ conn }
         ensures refusal { result.refusal ≡ refusal }
+        ensures rows { result.seen.kept ≡ store.kept }
     {
         let faults = u64::from(refusal == Some(KeepError::Fault));
         SqlKeeper {

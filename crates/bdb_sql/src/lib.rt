@@ -3,7 +3,10 @@
 
 mod file;
 mod keeper;
+mod kept;
 mod load;
+mod look;
+mod schema;
 #[cfg(test)]
 mod tests;
 mod told;

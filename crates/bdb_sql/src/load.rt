@@ -1,80 +1,105 @@
 // Loading the rows of a file.
-ghost use Rattle.std.specs.Prelude.{◌≡◌, ◌∷◌, ℕ, List, IfOk, IfSome, IfNone, OnOk};
-ghost use Rattle.std.specs.FinMap as map;
-ghost use Rattle.bdb_sql.specs.Entries.{FitTables, StandsFor};
+ghost use Rattle.std.specs.Prelude.{◌≡◌, ◌∷◌, ℕ, List, map, IfOk, IfSome, IfNone, OnOk};
+ghost use Rattle.std.specs.Ordering.{is_lt};
+ghost use Rattle.sqlite.specs.State.{HasCleanDisk, Survives};
+ghost use Rattle.sqlite.specs.Held.{state};
+ghost use Rattle.bdb_keep.specs.Tables.{bytes_cmp};
+ghost use Rattle.bdb_sql.specs.Entries.{FitTables, StandsFor, AddsAfter};
+ghost use Rattle.bdb_sql.specs.Kept.{IsBareOrKept, kept_schema};
+ghost use Rattle.bdb_sql.specs.Rows.{AreRowsOf, Stores, entry};
 
+use crate::kept::{LONGEST, SELECT};
+use crate::schema::{Found, schema_of};
 use crate::told::told;
 use bdb_keep::{KeepError, Store};
 use sqlite::types::ValueRef;
-use sqlite::{Alter, Connection, Row};
+use sqlite::{Alter, Connection, Error, ErrorCode, Row};
 use std::alloc::Global;
+use std::cmp::Ordering;
 
-/// Makes the one table, where it isn't there.
-const CREATE: &str =
-    "create table if not exists kept(tab integer not null, k blob not null, v blob not null, primary key (tab, k)) strict";
+/// What loading answers of a row that is no row of tables 1 to 15, is too long, or doesn't come after the row before it.
+const UNFIT: Error = Error::SqliteFailure(ErrorCode::DatabaseCorrupt);
 
-/// All rows in their order.
-const SELECT: &str = "select tab, k, v from kept order by tab, k";
-
-/// Loads the rows of a file. A row that is in no table 1 to 15 is a fault.
+/// Loads the rows of a file that has the keeper's table alone, or nothing at all. Any other file is a fault, and nothing of
+/// its own is run. A transaction that runs is a fault too, and so is a row that is in no table 1 to 15, one that is too
+/// long, and one that doesn't come after the row before it. It writes nothing.
+#[tactic(auto, using(crate::proofs::FitLemmas::fits_empty))]
 pub fn load<S: Alter>(alloc: Global, conn: &mut Connection<S>) -> Result<Store, KeepError>
     ensures settled { IfOk result (λ store. store.kept ≡ store.last) }
     ensures fits { IfOk result (λ store. FitTables store.kept) }
+    ensures found { OnOk result (IsBareOrKept (state S.Store conn.old)) }
+    ensures rows { HasCleanDisk (state S.Store conn.new) → IfOk result (λ store. Stores (state S.Store conn.old).now store.kept) }
+    ensures survives { Survives (state S.Store conn.old) (state S.Store conn.new) (λ _. ⊥) }
 {
-    make_table(conn)?;
-    read_rows(alloc, conn)
-}
-
-/// Makes the table, unless it is there. A transaction that runs is a fault.
-fn make_table<S: Alter>(conn: &mut Connection<S>) -> Result<(), KeepError> {
     if !conn.is_autocommit() {
         return Err(KeepError::Fault);
     }
-    match conn.execute(CREATE, &[]) {
-        Ok(_) => Ok(()),
-        Err(error) => Err(told(error)),
+    match schema_of(conn) {
+        Found::Nothing => Ok(Store::new(alloc)),
+        Found::Table => match read_rows(alloc, conn) {
+            Ok(store) => Ok(store),
+            Err(error) => Err(told(error)),
+        },
+        Found::Other => Err(KeepError::Fault),
     }
 }
 
 /// Reads the rows of the table.
-#[tactic(auto, using(crate::proofs::FitLemmas::fits_empty))]
-fn read_rows<S: Alter>(alloc: Global, conn: &mut Connection<S>) -> Result<Store, KeepError>
+fn read_rows<S: Alter>(alloc: Global, conn: &mut Connection<S>) -> Result<Store, Error>
+    requires { (state S.Store conn.old).now.schema ≡ kept_schema }
     ensures settled { IfOk result (λ store. store.kept ≡ store.last) }
     ensures fits { IfOk result (λ store. FitTables store.kept) }
+    ensures rows { HasCleanDisk (state S.Store conn.new) → IfOk result (λ store. AreRowsOf (map entry ((state S.Store conn.old).now.trees 0)) store.kept) }
+    ensures survives { Survives (state S.Store conn.old) (state S.Store conn.new) (λ _. ⊥) }
 {
     let mut store = Store::new(alloc);
-    let mut rows = match conn.query(SELECT, &[]) {
-        Ok(rows) => rows,
-        Err(error) => return Err(told(error)),
-    };
-    for _ in 0..u64::MAX {
-        match rows.next() {
-            Ok(Some(row)) => add_row(&mut store, row)?,
-            Ok(None) => return Ok(store),
-            Err(error) => return Err(told(error)),
-        }
+    let mut place = Vec::new(alloc);
+    let mut rows = conn.query(SELECT, &[])?;
+    'rows: for _ in 0..u64::MAX {
+        let Some(row) = rows.next()? else {
+            return Ok(store);
+        };
+        add_row(&mut store, row, &mut place)?;
     }
-    Err(KeepError::Fault)
+    Err(UNFIT)
 }
 
-/// Adds a row of the file to a store.
+/// Adds a row of the file to a store, where its place comes after that of the row before. `place` becomes its place.
 #[tactic(auto, using(crate::proofs::FitLemmas::fits_insert))]
-fn add_row(store: &mut Store, row: &Row) -> Result<(), KeepError>
+fn add_row(store: &mut Store, row: &Row, place: &mut Vec<u8>) -> Result<(), Error>
     requires { FitTables store.old.kept }
-    ensures added { OnOk result ((tab : ℕ) × (key : List ℕ) × (content : List ℕ) × StandsFor row.now tab key content × (store.new.kept ≡ map.insert store.old.kept (tab ∷ key) content)) }
+    ensures added { OnOk result (AddsAfter row.now place.old.items place.new.items store.old.kept store.new.kept) }
     ensures settled { OnOk result (store.new.kept ≡ store.new.last) }
     ensures fits { OnOk result (FitTables store.new.kept) }
 {
     let Some((tab, key, content)) = entry_of(row) else {
-        return Err(KeepError::Fault);
+        return Err(UNFIT);
     };
-    match store.preset(tab, key, content) {
-        Ok(()) => Ok(()),
-        Err(_) => Err(KeepError::Memory),
+    if !comes_after(place.as_slice(), tab, key) {
+        return Err(UNFIT);
+    }
+    place.clear();
+    place.push(tab)?;
+    place.extend_from_slice(key)?;
+    store.preset(tab, key, content)?;
+    Ok(())
+}
+
+/// Whether a table and key come after a place.
+fn comes_after(place: &[u8], tab: u8, key: &[u8]) -> bool
+    ensures { result ≡ is_lt (bytes_cmp place.now (tab ∷ key.now)) }
+{
+    let [first, rest @ ..] = place else {
+        return true;
+    };
+    match first.cmp(&tab) {
+        Ordering::Less => true,
+        Ordering::Equal => rest.cmp(key).is_lt(),
+        Ordering::Greater => false,
     }
 }
 
-/// What a row of the file stands for: a table, a key and a row; none where it fits no table 1 to 15.
+/// What a row of the file stands for: a table, a key and a row; none where it fits no table 1 to 15, or is too long.
 fn entry_of(row: &Row) -> Option<(u8, &[u8], &[u8])>
     ensures some { IfSome result (λ entry. StandsFor row.now entry.0 entry.1.now entry.2.now) }
     ensures none { IfNone result ((tab : ℕ) (key content : List ℕ) → StandsFor row.now tab key content → ⊥) }
@@ -84,7 +109,7 @@ fn entry_of(row: &Row) -> Option<(u8, &[u8], &[u8])>
     };
     match (tab, key, content) {
         (ValueRef::Int(tab), ValueRef::Blob(key), ValueRef::Blob(content)) => {
-            if 1 <= tab && tab <= 15 {
+            if 1 <= tab && tab <= 15 && key.len() <= LONGEST && content.len() <= LONGEST {
                 Some((tab as u8, key, content))
             } else {
                 None

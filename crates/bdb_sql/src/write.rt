@@ -1,17 +1,11 @@
 // Writing changes to a file.
+use crate::kept::{CREATE, LONGEST, PUT, REMOVE};
 use bdb_keep::Store;
 use sqlite::{Alter, Connection, Error, ErrorCode, Transaction, params};
 use std::alloc::Global;
 use std::collections::BTreeSet;
 
-/// Puts a row, in place of the row that stood there.
-const PUT: &str =
-    "insert into kept(tab, k, v) values (?1, ?2, ?3) on conflict (tab, k) do update set v = excluded.v";
-
-/// Takes a row away.
-const REMOVE: &str = "delete from kept where tab = ?1 and k = ?2";
-
-/// Writes the changes of a store to the file, all of them or none.
+/// Writes the changes of a store to the file, all of them or none. The first of all commits makes the table with them.
 pub fn write_changes<S: Alter>(
     alloc: Global,
     conn: &mut Connection<S>,
@@ -24,6 +18,7 @@ pub fn write_changes<S: Alter>(
         return Err(Error::SqliteFailure(ErrorCode::TransactionState));
     }
     let mut transaction = conn.transaction();
+    transaction.execute(CREATE, &[])?;
     write_each(alloc, &mut transaction, store)?;
     transaction.commit()
 }
@@ -57,13 +52,16 @@ fn write_row<S: Alter>(
     }
 }
 
-/// Puts the row at a key.
+/// Puts the row at a key. One that loading would refuse is refused.
 fn put<S: Alter>(
     transaction: &mut Transaction<'_, S>,
     tab: u8,
     key: &[u8],
     row: &[u8],
 ) -> Result<(), Error> {
+    if key.len() > LONGEST || row.len() > LONGEST {
+        return Err(Error::SqliteFailure(ErrorCode::TooBig));
+    }
     transaction.execute(PUT, params![u32::from(tab), key, row])?;
     Ok(())
 }

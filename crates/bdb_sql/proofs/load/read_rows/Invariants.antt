@@ -1,6 +1,18 @@
-use Rattle.std.proofs.Common.{◌≡◌}
+use Rattle.std.proofs.Common.{◌≡◌, List, []}
+use Rattle.sqlite_value.specs.Order.{Row}
+use Rattle.sqlite.specs.State.{HasCleanDisk, IsUnchanged, Survives}
+use Rattle.sqlite.specs.Held.{state}
+use Rattle.sqlite.specs.Given.{HasGiven}
 use Rattle.bdb_sql.specs.Entries.{FitTables}
+use Rattle.bdb_sql.specs.Rows.{AreRowsOf}
+use Rattle.bdb_sql.proofs.TextLemmas.{select_text}
+use Rattle.bdb_sql.proofs.RowLemmas.{IsUpTo}
 use Rattle.bdb_sql.proofs.load.read_rows.Given as goal
 
-abbrev pub invariant-loop : goal.invariant-loop
-invariant-loop g l = (l.store.kept ≡ l.store.last) × FitTables l.store.kept
+abbrev pub invariant-rows : goal.invariant-rows
+invariant-rows g l =
+    let old = state g.S.Store l.fn.conn in
+    let now = state g.S.Store l.rows.conn.now in
+    (l.rows.conn.ghost_name ≡ l.initial.rows.conn.ghost_name) × Survives old now (λ _. ⊥)
+    × (HasCleanDisk now → (given : List Row) × HasGiven g.S.Store select_text [] l.rows.conn.now given × AreRowsOf given l.store.kept × IsUnchanged old now)
+    × (l.store.kept ≡ l.store.last) × FitTables l.store.kept × IsUpTo l.place.items l.store.kept
