@@ -8,5 +8,6 @@ pub mod Numbers
 pub mod RowsLemmas
 pub mod Scans
 pub mod ShelvesLemmas
+pub mod TableLemmas
 pub mod WithinLemmas
 pub mod WrittenLemmas

@@ -7,10 +7,9 @@ use Rattle.std.proofs.lemmas.Cmp.{nat_list_cmp_total}
 use Rattle.std.proofs.lemmas.Map.Lookups.{exact_bytes}
 use Rattle.std.specs.FinMap as map
 use Rattle.std.specs.FinMap.{get-empty, get-insert, get-remove, same_map}
-use Rattle.bdb_keep.specs.Tables.{Tables, bytes_cmp, set_at}
+use Rattle.bdb_keep.specs.Tables.{IsPlace, Tables, bytes_cmp, set_at}
 use Rattle.bdb_keep.specs.Entries.{Entries, row_of, place_at, rows_of, KeepsPlaces, IsSetAt}
 use Rattle.bdb_keep.specs.Changes.{places_of, undone, HavePlaces}
-use Rattle.bdb_keep.specs.Held.{IsPlace}
 use Rattle.bdb_keep.specs.declared.changes.Change.{Change}
 use Rattle.std.specs.declared.cmp.Ordering.{Ordering}
 use Rattle.std.specs.declared.cmp.Ordering.TheVariants.{Less, Equal, Greater}

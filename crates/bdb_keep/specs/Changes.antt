@@ -1,7 +1,6 @@
 -- What the store's undo list stands for.
 use Rattle.std.specs.Prelude.{ℕ, List, [], ◌∷◌, IsSome}
-use Rattle.bdb_keep.specs.Tables.{Tables, set_at}
-use Rattle.bdb_keep.specs.Held.{IsPlace}
+use Rattle.bdb_keep.specs.Tables.{IsPlace, Tables, set_at}
 use Rattle.bdb_keep.specs.Entries.{Entries, place_at}
 use Rattle.bdb_keep.specs.declared.changes.Change.{Change}
 

@@ -1,5 +1,5 @@
 -- What a store of rows with an undo list holds.
-use Rattle.std.specs.Prelude.{ℕ, ◌≤◌, List, [], ◌∷◌, refl}
+use Rattle.std.specs.Prelude.{ℕ, List, [], ◌∷◌, refl}
 use Rattle.std.specs.Coded.{Coded, code_by, coded×, coded_ℕ, coded_list}
 use Rattle.std.specs.FinMap as map
 use Rattle.bdb_keep.specs.Tables.{Tables, coded_tables, set_at}
@@ -19,8 +19,3 @@ coded_held = code_by (Tables × (Tables × List (List ℕ))) (coded× coded_tabl
 abbrev pub written : List (List ℕ) → Tables → Tables → Tables
 written [] now t = t
 written (p ∷ ps) now t = written ps now (set_at t p (map.get now p))
-
--- a place: the number of a table, and then a key
-abbrev pub IsPlace : List ℕ → Type 0
-IsPlace [] = ⊥
-IsPlace (tab ∷ key) = (1 ≤ tab) × (tab ≤ 15)

@@ -1,5 +1,5 @@
 -- What a keeper holds: a finite map from places to rows. The place of a key in a table is the table's number and then the key's bytes.
-use Rattle.std.specs.Prelude.{◌≡◌, ℕ, List, ◌∷◌, Option, Some, None, IsTrue, IsSome}
+use Rattle.std.specs.Prelude.{◌≡◌, ℕ, ◌≤◌, List, [], ◌∷◌, Option, Some, None, IsTrue, IsSome}
 use Rattle.std.specs.declared.cmp.Ordering.{Ordering}
 use Rattle.std.specs.Ordering.{nat_cmp, is_le}
 use Rattle.std.specs.Cmp.Lexicographic.{slice_cmp}
@@ -37,3 +37,12 @@ NoneFrom t tab low = (q : List ℕ) → IsTrue (is_le (bytes_cmp low q)) → map
 -- each row of some tables is in the others
 abbrev pub LieWithin : Tables → Tables → Type 0
 LieWithin t u = (q row : List ℕ) → map.get t q ≡ Some row → map.get u q ≡ Some row
+
+-- a place: the number of a table, 1 to 15, and then a key
+abbrev pub IsPlace : List ℕ → Type 0
+IsPlace [] = ⊥
+IsPlace (tab ∷ key) = (1 ≤ tab) × (tab ≤ 15)
+
+-- each row is in one of the tables 1 to 15
+abbrev pub LieInTables : Tables → Type 0
+LieInTables t = (q row : List ℕ) → map.get t q ≡ Some row → IsPlace q

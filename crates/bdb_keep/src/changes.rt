@@ -1,10 +1,9 @@
 // The changes that a transaction made to the rows.
 ghost use Rattle.std.specs.Prelude.{◌≡◌, ◌++◌, ◌∷◌, [], Some, None, IfOk, IfErr, IfNone, OnSome, OnOk, OnErr, IsSome, is_some, if◌then◌else◌};
 ghost use Rattle.std.specs.FinMap as map;
-ghost use Rattle.bdb_keep.specs.Held.{IsPlace};
 ghost use Rattle.bdb_keep.specs.Entries.{place_at, rows_of, row_of, KeepsPlaces};
 ghost use Rattle.bdb_keep.specs.Changes.{undone, places_of, HavePlaces};
-ghost use Rattle.bdb_keep.specs.Tables.{set_at};
+ghost use Rattle.bdb_keep.specs.Tables.{IsPlace, set_at};
 
 use crate::place::Place;
 use crate::row::Row;

@@ -3,7 +3,7 @@ ghost use Rattle.std.specs.Prelude.{◌≡◌, ◌≤◌, [], ◌∷◌, true, f
 ghost use Rattle.std.specs.FinMap as map;
 ghost use Rattle.bdb_base.specs.Causes.{RoseBy};
 ghost use Rattle.bdb_keep.specs.Calls.{IsBegin, IsRead, IsWrite, IsCommit, IsUndo};
-ghost use Rattle.bdb_keep.specs.Tables.{IsLeastFrom, NoneFrom};
+ghost use Rattle.bdb_keep.specs.Tables.{IsLeastFrom, LieInTables, NoneFrom};
 ghost use Rattle.bdb_keep.specs.Seen.{Seen};
 
 use thiserror::Error;
@@ -39,7 +39,7 @@ pub trait Keeper {
         ensures read { IsRead (seen self.old) (seen self.new) result KeepError.Fault };
 
     /// Reads the least key that isn't below `low`, and its row. The answer is false, and both are empty, where there
-    /// is none.
+    /// is none. No row is in any other table than the fifteen.
     fn next(
         &mut self,
         tab: u8,
@@ -51,6 +51,7 @@ pub trait Keeper {
         ensures found { IfOk result (λ found. MatchBool found
             (IsLeastFrom (seen self.old).kept tab low.now key.new.items row.new.items)
             (NoneFrom (seen self.old).kept tab low.now)) }
+        ensures tables { LieInTables (seen self.old).kept }
         ensures empty { IfOk result (λ found. found ≡ false → (key.new.items ≡ []) × (row.new.items ≡ [])) }
         ensures reads { RoseBy 1 (seen self.old).reads (seen self.new).reads }
         ensures read { IsRead (seen self.old) (seen self.new) result KeepError.Fault };

@@ -4,7 +4,7 @@ ghost use Rattle.std.specs.FinMap as map;
 ghost use Rattle.bdb_base.specs.Causes.{Rose, RoseBy};
 ghost use Rattle.bdb_keep.specs.Calls.{IsRead, IsWrite, IsUndo};
 ghost use Rattle.bdb_keep.specs.Seen.{NeverFall, IsAtRest, IsDropped};
-ghost use Rattle.bdb_keep.specs.Tables.{IsLeastFrom, NoneFrom};
+ghost use Rattle.bdb_keep.specs.Tables.{IsLeastFrom, LieInTables, NoneFrom};
 ghost use Rattle.bdb_keep.specs.Told.{HasNoFault};
 
 use crate::keeper::KeepError;
@@ -37,7 +37,9 @@ impl Model for Ledger {
       changes = l.store.changes;
     } };
 
-    ghost invariant = { λ l. l.running ≡ false → l.store.kept ≡ l.store.last };
+    ghost use Rattle.bdb_keep.specs.Told.{IsSound};
+
+    ghost invariant = { λ l. IsSound (record { kept = l.store.kept; last = l.store.last; running = l.running; faults = l.faults; reads = l.reads; writes = l.writes; commits = l.commits }) };
 }
 
 impl Ledger {
@@ -53,7 +55,8 @@ impl Ledger {
 
     /// A ledger over settled rows, where nothing runs and nothing was counted but these faults.
     pub fn over(store: Store, faults: u64) -> Self
-        requires { store.kept ≡ store.last }
+        requires settled { store.kept ≡ store.last }
+        requires tables { LieInTables store.kept }
         ensures { result ≡ record {
           seen = record { kept = store.kept; last = store.last; running = false; faults = faults; reads = 0; writes = 0; commits = 0 };
           changes = store.changes;
@@ -110,6 +113,7 @@ impl Ledger {
         ensures found { IfOk result (λ found. MatchBool found
             (IsLeastFrom self.old.seen.kept tab low.now key.new.items row.new.items)
             (NoneFrom self.old.seen.kept tab low.now)) }
+        ensures tables { LieInTables self.old.seen.kept }
         ensures empty { IfOk result (λ found. found ≡ false → (key.new.items ≡ []) × (row.new.items ≡ [])) }
         ensures reads { RoseBy 1 self.old.seen.reads self.new.seen.reads }
         ensures read { IsRead self.old.seen self.new.seen result KeepError.Fault }
@@ -203,6 +207,7 @@ impl Ledger {
 
     /// The same of a read, which is counted.
     pub fn refuse_read(&mut self, error: KeepError)
+        ensures tables { LieInTables self.old.seen.kept }
         ensures rest { IsAtRest self.old.seen }
         ensures dropped { IsDropped self.old.seen self.new.seen }
         ensures rose { error ≡ KeepError.Fault → Rose self.old.seen.faults self.new.seen.faults }
@@ -234,7 +239,10 @@ impl Ledger {
         ensures ok { OnOk result (let t = map.insert self.old.seen.kept (tab ∷ key.now) row.now in self.new.seen ≡ record self.old.seen { kept = t; last = t }) }
         ensures err { OnErr result (self.new.seen ≡ self.old.seen) }
     {
-        self.store.preset(tab, key, row)
+        match self.store.preset(tab, key, row) {
+            Ok(()) => Ok(()),
+            Err(error) => Err(error),
+        }
     }
 
     /// Takes a row away as if that had been committed. It takes no memory, and looks at each row.

@@ -2,8 +2,8 @@
 ghost use Rattle.std.specs.Prelude.{◌≡◌, ◌≤◌, ◌++◌, ◌∷◌, ◌<◌, [], Some, None, IfOk, OnOk, OnErr, IfSome, MatchBool, IsTrue, ◌↔◌, is_some, false, length, slice_get, if◌then◌else◌};
 ghost use Rattle.std.specs.Option.{option_map};
 ghost use Rattle.std.specs.FinMap as map;
-ghost use Rattle.bdb_keep.specs.Held.{IsPlace, written};
-ghost use Rattle.bdb_keep.specs.Tables.{IsLeastFrom, NoneFrom};
+ghost use Rattle.bdb_keep.specs.Held.{written};
+ghost use Rattle.bdb_keep.specs.Tables.{IsLeastFrom, IsPlace, NoneFrom};
 
 use crate::changes::{Change, insert_row, put_row, roll_back, settle, take_row};
 use crate::place::Place;

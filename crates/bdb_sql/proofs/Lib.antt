@@ -1,4 +1,3 @@
-pub mod FitLemmas
 pub mod LoadLemmas
 pub mod RowLemmas
 pub mod TextLemmas

@@ -1,10 +1,9 @@
 -- Rows of the file, and what they stand for.
-use Rattle.std.specs.Prelude.{◌≡◌, ℕ, ◌≤◌, ◌^◌, pos, List, ◌∷◌, length, IsSome, IsTrue}
+use Rattle.std.specs.Prelude.{◌≡◌, ℕ, ◌≤◌, ◌^◌, pos, List, ◌∷◌, length, IsTrue}
 use Rattle.std.specs.Ordering.{is_lt}
 use Rattle.std.specs.FinMap as map
 use Rattle.sqlite_value.specs.Order.{Row, column}
 use Rattle.sqlite_value.specs.declared.value.Value.TheVariants.{Int, Blob}
-use Rattle.bdb_keep.specs.Held.{IsPlace}
 use Rattle.bdb_keep.specs.Tables.{Tables, bytes_cmp}
 
 -- a key or a content is no longer than this
@@ -28,7 +27,3 @@ pub record AddsAfter (filed : Row) (before place : List ℕ) (old new : Tables) 
   pub place_is : place ≡ tab ∷ key
   pub after : IsTrue (is_lt (bytes_cmp before place))
   pub added : new ≡ map.insert old place content
-
--- each row is in a table 1 to 15
-abbrev pub FitTables : Tables → Type 0
-FitTables t = (place : List ℕ) → IsSome (map.get t place) → IsPlace place

@@ -7,7 +7,7 @@ use Rattle.bdb_keep.specs.contracts.keeper.KeepError as keep_error
 use Rattle.bdb_keep.specs.declared.keeper.KeepError.{KeepError}
 use Rattle.bdb_keep.specs.declared.keeper.KeepError.TheVariants.{Fault}
 use Rattle.bdb_keep.specs.Seen.{Seen, IsStill, coded_seen}
-use Rattle.bdb_sql.specs.Entries.{FitTables}
+use Rattle.bdb_keep.specs.Tables.{LieInTables}
 
 -- what every keeper tells, what each call is refused with where the keeper doesn't work, and the connection to the file if there is one
 pub record Filed (S : Type 0) : Type 0 where
@@ -46,7 +46,7 @@ pub record Commits {S T : Type 0} (old new : Filed S) (result : Result T KeepErr
 -- Where the keeper doesn't work it has no rows.
 pub record Begins {S : Type 0} (k : Filed S) : Type 0 where
   pub still : IsStill k.seen
-  pub fits : FitTables k.seen.kept
+  pub fits : LieInTables k.seen.kept
   pub empty : IsSome k.refusal → k.seen.kept ≡ map.empty
   pub fault : k.refusal ≡ Some Fault → 1 ≤ k.seen.faults
   pub reads : k.seen.reads ≡ 0

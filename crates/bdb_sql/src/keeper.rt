@@ -3,9 +3,8 @@ ghost use Rattle.std.specs.Prelude.{◌≡◌, ◌≤◌, [], ◌∷◌, true, f
 ghost use Rattle.std.specs.FinMap as map;
 ghost use Rattle.bdb_base.specs.Causes.{RoseBy};
 ghost use Rattle.bdb_keep.specs.Calls.{IsBegin, IsRead, IsWrite, IsCommit, IsUndo};
-ghost use Rattle.bdb_keep.specs.Tables.{IsLeastFrom, NoneFrom};
+ghost use Rattle.bdb_keep.specs.Tables.{IsLeastFrom, LieInTables, NoneFrom};
 ghost use Rattle.bdb_sql.specs.Filed.{works, Answers, Commits, Begins};
-ghost use Rattle.bdb_sql.specs.Entries.{FitTables};
 ghost use Rattle.bdb_sql.specs.Kept.{IsBareOrKept};
 ghost use Rattle.bdb_sql.specs.Rows.{Stores};
 ghost use Rattle.sqlite.specs.State.{HasCleanDisk, Survives};
@@ -44,7 +43,7 @@ impl<S: Alter> SqlKeeper<S> {
     /// Takes an open connection and loads its rows. Where it has anything but the one table as the keeper makes it, or
     /// a row that doesn't fit, the keeper doesn't work. It writes nothing: the first commit makes the table where there is
     /// none. It has the connection in either case.
-    #[tactic(auto, using(crate::proofs::FitLemmas::fits_empty))]
+    #[tactic(auto, using(bdb_keep::proofs::TableLemmas::none_lie))]
     pub fn over(alloc: Global, mut conn: Connection<S>) -> Self
         ensures begins { Begins result }
         ensures conn { IsSome result.conn }
@@ -59,7 +58,7 @@ impl<S: Alter> SqlKeeper<S> {
     }
 
     /// A keeper with no file. It doesn't work.
-    #[tactic(auto, using(crate::proofs::FitLemmas::fits_empty))]
+    #[tactic(auto, using(bdb_keep::proofs::TableLemmas::none_lie))]
     pub(crate) fn closed(alloc: Global, error: KeepError) -> Self
         ensures begins { Begins result }
         ensures refused { result.refusal ≡ Some error }
@@ -76,7 +75,7 @@ impl<S: Alter> SqlKeeper<S> {
         refusal: Option<KeepError>,
     ) -> Self
         requires settled { store.kept ≡ store.last }
-        requires fits { FitTables store.kept }
+        requires fits { LieInTables store.kept }
         requires empty { IsSome refusal → store.kept ≡ map.empty }
         ensures begins { Begins result }
         ensures conn { result.conn ≡ conn }
@@ -160,6 +159,7 @@ impl<S: Alter> Keeper for SqlKeeper<S> {
         ensures found { IfOk result (λ found. MatchBool found
             (IsLeastFrom self.old.seen.kept tab low.now key.new.items row.new.items)
             (NoneFrom self.old.seen.kept tab low.now)) }
+        ensures tables { LieInTables self.old.seen.kept }
         ensures empty { IfOk result (λ found. found ≡ false → (key.new.items ≡ []) × (row.new.items ≡ [])) }
         ensures reads { RoseBy 1 self.old.seen.reads self.new.seen.reads }
         ensures read { IsRead self.old.seen self.new.seen result KeepError.Fault }

@@ -3,8 +3,8 @@ ghost use Rattle.std.specs.Prelude.{◌≡◌, ◌∷◌, ℕ, List, map, IfOk, 
 ghost use Rattle.std.specs.Ordering.{is_lt};
 ghost use Rattle.sqlite.specs.State.{HasCleanDisk, Survives};
 ghost use Rattle.sqlite.specs.Held.{state};
-ghost use Rattle.bdb_keep.specs.Tables.{bytes_cmp};
-ghost use Rattle.bdb_sql.specs.Entries.{FitTables, StandsFor, AddsAfter};
+ghost use Rattle.bdb_keep.specs.Tables.{LieInTables, bytes_cmp};
+ghost use Rattle.bdb_sql.specs.Entries.{StandsFor, AddsAfter};
 ghost use Rattle.bdb_sql.specs.Kept.{IsBareOrKept, kept_schema};
 ghost use Rattle.bdb_sql.specs.Rows.{AreRowsOf, Stores, entry};
 
@@ -23,10 +23,10 @@ const UNFIT: Error = Error::SqliteFailure(ErrorCode::DatabaseCorrupt);
 /// Loads the rows of a file that has the keeper's table alone, or nothing at all. Any other file is a fault, and nothing of
 /// its own is run. A transaction that runs is a fault too, and so is a row that is in no table 1 to 15, one that is too
 /// long, and one that doesn't come after the row before it. It writes nothing.
-#[tactic(auto, using(crate::proofs::FitLemmas::fits_empty))]
+#[tactic(auto, using(bdb_keep::proofs::TableLemmas::none_lie))]
 pub fn load<S: Alter>(alloc: Global, conn: &mut Connection<S>) -> Result<Store, KeepError>
     ensures settled { IfOk result (λ store. store.kept ≡ store.last) }
-    ensures fits { IfOk result (λ store. FitTables store.kept) }
+    ensures fits { IfOk result (λ store. LieInTables store.kept) }
     ensures found { OnOk result (IsBareOrKept (state S.Store conn.old)) }
     ensures rows { HasCleanDisk (state S.Store conn.new) → IfOk result (λ store. Stores (state S.Store conn.old).now store.kept) }
     ensures survives { Survives (state S.Store conn.old) (state S.Store conn.new) (λ _. ⊥) }
@@ -48,7 +48,7 @@ pub fn load<S: Alter>(alloc: Global, conn: &mut Connection<S>) -> Result<Store, 
 fn read_rows<S: Alter>(alloc: Global, conn: &mut Connection<S>) -> Result<Store, Error>
     requires { (state S.Store conn.old).now.schema ≡ kept_schema }
     ensures settled { IfOk result (λ store. store.kept ≡ store.last) }
-    ensures fits { IfOk result (λ store. FitTables store.kept) }
+    ensures fits { IfOk result (λ store. LieInTables store.kept) }
     ensures rows { HasCleanDisk (state S.Store conn.new) → IfOk result (λ store. AreRowsOf (map entry ((state S.Store conn.old).now.trees 0)) store.kept) }
     ensures survives { Survives (state S.Store conn.old) (state S.Store conn.new) (λ _. ⊥) }
 {
@@ -65,12 +65,12 @@ fn read_rows<S: Alter>(alloc: Global, conn: &mut Connection<S>) -> Result<Store,
 }
 
 /// Adds a row of the file to a store, where its place comes after that of the row before. `place` becomes its place.
-#[tactic(auto, using(crate::proofs::FitLemmas::fits_insert))]
+#[tactic(auto, using(bdb_keep::proofs::TableLemmas::put_lies))]
 fn add_row(store: &mut Store, row: &Row, place: &mut Vec<u8>) -> Result<(), Error>
-    requires { FitTables store.old.kept }
+    requires { LieInTables store.old.kept }
     ensures added { OnOk result (AddsAfter row.now place.old.items place.new.items store.old.kept store.new.kept) }
     ensures settled { OnOk result (store.new.kept ≡ store.new.last) }
-    ensures fits { OnOk result (FitTables store.new.kept) }
+    ensures fits { OnOk result (LieInTables store.new.kept) }
 {
     let Some((tab, key, content)) = entry_of(row) else {
         return Err(UNFIT);

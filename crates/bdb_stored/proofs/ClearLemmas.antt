@@ -13,8 +13,7 @@ use Rattle.bdb_base.specs.Bases.{empty_contents, is_user}
 use Rattle.bdb_base.specs.Segments.{is_suffix}
 use Rattle.bdb_base.specs.States.{edge_target, is_state}
 use Rattle.bdb_base.specs.declared.kinds.RelDef.{RelDef}
-use Rattle.bdb_keep.specs.Tables.{Tables, bytes_cmp, NoneFrom}
-use Rattle.bdb_keep.proofs.Gets.{get_after_insert, get_empty}
+use Rattle.bdb_keep.specs.Tables.{LieInTables, NoneFrom, Tables, bytes_cmp}
 use Rattle.bdb_tables.specs.Codec.{Codec, place}
 use Rattle.bdb_tables.specs.InUse.{ValKey, meta_codec, user_codec, rel_codec, tuple_codec, tuple_ix_codec, depth_codec, edge_codec, led_codec, val_codec, plain_codec}
 use Rattle.bdb_tables.specs.Names.{number_of, is_named, path_of, leads_to, edge_from, edge_of}
@@ -28,7 +27,7 @@ use Rattle.bdb_tables.proofs.SameLemmas.{outside_one, change_same}
 use Rattle.bdb_tables.proofs.WriteLemmas.{change_gives, change_elsewhere, gives_same}
 use Rattle.bdb_worlds.specs.Root.{root_names}
 use Rattle.bdb_worlds.proofs.RootLemmas.{root_is_world}
-use Rattle.bdb_stored.specs.Writing.{AreCleared, HaveNoRows, IsCleared, LieInTables, is_before}
+use Rattle.bdb_stored.specs.Writing.{AreCleared, HaveNoRows, IsCleared, is_before}
 
 -- ---- one table
 
@@ -90,30 +89,13 @@ no_row_outside t lie n k out = by (tables.get t (n ∷ k)) refl
 
     by : (o : Option (List ℕ)) → tables.get t (n ∷ k) ≡ o → o ≡ None
     by None e = refl
-    by (Some r) e = let there = lie n k r e in absurd (false≢true (sym out ∙ within n there.0 there.1))
+    by (Some r) e = let there = lie (n ∷ k) r e in absurd (false≢true (sym out ∙ within n there.0 there.1))
 
-pub all_cleared : (t u : Tables) → LieInTables t → AreCleared 16 t u → HaveNoRows u
+pub all_cleared : (t u : Tables) → LieInTables u → AreCleared 16 t u → HaveNoRows u
 all_cleared t u lie a n k = elim (cases_Bool (is_before 16 n)) [
   | inl e ↦ a.none n k e
-  | inr e ↦ a.others n k e ∙ no_row_outside t lie n k e
+  | inr e ↦ no_row_outside u lie n k e
 ]
-
--- ---- tables into which rows are put
-
-pub none_in_tables : LieInTables tables.empty
-none_in_tables n k row e = let none : None ≡ Some row = sym (get_empty (n ∷ k)) ∙ e in absurd cc
-
-pub put_in_tables : (t : Tables) (tab : ℕ) (key row : List ℕ) → 1 ≤ tab → tab ≤ 15 → LieInTables t → LieInTables (tables.insert t (tab ∷ key) row)
-put_in_tables t tab key row low high lie n k found e = elim (cases_Bool (eq_by_cmp bytes_cmp (n ∷ k) (tab ∷ key))) [
-  | inl s ↦ (let same : n ≡ tab = first n (same_place (n ∷ k) (tab ∷ key) s) in (omega arith, omega arith))
-  | inr s ↦ lie n k found (sym (elsewhere s) ∙ e)
-]
-  where
-    first : (m : ℕ) → m ∷ k ≡ tab ∷ key → m ≡ tab
-    first m s = cc
-
-    elsewhere : eq_by_cmp bytes_cmp (n ∷ k) (tab ∷ key) ≡ false → tables.get (tables.insert t (tab ∷ key) row) (n ∷ k) ≡ tables.get t (n ∷ k)
-    elsewhere s = get_after_insert t (tab ∷ key) row (n ∷ k) ∙ ap (λ b. cond b (Some row) (tables.get t (n ∷ k))) s
 
 -- ---- the empty base
 

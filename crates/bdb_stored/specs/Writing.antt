@@ -25,10 +25,6 @@ pub record IsCleared (tab : ℕ) (t u : Tables) : Type 0 where
   pub none : (k : List ℕ) → tables.get u (tab ∷ k) ≡ None
   pub others : SameBut (nat_eq tab) t u
 
--- each row is in one of the tables 1 to 15, which a keeper has
-abbrev pub LieInTables : Tables → Type 0
-LieInTables t = (n : ℕ) (k row : List ℕ) → tables.get t (n ∷ k) ≡ Some row → (1 ≤ n) × (n ≤ 15)
-
 -- no table has a row
 abbrev pub HaveNoRows : Tables → Type 0
 HaveNoRows t = (n : ℕ) (k : List ℕ) → tables.get t (n ∷ k) ≡ None

@@ -1,7 +1,8 @@
 // Taking all rows of tables away.
 ghost use Rattle.std.specs.Prelude.{◌≡◌, ◌≤◌, true, OnOk};
 ghost use Rattle.bdb_keep.specs.Seen.{NeverFall, Steps};
-ghost use Rattle.bdb_stored.specs.Writing.{HaveNoRows, IsCleared, LieInTables};
+ghost use Rattle.bdb_keep.specs.Tables.{LieInTables};
+ghost use Rattle.bdb_stored.specs.Writing.{HaveNoRows, IsCleared};
 
 use bdb_keep::{KeepError, Keeper};
 use bdb_tables::TabError;
@@ -13,7 +14,6 @@ const TABLES: u8 = 15;
 /// Takes all rows away, whatever they are. Two calls for each row, and one for each table.
 pub fn clear_tables<K: Keeper>(alloc: Global, keeper: &mut K) -> Result<(), TabError>
     requires running { (K.seen keeper.old).running ≡ true }
-    requires tables { LieInTables (K.seen keeper.old).kept }
     ensures cleared { OnOk result (HaveNoRows (K.seen keeper.new).kept) }
     ensures counts { NeverFall (K.seen keeper.old) (K.seen keeper.new) }
     ensures steps { Steps (K.seen keeper.old) (K.seen keeper.new) result TabError.Fault }
@@ -32,6 +32,7 @@ fn clear_table<K: Keeper>(alloc: Global, keeper: &mut K, tab: u8) -> Result<(), 
     requires table { (1 ≤ tab) × (tab ≤ 15) }
     requires running { (K.seen keeper.old).running ≡ true }
     ensures cleared { OnOk result (IsCleared tab (K.seen keeper.old).kept (K.seen keeper.new).kept) }
+    ensures tables { OnOk result (LieInTables (K.seen keeper.new).kept) }
     ensures counts { NeverFall (K.seen keeper.old) (K.seen keeper.new) }
     ensures steps { Steps (K.seen keeper.old) (K.seen keeper.new) result TabError.Fault }
 {

@@ -1,7 +1,6 @@
 // A worked base written over other rows, and read whole. Alice is user 1, Bob is user 2, Carol is user 3.
 ghost use Rattle.std.specs.Prelude.{◌≡◌, true, IfOk};
 ghost use Rattle.bdb_canon.specs.Samples.{sightings, stated_at, reported};
-ghost use Rattle.bdb_stored.specs.Writing.{LieInTables};
 
 use super::*;
 use bdb_base::{
@@ -101,7 +100,6 @@ fn written<K: Keeper>(
     base: &Base,
 ) -> Result<(Canon, Counts), TabError>
     requires running { (K.seen keeper.old).running ≡ true }
-    requires tables { LieInTables (K.seen keeper.old).kept }
 {
     write_all_tables(alloc, keeper, base)?;
     let k = canon_of(alloc, keeper)?;

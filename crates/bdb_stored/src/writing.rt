@@ -4,7 +4,7 @@ ghost use Rattle.bdb_base.specs.Bases.{IsCatalog, empty_contents};
 ghost use Rattle.bdb_keep.specs.Seen.{NeverFall, Steps};
 ghost use Rattle.bdb_tables.specs.Stored.{Stores};
 ghost use Rattle.bdb_stored.specs.Valid.{StoresValid};
-ghost use Rattle.bdb_stored.specs.Writing.{AddsNext, HaveNoRows, LieInTables, SomeMayFollow, base_of};
+ghost use Rattle.bdb_stored.specs.Writing.{AddsNext, HaveNoRows, SomeMayFollow, base_of};
 
 use crate::clearing::clear_tables;
 use bdb_base::{Base, Catalog, Stmt};
@@ -26,7 +26,6 @@ pub fn write_all_tables<K: Keeper>(
     base: &Base,
 ) -> Result<(), TabError>
     requires running { (K.seen keeper.old).running ≡ true }
-    requires tables { LieInTables (K.seen keeper.old).kept }
     ensures stored { OnOk result (StoresValid (K.seen keeper.new).kept base.now) }
     ensures counts { NeverFall (K.seen keeper.old) (K.seen keeper.new) }
     ensures steps { Steps (K.seen keeper.old) (K.seen keeper.new) result TabError.Fault }

@@ -1,5 +1,5 @@
 use Rattle.std.proofs.Common.{Some, ◌∷◌, sym, subst, rules}
-use Rattle.bdb_keep.specs.Held.{IsPlace}
+use Rattle.bdb_keep.specs.Tables.{IsPlace}
 use Rattle.bdb_keep.proofs.RowsLemmas.{undone-kept, HavePlaces-kept, places_of-kept}
 use Rattle.bdb_keep.proofs.changes.put_row.Goals as goal
 

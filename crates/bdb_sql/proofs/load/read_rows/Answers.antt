@@ -9,9 +9,9 @@ use Rattle.sqlite.specs.Held.{state}
 use Rattle.sqlite.proofs.StateLemmas.{survives_then}
 use Rattle.sqlite.proofs.Callers.{begun_plain, unchanged_then}
 use Rattle.bdb_keep.specs.Held.{Held}
-use Rattle.bdb_sql.specs.Entries.{FitTables}
+use Rattle.bdb_keep.specs.Tables.{LieInTables}
 use Rattle.bdb_sql.specs.Rows.{AreRowsOf}
-use Rattle.bdb_sql.proofs.FitLemmas.{fits_empty}
+use Rattle.bdb_keep.proofs.TableLemmas.{none_lie}
 use Rattle.bdb_sql.proofs.LoadLemmas.{AreShown, shows_all}
 use Rattle.bdb_sql.proofs.RowLemmas.{IsUpTo, up_to_empty, rows_empty, up_to_next, one_more, shown_rows}
 use Rattle.bdb_sql.proofs.TextLemmas.{select_text, select_plain, commits_nothing}
@@ -34,7 +34,7 @@ rows-init g c =
       commits_nothing _ _ c.requires made.survives,
       λ clean. let begun = begun_plain g.S.Store select_text [] c.args.conn.now _ plain (made.begun clean) in ([], begun.0, subst (AreRowsOf []) (sym kept) rows_empty, begun.1),
       kept ∙ sym (ap (λ (h : Held). h.last) c.new-store.ensures),
-      subst FitTables (sym kept) fits_empty,
+      subst LieInTables (sym kept) none_lie,
       subst (IsUpTo c.new-place.result.items) (sym kept) (up_to_empty c.new-place.result.items),
     )
 

@@ -1,5 +1,6 @@
-use Rattle.std.proofs.Common.{◌∙◌, ◌∷◌, ap}
+use Rattle.std.proofs.Common.{◌∙◌, ◌∷◌, ap, subst, sym}
 use Rattle.std.specs.FinMap as tables
+use Rattle.bdb_keep.specs.Tables.{LieInTables}
 use Rattle.bdb_worlds.proofs.StepsLemmas.{falls_then, goes_then}
 use Rattle.bdb_stored.proofs.ClearLemmas.{remove_same, same_later}
 use Rattle.bdb_stored.proofs.clearing.clear_table.Goals as goal
@@ -16,3 +17,6 @@ loop-preserved g c =
       counts = falls_then _ _ _ c.loop.invariant.counts (falls_then _ _ _ c.in-Ok-true.ensures.read.counts c.in-Ok.ensures.write.counts);
       goes_on = goes_then _ _ _ (goes_then _ _ _ c.loop.invariant.goes_on c.in-Ok-true.ensures.read.steps.ok) c.in-Ok.ensures.write.steps.ok;
     }
+
+pub returns-in-Ok-false-clause-tables : goal.returns-in-Ok-false-clause-tables
+returns-in-Ok-false-clause-tables g c = subst LieInTables (sym c.in-Ok-false.ensures.read.kept) c.in-Ok-false.ensures.tables

@@ -1,6 +1,6 @@
 use Rattle.std.proofs.Common.{◌<◌, ◌≡◌, ◌∙◌, sym, ap, subst, length, rules, Some, ◌∷◌}
 use Rattle.std.specs.Prelude.{slice_get}
-use Rattle.bdb_keep.specs.Held.{IsPlace}
+use Rattle.bdb_keep.specs.Tables.{IsPlace}
 use Rattle.bdb_keep.proofs.WrittenLemmas.{length-places_of, slice_get-places_of, IsPlace-at}
 use Rattle.bdb_keep.proofs.store.Store.changed_place.Goals as goal
 
