@@ -4,7 +4,7 @@ use Rattle.std.specs.Bool.{MatchBool}
 use Rattle.std.specs.FinMap as tables
 use Rattle.std.proofs.lemmas.Bool.{cases_Bool, eqb-true}
 use Rattle.std.proofs.lemmas.Bool.Decides.{nat_tests}
-use Rattle.bdb_keep.specs.Tables.{Tables}
+use Rattle.bdb_keep.specs.Tables.{LieInTables, Tables}
 use Rattle.bdb_tables.specs.Codec.{Codec, IsEntryOf, TableFits}
 use Rattle.bdb_tables.specs.Grammar.{IsEntry}
 use Rattle.bdb_tables.specs.InUse.{meta_codec, plain_codec}
@@ -13,7 +13,7 @@ use Rattle.bdb_tables.specs.Stored.{is_table}
 use Rattle.bdb_tables.specs.Writes.{Gives}
 use Rattle.bdb_tables.proofs.Held.{none_some}
 use Rattle.bdb_decode.specs.Format.{IsFormatDamaged, TellsFormat, format_of}
-use Rattle.bdb_decode.specs.Reading.{AreEntries, IsBare, LieInTables, Misfits, OthersAreBare}
+use Rattle.bdb_decode.specs.Reading.{AreEntries, IsBare, Misfits, OthersAreBare}
 use Rattle.bdb_decode.proofs.ReadLemmas.{past, under_fits}
 
 -- ---- the format
@@ -60,7 +60,7 @@ bare_are_entries t n h false some = λ are. some (λ k. bare_if t n k (tables.ge
 
 outside_bare : (t : Tables) → LieInTables t → ((n : ℕ) → 12 ≤ n → n ≤ 15 → IsBare t n) → (n : ℕ) (k : List ℕ) → is_table n ≡ false → (o : Option (List ℕ)) → tables.get t (n ∷ k) ≡ o → tables.get t (n ∷ k) ≡ None
 outside_bare t lie bare n k out None e = e
-outside_bare t lie bare n k out (Some r) e = let in_tables = lie n k r e in bare n (past_twelve n in_tables.0 out) in_tables.1 k
+outside_bare t lie bare n k out (Some r) e = let in_tables = lie (n ∷ k) r e in bare n (past_twelve n in_tables.0 out) in_tables.1 k
   where
     past_twelve : (n : ℕ) → 1 ≤ n → is_table n ≡ false → 12 ≤ n
     past_twelve n low out = grind (arith, nat_tests)

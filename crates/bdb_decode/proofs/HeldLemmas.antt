@@ -29,7 +29,7 @@ module _ (t : Tables) (users : ℕ → Bool) (ns ms : Names) (h : HoldsStates us
       by None e None f = e ∙ sym f
       by None e (Some m) f = h.names.named m w (same m (a.sized w m f) ∙ a.numbered w m f) ∙ sym f
 
-  named_same : (w : List ℕ) → is_named ns w ≡ is_named ms w
+  pub named_same : (w : List ℕ) → is_named ns w ≡ is_named ms w
   named_same w = ap is_some (numbers_same w)
 
   target_same : (w : List ℕ) → number_of ns (deepest_suffix (is_named ns) w) ≡ number_of ms (deepest_suffix (is_named ms) w)

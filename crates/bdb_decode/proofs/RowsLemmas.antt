@@ -12,13 +12,12 @@ use Rattle.bdb_base.specs.Worlds.{contradicted}
 use Rattle.bdb_base.proofs.WorldLemmas.{explicit_tuple}
 use Rattle.bdb_keep.specs.Tables.{Tables}
 use Rattle.bdb_key.specs.Grammar.{IsNum}
-use Rattle.bdb_key.specs.Rows.{tuple_bytes, mark_bytes}
-use Rattle.bdb_tables.specs.Codec.{Codec, TableFits, place}
+use Rattle.bdb_tables.specs.Codec.{TableFits, place}
 use Rattle.bdb_tables.specs.Grammar.{InGrammar}
 use Rattle.bdb_tables.specs.InUse.{ValKey, IsValKey, depth_codec, tuple_codec, val_codec}
 use Rattle.bdb_tables.specs.InUseLaws.{tuple_rows_are_one}
 use Rattle.bdb_tables.specs.Marks.{Mark, explicit_sign}
-use Rattle.bdb_tables.specs.Names.{Names, AreNames, is_named, link_of, path_of}
+use Rattle.bdb_tables.specs.Names.{Names, AreNames, link_of, path_of}
 use Rattle.bdb_tables.specs.Rows.{Tuples, HoldsRows, row_for}
 use Rattle.bdb_tables.specs.Writes.{Gives, with_changes}
 use Rattle.bdb_tables.proofs.WriteLemmas.{gives_same}
@@ -31,7 +30,7 @@ use Rattle.bdb_val.specs.declared.stored.Stored.{Stored}
 use Rattle.bdb_val.proofs.HeldLemmas.{some_is, names_are_linked, settled_rows_are_held, held_rows_are_explicit, held_rows_are_settled}
 use Rattle.bdb_val.proofs.ReadLemmas.{read_named, read_apart, tuple_row, world_span}
 use Rattle.bdb_val.proofs.StepLemmas.{own_mark, next_after, settled_after}
-use Rattle.bdb_decode.specs.SettledRows.{AreCandidates, AreKeyed, IsKeyed, TellsRows, TellsWorld, TellsWorlds}
+use Rattle.bdb_decode.specs.SettledRows.{AreCandidates, AreKeyed, AreLinked, IsKeyed, TellsRows, TellsWorld, TellsWorlds}
 use Rattle.bdb_decode.specs.Settles.{settles}
 use Rattle.bdb_decode.proofs.GivenLemmas.{given, given_gives}
 use Rattle.bdb_decode.proofs.SettlesLemmas.{settled_next, next_settles}
@@ -175,17 +174,6 @@ module _ (stmts : List Stmt) (ns : Names) (ts : Tuples) (worlds : List (ℕ × O
     held_explicit : HasExplicit stmts (worlds_of ns) ts.tuple held t
     held_explicit = held_rows_are_explicit stmts ns ts t c.names c.states c.consistent c.tuples r
 
-    pub held_keyed : AreKeyed t
-    held_keyed k v s =
-        let there : is_some (held k) ≡ true = sym (some_map val_codec.row_bytes (held k)) ∙ sym (ap is_some (r.rows k v)) ∙ s in
-        let u = held_explicit.rows.keyed k v there in
-        record {
-          world = depth_named k.0 v.world ∙ held_explicit.worlds k v there;
-          tuple = u.0;
-          stands = record { in_grammar = tuple_row ts.tuple held t held_explicit.rows k.3 u.0 u.1; found = c.tuples.tuples.rows k.3 v.tuple ∙ ap (option_map tuple_bytes) u.1 };
-          same = u.2;
-        }
-
     pub held_passing : AllByRecursion (λ x. TellsWorld t x false → ⊥) worlds
     held_passing = all_weaker (λ x. (is_some (path_of ns x.0) ≡ true) × (link_of ns x.0 ≡ x.1)) (λ x. TellsWorld t x false → ⊥) worlds
         (λ x a b.
@@ -194,8 +182,8 @@ module _ (stmts : List Stmt) (ns : Names) (ts : Tuples) (worlds : List (ℕ × O
         (λ tid u n. held_rows_are_settled stmts ns ts t c.names c.states c.consistent c.tuples x.0 tid u n refl w.0 w.1)) ∙ sym b.told))
         c.linked.each
 
-pub rows_told : (t u : Tables) (worlds : List (ℕ × Option ℕ)) (b : Bool) → u ≡ t → TableFits val_codec t → AreKeyed t → TellsWorlds u worlds b → TellsRows t worlds b
-rows_told t u worlds b same fits keyed h stmts ns ts c = by b (subst (λ v. TellsWorlds v worlds b) same h)
+pub rows_told : (t : Tables) (worlds : List (ℕ × Option ℕ)) (b : Bool) → TableFits val_codec t → AreKeyed t → TellsWorlds t worlds b → TellsRows t worlds b
+rows_told t worlds b fits keyed h stmts ns ts c = by b h
   where
     by : (x : Bool) → TellsWorlds t worlds x → MatchBool x (HoldsRows (λ _. 1) stmts (path_of ns) ts.tuple t) (HoldsRows (λ _. 1) stmts (path_of ns) ts.tuple t → ⊥)
     by true k = passing_holds stmts ns ts worlds t c fits keyed k
@@ -206,15 +194,8 @@ rows_told t u worlds b same fits keyed h stmts ns ts c = by b (subst (λ v. Tell
 pub world_told : (t u : Tables) (x : ℕ × Option ℕ) (a b : Bool) → u ≡ t → a ≡ b → TellsWorld u x a → TellsWorld t x b
 world_told t u x a b same is h = subst (λ v. TellsWorld v x b) same (subst (TellsWorld u x) is h)
 
-pub world_read : (t u : Tables) (x : ℕ × Option ℕ) (own from : List Stored) (b : Bool) → u ≡ t → AreReadUnder t (world_prefix x.0) own
-    → MatchOption x.1 (from ≡ []) (λ m. AreReadUnder u (world_prefix m) from) → b ≡ settles own from → TellsWorld t x b
-world_read t u x own from b same h k told = record {
-  own = own;
-  from = from;
-  own_read = h;
-  from_read = subst (λ v. MatchOption x.1 (from ≡ []) (λ m. AreReadUnder v (world_prefix m) from)) same k;
-  told = told;
-}
+pub linked_none : (t : Tables) (rows : List Stored) → rows ≡ [] → AreLinked t None rows
+linked_none t rows none = record { read = none; apart = ap are_apart none }
 
 pub keyed_tuples : (t : Tables) → AreKeyed t → HaveTuples t
 keyed_tuples t keyed k v s = ap is_some (keyed k v s).stands.found

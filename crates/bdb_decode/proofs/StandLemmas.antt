@@ -14,7 +14,7 @@ use Rattle.bdb_decode.specs.Format.{HasFormat}
 use Rattle.bdb_decode.specs.Laws.{OneBaseAtMost, OthersStandForNone}
 
 -- tables with no row have no row of the format
-no_format : (t : Tables) (n : ℕ) → t ≡ tables.empty → HasFormat t n → ⊥
+pub no_format : (t : Tables) (n : ℕ) → t ≡ tables.empty → HasFormat t n → ⊥
 no_format t n e h =
     let none = sym (get-from_entries nat_list_cmp_total [] (place meta_codec tt)) ∙ ap (λ u. tables.get u (place meta_codec tt)) (sym e) ∙ h.rows tt tt in absurd cc
 

@@ -66,7 +66,7 @@ module _ {Key Row : Type 0} (c : Codec Key Row) where
   })
 
   -- what holds of each row holds of what is found
-  item_all : ((a b : Key) → is_eq (c.key_cmp a b) ≡ true → a ≡ b) → (P : Key × Row → Type 0) (es : List (Key × Row)) → AllByRecursion P es
+  pub item_all : ((a b : Key) → is_eq (c.key_cmp a b) ≡ true → a ≡ b) → (P : Key × Row → Type 0) (es : List (Key × Row)) → AllByRecursion P es
       → (k : Key) (r : Row) → item_in es k ≡ Some r → P (k, r)
   item_all exact P [] a k r e = absurd cc
   item_all exact P (x ∷ es) a k r e = by (is_eq (c.key_cmp k x.0)) refl (λ f. item_all exact P es a.1 k r f)

@@ -1,5 +1,5 @@
 -- What reading whole tables of any bytes tells.
-use Rattle.std.specs.Prelude.{◌≡◌, ◌≤◌, ℕ, false, List, ◌∷◌, Some, None, Result, OnOk}
+use Rattle.std.specs.Prelude.{◌≡◌, ℕ, false, List, ◌∷◌, Some, None, Result, OnOk}
 use Rattle.std.specs.FinMap as tables
 use Rattle.bdb_keep.specs.Seen.{Seen, NeverFall, Steps}
 use Rattle.bdb_keep.specs.Tables.{Tables}
@@ -16,10 +16,6 @@ Misfits c t = TableFits c t → ⊥
 -- a table has no row
 abbrev pub IsBare : Tables → ℕ → Type 0
 IsBare t n = (k : List ℕ) → tables.get t (n ∷ k) ≡ None
-
--- each row is in one of the tables 1 to 15, which a keeper has
-abbrev pub LieInTables : Tables → Type 0
-LieInTables t = (n : ℕ) (k row : List ℕ) → tables.get t (n ∷ k) ≡ Some row → (1 ≤ n) × (n ≤ 15)
 
 -- every key and row that stands under a number is in the grammar of that table
 abbrev pub AreEntries : Tables → ℕ → Type 0

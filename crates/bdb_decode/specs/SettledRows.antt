@@ -12,13 +12,16 @@ use Rattle.bdb_tables.specs.InUse.{ValKey, IsValKey, depth_codec, tuple_codec, v
 use Rattle.bdb_tables.specs.Marks.{Mark, explicit_of, explicit_sign}
 use Rattle.bdb_tables.specs.Names.{Names, AreNames, depth_of, is_named, link_of, path_of}
 use Rattle.bdb_tables.specs.Rows.{Tuples, HoldsTuples, HoldsRows}
-use Rattle.bdb_tables.specs.Spans.{IsNextUnder, NoneUnder}
 use Rattle.bdb_tables.specs.Writes.{Gives}
 use Rattle.bdb_val.specs.Reads.{AreReadUnder, world_prefix}
 use Rattle.bdb_val.specs.Settled.{HasStates}
-use Rattle.bdb_val.specs.Settling.{row_key}
+use Rattle.bdb_val.specs.Settling.{are_apart, row_key}
 use Rattle.bdb_val.specs.declared.stored.Stored.{Stored}
+use Rattle.bdb_decode.specs.Explicit.{ArePlaced, Paths, TupleRows, ValRow}
+use Rattle.bdb_decode.specs.ExplicitLaws.{HavePaths}
+use Rattle.bdb_decode.specs.Items.{item_of}
 use Rattle.bdb_decode.specs.Settles.{settles}
+use Rattle.bdb_decode.specs.Tuples.{HasTuples}
 
 -- ---- worlds and tuples of rows
 
@@ -33,17 +36,17 @@ pub record IsKeyed (t : Tables) (k : ValKey) : Type 0 where
 abbrev pub AreKeyed : Tables → Type 0
 AreKeyed t = (k : ValKey) → IsValKey k → is_some (tables.get t (place val_codec k)) ≡ true → IsKeyed t k
 
--- the row that comes next is of a world and a tuple that there are, or it is not
-pub record TellsNext (t : Tables) (low behind : List ℕ) (b : Bool) : Type 0 where
-  pub entry : ValKey × Mark
-  pub next : IsNextUnder val_codec t [] low behind entry
-  pub told : MatchBool b (IsKeyed t entry.0) (IsKeyed t entry.0 → ⊥)
-
--- what comes next among the rows
-abbrev pub HasNextKeyed : Tables → List ℕ → List ℕ → Option Bool → Type 0
-HasNextKeyed t low behind found = MatchOption found (NoneUnder val_codec t [] low) (TellsNext t low behind)
+-- rows that have their places are of worlds and tuples that there are
+abbrev pub PlacedRowsAreKeyed : Type 0
+PlacedRowsAreKeyed = (t : Tables) (worlds : Paths) (tuples : TupleRows) (rows : List ValRow) (ns : Names) (ts : Tuples)
+    → HavePaths worlds ns → Gives depth_codec t (depth_of ns) → HasTuples t ts → ((n : ℕ) → ts.tuple n ≡ item_of tuples n) → ArePlaced t worlds tuples rows → AreKeyed t
 
 -- ---- worlds, each with the number to which its suffix link leads
+
+-- rows are those of the world to which a link leads, no two of one tuple; none where it leads to none
+pub record AreLinked (t : Tables) (link : Option ℕ) (rows : List Stored) : Type 0 where
+  pub read : MatchOption link (rows ≡ []) (λ m. AreReadUnder t (world_prefix m) rows)
+  pub apart : are_apart rows ≡ true
 
 -- the rows of a world, and those of the world to which its suffix link leads, pass the test, or they do not
 pub record TellsWorld (t : Tables) (x : ℕ × Option ℕ) (b : Bool) : Type 0 where

@@ -2,7 +2,8 @@
 ghost use Rattle.std.specs.Prelude.{◌≡◌, ◌≤◌, IfOk};
 ghost use Rattle.std.specs.Bool.{MatchBool};
 ghost use Rattle.bdb_keep.specs.Calls.{IsRead};
-ghost use Rattle.bdb_decode.specs.Reading.{IsBare, LieInTables, OnlyReads, OthersAreBare};
+ghost use Rattle.bdb_keep.specs.Tables.{LieInTables};
+ghost use Rattle.bdb_decode.specs.Reading.{IsBare, OnlyReads, OthersAreBare};
 
 use bdb_keep::{KeepError, Keeper};
 use bdb_tables::TabError;
@@ -34,6 +35,7 @@ pub fn others_are_bare<K: Keeper>(alloc: Global, keeper: &mut K) -> Result<bool,
 pub fn is_bare<K: Keeper>(alloc: Global, keeper: &mut K, tab: u8) -> Result<bool, TabError>
     requires table { (1 ≤ tab) × (tab ≤ 15) }
     ensures bare { IfOk result (λ bare. MatchBool bare (IsBare (K.seen keeper.old).kept tab) (IsBare (K.seen keeper.old).kept tab → ⊥)) }
+    ensures tables { LieInTables (K.seen keeper.old).kept }
     ensures read { IsRead (K.seen keeper.old) (K.seen keeper.new) result TabError.Fault }
 {
     let mut key = Vec::new(alloc);

@@ -31,15 +31,15 @@ fn is_path_of(users: &[Txt], path: &Path) -> bool
     path.len() <= DEEPEST_STATEMENT && are_users(users, path.as_slice())
 }
 
-// Whether numbers are those of users.
-fn are_users(users: &[Txt], path: &[u32]) -> bool
+/// Whether numbers are those of users.
+pub fn are_users(users: &[Txt], path: &[u32]) -> bool
     ensures { result ≡ list_all (is_user users.now) path.now }
 {
     path.iter().all(|user| is_user(users, *user))
 }
 
-// Whether a number is that of a user.
-fn is_user(users: &[Txt], user: u32) -> bool
+/// Whether a number is that of a user.
+pub fn is_user(users: &[Txt], user: u32) -> bool
     ensures { result ≡ is_user users.now user }
 {
     0 < user && user as usize <= users.len()

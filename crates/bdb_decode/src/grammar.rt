@@ -3,7 +3,8 @@ ghost use Rattle.std.specs.Prelude.{◌≡◌, ◌≤◌, IfOk};
 ghost use Rattle.std.specs.Bool.{MatchBool};
 ghost use Rattle.bdb_keep.specs.Calls.{IsRead};
 ghost use Rattle.bdb_tables.specs.Grammar.{InGrammar};
-ghost use Rattle.bdb_decode.specs.Reading.{AreEntries, LieInTables, OnlyReads};
+ghost use Rattle.bdb_keep.specs.Tables.{LieInTables};
+ghost use Rattle.bdb_decode.specs.Reading.{AreEntries, OnlyReads};
 
 use crate::bare::{TABLES, is_bare};
 use crate::reading::fits;

@@ -1,36 +1,40 @@
 // The rows of the worlds in tables of any bytes.
-ghost use Rattle.std.specs.Prelude.{◌≡◌, ◌++◌, [], ◌∷◌, true, filter, IfOk, OnOk, MatchOption};
+ghost use Rattle.std.specs.Prelude.{◌≡◌, ◌++◌, ◌∷◌, [], true, filter, IfOk, OnOk};
 ghost use Rattle.bdb_keep.specs.Calls.{IsRead};
 ghost use Rattle.bdb_tables.specs.Grammar.{InGrammar};
 ghost use Rattle.bdb_val.specs.Reads.{AreReadUnder, world_prefix};
 ghost use Rattle.bdb_val.specs.Settling.{are_apart};
 ghost use Rattle.bdb_decode.specs.Reading.{OnlyReads};
-ghost use Rattle.bdb_decode.specs.SettledRows.{AreKeyed, TellsRows, TellsWorld, TellsWorlds};
+ghost use Rattle.bdb_decode.specs.SettledRows.{AreKeyed, AreLinked, TellsRows, TellsWorld, TellsWorlds};
 ghost use Rattle.bdb_decode.specs.Settles.{is_explicit, is_inherited, settles};
 
-use crate::keyed::are_keyed;
 use crate::settles::are_settled;
 use bdb_keep::Keeper;
 use bdb_tables::TabError;
 use bdb_val::{Stored, read_world};
 use std::alloc::{AllocError, Global};
 
+// The rows of the world to which a suffix link leads, kept for the next world that has the same link; none where it leads to none.
+#[derive(Drop)]
+struct Linked {
+    link: Option<u32>,
+    rows: Vec<Stored>,
+}
+
 /// Whether the tables hold the rows of the worlds, for the statements that the explicit rows are. The worlds are those that
-/// have names, each with the number to which its suffix link leads. The rows of two worlds at a time are kept.
+/// have names, each with the number to which its suffix link leads. Each row is of a world and a tuple that there are: rows
+/// that have their places are. The rows of two worlds at a time are kept. Where the worlds come in order of their links, those
+/// of a world to which links lead are read twice, however many lead there.
 pub fn are_rows_held<K: Keeper>(
     alloc: Global,
     keeper: &mut K,
     worlds: &[(u32, Option<u32>)],
 ) -> Result<bool, TabError>
     requires grammar { InGrammar (K.seen keeper.old).kept }
+    requires keyed { AreKeyed (K.seen keeper.old).kept }
     ensures held { IfOk result (TellsRows (K.seen keeper.old).kept worlds.now) }
     ensures reading { OnlyReads (K.seen keeper.old) (K.seen keeper.new) result TabError.Fault }
 {
-    match are_keyed(alloc, keeper) {
-        Ok(true) => {}
-        Ok(false) => return Ok(false),
-        Err(error) => return Err(error),
-    }
     match are_worlds_settled(alloc, keeper, worlds) {
         Ok(settled) => Ok(settled),
         Err(error) => Err(error),
@@ -48,8 +52,12 @@ fn are_worlds_settled<K: Keeper>(
     ensures settled { IfOk result (TellsWorlds (K.seen keeper.old).kept worlds.now) }
     ensures reading { OnlyReads (K.seen keeper.old) (K.seen keeper.new) result TabError.Fault }
 {
+    let mut linked = Linked {
+        link: None,
+        rows: Vec::new(alloc),
+    };
     for world in worlds {
-        match is_world_settled(alloc, keeper, world) {
+        match is_world_settled(alloc, keeper, world, &mut linked) {
             Ok(true) => {}
             Ok(false) => return Ok(false),
             Err(error) => return Err(error),
@@ -58,31 +66,72 @@ fn are_worlds_settled<K: Keeper>(
     Ok(true)
 }
 
-// Whether the rows of a world are settled over those of the world to which its suffix link leads.
+// Whether the rows of a world are settled over those of the world to which its suffix link leads, which are then kept.
 fn is_world_settled<K: Keeper>(
     alloc: Global,
     keeper: &mut K,
     world: &(u32, Option<u32>),
+    linked: &mut Linked,
 ) -> Result<bool, TabError>
     requires grammar { InGrammar (K.seen keeper.old).kept }
     requires keyed { AreKeyed (K.seen keeper.old).kept }
+    requires linked { AreLinked (K.seen keeper.old).kept linked.old.link linked.old.rows.items }
     ensures told { IfOk result (TellsWorld (K.seen keeper.old).kept world.now) }
+    ensures linked { OnOk result (AreLinked (K.seen keeper.old).kept linked.new.link linked.new.rows.items) }
     ensures read { IsRead (K.seen keeper.old) (K.seen keeper.new) result TabError.Fault }
 {
     let own = match read_rows(alloc, keeper, world.0) {
         Ok(own) => own,
         Err(error) => return Err(error),
     };
-    let from = match read_linked(alloc, keeper, world.1) {
-        Ok(from) => from,
+    match follow(alloc, keeper, world.1, linked) {
+        Ok(()) => {}
         Err(error) => return Err(error),
-    };
-    match settles(alloc, own, &from) {
+    }
+    match settles(alloc, own, &linked.rows) {
         Ok(settled) => Ok(settled),
         Err(_) => {
             keeper.undo();
             Err(TabError::Memory)
         }
+    }
+}
+
+// Puts the rows of the world to which a suffix link leads in the place of the kept ones, unless those are its rows.
+fn follow<K: Keeper>(
+    alloc: Global,
+    keeper: &mut K,
+    link: Option<u32>,
+    linked: &mut Linked,
+) -> Result<(), TabError>
+    requires grammar { InGrammar (K.seen keeper.old).kept }
+    requires keyed { AreKeyed (K.seen keeper.old).kept }
+    requires linked { AreLinked (K.seen keeper.old).kept linked.old.link linked.old.rows.items }
+    ensures link { OnOk result (linked.new.link ≡ link) }
+    ensures linked { OnOk result (AreLinked (K.seen keeper.old).kept link linked.new.rows.items) }
+    ensures reading { OnlyReads (K.seen keeper.old) (K.seen keeper.new) result TabError.Fault }
+{
+    if is_same_link(linked.link, link) {
+        return Ok(());
+    }
+    match read_linked(alloc, keeper, link) {
+        Ok(rows) => {
+            linked.link = link;
+            linked.rows = rows;
+            Ok(())
+        }
+        Err(error) => Err(error),
+    }
+}
+
+// Whether two links lead to one world, or none does.
+fn is_same_link(a: Option<u32>, b: Option<u32>) -> bool
+    ensures { result ≡ true → a ≡ b }
+{
+    match (a, b) {
+        (Some(from), Some(to)) => from == to,
+        (None, None) => true,
+        _ => false,
     }
 }
 
@@ -94,8 +143,7 @@ fn read_linked<K: Keeper>(
 ) -> Result<Vec<Stored>, TabError>
     requires grammar { InGrammar (K.seen keeper.old).kept }
     requires keyed { AreKeyed (K.seen keeper.old).kept }
-    ensures rows { IfOk result (λ rows. MatchOption link (rows.items ≡ []) (λ m. AreReadUnder (K.seen keeper.old).kept (world_prefix m) rows.items)) }
-    ensures apart { IfOk result (λ rows. are_apart rows.items ≡ true) }
+    ensures rows { IfOk result (λ rows. AreLinked (K.seen keeper.old).kept link rows.items) }
     ensures reading { OnlyReads (K.seen keeper.old) (K.seen keeper.new) result TabError.Fault }
 {
     match link {

@@ -1,6 +1,7 @@
 // What holds of tables of any bytes, each law as the contract of a function that does nothing.
 ghost use Rattle.bdb_decode.specs.ExplicitLaws.{HeldRowsHavePlaces, HeldRowsMakeStatements, MisplacedHaveNoPlaces, StatedRowsAreExplicit};
 ghost use Rattle.bdb_decode.specs.Laws.{OneBaseAtMost, OthersStandForNone, WorldsAreHeld};
+ghost use Rattle.bdb_decode.specs.SettledRows.{PlacedRowsAreKeyed};
 ghost use Rattle.bdb_decode.specs.Whole.{BaseStatementsAreHeld, HeldBasesAreStated, HeldBasesAreWhole};
 
 /// Tables stand for one base at most.
@@ -36,6 +37,11 @@ pub fn held_rows_make_statements()
 /// Not both: all rows have their places, and one is foreign or without its place.
 pub fn misplaced_have_no_places()
     ensures { MisplacedHaveNoPlaces }
+{}
+
+/// Rows that have their places are of worlds and tuples that there are.
+pub fn placed_rows_are_keyed()
+    ensures { PlacedRowsAreKeyed }
 {}
 
 /// A valid base that tables store has whole statements: all rows have their places, and each tuple and world is stated.

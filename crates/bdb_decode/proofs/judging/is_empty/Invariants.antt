@@ -1,0 +1,7 @@
+use Rattle.std.proofs.Common.{ℕ, ◌≤◌, ◌<◌}
+use Rattle.bdb_tables.proofs.Loops.{IsReading}
+use Rattle.bdb_decode.specs.Reading.{IsBare}
+use Rattle.bdb_decode.proofs.judging.is_empty.Given as goal
+
+abbrev pub invariant-loop-tab : goal.invariant-loop-tab
+invariant-loop-tab g l = IsReading (g.K.Keeper.seen l.fn.keeper) (g.K.Keeper.seen l.keeper) ((n : ℕ) → 1 ≤ n → n < l.tab → IsBare (g.K.Keeper.seen l.fn.keeper).kept n)

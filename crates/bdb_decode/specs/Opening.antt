@@ -1,0 +1,43 @@
+-- What decoding tables of any bytes tells, and how it ends.
+use Rattle.std.specs.Prelude.{◌≡◌, ℕ, List, Result, Ok, Err}
+use Rattle.bdb_base.specs.Bases.{Contents}
+use Rattle.bdb_base.specs.Causes.{HasCause}
+use Rattle.bdb_catalog.specs.Opening.{StandFor}
+use Rattle.bdb_decode.specs.Format.{HasFormat}
+use Rattle.bdb_decode.specs.declared.opening.OpenError.{OpenError}
+use Rattle.bdb_decode.specs.declared.opening.OpenError.TheVariants as refused
+use Rattle.bdb_decode.specs.declared.opening.OpenError.TheVariants.{Damaged, Format, Fault, Memory}
+use Rattle.bdb_keep.specs.Seen.{Seen, IsAtRest, IsDropped, GoesOn, NeverFall}
+use Rattle.bdb_keep.specs.Tables.{Tables}
+
+-- tables stand for no base, and have no other format
+pub record AreDamaged (t : Tables) : Type 0 where
+  pub none : (b : Contents) → StandFor t b → ⊥
+  pub format : (n : ℕ) → HasFormat t n → n ≡ 2
+
+-- tables have another format than this one's; so they stand for no base
+pub record HaveOtherFormat (t : Tables) (n : ℕ) : Type 0 where
+  pub has : HasFormat t n
+  pub other : n ≡ 2 → ⊥
+  pub none : (b : Contents) → StandFor t b → ⊥
+
+-- the rows are as they were, and a transaction that ran still runs
+pub record Stays (old new : Seen) : Type 0 where
+  pub kept : new.kept ≡ old.kept
+  pub goes_on : GoesOn old new
+
+-- what a call that reads tables of any bytes leaves: only where the keeper or memory failed no transaction runs
+abbrev pub LeavesRead : {T : Type 0} → Seen → Seen → Result T OpenError → Type 0
+LeavesRead old new (Ok _) = Stays old new
+LeavesRead old new (Err Damaged) = Stays old new
+LeavesRead old new (Err (Format _)) = Stays old new
+LeavesRead old new (Err Fault) = IsDropped old new
+LeavesRead old new (Err Memory) = IsDropped old new
+
+-- How such a call ends: nothing is written, and it tells a fault only where the keeper's count rose.
+pub record EndsReading {T : Type 0} (old new : Seen) (result : Result T OpenError) : Type 0 where
+  pub rest : IsAtRest old
+  pub leaves : LeavesRead old new result
+  pub writes : new.writes ≡ old.writes
+  pub counts : NeverFall old new
+  pub cause : HasCause old.faults new.faults result Fault
