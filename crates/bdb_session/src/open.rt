@@ -1,10 +1,11 @@
 // Opening a session over tables.
-ghost use Rattle.std.specs.Prelude.{◌≡◌, false, IfOk, OnOk, OnErr};
+ghost use Rattle.std.specs.Prelude.{◌≡◌, ℕ, false, IfOk, OnOk, OnErr, IsErrOf};
 ghost use Rattle.std.specs.FinMap as tables;
 ghost use Rattle.bdb_base.specs.Bases.{empty_contents};
 ghost use Rattle.bdb_base.specs.Causes.{HasCause, Rises};
 ghost use Rattle.bdb_catalog.specs.Bases.{StoresSome};
 ghost use Rattle.bdb_catalog.specs.Opening.{StandForSome};
+ghost use Rattle.bdb_decode.specs.Opening.{AreDamaged, HaveOtherFormat};
 ghost use Rattle.bdb_keep.specs.Seen.{IsAtRest, IsStill, NeverFall, Unchanged};
 ghost use Rattle.bdb_tables.specs.Stored.{Stores};
 ghost use Rattle.bdb_session.specs.Committing.{IsCommitted};
@@ -19,31 +20,59 @@ use bdb_base::{Catalog, List};
 use bdb_bind::NameIndex;
 use bdb_canon::Counts;
 use bdb_catalog::{read_format, read_relations, read_users, write_empty};
+use bdb_decode::{OpenError, decode};
 use bdb_keep::Keeper;
 use bdb_stored::counts_of;
 use std::alloc::Global;
 
 impl Session {
-    /// A session over the base that the tables stand for. Tables with no row are given those of the empty base, by one
-    /// commit; others stay as they are.
-    pub fn open<K: Keeper>(alloc: Global, keeper: &mut K) -> Result<Self, StopError>
+    /// A session over the base that the tables stand for, whatever bytes they have. Tables with no row are given those of the empty
+    /// base, by one commit; others stay as they are. `Damaged` and `Format` come exactly as they do of `decode`; then, too, the tables
+    /// stay as they are.
+    pub fn open<K: Keeper>(alloc: Global, keeper: &mut K) -> Result<Self, OpenError>
         requires stopped { (K.seen keeper.old).running ≡ false }
-        requires base { StandForSome (K.seen keeper.old).kept }
         ensures rest { IsAtRest (K.seen keeper.old) }
+        ensures stand { OnOk result (StandForSome (K.seen keeper.old).kept) }
+        ensures damaged { IsErrOf result OpenError.Damaged → AreDamaged (K.seen keeper.old).kept }
+        ensures format { (n : ℕ) → IsErrOf result (OpenError.Format n) → HaveOtherFormat (K.seen keeper.old).kept n }
         ensures opened { IfOk result (λ session. Opens (K.seen keeper.old).kept (K.seen keeper.new).kept session) }
         ensures agrees { IfOk result (λ session. AgreesOnSome (K.seen keeper.new).kept session) }
         ensures commits { OnOk result (Rises (opening (K.seen keeper.old).kept) (K.seen keeper.old).commits (K.seen keeper.new).commits) }
         ensures unchanged { OnOk result (opening (K.seen keeper.old).kept ≡ 0 → Unchanged (K.seen keeper.old) (K.seen keeper.new)) }
         ensures still { IsStill (K.seen keeper.new) }
         ensures never_fall { NeverFall (K.seen keeper.old) (K.seen keeper.new) }
-        ensures cause { HasCause (K.seen keeper.old).faults (K.seen keeper.new).faults result StopError.Fault }
+        ensures cause { HasCause (K.seen keeper.old).faults (K.seen keeper.new).faults result OpenError.Fault }
         ensures err { OnErr result (Unchanged (K.seen keeper.old) (K.seen keeper.new)) }
     {
-        match read_format(alloc, keeper) {
-            Ok(Some(_)) => read_session(alloc, keeper),
-            Ok(None) => new_session(alloc, keeper),
-            Err(error) => Err(stop_from(error)),
+        match decode(alloc, keeper) {
+            Ok(_) => {}
+            Err(error) => return Err(error),
         }
+        match open_held(alloc, keeper) {
+            Ok(session) => Ok(session),
+            Err(StopError::Fault) => Err(OpenError::Fault),
+            Err(StopError::Memory) => Err(OpenError::Memory),
+        }
+    }
+}
+
+/// A session over tables that stand for a base.
+fn open_held<K: Keeper>(alloc: Global, keeper: &mut K) -> Result<Session, StopError>
+    requires still { IsStill (K.seen keeper.old) }
+    requires base { StandForSome (K.seen keeper.old).kept }
+    ensures opened { IfOk result (λ session. Opens (K.seen keeper.old).kept (K.seen keeper.new).kept session) }
+    ensures agrees { IfOk result (λ session. AgreesOnSome (K.seen keeper.new).kept session) }
+    ensures commits { OnOk result (Rises (opening (K.seen keeper.old).kept) (K.seen keeper.old).commits (K.seen keeper.new).commits) }
+    ensures unchanged { OnOk result (opening (K.seen keeper.old).kept ≡ 0 → Unchanged (K.seen keeper.old) (K.seen keeper.new)) }
+    ensures still { IsStill (K.seen keeper.new) }
+    ensures never_fall { NeverFall (K.seen keeper.old) (K.seen keeper.new) }
+    ensures cause { HasCause (K.seen keeper.old).faults (K.seen keeper.new).faults result StopError.Fault }
+    ensures err { OnErr result (Unchanged (K.seen keeper.old) (K.seen keeper.new)) }
+{
+    match read_format(alloc, keeper) {
+        Ok(Some(_)) => read_session(alloc, keeper),
+        Ok(None) => new_session(alloc, keeper),
+        Err(error) => Err(stop_from(error)),
     }
 }
 

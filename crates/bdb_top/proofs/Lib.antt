@@ -7,3 +7,4 @@ pub mod GeneratedLemmas
 pub mod TallyLemmas
 pub mod AnswerLemmas
 pub mod BlockLemmas
+pub mod CheckLemmas

@@ -1,7 +1,8 @@
 -- How a run ends, by its status.
-use Rattle.std.proofs.Common.{◌≡◌, ◌≢◌, ◌∙◌, ℕ, ◌-◌, ◌^◌, ◌<◌, ◌≤◌, ◌⊎◌, inl, inr, Bool, true, false, List, [], ◌∷◌, ◌++◌, Option, Some, None, Result, Ok, Err, IfSome, refl, ap, sym, subst, arith}
-use Rattle.std.specs.Io.KnownBytes.{Appends}
+use Rattle.std.proofs.Common.{◌≡◌, ◌≢◌, ◌∙◌, ℕ, ◌-◌, ◌^◌, ◌<◌, ◌≤◌, ◌⊎◌, inl, inr, Bool, true, false, List, [], ◌∷◌, ◌++◌, Option, Some, None, Result, Ok, Err, IfSome, IsErrOf, OnOk, length, refl, ap, sym, subst, arith}
+use Rattle.std.specs.Io.KnownBytes.{Appends, IsAtEnd}
 use Rattle.bdb_base.specs.Causes.{Rises}
+use Rattle.bdb_base.specs.Limits.{longest_script}
 use Rattle.bdb_catalog.specs.Bases.{StoresValid}
 use Rattle.bdb_catalog.specs.Opening.{StandFor}
 use Rattle.bdb_keep.specs.Seen.{Seen, IsStill, Unchanged}
@@ -14,7 +15,7 @@ use Rattle.bdb_session.specs.Runs.{after, replies, accepts_all, events_of, IsFro
 use Rattle.bdb_top.specs.Counted.{counted}
 use Rattle.bdb_top.specs.declared.stop.Stop.{Stop}
 use Rattle.bdb_top.specs.declared.stop.Stop.TheVariants.{Source, Sink, Keeper, Memory, Large}
-use Rattle.bdb_top.specs.Ran.{Carried, Streams, EachBase, Ran, CommitsFor, status_of}
+use Rattle.bdb_top.specs.Ran.{Carried, Streams, EachBase, Ran, StandsForNone, CommitsFor, status_of}
 use Rattle.bdb_top.specs.Streams.{KeepsUp}
 
 append_nil : {X : Type 0} (xs : List X) → xs ++ [] ≡ xs
@@ -91,16 +92,17 @@ closed s text first now old status stands still same is = record {
     none a m n e = omega arith
 
 -- the same for each base and text
-ran_closed : (s : State) (text : List ℕ) (first now : Seen) (old : Option (List ℕ)) (stop : Stop)
-    → StandFor first.kept s.base → IsStill now → Unchanged first now → (stop ≡ Keeper) ⊎ (stop ≡ Memory) → Ran s text (Some text) first now old old (status_of (Err stop))
-ran_closed s text first now old stop stands still same (inl e) = subst (λ (x : Stop). Ran s text (Some text) first now old old (status_of (Err x))) (sym e) (closed s text first now old 5 stands still same (inl refl))
-ran_closed s text first now old stop stands still same (inr e) = subst (λ (x : Stop). Ran s text (Some text) first now old old (status_of (Err x))) (sym e) (closed s text first now old 6 stands still same (inr refl))
+pub each_closed : (before : Option (List ℕ)) (first now : Seen) (old : Option (List ℕ)) (status : ℕ)
+    → IsStill now → Unchanged first now → (status ≡ 5) ⊎ (status ≡ 6)
+    → IfSome before (λ text. EachBase first.kept (λ b. Ran (start_from b) text before first now old old status))
+each_closed None first now old status still same is = tt
+each_closed (Some text) first now old status still same is = λ b stands. closed (start_from b) text first now old status stands still same is
 
-pub each_closed : (before : Option (List ℕ)) (first now : Seen) (old : Option (List ℕ)) (stop : Stop)
-    → IsStill now → Unchanged first now → (stop ≡ Keeper) ⊎ (stop ≡ Memory)
-    → IfSome before (λ text. EachBase first.kept (λ b. Ran (start_from b) text before first now old old (status_of (Err stop))))
-each_closed None first now old stop still same is = tt
-each_closed (Some text) first now old stop still same is = λ b stands. ran_closed (start_from b) text first now old stop stands still same is
+-- where the tables stand for no base there is nothing to tell of a run
+pub each_refused : (before : Option (List ℕ)) (first now : Seen) (old : Option (List ℕ)) (status : ℕ) → StandsForNone first.kept
+    → IfSome before (λ text. EachBase first.kept (λ b. Ran (start_from b) text before first now old old status))
+each_refused None first now old status none = tt
+each_refused (Some text) first now old status none = λ b stands. absurd (none b stands)
 
 -- a run that has come through all its events
 through : (s : State) (text : List ℕ) (left : Option (List ℕ)) (first now : Seen) (old new : Option (List ℕ)) (accepted : Bool) (done : List Event) → done ≡ events_of text → IsFrontOf done (events_of text)
@@ -178,3 +180,53 @@ pub each_status : (before left : Option (List ℕ)) (first now : Seen) (old new 
     → IfSome before (λ text. EachBase first.kept (λ b. Ran (start_from b) text left first now old new status))
 each_status before left first now old new status number is ran =
     subst (λ (n : ℕ). IfSome before (λ text. EachBase first.kept (λ b. Ran (start_from b) text left first now old new n))) (sym is) ran
+
+-- the status of a run that was begun
+pub run_status : (n : ℕ) (r : Result Bool Stop) → n ≡ status_of r → (n ≤ 8) × (n ≢ 2)
+run_status n (Ok true) is = (omega arith, λ e. omega arith)
+run_status n (Ok false) is = (omega arith, λ e. omega arith)
+run_status n (Err Source) is = (omega arith, λ e. omega arith)
+run_status n (Err Sink) is = (omega arith, λ e. omega arith)
+run_status n (Err Keeper) is = (omega arith, λ e. omega arith)
+run_status n (Err Memory) is = (omega arith, λ e. omega arith)
+run_status n (Err Large) is = (omega arith, λ e. omega arith)
+
+pub not_seven : (n : ℕ) (r : Result Bool Stop) → n ≡ status_of r → n ≡ 7 → ⊥
+not_seven n (Ok true) is e = omega arith
+not_seven n (Ok false) is e = omega arith
+not_seven n (Err Source) is e = omega arith
+not_seven n (Err Sink) is e = omega arith
+not_seven n (Err Keeper) is e = omega arith
+not_seven n (Err Memory) is e = omega arith
+not_seven n (Err Large) is e = omega arith
+
+-- 0 and 1 come of an Ok alone
+low_is_ok : {X : Type 0} (n : ℕ) (r : Result Bool Stop) → n ≡ status_of r → n ≤ 1 → OnOk r X → X
+low_is_ok n (Ok accepted) is low h = h
+low_is_ok n (Err Source) is low h = absurd (omega arith)
+low_is_ok n (Err Sink) is low h = absurd (omega arith)
+low_is_ok n (Err Keeper) is low h = absurd (omega arith)
+low_is_ok n (Err Memory) is low h = absurd (omega arith)
+low_is_ok n (Err Large) is low h = absurd (omega arith)
+
+-- and 8 of a script that is too large
+large_by : (n : ℕ) (r : Result Bool Stop) → n ≡ status_of r → n ≡ 8 → r ≡ Err Large
+large_by n (Ok true) is e = absurd (omega arith)
+large_by n (Ok false) is e = absurd (omega arith)
+large_by n (Err Source) is e = absurd (omega arith)
+large_by n (Err Sink) is e = absurd (omega arith)
+large_by n (Err Keeper) is e = absurd (omega arith)
+large_by n (Err Memory) is e = absurd (omega arith)
+large_by n (Err Large) is e = refl
+
+pub taken_by : (n : ℕ) (r : Result Bool Stop) (before left : Option (List ℕ)) → n ≡ status_of r → OnOk r (IsAtEnd left) → OnOk r (IfSome before (λ text. length text ≤ longest_script))
+    → n ≤ 1 → IsAtEnd left × IfSome before (λ text. length text ≤ longest_script)
+taken_by n r before left is end short low = (low_is_ok n r is low end, low_is_ok n r is low short)
+
+pub small_by : (n : ℕ) (r : Result Bool Stop) (old new : ℕ) → n ≡ status_of r → OnOk r ((k : ℕ) × (k ≤ longest_script) × Rises k old new)
+    → n ≤ 1 → (k : ℕ) × (k ≤ longest_script) × Rises k old new
+small_by n r old new is small low = low_is_ok n r is low small
+
+pub many_if : (n : ℕ) (r : Result Bool Stop) (before : Option (List ℕ)) → n ≡ status_of r → (IsErrOf r Large → IfSome before (λ text. longest_script < length text))
+    → n ≡ 8 → IfSome before (λ text. longest_script < length text)
+many_if n r before is many e = many (large_by n r is e)

@@ -1,6 +1,5 @@
 -- The summary of the run over a generated script.
 use Rattle.std.specs.Prelude.{◌≡◌, ◌⊎◌, ℕ, ◌+◌, Bool, not, ◌&&◌, nat_lt, List, [], ◌∷◌, ◌++◌, length, take, Option, codes, if◌then◌else◌}
-use Rattle.std.specs.Fmt.{decimal}
 use Rattle.std.specs.Io.KnownBytes.{Appends}
 use Rattle.bdb_base.specs.Bases.{Contents, empty_contents}
 use Rattle.bdb_canon.specs.Sizes.{counts_of}
@@ -9,6 +8,7 @@ use Rattle.bdb_session.specs.declared.event.Event.{Event}
 use Rattle.bdb_session.specs.Machine.{accepts, answers_to, next_state, reply_of}
 use Rattle.bdb_session.specs.Outcome.{State, start_from}
 use Rattle.bdb_session.specs.Runs.{after, events_of}
+use Rattle.bdb_top.specs.Lines.{line_with}
 use Rattle.bdb_top.specs.declared.tally.Tally.{Tally}
 
 -- one, where this holds
@@ -36,15 +36,11 @@ abbrev pub tally_from : Tally → State → List Event → Tally
 tally_from t s [] = t
 tally_from t s (e ∷ es) = tally_from (tally_with t s e) (next_state s e) es
 
--- a line of the summary: what is counted, and the count
-unfoldable pub summary_line : List ℕ → ℕ → List ℕ
-summary_line name count = name ++ decimal count ++ 10 ∷ []
-
 -- the lines that tell of a tally and of the base at the end
 abbrev pub summary_text : Tally → ℕ → ℕ → List ℕ
 summary_text t worlds rows =
-    summary_line (codes "accepted ") t.accepted ++ summary_line (codes "refused ") t.refused ++ summary_line (codes "worlds ") worlds
-    ++ summary_line (codes "rows ") rows ++ summary_line (codes "answers ") t.answers
+    line_with (codes "accepted ") t.accepted ++ line_with (codes "refused ") t.refused ++ line_with (codes "worlds ") worlds
+    ++ line_with (codes "rows ") rows ++ line_with (codes "answers ") t.answers
 
 -- the base after events from the empty one
 abbrev pub base_after : List Event → Contents

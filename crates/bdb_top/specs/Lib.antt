@@ -1,8 +1,10 @@
 pub mod ByCount
+pub mod Checked
 pub mod Counted
 pub mod Failing
 pub mod Generated
 pub mod Laws
+pub mod Lines
 pub mod Ran
 pub mod Streams
 pub mod Words

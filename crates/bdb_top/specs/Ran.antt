@@ -22,6 +22,10 @@ use Rattle.bdb_top.specs.declared.stop.Stop.TheVariants.{Source, Sink, Keeper, M
 abbrev pub EachBase : Tables → (Contents → Type 0) → Type 0
 EachBase t P = (b : Contents) → StandFor t b → P b
 
+-- these tables stand for no base
+abbrev pub StandsForNone : Tables → Type 0
+StandsForNone t = (b : Contents) → StandFor t b → ⊥
+
 -- A session and a keeper have come from a state, and from what the keeper told first, by these events: they agree on the
 -- state after them, and there was one commit for each event that counts.
 pub record Carried (s : State) (done : List Event) (session : Known) (first now : Seen) : Type 0 where

@@ -4,7 +4,7 @@ use Rattle.std.specs.Char.{is_ascii_digit}
 use Rattle.bdb_base.specs.Limits.{most_generated}
 use Rattle.bdb_base.specs.Same.{same_text}
 use Rattle.bdb_top.specs.declared.words.Job.{Job}
-use Rattle.bdb_top.specs.declared.words.Job.TheVariants.{Run, Gen}
+use Rattle.bdb_top.specs.declared.words.Job.TheVariants.{Run, Check, Gen}
 
 -- an option's value is not empty and does not begin with a dash
 abbrev pub is_value : List ℕ → Bool
@@ -28,11 +28,32 @@ most_digits = 20
 abbrev pub number_of : List ℕ → Option ℕ
 number_of digits = cond (nat_lt 0 (length digits) && nat_le (length digits) most_digits) (number_behind 0 digits) None
 
--- the job of words that ask to run a script: that of a file, or of standard input
+-- the job to run a script with one option and its value: the file of a base, or that of the script
+abbrev pub running_with : List ℕ → List ℕ → Option Job
+running_with option value =
+    cond (is_value value) (cond (same_text option (codes "--db")) (Some (Run (Some value) None)) (cond (same_text option (codes "--script")) (Some (Run None (Some value))) None)) None
+
+-- the job to run the script in a file over the base in another
+abbrev pub running : List ℕ → List ℕ → Option Job
+running db script = cond (is_value db && is_value script) (Some (Run (Some db) (Some script))) None
+
+-- the job to run a script with two options and their values: the file of a base and that of the script in any order
+abbrev pub running_by : List ℕ → List ℕ → List ℕ → List ℕ → Option Job
+running_by first a second b =
+    cond (same_text first (codes "--db") && same_text second (codes "--script")) (running a b)
+    (cond (same_text first (codes "--script") && same_text second (codes "--db")) (running b a) None)
+
+-- the job of words that ask to run a script: that of a file or of standard input, over the base in a file or the empty one
 abbrev pub run_job : List (List ℕ) → Option Job
-run_job (word ∷ []) = cond (same_text word (codes "run")) (Some (Run None)) None
-run_job (word ∷ option ∷ value ∷ []) = cond (same_text word (codes "run") && (same_text option (codes "--script") && is_value value)) (Some (Run (Some value))) None
+run_job (word ∷ []) = cond (same_text word (codes "run")) (Some (Run None None)) None
+run_job (word ∷ option ∷ value ∷ []) = cond (same_text word (codes "run")) (running_with option value) None
+run_job (word ∷ first ∷ a ∷ second ∷ b ∷ []) = cond (same_text word (codes "run")) (running_by first a second b) None
 run_job _ = None
+
+-- the job of words that ask to check a file
+abbrev pub check_job : List (List ℕ) → Option Job
+check_job (word ∷ option ∷ value ∷ []) = cond (same_text word (codes "check") && (same_text option (codes "--db") && is_value value)) (Some (Check value)) None
+check_job _ = None
 
 -- the job of a seed and a size
 abbrev pub generating : Option ℕ → Option ℕ → Option Job
@@ -57,4 +78,4 @@ either_job None other = other
 
 -- the job of these words; none where they are in no line of the table
 abbrev pub named_job : List (List ℕ) → Option Job
-named_job words = either_job (run_job words) (gen_job words)
+named_job words = either_job (run_job words) (either_job (check_job words) (gen_job words))

@@ -1,6 +1,5 @@
 // A keeper that begins to fail at some reads, and queries over it.
 ghost use Rattle.std.specs.Prelude.{◌≡◌, ◌≤◌, false};
-ghost use Rattle.std.specs.FinMap as tables;
 ghost use Rattle.bdb_base.specs.Causes.{Rose};
 ghost use Rattle.bdb_keep.specs.Calls.{IsUndo};
 
@@ -53,7 +52,6 @@ struct FailingKeeper {
 impl FailingKeeper {
     /// A keeper without rows.
     fn new(alloc: Global, fails: FailingReads) -> Self
-        ensures empty { result.inner.seen.kept ≡ tables.empty }
         ensures idle { result.inner.seen.running ≡ false }
     {
         FailingKeeper {

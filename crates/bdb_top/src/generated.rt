@@ -1,12 +1,12 @@
 // The run over a generated script, and its summary.
-ghost use Rattle.std.specs.Prelude.{◌≡◌, ◌≤◌, ◌++◌, IfOk, OnOk};
+ghost use Rattle.std.specs.Prelude.{◌≡◌, ◌≤◌, IfOk};
 ghost use Rattle.bdb_base.specs.Causes.{Rose};
 ghost use Rattle.bdb_base.specs.Limits.{most_generated};
 ghost use Rattle.bdb_session.specs.Runs.{events_of};
-ghost use Rattle.bdb_top.specs.Generated.{summary, summary_line, summary_of, summary_text, IsSummarized};
+ghost use Rattle.bdb_top.specs.Generated.{summary, summary_of, summary_text, IsSummarized};
 
+use crate::lines::append_line;
 use crate::tally::{Tally, tally_script};
-use bdb_base::append_decimal;
 use bdb_gen::generate;
 use bdb_io::Sink;
 use bdb_keep::QuietKeeper;
@@ -74,15 +74,4 @@ fn summary_text(alloc: Global, tally: Tally, worlds: u64, rows: u64) -> Result<V
     append_line(&mut text, b"rows ", rows)?;
     append_line(&mut text, b"answers ", tally.answers)?;
     Ok(text)
-}
-
-/// Appends a line of a summary: what is counted, and the count.
-#[tactic(auto, unfolding(crate::specs::Generated::summary_line))]
-fn append_line(text: &mut Vec<u8>, name: &[u8], count: u64) -> Result<(), AllocError>
-    ensures { OnOk result (text.new.items ≡ text.old.items ++ summary_line name.now count) }
-{
-    text.extend_from_slice(name)?;
-    append_decimal(text, count)?;
-    text.push(b'\n')?;
-    Ok(())
 }

@@ -2,10 +2,12 @@
 #![tactic(auto)]
 
 mod answers;
+mod check;
 #[cfg(test)]
 mod failing;
 mod generated;
 mod laws;
+mod lines;
 mod status;
 mod stop;
 mod stream;

@@ -1,8 +1,8 @@
 // Scripts and their replies, over a source, a sink and a keeper in memory.
 ghost use Rattle.std.specs.Prelude.{◌≡◌, false};
-ghost use Rattle.std.specs.FinMap as tables;
-ghost use Rattle.bdb_catalog.specs.Opening.{StandForSome};
 
+mod any_tables;
+mod checking;
 mod faults;
 mod jobs;
 mod limits;
@@ -43,17 +43,15 @@ pub(crate) fn sink(alloc: Global) -> Result<MemSink, Fail> {
     Ok(MemSink::new(alloc, List::new(alloc), 0, ROOM)?)
 }
 
-/// The status of a script, read 7 bytes at a time, over a keeper that has a base.
-fn ran_on<K: Keeper>(
+/// The status of a script, read 7 bytes at a time, over a keeper.
+pub(crate) fn ran<K: Keeper>(
     alloc: Global,
     script: &[&str],
     out: &mut MemSink,
     keeper: &mut K,
 ) -> Result<u8, Fail>
     requires idle { (K.seen keeper.old).running ≡ false }
-    requires base { StandForSome (K.seen keeper.old).kept }
     ensures idle { (K.seen keeper.new).running ≡ false }
-    ensures base { StandForSome (K.seen keeper.new).kept }
 {
     let mut text = Vec::new(alloc);
     for part in script {
@@ -62,21 +60,6 @@ fn ran_on<K: Keeper>(
     let words = words(alloc)?;
     let mut source = MemSource::new(text, 7, List::new(alloc));
     Ok(run(alloc, words.as_slice(), &mut source, out, keeper))
-}
-
-/// The same over a keeper without rows.
-pub(crate) fn ran<K: Keeper>(
-    alloc: Global,
-    script: &[&str],
-    out: &mut MemSink,
-    keeper: &mut K,
-) -> Result<u8, Fail>
-    requires idle { (K.seen keeper.old).running ≡ false }
-    requires empty { (K.seen keeper.old).kept ≡ tables.empty }
-    ensures idle { (K.seen keeper.new).running ≡ false }
-    ensures base { StandForSome (K.seen keeper.new).kept }
-{
-    ran_on(alloc, script, out, keeper)
 }
 
 /// The status, the replies and the keeper of a script over a keeper that never fails.
@@ -92,7 +75,7 @@ fn ran_again(alloc: Global, first: &[&str], next: &[&str]) -> Result<(u8, MemSin
     let mut keeper = QuietKeeper::new(alloc);
     let mut out = sink(alloc)?;
     ran(alloc, first, &mut out, &mut keeper)?;
-    let status = ran_on(alloc, next, &mut out, &mut keeper)?;
+    let status = ran(alloc, next, &mut out, &mut keeper)?;
     Ok((status, out, keeper.commits()))
 }
 

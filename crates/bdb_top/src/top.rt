@@ -1,26 +1,28 @@
 // The top call.
-ghost use Rattle.std.specs.Prelude.{◌≡◌, ◌≢◌, ◌<◌, ◌≤◌, ℕ, ◌↔◌, ◌⊎◌, false, IfSome, OnOk, IsErrOf, None, Some, length};
+ghost use Rattle.std.specs.Prelude.{◌≡◌, ◌≢◌, ◌<◌, ◌≤◌, ℕ, ◌↔◌, ◌⊎◌, false, IfSome, None, Some, length};
 ghost use Rattle.std.specs.Io.KnownBytes.{IsAtEnd};
 ghost use Rattle.bdb_base.specs.Causes.{Rose, Rises, RisesOver};
 ghost use Rattle.bdb_base.specs.Limits.{longest_script};
 ghost use Rattle.bdb_catalog.specs.Opening.{StandForSome};
-ghost use Rattle.bdb_keep.specs.Seen.{IsStill, NeverFall};
+ghost use Rattle.bdb_keep.specs.Seen.{IsStill, NeverFall, Unchanged};
 ghost use Rattle.bdb_session.specs.Outcome.{start_from};
 ghost use Rattle.bdb_top.specs.ByCount.{CommitsTell};
-ghost use Rattle.bdb_top.specs.Ran.{EachBase, Ran, status_of};
+ghost use Rattle.bdb_top.specs.Checked.{IsChecked};
+ghost use Rattle.bdb_top.specs.Ran.{EachBase, Ran, StandsForNone};
 ghost use Rattle.bdb_top.specs.Generated.{IsSummarized};
-ghost use Rattle.bdb_top.specs.Words.{named_job, run_job};
+ghost use Rattle.bdb_top.specs.Words.{named_job, check_job, run_job};
 ghost use Rattle.bdb_top.specs.declared.words.Job.TheVariants.{Gen};
 
+use crate::check::check_tables;
 use crate::generated::summarize;
 use crate::status::status_of;
-use crate::stop::Stop;
 use crate::stream::carry_out_script;
-use crate::words::{recipe_of, script_of};
+use crate::words::{checked_file, recipe_of, run_files};
 use bdb_base::Txt;
+use bdb_decode::OpenError;
 use bdb_io::{Sink, Source};
 use bdb_keep::Keeper;
-use bdb_session::{Session, StopError};
+use bdb_session::Session;
 use std::alloc::Global;
 
 /// Does all that the program does. Mostly it runs the script that the source gives over the base that the keeper's tables stand for,
@@ -36,10 +38,15 @@ use std::alloc::Global;
 /// | 4 | a write failed; what was written is a front of the replies |
 /// | 5 | the keeper failed; what was written is whole replies |
 /// | 6 | want of memory; what was written is whole replies |
+/// | 7 | no base of this format: the tables hold none; nothing is read or written, and the tables stay |
 /// | 8 | the source gave more than 2^26 bytes; each command that ends in the first 2^26 was carried out, and its reply written |
 ///
 /// With 4, 5 and 6 each command that ends more than 65,536 bytes before the end of the bytes given was carried out, and its
 /// reply written. What stands behind the last semicolon is told as unfinished at the end of the script alone.
+///
+/// Where the words ask to check a file one line tells of the keeper's tables: `ok` and status 0 where they hold a base or have no
+/// row, else `error damaged`, or `error format N` where they are of another format N, and status 7. Or the status is 4, 5 or 6, the
+/// last two with nothing written. The source isn't called, and the tables stay.
 ///
 /// Where the words ask for a generated script it is run over a keeper of its own, and five lines tell of the run: how many
 /// replies accept and refuse, the worlds and rows at the end, and the answers. Then the status is 0, or 4 or 6, and neither the
@@ -52,19 +59,24 @@ pub fn run<S: Source, O: Sink, K: Keeper>(
     keeper: &mut K,
 ) -> u8
     requires idle { (K.seen keeper.old).running ≡ false }
-    requires base { StandForSome (K.seen keeper.old).kept }
     ensures headline { run_job words.now ≢ None → IfSome (S.left script.old) (λ text. EachBase (K.seen keeper.old).kept (λ b.
         Ran (start_from b) text (S.left script.new) (K.seen keeper.old) (K.seen keeper.new) (O.written out.old) (O.written out.new) result)) }
     ensures by_count { run_job words.now ≢ None → IfSome (S.left script.old) (λ text. EachBase (K.seen keeper.old).kept (λ b.
         CommitsTell (start_from b) text (K.seen keeper.old) (K.seen keeper.new) (O.written out.old) (O.written out.new) result)) }
+    ensures refused { run_job words.now ≢ None → result ≡ 7 → StandsForNone (K.seen keeper.old).kept }
+    ensures none { run_job words.now ≢ None → StandsForNone (K.seen keeper.old).kept → (result ≡ 5) ⊎ (result ≡ 6) ⊎ (result ≡ 7) }
+    ensures silent { run_job words.now ≢ None → StandsForNone (K.seen keeper.old).kept
+        → (script.new ≡ script.old) × (out.new ≡ out.old) × Unchanged (K.seen keeper.old) (K.seen keeper.new) }
     ensures words { (result ≡ 2) ↔ (named_job words.now ≡ None) }
     ensures untouched { result ≡ 2 → (script.new ≡ script.old) × (out.new ≡ out.old) × (keeper.new ≡ keeper.old) }
     ensures still { run_job words.now ≢ None → IsStill (K.seen keeper.new) }
+    ensures checked { check_job words.now ≢ None → IsChecked (K.seen keeper.old).kept (O.written out.old) (O.written out.new) result
+        × (script.new ≡ script.old) × Unchanged (K.seen keeper.old) (K.seen keeper.new) × IsStill (K.seen keeper.new) }
     ensures generated { (seed size : ℕ) → named_job words.now ≡ Some (Gen seed size)
         → IsSummarized seed size (O.written out.old) (O.written out.new) result × (script.new ≡ script.old) × (keeper.new ≡ keeper.old) }
     ensures idle { (K.seen keeper.new).running ≡ false }
-    ensures base { StandForSome (K.seen keeper.new).kept }
-    ensures statuses { (result ≤ 8) × (result ≢ 7) }
+    ensures base { StandForSome (K.seen keeper.old).kept → StandForSome (K.seen keeper.new).kept }
+    ensures statuses { result ≤ 8 }
     ensures ended { run_job words.now ≢ None → result ≤ 1 → IsAtEnd (S.left script.new) }
     ensures short { run_job words.now ≢ None → result ≤ 1 → IfSome (S.left script.old) (λ text. length text ≤ longest_script) }
     ensures source { result ≡ 3 → Rose (S.faults script.old) (S.faults script.new) }
@@ -81,48 +93,53 @@ pub fn run<S: Source, O: Sink, K: Keeper>(
         → ¬ Rose (O.faults out.old) (O.faults out.new)
         → ¬ Rose (K.seen keeper.old).faults (K.seen keeper.new).faults
         → ¬ RisesOver longest_script (S.given script.old) (S.given script.new)
-        → (result ≤ 1) ⊎ (result ≡ 6) }
+        → (result ≤ 1) ⊎ (result ≡ 6) ⊎ (result ≡ 7) }
 {
-    match script_of(words) {
-        Some(_) => status_of(run_script(alloc, script, out, keeper)),
-        None => match recipe_of(words) {
-            Some(recipe) => summarize(alloc, recipe.seed, recipe.size, out),
-            None => 2,
+    match run_files(words) {
+        Some(_) => run_script(alloc, script, out, keeper),
+        None => match checked_file(words) {
+            Some(_) => check_tables(alloc, out, keeper),
+            None => match recipe_of(words) {
+                Some(recipe) => summarize(alloc, recipe.seed, recipe.size, out),
+                None => 2,
+            },
         },
     }
 }
 
-/// Runs the script that the source gives.
+/// Runs the script that the source gives, where the tables hold a base.
 fn run_script<S: Source, O: Sink, K: Keeper>(
     alloc: Global,
     script: &mut S,
     out: &mut O,
     keeper: &mut K,
-) -> Result<bool, Stop>
+) -> u8
     requires idle { (K.seen keeper.old).running ≡ false }
-    requires base { StandForSome (K.seen keeper.old).kept }
     ensures ran { IfSome (S.left script.old) (λ text. EachBase (K.seen keeper.old).kept (λ b.
-        Ran (start_from b) text (S.left script.new) (K.seen keeper.old) (K.seen keeper.new) (O.written out.old) (O.written out.new) (status_of result))) }
+        Ran (start_from b) text (S.left script.new) (K.seen keeper.old) (K.seen keeper.new) (O.written out.old) (O.written out.new) result)) }
+    ensures refused { result ≡ 7 → StandsForNone (K.seen keeper.old).kept }
+    ensures none { StandsForNone (K.seen keeper.old).kept → (result ≡ 5) ⊎ (result ≡ 6) ⊎ (result ≡ 7) }
+    ensures silent { StandsForNone (K.seen keeper.old).kept → (script.new ≡ script.old) × (out.new ≡ out.old) × Unchanged (K.seen keeper.old) (K.seen keeper.new) }
     ensures still { IsStill (K.seen keeper.new) }
-    ensures base { StandForSome (K.seen keeper.new).kept }
-    ensures taken { OnOk result (IsAtEnd (S.left script.new) × IfSome (S.left script.old) (λ text. length text ≤ longest_script)) }
-    ensures source { IsErrOf result Stop.Source → Rose (S.faults script.old) (S.faults script.new) }
-    ensures sink { IsErrOf result Stop.Sink → Rose (O.faults out.old) (O.faults out.new) }
-    ensures keeper { IsErrOf result Stop.Keeper → Rose (K.seen keeper.old).faults (K.seen keeper.new).faults }
-    ensures large { IsErrOf result Stop.Large → RisesOver longest_script (S.given script.old) (S.given script.new) }
+    ensures base { StandForSome (K.seen keeper.old).kept → StandForSome (K.seen keeper.new).kept }
+    ensures statuses { (result ≤ 8) × (result ≢ 2) }
+    ensures taken { result ≤ 1 → IsAtEnd (S.left script.new) × IfSome (S.left script.old) (λ text. length text ≤ longest_script) }
+    ensures source { result ≡ 3 → Rose (S.faults script.old) (S.faults script.new) }
+    ensures sink { result ≡ 4 → Rose (O.faults out.old) (O.faults out.new) }
+    ensures keeper { result ≡ 5 → Rose (K.seen keeper.old).faults (K.seen keeper.new).faults }
+    ensures large { result ≡ 8 → RisesOver longest_script (S.given script.old) (S.given script.new) }
     ensures source_counts { (S.faults script.old ≤ S.faults script.new) × (S.given script.old ≤ S.given script.new) }
     ensures sink_count { O.faults out.old ≤ O.faults out.new }
     ensures keeper_counts { NeverFall (K.seen keeper.old) (K.seen keeper.new) }
-    ensures many { IsErrOf result Stop.Large → IfSome (S.left script.old) (λ text. longest_script < length text) }
-    ensures small { OnOk result ((n : ℕ) × (n ≤ longest_script) × Rises n (S.given script.old) (S.given script.new)) }
+    ensures many { result ≡ 8 → IfSome (S.left script.old) (λ text. longest_script < length text) }
+    ensures small { result ≤ 1 → (n : ℕ) × (n ≤ longest_script) × Rises n (S.given script.old) (S.given script.new) }
 {
     let mut session = match Session::open(alloc, keeper) {
         Ok(session) => session,
-        Err(StopError::Fault) => return Err(Stop::Keeper),
-        Err(StopError::Memory) => return Err(Stop::Memory),
+        Err(OpenError::Damaged) => return 7,
+        Err(OpenError::Format(_)) => return 7,
+        Err(OpenError::Fault) => return 5,
+        Err(OpenError::Memory) => return 6,
     };
-    match carry_out_script(alloc, script, &mut session, keeper, out) {
-        Ok(accepted) => Ok(accepted),
-        Err(stop) => Err(stop),
-    }
+    status_of(carry_out_script(alloc, script, &mut session, keeper, out))
 }

@@ -3,22 +3,40 @@ ghost use Rattle.std.specs.Prelude.{◌≡◌, ◌≤◌, [], ◌∷◌, IfOk, I
 ghost use Rattle.std.specs.Option.{option_copied};
 ghost use Rattle.bdb_base.specs.Same.{same_text};
 ghost use Rattle.bdb_base.specs.Limits.{most_generated};
-ghost use Rattle.bdb_top.specs.Words.{named_job, run_job, gen_job, generating, generating_by, is_value, number_behind, number_of};
-ghost use Rattle.bdb_top.specs.declared.words.Job.TheVariants.{Gen};
+ghost use Rattle.bdb_top.specs.Words.{named_job, run_job, check_job, gen_job, running_with, running_by, running, generating, generating_by, is_value, number_behind, number_of};
+ghost use Rattle.bdb_top.specs.declared.words.Job.TheVariants.{Run, Check, Gen};
 
 use bdb_base::limits::MOST_GENERATED;
 use bdb_base::{Exact, Txt};
-use std::alloc::Global;
+use std::alloc::{AllocError, Global};
 use thiserror::Error;
 
 /// What the program is asked to do.
 #[derive(Drop)]
 pub enum Job {
-    /// Runs a script: that of a file, or of standard input where none is named.
-    Run { script: Option<Txt> },
+    /// Runs a script: that of a file, or of standard input where none is named. The base is that of a file, or the empty one,
+    /// which is forgotten afterwards, where none is named.
+    Run {
+        db: Option<Txt>,
+        script: Option<Txt>,
+    },
+    /// Tells whether a file holds a base.
+    Check {
+        db: Txt,
+    },
     /// Runs the script that is generated from a seed, and tells of the run in five lines. The size says how many commands
     /// are generated behind the first nine, at most 10,000.
-    Gen { seed: u64, size: u32 },
+    Gen {
+        seed: u64,
+        size: u32,
+    },
+}
+
+/// The files that words to run a script name.
+#[derive(Clone, Copy, Drop)]
+pub(crate) struct RunFiles<'a> {
+    pub(crate) db: Option<&'a Txt>,
+    pub(crate) script: Option<&'a Txt>,
 }
 
 /// What a script is generated from.
@@ -46,41 +64,134 @@ pub enum WordsError {
 ///
 /// | words | job |
 /// |---|---|
-/// | `run` | a script from standard input |
-/// | `run --script FILE` | the script in a file; FILE is not empty and does not begin with a dash |
-/// | `gen --seed N --size N`, options in any order | a generated script; N is 1 to 20 digits of a number below 2^64, that of size at most 10,000 |
+/// | `run` | a script from standard input over the empty base |
+/// | `run --script FILE` | the script in a file over the empty base |
+/// | `run --db FILE` | a script from standard input over the base in a file |
+/// | `run --db FILE --script FILE`, options in any order | the script in one file over the base in another |
+/// | `check --db FILE` | tells whether a file holds a base |
+/// | `gen --seed N --size N`, options in any order | a generated script |
 ///
+/// FILE is not empty and does not begin with a dash. N is 1 to 20 digits of a number below 2^64, that of size at most 10,000.
 /// `BadWords` comes exactly where the words are others.
 pub fn job_of(alloc: Global, words: &[Txt]) -> Result<Job, WordsError>
     ensures ok { IfOk result (λ job. named_job words.now ≡ Some job) }
     ensures bad { IsErrOf result WordsError.BadWords → named_job words.now ≡ None }
 {
-    match script_of(words) {
-        None => match recipe_of(words) {
-            Some(recipe) => Ok(Job::Gen {
-                seed: recipe.seed,
-                size: recipe.size,
-            }),
-            None => Err(WordsError::BadWords),
-        },
-        Some(None) => Ok(Job::Run { script: None }),
-        Some(Some(file)) => match file.try_clone(alloc) {
-            Ok(file) => Ok(Job::Run { script: Some(file) }),
+    if let Some(files) = run_files(words) {
+        return match copied_job(alloc, files) {
+            Ok(job) => Ok(job),
             Err(_) => Err(WordsError::Memory),
+        };
+    }
+    if let Some(file) = checked_file(words) {
+        return match file.try_clone(alloc) {
+            Ok(db) => Ok(Job::Check { db }),
+            Err(_) => Err(WordsError::Memory),
+        };
+    }
+    match recipe_of(words) {
+        Some(recipe) => Ok(Job::Gen {
+            seed: recipe.seed,
+            size: recipe.size,
+        }),
+        None => Err(WordsError::BadWords),
+    }
+}
+
+/// The job to run a script, with the names of its files copied.
+fn copied_job(alloc: Global, files: RunFiles<'_>) -> Result<Job, AllocError>
+    ensures { IfOk result (λ job. job ≡ Run (option_copied files.entry.db) (option_copied files.entry.script)) }
+{
+    let db = copied(alloc, files.db)?;
+    let script = copied(alloc, files.script)?;
+    Ok(Job::Run { db, script })
+}
+
+/// A copy of a text, where there is one.
+fn copied(alloc: Global, text: Option<&Txt>) -> Result<Option<Txt>, AllocError>
+    ensures { IfOk result (λ copy. copy ≡ option_copied text.entry) }
+{
+    match text {
+        None => Ok(None),
+        Some(text) => match text.try_clone(alloc) {
+            Ok(copy) => Ok(Some(copy)),
+            Err(error) => Err(error),
         },
     }
 }
 
-/// The file of the script that words ask to run, where they name one; none where the words don't ask to run one.
-pub(crate) fn script_of(words: &[Txt]) -> Option<Option<&Txt>>
-    ensures { MatchOption result (run_job words.now ≡ None) (λ file. run_job words.now ≡ Some (Job.Run (option_copied file))) }
+/// The files that words to run a script name; none where the words don't ask to run one.
+pub(crate) fn run_files(words: &[Txt]) -> Option<RunFiles<'_>>
+    ensures { MatchOption result (run_job words.now ≡ None) (λ files. run_job words.now ≡ Some (Run (option_copied files.db) (option_copied files.script))) }
 {
     match words {
-        [word] if is_word(word, "run") => Some(None),
+        [word] if is_word(word, "run") => Some(RunFiles {
+            db: None,
+            script: None,
+        }),
+        [word, option, value] if is_word(word, "run") => files_with(option, value),
+        [word, first, a, second, b] if is_word(word, "run") => files_by(first, a, second, b),
+        _ => None,
+    }
+}
+
+/// The files of one option with its value.
+fn files_with<'a>(option: &Txt, value: &'a Txt) -> Option<RunFiles<'a>>
+    ensures { MatchOption result (running_with option.now value.now ≡ None) (λ files. running_with option.now value.now ≡ Some (Run (option_copied files.db) (option_copied files.script))) }
+{
+    if !is_option_value(value.as_bytes()) {
+        return None;
+    }
+    if is_word(option, "--db") {
+        return Some(RunFiles {
+            db: Some(value),
+            script: None,
+        });
+    }
+    if is_word(option, "--script") {
+        return Some(RunFiles {
+            db: None,
+            script: Some(value),
+        });
+    }
+    None
+}
+
+/// The files of two options with their values.
+fn files_by<'a>(first: &Txt, a: &'a Txt, second: &Txt, b: &'a Txt) -> Option<RunFiles<'a>>
+    ensures { MatchOption result (running_by first.now a.now second.now b.now ≡ None) (λ files. running_by first.now a.now second.now b.now ≡ Some (Run (option_copied files.db) (option_copied files.script))) }
+{
+    if is_word(first, "--db") && is_word(second, "--script") {
+        return files_of(a, b);
+    }
+    if is_word(first, "--script") && is_word(second, "--db") {
+        return files_of(b, a);
+    }
+    None
+}
+
+/// The files of a base and of a script.
+fn files_of<'a>(db: &'a Txt, script: &'a Txt) -> Option<RunFiles<'a>>
+    ensures { MatchOption result (running db.now script.now ≡ None) (λ files. running db.now script.now ≡ Some (Run (option_copied files.db) (option_copied files.script))) }
+{
+    if is_option_value(db.as_bytes()) && is_option_value(script.as_bytes()) {
+        return Some(RunFiles {
+            db: Some(db),
+            script: Some(script),
+        });
+    }
+    None
+}
+
+/// The file that words ask to check; none where they don't ask for that.
+pub(crate) fn checked_file(words: &[Txt]) -> Option<&Txt>
+    ensures { MatchOption result (check_job words.now ≡ None) (λ file. check_job words.now ≡ Some (Check file.now)) }
+{
+    match words {
         [word, option, file]
-            if is_word(word, "run")
-                && is_word(option, "--script")
-                && is_option_value(file.as_bytes()) => { Some(Some(file)) }
+            if is_word(word, "check")
+                && is_word(option, "--db")
+                && is_option_value(file.as_bytes()) => { Some(file) }
         _ => None,
     }
 }

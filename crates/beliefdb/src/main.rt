@@ -1,9 +1,13 @@
-//! The program: it runs a script of BeliefSQL, from a file or standard input, and prints the replies.
+//! The program: it runs a script of BeliefSQL, from a file or standard input, over a collection in memory or in a file, and prints
+//! the replies.
 #![tactic(auto)]
+
+ghost use Rattle.std.specs.Prelude.{◌≡◌, false};
 
 use bdb_base::{List, Txt};
 use bdb_io::{NoSource, ReadSource, Source, WriteSink};
-use bdb_keep::QuietKeeper;
+use bdb_keep::{Keeper, QuietKeeper};
+use bdb_sql::SqlKeeper;
 use bdb_top::{Job, WordsError, job_of, run};
 use std::alloc::AllocError;
 use std::env;
@@ -13,6 +17,9 @@ use std::process::ExitCode;
 
 /// The status where there is no memory for the words of the command line.
 const NO_MEMORY: u8 = 6;
+
+/// The status where the rows of a file hold no base.
+const NO_BASE: u8 = 7;
 
 fn main(rt: HostRuntime) -> ExitCode {
     let status = match words_of(&rt) {
@@ -33,24 +40,69 @@ fn words_of(rt: &HostRuntime) -> io::Result<List<Txt>> {
     Ok(words)
 }
 
-/// Makes the source that the words name, and runs them over it.
+/// Does what the words ask for.
 fn run_words(rt: &HostRuntime, words: &[Txt]) -> u8 {
     match job_of(rt.alloc(), words) {
-        Ok(Job::Run { script: Some(file) }) => match File::open(rt, file.as_str()) {
-            Ok(file) => run_over(rt, words, &mut ReadSource::new(file)),
-            Err(_) => run_over(rt, words, &mut NoSource::new()),
-        },
-        Ok(Job::Run { script: None }) => run_over(rt, words, &mut ReadSource::new(rt.reader())),
-        Ok(Job::Gen { .. }) => run_over(rt, words, &mut NoSource::new()),
-        Err(WordsError::BadWords) => run_over(rt, words, &mut NoSource::new()),
+        Ok(Job::Run { db, script }) => run_from(rt, words, db.as_ref(), script.as_ref()),
+        Ok(Job::Check { db }) => check_file(rt, words, &db),
+        Ok(Job::Gen { .. }) => run_over(rt, words, None, &mut NoSource::new()),
+        Err(WordsError::BadWords) => run_over(rt, words, None, &mut NoSource::new()),
         Err(WordsError::Memory) => NO_MEMORY,
     }
 }
 
-/// Runs the words over a source, with standard output as the sink, and a keeper in memory without rows.
-fn run_over<S: Source>(rt: &HostRuntime, words: &[Txt], script: &mut S) -> u8 {
-    let alloc = rt.alloc();
+/// Makes the source of a script, a file or standard input, and runs the words over it. A file that can't be opened is a source whose
+/// first read fails.
+fn run_from(rt: &HostRuntime, words: &[Txt], db: Option<&Txt>, script: Option<&Txt>) -> u8 {
+    match script {
+        None => run_over(rt, words, db, &mut ReadSource::new(rt.reader())),
+        Some(file) => match File::open(rt, file.as_str()) {
+            Ok(file) => run_over(rt, words, db, &mut ReadSource::new(file)),
+            Err(_) => run_over(rt, words, db, &mut NoSource::new()),
+        },
+    }
+}
+
+/// Runs the words over a source, with standard output as the sink. The rows are those of a file, or where none is named a keeper
+/// in memory has none.
+fn run_over<S: Source>(rt: &HostRuntime, words: &[Txt], db: Option<&Txt>, script: &mut S) -> u8 {
+    match db {
+        Some(file) => run_in_file(rt, words, file, script),
+        None => run_with(rt, words, script, &mut QuietKeeper::new(rt.alloc())),
+    }
+}
+
+/// Runs the words over a source, with the rows of a file, which is made where there is none. A file whose rows hold no base is left
+/// as it is.
+fn run_in_file<S: Source>(rt: &HostRuntime, words: &[Txt], file: &Txt, script: &mut S) -> u8 {
+    let mut keeper = SqlKeeper::from_file(rt.alloc(), rt, file.as_str());
+    let status = run_with(rt, words, script, &mut keeper);
+    if status == NO_BASE {
+        keeper.leave();
+    } else {
+        // Where this fails, what was committed still is in the file and the log beside it.
+        drop(keeper.close());
+    }
+    status
+}
+
+/// Checks a file that is there, and leaves it as it is.
+fn check_file(rt: &HostRuntime, words: &[Txt], file: &Txt) -> u8 {
+    let mut keeper = SqlKeeper::from_present_file(rt.alloc(), rt, file.as_str());
+    let status = run_with(rt, words, &mut NoSource::new(), &mut keeper);
+    keeper.leave();
+    status
+}
+
+/// Runs the words over a source and a keeper, with standard output as the sink.
+fn run_with<S: Source, K: Keeper>(
+    rt: &HostRuntime,
+    words: &[Txt],
+    script: &mut S,
+    keeper: &mut K,
+) -> u8
+    requires idle { (K.seen keeper.old).running ≡ false }
+{
     let mut out = WriteSink::new(io::writer(rt));
-    let mut keeper = QuietKeeper::new(alloc);
-    run(alloc, words, script, &mut out, &mut keeper)
+    run(rt.alloc(), words, script, &mut out, keeper)
 }

@@ -12,14 +12,27 @@ fn words_name_jobs(rt: HostRuntime) -> Result<(), Fail> {
     let cases = [
         ("run", true),
         ("run --script a", true),
+        ("run --db a", true),
+        ("run --db a --script b", true),
+        ("run --script b --db a", true),
         ("", false),
         ("run --script", false),
         ("run --script -a", false),
         ("run --script=a", false),
         ("run --script a --script b", false),
-        ("run --db a", false),
+        ("run --db", false),
+        ("run --db -a", false),
+        ("run --db=a", false),
+        ("run --db a --db b", false),
+        ("run --db a --script -b", false),
         ("run --help", false),
         ("check", false),
+        ("check a", false),
+        ("check --db", false),
+        ("check --db -a", false),
+        ("check --script a", false),
+        ("check --db a --script b", false),
+        ("Check --db a", false),
         ("gen --seed x --size 1", false),
         ("gen --seed 1", false),
         ("gen --seed 1 --seed 1", false),
@@ -40,7 +53,7 @@ fn words_name_jobs(rt: HostRuntime) -> Result<(), Fail> {
 }
 
 /// The words of a line.
-fn words_of(alloc: Global, line: &str) -> Result<List<Txt>, Fail> {
+pub(crate) fn words_of(alloc: Global, line: &str) -> Result<List<Txt>, Fail> {
     let mut words = List::new(alloc);
     for word in line.split_whitespace() {
         words.push(Txt::try_new(alloc, word)?)?;

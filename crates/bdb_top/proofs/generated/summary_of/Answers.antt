@@ -2,12 +2,8 @@ use Rattle.std.proofs.Common.{◌∙◌, ap, inr, refl}
 use Rattle.bdb_base.specs.Bases.{empty_contents}
 use Rattle.bdb_session.specs.Outcome.{start_from}
 use Rattle.bdb_session.specs.Runs.{events_of}
-use Rattle.bdb_top.proofs.EmptyLemmas.{no_rows_stand}
 use Rattle.bdb_top.proofs.GeneratedLemmas.{summary_is}
 use Rattle.bdb_top.proofs.generated.summary_of.Goals as goal
-
-pub open-requires-clause-base : goal.open-requires-clause-base
-open-requires-clause-base c = no_rows_stand c.new-keeper.result.kept (ap (λ k. k.kept) c.new-keeper.ensures)
 
 pub returns : goal.returns
 returns c =

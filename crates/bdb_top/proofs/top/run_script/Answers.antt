@@ -1,32 +1,45 @@
-use Rattle.std.proofs.Common.{inl, inr, refl, Ok, Err}
-use Rattle.bdb_top.proofs.EmptyLemmas.{agreed_stand, kept_stand}
-use Rattle.bdb_top.proofs.RanLemmas.{each_closed, each_run}
+use Rattle.std.proofs.Common.{Err, ap, inl, inr, refl}
+use Rattle.bdb_top.proofs.RanLemmas.{each_closed, each_refused, each_run, each_status, many_if, not_seven, run_status, small_by, taken_by}
 use Rattle.bdb_top.proofs.top.run_script.Goals as goal
+
+pub returns-in-Err-Damaged-clause-ran : goal.returns-in-Err-Damaged-clause-ran
+returns-in-Err-Damaged-clause-ran g c = each_refused _ _ _ _ _ (c.in-Err-Damaged.ensures.damaged (ap Err c.in-Err-Damaged.field-0-is)).none
+
+pub returns-in-Err-Damaged-clause-refused : goal.returns-in-Err-Damaged-clause-refused
+returns-in-Err-Damaged-clause-refused g c = λ _. (c.in-Err-Damaged.ensures.damaged (ap Err c.in-Err-Damaged.field-0-is)).none
+
+pub returns-in-Err-Format-clause-ran : goal.returns-in-Err-Format-clause-ran
+returns-in-Err-Format-clause-ran g c = each_refused _ _ _ _ _ (c.in-Err-Format.ensures.format _ (ap Err c.in-Err-Format.field-0-is)).none
+
+pub returns-in-Err-Format-clause-refused : goal.returns-in-Err-Format-clause-refused
+returns-in-Err-Format-clause-refused g c = λ _. (c.in-Err-Format.ensures.format _ (ap Err c.in-Err-Format.field-0-is)).none
 
 pub returns-in-Err-Fault-clause-ran : goal.returns-in-Err-Fault-clause-ran
 returns-in-Err-Fault-clause-ran g c = each_closed _ _ _ _ _ c.open.ensures.still c.in-Err-Fault.ensures.err (inl refl)
 
-pub returns-in-Err-Fault-clause-base : goal.returns-in-Err-Fault-clause-base
-returns-in-Err-Fault-clause-base g c = kept_stand _ _ c.in-Err-Fault.ensures.err.kept c.requires.base
-
 pub returns-in-Err-Memory-clause-ran : goal.returns-in-Err-Memory-clause-ran
 returns-in-Err-Memory-clause-ran g c = each_closed _ _ _ _ _ c.open.ensures.still c.in-Err-Memory.ensures.err (inr refl)
 
-pub returns-in-Err-Memory-clause-base : goal.returns-in-Err-Memory-clause-base
-returns-in-Err-Memory-clause-base g c = kept_stand _ _ c.in-Err-Memory.ensures.err.kept c.requires.base
-
-pub returns-in-Ok-carry_out_script-clause-ran : goal.returns-in-Ok-carry_out_script-clause-ran
-returns-in-Ok-carry_out_script-clause-ran g c =
-    each_run _ _ c.in-Ok.session c.carry_out_script.new.session _ (g.K.Keeper.seen c.open.new.keeper) _ _ _ (Ok c.in-Ok-carry_out_script.accepted) c.in-Ok.ensures.opened c.in-Ok.ensures.commits
-    c.carry_out_script.ensures.still c.in-Ok-carry_out_script.ensures.streams
-
-pub returns-in-Ok-carry_out_script-clause-base : goal.returns-in-Ok-carry_out_script-clause-base
-returns-in-Ok-carry_out_script-clause-base g c = agreed_stand _ _ c.carry_out_script.ensures.agrees
-
 pub returns-clause-ran : goal.returns-clause-ran
 returns-clause-ran g c =
-    each_run _ _ c.in-Ok.session c.carry_out_script.new.session _ (g.K.Keeper.seen c.open.new.keeper) _ _ _ (Err c.in-Err.stop) c.in-Ok.ensures.opened c.in-Ok.ensures.commits
-    c.carry_out_script.ensures.still c.in-Err.ensures.streams
+    each_status _ _ _ _ _ _ _ _ c.status_of.ensures
+    (each_run _ _ c.in-Ok.session c.carry_out_script.new.session _ (g.K.Keeper.seen c.open.new.keeper) _ _ _ c.carry_out_script.result c.in-Ok.ensures.opened c.in-Ok.ensures.commits
+    c.carry_out_script.ensures.still c.carry_out_script.ensures.streams)
 
-pub returns-clause-base : goal.returns-clause-base
-returns-clause-base g c = agreed_stand _ _ c.carry_out_script.ensures.agrees
+pub returns-clause-refused : goal.returns-clause-refused
+returns-clause-refused g c = λ e. absurd (not_seven _ c.carry_out_script.result c.status_of.ensures e)
+
+pub returns-clause-silent : goal.returns-clause-silent
+returns-clause-silent g c = λ none. absurd (none c.in-Ok.ensures.stand.base c.in-Ok.ensures.stand.stand)
+
+pub returns-clause-statuses : goal.returns-clause-statuses
+returns-clause-statuses g c = run_status _ c.carry_out_script.result c.status_of.ensures
+
+pub returns-clause-taken : goal.returns-clause-taken
+returns-clause-taken g c = taken_by _ c.carry_out_script.result _ _ c.status_of.ensures c.carry_out_script.ensures.end c.carry_out_script.ensures.short
+
+pub returns-clause-many : goal.returns-clause-many
+returns-clause-many g c = many_if _ c.carry_out_script.result _ c.status_of.ensures c.carry_out_script.ensures.many
+
+pub returns-clause-small : goal.returns-clause-small
+returns-clause-small g c = small_by _ c.carry_out_script.result _ _ c.status_of.ensures c.carry_out_script.ensures.small
