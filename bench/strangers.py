@@ -1,8 +1,10 @@
 #!/usr/bin/env python3
 """Makes files of all kinds, ours and strangers', and has the keeper over a file open and write each.
-   bench/strangers.py SMALL
-SMALL is the built bdb_bench. A line tells of each file what came of it, and which files of its folder are others than before. The
-exit status is 1 where a file that isn't ours works or is changed, or one that is ours doesn't work."""
+   bench/strangers.py SMALL [PROGRAM]
+SMALL is the built bdb_bench. A line tells of each file what came of it, and which files of its folder are others than before. With
+PROGRAM, the built beliefdb, each is then checked by it, and a script without a command is run over it. The exit status is 1 where a
+file that isn't ours works or is changed, or one that is ours doesn't work; where a check makes or changes a file; and where a run
+changes one that it refuses."""
 import hashlib
 import os
 import shutil
@@ -103,8 +105,26 @@ def tries(small, folder, name, ours, user=None):
     return fine
 
 
-def main(small):
+def judged(program, folder, name, ours, user=None):
+    """Checks the file and then runs nothing over it; returns whether all was as it ought to be."""
+    path, before = f"{folder}/file.db", sums(folder)
+    check = subprocess.run([program, "check", "--db", path], capture_output=True, text=True, timeout=60, user=user)
+    checked = sums(folder)
+    run = subprocess.run([program, "run", "--db", path], input="", capture_output=True, text=True, timeout=60, user=user)
+    after = sums(folder)
+    kept = checked.get("file.db") == before.get("file.db") and (run.returncode == 0 or after.get("file.db") == before.get("file.db"))
+    right = ours is None or check.returncode in ((0, 7) if ours else (5,)) and (run.returncode == check.returncode or name.startswith(("empty", "missing")))
+    print(f"{'' if kept and right else 'NOT RIGHT '}{name}: check {check.returncode} {check.stdout.strip()!r}, run {run.returncode}")
+    return kept and right
+
+
+def main(small, program=None):
     fine = True
+
+    def tried(folder, name, ours):
+        fine = tries(small, folder, name, ours)
+        return fine and (not program or judged(program, folder, name, ours))
+
     with tempfile.TemporaryDirectory() as top:
         os.chmod(top, 0o755)
 
@@ -117,7 +137,7 @@ def main(small):
             for name, (statements, ours) in DATABASES.items():
                 folder = folder_for(f"{name}, {mode}")
                 make(folder, statements, mode)
-                fine &= tries(small, folder, f"{name}, {mode}", False if mode == "delete" else ours)
+                fine &= tried(folder, f"{name}, {mode}", False if mode == "delete" else ours)
         make(top, [KEPT, ROWS], "wal")
         with open(f"{top}/file.db", "rb") as it:
             ours = it.read()
@@ -125,18 +145,20 @@ def main(small):
             folder = folder_for(name)
             with open(f"{folder}/file.db", "wb") as it:
                 it.write(data)
-            fine &= tries(small, folder, name, works)
+            fine &= tried(folder, name, works)
         fine &= tries(small, folder_for("missing"), "missing", True)
+        if program:
+            fine &= judged(program, folder_for("missing, judged"), "missing, judged", False)
         folder = folder_for("missing, with a log")
         with open(f"{folder}/file.db-wal", "wb") as it:
             it.write(b"a log of something else\n" * 100)
-        fine &= tries(small, folder, "missing, with a log", None)
+        fine &= tried(folder, "missing, with a log", None)
         folder = folder_for("a folder")
         os.mkdir(f"{folder}/file.db")
-        fine &= tries(small, folder, "a folder", False)
+        fine &= tried(folder, "a folder", False)
         folder = folder_for("a pipe")
         os.mkfifo(f"{folder}/file.db")
-        fine &= tries(small, folder, "a pipe", False)
+        fine &= tried(folder, "a pipe", False)
         if os.getuid() == 0:
             program = shutil.copy(small, f"{top}/small")
             folder = folder_for("not to be read")
@@ -148,6 +170,6 @@ def main(small):
 
 
 if __name__ == "__main__":
-    if len(sys.argv) != 2:
+    if not 2 <= len(sys.argv) <= 3:
         sys.exit(__doc__)
-    sys.exit(main(os.path.abspath(sys.argv[1])))
+    sys.exit(main(*map(os.path.abspath, sys.argv[1:])))
