@@ -24,10 +24,10 @@ use Rattle.bdb_tables.proofs.WriteLemmas.{gives_same}
 use Rattle.bdb_val.specs.Middle.{HasExplicit, worlds_of}
 use Rattle.bdb_val.proofs.HeldLemmas.{some_is}
 use Rattle.bdb_val.proofs.ReadLemmas.{prefix_rest}
+use Rattle.bdb_entries.specs.Tuples.{HasTuples}
 use Rattle.bdb_decode.specs.Explicit.{Paths, TupleRows}
 use Rattle.bdb_decode.specs.ExplicitLaws.{HaveNumbers, HavePaths}
 use Rattle.bdb_decode.specs.Items.{item_of}
-use Rattle.bdb_decode.specs.Tuples.{HasTuples}
 use Rattle.bdb_decode.specs.Whole.{AreBaseStatements, AreHeldExplicit, BaseStatementsAreHeld}
 use Rattle.bdb_decode.proofs.SaidLemmas.{some_one, stated_given, stated_rows_are_explicit}
 use Rattle.bdb_decode.proofs.WholeLemmas.{any_turned}

@@ -12,10 +12,10 @@ use Rattle.bdb_tables.specs.InUseLaws.{number_rows_are_one}
 use Rattle.bdb_tables.proofs.Held.{none_some}
 use Rattle.bdb_tables.proofs.WriteLemmas.{gives_one}
 use Rattle.bdb_update.proofs.GrammarLemmas.{stored_is_in_grammar}
-use Rattle.bdb_decode.specs.Format.{HasFormat, IsFormatDamaged}
+use Rattle.bdb_entries.specs.Format.{HasFormat, IsFormatDamaged}
+use Rattle.bdb_entries.specs.Reading.{IsBare, OthersAreBare}
 use Rattle.bdb_decode.specs.Opening.{AreDamaged, HaveOtherFormat}
 use Rattle.bdb_decode.specs.Parts.{AreFormed, StoreNone}
-use Rattle.bdb_decode.specs.Reading.{IsBare, OthersAreBare}
 use Rattle.bdb_decode.proofs.StandLemmas.{no_format, others_stand_for_none}
 
 -- ---- tables with no row

@@ -20,11 +20,11 @@ use Rattle.bdb_tables.specs.Writes.{Gives}
 use Rattle.bdb_tables.proofs.Held.{same_place}
 use Rattle.bdb_val.specs.Reads.{is_of_group}
 use Rattle.bdb_val.specs.Settling.{key_value, row_key}
+use Rattle.bdb_entries.specs.Tuples.{HasTuples}
 use Rattle.bdb_decode.specs.Explicit.{Paths, TupleRows, ValRow, is_placed, is_placed_by}
 use Rattle.bdb_decode.specs.ExplicitLaws.{HavePaths}
 use Rattle.bdb_decode.specs.Items.{item_of}
 use Rattle.bdb_decode.specs.SettledRows.{IsKeyed, PlacedRowsAreKeyed}
-use Rattle.bdb_decode.specs.Tuples.{HasTuples}
 
 abbrev made : ℕ → ℕ → Value → ℕ → ValKey
 made a b c d = (a, b, c, d)

@@ -131,7 +131,7 @@ module _ (worlds : Paths) (tuples : TupleRows) (one : (a b : ℕ) (w : List ℕ)
   not_below_itself : (b : List ℕ) → is_lt (bytes_cmp b b) ≡ true → ⊥
   not_below_itself b e = false≢true (sym (ap is_lt (tied_itself nat_list_cmp_total b)) ∙ e)
 
-  none_later : (u : Stmt) (x : ValRow) (xs : List ValRow) → is_placed worlds tuples x ≡ true → list_any (λ h. same_statement h u) (said worlds tuples x) ≡ true
+  pub none_later : (u : Stmt) (x : ValRow) (xs : List ValRow) → is_placed worlds tuples x ≡ true → list_any (λ h. same_statement h u) (said worlds tuples x) ≡ true
       → list_all (is_placed worlds tuples) xs ≡ true → list_all (λ y. is_lt (entry_cmp val_codec x y)) xs ≡ true
       → list_any (λ h. same_statement h u) (flat_map (said worlds tuples) xs) ≡ false
   none_later u x [] p a q l = refl

@@ -32,22 +32,22 @@ use Rattle.bdb_tables.proofs.CatalogLemmas.{one_contents, one_relations, one_use
 use Rattle.bdb_tables.proofs.WriteLemmas.{gives_one, gives_same}
 use Rattle.bdb_val.proofs.HeldLemmas.{some_is}
 use Rattle.bdb_worlds.proofs.ReadLemmas.{found_is}
-use Rattle.bdb_decode.specs.Catalog.{HasCatalog}
+use Rattle.bdb_entries.specs.Catalog.{HasCatalog}
+use Rattle.bdb_entries.specs.Tuples.{AreTuples, HasTuples, HaveNoTuples}
+use Rattle.bdb_entries.proofs.ReadLemmas.{past, under_fits}
+use Rattle.bdb_entries.proofs.TupleLemmas.{holding, item_all, item_in, items_give, same_number}
+use Rattle.bdb_graph.specs.Naming.{AreWorlds, names_of, path_in}
+use Rattle.bdb_graph.specs.Ups.{HoldNoStates}
+use Rattle.bdb_graph.specs.declared.naming.World.{World}
+use Rattle.bdb_graph.proofs.HeldLemmas.{held_so, named_same, worlds_are_held}
 use Rattle.bdb_decode.specs.Explicit.{Paths, TupleRows}
 use Rattle.bdb_decode.specs.ExplicitLaws.{HavePaths}
 use Rattle.bdb_decode.specs.Items.{item_of, number_cmp}
-use Rattle.bdb_decode.specs.Naming.{AreWorlds, names_of, path_in}
 use Rattle.bdb_decode.specs.Parts.{AreFormed, AreLinks, AreParts, ArePaths, HoldNoneOver, IsLink, StoreNone, TellsRowsOf, path_row}
 use Rattle.bdb_decode.specs.SettledRows.{AreCandidates, AreWorldsOf, TellsRows}
-use Rattle.bdb_decode.specs.Tuples.{AreTuples, HasTuples, HaveNoTuples}
-use Rattle.bdb_decode.specs.Ups.{HoldNoStates}
 use Rattle.bdb_decode.specs.Whole.{AreBaseStatements, AreHeldExplicit, HaveNoBaseStatements}
-use Rattle.bdb_decode.specs.declared.naming.World.{World}
 use Rattle.bdb_decode.proofs.GivenLemmas.{given, given_gives}
 use Rattle.bdb_decode.proofs.HeldBaseLemmas.{base_statements_are_held}
-use Rattle.bdb_decode.proofs.HeldLemmas.{held_so, named_same, worlds_are_held}
-use Rattle.bdb_decode.proofs.ReadLemmas.{past, under_fits}
-use Rattle.bdb_decode.proofs.TupleLemmas.{holding, item_all, item_in, items_give, same_number}
 use Rattle.bdb_decode.proofs.WholeLemmas.{held_bases_are_stated, held_bases_are_whole}
 
 -- ---- items by number

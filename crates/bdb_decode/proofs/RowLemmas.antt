@@ -17,8 +17,8 @@ use Rattle.bdb_tables.specs.Spans.{IsUnder, IsNextUnder, HasNextUnder, entry_byt
 use Rattle.bdb_tables.proofs.Held.{same_place, some_same, none_some}
 use Rattle.bdb_tables.proofs.SpanLemmas.{Covers, rows_more, rows_end, covers_none}
 use Rattle.bdb_val.specs.Settling.{key_value}
+use Rattle.bdb_entries.proofs.ReadLemmas.{foreign_misfits, under_fits}
 use Rattle.bdb_decode.specs.Explicit.{AreMisplaced, ArePlaced, AreSaid, Paths, TupleRows, ValRow, is_placed, said}
-use Rattle.bdb_decode.proofs.ReadLemmas.{foreign_misfits, under_fits}
 
 pub first_key : (vals : List Value) (v : Value) → slice_get vals 0 ≡ Some v → key_value vals ≡ v
 first_key [] v e = cc
@@ -27,10 +27,10 @@ first_key (x ∷ vals) v e = let s : x ≡ v = cc in s
 module _ (worlds : Paths) (tuples : TupleRows) where
   -- these rows are those below some bytes, each has its place, and the explicit ones make these statements
   pub record SaidBelow (t : Tables) (low : List ℕ) (stmts : List Stmt) : Type 0 where
-    rows : List ValRow
-    covers : Covers val_codec t [] low rows
-    placed : list_all (is_placed worlds tuples) rows ≡ true
-    said : stmts ≡ flat_map (said worlds tuples) rows
+    pub rows : List ValRow
+    pub covers : Covers val_codec t [] low rows
+    pub placed : list_all (is_placed worlds tuples) rows ≡ true
+    pub said : stmts ≡ flat_map (said worlds tuples) rows
 
   flat_map_more : (f : ValRow → List Stmt) (es : List ValRow) (e : ValRow) → flat_map f (es ++ e ∷ []) ≡ flat_map f es ++ f e
   flat_map_more f [] e = append_none (f e)

@@ -30,11 +30,11 @@ use Rattle.bdb_val.specs.declared.stored.Stored.{Stored}
 use Rattle.bdb_val.proofs.HeldLemmas.{some_is, names_are_linked, settled_rows_are_held, held_rows_are_explicit, held_rows_are_settled}
 use Rattle.bdb_val.proofs.ReadLemmas.{read_named, read_apart, tuple_row, world_span}
 use Rattle.bdb_val.proofs.StepLemmas.{own_mark, next_after, settled_after}
+use Rattle.bdb_entries.proofs.TupleLemmas.{given_is}
 use Rattle.bdb_decode.specs.SettledRows.{AreCandidates, AreKeyed, AreLinked, IsKeyed, TellsRows, TellsWorld, TellsWorlds}
 use Rattle.bdb_decode.specs.Settles.{settles}
 use Rattle.bdb_decode.proofs.GivenLemmas.{given, given_gives}
 use Rattle.bdb_decode.proofs.SettlesLemmas.{settled_next, next_settles}
-use Rattle.bdb_decode.proofs.TupleLemmas.{given_is}
 
 some_map : {X Y : Type 0} (f : X → Y) (o : Option X) → is_some (option_map f o) ≡ is_some o
 some_map f None = refl

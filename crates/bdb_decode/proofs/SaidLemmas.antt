@@ -28,10 +28,10 @@ use Rattle.bdb_val.specs.Reads.{HasRows, is_of_group}
 use Rattle.bdb_val.specs.Settling.{key_value, row_key}
 use Rattle.bdb_val.proofs.HeldLemmas.{some_is}
 use Rattle.bdb_val.proofs.ReadLemmas.{key_fits}
+use Rattle.bdb_entries.proofs.ListedLemmas.{entries_found}
 use Rattle.bdb_decode.specs.Explicit.{AreStated, Paths, TupleRows, ValRow, is_placed, is_placed_by, said, said_by}
 use Rattle.bdb_decode.specs.ExplicitLaws.{HaveNumbers, StatedRowsAreExplicit}
 use Rattle.bdb_decode.specs.Items.{item_of}
-use Rattle.bdb_decode.proofs.ListedLemmas.{entries_found}
 use Rattle.bdb_decode.proofs.RowLemmas.{found_passes}
 
 pub some_one : {X : Type 0} (x y : X) (o : Option X) → o ≡ Some x → o ≡ Some y → x ≡ y

@@ -10,7 +10,7 @@ use Rattle.bdb_tables.specs.InUseLaws.{number_rows_are_one}
 use Rattle.bdb_tables.proofs.WriteLemmas.{gives_one}
 use Rattle.bdb_update.proofs.OneStored.{stored_base_is_one}
 use Rattle.bdb_catalog.specs.Opening.{StandFor}
-use Rattle.bdb_decode.specs.Format.{HasFormat}
+use Rattle.bdb_entries.specs.Format.{HasFormat}
 use Rattle.bdb_decode.specs.Laws.{OneBaseAtMost, OthersStandForNone}
 
 -- tables with no row have no row of the format

@@ -21,6 +21,7 @@ use Rattle.bdb_decode.specs.Items.{item_of, number_cmp}
 use Rattle.bdb_decode.specs.Stated.{all_stated, all_states}
 use Rattle.bdb_decode.specs.Whole.{AreWhole, HeldBasesAreStated, HeldBasesAreWhole}
 use Rattle.bdb_decode.proofs.HeldRowLemmas.{held_rows_have_places, held_rows_make_statements}
+use Rattle.bdb_decode.proofs.ManyLemmas.{not_too_many}
 
 pub tells_whole : (c : Catalog) (worlds : Paths) (tuples : TupleRows) (stmts : List Stmt) (b : Bool) → AreStatements c stmts → b ≡ (all_stated stmts tuples && all_states stmts worlds)
     → MatchBool b (AreWhole c worlds tuples stmts) (AreWhole c worlds tuples stmts → ⊥)
@@ -66,7 +67,8 @@ held_bases_are_stated b ns ts t worlds tuples stmts s v paths named a =
     held_rows_make_statements b.stmts stmts ns ts t worlds tuples paths named (λ w e. s.worlds w ∙ e) (consistent b v) v.stmts.sorted s.tuples s.rows a
 
 pub held_bases_are_whole : HeldBasesAreWhole
-held_bases_are_whole b ns ts t worlds tuples s v paths named up asc (inl m) = held_rows_have_places b.stmts ns ts t worlds tuples paths named s.tuples s.rows m
+held_bases_are_whole b ns ts t worlds tuples s v paths named up asc (inl (inl m)) = held_rows_have_places b.stmts ns ts t worlds tuples paths named s.tuples s.rows m
+held_bases_are_whole b ns ts t worlds tuples s v paths named up asc (inl (inr m)) = not_too_many b ns ts t worlds tuples s v paths named m
 held_bases_are_whole b ns ts t worlds tuples s v paths named up asc (inr n) =
     let same : n.stmts ≡ b.stmts = held_bases_are_stated b ns ts t worlds tuples n.stmts s v paths named n.stated in
     n.other (subst (AreWhole b.catalog worlds tuples) (sym same) (record { valid = v.stmts; tuples = stated; worlds = states }))

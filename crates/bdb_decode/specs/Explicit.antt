@@ -14,8 +14,8 @@ use Rattle.bdb_tables.specs.InUse.{ValKey, IsValKey, val_codec}
 use Rattle.bdb_tables.specs.Marks.{Mark}
 use Rattle.bdb_tables.specs.Spans.{AreUnder}
 use Rattle.bdb_val.specs.Reads.{is_of_group}
+use Rattle.bdb_entries.specs.Reading.{Misfits}
 use Rattle.bdb_decode.specs.Items.{item_of}
-use Rattle.bdb_decode.specs.Reading.{Misfits}
 
 -- a row of table 11
 abbrev pub ValRow : Type 0

@@ -3,7 +3,7 @@ use Rattle.std.specs.Prelude.{◌≡◌, ℕ, List, Result, Ok, Err}
 use Rattle.bdb_base.specs.Bases.{Contents}
 use Rattle.bdb_base.specs.Causes.{HasCause}
 use Rattle.bdb_catalog.specs.Opening.{StandFor}
-use Rattle.bdb_decode.specs.Format.{HasFormat}
+use Rattle.bdb_entries.specs.Format.{HasFormat}
 use Rattle.bdb_decode.specs.declared.opening.OpenError.{OpenError}
 use Rattle.bdb_decode.specs.declared.opening.OpenError.TheVariants as refused
 use Rattle.bdb_decode.specs.declared.opening.OpenError.TheVariants.{Damaged, Format, Fault, Memory}

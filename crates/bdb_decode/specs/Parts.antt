@@ -11,15 +11,15 @@ use Rattle.bdb_tables.specs.Grammar.{InGrammar}
 use Rattle.bdb_tables.specs.InUse.{link_codec}
 use Rattle.bdb_tables.specs.Names.{Names}
 use Rattle.bdb_tables.specs.States.{HoldsStates}
-use Rattle.bdb_decode.specs.Catalog.{HasCatalog}
+use Rattle.bdb_entries.specs.Catalog.{HasCatalog}
+use Rattle.bdb_entries.specs.Format.{HasFormat}
+use Rattle.bdb_entries.specs.Reading.{OthersAreBare}
+use Rattle.bdb_entries.specs.Tuples.{AreTuples}
+use Rattle.bdb_graph.specs.declared.naming.World.{World}
 use Rattle.bdb_decode.specs.Explicit.{Paths, TupleRows}
 use Rattle.bdb_decode.specs.ExplicitLaws.{HavePaths}
-use Rattle.bdb_decode.specs.Format.{HasFormat}
 use Rattle.bdb_decode.specs.Items.{number_cmp}
-use Rattle.bdb_decode.specs.Reading.{OthersAreBare}
 use Rattle.bdb_decode.specs.SettledRows.{TellsRows}
-use Rattle.bdb_decode.specs.Tuples.{AreTuples}
-use Rattle.bdb_decode.specs.declared.naming.World.{World}
 
 -- tables store no valid base
 abbrev pub StoreNone : Tables → Type 0

@@ -17,11 +17,11 @@ use Rattle.bdb_val.specs.Reads.{AreReadUnder, world_prefix}
 use Rattle.bdb_val.specs.Settled.{HasStates}
 use Rattle.bdb_val.specs.Settling.{are_apart, row_key}
 use Rattle.bdb_val.specs.declared.stored.Stored.{Stored}
+use Rattle.bdb_entries.specs.Tuples.{HasTuples}
 use Rattle.bdb_decode.specs.Explicit.{ArePlaced, Paths, TupleRows, ValRow}
 use Rattle.bdb_decode.specs.ExplicitLaws.{HavePaths}
 use Rattle.bdb_decode.specs.Items.{item_of}
 use Rattle.bdb_decode.specs.Settles.{settles}
-use Rattle.bdb_decode.specs.Tuples.{HasTuples}
 
 -- ---- worlds and tuples of rows
 

@@ -13,11 +13,12 @@ use Rattle.bdb_tables.specs.Rows.{Tuples, HoldsTuples}
 use Rattle.bdb_tables.specs.Stored.{StoredAs}
 use Rattle.bdb_tables.specs.Writes.{Gives}
 use Rattle.bdb_val.specs.Middle.{HasExplicit, worlds_of}
-use Rattle.bdb_decode.specs.Explicit.{AreMisplaced, AreStated, Paths, TupleRows}
+use Rattle.bdb_entries.specs.Tuples.{HasTuples}
+use Rattle.bdb_decode.specs.Explicit.{AreStated, Paths, TupleRows}
 use Rattle.bdb_decode.specs.ExplicitLaws.{HavePaths}
 use Rattle.bdb_decode.specs.Items.{item_of, number_cmp}
+use Rattle.bdb_decode.specs.Many.{HaveNoStatements}
 use Rattle.bdb_decode.specs.Stated.{all_stated, all_states}
-use Rattle.bdb_decode.specs.Tuples.{HasTuples}
 
 -- statements are those of a valid base with a catalog; each tuple is that of one of them, and each path a state
 pub record AreWhole (c : Catalog) (paths : Paths) (numbered : TupleRows) (stmts : List Stmt) : Type 0 where
@@ -36,9 +37,9 @@ pub record AreNotWhole (t : Tables) (c : Catalog) (worlds : Paths) (tuples : Tup
   pub stated : AreStated t worlds tuples stmts
   pub other : AreWhole c worlds tuples stmts → ⊥
 
--- a row is foreign or without its place, or the explicit rows make statements that aren't whole
+-- a row is foreign or without its place, or the explicit rows make too many statements, or statements that aren't whole
 abbrev pub HaveNoBaseStatements : Tables → Catalog → Paths → TupleRows → Type 0
-HaveNoBaseStatements t c worlds tuples = AreMisplaced t worlds tuples ⊎ AreNotWhole t c worlds tuples
+HaveNoBaseStatements t c worlds tuples = HaveNoStatements t worlds tuples ⊎ AreNotWhole t c worlds tuples
 
 -- a valid base that tables store under these names has whole statements
 abbrev pub HeldBasesAreWhole : Type 0

@@ -1,6 +1,6 @@
 // What holds of tables of any bytes, each law as the contract of a function that does nothing.
 ghost use Rattle.bdb_decode.specs.ExplicitLaws.{HeldRowsHavePlaces, HeldRowsMakeStatements, MisplacedHaveNoPlaces, StatedRowsAreExplicit};
-ghost use Rattle.bdb_decode.specs.Laws.{OneBaseAtMost, OthersStandForNone, WorldsAreHeld};
+ghost use Rattle.bdb_decode.specs.Laws.{OneBaseAtMost, OthersStandForNone};
 ghost use Rattle.bdb_decode.specs.SettledRows.{PlacedRowsAreKeyed};
 ghost use Rattle.bdb_decode.specs.Whole.{BaseStatementsAreHeld, HeldBasesAreStated, HeldBasesAreWhole};
 
@@ -12,11 +12,6 @@ pub fn one_base_at_most()
 /// Tables of another format stand for no base.
 pub fn others_stand_for_none()
     ensures { OthersStandForNone }
-{}
-
-/// Whichever states tables hold, they hold those of their worlds.
-pub fn worlds_are_held()
-    ensures { WorldsAreHeld }
 {}
 
 /// Where no two of the statements that explicit rows make clash at a path, the explicit rows are the statements.

@@ -2,8 +2,8 @@
 ghost use Rattle.std.specs.Prelude.{IfOk};
 ghost use Rattle.bdb_keep.specs.Calls.{IsRead};
 ghost use Rattle.bdb_tables.specs.Grammar.{InGrammar};
+ghost use Rattle.bdb_entries.specs.Reading.{OnlyReads};
 ghost use Rattle.bdb_decode.specs.Parts.{AreLinks, IsLink, TellsRowsOf};
-ghost use Rattle.bdb_decode.specs.Reading.{OnlyReads};
 ghost use Rattle.bdb_decode.specs.SettledRows.{AreKeyed};
 
 use crate::held_rows::are_rows_held;

@@ -3,15 +3,13 @@ ghost use Rattle.std.specs.Prelude.{◌≡◌, ◌≤◌, length, map, IfOk, Mat
 ghost use Rattle.bdb_base.specs.Bases.{is_user};
 ghost use Rattle.bdb_base.specs.Limits.{most_users};
 ghost use Rattle.bdb_tables.specs.Grammar.{InGrammar};
+ghost use Rattle.bdb_entries.specs.Reading.{OnlyReads};
 ghost use Rattle.bdb_decode.specs.Parts.{AreParts, ArePaths, HoldNoneOver, StoreNone, path_row};
-ghost use Rattle.bdb_decode.specs.Reading.{OnlyReads};
 
-use crate::catalog::raw_catalog;
-use crate::naming::World;
-use crate::states::are_states_held;
-use crate::tuples::raw_tuples;
-use crate::worlds::raw_worlds;
+use crate::limits::worlds_are_within_limits;
 use bdb_base::{Catalog, Path, Tuple, Txt};
+use bdb_entries::{raw_catalog, raw_tuples};
+use bdb_graph::{World, are_states_held, raw_worlds};
 use bdb_keep::Keeper;
 use bdb_tables::TabError;
 use std::alloc::{AllocError, Global};
@@ -41,6 +39,11 @@ pub fn raw_parts<K: Keeper>(alloc: Global, keeper: &mut K) -> Result<Option<Part
         Ok(None) => return Ok(None),
         Err(error) => return Err(error),
     };
+    match worlds_are_within_limits(alloc, keeper) {
+        Ok(true) => {}
+        Ok(false) => return Ok(None),
+        Err(error) => return Err(error),
+    }
     let paths = match raw_paths(alloc, keeper, catalog.users.as_slice()) {
         Ok(Some(paths)) => paths,
         Ok(None) => return Ok(None),

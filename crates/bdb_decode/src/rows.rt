@@ -8,12 +8,14 @@ ghost use Rattle.bdb_keep.specs.Calls.{IsRead};
 ghost use Rattle.bdb_base.specs.Same.{same_value};
 ghost use Rattle.bdb_val.specs.Reads.{is_of_group};
 ghost use Rattle.bdb_val.specs.Settling.{key_value};
-ghost use Rattle.bdb_decode.specs.Explicit.{AreMisplaced, AreSaid, AreStated, is_placed, said, said_at};
+ghost use Rattle.bdb_decode.specs.Explicit.{AreSaid, AreStated, is_placed, said, said_at};
 ghost use Rattle.bdb_decode.specs.Items.{number_cmp};
+ghost use Rattle.bdb_decode.specs.Many.{HaveNoStatements};
 
 use crate::items::item_of;
-use crate::reading::next_raw;
+use crate::limits::are_too_many;
 use bdb_base::{Exact, Path, Sign, Stmt, Tuple, Value, cmp_stmt, key_of, same_value};
+use bdb_entries::next_raw;
 use bdb_keep::Keeper;
 use bdb_tables::{Room, TabError, ValTab};
 use std::alloc::{AllocError, Global};
@@ -23,8 +25,8 @@ use std::cmp::Ordering;
 pub type ValRow = ((u32, u32, Value, u32), (Sign, bool));
 
 /// The statements that the explicit rows make, in order, where each row's world has a path, its tuple a number, and its
-/// relation and key are the tuple's. None exactly where this isn't so of some row. One read more than there are rows, of
-/// which none is kept.
+/// relation and key are the tuple's. None only where this isn't so of some row, or the rows so far make more statements than a
+/// base may have. One read more than there are rows at most, of which none is kept.
 pub fn raw_statements<K: Keeper>(
     alloc: Global,
     keeper: &mut K,
@@ -33,7 +35,7 @@ pub fn raw_statements<K: Keeper>(
 ) -> Result<Option<Vec<Stmt>>, TabError>
     requires worlds { ascending number_cmp worlds.now ≡ true }
     requires tuples { ascending number_cmp tuples.now ≡ true }
-    ensures statements { IfOk result (λ r. MatchOption r (AreMisplaced (K.seen keeper.old).kept worlds.now tuples.now) (λ stmts. AreStated (K.seen keeper.old).kept worlds.now tuples.now stmts.items)) }
+    ensures statements { IfOk result (λ r. MatchOption r (HaveNoStatements (K.seen keeper.old).kept worlds.now tuples.now) (λ stmts. AreStated (K.seen keeper.old).kept worlds.now tuples.now stmts.items)) }
     ensures read { IsRead (K.seen keeper.old) (K.seen keeper.new) result TabError.Fault }
 {
     match said_statements(alloc, keeper, worlds, tuples) {
@@ -74,7 +76,7 @@ fn said_statements<K: Keeper>(
 ) -> Result<Option<Vec<Stmt>>, TabError>
     requires worlds { ascending number_cmp worlds.now ≡ true }
     requires tuples { ascending number_cmp tuples.now ≡ true }
-    ensures statements { IfOk result (λ r. MatchOption r (AreMisplaced (K.seen keeper.old).kept worlds.now tuples.now) (λ stmts. AreSaid (K.seen keeper.old).kept worlds.now tuples.now stmts.items)) }
+    ensures statements { IfOk result (λ r. MatchOption r (HaveNoStatements (K.seen keeper.old).kept worlds.now tuples.now) (λ stmts. AreSaid (K.seen keeper.old).kept worlds.now tuples.now stmts.items)) }
     ensures read { IsRead (K.seen keeper.old) (K.seen keeper.new) result TabError.Fault }
 {
     let mut stmts = Vec::new(alloc);
@@ -83,7 +85,11 @@ fn said_statements<K: Keeper>(
     for _ in 0..u64::MAX {
         match next_raw::<ValTab, K>(alloc, keeper, &mut low, &mut room) {
             Ok(Some(Some(row))) => match push_said(alloc, worlds, tuples, &row, &mut stmts) {
-                Ok(true) => {}
+                Ok(true) => {
+                    if are_too_many(&stmts) {
+                        return Ok(None);
+                    }
+                }
                 Ok(false) => return Ok(None),
                 Err(_) => {
                     keeper.undo();

@@ -6,9 +6,9 @@ ghost use Rattle.bdb_base.specs.Bases.{AreStatements, tuple_count, world_count};
 ghost use Rattle.bdb_base.specs.Limits.{most_tuples, most_worlds};
 ghost use Rattle.bdb_decode.specs.Statements.{are_apart, are_consistent, are_few, below_next, below_plus, climbs, group_cmp, is_plus, place_cmp, plus_climb};
 
-use crate::fitting::all_belong;
 use bdb_base::limits::{MOST_STATEMENTS, MOST_TUPLES, MOST_WORLDS};
 use bdb_base::{Catalog, Sign, Stmt, Tuple, Value, cmp_path, cmp_row, cmp_tuple, distinct_tuples};
+use bdb_entries::all_belong;
 use bdb_paths::states_of;
 use std::alloc::{AllocError, Global};
 use std::cmp::Ordering;

@@ -1,5 +1,5 @@
+use Rattle.bdb_entries.proofs.TupleLemmas.{holding}
 use Rattle.bdb_decode.proofs.JudgeLemmas.{formed_now}
-use Rattle.bdb_decode.proofs.TupleLemmas.{holding}
 use Rattle.bdb_decode.proofs.judging.are_formed.Goals as goal
 
 pub returns-in-Ok-clause-formed : goal.returns-in-Ok-clause-formed

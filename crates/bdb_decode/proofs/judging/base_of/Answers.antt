@@ -1,7 +1,7 @@
 use Rattle.std.proofs.Common.{sym, subst}
 use Rattle.bdb_tables.specs.Grammar.{InGrammar}
+use Rattle.bdb_entries.proofs.ReadLemmas.{none_told, some_told}
 use Rattle.bdb_decode.proofs.BaseLemmas.{base_stored, made_valid, none_held, none_stated, rows_keyed, tuples_up, worlds_up}
-use Rattle.bdb_decode.proofs.ReadLemmas.{none_told, some_told}
 use Rattle.bdb_decode.proofs.judging.base_of.Goals as goal
 
 pub raw_base_statements-requires-clause-worlds : goal.raw_base_statements-requires-clause-worlds

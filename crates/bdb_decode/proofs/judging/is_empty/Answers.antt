@@ -1,7 +1,7 @@
 use Rattle.std.proofs.Common.{sym, subst, arith}
-use Rattle.bdb_decode.specs.Reading.{IsBare}
+use Rattle.bdb_entries.specs.Reading.{IsBare}
+use Rattle.bdb_entries.proofs.ReadLemmas.{past}
 use Rattle.bdb_decode.proofs.JudgeLemmas.{all_empty, empty_bare}
-use Rattle.bdb_decode.proofs.ReadLemmas.{past}
 use Rattle.bdb_decode.proofs.judging.is_empty.Goals as goal
 
 pub returns-in-Ok-false-clause-empty : goal.returns-in-Ok-false-clause-empty

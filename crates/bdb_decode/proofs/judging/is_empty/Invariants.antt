@@ -1,6 +1,6 @@
 use Rattle.std.proofs.Common.{ℕ, ◌≤◌, ◌<◌}
 use Rattle.bdb_tables.proofs.Loops.{IsReading}
-use Rattle.bdb_decode.specs.Reading.{IsBare}
+use Rattle.bdb_entries.specs.Reading.{IsBare}
 use Rattle.bdb_decode.proofs.judging.is_empty.Given as goal
 
 abbrev pub invariant-loop-tab : goal.invariant-loop-tab

@@ -1,8 +1,8 @@
 use Rattle.std.proofs.Common.{subst}
-use Rattle.bdb_decode.specs.Format.{IsFormatDamaged, TellsFormat}
-use Rattle.bdb_decode.specs.Reading.{IsBare}
+use Rattle.bdb_entries.specs.Format.{IsFormatDamaged, TellsFormat}
+use Rattle.bdb_entries.specs.Reading.{IsBare}
+use Rattle.bdb_entries.proofs.ReadLemmas.{past}
 use Rattle.bdb_decode.proofs.JudgeLemmas.{bare_damaged, format_damaged}
-use Rattle.bdb_decode.proofs.ReadLemmas.{past}
 use Rattle.bdb_decode.proofs.judging.judge.Goals as goal
 
 pub returns-in-Ok-Bare-clause-verdict : goal.returns-in-Ok-Bare-clause-verdict

@@ -1,7 +1,7 @@
 use Rattle.std.proofs.Common.{◌≡◌, subst, rules}
-use Rattle.bdb_decode.specs.Format.{HasFormat}
+use Rattle.bdb_entries.specs.Format.{HasFormat}
+use Rattle.bdb_entries.proofs.ReadLemmas.{none_told}
 use Rattle.bdb_decode.proofs.JudgeLemmas.{base_damaged, other_format}
-use Rattle.bdb_decode.proofs.ReadLemmas.{none_told}
 use Rattle.bdb_decode.proofs.judging.judge_format.Goals as goal
 
 pub returns-then-number-ne-FORMAT-clause-verdict : goal.returns-then-number-ne-FORMAT-clause-verdict

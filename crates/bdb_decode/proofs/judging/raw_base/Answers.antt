@@ -1,9 +1,9 @@
 use Rattle.std.proofs.Common.{MatchOption, sym, subst, ◌∙◌}
 use Rattle.bdb_catalog.specs.Bases.{StoresValid}
 use Rattle.bdb_tables.specs.Grammar.{InGrammar}
+use Rattle.bdb_entries.proofs.ReadLemmas.{none_told, past, some_told}
+use Rattle.bdb_entries.proofs.TupleLemmas.{holding}
 use Rattle.bdb_decode.specs.Parts.{AreFormed, AreParts, StoreNone}
-use Rattle.bdb_decode.proofs.ReadLemmas.{none_told, past, some_told}
-use Rattle.bdb_decode.proofs.TupleLemmas.{holding}
 use Rattle.bdb_decode.proofs.judging.raw_base.Goals as goal
 
 pub raw_parts-requires : goal.raw_parts-requires

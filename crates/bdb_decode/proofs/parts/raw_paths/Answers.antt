@@ -1,8 +1,8 @@
 use Rattle.std.proofs.Common.{sym, subst}
 use Rattle.bdb_base.specs.Bases.{is_user}
 use Rattle.bdb_tables.specs.Grammar.{InGrammar}
+use Rattle.bdb_entries.proofs.ReadLemmas.{none_told, some_told}
 use Rattle.bdb_decode.proofs.PartLemmas.{no_paths, paths_known, paths_none, worlds_now}
-use Rattle.bdb_decode.proofs.ReadLemmas.{none_told, some_told}
 use Rattle.bdb_decode.proofs.parts.raw_paths.Goals as goal
 
 pub are_states_held-requires-clause-grammar : goal.are_states_held-requires-clause-grammar

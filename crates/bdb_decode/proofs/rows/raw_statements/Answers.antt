@@ -1,4 +1,4 @@
-use Rattle.bdb_decode.proofs.ReadLemmas.{some_told}
+use Rattle.bdb_entries.proofs.ReadLemmas.{some_told}
 use Rattle.bdb_decode.proofs.rows.raw_statements.Goals as goal
 
 pub returns-in-Ok-clause-statements : goal.returns-in-Ok-clause-statements

@@ -1,5 +1,5 @@
-use Rattle.bdb_decode.proofs.ReadLemmas.{past}
-use Rattle.bdb_decode.proofs.TupleLemmas.{holding}
+use Rattle.bdb_entries.proofs.ReadLemmas.{past}
+use Rattle.bdb_entries.proofs.TupleLemmas.{holding}
 use Rattle.bdb_decode.proofs.WholeLemmas.{tells_whole}
 use Rattle.bdb_decode.proofs.whole.are_whole.Goals as goal
 

@@ -1,7 +1,7 @@
 use Rattle.std.proofs.Common.{inl, inr, subst, sym}
+use Rattle.bdb_entries.proofs.ReadLemmas.{none_told, past, some_told}
+use Rattle.bdb_entries.proofs.TupleLemmas.{holding}
 use Rattle.bdb_decode.specs.Whole.{AreWhole}
-use Rattle.bdb_decode.proofs.ReadLemmas.{none_told, past, some_told}
-use Rattle.bdb_decode.proofs.TupleLemmas.{holding}
 use Rattle.bdb_decode.proofs.whole.raw_base_statements.Goals as goal
 
 pub returns-in-Ok-true-clause-statements : goal.returns-in-Ok-true-clause-statements

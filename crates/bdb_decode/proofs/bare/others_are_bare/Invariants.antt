@@ -1,7 +1,0 @@
-use Rattle.std.proofs.Common.{ℕ, ◌≤◌, ◌<◌}
-use Rattle.bdb_tables.proofs.Loops.{IsReading}
-use Rattle.bdb_decode.specs.Reading.{IsBare}
-use Rattle.bdb_decode.proofs.bare.others_are_bare.Given as goal
-
-abbrev pub invariant-loop-tab : goal.invariant-loop-tab
-invariant-loop-tab g l = IsReading (g.K.Keeper.seen l.fn.keeper) (g.K.Keeper.seen l.keeper) ((n : ℕ) → 12 ≤ n → n < l.tab → IsBare (g.K.Keeper.seen l.fn.keeper).kept n)

@@ -1,6 +1,0 @@
-use Rattle.std.proofs.Common.{take}
-use Rattle.bdb_decode.specs.States.{ArePathsOf}
-use Rattle.bdb_decode.proofs.finding.paths_of.Given as goal
-
-abbrev pub invariant-loop-world : goal.invariant-loop-world
-invariant-loop-world l = ArePathsOf (take l.world-index l.worlds) l.paths

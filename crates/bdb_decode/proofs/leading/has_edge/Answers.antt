@@ -1,4 +1,0 @@
-use Rattle.bdb_decode.proofs.leading.has_edge.Goals as goal
-
-pub get-requires-clause-grammar : goal.get-requires-clause-grammar
-get-requires-clause-grammar g c = c.requires.grammar 9

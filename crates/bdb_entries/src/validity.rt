@@ -1,0 +1,171 @@
+// Whether users and relations are those of a valid base.
+ghost use Rattle.std.specs.Prelude.{◌≡◌, ◌&&◌, ℕ, nat_le, nat_lt, not, List, length, map};
+ghost use Rattle.std.specs.List.{list_all, list_any};
+ghost use Rattle.bdb_base.specs.Bases.{are_distinct, is_plain, is_valid_relation, users_name};
+ghost use Rattle.bdb_base.specs.Limits.{most_columns};
+ghost use Rattle.bdb_base.specs.Same.{same_text};
+ghost use Rattle.bdb_entries.specs.Catalog.{are_relations, are_users, is_catalog, names_differ};
+
+use bdb_base::limits::{LONGEST_TEXT, MOST_COLUMNS, MOST_RELATIONS, MOST_USERS};
+use bdb_base::{Catalog, ColDef, RelDef, Txt};
+
+/// Whether users and relations are those of a valid base.
+pub fn is_catalog(catalog: &Catalog) -> bool
+    ensures { result ≡ is_catalog catalog.now }
+{
+    are_users(catalog.users.as_slice()) && are_relations(catalog.rels.as_slice())
+}
+
+// Whether names are those of users: not too many, plain, and no two alike.
+fn are_users(users: &[Txt]) -> bool
+    ensures { result ≡ are_users users.now }
+{
+    users.len() <= MOST_USERS && are_names(users)
+}
+
+// Whether relations are those of a base: not too many, valid, and no two of one name.
+fn are_relations(rels: &[RelDef]) -> bool
+    ensures { result ≡ are_relations rels.now }
+{
+    rels.len() <= MOST_RELATIONS && are_valid_relations(rels)
+}
+
+// Whether relations are valid, and no two of one name.
+fn are_valid_relations(rels: &[RelDef]) -> bool
+    ensures { result ≡ (are_distinct (map (λ r. r.name) rels.now) && list_all is_valid_relation rels.now) }
+{
+    differ(rels) && all_valid(rels)
+}
+
+// Whether each relation is valid.
+fn all_valid(rels: &[RelDef]) -> bool
+    ensures { result ≡ list_all is_valid_relation rels.now }
+{
+    rels.iter().all(is_valid_relation)
+}
+
+// Whether a relation is valid: with columns, not too many, whose names differ, and plain names, its own not `Users`.
+fn is_valid_relation(def: &RelDef) -> bool
+    ensures { result ≡ is_valid_relation def.now }
+{
+    has_columns(def.cols.as_slice())
+        && (are_names(def.cols.as_slice()) && is_relation_name(&def.name))
+}
+
+// Whether there are columns, and not too many.
+fn has_columns(cols: &[ColDef]) -> bool
+    ensures { result ≡ (nat_lt 0 (length cols.now) && nat_le (length cols.now) most_columns) }
+{
+    0 < cols.len() && cols.len() <= MOST_COLUMNS
+}
+
+// Whether a name is one that a relation may have.
+fn is_relation_name(name: &Txt) -> bool
+    ensures { result ≡ (is_plain name.now && not (same_text name.now users_name)) }
+{
+    is_plain(name) && !is_users_name(name)
+}
+
+// Whether a name is that of the item that lists the users in a query.
+fn is_users_name(name: &Txt) -> bool
+    ensures { result ≡ same_text name.now users_name }
+{
+    name.as_str() == "Users"
+}
+
+// What has a name.
+trait Named {
+    // the bytes of the name
+    ghost name_of: { Self → List ℕ };
+
+    fn name(&self) -> &Txt
+        ensures { result.now ≡ name_of self.now };
+}
+
+impl Named for Txt {
+    ghost name_of = { λ t. t };
+
+    fn name(&self) -> &Txt {
+        self
+    }
+}
+
+impl Named for ColDef {
+    ghost name_of = { λ c. c.name };
+
+    fn name(&self) -> &Txt {
+        &self.name
+    }
+}
+
+impl Named for RelDef {
+    ghost name_of = { λ r. r.name };
+
+    fn name(&self) -> &Txt {
+        &self.name
+    }
+}
+
+// Whether names are plain, and no two alike.
+fn are_names<X: Named>(items: &[X]) -> bool
+    ensures { result ≡ (are_distinct (map X.name_of items.now) && list_all (λ x. is_plain (X.name_of x)) items.now) }
+{
+    differ(items) && all_plain(items)
+}
+
+// Whether each name is plain.
+fn all_plain<X: Named>(items: &[X]) -> bool
+    ensures { result ≡ list_all (λ x. is_plain (X.name_of x)) items.now }
+{
+    items.iter().all(|item| is_plain(item.name()))
+}
+
+// Whether no two names are alike.
+#[tactic(auto, using(crate::proofs::CatalogLemmas::differ_are_distinct))]
+fn differ<X: Named>(items: &[X]) -> bool
+    ensures { result ≡ are_distinct (map X.name_of items.now) }
+{
+    names_differ(items)
+}
+
+// Whether no name is that of a later one.
+fn names_differ<X: Named>(items: &[X]) -> bool
+    ensures { result ≡ names_differ X.name_of items.now }
+{
+    let mut rest = items;
+    while let [first, others @ ..] = rest {
+        if has_name(others, first.name()) {
+            return false;
+        }
+        rest = others;
+    }
+    true
+}
+
+// Whether one of these has a name.
+fn has_name<X: Named>(items: &[X], name: &Txt) -> bool
+    ensures { result ≡ list_any (λ x. same_text name.now (X.name_of x)) items.now }
+{
+    items.iter().any(|item| is_same(name, item.name()))
+}
+
+// Whether two names are the same.
+fn is_same(a: &Txt, b: &Txt) -> bool
+    ensures { result ≡ same_text a.now b.now }
+{
+    a.as_bytes() == b.as_bytes()
+}
+
+/// Whether a text is plain: not too long, and without a character below U+0020.
+pub fn is_plain(text: &Txt) -> bool
+    ensures { result ≡ is_plain text.now }
+{
+    text.len() <= LONGEST_TEXT && are_printable(text.as_str().as_bytes())
+}
+
+// Whether no byte is one of a character below U+0020.
+fn are_printable(bytes: &[u8]) -> bool
+    ensures { result ≡ list_all (λ c. nat_le 32 c) bytes.now }
+{
+    bytes.iter().all(|byte| 32 <= *byte)
+}

@@ -1,0 +1,12 @@
+pub mod EdgeLemmas
+pub mod FindingLemmas
+pub mod HeldLemmas
+pub mod LeadingLemmas
+pub mod LinkLemmas
+pub mod NamingLemmas
+pub mod NumberLemmas
+pub mod PassLemmas
+pub mod StatesLemmas
+pub mod TurningLemmas
+pub mod UpLemmas
+pub mod WorldLemmas

@@ -1,0 +1,31 @@
+use Rattle.std.proofs.Common.{sym, subst}
+use Rattle.bdb_tables.specs.Grammar.{InGrammar}
+use Rattle.bdb_tables.specs.declared.tab.TabError.TheVariants.{Fault}
+use Rattle.bdb_tables.proofs.Loops.{reading_more}
+use Rattle.bdb_graph.proofs.FindingLemmas.{world_at}
+use Rattle.bdb_graph.proofs.LinkLemmas.{linked_more, not_linked}
+use Rattle.bdb_graph.proofs.links.each_has_link.Goals as goal
+
+pub has_link-requires-clause-grammar : goal.has_link-requires-clause-grammar
+has_link-requires-clause-grammar g c = subst InGrammar (sym c.loop-world.invariant.kept) c.requires.grammar
+
+pub has_link-requires-clause-world : goal.has_link-requires-clause-world
+has_link-requires-clause-world g c =
+    let h = c.requires.worlds in
+    world_at c.args.worlds.now c.loop-world.world-index c.world-item.result h.sorted c.loop-world-test.true c.world-item.is
+
+pub loop-world-preserved : goal.loop-world-preserved
+loop-world-preserved g c =
+    let old = g.K.Keeper.seen c.args.keeper.now in
+    let now = g.K.Keeper.seen c.loop-world.keeper in
+    let new = g.K.Keeper.seen c.has_link.new.keeper in
+    let h = c.loop-world.invariant in
+    let w = c.in-Ok-true in
+    reading_more old now new w.field-0 Fault h w.ensures.read
+    (linked_more old.kept now.kept c.args.worlds.now c.loop-world.world-index c.world-item.result w.field-0 c.loop-world-test.true c.world-item.is h.kept w.field-0-test w.ensures.link h.read)
+
+pub returns-in-Ok-false-clause-links : goal.returns-in-Ok-false-clause-links
+returns-in-Ok-false-clause-links g c =
+    let w = c.in-Ok-false in
+    not_linked (g.K.Keeper.seen c.args.keeper.now).kept (g.K.Keeper.seen c.loop-world.keeper).kept c.args.worlds.now c.loop-world.world-index c.world-item.result w.field-0 c.loop-world-test.true c.world-item.is c.loop-world.invariant.kept
+    w.field-0-test w.ensures.link

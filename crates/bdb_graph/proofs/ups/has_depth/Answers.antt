@@ -1,0 +1,4 @@
+use Rattle.bdb_graph.proofs.ups.has_depth.Goals as goal
+
+pub get-requires-clause-grammar : goal.get-requires-clause-grammar
+get-requires-clause-grammar g c = c.requires.grammar 6

@@ -1,0 +1,6 @@
+pub mod Laws
+pub mod Leading
+pub mod Naming
+pub mod States
+pub mod Turning
+pub mod Ups
