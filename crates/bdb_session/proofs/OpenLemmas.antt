@@ -1,5 +1,5 @@
 -- What opening finds in tables that stand for a base.
-use Rattle.std.proofs.Common.{◌≡◌, ◌∙◌, ℕ, suc, Bool, false, List, [], Some, None, Result, Ok, Err, IfOk, OnOk, refl, ap, sym, subst, arith}
+use Rattle.std.proofs.Common.{◌≡◌, ◌∙◌, ℕ, suc, Bool, false, List, [], Some, None, Result, Ok, Err, IfOk, OnOk, refl, ap, sym, subst, inr, arith}
 use Rattle.std.specs.Prelude.{nat_eq, if◌then◌else◌}
 use Rattle.std.specs.FinMap as tables
 use Rattle.std.specs.FinMap.{get-empty, len-empty, empty_of_len}
@@ -10,7 +10,7 @@ use Rattle.bdb_base.specs.Causes.{Rises}
 use Rattle.bdb_base.specs.declared.kinds.RelDef.{RelDef}
 use Rattle.bdb_canon.specs.declared.sizes.Counts.{Counts}
 use Rattle.bdb_catalog.specs.Bases.{StoresValid, StoresSome}
-use Rattle.bdb_catalog.specs.Opening.{StandForSome, HaveNoRow, HaveFormat, IsPartOf}
+use Rattle.bdb_catalog.specs.Opening.{StandFor, StandForSome, HaveNoRow, HaveFormat, IsPartOf}
 use Rattle.bdb_keep.specs.Tables.{Tables, bytes_cmp}
 use Rattle.bdb_stored.specs.Counting.{TellsCounts}
 use Rattle.bdb_stored.specs.Valid as stored
@@ -95,6 +95,14 @@ opening_stored t h = by (tables.len t) refl
 
     by : (n : ℕ) → tables.len t ≡ n → opening_of n ≡ 0
     by zero e = absurd (let both : None ≡ Some (meta_codec.row_bytes 2) = sym (none_in (empty_of_len t e)) ∙ found in cc)
+    by (suc n) e = let some : nat_eq (suc n) 0 ≡ false = grind (arith, nat_tests) in ap opening_by some
+
+-- tables that stand for no base have rows, so opening them commits nothing
+pub opening_refused : (t : Tables) → ((b : Contents) → StandFor t b → ⊥) → opening t ≡ 0
+opening_refused t none = by (tables.len t) refl
+  where
+    by : (n : ℕ) → tables.len t ≡ n → opening_of n ≡ 0
+    by zero e = absurd (none empty_contents (inr (empty_of_len t e, refl)))
     by (suc n) e = let some : nat_eq (suc n) 0 ≡ false = grind (arith, nat_tests) in ap opening_by some
 
 pub on_ok : {T : Type 0} (P : Type 0) (r : Result T StopError) → P → OnOk r P

@@ -55,15 +55,16 @@ said_accepted c o mid new (Err stop) e said = tt
 
 -- a delete
 pub delete_writes : (k : Known) (before : Counts) (w : List ℕ) (sign : Sign) (rel : ℕ) (conds : List Cond) (gone : List Stmt) (old read mid new : Seen) (c : Catalog) (o : Outcome)
-    (result : Result Reply StopError) → fits_path k.catalog.users deepest_statement w ≡ true → AreTaken old.kept w sign rel conds gone → read.kept ≡ old.kept → read.writes ≡ old.writes
-    → WritesForOne gone read mid (Ok tt) → GoesThrough before gone read mid → IsSaid c o mid new result → WritesAsTold (Delete w sign rel conds) (sized k before) old new result
-delete_writes k before w sign rel conds gone old read mid new c o result fits taken kept writes one through said = λ s a.
+    (result : Result Reply StopError) → is_accepted o ≡ true → fits_path k.catalog.users deepest_statement w ≡ true → AreTaken old.kept w sign rel conds gone → read.kept ≡ old.kept
+    → read.writes ≡ old.writes → WritesForOne gone read mid (Ok tt) → GoesThrough before gone read mid → IsSaid c o mid new result → WritesAsTold (Delete w sign rel conds) (sized k before) old new result
+delete_writes k before w sign rel conds gone old read mid new c o result done fits taken kept writes one through said = λ s a.
     let is = gone_is k before old.kept read.kept w sign rel conds gone fits taken kept s a in
     let goes = through s.base (may_go k before old.kept read.kept w sign rel conds gone fits taken kept s a) in
     record {
       one = one_delete_writes k before w sign rel conds gone old read mid new c o result fits taken kept writes one said s a;
       steps = said_through (steps_without s.base (taken_by w sign rel conds s.base.stmts)) c o old read mid new result kept writes
           (subst (λ (xs : List Stmt). WritesThrough read (steps_without s.base xs) mid) is goes) said;
+      accepted = said_accepted c o mid new result done said;
     }
 
 -- an update that is accepted, one that is refused, and one that stops
@@ -125,6 +126,14 @@ module _ (counts : Counts) (r : Reply) (before now : Known) (old run mid new : S
   done_through es done h result e =
       kept_through es h result (MatchBool-at_true (IsKept counts r before now mid new result) (IsUndone r before now mid new result) done e)
 
+  kept_accepted : r.accepted ≡ true → (result : Result Reply StopError) → IsKept counts r before now mid new result → IfOk result (λ q. q.accepted ≡ true)
+  kept_accepted done (Ok q) k = ap (λ (x : Reply). x.accepted) k.reply ∙ done
+  kept_accepted done (Err stop) k = tt
+
+  done_accepted : r.accepted ≡ true → (result : Result Reply StopError) → Settles counts r before now mid new result → IfOk result (λ q. q.accepted ≡ true)
+  done_accepted done result e =
+      kept_accepted done result (MatchBool-at_true (IsKept counts r before now mid new result) (IsUndone r before now mid new result) done e)
+
   kept_updates : (b : Contents) (gone : List Stmt) (sets : List SetCol) → r.accepted ≡ true → WritesThrough run (steps_of b gone (map (changed_statement sets) gone)) mid
       → (result : Result Reply StopError) → IsKept counts r before now mid new result → UpdatesThrough b gone sets old new result
   kept_updates b gone sets done h (Ok q) k = record {
@@ -159,6 +168,7 @@ module _ (start counts : Counts) (r : Reply) (before now : Known) (old run mid n
       record {
         one = λ single. settled_writes (length w + 2) 8 counts r before now old run mid new began (h.one single) (λ f. absurd (false≢true (sym f ∙ done))) result e;
         steps = done_through counts r before now old run mid new began (steps_without s.base (taken_by w sign rel conds s.base.stmts)) done h.steps result e;
+        accepted = done_accepted counts r before now old run mid new began done result e;
       }
 
   pub update_settles : (w : List ℕ) (sign : Sign) (rel : ℕ) (sets : List SetCol) (conds : List Cond) → WritesAsTold (Update w sign rel sets conds) (sized before start) run mid (Ok r)

@@ -16,22 +16,26 @@ use Rattle.bdb_catalog.specs.Taking.{AreTaken}
 use Rattle.bdb_keep.specs.Calls.{IsBegin}
 use Rattle.bdb_keep.specs.Seen.{Seen}
 use Rattle.bdb_keep.specs.Tables.{Tables}
+use Rattle.bdb_render.specs.declared.refusal.Refusal.TheVariants as refusal
 use Rattle.bdb_tables.specs.Differences.{AreDifferences}
 use Rattle.bdb_update.specs.Bounds.{WritesWithin}
 use Rattle.bdb_update.specs.Calls.{Adds}
 use Rattle.bdb_update.specs.Replacing.{WritesForOne}
+use Rattle.bdb_update.specs.declared.answer.Added.TheVariants.{New, Already}
 use Rattle.bdb_update.specs.declared.answer.UpdateError.{UpdateError}
 use Rattle.bdb_update.specs.declared.answer.UpdateError.TheVariants as change
 use Rattle.bdb_worlds.specs.Bounds.{RisesWithin}
-use Rattle.bdb_session.specs.Bounds.{InsertsWithin, RefusedUnwritten}
+use Rattle.bdb_session.specs.Bounds.{InsertsWithin, RefusedUnwritten, StandsUnwritten}
 use Rattle.bdb_session.specs.declared.reply.Reply.{Reply}
 use Rattle.bdb_session.specs.declared.stop.StopError.{StopError}
 use Rattle.bdb_session.specs.declared.stop.StopError.TheVariants.{Fault, Memory}
 use Rattle.bdb_session.specs.Known.{Known, Agrees, AgreesOnSome}
-use Rattle.bdb_session.specs.Outcome.{State, Outcome, is_accepted}
+use Rattle.bdb_session.specs.Machine.{clash_with}
+use Rattle.bdb_session.specs.Outcome.{State, Outcome, Refused, is_accepted}
 use Rattle.bdb_session.specs.Within.{IsSaid, IsStopped, Refuses, IsKept, IsUndone, Settles, sized}
 use Rattle.bdb_session.proofs.DeleteLemmas.{gone_is}
 use Rattle.bdb_session.proofs.InsertLemmas.{insert_meets}
+use Rattle.bdb_session.proofs.ServedLemmas.{still_agrees}
 use Rattle.bdb_session.proofs.TakenLemmas.{all_taken, only_one, taken_at}
 
 -- ---- what is written
@@ -85,6 +89,29 @@ module _ (k : Known) (x : Stmt) (before after : Counts) (old mid new : Seen) (re
   insert_err_writes change.Fault adds said = stopped_writes (length x.path + 2) 8 Fault old mid new result said
   insert_err_writes change.Memory adds said = stopped_writes (length x.path + 2) 8 Memory old mid new result said
 
+-- a statement that stood already is not new, and is added without a write; nor is one where it is refused
+said_same : (c : Catalog) (o : Outcome) (old mid new : Seen) (result : Result Reply StopError) → mid.writes ≡ old.writes → IsSaid c o mid new result → OnOk result (new.writes ≡ old.writes)
+said_same c o old mid new (Ok r) e said = ap (λ (x : Seen). x.writes) said.alone ∙ e
+said_same c o old mid new (Err stop) e said = tt
+
+stopped_same : (stop : StopError) (old mid new : Seen) (result : Result Reply StopError) → IsStopped stop mid new result → OnOk result (new.writes ≡ old.writes)
+stopped_same stop old mid new result said = subst (λ (r : Result Reply StopError). OnOk r (new.writes ≡ old.writes)) (sym said.error) tt
+
+module _ (k : Known) (x : Stmt) (before after : Counts) (old mid new : Seen) (result : Result Reply StopError) (fits : belongs k.catalog x ≡ true) where
+  pub new_unstood : Adds old mid before after x (Ok New) → StandsUnwritten x (sized k before) old new result
+  new_unstood adds = λ s a there. absurd (false≢true (sym (adds s.base (insert_meets k x before after old mid fits s a)).fresh ∙ there))
+
+  pub already_unwritten : (o : Outcome) → Adds old mid before after x (Ok Already) → IsSaid k.catalog o mid new result → StandsUnwritten x (sized k before) old new result
+  already_unwritten o adds said = λ s a there. said_same k.catalog o old mid new result (adds s.base (insert_meets k x before after old mid fits s a)).untouched.writes said
+
+  pub err_unwritten : (e : UpdateError) → Adds old mid before after x (Err e) → Refuses k.catalog e mid new result → StandsUnwritten x (sized k before) old new result
+  err_unwritten (change.Clash least) adds said = λ s a there.
+      said_same k.catalog (Refused (clash_with least)) old mid new result (adds s.base (insert_meets k x before after old mid fits s a)).untouched.writes said
+  err_unwritten (change.Full what) adds said = λ s a there.
+      said_same k.catalog (Refused (refusal.Full what)) old mid new result (adds s.base (insert_meets k x before after old mid fits s a)).untouched.writes said
+  err_unwritten change.Fault adds said = λ s a there. stopped_same Fault old mid new result said
+  err_unwritten change.Memory adds said = λ s a there. stopped_same Memory old mid new result said
+
 -- a delete of one statement
 pub one_delete_writes : (k : Known) (before : Counts) (w : List ℕ) (sign : Sign) (rel : ℕ) (conds : List Cond) (gone : List Stmt) (old read mid new : Seen) (c : Catalog) (o : Outcome)
     (result : Result Reply StopError) → fits_path k.catalog.users deepest_statement w ≡ true → AreTaken old.kept w sign rel conds gone → read.kept ≡ old.kept → read.writes ≡ old.writes
@@ -126,9 +153,25 @@ module _ (times more : ℕ) (counts : Counts) (r : Reply) (before now : Known) (
         subst (λ (x : Result Reply StopError). RefusedUnwritten old new x) (sym k.reply) (λ _. k.undo.writes ∙ refused undone ∙ began.writes)
   ]
 
-  -- an insert
-  pub insert_settles : (w : List ℕ) → times ≡ length w + 2 → more ≡ 8 → (result : Result Reply StopError) → Settles counts r before now mid new result → InsertsWithin w old new result
-  insert_settles w t m result h = record {
+  kept_same : mid.writes ≡ run.writes → (result : Result Reply StopError) → IsKept counts r before now mid new result → OnOk result (new.writes ≡ old.writes)
+  kept_same e (Ok q) k = k.commit.writes ∙ e ∙ began.writes
+  kept_same e (Err stop) k = tt
+
+  settled_same : mid.writes ≡ run.writes → (result : Result Reply StopError) → Settles counts r before now mid new result → OnOk result (new.writes ≡ old.writes)
+  settled_same e result h = elim (cases_Bool r.accepted) [
+    | inl done ↦ kept_same e result (MatchBool-at_true (IsKept counts r before now mid new result) (IsUndone r before now mid new result) done h)
+    | inr undone ↦
+        let k = MatchBool-at_false (IsKept counts r before now mid new result) (IsUndone r before now mid new result) undone h in
+        subst (λ (x : Result Reply StopError). OnOk x (new.writes ≡ old.writes)) (sym k.reply) (k.undo.writes ∙ e ∙ began.writes)
+  ]
+
+  -- an insert, after whose begin the session still knows the sizes
+  pub insert_settles : (x : Stmt) → times ≡ length x.path + 2 → more ≡ 8 → (start : Counts) → start ≡ before.counts → StandsUnwritten x (sized before start) run mid (Ok r)
+      → (result : Result Reply StopError) → Settles counts r before now mid new result → InsertsWithin x before old new result
+  insert_settles x t m start same already result h = record {
     within = subst (λ n. OnOk result (WritesWithin n 8 old new)) t (subst (λ n. OnOk result (WritesWithin times n old new)) m (settled_writes result h));
     refused = settled_unwritten result h;
+    already = λ s a there.
+        let begun : Agrees run.kept (sized before start) s = subst (λ (n : Counts). Agrees run.kept (sized before n) s) (sym same) (still_agrees old.kept run.kept before s began.kept a) in
+        settled_same (already s begun there) result h;
   }

@@ -4,6 +4,7 @@ ghost use Rattle.bdb_base.specs.Bases.{with_user, with_relation};
 ghost use Rattle.bdb_bind.specs.Fits.{fits_catalog};
 ghost use Rattle.bdb_catalog.specs.Creating.{AddsRelation, AddsUserNamed, SomeMayAddRelation, SomeMayAddUser};
 ghost use Rattle.bdb_keep.specs.Seen.{IsStill};
+ghost use Rattle.bdb_session.specs.Bounds.{RefusedUnwritten};
 ghost use Rattle.bdb_session.specs.Committing.{IsCommitted};
 ghost use Rattle.bdb_session.specs.Known.{AgreesOnSome};
 ghost use Rattle.bdb_session.specs.Machine.{bound_outcome};
@@ -23,7 +24,7 @@ use bdb_render::{Refusal, ok_reply};
 use std::alloc::{AllocError, Global};
 
 impl Session {
-    /// Adds a user, or refuses it where there are too many.
+    /// Adds a user, or refuses it where there are too many. What is refused takes no write.
     pub(crate) fn create_user<K: Keeper>(
         &mut self,
         keeper: &mut K,
@@ -32,7 +33,8 @@ impl Session {
         requires still { IsStill (K.seen keeper.old) }
         requires agrees { AgreesOnSome (K.seen keeper.old).kept self.old }
         requires fits { fits_catalog self.old.catalog (Bound.CreateUser name) ≡ true }
-        ensures { Serves (λ s. bound_outcome s (Bound.CreateUser name)) self.old self.new (K.seen keeper.old) (K.seen keeper.new) result }
+        ensures served { Serves (λ s. bound_outcome s (Bound.CreateUser name)) self.old self.new (K.seen keeper.old) (K.seen keeper.new) result }
+        ensures unwritten { RefusedUnwritten (K.seen keeper.old) (K.seen keeper.new) result }
     {
         let users = self.catalog.users.len() + 1;
         let rels = self.catalog.rels.len();
@@ -54,7 +56,8 @@ impl Session {
         requires fits { fits_catalog self.old.catalog (Bound.CreateUser name.now) ≡ true }
         requires number { uid ≡ length self.old.catalog.users + 1 }
         requires room { limit_passed (length self.old.catalog.users + 1) (length self.old.catalog.rels) self.old.counts ≡ None }
-        ensures { Serves (λ s. bound_outcome s (Bound.CreateUser name.now)) self.old self.new (K.seen keeper.old) (K.seen keeper.new) result }
+        ensures served { Serves (λ s. bound_outcome s (Bound.CreateUser name.now)) self.old self.new (K.seen keeper.old) (K.seen keeper.new) result }
+        ensures unwritten { RefusedUnwritten (K.seen keeper.old) (K.seen keeper.new) result }
     {
         let text = match ok_reply(self.alloc) {
             Ok(text) => text,
@@ -77,7 +80,7 @@ impl Session {
         Ok(Reply::accepted(text))
     }
 
-    /// Adds a relation, or refuses it where there are too many.
+    /// Adds a relation, or refuses it where there are too many. What is refused takes no write.
     pub(crate) fn create_relation<K: Keeper>(
         &mut self,
         keeper: &mut K,
@@ -86,7 +89,8 @@ impl Session {
         requires still { IsStill (K.seen keeper.old) }
         requires agrees { AgreesOnSome (K.seen keeper.old).kept self.old }
         requires fits { fits_catalog self.old.catalog (Bound.CreateRelation def) ≡ true }
-        ensures { Serves (λ s. bound_outcome s (Bound.CreateRelation def)) self.old self.new (K.seen keeper.old) (K.seen keeper.new) result }
+        ensures served { Serves (λ s. bound_outcome s (Bound.CreateRelation def)) self.old self.new (K.seen keeper.old) (K.seen keeper.new) result }
+        ensures unwritten { RefusedUnwritten (K.seen keeper.old) (K.seen keeper.new) result }
     {
         let users = self.catalog.users.len();
         let rels = self.catalog.rels.len();
@@ -108,7 +112,8 @@ impl Session {
         requires fits { fits_catalog self.old.catalog (Bound.CreateRelation def.now) ≡ true }
         requires number { rel ≡ length self.old.catalog.rels }
         requires room { limit_passed (length self.old.catalog.users) (length self.old.catalog.rels + 1) self.old.counts ≡ None }
-        ensures { Serves (λ s. bound_outcome s (Bound.CreateRelation def.now)) self.old self.new (K.seen keeper.old) (K.seen keeper.new) result }
+        ensures served { Serves (λ s. bound_outcome s (Bound.CreateRelation def.now)) self.old self.new (K.seen keeper.old) (K.seen keeper.new) result }
+        ensures unwritten { RefusedUnwritten (K.seen keeper.old) (K.seen keeper.new) result }
     {
         let text = match ok_reply(self.alloc) {
             Ok(text) => text,

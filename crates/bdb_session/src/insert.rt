@@ -2,7 +2,7 @@
 ghost use Rattle.std.specs.Prelude.{◌≡◌, ◌+◌, true, length, OnOk};
 ghost use Rattle.bdb_bind.specs.Fits.{fits_catalog};
 ghost use Rattle.bdb_keep.specs.Seen.{IsStill};
-ghost use Rattle.bdb_session.specs.Bounds.{RefusedUnwritten, WritesAsTold};
+ghost use Rattle.bdb_session.specs.Bounds.{RefusedUnwritten, StandsUnwritten, WritesAsTold};
 ghost use Rattle.bdb_session.specs.Known.{AgreesOnSome};
 ghost use Rattle.bdb_session.specs.Machine.{bound_outcome};
 ghost use Rattle.bdb_session.specs.Served.{Serves};
@@ -22,7 +22,7 @@ use bdb_update::{Added, add_statement};
 impl Session {
     /// Lets a statement stand, or refuses it where it clashes with one of its path or the base would pass a limit. It takes no
     /// more writes, for each place at which the rows differ, than the path has users, and two; and eight more in all. What is
-    /// refused takes none.
+    /// refused takes none, and what stands already takes none.
     pub(crate) fn insert<K: Keeper>(
         &mut self,
         keeper: &mut K,
@@ -59,6 +59,7 @@ impl Session {
             (K.seen keeper.old) (K.seen keeper.new) result }
         ensures writes { OnOk result (WritesWithin (length stmt.now.path + 2) 8 (K.seen keeper.old) (K.seen keeper.new)) }
         ensures refused { RefusedUnwritten (K.seen keeper.old) (K.seen keeper.new) result }
+        ensures already { StandsUnwritten stmt.now (sized self.now counts.old) (K.seen keeper.old) (K.seen keeper.new) result }
     {
         match add_statement(self.alloc, keeper, counts, stmt) {
             Ok(Added::New) => self.tell_count(keeper, 1),

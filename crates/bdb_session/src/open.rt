@@ -27,8 +27,8 @@ use std::alloc::Global;
 
 impl Session {
     /// A session over the base that the tables stand for, whatever bytes they have. Tables with no row are given those of the empty
-    /// base, by one commit; others stay as they are. `Damaged` and `Format` come exactly as they do of `decode`; then, too, the tables
-    /// stay as they are.
+    /// base, by one commit; others stay as they are, and nothing is written to them, whatever is answered. `Damaged` and `Format` come
+    /// exactly as they do of `decode`; then, too, the tables stay as they are, and as they have rows nothing is written.
     pub fn open<K: Keeper>(alloc: Global, keeper: &mut K) -> Result<Self, OpenError>
         requires stopped { (K.seen keeper.old).running ≡ false }
         ensures rest { IsAtRest (K.seen keeper.old) }
@@ -39,6 +39,7 @@ impl Session {
         ensures agrees { IfOk result (λ session. AgreesOnSome (K.seen keeper.new).kept session) }
         ensures commits { OnOk result (Rises (opening (K.seen keeper.old).kept) (K.seen keeper.old).commits (K.seen keeper.new).commits) }
         ensures unchanged { OnOk result (opening (K.seen keeper.old).kept ≡ 0 → Unchanged (K.seen keeper.old) (K.seen keeper.new)) }
+        ensures unwritten { opening (K.seen keeper.old).kept ≡ 0 → (K.seen keeper.new).writes ≡ (K.seen keeper.old).writes }
         ensures still { IsStill (K.seen keeper.new) }
         ensures never_fall { NeverFall (K.seen keeper.old) (K.seen keeper.new) }
         ensures cause { HasCause (K.seen keeper.old).faults (K.seen keeper.new).faults result OpenError.Fault }
@@ -64,6 +65,7 @@ fn open_held<K: Keeper>(alloc: Global, keeper: &mut K) -> Result<Session, StopEr
     ensures agrees { IfOk result (λ session. AgreesOnSome (K.seen keeper.new).kept session) }
     ensures commits { OnOk result (Rises (opening (K.seen keeper.old).kept) (K.seen keeper.old).commits (K.seen keeper.new).commits) }
     ensures unchanged { OnOk result (opening (K.seen keeper.old).kept ≡ 0 → Unchanged (K.seen keeper.old) (K.seen keeper.new)) }
+    ensures unwritten { opening (K.seen keeper.old).kept ≡ 0 → (K.seen keeper.new).writes ≡ (K.seen keeper.old).writes }
     ensures still { IsStill (K.seen keeper.new) }
     ensures never_fall { NeverFall (K.seen keeper.old) (K.seen keeper.new) }
     ensures cause { HasCause (K.seen keeper.old).faults (K.seen keeper.new).faults result StopError.Fault }
@@ -82,6 +84,7 @@ fn read_session<K: Keeper>(alloc: Global, keeper: &mut K) -> Result<Session, Sto
     requires base { StoresSome (K.seen keeper.old).kept }
     ensures knows { IfOk result (λ session. KnowsStored (K.seen keeper.old).kept session) }
     ensures unchanged { Unchanged (K.seen keeper.old) (K.seen keeper.new) }
+    ensures unwritten { (K.seen keeper.new).writes ≡ (K.seen keeper.old).writes }
     ensures still { IsStill (K.seen keeper.new) }
     ensures never_fall { NeverFall (K.seen keeper.old) (K.seen keeper.new) }
     ensures cause { HasCause (K.seen keeper.old).faults (K.seen keeper.new).faults result StopError.Fault }

@@ -1,5 +1,5 @@
 // The session: what it knows of the stored base, and the commands that it carries out.
-ghost use Rattle.std.specs.Prelude.{◌≡◌, ℕ, List, IfOk, OnOk, OnErr, true};
+ghost use Rattle.std.specs.Prelude.{◌≡◌, ℕ, List, IfOk, OnOk, OnErr, true, false, is_none};
 ghost use Rattle.bdb_base.specs.Causes.{HasCause, Rises};
 ghost use Rattle.bdb_keep.specs.Seen.{IsStill, NeverFall, Unchanged};
 ghost use Rattle.bdb_session.specs.declared.event.Event.TheVariants as event;
@@ -42,8 +42,9 @@ impl Model for Session {
 }
 
 ghost use Rattle.bdb_bind.specs.Fits.{fits_catalog, is_allowed};
+ghost use Rattle.bdb_bind.specs.Refusal.{refusal_of};
 ghost use Rattle.bdb_syntax.specs.declared.command.Command.{Command};
-ghost use Rattle.bdb_session.specs.Bounds.{CommandReads, CommandWrites, ReadsAsTold, WritesAsTold};
+ghost use Rattle.bdb_session.specs.Bounds.{CommandReads, CommandWrites, ReadsAsTold, RefusedUnwritten, WritesAsTold, asks_keeper};
 ghost use Rattle.bdb_session.specs.Known.{Agrees, AgreesOnSome};
 ghost use Rattle.bdb_session.specs.Machine.{reply_of, accepts, answers_to, next_state, counts, bound_outcome, command_outcome, outcome_of};
 ghost use Rattle.bdb_session.specs.Outcome.{State, Refused};
@@ -67,9 +68,10 @@ impl Session {
 
     /// Answers a piece of a script, over the tables with which the session agrees: the reply is that of the belief machine in
     /// the state that they agree on, and afterwards they agree on the state that the machine reaches. An accepted piece
-    /// with a token is committed once; after a refused one rows and commits are as they were. A piece without tokens
-    /// leaves the keeper alone. After an Err the session and the tables are as they were. How often is read to show a world or
-    /// answer a query, and written to add, take away or change statements, is bounded.
+    /// with a token is committed once; after a refused one rows and commits are as they were, and nothing was written. A piece
+    /// without tokens leaves the keeper alone, and so does what is refused as it is read or bound. After an Err the session and
+    /// the tables are as they were. How often is read to show a world or answer a query, and written to add, take away or change
+    /// statements, is bounded.
     pub fn apply<K: Keeper>(&mut self, keeper: &mut K, piece: &[u8]) -> Result<Reply, StopError>
         requires still { IsStill (K.seen keeper.old) }
         requires agrees { AgreesOnSome (K.seen keeper.old).kept self.old }
@@ -88,6 +90,8 @@ impl Session {
         ensures same { OnErr result (self.new ≡ self.old) }
         ensures reads { (c : Command) → reading_of piece.now ≡ reading.Says c → CommandReads c self.old (K.seen keeper.old) (K.seen keeper.new) result }
         ensures writes { (c : Command) → reading_of piece.now ≡ reading.Says c → CommandWrites c self.old (K.seen keeper.old) (K.seen keeper.new) result }
+        ensures unwritten { RefusedUnwritten (K.seen keeper.old) (K.seen keeper.new) result }
+        ensures spared { asks_keeper self.old.catalog (event.Piece piece.now) ≡ false → keeper.new ≡ keeper.old }
     {
         if says_nothing(piece) {
             return Ok(Reply::accepted(List::new(self.alloc)));
@@ -101,7 +105,7 @@ impl Session {
     }
 
     /// Answers an event of a script: a piece as `apply` does; a piece that is too long, and a rest that no semicolon
-    /// ended, are refused.
+    /// ended, are refused, and leave the keeper alone.
     pub fn answer<K: Keeper>(&mut self, keeper: &mut K, event: &Event) -> Result<Reply, StopError>
         requires still { IsStill (K.seen keeper.old) }
         requires agrees { AgreesOnSome (K.seen keeper.old).kept self.old }
@@ -114,6 +118,8 @@ impl Session {
         ensures untouched { (bytes : List ℕ) → event.now ≡ Piece bytes → reading_of bytes ≡ reading.Nothing → keeper.new ≡ keeper.old }
         ensures reads { (bytes : List ℕ) (c : Command) → event.now ≡ Piece bytes → reading_of bytes ≡ reading.Says c → CommandReads c self.old (K.seen keeper.old) (K.seen keeper.new) result }
         ensures writes { (bytes : List ℕ) (c : Command) → event.now ≡ Piece bytes → reading_of bytes ≡ reading.Says c → CommandWrites c self.old (K.seen keeper.old) (K.seen keeper.new) result }
+        ensures unwritten { RefusedUnwritten (K.seen keeper.old) (K.seen keeper.new) result }
+        ensures spared { asks_keeper self.old.catalog event.now ≡ false → keeper.new ≡ keeper.old }
         ensures agrees { AgreesOnSome (K.seen keeper.new).kept self.new }
         ensures still { IsStill (K.seen keeper.new) }
         ensures never_fall { NeverFall (K.seen keeper.old) (K.seen keeper.new) }
@@ -146,6 +152,8 @@ impl Session {
         ensures served { Serves (λ s. command_outcome s command) self.old self.new (K.seen keeper.old) (K.seen keeper.new) result }
         ensures reads { CommandReads command self.old (K.seen keeper.old) (K.seen keeper.new) result }
         ensures writes { CommandWrites command self.old (K.seen keeper.old) (K.seen keeper.new) result }
+        ensures unwritten { RefusedUnwritten (K.seen keeper.old) (K.seen keeper.new) result }
+        ensures spared { is_none (refusal_of self.old.catalog command) ≡ false → keeper.new ≡ keeper.old }
     {
         match bind_by(self.alloc, &self.catalog, &self.index, command) {
             Ok(bound) => self.execute(keeper, bound),

@@ -59,3 +59,9 @@ returns-in-Ok-None-clause-unchanged g c =
     let t = (g.K.Keeper.seen c.args.keeper.now).kept in
     let told = subst (TellsFormat t) c.in-Ok-None.field-0-is c.in-Ok-None.ensures.format in
     on_ok _ c.new_session.result (λ none. absurd (one_and_none (opening t) (opening_empty t told.none) none))
+
+pub returns-in-Ok-None-clause-unwritten : goal.returns-in-Ok-None-clause-unwritten
+returns-in-Ok-None-clause-unwritten g c = λ none.
+    let t = (g.K.Keeper.seen c.args.keeper.now).kept in
+    let told = subst (TellsFormat t) c.in-Ok-None.field-0-is c.in-Ok-None.ensures.format in
+    absurd (one_and_none (opening t) (opening_empty t told.none) none)

@@ -1,4 +1,5 @@
-use Rattle.std.proofs.Common.{◌∙◌, ap}
+use Rattle.std.proofs.Common.{◌∙◌, ap, sym}
+use Rattle.std.proofs.lemmas.Bool.{false≢true}
 use Rattle.bdb_base.specs.Bases.{with_relation}
 use Rattle.bdb_bind.specs.declared.bound.Bound.TheVariants.{CreateRelation}
 use Rattle.bdb_session.specs.Known.{Known}
@@ -8,25 +9,28 @@ use Rattle.bdb_session.proofs.CreateLemmas.{some_may_add_relation, relation_serv
 use Rattle.bdb_session.proofs.ServedLemmas.{unmade_serves}
 use Rattle.bdb_session.proofs.session.Session.add_relation.Goals as goal
 
-pub returns-in-Err : goal.returns-in-Err
-returns-in-Err g c = unmade_serves (λ s. bound_outcome s (CreateRelation c.args.def.now)) _ _ c.requires.still
+pub returns-in-Err-clause-served : goal.returns-in-Err-clause-served
+returns-in-Err-clause-served g c = unmade_serves (λ s. bound_outcome s (CreateRelation c.args.def.now)) _ _ c.requires.still
 
-pub returns-in-Err-catalog_with_relation : goal.returns-in-Err-catalog_with_relation
-returns-in-Err-catalog_with_relation g c = unmade_serves (λ s. bound_outcome s (CreateRelation c.args.def.now)) _ _ c.requires.still
+pub returns-in-Err-catalog_with_relation-clause-served : goal.returns-in-Err-catalog_with_relation-clause-served
+returns-in-Err-catalog_with_relation-clause-served g c = unmade_serves (λ s. bound_outcome s (CreateRelation c.args.def.now)) _ _ c.requires.still
 
-pub returns-in-Err-of : goal.returns-in-Err-of
-returns-in-Err-of g c = unmade_serves (λ s. bound_outcome s (CreateRelation c.args.def.now)) _ _ c.requires.still
+pub returns-in-Err-of-clause-served : goal.returns-in-Err-of-clause-served
+returns-in-Err-of-clause-served g c = unmade_serves (λ s. bound_outcome s (CreateRelation c.args.def.now)) _ _ c.requires.still
 
 pub commit_relation-requires-clause-base : goal.commit_relation-requires-clause-base
 commit_relation-requires-clause-base g c =
     some_may_add_relation (g.K.Keeper.seen c.args.keeper.now).kept c.args.self.now c.args.def.now c.args.rel c.requires.number c.requires.fits c.requires.room c.requires.agrees
 
-pub returns-in-Err-commit_relation : goal.returns-in-Err-commit_relation
-returns-in-Err-commit_relation g c = stopped_serves (λ s. bound_outcome s (CreateRelation c.args.def.now)) _ _ _ _ c.in-Err-commit_relation.ensures.committed
+pub returns-in-Err-commit_relation-clause-served : goal.returns-in-Err-commit_relation-clause-served
+returns-in-Err-commit_relation-clause-served g c = stopped_serves (λ s. bound_outcome s (CreateRelation c.args.def.now)) _ _ _ _ c.in-Err-commit_relation.ensures.committed
 
-pub returns : goal.returns
-returns g c =
+pub returns-clause-served : goal.returns-clause-served
+returns-clause-served g c =
     let catalog = c.in-Ok-catalog_with_relation.ensures ∙ ap (λ (k : Known). with_relation k.catalog c.args.def.now) c.self.view_is in
     relation_serves _ c.args.self.now _ c.args.def.now c.args.rel _ _ _ c.requires.number c.requires.fits c.requires.room
     c.in-Ok-commit_relation.ensures.added c.in-Ok-commit_relation.ensures.committed catalog (ap (λ (k : Known). k.counts) c.self.view_is)
     (c.accepted.ensures.text ∙ c.in-Ok.ensures) c.accepted.ensures.accepted c.accepted.ensures.answers
+
+pub returns-clause-unwritten : goal.returns-clause-unwritten
+returns-clause-unwritten g c = λ refused. absurd (false≢true (sym refused ∙ c.accepted.ensures.accepted))

@@ -1,11 +1,12 @@
-use Rattle.std.proofs.Common.{◌≡◌, ◌∙◌, ap, sym, subst}
+use Rattle.std.proofs.Common.{◌≡◌, ◌∙◌, ap, refl, sym, subst}
 use Rattle.bdb_syntax.specs.declared.command.Command.{Command}
 use Rattle.bdb_session.specs.declared.event.Event.TheVariants as event
 use Rattle.bdb_session.specs.Known.{Agrees}
 use Rattle.bdb_session.specs.Machine.{command_outcome, outcome_of, reading_outcome}
 use Rattle.bdb_session.specs.Outcome.{state_after}
 use Rattle.bdb_session.specs.declared.reading.Reading.{Reading}
-use Rattle.bdb_session.specs.Bounds.{CommandReads, CommandWrites}
+use Rattle.bdb_session.specs.Bounds.{CommandReads, CommandWrites, reading_asks}
+use Rattle.bdb_session.proofs.BoundLemmas.{nothing_unwritten}
 use Rattle.bdb_session.proofs.ServedLemmas.{refused_serves, agrees_after}
 use Rattle.bdb_session.proofs.session.Session.apply.Goals as goal
 
@@ -30,3 +31,10 @@ pub returns-in-Ok-Says-clause-writes : goal.returns-in-Ok-Says-clause-writes
 returns-in-Ok-Says-clause-writes g c = λ d says.
     let same : c.in-Ok-Says.command ≡ d = let read = sym c.in-Ok-Says.field-0-is ∙ c.in-Ok-Says.ensures.reading ∙ says in cc in
     subst (λ (x : Command). CommandWrites x c.args.self.now (g.K.Keeper.seen c.args.keeper.now) (g.K.Keeper.seen c.carry_out.new.keeper) c.carry_out.result) same c.carry_out.ensures.writes
+
+pub returns-in-Ok-Refused-clause-unwritten : goal.returns-in-Ok-Refused-clause-unwritten
+returns-in-Ok-Refused-clause-unwritten g c = nothing_unwritten (g.K.Keeper.seen c.args.keeper.now) (g.K.Keeper.seen c.args.keeper.now) c.refuse.result refl
+
+pub returns-in-Ok-Says-clause-spared : goal.returns-in-Ok-Says-clause-spared
+returns-in-Ok-Says-clause-spared g c = λ spared.
+    c.carry_out.ensures.spared (ap (reading_asks c.args.self.now.catalog) (sym c.in-Ok-Says.field-0-is ∙ c.in-Ok-Says.ensures.reading) ∙ spared)

@@ -1,5 +1,7 @@
-use Rattle.std.proofs.Common.{◌∙◌, ap, sym, subst}
+use Rattle.std.proofs.Common.{◌∙◌, ap, refl, sym, subst}
+use Rattle.std.specs.Prelude.{is_none}
 use Rattle.std.specs.Option.{option_and_then}
+use Rattle.std.proofs.lemmas.Bool.{false≢true}
 use Rattle.bdb_base.specs.Bases.{IsCatalog}
 use Rattle.bdb_base.specs.declared.kinds.Catalog.{Catalog}
 use Rattle.bdb_bind.specs.Binding.{bound_of}
@@ -8,7 +10,7 @@ use Rattle.bdb_bind.specs.Fits.{fits_catalog}
 use Rattle.bdb_bind.proofs.Fitting.{what_is_bound_fits}
 use Rattle.bdb_session.specs.Known.{Known}
 use Rattle.bdb_session.specs.Machine.{refusal_from, bound_outcome, command_outcome}
-use Rattle.bdb_session.proofs.BoundLemmas.{reads_as, writes_as, not_bound}
+use Rattle.bdb_session.proofs.BoundLemmas.{reads_as, writes_as, not_bound, told_unwritten, nothing_unwritten}
 use Rattle.bdb_session.proofs.OutcomeLemmas.{unless_some, refused_to_bind}
 use Rattle.bdb_session.proofs.ServedLemmas.{refused_serves}
 use Rattle.bdb_session.proofs.session.Session.carry_out.Goals as goal
@@ -53,3 +55,15 @@ pub returns-in-Some-clause-writes : goal.returns-in-Some-clause-writes
 returns-in-Some-clause-writes g c = λ fine.
     let here = ap (λ (k : Known). k.catalog) c.self.view_is in
     absurd (not_bound _ c.in-Err.error c.in-Some.refusal c.in-Some.ensures c.in-Err.ensures.refused (ap (λ (k : Catalog). refusal_of k c.args.command) here ∙ fine))
+
+pub returns-in-Ok-clause-unwritten : goal.returns-in-Ok-clause-unwritten
+returns-in-Ok-clause-unwritten g c = told_unwritten c.in-Ok.bound c.args.self.now (g.K.Keeper.seen c.args.keeper.now) (g.K.Keeper.seen c.execute.new.keeper) c.execute.result c.requires.agrees c.execute.ensures.writes
+
+pub returns-in-Some-clause-unwritten : goal.returns-in-Some-clause-unwritten
+returns-in-Some-clause-unwritten g c = nothing_unwritten (g.K.Keeper.seen c.args.keeper.now) (g.K.Keeper.seen c.args.keeper.now) c.refuse.result refl
+
+pub returns-in-Ok-clause-spared : goal.returns-in-Ok-clause-spared
+returns-in-Ok-clause-spared g c = λ spared.
+    let here = ap (λ (k : Known). k.catalog) c.self.view_is in
+    let fine = ap (λ (k : Catalog). refusal_of k c.args.command) (sym here) ∙ c.in-Ok.ensures.ok.0 in
+    absurd (false≢true (sym spared ∙ ap is_none fine))

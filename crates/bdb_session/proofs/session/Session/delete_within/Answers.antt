@@ -65,7 +65,7 @@ returns-in-Ok-drop_statements-clause-writes g c =
     let x = c.args.selection.now in
     let old = g.K.Keeper.seen c.args.keeper.now in
     delete_writes k c.args.counts.now x.path x.sign x.rel x.conds c.as_slice.result.now old (g.K.Keeper.seen c.selected.new.keeper) (g.K.Keeper.seen c.drop_statements.new.keeper)
-    (g.K.Keeper.seen c.tell_count.new.keeper) k.catalog _ c.tell_count.result (delete_path_fits k.catalog x.path x.sign x.rel x.conds c.requires.fits)
+    (g.K.Keeper.seen c.tell_count.new.keeper) k.catalog _ c.tell_count.result refl (delete_path_fits k.catalog x.path x.sign x.rel x.conds c.requires.fits)
     (subst (λ (l : List Stmt). AreTaken old.kept x.path x.sign x.rel x.conds l) (sym c.as_slice.ensures) c.in-Ok.ensures.taken) c.in-Ok.ensures.kept c.in-Ok.ensures.writes
     c.in-Ok-drop_statements.ensures.writes c.in-Ok-drop_statements.ensures.steps (c.tell_count.ensures c.requires.agrees.state)
 

@@ -29,10 +29,10 @@ returns-in-Ok-insert_within-clause-writes g c =
     let run = g.K.Keeper.seen c.begin.new.keeper in
     insert_settles (length c.args.stmt.now.path + 2) 8 c.insert_within.new.counts c.in-Ok-insert_within.told c.args.self.now c.settle.new.self (g.K.Keeper.seen c.args.keeper.now) run
     (g.K.Keeper.seen c.insert_within.new.keeper) (g.K.Keeper.seen c.settle.new.keeper) c.in-Ok.ensures c.in-Ok-insert_within.ensures.writes c.in-Ok-insert_within.ensures.refused
-    c.args.stmt.now.path refl refl c.settle.result c.settle.ensures
+    c.args.stmt.now refl refl c.self.inside.counts (ap (λ (u : Known). u.counts) c.self.view_is) c.in-Ok-insert_within.ensures.already c.settle.result c.settle.ensures
 
 pub returns-in-Err-clause-writes : goal.returns-in-Err-clause-writes
-returns-in-Err-clause-writes g c = record { within = tt; refused = tt }
+returns-in-Err-clause-writes g c = record { within = tt; refused = tt; already = λ s a there. tt }
 
 pub returns-in-Err-insert_within-clause-writes : goal.returns-in-Err-insert_within-clause-writes
-returns-in-Err-insert_within-clause-writes g c = record { within = tt; refused = tt }
+returns-in-Err-insert_within-clause-writes g c = record { within = tt; refused = tt; already = λ s a there. tt }

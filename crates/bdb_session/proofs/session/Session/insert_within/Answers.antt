@@ -2,7 +2,7 @@ use Rattle.std.proofs.Common.{◌+◌, length, Ok, refl, subst}
 use Rattle.bdb_update.specs.Calls.{Adds}
 use Rattle.bdb_update.specs.declared.answer.Added.{Added}
 use Rattle.bdb_session.proofs.InsertLemmas.{insert_tells_new, insert_tells_already, insert_tells_err}
-use Rattle.bdb_session.proofs.WriteLemmas.{said_writes, accepted_unrefused, insert_err_writes}
+use Rattle.bdb_session.proofs.WriteLemmas.{said_writes, accepted_unrefused, insert_err_writes, new_unstood, already_unwritten, err_unwritten}
 use Rattle.bdb_session.proofs.session.Session.insert_within.Goals as goal
 
 pub returns-in-Ok-New-clause-told : goal.returns-in-Ok-New-clause-told
@@ -56,3 +56,24 @@ pub returns-in-Err-clause-refused : goal.returns-in-Err-clause-refused
 returns-in-Err-clause-refused g c =
     (insert_err_writes c.args.self.now c.args.stmt.now c.args.counts.now c.add_statement.new.counts (g.K.Keeper.seen c.args.keeper.now) (g.K.Keeper.seen c.add_statement.new.keeper)
     (g.K.Keeper.seen c.refuse_change.new.keeper) c.refuse_change.result c.requires.fits c.requires.agrees c.in-Err.error c.in-Err.ensures.added c.refuse_change.ensures).1
+
+pub returns-in-Ok-New-clause-already : goal.returns-in-Ok-New-clause-already
+returns-in-Ok-New-clause-already g c =
+    let old = g.K.Keeper.seen c.args.keeper.now in
+    let mid = g.K.Keeper.seen c.add_statement.new.keeper in
+    new_unstood c.args.self.now c.args.stmt.now c.args.counts.now c.add_statement.new.counts old mid (g.K.Keeper.seen c.tell_count.new.keeper) c.tell_count.result c.requires.fits
+    (subst (λ (r : Added). Adds old mid c.args.counts.now c.add_statement.new.counts c.args.stmt.now (Ok r)) c.in-Ok-New.field-0-is c.in-Ok-New.ensures.added)
+
+pub returns-in-Ok-Already-clause-already : goal.returns-in-Ok-Already-clause-already
+returns-in-Ok-Already-clause-already g c =
+    let old = g.K.Keeper.seen c.args.keeper.now in
+    let mid = g.K.Keeper.seen c.add_statement.new.keeper in
+    already_unwritten c.args.self.now c.args.stmt.now c.args.counts.now c.add_statement.new.counts old mid (g.K.Keeper.seen c.tell_count-in-Ok-Already.new.keeper)
+    c.tell_count-in-Ok-Already.result c.requires.fits _
+    (subst (λ (r : Added). Adds old mid c.args.counts.now c.add_statement.new.counts c.args.stmt.now (Ok r)) c.in-Ok-Already.field-0-is c.in-Ok-Already.ensures.added)
+    (c.tell_count-in-Ok-Already.ensures c.requires.agrees.state)
+
+pub returns-in-Err-clause-already : goal.returns-in-Err-clause-already
+returns-in-Err-clause-already g c =
+    err_unwritten c.args.self.now c.args.stmt.now c.args.counts.now c.add_statement.new.counts (g.K.Keeper.seen c.args.keeper.now) (g.K.Keeper.seen c.add_statement.new.keeper)
+    (g.K.Keeper.seen c.refuse_change.new.keeper) c.refuse_change.result c.requires.fits c.in-Err.error c.in-Err.ensures.added c.refuse_change.ensures
