@@ -8,9 +8,10 @@ use Rattle.bdb_session.specs.declared.event.Event.{Event}
 use Rattle.bdb_session.specs.Machine.{counts, next_state, reply_of, outcome_of}
 use Rattle.bdb_session.specs.Outcome.{State, start_from, Outcome, Blank, Refused, Done, state_after, commit_count}
 use Rattle.bdb_session.specs.Runs.{after, replies, events_of, IsFrontOf}
-use Rattle.bdb_top.specs.Counted.{counted, before_count, up_to_count}
+use Rattle.bdb_stream.specs.Carried.{counted}
+use Rattle.bdb_stream.proofs.RunLemmas.{replies-append}
+use Rattle.bdb_top.specs.Counted.{before_count, up_to_count}
 use Rattle.bdb_top.specs.Ran.{Ran, EachBase}
-use Rattle.bdb_top.proofs.RunLemmas.{replies-append}
 use Rattle.bdb_top.specs.ByCount.{BeginsWith, EndsByCount, CommitsTell}
 use Rattle.bdb_top.specs.Laws.{IsToldByCount, CountTellsTheState}
 

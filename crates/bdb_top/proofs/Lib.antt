@@ -1,10 +1,7 @@
-pub mod RunLemmas
 pub mod CountLemmas
-pub mod StreamLemmas
 pub mod RanLemmas
 pub mod EmptyLemmas
 pub mod GeneratedLemmas
 pub mod TallyLemmas
-pub mod AnswerLemmas
-pub mod BlockLemmas
 pub mod CheckLemmas
+pub mod WordLemmas

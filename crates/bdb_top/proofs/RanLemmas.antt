@@ -1,5 +1,5 @@
 -- How a run ends, by its status.
-use Rattle.std.proofs.Common.{◌≡◌, ◌≢◌, ◌∙◌, ℕ, ◌-◌, ◌^◌, ◌<◌, ◌≤◌, ◌⊎◌, inl, inr, Bool, true, false, List, [], ◌∷◌, ◌++◌, Option, Some, None, Result, Ok, Err, IfSome, IsErrOf, OnOk, length, refl, ap, sym, subst, arith}
+use Rattle.std.proofs.Common.{◌≡◌, ◌≢◌, ◌∙◌, ℕ, ◌-◌, ◌^◌, ◌<◌, ◌≤◌, ◌⊎◌, inl, inr, zero, suc, Bool, true, false, List, [], ◌∷◌, ◌++◌, Option, Some, None, Result, Ok, Err, IfSome, IsErrOf, OnOk, length, refl, ap, sym, subst, arith}
 use Rattle.std.specs.Io.KnownBytes.{Appends, IsAtEnd}
 use Rattle.bdb_base.specs.Causes.{Rises}
 use Rattle.bdb_base.specs.Limits.{longest_script}
@@ -12,11 +12,11 @@ use Rattle.bdb_session.specs.Known.{Known, Agrees}
 use Rattle.bdb_session.specs.Opening.{opening, Opens}
 use Rattle.bdb_session.specs.Outcome.{State, start_from}
 use Rattle.bdb_session.specs.Runs.{after, replies, accepts_all, events_of, IsFrontOf}
-use Rattle.bdb_top.specs.Counted.{counted}
-use Rattle.bdb_top.specs.declared.stop.Stop.{Stop}
-use Rattle.bdb_top.specs.declared.stop.Stop.TheVariants.{Source, Sink, Keeper, Memory, Large}
-use Rattle.bdb_top.specs.Ran.{Carried, Streams, EachBase, Ran, StandsForNone, CommitsFor, status_of}
-use Rattle.bdb_top.specs.Streams.{KeepsUp}
+use Rattle.bdb_stream.specs.Carried.{counted, Carried}
+use Rattle.bdb_stream.specs.Streams.{status_of, KeepsUp, Streams}
+use Rattle.bdb_stream.specs.declared.stop.Stop.{Stop}
+use Rattle.bdb_stream.specs.declared.stop.Stop.TheVariants.{Source, Sink, Keeper, Memory, Large}
+use Rattle.bdb_top.specs.Ran.{EachBase, Ran, StandsForNone, CommitsFor}
 
 append_nil : {X : Type 0} (xs : List X) → xs ++ [] ≡ xs
 append_nil [] = refl
@@ -223,9 +223,33 @@ pub taken_by : (n : ℕ) (r : Result Bool Stop) (before left : Option (List ℕ)
     → n ≤ 1 → IsAtEnd left × IfSome before (λ text. length text ≤ longest_script)
 taken_by n r before left is end short low = (low_is_ok n r is low end, low_is_ok n r is low short)
 
-pub small_by : (n : ℕ) (r : Result Bool Stop) (old new : ℕ) → n ≡ status_of r → OnOk r ((k : ℕ) × (k ≤ longest_script) × Rises k old new)
-    → n ≤ 1 → (k : ℕ) × (k ≤ longest_script) × Rises k old new
-small_by n r old new is small low = low_is_ok n r is low small
+too_long : {n : ℕ} → longest_script < n → n ≤ longest_script → ⊥
+too_long h k = omega (arith, h, k)
+
+-- what holds where a run was stopped by a script that is too large, and what where it wasn't, by its status
+pub but_for_large : {X : Type 0} (n : ℕ) (r : Result Bool Stop) → n ≡ status_of r → ((IsErrOf r Large → ⊥) → X) → n ≢ 8 → X
+but_for_large n r is h low = h (λ e. low (is ∙ ap status_of e))
+
+pub of_large : {X : Type 0} (n : ℕ) (r : Result Bool Stop) → n ≡ status_of r → (IsErrOf r Large → X) → n ≡ 8 → X
+of_large n r is h e = h (large_by n r is e)
+
+-- a source that isn't called gives nothing
+pub gives_none : (a : ℕ) → (k : ℕ) × (k ≤ longest_script) × Rises k a a
+gives_none a = (0, omega arith, λ _. omega arith)
+
+-- a run over a base and a script that fit, with no fault, comes to its end or wants memory
+pub finishes_by : (n : ℕ) (before : Option (List ℕ)) (text : List ℕ) → n ≤ 8 → n ≢ 2 → n ≢ 3 → n ≢ 4 → n ≢ 5 → n ≢ 7
+    → (n ≡ 8 → IfSome before (λ t. longest_script < length t)) → before ≡ Some text → length text ≤ longest_script → (n ≤ 1) ⊎ (n ≡ 6)
+finishes_by zero before text few a b c d e many is short = inl (omega arith)
+finishes_by (suc zero) before text few a b c d e many is short = inl (omega arith)
+finishes_by (suc (suc zero)) before text few a b c d e many is short = absurd (a refl)
+finishes_by (suc (suc (suc zero))) before text few a b c d e many is short = absurd (b refl)
+finishes_by (suc (suc (suc (suc zero)))) before text few a b c d e many is short = absurd (c refl)
+finishes_by (suc (suc (suc (suc (suc zero))))) before text few a b c d e many is short = absurd (d refl)
+finishes_by (suc (suc (suc (suc (suc (suc zero)))))) before text few a b c d e many is short = inr refl
+finishes_by (suc (suc (suc (suc (suc (suc (suc zero))))))) before text few a b c d e many is short = absurd (e refl)
+finishes_by (suc (suc (suc (suc (suc (suc (suc (suc zero)))))))) before text few a b c d e many is short = absurd (too_long (subst (λ (o : Option (List ℕ)). IfSome o (λ t. longest_script < length t)) is (many refl)) short)
+finishes_by (suc (suc (suc (suc (suc (suc (suc (suc (suc n))))))))) before text few a b c d e many is short = absurd (omega (arith, few))
 
 pub many_if : (n : ℕ) (r : Result Bool Stop) (before : Option (List ℕ)) → n ≡ status_of r → (IsErrOf r Large → IfSome before (λ text. longest_script < length text))
     → n ≡ 8 → IfSome before (λ text. longest_script < length text)

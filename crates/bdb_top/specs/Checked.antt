@@ -3,10 +3,16 @@ use Rattle.std.specs.Prelude.{◌≡◌, ◌≢◌, ◌⊎◌, ℕ, List, [], ta
 use Rattle.std.specs.Io.KnownBytes.{Appends}
 use Rattle.bdb_catalog.specs.Opening.{StandForSome}
 use Rattle.bdb_decode.specs.Opening.{AreDamaged, HaveOtherFormat}
+use Rattle.bdb_keep.specs.Seen.{Seen, Unchanged}
 use Rattle.bdb_keep.specs.Tables.{Tables}
 use Rattle.bdb_top.specs.Lines.{line_with}
 use Rattle.bdb_top.specs.declared.check.Verdict.{Verdict}
 use Rattle.bdb_top.specs.declared.check.Verdict.TheVariants.{Sound, Damaged, Format}
+
+-- the rows, the rows last committed and the count of commits are as before, and nothing was written
+pub record IsUntouched (old new : Seen) : Type 0 where
+  pub unchanged : Unchanged old new
+  pub unwritten : new.writes ≡ old.writes
 
 -- the line that tells a verdict
 abbrev pub verdict_line : Verdict → List ℕ

@@ -1,13 +1,8 @@
--- The events of a run that count, and those before and up to one of them.
-use Rattle.std.specs.Prelude.{ℕ, ◌+◌, ◌-◌, nat_eq, nat_lt, List, [], ◌∷◌, cond}
+-- The events of a run before and up to one of those that count.
+use Rattle.std.specs.Prelude.{ℕ, ◌-◌, nat_eq, nat_lt, List, [], ◌∷◌, cond}
 use Rattle.bdb_session.specs.declared.event.Event.{Event}
 use Rattle.bdb_session.specs.Machine.{counts, next_state}
 use Rattle.bdb_session.specs.Outcome.{State}
-
--- how many of these events count
-abbrev pub counted : State → List Event → ℕ
-counted s [] = 0
-counted s (e ∷ es) = counts s e + counted (next_state s e) es
 
 -- the events up to and without the one that is number k + 1 of those that count; all, where there is none
 abbrev pub before_count : ℕ → State → List Event → List Event

@@ -7,7 +7,8 @@ use Rattle.bdb_keep.specs.Tables.{Tables}
 use Rattle.bdb_session.specs.declared.event.Event.{Event}
 use Rattle.bdb_session.specs.Outcome.{State}
 use Rattle.bdb_session.specs.Runs.{after, IsFrontOf}
-use Rattle.bdb_top.specs.Counted.{counted, before_count, up_to_count}
+use Rattle.bdb_stream.specs.Carried.{counted}
+use Rattle.bdb_top.specs.Counted.{before_count, up_to_count}
 
 -- Where the first events are done and k of them count, the state is the one after the first k that count; what is done has
 -- the last of these in it, and goes no further than up to the next.

@@ -6,5 +6,6 @@ pub mod Generated
 pub mod Laws
 pub mod Lines
 pub mod Ran
-pub mod Streams
 pub mod Words
+pub use Rattle.bdb_stream.specs.Carried
+pub use Rattle.bdb_stream.specs.Streams

@@ -1,9 +1,9 @@
 // Telling whether tables hold a base.
 ghost use Rattle.std.specs.Prelude.{◌≡◌, ◌≢◌, ◌≤◌, false, IfOk};
 ghost use Rattle.bdb_base.specs.Causes.{Rose};
-ghost use Rattle.bdb_keep.specs.Seen.{IsStill, NeverFall, Unchanged};
+ghost use Rattle.bdb_keep.specs.Seen.{IsStill, NeverFall};
 ghost use Rattle.bdb_keep.specs.Tables.{Tables};
-ghost use Rattle.bdb_top.specs.Checked.{verdict_line, verdict_status, IsChecked, IsVerdict};
+ghost use Rattle.bdb_top.specs.Checked.{verdict_line, verdict_status, IsChecked, IsUntouched, IsVerdict};
 
 use crate::lines::append_line;
 use bdb_decode::{OpenError, decode};
@@ -27,7 +27,7 @@ pub enum Verdict {
 pub fn check_tables<O: Sink, K: Keeper>(alloc: Global, out: &mut O, keeper: &mut K) -> u8
     requires idle { (K.seen keeper.old).running ≡ false }
     ensures checked { IsChecked (K.seen keeper.old).kept (O.written out.old) (O.written out.new) result }
-    ensures unchanged { Unchanged (K.seen keeper.old) (K.seen keeper.new) }
+    ensures untouched { IsUntouched (K.seen keeper.old) (K.seen keeper.new) }
     ensures still { IsStill (K.seen keeper.new) }
     ensures sink { result ≡ 4 → Rose (O.faults out.old) (O.faults out.new) }
     ensures keeper { result ≡ 5 → Rose (K.seen keeper.old).faults (K.seen keeper.new).faults }

@@ -7,10 +7,11 @@ ghost use Rattle.bdb_top.specs.Generated.{summary, summary_of, summary_text, IsS
 
 use crate::lines::append_line;
 use crate::tally::{Tally, tally_script};
+use bdb_decode::OpenError;
 use bdb_gen::generate;
 use bdb_io::Sink;
 use bdb_keep::QuietKeeper;
-use bdb_session::Session;
+use bdb_session::{Session, StopError};
 use std::alloc::{AllocError, Global};
 
 /// Runs the script of a seed and a size over a keeper in memory of its own, and writes the summary. The status is 0, or 4
@@ -47,11 +48,15 @@ fn summary_of(alloc: Global, script: &[u8]) -> Result<Vec<u8>, AllocError>
     let mut keeper = QuietKeeper::new(alloc);
     let mut session = match Session::open(alloc, &mut keeper) {
         Ok(session) => session,
-        Err(_) => return Err(AllocError),
+        Err(OpenError::Memory) => return Err(AllocError),
+        Err(OpenError::Fault) => unreachable!(),
+        Err(OpenError::Damaged) => unreachable!(),
+        Err(OpenError::Format(_)) => unreachable!(),
     };
     let tally = match tally_script(alloc, &mut session, &mut keeper, script) {
         Ok(tally) => tally,
-        Err(error) => return Err(error),
+        Err(StopError::Memory) => return Err(AllocError),
+        Err(StopError::Fault) => unreachable!(),
     };
     let counts = session.counts();
     let text = summary_text(

@@ -1,7 +1,6 @@
 //! The top call: it does all that the program does.
 #![tactic(auto)]
 
-mod answers;
 mod check;
 #[cfg(test)]
 mod failing;
@@ -9,15 +8,13 @@ mod generated;
 mod laws;
 mod lines;
 mod status;
-mod stop;
-mod stream;
 mod tally;
 #[cfg(test)]
 mod tests;
 mod top;
 mod words;
 
+pub use bdb_stream::Stop;
 pub use laws::{count_tells_the_state, no_rows_stand_for_a_base};
-pub use stop::Stop;
 pub use top::run;
 pub use words::{Job, WordsError, job_of};

@@ -1,8 +1,8 @@
 // The status of a run.
 ghost use Rattle.std.specs.Prelude.{◌≡◌};
-ghost use Rattle.bdb_top.specs.Ran.{status_of};
+ghost use Rattle.bdb_stream.specs.Streams.{status_of};
 
-use crate::stop::Stop;
+use bdb_stream::Stop;
 
 /// The status of a run: 0 or 1 where the script was read to its end, by whether every command was accepted.
 pub fn status_of(ended: Result<bool, Stop>) -> u8

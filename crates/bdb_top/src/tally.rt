@@ -1,5 +1,6 @@
 // Counting the replies to events.
 ghost use Rattle.std.specs.Prelude.{◌≡◌, ◌+◌, IfOk, OnOk};
+ghost use Rattle.bdb_base.specs.Causes.{HasCause};
 ghost use Rattle.bdb_keep.specs.Seen.{IsStill};
 ghost use Rattle.bdb_session.specs.Known.{Agrees, AgreesOnSome};
 ghost use Rattle.bdb_session.specs.Machine.{next_state};
@@ -10,7 +11,7 @@ ghost use Rattle.bdb_top.specs.Generated.{no_replies, tally_from, tally_reply, t
 
 use bdb_keep::Keeper;
 use bdb_lex::{Cutter, Piece, Rest};
-use bdb_session::{Event, Reply, Session};
+use bdb_session::{Event, Reply, Session, StopError};
 use std::alloc::{AllocError, Global};
 
 /// How many replies accept, how many refuse, and how many answers they have.
@@ -21,18 +22,19 @@ pub struct Tally {
     pub answers: u64,
 }
 
-/// Carries out a script, each piece as it is cut, and counts the replies.
+/// Carries out a script, each piece as it is cut, and counts the replies. A count that doesn't fit is told as want of memory.
 pub fn tally_script<K: Keeper>(
     alloc: Global,
     session: &mut Session,
     keeper: &mut K,
     script: &[u8],
-) -> Result<Tally, AllocError>
+) -> Result<Tally, StopError>
     requires still { IsStill (K.seen keeper.old) }
     requires agrees { AgreesOnSome (K.seen keeper.old).kept session.old }
     ensures tally { (s : State) → Agrees (K.seen keeper.old).kept session.old s → IfOk result (λ tally. tally ≡ tally_from no_replies s (events_of script.now)) }
     ensures state { (s : State) → Agrees (K.seen keeper.old).kept session.old s → OnOk result (Agrees (K.seen keeper.new).kept session.new (after s (events_of script.now))) }
     ensures still { IsStill (K.seen keeper.new) }
+    ensures cause { HasCause (K.seen keeper.old).faults (K.seen keeper.new).faults result StopError.Fault }
     ensures agrees { AgreesOnSome (K.seen keeper.new).kept session.new }
 {
     let mut cutter = Cutter::new(alloc);
@@ -55,7 +57,7 @@ pub fn tally_script<K: Keeper>(
                 Ok(whole) => return Ok(whole),
                 Err(error) => return Err(error),
             },
-            Err(error) => return Err(error),
+            Err(_) => return Err(StopError::Memory),
         }
     }
 }
@@ -66,12 +68,13 @@ fn tally_piece<K: Keeper>(
     keeper: &mut K,
     tally: Tally,
     piece: &Piece<'_>,
-) -> Result<Tally, AllocError>
+) -> Result<Tally, StopError>
     requires still { IsStill (K.seen keeper.old) }
     requires agrees { AgreesOnSome (K.seen keeper.old).kept session.old }
     ensures tally { (s : State) → Agrees (K.seen keeper.old).kept session.old s → IfOk result (λ next. next ≡ tally_with tally s (event_of piece.now)) }
     ensures state { (s : State) → Agrees (K.seen keeper.old).kept session.old s → OnOk result (Agrees (K.seen keeper.new).kept session.new (next_state s (event_of piece.now))) }
     ensures still { IsStill (K.seen keeper.new) }
+    ensures cause { HasCause (K.seen keeper.old).faults (K.seen keeper.new).faults result StopError.Fault }
     ensures agrees { AgreesOnSome (K.seen keeper.new).kept session.new }
 {
     match piece {
@@ -92,12 +95,13 @@ fn tally_rest<K: Keeper>(
     keeper: &mut K,
     tally: Tally,
     rest: Rest,
-) -> Result<Tally, AllocError>
+) -> Result<Tally, StopError>
     requires still { IsStill (K.seen keeper.old) }
     requires agrees { AgreesOnSome (K.seen keeper.old).kept session.old }
     ensures tally { (s : State) → Agrees (K.seen keeper.old).kept session.old s → IfOk result (λ next. next ≡ tally_from tally s (rest_events rest)) }
     ensures state { (s : State) → Agrees (K.seen keeper.old).kept session.old s → OnOk result (Agrees (K.seen keeper.new).kept session.new (after s (rest_events rest))) }
     ensures still { IsStill (K.seen keeper.new) }
+    ensures cause { HasCause (K.seen keeper.old).faults (K.seen keeper.new).faults result StopError.Fault }
     ensures agrees { AgreesOnSome (K.seen keeper.new).kept session.new }
 {
     match rest {
@@ -115,20 +119,23 @@ fn tally_command<K: Keeper>(
     keeper: &mut K,
     tally: Tally,
     bytes: &[u8],
-) -> Result<Tally, AllocError>
+) -> Result<Tally, StopError>
     requires still { IsStill (K.seen keeper.old) }
     requires agrees { AgreesOnSome (K.seen keeper.old).kept session.old }
     ensures tally { (s : State) → Agrees (K.seen keeper.old).kept session.old s → IfOk result (λ next. next ≡ tally_with tally s (event.Piece bytes.now)) }
     ensures state { (s : State) → Agrees (K.seen keeper.old).kept session.old s → OnOk result (Agrees (K.seen keeper.new).kept session.new (next_state s (event.Piece bytes.now))) }
     ensures still { IsStill (K.seen keeper.new) }
+    ensures cause { HasCause (K.seen keeper.old).faults (K.seen keeper.new).faults result StopError.Fault }
     ensures agrees { AgreesOnSome (K.seen keeper.new).kept session.new }
 {
     let reply = match session.apply(keeper, bytes) {
         Ok(reply) => reply,
-        Err(_) => return Err(AllocError),
+        Err(error) => return Err(error),
     };
-    let next = with_reply(tally, &reply)?;
-    Ok(next)
+    match with_reply(tally, &reply) {
+        Ok(next) => Ok(next),
+        Err(_) => Err(StopError::Memory),
+    }
 }
 
 /// Answers an event, and counts its reply.
@@ -137,20 +144,23 @@ fn tally_event<K: Keeper>(
     keeper: &mut K,
     tally: Tally,
     event: &Event,
-) -> Result<Tally, AllocError>
+) -> Result<Tally, StopError>
     requires still { IsStill (K.seen keeper.old) }
     requires agrees { AgreesOnSome (K.seen keeper.old).kept session.old }
     ensures tally { (s : State) → Agrees (K.seen keeper.old).kept session.old s → IfOk result (λ next. next ≡ tally_with tally s event.now) }
     ensures state { (s : State) → Agrees (K.seen keeper.old).kept session.old s → OnOk result (Agrees (K.seen keeper.new).kept session.new (next_state s event.now)) }
     ensures still { IsStill (K.seen keeper.new) }
+    ensures cause { HasCause (K.seen keeper.old).faults (K.seen keeper.new).faults result StopError.Fault }
     ensures agrees { AgreesOnSome (K.seen keeper.new).kept session.new }
 {
     let reply = match session.answer(keeper, event) {
         Ok(reply) => reply,
-        Err(_) => return Err(AllocError),
+        Err(error) => return Err(error),
     };
-    let next = with_reply(tally, &reply)?;
-    Ok(next)
+    match with_reply(tally, &reply) {
+        Ok(next) => Ok(next),
+        Err(_) => Err(StopError::Memory),
+    }
 }
 
 /// A tally with one more reply.

@@ -1,13 +1,13 @@
 // The top call.
-ghost use Rattle.std.specs.Prelude.{◌≡◌, ◌≢◌, ◌<◌, ◌≤◌, ℕ, ◌↔◌, ◌⊎◌, false, IfSome, None, Some, length};
+ghost use Rattle.std.specs.Prelude.{◌≡◌, ◌≢◌, ◌<◌, ◌≤◌, ◌+◌, ℕ, List, ◌↔◌, ◌⊎◌, false, IfSome, None, Some, length};
 ghost use Rattle.std.specs.Io.KnownBytes.{IsAtEnd};
 ghost use Rattle.bdb_base.specs.Causes.{Rose, Rises, RisesOver};
 ghost use Rattle.bdb_base.specs.Limits.{longest_script};
 ghost use Rattle.bdb_catalog.specs.Opening.{StandForSome};
-ghost use Rattle.bdb_keep.specs.Seen.{IsStill, NeverFall, Unchanged};
+ghost use Rattle.bdb_keep.specs.Seen.{IsStill, NeverFall};
 ghost use Rattle.bdb_session.specs.Outcome.{start_from};
 ghost use Rattle.bdb_top.specs.ByCount.{CommitsTell};
-ghost use Rattle.bdb_top.specs.Checked.{IsChecked};
+ghost use Rattle.bdb_top.specs.Checked.{IsChecked, IsUntouched};
 ghost use Rattle.bdb_top.specs.Ran.{EachBase, Ran, StandsForNone};
 ghost use Rattle.bdb_top.specs.Generated.{IsSummarized};
 ghost use Rattle.bdb_top.specs.Words.{named_job, check_job, run_job};
@@ -16,13 +16,13 @@ ghost use Rattle.bdb_top.specs.declared.words.Job.TheVariants.{Gen};
 use crate::check::check_tables;
 use crate::generated::summarize;
 use crate::status::status_of;
-use crate::stream::carry_out_script;
 use crate::words::{checked_file, recipe_of, run_files};
 use bdb_base::Txt;
 use bdb_decode::OpenError;
 use bdb_io::{Sink, Source};
 use bdb_keep::Keeper;
 use bdb_session::Session;
+use bdb_stream::carry_out_script;
 use std::alloc::Global;
 
 /// Does all that the program does. Mostly it runs the script that the source gives over the base that the keeper's tables stand for,
@@ -39,7 +39,7 @@ use std::alloc::Global;
 /// | 5 | the keeper failed; what was written is whole replies |
 /// | 6 | want of memory; what was written is whole replies |
 /// | 7 | no base of this format: the tables hold none; nothing is read or written, and the tables stay |
-/// | 8 | the source gave more than 2^26 bytes; each command that ends in the first 2^26 was carried out, and its reply written |
+/// | 8 | exactly where none of those before came and the source gave more than 2^26 bytes, of which one more is taken; each command that ends in the first 2^26 was carried out, and its reply written |
 ///
 /// With 4, 5 and 6 each command that ends more than 65,536 bytes before the end of the bytes given was carried out, and its
 /// reply written. What stands behind the last semicolon is told as unfinished at the end of the script alone.
@@ -66,12 +66,12 @@ pub fn run<S: Source, O: Sink, K: Keeper>(
     ensures refused { run_job words.now ≢ None → result ≡ 7 → StandsForNone (K.seen keeper.old).kept }
     ensures none { run_job words.now ≢ None → StandsForNone (K.seen keeper.old).kept → (result ≡ 5) ⊎ (result ≡ 6) ⊎ (result ≡ 7) }
     ensures silent { run_job words.now ≢ None → StandsForNone (K.seen keeper.old).kept
-        → (script.new ≡ script.old) × (out.new ≡ out.old) × Unchanged (K.seen keeper.old) (K.seen keeper.new) }
+        → (script.new ≡ script.old) × (out.new ≡ out.old) × IsUntouched (K.seen keeper.old) (K.seen keeper.new) }
     ensures words { (result ≡ 2) ↔ (named_job words.now ≡ None) }
     ensures untouched { result ≡ 2 → (script.new ≡ script.old) × (out.new ≡ out.old) × (keeper.new ≡ keeper.old) }
     ensures still { run_job words.now ≢ None → IsStill (K.seen keeper.new) }
     ensures checked { check_job words.now ≢ None → IsChecked (K.seen keeper.old).kept (O.written out.old) (O.written out.new) result
-        × (script.new ≡ script.old) × Unchanged (K.seen keeper.old) (K.seen keeper.new) × IsStill (K.seen keeper.new) }
+        × (script.new ≡ script.old) × IsUntouched (K.seen keeper.old) (K.seen keeper.new) × IsStill (K.seen keeper.new) }
     ensures generated { (seed size : ℕ) → named_job words.now ≡ Some (Gen seed size)
         → IsSummarized seed size (O.written out.old) (O.written out.new) result × (script.new ≡ script.old) × (keeper.new ≡ keeper.old) }
     ensures idle { (K.seen keeper.new).running ≡ false }
@@ -87,13 +87,20 @@ pub fn run<S: Source, O: Sink, K: Keeper>(
     ensures sink_count { O.faults out.old ≤ O.faults out.new }
     ensures keeper_counts { NeverFall (K.seen keeper.old) (K.seen keeper.new) }
     ensures many { result ≡ 8 → IfSome (S.left script.old) (λ text. longest_script < length text) }
-    ensures small { run_job words.now ≢ None → result ≤ 1 → (n : ℕ) × (n ≤ longest_script) × Rises n (S.given script.old) (S.given script.new) }
+    ensures within { result ≢ 8 → (n : ℕ) × (n ≤ longest_script) × Rises n (S.given script.old) (S.given script.new) }
+    ensures one_more { result ≡ 8 → Rises (longest_script + 1) (S.given script.old) (S.given script.new) }
     ensures complete { named_job words.now ≢ None
         → ¬ Rose (S.faults script.old) (S.faults script.new)
         → ¬ Rose (O.faults out.old) (O.faults out.new)
         → ¬ Rose (K.seen keeper.old).faults (K.seen keeper.new).faults
         → ¬ RisesOver longest_script (S.given script.old) (S.given script.new)
         → (result ≤ 1) ⊎ (result ≡ 6) ⊎ (result ≡ 7) }
+    ensures finishes { (text : List ℕ) → run_job words.now ≢ None
+        → StandForSome (K.seen keeper.old).kept → S.left script.old ≡ Some text → length text ≤ longest_script
+        → ¬ Rose (S.faults script.old) (S.faults script.new)
+        → ¬ Rose (O.faults out.old) (O.faults out.new)
+        → ¬ Rose (K.seen keeper.old).faults (K.seen keeper.new).faults
+        → (result ≤ 1) ⊎ (result ≡ 6) }
 {
     match run_files(words) {
         Some(_) => run_script(alloc, script, out, keeper),
@@ -119,7 +126,7 @@ fn run_script<S: Source, O: Sink, K: Keeper>(
         Ran (start_from b) text (S.left script.new) (K.seen keeper.old) (K.seen keeper.new) (O.written out.old) (O.written out.new) result)) }
     ensures refused { result ≡ 7 → StandsForNone (K.seen keeper.old).kept }
     ensures none { StandsForNone (K.seen keeper.old).kept → (result ≡ 5) ⊎ (result ≡ 6) ⊎ (result ≡ 7) }
-    ensures silent { StandsForNone (K.seen keeper.old).kept → (script.new ≡ script.old) × (out.new ≡ out.old) × Unchanged (K.seen keeper.old) (K.seen keeper.new) }
+    ensures silent { StandsForNone (K.seen keeper.old).kept → (script.new ≡ script.old) × (out.new ≡ out.old) × IsUntouched (K.seen keeper.old) (K.seen keeper.new) }
     ensures still { IsStill (K.seen keeper.new) }
     ensures base { StandForSome (K.seen keeper.old).kept → StandForSome (K.seen keeper.new).kept }
     ensures statuses { (result ≤ 8) × (result ≢ 2) }
@@ -132,7 +139,8 @@ fn run_script<S: Source, O: Sink, K: Keeper>(
     ensures sink_count { O.faults out.old ≤ O.faults out.new }
     ensures keeper_counts { NeverFall (K.seen keeper.old) (K.seen keeper.new) }
     ensures many { result ≡ 8 → IfSome (S.left script.old) (λ text. longest_script < length text) }
-    ensures small { result ≤ 1 → (n : ℕ) × (n ≤ longest_script) × Rises n (S.given script.old) (S.given script.new) }
+    ensures within { result ≢ 8 → (n : ℕ) × (n ≤ longest_script) × Rises n (S.given script.old) (S.given script.new) }
+    ensures one_more { result ≡ 8 → Rises (longest_script + 1) (S.given script.old) (S.given script.new) }
 {
     let mut session = match Session::open(alloc, keeper) {
         Ok(session) => session,

@@ -14,6 +14,7 @@ loop-piece-init g c =
       ready = ap (λ x. x.is_spent) c.new-cutter.ensures;
       still = c.requires.still;
       agrees = c.requires.agrees;
+      faults = search rules;
     }
 
 pub loop-piece-preserved-in-Ok : goal.loop-piece-preserved-in-Ok
@@ -29,6 +30,7 @@ loop-piece-preserved-in-Ok g c =
       ready = ap (λ x. x.is_spent) begins;
       still = c.tally_piece.ensures.still;
       agrees = c.tally_piece.ensures.agrees;
+      faults = search rules;
     }
 
 pub loop-piece-preserved-in-Ok-2 : goal.loop-piece-preserved-in-Ok-2
@@ -44,6 +46,7 @@ loop-piece-preserved-in-Ok-2 g c =
       ready = ap (λ x. x.is_spent) begins;
       still = c.tally_piece.ensures.still;
       agrees = c.tally_piece.ensures.agrees;
+      faults = search rules;
     }
 
 pub loop-piece-preserved : goal.loop-piece-preserved
@@ -59,6 +62,7 @@ loop-piece-preserved g c =
       ready = ap (λ x. x.is_spent) begins;
       still = c.tally_piece.ensures.still;
       agrees = c.tally_piece.ensures.agrees;
+      faults = search rules;
     }
 
 pub returns-in-Ok-tally_rest-clause-tally : goal.returns-in-Ok-tally_rest-clause-tally

@@ -1,4 +1,4 @@
-use Rattle.std.proofs.Common.{◌≡◌, false, length}
+use Rattle.std.proofs.Common.{◌≡◌, ◌≤◌, false, length}
 use Rattle.bdb_keep.specs.Seen.{IsStill}
 use Rattle.bdb_session.specs.Known.{Agrees, AgreesOnSome}
 use Rattle.bdb_session.specs.Outcome.{State}
@@ -13,6 +13,7 @@ invariant-loop-piece g l = record {
   ready : l.cutter.is_spent ≡ false;
   still : IsStill (g.K.Keeper.seen l.keeper);
   agrees : AgreesOnSome (g.K.Keeper.seen l.keeper).kept l.session;
+  faults : (g.K.Keeper.seen l.fn.keeper).faults ≤ (g.K.Keeper.seen l.keeper).faults;
 }
 
 abbrev pub decreases-loop-piece : goal.decreases-loop-piece

@@ -1,5 +1,15 @@
 use Rattle.bdb_top.proofs.CountLemmas.{each_by_count}
+use Rattle.bdb_top.proofs.RanLemmas.{finishes_by}
+use Rattle.bdb_top.proofs.WordLemmas.{runs_alone}
 use Rattle.bdb_top.proofs.top.run.Goals as goal
 
 pub returns-in-Some-clause-by_count : goal.returns-in-Some-clause-by_count
 returns-in-Some-clause-by_count g c = λ _. each_by_count _ _ _ _ _ _ _ c.run_script.ensures.ran
+
+pub returns-in-Some-clause-finishes : goal.returns-in-Some-clause-finishes
+returns-in-Some-clause-finishes g c = λ text asked stand told short source sink keeper.
+    let h = c.run_script.ensures in
+    finishes_by _ _ text h.statuses.0 h.statuses.1 (λ e. source (h.source e)) (λ e. sink (h.sink e)) (λ e. keeper (h.keeper e)) (λ e. h.refused e stand.base stand.stand) h.many told short
+
+pub returns-in-Some-clause-checked : goal.returns-in-Some-clause-checked
+returns-in-Some-clause-checked g c = λ asked. absurd (asked (runs_alone c.args.words.now _ c.in-Some.ensures))

@@ -1,5 +1,6 @@
 use Rattle.std.proofs.Common.{Err, ap, inl, inr, refl}
-use Rattle.bdb_top.proofs.RanLemmas.{each_closed, each_refused, each_run, each_status, many_if, not_seven, run_status, small_by, taken_by}
+use Rattle.bdb_session.proofs.OpenLemmas.{opening_refused}
+use Rattle.bdb_top.proofs.RanLemmas.{but_for_large, each_closed, each_refused, each_run, each_status, many_if, not_seven, of_large, run_status, taken_by}
 use Rattle.bdb_top.proofs.top.run_script.Goals as goal
 
 pub returns-in-Err-Damaged-clause-ran : goal.returns-in-Err-Damaged-clause-ran
@@ -41,5 +42,20 @@ returns-clause-taken g c = taken_by _ c.carry_out_script.result _ _ c.status_of.
 pub returns-clause-many : goal.returns-clause-many
 returns-clause-many g c = many_if _ c.carry_out_script.result _ c.status_of.ensures c.carry_out_script.ensures.many
 
-pub returns-clause-small : goal.returns-clause-small
-returns-clause-small g c = small_by _ c.carry_out_script.result _ _ c.status_of.ensures c.carry_out_script.ensures.small
+pub returns-clause-within : goal.returns-clause-within
+returns-clause-within g c = but_for_large _ c.carry_out_script.result c.status_of.ensures c.carry_out_script.ensures.within
+
+pub returns-clause-one_more : goal.returns-clause-one_more
+returns-clause-one_more g c = of_large _ c.carry_out_script.result c.status_of.ensures c.carry_out_script.ensures.one_more
+
+pub returns-in-Err-Damaged-clause-silent : goal.returns-in-Err-Damaged-clause-silent
+returns-in-Err-Damaged-clause-silent g c = λ none. (refl, refl, record { unchanged = c.in-Err-Damaged.ensures.err; unwritten = c.open.ensures.unwritten (opening_refused _ none) })
+
+pub returns-in-Err-Format-clause-silent : goal.returns-in-Err-Format-clause-silent
+returns-in-Err-Format-clause-silent g c = λ none. (refl, refl, record { unchanged = c.in-Err-Format.ensures.err; unwritten = c.open.ensures.unwritten (opening_refused _ none) })
+
+pub returns-in-Err-Fault-clause-silent : goal.returns-in-Err-Fault-clause-silent
+returns-in-Err-Fault-clause-silent g c = λ none. (refl, refl, record { unchanged = c.in-Err-Fault.ensures.err; unwritten = c.open.ensures.unwritten (opening_refused _ none) })
+
+pub returns-in-Err-Memory-clause-silent : goal.returns-in-Err-Memory-clause-silent
+returns-in-Err-Memory-clause-silent g c = λ none. (refl, refl, record { unchanged = c.in-Err-Memory.ensures.err; unwritten = c.open.ensures.unwritten (opening_refused _ none) })

@@ -9,10 +9,9 @@ use Rattle.bdb_session.specs.Machine.{accepts, reply_of, next_state, counts}
 use Rattle.bdb_session.specs.Known.{Known, Agrees}
 use Rattle.bdb_session.specs.Outcome.{State}
 use Rattle.bdb_session.specs.Runs.{after, replies, accepts_all}
-use Rattle.bdb_top.specs.Counted.{counted}
-use Rattle.bdb_top.specs.declared.stop.Stop.{Stop}
-use Rattle.bdb_top.specs.declared.stop.Stop.TheVariants.{Source, Sink, Keeper, Memory, Large}
-use Rattle.bdb_top.specs.Ran.{Carried, Comes, EndsEarly, IsAnswer, Writes, WritesPart}
+use Rattle.bdb_stream.specs.declared.stop.Stop.{Stop}
+use Rattle.bdb_stream.specs.declared.stop.Stop.TheVariants.{Source, Sink, Keeper, Memory, Large}
+use Rattle.bdb_stream.specs.Carried.{counted, Carried, Comes, EndsEarly, IsAnswer, Writes, WritesPart}
 
 append_nil : {X : Type 0} (xs : List X) → xs ++ [] ≡ xs
 append_nil [] = refl

@@ -1,5 +1,5 @@
 // Carrying out a script while it is read.
-ghost use Rattle.std.specs.Prelude.{◌≡◌, ◌<◌, ◌≤◌, ℕ, true, false, IfSome, OnOk, OnErr, IsErrOf, length, map};
+ghost use Rattle.std.specs.Prelude.{◌≡◌, ◌<◌, ◌≤◌, ◌+◌, ℕ, true, false, IfSome, OnOk, OnErr, IsErrOf, length, map};
 ghost use Rattle.std.specs.Io.KnownBytes.{IsAtEnd};
 ghost use Rattle.bdb_base.specs.Causes.{Rose, Rises, RisesOver, HasCause};
 ghost use Rattle.bdb_base.specs.Limits.{longest_script};
@@ -8,8 +8,8 @@ ghost use Rattle.bdb_lex.specs.Cut.{ready, pieces_from, state_after};
 ghost use Rattle.bdb_session.specs.Known.{Agrees, AgreesOnSome};
 ghost use Rattle.bdb_session.specs.Outcome.{State};
 ghost use Rattle.bdb_session.specs.Runs.{event_of, rest_events};
-ghost use Rattle.bdb_top.specs.Ran.{Ends, Streams};
-ghost use Rattle.bdb_top.specs.Streams.{longest_read};
+ghost use Rattle.bdb_stream.specs.Carried.{Ends};
+ghost use Rattle.bdb_stream.specs.Streams.{longest_read, Streams};
 
 use crate::answers::{answer, answer_piece};
 use crate::stop::Stop;
@@ -44,7 +44,8 @@ pub fn carry_out_script<S: Source, O: Sink, K: Keeper>(
     ensures keeper { IsErrOf result Stop.Keeper → Rose (K.seen keeper.old).faults (K.seen keeper.new).faults }
     ensures large { IsErrOf result Stop.Large → RisesOver longest_script (S.given script.old) (S.given script.new) }
     ensures many { IsErrOf result Stop.Large → IfSome (S.left script.old) (λ text. longest_script < length text) }
-    ensures small { OnOk result ((n : ℕ) × (n ≤ longest_script) × Rises n (S.given script.old) (S.given script.new)) }
+    ensures within { (IsErrOf result Stop.Large → ⊥) → (n : ℕ) × (n ≤ longest_script) × Rises n (S.given script.old) (S.given script.new) }
+    ensures one_more { IsErrOf result Stop.Large → Rises (longest_script + 1) (S.given script.old) (S.given script.new) }
     ensures source_counts { (S.faults script.old ≤ S.faults script.new) × (S.given script.old ≤ S.given script.new) }
     ensures sink_count { O.faults out.old ≤ O.faults out.new }
     ensures keeper_counts { NeverFall (K.seen keeper.old) (K.seen keeper.new) }
@@ -82,6 +83,7 @@ fn size_of_read(room: usize) -> usize
     ensures some { 0 < result }
     ensures few { result ≤ longest_read }
     ensures fits { 0 < room → result ≤ room }
+    ensures one { room ≡ 0 → result ≡ 1 }
 {
     if room == 0 { 1 } else { room.min(BLOCK) }
 }

@@ -14,11 +14,11 @@ use Rattle.bdb_session.specs.Machine.{reply_of}
 use Rattle.bdb_session.specs.Known.{Known, Agrees}
 use Rattle.bdb_session.specs.Outcome.{State}
 use Rattle.bdb_session.specs.Runs.{event_of, rest_events, events_of, after, replies, IsFrontOf}
-use Rattle.bdb_top.specs.declared.stop.Stop.{Stop}
-use Rattle.bdb_top.specs.declared.stop.Stop.TheVariants.{Source, Sink, Keeper, Memory, Large}
-use Rattle.bdb_top.specs.Ran.{Comes, EndsEarly, IsAnswer, Streams, Writes, status_of}
-use Rattle.bdb_top.specs.Streams.{longest_read, ended_in, before_last_read, AreAnswered}
-use Rattle.bdb_top.proofs.RunLemmas.{grows_on, grows_as, replies-append, comes_on, ends_on, one_comes, one_stops}
+use Rattle.bdb_stream.specs.declared.stop.Stop.{Stop}
+use Rattle.bdb_stream.specs.declared.stop.Stop.TheVariants.{Source, Sink, Keeper, Memory, Large}
+use Rattle.bdb_stream.specs.Carried.{Comes, EndsEarly, IsAnswer, Writes}
+use Rattle.bdb_stream.specs.Streams.{longest_read, ended_in, before_last_read, status_of, AreAnswered, Streams}
+use Rattle.bdb_stream.proofs.RunLemmas.{grows_on, grows_as, replies-append, comes_on, ends_on, one_comes, one_stops}
 
 -- ---- bytes that are taken
 

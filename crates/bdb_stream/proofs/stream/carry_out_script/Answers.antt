@@ -1,7 +1,8 @@
-use Rattle.std.proofs.Common.{rules, arith, refl, ap, take, [], ◌++◌, Err}
+use Rattle.std.proofs.Common.{◌≡◌, ◌+◌, rules, arith, refl, ap, subst, take, length, [], ◌++◌, Err}
 use Rattle.std.proofs.lemmas.List.{length-append}
-use Rattle.bdb_top.proofs.StreamLemmas.{read_fails, read_over, reads_all, reads_on, rest_stops, block_stops, consumes_zero, many_by, reads_none, short_by}
-use Rattle.bdb_top.proofs.stream.carry_out_script.Goals as goal
+use Rattle.bdb_base.specs.Causes.{Rises}
+use Rattle.bdb_stream.proofs.StreamLemmas.{read_fails, read_over, reads_all, reads_on, rest_stops, block_stops, consumes_zero, many_by, reads_none, short_by}
+use Rattle.bdb_stream.proofs.stream.carry_out_script.Goals as goal
 
 pub returns-in-Err-clause-streams : goal.returns-in-Err-clause-streams
 returns-in-Err-clause-streams g c = λ s a.
@@ -83,3 +84,19 @@ returns-then-room-eq0-clause-many g c = λ _.
     let agreed = c.requires.agrees in
     many_by _ _ _ r.0 (take c.in-Ok.count c.read.new.buf) (r.2 agreed.state agreed.agrees).taken c.in-Ok.ensures.bytes.0 (omega (arith, r.1, c.if-room-eq0.true, c.loop-count.invariant.small))
     (omega (arith, c.if-count-eq0.false, c.in-Ok.ensures.bound.1))
+
+pub returns-then-room-eq0-clause-one_more : goal.returns-then-room-eq0-clause-one_more
+returns-then-room-eq0-clause-one_more g c = λ _.
+    let given : Rises (c.loop-count.taken + c.in-Ok.count) (g.S.Source.given c.args.script.now) (g.S.Source.given c.read.new.self) = search rules in
+    let size : length c.read.new.buf ≡ c.size_of_read.result = search rules in
+    subst (λ n. Rises n (g.S.Source.given c.args.script.now) (g.S.Source.given c.read.new.self))
+    (omega (arith, c.loop-count.invariant.small, c.if-room-eq0.true, c.if-count-eq0.false, c.in-Ok.ensures.bound.0, size, c.size_of_read.ensures.one c.if-room-eq0.true)) given
+
+pub returns-in-Err-answer_block-clause-one_more : goal.returns-in-Err-answer_block-clause-one_more
+returns-in-Err-answer_block-clause-one_more g c = λ e. absurd (c.in-Err-answer_block.ensures.others.1 e)
+
+pub returns-in-Err-answer_block-clause-within : goal.returns-in-Err-answer_block-clause-within
+returns-in-Err-answer_block-clause-within g c = λ _.
+    let size : length c.read.new.buf ≡ c.size_of_read.result = search rules in
+    let fits = c.size_of_read.ensures.fits (omega (arith, c.if-room-eq0.false)) in
+    (c.loop-count.taken + c.in-Ok.count, omega (arith, c.loop-count.invariant.small, c.in-Ok.ensures.bound.0, size, fits), search rules)

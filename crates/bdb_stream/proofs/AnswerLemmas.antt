@@ -8,8 +8,8 @@ use Rattle.bdb_session.specs.declared.event.Event.{Event}
 use Rattle.bdb_session.specs.Known.{Known, Agrees}
 use Rattle.bdb_session.specs.Machine.{accepts, counts, next_state, reply_of}
 use Rattle.bdb_session.specs.Outcome.{State}
-use Rattle.bdb_top.specs.Ran.{Carried, IsAnswer}
-use Rattle.bdb_top.specs.declared.stop.Stop.TheVariants.{Sink}
+use Rattle.bdb_stream.specs.Carried.{Carried, IsAnswer}
+use Rattle.bdb_stream.specs.declared.stop.Stop.TheVariants.{Sink}
 
 -- nothing was carried out
 pub carries_none : (s : State) (before now : Known) (first last : Seen) → now ≡ before → Unchanged first last → Agrees first.kept before s → Carried s [] now first last

@@ -1,8 +1,8 @@
 use Rattle.std.proofs.Common.{◌∙◌}
 use Rattle.bdb_session.specs.declared.event.Event.TheVariants as event
-use Rattle.bdb_top.proofs.AnswerLemmas.{answers_one, answers_part, carries_none, carries_one}
-use Rattle.bdb_top.proofs.StreamLemmas.{nothing_grows}
-use Rattle.bdb_top.proofs.answers.answer_command.Goals as goal
+use Rattle.bdb_stream.proofs.AnswerLemmas.{answers_one, answers_part, carries_none, carries_one}
+use Rattle.bdb_stream.proofs.StreamLemmas.{nothing_grows}
+use Rattle.bdb_stream.proofs.answers.answer_command.Goals as goal
 
 pub returns-in-Ok-write_reply-clause-answered : goal.returns-in-Ok-write_reply-clause-answered
 returns-in-Ok-write_reply-clause-answered g c = λ s a.

@@ -1,9 +1,9 @@
 use Rattle.std.proofs.Common.{◌≡◌, [], arith, ap, refl, rules}
 use Rattle.bdb_lex.specs.Cut.{EndsFirst, ready, start}
 use Rattle.bdb_session.specs.Runs.{event_of}
-use Rattle.bdb_top.proofs.BlockLemmas.{events_in, come_next, comes_none, next_is, state_done}
-use Rattle.bdb_top.proofs.RunLemmas.{comes_stops, never_fall_on}
-use Rattle.bdb_top.proofs.stream.answer_block.Goals as goal
+use Rattle.bdb_stream.proofs.BlockLemmas.{events_in, come_next, comes_none, next_is, state_done}
+use Rattle.bdb_stream.proofs.RunLemmas.{comes_stops, never_fall_on}
+use Rattle.bdb_stream.proofs.stream.answer_block.Goals as goal
 
 pub returns-in-Err-answer_piece-clause-ends : goal.returns-in-Err-answer_piece-clause-ends
 returns-in-Err-answer_piece-clause-ends g c = λ s a.

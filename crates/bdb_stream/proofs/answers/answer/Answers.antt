@@ -1,6 +1,6 @@
 use Rattle.std.proofs.Common.{◌∙◌}
-use Rattle.bdb_top.proofs.AnswerLemmas.{answers_one, answers_part, carries_one}
-use Rattle.bdb_top.proofs.answers.answer.Goals as goal
+use Rattle.bdb_stream.proofs.AnswerLemmas.{answers_one, answers_part, carries_one}
+use Rattle.bdb_stream.proofs.answers.answer.Goals as goal
 
 pub returns-in-Ok-write_reply-clause-answered : goal.returns-in-Ok-write_reply-clause-answered
 returns-in-Ok-write_reply-clause-answered g c = λ s a.

@@ -4,8 +4,8 @@ use Rattle.bdb_base.specs.Limits.{longest_script}
 use Rattle.bdb_keep.specs.Seen.{IsStill, NeverFall}
 use Rattle.bdb_session.specs.Known.{Agrees, AgreesOnSome}
 use Rattle.bdb_session.specs.Outcome.{State}
-use Rattle.bdb_top.proofs.StreamLemmas.{Reads}
-use Rattle.bdb_top.proofs.stream.carry_out_script.Given as goal
+use Rattle.bdb_stream.proofs.StreamLemmas.{Reads}
+use Rattle.bdb_stream.proofs.stream.carry_out_script.Given as goal
 
 abbrev pub invariant-loop-count : goal.invariant-loop-count
 invariant-loop-count g l = record {

@@ -4,9 +4,9 @@ use Rattle.bdb_lex.specs.Cut.{state_after}
 use Rattle.bdb_session.specs.declared.event.Event.{Event}
 use Rattle.bdb_session.specs.Known.{Agrees, AgreesOnSome}
 use Rattle.bdb_session.specs.Outcome.{State}
-use Rattle.bdb_top.specs.Ran.{Comes}
-use Rattle.bdb_top.proofs.BlockLemmas.{events_in}
-use Rattle.bdb_top.proofs.stream.answer_block.Given as goal
+use Rattle.bdb_stream.specs.Carried.{Comes}
+use Rattle.bdb_stream.proofs.BlockLemmas.{events_in}
+use Rattle.bdb_stream.proofs.stream.answer_block.Given as goal
 
 abbrev pub invariant-loop-piece : goal.invariant-loop-piece
 invariant-loop-piece g l = record {

@@ -7,10 +7,10 @@ use Rattle.bdb_session.specs.declared.event.Event.{Event}
 use Rattle.bdb_session.specs.Known.{Known, Agrees}
 use Rattle.bdb_session.specs.Outcome.{State}
 use Rattle.bdb_session.specs.Runs.{event_of}
-use Rattle.bdb_top.specs.Ran.{Comes}
-use Rattle.bdb_top.proofs.AnswerLemmas.{carries_none}
-use Rattle.bdb_top.proofs.RunLemmas.{AnswersOf, comes_one}
-use Rattle.bdb_top.proofs.StreamLemmas.{nothing_grows}
+use Rattle.bdb_stream.specs.Carried.{Comes}
+use Rattle.bdb_stream.proofs.AnswerLemmas.{carries_none}
+use Rattle.bdb_stream.proofs.RunLemmas.{AnswersOf, comes_one}
+use Rattle.bdb_stream.proofs.StreamLemmas.{nothing_grows}
 
 -- the events of the pieces that end in these bytes
 abbrev pub events_in : CutState → List ℕ → List Event

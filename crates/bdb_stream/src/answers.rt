@@ -8,7 +8,7 @@ ghost use Rattle.bdb_session.specs.Known.{Agrees, AgreesOnSome};
 ghost use Rattle.bdb_session.specs.declared.event.Event.TheVariants as event;
 ghost use Rattle.bdb_session.specs.Outcome.{State};
 ghost use Rattle.bdb_session.specs.Runs.{event_of};
-ghost use Rattle.bdb_top.specs.Ran.{IsAnswer};
+ghost use Rattle.bdb_stream.specs.Carried.{IsAnswer};
 
 use crate::stop::Stop;
 use bdb_io::{Failed, Sink};

@@ -1,8 +1,8 @@
 use Rattle.std.proofs.Common.{Err, subst, sym}
 use Rattle.bdb_lex.specs.declared.token.Piece.{Piece}
 use Rattle.bdb_session.specs.Runs.{event_of}
-use Rattle.bdb_top.specs.Ran.{IsAnswer}
-use Rattle.bdb_top.proofs.answers.answer_piece.Goals as goal
+use Rattle.bdb_stream.specs.Carried.{IsAnswer}
+use Rattle.bdb_stream.proofs.answers.answer_piece.Goals as goal
 
 pub returns-in-Err-answer-clause-answered : goal.returns-in-Err-answer-clause-answered
 returns-in-Err-answer-clause-answered g c = λ s a.

@@ -1,0 +1,4 @@
+pub mod RunLemmas
+pub mod StreamLemmas
+pub mod AnswerLemmas
+pub mod BlockLemmas
