@@ -4,7 +4,7 @@
 SMALL is the built bdb_bench. A line tells of each file what came of it, and which files of its folder are others than before. With
 PROGRAM, the built beliefdb, each is then checked by it, and a script without a command is run over it. The exit status is 1 where a
 file that isn't ours works or is changed, or one that is ours doesn't work; where a check makes or changes a file; and where a run
-changes one that it refuses."""
+changes one that it refuses. As root, a file that can't be read is tried by the user 65534."""
 import hashlib
 import os
 import shutil
@@ -17,6 +17,17 @@ KEPT = "create table kept(tab integer not null, k blob not null, v blob not null
 ROWS = "insert into kept values (1, x'00', x'c0ffee'), (2, x'', x'ff')"
 MANY = "with recursive n(i) as (select 1 union all select i + 1 from n where i < 500) insert into kept select 3, cast(i as blob), randomblob(40) from n"
 ENDLESS = "create view kept as with recursive n(tab, k, v) as (select 1, x'', x'' union all select tab + 1, k, v from n) select * from n"
+
+
+def chain(many):
+    """The rows of so many worlds, each one user deeper than the one before it: the number of each, its depth, and the edge to it."""
+    rows = [(1, (0,), 2), (6, (0,), 0)]
+    for world in range(1, many):
+        user = 2 - world % 2
+        rows += [(6, (world,), world), (9, (world - 1, user), world), (10, (world, world - 1, user), None)]
+    told = (f"({tab}, x'{''.join(f'{n:08x}' for n in key)}', x'{'' if row is None else f'{row:08x}'}')" for tab, key, row in rows)
+    return f"insert into kept values (2, x'00000001', x'024100'), (2, x'00000002', x'024200'), {', '.join(told)}"
+
 
 # What databases are made of, and whether each is ours.
 DATABASES = {
@@ -33,9 +44,12 @@ DATABASES = {
     "a trigger": ([KEPT, ROWS, "create trigger t after insert on kept begin delete from kept; end"], False),
     "a table beside": ([KEPT, ROWS, "create table other(a)"], False),
     "an index beside": ([KEPT, ROWS, "create index other on kept(v)"], False),
-    "a table dropped before": (["create table a(b)", "create table c(d)", "drop table a", KEPT, "drop table c"], None),
+    "a table dropped before": (["create table a(b)", "drop table a", KEPT, ROWS], True),
+    "a table dropped behind": ([KEPT, ROWS, "create table a(b)", "drop table a"], True),
+    "a gap before": (["create table a(b)", KEPT, ROWS, "drop table a"], False),
     "analyzed": ([KEPT, ROWS, "analyze"], False),
     "a row of table 16": ([KEPT, ROWS, "insert into kept values (16, x'', x'')"], False),
+    "a chain of 20,000 worlds": ([KEPT, chain(20000)], True),
     "a content of 3 MB": ([KEPT, "insert into kept values (1, x'', zeroblob(3000000))"], False),
 }
 
@@ -76,13 +90,21 @@ def plain_files(ours):
     }
 
 
+def sum_of(path):
+    """The sum of a file, or what else can be told of it."""
+    if not os.path.isfile(path):
+        return "no file"
+    try:
+        with open(path, "rb") as it:
+            return hashlib.sha256(it.read()).hexdigest()
+    except PermissionError:
+        it = os.stat(path)
+        return f"{it.st_size} bytes of {it.st_mtime_ns}"
+
+
 def sums(folder):
     """The sum of each file of a folder."""
-    found = {}
-    for name in os.listdir(folder):
-        path = f"{folder}/{name}"
-        found[name] = hashlib.sha256(open(path, "rb").read()).hexdigest() if os.path.isfile(path) else "no file"
-    return found
+    return {name: sum_of(f"{folder}/{name}") for name in os.listdir(folder)}
 
 
 def told(small, *words, user=None):
@@ -105,17 +127,21 @@ def tries(small, folder, name, ours, user=None):
     return fine
 
 
-def judged(program, folder, name, ours, user=None):
-    """Checks the file and then runs nothing over it; returns whether all was as it ought to be."""
+def judged(program, folder, name, ours, makes=False, user=None):
+    """Checks the file and then runs nothing over it, which may make a database of it; returns whether all was as it ought to be."""
     path, before = f"{folder}/file.db", sums(folder)
     check = subprocess.run([program, "check", "--db", path], capture_output=True, text=True, timeout=60, user=user)
     checked = sums(folder)
     run = subprocess.run([program, "run", "--db", path], input="", capture_output=True, text=True, timeout=60, user=user)
     after = sums(folder)
-    kept = checked.get("file.db") == before.get("file.db") and (run.returncode == 0 or after.get("file.db") == before.get("file.db"))
-    right = ours is None or check.returncode in ((0, 7) if ours else (5,)) and (run.returncode == check.returncode or name.startswith(("empty", "missing")))
-    print(f"{'' if kept and right else 'NOT RIGHT '}{name}: check {check.returncode} {check.stdout.strip()!r}, run {run.returncode}")
-    return kept and right
+    changed = after.get("file.db") != before.get("file.db")
+    if makes:
+        fine = check.returncode == 5 and checked == before and run.returncode == 0 and changed
+    else:
+        right = ours is None or check.returncode in ((0, 7) if ours else (5,)) and run.returncode == check.returncode
+        fine = right and checked.get("file.db") == before.get("file.db") and not (changed and run.returncode)
+    print(f"{'' if fine else 'NOT RIGHT '}{name}: check {check.returncode} {check.stdout.strip()!r}, run {run.returncode}")
+    return fine
 
 
 def main(small, program=None):
@@ -148,7 +174,11 @@ def main(small, program=None):
             fine &= tried(folder, name, works)
         fine &= tries(small, folder_for("missing"), "missing", True)
         if program:
-            fine &= judged(program, folder_for("missing, judged"), "missing, judged", False)
+            fine &= judged(program, folder_for("missing, judged"), "missing, judged", False, makes=True)
+            folder = folder_for("empty, judged")
+            with open(f"{folder}/file.db", "wb"):
+                pass
+            fine &= judged(program, folder, "empty, judged", False, makes=True)
         folder = folder_for("missing, with a log")
         with open(f"{folder}/file.db-wal", "wb") as it:
             it.write(b"a log of something else\n" * 100)
@@ -159,13 +189,15 @@ def main(small, program=None):
         folder = folder_for("a pipe")
         os.mkfifo(f"{folder}/file.db")
         fine &= tried(folder, "a pipe", False)
-        if os.getuid() == 0:
-            program = shutil.copy(small, f"{top}/small")
-            folder = folder_for("not to be read")
-            shutil.copy(f"{top}/file.db", folder)
-            os.chmod(f"{folder}/file.db", 0)
-            os.chmod(folder, 0o777)
-            fine &= tries(program, folder, "not to be read", False, user=65534)
+        folder = folder_for("not to be read")
+        shutil.copy(f"{top}/file.db", folder)
+        os.chmod(f"{folder}/file.db", 0)
+        os.chmod(folder, 0o777)
+        # root may read it, so there nobody is asked to
+        user = 65534 if os.getuid() == 0 else None
+        fine &= tries(shutil.copy(small, f"{top}/small"), folder, "not to be read", False, user=user)
+        if program:
+            fine &= judged(shutil.copy(program, f"{top}/program"), folder, "not to be read", False, user=user)
     return 0 if fine else 1
 
 

@@ -1,6 +1,7 @@
 // The keeper in memory.
-ghost use Rattle.std.specs.Prelude.{◌≡◌, true, false, OnOk};
-ghost use Rattle.bdb_keep.specs.Seen.{GoesOn, Steps};
+ghost use Rattle.std.specs.Prelude.{◌≡◌, true, false};
+ghost use Rattle.bdb_base.specs.Causes.{HasCause};
+ghost use Rattle.bdb_keep.specs.Seen.{Steps};
 
 use crate::{key_of, micros, ordered_key};
 use bdb_keep::{KeepError, Keeper, QuietKeeper};
@@ -80,7 +81,7 @@ fn take_rows<K: Keeper>(keeper: &mut K, count: u32) -> Result<(), KeepError>
 /// Puts rows while a transaction runs; in each round with another content.
 pub fn put_rows<K: Keeper>(keeper: &mut K, count: u32, round: u32) -> Result<(), KeepError>
     requires { (K.seen keeper.old).running ≡ true }
-    ensures { OnOk result (GoesOn (K.seen keeper.old) (K.seen keeper.new)) }
+    ensures { Steps (K.seen keeper.old) (K.seen keeper.new) result KeepError.Fault }
 {
     for number in 0..count {
         keeper.put(1, &key_of(number), &round.to_be_bytes())?;
@@ -89,7 +90,9 @@ pub fn put_rows<K: Keeper>(keeper: &mut K, count: u32, round: u32) -> Result<(),
 }
 
 /// Gets each row.
-fn get_rows<K: Keeper>(alloc: Global, keeper: &mut K, count: u32) -> Result<(), KeepError> {
+fn get_rows<K: Keeper>(alloc: Global, keeper: &mut K, count: u32) -> Result<(), KeepError>
+    ensures { HasCause (K.seen keeper.old).faults (K.seen keeper.new).faults result KeepError.Fault }
+{
     let mut row = Vec::new(alloc);
     for number in 0..count {
         keeper.get(11, &ordered_key(number), &mut row)?;
@@ -98,7 +101,9 @@ fn get_rows<K: Keeper>(alloc: Global, keeper: &mut K, count: u32) -> Result<(), 
 }
 
 /// Goes over the rows in order, and counts them.
-fn next_rows<K: Keeper>(alloc: Global, keeper: &mut K, count: u32) -> Result<u32, KeepError> {
+fn next_rows<K: Keeper>(alloc: Global, keeper: &mut K, count: u32) -> Result<u32, KeepError>
+    ensures { HasCause (K.seen keeper.old).faults (K.seen keeper.new).faults result KeepError.Fault }
+{
     let mut low = Vec::new(alloc);
     let mut key = Vec::new(alloc);
     let mut row = Vec::new(alloc);

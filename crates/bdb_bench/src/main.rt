@@ -35,14 +35,9 @@ fn measured(rt: &HostRuntime) -> io::Result<()> {
             number(rows.as_str()),
         ),
         [job, file] if job.as_str() == "open" => filed::measure_open(rt, file.as_str()),
-        [job, file, nowhere, other] if job.as_str() == "files" => files::tell(
-            rt,
-            file.as_str(),
-            nowhere.as_str(),
-            other.as_str(),
-        ),
+        [job] if job.as_str() == "files" => files::tell(rt),
         _ => println!(rt;
-            "read < SCRIPT | kept COUNT | filed FILE COMMITS ROWS | open FILE | files NEW NOWHERE OTHER"
+            "read < SCRIPT | kept COUNT | filed FILE COMMITS ROWS | open FILE | files"
         ),
     }
 }

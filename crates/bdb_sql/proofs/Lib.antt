@@ -1,3 +1,4 @@
 pub mod LoadLemmas
 pub mod RowLemmas
+pub mod StayLemmas
 pub mod TextLemmas

@@ -3,3 +3,4 @@ pub mod Filed
 pub mod Heads
 pub mod Kept
 pub mod Rows
+pub mod Stays

@@ -1,6 +1,10 @@
 // A keeper over the file at a path.
-ghost use Rattle.std.specs.Prelude.{◌≡◌, true, IsSome};
+ghost use Rattle.std.specs.Prelude.{◌≡◌, true, IfSome, IsSome};
 ghost use Rattle.bdb_sql.specs.Filed.{Begins, works};
+ghost use Rattle.bdb_sql.specs.Kept.{IsBareOrKept};
+ghost use Rattle.bdb_sql.specs.Rows.{Stores};
+ghost use Rattle.sqlite.specs.Files.{file_state};
+ghost use Rattle.sqlite.specs.State.{HasCleanDisk, Opens};
 
 use crate::keeper::SqlKeeper;
 use crate::look::{Sight, look_at};
@@ -17,6 +21,9 @@ impl SqlKeeper<FileStore<File>> {
     pub fn from_file(alloc: Global, rt: &HostRuntime, path: &str) -> Self
         ensures begins { Begins result }
         ensures file { works result ≡ true → IsSome result.conn }
+        ensures opens { works result ≡ true → IfSome result.conn (λ c. HasCleanDisk (file_state c) → Opens (file_state c)) }
+        ensures found { works result ≡ true → IfSome result.conn (λ c. HasCleanDisk (file_state c) → IsBareOrKept (file_state c)) }
+        ensures rows { works result ≡ true → IfSome result.conn (λ c. HasCleanDisk (file_state c) → Stores (file_state c).now result.seen.kept) }
     {
         match look_at(rt, path) {
             Ok(Sight::Other) => SqlKeeper::closed(alloc, KeepError::Fault),
@@ -30,6 +37,9 @@ impl SqlKeeper<FileStore<File>> {
     pub fn from_present_file(alloc: Global, rt: &HostRuntime, path: &str) -> Self
         ensures begins { Begins result }
         ensures file { works result ≡ true → IsSome result.conn }
+        ensures opens { works result ≡ true → IfSome result.conn (λ c. HasCleanDisk (file_state c) → Opens (file_state c)) }
+        ensures found { works result ≡ true → IfSome result.conn (λ c. HasCleanDisk (file_state c) → IsBareOrKept (file_state c)) }
+        ensures rows { works result ≡ true → IfSome result.conn (λ c. HasCleanDisk (file_state c) → Stores (file_state c).now result.seen.kept) }
     {
         match look_at(rt, path) {
             Ok(Sight::Database) => SqlKeeper::opened(alloc, rt, path),
@@ -42,6 +52,9 @@ impl SqlKeeper<FileStore<File>> {
     fn opened(alloc: Global, rt: &HostRuntime, path: &str) -> Self
         ensures begins { Begins result }
         ensures file { works result ≡ true → IsSome result.conn }
+        ensures opens { works result ≡ true → IfSome result.conn (λ c. HasCleanDisk (file_state c) → Opens (file_state c)) }
+        ensures found { works result ≡ true → IfSome result.conn (λ c. HasCleanDisk (file_state c) → IsBareOrKept (file_state c)) }
+        ensures rows { works result ≡ true → IfSome result.conn (λ c. HasCleanDisk (file_state c) → Stores (file_state c).now result.seen.kept) }
     {
         match Connection::open(rt, path) {
             Ok(conn) => SqlKeeper::over(alloc, conn),

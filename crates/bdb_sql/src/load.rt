@@ -1,12 +1,13 @@
 // Loading the rows of a file.
 ghost use Rattle.std.specs.Prelude.{◌≡◌, ◌∷◌, ℕ, List, map, IfOk, IfSome, IfNone, OnOk};
 ghost use Rattle.std.specs.Ordering.{is_lt};
-ghost use Rattle.sqlite.specs.State.{HasCleanDisk, Survives};
+ghost use Rattle.sqlite.specs.State.{HasCleanDisk, IsUnchanged, Survives};
 ghost use Rattle.sqlite.specs.Held.{state};
 ghost use Rattle.bdb_keep.specs.Tables.{LieInTables, bytes_cmp};
 ghost use Rattle.bdb_sql.specs.Entries.{StandsFor, AddsAfter};
 ghost use Rattle.bdb_sql.specs.Kept.{IsBareOrKept, kept_schema};
 ghost use Rattle.bdb_sql.specs.Rows.{AreRowsOf, Stores, entry};
+ghost use Rattle.bdb_sql.specs.Stays.{StaysAs};
 
 use crate::kept::{LONGEST, SELECT};
 use crate::schema::{Found, schema_of};
@@ -29,6 +30,7 @@ pub fn load<S: Alter>(alloc: Global, conn: &mut Connection<S>) -> Result<Store, 
     ensures fits { IfOk result (λ store. LieInTables store.kept) }
     ensures found { OnOk result (IsBareOrKept (state S.Store conn.old)) }
     ensures rows { HasCleanDisk (state S.Store conn.new) → IfOk result (λ store. Stores (state S.Store conn.old).now store.kept) }
+    ensures same { HasCleanDisk (state S.Store conn.new) → OnOk result (StaysAs (state S.Store conn.old) (state S.Store conn.new)) }
     ensures survives { Survives (state S.Store conn.old) (state S.Store conn.new) (λ _. ⊥) }
 {
     if !conn.is_autocommit() {
@@ -50,6 +52,7 @@ fn read_rows<S: Alter>(alloc: Global, conn: &mut Connection<S>) -> Result<Store,
     ensures settled { IfOk result (λ store. store.kept ≡ store.last) }
     ensures fits { IfOk result (λ store. LieInTables store.kept) }
     ensures rows { HasCleanDisk (state S.Store conn.new) → IfOk result (λ store. AreRowsOf (map entry ((state S.Store conn.old).now.trees 0)) store.kept) }
+    ensures same { HasCleanDisk (state S.Store conn.new) → OnOk result (IsUnchanged (state S.Store conn.old) (state S.Store conn.new)) }
     ensures survives { Survives (state S.Store conn.old) (state S.Store conn.new) (λ _. ⊥) }
 {
     let mut store = Store::new(alloc);

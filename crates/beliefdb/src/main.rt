@@ -18,9 +18,6 @@ use std::process::ExitCode;
 /// The status where there is no memory for the words of the command line.
 const NO_MEMORY: u8 = 6;
 
-/// The status where the rows of a file hold no base.
-const NO_BASE: u8 = 7;
-
 fn main(rt: HostRuntime) -> ExitCode {
     let status = match words_of(&rt) {
         Ok(words) => run_words(&rt, words.as_slice()),
@@ -72,18 +69,24 @@ fn run_over<S: Source>(rt: &HostRuntime, words: &[Txt], db: Option<&Txt>, script
     }
 }
 
-/// Runs the words over a source, with the rows of a file, which is made where there is none. A file whose rows hold no base is left
-/// as it is.
+/// Runs the words over a source, with the rows of a file, which is made where there is none. The log beside it is copied into it where
+/// the run knew that its rows hold a base. Else both are left as they are: what was committed is in the two of them in either case.
 fn run_in_file<S: Source>(rt: &HostRuntime, words: &[Txt], file: &Txt, script: &mut S) -> u8 {
     let mut keeper = SqlKeeper::from_file(rt.alloc(), rt, file.as_str());
     let status = run_with(rt, words, script, &mut keeper);
-    if status == NO_BASE {
-        keeper.leave();
-    } else {
+    if is_over_base(status) {
         // Where this fails, what was committed still is in the file and the log beside it.
         drop(keeper.close());
+    } else {
+        keeper.leave();
     }
     status
+}
+
+/// Whether the rows of a run that ended so held a base for sure: it came to its script. With 5 and 6 the storage or memory may have
+/// failed before that was known, with 7 they hold none, and with 2 nothing ran.
+fn is_over_base(status: u8) -> bool {
+    matches!(status, 0 | 1 | 3 | 4 | 8)
 }
 
 /// Checks a file that is there, and leaves it as it is.

@@ -1,0 +1,6 @@
+use Rattle.sqlite.specs.Files.{over_files}
+use Rattle.bdb_sql.proofs.StayLemmas.{opens_there}
+use Rattle.bdb_sql.proofs.file.SqlKeeper+FileStore+File.opened.Goals as goal
+
+pub returns-in-Ok-clause-opens : goal.returns-in-Ok-clause-opens
+returns-in-Ok-clause-opens c works = opens_there over_files c.in-Ok.conn c.over.result.conn (λ clean. (c.in-Ok.ensures.opened clean).0) (c.over.ensures.same works) c.over.ensures.survives
