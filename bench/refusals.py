@@ -1,0 +1,248 @@
+#!/usr/bin/env python3
+"""Refuses memory to the program, one allocation after the other, and looks at what it answers and leaves.
+   bench/refusals.py PROGRAM [JOBS]
+PROGRAM is the built beliefdb, proved or by bench/unproved.py; so many runs go side by side (one where none are named). It wants cc,
+which builds a small library that stands before the C library's malloc and realloc and refuses one call, the nth.
+
+Each script is run with the nth call refused, for n from 1 until a run meets no refusal: in memory, with a new file, and its second half
+over the file that its first half left; and that file is checked. A run is right where its status is 6, its replies are those to the first k
+commands, and the file has the base after k commands, with the very rows; or where it ends as it does with ample memory, since it can do
+without what was refused. A check is right where it writes nothing with status 6, or says what it says with ample memory, and the
+database file stays. The exit status is 1 where any is not."""
+import concurrent.futures
+import os
+import shutil
+import sqlite3
+import subprocess
+import sys
+import tempfile
+
+HERE = os.path.dirname(os.path.abspath(__file__))
+
+REFUSING = r"""
+#include <errno.h>
+#include <stdlib.h>
+#include <unistd.h>
+
+extern void *__libc_malloc(size_t);
+extern void *__libc_realloc(void *, size_t);
+
+static long left;
+
+__attribute__((constructor)) static void begin(void) {
+    const char *number = getenv("REFUSED");
+    left = number ? atol(number) : 0;
+}
+
+/* Whether this is the call to refuse; it is told through the pipe in place of the standard error stream. */
+static int is_refused(void) {
+    if (left == 0 || --left > 0)
+        return 0;
+    (void)!write(2, "r", 1);
+    errno = ENOMEM;
+    return 1;
+}
+
+void *malloc(size_t size) {
+    return is_refused() ? NULL : __libc_malloc(size);
+}
+
+void *realloc(void *old, size_t size) {
+    return is_refused() ? NULL : __libc_realloc(old, size);
+}
+"""
+
+STATED_AND_DENIED = """
+create user 'Alice'; create user 'Bob'; create relation S(k text, v text);
+insert into S values('s1','eagle'); insert into BELIEF 'Bob' not S values('s1','eagle');
+insert into BELIEF 'Alice' S values('s1','crow');
+insert into BELIEF 'Alice' S values('s1','raven');
+insert into BELIEF 'Alice' not S values('s1','raven');
+insert into BELIEF 'Alice' S values('s1','crow');
+delete from BELIEF 'Alice' S where v = 'crow';
+show world BELIEF 'Alice';
+"""
+
+NEW_WORLDS = """
+create user 'Alice'; create user 'Bob'; create relation S(k text, v text);
+create user 'Carol'; insert into BELIEF 'Carol' BELIEF 'Alice' S values('s1','eagle'); insert into BELIEF 'Alice' S values('s2','crow'); show tables;
+"""
+
+# Worlds of depth up to 3 come and go, and statements are updated together.
+DEEP = """
+create user 'Alice'; create user 'Bob'; create user 'Carol'; create relation S(k text, v int); create relation T(k int, note text);
+insert into S values('s1', 1);
+insert into BELIEF 'Alice' BELIEF 'Bob' BELIEF 'Carol' S values('s1', 2);
+insert into BELIEF 'Alice' BELIEF 'Bob' BELIEF 'Carol' S values('s2', 3);
+update BELIEF 'Alice' BELIEF 'Bob' BELIEF 'Carol' S set k = 's1';
+insert into BELIEF 'Bob' BELIEF 'Carol' S values('s2', 3);
+insert into BELIEF 'Bob' BELIEF 'Carol' not S values('s3', 3);
+insert into BELIEF 'Carol' T values(1, 'a note of more than twenty-four bytes');
+update BELIEF 'Alice' BELIEF 'Bob' BELIEF 'Carol' S set v = 5;
+update BELIEF 'Alice' BELIEF 'Bob' BELIEF 'Carol' S set k = 's4' where v > 4;
+update BELIEF 'Alice' BELIEF 'Bob' BELIEF 'Carol' S set k = 's5', v = 4 where k = 's4';
+insert into BELIEF 'Alice' BELIEF 'Bob' BELIEF 'Carol' S values('s6', 6);
+insert into BELIEF 'Carol' S values('s6', 6);
+insert into BELIEF 'Carol' S values('s6', 7);
+update BELIEF 'Carol' S set v = 8;
+delete from BELIEF 'Bob' BELIEF 'Carol' S where v >= 3;
+show world BELIEF 'Alice' BELIEF 'Bob' BELIEF 'Carol';
+delete from BELIEF 'Alice' BELIEF 'Bob' BELIEF 'Carol' S;
+delete from BELIEF 'Bob' BELIEF 'Carol' not S;
+create user 'Dora';
+insert into BELIEF 'Dora' BELIEF 'Carol' not S values('s1', 1);
+delete from BELIEF 'Carol' T;
+select U.name, X.v from Users U, BELIEF U.uid S X where X.k = 's6';
+"""
+
+
+def scripts():
+    """The name and the commands of each script."""
+    with open(f"{HERE}/sightings.bsql") as it:
+        sightings = it.read()
+    texts = {"stated and denied": STATED_AND_DENIED, "new worlds": NEW_WORLDS, "sightings": sightings, "deep": DEEP}
+    return {name: [it.strip() + ";" for it in text.split(";")[:-1]] for name, text in texts.items()}
+
+
+class Run:
+    """How a run of the program ended."""
+
+    def __init__(self, program, words, script="", shim=None, refused=0):
+        env = dict(os.environ)
+        if shim:
+            env.update(LD_PRELOAD=shim, REFUSED=str(refused))
+        done = subprocess.run([program, *words], input=script, capture_output=True, text=True, timeout=60, env=env)
+        self.status, self.replies, self.met = done.returncode, done.stdout, done.stderr == "r"
+
+    def same(self, other):
+        return (self.status, self.replies) == (other.status, other.replies)
+
+
+def rows_of(path):
+    """The rows of the one table of a database."""
+    base = sqlite3.connect(path)
+    rows = base.execute("select tab, k, v from kept order by tab, k").fetchall()
+    base.close()
+    return rows
+
+
+def left_in(program, path):
+    """What a file is checked to be, shows and has, once a run over it has opened it."""
+    check = Run(program, ["check", "--db", path])
+    shown = Run(program, ["run", "--db", path], "show tables;")
+    return (check.status, shown.status, shown.replies, rows_of(path))
+
+
+def content(path):
+    with open(path, "rb") as it:
+        return it.read()
+
+
+class Script:
+    """A script, with what it replies and leaves after each of its commands, over the file that another left, or none."""
+
+    def __init__(self, program, folder, commands, before=()):
+        self.program, self.folder, self.text = program, folder, "\n".join(commands)
+        self.start = f"{folder}/start.db" if before else None
+        if before:
+            Run(program, ["run", "--db", self.start], "\n".join(before))
+        self.replies, self.left = [], []
+        for count in range(len(commands) + 1):
+            path = self.file(f"after{count}")
+            self.last = Run(program, ["run", "--db", path], "\n".join(commands[:count]))
+            self.replies.append(self.last.replies)
+            self.left.append(left_in(program, path))
+
+    def file(self, name):
+        """A file to run over, which has what was there before."""
+        path = f"{self.folder}/{name}.db"
+        if self.start:
+            shutil.copy(self.start, path)
+        return path
+
+    def in_memory(self, shim, refused):
+        run = Run(self.program, ["run"], self.text, shim, refused)
+        return told(run, run.same(self.last), run.status == 6 and run.replies in self.replies)
+
+    def in_file(self, shim, refused):
+        path = self.file(f"run{refused}")
+        run = Run(self.program, ["run", "--db", path], self.text, shim, refused)
+        same = run.same(self.last)
+        count = len(self.replies) - 1 if same else self.replies.index(run.replies) if run.replies in self.replies else None
+        # A check asks for a file that is there.
+        there = os.path.exists(path) and os.path.getsize(path) > 0
+        left = left_in(self.program, path)
+        right = count is not None and left[1:] == self.left[count][1:] and left[0] == (0 if there else 5)
+        removed(path)
+        return told(run, same and right, run.status == 6 and right)
+
+    def checked(self, shim, refused):
+        path = f"{self.folder}/checked{refused}.db"
+        shutil.copy(f"{self.folder}/after{len(self.replies) - 1}.db", path)
+        old = content(path)
+        run = Run(self.program, ["check", "--db", path], "", shim, refused)
+        kept = content(path) == old
+        removed(path)
+        return told(run, kept and (run.status, run.replies) == (0, "ok\n"), kept and (run.status, run.replies) == (6, ""))
+
+
+def removed(path):
+    for end in "", "-wal", "-shm":
+        if os.path.exists(path + end):
+            os.remove(path + end)
+
+
+def told(run, harmless, stopped):
+    """What came of a run: no refusal, a harmless one, the status 6, or something else."""
+    if not run.met:
+        return "none" if harmless else f"WRONG with no refusal: {run.status} {run.replies!r}"
+    return "harmless" if harmless else "stopped" if stopped else f"WRONG: {run.status} {run.replies!r}"
+
+
+def refused_each(jobs, name, trial):
+    """Tries each number of a call until none is refused; returns whether all was right."""
+    counts = {"stopped": 0, "harmless": 0, "wrong": 0}
+    with concurrent.futures.ThreadPoolExecutor(jobs) as pool:
+        first, size, ended = 1, 64 * jobs, False
+        while not ended:
+            for number, what in enumerate(pool.map(trial, range(first, first + size)), first):
+                if what == "none":
+                    ended = True
+                elif what in counts:
+                    counts[what] += 1
+                else:
+                    counts["wrong"] += 1
+                    print(f"{name}, call {number}: {what}")
+            first += size
+    refused = sum(counts.values())
+    print(f"{name}: {refused} refusals, {counts['stopped']} status 6, {counts['harmless']} harmless, {counts['wrong']} wrong", flush=True)
+    return counts
+
+
+def main(program, jobs=1):
+    sums = {}
+    with tempfile.TemporaryDirectory(dir="/dev/shm" if os.path.isdir("/dev/shm") else None) as top:
+        shim = f"{top}/refusing.so"
+        with open(f"{top}/refusing.c", "w") as it:
+            it.write(REFUSING)
+        subprocess.check_call(["cc", "-O1", "-shared", "-fPIC", "-o", shim, f"{top}/refusing.c"])
+        for name, commands in scripts().items():
+            for part in "whole", "second":
+                folder = f"{top}/{name.replace(' ', '_')}_{part}"
+                os.mkdir(folder)
+                half = len(commands) // 2 if part == "second" else 0
+                script = Script(program, folder, commands[half:], commands[:half])
+                trials = {"over its first half": script.in_file} if half else \
+                    {"in memory": script.in_memory, "in a new file": script.in_file, "checked": script.checked}
+                for how, trial in trials.items():
+                    counts = refused_each(jobs, f"{name}, {how}", lambda n: trial(shim, n))
+                    for what, count in counts.items():
+                        sums[what] = sums.get(what, 0) + count
+    print(f"in all: {sum(sums.values())} refusals, {sums['stopped']} status 6, {sums['harmless']} harmless, {sums['wrong']} wrong")
+    return 1 if sums["wrong"] else 0
+
+
+if __name__ == "__main__":
+    if not 2 <= len(sys.argv) <= 3:
+        sys.exit(__doc__)
+    sys.exit(main(os.path.abspath(sys.argv[1]), *map(int, sys.argv[2:])))

@@ -1,0 +1,223 @@
+// Runs of which a device fails, over a worked script, and how they end.
+ghost use Rattle.std.specs.Prelude.{◌≡◌, false, IfOk};
+
+mod copying;
+mod cuts;
+mod keepers;
+mod long;
+mod openings;
+mod sinks;
+mod sources;
+
+use bdb_base::{List, Txt};
+use bdb_io::{MemSink, MemSource};
+use bdb_keep::MemKeeper;
+use bdb_top::run;
+use std::alloc::Global;
+use std::test::Fail;
+
+/// Three curators, their sightings and their comments, and two queries. Each semicolon ends a command.
+const SCRIPT: &[u8] = b"create user 'Alice'; create user 'Bob'; create user 'Carol';
+create relation Sightings(sid text, observer text, species text, place text);
+create relation Comments(cid text, note text, sid text);
+insert into Sightings values('s1','Carol','bald eagle','Lake Forest');
+insert into BELIEF 'Bob' not Sightings values('s1','Carol','bald eagle','Lake Forest');
+insert into BELIEF 'Alice' Sightings values('s2','Alice','crow','Lake Placid');
+insert into BELIEF 'Alice' Comments values('c1','found feathers','s2');
+insert into BELIEF 'Bob' Sightings values('s2','Alice','raven','Lake Placid');
+insert into BELIEF 'Bob' BELIEF 'Alice' Comments values('c2','black feathers','s2');
+-- who disputes what Alice believes
+select U.name, X.sid, X.species
+from Users as U, BELIEF 'Alice' Sightings as X, BELIEF U.uid not Sightings as Y
+where Y.sid = X.sid and Y.observer = X.observer and Y.species = X.species and Y.place = X.place;
+-- what Bob believes that Alice comments on s2
+select C.cid, C.note from BELIEF 'Bob' BELIEF 'Alice' Comments C where C.sid = 's2';
+";
+
+/// The replies to these commands.
+const REPLIES: &[u8] = b"ok\nok\nok\nok\nok\nok 1\nok 1\nok 1\nok 1\nok 1\nok 1\n\
+'Bob', 's1', 'bald eagle'\n'Bob', 's2', 'crow'\nok 2\n\
+'c1', 'found feathers'\n'c2', 'black feathers'\nok 2\n";
+
+/// How many commands there are.
+const COMMANDS: usize = 13;
+
+/// How many bytes of replies a sink takes.
+const ROOM: usize = 2_000_000;
+
+/// How many bytes a source that doesn't fail gives in a read.
+const STEP: usize = 4_096;
+
+/// What a run left.
+#[derive(Drop)]
+struct Left {
+    status: u8,
+    out: MemSink,
+    keeper: MemKeeper,
+}
+
+/// How a run has to end. The first of the commits is that of opening, and then comes one for each command that was done.
+#[derive(Clone, Copy, Drop)]
+struct End<'a> {
+    status: u8,
+    replies: &'a [u8],
+    commits: usize,
+}
+
+/// The list of one number.
+fn only(alloc: Global, number: u32) -> Result<List<u32>, Fail> {
+    let mut list = List::new(alloc);
+    list.push(number)?;
+    Ok(list)
+}
+
+/// A source that doesn't fail.
+fn quiet_source(alloc: Global, script: &[u8]) -> Result<MemSource, Fail> {
+    let text = Vec::from_slice(alloc, script)?;
+    Ok(MemSource::new(text, STEP, List::new(alloc)))
+}
+
+/// A sink that doesn't fail.
+fn quiet_sink(alloc: Global) -> Result<MemSink, Fail> {
+    Ok(MemSink::new(alloc, List::new(alloc), 0, ROOM)?)
+}
+
+/// A keeper without rows that doesn't fail.
+fn quiet_keeper(alloc: Global) -> MemKeeper
+    ensures idle { result.seen.running ≡ false }
+{
+    MemKeeper::new(alloc, List::new(alloc))
+}
+
+/// The words of a line.
+fn words_of(alloc: Global, line: &str) -> Result<List<Txt>, Fail> {
+    let mut words = List::new(alloc);
+    for word in line.split_whitespace() {
+        words.push(Txt::try_new(alloc, word)?)?;
+    }
+    Ok(words)
+}
+
+/// The status of the words of a line over a source, a sink and a keeper.
+fn ran(
+    alloc: Global,
+    line: &str,
+    mut source: MemSource,
+    out: &mut MemSink,
+    keeper: &mut MemKeeper,
+) -> Result<u8, Fail>
+    requires idle { keeper.old.seen.running ≡ false }
+    ensures idle { keeper.new.seen.running ≡ false }
+{
+    let words = words_of(alloc, line)?;
+    Ok(run(alloc, words.as_slice(), &mut source, out, keeper))
+}
+
+/// What a script leaves, over these three.
+fn ran_with(
+    alloc: Global,
+    source: MemSource,
+    mut out: MemSink,
+    mut keeper: MemKeeper,
+) -> Result<Left, Fail>
+    requires idle { keeper.seen.running ≡ false }
+    ensures idle { IfOk result (λ left. left.keeper.seen.running ≡ false) }
+{
+    let status = ran(alloc, "run", source, &mut out, &mut keeper)?;
+    Ok(Left {
+        status,
+        out,
+        keeper,
+    })
+}
+
+/// The status and the replies of a script over a keeper, with no other device that fails.
+fn told(alloc: Global, script: &[u8], keeper: &mut MemKeeper) -> Result<(u8, MemSink), Fail>
+    requires idle { keeper.old.seen.running ≡ false }
+    ensures idle { keeper.new.seen.running ≡ false }
+{
+    let mut out = quiet_sink(alloc)?;
+    let status = ran(alloc, "run", quiet_source(alloc, script)?, &mut out, keeper)?;
+    Ok((status, out))
+}
+
+/// The first commands of a script, and what stands behind them.
+fn parted(script: &[u8], commands: usize) -> (&[u8], &[u8]) {
+    let mut count: usize = 0;
+    for command in script.split_inclusive(|byte| *byte == b';').take(commands) {
+        count = count.saturating_add(command.len());
+    }
+    script.split_at(count.min(script.len()))
+}
+
+/// How many commands end in these bytes.
+fn commands_in(script: &[u8]) -> usize {
+    script.iter().filter(|byte| **byte == b';').count()
+}
+
+/// Whether a line is the last one of a reply.
+fn ends_reply(line: &[u8]) -> bool {
+    line.starts_with(b"ok") || line.starts_with(b"error")
+}
+
+/// How many replies are whole in these bytes.
+fn replies_in(bytes: &[u8]) -> usize {
+    bytes
+        .split(|byte| *byte == b'\n')
+        .filter(|line| ends_reply(*line))
+        .count()
+}
+
+/// The bytes of the first replies.
+fn first_replies(count: usize) -> &'static [u8] {
+    let mut left = count;
+    let mut end: usize = 0;
+    for line in REPLIES.split_inclusive(|byte| *byte == b'\n') {
+        if left == 0 {
+            break;
+        }
+        end = end.saturating_add(line.len());
+        if ends_reply(line) {
+            left -= 1;
+        }
+    }
+    REPLIES.get(..end).unwrap_or(REPLIES)
+}
+
+/// The rows that the first commands of the script leave where so many transactions are committed.
+fn rows_after(alloc: Global, commits: usize) -> Result<MemKeeper, Fail> {
+    let mut rows = quiet_keeper(alloc);
+    if 0 < commits {
+        let (first, _) = parted(SCRIPT, commits - 1);
+        told(alloc, first, &mut rows)?;
+    }
+    Ok(rows)
+}
+
+/// Whether a run of the script ended so.
+fn ended(alloc: Global, left: &Left, end: End<'_>) -> Result<bool, Fail> {
+    let rows = rows_after(alloc, end.commits)?;
+    Ok(
+        left.status == end.status
+            && left.out.bytes() == end.replies
+            && left.keeper.commits() == end.commits as u64
+            && left.keeper.same_rows(&rows),
+    )
+}
+
+#[test]
+fn the_script_is_carried_out(rt: HostRuntime) -> Result<(), Fail> {
+    let alloc = rt.alloc();
+    assert_eq!(rt; commands_in(SCRIPT), COMMANDS);
+    assert_eq!(rt; replies_in(REPLIES), COMMANDS);
+    let left = ran_with(
+        alloc,
+        quiet_source(alloc, SCRIPT)?,
+        quiet_sink(alloc)?,
+        quiet_keeper(alloc),
+    )?;
+    assert_eq!(rt; left.status, 0);
+    assert_eq!(rt; left.out.bytes(), REPLIES);
+    assert_eq!(rt; left.keeper.commits(), 14);
+    Ok(())
+}

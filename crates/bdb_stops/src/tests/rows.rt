@@ -1,0 +1,137 @@
+// What files hold.
+ghost use Rattle.std.specs.Prelude.{◌≡◌, ◌≤◌, false};
+
+use crate::tests::files::opened;
+use crate::tests::script::{ROOM, ran};
+use bdb_base::List;
+use bdb_io::MemSink;
+use bdb_keep::{Keeper, MemKeeper};
+use sqlite_disk::{Files, Fuse, Memory};
+use std::alloc::Global;
+use std::test::Fail;
+
+/// How many of the commands change the base: the first ones.
+const CHANGES: usize = 11;
+
+/// How many commits were answered where so many commands were replied to, that of opening among them; none where none was.
+pub fn commits_told(commands: usize) -> usize {
+    if commands == 0 {
+        0
+    } else {
+        commands.min(CHANGES) + 1
+    }
+}
+
+/// The files are opened again and checked to hold a base. Of the commits of an undisturbed run it tells how many, not fewer than
+/// `least`, make these very rows; the first is that of opening.
+pub fn commits_in(
+    alloc: Global,
+    files: Files<Fuse<Memory>>,
+    least: usize,
+) -> Result<Option<usize>, Fail> {
+    let Ok(mut keeper) = opened(alloc, files) else {
+        return Ok(None);
+    };
+    let mut line = MemSink::new(alloc, List::new(alloc), 0, ROOM)?;
+    let status = ran(alloc, "check --db a", 0, &mut line, &mut keeper)?;
+    if status != 0 || line.bytes() != b"ok\n".as_slice() {
+        return Ok(None);
+    }
+    commits_made(alloc, &mut keeper, least)
+}
+
+/// How many of the commits of an undisturbed run, not fewer than `least`, make the rows of a keeper.
+fn commits_made<K: Keeper>(
+    alloc: Global,
+    keeper: &mut K,
+    least: usize,
+) -> Result<Option<usize>, Fail> {
+    for commits in least..CHANGES + 2 {
+        let mut undisturbed = undisturbed(alloc, commits)?;
+        if undisturbed.commits() != commits as u64 {
+            return Ok(None);
+        }
+        if have_same_rows(alloc, keeper, &mut undisturbed)? {
+            return Ok(Some(commits));
+        }
+    }
+    Ok(None)
+}
+
+/// A keeper after so many commits.
+fn undisturbed(alloc: Global, commits: usize) -> Result<MemKeeper, Fail> {
+    let mut keeper = MemKeeper::new(alloc, List::new(alloc));
+    let mut replies = MemSink::new(alloc, List::new(alloc), 0, ROOM)?;
+    if commits > 0 {
+        ran(alloc, "run", commits - 1, &mut replies, &mut keeper)?;
+    }
+    Ok(keeper)
+}
+
+/// Whether two keepers have the same rows.
+fn have_same_rows<A: Keeper, B: Keeper>(
+    alloc: Global,
+    one: &mut A,
+    other: &mut B,
+) -> Result<bool, Fail> {
+    for tab in 1..16 {
+        if !have_same_table(alloc, tab, one, other)? {
+            return Ok(false);
+        }
+    }
+    Ok(true)
+}
+
+/// Whether two keepers have the same rows in a table.
+fn have_same_table<A: Keeper, B: Keeper>(
+    alloc: Global,
+    tab: u8,
+    one: &mut A,
+    other: &mut B,
+) -> Result<bool, Fail> {
+    let mut low = Vec::new(alloc);
+    for _ in 0..1_000_000 {
+        let row = row_from(alloc, tab, low.as_slice(), one)?;
+        let wanted = row_from(alloc, tab, low.as_slice(), other)?;
+        if !is_same_row(&row, &wanted) {
+            return Ok(false);
+        }
+        if !row.found {
+            return Ok(true);
+        }
+        low = row.key;
+        low.push(0)?;
+    }
+    Ok(false)
+}
+
+/// A row of a table with its key. Both are empty where there is none.
+#[derive(Drop)]
+struct Row {
+    found: bool,
+    key: Vec<u8>,
+    content: Vec<u8>,
+}
+
+/// Whether two rows are the same.
+fn is_same_row(one: &Row, other: &Row) -> bool {
+    one.found == other.found
+        && one.key.as_slice() == other.key.as_slice()
+        && one.content.as_slice() == other.content.as_slice()
+}
+
+/// The first row of a table whose key isn't below `low`.
+fn row_from<K: Keeper>(alloc: Global, tab: u8, low: &[u8], keeper: &mut K) -> Result<Row, Fail> {
+    let mut key = Vec::new(alloc);
+    let mut content = Vec::new(alloc);
+    let found = if tab < 1 || tab > 15 {
+        false
+    } else {
+        keeper.next(tab, low, &mut key, &mut content)?
+    };
+    Ok(Row {
+        found,
+        key,
+        content,
+    })
+}
