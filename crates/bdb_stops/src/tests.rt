@@ -10,7 +10,7 @@ use std::alloc::Global;
 use std::process::Abort;
 use std::test::Fail;
 
-/// How often an undisturbed run commits: once where it opens the file, and once for each command that changes the base.
+/// How many commits of an undisturbed run change the file: one where it opens it, and one for each command that changes the base.
 const COMMITS: u64 = 12;
 
 // The last call of each commit syncs the log. Where it fails all of the commit is written, and nothing tells whether it stays.
@@ -50,7 +50,8 @@ fn fails_each(rt: &impl Abort, alloc: Global, failing: Failing) -> Result<(u64, 
 
 /// Judges the end of a run. Its status is 5, or 0 where all replies were written, also where closing failed. The replies are those to
 /// the first commands. As a stopped machine leaves the files, they hold the rows of exactly those commits that were answered: of
-/// the commands replied to, and of opening. As the program leaves them, they may hold those of one commit more, which is told.
+/// the commands replied to, and of opening. As the program leaves them, they may hold those of one commit more, which is told. Over
+/// both the other commands can be done.
 fn left_more(rt: &impl Abort, alloc: Global, calls: u64, ending: Ending) -> Result<bool, Fail> {
     let Ending {
         status,

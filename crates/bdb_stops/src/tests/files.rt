@@ -64,7 +64,7 @@ fn run_over(
 ) -> Result<(u8, SqlKeeper<FileStore<Fuse<Memory>>>), Fail>
     requires idle { keeper.seen.running ≡ false }
 {
-    let status = ran(alloc, "run", usize::MAX, replies, &mut keeper)?;
+    let status = ran(alloc, "run", 0, usize::MAX, replies, &mut keeper)?;
     Ok((status, keeper))
 }
 
@@ -97,7 +97,7 @@ pub fn opened(
 }
 
 /// Closes the files of a keeper, and tells whether none of that failed. Where the keeper works its log is copied first.
-fn files_of(keeper: SqlKeeper<FileStore<Fuse<Memory>>>) -> Option<(bool, Files<Fuse<Memory>>)> {
+pub fn files_of(keeper: SqlKeeper<FileStore<Fuse<Memory>>>) -> Option<(bool, Files<Fuse<Memory>>)> {
     let works = keeper.works();
     let conn = keeper.into_connection()?;
     if !works {

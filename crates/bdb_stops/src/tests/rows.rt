@@ -1,11 +1,13 @@
 // What files hold.
 ghost use Rattle.std.specs.Prelude.{◌≡◌, ◌≤◌, false};
 
-use crate::tests::files::opened;
-use crate::tests::script::{ROOM, ran};
+use crate::tests::files::{files_of, opened};
+use crate::tests::script::{ROOM, are_last, ran};
 use bdb_base::List;
 use bdb_io::MemSink;
 use bdb_keep::{Keeper, MemKeeper};
+use bdb_sql::SqlKeeper;
+use sqlite::FileStore;
 use sqlite_disk::{Files, Fuse, Memory};
 use std::alloc::Global;
 use std::test::Fail;
@@ -33,11 +35,38 @@ pub fn commits_in(
         return Ok(None);
     };
     let mut line = MemSink::new(alloc, List::new(alloc), 0, ROOM)?;
-    let status = ran(alloc, "check --db a", 0, &mut line, &mut keeper)?;
+    let status = ran(alloc, "check --db a", 0, 0, &mut line, &mut keeper)?;
     if status != 0 || line.bytes() != b"ok\n".as_slice() {
         return Ok(None);
     }
-    commits_made(alloc, &mut keeper, least)
+    let Some(commits) = commits_made(alloc, &mut keeper, least)? else {
+        return Ok(None);
+    };
+    if goes_on(alloc, keeper, commits)? {
+        Ok(Some(commits))
+    } else {
+        Ok(None)
+    }
+}
+
+/// The files are closed and opened once more. Whether the commands behind so many commits can then be done, with the replies and the
+/// rows of an undisturbed run.
+fn goes_on(
+    alloc: Global,
+    keeper: SqlKeeper<FileStore<Fuse<Memory>>>,
+    commits: usize,
+) -> Result<bool, Fail> {
+    let Some((true, files)) = files_of(keeper) else {
+        return Ok(false);
+    };
+    let Ok(mut keeper) = opened(alloc, files) else {
+        return Ok(false);
+    };
+    let done = commits.saturating_sub(1);
+    let mut replies = MemSink::new(alloc, List::new(alloc), 0, ROOM)?;
+    let status = ran(alloc, "run", done, usize::MAX, &mut replies, &mut keeper)?;
+    let made = commits_made(alloc, &mut keeper, CHANGES + 1)?;
+    Ok(status == 0 && are_last(replies.bytes(), done) && made == Some(CHANGES + 1))
 }
 
 /// How many of the commits of an undisturbed run, not fewer than `least`, make the rows of a keeper.
@@ -63,7 +92,7 @@ fn undisturbed(alloc: Global, commits: usize) -> Result<MemKeeper, Fail> {
     let mut keeper = MemKeeper::new(alloc, List::new(alloc));
     let mut replies = MemSink::new(alloc, List::new(alloc), 0, ROOM)?;
     if commits > 0 {
-        ran(alloc, "run", commits - 1, &mut replies, &mut keeper)?;
+        ran(alloc, "run", 0, commits - 1, &mut replies, &mut keeper)?;
     }
     Ok(keeper)
 }

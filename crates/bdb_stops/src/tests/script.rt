@@ -50,10 +50,11 @@ const REPLIES: [&str; 13] = [
 /// How many bytes of replies a sink of these tests takes.
 pub const ROOM: usize = 1_000;
 
-/// The status of a job over a keeper. The script has the first of the commands, as many as told.
+/// The status of a job over a keeper. The script has as many of the commands as told, from one of them on.
 pub fn ran<K: Keeper>(
     alloc: Global,
     job: &str,
+    from: usize,
     count: usize,
     replies: &mut MemSink,
     keeper: &mut K,
@@ -62,7 +63,7 @@ pub fn ran<K: Keeper>(
     ensures idle { (K.seen keeper.new).running ≡ false }
 {
     let words = words_of(alloc, job)?;
-    let mut source = QuietSource::new(text_of(alloc, count)?);
+    let mut source = QuietSource::new(text_of(alloc, from, count)?);
     Ok(run(alloc, words.as_slice(), &mut source, replies, keeper))
 }
 
@@ -75,10 +76,10 @@ fn words_of(alloc: Global, line: &str) -> Result<List<Txt>, Fail> {
     Ok(words)
 }
 
-/// The text of the first of the commands, as many as told.
-fn text_of(alloc: Global, count: usize) -> Result<Vec<u8>, Fail> {
+/// The text of as many of the commands as told, from one of them on.
+fn text_of(alloc: Global, from: usize, count: usize) -> Result<Vec<u8>, Fail> {
     let mut text = Vec::new(alloc);
-    for command in COMMANDS.iter().take(count) {
+    for command in COMMANDS.iter().skip(from).take(count) {
         text.extend_from_slice(command.as_bytes())?;
     }
     Ok(text)
@@ -98,4 +99,16 @@ pub fn count_of(replies: &[u8]) -> Option<usize> {
     } else {
         None
     }
+}
+
+/// Whether these are the replies to all commands but so many of the first.
+pub fn are_last(replies: &[u8], done: usize) -> bool {
+    let mut left = replies;
+    for reply in REPLIES.iter().skip(done) {
+        match left.strip_prefix(reply.as_bytes()) {
+            Some(rest) => left = rest,
+            None => return false,
+        }
+    }
+    left.is_empty()
 }
