@@ -16,6 +16,7 @@ use crate::words::Probe;
 use std::alloc::Global;
 
 /// Where a place stands or would stand, and the row there, if there is one. None where it isn't beside the mark.
+#[inline(always)]
 pub fn row_beside<'a>(
     shelves: &'a [Shelf],
     mark: Mark,
@@ -36,6 +37,7 @@ pub fn row_beside<'a>(
 
 /// Where the first place stands that has a row and isn't below the one that is looked for, and its entry. None where it isn't beside
 /// the mark.
+#[inline(always)]
 pub fn first_row_beside<'a>(
     shelves: &'a [Shelf],
     mark: Mark,
@@ -56,6 +58,7 @@ pub fn first_row_beside<'a>(
 
 /// Puts what stands at a place, and answers where, and what stood there. The answer is the new row where no such place is beside the
 /// mark.
+#[inline(always)]
 pub fn swap_beside(
     shelves: &mut Vec<Shelf>,
     mark: Mark,
@@ -81,6 +84,7 @@ pub fn swap_beside(
 
 /// Puts a row at a place, which may be new, and answers where, and what stood there: at Some what the place had, at None nothing. At
 /// Err it gives the row back where the place isn't beside the mark, and None where memory is wanting.
+#[inline(always)]
 pub fn insert_beside(
     alloc: Global,
     shelves: &mut Vec<Shelf>,
@@ -107,6 +111,7 @@ pub fn insert_beside(
 }
 
 /// Whether there is no shelf behind this one.
+#[inline(always)]
 fn is_last_shelf(shelves: &[Shelf], at: usize) -> bool
     requires { at < length shelves.now }
     ensures { result ≡ true → length shelves.now ≤ suc at }

@@ -53,6 +53,7 @@ impl Block {
     }
 
     /// How many places there are.
+    #[inline(always)]
     pub fn len(&self) -> usize
         ensures { result ≡ length self.now }
     {
@@ -67,6 +68,7 @@ impl Block {
     }
 
     /// The entry at an index.
+    #[inline(always)]
     pub fn entry(&self, index: usize) -> &Entry
         requires { index < length self.now }
         ensures { result.now ≡ entry_at self.now index }
@@ -75,6 +77,7 @@ impl Block {
     }
 
     /// All entries.
+    #[inline(always)]
     pub fn entries(&self) -> &[Entry]
         ensures { result.now ≡ self.now }
     {
@@ -82,6 +85,7 @@ impl Block {
     }
 
     /// Whether the first place isn't above one that is looked for.
+    #[inline(always)]
     pub fn starts_within(&self, probe: &Probe<'_>) -> bool
         ensures { result ≡ starts_within probe.now self.now }
     {

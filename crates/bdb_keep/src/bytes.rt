@@ -37,6 +37,7 @@ pub fn compare_words(a: &[u8], b: &[u8]) -> Ordering
 }
 
 /// The number of the first eight bytes, where there are so many.
+#[inline(always)]
 fn word_of(bytes: &[u8]) -> Option<(u64, &[u8])>
     ensures front { IfSome result (λ x. bytes.now ≡ to_be_bytes w64 x.0 ++ x.1.now) }
     ensures small { IfSome result (λ x. x.0 < 2 ^ 64) }
@@ -48,7 +49,19 @@ fn word_of(bytes: &[u8]) -> Option<(u64, &[u8])>
 }
 
 /// The number of the first eight bytes, with zeros behind fewer.
+#[inline(always)]
 pub fn padded_word(bytes: &[u8]) -> u64
+    ensures bytes { padded 8 bytes.now ≡ to_be_bytes w64 result }
+    ensures small { result < 2 ^ 64 }
+{
+    match word_of(bytes) {
+        Some((number, _)) => number,
+        None => short_word(bytes),
+    }
+}
+
+/// The number of fewer than eight bytes, with zeros behind them.
+fn short_word(bytes: &[u8]) -> u64
     ensures bytes { padded 8 bytes.now ≡ to_be_bytes w64 result }
     ensures small { result < 2 ^ 64 }
 {
@@ -69,6 +82,7 @@ pub fn padded_word(bytes: &[u8]) -> u64
 }
 
 /// The bytes from an index on.
+#[inline(always)]
 pub fn from_index(bytes: &[u8], index: usize) -> &[u8]
     ensures { result.now ≡ drop index bytes.now }
 {

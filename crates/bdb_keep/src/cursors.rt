@@ -1,61 +1,122 @@
 // The places that were used last.
-use crate::finding::{Near, Spot};
+use crate::finding::Spot;
+use crate::words::Probe;
+use std::alloc::Global;
 
 /// What is remembered of a place that was used: its shelf, and its spot there.
 pub type Mark = (usize, Spot);
 
-/// Two marks of a table, in the order in which they are tried.
+/// Where is looked first: beside a mark, and then from another one on.
 pub type Marks = (Mark, Mark);
 
-/// A spot that is in no block.
-const NOWHERE: Spot = (usize::MAX, 0);
+/// The first place of all.
+const START: Mark = (0, (0, 0));
+
+/// How many places are remembered by the first bytes of their keys.
+const SLOTS: usize = 4096;
 
 /// For each table the place that was read last and the one that was written last, so that both are found at once where rows are read
-/// in one place and written in another in turn. A mark only says where a search looks first.
+/// in one place and written in another in turn; and the place used last of those whose keys begin with the same eight bytes, which
+/// most often lie near each other. A mark only says where a search looks first.
 #[derive(Drop)]
 pub struct Cursors {
+    alloc: Global,
     read: [Mark; 16],
     written: [Mark; 16],
+    /// Whether the last write was in the block that was read last.
+    follows: [bool; 16],
+    used: Vec<Mark>,
 }
 
 impl Cursors {
-    /// Cursors that know of no place.
-    pub fn new() -> Self {
+    /// Cursors that know of no place. It takes no memory.
+    pub fn new(alloc: Global) -> Self {
         Cursors {
-            read: [(0, (0, 0)); 16],
-            written: [(0, (0, 0)); 16],
+            alloc,
+            read: [START; 16],
+            written: [START; 16],
+            follows: [false; 16],
+            used: Vec::new(alloc),
         }
     }
 
-    /// The marks of a table for a read.
-    pub fn to_read(&self, tab: u8) -> Marks {
-        let at = usize::from(tab % 16);
-        (self.read[at], self.written[at])
+    /// The marks for a read.
+    #[inline(always)]
+    pub fn to_read(&self, probe: &Probe<'_>) -> Marks {
+        (
+            self.read[usize::from(probe.tab() % 16)],
+            self.used_by(probe),
+        )
     }
 
-    /// The marks of a table for a write.
-    pub fn to_write(&self, tab: u8) -> Marks {
-        let at = usize::from(tab % 16);
-        (self.written[at], self.read[at])
+    /// The marks for a write. Where the last one was in the block that was read last, so may be this one.
+    #[inline(always)]
+    pub fn to_write(&self, probe: &Probe<'_>) -> Marks {
+        let at = usize::from(probe.tab() % 16);
+        let last = if self.follows[at] {
+            self.read[at]
+        } else {
+            self.written[at]
+        };
+        (last, self.used_by(probe))
     }
 
     /// Remembers where a table was read.
-    pub fn remember_read(&mut self, tab: u8, mark: Mark) {
-        self.read[usize::from(tab % 16)] = mark;
+    #[inline(always)]
+    pub fn remember_read(&mut self, probe: &Probe<'_>, mark: Mark) {
+        self.read[usize::from(probe.tab() % 16)] = mark;
+        self.remember_used(probe, mark);
     }
 
     /// Remembers where a table was written.
-    pub fn remember_written(&mut self, tab: u8, mark: Mark) {
-        self.written[usize::from(tab % 16)] = mark;
+    #[inline(always)]
+    pub fn remember_written(&mut self, probe: &Probe<'_>, mark: Mark) {
+        let at = usize::from(probe.tab() % 16);
+        self.written[at] = mark;
+        self.follows[at] = is_in_block(self.read[at], mark);
+        self.remember_used(probe, mark);
+    }
+
+    /// The place used last of those with the same first bytes.
+    #[inline(always)]
+    fn used_by(&self, probe: &Probe<'_>) -> Mark {
+        let slot = slot_of(probe);
+        if slot < self.used.len() {
+            self.used[slot]
+        } else {
+            START
+        }
+    }
+
+    /// Remembers it. Where there is no memory for the marks none is remembered.
+    #[inline(always)]
+    fn remember_used(&mut self, probe: &Probe<'_>, mark: Mark) {
+        if self.used.is_empty() {
+            self.used = slots(self.alloc);
+        }
+        let slot = slot_of(probe);
+        if slot < self.used.len() {
+            self.used[slot] = mark;
+        }
     }
 }
 
-/// The spots of two marks that are on a shelf.
-pub fn spots_on(marks: Marks, shelf: usize) -> Near {
-    (spot_on(marks.0, shelf), spot_on(marks.1, shelf))
+/// Whether two marks are in one block.
+#[inline(always)]
+fn is_in_block(one: Mark, other: Mark) -> bool {
+    one.0 == other.0 && one.1.0 == other.1.0
 }
 
-/// The spot of a mark where it is on a shelf.
-fn spot_on(mark: Mark, shelf: usize) -> Spot {
-    if mark.0 == shelf { mark.1 } else { NOWHERE }
+/// Slots that know of no place; none where memory is wanting.
+fn slots(alloc: Global) -> Vec<Mark> {
+    match vec![in alloc; START; SLOTS] {
+        Ok(slots) => slots,
+        Err(_) => Vec::new(alloc),
+    }
+}
+
+/// The slot of a place, by its table and the first bytes of its key.
+#[inline(always)]
+fn slot_of(probe: &Probe<'_>) -> usize {
+    (probe.prefix().wrapping_mul(0x9e37_79b9_7f4a_7c15) >> 52) as usize
 }

@@ -13,16 +13,13 @@ use std::cmp::Ordering;
 /// Where an entry stands, or would stand: a block, and an index in it.
 pub type Spot = (usize, usize);
 
-/// Two spots where a search looks first.
-pub type Near = (Spot, Spot);
-
-/// Where a place stands; at Err where it belongs. It looks first where `near` says.
-pub fn find(blocks: &[Block], near: Near, probe: &Probe<'_>) -> Result<Spot, Spot>
+/// Where a place stands; at Err where it belongs. It looks first at the block `from`.
+pub fn find(blocks: &[Block], from: usize, probe: &Probe<'_>) -> Result<Spot, Spot>
     requires { AreSorted blocks.now }
     ensures there { IfOk result (λ spot. StandsAt blocks.now probe.now spot.0 spot.1) }
     ensures gap { IfErr result (λ spot. IsGap blocks.now probe.now spot.0 spot.1) }
 {
-    let bound = seek(blocks, near, probe);
+    let bound = seek(blocks, from, probe);
     match first_at(blocks, bound) {
         Some(spot) => {
             if entry_of(blocks, spot).0.compare(probe).is_eq() {
@@ -35,8 +32,8 @@ pub fn find(blocks: &[Block], near: Near, probe: &Probe<'_>) -> Result<Spot, Spo
     }
 }
 
-/// Where the first place stands that isn't below the one that is looked for and has a row. It looks first where `near` says.
-pub fn find_row(blocks: &[Block], near: Near, probe: &Probe<'_>) -> Option<Spot>
+/// Where the first place stands that isn't below the one that is looked for and has a row. It looks first at the block `from`.
+pub fn find_row(blocks: &[Block], from: usize, probe: &Probe<'_>) -> Option<Spot>
     requires { AreSorted blocks.now }
     ensures there { IfSome result (λ spot. IsThere blocks.now spot.0 spot.1) }
     ensures row { IfSome result (λ spot. is_some (entry_at (slice_index_or blocks.now spot.0 []) spot.1).1 ≡ true) }
@@ -44,11 +41,12 @@ pub fn find_row(blocks: &[Block], near: Near, probe: &Probe<'_>) -> Option<Spot>
     ensures reached { IfSome result (λ spot. NoneBelow probe.now (after blocks.now spot.0 spot.1)) }
     ensures none { IfNone result (NoRowFrom probe.now (joined blocks.now)) }
 {
-    let bound = seek(blocks, near, probe);
+    let bound = seek(blocks, from, probe);
     row_from(blocks, bound, probe)
 }
 
 /// The same where it is known where the first place stands that isn't below.
+#[inline(always)]
 pub fn row_from(blocks: &[Block], start: Spot, probe: &Probe<'_>) -> Option<Spot>
     requires sorted { AreSorted blocks.now }
     requires bound { IsBound blocks.now probe.now start.0 start.1 }
@@ -70,6 +68,7 @@ pub fn row_from(blocks: &[Block], start: Spot, probe: &Probe<'_>) -> Option<Spot
 
 /// Where a place stands, at Err where it belongs, if the one at a spot is this place, the last one below it, or the first one above
 /// it. None also where it may belong behind these blocks; `is_last` tells that there is nothing behind them.
+#[inline(always)]
 pub fn find_beside(
     blocks: &[Block],
     spot: Spot,
@@ -92,6 +91,7 @@ pub fn find_beside(
 }
 
 /// The same where the one at the spot is above it.
+#[inline(always)]
 fn find_before(
     blocks: &[Block],
     spot: Spot,
@@ -117,6 +117,7 @@ fn find_before(
 }
 
 /// The same where the one at the spot is below it.
+#[inline(always)]
 fn find_behind(
     blocks: &[Block],
     spot: Spot,
@@ -142,89 +143,102 @@ fn find_behind(
     }
 }
 
-/// Where the first place stands, or would stand, that isn't below the one that is looked for.
-fn seek(blocks: &[Block], near: Near, probe: &Probe<'_>) -> Spot
+/// Where the first place stands, or would stand, that isn't below the one that is looked for. It looks first at the block from which
+/// it starts, then at those near it.
+fn seek(blocks: &[Block], from: usize, probe: &Probe<'_>) -> Spot
     requires { AreSorted blocks.now }
     ensures { IsBound blocks.now probe.now result.0 result.1 }
 {
-    match seek_near(blocks, near.0, probe) {
+    match seek_in(blocks, from, probe) {
         Some(spot) => spot,
-        None => match seek_near(blocks, near.1, probe) {
+        None => match seek_in(blocks, block_near(blocks, from, probe), probe) {
             Some(spot) => spot,
             None => search(blocks, probe),
         },
     }
 }
 
-/// The same where it lies in the block of a spot. It looks at the spot, at the ones beside it, and then at the whole block.
-fn seek_near(blocks: &[Block], spot: Spot, probe: &Probe<'_>) -> Option<Spot>
-    requires { AreSorted blocks.now }
-    ensures { IfSome result (λ at. IsBound blocks.now probe.now at.0 at.1) }
-{
-    match there_or_last(blocks, spot) {
-        Some(spot) => match entry_of(blocks, spot).0.compare(probe) {
-            Ordering::Less => seek_behind(blocks, spot, probe),
-            Ordering::Equal => Some(spot),
-            Ordering::Greater => seek_before(blocks, spot, probe),
-        },
-        None => None,
+/// The block where a place may belong, in steps that double from a block on, and then by halves.
+fn block_near(blocks: &[Block], from: usize, probe: &Probe<'_>) -> usize {
+    if starts_within_at(blocks, from, probe) {
+        block_above(blocks, from, probe)
+    } else {
+        block_below(blocks, from, probe)
     }
 }
 
-/// The spot, or the last one of its block where it lies behind.
-fn there_or_last(blocks: &[Block], spot: Spot) -> Option<Spot>
-    requires { HaveEntries blocks.now }
-    ensures there { IfSome result (λ at. IsThere blocks.now at.0 at.1) }
-    ensures small { IfSome result (λ at. at.1 < 2 ^ 64 - 1) }
-{
-    if spot.0 >= blocks.len() {
-        return None;
+/// The same where it is the block or one behind it.
+fn block_above(blocks: &[Block], from: usize, probe: &Probe<'_>) -> usize {
+    let mut low = from;
+    let mut step = 1usize;
+    for _ in 0..8 {
+        let next = low.saturating_add(step);
+        if !starts_within_at(blocks, next, probe) {
+            return block_within(blocks, low, next, probe);
+        }
+        low = next;
+        step = step.saturating_mul(2);
     }
-    let last = block_at(blocks, spot.0).len().saturating_sub(1);
-    Some((spot.0, spot.1.min(last)))
+    low
 }
 
-/// The same where the one at the spot is below it.
-fn seek_behind(blocks: &[Block], spot: Spot, probe: &Probe<'_>) -> Option<Spot>
-    requires sorted { AreSorted blocks.now }
-    requires there { IsThere blocks.now spot.0 spot.1 }
-    requires small { spot.1 < 2 ^ 64 - 1 }
-    requires below { bytes_cmp (entry_at (slice_index_or blocks.now spot.0 []) spot.1).0 probe.now ≡ Less }
-    ensures { IfSome result (λ at. IsBound blocks.now probe.now at.0 at.1) }
-{
-    let behind = (spot.0, spot.1 + 1);
-    if is_within_first(blocks, behind, probe) {
-        return Some(behind);
+/// The same where it is one before it.
+fn block_below(blocks: &[Block], from: usize, probe: &Probe<'_>) -> usize {
+    let mut high = from;
+    let mut step = 1usize;
+    for _ in 0..8 {
+        let next = high.saturating_sub(step);
+        if next == 0 || starts_within_at(blocks, next, probe) {
+            return block_within(blocks, next, high, probe);
+        }
+        high = next;
+        step = step.saturating_mul(2);
     }
-    seek_in(blocks, spot.0, probe)
+    high
 }
 
-/// The same where the one at the spot is above it.
-fn seek_before(blocks: &[Block], spot: Spot, probe: &Probe<'_>) -> Option<Spot>
-    requires sorted { AreSorted blocks.now }
-    requires there { IsThere blocks.now spot.0 spot.1 }
-    requires above { bytes_cmp (entry_at (slice_index_or blocks.now spot.0 []) spot.1).0 probe.now ≡ Greater }
-    ensures { IfSome result (λ at. IsBound blocks.now probe.now at.0 at.1) }
-{
-    if is_above_last(blocks, spot, probe) {
-        return Some(spot);
+/// The last block from one up to another, not with it, that starts within, by halves.
+fn block_within(blocks: &[Block], low: usize, high: usize, probe: &Probe<'_>) -> usize {
+    let mut at = low;
+    let mut left = high.min(blocks.len()).saturating_sub(low);
+    for _ in 0..8 {
+        let half = left / 2;
+        if half == 0 {
+            return at;
+        }
+        let middle = at.saturating_add(half);
+        if starts_within_at(blocks, middle, probe) {
+            at = middle;
+            left = left.saturating_sub(half);
+        } else {
+            left = half;
+        }
     }
-    seek_in(blocks, spot.0, probe)
+    at
+}
+
+/// Whether there is a block at an index, and it starts within.
+#[inline(always)]
+fn starts_within_at(blocks: &[Block], at: usize, probe: &Probe<'_>) -> bool {
+    match blocks.get(at) {
+        Some(block) => block.starts_within(probe),
+        None => false,
+    }
 }
 
 /// The same by halves in a block, where the place belongs there.
 fn seek_in(blocks: &[Block], at: usize, probe: &Probe<'_>) -> Option<Spot>
     requires sorted { AreSorted blocks.now }
-    requires block { at < length blocks.now }
     ensures { IfSome result (λ at. IsBound blocks.now probe.now at.0 at.1) }
 {
-    if !is_block_for(blocks, at, probe) {
+    if at >= blocks.len() || !is_block_for(blocks, at, probe) {
         return None;
     }
     Some((at, block_at(blocks, at).lower_bound(probe)))
 }
 
 /// Whether a place belongs in a block.
+#[inline(always)]
 fn is_block_for(blocks: &[Block], at: usize, probe: &Probe<'_>) -> bool
     requires { at < length blocks.now }
     ensures { result ≡ true → IsBlockFor blocks.now probe.now at }
@@ -256,6 +270,7 @@ fn search(blocks: &[Block], probe: &Probe<'_>) -> Spot
 }
 
 /// A block.
+#[inline(always)]
 pub fn block_at(blocks: &[Block], at: usize) -> &Block
     requires { at < length blocks.now }
     ensures { result.now ≡ slice_index_or blocks.now at [] }
@@ -264,6 +279,7 @@ pub fn block_at(blocks: &[Block], at: usize) -> &Block
 }
 
 /// The entry at a spot.
+#[inline(always)]
 pub fn entry_of(blocks: &[Block], spot: Spot) -> &Entry
     requires { IsThere blocks.now spot.0 spot.1 }
     ensures { result.now ≡ entry_at (slice_index_or blocks.now spot.0 []) spot.1 }
@@ -271,45 +287,8 @@ pub fn entry_of(blocks: &[Block], spot: Spot) -> &Entry
     block_at(blocks, spot.0).entry(spot.1)
 }
 
-/// Whether a place of the same block stands before this spot, and the last one is below the one that is looked for.
-fn is_above_last(blocks: &[Block], spot: Spot, probe: &Probe<'_>) -> bool
-    requires { AreSorted blocks.now }
-    ensures within { result ≡ true → (spot.0 < length blocks.now) × (spot.1 ≤ length (slice_index_or blocks.now spot.0 [])) }
-    ensures below { result ≡ true → AreBelow probe.now (before blocks.now spot.0 spot.1) }
-{
-    match last_before(blocks, spot) {
-        Some(entry) => entry.0.compare(probe).is_lt(),
-        None => false,
-    }
-}
-
-/// The entry of the same block before this spot.
-fn last_before(blocks: &[Block], spot: Spot) -> Option<&Entry>
-    ensures within { IfSome result (λ entry. (spot.0 < length blocks.now) × (spot.1 ≤ length (slice_index_or blocks.now spot.0 []))) }
-    ensures last { IfSome result (λ entry. before blocks.now spot.0 spot.1 ≡ before blocks.now spot.0 (spot.1 - 1) ++ entry.now ∷ []) }
-{
-    if spot.0 >= blocks.len() {
-        return None;
-    }
-    let block = block_at(blocks, spot.0);
-    if spot.1 == 0 || spot.1 > block.len() {
-        return None;
-    }
-    Some(block.entry(spot.1 - 1))
-}
-
-/// Whether no place from this spot on is below the one that is looked for.
-fn is_within_first(blocks: &[Block], spot: Spot, probe: &Probe<'_>) -> bool
-    requires { AreSorted blocks.now }
-    ensures { result ≡ true → NoneBelow probe.now (after blocks.now spot.0 spot.1) }
-{
-    match first_at(blocks, spot) {
-        Some(there) => entry_of(blocks, there).0.compare(probe).is_ge(),
-        None => true,
-    }
-}
-
 /// Where the first entry from this spot on stands: here, or at the start of the next block.
+#[inline(always)]
 fn first_at(blocks: &[Block], spot: Spot) -> Option<Spot>
     requires { HaveEntries blocks.now }
     ensures there { IfSome result (λ at. IsThere blocks.now at.0 at.1) }

@@ -21,6 +21,7 @@ pub struct Head {
 
 impl Head {
     /// The head of the place of a key in a table.
+    #[inline(always)]
     pub fn of(tab: u8, key: &[u8]) -> Self
         ensures tab { result.tab ≡ tab }
         ensures head { IsHeadOf key.now result (drop 24 key.now) }
@@ -63,6 +64,7 @@ impl Head {
     }
 
     /// Writes the bytes of the key.
+    #[inline(always)]
     pub fn write(&self, key: &mut Vec<u8>) -> Result<(), AllocError>
         ensures { OnOk result (key.new.items ≡ take self.now.count (bytes_of self.now)) }
     {
@@ -74,6 +76,7 @@ impl Head {
 }
 
 /// The bytes of the three numbers, the highest first.
+#[inline(always)]
 fn all_bytes(head: &Head) -> [u8; 24]
     ensures { result ≡ bytes_of head.now }
 {

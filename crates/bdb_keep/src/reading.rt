@@ -7,6 +7,7 @@ use crate::row::Row;
 use std::alloc::AllocError;
 
 /// Copies a row, if there is one.
+#[inline(always)]
 pub fn copy_row(from: Option<&Row>, row: &mut Vec<u8>) -> Result<bool, AllocError>
     ensures found { IfOk result (λ found. option_copied from.entry ≡ (if found then Some row.new.items else None)) }
     ensures empty { IfOk result (λ found. found ≡ false → row.new.items ≡ []) }
@@ -22,6 +23,7 @@ pub fn copy_row(from: Option<&Row>, row: &mut Vec<u8>) -> Result<bool, AllocErro
 }
 
 /// Gives the key of an entry and its row, where it has one and its place is in a table.
+#[inline(always)]
 pub fn give(
     tab: u8,
     entry: &Entry,

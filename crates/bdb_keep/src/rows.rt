@@ -43,7 +43,7 @@ impl Rows {
         Rows {
             alloc,
             shelves: Vec::new(alloc),
-            cursors: Cursors::new(),
+            cursors: Cursors::new(alloc),
         }
     }
 
@@ -60,7 +60,7 @@ impl Rows {
     pub fn get(&self, probe: &Probe<'_>) -> Option<&Option<Row>>
         ensures { option_copied result ≡ place_at self.now probe.now }
     {
-        shelves::get(&self.shelves, self.cursors.to_read(probe.tab()), probe)
+        shelves::get(&self.shelves, self.cursors.to_read(probe), probe)
     }
 
     /// Puts what stands at a place, and answers what stood there. The answer is the new row where there
@@ -72,10 +72,10 @@ impl Rows {
         ensures back { IfErr result (λ back. back ≡ row) }
         ensures same { OnErr result (self.new ≡ self.old) }
     {
-        let near = self.cursors.to_write(probe.tab());
+        let near = self.cursors.to_write(probe);
         match shelves::swap(&mut self.shelves, near, probe, row) {
             Ok((mark, before)) => {
-                self.cursors.remember_written(probe.tab(), mark);
+                self.cursors.remember_written(probe, mark);
                 Ok(before)
             }
             Err(row) => Err(row),
@@ -89,9 +89,9 @@ impl Rows {
         ensures set { OnOk result (IsSetAt self.old self.new probe.now (Some (Some row))) }
         ensures err { OnErr result (self.new ≡ self.old) }
     {
-        let near = self.cursors.to_write(probe.tab());
+        let near = self.cursors.to_write(probe);
         let (mark, before) = shelves::insert(self.alloc, &mut self.shelves, near, probe, row)?;
-        self.cursors.remember_written(probe.tab(), mark);
+        self.cursors.remember_written(probe, mark);
         Ok(before)
     }
 
@@ -109,9 +109,9 @@ impl Rows {
         ensures found { result ≡ is_some (map.get (rows_of self.old) probe.now) }
         ensures same { self.new ≡ self.old }
     {
-        let near = self.cursors.to_read(probe.tab());
+        let near = self.cursors.to_read(probe);
         let (mark, found) = shelves::has_row(&self.shelves, near, probe);
-        self.cursors.remember_read(probe.tab(), mark);
+        self.cursors.remember_read(probe, mark);
         found
     }
 
@@ -128,9 +128,9 @@ impl Rows {
         ensures set { IsSetAt self.old self.new probe.now None }
         ensures rows { rows_of self.new ≡ map.remove (rows_of self.old) probe.now }
     {
-        let near = self.cursors.to_write(probe.tab());
+        let near = self.cursors.to_write(probe);
         let mark = shelves::remove(&mut self.shelves, near, probe);
-        self.cursors.remember_written(probe.tab(), mark);
+        self.cursors.remember_written(probe, mark);
     }
 }
 
@@ -141,9 +141,9 @@ impl Rows {
         ensures empty { IfOk result (λ found. found ≡ false → row.new.items ≡ []) }
         ensures same { self.new ≡ self.old }
     {
-        let near = self.cursors.to_read(probe.tab());
+        let near = self.cursors.to_read(probe);
         let (mark, found) = shelves::read(&self.shelves, near, probe, row)?;
-        self.cursors.remember_read(probe.tab(), mark);
+        self.cursors.remember_read(probe, mark);
         Ok(found)
     }
 
@@ -161,9 +161,10 @@ impl Rows {
         ensures empty { IfOk result (λ found. found ≡ false → (key.new.items ≡ []) × (row.new.items ≡ [])) }
         ensures same { self.new ≡ self.old }
     {
-        let near = self.cursors.to_read(tab);
-        let (mark, found) = shelves::read_first(&self.shelves, near, tab, low, key, row)?;
-        self.cursors.remember_read(tab, mark);
+        let probe = Probe::of(tab, low);
+        let near = self.cursors.to_read(&probe);
+        let (mark, found) = shelves::read_first(&self.shelves, near, &probe, tab, low, key, row)?;
+        self.cursors.remember_read(&probe, mark);
         Ok(found)
     }
 

@@ -7,13 +7,13 @@ ghost use Rattle.bdb_keep.specs.Shelves.{IsChangedAt, NoRowFrom, IsFirstRow, IsC
 
 use crate::block::{Block, Entry};
 use crate::blocks::{add, drop_empty_blocks, drop_empty_places, is_behind, replace_at, take_out};
-use crate::finding::{Near, Spot, entry_of, find, find_beside, find_row, row_from};
+use crate::finding::{Spot, entry_of, find, find_beside, find_row, row_from};
 use crate::row::Row;
 use crate::words::{Probe, Words};
 use std::alloc::{AllocError, Global};
 use std::marker::Model;
 
-/// Entries in the order of their places, in blocks. Where a search goes, it looks first at the spots that it is given.
+/// Entries in the order of their places, in blocks. Where a search goes, it begins at the block that it is given.
 #[derive(Drop)]
 pub struct Shelf {
     blocks: Vec<Block>,
@@ -43,11 +43,13 @@ impl Shelf {
     }
 
     /// How many blocks there are.
+    #[inline(always)]
     pub fn block_count(&self) -> usize {
         self.blocks.len()
     }
 
     /// The blocks.
+    #[inline(always)]
     pub fn blocks(&self) -> &[Block]
         ensures { joined result.now ≡ self.now }
     {
@@ -62,6 +64,7 @@ impl Shelf {
     }
 
     /// Whether the first place isn't above one that is looked for.
+    #[inline(always)]
     pub fn starts_within(&self, probe: &Probe<'_>) -> bool
         ensures { result ≡ starts_within probe.now self.now }
     {
@@ -72,10 +75,10 @@ impl Shelf {
     }
 
     /// What stands at a place.
-    pub fn get(&self, near: Near, probe: &Probe<'_>) -> Option<&Option<Row>>
+    pub fn get(&self, from: usize, probe: &Probe<'_>) -> Option<&Option<Row>>
         ensures { option_copied result ≡ place_at self.now probe.now }
     {
-        match find(&self.blocks, near, probe) {
+        match find(&self.blocks, from, probe) {
             Ok(spot) => Some(&entry_of(&self.blocks, spot).1),
             Err(_) => None,
         }
@@ -85,7 +88,7 @@ impl Shelf {
     /// where there is no such place.
     pub fn swap(
         &mut self,
-        near: Near,
+        from: usize,
         probe: &Probe<'_>,
         row: Option<Row>,
     ) -> Result<(Spot, Option<Row>), Option<Row>>
@@ -95,7 +98,7 @@ impl Shelf {
         ensures back { IfErr result (λ back. back ≡ row) }
         ensures same { OnErr result (self.new ≡ self.old) }
     {
-        match find(&self.blocks, near, probe) {
+        match find(&self.blocks, from, probe) {
             Ok(spot) => Ok((spot, replace_at(&mut self.blocks, spot, row))),
             Err(_) => Err(row),
         }
@@ -106,7 +109,7 @@ impl Shelf {
     pub fn insert(
         &mut self,
         alloc: Global,
-        near: Near,
+        from: usize,
         probe: &Probe<'_>,
         row: Row,
     ) -> Result<(Spot, Option<Option<Row>>), AllocError>
@@ -114,21 +117,20 @@ impl Shelf {
         ensures set { OnOk result (IsChangedAt self.old self.new probe.now (place_at self.old probe.now) (Some (Some row))) }
         ensures err { OnErr result (self.new ≡ self.old) }
     {
-        match find(&self.blocks, near, probe) {
+        match find(&self.blocks, from, probe) {
             Ok(spot) => Ok((spot, Some(replace_at(&mut self.blocks, spot, Some(row))))),
             Err(spot) => {
-                let rises = is_behind(near.0, spot);
-                let spot = add(alloc, &mut self.blocks, spot, rises, probe, row)?;
+                let spot = add(alloc, &mut self.blocks, spot, false, probe, row)?;
                 Ok((spot, None))
             }
         }
     }
 
     /// Takes a place away, with what stands there, and answers where it stood or would stand.
-    pub fn remove(&mut self, near: Near, probe: &Probe<'_>) -> Spot
+    pub fn remove(&mut self, from: usize, probe: &Probe<'_>) -> Spot
         ensures { IsChangedAt self.old self.new probe.now (place_at self.old probe.now) None }
     {
-        match find(&self.blocks, near, probe) {
+        match find(&self.blocks, from, probe) {
             Ok(spot) => {
                 take_out(&mut self.blocks, spot);
                 spot
@@ -140,10 +142,10 @@ impl Shelf {
 
 impl Shelf {
     /// Where a place stands or would stand, and the row there, if there is one.
-    pub fn row_at(&self, near: Near, probe: &Probe<'_>) -> (Spot, Option<&Row>)
+    pub fn row_at(&self, from: usize, probe: &Probe<'_>) -> (Spot, Option<&Row>)
         ensures { option_copied result.1 ≡ row_of (place_at self.now probe.now) }
     {
-        match find(&self.blocks, near, probe) {
+        match find(&self.blocks, from, probe) {
             Ok(spot) => (spot, entry_of(&self.blocks, spot).1.as_ref()),
             Err(spot) => (spot, None),
         }
@@ -151,11 +153,11 @@ impl Shelf {
 
     /// The first place with a row that isn't below the one that is looked for: where it stands, and its
     /// entry.
-    pub fn first_row(&self, near: Near, probe: &Probe<'_>) -> Option<(Spot, &Entry)>
+    pub fn first_row(&self, from: usize, probe: &Probe<'_>) -> Option<(Spot, &Entry)>
         ensures found { IfSome result (λ first. IsFirstRow self.now probe.now first.1.now) }
         ensures none { IfNone result (NoRowFrom probe.now self.now) }
     {
-        match find_row(&self.blocks, near, probe) {
+        match find_row(&self.blocks, from, probe) {
             Some(spot) => Some((spot, entry_of(&self.blocks, spot))),
             None => None,
         }
@@ -188,6 +190,7 @@ impl Shelf {
 /// it. These answer only where it is sure that the place belongs on this shelf.
 impl Shelf {
     /// Where a place stands or would stand, and the row there, if there is one.
+    #[inline(always)]
     pub fn row_beside(&self, spot: Spot, probe: &Probe<'_>) -> Option<(Spot, Option<&Row>)>
         ensures row { IfSome result (λ found. option_copied found.1 ≡ row_of (place_at self.now probe.now)) }
         ensures belongs { IfSome result (λ found. BelongsAmong self.now probe.now false) }
@@ -201,6 +204,7 @@ impl Shelf {
 
     /// The first place with a row that isn't below the one that is looked for: where it stands, and its
     /// entry.
+    #[inline(always)]
     pub fn first_row_beside(&self, spot: Spot, probe: &Probe<'_>) -> Option<(Spot, &Entry)>
         ensures found { IfSome result (λ first. IsFirstRow self.now probe.now first.1.now) }
         ensures belongs { IfSome result (λ first. BelongsAmong self.now probe.now false) }
@@ -214,6 +218,7 @@ impl Shelf {
 
     /// Puts what stands at a place, and answers where, and what stood there. The answer is the new row
     /// where no such place is found.
+    #[inline(always)]
     pub fn swap_beside(
         &mut self,
         spot: Spot,
@@ -235,6 +240,7 @@ impl Shelf {
 
     /// Puts a row at a place, which may be new, and answers where, and what stood there: at Some what
     /// the place had, at None nothing. At Err it gives the row back, and None where memory is wanting.
+    #[inline(always)]
     pub fn insert_beside(
         &mut self,
         alloc: Global,
@@ -263,6 +269,7 @@ impl Shelf {
 }
 
 /// The first place with a row from a spot on, where no place from there on is below the one that is looked for.
+#[inline(always)]
 fn entry_from<'a>(blocks: &'a [Block], start: Spot, probe: &Probe<'_>) -> Option<(Spot, &'a Entry)>
     requires sorted { AreSorted blocks.now }
     requires bound { IsBound blocks.now probe.now start.0 start.1 }

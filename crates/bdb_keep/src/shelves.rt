@@ -8,8 +8,8 @@ ghost use Rattle.bdb_keep.specs.Shelves.{NoRowFrom, IsFirstRow};
 
 use crate::beside::{first_row_beside, insert_beside, row_beside, swap_beside};
 use crate::block::Entry;
-use crate::cursors::{Mark, Marks, spots_on};
-use crate::finding::{Near, Spot};
+use crate::cursors::{Mark, Marks};
+use crate::finding::Spot;
 use crate::reading::{copy_row, give};
 use crate::row::Row;
 use crate::shelf::Shelf;
@@ -25,7 +25,7 @@ pub fn get<'a>(shelves: &'a [Shelf], near: Marks, probe: &Probe<'_>) -> Option<&
     ensures { option_copied result ≡ place_at (joined shelves.now) probe.now }
 {
     match shelf_for(shelves, near, probe) {
-        Some(at) => shelf_at(shelves, at).get(spots_on(near, at), probe),
+        Some(at) => shelf_at(shelves, at).get(block_on(near, at), probe),
         None => None,
     }
 }
@@ -47,6 +47,7 @@ pub fn read(
 }
 
 /// Where a place stands or would stand, and whether there is a row.
+#[inline(always)]
 pub fn has_row(shelves: &[Shelf], near: Marks, probe: &Probe<'_>) -> (Mark, bool)
     requires { AreSorted shelves.now }
     ensures { result.1 ≡ is_some (row_of (place_at (joined shelves.now) probe.now)) }
@@ -59,6 +60,7 @@ pub fn has_row(shelves: &[Shelf], near: Marks, probe: &Probe<'_>) -> (Mark, bool
 }
 
 /// Where a place stands or would stand, and the row there, if there is one.
+#[inline(always)]
 fn row_at<'a>(shelves: &'a [Shelf], near: Marks, probe: &Probe<'_>) -> (Mark, Option<&'a Row>)
     requires { AreSorted shelves.now }
     ensures { option_copied result.1 ≡ row_of (place_at (joined shelves.now) probe.now) }
@@ -76,7 +78,7 @@ fn row_searched<'a>(shelves: &'a [Shelf], near: Marks, probe: &Probe<'_>) -> (Ma
 {
     match shelf_for(shelves, near, probe) {
         Some(at) => {
-            let (spot, row) = shelf_at(shelves, at).row_at(spots_on(near, at), probe);
+            let (spot, row) = shelf_at(shelves, at).row_at(block_on(near, at), probe);
             ((at, spot), row)
         }
         None => (near.0, None),
@@ -85,21 +87,24 @@ fn row_searched<'a>(shelves: &'a [Shelf], near: Marks, probe: &Probe<'_>) -> (Ma
 
 /// Reads the least key of a table that isn't below `low`, and its row, and answers where it stands and
 /// whether there is one.
+#[inline(always)]
 pub fn read_first(
     shelves: &[Shelf],
     near: Marks,
+    probe: &Probe<'_>,
     tab: u8,
     low: &[u8],
     key: &mut Vec<u8>,
     row: &mut Vec<u8>,
 ) -> Result<(Mark, bool), AllocError>
-    requires { AreSorted shelves.now }
+    requires sorted { AreSorted shelves.now }
+    requires place { probe.now ≡ tab ∷ low.now }
     ensures found { IfOk result (λ found. MatchBool found.1
         (IsLeastFrom (rows_of (joined shelves.now)) tab low.now key.new.items row.new.items)
         (NoneFrom (rows_of (joined shelves.now)) tab low.now)) }
     ensures empty { IfOk result (λ found. found.1 ≡ false → (key.new.items ≡ []) × (row.new.items ≡ [])) }
 {
-    match first_row(shelves, near, &Probe::of(tab, low)) {
+    match first_row(shelves, near, probe) {
         Some((mark, entry)) => {
             let found = give(tab, entry, key, row)?;
             Ok((mark, found))
@@ -150,7 +155,7 @@ fn swap_searched(
     ensures same { OnErr result (joined shelves.new.items ≡ joined shelves.old.items) }
 {
     match shelf_for(shelves, near, probe) {
-        Some(at) => swap_on(shelves, at, spots_on(near, at), probe, row),
+        Some(at) => swap_on(shelves, at, block_on(near, at), probe, row),
         None => Err(row),
     }
 }
@@ -159,7 +164,7 @@ fn swap_searched(
 fn swap_on(
     shelves: &mut Vec<Shelf>,
     at: usize,
-    near: Near,
+    near: usize,
     probe: &Probe<'_>,
     row: Option<Row>,
 ) -> Result<(Mark, Option<Row>), Option<Row>>
@@ -216,7 +221,7 @@ fn insert_searched(
 {
     match shelf_for(shelves, near, probe) {
         Some(at) => {
-            let (mark, before) = insert_on(alloc, shelves, at, spots_on(near, at), probe, row)?;
+            let (mark, before) = insert_on(alloc, shelves, at, block_on(near, at), probe, row)?;
             Ok((cut_full(shelves, mark), before))
         }
         None => {
@@ -232,7 +237,7 @@ fn insert_on(
     alloc: Global,
     shelves: &mut Vec<Shelf>,
     at: usize,
-    near: Near,
+    near: usize,
     probe: &Probe<'_>,
     row: Row,
 ) -> Result<(Mark, Option<Option<Row>>), AllocError>
@@ -256,13 +261,13 @@ pub fn remove(shelves: &mut Vec<Shelf>, near: Marks, probe: &Probe<'_>) -> Mark
     ensures set { IsSetAt (joined shelves.old.items) (joined shelves.new.items) probe.now None }
 {
     match shelf_for(shelves, near, probe) {
-        Some(at) => (at, remove_on(shelves, at, spots_on(near, at), probe)),
+        Some(at) => (at, remove_on(shelves, at, block_on(near, at), probe)),
         None => near.0,
     }
 }
 
 /// The same on the shelf where the place belongs. A shelf that is then empty goes.
-fn remove_on(shelves: &mut Vec<Shelf>, at: usize, near: Near, probe: &Probe<'_>) -> Spot
+fn remove_on(shelves: &mut Vec<Shelf>, at: usize, near: usize, probe: &Probe<'_>) -> Spot
     requires sorted { AreSorted shelves.old.items }
     requires shelf { IsBlockFor shelves.old.items probe.now at }
     ensures sorted { AreSorted shelves.new.items }
@@ -352,6 +357,7 @@ fn after_cut(mark: Mark, middle: usize) -> Mark {
 }
 
 /// Where the first place stands that has a row and isn't below the one that is looked for, and its entry.
+#[inline(always)]
 fn first_row<'a>(shelves: &'a [Shelf], near: Marks, probe: &Probe<'_>) -> Option<(Mark, &'a Entry)>
     requires { AreSorted shelves.now }
     ensures found { IfSome result (λ first. IsFirstRow (joined shelves.now) probe.now first.1.now) }
@@ -393,7 +399,7 @@ fn first_row_from<'a>(
 {
     let mut at = start;
     while at < shelves.len() {
-        match shelf_at(shelves, at).first_row(spots_on(near, at), probe) {
+        match shelf_at(shelves, at).first_row(block_on(near, at), probe) {
             Some((spot, entry)) => return Some(((at, spot), entry)),
             None => at += 1,
         }
@@ -407,12 +413,12 @@ fn shelf_for(shelves: &[Shelf], near: Marks, probe: &Probe<'_>) -> Option<usize>
     ensures shelf { IfSome result (λ at. IsBlockFor shelves.now probe.now at) }
     ensures none { IfNone result (joined shelves.now ≡ []) }
 {
-    let (first, second) = near;
-    if is_shelf_for(shelves, first.0, probe) {
-        return Some(first.0);
+    let (last, used) = near;
+    if is_shelf_for(shelves, used.0, probe) {
+        return Some(used.0);
     }
-    if is_shelf_for(shelves, second.0, probe) {
-        return Some(second.0);
+    if is_shelf_for(shelves, last.0, probe) {
+        return Some(last.0);
     }
     search(shelves, probe)
 }
@@ -451,7 +457,21 @@ fn search(shelves: &[Shelf], probe: &Probe<'_>) -> Option<usize>
     Some(at)
 }
 
+/// The block of a mark that is on a shelf, where a search begins there.
+#[inline(always)]
+fn block_on(marks: Marks, shelf: usize) -> usize {
+    let (last, used) = marks;
+    if used.0 == shelf {
+        return used.1.0;
+    }
+    if last.0 == shelf {
+        return last.1.0;
+    }
+    0
+}
+
 /// A shelf.
+#[inline(always)]
 pub fn shelf_at(shelves: &[Shelf], at: usize) -> &Shelf
     requires { at < length shelves.now }
     ensures { result.now ≡ slice_index_or shelves.now at [] }

@@ -124,6 +124,7 @@ impl Words {
     }
 
     /// The head.
+    #[inline(always)]
     pub fn head(&self) -> Head
         ensures { IsHeadOfPlace result self.now }
     {
@@ -131,6 +132,7 @@ impl Words {
     }
 
     /// Writes the key, and answers the number of the table.
+    #[inline(always)]
     pub fn write_key(&self, key: &mut Vec<u8>) -> Result<u8, AllocError>
         ensures { IfOk result (λ tab. self.now ≡ tab ∷ key.new.items) }
     {
@@ -170,8 +172,15 @@ impl<'a> Probe<'a> {
     }
 
     /// The number of the table.
+    #[inline(always)]
     pub fn tab(&self) -> u8 {
         self.head.tab
+    }
+
+    /// A number by which places of one table whose keys begin alike are remembered together.
+    #[inline(always)]
+    pub fn prefix(&self) -> u64 {
+        self.head.first ^ u64::from(self.head.tab)
     }
 
     /// How a place with this head compares with the one that is looked for; at Equal the head doesn't tell.

@@ -43,28 +43,30 @@ pub fn numbered_under<K: Keeper>(
     ensures read { IsRead (K.seen keeper.old) (K.seen keeper.new) result TabError.Fault }
 {
     let Room { key, row, low } = room;
-    match read_numbered(alloc, keeper, prefix, low, key, row) {
-        Ok(rows) => Ok(rows),
+    let mut rows = Vec::new(alloc);
+    match read_numbered(keeper, prefix, low, key, row, &mut rows) {
+        Ok(()) => Ok(rows),
         Err(error) => Err(error),
     }
 }
 
-/// The rows of the group whose keys begin with these bytes, by the numbers of their tuples, in order. One read more than there
-/// are rows.
+/// Makes `rows` the rows of the group whose keys begin with these bytes, by the numbers of their tuples, in order. One read more
+/// than there are rows.
 pub fn marks_under<K: Keeper>(
-    alloc: Global,
     keeper: &mut K,
     prefix: &[u8],
     room: &mut Room,
-) -> Result<Vec<(u32, (Sign, bool))>, TabError>
+    rows: &mut Vec<(u32, (Sign, bool))>,
+) -> Result<(), TabError>
     requires grammar { TableFits val_codec (K.seen keeper.old).kept }
-    ensures rows { IfOk result (λ rows. AreMarks (K.seen keeper.old).kept prefix.now rows.items) }
-    ensures reads { IfOk result (λ rows. (K.seen keeper.new).reads ≤ (K.seen keeper.old).reads + (length rows.items + 1)) }
-    ensures each_read { IfOk result (λ rows. Rises (length rows.items + 1) (K.seen keeper.old).reads (K.seen keeper.new).reads) }
+    ensures rows { OnOk result (AreMarks (K.seen keeper.old).kept prefix.now rows.new.items) }
+    ensures reads { OnOk result ((K.seen keeper.new).reads ≤ (K.seen keeper.old).reads + (length rows.new.items + 1)) }
+    ensures each_read { OnOk result (Rises (length rows.new.items + 1) (K.seen keeper.old).reads (K.seen keeper.new).reads) }
     ensures read { IsRead (K.seen keeper.old) (K.seen keeper.new) result TabError.Fault }
 {
-    match numbered_under(alloc, keeper, prefix, room) {
-        Ok(rows) => Ok(rows),
+    let Room { key, row, low } = room;
+    match read_numbered(keeper, prefix, low, key, row, rows) {
+        Ok(()) => Ok(()),
         Err(error) => Err(error),
     }
 }
@@ -109,22 +111,22 @@ pub fn write_marks<K: Keeper>(
     }
 }
 
-// The rows whose keys begin with these bytes. `low`, `key` and `row` are room for bytes.
+// Makes `rows` the rows whose keys begin with these bytes. `low`, `key` and `row` are room for bytes.
 fn read_numbered<K: Keeper>(
-    alloc: Global,
     keeper: &mut K,
     prefix: &[u8],
     low: &mut Vec<u8>,
     key: &mut Vec<u8>,
     row: &mut Vec<u8>,
-) -> Result<Vec<(u32, (Sign, bool))>, TabError>
+    rows: &mut Vec<(u32, (Sign, bool))>,
+) -> Result<(), TabError>
     requires grammar { TableFits val_codec (K.seen keeper.old).kept }
-    ensures rows { IfOk result (λ rows. AreNumbered (K.seen keeper.old).kept prefix.now rows.items) }
-    ensures reads { IfOk result (λ rows. (K.seen keeper.new).reads ≤ (K.seen keeper.old).reads + (length rows.items + 1)) }
-    ensures each_read { IfOk result (λ rows. Rises (length rows.items + 1) (K.seen keeper.old).reads (K.seen keeper.new).reads) }
+    ensures rows { OnOk result (AreNumbered (K.seen keeper.old).kept prefix.now rows.new.items) }
+    ensures reads { OnOk result ((K.seen keeper.new).reads ≤ (K.seen keeper.old).reads + (length rows.new.items + 1)) }
+    ensures each_read { OnOk result (Rises (length rows.new.items + 1) (K.seen keeper.old).reads (K.seen keeper.new).reads) }
     ensures read { IsRead (K.seen keeper.old) (K.seen keeper.new) result TabError.Fault }
 {
-    let mut rows = Vec::new(alloc);
+    rows.clear();
     if begin_at(prefix, low, key).is_err() {
         keeper.undo();
         return Err(TabError::Memory);
@@ -137,7 +139,7 @@ fn read_numbered<K: Keeper>(
                     return Err(TabError::Memory);
                 }
             }
-            Ok(None) => return Ok(rows),
+            Ok(None) => return Ok(()),
             Err(error) => return Err(error),
         }
     }

@@ -131,20 +131,20 @@ pub fn read_group<K: Keeper>(
     }
 }
 
-/// The rows of a world for the tuples of a relation and a value of its key, by the tuples' numbers, in their order. The
-/// room's `prefix` becomes the bytes with which the rows' keys begin.
+/// Makes `rows` the rows of a world for the tuples of a relation and a value of its key, by the tuples' numbers, in their order.
+/// The room's `prefix` becomes the bytes with which the rows' keys begin.
 pub fn group_marks<K: Keeper>(
-    alloc: Global,
     keeper: &mut K,
     wid: u32,
     rel: u32,
     key: &Value,
     room: &mut GroupRoom,
-) -> Result<Vec<Marked>, TabError>
+    rows: &mut Vec<Marked>,
+) -> Result<(), TabError>
     requires grammar { InGrammar (K.seen keeper.old).kept }
     requires text { HasPlainText key.now }
     requires begins { MayBegin room.old.prefix.items rel key.now }
-    ensures rows { IfOk result (λ rows. AreUnder val_codec (K.seen keeper.old).kept (group_prefix wid rel key.now) (map (in_group wid rel key.now) rows.items)) }
+    ensures rows { OnOk result (AreUnder val_codec (K.seen keeper.old).kept (group_prefix wid rel key.now) (map (in_group wid rel key.now) rows.new.items)) }
     ensures prefix { OnOk result (room.new.prefix.items ≡ group_prefix wid rel key.now) }
     ensures fits { OnOk result (IsPlainValue key.now) }
     ensures read { IsRead (K.seen keeper.old) (K.seen keeper.new) result TabError.Fault }
@@ -156,8 +156,8 @@ pub fn group_marks<K: Keeper>(
             return Err(TabError::Memory);
         }
     }
-    match marks_under(alloc, keeper, &room.prefix, &mut room.marks) {
-        Ok(rows) => Ok(rows),
+    match marks_under(keeper, &room.prefix, &mut room.marks, rows) {
+        Ok(()) => Ok(()),
         Err(error) => Err(error),
     }
 }

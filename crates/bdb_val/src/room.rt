@@ -17,6 +17,8 @@ const LINK_ROOM: usize = 16;
 pub struct WalkRoom {
     /// For the bytes of a group.
     pub group: GroupRoom,
+    /// For the rows of a world.
+    pub own: Vec<Marked>,
     /// The rows that were handed down last.
     pub handed: Handed,
     /// For the changes that settle a group.
@@ -57,6 +59,7 @@ impl WalkRoom {
     {
         Ok(WalkRoom {
             group: GroupRoom::new(alloc)?,
+            own: Vec::new(alloc),
             handed: Handed::new(alloc),
             changes: Vec::new(alloc),
             links: LinkRoom::new(alloc)?,

@@ -22,14 +22,12 @@ use crate::stored::SettledWorld;
 use bdb_base::{Sign, Value};
 use bdb_keep::Keeper;
 use bdb_tables::{TabError, write_marks};
-use std::alloc::Global;
 
 /// Settles the rows of a world for the tuples of a relation and a value of its key: each is explicit, or what the world
 /// inherits from the world to which its suffix link leads, where no explicit row contradicts it. One write for each row that is
 /// another afterwards. No tuple is read: where the explicit rows are statements, the numbers of tuples tell which rows of a group
 /// contradict each other. The rows of the world to which this one is linked are read where the room has others.
 pub fn settle_state<K: Keeper>(
-    alloc: Global,
     keeper: &mut K,
     wid: u32,
     link: Option<u32>,
@@ -51,23 +49,15 @@ pub fn settle_state<K: Keeper>(
     ensures room { OnOk result (IsRoomFor (K.seen keeper.new).kept rel key.now room.new.group.prefix.items room.new.handed.from room.new.handed.rows.items) }
     ensures changing { IsChanging (K.seen keeper.old) (K.seen keeper.new) result TabError.Fault }
 {
-    match keep_linked(
-        alloc,
-        keeper,
-        link,
-        rel,
-        key,
-        &mut room.group,
-        &mut room.handed,
-    ) {
+    match keep_linked(keeper, link, rel, key, &mut room.group, &mut room.handed) {
         Ok(()) => {}
         Err(error) => return Err(error),
     }
-    let own = match group_marks(alloc, keeper, wid, rel, key, &mut room.group) {
-        Ok(own) => own,
+    match group_marks(keeper, wid, rel, key, &mut room.group, &mut room.own) {
+        Ok(()) => {}
         Err(error) => return Err(error),
-    };
-    match put_changes(&mut room.changes, &own, &room.handed.rows) {
+    }
+    match put_changes(&mut room.changes, &room.own, &room.handed.rows) {
         Ok(()) => {}
         Err(_) => {
             keeper.undo();
@@ -81,7 +71,7 @@ pub fn settle_state<K: Keeper>(
         &room.changes,
         &mut room.group.marks,
     ) {
-        Ok(()) => Ok(told(&own, &room.changes)),
+        Ok(()) => Ok(told(&room.own, &room.changes)),
         Err(error) => Err(error),
     }
 }
@@ -89,7 +79,6 @@ pub fn settle_state<K: Keeper>(
 // Makes the rows that are kept those of a group of the world to which another is linked, and none where there is no such world.
 // They are read where those of another world were kept.
 fn keep_linked<K: Keeper>(
-    alloc: Global,
     keeper: &mut K,
     link: Option<u32>,
     rel: u32,
@@ -116,10 +105,9 @@ fn keep_linked<K: Keeper>(
     if handed.is_from(wid) {
         return Ok(());
     }
-    match group_marks(alloc, keeper, wid, rel, key, room) {
-        Ok(rows) => {
+    match group_marks(keeper, wid, rel, key, room, &mut handed.rows) {
+        Ok(()) => {
             handed.from = Some(wid);
-            handed.rows = rows;
             Ok(())
         }
         Err(error) => Err(error),

@@ -138,7 +138,7 @@ fn visit_first<K: Keeper>(
         Ok(link) => link,
         Err(error) => return Err(error),
     };
-    let settled = match settle_state(alloc, keeper, wid, link, rel, key, room) {
+    let settled = match settle_state(keeper, wid, link, rel, key, room) {
         Ok(settled) => settled,
         Err(error) => return Err(error),
     };
@@ -173,7 +173,7 @@ fn visit_next<K: Keeper>(
     ensures room { OnOk result (IsRoomFor (K.seen keeper.new).kept rel key.now room.new.group.prefix.items room.new.handed.from room.new.handed.rows.items) }
     ensures changing { IsChanging (K.seen keeper.old) (K.seen keeper.new) result TabError.Fault }
 {
-    let settled = match settle_state(alloc, keeper, next.0, Some(next.1), rel, key, room) {
+    let settled = match settle_state(keeper, next.0, Some(next.1), rel, key, room) {
         Ok(settled) => settled,
         Err(error) => return Err(error),
     };

@@ -4,7 +4,7 @@ use Rattle.bdb_keep.proofs.BlocksLemmas.{ascending-block, bound-in}
 use Rattle.bdb_keep.proofs.finding.seek_in.Goals as goal
 
 pub lower_bound-requires : goal.lower_bound-requires
-lower_bound-requires c = subst IsAscending (sym c.block_at.ensures) (ascending-block c.args.blocks.now c.args.at [] c.requires.sorted.ascends c.requires.block)
+lower_bound-requires c = subst IsAscending (sym c.block_at.ensures) (ascending-block c.args.blocks.now c.args.at [] c.requires.sorted.ascends c.if-at-blocks.false)
 
 pub returns : goal.returns
 returns c =

@@ -11,12 +11,12 @@ returns-in_ok-found-in-Some-clause-found c =
     let es = joined c.args.shelves.now in
     let q = c.args.tab ∷ c.args.low.now in
     let entry = c.in-Some.entry.now in
-    let first : IsFirstRow es q entry = subst (λ p. IsFirstRow es p entry) c.of.ensures c.in-Some.ensures.found in
-    rest-given {E = Unit {0}} es (entry ∷ first.back) first.back c.args.tab c.args.low.now _ _ entry (Ok c.in_ok-found-in-Some.found) (rest-first es q entry c.requires.ascends first) refl first.row
+    let first : IsFirstRow es q entry = subst (λ p. IsFirstRow es p entry) c.requires.place c.in-Some.ensures.found in
+    rest-given {E = Unit {0}} es (entry ∷ first.back) first.back c.args.tab c.args.low.now _ _ entry (Ok c.in_ok-found-in-Some.found) (rest-first es q entry c.requires.sorted.ascends first) refl first.row
     c.in_ok-found-in-Some.ensures.place c.in_ok-found-in-Some.ensures.other
 
 pub returns-in-None-clause-found : goal.returns-in-None-clause-found
 returns-in-None-clause-found c =
     let es = joined c.args.shelves.now in
     let q = c.args.tab ∷ c.args.low.now in
-    rest-end es [] c.args.tab c.args.low.now (rest-none es q c.requires.ascends (subst (λ p. NoRowFrom p es) c.of.ensures c.in-None.ensures.none)) refl
+    rest-end es [] c.args.tab c.args.low.now (rest-none es q c.requires.sorted.ascends (subst (λ p. NoRowFrom p es) c.requires.place c.in-None.ensures.none)) refl

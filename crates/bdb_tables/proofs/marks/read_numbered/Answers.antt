@@ -12,14 +12,15 @@ pub loop-init : goal.loop-init
 loop-init g c =
     let t = (g.K.Keeper.seen c.args.keeper.now).kept in
     let low : c.begin_at.new.low.items ≡ c.args.prefix.now = search rules in
-    let none : length c.new-rows.result.items ≡ 0 = ap length c.new-rows.ensures.items in
-    let none_read : Rises (length c.new-rows.result.items) (g.K.Keeper.seen c.args.keeper.now).reads (g.K.Keeper.seen c.args.keeper.now).reads = λ _. omega (arith, none) in
+    let cleared : c.clear.new.self.items ≡ [] = search rules in
+    let none : length c.clear.new.self.items ≡ 0 = ap length cleared in
+    let none_read : Rises (length c.clear.new.self.items) (g.K.Keeper.seen c.args.keeper.now).reads (g.K.Keeper.seen c.args.keeper.now).reads = λ _. omega (arith, none) in
     record {
       goes = search rules;
       kept = search rules;
       writes = search rules;
       counts = search rules;
-      read = (numbered_none t c.args.prefix.now c.begin_at.new.low.items c.new-rows.result.items c.new-rows.ensures.items low, omega arith, none_read);
+      read = (numbered_none t c.args.prefix.now c.begin_at.new.low.items c.clear.new.self.items cleared low, omega arith, none_read);
     }
 
 pub next_numbered-requires-clause-grammar : goal.next_numbered-requires-clause-grammar
