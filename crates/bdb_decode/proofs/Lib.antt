@@ -18,3 +18,4 @@ pub mod StatementLemmas
 pub mod WholeLemmas
 pub mod LimitLemmas
 pub mod ManyLemmas
+pub mod FewLemmas

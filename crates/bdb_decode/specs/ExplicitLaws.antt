@@ -1,5 +1,6 @@
 -- What the statements that explicit rows make are to the tables. Each law is the contract of a function of `laws`.
-use Rattle.std.specs.Prelude.{◌≡◌, ℕ, true, List, Option, Some}
+use Rattle.std.specs.Prelude.{◌≡◌, ◌≤◌, ℕ, true, List, length, Option, Some}
+use Rattle.bdb_base.specs.Limits.{most_statements}
 use Rattle.bdb_base.specs.Order.{statement_cmp}
 use Rattle.bdb_base.specs.SortedSet.{ascending}
 use Rattle.bdb_base.specs.Worlds.{IsConsistent}
@@ -16,6 +17,7 @@ use Rattle.bdb_val.specs.Middle.{HasExplicit, worlds_of}
 use Rattle.bdb_val.specs.Settled.{HasStates}
 use Rattle.bdb_decode.specs.Explicit.{AreMisplaced, ArePlaced, AreStated, Paths, TupleRows, ValRow}
 use Rattle.bdb_decode.specs.Items.{item_of}
+use Rattle.bdb_decode.specs.Many.{HaveNoStatements}
 
 -- the worlds of a list have names
 pub record HavePaths (worlds : Paths) (ns : Names) : Type 0 where
@@ -48,3 +50,8 @@ HeldRowsMakeStatements = (stmts xs : List Stmt) (ns : Names) (ts : Tuples) (t : 
 -- rows that have their places aren't those of tables in which a row is foreign or without its place
 abbrev pub MisplacedHaveNoPlaces : Type 0
 MisplacedHaveNoPlaces = (t : Tables) (worlds : Paths) (tuples : TupleRows) (rows : List ValRow) → AreMisplaced t worlds tuples → ArePlaced t worlds tuples rows → ⊥
+
+-- rows that make statements few enough for a base are neither misplaced nor too many
+abbrev pub FewHaveStatements : Type 0
+FewHaveStatements = (t : Tables) (worlds : Paths) (tuples : TupleRows) (stmts : List Stmt)
+    → AreStated t worlds tuples stmts → length stmts ≤ most_statements → HaveNoStatements t worlds tuples → ⊥

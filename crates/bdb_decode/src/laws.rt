@@ -1,5 +1,5 @@
 // What holds of tables of any bytes, each law as the contract of a function that does nothing.
-ghost use Rattle.bdb_decode.specs.ExplicitLaws.{HeldRowsHavePlaces, HeldRowsMakeStatements, MisplacedHaveNoPlaces, StatedRowsAreExplicit};
+ghost use Rattle.bdb_decode.specs.ExplicitLaws.{FewHaveStatements, HeldRowsHavePlaces, HeldRowsMakeStatements, MisplacedHaveNoPlaces, StatedRowsAreExplicit};
 ghost use Rattle.bdb_decode.specs.Laws.{OneBaseAtMost, OthersStandForNone};
 ghost use Rattle.bdb_decode.specs.SettledRows.{PlacedRowsAreKeyed};
 ghost use Rattle.bdb_decode.specs.Whole.{BaseStatementsAreHeld, HeldBasesAreStated, HeldBasesAreWhole};
@@ -32,6 +32,11 @@ pub fn held_rows_make_statements()
 /// Not both: all rows have their places, and one is foreign or without its place.
 pub fn misplaced_have_no_places()
     ensures { MisplacedHaveNoPlaces }
+{}
+
+/// Not both: the explicit rows make no more statements than a base may have, and rows are misplaced or too many.
+pub fn few_have_statements()
+    ensures { FewHaveStatements }
 {}
 
 /// Rows that have their places are of worlds and tuples that there are.

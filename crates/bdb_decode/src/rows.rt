@@ -1,7 +1,8 @@
 // The statements that the explicit rows of tables of any bytes make.
-ghost use Rattle.std.specs.Prelude.{◌≡◌, ◌++◌, true, IfOk, OnOk, MatchOption};
+ghost use Rattle.std.specs.Prelude.{◌≡◌, ◌≤◌, ◌++◌, true, length, IfOk, IfSome, OnOk, MatchOption};
 ghost use Rattle.std.specs.List.Sorted.{IsPermutation, IsSortedBy};
 ghost use Rattle.std.specs.Ordering.{is_lt};
+ghost use Rattle.bdb_base.specs.Limits.{most_statements};
 ghost use Rattle.bdb_base.specs.Order.{statement_cmp};
 ghost use Rattle.bdb_base.specs.SortedSet.{ascending};
 ghost use Rattle.bdb_keep.specs.Calls.{IsRead};
@@ -25,8 +26,8 @@ use std::cmp::Ordering;
 pub type ValRow = ((u32, u32, Value, u32), (Sign, bool));
 
 /// The statements that the explicit rows make, in order, where each row's world has a path, its tuple a number, and its
-/// relation and key are the tuple's. None only where this isn't so of some row, or the rows so far make more statements than a
-/// base may have. One read more than there are rows at most, of which none is kept.
+/// relation and key are the tuple's. None exactly where this isn't so of some row, or the rows make more statements than a base
+/// may have: it comes as soon as they do. One read more than there are rows at most, of which none is kept.
 pub fn raw_statements<K: Keeper>(
     alloc: Global,
     keeper: &mut K,
@@ -36,6 +37,7 @@ pub fn raw_statements<K: Keeper>(
     requires worlds { ascending number_cmp worlds.now ≡ true }
     requires tuples { ascending number_cmp tuples.now ≡ true }
     ensures statements { IfOk result (λ r. MatchOption r (HaveNoStatements (K.seen keeper.old).kept worlds.now tuples.now) (λ stmts. AreStated (K.seen keeper.old).kept worlds.now tuples.now stmts.items)) }
+    ensures few { IfOk result (λ r. IfSome r (λ stmts. length stmts.items ≤ most_statements)) }
     ensures read { IsRead (K.seen keeper.old) (K.seen keeper.new) result TabError.Fault }
 {
     match said_statements(alloc, keeper, worlds, tuples) {
@@ -77,6 +79,7 @@ fn said_statements<K: Keeper>(
     requires worlds { ascending number_cmp worlds.now ≡ true }
     requires tuples { ascending number_cmp tuples.now ≡ true }
     ensures statements { IfOk result (λ r. MatchOption r (HaveNoStatements (K.seen keeper.old).kept worlds.now tuples.now) (λ stmts. AreSaid (K.seen keeper.old).kept worlds.now tuples.now stmts.items)) }
+    ensures few { IfOk result (λ r. IfSome r (λ stmts. length stmts.items ≤ most_statements)) }
     ensures read { IsRead (K.seen keeper.old) (K.seen keeper.new) result TabError.Fault }
 {
     let mut stmts = Vec::new(alloc);
