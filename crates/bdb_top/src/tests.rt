@@ -1,7 +1,6 @@
 // Scripts and their replies, over a source, a sink and a keeper in memory.
 ghost use Rattle.std.specs.Prelude.{◌≡◌, false};
 
-mod any_tables;
 mod checking;
 mod faults;
 mod jobs;

@@ -4,7 +4,6 @@ ghost use Rattle.std.specs.Prelude.{◌≡◌, ◌≤◌, false, IfOk};
 use crate::run;
 use crate::tests::jobs::words_of;
 use crate::tests::{SETUP, listed, ran, sink};
-use bdb_base::List;
 use bdb_io::{MemSink, MemSource};
 use bdb_keep::{Keeper, MemKeeper, QuietKeeper};
 use std::alloc::Global;
@@ -76,17 +75,21 @@ fn rows_of_no_base_are_told(rt: HostRuntime) -> Result<(), Fail> {
     Ok(())
 }
 
+/// The status of checking a keeper without rows, and what is written, where these calls of the keeper and these writes fail.
+fn checked_failing(alloc: Global, calls: &[u32], writes: &[u32]) -> Result<(u8, MemSink), Fail> {
+    let mut keeper = MemKeeper::new(alloc, listed(alloc, calls)?);
+    let mut out = MemSink::new(alloc, listed(alloc, writes)?, 2, ROOM)?;
+    let status = checked(alloc, &mut out, &mut keeper)?;
+    Ok((status, out))
+}
+
 #[test]
 fn a_check_that_fails_tells_no_verdict(rt: HostRuntime) -> Result<(), Fail> {
     let alloc = rt.alloc();
-    let mut keeper = MemKeeper::new(alloc, List::new(alloc));
-    let mut out = MemSink::new(alloc, listed(alloc, &[1])?, 2, ROOM)?;
-    let status = checked(alloc, &mut out, &mut keeper)?;
+    let (status, out) = checked_failing(alloc, &[], &[1])?;
     assert_eq!(rt; status, 4);
     assert_eq!(rt; out.bytes(), b"ok".as_slice());
-    let mut keeper = MemKeeper::new(alloc, listed(alloc, &[1])?);
-    let mut out = sink(alloc)?;
-    let status = checked(alloc, &mut out, &mut keeper)?;
+    let (status, out) = checked_failing(alloc, &[1], &[])?;
     assert_eq!(rt; status, 5);
     assert_eq!(rt; out.bytes().len(), 0);
     Ok(())

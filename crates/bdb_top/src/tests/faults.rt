@@ -58,7 +58,7 @@ edge /'Bob' 'Alice' /'Alice'\nedge /'Bob' 'Carol' /\n\
 row /'Alice' + S('s3', 'gull') explicit\nrow /'Bob' - S('s1', 'eagle') explicit\nok 18\n";
 
 #[test]
-fn runs_go_on_from_what_is_kept(rt: HostRuntime) -> Result<(), Fail> {
+fn a_script_without_a_command_makes_the_empty_base(rt: HostRuntime) -> Result<(), Fail> {
     let alloc = rt.alloc();
     let mut empty_base = QuietKeeper::new(alloc);
     empty_base.preset(1, &[0, 0, 0, 0], &[0, 0, 0, 2])?;
@@ -68,7 +68,12 @@ fn runs_go_on_from_what_is_kept(rt: HostRuntime) -> Result<(), Fail> {
     assert_eq!(rt; out.bytes().len(), 0);
     assert_eq!(rt; keeper.commits(), 1);
     assert!(rt; keeper.same_rows(&empty_base));
+    Ok(())
+}
 
+#[test]
+fn runs_go_on_from_what_is_kept(rt: HostRuntime) -> Result<(), Fail> {
+    let alloc = rt.alloc();
     let more = ["show world; create user 'Bob';"];
     let (status, out, commits) = ran_again(alloc, &COMMANDS, &more)?;
     assert_eq!(rt; status, 1);

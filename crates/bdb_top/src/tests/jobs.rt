@@ -6,6 +6,15 @@ use bdb_io::{MemSink, MemSource};
 use std::alloc::Global;
 use std::test::Fail;
 
+/// Whether the words of a line name a job, where this is true. Then the source is read, else nothing is done.
+fn are_taken(alloc: Global, line: &str, is_job: bool) -> Result<bool, Fail> {
+    let words = words_of(alloc, line)?;
+    let named = job_of(alloc, words.as_slice()).is_ok();
+    let (status, out) = ran_words(alloc, line)?;
+    let ends = if is_job { 3 } else { 2 };
+    Ok(named == is_job && status == ends && out.bytes().is_empty())
+}
+
 #[test]
 fn words_name_jobs(rt: HostRuntime) -> Result<(), Fail> {
     let alloc = rt.alloc();
@@ -43,11 +52,7 @@ fn words_name_jobs(rt: HostRuntime) -> Result<(), Fail> {
         ("Run", false),
     ];
     for (line, is_job) in cases {
-        let words = words_of(alloc, line)?;
-        assert_eq!(rt; job_of(alloc, words.as_slice()).is_ok(), is_job, "{line}");
-        let (status, out) = ran_words(alloc, line)?;
-        assert_eq!(rt; status, if is_job { 3 } else { 2 }, "{line}");
-        assert_eq!(rt; out.bytes().len(), 0, "{line}");
+        assert!(rt; are_taken(alloc, line, is_job)?, "{line}");
     }
     Ok(())
 }
@@ -67,6 +72,19 @@ fn ran_words(alloc: Global, line: &str) -> Result<(u8, MemSink), Fail> {
     let script = Vec::from_slice(alloc, b"create user 'A';")?;
     let source = MemSource::new(script, 1, listed(alloc, &[1])?);
     ran_from(alloc, words.as_slice(), source)
+}
+
+/// Whether the words of a line end well, and this is written.
+fn is_told(alloc: Global, line: &str, summary: &str) -> Result<bool, Fail> {
+    let (status, out) = ran_words(alloc, line)?;
+    Ok(status == 0 && out.bytes() == summary.as_bytes())
+}
+
+/// Whether the words of two lines end well, and the same is written.
+fn are_told_alike(alloc: Global, line: &str, other: &str) -> Result<bool, Fail> {
+    let (status, first) = ran_words(alloc, line)?;
+    let (ended, next) = ran_words(alloc, other)?;
+    Ok(status == 0 && ended == 0 && first.bytes() == next.bytes())
 }
 
 #[test]
@@ -91,15 +109,10 @@ fn generated_scripts_are_told_of(rt: HostRuntime) -> Result<(), Fail> {
         ),
     ];
     for (line, summary) in cases {
-        let (status, out) = ran_words(alloc, line)?;
-        assert_eq!(rt; status, 0, "{line}");
-        assert_eq!(rt; out.bytes(), summary.as_bytes(), "{line}");
+        assert!(rt; is_told(alloc, line, summary)?, "{line}");
     }
-    let (status, first) = ran_words(alloc, "gen --seed 3 --size 200")?;
-    assert_eq!(rt; status, 0);
-    let (status, next) = ran_words(alloc, "gen --size 200 --seed 3")?;
-    assert_eq!(rt; status, 0);
-    assert_eq!(rt; first.bytes(), next.bytes());
+    let line = "gen --seed 3 --size 200";
+    assert!(rt; are_told_alike(alloc, line, "gen --size 200 --seed 3")?);
     Ok(())
 }
 
@@ -123,11 +136,10 @@ fn commands_told_of(alloc: Global, summary: &[u8]) -> Result<Option<u64>, Fail> 
 #[test]
 fn the_largest_generated_script_is_told_of(rt: HostRuntime) -> Result<(), Fail> {
     let alloc = rt.alloc();
-    let (status, first) = ran_words(alloc, "gen --seed 7 --size 10000")?;
+    let line = "gen --seed 7 --size 10000";
+    let (status, out) = ran_words(alloc, line)?;
     assert_eq!(rt; status, 0);
-    assert_eq!(rt; commands_told_of(alloc, first.bytes())?, Some(10_009));
-    let (status, next) = ran_words(alloc, "gen --seed 7 --size 10000")?;
-    assert_eq!(rt; status, 0);
-    assert_eq!(rt; first.bytes(), next.bytes());
+    assert_eq!(rt; commands_told_of(alloc, out.bytes())?, Some(10_009));
+    assert!(rt; are_told_alike(alloc, line, line)?);
     Ok(())
 }

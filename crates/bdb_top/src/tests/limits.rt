@@ -1,7 +1,7 @@
 // Scripts that reach a limit, and pass it.
 use crate::tests::{SETUP, ran_from, ran_quietly, words};
 use bdb_base::List;
-use bdb_io::{MemSink, MemSource};
+use bdb_io::MemSource;
 use std::alloc::Global;
 use std::test::Fail;
 
@@ -132,11 +132,8 @@ fn tuples_have_a_limit(rt: HostRuntime) -> Result<(), Fail> {
     Ok(())
 }
 
-#[test]
-fn statements_have_a_limit(rt: HostRuntime) -> Result<(), Fail> {
-    let alloc = rt.alloc();
-    let mut script = String::new(alloc);
-    let mut replies = Vec::new(alloc);
+/// Five users who each believe 4,000 numbers, and the reply to each command.
+fn push_believed(alloc: Global, script: &mut String, replies: &mut Vec<u8>) -> Result<(), Fail> {
     script.push_str(
         "create user '1'; create user '2'; create user '3'; create user '4'; create user '5';\n",
     )?;
@@ -149,8 +146,17 @@ fn statements_have_a_limit(rt: HostRuntime) -> Result<(), Fail> {
         "BELIEF '4'",
         "BELIEF '5'",
     ] {
-        push_numbers(alloc, &mut script, &mut replies, path, 4_000)?;
+        push_numbers(alloc, script, replies, path, 4_000)?;
     }
+    Ok(())
+}
+
+#[test]
+fn statements_have_a_limit(rt: HostRuntime) -> Result<(), Fail> {
+    let alloc = rt.alloc();
+    let mut script = String::new(alloc);
+    let mut replies = Vec::new(alloc);
+    push_believed(alloc, &mut script, &mut replies)?;
     script.push_str("insert into N values(0); insert into BELIEF '5' N values(0);")?;
     script.push_str("delete from BELIEF '5' N where k = 0; insert into N values(0);")?;
     replies.extend_from_slice(b"error full statements\nok 0\nok 1\nok 1\n")?;
@@ -204,25 +210,22 @@ fn with_blanks(alloc: Global, first: &[u8], blocks: usize, more: usize) -> Resul
     Ok(text)
 }
 
-/// The status of a script that is read in blocks, and the replies.
-fn ran_in_blocks(alloc: Global, script: Vec<u8>) -> Result<(u8, MemSink), Fail> {
+/// Whether a script that is read in blocks ends so, and is answered so.
+fn ends_so(alloc: Global, script: Vec<u8>, ends: u8, replies: &[u8]) -> Result<bool, Fail> {
     let words = words(alloc)?;
     let source = MemSource::new(script, 65_536, List::new(alloc));
-    ran_from(alloc, words.as_slice(), source)
+    let (status, out) = ran_from(alloc, words.as_slice(), source)?;
+    Ok(status == ends && out.bytes() == replies)
 }
 
 #[test]
 fn scripts_have_a_limit(rt: HostRuntime) -> Result<(), Fail> {
     let alloc = rt.alloc();
-    let (status, out) = ran_in_blocks(alloc, with_blanks(alloc, b"", 1024, 0)?)?;
-    assert_eq!(rt; status, 0);
-    assert_eq!(rt; out.bytes().len(), 0);
-    let (status, out) = ran_in_blocks(alloc, with_blanks(alloc, b"", 1024, 1)?)?;
-    assert_eq!(rt; status, 8);
-    assert_eq!(rt; out.bytes().len(), 0);
+    let script = with_blanks(alloc, b"", 1024, 0)?;
+    assert!(rt; ends_so(alloc, script, 0, b"")?);
+    let script = with_blanks(alloc, b"", 1024, 1)?;
+    assert!(rt; ends_so(alloc, script, 8, b"")?);
     let script = with_blanks(alloc, b"show world;", 1023, 65_526)?;
-    let (status, out) = ran_in_blocks(alloc, script)?;
-    assert_eq!(rt; status, 8);
-    assert_eq!(rt; out.bytes(), b"ok 0\n".as_slice());
+    assert!(rt; ends_so(alloc, script, 8, b"ok 0\n")?);
     Ok(())
 }

@@ -4,6 +4,7 @@ use crate::tests::{ran_in_steps, words};
 use bdb_base::List;
 use bdb_io::{MemSource, WriteSink};
 use bdb_keep::QuietKeeper;
+use std::alloc::Global;
 use std::io;
 use std::io::Write;
 use std::test::Fail;
@@ -30,14 +31,32 @@ const SIGHTINGS_REPLIES: &str = "ok\nok\nok\nok\nok\nok 1\nok 1\nok 1\nok 1\nok 
 'Bob', 's1', 'bald eagle'\n'Bob', 's2', 'crow'\nok 2\n\
 'c1', 'found feathers'\n'c2', 'black feathers'\nok 2\n";
 
+/// Whether a script that is read so many bytes at a time ends so, and is answered so.
+fn is_read(
+    alloc: Global,
+    script: &str,
+    step: usize,
+    replies: &str,
+    ends: u8,
+) -> Result<bool, Fail> {
+    let (status, out) = ran_in_steps(alloc, script.as_bytes(), step, &[])?;
+    Ok(status == ends && out.bytes() == replies.as_bytes())
+}
+
+/// The same at one, two, seven and many bytes at a time.
+fn is_read_in_parts(alloc: Global, script: &str, replies: &str, ends: u8) -> Result<bool, Fail> {
+    for step in [1, 2, 7, 4_096] {
+        if !is_read(alloc, script, step, replies, ends)? {
+            return Ok(false);
+        }
+    }
+    Ok(true)
+}
+
 #[test]
 fn parts_of_reading_change_nothing(rt: HostRuntime) -> Result<(), Fail> {
     let alloc = rt.alloc();
-    for step in [1, 2, 7, 4_096] {
-        let (status, out) = ran_in_steps(alloc, SIGHTINGS.as_bytes(), step, &[])?;
-        assert_eq!(rt; status, 0);
-        assert_eq!(rt; out.bytes(), SIGHTINGS_REPLIES.as_bytes(), "{step}");
-    }
+    assert!(rt; is_read_in_parts(alloc, SIGHTINGS, SIGHTINGS_REPLIES, 0)?);
     let cases = [
         ("show world", "error unfinished\n", 1),
         ("show world; -", "ok 0\nerror unfinished\n", 1),
@@ -49,13 +68,29 @@ fn parts_of_reading_change_nothing(rt: HostRuntime) -> Result<(), Fail> {
         ("show world;-- a; 'b\n;show world;", "ok 0\nok 0\n", 0),
     ];
     for (script, replies, ends) in cases {
-        for step in [1, 2, 7, 4_096] {
-            let (status, out) = ran_in_steps(alloc, script.as_bytes(), step, &[])?;
-            assert_eq!(rt; status, ends, "{script}");
-            assert_eq!(rt; out.bytes(), replies.as_bytes(), "{script}");
-        }
+        assert!(rt; is_read_in_parts(alloc, script, replies, ends)?, "{script}");
     }
     Ok(())
+}
+
+/// The words `show world`, as many blanks as a piece has bytes at most, and this.
+fn long_piece(alloc: Global, end: &str) -> Result<String, Fail> {
+    let mut script = String::new(alloc);
+    script.push_str("show world")?;
+    for _ in 0..65_536 {
+        script.push_str(" ")?;
+    }
+    script.push_str(end)?;
+    Ok(script)
+}
+
+/// Whether a script with a piece that is too long and ends so is refused, and answered so.
+fn is_long(alloc: Global, end: &str, replies: &str) -> Result<bool, Fail> {
+    let script = long_piece(alloc, end)?;
+    Ok(
+        is_read(alloc, script.as_str(), 1, replies, 1)?
+            && is_read(alloc, script.as_str(), 4_096, replies, 1)?,
+    )
 }
 
 #[test]
@@ -71,17 +106,7 @@ fn long_pieces_are_read_in_parts(rt: HostRuntime) -> Result<(), Fail> {
         ("';'; show world;", "error long\nok 0\n"),
     ];
     for (end, replies) in cases {
-        let mut script = String::new(alloc);
-        script.push_str("show world")?;
-        for _ in 0..65_536 {
-            script.push_str(" ")?;
-        }
-        script.push_str(end)?;
-        for step in [1, 4_096] {
-            let (status, out) = ran_in_steps(alloc, script.as_str().as_bytes(), step, &[])?;
-            assert_eq!(rt; status, 1, "{end}");
-            assert_eq!(rt; out.bytes(), replies.as_bytes(), "{end}");
-        }
+        assert!(rt; is_long(alloc, end, replies)?, "{end}");
     }
     Ok(())
 }

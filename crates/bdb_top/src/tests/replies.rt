@@ -1,6 +1,14 @@
 // Scripts and what is answered to them.
 use crate::tests::{SETUP, ran_quietly};
+use std::alloc::Global;
 use std::test::Fail;
+
+/// Whether a script behind the setup ends so, and is answered so.
+fn is_answered(alloc: Global, script: &str, replies: &str, status: u8) -> Result<bool, Fail> {
+    let (ended, out, _) = ran_quietly(alloc, &[SETUP, script])?;
+    let text = std::str::from_utf8(out.bytes())?;
+    Ok(ended == status && text.strip_prefix("ok\nok\nok\n") == Some(replies))
+}
 
 #[test]
 fn scripts_and_replies(rt: HostRuntime) -> Result<(), Fail> {
@@ -135,12 +143,8 @@ fn scripts_and_replies(rt: HostRuntime) -> Result<(), Fail> {
         ("insert into S values('a", "error unfinished\n", 1),
     ];
     for (script, replies, status) in cases {
-        let (ended, out, _) = ran_quietly(rt.alloc(), &[SETUP, script])?;
-        assert_eq!(rt; ended, status, "{script}");
-        let text = std::str::from_utf8(out.bytes())?;
-        assert_eq!(rt;
-            text.strip_prefix("ok\nok\nok\n"),
-            Some(replies),
+        assert!(rt;
+            is_answered(rt.alloc(), script, replies, status)?,
             "{script}"
         );
     }

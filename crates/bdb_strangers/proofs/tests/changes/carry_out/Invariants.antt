@@ -1,5 +1,5 @@
 use Rattle.std.proofs.Common.{◌≡◌, false}
-use Rattle.bdb_top.proofs.tests.any_tables.carry_out.Given as goal
+use Rattle.bdb_strangers.proofs.tests.changes.carry_out.Given as goal
 
 abbrev pub invariant-loop-change : goal.invariant-loop-change
 invariant-loop-change g l =
