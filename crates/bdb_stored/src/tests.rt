@@ -1,14 +1,22 @@
 // A worked base written over other rows, and read whole. Alice is user 1, Bob is user 2, Carol is user 3.
-ghost use Rattle.std.specs.Prelude.{◌≡◌, true, IfOk};
-ghost use Rattle.bdb_canon.specs.Samples.{sightings, stated_at, reported};
+ghost use Rattle.std.specs.Prelude.{◌≡◌, true, IfOk, OnOk};
+ghost use Rattle.std.specs.List.{list_all};
+ghost use Rattle.bdb_base.specs.Alternation.{alternates};
+ghost use Rattle.bdb_base.specs.Bases.{is_user};
+ghost use Rattle.bdb_canon.specs.Samples.{sightings, stated_at, reported, three_users};
+ghost use Rattle.bdb_stored.specs.Valid.{StoresValid};
 
 use super::*;
+use crate::named::{NamedWorld, place_of_number};
+use crate::users::user_numbers;
+use crate::worlds::worlds_in_order;
 use bdb_base::{
     Base, Catalog, ColDef, Kind, List, Path, RelDef, Sign, Stmt, Tuple, Txt, Value, append_decimal,
 };
 use bdb_canon::{Canon, Counts};
 use bdb_keep::{Keeper, QuietKeeper};
 use bdb_tables::TabError;
+use bdb_worlds::resolve;
 use std::alloc::{AllocError, Global};
 use std::test::Fail;
 
@@ -54,7 +62,9 @@ fn statement(alloc: Global, users: &[u32], sign: Sign, key: &str, value: &str) -
 }
 
 /// What Alice sees, and what Carol believes that Alice sees.
-fn reported(alloc: Global) -> Result<Base, Fail> {
+fn reported(alloc: Global) -> Result<Base, Fail>
+    ensures { IfOk result (λ base. base.catalog ≡ reported.catalog) }
+{
     let mut stmts = List::new(alloc);
     stmts.push(statement(alloc, &[1], Sign::Plus, "s2", "crow")?)?;
     stmts.push(statement(alloc, &[3, 1], Sign::Plus, "s1", "eagle")?)?;
@@ -125,6 +135,66 @@ fn a_base_is_written_over_other_rows(rt: HostRuntime) -> Result<(), Fail> {
                 [4, 2, 2, 3]
             );
         }
+        Err(_) => assert!(rt; false),
+    }
+    Ok(())
+}
+
+/// Appends the users of the path of the world of a number, and a blank.
+fn push_name(worlds: &[NamedWorld], wid: u32, out: &mut Vec<u8>) -> Result<(), AllocError> {
+    if let Some(world) = worlds.get(place_of_number(worlds, wid)) {
+        for uid in world.path.as_slice() {
+            append_decimal(out, u64::from(*uid))?;
+        }
+    }
+    out.push(b' ')?;
+    Ok(())
+}
+
+/// Appends the name of the world to which a path leads, in tables that store a base of three users.
+fn push_led<K: Keeper>(
+    alloc: Global,
+    keeper: &mut K,
+    base: &Base,
+    path: &[u32],
+    out: &mut Vec<u8>,
+) -> Result<(), TabError>
+    requires stored { StoresValid (K.seen keeper.old).kept base.now }
+    requires users { base.now.catalog ≡ reported.catalog }
+    requires own { list_all (is_user three_users) path.now ≡ true }
+    requires apart { alternates path.now ≡ true }
+    ensures stored { OnOk result (StoresValid (K.seen keeper.new).kept base.now) }
+{
+    let users = user_numbers(alloc, keeper)?;
+    let worlds = worlds_in_order(alloc, keeper, &users)?;
+    let wid = resolve(alloc, keeper, path)?;
+    match push_name(&worlds, wid, out) {
+        Ok(()) => Ok(()),
+        Err(_) => Err(TabError::Memory),
+    }
+}
+
+/// The names of the worlds to which three paths lead, over a base that is written.
+fn led<K: Keeper>(alloc: Global, keeper: &mut K, base: &Base) -> Result<Vec<u8>, TabError>
+    requires running { (K.seen keeper.old).running ≡ true }
+    requires users { base.now.catalog ≡ reported.catalog }
+{
+    let mut names = Vec::new(alloc);
+    write_all_tables(alloc, keeper, base)?;
+    push_led(alloc, keeper, base, &[2, 3, 1], &mut names)?;
+    push_led(alloc, keeper, base, &[1, 2], &mut names)?;
+    push_led(alloc, keeper, base, &[2, 1], &mut names)?;
+    Ok(names)
+}
+
+#[test]
+fn paths_lead_to_the_deepest_states(rt: HostRuntime) -> Result<(), Fail> {
+    let alloc = rt.alloc();
+    let base = reported(alloc)?;
+    let mut keeper = QuietKeeper::new(alloc);
+    assert!(rt; keeper.begin().is_ok());
+    match led(alloc, &mut keeper, &base) {
+        Ok(names) => assert_eq!(rt; names.as_slice(), b"31  1 ".as_slice()),
         Err(_) => assert!(rt; false),
     }
     Ok(())
