@@ -1,4 +1,15 @@
+pub mod AgainLemmas
+pub mod BatchLemmas
+pub mod ContentLemmas
+pub mod FindLemmas
+pub mod KeyLemmas
 pub mod LoadLemmas
+pub mod MakeLemmas
+pub mod OrderLemmas
+pub mod PlaceLemmas
+pub mod PutLemmas
+pub mod RemoveLemmas
 pub mod RowLemmas
 pub mod StayLemmas
 pub mod TextLemmas
+pub mod TieLemmas

@@ -1,6 +1,10 @@
+pub mod Changes
+pub mod Content
 pub mod Entries
 pub mod Filed
 pub mod Heads
 pub mod Kept
 pub mod Rows
 pub mod Stays
+pub mod Tied
+pub mod Written

@@ -2,6 +2,7 @@
 use Rattle.std.specs.Prelude.{◌≡◌, ◌⊎◌, ℕ, List, [], ◌∷◌, map, Some}
 use Rattle.std.specs.FinMap as fin
 use Rattle.sqlite_value.specs.Order.{Row, column}
+use Rattle.sqlite_trees.specs.Tree.{Trees}
 use Rattle.sqlite_rules.specs.Lists.{Has}
 use Rattle.sqlite.specs.Effect.{Database}
 use Rattle.bdb_keep.specs.Tables.{Tables}
@@ -20,3 +21,7 @@ entry r = column r 1 ∷ column r 2 ∷ column r 3 ∷ []
 -- a database has nothing, and the tables have no rows, or it has the one table, with exactly their rows
 abbrev pub Stores : Database → Tables → Type 0
 Stores db t = ((db.schema ≡ no_schema) × (t ≡ fin.empty)) ⊎ ((db.schema ≡ kept_schema) × AreRowsOf (map entry (db.trees 0)) t)
+
+-- the stored rows are exactly those of the tables
+abbrev pub HasRows : Trees → Tables → Type 0
+HasRows trees t = AreRowsOf (map entry (trees 0)) t

@@ -1,9 +1,10 @@
 // A keeper over the file at a path.
 ghost use Rattle.std.specs.Prelude.{◌≡◌, true, IfSome, IsSome};
 ghost use Rattle.bdb_sql.specs.Filed.{Begins, works};
-ghost use Rattle.bdb_sql.specs.Kept.{IsBareOrKept};
+ghost use Rattle.bdb_sql.specs.Kept.{IsBareOrKept, no_schema};
 ghost use Rattle.bdb_sql.specs.Rows.{Stores};
-ghost use Rattle.sqlite.specs.Files.{file_state};
+ghost use Rattle.bdb_sql.specs.Tied.{MatchesFile, StandsWhole};
+ghost use Rattle.sqlite.specs.Files.{file_state, over_files};
 ghost use Rattle.sqlite.specs.State.{HasCleanDisk, Opens};
 
 use crate::keeper::SqlKeeper;
@@ -16,14 +17,16 @@ use std::io::{self, ErrorKind};
 
 impl SqlKeeper<FileStore<File>> {
     /// Opens the file at a path and loads its rows. Where there is none, or it has no byte, it becomes a database without
-    /// rows. Any other file that is no database in the keeper's form is left as it is, and the keeper doesn't work. It
-    /// takes memory.
+    /// rows, and the keeper matches it from the start. Any other file that is no database in the keeper's form is left as it
+    /// is, and the keeper doesn't work. It takes memory.
     pub fn from_file(alloc: Global, rt: &HostRuntime, path: &str) -> Self
         ensures begins { Begins result }
         ensures file { works result ≡ true → IsSome result.conn }
         ensures opens { works result ≡ true → IfSome result.conn (λ c. HasCleanDisk (file_state c) → Opens (file_state c)) }
         ensures found { works result ≡ true → IfSome result.conn (λ c. HasCleanDisk (file_state c) → IsBareOrKept (file_state c)) }
         ensures rows { works result ≡ true → IfSome result.conn (λ c. HasCleanDisk (file_state c) → Stores (file_state c).now result.seen.kept) }
+        ensures tied { works result ≡ true → StandsWhole over_files result.conn → MatchesFile over_files result }
+        ensures fresh { works result ≡ true → IfSome result.conn (λ c. c.schema ≡ no_schema) → MatchesFile over_files result }
     {
         match look_at(rt, path) {
             Ok(Sight::Other) => SqlKeeper::closed(alloc, KeepError::Fault),
@@ -40,6 +43,8 @@ impl SqlKeeper<FileStore<File>> {
         ensures opens { works result ≡ true → IfSome result.conn (λ c. HasCleanDisk (file_state c) → Opens (file_state c)) }
         ensures found { works result ≡ true → IfSome result.conn (λ c. HasCleanDisk (file_state c) → IsBareOrKept (file_state c)) }
         ensures rows { works result ≡ true → IfSome result.conn (λ c. HasCleanDisk (file_state c) → Stores (file_state c).now result.seen.kept) }
+        ensures tied { works result ≡ true → StandsWhole over_files result.conn → MatchesFile over_files result }
+        ensures fresh { works result ≡ true → IfSome result.conn (λ c. c.schema ≡ no_schema) → MatchesFile over_files result }
     {
         match look_at(rt, path) {
             Ok(Sight::Database) => SqlKeeper::opened(alloc, rt, path),
@@ -55,6 +60,8 @@ impl SqlKeeper<FileStore<File>> {
         ensures opens { works result ≡ true → IfSome result.conn (λ c. HasCleanDisk (file_state c) → Opens (file_state c)) }
         ensures found { works result ≡ true → IfSome result.conn (λ c. HasCleanDisk (file_state c) → IsBareOrKept (file_state c)) }
         ensures rows { works result ≡ true → IfSome result.conn (λ c. HasCleanDisk (file_state c) → Stores (file_state c).now result.seen.kept) }
+        ensures tied { works result ≡ true → StandsWhole over_files result.conn → MatchesFile over_files result }
+        ensures fresh { works result ≡ true → IfSome result.conn (λ c. c.schema ≡ no_schema) → MatchesFile over_files result }
     {
         match Connection::open(rt, path) {
             Ok(conn) => SqlKeeper::over(alloc, conn),

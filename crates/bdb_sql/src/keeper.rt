@@ -1,5 +1,5 @@
 // The keeper whose rows are in an SQLite file.
-ghost use Rattle.std.specs.Prelude.{◌≡◌, ◌≤◌, [], ◌∷◌, true, false, None, Some, IfOk, IfSome, IsSome, OnOk, MatchBool, is_some, if◌then◌else◌};
+ghost use Rattle.std.specs.Prelude.{◌≡◌, ◌≤◌, [], ◌∷◌, true, false, None, Some, IfOk, IfSome, IsSome, OnOk, OnErr, MatchBool, is_some, if◌then◌else◌};
 ghost use Rattle.std.specs.FinMap as map;
 ghost use Rattle.bdb_base.specs.Causes.{RoseBy};
 ghost use Rattle.bdb_keep.specs.Calls.{IsBegin, IsRead, IsWrite, IsCommit, IsUndo};
@@ -8,6 +8,7 @@ ghost use Rattle.bdb_sql.specs.Filed.{works, Answers, Commits, Begins};
 ghost use Rattle.bdb_sql.specs.Kept.{IsBareOrKept};
 ghost use Rattle.bdb_sql.specs.Rows.{Stores};
 ghost use Rattle.bdb_sql.specs.Stays.{StaysAs};
+ghost use Rattle.bdb_sql.specs.Tied.{MatchesFile, MayStore, StandsWhole, StoresRows};
 ghost use Rattle.sqlite.specs.State.{HasCleanDisk, Survives};
 ghost use Rattle.sqlite.specs.Held.{state};
 
@@ -22,6 +23,10 @@ use std::marker::Model;
 /// A keeper whose rows are in an SQLite file. It holds a copy of them in memory, and answers from that. A commit writes
 /// what the transaction changed to the file, in one transaction there. A keeper that can't load the file, or whose
 /// commit was refused, doesn't work: it refuses every call.
+///
+/// While it works its file has exactly the rows last committed, and a crash leaves them and no others. Where a commit is
+/// refused a crash leaves the rows from before it, or those that it was to make. So the clauses say of every store below that is
+/// clean, as one in memory always is; a file is, as long as nobody else writes it and the disk returns what was written.
 #[derive(Drop)]
 pub struct SqlKeeper<S: Alter> {
     alloc: Global,
@@ -43,7 +48,8 @@ impl<S: Alter> Model for SqlKeeper<S> {
 impl<S: Alter> SqlKeeper<S> {
     /// Takes an open connection and loads its rows. Where it has anything but the one table as the keeper makes it, or
     /// a row that doesn't fit, the keeper doesn't work. It writes nothing: the first commit makes the table where there is
-    /// none. It has the connection in either case.
+    /// none. It has the connection in either case. A keeper that works matches its file from the start, unless the store
+    /// below is broken; every call but a commit leaves it so, and a commit that is accepted does.
     #[tactic(auto, using(bdb_keep::proofs::TableLemmas::none_lie))]
     pub fn over(alloc: Global, mut conn: Connection<S>) -> Self
         ensures begins { Begins result }
@@ -54,6 +60,7 @@ impl<S: Alter> SqlKeeper<S> {
         ensures found_still { works result ≡ true → IfSome result.conn (λ c. HasCleanDisk (state S.Store c) → IsBareOrKept (state S.Store c)) }
         ensures rows_still { works result ≡ true → IfSome result.conn (λ c. HasCleanDisk (state S.Store c) → Stores (state S.Store c).now result.seen.kept) }
         ensures survives { IfSome result.conn (λ c. Survives (state S.Store conn) (state S.Store c) (λ _. ⊥)) }
+        ensures tied { works result ≡ true → StandsWhole S.Store result.conn → MatchesFile S.Store result }
     {
         match load(alloc, &mut conn) {
             Ok(store) => SqlKeeper::begun(alloc, store, Some(conn), None),
@@ -85,6 +92,7 @@ impl<S: Alter> SqlKeeper<S> {
         ensures conn { result.conn ≡ conn }
         ensures refusal { result.refusal ≡ refusal }
         ensures rows { result.seen.kept ≡ store.kept }
+        ensures last { result.seen.last ≡ store.kept }
     {
         let faults = u64::from(refusal == Some(KeepError::Fault));
         SqlKeeper {
@@ -124,6 +132,7 @@ impl<S: Alter> Keeper for SqlKeeper<S> {
         ensures begins { IsBegin self.old.seen self.new.seen result KeepError.Fault }
 
         ensures answers { Answers self.old self.new result }
+        ensures filed { MatchesFile S.Store self.old → MatchesFile S.Store self.new }
     {
         if let Some(error) = self.refusal {
             self.ledger.refuse(error);
@@ -141,6 +150,7 @@ impl<S: Alter> Keeper for SqlKeeper<S> {
         ensures read { IsRead self.old.seen self.new.seen result KeepError.Fault }
 
         ensures answers { Answers self.old self.new result }
+        ensures filed { MatchesFile S.Store self.old → MatchesFile S.Store self.new }
     {
         if let Some(error) = self.refusal {
             self.ledger.refuse_read(error);
@@ -169,6 +179,7 @@ impl<S: Alter> Keeper for SqlKeeper<S> {
         ensures read { IsRead self.old.seen self.new.seen result KeepError.Fault }
 
         ensures answers { Answers self.old self.new result }
+        ensures filed { MatchesFile S.Store self.old → MatchesFile S.Store self.new }
     {
         if let Some(error) = self.refusal {
             self.ledger.refuse_read(error);
@@ -188,6 +199,7 @@ impl<S: Alter> Keeper for SqlKeeper<S> {
         ensures write { IsWrite self.old.seen self.new.seen result KeepError.Fault }
 
         ensures answers { Answers self.old self.new result }
+        ensures filed { MatchesFile S.Store self.old → MatchesFile S.Store self.new }
     {
         if let Some(error) = self.refusal {
             self.ledger.refuse_write(error);
@@ -208,6 +220,7 @@ impl<S: Alter> Keeper for SqlKeeper<S> {
         ensures write { IsWrite self.old.seen self.new.seen result KeepError.Fault }
 
         ensures answers { Answers self.old self.new result }
+        ensures filed { MatchesFile S.Store self.old → MatchesFile S.Store self.new }
     {
         if let Some(error) = self.refusal {
             self.ledger.refuse_write(error);
@@ -224,6 +237,9 @@ impl<S: Alter> Keeper for SqlKeeper<S> {
         ensures commit { IsCommit self.old.seen self.new.seen result KeepError.Fault }
 
         ensures ends { Commits self.old self.new result }
+        ensures crash { MatchesFile S.Store self.old
+            → OnErr result (IsSome self.new.conn × MayStore S.Store self.new.conn self.old.seen.last self.old.seen.kept) }
+        ensures tied { MatchesFile S.Store self.old → OnOk result (MatchesFile S.Store self.new) }
     {
         if let Some(error) = self.refusal {
             self.ledger.refuse(error);
@@ -246,6 +262,7 @@ impl<S: Alter> Keeper for SqlKeeper<S> {
         ensures undone { IsUndo self.old.seen self.new.seen }
 
         ensures same { (self.new.refusal ≡ self.old.refusal) × (self.new.conn ≡ self.old.conn) }
+        ensures filed { MatchesFile S.Store self.old → MatchesFile S.Store self.new }
     {
         self.ledger.undo();
     }
@@ -258,6 +275,9 @@ fn write_to<S: Alter>(
     store: &Store,
 ) -> Result<(), KeepError>
     ensures file { OnOk result (IsSome conn.old × IsSome conn.new) }
+    ensures stays { IsSome conn.old → IsSome conn.new }
+    ensures tied { StoresRows S.Store conn.old store.now.last → OnOk result (StoresRows S.Store conn.new store.now.kept) }
+    ensures crash { StoresRows S.Store conn.old store.now.last → OnErr result (MayStore S.Store conn.new store.now.last store.now.kept) }
 {
     let Some(conn) = conn else {
         return Err(KeepError::Fault);

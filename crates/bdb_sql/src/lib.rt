@@ -4,6 +4,7 @@
 mod file;
 mod keeper;
 mod kept;
+pub mod laws;
 mod load;
 mod look;
 mod schema;

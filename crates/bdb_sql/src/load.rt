@@ -5,9 +5,10 @@ ghost use Rattle.sqlite.specs.State.{HasCleanDisk, IsUnchanged, Survives};
 ghost use Rattle.sqlite.specs.Held.{state};
 ghost use Rattle.bdb_keep.specs.Tables.{LieInTables, bytes_cmp};
 ghost use Rattle.bdb_sql.specs.Entries.{StandsFor, AddsAfter};
-ghost use Rattle.bdb_sql.specs.Kept.{IsBareOrKept, kept_schema};
+ghost use Rattle.bdb_sql.specs.Kept.{IsBareOrKept, kept_schema, no_schema};
 ghost use Rattle.bdb_sql.specs.Rows.{AreRowsOf, Stores, entry};
 ghost use Rattle.bdb_sql.specs.Stays.{StaysAs};
+ghost use Rattle.bdb_sql.specs.Tied.{IsTied, IsWhole};
 
 use crate::kept::{LONGEST, SELECT};
 use crate::schema::{Found, schema_of};
@@ -23,8 +24,8 @@ const UNFIT: Error = Error::SqliteFailure(ErrorCode::DatabaseCorrupt);
 
 /// Loads the rows of a file that has the keeper's table alone, or nothing at all. Any other file is a fault, and nothing of
 /// its own is run. A transaction that runs is a fault too, and so is a row that is in no table 1 to 15, one that is too
-/// long, and one that doesn't come after the row before it. It writes nothing.
-#[tactic(auto, using(bdb_keep::proofs::TableLemmas::none_lie))]
+/// long, and one that doesn't come after the row before it. It writes nothing. Where the store below is whole, the
+/// file is tied to what was loaded.
 pub fn load<S: Alter>(alloc: Global, conn: &mut Connection<S>) -> Result<Store, KeepError>
     ensures settled { IfOk result (λ store. store.kept ≡ store.last) }
     ensures fits { IfOk result (λ store. LieInTables store.kept) }
@@ -32,11 +33,32 @@ pub fn load<S: Alter>(alloc: Global, conn: &mut Connection<S>) -> Result<Store, 
     ensures rows { HasCleanDisk (state S.Store conn.new) → IfOk result (λ store. Stores (state S.Store conn.old).now store.kept) }
     ensures same { HasCleanDisk (state S.Store conn.new) → OnOk result (StaysAs (state S.Store conn.old) (state S.Store conn.new)) }
     ensures survives { Survives (state S.Store conn.old) (state S.Store conn.new) (λ _. ⊥) }
+    ensures tied { HasCleanDisk (state S.Store conn.new) → IsWhole S.Store conn.new → IfOk result (λ store. IsTied (state S.Store conn.new) store.kept) }
 {
     if !conn.is_autocommit() {
         return Err(KeepError::Fault);
     }
-    match schema_of(conn) {
+    let found = schema_of(conn);
+    load_found(alloc, conn, found)
+}
+
+/// Loads the rows of a file of which this is the schema.
+#[tactic(auto, using(bdb_keep::proofs::TableLemmas::none_lie))]
+fn load_found<S: Alter>(
+    alloc: Global,
+    conn: &mut Connection<S>,
+    found: Found,
+) -> Result<Store, KeepError>
+    requires nothing { found ≡ Found.Nothing → (state S.Store conn.old).now.schema ≡ no_schema }
+    requires table { found ≡ Found.Table → (state S.Store conn.old).now.schema ≡ kept_schema }
+    ensures settled { IfOk result (λ store. store.kept ≡ store.last) }
+    ensures fits { IfOk result (λ store. LieInTables store.kept) }
+    ensures found { OnOk result (IsBareOrKept (state S.Store conn.old)) }
+    ensures rows { HasCleanDisk (state S.Store conn.new) → IfOk result (λ store. Stores (state S.Store conn.old).now store.kept) }
+    ensures same { HasCleanDisk (state S.Store conn.new) → OnOk result (StaysAs (state S.Store conn.old) (state S.Store conn.new)) }
+    ensures survives { Survives (state S.Store conn.old) (state S.Store conn.new) (λ _. ⊥) }
+{
+    match found {
         Found::Nothing => Ok(Store::new(alloc)),
         Found::Table => match read_rows(alloc, conn) {
             Ok(store) => Ok(store),

@@ -3,6 +3,7 @@ ghost use Rattle.std.specs.Prelude.{◌≡◌, [], ◌∷◌, true, IsTrue};
 ghost use Rattle.sqlite_value.specs.Keys.{plain};
 ghost use Rattle.sqlite_schema.specs.declared.schema.Kind.TheVariants.{Integer, Blob};
 ghost use Rattle.sqlite.specs.Held.{state};
+ghost use Rattle.sqlite.specs.State.{IsLive};
 ghost use Rattle.bdb_sql.specs.Kept.{kept_column, kept_table, kept_index, kept_schema, no_schema};
 
 use sqlite::{Alter, Connection};
@@ -24,6 +25,7 @@ pub enum Found {
 pub fn schema_of<S: Alter>(conn: &Connection<S>) -> Found
     ensures nothing { result ≡ Found.Nothing → (state S.Store conn.now).now.schema ≡ no_schema }
     ensures table { result ≡ Found.Table → (state S.Store conn.now).now.schema ≡ kept_schema }
+    ensures live { IsLive (state S.Store conn.now) }
 {
     let schema = conn.schema();
     if is_nothing(schema) {

@@ -1,0 +1,15 @@
+use Rattle.std.proofs.Common.{rules, ◌≡◌, false, IsTrue}
+use Rattle.sqlite.specs.Held.{state}
+use Rattle.bdb_keep.specs.Held.{Held}
+use Rattle.bdb_sql.proofs.OrderLemmas.{ties_if}
+use Rattle.bdb_sql.proofs.load.load.Goals as goal
+
+pub returns-clause-tied : goal.returns-clause-tied
+returns-clause-tied g c clean whole =
+    let new = c.load_found.new.conn in
+    let old = state g.S.Store c.args.conn.now in
+    let alone : c.args.conn.now.in_transaction ≡ false = search rules in
+    let asked : IsTrue c.is_autocommit.result = search rules in
+    ties_if g.S.Store new (g.met.S.Store.broken_if_shut new.store) (g.met.S.Store.settled new.store) (g.met.S.Store.ordered new.store) (g.met.S.Alter.listed new.store) whole
+    old c.schema_of-found.ensures.live alone (c.is_autocommit.ensures.settled asked) (λ (s : Held). s.kept) c.load_found.result
+    c.load_found.ensures.found (c.load_found.ensures.rows clean) (c.load_found.ensures.same clean)

@@ -1,0 +1,8 @@
+//! What holds of files, each law as the contract of a function that does nothing.
+ghost use Rattle.bdb_sql.specs.Content.{HasOneContent};
+
+/// A file has the rows of one choice of tables at most.
+#[tactic(auto, using(crate::proofs::ContentLemmas::one_content))]
+pub fn a_file_has_one_content()
+    ensures { HasOneContent }
+{}
