@@ -1,0 +1,4 @@
+pub mod FormLemmas
+pub mod GapLemmas
+pub mod ReadLemmas
+pub mod WordLemmas

@@ -1,0 +1,9 @@
+use Rattle.std.proofs.Common.{◌≡◌, ◌≤◌, true, length}
+use Rattle.bdb_events.specs.Pieces.{behind}
+use Rattle.bdb_events.proofs.gaps.behind_line.Given as goal
+
+abbrev pub invariant-loop-rest : goal.invariant-loop-rest
+invariant-loop-rest l = (behind true l.bytes ≡ behind true l.rest) × (length l.rest ≤ length l.bytes)
+
+abbrev pub decreases-loop-rest : goal.decreases-loop-rest
+decreases-loop-rest l = length l.rest
