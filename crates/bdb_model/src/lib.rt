@@ -18,8 +18,8 @@ mod stages;
 mod tests;
 
 pub use bases::{believes, clashing, stated, world_rows};
-pub use beliefs::{believes_among, clashing_among, stated_among};
+pub use beliefs::{believes_among, clashing_among, is_explicit, stated_among};
 pub use conflicts::first_clashing_among;
-pub use ends::{at_ends, worlds_depend_on_ends};
+pub use ends::{at_ends, at_path, worlds_depend_on_ends};
 pub use queries::{answers, answers_up_to};
 pub use rows::world_among;

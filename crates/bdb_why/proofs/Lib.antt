@@ -1,0 +1,9 @@
+pub mod AcceptLemmas
+pub mod CheckLemmas
+pub mod DescentLemmas
+pub mod EndLemmas
+pub mod FindLemmas
+pub mod GroundLemmas
+pub mod LookLemmas
+pub mod NearLemmas
+pub mod RivalLemmas
