@@ -67,8 +67,8 @@ pub fn taken<K: Keeper>(
     }
 }
 
-// The tuples that a world's rows of a relation state with a sign, only those with one first value where it is asked for.
-fn explicit_tuples<K: Keeper>(
+/// The tuples that a world's rows of a relation state with a sign, only those with one first value where it is asked for.
+pub fn explicit_tuples<K: Keeper>(
     alloc: Global,
     keeper: &mut K,
     wid: u32,

@@ -11,10 +11,12 @@ use Rattle.bdb_base.specs.declared.kinds.Stmt.{Stmt}
 use Rattle.bdb_keep.specs.Seen.{Seen}
 use Rattle.bdb_render.specs.declared.refusal.Refusal.{Refusal}
 use Rattle.bdb_session.specs.Bounds.{ReadsAsTold, RefusedUnwritten, UpdatesThrough, WritesAsTold}
+use Rattle.bdb_session.specs.declared.news.News.{News}
 use Rattle.bdb_session.specs.declared.reply.Reply.{Reply}
 use Rattle.bdb_session.specs.declared.stop.StopError.{StopError}
 use Rattle.bdb_session.specs.Known.{Known, AgreesOnSome}
 use Rattle.bdb_session.specs.Machine.{refusal_from}
+use Rattle.bdb_session.specs.Within.{nothing_new, sized}
 use Rattle.bdb_session.proofs.OutcomeLemmas.{refused_to_bind}
 
 -- where it is known what is bound
@@ -23,6 +25,11 @@ reads_as k old new result b known e h = subst (λ (x : Bound). ReadsAsTold x k o
 
 pub writes_as : (k : Known) (old new : Seen) (result : Result Reply StopError) (b known : Bound) → b ≡ known → WritesAsTold known k old new result → WritesAsTold b k old new result
 writes_as k old new result b known e h = subst (λ (x : Bound). WritesAsTold x k old new result) (sym e) h
+
+-- where nothing was learned before
+pub writes_from : (k : Known) (old new : Seen) (result : Result Reply StopError) (b known : Bound) (news : News) → news ≡ nothing_new k → b ≡ known
+    → WritesAsTold known (sized k news.counts) old new result → WritesAsTold b k old new result
+writes_from k old new result b known news e is h = writes_as k old new result b known is (subst (λ (m : News). WritesAsTold known (sized k m.counts) old new result) e h)
 
 -- what is refused to bind is not bound
 pub not_bound : (o : Option BindError) (e : BindError) (x : Refusal) → Some x ≡ refusal_from e → (e ≢ Memory → o ≡ Some e) → o ≡ None → ⊥

@@ -9,11 +9,6 @@ use Rattle.bdb_tables.specs.declared.tab.TabError.TheVariants as tab
 use Rattle.bdb_session.specs.declared.stop.StopError.{StopError}
 use Rattle.bdb_session.specs.declared.stop.StopError.TheVariants.{Fault}
 use Rattle.bdb_session.specs.Committing.{IsCommitted}
-use Rattle.bdb_session.specs.Known.{Known}
-use Rattle.bdb_session.specs.Outcome.{State, Outcome}
-use Rattle.bdb_session.specs.Served.{Serves}
-use Rattle.bdb_session.specs.declared.reply.Reply.{Reply}
-use Rattle.bdb_session.proofs.ServedLemmas.{stop_serves}
 
 rose_later : (a b c : ℕ) → a ≤ b → Rose b c → Rose a c
 rose_later a b c le r = omega arith
@@ -95,10 +90,3 @@ committed_err old new stop h = record {
   cause = record { later = h.cause.later; rose = λ is. h.cause.rose (let same : stop ≡ Fault = cc in ap Err same) };
   err = h.err;
 }
-
--- what a session answers where a transaction was stopped
-pub stopped_serves : {T : Type 0} (outcome : State → Outcome) (k : Known) (old new : Seen) (stop : StopError) → IsCommitted {T = T} old new (Err stop) Fault
-    → Serves outcome k k old new (Err stop)
-stopped_serves {T} outcome k old new stop h =
-    let h_reply : IsCommitted {T = Reply} old new (Err stop) Fault = committed_err {T = T} old new stop h in
-    stop_serves outcome k old new stop h_reply.still h_reply.err h_reply.never_fall h_reply.cause

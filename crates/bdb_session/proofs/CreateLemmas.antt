@@ -1,5 +1,5 @@
 -- What comes of a new user and of a new relation, and what the session knows after it.
-use Rattle.std.proofs.Common.{◌≡◌, ◌∙◌, ℕ, ◌+◌, ◌≤◌, true, List, length, Option, Some, None, Ok, refl, sym, ap, ltb}
+use Rattle.std.proofs.Common.{◌≡◌, ◌∙◌, ℕ, ◌+◌, ◌≤◌, true, List, length, Option, Some, None, Result, refl, sym, ap, ltb}
 use Rattle.std.specs.Prelude.{if◌then◌else◌}
 use Rattle.std.proofs.lemmas.List.{length_push}
 use Rattle.bdb_base.specs.Bases.{with_user, with_relation}
@@ -17,18 +17,19 @@ use Rattle.bdb_keep.specs.Tables.{Tables}
 use Rattle.bdb_render.specs.Replies.{ok_reply}
 use Rattle.bdb_render.specs.declared.refusal.Refusal.TheVariants.{Full}
 use Rattle.bdb_update.specs.Calls.{size_passed}
-use Rattle.bdb_session.specs.Committing.{IsCommitted}
 use Rattle.bdb_session.specs.Known.{Known, Agrees, AgreesOnSome}
 use Rattle.bdb_session.specs.Machine.{bound_outcome, with_catalog}
 use Rattle.bdb_session.specs.Outcome.{State, Refused, Done}
-use Rattle.bdb_session.specs.Served.{Serves}
 use Rattle.bdb_session.specs.Sizes.{limit_passed, passed_limit}
 use Rattle.bdb_session.specs.declared.reply.Reply.{Reply}
-use Rattle.bdb_session.specs.declared.stop.StopError.TheVariants.{Fault}
+use Rattle.bdb_session.specs.declared.stop.StopError.{StopError}
+use Rattle.bdb_session.specs.Within.{IsSaid, TellsWithin}
 use Rattle.bdb_session.proofs.CatalogLemmas.{user_is_valid, relation_is_valid}
 use Rattle.bdb_session.proofs.LimitLemmas.{limit_is, at_most, past}
 use Rattle.bdb_session.proofs.OutcomeLemmas.{becomes_full, becomes_done}
-use Rattle.bdb_session.proofs.ServedLemmas.{done_serves}
+use Rattle.bdb_session.proofs.WithinLemmas.{read_tells, said_tells}
+use Rattle.bdb_update.proofs.CallLemmas.{gone_itself}
+use Rattle.bdb_val.proofs.Calls.{HasGone}
 
 -- ---- so few that a number is the next
 
@@ -82,21 +83,24 @@ pub some_may_add_user : (t : Tables) (k : Known) (name : List ℕ) (uid : ℕ) �
     → user_limit k ≡ None → AgreesOnSome t k → SomeMayAddUser t uid name
 some_may_add_user t k name uid number fits room h = record { base = h.state.base; may = may_add_user t k h.state name uid number fits room h.agrees }
 
-pub user_serves : {T : Type 0} (x : T) (k now : Known) (name : List ℕ) (uid : ℕ) (old new : Seen) (r : Reply)
-    → uid ≡ length k.catalog.users + 1 → fits_catalog k.catalog (CreateUser name) ≡ true → user_limit k ≡ None
-    → AddsUserNamed old.kept new.kept uid name → IsCommitted {T = T} old new (Ok x) Fault
-    → now.catalog ≡ with_user k.catalog name → now.counts ≡ k.counts → r.text ≡ ok_reply → r.accepted ≡ true → r.answers ≡ 0
-    → Serves (λ s. bound_outcome s (CreateUser name)) k now old new (Ok r)
-user_serves x k now name uid old new r number fits room adds done catalog counts text accepted answers =
-    done_serves (λ s. bound_outcome s (CreateUser name)) (λ _. ok_reply) (λ _. 0) (user_added name) k now old new r
+pub user_refused : (k : Known) (name : List ℕ) (what : What) (old new : Seen) (result : Result Reply StopError) → user_limit k ≡ Some what → AgreesOnSome old.kept k
+    → IsSaid k.catalog (Refused (Full what)) old new result → TellsWithin (λ s. bound_outcome s (CreateUser name)) k k old new result
+user_refused k name what old new result full some said =
+    read_tells (λ s. bound_outcome s (CreateUser name)) (λ s. Refused (Full what)) k old old new result some (gone_itself old) refl (λ s a. user_full old.kept k s name what full a) (λ s. refl) (λ s. said)
+
+pub user_tells : (k now : Known) (name : List ℕ) (uid : ℕ) (old mid new : Seen) (result : Result Reply StopError)
+    → uid ≡ length k.catalog.users + 1 → fits_catalog k.catalog (CreateUser name) ≡ true → user_limit k ≡ None → AgreesOnSome old.kept k → HasGone old mid
+    → AddsUserNamed old.kept mid.kept uid name → now.catalog ≡ with_user k.catalog name → now.counts ≡ k.counts
+    → ((s : State) → IsSaid k.catalog (Done ok_reply 0 s) mid new result) → TellsWithin (λ s. bound_outcome s (CreateUser name)) k now old new result
+user_tells k now name uid old mid new result number fits room some gone adds catalog counts said =
+    said_tells (λ s. bound_outcome s (CreateUser name)) (λ s. Done ok_reply 0 (user_added name s)) k now old mid new result some gone
     (λ s a. user_done old.kept k s name room a)
-    (λ s a. record { text = text; accepted = accepted; answers = answers })
     (λ s a. record {
       base = adds s.base (may_add_user old.kept k s name uid number fits room a);
       catalog = catalog ∙ ap (λ (c : Catalog). with_user c name) a.catalog;
       counts = counts ∙ a.counts;
     })
-    done.commits done.still done.never_fall
+    (λ s. said (user_added name s))
 
 -- ---- a new relation
 
@@ -138,18 +142,21 @@ pub some_may_add_relation : (t : Tables) (k : Known) (def : RelDef) (rel : ℕ) 
     → relation_limit k ≡ None → AgreesOnSome t k → SomeMayAddRelation t rel def
 some_may_add_relation t k def rel number fits room h = record { base = h.state.base; may = may_add_relation t k h.state def rel number fits room h.agrees }
 
-pub relation_serves : {T : Type 0} (x : T) (k now : Known) (def : RelDef) (rel : ℕ) (old new : Seen) (r : Reply)
-    → rel ≡ length k.catalog.rels → fits_catalog k.catalog (CreateRelation def) ≡ true → relation_limit k ≡ None
-    → AddsRelation old.kept new.kept rel def → IsCommitted {T = T} old new (Ok x) Fault
-    → now.catalog ≡ with_relation k.catalog def → now.counts ≡ k.counts → r.text ≡ ok_reply → r.accepted ≡ true → r.answers ≡ 0
-    → Serves (λ s. bound_outcome s (CreateRelation def)) k now old new (Ok r)
-relation_serves x k now def rel old new r number fits room adds done catalog counts text accepted answers =
-    done_serves (λ s. bound_outcome s (CreateRelation def)) (λ _. ok_reply) (λ _. 0) (relation_added def) k now old new r
+pub relation_refused : (k : Known) (def : RelDef) (what : What) (old new : Seen) (result : Result Reply StopError) → relation_limit k ≡ Some what → AgreesOnSome old.kept k
+    → IsSaid k.catalog (Refused (Full what)) old new result → TellsWithin (λ s. bound_outcome s (CreateRelation def)) k k old new result
+relation_refused k def what old new result full some said =
+    read_tells (λ s. bound_outcome s (CreateRelation def)) (λ s. Refused (Full what)) k old old new result some (gone_itself old) refl (λ s a. relation_full old.kept k s def what full a) (λ s. refl) (λ s. said)
+
+pub relation_tells : (k now : Known) (def : RelDef) (rel : ℕ) (old mid new : Seen) (result : Result Reply StopError)
+    → rel ≡ length k.catalog.rels → fits_catalog k.catalog (CreateRelation def) ≡ true → relation_limit k ≡ None → AgreesOnSome old.kept k → HasGone old mid
+    → AddsRelation old.kept mid.kept rel def → now.catalog ≡ with_relation k.catalog def → now.counts ≡ k.counts
+    → ((s : State) → IsSaid k.catalog (Done ok_reply 0 s) mid new result) → TellsWithin (λ s. bound_outcome s (CreateRelation def)) k now old new result
+relation_tells k now def rel old mid new result number fits room some gone adds catalog counts said =
+    said_tells (λ s. bound_outcome s (CreateRelation def)) (λ s. Done ok_reply 0 (relation_added def s)) k now old mid new result some gone
     (λ s a. relation_done old.kept k s def room a)
-    (λ s a. record { text = text; accepted = accepted; answers = answers })
     (λ s a. record {
       base = adds s.base (may_add_relation old.kept k s def rel number fits room a);
       catalog = catalog ∙ ap (λ (c : Catalog). with_relation c def) a.catalog;
       counts = counts ∙ a.counts;
     })
-    done.commits done.still done.never_fall
+    (λ s. said (relation_added def s))

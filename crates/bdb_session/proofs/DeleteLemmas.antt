@@ -91,4 +91,4 @@ module _ (k : Known) (before : Counts) (t u : Tables) (w : List ℕ) (sign : Sig
       (λ s a. becomes_done s (next s).base (count_reply (length (taken_by w sign rel conds s.base.stmts))) (no_limit (next s).base (deleted mid.kept after go s (from s a)).valid)
       ∙ ap (λ m. Done (count_reply m) 0 (next s)) (sym (many ∙ ap length (gone_is s (from s a)))))
       (λ s a. let d = deleted mid.kept after go s (from s a) in record { base = record { stored = d.stored; valid = d.valid }; catalog = a.catalog; counts = d.counted })
-      (λ s e. refl) (λ s. said (next s))
+      (λ s. said (next s))

@@ -117,7 +117,7 @@ module _ (k : Known) (x : Stmt) (before after : Counts) (old mid : Seen) (fits :
       said_tells (λ s. bound_outcome s (Insert x)) (λ s. Done (count_reply 1) 0 (record s { base = with_one s.base x })) (sized k before) (sized k after) old mid new result some
       (record { goes = (at some.state some.agrees).becomes.goes_on; counts = fall })
       (λ s a. let h = at s a in insert_new s x a.base.valid h.apart h.room h.fresh)
-      (λ s a. new_agrees s a (at s a)) (λ s e. refl) (λ s. said (record s { base = with_one s.base x }))
+      (λ s a. new_agrees s a (at s a)) (λ s. said (record s { base = with_one s.base x }))
 
   pub insert_tells_already : (new : Seen) (result : Result Reply StopError) → AgreesOnSome old.kept (sized k before) → NeverFall old mid → Adds old mid before after x (Ok Already)
       → ((s : State) → IsSaid k.catalog (Done (count_reply 0) 0 s) mid new result) → TellsWithin (λ s. bound_outcome s (Insert x)) (sized k before) (sized k after) old new result
@@ -126,7 +126,7 @@ module _ (k : Known) (x : Stmt) (before after : Counts) (old mid : Seen) (fits :
       said_tells (λ s. bound_outcome s (Insert x)) (λ s. Done (count_reply 0) 0 s) (sized k before) (sized k after) old mid new result some
       (record { goes = (at some.state some.agrees).untouched.goes_on; counts = fall })
       (λ s a. insert_already s x a.base.valid (at s a).there)
-      (λ s a. untouched_agrees k before after old mid s (at s a).untouched a) (λ s e. refl) said
+      (λ s a. untouched_agrees k before after old mid s (at s a).untouched a) said
 
   pub insert_tells_err : (new : Seen) (result : Result Reply StopError) (e : UpdateError) → AgreesOnSome old.kept (sized k before) → NeverFall old mid → Adds old mid before after x (Err e)
       → Refuses k.catalog e mid new result → TellsWithin (λ s. bound_outcome s (Insert x)) (sized k before) (sized k after) old new result
@@ -135,13 +135,13 @@ module _ (k : Known) (x : Stmt) (before after : Counts) (old mid : Seen) (fits :
       said_tells (λ s. bound_outcome s (Insert x)) (λ s. Refused (clash_with least)) (sized k before) (sized k after) old mid new result some
       (record { goes = (at some.state some.agrees).untouched.goes_on; counts = fall })
       (λ s a. insert_clashes s x least (at s a).clash)
-      (λ s a. untouched_agrees k before after old mid s (at s a).untouched a) (λ s e. absurd cc) (λ s. said)
+      (λ s a. untouched_agrees k before after old mid s (at s a).untouched a) (λ s. said)
   insert_tells_err new result (change.Full what) some fall adds said =
       let at = λ (s : State) (a : Agrees old.kept (sized k before) s). adds s.base (insert_meets s a) in
       said_tells (λ s. bound_outcome s (Insert x)) (λ s. Refused (refusal.Full what)) (sized k before) (sized k after) old mid new result some
       (record { goes = (at some.state some.agrees).untouched.goes_on; counts = fall })
       (λ s a. let h = at s a in insert_fills s x what a.base.valid h.apart h.passed)
-      (λ s a. untouched_agrees k before after old mid s (at s a).untouched a) (λ s e. absurd cc) (λ s. said)
+      (λ s a. untouched_agrees k before after old mid s (at s a).untouched a) (λ s. said)
   insert_tells_err new result change.Fault some fall adds said =
       change_failed (λ s. bound_outcome s (Insert x)) (sized k before) (sized k after) before after old old mid new result (gone_itself old) fall (adds some.state.base (insert_meets some.state some.agrees)) said
   insert_tells_err new result change.Memory some fall adds said =

@@ -1,10 +1,12 @@
 pub mod AllowedLemmas
+pub mod BatchLemmas
 pub mod BoundLemmas
 pub mod CatalogLemmas
 pub mod ChangeFacts
 pub mod CommitLemmas
 pub mod CreateLemmas
 pub mod DeleteLemmas
+pub mod EndLemmas
 pub mod FindLemmas
 pub mod InsertLemmas
 pub mod LimitLemmas

@@ -20,7 +20,7 @@ use Rattle.bdb_exec.specs.Seen.{sight_of}
 use Rattle.bdb_exec.specs.declared.errors.ExecError.{ExecError}
 use Rattle.bdb_exec.specs.declared.errors.ExecError.TheVariants as exec
 use Rattle.bdb_exec.proofs.ShownLemmas.{tables_show_base}
-use Rattle.bdb_keep.specs.Seen.{Seen, IsStill}
+use Rattle.bdb_keep.specs.Seen.{Seen}
 use Rattle.bdb_keep.specs.Tables.{Tables}
 use Rattle.bdb_plan.specs.Fitness.{Fields}
 use Rattle.bdb_plan.specs.PlanOf.{plan_of}
@@ -31,18 +31,20 @@ use Rattle.bdb_session.specs.Known.{Known, Agrees, AgreesOnSome}
 use Rattle.bdb_session.specs.Laws.{StoredPlansMeanAnswers}
 use Rattle.bdb_session.specs.Machine.{bound_outcome, plan_reply, tells}
 use Rattle.bdb_session.specs.Outcome.{State, Outcome, Refused, Done}
-use Rattle.bdb_session.specs.Served.{IsTold, Serves}
 use Rattle.bdb_session.specs.Sizes.{too_many}
+use Rattle.bdb_session.specs.Within.{IsSaid, TellsWithin}
 use Rattle.bdb_session.specs.declared.reply.Reply.{Reply}
 use Rattle.bdb_session.specs.declared.stop.StopError.{StopError}
 use Rattle.bdb_session.specs.declared.stop.StopError.TheVariants.{Fault, Memory}
 use Rattle.bdb_session.proofs.OutcomeLemmas.{unless_some, unless_none}
-use Rattle.bdb_session.proofs.ServedLemmas.{serves_as, refusal_serves}
-use Rattle.bdb_session.proofs.TellLemmas.{IsSame, later_serves, dropped_same, same_stop, other_cause}
+use Rattle.bdb_session.proofs.TellLemmas.{other_cause}
+use Rattle.bdb_session.proofs.WithinLemmas.{read_tells, stop_tells}
 use Rattle.bdb_tables.specs.Names.{Names}
 use Rattle.bdb_tables.specs.Rows.{Tuples}
 use Rattle.bdb_tables.specs.Stored.{StoredAs, name_of}
 use Rattle.bdb_trans.proofs.PlanLemmas.{plans_mean_answers}
+use Rattle.bdb_update.proofs.CallLemmas.{gone_itself}
+use Rattle.bdb_val.proofs.Calls.{HasGone}
 
 -- ---- what tables show
 
@@ -110,43 +112,42 @@ many_outcome s q many =
     let rows = answers_of s.base q in
     unless_some (too_many (length rows)) refusal.Many (Done (rows_reply rows) (length rows) s) (are_many (length rows) many)
 
--- ---- how a query is served
+-- ---- what is told of a query
 
--- nothing changes where a plan was run, or had too many rows
-stays_same : {T : Type 0} (old new : Seen) (result : Result T ExecError) → IsStill old → IsExecuted old new result → Stays old new → IsSame old new
-stays_same old new result still run h = record {
-  same = record { kept = h.kept; last = h.last; commits = h.commits };
-  still = record { stopped = h.running ∙ still.stopped; rest = h.kept ∙ still.rest ∙ sym h.last };
-  never_fall = run.counts;
-}
+-- a plan was run, or had too many rows
+stays_gone : {T : Type 0} (old new : Seen) (result : Result T ExecError) → IsExecuted old new result → Stays old new → HasGone old new
+stays_gone old new result run h = record { goes = record { faults = run.counts.faults; running = h.running; last = h.last; commits = h.commits }; counts = run.counts }
 
-pub answers_serve : (k : Known) (q : Query) (plan : Fields) (rows : List (List Value)) (old mid new : Seen) (result : Result Reply StopError)
-    → IsStill old → can_be_answered k.catalog q ≡ true → plan ≡ plan_of k.catalog.rels q → rows ≡ meaning_of (sight_of old.kept) plan → length rows ≤ most_lines
-    → IsExecuted old mid (Ok rows) → Serves (λ s. Done (rows_reply rows) (length rows) s) k k mid new result → Serves (λ s. bound_outcome s (Select q)) k k old new result
-answers_serve k q plan rows old mid new result still fits of_query means few run told =
+pub answers_tell : (k : Known) (q : Query) (plan : Fields) (rows : List (List Value)) (old mid new : Seen) (result : Result Reply StopError)
+    → AgreesOnSome old.kept k → can_be_answered k.catalog q ≡ true → plan ≡ plan_of k.catalog.rels q → rows ≡ meaning_of (sight_of old.kept) plan → length rows ≤ most_lines
+    → IsExecuted old mid (Ok rows) → ((s : State) → IsSaid k.catalog (Done (rows_reply rows) (length rows) s) mid new result) → TellsWithin (λ s. bound_outcome s (Select q)) k k old new result
+answers_tell k q plan rows old mid new result some fits of_query means few run said =
     let found = means ∙ ap (λ (p : Fields). meaning_of (sight_of old.kept) p) of_query in
-    serves_as (λ s. bound_outcome s (Select q)) (λ s. Done (rows_reply rows) (length rows) s) k k old new result
-    (λ s a. rows_outcome s q rows (found ∙ plan_answers old.kept k s q a fits) few)
-    (later_serves (λ s. Done (rows_reply rows) (length rows) s) k k old mid new result (stays_same old mid (Ok rows) still run run.ok) told)
+    read_tells (λ s. bound_outcome s (Select q)) (λ s. Done (rows_reply rows) (length rows) s) k old mid new result some (stays_gone old mid (Ok rows) run run.ok) run.ok.kept
+    (λ s a. rows_outcome s q rows (found ∙ plan_answers old.kept k s q a fits) few) (λ s. refl) said
 
-pub many_serve : {T : Type 0} (k : Known) (q : Query) (plan : Fields) (old mid : Seen) (result : Result Reply StopError)
-    → IsStill old → can_be_answered k.catalog q ≡ true → plan ≡ plan_of k.catalog.rels q → most_lines < length (meaning_of (sight_of old.kept) plan)
-    → IsExecuted {T = T} old mid (Err exec.TooMany) → IsTold k.catalog (Refused refusal.Many) result → Serves (λ s. bound_outcome s (Select q)) k k old mid result
-many_serve {T} k q plan old mid result still fits of_query many run told =
-    let same = stays_same {T = T} old mid (Err exec.TooMany) still run (run.many refl) in
+pub many_tell : {T : Type 0} (k : Known) (q : Query) (plan : Fields) (old mid new : Seen) (result : Result Reply StopError)
+    → AgreesOnSome old.kept k → can_be_answered k.catalog q ≡ true → plan ≡ plan_of k.catalog.rels q → most_lines < length (meaning_of (sight_of old.kept) plan)
+    → IsExecuted {T = T} old mid (Err exec.TooMany) → IsSaid k.catalog (Refused refusal.Many) mid new result → TellsWithin (λ s. bound_outcome s (Select q)) k k old new result
+many_tell {T} k q plan old mid new result some fits of_query many run said =
+    let stays = run.many refl in
     let more = subst (λ (p : Fields). most_lines < length (meaning_of (sight_of old.kept) p)) of_query many in
-    refusal_serves (λ s. bound_outcome s (Select q)) refusal.Many k old mid result
-    (λ s a. many_outcome s q (subst (λ (r : List (List Value)). most_lines < length r) (plan_answers old.kept k s q a fits) more)) same.still same.same same.never_fall told
+    read_tells (λ s. bound_outcome s (Select q)) (λ s. Refused refusal.Many) k old mid new result some (stays_gone {T = T} old mid (Err exec.TooMany) run stays) stays.kept
+    (λ s a. many_outcome s q (subst (λ (r : List (List Value)). most_lines < length r) (plan_answers old.kept k s q a fits) more)) (λ s. refl) (λ s. said)
 
-pub fault_serves : {T : Type 0} (outcome : State → Outcome) (k : Known) (old mid : Seen) → IsStill old → IsExecuted {T = T} old mid (Err exec.Fault) → Serves outcome k k old mid (Err Fault)
-fault_serves {T} outcome k old mid still run =
-    same_stop outcome k old mid Fault (dropped_same old mid still run.counts (run.fault refl))
-    (other_cause {T = T} {S = Reply} old.faults mid.faults exec.Fault Fault exec.Fault Fault (λ e. refl) run.cause)
+pub fault_tells : {T : Type 0} (outcome : State → Outcome) (k : Known) (old mid : Seen) → IsExecuted {T = T} old mid (Err exec.Fault) → TellsWithin outcome k k old mid (Err Fault)
+fault_tells {T} outcome k old mid run =
+    stop_tells outcome k k old mid Fault (record {
+      counts = run.counts;
+      steps = record { cause = other_cause {T = T} {S = Reply} old.faults mid.faults exec.Fault Fault exec.Fault Fault (λ e. refl) run.cause; ok = tt; err = run.fault refl };
+    })
 
-pub no_memory_serves : {T : Type 0} (outcome : State → Outcome) (k : Known) (old mid : Seen) → IsStill old → IsExecuted {T = T} old mid (Err exec.Memory) → Serves outcome k k old mid (Err Memory)
-no_memory_serves {T} outcome k old mid still run =
-    same_stop outcome k old mid Memory (dropped_same old mid still run.counts (run.memory refl))
-    (other_cause {T = T} {S = Reply} old.faults mid.faults exec.Memory Memory exec.Fault Fault (λ e. absurd cc) run.cause)
+pub no_memory_tells : {T : Type 0} (outcome : State → Outcome) (k : Known) (old mid : Seen) → IsExecuted {T = T} old mid (Err exec.Memory) → TellsWithin outcome k k old mid (Err Memory)
+no_memory_tells {T} outcome k old mid run =
+    stop_tells outcome k k old mid Memory (record {
+      counts = run.counts;
+      steps = record { cause = other_cause {T = T} {S = Reply} old.faults mid.faults exec.Memory Memory exec.Fault Fault (λ e. absurd cc) run.cause; ok = tt; err = run.memory refl };
+    })
 
 -- ---- how a plan is told
 
@@ -154,7 +155,8 @@ pub plan_outcome : (t : Tables) (k : Known) (s : State) (q : Query) (text : List
 plan_outcome t k s q text a is =
     ap (λ (c : Catalog). Done (plan_reply c q) 0 s) (sym a.catalog) ∙ ap (λ (x : List ℕ). Done x 0 s) (sym is)
 
-pub plan_serves : (k : Known) (q : Query) (text : List ℕ) (old new : Seen) (result : Result Reply StopError) → text ≡ plan_reply k.catalog q
-    → Serves (λ s. Done text 0 s) k k old new result → Serves (λ s. bound_outcome s (Explain q)) k k old new result
-plan_serves k q text old new result is told =
-    serves_as (λ s. bound_outcome s (Explain q)) (λ s. Done text 0 s) k k old new result (λ s a. plan_outcome old.kept k s q text a is) told
+pub plan_tells : (k : Known) (q : Query) (old new : Seen) (result : Result Reply StopError) → AgreesOnSome old.kept k
+    → ((s : State) → IsSaid k.catalog (Done (plan_reply k.catalog q) 0 s) old new result) → TellsWithin (λ s. bound_outcome s (Explain q)) k k old new result
+plan_tells k q old new result some said =
+    read_tells (λ s. bound_outcome s (Explain q)) (λ s. Done (plan_reply k.catalog q) 0 s) k old old new result some (gone_itself old) refl
+    (λ s a. plan_outcome old.kept k s q (plan_reply k.catalog q) a refl) (λ s. refl) said

@@ -1,14 +1,14 @@
 -- How a session answers what is refused, and what is done.
-use Rattle.std.proofs.Common.{◌≡◌, ◌∙◌, ℕ, List, Result, Ok, Err, refl, sym, ap, subst, arith}
-use Rattle.bdb_base.specs.Causes.{HasCause, Rises}
+use Rattle.std.proofs.Common.{◌≡◌, ◌∙◌, Result, Ok, Err, refl, sym, ap, subst, arith}
+use Rattle.bdb_base.specs.Causes.{HasCause}
 use Rattle.bdb_keep.specs.Seen.{Seen, IsStill, NeverFall, Unchanged}
 use Rattle.bdb_keep.specs.Tables.{Tables}
 use Rattle.bdb_render.specs.declared.refusal.Refusal.{Refusal}
 use Rattle.bdb_session.specs.declared.reply.Reply.{Reply}
 use Rattle.bdb_session.specs.declared.stop.StopError.{StopError}
-use Rattle.bdb_session.specs.declared.stop.StopError.TheVariants.{Fault, Memory}
+use Rattle.bdb_session.specs.declared.stop.StopError.TheVariants.{Fault}
 use Rattle.bdb_session.specs.Known.{Known, Agrees, AgreesOnSome}
-use Rattle.bdb_session.specs.Outcome.{State, Outcome, Refused, Done, text_of, state_after}
+use Rattle.bdb_session.specs.Outcome.{State, Outcome, Refused, text_of, state_after}
 use Rattle.bdb_session.specs.Served.{Ends, IsReply, IsTold, IsServed, Serves}
 
 pub nothing_falls : (old : Seen) → NeverFall old old
@@ -80,29 +80,6 @@ pub stop_serves : (outcome : State → Outcome) (k : Known) (old new : Seen) (st
 stop_serves outcome k old new stop still same fall cause = record {
   served = λ s a. record { reply = tt; next = tt; commits = tt; alone = tt };
   ends = record { same = refl; still = still; never_fall = fall; cause = cause; err = same };
-}
-
--- want of memory before a transaction, or after one that was undone
-pub memory_serves : (outcome : State → Outcome) (k : Known) (old new : Seen) → IsStill new → Unchanged old new → NeverFall old new → Serves outcome k k old new (Err Memory)
-memory_serves outcome k old new still same fall = stop_serves outcome k old new Memory still same fall (record { later = fall.faults; rose = λ e. absurd cc })
-
-pub unmade_serves : (outcome : State → Outcome) (k : Known) (old : Seen) → IsStill old → Serves outcome k k old old (Err Memory)
-unmade_serves outcome k old still = memory_serves outcome k old old still (as_it_was old) (nothing_falls old)
-
--- what is done is committed once, and the session agrees on the state after it
-pub done_serves : (outcome : State → Outcome) (text : State → List ℕ) (answers : State → ℕ) (next : State → State) (before now : Known) (old new : Seen) (r : Reply)
-    → ((s : State) → Agrees old.kept before s → outcome s ≡ Done (text s) (answers s) (next s))
-    → ((s : State) → Agrees old.kept before s → IsReply s.base.catalog (Done (text s) (answers s) (next s)) r)
-    → ((s : State) → Agrees old.kept before s → Agrees new.kept now (next s))
-    → Rises 1 old.commits new.commits → IsStill new → NeverFall old new → Serves outcome before now old new (Ok r)
-done_serves outcome text answers next before now old new r is reply agrees commits still fall = record {
-  served = λ s a. served_as s (outcome s) (Done (text s) (answers s) (next s)) now old new (Ok r) (is s a) (record {
-    reply = reply s a;
-    next = agrees s a;
-    commits = commits;
-    alone = λ e. absurd cc;
-  });
-  ends = record { same = tt; still = still; never_fall = fall; cause = record { later = fall.faults; rose = λ e. absurd cc }; err = tt };
 }
 
 -- a session that agreed with the tables on some state still does

@@ -116,26 +116,26 @@ module _ (k : Known) (before : Counts) (w : List ℕ) (sign : Sign) (rel : ℕ) 
 
 -- ---- the end of a transaction
 
-module _ (counts : Counts) (r : Reply) (before now : Known) (old run mid new : Seen) (began : IsBegin {T = Unit {0}} {E = StopError} old run (Ok tt) Fault) where
-  kept_through : (es : List (Stmt × Contents)) → WritesThrough run es mid → (result : Result Reply StopError) → IsKept counts r before now mid new result → OnOk result (WritesThrough old es new)
+module _ (learns : Known) (r : Reply) (before now : Known) (old run mid new : Seen) (began : IsBegin {T = Unit {0}} {E = StopError} old run (Ok tt) Fault) where
+  kept_through : (es : List (Stmt × Contents)) → WritesThrough run es mid → (result : Result Reply StopError) → IsKept learns r before now mid new result → OnOk result (WritesThrough old es new)
   kept_through es h (Ok q) k = through_same es old run mid new began.kept began.writes k.commit.kept k.commit.writes h
   kept_through es h (Err stop) k = tt
 
-  done_through : (es : List (Stmt × Contents)) → r.accepted ≡ true → WritesThrough run es mid → (result : Result Reply StopError) → Settles counts r before now mid new result
+  done_through : (es : List (Stmt × Contents)) → r.accepted ≡ true → WritesThrough run es mid → (result : Result Reply StopError) → Settles learns r before now mid new result
       → OnOk result (WritesThrough old es new)
   done_through es done h result e =
-      kept_through es h result (MatchBool-at_true (IsKept counts r before now mid new result) (IsUndone r before now mid new result) done e)
+      kept_through es h result (MatchBool-at_true (IsKept learns r before now mid new result) (IsUndone r before now mid new result) done e)
 
-  kept_accepted : r.accepted ≡ true → (result : Result Reply StopError) → IsKept counts r before now mid new result → IfOk result (λ q. q.accepted ≡ true)
+  kept_accepted : r.accepted ≡ true → (result : Result Reply StopError) → IsKept learns r before now mid new result → IfOk result (λ q. q.accepted ≡ true)
   kept_accepted done (Ok q) k = ap (λ (x : Reply). x.accepted) k.reply ∙ done
   kept_accepted done (Err stop) k = tt
 
-  done_accepted : r.accepted ≡ true → (result : Result Reply StopError) → Settles counts r before now mid new result → IfOk result (λ q. q.accepted ≡ true)
+  done_accepted : r.accepted ≡ true → (result : Result Reply StopError) → Settles learns r before now mid new result → IfOk result (λ q. q.accepted ≡ true)
   done_accepted done result e =
-      kept_accepted done result (MatchBool-at_true (IsKept counts r before now mid new result) (IsUndone r before now mid new result) done e)
+      kept_accepted done result (MatchBool-at_true (IsKept learns r before now mid new result) (IsUndone r before now mid new result) done e)
 
   kept_updates : (b : Contents) (gone : List Stmt) (sets : List SetCol) → r.accepted ≡ true → WritesThrough run (steps_of b gone (map (changed_statement sets) gone)) mid
-      → (result : Result Reply StopError) → IsKept counts r before now mid new result → UpdatesThrough b gone sets old new result
+      → (result : Result Reply StopError) → IsKept learns r before now mid new result → UpdatesThrough b gone sets old new result
   kept_updates b gone sets done h (Ok q) k = record {
     steps = λ _. kept_through (steps_of b gone (map (changed_statement sets) gone)) h (Ok q) k;
     refused = λ f. absurd (false≢true (sym f ∙ ap (λ (x : Reply). x.accepted) k.reply ∙ done));
@@ -143,35 +143,36 @@ module _ (counts : Counts) (r : Reply) (before now : Known) (old run mid new : S
   kept_updates b gone sets done h (Err stop) k = record { steps = tt; refused = tt }
 
   settled_updates : (b : Contents) (gone : List Stmt) (sets : List SetCol) → mid.last ≡ run.last → UpdatesThrough b gone sets run mid (Ok r) → (result : Result Reply StopError)
-      → Settles counts r before now mid new result → UpdatesThrough b gone sets old new result
+      → Settles learns r before now mid new result → UpdatesThrough b gone sets old new result
   settled_updates b gone sets last h result e = elim (cases_Bool r.accepted) [
     | inl done ↦
-        kept_updates b gone sets done (h.steps done) result (MatchBool-at_true (IsKept counts r before now mid new result) (IsUndone r before now mid new result) done e)
+        kept_updates b gone sets done (h.steps done) result (MatchBool-at_true (IsKept learns r before now mid new result) (IsUndone r before now mid new result) done e)
     | inr undone ↦
-        let k = MatchBool-at_false (IsKept counts r before now mid new result) (IsUndone r before now mid new result) undone e in
+        let k = MatchBool-at_false (IsKept learns r before now mid new result) (IsUndone r before now mid new result) undone e in
         subst (λ (x : Result Reply StopError). UpdatesThrough b gone sets old new x) (sym k.reply) (record {
           steps = λ f. absurd (false≢true (sym undone ∙ f));
           refused = λ _. record { kept = k.undo.dropped.undone ∙ last ∙ began.last ∙ sym began.rest; writes = k.undo.writes ∙ (h.refused undone).writes ∙ began.writes };
         })
   ]
 
--- after its begin a session still knows the sizes
-module _ (start counts : Counts) (r : Reply) (before now : Known) (old run mid new : Seen) (result : Result Reply StopError) (same : start ≡ before.counts)
+-- after its begin a session still agrees with the tables
+module _ (learns : Known) (r : Reply) (before now : Known) (old run mid new : Seen) (result : Result Reply StopError)
     (began : IsBegin {T = Unit {0}} {E = StopError} old run (Ok tt) Fault) where
-  begun_agrees : (s : State) → Agrees old.kept before s → Agrees run.kept (sized before start) s
-  begun_agrees s a = subst (λ (n : Counts). Agrees run.kept (sized before n) s) (sym same) (still_agrees old.kept run.kept before s began.kept a)
+  begun_agrees : (s : State) → Agrees old.kept before s → Agrees run.kept before s
+  begun_agrees s a = still_agrees old.kept run.kept before s began.kept a
 
-  pub delete_settles : (w : List ℕ) (sign : Sign) (rel : ℕ) (conds : List Cond) → WritesAsTold (Delete w sign rel conds) (sized before start) run mid (Ok r) → r.accepted ≡ true
-      → Settles counts r before now mid new result → WritesAsTold (Delete w sign rel conds) before old new result
-  delete_settles w sign rel conds within done e = λ s a.
+  pub delete_settles : (w : List ℕ) (sign : Sign) (rel : ℕ) (conds : List Cond) → WritesAsTold (Delete w sign rel conds) before run mid (Ok r)
+      → Settles learns r before now mid new result → WritesAsTold (Delete w sign rel conds) before old new result
+  delete_settles w sign rel conds within e = λ s a.
       let h = within s (begun_agrees s a) in
+      let done = h.accepted in
       record {
-        one = λ single. settled_writes (length w + 2) 8 counts r before now old run mid new began (h.one single) (λ f. absurd (false≢true (sym f ∙ done))) result e;
-        steps = done_through counts r before now old run mid new began (steps_without s.base (taken_by w sign rel conds s.base.stmts)) done h.steps result e;
-        accepted = done_accepted counts r before now old run mid new began done result e;
+        one = λ single. settled_writes (length w + 2) 8 learns r before now old run mid new began (h.one single) (λ f. absurd (false≢true (sym f ∙ done))) result e;
+        steps = done_through learns r before now old run mid new began (steps_without s.base (taken_by w sign rel conds s.base.stmts)) done h.steps result e;
+        accepted = done_accepted learns r before now old run mid new began done result e;
       }
 
-  pub update_settles : (w : List ℕ) (sign : Sign) (rel : ℕ) (sets : List SetCol) (conds : List Cond) → WritesAsTold (Update w sign rel sets conds) (sized before start) run mid (Ok r)
-      → mid.last ≡ run.last → Settles counts r before now mid new result → WritesAsTold (Update w sign rel sets conds) before old new result
+  pub update_settles : (w : List ℕ) (sign : Sign) (rel : ℕ) (sets : List SetCol) (conds : List Cond) → WritesAsTold (Update w sign rel sets conds) before run mid (Ok r)
+      → mid.last ≡ run.last → Settles learns r before now mid new result → WritesAsTold (Update w sign rel sets conds) before old new result
   update_settles w sign rel sets conds within last e = λ s a.
-      settled_updates counts r before now old run mid new began s.base (taken_by w sign rel conds s.base.stmts) sets last (within s (begun_agrees s a)) result e
+      settled_updates learns r before now old run mid new began s.base (taken_by w sign rel conds s.base.stmts) sets last (within s (begun_agrees s a)) result e

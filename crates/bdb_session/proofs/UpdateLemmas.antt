@@ -233,7 +233,7 @@ module _ (k : Known) (before : Counts) (t u : Tables) (w : List ℕ) (sign : Sig
         (gone_then old mid fin gone_on (record { goes = (at from_some.state from_some.agrees).becomes.goes_on; counts = fall }))
         (λ s a. let c = at s a in update_done n many s (from s a) c.apart c.room)
         (λ s a. let c = at s a in record { base = record { stored = c.becomes.stored; valid = next_valid s (from s a) c.apart c.room }; catalog = a.catalog; counts = c.becomes.counted })
-        (λ s e. refl) (λ s. said (record s { base = next s }))
+        (λ s. said (record s { base = next s }))
 
     pub update_tells_err : (e : UpdateError) → Changes mid fin before after w gone come (Err e) → Refuses k.catalog e fin new result
         → TellsWithin outcome (sized k before) (sized k after) old new result
@@ -241,12 +241,12 @@ module _ (k : Known) (before : Counts) (t u : Tables) (w : List ℕ) (sign : Sig
         let at = λ (s : State) (a : Agrees old.kept (sized k before) s). h s.base (may s a) in
         said_tells outcome (λ s. Refused (clash_with least)) (sized k before) (sized k after) old fin new result from_some
         (gone_then old mid fin gone_on (record { goes = (at from_some.state from_some.agrees).untouched.goes_on; counts = fall }))
-        (λ s a. update_clashes least s (from s a) (at s a).clash) (λ s a. stays s a (at s a).untouched) (λ s e. absurd cc) (λ s. said)
+        (λ s a. update_clashes least s (from s a) (at s a).clash) (λ s a. stays s a (at s a).untouched) (λ s. said)
     update_tells_err (change.Full what) h said =
         let at = λ (s : State) (a : Agrees old.kept (sized k before) s). h s.base (may s a) in
         said_tells outcome (λ s. Refused (refusal.Full what)) (sized k before) (sized k after) old fin new result from_some
         (gone_then old mid fin gone_on (record { goes = (at from_some.state from_some.agrees).untouched.goes_on; counts = fall }))
-        (λ s a. let c = at s a in update_fills what s (from s a) c.apart c.tuples c.many) (λ s a. stays s a (at s a).untouched) (λ s e. absurd cc) (λ s. said)
+        (λ s a. let c = at s a in update_fills what s (from s a) c.apart c.tuples c.many) (λ s a. stays s a (at s a).untouched) (λ s. said)
     update_tells_err change.Fault h said =
         change_failed outcome (sized k before) (sized k after) before after old mid fin new result gone_on fall (h from_some.state.base (may from_some.state from_some.agrees)) said
     update_tells_err change.Memory h said =

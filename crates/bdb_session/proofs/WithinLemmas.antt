@@ -1,22 +1,23 @@
 -- What becomes of a step within a transaction.
-use Rattle.std.proofs.Common.{◌≡◌, ◌∙◌, ℕ, ◌≤◌, true, false, Result, Ok, Err, refl, sym, ap, subst, inl, inr, arith}
+use Rattle.std.proofs.Common.{◌≡◌, ◌∙◌, ℕ, ◌≤◌, true, false, List, [], Result, Ok, Err, refl, sym, ap, subst, inl, inr, arith}
 use Rattle.std.proofs.lemmas.Bool.{cases_Bool, MatchBool-at_true, MatchBool-at_false}
 use Rattle.bdb_base.specs.Causes.{HasCause, Rose, RoseBy, Rises}
-use Rattle.bdb_canon.specs.declared.sizes.Counts.{Counts}
 use Rattle.bdb_keep.specs.Calls.{IsBegin, IsUndo}
 use Rattle.bdb_keep.specs.Seen.{Seen, IsStill, IsDropped, NeverFall, Unchanged, GoesOn}
+use Rattle.bdb_render.specs.declared.refusal.Refusal.{Refusal}
 use Rattle.bdb_tables.specs.declared.tab.TabError.{TabError}
 use Rattle.bdb_tables.specs.declared.tab.TabError.TheVariants as tab
 use Rattle.bdb_tables.proofs.Loops.{counts_then}
+use Rattle.bdb_update.proofs.CallLemmas.{gone_itself}
 use Rattle.bdb_val.specs.Steps.{IsChanging}
 use Rattle.bdb_val.proofs.Calls.{HasGone, changing_err, changing_ok, changing_undone}
 use Rattle.bdb_session.specs.declared.reply.Reply.{Reply}
 use Rattle.bdb_session.specs.declared.stop.StopError.{StopError}
-use Rattle.bdb_session.specs.declared.stop.StopError.TheVariants.{Fault}
+use Rattle.bdb_session.specs.declared.stop.StopError.TheVariants.{Fault, Memory}
 use Rattle.bdb_session.specs.Known.{Known, Agrees, AgreesOnSome}
 use Rattle.bdb_session.specs.Outcome.{State, Outcome, Blank, Refused, Done, text_of, is_accepted, state_after, commit_count}
 use Rattle.bdb_session.specs.Served.{IsReply, Serves}
-use Rattle.bdb_session.specs.Within.{IsToldWithin, TellsWithin, IsSaid, IsKept, IsUndone, Settles, sized}
+use Rattle.bdb_session.specs.Within.{IsToldWithin, TellsWithin, IsSaid, IsKept, IsUndone, Settles}
 use Rattle.bdb_session.proofs.ServedLemmas.{still_agrees, stop_serves}
 
 -- ---- what is told of a step
@@ -25,28 +26,26 @@ use Rattle.bdb_session.proofs.ServedLemmas.{still_agrees, stop_serves}
 pub said_tells : (outcome known : State → Outcome) (before now : Known) (old mid new : Seen) (result : Result Reply StopError) → AgreesOnSome old.kept before → HasGone old mid
     → ((s : State) → Agrees old.kept before s → outcome s ≡ known s)
     → ((s : State) → Agrees old.kept before s → Agrees mid.kept now (state_after s (known s)))
-    → ((s : State) → is_accepted (known s) ≡ true → commit_count (known s) ≡ 1)
     → ((s : State) → IsSaid before.catalog (known s) mid new result) → TellsWithin outcome before now old new result
-said_tells outcome known before now old mid new (Ok r) some gone is agrees done said = record {
+said_tells outcome known before now old mid new (Ok r) some gone is agrees said = record {
   told = λ s a.
       let h = said s in
       subst (λ (o : Outcome). IsToldWithin s o now old new (Ok r)) (sym (is s a)) (record {
         reply = record { text = h.reply.text ∙ ap (λ c. text_of c (known s)) a.catalog; accepted = h.reply.accepted; answers = h.reply.answers };
         next = still_agrees mid.kept new.kept now (state_after s (known s)) (ap (λ (x : Seen). x.kept) h.alone) (agrees s a);
-        done = λ e. done s (sym h.reply.accepted ∙ e);
       });
   changing = subst (λ (x : Seen). IsChanging {T = Reply} {E = StopError} old x (Ok r) Fault) (sym (said some.state).alone) (changing_ok old mid r Fault gone);
 }
-said_tells outcome known before now old mid new (Err stop) some gone is agrees done said =
+said_tells outcome known before now old mid new (Err stop) some gone is agrees said =
     let h = said some.state in record {
-      told = λ s a. record { reply = tt; next = tt; done = tt };
+      told = λ s a. record { reply = tt; next = tt };
       changing = changing_undone {U = Reply} old mid new stop Fault gone h.undone h.memory;
     }
 
 -- a step that stopped
 pub stop_tells : (outcome : State → Outcome) (before now : Known) (old new : Seen) (stop : StopError) → IsChanging {T = Reply} old new (Err stop) Fault
     → TellsWithin outcome before now old new (Err stop)
-stop_tells outcome before now old new stop h = record { told = λ s a. record { reply = tt; next = tt; done = tt }; changing = h }
+stop_tells outcome before now old new stop h = record { told = λ s a. record { reply = tt; next = tt }; changing = h }
 
 pub call_stops : {T : Type 0} (outcome : State → Outcome) (before now : Known) (old mid new : Seen) (stop : StopError) → HasGone old mid → IsChanging {T = T} mid new (Err stop) Fault
     → TellsWithin outcome before now old new (Err stop)
@@ -66,6 +65,55 @@ tables_stop {T} outcome before now old mid new error stop same gone h =
       };
     })
 
+-- a step over tables that stopped at once
+pub table_stops : {T : Type 0} (outcome : State → Outcome) (before now : Known) (old new : Seen) (error : TabError) (stop : StopError) → (stop ≡ Fault → error ≡ tab.Fault)
+    → IsChanging {T = T} old new (Err error) tab.Fault → TellsWithin outcome before now old new (Err stop)
+table_stops {T} outcome before now old new error stop same h = tables_stop {T = T} outcome before now old old new error stop same (gone_itself old) h
+
+-- a step that was undone for want of memory, after calls that went on
+pub memory_tells : (outcome : State → Outcome) (before now : Known) (old mid new : Seen) → HasGone old mid → IsUndo mid new → TellsWithin outcome before now old new (Err Memory)
+memory_tells outcome before now old mid new gone undo =
+    stop_tells outcome before now old new Memory (changing_undone {U = Reply} old mid new Memory Fault gone undo (λ e. absurd cc))
+
+-- what is said of rows that were read, and of what is refused
+pub read_tells : (outcome known : State → Outcome) (k : Known) (old mid new : Seen) (result : Result Reply StopError) → AgreesOnSome old.kept k → HasGone old mid → mid.kept ≡ old.kept
+    → ((s : State) → Agrees old.kept k s → outcome s ≡ known s) → ((s : State) → state_after s (known s) ≡ s) → ((s : State) → IsSaid k.catalog (known s) mid new result)
+    → TellsWithin outcome k k old new result
+read_tells outcome known k old mid new result some gone kept is stays said =
+    said_tells outcome known k k old mid new result some gone is
+    (λ s a. subst (λ (x : State). Agrees mid.kept k x) (sym (stays s)) (still_agrees old.kept mid.kept k s kept a)) said
+
+-- what is refused
+pub refused_tells : (outcome : State → Outcome) (x : Refusal) (k : Known) (old new : Seen) (result : Result Reply StopError) → AgreesOnSome old.kept k
+    → ((s : State) → Agrees old.kept k s → outcome s ≡ Refused x) → IsSaid k.catalog (Refused x) old new result → TellsWithin outcome k k old new result
+refused_tells outcome x k old new result some is said =
+    read_tells outcome (λ s. Refused x) k old old new result some (gone_itself old) refl is (λ s. refl) (λ s. said)
+
+-- nothing is said
+pub blank_tells : (outcome : State → Outcome) (k : Known) (old : Seen) (r : Reply) → ((s : State) → outcome s ≡ Blank) → r.text ≡ [] → r.accepted ≡ true → r.answers ≡ 0
+    → TellsWithin outcome k k old old (Ok r)
+blank_tells outcome k old r is text accepted answers = record {
+  told = λ s a. subst (λ (o : Outcome). IsToldWithin s o k old old (Ok r)) (sym (is s)) (record { reply = record { text = text; accepted = accepted; answers = answers }; next = a });
+  changing = changing_ok old old r Fault (gone_itself old);
+}
+
+-- by what this comes of in the states with which the tables agree
+pub tells_where : (outcome known : State → Outcome) (before now : Known) (old new : Seen) (result : Result Reply StopError) → ((s : State) → Agrees old.kept before s → outcome s ≡ known s)
+    → TellsWithin known before now old new result → TellsWithin outcome before now old new result
+tells_where outcome known before now old new result is h = record {
+  told = λ s a. subst (λ (o : Outcome). IsToldWithin s o now old new result) (sym (is s a)) (h.told s a);
+  changing = h.changing;
+}
+
+-- by what this comes of, where that is known, and by what is known before and next
+pub tells_as : (outcome known : State → Outcome) (before from now next : Known) (old new : Seen) (result : Result Reply StopError) → ((s : State) → outcome s ≡ known s) → before ≡ from → next ≡ now
+    → TellsWithin known from now old new result → TellsWithin outcome before next old new result
+tells_as outcome known before from now next old new result is e f h =
+    subst (λ (k : Known). TellsWithin outcome k next old new result) (sym e) (subst (λ (k : Known). TellsWithin outcome from k old new result) (sym f) (record {
+      told = λ s a. subst (λ (o : Outcome). IsToldWithin s o now old new result) (sym (is s)) (h.told s a);
+      changing = h.changing;
+    }))
+
 -- ---- the end of a transaction
 
 -- what is dropped is as it was
@@ -82,7 +130,7 @@ dropped_serves outcome k old new stop still d fall cause = stop_serves outcome k
 rose_later : (a b c : ℕ) → a ≤ b → Rose b c → Rose a c
 rose_later a b c le r = omega arith
 
-cause_later : {T U : Type 0} (a b c : ℕ) (stop : StopError) → a ≤ b → HasCause {T = T} b c (Err stop) Fault → HasCause {T = U} a c (Err stop) Fault
+pub cause_later : {T U : Type 0} (a b c : ℕ) (stop : StopError) → a ≤ b → HasCause {T = T} b c (Err stop) Fault → HasCause {T = U} a c (Err stop) Fault
 cause_later a b c stop le h = record { later = omega (arith, h.later); rose = λ is. rose_later a b c le (h.rose (let same : stop ≡ Fault = cc in ap Err same)) }
 
 -- a transaction does not begin
@@ -97,15 +145,12 @@ refused_stays s Blank e = absurd cc
 refused_stays s (Refused x) e = (refl, refl)
 refused_stays s (Done text answers next) e = absurd cc
 
-rises_once : (a b c : ℕ) → b ≡ a → RoseBy 1 b c → Rises 1 a c
+pub rises_once : (a b c : ℕ) → b ≡ a → RoseBy 1 b c → Rises 1 a c
 rises_once a b c e r = λ k. omega arith
 
--- a transaction began, in which a step told, from the sizes that the session knew
-module _ (outcome : State → Outcome) (before : Known) (start counts : Counts) (same : start ≡ before.counts) (old run mid new : Seen) (still : IsStill old)
+-- A transaction began, in which a step told, which counts where it is accepted. The session learns from it.
+module _ (outcome : State → Outcome) (sure : (s : State) → is_accepted (outcome s) ≡ true → commit_count (outcome s) ≡ 1) (before learns : Known) (old run mid new : Seen) (still : IsStill old)
     (began : IsBegin {T = Unit {0}} {E = StopError} old run (Ok tt) Fault) where
-  from_known : (now : Known) (result : Result Reply StopError) → TellsWithin outcome (sized before start) now run mid result → TellsWithin outcome before now run mid result
-  from_known now result t = subst (λ (n : Counts). TellsWithin outcome (sized before n) now run mid result) same t
-
   -- the session agrees with the tables as before
   begun_agrees : (s : State) → Agrees old.kept before s → Agrees run.kept before s
   begun_agrees s a = still_agrees old.kept run.kept before s began.kept a
@@ -113,15 +158,15 @@ module _ (outcome : State → Outcome) (before : Known) (start counts : Counts) 
   goes_from_start : GoesOn run mid → (mid.last ≡ old.kept) × (mid.commits ≡ old.commits)
   goes_from_start g = (g.last ∙ began.last ∙ sym still.rest, g.commits ∙ began.commits)
 
-  pub step_stops : (now : Known) (stop : StopError) → TellsWithin outcome (sized before start) now run mid (Err stop) → Serves outcome before before old mid (Err stop)
-  step_stops now stop t =
+  pub step_stops : (stop : StopError) → TellsWithin outcome before learns run mid (Err stop) → Serves outcome before before old mid (Err stop)
+  step_stops stop t =
       let d = t.changing.steps.err in
       dropped_serves outcome before old mid stop still
       (record { stopped = d.stopped; undone = d.undone ∙ began.last; last = d.last ∙ began.last; commits = d.commits ∙ began.commits })
       (counts_then old run mid began.counts t.changing.counts)
       (cause_later {T = Reply} {U = Reply} old.faults run.faults mid.faults stop began.counts.faults t.changing.steps.cause)
 
-  step_kept : (r q : Reply) (now : Known) → TellsWithin outcome before (sized before counts) run mid (Ok r) → r.accepted ≡ true → IsKept counts r before now mid new (Ok q)
+  step_kept : (r q : Reply) (now : Known) → TellsWithin outcome before learns run mid (Ok r) → r.accepted ≡ true → IsKept learns r before now mid new (Ok q)
       → Serves outcome before now old new (Ok q)
   step_kept r q now t done k =
       let goes = t.changing.steps.ok in
@@ -130,10 +175,10 @@ module _ (outcome : State → Outcome) (before : Known) (start counts : Counts) 
       record {
         served = λ s a.
             let h = t.told s (begun_agrees s a) in
-            let once = h.done done in
+            let once = sure s (sym h.reply.accepted ∙ done) in
             record {
               reply = subst (IsReply s.base.catalog (outcome s)) (sym k.reply) h.reply;
-              next = subst (λ (u : Known). Agrees new.kept u (state_after s (outcome s))) (sym k.next) (still_agrees mid.kept new.kept (sized before counts) (state_after s (outcome s)) c.kept h.next);
+              next = subst (λ (u : Known). Agrees new.kept u (state_after s (outcome s))) (sym k.next) (still_agrees mid.kept new.kept learns (state_after s (outcome s)) c.kept h.next);
               commits = subst (λ n. Rises n old.commits new.commits) (sym once) (rises_once old.commits mid.commits new.commits from.1 c.commits);
               alone = λ none. absurd (omega arith);
             };
@@ -146,7 +191,7 @@ module _ (outcome : State → Outcome) (before : Known) (start counts : Counts) 
         };
       }
 
-  step_lost : (r : Reply) (now : Known) (stop : StopError) → TellsWithin outcome before (sized before counts) run mid (Ok r) → IsKept counts r before now mid new (Err stop)
+  step_lost : (r : Reply) (now : Known) (stop : StopError) → TellsWithin outcome before learns run mid (Ok r) → IsKept learns r before now mid new (Err stop)
       → Serves outcome before now old new (Err stop)
   step_lost r now stop t k =
       let goes = t.changing.steps.ok in
@@ -159,7 +204,7 @@ module _ (outcome : State → Outcome) (before : Known) (start counts : Counts) 
       (counts_then old mid new (counts_then old run mid began.counts t.changing.counts) c.counts)
       (cause_later {T = Reply} {U = Reply} old.faults mid.faults new.faults stop (counts_then old run mid began.counts t.changing.counts).faults c.cause))
 
-  step_undone : (r : Reply) → TellsWithin outcome before (sized before counts) run mid (Ok r) → r.accepted ≡ false → IsUndo mid new → Serves outcome before before old new (Ok r)
+  step_undone : (r : Reply) → TellsWithin outcome before learns run mid (Ok r) → r.accepted ≡ false → IsUndo mid new → Serves outcome before before old new (Ok r)
   step_undone r t refused u =
       let goes = t.changing.steps.ok in
       let d = u.dropped in
@@ -185,16 +230,16 @@ module _ (outcome : State → Outcome) (before : Known) (start counts : Counts) 
         };
       }
 
-  pub step_serves : (r : Reply) (now : Known) (result : Result Reply StopError) → TellsWithin outcome (sized before start) (sized before counts) run mid (Ok r) → Settles counts r before now mid new result
+  pub step_serves : (r : Reply) (now : Known) (result : Result Reply StopError) → TellsWithin outcome before learns run mid (Ok r) → Settles learns r before now mid new result
       → Serves outcome before now old new result
   step_serves r now result t h = elim (cases_Bool r.accepted) [
-    | inl done ↦ kept result (MatchBool-at_true (IsKept counts r before now mid new result) (IsUndone r before now mid new result) done h) done
+    | inl done ↦ kept result (MatchBool-at_true (IsKept learns r before now mid new result) (IsUndone r before now mid new result) done h) done
     | inr refused ↦
-        let k = MatchBool-at_false (IsKept counts r before now mid new result) (IsUndone r before now mid new result) refused h in
+        let k = MatchBool-at_false (IsKept learns r before now mid new result) (IsUndone r before now mid new result) refused h in
         subst (λ (x : Result Reply StopError). Serves outcome before now old new x) (sym k.reply)
-        (subst (λ (u : Known). Serves outcome before u old new (Ok r)) (sym k.same) (step_undone r (from_known (sized before counts) (Ok r) t) refused k.undo))
+        (subst (λ (u : Known). Serves outcome before u old new (Ok r)) (sym k.same) (step_undone r t refused k.undo))
   ]
     where
-      kept : (x : Result Reply StopError) → IsKept counts r before now mid new x → r.accepted ≡ true → Serves outcome before now old new x
-      kept (Ok q) k done = step_kept r q now (from_known (sized before counts) (Ok r) t) done k
-      kept (Err stop) k done = step_lost r now stop (from_known (sized before counts) (Ok r) t) k
+      kept : (x : Result Reply StopError) → IsKept learns r before now mid new x → r.accepted ≡ true → Serves outcome before now old new x
+      kept (Ok q) k done = step_kept r q now t done k
+      kept (Err stop) k done = step_lost r now stop t k

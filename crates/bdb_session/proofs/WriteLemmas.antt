@@ -127,51 +127,51 @@ one_delete_writes k before w sign rel conds gone old read mid new c o result fit
 
 -- ---- the end of a transaction
 
-module _ (times more : ℕ) (counts : Counts) (r : Reply) (before now : Known) (old run mid new : Seen) (began : IsBegin {T = Unit {0}} {E = StopError} old run (Ok tt) Fault)
-    (within : WritesWithin times more run mid) (refused : r.accepted ≡ false → mid.writes ≡ run.writes) where
-  kept_writes : (result : Result Reply StopError) → IsKept counts r before now mid new result → OnOk result (WritesWithin times more old new)
-  kept_writes (Ok q) k = same_writes times more old run mid new began.kept began.writes k.commit.kept k.commit.writes within
-  kept_writes (Err stop) k = tt
-
-  pub settled_writes : (result : Result Reply StopError) → Settles counts r before now mid new result → OnOk result (WritesWithin times more old new)
-  settled_writes result h = elim (cases_Bool r.accepted) [
-    | inl done ↦ kept_writes result (MatchBool-at_true (IsKept counts r before now mid new result) (IsUndone r before now mid new result) done h)
-    | inr undone ↦
-        let k = MatchBool-at_false (IsKept counts r before now mid new result) (IsUndone r before now mid new result) undone h in
-        subst (λ (x : Result Reply StopError). OnOk x (WritesWithin times more old new)) (sym k.reply) (nothing_written times more old new (k.undo.writes ∙ refused undone ∙ began.writes))
-  ]
-
-  kept_unwritten : (result : Result Reply StopError) → r.accepted ≡ true → IsKept counts r before now mid new result → RefusedUnwritten old new result
+module _ (learns : Known) (r : Reply) (before now : Known) (old run mid new : Seen) (began : IsBegin {T = Unit {0}} {E = StopError} old run (Ok tt) Fault)
+    (refused : r.accepted ≡ false → mid.writes ≡ run.writes) where
+  kept_unwritten : (result : Result Reply StopError) → r.accepted ≡ true → IsKept learns r before now mid new result → RefusedUnwritten old new result
   kept_unwritten (Ok q) done k = λ f. absurd (false≢true (sym f ∙ ap (λ (x : Reply). x.accepted) k.reply ∙ done))
   kept_unwritten (Err stop) done k = tt
 
-  settled_unwritten : (result : Result Reply StopError) → Settles counts r before now mid new result → RefusedUnwritten old new result
+  pub settled_unwritten : (result : Result Reply StopError) → Settles learns r before now mid new result → RefusedUnwritten old new result
   settled_unwritten result h = elim (cases_Bool r.accepted) [
-    | inl done ↦ kept_unwritten result done (MatchBool-at_true (IsKept counts r before now mid new result) (IsUndone r before now mid new result) done h)
+    | inl done ↦ kept_unwritten result done (MatchBool-at_true (IsKept learns r before now mid new result) (IsUndone r before now mid new result) done h)
     | inr undone ↦
-        let k = MatchBool-at_false (IsKept counts r before now mid new result) (IsUndone r before now mid new result) undone h in
+        let k = MatchBool-at_false (IsKept learns r before now mid new result) (IsUndone r before now mid new result) undone h in
         subst (λ (x : Result Reply StopError). RefusedUnwritten old new x) (sym k.reply) (λ _. k.undo.writes ∙ refused undone ∙ began.writes)
   ]
 
-  kept_same : mid.writes ≡ run.writes → (result : Result Reply StopError) → IsKept counts r before now mid new result → OnOk result (new.writes ≡ old.writes)
+module _ (times more : ℕ) (learns : Known) (r : Reply) (before now : Known) (old run mid new : Seen) (began : IsBegin {T = Unit {0}} {E = StopError} old run (Ok tt) Fault)
+    (within : WritesWithin times more run mid) (refused : r.accepted ≡ false → mid.writes ≡ run.writes) where
+  kept_writes : (result : Result Reply StopError) → IsKept learns r before now mid new result → OnOk result (WritesWithin times more old new)
+  kept_writes (Ok q) k = same_writes times more old run mid new began.kept began.writes k.commit.kept k.commit.writes within
+  kept_writes (Err stop) k = tt
+
+  pub settled_writes : (result : Result Reply StopError) → Settles learns r before now mid new result → OnOk result (WritesWithin times more old new)
+  settled_writes result h = elim (cases_Bool r.accepted) [
+    | inl done ↦ kept_writes result (MatchBool-at_true (IsKept learns r before now mid new result) (IsUndone r before now mid new result) done h)
+    | inr undone ↦
+        let k = MatchBool-at_false (IsKept learns r before now mid new result) (IsUndone r before now mid new result) undone h in
+        subst (λ (x : Result Reply StopError). OnOk x (WritesWithin times more old new)) (sym k.reply) (nothing_written times more old new (k.undo.writes ∙ refused undone ∙ began.writes))
+  ]
+
+  kept_same : mid.writes ≡ run.writes → (result : Result Reply StopError) → IsKept learns r before now mid new result → OnOk result (new.writes ≡ old.writes)
   kept_same e (Ok q) k = k.commit.writes ∙ e ∙ began.writes
   kept_same e (Err stop) k = tt
 
-  settled_same : mid.writes ≡ run.writes → (result : Result Reply StopError) → Settles counts r before now mid new result → OnOk result (new.writes ≡ old.writes)
+  settled_same : mid.writes ≡ run.writes → (result : Result Reply StopError) → Settles learns r before now mid new result → OnOk result (new.writes ≡ old.writes)
   settled_same e result h = elim (cases_Bool r.accepted) [
-    | inl done ↦ kept_same e result (MatchBool-at_true (IsKept counts r before now mid new result) (IsUndone r before now mid new result) done h)
+    | inl done ↦ kept_same e result (MatchBool-at_true (IsKept learns r before now mid new result) (IsUndone r before now mid new result) done h)
     | inr undone ↦
-        let k = MatchBool-at_false (IsKept counts r before now mid new result) (IsUndone r before now mid new result) undone h in
+        let k = MatchBool-at_false (IsKept learns r before now mid new result) (IsUndone r before now mid new result) undone h in
         subst (λ (x : Result Reply StopError). OnOk x (new.writes ≡ old.writes)) (sym k.reply) (k.undo.writes ∙ e ∙ began.writes)
   ]
 
-  -- an insert, after whose begin the session still knows the sizes
-  pub insert_settles : (x : Stmt) → times ≡ length x.path + 2 → more ≡ 8 → (start : Counts) → start ≡ before.counts → StandsUnwritten x (sized before start) run mid (Ok r)
-      → (result : Result Reply StopError) → Settles counts r before now mid new result → InsertsWithin x before old new result
-  insert_settles x t m start same already result h = record {
+  -- an insert
+  pub insert_settles : (x : Stmt) → times ≡ length x.path + 2 → more ≡ 8 → StandsUnwritten x before run mid (Ok r)
+      → (result : Result Reply StopError) → Settles learns r before now mid new result → InsertsWithin x before old new result
+  insert_settles x t m already result h = record {
     within = subst (λ n. OnOk result (WritesWithin n 8 old new)) t (subst (λ n. OnOk result (WritesWithin times n old new)) m (settled_writes result h));
-    refused = settled_unwritten result h;
-    already = λ s a there.
-        let begun : Agrees run.kept (sized before start) s = subst (λ (n : Counts). Agrees run.kept (sized before n) s) (sym same) (still_agrees old.kept run.kept before s began.kept a) in
-        settled_same (already s begun there) result h;
+    refused = settled_unwritten learns r before now old run mid new began refused result h;
+    already = λ s a there. settled_same (already s (still_agrees old.kept run.kept before s began.kept a) there) result h;
   }

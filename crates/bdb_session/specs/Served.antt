@@ -21,7 +21,7 @@ pub record IsTold (c : Catalog) (outcome : Outcome) (result : Result Reply StopE
   pub memory : IsErrOf result Fault → ⊥
 
 -- How a session ends that served something, whatever it was. No transaction runs, and after an Err all is as it was.
-pub record Ends (before now : Known) (old new : Seen) (result : Result Reply StopError) : Type 0 where
+pub record Ends {R : Type 0} (before now : Known) (old new : Seen) (result : Result R StopError) : Type 0 where
   pub same : OnErr result (now ≡ before)
   pub still : IsStill new
   pub never_fall : NeverFall old new

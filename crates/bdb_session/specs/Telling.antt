@@ -1,11 +1,9 @@
--- What becomes of a keeper where something is told, and nothing changes.
-use Rattle.std.specs.Prelude.{◌≡◌, ℕ, ◌+◌, ◌*◌, List, length, Result, OnOk, OnErr}
+-- What becomes of a keeper where something is told, and nothing changes: what is read and written.
+use Rattle.std.specs.Prelude.{◌≡◌, ℕ, ◌+◌, ◌*◌, List, length, Result, OnOk}
 use Rattle.bdb_base.specs.Bases.{Contents, key_lengths}
-use Rattle.bdb_base.specs.Causes.{HasCause, Rises}
 use Rattle.bdb_base.specs.WorldRows.{world_of}
-use Rattle.bdb_keep.specs.Seen.{Seen, IsStill, NeverFall, Unchanged}
+use Rattle.bdb_keep.specs.Seen.{Seen}
 use Rattle.bdb_session.specs.declared.stop.StopError.{StopError}
-use Rattle.bdb_session.specs.declared.stop.StopError.TheVariants.{Fault}
 use Rattle.bdb_session.specs.Known.{Known, Agrees}
 use Rattle.bdb_session.specs.Outcome.{State}
 use Rattle.bdb_worlds.specs.Bounds.{RisesWithin}
@@ -14,18 +12,6 @@ use Rattle.bdb_worlds.specs.Bounds.{RisesWithin}
 pub record WritesNothing {T : Type 0} (old new : Seen) (result : Result T StopError) : Type 0 where
   pub kept : OnOk result (new.kept ≡ old.kept)
   pub writes : new.writes ≡ old.writes
-
--- It is committed that nothing changes: the rows stay, and none is read or written.
-pub record CommitsNothing {T : Type 0} (old new : Seen) (result : Result T StopError) : Type 0 where
-  pub still : IsStill new
-  pub kept : new.kept ≡ old.kept
-  pub last : new.last ≡ old.last
-  pub commits : OnOk result (Rises 1 old.commits new.commits)
-  pub err : OnErr result (Unchanged old new)
-  pub reads : new.reads ≡ old.reads
-  pub writes : new.writes ≡ old.writes
-  pub never_fall : NeverFall old new
-  pub cause : HasCause old.faults new.faults result Fault
 
 -- how often is read at most to show the world of a path: once for each user of the path, and twice for each of its rows
 abbrev pub world_reads : Contents → List ℕ → ℕ

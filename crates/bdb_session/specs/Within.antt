@@ -1,5 +1,5 @@
 -- What a session does within a transaction: what it tells of a step there, and how the transaction ends.
-use Rattle.std.specs.Prelude.{◌≡◌, true, Result, Ok, Err, IfOk, OnOk, OnErr, IsErrOf, MatchBool}
+use Rattle.std.specs.Prelude.{◌≡◌, Option, None, Some, Result, Ok, Err, IfOk, OnOk, OnErr, IsErrOf, MatchBool}
 use Rattle.bdb_base.specs.declared.kinds.Catalog.{Catalog}
 use Rattle.bdb_canon.specs.declared.sizes.Counts.{Counts}
 use Rattle.bdb_keep.specs.Calls.{IsCommit, IsUndo}
@@ -8,26 +8,40 @@ use Rattle.bdb_render.specs.declared.refusal.Refusal.TheVariants as refusal
 use Rattle.bdb_update.specs.declared.answer.UpdateError.{UpdateError}
 use Rattle.bdb_update.specs.declared.answer.UpdateError.TheVariants as change
 use Rattle.bdb_val.specs.Steps.{IsChanging}
+use Rattle.bdb_session.specs.declared.news.Names.{Names}
+use Rattle.bdb_session.specs.declared.news.News.{News}
 use Rattle.bdb_session.specs.declared.reply.Reply.{Reply}
 use Rattle.bdb_session.specs.declared.stop.StopError.{StopError}
 use Rattle.bdb_session.specs.declared.stop.StopError.TheVariants.{Fault, Memory}
 use Rattle.bdb_session.specs.Known.{Known, Agrees}
 use Rattle.bdb_session.specs.Machine.{clash_with}
-use Rattle.bdb_session.specs.Outcome.{State, Outcome, Refused, state_after, commit_count}
+use Rattle.bdb_session.specs.Outcome.{State, Outcome, Refused, state_after}
 use Rattle.bdb_session.specs.Served.{IsReply}
 
 -- what a session knows where the base has these sizes
 abbrev pub sized : Known → Counts → Known
 sized k counts = record k { counts = counts }
 
+-- the catalog of these names, where there are some, or else another
+abbrev pub catalog_by : Catalog → Option Names → Catalog
+catalog_by c None = c
+catalog_by c (Some names) = names.catalog
+
+-- what a session knows that learns this
+abbrev pub learned : Known → News → Known
+learned k news = record { catalog = catalog_by k.catalog news.names; counts = news.counts }
+
+-- nothing is learned
+abbrev pub nothing_new : Known → News
+nothing_new k = record { counts = k.counts; names = None }
+
 -- ---- a step
 
--- What is told of a step that comes to this in a state. After an Ok it has answered so, and agrees with the tables on the state
--- after; what it accepts is done.
+-- What is told of a step that comes to this in a state. After an Ok the session has answered so, and agrees with the tables on the
+-- state after.
 pub record IsToldWithin (s : State) (outcome : Outcome) (now : Known) (old new : Seen) (result : Result Reply StopError) : Type 0 where
   pub reply : IfOk result (λ r. IsReply s.base.catalog outcome r)
   pub next : OnOk result (Agrees new.kept now (state_after s outcome))
-  pub done : IfOk result (λ r. r.accepted ≡ true → commit_count outcome ≡ 1)
 
 -- What is told of a step, whichever state the session agrees on with the tables. After an Ok the transaction still runs, after an
 -- Err none does.
@@ -58,19 +72,19 @@ Refuses c change.Memory old new result = IsStopped Memory old new result
 
 -- ---- the end
 
--- a step that was done is committed, and the session knows the sizes after it
-pub record IsKept (counts : Counts) (told : Reply) (before now : Known) (old new : Seen) (result : Result Reply StopError) : Type 0 where
+-- a step that was done is committed, and the session knows what it learned
+pub record IsKept {R : Type 0} (learns : Known) (told : R) (before now : Known) (old new : Seen) (result : Result R StopError) : Type 0 where
   pub reply : IfOk result (λ r. r ≡ told)
-  pub next : OnOk result (now ≡ sized before counts)
+  pub next : OnOk result (now ≡ learns)
   pub same : OnErr result (now ≡ before)
   pub commit : IsCommit old new result Fault
 
 -- a step that was refused is undone
-pub record IsUndone (told : Reply) (before now : Known) (old new : Seen) (result : Result Reply StopError) : Type 0 where
+pub record IsUndone {R : Type 0} (told : R) (before now : Known) (old new : Seen) (result : Result R StopError) : Type 0 where
   pub reply : result ≡ Ok told
   pub same : now ≡ before
   pub undo : IsUndo old new
 
 -- how a transaction ends in which a step was told of
-abbrev pub Settles : Counts → Reply → Known → Known → Seen → Seen → Result Reply StopError → Type 0
-Settles counts told before now old new result = MatchBool told.accepted (IsKept counts told before now old new result) (IsUndone told before now old new result)
+abbrev pub Settles : Known → Reply → Known → Known → Seen → Seen → Result Reply StopError → Type 0
+Settles learns told before now old new result = MatchBool told.accepted (IsKept learns told before now old new result) (IsUndone told before now old new result)

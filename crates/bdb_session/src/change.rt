@@ -4,18 +4,16 @@ ghost use Rattle.bdb_base.specs.Changes.{changed_statement};
 ghost use Rattle.bdb_bind.specs.Fits.{fits_catalog};
 ghost use Rattle.bdb_catalog.specs.Bases.{SomeHasUsers};
 ghost use Rattle.bdb_catalog.specs.Taking.{AreTaken};
-ghost use Rattle.bdb_keep.specs.Seen.{IsStill};
 ghost use Rattle.bdb_session.specs.Bounds.{WritesAsTold};
 ghost use Rattle.bdb_session.specs.Known.{AgreesOnSome};
 ghost use Rattle.bdb_session.specs.Machine.{bound_outcome};
-ghost use Rattle.bdb_session.specs.Served.{Serves};
 ghost use Rattle.bdb_session.specs.Within.{TellsWithin, sized};
 ghost use Rattle.bdb_val.specs.Steps.{IsChanging};
 
 use crate::reply::Reply;
 use crate::session::Session;
 use crate::stop::StopError;
-use crate::transact::{begin, stop_from};
+use crate::transact::stop_from;
 use bdb_base::{Cond, Exact, List, Path, SetCol, Sign, Stmt, changed};
 use bdb_bind::Bound;
 use bdb_canon::Counts;
@@ -34,33 +32,10 @@ pub(crate) struct Selection {
 }
 
 impl Session {
-    /// Takes statements away. One alone takes no more writes, for each place at which the rows differ, than its path has
-    /// users, and two; and eight more in all. Several take as many each, one after the other.
+    /// Takes statements away within a transaction. `counts` become the sizes of the base after it. One alone takes no more writes,
+    /// for each place at which the rows differ, than its path has users, and two; and eight more in all. Several take as many each,
+    /// one after the other.
     pub(crate) fn delete<K: Keeper>(
-        &mut self,
-        keeper: &mut K,
-        selection: &Selection,
-    ) -> Result<Reply, StopError>
-        requires still { IsStill (K.seen keeper.old) }
-        requires agrees { AgreesOnSome (K.seen keeper.old).kept self.old }
-        requires fits { fits_catalog self.old.catalog (Bound.Delete selection.now.path selection.now.sign selection.now.rel selection.now.conds) ≡ true }
-        ensures served { Serves (λ s. bound_outcome s (Bound.Delete selection.now.path selection.now.sign selection.now.rel selection.now.conds))
-            self.old self.new (K.seen keeper.old) (K.seen keeper.new) result }
-        ensures writes { WritesAsTold (Bound.Delete selection.now.path selection.now.sign selection.now.rel selection.now.conds) self.old (K.seen keeper.old) (K.seen keeper.new) result }
-    {
-        match begin(keeper) {
-            Ok(()) => {}
-            Err(stop) => return Err(stop),
-        }
-        let mut counts = self.counts;
-        match self.delete_within(keeper, &mut counts, selection) {
-            Ok(told) => self.settle(keeper, counts, told),
-            Err(stop) => Err(stop),
-        }
-    }
-
-    /// Takes statements away within a transaction. `counts` become the sizes of the base after it.
-    fn delete_within<K: Keeper>(
         &self,
         keeper: &mut K,
         counts: &mut Counts,
@@ -84,35 +59,10 @@ impl Session {
         }
     }
 
-    /// Takes statements away and adds each of them changed, or refuses to where two statements of the path would clash
-    /// or the base would pass a limit. Each that goes and each that comes takes as many writes as one alone; what is refused
-    /// takes none.
+    /// Within a transaction, takes statements away and adds each of them changed, or refuses to where two statements of the path
+    /// would clash or the base would pass a limit. `counts` become the sizes of the base after it. Each that goes and each that comes
+    /// takes as many writes as one alone; what is refused takes none.
     pub(crate) fn update<K: Keeper>(
-        &mut self,
-        keeper: &mut K,
-        selection: &Selection,
-        sets: &List<SetCol>,
-    ) -> Result<Reply, StopError>
-        requires still { IsStill (K.seen keeper.old) }
-        requires agrees { AgreesOnSome (K.seen keeper.old).kept self.old }
-        requires fits { fits_catalog self.old.catalog (Bound.Update selection.now.path selection.now.sign selection.now.rel sets.now selection.now.conds) ≡ true }
-        ensures served { Serves (λ s. bound_outcome s (Bound.Update selection.now.path selection.now.sign selection.now.rel sets.now selection.now.conds))
-            self.old self.new (K.seen keeper.old) (K.seen keeper.new) result }
-        ensures writes { WritesAsTold (Bound.Update selection.now.path selection.now.sign selection.now.rel sets.now selection.now.conds) self.old (K.seen keeper.old) (K.seen keeper.new) result }
-    {
-        match begin(keeper) {
-            Ok(()) => {}
-            Err(stop) => return Err(stop),
-        }
-        let mut counts = self.counts;
-        match self.update_within(keeper, &mut counts, selection, sets) {
-            Ok(told) => self.settle(keeper, counts, told),
-            Err(stop) => Err(stop),
-        }
-    }
-
-    /// Changes statements within a transaction, or refuses to. `counts` become the sizes of the base after it.
-    fn update_within<K: Keeper>(
         &self,
         keeper: &mut K,
         counts: &mut Counts,

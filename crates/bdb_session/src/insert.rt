@@ -1,18 +1,15 @@
 // The command that adds a statement.
 ghost use Rattle.std.specs.Prelude.{◌≡◌, ◌+◌, true, length, OnOk};
 ghost use Rattle.bdb_bind.specs.Fits.{fits_catalog};
-ghost use Rattle.bdb_keep.specs.Seen.{IsStill};
-ghost use Rattle.bdb_session.specs.Bounds.{RefusedUnwritten, StandsUnwritten, WritesAsTold};
+ghost use Rattle.bdb_session.specs.Bounds.{RefusedUnwritten, StandsUnwritten};
 ghost use Rattle.bdb_session.specs.Known.{AgreesOnSome};
 ghost use Rattle.bdb_session.specs.Machine.{bound_outcome};
-ghost use Rattle.bdb_session.specs.Served.{Serves};
 ghost use Rattle.bdb_session.specs.Within.{TellsWithin, sized};
 ghost use Rattle.bdb_update.specs.Bounds.{WritesWithin};
 
 use crate::reply::Reply;
 use crate::session::Session;
 use crate::stop::StopError;
-use crate::transact::begin;
 use bdb_base::Stmt;
 use bdb_bind::Bound;
 use bdb_canon::Counts;
@@ -20,33 +17,10 @@ use bdb_keep::Keeper;
 use bdb_update::{Added, add_statement};
 
 impl Session {
-    /// Lets a statement stand, or refuses it where it clashes with one of its path or the base would pass a limit. It takes no
-    /// more writes, for each place at which the rows differ, than the path has users, and two; and eight more in all. What is
-    /// refused takes none, and what stands already takes none.
+    /// Within a transaction, lets a statement stand, or refuses it where it clashes with one of its path or the base would pass a
+    /// limit. `counts` become the sizes of the base after it. It takes no more writes, for each place at which the rows differ, than
+    /// the path has users, and two; and eight more in all. What is refused takes none, and what stands already takes none.
     pub(crate) fn insert<K: Keeper>(
-        &mut self,
-        keeper: &mut K,
-        stmt: &Stmt,
-    ) -> Result<Reply, StopError>
-        requires still { IsStill (K.seen keeper.old) }
-        requires agrees { AgreesOnSome (K.seen keeper.old).kept self.old }
-        requires fits { fits_catalog self.old.catalog (Bound.Insert stmt.now) ≡ true }
-        ensures served { Serves (λ s. bound_outcome s (Bound.Insert stmt.now)) self.old self.new (K.seen keeper.old) (K.seen keeper.new) result }
-        ensures writes { WritesAsTold (Bound.Insert stmt.now) self.old (K.seen keeper.old) (K.seen keeper.new) result }
-    {
-        match begin(keeper) {
-            Ok(()) => {}
-            Err(stop) => return Err(stop),
-        }
-        let mut counts = self.counts;
-        match self.insert_within(keeper, &mut counts, stmt) {
-            Ok(told) => self.settle(keeper, counts, told),
-            Err(stop) => Err(stop),
-        }
-    }
-
-    /// Lets a statement stand or refuses it, within a transaction. `counts` become the sizes of the base after it.
-    fn insert_within<K: Keeper>(
         &self,
         keeper: &mut K,
         counts: &mut Counts,

@@ -1,12 +1,14 @@
-//! The belief machine, one command at a time.
+//! The belief machine, one command at a time, or several in one batch.
 #![tactic(auto)]
 
+mod batch;
 mod change;
 mod create;
 mod event;
 mod insert;
 pub mod laws;
 mod limits;
+mod news;
 mod open;
 mod query;
 mod reading;
@@ -14,10 +16,14 @@ mod refusals;
 mod reply;
 mod session;
 mod show;
+mod step;
 mod stop;
+#[cfg(test)]
+mod tests;
 mod transact;
 mod within;
 
+pub use batch::{BatchReply, Lines};
 pub use event::Event;
 pub use reading::{Reading, read_piece};
 pub use reply::Reply;

@@ -3,15 +3,14 @@ ghost use Rattle.std.specs.Prelude.{◌≡◌, ◌≤◌, true, IfOk, length};
 ghost use Rattle.bdb_base.specs.Bases.{IsCatalog};
 ghost use Rattle.bdb_base.specs.Limits.{most_lines};
 ghost use Rattle.bdb_bind.specs.Fits.{can_be_answered, fits_catalog};
-ghost use Rattle.bdb_keep.specs.Seen.{IsStill};
 ghost use Rattle.bdb_plan.specs.PlanOf.{plan_of};
 ghost use Rattle.bdb_render.specs.Replies.{rows_reply};
 ghost use Rattle.bdb_session.specs.Known.{AgreesOnSome};
 ghost use Rattle.bdb_session.specs.Machine.{bound_outcome, plan_reply};
-ghost use Rattle.bdb_session.specs.Outcome.{Done};
+ghost use Rattle.bdb_session.specs.Outcome.{State, Done};
 ghost use Rattle.bdb_session.specs.QueryReads.{ReadsAsBounded};
-ghost use Rattle.bdb_session.specs.Served.{Serves};
 ghost use Rattle.bdb_session.specs.Telling.{WritesNothing};
+ghost use Rattle.bdb_session.specs.Within.{IsSaid, TellsWithin};
 
 use crate::reply::Reply;
 use crate::session::Session;
@@ -26,63 +25,59 @@ use bdb_trans::translate;
 use std::alloc::AllocError;
 
 impl Session {
-    /// Answers a query, or refuses it where it has too many answers. How often is read is bounded by the product of one
-    /// factor for each item.
+    /// Answers a query within a transaction, or refuses it where it has too many answers. How often is read is bounded by the
+    /// product of one factor for each item.
     pub(crate) fn select<K: Keeper>(
         &self,
         keeper: &mut K,
         query: &Query,
     ) -> Result<Reply, StopError>
-        requires still { IsStill (K.seen keeper.old) }
+        requires running { (K.seen keeper.old).running ≡ true }
         requires agrees { AgreesOnSome (K.seen keeper.old).kept self.now }
         requires fits { fits_catalog self.now.catalog (Bound.Select query.now) ≡ true }
-        ensures served { Serves (λ s. bound_outcome s (Bound.Select query.now)) self.now self.now (K.seen keeper.old) (K.seen keeper.new) result }
+        ensures told { TellsWithin (λ s. bound_outcome s (Bound.Select query.now)) self.now self.now (K.seen keeper.old) (K.seen keeper.new) result }
         ensures reads { ReadsAsBounded query.now self.now (K.seen keeper.old) (K.seen keeper.new) result }
         ensures writes { WritesNothing (K.seen keeper.old) (K.seen keeper.new) result }
     {
         let plan = match self.plan_of(query) {
             Ok(plan) => plan,
-            Err(_) => return Err(StopError::Memory),
+            Err(_) => {
+                keeper.undo();
+                return Err(StopError::Memory);
+            }
         };
         match execute(self.alloc, keeper, &plan) {
             Ok(rows) => self.tell_rows(keeper, &rows),
-            Err(ExecError::TooMany) => self.refuse(&Refusal::Many),
+            Err(ExecError::TooMany) => self.refuse_within(keeper, &Refusal::Many),
             Err(ExecError::Fault) => Err(StopError::Fault),
             Err(ExecError::Memory) => Err(StopError::Memory),
         }
     }
 
-    /// Tells the answers of a query, which are few enough.
+    /// Tells the answers of a query.
     fn tell_rows<K: Keeper>(&self, keeper: &mut K, rows: &Rows) -> Result<Reply, StopError>
-        requires still { IsStill (K.seen keeper.old) }
         requires few { length rows.now ≤ most_lines }
-        ensures served { Serves (λ s. Done (rows_reply rows.now) (length rows.now) s) self.now self.now (K.seen keeper.old) (K.seen keeper.new) result }
-        ensures reads { (K.seen keeper.new).reads ≡ (K.seen keeper.old).reads }
-        ensures writes { WritesNothing (K.seen keeper.old) (K.seen keeper.new) result }
+        ensures { (s : State) → IsSaid self.now.catalog (Done (rows_reply rows.now) (length rows.now) s) (K.seen keeper.old) (K.seen keeper.new) result }
     {
         let answers = rows.len() as u32;
-        match rows_reply(self.alloc, rows) {
-            Ok(text) => self.tell(keeper, text, answers),
-            Err(_) => Err(StopError::Memory),
-        }
+        let text = rows_reply(self.alloc, rows);
+        self.say(keeper, text, answers)
     }
 
-    /// Tells the plan of a query.
+    /// Tells the plan of a query, within a transaction.
     pub(crate) fn explain<K: Keeper>(
         &self,
         keeper: &mut K,
         query: &Query,
     ) -> Result<Reply, StopError>
-        requires still { IsStill (K.seen keeper.old) }
+        requires running { (K.seen keeper.old).running ≡ true }
         requires agrees { AgreesOnSome (K.seen keeper.old).kept self.now }
         requires fits { fits_catalog self.now.catalog (Bound.Explain query.now) ≡ true }
-        ensures served { Serves (λ s. bound_outcome s (Bound.Explain query.now)) self.now self.now (K.seen keeper.old) (K.seen keeper.new) result }
+        ensures told { TellsWithin (λ s. bound_outcome s (Bound.Explain query.now)) self.now self.now (K.seen keeper.old) (K.seen keeper.new) result }
         ensures writes { WritesNothing (K.seen keeper.old) (K.seen keeper.new) result }
     {
-        match self.plan_text(query) {
-            Ok(text) => self.tell(keeper, text, 0),
-            Err(_) => Err(StopError::Memory),
-        }
+        let text = self.plan_text(query);
+        self.say(keeper, text, 0)
     }
 
     /// The text of a query's plan, and how many lines it has.

@@ -6,14 +6,13 @@ ghost use Rattle.bdb_session.specs.declared.event.Event.TheVariants as event;
 ghost use Rattle.bdb_session.specs.declared.event.Event.TheVariants.{Piece};
 ghost use Rattle.bdb_session.specs.declared.reading.Reading.TheVariants as reading;
 
-use crate::change::Selection;
 use crate::event::Event;
 use crate::reading::{Reading, read_piece, says_nothing};
 use crate::refusals::refusal_from;
 use crate::reply::Reply;
 use crate::stop::StopError;
 use bdb_base::{Catalog, List};
-use bdb_bind::{Bound, NameIndex, bind_by};
+use bdb_bind::{NameIndex, bind_by};
 use bdb_canon::Counts;
 use bdb_keep::Keeper;
 use bdb_render::{Refusal, refusal_reply};
@@ -41,12 +40,12 @@ impl Model for Session {
     ghost invariant = { λ _. Unit {0} };
 }
 
-ghost use Rattle.bdb_bind.specs.Fits.{fits_catalog, is_allowed};
+ghost use Rattle.bdb_bind.specs.Fits.{is_allowed};
 ghost use Rattle.bdb_bind.specs.Refusal.{refusal_of};
 ghost use Rattle.bdb_syntax.specs.declared.command.Command.{Command};
-ghost use Rattle.bdb_session.specs.Bounds.{CommandReads, CommandWrites, ReadsAsTold, RefusedUnwritten, WritesAsTold, asks_keeper};
+ghost use Rattle.bdb_session.specs.Bounds.{CommandReads, CommandWrites, RefusedUnwritten, asks_keeper};
 ghost use Rattle.bdb_session.specs.Known.{Agrees, AgreesOnSome};
-ghost use Rattle.bdb_session.specs.Machine.{reply_of, accepts, answers_to, next_state, counts, bound_outcome, command_outcome, outcome_of};
+ghost use Rattle.bdb_session.specs.Machine.{reply_of, accepts, answers_to, next_state, counts, command_outcome};
 ghost use Rattle.bdb_session.specs.Outcome.{State, Refused};
 ghost use Rattle.bdb_session.specs.Reading.{reading_of};
 ghost use Rattle.bdb_session.specs.Served.{IsTold, Serves};
@@ -161,55 +160,6 @@ impl Session {
                 Some(refusal) => self.refuse(&refusal),
                 None => Err(StopError::Memory),
             },
-        }
-    }
-
-    /// Carries out a bound command, or refuses it.
-    fn execute<K: Keeper>(&mut self, keeper: &mut K, bound: Bound) -> Result<Reply, StopError>
-        requires still { IsStill (K.seen keeper.old) }
-        requires agrees { AgreesOnSome (K.seen keeper.old).kept self.old }
-        requires fits { fits_catalog self.old.catalog bound ≡ true }
-        ensures served { Serves (λ s. bound_outcome s bound) self.old self.new (K.seen keeper.old) (K.seen keeper.new) result }
-        ensures reads { ReadsAsTold bound self.old (K.seen keeper.old) (K.seen keeper.new) result }
-        ensures writes { WritesAsTold bound self.old (K.seen keeper.old) (K.seen keeper.new) result }
-    {
-        match bound {
-            Bound::CreateUser { name } => self.create_user(keeper, name),
-            Bound::CreateRelation { def } => self.create_relation(keeper, def),
-            Bound::Insert { stmt } => self.insert(keeper, &stmt),
-            Bound::Delete {
-                path,
-                sign,
-                rel,
-                conds,
-            } => {
-                let selection = Selection {
-                    path,
-                    sign,
-                    rel,
-                    conds,
-                };
-                self.delete(keeper, &selection)
-            }
-            Bound::Update {
-                path,
-                sign,
-                rel,
-                sets,
-                conds,
-            } => {
-                let selection = Selection {
-                    path,
-                    sign,
-                    rel,
-                    conds,
-                };
-                self.update(keeper, &selection, &sets)
-            }
-            Bound::Select { query } => self.select(keeper, &query),
-            Bound::Explain { query } => self.explain(keeper, &query),
-            Bound::ShowWorld { path } => self.show_world(keeper, &path),
-            Bound::ShowTables => self.show_tables(keeper),
         }
     }
 }

@@ -3,22 +3,21 @@ ghost use Rattle.std.specs.Prelude.{◌≡◌, ◌≤◌, true, nat_lt, length};
 ghost use Rattle.bdb_base.specs.Bases.{IsCatalog};
 ghost use Rattle.bdb_base.specs.Limits.{most_lines, most_relations, most_users};
 ghost use Rattle.bdb_bind.specs.Fits.{fits_catalog};
-ghost use Rattle.bdb_keep.specs.Seen.{IsStill};
 ghost use Rattle.bdb_render.specs.Replies.{world_reply};
 ghost use Rattle.bdb_render.specs.Tables.{tables_reply};
 ghost use Rattle.bdb_session.specs.Known.{AgreesOnSome};
 ghost use Rattle.bdb_session.specs.Lines.{lines_by};
 ghost use Rattle.bdb_session.specs.Machine.{bound_outcome};
-ghost use Rattle.bdb_session.specs.Outcome.{Done};
-ghost use Rattle.bdb_session.specs.Served.{Serves};
-ghost use Rattle.bdb_session.specs.Telling.{CommitsNothing, ReadsWithin, WritesNothing, world_reads};
+ghost use Rattle.bdb_session.specs.Outcome.{State, Done};
+ghost use Rattle.bdb_session.specs.Telling.{ReadsWithin, WritesNothing, world_reads};
+ghost use Rattle.bdb_session.specs.Within.{IsSaid, TellsWithin};
 
 use crate::reply::Reply;
 use crate::session::Session;
 use crate::stop::StopError;
-use crate::transact::{begin, commit, stop_from};
+use crate::transact::stop_from;
 use bdb_base::limits::MOST_LINES;
-use bdb_base::{List, Path, World};
+use bdb_base::{Path, World};
 use bdb_bind::Bound;
 use bdb_canon::{Canon, Counts};
 use bdb_catalog::world_of_path;
@@ -27,16 +26,16 @@ use bdb_render::{Refusal, tables_reply, world_reply};
 use bdb_stored::canon_of;
 
 impl Session {
-    /// Shows the world of a path. A read for each user of the path, and two for each row of the world, at most.
+    /// Shows the world of a path, within a transaction. A read for each user of the path, and two for each row of the world, at most.
     pub(crate) fn show_world<K: Keeper>(
         &self,
         keeper: &mut K,
         path: &Path,
     ) -> Result<Reply, StopError>
-        requires still { IsStill (K.seen keeper.old) }
+        requires running { (K.seen keeper.old).running ≡ true }
         requires agrees { AgreesOnSome (K.seen keeper.old).kept self.now }
         requires fits { fits_catalog self.now.catalog (Bound.ShowWorld path.now) ≡ true }
-        ensures served { Serves (λ s. bound_outcome s (Bound.ShowWorld path.now)) self.now self.now (K.seen keeper.old) (K.seen keeper.new) result }
+        ensures told { TellsWithin (λ s. bound_outcome s (Bound.ShowWorld path.now)) self.now self.now (K.seen keeper.old) (K.seen keeper.new) result }
         ensures reads { ReadsWithin (λ s. world_reads s.base path.now) self.now (K.seen keeper.old) (K.seen keeper.new) result }
         ensures writes { WritesNothing (K.seen keeper.old) (K.seen keeper.new) result }
     {
@@ -48,27 +47,22 @@ impl Session {
 
     /// Tells the rows of a world.
     fn tell_world<K: Keeper>(&self, keeper: &mut K, world: &World) -> Result<Reply, StopError>
-        requires still { IsStill (K.seen keeper.old) }
-        ensures served { Serves (λ s. Done (world_reply self.now.catalog world.now) 0 s) self.now self.now (K.seen keeper.old) (K.seen keeper.new) result }
-        ensures reads { (K.seen keeper.new).reads ≡ (K.seen keeper.old).reads }
-        ensures writes { WritesNothing (K.seen keeper.old) (K.seen keeper.new) result }
+        ensures { (s : State) → IsSaid self.now.catalog (Done (world_reply self.now.catalog world.now) 0 s) (K.seen keeper.old) (K.seen keeper.new) result }
     {
-        match world_reply(self.alloc, &self.catalog, world) {
-            Ok(text) => self.tell(keeper, text, 0),
-            Err(_) => Err(StopError::Memory),
-        }
+        let text = world_reply(self.alloc, &self.catalog, world);
+        self.say(keeper, text, 0)
     }
 
-    /// Shows the structure, or refuses to where there are too many lines. The sizes of the base tell how many there are, so
-    /// that nothing is read where it is refused.
+    /// Shows the structure within a transaction, or refuses to where there are too many lines. The sizes of the base tell how many
+    /// there are, so that nothing is read where it is refused.
     pub(crate) fn show_tables<K: Keeper>(&self, keeper: &mut K) -> Result<Reply, StopError>
-        requires still { IsStill (K.seen keeper.old) }
+        requires running { (K.seen keeper.old).running ≡ true }
         requires agrees { AgreesOnSome (K.seen keeper.old).kept self.now }
-        ensures served { Serves (λ s. bound_outcome s Bound.ShowTables) self.now self.now (K.seen keeper.old) (K.seen keeper.new) result }
+        ensures told { TellsWithin (λ s. bound_outcome s Bound.ShowTables) self.now self.now (K.seen keeper.old) (K.seen keeper.new) result }
         ensures writes { WritesNothing (K.seen keeper.old) (K.seen keeper.new) result }
     {
         if self.has_many_lines() {
-            return self.refuse(&Refusal::Many);
+            return self.refuse_within(keeper, &Refusal::Many);
         }
         match canon_of(self.alloc, keeper) {
             Ok(canon) => self.tell_tables(keeper, &canon),
@@ -78,14 +72,10 @@ impl Session {
 
     /// Tells the structure.
     fn tell_tables<K: Keeper>(&self, keeper: &mut K, canon: &Canon) -> Result<Reply, StopError>
-        requires still { IsStill (K.seen keeper.old) }
-        ensures served { Serves (λ s. Done (tables_reply self.now.catalog canon.now) 0 s) self.now self.now (K.seen keeper.old) (K.seen keeper.new) result }
-        ensures writes { WritesNothing (K.seen keeper.old) (K.seen keeper.new) result }
+        ensures { (s : State) → IsSaid self.now.catalog (Done (tables_reply self.now.catalog canon.now) 0 s) (K.seen keeper.old) (K.seen keeper.new) result }
     {
-        match tables_reply(self.alloc, &self.catalog, canon) {
-            Ok(text) => self.tell(keeper, text, 0),
-            Err(_) => Err(StopError::Memory),
-        }
+        let text = tables_reply(self.alloc, &self.catalog, canon);
+        self.say(keeper, text, 0)
     }
 
     /// Whether the structure has more lines than may be told.
@@ -96,43 +86,6 @@ impl Session {
         let users = self.catalog.users.len();
         let rels = self.catalog.rels.len();
         MOST_LINES < lines_by(users, rels, &self.counts)
-    }
-
-    /// Answers with a text and a number of answers what changes nothing. Nothing is read.
-    pub(crate) fn tell<K: Keeper>(
-        &self,
-        keeper: &mut K,
-        text: List<u8>,
-        answers: u32,
-    ) -> Result<Reply, StopError>
-        requires still { IsStill (K.seen keeper.old) }
-        ensures served { Serves (λ s. Done text answers s) self.now self.now (K.seen keeper.old) (K.seen keeper.new) result }
-        ensures reads { (K.seen keeper.new).reads ≡ (K.seen keeper.old).reads }
-        ensures writes { WritesNothing (K.seen keeper.old) (K.seen keeper.new) result }
-    {
-        match commit_nothing(keeper) {
-            Ok(()) => Ok(Reply {
-                accepted: true,
-                answers,
-                text,
-            }),
-            Err(stop) => Err(stop),
-        }
-    }
-}
-
-/// Commits that nothing changes.
-fn commit_nothing<K: Keeper>(keeper: &mut K) -> Result<(), StopError>
-    requires still { IsStill (K.seen keeper.old) }
-    ensures { CommitsNothing (K.seen keeper.old) (K.seen keeper.new) result }
-{
-    match begin(keeper) {
-        Ok(()) => {}
-        Err(stop) => return Err(stop),
-    }
-    match commit(keeper) {
-        Ok(()) => Ok(()),
-        Err(stop) => Err(stop),
     }
 }
 

@@ -1,22 +1,51 @@
-// What is told within a transaction, and how a transaction ends.
-ghost use Rattle.std.specs.Prelude.{◌≡◌, true};
-ghost use Rattle.bdb_render.specs.Replies.{count_reply};
+// What is told within a transaction.
+ghost use Rattle.std.specs.Prelude.{◌≡◌, List, ℕ, IfOk};
+ghost use Rattle.bdb_render.specs.Replies.{count_reply, ok_reply};
 ghost use Rattle.bdb_session.specs.Machine.{clash_with};
 ghost use Rattle.bdb_session.specs.Outcome.{State, Done, Refused};
-ghost use Rattle.bdb_session.specs.Within.{IsSaid, Refuses, Settles};
+ghost use Rattle.bdb_session.specs.Within.{IsSaid, Refuses};
 
 use crate::refusals::clash_with;
 use crate::reply::Reply;
 use crate::session::Session;
 use crate::stop::StopError;
-use crate::transact::commit;
-use bdb_base::Stmt;
-use bdb_canon::Counts;
+use bdb_base::{List, Stmt};
 use bdb_keep::Keeper;
-use bdb_render::{Refusal, count_reply};
+use bdb_render::{Refusal, count_reply, ok_reply};
 use bdb_update::UpdateError;
+use std::alloc::AllocError;
 
 impl Session {
+    /// Answers with a text and a number of answers. Where there was no memory for the text, the transaction is undone.
+    pub(crate) fn say<K: Keeper>(
+        &self,
+        keeper: &mut K,
+        text: Result<List<u8>, AllocError>,
+        answers: u32,
+    ) -> Result<Reply, StopError>
+        ensures { (s : State) (told : List ℕ) → IfOk text (λ x. x ≡ told) → IsSaid self.now.catalog (Done told answers s) (K.seen keeper.old) (K.seen keeper.new) result }
+    {
+        match text {
+            Ok(text) => Ok(Reply {
+                accepted: true,
+                answers,
+                text,
+            }),
+            Err(_) => {
+                keeper.undo();
+                Err(StopError::Memory)
+            }
+        }
+    }
+
+    /// Tells that something was done.
+    pub(crate) fn tell_done<K: Keeper>(&self, keeper: &mut K) -> Result<Reply, StopError>
+        ensures { (s : State) → IsSaid self.now.catalog (Done ok_reply 0 s) (K.seen keeper.old) (K.seen keeper.new) result }
+    {
+        let text = ok_reply(self.alloc);
+        self.say(keeper, text, 0)
+    }
+
     /// Tells how many statements were added, taken away or changed.
     pub(crate) fn tell_count<K: Keeper>(
         &self,
@@ -25,13 +54,8 @@ impl Session {
     ) -> Result<Reply, StopError>
         ensures { (s : State) → IsSaid self.now.catalog (Done (count_reply count) 0 s) (K.seen keeper.old) (K.seen keeper.new) result }
     {
-        match count_reply(self.alloc, count) {
-            Ok(text) => Ok(Reply::accepted(text)),
-            Err(_) => {
-                keeper.undo();
-                Err(StopError::Memory)
-            }
-        }
+        let text = count_reply(self.alloc, count);
+        self.say(keeper, text, 0)
     }
 
     /// Refuses a change that would clash or pass a limit. After the other errors no transaction runs, and they are told.
@@ -64,7 +88,7 @@ impl Session {
     }
 
     /// Refuses within a transaction.
-    fn refuse_within<K: Keeper>(
+    pub(crate) fn refuse_within<K: Keeper>(
         &self,
         keeper: &mut K,
         refusal: &Refusal,
@@ -77,30 +101,6 @@ impl Session {
                 keeper.undo();
                 Err(stop)
             }
-        }
-    }
-
-    /// Ends a transaction in which a step was told of: it is committed where it was accepted, and undone where it was
-    /// refused. `counts` are the sizes of the base after the step.
-    pub(crate) fn settle<K: Keeper>(
-        &mut self,
-        keeper: &mut K,
-        counts: Counts,
-        told: Reply,
-    ) -> Result<Reply, StopError>
-        requires running { (K.seen keeper.old).running ≡ true }
-        ensures { Settles counts told self.old self.new (K.seen keeper.old) (K.seen keeper.new) result }
-    {
-        if !told.accepted {
-            keeper.undo();
-            return Ok(told);
-        }
-        match commit(keeper) {
-            Ok(()) => {
-                self.counts = counts;
-                Ok(told)
-            }
-            Err(stop) => Err(stop),
         }
     }
 }

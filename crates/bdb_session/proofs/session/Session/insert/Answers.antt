@@ -1,38 +1,79 @@
-use Rattle.std.proofs.Common.{◌+◌, length, ap, refl}
-use Rattle.bdb_bind.specs.declared.bound.Bound.TheVariants.{Insert}
-use Rattle.bdb_session.specs.Known.{Known}
-use Rattle.bdb_session.specs.Machine.{bound_outcome}
-use Rattle.bdb_session.specs.Within.{sized}
-use Rattle.bdb_session.proofs.WithinLemmas.{begin_stops, step_stops, step_serves}
-use Rattle.bdb_session.proofs.WriteLemmas.{insert_settles}
+use Rattle.std.proofs.Common.{◌+◌, length, Ok, refl, subst}
+use Rattle.bdb_update.specs.Calls.{Adds}
+use Rattle.bdb_update.specs.declared.answer.Added.{Added}
+use Rattle.bdb_session.proofs.InsertLemmas.{insert_tells_new, insert_tells_already, insert_tells_err}
+use Rattle.bdb_session.proofs.WriteLemmas.{said_writes, accepted_unrefused, insert_err_writes, new_unstood, already_unwritten, err_unwritten}
 use Rattle.bdb_session.proofs.session.Session.insert.Goals as goal
 
-pub returns-in-Err-clause-served : goal.returns-in-Err-clause-served
-returns-in-Err-clause-served g c =
-    begin_stops (λ s. bound_outcome s (Insert c.args.stmt.now)) c.args.self.now (g.K.Keeper.seen c.args.keeper.now) (g.K.Keeper.seen c.begin.new.keeper) c.in-Err.stop
-    c.requires.still c.in-Err.ensures
+pub returns-in-Ok-New-clause-told : goal.returns-in-Ok-New-clause-told
+returns-in-Ok-New-clause-told g c =
+    let old = g.K.Keeper.seen c.args.keeper.now in
+    let mid = g.K.Keeper.seen c.add_statement.new.keeper in
+    insert_tells_new c.args.self.now c.args.stmt.now c.args.counts.now c.add_statement.new.counts old mid c.requires.fits (g.K.Keeper.seen c.tell_count.new.keeper) c.tell_count.result
+    c.requires.agrees c.in-Ok-New.ensures.counts
+    (subst (λ (r : Added). Adds old mid c.args.counts.now c.add_statement.new.counts c.args.stmt.now (Ok r)) c.in-Ok-New.field-0-is c.in-Ok-New.ensures.added) c.tell_count.ensures
 
-pub returns-in-Ok-insert_within-clause-served : goal.returns-in-Ok-insert_within-clause-served
-returns-in-Ok-insert_within-clause-served g c =
-    step_serves (λ s. bound_outcome s (Insert c.args.stmt.now)) c.args.self.now c.self.inside.counts c.insert_within.new.counts (ap (λ (u : Known). u.counts) c.self.view_is) (g.K.Keeper.seen c.args.keeper.now) (g.K.Keeper.seen c.begin.new.keeper)
-    (g.K.Keeper.seen c.insert_within.new.keeper) (g.K.Keeper.seen c.settle.new.keeper) c.requires.still c.in-Ok.ensures c.in-Ok-insert_within.told c.settle.new.self c.settle.result
-    c.in-Ok-insert_within.ensures.told c.settle.ensures
+pub returns-in-Ok-Already-clause-told : goal.returns-in-Ok-Already-clause-told
+returns-in-Ok-Already-clause-told g c =
+    let old = g.K.Keeper.seen c.args.keeper.now in
+    let mid = g.K.Keeper.seen c.add_statement.new.keeper in
+    insert_tells_already c.args.self.now c.args.stmt.now c.args.counts.now c.add_statement.new.counts old mid c.requires.fits (g.K.Keeper.seen c.tell_count-in-Ok-Already.new.keeper)
+    c.tell_count-in-Ok-Already.result c.requires.agrees c.in-Ok-Already.ensures.counts
+    (subst (λ (r : Added). Adds old mid c.args.counts.now c.add_statement.new.counts c.args.stmt.now (Ok r)) c.in-Ok-Already.field-0-is c.in-Ok-Already.ensures.added)
+    c.tell_count-in-Ok-Already.ensures
 
-pub returns-in-Err-insert_within-clause-served : goal.returns-in-Err-insert_within-clause-served
-returns-in-Err-insert_within-clause-served g c =
-    let mid = g.K.Keeper.seen c.insert_within.new.keeper in
-    step_stops (λ s. bound_outcome s (Insert c.args.stmt.now)) c.args.self.now c.self.inside.counts c.insert_within.new.counts (ap (λ (u : Known). u.counts) c.self.view_is) (g.K.Keeper.seen c.args.keeper.now) (g.K.Keeper.seen c.begin.new.keeper) mid mid
-    c.requires.still c.in-Ok.ensures (sized c.args.self.now c.insert_within.new.counts) c.in-Err-insert_within.stop c.in-Err-insert_within.ensures.told
+pub returns-in-Err-clause-told : goal.returns-in-Err-clause-told
+returns-in-Err-clause-told g c =
+    insert_tells_err c.args.self.now c.args.stmt.now c.args.counts.now c.add_statement.new.counts (g.K.Keeper.seen c.args.keeper.now) (g.K.Keeper.seen c.add_statement.new.keeper) c.requires.fits
+    (g.K.Keeper.seen c.refuse_change.new.keeper) c.refuse_change.result c.in-Err.error c.requires.agrees c.in-Err.ensures.counts c.in-Err.ensures.added c.refuse_change.ensures
 
-pub returns-in-Ok-insert_within-clause-writes : goal.returns-in-Ok-insert_within-clause-writes
-returns-in-Ok-insert_within-clause-writes g c =
-    let run = g.K.Keeper.seen c.begin.new.keeper in
-    insert_settles (length c.args.stmt.now.path + 2) 8 c.insert_within.new.counts c.in-Ok-insert_within.told c.args.self.now c.settle.new.self (g.K.Keeper.seen c.args.keeper.now) run
-    (g.K.Keeper.seen c.insert_within.new.keeper) (g.K.Keeper.seen c.settle.new.keeper) c.in-Ok.ensures c.in-Ok-insert_within.ensures.writes c.in-Ok-insert_within.ensures.refused
-    c.args.stmt.now refl refl c.self.inside.counts (ap (λ (u : Known). u.counts) c.self.view_is) c.in-Ok-insert_within.ensures.already c.settle.result c.settle.ensures
+pub returns-in-Ok-New-clause-writes : goal.returns-in-Ok-New-clause-writes
+returns-in-Ok-New-clause-writes g c =
+    said_writes (length c.args.stmt.now.path + 2) 8 c.args.self.now.catalog _ (g.K.Keeper.seen c.args.keeper.now) (g.K.Keeper.seen c.add_statement.new.keeper) (g.K.Keeper.seen c.tell_count.new.keeper)
+    c.tell_count.result c.in-Ok-New.ensures.writes (c.tell_count.ensures c.requires.agrees.state)
+
+pub returns-in-Ok-New-clause-refused : goal.returns-in-Ok-New-clause-refused
+returns-in-Ok-New-clause-refused g c =
+    accepted_unrefused c.args.self.now.catalog _ (g.K.Keeper.seen c.args.keeper.now) (g.K.Keeper.seen c.add_statement.new.keeper) (g.K.Keeper.seen c.tell_count.new.keeper)
+    c.tell_count.result refl (c.tell_count.ensures c.requires.agrees.state)
+
+pub returns-in-Ok-Already-clause-writes : goal.returns-in-Ok-Already-clause-writes
+returns-in-Ok-Already-clause-writes g c =
+    said_writes (length c.args.stmt.now.path + 2) 8 c.args.self.now.catalog _ (g.K.Keeper.seen c.args.keeper.now) (g.K.Keeper.seen c.add_statement.new.keeper) (g.K.Keeper.seen c.tell_count-in-Ok-Already.new.keeper)
+    c.tell_count-in-Ok-Already.result c.in-Ok-Already.ensures.writes (c.tell_count-in-Ok-Already.ensures c.requires.agrees.state)
+
+pub returns-in-Ok-Already-clause-refused : goal.returns-in-Ok-Already-clause-refused
+returns-in-Ok-Already-clause-refused g c =
+    accepted_unrefused c.args.self.now.catalog _ (g.K.Keeper.seen c.args.keeper.now) (g.K.Keeper.seen c.add_statement.new.keeper) (g.K.Keeper.seen c.tell_count-in-Ok-Already.new.keeper)
+    c.tell_count-in-Ok-Already.result refl (c.tell_count-in-Ok-Already.ensures c.requires.agrees.state)
 
 pub returns-in-Err-clause-writes : goal.returns-in-Err-clause-writes
-returns-in-Err-clause-writes g c = record { within = tt; refused = tt; already = λ s a there. tt }
+returns-in-Err-clause-writes g c =
+    (insert_err_writes c.args.self.now c.args.stmt.now c.args.counts.now c.add_statement.new.counts (g.K.Keeper.seen c.args.keeper.now) (g.K.Keeper.seen c.add_statement.new.keeper)
+    (g.K.Keeper.seen c.refuse_change.new.keeper) c.refuse_change.result c.requires.fits c.requires.agrees c.in-Err.error c.in-Err.ensures.added c.refuse_change.ensures).0
 
-pub returns-in-Err-insert_within-clause-writes : goal.returns-in-Err-insert_within-clause-writes
-returns-in-Err-insert_within-clause-writes g c = record { within = tt; refused = tt; already = λ s a there. tt }
+pub returns-in-Err-clause-refused : goal.returns-in-Err-clause-refused
+returns-in-Err-clause-refused g c =
+    (insert_err_writes c.args.self.now c.args.stmt.now c.args.counts.now c.add_statement.new.counts (g.K.Keeper.seen c.args.keeper.now) (g.K.Keeper.seen c.add_statement.new.keeper)
+    (g.K.Keeper.seen c.refuse_change.new.keeper) c.refuse_change.result c.requires.fits c.requires.agrees c.in-Err.error c.in-Err.ensures.added c.refuse_change.ensures).1
+
+pub returns-in-Ok-New-clause-already : goal.returns-in-Ok-New-clause-already
+returns-in-Ok-New-clause-already g c =
+    let old = g.K.Keeper.seen c.args.keeper.now in
+    let mid = g.K.Keeper.seen c.add_statement.new.keeper in
+    new_unstood c.args.self.now c.args.stmt.now c.args.counts.now c.add_statement.new.counts old mid (g.K.Keeper.seen c.tell_count.new.keeper) c.tell_count.result c.requires.fits
+    (subst (λ (r : Added). Adds old mid c.args.counts.now c.add_statement.new.counts c.args.stmt.now (Ok r)) c.in-Ok-New.field-0-is c.in-Ok-New.ensures.added)
+
+pub returns-in-Ok-Already-clause-already : goal.returns-in-Ok-Already-clause-already
+returns-in-Ok-Already-clause-already g c =
+    let old = g.K.Keeper.seen c.args.keeper.now in
+    let mid = g.K.Keeper.seen c.add_statement.new.keeper in
+    already_unwritten c.args.self.now c.args.stmt.now c.args.counts.now c.add_statement.new.counts old mid (g.K.Keeper.seen c.tell_count-in-Ok-Already.new.keeper)
+    c.tell_count-in-Ok-Already.result c.requires.fits _
+    (subst (λ (r : Added). Adds old mid c.args.counts.now c.add_statement.new.counts c.args.stmt.now (Ok r)) c.in-Ok-Already.field-0-is c.in-Ok-Already.ensures.added)
+    (c.tell_count-in-Ok-Already.ensures c.requires.agrees.state)
+
+pub returns-in-Err-clause-already : goal.returns-in-Err-clause-already
+returns-in-Err-clause-already g c =
+    err_unwritten c.args.self.now c.args.stmt.now c.args.counts.now c.add_statement.new.counts (g.K.Keeper.seen c.args.keeper.now) (g.K.Keeper.seen c.add_statement.new.keeper)
+    (g.K.Keeper.seen c.refuse_change.new.keeper) c.refuse_change.result c.requires.fits c.in-Err.error c.in-Err.ensures.added c.refuse_change.ensures

@@ -1,32 +1,136 @@
-use Rattle.std.proofs.Common.{ap}
+use Rattle.std.proofs.Common.{◌∙◌, ℕ, List, Ok, Err, ap, length, map, refl, subst, sym}
+use Rattle.bdb_base.specs.Changes.{changed_statement}
+use Rattle.bdb_base.specs.declared.kinds.SetCol.{SetCol}
+use Rattle.bdb_base.specs.declared.kinds.Stmt.{Stmt}
 use Rattle.bdb_bind.specs.declared.bound.Bound.TheVariants.{Update}
-use Rattle.bdb_session.specs.Known.{Known}
+use Rattle.bdb_catalog.specs.Taking.{AreTaken}
+use Rattle.bdb_update.specs.Calls.{Changes, SomeMayChange}
+use Rattle.bdb_update.specs.Steps.{ChangesThrough}
+use Rattle.bdb_update.proofs.CallLemmas.{gone_itself}
+use Rattle.bdb_val.proofs.Calls.{changing_undone}
+use Rattle.bdb_session.specs.declared.reply.Reply.{Reply}
+use Rattle.bdb_session.specs.declared.stop.StopError.TheVariants.{Fault, Memory}
 use Rattle.bdb_session.specs.Machine.{bound_outcome}
 use Rattle.bdb_session.specs.Within.{sized}
-use Rattle.bdb_session.proofs.StepLemmas.{update_settles}
-use Rattle.bdb_session.proofs.WithinLemmas.{begin_stops, step_stops, step_serves}
+use Rattle.bdb_session.proofs.DeleteLemmas.{some_has_users}
+use Rattle.bdb_session.proofs.StepLemmas.{update_err_writes, update_writes}
+use Rattle.bdb_session.proofs.UpdateLemmas.{some_may_change, update_path_fits, update_tells_done, update_tells_err}
+use Rattle.bdb_session.proofs.WithinLemmas.{call_stops, stop_tells}
 use Rattle.bdb_session.proofs.session.Session.update.Goals as goal
 
-pub returns-in-Err-clause-served : goal.returns-in-Err-clause-served
-returns-in-Err-clause-served g c =
-    begin_stops (λ s. bound_outcome s (Update c.args.selection.now.path c.args.selection.now.sign c.args.selection.now.rel c.args.sets.now c.args.selection.now.conds)) c.args.self.now (g.K.Keeper.seen c.args.keeper.now) (g.K.Keeper.seen c.begin.new.keeper) c.in-Err.stop
-    c.requires.still c.in-Err.ensures
-
-pub returns-in-Ok-update_within-clause-served : goal.returns-in-Ok-update_within-clause-served
-returns-in-Ok-update_within-clause-served g c =
-    step_serves (λ s. bound_outcome s (Update c.args.selection.now.path c.args.selection.now.sign c.args.selection.now.rel c.args.sets.now c.args.selection.now.conds)) c.args.self.now c.self.inside.counts c.update_within.new.counts (ap (λ (u : Known). u.counts) c.self.view_is) (g.K.Keeper.seen c.args.keeper.now) (g.K.Keeper.seen c.begin.new.keeper)
-    (g.K.Keeper.seen c.update_within.new.keeper) (g.K.Keeper.seen c.settle.new.keeper) c.requires.still c.in-Ok.ensures c.in-Ok-update_within.told c.settle.new.self c.settle.result
-    c.in-Ok-update_within.ensures.told c.settle.ensures
-
-pub returns-in-Err-update_within-clause-served : goal.returns-in-Err-update_within-clause-served
-returns-in-Err-update_within-clause-served g c =
-    let mid = g.K.Keeper.seen c.update_within.new.keeper in
-    step_stops (λ s. bound_outcome s (Update c.args.selection.now.path c.args.selection.now.sign c.args.selection.now.rel c.args.sets.now c.args.selection.now.conds)) c.args.self.now c.self.inside.counts c.update_within.new.counts (ap (λ (u : Known). u.counts) c.self.view_is) (g.K.Keeper.seen c.args.keeper.now) (g.K.Keeper.seen c.begin.new.keeper) mid mid
-    c.requires.still c.in-Ok.ensures (sized c.args.self.now c.update_within.new.counts) c.in-Err-update_within.stop c.in-Err-update_within.ensures.told
-
-pub returns-in-Ok-update_within-clause-writes : goal.returns-in-Ok-update_within-clause-writes
-returns-in-Ok-update_within-clause-writes g c =
+pub selected-requires : goal.selected-requires
+selected-requires g c =
+    let k = c.args.self.now in
     let x = c.args.selection.now in
-    update_settles c.self.inside.counts c.update_within.new.counts c.in-Ok-update_within.told c.args.self.now c.settle.new.self (g.K.Keeper.seen c.args.keeper.now)
-    (g.K.Keeper.seen c.begin.new.keeper) (g.K.Keeper.seen c.update_within.new.keeper) (g.K.Keeper.seen c.settle.new.keeper) c.settle.result (ap (λ (u : Known). u.counts) c.self.view_is)
-    c.in-Ok.ensures x.path x.sign x.rel c.args.sets.now x.conds c.in-Ok-update_within.ensures.writes c.in-Ok-update_within.ensures.told.changing.steps.ok.last c.settle.ensures
+    record {
+      base = some_has_users k c.args.counts.now (g.K.Keeper.seen c.args.keeper.now).kept x.path (update_path_fits k.catalog x.path x.sign x.rel c.args.sets.now x.conds c.requires.fits) c.requires.agrees;
+    }
+
+pub returns-in-Err-clause-told : goal.returns-in-Err-clause-told
+returns-in-Err-clause-told g c =
+    let x = c.args.selection.now in
+    let old = g.K.Keeper.seen c.args.keeper.now in
+    call_stops {T = List Stmt} (λ s. bound_outcome s (Update x.path x.sign x.rel c.args.sets.now x.conds)) (sized c.args.self.now c.args.counts.now) (sized c.args.self.now c.args.counts.now)
+    old old (g.K.Keeper.seen c.selected.new.keeper) c.in-Err.stop (gone_itself old) c.in-Err.ensures.changing
+
+pub returns-in-Err-changed_statements-clause-told : goal.returns-in-Err-changed_statements-clause-told
+returns-in-Err-changed_statements-clause-told g c =
+    let x = c.args.selection.now in
+    let h = c.in-Ok.ensures.changing in
+    stop_tells (λ s. bound_outcome s (Update x.path x.sign x.rel c.args.sets.now x.conds)) (sized c.args.self.now c.args.counts.now) (sized c.args.self.now c.args.counts.now)
+    (g.K.Keeper.seen c.args.keeper.now) (g.K.Keeper.seen c.undo.new.self) Memory
+    (changing_undone {U = Reply} (g.K.Keeper.seen c.args.keeper.now) (g.K.Keeper.seen c.selected.new.keeper) (g.K.Keeper.seen c.undo.new.self) Memory Fault
+    (record { goes = h.steps.ok; counts = h.counts }) c.undo.ensures.undone (λ e. absurd cc))
+
+pub change_statements-requires-clause-base : goal.change_statements-requires-clause-base
+change_statements-requires-clause-base g c =
+    let k = c.args.self.now in
+    let x = c.args.selection.now in
+    let sets = c.args.sets.now in
+    let old = g.K.Keeper.seen c.args.keeper.now in
+    let mid = g.K.Keeper.seen c.selected.new.keeper in
+    let gone = c.as_slice-gone.result.now in
+    let come = c.as_slice-come.result.now in
+    let same = c.as_slice-come.ensures ∙ c.in-Ok-changed_statements.ensures ∙ ap (λ (l : List SetCol). map (changed_statement l) c.as_slice.result.now) c.as_slice-2.ensures
+    ∙ ap (λ (l : List Stmt). map (changed_statement sets) l) (c.as_slice.ensures ∙ sym c.as_slice-gone.ensures) in
+    subst (λ (w : List ℕ). SomeMayChange mid.kept c.args.counts.now w gone come) (sym c.as_slice-path.ensures.users)
+    (some_may_change k c.args.counts.now old.kept mid.kept x.path x.sign x.rel x.conds sets gone come c.requires.fits
+    (subst (λ (l : List Stmt). AreTaken old.kept x.path x.sign x.rel x.conds l) (sym c.as_slice-gone.ensures) c.in-Ok.ensures.taken) c.in-Ok.ensures.kept same c.requires.agrees)
+
+pub returns-in-Ok-change_statements-clause-told : goal.returns-in-Ok-change_statements-clause-told
+returns-in-Ok-change_statements-clause-told g c =
+    let k = c.args.self.now in
+    let x = c.args.selection.now in
+    let sets = c.args.sets.now in
+    let old = g.K.Keeper.seen c.args.keeper.now in
+    let mid = g.K.Keeper.seen c.selected.new.keeper in
+    let fin = g.K.Keeper.seen c.change_statements.new.keeper in
+    let after = c.change_statements.new.counts in
+    let gone = c.as_slice-gone.result.now in
+    let come = c.as_slice-come.result.now in
+    let h = c.in-Ok.ensures in
+    let d = c.in-Ok-change_statements.ensures in
+    let same = c.as_slice-come.ensures ∙ c.in-Ok-changed_statements.ensures ∙ ap (λ (l : List SetCol). map (changed_statement l) c.as_slice.result.now) c.as_slice-2.ensures
+    ∙ ap (λ (l : List Stmt). map (changed_statement sets) l) (c.as_slice.ensures ∙ sym c.as_slice-gone.ensures) in
+    update_tells_done k c.args.counts.now old.kept mid.kept x.path x.sign x.rel x.conds sets gone come c.requires.fits
+    (subst (λ (l : List Stmt). AreTaken old.kept x.path x.sign x.rel x.conds l) (sym c.as_slice-gone.ensures) h.taken) h.kept same
+    old mid fin (g.K.Keeper.seen c.tell_count.new.keeper) after c.tell_count.result refl refl c.requires.agrees (record { goes = h.changing.steps.ok; counts = h.changing.counts }) d.counts
+    (length gone) refl (subst (λ (w : List ℕ). Changes mid fin c.args.counts.now after w gone come (Ok tt)) c.as_slice-path.ensures.users d.changed) c.tell_count.ensures
+
+pub returns-clause-told : goal.returns-clause-told
+returns-clause-told g c =
+    let k = c.args.self.now in
+    let x = c.args.selection.now in
+    let sets = c.args.sets.now in
+    let old = g.K.Keeper.seen c.args.keeper.now in
+    let mid = g.K.Keeper.seen c.selected.new.keeper in
+    let fin = g.K.Keeper.seen c.change_statements.new.keeper in
+    let after = c.change_statements.new.counts in
+    let gone = c.as_slice-gone.result.now in
+    let come = c.as_slice-come.result.now in
+    let h = c.in-Ok.ensures in
+    let d = c.in-Err-change_statements.ensures in
+    let same = c.as_slice-come.ensures ∙ c.in-Ok-changed_statements.ensures ∙ ap (λ (l : List SetCol). map (changed_statement l) c.as_slice.result.now) c.as_slice-2.ensures
+    ∙ ap (λ (l : List Stmt). map (changed_statement sets) l) (c.as_slice.ensures ∙ sym c.as_slice-gone.ensures) in
+    update_tells_err k c.args.counts.now old.kept mid.kept x.path x.sign x.rel x.conds sets gone come c.requires.fits
+    (subst (λ (l : List Stmt). AreTaken old.kept x.path x.sign x.rel x.conds l) (sym c.as_slice-gone.ensures) h.taken) h.kept same
+    old mid fin (g.K.Keeper.seen c.refuse_change.new.keeper) after c.refuse_change.result refl refl c.requires.agrees (record { goes = h.changing.steps.ok; counts = h.changing.counts }) d.counts
+    c.in-Err-change_statements.error (subst (λ (w : List ℕ). Changes mid fin c.args.counts.now after w gone come (Err c.in-Err-change_statements.error)) c.as_slice-path.ensures.users d.changed)
+    c.refuse_change.ensures
+
+pub returns-in-Ok-change_statements-clause-writes : goal.returns-in-Ok-change_statements-clause-writes
+returns-in-Ok-change_statements-clause-writes g c =
+    let k = c.args.self.now in
+    let x = c.args.selection.now in
+    let sets = c.args.sets.now in
+    let old = g.K.Keeper.seen c.args.keeper.now in
+    let mid = g.K.Keeper.seen c.selected.new.keeper in
+    let fin = g.K.Keeper.seen c.change_statements.new.keeper in
+    let gone = c.as_slice-gone.result.now in
+    let come = c.as_slice-come.result.now in
+    let h = c.in-Ok.ensures in
+    let same = c.as_slice-come.ensures ∙ c.in-Ok-changed_statements.ensures ∙ ap (λ (l : List SetCol). map (changed_statement l) c.as_slice.result.now) c.as_slice-2.ensures
+    ∙ ap (λ (l : List Stmt). map (changed_statement sets) l) (c.as_slice.ensures ∙ sym c.as_slice-gone.ensures) in
+    update_writes k c.args.counts.now x.path x.sign x.rel x.conds sets gone come old mid fin (g.K.Keeper.seen c.tell_count.new.keeper) c.requires.fits
+    (subst (λ (l : List Stmt). AreTaken old.kept x.path x.sign x.rel x.conds l) (sym c.as_slice-gone.ensures) h.taken) h.kept h.writes same c.tell_count.result _ refl
+    (subst (λ (w : List ℕ). ChangesThrough c.args.counts.now w gone come mid fin) c.as_slice-path.ensures.users c.in-Ok-change_statements.ensures.writes)
+    (c.tell_count.ensures c.requires.agrees.state)
+
+pub returns-clause-writes : goal.returns-clause-writes
+returns-clause-writes g c =
+    let k = c.args.self.now in
+    let x = c.args.selection.now in
+    let sets = c.args.sets.now in
+    let old = g.K.Keeper.seen c.args.keeper.now in
+    let mid = g.K.Keeper.seen c.selected.new.keeper in
+    let fin = g.K.Keeper.seen c.change_statements.new.keeper in
+    let gone = c.as_slice-gone.result.now in
+    let come = c.as_slice-come.result.now in
+    let h = c.in-Ok.ensures in
+    let same = c.as_slice-come.ensures ∙ c.in-Ok-changed_statements.ensures ∙ ap (λ (l : List SetCol). map (changed_statement l) c.as_slice.result.now) c.as_slice-2.ensures
+    ∙ ap (λ (l : List Stmt). map (changed_statement sets) l) (c.as_slice.ensures ∙ sym c.as_slice-gone.ensures) in
+    let error = c.in-Err-change_statements.error in
+    let after = c.change_statements.new.counts in
+    update_err_writes k c.args.counts.now x.path x.sign x.rel x.conds sets gone come old mid fin (g.K.Keeper.seen c.refuse_change.new.keeper) c.requires.fits
+    (subst (λ (l : List Stmt). AreTaken old.kept x.path x.sign x.rel x.conds l) (sym c.as_slice-gone.ensures) h.taken) h.kept h.writes same c.refuse_change.result after error
+    (subst (λ (w : List ℕ). Changes mid fin c.args.counts.now after w gone come (Err error)) c.as_slice-path.ensures.users c.in-Err-change_statements.ensures.changed) c.refuse_change.ensures

@@ -1,0 +1,121 @@
+-- How often a command reads and writes that is a transaction of its own, by how often its step does.
+use Rattle.std.proofs.Common.{◌≡◌, ◌∙◌, ℕ, ◌+◌, ◌≤◌, length, Result, Ok, Err, refl, sym, subst, inl, inr, arith}
+use Rattle.std.proofs.lemmas.Bool.{cases_Bool, MatchBool-at_true, MatchBool-at_false}
+use Rattle.bdb_base.specs.declared.kinds.Query.{Query}
+use Rattle.bdb_bind.specs.declared.bound.Bound.{Bound}
+use Rattle.bdb_bind.specs.declared.bound.Bound.TheVariants.{CreateUser, CreateRelation, Insert, Delete, Update, Select, Explain, ShowWorld, ShowTables}
+use Rattle.bdb_keep.specs.Calls.{IsBegin}
+use Rattle.bdb_keep.specs.Seen.{Seen}
+use Rattle.bdb_session.specs.Bounds.{ReadsAsTold, WritesAsTold}
+use Rattle.bdb_session.specs.Known.{Known, Agrees}
+use Rattle.bdb_session.specs.Outcome.{State}
+use Rattle.bdb_session.specs.QueryReads.{ReadsAsBounded}
+use Rattle.bdb_session.specs.Telling.{ReadsWithin, WritesNothing, world_reads}
+use Rattle.bdb_session.specs.Within.{IsKept, IsUndone, Settles}
+use Rattle.bdb_session.specs.declared.reply.Reply.{Reply}
+use Rattle.bdb_session.specs.declared.stop.StopError.{StopError}
+use Rattle.bdb_session.specs.declared.stop.StopError.TheVariants.{Fault}
+use Rattle.bdb_session.proofs.ServedLemmas.{still_agrees}
+use Rattle.bdb_session.proofs.StepLemmas.{delete_settles, update_settles}
+use Rattle.bdb_session.proofs.TellLemmas.{always_ok}
+use Rattle.bdb_session.proofs.WriteLemmas.{insert_settles, settled_unwritten}
+use Rattle.bdb_trans.specs.Bounds.{product_of}
+use Rattle.bdb_worlds.specs.Bounds.{RisesWithin}
+
+-- ---- a transaction that was begun and settled
+
+module _ (learns : Known) (r : Reply) (before now : Known) (old run mid new : Seen) (began : IsBegin {T = Unit {0}} {E = StopError} old run (Ok tt) Fault) (last : mid.last ≡ run.last)
+    (result : Result Reply StopError) (ended : Settles learns r before now mid new result) where
+  begun : (s : State) → Agrees old.kept before s → Agrees run.kept before s
+  begun s a = still_agrees old.kept run.kept before s began.kept a
+
+  -- nothing is read at its end
+  same_reads : new.reads ≡ mid.reads
+  same_reads = elim (cases_Bool r.accepted) [
+    | inl done ↦ (MatchBool-at_true (IsKept learns r before now mid new result) (IsUndone r before now mid new result) done ended).commit.reads
+    | inr undone ↦ (MatchBool-at_false (IsKept learns r before now mid new result) (IsUndone r before now mid new result) undone ended).undo.reads
+  ]
+
+  world_settles : (most : State → ℕ) → ReadsWithin most before run mid (Ok r) → ReadsWithin most before old new result
+  world_settles most h = λ s a.
+      let there = subst (λ n. RisesWithin (most s) run.reads n) (sym same_reads) (h s (begun s a)) in
+      always_ok result (subst (λ n. RisesWithin (most s) n new.reads) began.reads there)
+
+  query_settles : (q : Query) → ReadsAsBounded q before run mid (Ok r) → ReadsAsBounded q before old new result
+  query_settles q h = λ s rows a few.
+      let most : mid.reads ≤ run.reads + product_of (length s.base.catalog.users) rows 0 q.items = h s rows (begun s a) few in
+      let start = began.reads in
+      let end = same_reads in
+      always_ok result (omega arith)
+
+  kept_nothing : (x : Result Reply StopError) → IsKept learns r before now mid new x → WritesNothing run mid (Ok r) → WritesNothing old new x
+  kept_nothing (Ok q) k h = record { kept = k.commit.kept ∙ h.kept ∙ began.kept; writes = k.commit.writes ∙ h.writes ∙ began.writes }
+  kept_nothing (Err stop) k h = record { kept = tt; writes = k.commit.writes ∙ h.writes ∙ began.writes }
+
+  nothing_settles : WritesNothing run mid (Ok r) → WritesNothing old new result
+  nothing_settles h = elim (cases_Bool r.accepted) [
+    | inl done ↦ kept_nothing result (MatchBool-at_true (IsKept learns r before now mid new result) (IsUndone r before now mid new result) done ended) h
+    | inr undone ↦
+        let k = MatchBool-at_false (IsKept learns r before now mid new result) (IsUndone r before now mid new result) undone ended in
+        record { kept = always_ok result (k.undo.dropped.undone ∙ last ∙ began.last ∙ sym began.rest); writes = k.undo.writes ∙ h.writes ∙ began.writes }
+  ]
+
+  pub reads_settle : (b : Bound) → ReadsAsTold b before run mid (Ok r) → ReadsAsTold b before old new result
+  reads_settle (CreateUser name) h = tt
+  reads_settle (CreateRelation def) h = tt
+  reads_settle (Insert x) h = tt
+  reads_settle (Delete path sign rel conds) h = tt
+  reads_settle (Update path sign rel sets conds) h = tt
+  reads_settle (Select q) h = query_settles q h
+  reads_settle (Explain q) h = tt
+  reads_settle (ShowWorld path) h = world_settles (λ s. world_reads s.base path) h
+  reads_settle ShowTables h = tt
+
+  pub writes_settle : (b : Bound) → WritesAsTold b before run mid (Ok r) → WritesAsTold b before old new result
+  writes_settle (CreateUser name) h = settled_unwritten learns r before now old run mid new began h result ended
+  writes_settle (CreateRelation def) h = settled_unwritten learns r before now old run mid new began h result ended
+  writes_settle (Insert x) h =
+      insert_settles (length x.path + 2) 8 learns r before now old run mid new began h.within h.refused x refl refl h.already result ended
+  writes_settle (Delete path sign rel conds) h = delete_settles learns r before now old run mid new result began path sign rel conds h ended
+  writes_settle (Update path sign rel sets conds) h = update_settles learns r before now old run mid new result began path sign rel sets conds h last ended
+  writes_settle (Select q) h = nothing_settles h
+  writes_settle (Explain q) h = nothing_settles h
+  writes_settle (ShowWorld path) h = nothing_settles h
+  writes_settle ShowTables h = nothing_settles h
+
+-- ---- one that stopped
+
+pub reads_stop : (b : Bound) (k : Known) (old new : Seen) (stop : StopError) → ReadsAsTold b k old new (Err stop)
+reads_stop (CreateUser name) k old new stop = tt
+reads_stop (CreateRelation def) k old new stop = tt
+reads_stop (Insert x) k old new stop = tt
+reads_stop (Delete path sign rel conds) k old new stop = tt
+reads_stop (Update path sign rel sets conds) k old new stop = tt
+reads_stop (Select q) k old new stop = λ s rows a few. tt
+reads_stop (Explain q) k old new stop = tt
+reads_stop (ShowWorld path) k old new stop = λ s a. tt
+reads_stop ShowTables k old new stop = tt
+
+-- a step that stopped, after a begin that wrote nothing
+pub writes_stop : (b : Bound) (k : Known) (old run new : Seen) (stop : StopError) → run.writes ≡ old.writes → WritesAsTold b k run new (Err stop) → WritesAsTold b k old new (Err stop)
+writes_stop (CreateUser name) k old run new stop e h = tt
+writes_stop (CreateRelation def) k old run new stop e h = tt
+writes_stop (Insert x) k old run new stop e h = record { within = tt; refused = tt; already = λ s a there. tt }
+writes_stop (Delete path sign rel conds) k old run new stop e h = λ s a. record { one = λ single. tt; steps = tt; accepted = tt }
+writes_stop (Update path sign rel sets conds) k old run new stop e h = λ s a. record { steps = tt; refused = tt }
+writes_stop (Select q) k old run new stop e h = record { kept = tt; writes = h.writes ∙ e }
+writes_stop (Explain q) k old run new stop e h = record { kept = tt; writes = h.writes ∙ e }
+writes_stop (ShowWorld path) k old run new stop e h = record { kept = tt; writes = h.writes ∙ e }
+writes_stop ShowTables k old run new stop e h = record { kept = tt; writes = h.writes ∙ e }
+
+-- a transaction that didn't begin
+pub writes_unbegun : (b : Bound) (k : Known) (old new : Seen) (stop : StopError) → new.writes ≡ old.writes → WritesAsTold b k old new (Err stop)
+writes_unbegun (CreateUser name) k old new stop e = tt
+writes_unbegun (CreateRelation def) k old new stop e = tt
+writes_unbegun (Insert x) k old new stop e = record { within = tt; refused = tt; already = λ s a there. tt }
+writes_unbegun (Delete path sign rel conds) k old new stop e = λ s a. record { one = λ single. tt; steps = tt; accepted = tt }
+writes_unbegun (Update path sign rel sets conds) k old new stop e = λ s a. record { steps = tt; refused = tt }
+writes_unbegun (Select q) k old new stop e = record { kept = tt; writes = e }
+writes_unbegun (Explain q) k old new stop e = record { kept = tt; writes = e }
+writes_unbegun (ShowWorld path) k old new stop e = record { kept = tt; writes = e }
+writes_unbegun ShowTables k old new stop e = record { kept = tt; writes = e }
