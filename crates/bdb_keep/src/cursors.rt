@@ -26,6 +26,8 @@ pub struct Cursors {
     /// Whether the last write was in the block that was read last.
     follows: [bool; 16],
     used: Vec<Mark>,
+    /// Whether memory was asked for those places.
+    asked: bool,
 }
 
 impl Cursors {
@@ -37,6 +39,17 @@ impl Cursors {
             written: [START; 16],
             follows: [false; 16],
             used: Vec::new(alloc),
+            asked: false,
+        }
+    }
+
+    /// Takes the memory for places remembered by the first bytes of their keys. It is asked for once: where it is refused, no such
+    /// place is ever remembered.
+    #[inline(always)]
+    pub fn make_room(&mut self) {
+        if !self.asked {
+            self.asked = true;
+            self.used = slots(self.alloc);
         }
     }
 
@@ -88,12 +101,9 @@ impl Cursors {
         }
     }
 
-    /// Remembers it. Where there is no memory for the marks none is remembered.
+    /// Remembers it, where there is room. It takes no memory.
     #[inline(always)]
     fn remember_used(&mut self, probe: &Probe<'_>, mark: Mark) {
-        if self.used.is_empty() {
-            self.used = slots(self.alloc);
-        }
         let slot = slot_of(probe);
         if slot < self.used.len() {
             self.used[slot] = mark;

@@ -89,6 +89,7 @@ impl Rows {
         ensures set { OnOk result (IsSetAt self.old self.new probe.now (Some (Some row))) }
         ensures err { OnErr result (self.new ≡ self.old) }
     {
+        self.cursors.make_room();
         let near = self.cursors.to_write(probe);
         let (mark, before) = shelves::insert(self.alloc, &mut self.shelves, near, probe, row)?;
         self.cursors.remember_written(probe, mark);
