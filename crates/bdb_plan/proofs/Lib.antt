@@ -1,3 +1,4 @@
 pub mod RunLemmas
 pub mod StandLemmas
+mod SetLemmas
 mod ListingLemmas

@@ -37,7 +37,7 @@ use Rattle.bdb_plan.proofs.StandLemmas.{Stands, Above, above_itself, known_same,
 
 -- ---- small facts
 
-placed_tells : (t : Bool) (p p' : Placed) → placed_if t p ≡ Some p' → (t ≡ true) × (p ≡ p')
+pub placed_tells : (t : Bool) (p p' : Placed) → placed_if t p ≡ Some p' → (t ≡ true) × (p ≡ p')
 placed_tells true p p' e = (refl, cc)
 placed_tells false p p' e = cc
 
@@ -169,7 +169,7 @@ goes_plain sight n p s x w st h = record { stands = st; back = λ zs a. (a, h zs
 
 goes_choice : (sight : Sight) (n : ℕ) (p : Placed) (users : List ℕ) (s : Reached) (x : Step) (item : ℕ) (t : Tuple) → StandsAt n p s.slots → is_new n p item ≡ true
     → ((zs : List (Option Tuple)) → slot_at zs item ≡ Some t → world_after sight zs s.world x ≡ Some s.world)
-    → Goes sight n p s x (record { users = users; items = item ∷ p.items; bound = p.bound; walk = p.walk }) (with_slot s item t)
+    → Goes sight n p s x (record { users = users; items = item ∷ p.items; denied = p.denied; bound = p.bound; walk = p.walk }) (with_slot s item t)
 goes_choice sight n p users s x item t st new h =
     let fresh = is_new_tells n p item new in
     record {
@@ -262,7 +262,7 @@ go_back sight n take p p' s s' x xs q st g h =
     }
 
 -- what steps fit after one that fits
-fits_one : (n : ℕ) (w : ℕ → ℕ → Bool) (take : List Ref) (o : Option Placed) (xs : List Step) → fits_from n w take o xs ≡ true → (p' : Placed) × (o ≡ Some p') × (fits_from n w take (Some p') xs ≡ true)
+pub fits_one : (n : ℕ) (w : ℕ → ℕ → Bool) (take : List Ref) (o : Option Placed) (xs : List Step) → fits_from n w take o xs ≡ true → (p' : Placed) × (o ≡ Some p') × (fits_from n w take (Some p') xs ≡ true)
 fits_one n w take None xs h = absurd (false≢true h)
 fits_one n w take (Some p') xs h = (p', refl, h)
 

@@ -14,7 +14,7 @@ use Rattle.bdb_base.specs.declared.kinds.Who.TheVariants.{User, Of}
 use Rattle.bdb_base.specs.declared.tuple.Tuple.{Tuple}
 use Rattle.bdb_queries.specs.Slots.{slot_at, known, known_operand, uid_of}
 use Rattle.bdb_queries.proofs.RangeLemmas.{and_then_some}
-use Rattle.bdb_plan.specs.Fitness.{Placed, is_among, is_bound, has_bound, is_known, is_set, operand_is_set, who_is_set, is_new, comes_next, is_whole, at_width}
+use Rattle.bdb_plan.specs.Fitness.{Placed, is_among, is_bound, has_bound, was_bound, is_known, is_set, operand_is_set, who_is_set, is_new, comes_next, is_whole, at_width}
 use Rattle.bdb_plan.specs.Running.{tuple_of, with_value}
 
 -- ---- lists
@@ -129,7 +129,9 @@ UsersAreSet p = (i : ℕ) → is_among p.users i ≡ true → is_among p.items i
 known_item : (p : Placed) (r : Ref) → UsersAreSet p → is_known p r ≡ true → is_among p.items r.item ≡ true
 known_item p r u h = elim (cases_Bool (is_among p.users r.item)) [
   | inl e ↦ u r.item e
-  | inr e ↦ sym (cond-false (is_among p.users r.item) (nat_lt r.col 2) (is_among p.items r.item) e) ∙ h
+  | inr e ↦
+      let all = is_among p.items r.item && was_bound p.denied r in
+      (and_parts (is_among p.items r.item) (was_bound p.denied r) (sym (cond-false (is_among p.users r.item) (nat_lt r.col 2) all e) ∙ h)).0
 ]
 
 pub known_same : (n : ℕ) (p : Placed) (slots zs : List (Option Tuple)) → UsersAreSet p → Stands n p.items p.bound slots → Above p.items p.bound slots zs → (r : Ref) → is_set p r ≡ true → known zs r ≡ known slots r

@@ -15,11 +15,13 @@ pub record Fields : Type 0 where
   pub steps : List Step
   pub take : List Ref
 
--- What is set so far: the items for which a user is chosen; the items whose columns are set, these among them; the item whose
--- columns are being bound, with how many are; and the item whose walk began last.
+-- What is set so far: the items for which a user is chosen; the items whose columns are set, these among them; the denied ones
+-- among the items, each with how many of its columns were bound; the item whose columns are being bound, with how many are; and
+-- the item whose walk began last.
 pub record Placed : Type 0 where
   pub users : List ℕ
   pub items : List ℕ
+  pub denied : List (ℕ × ℕ)
   pub bound : Option (ℕ × ℕ)
   pub walk : Option ℕ
 
@@ -35,9 +37,14 @@ abbrev pub has_bound : Option (ℕ × ℕ) → Ref → Bool
 has_bound None r = false
 has_bound (Some b) r = nat_eq r.item b.0 && nat_lt r.col b.1
 
--- of an item for which a user is chosen the number and the name are known, and of another one that is set each column
+-- the column was bound, where its item is a denied one
+abbrev pub was_bound : List (ℕ × ℕ) → Ref → Bool
+was_bound denied r = list_all (λ d. not (nat_eq r.item d.0) || nat_lt r.col d.1) denied
+
+-- of an item for which a user is chosen the number and the name are known, of a denied one the columns that were bound, and of
+-- another one that is set each column
 abbrev pub is_known : Placed → Ref → Bool
-is_known p r = cond (is_among p.users r.item) (nat_lt r.col 2) (is_among p.items r.item)
+is_known p r = cond (is_among p.users r.item) (nat_lt r.col 2) (is_among p.items r.item && was_bound p.denied r)
 
 -- a column is set
 abbrev pub is_set : Placed → Ref → Bool
@@ -80,23 +87,28 @@ placed_if test p = cond test (Some p) None
 
 -- with a user chosen for an item
 abbrev pub with_user : Placed → ℕ → Placed
-with_user p item = record { users = item ∷ p.users; items = item ∷ p.items; bound = p.bound; walk = p.walk }
+with_user p item = record { users = item ∷ p.users; items = item ∷ p.items; denied = p.denied; bound = p.bound; walk = p.walk }
 
 -- with the walk of an item begun
 abbrev pub with_walk : Placed → ℕ → Placed
-with_walk p item = record { users = p.users; items = p.items; bound = p.bound; walk = Some item }
+with_walk p item = record { users = p.users; items = p.items; denied = p.denied; bound = p.bound; walk = Some item }
 
 -- with a tuple chosen for an item
 abbrev pub with_tuple : Placed → ℕ → Placed
-with_tuple p item = record { users = p.users; items = item ∷ p.items; bound = p.bound; walk = p.walk }
+with_tuple p item = record { users = p.users; items = item ∷ p.items; denied = p.denied; bound = p.bound; walk = p.walk }
 
 -- with a column of an item bound
 abbrev pub with_column : Placed → ℕ → ℕ → Placed
-with_column p item col = record { users = p.users; items = p.items; bound = Some (item, col + 1); walk = p.walk }
+with_column p item col = record { users = p.users; items = p.items; denied = p.denied; bound = Some (item, col + 1); walk = p.walk }
 
--- with all columns of an item bound
+-- how many columns are bound of the item that is being bound; none where there is no such item
+abbrev pub bound_count : Option (ℕ × ℕ) → ℕ
+bound_count None = 0
+bound_count (Some b) = b.1
+
+-- with an item denied, all of whose columns are bound
 abbrev pub with_all_bound : Placed → ℕ → Placed
-with_all_bound p item = record { users = p.users; items = item ∷ p.items; bound = None; walk = p.walk }
+with_all_bound p item = record { users = p.users; items = item ∷ p.items; denied = (item, bound_count p.bound) ∷ p.denied; bound = None; walk = p.walk }
 
 -- What is set after a step; none where it uses what is not set, or sets what is. `Edge`, `Differ`, `Pos` and `Neg` belong to
 -- the walk begun last, and a user of a path that is not fixed is one that `User` chose. `whole` says whether so many bound
@@ -128,9 +140,9 @@ fits_from n whole take o xs = takes_set take (placed_at_end n whole o xs)
 
 -- nothing is set, and no walk has begun
 abbrev pub at_first : Placed
-at_first = record { users = []; items = []; bound = None; walk = None }
+at_first = record { users = []; items = []; denied = []; bound = None; walk = None }
 
 -- Each step, and each column taken, uses only what an earlier step set. A plan does not know how many columns a relation has:
--- `Pos` sets them all, and `Neg` uses those that were bound.
+-- `Pos` sets them all, and `Neg` uses those that were bound, and leaves these set.
 abbrev pub UsesOnlySet : ℕ → List Step → List Ref → Type 0
 UsesOnlySet items steps take = fits_from items (λ rel k. true) take (Some at_first) steps ≡ true

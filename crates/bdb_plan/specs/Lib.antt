@@ -6,5 +6,6 @@ pub mod Shown
 pub mod Sources
 pub mod PlanOf
 pub mod PlanLaws
+pub mod Naming
 pub mod PlanText
 pub mod Listings

@@ -8,7 +8,8 @@ use std::marker::Model;
 
 /// A plan: its steps in order, for so many items, and the columns that its rows have. Each step, and each column taken,
 /// uses only what an earlier step set: columns that are set, users that were chosen, and the world of the walk that was
-/// begun last, which is of its own item.
+/// begun last, which is of its own item. `Neg` denies the tuple of the columns that were bound of its item, and these alone
+/// are set of it from then on.
 #[derive(Drop)]
 pub struct Plan {
     items: u32,

@@ -26,7 +26,7 @@ use Rattle.bdb_base.specs.Safety.{is_given, is_minus, is_users_item, is_literal,
 use Rattle.bdb_base.proofs.ListLemmas.{list_all_get, list_all_weaker, filter_kept_one, filter_dropped_one}
 use Rattle.bdb_plan.specs.declared.step.Step.{Step}
 use Rattle.bdb_plan.specs.declared.step.Step.TheVariants as step
-use Rattle.bdb_plan.specs.Fitness.{Placed, is_among, has_bound, is_known, is_set, operand_is_set, who_is_set, is_walked, is_new, comes_next, is_whole, placed_if, with_user, with_tuple, with_all_bound, placed_after, placed_at_end, takes_set, fits_from, at_first}
+use Rattle.bdb_plan.specs.Fitness.{Placed, is_among, has_bound, was_bound, is_known, is_set, operand_is_set, who_is_set, is_walked, is_new, comes_next, is_whole, placed_if, with_user, with_walk, with_tuple, bound_count, with_all_bound, placed_after, placed_at_end, takes_set, fits_from, at_first}
 use Rattle.bdb_plan.specs.PlanOf.{differ_from, walk_from, walk_of, bind_of, binds_from, operand_set, all_set, due, item_steps, steps_from, places, is_users, is_plus, is_minus_item, order_of}
 use Rattle.bdb_plan.specs.Sources.{source_of}
 use Rattle.bdb_trans.proofs.HoldLemmas.{some_is, there_in_order, both_there, set_after, comes_set}
@@ -113,9 +113,6 @@ due_set rels q set at p f h = filtered (joins_one_kind rels q.items) (λ c. all_
 
 -- ---- items
 
-abbrev placed : List ℕ → List ℕ → Option (ℕ × ℕ) → Option ℕ → Placed
-placed users set o walk = record { users = users; items = set; bound = o; walk = walk }
-
 itself : (at : ℕ) → nat_eq at at ≡ true
 itself at = (Decides-eqb at at).1 refl
 
@@ -123,11 +120,11 @@ or_set : (a b : Bool) → b ≡ true → (a || b) ≡ true
 or_set true b h = refl
 or_set false b h = h
 
-walk_leads : (n : ℕ) (w : ℕ → ℕ → Bool) (users set : List ℕ) (o : Option (ℕ × ℕ)) (walk : Option ℕ) (item : ℕ) (path : List Who) → item < n → list_all (who_is_set (placed users set o (Some item))) path ≡ true
-    → Leads n w (placed users set o walk) (walk_of item path) (placed users set o (Some item))
-walk_leads n w users set o walk item path within g =
-    let p = placed users set o (Some item) in
-    leads_first n w (placed users set o walk) p p (step.Start item) (walk_from item None path) (if_so (nat_lt item n) p (lt-ltb item n within)) (walks n w p item None path (itself item) (λ b e. cc) g)
+walk_leads : (n : ℕ) (w : ℕ → ℕ → Bool) (p : Placed) (item : ℕ) (path : List Who) → item < n → list_all (who_is_set (with_walk p item)) path ≡ true
+    → Leads n w p (walk_of item path) (with_walk p item)
+walk_leads n w before item path within g =
+    let p = with_walk before item in
+    leads_first n w before p p (step.Start item) (walk_from item None path) (if_so (nat_lt item n) p (lt-ltb item n within)) (walks n w p item None path (itself item) (λ b e. cc) g)
 
 -- a `Users` item is at a place
 abbrev is_user_at : Query → ℕ → Bool
@@ -159,14 +156,65 @@ chosen_is_user q (at ∷ set) k h = elim (cases_Bool (is_user_at q at)) [
   | inr e ↦ chosen_is_user q set k (sym (ap (λ xs. is_among xs k) (filter_dropped_one (is_user_at q) at set e)) ∙ h)
 ]
 
+-- what is bound of an item once each of these columns is
+abbrev all_bound : ℕ → List ColDef → Option (ℕ × ℕ)
+all_bound at [] = None
+all_bound at (c ∷ cs) = Some (at, length (c ∷ cs))
+
+-- the denied items, each with how many columns it has
+abbrev denied_more : List RelDef → ℕ → Option Item → List (ℕ × ℕ) → List (ℕ × ℕ)
+denied_more rels at (Some (Rel alias rel Minus path)) ds = (at, length (columns_at rels rel)) ∷ ds
+denied_more rels at _ ds = ds
+
+abbrev denied_of : List RelDef → Query → List ℕ → List (ℕ × ℕ)
+denied_of rels q [] = []
+denied_of rels q (at ∷ set) = denied_more rels at (slice_get q.items at) (denied_of rels q set)
+
+-- what is set once the steps of items are done
+abbrev placed : List RelDef → Query → List ℕ → Option (ℕ × ℕ) → Option ℕ → Placed
+placed rels q set o walk = record { users = chosen q set; items = set; denied = denied_of rels q set; bound = o; walk = walk }
+
+column_within : (rels : List RelDef) (items : List Item) (r : Ref) (alias : List ℕ) (rel : ℕ) (path : List Who) → slice_get items r.item ≡ Some (Rel alias rel Minus path) → is_some (column_kind rels items r) ≡ true
+    → r.col < length (columns_at rels rel)
+column_within rels items r alias rel path e h =
+    let k = some_is (slice_get (map (λ c. c.kind) (columns_at rels rel)) r.col) (sym (ap (λ o. is_some (option_and_then (λ item. slice_get (item_kinds rels item) r.col) o)) e) ∙ h) in
+    subst (λ m. r.col < m) (map_long (columns_at rels rel)) (slice_get_within (map (λ c. c.kind) (columns_at rels rel)) r.col k.0 k.1)
+  where
+    map_long : (cols : List ColDef) → length (map (λ c. c.kind) cols) ≡ length cols
+    map_long [] = refl
+    map_long (c ∷ cs) = ap suc (map_long cs)
+
+-- a column that is there was bound, where its item is denied
+was_bound_more : (rels : List RelDef) (q : Query) (at : ℕ) (r : Ref) → is_some (column_kind rels q.items r) ≡ true → (ds : List (ℕ × ℕ)) → was_bound ds r ≡ true
+    → was_bound (denied_more rels at (slice_get q.items at) ds) r ≡ true
+was_bound_more rels q at r h ds rest = by (slice_get q.items at) refl
+  where
+    minus : (k : ℕ) → (nat_eq r.item at ≡ true → r.col < k) → was_bound ((at, k) ∷ ds) r ≡ true
+    minus k f =
+        and_from (not (nat_eq r.item at) || nat_lt r.col k) (was_bound ds r) (elim (cases_Bool (nat_eq r.item at)) [
+          | inl e ↦ or_set (not (nat_eq r.item at)) (nat_lt r.col k) (lt-ltb r.col k (f e))
+          | inr e ↦ ap (λ b. not b || nat_lt r.col k) e
+        ]) rest
+
+    by : (o : Option Item) → slice_get q.items at ≡ o → was_bound (denied_more rels at o ds) r ≡ true
+    by None e = rest
+    by (Some (Users alias)) e = rest
+    by (Some (Rel alias rel Plus path)) e = rest
+    by (Some (Rel alias rel Minus path)) e = minus (length (columns_at rels rel)) (λ m. column_within rels q.items r alias rel path (ap (slice_get q.items) (eqb-true r.item at m) ∙ e) h)
+
+was_bound_there : (rels : List RelDef) (q : Query) (set : List ℕ) (r : Ref) → is_some (column_kind rels q.items r) ≡ true → was_bound (denied_of rels q set) r ≡ true
+was_bound_there rels q [] r h = refl
+was_bound_there rels q (at ∷ set) r h = was_bound_more rels q at r h (denied_of rels q set) (was_bound_there rels q set r h)
+
 -- a column that is there is set, once its item is
 column_set : (rels : List RelDef) (q : Query) (set : List ℕ) (o : Option (ℕ × ℕ)) (walk : Option ℕ) (r : Ref) → is_among set r.item ≡ true → is_some (column_kind rels q.items r) ≡ true
-    → is_set (placed (chosen q set) set o walk) r ≡ true
+    → is_set (placed rels q set o walk) r ≡ true
 column_set rels q set o walk r a h =
-    let p = placed (chosen q set) set o walk in
-    or_left (is_known p r) (has_bound o r) (elim (cases_Bool (is_among (chosen q set) r.item)) [
-      | inl e ↦ cond-true (is_among (chosen q set) r.item) (nat_lt r.col 2) (is_among set r.item) e ∙ two (slice_get q.items r.item) r.col (chosen_is_user q set r.item e) h
-      | inr e ↦ cond-false (is_among (chosen q set) r.item) (nat_lt r.col 2) (is_among set r.item) e ∙ a
+    let p = placed rels q set o walk in
+    let all = is_among p.items r.item && was_bound p.denied r in
+    or_left (is_known p r) (has_bound o r) (elim (cases_Bool (is_among p.users r.item)) [
+      | inl e ↦ cond-true (is_among p.users r.item) (nat_lt r.col 2) all e ∙ two (slice_get q.items r.item) r.col (chosen_is_user q set r.item e) h
+      | inr e ↦ cond-false (is_among p.users r.item) (nat_lt r.col 2) all e ∙ and_from (is_among set r.item) (was_bound p.denied r) a (was_bound_there rels q set r h)
     ])
   where
     two : (o : Option Item) (col : ℕ) → is_users_item o ≡ true → is_some (option_and_then (λ item. slice_get (item_kinds rels item) col) o) ≡ true → nat_lt col 2 ≡ true
@@ -186,16 +234,16 @@ abbrev names_user : Query → Who → Bool
 names_user q (User i) = true
 names_user q (Of k) = is_user_at q k
 
-path_set : (q : Query) (set : List ℕ) (o : Option (ℕ × ℕ)) (walk : Option ℕ) (path : List Who) → list_all (who_among set) path ≡ true → list_all (names_user q) path ≡ true
-    → list_all (who_is_set (placed (chosen q set) set o walk)) path ≡ true
-path_set q set o walk [] h g = refl
-path_set q set o walk (who ∷ whos) h g =
+path_set : (rels : List RelDef) (q : Query) (set : List ℕ) (o : Option (ℕ × ℕ)) (walk : Option ℕ) (path : List Who) → list_all (who_among set) path ≡ true → list_all (names_user q) path ≡ true
+    → list_all (who_is_set (placed rels q set o walk)) path ≡ true
+path_set rels q set o walk [] h g = refl
+path_set rels q set o walk (who ∷ whos) h g =
     let k = and_parts (who_among set who) (list_all (who_among set) whos) h in
     let m = and_parts (names_user q who) (list_all (names_user q) whos) g in
-    let p = placed (chosen q set) set o walk in
-    and_from (who_is_set p who) (list_all (who_is_set p) whos) (one who k.0 m.0) (path_set q set o walk whos k.1 m.1)
+    let p = placed rels q set o walk in
+    and_from (who_is_set p who) (list_all (who_is_set p) whos) (one who k.0 m.0) (path_set rels q set o walk whos k.1 m.1)
   where
-    one : (who : Who) → who_among set who ≡ true → names_user q who ≡ true → who_is_set (placed (chosen q set) set o walk) who ≡ true
+    one : (who : Who) → who_among set who ≡ true → names_user q who ≡ true → who_is_set (placed rels q set o walk) who ≡ true
     one (User i) h g = refl
     one (Of k) h g = among_chosen q set k h g
 
@@ -205,18 +253,8 @@ Needs q set (Users alias) = Unit {0}
 Needs q set (Rel alias rel Plus path) = list_all (who_among set) path ≡ true
 Needs q set (Rel alias rel Minus path) = (list_all (who_among set) path ≡ true) × ((k : ℕ) → is_given (slice_get q.items k) ≡ true → is_among set k ≡ true)
 
-column_within : (rels : List RelDef) (items : List Item) (r : Ref) (alias : List ℕ) (rel : ℕ) (path : List Who) → slice_get items r.item ≡ Some (Rel alias rel Minus path) → is_some (column_kind rels items r) ≡ true
-    → r.col < length (columns_at rels rel)
-column_within rels items r alias rel path e h =
-    let k = some_is (slice_get (map (λ c. c.kind) (columns_at rels rel)) r.col) (sym (ap (λ o. is_some (option_and_then (λ item. slice_get (item_kinds rels item) r.col) o)) e) ∙ h) in
-    subst (λ m. r.col < m) (map_long (columns_at rels rel)) (slice_get_within (map (λ c. c.kind) (columns_at rels rel)) r.col k.0 k.1)
-  where
-    map_long : (cols : List ColDef) → length (map (λ c. c.kind) cols) ≡ length cols
-    map_long [] = refl
-    map_long (c ∷ cs) = ap suc (map_long cs)
-
-new_one : (n at : ℕ) (users set : List ℕ) (walk : Option ℕ) → at < n → is_among set at ≡ false → is_new n (placed users set None walk) at ≡ true
-new_one n at users set walk h g = and_from (nat_lt at n) (not (is_among set at) && true) (lt-ltb at n h) (ap (λ b. not b && true) g)
+new_one : (n at : ℕ) (rels : List RelDef) (q : Query) (set : List ℕ) (walk : Option ℕ) → at < n → is_among set at ≡ false → is_new n (placed rels q set None walk) at ≡ true
+new_one n at rels q set walk h g = and_from (nat_lt at n) (not (is_among set at) && true) (lt-ltb at n h) (ap (λ b. not b && true) g)
 
 -- what the lemmas on items need of a catalog and a query
 pub record IsFit (rels : List RelDef) (w : ℕ → ℕ → Bool) (q : Query) : Type 0 where
@@ -228,10 +266,10 @@ pub record IsFit (rels : List RelDef) (w : ℕ → ℕ → Bool) (q : Query) : T
 
 -- one item's columns are bound
 source_set : (w : ℕ → ℕ → Bool) (rels : List RelDef) (q : Query) → IsFit rels w q → (set : List ℕ) (o : Option (ℕ × ℕ)) (walk : Option ℕ) → ((k : ℕ) → is_given (slice_get q.items k) ≡ true → is_among set k ≡ true)
-    → (r : Ref) (x : Operand) → is_some (column_kind rels q.items r) ≡ true → IsSource rels q r x → operand_is_set (placed (chosen q set) set o walk) x ≡ true
+    → (r : Ref) (x : Operand) → is_some (column_kind rels q.items r) ≡ true → IsSource rels q r x → operand_is_set (placed rels q set o walk) x ≡ true
 source_set w rels q fit set o walk h r x there (literal c e l j p) = lit c.right l
   where
-    lit : (y : Operand) → is_literal y ≡ true → operand_is_set (placed (chosen q set) set o walk) y ≡ true
+    lit : (y : Operand) → is_literal y ≡ true → operand_is_set (placed rels q set o walk) y ≡ true
     lit (Col s) l = absurd (false≢true l)
     lit (Lit v) l = refl
 source_set w rels q fit set o walk h r x there (column s j g) =
@@ -244,12 +282,12 @@ record HasSource (rels : List RelDef) (q : Query) (r : Ref) : Type 0 where
   source : is_some (source_of rels q r) ≡ true
 
 bind_leads : (n : ℕ) (w : ℕ → ℕ → Bool) (rels : List RelDef) (q : Query) → IsFit rels w q → (set : List ℕ) (o : Option (ℕ × ℕ)) (walk : Option ℕ) (at col : ℕ) → ((k : ℕ) → is_given (slice_get q.items k) ≡ true → is_among set k ≡ true)
-    → comes_next n (placed (chosen q set) set o walk) o at col ≡ true → HasSource rels q (record { item = at; col = col })
-    → Leads n w (placed (chosen q set) set o walk) (bind_of (record { item = at; col = col }) (source_of rels q (record { item = at; col = col }))) (placed (chosen q set) set (Some (at, col + 1)) walk)
+    → comes_next n (placed rels q set o walk) o at col ≡ true → HasSource rels q (record { item = at; col = col })
+    → Leads n w (placed rels q set o walk) (bind_of (record { item = at; col = col }) (source_of rels q (record { item = at; col = col }))) (placed rels q set (Some (at, col + 1)) walk)
 bind_leads n w rels q fit set o walk at col given next has =
     let r : Ref = record { item = at; col = col } in
-    let p = placed (chosen q set) set o walk in
-    let end = placed (chosen q set) set (Some (at, col + 1)) walk in
+    let p = placed rels q set o walk in
+    let end = placed rels q set (Some (at, col + 1)) walk in
     let src = some_is (source_of rels q r) has.source in
     let set_there = source_set w rels q fit set o walk given r src.0 has.there (source_is rels q r src.0 src.1) in
     subst (λ x. Leads n w p (bind_of r x) end) (sym src.1)
@@ -269,33 +307,26 @@ later_source rels q at col k h =
     subst (λ i. HasSource rels q (record { item = at; col = i })) same h
 
 binds_lead : (n : ℕ) (w : ℕ → ℕ → Bool) (rels : List RelDef) (q : Query) → IsFit rels w q → (set : List ℕ) (o : Option (ℕ × ℕ)) (walk : Option ℕ) (at col : ℕ) (c : ColDef) (cs : List ColDef)
-    → ((k : ℕ) → is_given (slice_get q.items k) ≡ true → is_among set k ≡ true) → comes_next n (placed (chosen q set) set o walk) o at col ≡ true → ((k : ℕ) → k < length (c ∷ cs) → HasSource rels q (record { item = at; col = col + k }))
-    → Leads n w (placed (chosen q set) set o walk) (binds_from rels q at col (c ∷ cs)) (placed (chosen q set) set (Some (at, col + length (c ∷ cs))) walk)
+    → ((k : ℕ) → is_given (slice_get q.items k) ≡ true → is_among set k ≡ true) → comes_next n (placed rels q set o walk) o at col ≡ true → ((k : ℕ) → k < length (c ∷ cs) → HasSource rels q (record { item = at; col = col + k }))
+    → Leads n w (placed rels q set o walk) (binds_from rels q at col (c ∷ cs)) (placed rels q set (Some (at, col + length (c ∷ cs))) walk)
 binds_lead n w rels q fit set o walk at col c [] given next has =
     let r : Ref = record { item = at; col = col } in
-    let us = chosen q set in
     let one : col + 1 ≡ col + length (c ∷ []) = omega arith in
     let bind = bind_leads n w rels q fit set o walk at col given next (first_source rels q at col (has 0 (omega arith))) in
-    leads_both n w (placed us set o walk) (placed us set (Some (at, col + 1)) walk) (placed us set (Some (at, col + length (c ∷ []))) walk) (bind_of r (source_of rels q r)) [] bind (ap (λ k. Some (placed us set (Some (at, k)) walk)) one)
+    leads_both n w (placed rels q set o walk) (placed rels q set (Some (at, col + 1)) walk) (placed rels q set (Some (at, col + length (c ∷ []))) walk) (bind_of r (source_of rels q r)) [] bind (ap (λ k. Some (placed rels q set (Some (at, k)) walk)) one)
 binds_lead n w rels q fit set o walk at col c (d ∷ ds) given next has =
     let r : Ref = record { item = at; col = col } in
-    let us = chosen q set in
-    let more = placed us set (Some (at, col + 1)) walk in
+    let more = placed rels q set (Some (at, col + 1)) walk in
     let end : (col + 1) + length (d ∷ ds) ≡ col + length (c ∷ d ∷ ds) = omega arith in
     let bind = bind_leads n w rels q fit set o walk at col given next (first_source rels q at col (has 0 (omega arith))) in
     let rest = binds_lead n w rels q fit set (Some (at, col + 1)) walk at (col + 1) d ds given (bound_next n more at (col + 1)) (λ k lt. later_source rels q at col k (has (suc k) (omega arith))) in
-    leads_both n w (placed us set o walk) more (placed us set (Some (at, col + length (c ∷ d ∷ ds))) walk) (bind_of r (source_of rels q r)) (binds_from rels q at (col + 1) (d ∷ ds)) bind
-    (rest ∙ ap (λ k. Some (placed us set (Some (at, k)) walk)) end)
+    leads_both n w (placed rels q set o walk) more (placed rels q set (Some (at, col + length (c ∷ d ∷ ds))) walk) (bind_of r (source_of rels q r)) (binds_from rels q at (col + 1) (d ∷ ds)) bind
+    (rest ∙ ap (λ k. Some (placed rels q set (Some (at, k)) walk)) end)
 
 column_at_there : (cols : List ColDef) (k : ℕ) → k < length cols → is_some (slice_get (map (λ c. c.kind) cols) k) ≡ true
 column_at_there [] k h = absurd (omega arith)
 column_at_there (c ∷ cs) zero h = refl
 column_at_there (c ∷ cs) (suc k) h = column_at_there cs k (omega arith)
-
--- what is bound of an item once each of these columns is
-abbrev all_bound : ℕ → List ColDef → Option (ℕ × ℕ)
-all_bound at [] = None
-all_bound at (c ∷ cs) = Some (at, length (c ∷ cs))
 
 from_nothing : (k : ℕ) → 0 + k ≡ k
 from_nothing k = omega arith
@@ -303,16 +334,16 @@ from_nothing k = omega arith
 -- all columns of a minus item are bound
 minus_binds : (n : ℕ) (w : ℕ → ℕ → Bool) (rels : List RelDef) (q : Query) → IsFit rels w q → (set : List ℕ) (walk : Option ℕ) (at : ℕ) (alias : List ℕ) (rel : ℕ) (path : List Who) → at < n → is_among set at ≡ false
     → slice_get q.items at ≡ Some (Rel alias rel Minus path) → Needs q set (Rel alias rel Minus path)
-    → Leads n w (placed (chosen q set) set None walk) (binds_from rels q at 0 (columns_at rels rel)) (placed (chosen q set) set (all_bound at (columns_at rels rel)) walk)
+    → Leads n w (placed rels q set None walk) (binds_from rels q at 0 (columns_at rels rel)) (placed rels q set (all_bound at (columns_at rels rel)) walk)
 minus_binds n w rels q fit set walk at alias rel path within apart e needs = by (columns_at rels rel) has
   where
     by : (cols : List ColDef) → ((k : ℕ) → k < length cols → HasSource rels q (record { item = at; col = 0 + k }))
-        → Leads n w (placed (chosen q set) set None walk) (binds_from rels q at 0 cols) (placed (chosen q set) set (all_bound at cols) walk)
+        → Leads n w (placed rels q set None walk) (binds_from rels q at 0 cols) (placed rels q set (all_bound at cols) walk)
     by [] h = refl
     by (c ∷ cs) h =
-        let p = placed (chosen q set) set None walk in
-        let start : comes_next n p None at 0 ≡ true = and_from (is_new n p at) true (new_one n at (chosen q set) set walk within apart) refl in
-        binds_lead n w rels q fit set None walk at 0 c cs needs.1 start h ∙ ap (λ k. Some (placed (chosen q set) set (Some (at, k)) walk)) (from_nothing (length (c ∷ cs)))
+        let p = placed rels q set None walk in
+        let start : comes_next n p None at 0 ≡ true = and_from (is_new n p at) true (new_one n at rels q set walk within apart) refl in
+        binds_lead n w rels q fit set None walk at 0 c cs needs.1 start h ∙ ap (λ k. Some (placed rels q set (Some (at, k)) walk)) (from_nothing (length (c ∷ cs)))
 
     has : (k : ℕ) → k < length (columns_at rels rel) → HasSource rels q (record { item = at; col = 0 + k })
     has k lt =
@@ -320,83 +351,93 @@ minus_binds n w rels q fit set walk at alias rel path within apart e needs = by 
         let there : is_some (column_kind rels q.items r) ≡ true = ap (λ o. is_some (option_and_then (λ item. slice_get (item_kinds rels item) (0 + k)) o)) e ∙ column_at_there (columns_at rels rel) (0 + k) (subst (λ i. i < length (columns_at rels rel)) (sym (from_nothing k)) lt) in
         record { there = there; source = bound_has_source rels q fit.conds (fit.safe r (record { minus = ap is_minus e; there = there })) there }
 
--- once all columns of a minus item are bound, each column of it is set, and it is whole
-column_bound : (users set : List ℕ) (walk : Option ℕ) (at : ℕ) (cols : List ColDef) (r : Ref) → nat_eq r.item at ≡ true → r.col < length cols → is_set (placed users set (all_bound at cols) walk) r ≡ true
-column_bound users set walk at [] r m lt = absurd (omega arith)
-column_bound users set walk at (c ∷ cs) r m lt =
-    let p = placed users set (all_bound at (c ∷ cs)) walk in
+-- once all columns of a minus item are bound, each column of it is set, it is whole, and so many are counted
+column_bound : (rels : List RelDef) (q : Query) (set : List ℕ) (walk : Option ℕ) (at : ℕ) (cols : List ColDef) (r : Ref) → nat_eq r.item at ≡ true → r.col < length cols → is_set (placed rels q set (all_bound at cols) walk) r ≡ true
+column_bound rels q set walk at [] r m lt = absurd (omega arith)
+column_bound rels q set walk at (c ∷ cs) r m lt =
+    let p = placed rels q set (all_bound at (c ∷ cs)) walk in
     or_set (is_known p r) (nat_eq r.item at && nat_lt r.col (length (c ∷ cs))) (and_from (nat_eq r.item at) (nat_lt r.col (length (c ∷ cs))) m (lt-ltb r.col (length (c ∷ cs)) lt))
 
-all_whole : (n : ℕ) (w : ℕ → ℕ → Bool) (users set : List ℕ) (walk : Option ℕ) (at rel : ℕ) (cols : List ColDef) → at < n → is_among set at ≡ false → w rel (length cols) ≡ true
-    → is_whole n w (placed users set (all_bound at cols) walk) (all_bound at cols) at rel ≡ true
-all_whole n w users set walk at rel [] within apart h = and_from (is_new n (placed users set None walk) at) (w rel 0) (new_one n at users set walk within apart) h
-all_whole n w users set walk at rel (c ∷ cs) within apart h = and_from (nat_eq at at) (w rel (length (c ∷ cs))) (itself at) h
+all_whole : (n : ℕ) (w : ℕ → ℕ → Bool) (rels : List RelDef) (q : Query) (set : List ℕ) (walk : Option ℕ) (at rel : ℕ) (cols : List ColDef) → at < n → is_among set at ≡ false → w rel (length cols) ≡ true
+    → is_whole n w (placed rels q set (all_bound at cols) walk) (all_bound at cols) at rel ≡ true
+all_whole n w rels q set walk at rel [] within apart h = and_from (is_new n (placed rels q set None walk) at) (w rel 0) (new_one n at rels q set walk within apart) h
+all_whole n w rels q set walk at rel (c ∷ cs) within apart h = and_from (nat_eq at at) (w rel (length (c ∷ cs))) (itself at) h
+
+all_counted : (at : ℕ) (cols : List ColDef) → bound_count (all_bound at cols) ≡ length cols
+all_counted at [] = refl
+all_counted at (c ∷ cs) = refl
 
 -- steps lead from where some items are set to where others are, whichever walk is left
-abbrev LeadsOn : ℕ → (ℕ → ℕ → Bool) → Query → List ℕ → Option ℕ → List Step → List ℕ → Type 0
-LeadsOn n w q set walk xs more = (left : Option ℕ) × Leads n w (placed (chosen q set) set None walk) xs (placed (chosen q more) more None left)
+abbrev LeadsOn : ℕ → (ℕ → ℕ → Bool) → List RelDef → Query → List ℕ → Option ℕ → List Step → List ℕ → Type 0
+LeadsOn n w rels q set walk xs more = (left : Option ℕ) × Leads n w (placed rels q set None walk) xs (placed rels q more None left)
 
 due_lead : (n : ℕ) (w : ℕ → ℕ → Bool) (rels : List RelDef) (q : Query) → IsFit rels w q → (set : List ℕ) (at : ℕ) (walk : Option ℕ)
-    → Leads n w (placed (chosen q (at ∷ set)) (at ∷ set) None walk) (map step.Test (due set at q.conds) ++ []) (placed (chosen q (at ∷ set)) (at ∷ set) None walk)
+    → Leads n w (placed rels q (at ∷ set) None walk) (map step.Test (due set at q.conds) ++ []) (placed rels q (at ∷ set) None walk)
 due_lead n w rels q fit set at walk =
-    let p = placed (chosen q (at ∷ set)) (at ∷ set) None walk in
+    let p = placed rels q (at ∷ set) None walk in
     leads_both n w p p p (map step.Test (due set at q.conds)) [] (tests_lead n w p (due set at q.conds) (due_set rels q set at p fit.conds (λ r a k. column_set rels q (at ∷ set) None walk r a k))) refl
 
 -- of an item that is no `Users` item no user is chosen
 none_chosen : (q : Query) (set : List ℕ) (at : ℕ) (alias : List ℕ) (rel : ℕ) (sign : Sign) (path : List Who) → slice_get q.items at ≡ Some (Rel alias rel sign path) → chosen q set ≡ chosen q (at ∷ set)
 none_chosen q set at alias rel sign path e = sym (filter_dropped_one (is_user_at q) at set (ap is_users_item e))
 
+-- what is set, from its parts
+abbrev made : List ℕ → List ℕ → List (ℕ × ℕ) → Option ℕ → Placed
+made users items denied walk = record { users = users; items = items; denied = denied; bound = None; walk = walk }
+
+same_made : (users users' items : List ℕ) (denied denied' : List (ℕ × ℕ)) (walk : Option ℕ) → users ≡ users' → denied ≡ denied' → made users items denied walk ≡ made users' items denied' walk
+same_made users users' items denied denied' walk u d = ap (λ x. made x items denied walk) u ∙ ap (λ x. made users' items x walk) d
+
 item_leads : (n : ℕ) (w : ℕ → ℕ → Bool) (rels : List RelDef) (q : Query) → IsFit rels w q → (set : List ℕ) (walk : Option ℕ) (at : ℕ) (item : Item) → at < n → is_among set at ≡ false → slice_get q.items at ≡ Some item → Needs q set item
-    → LeadsOn n w q set walk (item_steps rels q set at (Some item)) (at ∷ set)
+    → LeadsOn n w rels q set walk (item_steps rels q set at (Some item)) (at ∷ set)
 item_leads n w rels q fit set walk at (Users alias) within apart e needs =
-    let p = placed (chosen q set) set None walk in
-    let end = placed (chosen q (at ∷ set)) (at ∷ set) None walk in
+    let p = placed rels q set None walk in
+    let end = placed rels q (at ∷ set) None walk in
     let test = is_new n p at in
-    let same : placed_if test (with_user p at) ≡ placed_if test end = ap (λ us. placed_if test (placed us (at ∷ set) None walk)) (sym (filter_kept_one (is_user_at q) at set (ap is_users_item e))) in (
+    let same : with_user p at ≡ end = same_made (at ∷ p.users) end.users (at ∷ set) p.denied end.denied walk (sym (filter_kept_one (is_user_at q) at set (ap is_users_item e))) (sym (ap (λ o. denied_more rels at o p.denied) e)) in (
       walk,
       leads_both n w p end end (step.User at ∷ []) (map step.Test (due set at q.conds) ++ [])
-          (leads_one n w p end (step.User at) test same (new_one n at (chosen q set) set walk within apart))
+          (leads_one n w p end (step.User at) test (ap (placed_if test) same) (new_one n at rels q set walk within apart))
           (due_lead n w rels q fit set at walk),
     )
 item_leads n w rels q fit set walk at (Rel alias rel Plus path) within apart e needs =
-    let us = chosen q set in
-    let p = placed us set None walk in
-    let walked = placed us set None (Some at) in
-    let end = placed (chosen q (at ∷ set)) (at ∷ set) None (Some at) in
+    let p = placed rels q set None walk in
+    let walked = placed rels q set None (Some at) in
+    let end = placed rels q (at ∷ set) None (Some at) in
     let test = nat_eq at at && is_new n walked at in
-    let same : placed_if test (with_tuple walked at) ≡ placed_if test end = ap (λ xs. placed_if test (placed xs (at ∷ set) None (Some at))) (none_chosen q set at alias rel Plus path e) in
-    let path_there = path_set q set None (Some at) path needs (fit.users_named at alias rel Plus path e) in (
+    let same : with_tuple walked at ≡ end = same_made p.users end.users (at ∷ set) p.denied end.denied (Some at) (none_chosen q set at alias rel Plus path e) (sym (ap (λ o. denied_more rels at o p.denied) e)) in
+    let path_there = path_set rels q set None (Some at) path needs (fit.users_named at alias rel Plus path e) in (
       Some at,
       leads_both n w p end end (walk_of at path ++ (step.Pos at rel ∷ [])) (map step.Test (due set at q.conds) ++ [])
-          (leads_both n w p walked end (walk_of at path) (step.Pos at rel ∷ []) (walk_leads n w us set None walk at path within path_there)
-          (leads_one n w walked end (step.Pos at rel) test same (and_from (nat_eq at at) (is_new n walked at) (itself at) (new_one n at us set (Some at) within apart))))
+          (leads_both n w p walked end (walk_of at path) (step.Pos at rel ∷ []) (walk_leads n w p at path within path_there)
+          (leads_one n w walked end (step.Pos at rel) test (ap (placed_if test) same) (and_from (nat_eq at at) (is_new n walked at) (itself at) (new_one n at rels q set (Some at) within apart))))
           (due_lead n w rels q fit set at (Some at)),
     )
 item_leads n w rels q fit set walk at (Rel alias rel Minus path) within apart e needs =
     let cols = columns_at rels rel in
-    let us = chosen q set in
     let o = all_bound at cols in
-    let p = placed us set None walk in
-    let b = placed us set o walk in
-    let walked = placed us set o (Some at) in
-    let end = placed (chosen q (at ∷ set)) (at ∷ set) None (Some at) in
+    let p = placed rels q set None walk in
+    let b = placed rels q set o walk in
+    let walked = placed rels q set o (Some at) in
+    let end = placed rels q (at ∷ set) None (Some at) in
     let whole = is_whole n w walked o at rel in
     let test = nat_eq at at && whole in
-    let same : placed_if test (with_all_bound walked at) ≡ placed_if test end = ap (λ xs. placed_if test (placed xs (at ∷ set) None (Some at))) (none_chosen q set at alias rel Minus path e) in
+    let denied : (at, bound_count o) ∷ p.denied ≡ end.denied = ap (λ k. (at, k) ∷ p.denied) (all_counted at cols) ∙ sym (ap (λ i. denied_more rels at i p.denied) e) in
+    let same : with_all_bound walked at ≡ end = same_made p.users end.users (at ∷ set) ((at, bound_count o) ∷ p.denied) end.denied (Some at) (none_chosen q set at alias rel Minus path e) denied in
     let binds = minus_binds n w rels q fit set walk at alias rel path within apart e needs in
     let tests = tests_lead n w b (due set at q.conds) (due_set rels q set at b fit.conds there) in
-    let path_there = path_set q set o (Some at) path needs.0 (fit.users_named at alias rel Minus path e) in
-    let is_there : whole ≡ true = all_whole n w us set (Some at) at rel cols within apart (fit.whole rel (fit.rels_there at alias rel path e)) in (
+    let path_there = path_set rels q set o (Some at) path needs.0 (fit.users_named at alias rel Minus path e) in
+    let is_there : whole ≡ true = all_whole n w rels q set (Some at) at rel cols within apart (fit.whole rel (fit.rels_there at alias rel path e)) in (
       Some at,
       leads_both n w p b end (binds_from rels q at 0 cols) (map step.Test (due set at q.conds) ++ (walk_of at path ++ (step.Neg at rel ∷ []))) binds
           (leads_both n w b b end (map step.Test (due set at q.conds)) (walk_of at path ++ (step.Neg at rel ∷ [])) tests
-          (leads_both n w b walked end (walk_of at path) (step.Neg at rel ∷ []) (walk_leads n w us set o walk at path within path_there)
-          (leads_one n w walked end (step.Neg at rel) test same (and_from (nat_eq at at) whole (itself at) is_there)))),
+          (leads_both n w b walked end (walk_of at path) (step.Neg at rel ∷ []) (walk_leads n w b at path within path_there)
+          (leads_one n w walked end (step.Neg at rel) test (ap (placed_if test) same) (and_from (nat_eq at at) whole (itself at) is_there)))),
     )
   where
-    there : (r : Ref) → is_among (at ∷ set) r.item ≡ true → is_some (column_kind rels q.items r) ≡ true → is_set (placed (chosen q set) set (all_bound at (columns_at rels rel)) walk) r ≡ true
+    there : (r : Ref) → is_among (at ∷ set) r.item ≡ true → is_some (column_kind rels q.items r) ≡ true → is_set (placed rels q set (all_bound at (columns_at rels rel)) walk) r ≡ true
     there r a k = elim (or_cases (nat_eq r.item at) (is_among set r.item) a) [
-      | inl m ↦ column_bound (chosen q set) set walk at (columns_at rels rel) r m (column_within rels q.items r alias rel path (ap (slice_get q.items) (eqb-true r.item at m) ∙ e) k)
+      | inl m ↦ column_bound rels q set walk at (columns_at rels rel) r m (column_within rels q.items r alias rel path (ap (slice_get q.items) (eqb-true r.item at m) ∙ e) k)
       | inr m ↦ column_set rels q set (all_bound at (columns_at rels rel)) walk r m k
     ]
 
@@ -408,17 +449,17 @@ OrderFits q set [] = Unit {0}
 OrderFits q set (at ∷ order) = ((item : Item) × (slice_get q.items at ≡ Some item) × (is_among set at ≡ false) × Needs q set item) × OrderFits q (at ∷ set) order
 
 order_leads : (w : ℕ → ℕ → Bool) (rels : List RelDef) (q : Query) → IsFit rels w q → (set order : List ℕ) (walk : Option ℕ) → OrderFits q set order
-    → LeadsOn (length q.items) w q set walk (steps_from rels q set order) (set_after set order)
+    → LeadsOn (length q.items) w rels q set walk (steps_from rels q set order) (set_after set order)
 order_leads w rels q fit set [] walk h = (walk, refl)
 order_leads w rels q fit set (at ∷ order) walk h =
     let n = length q.items in
     let (item, is, apart, needs) = h.0 in
-    let one : LeadsOn n w q set walk (item_steps rels q set at (slice_get q.items at)) (at ∷ set) =
-    subst (λ o. LeadsOn n w q set walk (item_steps rels q set at o) (at ∷ set)) (sym is) (item_leads n w rels q fit set walk at item (slice_get_within q.items at item is) apart is needs) in
+    let one : LeadsOn n w rels q set walk (item_steps rels q set at (slice_get q.items at)) (at ∷ set) =
+    subst (λ o. LeadsOn n w rels q set walk (item_steps rels q set at o) (at ∷ set)) (sym is) (item_leads n w rels q fit set walk at item (slice_get_within q.items at item is) apart is needs) in
     let rest = order_leads w rels q fit (at ∷ set) order one.0 h.1 in
-    let p = placed (chosen q set) set None walk in
-    let more = placed (chosen q (at ∷ set)) (at ∷ set) None one.0 in
-    let end = placed (chosen q (set_after set (at ∷ order))) (set_after set (at ∷ order)) None rest.0 in
+    let p = placed rels q set None walk in
+    let more = placed rels q (at ∷ set) None one.0 in
+    let end = placed rels q (set_after set (at ∷ order)) None rest.0 in
     (rest.0, leads_both n w p more end (item_steps rels q set at (slice_get q.items at)) (steps_from rels q (at ∷ set) order) one.1 rest.1)
 
 -- the item at a place passes
@@ -632,7 +673,7 @@ plan_is_fit w catalog q whole fits safe =
     let end = set_after [] order in
     let leads = order_leads w rels q fit [] order None (order_fits catalog q items.0) in
     ap (takes_set q.take) leads.1
-    ∙ list_all_weaker (λ r. is_some (column_kind rels q.items r)) (is_set (placed (chosen q end) end None leads.0)) (λ r e. column_set rels q end None leads.0 r (comes_set [] order r.item (there_in_order rels q.items r e)) e) q.take rest.0
+    ∙ list_all_weaker (λ r. is_some (column_kind rels q.items r)) (is_set (placed rels q end None leads.0)) (λ r e. column_set rels q end None leads.0 r (comes_set [] order r.item (there_in_order rels q.items r e)) e) q.take rest.0
 
 -- ---- relations of a valid catalog
 
