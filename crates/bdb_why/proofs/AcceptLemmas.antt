@@ -1,5 +1,5 @@
 -- A checker accepts exactly the certificate.
-use Rattle.std.proofs.Common.{◌≡◌, ◌∙◌, ℕ, Bool, true, false, not, ◌&&◌, ◌||◌, nat_eq, List, [], ◌∷◌, refl, ap, sym, inl, inr, Some, None, Option, filter, find, map, length, subst, arith}
+use Rattle.std.proofs.Common.{◌≡◌, ◌∙◌, ℕ, true, false, not, ◌&&◌, nat_eq, List, [], ◌∷◌, refl, ap, sym, inl, inr, Some, None, Option, filter, find, map, length, arith}
 use Rattle.std.specs.Bool.{Decides}
 use Rattle.std.specs.List.{list_any, list_all}
 use Rattle.std.specs.Option.{is_some}
@@ -15,8 +15,8 @@ use Rattle.bdb_base.specs.Order.{tuple_cmp}
 use Rattle.bdb_base.specs.OrderLemmas.{tuple_exact, is_eq_tuple_cmp}
 use Rattle.bdb_base.specs.Same.{same_tuple, same_statement}
 use Rattle.bdb_base.specs.SameLemmas.{same_tuple-Decides, same_statement-Decides}
-use Rattle.bdb_base.specs.SortedSet.{ascending, is_member, sorted_set}
-use Rattle.bdb_base.specs.Worlds.{stated, believes, IsConsistent}
+use Rattle.bdb_base.specs.SortedSet.{ascending}
+use Rattle.bdb_base.specs.Worlds.{stated, IsConsistent}
 use Rattle.bdb_base.proofs.CountLemmas.{list_any-map}
 use Rattle.bdb_base.proofs.FirstLemmas.{same_statement_itself}
 use Rattle.bdb_base.proofs.LeastLemmas.{find_passes}

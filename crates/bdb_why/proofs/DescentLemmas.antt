@@ -1,5 +1,5 @@
 -- What the code finds at a level is what the definition says of it.
-use Rattle.std.proofs.Common.{◌≡◌, ◌∙◌, ℕ, ◌+◌, ◌-◌, ◌<◌, ◌≤◌, Bool, true, false, ◌&&◌, List, [], ◌∷◌, refl, ap, sym, Some, None, Option, filter, length, drop, arith}
+use Rattle.std.proofs.Common.{◌≡◌, ◌∙◌, ℕ, ◌+◌, ◌<◌, ◌≤◌, true, false, ◌&&◌, List, [], ◌∷◌, ap, sym, Some, None, filter, length, drop, arith}
 use Rattle.std.proofs.lemmas.Bool.{and_parts}
 use Rattle.bdb_base.specs.declared.kinds.Sign.{Sign}
 use Rattle.bdb_base.specs.declared.kinds.Stmt.{Stmt}
@@ -7,7 +7,6 @@ use Rattle.bdb_base.specs.declared.tuple.Tuple.{Tuple}
 use Rattle.bdb_base.specs.Clash.{clash}
 use Rattle.bdb_base.specs.Same.{same_path, same_tuple, same_sign}
 use Rattle.bdb_base.specs.Worlds.{explicit, least_clash}
-use Rattle.bdb_why.specs.declared.kinds.Ground.{Ground}
 use Rattle.bdb_why.specs.declared.kinds.Ground.TheVariants.{Found, Blocked, Nowhere}
 use Rattle.bdb_why.specs.Grounds.{ground_by, ground_from}
 use Rattle.bdb_why.proofs.FindLemmas.{any_kept, find_kept}

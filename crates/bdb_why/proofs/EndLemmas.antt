@@ -1,14 +1,13 @@
 -- Grounds and ends of paths by states and suffix links.
-use Rattle.std.proofs.Common.{◌≡◌, ◌∙◌, ℕ, ◌+◌, ◌-◌, ◌≤◌, Bool, true, false, not, ◌&&◌, ◌||◌, cond, List, [], ◌∷◌, refl, ap, sym, inl, inr, suc, Some, None, Option, find, length, filter, arith}
-use Rattle.std.specs.List.{list_any}
-use Rattle.std.proofs.lemmas.Bool.{cases_Bool, cond-true, cond-false}
+use Rattle.std.proofs.Common.{◌≡◌, ◌∙◌, ℕ, ◌+◌, ◌-◌, ◌≤◌, Bool, true, false, ◌&&◌, List, [], ◌∷◌, refl, ap, sym, inl, inr, length, arith}
+use Rattle.std.proofs.lemmas.Bool.{cases_Bool}
 use Rattle.bdb_base.specs.declared.kinds.Sign.{Sign}
 use Rattle.bdb_base.specs.declared.kinds.Stmt.{Stmt}
 use Rattle.bdb_base.specs.declared.tuple.Tuple.{Tuple}
 use Rattle.bdb_base.specs.Clash.{clash}
 use Rattle.bdb_base.specs.Same.{same_path, same_tuple, same_sign}
 use Rattle.bdb_base.specs.States.{is_state, deepest_suffix, suffix_link}
-use Rattle.bdb_base.specs.Worlds.{explicit, least_clash}
+use Rattle.bdb_base.specs.Worlds.{least_clash}
 use Rattle.bdb_base.proofs.ListLemmas.{filter_kept_one, filter_dropped_one}
 use Rattle.bdb_base.proofs.WorldLemmas.{nothing_stands}
 use Rattle.bdb_paths.proofs.SuffixLemmas.{deepest_here, deepest_past, length-deepest}

@@ -1,8 +1,8 @@
 -- Tests of lists: what some item passes, what is found first, and what a filter keeps.
-use Rattle.std.proofs.Common.{◌≡◌, ◌∙◌, Bool, true, false, not, ◌&&◌, ◌||◌, cond, List, [], ◌∷◌, refl, ap, sym, inl, inr, Some, None, Option, filter, find, map}
+use Rattle.std.proofs.Common.{◌≡◌, ◌∙◌, Bool, true, false, ◌&&◌, ◌||◌, cond, List, [], ◌∷◌, refl, ap, sym, inl, inr, Some, None, filter, find, map}
 use Rattle.std.specs.List.{list_any, list_all}
 use Rattle.std.specs.Option.{is_some}
-use Rattle.std.proofs.lemmas.Bool.{cases_Bool, and_parts, and_from, or_parts, or_from, or_cases, or_left, or_right, false≢true, cond-true, cond-false}
+use Rattle.std.proofs.lemmas.Bool.{cases_Bool, and_parts, and_from, or_parts, or_cases, or_left, or_right, false≢true, cond-true, cond-false}
 use Rattle.bdb_base.proofs.ListLemmas.{filter_kept_one, filter_dropped_one}
 
 -- two tests that follow from each other are one

@@ -1,16 +1,16 @@
 -- A ground is found exactly where the world has the signed tuple.
-use Rattle.std.proofs.Common.{◌≡◌, ◌∙◌, ℕ, ◌+◌, Bool, true, false, not, ◌&&◌, ◌||◌, List, [], ◌∷◌, refl, ap, sym, Some, None, Option, find}
+use Rattle.std.proofs.Common.{◌≡◌, ◌∙◌, ℕ, ◌+◌, Bool, true, false, not, ◌&&◌, ◌||◌, List, [], ◌∷◌, refl, ap, sym, Some, None, Option}
 use Rattle.std.specs.Option.{is_some}
 use Rattle.bdb_base.specs.declared.kinds.Sign.{Sign}
 use Rattle.bdb_base.specs.declared.kinds.Stmt.{Stmt}
 use Rattle.bdb_base.specs.declared.tuple.Tuple.{Tuple}
 use Rattle.bdb_base.specs.Clash.{clash}
 use Rattle.bdb_base.specs.Same.{same_path}
-use Rattle.bdb_base.specs.Worlds.{explicit, contradicted, least_clash, stated}
+use Rattle.bdb_base.specs.Worlds.{explicit, least_clash, stated}
 use Rattle.bdb_base.proofs.ListLemmas.{or_false}
 use Rattle.bdb_why.specs.declared.kinds.Ground.{Ground}
-use Rattle.bdb_why.specs.declared.kinds.Ground.TheVariants.{Found, Blocked, Nowhere}
-use Rattle.bdb_why.specs.Grounds.{ground_by, ground_from, ground_of, is_found}
+use Rattle.bdb_why.specs.declared.kinds.Ground.TheVariants.{Nowhere}
+use Rattle.bdb_why.specs.Grounds.{ground_by, ground_from, is_found}
 use Rattle.bdb_why.specs.WhyLaws.{StatedIsFound}
 use Rattle.bdb_why.proofs.FindLemmas.{and_true, and_false, find_some}
 

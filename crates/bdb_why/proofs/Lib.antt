@@ -1,9 +1,15 @@
 pub mod AcceptLemmas
+pub mod CallLemmas
 pub mod CheckLemmas
 pub mod DescentLemmas
 pub mod EndLemmas
 pub mod FindLemmas
+pub mod FirstKeyLemmas
 pub mod GroundLemmas
+pub mod HereLemmas
+pub mod LinkLemmas
 pub mod LookLemmas
 pub mod NearLemmas
+pub mod NearSetLemmas
+pub mod NearbyLemmas
 pub mod RivalLemmas

@@ -1,7 +1,7 @@
 -- The steps of the loops over statements and over rivals.
-use Rattle.std.proofs.Common.{◌≡◌, ◌∙◌, ℕ, ◌+◌, ◌<◌, ◌≤◌, Bool, true, false, cond, List, [], ◌∷◌, ◌++◌, refl, ap, sym, inl, inr, Some, None, Option, filter, find, map, length, drop, get_or, append_assoc}
+use Rattle.std.proofs.Common.{◌≡◌, ◌∙◌, ℕ, ◌+◌, ◌<◌, ◌≤◌, Bool, true, cond, List, [], ◌∷◌, ap, sym, inl, inr, filter, map, length, drop, get_or}
 use Rattle.std.proofs.lemmas.Bool.{cases_Bool, cond-true, cond-false}
-use Rattle.std.proofs.lemmas.List.{append-nil, drop_more, drop_all}
+use Rattle.std.proofs.lemmas.List.{drop_more, drop_all}
 use Rattle.bdb_base.specs.declared.kinds.Stmt.{Stmt}
 use Rattle.bdb_base.specs.declared.tuple.Tuple.{Tuple}
 use Rattle.bdb_base.specs.Order.{tuple_cmp}
@@ -9,11 +9,6 @@ use Rattle.bdb_base.specs.OrderLemmas.{tuple_exact}
 use Rattle.bdb_base.specs.SortedSet.{ascending, put_all, put_in, sorted_set}
 use Rattle.bdb_base.proofs.ListLemmas.{filter_kept_one, filter_dropped_one}
 use Rattle.bdb_base.proofs.SetLemmas.{loop_makes_set, put_keeps_order}
-use Rattle.bdb_why.specs.declared.among.Searched.{Searched}
-use Rattle.bdb_why.specs.declared.among.Searched.TheVariants.{Held, Others}
-use Rattle.bdb_why.specs.declared.kinds.Ruled.{Ruled}
-use Rattle.bdb_why.specs.Certificates.{is_held}
-use Rattle.bdb_why.specs.Searching.{held_or, searched_by}
 
 -- the tuples of statements that pass
 abbrev pub tuples_where : (Stmt → Bool) → List Stmt → List Tuple

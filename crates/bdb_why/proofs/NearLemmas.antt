@@ -1,8 +1,8 @@
 -- A certificate depends on the statements near the path, and those stand at the states among its ends.
-use Rattle.std.proofs.Common.{◌≡◌, ◌∙◌, ℕ, ◌+◌, Bool, true, false, not, ◌&&◌, ◌||◌, List, [], ◌∷◌, refl, ap, sym, inl, inr, Some, None, Option, filter, find, map}
-use Rattle.std.specs.List.{list_any, list_all, flat_map}
+use Rattle.std.proofs.Common.{◌≡◌, ◌∙◌, ℕ, ◌+◌, Bool, true, false, ◌&&◌, List, [], ◌∷◌, refl, ap, sym, inl, inr, filter, map}
+use Rattle.std.specs.List.{list_any, flat_map}
 use Rattle.std.specs.Ordering.{is_eq}
-use Rattle.std.proofs.lemmas.Bool.{cases_Bool, and_parts, and_from, or_cases, or_left, or_right, false≢true}
+use Rattle.std.proofs.lemmas.Bool.{and_parts, and_from, or_cases, or_left, or_right, false≢true}
 use Rattle.bdb_base.specs.declared.kinds.Sign.{Sign}
 use Rattle.bdb_base.specs.declared.kinds.Sign.TheVariants.{Plus, Minus}
 use Rattle.bdb_base.specs.declared.kinds.Stmt.{Stmt}
@@ -13,7 +13,7 @@ use Rattle.bdb_base.specs.OrderLemmas.{statement_exact}
 use Rattle.bdb_base.specs.Same.{same_path, same_tuple, same_sign, same_statement}
 use Rattle.bdb_base.specs.SameLemmas.{same_path-Decides, same_tuple-Decides, same_statement-Decides}
 use Rattle.bdb_base.specs.Segments.{is_prefix, is_suffix}
-use Rattle.bdb_base.specs.SortedSet.{sorted_set, is_member}
+use Rattle.bdb_base.specs.SortedSet.{sorted_set}
 use Rattle.bdb_base.specs.States.{is_state}
 use Rattle.bdb_base.specs.Worlds.{explicit, least_clash}
 use Rattle.bdb_base.proofs.ClashLemmas.{same_key_turned}

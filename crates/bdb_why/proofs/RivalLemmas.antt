@@ -1,21 +1,20 @@
 -- Rivals: what counts of them, that at most one is found, and that a certificate says what the path believes.
-use Rattle.std.proofs.Common.{◌≡◌, ◌∙◌, ℕ, Bool, true, false, not, ◌&&◌, ◌||◌, nat_eq, cond, List, [], ◌∷◌, refl, ap, sym, inl, inr, Some, None, Option, filter, find, map}
+use Rattle.std.proofs.Common.{◌≡◌, ◌∙◌, ℕ, Bool, true, false, not, ◌&&◌, ◌||◌, nat_eq, List, [], ◌∷◌, refl, ap, sym, inl, inr, Some, None, Option, filter, find, map}
 use Rattle.std.specs.List.{list_any, list_all}
 use Rattle.std.specs.Option.{is_some}
-use Rattle.std.proofs.lemmas.Bool.{cases_Bool, and_parts, and_from, or_cases, or_left, or_right, false≢true, eqb-true, eq-eqb, cond-true, cond-false}
+use Rattle.std.proofs.lemmas.Bool.{cases_Bool, and_parts, and_from, or_left, or_right, false≢true, eqb-true, eq-eqb, cond-true, cond-false}
 use Rattle.bdb_base.specs.declared.kinds.Sign.{Sign}
 use Rattle.bdb_base.specs.declared.kinds.Sign.TheVariants.{Plus, Minus}
 use Rattle.bdb_base.specs.declared.kinds.Stmt.{Stmt}
 use Rattle.bdb_base.specs.declared.tuple.Tuple.{Tuple}
 use Rattle.bdb_base.specs.Clash.{clash, same_key, key_of}
 use Rattle.bdb_base.specs.Order.{tuple_cmp}
-use Rattle.bdb_base.specs.OrderLemmas.{tuple_exact, is_eq_tuple_cmp}
+use Rattle.bdb_base.specs.OrderLemmas.{tuple_exact}
 use Rattle.bdb_base.specs.Same.{same_path, same_tuple, same_sign, same_values}
-use Rattle.bdb_base.specs.SameLemmas.{same_tuple-Decides, same_sign-Decides, same_values-Decides}
+use Rattle.bdb_base.specs.SameLemmas.{same_tuple-Decides, same_values-Decides}
 use Rattle.bdb_base.specs.Segments.{is_suffix}
-use Rattle.bdb_base.specs.SortedSet.{sorted_set, is_member}
-use Rattle.bdb_base.specs.Worlds.{explicit, contradicted, stated, believes, IsConsistent}
-use Rattle.bdb_base.proofs.ClashLemmas.{same_key_turned}
+use Rattle.bdb_base.specs.SortedSet.{sorted_set}
+use Rattle.bdb_base.specs.Worlds.{stated}
 use Rattle.bdb_base.proofs.CountLemmas.{list_any-map}
 use Rattle.bdb_base.proofs.ListLemmas.{or_false}
 use Rattle.bdb_base.proofs.SetLemmas.{list_any-sorted_set, list_all-put_in}
@@ -24,7 +23,7 @@ use Rattle.bdb_paths.proofs.StateLemmas.{list_any_same}
 use Rattle.bdb_why.specs.declared.kinds.Ground.{Ground}
 use Rattle.bdb_why.specs.declared.kinds.Ruled.{Ruled}
 use Rattle.bdb_why.specs.declared.kinds.Why.TheVariants as why
-use Rattle.bdb_why.specs.Certificates.{is_rival_near, rivals, ruled_of, considered, is_held, other_or, why_by, why_of, says}
+use Rattle.bdb_why.specs.Certificates.{is_rival_near, rivals, ruled_of, considered, is_held, other_or, why_by, says}
 use Rattle.bdb_why.specs.Grounds.{ground_of, is_found}
 use Rattle.bdb_why.specs.WhyLaws.{SaysIsBelief, OneRivalIsFound}
 use Rattle.bdb_why.proofs.GroundLemmas.{stated_is_found}

@@ -2,14 +2,18 @@
 #![tactic(auto)]
 
 mod among;
+mod asking;
 mod checking;
+mod descent;
 mod grounds;
 mod kinds;
 pub mod laws;
+mod nearby;
 mod rivals;
 #[cfg(test)]
 mod tests;
 
 pub use among::why_among;
+pub use asking::why;
 pub use checking::{check_why, check_why_among};
 pub use kinds::{Ground, Ruled, Why, says};

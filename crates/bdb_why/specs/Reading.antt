@@ -1,0 +1,65 @@
+-- What is read of tables on the way down a path, from one state among its ends to the next.
+use Rattle.std.specs.Prelude.{◌≡◌, ℕ, ◌+◌, ◌≤◌, ◌*◌, true, List, ◌∷◌, length, map, Some}
+use Rattle.std.specs.List.{list_all}
+use Rattle.bdb_base.specs.Bases.{Contents, fits_relation, key_lengths}
+use Rattle.bdb_base.specs.Order.{statement_cmp}
+use Rattle.bdb_base.specs.SortedSet.{put_all}
+use Rattle.bdb_base.specs.States.{deepest_suffix}
+use Rattle.bdb_base.specs.declared.kinds.Sign.TheVariants.{Plus, Minus}
+use Rattle.bdb_base.specs.declared.kinds.Stmt.{Stmt}
+use Rattle.bdb_base.specs.declared.tuple.Tuple.{Tuple}
+use Rattle.bdb_keep.specs.Tables.{Tables}
+use Rattle.bdb_tables.specs.Names.{path_of, number_of, is_named}
+use Rattle.bdb_tables.specs.States.{HoldsStates}
+use Rattle.bdb_worlds.specs.Holding.{Worlds}
+use Rattle.bdb_catalog.specs.Bases.{StoresValid}
+use Rattle.bdb_catalog.specs.Taking.{statement_at}
+use Rattle.bdb_why.specs.Ends.{near_at}
+use Rattle.bdb_why.specs.Stored.{rows_of_key}
+
+-- a number stands for the deepest state that a path ends in, which has so many users
+pub record IsDeepest (s : Worlds) (w : List ℕ) (at : ℕ × ℕ) : Type 0 where
+  pub number : number_of s.names (deepest_suffix (is_named s.names) w) ≡ Some at.0
+  pub depth : at.1 ≡ length (deepest_suffix (is_named s.names) w)
+
+-- whichever states the tables hold over users among whom are those of a path, of which the other is an end
+abbrev pub EndsAt : Tables → List ℕ → List ℕ → ℕ × ℕ → Type 0
+EndsAt t path w at = (s : Worlds) → HoldsStates s.users s.names t → list_all s.users path ≡ true → IsDeepest s w at
+
+-- tables hold some states, for one of which a number stands
+pub record SomeHaveState (t : Tables) (wid : ℕ) : Type 0 where
+  pub worlds : Worlds
+  pub states : HoldsStates worlds.users worlds.names t
+  pub path : List ℕ
+  pub named : path_of worlds.names wid ≡ Some path
+
+-- tables hold some states, for one of which but the root a number stands
+pub record SomeHaveLink (t : Tables) (wid : ℕ) : Type 0 where
+  pub worlds : Worlds
+  pub states : HoldsStates worlds.users worlds.names t
+  pub user : ℕ
+  pub rest : List ℕ
+  pub named : path_of worlds.names wid ≡ Some (user ∷ rest)
+
+-- whichever states the tables hold, the number stands for a path of so many users
+abbrev pub HasDepth : Tables → ℕ → ℕ → Type 0
+HasDepth t wid depth = (s : Worlds) → HoldsStates s.users s.names t → (w : List ℕ) → path_of s.names wid ≡ Some w → depth ≡ length w
+
+-- whichever states the tables hold, the suffix link of the number's path leads to this world
+abbrev pub LinksTo : Tables → ℕ → ℕ × ℕ → Type 0
+LinksTo t wid at = (s : Worlds) → HoldsStates s.users s.names t → (i : ℕ) (w : List ℕ) → path_of s.names wid ≡ Some (i ∷ w) → IsDeepest s w at
+
+-- Whichever valid base the tables store, of which a relation fits the tuple: where the number stands for a path in it, its
+-- statements at this very path with the tuple's relation and key were put into a set.
+abbrev pub PutsNear : Tables → ℕ → List ℕ → Tuple → List Stmt → List Stmt → Type 0
+PutsNear t wid w u xs ys = (b : Contents) (h : StoresValid t b) → fits_relation b.catalog.rels u ≡ true → path_of h.stored.names wid ≡ Some w
+    → ys ≡ put_all statement_cmp xs (near_at (key_lengths b.catalog.rels) b.stmts u w)
+
+-- then the count of reads rises by four for each row of the key in its world, and two, at most
+abbrev pub ReadsHere : Tables → ℕ → List ℕ → Tuple → ℕ → ℕ → Type 0
+ReadsHere t wid w u before now = (b : Contents) (h : StoresValid t b) → fits_relation b.catalog.rels u ≡ true → path_of h.stored.names wid ≡ Some w
+    → now ≤ before + (4 * length (rows_of_key (key_lengths b.catalog.rels) b.stmts u w) + 2)
+
+-- a set with statements at a path put in, those of some tuples with plus, and those of others with minus
+abbrev pub with_both : List ℕ → List Stmt → List Tuple → List Tuple → List Stmt
+with_both w xs said denied = put_all statement_cmp (put_all statement_cmp xs (map (statement_at w Plus) said)) (map (statement_at w Minus) denied)

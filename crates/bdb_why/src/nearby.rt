@@ -1,0 +1,148 @@
+// The statements near a path, read from the rows of the worlds of its ends.
+ghost use Rattle.std.specs.Prelude.{◌≡◌, true, map, IfOk, OnOk};
+ghost use Rattle.bdb_base.specs.Alternation.{alternates};
+ghost use Rattle.bdb_base.specs.Order.{statement_cmp};
+ghost use Rattle.bdb_base.specs.SortedSet.{ascending, put_all};
+ghost use Rattle.bdb_keep.specs.Calls.{IsRead};
+ghost use Rattle.bdb_keep.specs.Seen.{NeverFall, Steps};
+ghost use Rattle.bdb_tables.specs.Grammar.{InGrammar};
+ghost use Rattle.bdb_val.specs.Reads.{HaveTuples};
+ghost use Rattle.bdb_catalog.specs.Taking.{statement_at};
+ghost use Rattle.bdb_why.specs.Reading.{PutsNear, ReadsHere, with_both};
+ghost use Rattle.bdb_why.specs.Stored.{AreNear, ReadsNear, SomeMayAsk};
+
+use crate::descent::{deepest_end, next_end};
+use bdb_base::{List, Path, Sign, Stmt, Tuple, key_of, put};
+use bdb_catalog::explicit_tuples;
+use bdb_keep::Keeper;
+use bdb_tables::TabError;
+use std::alloc::{AllocError, Global};
+
+/// The statements at the path's ends whose tuples have the relation and key, in order. The ends that are states are found by
+/// suffix links; at the others no statement stands.
+pub fn near_statements<K: Keeper>(
+    alloc: Global,
+    keeper: &mut K,
+    path: &[u32],
+    t: &Tuple,
+) -> Result<List<Stmt>, TabError>
+    requires base { SomeMayAsk (K.seen keeper.old).kept path.now t.now }
+    requires apart { alternates path.now ≡ true }
+    ensures near { IfOk result (AreNear (K.seen keeper.old).kept path.now t.now) }
+    ensures sorted { IfOk result (λ stmts. ascending statement_cmp stmts ≡ true) }
+    ensures reads { OnOk result (ReadsNear (K.seen keeper.old) (K.seen keeper.new) path.now t.now) }
+    ensures kept { OnOk result ((K.seen keeper.new).kept ≡ (K.seen keeper.old).kept) }
+    ensures writes { (K.seen keeper.new).writes ≡ (K.seen keeper.old).writes }
+    ensures counts { NeverFall (K.seen keeper.old) (K.seen keeper.new) }
+    ensures steps { Steps (K.seen keeper.old) (K.seen keeper.new) result TabError.Fault }
+{
+    let mut at = match deepest_end(alloc, keeper, path) {
+        Ok(at) => at,
+        Err(error) => return Err(error),
+    };
+    let mut stmts = List::new(alloc);
+    let mut rest = path;
+    while let [_, others @ ..] = rest {
+        let end = rest;
+        rest = others;
+        if at.1 as usize != end.len() {
+            continue;
+        }
+        match put_near(alloc, keeper, at.0, end, t, &mut stmts) {
+            Ok(()) => {}
+            Err(error) => return Err(error),
+        }
+        at = match next_end(alloc, keeper, at.0) {
+            Ok(next) => next,
+            Err(error) => return Err(error),
+        };
+    }
+    match put_near(alloc, keeper, at.0, rest, t, &mut stmts) {
+        Ok(()) => Ok(stmts),
+        Err(error) => Err(error),
+    }
+}
+
+/// Puts the statements of the path of a number that have the tuple's relation and key into a set.
+fn put_near<K: Keeper>(
+    alloc: Global,
+    keeper: &mut K,
+    wid: u32,
+    path: &[u32],
+    t: &Tuple,
+    stmts: &mut List<Stmt>,
+) -> Result<(), TabError>
+    requires grammar { InGrammar (K.seen keeper.old).kept }
+    requires tuples { HaveTuples (K.seen keeper.old).kept }
+    requires apart { alternates path.now ≡ true }
+    requires sorted { ascending statement_cmp stmts.old ≡ true }
+    ensures put { OnOk result (PutsNear (K.seen keeper.old).kept wid path.now t.now stmts.old stmts.new) }
+    ensures sorted { OnOk result (ascending statement_cmp stmts.new ≡ true) }
+    ensures reads { OnOk result (ReadsHere (K.seen keeper.old).kept wid path.now t.now (K.seen keeper.old).reads (K.seen keeper.new).reads) }
+    ensures read { IsRead (K.seen keeper.old) (K.seen keeper.new) result TabError.Fault }
+{
+    let key = key_of(t);
+    let said = match explicit_tuples(alloc, keeper, wid, Sign::Plus, t.rel, Some(key)) {
+        Ok(said) => said,
+        Err(error) => return Err(error),
+    };
+    let denied = match explicit_tuples(alloc, keeper, wid, Sign::Minus, t.rel, Some(key)) {
+        Ok(denied) => denied,
+        Err(error) => return Err(error),
+    };
+    match put_both(alloc, stmts, path, said, denied) {
+        Ok(()) => Ok(()),
+        Err(_) => {
+            keeper.undo();
+            Err(TabError::Memory)
+        }
+    }
+}
+
+/// Puts statements at a path into a set: those of some tuples with plus, and those of others with minus.
+fn put_both(
+    alloc: Global,
+    stmts: &mut List<Stmt>,
+    path: &[u32],
+    said: Vec<Tuple>,
+    denied: Vec<Tuple>,
+) -> Result<(), AllocError>
+    requires apart { alternates path.now ≡ true }
+    requires sorted { ascending statement_cmp stmts.old ≡ true }
+    ensures { OnOk result (stmts.new ≡ with_both path.now stmts.old said.items denied.items) }
+{
+    put_tuples(alloc, stmts, path, Sign::Plus, said)?;
+    put_tuples(alloc, stmts, path, Sign::Minus, denied)?;
+    Ok(())
+}
+
+/// Puts the statements of tuples at a path, with one sign, into a set.
+fn put_tuples(
+    alloc: Global,
+    stmts: &mut List<Stmt>,
+    path: &[u32],
+    sign: Sign,
+    tuples: Vec<Tuple>,
+) -> Result<(), AllocError>
+    requires apart { alternates path.now ≡ true }
+    requires sorted { ascending statement_cmp stmts.old ≡ true }
+    ensures put { OnOk result (stmts.new ≡ put_all statement_cmp stmts.old (map (statement_at path.now sign) tuples.items)) }
+    ensures sorted { OnOk result (ascending statement_cmp stmts.new ≡ true) }
+{
+    for tuple in tuples {
+        let path = path_of(alloc, path)?;
+        put(stmts, Stmt { path, sign, tuple })?;
+    }
+    Ok(())
+}
+
+/// The path of these users, no two neighbours of whom are equal.
+fn path_of(alloc: Global, users: &[u32]) -> Result<Path, AllocError>
+    requires { alternates users.now ≡ true }
+    ensures { IfOk result (λ path. path ≡ users.now) }
+{
+    match Path::try_new(alloc, users) {
+        Ok(path) => Ok(path),
+        Err(_) => Err(AllocError),
+    }
+}
