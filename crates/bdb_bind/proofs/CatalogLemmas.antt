@@ -5,17 +5,15 @@ use Rattle.std.specs.List.{list_all, slice_get}
 use Rattle.std.proofs.lemmas.Bool.{cases_Bool, and_parts, cond-true, cond-false, leb-true, ltb-true, eqb-true, not-false}
 use Rattle.bdb_base.specs.declared.kinds.Catalog.{Catalog}
 use Rattle.bdb_base.specs.declared.kinds.RelDef.{RelDef}
-use Rattle.bdb_base.specs.declared.kinds.Sign.{Sign}
 use Rattle.bdb_base.specs.declared.kinds.Value.{Value}
 use Rattle.bdb_base.specs.Limits.{most_users, most_relations, most_columns}
 use Rattle.bdb_base.specs.Alternation.{alternates}
 use Rattle.bdb_base.specs.Bases.{IsCatalog, is_valid_relation}
 use Rattle.bdb_base.specs.Same.{same_text}
 use Rattle.bdb_syntax.specs.declared.command.Command.{Command}
-use Rattle.bdb_syntax.specs.declared.command.Command.TheVariants.{Insert}
 use Rattle.bdb_bind.specs.Lookup.{number_of, columns_in, columns_of, path_of}
-use Rattle.bdb_bind.specs.Parts.{path_names, relation_name, relation_place, columns_for, change_columns}
-use Rattle.bdb_bind.specs.Lines.{relation_line, arity_line}
+use Rattle.bdb_bind.specs.Parts.{path_names, relation_name, tuple_values, relation_place, columns_for, change_columns}
+use Rattle.bdb_bind.specs.Lines.{unknown_relation, relation_line, values_arity, arity_line}
 use Rattle.bdb_bind.specs.Refusal.{names_refused}
 use Rattle.bdb_bind.proofs.Founds.{IsFound, found, is_there}
 use Rattle.bdb_bind.proofs.PathLemmas.{path_alternates}
@@ -66,27 +64,33 @@ accepted_alternates catalog c names accepted same =
     ap (λ n. alternates (path_of catalog.users n)) same
     ∙ path_alternates catalog.users (path_names c) (users_known catalog c clear.user) (names_apart c clear.no_repeat)
 
--- the relation of an insert is there
-pub insert_relation : (catalog : Catalog) (users : List (List ℕ)) (sign : Sign) (rel : List ℕ) (vals : List Value)
-    → relation_line catalog (Insert users sign rel vals) ≡ None → is_some (number_of catalog.rels rel) ≡ true
+-- the relation that a command names is there
+pub named_relation : (catalog : Catalog) (c : Command) (rel : List ℕ) → relation_name c ≡ Some rel → relation_line catalog c ≡ None
+    → is_some (number_of catalog.rels rel) ≡ true
 unfolding relation_line
-insert_relation catalog users sign rel vals e = not-false _ (not_refused _ _ (neither _ _ e).0)
+named_relation catalog c rel named e =
+    let known : unknown_relation catalog.rels (Some rel) ≡ None = ap (unknown_relation catalog.rels) (sym named) ∙ (neither _ _ e).0 in
+    not-false _ (not_refused _ _ known)
 
--- its values are as many as the columns
-pub insert_arity : (catalog : Catalog) (users : List (List ℕ)) (sign : Sign) (rel : List ℕ) (vals : List Value)
-    → arity_line catalog (Insert users sign rel vals) ≡ None → length vals ≡ length (columns_of catalog.rels rel)
+-- the values of its tuple are as many as the columns
+pub values_counted : (catalog : Catalog) (c : Command) (rel : List ℕ) (vals : List Value) → relation_name c ≡ Some rel → tuple_values c ≡ Some vals
+    → arity_line catalog c ≡ None → length vals ≡ length (columns_of catalog.rels rel)
 unfolding arity_line
-insert_arity catalog users sign rel vals e = eqb-true _ _ (not-false _ (not_refused _ _ e))
+values_counted catalog c rel vals named valued e =
+    let counted : values_arity (columns_for catalog.rels (Some rel)) (Some vals) ≡ None =
+    ap (λ o. values_arity (columns_for catalog.rels (Some rel)) o) (sym valued)
+    ∙ (ap (λ o. values_arity (columns_for catalog.rels o) (tuple_values c)) (sym named) ∙ e) in
+    eqb-true _ _ (not-false _ (not_refused _ _ counted))
 
 -- so there is at least one
-pub insert_filled : (catalog : Catalog) (users : List (List ℕ)) (sign : Sign) (rel : List ℕ) (vals : List Value) → IsCatalog catalog
-    → names_refused catalog (Insert users sign rel vals) ≡ None → 0 < length vals
-insert_filled catalog users sign rel vals valid accepted =
-    let clear = cleared catalog (Insert users sign rel vals) accepted in
-    let w = relation_found catalog rel (insert_relation catalog users sign rel vals clear.relation) in
+pub values_filled : (catalog : Catalog) (c : Command) (rel : List ℕ) (vals : List Value) → IsCatalog catalog → relation_name c ≡ Some rel
+    → tuple_values c ≡ Some vals → names_refused catalog c ≡ None → 0 < length vals
+values_filled catalog c rel vals valid named valued accepted =
+    let clear = cleared catalog c accepted in
+    let w = relation_found catalog rel (named_relation catalog c rel named clear.relation) in
     let many = (columns_within w.2.item (all_at is_valid_relation catalog.rels w.2.at w.2.item valid.rels_valid w.2.there)).0 in
     let same : columns_of catalog.rels rel ≡ w.2.item.cols = ap columns_in w.2.first in
-    let counted = insert_arity catalog users sign rel vals clear.arity in
+    let counted = values_counted catalog c rel vals named valued clear.arity in
     omega (arith, ap length same)
 
 placed : (c : Catalog) (name : Option (List ℕ)) (at : ℕ) → IsCatalog c → option_and_then (number_of c.rels) name ≡ Some at → at < most_relations
@@ -96,7 +100,7 @@ placed c (Some name) at valid same =
     let few = relations_few c valid in
     omega (arith, f.place, f.within)
 
--- the place of the relation that a change names is below the most relations
+-- the place of the relation that a command names is below the most relations
 pub place_few : (c : Catalog) (cmd : Command) (place : Option ℕ) → IsCatalog c → place ≡ relation_place c.rels cmd → IfSome place (λ at. at < most_relations)
 place_few c cmd None valid same = tt
 place_few c cmd (Some at) valid same = placed c (relation_name cmd) at valid (sym same)
@@ -105,6 +109,6 @@ few_for : (c : Catalog) (name : Option (List ℕ)) → IsCatalog c → length (c
 few_for c None valid = omega arith
 few_for c (Some name) valid = columns_few c name valid
 
--- a change has few columns
+-- the relation that a command names has few columns
 pub change_columns_few : (c : Catalog) (cmd : Command) → IsCatalog c → length (change_columns c.rels cmd) ≤ most_columns
 change_columns_few c cmd valid = few_for c (relation_name cmd) valid

@@ -1,5 +1,5 @@
 -- The law of fitting, command by command.
-use Rattle.std.proofs.Common.{◌≡◌, ◌∙◌, ℕ, ◌<◌, true, false, not, ◌&&◌, ◌||◌, nat_lt, nat_le, List, [], ◌∷◌, ◌++◌, length, map, Some, None, refl, sym, ap, arith, zero-add}
+use Rattle.std.proofs.Common.{◌≡◌, ◌∙◌, ℕ, ◌<◌, Bool, true, false, not, ◌&&◌, ◌||◌, nat_lt, nat_le, List, [], ◌∷◌, ◌++◌, length, map, Some, None, refl, sym, ap, arith, zero-add}
 use Rattle.std.specs.Option.{is_some, is_none, option_and_then, unwrap_or}
 use Rattle.std.specs.List.{list_any, list_all, slice_get}
 use Rattle.std.proofs.lemmas.Bool.{ltb-false, and_from, and_parts, or_parts, not-true, not-false, not_from_false, le-leb, lt-ltb}
@@ -10,23 +10,23 @@ use Rattle.bdb_base.specs.declared.kinds.RelDef.{RelDef}
 use Rattle.bdb_base.specs.declared.kinds.Sign.{Sign}
 use Rattle.bdb_base.specs.declared.kinds.Value.{Value}
 use Rattle.bdb_base.specs.Same.{same_text}
-use Rattle.bdb_base.specs.Bases.{IsCatalog, belongs, is_plain, fits_columns, are_distinct, users_name}
+use Rattle.bdb_base.specs.Bases.{IsCatalog, is_plain, fits_columns, fits_relation, are_distinct, users_name}
 use Rattle.bdb_syntax.specs.declared.command.Command.{Command}
-use Rattle.bdb_syntax.specs.declared.command.Command.TheVariants.{CreateUser, CreateRelation, Insert, Delete, Update, Select, Explain, ShowWorld, ShowTables}
+use Rattle.bdb_syntax.specs.declared.command.Command.TheVariants.{CreateUser, CreateRelation, Insert, Delete, Update, Select, Explain, ShowWorld, Why, ShowTables}
 use Rattle.bdb_syntax.specs.declared.command.RawCond.{RawCond}
 use Rattle.bdb_syntax.specs.declared.command.RawQuery.{RawQuery}
 use Rattle.bdb_syntax.specs.declared.command.RawSet.{RawSet}
 use Rattle.bdb_bind.specs.Lookup.{is_user_name, number_of, columns_in, columns_of, has_column}
-use Rattle.bdb_bind.specs.Parts.{query_of, value_texts, side_texts, cond_columns, is_long, some_who_text, some_query_text, some_text}
-use Rattle.bdb_bind.specs.Lines.{first_repeated, missing_column, items_line, relation_line, user_line, alias_line, column_line, repeat_line, taken_line, misfit, fits_set, fits_cond, set_kinds, cond_kinds, kind_line}
-use Rattle.bdb_bind.specs.Binding.{relation_at, bound_cond, bound_set, bound_of, statement_of}
+use Rattle.bdb_bind.specs.Parts.{query_of, relation_name, tuple_values, columns_for, change_columns, value_texts, side_texts, cond_columns, is_long, some_who_text, some_query_text, some_signed_text, some_text}
+use Rattle.bdb_bind.specs.Lines.{first_repeated, missing_column, items_line, relation_line, user_line, alias_line, column_line, repeat_line, taken_line, misfit, values_kind, fits_set, fits_cond, set_kinds, cond_kinds, change_kind, kind_line}
+use Rattle.bdb_bind.specs.Binding.{relation_at, bound_cond, bound_set, bound_of}
 use Rattle.bdb_bind.specs.QueryBinding.{bound_query}
 use Rattle.bdb_bind.specs.QueryLines.{query_items, query_relation, query_user, query_alias, query_column, query_repeat, query_kind}
 use Rattle.bdb_bind.specs.Refusal.{unsafe_line, refusal_of}
 use Rattle.bdb_bind.specs.Fits.{can_be_answered, is_unclean, names_allowed, is_allowed, set_fits, cond_fits, columns_numbered, fits_catalog, WhatIsBoundFits}
 use Rattle.bdb_bind.proofs.Founds.{all_pass}
 use Rattle.bdb_bind.proofs.Cleared.{IsCleared, cleared, both_accepted, neither, not_refused, nothing_mapped, no_long_text, few_columns}
-use Rattle.bdb_bind.proofs.CatalogLemmas.{relation_found, insert_relation, insert_arity}
+use Rattle.bdb_bind.proofs.CatalogLemmas.{relation_found, named_relation, values_counted}
 use Rattle.bdb_bind.proofs.QueryFitting.{IsClearQuery, clear_query_fits}
 use Rattle.bdb_bind.proofs.FitLemmas.{plain_text, path_fits, values_fit, sets_fit, conds_fit, none_among, any_mapped, distinct_with, none_repeated}
 
@@ -48,17 +48,6 @@ relation_numbered catalog name known =
 same_columns : (catalog : Catalog) (name : List ℕ) (r : IsRelation catalog name) → columns_numbered catalog.rels (relation_at catalog.rels name) ≡ columns_of catalog.rels name
 same_columns catalog name r = ap columns_in r.there ∙ sym r.columns
 
-delete_relation : (catalog : Catalog) (users : List (List ℕ)) (sign : Sign) (rel : List ℕ) (conds : List RawCond)
-    → relation_line catalog (Delete users sign rel conds) ≡ None → is_some (number_of catalog.rels rel) ≡ true
-unfolding relation_line
-delete_relation catalog users sign rel conds e = not-false _ (not_refused _ _ (neither _ _ e).0)
-
-update_relation : (catalog : Catalog) (users : List (List ℕ)) (sign : Sign) (rel : List ℕ) (sets : List RawSet) (conds : List RawCond)
-    → relation_line catalog (Update users sign rel sets conds) ≡ None → is_some (number_of catalog.rels rel) ≡ true
-unfolding relation_line
-update_relation catalog users sign rel sets conds e = not-false _ (not_refused _ _ (neither _ _ e).0)
-
--- the columns that are named are there
 columns_there : (cols : List ColDef) (names : List (List ℕ)) → missing_column cols names ≡ None → list_all (has_column cols) names ≡ true
 unfolding missing_column
 columns_there cols names e = all_pass (has_column cols) names (nothing_mapped _ _ e)
@@ -85,10 +74,19 @@ sets_agree : (cols : List ColDef) (sets : List RawSet) → set_kinds cols sets �
 unfolding set_kinds
 sets_agree cols sets e = all_pass (fits_set cols) sets (nothing_mapped _ _ e)
 
-insert_kinds : (catalog : Catalog) (users : List (List ℕ)) (sign : Sign) (rel : List ℕ) (vals : List Value)
-    → kind_line catalog (Insert users sign rel vals) ≡ None → misfit (columns_of catalog.rels rel) vals ≡ None
+-- a command names a path and a tuple
+record NamesTuple (c : Command) (users : List (List ℕ)) (rel : List ℕ) (vals : List Value) : Type 0 where
+  relation : relation_name c ≡ Some rel
+  values : tuple_values c ≡ Some vals
+  kinds : (cols : List ColDef) → change_kind cols c ≡ values_kind cols vals
+  texts : (p : List ℕ → Bool) → some_text p c ≡ some_signed_text p users vals
+
+tuple_kinds : (catalog : Catalog) (c : Command) (users : List (List ℕ)) (rel : List ℕ) (vals : List Value) → NamesTuple c users rel vals
+    → kind_line catalog c ≡ None → misfit (columns_of catalog.rels rel) vals ≡ None
 unfolding kind_line
-insert_kinds catalog users sign rel vals e = nothing_mapped _ _ (neither _ _ e).0
+tuple_kinds catalog c users rel vals names e =
+    let cols : change_columns catalog.rels c ≡ columns_of catalog.rels rel = ap (columns_for catalog.rels) names.relation in
+    nothing_mapped _ _ (sym (names.kinds (columns_of catalog.rels rel)) ∙ (ap (λ x. change_kind x c) (sym cols) ∙ (neither _ _ e).0))
 
 delete_kinds : (catalog : Catalog) (users : List (List ℕ)) (sign : Sign) (rel : List ℕ) (conds : List RawCond)
     → kind_line catalog (Delete users sign rel conds) ≡ None → list_all (fits_cond (columns_of catalog.rels rel)) conds ≡ true
@@ -143,19 +141,33 @@ new_relation_fits catalog name cols valid allowed clear =
     (ap are_distinct (map-append (λ r. r.name) catalog.rels (record { name = name; cols = cols } ∷ []))
     ∙ distinct_with (map (λ r. r.name) catalog.rels) name valid.rels_differ others)
 
-insert_fits : (catalog : Catalog) (users : List (List ℕ)) (sign : Sign) (rel : List ℕ) (vals : List Value) → is_allowed (Insert users sign rel vals) ≡ true
-    → IsCleared catalog (Insert users sign rel vals) → belongs catalog (statement_of catalog users sign rel vals) ≡ true
-insert_fits catalog users sign rel vals allowed clear =
-    let c = Insert users sign rel vals in
-    let r = relation_numbered catalog rel (insert_relation catalog users sign rel vals clear.relation) in
-    let many = insert_arity catalog users sign rel vals clear.arity in
-    let fit = insert_kinds catalog users sign rel vals clear.kinds in
-    let short = or_parts (list_any is_long users) (list_any (λ v. list_any is_long (value_texts v)) vals) (no_long_text c clear.text) in
-    let clean = or_parts (list_any is_unclean users) (list_any (λ v. list_any is_unclean (value_texts v)) vals) (texts_clean c allowed) in
+-- the tuple fits its relation
+tuple_fits : (catalog : Catalog) (c : Command) (users : List (List ℕ)) (rel : List ℕ) (vals : List Value) → NamesTuple c users rel vals → is_allowed c ≡ true
+    → IsCleared catalog c → fits_relation catalog.rels (record { rel = relation_at catalog.rels rel; vals = vals }) ≡ true
+tuple_fits catalog c users rel vals names allowed clear =
+    let r = relation_numbered catalog rel (named_relation catalog c rel names.relation clear.relation) in
+    let many = values_counted catalog c rel vals names.relation names.values clear.arity in
+    let fit = tuple_kinds catalog c users rel vals names clear.kinds in
+    let short = or_parts (list_any is_long users) (list_any (λ v. list_any is_long (value_texts v)) vals) (sym (names.texts is_long) ∙ no_long_text c clear.text) in
+    let clean = or_parts (list_any is_unclean users) (list_any (λ v. list_any is_unclean (value_texts v)) vals) (sym (names.texts is_unclean) ∙ texts_clean c allowed) in
     let fits : fits_columns r.def.cols vals ≡ true =
     ap (λ cols. fits_columns cols vals) (sym r.columns) ∙ values_fit (columns_of catalog.rels rel) vals many fit short.1 clean.1 in
     let there = r.there in
-    and_from _ _ (path_fits catalog c clear) (rw there fits)
+    rw there fits
+
+insert_fits : (catalog : Catalog) (users : List (List ℕ)) (sign : Sign) (rel : List ℕ) (vals : List Value) → is_allowed (Insert users sign rel vals) ≡ true
+    → IsCleared catalog (Insert users sign rel vals) → fits_catalog catalog (bound_of catalog (Insert users sign rel vals)) ≡ true
+insert_fits catalog users sign rel vals allowed clear =
+    let c = Insert users sign rel vals in
+    and_from _ _ (path_fits catalog c clear)
+    (tuple_fits catalog c users rel vals (record { relation = refl; values = refl; kinds = λ cols. refl; texts = λ p. refl }) allowed clear)
+
+why_fits : (catalog : Catalog) (users : List (List ℕ)) (sign : Sign) (rel : List ℕ) (vals : List Value) → is_allowed (Why users sign rel vals) ≡ true
+    → IsCleared catalog (Why users sign rel vals) → fits_catalog catalog (bound_of catalog (Why users sign rel vals)) ≡ true
+why_fits catalog users sign rel vals allowed clear =
+    let c = Why users sign rel vals in
+    and_from _ _ (path_fits catalog c clear)
+    (tuple_fits catalog c users rel vals (record { relation = refl; values = refl; kinds = λ cols. refl; texts = λ p. refl }) allowed clear)
 
 conds_fit_at : (catalog : Catalog) (rel : List ℕ) (conds : List RawCond) (r : IsRelation catalog rel)
     → list_all (cond_fits (columns_of catalog.rels rel)) (map (bound_cond (columns_of catalog.rels rel)) conds) ≡ true
@@ -167,7 +179,7 @@ delete_fits : (catalog : Catalog) (users : List (List ℕ)) (sign : Sign) (rel :
     → IsCleared catalog (Delete users sign rel conds) → fits_catalog catalog (bound_of catalog (Delete users sign rel conds)) ≡ true
 delete_fits catalog users sign rel conds allowed clear =
     let c = Delete users sign rel conds in
-    let r = relation_numbered catalog rel (delete_relation catalog users sign rel conds clear.relation) in
+    let r = relation_numbered catalog rel (named_relation catalog c rel refl clear.relation) in
     let short = or_parts (list_any is_long users) (list_any (λ x. list_any is_long (side_texts x.right)) conds) (no_long_text c clear.text) in
     let clean = or_parts (list_any is_unclean users) (list_any (λ x. list_any is_unclean (side_texts x.right)) conds) (texts_clean c allowed) in
     let fit = conds_fit (columns_of catalog.rels rel) conds (delete_columns catalog users sign rel conds clear.column)
@@ -180,7 +192,7 @@ update_fits : (catalog : Catalog) (users : List (List ℕ)) (sign : Sign) (rel :
 update_fits catalog users sign rel sets conds allowed clear =
     let c = Update users sign rel sets conds in
     let cols = columns_of catalog.rels rel in
-    let r = relation_numbered catalog rel (update_relation catalog users sign rel sets conds clear.relation) in
+    let r = relation_numbered catalog rel (named_relation catalog c rel refl clear.relation) in
     let short = or_parts (list_any is_long users) (list_any (λ s. list_any is_long (value_texts s.to)) sets || list_any (λ x. list_any is_long (side_texts x.right)) conds) (no_long_text c clear.text) in
     let shorts = or_parts (list_any (λ s. list_any is_long (value_texts s.to)) sets) (list_any (λ x. list_any is_long (side_texts x.right)) conds) short.1 in
     let clean = or_parts (list_any is_unclean users) (list_any (λ s. list_any is_unclean (value_texts s.to)) sets || list_any (λ x. list_any is_unclean (side_texts x.right)) conds) (texts_clean c allowed) in
@@ -249,4 +261,6 @@ what_is_bound_fits catalog (Update users sign rel sets conds) valid allowed acce
 what_is_bound_fits catalog (Select query) valid allowed accepted = selected_fits catalog query valid allowed accepted
 what_is_bound_fits catalog (Explain query) valid allowed accepted = explained_fits catalog query valid allowed accepted
 what_is_bound_fits catalog (ShowWorld users) valid allowed accepted = path_fits catalog (ShowWorld users) (names_cleared catalog (ShowWorld users) accepted)
+what_is_bound_fits catalog (Why users sign rel vals) valid allowed accepted =
+    why_fits catalog users sign rel vals allowed (names_cleared catalog (Why users sign rel vals) accepted)
 what_is_bound_fits catalog ShowTables valid allowed accepted = refl

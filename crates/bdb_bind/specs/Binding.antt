@@ -13,7 +13,7 @@ use Rattle.bdb_base.specs.declared.kinds.Value.{Value}
 use Rattle.bdb_base.specs.declared.kinds.Sign.{Sign}
 use Rattle.bdb_base.specs.declared.kinds.Stmt.{Stmt}
 use Rattle.bdb_syntax.specs.declared.command.Command.{Command}
-use Rattle.bdb_syntax.specs.declared.command.Command.TheVariants.{CreateUser, CreateRelation, Insert, Delete, Update, Select, Explain, ShowWorld, ShowTables}
+use Rattle.bdb_syntax.specs.declared.command.Command.TheVariants.{CreateUser, CreateRelation, Insert, Delete, Update, Select, Explain, ShowWorld, Why, ShowTables}
 use Rattle.bdb_syntax.specs.declared.command.RawCond.{RawCond}
 use Rattle.bdb_syntax.specs.declared.command.RawSide.{RawSide}
 use Rattle.bdb_syntax.specs.declared.command.RawSide.TheVariants.{Col, Lit}
@@ -45,7 +45,7 @@ bound_cond cols c = record { left = bound_column cols c.left.col; cmp = c.cmp; r
 abbrev pub bound_set : List ColDef → RawSet → SetCol
 bound_set cols s = record { col = place_of cols s.col; to = s.to }
 
--- the statement of an insert
+-- the statement of a path, a sign and a tuple
 abbrev pub statement_of : Catalog → List (List ℕ) → Sign → List ℕ → List Value → Stmt
 statement_of catalog users sign rel vals = record {
   path = path_of catalog.users users;
@@ -65,4 +65,5 @@ bound_of catalog (Update users sign rel sets conds) = bound.Update (path_of cata
 bound_of catalog (ShowWorld users) = bound.ShowWorld (path_of catalog.users users)
 bound_of catalog (Select query) = bound.Select (bound_query catalog query)
 bound_of catalog (Explain query) = bound.Explain (bound_query catalog query)
+bound_of catalog (Why users sign rel vals) = bound.Why (statement_of catalog users sign rel vals)
 bound_of catalog ShowTables = bound.ShowTables

@@ -14,7 +14,7 @@ use Rattle.bdb_base.specs.declared.kinds.Query.{Query}
 use Rattle.bdb_base.specs.declared.kinds.SetCol.{SetCol}
 use Rattle.bdb_base.specs.declared.kinds.Value.{Value}
 use Rattle.bdb_base.specs.Alternation.{alternates}
-use Rattle.bdb_base.specs.Bases.{IsCatalog, belongs, is_user, is_clean, is_plain, fits_kind, are_distinct, is_valid_relation}
+use Rattle.bdb_base.specs.Bases.{IsCatalog, belongs, is_user, is_clean, is_plain, fits_kind, fits_relation, are_distinct, is_valid_relation}
 use Rattle.bdb_base.specs.Safety.{query_fits}
 use Rattle.bdb_syntax.specs.declared.command.Command.{Command}
 use Rattle.bdb_syntax.specs.declared.command.Command.TheVariants.{CreateRelation}
@@ -87,6 +87,7 @@ fits_catalog catalog (bound.Update path sign rel sets conds) = fits_path catalog
 fits_catalog catalog (bound.Select query) = can_be_answered catalog query
 fits_catalog catalog (bound.Explain query) = can_be_answered catalog query
 fits_catalog catalog (bound.ShowWorld path) = fits_path catalog.users deepest_query path
+fits_catalog catalog (bound.Why x) = fits_path catalog.users deepest_query x.path && fits_relation catalog.rels x.tuple
 fits_catalog catalog bound.ShowTables = true
 
 -- what an allowed command that isn't refused is bound to fits the catalog

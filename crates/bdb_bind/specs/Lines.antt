@@ -11,7 +11,7 @@ use Rattle.bdb_base.specs.declared.kinds.Value.{Value}
 use Rattle.bdb_base.specs.Same.{same_text, same_kind}
 use Rattle.bdb_base.specs.Bases.{users_name}
 use Rattle.bdb_syntax.specs.declared.command.Command.{Command}
-use Rattle.bdb_syntax.specs.declared.command.Command.TheVariants.{CreateUser, CreateRelation, Insert, Delete, Update}
+use Rattle.bdb_syntax.specs.declared.command.Command.TheVariants.{CreateUser, CreateRelation, Insert, Delete, Update, Why}
 use Rattle.bdb_syntax.specs.declared.command.RawCond.{RawCond}
 use Rattle.bdb_syntax.specs.declared.command.RawSide.{RawSide}
 use Rattle.bdb_syntax.specs.declared.command.RawSide.TheVariants.{Col, Lit}
@@ -21,7 +21,7 @@ use Rattle.bdb_bind.specs.declared.bound.BindError.TheVariants as error
 use Rattle.bdb_bind.specs.Firsts.{refused_if, or_next}
 use Rattle.bdb_bind.specs.Kinds.{kind_of, are_one_kind}
 use Rattle.bdb_bind.specs.Lookup.{is_user_name, number_of, has_column, kind_at}
-use Rattle.bdb_bind.specs.Parts.{query_of, change_columns, path_names, depth_limit, relation_name, new_columns, cond_columns, is_long, some_text}
+use Rattle.bdb_bind.specs.Parts.{query_of, change_columns, path_names, depth_limit, relation_name, tuple_values, new_columns, cond_columns, is_long, some_text}
 use Rattle.bdb_bind.specs.QueryLines.{query_items, query_relation, query_user, query_alias_twice, query_alias, query_column, query_repeat, query_deep, query_kind}
 
 -- a text has too many bytes
@@ -98,7 +98,7 @@ abbrev pub has_repeat : List (List ℕ) → Bool
 has_repeat [] = false
 has_repeat (n ∷ ns) = begins_with n ns || has_repeat ns
 
--- the path of a change, or of a world that is shown, names one user twice in a row
+-- the path of a command that is no query names one user twice in a row
 abbrev pub path_repeats : Command → Option BindError
 path_repeats c = refused_if (has_repeat (path_names c)) error.Repeat
 
@@ -106,7 +106,7 @@ path_repeats c = refused_if (has_repeat (path_names c)) error.Repeat
 unfoldable pub repeat_line : Command → Option BindError
 repeat_line c = or_next (path_repeats c) (option_and_then query_repeat (query_of c))
 
--- the path of a change, or of a world that is shown, is too long
+-- the path of a command that is no query is too long
 abbrev pub path_too_deep : Command → Option BindError
 path_too_deep c = refused_if (nat_lt (depth_limit c) (length (path_names c))) error.Deep
 
@@ -114,12 +114,16 @@ path_too_deep c = refused_if (nat_lt (depth_limit c) (length (path_names c))) er
 unfoldable pub deep_line : Command → Option BindError
 deep_line c = or_next (path_too_deep c) (option_and_then query_deep (query_of c))
 
--- an insert has another number of values than there are columns
-abbrev pub change_arity : List ColDef → Command → Option BindError
-change_arity cols (Insert users sign rel vals) = refused_if (not (length vals == length cols)) error.Arity
-change_arity cols _ = None
+-- a tuple, if there is one, has another number of values than there are columns
+abbrev pub values_arity : List ColDef → Option (List Value) → Option BindError
+values_arity cols None = None
+values_arity cols (Some vals) = refused_if (not (length vals == length cols)) error.Arity
 
--- an insert has another number of values than the relation has columns
+-- the tuple of a command has another number of values than there are columns
+abbrev pub change_arity : List ColDef → Command → Option BindError
+change_arity cols c = values_arity cols (tuple_values c)
+
+-- the tuple of a command has another number of values than its relation has columns
 unfoldable pub arity_line : Catalog → Command → Option BindError
 arity_line catalog c = change_arity (change_columns catalog.rels c) c
 
@@ -150,9 +154,14 @@ set_kinds cols sets = option_map (λ s. error.Kind None s.col) (find (λ s. not 
 unfoldable pub cond_kinds : List ColDef → List RawCond → Option BindError
 cond_kinds cols conds = option_map (λ c. error.Kind None c.left.col) (find (λ c. not (fits_cond cols c)) conds)
 
--- a value, a set or a comparison of a change joins two kinds
+-- the first value of a tuple that is of another kind than its column
+abbrev pub values_kind : List ColDef → List Value → Option BindError
+values_kind cols vals = option_map (error.Kind None) (misfit cols vals)
+
+-- a value, a set or a comparison of a command that is no query joins two kinds
 abbrev pub change_kind : List ColDef → Command → Option BindError
-change_kind cols (Insert users sign rel vals) = option_map (error.Kind None) (misfit cols vals)
+change_kind cols (Insert users sign rel vals) = values_kind cols vals
+change_kind cols (Why users sign rel vals) = values_kind cols vals
 change_kind cols (Delete users sign rel conds) = cond_kinds cols conds
 change_kind cols (Update users sign rel sets conds) = or_next (set_kinds cols sets) (cond_kinds cols conds)
 change_kind cols _ = None

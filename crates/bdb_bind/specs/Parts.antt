@@ -8,7 +8,7 @@ use Rattle.bdb_base.specs.declared.kinds.RelDef.{RelDef}
 use Rattle.bdb_base.specs.declared.kinds.Value.{Value}
 use Rattle.bdb_base.specs.declared.kinds.Value.TheVariants.{Int, Text}
 use Rattle.bdb_syntax.specs.declared.command.Command.{Command}
-use Rattle.bdb_syntax.specs.declared.command.Command.TheVariants.{CreateUser, CreateRelation, Insert, Delete, Update, Select, Explain, ShowWorld}
+use Rattle.bdb_syntax.specs.declared.command.Command.TheVariants.{CreateUser, CreateRelation, Insert, Delete, Update, Select, Explain, ShowWorld, Why}
 use Rattle.bdb_syntax.specs.declared.command.RawCond.{RawCond}
 use Rattle.bdb_syntax.specs.declared.command.RawSide.{RawSide}
 use Rattle.bdb_syntax.specs.declared.command.RawSide.TheVariants.{Col, Lit}
@@ -29,21 +29,30 @@ path_names (Insert users sign rel vals) = users
 path_names (Delete users sign rel conds) = users
 path_names (Update users sign rel sets conds) = users
 path_names (ShowWorld users) = users
+path_names (Why users sign rel vals) = users
 path_names _ = []
 
 -- the longest path that a command with one path may have
 abbrev pub depth_limit : Command → ℕ
 depth_limit (ShowWorld users) = deepest_query
+depth_limit (Why users sign rel vals) = deepest_query
 depth_limit _ = deepest_statement
 
--- the relation that a change names
+-- the relation that a command names, outside queries
 abbrev pub relation_name : Command → Option (List ℕ)
 relation_name (Insert users sign rel vals) = Some rel
 relation_name (Delete users sign rel conds) = Some rel
 relation_name (Update users sign rel sets conds) = Some rel
+relation_name (Why users sign rel vals) = Some rel
 relation_name _ = None
 
--- the place of the relation that a change names
+-- the values of the tuple that a command names
+abbrev pub tuple_values : Command → Option (List Value)
+tuple_values (Insert users sign rel vals) = Some vals
+tuple_values (Why users sign rel vals) = Some vals
+tuple_values _ = None
+
+-- the place of the relation that a command names
 abbrev pub relation_place : List RelDef → Command → Option ℕ
 relation_place rels c = option_and_then (number_of rels) (relation_name c)
 
@@ -52,7 +61,7 @@ abbrev pub columns_for : List RelDef → Option (List ℕ) → List ColDef
 columns_for rels None = []
 columns_for rels (Some name) = columns_of rels name
 
--- the columns of the relation that a change names
+-- the columns of the relation that a command names
 abbrev pub change_columns : List RelDef → Command → List ColDef
 change_columns rels c = columns_for rels (relation_name c)
 
@@ -94,14 +103,19 @@ some_who_text p (who.Col c) = false
 abbrev pub some_query_text : (List ℕ → Bool) → RawQuery → Bool
 some_query_text p q = list_any (λ i. list_any (some_who_text p) i.path) q.items || list_any (λ c. list_any p (side_texts c.right)) q.conds
 
+-- a test holds of a text of a path or a tuple
+abbrev pub some_signed_text : (List ℕ → Bool) → List (List ℕ) → List Value → Bool
+some_signed_text p users vals = list_any p users || list_any (λ v. list_any p (value_texts v)) vals
+
 -- a test holds of a text of a command
 abbrev pub some_text : (List ℕ → Bool) → Command → Bool
 some_text p (CreateUser name) = p name
-some_text p (Insert users sign rel vals) = list_any p users || list_any (λ v. list_any p (value_texts v)) vals
+some_text p (Insert users sign rel vals) = some_signed_text p users vals
 some_text p (Delete users sign rel conds) = list_any p users || list_any (λ c. list_any p (side_texts c.right)) conds
 some_text p (Update users sign rel sets conds) = list_any p users || (list_any (λ s. list_any p (value_texts s.to)) sets
     || list_any (λ c. list_any p (side_texts c.right)) conds)
 some_text p (ShowWorld users) = list_any p users
+some_text p (Why users sign rel vals) = some_signed_text p users vals
 some_text p (Select query) = some_query_text p query
 some_text p (Explain query) = some_query_text p query
 some_text p _ = false

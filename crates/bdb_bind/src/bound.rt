@@ -44,6 +44,10 @@ pub enum Bound {
     ShowWorld {
         path: Path,
     },
+    /// It is shown why the path believes the tuple with the sign, or why not.
+    Why {
+        stmt: Stmt,
+    },
     /// The stored structure is shown.
     ShowTables,
 }

@@ -1,4 +1,4 @@
-// What the names of a change stand for, each looked up once.
+// What the names of a command stand for, each looked up once.
 ghost use Rattle.std.specs.Prelude.{◌≡◌, ◌<◌, ◌≤◌, [], None, true, length, map, IfOk, IfSome};
 ghost use Rattle.std.specs.List.{slice_get};
 ghost use Rattle.std.specs.Option.{option_map};
@@ -25,7 +25,7 @@ pub struct Found<'a> {
     pub cols: &'a [ColDef],
 }
 
-/// The relation that a change names.
+/// The relation that a command names.
 pub fn find_relation<'a>(catalog: &'a Catalog, index: &NameIndex, command: &Command) -> Found<'a>
     requires catalog { IsCatalog catalog.now }
     ensures place { result.place ≡ relation_place catalog.now.rels command.now }

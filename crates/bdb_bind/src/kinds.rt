@@ -1,10 +1,9 @@
 // The check of kinds.
-ghost use Rattle.std.specs.Prelude.{◌≡◌, None};
-ghost use Rattle.std.specs.Option.{option_map};
+ghost use Rattle.std.specs.Prelude.{◌≡◌};
 ghost use Rattle.bdb_base.specs.Same.{same_kind};
 ghost use Rattle.bdb_bind.specs.Firsts.{Checks};
 ghost use Rattle.bdb_bind.specs.Kinds.{kind_of, are_one_kind};
-ghost use Rattle.bdb_bind.specs.Lines.{misfit, side_kind, fits_set, fits_cond, set_kinds, cond_kinds, change_kind};
+ghost use Rattle.bdb_bind.specs.Lines.{values_kind, side_kind, fits_set, fits_cond, set_kinds, cond_kinds, change_kind};
 
 use crate::bound::BindError;
 use crate::lookup::kind_at;
@@ -13,12 +12,16 @@ use bdb_base::{ColDef, Kind, Value};
 use bdb_syntax::{Command, RawCond, RawSet, RawSide};
 use std::alloc::Global;
 
-/// Refuses a value, a set or a comparison of a change that joins two kinds.
+/// Refuses a value, a set or a comparison that joins two kinds.
 pub fn check_kinds(alloc: Global, cols: &[ColDef], command: &Command) -> Result<(), BindError>
     ensures { Checks result (change_kind cols.now command.now) }
 {
     match command {
         Command::Insert { vals, .. } => {
+            check_values(alloc, cols, vals.as_slice())?;
+            Ok(())
+        }
+        Command::Why { vals, .. } => {
             check_values(alloc, cols, vals.as_slice())?;
             Ok(())
         }
@@ -37,7 +40,7 @@ pub fn check_kinds(alloc: Global, cols: &[ColDef], command: &Command) -> Result<
 
 /// Refuses the first value whose column is of another kind.
 fn check_values(alloc: Global, cols: &[ColDef], vals: &[Value]) -> Result<(), BindError>
-    ensures { Checks result (option_map (BindError.Kind None) (misfit cols.now vals.now)) }
+    ensures { Checks result (values_kind cols.now vals.now) }
 {
     for (col, value) in cols.iter().zip(vals) {
         if !is_same_kind(col.kind, kind_of(value)) {

@@ -148,6 +148,23 @@ fn bound_sets(
     Ok(bound)
 }
 
+/// The statement of a path, a sign and a tuple.
+fn statement(
+    alloc: Global,
+    ids: &[u32],
+    sign: Sign,
+    rel: u32,
+    vals: List<Value>,
+) -> Result<Stmt, AllocError>
+    requires alternates { alternates ids.now ≡ true }
+    requires filled { 0 < length vals }
+    ensures { IfOk result (λ s. s ≡ record { path = ids.now; sign = sign; tuple = record { rel = rel; vals = vals } }) }
+{
+    let path = path_of(alloc, ids)?;
+    let tuple = Tuple { rel, vals };
+    Ok(Stmt { path, sign, tuple })
+}
+
 /// The insert of a statement.
 fn bound_insert(
     alloc: Global,
@@ -160,10 +177,24 @@ fn bound_insert(
     requires filled { 0 < length vals }
     ensures { IfOk result (λ b. b ≡ Bound.Insert (record { path = ids.now; sign = sign; tuple = record { rel = rel; vals = vals } })) }
 {
-    let path = path_of(alloc, ids)?;
-    let tuple = Tuple { rel, vals };
-    let stmt = Stmt { path, sign, tuple };
+    let stmt = statement(alloc, ids, sign, rel, vals)?;
     Ok(Bound::Insert { stmt })
+}
+
+/// The question why a statement is believed or not.
+fn bound_why(
+    alloc: Global,
+    ids: &[u32],
+    sign: Sign,
+    rel: u32,
+    vals: List<Value>,
+) -> Result<Bound, AllocError>
+    requires alternates { alternates ids.now ≡ true }
+    requires filled { 0 < length vals }
+    ensures { IfOk result (λ b. b ≡ Bound.Why (record { path = ids.now; sign = sign; tuple = record { rel = rel; vals = vals } })) }
+{
+    let stmt = statement(alloc, ids, sign, rel, vals)?;
+    Ok(Bound::Why { stmt })
 }
 
 /// The delete of the statements that meet all tests.
@@ -298,6 +329,10 @@ pub fn bound_change(
         Command::Select { .. } => unreachable!(),
         Command::Explain { .. } => unreachable!(),
         Command::ShowWorld { .. } => bound_world(alloc, ids),
+        Command::Why { sign, vals, .. } => {
+            let vals = mem::replace(vals, List::new(alloc));
+            bound_why(alloc, ids, *sign, rel, vals)
+        }
         Command::ShowTables => Ok(Bound::ShowTables),
     }
 }

@@ -19,7 +19,7 @@ use bdb_base::{Catalog, ColDef, List, Txt};
 use bdb_syntax::{Command, RawCond, RawSet, RawSide};
 use std::alloc::Global;
 
-/// Refuses a change of a relation that isn't in the catalog.
+/// Refuses the name of a relation that isn't in the catalog.
 pub fn check_relation(
     alloc: Global,
     catalog: &Catalog,
@@ -35,7 +35,7 @@ pub fn check_relation(
     }
 }
 
-/// The uids of a change's path. The first name after BELIEF that is no user's is refused.
+/// The uids of a command's path. The first name after BELIEF that is no user's is refused.
 #[tactic(auto, using(crate::proofs::CatalogLemmas::users_few))]
 pub fn check_users(
     alloc: Global,

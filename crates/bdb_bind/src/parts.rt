@@ -2,10 +2,10 @@
 ghost use Rattle.std.specs.Prelude.{◌≡◌};
 ghost use Rattle.std.specs.Option.{option_copied};
 ghost use Rattle.std.specs.List.{list_any};
-ghost use Rattle.bdb_bind.specs.Parts.{path_names, depth_limit, relation_name, new_columns, value_texts, side_texts, is_long, some_who_text, some_query_text, some_text};
+ghost use Rattle.bdb_bind.specs.Parts.{path_names, depth_limit, relation_name, tuple_values, new_columns, value_texts, side_texts, is_long, some_who_text, some_query_text, some_signed_text, some_text};
 
 use bdb_base::limits::{DEEPEST_QUERY, DEEPEST_STATEMENT, LONGEST_TEXT};
-use bdb_base::{ColDef, Txt, Value};
+use bdb_base::{ColDef, List, Txt, Value};
 use bdb_syntax::{Command, RawCond, RawItem, RawQuery, RawSet, RawSide, RawWho};
 
 /// The names of a command's one path.
@@ -17,6 +17,7 @@ pub fn path_names(command: &Command) -> &[Txt]
         Command::Delete { users, .. } => users.as_slice(),
         Command::Update { users, .. } => users.as_slice(),
         Command::ShowWorld { users } => users.as_slice(),
+        Command::Why { users, .. } => users.as_slice(),
         _ => &[],
     }
 }
@@ -27,11 +28,12 @@ pub fn depth_limit(command: &Command) -> usize
 {
     match command {
         Command::ShowWorld { .. } => DEEPEST_QUERY,
+        Command::Why { .. } => DEEPEST_QUERY,
         _ => DEEPEST_STATEMENT,
     }
 }
 
-/// The relation that a change names.
+/// The relation that a command names, outside queries.
 pub fn relation_name(command: &Command) -> Option<&Txt>
     ensures { option_copied result ≡ relation_name command.now }
 {
@@ -39,6 +41,18 @@ pub fn relation_name(command: &Command) -> Option<&Txt>
         Command::Insert { rel, .. } => Some(rel),
         Command::Delete { rel, .. } => Some(rel),
         Command::Update { rel, .. } => Some(rel),
+        Command::Why { rel, .. } => Some(rel),
+        _ => None,
+    }
+}
+
+/// The values of the tuple that a command names.
+pub fn tuple_values(command: &Command) -> Option<&List<Value>>
+    ensures { option_copied result ≡ tuple_values command.now }
+{
+    match command {
+        Command::Insert { vals, .. } => Some(vals),
+        Command::Why { vals, .. } => Some(vals),
         _ => None,
     }
 }
@@ -59,9 +73,7 @@ pub fn has_long_text(command: &Command) -> bool
 {
     match command {
         Command::CreateUser { name } => is_long(name),
-        Command::Insert { users, vals, .. } => {
-            has_long_name(users.as_slice()) || has_long_value(vals.as_slice())
-        }
+        Command::Insert { users, vals, .. } => has_long_signed(users, vals),
         Command::Delete { users, conds, .. } => {
             has_long_name(users.as_slice()) || has_long_cond(conds.as_slice())
         }
@@ -76,10 +88,18 @@ pub fn has_long_text(command: &Command) -> bool
                 || has_long_cond(conds.as_slice())
         }
         Command::ShowWorld { users } => has_long_name(users.as_slice()),
+        Command::Why { users, vals, .. } => has_long_signed(users, vals),
         Command::Select { query } => has_long_query(query),
         Command::Explain { query } => has_long_query(query),
         _ => false,
     }
+}
+
+/// Whether a text of a path or a tuple is too long.
+fn has_long_signed(users: &List<Txt>, vals: &List<Value>) -> bool
+    ensures { result ≡ some_signed_text is_long users.now vals.now }
+{
+    has_long_name(users.as_slice()) || has_long_value(vals.as_slice())
 }
 
 /// Whether a text is too long.

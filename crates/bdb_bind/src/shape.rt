@@ -5,7 +5,7 @@ ghost use Rattle.bdb_bind.specs.Lines.{text_line, too_many_columns, begins_with,
 
 use crate::bound::BindError;
 use crate::lookup::is_same;
-use crate::parts::{depth_limit, has_long_text, new_columns, path_names};
+use crate::parts::{depth_limit, has_long_text, new_columns, path_names, tuple_values};
 use bdb_base::limits::MOST_COLUMNS;
 use bdb_base::{ColDef, Txt};
 use bdb_syntax::Command;
@@ -75,14 +75,17 @@ pub fn check_depth(command: &Command) -> Result<(), BindError>
     Ok(())
 }
 
-/// Refuses an insert with another number of values than there are columns.
+/// Refuses a tuple with another number of values than there are columns.
 pub fn check_arity(cols: &[ColDef], command: &Command) -> Result<(), BindError>
     ensures { Checks result (change_arity cols.now command.now) }
 {
-    if let Command::Insert { vals, .. } = command {
-        if vals.len() != cols.len() {
-            return Err(BindError::Arity);
+    match tuple_values(command) {
+        Some(vals) => {
+            if vals.len() != cols.len() {
+                return Err(BindError::Arity);
+            }
+            Ok(())
         }
+        None => Ok(()),
     }
-    Ok(())
 }

@@ -18,7 +18,7 @@ use Rattle.bdb_syntax.specs.declared.command.RawSet.{RawSet}
 use Rattle.bdb_syntax.specs.declared.command.RawItem.{RawItem}
 use Rattle.bdb_parse.specs.declared.target.Target.{Target}
 use Rattle.bdb_syntax.specs.declared.command.RawQuery.{RawQuery}
-use Rattle.bdb_syntax.specs.declared.command.Command.TheVariants.{CreateUser, CreateRelation, Insert, Delete, Update, Select, Explain, ShowWorld, ShowTables}
+use Rattle.bdb_syntax.specs.declared.command.Command.TheVariants.{CreateUser, CreateRelation, Insert, Delete, Update, Select, Explain, ShowWorld, Why, ShowTables}
 use Rattle.bdb_syntax.specs.Keywords.{is_keyword}
 use Rattle.bdb_parse.specs.declared.stop.Stop.{Stop}
 use Rattle.bdb_parse.specs.declared.stop.Stop.TheVariants as stops
@@ -27,7 +27,7 @@ use Rattle.bdb_parse.specs.Numbers.{number_of, is_number, is_i64}
 use Rattle.bdb_parse.specs.Gives.{number_in, narrow}
 use Rattle.bdb_parse.specs.Fits.{value_fits, side_fits, cond_fits, set_fits, query_fits, fits}
 use Rattle.bdb_parse.specs.Stops.{cut, parts}
-use Rattle.bdb_parse.specs.Reading.{◌>>=◌, end_at, word_at, text_at, equals_at, cmp_at, keyword_at, name_at, literal_of, set_of, bare, bare_of, col_at, col_of, begins_with_word, side_of, test_of, cond_of, all_of, list_of, conds_of, inside_of, target_at, column_of, item_of, create_user_of, create_relation_of, create_of, insert_of, delete_of, update_of, query_of, explain_of, show_world_of, show_of, command_after, command_by, command_of, beliefs_at}
+use Rattle.bdb_parse.specs.Reading.{◌>>=◌, end_at, word_at, text_at, equals_at, cmp_at, keyword_at, name_at, literal_of, set_of, bare, bare_of, col_at, col_of, begins_with_word, side_of, test_of, cond_of, all_of, list_of, conds_of, inside_of, target_at, column_of, item_of, create_user_of, create_relation_of, create_of, signed_of, insert_of, delete_of, update_of, query_of, explain_of, show_world_of, show_of, why_of, command_after, command_by, command_of, beliefs_at}
 use Rattle.bdb_parse.proofs.Agree.{Agrees, neither, fitting, wide, agrees_made, agrees_behind, agrees_cond, agrees_map, agrees_last, agrees_two}
 
 narrow_agrees : (n : ℤ) (b : Bool) → is_i64 n ≡ b → Agrees value_fits (option_map values.Int (cond b (Some n) None)) (option_map values.Int (cond b (Some n) (Some (pos 0)))) (Some (values.Int n))
@@ -107,14 +107,24 @@ create_agrees ts =
     agrees_cond fits (is_keyword (codes "user") word.0) (create_user_agrees word.1)
     (agrees_cond fits (is_keyword (codes "relation") word.0) (create_relation_agrees word.1) neither))
 
+-- the values behind a path, a sign and a relation are in range
+abbrev signed_fits : Target × List Value → Bool
+signed_fits signed = list_all value_fits signed.1
+
+signed_agrees : (ts : List Token) → Agrees signed_fits (signed_of (number_in Refused) ts) (signed_of (number_in Zero) ts) (signed_of number_of ts)
+unfolding signed_of
+signed_agrees ts =
+    agrees_behind signed_fits (target_at ts) (λ (target : Target × List Token).
+    agrees_behind signed_fits (keyword_at (codes "values") target.1) (λ (rest : List Token).
+    agrees_behind signed_fits (inside_of rest) (λ (inside : List Token).
+    let made : List Value → Target × List Value = λ vals. (target.0, vals) in
+    agrees_last (list_all value_fits) signed_fits made (λ vals. refl) (list_agrees value_fits _ _ _ literal_agrees stops.Comma inside))))
+
 insert_agrees : (ts : List Token) → Agrees fits (insert_of (number_in Refused) ts) (insert_of (number_in Zero) ts) (insert_of number_of ts)
 unfolding insert_of
 insert_agrees ts =
     agrees_behind fits (keyword_at (codes "into") ts) (λ (into : List Token).
-    agrees_behind fits (target_at into) (λ (target : Target × List Token).
-    agrees_behind fits (keyword_at (codes "values") target.1) (λ (rest : List Token).
-    agrees_behind fits (inside_of rest) (λ (inside : List Token).
-    agrees_last (list_all value_fits) fits (λ vals. Insert target.0.users target.0.sign target.0.rel vals) (λ vals. refl) (list_agrees value_fits _ _ _ literal_agrees stops.Comma inside)))))
+    agrees_last signed_fits fits (λ signed. Insert signed.0.users signed.0.sign signed.0.rel signed.1) (λ signed. refl) (signed_agrees into))
 
 delete_agrees : (ts : List Token) → Agrees fits (delete_of (number_in Refused) ts) (delete_of (number_in Zero) ts) (delete_of number_of ts)
 unfolding delete_of
@@ -159,6 +169,11 @@ show_agrees ts =
     agrees_cond fits (is_keyword (codes "world") word.0) (show_world_agrees word.1)
     (agrees_cond fits (is_keyword (codes "tables") word.0) (agrees_made fits (λ _. ShowTables) (end_at word.1) (λ _. refl)) neither))
 
+why_agrees : (ts : List Token) → Agrees fits (why_of (number_in Refused) ts) (why_of (number_in Zero) ts) (why_of number_of ts)
+unfolding why_of
+why_agrees ts =
+    agrees_last signed_fits fits (λ signed. Why signed.0.users signed.0.sign signed.0.rel signed.1) (λ signed. refl) (signed_agrees ts)
+
 after_agrees : (word : List ℕ) (ts : List Token) → Agrees fits (command_after (number_in Refused) word ts) (command_after (number_in Zero) word ts) (command_after number_of word ts)
 unfolding command_after
 after_agrees word ts =
@@ -168,7 +183,8 @@ after_agrees word ts =
     (agrees_cond fits (is_keyword (codes "update") word) (update_agrees ts)
     (agrees_cond fits (is_keyword (codes "select") word) (agrees_map query_fits fits Select (λ q. refl) (query_agrees ts))
     (agrees_cond fits (is_keyword (codes "explain") word) (explain_agrees ts)
-    (agrees_cond fits (is_keyword (codes "show") word) (show_agrees ts) neither))))))
+    (agrees_cond fits (is_keyword (codes "show") word) (show_agrees ts)
+    (agrees_cond fits (is_keyword (codes "why") word) (why_agrees ts) neither)))))))
 
 -- the three readings of a command
 pub command_agrees : (ts : List Token) → Agrees fits (command_by (number_in Refused) ts) (command_by (number_in Zero) ts) (command_of ts)

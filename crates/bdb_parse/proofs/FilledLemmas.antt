@@ -2,6 +2,7 @@
 use Rattle.std.proofs.Common.{◌≡◌, ℕ, ℤ, Bool, true, false, ◌&&◌, cond, List, ◌∷◌, Option, Some, None, refl, sym, ap, ◌∙◌, subst}
 use Rattle.std.specs.Prelude.{codes}
 use Rattle.std.specs.Option.{option_map}
+use Rattle.bdb_base.specs.declared.kinds.Value.{Value}
 use Rattle.bdb_lex.specs.declared.token.Token.{Token}
 use Rattle.bdb_syntax.specs.declared.command.RawQuery.{RawQuery}
 use Rattle.bdb_syntax.specs.declared.command.Command.{Command}
@@ -10,8 +11,9 @@ use Rattle.bdb_syntax.specs.Keywords.{is_keyword}
 use Rattle.bdb_syntax.specs.Filled.{is_filled, query_filled, IsFilled}
 use Rattle.bdb_parse.specs.declared.stop.Stop.{Stop}
 use Rattle.bdb_parse.specs.declared.stop.Stop.TheVariants as stops
+use Rattle.bdb_parse.specs.declared.target.Target.{Target}
 use Rattle.bdb_parse.specs.Stops.{cut}
-use Rattle.bdb_parse.specs.Reading.{◌>>=◌, end_at, word_at, text_at, keyword_at, name_at, literal_of, set_of, col_of, test_of, cond_of, all_of, list_of, conds_of, inside_of, target_at, column_of, item_of, create_user_of, create_relation_of, create_of, insert_of, delete_of, update_of, query_of, explain_of, show_world_of, show_of, command_after, command_by, beliefs_at}
+use Rattle.bdb_parse.specs.Reading.{◌>>=◌, end_at, word_at, text_at, keyword_at, name_at, literal_of, set_of, col_of, test_of, cond_of, all_of, list_of, conds_of, inside_of, target_at, column_of, item_of, create_user_of, create_relation_of, create_of, signed_of, insert_of, delete_of, update_of, query_of, explain_of, show_world_of, show_of, why_of, command_after, command_by, beliefs_at}
 use Rattle.bdb_parse.proofs.CutLemmas.{parts_after, parts_cut}
 
 -- what is read, if anything is, has P
@@ -62,14 +64,28 @@ create_filled ts =
     each_behind IsFilled (list_of column_of stops.Comma inside) _ (λ cols h. list_filled column_of stops.Comma inside cols h))))
     tt))
 
+-- a tuple has a value
+abbrev HasValue : Target × List Value → Type 0
+HasValue signed = HasItem signed.1
+
+signed_filled : (number : List ℕ → Option ℤ) (ts : List Token) → Each HasValue (signed_of number ts)
+unfolding signed_of
+signed_filled number ts =
+    each_behind HasValue (target_at ts) _ (λ target f.
+    each_behind HasValue (keyword_at (codes "values") target.1) _ (λ rest g.
+    each_behind HasValue (inside_of rest) _ (λ inside h.
+    each_behind HasValue (list_of (literal_of number) stops.Comma inside) _ (λ vals i. list_filled (literal_of number) stops.Comma inside vals i))))
+
 insert_filled : (number : List ℕ → Option ℤ) (ts : List Token) → Each IsFilled (insert_of number ts)
 unfolding insert_of
 insert_filled number ts =
     each_behind IsFilled (keyword_at (codes "into") ts) _ (λ into e.
-    each_behind IsFilled (target_at into) _ (λ target f.
-    each_behind IsFilled (keyword_at (codes "values") target.1) _ (λ rest g.
-    each_behind IsFilled (inside_of rest) _ (λ inside h.
-    each_behind IsFilled (list_of (literal_of number) stops.Comma inside) _ (λ vals i. list_filled (literal_of number) stops.Comma inside vals i)))))
+    each_behind IsFilled (signed_of number into) _ (λ signed f. each_at HasValue _ signed (signed_filled number into) f))
+
+why_filled : (number : List ℕ → Option ℤ) (ts : List Token) → Each IsFilled (why_of number ts)
+unfolding why_of
+why_filled number ts =
+    each_behind IsFilled (signed_of number ts) _ (λ signed f. each_at HasValue _ signed (signed_filled number ts) f)
 
 delete_filled : (number : List ℕ → Option ℤ) (ts : List Token) → Each IsFilled (delete_of number ts)
 unfolding delete_of
@@ -125,7 +141,8 @@ after_filled number word ts =
     (each_cond IsFilled (is_keyword (codes "update") word) _ _ (update_filled number ts)
     (each_cond IsFilled (is_keyword (codes "select") word) _ _ (each_map IsFilled Select (query_of number ts) (λ q f. each_at IsFilledQuery _ q (query_is_filled number ts) f))
     (each_cond IsFilled (is_keyword (codes "explain") word) _ _ (explain_filled number ts)
-    (each_cond IsFilled (is_keyword (codes "show") word) _ _ (show_filled ts) tt))))))
+    (each_cond IsFilled (is_keyword (codes "show") word) _ _ (show_filled ts)
+    (each_cond IsFilled (is_keyword (codes "why") word) _ _ (why_filled number ts) tt)))))))
 
 pub command_filled_of : (number : List ℕ → Option ℤ) (ts : List Token) (c : Command) → command_by number ts ≡ Some c → IsFilled c
 unfolding command_by

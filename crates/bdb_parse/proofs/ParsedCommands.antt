@@ -11,7 +11,7 @@ use Rattle.bdb_base.specs.declared.kinds.Value.{Value}
 use Rattle.bdb_lex.specs.declared.token.Token.{Token}
 use Rattle.bdb_lex.specs.declared.token.Token.TheVariants.{Word, Comma, ParenL, ParenR}
 use Rattle.bdb_syntax.specs.declared.command.Command.{Command}
-use Rattle.bdb_syntax.specs.declared.command.Command.TheVariants.{CreateUser, CreateRelation, Insert, Delete, Update, Select, Explain, ShowWorld, ShowTables}
+use Rattle.bdb_syntax.specs.declared.command.Command.TheVariants.{CreateUser, CreateRelation, Insert, Delete, Update, Select, Explain, ShowWorld, Why, ShowTables}
 use Rattle.bdb_syntax.specs.declared.command.RawCol.{RawCol}
 use Rattle.bdb_syntax.specs.declared.command.RawCond.{RawCond}
 use Rattle.bdb_syntax.specs.declared.command.RawQuery.{RawQuery}
@@ -24,8 +24,8 @@ use Rattle.bdb_parse.specs.declared.stop.Stop.TheVariants as stops
 use Rattle.bdb_parse.specs.Numbers.{number_of}
 use Rattle.bdb_parse.specs.Fits.{value_fits, cond_fits, set_fits, query_fits, fits}
 use Rattle.bdb_parse.specs.Stops.{cut}
-use Rattle.bdb_parse.specs.Reading.{name_at, keyword_at, list_of, inside_of, conds_of, beliefs_at, target_at, literal_of, col_of, test_of, cond_of, set_of, column_of, item_of, create_user_of, create_relation_of, create_of, insert_of, delete_of, update_of, query_of, explain_of, show_world_of, show_of, command_after, command_by, command_of}
-use Rattle.bdb_parse.proofs.PrintedTokens.{parted, value_tokens, col_tokens, cond_tokens, where_tokens, set_tokens, column_tokens, belief_tokens, target_tokens, values_tokens, item_tokens, query_tokens, printed_tokens}
+use Rattle.bdb_parse.specs.Reading.{name_at, keyword_at, list_of, inside_of, conds_of, beliefs_at, target_at, literal_of, col_of, test_of, cond_of, set_of, column_of, item_of, create_user_of, create_relation_of, create_of, signed_of, insert_of, delete_of, update_of, query_of, explain_of, show_world_of, show_of, why_of, command_after, command_by, command_of}
+use Rattle.bdb_parse.proofs.PrintedTokens.{parted, value_tokens, col_tokens, cond_tokens, where_tokens, set_tokens, column_tokens, belief_tokens, target_tokens, values_tokens, signed_tokens, item_tokens, query_tokens, printed_tokens}
 use Rattle.bdb_parse.proofs.PrintedLexing.{both}
 use Rattle.bdb_parse.proofs.ParsedLists.{IsClear, is_clear, cut_clear, cut_stop, list_parses, parted_clear}
 use Rattle.bdb_parse.proofs.ParsedParts.{IsSideOf, name_takes, value_clear, full_clear, bare_clear, item_clear, cond_clear, set_clear, column_clear}
@@ -114,15 +114,25 @@ create_relation_parses name cols h k f =
     let e3 : list_of column_of stops.Comma body ≡ Some cols = list_parses column_of stops.Comma Comma refl column_tokens (λ (c : ColDef). IsName c.name) column_clear column_parses cols f k in
     rw (e1, e2, e3) refl
 
-insert_parses : (users : List (List ℕ)) (sign : Sign) (rel : List ℕ) (vals : List Value) → IsName rel → is_filled vals ≡ true → list_all value_fits vals ≡ true
-    → insert_of number_of (Word (codes "into") ∷ (target_tokens users sign rel ++ values_tokens vals)) ≡ Some (Insert users sign rel vals)
-unfolding insert_of keyword_at
-insert_parses users sign rel vals h k f =
+signed_parses : (users : List (List ℕ)) (sign : Sign) (rel : List ℕ) (vals : List Value) → IsName rel → is_filled vals ≡ true → list_all value_fits vals ≡ true
+    → signed_of number_of (signed_tokens users sign rel vals) ≡ Some (record { users = users; sign = sign; rel = rel }, vals)
+unfolding signed_of keyword_at
+signed_parses users sign rel vals h k f =
     let body = parted Comma (map value_tokens vals) in
     let e1 : target_at (target_tokens users sign rel ++ values_tokens vals) ≡ Some (record { users = users; sign = sign; rel = rel }, values_tokens vals) =
     target_parses users sign rel (values_tokens vals) h refl in
     let e2 : inside_of (ParenL ∷ (body ++ ParenR ∷ [])) ≡ Some body = inside_parses body (vals_clear vals) in
     rw (e1, e2, vals_parse vals k f) refl
+
+insert_parses : (users : List (List ℕ)) (sign : Sign) (rel : List ℕ) (vals : List Value) → IsName rel → is_filled vals ≡ true → list_all value_fits vals ≡ true
+    → insert_of number_of (Word (codes "into") ∷ signed_tokens users sign rel vals) ≡ Some (Insert users sign rel vals)
+unfolding insert_of keyword_at
+insert_parses users sign rel vals h k f = rw (signed_parses users sign rel vals h k f) refl
+
+why_parses : (users : List (List ℕ)) (sign : Sign) (rel : List ℕ) (vals : List Value) → IsName rel → is_filled vals ≡ true → list_all value_fits vals ≡ true
+    → why_of number_of (signed_tokens users sign rel vals) ≡ Some (Why users sign rel vals)
+unfolding why_of
+why_parses users sign rel vals h k f = rw (signed_parses users sign rel vals h k f) refl
 
 delete_parses : (users : List (List ℕ)) (sign : Sign) (rel : List ℕ) (conds : List RawCond) → IsName rel → AllByRecursion (IsPrintableCond IsBareCol) conds → list_all cond_fits conds ≡ true
     → delete_of number_of (Word (codes "from") ∷ (target_tokens users sign rel ++ where_tokens conds)) ≡ Some (Delete users sign rel conds)
@@ -173,4 +183,5 @@ tokens_parse (Explain query) p f =
     let filled = and_parts (is_filled query.take) (is_filled query.items) p.filled in
     ap (λ ts. command_of (Word (codes "explain") ∷ ts)) (query_shape query) ∙ ap (λ o. option_map Explain o) (query_parses query p.parts filled.0 filled.1 f)
 tokens_parse (ShowWorld users) p f = show_parses users
+tokens_parse (Why users sign rel vals) p f = why_parses users sign rel vals p.parts.1 p.filled f
 tokens_parse ShowTables p f = refl

@@ -18,10 +18,10 @@ use Rattle.bdb_syntax.specs.declared.command.RawItem.{RawItem}
 use Rattle.bdb_syntax.specs.declared.command.RawSet.{RawSet}
 use Rattle.bdb_syntax.specs.declared.command.RawQuery.{RawQuery}
 use Rattle.bdb_syntax.specs.declared.command.Command.{Command}
-use Rattle.bdb_syntax.specs.declared.command.Command.TheVariants.{CreateUser, CreateRelation, Insert, Delete, Update, Select, Explain, ShowWorld, ShowTables}
+use Rattle.bdb_syntax.specs.declared.command.Command.TheVariants.{CreateUser, CreateRelation, Insert, Delete, Update, Select, Explain, ShowWorld, Why, ShowTables}
 use Rattle.bdb_syntax.specs.Printable as printable
 use Rattle.bdb_parse.specs.Spelled.{AreWellSpelled}
-use Rattle.bdb_parse.specs.Grammar.{◌▸◌, IsToken, IsKeyword, IsName, IsLiteral, AreSeparated, AreRepeated, IsBelief, IsSign, IsKind, IsColumn, cmp_token, IsBareCol, IsFullCol, IsSide, IsCond, AreConds, IsSet, IsWho, IsItemBelief, IsAlias, IsItem, IsTarget, IsQuery, IsCommand}
+use Rattle.bdb_parse.specs.Grammar.{◌▸◌, IsToken, IsKeyword, IsName, IsLiteral, AreSeparated, AreRepeated, IsBelief, IsSign, IsKind, IsColumn, cmp_token, IsBareCol, IsFullCol, IsSide, IsCond, AreConds, IsSet, IsWho, IsItemBelief, IsAlias, IsItem, IsTarget, IsSigned, IsQuery, IsCommand}
 
 both_spelled : (xs ys : List Token) → AreWellSpelled (xs ++ ys) → AreWellSpelled xs × AreWellSpelled ys
 both_spelled [] ys h = (tt, h)
@@ -138,7 +138,7 @@ query_ok q ts h w =
       conds_ok IsFullCol printable.IsFullCol full_ok q.conds i.1 i.4 d.1,
     )
 
--- what a change is about, and the tokens behind it
+-- a path, a sign and a relation, and the tokens behind them
 target_ok : (users : List (List ℕ)) (sign : Sign) (rel : List ℕ) (After : List Token → Type 0) (ts : List Token) → (h : IsTarget users sign rel After ts) → AreWellSpelled ts → AllByRecursion printable.IsContent users × printable.IsName rel × AreWellSpelled h.4.4.1
 target_ok users sign rel After ts h w =
     let a = halves (AreRepeated IsBelief users) (IsSign sign ▸ IsName rel ▸ After) ts h w in
@@ -150,6 +150,15 @@ target_ok users sign rel After ts h w =
 inside_ok : (P : List Token → Type 0) (ts : List Token) → (h : (IsToken ParenL ▸ P ▸ IsToken ParenR) ts) → AreWellSpelled ts → AreWellSpelled h.4.0
 inside_ok P ts h w =
     (halves P (IsToken ParenR) h.1 h.4 (halves (IsToken ParenL) (P ▸ IsToken ParenR) ts h w).1).0
+
+signed_ok : (users : List (List ℕ)) (sign : Sign) (rel : List ℕ) (vals : List Value) (ts : List Token) → IsSigned users sign rel vals ts → AreWellSpelled ts → printable.IsPrintableSigned users rel vals
+signed_ok users sign rel vals ts h w =
+    let Vals = AreSeparated IsLiteral (IsToken Comma) vals in
+    let Body = IsToken ParenL ▸ Vals ▸ IsToken ParenR in
+    let t = target_ok users sign rel (IsKeyword (codes "values") ▸ Body) ts h w in
+    let v = h.4.4.4 in
+    let b = halves (IsKeyword (codes "values")) Body h.4.4.1 v t.2 in
+    (t.0, t.1, separated_ok IsLiteral (IsToken Comma) printable.IsPrintableValue literal_ok vals v.4.4.0 v.4.4.3 (inside_ok Vals v.1 v.4 b.1))
 
 pub parts_ok : (c : Command) (ts : List Token) → IsCommand ts c → AreWellSpelled ts → printable.HasPrintableParts c
 parts_ok (CreateUser name) ts h w =
@@ -165,15 +174,10 @@ parts_ok (CreateRelation name cols) ts h w =
     let c = halves (IsName name) Body h.4.1 n b.1 in
     (name_ok name n.0 n.3 c.0, separated_ok IsColumn (IsToken Comma) (λ (x : ColDef). printable.IsName x.name) column_ok cols n.4.4.0 n.4.4.3 (inside_ok Cols n.1 n.4 c.1))
 parts_ok (Insert users sign rel vals) ts h w =
-    let Vals = AreSeparated IsLiteral (IsToken Comma) vals in
-    let Body = IsToken ParenL ▸ Vals ▸ IsToken ParenR in
-    let After = IsKeyword (codes "values") ▸ Body in
-    let a = halves (IsKeyword (codes "insert")) (IsKeyword (codes "into") ▸ IsTarget users sign rel After) ts h w in
-    let b = halves (IsKeyword (codes "into")) (IsTarget users sign rel After) h.1 h.4 a.1 in
-    let t = target_ok users sign rel After h.4.1 h.4.4 b.1 in
-    let v = h.4.4.4.4.4 in
-    let c = halves (IsKeyword (codes "values")) Body h.4.4.4.4.1 v t.2 in
-    (t.0, t.1, separated_ok IsLiteral (IsToken Comma) printable.IsPrintableValue literal_ok vals v.4.4.0 v.4.4.3 (inside_ok Vals v.1 v.4 c.1))
+    let Signed = IsSigned users sign rel vals in
+    let a = halves (IsKeyword (codes "insert")) (IsKeyword (codes "into") ▸ Signed) ts h w in
+    let b = halves (IsKeyword (codes "into")) Signed h.1 h.4 a.1 in
+    signed_ok users sign rel vals h.4.1 h.4.4 b.1
 parts_ok (Delete users sign rel conds) ts h w =
     let After = AreConds IsBareCol conds in
     let a = halves (IsKeyword (codes "delete")) (IsKeyword (codes "from") ▸ IsTarget users sign rel After) ts h w in
@@ -197,4 +201,6 @@ parts_ok (ShowWorld users) ts h w =
     let a = halves (IsKeyword (codes "show")) (IsKeyword (codes "world") ▸ AreRepeated IsBelief users) ts h w in
     let b = halves (IsKeyword (codes "world")) (AreRepeated IsBelief users) h.1 h.4 a.1 in
     repeated_ok IsBelief printable.IsContent belief_ok users h.4.1 h.4.4 b.1
+parts_ok (Why users sign rel vals) ts h w =
+    signed_ok users sign rel vals h.1 h.4 (halves (IsKeyword (codes "why")) (IsSigned users sign rel vals) ts h w).1
 parts_ok ShowTables ts h w = tt

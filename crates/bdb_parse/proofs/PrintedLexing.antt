@@ -15,7 +15,7 @@ use Rattle.bdb_lex.specs.declared.token.Token.{Token}
 use Rattle.bdb_lex.specs.declared.token.Token.TheVariants.{Word, Comma, Dot, ParenL, ParenR, Eq}
 use Rattle.bdb_lex.specs.Tokens.{tokens_of}
 use Rattle.bdb_syntax.specs.declared.command.Command.{Command}
-use Rattle.bdb_syntax.specs.declared.command.Command.TheVariants.{CreateUser, CreateRelation, Insert, Delete, Update, Select, Explain, ShowWorld, ShowTables}
+use Rattle.bdb_syntax.specs.declared.command.Command.TheVariants.{CreateUser, CreateRelation, Insert, Delete, Update, Select, Explain, ShowWorld, Why, ShowTables}
 use Rattle.bdb_syntax.specs.declared.command.RawCol.{RawCol}
 use Rattle.bdb_syntax.specs.declared.command.RawCond.{RawCond}
 use Rattle.bdb_syntax.specs.declared.command.RawItem.{RawItem}
@@ -25,10 +25,10 @@ use Rattle.bdb_syntax.specs.declared.command.RawSide.{RawSide}
 use Rattle.bdb_syntax.specs.declared.command.RawSide.TheVariants.{Col, Lit}
 use Rattle.bdb_syntax.specs.declared.command.RawWho.{RawWho}
 use Rattle.bdb_syntax.specs.declared.command.RawWho.TheVariants as who
-use Rattle.bdb_syntax.specs.Printed.{named_column, col_text, side_text, cond_text, where_text, set_text, belief_text, who_text, not_text, target_text, values_text, item_text, query_text, printed}
-use Rattle.bdb_syntax.specs.Printable.{IsName, IsContent, IsPrintableValue, IsBareCol, IsFullCol, IsPrintableSide, IsPrintableCond, IsPrintableWho, IsPrintableItem, IsPrintableSet, IsPrintableQuery, IsPrintable}
+use Rattle.bdb_syntax.specs.Printed.{named_column, col_text, side_text, cond_text, where_text, set_text, belief_text, who_text, not_text, target_text, values_text, signed_text, item_text, query_text, printed}
+use Rattle.bdb_syntax.specs.Printable.{IsName, IsContent, IsPrintableValue, IsBareCol, IsFullCol, IsPrintableSide, IsPrintableCond, IsPrintableWho, IsPrintableItem, IsPrintableSet, IsPrintableSigned, IsPrintableQuery, IsPrintable}
 use Rattle.bdb_parse.specs.Fits.{value_fits, side_fits, cond_fits, set_fits, query_fits, fits}
-use Rattle.bdb_parse.proofs.PrintedTokens.{parted, value_tokens, named_tokens, col_tokens, side_tokens, cond_tokens, where_tokens, set_tokens, column_tokens, belief_tokens, who_tokens, not_tokens, target_tokens, values_tokens, item_tokens, query_tokens, printed_tokens}
+use Rattle.bdb_parse.proofs.PrintedTokens.{parted, value_tokens, named_tokens, col_tokens, side_tokens, cond_tokens, where_tokens, set_tokens, column_tokens, belief_tokens, who_tokens, not_tokens, target_tokens, values_tokens, signed_tokens, item_tokens, query_tokens, printed_tokens}
 use Rattle.bdb_parse.proofs.RoundTripLexing.{is_edge, starts_edge, edge_append, edge_from_start, Reads, Ends, reads_all, reads_from_ends, ends_reads, reads_reads, reads_ends, ends_between, ends_mark, reads_word, reads_nothing}
 use Rattle.bdb_parse.proofs.SpelledTokens.{word_reads, text_reads, value_reads, cmp_reads}
 
@@ -166,11 +166,11 @@ not_edge Plus = refl
 not_edge Minus = refl
 
 -- what begins with users and a sign, and then a space, begins with an edge
-signed_edge : (front rest : List ℕ) (s : Sign) → is_edge front ≡ true → is_edge (front ++ not_text s ++ codes " " ++ rest) ≡ true
-signed_edge front rest s e = edge_from_start (front ++ not_text s ++ codes " ") rest (starts_append (front ++ not_text s) (codes " ") (edge_append front (not_text s) e (not_edge s)) refl)
+sign_edge : (front rest : List ℕ) (s : Sign) → is_edge front ≡ true → is_edge (front ++ not_text s ++ codes " " ++ rest) ≡ true
+sign_edge front rest s e = edge_from_start (front ++ not_text s ++ codes " ") rest (starts_append (front ++ not_text s) (codes " ") (edge_append front (not_text s) e (not_edge s)) refl)
 
 target_edge : (users : List (List ℕ)) (s : Sign) (rel : List ℕ) → is_edge (target_text users s rel) ≡ true
-target_edge users s rel = signed_edge (flat_map belief_text users) rel s (flat_edge belief_text (λ u. refl) users)
+target_edge users s rel = sign_edge (flat_map belief_text users) rel s (flat_edge belief_text (λ u. refl) users)
 
 target_reads : (users : List (List ℕ)) (s : Sign) (rel : List ℕ) → AllByRecursion IsContent users → IsName rel → Reads (target_text users s rel) (target_tokens users s rel)
 target_reads users s rel h k = ends_reads (ends_space (reads_reads (not_edge s) (beliefs_read users h) (not_reads s))) (name_reads rel k)
@@ -182,6 +182,12 @@ values_read vals h f =
     (reads_joined value_text value_tokens (λ v. IsPrintableValue v × (value_fits v ≡ true)) (λ v p. value_reads v p.0 p.1) vals (both IsPrintableValue value_fits vals h f)))
     close_ends
 
+signed_reads : (users : List (List ℕ)) (s : Sign) (rel : List ℕ) (vals : List Value) → IsPrintableSigned users rel vals → list_all value_fits vals ≡ true → Reads (signed_text users s rel vals) (signed_tokens users s rel vals)
+signed_reads users s rel vals h f = reads_from_ends (reads_ends refl (target_reads users s rel h.0 h.1) (values_read vals h.2 f))
+
+signed_edge : (users : List (List ℕ)) (s : Sign) (rel : List ℕ) (vals : List Value) → is_edge (signed_text users s rel vals) ≡ true
+signed_edge users s rel vals = edge_append (target_text users s rel) (values_text vals) (target_edge users s rel) refl
+
 item_reads : (i : RawItem) → IsPrintableItem i → Reads (item_text i) (item_tokens i)
 item_reads i h =
     ends_reads (ends_space (ends_reads (ends_space (reads_reads (not_edge i.sign) (reads_flat who_text who_tokens IsPrintableWho who_reads who_edge i.path h.0) (not_reads i.sign)))
@@ -191,7 +197,7 @@ item_edge : (i : RawItem) → is_edge (item_text i) ≡ true
 item_edge i =
     let front = flat_map who_text i.path in
     edge_from_start (front ++ not_text i.sign ++ codes " " ++ i.rel ++ codes " ") i.alias
-    (starts_append (front ++ not_text i.sign ++ codes " " ++ i.rel) (codes " ") (signed_edge front i.rel i.sign (flat_edge who_text who_edge i.path)) refl)
+    (starts_append (front ++ not_text i.sign ++ codes " " ++ i.rel) (codes " ") (sign_edge front i.rel i.sign (flat_edge who_text who_edge i.path)) refl)
 
 items_edge : (items : List RawItem) → is_edge (separated (codes ",") (map item_text items)) ≡ true
 items_edge [] = refl
@@ -215,9 +221,8 @@ command_reads (CreateRelation name cols) p f =
     (reads_joined column_text column_tokens (λ (c : ColDef). IsName c.name) column_reads cols p.parts.1))
     close_ends)
 command_reads (Insert users sign rel vals) p f =
-    reads_from_ends (reads_ends refl
-    (reads_reads (target_edge users sign rel) (reads_word (codes "insert into") (Word (codes "insert") ∷ []) (codes "into") refl refl refl) (target_reads users sign rel p.parts.0 p.parts.1))
-    (values_read vals p.parts.2 f))
+    reads_reads (signed_edge users sign rel vals) (reads_word (codes "insert into") (Word (codes "insert") ∷ []) (codes "into") refl refl refl)
+    (signed_reads users sign rel vals p.parts f)
 command_reads (Delete users sign rel conds) p f =
     reads_reads (where_edge conds)
     (reads_reads (target_edge users sign rel) (reads_word (codes "delete from") (Word (codes "delete") ∷ []) (codes "from") refl refl refl) (target_reads users sign rel p.parts.0 p.parts.1))
@@ -234,6 +239,8 @@ command_reads (Select query) p f = query_reads query p.parts f
 command_reads (Explain query) p f = ends_reads (ends_between (codes "explain ") (Word (codes "explain") ∷ []) refl refl) (query_reads query p.parts f)
 command_reads (ShowWorld users) p f =
     reads_reads (flat_edge belief_text (λ u. refl) users) (reads_word (codes "show world") (Word (codes "show") ∷ []) (codes "world") refl refl refl) (beliefs_read users p.parts)
+command_reads (Why users sign rel vals) p f =
+    reads_reads (signed_edge users sign rel vals) (reads_word (codes "why") [] (codes "why") refl refl refl) (signed_reads users sign rel vals p.parts f)
 command_reads ShowTables p f = reads_word (codes "show tables") (Word (codes "show") ∷ []) (codes "tables") refl refl refl
 
 -- the printed form of a command is these tokens

@@ -12,7 +12,7 @@ use Rattle.bdb_base.specs.Texts.{int_text, kind_text}
 use Rattle.bdb_lex.specs.declared.token.Token.{Token}
 use Rattle.bdb_lex.specs.declared.token.Token.TheVariants.{Word, Text, Num, Comma, Dot, ParenL, ParenR, Eq, Ne, Lt, Le, Gt, Ge}
 use Rattle.bdb_syntax.specs.declared.command.Command.{Command}
-use Rattle.bdb_syntax.specs.declared.command.Command.TheVariants.{CreateUser, CreateRelation, Insert, Delete, Update, Select, Explain, ShowWorld, ShowTables}
+use Rattle.bdb_syntax.specs.declared.command.Command.TheVariants.{CreateUser, CreateRelation, Insert, Delete, Update, Select, Explain, ShowWorld, Why, ShowTables}
 use Rattle.bdb_syntax.specs.declared.command.RawCol.{RawCol}
 use Rattle.bdb_syntax.specs.declared.command.RawCond.{RawCond}
 use Rattle.bdb_syntax.specs.declared.command.RawItem.{RawItem}
@@ -84,6 +84,9 @@ target_tokens users sign rel = flat_map belief_tokens users ++ not_tokens sign +
 abbrev pub values_tokens : List Value → List Token
 values_tokens vals = Word (codes "values") ∷ ParenL ∷ [] ++ parted Comma (map value_tokens vals) ++ ParenR ∷ []
 
+abbrev pub signed_tokens : List (List ℕ) → Sign → List ℕ → List Value → List Token
+signed_tokens users sign rel vals = target_tokens users sign rel ++ values_tokens vals
+
 abbrev pub item_tokens : RawItem → List Token
 item_tokens i = flat_map who_tokens i.path ++ not_tokens i.sign ++ Word i.rel ∷ [] ++ Word i.alias ∷ []
 
@@ -94,10 +97,11 @@ query_tokens q = Word (codes "select") ∷ [] ++ parted Comma (map col_tokens q.
 abbrev pub printed_tokens : Command → List Token
 printed_tokens (CreateUser name) = Word (codes "create") ∷ Word (codes "user") ∷ [] ++ Text name ∷ []
 printed_tokens (CreateRelation name cols) = Word (codes "create") ∷ Word (codes "relation") ∷ [] ++ Word name ∷ [] ++ ParenL ∷ [] ++ parted Comma (map column_tokens cols) ++ ParenR ∷ []
-printed_tokens (Insert users sign rel vals) = Word (codes "insert") ∷ Word (codes "into") ∷ [] ++ target_tokens users sign rel ++ values_tokens vals
+printed_tokens (Insert users sign rel vals) = Word (codes "insert") ∷ Word (codes "into") ∷ [] ++ signed_tokens users sign rel vals
 printed_tokens (Delete users sign rel conds) = Word (codes "delete") ∷ Word (codes "from") ∷ [] ++ target_tokens users sign rel ++ where_tokens conds
 printed_tokens (Update users sign rel sets conds) = Word (codes "update") ∷ [] ++ target_tokens users sign rel ++ Word (codes "set") ∷ [] ++ parted Comma (map set_tokens sets) ++ where_tokens conds
 printed_tokens (Select query) = query_tokens query
 printed_tokens (Explain query) = Word (codes "explain") ∷ [] ++ query_tokens query
 printed_tokens (ShowWorld users) = Word (codes "show") ∷ Word (codes "world") ∷ [] ++ flat_map belief_tokens users
+printed_tokens (Why users sign rel vals) = Word (codes "why") ∷ [] ++ signed_tokens users sign rel vals
 printed_tokens ShowTables = Word (codes "show") ∷ Word (codes "tables") ∷ []

@@ -14,10 +14,11 @@ use Rattle.bdb_syntax.specs.declared.command.Command.{Command}
 use Rattle.bdb_syntax.specs.declared.command.Command.TheVariants.{Select, Explain, ShowTables}
 use Rattle.bdb_syntax.specs.Keywords.{is_keyword}
 use Rattle.bdb_parse.specs.declared.stop.Stop.TheVariants as stops
+use Rattle.bdb_parse.specs.declared.target.Target.{Target}
 use Rattle.bdb_parse.specs.Numbers.{number_of}
 use Rattle.bdb_parse.specs.Stops.{cut}
-use Rattle.bdb_parse.specs.Grammar.{◌▸◌, IsNothing, IsToken, IsKeyword, IsName, IsLiteral, AreSeparated, AreRepeated, IsBelief, IsColumn, IsBareCol, IsFullCol, AreConds, IsSet, IsItem, IsTarget, IsQuery, IsCommand}
-use Rattle.bdb_parse.specs.Reading.{end_at, word_at, text_at, keyword_at, name_at, literal_of, set_of, col_of, test_of, cond_of, list_of, conds_of, inside_of, target_at, column_of, item_of, create_user_of, create_relation_of, create_of, insert_of, delete_of, update_of, query_of, explain_of, show_world_of, show_of, command_after, command_by, command_of, beliefs_at}
+use Rattle.bdb_parse.specs.Grammar.{◌▸◌, IsNothing, IsToken, IsKeyword, IsName, IsLiteral, AreSeparated, AreRepeated, IsBelief, IsColumn, IsBareCol, IsFullCol, AreConds, IsSet, IsItem, IsTarget, IsSigned, IsQuery, IsCommand}
+use Rattle.bdb_parse.specs.Reading.{end_at, word_at, text_at, keyword_at, name_at, literal_of, set_of, col_of, test_of, cond_of, list_of, conds_of, inside_of, target_at, column_of, item_of, create_user_of, create_relation_of, create_of, signed_of, insert_of, delete_of, update_of, query_of, explain_of, show_world_of, show_of, why_of, command_after, command_by, command_of, beliefs_at}
 use Rattle.bdb_parse.proofs.FilledLemmas.{Each, each_behind, each_map, each_at}
 use Rattle.bdb_parse.proofs.Sound.{end_is, word_is, text_is, keyword_is, keyword_then, word_then, name_then, beliefs_then, target_then, cut_then, comma_is, from_is, list_sound}
 use Rattle.bdb_parse.proofs.SoundParts.{literal_sound, column_sound, set_sound, test_sound, cond_sound, full_sound, item_sound, inside_then, conds_then}
@@ -73,23 +74,33 @@ create_sound whole w ts e k =
     (inside_then (AreSeparated IsColumn (IsToken Comma) cols) name.1 inside h (columns_sound inside cols i))))))))
     tt))
 
+signed_sound : (ts : List Token) → Each (λ signed. IsSigned signed.0.users signed.0.sign signed.0.rel signed.1 ts) (signed_of number_of ts)
+unfolding signed_of
+signed_sound ts =
+    let P : Target × List Value → Type 0 = λ signed. IsSigned signed.0.users signed.0.sign signed.0.rel signed.1 ts in
+    each_behind P (target_at ts) _ (λ target f.
+    each_behind P (keyword_at (codes "values") target.1) _ (λ rest g.
+    each_behind P (inside_of rest) _ (λ inside h.
+    each_behind P (list_of (literal_of number_of) stops.Comma inside) _ (λ vals i.
+    let Body = IsToken ParenL ▸ AreSeparated IsLiteral (IsToken Comma) vals ▸ IsToken ParenR in
+    target_then (IsKeyword (codes "values") ▸ Body) ts target f
+    (keyword_then (codes "values") Body target.1 rest g
+    (inside_then (AreSeparated IsLiteral (IsToken Comma) vals) rest inside h (literals_sound inside vals i)))))))
+
+-- what was read of these tokens is in the grammar
+signed_is : (ts : List Token) (signed : Target × List Value) → signed_of number_of ts ≡ Some signed → IsSigned signed.0.users signed.0.sign signed.0.rel signed.1 ts
+signed_is ts signed e =
+    each_at (λ (x : Target × List Value). IsSigned x.0.users x.0.sign x.0.rel x.1 ts) _ signed (signed_sound ts) e
+
 insert_sound : (whole : List Token) (w : List ℕ) (ts : List Token) → whole ≡ Word w ∷ ts → is_keyword (codes "insert") w ≡ true → Each (IsCommand whole) (insert_of number_of ts)
 unfolding insert_of
 insert_sound whole w ts e k =
     let P : Command → Type 0 = IsCommand whole in
     each_behind P (keyword_at (codes "into") ts) _ (λ into f.
-    each_behind P (target_at into) _ (λ target g.
-    each_behind P (keyword_at (codes "values") target.1) _ (λ rest h.
-    each_behind P (inside_of rest) _ (λ inside i.
-    each_behind P (list_of (literal_of number_of) stops.Comma inside) _ (λ vals j.
-    let Body = IsToken ParenL ▸ AreSeparated IsLiteral (IsToken Comma) vals ▸ IsToken ParenR in
-    let After = IsKeyword (codes "values") ▸ Body in
-    let Target_is = IsTarget target.0.users target.0.sign target.0.rel After in
-    first_then (codes "insert") (IsKeyword (codes "into") ▸ Target_is) whole w ts e k
-    (keyword_then (codes "into") Target_is ts into f
-    (target_then After into target g
-    (keyword_then (codes "values") Body target.1 rest h
-    (inside_then (AreSeparated IsLiteral (IsToken Comma) vals) rest inside i (literals_sound inside vals j))))))))))
+    each_behind P (signed_of number_of into) _ (λ signed g.
+    let Signed = IsSigned signed.0.users signed.0.sign signed.0.rel signed.1 in
+    first_then (codes "insert") (IsKeyword (codes "into") ▸ Signed) whole w ts e k
+    (keyword_then (codes "into") Signed ts into f (signed_is into signed g))))
 
 delete_sound : (whole : List Token) (w : List ℕ) (ts : List Token) → whole ≡ Word w ∷ ts → is_keyword (codes "delete") w ≡ true → Each (IsCommand whole) (delete_of number_of ts)
 unfolding delete_of
@@ -165,6 +176,13 @@ show_sound whole w ts e k =
     (word.0, word_is ts word f ∙ ap (λ (r : List Token). Word word.0 ∷ r) (end_is word.1 rest g), u)))
     tt))
 
+why_sound : (whole : List Token) (w : List ℕ) (ts : List Token) → whole ≡ Word w ∷ ts → is_keyword (codes "why") w ≡ true → Each (IsCommand whole) (why_of number_of ts)
+unfolding why_of
+why_sound whole w ts e k =
+    let P : Command → Type 0 = IsCommand whole in
+    each_behind P (signed_of number_of ts) _ (λ signed f.
+    first_then (codes "why") (IsSigned signed.0.users signed.0.sign signed.0.rel signed.1) whole w ts e k (signed_is ts signed f))
+
 after_command : (whole : List Token) (w : List ℕ) (ts : List Token) → whole ≡ Word w ∷ ts → Each (IsCommand whole) (command_after number_of w ts)
 unfolding command_after
 after_command whole w ts e =
@@ -175,7 +193,8 @@ after_command whole w ts e =
     (each_if P (is_keyword (codes "update") w) _ _ (update_sound whole w ts e)
     (each_if P (is_keyword (codes "select") w) _ _ (λ k. each_map P Select (query_of number_of ts) (λ q f. each_at (λ (x : RawQuery). IsQuery x whole) _ q (query_sound whole w ts e k) f))
     (each_if P (is_keyword (codes "explain") w) _ _ (explain_sound whole w ts e)
-    (each_if P (is_keyword (codes "show") w) _ _ (show_sound whole w ts e) tt))))))
+    (each_if P (is_keyword (codes "show") w) _ _ (show_sound whole w ts e)
+    (each_if P (is_keyword (codes "why") w) _ _ (why_sound whole w ts e) tt)))))))
 
 pub command_sound : (ts : List Token) (c : Command) → command_of ts ≡ Some c → IsCommand ts c
 unfolding command_of command_by

@@ -14,13 +14,14 @@ use Rattle.bdb_syntax.specs.declared.command.RawItem.{RawItem}
 use Rattle.bdb_syntax.specs.declared.command.RawSet.{RawSet}
 use Rattle.bdb_syntax.specs.declared.command.RawQuery.{RawQuery}
 use Rattle.bdb_syntax.specs.declared.command.Command.{Command}
-use Rattle.bdb_syntax.specs.declared.command.Command.TheVariants.{CreateUser, CreateRelation, Insert, Delete, Update, Select, Explain, ShowWorld, ShowTables}
+use Rattle.bdb_syntax.specs.declared.command.Command.TheVariants.{CreateUser, CreateRelation, Insert, Delete, Update, Select, Explain, ShowWorld, Why, ShowTables}
 use Rattle.bdb_syntax.specs.Keywords.{is_keyword}
 use Rattle.bdb_parse.specs.declared.stop.Stop.TheVariants as stops
+use Rattle.bdb_parse.specs.declared.target.Target.{Target}
 use Rattle.bdb_parse.specs.Numbers.{number_of}
 use Rattle.bdb_parse.specs.Stops.{cut}
-use Rattle.bdb_parse.specs.Grammar.{◌▸◌, IsToken, IsKeyword, IsName, IsLiteral, AreSeparated, AreRepeated, IsBelief, IsColumn, IsBareCol, IsFullCol, AreConds, IsSet, IsItem, IsTarget, IsQuery, IsCommand}
-use Rattle.bdb_parse.specs.Reading.{◌>>=◌, end_at, word_at, text_at, keyword_at, name_at, literal_of, set_of, col_of, test_of, cond_of, list_of, conds_of, inside_of, target_at, column_of, item_of, create_user_of, create_relation_of, create_of, insert_of, delete_of, update_of, query_of, explain_of, show_world_of, show_of, command_after, command_by, command_of, beliefs_at}
+use Rattle.bdb_parse.specs.Grammar.{◌▸◌, IsToken, IsKeyword, IsName, IsLiteral, AreSeparated, AreRepeated, IsBelief, IsColumn, IsBareCol, IsFullCol, AreConds, IsSet, IsItem, IsTarget, IsSigned, IsQuery, IsCommand}
+use Rattle.bdb_parse.specs.Reading.{◌>>=◌, end_at, word_at, text_at, keyword_at, name_at, literal_of, set_of, col_of, test_of, cond_of, list_of, conds_of, inside_of, target_at, column_of, item_of, create_user_of, create_relation_of, create_of, signed_of, insert_of, delete_of, update_of, query_of, explain_of, show_world_of, show_of, why_of, command_after, command_by, command_of, beliefs_at}
 use Rattle.bdb_parse.proofs.Takes.{head_is, word_takes, keyword_takes, name_takes, other_keyword, cut_at, separated_free, list_takes, comma_stops, comma_free}
 use Rattle.bdb_parse.specs.Laws.{CommandsAreRead}
 use Rattle.bdb_parse.proofs.SoundCommands.{command_sound}
@@ -78,21 +79,26 @@ create_relation_takes name cols ts h =
     (then_some (inside_of n.1) i.0 _ c i.1
     (then_some (list_of column_of stops.Comma i.0) cols _ c (columns_take cols i.0 i.2) refl)))))
 
-insert_takes : (users : List (List ℕ)) (sign : Sign) (rel : List ℕ) (vals : List Value) (ts : List Token) → (IsKeyword (codes "into") ▸ IsTarget users sign rel (IsKeyword (codes "values") ▸ IsToken ParenL ▸ AreSeparated IsLiteral (IsToken Comma) vals ▸ IsToken ParenR)) ts → insert_of number_of ts ≡ Some (Insert users sign rel vals)
+signed_takes : (users : List (List ℕ)) (sign : Sign) (rel : List ℕ) (vals : List Value) (ts : List Token) → IsSigned users sign rel vals ts → signed_of number_of ts ≡ Some (record { users = users; sign = sign; rel = rel }, vals)
+unfolding signed_of
+signed_takes users sign rel vals ts h =
+    let made : Target × List Value = (record { users = users; sign = sign; rel = rel }, vals) in
+    let Vals = AreSeparated IsLiteral (IsToken Comma) vals in
+    let Body = IsToken ParenL ▸ Vals ▸ IsToken ParenR in
+    let t = target_takes users sign rel (IsKeyword (codes "values") ▸ Body) ts h in
+    let v = t.2 in
+    let i = inside_takes Vals (separated_free IsLiteral (IsToken Comma) stops.Close (λ x us j. literal_free x stops.Close us j) (comma_free stops.Close refl) vals) v.1 v.4 in
+    then_some (target_at ts) (record { users = users; sign = sign; rel = rel }, t.0) _ made t.1
+    (then_some (keyword_at (codes "values") t.0) v.1 _ made (keyword_takes (codes "values") Body t.0 v)
+    (then_some (inside_of v.1) i.0 _ made i.1
+    (then_some (list_of (literal_of number_of) stops.Comma i.0) vals _ made (literals_take vals i.0 i.2) refl)))
+
+insert_takes : (users : List (List ℕ)) (sign : Sign) (rel : List ℕ) (vals : List Value) (ts : List Token) → (IsKeyword (codes "into") ▸ IsSigned users sign rel vals) ts → insert_of number_of ts ≡ Some (Insert users sign rel vals)
 unfolding insert_of
 insert_takes users sign rel vals ts h =
     let c = Insert users sign rel vals in
-    let Vals = AreSeparated IsLiteral (IsToken Comma) vals in
-    let Body = IsToken ParenL ▸ Vals ▸ IsToken ParenR in
-    let After = IsKeyword (codes "values") ▸ Body in
-    let t = target_takes users sign rel After h.1 h.4 in
-    let v = t.2 in
-    let i = inside_takes Vals (separated_free IsLiteral (IsToken Comma) stops.Close (λ x us j. literal_free x stops.Close us j) (comma_free stops.Close refl) vals) v.1 v.4 in
-    then_some (keyword_at (codes "into") ts) h.1 _ c (keyword_takes (codes "into") (IsTarget users sign rel After) ts h)
-    (then_some (target_at h.1) (record { users = users; sign = sign; rel = rel }, t.0) _ c t.1
-    (then_some (keyword_at (codes "values") t.0) v.1 _ c (keyword_takes (codes "values") Body t.0 v)
-    (then_some (inside_of v.1) i.0 _ c i.1
-    (then_some (list_of (literal_of number_of) stops.Comma i.0) vals _ c (literals_take vals i.0 i.2) refl))))
+    then_some (keyword_at (codes "into") ts) h.1 _ c (keyword_takes (codes "into") (IsSigned users sign rel vals) ts h)
+    (then_some (signed_of number_of h.1) (record { users = users; sign = sign; rel = rel }, vals) _ c (signed_takes users sign rel vals h.1 h.4) refl)
 
 delete_takes : (users : List (List ℕ)) (sign : Sign) (rel : List ℕ) (conds : List RawCond) (ts : List Token) → (IsKeyword (codes "from") ▸ IsTarget users sign rel (AreConds IsBareCol conds)) ts → delete_of number_of ts ≡ Some (Delete users sign rel conds)
 unfolding delete_of
@@ -166,6 +172,11 @@ show_tables_takes ts h =
     (passes (is_keyword (codes "world") h.0) _ _ ShowTables (other_keyword (codes "tables") (codes "world") h.0 h.2 refl)
     (picks (is_keyword (codes "tables") h.0) _ _ ShowTables h.2 refl))
 
+why_takes : (users : List (List ℕ)) (sign : Sign) (rel : List ℕ) (vals : List Value) (ts : List Token) → IsSigned users sign rel vals ts → why_of number_of ts ≡ Some (Why users sign rel vals)
+unfolding why_of
+why_takes users sign rel vals ts h =
+    then_some (signed_of number_of ts) (record { users = users; sign = sign; rel = rel }, vals) _ (Why users sign rel vals) (signed_takes users sign rel vals ts h) refl
+
 -- a first word decides which command follows
 first_takes : (keyword : List ℕ) (Q : List Token → Type 0) (ts : List Token) (c : Command) → (h : (IsKeyword keyword ▸ Q) ts) → command_after number_of h.3.0 h.1 ≡ Some c → command_of ts ≡ Some c
 unfolding command_of command_by
@@ -227,6 +238,18 @@ show_after w ts c k e =
     (passes (is_keyword (codes "explain") w) _ _ c (other_keyword (codes "show") (codes "explain") w k refl)
     (picks (is_keyword (codes "show") w) _ _ c k e))))))
 
+why_after : (w : List ℕ) (ts : List Token) (c : Command) → is_keyword (codes "why") w ≡ true → why_of number_of ts ≡ Some c → command_after number_of w ts ≡ Some c
+unfolding command_after
+why_after w ts c k e =
+    passes (is_keyword (codes "create") w) _ _ c (other_keyword (codes "why") (codes "create") w k refl)
+    (passes (is_keyword (codes "insert") w) _ _ c (other_keyword (codes "why") (codes "insert") w k refl)
+    (passes (is_keyword (codes "delete") w) _ _ c (other_keyword (codes "why") (codes "delete") w k refl)
+    (passes (is_keyword (codes "update") w) _ _ c (other_keyword (codes "why") (codes "update") w k refl)
+    (passes (is_keyword (codes "select") w) _ _ c (other_keyword (codes "why") (codes "select") w k refl)
+    (passes (is_keyword (codes "explain") w) _ _ c (other_keyword (codes "why") (codes "explain") w k refl)
+    (passes (is_keyword (codes "show") w) _ _ c (other_keyword (codes "why") (codes "show") w k refl)
+    (picks (is_keyword (codes "why") w) _ _ c k e)))))))
+
 pub command_takes : (c : Command) (ts : List Token) → IsCommand ts c → command_of ts ≡ Some c
 command_takes (CreateUser name) ts h =
     first_takes (codes "create") (IsKeyword (codes "user") ▸ IsToken (Text name)) ts (CreateUser name) h
@@ -235,7 +258,7 @@ command_takes (CreateRelation name cols) ts h =
     first_takes (codes "create") (IsKeyword (codes "relation") ▸ IsName name ▸ IsToken ParenL ▸ AreSeparated IsColumn (IsToken Comma) cols ▸ IsToken ParenR) ts (CreateRelation name cols) h
     (create_after h.3.0 h.1 (CreateRelation name cols) h.3.2 (create_relation_takes name cols h.1 h.4))
 command_takes (Insert users sign rel vals) ts h =
-    first_takes (codes "insert") (IsKeyword (codes "into") ▸ IsTarget users sign rel (IsKeyword (codes "values") ▸ IsToken ParenL ▸ AreSeparated IsLiteral (IsToken Comma) vals ▸ IsToken ParenR)) ts (Insert users sign rel vals) h
+    first_takes (codes "insert") (IsKeyword (codes "into") ▸ IsSigned users sign rel vals) ts (Insert users sign rel vals) h
     (insert_after h.3.0 h.1 (Insert users sign rel vals) h.3.2 (insert_takes users sign rel vals h.1 h.4))
 command_takes (Delete users sign rel conds) ts h =
     first_takes (codes "delete") (IsKeyword (codes "from") ▸ IsTarget users sign rel (AreConds IsBareCol conds)) ts (Delete users sign rel conds) h
@@ -252,6 +275,9 @@ command_takes (Explain q) ts h =
 command_takes (ShowWorld users) ts h =
     first_takes (codes "show") (IsKeyword (codes "world") ▸ AreRepeated IsBelief users) ts (ShowWorld users) h
     (show_after h.3.0 h.1 (ShowWorld users) h.3.2 (show_world_takes users h.1 h.4))
+command_takes (Why users sign rel vals) ts h =
+    first_takes (codes "why") (IsSigned users sign rel vals) ts (Why users sign rel vals) h
+    (why_after h.3.0 h.1 (Why users sign rel vals) h.3.2 (why_takes users sign rel vals h.1 h.4))
 command_takes ShowTables ts h =
     first_takes (codes "show") (IsKeyword (codes "tables")) ts ShowTables h
     (show_after h.3.0 h.1 ShowTables h.3.2 (show_tables_takes h.1 h.4))

@@ -21,7 +21,7 @@ use Rattle.bdb_syntax.specs.declared.command.RawItem.{RawItem}
 use Rattle.bdb_syntax.specs.declared.command.RawSet.{RawSet}
 use Rattle.bdb_syntax.specs.declared.command.RawQuery.{RawQuery}
 use Rattle.bdb_syntax.specs.declared.command.Command.{Command}
-use Rattle.bdb_syntax.specs.declared.command.Command.TheVariants.{CreateUser, CreateRelation, Insert, Delete, Update, Select, Explain, ShowWorld, ShowTables}
+use Rattle.bdb_syntax.specs.declared.command.Command.TheVariants.{CreateUser, CreateRelation, Insert, Delete, Update, Select, Explain, ShowWorld, Why, ShowTables}
 use Rattle.bdb_syntax.specs.Keywords.{is_keyword, is_reserved}
 use Rattle.bdb_parse.specs.Numbers.{number_of}
 
@@ -134,9 +134,15 @@ IsAlias rel alias ts = ((ts ≡ []) × (alias ≡ rel)) ⊎ (IsName alias ts ⊎
 abbrev pub IsItem : RawItem → List Token → Type 0
 IsItem i = AreRepeated IsItemBelief i.path ▸ IsSign i.sign ▸ IsName i.rel ▸ IsAlias i.rel i.alias
 
--- what a change is about, and what follows
+-- a path, a sign and a relation, and what follows
 abbrev pub IsTarget : List (List ℕ) → Sign → List ℕ → (List Token → Type 0) → List Token → Type 0
 IsTarget users sign rel After = AreRepeated IsBelief users ▸ IsSign sign ▸ IsName rel ▸ After
+
+-- a path, a sign and a tuple
+abbrev pub IsSigned : List (List ℕ) → Sign → List ℕ → List Value → List Token → Type 0
+IsSigned users sign rel vals =
+    IsTarget users sign rel
+    (IsKeyword (codes "values") ▸ IsToken ParenL ▸ AreSeparated IsLiteral (IsToken Comma) vals ▸ IsToken ParenR)
 
 -- a query
 abbrev pub IsQuery : RawQuery → List Token → Type 0
@@ -152,8 +158,7 @@ IsCommand ts (CreateRelation name cols) =
     (IsKeyword (codes "create") ▸ IsKeyword (codes "relation") ▸ IsName name
     ▸ IsToken ParenL ▸ AreSeparated IsColumn (IsToken Comma) cols ▸ IsToken ParenR) ts
 IsCommand ts (Insert users sign rel vals) =
-    (IsKeyword (codes "insert") ▸ IsKeyword (codes "into") ▸ IsTarget users sign rel
-    (IsKeyword (codes "values") ▸ IsToken ParenL ▸ AreSeparated IsLiteral (IsToken Comma) vals ▸ IsToken ParenR)) ts
+    (IsKeyword (codes "insert") ▸ IsKeyword (codes "into") ▸ IsSigned users sign rel vals) ts
 IsCommand ts (Delete users sign rel conds) =
     (IsKeyword (codes "delete") ▸ IsKeyword (codes "from") ▸ IsTarget users sign rel (AreConds IsBareCol conds)) ts
 IsCommand ts (Update users sign rel sets conds) =
@@ -163,4 +168,5 @@ IsCommand ts (Select query) = IsQuery query ts
 IsCommand ts (Explain query) = (IsKeyword (codes "explain") ▸ IsQuery query) ts
 IsCommand ts (ShowWorld users) =
     (IsKeyword (codes "show") ▸ IsKeyword (codes "world") ▸ AreRepeated IsBelief users) ts
+IsCommand ts (Why users sign rel vals) = (IsKeyword (codes "why") ▸ IsSigned users sign rel vals) ts
 IsCommand ts ShowTables = (IsKeyword (codes "show") ▸ IsKeyword (codes "tables")) ts

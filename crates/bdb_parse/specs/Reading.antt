@@ -22,7 +22,7 @@ use Rattle.bdb_syntax.specs.declared.command.RawItem.{RawItem}
 use Rattle.bdb_syntax.specs.declared.command.RawSet.{RawSet}
 use Rattle.bdb_syntax.specs.declared.command.RawQuery.{RawQuery}
 use Rattle.bdb_syntax.specs.declared.command.Command.{Command}
-use Rattle.bdb_syntax.specs.declared.command.Command.TheVariants.{CreateUser, CreateRelation, Insert, Delete, Update, Select, Explain, ShowWorld, ShowTables}
+use Rattle.bdb_syntax.specs.declared.command.Command.TheVariants.{CreateUser, CreateRelation, Insert, Delete, Update, Select, Explain, ShowWorld, Why, ShowTables}
 use Rattle.bdb_parse.specs.declared.stop.Stop.{Stop}
 use Rattle.bdb_parse.specs.declared.stop.Stop.TheVariants as stops
 use Rattle.bdb_parse.specs.declared.target.Target.{Target}
@@ -106,7 +106,7 @@ sign_of ts (Some rest) = (Minus, rest)
 unfoldable pub sign_at : List Token → Sign × List Token
 sign_at ts = sign_of ts (keyword_at (codes "not") ts)
 
--- the users, the sign and the relation that a change names
+-- the users, the sign and the relation that a command names
 unfoldable pub target_at : List Token → Option (Target × List Token)
 target_at ts = do
   let users = beliefs_at ts
@@ -274,15 +274,21 @@ create_of ts = do
   word ← word_at ts
   if is_keyword (codes "user") word.0 then create_user_of word.1 else (if is_keyword (codes "relation") word.0 then create_relation_of word.1 else None)
 
+-- a path, a sign and a tuple
+unfoldable pub signed_of : (List ℕ → Option ℤ) → List Token → Option (Target × List Value)
+signed_of number ts = do
+  target ← target_at ts
+  rest ← keyword_at (codes "values") target.1
+  inside ← inside_of rest
+  vals ← list_of (literal_of number) stops.Comma inside
+  Some (target.0, vals)
+
 -- what follows 'insert'
 unfoldable pub insert_of : (List ℕ → Option ℤ) → List Token → Option Command
 insert_of number ts = do
   rest ← keyword_at (codes "into") ts
-  target ← target_at rest
-  rest ← keyword_at (codes "values") target.1
-  inside ← inside_of rest
-  vals ← list_of (literal_of number) stops.Comma inside
-  Some (Insert target.0.users target.0.sign target.0.rel vals)
+  signed ← signed_of number rest
+  Some (Insert signed.0.users signed.0.sign signed.0.rel signed.1)
 
 -- what follows 'delete'
 unfoldable pub delete_of : (List ℕ → Option ℤ) → List Token → Option Command
@@ -334,6 +340,12 @@ show_of ts = do
   word ← word_at ts
   if is_keyword (codes "world") word.0 then show_world_of word.1 else (if is_keyword (codes "tables") word.0 then option_map (λ _. ShowTables) (end_at word.1) else None)
 
+-- what follows 'why'
+unfoldable pub why_of : (List ℕ → Option ℤ) → List Token → Option Command
+why_of number ts = do
+  signed ← signed_of number ts
+  Some (Why signed.0.users signed.0.sign signed.0.rel signed.1)
+
 -- the command that a first word begins
 unfoldable pub command_after : (List ℕ → Option ℤ) → List ℕ → List Token → Option Command
 command_after number word ts =
@@ -343,7 +355,8 @@ command_after number word ts =
     else (if is_keyword (codes "update") word then update_of number ts
     else (if is_keyword (codes "select") word then option_map Select (query_of number ts)
     else (if is_keyword (codes "explain") word then explain_of number ts
-    else (if is_keyword (codes "show") word then show_of ts else None))))))
+    else (if is_keyword (codes "show") word then show_of ts
+    else (if is_keyword (codes "why") word then why_of number ts else None)))))))
 
 -- the command of these tokens, where number reads the spelling of a number
 unfoldable pub command_by : (List ℕ → Option ℤ) → List Token → Option Command

@@ -4,12 +4,11 @@ ghost use Rattle.bdb_parse.specs.Gives.{Gives, number_in};
 ghost use Rattle.bdb_parse.specs.Reading.{insert_of, delete_of, update_of};
 
 use crate::cond::{Tests, conds};
-use crate::create::inside;
 use crate::cut::cut;
 use crate::error::ParseError;
 use crate::list::list_of;
-use crate::literal::Literals;
 use crate::set::Sets;
+use crate::signed::signed;
 use crate::stop::Stop;
 use crate::target::{Target, target_of};
 use crate::tokens::{end, keyword};
@@ -24,10 +23,7 @@ pub fn insert(alloc: Global, wide: Wide, tokens: &[Token<'_>]) -> Result<Command
     ensures { Gives (λ x. x) result (insert_of (number_in wide) tokens.now) }
 {
     let rest = keyword("into", tokens)?;
-    let (target, rest) = target_of(alloc, rest)?;
-    let rest = keyword("values", rest)?;
-    let inside = inside(rest)?;
-    let vals = list_of(alloc, &Literals { wide }, Stop::Comma, inside)?;
+    let (target, vals) = signed(alloc, wide, rest)?;
     let Target { users, sign, rel } = target;
     Ok(Command::Insert {
         users,

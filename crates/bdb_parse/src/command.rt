@@ -10,6 +10,7 @@ use crate::keywords::is_keyword;
 use crate::query::{explain, select};
 use crate::show::show;
 use crate::tokens::word;
+use crate::why::why;
 use crate::wide::Wide;
 use bdb_lex::Token;
 use bdb_syntax::Command;
@@ -41,6 +42,9 @@ pub fn command(alloc: Global, wide: Wide, tokens: &[Token<'_>]) -> Result<Comman
     }
     if is_keyword("show", word) {
         return show(alloc, rest);
+    }
+    if is_keyword("why", word) {
+        return why(alloc, wide, rest);
     }
     Err(ParseError::Syntax)
 }

@@ -21,9 +21,11 @@ mod reading;
 mod round_trip;
 mod set;
 mod show;
+mod signed;
 mod stop;
 mod target;
 mod tokens;
+mod why;
 mod wide;
 
 pub use error::ParseError;

@@ -1,4 +1,4 @@
-// What a change is about.
+// The path, the sign and the relation that a command names.
 ghost use Rattle.std.specs.Prelude.{◌≡◌, List};
 ghost use Rattle.bdb_parse.specs.Gives.{Gives};
 ghost use Rattle.bdb_parse.specs.Reading.{sign_at, target_at};
@@ -10,7 +10,7 @@ use bdb_base::{List, Sign, Txt};
 use bdb_lex::Token;
 use std::alloc::Global;
 
-/// The users, the sign and the relation that a change names.
+/// The users, the sign and the relation that a command names.
 #[derive(Drop)]
 pub struct Target {
     pub users: List<Txt>,
@@ -30,7 +30,7 @@ pub fn sign<'a, 'p>(tokens: &'a [Token<'p>]) -> (Sign, &'a [Token<'p>])
     }
 }
 
-/// The users, the sign and the relation of a change, and the tokens after them.
+/// The users, the sign and the relation that a command names, and the tokens after them.
 #[tactic(auto, unfolding(crate::specs::Reading::target_at))]
 pub fn target_of<'a, 'p>(
     alloc: Global,

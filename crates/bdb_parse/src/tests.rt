@@ -42,6 +42,7 @@ fn outcome(answer: &Result<Command, ParseError>) -> &'static str {
         Ok(Command::Select { .. }) => "select",
         Ok(Command::Explain { .. }) => "explain",
         Ok(Command::ShowWorld { .. }) => "show world",
+        Ok(Command::Why { .. }) => "why",
         Ok(Command::ShowTables) => "show tables",
         Err(ParseError::Syntax) => "syntax",
         Err(ParseError::Number) => "number",
@@ -49,7 +50,7 @@ fn outcome(answer: &Result<Command, ParseError>) -> &'static str {
     }
 }
 
-const CASES: [(&str, &str); 33] = [
+const CASES: [(&str, &str); 36] = [
     ("create user 'Alice", "create user"),
     ("CREATE User 'Alice", "create user"),
     ("create user Alice", "syntax"),
@@ -94,6 +95,9 @@ const CASES: [(&str, &str); 33] = [
     ("show world", "show world"),
     ("show world belief 'Bob belief 'Alice", "show world"),
     ("show tables", "show tables"),
+    ("Why belief 'Bob not why values ( 9 )", "why"),
+    ("why R values ( 9223372036854775808 )", "number"),
+    ("why into R values ( 9 )", "syntax"),
     ("", "syntax"),
 ];
 
@@ -152,7 +156,7 @@ fn reprinted(alloc: Global, piece: &[u8]) -> Result<List<u8>, Fail> {
 }
 
 /// Commands, and their printed forms.
-const PRINTED: [(&str, &str); 15] = [
+const PRINTED: [(&str, &str); 16] = [
     ("create user 'Alice'", "create user 'Alice'"),
     ("create user 'Bob'", "create user 'Bob'"),
     ("create user 'Carol'", "create user 'Carol'"),
@@ -199,6 +203,10 @@ const PRINTED: [(&str, &str); 15] = [
     (
         "update not S set k='it''s',v = -007 where v!=3 and k<v",
         "update not S set k = 'it''s', v = -7 where v <> 3 and k < v",
+    ),
+    (
+        "WHY belief 'Bob' not Why values('s1',2)",
+        "why BELIEF 'Bob' not Why values('s1', 2)",
     ),
     (
         "explain select S.k from S -- all of it",

@@ -2,7 +2,7 @@
 use Rattle.std.specs.Prelude.{Bool, true, false, ◌&&◌, ◌≡◌, List, [], ◌∷◌}
 use Rattle.bdb_syntax.specs.declared.command.RawQuery.{RawQuery}
 use Rattle.bdb_syntax.specs.declared.command.Command.{Command}
-use Rattle.bdb_syntax.specs.declared.command.Command.TheVariants.{CreateUser, CreateRelation, Insert, Delete, Update, Select, Explain, ShowWorld, ShowTables}
+use Rattle.bdb_syntax.specs.declared.command.Command.TheVariants.{CreateUser, CreateRelation, Insert, Delete, Update, Select, Explain, ShowWorld, Why, ShowTables}
 
 -- a list has an item
 abbrev pub is_filled : {X : Type 0} → List X → Bool
@@ -23,6 +23,7 @@ command_filled (Update users sign rel sets conds) = is_filled sets
 command_filled (Select query) = query_filled query
 command_filled (Explain query) = query_filled query
 command_filled (ShowWorld users) = true
+command_filled (Why users sign rel vals) = is_filled vals
 command_filled ShowTables = true
 
 -- a command has those lists filled

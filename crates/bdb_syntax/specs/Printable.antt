@@ -17,7 +17,7 @@ use Rattle.bdb_syntax.specs.declared.command.RawItem.{RawItem}
 use Rattle.bdb_syntax.specs.declared.command.RawSet.{RawSet}
 use Rattle.bdb_syntax.specs.declared.command.RawQuery.{RawQuery}
 use Rattle.bdb_syntax.specs.declared.command.Command.{Command}
-use Rattle.bdb_syntax.specs.declared.command.Command.TheVariants.{CreateUser, CreateRelation, Insert, Delete, Update, Select, Explain, ShowWorld, ShowTables}
+use Rattle.bdb_syntax.specs.declared.command.Command.TheVariants.{CreateUser, CreateRelation, Insert, Delete, Update, Select, Explain, ShowWorld, Why, ShowTables}
 use Rattle.bdb_syntax.specs.Keywords.{is_reserved}
 use Rattle.bdb_syntax.specs.Filled.{IsFilled}
 
@@ -81,16 +81,21 @@ IsPrintableSet s = IsName s.col × IsPrintableValue s.to
 abbrev pub IsPrintableQuery : RawQuery → Type 0
 IsPrintableQuery q = AllByRecursion IsFullCol q.take × AllByRecursion IsPrintableItem q.items × AllByRecursion (IsPrintableCond IsFullCol) q.conds
 
+-- a path and a tuple
+abbrev pub IsPrintableSigned : List (List ℕ) → List ℕ → List Value → Type 0
+IsPrintableSigned users rel vals = AllByRecursion IsContent users × IsName rel × AllByRecursion IsPrintableValue vals
+
 -- the names, the texts and the columns of a command are as the grammar wants them
 abbrev pub HasPrintableParts : Command → Type 0
 HasPrintableParts (CreateUser name) = IsContent name
 HasPrintableParts (CreateRelation name cols) = IsName name × AllByRecursion (λ (c : ColDef). IsName c.name) cols
-HasPrintableParts (Insert users sign rel vals) = AllByRecursion IsContent users × IsName rel × AllByRecursion IsPrintableValue vals
+HasPrintableParts (Insert users sign rel vals) = IsPrintableSigned users rel vals
 HasPrintableParts (Delete users sign rel conds) = AllByRecursion IsContent users × IsName rel × AllByRecursion (IsPrintableCond IsBareCol) conds
 HasPrintableParts (Update users sign rel sets conds) = AllByRecursion IsContent users × IsName rel × AllByRecursion IsPrintableSet sets × AllByRecursion (IsPrintableCond IsBareCol) conds
 HasPrintableParts (Select query) = IsPrintableQuery query
 HasPrintableParts (Explain query) = IsPrintableQuery query
 HasPrintableParts (ShowWorld users) = AllByRecursion IsContent users
+HasPrintableParts (Why users sign rel vals) = IsPrintableSigned users rel vals
 HasPrintableParts ShowTables = Unit {0}
 
 -- a command has a printed form

@@ -8,7 +8,7 @@ use Rattle.bdb_base.specs.declared.kinds.Sign.TheVariants.{Plus, Minus}
 use Rattle.bdb_base.specs.declared.kinds.Value.{Value}
 use Rattle.bdb_base.specs.Texts.{cmp_text, column_text, dotted, joined, quoted, separated, value_text}
 use Rattle.bdb_syntax.specs.declared.command.Command.{Command}
-use Rattle.bdb_syntax.specs.declared.command.Command.TheVariants.{CreateUser, CreateRelation, Insert, Delete, Update, Select, Explain, ShowWorld, ShowTables}
+use Rattle.bdb_syntax.specs.declared.command.Command.TheVariants.{CreateUser, CreateRelation, Insert, Delete, Update, Select, Explain, ShowWorld, Why, ShowTables}
 use Rattle.bdb_syntax.specs.declared.command.RawCol.{RawCol}
 use Rattle.bdb_syntax.specs.declared.command.RawCond.{RawCond}
 use Rattle.bdb_syntax.specs.declared.command.RawItem.{RawItem}
@@ -56,13 +56,17 @@ abbrev pub not_text : Sign → List ℕ
 not_text Plus = []
 not_text Minus = codes " not"
 
--- the path, the sign and the relation of a change, with the space before them
+-- the path, the sign and the relation that a command names, with the space before them
 abbrev pub target_text : List (List ℕ) → Sign → List ℕ → List ℕ
 target_text users sign rel = flat_map belief_text users ++ not_text sign ++ codes " " ++ rel
 
--- the values of an insert, with the space before them
+-- the values of a tuple, with the space before them
 abbrev pub values_text : List Value → List ℕ
 values_text vals = codes " values(" ++ joined (map value_text vals) ++ codes ")"
+
+-- a path, a sign and a tuple, with the space before them
+abbrev pub signed_text : List (List ℕ) → Sign → List ℕ → List Value → List ℕ
+signed_text users sign rel vals = target_text users sign rel ++ values_text vals
 
 -- an item of a query, with the space before it; the alias is always written
 abbrev pub item_text : RawItem → List ℕ
@@ -76,10 +80,11 @@ query_text q = codes "select " ++ joined (map col_text q.take) ++ codes " from" 
 abbrev pub printed : Command → List ℕ
 printed (CreateUser name) = codes "create user " ++ quoted name
 printed (CreateRelation name cols) = codes "create relation " ++ name ++ codes "(" ++ joined (map column_text cols) ++ codes ")"
-printed (Insert users sign rel vals) = codes "insert into" ++ target_text users sign rel ++ values_text vals
+printed (Insert users sign rel vals) = codes "insert into" ++ signed_text users sign rel vals
 printed (Delete users sign rel conds) = codes "delete from" ++ target_text users sign rel ++ where_text conds
 printed (Update users sign rel sets conds) = codes "update" ++ target_text users sign rel ++ codes " set " ++ joined (map set_text sets) ++ where_text conds
 printed (Select query) = query_text query
 printed (Explain query) = codes "explain " ++ query_text query
 printed (ShowWorld users) = codes "show world" ++ flat_map belief_text users
+printed (Why users sign rel vals) = codes "why" ++ signed_text users sign rel vals
 printed ShowTables = codes "show tables"

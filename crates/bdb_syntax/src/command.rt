@@ -107,6 +107,13 @@ pub enum Command {
     ShowWorld {
         users: List<Txt>,
     },
+    /// Why a tuple is or isn't believed at the path of the users.
+    Why {
+        users: List<Txt>,
+        sign: Sign,
+        rel: Txt,
+        vals: List<Value>,
+    },
     /// The structure that stands for all worlds.
     ShowTables,
 }
@@ -236,6 +243,17 @@ impl Exact for Command {
             }),
             Command::ShowWorld { users } => Ok(Command::ShowWorld {
                 users: users.try_clone(alloc)?,
+            }),
+            Command::Why {
+                users,
+                sign,
+                rel,
+                vals,
+            } => Ok(Command::Why {
+                users: users.try_clone(alloc)?,
+                sign: *sign,
+                rel: rel.try_clone(alloc)?,
+                vals: vals.try_clone(alloc)?,
             }),
             Command::ShowTables => Ok(Command::ShowTables),
         }

@@ -2,7 +2,7 @@
 ghost use Rattle.std.specs.Prelude.{◌≡◌, ◌++◌, codes, map, IfOk, OnOk};
 ghost use Rattle.std.specs.List.{flat_map};
 ghost use Rattle.bdb_base.specs.Texts.{column_text, joined, value_text};
-ghost use Rattle.bdb_syntax.specs.Printed.{belief_text, col_text, cond_text, item_text, not_text, printed, query_text, set_text, side_text, target_text, values_text, where_text, who_text};
+ghost use Rattle.bdb_syntax.specs.Printed.{belief_text, col_text, cond_text, item_text, not_text, printed, query_text, set_text, side_text, signed_text, target_text, values_text, where_text, who_text};
 
 use crate::command::{Command, RawCol, RawCond, RawItem, RawQuery, RawSet, RawSide, RawWho};
 use bdb_base::{
@@ -49,6 +49,12 @@ fn append_command(out: &mut Vec<u8>, command: &Command) -> Result<(), AllocError
         Command::Select { query } => append_query(out, query),
         Command::Explain { query } => append_explain(out, query),
         Command::ShowWorld { users } => append_show_world(out, users),
+        Command::Why {
+            users,
+            sign,
+            rel,
+            vals,
+        } => append_why(out, users, *sign, rel, vals),
         Command::ShowTables => out.extend_from_slice(b"show tables"),
     }
 }
@@ -85,11 +91,37 @@ fn append_insert(
     ensures { OnOk result (out.new.items ≡ out.old.items ++ printed (Command.Insert users.now sign rel.now vals.now)) }
 {
     out.extend_from_slice(b"insert into")?;
+    append_signed(out, users, sign, rel, vals)
+}
+
+fn append_why(
+    out: &mut Vec<u8>,
+    users: &List<Txt>,
+    sign: Sign,
+    rel: &Txt,
+    vals: &List<Value>,
+) -> Result<(), AllocError>
+    ensures { OnOk result (out.new.items ≡ out.old.items ++ printed (Command.Why users.now sign rel.now vals.now)) }
+{
+    out.extend_from_slice(b"why")?;
+    append_signed(out, users, sign, rel, vals)
+}
+
+/// Appends a path, a sign and a tuple, with the space before them.
+fn append_signed(
+    out: &mut Vec<u8>,
+    users: &List<Txt>,
+    sign: Sign,
+    rel: &Txt,
+    vals: &List<Value>,
+) -> Result<(), AllocError>
+    ensures { OnOk result (out.new.items ≡ out.old.items ++ signed_text users.now sign rel.now vals.now) }
+{
     append_target(out, users, sign, rel)?;
     append_values(out, vals)
 }
 
-/// Appends the values of an insert, with the space before them.
+/// Appends the values of a tuple, with the space before them.
 fn append_values(out: &mut Vec<u8>, vals: &List<Value>) -> Result<(), AllocError>
     ensures { OnOk result (out.new.items ≡ out.old.items ++ values_text vals.now) }
 {
@@ -154,7 +186,7 @@ fn append_query(out: &mut Vec<u8>, query: &RawQuery) -> Result<(), AllocError>
     append_where(out, &query.conds)
 }
 
-/// Appends the path, the sign and the relation of a change, with the space before them.
+/// Appends the path, the sign and the relation that a command names, with the space before them.
 fn append_target(
     out: &mut Vec<u8>,
     users: &List<Txt>,
