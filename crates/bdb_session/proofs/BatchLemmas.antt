@@ -3,12 +3,12 @@ use Rattle.std.proofs.Common.{◌≡◌, ◌∙◌, ℕ, ◌+◌, ◌-◌, ◌<�
 use Rattle.std.proofs.lemmas.Bool.{cases_Bool, and_parts, cond-true, cond-false, false≢true, MatchBool-at_true, MatchBool-at_false}
 use Rattle.std.proofs.lemmas.List.{append-nil, append_assoc, take_rest}
 use Rattle.std.proofs.lemmas.Grind.{get_or_head}
-use Rattle.bdb_base.specs.Causes.{HasCause, Rises, RoseBy, Rose}
+use Rattle.bdb_base.specs.Causes.{HasCause, Rises}
 use Rattle.bdb_keep.specs.Calls.{IsBegin}
 use Rattle.bdb_keep.specs.Seen.{Seen, IsStill, IsDropped, NeverFall, Unchanged}
 use Rattle.bdb_tables.proofs.Loops.{counts_then}
 use Rattle.bdb_val.proofs.Calls.{HasGone}
-use Rattle.bdb_session.specs.Batches.{pieces, up_to_refused, before_refused, batch_text, batch_state, batch_commits, IsRun, AreRun, SettlesBatch, IsBatchReply, IsBatch, ServesBatch}
+use Rattle.bdb_session.specs.Batches.{pieces, up_to_refused, before_refused, batch_text, batch_state, IsRun, AreRun, SettlesBatch, IsBatchReply, ServesBatch}
 use Rattle.bdb_session.specs.Known.{Known, Agrees, AgreesOnSome}
 use Rattle.bdb_session.specs.Laws.{IsWhole, BreaksOff, BatchesAreWholeOrBreakOff}
 use Rattle.bdb_session.specs.Machine.{accepts, next_state, outcome_of, reply_of}

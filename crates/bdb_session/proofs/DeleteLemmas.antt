@@ -1,5 +1,5 @@
 -- What comes of a delete, by what was read and written.
-use Rattle.std.proofs.Common.{◌≡◌, ◌∙◌, ℕ, true, ◌&&◌, nat_le, nat_lt, List, Result, refl, ap, sym, subst, length}
+use Rattle.std.proofs.Common.{◌≡◌, ◌∙◌, ℕ, true, ◌&&◌, nat_le, nat_lt, List, Result, ap, sym, subst, length}
 use Rattle.std.specs.List.{list_all}
 use Rattle.std.proofs.lemmas.Bool.{and_parts}
 use Rattle.bdb_base.specs.Alternation.{alternates}

@@ -3,14 +3,14 @@ use Rattle.std.proofs.Common.{◌≡◌, ◌∙◌, ℕ, ◌+◌, ◌≤◌, len
 use Rattle.std.proofs.lemmas.Bool.{cases_Bool, MatchBool-at_true, MatchBool-at_false}
 use Rattle.bdb_base.specs.declared.kinds.Query.{Query}
 use Rattle.bdb_bind.specs.declared.bound.Bound.{Bound}
-use Rattle.bdb_bind.specs.declared.bound.Bound.TheVariants.{CreateUser, CreateRelation, Insert, Delete, Update, Select, Explain, ShowWorld, ShowTables}
+use Rattle.bdb_bind.specs.declared.bound.Bound.TheVariants.{CreateUser, CreateRelation, Insert, Delete, Update, Select, Explain, ShowWorld, Why, ShowTables}
 use Rattle.bdb_keep.specs.Calls.{IsBegin}
 use Rattle.bdb_keep.specs.Seen.{Seen}
 use Rattle.bdb_session.specs.Bounds.{ReadsAsTold, WritesAsTold}
 use Rattle.bdb_session.specs.Known.{Known, Agrees}
 use Rattle.bdb_session.specs.Outcome.{State}
 use Rattle.bdb_session.specs.QueryReads.{ReadsAsBounded}
-use Rattle.bdb_session.specs.Telling.{ReadsWithin, WritesNothing, world_reads}
+use Rattle.bdb_session.specs.Telling.{ReadsWithin, WritesNothing, world_reads, why_reads}
 use Rattle.bdb_session.specs.Within.{IsKept, IsUndone, Settles}
 use Rattle.bdb_session.specs.declared.reply.Reply.{Reply}
 use Rattle.bdb_session.specs.declared.stop.StopError.{StopError}
@@ -36,8 +36,8 @@ module _ (learns : Known) (r : Reply) (before now : Known) (old run mid new : Se
     | inr undone ↦ (MatchBool-at_false (IsKept learns r before now mid new result) (IsUndone r before now mid new result) undone ended).undo.reads
   ]
 
-  world_settles : (most : State → ℕ) → ReadsWithin most before run mid (Ok r) → ReadsWithin most before old new result
-  world_settles most h = λ s a.
+  read_settles : (most : State → ℕ) → ReadsWithin most before run mid (Ok r) → ReadsWithin most before old new result
+  read_settles most h = λ s a.
       let there = subst (λ n. RisesWithin (most s) run.reads n) (sym same_reads) (h s (begun s a)) in
       always_ok result (subst (λ n. RisesWithin (most s) n new.reads) began.reads there)
 
@@ -67,8 +67,9 @@ module _ (learns : Known) (r : Reply) (before now : Known) (old run mid new : Se
   reads_settle (Delete path sign rel conds) h = tt
   reads_settle (Update path sign rel sets conds) h = tt
   reads_settle (Select q) h = query_settles q h
-  reads_settle (Explain q) h = tt
-  reads_settle (ShowWorld path) h = world_settles (λ s. world_reads s.base path) h
+  reads_settle (Explain q) h = read_settles (λ s. 0) h
+  reads_settle (ShowWorld path) h = read_settles (λ s. world_reads s.base path) h
+  reads_settle (Why x) h = read_settles (λ s. why_reads s.base x) h
   reads_settle ShowTables h = tt
 
   pub writes_settle : (b : Bound) → WritesAsTold b before run mid (Ok r) → WritesAsTold b before old new result
@@ -81,6 +82,7 @@ module _ (learns : Known) (r : Reply) (before now : Known) (old run mid new : Se
   writes_settle (Select q) h = nothing_settles h
   writes_settle (Explain q) h = nothing_settles h
   writes_settle (ShowWorld path) h = nothing_settles h
+  writes_settle (Why x) h = nothing_settles h
   writes_settle ShowTables h = nothing_settles h
 
 -- ---- one that stopped
@@ -92,8 +94,9 @@ reads_stop (Insert x) k old new stop = tt
 reads_stop (Delete path sign rel conds) k old new stop = tt
 reads_stop (Update path sign rel sets conds) k old new stop = tt
 reads_stop (Select q) k old new stop = λ s rows a few. tt
-reads_stop (Explain q) k old new stop = tt
+reads_stop (Explain q) k old new stop = λ s a. tt
 reads_stop (ShowWorld path) k old new stop = λ s a. tt
+reads_stop (Why x) k old new stop = λ s a. tt
 reads_stop ShowTables k old new stop = tt
 
 -- a step that stopped, after a begin that wrote nothing
@@ -106,6 +109,7 @@ writes_stop (Update path sign rel sets conds) k old run new stop e h = λ s a. r
 writes_stop (Select q) k old run new stop e h = record { kept = tt; writes = h.writes ∙ e }
 writes_stop (Explain q) k old run new stop e h = record { kept = tt; writes = h.writes ∙ e }
 writes_stop (ShowWorld path) k old run new stop e h = record { kept = tt; writes = h.writes ∙ e }
+writes_stop (Why x) k old run new stop e h = record { kept = tt; writes = h.writes ∙ e }
 writes_stop ShowTables k old run new stop e h = record { kept = tt; writes = h.writes ∙ e }
 
 -- a transaction that didn't begin
@@ -118,4 +122,5 @@ writes_unbegun (Update path sign rel sets conds) k old new stop e = λ s a. reco
 writes_unbegun (Select q) k old new stop e = record { kept = tt; writes = e }
 writes_unbegun (Explain q) k old new stop e = record { kept = tt; writes = e }
 writes_unbegun (ShowWorld path) k old new stop e = record { kept = tt; writes = e }
+writes_unbegun (Why x) k old new stop e = record { kept = tt; writes = e }
 writes_unbegun ShowTables k old new stop e = record { kept = tt; writes = e }

@@ -21,5 +21,6 @@ pub mod TablesLemmas
 pub mod TakenLemmas
 pub mod TellLemmas
 pub mod UpdateLemmas
+pub mod WhyLemmas
 pub mod WithinLemmas
 pub mod WriteLemmas

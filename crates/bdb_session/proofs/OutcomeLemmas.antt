@@ -14,7 +14,7 @@ use Rattle.bdb_base.specs.declared.kinds.What.{What}
 use Rattle.bdb_bind.specs.declared.bound.BindError.{BindError}
 use Rattle.bdb_bind.specs.declared.bound.BindError.TheVariants.{Memory}
 use Rattle.bdb_bind.specs.declared.bound.Bound.{Bound}
-use Rattle.bdb_bind.specs.declared.bound.Bound.TheVariants.{CreateUser, CreateRelation, Insert, Delete, Update, Select, Explain, ShowWorld, ShowTables}
+use Rattle.bdb_bind.specs.declared.bound.Bound.TheVariants.{CreateUser, CreateRelation, Insert, Delete, Update, Select, Explain, ShowWorld, Why, ShowTables}
 use Rattle.bdb_bind.specs.Binding.{bound_of}
 use Rattle.bdb_bind.specs.Refusal.{refusal_of}
 use Rattle.bdb_canon.specs.Canonical.{canon_of, line_count}
@@ -99,4 +99,5 @@ bound_counts (Update path sign rel sets conds) s =
 bound_counts (Select q) s = tells_counts s (length (answers_of s.base q)) (rows_reply (answers_of s.base q)) (length (answers_of s.base q))
 bound_counts (Explain q) s = λ e. refl
 bound_counts (ShowWorld path) s = λ e. refl
+bound_counts (Why x) s = λ e. refl
 bound_counts ShowTables s = tells_counts s (line_count s.base.catalog (canon_of s.base)) (tables_reply s.base.catalog (canon_of s.base)) 0

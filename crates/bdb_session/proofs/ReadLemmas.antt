@@ -55,6 +55,7 @@ use Rattle.bdb_tables.specs.Names.{number_of}
 use Rattle.bdb_trans.specs.Bounds.{AreSmall, product_of}
 use Rattle.bdb_trans.proofs.ReadLemmas.{plan_reads}
 use Rattle.bdb_session.specs.Known.{Known, Agrees}
+use Rattle.bdb_session.specs.Laws.{StoredPlansReadFew}
 use Rattle.bdb_session.specs.Outcome.{State}
 use Rattle.bdb_session.specs.QueryReads.{HasFewRows, ReadsAsBounded}
 use Rattle.bdb_session.specs.declared.stop.StopError.{StopError}
@@ -236,15 +237,20 @@ users_counted : (uid : ℕ) (names : List (List ℕ)) → length (user_tuples ui
 users_counted uid [] = refl
 users_counted uid (name ∷ names) = ap suc (users_counted (suc uid) names)
 
--- the plan of a query reads no more than the product
+-- whichever tables store a base, the plan of a query reads over them no more than the product
+pub stored_plans_read_few : StoredPlansReadFew
+stored_plans_read_few t b q rows h fits few =
+    let shown = (stored_shows t b h).shown in
+    let users = ap length shown.users ∙ users_counted 1 b.catalog.users in
+    plan_reads b (sight_of t) (world_number h.stored.names) q (length b.catalog.users) rows h.valid shown fits (omega arith) (few_are_small t b h q rows few)
+
+-- the plan of a query reads no more than the product over the base of each state
 pub plan_reads_few : (t : Tables) (k : Known) (s : State) (q : Query) (rows : ℕ → ℕ) → Agrees t k s → query_fits k.catalog q ≡ true → HasFewRows s.base q rows
     → reads_from (sight_of t) (plan_of k.catalog.rels q).steps (start_of (plan_of k.catalog.rels q).items) ≤ product_of (length s.base.catalog.users) rows 0 q.items
 plan_reads_few t k s q rows a fits few =
     let b = s.base in
-    let shown = (stored_shows t b a.base).shown in
-    let users = ap length shown.users ∙ users_counted 1 b.catalog.users in
     let here : query_fits b.catalog q ≡ true = ap (λ (c : Catalog). query_fits c q) (sym a.catalog) ∙ fits in
-    let most = plan_reads b (sight_of t) (world_number a.base.stored.names) q (length b.catalog.users) rows a.base.valid shown here (omega arith) (few_are_small t b a.base q rows few) in
+    let most = stored_plans_read_few t b q rows a.base here few in
     subst (λ (c : Catalog). reads_from (sight_of t) (plan_of c.rels q).steps (start_of (plan_of c.rels q).items) ≤ product_of (length b.catalog.users) rows 0 q.items) (sym a.catalog) most
 
 pub answers_read : {X : Type 0} (k : Known) (q : Query) (plan : Fields) (old mid new : Seen) (result : Result X StopError) → can_be_answered k.catalog q ≡ true → plan ≡ plan_of k.catalog.rels q

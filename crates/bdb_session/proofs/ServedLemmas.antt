@@ -9,7 +9,7 @@ use Rattle.bdb_session.specs.declared.stop.StopError.{StopError}
 use Rattle.bdb_session.specs.declared.stop.StopError.TheVariants.{Fault}
 use Rattle.bdb_session.specs.Known.{Known, Agrees, AgreesOnSome}
 use Rattle.bdb_session.specs.Outcome.{State, Outcome, Refused, text_of, state_after}
-use Rattle.bdb_session.specs.Served.{Ends, IsReply, IsTold, IsServed, Serves}
+use Rattle.bdb_session.specs.Served.{Ends, IsTold, IsServed, Serves}
 
 pub nothing_falls : (old : Seen) → NeverFall old old
 nothing_falls old = record { faults = omega arith; reads = omega arith; writes = omega arith; commits = omega arith }

@@ -1,5 +1,5 @@
 -- How a session tells what changes nothing.
-use Rattle.std.proofs.Common.{◌≡◌, ◌∙◌, ℕ, ◌+◌, ◌*◌, true, ◌&&◌, nat_le, List, Result, Ok, Err, OnOk, length, refl, sym, ap, subst}
+use Rattle.std.proofs.Common.{◌≡◌, ◌∙◌, ℕ, ◌+◌, ◌*◌, true, ◌&&◌, nat_le, List, Result, Ok, Err, OnOk, length, refl, sym, ap, subst, arith}
 use Rattle.std.specs.List.{list_all}
 use Rattle.std.proofs.lemmas.Bool.{and_parts}
 use Rattle.bdb_base.specs.Alternation.{alternates}
@@ -45,6 +45,10 @@ pub said_nothing : (c : Catalog) (o : Outcome) (old mid new : Seen) (result : Re
     → WritesNothing old new result
 said_nothing c o old mid new (Ok r) kept e said = record { kept = ap (λ (x : Seen). x.kept) said.alone ∙ kept; writes = ap (λ (x : Seen). x.writes) said.alone ∙ e }
 said_nothing c o old mid new (Err stop) kept e said = record { kept = tt; writes = said.undone.writes ∙ e }
+
+-- where nothing was read
+pub same_reads_within : {T : Type 0} (k : Known) (old new : Seen) (result : Result T StopError) → new.reads ≡ old.reads → ReadsWithin (λ s. 0) k old new result
+same_reads_within k old new result same = λ s a. always_ok result (λ small. (omega arith))
 
 -- ---- the world of a path
 

@@ -1,5 +1,5 @@
 -- What becomes of a step within a transaction.
-use Rattle.std.proofs.Common.{◌≡◌, ◌∙◌, ℕ, ◌≤◌, true, false, List, [], Result, Ok, Err, refl, sym, ap, subst, inl, inr, arith}
+use Rattle.std.proofs.Common.{◌≡◌, ◌∙◌, ℕ, ◌≤◌, true, false, [], Result, Ok, Err, refl, sym, ap, subst, inl, inr, arith}
 use Rattle.std.proofs.lemmas.Bool.{cases_Bool, MatchBool-at_true, MatchBool-at_false}
 use Rattle.bdb_base.specs.Causes.{HasCause, Rose, RoseBy, Rises}
 use Rattle.bdb_keep.specs.Calls.{IsBegin, IsUndo}

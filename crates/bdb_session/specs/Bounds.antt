@@ -6,7 +6,7 @@ use Rattle.bdb_base.specs.declared.kinds.Catalog.{Catalog}
 use Rattle.bdb_base.specs.declared.kinds.SetCol.{SetCol}
 use Rattle.bdb_base.specs.declared.kinds.Stmt.{Stmt}
 use Rattle.bdb_bind.specs.declared.bound.Bound.{Bound}
-use Rattle.bdb_bind.specs.declared.bound.Bound.TheVariants.{CreateUser, CreateRelation, Insert, Delete, Update, Select, Explain, ShowWorld, ShowTables}
+use Rattle.bdb_bind.specs.declared.bound.Bound.TheVariants.{CreateUser, CreateRelation, Insert, Delete, Update, Select, Explain, ShowWorld, Why, ShowTables}
 use Rattle.bdb_bind.specs.Binding.{bound_of}
 use Rattle.bdb_bind.specs.Refusal.{refusal_of}
 use Rattle.bdb_keep.specs.Seen.{Seen}
@@ -23,13 +23,16 @@ use Rattle.bdb_session.specs.Known.{Known, Agrees}
 use Rattle.bdb_session.specs.Outcome.{State}
 use Rattle.bdb_session.specs.QueryReads.{ReadsAsBounded}
 use Rattle.bdb_session.specs.Reading.{reading_of}
-use Rattle.bdb_session.specs.Telling.{ReadsWithin, WritesNothing, world_reads}
+use Rattle.bdb_session.specs.Telling.{ReadsWithin, WritesNothing, world_reads, why_reads}
 
--- The world of a path is read by its users and its rows, whatever else the tables have; a query by the product of one factor for
--- each item.
+-- The world of a path is read by its users and its rows, whatever else the tables have; why a path believes something, by its users
+-- and the rows of the key at the states among its ends; a query by the product of one factor for each item; and a plan is told
+-- without a read.
 abbrev pub ReadsAsTold : Bound → Known → Seen → Seen → Result Reply StopError → Type 0
 ReadsAsTold (ShowWorld path) k old new result = ReadsWithin (λ s. world_reads s.base path) k old new result
 ReadsAsTold (Select q) k old new result = ReadsAsBounded q k old new result
+ReadsAsTold (Explain q) k old new result = ReadsWithin (λ s. 0) k old new result
+ReadsAsTold (Why x) k old new result = ReadsWithin (λ s. why_reads s.base x) k old new result
 ReadsAsTold _ k old new result = Unit {0}
 
 -- what is refused wrote nothing
@@ -61,7 +64,7 @@ pub record UpdatesThrough (b : Contents) (gone : List Stmt) (sets : List SetCol)
   pub refused : IfOk result (λ r. r.accepted ≡ false → WritesNothing old new result)
 
 -- A statement is added within its bound. Statements are taken away or changed step by step, whichever base the tables store. What is
--- shown, answered or explained writes nothing, nor does a user or a relation that is refused.
+-- shown, answered, explained or asked for its reasons writes nothing, nor does a user or a relation that is refused.
 abbrev pub WritesAsTold : Bound → Known → Seen → Seen → Result Reply StopError → Type 0
 WritesAsTold (CreateUser name) k old new result = RefusedUnwritten old new result
 WritesAsTold (CreateRelation def) k old new result = RefusedUnwritten old new result
@@ -73,6 +76,7 @@ WritesAsTold (Update path sign rel sets conds) k old new result =
 WritesAsTold (Select q) k old new result = WritesNothing old new result
 WritesAsTold (Explain q) k old new result = WritesNothing old new result
 WritesAsTold (ShowWorld path) k old new result = WritesNothing old new result
+WritesAsTold (Why x) k old new result = WritesNothing old new result
 WritesAsTold ShowTables k old new result = WritesNothing old new result
 
 -- a command reads and writes so, where binding it is not refused

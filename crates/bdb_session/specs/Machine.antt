@@ -12,7 +12,7 @@ use Rattle.bdb_base.specs.WorldRows.{world_of}
 use Rattle.bdb_base.specs.Changes.{taken_by, without_taken, updated, first_clashing}
 use Rattle.bdb_syntax.specs.declared.command.Command.{Command}
 use Rattle.bdb_bind.specs.declared.bound.Bound.{Bound}
-use Rattle.bdb_bind.specs.declared.bound.Bound.TheVariants.{CreateUser, CreateRelation, Insert, Delete, Update, Select, Explain, ShowWorld, ShowTables}
+use Rattle.bdb_bind.specs.declared.bound.Bound.TheVariants.{CreateUser, CreateRelation, Insert, Delete, Update, Select, Explain, ShowWorld, Why, ShowTables}
 use Rattle.bdb_bind.specs.declared.bound.BindError.{BindError}
 use Rattle.bdb_bind.specs.declared.bound.BindError.TheVariants as bind
 use Rattle.bdb_bind.specs.Refusal.{refusal_of}
@@ -20,10 +20,13 @@ use Rattle.bdb_bind.specs.Binding.{bound_of}
 use Rattle.bdb_canon.specs.Canonical.{canon_of, line_count}
 use Rattle.bdb_plan.specs.PlanOf.{plan_of}
 use Rattle.bdb_plan.specs.PlanText.{plan_text}
+use Rattle.bdb_reasons.specs.WhyReplies.{why_reply}
 use Rattle.bdb_render.specs.declared.refusal.Refusal.{Refusal}
 use Rattle.bdb_render.specs.declared.refusal.Refusal.TheVariants as refusal
 use Rattle.bdb_render.specs.Tables.{tables_reply}
 use Rattle.bdb_render.specs.Replies.{ok_reply, count_reply, world_reply, rows_reply}
+use Rattle.bdb_why.specs.Certificates.{why_of}
+use Rattle.bdb_why.specs.declared.kinds.Why.{Why as Certificate}
 use Rattle.bdb_session.specs.declared.reading.Reading.{Reading}
 use Rattle.bdb_session.specs.declared.reading.Reading.TheVariants as reading
 use Rattle.bdb_session.specs.declared.event.Event.{Event}
@@ -85,6 +88,10 @@ tells s lines text answers = unless (too_many lines) (Done text answers s)
 abbrev pub world_at : Contents → List ℕ → World
 world_at b path = record { held = world_of (key_lengths b.catalog.rels) b.stmts path }
 
+-- why the path of a signed tuple believes it, or doesn't
+abbrev pub certificate : Contents → Stmt → Certificate
+certificate b x = why_of (key_lengths b.catalog.rels) b.stmts x.path x.tuple x.sign
+
 -- the text of a query's plan, and how many lines it has
 abbrev pub plan_reply : Catalog → Query → List ℕ
 plan_reply c q = plan_text c q (plan_of c.rels q) ++ count_reply (length (plan_of c.rels q).steps + 1)
@@ -105,6 +112,7 @@ bound_outcome s (Update path sign rel sets conds) =
 bound_outcome s (Select query) = tells s (length (answers_of s.base query)) (rows_reply (answers_of s.base query)) (length (answers_of s.base query))
 bound_outcome s (Explain query) = Done (plan_reply s.base.catalog query) 0 s
 bound_outcome s (ShowWorld path) = Done (world_reply s.base.catalog (world_at s.base path)) 0 s
+bound_outcome s (Why x) = Done (why_reply s.base.catalog x.path x.tuple x.sign (certificate s.base x)) 0 s
 bound_outcome s ShowTables = tells s (line_count s.base.catalog (canon_of s.base)) (tables_reply s.base.catalog (canon_of s.base)) 0
 
 -- ---- what comes of a command as it is written, of what a piece says, and of an event

@@ -21,6 +21,7 @@ mod stop;
 #[cfg(test)]
 mod tests;
 mod transact;
+mod why;
 mod within;
 
 pub use batch::{BatchReply, Lines};

@@ -9,7 +9,7 @@ ghost use Rattle.bdb_session.specs.Known.{AgreesOnSome};
 ghost use Rattle.bdb_session.specs.Machine.{bound_outcome, plan_reply};
 ghost use Rattle.bdb_session.specs.Outcome.{State, Done};
 ghost use Rattle.bdb_session.specs.QueryReads.{ReadsAsBounded};
-ghost use Rattle.bdb_session.specs.Telling.{WritesNothing};
+ghost use Rattle.bdb_session.specs.Telling.{ReadsWithin, WritesNothing};
 ghost use Rattle.bdb_session.specs.Within.{IsSaid, TellsWithin};
 
 use crate::reply::Reply;
@@ -64,7 +64,7 @@ impl Session {
         self.say(keeper, text, answers)
     }
 
-    /// Tells the plan of a query, within a transaction.
+    /// Tells the plan of a query, within a transaction. Nothing is read for it.
     pub(crate) fn explain<K: Keeper>(
         &self,
         keeper: &mut K,
@@ -74,6 +74,7 @@ impl Session {
         requires agrees { AgreesOnSome (K.seen keeper.old).kept self.now }
         requires fits { fits_catalog self.now.catalog (Bound.Explain query.now) ≡ true }
         ensures told { TellsWithin (λ s. bound_outcome s (Bound.Explain query.now)) self.now self.now (K.seen keeper.old) (K.seen keeper.new) result }
+        ensures reads { ReadsWithin (λ s. 0) self.now (K.seen keeper.old) (K.seen keeper.new) result }
         ensures writes { WritesNothing (K.seen keeper.old) (K.seen keeper.new) result }
     {
         let text = self.plan_text(query);

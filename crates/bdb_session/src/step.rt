@@ -94,6 +94,7 @@ impl Session {
             Bound::Select { query } => self.select(keeper, &query),
             Bound::Explain { query } => self.explain(keeper, &query),
             Bound::ShowWorld { path } => self.show_world(keeper, &path),
+            Bound::Why { stmt } => self.why(keeper, &stmt),
             Bound::ShowTables => self.show_tables(keeper),
         }
     }

@@ -1,7 +1,7 @@
 -- A sighting, a denial of it, and what each believes that others believe.
 use Rattle.std.specs.Prelude.{ℕ, List, [], ◌∷◌, codes}
 
--- Alice doesn't speak of the eagle that Bob denies, then names another bird, and takes that back; each query behind its plan
+-- Alice doesn't speak of the eagle that Bob denies, then names another bird, and takes that back; why each believes what they do; each query behind its plan
 abbrev pub script : List (List ℕ)
 script =
     codes "create user 'Alice'; create user 'Bob';"
@@ -14,6 +14,9 @@ script =
     ∷ codes "insert into BELIEF 'Alice' S values('s1','crow');"
     ∷ codes "explain select U.name from Users U, S X, BELIEF U.uid not S Y where Y.k = X.k and Y.v = X.v;"
     ∷ codes "select U.name from Users U, S X, BELIEF U.uid not S Y where Y.k = X.k and Y.v = X.v;"
+    ∷ codes "why BELIEF 'Alice' not S values('s1','eagle');"
+    ∷ codes "why BELIEF 'Alice' BELIEF 'Bob' S values('s1','eagle');"
+    ∷ codes "why BELIEF 'Bob' not S values('s1','crow');"
     ∷ codes "explain select U.name, W.name from Users U, Users W, BELIEF U.uid BELIEF W.uid S X where X.k = 's1';"
     ∷ codes "select U.name, W.name from Users U, Users W, BELIEF U.uid BELIEF W.uid S X where X.k = 's1';"
     ∷ codes "insert into BELIEF 'Alice' S values('s1','raven');"
@@ -52,6 +55,15 @@ told =
     ∷ codes "'Alice'"
     ∷ codes "'Bob'"
     ∷ codes "ok 2"
+    ∷ codes "yes other + S('s1', 'crow') at /'Alice'"
+    ∷ codes "ok 1"
+    ∷ codes "no"
+    ∷ codes "blocked + S('s1', 'eagle') at /'Bob' by - S('s1', 'eagle')"
+    ∷ codes "ok 2"
+    ∷ codes "no"
+    ∷ codes "nowhere - S('s1', 'crow')"
+    ∷ codes "blocked + S('s1', 'eagle') at /'Bob' by - S('s1', 'eagle')"
+    ∷ codes "ok 3"
     ∷ codes "user U"
     ∷ codes "user W"
     ∷ codes "start X"

@@ -1,6 +1,5 @@
 use Rattle.std.proofs.Common.{◌∙◌, ap, refl, sym}
 use Rattle.bdb_session.specs.Machine.{command_outcome, outcome_of, reading_outcome}
-use Rattle.bdb_session.specs.Outcome.{Blank, Refused}
 use Rattle.bdb_session.specs.declared.event.Event.TheVariants.{Piece}
 use Rattle.bdb_session.proofs.WithinLemmas.{blank_tells, memory_tells, refused_tells, tells_as}
 use Rattle.bdb_update.proofs.CallLemmas.{gone_itself}

@@ -1,4 +1,4 @@
-use Rattle.std.proofs.Common.{◌∙◌, ap, refl, sym, subst}
+use Rattle.std.proofs.Common.{◌∙◌, ap, sym, subst}
 use Rattle.std.specs.Option.{option_and_then}
 use Rattle.bdb_base.specs.Bases.{IsCatalog}
 use Rattle.bdb_base.specs.declared.kinds.Catalog.{Catalog}

@@ -41,6 +41,9 @@ returns-in-Explain-clause-told g c = tells_as _ _ _ _ _ _ _ _ _ (λ s. ap (bound
 pub returns-in-ShowWorld-clause-told : goal.returns-in-ShowWorld-clause-told
 returns-in-ShowWorld-clause-told g c = tells_as _ _ _ _ _ _ _ _ _ (λ s. ap (bound_outcome s) c.in-ShowWorld.is) refl (ap (learned c.args.self.now) c.requires.nothing) c.show_world.ensures.told
 
+pub returns-in-Why-clause-told : goal.returns-in-Why-clause-told
+returns-in-Why-clause-told g c = tells_as _ _ _ _ _ _ _ _ _ (λ s. ap (bound_outcome s) c.in-Why.is) refl (ap (learned c.args.self.now) c.requires.nothing) c.why.ensures.told
+
 pub returns-in-ShowTables-clause-told : goal.returns-in-ShowTables-clause-told
 returns-in-ShowTables-clause-told g c = tells_as _ _ _ _ _ _ _ _ _ (λ s. ap (bound_outcome s) c.in-ShowTables.is) refl (ap (learned c.args.self.now) c.requires.nothing) c.show_tables.ensures.told
 

@@ -1,4 +1,4 @@
-use Rattle.std.proofs.Common.{ℕ, length, subst}
+use Rattle.std.proofs.Common.{ℕ, subst}
 use Rattle.bdb_render.specs.Replies.{rows_reply}
 use Rattle.bdb_session.specs.Outcome.{Done}
 use Rattle.bdb_session.specs.Within.{IsSaid}
