@@ -5,6 +5,7 @@ pub mod FindLemmas
 pub mod KeyLemmas
 pub mod LoadLemmas
 pub mod MakeLemmas
+pub mod OpenLemmas
 pub mod OrderLemmas
 pub mod PlaceLemmas
 pub mod PutLemmas

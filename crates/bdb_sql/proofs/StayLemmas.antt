@@ -1,5 +1,5 @@
 -- A connection that stays as it was opened.
-use Rattle.std.proofs.Common.{◌≡◌, inr, Option, Some, None, sym, ◌∙◌, arith}
+use Rattle.std.proofs.Common.{◌≡◌, inl, inr, Option, Some, None, sym, ◌∙◌, arith}
 use Rattle.std.specs.Prelude.{IfSome}
 use Rattle.sqlite_trees.specs.declared.store.Store.{Ghosts}
 use Rattle.sqlite.specs.State.{State, HasCleanDisk, Opens, Survives}
@@ -27,4 +27,4 @@ module _ {S : Type 0} (g : Ghosts S) (old : Held S) where
 -- an open connection over which there is nothing is whole
 pub fresh_whole : {S : Type 0} (g : Ghosts S) (o : Option (Held S)) → IfSome o (λ c. HasCleanDisk (state g c) → Opens (state g c)) → IfSome o (λ c. c.schema ≡ no_schema) → StandsWhole g o
 fresh_whole g None opens bare = tt
-fresh_whole g (Some c) opens bare = λ clean. inr ((opens clean).is_open, bare)
+fresh_whole g (Some c) opens bare = λ clean. inr ((opens clean).is_open, inl bare)

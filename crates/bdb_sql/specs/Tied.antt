@@ -54,9 +54,9 @@ module _ {S : Type 0} (g : Ghosts S) where
   abbrev pub WhereTied : Held S → Held S → Tables → (State → Type 0) → Type 0
   WhereTied old new t Makes = HasCleanDisk (state g new) → IsTied (state g old) t → Makes (state g new)
 
-  -- the store below isn't broken, or it is open and has nothing in it
+  -- the store below isn't broken; or it is open, and there is nothing in it, or the rows of its first table stand by rising numbers
   abbrev pub IsWhole : Held S → Type 0
-  IsWhole c = ((g.view c.store).is_broken ≡ false) ⊎ (IsTrue (g.view c.store).is_open × (c.schema ≡ no_schema))
+  IsWhole c = ((g.view c.store).is_broken ≡ false) ⊎ (IsTrue (g.view c.store).is_open × ((c.schema ≡ no_schema) ⊎ IsShaped Table ((g.view c.store).trees 0)))
 
   -- so it is of the connection, if there is one, as long as its disk is clean
   abbrev pub StandsWhole : Option (Held S) → Type 0

@@ -61,6 +61,7 @@ impl<S: Alter> SqlKeeper<S> {
         ensures rows_still { works result ≡ true → IfSome result.conn (λ c. HasCleanDisk (state S.Store c) → Stores (state S.Store c).now result.seen.kept) }
         ensures survives { IfSome result.conn (λ c. Survives (state S.Store conn) (state S.Store c) (λ _. ⊥)) }
         ensures tied { works result ≡ true → StandsWhole S.Store result.conn → MatchesFile S.Store result }
+        ensures adopted { works result ≡ true → StandsWhole S.Store (Some conn) → MatchesFile S.Store result }
     {
         match load(alloc, &mut conn) {
             Ok(store) => SqlKeeper::begun(alloc, store, Some(conn), None),

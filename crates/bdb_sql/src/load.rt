@@ -34,6 +34,7 @@ pub fn load<S: Alter>(alloc: Global, conn: &mut Connection<S>) -> Result<Store, 
     ensures same { HasCleanDisk (state S.Store conn.new) → OnOk result (StaysAs (state S.Store conn.old) (state S.Store conn.new)) }
     ensures survives { Survives (state S.Store conn.old) (state S.Store conn.new) (λ _. ⊥) }
     ensures tied { HasCleanDisk (state S.Store conn.new) → IsWhole S.Store conn.new → IfOk result (λ store. IsTied (state S.Store conn.new) store.kept) }
+    ensures adopted { HasCleanDisk (state S.Store conn.new) → (HasCleanDisk (state S.Store conn.old) → IsWhole S.Store conn.old) → IfOk result (λ store. IsTied (state S.Store conn.new) store.kept) }
 {
     if !conn.is_autocommit() {
         return Err(KeepError::Fault);

@@ -2,7 +2,7 @@
 ghost use Rattle.std.specs.Prelude.{◌≡◌, false, IfOk, IfSome, IsTrue};
 ghost use Rattle.sqlite_disk.specs.Memory.{memory_is_usable};
 
-use crate::tests::script::{ROOM, ran};
+use crate::tests::script::{ROOM, Script, all_of, ran};
 use bdb_base::List;
 use bdb_io::MemSink;
 use bdb_sql::SqlKeeper;
@@ -31,9 +31,9 @@ pub struct Ending {
     pub files: Files<Fuse<Memory>>,
 }
 
-/// Runs the script over new files, of which one takes so many calls and no more. At the end it closes the files as the program
+/// Runs a script over new files, of which one takes so many calls and no more. At the end it closes the files as the program
 /// does.
-pub fn ended(alloc: Global, failing: Failing, calls: u64) -> Result<Ending, Fail> {
+pub fn ended(alloc: Global, script: Script, failing: Failing, calls: u64) -> Result<Ending, Fail> {
     let mut replies = MemSink::new(alloc, List::new(alloc), 0, ROOM)?;
     let keeper = match opened(alloc, files_failing(alloc, failing, calls)) {
         Ok(keeper) => keeper,
@@ -46,7 +46,7 @@ pub fn ended(alloc: Global, failing: Failing, calls: u64) -> Result<Ending, Fail
             });
         }
     };
-    let (status, keeper) = run_over(alloc, keeper, &mut replies)?;
+    let (status, keeper) = run_over(alloc, script, keeper, &mut replies)?;
     let (closed, files) = files_of(keeper).ok_or("no connection")?;
     Ok(Ending {
         status,
@@ -56,15 +56,16 @@ pub fn ended(alloc: Global, failing: Failing, calls: u64) -> Result<Ending, Fail
     })
 }
 
-/// Runs the script over a keeper.
+/// Runs a script over a keeper.
 fn run_over(
     alloc: Global,
+    script: Script,
     mut keeper: SqlKeeper<FileStore<Fuse<Memory>>>,
     replies: &mut MemSink,
 ) -> Result<(u8, SqlKeeper<FileStore<Fuse<Memory>>>), Fail>
     requires idle { keeper.seen.running ≡ false }
 {
-    let status = ran(alloc, "run", 0, usize::MAX, replies, &mut keeper)?;
+    let status = ran(alloc, "run", all_of(script), replies, &mut keeper)?;
     Ok((status, keeper))
 }
 

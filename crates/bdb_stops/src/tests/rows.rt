@@ -2,7 +2,7 @@
 ghost use Rattle.std.specs.Prelude.{◌≡◌, ◌≤◌, false};
 
 use crate::tests::files::{files_of, opened};
-use crate::tests::script::{ROOM, are_last, ran};
+use crate::tests::script::{Part, ROOM, Script, are_last, change_count, ran};
 use bdb_base::List;
 use bdb_io::MemSink;
 use bdb_keep::{Keeper, MemKeeper};
@@ -12,22 +12,20 @@ use sqlite_disk::{Files, Fuse, Memory};
 use std::alloc::Global;
 use std::test::Fail;
 
-/// How many of the commands change the base: the first ones.
-const CHANGES: usize = 11;
-
 /// How many commits were answered where so many commands were replied to, that of opening among them; none where none was.
-pub fn commits_told(commands: usize) -> usize {
+pub fn commits_told(script: Script, commands: usize) -> usize {
     if commands == 0 {
         0
     } else {
-        commands.min(CHANGES) + 1
+        commands.min(change_count(script)) + 1
     }
 }
 
-/// The files are opened again and checked to hold a base. Of the commits of an undisturbed run it tells how many, not fewer than
+/// The files are opened again and checked to hold a base. Of the commits of an undisturbed run of the script it tells how many, not fewer than
 /// `least`, make these very rows; the first is that of opening.
 pub fn commits_in(
     alloc: Global,
+    script: Script,
     files: Files<Fuse<Memory>>,
     least: usize,
 ) -> Result<Option<usize>, Fail> {
@@ -35,14 +33,19 @@ pub fn commits_in(
         return Ok(None);
     };
     let mut line = MemSink::new(alloc, List::new(alloc), 0, ROOM)?;
-    let status = ran(alloc, "check --db a", 0, 0, &mut line, &mut keeper)?;
+    let nothing = Part {
+        script,
+        from: 0,
+        count: 0,
+    };
+    let status = ran(alloc, "check --db a", nothing, &mut line, &mut keeper)?;
     if status != 0 || line.bytes() != b"ok\n".as_slice() {
         return Ok(None);
     }
-    let Some(commits) = commits_made(alloc, &mut keeper, least)? else {
+    let Some(commits) = commits_made(alloc, script, &mut keeper, least)? else {
         return Ok(None);
     };
-    if goes_on(alloc, keeper, commits)? {
+    if goes_on(alloc, script, keeper, commits)? {
         Ok(Some(commits))
     } else {
         Ok(None)
@@ -53,6 +56,7 @@ pub fn commits_in(
 /// rows of an undisturbed run.
 fn goes_on(
     alloc: Global,
+    script: Script,
     keeper: SqlKeeper<FileStore<Fuse<Memory>>>,
     commits: usize,
 ) -> Result<bool, Fail> {
@@ -64,19 +68,26 @@ fn goes_on(
     };
     let done = commits.saturating_sub(1);
     let mut replies = MemSink::new(alloc, List::new(alloc), 0, ROOM)?;
-    let status = ran(alloc, "run", done, usize::MAX, &mut replies, &mut keeper)?;
-    let made = commits_made(alloc, &mut keeper, CHANGES + 1)?;
-    Ok(status == 0 && are_last(replies.bytes(), done) && made == Some(CHANGES + 1))
+    let others = Part {
+        script,
+        from: done,
+        count: usize::MAX,
+    };
+    let status = ran(alloc, "run", others, &mut replies, &mut keeper)?;
+    let all = change_count(script) + 1;
+    let made = commits_made(alloc, script, &mut keeper, all)?;
+    Ok(status == 0 && are_last(script, replies.bytes(), done) && made == Some(all))
 }
 
 /// How many of the commits of an undisturbed run, not fewer than `least`, make the rows of a keeper.
 fn commits_made<K: Keeper>(
     alloc: Global,
+    script: Script,
     keeper: &mut K,
     least: usize,
 ) -> Result<Option<usize>, Fail> {
-    for commits in least..CHANGES + 2 {
-        let mut undisturbed = undisturbed(alloc, commits)?;
+    for commits in least..change_count(script) + 2 {
+        let mut undisturbed = undisturbed(alloc, script, commits)?;
         if undisturbed.commits() != commits as u64 {
             return Ok(None);
         }
@@ -88,11 +99,16 @@ fn commits_made<K: Keeper>(
 }
 
 /// A keeper after so many commits.
-fn undisturbed(alloc: Global, commits: usize) -> Result<MemKeeper, Fail> {
+fn undisturbed(alloc: Global, script: Script, commits: usize) -> Result<MemKeeper, Fail> {
     let mut keeper = MemKeeper::new(alloc, List::new(alloc));
     let mut replies = MemSink::new(alloc, List::new(alloc), 0, ROOM)?;
     if commits > 0 {
-        ran(alloc, "run", 0, commits - 1, &mut replies, &mut keeper)?;
+        let first = Part {
+            script,
+            from: 0,
+            count: commits - 1,
+        };
+        ran(alloc, "run", first, &mut replies, &mut keeper)?;
     }
     Ok(keeper)
 }
