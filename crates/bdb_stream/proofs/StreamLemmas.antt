@@ -23,13 +23,13 @@ use Rattle.bdb_stream.proofs.RunLemmas.{grows_on, grows_as, replies-append, come
 -- ---- bytes that are taken
 
 -- bytes that are taken behind others
-consumes_on : (a b c : Option (List ℕ)) (x y : List ℕ) → Consumes a b x → Consumes b c y → Consumes a c (x ++ y)
+pub consumes_on : (a b c : Option (List ℕ)) (x y : List ℕ) → Consumes a b x → Consumes b c y → Consumes a c (x ++ y)
 consumes_on None b c x y h k = tt
 consumes_on (Some s) None c x y h k = absurd h
 consumes_on (Some s) (Some t) None x y h k = absurd k
 consumes_on (Some s) (Some t) (Some u) x y h k = h ∙ ap (λ l. x ++ l) k ∙ sym (append_assoc x y u)
 
-consumes_kept : (a b c : Option (List ℕ)) (x : List ℕ) → Consumes a b x → Keeps b c → Consumes a c x
+pub consumes_kept : (a b c : Option (List ℕ)) (x : List ℕ) → Consumes a b x → Keeps b c → Consumes a c x
 consumes_kept None b c x h k = tt
 consumes_kept (Some s) None c x h k = absurd h
 consumes_kept (Some s) (Some t) None x h k = absurd k
@@ -68,7 +68,7 @@ front_in (Some xs) (Some ys) taken done h k =
 whole_of : (xs ys taken : List ℕ) → xs ≡ taken ++ ys → ys ≡ [] → xs ≡ taken
 whole_of xs ys taken h end = h ∙ ap (λ l. taken ++ l) end ∙ append-nil taken
 
-at_end : (P : List ℕ → Type 0) (before left : Option (List ℕ)) (taken : List ℕ) → Consumes before left taken → IsAtEnd left → P taken → IfSome before P
+pub at_end : (P : List ℕ → Type 0) (before left : Option (List ℕ)) (taken : List ℕ) → Consumes before left taken → IsAtEnd left → P taken → IfSome before P
 at_end P None left taken h end k = tt
 at_end P (Some xs) None taken h end k = absurd h
 at_end P (Some xs) (Some ys) taken h end k = subst P (sym (whole_of xs ys taken h end)) k
@@ -91,7 +91,7 @@ answered_less s xs ys done old new h c = record {
   );
 }
 
-few_left : (n m k : ℕ) → m ≤ k → n + m - k ≤ n
+pub few_left : (n m k : ℕ) → m ≤ k → n + m - k ≤ n
 few_left n m k h = omega arith
 
 -- what is answered of the bytes before the last read is answered of all but the last 65,536 with it
@@ -193,7 +193,7 @@ read_over s before mid left bytes part cutter session first now old new accepted
 }
 
 -- the status of a run that neither the source nor too much of it stopped
-not_read : (stop : Stop) → (stop ≡ Source → ⊥) → (stop ≡ Large → ⊥) → (status_of (Err stop) ≢ 3) × (status_of (Err stop) ≢ 8)
+pub not_read : (stop : Stop) → (stop ≡ Source → ⊥) → (stop ≡ Large → ⊥) → (status_of (Err stop) ≢ 3) × (status_of (Err stop) ≢ 8)
 not_read Source h k = absurd (h refl)
 not_read Sink h k = (λ e. omega (arith, e), λ e. omega (arith, e))
 not_read Keeper h k = (λ e. omega (arith, e), λ e. omega (arith, e))
@@ -264,7 +264,7 @@ rest_stops s before mid left bytes cutter rest session next first seen now old m
     (subst (λ (l : List Event). IsFrontOf (ended_in bytes ++ ends.done) l) (sym (rest_behind bytes cutter rest reads.cut is))
     (front_behind (ended_in bytes) ends.done events ends.front)))
 
-not_status : (accepted : Bool) → (status_of (Ok accepted) ≢ 3) × (status_of (Ok accepted) ≢ 8)
+pub not_status : (accepted : Bool) → (status_of (Ok accepted) ≢ 3) × (status_of (Ok accepted) ≢ 8)
 not_status true = (λ e. omega (arith, e), λ e. omega (arith, e))
 not_status false = (λ e. omega (arith, e), λ e. omega (arith, e))
 

@@ -1,0 +1,6 @@
+pub mod ActLemmas
+pub mod BlockLemmas
+pub mod LawLemmas
+pub mod RunLemmas
+pub mod StreamLemmas
+pub mod WriteLemmas

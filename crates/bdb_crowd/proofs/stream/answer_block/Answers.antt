@@ -1,0 +1,78 @@
+use Rattle.std.proofs.Common.{◌≡◌, [], arith, ap, refl, rules}
+use Rattle.bdb_lex.specs.Cut.{EndsFirst, ready, start}
+use Rattle.std.proofs.KnownBytes.{Appends-nil}
+use Rattle.bdb_crowd.specs.Asked.{asked_by}
+use Rattle.bdb_crowd.proofs.BlockLemmas.{asked_in, come_next, next_is, state_done}
+use Rattle.bdb_crowd.proofs.RunLemmas.{comes_none, comes_stops, never_fall_on}
+use Rattle.bdb_crowd.proofs.stream.answer_block.Goals as goal
+
+pub returns-in-Err-answer_piece-clause-ends : goal.returns-in-Err-answer_piece-clause-ends
+returns-in-Err-answer_piece-clause-ends g c = λ p a.
+    let left = c.loop-piece.invariant.come in
+    let found = c.in-Ok-Some in
+    let all = asked_in c.args.cutter.now.state c.args.block.now in
+    let ends : EndsFirst c.loop-piece.cutter.state c.loop-piece.rest.now found.piece found.others.now = search rules in
+    comes_stops p all left.0 (asked_by found.piece) (asked_in start found.others.now) c.loop-piece.crowd c.answer_piece.new.self _ _ _ _ _ _ c.loop-piece.fine c.in-Err-answer_piece.stop
+    (next_is all left.0 c.loop-piece.cutter.state c.loop-piece.rest.now found.others.now found.piece left.1 ends) (left.2 p a) c.in-Err-answer_piece.ensures.answered
+
+pub loop-piece-preserved-in-Ok : goal.loop-piece-preserved-in-Ok
+loop-piece-preserved-in-Ok g c =
+    let found = c.in-Ok-Some in
+    let cutter = c.next_piece.new.self in
+    let ends : EndsFirst c.loop-piece.cutter.state c.loop-piece.rest.now found.piece found.others.now = search rules in
+    let begins : cutter ≡ ready start = search rules in
+    record {
+      come = come_next _ c.args.crowd.now c.loop-piece.cutter.state c.loop-piece.rest.now found.others.now found.piece cutter c.loop-piece.crowd c.answer_piece.new.self _ _ _ _ _ _ c.loop-piece.fine c.in-Ok.more
+          c.loop-piece.invariant.come ends begins c.in-Ok.ensures.answered;
+      state = state_done _ c.loop-piece.cutter.state c.loop-piece.rest.now found.others.now found.piece cutter c.loop-piece.invariant.state ends begins;
+      ready = ap (λ x. x.is_spent) begins;
+      still = c.answer_piece.ensures.still;
+      at = c.in-Ok.ensures.at;
+      keeper = never_fall_on _ _ _ c.loop-piece.invariant.keeper c.answer_piece.ensures.never_fall;
+      sink = omega (arith, c.answer_piece.ensures.later);
+    }
+
+pub loop-piece-preserved-in-Ok-2 : goal.loop-piece-preserved-in-Ok-2
+loop-piece-preserved-in-Ok-2 g c =
+    let found = c.in-Ok-Some in
+    let cutter = c.next_piece.new.self in
+    let ends : EndsFirst c.loop-piece.cutter.state c.loop-piece.rest.now found.piece found.others.now = search rules in
+    let begins : cutter ≡ ready start = search rules in
+    record {
+      come = come_next _ c.args.crowd.now c.loop-piece.cutter.state c.loop-piece.rest.now found.others.now found.piece cutter c.loop-piece.crowd c.answer_piece.new.self _ _ _ _ _ _ c.loop-piece.fine c.in-Ok.more
+          c.loop-piece.invariant.come ends begins c.in-Ok.ensures.answered;
+      state = state_done _ c.loop-piece.cutter.state c.loop-piece.rest.now found.others.now found.piece cutter c.loop-piece.invariant.state ends begins;
+      ready = ap (λ x. x.is_spent) begins;
+      still = c.answer_piece.ensures.still;
+      at = c.in-Ok.ensures.at;
+      keeper = never_fall_on _ _ _ c.loop-piece.invariant.keeper c.answer_piece.ensures.never_fall;
+      sink = omega (arith, c.answer_piece.ensures.later);
+    }
+
+pub loop-piece-preserved : goal.loop-piece-preserved
+loop-piece-preserved g c =
+    let found = c.in-Ok-Some in
+    let cutter = c.next_piece.new.self in
+    let ends : EndsFirst c.loop-piece.cutter.state c.loop-piece.rest.now found.piece found.others.now = search rules in
+    let begins : cutter ≡ ready start = search rules in
+    record {
+      come = come_next _ c.args.crowd.now c.loop-piece.cutter.state c.loop-piece.rest.now found.others.now found.piece cutter c.loop-piece.crowd c.answer_piece.new.self _ _ _ _ _ _ c.loop-piece.fine c.in-Ok.more
+          c.loop-piece.invariant.come ends begins c.in-Ok.ensures.answered;
+      state = state_done _ c.loop-piece.cutter.state c.loop-piece.rest.now found.others.now found.piece cutter c.loop-piece.invariant.state ends begins;
+      ready = ap (λ x. x.is_spent) begins;
+      still = c.answer_piece.ensures.still;
+      at = c.in-Ok.ensures.at;
+      keeper = never_fall_on _ _ _ c.loop-piece.invariant.keeper c.answer_piece.ensures.never_fall;
+      sink = omega (arith, c.answer_piece.ensures.later);
+    }
+
+pub loop-piece-init : goal.loop-piece-init
+loop-piece-init g c = record {
+  come = ([], refl, λ p a. comes_none p c.args.crowd.now (g.K.Keeper.seen c.args.keeper.now) (g.O.Sink.written c.args.out.now) (g.O.Sink.written c.args.out.now) a (Appends-nil (g.O.Sink.written c.args.out.now)));
+  state = refl;
+  ready = c.requires.ready;
+  still = c.requires.still;
+  at = c.requires.at;
+  keeper = record { faults = omega arith; reads = omega arith; writes = omega arith; commits = omega arith };
+  sink = omega arith;
+}

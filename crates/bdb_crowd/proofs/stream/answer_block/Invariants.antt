@@ -1,0 +1,23 @@
+use Rattle.std.proofs.Common.{◌≡◌, ◌≤◌, false, List, ◌++◌, length}
+use Rattle.bdb_keep.specs.Seen.{IsStill, NeverFall}
+use Rattle.bdb_lex.specs.Cut.{state_after}
+use Rattle.bdb_crowd.specs.Asked.{Asked, Point}
+use Rattle.bdb_crowd.specs.Carried.{Comes, IsAt, IsAtSome}
+use Rattle.bdb_crowd.proofs.BlockLemmas.{asked_in}
+use Rattle.bdb_crowd.proofs.stream.answer_block.Given as goal
+
+abbrev pub invariant-loop-piece : goal.invariant-loop-piece
+invariant-loop-piece g l = record {
+  come : (done : List Asked) × (asked_in l.fn.cutter.state l.fn.block ≡ done ++ asked_in l.cutter.state l.rest)
+      × ((p : Point) → IsAt (g.K.Keeper.seen l.fn.keeper).kept l.fn.crowd p
+      → Comes p done l.crowd (g.K.Keeper.seen l.fn.keeper) (g.K.Keeper.seen l.keeper) (g.O.Sink.written l.fn.out) (g.O.Sink.written l.out) l.fine);
+  state : state_after l.fn.cutter.state l.fn.block ≡ state_after l.cutter.state l.rest;
+  ready : l.cutter.is_spent ≡ false;
+  still : IsStill (g.K.Keeper.seen l.keeper);
+  at : IsAtSome (g.K.Keeper.seen l.keeper).kept l.crowd;
+  keeper : NeverFall (g.K.Keeper.seen l.fn.keeper) (g.K.Keeper.seen l.keeper);
+  sink : g.O.Sink.faults l.fn.out ≤ g.O.Sink.faults l.out;
+}
+
+abbrev pub decreases-loop-piece : goal.decreases-loop-piece
+decreases-loop-piece g l = length l.rest
