@@ -5,3 +5,4 @@ pub mod GeneratedLemmas
 pub mod TallyLemmas
 pub mod CheckLemmas
 pub mod WordLemmas
+pub mod ManyLemmas

@@ -22,7 +22,7 @@ append_nil : {X : Type 0} (xs : List X) → xs ++ [] ≡ xs
 append_nil [] = refl
 append_nil (x ∷ xs) = ap (λ l. x ∷ l) (append_nil xs)
 
-nothing_grows : (a : Option (List ℕ)) → Appends a a []
+pub nothing_grows : (a : Option (List ℕ)) → Appends a a []
 nothing_grows None = tt
 nothing_grows (Some s) = sym (append_nil s)
 
@@ -33,7 +33,7 @@ record Left (s : State) (done : List Event) (first now : Seen) : Type 0 where
   commits : CommitsFor (counted s done) first now
 
 -- the commits of events, behind that of opening
-commits_on : (k n a m z : ℕ) → Rises n a m → Rises k m z → z < 2 ^ 64 - 1 → k ≡ z - a - n
+pub commits_on : (k n a m z : ℕ) → Rises n a m → Rises k m z → z < 2 ^ 64 - 1 → k ≡ z - a - n
 commits_on k n a m z h i below =
     let last = i below in
     let first = h (omega arith) in

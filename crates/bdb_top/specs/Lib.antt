@@ -6,6 +6,7 @@ pub mod Generated
 pub mod Laws
 pub mod Lines
 pub mod Ran
+pub mod RanMany
 pub mod Words
 pub use Rattle.bdb_stream.specs.Carried
 pub use Rattle.bdb_stream.specs.Streams

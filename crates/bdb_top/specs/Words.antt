@@ -1,10 +1,11 @@
 -- The words of the command line, and the job that they name.
 use Rattle.std.specs.Prelude.{ℕ, ◌+◌, ◌-◌, ◌*◌, ◌^◌, Bool, false, not, ◌&&◌, nat_eq, nat_le, nat_lt, List, [], ◌∷◌, length, Option, Some, None, cond, codes}
 use Rattle.std.specs.Char.{is_ascii_digit}
+use Rattle.std.specs.Option.{option_map}
 use Rattle.bdb_base.specs.Limits.{most_generated}
 use Rattle.bdb_base.specs.Same.{same_text}
 use Rattle.bdb_top.specs.declared.words.Job.{Job}
-use Rattle.bdb_top.specs.declared.words.Job.TheVariants.{Run, Check, Gen}
+use Rattle.bdb_top.specs.declared.words.Job.TheVariants.{Run, Many, Check, Gen}
 
 -- an option's value is not empty and does not begin with a dash
 abbrev pub is_value : List ℕ → Bool
@@ -28,27 +29,43 @@ most_digits = 20
 abbrev pub number_of : List ℕ → Option ℕ
 number_of digits = cond (nat_lt 0 (length digits) && nat_le (length digits) most_digits) (number_behind 0 digits) None
 
--- the job to run a script with one option and its value: the file of a base, or that of the script
-abbrev pub running_with : List ℕ → List ℕ → Option Job
-running_with option value =
-    cond (is_value value) (cond (same_text option (codes "--db")) (Some (Run (Some value) None)) (cond (same_text option (codes "--script")) (Some (Run None (Some value))) None)) None
+-- the files that a job names: that of a base, and that of a script
+pub record Files : Type 0 where
+  pub db : Option (List ℕ)
+  pub script : Option (List ℕ)
 
--- the job to run the script in a file over the base in another
-abbrev pub running : List ℕ → List ℕ → Option Job
-running db script = cond (is_value db && is_value script) (Some (Run (Some db) (Some script))) None
+abbrev pub files : Option (List ℕ) → Option (List ℕ) → Option Files
+files db script = Some (record { db = db; script = script })
 
--- the job to run a script with two options and their values: the file of a base and that of the script in any order
-abbrev pub running_by : List ℕ → List ℕ → List ℕ → List ℕ → Option Job
-running_by first a second b =
-    cond (same_text first (codes "--db") && same_text second (codes "--script")) (running a b)
-    (cond (same_text first (codes "--script") && same_text second (codes "--db")) (running b a) None)
+-- the files of one option and its value: that of a base, or that of a script
+abbrev pub files_with : List ℕ → List ℕ → Option Files
+files_with option value =
+    cond (is_value value) (cond (same_text option (codes "--db")) (files (Some value) None) (cond (same_text option (codes "--script")) (files None (Some value)) None)) None
+
+-- the files of a base and of a script
+abbrev pub both_files : List ℕ → List ℕ → Option Files
+both_files db script = cond (is_value db && is_value script) (files (Some db) (Some script)) None
+
+-- the files of two options and their values, in any order
+abbrev pub files_by : List ℕ → List ℕ → List ℕ → List ℕ → Option Files
+files_by first a second b =
+    cond (same_text first (codes "--db") && same_text second (codes "--script")) (both_files a b)
+    (cond (same_text first (codes "--script") && same_text second (codes "--db")) (both_files b a) None)
+
+-- the files of words that begin with this one: each is that of an option, or none
+abbrev pub files_of : List ℕ → List (List ℕ) → Option Files
+files_of name (word ∷ []) = cond (same_text word name) (files None None) None
+files_of name (word ∷ option ∷ value ∷ []) = cond (same_text word name) (files_with option value) None
+files_of name (word ∷ first ∷ a ∷ second ∷ b ∷ []) = cond (same_text word name) (files_by first a second b) None
+files_of name _ = None
 
 -- the job of words that ask to run a script: that of a file or of standard input, over the base in a file or the empty one
 abbrev pub run_job : List (List ℕ) → Option Job
-run_job (word ∷ []) = cond (same_text word (codes "run")) (Some (Run None None)) None
-run_job (word ∷ option ∷ value ∷ []) = cond (same_text word (codes "run")) (running_with option value) None
-run_job (word ∷ first ∷ a ∷ second ∷ b ∷ []) = cond (same_text word (codes "run")) (running_by first a second b) None
-run_job _ = None
+run_job words = option_map (λ f. Run f.db f.script) (files_of (codes "run") words)
+
+-- the job of words that ask to run a stream of sessions, as one to run a script
+abbrev pub many_job : List (List ℕ) → Option Job
+many_job words = option_map (λ f. Many f.db f.script) (files_of (codes "many") words)
 
 -- the job of words that ask to check a file
 abbrev pub check_job : List (List ℕ) → Option Job
@@ -78,4 +95,4 @@ either_job None other = other
 
 -- the job of these words; none where they are in no line of the table
 abbrev pub named_job : List (List ℕ) → Option Job
-named_job words = either_job (run_job words) (either_job (check_job words) (gen_job words))
+named_job words = either_job (run_job words) (either_job (many_job words) (either_job (check_job words) (gen_job words)))

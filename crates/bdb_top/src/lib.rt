@@ -7,6 +7,7 @@ mod failing;
 mod generated;
 mod laws;
 mod lines;
+mod many;
 mod status;
 mod tally;
 #[cfg(test)]

@@ -9,14 +9,16 @@ ghost use Rattle.bdb_session.specs.Outcome.{start_from};
 ghost use Rattle.bdb_top.specs.ByCount.{CommitsTell};
 ghost use Rattle.bdb_top.specs.Checked.{IsChecked, IsUntouched};
 ghost use Rattle.bdb_top.specs.Ran.{EachBase, Ran, StandsForNone};
+ghost use Rattle.bdb_top.specs.RanMany.{RanMany};
 ghost use Rattle.bdb_top.specs.Generated.{IsSummarized};
-ghost use Rattle.bdb_top.specs.Words.{named_job, check_job, run_job};
+ghost use Rattle.bdb_top.specs.Words.{named_job, check_job, many_job, run_job};
 ghost use Rattle.bdb_top.specs.declared.words.Job.TheVariants.{Gen};
 
 use crate::check::check_tables;
 use crate::generated::summarize;
+use crate::many::run_stream;
 use crate::status::status_of;
-use crate::words::{checked_file, recipe_of, run_files};
+use crate::words::{checked_file, many_files, recipe_of, run_files};
 use bdb_base::Txt;
 use bdb_decode::OpenError;
 use bdb_io::{Sink, Source};
@@ -44,6 +46,9 @@ use std::alloc::Global;
 /// With 4, 5 and 6 each command that ends more than 65,536 bytes before the end of the bytes given was carried out, and its
 /// reply written. What stands behind the last semicolon is told as unfinished at the end of the script alone.
 ///
+/// Where the words ask for a stream of sessions, its pieces are carried out as a script's commands are, and the statuses come as for a
+/// script: 1 where some reply has a line that tells an error. A batch runs in one transaction at its commit, or not at all.
+///
 /// Where the words ask to check a file one line tells of the keeper's tables: `ok` and status 0 where they hold a base or have no
 /// row, else `error damaged`, or `error format N` where they are of another format N, and status 7. Or the status is 4, 5 or 6, the
 /// last two with nothing written. The source isn't called, and the tables stay.
@@ -61,15 +66,22 @@ pub fn run<S: Source, O: Sink, K: Keeper>(
     requires idle { (K.seen keeper.old).running ≡ false }
     ensures headline { run_job words.now ≢ None → IfSome (S.left script.old) (λ text. EachBase (K.seen keeper.old).kept (λ b.
         Ran (start_from b) text (S.left script.new) (K.seen keeper.old) (K.seen keeper.new) (O.written out.old) (O.written out.new) result)) }
+    ensures headline_many { many_job words.now ≢ None → IfSome (S.left script.old) (λ text. EachBase (K.seen keeper.old).kept (λ b.
+        RanMany (start_from b) text (S.left script.new) (K.seen keeper.old) (K.seen keeper.new) (O.written out.old) (O.written out.new) result)) }
     ensures by_count { run_job words.now ≢ None → IfSome (S.left script.old) (λ text. EachBase (K.seen keeper.old).kept (λ b.
         CommitsTell (start_from b) text (K.seen keeper.old) (K.seen keeper.new) (O.written out.old) (O.written out.new) result)) }
     ensures refused { run_job words.now ≢ None → result ≡ 7 → StandsForNone (K.seen keeper.old).kept }
+    ensures refused_many { many_job words.now ≢ None → result ≡ 7 → StandsForNone (K.seen keeper.old).kept }
     ensures none { run_job words.now ≢ None → StandsForNone (K.seen keeper.old).kept → (result ≡ 5) ⊎ (result ≡ 6) ⊎ (result ≡ 7) }
+    ensures none_many { many_job words.now ≢ None → StandsForNone (K.seen keeper.old).kept → (result ≡ 5) ⊎ (result ≡ 6) ⊎ (result ≡ 7) }
     ensures silent { run_job words.now ≢ None → StandsForNone (K.seen keeper.old).kept
+        → (script.new ≡ script.old) × (out.new ≡ out.old) × IsUntouched (K.seen keeper.old) (K.seen keeper.new) }
+    ensures silent_many { many_job words.now ≢ None → StandsForNone (K.seen keeper.old).kept
         → (script.new ≡ script.old) × (out.new ≡ out.old) × IsUntouched (K.seen keeper.old) (K.seen keeper.new) }
     ensures words { (result ≡ 2) ↔ (named_job words.now ≡ None) }
     ensures untouched { result ≡ 2 → (script.new ≡ script.old) × (out.new ≡ out.old) × (keeper.new ≡ keeper.old) }
     ensures still { run_job words.now ≢ None → IsStill (K.seen keeper.new) }
+    ensures still_many { many_job words.now ≢ None → IsStill (K.seen keeper.new) }
     ensures checked { check_job words.now ≢ None → IsChecked (K.seen keeper.old).kept (O.written out.old) (O.written out.new) result
         × (script.new ≡ script.old) × IsUntouched (K.seen keeper.old) (K.seen keeper.new) × IsStill (K.seen keeper.new) }
     ensures generated { (seed size : ℕ) → named_job words.now ≡ Some (Gen seed size)
@@ -78,7 +90,9 @@ pub fn run<S: Source, O: Sink, K: Keeper>(
     ensures base { StandForSome (K.seen keeper.old).kept → StandForSome (K.seen keeper.new).kept }
     ensures statuses { result ≤ 8 }
     ensures ended { run_job words.now ≢ None → result ≤ 1 → IsAtEnd (S.left script.new) }
+    ensures ended_many { many_job words.now ≢ None → result ≤ 1 → IsAtEnd (S.left script.new) }
     ensures short { run_job words.now ≢ None → result ≤ 1 → IfSome (S.left script.old) (λ text. length text ≤ longest_script) }
+    ensures short_many { many_job words.now ≢ None → result ≤ 1 → IfSome (S.left script.old) (λ text. length text ≤ longest_script) }
     ensures source { result ≡ 3 → Rose (S.faults script.old) (S.faults script.new) }
     ensures sink { result ≡ 4 → Rose (O.faults out.old) (O.faults out.new) }
     ensures keeper { result ≡ 5 → Rose (K.seen keeper.old).faults (K.seen keeper.new).faults }
@@ -101,14 +115,23 @@ pub fn run<S: Source, O: Sink, K: Keeper>(
         → ¬ Rose (O.faults out.old) (O.faults out.new)
         → ¬ Rose (K.seen keeper.old).faults (K.seen keeper.new).faults
         → (result ≤ 1) ⊎ (result ≡ 6) }
+    ensures finishes_many { (text : List ℕ) → many_job words.now ≢ None
+        → StandForSome (K.seen keeper.old).kept → S.left script.old ≡ Some text → length text ≤ longest_script
+        → ¬ Rose (S.faults script.old) (S.faults script.new)
+        → ¬ Rose (O.faults out.old) (O.faults out.new)
+        → ¬ Rose (K.seen keeper.old).faults (K.seen keeper.new).faults
+        → (result ≤ 1) ⊎ (result ≡ 6) }
 {
     match run_files(words) {
         Some(_) => run_script(alloc, script, out, keeper),
-        None => match checked_file(words) {
-            Some(_) => check_tables(alloc, out, keeper),
-            None => match recipe_of(words) {
-                Some(recipe) => summarize(alloc, recipe.seed, recipe.size, out),
-                None => 2,
+        None => match many_files(words) {
+            Some(_) => run_stream(alloc, script, out, keeper),
+            None => match checked_file(words) {
+                Some(_) => check_tables(alloc, out, keeper),
+                None => match recipe_of(words) {
+                    Some(recipe) => summarize(alloc, recipe.seed, recipe.size, out),
+                    None => 2,
+                },
             },
         },
     }

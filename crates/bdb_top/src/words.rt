@@ -3,8 +3,8 @@ ghost use Rattle.std.specs.Prelude.{◌≡◌, ◌≤◌, [], ◌∷◌, IfOk, I
 ghost use Rattle.std.specs.Option.{option_copied};
 ghost use Rattle.bdb_base.specs.Same.{same_text};
 ghost use Rattle.bdb_base.specs.Limits.{most_generated};
-ghost use Rattle.bdb_top.specs.Words.{named_job, run_job, check_job, gen_job, running_with, running_by, running, generating, generating_by, is_value, number_behind, number_of};
-ghost use Rattle.bdb_top.specs.declared.words.Job.TheVariants.{Run, Check, Gen};
+ghost use Rattle.bdb_top.specs.Words.{named_job, run_job, many_job, check_job, gen_job, files, files_with, files_by, files_of, both_files, generating, generating_by, is_value, number_behind, number_of};
+ghost use Rattle.bdb_top.specs.declared.words.Job.TheVariants.{Run, Many, Check, Gen};
 
 use bdb_base::limits::MOST_GENERATED;
 use bdb_base::{Exact, Txt};
@@ -20,6 +20,11 @@ pub enum Job {
         db: Option<Txt>,
         script: Option<Txt>,
     },
+    /// Runs a stream of sessions, from a file or standard input, over a base as for `Run`.
+    Many {
+        db: Option<Txt>,
+        script: Option<Txt>,
+    },
     /// Tells whether a file holds a base.
     Check {
         db: Txt,
@@ -32,7 +37,7 @@ pub enum Job {
     },
 }
 
-/// The files that words to run a script name.
+/// The files that words to run a script or a stream name.
 #[derive(Clone, Copy, Drop)]
 pub(crate) struct RunFiles<'a> {
     pub(crate) db: Option<&'a Txt>,
@@ -68,6 +73,7 @@ pub enum WordsError {
 /// | `run --script FILE` | the script in a file over the empty base |
 /// | `run --db FILE` | a script from standard input over the base in a file |
 /// | `run --db FILE --script FILE`, options in any order | the script in one file over the base in another |
+/// | `many`, with the options of `run` | a stream of sessions, from where and over what `run` takes a script |
 /// | `check --db FILE` | tells whether a file holds a base |
 /// | `gen --seed N --size N`, options in any order | a generated script |
 ///
@@ -78,7 +84,13 @@ pub fn job_of(alloc: Global, words: &[Txt]) -> Result<Job, WordsError>
     ensures bad { IsErrOf result WordsError.BadWords → named_job words.now ≡ None }
 {
     if let Some(files) = run_files(words) {
-        return match copied_job(alloc, files) {
+        return match copied_run(alloc, files) {
+            Ok(job) => Ok(job),
+            Err(_) => Err(WordsError::Memory),
+        };
+    }
+    if let Some(files) = many_files(words) {
+        return match copied_many(alloc, files) {
             Ok(job) => Ok(job),
             Err(_) => Err(WordsError::Memory),
         };
@@ -99,12 +111,21 @@ pub fn job_of(alloc: Global, words: &[Txt]) -> Result<Job, WordsError>
 }
 
 /// The job to run a script, with the names of its files copied.
-fn copied_job(alloc: Global, files: RunFiles<'_>) -> Result<Job, AllocError>
+fn copied_run(alloc: Global, files: RunFiles<'_>) -> Result<Job, AllocError>
     ensures { IfOk result (λ job. job ≡ Run (option_copied files.entry.db) (option_copied files.entry.script)) }
 {
     let db = copied(alloc, files.db)?;
     let script = copied(alloc, files.script)?;
     Ok(Job::Run { db, script })
+}
+
+/// The job to run a stream, with the names of its files copied.
+fn copied_many(alloc: Global, files: RunFiles<'_>) -> Result<Job, AllocError>
+    ensures { IfOk result (λ job. job ≡ Many (option_copied files.entry.db) (option_copied files.entry.script)) }
+{
+    let db = copied(alloc, files.db)?;
+    let script = copied(alloc, files.script)?;
+    Ok(Job::Many { db, script })
 }
 
 /// A copy of a text, where there is one.
@@ -124,20 +145,40 @@ fn copied(alloc: Global, text: Option<&Txt>) -> Result<Option<Txt>, AllocError>
 pub(crate) fn run_files(words: &[Txt]) -> Option<RunFiles<'_>>
     ensures { MatchOption result (run_job words.now ≡ None) (λ files. run_job words.now ≡ Some (Run (option_copied files.db) (option_copied files.script))) }
 {
+    match files_of("run", words) {
+        Some(files) => Some(files),
+        None => None,
+    }
+}
+
+/// The files that words to run a stream name; none where the words don't ask to run one.
+pub(crate) fn many_files(words: &[Txt]) -> Option<RunFiles<'_>>
+    ensures { MatchOption result (many_job words.now ≡ None) (λ files. many_job words.now ≡ Some (Many (option_copied files.db) (option_copied files.script))) }
+{
+    match files_of("many", words) {
+        Some(files) => Some(files),
+        None => None,
+    }
+}
+
+/// The files of words that begin with this one.
+fn files_of<'a>(name: &str, words: &'a [Txt]) -> Option<RunFiles<'a>>
+    ensures { MatchOption result (files_of name.now words.now ≡ None) (λ f. files_of name.now words.now ≡ files (option_copied f.db) (option_copied f.script)) }
+{
     match words {
-        [word] if is_word(word, "run") => Some(RunFiles {
+        [word] if is_word(word, name) => Some(RunFiles {
             db: None,
             script: None,
         }),
-        [word, option, value] if is_word(word, "run") => files_with(option, value),
-        [word, first, a, second, b] if is_word(word, "run") => files_by(first, a, second, b),
+        [word, option, value] if is_word(word, name) => files_with(option, value),
+        [word, first, a, second, b] if is_word(word, name) => files_by(first, a, second, b),
         _ => None,
     }
 }
 
 /// The files of one option with its value.
 fn files_with<'a>(option: &Txt, value: &'a Txt) -> Option<RunFiles<'a>>
-    ensures { MatchOption result (running_with option.now value.now ≡ None) (λ files. running_with option.now value.now ≡ Some (Run (option_copied files.db) (option_copied files.script))) }
+    ensures { MatchOption result (files_with option.now value.now ≡ None) (λ f. files_with option.now value.now ≡ files (option_copied f.db) (option_copied f.script)) }
 {
     if !is_option_value(value.as_bytes()) {
         return None;
@@ -159,20 +200,20 @@ fn files_with<'a>(option: &Txt, value: &'a Txt) -> Option<RunFiles<'a>>
 
 /// The files of two options with their values.
 fn files_by<'a>(first: &Txt, a: &'a Txt, second: &Txt, b: &'a Txt) -> Option<RunFiles<'a>>
-    ensures { MatchOption result (running_by first.now a.now second.now b.now ≡ None) (λ files. running_by first.now a.now second.now b.now ≡ Some (Run (option_copied files.db) (option_copied files.script))) }
+    ensures { MatchOption result (files_by first.now a.now second.now b.now ≡ None) (λ f. files_by first.now a.now second.now b.now ≡ files (option_copied f.db) (option_copied f.script)) }
 {
     if is_word(first, "--db") && is_word(second, "--script") {
-        return files_of(a, b);
+        return both_files(a, b);
     }
     if is_word(first, "--script") && is_word(second, "--db") {
-        return files_of(b, a);
+        return both_files(b, a);
     }
     None
 }
 
 /// The files of a base and of a script.
-fn files_of<'a>(db: &'a Txt, script: &'a Txt) -> Option<RunFiles<'a>>
-    ensures { MatchOption result (running db.now script.now ≡ None) (λ files. running db.now script.now ≡ Some (Run (option_copied files.db) (option_copied files.script))) }
+fn both_files<'a>(db: &'a Txt, script: &'a Txt) -> Option<RunFiles<'a>>
+    ensures { MatchOption result (both_files db.now script.now ≡ None) (λ f. both_files db.now script.now ≡ files (option_copied f.db) (option_copied f.script)) }
 {
     if is_option_value(db.as_bytes()) && is_option_value(script.as_bytes()) {
         return Some(RunFiles {

@@ -41,6 +41,7 @@ fn words_of(rt: &HostRuntime) -> io::Result<List<Txt>> {
 fn run_words(rt: &HostRuntime, words: &[Txt]) -> u8 {
     match job_of(rt.alloc(), words) {
         Ok(Job::Run { db, script }) => run_from(rt, words, db.as_ref(), script.as_ref()),
+        Ok(Job::Many { db, script }) => run_from(rt, words, db.as_ref(), script.as_ref()),
         Ok(Job::Check { db }) => check_file(rt, words, &db),
         Ok(Job::Gen { .. }) => run_over(rt, words, None, &mut NoSource::new()),
         Err(WordsError::BadWords) => run_over(rt, words, None, &mut NoSource::new()),

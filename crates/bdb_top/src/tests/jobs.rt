@@ -24,7 +24,10 @@ fn words_name_jobs(rt: HostRuntime) -> Result<(), Fail> {
         ("run --db a", true),
         ("run --db a --script b", true),
         ("run --script b --db a", true),
+        ("many", true),
+        ("many --script b --db a", true),
         ("", false),
+        ("many --help", false),
         ("run --script", false),
         ("run --script -a", false),
         ("run --script=a", false),
@@ -54,6 +57,21 @@ fn words_name_jobs(rt: HostRuntime) -> Result<(), Fail> {
     for (line, is_job) in cases {
         assert!(rt; are_taken(alloc, line, is_job)?, "{line}");
     }
+    Ok(())
+}
+
+#[test]
+fn streams_of_sessions_are_run(rt: HostRuntime) -> Result<(), Fail> {
+    let alloc = rt.alloc();
+    let words = words_of(alloc, "many")?;
+    let stream =
+        "1 begin; 1 create user 'Alice'; 2 create user 'Alice'; 1 commit; 2 begin; 2 create user 'Bob';";
+    let text = Vec::from_slice(alloc, stream.as_bytes())?;
+    let source = MemSource::new(text, 7, List::new(alloc));
+    let (status, out) = ran_from(alloc, words.as_slice(), source)?;
+    let replies =
+        "1: begun\n1: queued\n2: ok\n1: error taken 'Alice'\n1: aborted 1\n2: begun\n2: queued\n";
+    assert!(rt; status == 1 && out.bytes() == replies.as_bytes());
     Ok(())
 }
 

@@ -17,6 +17,11 @@ fn answers_have_a_limit(rt: HostRuntime) -> Result<(), Fail> {
     let (status, out, _) = ran_quietly(rt.alloc(), &rows)?;
     assert_eq!(rt; status, 1);
     assert!(rt;
+        out.bytes().starts_with(
+            b"ok\nok\nok\nok\nok 1\nok 1\nok 1\nok 1\nok 1\nok 1\nok 1\nok 1\nok 1\nok 1\n0, 0, 0, 0, 0\n"
+        )
+    );
+    assert!(rt;
         out.bytes()
             .ends_with(b"\n9, 9, 9, 9, 9\nok 100000\nok 1\nerror many\n")
     );

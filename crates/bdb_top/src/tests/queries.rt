@@ -46,13 +46,18 @@ fn path_of(alloc: Global, count: usize) -> Result<String, Fail> {
 fn paths_of_queries_have_a_limit(rt: HostRuntime) -> Result<(), Fail> {
     let alloc = rt.alloc();
     let cases = [
-        (1_024, "'s1'\nok 1\n+ S('s1', 'eagle') inherited\nok 1\n"),
-        (1_025, "error deep\nerror deep\n"),
+        (
+            1_024,
+            "'s1'\nok 1\n+ S('s1', 'eagle') inherited\nok 1\nyes stated + S('s1', 'eagle') at /\nok 1\n",
+        ),
+        (1_025, "error deep\nerror deep\nerror deep\n"),
     ];
     for (count, replies) in cases {
         let path = path_of(alloc, count)?;
         let path = path.as_str();
-        let script = format!(in alloc; "select X.k from {path} S X; show world {path};")?;
+        let script = format!(in alloc;
+            "select X.k from {path} S X; show world {path}; why {path} S values('s1','eagle');"
+        )?;
         assert!(rt; is_answered(alloc, script.as_str(), replies)?, "{count}");
     }
     Ok(())
@@ -138,6 +143,49 @@ fn commands_are_full_of_comparisons(rt: HostRuntime) -> Result<(), Fail> {
             is_answered(alloc, query.as_str(), replies)?,
             "{items} {same} {last}"
         );
+    }
+    Ok(())
+}
+
+/// A relation of 16 columns, a statement of it, and a query of what seven items deny of it. Each of their columns is joined to the
+/// one before it, the last one first, and the first one of all to a given column.
+fn query_of_chain(alloc: Global, sign: &str) -> Result<String, Fail> {
+    let mut script = String::new(alloc);
+    script.push_str("create relation W(c0 text")?;
+    for column in 1..16 {
+        let part = format!(in alloc; ", c{column} text")?;
+        script.push_str(part.as_str())?;
+    }
+    let values = repeated(alloc, "'s1'", ", ", 16)?;
+    let values = values.as_str();
+    let insert = format!(in alloc;
+        "); insert into {sign} W values({values}); select X.k from S X"
+    )?;
+    script.push_str(insert.as_str())?;
+    for item in 0..7 {
+        let part = format!(in alloc; ", not W A{item}")?;
+        script.push_str(part.as_str())?;
+    }
+    script.push_str(" where ")?;
+    for step in 0..111_u32 {
+        let place = 111_u32.saturating_sub(step);
+        let before = place.saturating_sub(1);
+        let (item, column) = (place / 16, place % 16);
+        let (item_before, column_before) = (before / 16, before % 16);
+        let part = format!(in alloc; "A{item}.c{column} = A{item_before}.c{column_before} and ")?;
+        script.push_str(part.as_str())?;
+    }
+    script.push_str("A0.c0 = X.k;")?;
+    Ok(script)
+}
+
+#[test]
+fn chains_of_equalities_may_be_reversed(rt: HostRuntime) -> Result<(), Fail> {
+    let alloc = rt.alloc();
+    let cases = [("not", "ok\nok 1\n's1'\nok 1\n"), ("", "ok\nok 1\nok 0\n")];
+    for (sign, replies) in cases {
+        let script = query_of_chain(alloc, sign)?;
+        assert!(rt; is_answered(alloc, script.as_str(), replies)?, "{sign}");
     }
     Ok(())
 }

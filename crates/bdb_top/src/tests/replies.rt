@@ -121,6 +121,16 @@ fn scripts_and_replies(rt: HostRuntime) -> Result<(), Fail> {
             0,
         ),
         (
+            "insert into S values('s1','eagle'); insert into BELIEF 'Bob' not S values('s1','eagle'); insert into BELIEF 'Alice' S values('s1','crow'); why BELIEF 'Alice' not S values('s1','eagle'); why BELIEF 'Alice' BELIEF 'Bob' S values('s1','eagle'); why BELIEF 'Bob' not S values('s1','crow'); why BELIEF 'Bob' BELIEF 'Alice' S values('s1','crow');",
+            "ok 1\nok 1\nok 1\nyes other + S('s1', 'crow') at /'Alice'\nok 1\nno\nblocked + S('s1', 'eagle') at /'Bob' by - S('s1', 'eagle')\nok 2\nno\nnowhere - S('s1', 'crow')\nblocked + S('s1', 'eagle') at /'Bob' by - S('s1', 'eagle')\nok 3\nyes stated + S('s1', 'crow') at /'Alice'\nok 1\n",
+            0,
+        ),
+        (
+            "why T values(1); why BELIEF 'Zoe' S values('a','b'); why BELIEF 'Bob' BELIEF 'Bob' S values('a','b'); why S values('a'); why S values('a',1); why S;",
+            "error relation T\nerror user 'Zoe'\nerror repeat\nerror arity\nerror kind v\nerror syntax\n",
+            1,
+        ),
+        (
             "insert into BELIEF 'Bob' S values('a','x'); insert into BELIEF 'Bob' not S values('a','y'); update BELIEF 'Bob' S set v = 'y'; update BELIEF 'Bob' S set v = 'y', v = 'z' where k <> v; show world BELIEF 'Bob';",
             "ok 1\nok 1\nerror clash + S('a', 'y')\nok 1\n- S('a', 'y') explicit\n+ S('a', 'z') explicit\nok 2\n",
             1,

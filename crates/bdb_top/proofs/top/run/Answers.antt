@@ -1,6 +1,6 @@
 use Rattle.bdb_top.proofs.CountLemmas.{each_by_count}
 use Rattle.bdb_top.proofs.RanLemmas.{finishes_by}
-use Rattle.bdb_top.proofs.WordLemmas.{runs_alone}
+use Rattle.bdb_top.proofs.WordLemmas.{many_alone, runs_alone, streams_alone}
 use Rattle.bdb_top.proofs.top.run.Goals as goal
 
 pub returns-in-Some-clause-by_count : goal.returns-in-Some-clause-by_count
@@ -13,3 +13,35 @@ returns-in-Some-clause-finishes g c = λ text asked stand told short source sink
 
 pub returns-in-Some-clause-checked : goal.returns-in-Some-clause-checked
 returns-in-Some-clause-checked g c = λ asked. absurd (asked (runs_alone c.args.words.now _ c.in-Some.ensures))
+
+pub returns-in-Some-clause-headline_many : goal.returns-in-Some-clause-headline_many
+returns-in-Some-clause-headline_many g c = λ asked. absurd (asked (many_alone c.args.words.now _ c.in-Some.ensures))
+
+pub returns-in-Some-clause-refused_many : goal.returns-in-Some-clause-refused_many
+returns-in-Some-clause-refused_many g c = λ asked. absurd (asked (many_alone c.args.words.now _ c.in-Some.ensures))
+
+pub returns-in-Some-clause-none_many : goal.returns-in-Some-clause-none_many
+returns-in-Some-clause-none_many g c = λ asked. absurd (asked (many_alone c.args.words.now _ c.in-Some.ensures))
+
+pub returns-in-Some-clause-silent_many : goal.returns-in-Some-clause-silent_many
+returns-in-Some-clause-silent_many g c = λ asked. absurd (asked (many_alone c.args.words.now _ c.in-Some.ensures))
+
+pub returns-in-Some-clause-still_many : goal.returns-in-Some-clause-still_many
+returns-in-Some-clause-still_many g c = λ asked. absurd (asked (many_alone c.args.words.now _ c.in-Some.ensures))
+
+pub returns-in-Some-clause-ended_many : goal.returns-in-Some-clause-ended_many
+returns-in-Some-clause-ended_many g c = λ asked. absurd (asked (many_alone c.args.words.now _ c.in-Some.ensures))
+
+pub returns-in-Some-clause-short_many : goal.returns-in-Some-clause-short_many
+returns-in-Some-clause-short_many g c = λ asked. absurd (asked (many_alone c.args.words.now _ c.in-Some.ensures))
+
+pub returns-in-Some-clause-finishes_many : goal.returns-in-Some-clause-finishes_many
+returns-in-Some-clause-finishes_many g c = λ text asked. absurd (asked (many_alone c.args.words.now _ c.in-Some.ensures))
+
+pub returns-in-Some-many_files-clause-checked : goal.returns-in-Some-many_files-clause-checked
+returns-in-Some-many_files-clause-checked g c = λ asked. absurd (asked (streams_alone c.args.words.now _ c.in-Some-many_files.ensures))
+
+pub returns-in-Some-many_files-clause-finishes_many : goal.returns-in-Some-many_files-clause-finishes_many
+returns-in-Some-many_files-clause-finishes_many g c = λ text asked stand told short source sink keeper.
+    let h = c.run_stream.ensures in
+    finishes_by _ _ text h.statuses.0 h.statuses.1 (λ e. source (h.source e)) (λ e. sink (h.sink e)) (λ e. keeper (h.keeper e)) (λ e. h.refused e stand.base stand.stand) h.many told short

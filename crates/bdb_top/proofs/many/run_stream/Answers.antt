@@ -1,0 +1,62 @@
+use Rattle.std.proofs.Common.{Err, ap, inl, inr, refl}
+use Rattle.bdb_session.proofs.OpenLemmas.{opening_refused}
+use Rattle.bdb_top.proofs.ManyLemmas.{each_closed, each_refused, each_run, each_status}
+use Rattle.bdb_top.proofs.RanLemmas.{but_for_large, many_if, not_seven, of_large, run_status, taken_by}
+use Rattle.bdb_top.proofs.many.run_stream.Goals as goal
+
+pub returns-in-Err-Damaged-clause-ran : goal.returns-in-Err-Damaged-clause-ran
+returns-in-Err-Damaged-clause-ran g c = each_refused _ _ _ _ _ (c.in-Err-Damaged.ensures.damaged (ap Err c.in-Err-Damaged.field-0-is)).none
+
+pub returns-in-Err-Damaged-clause-refused : goal.returns-in-Err-Damaged-clause-refused
+returns-in-Err-Damaged-clause-refused g c = λ _. (c.in-Err-Damaged.ensures.damaged (ap Err c.in-Err-Damaged.field-0-is)).none
+
+pub returns-in-Err-Format-clause-ran : goal.returns-in-Err-Format-clause-ran
+returns-in-Err-Format-clause-ran g c = each_refused _ _ _ _ _ (c.in-Err-Format.ensures.format _ (ap Err c.in-Err-Format.field-0-is)).none
+
+pub returns-in-Err-Format-clause-refused : goal.returns-in-Err-Format-clause-refused
+returns-in-Err-Format-clause-refused g c = λ _. (c.in-Err-Format.ensures.format _ (ap Err c.in-Err-Format.field-0-is)).none
+
+pub returns-in-Err-Fault-clause-ran : goal.returns-in-Err-Fault-clause-ran
+returns-in-Err-Fault-clause-ran g c = each_closed _ _ _ _ _ c.open.ensures.still c.in-Err-Fault.ensures.err (inl refl)
+
+pub returns-in-Err-Memory-clause-ran : goal.returns-in-Err-Memory-clause-ran
+returns-in-Err-Memory-clause-ran g c = each_closed _ _ _ _ _ c.open.ensures.still c.in-Err-Memory.ensures.err (inr refl)
+
+pub returns-clause-ran : goal.returns-clause-ran
+returns-clause-ran g c =
+    each_status _ _ _ _ _ _ _ _ c.status_of.ensures
+    (each_run _ _ c.new-crowd.result c.in-Ok.session c.carry_out_stream.new.crowd.session _ (g.K.Keeper.seen c.open.new.keeper) _ _ _ c.carry_out_stream.result c.new-crowd.ensures.starts c.in-Ok.ensures.opened c.in-Ok.ensures.commits
+    c.carry_out_stream.ensures.still c.carry_out_stream.ensures.streams)
+
+pub returns-clause-refused : goal.returns-clause-refused
+returns-clause-refused g c = λ e. absurd (not_seven _ c.carry_out_stream.result c.status_of.ensures e)
+
+pub returns-clause-silent : goal.returns-clause-silent
+returns-clause-silent g c = λ none. absurd (none c.in-Ok.ensures.stand.base c.in-Ok.ensures.stand.stand)
+
+pub returns-clause-statuses : goal.returns-clause-statuses
+returns-clause-statuses g c = run_status _ c.carry_out_stream.result c.status_of.ensures
+
+pub returns-clause-taken : goal.returns-clause-taken
+returns-clause-taken g c = taken_by _ c.carry_out_stream.result _ _ c.status_of.ensures c.carry_out_stream.ensures.end c.carry_out_stream.ensures.short
+
+pub returns-clause-many : goal.returns-clause-many
+returns-clause-many g c = many_if _ c.carry_out_stream.result _ c.status_of.ensures c.carry_out_stream.ensures.many
+
+pub returns-clause-within : goal.returns-clause-within
+returns-clause-within g c = but_for_large _ c.carry_out_stream.result c.status_of.ensures c.carry_out_stream.ensures.within
+
+pub returns-clause-one_more : goal.returns-clause-one_more
+returns-clause-one_more g c = of_large _ c.carry_out_stream.result c.status_of.ensures c.carry_out_stream.ensures.one_more
+
+pub returns-in-Err-Damaged-clause-silent : goal.returns-in-Err-Damaged-clause-silent
+returns-in-Err-Damaged-clause-silent g c = λ none. (refl, refl, record { unchanged = c.in-Err-Damaged.ensures.err; unwritten = c.open.ensures.unwritten (opening_refused _ none) })
+
+pub returns-in-Err-Format-clause-silent : goal.returns-in-Err-Format-clause-silent
+returns-in-Err-Format-clause-silent g c = λ none. (refl, refl, record { unchanged = c.in-Err-Format.ensures.err; unwritten = c.open.ensures.unwritten (opening_refused _ none) })
+
+pub returns-in-Err-Fault-clause-silent : goal.returns-in-Err-Fault-clause-silent
+returns-in-Err-Fault-clause-silent g c = λ none. (refl, refl, record { unchanged = c.in-Err-Fault.ensures.err; unwritten = c.open.ensures.unwritten (opening_refused _ none) })
+
+pub returns-in-Err-Memory-clause-silent : goal.returns-in-Err-Memory-clause-silent
+returns-in-Err-Memory-clause-silent g c = λ none. (refl, refl, record { unchanged = c.in-Err-Memory.ensures.err; unwritten = c.open.ensures.unwritten (opening_refused _ none) })
