@@ -1,10 +1,12 @@
--- A clash is one either way round.
-use Rattle.std.proofs.Common.{◌≡◌, ℕ, Bool, nat_eq, sym, refl}
+-- A clash is one either way round, and is told by the length of one relation's key.
+use Rattle.std.proofs.Common.{◌≡◌, ◌∙◌, ℕ, Bool, ◌&&◌, not, nat_eq, inl, inr, ap, sym, refl, take}
 use Rattle.std.specs.Bool.{Decides}
+use Rattle.std.proofs.lemmas.Bool.{cases_Bool, eqb-true}
 use Rattle.std.proofs.lemmas.Bool.Decides.{Decides-eqb, Decides-like, same_from_decides}
+use Rattle.bdb_base.specs.declared.kinds.Sign.{Sign}
 use Rattle.bdb_base.specs.declared.kinds.Sign.TheVariants.{Plus, Minus}
 use Rattle.bdb_base.specs.declared.tuple.Tuple.{Tuple}
-use Rattle.bdb_base.specs.Clash.{same_key, key_of}
+use Rattle.bdb_base.specs.Clash.{clash, same_key, key_of}
 use Rattle.bdb_base.specs.Laws.{ClashIsSymmetric}
 use Rattle.bdb_base.specs.Same.{same_tuple, same_values}
 use Rattle.bdb_base.specs.SameLemmas.{same_tuple-Decides, same_values-Decides}
@@ -30,3 +32,17 @@ clash_is_symmetric keys a b Plus Plus =
 clash_is_symmetric keys a b Plus Minus = same_tuple_turned a b
 clash_is_symmetric keys a b Minus Plus = same_tuple_turned a b
 clash_is_symmetric keys a b Minus Minus = refl
+
+-- tuples of one relation have the same key by its length alone
+pub same_key_by_length : (keys : ℕ → ℕ) (a b : Tuple) → same_key (λ _. keys a.rel) a b ≡ same_key keys a b
+same_key_by_length keys a b = elim (cases_Bool (nat_eq a.rel b.rel)) [
+  | inl e ↦ ap (λ r. nat_eq a.rel b.rel && same_values (key_of keys a) (take (keys r) b.vals)) (eqb-true a.rel b.rel e)
+  | inr e ↦ ap (λ c. c && same_values (key_of keys a) (take (keys a.rel) b.vals)) e ∙ sym (ap (λ c. c && same_values (key_of keys a) (key_of keys b)) e)
+]
+
+-- whether two signed tuples clash is told by the length of the key of the first one's relation
+pub clash_by_length : (keys : ℕ → ℕ) (a : Tuple) (s : Sign) (b : Tuple) (t : Sign) → clash (λ _. keys a.rel) a s b t ≡ clash keys a s b t
+clash_by_length keys a Plus b Plus = ap (λ c. c && not (same_tuple a b)) (same_key_by_length keys a b)
+clash_by_length keys a Plus b Minus = refl
+clash_by_length keys a Minus b Plus = refl
+clash_by_length keys a Minus b Minus = refl

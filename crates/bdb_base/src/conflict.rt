@@ -1,13 +1,29 @@
 // Keys, equality of values and tuples, and when two signed tuples clash.
 ghost use Rattle.std.specs.Prelude.{◌≡◌, slice_get, Some};
+ghost use Rattle.bdb_base.specs.Bases.{key_lengths};
 ghost use Rattle.bdb_base.specs.Same.{same_value, same_values, same_tuple};
-ghost use Rattle.bdb_base.specs.Clash.{same_key, clash};
+ghost use Rattle.bdb_base.specs.Clash.{key_of, same_key, clash};
 
-use crate::kinds::{Sign, Value};
+use crate::kinds::{RelDef, Sign, Value};
 use crate::tuple::Tuple;
 
-/// The key of a tuple: its first value.
-pub fn key_of(t: &Tuple) -> &Value
+/// The length of a relation's key: one column.
+pub fn key_length(rels: &[RelDef], rel: u32) -> u32
+    ensures { result ≡ key_lengths rels.now rel }
+{
+    1
+}
+
+/// The key of a tuple: its first `n` values, or all of them where it has fewer.
+pub fn key_of(t: &Tuple, n: u32) -> &[Value]
+    ensures { result.now ≡ key_of (λ _. n) t.now }
+{
+    let vals = t.vals.as_slice();
+    &vals[..vals.len().min(n as usize)]
+}
+
+/// The first value of a tuple.
+pub fn first_value(t: &Tuple) -> &Value
     ensures { slice_get t.now.vals 0 ≡ Some result.now }
 {
     &t.vals.as_slice()[0]
@@ -42,20 +58,20 @@ pub fn same_tuple(a: &Tuple, b: &Tuple) -> bool
     a.rel == b.rel && same_values(a.vals.as_slice(), b.vals.as_slice())
 }
 
-/// Whether two tuples are of one relation and have the same key.
-pub fn same_key(a: &Tuple, b: &Tuple) -> bool
-    ensures { result ≡ same_key (λ _. 1) a.now b.now }
+/// Whether two tuples are of one relation and have the same key, which is of length `n`.
+pub fn same_key(n: u32, a: &Tuple, b: &Tuple) -> bool
+    ensures { result ≡ same_key (λ _. n) a.now b.now }
 {
-    a.rel == b.rel && same_value(key_of(a), key_of(b))
+    a.rel == b.rel && same_values(key_of(a, n), key_of(b, n))
 }
 
-/// Whether two signed tuples clash: both are plus, with one key, and they differ; or they are one tuple with different
-/// signs.
-pub fn clash(a: &Tuple, s: Sign, b: &Tuple, t: Sign) -> bool
-    ensures { result ≡ clash (λ _. 1) a.now s b.now t }
+/// Whether two signed tuples clash, where keys have the length `n`: both are plus, with one key, and they differ; or they
+/// are one tuple with different signs. A tuple with fewer values has all of them as its key.
+pub fn clash(n: u32, a: &Tuple, s: Sign, b: &Tuple, t: Sign) -> bool
+    ensures { result ≡ clash (λ _. n) a.now s b.now t }
 {
     match (s, t) {
-        (Sign::Plus, Sign::Plus) => same_key(a, b) && !same_tuple(a, b),
+        (Sign::Plus, Sign::Plus) => same_key(n, a, b) && !same_tuple(a, b),
         (Sign::Minus, Sign::Minus) => false,
         _ => same_tuple(a, b),
     }

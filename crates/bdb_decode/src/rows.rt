@@ -15,7 +15,7 @@ ghost use Rattle.bdb_decode.specs.Many.{HaveNoStatements};
 
 use crate::items::item_of;
 use crate::limits::are_too_many;
-use bdb_base::{Exact, Path, Sign, Stmt, Tuple, Value, cmp_stmt, key_of, same_value};
+use bdb_base::{Exact, Path, Sign, Stmt, Tuple, Value, cmp_stmt, first_value, same_value};
 use bdb_entries::next_raw;
 use bdb_keep::Keeper;
 use bdb_tables::{Room, TabError, ValTab};
@@ -165,5 +165,5 @@ fn is_of_group(tuple: &Tuple, row: &ValRow) -> bool
 fn has_key(tuple: &Tuple, key: &Value) -> bool
     ensures { result ≡ same_value (key_value tuple.now.vals) key.now }
 {
-    same_value(key_of(tuple), key)
+    same_value(first_value(tuple), key)
 }

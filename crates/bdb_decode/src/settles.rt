@@ -89,7 +89,7 @@ fn is_barred(rows: &[Stored], row: &Stored) -> bool
 fn bars(other: &Stored, row: &Stored) -> bool
     ensures { result ≡ (other.now.mark.1 && clash (λ _. 1) row.now.tuple row.now.mark.0 other.now.tuple other.now.mark.0) }
 {
-    other.mark.1 && clash(&row.tuple, row.mark.0, &other.tuple, other.mark.0)
+    other.mark.1 && clash(1, &row.tuple, row.mark.0, &other.tuple, other.mark.0)
 }
 
 // The mark of a tuple's row. The search begins at a place, and leaves that of the row there.

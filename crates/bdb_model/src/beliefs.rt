@@ -60,7 +60,7 @@ fn states(x: &Stmt, path: &[u32], t: &Tuple, s: Sign) -> bool
 fn clashes_here(x: &Stmt, path: &[u32], t: &Tuple, s: Sign) -> bool
     ensures { result ≡ clashes_here (λ _. 1) x.now path.now t.now s }
 {
-    is_at(x, path) && clash(t, s, &x.tuple, x.sign)
+    is_at(x, path) && clash(1, t, s, &x.tuple, x.sign)
 }
 
 fn has_rival(stmts: &[Stmt], path: &[u32], t: &Tuple) -> bool
@@ -72,7 +72,7 @@ fn has_rival(stmts: &[Stmt], path: &[u32], t: &Tuple) -> bool
 fn is_rival(stmts: &[Stmt], path: &[u32], t: &Tuple, x: &Stmt) -> bool
     ensures { result ≡ is_rival (λ _. 1) stmts.now path.now t.now x.now }
 {
-    clash(t, Sign::Plus, &x.tuple, Sign::Plus) && stated_among(stmts, path, &x.tuple, Sign::Plus)
+    clash(1, t, Sign::Plus, &x.tuple, Sign::Plus) && stated_among(stmts, path, &x.tuple, Sign::Plus)
 }
 
 /// Whether a statement is at this very path.

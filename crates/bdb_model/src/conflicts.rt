@@ -31,7 +31,7 @@ fn clashes_after(before: Option<&Stmt>, x: &Stmt, path: &[u32]) -> bool
     ensures { result ≡ clashes_after (λ _. 1) path.now (option_copied before.entry) x.now }
 {
     match before {
-        Some(y) => is_at(x, path) && clash(&y.tuple, y.sign, &x.tuple, x.sign),
+        Some(y) => is_at(x, path) && clash(1, &y.tuple, y.sign, &x.tuple, x.sign),
         None => false,
     }
 }

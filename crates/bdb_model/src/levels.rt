@@ -5,7 +5,7 @@ ghost use Rattle.bdb_base.specs.SortedSet.{ascending, is_member};
 ghost use Rattle.bdb_model.specs.Levels.{key_tuple, no_level, with_stated, with_all, level_of, level_if_any, levels_of, has_stated, refuses, stated_by};
 
 use crate::ends::at_path;
-use bdb_base::{Exact, List, Sign, Stmt, Tuple, key_of, place_of, put, put_copy};
+use bdb_base::{Exact, List, Sign, Stmt, Tuple, first_value, place_of, put, put_copy};
 use std::alloc::{AllocError, Global};
 use std::marker::Model;
 
@@ -143,7 +143,7 @@ pub fn key_tuple(alloc: Global, t: &Tuple) -> Result<Tuple, AllocError>
     ensures { IfOk result (λ key. key ≡ key_tuple (λ _. 1) t.now) }
 {
     let mut vals = List::new(alloc);
-    vals.push(key_of(t).try_clone(alloc)?)?;
+    vals.push(first_value(t).try_clone(alloc)?)?;
     Ok(Tuple { rel: t.rel, vals })
 }
 

@@ -262,7 +262,7 @@ fn denies(world: &[Held], tuple: &Tuple) -> bool
 {
     world
         .iter()
-        .any(|row| clash(tuple, Sign::Plus, &row.tuple, row.sign))
+        .any(|row| clash(1, tuple, Sign::Plus, &row.tuple, row.sign))
 }
 
 /// The values of an item's columns by their sources, where all are known.

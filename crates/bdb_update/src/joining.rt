@@ -20,7 +20,7 @@ ghost use Rattle.bdb_worlds.specs.Bounds.{RisesWithin};
 
 use crate::filling::{both, fill_worlds};
 use crate::keys::{row_key, table_error};
-use bdb_base::{Sign, Stmt, Tuple, Value, key_of};
+use bdb_base::{Sign, Stmt, Tuple, Value, first_value};
 use bdb_keep::Keeper;
 use bdb_key::put_mark;
 use bdb_tables::{Tab, TabError, TupleIx, TupleTab, ValTab, first_gap, next, put};
@@ -167,7 +167,7 @@ pub fn settle_statement<K: Keeper>(
     ensures others { OnOk result (others.SameBut (λ n. nat_eq n 11) (K.seen keeper.old).kept (K.seen keeper.new).kept) }
     ensures changing { IsChanging (K.seen keeper.old) (K.seen keeper.new) result TabError.Fault }
 {
-    let key = key_of(&stmt.tuple);
+    let key = first_value(&stmt.tuple);
     let rel = rel_of(&stmt.tuple);
     let stood = match put_row(alloc, keeper, stmt, wid, tid, key) {
         Ok(stood) => stood,

@@ -5,7 +5,7 @@ ghost use Rattle.bdb_key.specs.Grammar.{HasPlainText};
 ghost use Rattle.bdb_tables.specs.InUse.{IsValKey, val_bytes};
 ghost use Rattle.bdb_update.specs.Keys.{key_rest};
 
-use bdb_base::{Tuple, Value, key_of};
+use bdb_base::{Tuple, Value, first_value};
 use bdb_keep::KeepError;
 use bdb_key::{put_num, put_value};
 use bdb_tables::{TabError, put_pair};
@@ -20,7 +20,7 @@ pub fn key_rest(alloc: Global, tuple: &Tuple, tid: u32) -> Result<Vec<u8>, Alloc
 {
     let mut rest = Vec::with_capacity(alloc, KEY_ROOM)?;
     put_num(&mut rest, tuple.rel)?;
-    put_value(&mut rest, key_of(tuple))?;
+    put_value(&mut rest, first_value(tuple))?;
     put_num(&mut rest, tid)?;
     Ok(rest)
 }

@@ -15,7 +15,7 @@ ghost use Rattle.bdb_base.specs.Alternation.{alternates};
 use crate::groups::read_explicit;
 use crate::numbers::number_of;
 use bdb_base::limits::{MOST_STATEMENTS, MOST_TUPLES, MOST_WORLDS};
-use bdb_base::{Exact, Stmt, Tuple, What, clash, cmp_tuple, key_of, same_tuple};
+use bdb_base::{Exact, Stmt, Tuple, What, clash, cmp_tuple, first_value, same_tuple};
 use bdb_canon::Counts;
 use bdb_keep::Keeper;
 use bdb_tables::TabError;
@@ -104,7 +104,7 @@ fn read_rows<K: Keeper>(
     if !asked {
         return Ok(Vec::new(alloc));
     }
-    match read_explicit(alloc, keeper, wid, tuple.rel, key_of(tuple)) {
+    match read_explicit(alloc, keeper, wid, tuple.rel, first_value(tuple)) {
         Ok(rows) => Ok(rows),
         Err(error) => Err(error),
     }
@@ -220,7 +220,7 @@ fn first_of<'a>(row: &'a Stored, other: Option<&'a Stored>) -> &'a Stored
 fn is_clashing(stmt: &Stmt, row: &Stored) -> bool
     ensures { result ≡ is_clashing stmt.now row.now }
 {
-    row.mark.1 && clash(&stmt.tuple, stmt.sign, &row.tuple, row.mark.0)
+    row.mark.1 && clash(1, &stmt.tuple, stmt.sign, &row.tuple, row.mark.0)
 }
 
 /// Whether a statement has a row.

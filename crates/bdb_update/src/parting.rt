@@ -22,7 +22,7 @@ use crate::filling::both;
 use crate::joining::rel_of;
 use crate::keys::{row_key, table_error};
 use crate::reading::is_told;
-use bdb_base::{Stmt, Tuple, Value, key_of};
+use bdb_base::{Stmt, Tuple, Value, first_value};
 use bdb_keep::Keeper;
 use bdb_tables::{Tab, TabError, TupleIx, TupleTab, ValTab, drop_row};
 use bdb_val::{Settled, clear_world, settle_group};
@@ -49,7 +49,7 @@ pub fn part_statement<K: Keeper>(
     ensures others { OnOk result (others.SameBut (λ n. nat_eq n 11) (K.seen keeper.old).kept (K.seen keeper.new).kept) }
     ensures changing { IsChanging (K.seen keeper.old) (K.seen keeper.new) result TabError.Fault }
 {
-    let key = key_of(&stmt.tuple);
+    let key = first_value(&stmt.tuple);
     let rel = rel_of(&stmt.tuple);
     match take_row(alloc, keeper, stmt, wid, tid, key) {
         Ok(()) => {}

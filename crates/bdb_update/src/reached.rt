@@ -145,5 +145,5 @@ fn is_contradicted(stmts: &[Stmt], path: &[u32], x: &Stmt) -> bool
 fn clashes_at(path: &[u32], x: &Stmt, y: &Stmt) -> bool
     ensures { result ≡ (same_path y.now.path path.now && clash (λ _. 1) x.now.tuple x.now.sign y.now.tuple y.now.sign) }
 {
-    y.path.as_slice() == path && clash(&x.tuple, x.sign, &y.tuple, y.sign)
+    y.path.as_slice() == path && clash(1, &x.tuple, x.sign, &y.tuple, y.sign)
 }

@@ -55,7 +55,7 @@ fn refutes(stmts: &[Stmt], path: &[u32], t: &Tuple, s: Sign, r: &Ruled) -> bool
     match s {
         Sign::Plus => false,
         Sign::Minus => {
-            clash(t, Sign::Plus, &r.tuple, Sign::Plus)
+            clash(1, t, Sign::Plus, &r.tuple, Sign::Plus)
                 && (r.is_held()
                     && (is_ground(stmts, path, &r.tuple, Sign::Plus, &r.reason)
                         && !stated_among(stmts, path, t, Sign::Minus)))

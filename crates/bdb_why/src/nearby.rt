@@ -12,7 +12,7 @@ ghost use Rattle.bdb_why.specs.Reading.{PutsNear, ReadsHere, with_both};
 ghost use Rattle.bdb_why.specs.Stored.{AreNear, ReadsNear, SomeMayAsk};
 
 use crate::descent::{deepest_end, next_end};
-use bdb_base::{List, Path, Sign, Stmt, Tuple, key_of, put};
+use bdb_base::{List, Path, Sign, Stmt, Tuple, first_value, put};
 use bdb_catalog::explicit_tuples;
 use bdb_keep::Keeper;
 use bdb_tables::TabError;
@@ -81,7 +81,7 @@ fn put_near<K: Keeper>(
     ensures reads { OnOk result (ReadsHere (K.seen keeper.old).kept wid path.now t.now (K.seen keeper.old).reads (K.seen keeper.new).reads) }
     ensures read { IsRead (K.seen keeper.old) (K.seen keeper.new) result TabError.Fault }
 {
-    let key = key_of(t);
+    let key = first_value(t);
     let said = match explicit_tuples(alloc, keeper, wid, Sign::Plus, t.rel, Some(key)) {
         Ok(said) => said,
         Err(error) => return Err(error),

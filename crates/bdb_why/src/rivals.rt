@@ -47,5 +47,5 @@ pub fn is_rival_near(path: &[u32], t: &Tuple, x: &Stmt) -> bool
     ensures { result ≡ is_rival_near (λ _. 1) path.now t.now x.now }
 {
     path_is_suffix(x.path.as_slice(), path)
-        && (x.sign == Sign::Plus && clash(t, Sign::Plus, &x.tuple, Sign::Plus))
+        && (x.sign == Sign::Plus && clash(1, t, Sign::Plus, &x.tuple, Sign::Plus))
 }

@@ -13,13 +13,13 @@ returns-in-Ok-put_both-clause-put g c =
     let mid = g.K.Keeper.seen c.explicit_tuples.new.keeper in
     let new = g.K.Keeper.seen c.explicit_tuples-2.new.keeper in
     let u = c.args.t.now in
-    let v = c.key_of-key.result.now in
+    let v = c.first_value-key.result.now in
     let said = c.in-Ok.said.items in
     let denied = c.in-Ok-explicit_tuples.denied.items in
     let rel = ap (λ (x : Tuple). x.rel) c.t.view_is in
     let say = subst (λ n. AreTuplesRead old mid (beginning c.args.wid n (Some v)) Plus said) rel c.in-Ok.ensures.tuples in
     let deny = subst (λ n. AreTuplesRead mid new (beginning c.args.wid n (Some v)) Minus denied) rel c.in-Ok-explicit_tuples.ensures.tuples in
-    puts_near old mid new c.in-Ok.ensures.read.kept c.args.wid c.args.path.now u v c.key_of-key.ensures c.in-Ok.ensures.whole said denied say deny
+    puts_near old mid new c.in-Ok.ensures.read.kept c.args.wid c.args.path.now u v c.first_value-key.ensures c.in-Ok.ensures.whole said denied say deny
     c.args.stmts.now c.put_both.new.stmts c.requires.sorted c.in-Ok-put_both.ensures
 
 pub returns-in-Ok-put_both-clause-sorted : goal.returns-in-Ok-put_both-clause-sorted
@@ -32,10 +32,10 @@ returns-in-Ok-put_both-clause-reads g c =
     let mid = g.K.Keeper.seen c.explicit_tuples.new.keeper in
     let new = g.K.Keeper.seen c.explicit_tuples-2.new.keeper in
     let u = c.args.t.now in
-    let v = c.key_of-key.result.now in
+    let v = c.first_value-key.result.now in
     let said = c.in-Ok.said.items in
     let denied = c.in-Ok-explicit_tuples.denied.items in
     let rel = ap (λ (x : Tuple). x.rel) c.t.view_is in
     let say = subst (λ n. AreTuplesRead old mid (beginning c.args.wid n (Some v)) Plus said) rel c.in-Ok.ensures.tuples in
     let deny = subst (λ n. AreTuplesRead mid new (beginning c.args.wid n (Some v)) Minus denied) rel c.in-Ok-explicit_tuples.ensures.tuples in
-    reads_here old mid new c.in-Ok.ensures.read.kept c.args.wid c.args.path.now u v c.key_of-key.ensures c.in-Ok.ensures.whole said denied say deny
+    reads_here old mid new c.in-Ok.ensures.read.kept c.args.wid c.args.path.now u v c.first_value-key.ensures c.in-Ok.ensures.whole said denied say deny
