@@ -1,5 +1,5 @@
 // Bases.
-ghost use Rattle.std.specs.Prelude.{◌≡◌, not, IfOk, OnOk, OnErr};
+ghost use Rattle.std.specs.Prelude.{◌≡◌, ◌<◌, ◌-◌, not, length, take, IfOk, OnOk, OnErr};
 ghost use Rattle.bdb_base.specs.Bases.{IsValid, empty_contents, stands, with_statement, without_statement, with_user, with_relation};
 ghost use Rattle.bdb_base.specs.Samples.{sample_relation, sample_statement};
 
@@ -85,6 +85,26 @@ impl Base {
         self.catalog.rels.push(def)
     }
 
+    /// Takes the user added last away.
+    pub fn pop_user(&mut self)
+        requires some { 0 < length self.old.catalog.users }
+        requires valid { IsValid (record self.old.catalog { users = take (length self.old.catalog.users - 1) self.old.catalog.users }) self.old.stmts }
+        ensures { self.new ≡ record self.old { catalog = record self.old.catalog { users = take (length self.old.catalog.users - 1) self.old.catalog.users } } }
+    {
+        let last = self.catalog.users.len() - 1;
+        self.catalog.users.truncate(last);
+    }
+
+    /// Takes the relation added last away.
+    pub fn pop_relation(&mut self)
+        requires some { 0 < length self.old.catalog.rels }
+        requires valid { IsValid (record self.old.catalog { rels = take (length self.old.catalog.rels - 1) self.old.catalog.rels }) self.old.stmts }
+        ensures { self.new ≡ record self.old { catalog = record self.old.catalog { rels = take (length self.old.catalog.rels - 1) self.old.catalog.rels } } }
+    {
+        let last = self.catalog.rels.len() - 1;
+        self.catalog.rels.truncate(last);
+    }
+
     /// Lets a statement stand. True where it was added, false where it stood. After a refusal the base is unchanged.
     pub fn put(&mut self, s: Stmt) -> Result<bool, AllocError>
         requires { IsValid self.old.catalog (with_statement self.old.stmts s) }
@@ -166,6 +186,20 @@ mod tests {
             sign: Sign::Plus,
             tuple: Tuple { rel: 0, vals },
         })
+    }
+
+    #[test]
+    fn takes_the_last_away(rt: HostRuntime) -> Result<(), Fail> {
+        let alloc = rt.alloc();
+        let mut base = Base::empty(alloc);
+        base.add_user(Txt::try_new(alloc, "Ann")?)?;
+        base.add_relation(relation(alloc)?)?;
+        base.pop_relation();
+        assert_eq!(rt; base.catalog().rels.len(), 0);
+        assert_eq!(rt; base.catalog().users.len(), 1);
+        base.pop_user();
+        assert_eq!(rt; base.catalog().users.len(), 0);
+        Ok(())
     }
 
     #[test]

@@ -1,5 +1,5 @@
 // One list type for all lists of the project.
-ghost use Rattle.std.specs.Prelude.{◌≡◌, ◌==◌, [], ◌∷◌, ◌++◌, ◌≤◌, ◌<◌, length, insert, remove, IfOk, OnOk, OnErr, slice_get, Some};
+ghost use Rattle.std.specs.Prelude.{◌≡◌, ◌==◌, [], ◌∷◌, ◌++◌, ◌≤◌, ◌<◌, length, insert, remove, take, IfOk, OnOk, OnErr, slice_get, Some};
 ghost use Rattle.std.specs.Option.{option_copied};
 
 use std::alloc::{AllocError, Global};
@@ -105,6 +105,13 @@ impl<X: Exact> List<X> {
         ensures rest { self.new ≡ remove self.old at }
     {
         self.items.remove(at)
+    }
+
+    /// Keeps the first items, as many as `len`.
+    pub fn truncate(&mut self, len: usize)
+        ensures { self.new ≡ take len self.old }
+    {
+        self.items.truncate(len);
     }
 }
 
