@@ -15,13 +15,15 @@ use std::alloc::{AllocError, Global};
 pub fn canon(alloc: Global, base: &Base) -> Result<Canon, AllocError>
     ensures { IfOk result (λ k. k ≡ canon_of base.now) }
 {
+    let catalog = base.catalog();
+    let rels = catalog.rels.as_slice();
     let stmts = base.stmts();
-    let users = user_numbers(alloc, base.catalog().users.as_slice())?;
+    let users = user_numbers(alloc, catalog.users.as_slice())?;
     let states = states_of(alloc, stmts)?;
     let tuples = tuples_of(alloc, stmts)?;
     let worlds = worlds_of(alloc, states.as_slice())?;
     let edges = edges_of(alloc, users.as_slice(), states.as_slice())?;
-    let rows = rows_of(alloc, stmts, states.as_slice(), tuples.as_slice())?;
+    let rows = rows_of(alloc, rels, stmts, states.as_slice(), tuples.as_slice())?;
     Ok(Canon {
         worlds,
         tuples,

@@ -1,12 +1,13 @@
 // Whether the structure has too many lines to be told.
 ghost use Rattle.std.specs.Prelude.{◌≡◌, ◌+◌, true, nat_lt, sum_by, IfOk};
+ghost use Rattle.bdb_base.specs.Bases.{key_lengths};
 ghost use Rattle.bdb_base.specs.Order.{statement_cmp};
 ghost use Rattle.bdb_base.specs.SortedSet.{ascending};
 ghost use Rattle.bdb_canon.specs.Canonical.{canon_of, edge_count, left_after, line_count, row_count};
 
 use crate::structure::Canon;
 use crate::users::user_numbers;
-use bdb_base::{Base, Catalog, Path, Stmt, path_is_suffix, tuples_of};
+use bdb_base::{Base, Catalog, Path, RelDef, Stmt, path_is_suffix, tuples_of};
 use bdb_model::world_among;
 use bdb_paths::states_of;
 use std::alloc::{AllocError, Global};
@@ -17,6 +18,7 @@ pub fn has_more_lines(alloc: Global, base: &Base, most: usize) -> Result<bool, A
     ensures { IfOk result (λ more. more ≡ nat_lt most (line_count base.now.catalog (canon_of base.now))) }
 {
     let catalog = base.catalog();
+    let rels = catalog.rels.as_slice();
     let stmts = base.stmts();
     let users = user_numbers(alloc, catalog.users.as_slice())?;
     let tuples = tuples_of(alloc, stmts)?;
@@ -28,6 +30,7 @@ pub fn has_more_lines(alloc: Global, base: &Base, most: usize) -> Result<bool, A
     let more = has_more_parts(
         alloc,
         users.as_slice(),
+        rels,
         stmts,
         states.as_slice(),
         most - head,
@@ -39,17 +42,18 @@ pub fn has_more_lines(alloc: Global, base: &Base, most: usize) -> Result<bool, A
 fn has_more_parts(
     alloc: Global,
     users: &[u32],
+    rels: &[RelDef],
     stmts: &[Stmt],
     states: &[Path],
     most: usize,
 ) -> Result<bool, AllocError>
     requires { ascending statement_cmp stmts.now ≡ true }
-    ensures { IfOk result (λ more. more ≡ nat_lt most (sum_by (edge_count users.now) states.now + sum_by (row_count (λ _. 1) stmts.now) states.now)) }
+    ensures { IfOk result (λ more. more ≡ nat_lt most (sum_by (edge_count users.now) states.now + sum_by (row_count (key_lengths rels.now) stmts.now) states.now)) }
 {
     match left_after_edges(users, states, most) {
         None => Ok(true),
         Some(left) => {
-            let rest = left_after_rows(alloc, stmts, states, left)?;
+            let rest = left_after_rows(alloc, rels, stmts, states, left)?;
             Ok(rest.is_none())
         }
     }
@@ -87,16 +91,17 @@ fn left_after_edges(users: &[u32], states: &[Path], most: usize) -> Option<usize
 /// What the rows of states' worlds leave of a number; none where they are more.
 fn left_after_rows(
     alloc: Global,
+    rels: &[RelDef],
     stmts: &[Stmt],
     states: &[Path],
     most: usize,
 ) -> Result<Option<usize>, AllocError>
     requires { ascending statement_cmp stmts.now ≡ true }
-    ensures { IfOk result (λ left. left ≡ left_after most (sum_by (row_count (λ _. 1) stmts.now) states.now)) }
+    ensures { IfOk result (λ left. left ≡ left_after most (sum_by (row_count (key_lengths rels.now) stmts.now) states.now)) }
 {
     let mut left = most;
     for path in states {
-        let world = world_among(alloc, stmts, path.as_slice())?;
+        let world = world_among(alloc, rels, stmts, path.as_slice())?;
         let count = world.held.len();
         if left < count {
             return Ok(None);

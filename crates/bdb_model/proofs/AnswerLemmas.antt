@@ -30,6 +30,7 @@ use Rattle.bdb_model.proofs.ChainLemmas.{Comes, come_below, come_hold}
 use Rattle.bdb_queries.proofs.CollectedLemmas.{collected_rows}
 use Rattle.bdb_queries.proofs.HoldingLemmas.{items_fit, held_slots_of_row, held_row_of_slots}
 use Rattle.bdb_model.proofs.PassLemmas.{Chosen, chosen_from_rows, rows_from_chosen}
+use Rattle.bdb_model.proofs.PoolLemmas.{keys_of}
 use Rattle.bdb_model.proofs.SlotLemmas.{below_then, below_may, below_path}
 use Rattle.bdb_model.proofs.WholeLemmas.{users_part, given_part, parts_below, held_come}
 
@@ -73,7 +74,7 @@ found_is_held b q sources valid fits row m =
     let first = chosen_from_rows q.conds (rows_of_users b q sources) (is_row row) (map (user_pool b.catalog.users) items) [] (open_slots items) (open_slots items) 0 refl refl
     (map_length (λ item. None) items ∙ sym (map_length (user_pool b.catalog.users) items)) m in
     let xs = first.0 in
-    let world = item_world b.stmts xs in
+    let world = item_world (keys_of b) b.stmts xs in
     let long = chosen_length (map (user_pool b.catalog.users) items) (open_slots items) xs first.1 ∙ map_length (λ item. None) items in
     let second = chosen_from_rows q.conds (rows_of_tuples b.catalog.rels q sources (map world items)) (is_row row) (plus_pools items (map world items)) [] xs xs 0 refl refl
     (long ∙ sym (plus_length world items)) first.2 in
@@ -106,7 +107,7 @@ held_is_found b q sources valid fits safe are row h =
     let a = held.1 in
     let xs = users_part items zs in
     let ys = given_part items zs in
-    let world = item_world b.stmts xs in
+    let world = item_world (keys_of b) b.stmts xs in
     let below = parts_below b zs items zs a.items in
     let come = held_come b q sources zs (record { relations = valid.catalog.rels_valid; safe = safe; are = are; conds = a.conds }) 0 items zs (items_fit b q fits)
     (λ k. ap (slice_get items) (from_zero k)) (λ k. ap (slot_at zs) (from_zero k)) a.items in

@@ -11,7 +11,7 @@ use Rattle.bdb_base.specs.declared.kinds.Sign.TheVariants.{Plus, Minus}
 use Rattle.bdb_base.specs.declared.kinds.Value.{Value}
 use Rattle.bdb_base.specs.declared.kinds.Who.{Who}
 use Rattle.bdb_base.specs.declared.tuple.Tuple.{Tuple}
-use Rattle.bdb_base.specs.Bases.{Contents, AreStatements, fits_relation, fits_definition}
+use Rattle.bdb_base.specs.Bases.{Contents, AreStatements, fits_relation, fits_definition, key_lengths}
 use Rattle.bdb_base.specs.Queries.{columns_at, path_believes}
 use Rattle.bdb_base.specs.Same.{same_tuple}
 use Rattle.bdb_base.specs.SameLemmas.{same_tuple-Decides}
@@ -22,15 +22,15 @@ use Rattle.bdb_queries.specs.Slots.{path_of}
 use Rattle.bdb_queries.proofs.HoldingLemmas.{SlotsHold}
 use Rattle.bdb_model.proofs.PassLemmas.{Chosen}
 use Rattle.bdb_queries.proofs.UserLemmas.{found_nowhere, user_of_tuple}
-use Rattle.bdb_model.proofs.PoolLemmas.{plus_is_believed, denied_at, believed_fits}
+use Rattle.bdb_model.proofs.PoolLemmas.{keys_of, plus_is_believed, denied_at, believed_fits}
 use Rattle.bdb_model.proofs.SlotLemmas.{Below}
 
 -- Slots of items come of one another by the three stages, from a place on. The worlds are those of the first slots, and
 -- the values of minus items come from the second ones.
 pub record Comes (b : Contents) (sources : List Cond) (first second : List (Option Tuple)) (at : ℕ) (items : List Item) (xs ys zs : List (Option Tuple)) : Type 0 where
   pub by_users : Chosen (map (user_pool b.catalog.users) items) (open_slots items) xs
-  pub by_plus : Chosen (plus_pools items (map (item_world b.stmts first) items)) xs ys
-  pub by_minus : Chosen (minus_pools b.catalog.rels sources second at items (map (item_world b.stmts first) items)) ys zs
+  pub by_plus : Chosen (plus_pools items (map (item_world (keys_of b) b.stmts first) items)) xs ys
+  pub by_minus : Chosen (minus_pools b.catalog.rels sources second at items (map (item_world (keys_of b) b.stmts first) items)) ys zs
 
 same_below : (x y : Option Tuple) (xs ys : List (Option Tuple)) → x ≡ y → Below xs ys → Below (x ∷ xs) (y ∷ ys)
 same_below None y xs ys e h = h
@@ -81,17 +81,17 @@ denies_kept b t (Some w) p' k e = ap (path_believes b t Minus) (k w refl) ∙ e
 
 -- the tuple of a minus item's pool
 denied_tuple : (rels : List RelDef) (world : List Held) (rel : ℕ) (vals : Option (List Value)) (t : Tuple) → Found t (denied_tuples rels world rel vals)
-    → (t.rel ≡ rel) × (fits_relation rels t ≡ true) × (denies world t ≡ true)
+    → (t.rel ≡ rel) × (fits_relation rels t ≡ true) × (denies (key_lengths rels) world t ≡ true)
 denied_tuple rels world rel None t f = absurd (found_nowhere t f)
 denied_tuple rels world rel (Some vals) t f = elim (cases_Bool (is_denied rels world rel vals)) [
   | inl k ↦
       let one = subst (Found t) (cond-true (is_denied rels world rel vals) (tuple_of rel vals ∷ []) [] k) f in
-      let parts = and_parts (nat_lt 0 (length vals)) (fits_definition (slice_get rels rel) vals && denies world (tuple_of rel vals)) k in
-      let more = and_parts (fits_definition (slice_get rels rel) vals) (denies world (tuple_of rel vals)) parts.1 in
+      let parts = and_parts (nat_lt 0 (length vals)) (fits_definition (slice_get rels rel) vals && denies (key_lengths rels) world (tuple_of rel vals)) k in
+      let more = and_parts (fits_definition (slice_get rels rel) vals) (denies (key_lengths rels) world (tuple_of rel vals)) parts.1 in
       elim (or_cases (same_tuple (tuple_of rel vals) t) false (one (λ u. same_tuple u t) ((same_tuple-Decides t t).1 refl))) [
         | inl m ↦
             let same : tuple_of rel vals ≡ t = (same_tuple-Decides (tuple_of rel vals) t).0 m in
-            (ap (λ u. u.rel) (sym same), ap (fits_relation rels) (sym same) ∙ more.0, ap (denies world) (sym same) ∙ more.1)
+            (ap (λ u. u.rel) (sym same), ap (fits_relation rels) (sym same) ∙ more.0, ap (denies (key_lengths rels) world) (sym same) ∙ more.1)
         | inr m ↦ absurd (false≢true m)
       ]
   | inr k ↦ absurd (found_nowhere t (subst (Found t) (cond-false (is_denied rels world rel vals) (tuple_of rel vals ∷ []) [] k) f))
@@ -128,7 +128,7 @@ come_hold b valid sources first second last k at (Rel alias rel Minus path ∷ i
 come_hold b valid sources first second last k at (Rel alias rel Minus path ∷ items) (x ∷ xs) (y ∷ ys) [] c = absurd c.by_minus
 come_hold b valid sources first second last k at (Rel alias rel Minus path ∷ items) (x ∷ xs) (y ∷ ys) (z ∷ zs) c =
     let t = c.by_minus.0.0 in
-    let denied = denied_tuple b.catalog.rels (world_at b.stmts (path_of first path)) rel (sourced_values sources second at 0 (columns_at b.catalog.rels rel)) t c.by_minus.0.2 in
+    let denied = denied_tuple b.catalog.rels (world_at (keys_of b) b.stmts (path_of first path)) rel (sourced_values sources second at 0 (columns_at b.catalog.rels rel)) t c.by_minus.0.2 in
     let kept = denies_kept b t (path_of first path) (path_of last path) (k path) (denied_at b (path_of first path) t denied.2) in (
       (t, c.by_minus.0.1, denied.0, denied.1, kept),
       come_hold b valid sources first second last k (at + 1) items xs ys zs (record { by_users = c.by_users.1; by_plus = c.by_plus.1; by_minus = c.by_minus.1 }),

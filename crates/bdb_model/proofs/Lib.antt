@@ -4,6 +4,7 @@ pub mod ClashLemmas
 pub mod ChoosingLemmas
 pub mod ChainLemmas
 pub mod EndLemmas
+pub mod LengthLemmas
 pub mod LevelLemmas
 pub mod PassLemmas
 pub mod PoolLemmas

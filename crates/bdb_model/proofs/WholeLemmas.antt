@@ -29,7 +29,7 @@ use Rattle.bdb_model.specs.Sources.{source_of, source_in, is_simple, is_source, 
 use Rattle.bdb_model.proofs.ChainLemmas.{Comes}
 use Rattle.bdb_queries.proofs.HoldingLemmas.{SlotsHold}
 use Rattle.bdb_queries.proofs.UserLemmas.{found_user_tuple}
-use Rattle.bdb_model.proofs.PoolLemmas.{believed_is_plus, believed_at}
+use Rattle.bdb_model.proofs.PoolLemmas.{keys_of, believed_is_plus, believed_at}
 use Rattle.bdb_model.proofs.SlotLemmas.{Below}
 use Rattle.bdb_model.proofs.SourceLemmas.{found_source, source_value}
 
@@ -209,7 +209,7 @@ pub record AreSearched (b : Contents) (q : Query) (sources : List Cond) (all : L
 -- a minus item's tuple is the one of its pool
 minus_found : (b : Contents) (q : Query) (sources : List Cond) (all : List (Option Tuple)) → AreSearched b q sources all → (at : ℕ) (alias : List ℕ) (rel : ℕ) (path : List Who) (p : Option (List ℕ)) (t : Tuple)
     → slice_get q.items at ≡ Some (Rel alias rel Minus path) → slot_at all at ≡ Some t → t.rel ≡ rel → fits_relation b.catalog.rels t ≡ true → path_believes b t Minus p ≡ true
-    → Found t (denied_tuples b.catalog.rels (world_at b.stmts p) rel (sourced_values sources (given_part q.items all) at 0 (columns_at b.catalog.rels rel)))
+    → Found t (denied_tuples b.catalog.rels (world_at (keys_of b) b.stmts p) rel (sourced_values sources (given_part q.items all) at 0 (columns_at b.catalog.rels rel)))
 minus_found b q sources all s at alias rel path p t item slot r fits e =
     let rels = b.catalog.rels in
     let cols = columns_at rels rel in
@@ -217,11 +217,11 @@ minus_found b q sources all s at alias rel path p t item slot r fits e =
     let columns : fits_columns cols t.vals ≡ true = fits_its_columns (slice_get rels rel) t.vals def in
     let vals : sourced_values sources (given_part q.items all) at 0 cols ≡ Some t.vals = values_from sources (given_part q.items all) at 0 cols t.vals columns
     (λ k v g. value k v g columns) in
-    let world = world_at b.stmts p in
+    let world = world_at (keys_of b) b.stmts p in
     let tuple : tuple_of rel t.vals ≡ t = ap (λ n. tuple_of n t.vals) (sym r) in
-    let test : is_denied rels world rel t.vals ≡ true = and_from (nat_lt 0 (length t.vals)) (fits_definition (slice_get rels rel) t.vals && denies world (tuple_of rel t.vals))
+    let test : is_denied rels world rel t.vals ≡ true = and_from (nat_lt 0 (length t.vals)) (fits_definition (slice_get rels rel) t.vals && denies (keys_of b) world (tuple_of rel t.vals))
     (has_value rels rel t.vals s.relations def)
-    (and_from (fits_definition (slice_get rels rel) t.vals) (denies world (tuple_of rel t.vals)) def (ap (denies world) tuple ∙ believed_at b p t e)) in
+    (and_from (fits_definition (slice_get rels rel) t.vals) (denies (keys_of b) world (tuple_of rel t.vals)) def (ap (denies (keys_of b) world) tuple ∙ believed_at b p t e)) in
     let pool : denied_tuples rels world rel (sourced_values sources (given_part q.items all) at 0 cols) ≡ t ∷ [] =
     ap (denied_tuples rels world rel) vals ∙ cond-true (is_denied rels world rel t.vals) (tuple_of rel t.vals ∷ []) [] test ∙ ap (λ u. u ∷ []) tuple in
     subst (Found t) (sym pool) (found_first t [])

@@ -8,7 +8,7 @@ use Rattle.bdb_base.specs.declared.kinds.Query.{Query}
 use Rattle.bdb_base.specs.declared.kinds.RelDef.{RelDef}
 use Rattle.bdb_base.specs.declared.kinds.Value.{Value}
 use Rattle.bdb_base.specs.declared.tuple.Tuple.{Tuple}
-use Rattle.bdb_base.specs.Bases.{Contents}
+use Rattle.bdb_base.specs.Bases.{Contents, key_lengths}
 use Rattle.bdb_base.specs.Queries.{option_list}
 use Rattle.bdb_model.specs.Choosing.{chosen_rows}
 use Rattle.bdb_model.specs.Pools.{item_world, user_pool, plus_pools, minus_pools}
@@ -28,7 +28,7 @@ rows_of_worlds b q sources worlds slots = chosen_rows q.conds (rows_of_tuples b.
 
 -- the rows that come of chosen users
 abbrev pub rows_of_users : Contents → Query → List Cond → List (Option Tuple) → List (List Value)
-rows_of_users b q sources slots = rows_of_worlds b q sources (map (item_world b.stmts slots) q.items) slots
+rows_of_users b q sources slots = rows_of_worlds b q sources (map (item_world (key_lengths b.catalog.rels) b.stmts slots) q.items) slots
 
 -- nothing is chosen
 abbrev pub open_slots : List Item → List (Option Tuple)

@@ -14,7 +14,7 @@ use Rattle.bdb_base.specs.declared.kinds.Stmt.{Stmt}
 use Rattle.bdb_base.specs.declared.kinds.Value.{Value}
 use Rattle.bdb_base.specs.declared.tuple.Tuple.{Tuple}
 use Rattle.bdb_base.specs.Alternation.{alternates}
-use Rattle.bdb_base.specs.Bases.{fits_definition}
+use Rattle.bdb_base.specs.Bases.{fits_definition, key_lengths}
 use Rattle.bdb_base.specs.Clash.{clash}
 use Rattle.bdb_base.specs.Queries.{columns_at}
 use Rattle.bdb_base.specs.Same.{same_sign}
@@ -23,14 +23,14 @@ use Rattle.bdb_queries.specs.Slots.{known_operand, path_of, user_tuples}
 use Rattle.bdb_model.specs.Sources.{source_of}
 
 -- the world of a path, if it is there and has no equal neighbours; else nothing
-abbrev pub world_at : List Stmt → Option (List ℕ) → List Held
-world_at stmts None = []
-world_at stmts (Some w) = cond (alternates w) (world_of (λ _. 1) stmts w) []
+abbrev pub world_at : (ℕ → ℕ) → List Stmt → Option (List ℕ) → List Held
+world_at keys stmts None = []
+world_at keys stmts (Some w) = cond (alternates w) (world_of keys stmts w) []
 
 -- the world of an item's path, with the chosen users put in
-abbrev pub item_world : List Stmt → List (Option Tuple) → Item → List Held
-item_world stmts slots (Users alias) = []
-item_world stmts slots (Rel alias rel sign path) = world_at stmts (path_of slots path)
+abbrev pub item_world : (ℕ → ℕ) → List Stmt → List (Option Tuple) → Item → List Held
+item_world keys stmts slots (Users alias) = []
+item_world keys stmts slots (Rel alias rel sign path) = world_at keys stmts (path_of slots path)
 
 -- the users, for a `Users` item
 abbrev pub user_pool : List (List ℕ) → Item → Option (List Tuple)
@@ -69,12 +69,12 @@ abbrev pub tuple_of : ℕ → List Value → Tuple
 tuple_of rel vals = record { rel = rel; vals = vals }
 
 -- a world denies a tuple: a row of it clashes with the tuple's being there
-abbrev pub denies : List Held → Tuple → Bool
-denies world t = list_any (λ h. clash (λ _. 1) t Plus h.tuple h.sign) world
+abbrev pub denies : (ℕ → ℕ) → List Held → Tuple → Bool
+denies keys world t = list_any (λ h. clash keys t Plus h.tuple h.sign) world
 
 -- values are those of a tuple that fits its relation, and that a world denies
 abbrev pub is_denied : List RelDef → List Held → ℕ → List Value → Bool
-is_denied rels world rel vals = nat_lt 0 (length vals) && (fits_definition (slice_get rels rel) vals && denies world (tuple_of rel vals))
+is_denied rels world rel vals = nat_lt 0 (length vals) && (fits_definition (slice_get rels rel) vals && denies (key_lengths rels) world (tuple_of rel vals))
 
 -- the tuple of these values, if they are there, it fits its relation, and a world denies it
 abbrev pub denied_tuples : List RelDef → List Held → ℕ → Option (List Value) → List Tuple

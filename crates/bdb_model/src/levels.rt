@@ -1,11 +1,13 @@
 // What is stated at each end of a path, which is all that its world depends on.
 ghost use Rattle.std.specs.Prelude.{◌≡◌, ◌++◌, true, [], IfOk, OnOk};
-ghost use Rattle.bdb_base.specs.Order.{statement_cmp, tuple_cmp};
-ghost use Rattle.bdb_base.specs.SortedSet.{ascending, is_member};
-ghost use Rattle.bdb_model.specs.Levels.{key_tuple, no_level, with_stated, with_all, level_of, level_if_any, levels_of, has_stated, refuses, stated_by};
+ghost use Rattle.bdb_base.specs.Bases.{key_lengths};
+ghost use Rattle.bdb_base.specs.Order.{statement_cmp};
+ghost use Rattle.bdb_base.specs.SortedSet.{ascending};
+ghost use Rattle.bdb_model.specs.Levels.{no_level, with_stated, with_all, level_of, level_if_any, levels_of, has_stated, refuses, stated_by};
 
 use crate::ends::at_path;
-use bdb_base::{Exact, List, Sign, Stmt, Tuple, first_value, place_of, put, put_copy};
+use crate::keys::{Key, key_tuple};
+use bdb_base::{List, RelDef, Sign, Stmt, Tuple, contains, put, put_copy};
 use std::alloc::{AllocError, Global};
 use std::marker::Model;
 
@@ -14,7 +16,7 @@ use std::marker::Model;
 pub struct Level {
     plus: List<Tuple>,
     minus: List<Tuple>,
-    keys: List<Tuple>,
+    keys: List<Key>,
 }
 
 impl Model for Level {
@@ -40,12 +42,12 @@ impl Level {
     }
 
     /// Adds what a statement states.
-    fn add(&mut self, alloc: Global, x: &Stmt) -> Result<(), AllocError>
-        ensures { OnOk result (self.new ≡ with_stated (λ _. 1) self.old x.now.tuple x.now.sign) }
+    fn add(&mut self, alloc: Global, rels: &[RelDef], x: &Stmt) -> Result<(), AllocError>
+        ensures { OnOk result (self.new ≡ with_stated (key_lengths rels.now) self.old x.now.tuple x.now.sign) }
     {
         match x.sign {
             Sign::Plus => {
-                let key = key_tuple(alloc, &x.tuple)?;
+                let key = key_tuple(alloc, rels, &x.tuple)?;
                 let _added = put_copy(alloc, &mut self.plus, &x.tuple)?;
                 let _first = put(&mut self.keys, key)?;
             }
@@ -61,73 +63,88 @@ impl Level {
         ensures { result ≡ has_stated self.now t.now s }
     {
         match s {
-            Sign::Plus => is_among(self.plus.as_slice(), t),
-            Sign::Minus => is_among(self.minus.as_slice(), t),
+            Sign::Plus => contains(self.plus.as_slice(), t),
+            Sign::Minus => contains(self.minus.as_slice(), t),
         }
     }
 
     /// Whether a signed tuple that is not stated here clashes with one that is.
-    fn refuses(&self, t: &Tuple, key: &Tuple, s: Sign) -> bool
+    fn refuses(&self, t: &Tuple, key: &Key, s: Sign) -> bool
         ensures { result ≡ refuses self.now t.now key.now s }
     {
         match s {
             Sign::Plus => {
-                is_among(self.minus.as_slice(), t) || is_among(self.keys.as_slice(), key)
+                contains(self.minus.as_slice(), t) || contains(self.keys.as_slice(), key)
             }
-            Sign::Minus => is_among(self.plus.as_slice(), t),
+            Sign::Minus => contains(self.plus.as_slice(), t),
         }
     }
 }
 
 /// What is stated at this very path.
-pub fn level_of(alloc: Global, stmts: &[Stmt], path: &[u32]) -> Result<Level, AllocError>
+pub fn level_of(
+    alloc: Global,
+    rels: &[RelDef],
+    stmts: &[Stmt],
+    path: &[u32],
+) -> Result<Level, AllocError>
     requires { ascending statement_cmp stmts.now ≡ true }
-    ensures { IfOk result (λ level. level ≡ level_of (λ _. 1) stmts.now path.now) }
+    ensures { IfOk result (λ level. level ≡ level_of (key_lengths rels.now) stmts.now path.now) }
 {
-    let level = level_with(alloc, at_path(stmts, path))?;
+    let level = level_with(alloc, rels, at_path(stmts, path))?;
     Ok(level)
 }
 
 /// The level at which all of these statements stand.
-fn level_with(alloc: Global, stmts: &[Stmt]) -> Result<Level, AllocError>
-    ensures { IfOk result (λ level. level ≡ with_all (λ _. 1) no_level stmts.now) }
+fn level_with(alloc: Global, rels: &[RelDef], stmts: &[Stmt]) -> Result<Level, AllocError>
+    ensures { IfOk result (λ level. level ≡ with_all (key_lengths rels.now) no_level stmts.now) }
 {
     let mut level = Level::new(alloc);
     for x in stmts {
-        level.add(alloc, x)?;
+        level.add(alloc, rels, x)?;
     }
     Ok(level)
 }
 
 /// The level of the path, then that of the path without its first user, and so on to the empty path, without those at
 /// which nothing is stated.
-pub fn levels_of(alloc: Global, stmts: &[Stmt], path: &[u32]) -> Result<Vec<Level>, AllocError>
+pub fn levels_of(
+    alloc: Global,
+    rels: &[RelDef],
+    stmts: &[Stmt],
+    path: &[u32],
+) -> Result<Vec<Level>, AllocError>
     requires { ascending statement_cmp stmts.now ≡ true }
-    ensures { IfOk result (λ levels. levels.items ≡ levels_of (λ _. 1) stmts.now path.now) }
+    ensures { IfOk result (λ levels. levels.items ≡ levels_of (key_lengths rels.now) stmts.now path.now) }
 {
     let mut levels = Vec::new(alloc);
     let mut rest = path;
     while let [_, others @ ..] = rest {
-        push_if_any(alloc, &mut levels, at_path(stmts, rest))?;
+        push_if_any(alloc, rels, &mut levels, at_path(stmts, rest))?;
         rest = others;
     }
-    push_if_any(alloc, &mut levels, at_path(stmts, rest))?;
+    push_if_any(alloc, rels, &mut levels, at_path(stmts, rest))?;
     Ok(levels)
 }
 
 /// Adds the level at which all of these statements stand, if there are any.
-fn push_if_any(alloc: Global, levels: &mut Vec<Level>, stmts: &[Stmt]) -> Result<(), AllocError>
-    ensures { OnOk result (levels.new.items ≡ levels.old.items ++ level_if_any (λ _. 1) stmts.now) }
+fn push_if_any(
+    alloc: Global,
+    rels: &[RelDef],
+    levels: &mut Vec<Level>,
+    stmts: &[Stmt],
+) -> Result<(), AllocError>
+    ensures { OnOk result (levels.new.items ≡ levels.old.items ++ level_if_any (key_lengths rels.now) stmts.now) }
 {
     if stmts.is_empty() {
         return Ok(());
     }
-    levels.push(level_with(alloc, stmts)?)?;
+    levels.push(level_with(alloc, rels, stmts)?)?;
     Ok(())
 }
 
 /// Whether the world of the levels' path has a signed tuple.
-pub fn stated_by(levels: &[Level], t: &Tuple, key: &Tuple, s: Sign) -> bool
+pub fn stated_by(levels: &[Level], t: &Tuple, key: &Key, s: Sign) -> bool
     ensures { result ≡ stated_by levels.now t.now key.now s }
 {
     match levels {
@@ -135,24 +152,5 @@ pub fn stated_by(levels: &[Level], t: &Tuple, key: &Tuple, s: Sign) -> bool
         [level, lower @ ..] => {
             level.has(t, s) || (stated_by(lower, t, key, s) && !level.refuses(t, key, s))
         }
-    }
-}
-
-/// A tuple's key, as a tuple of its relation.
-pub fn key_tuple(alloc: Global, t: &Tuple) -> Result<Tuple, AllocError>
-    ensures { IfOk result (λ key. key ≡ key_tuple (λ _. 1) t.now) }
-{
-    let mut vals = List::new(alloc);
-    vals.push(first_value(t).try_clone(alloc)?)?;
-    Ok(Tuple { rel: t.rel, vals })
-}
-
-fn is_among(tuples: &[Tuple], t: &Tuple) -> bool
-    requires { ascending tuple_cmp tuples.now ≡ true }
-    ensures { result ≡ is_member tuple_cmp tuples.now t.now }
-{
-    match place_of(tuples, t) {
-        Ok(_) => true,
-        Err(_) => false,
     }
 }

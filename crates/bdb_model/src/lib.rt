@@ -8,6 +8,7 @@ mod choosing;
 mod conflicts;
 mod ends;
 mod fitting;
+mod keys;
 mod levels;
 mod pools;
 mod queries;
@@ -17,7 +18,7 @@ mod stages;
 #[cfg(test)]
 mod tests;
 
-pub use bases::{believes, clashing, stated, world_rows};
+pub use bases::{believes, clashing, key_length_in, stated, world_rows};
 pub use beliefs::{believes_among, clashing_among, is_explicit, stated_among};
 pub use conflicts::first_clashing_among;
 pub use ends::{at_ends, at_path, worlds_depend_on_ends};

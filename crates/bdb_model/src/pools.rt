@@ -2,6 +2,7 @@
 ghost use Rattle.std.specs.Prelude.{◌≡◌, ◌≤◌, ◌<◌, ◌+◌, ◌++◌, ◌^◌, true, length, map, IfOk, OnOk};
 ghost use Rattle.std.specs.Option.{option_copied};
 ghost use Rattle.std.specs.List.{slice_get};
+ghost use Rattle.bdb_base.specs.Bases.{key_lengths};
 ghost use Rattle.bdb_base.specs.Limits.{most_users};
 ghost use Rattle.bdb_base.specs.Order.{statement_cmp};
 ghost use Rattle.bdb_base.specs.Queries.{columns_at};
@@ -10,6 +11,7 @@ ghost use Rattle.bdb_model.specs.Pools.{world_at, item_world, user_pool, plus_tu
 ghost use Rattle.bdb_queries.specs.Slots.{user_tuples};
 
 use crate::fitting::fits_relation;
+use crate::keys::key_length_of;
 use crate::rows::world_among;
 use crate::sources::source_of;
 use bdb_base::{
@@ -22,34 +24,36 @@ use std::alloc::{AllocError, Global};
 /// The worlds of the items' paths, with the chosen users put in.
 pub fn worlds_of(
     alloc: Global,
+    rels: &[RelDef],
     stmts: &[Stmt],
     slots: &[Option<Tuple>],
     items: &[Item],
 ) -> Result<Vec<List<Held>>, AllocError>
     requires { ascending statement_cmp stmts.now ≡ true }
-    ensures { IfOk result (λ worlds. worlds.items ≡ map (item_world stmts.now slots.now) items.now) }
+    ensures { IfOk result (λ worlds. worlds.items ≡ map (item_world (key_lengths rels.now) stmts.now slots.now) items.now) }
 {
     let mut worlds = Vec::new(alloc);
     for item in items {
-        worlds.push(item_world(alloc, stmts, slots, item)?)?;
+        worlds.push(item_world(alloc, rels, stmts, slots, item)?)?;
     }
     Ok(worlds)
 }
 
 fn item_world(
     alloc: Global,
+    rels: &[RelDef],
     stmts: &[Stmt],
     slots: &[Option<Tuple>],
     item: &Item,
 ) -> Result<List<Held>, AllocError>
     requires { ascending statement_cmp stmts.now ≡ true }
-    ensures { IfOk result (λ world. world ≡ item_world stmts.now slots.now item.now) }
+    ensures { IfOk result (λ world. world ≡ item_world (key_lengths rels.now) stmts.now slots.now item.now) }
 {
     match item {
         Item::Users { .. } => Ok(List::new(alloc)),
         Item::Rel { path, .. } => match path_of(alloc, slots, path.as_slice())? {
             Some(users) => {
-                let world = world_at(alloc, stmts, users.as_slice())?;
+                let world = world_at(alloc, rels, stmts, users.as_slice())?;
                 Ok(world)
             }
             None => Ok(List::new(alloc)),
@@ -58,13 +62,18 @@ fn item_world(
 }
 
 /// The world of a path that has no equal neighbours; else nothing.
-fn world_at(alloc: Global, stmts: &[Stmt], users: &[u32]) -> Result<List<Held>, AllocError>
+fn world_at(
+    alloc: Global,
+    rels: &[RelDef],
+    stmts: &[Stmt],
+    users: &[u32],
+) -> Result<List<Held>, AllocError>
     requires { ascending statement_cmp stmts.now ≡ true }
-    ensures { IfOk result (λ world. world ≡ world_at stmts.now (Some users.now)) }
+    ensures { IfOk result (λ world. world ≡ world_at (key_lengths rels.now) stmts.now (Some users.now)) }
 {
     match Path::try_new(alloc, users) {
         Ok(path) => {
-            let world = world_among(alloc, stmts, path.as_slice())?;
+            let world = world_among(alloc, rels, stmts, path.as_slice())?;
             Ok(world.held)
         }
         Err(PathError::Repeat) => Ok(List::new(alloc)),
@@ -247,7 +256,7 @@ fn denied_tuples(
                 return Ok(tuples);
             }
             let tuple = Tuple { rel, vals };
-            if denies(world, &tuple) {
+            if denies(rels, world, &tuple) {
                 tuples.push(tuple)?;
             }
             Ok(tuples)
@@ -257,12 +266,19 @@ fn denied_tuples(
 }
 
 /// Whether a world denies a tuple: a row of it clashes with the tuple's being there.
-fn denies(world: &[Held], tuple: &Tuple) -> bool
-    ensures { result ≡ denies world.now tuple.now }
+fn denies(rels: &[RelDef], world: &[Held], tuple: &Tuple) -> bool
+    ensures { result ≡ denies (key_lengths rels.now) world.now tuple.now }
+{
+    denies_by(key_length_of(rels, tuple), world, tuple)
+}
+
+/// Whether a world denies a tuple whose relation has keys of the length `n`.
+fn denies_by(n: u32, world: &[Held], tuple: &Tuple) -> bool
+    ensures { result ≡ denies (λ _. n) world.now tuple.now }
 {
     world
         .iter()
-        .any(|row| clash(1, tuple, Sign::Plus, &row.tuple, row.sign))
+        .any(|row| clash(n, tuple, Sign::Plus, &row.tuple, row.sign))
 }
 
 /// The values of an item's columns by their sources, where all are known.

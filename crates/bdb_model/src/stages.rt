@@ -45,7 +45,8 @@ impl Stage for UsersChosen<'_> {
         found: &mut Found,
     ) -> Result<(), AllocError> {
         let items = self.query.items.as_slice();
-        let worlds = worlds_of(alloc, self.base.stmts(), slots, items)?;
+        let rels = self.base.catalog().rels.as_slice();
+        let worlds = worlds_of(alloc, rels, self.base.stmts(), slots, items)?;
         let pools = plus_pools(alloc, items, worlds.as_slice())?;
         let stage = TuplesChosen {
             catalog: self.base.catalog(),

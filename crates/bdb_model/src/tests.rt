@@ -50,7 +50,7 @@ fn worlds(rt: HostRuntime) -> Result<(), Fail> {
     ];
     for (given, path, want) in cases {
         let stmts = stmts_of(alloc, given)?;
-        let world = world_among(alloc, stmts.as_slice(), path)?;
+        let world = world_among(alloc, &[], stmts.as_slice(), path)?;
         let text = text_of(alloc, &world)?;
         assert_eq!(rt; text.as_str(), want);
     }
@@ -83,9 +83,12 @@ fn beliefs(rt: HostRuntime) -> Result<(), Fail> {
         (&[1, 2], Sign::Minus, true, true),
     ];
     for (path, sign, stated, believed) in cases {
-        assert_eq!(rt; stated_among(stmts.as_slice(), path, &eagle, sign), stated);
         assert_eq!(rt;
-            believes_among(stmts.as_slice(), path, &eagle, sign),
+            stated_among(1, stmts.as_slice(), path, &eagle, sign),
+            stated
+        );
+        assert_eq!(rt;
+            believes_among(1, stmts.as_slice(), path, &eagle, sign),
             believed
         );
     }
@@ -98,11 +101,11 @@ fn clashes(rt: HostRuntime) -> Result<(), Fail> {
     let stmts = stmts_of(alloc, &[EAGLE, CROW, BOB_DENIES])?;
     let raven = tuple_of(alloc, "s1", "raven")?;
     let eagle = tuple_of(alloc, "s1", "eagle")?;
-    let found = clashing_among(stmts.as_slice(), &[1], &raven, Sign::Plus);
+    let found = clashing_among(1, stmts.as_slice(), &[1], &raven, Sign::Plus);
     assert_eq!(rt; found.map(|x| x.sign), Some(Sign::Plus));
-    assert!(rt; clashing_among(stmts.as_slice(), &[1], &raven, Sign::Minus).is_none());
-    assert!(rt; clashing_among(stmts.as_slice(), &[2], &raven, Sign::Plus).is_none());
-    assert!(rt; clashing_among(stmts.as_slice(), &[2], &eagle, Sign::Plus).is_some());
+    assert!(rt; clashing_among(1, stmts.as_slice(), &[1], &raven, Sign::Minus).is_none());
+    assert!(rt; clashing_among(1, stmts.as_slice(), &[2], &raven, Sign::Plus).is_none());
+    assert!(rt; clashing_among(1, stmts.as_slice(), &[2], &eagle, Sign::Plus).is_some());
     Ok(())
 }
 

@@ -28,7 +28,7 @@ use Rattle.bdb_plan.specs.Running.{meaning_of}
 use Rattle.bdb_render.specs.Replies.{rows_reply}
 use Rattle.bdb_render.specs.declared.refusal.Refusal.TheVariants as refusal
 use Rattle.bdb_session.specs.Known.{Known, Agrees, AgreesOnSome}
-use Rattle.bdb_session.specs.Laws.{StoredPlansMeanAnswers}
+use Rattle.bdb_session.specs.Laws.{StoredPlansMeanAnswers, StoredPlansMeanChoices}
 use Rattle.bdb_session.specs.Machine.{bound_outcome, plan_reply, tells}
 use Rattle.bdb_session.specs.Outcome.{State, Outcome, Refused, Done}
 use Rattle.bdb_session.specs.Sizes.{too_many}
@@ -42,7 +42,8 @@ use Rattle.bdb_session.proofs.WithinLemmas.{read_tells, stop_tells}
 use Rattle.bdb_tables.specs.Names.{Names}
 use Rattle.bdb_tables.specs.Rows.{Tuples}
 use Rattle.bdb_tables.specs.Stored.{StoredAs, name_of}
-use Rattle.bdb_trans.proofs.PlanLemmas.{plans_mean_answers}
+use Rattle.bdb_plan.proofs.RunLemmas.{meaning_are_choices}
+use Rattle.bdb_trans.proofs.PlanLemmas.{plans_fit_sights, plans_mean_answers}
 use Rattle.bdb_update.proofs.CallLemmas.{gone_itself}
 use Rattle.bdb_val.proofs.Calls.{HasGone}
 
@@ -83,6 +84,12 @@ query_is_safe c q fits = (test_tells_safe c.rels q).0 (and_parts (query_fits c q
 pub stored_plans_mean_answers : StoredPlansMeanAnswers
 stored_plans_mean_answers t b q h fits safe =
     plans_mean_answers b (sight_of t) (world_number h.stored.names) q h.valid (stored_shows t b h).shown fits safe
+
+-- whichever tables store a base, the plan of a query means over them all choices with which its steps hold
+pub stored_plans_mean_choices : StoredPlansMeanChoices
+stored_plans_mean_choices t b q h fits safe =
+    meaning_are_choices (sight_of t) (plan_of b.catalog.rels q)
+    (plans_fit_sights b (sight_of t) (world_number h.stored.names) q h.valid (stored_shows t b h).shown fits safe)
 
 -- the plan of a query means the answers over the base of each state
 pub plan_answers : (t : Tables) (k : Known) (s : State) (q : Query) → Agrees t k s → can_be_answered k.catalog q ≡ true

@@ -7,6 +7,7 @@ use Rattle.bdb_base.specs.declared.kinds.Query.{Query}
 use Rattle.bdb_catalog.specs.Bases.{StoresValid}
 use Rattle.bdb_exec.specs.Seen.{sight_of}
 use Rattle.bdb_keep.specs.Tables.{Tables}
+use Rattle.bdb_plan.specs.PlanLaws.{AreChoices}
 use Rattle.bdb_plan.specs.PlanOf.{plan_of}
 use Rattle.bdb_plan.specs.Running.{meaning_of, reads_from, start_of}
 use Rattle.bdb_session.specs.Batches.{before_refused, batch_text, batch_state, batch_commits}
@@ -21,6 +22,12 @@ use Rattle.bdb_trans.specs.Bounds.{product_of}
 abbrev pub StoredPlansMeanAnswers : Type 0
 StoredPlansMeanAnswers = (t : Tables) (b : Contents) (q : Query) → StoresValid t b → query_fits b.catalog q ≡ true → IsSafe b.catalog.rels q
     → meaning_of (sight_of t) (plan_of b.catalog.rels q) ≡ answers_of b q
+
+-- Whichever tables store a valid base, the plan of each safe query that fits means over them the rows of all choices with which each of
+-- its steps holds, in order, each once.
+abbrev pub StoredPlansMeanChoices : Type 0
+StoredPlansMeanChoices = (t : Tables) (b : Contents) (q : Query) → StoresValid t b → query_fits b.catalog q ≡ true → IsSafe b.catalog.rels q
+    → AreChoices (sight_of t) (plan_of b.catalog.rels q) (meaning_of (sight_of t) (plan_of b.catalog.rels q))
 
 -- Whichever tables store a valid base, the plan of each query that fits reads over them at most the product of one factor for each
 -- item: twice the users and 8 for a `Users` item; for another one the length of its path, three times the most signed tuples that

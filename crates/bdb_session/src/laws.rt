@@ -1,9 +1,15 @@
 //! What holds of tables that store a base, and of batches.
-ghost use Rattle.bdb_session.specs.Laws.{BatchesAreWholeOrBreakOff, StoredPlansMeanAnswers, StoredPlansReadFew};
+ghost use Rattle.bdb_session.specs.Laws.{BatchesAreWholeOrBreakOff, StoredPlansMeanAnswers, StoredPlansMeanChoices, StoredPlansReadFew};
 
 /// Whichever tables store a valid base, the plan of a safe query that fits means over them the query's answers.
 pub fn stored_plans_mean_answers()
     ensures { StoredPlansMeanAnswers }
+{}
+
+/// Whichever tables store a valid base, the plan of a safe query that fits means over them the rows of all choices with which each of
+/// its steps holds, in order, each once.
+pub fn stored_plans_mean_choices()
+    ensures { StoredPlansMeanChoices }
 {}
 
 /// Whichever tables store a valid base, the plan of a query that fits reads over them at most the product of one factor for each

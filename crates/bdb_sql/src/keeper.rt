@@ -48,8 +48,12 @@ impl<S: Alter> Model for SqlKeeper<S> {
 impl<S: Alter> SqlKeeper<S> {
     /// Takes an open connection and loads its rows. Where it has anything but the one table as the keeper makes it, or
     /// a row that doesn't fit, the keeper doesn't work. It writes nothing: the first commit makes the table where there is
-    /// none. It has the connection in either case. A keeper that works matches its file from the start, unless the store
-    /// below is broken; every call but a commit leaves it so, and a commit that is accepted does.
+    /// none. It has the connection in either case.
+    ///
+    /// A keeper that works matches its file from the start where the store below stands whole: where, if its disk is clean,
+    /// it isn't broken, or is open with nothing in it or with the rows of its first table by rising numbers. That may be said
+    /// of the connection that the keeper has (`tied`), or of the one that it was given (`adopted`). Then every call but a
+    /// commit leaves the keeper so, and a commit that is accepted does.
     #[tactic(auto, using(bdb_keep::proofs::TableLemmas::none_lie))]
     pub fn over(alloc: Global, mut conn: Connection<S>) -> Self
         ensures begins { Begins result }

@@ -7,6 +7,7 @@ pub mod FindLemmas
 pub mod FirstKeyLemmas
 pub mod GroundLemmas
 pub mod HereLemmas
+pub mod LengthLemmas
 pub mod LinkLemmas
 pub mod LookLemmas
 pub mod NearLemmas

@@ -1,5 +1,5 @@
 -- The steps of the loops over statements and over rivals.
-use Rattle.std.proofs.Common.{◌≡◌, ◌∙◌, ℕ, ◌+◌, ◌<◌, ◌≤◌, Bool, true, cond, List, [], ◌∷◌, ap, sym, inl, inr, filter, map, length, drop, get_or}
+use Rattle.std.proofs.Common.{◌≡◌, ◌∙◌, ℕ, ◌+◌, ◌<◌, ◌≤◌, ◌++◌, Bool, true, false, cond, find, List, [], ◌∷◌, Option, Some, ap, append_assoc, sym, inl, inr, filter, map, length, drop, get_or}
 use Rattle.std.proofs.lemmas.Bool.{cases_Bool, cond-true, cond-false}
 use Rattle.std.proofs.lemmas.List.{drop_more, drop_all}
 use Rattle.bdb_base.specs.declared.kinds.Stmt.{Stmt}
@@ -9,6 +9,10 @@ use Rattle.bdb_base.specs.OrderLemmas.{tuple_exact}
 use Rattle.bdb_base.specs.SortedSet.{ascending, put_all, put_in, sorted_set}
 use Rattle.bdb_base.proofs.ListLemmas.{filter_kept_one, filter_dropped_one}
 use Rattle.bdb_base.proofs.SetLemmas.{loop_makes_set, put_keeps_order}
+use Rattle.bdb_why.specs.declared.among.Searched.TheVariants.{Held}
+use Rattle.bdb_why.specs.declared.kinds.Ruled.{Ruled}
+use Rattle.bdb_why.specs.Certificates.{is_held}
+use Rattle.bdb_why.specs.Searching.{held_or, searched_by}
 
 -- the tuples of statements that pass
 abbrev pub tuples_where : (Stmt → Bool) → List Stmt → List Tuple
@@ -44,3 +48,26 @@ put_keeps q us x new e h = ap (ascending tuple_cmp) e ∙ elim (cases_Bool (q x)
 pub put_end : (q : Stmt → Bool) (xs : List Stmt) (i : ℕ) (us : List Tuple) → length xs ≤ i
     → put_all tuple_cmp us (tuples_where q (drop i xs)) ≡ put_all tuple_cmp [] (tuples_where q xs) → us ≡ sorted_set tuple_cmp (tuples_where q xs)
 put_end q xs i us h rest = ap (λ l. put_all tuple_cmp us (tuples_where q l)) (sym (drop_all i xs h)) ∙ rest ∙ loop_makes_set tuple_exact (tuples_where q xs)
+
+-- one look at a rival, of those that are left
+module _ (f : Tuple → Ruled) (us : List Tuple) (i : ℕ) (u : Tuple) (r : Ruled) (h : i < length us) (e : u ≡ get_or us i u) (k : r ≡ f u)
+    (first : find is_held (map f (drop i us)) ≡ find is_held (map f us)) where
+  abbrev left : List Tuple
+  left = drop (i + 1) us
+
+  split : drop i us ≡ u ∷ left
+  split = drop_more us i u h ∙ ap (λ y. y ∷ left) (sym e)
+
+  now_first : cond (is_held r) (Some r) (find is_held (map f left)) ≡ find is_held (map f us)
+  now_first = ap (λ y. cond (is_held y) (Some y) (find is_held (map f left))) k ∙ ap (λ ys. find is_held (map f ys)) (sym split) ∙ first
+
+  pub rival_held : is_held r ≡ true → Held r ≡ searched_by (map f us)
+  rival_held b = ap (λ o. held_or o (map f us)) (sym (cond-true (is_held r) (Some r) (find is_held (map f left)) b) ∙ now_first)
+
+  pub rival_passed : is_held r ≡ false → find is_held (map f left) ≡ find is_held (map f us)
+  rival_passed b = sym (cond-false (is_held r) (Some r) (find is_held (map f left)) b) ∙ now_first
+
+  pub rival_kept : (others new : List Ruled) → others ++ map f (drop i us) ≡ map f us → new ≡ others ++ r ∷ [] → new ++ map f left ≡ map f us
+  rival_kept others new all n =
+      ap (λ rs. rs ++ map f left) n ∙ append_assoc others (r ∷ []) (map f left) ∙ ap (λ y. others ++ (y ∷ map f left)) k
+      ∙ ap (λ ys. others ++ map f ys) (sym split) ∙ all

@@ -20,10 +20,11 @@ pub enum Searched {
     Others(List<Ruled>),
 }
 
-/// Why a path believes a signed tuple, or doesn't, where these statements stand. The path has less than 2^32 users. The
-/// only error is want of memory.
+/// Why a path believes a signed tuple, or doesn't, where these statements stand, and the tuple's relation has keys of the
+/// length `n`. The path has less than 2^32 users. The only error is want of memory.
 pub fn why_among(
     alloc: Global,
+    n: u32,
     stmts: &[Stmt],
     path: &[u32],
     t: &Tuple,
@@ -31,13 +32,13 @@ pub fn why_among(
 ) -> Result<Why, AllocError>
     requires sorted { ascending statement_cmp stmts.now ≡ true }
     requires short { length path.now < 2 ^ 32 }
-    ensures { IfOk result (λ y. y ≡ why_of (λ _. 1) stmts.now path.now t.now s) }
+    ensures { IfOk result (λ y. y ≡ why_of (λ _. n) stmts.now path.now t.now s) }
 {
-    let own = ground_from(alloc, stmts, 0, path, t, s)?;
+    let own = ground_from(alloc, n, stmts, 0, path, t, s)?;
     if own.is_found() {
         return Ok(Why::Stated { reason: own });
     }
-    match look(alloc, stmts, path, t, s)? {
+    match look(alloc, n, stmts, path, t, s)? {
         Searched::Held(found) => Ok(Why::Other { found }),
         Searched::Others(others) => Ok(Why::Absent { own, others }),
     }
@@ -46,6 +47,7 @@ pub fn why_among(
 /// What a look at the rivals that count finds.
 fn look(
     alloc: Global,
+    n: u32,
     stmts: &[Stmt],
     path: &[u32],
     t: &Tuple,
@@ -53,13 +55,13 @@ fn look(
 ) -> Result<Searched, AllocError>
     requires sorted { ascending statement_cmp stmts.now ≡ true }
     requires short { length path.now < 2 ^ 32 }
-    ensures { IfOk result (λ found. found ≡ searched_by (considered (λ _. 1) stmts.now path.now t.now s)) }
+    ensures { IfOk result (λ found. found ≡ searched_by (considered (λ _. n) stmts.now path.now t.now s)) }
 {
     match s {
         Sign::Plus => Ok(Searched::Others(List::new(alloc))),
         Sign::Minus => {
-            let tuples = rivals_of(alloc, stmts, path, t)?;
-            let found = look_among(alloc, stmts, path, tuples.as_slice())?;
+            let tuples = rivals_of(alloc, n, stmts, path, t)?;
+            let found = look_among(alloc, n, stmts, path, tuples.as_slice())?;
             Ok(found)
         }
     }
@@ -68,17 +70,18 @@ fn look(
 /// What a look at some rivals finds. It stops at the first that the world has.
 fn look_among(
     alloc: Global,
+    n: u32,
     stmts: &[Stmt],
     path: &[u32],
     tuples: &[Tuple],
 ) -> Result<Searched, AllocError>
     requires sorted { ascending statement_cmp stmts.now ≡ true }
     requires short { length path.now < 2 ^ 32 }
-    ensures { IfOk result (λ found. found ≡ searched_by (map (ruled_of (λ _. 1) stmts.now path.now) tuples.now)) }
+    ensures { IfOk result (λ found. found ≡ searched_by (map (ruled_of (λ _. n) stmts.now path.now) tuples.now)) }
 {
     let mut others = List::new(alloc);
     for tuple in tuples {
-        let ruled = ruled_of(alloc, stmts, path, tuple)?;
+        let ruled = ruled_of(alloc, n, stmts, path, tuple)?;
         if ruled.is_held() {
             return Ok(Searched::Held(ruled));
         }
@@ -88,12 +91,18 @@ fn look_among(
 }
 
 /// A rival with its ground.
-fn ruled_of(alloc: Global, stmts: &[Stmt], path: &[u32], tuple: &Tuple) -> Result<Ruled, AllocError>
+fn ruled_of(
+    alloc: Global,
+    n: u32,
+    stmts: &[Stmt],
+    path: &[u32],
+    tuple: &Tuple,
+) -> Result<Ruled, AllocError>
     requires sorted { ascending statement_cmp stmts.now ≡ true }
     requires short { length path.now < 2 ^ 32 }
-    ensures { IfOk result (λ ruled. ruled ≡ ruled_of (λ _. 1) stmts.now path.now tuple.now) }
+    ensures { IfOk result (λ ruled. ruled ≡ ruled_of (λ _. n) stmts.now path.now tuple.now) }
 {
-    let reason = ground_from(alloc, stmts, 0, path, tuple, Sign::Plus)?;
+    let reason = ground_from(alloc, n, stmts, 0, path, tuple, Sign::Plus)?;
     let tuple = tuple.try_clone(alloc)?;
     Ok(Ruled { tuple, reason })
 }

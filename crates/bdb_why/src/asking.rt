@@ -36,7 +36,7 @@ pub fn why<K: Keeper>(
         Ok(near) => near,
         Err(error) => return Err(error),
     };
-    match why_among(alloc, near.as_slice(), path, t, s) {
+    match why_among(alloc, 1, near.as_slice(), path, t, s) {
         Ok(y) => Ok(y),
         Err(_) => {
             keeper.undo();

@@ -11,9 +11,11 @@ use bdb_base::{Exact, Sign, Stmt, Tuple};
 use bdb_model::{at_path, clashing_among, is_explicit};
 use std::alloc::{AllocError, Global};
 
-/// The ground of a signed tuple at a path that is at a level of another.
+/// The ground of a signed tuple at a path that is at a level of another, where the tuple's relation has keys of the length
+/// `n`.
 pub fn ground_from(
     alloc: Global,
+    n: u32,
     stmts: &[Stmt],
     level: u32,
     path: &[u32],
@@ -22,12 +24,12 @@ pub fn ground_from(
 ) -> Result<Ground, AllocError>
     requires sorted { ascending statement_cmp stmts.now ≡ true }
     requires short { level + length path.now < 2 ^ 32 }
-    ensures { IfOk result (λ reason. reason ≡ ground_from (λ _. 1) stmts.now level path.now t.now s) }
+    ensures { IfOk result (λ reason. reason ≡ ground_from (λ _. n) stmts.now level path.now t.now s) }
 {
     if explicit_at(stmts, path, t, s) {
         return Ok(Ground::Found { level });
     }
-    match clash_at(stmts, path, t, s) {
+    match clash_at(n, stmts, path, t, s) {
         Some(x) => {
             let by = x.try_clone(alloc)?;
             Ok(Ground::Blocked { level, by })
@@ -35,7 +37,7 @@ pub fn ground_from(
         None => match path {
             [] => Ok(Ground::Nowhere),
             [_, rest @ ..] => {
-                let reason = ground_from(alloc, stmts, level + 1, rest, t, s)?;
+                let reason = ground_from(alloc, n, stmts, level + 1, rest, t, s)?;
                 Ok(reason)
             }
         },
@@ -51,9 +53,9 @@ pub fn explicit_at(stmts: &[Stmt], path: &[u32], t: &Tuple, s: Sign) -> bool
 }
 
 /// The least statement of this very path with which a signed tuple clashes; none exactly where none does.
-pub fn clash_at<'a>(stmts: &'a [Stmt], path: &[u32], t: &Tuple, s: Sign) -> Option<&'a Stmt>
+pub fn clash_at<'a>(n: u32, stmts: &'a [Stmt], path: &[u32], t: &Tuple, s: Sign) -> Option<&'a Stmt>
     requires { ascending statement_cmp stmts.now ≡ true }
-    ensures { option_copied result ≡ least_clash (λ _. 1) stmts.now path.now t.now s }
+    ensures { option_copied result ≡ least_clash (λ _. n) stmts.now path.now t.now s }
 {
-    clashing_among(at_path(stmts, path), path, t, s)
+    clashing_among(n, at_path(stmts, path), path, t, s)
 }

@@ -72,7 +72,7 @@ fn why_at(
     if path.len() > 8 {
         return Err(AllocError);
     }
-    let y = why_among(alloc, stmts, path, t, s)?;
+    let y = why_among(alloc, 1, stmts, path, t, s)?;
     Ok(y)
 }
 
@@ -82,7 +82,7 @@ fn is_accepted(stmts: &[Stmt], path: &[u32], t: &Tuple, s: Sign, y: &Why) -> boo
     if path.len() > 8 {
         return false;
     }
-    check_why_among(stmts, path, t, s, y)
+    check_why_among(1, stmts, path, t, s, y)
 }
 
 /// A certificate with each level raised by one.

@@ -48,15 +48,17 @@ fn paths_of_queries_have_a_limit(rt: HostRuntime) -> Result<(), Fail> {
     let cases = [
         (
             1_024,
-            "'s1'\nok 1\n+ S('s1', 'eagle') inherited\nok 1\nyes stated + S('s1', 'eagle') at /\nok 1\n",
+            "'s1'\nok 1\n+ S('s1', 'eagle') inherited\nok 1\nyes stated + S('s1', 'eagle') at /\nok 1\n'Bob'\nok 1\n",
         ),
-        (1_025, "error deep\nerror deep\nerror deep\n"),
+        (1_025, "error deep\nerror deep\nerror deep\nerror deep\n"),
     ];
     for (count, replies) in cases {
         let path = path_of(alloc, count)?;
         let path = path.as_str();
+        let others = path_of(alloc, count - 1)?;
+        let others = others.as_str();
         let script = format!(in alloc;
-            "select X.k from {path} S X; show world {path}; why {path} S values('s1','eagle');"
+            "select X.k from {path} S X; show world {path}; why {path} S values('s1','eagle'); select U.name from Users U, BELIEF U.uid {others} S X;"
         )?;
         assert!(rt; is_answered(alloc, script.as_str(), replies)?, "{count}");
     }

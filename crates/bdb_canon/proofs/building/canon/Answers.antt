@@ -2,6 +2,7 @@ use Rattle.std.proofs.Common.{◌≡◌, ◌∙◌, ℕ, List, ap, map}
 use Rattle.std.specs.List.{flat_map}
 use Rattle.bdb_base.specs.declared.kinds.Stmt.{Stmt}
 use Rattle.bdb_base.specs.declared.tuple.Tuple.{Tuple}
+use Rattle.bdb_base.specs.Bases.{key_lengths}
 use Rattle.bdb_base.specs.Queries.{user_numbers}
 use Rattle.bdb_base.specs.States.{states_of}
 use Rattle.bdb_base.specs.WorldRows.{tuples_of}
@@ -44,15 +45,18 @@ pub returns : goal.returns
 returns c =
     let base = c.args.base.now in
     let stmts = c.stmts-stmts.ensures.value in
-    let users = c.as_slice-3.ensures ∙ c.in_ok-users.ensures ∙ ap user_numbers (c.as_slice.ensures ∙ ap (λ k. k.users) c.catalog.ensures.value) in
+    let users = c.as_slice-3.ensures ∙ c.in_ok-users.ensures ∙ ap user_numbers (c.as_slice.ensures ∙ ap (λ k. k.users) c.catalog-catalog.ensures.value) in
     let states = c.in_ok-states.ensures ∙ ap states_of stmts in
     let tuples = c.in_ok-tuples.ensures ∙ ap tuples_of stmts in
-    from_parts (λ _. 1) base.stmts (user_numbers base.catalog.users) (states_of base.stmts) (tuples_of base.stmts)
+    let keys = key_lengths base.catalog.rels in
+    from_parts keys base.stmts (user_numbers base.catalog.users) (states_of base.stmts) (tuples_of base.stmts)
     c.in_ok-worlds.worlds c.in_ok-tuples.tuples c.in_ok-edges.edges c.in_ok-rows.rows
     (c.in_ok-worlds.ensures ∙ ap (λ xs. map (world_entry xs) xs) (c.as_slice-2.ensures ∙ states))
     tuples
     (c.in_ok-edges.ensures ∙ ap (λ us. flat_map (edges_from us c.as_slice-4.result.now) c.as_slice-4.result.now) users
     ∙ ap (λ xs. flat_map (edges_from (user_numbers base.catalog.users) xs) xs) (c.as_slice-4.ensures ∙ states))
-    (c.in_ok-rows.ensures ∙ ap (λ ss. flat_map (rows_from (λ _. 1) ss c.as_slice-5.result.now c.as_slice-6.result.now) c.as_slice-5.result.now) stmts
-    ∙ ap (λ xs. flat_map (rows_from (λ _. 1) base.stmts xs c.as_slice-6.result.now) xs) (c.as_slice-5.ensures ∙ states)
-    ∙ ap (λ ts. flat_map (rows_from (λ _. 1) base.stmts (states_of base.stmts) ts) (states_of base.stmts)) (c.as_slice-6.ensures ∙ tuples))
+    (c.in_ok-rows.ensures ∙ ap (λ rs. flat_map (rows_from (key_lengths rs) c.stmts-stmts.result.now c.as_slice-5.result.now c.as_slice-6.result.now) c.as_slice-5.result.now)
+    (c.as_slice-rels.ensures ∙ ap (λ k. k.rels) c.catalog-catalog.ensures.value)
+    ∙ ap (λ ss. flat_map (rows_from keys ss c.as_slice-5.result.now c.as_slice-6.result.now) c.as_slice-5.result.now) stmts
+    ∙ ap (λ xs. flat_map (rows_from keys base.stmts xs c.as_slice-6.result.now) xs) (c.as_slice-5.ensures ∙ states)
+    ∙ ap (λ ts. flat_map (rows_from keys base.stmts (states_of base.stmts) ts) (states_of base.stmts)) (c.as_slice-6.ensures ∙ tuples))

@@ -1,4 +1,5 @@
 use Rattle.std.proofs.Common.{◌∙◌, ap}
+use Rattle.bdb_base.specs.Bases.{key_lengths}
 use Rattle.bdb_base.specs.Order.{statement_cmp}
 use Rattle.bdb_base.specs.SortedSet.{ascending}
 use Rattle.bdb_base.specs.WorldRows.{world_of}
@@ -9,5 +10,5 @@ pub world_from-requires : goal.world_from-requires
 world_from-requires c = ap (ascending statement_cmp) (c.as_slice.ensures ∙ c.in_ok-near.ensures) ∙ ends_ascend c.args.path.now c.args.stmts.now c.requires
 
 pub returns : goal.returns
-returns c = c.in_ok-world.ensures ∙ ap (λ xs. world_of (λ _. 1) xs c.args.path.now) (c.as_slice.ensures ∙ c.in_ok-near.ensures)
-    ∙ worlds_depend_on_ends (λ _. 1) c.args.stmts.now c.args.path.now
+returns c = c.in_ok-world.ensures ∙ ap (λ xs. world_of (key_lengths c.args.rels.now) xs c.args.path.now) (c.as_slice.ensures ∙ c.in_ok-near.ensures)
+    ∙ worlds_depend_on_ends (key_lengths c.args.rels.now) c.args.stmts.now c.args.path.now

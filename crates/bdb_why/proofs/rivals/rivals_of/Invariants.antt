@@ -8,6 +8,6 @@ use Rattle.bdb_why.proofs.rivals.rivals_of.Given as goal
 abbrev pub invariant-loop-x : goal.invariant-loop-x
 invariant-loop-x l = record {
   sorted : ascending tuple_cmp l.tuples ≡ true;
-  rest : put_all tuple_cmp l.tuples (map (λ x. x.tuple) (filter (is_rival_near (λ _. 1) l.path l.fn.t) (drop l.x-index l.stmts)))
-      ≡ put_all tuple_cmp [] (map (λ x. x.tuple) (filter (is_rival_near (λ _. 1) l.path l.fn.t) l.stmts));
+  rest : put_all tuple_cmp l.tuples (map (λ x. x.tuple) (filter (is_rival_near (λ _. l.fn.n) l.path l.fn.t) (drop l.x-index l.stmts)))
+      ≡ put_all tuple_cmp [] (map (λ x. x.tuple) (filter (is_rival_near (λ _. l.fn.n) l.path l.fn.t) l.stmts));
 }

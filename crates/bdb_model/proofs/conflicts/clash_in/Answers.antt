@@ -1,0 +1,8 @@
+use Rattle.std.proofs.Common.{◌∙◌}
+use Rattle.bdb_base.specs.Bases.{key_lengths}
+use Rattle.bdb_model.proofs.LengthLemmas.{clash_of}
+use Rattle.bdb_model.proofs.conflicts.clash_in.Goals as goal
+
+pub returns : goal.returns
+returns c =
+    c.clash.ensures ∙ clash_of (key_lengths c.args.rels.now) c.key_length_of.result c.args.a.now c.args.s c.args.b.now c.args.t c.key_length_of.ensures

@@ -1,0 +1,123 @@
+-- The changes that a history keeps stand for the bases to which undo and redo lead.
+use Rattle.std.proofs.Common.{◌≡◌, ◌∙◌, ℕ, List, [], ◌∷◌, refl, ap, sym, subst, length, take, suc, Some, None}
+use Prim.Native.Nat.{zero}
+use Rattle.bdb_base.specs.Bases.{Contents}
+use Rattle.bdb_undo.specs.declared.change.Change.{Change}
+use Rattle.bdb_undo.specs.Changes.{changed_forth, changed_back}
+use Rattle.bdb_undo.specs.Histories.{Kept, gone_back, gone_forth}
+use Rattle.bdb_undo.specs.Limits.{most_changes}
+use Rattle.bdb_undo.specs.Timelines.{Timeline, LeadHere, LeadAhead, StandsFor, undone_by, redone_by, bases_before, bases_ahead}
+use Rattle.bdb_undo.specs.TimelineLaws.{BasesAreComputed, ChangesAreDetermined, ChangesAreCounted, NothingKeptStarts, NoteMoves, BackUndoes, ForthRedoes}
+use Rattle.bdb_undo.proofs.ChangeLemmas.{back_gives_the_base_before, forth_gives_the_base_after, changes_are_one}
+
+none_is_some : (u : Timeline) → None ≡ Some u → ⊥
+none_is_some u e = cc
+
+some_is : (t u : Timeline) → Some t ≡ Some u → t ≡ u
+some_is t u e = cc
+
+-- ---- the base held and the changes determine the bases
+
+here_by : (cs : List Change) (b : Contents) (before : List Contents) → LeadHere cs b before → before ≡ bases_before cs b
+here_by [] b [] l = refl
+here_by [] b (a ∷ before) l = absurd l
+here_by (c ∷ cs) b [] l = absurd l
+here_by (c ∷ cs) b (a ∷ before) l =
+    let e : a ≡ changed_back c b = sym (back_gives_the_base_before c a b l.0) in
+    ap (λ ws. a ∷ ws) (here_by cs a before l.1) ∙ ap (λ w. w ∷ bases_before cs w) e
+
+ahead_by : (cs : List Change) (b : Contents) (ahead : List Contents) → LeadAhead cs b ahead → ahead ≡ bases_ahead cs b
+ahead_by [] b [] l = refl
+ahead_by [] b (a ∷ ahead) l = absurd l
+ahead_by (c ∷ cs) b [] l = absurd l
+ahead_by (c ∷ cs) b (a ∷ ahead) l =
+    let e : a ≡ changed_forth c b = sym (forth_gives_the_base_after c b a l.0) in
+    ap (λ ws. a ∷ ws) (ahead_by cs a ahead l.1) ∙ ap (λ w. w ∷ bases_ahead cs w) e
+
+abbrev timeline : List Contents → Contents → List Contents → Timeline
+timeline before now ahead = record { before = before; now = now; ahead = ahead }
+
+pub bases_are_computed : BasesAreComputed
+bases_are_computed h t s =
+    ap (λ ws. timeline ws t.now t.ahead) (here_by h.undos t.now t.before s.undos)
+    ∙ ap (timeline (bases_before h.undos t.now) t.now) (ahead_by h.redos t.now t.ahead s.redos)
+
+-- ---- the bases determine the changes
+
+here_is_one : (cs ds : List Change) (b : Contents) (before : List Contents) → LeadHere cs b before → LeadHere ds b before → cs ≡ ds
+here_is_one [] [] b [] l m = refl
+here_is_one [] (d ∷ ds) b [] l m = absurd m
+here_is_one (c ∷ cs) ds b [] l m = absurd l
+here_is_one [] ds b (a ∷ before) l m = absurd l
+here_is_one (c ∷ cs) [] b (a ∷ before) l m = absurd m
+here_is_one (c ∷ cs) (d ∷ ds) b (a ∷ before) l m =
+    ap (λ x. x ∷ cs) (changes_are_one c d a b l.0 m.0) ∙ ap (λ xs. d ∷ xs) (here_is_one cs ds a before l.1 m.1)
+
+ahead_is_one : (cs ds : List Change) (b : Contents) (ahead : List Contents) → LeadAhead cs b ahead → LeadAhead ds b ahead → cs ≡ ds
+ahead_is_one [] [] b [] l m = refl
+ahead_is_one [] (d ∷ ds) b [] l m = absurd m
+ahead_is_one (c ∷ cs) ds b [] l m = absurd l
+ahead_is_one [] ds b (a ∷ ahead) l m = absurd l
+ahead_is_one (c ∷ cs) [] b (a ∷ ahead) l m = absurd m
+ahead_is_one (c ∷ cs) (d ∷ ds) b (a ∷ ahead) l m =
+    ap (λ x. x ∷ cs) (changes_are_one c d b a l.0 m.0) ∙ ap (λ xs. d ∷ xs) (ahead_is_one cs ds a ahead l.1 m.1)
+
+abbrev kept : List Change → List Change → Kept
+kept undos redos = record { undos = undos; redos = redos }
+
+pub changes_are_determined : ChangesAreDetermined
+changes_are_determined h k t s r =
+    ap (λ us. kept us h.redos) (here_is_one h.undos k.undos t.now t.before s.undos r.undos)
+    ∙ ap (kept k.undos) (ahead_is_one h.redos k.redos t.now t.ahead s.redos r.redos)
+
+-- ---- counts
+
+here_counted : (cs : List Change) (b : Contents) (before : List Contents) → LeadHere cs b before → length cs ≡ length before
+here_counted [] b [] l = refl
+here_counted [] b (a ∷ before) l = absurd l
+here_counted (c ∷ cs) b [] l = absurd l
+here_counted (c ∷ cs) b (a ∷ before) l = ap suc (here_counted cs a before l.1)
+
+ahead_counted : (cs : List Change) (b : Contents) (ahead : List Contents) → LeadAhead cs b ahead → length cs ≡ length ahead
+ahead_counted [] b [] l = refl
+ahead_counted [] b (a ∷ ahead) l = absurd l
+ahead_counted (c ∷ cs) b [] l = absurd l
+ahead_counted (c ∷ cs) b (a ∷ ahead) l = ap suc (ahead_counted cs a ahead l.1)
+
+pub changes_are_counted : ChangesAreCounted
+changes_are_counted h t s = (here_counted h.undos t.now t.before s.undos, ahead_counted h.redos t.now t.ahead s.redos)
+
+-- ---- what a note, a step back and a step forth keep
+
+pub nothing_kept_starts : NothingKeptStarts
+nothing_kept_starts b = record { undos = tt; redos = tt }
+
+take_here : (n : ℕ) (cs : List Change) (b : Contents) (before : List Contents) → LeadHere cs b before → LeadHere (take n cs) b (take n before)
+take_here zero cs b before l = tt
+take_here (suc n) [] b [] l = tt
+take_here (suc n) [] b (a ∷ before) l = absurd l
+take_here (suc n) (c ∷ cs) b [] l = absurd l
+take_here (suc n) (c ∷ cs) b (a ∷ before) l = (l.0, take_here n cs a before l.1)
+
+pub note_moves : NoteMoves
+note_moves h t c b s l = record { undos = take_here most_changes (c ∷ h.undos) b (t.now ∷ t.before) (l, s.undos); redos = tt }
+
+back_by : (us rs : List Change) (before : List Contents) (b : Contents) (ahead : List Contents) (u : Timeline)
+    → LeadHere us b before → LeadAhead rs b ahead → undone_by before b ahead ≡ Some u → StandsFor (gone_back (kept us rs)) u
+back_by us rs [] b ahead u l m e = absurd (none_is_some u e)
+back_by [] rs (a ∷ before) b ahead u l m e = absurd l
+back_by (c ∷ us) rs (a ∷ before) b ahead u l m e =
+    subst (StandsFor (kept us (c ∷ rs))) (some_is (timeline before a (b ∷ ahead)) u e) (record { undos = l.1; redos = (l.0, m) })
+
+pub back_undoes : BackUndoes
+back_undoes h t u s e = back_by h.undos h.redos t.before t.now t.ahead u s.undos s.redos e
+
+forth_by : (us rs : List Change) (before : List Contents) (b : Contents) (ahead : List Contents) (u : Timeline)
+    → LeadHere us b before → LeadAhead rs b ahead → redone_by before b ahead ≡ Some u → StandsFor (gone_forth (kept us rs)) u
+forth_by us rs before b [] u l m e = absurd (none_is_some u e)
+forth_by us [] before b (a ∷ ahead) u l m e = absurd m
+forth_by us (c ∷ rs) before b (a ∷ ahead) u l m e =
+    subst (StandsFor (kept (c ∷ us) rs)) (some_is (timeline (b ∷ before) a ahead) u e) (record { undos = (m.0, l); redos = m.1 })
+
+pub forth_redoes : ForthRedoes
+forth_redoes h t u s e = forth_by h.undos h.redos t.before t.now t.ahead u s.undos s.redos e

@@ -1,0 +1,70 @@
+-- Changes of a base: what each does, and from which base to which one it leads.
+use Rattle.std.specs.Prelude.{◌≡◌, ◌-◌, Bool, true, false, not, ◌||◌, nat_lt, List, [], ◌∷◌, length, take, filter}
+use Rattle.bdb_base.specs.declared.kinds.Catalog.{Catalog}
+use Rattle.bdb_base.specs.declared.kinds.Stmt.{Stmt}
+use Rattle.bdb_base.specs.Bases.{Contents, IsValid, stands, with_user, with_relation, without_statement}
+use Rattle.bdb_base.specs.Changes.{with_statements}
+use Rattle.bdb_undo.specs.declared.change.Change.{Change}
+use Rattle.bdb_undo.specs.declared.change.Named.{Named}
+use Rattle.bdb_undo.specs.declared.change.Named.TheVariants.{Nothing, UserAdded, RelationAdded}
+
+-- a list without its last item
+abbrev pub all_but_last : {X : Type 0} → List X → List X
+all_but_last xs = take (length xs - 1) xs
+
+-- the catalog after what a change named
+abbrev pub named_forth : Named → Catalog → Catalog
+named_forth Nothing c = c
+named_forth (UserAdded name) c = with_user c name
+named_forth (RelationAdded def) c = with_relation c def
+
+-- the catalog before what a change named
+abbrev pub named_back : Named → Catalog → Catalog
+named_back Nothing c = c
+named_back (UserAdded name) c = record c { users = all_but_last c.users }
+named_back (RelationAdded def) c = record c { rels = all_but_last c.rels }
+
+-- the statements without some of them
+abbrev pub without_statements : List Stmt → List Stmt → List Stmt
+without_statements stmts [] = stmts
+without_statements stmts (x ∷ xs) = without_statements (without_statement stmts x) xs
+
+-- the statements that do not stand among others
+abbrev pub missing_from : List Stmt → List Stmt → List Stmt
+missing_from others stmts = filter (λ x. not (stands others x)) stmts
+
+-- the base after a change: what went is gone, and what came stands
+abbrev pub changed_forth : Change → Contents → Contents
+changed_forth c b = record { catalog = named_forth c.named b.catalog; stmts = with_statements (without_statements b.stmts c.gone) c.come }
+
+-- the base before a change: what came is gone, and what went stands
+abbrev pub changed_back : Change → Contents → Contents
+changed_back c b = record { catalog = named_back c.named b.catalog; stmts = with_statements (without_statements b.stmts c.come) c.gone }
+
+-- A change leads from a valid base to a valid one: it tells how their catalogs differ, which statements of the first are
+-- not in the second, and which of the second are not in the first.
+pub record Leads (c : Change) (a b : Contents) : Type 0 where
+  pub before : IsValid a.catalog a.stmts
+  pub after : IsValid b.catalog b.stmts
+  pub forth : b.catalog ≡ named_forth c.named a.catalog
+  pub back : a.catalog ≡ named_back c.named b.catalog
+  pub gone : c.gone ≡ missing_from b.stmts a.stmts
+  pub come : c.come ≡ missing_from a.stmts b.stmts
+
+-- there is a base from which a change leads to this one
+abbrev pub LeadsTo : Change → Contents → Type 0
+LeadsTo c b = (a : Contents) × Leads c a b
+
+-- there is a base to which a change leads from this one
+abbrev pub LeadsFrom : Change → Contents → Type 0
+LeadsFrom c a = (b : Contents) × Leads c a b
+
+-- a change named something
+abbrev pub names_something : Named → Bool
+names_something Nothing = false
+names_something (UserAdded name) = true
+names_something (RelationAdded def) = true
+
+-- a change named something, or a statement went or came
+abbrev pub alters : Change → Bool
+alters c = names_something c.named || (nat_lt 0 (length c.gone) || nat_lt 0 (length c.come))

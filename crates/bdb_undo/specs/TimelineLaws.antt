@@ -1,0 +1,35 @@
+-- What holds of the changes that a history keeps and the bases for which they stand.
+use Rattle.std.specs.Prelude.{◌≡◌, length, Some}
+use Rattle.bdb_base.specs.Bases.{Contents}
+use Rattle.bdb_undo.specs.declared.change.Change.{Change}
+use Rattle.bdb_undo.specs.Changes.{Leads}
+use Rattle.bdb_undo.specs.Histories.{Kept, nothing_kept, noted, gone_back, gone_forth}
+use Rattle.bdb_undo.specs.Timelines.{Timeline, StandsFor, started, moved_to, undone, redone, timeline_of}
+
+-- the base held and the changes determine the bases before and ahead of it
+abbrev pub BasesAreComputed : Type 0
+BasesAreComputed = (h : Kept) (t : Timeline) → StandsFor h t → t ≡ timeline_of h t.now
+
+-- the bases determine the changes
+abbrev pub ChangesAreDetermined : Type 0
+ChangesAreDetermined = (h k : Kept) (t : Timeline) → StandsFor h t → StandsFor k t → h ≡ k
+
+-- there are as many changes to undo as bases before, and as many to redo as bases ahead
+abbrev pub ChangesAreCounted : Type 0
+ChangesAreCounted = (h : Kept) (t : Timeline) → StandsFor h t → (length h.undos ≡ length t.before) × (length h.redos ≡ length t.ahead)
+
+-- no changes stand for one base alone
+abbrev pub NothingKeptStarts : Type 0
+NothingKeptStarts = (b : Contents) → StandsFor nothing_kept (started b)
+
+-- a change that is noted stands for the move to the base to which it leads
+abbrev pub NoteMoves : Type 0
+NoteMoves = (h : Kept) (t : Timeline) (c : Change) (b : Contents) → StandsFor h t → Leads c t.now b → StandsFor (noted c h) (moved_to b t)
+
+-- going back stands for an undo
+abbrev pub BackUndoes : Type 0
+BackUndoes = (h : Kept) (t u : Timeline) → StandsFor h t → undone t ≡ Some u → StandsFor (gone_back h) u
+
+-- going forth stands for a redo
+abbrev pub ForthRedoes : Type 0
+ForthRedoes = (h : Kept) (t u : Timeline) → StandsFor h t → redone t ≡ Some u → StandsFor (gone_forth h) u

@@ -1,0 +1,68 @@
+-- The bases to which undo and redo lead, and the changes that stand for them.
+use Rattle.std.specs.Prelude.{List, [], ◌∷◌, take, Option, None, Some}
+use Rattle.bdb_base.specs.Bases.{Contents}
+use Rattle.bdb_undo.specs.declared.change.Change.{Change}
+use Rattle.bdb_undo.specs.Changes.{Leads, changed_forth, changed_back}
+use Rattle.bdb_undo.specs.Histories.{Kept}
+use Rattle.bdb_undo.specs.Limits.{most_changes}
+
+-- the base held, those to which undo leads, and those to which redo leads, the nearest first
+pub record Timeline : Type 0 where
+  pub before : List Contents
+  pub now : Contents
+  pub ahead : List Contents
+
+-- only one base
+abbrev pub started : Contents → Timeline
+started b = record { before = []; now = b; ahead = [] }
+
+-- after a change to a base: undo leads to the one held, the oldest past the limit is forgotten, and redo leads to none
+abbrev pub moved_to : Contents → Timeline → Timeline
+moved_to b t = record { before = take most_changes (t.now ∷ t.before); now = b; ahead = [] }
+
+-- after an undo, if there is a base before this one
+abbrev pub undone_by : List Contents → Contents → List Contents → Option Timeline
+undone_by [] b ahead = None
+undone_by (a ∷ before) b ahead = Some (record { before = before; now = a; ahead = b ∷ ahead })
+
+abbrev pub undone : Timeline → Option Timeline
+undone t = undone_by t.before t.now t.ahead
+
+-- after a redo, if there is a base ahead of this one
+abbrev pub redone_by : List Contents → Contents → List Contents → Option Timeline
+redone_by before b [] = None
+redone_by before b (a ∷ ahead) = Some (record { before = b ∷ before; now = a; ahead = ahead })
+
+abbrev pub redone : Timeline → Option Timeline
+redone t = redone_by t.before t.now t.ahead
+
+-- there is a change for each base before, and each leads from its base to the next, the first one to this base
+abbrev pub LeadHere : List Change → Contents → List Contents → Type 0
+LeadHere [] b [] = Unit {0}
+LeadHere (c ∷ cs) b (a ∷ before) = Leads c a b × LeadHere cs a before
+LeadHere _ _ _ = ⊥
+
+-- there is a change for each base ahead, and each leads to its base, the first one from this base
+abbrev pub LeadAhead : List Change → Contents → List Contents → Type 0
+LeadAhead [] b [] = Unit {0}
+LeadAhead (c ∷ cs) b (a ∷ ahead) = Leads c b a × LeadAhead cs a ahead
+LeadAhead _ _ _ = ⊥
+
+-- the changes that a history keeps stand for the bases to which undo and redo lead
+pub record StandsFor (h : Kept) (t : Timeline) : Type 0 where
+  pub undos : LeadHere h.undos t.now t.before
+  pub redos : LeadAhead h.redos t.now t.ahead
+
+-- the bases before this one, each by taking a change back
+abbrev pub bases_before : List Change → Contents → List Contents
+bases_before [] b = []
+bases_before (c ∷ cs) b = changed_back c b ∷ bases_before cs (changed_back c b)
+
+-- the bases ahead of this one, each by making a change again
+abbrev pub bases_ahead : List Change → Contents → List Contents
+bases_ahead [] b = []
+bases_ahead (c ∷ cs) b = changed_forth c b ∷ bases_ahead cs (changed_forth c b)
+
+-- the bases that follow from the one held and the changes kept
+abbrev pub timeline_of : Kept → Contents → Timeline
+timeline_of h b = record { before = bases_before h.undos b; now = b; ahead = bases_ahead h.redos b }

@@ -1,0 +1,22 @@
+//! Changes of a base that can be taken back and made again, by the statements that went and came and not by copies of the
+//! base; and the history that keeps the last of them.
+#![tactic(auto)]
+
+mod change;
+mod history;
+mod laws;
+mod limits;
+mod steps;
+#[cfg(test)]
+mod tests;
+
+pub use change::{Change, Named, missing_from};
+pub use history::History;
+pub use laws::{
+    back_gives_the_base_before, back_undoes, bases_are_computed, changes_are_counted,
+    changes_are_determined, changes_are_one, fewer_are_valid, forth_gives_the_base_after,
+    forth_redoes, note_moves, nothing_is_altered, nothing_kept_starts, put_leads, relation_leads,
+    same_base_alters_nothing, statements_lead, takes_lead, update_leads, user_leads,
+};
+pub use limits::{MOST_CHANGES, limits_agree};
+pub use steps::{change_back, change_forth};

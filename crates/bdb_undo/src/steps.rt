@@ -1,0 +1,85 @@
+//! A change taken back, and made again.
+ghost use Rattle.std.specs.Prelude.{◌≡◌, true, OnOk};
+ghost use Rattle.bdb_base.specs.Bases.{IsValid};
+ghost use Rattle.bdb_base.specs.Changes.{with_statements};
+ghost use Rattle.bdb_base.specs.Order.{statement_cmp};
+ghost use Rattle.bdb_base.specs.SortedSet.{ascending};
+ghost use Rattle.bdb_undo.specs.Changes.{Leads, LeadsTo, LeadsFrom, changed_back, changed_forth, named_back, named_forth, without_statements};
+
+use crate::change::{Change, Named};
+use bdb_base::{Base, Exact, Stmt};
+use std::alloc::{AllocError, Global};
+
+/// Takes a change back: the base becomes the one from which the change led to it. The statements that came are taken away
+/// first, then the name that was added, and then the statements that went are put back; so each base between is valid.
+/// The only error is want of memory, after which the base may be any of these.
+pub fn change_back(alloc: Global, base: &mut Base, change: &Change) -> Result<(), AllocError>
+    requires { LeadsTo change.now base.old }
+    ensures ok { OnOk result (base.new ≡ changed_back change.now base.old) }
+    ensures leads { OnOk result (Leads change.now base.new base.old) }
+{
+    take_each(base, change.come.as_slice());
+    name_back(base, &change.named);
+    put_each(alloc, base, change.gone.as_slice())?;
+    Ok(())
+}
+
+/// Makes a change again: the base becomes the one to which the change leads. The statements that go are taken away first,
+/// then the name is added, and then the statements that come are put in; so each base between is valid. The only error is
+/// want of memory, after which the base may be any of these.
+pub fn change_forth(alloc: Global, base: &mut Base, change: &Change) -> Result<(), AllocError>
+    requires { LeadsFrom change.now base.old }
+    ensures ok { OnOk result (base.new ≡ changed_forth change.now base.old) }
+    ensures leads { OnOk result (Leads change.now base.old base.new) }
+{
+    take_each(base, change.gone.as_slice());
+    name_forth(alloc, base, &change.named)?;
+    put_each(alloc, base, change.come.as_slice())?;
+    Ok(())
+}
+
+/// Takes statements away.
+fn take_each(base: &mut Base, stmts: &[Stmt])
+    ensures { base.new ≡ record base.old { stmts = without_statements base.old.stmts stmts.now } }
+{
+    for stmt in stmts {
+        base.take(stmt);
+    }
+}
+
+/// Lets statements stand.
+fn put_each(alloc: Global, base: &mut Base, stmts: &[Stmt]) -> Result<(), AllocError>
+    requires sorted { ascending statement_cmp base.old.stmts ≡ true }
+    requires valid { IsValid base.old.catalog (with_statements base.old.stmts stmts.now) }
+    ensures { OnOk result (base.new ≡ record base.old { stmts = with_statements base.old.stmts stmts.now }) }
+{
+    for stmt in stmts {
+        base.put(stmt.try_clone(alloc)?)?;
+    }
+    Ok(())
+}
+
+/// Takes away the user or the relation that a change added last.
+fn name_back(base: &mut Base, named: &Named)
+    requires last { base.old.catalog ≡ named_forth named.now (named_back named.now base.old.catalog) }
+    requires valid { IsValid (named_back named.now base.old.catalog) base.old.stmts }
+    ensures { base.new ≡ record base.old { catalog = named_back named.now base.old.catalog } }
+{
+    match named {
+        Named::Nothing => {}
+        Named::UserAdded { name: _ } => base.pop_user(),
+        Named::RelationAdded { def: _ } => base.pop_relation(),
+    }
+}
+
+/// Adds the user or the relation that a change added.
+fn name_forth(alloc: Global, base: &mut Base, named: &Named) -> Result<(), AllocError>
+    requires { IsValid (named_forth named.now base.old.catalog) base.old.stmts }
+    ensures { OnOk result (base.new ≡ record base.old { catalog = named_forth named.now base.old.catalog }) }
+{
+    match named {
+        Named::Nothing => Ok(()),
+        Named::UserAdded { name } => base.add_user(name.try_clone(alloc)?),
+        Named::RelationAdded { def } => base.add_relation(def.try_clone(alloc)?),
+    }
+}
