@@ -1,13 +1,13 @@
 -- The changes that a history keeps stand for the bases to which undo and redo lead.
-use Rattle.std.proofs.Common.{◌≡◌, ◌∙◌, ℕ, List, [], ◌∷◌, refl, ap, sym, subst, length, take, suc, Some, None}
+use Rattle.std.proofs.Common.{◌≡◌, ◌∙◌, ℕ, List, [], ◌∷◌, refl, ap, sym, subst, length, take, suc, Some, None, slice_get}
 use Prim.Native.Nat.{zero}
 use Rattle.bdb_base.specs.Bases.{Contents}
 use Rattle.bdb_undo.specs.declared.change.Change.{Change}
-use Rattle.bdb_undo.specs.Changes.{changed_forth, changed_back}
+use Rattle.bdb_undo.specs.Changes.{Leads, changed_forth, changed_back}
 use Rattle.bdb_undo.specs.Histories.{Kept, gone_back, gone_forth}
 use Rattle.bdb_undo.specs.Limits.{most_changes}
 use Rattle.bdb_undo.specs.Timelines.{Timeline, LeadHere, LeadAhead, StandsFor, undone_by, redone_by, bases_before, bases_ahead}
-use Rattle.bdb_undo.specs.TimelineLaws.{BasesAreComputed, ChangesAreDetermined, ChangesAreCounted, NothingKeptStarts, NoteMoves, BackUndoes, ForthRedoes}
+use Rattle.bdb_undo.specs.TimelineLaws.{BasesAreComputed, ChangesAreDetermined, ChangesAreCounted, NothingKeptStarts, NoteMoves, BackUndoes, ForthRedoes, LastLeadsHere, ComingLeadsAhead, NoneIsUndone, NoneIsRedone}
 use Rattle.bdb_undo.proofs.ChangeLemmas.{back_gives_the_base_before, forth_gives_the_base_after, changes_are_one}
 
 none_is_some : (u : Timeline) → None ≡ Some u → ⊥
@@ -121,3 +121,50 @@ forth_by us (c ∷ rs) before b (a ∷ ahead) u l m e =
 
 pub forth_redoes : ForthRedoes
 forth_redoes h t u s e = forth_by h.undos h.redos t.before t.now t.ahead u s.undos s.redos e
+
+-- ---- where the nearest changes lead
+
+no_change_there : (c : Change) → None ≡ Some c → ⊥
+no_change_there c e = cc
+
+some_change_there : (c : Change) → Some c ≡ None → ⊥
+some_change_there c e = cc
+
+change_there : (c d : Change) → Some c ≡ Some d → c ≡ d
+change_there c d e = cc
+
+last_by : (us : List Change) (before : List Contents) (b : Contents) (ahead : List Contents) (c : Change) → LeadHere us b before → slice_get us 0 ≡ Some c
+    → (u : Timeline) × (undone_by before b ahead ≡ Some u) × Leads c u.now b
+last_by [] before b ahead c l e = absurd (no_change_there c e)
+last_by (d ∷ us) [] b ahead c l e = absurd l
+last_by (d ∷ us) (a ∷ before) b ahead c l e = (timeline before a (b ∷ ahead), refl, subst (λ (k : Change). Leads k a b) (change_there d c e) l.0)
+
+pub last_leads_here : LastLeadsHere
+last_leads_here h t c s e = last_by h.undos t.before t.now t.ahead c s.undos e
+
+coming_by : (rs : List Change) (before : List Contents) (b : Contents) (ahead : List Contents) (c : Change) → LeadAhead rs b ahead → slice_get rs 0 ≡ Some c
+    → (u : Timeline) × (redone_by before b ahead ≡ Some u) × Leads c b u.now
+coming_by [] before b ahead c l e = absurd (no_change_there c e)
+coming_by (d ∷ rs) before b [] c l e = absurd l
+coming_by (d ∷ rs) before b (a ∷ ahead) c l e = (timeline (b ∷ before) a ahead, refl, subst (λ (k : Change). Leads k b a) (change_there d c e) l.0)
+
+pub coming_leads_ahead : ComingLeadsAhead
+coming_leads_ahead h t c s e = coming_by h.redos t.before t.now t.ahead c s.redos e
+
+none_undone_by : (us : List Change) (before : List Contents) (b : Contents) (ahead : List Contents) → LeadHere us b before → slice_get us 0 ≡ None
+    → undone_by before b ahead ≡ None
+none_undone_by us [] b ahead l e = refl
+none_undone_by [] (a ∷ before) b ahead l e = absurd l
+none_undone_by (c ∷ us) (a ∷ before) b ahead l e = absurd (some_change_there c e)
+
+pub none_is_undone : NoneIsUndone
+none_is_undone h t s e = none_undone_by h.undos t.before t.now t.ahead s.undos e
+
+none_redone_by : (rs : List Change) (before : List Contents) (b : Contents) (ahead : List Contents) → LeadAhead rs b ahead → slice_get rs 0 ≡ None
+    → redone_by before b ahead ≡ None
+none_redone_by rs before b [] l e = refl
+none_redone_by [] before b (a ∷ ahead) l e = absurd l
+none_redone_by (c ∷ rs) before b (a ∷ ahead) l e = absurd (some_change_there c e)
+
+pub none_is_redone : NoneIsRedone
+none_is_redone h t s e = none_redone_by h.redos t.before t.now t.ahead s.redos e

@@ -1,5 +1,5 @@
 -- What holds of the changes that a history keeps and the bases for which they stand.
-use Rattle.std.specs.Prelude.{◌≡◌, length, Some}
+use Rattle.std.specs.Prelude.{◌≡◌, length, slice_get, Some, None}
 use Rattle.bdb_base.specs.Bases.{Contents}
 use Rattle.bdb_undo.specs.declared.change.Change.{Change}
 use Rattle.bdb_undo.specs.Changes.{Leads}
@@ -33,3 +33,21 @@ BackUndoes = (h : Kept) (t u : Timeline) → StandsFor h t → undone t ≡ Some
 -- going forth stands for a redo
 abbrev pub ForthRedoes : Type 0
 ForthRedoes = (h : Kept) (t u : Timeline) → StandsFor h t → redone t ≡ Some u → StandsFor (gone_forth h) u
+
+-- the first change to undo leads to this base from the one to which undo leads
+abbrev pub LastLeadsHere : Type 0
+LastLeadsHere = (h : Kept) (t : Timeline) (c : Change) → StandsFor h t → slice_get h.undos 0 ≡ Some c
+    → (u : Timeline) × (undone t ≡ Some u) × Leads c u.now t.now
+
+-- the first change to redo leads from this base to the one to which redo leads
+abbrev pub ComingLeadsAhead : Type 0
+ComingLeadsAhead = (h : Kept) (t : Timeline) (c : Change) → StandsFor h t → slice_get h.redos 0 ≡ Some c
+    → (u : Timeline) × (redone t ≡ Some u) × Leads c t.now u.now
+
+-- where there is no change to undo, undo leads nowhere
+abbrev pub NoneIsUndone : Type 0
+NoneIsUndone = (h : Kept) (t : Timeline) → StandsFor h t → slice_get h.undos 0 ≡ None → undone t ≡ None
+
+-- where there is no change to redo, redo leads nowhere
+abbrev pub NoneIsRedone : Type 0
+NoneIsRedone = (h : Kept) (t : Timeline) → StandsFor h t → slice_get h.redos 0 ≡ None → redone t ≡ None

@@ -1,6 +1,6 @@
 //! What holds of changes and histories, each law as the contract of a function that does nothing.
 ghost use Rattle.bdb_undo.specs.ChangeLaws.{BackGivesTheBaseBefore, ForthGivesTheBaseAfter, ChangesAreOne, NothingIsAltered, SameBaseAltersNothing, FewerAreValid, StatementsLead, PutLeads, TakesLead, UpdateLeads, UserLeads, RelationLeads};
-ghost use Rattle.bdb_undo.specs.TimelineLaws.{BasesAreComputed, ChangesAreDetermined, ChangesAreCounted, NothingKeptStarts, NoteMoves, BackUndoes, ForthRedoes};
+ghost use Rattle.bdb_undo.specs.TimelineLaws.{BasesAreComputed, ChangesAreDetermined, ChangesAreCounted, NothingKeptStarts, NoteMoves, BackUndoes, ForthRedoes, LastLeadsHere, ComingLeadsAhead, NoneIsUndone, NoneIsRedone};
 
 /// Taking a change back gives the base from which it led.
 #[tactic(auto, using(crate::proofs::ChangeLemmas::back_gives_the_base_before))]
@@ -114,4 +114,26 @@ pub fn back_undoes()
 #[tactic(auto, using(crate::proofs::TimelineLemmas::forth_redoes))]
 pub fn forth_redoes()
     ensures { ForthRedoes }
+{}
+
+/// The change that an undo takes back leads to the base held, from the one to which undo leads.
+pub fn last_leads_here()
+    ensures { LastLeadsHere }
+{}
+
+/// The change that a redo makes again leads from the base held, to the one to which redo leads.
+pub fn coming_leads_ahead()
+    ensures { ComingLeadsAhead }
+{}
+
+/// Where there is no change to undo, undo leads nowhere.
+#[tactic(auto, using(crate::proofs::TimelineLemmas::none_is_undone))]
+pub fn none_is_undone()
+    ensures { NoneIsUndone }
+{}
+
+/// Where there is no change to redo, redo leads nowhere.
+#[tactic(auto, using(crate::proofs::TimelineLemmas::none_is_redone))]
+pub fn none_is_redone()
+    ensures { NoneIsRedone }
 {}
