@@ -1,5 +1,6 @@
 pub mod ActLemmas
 pub mod BlockLemmas
+pub mod CountLemmas
 pub mod LawLemmas
 pub mod RunLemmas
 pub mod StreamLemmas

@@ -1,11 +1,11 @@
 -- What a stream of sessions comes to, in the words of its replies and batches. Each law is the contract of a function of `laws`.
 use Rattle.std.specs.Prelude.{◌≡◌, ℕ, ◌+◌, List, [], ◌∷◌}
 use Rattle.std.specs.List.{concat}
-use Rattle.bdb_many.specs.Many.{Batches, many_replies, many_last, events_of}
-use Rattle.bdb_multi.specs.Batches.{Ran, ran_from}
-use Rattle.bdb_multi.specs.Sessions.{acts_of}
+use Rattle.bdb_many.specs.Many.{Batches, many_replies, many_last}
+use Rattle.bdb_multi.specs.Batches.{Ran}
 use Rattle.bdb_session.specs.Outcome.{State}
-use Rattle.bdb_crowd.specs.Asked.{after, asked_of, committed, replies, start_at}
+use Rattle.bdb_crowd.specs.Asked.{Asked, Point, after, asked_of, committed, replies, start_at, IsFrontOf}
+use Rattle.bdb_crowd.specs.Counted.{after_first, batches_of, before_commit, up_to_commit}
 use Rattle.bdb_crowd.specs.Due.{commits_of, session_batches}
 
 -- how many of these batches are committed, where they are run one after the other
@@ -18,7 +18,21 @@ committed_of m s (b ∷ batches) = commits_of m s b.commands + committed_of m (m
 pub record ComesTo (s : State) (script : List ℕ) : Type 0 where
   pub told : replies (start_at s) (asked_of script) ≡ concat (many_replies session_batches s script)
   pub leads : (after (start_at s) (asked_of script)).state ≡ many_last session_batches s script
-  pub commits : committed (start_at s) (asked_of script) ≡ committed_of session_batches s (ran_from 0 (events_of script) (acts_of (events_of script)))
+  pub commits : committed (start_at s) (asked_of script) ≡ committed_of session_batches s (batches_of script)
 
 abbrev pub StreamsComeTo : Type 0
 StreamsComeTo = (s : State) (script : List ℕ) → ComesTo s script
+
+-- Where the first of what is asked for is done and has committed k times, the state is the one after what comes before the batch that is
+-- number k + 1 of those committed; what is done has number k in it, and goes no further than up to the next.
+pub record IsToldByCommits (p : Point) (asked done : List Asked) (k : ℕ) : Type 0 where
+  pub state : (after p done).state ≡ (after p (before_commit k p asked)).state
+  pub all_of : IsFrontOf (up_to_commit k p asked) done
+  pub no_more : IsFrontOf done (before_commit k p asked)
+
+abbrev pub CommitsTellTheState : Type 0
+CommitsTellTheState = (p : Point) (asked done : List Asked) → IsFrontOf done asked → IsToldByCommits p asked done (committed p done)
+
+-- what comes before the batch that is number k + 1 of those committed leads where the first k of them lead, run one after the other
+abbrev pub FirstBatchesLead : Type 0
+FirstBatchesLead = (k : ℕ) (s : State) (script : List ℕ) → (after (start_at s) (before_commit k (start_at s) (asked_of script))).state ≡ after_first k s script

@@ -11,5 +11,5 @@ mod tests;
 mod write;
 
 pub use crowd::Crowd;
-pub use laws::streams_come_to;
+pub use laws::{commits_tell_the_state, first_batches_lead, streams_come_to};
 pub use stream::carry_out_stream;

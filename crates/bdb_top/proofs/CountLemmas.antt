@@ -130,14 +130,14 @@ count_tells_the_state b events done is = subst (λ (l : List Event). IsToldByCou
 replies_begin : (b : State) (xs ys : List Event) → IsFrontOf xs ys → BeginsWith (replies b ys) (replies b xs)
 replies_begin b xs ys h = (replies (after b xs) h.0, ap (replies b) h.1 ∙ replies-append b xs h.0)
 
-begins_on : (x y z : List ℕ) → BeginsWith x y → BeginsWith y z → BeginsWith x z
+pub begins_on : (x y z : List ℕ) → BeginsWith x y → BeginsWith y z → BeginsWith x z
 begins_on x y z h k = (k.0 ++ h.0, h.1 ∙ ap (λ l. l ++ h.0) k.1 ∙ append_assoc z k.0 h.0)
 
-begins_more : (x y z : List ℕ) → BeginsWith x z → BeginsWith (x ++ y) z
+pub begins_more : (x y z : List ℕ) → BeginsWith x z → BeginsWith (x ++ y) z
 begins_more x y z h = (h.0 ++ y, ap (λ l. l ++ y) h.1 ∙ append_assoc z h.0 y)
 
 -- a part of the last reply is of the first bytes of all
-part_begins : (x y : List ℕ) (n : ℕ) → BeginsWith (x ++ y) (x ++ take n y)
+pub part_begins : (x y : List ℕ) (n : ℕ) → BeginsWith (x ++ y) (x ++ take n y)
 part_begins x y n = (drop n y, ap (λ l. x ++ l) (sym (take-append-drop n y)) ∙ sym (append_assoc x (take n y) (drop n y)))
 
 before_whole : (b : State) (events done : List Event) → IsFrontOf done events → counted b done ≢ 0 → IsFrontOf (before_count (counted b done - 1) b events) done
@@ -158,10 +158,10 @@ append_nil (x ∷ xs) = ap (λ l. x ∷ l) (append_nil xs)
 replies-push : (b : State) (xs : List Event) (e : Event) → replies b (xs ++ e ∷ []) ≡ replies b xs ++ reply_of (after b xs) e
 replies-push b xs e = replies-append b xs (e ∷ []) ∙ ap (λ l. replies b xs ++ l) (append_nil (reply_of (after b xs) e))
 
-is_four : (n : ℕ) → nat_eq n 4 ≡ true → n ≡ 4
+pub is_four : (n : ℕ) → nat_eq n 4 ≡ true → n ≡ 4
 is_four n h = grind (arith, h)
 
-not_four : (n : ℕ) → nat_eq n 4 ≡ false → n ≢ 4
+pub not_four : (n : ℕ) → nat_eq n 4 ≡ false → n ≢ 4
 not_four n h e = grind (arith, h, e)
 
 -- the run by the events that are done

@@ -1,3 +1,4 @@
+pub mod CommitLemmas
 pub mod CountLemmas
 pub mod RanLemmas
 pub mod EmptyLemmas

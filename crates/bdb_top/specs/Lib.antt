@@ -1,3 +1,4 @@
+pub mod ByCommits
 pub mod ByCount
 pub mod Checked
 pub mod Counted

@@ -8,6 +8,7 @@ mod limits;
 mod queries;
 mod reading;
 mod replies;
+mod sessions;
 
 use crate::run;
 use bdb_base::{List, Txt};

@@ -6,6 +6,7 @@ ghost use Rattle.bdb_base.specs.Limits.{longest_script};
 ghost use Rattle.bdb_catalog.specs.Opening.{StandForSome};
 ghost use Rattle.bdb_keep.specs.Seen.{IsStill, NeverFall};
 ghost use Rattle.bdb_session.specs.Outcome.{start_from};
+ghost use Rattle.bdb_top.specs.ByCommits.{CommitsTellMany};
 ghost use Rattle.bdb_top.specs.ByCount.{CommitsTell};
 ghost use Rattle.bdb_top.specs.Checked.{IsChecked, IsUntouched};
 ghost use Rattle.bdb_top.specs.Ran.{EachBase, Ran, StandsForNone};
@@ -70,6 +71,8 @@ pub fn run<S: Source, O: Sink, K: Keeper>(
         RanMany (start_from b) text (S.left script.new) (K.seen keeper.old) (K.seen keeper.new) (O.written out.old) (O.written out.new) result)) }
     ensures by_count { run_job words.now ≢ None → IfSome (S.left script.old) (λ text. EachBase (K.seen keeper.old).kept (λ b.
         CommitsTell (start_from b) text (K.seen keeper.old) (K.seen keeper.new) (O.written out.old) (O.written out.new) result)) }
+    ensures by_commits { many_job words.now ≢ None → IfSome (S.left script.old) (λ text. EachBase (K.seen keeper.old).kept (λ b.
+        CommitsTellMany (start_from b) text (K.seen keeper.old) (K.seen keeper.new) (O.written out.old) (O.written out.new) result)) }
     ensures refused { run_job words.now ≢ None → result ≡ 7 → StandsForNone (K.seen keeper.old).kept }
     ensures refused_many { many_job words.now ≢ None → result ≡ 7 → StandsForNone (K.seen keeper.old).kept }
     ensures none { run_job words.now ≢ None → StandsForNone (K.seen keeper.old).kept → (result ≡ 5) ⊎ (result ≡ 6) ⊎ (result ≡ 7) }

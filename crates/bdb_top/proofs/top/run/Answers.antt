@@ -1,3 +1,4 @@
+use Rattle.bdb_top.proofs.CommitLemmas.{each_by_commits}
 use Rattle.bdb_top.proofs.CountLemmas.{each_by_count}
 use Rattle.bdb_top.proofs.RanLemmas.{finishes_by}
 use Rattle.bdb_top.proofs.WordLemmas.{many_alone, runs_alone, streams_alone}
@@ -16,6 +17,9 @@ returns-in-Some-clause-checked g c = λ asked. absurd (asked (runs_alone c.args.
 
 pub returns-in-Some-clause-headline_many : goal.returns-in-Some-clause-headline_many
 returns-in-Some-clause-headline_many g c = λ asked. absurd (asked (many_alone c.args.words.now _ c.in-Some.ensures))
+
+pub returns-in-Some-clause-by_commits : goal.returns-in-Some-clause-by_commits
+returns-in-Some-clause-by_commits g c = λ asked. absurd (asked (many_alone c.args.words.now _ c.in-Some.ensures))
 
 pub returns-in-Some-clause-refused_many : goal.returns-in-Some-clause-refused_many
 returns-in-Some-clause-refused_many g c = λ asked. absurd (asked (many_alone c.args.words.now _ c.in-Some.ensures))
@@ -40,6 +44,9 @@ returns-in-Some-clause-finishes_many g c = λ text asked. absurd (asked (many_al
 
 pub returns-in-Some-many_files-clause-checked : goal.returns-in-Some-many_files-clause-checked
 returns-in-Some-many_files-clause-checked g c = λ asked. absurd (asked (streams_alone c.args.words.now _ c.in-Some-many_files.ensures))
+
+pub returns-in-Some-many_files-clause-by_commits : goal.returns-in-Some-many_files-clause-by_commits
+returns-in-Some-many_files-clause-by_commits g c = λ _. each_by_commits _ _ _ _ _ _ _ c.run_stream.ensures.ran
 
 pub returns-in-Some-many_files-clause-finishes_many : goal.returns-in-Some-many_files-clause-finishes_many
 returns-in-Some-many_files-clause-finishes_many g c = λ text asked stand told short source sink keeper.
