@@ -21,6 +21,18 @@ use Rattle.bdb_undo.proofs.StatementLemmas as statements
 abbrev contents : Catalog → List Stmt → Contents
 contents c stmts = record { catalog = c; stmts = stmts }
 
+all_but_last_push : {X : Type 0} (xs : List X) (x : X) → all_but_last (xs ++ x ∷ []) ≡ xs
+all_but_last_push xs x = let e = length_push xs x in take_at xs (x ∷ []) (length (xs ++ x ∷ []) - 1) (omega arith)
+
+-- the catalog before what was named is that to which the name was added
+name_left : (n : Named) (k : Catalog) → named_back n (named_forth n k) ≡ k
+name_left Nothing k = refl
+name_left (UserAdded name) k = ap (λ us. record k { users = us }) (all_but_last_push k.users name)
+name_left (RelationAdded def) k = ap (λ rs. record k { rels = rs }) (all_but_last_push k.rels def)
+
+catalog_before : (c : Change) (a b : Contents) → Leads c a b → named_back c.named b.catalog ≡ a.catalog
+catalog_before c a b l = ap (named_back c.named) l.forth ∙ name_left c.named a.catalog
+
 -- statements that are exchanged, with what goes and comes by other names
 exchanged_by : (stmts next gone come : List Stmt) → ascending statement_cmp stmts ≡ true → ascending statement_cmp next ≡ true
     → gone ≡ missing_from next stmts → come ≡ missing_from stmts next → with_statements (without_statements stmts gone) come ≡ next
@@ -29,7 +41,7 @@ exchanged_by stmts next gone come h g e f = ap (λ xs. with_statements (without_
 
 pub back_gives_the_base_before : BackGivesTheBaseBefore
 back_gives_the_base_before c a b l =
-    ap (λ k. contents k (with_statements (without_statements b.stmts c.come) c.gone)) (sym l.back)
+    ap (λ k. contents k (with_statements (without_statements b.stmts c.come) c.gone)) (catalog_before c a b l)
     ∙ ap (contents a.catalog) (exchanged_by b.stmts a.stmts c.come c.gone l.after.stmts.sorted l.before.stmts.sorted l.come l.gone)
 
 pub forth_gives_the_base_after : ForthGivesTheBaseAfter
@@ -83,21 +95,17 @@ or_true : (a : Bool) → (a || true) ≡ true
 or_true true = refl
 or_true false = refl
 
-all_but_last_push : {X : Type 0} (xs : List X) (x : X) → all_but_last (xs ++ x ∷ []) ≡ xs
-all_but_last_push xs x = let e = length_push xs x in take_at xs (x ∷ []) (length (xs ++ x ∷ []) - 1) (omega arith)
-
 none_missing : (stmts : List Stmt) → missing_from stmts stmts ≡ []
 none_missing stmts = statements.nothing_missing stmts stmts (λ z k. k)
 
 pub statements_lead : StatementsLead
-statements_lead c stmts next v w = record { before = v; after = w; forth = refl; back = refl; gone = refl; come = refl }
+statements_lead c stmts next v w = record { before = v; after = w; forth = refl; gone = refl; come = refl }
 
 pub put_leads : PutLeads
 put_leads c stmts s v w fresh = record {
   before = v;
   after = w;
   forth = refl;
-  back = refl;
   gone = sym (statements.nothing_missing (with_statement stmts s) stmts
       (λ z k. put_adds_member statement_exact stmts s z ∙ ap (λ b. is_eq (statement_cmp s z) || b) k ∙ or_true (is_eq (statement_cmp s z))));
   come = sym (statements.put_is_missing stmts s v.stmts.sorted fresh);
@@ -111,7 +119,6 @@ takes_lead c stmts q v =
       before = v;
       after = fewer_are_valid c stmts left v (filter_keeps_order statement_exact (λ x. not (q x)) stmts v.stmts.sorted) among;
       forth = refl;
-      back = refl;
       gone = sym (statements.taken_are_missing q stmts v.stmts.sorted);
       come = sym (statements.nothing_missing stmts left among);
     }
@@ -121,7 +128,6 @@ update_leads c stmts made q v w = record {
   before = v;
   after = w;
   forth = refl;
-  back = refl;
   gone = sym (statements.replaced_are_missing q stmts made v.stmts.sorted);
   come = sym (statements.made_are_missing q stmts made v.stmts.sorted);
 }
@@ -131,7 +137,6 @@ user_leads c stmts name v w = record {
   before = v;
   after = w;
   forth = refl;
-  back = ap (λ us. record c { users = us }) (sym (all_but_last_push c.users name));
   gone = sym (none_missing stmts);
   come = sym (none_missing stmts);
 }
@@ -141,7 +146,6 @@ relation_leads c stmts def v w = record {
   before = v;
   after = w;
   forth = refl;
-  back = ap (λ rs. record c { rels = rs }) (sym (all_but_last_push c.rels def));
   gone = sym (none_missing stmts);
   come = sym (none_missing stmts);
 }
@@ -179,6 +183,13 @@ same_base_alters_nothing c b l =
 
 -- ---- the bases between, back
 
+-- the name is the last one of the base held
+pub back_last : (c : Change) (a b mid : Contents) (stmts : List Stmt) → Leads c a b → mid ≡ contents b.catalog stmts
+    → mid.catalog ≡ named_forth c.named (named_back c.named mid.catalog)
+back_last c a b mid stmts l e =
+    let held : mid.catalog ≡ b.catalog = ap (λ (m : Contents). m.catalog) e in
+    held ∙ l.forth ∙ ap (named_forth c.named) (sym (catalog_before c a b l)) ∙ ap (λ k. named_forth c.named (named_back c.named k)) (sym held)
+
 -- once what came is taken away
 pub back_taken : (c : Change) (a b mid : Contents) (come : List Stmt) → Leads c a b → come ≡ c.come → mid ≡ contents b.catalog (without_statements b.stmts come)
     → IsValid (named_back c.named mid.catalog) mid.stmts
@@ -187,7 +198,7 @@ back_taken c a b mid come l e f =
     let same : mid ≡ contents b.catalog (without_statements b.stmts (missing_from a.stmts b.stmts))
     = f ∙ ap (λ xs. contents b.catalog (without_statements b.stmts xs)) (e ∙ l.come) in
     subst (λ (m : Contents). IsValid (named_back c.named m.catalog) m.stmts) (sym same)
-    (subst (λ (k : Catalog). IsValid k (without_statements b.stmts (missing_from a.stmts b.stmts))) l.back valid)
+    (subst (λ (k : Catalog). IsValid k (without_statements b.stmts (missing_from a.stmts b.stmts))) (sym (catalog_before c a b l)) valid)
 
 -- once the name is taken away too
 pub back_named : (c : Change) (b mid next : Contents) (come : List Stmt) → come ≡ c.come → mid ≡ contents b.catalog (without_statements b.stmts come)
@@ -206,8 +217,8 @@ back_valid c a b next gone l e f =
     (subst (λ (xs : List Stmt). IsValid (named_back c.named b.catalog) (with_statements (without_statements b.stmts c.come) xs)) (sym e)
     (subst (λ (m : Contents). IsValid m.catalog m.stmts) (sym (back_gives_the_base_before c a b l)) l.before))
 
-pub back_leads : (c : Change) (a b next : Contents) → Leads c a b → next ≡ changed_back c b → Leads c next b
-back_leads c a b next l e = subst (λ (m : Contents). Leads c m b) (sym (e ∙ back_gives_the_base_before c a b l)) l
+pub back_is : (c : Change) (a b next : Contents) → Leads c a b → next ≡ changed_back c b → next ≡ a
+back_is c a b next l e = e ∙ back_gives_the_base_before c a b l
 
 -- ---- the bases between, forth
 
@@ -238,5 +249,5 @@ forth_valid c a b next come l e f =
     (subst (λ (xs : List Stmt). IsValid (named_forth c.named a.catalog) (with_statements (without_statements a.stmts c.gone) xs)) (sym e)
     (subst (λ (m : Contents). IsValid m.catalog m.stmts) (sym (forth_gives_the_base_after c a b l)) l.after))
 
-pub forth_leads : (c : Change) (a b next : Contents) → Leads c a b → next ≡ changed_forth c a → Leads c a next
-forth_leads c a b next l e = subst (Leads c a) (sym (e ∙ forth_gives_the_base_after c a b l)) l
+pub forth_is : (c : Change) (a b next : Contents) → Leads c a b → next ≡ changed_forth c a → next ≡ b
+forth_is c a b next l e = e ∙ forth_gives_the_base_after c a b l

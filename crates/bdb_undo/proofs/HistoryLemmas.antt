@@ -4,7 +4,7 @@ use Rattle.std.proofs.lemmas.Bool.{cases_Bool, leb-true, leb-false}
 use Rattle.std.proofs.lemmas.List.{take_more, drop_more, take_all, take_at, take-append-drop, reverse-append, length-reverse, length-drop, length-take-le, drop_all}
 use Rattle.circular_buffer.specs.Buffer.{keep_last}
 use Rattle.bdb_undo.specs.declared.change.Change.{Change}
-use Rattle.bdb_undo.specs.Histories.{Kept, noted, gone_back, gone_forth}
+use Rattle.bdb_undo.specs.Histories.{Kept, noted, stepped_back, stepped_forth}
 use Rattle.bdb_undo.specs.Limits.{most_changes}
 
 -- the last n items, turned, are the first n of all, turned
@@ -40,23 +40,23 @@ undone_at : (changes : List Change) (done : ℕ) (c : Change) → done < length 
     → kept_of changes done ≡ kept (reverse (take done changes)) (get_or changes done c ∷ drop (done + 1) changes)
 undone_at changes done c h = ap (kept (reverse (take done changes))) (drop_more changes done c h)
 
-step_back : (changes : List Change) (done : ℕ) → done < length changes → kept_of changes done ≡ gone_back (kept_of changes (done + 1))
+step_back : (changes : List Change) (done : ℕ) → done < length changes → kept_of changes done ≡ stepped_back (kept_of changes (done + 1))
 step_back [] done h = absurd (omega arith)
-step_back (c ∷ cs) done h = undone_at (c ∷ cs) done c h ∙ sym (ap gone_back (done_at (c ∷ cs) done c h))
+step_back (c ∷ cs) done h = undone_at (c ∷ cs) done c h ∙ sym (ap stepped_back (done_at (c ∷ cs) done c h))
 
-step_forth : (changes : List Change) (done : ℕ) → done < length changes → kept_of changes (done + 1) ≡ gone_forth (kept_of changes done)
+step_forth : (changes : List Change) (done : ℕ) → done < length changes → kept_of changes (done + 1) ≡ stepped_forth (kept_of changes done)
 step_forth [] done h = absurd (omega arith)
-step_forth (c ∷ cs) done h = done_at (c ∷ cs) done c h ∙ sym (ap gone_forth (undone_at (c ∷ cs) done c h))
+step_forth (c ∷ cs) done h = done_at (c ∷ cs) done c h ∙ sym (ap stepped_forth (undone_at (c ∷ cs) done c h))
 
 pub back_of : (changes : List Change) (done : ℕ) → done ≤ length changes → 0 < length (reverse (take done changes))
-    → kept_of changes (done - 1) ≡ gone_back (kept_of changes done)
+    → kept_of changes (done - 1) ≡ stepped_back (kept_of changes done)
 back_of changes done h some =
     let turned = length-reverse (take done changes) in
     let few = length-take-le done changes h in
     let one : done ≡ done - 1 + 1 = omega arith in
-    step_back changes (done - 1) (omega arith) ∙ ap (λ n. gone_back (kept_of changes n)) (sym one)
+    step_back changes (done - 1) (omega arith) ∙ ap (λ n. stepped_back (kept_of changes n)) (sym one)
 
-pub forth_of : (changes : List Change) (done : ℕ) → 0 < length (drop done changes) → kept_of changes (done + 1) ≡ gone_forth (kept_of changes done)
+pub forth_of : (changes : List Change) (done : ℕ) → 0 < length (drop done changes) → kept_of changes (done + 1) ≡ stepped_forth (kept_of changes done)
 forth_of changes done some = let left = length-drop done changes in step_forth changes done (omega arith)
 
 -- a change behind those done, with the last of all kept

@@ -117,13 +117,7 @@ fewer_before c stmts xs h v = fewer_are_valid c (with_statements stmts xs) stmts
     or_true true = refl
     or_true false = refl
 
--- what is left of a list is valid where the list was
-pub left_is_valid_before : (c : Catalog) (stmts next : List Stmt) → IsValid c stmts → IsValid c (without_statements stmts (missing_from next stmts))
-left_is_valid_before c stmts next v = fewer_are_valid c stmts (without_statements stmts (missing_from next stmts)) v
-    (without_keeps_order stmts (missing_from next stmts) v.stmts.sorted)
-    (λ z k. (and_parts (stands next z) (stands stmts z) (sym (left_stands stmts next z) ∙ k)).1)
-
--- .. and where the next list is
+-- what is left of a list is valid where the next list is
 pub left_is_valid_after : (c : Catalog) (stmts next : List Stmt) → ascending statement_cmp stmts ≡ true → IsValid c next
     → IsValid c (without_statements stmts (missing_from next stmts))
 left_is_valid_after c stmts next h v = fewer_are_valid c next (without_statements stmts (missing_from next stmts)) v
@@ -156,15 +150,18 @@ taken_are_missing q stmts h = members_make_set statement_exact (missing_from (fi
 
 -- of the statements that pass a test those are missing from the next ones that are not among those put
 pub replaced_are_missing : (q : Stmt → Bool) (stmts made : List Stmt) → ascending statement_cmp stmts ≡ true
-    → missing_from (with_statements (filter (λ x. not (q x)) stmts) made) stmts ≡ missing_from made (filter q stmts)
+    → missing_from (with_statements (filter (λ x. not (q x)) stmts) made) stmts ≡ missing_from (sorted_set statement_cmp made) (filter q stmts)
 replaced_are_missing q stmts made h =
     let left = filter (λ x. not (q x)) stmts in
-    members_make_set statement_exact (missing_from (with_statements left made) stmts) (missing_from made (filter q stmts))
-    (missing_keeps_order (with_statements left made) stmts h) (missing_keeps_order made (filter q stmts) (filter_keeps_order statement_exact q stmts h))
+    let set = sorted_set statement_cmp made in
+    members_make_set statement_exact (missing_from (with_statements left made) stmts) (missing_from set (filter q stmts))
+    (missing_keeps_order (with_statements left made) stmts h) (missing_keeps_order set (filter q stmts) (filter_keeps_order statement_exact q stmts h))
     (λ z. stands_missing (with_statements left made) stmts z
     ∙ ap (λ b. not b && stands stmts z) (stands_with left made z ∙ ap (λ b. stands made z || b) (stands_filter (λ x. not (q x)) stmts z))
     ∙ passes (stands made z) (q z) (stands stmts z)
-    ∙ sym (stands_missing made (filter q stmts) z ∙ ap (λ b. not (stands made z) && b) (stands_filter q stmts z)))
+    ∙ sym (stands_missing set (filter q stmts) z
+    ∙ ap (λ b. not b && stands (filter q stmts) z) (set_keeps_members statement_exact made z)
+    ∙ ap (λ b. not (stands made z) && b) (stands_filter q stmts z)))
   where
     passes : (m t b : Bool) → (not (m || (not t && b)) && b) ≡ (not m && (t && b))
     passes true t b = refl

@@ -4,10 +4,10 @@ use Prim.Native.Nat.{zero}
 use Rattle.bdb_base.specs.Bases.{Contents}
 use Rattle.bdb_undo.specs.declared.change.Change.{Change}
 use Rattle.bdb_undo.specs.Changes.{Leads, changed_forth, changed_back}
-use Rattle.bdb_undo.specs.Histories.{Kept, gone_back, gone_forth}
+use Rattle.bdb_undo.specs.Histories.{Kept, stepped_back, stepped_forth}
 use Rattle.bdb_undo.specs.Limits.{most_changes}
-use Rattle.bdb_undo.specs.Timelines.{Timeline, LeadHere, LeadAhead, StandsFor, undone_by, redone_by, bases_before, bases_ahead}
-use Rattle.bdb_undo.specs.TimelineLaws.{BasesAreComputed, ChangesAreDetermined, ChangesAreCounted, NothingKeptStarts, NoteMoves, BackUndoes, ForthRedoes, LastLeadsHere, ComingLeadsAhead, NoneIsUndone, NoneIsRedone}
+use Rattle.bdb_undo.specs.Timelines.{Timeline, LeadHere, LeadAhead, StandsFor, undone_by, redone_by}
+use Rattle.bdb_undo.specs.TimelineLaws.{BasesAreDetermined, ChangesAreDetermined, ChangesAreCounted, NothingKeptStarts, NoteMoves, BackUndoes, ForthRedoes, LastLeadsHere, ComingLeadsAhead, NothingToUndo, NothingToRedo}
 use Rattle.bdb_undo.proofs.ChangeLemmas.{back_gives_the_base_before, forth_gives_the_base_after, changes_are_one}
 
 none_is_some : (u : Timeline) → None ≡ Some u → ⊥
@@ -17,6 +17,20 @@ some_is : (t u : Timeline) → Some t ≡ Some u → t ≡ u
 some_is t u e = cc
 
 -- ---- the base held and the changes determine the bases
+
+-- the bases before this one, each by taking a change back
+abbrev bases_before : List Change → Contents → List Contents
+bases_before [] b = []
+bases_before (c ∷ cs) b = changed_back c b ∷ bases_before cs (changed_back c b)
+
+-- the bases ahead of this one, each by making a change again
+abbrev bases_ahead : List Change → Contents → List Contents
+bases_ahead [] b = []
+bases_ahead (c ∷ cs) b = changed_forth c b ∷ bases_ahead cs (changed_forth c b)
+
+-- the bases that follow from the one held and the changes kept
+abbrev timeline_of : Kept → Contents → Timeline
+timeline_of h b = record { before = bases_before h.undos b; now = b; ahead = bases_ahead h.redos b }
 
 here_by : (cs : List Change) (b : Contents) (before : List Contents) → LeadHere cs b before → before ≡ bases_before cs b
 here_by [] b [] l = refl
@@ -37,10 +51,13 @@ ahead_by (c ∷ cs) b (a ∷ ahead) l =
 abbrev timeline : List Contents → Contents → List Contents → Timeline
 timeline before now ahead = record { before = before; now = now; ahead = ahead }
 
-pub bases_are_computed : BasesAreComputed
+bases_are_computed : (h : Kept) (t : Timeline) → StandsFor h t → t ≡ timeline_of h t.now
 bases_are_computed h t s =
     ap (λ ws. timeline ws t.now t.ahead) (here_by h.undos t.now t.before s.undos)
     ∙ ap (timeline (bases_before h.undos t.now) t.now) (ahead_by h.redos t.now t.ahead s.redos)
+
+pub bases_are_determined : BasesAreDetermined
+bases_are_determined h t u s r e = bases_are_computed h t s ∙ ap (timeline_of h) e ∙ sym (bases_are_computed h u r)
 
 -- ---- the bases determine the changes
 
@@ -103,7 +120,7 @@ pub note_moves : NoteMoves
 note_moves h t c b s l = record { undos = take_here most_changes (c ∷ h.undos) b (t.now ∷ t.before) (l, s.undos); redos = tt }
 
 back_by : (us rs : List Change) (before : List Contents) (b : Contents) (ahead : List Contents) (u : Timeline)
-    → LeadHere us b before → LeadAhead rs b ahead → undone_by before b ahead ≡ Some u → StandsFor (gone_back (kept us rs)) u
+    → LeadHere us b before → LeadAhead rs b ahead → undone_by before b ahead ≡ Some u → StandsFor (stepped_back (kept us rs)) u
 back_by us rs [] b ahead u l m e = absurd (none_is_some u e)
 back_by [] rs (a ∷ before) b ahead u l m e = absurd l
 back_by (c ∷ us) rs (a ∷ before) b ahead u l m e =
@@ -113,7 +130,7 @@ pub back_undoes : BackUndoes
 back_undoes h t u s e = back_by h.undos h.redos t.before t.now t.ahead u s.undos s.redos e
 
 forth_by : (us rs : List Change) (before : List Contents) (b : Contents) (ahead : List Contents) (u : Timeline)
-    → LeadHere us b before → LeadAhead rs b ahead → redone_by before b ahead ≡ Some u → StandsFor (gone_forth (kept us rs)) u
+    → LeadHere us b before → LeadAhead rs b ahead → redone_by before b ahead ≡ Some u → StandsFor (stepped_forth (kept us rs)) u
 forth_by us rs before b [] u l m e = absurd (none_is_some u e)
 forth_by us [] before b (a ∷ ahead) u l m e = absurd m
 forth_by us (c ∷ rs) before b (a ∷ ahead) u l m e =
@@ -157,8 +174,8 @@ none_undone_by us [] b ahead l e = refl
 none_undone_by [] (a ∷ before) b ahead l e = absurd l
 none_undone_by (c ∷ us) (a ∷ before) b ahead l e = absurd (some_change_there c e)
 
-pub none_is_undone : NoneIsUndone
-none_is_undone h t s e = none_undone_by h.undos t.before t.now t.ahead s.undos e
+pub nothing_to_undo : NothingToUndo
+nothing_to_undo h t s e = none_undone_by h.undos t.before t.now t.ahead s.undos e
 
 none_redone_by : (rs : List Change) (before : List Contents) (b : Contents) (ahead : List Contents) → LeadAhead rs b ahead → slice_get rs 0 ≡ None
     → redone_by before b ahead ≡ None
@@ -166,5 +183,5 @@ none_redone_by rs before b [] l e = refl
 none_redone_by [] before b (a ∷ ahead) l e = absurd l
 none_redone_by (c ∷ rs) before b (a ∷ ahead) l e = absurd (some_change_there c e)
 
-pub none_is_redone : NoneIsRedone
-none_is_redone h t s e = none_redone_by h.redos t.before t.now t.ahead s.redos e
+pub nothing_to_redo : NothingToRedo
+nothing_to_redo h t s e = none_redone_by h.redos t.before t.now t.ahead s.redos e

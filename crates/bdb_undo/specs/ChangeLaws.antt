@@ -55,7 +55,7 @@ TakesLead = (c : Catalog) (stmts : List Stmt) (q : Stmt → Bool) → IsValid c 
 -- the others come that did not stand
 abbrev pub UpdateLeads : Type 0
 UpdateLeads = (c : Catalog) (stmts made : List Stmt) (q : Stmt → Bool) → IsValid c stmts → IsValid c (with_statements (filter (λ x. not (q x)) stmts) made)
-    → Leads (record { named = Nothing; gone = missing_from made (filter q stmts); come = missing_from stmts (sorted_set statement_cmp made) })
+    → Leads (record { named = Nothing; gone = missing_from (sorted_set statement_cmp made) (filter q stmts); come = missing_from stmts (sorted_set statement_cmp made) })
     (record { catalog = c; stmts = stmts }) (record { catalog = c; stmts = with_statements (filter (λ x. not (q x)) stmts) made })
 
 -- where a user is added, nothing goes or comes but the name

@@ -47,7 +47,6 @@ pub record Leads (c : Change) (a b : Contents) : Type 0 where
   pub before : IsValid a.catalog a.stmts
   pub after : IsValid b.catalog b.stmts
   pub forth : b.catalog ≡ named_forth c.named a.catalog
-  pub back : a.catalog ≡ named_back c.named b.catalog
   pub gone : c.gone ≡ missing_from b.stmts a.stmts
   pub come : c.come ≡ missing_from a.stmts b.stmts
 

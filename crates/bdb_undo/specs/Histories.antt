@@ -18,12 +18,12 @@ abbrev pub noted : Change → Kept → Kept
 noted c h = record { undos = take most_changes (c ∷ h.undos); redos = [] }
 
 -- the first change to undo becomes the first one to redo
-abbrev pub gone_back : Kept → Kept
-gone_back h = record { undos = drop 1 h.undos; redos = take 1 h.undos ++ h.redos }
+abbrev pub stepped_back : Kept → Kept
+stepped_back h = record { undos = drop 1 h.undos; redos = take 1 h.undos ++ h.redos }
 
 -- the first change to redo becomes the first one to undo
-abbrev pub gone_forth : Kept → Kept
-gone_forth h = record { undos = take 1 h.redos ++ h.undos; redos = drop 1 h.redos }
+abbrev pub stepped_forth : Kept → Kept
+stepped_forth h = record { undos = take 1 h.redos ++ h.undos; redos = drop 1 h.redos }
 
 -- a buffer of changes and how many of them can be undone: there is room for all that a history keeps, and for no more
 pub record IsHistory (changes : Buffer Change) (done : ℕ) : Type 0 where

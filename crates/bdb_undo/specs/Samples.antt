@@ -1,4 +1,5 @@
--- The bases and the changes with which the tests try a change. Alice is user 1, and Bob is user 2.
+-- The bases and the changes with which the tests try a change. Alice is user 1, and Bob is user 2; or Carol, where Bob was
+-- taken back.
 use Rattle.std.specs.Prelude.{[], ◌∷◌, codes}
 use Rattle.bdb_base.specs.declared.kinds.Kind.TheVariants as kind
 use Rattle.bdb_base.specs.declared.kinds.RelDef.{RelDef}
@@ -17,6 +18,10 @@ sightings = record { name = codes "S"; cols = record { name = codes "k"; kind = 
 abbrev pub bobs_word : Stmt
 bobs_word = record { path = 2 ∷ []; sign = Plus; tuple = record { rel = 0; vals = Text (codes "a") ∷ Text (codes "x") ∷ [] } }
 
+-- Bob states S('a', 'y')
+abbrev pub bobs_next_word : Stmt
+bobs_next_word = record { path = 2 ∷ []; sign = Plus; tuple = record { rel = 0; vals = Text (codes "a") ∷ Text (codes "y") ∷ [] } }
+
 -- Alice alone
 abbrev pub alone : Contents
 alone = record { catalog = record { rels = []; users = codes "Alice" ∷ [] }; stmts = [] }
@@ -29,19 +34,38 @@ related = record alone { catalog = with_relation alone.catalog sightings }
 abbrev pub joined : Contents
 joined = record related { catalog = with_user related.catalog (codes "Bob") }
 
--- .. and Bob's statement
+-- .. and Carol in Bob's place
+abbrev pub joined_by_carol : Contents
+joined_by_carol = record related { catalog = with_user related.catalog (codes "Carol") }
+
+-- Alice, Bob and Bob's statement
 abbrev pub told : Contents
 told = record joined { stmts = bobs_word ∷ [] }
 
--- the changes that lead from each of them to the next, and the one that leads back from the last
+-- Alice, Bob and his next statement in place of the first
+abbrev pub told_anew : Contents
+told_anew = record joined { stmts = bobs_next_word ∷ [] }
+
+-- the relation is added
 abbrev pub of_relation : Change
 of_relation = record { named = RelationAdded sightings; gone = []; come = [] }
 
+-- Bob is added
 abbrev pub of_bob : Change
 of_bob = record { named = UserAdded (codes "Bob"); gone = []; come = [] }
 
+-- Carol is added
+abbrev pub of_carol : Change
+of_carol = record { named = UserAdded (codes "Carol"); gone = []; come = [] }
+
+-- Bob's statement comes
 abbrev pub of_word : Change
 of_word = record { named = Nothing; gone = []; come = bobs_word ∷ [] }
 
+-- Bob's statement goes, and his next one comes
+abbrev pub of_next_word : Change
+of_next_word = record { named = Nothing; gone = bobs_word ∷ []; come = bobs_next_word ∷ [] }
+
+-- Bob's next statement goes
 abbrev pub word_gone : Change
-word_gone = record { named = Nothing; gone = bobs_word ∷ []; come = [] }
+word_gone = record { named = Nothing; gone = bobs_next_word ∷ []; come = [] }

@@ -3,12 +3,12 @@ use Rattle.std.specs.Prelude.{◌≡◌, length, slice_get, Some, None}
 use Rattle.bdb_base.specs.Bases.{Contents}
 use Rattle.bdb_undo.specs.declared.change.Change.{Change}
 use Rattle.bdb_undo.specs.Changes.{Leads}
-use Rattle.bdb_undo.specs.Histories.{Kept, nothing_kept, noted, gone_back, gone_forth}
-use Rattle.bdb_undo.specs.Timelines.{Timeline, StandsFor, started, moved_to, undone, redone, timeline_of}
+use Rattle.bdb_undo.specs.Histories.{Kept, nothing_kept, noted, stepped_back, stepped_forth}
+use Rattle.bdb_undo.specs.Timelines.{Timeline, StandsFor, started, moved_to, undone, redone}
 
 -- the base held and the changes determine the bases before and ahead of it
-abbrev pub BasesAreComputed : Type 0
-BasesAreComputed = (h : Kept) (t : Timeline) → StandsFor h t → t ≡ timeline_of h t.now
+abbrev pub BasesAreDetermined : Type 0
+BasesAreDetermined = (h : Kept) (t u : Timeline) → StandsFor h t → StandsFor h u → t.now ≡ u.now → t ≡ u
 
 -- the bases determine the changes
 abbrev pub ChangesAreDetermined : Type 0
@@ -28,11 +28,11 @@ NoteMoves = (h : Kept) (t : Timeline) (c : Change) (b : Contents) → StandsFor 
 
 -- going back stands for an undo
 abbrev pub BackUndoes : Type 0
-BackUndoes = (h : Kept) (t u : Timeline) → StandsFor h t → undone t ≡ Some u → StandsFor (gone_back h) u
+BackUndoes = (h : Kept) (t u : Timeline) → StandsFor h t → undone t ≡ Some u → StandsFor (stepped_back h) u
 
 -- going forth stands for a redo
 abbrev pub ForthRedoes : Type 0
-ForthRedoes = (h : Kept) (t u : Timeline) → StandsFor h t → redone t ≡ Some u → StandsFor (gone_forth h) u
+ForthRedoes = (h : Kept) (t u : Timeline) → StandsFor h t → redone t ≡ Some u → StandsFor (stepped_forth h) u
 
 -- the first change to undo leads to this base from the one to which undo leads
 abbrev pub LastLeadsHere : Type 0
@@ -45,9 +45,9 @@ ComingLeadsAhead = (h : Kept) (t : Timeline) (c : Change) → StandsFor h t → 
     → (u : Timeline) × (redone t ≡ Some u) × Leads c t.now u.now
 
 -- where there is no change to undo, undo leads nowhere
-abbrev pub NoneIsUndone : Type 0
-NoneIsUndone = (h : Kept) (t : Timeline) → StandsFor h t → slice_get h.undos 0 ≡ None → undone t ≡ None
+abbrev pub NothingToUndo : Type 0
+NothingToUndo = (h : Kept) (t : Timeline) → StandsFor h t → slice_get h.undos 0 ≡ None → undone t ≡ None
 
 -- where there is no change to redo, redo leads nowhere
-abbrev pub NoneIsRedone : Type 0
-NoneIsRedone = (h : Kept) (t : Timeline) → StandsFor h t → slice_get h.redos 0 ≡ None → redone t ≡ None
+abbrev pub NothingToRedo : Type 0
+NothingToRedo = (h : Kept) (t : Timeline) → StandsFor h t → slice_get h.redos 0 ≡ None → redone t ≡ None

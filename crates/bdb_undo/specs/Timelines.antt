@@ -2,7 +2,7 @@
 use Rattle.std.specs.Prelude.{List, [], ◌∷◌, take, Option, None, Some}
 use Rattle.bdb_base.specs.Bases.{Contents}
 use Rattle.bdb_undo.specs.declared.change.Change.{Change}
-use Rattle.bdb_undo.specs.Changes.{Leads, changed_forth, changed_back}
+use Rattle.bdb_undo.specs.Changes.{Leads}
 use Rattle.bdb_undo.specs.Histories.{Kept}
 use Rattle.bdb_undo.specs.Limits.{most_changes}
 
@@ -20,19 +20,21 @@ started b = record { before = []; now = b; ahead = [] }
 abbrev pub moved_to : Contents → Timeline → Timeline
 moved_to b t = record { before = take most_changes (t.now ∷ t.before); now = b; ahead = [] }
 
--- after an undo, if there is a base before this one
+-- after an undo, by the bases before, the one held and those ahead
 abbrev pub undone_by : List Contents → Contents → List Contents → Option Timeline
 undone_by [] b ahead = None
 undone_by (a ∷ before) b ahead = Some (record { before = before; now = a; ahead = b ∷ ahead })
 
+-- after an undo: the nearest base before is held, and redo leads to the one held until then; none where there is no base before
 abbrev pub undone : Timeline → Option Timeline
 undone t = undone_by t.before t.now t.ahead
 
--- after a redo, if there is a base ahead of this one
+-- after a redo, by the bases before, the one held and those ahead
 abbrev pub redone_by : List Contents → Contents → List Contents → Option Timeline
 redone_by before b [] = None
 redone_by before b (a ∷ ahead) = Some (record { before = b ∷ before; now = a; ahead = ahead })
 
+-- after a redo: the nearest base ahead is held, and undo leads to the one held until then; none where there is no base ahead
 abbrev pub redone : Timeline → Option Timeline
 redone t = redone_by t.before t.now t.ahead
 
@@ -52,17 +54,3 @@ LeadAhead _ _ _ = ⊥
 pub record StandsFor (h : Kept) (t : Timeline) : Type 0 where
   pub undos : LeadHere h.undos t.now t.before
   pub redos : LeadAhead h.redos t.now t.ahead
-
--- the bases before this one, each by taking a change back
-abbrev pub bases_before : List Change → Contents → List Contents
-bases_before [] b = []
-bases_before (c ∷ cs) b = changed_back c b ∷ bases_before cs (changed_back c b)
-
--- the bases ahead of this one, each by making a change again
-abbrev pub bases_ahead : List Change → Contents → List Contents
-bases_ahead [] b = []
-bases_ahead (c ∷ cs) b = changed_forth c b ∷ bases_ahead cs (changed_forth c b)
-
--- the bases that follow from the one held and the changes kept
-abbrev pub timeline_of : Kept → Contents → Timeline
-timeline_of h b = record { before = bases_before h.undos b; now = b; ahead = bases_ahead h.redos b }

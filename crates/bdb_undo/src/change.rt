@@ -10,8 +10,11 @@ use std::alloc::{AllocError, Global};
 /// What a change did to the catalog.
 #[derive(Drop)]
 pub enum Named {
+    /// The catalog stayed as it was.
     Nothing,
+    /// A user of this name was added, behind the others.
     UserAdded { name: Txt },
+    /// A relation of this definition was added, behind the others.
     RelationAdded { def: RelDef },
 }
 
@@ -38,7 +41,8 @@ impl Named {
 }
 
 impl Change {
-    /// Whether the change alters its base at all. A change that doesn't is not worth keeping.
+    /// Whether the change alters its base at all. A change that alters nothing isn't noted: an undo would lead to the same
+    /// base.
     pub fn alters(&self) -> bool
         ensures { result ≡ alters self.now }
     {
@@ -47,7 +51,7 @@ impl Change {
 }
 
 /// The statements that do not stand among others, which are in order: those that went, or those that came, where one list
-/// takes the place of the other.
+/// takes the place of the other. The only error is want of memory.
 pub fn missing_from(
     alloc: Global,
     others: &[Stmt],

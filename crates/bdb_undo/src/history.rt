@@ -1,7 +1,7 @@
 //! The changes that were made last.
 ghost use Rattle.std.specs.Prelude.{◌≡◌, ◌<◌, ◌≤◌, ◌+◌, length, slice_get, IfOk, IsOk};
 ghost use Rattle.std.specs.Option.{option_copied};
-ghost use Rattle.bdb_undo.specs.Histories.{nothing_kept, noted, gone_back, gone_forth};
+ghost use Rattle.bdb_undo.specs.Histories.{nothing_kept, noted, stepped_back, stepped_forth};
 ghost use Rattle.bdb_undo.specs.Limits.{most_changes};
 
 use crate::change::Change;
@@ -29,7 +29,7 @@ impl Model for History {
 }
 
 impl History {
-    /// A history of no changes, with the room for all that it will ever keep.
+    /// A history of no changes, with the room for all that it will ever keep. The only error is want of memory.
     pub fn new(alloc: Global) -> Result<Self, AllocError>
         ensures { IfOk result (λ h. h ≡ nothing_kept) }
     {
@@ -79,7 +79,9 @@ impl History {
         self.changes.len() - self.done
     }
 
-    /// Makes room for a change to be taken back. `new` made it, so this takes no memory and changes nothing.
+    /// Makes room for a change to be taken back: callers ask for it before they take one back, so that nothing is left to be
+    /// refused afterwards. This form of a history has had the room since `new`, so the call changes nothing and is never
+    /// refused; a form that grows would need it.
     pub fn reserve(&mut self) -> Result<(), AllocError>
         ensures ok { IsOk result }
         ensures same { self.new ≡ self.old }
@@ -90,7 +92,7 @@ impl History {
     /// Counts the last change as undone: it becomes the coming one.
     pub fn back(&mut self)
         requires { 0 < length self.old.undos }
-        ensures { self.new ≡ gone_back self.old }
+        ensures { self.new ≡ stepped_back self.old }
     {
         self.done -= 1;
     }
@@ -98,7 +100,7 @@ impl History {
     /// Counts the coming change as made again: it becomes the last one.
     pub fn forth(&mut self)
         requires { 0 < length self.old.redos }
-        ensures { self.new ≡ gone_forth self.old }
+        ensures { self.new ≡ stepped_forth self.old }
     {
         self.done += 1;
     }

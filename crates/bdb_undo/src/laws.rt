@@ -1,6 +1,6 @@
 //! What holds of changes and histories, each law as the contract of a function that does nothing.
 ghost use Rattle.bdb_undo.specs.ChangeLaws.{BackGivesTheBaseBefore, ForthGivesTheBaseAfter, ChangesAreOne, NothingIsAltered, SameBaseAltersNothing, FewerAreValid, StatementsLead, PutLeads, TakesLead, UpdateLeads, UserLeads, RelationLeads};
-ghost use Rattle.bdb_undo.specs.TimelineLaws.{BasesAreComputed, ChangesAreDetermined, ChangesAreCounted, NothingKeptStarts, NoteMoves, BackUndoes, ForthRedoes, LastLeadsHere, ComingLeadsAhead, NoneIsUndone, NoneIsRedone};
+ghost use Rattle.bdb_undo.specs.TimelineLaws.{BasesAreDetermined, ChangesAreDetermined, ChangesAreCounted, NothingKeptStarts, NoteMoves, BackUndoes, ForthRedoes, LastLeadsHere, ComingLeadsAhead, NothingToUndo, NothingToRedo};
 
 /// Taking a change back gives the base from which it led.
 #[tactic(auto, using(crate::proofs::ChangeLemmas::back_gives_the_base_before))]
@@ -75,9 +75,9 @@ pub fn relation_leads()
 {}
 
 /// The base held and the changes kept determine the bases to which undo and redo lead.
-#[tactic(auto, using(crate::proofs::TimelineLemmas::bases_are_computed))]
-pub fn bases_are_computed()
-    ensures { BasesAreComputed }
+#[tactic(auto, using(crate::proofs::TimelineLemmas::bases_are_determined))]
+pub fn bases_are_determined()
+    ensures { BasesAreDetermined }
 {}
 
 /// The bases determine the changes that stand for them.
@@ -127,13 +127,13 @@ pub fn coming_leads_ahead()
 {}
 
 /// Where there is no change to undo, undo leads nowhere.
-#[tactic(auto, using(crate::proofs::TimelineLemmas::none_is_undone))]
-pub fn none_is_undone()
-    ensures { NoneIsUndone }
+#[tactic(auto, using(crate::proofs::TimelineLemmas::nothing_to_undo))]
+pub fn nothing_to_undo()
+    ensures { NothingToUndo }
 {}
 
 /// Where there is no change to redo, redo leads nowhere.
-#[tactic(auto, using(crate::proofs::TimelineLemmas::none_is_redone))]
-pub fn none_is_redone()
-    ensures { NoneIsRedone }
+#[tactic(auto, using(crate::proofs::TimelineLemmas::nothing_to_redo))]
+pub fn nothing_to_redo()
+    ensures { NothingToRedo }
 {}

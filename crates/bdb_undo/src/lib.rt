@@ -13,10 +13,10 @@ mod tests;
 pub use change::{Change, Named, missing_from};
 pub use history::History;
 pub use laws::{
-    back_gives_the_base_before, back_undoes, bases_are_computed, changes_are_counted,
+    back_gives_the_base_before, back_undoes, bases_are_determined, changes_are_counted,
     changes_are_determined, changes_are_one, coming_leads_ahead, fewer_are_valid,
-    forth_gives_the_base_after, forth_redoes, last_leads_here, none_is_redone, none_is_undone,
-    note_moves, nothing_is_altered, nothing_kept_starts, put_leads, relation_leads,
+    forth_gives_the_base_after, forth_redoes, last_leads_here, note_moves, nothing_is_altered,
+    nothing_kept_starts, nothing_to_redo, nothing_to_undo, put_leads, relation_leads,
     same_base_alters_nothing, statements_lead, takes_lead, update_leads, user_leads,
 };
 pub use limits::{MOST_CHANGES, limits_agree};

@@ -1,22 +1,22 @@
 //! A change taken back, and made again.
 ghost use Rattle.std.specs.Prelude.{◌≡◌, true, OnOk};
-ghost use Rattle.bdb_base.specs.Bases.{IsValid};
+ghost use Rattle.bdb_base.specs.Bases.{Contents, IsValid};
 ghost use Rattle.bdb_base.specs.Changes.{with_statements};
 ghost use Rattle.bdb_base.specs.Order.{statement_cmp};
 ghost use Rattle.bdb_base.specs.SortedSet.{ascending};
-ghost use Rattle.bdb_undo.specs.Changes.{Leads, LeadsTo, LeadsFrom, changed_back, changed_forth, named_back, named_forth, without_statements};
+ghost use Rattle.bdb_undo.specs.Changes.{Leads, LeadsTo, LeadsFrom, named_back, named_forth, without_statements};
 
 use crate::change::{Change, Named};
 use bdb_base::{Base, Exact, Stmt};
 use std::alloc::{AllocError, Global};
 
-/// Takes a change back: the base becomes the one from which the change led to it. The statements that came are taken away
-/// first, then the name that was added, and then the statements that went are put back; so each base between is valid.
-/// The only error is want of memory, after which the base may be any of these.
+/// Takes a change back: whichever base the change leads from to the one held, that one comes out. The statements that came
+/// are taken away first, then the name that was added, and then the statements that went are put back; so each base between
+/// is valid. The only error is want of memory, after which nothing is said of the base but that it is valid, by the
+/// invariant of `Base`.
 pub fn change_back(alloc: Global, base: &mut Base, change: &Change) -> Result<(), AllocError>
     requires { LeadsTo change.now base.old }
-    ensures ok { OnOk result (base.new ≡ changed_back change.now base.old) }
-    ensures leads { OnOk result (Leads change.now base.new base.old) }
+    ensures { (a : Contents) → Leads change.now a base.old → OnOk result (base.new ≡ a) }
 {
     take_each(base, change.come.as_slice());
     name_back(base, &change.named);
@@ -24,13 +24,13 @@ pub fn change_back(alloc: Global, base: &mut Base, change: &Change) -> Result<()
     Ok(())
 }
 
-/// Makes a change again: the base becomes the one to which the change leads. The statements that go are taken away first,
-/// then the name is added, and then the statements that come are put in; so each base between is valid. The only error is
-/// want of memory, after which the base may be any of these.
+/// Makes a change again: whichever base the change leads to from the one held, that one comes out. The statements that go
+/// are taken away first, then the name is added, and then the statements that come are put in; so each base between is
+/// valid. The only error is want of memory, after which nothing is said of the base but that it is valid, by the invariant
+/// of `Base`.
 pub fn change_forth(alloc: Global, base: &mut Base, change: &Change) -> Result<(), AllocError>
     requires { LeadsFrom change.now base.old }
-    ensures ok { OnOk result (base.new ≡ changed_forth change.now base.old) }
-    ensures leads { OnOk result (Leads change.now base.old base.new) }
+    ensures { (b : Contents) → Leads change.now base.old b → OnOk result (base.new ≡ b) }
 {
     take_each(base, change.gone.as_slice());
     name_forth(alloc, base, &change.named)?;

@@ -1,6 +1,9 @@
 use Rattle.std.proofs.Common.{rules}
-use Rattle.bdb_undo.proofs.ChangeLemmas.{back_taken, back_named, back_sorted, back_valid, back_leads}
+use Rattle.bdb_undo.proofs.ChangeLemmas.{back_last, back_taken, back_named, back_sorted, back_valid, back_is}
 use Rattle.bdb_undo.proofs.steps.change_back.Goals as goal
+
+pub name_back-requires-clause-last : goal.name_back-requires-clause-last
+name_back-requires-clause-last c = back_last c.args.change.now c.requires.0 c.args.base.now c.take_each.new.base _ c.requires.1 c.take_each.ensures
 
 pub name_back-requires-clause-valid : goal.name_back-requires-clause-valid
 name_back-requires-clause-valid c = back_taken c.args.change.now c.requires.0 c.args.base.now c.take_each.new.base c.as_slice.result.now c.requires.1 c.as_slice.ensures c.take_each.ensures
@@ -15,5 +18,5 @@ put_each-requires-clause-valid c =
     let named = back_named c.args.change.now c.args.base.now c.take_each.new.base c.name_back.new.base c.as_slice.result.now c.as_slice.ensures c.take_each.ensures c.name_back.ensures in
     back_valid c.args.change.now c.requires.0 c.args.base.now c.name_back.new.base c.as_slice-2.result.now c.requires.1 c.as_slice-2.ensures named
 
-pub returns-clause-leads : goal.returns-clause-leads
-returns-clause-leads c = back_leads c.args.change.now c.requires.0 c.args.base.now c.put_each.new.base c.requires.1 (search rules)
+pub returns : goal.returns
+returns c = λ a l. back_is c.args.change.now a c.args.base.now c.put_each.new.base l (search rules)

@@ -1,5 +1,5 @@
 use Rattle.std.proofs.Common.{rules}
-use Rattle.bdb_undo.proofs.ChangeLemmas.{forth_taken, forth_named, forth_sorted, forth_valid, forth_leads}
+use Rattle.bdb_undo.proofs.ChangeLemmas.{forth_taken, forth_named, forth_sorted, forth_valid, forth_is}
 use Rattle.bdb_undo.proofs.steps.change_forth.Goals as goal
 
 pub name_forth-requires : goal.name_forth-requires
@@ -15,5 +15,5 @@ put_each-requires-clause-valid c =
     let named = forth_named c.args.change.now c.args.base.now c.take_each.new.base c.name_forth.new.base c.as_slice.result.now c.as_slice.ensures c.take_each.ensures c.in_ok-name_forth.ensures in
     forth_valid c.args.change.now c.args.base.now c.requires.0 c.name_forth.new.base c.as_slice-2.result.now c.requires.1 c.as_slice-2.ensures named
 
-pub returns-clause-leads : goal.returns-clause-leads
-returns-clause-leads c = forth_leads c.args.change.now c.args.base.now c.requires.0 c.put_each.new.base c.requires.1 (search rules)
+pub returns : goal.returns
+returns c = λ b l. forth_is c.args.change.now c.args.base.now b c.put_each.new.base l (search rules)
