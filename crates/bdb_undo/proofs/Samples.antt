@@ -6,7 +6,7 @@ use Rattle.bdb_base.specs.declared.kinds.Catalog.{Catalog}
 use Rattle.bdb_base.specs.declared.kinds.Stmt.{Stmt}
 use Rattle.bdb_base.specs.Bases.{Contents, IsValid}
 use Rattle.bdb_undo.specs.declared.change.Change.{Change}
-use Rattle.bdb_undo.specs.Changes.{Leads, LeadsTo, LeadsFrom}
+use Rattle.bdb_undo.specs.Changes.{Leads}
 use Rattle.bdb_undo.specs.Samples.{sightings, bobs_word, alone, related, joined, joined_by_carol, told, told_anew, of_relation, of_bob, of_carol, of_word, of_next_word, word_gone}
 use Rattle.bdb_undo.proofs.ChangeLemmas.{relation_leads, user_leads, put_leads, takes_lead, statements_lead}
 
