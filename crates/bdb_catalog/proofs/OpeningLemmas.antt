@@ -32,8 +32,8 @@ opened_grammar t h = by h.stand
     by (inl s) = stored_is_in_grammar t h.base s.stored
     by (inr e) = subst InGrammar (sym e.0) empty_in_grammar
 
-format_is : (t : Tables) (b : Contents) → StoresValid t b → (found : Option ℕ) → HasAt meta_codec t tt found → found ≡ Some 2
-format_is t b s found has = found_is meta_codec number_rows_are_one t (λ _. Some 2) s.stored.stored.format tt tt found has
+format_is : (t : Tables) (b : Contents) → StoresValid t b → (found : Option ℕ) → HasAt meta_codec t tt found → found ≡ Some 3
+format_is t b s found has = found_is meta_codec number_rows_are_one t (λ _. Some 3) s.stored.stored.format tt tt found has
 
 no_format : (t : Tables) → t ≡ tables.empty → (n : ℕ) → HasAt meta_codec t tt (Some n) → ⊥
 no_format t e n has =
@@ -51,15 +51,15 @@ none_told t h has = record { none = by h.base h.stand; base = λ b s. empty b s 
     empty b (inr e) = e.1
 
 pub format_told : (t : Tables) (n : ℕ) → StandForSome t → HasAt meta_codec t tt (Some n) → HaveFormat t n
-format_told t n h has = record { two = two h.base h.stand; stores = λ b s. stores b s }
+format_told t n h has = record { three = three h.base h.stand; stores = λ b s. stores b s }
   where
     stores : (b : Contents) → StandFor t b → StoresValid t b
     stores b (inl s) = s
     stores b (inr e) = absurd (no_format t e.0 n has)
 
-    two : (b : Contents) → StandFor t b → n ≡ 2
-    two b (inl s) = let e = format_is t b s (Some n) has in cc
-    two b (inr e) = absurd (no_format t e.0 n has)
+    three : (b : Contents) → StandFor t b → n ≡ 3
+    three b (inl s) = let e = format_is t b s (Some n) has in cc
+    three b (inr e) = absurd (no_format t e.0 n has)
 
 -- ---- users and relations
 

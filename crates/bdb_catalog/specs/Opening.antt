@@ -19,9 +19,9 @@ pub record HaveNoRow (t : Tables) : Type 0 where
   pub none : t ≡ tables.empty
   pub base : (b : Contents) → StandFor t b → b ≡ empty_contents
 
--- the format is 2, and tables store each base for which they stand
+-- the format is 3, and tables store each base for which they stand
 pub record HaveFormat (t : Tables) (format : ℕ) : Type 0 where
-  pub two : format ≡ 2
+  pub three : format ≡ 3
   pub stores : (b : Contents) → StandFor t b → StoresValid t b
 
 -- what the row of the format tells

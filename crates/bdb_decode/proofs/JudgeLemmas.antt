@@ -46,23 +46,23 @@ not_empty t some none b s = by s
 
 pub bare_damaged : (t : Tables) → (t ≡ tables.empty → ⊥) → IsBare t 1 → AreDamaged t
 bare_damaged t some bare = record {
-  none = not_empty t some (λ b s. bare_format t 2 bare s.stored.stored.format);
+  none = not_empty t some (λ b s. bare_format t 3 bare s.stored.stored.format);
   format = λ n h. absurd (bare_format t n bare h);
 }
 
 pub format_damaged : (t : Tables) → IsFormatDamaged t → AreDamaged t
 format_damaged t h = record {
-  none = not_empty t (λ e. h.some (empty_bare t 1 e)) (λ b s. h.none 2 s.stored.stored.format);
+  none = not_empty t (λ e. h.some (empty_bare t 1 e)) (λ b s. h.none 3 s.stored.stored.format);
   format = λ n has. absurd (h.none n has);
 }
 
-pub other_format : (t : Tables) (n : ℕ) → HasFormat t n → (n ≡ 2 → ⊥) → HaveOtherFormat t n
+pub other_format : (t : Tables) (n : ℕ) → HasFormat t n → (n ≡ 3 → ⊥) → HaveOtherFormat t n
 other_format t n h other = record { has = h; other = other; none = λ b s. others_stand_for_none t n b h other s }
 
-pub base_damaged : (t : Tables) → HasFormat t 2 → StoreNone t → AreDamaged t
+pub base_damaged : (t : Tables) → HasFormat t 3 → StoreNone t → AreDamaged t
 base_damaged t h none = record {
-  none = not_empty t (λ e. no_format t 2 e h) none;
-  format = λ n has. let same : Some n ≡ Some 2 = gives_one meta_codec number_rows_are_one t (λ _. Some n) (λ _. Some 2) has h tt tt in cc;
+  none = not_empty t (λ e. no_format t 3 e h) none;
+  format = λ n has. let same : Some n ≡ Some 3 = gives_one meta_codec number_rows_are_one t (λ _. Some n) (λ _. Some 3) has h tt tt in cc;
 }
 
 -- ---- the form
@@ -70,6 +70,6 @@ base_damaged t h none = record {
 grammar_none : (t : Tables) → (InGrammar t → ⊥) → StoreNone t
 grammar_none t h = λ b s. h (stored_is_in_grammar t b s.stored)
 
-pub formed_now : (t u : Tables) (b : Bool) → u ≡ t → HasFormat t 2 → OthersAreBare t → MatchBool b (InGrammar u) (InGrammar u → ⊥) → MatchBool b (AreFormed t) (StoreNone t)
+pub formed_now : (t u : Tables) (b : Bool) → u ≡ t → HasFormat t 3 → OthersAreBare t → MatchBool b (InGrammar u) (InGrammar u → ⊥) → MatchBool b (AreFormed t) (StoreNone t)
 formed_now t u true same f o h = record { format = f; grammar = subst InGrammar same h; others = o }
 formed_now t u false same f o h = grammar_none t (λ k. h (subst InGrammar (sym same) k))

@@ -23,13 +23,13 @@ one_base_at_most t a b p q = by p q
   where
     by : StandFor t a → StandFor t b → a ≡ b
     by (inl p) (inl q) = stored_base_is_one t a b p.stored q.stored p.valid q.valid
-    by (inl p) (inr q) = absurd (no_format t 2 q.0 p.stored.stored.format)
-    by (inr p) (inl q) = absurd (no_format t 2 p.0 q.stored.stored.format)
+    by (inl p) (inr q) = absurd (no_format t 3 q.0 p.stored.stored.format)
+    by (inr p) (inl q) = absurd (no_format t 3 p.0 q.stored.stored.format)
     by (inr p) (inr q) = p.1 ∙ sym q.1
 
 pub others_stand_for_none : OthersStandForNone
 others_stand_for_none t n b h other s = by s
   where
     by : StandFor t b → ⊥
-    by (inl p) = let same : Some n ≡ Some 2 = gives_one meta_codec number_rows_are_one t (λ _. Some n) (λ _. Some 2) h p.stored.stored.format tt tt in other cc
+    by (inl p) = let same : Some n ≡ Some 3 = gives_one meta_codec number_rows_are_one t (λ _. Some n) (λ _. Some 3) h p.stored.stored.format tt tt in other cc
     by (inr p) = no_format t n p.0 h

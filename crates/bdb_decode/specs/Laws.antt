@@ -11,4 +11,4 @@ OneBaseAtMost = (t : Tables) (a b : Contents) → StandFor t a → StandFor t b 
 
 -- tables of another format stand for no base
 abbrev pub OthersStandForNone : Type 0
-OthersStandForNone = (t : Tables) (n : ℕ) (b : Contents) → HasFormat t n → (n ≡ 2 → ⊥) → StandFor t b → ⊥
+OthersStandForNone = (t : Tables) (n : ℕ) (b : Contents) → HasFormat t n → (n ≡ 3 → ⊥) → StandFor t b → ⊥

@@ -13,12 +13,12 @@ use Rattle.bdb_keep.specs.Tables.{Tables}
 -- tables stand for no base, and have no other format
 pub record AreDamaged (t : Tables) : Type 0 where
   pub none : (b : Contents) → StandFor t b → ⊥
-  pub format : (n : ℕ) → HasFormat t n → n ≡ 2
+  pub format : (n : ℕ) → HasFormat t n → n ≡ 3
 
 -- tables have another format than this one's; so they stand for no base
 pub record HaveOtherFormat (t : Tables) (n : ℕ) : Type 0 where
   pub has : HasFormat t n
-  pub other : n ≡ 2 → ⊥
+  pub other : n ≡ 3 → ⊥
   pub none : (b : Contents) → StandFor t b → ⊥
 
 -- the rows are as they were, and a transaction that ran still runs

@@ -20,7 +20,7 @@ use bdb_tables::TabError;
 use std::alloc::Global;
 
 /// The format of tables that are read here.
-const FORMAT: u32 = 2;
+const FORMAT: u32 = 3;
 
 /// What tables are.
 #[derive(Drop)]
@@ -97,7 +97,7 @@ fn judge_format<K: Keeper>(alloc: Global, keeper: &mut K, number: u32) -> Result
 // The base that tables of this format store. None exactly where they store no valid base.
 fn raw_base<K: Keeper>(alloc: Global, keeper: &mut K) -> Result<Option<Base>, TabError>
     requires tables { LieInTables (K.seen keeper.old).kept }
-    requires format { HasFormat (K.seen keeper.old).kept 2 }
+    requires format { HasFormat (K.seen keeper.old).kept 3 }
     ensures base { IfOk result (λ r. MatchOption r (StoreNone (K.seen keeper.old).kept) (StoresValid (K.seen keeper.old).kept)) }
     ensures reading { OnlyReads (K.seen keeper.old) (K.seen keeper.new) result TabError.Fault }
 {
@@ -120,7 +120,7 @@ fn raw_base<K: Keeper>(alloc: Global, keeper: &mut K) -> Result<Option<Base>, Ta
 // Whether every key and row of tables of this format is in the grammar, and no other table has a row.
 fn are_formed<K: Keeper>(alloc: Global, keeper: &mut K) -> Result<bool, TabError>
     requires tables { LieInTables (K.seen keeper.old).kept }
-    requires format { HasFormat (K.seen keeper.old).kept 2 }
+    requires format { HasFormat (K.seen keeper.old).kept 3 }
     ensures formed { IfOk result (λ formed. MatchBool formed (AreFormed (K.seen keeper.old).kept) (StoreNone (K.seen keeper.old).kept)) }
     ensures reading { OnlyReads (K.seen keeper.old) (K.seen keeper.new) result TabError.Fault }
 {
@@ -152,7 +152,7 @@ fn base_of<K: Keeper>(alloc: Global, keeper: &mut K, parts: Parts) -> Result<Opt
         Ok(None) => return Ok(None),
         Err(error) => return Err(error),
     };
-    match hold_rows_of(alloc, keeper, &paths) {
+    match hold_rows_of(alloc, keeper, &catalog, &paths) {
         Ok(true) => Ok(Some(Base::from_parts(catalog, List::from_vec(stmts)))),
         Ok(false) => Ok(None),
         Err(error) => Err(error),

@@ -5,6 +5,7 @@
 mod held_rows;
 mod items;
 mod judging;
+mod keys;
 mod laws;
 mod limits;
 mod linking;

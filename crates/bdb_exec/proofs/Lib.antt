@@ -7,5 +7,6 @@ mod RunLemmas
 pub mod WorldLemmas
 pub mod DenyLemmas
 mod LookingLemmas
+mod LengthLemmas
 pub mod ShownLemmas
 mod SlotLemmas

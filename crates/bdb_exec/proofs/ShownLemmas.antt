@@ -12,7 +12,7 @@ use Rattle.bdb_base.specs.Bases.{Contents, IsValid, is_user, key_lengths}
 use Rattle.bdb_base.specs.Clash.{key_of}
 use Rattle.bdb_base.specs.Queries.{columns_at}
 use Rattle.bdb_base.specs.Same.{same_tuple, same_sign, same_values, same_path}
-use Rattle.bdb_base.specs.SameLemmas.{same_tuple-Decides, same_sign-Decides, same_value-Decides}
+use Rattle.bdb_base.specs.SameLemmas.{same_tuple-Decides, same_sign-Decides, same_values-Decides}
 use Rattle.bdb_base.specs.Segments.{is_prefix, is_suffix}
 use Rattle.bdb_base.specs.SortedSet.{ascending}
 use Rattle.bdb_base.specs.States.{is_state, edge_target}
@@ -30,7 +30,7 @@ use Rattle.bdb_base.specs.declared.tuple.Tuple.{Tuple}
 use Rattle.bdb_base.proofs.WorldLemmas.{worlds_are_consistent, valid_is_consistent, list_any_weaker}
 use Rattle.bdb_paths.proofs.SuffixLemmas.{deepest_same, deepest_is_member}
 use Rattle.bdb_keep.specs.Tables.{Tables, bytes_cmp}
-use Rattle.bdb_key.specs.Bytes.{num_bytes, text_bytes, value_bytes, values_bytes}
+use Rattle.bdb_key.specs.Bytes.{num_bytes, text_bytes, value_bytes, values_bytes, vals_bytes}
 use Rattle.bdb_key.specs.Grammar.{IsNum, IsPlain, ArePlain, IsPlainValue}
 use Rattle.bdb_key.specs.Rows.{IsRelRow, IsCol, mark_bytes, rel_bytes, cols_bytes, kind_bytes}
 use Rattle.bdb_queries.specs.Slots.{user_tuple, user_tuples}
@@ -40,7 +40,7 @@ use Rattle.bdb_tables.specs.InUse.{ValKey, IsValKey, user_codec, rel_codec, edge
 use Rattle.bdb_tables.specs.InUseLaws.{numbers_in_order, numbers_are_one, vals_are_one, mark_rows_are_one}
 use Rattle.bdb_tables.specs.Marks.{Mark, mark_of, sign_in, sign_by, marked}
 use Rattle.bdb_tables.specs.Names.{Names, path_of, number_of, is_named, edge_from, edge_of}
-use Rattle.bdb_tables.specs.Rows.{Tuples, has_key, row_named, row_for}
+use Rattle.bdb_tables.specs.Rows.{Tuples, HoldsRows, has_key, row_named, row_for}
 use Rattle.bdb_tables.specs.Spans.{AreUnder, IsUnder, entry_bytes, entry_cmp}
 use Rattle.bdb_tables.proofs.Held.{same_place, some_same, none_some}
 use Rattle.bdb_exec.specs.Based.{HaveBase, ShowBase, TablesShowBase, world_number}
@@ -48,6 +48,7 @@ use Rattle.bdb_exec.specs.Readable.{CanBeRun}
 use Rattle.bdb_exec.specs.Rows.{signed_of, world_prefix}
 use Rattle.bdb_exec.specs.Seen.{rows_at, signed_under, sight_of, width_in}
 use Rattle.bdb_exec.specs.Spelled.{number_in, values_in}
+use Rattle.bdb_exec.proofs.LengthLemmas.{key_vals, keys_sized}
 use Rattle.bdb_exec.proofs.SpelledLemmas.{number_back, values_back, values_short}
 use Rattle.bdb_exec.proofs.TypedLemmas.{raw, at_find}
 use Rattle.bdb_exec.proofs.WorldLemmas.{IsThere, signed_is, has_row}
@@ -236,6 +237,10 @@ abbrev sign_of_mark : Mark → Sign
 sign_of_mark m = m.0
 
 module _ (ns : Names) (ts : Tuples) (t : Tables) (b : Contents) (valid : IsValid b.catalog b.stmts) (h : HaveBase ns ts t b) where
+  keys_shown : (sight_of t).keys ≡ key_lengths b.catalog.rels
+  unfolding sight_of
+  keys_shown = refl
+
   abbrev run : CanBeRun t
   run = record {
     users = h.users.fits;
@@ -245,7 +250,7 @@ module _ (ns : Names) (ts : Tuples) (t : Tables) (b : Contents) (valid : IsValid
     held = h.tuples;
     stmts = b.stmts;
     path = path_of ns;
-    rows = h.rows;
+    rows = subst (λ (f : ℕ → ℕ). HoldsRows f b.stmts (path_of ns) ts.tuple t) (sym keys_shown) h.rows;
   }
 
   -- ---- users
@@ -370,10 +375,6 @@ module _ (ns : Names) (ts : Tuples) (t : Tables) (b : Contents) (valid : IsValid
       by None f i = absurd (false≢true i)
       by (Some tid) f i = (tid, f)
 
-  first_of : (vs : List Value) → 0 < length vs → (v : Value) × (rest : List Value) × (vs ≡ v ∷ rest)
-  first_of [] l = absurd (omega arith)
-  first_of (v ∷ vs) l = (v, vs, refl)
-
   module _ (w : List ℕ) (rel : ℕ) (u : Tuple) (s : Sign) (state : is_state b.stmts w ≡ true) (nr : IsNum rel) where
     n : ℕ
     n = world_number ns w
@@ -472,23 +473,22 @@ module _ (ns : Names) (ts : Tuples) (t : Tables) (b : Contents) (valid : IsValid
         let id = number_told w u s p.1 in
         let tuple : ts.tuple id.0 ≡ Some u = h.tuples.numbered u id.0 id.1 in
         let row = has_row t run id.0 u tuple in
-        let v = first_of u.vals row.in_grammar.some in
-        let k : ValKey = (world_number ns w, rel, v.0, id.0) in
+        let k : ValKey = (world_number ns w, rel, key_of keys u, id.0) in
         let m : Mark = (s, explicit b.stmts w u s) in
         let vk : IsValKey k = record {
           world = number_sized w state;
           rel = nr;
-          value = (subst ArePlain v.2 row.in_grammar.plain).0;
+          key = key_vals (keys u.rel) u.vals (subst (λ (f : ℕ → ℕ). IsNum (f u.rel)) keys_shown (keys_sized t u.rel)) row.in_grammar.plain;
           tuple = h.tuples.sized id.0 u tuple;
         } in
-        let has : has_key keys k u ≡ true = and_from (nat_eq u.rel rel) (same_values (key_of keys u) (v.0 ∷ [])) (eq-eqb u.rel rel of)
-        (ap (λ vs. same_values (Rattle.std.specs.Prelude.take 1 vs) (v.0 ∷ [])) v.2 ∙ and_from (Rattle.bdb_base.specs.Same.same_value v.0 v.0) true ((same_value-Decides v.0 v.0).1 refl) refl) in
+        let has : has_key keys k u ≡ true =
+        and_from (nat_eq u.rel rel) (same_values (key_of keys u) (key_of keys u)) (eq-eqb u.rel rel of) ((same_values-Decides (key_of keys u) (key_of keys u)).1 refl) in
         let is : row_for keys b.stmts (path_of ns) ts.tuple k ≡ Some m =
         ap (λ x. row_named keys b.stmts k x (ts.tuple id.0)) (path_numbered w state)
         ∙ ap (row_named keys b.stmts k (Some w)) tuple
         ∙ cond-true (has_key keys k u) (mark_of keys b.stmts w u) None has
         ∙ ap (marked (explicit b.stmts w u)) (sign_of_row w u s p.1) in
-        let begins : is_prefix (val_codec.number ∷ world_prefix (world_number ns w) rel) (place val_codec k) ≡ true = prefix_append (world_prefix (world_number ns w) rel) (value_bytes v.0 ++ num_bytes id.0) in
+        let begins : is_prefix (val_codec.number ∷ world_prefix (world_number ns w) rel) (place val_codec k) ≡ true = prefix_append (world_prefix (world_number ns w) rel) (vals_bytes (key_of keys u) ++ num_bytes id.0) in
         let found : find bytes_cmp (place val_codec k) (rows_at t (val_codec.number ∷ world_prefix (world_number ns w) rel)) ≡ Some (mark_bytes m) =
         at_find val_codec t (val_codec.number ∷ world_prefix (world_number ns w) rel) (place val_codec k)
         ∙ cond-true (is_prefix (val_codec.number ∷ world_prefix (world_number ns w) rel) (place val_codec k)) (tables.get t (place val_codec k)) None begins
@@ -523,10 +523,6 @@ module _ (ns : Names) (ts : Tuples) (t : Tables) (b : Contents) (valid : IsValid
           let id = number_told w u s p.1 in
           let row = has_row t run id.0 u (h.tuples.numbered u id.0 id.1) in
           false≢true (sym e ∙ large u.rel row.in_grammar.rel (eqb-true u.rel rel p.0))))
-
-  keys_shown : (sight_of t).keys ≡ key_lengths b.catalog.rels
-  unfolding sight_of
-  keys_shown = refl
 
   base_shown : ShowBase ns t b
   base_shown = record {

@@ -16,7 +16,7 @@ choice_looks sight s (step.User item) behind = length sight.users + 1
 choice_looks sight s (step.Pos item rel) behind = 2 * length (rows_of_key (key_asked s.slots item behind) (sight.rows s.world rel)) + 1
 choice_looks sight s _ behind = 0
 
--- how often is read at most to learn whether rows deny a tuple: once for each row of its key
+-- how often is read at most to learn whether rows deny a tuple: once for each row of its key, which begins with its first value
 abbrev pub deny_looks : List (Tuple × Sign) → Option Tuple → ℕ
 deny_looks rows None = 0
 deny_looks rows (Some t) = length (rows_of_key (slice_get t.vals 0) rows) + 2

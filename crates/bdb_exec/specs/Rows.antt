@@ -9,7 +9,7 @@ use Rattle.bdb_base.specs.declared.kinds.Value.{Value}
 use Rattle.bdb_base.specs.declared.kinds.Value.TheVariants.{Int, Text}
 use Rattle.bdb_base.specs.declared.tuple.Tuple.{Tuple}
 use Rattle.bdb_keep.specs.Tables.{Tables}
-use Rattle.bdb_key.specs.Bytes.{num_bytes, value_bytes}
+use Rattle.bdb_key.specs.Bytes.{num_bytes, value_bytes, vals_bytes}
 use Rattle.bdb_key.specs.Grammar.{IsNum}
 use Rattle.bdb_tables.specs.Codec.{HasRow, place}
 use Rattle.bdb_tables.specs.InUse.{ValKey, tuple_codec, val_codec}
@@ -27,9 +27,13 @@ is_written (Text t) = is_plain t
 abbrev pub world_prefix : ℕ → ℕ → List ℕ
 world_prefix world rel = num_bytes world ++ num_bytes rel
 
--- how the keys of those rows begin whose tuples have a value as their key
-abbrev pub key_prefix : ℕ → ℕ → Value → List ℕ
-key_prefix world rel v = world_prefix world rel ++ value_bytes v
+-- how the keys of those rows begin whose tuples have a key of some length that begins with a value
+abbrev pub key_prefix : ℕ → ℕ → ℕ → Value → List ℕ
+key_prefix n world rel v = world_prefix world rel ++ num_bytes n ++ value_bytes v
+
+-- how the keys of those rows begin whose tuples have a key
+abbrev pub group_prefix : ℕ → ℕ → List Value → List ℕ
+group_prefix world rel vs = world_prefix world rel ++ vals_bytes vs
 
 -- a row's signed tuple, as the tables show it
 abbrev pub signed_of : Tables → ValKey × Mark → Tuple × Sign

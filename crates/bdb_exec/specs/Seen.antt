@@ -44,7 +44,7 @@ width_in None = 0
 width_in (Some row) = length (values_in (length row) row) / 2
 
 -- What tables show: the users by number; where edges lead; the rows of worlds by key; how many columns relations have. The
--- key of a tuple is its first value.
+-- key of each relation has one value.
 unfoldable pub sight_of : Tables → Sight
 sight_of t = record {
   users = map user_in (rows_at t (user_codec.number ∷ []));

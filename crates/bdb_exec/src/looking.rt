@@ -5,28 +5,31 @@ ghost use Rattle.bdb_base.specs.Bases.{is_plain};
 ghost use Rattle.bdb_base.specs.Causes.{RoseBy};
 ghost use Rattle.bdb_base.specs.declared.tuple.Tuple.{Tuple};
 ghost use Rattle.bdb_keep.specs.Calls.{IsRead};
-ghost use Rattle.bdb_key.specs.Grammar.{HasPlainText, IsPlainValue};
+ghost use Rattle.bdb_keep.specs.Tables.{Tables};
+ghost use Rattle.bdb_key.specs.Grammar.{AreKeyVals, HasPlainText, IsPlainValue};
 ghost use Rattle.bdb_queries.specs.Slots.{user_tuple};
 ghost use Rattle.bdb_plan.specs.Running.{plus_tuples};
 ghost use Rattle.bdb_plan.specs.Sight.{rows_deny};
 ghost use Rattle.bdb_tables.specs.Codec.{HasRow};
-ghost use Rattle.bdb_tables.specs.InUse.{tuple_codec};
+ghost use Rattle.bdb_tables.specs.InUse.{HaveKeyTexts, tuple_codec};
 ghost use Rattle.bdb_exec.specs.Keys.{of_key, rows_of_key};
 ghost use Rattle.bdb_exec.specs.LookUps.{deny_looks};
 ghost use Rattle.bdb_exec.specs.Looks.{Looks};
 ghost use Rattle.bdb_exec.specs.Memos.{Recalls};
 ghost use Rattle.bdb_exec.specs.Readable.{CanBeRun};
-ghost use Rattle.bdb_exec.specs.Rows.{HasTuple, IsNumberOf, HasPushed, signed_at, mark_denies, is_written, world_prefix, key_prefix};
+ghost use Rattle.bdb_exec.specs.Rows.{HasTuple, IsNumberOf, HasPushed, signed_at, mark_denies, is_written, world_prefix, key_prefix, group_prefix};
 ghost use Rattle.bdb_exec.specs.Seen.{sight_of, signed_under};
 
 use crate::memo::{Memo, keep_pool, keep_tuple, pool_of_key};
 use crate::shared::Shared;
 use bdb_base::limits::LONGEST_TEXT;
-use bdb_base::{Exact, List, Sign, Tuple, Txt, Value};
+use bdb_base::{Exact, List, Sign, Tuple, Txt, Value, key_of};
 use bdb_keep::Keeper;
 use bdb_key::{put_num, put_value};
 use bdb_queries::user_tuple;
-use bdb_tables::{EdgeTab, TabError, TupleIx, TupleTab, UserTab, get, numbered_under, rows_under};
+use bdb_tables::{
+    EdgeTab, TabError, TupleIx, TupleTab, UserTab, get, numbered_under, put_key_vals, rows_under,
+};
 use std::alloc::{AllocError, Global};
 
 // Most beginnings of keys have at most as many bytes.
@@ -126,7 +129,7 @@ pub fn plus_tuples<K: Keeper>(
 }
 
 /// As `plus_tuples`, but only the tuples whose first value is this one, and only their rows are read. Nothing is read where the
-/// key is the last that was asked for of the world and the relation.
+/// value is the last that was asked for of the world and the relation.
 pub fn plus_tuples_of_key<K: Keeper>(
     alloc: Global,
     keeper: &mut K,
@@ -168,7 +171,7 @@ pub fn plus_tuples_of_key<K: Keeper>(
     }
 }
 
-// The tuples of a relation and a key that a world has with plus, from their rows.
+// The tuples of a relation and a first value that a world has with plus, from their rows.
 fn read_plus_of_key<K: Keeper>(
     alloc: Global,
     keeper: &mut K,
@@ -188,7 +191,7 @@ fn read_plus_of_key<K: Keeper>(
         return Ok(List::new(alloc));
     }
     let mut prefix = Vec::new(alloc);
-    if put_key(&mut prefix, world, rel, key).is_err() {
+    if put_key(&mut prefix, world, rel, key_length_of(rel), key).is_err() {
         keeper.undo();
         return Err(TabError::Memory);
     }
@@ -334,8 +337,9 @@ fn read_tuple<K: Keeper>(alloc: Global, keeper: &mut K, tid: u32) -> Result<Tupl
     }
 }
 
-/// Whether a world denies a tuple: it has the tuple with minus, or another tuple of its relation and key with plus. At most
-/// a read for each row of the world that has the tuple's relation and key, and two more.
+/// Whether a world denies a tuple: it has the tuple with minus, or another tuple of its relation and key with plus. A read for
+/// each row of the world that has the tuple's relation and key, which are no more than those of its first value, and two more
+/// at most.
 pub fn denies<K: Keeper>(
     alloc: Global,
     keeper: &mut K,
@@ -350,35 +354,31 @@ pub fn denies<K: Keeper>(
     ensures memo { OnOk result (Recalls (K.seen keeper.old).kept memo.new) }
     ensures looks { Looks (K.seen keeper.old) (K.seen keeper.new) result TabError.Fault }
 {
-    match tuple.vals.get(0) {
-        Some(key) => match denies_with(alloc, keeper, memo, world, tuple.rel, key, tuple) {
-            Ok(denies) => Ok(denies),
-            Err(error) => Err(error),
-        },
-        None => Ok(false),
+    match denies_with(alloc, keeper, memo, world, tuple.rel, tuple) {
+        Ok(denies) => Ok(denies),
+        Err(error) => Err(error),
     }
 }
 
-// Whether a world denies a tuple of this relation that has this key.
+// Whether a world denies a tuple of this relation.
 fn denies_with<K: Keeper>(
     alloc: Global,
     keeper: &mut K,
     memo: &mut Memo,
     world: u32,
     rel: u32,
-    key: &Value,
     tuple: &Tuple,
 ) -> Result<bool, TabError>
     requires run { CanBeRun (K.seen keeper.old).kept }
     requires memo { Recalls (K.seen keeper.old).kept memo.old }
     requires relation { tuple.now.rel ≡ rel }
-    requires key { slice_get tuple.now.vals 0 ≡ Some key.now }
     ensures denies { IfOk result (λ denies. denies ≡ rows_deny (sight_of (K.seen keeper.old).kept).keys ((sight_of (K.seen keeper.old).kept).rows world rel) tuple.now) }
-    ensures reads { OnOk result ((K.seen keeper.new).reads ≤ (K.seen keeper.old).reads + (length (rows_of_key (Some key.now) ((sight_of (K.seen keeper.old).kept).rows world rel)) + 2)) }
+    ensures reads { OnOk result ((K.seen keeper.new).reads ≤ (K.seen keeper.old).reads + (length (rows_of_key (slice_get tuple.now.vals 0) ((sight_of (K.seen keeper.old).kept).rows world rel)) + 2)) }
     ensures memo { OnOk result (Recalls (K.seen keeper.old).kept memo.new) }
     ensures looks { Looks (K.seen keeper.old) (K.seen keeper.new) result TabError.Fault }
 {
-    if !is_written(key) {
+    let key = key_of(tuple, key_length_of(rel));
+    if !are_written(key) {
         return Ok(false);
     }
     let number = match number_of(alloc, keeper, tuple) {
@@ -386,7 +386,7 @@ fn denies_with<K: Keeper>(
         Err(error) => return Err(error),
     };
     let mut prefix = Vec::new(alloc);
-    if put_key(&mut prefix, world, rel, key).is_err() {
+    if put_group(&mut prefix, world, rel, key).is_err() {
         keeper.undo();
         return Err(TabError::Memory);
     }
@@ -483,15 +483,42 @@ fn put_world(prefix: &mut Vec<u8>, world: u32, rel: u32) -> Result<(), AllocErro
     Ok(())
 }
 
-// How the keys of those rows begin whose tuples have a value as their key.
-fn put_key(prefix: &mut Vec<u8>, world: u32, rel: u32, key: &Value) -> Result<(), AllocError>
+// How the keys of those rows begin whose tuples have a key of the length `n` that begins with a value.
+fn put_key(
+    prefix: &mut Vec<u8>,
+    world: u32,
+    rel: u32,
+    n: u32,
+    key: &Value,
+) -> Result<(), AllocError>
     requires text { HasPlainText key.now }
-    ensures bytes { OnOk result (prefix.new.items ≡ prefix.old.items ++ key_prefix world rel key.now) }
+    ensures bytes { OnOk result (prefix.new.items ≡ prefix.old.items ++ key_prefix n world rel key.now) }
     ensures fits { OnOk result (IsPlainValue key.now) }
 {
     prefix.reserve(PREFIX_ROOM)?;
     put_num(prefix, world)?;
     put_num(prefix, rel)?;
+    put_num(prefix, n)?;
     put_value(prefix, key)?;
     Ok(())
+}
+
+// How the keys of those rows begin whose tuples have a key.
+fn put_group(prefix: &mut Vec<u8>, world: u32, rel: u32, key: &[Value]) -> Result<(), AllocError>
+    requires texts { HaveKeyTexts key.now }
+    ensures bytes { OnOk result (prefix.new.items ≡ prefix.old.items ++ group_prefix world rel key.now) }
+    ensures fits { OnOk result (AreKeyVals key.now) }
+{
+    prefix.reserve(PREFIX_ROOM)?;
+    put_num(prefix, world)?;
+    put_num(prefix, rel)?;
+    put_key_vals(prefix, key)?;
+    Ok(())
+}
+
+// How many values the keys of a relation's tuples have.
+fn key_length_of(rel: u32) -> u32
+    ensures { (t : Tables) → result ≡ (sight_of t).keys rel }
+{
+    1
 }

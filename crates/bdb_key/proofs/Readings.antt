@@ -25,7 +25,7 @@ use Rattle.bdb_base.specs.declared.kinds.RelDef.{RelDef}
 use Rattle.bdb_key.specs.Rows.{IsAnyKind, IsCol, IsAnySign, IsRelRow, IsTupleRow, tuple_bytes, kind_bytes, col_bytes, cols_bytes, rel_bytes, sign_bytes}
 use Rattle.bdb_key.specs.Bytes.{num_bytes, int_bytes, text_bytes, value_bytes, values_bytes, path_bytes}
 use Rattle.bdb_key.specs.Grammar.{IsNum, IsPlain, IsPlainValue, ArePlain, IsKeyPath}
-use Rattle.bdb_key.specs.Reading.{Leads, NoneLeads, Reads, NoneReads, AreNums, nums_bytes, HasNoEnd, EndsAt}
+use Rattle.bdb_key.specs.Reading.{Leads, NoneLeads, Reads, NoneReads, AreMany, nums_bytes, HasNoEnd, EndsAt}
 use Rattle.bdb_key.proofs.Compared.{nums, users, values, paths, values_tie, paths_tie, printing, IsPrinting}
 use Rattle.bdb_key.proofs.Forms.{one_form, both_equal, same_bytes, tied}
 
@@ -50,48 +50,36 @@ seq_push spelling bytes rest more xs x e f =
     e ∙ ap (λ r. flat_map spelling xs ++ r) f ∙ sym (append_assoc (flat_map spelling xs) (spelling x) more)
     ∙ ap (λ (r : List ℕ). r ++ more) (flat_map_more spelling [] xs x)
 
--- ---- numbers one after the other
-
-pub nums_push : (k user : ℕ) (bytes rest more found : List ℕ) → Leads (AreNums k) nums_bytes bytes found rest → Leads IsNum num_bytes rest user more
-    → Leads (AreNums (k + 1)) nums_bytes bytes (found ++ user ∷ []) more
-nums_push k user bytes rest more found h u = record {
-  fits = record { many = length_push found user ∙ ap (λ n. n + 1) h.fits.many; each = all_push IsNum found user h.fits.each u.fits };
-  split = seq_push num_bytes bytes rest more found user h.split u.split;
-}
-
-pub nums_next : (k user : ℕ) (rest more left r : List ℕ) → Leads (AreNums (suc k)) nums_bytes rest left r → Leads IsNum num_bytes rest user more
-    → (after : List ℕ) × Leads (AreNums k) nums_bytes more after r
-nums_next k user rest more [] r h u = let e = h.fits.many in absurd (omega arith)
-nums_next k user rest more (i ∷ left) r h u =
-    let e = h.fits.many in
-    let form = num_form i user (nums_bytes left ++ r) more h.fits.each.0 u.fits (sym h.split ∙ u.split) in
-    (left, record { fits = record { many = omega arith; each = h.fits.each.1 }; split = sym form.1 })
-
-pub nums_none : (k : ℕ) (rest : List ℕ) → NoneLeads IsNum num_bytes rest → NoneLeads (AreNums (suc k)) nums_bytes rest
-nums_none k rest none [] r h = let e = h.fits.many in omega arith
-nums_none k rest none (i ∷ left) r h = none i (nums_bytes left ++ r) (record { fits = h.fits.each.0; split = h.split })
-
-nums_one : (k : ℕ) (a b x y : List ℕ) → AreNums k a → AreNums k b → nums_bytes a ++ x ≡ nums_bytes b ++ y → a ≡ b
-nums_one k a b x y fa fb e =
-    let same = sym (users a b x y (fa.many ∙ sym fb.many) fa.each fb.each) ∙ tied (nums_bytes a ++ x) (nums_bytes b ++ y) e in
-    same_bytes a b (both_equal (slice_cmp nat_cmp a b) (slice_cmp nat_cmp x y) same).0
-
--- the users that stand after a length are no path
-pub no_path : (len : ℕ) (bytes rest more found : List ℕ) → Leads IsNum num_bytes bytes len rest → Leads (AreNums len) nums_bytes rest found more
-    → alternates found ≡ false → NoneLeads IsKeyPath path_bytes bytes
-no_path len bytes rest more found n u repeat path r h =
-    let form = num_form (length path) len (nums_bytes path ++ r) rest h.fits.short n.fits (sym h.split ∙ n.split) in
-    let same = nums_one len path found r more (record { many = form.0; each = h.fits.users }) u.fits (form.1 ∙ u.split) in
-    false≢true (sym repeat ∙ ap alternates (sym same) ∙ h.fits.apart)
-
--- ---- spellings one after the other, up to the end
-
 -- no spelling is empty or begins another
 pub record IsForm {A : Type 0} (Fits : A → Type 0) (spelling : A → List ℕ) : Type 0 where
   pub form : (a b : A) (x y : List ℕ) → Fits a → Fits b → spelling a ++ x ≡ spelling b ++ y → (a ≡ b) × (x ≡ y)
   pub some : (a : A) (more : List ℕ) → [] ≡ spelling a ++ more → ⊥
 
+-- ---- as many spellings, one after the other
+
 module _ {A : Type 0} {Fits : A → Type 0} {spelling : A → List ℕ} (is : IsForm Fits spelling) where
+  pub many_push : (k : ℕ) (v : A) (bytes rest more : List ℕ) (found : List A) → Leads (AreMany Fits k) (flat_map spelling) bytes found rest → Leads Fits spelling rest v more
+      → Leads (AreMany Fits (k + 1)) (flat_map spelling) bytes (found ++ v ∷ []) more
+  many_push k v bytes rest more found h u = record {
+    fits = record { many = length_push found v ∙ ap (λ n. n + 1) h.fits.many; each = all_push Fits found v h.fits.each u.fits };
+    split = seq_push spelling bytes rest more found v h.split u.split;
+  }
+
+  pub many_next : (k : ℕ) (v : A) (rest more : List ℕ) (left : List A) (r : List ℕ) → Leads (AreMany Fits (suc k)) (flat_map spelling) rest left r → Leads Fits spelling rest v more
+      → (after : List A) × Leads (AreMany Fits k) (flat_map spelling) more after r
+  many_next k v rest more [] r h u = let e = h.fits.many in absurd (omega arith)
+  many_next k v rest more (w ∷ left) r h u =
+      let e = h.fits.many in
+      let form = is.form w v (flat_map spelling left ++ r) more h.fits.each.0 u.fits (sym (append_assoc (spelling w) (flat_map spelling left) r) ∙ sym h.split ∙ u.split) in
+      (left, record { fits = record { many = omega arith; each = h.fits.each.1 }; split = sym form.1 })
+
+  pub many_none : (k : ℕ) (rest : List ℕ) → NoneLeads Fits spelling rest → NoneLeads (AreMany Fits (suc k)) (flat_map spelling) rest
+  many_none k rest none [] r h = let e = h.fits.many in omega arith
+  many_none k rest none (w ∷ left) r h =
+      none w (flat_map spelling left ++ r) (record { fits = h.fits.each.0; split = h.split ∙ append_assoc (spelling w) (flat_map spelling left) r })
+
+  -- ---- spellings one after the other, up to the end
+
   pub seq_none : (rest : List ℕ) → 0 < length rest → NoneLeads Fits spelling rest → NoneReads (AllByRecursion Fits) (flat_map spelling) rest
   seq_none rest some none [] h = let e = ap length h.spelled in omega arith
   seq_none rest some none (v ∷ vs) h = none v (flat_map spelling vs) (record { fits = h.fits.0; split = sym h.spelled ∙ append_nothing })
@@ -105,6 +93,29 @@ module _ {A : Type 0} {Fits : A → Type 0} {spelling : A → List ℕ} (is : Is
   seq_next v rest more (w ∷ left) h u =
       let form = is.form w v (flat_map spelling left) more h.fits.0 u.fits (h.spelled ∙ u.split) in
       (left, record { fits = h.fits.1; spelled = form.1 })
+
+-- ---- numbers one after the other
+
+num_some : (n : ℕ) (more : List ℕ) → [] ≡ num_bytes n ++ more → ⊥
+num_some n more e = cc
+
+pub num_forms : IsForm IsNum num_bytes
+num_forms = record { form = num_form; some = num_some }
+
+nums_one : (k : ℕ) (a b x y : List ℕ) → AreMany IsNum k a → AreMany IsNum k b → nums_bytes a ++ x ≡ nums_bytes b ++ y → a ≡ b
+nums_one k a b x y fa fb e =
+    let same = sym (users a b x y (fa.many ∙ sym fb.many) fa.each fb.each) ∙ tied (nums_bytes a ++ x) (nums_bytes b ++ y) e in
+    same_bytes a b (both_equal (slice_cmp nat_cmp a b) (slice_cmp nat_cmp x y) same).0
+
+-- the users that stand after a length are no path
+pub no_path : (len : ℕ) (bytes rest more found : List ℕ) → Leads IsNum num_bytes bytes len rest → Leads (AreMany IsNum len) nums_bytes rest found more
+    → alternates found ≡ false → NoneLeads IsKeyPath path_bytes bytes
+no_path len bytes rest more found n u repeat path r h =
+    let form = num_form (length path) len (nums_bytes path ++ r) rest h.fits.short n.fits (sym h.split ∙ n.split) in
+    let same = nums_one len path found r more (record { many = form.0; each = h.fits.users }) u.fits (form.1 ∙ u.split) in
+    false≢true (sym repeat ∙ ap alternates (sym same) ∙ h.fits.apart)
+
+-- ---- values
 
 value_some : (v : Value) (more : List ℕ) → [] ≡ value_bytes v ++ more → ⊥
 value_some (Int m) more e = cc

@@ -24,7 +24,7 @@ pub use changes::write_rows;
 pub use copies::{clear_rows, copy_rows};
 pub use explicit::has_explicit_under;
 pub use gaps::first_gap;
-pub use keys::put_pair;
+pub use keys::{put_key_vals, put_pair, put_val_key};
 pub use laws::{differences_add, differences_are_counted, differences_are_listed};
 pub use marks::{mark_under, marks_under, numbered_under, write_marks};
 pub use raw::{RawError, read_raw, read_raw_in};

@@ -24,7 +24,7 @@ StoredBaseIsOne = (t : Tables) (a b : Contents) → Stores t a → Stores t b �
 
 -- the row of the format and the depth of world 0 store the empty base
 abbrev pub TwoRowsStoreEmpty : Type 0
-TwoRowsStoreEmpty = Stores (tables.insert (tables.insert tables.empty (place meta_codec tt) (meta_codec.row_bytes 2)) (place depth_codec 0) (depth_codec.row_bytes 0)) empty_contents
+TwoRowsStoreEmpty = Stores (tables.insert (tables.insert tables.empty (place meta_codec tt) (meta_codec.row_bytes 3)) (place depth_codec 0) (depth_codec.row_bytes 0)) empty_contents
 
 -- the row of a relation whose number is the next adds the relation
 abbrev pub PutStoresRelation : Type 0

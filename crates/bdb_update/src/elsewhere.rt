@@ -5,6 +5,7 @@ ghost use Rattle.bdb_key.specs.Rows.{MayBeTuple};
 ghost use Rattle.bdb_tables.specs.Grammar.{InGrammar};
 ghost use Rattle.bdb_update.specs.Elsewhere.{AreFresh, AreLost, HasTuples, IsFresh, IsLost, kept_if};
 
+use crate::keys::key_length_of;
 use crate::numbers::number_of;
 use crate::reading::is_explicit;
 use bdb_base::{Exact, List, Stmt, Tuple, has_tuple};
@@ -106,7 +107,8 @@ fn is_lost<K: Keeper>(
         Ok(None) => return Ok(true),
         Err(error) => return Err(error),
     };
-    match is_explicit(alloc, keeper, tuple, tid, Some(wid)) {
+    let n = key_length_of(tuple);
+    match is_explicit(alloc, keeper, n, tuple, tid, Some(wid)) {
         Ok(told) => Ok(!told),
         Err(error) => Err(error),
     }

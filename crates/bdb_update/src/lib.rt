@@ -35,6 +35,7 @@ pub use change_laws::{
 };
 pub use changing::change_statements;
 pub use dropping::drop_statement;
+pub use keys::stored_key_length;
 pub use reading::is_told;
 pub use replacing::drop_statements;
 pub use stored_laws::{

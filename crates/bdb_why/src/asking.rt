@@ -11,6 +11,7 @@ use crate::nearby::near_statements;
 use bdb_base::{Sign, Tuple};
 use bdb_keep::Keeper;
 use bdb_tables::TabError;
+use bdb_update::stored_key_length;
 use std::alloc::Global;
 
 /// Why a path believes a signed tuple, or doesn't, by the base that the tables store. Nothing is written. A read for each
@@ -36,7 +37,7 @@ pub fn why<K: Keeper>(
         Ok(near) => near,
         Err(error) => return Err(error),
     };
-    match why_among(alloc, 1, near.as_slice(), path, t, s) {
+    match why_among(alloc, stored_key_length(t.rel), near.as_slice(), path, t, s) {
         Ok(y) => Ok(y),
         Err(_) => {
             keeper.undo();

@@ -55,13 +55,14 @@ returns-in-Ok-statements_of-clause-taken g c =
     let conds = c.args.conds.now in
     let found = c.in-Ok.found in
     let us = c.in-Ok-explicit_tuples.tuples.items in
+    let n = c.stored_key_length-n.result in
     let state : FindsState kept path found = subst (λ p. FindsState kept p found) c.as_slice.ensures.users c.in-Ok.ensures.found in
     let key : option_copied c.key_asked-key.result ≡ key_asked conds = c.key_asked-key.ensures ∙ ap key_asked c.as_slice-conds.ensures in
     let there : may_be_there (key_asked conds) ≡ true = ap may_be_there (sym key) ∙ sym c.may_be_there.ensures ∙ c.if-not-may_be_there.false in
     let plain : MatchOption (key_asked conds) (Unit {0}) IsPlainValue = plain_key (key_asked conds) there (subst (λ k. MatchOption k (Unit {0}) IsWhole) key c.in-Ok-explicit_tuples.ensures.whole) in
-    let read : AreTuplesRead mid new (beginning found.0 rel (key_asked conds)) s us = subst (λ k. AreTuplesRead mid new (beginning found.0 rel k) s us) key c.in-Ok-explicit_tuples.ensures.tuples in
+    let read : AreTuplesRead mid new (beginning n found.0 rel (key_asked conds)) s us = subst (λ k. AreTuplesRead mid new (beginning n found.0 rel k) s us) key c.in-Ok-explicit_tuples.ensures.tuples in
     λ b has. c.in-Ok-statements_of.ensures ∙ ap (λ xs. statements_of path s xs us) c.as_slice-conds.ensures
-    ∙ read_are_taken kept path found.0 found.1 state s rel conds b has c.if-not-own.false c.ranges.rel.fits mid new c.in-Ok.ensures.kept plain us read
+    ∙ read_are_taken kept path found.0 found.1 state s rel conds b has c.if-not-own.false c.ranges.rel.fits n (c.stored_key_length-n.ensures kept) mid new c.in-Ok.ensures.kept plain us read
 
 pub returns-in-Ok-statements_of-clause-reads : goal.returns-in-Ok-statements_of-clause-reads
 returns-in-Ok-statements_of-clause-reads g c =
@@ -75,11 +76,12 @@ returns-in-Ok-statements_of-clause-reads g c =
     let conds = c.args.conds.now in
     let found = c.in-Ok.found in
     let us = c.in-Ok-explicit_tuples.tuples.items in
+    let n = c.stored_key_length-n.result in
     let state : FindsState kept path found = subst (λ p. FindsState kept p found) c.as_slice.ensures.users c.in-Ok.ensures.found in
     let key : option_copied c.key_asked-key.result ≡ key_asked conds = c.key_asked-key.ensures ∙ ap key_asked c.as_slice-conds.ensures in
     let there : may_be_there (key_asked conds) ≡ true = ap may_be_there (sym key) ∙ sym c.may_be_there.ensures ∙ c.if-not-may_be_there.false in
     let plain : MatchOption (key_asked conds) (Unit {0}) IsPlainValue = plain_key (key_asked conds) there (subst (λ k. MatchOption k (Unit {0}) IsWhole) key c.in-Ok-explicit_tuples.ensures.whole) in
-    let read : AreTuplesRead mid new (beginning found.0 rel (key_asked conds)) s us = subst (λ k. AreTuplesRead mid new (beginning found.0 rel k) s us) key c.in-Ok-explicit_tuples.ensures.tuples in
+    let read : AreTuplesRead mid new (beginning n found.0 rel (key_asked conds)) s us = subst (λ k. AreTuplesRead mid new (beginning n found.0 rel k) s us) key c.in-Ok-explicit_tuples.ensures.tuples in
     let first : RisesWithin (length path + 1) old.reads mid.reads = subst (λ p. RisesWithin (length p + 1) old.reads mid.reads) c.as_slice.ensures.users c.in-Ok.ensures.reads in
-    λ b has. reads_are_few kept path found.0 found.1 state s rel conds b has c.if-not-own.false c.ranges.rel.fits mid new c.in-Ok.ensures.kept plain us read
+    λ b has. reads_are_few kept path found.0 found.1 state s rel conds b has c.if-not-own.false c.ranges.rel.fits n (c.stored_key_length-n.ensures kept) mid new c.in-Ok.ensures.kept plain us read
     old.reads c.in-Ok-explicit_tuples.ensures.read.counts.reads first

@@ -11,5 +11,5 @@ returns-then-number-ne-FORMAT-clause-verdict g c =
 pub returns-in-Ok-None-clause-verdict : goal.returns-in-Ok-None-clause-verdict
 returns-in-Ok-None-clause-verdict g c =
     let t = (g.K.Keeper.seen c.args.keeper.now).kept in
-    let two : c.args.number ≡ 2 = search rules in
-    base_damaged t (subst (HasFormat t) two c.requires.format) (none_told _ _ c.in-Ok-None.field-0 c.in-Ok-None.field-0-is c.in-Ok-None.ensures.base)
+    let three : c.args.number ≡ 3 = search rules in
+    base_damaged t (subst (HasFormat t) three c.requires.format) (none_told _ _ c.in-Ok-None.field-0 c.in-Ok-None.field-0-is c.in-Ok-None.ensures.base)

@@ -25,5 +25,5 @@ returns-in-Ok-clause-lost g c =
     let u = c.args.tuple.now in
     let has = subst (λ (o : Option ℕ). HasAt tuple_ix_codec t u o) c.in-Ok-Some.field-0-is c.in-Ok-Some.ensures.found in
     subst (λ b. IsLost t c.args.wid c.args.reached.now u (not (b || c.in-Ok.told))) (sym c.has_tuple.ensures ∙ c.if-has_tuple.false)
-    (lost_some t u c.in-Ok-Some.ensures.fits c.args.wid c.in-Ok-Some.tid c.args.reached.now c.in-Ok.told has.in_grammar has
-    (subst (λ (v : Tables). AnyTells v (key_rest u c.in-Ok-Some.tid) (Some c.args.wid) c.in-Ok.told) c.in-Ok-Some.ensures.read.kept c.in-Ok.ensures.told))
+    (lost_some t u c.in-Ok-Some.ensures.fits c.key_length_of-n.result c.args.wid c.in-Ok-Some.tid c.args.reached.now c.in-Ok.told has.in_grammar has (c.key_length_of-n.ensures t)
+    (subst (λ (v : Tables). AnyTells v (key_rest (λ _. c.key_length_of-n.result) u c.in-Ok-Some.tid) (Some c.args.wid) c.in-Ok.told) c.in-Ok-Some.ensures.read.kept c.in-Ok.ensures.told))

@@ -12,7 +12,7 @@ pub returns-in-Ok-number_of-clause-place : goal.returns-in-Ok-number_of-clause-p
 returns-in-Ok-number_of-clause-place g c =
     place_is (g.K.Keeper.seen c.args.keeper.now).kept (g.K.Keeper.seen c.longest_state.new.keeper).kept (g.K.Keeper.seen c.read_rows.new.keeper).kept c.args.stmt.now _ c.as_slice-path.result.now
     c.as_slice-path.ensures.users c.in-Ok.ensures.kept (c.in-Ok-read_rows.ensures.read.kept ∙ c.in-Ok.ensures.kept) c.in-Ok.ensures.found c.in-Ok.ensures.within
-    c.in-Ok-read_rows.ensures.rows c.in-Ok-number_of.ensures.found c.in-Ok-number_of.ensures.fits
+    (c.key_length_of-key_len.ensures (g.K.Keeper.seen c.args.keeper.now).kept) c.in-Ok-read_rows.ensures.rows c.in-Ok-number_of.ensures.found c.in-Ok-number_of.ensures.fits
 
 pub returns-in-Ok-number_of-clause-read : goal.returns-in-Ok-number_of-clause-read
 returns-in-Ok-number_of-clause-read g c =
