@@ -24,9 +24,12 @@ pub record Contents : Type 0 where
   pub catalog : Catalog
   pub stmts : List Stmt
 
--- the length of each relation's key: one column
+abbrev pub key_at : Option RelDef → ℕ
+key_at None = 1
+key_at (Some def) = cond (nat_lt 3 (length def.cols)) 2 1
+
 abbrev pub key_lengths : List RelDef → ℕ → ℕ
-key_lengths rels rel = 1
+key_lengths rels rel = key_at (slice_get rels rel)
 
 -- a number is that of a user: they are numbered from 1
 abbrev pub is_user : List (List ℕ) → ℕ → Bool

@@ -11,7 +11,16 @@ use crate::tuple::Tuple;
 pub fn key_length(rels: &[RelDef], rel: u32) -> u32
     ensures { result ≡ key_lengths rels.now rel }
 {
-    1
+    match rels.get(rel as usize) {
+        Some(def) => {
+            if 3 < def.cols.len() {
+                2
+            } else {
+                1
+            }
+        }
+        None => 1,
+    }
 }
 
 /// The key of a tuple: its first `n` values, or all of them where it has fewer.
