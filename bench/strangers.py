@@ -21,7 +21,7 @@ ENDLESS = "create view kept as with recursive n(tab, k, v) as (select 1, x'', x'
 
 def chain(many):
     """The rows of so many worlds, each one user deeper than the one before it: the number of each, its depth, and the edge to it."""
-    rows = [(1, (0,), 2), (6, (0,), 0)]
+    rows = [(1, (0,), 3), (6, (0,), 0)]
     for world in range(1, many):
         user = 2 - world % 2
         rows += [(6, (world,), world), (9, (world - 1, user), world), (10, (world, world - 1, user), None)]

@@ -24,9 +24,10 @@ use Rattle.bdb_base.specs.SameLemmas.{same_text-Decides, same_path-Decides, same
 use Rattle.bdb_base.specs.SortedSet.{IsExactOrder, is_member, ascending, put_at, put_in}
 use Rattle.bdb_base.specs.Clash.{key_of, same_key, clash}
 use Rattle.bdb_base.specs.Worlds.{contradicted}
-use Rattle.bdb_base.specs.Bases.{AreStatements, are_distinct, belongs, fits_definition, fits_relation, is_user, is_plain, is_valid_relation, key_lengths, stands, tuple_count, world_count, with_user, with_relation, with_statement}
+use Rattle.bdb_base.specs.Bases.{AreStatements, are_distinct, belongs, fits_definition, fits_relation, is_user, is_plain, is_valid_relation, key_at, key_lengths, stands, tuple_count, world_count, with_user, with_relation, with_statement}
 use Rattle.bdb_base.specs.States.{prefixes, stated_prefixes}
 use Rattle.bdb_base.specs.BaseLaws.{PutIsValid, TakeIsValid, AddUserIsValid, AddRelationIsValid, PutCountsTuple, PutCountsStatement}
+use Rattle.bdb_base.proofs.ClashLemmas.{clash_by_length}
 use Rattle.bdb_base.proofs.ListLemmas.{list_all_weaker, list_all_both, list_all_from_none, list_all-filter, list_any-filter_none, length-filter_le}
 use Rattle.bdb_base.proofs.SetLemmas.{cases_Ordering, are_above, less_from_greater, above_weaker, absent_above, list_any-put_in, list_all-put_in, put_keeps_order, take_keeps_order}
 use Rattle.bdb_base.proofs.WorldRowsLemmas.{list_any-flat_map}
@@ -248,6 +249,33 @@ add_user_is_valid c stmts name v plain apart room =
       };
     }
 
+definition_stays : (rels : List RelDef) (def : RelDef) (n : ℕ) (vals : List Value) → fits_definition (slice_get rels n) vals ≡ true → slice_get (rels ++ def ∷ []) n ≡ slice_get rels n
+definition_stays [] def n vals h = absurd (false≢true h)
+definition_stays (r ∷ rels) def zero vals h = refl
+definition_stays (r ∷ rels) def (suc n) vals h = definition_stays rels def n vals h
+
+clash_elsewhere : (keys more : ℕ → ℕ) (t : Tuple) (s : Sign) (u : Tuple) (r : Sign) → more t.rel ≡ keys t.rel → clash more t s u r ≡ clash keys t s u r
+clash_elsewhere keys more t s u r e = sym (clash_by_length more t s u r) ∙ ap (λ n. clash (λ _. n) t s u r) e ∙ clash_by_length keys t s u r
+
+contradicted_elsewhere : (keys more : ℕ → ℕ) (stmts : List Stmt) (w : List ℕ) (t : Tuple) (s : Sign) → more t.rel ≡ keys t.rel → contradicted more stmts w t s ≡ contradicted keys stmts w t s
+contradicted_elsewhere keys more [] w t s e = refl
+contradicted_elsewhere keys more (x ∷ xs) w t s e =
+    ap (λ b. (same_path x.path w && b) || contradicted more xs w t s) (clash_elsewhere keys more t s x.tuple x.sign e)
+    ∙ ap (λ b. (same_path x.path w && clash keys t s x.tuple x.sign) || b) (contradicted_elsewhere keys more xs w t s e)
+
+apart_stays : (c : Catalog) (def : RelDef) (stmts xs : List Stmt) → list_all (belongs c) xs ≡ true
+    → list_all (λ x. not (contradicted (key_lengths c.rels) stmts x.path x.tuple x.sign)) xs ≡ true
+    → list_all (λ x. not (contradicted (key_lengths (c.rels ++ def ∷ [])) stmts x.path x.tuple x.sign)) xs ≡ true
+apart_stays c def stmts [] b h = refl
+apart_stays c def stmts (x ∷ xs) b h =
+    let p = and_parts (belongs c x) (list_all (belongs c) xs) b in
+    let q = and_parts (not (contradicted (key_lengths c.rels) stmts x.path x.tuple x.sign)) (list_all (λ y. not (contradicted (key_lengths c.rels) stmts y.path y.tuple y.sign)) xs) h in
+    let same : key_lengths (c.rels ++ def ∷ []) x.tuple.rel ≡ key_lengths c.rels x.tuple.rel =
+    ap key_at (definition_stays c.rels def x.tuple.rel x.tuple.vals (belongs_parts c x p.0).tuple) in
+    and_from (not (contradicted (key_lengths (c.rels ++ def ∷ [])) stmts x.path x.tuple x.sign)) (list_all (λ y. not (contradicted (key_lengths (c.rels ++ def ∷ [])) stmts y.path y.tuple y.sign)) xs)
+    (ap not (contradicted_elsewhere (key_lengths c.rels) (key_lengths (c.rels ++ def ∷ [])) stmts x.path x.tuple x.sign same) ∙ q.0)
+    (apart_stays c def stmts xs p.1 q.1)
+
 pub add_relation_is_valid : AddRelationIsValid
 add_relation_is_valid c stmts def v valid apart room =
     let l = length-append c.rels (def ∷ []) in
@@ -263,7 +291,7 @@ add_relation_is_valid c stmts def v valid apart room =
       stmts = record {
         sorted = v.stmts.sorted;
         belong = list_all_weaker (belongs c) (belongs (with_relation c def)) (belongs_with_relation c def) stmts v.stmts.belong;
-        no_clash = v.stmts.no_clash;
+        no_clash = apart_stays c def stmts stmts v.stmts.belong v.stmts.no_clash;
         few_stmts = v.stmts.few_stmts;
         few_tuples = v.stmts.few_tuples;
         few_worlds = v.stmts.few_worlds;

@@ -1,5 +1,5 @@
 -- The bases with which the tests try a base: what a call requires of them, and what it leaves.
-use Rattle.std.proofs.Common.{◌≡◌, ◌∙◌, ◌-◌, length, take, refl, List, [], ◌∷◌, ℕ, ap, sym, subst, codes, pos, true, suc, ◌<◌, lit<}
+use Rattle.std.proofs.Common.{◌≡◌, ◌∙◌, length, refl, List, [], ◌∷◌, ℕ, ap, sym, subst, codes, pos, true, suc, ◌<◌, lit<}
 use Prim.Native.Nat.{zero}
 use Rattle.std.specs.Str.{IsAscii, is_utf8}
 use Rattle.std.proofs.lemmas.Str.{IsUtf8-from_ascii, is_utf8-from_IsUtf8}
@@ -11,7 +11,7 @@ use Rattle.bdb_base.specs.declared.kinds.Sign.TheVariants.{Plus}
 use Rattle.bdb_base.specs.declared.kinds.Stmt.{Stmt}
 use Rattle.bdb_base.specs.declared.kinds.Value.TheVariants.{Int}
 use Rattle.bdb_base.specs.Samples.{sample_relation, sample_statement}
-use Rattle.bdb_base.specs.Bases.{Contents, IsValid, empty_contents, with_user, with_relation, with_statement}
+use Rattle.bdb_base.specs.Bases.{Contents, IsValid, empty_contents, with_user, with_relation, without_last_user, without_last_relation, with_statement}
 
 abbrev pub first : Contents
 first = record empty_contents { catalog = with_user empty_contents.catalog (codes "Ann") }
@@ -109,19 +109,19 @@ pub after_statement : (b next : Contents) (s : Stmt) → next ≡ statement_adde
 after_statement b next s h e f = h ∙ ap (λ v. statement_added v s) e ∙ ap (statement_added second) f
 
 -- the second base without its relation, and the first one without its user
-pub relation_goes : (b : Contents) → b ≡ second → IsValid (record b.catalog { rels = take (length b.catalog.rels - 1) b.catalog.rels }) b.stmts
+pub relation_goes : (b : Contents) → b ≡ second → IsValid (without_last_relation b.catalog) b.stmts
 relation_goes b e =
-    let P : Contents → Type 0 = λ v. IsValid (record v.catalog { rels = take (length v.catalog.rels - 1) v.catalog.rels }) v.stmts in
+    let P : Contents → Type 0 = λ v. IsValid (without_last_relation v.catalog) v.stmts in
     subst P (sym e) first_valid
 
-pub user_goes : (b : Contents) → b ≡ first → IsValid (record b.catalog { users = take (length b.catalog.users - 1) b.catalog.users }) b.stmts
+pub user_goes : (b : Contents) → b ≡ first → IsValid (without_last_user b.catalog) b.stmts
 user_goes b e =
-    let P : Contents → Type 0 = λ v. IsValid (record v.catalog { users = take (length v.catalog.users - 1) v.catalog.users }) v.stmts in
+    let P : Contents → Type 0 = λ v. IsValid (without_last_user v.catalog) v.stmts in
     subst P (sym e) empty_valid
 
 -- a base without its last relation
 abbrev pub relation_taken : Contents → Contents
-relation_taken v = record v { catalog = record v.catalog { rels = take (length v.catalog.rels - 1) v.catalog.rels } }
+relation_taken v = record v { catalog = without_last_relation v.catalog }
 
 pub after_pop : (b next : Contents) → next ≡ relation_taken b → b ≡ second → next ≡ first
 after_pop b next h e = h ∙ ap relation_taken e

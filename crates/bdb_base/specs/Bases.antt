@@ -1,5 +1,5 @@
 -- Bases, and when one is valid.
-use Rattle.std.specs.Prelude.{◌≡◌, ℕ, ◌+◌, Bool, true, false, not, ◌&&◌, nat_lt, nat_le, List, [], ◌∷◌, ◌++◌, length, map, Option, None, Some, cond}
+use Rattle.std.specs.Prelude.{◌≡◌, ℕ, ◌+◌, ◌-◌, Bool, true, false, not, ◌&&◌, nat_lt, nat_le, List, [], ◌∷◌, ◌++◌, length, map, take, Option, None, Some, cond}
 use Rattle.std.specs.List.{list_any, list_all, slice_get}
 use Rattle.std.specs.Str.{is_utf8}
 use Rattle.bdb_base.specs.declared.kinds.Value.{Value}
@@ -24,9 +24,14 @@ pub record Contents : Type 0 where
   pub catalog : Catalog
   pub stmts : List Stmt
 
--- the length of each relation's key: one column
+-- the length of a definition's key; where there is none it counts as 1
+abbrev pub key_at : Option RelDef → ℕ
+key_at None = 1
+key_at (Some def) = def.key
+
+-- the length of each relation's key
 abbrev pub key_lengths : List RelDef → ℕ → ℕ
-key_lengths rels rel = 1
+key_lengths rels rel = key_at (slice_get rels rel)
 
 -- a number is that of a user: they are numbered from 1
 abbrev pub is_user : List (List ℕ) → ℕ → Bool
@@ -75,10 +80,14 @@ distinct_count same (x ∷ xs) = cond (list_any (same x) xs) 0 1 + distinct_coun
 abbrev pub users_name : List ℕ
 users_name = 85 ∷ 115 ∷ 101 ∷ 114 ∷ 115 ∷ []
 
--- at least one column and not too many, plain names that differ, and a plain name that isn't `Users`
+-- a key is of the first columns, at least one and at most all
+abbrev pub is_key : RelDef → Bool
+is_key def = nat_lt 0 def.key && nat_le def.key (length def.cols)
+
+-- at least one column and not too many, plain names that differ, a plain name that isn't `Users`, and a key
 abbrev pub is_valid_relation : RelDef → Bool
 is_valid_relation def = nat_lt 0 (length def.cols) && nat_le (length def.cols) most_columns && (are_distinct (map (λ c. c.name) def.cols)
-    && list_all (λ c. is_plain c.name) def.cols && (is_plain def.name && not (same_text def.name users_name)))
+    && list_all (λ c. is_plain c.name) def.cols && (is_plain def.name && not (same_text def.name users_name)) && is_key def)
 
 -- the users and relations have plain names that differ, and are not too many
 pub record IsCatalog (c : Catalog) : Type 0 where
@@ -131,6 +140,14 @@ with_user c name = record c { users = c.users ++ name ∷ [] }
 -- the catalog with one more relation
 abbrev pub with_relation : Catalog → RelDef → Catalog
 with_relation c def = record c { rels = c.rels ++ def ∷ [] }
+
+-- the catalog without the user added last
+abbrev pub without_last_user : Catalog → Catalog
+without_last_user c = record c { users = take (length c.users - 1) c.users }
+
+-- the catalog without the relation added last
+abbrev pub without_last_relation : Catalog → Catalog
+without_last_relation c = record c { rels = take (length c.rels - 1) c.rels }
 
 -- a statement stands
 abbrev pub stands : List Stmt → Stmt → Bool

@@ -1,6 +1,6 @@
 // Bases.
-ghost use Rattle.std.specs.Prelude.{◌≡◌, ◌<◌, ◌-◌, not, length, take, IfOk, OnOk, OnErr};
-ghost use Rattle.bdb_base.specs.Bases.{IsValid, empty_contents, stands, with_statement, without_statement, with_user, with_relation};
+ghost use Rattle.std.specs.Prelude.{◌≡◌, ◌<◌, not, length, IfOk, OnOk, OnErr};
+ghost use Rattle.bdb_base.specs.Bases.{IsValid, empty_contents, stands, with_statement, without_last_relation, without_last_user, without_statement, with_user, with_relation};
 ghost use Rattle.bdb_base.specs.Samples.{sample_relation, sample_statement};
 
 use crate::kinds::{Catalog, RelDef, Stmt};
@@ -85,21 +85,21 @@ impl Base {
         self.catalog.rels.push(def)
     }
 
-    /// Takes the user added last away.
+    /// Takes the user added last away, which no statement may name: so that an addition can be taken back.
     pub fn pop_user(&mut self)
         requires some { 0 < length self.old.catalog.users }
-        requires valid { IsValid (record self.old.catalog { users = take (length self.old.catalog.users - 1) self.old.catalog.users }) self.old.stmts }
-        ensures { self.new ≡ record self.old { catalog = record self.old.catalog { users = take (length self.old.catalog.users - 1) self.old.catalog.users } } }
+        requires valid { IsValid (without_last_user self.old.catalog) self.old.stmts }
+        ensures { self.new ≡ record self.old { catalog = without_last_user self.old.catalog } }
     {
         let last = self.catalog.users.len() - 1;
         self.catalog.users.truncate(last);
     }
 
-    /// Takes the relation added last away.
+    /// Takes the relation added last away, of which no tuple may stand: so that an addition can be taken back.
     pub fn pop_relation(&mut self)
         requires some { 0 < length self.old.catalog.rels }
-        requires valid { IsValid (record self.old.catalog { rels = take (length self.old.catalog.rels - 1) self.old.catalog.rels }) self.old.stmts }
-        ensures { self.new ≡ record self.old { catalog = record self.old.catalog { rels = take (length self.old.catalog.rels - 1) self.old.catalog.rels } } }
+        requires valid { IsValid (without_last_relation self.old.catalog) self.old.stmts }
+        ensures { self.new ≡ record self.old { catalog = without_last_relation self.old.catalog } }
     {
         let last = self.catalog.rels.len() - 1;
         self.catalog.rels.truncate(last);
@@ -172,7 +172,7 @@ mod tests {
             kind: Kind::Int,
         })?;
         let name = Txt::try_new(alloc, "R")?;
-        Ok(RelDef { name, cols })
+        Ok(RelDef { name, cols, key: 1 })
     }
 
     fn statement(alloc: Global) -> Result<Stmt, Fail>

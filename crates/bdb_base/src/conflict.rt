@@ -1,5 +1,5 @@
 // Keys, equality of values and tuples, and when two signed tuples clash.
-ghost use Rattle.std.specs.Prelude.{◌≡◌, slice_get, Some};
+ghost use Rattle.std.specs.Prelude.{◌≡◌};
 ghost use Rattle.bdb_base.specs.Bases.{key_lengths};
 ghost use Rattle.bdb_base.specs.Same.{same_value, same_values, same_tuple};
 ghost use Rattle.bdb_base.specs.Clash.{key_of, same_key, clash};
@@ -7,11 +7,11 @@ ghost use Rattle.bdb_base.specs.Clash.{key_of, same_key, clash};
 use crate::kinds::{RelDef, Sign, Value};
 use crate::tuple::Tuple;
 
-/// The length of a relation's key: one column.
+/// The length of a relation's key, in columns; 1 where there is no such relation.
 pub fn key_length(rels: &[RelDef], rel: u32) -> u32
     ensures { result ≡ key_lengths rels.now rel }
 {
-    1
+    rels.get(rel as usize).map_or(1, |def| def.key)
 }
 
 /// The key of a tuple: its first `n` values, or all of them where it has fewer.
@@ -20,13 +20,6 @@ pub fn key_of(t: &Tuple, n: u32) -> &[Value]
 {
     let vals = t.vals.as_slice();
     &vals[..vals.len().min(n as usize)]
-}
-
-/// The first value of a tuple.
-pub fn first_value(t: &Tuple) -> &Value
-    ensures { slice_get t.now.vals 0 ≡ Some result.now }
-{
-    &t.vals.as_slice()[0]
 }
 
 /// Whether two values are equal.

@@ -43,11 +43,12 @@ pub struct ColDef {
     pub kind: Kind,
 }
 
-/// A relation. Its first column is its key.
+/// A relation. Its key is its first `key` columns: in a valid base at least one, at most all of them.
 #[derive(Drop)]
 pub struct RelDef {
     pub name: Txt,
     pub cols: List<ColDef>,
+    pub key: u32,
 }
 
 /// The relations, numbered from 0, and the users, numbered from 1, in order of creation.
@@ -185,7 +186,11 @@ impl Exact for RelDef {
     fn try_clone(&self, alloc: Global) -> Result<Self, AllocError> {
         let name = self.name.try_clone(alloc)?;
         let cols = self.cols.try_clone(alloc)?;
-        Ok(RelDef { name, cols })
+        Ok(RelDef {
+            name,
+            cols,
+            key: self.key,
+        })
     }
 }
 

@@ -25,9 +25,7 @@ mod validity;
 pub use base::Base;
 pub use changes::changed;
 pub use conditions::{compares, meets};
-pub use conflict::{
-    clash, first_value, key_length, key_of, same_key, same_tuple, same_value, same_values,
-};
+pub use conflict::{clash, key_length, key_of, same_key, same_tuple, same_value, same_values};
 pub use counts::{distinct_tuples, has_tuple};
 pub use kinds::{
     Catalog, Cmp, ColDef, Cond, Held, Item, Kind, Operand, Query, Ref, RelDef, SetCol, Sign, Stmt,

@@ -1,5 +1,5 @@
 -- What a valid catalog gives of the names that are found in it.
-use Rattle.std.proofs.Common.{◌≡◌, ◌∙◌, ℕ, ◌<◌, ◌≤◌, zero, suc, Bool, true, ◌&&◌, nat_lt, nat_le, List, [], ◌∷◌, length, Option, Some, None, find, sym, ap, subst, inl, inr, arith}
+use Rattle.std.proofs.Common.{◌≡◌, ◌∙◌, ℕ, ℤ, pos, unsigned_abs, int_lt, ◌^◌, ◌<◌, ◌≤◌, zero, suc, Bool, true, ◌&&◌, nat_lt, nat_le, List, [], ◌∷◌, length, Option, Some, None, find, sym, ap, subst, inl, inr, arith}
 use Rattle.std.specs.Option.{is_some, option_and_then, IfSome}
 use Rattle.std.specs.List.{list_all, slice_get}
 use Rattle.std.proofs.lemmas.Bool.{cases_Bool, and_parts, cond-true, cond-false, leb-true, ltb-true, eqb-true, not-false}
@@ -12,12 +12,12 @@ use Rattle.bdb_base.specs.Bases.{IsCatalog, is_valid_relation}
 use Rattle.bdb_base.specs.Same.{same_text}
 use Rattle.bdb_syntax.specs.declared.command.Command.{Command}
 use Rattle.bdb_bind.specs.Lookup.{number_of, columns_in, columns_of, path_of}
-use Rattle.bdb_bind.specs.Parts.{path_names, relation_name, tuple_values, relation_place, columns_for, change_columns}
+use Rattle.bdb_bind.specs.Parts.{path_names, new_columns, new_key, relation_name, tuple_values, relation_place, columns_for, change_columns}
 use Rattle.bdb_bind.specs.Lines.{unknown_relation, relation_line, values_arity, arity_line}
 use Rattle.bdb_bind.specs.Refusal.{names_refused}
 use Rattle.bdb_bind.proofs.Founds.{IsFound, found, is_there}
 use Rattle.bdb_bind.proofs.PathLemmas.{path_alternates}
-use Rattle.bdb_bind.proofs.Cleared.{cleared, neither, users_known, names_apart, not_refused}
+use Rattle.bdb_bind.proofs.Cleared.{cleared, neither, few_columns, key_told, users_known, names_apart, not_refused}
 
 pub users_few : (c : Catalog) → IsCatalog c → length c.users ≤ most_users
 users_few c valid = leb-true (length c.users) 256 valid.few_users
@@ -63,6 +63,15 @@ accepted_alternates catalog c names accepted same =
     let clear = cleared catalog c accepted in
     ap (λ n. alternates (path_of catalog.users n)) same
     ∙ path_alternates catalog.users (path_names c) (users_known catalog c clear.user) (names_apart c clear.no_repeat)
+
+-- the length of a new relation's key is a small number
+pub key_few : (catalog : Catalog) (c : Command) (said : Option ℤ) → names_refused catalog c ≡ None → said ≡ new_key c → IfSome said (λ n. unsigned_abs n < 2 ^ 32)
+key_few catalog c None accepted same = tt
+key_few catalog c (Some n) accepted same =
+    let clear = cleared catalog c accepted in
+    let within = (and_parts (int_lt (pos 0) n) (nat_le (unsigned_abs n) (length (new_columns c))) (key_told c n same clear.key)).1 in
+    let few = few_columns c clear.items in
+    omega (arith, leb-true (unsigned_abs n) (length (new_columns c)) within)
 
 -- the relation that a command names is there
 pub named_relation : (catalog : Catalog) (c : Command) (rel : List ℕ) → relation_name c ≡ Some rel → relation_line catalog c ≡ None

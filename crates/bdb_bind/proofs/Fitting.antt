@@ -1,8 +1,8 @@
 -- The law of fitting, command by command.
-use Rattle.std.proofs.Common.{◌≡◌, ◌∙◌, ℕ, ◌<◌, Bool, true, false, not, ◌&&◌, ◌||◌, nat_lt, nat_le, List, [], ◌∷◌, ◌++◌, length, map, Some, None, refl, sym, ap, arith, zero-add}
+use Rattle.std.proofs.Common.{◌≡◌, ◌∙◌, ℕ, ℤ, pos, negsuc, unsigned_abs, int_lt, Option, ◌<◌, Bool, true, false, not, ◌&&◌, ◌||◌, nat_lt, nat_le, List, [], ◌∷◌, ◌++◌, length, map, Some, None, refl, sym, ap, arith, zero-add}
 use Rattle.std.specs.Option.{is_some, is_none, option_and_then, unwrap_or}
 use Rattle.std.specs.List.{list_any, list_all, slice_get}
-use Rattle.std.proofs.lemmas.Bool.{ltb-false, and_from, and_parts, or_parts, not-true, not-false, not_from_false, le-leb, lt-ltb}
+use Rattle.std.proofs.lemmas.Bool.{ltb-true, ltb-false, and_from, and_parts, or_parts, not-true, not_from_false, le-leb, lt-ltb}
 use Rattle.std.proofs.lemmas.List.{map-append}
 use Rattle.bdb_base.specs.declared.kinds.Catalog.{Catalog}
 use Rattle.bdb_base.specs.declared.kinds.ColDef.{ColDef}
@@ -18,14 +18,14 @@ use Rattle.bdb_syntax.specs.declared.command.RawQuery.{RawQuery}
 use Rattle.bdb_syntax.specs.declared.command.RawSet.{RawSet}
 use Rattle.bdb_bind.specs.Lookup.{is_user_name, number_of, columns_in, columns_of, has_column}
 use Rattle.bdb_bind.specs.Parts.{query_of, relation_name, tuple_values, columns_for, change_columns, value_texts, side_texts, cond_columns, is_long, some_who_text, some_query_text, some_signed_text, some_text}
-use Rattle.bdb_bind.specs.Lines.{first_repeated, missing_column, items_line, relation_line, user_line, alias_line, column_line, repeat_line, taken_line, misfit, values_kind, fits_set, fits_cond, set_kinds, cond_kinds, change_kind, kind_line}
-use Rattle.bdb_bind.specs.Binding.{relation_at, bound_cond, bound_set, bound_of}
+use Rattle.bdb_bind.specs.Lines.{first_repeated, missing_column, items_line, relation_line, user_line, alias_line, column_line, key_line, repeat_line, taken_line, misfit, values_kind, fits_set, fits_cond, set_kinds, cond_kinds, change_kind, kind_line}
+use Rattle.bdb_bind.specs.Binding.{relation_at, key_length, bound_cond, bound_set, bound_of}
 use Rattle.bdb_bind.specs.QueryBinding.{bound_query}
 use Rattle.bdb_bind.specs.QueryLines.{query_items, query_relation, query_user, query_alias, query_column, query_repeat, query_kind}
 use Rattle.bdb_bind.specs.Refusal.{unsafe_line, refusal_of}
 use Rattle.bdb_bind.specs.Fits.{can_be_answered, is_unclean, names_allowed, is_allowed, set_fits, cond_fits, columns_numbered, fits_catalog, WhatIsBoundFits}
 use Rattle.bdb_bind.proofs.Founds.{all_pass}
-use Rattle.bdb_bind.proofs.Cleared.{IsCleared, cleared, both_accepted, neither, not_refused, nothing_mapped, no_long_text, few_columns}
+use Rattle.bdb_bind.proofs.Cleared.{IsCleared, cleared, both_accepted, neither, not_refused, nothing_mapped, no_long_text, few_columns, key_told}
 use Rattle.bdb_bind.proofs.CatalogLemmas.{relation_found, named_relation, values_counted}
 use Rattle.bdb_bind.proofs.QueryFitting.{IsClearQuery, clear_query_fits}
 use Rattle.bdb_bind.proofs.FitLemmas.{plain_text, path_fits, values_fit, sets_fit, conds_fit, none_among, any_mapped, distinct_with, none_repeated}
@@ -106,13 +106,25 @@ user_free : (catalog : Catalog) (name : List ℕ) → taken_line catalog (Create
 unfolding taken_line
 user_free catalog name e = not_refused _ _ e
 
-relation_free : (catalog : Catalog) (name : List ℕ) (cols : List ColDef) → taken_line catalog (CreateRelation name cols) ≡ None
+relation_free : (catalog : Catalog) (name : List ℕ) (cols : List ColDef) (key : Option ℤ) → taken_line catalog (CreateRelation name cols key) ≡ None
     → (is_some (number_of catalog.rels name) ≡ false) × (same_text name users_name ≡ false) × (first_repeated [] cols ≡ None)
 unfolding taken_line
-relation_free catalog name cols e =
+relation_free catalog name cols key e =
     let parts = neither _ _ e in
     let free = or_parts (is_some (number_of catalog.rels name)) (same_text name users_name) (not_refused _ _ parts.0) in
     (free.0, free.1, nothing_mapped _ _ parts.1)
+
+above_none : (n : ℤ) → int_lt (pos 0) n ≡ true → nat_lt 0 (unsigned_abs n) ≡ true
+above_none (pos n) e = e
+above_none (negsuc n) e = cc
+
+-- the key of a new relation has a column, and no more than there are
+has_key : (name : List ℕ) (cols : List ColDef) (key : Option ℤ) → nat_lt 0 (length cols) ≡ true → key_line (CreateRelation name cols key) ≡ None
+    → (nat_lt 0 (key_length key) && nat_le (key_length key) (length cols)) ≡ true
+has_key name cols None some e = let one = ltb-true 0 (length cols) some in le-leb 1 (length cols) (omega arith)
+has_key name cols (Some n) some e =
+    let parts = and_parts (int_lt (pos 0) n) (nat_le (unsigned_abs n) (length cols)) (key_told (CreateRelation name cols (Some n)) n refl e) in
+    and_from (nat_lt 0 (unsigned_abs n)) (nat_le (unsigned_abs n) (length cols)) (above_none n parts.0) parts.1
 
 -- the texts of an allowed command are clean
 texts_clean : (c : Command) → is_allowed c ≡ true → some_text is_unclean c ≡ false
@@ -124,21 +136,21 @@ new_user_fits catalog name valid allowed clear =
     and_from _ _ (plain_text name (no_long_text (CreateUser name) clear.text) (texts_clean (CreateUser name) allowed))
     (distinct_with catalog.users name valid.users_differ (none_among (λ x. same_text x name) 1 catalog.users (user_free catalog name clear.taken)))
 
-new_relation_fits : (catalog : Catalog) (name : List ℕ) (cols : List ColDef) → IsCatalog catalog → is_allowed (CreateRelation name cols) ≡ true
-    → IsCleared catalog (CreateRelation name cols) → fits_catalog catalog (bound_of catalog (CreateRelation name cols)) ≡ true
-new_relation_fits catalog name cols valid allowed clear =
+new_relation_fits : (catalog : Catalog) (name : List ℕ) (cols : List ColDef) (key : Option ℤ) → IsCatalog catalog → is_allowed (CreateRelation name cols key) ≡ true
+    → IsCleared catalog (CreateRelation name cols key) → fits_catalog catalog (bound_of catalog (CreateRelation name cols key)) ≡ true
+new_relation_fits catalog name cols key valid allowed clear =
     let names = (and_parts true (nat_lt 0 (length cols) && (is_plain name && list_all (λ c. is_plain c.name) cols)) allowed).1 in
     let some = and_parts (nat_lt 0 (length cols)) (is_plain name && list_all (λ c. is_plain c.name) cols) names in
     let plain = and_parts (is_plain name) (list_all (λ c. is_plain c.name) cols) some.1 in
-    let free = relation_free catalog name cols clear.taken in
+    let free = relation_free catalog name cols key clear.taken in
     let apart = none_repeated [] cols free.2 in
-    let counts = and_from (nat_lt 0 (length cols)) (nat_le (length cols) 16) some.0 (le-leb (length cols) 16 (few_columns (CreateRelation name cols) clear.items)) in
+    let counts = and_from (nat_lt 0 (length cols)) (nat_le (length cols) 16) some.0 (le-leb (length cols) 16 (few_columns (CreateRelation name cols key) clear.items)) in
     let own = and_from (is_plain name) (not (same_text name users_name)) plain.0 (not_from_false (same_text name users_name) free.1) in
     let columns = and_from (are_distinct (map (λ c. c.name) cols)) (list_all (λ c. is_plain c.name) cols) apart.distinct plain.1 in
     let others : list_any (λ x. same_text x name) (map (λ r. r.name) catalog.rels) ≡ false =
     any_mapped (λ x. same_text x name) (λ r. r.name) catalog.rels ∙ none_among (λ r. same_text r.name name) 0 catalog.rels free.0 in
-    and_from _ _ (and_from _ _ counts (and_from _ _ columns own))
-    (ap are_distinct (map-append (λ r. r.name) catalog.rels (record { name = name; cols = cols } ∷ []))
+    and_from _ _ (and_from _ _ counts (and_from _ _ (and_from _ _ columns own) (has_key name cols key some.0 clear.key)))
+    (ap are_distinct (map-append (λ r. r.name) catalog.rels (record { name = name; cols = cols; key = key_length key } ∷ []))
     ∙ distinct_with (map (λ r. r.name) catalog.rels) name valid.rels_differ others)
 
 -- the tuple fits its relation
@@ -250,8 +262,8 @@ names_cleared catalog c accepted = cleared catalog c (both_accepted catalog c ac
 
 pub what_is_bound_fits : WhatIsBoundFits
 what_is_bound_fits catalog (CreateUser name) valid allowed accepted = new_user_fits catalog name valid allowed (names_cleared catalog (CreateUser name) accepted)
-what_is_bound_fits catalog (CreateRelation name cols) valid allowed accepted =
-    new_relation_fits catalog name cols valid allowed (names_cleared catalog (CreateRelation name cols) accepted)
+what_is_bound_fits catalog (CreateRelation name cols key) valid allowed accepted =
+    new_relation_fits catalog name cols key valid allowed (names_cleared catalog (CreateRelation name cols key) accepted)
 what_is_bound_fits catalog (Insert users sign rel vals) valid allowed accepted =
     insert_fits catalog users sign rel vals allowed (names_cleared catalog (Insert users sign rel vals) accepted)
 what_is_bound_fits catalog (Delete users sign rel conds) valid allowed accepted =

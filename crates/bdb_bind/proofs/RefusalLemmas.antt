@@ -11,7 +11,7 @@ use Rattle.bdb_syntax.specs.declared.command.RawQuery.{RawQuery}
 use Rattle.bdb_bind.specs.declared.bound.BindError.{BindError}
 use Rattle.bdb_bind.specs.declared.bound.BindError.TheVariants as error
 use Rattle.bdb_bind.specs.Firsts.{or_next}
-use Rattle.bdb_bind.specs.Lines.{too_many_columns, unknown_relation, unknown_user, change_column, path_repeats, path_too_deep, change_kind, text_line, items_line, relation_line, user_line, alias_twice_line, alias_line, column_line, taken_line, repeat_line, deep_line, arity_line, kind_line}
+use Rattle.bdb_bind.specs.Lines.{too_many_columns, unknown_relation, unknown_user, change_column, path_repeats, path_too_deep, change_kind, text_line, items_line, relation_line, user_line, alias_twice_line, alias_line, column_line, taken_line, key_line, repeat_line, deep_line, arity_line, kind_line}
 use Rattle.bdb_bind.specs.Parts.{query_of, path_names, relation_name, change_columns}
 use Rattle.bdb_bind.specs.QueryBinding.{bound_query, query_item}
 use Rattle.bdb_bind.specs.QueryLines.{query_items, query_relation, query_user, query_alias_twice, query_alias, query_column, query_repeat, query_deep, query_kind}
@@ -46,7 +46,7 @@ query_reasons catalog q unsafe =
 
 -- where its texts are short, a query is refused for its own reasons
 pub select_refusal : (catalog : Catalog) (c : Command) (q : RawQuery) → c ≡ Select q → text_line c ≡ None → refusal_of catalog c ≡ query_refusal catalog q
-unfolding refusal_of names_refused items_line relation_line user_line alias_twice_line alias_line column_line taken_line repeat_line deep_line arity_line kind_line unsafe_line names_and_sizes
+unfolding refusal_of names_refused items_line relation_line user_line alias_twice_line alias_line column_line taken_line key_line repeat_line deep_line arity_line kind_line unsafe_line names_and_sizes
 select_refusal catalog c q same short =
     let shown : refusal_of catalog c ≡ refusal_of catalog (Select q) = ap (refusal_of catalog) same in
     let texts : text_line (Select q) ≡ None = ap text_line (sym same) ∙ short in
@@ -54,7 +54,7 @@ select_refusal catalog c q same short =
     shown ∙ ap (λ t. or_next (or_next t (first_refusal (names_and_sizes catalog q ++ query_kind catalog.rels q ∷ []))) unsafe) texts ∙ query_reasons catalog q unsafe
 
 pub explain_refusal : (catalog : Catalog) (c : Command) (q : RawQuery) → c ≡ Explain q → text_line c ≡ None → refusal_of catalog c ≡ query_refusal catalog q
-unfolding refusal_of names_refused items_line relation_line user_line alias_twice_line alias_line column_line taken_line repeat_line deep_line arity_line kind_line unsafe_line names_and_sizes
+unfolding refusal_of names_refused items_line relation_line user_line alias_twice_line alias_line column_line taken_line key_line repeat_line deep_line arity_line kind_line unsafe_line names_and_sizes
 explain_refusal catalog c q same short =
     let shown : refusal_of catalog c ≡ refusal_of catalog (Explain q) = ap (refusal_of catalog) same in
     let texts : text_line (Explain q) ≡ None = ap text_line (sym same) ∙ short in
@@ -89,7 +89,7 @@ unfolding unsafe_line
 never_unsafe catalog (Select raw) none = cc
 never_unsafe catalog (Explain raw) none = cc
 never_unsafe catalog (CreateUser name) none = refl
-never_unsafe catalog (CreateRelation name cols) none = refl
+never_unsafe catalog (CreateRelation name cols key) none = refl
 never_unsafe catalog (Insert users sign rel vals) none = refl
 never_unsafe catalog (Delete users sign rel conds) none = refl
 never_unsafe catalog (Update users sign rel sets conds) none = refl

@@ -1,5 +1,5 @@
 -- What a command that isn't refused is bound to.
-use Rattle.std.specs.Prelude.{ℕ, List, map}
+use Rattle.std.specs.Prelude.{ℕ, ℤ, unsigned_abs, List, map, Option, None, Some}
 use Rattle.std.specs.Option.{unwrap_or}
 use Rattle.bdb_base.specs.declared.kinds.Catalog.{Catalog}
 use Rattle.bdb_base.specs.declared.kinds.ColDef.{ColDef}
@@ -53,10 +53,15 @@ statement_of catalog users sign rel vals = record {
   tuple = record { rel = relation_at catalog.rels rel; vals = vals };
 }
 
+-- how many columns the key of a new relation has: one where no number is said
+abbrev pub key_length : Option ℤ → ℕ
+key_length None = 1
+key_length (Some length) = unsigned_abs length
+
 -- what a command is bound to where it isn't refused
 abbrev pub bound_of : Catalog → Command → Bound
 bound_of catalog (CreateUser name) = bound.CreateUser name
-bound_of catalog (CreateRelation name cols) = bound.CreateRelation (record { name = name; cols = cols })
+bound_of catalog (CreateRelation name cols key) = bound.CreateRelation (record { name = name; cols = cols; key = key_length key })
 bound_of catalog (Insert users sign rel vals) = bound.Insert (statement_of catalog users sign rel vals)
 bound_of catalog (Delete users sign rel conds) = bound.Delete (path_of catalog.users users) sign (relation_at catalog.rels rel)
     (map (bound_cond (columns_of catalog.rels rel)) conds)

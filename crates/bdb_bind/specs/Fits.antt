@@ -33,7 +33,7 @@ is_unclean text = not (is_clean text)
 
 -- a new relation has a column, and plain names
 abbrev pub names_allowed : Command → Bool
-names_allowed (CreateRelation name cols) = nat_lt 0 (length cols) && (is_plain name && list_all (λ c. is_plain c.name) cols)
+names_allowed (CreateRelation name cols key) = nat_lt 0 (length cols) && (is_plain name && list_all (λ c. is_plain c.name) cols)
 names_allowed _ = true
 
 -- the texts of a command are clean, and the names that it makes are plain

@@ -1,5 +1,5 @@
 -- The reasons to refuse a command, one by one.
-use Rattle.std.specs.Prelude.{map, ◌++◌, ℕ, Bool, false, not, ◌||◌, ◌==◌, nat_lt, List, [], ◌∷◌, length, Option, None, Some, find, if◌then◌else◌}
+use Rattle.std.specs.Prelude.{map, ◌++◌, ℕ, ℤ, pos, unsigned_abs, Bool, false, not, ◌&&◌, ◌||◌, ◌==◌, nat_lt, nat_le, int_lt, List, [], ◌∷◌, length, Option, None, Some, find, if◌then◌else◌}
 use Rattle.std.specs.Option.{option_map, option_and_then, is_some}
 use Rattle.std.specs.List.{list_any}
 use Rattle.bdb_base.specs.Limits.{most_columns}
@@ -21,7 +21,7 @@ use Rattle.bdb_bind.specs.declared.bound.BindError.TheVariants as error
 use Rattle.bdb_bind.specs.Firsts.{refused_if, or_next}
 use Rattle.bdb_bind.specs.Kinds.{kind_of, are_one_kind}
 use Rattle.bdb_bind.specs.Lookup.{is_user_name, number_of, has_column, kind_at}
-use Rattle.bdb_bind.specs.Parts.{query_of, change_columns, path_names, depth_limit, relation_name, tuple_values, new_columns, cond_columns, is_long, some_text}
+use Rattle.bdb_bind.specs.Parts.{query_of, change_columns, path_names, depth_limit, relation_name, tuple_values, new_columns, new_key, cond_columns, is_long, some_text}
 use Rattle.bdb_bind.specs.QueryLines.{query_items, query_relation, query_user, query_alias_twice, query_alias, query_column, query_repeat, query_deep, query_kind}
 
 -- a text has too many bytes
@@ -83,10 +83,23 @@ first_repeated seen (c ∷ cs) = if list_any (λ d. same_text c.name d.name) see
 -- a new name is taken: that of a user, of a relation or `Users`, or of an earlier column
 unfoldable pub taken_line : Catalog → Command → Option BindError
 taken_line catalog (CreateUser name) = refused_if (is_user_name catalog.users name) (error.TakenUser name)
-taken_line catalog (CreateRelation name cols) = or_next
+taken_line catalog (CreateRelation name cols key) = or_next
     (refused_if (is_some (number_of catalog.rels name) || same_text name users_name) (error.TakenName name))
     (option_map error.TakenName (first_repeated [] cols))
 taken_line catalog _ = None
+
+-- a key of this length has a column, and no more than there are
+abbrev pub is_key_length : ℕ → ℤ → Bool
+is_key_length columns n = int_lt (pos 0) n && nat_le (unsigned_abs n) columns
+
+-- the length of a key, if one is said, is below 1 or above the number of columns
+abbrev pub key_refused : List ColDef → Option ℤ → Option BindError
+key_refused cols None = None
+key_refused cols (Some n) = refused_if (not (is_key_length (length cols) n)) (error.KeyLength n)
+
+-- the length of a new relation's key is below 1 or above the number of its columns
+unfoldable pub key_line : Command → Option BindError
+key_line c = key_refused (new_columns c) (new_key c)
 
 -- a list of names begins with this one
 abbrev pub begins_with : List ℕ → List (List ℕ) → Bool

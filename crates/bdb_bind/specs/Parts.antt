@@ -1,5 +1,5 @@
 -- What a command says of users, relations, columns and texts.
-use Rattle.std.specs.Prelude.{ℕ, Bool, false, ◌||◌, nat_lt, List, [], ◌∷◌, ◌++◌, length, Option, None, Some}
+use Rattle.std.specs.Prelude.{ℕ, ℤ, Bool, false, ◌||◌, nat_lt, List, [], ◌∷◌, ◌++◌, length, Option, None, Some}
 use Rattle.std.specs.Option.{option_and_then}
 use Rattle.std.specs.List.{list_any}
 use Rattle.bdb_base.specs.Limits.{longest_text, deepest_statement, deepest_query}
@@ -67,8 +67,13 @@ change_columns rels c = columns_for rels (relation_name c)
 
 -- the columns of a new relation
 abbrev pub new_columns : Command → List ColDef
-new_columns (CreateRelation name cols) = cols
+new_columns (CreateRelation name cols key) = cols
 new_columns _ = []
+
+-- the length that a new relation's key is said to have
+abbrev pub new_key : Command → Option ℤ
+new_key (CreateRelation name cols key) = key
+new_key _ = None
 
 -- the columns that a comparison's right side names
 abbrev pub side_columns : RawSide → List (List ℕ)

@@ -20,7 +20,7 @@ use Rattle.bdb_bind.specs.Firsts.{or_next}
 use Rattle.bdb_bind.specs.QueryBinding.{bound_query}
 use Rattle.bdb_bind.specs.QueryLines.{query_items, query_relation, query_user, query_alias_twice, query_alias, query_column, query_repeat, query_deep, query_kind}
 use Rattle.bdb_bind.specs.Parts.{relation_name, path_names, change_columns}
-use Rattle.bdb_bind.specs.Lines.{too_many_columns, unknown_relation, unknown_user, change_column, path_repeats, path_too_deep, change_kind, text_line, items_line, relation_line, user_line, alias_twice_line, alias_line, column_line, taken_line, repeat_line, deep_line, arity_line, kind_line}
+use Rattle.bdb_bind.specs.Lines.{too_many_columns, unknown_relation, unknown_user, change_column, path_repeats, path_too_deep, change_kind, text_line, items_line, relation_line, user_line, alias_twice_line, alias_line, column_line, taken_line, key_line, repeat_line, deep_line, arity_line, kind_line}
 use Rattle.bdb_bind.specs.Safe.{first_unbound}
 
 -- the first refusal of a list that applies
@@ -32,7 +32,7 @@ first_refusal (line ∷ lines) = or_next line (first_refusal lines)
 unfoldable pub names_refused : Catalog → Command → Option BindError
 names_refused catalog c = first_refusal
     (text_line c ∷ items_line c ∷ relation_line catalog c ∷ user_line catalog c ∷ alias_twice_line c ∷ alias_line c ∷ column_line catalog c
-    ∷ taken_line catalog c ∷ repeat_line c ∷ deep_line c ∷ arity_line catalog c ∷ kind_line catalog c ∷ [])
+    ∷ taken_line catalog c ∷ key_line c ∷ repeat_line c ∷ deep_line c ∷ arity_line catalog c ∷ kind_line catalog c ∷ [])
 
 -- the first reason that applies to the names and sizes of a query
 abbrev pub query_names_refused : Catalog → RawQuery → Option BindError
@@ -44,7 +44,7 @@ query_names_refused catalog q = first_refusal
 abbrev pub change_refused : Catalog → Command → Option BindError
 change_refused catalog c = first_refusal
     (too_many_columns c ∷ unknown_relation catalog.rels (relation_name c) ∷ unknown_user catalog.users (path_names c)
-    ∷ change_column (change_columns catalog.rels c) c ∷ taken_line catalog c ∷ path_repeats c ∷ path_too_deep c ∷ arity_line catalog c
+    ∷ change_column (change_columns catalog.rels c) c ∷ taken_line catalog c ∷ key_line c ∷ path_repeats c ∷ path_too_deep c ∷ arity_line catalog c
     ∷ change_kind (change_columns catalog.rels c) c ∷ [])
 
 -- the alias of an item

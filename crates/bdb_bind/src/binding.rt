@@ -23,7 +23,7 @@ use crate::queries::{
 };
 use crate::query_items::QueryItems;
 use crate::query_making::bound_query;
-use crate::shape::{check_arity, check_depth, check_items, check_repeat, check_texts};
+use crate::shape::{check_arity, check_depth, check_items, check_key, check_repeat, check_texts};
 use crate::unsafes::check_safe;
 use bdb_base::{Catalog, Exact, List, Query};
 use bdb_syntax::{Command, RawQuery};
@@ -174,6 +174,7 @@ fn check_change(
     let ids = check_users(alloc, catalog, index, command)?;
     check_columns(alloc, found.cols, command)?;
     check_taken(alloc, catalog, command)?;
+    check_key(command)?;
     check_repeat(command)?;
     check_depth(command)?;
     check_arity(found.cols, command)?;

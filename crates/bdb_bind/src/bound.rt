@@ -82,6 +82,9 @@ pub enum BindError {
     /// A relation has this name, or it is `Users`, or a column of this name stands earlier.
     #[error("this name is taken")]
     TakenName(Txt),
+    /// The length said of a new relation's key is below 1, or above the number of its columns.
+    #[error("a key has no column, or more columns than there are")]
+    KeyLength(i64),
     /// Two neighbours of a path are one user.
     #[error("a path names one user twice in a row")]
     Repeat,

@@ -1,5 +1,5 @@
 // What a command that isn't refused is bound to.
-ghost use Rattle.std.specs.Prelude.{◌≡◌, ◌<◌, ◌≤◌, ◌^◌, true, None, length, map, IfOk, IfSome};
+ghost use Rattle.std.specs.Prelude.{◌≡◌, ◌<◌, ◌≤◌, ◌^◌, unsigned_abs, true, None, length, map, IfOk, IfSome};
 ghost use Rattle.std.specs.Option.{unwrap_or};
 ghost use Rattle.bdb_base.specs.Limits.{most_users, most_relations, most_columns};
 ghost use Rattle.bdb_base.specs.Alternation.{alternates};
@@ -7,11 +7,12 @@ ghost use Rattle.bdb_base.specs.Bases.{IsCatalog};
 ghost use Rattle.bdb_bind.specs.Lookup.{uid_of, path_of};
 ghost use Rattle.bdb_bind.specs.Parts.{query_of, path_names, relation_place, change_columns};
 ghost use Rattle.bdb_bind.specs.Refusal.{names_refused};
-ghost use Rattle.bdb_bind.specs.Binding.{relation_at, place_of, bound_column, bound_side, bound_cond, bound_set, bound_of};
+ghost use Rattle.bdb_bind.specs.Binding.{relation_at, key_length, place_of, bound_column, bound_side, bound_cond, bound_set, bound_of};
 
 use crate::bound::Bound;
 use crate::found::Found;
 use crate::lookup::{column_at, number_of, uid_of};
+use crate::parts::new_key;
 use bdb_base::{
     Catalog, ColDef, Cond, List, Operand, Path, PathError, Ref, RelDef, SetCol, Sign, Stmt, Tuple,
     Txt, Value,
@@ -263,17 +264,29 @@ fn bound_user(alloc: Global, name: &mut Txt) -> Result<Bound, AllocError>
     Ok(Bound::CreateUser { name })
 }
 
+/// How many columns the key of a new relation has: one where no number is said.
+fn key_length(said: Option<i64>) -> u32
+    requires { IfSome said (λ length. unsigned_abs length < 2 ^ 32) }
+    ensures { result ≡ key_length said }
+{
+    match said {
+        Some(length) => length.unsigned_abs() as u32,
+        None => 1,
+    }
+}
+
 /// The new relation.
 fn bound_relation(
     alloc: Global,
     name: &mut Txt,
     cols: &mut List<ColDef>,
+    key: u32,
 ) -> Result<Bound, AllocError>
-    ensures { IfOk result (λ b. b ≡ Bound.CreateRelation (record { name = name.old; cols = cols.old })) }
+    ensures { IfOk result (λ b. b ≡ Bound.CreateRelation (record { name = name.old; cols = cols.old; key = key })) }
 {
     let name = take_text(alloc, name)?;
     let cols = mem::replace(cols, List::new(alloc));
-    let def = RelDef { name, cols };
+    let def = RelDef { name, cols, key };
     Ok(Bound::CreateRelation { def })
 }
 
@@ -288,7 +301,7 @@ fn bound_world(alloc: Global, ids: &[u32]) -> Result<Bound, AllocError>
 
 /// What a command that is no query and isn't refused is bound to, once its relation and the users of its path are found.
 /// Its texts are taken out of it.
-#[tactic(auto, using(crate::proofs::CatalogLemmas::place_few, crate::proofs::CatalogLemmas::change_columns_few, crate::proofs::CatalogLemmas::accepted_alternates))]
+#[tactic(auto, using(crate::proofs::CatalogLemmas::place_few, crate::proofs::CatalogLemmas::change_columns_few, crate::proofs::CatalogLemmas::accepted_alternates, crate::proofs::CatalogLemmas::key_few))]
 pub fn bound_change(
     alloc: Global,
     catalog: &Catalog,
@@ -305,9 +318,10 @@ pub fn bound_change(
     ensures { IfOk result (λ b. b ≡ bound_of catalog.now command.old) }
 {
     let (rel, cols) = (number_at(found.place), found.cols);
+    let key = key_length(new_key(command));
     match command {
         Command::CreateUser { name } => bound_user(alloc, name),
-        Command::CreateRelation { name, cols } => bound_relation(alloc, name, cols),
+        Command::CreateRelation { name, cols, .. } => bound_relation(alloc, name, cols, key),
         Command::Insert { sign, vals, .. } => {
             let vals = mem::replace(vals, List::new(alloc));
             bound_insert(alloc, ids, *sign, rel, vals)

@@ -116,7 +116,7 @@ pub fn check_taken(alloc: Global, catalog: &Catalog, command: &Command) -> Resul
             }
             Ok(())
         }
-        Command::CreateRelation { name, cols } => {
+        Command::CreateRelation { name, cols, .. } => {
             if number_of(catalog.rels.as_slice(), name).is_some() || name.as_str() == "Users" {
                 return Err(taken_name(alloc, name));
             }

@@ -2,7 +2,7 @@
 ghost use Rattle.std.specs.Prelude.{◌≡◌};
 ghost use Rattle.std.specs.Option.{option_copied};
 ghost use Rattle.std.specs.List.{list_any};
-ghost use Rattle.bdb_bind.specs.Parts.{path_names, depth_limit, relation_name, tuple_values, new_columns, value_texts, side_texts, is_long, some_who_text, some_query_text, some_signed_text, some_text};
+ghost use Rattle.bdb_bind.specs.Parts.{path_names, depth_limit, relation_name, tuple_values, new_columns, new_key, value_texts, side_texts, is_long, some_who_text, some_query_text, some_signed_text, some_text};
 
 use bdb_base::limits::{DEEPEST_QUERY, DEEPEST_STATEMENT, LONGEST_TEXT};
 use bdb_base::{ColDef, List, Txt, Value};
@@ -64,6 +64,16 @@ pub fn new_columns(command: &Command) -> &[ColDef]
     match command {
         Command::CreateRelation { cols, .. } => cols.as_slice(),
         _ => &[],
+    }
+}
+
+/// The length that a new relation's key is said to have.
+pub fn new_key(command: &Command) -> Option<i64>
+    ensures { result ≡ new_key command.now }
+{
+    match command {
+        Command::CreateRelation { key, .. } => *key,
+        _ => None,
     }
 }
 

@@ -1,11 +1,11 @@
 // The checks of a command's sizes.
 ghost use Rattle.std.specs.Prelude.{◌≡◌};
 ghost use Rattle.bdb_bind.specs.Firsts.{Checks};
-ghost use Rattle.bdb_bind.specs.Lines.{text_line, too_many_columns, begins_with, has_repeat, path_repeats, path_too_deep, change_arity};
+ghost use Rattle.bdb_bind.specs.Lines.{text_line, too_many_columns, is_key_length, key_line, begins_with, has_repeat, path_repeats, path_too_deep, change_arity};
 
 use crate::bound::BindError;
 use crate::lookup::is_same;
-use crate::parts::{depth_limit, has_long_text, new_columns, path_names, tuple_values};
+use crate::parts::{depth_limit, has_long_text, new_columns, new_key, path_names, tuple_values};
 use bdb_base::limits::MOST_COLUMNS;
 use bdb_base::{ColDef, Txt};
 use bdb_syntax::Command;
@@ -29,6 +29,29 @@ pub fn check_items(command: &Command) -> Result<(), BindError>
         return Err(BindError::Items);
     }
     Ok(())
+}
+
+/// Refuses a key of no column, or of more columns than the new relation has.
+#[tactic(auto, unfolding(crate::specs::Lines::key_line))]
+pub fn check_key(command: &Command) -> Result<(), BindError>
+    ensures { Checks result (key_line command.now) }
+{
+    match new_key(command) {
+        Some(length) => {
+            if !is_key_length(new_columns(command).len(), length) {
+                return Err(BindError::KeyLength(length));
+            }
+            Ok(())
+        }
+        None => Ok(()),
+    }
+}
+
+/// Whether a key of this length has a column, and no more than there are.
+fn is_key_length(columns: usize, length: i64) -> bool
+    ensures { result ≡ is_key_length columns length }
+{
+    length > 0 && length.unsigned_abs() <= columns as u64
 }
 
 /// Refuses a path with two equal neighbours.

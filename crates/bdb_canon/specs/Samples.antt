@@ -18,7 +18,7 @@ use Rattle.bdb_base.specs.Bases.{Contents}
 
 -- S, with a key k and a value v
 abbrev pub sightings : RelDef
-sightings = record { name = codes "S"; cols = record { name = codes "k"; kind = kind.Text } ∷ record { name = codes "v"; kind = kind.Text } ∷ [] }
+sightings = record { name = codes "S"; cols = record { name = codes "k"; kind = kind.Text } ∷ record { name = codes "v"; kind = kind.Text } ∷ []; key = 1 }
 
 -- a statement of a tuple of S
 abbrev pub stated_at : List ℕ → Sign → List ℕ → List ℕ → Stmt

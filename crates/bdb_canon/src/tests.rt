@@ -23,7 +23,8 @@ fn relation(alloc: Global) -> Result<RelDef, AllocError>
     let name = Txt::try_new(alloc, "v")?;
     cols.push(ColDef { name, kind })?;
     let name = Txt::try_new(alloc, "S")?;
-    Ok(RelDef { name, cols })
+    let key = 1;
+    Ok(RelDef { name, cols, key })
 }
 
 /// The relation S, and these users.

@@ -1,7 +1,8 @@
 -- What tests ask for of the first column, and the keys of the rows that have it.
-use Rattle.std.proofs.Common.{◌≡◌, ◌∙◌, ℕ, ◌<◌, Bool, true, false, ◌&&◌, nat_eq, List, [], ◌∷◌, ◌++◌, length, Option, Some, None, MatchOption, refl, ap, sym, arith}
+use Rattle.std.proofs.Common.{◌≡◌, ◌∙◌, ℕ, suc, zero, ◌<◌, ◌≤◌, Bool, true, false, ◌&&◌, nat_eq, List, [], ◌∷◌, ◌++◌, append_assoc, length, take, Option, Some, None, MatchOption, refl, ap, sym, subst, arith}
 use Rattle.std.specs.List.{slice_get}
 use Rattle.std.proofs.lemmas.Bool.{and_parts, and_from, cond-true, cond-false, eqb-true, eq-eqb, false≢true}
+use Rattle.bdb_base.specs.Clash.{key_of}
 use Rattle.bdb_base.specs.Conditions.{meets, meets_one, value_at, operand_at, compare_so}
 use Rattle.bdb_base.specs.Order.{value_cmp}
 use Rattle.bdb_base.specs.OrderLemmas.{value_exact}
@@ -18,15 +19,16 @@ use Rattle.bdb_base.specs.declared.kinds.Value.{Value}
 use Rattle.bdb_base.specs.declared.kinds.Value.TheVariants.{Int, Text}
 use Rattle.bdb_base.specs.declared.tuple.Tuple.{Tuple}
 use Rattle.bdb_base.proofs.SetLemmas.{is_eq-Equal}
-use Rattle.bdb_key.specs.Bytes.{num_bytes, value_bytes}
-use Rattle.bdb_key.specs.Grammar.{IsNum, IsWhole, IsPlainValue, ArePlain}
+use Rattle.bdb_key.specs.Bytes.{num_bytes, value_bytes, values_bytes, vals_bytes}
+use Rattle.bdb_key.specs.Grammar.{IsNum, IsWhole, IsPlainValue, ArePlain, AreKeyVals}
 use Rattle.bdb_key.specs.Rows.{IsTupleRow}
-use Rattle.bdb_key.proofs.Readings.{num_form}
+use Rattle.bdb_key.proofs.Readings.{num_form, value_form}
 use Rattle.bdb_tables.specs.InUse.{val_bytes}
+use Rattle.bdb_tables.specs.Rows.{AreKeyLengths}
 use Rattle.bdb_val.specs.Reads.{IsSpan}
-use Rattle.bdb_val.specs.Settling.{key_value, row_key}
-use Rattle.bdb_val.proofs.ReadLemmas.{prefix_append, prefix_rest, group_span}
-use Rattle.bdb_catalog.specs.Taking.{literal_of, asks_for_first, key_of_test, first_there, key_asked, is_written, may_be_there, is_asked, beginning}
+use Rattle.bdb_val.specs.Settling.{row_key}
+use Rattle.bdb_val.proofs.ReadLemmas.{prefix_append, prefix_rest, key_of_fits}
+use Rattle.bdb_catalog.specs.Taking.{literal_of, asks_for_first, key_of_test, first_there, key_asked, is_written, may_be_there, starts_with, is_asked, beginning}
 
 -- ---- what a tuple has that meets tests
 
@@ -68,38 +70,55 @@ test_tells c u v k m = by (asks_for_first c) refl
         ∙ ap (λ o. compare_so Eq o (operand_at u c.right)) left ∙ ap (λ o. compare_so Eq (slice_get u.vals 0) o) right) ∙ m)
     by false a = absurd (none_some v (sym (cond-false (asks_for_first c) (literal_of c.right) None a) ∙ k))
 
-first_is : (vs : List Value) (v : Value) → slice_get vs 0 ≡ Some v → key_value vs ≡ v
-first_is [] v e = absurd (none_some v e)
-first_is (x ∷ vs) v e = some_value x v e
-
 -- a tuple that meets all tests has the first value that they ask for
-asked_met : (conds : List Cond) (u : Tuple) (v : Value) → key_asked conds ≡ Some v → meets conds u ≡ true → key_value u.vals ≡ v
+asked_met : (conds : List Cond) (u : Tuple) (v : Value) → key_asked conds ≡ Some v → meets conds u ≡ true → slice_get u.vals 0 ≡ Some v
 asked_met [] u v k m = absurd (none_some v k)
 asked_met (c ∷ cs) u v k m = by (key_of_test c) refl (λ e. asked_met cs u v e parts.1)
   where
     parts : (meets_one u c ≡ true) × (meets cs u ≡ true)
     parts = and_parts (meets_one u c) (meets cs u) m
 
-    by : (o : Option Value) → key_of_test c ≡ o → (key_asked cs ≡ Some v → key_value u.vals ≡ v) → key_value u.vals ≡ v
+    by : (o : Option Value) → key_of_test c ≡ o → (key_asked cs ≡ Some v → slice_get u.vals 0 ≡ Some v) → slice_get u.vals 0 ≡ Some v
     by None e rest = rest (sym (ap (λ o. first_there o (key_asked cs)) e) ∙ k)
-    by (Some x) e rest = first_is u.vals v (test_tells c u v (e ∙ (sym (ap (λ o. first_there o (key_asked cs)) e) ∙ k)) parts.0)
+    by (Some x) e rest = test_tells c u v (e ∙ (sym (ap (λ o. first_there o (key_asked cs)) e) ∙ k)) parts.0
 
-pub meets_asked : (conds : List Cond) (rel : ℕ) (u : Tuple) → nat_eq u.rel rel ≡ true → meets conds u ≡ true → is_asked rel (key_asked conds) u ≡ true
-meets_asked conds rel u r m = by (key_asked conds) refl
+take_long : (n : ℕ) (vs : List Value) → n ≤ length vs → length (take n vs) ≡ n
+take_long zero vs l = refl
+take_long (suc n) [] l = absurd (omega arith)
+take_long (suc n) (v ∷ vs) l = ap suc (take_long n vs (omega arith))
+
+-- a key of some length starts with the first of the values that it is taken from
+starts_first : (n : ℕ) (v : Value) (vs : List Value) → 0 < n → n ≤ length vs → slice_get vs 0 ≡ Some v → starts_with n v (take n vs) ≡ true
+starts_first zero v vs some l e = absurd (omega arith)
+starts_first (suc n) v [] some l e = absurd (omega arith)
+starts_first (suc n) v (x ∷ vs) some l e =
+    and_from (nat_eq (length (x ∷ take n vs)) (suc n)) (same_value x v) (eq-eqb (length (x ∷ take n vs)) (suc n) (ap suc (take_long n vs (omega arith))))
+    ((same_value-Decides x v).1 (some_value x v e))
+
+-- a key has a value, and its tuple has at least as many as its key
+pub record HasWholeKey (keys : ℕ → ℕ) (u : Tuple) : Type 0 where
+  pub some : 0 < keys u.rel
+  pub within : keys u.rel ≤ length u.vals
+
+pub meets_asked : (keys : ℕ → ℕ) (conds : List Cond) (rel : ℕ) (u : Tuple) → HasWholeKey keys u → nat_eq u.rel rel ≡ true → meets conds u ≡ true → is_asked keys rel (key_asked conds) u ≡ true
+meets_asked keys conds rel u whole r m = by (key_asked conds) refl
   where
-    by : (o : Option Value) → key_asked conds ≡ o → is_asked rel (key_asked conds) u ≡ true
-    by None e = ap (λ o. is_asked rel o u) e ∙ r
-    by (Some v) e = ap (λ o. is_asked rel o u) e ∙ and_from (nat_eq u.rel rel) (same_value (key_value u.vals) v) r ((same_value-Decides (key_value u.vals) v).1 (asked_met conds u v e m))
+    by : (o : Option Value) → key_asked conds ≡ o → is_asked keys rel (key_asked conds) u ≡ true
+    by None e = ap (λ o. is_asked keys rel o u) e ∙ r
+    by (Some v) e =
+        ap (λ o. is_asked keys rel o u) e
+        ∙ and_from (nat_eq u.rel rel) (starts_with (keys rel) v (key_of keys u)) r
+        (ap (λ (k : ℕ). starts_with (keys k) v (key_of keys u)) (sym (eqb-true u.rel rel r)) ∙ starts_first (keys u.rel) v u.vals whole.some whole.within (asked_met conds u v e m))
 
-pub asked_rel : (rel : ℕ) (key : Option Value) (u : Tuple) → is_asked rel key u ≡ true → nat_eq u.rel rel ≡ true
-asked_rel rel None u e = e
-asked_rel rel (Some v) u e = (and_parts (nat_eq u.rel rel) (same_value (key_value u.vals) v) e).0
+pub asked_rel : (keys : ℕ → ℕ) (rel : ℕ) (key : Option Value) (u : Tuple) → is_asked keys rel key u ≡ true → nat_eq u.rel rel ≡ true
+asked_rel keys rel None u e = e
+asked_rel keys rel (Some v) u e = (and_parts (nat_eq u.rel rel) (starts_with (keys rel) v (key_of keys u)) e).0
 
 -- ---- values that no tuple has
 
-first_plain : (vs : List Value) → 0 < length vs → ArePlain vs → IsPlainValue (key_value vs)
-first_plain [] l a = absurd (omega arith)
-first_plain (v ∷ vs) l a = a.0
+first_plain : (vs : List Value) (v : Value) → slice_get vs 0 ≡ Some v → ArePlain vs → IsPlainValue v
+first_plain [] v e a = absurd (none_some v e)
+first_plain (x ∷ vs) v e a = subst IsPlainValue (some_value x v e) a.0
 
 written : (v : Value) → IsPlainValue v → is_written v ≡ true
 written (Int n) h = refl
@@ -112,7 +131,7 @@ none_meets conds u g out m = by (key_asked conds) refl
     by : (o : Option Value) → key_asked conds ≡ o → ⊥
     by None e = false≢true (sym out ∙ ap may_be_there e)
     by (Some v) e =
-        let there : is_written v ≡ true = ap is_written (sym (asked_met conds u v e m)) ∙ written (key_value u.vals) (first_plain u.vals g.some g.plain) in
+        let there : is_written v ≡ true = written v (first_plain u.vals v (asked_met conds u v e m) g.plain) in
         false≢true (sym out ∙ ap may_be_there e ∙ there)
 
 pub plain_key : (key : Option Value) → may_be_there key ≡ true → MatchOption key (Unit {0}) IsWhole → MatchOption key (Unit {0}) IsPlainValue
@@ -123,21 +142,80 @@ plain_key (Some (Text t)) a b = a
 -- ---- keys
 
 -- the keys of a world's rows of a relation are those that begin with the two
-rel_span : (wid rel : ℕ) → IsNum wid → IsNum rel → IsSpan wid (λ u. nat_eq u.rel rel) (num_bytes wid ++ num_bytes rel)
-rel_span wid rel w r = record {
+rel_span : (keys : ℕ → ℕ) (wid rel : ℕ) → IsNum wid → IsNum rel → IsSpan keys wid (λ u. nat_eq u.rel rel) (num_bytes wid ++ num_bytes rel)
+rel_span keys wid rel w r = record {
   world = λ k f e.
       let s = prefix_rest (num_bytes wid ++ num_bytes rel) (val_bytes k) e in
-      (num_form k.0 wid (num_bytes k.1 ++ value_bytes k.2 ++ num_bytes k.3) (num_bytes rel ++ s.0) f.world w s.1).0;
+      (num_form k.0 wid (num_bytes k.1 ++ vals_bytes k.2 ++ num_bytes k.3) (num_bytes rel ++ s.0) f.world w s.1).0;
   begins = λ tid u e.
-      ap (λ x. is_prefix (num_bytes wid ++ num_bytes rel) (val_bytes (wid, x, key_value u.vals, tid))) (eqb-true u.rel rel e)
-      ∙ prefix_append (num_bytes wid ++ num_bytes rel) (value_bytes (key_value u.vals) ++ num_bytes tid);
+      ap (λ x. is_prefix (num_bytes wid ++ num_bytes rel) (val_bytes (wid, x, key_of keys u, tid))) (eqb-true u.rel rel e)
+      ∙ prefix_append (num_bytes wid ++ num_bytes rel) (vals_bytes (key_of keys u) ++ num_bytes tid);
   inside = λ tid u g e.
-      let s = prefix_rest (num_bytes wid ++ num_bytes rel) (val_bytes (row_key wid tid u)) e in
-      let one = num_form wid wid (num_bytes u.rel ++ value_bytes (key_value u.vals) ++ num_bytes tid) (num_bytes rel ++ s.0) w w s.1 in
-      let two = num_form u.rel rel (value_bytes (key_value u.vals) ++ num_bytes tid) s.0 g.rel r one.1 in
+      let s = prefix_rest (num_bytes wid ++ num_bytes rel) (val_bytes (row_key keys wid tid u)) e in
+      let one = num_form wid wid (num_bytes u.rel ++ vals_bytes (key_of keys u) ++ num_bytes tid) (num_bytes rel ++ s.0) w w s.1 in
+      let two = num_form u.rel rel (vals_bytes (key_of keys u) ++ num_bytes tid) s.0 g.rel r one.1 in
       eq-eqb u.rel rel two.0;
 }
 
-pub asked_span : (wid rel : ℕ) (key : Option Value) → IsNum wid → IsNum rel → MatchOption key (Unit {0}) IsPlainValue → IsSpan wid (is_asked rel key) (beginning wid rel key)
-asked_span wid rel None w r p = rel_span wid rel w r
-asked_span wid rel (Some v) w r p = group_span wid rel v w r p
+-- a key that has so many values and starts with one begins with their number and this one
+module _ (wid rel n : ℕ) (v : Value) where
+  abbrev front : List ℕ
+  front = num_bytes wid ++ num_bytes rel ++ num_bytes n ++ value_bytes v
+
+  front_begins : (vs : List Value) (tid : ℕ) → starts_with n v vs ≡ true → is_prefix front (val_bytes (wid, rel, vs, tid)) ≡ true
+  front_begins [] tid e = absurd (false≢true e)
+  front_begins (x ∷ xs) tid e =
+      let m = length (x ∷ xs) in
+      let p = and_parts (nat_eq m n) (same_value x v) e in
+      let whole = val_bytes (wid, rel, x ∷ xs, tid) in
+      ap (λ (k : ℕ). is_prefix (num_bytes wid ++ num_bytes rel ++ num_bytes k ++ value_bytes v) whole) (sym (eqb-true m n p.0))
+      ∙ ap (λ (y : Value). is_prefix (num_bytes wid ++ num_bytes rel ++ num_bytes m ++ value_bytes y) whole) (sym ((same_value-Decides x v).0 p.1))
+      ∙ ap (λ (tail : List ℕ). is_prefix (num_bytes wid ++ num_bytes rel ++ num_bytes m ++ value_bytes x) (num_bytes wid ++ num_bytes rel ++ num_bytes m ++ tail))
+      (append_assoc (value_bytes x) (values_bytes xs) (num_bytes tid))
+      ∙ prefix_append (num_bytes wid ++ num_bytes rel ++ num_bytes m ++ value_bytes x) (values_bytes xs ++ num_bytes tid)
+
+  -- and the other way round
+  front_starts : (vs : List Value) (tid : ℕ) (rest : List ℕ) → 0 < n → IsNum n → IsPlainValue v → AreKeyVals vs → vals_bytes vs ++ num_bytes tid ≡ num_bytes n ++ value_bytes v ++ rest
+      → starts_with n v vs ≡ true
+  front_starts [] tid rest some num plain k e =
+      let one = num_form 0 n (num_bytes tid) (value_bytes v ++ rest) k.short num e in
+      let none : 0 ≡ n = one.0 in
+      absurd (omega (arith, some, none))
+  front_starts (x ∷ xs) tid rest some num plain k e =
+      let m = length (x ∷ xs) in
+      let one = num_form m n (values_bytes (x ∷ xs) ++ num_bytes tid) (value_bytes v ++ rest) k.short num e in
+      let two = value_form x v (values_bytes xs ++ num_bytes tid) rest k.plain.0 plain (sym (append_assoc (value_bytes x) (values_bytes xs) (num_bytes tid)) ∙ one.1) in
+      and_from (nat_eq m n) (same_value x v) (eq-eqb m n one.0) ((same_value-Decides x v).1 two.0)
+
+value_span : (keys : ℕ → ℕ) → AreKeyLengths keys → (wid rel : ℕ) (v : Value) → IsNum wid → IsNum rel → 0 < keys rel → IsPlainValue v
+    → IsSpan keys wid (is_asked keys rel (Some v)) (beginning (keys rel) wid rel (Some v))
+value_span keys lengths wid rel v w r some p = record {
+  world = λ k f e.
+      let s = prefix_rest (front wid rel (keys rel) v) (val_bytes k) e in
+      (num_form k.0 wid (num_bytes k.1 ++ vals_bytes k.2 ++ num_bytes k.3) (num_bytes rel ++ num_bytes (keys rel) ++ value_bytes v ++ s.0) f.world w s.1).0;
+  begins = λ tid u e.
+      let k = and_parts (nat_eq u.rel rel) (starts_with (keys rel) v (key_of keys u)) e in
+      ap (λ (x : ℕ). is_prefix (front wid rel (keys rel) v) (val_bytes (wid, x, key_of keys u, tid))) (eqb-true u.rel rel k.0)
+      ∙ front_begins wid rel (keys rel) v (key_of keys u) tid k.1;
+  inside = λ tid u g e.
+      let s = prefix_rest (front wid rel (keys rel) v) (val_bytes (row_key keys wid tid u)) e in
+      let one = num_form wid wid (num_bytes u.rel ++ vals_bytes (key_of keys u) ++ num_bytes tid) (num_bytes rel ++ num_bytes (keys rel) ++ value_bytes v ++ s.0) w w s.1 in
+      let two = num_form u.rel rel (vals_bytes (key_of keys u) ++ num_bytes tid) (num_bytes (keys rel) ++ value_bytes v ++ s.0) g.rel r one.1 in
+      and_from (nat_eq u.rel rel) (starts_with (keys rel) v (key_of keys u)) (eq-eqb u.rel rel two.0)
+      (front_starts wid rel (keys rel) v (key_of keys u) tid s.0 some (lengths rel r) p (key_of_fits keys lengths u g) two.1);
+}
+
+pub asked_span : (keys : ℕ → ℕ) → AreKeyLengths keys → (wid rel : ℕ) (key : Option Value) → IsNum wid → IsNum rel → 0 < keys rel → MatchOption key (Unit {0}) IsPlainValue
+    → IsSpan keys wid (is_asked keys rel key) (beginning (keys rel) wid rel key)
+asked_span keys lengths wid rel None w r some p = rel_span keys wid rel w r
+asked_span keys lengths wid rel (Some v) w r some p = value_span keys lengths wid rel v w r some p
+
+-- the parts are put one behind the other
+pub beginning_put : (wid rel n : ℕ) (v : Value) (before one two three four : List ℕ) → one ≡ before ++ num_bytes wid → two ≡ one ++ num_bytes rel → three ≡ two ++ num_bytes n
+    → four ≡ three ++ value_bytes v → four ≡ before ++ beginning n wid rel (Some v)
+beginning_put wid rel n v before one two three four a b c d =
+    let ends = num_bytes n ++ value_bytes v in
+    d ∙ ap (λ (xs : List ℕ). xs ++ value_bytes v) (c ∙ ap (λ (xs : List ℕ). xs ++ num_bytes n) (b ∙ ap (λ (xs : List ℕ). xs ++ num_bytes rel) a))
+    ∙ append_assoc (before ++ num_bytes wid ++ num_bytes rel) (num_bytes n) (value_bytes v)
+    ∙ append_assoc (before ++ num_bytes wid) (num_bytes rel) ends
+    ∙ append_assoc before (num_bytes wid) (num_bytes rel ++ ends)

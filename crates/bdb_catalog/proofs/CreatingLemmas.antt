@@ -24,6 +24,6 @@ relation_may_be t rel def h =
 
 pub relation_added : (t u : Tables) (rel : ℕ) (def : RelDef) → IsNum rel → IsRelRow def → u ≡ tables.insert t (place rel_codec rel) (rel_codec.row_bytes def) → AddsRelation t u rel def
 relation_added t u rel def num fits put b h = record {
-  stored = subst (λ v. Stores v (with_one_relation b def)) (sym put) (put_stores_relation t b rel def h.base.stored h.next num fits);
+  stored = subst (λ v. Stores v (with_one_relation b def)) (sym put) (put_stores_relation t b rel def h.base.stored h.base.valid.stmts.belong h.next num fits);
   valid = h.valid;
 }

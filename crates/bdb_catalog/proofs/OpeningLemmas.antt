@@ -1,65 +1,22 @@
--- What rows of the format, of users and of relations tell of the stored base.
-use Rattle.std.proofs.Common.{◌≡◌, ◌∙◌, ℕ, ◌+◌, List, [], ◌∷◌, ◌++◌, take, Option, Some, None, sym, ap, subst, inl, inr}
+-- What rows of users and of relations tell of the stored base.
+use Rattle.std.proofs.Common.{◌≡◌, ◌∙◌, ℕ, ◌+◌, List, [], ◌∷◌, ◌++◌, take, Some, None, sym, ap}
 use Rattle.std.specs.List.{slice_get}
-use Rattle.std.specs.FinMap as tables
-use Rattle.std.specs.FinMap.{get-from_entries}
-use Rattle.std.proofs.lemmas.Cmp.{nat_list_cmp_total}
-use Rattle.bdb_base.specs.Bases.{Contents, empty_contents}
 use Rattle.bdb_base.specs.declared.kinds.RelDef.{RelDef}
 use Rattle.bdb_keep.specs.Tables.{Tables}
 use Rattle.bdb_key.specs.Grammar.{IsNum}
-use Rattle.bdb_tables.specs.Codec.{HasAt, place}
+use Rattle.bdb_tables.specs.Codec.{HasAt}
 use Rattle.bdb_tables.specs.Grammar.{InGrammar}
-use Rattle.bdb_tables.specs.InUse.{meta_codec, user_codec, rel_codec}
-use Rattle.bdb_tables.specs.InUseLaws.{text_rows_are_one, rel_rows_are_one, number_rows_are_one}
+use Rattle.bdb_tables.specs.InUse.{user_codec, rel_codec}
+use Rattle.bdb_tables.specs.InUseLaws.{text_rows_are_one, rel_rows_are_one}
 use Rattle.bdb_tables.specs.Stored.{name_of}
-use Rattle.bdb_tables.proofs.Held.{empty_in_grammar}
 use Rattle.bdb_tables.proofs.Numbered.{take_more, take_none, one_more}
 use Rattle.bdb_update.proofs.GrammarLemmas.{stored_is_in_grammar}
 use Rattle.bdb_worlds.proofs.ReadLemmas.{found_is}
-use Rattle.bdb_catalog.specs.Bases.{StoresValid, StoresSome}
-use Rattle.bdb_catalog.specs.Opening.{StandFor, StandForSome, HaveNoRow, HaveFormat, IsPartOf}
+use Rattle.bdb_catalog.specs.Bases.{StoresSome}
+use Rattle.bdb_catalog.specs.Opening.{IsPartOf}
 
 pub some_grammar : (t : Tables) → StoresSome t → InGrammar t
 some_grammar t h = stored_is_in_grammar t h.base h.stores.stored
-
--- ---- the format
-
-pub opened_grammar : (t : Tables) → StandForSome t → InGrammar t
-opened_grammar t h = by h.stand
-  where
-    by : StandFor t h.base → InGrammar t
-    by (inl s) = stored_is_in_grammar t h.base s.stored
-    by (inr e) = subst InGrammar (sym e.0) empty_in_grammar
-
-format_is : (t : Tables) (b : Contents) → StoresValid t b → (found : Option ℕ) → HasAt meta_codec t tt found → found ≡ Some 2
-format_is t b s found has = found_is meta_codec number_rows_are_one t (λ _. Some 2) s.stored.stored.format tt tt found has
-
-no_format : (t : Tables) → t ≡ tables.empty → (n : ℕ) → HasAt meta_codec t tt (Some n) → ⊥
-no_format t e n has =
-    let none = sym (get-from_entries nat_list_cmp_total [] (place meta_codec tt)) ∙ ap (λ u. tables.get u (place meta_codec tt)) (sym e) ∙ has.found in absurd cc
-
-pub none_told : (t : Tables) → StandForSome t → HasAt meta_codec t tt None → HaveNoRow t
-none_told t h has = record { none = by h.base h.stand; base = λ b s. empty b s }
-  where
-    by : (b : Contents) → StandFor t b → t ≡ tables.empty
-    by b (inl s) = let e = format_is t b s None has in absurd cc
-    by b (inr e) = e.0
-
-    empty : (b : Contents) → StandFor t b → b ≡ empty_contents
-    empty b (inl s) = let e = format_is t b s None has in absurd cc
-    empty b (inr e) = e.1
-
-pub format_told : (t : Tables) (n : ℕ) → StandForSome t → HasAt meta_codec t tt (Some n) → HaveFormat t n
-format_told t n h has = record { two = two h.base h.stand; stores = λ b s. stores b s }
-  where
-    stores : (b : Contents) → StandFor t b → StoresValid t b
-    stores b (inl s) = s
-    stores b (inr e) = absurd (no_format t e.0 n has)
-
-    two : (b : Contents) → StandFor t b → n ≡ 2
-    two b (inl s) = let e = format_is t b s (Some n) has in cc
-    two b (inr e) = absurd (no_format t e.0 n has)
 
 -- ---- users and relations
 

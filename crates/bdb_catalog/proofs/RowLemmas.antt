@@ -30,7 +30,7 @@ use Rattle.bdb_tables.specs.InUse.{ValKey, IsValKey, val_bytes, tuple_codec, val
 use Rattle.bdb_tables.specs.InUseLaws.{vals_are_one, mark_rows_are_one}
 use Rattle.bdb_tables.specs.Marks.{Mark, mark_of}
 use Rattle.bdb_tables.specs.Names.{Names, path_of}
-use Rattle.bdb_tables.specs.Rows.{Tuples, HoldsTuples, HoldsRows, row_for}
+use Rattle.bdb_tables.specs.Rows.{Tuples, HoldsTuples, HoldsRows, row_for, AreKeyLengths}
 use Rattle.bdb_tables.specs.Spans.{AreUnder, IsUnder, entry_cmp}
 use Rattle.bdb_tables.proofs.Held.{same_place, some_same, none_some}
 use Rattle.bdb_val.specs.Reads.{HasRows, IsSpan}
@@ -163,33 +163,33 @@ length_map f (x ∷ xs) = ap suc (length_map f xs)
 one_of_two : (a b : ℕ) (o : Option ℕ) → o ≡ Some a → o ≡ Some b → a ≡ b
 one_of_two a b o p q = cc
 
-module _ (stmts : List Stmt) (ns : Names) (ts : Tuples) (t : Tables) (consistent : IsConsistent (λ _. 1) stmts) (h : HoldsTuples stmts ts t) (r : HoldsRows (λ _. 1) stmts (path_of ns) ts.tuple t)
-    (wid : ℕ) (n : IsNum wid) (w : List ℕ) (path : path_of ns wid ≡ Some w) (s : Sign) (test : Tuple → Bool) (prefix : List ℕ) (span : IsSpan wid test prefix) where
+module _ (keys : ℕ → ℕ) (stmts : List Stmt) (ns : Names) (ts : Tuples) (t : Tables) (lengths : AreKeyLengths keys) (consistent : IsConsistent keys stmts) (h : HoldsTuples stmts ts t) (r : HoldsRows keys stmts (path_of ns) ts.tuple t)
+    (wid : ℕ) (n : IsNum wid) (w : List ℕ) (path : path_of ns wid ≡ Some w) (s : Sign) (test : Tuple → Bool) (prefix : List ℕ) (span : IsSpan keys wid test prefix) where
   abbrev f : ValKey → Option Mark
-  f = row_for (λ _. 1) stmts (path_of ns) ts.tuple
+  f = row_for keys stmts (path_of ns) ts.tuple
 
-  rows : HasRows ts.tuple f t
-  rows = record { tuples = h.tuples; rows = r; sized = h.sized; keyed = λ k v i. (held_names stmts stmts ns ts t h k i).1 }
+  rows : HasRows keys ts.tuple f t
+  rows = record { lengths = lengths; tuples = h.tuples; rows = r; sized = h.sized; keyed = λ k v i. (held_names keys stmts stmts ns ts t h k i).1 }
 
   -- a row is that of a named tuple that passes the test, with the mark that the world gives it
   record IsOf (e : Entry) : Type 0 where
     u : Tuple
     named : ts.tuple e.0.3 ≡ Some u
-    key : row_key wid e.0.3 u ≡ e.0
-    mark : mark_of (λ _. 1) stmts w u ≡ Some e.1
+    key : row_key keys wid e.0.3 u ≡ e.0
+    mark : mark_of keys stmts w u ≡ Some e.1
     passes : test u ≡ true
 
   one_is : (e : Entry) → IsUnder val_codec prefix e → tables.get t (place val_codec e.0) ≡ Some (mark_bytes e.1) → IsOf e
   one_is e a found =
       let g : f e.0 ≡ Some e.1 = mark_here (f e.0) e.1 (sym (r.rows e.0 a.key) ∙ found) in
       let k = rows.keyed e.0 a.key (ap is_some g) in
-      let key : row_key wid e.0.3 k.0 ≡ e.0 = ap (λ x. row_key x e.0.3 k.0) (sym (span.world e.0 a.key a.begins)) ∙ k.2 in
+      let key : row_key keys wid e.0.3 k.0 ≡ e.0 = ap (λ x. row_key keys x e.0.3 k.0) (sym (span.world e.0 a.key a.begins)) ∙ k.2 in
       record {
         u = k.0;
         named = k.1;
         key = key;
-        mark = sym (right_row stmts stmts ns ts t h wid w e.0.3 k.0 path k.1) ∙ ap f key ∙ g;
-        passes = span.inside e.0.3 k.0 (tuple_row ts.tuple f t rows e.0.3 k.0 k.1) (ap (λ (z : ValKey). is_prefix prefix (val_bytes z)) key ∙ a.begins);
+        mark = sym (right_row keys stmts stmts ns ts t h wid w e.0.3 k.0 path k.1) ∙ ap f key ∙ g;
+        passes = span.inside e.0.3 k.0 (tuple_row keys ts.tuple f t rows e.0.3 k.0 k.1) (ap (λ (z : ValKey). is_prefix prefix (val_bytes z)) key ∙ a.begins);
       }
 
   all_are : (es : List Entry) → AreUnder val_codec t prefix es → AllByRecursion IsOf es
@@ -201,7 +201,7 @@ module _ (stmts : List Stmt) (ns : Names) (ts : Tuples) (t : Tables) (consistent
 
   -- the tuple that was read of a row
   told_named : (e : Entry) (k : IsOf e) (z : Tuple) → HasRow tuple_codec t e.0.3 z → ts.tuple e.0.3 ≡ Some z
-  told_named e k z row = tuple_named ts.tuple f t rows e.0.3 z (h.sized e.0.3 k.u k.named) row
+  told_named e k z row = tuple_named keys ts.tuple f t rows e.0.3 z (h.sized e.0.3 k.u k.named) row
 
   told_is : (e : Entry) (k : IsOf e) (z : Tuple) → HasRow tuple_codec t e.0.3 z → z ≡ k.u
   told_is e k z row = one_number ts.tuple e.0.3 e.0.3 z k.u (told_named e k z row) k.named refl
@@ -217,7 +217,7 @@ module _ (stmts : List Stmt) (ns : Names) (ts : Tuples) (t : Tables) (consistent
   each_stated (e ∷ es) [] a b c = absurd c
   each_stated (e ∷ es) (z ∷ us) a b c =
       let k = a.0 in
-      let m = mark_tells stmts w k.u e.1 k.mark in
+      let m = mark_tells keys stmts w k.u e.1 k.mark in
       let p = and_parts e.1.1 (same_sign e.1.0 s) b.0 in
       let same = told_is e k z c.0 in (
         (
@@ -232,9 +232,9 @@ module _ (stmts : List Stmt) (ns : Names) (ts : Tuples) (t : Tables) (consistent
 
   -- ---- and all that are stated are among them
 
-  module _ (u : Tuple) (tid : ℕ) (named : ts.tuple tid ≡ Some u) (fits : IsValKey (row_key wid tid u)) where
+  module _ (u : Tuple) (tid : ℕ) (named : ts.tuple tid ≡ Some u) (fits : IsValKey (row_key keys wid tid u)) where
     abbrev key_bytes : List ℕ
-    key_bytes = val_bytes (row_key wid tid u)
+    key_bytes = val_bytes (row_key keys wid tid u)
 
     is_read : (es : List Entry) (us : List Tuple) → AllByRecursion (IsUnder val_codec prefix) es → AllByRecursion IsOf es → AreTuplesOf t (filter (is_said s) es) us
         → rows_at es key_bytes ≡ Some (mark_bytes (s, true)) → list_any (same_tuple u) us ≡ true
@@ -248,9 +248,9 @@ module _ (stmts : List Stmt) (ns : Names) (ts : Tuples) (t : Tables) (consistent
         said : e.1 ≡ (s, true) → is_said s e ≡ true
         said x = ap (λ (m : Mark). m.1 && same_sign m.0 s) x ∙ (same_sign-Decides s s).1 refl
 
-        here : eq_by_cmp bytes_cmp key_bytes (val_bytes e.0) ≡ true → (row_key wid tid u ≡ e.0) × (e.1 ≡ (s, true))
+        here : eq_by_cmp bytes_cmp key_bytes (val_bytes e.0) ≡ true → (row_key keys wid tid u ≡ e.0) × (e.1 ≡ (s, true))
         here x = (
-          vals_are_one (row_key wid tid u) e.0 fits a.0.key (same_place key_bytes (val_bytes e.0) x),
+          vals_are_one (row_key keys wid tid u) e.0 fits a.0.key (same_place key_bytes (val_bytes e.0) x),
           mark_same (Some e.1) refl (sym (cond-true (eq_by_cmp bytes_cmp key_bytes (val_bytes e.0)) (Some (mark_bytes e.1)) (rows_at es key_bytes) x) ∙ found),
         )
 
@@ -271,16 +271,16 @@ module _ (stmts : List Stmt) (ns : Names) (ts : Tuples) (t : Tables) (consistent
       let number = some_is (ts.number u) (h.stated u ∙ explicit_tuple stmts w u s e) in
       let tid = number.0 in
       let named = h.numbered u tid number.1 in
-      let fits = key_fits ts.tuple f t rows wid tid u n named in
-      let mark : f (row_key wid tid u) ≡ Some (s, true) =
-      right_row stmts stmts ns ts t h wid w tid u path named ∙ mark_has stmts w u s consistent (explicit_is_stated (λ _. 1) stmts w u s e) ∙ ap (λ (b : Bool). Some (s, b)) e in
+      let fits = key_fits keys ts.tuple f t rows wid tid u n named in
+      let mark : f (row_key keys wid tid u) ≡ Some (s, true) =
+      right_row keys stmts stmts ns ts t h wid w tid u path named ∙ mark_has keys stmts w u s consistent (explicit_is_stated keys stmts w u s e) ∙ ap (λ (b : Bool). Some (s, b)) e in
       is_read u tid named fits es us a.each (all_are es a) c
-      (sym (a.found (val_bytes (row_key wid tid u)) (span.begins tid u p)) ∙ r.rows (row_key wid tid u) fits ∙ ap (option_map mark_bytes) mark)
+      (sym (a.found (val_bytes (row_key keys wid tid u)) (span.begins tid u p)) ∙ r.rows (row_key keys wid tid u) fits ∙ ap (option_map mark_bytes) mark)
 
   -- ---- no more rows are read than the world has
 
   abbrev world : List Held
-  world = world_of (λ _. 1) stmts w
+  world = world_of keys stmts w
 
   none_again : (d : Entry) (k : IsOf d) (x : Tuple) → ts.tuple d.0.3 ≡ Some x → (es : List Entry) (us : List Tuple) → AllByRecursion IsOf es → above d es ≡ true → AreTuplesOf t es us
       → list_any (same_tuple x) us ≡ false
@@ -294,7 +294,7 @@ module _ (stmts : List Stmt) (ns : Names) (ts : Tuples) (t : Tables) (consistent
       let same : x ≡ z = (same_tuple-Decides x z).0 i in
       let number : d.0.3 ≡ e.0.3 = one_of_two d.0.3 e.0.3 (ts.number z) (ap ts.number (sym same) ∙ h.named d.0.3 x named) (h.named e.0.3 z (told_named e a.0 z c.0)) in
       let tuple : k.u ≡ a.0.u = one_number ts.tuple d.0.3 e.0.3 k.u a.0.u k.named a.0.named number in
-      let key : d.0 ≡ e.0 = sym k.key ∙ ap (λ i. row_key wid i k.u) number ∙ ap (λ v. row_key wid e.0.3 v) tuple ∙ a.0.key in
+      let key : d.0 ≡ e.0 = sym k.key ∙ ap (λ i. row_key keys wid i k.u) number ∙ ap (λ v. row_key keys wid e.0.3 v) tuple ∙ a.0.key in
       not_below_itself (val_bytes d.0) (ap (λ (q : ValKey). is_lt (bytes_cmp (val_bytes d.0) (val_bytes q))) key ∙ p.0)))
       (none_again d k x named es us a.1 p.1 c.1)
 
@@ -317,7 +317,7 @@ module _ (stmts : List Stmt) (ns : Names) (ts : Tuples) (t : Tables) (consistent
       let k = a.0 in
       let g = held_of k.u e.1 in (
         ap (λ x. list_any (same_tuple x) (map held_tuple (filter q world))) (told_is e k z c.0)
-            ∙ passed q world g ((rows_are_the_world (λ _. 1) stmts w g).1 (mark_tells stmts w k.u e.1 k.mark)) (b.0 k.u k.passes),
+            ∙ passed q world g ((rows_are_the_world keys stmts w g).1 (mark_tells keys stmts w k.u e.1 k.mark)) (b.0 k.u k.passes),
         in_world q es us a.1 b.1 c.1,
       )
 
@@ -339,7 +339,7 @@ module _ (stmts : List Stmt) (ns : Names) (ts : Tuples) (t : Tables) (consistent
         k.u ∷ rest.0,
         (
           record {
-            in_grammar = tuple_row ts.tuple f t rows e.0.3 k.u k.named;
+            in_grammar = tuple_row keys ts.tuple f t rows e.0.3 k.u k.named;
             found = h.tuples.rows e.0.3 (h.sized e.0.3 k.u k.named) ∙ ap (option_map tuple_bytes) k.named;
           },
           rest.1,

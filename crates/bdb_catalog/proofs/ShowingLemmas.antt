@@ -21,7 +21,9 @@ use Rattle.bdb_tables.specs.Codec.{HasAt}
 use Rattle.bdb_tables.specs.InUse.{depth_codec}
 use Rattle.bdb_tables.specs.Names.{is_named, depth_of}
 use Rattle.bdb_tables.specs.States.{HoldsStates}
+use Rattle.bdb_update.proofs.KeyLemmas.{lengths_fit}
 use Rattle.bdb_update.proofs.OneStored.{consistent}
+use Rattle.bdb_update.specs.Keys.{keys_of}
 use Rattle.bdb_val.specs.WorldReads.{AreRowsAt}
 use Rattle.bdb_worlds.specs.Bounds.{RisesWithin}
 use Rattle.bdb_worlds.specs.Holding.{HoldSome, StandsFor, Worlds}
@@ -117,13 +119,13 @@ path_world t path wid own held f a b h =
     let is = f (record { users = is_user b.catalog.users; names = ns }) st.states h.own in
     let d = deepest_suffix (is_named ns) path in
     let same : d ≡ deepest_suffix (is_state b.stmts) path = deepest_same (is_named ns) (is_state b.stmts) st.worlds path in
-    let rows : held ≡ world_of (λ _. 1) b.stmts d =
-    a b.stmts ns s.tuples d (consistent b h.base.valid) st.states.names st.tuples st.rows (st.states.names.numbered d wid is.number) in
+    let rows : held ≡ world_of (keys_of b) b.stmts d =
+    a (keys_of b) b.stmts ns s.tuples d (lengths_fit t b.catalog.rels st.rels) (consistent b h.base.valid) st.states.names st.tuples st.rows (st.states.names.numbered d wid is.number) in
     elim (cases_Bool (is_named ns path)) [
-      | inl e ↦ cond-true own held (map inherited held) (is.own ∙ e) ∙ rows ∙ ap (world_of (λ _. 1) b.stmts) (deepest_of_member (is_named ns) path e)
+      | inl e ↦ cond-true own held (map inherited held) (is.own ∙ e) ∙ rows ∙ ap (world_of (keys_of b) b.stmts) (deepest_of_member (is_named ns) path e)
       | inr e ↦ cond-false own held (map inherited held) (is.own ∙ e) ∙ ap (map inherited) rows
-          ∙ ap (λ v. map inherited (world_of (λ _. 1) b.stmts v)) same
-          ∙ sym (plain_paths_inherit (λ _. 1) b.stmts path (sym (st.worlds path) ∙ e))
+          ∙ ap (λ v. map inherited (world_of (keys_of b) b.stmts v)) same
+          ∙ sym (plain_paths_inherit (keys_of b) b.stmts path (sym (st.worlds path) ∙ e))
     ]
 
 -- ---- how many reads that takes

@@ -9,6 +9,7 @@ use Rattle.bdb_tables.specs.Names.{Names, path_of}
 use Rattle.bdb_tables.specs.Rows.{Tuples, row_for}
 use Rattle.bdb_tables.specs.Stored.{StoredAs}
 use Rattle.bdb_update.proofs.GrammarLemmas.{stored_is_in_grammar}
+use Rattle.bdb_update.specs.Keys.{keys_of}
 use Rattle.bdb_val.specs.Reads.{HaveTuples}
 use Rattle.bdb_val.proofs.HeldLemmas.{held_names}
 use Rattle.bdb_worlds.specs.Holding.{HoldSome}
@@ -22,9 +23,9 @@ stands_for bytes (Some x) = refl
 -- each row of a world has its tuple
 pub stored_has_tuples : (ns : Names) (ts : Tuples) (t : Tables) (b : Contents) → StoredAs ns ts t b → HaveTuples t
 stored_has_tuples ns ts t b h k v s =
-    let f = row_for (λ _. 1) b.stmts (path_of ns) ts.tuple in
+    let f = row_for (keys_of b) b.stmts (path_of ns) ts.tuple in
     let there : is_some (f k) ≡ true = sym (ap is_some (h.rows.rows k v) ∙ stands_for val_codec.row_bytes (f k)) ∙ s in
-    let named = (held_names b.stmts b.stmts ns ts t h.tuples k there).1 in
+    let named = (held_names (keys_of b) b.stmts b.stmts ns ts t h.tuples k there).1 in
     ap is_some (h.tuples.tuples.rows k.3 v.tuple) ∙ stands_for tuple_codec.row_bytes (ts.tuple k.3) ∙ ap is_some named.1
 
 -- ---- where some base has the users of a path

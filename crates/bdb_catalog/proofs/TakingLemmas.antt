@@ -1,9 +1,10 @@
 -- The statements of the tuples that are read of a path's world are those that are taken.
-use Rattle.std.proofs.Common.{◌≡◌, ◌∙◌, ◌⊎◌, ℕ, ◌+◌, ◌≤◌, Bool, true, false, ◌&&◌, ◌||◌, nat_eq, cond, List, [], ◌∷◌, ◌++◌, length, map, filter, Some, MatchOption, refl, ap, sym, subst, arith, inl, inr}
-use Rattle.std.specs.List.{list_any, AllByRecursion}
+use Rattle.std.proofs.Common.{◌≡◌, ◌∙◌, ◌⊎◌, ℕ, suc, ◌+◌, ◌-◌, ◌^◌, ◌<◌, ◌≤◌, Bool, true, false, ◌&&◌, ◌||◌, nat_eq, cond, List, [], ◌∷◌, ◌++◌, length, map, filter, Option, Some, None, MatchOption, refl, ap, sym, subst, arith, inl, inr}
+use Rattle.std.specs.List.{list_all, list_any, slice_get, AllByRecursion}
 use Rattle.std.specs.Ordering.{is_eq}
 use Rattle.std.proofs.lemmas.Bool.{cases_Bool, and_parts, and_from, or_cases, or_left, or_right, false≢true}
-use Rattle.bdb_base.specs.Bases.{Contents, is_user, key_lengths, stands}
+use Rattle.bdb_base.specs.Bases.{Contents, IsValid, belongs, fits_columns, fits_definition, fits_kind, fits_relation, is_user, is_valid_relation, key_at, key_lengths, stands}
+use Rattle.bdb_base.specs.Causes.{RoseBy}
 use Rattle.bdb_base.specs.Changes.{is_taken, taken_by}
 use Rattle.bdb_base.specs.Conditions.{meets}
 use Rattle.bdb_base.specs.Order.{statement_cmp}
@@ -14,11 +15,15 @@ use Rattle.bdb_base.specs.SortedSet.{ascending, put_in, put_all}
 use Rattle.bdb_base.specs.States.{is_state}
 use Rattle.bdb_base.specs.WorldRows.{world_of}
 use Rattle.bdb_base.specs.Worlds.{explicit}
+use Rattle.bdb_base.specs.declared.kinds.Catalog.{Catalog}
+use Rattle.bdb_base.specs.declared.kinds.ColDef.{ColDef}
 use Rattle.bdb_base.specs.declared.kinds.Cond.{Cond}
+use Rattle.bdb_base.specs.declared.kinds.RelDef.{RelDef}
 use Rattle.bdb_base.specs.declared.kinds.Sign.{Sign}
 use Rattle.bdb_base.specs.declared.kinds.Stmt.{Stmt}
+use Rattle.bdb_base.specs.declared.kinds.Value.{Value}
 use Rattle.bdb_base.specs.declared.tuple.Tuple.{Tuple}
-use Rattle.bdb_base.proofs.ListLemmas.{filter_kept_one, filter_dropped_one}
+use Rattle.bdb_base.proofs.ListLemmas.{filter_kept_one, filter_dropped_one, list_all_get}
 use Rattle.bdb_base.proofs.SetLemmas.{is_eq-Equal, is_eq_itself, filter_keeps_order, members_make_set, put_all_is_ascending, list_any-put_all}
 use Rattle.bdb_base.proofs.WorldLemmas.{explicit_tuple}
 use Rattle.bdb_keep.specs.Seen.{Seen}
@@ -27,19 +32,24 @@ use Rattle.bdb_key.specs.Grammar.{IsNum, IsPlainValue}
 use Rattle.bdb_key.specs.Rows.{IsTupleRow}
 use Rattle.bdb_paths.proofs.SuffixLemmas.{deepest_of_member}
 use Rattle.bdb_tables.specs.InUse.{val_codec}
+use Rattle.bdb_tables.specs.Lengths.{IsKeyLength}
 use Rattle.bdb_tables.specs.Names.{Names, path_of, number_of, is_named}
-use Rattle.bdb_tables.specs.Rows.{Tuples}
+use Rattle.bdb_tables.specs.Rows.{Tuples, AreKeyLengths}
 use Rattle.bdb_tables.specs.Spans.{AreUnder}
 use Rattle.bdb_tables.specs.Stored.{StoredAs}
+use Rattle.bdb_tables.proofs.Fitting.{relation_row}
 use Rattle.bdb_tables.proofs.SignLemmas.{one_answer, stands_is_explicit}
+use Rattle.bdb_update.proofs.KeyLemmas.{lengths_fit}
 use Rattle.bdb_update.proofs.OneStored.{consistent}
+use Rattle.bdb_update.proofs.StageLemmas.{belongs_parts}
+use Rattle.bdb_update.specs.Keys.{keys_of}
 use Rattle.bdb_val.specs.Reads.{IsSpan}
 use Rattle.bdb_val.proofs.HeldLemmas.{some_is}
 use Rattle.bdb_worlds.specs.Bounds.{RisesWithin}
 use Rattle.bdb_catalog.specs.Bases.{HasUsers}
 use Rattle.bdb_catalog.specs.Showing.{FindsState, IsStateOf}
 use Rattle.bdb_catalog.specs.Taking.{AreTuplesRead, AreTuplesOf, beginning, is_asked, is_said, key_asked, may_be_there, rows_asked, rows_said, statement_at, statements_of}
-use Rattle.bdb_catalog.proofs.AskingLemmas.{meets_asked, asked_rel, asked_span, none_meets}
+use Rattle.bdb_catalog.proofs.AskingLemmas.{meets_asked, asked_rel, asked_span, none_meets, HasWholeKey}
 use Rattle.bdb_catalog.proofs.RowLemmas.{tuples_are_stated, stated_are_read, rows_within, tuples_within, as_many}
 use Rattle.bdb_catalog.proofs.ShowingLemmas.{nothing_explicit}
 
@@ -192,9 +202,57 @@ module _ (stmts : List Stmt) (w : List ℕ) (s : Sign) (rel : ℕ) (conds : List
       ∙ one_answer (among y (map of_path (filter (meets conds) us))) (stands_taken y) (made_taken us each y) (taken_made y)
       ∙ sym (filtered_stands (is_taken w s rel conds) stmts y))
 
+-- ---- keys
+
+-- each key of a valid base has a value
+some_key : (b : Contents) → IsValid b.catalog b.stmts → (rel : ℕ) → 0 < keys_of b rel
+some_key b valid rel = by (slice_get b.catalog.rels rel) refl
+  where
+    one : 0 < 1
+    one = omega arith
+
+    some : (n : ℕ) → 1 ≤ n → 0 < n
+    some n l = omega (arith, l)
+
+    by : (o : Option RelDef) → slice_get b.catalog.rels rel ≡ o → 0 < key_at o
+    by None e = one
+    by (Some def) e = some def.key (relation_row def (list_all_get is_valid_relation b.catalog.rels rel def valid.catalog.rels_valid e)).key.0
+
+as_many_values : (cols : List ColDef) (vals : List Value) → fits_columns cols vals ≡ true → length vals ≡ length cols
+as_many_values [] [] h = refl
+as_many_values [] (v ∷ vals) h = absurd (false≢true h)
+as_many_values (c ∷ cols) [] h = absurd (false≢true h)
+as_many_values (c ∷ cols) (v ∷ vals) h = ap suc (as_many_values cols vals (and_parts (fits_kind c.kind v) (fits_columns cols vals) h).1)
+
+-- the tuple of a statement fits its relation
+stated_fits : (c : Catalog) (stmts : List Stmt) (u : Tuple) → list_all (belongs c) stmts ≡ true → list_any (λ x. same_tuple x.tuple u) stmts ≡ true → fits_relation c.rels u ≡ true
+stated_fits c [] u all any = absurd (false≢true any)
+stated_fits c (x ∷ xs) u all any =
+    let k = and_parts (belongs c x) (list_all (belongs c) xs) all in
+    elim (or_cases (same_tuple x.tuple u) (list_any (λ y. same_tuple y.tuple u) xs) any) [
+      | inl e ↦ subst (λ (v : Tuple). fits_relation c.rels v ≡ true) ((same_tuple-Decides x.tuple u).0 e) (belongs_parts c x k.0).tuple
+      | inr e ↦ stated_fits c xs u k.1 e
+    ]
+
+-- and a tuple that fits its relation has all of its key
+whole_key : (b : Contents) → IsValid b.catalog b.stmts → (u : Tuple) → fits_relation b.catalog.rels u ≡ true → HasWholeKey (keys_of b) u
+whole_key b valid u fits = record { some = some_key b valid u.rel; within = by (slice_get b.catalog.rels u.rel) refl fits }
+  where
+    enough : (n m k : ℕ) → n ≤ m → k ≡ m → n ≤ k
+    enough n m k l e = omega (arith, l, e)
+
+    by : (o : Option RelDef) → slice_get b.catalog.rels u.rel ≡ o → fits_definition o u.vals ≡ true → key_at o ≤ length u.vals
+    by None e h = absurd (false≢true h)
+    by (Some def) e h =
+        let row = relation_row def (list_all_get is_valid_relation b.catalog.rels u.rel def valid.catalog.rels_valid e) in
+        enough def.key (length def.cols) (length u.vals) row.key.1 (as_many_values def.cols u.vals h)
+
 -- ---- what is read
 
-reads_all : (d r u n m a b c : ℕ) → b ≤ c → RisesWithin (d + 1) a b → c ≤ b + (n + m + 1) → n ≤ r → m ≤ u → RisesWithin (d + r + u + 2) a c
+pub one_read_more : (d a b c : ℕ) → RisesWithin (d + 1) a b → RoseBy 1 b c → RisesWithin (d + 2) a c
+one_read_more d a b c within one below = let low : b < 2 ^ 64 - 1 = omega arith in let e = within low in omega arith
+
+reads_all : (d r u n m a b c : ℕ) → b ≤ c → RisesWithin (d + 2) a b → c ≤ b + (n + m + 1) → n ≤ r → m ≤ u → RisesWithin (d + r + u + 3) a c
 reads_all d r u n m a b c le first more few fewer below = let e = first (omega arith) in omega arith
 
 module _ (t : Tables) (w : List ℕ) (wid : ℕ) (own : Bool) (state : FindsState t w (wid, own)) (s : Sign) (rel : ℕ) (conds : List Cond) (b : Contents) (has : HasUsers t w b) where
@@ -216,19 +274,28 @@ module _ (t : Tables) (w : List ℕ) (wid : ℕ) (own : Bool) (state : FindsStat
       let out : is_state b.stmts w ≡ false = sym (stored.worlds w) ∙ sym is.own ∙ other in
       statements_are_taken b.stmts w s rel conds [] tt (λ u x r m. absurd (false≢true (sym (nothing_explicit b.stmts w u s out) ∙ x))) has.base.valid.stmts.sorted
 
+  -- the tuple of a statement may be written
+  stated_row : (u : Tuple) → explicit b.stmts w u s ≡ true → IsTupleRow u
+  stated_row u x =
+      let number = some_is (ts.number u) (stored.tuples.stated u ∙ explicit_tuple b.stmts w u s x) in
+      let named = stored.tuples.numbered u number.0 number.1 in
+      subst (λ o. MatchOption o (Unit {0}) IsTupleRow) named (stored.tuples.tuples.written number.0 (stored.tuples.sized number.0 u named))
+
   -- nor has any with a value that no tuple has
   pub none_with_key : may_be_there (key_asked conds) ≡ false → [] ≡ taken_by w s rel conds b.stmts
   none_with_key out = statements_are_taken b.stmts w s rel conds [] tt none has.base.valid.stmts.sorted
     where
       none : (u : Tuple) → explicit b.stmts w u s ≡ true → nat_eq u.rel rel ≡ true → meets conds u ≡ true → list_any (same_tuple u) [] ≡ true
-      none u x r m =
-          let number = some_is (ts.number u) (stored.tuples.stated u ∙ explicit_tuple b.stmts w u s x) in
-          let named = stored.tuples.numbered u number.0 number.1 in
-          let row : IsTupleRow u = subst (λ o. MatchOption o (Unit {0}) IsTupleRow) named (stored.tuples.tuples.written number.0 (stored.tuples.sized number.0 u named)) in
-          absurd (none_meets conds u row out m)
+      none u x r m = absurd (none_meets conds u (stated_row u x) out m)
 
-  module _ (yes : own ≡ true) (nr : IsNum rel) (old new : Seen) (same : old.kept ≡ t) (plain : MatchOption (key_asked conds) (Unit {0}) IsPlainValue) (us : List Tuple)
-      (read : AreTuplesRead old new (beginning wid rel (key_asked conds)) s us) where
+  module _ (yes : own ≡ true) (nr : IsNum rel) (n : ℕ) (long : IsKeyLength t rel n) (old new : Seen) (same : old.kept ≡ t) (plain : MatchOption (key_asked conds) (Unit {0}) IsPlainValue) (us : List Tuple)
+      (read : AreTuplesRead old new (beginning n wid rel (key_asked conds)) s us) where
+    lengths : AreKeyLengths (keys_of b)
+    lengths = lengths_fit t b.catalog.rels stored.rels
+
+    was_read : AreTuplesRead old new (beginning (keys_of b rel) wid rel (key_asked conds)) s us
+    was_read = subst (λ k. AreTuplesRead old new (beginning k wid rel (key_asked conds)) s us) (long b.catalog.rels stored.rels) read
+
     number : number_of ns w ≡ Some wid
     number = ap (number_of ns) (sym (deepest_of_member (is_named ns) w (sym is.own ∙ yes))) ∙ is.number
 
@@ -238,42 +305,42 @@ module _ (t : Tables) (w : List ℕ) (wid : ℕ) (own : Bool) (state : FindsStat
     small : IsNum wid
     small = stored.states.names.sized w wid number
 
-    span : IsSpan wid (is_asked rel (key_asked conds)) (beginning wid rel (key_asked conds))
-    span = asked_span wid rel (key_asked conds) small nr plain
+    span : IsSpan (keys_of b) wid (is_asked (keys_of b) rel (key_asked conds)) (beginning (keys_of b rel) wid rel (key_asked conds))
+    span = asked_span (keys_of b) lengths wid rel (key_asked conds) small nr (some_key b has.base.valid rel) plain
 
-    under : AreUnder val_codec t (beginning wid rel (key_asked conds)) read.rows
-    under = subst (λ u. AreUnder val_codec u (beginning wid rel (key_asked conds)) read.rows) same read.under
+    under : AreUnder val_codec t (beginning (keys_of b rel) wid rel (key_asked conds)) was_read.rows
+    under = subst (λ u. AreUnder val_codec u (beginning (keys_of b rel) wid rel (key_asked conds)) was_read.rows) same was_read.under
 
-    told : AreTuplesOf t (filter (is_said s) read.rows) us
-    told = subst (λ u. AreTuplesOf u (filter (is_said s) read.rows) us) same read.told
+    told : AreTuplesOf t (filter (is_said s) was_read.rows) us
+    told = subst (λ u. AreTuplesOf u (filter (is_said s) was_read.rows) us) same was_read.told
 
-    of_rel : (vs : List Tuple) → AllByRecursion (λ u. (explicit b.stmts w u s ≡ true) × (is_asked rel (key_asked conds) u ≡ true)) vs
+    of_rel : (vs : List Tuple) → AllByRecursion (λ u. (explicit b.stmts w u s ≡ true) × (is_asked (keys_of b) rel (key_asked conds) u ≡ true)) vs
         → AllByRecursion (λ u. (explicit b.stmts w u s ≡ true) × (nat_eq u.rel rel ≡ true)) vs
     of_rel [] a = tt
-    of_rel (u ∷ vs) a = ((a.0.0, asked_rel rel (key_asked conds) u a.0.1), of_rel vs a.1)
+    of_rel (u ∷ vs) a = ((a.0.0, asked_rel (keys_of b) rel (key_asked conds) u a.0.1), of_rel vs a.1)
 
     pub read_are_taken : statements_of w s conds us ≡ taken_by w s rel conds b.stmts
     read_are_taken =
         statements_are_taken b.stmts w s rel conds us
-        (of_rel us (tuples_are_stated b.stmts ns ts t (consistent b has.base.valid) stored.tuples stored.rows wid small w path s (is_asked rel (key_asked conds))
-        (beginning wid rel (key_asked conds)) span read.rows us under told))
-        (λ u x r m. stated_are_read b.stmts ns ts t (consistent b has.base.valid) stored.tuples stored.rows wid small w path s (is_asked rel (key_asked conds))
-        (beginning wid rel (key_asked conds)) span read.rows us under told u x (meets_asked conds rel u r m))
+        (of_rel us (tuples_are_stated (keys_of b) b.stmts ns ts t lengths (consistent b has.base.valid) stored.tuples stored.rows wid small w path s (is_asked (keys_of b) rel (key_asked conds))
+        (beginning (keys_of b rel) wid rel (key_asked conds)) span was_read.rows us under told))
+        (λ u x r m. stated_are_read (keys_of b) b.stmts ns ts t lengths (consistent b has.base.valid) stored.tuples stored.rows wid small w path s (is_asked (keys_of b) rel (key_asked conds))
+        (beginning (keys_of b rel) wid rel (key_asked conds)) span was_read.rows us under told u x (meets_asked (keys_of b) conds rel u (whole_key b has.base.valid u (stated_fits b.catalog b.stmts u has.base.valid.stmts.belong (explicit_tuple b.stmts w u s x))) r m))
         has.base.valid.stmts.sorted
 
-    few_rows : length read.rows ≤ length (rows_asked rel (key_asked conds) (world_of (key_lengths b.catalog.rels) b.stmts w))
-    few_rows = rows_within b.stmts ns ts t (consistent b has.base.valid) stored.tuples stored.rows wid small w path s (is_asked rel (key_asked conds))
-        (beginning wid rel (key_asked conds)) span read.rows under
+    few_rows : length was_read.rows ≤ length (rows_asked (key_lengths b.catalog.rels) rel (key_asked conds) (world_of (key_lengths b.catalog.rels) b.stmts w))
+    few_rows = rows_within (keys_of b) b.stmts ns ts t lengths (consistent b has.base.valid) stored.tuples stored.rows wid small w path s (is_asked (keys_of b) rel (key_asked conds))
+        (beginning (keys_of b rel) wid rel (key_asked conds)) span was_read.rows under
 
-    few_tuples : length us ≤ length (rows_said s rel (key_asked conds) (world_of (key_lengths b.catalog.rels) b.stmts w))
+    few_tuples : length us ≤ length (rows_said (key_lengths b.catalog.rels) s rel (key_asked conds) (world_of (key_lengths b.catalog.rels) b.stmts w))
     few_tuples =
-        let within = tuples_within b.stmts ns ts t (consistent b has.base.valid) stored.tuples stored.rows wid small w path s (is_asked rel (key_asked conds))
-        (beginning wid rel (key_asked conds)) span read.rows us under told in
-        subst (λ n. n ≤ length (rows_said s rel (key_asked conds) (world_of (key_lengths b.catalog.rels) b.stmts w))) (sym (as_many t (filter (is_said s) read.rows) us told)) within
+        let within = tuples_within (keys_of b) b.stmts ns ts t lengths (consistent b has.base.valid) stored.tuples stored.rows wid small w path s (is_asked (keys_of b) rel (key_asked conds))
+        (beginning (keys_of b rel) wid rel (key_asked conds)) span was_read.rows us under told in
+        subst (λ n. n ≤ length (rows_said (key_lengths b.catalog.rels) s rel (key_asked conds) (world_of (key_lengths b.catalog.rels) b.stmts w))) (sym (as_many t (filter (is_said s) was_read.rows) us told)) within
 
-    pub reads_are_few : (a : ℕ) → old.reads ≤ new.reads → RisesWithin (length w + 1) a old.reads
-        → RisesWithin (length w + length (rows_asked rel (key_asked conds) (world_of (key_lengths b.catalog.rels) b.stmts w))
-        + length (rows_said s rel (key_asked conds) (world_of (key_lengths b.catalog.rels) b.stmts w)) + 2) a new.reads
+    pub reads_are_few : (a : ℕ) → old.reads ≤ new.reads → RisesWithin (length w + 2) a old.reads
+        → RisesWithin (length w + length (rows_asked (key_lengths b.catalog.rels) rel (key_asked conds) (world_of (key_lengths b.catalog.rels) b.stmts w))
+        + length (rows_said (key_lengths b.catalog.rels) s rel (key_asked conds) (world_of (key_lengths b.catalog.rels) b.stmts w)) + 3) a new.reads
     reads_are_few a le first =
-        reads_all (length w) (length (rows_asked rel (key_asked conds) (world_of (key_lengths b.catalog.rels) b.stmts w)))
-        (length (rows_said s rel (key_asked conds) (world_of (key_lengths b.catalog.rels) b.stmts w))) (length read.rows) (length us) a old.reads new.reads le first read.reads few_rows few_tuples
+        reads_all (length w) (length (rows_asked (key_lengths b.catalog.rels) rel (key_asked conds) (world_of (key_lengths b.catalog.rels) b.stmts w)))
+        (length (rows_said (key_lengths b.catalog.rels) s rel (key_asked conds) (world_of (key_lengths b.catalog.rels) b.stmts w))) (length was_read.rows) (length us) a old.reads new.reads le first was_read.reads few_rows few_tuples

@@ -1,7 +1,8 @@
 -- The statements that a delete or an update takes, as they are read from the rows of the world of their path.
-use Rattle.std.specs.Prelude.{◌≡◌, ℕ, ◌+◌, ◌≤◌, Bool, true, ◌&&◌, nat_eq, List, [], ◌∷◌, ◌++◌, length, map, filter, Option, None, Some, cond}
+use Rattle.std.specs.Prelude.{◌≡◌, ℕ, ◌+◌, ◌≤◌, Bool, true, false, ◌&&◌, nat_eq, List, [], ◌∷◌, ◌++◌, length, map, filter, Option, None, Some, cond}
 use Rattle.bdb_base.specs.Bases.{Contents, is_plain, key_lengths}
 use Rattle.bdb_base.specs.Changes.{taken_by}
+use Rattle.bdb_base.specs.Clash.{key_of}
 use Rattle.bdb_base.specs.Conditions.{meets}
 use Rattle.bdb_base.specs.Order.{statement_cmp}
 use Rattle.bdb_base.specs.Safety.{is_equality}
@@ -24,7 +25,6 @@ use Rattle.bdb_tables.specs.Codec.{HasRow}
 use Rattle.bdb_tables.specs.InUse.{ValKey, tuple_codec, val_codec}
 use Rattle.bdb_tables.specs.Marks.{Mark}
 use Rattle.bdb_tables.specs.Spans.{AreUnder}
-use Rattle.bdb_val.specs.Settling.{key_value}
 use Rattle.bdb_worlds.specs.Bounds.{RisesWithin}
 use Rattle.bdb_catalog.specs.Bases.{HasUsers}
 
@@ -66,15 +66,20 @@ abbrev pub may_be_there : Option Value → Bool
 may_be_there None = true
 may_be_there (Some v) = is_written v
 
--- a tuple is of a relation, and its first value is the one that is asked for
-abbrev pub is_asked : ℕ → Option Value → Tuple → Bool
-is_asked rel None u = nat_eq u.rel rel
-is_asked rel (Some v) u = nat_eq u.rel rel && same_value (key_value u.vals) v
+-- values are so many, and the first of them is a value
+abbrev pub starts_with : ℕ → Value → List Value → Bool
+starts_with n v [] = false
+starts_with n v (x ∷ xs) = nat_eq (length (x ∷ xs)) n && same_value x v
 
--- how the keys of a world's rows begin whose tuples are asked for
-abbrev pub beginning : ℕ → ℕ → Option Value → List ℕ
-beginning wid rel None = num_bytes wid ++ num_bytes rel
-beginning wid rel (Some v) = num_bytes wid ++ num_bytes rel ++ value_bytes v
+-- a tuple is of a relation, and where a value is asked for its key, which is as long as the relation's keys, begins with it
+abbrev pub is_asked : (ℕ → ℕ) → ℕ → Option Value → Tuple → Bool
+is_asked keys rel None u = nat_eq u.rel rel
+is_asked keys rel (Some v) u = nat_eq u.rel rel && starts_with (keys rel) v (key_of keys u)
+
+-- how the keys of a world's rows begin whose tuples are asked for, by the length of the relation's keys
+abbrev pub beginning : ℕ → ℕ → ℕ → Option Value → List ℕ
+beginning n wid rel None = num_bytes wid ++ num_bytes rel
+beginning n wid rel (Some v) = num_bytes wid ++ num_bytes rel ++ num_bytes n ++ value_bytes v
 
 -- ---- rows and their tuples
 
@@ -107,16 +112,17 @@ statements_of w s conds us = put_all statement_cmp [] (map (statement_at w s) (f
 -- ---- how much is read
 
 -- the rows of a world whose tuples are asked for
-abbrev pub rows_asked : ℕ → Option Value → List Held → List Held
-rows_asked rel key rows = filter (λ h. is_asked rel key h.tuple) rows
+abbrev pub rows_asked : (ℕ → ℕ) → ℕ → Option Value → List Held → List Held
+rows_asked keys rel key rows = filter (λ h. is_asked keys rel key h.tuple) rows
 
 -- those of them that are explicit, with this sign
-abbrev pub rows_said : Sign → ℕ → Option Value → List Held → List Held
-rows_said s rel key rows = filter (λ h. is_asked rel key h.tuple && (h.explicit && same_sign h.sign s)) rows
+abbrev pub rows_said : (ℕ → ℕ) → Sign → ℕ → Option Value → List Held → List Held
+rows_said keys s rel key rows = filter (λ h. is_asked keys rel key h.tuple && (h.explicit && same_sign h.sign s)) rows
 
 -- Whichever valid base the tables store with the users of a path: one read for each of these users, one for each row of the
--- world of the path whose tuple is asked for, one more for each of those that are explicit with the sign, and two, at most.
+-- world of the path whose tuple is asked for, one more for each of those that are explicit with the sign, and three, at most:
+-- of how deep the path's state is, of the relation's key, and of no row behind the last.
 abbrev pub ReadsTaken : Seen → Seen → List ℕ → Sign → ℕ → Option Value → Type 0
 ReadsTaken old new w s rel key = (b : Contents) → HasUsers old.kept w b
-    → RisesWithin (length w + length (rows_asked rel key (world_of (key_lengths b.catalog.rels) b.stmts w))
-    + length (rows_said s rel key (world_of (key_lengths b.catalog.rels) b.stmts w)) + 2) old.reads new.reads
+    → RisesWithin (length w + length (rows_asked (key_lengths b.catalog.rels) rel key (world_of (key_lengths b.catalog.rels) b.stmts w))
+    + length (rows_said (key_lengths b.catalog.rels) s rel key (world_of (key_lengths b.catalog.rels) b.stmts w)) + 3) old.reads new.reads

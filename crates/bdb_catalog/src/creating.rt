@@ -13,7 +13,7 @@ use bdb_tables::{DepthTab, MetaTab, RelTab, TabError, put};
 use std::alloc::Global;
 
 /// The format of tables that store a base with its worlds.
-const FORMAT: u32 = 2;
+const FORMAT: u32 = 3;
 
 /// Makes the tables of the empty base: the row of the format, and the depth of world 0. Two writes.
 pub fn write_empty<K: Keeper>(alloc: Global, keeper: &mut K) -> Result<(), TabError>

@@ -10,7 +10,7 @@ mod taking;
 mod users;
 
 pub use creating::{add_relation, write_empty};
-pub use opening::{read_format, read_relations, read_users};
+pub use opening::{read_relations, read_users};
 pub use showing::{plain_paths_inherit, world_of_path};
-pub use taking::{explicit_tuples, taken};
+pub use taking::{taken, tuples_under};
 pub use users::add_user;

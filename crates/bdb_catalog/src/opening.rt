@@ -1,29 +1,13 @@
 // Reading what tables tell when they are opened.
 ghost use Rattle.std.specs.Prelude.{◌≡◌, IfOk, OnOk};
-ghost use Rattle.bdb_base.specs.Causes.{RoseBy};
-ghost use Rattle.bdb_keep.specs.Calls.{IsRead};
 ghost use Rattle.bdb_keep.specs.Seen.{NeverFall, Steps};
 ghost use Rattle.bdb_catalog.specs.Bases.{StoresSome};
-ghost use Rattle.bdb_catalog.specs.Opening.{IsPartOf, StandForSome, TellsFormat};
+ghost use Rattle.bdb_catalog.specs.Opening.{IsPartOf};
 
 use bdb_base::{List, RelDef, Txt};
 use bdb_keep::Keeper;
-use bdb_tables::{MetaTab, RelTab, TabError, UserTab, get};
+use bdb_tables::{RelTab, TabError, UserTab, get};
 use std::alloc::Global;
-
-/// The format of the tables: none where they have no row, else that of the base that they store. One read.
-pub fn read_format<K: Keeper>(alloc: Global, keeper: &mut K) -> Result<Option<u32>, TabError>
-    requires base { StandForSome (K.seen keeper.old).kept }
-    ensures format { IfOk result (TellsFormat (K.seen keeper.old).kept) }
-    ensures reads { OnOk result (RoseBy 1 (K.seen keeper.old).reads (K.seen keeper.new).reads) }
-    ensures read { IsRead (K.seen keeper.old) (K.seen keeper.new) result TabError.Fault }
-{
-    match get::<MetaTab, K>(alloc, keeper, &()) {
-        Ok(Some(format)) => Ok(Some(format)),
-        Ok(None) => Ok(None),
-        Err(error) => Err(error),
-    }
-}
 
 /// The names of the users, by number from 1.
 pub fn read_users<K: Keeper>(alloc: Global, keeper: &mut K) -> Result<List<Txt>, TabError>

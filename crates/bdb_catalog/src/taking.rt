@@ -19,13 +19,13 @@ use crate::showing::state_of;
 use bdb_base::{Cond, Exact, List, Path, Sign, Stmt, Tuple, Value, meets, put};
 use bdb_keep::Keeper;
 use bdb_key::{put_num, put_value};
-use bdb_tables::{TabError, TupleTab, ValTab, get, rows_under};
+use bdb_tables::{TabError, TupleTab, ValTab, get, rows_under, stored_key_length};
 use std::alloc::{AllocError, Global};
 
 /// The statements of exactly this path, sign and relation whose tuples meet all tests, in order. They are the explicit rows
 /// of the path's world, of which there are none where the path is no state. A read for each user of the path and for each
-/// row of its world and the relation, and one more for each of these that is explicit with the sign, at most. Where a test
-/// asks for a value of the first column, only the rows with this value are read.
+/// row of its world and the relation, one more for each of these that is explicit with the sign, and three, at most. Where a
+/// test asks for a value of the first column, only the rows with this value are read.
 pub fn taken<K: Keeper>(
     alloc: Global,
     keeper: &mut K,
@@ -54,7 +54,11 @@ pub fn taken<K: Keeper>(
     if !may_be_there(key) {
         return Ok(List::new(alloc));
     }
-    let tuples = match explicit_tuples(alloc, keeper, wid, sign, rel, key) {
+    let n = match stored_key_length(alloc, keeper, rel) {
+        Ok(n) => n,
+        Err(error) => return Err(error),
+    };
+    let tuples = match explicit_tuples(alloc, keeper, wid, sign, rel, n, key) {
         Ok(tuples) => tuples,
         Err(error) => return Err(error),
     };
@@ -67,23 +71,25 @@ pub fn taken<K: Keeper>(
     }
 }
 
-/// The tuples that a world's rows of a relation state with a sign, only those with one first value where it is asked for.
+/// The tuples that a world's rows of a relation state with a sign; where a value is asked for, only those whose keys have the
+/// length `n` and begin with it.
 pub fn explicit_tuples<K: Keeper>(
     alloc: Global,
     keeper: &mut K,
     wid: u32,
     sign: Sign,
     rel: u32,
+    n: u32,
     key: Option<&Value>,
 ) -> Result<Vec<Tuple>, TabError>
     requires grammar { InGrammar (K.seen keeper.old).kept }
     requires tuples { HaveTuples (K.seen keeper.old).kept }
-    ensures tuples { IfOk result (λ tuples. AreTuplesRead (K.seen keeper.old) (K.seen keeper.new) (beginning wid rel (option_copied key.entry)) sign tuples.items) }
+    ensures tuples { IfOk result (λ tuples. AreTuplesRead (K.seen keeper.old) (K.seen keeper.new) (beginning n wid rel (option_copied key.entry)) sign tuples.items) }
     ensures whole { OnOk result (MatchOption (option_copied key.entry) (Unit {0}) IsWhole) }
     ensures read { IsRead (K.seen keeper.old) (K.seen keeper.new) result TabError.Fault }
 {
     let mut prefix = Vec::new(alloc);
-    if put_beginning(&mut prefix, wid, rel, key).is_err() {
+    if put_beginning(&mut prefix, wid, rel, n, key).is_err() {
         keeper.undo();
         return Err(TabError::Memory);
     }
@@ -93,20 +99,23 @@ pub fn explicit_tuples<K: Keeper>(
     }
 }
 
-// How the keys of a world's rows of a relation begin, where they have a value of the relation's key if one is asked for.
+// How the keys of a world's rows of a relation begin; where a value is asked for, those of rows whose tuples have a key of
+// the length `n` that begins with it.
 fn put_beginning(
     prefix: &mut Vec<u8>,
     wid: u32,
     rel: u32,
+    n: u32,
     key: Option<&Value>,
 ) -> Result<(), AllocError>
-    ensures bytes { OnOk result (prefix.new.items ≡ prefix.old.items ++ beginning wid rel (option_copied key.entry)) }
+    ensures bytes { OnOk result (prefix.new.items ≡ prefix.old.items ++ beginning n wid rel (option_copied key.entry)) }
     ensures whole { OnOk result (MatchOption (option_copied key.entry) (Unit {0}) IsWhole) }
 {
     put_num(prefix, wid)?;
     put_num(prefix, rel)?;
     match key {
         Some(value) => {
+            put_num(prefix, n)?;
             put_value(prefix, value)?;
             Ok(())
         }
@@ -114,9 +123,9 @@ fn put_beginning(
     }
 }
 
-// The tuples of those rows whose keys begin so that are explicit with a sign. A read for each row, one for each tuple, and
-// one more.
-fn tuples_under<K: Keeper>(
+/// The tuples of those rows of worlds whose keys begin so that are explicit with a sign. A read for each row, one for each tuple,
+/// and one more.
+pub fn tuples_under<K: Keeper>(
     alloc: Global,
     keeper: &mut K,
     prefix: &[u8],
@@ -150,7 +159,7 @@ fn tuples_under<K: Keeper>(
 }
 
 // Whether a row is explicit, with this sign.
-fn is_said(row: &((u32, u32, Value, u32), (Sign, bool)), sign: Sign) -> bool
+fn is_said(row: &((u32, u32, List<Value>, u32), (Sign, bool)), sign: Sign) -> bool
     ensures { result ≡ is_said sign row.now }
 {
     row.1.1 && row.1.0 == sign

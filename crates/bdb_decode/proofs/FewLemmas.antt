@@ -114,9 +114,9 @@ all_among t es (d ∷ ds) u a = (
 )
 
 -- where the explicit rows make few statements, they are neither misplaced nor too many
-pub few_are_right : (t : Tables) (worlds : Paths) (tuples : TupleRows) (stmts : List Stmt) → AreStated t worlds tuples stmts → length stmts ≤ most_statements → HaveNoStatements t worlds tuples → ⊥
-few_are_right t worlds tuples stmts h few (inl m) = misplaced_have_no_places worlds tuples t h.are.rows m h.are.are
-few_are_right t worlds tuples stmts h few (inr m) =
+pub few_are_right : (keys : ℕ → ℕ) (t : Tables) (worlds : Paths) (tuples : TupleRows) (stmts : List Stmt) → AreStated keys t worlds tuples stmts → length stmts ≤ most_statements → HaveNoStatements keys t worlds tuples → ⊥
+few_are_right keys t worlds tuples stmts h few (inl m) = misplaced_have_no_places keys worlds tuples t h.are.rows m h.are.are
+few_are_right keys t worlds tuples stmts h few (inr m) =
     let le = no_more (said worlds tuples) h.are.rows m.rows h.are.are.under.sorted m.sorted (all_among t h.are.rows m.rows h.are.are.under m.there) in
     let made : length h.made ≡ length (flat_map (said worlds tuples) h.are.rows) = ap length h.are.said in
     let same : length stmts ≡ length h.made = length_permutation h.made stmts h.moved in

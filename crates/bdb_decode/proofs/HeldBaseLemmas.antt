@@ -3,7 +3,7 @@ use Rattle.std.proofs.Common.{◌≡◌, ◌∙◌, ℕ, Bool, true, false, ◌&
 use Rattle.std.specs.List.{list_all, list_any}
 use Rattle.std.specs.Ordering.{nat_cmp, eq_by_cmp}
 use Rattle.std.proofs.lemmas.Bool.{cases_Bool, and_parts, and_from, or_cases, or_left, or_right, cond-true, cond-false, false≢true}
-use Rattle.bdb_base.specs.Bases.{IsCatalog, has_tuple}
+use Rattle.bdb_base.specs.Bases.{IsCatalog, has_tuple, key_lengths}
 use Rattle.bdb_base.specs.Same.{same_path, same_sign, same_tuple}
 use Rattle.bdb_base.specs.SameLemmas.{same_path-Decides, same_sign-Decides, same_tuple-Decides}
 use Rattle.bdb_base.specs.Segments.{is_prefix}
@@ -30,7 +30,7 @@ use Rattle.bdb_decode.specs.ExplicitLaws.{HaveNumbers, HavePaths}
 use Rattle.bdb_decode.specs.Items.{item_of}
 use Rattle.bdb_decode.specs.Whole.{AreBaseStatements, AreHeldExplicit, BaseStatementsAreHeld}
 use Rattle.bdb_decode.proofs.SaidLemmas.{some_one, stated_given, stated_rows_are_explicit}
-use Rattle.bdb_decode.proofs.WholeLemmas.{any_turned}
+use Rattle.bdb_decode.proofs.WholeLemmas.{any_turned, lengths_of}
 
 both_ways : (a b : Bool) → (a ≡ true → b ≡ true) → (b ≡ true → a ≡ true) → a ≡ b
 both_ways true b p q = sym (p refl)
@@ -95,6 +95,9 @@ longer_said (x ∷ stmts) w h = elim (or_cases (is_prefix w x.path) (list_any (�
 module _ (t : Tables) (c : Catalog) (worlds : Paths) (tuples : TupleRows) (stmts : List Stmt) (ns : Names) (ts : Tuples) (f : ValKey → Option Mark)
     (catalog : IsCatalog c) (paths : HavePaths worlds ns) (has : HasTuples t ts) (named : (n : ℕ) → ts.tuple n ≡ item_of tuples n) (gives : Gives val_codec t f)
     (h : AreBaseStatements t c worlds tuples stmts) where
+  abbrev keys : ℕ → ℕ
+  keys = key_lengths c.rels
+
   one : (a b : ℕ) (w : List ℕ) → item_of worlds a ≡ Some w → item_of worlds b ≡ Some w → a ≡ b
   one a b w x y = some_one a b (number_of ns w) (paths.names.named a w (paths.paths a ∙ x)) (paths.names.named b w (paths.paths b ∙ y))
 
@@ -105,12 +108,12 @@ module _ (t : Tables) (c : Catalog) (worlds : Paths) (tuples : TupleRows) (stmts
     sized = λ n u x. has.sized n u (named n ∙ x);
   }
 
-  consistent : IsConsistent (λ _. 1) stmts
+  consistent : IsConsistent keys stmts
   consistent = valid_is_consistent c stmts (record { catalog = catalog; stmts = h.whole.valid })
 
   has_number : (w : List ℕ) (u : Tuple) → IsSaid stmts w u → (is_named ns w ≡ true) × (is_some (ts.number u) ≡ true)
   has_number w u s =
-      let m = stated_given t worlds tuples stmts f numbers one h.stated gives w u s.sign s.is in (
+      let m = stated_given keys t worlds tuples stmts f numbers one h.stated gives w u s.sign s.is in (
         ap is_some (paths.names.named m.0 w (paths.paths m.0 ∙ m.2)),
         ap is_some (has.named m.1 u (named m.1 ∙ m.3)),
       )
@@ -129,7 +132,7 @@ module _ (t : Tables) (c : Catalog) (worlds : Paths) (tuples : TupleRows) (stmts
       let r = prefix_rest (i ∷ w) k.path k.begins in
       paths.names.prefixes (i ∷ w) r.0 (ap (is_named ns) (sym r.1) ∙ (has_number k.path k.tuple k.said).0)
 
-  pub base_is_held : AreHeldExplicit stmts ns ts f t
+  pub base_is_held : AreHeldExplicit keys stmts ns ts f t
   base_is_held = record {
     tuples = record { tuples = has.tuples; numbers = has.numbers; named = has.named; numbered = has.numbered; sized = has.sized; stated = stated };
     worlds = λ w. both_ways (is_named ns w) (is_state stmts w)
@@ -139,6 +142,7 @@ module _ (t : Tables) (c : Catalog) (worlds : Paths) (tuples : TupleRows) (stmts
         (state_named w);
     explicit = record {
       rows = record {
+        lengths = own.rows.lengths;
         tuples = has.tuples;
         rows = gives;
         sized = has.sized;
@@ -152,8 +156,8 @@ module _ (t : Tables) (c : Catalog) (worlds : Paths) (tuples : TupleRows) (stmts
     };
   }
     where
-      own : HasExplicit stmts (worlds_of ns) (item_of tuples) f t
-      own = stated_rows_are_explicit t worlds tuples ns stmts f paths numbers h.stated gives consistent
+      own : HasExplicit keys stmts (worlds_of ns) (item_of tuples) f t
+      own = stated_rows_are_explicit keys t worlds tuples ns stmts f (lengths_of c catalog) paths numbers h.stated gives consistent
 
 pub base_statements_are_held : BaseStatementsAreHeld
 base_statements_are_held t c worlds tuples stmts ns ts f catalog paths has named gives h = base_is_held t c worlds tuples stmts ns ts f catalog paths has named gives h

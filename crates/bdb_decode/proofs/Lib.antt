@@ -19,3 +19,4 @@ pub mod WholeLemmas
 pub mod LimitLemmas
 pub mod ManyLemmas
 pub mod FewLemmas
+pub mod FormerLemmas

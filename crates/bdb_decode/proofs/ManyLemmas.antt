@@ -9,7 +9,7 @@ use Rattle.std.specs.FinMap.{find}
 use Rattle.std.proofs.lemmas.Bool.{and_parts, false≢true, leb-true, or_cases, or_left}
 use Rattle.std.proofs.lemmas.Cmp.{nat_list_cmp_total}
 use Rattle.std.proofs.lemmas.List.Folds.{list_any-append}
-use Rattle.bdb_base.specs.Bases.{Contents, IsValid, distinct_count}
+use Rattle.bdb_base.specs.Bases.{Contents, IsValid, distinct_count, key_lengths}
 use Rattle.bdb_base.specs.Limits.{most_statements}
 use Rattle.bdb_base.specs.Same.{same_statement}
 use Rattle.bdb_base.specs.SameLemmas.{same_statement-Decides}
@@ -56,11 +56,11 @@ covers_found {Key} {Row} c t low es h = there es h.below (all_found c es h.sorte
     there (d ∷ ds) b f = (h.found (c.key_bytes d.0) refl (under (c.key_bytes d.0) b.0) ∙ f.0, there ds b.1 f.1)
 
 -- one more makes them too many
-pub said_many : (worlds : Paths) (tuples : TupleRows) (t u : Tables) (low behind : List ℕ) (found : Option ValRow) (e : ValRow) (stmts next : List Stmt) (ok : Bool) → u ≡ t → found ≡ Some e
-    → ok ≡ true → ok ≡ is_placed worlds tuples e → (ok ≡ true → next ≡ stmts ++ said worlds tuples e)
-    → SaidBelow worlds tuples t low stmts → HasNextUnder val_codec u [] low behind found → most_statements < length next → HaveTooMany t worlds tuples
-said_many worlds tuples t u low behind found e stmts next ok same is own placed more h under many =
-    let s = said_more worlds tuples t u low behind found e stmts next ok same is own placed more h under in
+pub said_many : (keys : ℕ → ℕ) (worlds : Paths) (tuples : TupleRows) (t u : Tables) (low behind : List ℕ) (found : Option ValRow) (e : ValRow) (stmts next : List Stmt) (ok : Bool) → u ≡ t → found ≡ Some e
+    → ok ≡ true → ok ≡ is_placed keys worlds tuples e → (ok ≡ true → next ≡ stmts ++ said worlds tuples e)
+    → SaidBelow keys worlds tuples t low stmts → HasNextUnder val_codec u [] low behind found → most_statements < length next → HaveTooMany keys t worlds tuples
+said_many keys worlds tuples t u low behind found e stmts next ok same is own placed more h under many =
+    let s = said_more keys worlds tuples t u low behind found e stmts next ok same is own placed more h under in
     record {
       rows = s.rows;
       there = all_both (IsUnder val_codec []) (λ (d : ValRow). tables.get t (place val_codec d.0) ≡ Some (mark_bytes d.1)) (IsThere t) s.rows
@@ -96,13 +96,13 @@ said_one (Some w) (Some u) e = by e.1.1 (record { path = w; sign = e.1.0; tuple 
     by false y = inl refl
     by true y = inr (y, refl)
 
-module _ (worlds : Paths) (tuples : TupleRows) (one : (a b : ℕ) (w : List ℕ) → item_of worlds a ≡ Some w → item_of worlds b ≡ Some w → a ≡ b)
+module _ (keys : ℕ → ℕ) (worlds : Paths) (tuples : TupleRows) (one : (a b : ℕ) (w : List ℕ) → item_of worlds a ≡ Some w → item_of worlds b ≡ Some w → a ≡ b)
     (once : (a b : ℕ) (u : Tuple) → item_of tuples a ≡ Some u → item_of tuples b ≡ Some u → a ≡ b) where
-  made_apart : (rows : List ValRow) → list_all (is_placed worlds tuples) rows ≡ true → ascending (entry_cmp val_codec) rows ≡ true
+  made_apart : (rows : List ValRow) → list_all (is_placed keys worlds tuples) rows ≡ true → ascending (entry_cmp val_codec) rows ≡ true
       → distinct_count same_as (flat_map (said worlds tuples) rows) ≡ length (flat_map (said worlds tuples) rows)
   made_apart [] q l = refl
   made_apart (e ∷ es) q l =
-      let j = and_parts (is_placed worlds tuples e) (list_all (is_placed worlds tuples) es) q in
+      let j = and_parts (is_placed keys worlds tuples e) (list_all (is_placed keys worlds tuples) es) q in
       let k = and_parts (list_all (λ y. is_lt (entry_cmp val_codec e y)) es) (ascending (entry_cmp val_codec) es) l in
       let rest = flat_map (said worlds tuples) es in
       let ih = made_apart es j.1 k.1 in
@@ -112,7 +112,7 @@ module _ (worlds : Paths) (tuples : TupleRows) (one : (a b : ℕ) (w : List ℕ)
             let x = m.0 in
             let makes : list_any (λ (h : Stmt). same_statement h x) (said worlds tuples e) ≡ true =
             ap (list_any (λ (h : Stmt). same_statement h x)) m.1 ∙ or_left (same_statement x x) false ((same_statement-Decides x x).1 refl) in
-            let other : list_any (same_as x) rest ≡ false = none_later worlds tuples one once x e es j.0 makes j.1 k.0 in
+            let other : list_any (same_as x) rest ≡ false = none_later keys worlds tuples one once x e es j.0 makes j.1 k.0 in
             let here : one_unless (list_any (same_as x) rest) ≡ 1 = ap one_unless other in
             let first : distinct_count same_as (said worlds tuples e ++ rest) ≡ one_unless (list_any (same_as x) rest) + distinct_count same_as rest =
             ap (λ (xs : List Stmt). distinct_count same_as (xs ++ rest)) m.1 in
@@ -122,25 +122,25 @@ module _ (worlds : Paths) (tuples : TupleRows) (one : (a b : ℕ) (w : List ℕ)
 
 -- ---- they are statements of the base
 
-module _ (stmts : List Stmt) (ns : Names) (ts : Tuples) (t : Tables) (worlds : Paths) (tuples : TupleRows)
+module _ (keys : ℕ → ℕ) (stmts : List Stmt) (ns : Names) (ts : Tuples) (t : Tables) (worlds : Paths) (tuples : TupleRows)
     (paths : (n : ℕ) → path_of ns n ≡ item_of worlds n) (named : (n : ℕ) → ts.tuple n ≡ item_of tuples n) (h : HoldsTuples stmts ts t)
-    (r : HoldsRows (λ _. 1) stmts (path_of ns) ts.tuple t) where
-  row_is_stated : (x : Stmt) (e : ValRow) → IsThere t e → is_placed worlds tuples e ≡ true → list_any (same_as x) (said worlds tuples e) ≡ true → list_any (same_as x) stmts ≡ true
+    (r : HoldsRows keys stmts (path_of ns) ts.tuple t) where
+  row_is_stated : (x : Stmt) (e : ValRow) → IsThere t e → is_placed keys worlds tuples e ≡ true → list_any (same_as x) (said worlds tuples e) ≡ true → list_any (same_as x) stmts ≡ true
   row_is_stated x e there placed makes =
       let m = makes_tells worlds tuples x.path x.tuple x.sign e makes in
-      let p = placed_tells worlds tuples e placed in
+      let p = placed_tells keys worlds tuples e placed in
       let own : p.tuple ≡ x.tuple = some_one p.tuple x.tuple (item_of tuples e.0.3) p.tuple_is m.tuple in
-      let key : row_key e.0.0 e.0.3 x.tuple ≡ e.0 = ap (λ (y : Tuple). row_key e.0.0 e.0.3 y) (sym own) ∙ p.key in
-      let row = mark_is (held stmts stmts ns ts t h e.0) e.1 (sym (r.rows e.0 there.fits) ∙ there.found) in
-      let mark = ap (held stmts stmts ns ts t h) key ∙ row ∙ ap Some m.mark in
-      sym (mark_tells stmts x.path x.tuple (x.sign, true)
-      (sym (right_row stmts stmts ns ts t h e.0.0 x.path e.0.3 x.tuple (paths e.0.0 ∙ m.path) (named e.0.3 ∙ m.tuple)) ∙ mark)).1
+      let key : row_key keys e.0.0 e.0.3 x.tuple ≡ e.0 = ap (λ (y : Tuple). row_key keys e.0.0 e.0.3 y) (sym own) ∙ p.key in
+      let row = mark_is (held keys stmts stmts ns ts t h e.0) e.1 (sym (r.rows e.0 there.fits) ∙ there.found) in
+      let mark = ap (held keys stmts stmts ns ts t h) key ∙ row ∙ ap Some m.mark in
+      sym (mark_tells keys stmts x.path x.tuple (x.sign, true)
+      (sym (right_row keys stmts stmts ns ts t h e.0.0 x.path e.0.3 x.tuple (paths e.0.0 ∙ m.path) (named e.0.3 ∙ m.tuple)) ∙ mark)).1
 
-  rows_are_stated : (rows : List ValRow) → AllByRecursion (IsThere t) rows → list_all (is_placed worlds tuples) rows ≡ true
+  rows_are_stated : (rows : List ValRow) → AllByRecursion (IsThere t) rows → list_all (is_placed keys worlds tuples) rows ≡ true
       → (x : Stmt) → list_any (same_as x) (flat_map (said worlds tuples) rows) ≡ true → list_any (same_as x) stmts ≡ true
   rows_are_stated [] there placed x e = absurd (false≢true e)
   rows_are_stated (d ∷ rows) there placed x e =
-      let k = and_parts (is_placed worlds tuples d) (list_all (is_placed worlds tuples) rows) placed in
+      let k = and_parts (is_placed keys worlds tuples d) (list_all (is_placed keys worlds tuples) rows) placed in
       elim (or_cases (list_any (same_as x) (said worlds tuples d)) (list_any (same_as x) (flat_map (said worlds tuples) rows))
       (sym (list_any-append (same_as x) (said worlds tuples d) (flat_map (said worlds tuples) rows)) ∙ e)) [
         | inl a ↦ row_is_stated x d there.0 k.0 a
@@ -149,13 +149,13 @@ module _ (stmts : List Stmt) (ns : Names) (ts : Tuples) (t : Tables) (worlds : P
 
 -- a valid base that tables store under these names has not too many statements
 pub not_too_many : (b : Contents) (ns : Names) (ts : Tuples) (t : Tables) (worlds : Paths) (tuples : TupleRows) → StoredAs ns ts t b → IsValid b.catalog b.stmts → HavePaths worlds ns
-    → ((n : ℕ) → ts.tuple n ≡ item_of tuples n) → HaveTooMany t worlds tuples → ⊥
+    → ((n : ℕ) → ts.tuple n ≡ item_of tuples n) → HaveTooMany (key_lengths b.catalog.rels) t worlds tuples → ⊥
 not_too_many b ns ts t worlds tuples s v paths named h =
     let xs = flat_map (said worlds tuples) h.rows in
-    let apart = made_apart worlds tuples
+    let apart = made_apart (key_lengths b.catalog.rels) worlds tuples
     (λ a b w x y. some_one a b (number_of ns w) (paths.names.named a w (paths.paths a ∙ x)) (paths.names.named b w (paths.paths b ∙ y)))
     (λ a b u x y. some_one a b (ts.number u) (s.tuples.named a u (named a ∙ x)) (s.tuples.named b u (named b ∙ y))) h.rows h.placed h.sorted in
-    let less = distinct_count-le same_as same_as-Decides xs b.stmts (rows_are_stated b.stmts ns ts t worlds tuples paths.paths named s.tuples s.rows h.rows h.there h.placed) in
+    let less = distinct_count-le same_as same_as-Decides xs b.stmts (rows_are_stated (key_lengths b.catalog.rels) b.stmts ns ts t worlds tuples paths.paths named s.tuples s.rows h.rows h.there h.placed) in
     let within = count_within same_as b.stmts in
     let few = leb-true (length b.stmts) most_statements v.stmts.few_stmts in
     let many = h.many in

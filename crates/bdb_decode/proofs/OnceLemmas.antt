@@ -111,44 +111,44 @@ count_said u (Some w) (Some y) e = by e.1.1 (record { path = w; sign = e.1.0; tu
       | inr k ↦ let a = count_dropped u x [] k in omega (arith, a)
     ]
 
-module _ (worlds : Paths) (tuples : TupleRows) (one : (a b : ℕ) (w : List ℕ) → item_of worlds a ≡ Some w → item_of worlds b ≡ Some w → a ≡ b)
+module _ (keys : ℕ → ℕ) (worlds : Paths) (tuples : TupleRows) (one : (a b : ℕ) (w : List ℕ) → item_of worlds a ≡ Some w → item_of worlds b ≡ Some w → a ≡ b)
     (once : (a b : ℕ) (u : Tuple) → item_of tuples a ≡ Some u → item_of tuples b ≡ Some u → a ≡ b) where
   -- rows that make the same statement have one key
-  one_key : (x y : ValRow) (w : List ℕ) (u : Tuple) (s : Sign) → is_placed worlds tuples x ≡ true → is_placed worlds tuples y ≡ true
+  one_key : (x y : ValRow) (w : List ℕ) (u : Tuple) (s : Sign) → is_placed keys worlds tuples x ≡ true → is_placed keys worlds tuples y ≡ true
       → list_any (is_this w u s) (said worlds tuples x) ≡ true → list_any (is_this w u s) (said worlds tuples y) ≡ true → x.0 ≡ y.0
   one_key x y w u s p q a b =
       let m = makes_tells worlds tuples w u s x a in
       let n = makes_tells worlds tuples w u s y b in
-      let j = placed_tells worlds tuples x p in
-      let k = placed_tells worlds tuples y q in
+      let j = placed_tells keys worlds tuples x p in
+      let k = placed_tells keys worlds tuples y q in
       let ju : j.tuple ≡ u = some_one j.tuple u (item_of tuples x.0.3) j.tuple_is m.tuple in
       let ku : k.tuple ≡ u = some_one k.tuple u (item_of tuples y.0.3) k.tuple_is n.tuple in
-      sym (ap (λ (z : Tuple). row_key x.0.0 x.0.3 z) (sym ju) ∙ j.key)
-      ∙ ap (λ (z : ℕ). row_key z x.0.3 u) (one x.0.0 y.0.0 w m.path n.path)
-      ∙ ap (λ (z : ℕ). row_key y.0.0 z u) (once x.0.3 y.0.3 u m.tuple n.tuple)
-      ∙ (ap (λ (z : Tuple). row_key y.0.0 y.0.3 z) (sym ku) ∙ k.key)
+      sym (ap (λ (z : Tuple). row_key keys x.0.0 x.0.3 z) (sym ju) ∙ j.key)
+      ∙ ap (λ (z : ℕ). row_key keys z x.0.3 u) (one x.0.0 y.0.0 w m.path n.path)
+      ∙ ap (λ (z : ℕ). row_key keys y.0.0 z u) (once x.0.3 y.0.3 u m.tuple n.tuple)
+      ∙ (ap (λ (z : Tuple). row_key keys y.0.0 y.0.3 z) (sym ku) ∙ k.key)
 
   not_below_itself : (b : List ℕ) → is_lt (bytes_cmp b b) ≡ true → ⊥
   not_below_itself b e = false≢true (sym (ap is_lt (tied_itself nat_list_cmp_total b)) ∙ e)
 
-  pub none_later : (u : Stmt) (x : ValRow) (xs : List ValRow) → is_placed worlds tuples x ≡ true → list_any (λ h. same_statement h u) (said worlds tuples x) ≡ true
-      → list_all (is_placed worlds tuples) xs ≡ true → list_all (λ y. is_lt (entry_cmp val_codec x y)) xs ≡ true
+  pub none_later : (u : Stmt) (x : ValRow) (xs : List ValRow) → is_placed keys worlds tuples x ≡ true → list_any (λ h. same_statement h u) (said worlds tuples x) ≡ true
+      → list_all (is_placed keys worlds tuples) xs ≡ true → list_all (λ y. is_lt (entry_cmp val_codec x y)) xs ≡ true
       → list_any (λ h. same_statement h u) (flat_map (said worlds tuples) xs) ≡ false
   none_later u x [] p a q l = refl
   none_later u x (y ∷ ys) p a q l =
       let g : Stmt → Bool = λ h. same_statement h u in
-      let j = and_parts (is_placed worlds tuples y) (list_all (is_placed worlds tuples) ys) q in
+      let j = and_parts (is_placed keys worlds tuples y) (list_all (is_placed keys worlds tuples) ys) q in
       let k = and_parts (is_lt (entry_cmp val_codec x y)) (list_all (λ z. is_lt (entry_cmp val_codec x z)) ys) l in
       let here : list_any g (said worlds tuples y) ≡ false = false_from_ne_true (list_any g (said worlds tuples y)) (λ b.
       not_below_itself (val_bytes x.0) (ap (λ (z : ValKey). is_lt (bytes_cmp (val_bytes x.0) (val_bytes z))) (one_key x y u.path u.tuple u.sign p j.0 a b) ∙ k.0)) in
       list_any-append g (said worlds tuples y) (flat_map (said worlds tuples) ys)
       ∙ ap (λ c. c || list_any g (flat_map (said worlds tuples) ys)) here ∙ none_later u x ys p a j.1 k.1
 
-  made_once : (u : Stmt) (xs : List ValRow) → list_all (is_placed worlds tuples) xs ≡ true → ascending (entry_cmp val_codec) xs ≡ true → count u (flat_map (said worlds tuples) xs) ≤ 1
+  made_once : (u : Stmt) (xs : List ValRow) → list_all (is_placed keys worlds tuples) xs ≡ true → ascending (entry_cmp val_codec) xs ≡ true → count u (flat_map (said worlds tuples) xs) ≤ 1
   made_once u [] q l = omega arith
   made_once u (x ∷ xs) q l =
       let g : Stmt → Bool = λ h. same_statement h u in
-      let j = and_parts (is_placed worlds tuples x) (list_all (is_placed worlds tuples) xs) q in
+      let j = and_parts (is_placed keys worlds tuples x) (list_all (is_placed keys worlds tuples) xs) q in
       let k = and_parts (list_all (λ y. is_lt (entry_cmp val_codec x y)) xs) (ascending (entry_cmp val_codec) xs) l in
       let sum = count_append u (said worlds tuples x) (flat_map (said worlds tuples) xs) in
       elim (cases_Bool (list_any g (said worlds tuples x))) [
@@ -168,7 +168,7 @@ module _ (worlds : Paths) (tuples : TupleRows) (one : (a b : ℕ) (w : List ℕ)
       length-filter p ys ∙ sum_by-IsPermutation (λ z. cond (p z) 1 0) xs ys h ∙ sym (length-filter p xs)
 
   -- the statements that rows make, in their order, ascend
-  pub stated_ascend : (t : Tables) (stmts : List Stmt) → AreStated t worlds tuples stmts → ascending statement_cmp stmts ≡ true
+  pub stated_ascend : (t : Tables) (stmts : List Stmt) → AreStated keys t worlds tuples stmts → ascending statement_cmp stmts ≡ true
   stated_ascend t stmts h =
       order_ascends stmts (λ i j d le lt. sorted_far is_before (ranks_by statement_total (λ (x : Stmt). x)) stmts h.sorted i j d le lt)
       (λ u.

@@ -6,7 +6,7 @@ use Rattle.std.specs.Ordering.{is_eq, is_lt, eq_by_cmp, nat_cmp}
 use Rattle.std.proofs.lemmas.Bool.{and_parts, and_from, or_left, or_right, eq-eqb, leb-true}
 use Rattle.std.proofs.lemmas.Bool.Decides.{nat_tests}
 use Rattle.std.proofs.lemmas.List.{map-append, take_more}
-use Rattle.bdb_base.specs.Bases.{Contents, is_user}
+use Rattle.bdb_base.specs.Bases.{Contents, is_user, key_lengths}
 use Rattle.bdb_base.specs.Limits.{most_users}
 use Rattle.bdb_base.specs.SortedSet.{ascending}
 use Rattle.bdb_base.specs.declared.kinds.Catalog.{Catalog}
@@ -40,7 +40,7 @@ use Rattle.bdb_graph.specs.Naming.{AreWorlds, names_of, path_in}
 use Rattle.bdb_graph.specs.Ups.{HoldNoStates}
 use Rattle.bdb_graph.specs.declared.naming.World.{World}
 use Rattle.bdb_graph.proofs.HeldLemmas.{held_so, named_same, worlds_are_held}
-use Rattle.bdb_decode.specs.Explicit.{Paths, TupleRows}
+use Rattle.bdb_decode.specs.Explicit.{AreStated, Paths, TupleRows}
 use Rattle.bdb_decode.specs.ExplicitLaws.{HavePaths}
 use Rattle.bdb_decode.specs.Items.{item_of, number_cmp}
 use Rattle.bdb_decode.specs.Parts.{AreFormed, AreLinks, AreParts, ArePaths, HoldNoneOver, IsLink, StoreNone, TellsRowsOf, path_row}
@@ -156,11 +156,12 @@ paths_none t u users worlds now b same is a bad h = other_paths t users worlds a
 
 -- ---- suffix links
 
-pub rows_of_told : (t u : Tables) (worlds : Paths) (links now : List (ℕ × Option ℕ)) (b : Bool) → u ≡ t → now ≡ links → AreLinks t worlds links → TellsRows u now b → TellsRowsOf t worlds b
-rows_of_told t u worlds links now b same is linked h = record {
+pub rows_of_told : (keys : ℕ → ℕ) (t u : Tables) (worlds : Paths) (links now : List (ℕ × Option ℕ)) (b : Bool) → u ≡ t → now ≡ links → AreLinks t worlds links → TellsRows keys u now b
+    → TellsRowsOf keys t worlds b
+rows_of_told keys t u worlds links now b same is linked h = record {
   links = links;
   linked = linked;
-  told = subst (λ v. TellsRows v links b) same (subst (λ xs. TellsRows u xs b) is h);
+  told = subst (λ v. TellsRows keys v links b) same (subst (λ xs. TellsRows keys u xs b) is h);
 }
 
 pub links_more : (t : Tables) (worlds : Paths) (k : ℕ) (other row : ℕ × List ℕ) (links after : List (ℕ × Option ℕ)) (x : ℕ × Option ℕ) → k < length worlds → row ≡ get_or worlds k other
@@ -234,7 +235,7 @@ module _ (t : Tables) (b : Contents) (s : StoresValid t b) (users : ℕ → Bool
     states = held_so t (is_user b.catalog.users) ms ns own.states states.names (λ n _. same_paths n);
     worlds = λ w. sym (named_same t (is_user b.catalog.users) ms ns own.states states.names (λ n _. same_paths n) w) ∙ own.worlds w;
     rows = gives_same val_codec t _ _
-        (λ k _. ap (λ o. row_named (λ _. 1) b.stmts k o (us.tuple k.3)) (same_paths k.0) ∙ ap (row_named (λ _. 1) b.stmts k (path_of ns k.0)) (same_tuples k.3)) own.rows;
+        (λ k _. ap (λ o. row_named (key_lengths b.catalog.rels) b.stmts k o (us.tuple k.3)) (same_paths k.0) ∙ ap (row_named (key_lengths b.catalog.rels) b.stmts k (path_of ns k.0)) (same_tuples k.3)) own.rows;
     plain = own.plain;
     outside = own.outside;
   }
@@ -299,16 +300,19 @@ module _ (t : Tables) (c : Catalog) (worlds : Paths) (tuples : TupleRows) (p : A
       (subst (λ x. HaveNoBaseStatements t x worlds tuples) (sym (same_catalog t c b p.catalog s)) h)
 
   module _ (stmts : List Stmt) (a : AreBaseStatements t c worlds tuples stmts) where
-    held_with : (f : ValKey → Option Mark) → Gives val_codec t f → AreHeldExplicit stmts p.states.names p.numbered.tuples f t
+    abbrev keys : ℕ → ℕ
+    keys = key_lengths c.rels
+
+    held_with : (f : ValKey → Option Mark) → Gives val_codec t f → AreHeldExplicit keys stmts p.states.names p.numbered.tuples f t
     held_with f gives = base_statements_are_held t c worlds tuples stmts ns ts f p.catalog.valid p.states.paths p.numbered.has numbered gives a
 
     abbrev rows : ValKey → Option Mark
     rows = given val_codec t (under_fits val_codec t a.stated.are.rows a.stated.are.are.under)
 
-    held : AreHeldExplicit stmts p.states.names p.numbered.tuples rows t
+    held : AreHeldExplicit keys stmts p.states.names p.numbered.tuples rows t
     held = held_with rows (given_gives val_codec t (under_fits val_codec t a.stated.are.rows a.stated.are.are.under))
 
-    candidates : (links : List (ℕ × Option ℕ)) → AreLinks t worlds links → AreCandidates stmts p.states.names p.numbered.tuples links t
+    candidates : (links : List (ℕ × Option ℕ)) → AreLinks t worlds links → AreCandidates keys stmts p.states.names p.numbered.tuples links t
     candidates links linked = record {
       names = p.states.paths.names;
       states = λ w e. held.worlds w ∙ e;
@@ -319,7 +323,7 @@ module _ (t : Tables) (c : Catalog) (worlds : Paths) (tuples : TupleRows) (p : A
       stated = λ f gives wid w tid u path tuple. (held_with f gives).explicit.explicit wid w tid u path tuple;
     }
 
-    pub stores : AreFormed t → TellsRowsOf t worlds true → StoresValid t (record { catalog = c; stmts = stmts })
+    pub stores : AreFormed t → TellsRowsOf keys t worlds true → StoresValid t (record { catalog = c; stmts = stmts })
     stores formed h = record {
       stored = record {
         names = ns;
@@ -339,8 +343,11 @@ module _ (t : Tables) (c : Catalog) (worlds : Paths) (tuples : TupleRows) (p : A
       valid = record { catalog = p.catalog.valid; stmts = a.whole.valid };
     }
 
-    pub no_rows : TellsRowsOf t worlds false → StoreNone t
+    pub no_rows : TellsRowsOf keys t worlds false → StoreNone t
     no_rows h = λ b s.
         let k = stored b s in
-        let same : stmts ≡ b.stmts = held_bases_are_stated b ns ts t worlds tuples stmts k s.valid p.states.paths numbered a.stated in
-        h.told stmts ns ts (candidates h.links h.linked) (subst (λ xs. HoldsRows (λ _. 1) xs (path_of ns) ts.tuple t) (sym same) k.rows)
+        let catalog : b.catalog ≡ c = same_catalog t c b p.catalog s in
+        let said : AreStated (key_lengths b.catalog.rels) t worlds tuples stmts = subst (λ (x : Catalog). AreStated (key_lengths x.rels) t worlds tuples stmts) (sym catalog) a.stated in
+        let same : stmts ≡ b.stmts = held_bases_are_stated b ns ts t worlds tuples stmts k s.valid p.states.paths numbered said in
+        h.told stmts ns ts (candidates h.links h.linked)
+        (subst (λ xs. HoldsRows keys xs (path_of ns) ts.tuple t) (sym same) (subst (λ (x : Catalog). HoldsRows (key_lengths x.rels) b.stmts (path_of ns) ts.tuple t) catalog k.rows))

@@ -18,7 +18,7 @@ use Rattle.bdb_tables.specs.InUse.{ValKey, IsValKey, depth_codec, tuple_codec, v
 use Rattle.bdb_tables.specs.InUseLaws.{tuple_rows_are_one}
 use Rattle.bdb_tables.specs.Marks.{Mark, explicit_sign}
 use Rattle.bdb_tables.specs.Names.{Names, AreNames, link_of, path_of}
-use Rattle.bdb_tables.specs.Rows.{Tuples, HoldsRows, row_for}
+use Rattle.bdb_tables.specs.Rows.{AreKeyLengths, Tuples, HoldsRows, row_for}
 use Rattle.bdb_tables.specs.Writes.{Gives, with_changes}
 use Rattle.bdb_tables.proofs.WriteLemmas.{gives_same}
 use Rattle.bdb_val.specs.Middle.{worlds_of, HasExplicit, AreSettledBut}
@@ -28,7 +28,7 @@ use Rattle.bdb_val.specs.Settling.{mark_in, next_mark, AreNamed, are_apart, row_
 use Rattle.bdb_val.specs.Steps.{IsSettling, rows_made}
 use Rattle.bdb_val.specs.declared.stored.Stored.{Stored}
 use Rattle.bdb_val.proofs.HeldLemmas.{some_is, names_are_linked, settled_rows_are_held, held_rows_are_explicit, held_rows_are_settled}
-use Rattle.bdb_val.proofs.ReadLemmas.{read_named, read_apart, tuple_row, world_span}
+use Rattle.bdb_val.proofs.ReadLemmas.{read_named, read_apart, world_span}
 use Rattle.bdb_val.proofs.StepLemmas.{own_mark, next_after, settled_after}
 use Rattle.bdb_entries.proofs.TupleLemmas.{given_is}
 use Rattle.bdb_decode.specs.SettledRows.{AreCandidates, AreKeyed, AreLinked, IsKeyed, TellsRows, TellsWorld, TellsWorlds}
@@ -42,7 +42,7 @@ some_map f (Some x) = refl
 
 -- ---- one world, where the explicit rows are the statements
 
-module _ (stmts : List Stmt) (ns : Names) (tuple : ℕ → Option Tuple) (f : ValKey → Option Mark) (t : Tables) (names : AreNames ns) (h : HasExplicit stmts (worlds_of ns) tuple f t) where
+module _ (keys : ℕ → ℕ) (stmts : List Stmt) (ns : Names) (tuple : ℕ → Option Tuple) (f : ValKey → Option Mark) (t : Tables) (names : AreNames ns) (h : HasExplicit keys stmts (worlds_of ns) tuple f t) where
   named_size : (wid : ℕ) (w : List ℕ) → path_of ns wid ≡ Some w → IsNum wid
   named_size wid w e = names.sized w wid (names.named wid w e)
 
@@ -61,7 +61,7 @@ module _ (stmts : List Stmt) (ns : Names) (tuple : ℕ → Option Tuple) (f : Va
     size_link = subst (λ o. MatchOption o (Unit {0}) IsNum) l (link_size wid w p)
 
     own_named : AreNamed tuple own
-    own_named = read_named tuple f t h.rows (world_prefix wid) own own_read
+    own_named = read_named keys tuple f t h.rows (world_prefix wid) own own_read
 
     by_link : (P : List Stored → Type 0) → P [] → ((m : ℕ) → IsNum m → AreReadUnder t (world_prefix m) from → P from) → P from
     by_link P none some = go link size_link from_read
@@ -71,41 +71,41 @@ module _ (stmts : List Stmt) (ns : Names) (tuple : ℕ → Option Tuple) (f : Va
         go (Some m) a b = some m a b
 
     from_named : AreNamed tuple from
-    from_named = by_link (AreNamed tuple) tt (λ m n r. read_named tuple f t h.rows (world_prefix m) from r)
+    from_named = by_link (AreNamed tuple) tt (λ m n r. read_named keys tuple f t h.rows (world_prefix m) from r)
 
     own_apart : are_apart own ≡ true
-    own_apart = read_apart tuple f t h.rows wid (λ _. true) (world_prefix wid) own (world_span wid size) own_read
+    own_apart = read_apart keys tuple f t h.rows wid (λ _. true) (world_prefix wid) own (world_span keys wid size) own_read
 
     from_apart : are_apart from ≡ true
-    from_apart = by_link (λ xs. are_apart xs ≡ true) refl (λ m n r. read_apart tuple f t h.rows m (λ _. true) (world_prefix m) from (world_span m n) r)
+    from_apart = by_link (λ xs. are_apart xs ≡ true) refl (λ m n r. read_apart keys tuple f t h.rows m (λ _. true) (world_prefix m) from (world_span keys m n) r)
 
     -- the tables in which the changes that settle the world are made
     abbrev after : Tables
-    after = with_changes val_codec t (rows_made wid own from)
+    after = with_changes val_codec t (rows_made keys wid own from)
 
-    abbrev step : IsSettling t after wid link world_prefix
+    abbrev step : IsSettling keys t after wid link world_prefix
     step = record { own = own; from = from; own_read = own_read; from_read = from_read; written = refl }
 
-    own_row : (tid : ℕ) (u : Tuple) → tuple tid ≡ Some u → mark_in own tid ≡ f (row_key wid tid u)
-    own_row tid u n = own_mark tuple f t h.rows (λ _. true) world_prefix world_span after wid link size size_link step tid u n refl
+    own_row : (tid : ℕ) (u : Tuple) → tuple tid ≡ Some u → mark_in own tid ≡ f (row_key keys wid tid u)
+    own_row tid u n = own_mark keys tuple f t h.rows (λ _. true) world_prefix (world_span keys) after wid link size size_link step tid u n refl
 
     -- the row that a tuple is to have is the settled one
     next_row : (tid : ℕ) (u : Tuple) → tuple tid ≡ Some u
-        → next_mark (λ _. 1) own from tid u ≡ settled_mark (explicit_sign stmts w u) (contradicted (λ _. 1) stmts w u) (sign_at (λ m. f (row_key m tid u)) (link_of ns wid))
+        → next_mark keys own from tid u ≡ settled_mark (explicit_sign stmts w u) (contradicted keys stmts w u) (sign_at (λ m. f (row_key keys m tid u)) (link_of ns wid))
     next_row tid u n =
-        sym (next_after tuple f t h.rows (λ _. true) world_prefix world_span after wid link size size_link step tid u n refl)
-        ∙ settled_after tuple f t h.rows (λ _. true) world_prefix world_span after wid link size size_link step stmts w (λ i x k e. h.explicit wid w i x p k)
+        sym (next_after keys tuple f t h.rows (λ _. true) world_prefix (world_span keys) after wid link size size_link step tid u n refl)
+        ∙ settled_after keys tuple f t h.rows (λ _. true) world_prefix (world_span keys) after wid link size size_link step stmts w (λ i x k e. h.explicit wid w i x p k)
         h.consistent (λ _ _ _ _ _ _. refl) h.numbered tid u n refl
-        ∙ ap (λ o. settled_mark (explicit_sign stmts w u) (contradicted (λ _. 1) stmts w u) (sign_at (λ m. f (row_key m tid u)) o)) (sym l)
+        ∙ ap (λ o. settled_mark (explicit_sign stmts w u) (contradicted keys stmts w u) (sign_at (λ m. f (row_key keys m tid u)) o)) (sym l)
 
-    pub passing_settled : settles own from ≡ true → (tid : ℕ) (u : Tuple) → tuple tid ≡ Some u
-        → f (row_key wid tid u) ≡ settled_mark (explicit_sign stmts w u) (contradicted (λ _. 1) stmts w u) (sign_at (λ m. f (row_key m tid u)) (link_of ns wid))
-    passing_settled e tid u n = sym (own_row tid u n) ∙ settled_next tuple own from own_named from_named e tid u n ∙ next_row tid u n
+    pub passing_settled : settles keys own from ≡ true → (tid : ℕ) (u : Tuple) → tuple tid ≡ Some u
+        → f (row_key keys wid tid u) ≡ settled_mark (explicit_sign stmts w u) (contradicted keys stmts w u) (sign_at (λ m. f (row_key keys m tid u)) (link_of ns wid))
+    passing_settled e tid u n = sym (own_row tid u n) ∙ settled_next keys tuple own from own_named from_named e tid u n ∙ next_row tid u n
 
     pub settled_passing : ((tid : ℕ) (u : Tuple) → tuple tid ≡ Some u
-        → f (row_key wid tid u) ≡ settled_mark (explicit_sign stmts w u) (contradicted (λ _. 1) stmts w u) (sign_at (λ m. f (row_key m tid u)) (link_of ns wid)))
-        → settles own from ≡ true
-    settled_passing k = next_settles tuple own from own_named from_named own_apart from_apart (λ tid u n. own_row tid u n ∙ k tid u n ∙ sym (next_row tid u n))
+        → f (row_key keys wid tid u) ≡ settled_mark (explicit_sign stmts w u) (contradicted keys stmts w u) (sign_at (λ m. f (row_key keys m tid u)) (link_of ns wid)))
+        → settles keys own from ≡ true
+    settled_passing k = next_settles keys tuple own from own_named from_named own_apart from_apart (λ tid u n. own_row tid u n ∙ k tid u n ∙ sym (next_row tid u n))
 
 -- ---- all worlds
 
@@ -125,21 +125,22 @@ all_weaker : {X : Type 0} (P Q : X → Type 0) (xs : List X) → ((x : X) → P 
 all_weaker P Q [] f a = tt
 all_weaker P Q (x ∷ xs) f a = (f x a.0, all_weaker P Q xs f a.1)
 
-module _ (stmts : List Stmt) (ns : Names) (ts : Tuples) (worlds : List (ℕ × Option ℕ)) (t : Tables) (c : AreCandidates stmts ns ts worlds t) where
+module _ (keys : ℕ → ℕ) (stmts : List Stmt) (ns : Names) (ts : Tuples) (worlds : List (ℕ × Option ℕ)) (t : Tables) (c : AreCandidates keys stmts ns ts worlds t) where
   -- a world with a depth has a name
   depth_named : (wid : ℕ) → IsNum wid → is_some (tables.get t (place depth_codec wid)) ≡ is_some (path_of ns wid)
   depth_named wid n = ap is_some (c.depths.rows wid n) ∙ some_map depth_codec.row_bytes (option_map (λ w. length w) (path_of ns wid)) ∙ some_map (λ w. length w) (path_of ns wid)
 
-  module _ (fits : TableFits val_codec t) (keyed : AreKeyed t) where
+  module _ (fits : TableFits val_codec t) (keyed : AreKeyed keys t) where
     abbrev rows : ValKey → Option Mark
     rows = given val_codec t fits
 
-    row_keyed : (k : ValKey) → IsValKey k → is_some (rows k) ≡ true → IsKeyed t k
-    row_keyed k v s = keyed k v (ap is_some ((given_gives val_codec t fits).rows k v) ∙ some_map val_codec.row_bytes (rows k) ∙ s)
+    row_keyed : (k : ValKey) → IsValKey k → is_some (rows k) ≡ true → IsKeyed keys t k
+    row_keyed k v s = keyed.each k v (ap is_some ((given_gives val_codec t fits).rows k v) ∙ some_map val_codec.row_bytes (rows k) ∙ s)
 
-    explicit_rows : HasExplicit stmts (worlds_of ns) ts.tuple rows t
+    explicit_rows : HasExplicit keys stmts (worlds_of ns) ts.tuple rows t
     explicit_rows = record {
       rows = record {
+        lengths = keyed.lengths;
         tuples = c.tuples.tuples;
         rows = given_gives val_codec t fits;
         sized = c.tuples.sized;
@@ -156,51 +157,51 @@ module _ (stmts : List Stmt) (ns : Names) (ts : Tuples) (worlds : List (ℕ × O
       consistent = c.consistent;
     }
 
-    rows_settled : AllByRecursion (λ x. TellsWorld t x true) worlds → AreSettledBut stmts (worlds_of ns) ts.tuple rows (λ _ _. false)
+    rows_settled : AllByRecursion (λ x. TellsWorld keys t x true) worlds → AreSettledBut keys stmts (worlds_of ns) ts.tuple rows (λ _ _. false)
     rows_settled all wid tid u n out w p =
-        let x = listed (λ x. (link_of ns x.0 ≡ x.1) × TellsWorld t x true) worlds wid
-        (all_pairs (λ x. (is_some (path_of ns x.0) ≡ true) × (link_of ns x.0 ≡ x.1)) (λ x. TellsWorld t x true) (λ x. (link_of ns x.0 ≡ x.1) × TellsWorld t x true) worlds (λ x a b. (a.1, b)) c.linked.each all)
+        let x = listed (λ x. (link_of ns x.0 ≡ x.1) × TellsWorld keys t x true) worlds wid
+        (all_pairs (λ x. (is_some (path_of ns x.0) ≡ true) × (link_of ns x.0 ≡ x.1)) (λ x. TellsWorld keys t x true) (λ x. (link_of ns x.0 ≡ x.1) × TellsWorld keys t x true) worlds (λ x a b. (a.1, b)) c.linked.each all)
         (c.linked.all wid (ap is_some p)) in
-        subst (λ i. rows (row_key i tid u) ≡ settled_mark (explicit_sign stmts w u) (contradicted (λ _. 1) stmts w u) (sign_at (λ m. rows (row_key m tid u)) (link_of ns i))) x.2
-        (passing_settled stmts ns ts.tuple rows t c.names explicit_rows x.0.0 w (ap (path_of ns) x.2 ∙ p) x.0.1 x.1.0 x.1.1.own x.1.1.from x.1.1.own_read x.1.1.from_read (sym x.1.1.told) tid u n)
+        subst (λ i. rows (row_key keys i tid u) ≡ settled_mark (explicit_sign stmts w u) (contradicted keys stmts w u) (sign_at (λ m. rows (row_key keys m tid u)) (link_of ns i))) x.2
+        (passing_settled keys stmts ns ts.tuple rows t c.names explicit_rows x.0.0 w (ap (path_of ns) x.2 ∙ p) x.0.1 x.1.0 x.1.1.own x.1.1.from x.1.1.own_read x.1.1.from_read (sym x.1.1.told) tid u n)
 
-    pub passing_holds : AllByRecursion (λ x. TellsWorld t x true) worlds → HoldsRows (λ _. 1) stmts (path_of ns) ts.tuple t
-    passing_holds all = settled_rows_are_held stmts ns ts.tuple rows t c.names c.states explicit_rows (rows_settled all)
+    pub passing_holds : AllByRecursion (λ x. TellsWorld keys t x true) worlds → HoldsRows keys stmts (path_of ns) ts.tuple t
+    passing_holds all = settled_rows_are_held keys stmts ns ts.tuple rows t c.names c.states explicit_rows (rows_settled all)
 
-  module _ (r : HoldsRows (λ _. 1) stmts (path_of ns) ts.tuple t) where
+  module _ (lengths : AreKeyLengths keys) (r : HoldsRows keys stmts (path_of ns) ts.tuple t) where
     abbrev held : ValKey → Option Mark
-    held = row_for (λ _. 1) stmts (path_of ns) ts.tuple
+    held = row_for keys stmts (path_of ns) ts.tuple
 
-    held_explicit : HasExplicit stmts (worlds_of ns) ts.tuple held t
-    held_explicit = held_rows_are_explicit stmts ns ts t c.names c.states c.consistent c.tuples r
+    held_explicit : HasExplicit keys stmts (worlds_of ns) ts.tuple held t
+    held_explicit = held_rows_are_explicit keys stmts ns ts t lengths c.names c.states c.consistent c.tuples r
 
-    pub held_passing : AllByRecursion (λ x. TellsWorld t x false → ⊥) worlds
-    held_passing = all_weaker (λ x. (is_some (path_of ns x.0) ≡ true) × (link_of ns x.0 ≡ x.1)) (λ x. TellsWorld t x false → ⊥) worlds
+    pub held_passing : AllByRecursion (λ x. TellsWorld keys t x false → ⊥) worlds
+    held_passing = all_weaker (λ x. (is_some (path_of ns x.0) ≡ true) × (link_of ns x.0 ≡ x.1)) (λ x. TellsWorld keys t x false → ⊥) worlds
         (λ x a b.
         let w = some_is (path_of ns x.0) a.0 in
-        true≢false (sym (settled_passing stmts ns ts.tuple held t c.names held_explicit x.0 w.0 w.1 x.1 a.1 b.own b.from b.own_read b.from_read
-        (λ tid u n. held_rows_are_settled stmts ns ts t c.names c.states c.consistent c.tuples x.0 tid u n refl w.0 w.1)) ∙ sym b.told))
+        true≢false (sym (settled_passing keys stmts ns ts.tuple held t c.names held_explicit x.0 w.0 w.1 x.1 a.1 b.own b.from b.own_read b.from_read
+        (λ tid u n. held_rows_are_settled keys stmts ns ts t c.names c.states c.consistent c.tuples x.0 tid u n refl w.0 w.1)) ∙ sym b.told))
         c.linked.each
 
-pub rows_told : (t : Tables) (worlds : List (ℕ × Option ℕ)) (b : Bool) → TableFits val_codec t → AreKeyed t → TellsWorlds t worlds b → TellsRows t worlds b
-rows_told t worlds b fits keyed h stmts ns ts c = by b h
+pub rows_told : (keys : ℕ → ℕ) (t : Tables) (worlds : List (ℕ × Option ℕ)) (b : Bool) → TableFits val_codec t → AreKeyed keys t → TellsWorlds keys t worlds b → TellsRows keys t worlds b
+rows_told keys t worlds b fits keyed h stmts ns ts c = by b h
   where
-    by : (x : Bool) → TellsWorlds t worlds x → MatchBool x (HoldsRows (λ _. 1) stmts (path_of ns) ts.tuple t) (HoldsRows (λ _. 1) stmts (path_of ns) ts.tuple t → ⊥)
-    by true k = passing_holds stmts ns ts worlds t c fits keyed k
-    by false k = λ r. k (held_passing stmts ns ts worlds t c r)
+    by : (x : Bool) → TellsWorlds keys t worlds x → MatchBool x (HoldsRows keys stmts (path_of ns) ts.tuple t) (HoldsRows keys stmts (path_of ns) ts.tuple t → ⊥)
+    by true k = passing_holds keys stmts ns ts worlds t c fits keyed k
+    by false k = λ r. k (held_passing keys stmts ns ts worlds t c keyed.lengths r)
 
 -- ---- what is read
 
-pub world_told : (t u : Tables) (x : ℕ × Option ℕ) (a b : Bool) → u ≡ t → a ≡ b → TellsWorld u x a → TellsWorld t x b
-world_told t u x a b same is h = subst (λ v. TellsWorld v x b) same (subst (TellsWorld u x) is h)
+pub world_told : (keys : ℕ → ℕ) (t u : Tables) (x : ℕ × Option ℕ) (a b : Bool) → u ≡ t → a ≡ b → TellsWorld keys u x a → TellsWorld keys t x b
+world_told keys t u x a b same is h = subst (λ v. TellsWorld keys v x b) same (subst (TellsWorld keys u x) is h)
 
 pub linked_none : (t : Tables) (rows : List Stored) → rows ≡ [] → AreLinked t None rows
 linked_none t rows none = record { read = none; apart = ap are_apart none }
 
-pub keyed_tuples : (t : Tables) → AreKeyed t → HaveTuples t
-keyed_tuples t keyed k v s = ap is_some (keyed k v s).stands.found
+pub keyed_tuples : (keys : ℕ → ℕ) (t : Tables) → AreKeyed keys t → HaveTuples t
+keyed_tuples keys t keyed k v s = ap is_some (keyed.each k v s).stands.found
 
-module _ (t : Tables) (g : InGrammar t) (keyed : AreKeyed t) where
+module _ (keys : ℕ → ℕ) (t : Tables) (g : InGrammar t) (keyed : AreKeyed keys t) where
   val_fits : TableFits val_codec t
   val_fits k r found = g 11 k r found
 
@@ -228,19 +229,20 @@ module _ (t : Tables) (g : InGrammar t) (keyed : AreKeyed t) where
     | inr b ↦ absurd (none_tuple (given_tuple tid) u (cond-false (nat_lt tid (2 ^ 32)) (given tuple_codec t tuple_fits tid) None b) e)
   ]
 
-  rows_given : HasRows given_tuple given_row t
+  rows_given : HasRows keys given_tuple given_row t
   rows_given = record {
+    lengths = keyed.lengths;
     tuples = tuples_given;
     rows = given_gives val_codec t val_fits;
     sized = given_size;
     keyed = λ k v s.
-        let h = keyed k v (ap is_some ((given_gives val_codec t val_fits).rows k v) ∙ some_map val_codec.row_bytes (given_row k) ∙ s) in
+        let h = keyed.each k v (ap is_some ((given_gives val_codec t val_fits).rows k v) ∙ some_map val_codec.row_bytes (given_row k) ∙ s) in
         (h.tuple, given_is tuple_codec tuple_rows_are_one t given_tuple tuples_given k.3 v.tuple h.tuple h.stands.in_grammar h.stands.found, h.same);
   }
 
   -- rows of one world that are read are of tuples of their own
   pub keyed_apart : (wid : ℕ) → IsNum wid → (xs : List Stored) → AreReadUnder t (world_prefix wid) xs → are_apart xs ≡ true
-  keyed_apart wid size xs r = read_apart given_tuple given_row t rows_given wid (λ _. true) (world_prefix wid) xs (world_span wid size) r
+  keyed_apart wid size xs r = read_apart keys given_tuple given_row t rows_given wid (λ _. true) (world_prefix wid) xs (world_span keys wid size) r
 
 -- ---- a world of a list, by its place
 

@@ -6,8 +6,9 @@ use Rattle.std.specs.FinMap as tables
 use Rattle.std.proofs.lemmas.Bool.{and_parts, and_from, or_cases, or_left, or_right, false≢true, false_from_ne_true, eqb-true}
 use Rattle.std.proofs.lemmas.List.Folds.{list_any-append}
 use Rattle.std.proofs.lemmas.List.Sorted.{list_any-IsPermutation}
-use Rattle.bdb_base.specs.Same.{same_path, same_sign, same_tuple, same_value}
-use Rattle.bdb_base.specs.SameLemmas.{same_path-Decides, same_sign-Decides, same_tuple-Decides, same_value-Decides}
+use Rattle.bdb_base.specs.Clash.{key_of}
+use Rattle.bdb_base.specs.Same.{same_path, same_sign, same_tuple, same_values}
+use Rattle.bdb_base.specs.SameLemmas.{same_path-Decides, same_sign-Decides, same_tuple-Decides, same_values-Decides}
 use Rattle.bdb_base.specs.Worlds.{IsConsistent, explicit}
 use Rattle.bdb_base.specs.declared.kinds.Sign.{Sign}
 use Rattle.bdb_base.specs.declared.kinds.Sign.TheVariants.{Plus, Minus}
@@ -25,7 +26,7 @@ use Rattle.bdb_tables.specs.Spans.{AreUnder, IsUnder}
 use Rattle.bdb_tables.specs.Writes.{Gives}
 use Rattle.bdb_tables.proofs.Held.{some_same, none_some}
 use Rattle.bdb_val.specs.Reads.{HasRows, is_of_group}
-use Rattle.bdb_val.specs.Settling.{key_value, row_key}
+use Rattle.bdb_val.specs.Settling.{row_key}
 use Rattle.bdb_val.proofs.HeldLemmas.{some_is}
 use Rattle.bdb_val.proofs.ReadLemmas.{key_fits}
 use Rattle.bdb_entries.proofs.ListedLemmas.{entries_found}
@@ -46,34 +47,34 @@ mark_is (Some k) m e = ap Some (mark_rows_are_one k m tt tt (some_same (mark_byt
 
 -- ---- what a row that has its place tells
 
-pub record Placed (worlds : Paths) (tuples : TupleRows) (e : ValRow) : Type 0 where
+pub record Placed (keys : ℕ → ℕ) (worlds : Paths) (tuples : TupleRows) (e : ValRow) : Type 0 where
   pub path : List ℕ
   pub tuple : Tuple
   pub path_is : item_of worlds e.0.0 ≡ Some path
   pub tuple_is : item_of tuples e.0.3 ≡ Some tuple
-  pub key : row_key e.0.0 e.0.3 tuple ≡ e.0
+  pub key : row_key keys e.0.0 e.0.3 tuple ≡ e.0
 
-abbrev made : ℕ → ℕ → Value → ℕ → ValKey
+abbrev made : ℕ → ℕ → List Value → ℕ → ValKey
 made a b c d = (a, b, c, d)
 
-key_from : (e : ValRow) (u : Tuple) → is_of_group e.0.1 e.0.2 u ≡ true → row_key e.0.0 e.0.3 u ≡ e.0
-key_from e u h =
-    let k = and_parts (nat_eq u.rel e.0.1) (same_value (key_value u.vals) e.0.2) h in
-    ap (λ (r : ℕ). made e.0.0 r (key_value u.vals) e.0.3) (eqb-true u.rel e.0.1 k.0)
-    ∙ ap (λ (v : Value). made e.0.0 e.0.1 v e.0.3) ((same_value-Decides (key_value u.vals) e.0.2).0 k.1)
+key_from : (keys : ℕ → ℕ) (e : ValRow) (u : Tuple) → is_of_group keys e.0.1 e.0.2 u ≡ true → row_key keys e.0.0 e.0.3 u ≡ e.0
+key_from keys e u h =
+    let k = and_parts (nat_eq u.rel e.0.1) (same_values (key_of keys u) e.0.2) h in
+    ap (λ (r : ℕ). made e.0.0 r (key_of keys u) e.0.3) (eqb-true u.rel e.0.1 k.0)
+    ∙ ap (λ (vs : List Value). made e.0.0 e.0.1 vs e.0.3) ((same_values-Decides (key_of keys u) e.0.2).0 k.1)
 
-pub placed_tells : (worlds : Paths) (tuples : TupleRows) (e : ValRow) → is_placed worlds tuples e ≡ true → Placed worlds tuples e
-placed_tells worlds tuples e h = go (item_of worlds e.0.0) (item_of tuples e.0.3) refl refl
+pub placed_tells : (keys : ℕ → ℕ) (worlds : Paths) (tuples : TupleRows) (e : ValRow) → is_placed keys worlds tuples e ≡ true → Placed keys worlds tuples e
+placed_tells keys worlds tuples e h = go (item_of worlds e.0.0) (item_of tuples e.0.3) refl refl
   where
-    go : (p : Option (List ℕ)) (o : Option Tuple) → item_of worlds e.0.0 ≡ p → item_of tuples e.0.3 ≡ o → Placed worlds tuples e
-    go None o a b = absurd (false≢true (sym (ap (λ q. is_placed_by q (item_of tuples e.0.3) e) a) ∙ h))
-    go (Some w) None a b = absurd (false≢true (sym (ap (λ q. is_placed_by q (item_of tuples e.0.3) e) a ∙ ap (λ q. is_placed_by (Some w) q e) b) ∙ h))
+    go : (p : Option (List ℕ)) (o : Option Tuple) → item_of worlds e.0.0 ≡ p → item_of tuples e.0.3 ≡ o → Placed keys worlds tuples e
+    go None o a b = absurd (false≢true (sym (ap (λ q. is_placed_by keys q (item_of tuples e.0.3) e) a) ∙ h))
+    go (Some w) None a b = absurd (false≢true (sym (ap (λ q. is_placed_by keys q (item_of tuples e.0.3) e) a ∙ ap (λ q. is_placed_by keys (Some w) q e) b) ∙ h))
     go (Some w) (Some u) a b = record {
       path = w;
       tuple = u;
       path_is = a;
       tuple_is = b;
-      key = key_from e u (sym (ap (λ q. is_placed_by q (item_of tuples e.0.3) e) a ∙ ap (λ q. is_placed_by (Some w) q e) b) ∙ h);
+      key = key_from keys e u (sym (ap (λ q. is_placed_by keys q (item_of tuples e.0.3) e) a ∙ ap (λ q. is_placed_by keys (Some w) q e) b) ∙ h);
     }
 
 -- ---- rows of a list
@@ -176,9 +177,9 @@ tells_makes worlds tuples w u s e m =
 
 -- ---- the law
 
-module _ (t : Tables) (worlds : Paths) (tuples : TupleRows) (stmts : List Stmt) (f : ValKey → Option Mark)
+module _ (keys : ℕ → ℕ) (t : Tables) (worlds : Paths) (tuples : TupleRows) (stmts : List Stmt) (f : ValKey → Option Mark)
     (numbers : HaveNumbers t tuples) (one : (a b : ℕ) (w : List ℕ) → item_of worlds a ≡ Some w → item_of worlds b ≡ Some w → a ≡ b)
-    (h : AreStated t worlds tuples stmts) (gives : Gives val_codec t f) where
+    (h : AreStated keys t worlds tuples stmts) (gives : Gives val_codec t f) where
   abbrev rows : List ValRow
   rows = h.are.rows
 
@@ -195,50 +196,50 @@ module _ (t : Tables) (worlds : Paths) (tuples : TupleRows) (stmts : List Stmt) 
   -- what the table gives passes what all rows pass
   given_passes : (p : ValRow → Bool) → list_all p rows ≡ true → (k : ValKey) (m : Mark) → IsValKey k → f k ≡ Some m → p (k, m) ≡ true
   given_passes p all k m fits e =
-      found_passes worlds tuples p rows under.each all (k, m) (record { key = fits; row = tt; begins = refl })
+      found_passes keys worlds tuples p rows under.each all (k, m) (record { key = fits; row = tt; begins = refl })
       (sym (under.found (val_bytes k) refl) ∙ gives.rows k fits ∙ ap (option_map mark_bytes) e)
 
-  pub given_placed : (k : ValKey) (m : Mark) → IsValKey k → f k ≡ Some m → Placed worlds tuples (k, m)
-  given_placed k m fits e = placed_tells worlds tuples (k, m) (given_passes (is_placed worlds tuples) h.are.are.placed k m fits e)
+  pub given_placed : (k : ValKey) (m : Mark) → IsValKey k → f k ≡ Some m → Placed keys worlds tuples (k, m)
+  given_placed k m fits e = placed_tells keys worlds tuples (k, m) (given_passes (is_placed keys worlds tuples) h.are.are.placed k m fits e)
 
   same_stated : (w : List ℕ) (u : Tuple) (s : Sign) → explicit stmts w u s ≡ list_any (is_this w u s) (flat_map (said worlds tuples) rows)
   same_stated w u s = sym (list_any-IsPermutation (is_this w u s) h.made stmts h.moved) ∙ ap (list_any (is_this w u s)) h.are.said
 
   -- a statement is an explicit row
   pub stated_given : (w : List ℕ) (u : Tuple) (s : Sign) → explicit stmts w u s ≡ true
-      → (wid : ℕ) × (tid : ℕ) × (item_of worlds wid ≡ Some w) × (item_of tuples tid ≡ Some u) × (f (row_key wid tid u) ≡ Some (s, true))
+      → (wid : ℕ) × (tid : ℕ) × (item_of worlds wid ≡ Some w) × (item_of tuples tid ≡ Some u) × (f (row_key keys wid tid u) ≡ Some (s, true))
   stated_given w u s x =
       let m = made_by (is_this w u s) (said worlds tuples) rows (sym (same_stated w u s) ∙ x) in
       let e = m.row in
       let k = makes_tells worlds tuples w u s e m.makes in
-      let p = placed_tells worlds tuples e (pass_at (is_placed worlds tuples) rows e h.are.are.placed m.among) in
+      let p = placed_tells keys worlds tuples e (pass_at (is_placed keys worlds tuples) rows e h.are.are.placed m.among) in
       let own : p.tuple ≡ u = some_one p.tuple u (item_of tuples e.0.3) p.tuple_is k.tuple in
-      let key : row_key e.0.0 e.0.3 u ≡ e.0 = ap (λ (y : Tuple). row_key e.0.0 e.0.3 y) (sym own) ∙ p.key in
+      let key : row_key keys e.0.0 e.0.3 u ≡ e.0 = ap (λ (y : Tuple). row_key keys e.0.0 e.0.3 y) (sym own) ∙ p.key in
       (e.0.0, e.0.3, k.path, k.tuple, ap f key ∙ row_given e m.among ∙ ap Some k.mark)
 
   -- an explicit row is a statement
-  pub given_stated : (wid tid : ℕ) (w : List ℕ) (u : Tuple) (s : Sign) → IsValKey (row_key wid tid u) → item_of worlds wid ≡ Some w → item_of tuples tid ≡ Some u
-      → f (row_key wid tid u) ≡ Some (s, true) → explicit stmts w u s ≡ true
+  pub given_stated : (wid tid : ℕ) (w : List ℕ) (u : Tuple) (s : Sign) → IsValKey (row_key keys wid tid u) → item_of worlds wid ≡ Some w → item_of tuples tid ≡ Some u
+      → f (row_key keys wid tid u) ≡ Some (s, true) → explicit stmts w u s ≡ true
   given_stated wid tid w u s fits a b e =
       let g = is_this w u s in
       let all = flat_map (said worlds tuples) rows in
-      let in_all = given_passes (goes_in g (said worlds tuples) all) (goes_in_from g (said worlds tuples) all rows (λ x. x)) (row_key wid tid u) (s, true) fits e in
-      same_stated w u s ∙ goes_in_gives (list_any g (said worlds tuples (row_key wid tid u, (s, true)))) (list_any g all) in_all
-      (tells_makes worlds tuples w u s (row_key wid tid u, (s, true)) (record { path = a; tuple = b; mark = refl }))
+      let in_all = given_passes (goes_in g (said worlds tuples) all) (goes_in_from g (said worlds tuples) all rows (λ x. x)) (row_key keys wid tid u) (s, true) fits e in
+      same_stated w u s ∙ goes_in_gives (list_any g (said worlds tuples (row_key keys wid tid u, (s, true)))) (list_any g all) in_all
+      (tells_makes worlds tuples w u s (row_key keys wid tid u, (s, true)) (record { path = a; tuple = b; mark = refl }))
 
   explicit_tells : (wid tid : ℕ) (w : List ℕ) (u : Tuple) (s : Sign) → item_of worlds wid ≡ Some w → item_of tuples tid ≡ Some u → explicit stmts w u s ≡ true
-      → f (row_key wid tid u) ≡ Some (s, true)
+      → f (row_key keys wid tid u) ≡ Some (s, true)
   explicit_tells wid tid w u s a b x =
       let m = stated_given w u s x in
       let same_wid : m.0 ≡ wid = one m.0 wid w m.2 a in
       let same_tid : m.1 ≡ tid = numbers.once m.1 tid u m.3 b in
-      sym (ap (λ (n : ℕ). f (row_key n m.1 u)) same_wid ∙ ap (λ (n : ℕ). f (row_key wid n u)) same_tid) ∙ m.4
+      sym (ap (λ (n : ℕ). f (row_key keys n m.1 u)) same_wid ∙ ap (λ (n : ℕ). f (row_key keys wid n u)) same_tid) ∙ m.4
 
-  pub explicit_is_sign : IsConsistent (λ _. 1) stmts → (wid tid : ℕ) (w : List ℕ) (u : Tuple) → IsValKey (row_key wid tid u) → item_of worlds wid ≡ Some w → item_of tuples tid ≡ Some u
-      → explicit_of (f (row_key wid tid u)) ≡ explicit_sign stmts w u
-  explicit_is_sign c wid tid w u fits a b = go (f (row_key wid tid u)) refl
+  pub explicit_is_sign : IsConsistent keys stmts → (wid tid : ℕ) (w : List ℕ) (u : Tuple) → IsValKey (row_key keys wid tid u) → item_of worlds wid ≡ Some w → item_of tuples tid ≡ Some u
+      → explicit_of (f (row_key keys wid tid u)) ≡ explicit_sign stmts w u
+  explicit_is_sign c wid tid w u fits a b = go (f (row_key keys wid tid u)) refl
     where
-      none_but : (o : Option Mark) → f (row_key wid tid u) ≡ o → (s : Sign) → (o ≡ Some (s, true) → ⊥) → explicit stmts w u s ≡ false
+      none_but : (o : Option Mark) → f (row_key keys wid tid u) ≡ o → (s : Sign) → (o ≡ Some (s, true) → ⊥) → explicit stmts w u s ≡ false
       none_but o e s bad = false_from_ne_true (explicit stmts w u s) (λ x. bad (sym e ∙ explicit_tells wid tid w u s a b x))
 
       signs : (p m : Bool) → explicit stmts w u Plus ≡ p → explicit stmts w u Minus ≡ m → explicit_sign stmts w u ≡ sign_by p m
@@ -253,7 +254,7 @@ module _ (t : Tables) (worlds : Paths) (tuples : TupleRows) (stmts : List Stmt) 
       unmarked : (s r : Sign) → ◌≡◌ {A = Mark} (s, false) (r, true) → ⊥
       unmarked s r e = false≢true (ap (λ (k : Mark). k.1) e)
 
-      go : (o : Option Mark) → f (row_key wid tid u) ≡ o → explicit_of (f (row_key wid tid u)) ≡ explicit_sign stmts w u
+      go : (o : Option Mark) → f (row_key keys wid tid u) ≡ o → explicit_of (f (row_key keys wid tid u)) ≡ explicit_sign stmts w u
       go None e =
           ap explicit_of e
           ∙ sym (signs false false (none_but None e Plus (λ x. not_both (Plus, true) None refl x)) (none_but None e Minus (λ x. not_both (Minus, true) None refl x)))
@@ -268,22 +269,22 @@ module _ (t : Tables) (worlds : Paths) (tuples : TupleRows) (stmts : List Stmt) 
           ∙ sym (signs false true (none_but (Some (Minus, true)) e Plus (λ x. plus_minus (Minus, true) true (mark_of_some (Minus, true) (Plus, true) x) refl)) (given_stated wid tid w u Minus fits a b e))
 
 pub stated_rows_are_explicit : StatedRowsAreExplicit
-stated_rows_are_explicit t worlds tuples ns stmts f paths numbers h gives consistent = record {
+stated_rows_are_explicit keys t worlds tuples ns stmts f lengths paths numbers h gives consistent = record {
   rows = rows_are;
   sized = λ wid w e. paths.names.sized w wid (paths.names.named wid w e);
-  worlds = λ k fits s. let m = some_is (f k) s in ap is_some (paths.paths k.0 ∙ (given_placed t worlds tuples stmts f numbers once h gives k m.0 fits m.1).path_is);
+  worlds = λ k fits s. let m = some_is (f k) s in ap is_some (paths.paths k.0 ∙ (given_placed keys t worlds tuples stmts f numbers once h gives k m.0 fits m.1).path_is);
   explicit = λ wid w tid u p n.
-      explicit_is_sign t worlds tuples stmts f numbers once h gives consistent wid tid w u
-      (key_fits (item_of tuples) f t rows_are wid tid u (paths.names.sized w wid (paths.names.named wid w p)) n) (sym (paths.paths wid) ∙ p) n;
-  numbered = λ w u s x. let m = stated_given t worlds tuples stmts f numbers once h gives w u s x in (m.1, m.3);
+      explicit_is_sign keys t worlds tuples stmts f numbers once h gives consistent wid tid w u
+      (key_fits keys (item_of tuples) f t rows_are wid tid u (paths.names.sized w wid (paths.names.named wid w p)) n) (sym (paths.paths wid) ∙ p) n;
+  numbered = λ w u s x. let m = stated_given keys t worlds tuples stmts f numbers once h gives w u s x in (m.1, m.3);
   consistent = consistent;
 }
   where
     once : (a b : ℕ) (w : List ℕ) → item_of worlds a ≡ Some w → item_of worlds b ≡ Some w → a ≡ b
     once a b w x y = some_one a b (number_of ns w) (paths.names.named a w (paths.paths a ∙ x)) (paths.names.named b w (paths.paths b ∙ y))
 
-    keyed_at : (k : ValKey) → IsValKey k → is_some (f k) ≡ true → (u : Tuple) × (item_of tuples k.3 ≡ Some u) × (row_key k.0 k.3 u ≡ k)
-    keyed_at k fits s = let m = some_is (f k) s in let p = given_placed t worlds tuples stmts f numbers once h gives k m.0 fits m.1 in (p.tuple, p.tuple_is, p.key)
+    keyed_at : (k : ValKey) → IsValKey k → is_some (f k) ≡ true → (u : Tuple) × (item_of tuples k.3 ≡ Some u) × (row_key keys k.0 k.3 u ≡ k)
+    keyed_at k fits s = let m = some_is (f k) s in let p = given_placed keys t worlds tuples stmts f numbers once h gives k m.0 fits m.1 in (p.tuple, p.tuple_is, p.key)
 
-    rows_are : HasRows (item_of tuples) f t
-    rows_are = record { tuples = numbers.gives; rows = gives; sized = numbers.sized; keyed = keyed_at }
+    rows_are : HasRows keys (item_of tuples) f t
+    rows_are = record { lengths = lengths; tuples = numbers.gives; rows = gives; sized = numbers.sized; keyed = keyed_at }

@@ -2,23 +2,23 @@
 use Rattle.std.proofs.Common.{◌≡◌, ◌∙◌, ◌<◌, ℕ, suc, arith, length, get_or, Bool, true, false, not, ◌&&◌, ◌||◌, nat_eq, List, [], ◌∷◌, filter, Option, Some, None, cond, inl, inr, is_some, refl, ap, sym, subst}
 use Prim.Native.Nat.{zero}
 use Rattle.std.specs.List.{list_any, list_all, AllByRecursion}
-use Rattle.std.proofs.lemmas.Bool.{true≢false, false≢true, cases_Bool, and_parts, and_from, or_cases, or_left, or_right, cond-true, cond-false, eqb-true, eq-eqb}
+use Rattle.std.proofs.lemmas.Bool.{false≢true, cases_Bool, and_parts, and_from, or_cases, or_left, or_right, cond-true, cond-false, eqb-true, eq-eqb}
 use Rattle.bdb_base.specs.declared.kinds.Sign.{Sign}
 use Rattle.bdb_base.specs.declared.tuple.Tuple.{Tuple}
 use Rattle.bdb_base.specs.Clash.{clash}
-use Rattle.bdb_base.specs.Same.{same_sign}
 use Rattle.bdb_base.specs.SameLemmas.{same_sign-Decides}
 use Rattle.bdb_base.proofs.CountLemmas.{list_any-filter_some}
 use Rattle.bdb_base.proofs.ListLemmas.{filter_kept_one, filter_dropped_one}
 use Rattle.bdb_tables.proofs.Loops.{all_at_index}
 use Rattle.bdb_tables.specs.Marks.{Mark, sign_of, explicit_of}
 use Rattle.bdb_update.proofs.ExplicitLemmas.{unfiltered}
+use Rattle.bdb_update.proofs.KeyLemmas.{clash_of}
 use Rattle.bdb_val.specs.Settled.{settled_mark, passed_on, is_barred}
 use Rattle.bdb_val.specs.Settling.{mark_in, barred_by, next_mark, AreNamed, are_apart}
 use Rattle.bdb_val.specs.declared.stored.Stored.{Stored}
 use Rattle.bdb_val.proofs.SettlingLemmas.{mark_is_some}
 use Rattle.bdb_val.proofs.StepLemmas.{mark_of_each}
-use Rattle.bdb_decode.specs.Settles.{is_explicit, is_inherited, has_sign, is_fitting, is_passed, are_settled, settles}
+use Rattle.bdb_decode.specs.Settles.{is_explicit, is_inherited, has_sign, is_fitting, is_passed, settles}
 
 -- ---- lists
 
@@ -84,14 +84,21 @@ one_tuple : (tuple : ℕ → Option Tuple) (a b : ℕ) (t u : Tuple) → tuple a
 one_tuple tuple a b t u p q e = let l : tuple a ≡ tuple b = ap tuple e in cc
 
 -- what explicit rows bar, all rows do
-barred_stated : (xs : List Stored) (t : Tuple) (s : Sign) → barred_by (λ _. 1) (filter is_explicit xs) t s ≡ barred_by (λ _. 1) xs t s
-barred_stated [] t s = refl
-barred_stated (x ∷ xs) t s =
-    let c = clash (λ _. 1) t s x.tuple x.mark.0 in
+barred_stated : (keys : ℕ → ℕ) (xs : List Stored) (t : Tuple) (s : Sign) → barred_by keys (filter is_explicit xs) t s ≡ barred_by keys xs t s
+barred_stated keys [] t s = refl
+barred_stated keys (x ∷ xs) t s =
+    let c = clash keys t s x.tuple x.mark.0 in
     elim (cases_Bool x.mark.1) [
-      | inl e ↦ ap (λ ys. barred_by (λ _. 1) ys t s) (filter_kept_one is_explicit x xs e) ∙ ap (λ b. (x.mark.1 && c) || b) (barred_stated xs t s)
-      | inr e ↦ ap (λ ys. barred_by (λ _. 1) ys t s) (filter_dropped_one is_explicit x xs e) ∙ barred_stated xs t s ∙ sym (ap (λ b. (b && c) || barred_by (λ _. 1) xs t s) e)
+      | inl e ↦ ap (λ ys. barred_by keys ys t s) (filter_kept_one is_explicit x xs e) ∙ ap (λ b. (x.mark.1 && c) || b) (barred_stated keys xs t s)
+      | inr e ↦ ap (λ ys. barred_by keys ys t s) (filter_dropped_one is_explicit x xs e) ∙ barred_stated keys xs t s ∙ sym (ap (λ b. (b && c) || barred_by keys xs t s) e)
     ]
+
+-- whether rows bar a signed tuple is told by the length of its relation's key
+pub barred_of : (keys : ℕ → ℕ) (n : ℕ) (xs : List Stored) (t : Tuple) (s : Sign) → n ≡ keys t.rel → barred_by (λ _. n) xs t s ≡ barred_by keys xs t s
+barred_of keys n [] t s e = refl
+barred_of keys n (x ∷ xs) t s e =
+    ap (λ b. (x.mark.1 && b) || barred_by (λ _. n) xs t s) (clash_of keys n t s x.tuple x.mark.0 e)
+    ∙ ap (λ b. (x.mark.1 && clash keys t s x.tuple x.mark.0) || b) (barred_of keys n xs t s e)
 
 found_kept : (p : Stored → Bool) (xs : List Stored) (tid : ℕ) → is_some (mark_in (filter p xs) tid) ≡ true → is_some (mark_in xs tid) ≡ true
 found_kept p xs tid e = mark_is_some xs tid ∙ list_any-filter_some (λ y. nat_eq y.tid tid) p xs (sym (mark_is_some (filter p xs) tid) ∙ e)
@@ -148,7 +155,7 @@ settled_none m bars e = elim (cases_Bool (bars m.0)) [
 
 -- ---- the test
 
-module _ (tuple : ℕ → Option Tuple) (own from : List Stored) (a : AreNamed tuple own) (b : AreNamed tuple from) where
+module _ (keys : ℕ → ℕ) (tuple : ℕ → Option Tuple) (own from : List Stored) (a : AreNamed tuple own) (b : AreNamed tuple from) where
   abbrev stated : List Stored
   stated = filter is_explicit own
 
@@ -156,84 +163,84 @@ module _ (tuple : ℕ → Option Tuple) (own from : List Stored) (a : AreNamed t
   inherited = filter is_inherited own
 
   abbrev next : Tuple → Option Mark → Option Mark → Option Mark
-  next u o q = settled_mark (explicit_of o) (barred_by (λ _. 1) own u) (sign_of q)
+  next u o q = settled_mark (explicit_of o) (barred_by keys own u) (sign_of q)
 
   -- an inherited row of the world
   abbrev Fits : Stored → Type 0
-  Fits x = (tuple x.tid ≡ Some x.tuple) × (is_inherited x ≡ true → is_fitting stated from x ≡ true)
+  Fits x = (tuple x.tid ≡ Some x.tuple) × (is_inherited x ≡ true → is_fitting keys stated from x ≡ true)
 
   -- a row of the other world
   abbrev Passes : Stored → Type 0
-  Passes y = (tuple y.tid ≡ Some y.tuple) × (is_passed stated inherited y ≡ true)
+  Passes y = (tuple y.tid ≡ Some y.tuple) × (is_passed keys stated inherited y ≡ true)
 
   -- each tuple has the row that it is to have, where the test is passed
-  pub settled_next : settles own from ≡ true → (tid : ℕ) (u : Tuple) → tuple tid ≡ Some u → mark_in own tid ≡ next_mark (λ _. 1) own from tid u
+  pub settled_next : settles keys own from ≡ true → (tid : ℕ) (u : Tuple) → tuple tid ≡ Some u → mark_in own tid ≡ next_mark keys own from tid u
   settled_next h tid u n = value (mark_in own tid) (mark_in from tid) refl refl
     where
-      parts : (list_all (is_fitting stated from) inherited ≡ true) × (list_all (is_passed stated inherited) from ≡ true)
-      parts = and_parts (list_all (is_fitting stated from) inherited) (list_all (is_passed stated inherited) from) h
+      parts : (list_all (is_fitting keys stated from) inherited ≡ true) × (list_all (is_passed keys stated inherited) from ≡ true)
+      parts = and_parts (list_all (is_fitting keys stated from) inherited) (list_all (is_passed keys stated inherited) from) h
 
       fits : AllByRecursion Fits own
-      fits = all_two (λ x. tuple x.tid ≡ Some x.tuple) (λ x. is_inherited x ≡ true → is_fitting stated from x ≡ true) Fits own (λ x p q. (p, q)) a
-          (unfiltered (λ x. is_fitting stated from x ≡ true) is_inherited own (all_true (is_fitting stated from) inherited parts.0))
+      fits = all_two (λ x. tuple x.tid ≡ Some x.tuple) (λ x. is_inherited x ≡ true → is_fitting keys stated from x ≡ true) Fits own (λ x p q. (p, q)) a
+          (unfiltered (λ x. is_fitting keys stated from x ≡ true) is_inherited own (all_true (is_fitting keys stated from) inherited parts.0))
 
       passes : AllByRecursion Passes from
-      passes = all_two (λ y. tuple y.tid ≡ Some y.tuple) (λ y. is_passed stated inherited y ≡ true) Passes from (λ y p q. (p, q)) b (all_true (is_passed stated inherited) from parts.1)
+      passes = all_two (λ y. tuple y.tid ≡ Some y.tuple) (λ y. is_passed keys stated inherited y ≡ true) Passes from (λ y p q. (p, q)) b (all_true (is_passed keys stated inherited) from parts.1)
 
       value : (o q : Option Mark) → mark_in own tid ≡ o → mark_in from tid ≡ q → o ≡ next u o q
       value None None e f = refl
       value None (Some m) e f =
           let y = pick Passes from tid m passes f in
           let same : y.0.tuple ≡ u = one_tuple tuple y.0.tid tid y.0.tuple u y.1.0 n y.2 in
-          let bars = barred_by (λ _. 1) stated y.0.tuple y.0.mark.0 in
+          let bars = barred_by keys stated y.0.tuple y.0.mark.0 in
           let stands = is_some (mark_in stated y.0.tid) || is_some (mark_in inherited y.0.tid) in
           let absent : is_some (mark_in own y.0.tid) ≡ false = ap (λ i. is_some (mark_in own i)) y.2 ∙ ap is_some e in
-          none_settled m (barred_by (λ _. 1) own u) (elim (or_cases bars stands y.1.1) [
+          none_settled m (barred_by keys own u) (elim (or_cases bars stands y.1.1) [
             | inl c ↦
-                ap (λ t. barred_by (λ _. 1) own t m.0) (sym same) ∙ ap (λ (k : Mark). barred_by (λ _. 1) own y.0.tuple k.0) (sym y.3)
-                ∙ sym (barred_stated own y.0.tuple y.0.mark.0) ∙ c
+                ap (λ t. barred_by keys own t m.0) (sym same) ∙ ap (λ (k : Mark). barred_by keys own y.0.tuple k.0) (sym y.3)
+                ∙ sym (barred_stated keys own y.0.tuple y.0.mark.0) ∙ c
             | inr c ↦ elim (or_cases (is_some (mark_in stated y.0.tid)) (is_some (mark_in inherited y.0.tid)) c) [
               | inl d ↦ absurd (false≢true (sym absent ∙ found_kept is_explicit own y.0.tid d))
               | inr d ↦ absurd (false≢true (sym absent ∙ found_kept is_inherited own y.0.tid d))
             ]
           ])
       value (Some m) q e f = elim (cases_Bool m.1) [
-        | inl c ↦ explicit_settled m (barred_by (λ _. 1) own u) q c
+        | inl c ↦ explicit_settled m (barred_by keys own u) q c
         | inr c ↦
             let x = pick Fits own tid m fits e in
             let same : x.0.tuple ≡ u = one_tuple tuple x.0.tid tid x.0.tuple u x.1.0 n x.2 in
-            let fit = and_parts (not (barred_by (λ _. 1) stated x.0.tuple x.0.mark.0)) (has_sign x.0.mark.0 (mark_in from x.0.tid))
+            let fit = and_parts (not (barred_by keys stated x.0.tuple x.0.mark.0)) (has_sign x.0.mark.0 (mark_in from x.0.tid))
             (x.1.1 (ap (λ (k : Mark). not k.1) x.3 ∙ ap not c)) in
-            inherited_settled m (barred_by (λ _. 1) own u) q c
-            (ap (λ t. barred_by (λ _. 1) own t m.0) (sym same) ∙ ap (λ (k : Mark). barred_by (λ _. 1) own x.0.tuple k.0) (sym x.3)
-            ∙ sym (barred_stated own x.0.tuple x.0.mark.0) ∙ not_true (barred_by (λ _. 1) stated x.0.tuple x.0.mark.0) fit.0)
+            inherited_settled m (barred_by keys own u) q c
+            (ap (λ t. barred_by keys own t m.0) (sym same) ∙ ap (λ (k : Mark). barred_by keys own x.0.tuple k.0) (sym x.3)
+            ∙ sym (barred_stated keys own x.0.tuple x.0.mark.0) ∙ not_true (barred_by keys stated x.0.tuple x.0.mark.0) fit.0)
             (ap (has_sign m.0) (sym f) ∙ ap (λ i. has_sign m.0 (mark_in from i)) (sym x.2) ∙ ap (λ (k : Mark). has_sign k.0 (mark_in from x.0.tid)) (sym x.3) ∙ fit.1)
       ]
 
   -- the test is passed, where each tuple has the row that it is to have
-  pub next_settles : are_apart own ≡ true → are_apart from ≡ true → ((tid : ℕ) (u : Tuple) → tuple tid ≡ Some u → mark_in own tid ≡ next_mark (λ _. 1) own from tid u) → settles own from ≡ true
-  next_settles c d h = and_from (list_all (is_fitting stated from) inherited) (list_all (is_passed stated inherited) from)
-      (true_all (is_fitting stated from) inherited (kept_all (λ x. is_fitting stated from x ≡ true) is_inherited own
-      (all_two (λ x. tuple x.tid ≡ Some x.tuple) (λ x. mark_in own x.tid ≡ Some x.mark) (λ x. is_inherited x ≡ true → is_fitting stated from x ≡ true) own fit a (mark_of_each own own (λ _ _ k. k) c))))
-      (true_all (is_passed stated inherited) from
-      (all_two (λ y. tuple y.tid ≡ Some y.tuple) (λ y. mark_in from y.tid ≡ Some y.mark) (λ y. is_passed stated inherited y ≡ true) from pass b (mark_of_each from from (λ _ _ k. k) d)))
+  pub next_settles : are_apart own ≡ true → are_apart from ≡ true → ((tid : ℕ) (u : Tuple) → tuple tid ≡ Some u → mark_in own tid ≡ next_mark keys own from tid u) → settles keys own from ≡ true
+  next_settles c d h = and_from (list_all (is_fitting keys stated from) inherited) (list_all (is_passed keys stated inherited) from)
+      (true_all (is_fitting keys stated from) inherited (kept_all (λ x. is_fitting keys stated from x ≡ true) is_inherited own
+      (all_two (λ x. tuple x.tid ≡ Some x.tuple) (λ x. mark_in own x.tid ≡ Some x.mark) (λ x. is_inherited x ≡ true → is_fitting keys stated from x ≡ true) own fit a (mark_of_each own own (λ _ _ k. k) c))))
+      (true_all (is_passed keys stated inherited) from
+      (all_two (λ y. tuple y.tid ≡ Some y.tuple) (λ y. mark_in from y.tid ≡ Some y.mark) (λ y. is_passed keys stated inherited y ≡ true) from pass b (mark_of_each from from (λ _ _ k. k) d)))
     where
-      fit : (x : Stored) → tuple x.tid ≡ Some x.tuple → mark_in own x.tid ≡ Some x.mark → is_inherited x ≡ true → is_fitting stated from x ≡ true
+      fit : (x : Stored) → tuple x.tid ≡ Some x.tuple → mark_in own x.tid ≡ Some x.mark → is_inherited x ≡ true → is_fitting keys stated from x ≡ true
       fit x n k i =
-          let told = settled_inherited x.mark (barred_by (λ _. 1) own x.tuple) (mark_in from x.tid) (not_true x.mark.1 i)
+          let told = settled_inherited x.mark (barred_by keys own x.tuple) (mark_in from x.tid) (not_true x.mark.1 i)
           (sym k ∙ h x.tid x.tuple n ∙ ap (λ o. next x.tuple o (mark_in from x.tid)) k) in
-          and_from (not (barred_by (λ _. 1) stated x.tuple x.mark.0)) (has_sign x.mark.0 (mark_in from x.tid)) (ap not (barred_stated own x.tuple x.mark.0 ∙ told.0)) told.1
+          and_from (not (barred_by keys stated x.tuple x.mark.0)) (has_sign x.mark.0 (mark_in from x.tid)) (ap not (barred_stated keys own x.tuple x.mark.0 ∙ told.0)) told.1
 
-      pass : (y : Stored) → tuple y.tid ≡ Some y.tuple → mark_in from y.tid ≡ Some y.mark → is_passed stated inherited y ≡ true
+      pass : (y : Stored) → tuple y.tid ≡ Some y.tuple → mark_in from y.tid ≡ Some y.mark → is_passed keys stated inherited y ≡ true
       pass y n k = by (mark_in own y.tid) refl
         where
           bars : Bool
-          bars = barred_by (λ _. 1) stated y.tuple y.mark.0
+          bars = barred_by keys stated y.tuple y.mark.0
 
-          by : (o : Option Mark) → mark_in own y.tid ≡ o → is_passed stated inherited y ≡ true
+          by : (o : Option Mark) → mark_in own y.tid ≡ o → is_passed keys stated inherited y ≡ true
           by (Some m) e = or_right bars (is_some (mark_in stated y.tid) || is_some (mark_in inherited y.tid)) (split_found own y.tid (ap is_some e))
           by None e = or_left bars (is_some (mark_in stated y.tid) || is_some (mark_in inherited y.tid))
-              (barred_stated own y.tuple y.mark.0 ∙ settled_none y.mark (barred_by (λ _. 1) own y.tuple)
+              (barred_stated keys own y.tuple y.mark.0 ∙ settled_none y.mark (barred_by keys own y.tuple)
               (sym e ∙ h y.tid y.tuple n ∙ ap (λ o. next y.tuple o (mark_in from y.tid)) e ∙ ap (next y.tuple None) k))
 
 -- ---- where a row is found

@@ -1,16 +1,16 @@
 -- Neighbours that ascend make statements that are in order and do not clash.
-use Rattle.std.proofs.Common.{◌≡◌, ◌∙◌, ◌⊎◌, ℕ, Bool, true, false, not, ◌&&◌, ◌||◌, nat_eq, nat_le, List, [], ◌∷◌, length, take, filter, refl, ap, sym, arith, inl, inr}
+use Rattle.std.proofs.Common.{◌≡◌, ◌∙◌, ◌⊎◌, ℕ, zero, suc, Bool, true, false, not, ◌&&◌, ◌||◌, nat_eq, nat_le, List, [], ◌∷◌, length, take, filter, refl, ap, sym, subst, arith, inl, inr}
 use Rattle.std.specs.Bool.{MatchBool}
 use Rattle.std.specs.List.{list_all, list_any}
 use Rattle.std.specs.declared.cmp.Ordering.{Ordering}
 use Rattle.std.specs.declared.cmp.Ordering.TheVariants.{Less, Equal, Greater}
 use Rattle.std.specs.Ordering.{nat_cmp, is_eq, is_lt, ordering_then}
 use Rattle.std.specs.Cmp.{IsTotalOrder}
-use Rattle.std.proofs.lemmas.Bool.{cases_Bool, and_parts, and_from, and_right, or_parts, or_from, false≢true, not_from_false, cond-true, cond-false}
+use Rattle.std.proofs.lemmas.Bool.{cases_Bool, and_parts, and_from, and_right, or_parts, or_from, false≢true, not_from_false, cond-true, cond-false, eqb-true}
 use Rattle.std.proofs.lemmas.Bool.Decides.{nat_tests}
 use Rattle.std.proofs.lemmas.Cmp.{then_total, on_total, nat_cmp_total}
-use Rattle.bdb_base.specs.Bases.{AreStatements, belongs, tuple_count, world_count}
-use Rattle.bdb_base.specs.Clash.{clash, same_key}
+use Rattle.bdb_base.specs.Bases.{AreStatements, belongs, key_lengths, tuple_count, world_count}
+use Rattle.bdb_base.specs.Clash.{clash, key_of, same_key}
 use Rattle.bdb_base.specs.Limits.{most_statements, most_tuples, most_worlds}
 use Rattle.bdb_base.specs.Order.{value_cmp, row_cmp, path_cmp, tuple_cmp, sign_cmp, statement_cmp}
 use Rattle.bdb_base.specs.OrderLemmas.{path_total, row_total, tuple_total, statement_exact, is_eq_path_cmp, is_eq_tuple_cmp, is_eq_row_cmp}
@@ -152,21 +152,22 @@ module _ {X : Type 0} where
 
 -- ---- plus statements alone
 
-below_filtered : (x : Stmt) (ys : List Stmt) → below_plus x ys ≡ below_next group_cmp x (filter is_plus ys)
-below_filtered x [] = refl
-below_filtered x (y ∷ ys) = elim (cases_Bool (is_plus y)) [
-  | inl e ↦ cond-true (is_plus y) (is_lt (group_cmp x y)) (below_plus x ys) e ∙ sym (ap (below_next group_cmp x) (filter_kept_one is_plus y ys e))
-  | inr e ↦ cond-false (is_plus y) (is_lt (group_cmp x y)) (below_plus x ys) e ∙ below_filtered x ys ∙ sym (ap (below_next group_cmp x) (filter_dropped_one is_plus y ys e))
+below_filtered : (keys : ℕ → ℕ) (x : Stmt) (ys : List Stmt) → below_plus keys x ys ≡ below_next (group_cmp keys) x (filter is_plus ys)
+below_filtered keys x [] = refl
+below_filtered keys x (y ∷ ys) = elim (cases_Bool (is_plus y)) [
+  | inl e ↦ cond-true (is_plus y) (is_lt (group_cmp keys x y)) (below_plus keys x ys) e ∙ sym (ap (below_next (group_cmp keys) x) (filter_kept_one is_plus y ys e))
+  | inr e ↦ cond-false (is_plus y) (is_lt (group_cmp keys x y)) (below_plus keys x ys) e ∙ below_filtered keys x ys
+      ∙ sym (ap (below_next (group_cmp keys) x) (filter_dropped_one is_plus y ys e))
 ]
 
-plus_climb_filtered : (xs : List Stmt) → plus_climb xs ≡ climbs group_cmp (filter is_plus xs)
-plus_climb_filtered [] = refl
-plus_climb_filtered (x ∷ xs) = elim (cases_Bool (is_plus x)) [
-  | inl e ↦ ap (λ b. (not b || below_plus x xs) && plus_climb xs) e
-      ∙ ap (λ b. b && plus_climb xs) (below_filtered x xs)
-      ∙ ap (λ b. below_next group_cmp x (filter is_plus xs) && b) (plus_climb_filtered xs)
-      ∙ sym (ap (climbs group_cmp) (filter_kept_one is_plus x xs e))
-  | inr e ↦ ap (λ b. (not b || below_plus x xs) && plus_climb xs) e ∙ plus_climb_filtered xs ∙ sym (ap (climbs group_cmp) (filter_dropped_one is_plus x xs e))
+plus_climb_filtered : (keys : ℕ → ℕ) (xs : List Stmt) → plus_climb keys xs ≡ climbs (group_cmp keys) (filter is_plus xs)
+plus_climb_filtered keys [] = refl
+plus_climb_filtered keys (x ∷ xs) = elim (cases_Bool (is_plus x)) [
+  | inl e ↦ ap (λ b. (not b || below_plus keys x xs) && plus_climb keys xs) e
+      ∙ ap (λ b. b && plus_climb keys xs) (below_filtered keys x xs)
+      ∙ ap (λ b. below_next (group_cmp keys) x (filter is_plus xs) && b) (plus_climb_filtered keys xs)
+      ∙ sym (ap (climbs (group_cmp keys)) (filter_kept_one is_plus x xs e))
+  | inr e ↦ ap (λ b. (not b || below_plus keys x xs) && plus_climb keys xs) e ∙ plus_climb_filtered keys xs ∙ sym (ap (climbs (group_cmp keys)) (filter_dropped_one is_plus x xs e))
 ]
 
 -- ---- the orders
@@ -174,9 +175,9 @@ plus_climb_filtered (x ∷ xs) = elim (cases_Bool (is_plus x)) [
 place_total : IsTotalOrder place_cmp
 place_total = then_total (on_total (λ (x : Stmt). x.path) path_total) (on_total (λ (x : Stmt). x.tuple) tuple_total)
 
-group_total : IsTotalOrder group_cmp
-group_total = then_total (on_total (λ (x : Stmt). x.path) path_total)
-    (then_total (on_total (λ (x : Stmt). x.tuple.rel) nat_cmp_total) (on_total (λ (x : Stmt). take 1 x.tuple.vals) row_total))
+group_total : (keys : ℕ → ℕ) → IsTotalOrder (group_cmp keys)
+group_total keys = then_total (on_total (λ (x : Stmt). x.path) path_total)
+    (then_total (on_total (λ (x : Stmt). x.tuple.rel) nat_cmp_total) (on_total (λ (x : Stmt). key_of keys x.tuple) row_total))
 
 -- what the parts of an order say that answers Less
 less_of_two : (p t s : Ordering) → ordering_then p (ordering_then t s) ≡ Less → (ordering_then p t ≡ Less) ⊎ ((p ≡ Equal) × (t ≡ Equal) × (s ≡ Less))
@@ -193,27 +194,34 @@ two_of_less Equal Equal s h = absurd (not_equal_less h)
 two_of_less Equal Greater s h = absurd (not_greater_less h)
 two_of_less Greater t s h = absurd (not_greater_less h)
 
-less_of_group : (p n v k : Ordering) → (k ≡ Equal) ⊎ (k ≡ v) → ordering_then p (ordering_then (ordering_then n v) Equal) ≡ Less
+less_of_group : (p n v k : Ordering) → (n ≡ Equal → (k ≡ Equal) ⊎ (k ≡ v)) → ordering_then p (ordering_then (ordering_then n v) Equal) ≡ Less
     → (ordering_then p (ordering_then n k) ≡ Less) ⊎ ((p ≡ Equal) × (n ≡ Equal) × (k ≡ Equal) × (v ≡ Less))
 less_of_group Less n v k d h = inl refl
 less_of_group Equal Less v k d h = inl refl
-less_of_group Equal Equal Less k (inl e) h = inr (refl, refl, e, refl)
-less_of_group Equal Equal Less k (inr e) h = inl e
+less_of_group Equal Equal Less k d h = elim (d refl) [ inl e ↦ inr (refl, refl, e, refl) | inr e ↦ inl e ]
 less_of_group Equal Equal Equal k d h = absurd (not_equal_less h)
 less_of_group Equal Equal Greater k d h = absurd (not_greater_less h)
 less_of_group Equal Greater v k d h = absurd (not_greater_less h)
 less_of_group Greater n v k d h = absurd (not_greater_less h)
 
-first_tells : (xs ys : List Value) → (row_cmp (take 1 xs) (take 1 ys) ≡ Equal) ⊎ (row_cmp (take 1 xs) (take 1 ys) ≡ row_cmp xs ys)
-first_tells [] [] = inl refl
-first_tells [] (y ∷ ys) = inr refl
-first_tells (x ∷ xs) [] = inr refl
-first_tells (x ∷ xs) (y ∷ ys) = by (value_cmp x y) (row_cmp xs ys)
+-- the first values of two rows tie, or they compare as the rows do
+first_tell : (n : ℕ) (xs ys : List Value) → (row_cmp (take n xs) (take n ys) ≡ Equal) ⊎ (row_cmp (take n xs) (take n ys) ≡ row_cmp xs ys)
+first_tell zero xs ys = inl refl
+first_tell (suc n) [] [] = inl refl
+first_tell (suc n) [] (y ∷ ys) = inr refl
+first_tell (suc n) (x ∷ xs) [] = inr refl
+first_tell (suc n) (x ∷ xs) (y ∷ ys) = by (value_cmp x y) (row_cmp (take n xs) (take n ys)) (row_cmp xs ys) (first_tell n xs ys)
   where
-    by : (r q : Ordering) → (ordering_then r Equal ≡ Equal) ⊎ (ordering_then r Equal ≡ ordering_then r q)
-    by Less q = inr refl
-    by Equal q = inl refl
-    by Greater q = inr refl
+    by : (r a q : Ordering) → (a ≡ Equal) ⊎ (a ≡ q) → (ordering_then r a ≡ Equal) ⊎ (ordering_then r a ≡ ordering_then r q)
+    by Less a q d = inr refl
+    by Equal a q d = d
+    by Greater a q d = inr refl
+
+-- the keys of two tuples of one relation tie, or they compare as the values do
+keys_tell : (keys : ℕ → ℕ) (t u : Tuple) → nat_cmp t.rel u.rel ≡ Equal → (row_cmp (key_of keys t) (key_of keys u) ≡ Equal) ⊎ (row_cmp (key_of keys t) (key_of keys u) ≡ row_cmp t.vals u.vals)
+keys_tell keys t u e =
+    let rel : t.rel ≡ u.rel = eqb-true t.rel u.rel (sym (is_eq_nat_cmp t.rel u.rel) ∙ ap is_eq e) in
+    subst (λ (r : ℕ). (row_cmp (key_of keys t) (take (keys r) u.vals) ≡ Equal) ⊎ (row_cmp (key_of keys t) (take (keys r) u.vals) ≡ row_cmp t.vals u.vals)) rel (first_tell (keys t.rel) t.vals u.vals)
 
 -- ---- which statements clash
 
@@ -250,31 +258,28 @@ place_below keys x y h o = elim (less_of_two (path_cmp x.path y.path) (tuple_cmp
       (signs_clash keys x.tuple y.tuple x.sign y.sign e.2 ∙ sym (is_eq_tuple_cmp x.tuple y.tuple) ∙ ap is_eq e.1)))
 ]
 
-one_key : ℕ → ℕ
-one_key rel = 1
-
 -- two plus ones in order and no clash: below by path, relation and key
-group_below : (x y : Stmt) → is_plus x ≡ true → is_plus y ≡ true → statement_cmp x y ≡ Less → opposes (λ _. 1) x y ≡ false → group_cmp x y ≡ Less
-group_below x y px py h o =
+group_below : (keys : ℕ → ℕ) (x y : Stmt) → is_plus x ≡ true → is_plus y ≡ true → statement_cmp x y ≡ Less → opposes keys x y ≡ false → group_cmp keys x y ≡ Less
+group_below keys x y px py h o =
     let sx : x.sign ≡ Plus = is_plus_Plus x.sign px in
     let sy : y.sign ≡ Plus = is_plus_Plus y.sign py in
     let p = path_cmp x.path y.path in
     let n = nat_cmp x.tuple.rel y.tuple.rel in
     let v = row_cmp x.tuple.vals y.tuple.vals in
-    let k = row_cmp (take 1 x.tuple.vals) (take 1 y.tuple.vals) in
+    let k = row_cmp (key_of keys x.tuple) (key_of keys y.tuple) in
     let less : ordering_then p (ordering_then (ordering_then n v) Equal) ≡ Less =
     sym (ap (λ s. ordering_then p (ordering_then (ordering_then n v) (sign_cmp s y.sign))) sx ∙ ap (λ s. ordering_then p (ordering_then (ordering_then n v) (sign_cmp Plus s))) sy) ∙ h in
-    elim (less_of_group p n v k (first_tells x.tuple.vals y.tuple.vals) less) [
+    elim (less_of_group p n v k (keys_tell keys x.tuple y.tuple) less) [
       | inl e ↦ e
       | inr e ↦
           let rel : nat_eq x.tuple.rel y.tuple.rel ≡ true = sym (is_eq_nat_cmp x.tuple.rel y.tuple.rel) ∙ ap is_eq e.1 in
-          let key : same_values (take 1 x.tuple.vals) (take 1 y.tuple.vals) ≡ true = sym (is_eq_row_cmp (take 1 x.tuple.vals) (take 1 y.tuple.vals)) ∙ ap is_eq e.2 in
+          let key : same_values (key_of keys x.tuple) (key_of keys y.tuple) ≡ true = sym (is_eq_row_cmp (key_of keys x.tuple) (key_of keys y.tuple)) ∙ ap is_eq e.2 in
           let differ : same_tuple x.tuple y.tuple ≡ false = sym (is_eq_tuple_cmp x.tuple y.tuple) ∙ ap is_eq (ap (λ r. ordering_then r v) e.1 ∙ e.3) in
-          let clashing : clash (λ _. 1) x.tuple Plus y.tuple Plus ≡ true =
-          and_from (same_key (λ _. 1) x.tuple y.tuple) (not (same_tuple x.tuple y.tuple))
-          (and_from (nat_eq x.tuple.rel y.tuple.rel) (same_values (take 1 x.tuple.vals) (take 1 y.tuple.vals)) rel key) (not_from_false (same_tuple x.tuple y.tuple) differ) in
-          absurd (false≢true (sym o ∙ and_from (same_path y.path x.path) (clash (λ _. 1) x.tuple x.sign y.tuple y.sign) (same_path_at x y e.0)
-          (ap (λ s. clash (λ _. 1) x.tuple s y.tuple y.sign) sx ∙ ap (λ s. clash (λ _. 1) x.tuple Plus y.tuple s) sy ∙ clashing)))
+          let clashing : clash keys x.tuple Plus y.tuple Plus ≡ true =
+          and_from (same_key keys x.tuple y.tuple) (not (same_tuple x.tuple y.tuple))
+          (and_from (nat_eq x.tuple.rel y.tuple.rel) (same_values (key_of keys x.tuple) (key_of keys y.tuple)) rel key) (not_from_false (same_tuple x.tuple y.tuple) differ) in
+          absurd (false≢true (sym o ∙ and_from (same_path y.path x.path) (clash keys x.tuple x.sign y.tuple y.sign) (same_path_at x y e.0)
+          (ap (λ s. clash keys x.tuple s y.tuple y.sign) sx ∙ ap (λ s. clash keys x.tuple Plus y.tuple s) sy ∙ clashing)))
     ]
 
 -- ---- statements that are below one another don't clash
@@ -295,66 +300,68 @@ three_ties Less k a b = absurd (false≢true a)
 three_ties Equal k a b = b
 three_ties Greater k a b = absurd (false≢true a)
 
-not_one_group : (x y : Stmt) → group_cmp x y ≡ Less → same_path y.path x.path ≡ true → same_key (λ _. 1) x.tuple y.tuple ≡ true → ⊥
-not_one_group x y h a b =
+not_one_group : (keys : ℕ → ℕ) (x y : Stmt) → group_cmp keys x y ≡ Less → same_path y.path x.path ≡ true → same_key keys x.tuple y.tuple ≡ true → ⊥
+not_one_group keys x y h a b =
     let n = nat_cmp x.tuple.rel y.tuple.rel in
-    let k = row_cmp (take 1 x.tuple.vals) (take 1 y.tuple.vals) in
-    let m = and_parts (nat_eq x.tuple.rel y.tuple.rel) (same_values (take 1 x.tuple.vals) (take 1 y.tuple.vals)) b in
+    let k = row_cmp (key_of keys x.tuple) (key_of keys y.tuple) in
+    let m = and_parts (nat_eq x.tuple.rel y.tuple.rel) (same_values (key_of keys x.tuple) (key_of keys y.tuple)) b in
     then_ties (path_cmp x.path y.path) (ordering_then n k) h (is_eq_path_cmp x.path y.path ∙ turned same_path same_path-Decides x.path y.path ∙ a)
-    (three_ties n k (is_eq_nat_cmp x.tuple.rel y.tuple.rel ∙ m.0) (is_eq_row_cmp (take 1 x.tuple.vals) (take 1 y.tuple.vals) ∙ m.1))
+    (three_ties n k (is_eq_nat_cmp x.tuple.rel y.tuple.rel ∙ m.0) (is_eq_row_cmp (key_of keys x.tuple) (key_of keys y.tuple) ∙ m.1))
 
 -- the group of y is above that of x where both are plus
-abbrev plus_below : Stmt → Stmt → Bool
-plus_below x y = not (is_plus x && is_plus y) || is_lt (group_cmp x y)
+abbrev plus_below : (ℕ → ℕ) → Stmt → Stmt → Bool
+plus_below keys x y = not (is_plus x && is_plus y) || is_lt (group_cmp keys x y)
 
-clash_tells : (t u : Tuple) (a b : Sign) → clash (λ _. 1) t a u b ≡ true → (same_tuple t u ≡ true) ⊎ ((a ≡ Plus) × (b ≡ Plus) × (same_key (λ _. 1) t u ≡ true))
-clash_tells t u Plus Plus h = inr (refl, refl, (and_parts (same_key (λ _. 1) t u) (not (same_tuple t u)) h).0)
-clash_tells t u Plus Minus h = inl h
-clash_tells t u Minus Plus h = inl h
-clash_tells t u Minus Minus h = absurd (false≢true h)
+clash_tells : (keys : ℕ → ℕ) (t u : Tuple) (a b : Sign) → clash keys t a u b ≡ true → (same_tuple t u ≡ true) ⊎ ((a ≡ Plus) × (b ≡ Plus) × (same_key keys t u ≡ true))
+clash_tells keys t u Plus Plus h = inr (refl, refl, (and_parts (same_key keys t u) (not (same_tuple t u)) h).0)
+clash_tells keys t u Plus Minus h = inl h
+clash_tells keys t u Minus Plus h = inl h
+clash_tells keys t u Minus Minus h = absurd (false≢true h)
 
-apart_pair : (x y : Stmt) → is_lt (place_cmp x y) ≡ true → plus_below x y ≡ true → not (opposes (λ _. 1) x y) ≡ true
-apart_pair x y h g = by (opposes (λ _. 1) x y) refl
+apart_pair : (keys : ℕ → ℕ) (x y : Stmt) → is_lt (place_cmp x y) ≡ true → plus_below keys x y ≡ true → not (opposes keys x y) ≡ true
+apart_pair keys x y h g = by (opposes keys x y) refl
   where
-    fails : opposes (λ _. 1) x y ≡ true → ⊥
+    fails : opposes keys x y ≡ true → ⊥
     fails o =
-        let k = and_parts (same_path y.path x.path) (clash (λ _. 1) x.tuple x.sign y.tuple y.sign) o in
-        elim (clash_tells x.tuple y.tuple x.sign y.sign k.1) [
+        let k = and_parts (same_path y.path x.path) (clash keys x.tuple x.sign y.tuple y.sign) o in
+        elim (clash_tells keys x.tuple y.tuple x.sign y.sign k.1) [
           | inl e ↦ not_one_tuple x y (is_lt-Less (place_cmp x y) h) k.0 e
-          | inr e ↦ not_one_group x y
-              (is_lt-Less (group_cmp x y) (sym (ap (λ s. not (same_sign s Plus && is_plus y) || is_lt (group_cmp x y)) e.0 ∙ ap (λ s. not (same_sign s Plus) || is_lt (group_cmp x y)) e.1) ∙ g)) k.0 e.2
+          | inr e ↦ not_one_group keys x y
+              (is_lt-Less (group_cmp keys x y)
+              (sym (ap (λ s. not (same_sign s Plus && is_plus y) || is_lt (group_cmp keys x y)) e.0 ∙ ap (λ s. not (same_sign s Plus) || is_lt (group_cmp keys x y)) e.1) ∙ g)) k.0 e.2
         ]
 
-    by : (b : Bool) → opposes (λ _. 1) x y ≡ b → not b ≡ true
+    by : (b : Bool) → opposes keys x y ≡ b → not b ≡ true
     by true o = absurd (fails o)
     by false o = refl
 
-plus_below_all : (x : Stmt) (xs : List Stmt) → ascending group_cmp (filter is_plus (x ∷ xs)) ≡ true → list_all (plus_below x) xs ≡ true
-plus_below_all x xs h = elim (cases_Bool (is_plus x)) [
+plus_below_all : (keys : ℕ → ℕ) (x : Stmt) (xs : List Stmt) → ascending (group_cmp keys) (filter is_plus (x ∷ xs)) ≡ true → list_all (plus_below keys x) xs ≡ true
+plus_below_all keys x xs h = elim (cases_Bool (is_plus x)) [
   | inl e ↦
-      let k = and_parts (list_all (λ y. is_lt (group_cmp x y)) (filter is_plus xs)) (ascending group_cmp (filter is_plus xs)) (sym (ap (ascending group_cmp) (filter_kept_one is_plus x xs e)) ∙ h) in
-      list_all_weaker (λ y. not (is_plus y) || is_lt (group_cmp x y)) (plus_below x) (λ y m. ap (λ b. not (b && is_plus y) || is_lt (group_cmp x y)) e ∙ m) xs
-      (from_filter (λ y. is_lt (group_cmp x y)) is_plus xs k.0)
+      let k = and_parts (list_all (λ y. is_lt (group_cmp keys x y)) (filter is_plus xs)) (ascending (group_cmp keys) (filter is_plus xs)) (sym (ap (ascending (group_cmp keys)) (filter_kept_one is_plus x xs e)) ∙ h) in
+      list_all_weaker (λ y. not (is_plus y) || is_lt (group_cmp keys x y)) (plus_below keys x) (λ y m. ap (λ b. not (b && is_plus y) || is_lt (group_cmp keys x y)) e ∙ m) xs
+      (from_filter (λ y. is_lt (group_cmp keys x y)) is_plus xs k.0)
   | inr e ↦ all_so xs e
 ]
   where
-    all_so : (ys : List Stmt) → is_plus x ≡ false → list_all (plus_below x) ys ≡ true
+    all_so : (ys : List Stmt) → is_plus x ≡ false → list_all (plus_below keys x) ys ≡ true
     all_so [] e = refl
-    all_so (y ∷ ys) e = and_from (plus_below x y) (list_all (plus_below x) ys) (ap (λ b. not (b && is_plus y) || is_lt (group_cmp x y)) e) (all_so ys e)
+    all_so (y ∷ ys) e = and_from (plus_below keys x y) (list_all (plus_below keys x) ys) (ap (λ b. not (b && is_plus y) || is_lt (group_cmp keys x y)) e) (all_so ys e)
 
-plus_rest : (x : Stmt) (xs : List Stmt) → ascending group_cmp (filter is_plus (x ∷ xs)) ≡ true → ascending group_cmp (filter is_plus xs) ≡ true
-plus_rest x xs h = elim (cases_Bool (is_plus x)) [
-  | inl e ↦ (and_parts (list_all (λ y. is_lt (group_cmp x y)) (filter is_plus xs)) (ascending group_cmp (filter is_plus xs)) (sym (ap (ascending group_cmp) (filter_kept_one is_plus x xs e)) ∙ h)).1
-  | inr e ↦ sym (ap (ascending group_cmp) (filter_dropped_one is_plus x xs e)) ∙ h
+plus_rest : (keys : ℕ → ℕ) (x : Stmt) (xs : List Stmt) → ascending (group_cmp keys) (filter is_plus (x ∷ xs)) ≡ true → ascending (group_cmp keys) (filter is_plus xs) ≡ true
+plus_rest keys x xs h = elim (cases_Bool (is_plus x)) [
+  | inl e ↦
+      (and_parts (list_all (λ y. is_lt (group_cmp keys x y)) (filter is_plus xs)) (ascending (group_cmp keys) (filter is_plus xs)) (sym (ap (ascending (group_cmp keys)) (filter_kept_one is_plus x xs e)) ∙ h)).1
+  | inr e ↦ sym (ap (ascending (group_cmp keys)) (filter_dropped_one is_plus x xs e)) ∙ h
 ]
 
-apart_pairs : (xs : List Stmt) → ascending place_cmp xs ≡ true → ascending group_cmp (filter is_plus xs) ≡ true → pairwise (opposes (λ _. 1)) xs ≡ true
-apart_pairs [] h g = refl
-apart_pairs (x ∷ xs) h g =
+apart_pairs : (keys : ℕ → ℕ) (xs : List Stmt) → ascending place_cmp xs ≡ true → ascending (group_cmp keys) (filter is_plus xs) ≡ true → pairwise (opposes keys) xs ≡ true
+apart_pairs keys [] h g = refl
+apart_pairs keys (x ∷ xs) h g =
     let k = and_parts (list_all (λ y. is_lt (place_cmp x y)) xs) (ascending place_cmp xs) h in
-    and_from (list_all (λ y. not (opposes (λ _. 1) x y)) xs) (pairwise (opposes (λ _. 1)) xs)
-    (list_all_both (λ y. is_lt (place_cmp x y)) (plus_below x) (λ y. not (opposes (λ _. 1) x y)) (λ y a b. apart_pair x y a b) xs k.0 (plus_below_all x xs g))
-    (apart_pairs xs k.1 (plus_rest x xs g))
+    and_from (list_all (λ y. not (opposes keys x y)) xs) (pairwise (opposes keys) xs)
+    (list_all_both (λ y. is_lt (place_cmp x y)) (plus_below keys x) (λ y. not (opposes keys x y)) (λ y a b. apart_pair keys x y a b) xs k.0 (plus_below_all keys x xs g))
+    (apart_pairs keys xs k.1 (plus_rest keys x xs g))
 
 in_order : (xs : List Stmt) → ascending place_cmp xs ≡ true → ascending statement_cmp xs ≡ true
 in_order [] h = refl
@@ -367,42 +374,42 @@ in_order (x ∷ xs) h =
 
 -- ---- the tests are exact
 
-abbrev no_clash : List Stmt → Bool
-no_clash xs = none_with (opposes (λ _. 1)) xs xs
+abbrev no_clash : (ℕ → ℕ) → List Stmt → Bool
+no_clash keys xs = none_with (opposes keys) xs xs
 
-record IsApart (xs : List Stmt) : Type 0 where
+record IsApart (keys : ℕ → ℕ) (xs : List Stmt) : Type 0 where
   sorted : ascending statement_cmp xs ≡ true
-  no_clash : no_clash xs ≡ true
+  no_clash : no_clash keys xs ≡ true
 
-apart_holds : (xs : List Stmt) → are_apart xs ≡ true → IsApart xs
-apart_holds xs h =
-    let k = and_parts (climbs place_cmp xs) (plus_climb xs) h in
+apart_holds : (keys : ℕ → ℕ) (xs : List Stmt) → are_apart keys xs ≡ true → IsApart keys xs
+apart_holds keys xs h =
+    let k = and_parts (climbs place_cmp xs) (plus_climb keys xs) h in
     let up = climbs_ascend place_cmp place_total xs k.0 in
-    let plus = climbs_ascend group_cmp group_total (filter is_plus xs) (sym (plus_climb_filtered xs) ∙ k.1) in
-    record { sorted = in_order xs up; no_clash = all_from_pairs (opposes (λ _. 1)) (opposes_turned (λ _. 1)) (opposes_itself (λ _. 1)) xs (apart_pairs xs up plus) }
+    let plus = climbs_ascend (group_cmp keys) (group_total keys) (filter is_plus xs) (sym (plus_climb_filtered keys xs) ∙ k.1) in
+    record { sorted = in_order xs up; no_clash = all_from_pairs (opposes keys) (opposes_turned keys) (opposes_itself keys) xs (apart_pairs keys xs up plus) }
 
 every : (xs : List Stmt) → list_all (λ _. true) xs ≡ true
 every [] = refl
 every (x ∷ xs) = every xs
 
-apart_passes : (xs : List Stmt) → ascending statement_cmp xs ≡ true → no_clash xs ≡ true → are_apart xs ≡ true
-apart_passes xs up free =
-    let pairs = pairs_from_all (opposes (λ _. 1)) xs free in
-    let places = ascending_by statement_cmp place_cmp (opposes (λ _. 1)) (λ _. true) (λ x y _ _ h o. place_below (λ _. 1) x y h o) xs (every xs) pairs up in
-    let groups = ascending_by statement_cmp group_cmp (opposes (λ _. 1)) is_plus group_below (filter is_plus xs) (filter_passes is_plus xs)
-    (pairwise_filter (opposes (λ _. 1)) is_plus xs pairs) (filter_keeps_order statement_exact is_plus xs up) in
-    and_from (climbs place_cmp xs) (plus_climb xs) (ascend_climbs place_cmp xs places) (plus_climb_filtered xs ∙ ascend_climbs group_cmp (filter is_plus xs) groups)
+apart_passes : (keys : ℕ → ℕ) (xs : List Stmt) → ascending statement_cmp xs ≡ true → no_clash keys xs ≡ true → are_apart keys xs ≡ true
+apart_passes keys xs up free =
+    let pairs = pairs_from_all (opposes keys) xs free in
+    let places = ascending_by statement_cmp place_cmp (opposes keys) (λ _. true) (λ x y _ _ h o. place_below keys x y h o) xs (every xs) pairs up in
+    let groups = ascending_by statement_cmp (group_cmp keys) (opposes keys) is_plus (group_below keys) (filter is_plus xs) (filter_passes is_plus xs)
+    (pairwise_filter (opposes keys) is_plus xs pairs) (filter_keeps_order statement_exact is_plus xs up) in
+    and_from (climbs place_cmp xs) (plus_climb keys xs) (ascend_climbs place_cmp xs places) (plus_climb_filtered keys xs ∙ ascend_climbs (group_cmp keys) (filter is_plus xs) groups)
 
 pub statements_hold : (c : Catalog) (xs : List Stmt) → are_consistent c xs ≡ true → are_few xs ≡ true → AreStatements c xs
 statements_hold c xs h few =
-    let k = and_parts (list_all (belongs c) xs) (are_apart xs) h in
-    let a = apart_holds xs k.1 in
+    let k = and_parts (list_all (belongs c) xs) (are_apart (key_lengths c.rels) xs) h in
+    let a = apart_holds (key_lengths c.rels) xs k.1 in
     let n = and_parts (nat_le (length xs) most_statements) (nat_le (tuple_count xs) most_tuples && nat_le (world_count xs) most_worlds) few in
     let m = and_parts (nat_le (tuple_count xs) most_tuples) (nat_le (world_count xs) most_worlds) n.1 in
     record { sorted = a.sorted; belong = k.0; no_clash = a.no_clash; few_stmts = n.0; few_tuples = m.0; few_worlds = m.1 }
 
 pub consistent_passes : (c : Catalog) (xs : List Stmt) → AreStatements c xs → are_consistent c xs ≡ true
-consistent_passes c xs h = and_from (list_all (belongs c) xs) (are_apart xs) h.belong (apart_passes xs h.sorted h.no_clash)
+consistent_passes c xs h = and_from (list_all (belongs c) xs) (are_apart (key_lengths c.rels) xs) h.belong (apart_passes (key_lengths c.rels) xs h.sorted h.no_clash)
 
 pub few_passes : (c : Catalog) (xs : List Stmt) → AreStatements c xs → are_few xs ≡ true
 few_passes c xs h =

@@ -1,21 +1,26 @@
 -- When the explicit rows of tables make the statements of a valid base.
-use Rattle.std.proofs.Common.{◌≡◌, ◌∙◌, ℕ, Bool, true, false, ◌&&◌, ◌||◌, List, [], ◌∷◌, Some, is_some, refl, ap, sym, subst, inl, inr}
+use Rattle.std.proofs.Common.{◌≡◌, ◌∙◌, ℕ, Bool, true, false, ◌&&◌, ◌||◌, List, [], ◌∷◌, Option, Some, None, is_some, refl, ap, sym, subst, inl, inr, lit<}
 use Rattle.std.specs.Bool.{MatchBool}
-use Rattle.std.specs.List.{list_all, list_any, AllByRecursion}
+use Rattle.std.specs.List.{list_all, list_any, slice_get, AllByRecursion}
 use Rattle.std.specs.Ordering.{nat_cmp, is_eq, is_lt, eq_by_cmp, ordering_reverse}
 use Rattle.std.proofs.lemmas.Bool.{and_parts, and_from, cond-true, cond-false, false≢true}
 use Rattle.std.proofs.lemmas.Cmp.{nat_cmp_total, tied_itself}
-use Rattle.bdb_base.specs.Bases.{AreStatements, Contents, IsValid, has_tuple}
+use Rattle.bdb_base.specs.Bases.{AreStatements, Contents, IsCatalog, IsValid, has_tuple, is_valid_relation, key_at, key_lengths}
 use Rattle.bdb_base.specs.Same.{same_tuple}
 use Rattle.bdb_base.specs.SortedSet.{ascending}
 use Rattle.bdb_base.specs.States.{is_state}
 use Rattle.bdb_base.specs.Worlds.{IsConsistent}
 use Rattle.bdb_base.specs.declared.kinds.Catalog.{Catalog}
+use Rattle.bdb_base.specs.declared.kinds.RelDef.{RelDef}
 use Rattle.bdb_base.specs.declared.kinds.Stmt.{Stmt}
 use Rattle.bdb_base.specs.declared.tuple.Tuple.{Tuple}
 use Rattle.bdb_base.proofs.ClashLemmas.{same_tuple_turned}
+use Rattle.bdb_base.proofs.ListLemmas.{list_all_get}
 use Rattle.bdb_base.proofs.SetLemmas.{is_lt-Less}
 use Rattle.bdb_base.proofs.WorldLemmas.{valid_is_consistent}
+use Rattle.bdb_key.specs.Grammar.{IsNum}
+use Rattle.bdb_tables.specs.Rows.{AreKeyLengths}
+use Rattle.bdb_tables.proofs.Fitting.{relation_row}
 use Rattle.bdb_decode.specs.Explicit.{Paths, TupleRows}
 use Rattle.bdb_decode.specs.Items.{item_of, number_cmp}
 use Rattle.bdb_decode.specs.Stated.{all_stated, all_states}
@@ -59,15 +64,23 @@ any_turned [] u = refl
 any_turned (x ∷ stmts) u =
     ap (λ b. b || list_any (λ y. same_tuple y.tuple u) stmts) (same_tuple_turned x.tuple u) ∙ ap (λ b. same_tuple u x.tuple || b) (any_turned stmts u)
 
-consistent : (b : Contents) → IsValid b.catalog b.stmts → IsConsistent (λ _. 1) b.stmts
+-- the keys of a catalog's relations have lengths of four bytes
+pub lengths_of : (c : Catalog) → IsCatalog c → AreKeyLengths (key_lengths c.rels)
+lengths_of c h rel num = by (slice_get c.rels rel) refl
+  where
+    by : (def : Option RelDef) → slice_get c.rels rel ≡ def → IsNum (key_at def)
+    by None e = lit< tt
+    by (Some def) e = (relation_row def (list_all_get is_valid_relation c.rels rel def h.rels_valid e)).short
+
+consistent : (b : Contents) → IsValid b.catalog b.stmts → IsConsistent (key_lengths b.catalog.rels) b.stmts
 consistent b v = valid_is_consistent b.catalog b.stmts v
 
 pub held_bases_are_stated : HeldBasesAreStated
 held_bases_are_stated b ns ts t worlds tuples stmts s v paths named a =
-    held_rows_make_statements b.stmts stmts ns ts t worlds tuples paths named (λ w e. s.worlds w ∙ e) (consistent b v) v.stmts.sorted s.tuples s.rows a
+    held_rows_make_statements (key_lengths b.catalog.rels) b.stmts stmts ns ts t worlds tuples (lengths_of b.catalog v.catalog) paths named (λ w e. s.worlds w ∙ e) (consistent b v) v.stmts.sorted s.tuples s.rows a
 
 pub held_bases_are_whole : HeldBasesAreWhole
-held_bases_are_whole b ns ts t worlds tuples s v paths named up asc (inl (inl m)) = held_rows_have_places b.stmts ns ts t worlds tuples paths named s.tuples s.rows m
+held_bases_are_whole b ns ts t worlds tuples s v paths named up asc (inl (inl m)) = held_rows_have_places (key_lengths b.catalog.rels) b.stmts ns ts t worlds tuples paths named s.tuples s.rows m
 held_bases_are_whole b ns ts t worlds tuples s v paths named up asc (inl (inr m)) = not_too_many b ns ts t worlds tuples s v paths named m
 held_bases_are_whole b ns ts t worlds tuples s v paths named up asc (inr n) =
     let same : n.stmts ≡ b.stmts = held_bases_are_stated b ns ts t worlds tuples n.stmts s v paths named n.stated in

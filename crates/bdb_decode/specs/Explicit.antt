@@ -1,4 +1,5 @@
--- The rows of worlds by the names of worlds and tuples, and the statements that the explicit ones make.
+-- The rows of worlds by the names of worlds and tuples, and the statements that the explicit ones make. `keys` gives the length of
+-- each relation's key.
 use Rattle.std.specs.Prelude.{◌≡◌, ◌⊎◌, ℕ, Bool, true, false, List, [], ◌∷◌, Option, Some, None, cond}
 use Rattle.std.specs.List.{flat_map, list_all}
 use Rattle.std.specs.List.Sorted.{IsPermutation, IsSortedBy}
@@ -30,13 +31,13 @@ abbrev pub TupleRows : Type 0
 TupleRows = List (ℕ × Tuple)
 
 -- a row has its place: its world has a path, its tuple a number, and its relation and key are the tuple's
-abbrev pub is_placed_by : Option (List ℕ) → Option Tuple → ValRow → Bool
-is_placed_by None u e = false
-is_placed_by (Some w) None e = false
-is_placed_by (Some w) (Some u) e = is_of_group e.0.1 e.0.2 u
+abbrev pub is_placed_by : (ℕ → ℕ) → Option (List ℕ) → Option Tuple → ValRow → Bool
+is_placed_by keys None u e = false
+is_placed_by keys (Some w) None e = false
+is_placed_by keys (Some w) (Some u) e = is_of_group keys e.0.1 e.0.2 u
 
-abbrev pub is_placed : Paths → TupleRows → ValRow → Bool
-is_placed worlds tuples e = is_placed_by (item_of worlds e.0.0) (item_of tuples e.0.3) e
+abbrev pub is_placed : (ℕ → ℕ) → Paths → TupleRows → ValRow → Bool
+is_placed keys worlds tuples e = is_placed_by keys (item_of worlds e.0.0) (item_of tuples e.0.3) e
 
 -- a row of a tuple at a path, if it is explicit, as a statement
 abbrev pub said_at : List ℕ → Tuple → ValRow → List Stmt
@@ -52,30 +53,30 @@ abbrev pub said : Paths → TupleRows → ValRow → List Stmt
 said worlds tuples e = said_by (item_of worlds e.0.0) (item_of tuples e.0.3) e
 
 -- these are the rows of table 11, and each has its place
-pub record ArePlaced (t : Tables) (worlds : Paths) (tuples : TupleRows) (rows : List ValRow) : Type 0 where
+pub record ArePlaced (keys : ℕ → ℕ) (t : Tables) (worlds : Paths) (tuples : TupleRows) (rows : List ValRow) : Type 0 where
   pub under : AreUnder val_codec t [] rows
-  pub placed : list_all (is_placed worlds tuples) rows ≡ true
+  pub placed : list_all (is_placed keys worlds tuples) rows ≡ true
 
 -- table 11 has a row that hasn't its place
-pub record HasStray (t : Tables) (worlds : Paths) (tuples : TupleRows) : Type 0 where
+pub record HasStray (keys : ℕ → ℕ) (t : Tables) (worlds : Paths) (tuples : TupleRows) : Type 0 where
   pub row : ValRow
   pub fits : IsValKey row.0
   pub there : tables.get t (place val_codec row.0) ≡ Some (mark_bytes row.1)
-  pub stray : is_placed worlds tuples row ≡ false
+  pub stray : is_placed keys worlds tuples row ≡ false
 
 -- a key or a row is none of table 11, or has not its place
-abbrev pub AreMisplaced : Tables → Paths → TupleRows → Type 0
-AreMisplaced t worlds tuples = Misfits val_codec t ⊎ HasStray t worlds tuples
+abbrev pub AreMisplaced : (ℕ → ℕ) → Tables → Paths → TupleRows → Type 0
+AreMisplaced keys t worlds tuples = Misfits val_codec t ⊎ HasStray keys t worlds tuples
 
 -- the rows of table 11 have their places, and these are the statements that the explicit ones make, row by row
-pub record AreSaid (t : Tables) (worlds : Paths) (tuples : TupleRows) (stmts : List Stmt) : Type 0 where
+pub record AreSaid (keys : ℕ → ℕ) (t : Tables) (worlds : Paths) (tuples : TupleRows) (stmts : List Stmt) : Type 0 where
   pub rows : List ValRow
-  pub are : ArePlaced t worlds tuples rows
+  pub are : ArePlaced keys t worlds tuples rows
   pub said : stmts ≡ flat_map (said worlds tuples) rows
 
 -- the same statements in their order
-pub record AreStated (t : Tables) (worlds : Paths) (tuples : TupleRows) (stmts : List Stmt) : Type 0 where
+pub record AreStated (keys : ℕ → ℕ) (t : Tables) (worlds : Paths) (tuples : TupleRows) (stmts : List Stmt) : Type 0 where
   pub made : List Stmt
-  pub are : AreSaid t worlds tuples made
+  pub are : AreSaid keys t worlds tuples made
   pub moved : IsPermutation made stmts
   pub sorted : IsSortedBy (λ a b. is_lt (statement_cmp a b)) stmts

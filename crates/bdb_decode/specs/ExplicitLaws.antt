@@ -11,7 +11,7 @@ use Rattle.bdb_key.specs.Grammar.{IsNum}
 use Rattle.bdb_tables.specs.InUse.{ValKey, tuple_codec, val_codec}
 use Rattle.bdb_tables.specs.Marks.{Mark}
 use Rattle.bdb_tables.specs.Names.{Names, AreNames, is_named, path_of}
-use Rattle.bdb_tables.specs.Rows.{Tuples, HoldsRows, HoldsTuples}
+use Rattle.bdb_tables.specs.Rows.{AreKeyLengths, Tuples, HoldsRows, HoldsTuples}
 use Rattle.bdb_tables.specs.Writes.{Gives}
 use Rattle.bdb_val.specs.Middle.{HasExplicit, worlds_of}
 use Rattle.bdb_val.specs.Settled.{HasStates}
@@ -32,26 +32,26 @@ pub record HaveNumbers (t : Tables) (tuples : TupleRows) : Type 0 where
 
 -- where no two of the statements that explicit rows make clash at a path, the explicit rows are the statements
 abbrev pub StatedRowsAreExplicit : Type 0
-StatedRowsAreExplicit = (t : Tables) (worlds : Paths) (tuples : TupleRows) (ns : Names) (stmts : List Stmt) (f : ValKey → Option Mark)
-    → HavePaths worlds ns → HaveNumbers t tuples → AreStated t worlds tuples stmts → Gives val_codec t f → IsConsistent (λ _. 1) stmts
-    → HasExplicit stmts (worlds_of ns) (item_of tuples) f t
+StatedRowsAreExplicit = (keys : ℕ → ℕ) (t : Tables) (worlds : Paths) (tuples : TupleRows) (ns : Names) (stmts : List Stmt) (f : ValKey → Option Mark)
+    → AreKeyLengths keys → HavePaths worlds ns → HaveNumbers t tuples → AreStated keys t worlds tuples stmts → Gives val_codec t f → IsConsistent keys stmts
+    → HasExplicit keys stmts (worlds_of ns) (item_of tuples) f t
 
 -- where tables hold the rows of statements, no row of table 11 is foreign or without its place
 abbrev pub HeldRowsHavePlaces : Type 0
-HeldRowsHavePlaces = (stmts : List Stmt) (ns : Names) (ts : Tuples) (t : Tables) (worlds : Paths) (tuples : TupleRows)
-    → HavePaths worlds ns → ((n : ℕ) → ts.tuple n ≡ item_of tuples n) → HoldsTuples stmts ts t → HoldsRows (λ _. 1) stmts (path_of ns) ts.tuple t → AreMisplaced t worlds tuples → ⊥
+HeldRowsHavePlaces = (keys : ℕ → ℕ) (stmts : List Stmt) (ns : Names) (ts : Tuples) (t : Tables) (worlds : Paths) (tuples : TupleRows)
+    → HavePaths worlds ns → ((n : ℕ) → ts.tuple n ≡ item_of tuples n) → HoldsTuples stmts ts t → HoldsRows keys stmts (path_of ns) ts.tuple t → AreMisplaced keys t worlds tuples → ⊥
 
 -- where tables hold the rows of statements, the explicit rows make these statements
 abbrev pub HeldRowsMakeStatements : Type 0
-HeldRowsMakeStatements = (stmts xs : List Stmt) (ns : Names) (ts : Tuples) (t : Tables) (worlds : Paths) (tuples : TupleRows)
-    → HavePaths worlds ns → ((n : ℕ) → ts.tuple n ≡ item_of tuples n) → HasStates stmts (is_named ns) → IsConsistent (λ _. 1) stmts → ascending statement_cmp stmts ≡ true
-    → HoldsTuples stmts ts t → HoldsRows (λ _. 1) stmts (path_of ns) ts.tuple t → AreStated t worlds tuples xs → xs ≡ stmts
+HeldRowsMakeStatements = (keys : ℕ → ℕ) (stmts xs : List Stmt) (ns : Names) (ts : Tuples) (t : Tables) (worlds : Paths) (tuples : TupleRows)
+    → AreKeyLengths keys → HavePaths worlds ns → ((n : ℕ) → ts.tuple n ≡ item_of tuples n) → HasStates stmts (is_named ns) → IsConsistent keys stmts → ascending statement_cmp stmts ≡ true
+    → HoldsTuples stmts ts t → HoldsRows keys stmts (path_of ns) ts.tuple t → AreStated keys t worlds tuples xs → xs ≡ stmts
 
 -- rows that have their places aren't those of tables in which a row is foreign or without its place
 abbrev pub MisplacedHaveNoPlaces : Type 0
-MisplacedHaveNoPlaces = (t : Tables) (worlds : Paths) (tuples : TupleRows) (rows : List ValRow) → AreMisplaced t worlds tuples → ArePlaced t worlds tuples rows → ⊥
+MisplacedHaveNoPlaces = (keys : ℕ → ℕ) (t : Tables) (worlds : Paths) (tuples : TupleRows) (rows : List ValRow) → AreMisplaced keys t worlds tuples → ArePlaced keys t worlds tuples rows → ⊥
 
 -- rows that make statements few enough for a base are neither misplaced nor too many
 abbrev pub FewHaveStatements : Type 0
-FewHaveStatements = (t : Tables) (worlds : Paths) (tuples : TupleRows) (stmts : List Stmt)
-    → AreStated t worlds tuples stmts → length stmts ≤ most_statements → HaveNoStatements t worlds tuples → ⊥
+FewHaveStatements = (keys : ℕ → ℕ) (t : Tables) (worlds : Paths) (tuples : TupleRows) (stmts : List Stmt)
+    → AreStated keys t worlds tuples stmts → length stmts ≤ most_statements → HaveNoStatements keys t worlds tuples → ⊥

@@ -1,24 +1,34 @@
 -- What decoding tables of any bytes tells, and how it ends.
-use Rattle.std.specs.Prelude.{◌≡◌, ℕ, List, Result, Ok, Err}
+use Rattle.std.specs.Prelude.{◌≡◌, ◌⊎◌, ℕ, Result, Ok, Err}
+use Rattle.std.specs.FinMap as tables
 use Rattle.bdb_base.specs.Bases.{Contents}
 use Rattle.bdb_base.specs.Causes.{HasCause}
-use Rattle.bdb_catalog.specs.Opening.{StandFor}
+use Rattle.bdb_catalog.specs.Bases.{StoresValid}
+use Rattle.bdb_catalog.specs.Opening.{StandFor, StoredFormerly}
 use Rattle.bdb_entries.specs.Format.{HasFormat}
 use Rattle.bdb_decode.specs.declared.opening.OpenError.{OpenError}
-use Rattle.bdb_decode.specs.declared.opening.OpenError.TheVariants as refused
 use Rattle.bdb_decode.specs.declared.opening.OpenError.TheVariants.{Damaged, Format, Fault, Memory}
+use Rattle.bdb_decode.specs.declared.opening.Stand.{Stand}
+use Rattle.bdb_decode.specs.declared.opening.Stand.TheVariants.{Empty, Stored, Former}
 use Rattle.bdb_keep.specs.Seen.{Seen, IsAtRest, IsDropped, GoesOn, NeverFall}
 use Rattle.bdb_keep.specs.Tables.{Tables}
 
--- tables stand for no base, and have no other format
+-- how tables stand for a base: they have no row, or store it in this format, or in the one before it
+abbrev pub TellsStand : Tables → Stand → Type 0
+TellsStand t Empty = t ≡ tables.empty
+TellsStand t (Stored b) = StoresValid t b
+TellsStand t (Former b) = StoredFormerly t b
+
+-- tables stand for no base, and have no other format than this one and the one before it
 pub record AreDamaged (t : Tables) : Type 0 where
   pub none : (b : Contents) → StandFor t b → ⊥
-  pub format : (n : ℕ) → HasFormat t n → n ≡ 2
+  pub format : (n : ℕ) → HasFormat t n → (n ≡ 2) ⊎ (n ≡ 3)
 
--- tables have another format than this one's; so they stand for no base
+-- tables have another format than this one and the one before it; so they stand for no base
 pub record HaveOtherFormat (t : Tables) (n : ℕ) : Type 0 where
   pub has : HasFormat t n
-  pub other : n ≡ 2 → ⊥
+  pub other : n ≡ 3 → ⊥
+  pub former : n ≡ 2 → ⊥
   pub none : (b : Contents) → StandFor t b → ⊥
 
 -- the rows are as they were, and a transaction that ran still runs

@@ -27,7 +27,7 @@ StoreNone t = (b : Contents) → StoresValid t b → ⊥
 
 -- tables of this format: every key and row is in the grammar, and no other table has a row
 pub record AreFormed (t : Tables) : Type 0 where
-  pub format : HasFormat t 2
+  pub format : HasFormat t 3
   pub grammar : InGrammar t
   pub others : OthersAreBare t
 
@@ -59,10 +59,10 @@ pub record AreLinks (t : Tables) (worlds : Paths) (links : List (ℕ × Option �
   pub each : AllByRecursion (λ (x : ℕ × Option ℕ). HasAt link_codec t x.0 x.1) links
 
 -- whether tables hold the rows of worlds, each linked as the tables say
-pub record TellsRowsOf (t : Tables) (worlds : Paths) (b : Bool) : Type 0 where
+pub record TellsRowsOf (keys : ℕ → ℕ) (t : Tables) (worlds : Paths) (b : Bool) : Type 0 where
   pub links : List (ℕ × Option ℕ)
   pub linked : AreLinks t worlds links
-  pub told : TellsRows t links b
+  pub told : TellsRows keys t links b
 
 -- ---- all parts
 

@@ -1,4 +1,5 @@
 -- Whether the rows of a world are settled over those of the world to which its suffix link leads, as a test that goes along them.
+-- `keys` gives the length of each relation's key.
 use Rattle.std.specs.Prelude.{ℕ, Bool, false, not, ◌&&◌, ◌||◌, List, filter, Option, Some, None, is_some}
 use Rattle.std.specs.List.{list_all}
 use Rattle.bdb_base.specs.Same.{same_sign}
@@ -21,17 +22,17 @@ has_sign s None = false
 has_sign s (Some m) = same_sign m.0 s
 
 -- an inherited row clashes with no explicit one, and its tuple has its sign in the other world
-abbrev pub is_fitting : List Stored → List Stored → Stored → Bool
-is_fitting stated from x = not (barred_by (λ _. 1) stated x.tuple x.mark.0) && has_sign x.mark.0 (mark_in from x.tid)
+abbrev pub is_fitting : (ℕ → ℕ) → List Stored → List Stored → Stored → Bool
+is_fitting keys stated from x = not (barred_by keys stated x.tuple x.mark.0) && has_sign x.mark.0 (mark_in from x.tid)
 
 -- a row of the other world clashes with an explicit one, or its tuple has a row
-abbrev pub is_passed : List Stored → List Stored → Stored → Bool
-is_passed stated inherited y = barred_by (λ _. 1) stated y.tuple y.mark.0 || (is_some (mark_in stated y.tid) || is_some (mark_in inherited y.tid))
+abbrev pub is_passed : (ℕ → ℕ) → List Stored → List Stored → Stored → Bool
+is_passed keys stated inherited y = barred_by keys stated y.tuple y.mark.0 || (is_some (mark_in stated y.tid) || is_some (mark_in inherited y.tid))
 
 -- a world with these explicit rows and these inherited ones is settled over the rows of the other world
-abbrev pub are_settled : List Stored → List Stored → List Stored → Bool
-are_settled stated inherited from = list_all (is_fitting stated from) inherited && list_all (is_passed stated inherited) from
+abbrev pub are_settled : (ℕ → ℕ) → List Stored → List Stored → List Stored → Bool
+are_settled keys stated inherited from = list_all (is_fitting keys stated from) inherited && list_all (is_passed keys stated inherited) from
 
 -- the rows of a world are settled over those of the other world
-abbrev pub settles : List Stored → List Stored → Bool
-settles own from = are_settled (filter is_explicit own) (filter is_inherited own) from
+abbrev pub settles : (ℕ → ℕ) → List Stored → List Stored → Bool
+settles keys own from = are_settled keys (filter is_explicit own) (filter is_inherited own) from

@@ -1,5 +1,6 @@
 // The rows of the worlds in tables of any bytes.
 ghost use Rattle.std.specs.Prelude.{◌≡◌, ◌++◌, ◌∷◌, [], true, filter, IfOk, OnOk};
+ghost use Rattle.bdb_base.specs.Bases.{key_lengths};
 ghost use Rattle.bdb_keep.specs.Calls.{IsRead};
 ghost use Rattle.bdb_tables.specs.Grammar.{InGrammar};
 ghost use Rattle.bdb_val.specs.Reads.{AreReadUnder, world_prefix};
@@ -9,6 +10,7 @@ ghost use Rattle.bdb_decode.specs.SettledRows.{AreKeyed, AreLinked, TellsRows, T
 ghost use Rattle.bdb_decode.specs.Settles.{is_explicit, is_inherited, settles};
 
 use crate::settles::are_settled;
+use bdb_base::Catalog;
 use bdb_keep::Keeper;
 use bdb_tables::TabError;
 use bdb_val::{Stored, read_world};
@@ -22,20 +24,21 @@ struct Linked {
 }
 
 /// Whether the tables hold the rows of the worlds, for the statements that the explicit rows are. The worlds are those that
-/// have names, each with the number to which its suffix link leads. Each row is of a world and a tuple that there are: rows
-/// that have their places are. The rows of two worlds at a time are kept. Where the worlds come in order of their links, those
-/// of a world to which links lead are read twice, however many lead there.
+/// have names, each with the number to which its suffix link leads. Each row is of a world and a tuple that there are, with the
+/// tuple's key by the relations of the catalog: rows that have their places are. The rows of two worlds at a time are kept. Where
+/// the worlds come in order of their links, those of a world to which links lead are read twice, however many lead there.
 pub fn are_rows_held<K: Keeper>(
     alloc: Global,
     keeper: &mut K,
+    catalog: &Catalog,
     worlds: &[(u32, Option<u32>)],
 ) -> Result<bool, TabError>
     requires grammar { InGrammar (K.seen keeper.old).kept }
-    requires keyed { AreKeyed (K.seen keeper.old).kept }
-    ensures held { IfOk result (TellsRows (K.seen keeper.old).kept worlds.now) }
+    requires keyed { AreKeyed (key_lengths catalog.now.rels) (K.seen keeper.old).kept }
+    ensures held { IfOk result (TellsRows (key_lengths catalog.now.rels) (K.seen keeper.old).kept worlds.now) }
     ensures reading { OnlyReads (K.seen keeper.old) (K.seen keeper.new) result TabError.Fault }
 {
-    match are_worlds_settled(alloc, keeper, worlds) {
+    match are_worlds_settled(alloc, keeper, catalog, worlds) {
         Ok(settled) => Ok(settled),
         Err(error) => Err(error),
     }
@@ -45,11 +48,12 @@ pub fn are_rows_held<K: Keeper>(
 fn are_worlds_settled<K: Keeper>(
     alloc: Global,
     keeper: &mut K,
+    catalog: &Catalog,
     worlds: &[(u32, Option<u32>)],
 ) -> Result<bool, TabError>
     requires grammar { InGrammar (K.seen keeper.old).kept }
-    requires keyed { AreKeyed (K.seen keeper.old).kept }
-    ensures settled { IfOk result (TellsWorlds (K.seen keeper.old).kept worlds.now) }
+    requires keyed { AreKeyed (key_lengths catalog.now.rels) (K.seen keeper.old).kept }
+    ensures settled { IfOk result (TellsWorlds (key_lengths catalog.now.rels) (K.seen keeper.old).kept worlds.now) }
     ensures reading { OnlyReads (K.seen keeper.old) (K.seen keeper.new) result TabError.Fault }
 {
     let mut linked = Linked {
@@ -57,7 +61,7 @@ fn are_worlds_settled<K: Keeper>(
         rows: Vec::new(alloc),
     };
     for world in worlds {
-        match is_world_settled(alloc, keeper, world, &mut linked) {
+        match is_world_settled(alloc, keeper, catalog, world, &mut linked) {
             Ok(true) => {}
             Ok(false) => return Ok(false),
             Err(error) => return Err(error),
@@ -70,25 +74,26 @@ fn are_worlds_settled<K: Keeper>(
 fn is_world_settled<K: Keeper>(
     alloc: Global,
     keeper: &mut K,
+    catalog: &Catalog,
     world: &(u32, Option<u32>),
     linked: &mut Linked,
 ) -> Result<bool, TabError>
     requires grammar { InGrammar (K.seen keeper.old).kept }
-    requires keyed { AreKeyed (K.seen keeper.old).kept }
+    requires keyed { AreKeyed (key_lengths catalog.now.rels) (K.seen keeper.old).kept }
     requires linked { AreLinked (K.seen keeper.old).kept linked.old.link linked.old.rows.items }
-    ensures told { IfOk result (TellsWorld (K.seen keeper.old).kept world.now) }
+    ensures told { IfOk result (TellsWorld (key_lengths catalog.now.rels) (K.seen keeper.old).kept world.now) }
     ensures linked { OnOk result (AreLinked (K.seen keeper.old).kept linked.new.link linked.new.rows.items) }
     ensures read { IsRead (K.seen keeper.old) (K.seen keeper.new) result TabError.Fault }
 {
-    let own = match read_rows(alloc, keeper, world.0) {
+    let own = match read_rows(alloc, keeper, catalog, world.0) {
         Ok(own) => own,
         Err(error) => return Err(error),
     };
-    match follow(alloc, keeper, world.1, linked) {
+    match follow(alloc, keeper, catalog, world.1, linked) {
         Ok(()) => {}
         Err(error) => return Err(error),
     }
-    match settles(alloc, own, &linked.rows) {
+    match settles(alloc, catalog, own, &linked.rows) {
         Ok(settled) => Ok(settled),
         Err(_) => {
             keeper.undo();
@@ -101,11 +106,12 @@ fn is_world_settled<K: Keeper>(
 fn follow<K: Keeper>(
     alloc: Global,
     keeper: &mut K,
+    catalog: &Catalog,
     link: Option<u32>,
     linked: &mut Linked,
 ) -> Result<(), TabError>
     requires grammar { InGrammar (K.seen keeper.old).kept }
-    requires keyed { AreKeyed (K.seen keeper.old).kept }
+    requires keyed { AreKeyed (key_lengths catalog.now.rels) (K.seen keeper.old).kept }
     requires linked { AreLinked (K.seen keeper.old).kept linked.old.link linked.old.rows.items }
     ensures link { OnOk result (linked.new.link ≡ link) }
     ensures linked { OnOk result (AreLinked (K.seen keeper.old).kept link linked.new.rows.items) }
@@ -114,7 +120,7 @@ fn follow<K: Keeper>(
     if is_same_link(linked.link, link) {
         return Ok(());
     }
-    match read_linked(alloc, keeper, link) {
+    match read_linked(alloc, keeper, catalog, link) {
         Ok(rows) => {
             linked.link = link;
             linked.rows = rows;
@@ -139,15 +145,16 @@ fn is_same_link(a: Option<u32>, b: Option<u32>) -> bool
 fn read_linked<K: Keeper>(
     alloc: Global,
     keeper: &mut K,
+    catalog: &Catalog,
     link: Option<u32>,
 ) -> Result<Vec<Stored>, TabError>
     requires grammar { InGrammar (K.seen keeper.old).kept }
-    requires keyed { AreKeyed (K.seen keeper.old).kept }
+    requires keyed { AreKeyed (key_lengths catalog.now.rels) (K.seen keeper.old).kept }
     ensures rows { IfOk result (λ rows. AreLinked (K.seen keeper.old).kept link rows.items) }
     ensures reading { OnlyReads (K.seen keeper.old) (K.seen keeper.new) result TabError.Fault }
 {
     match link {
-        Some(wid) => match read_rows(alloc, keeper, wid) {
+        Some(wid) => match read_rows(alloc, keeper, catalog, wid) {
             Ok(rows) => Ok(rows),
             Err(error) => Err(error),
         },
@@ -156,9 +163,14 @@ fn read_linked<K: Keeper>(
 }
 
 // The rows of a world, of which no two are of one tuple.
-fn read_rows<K: Keeper>(alloc: Global, keeper: &mut K, wid: u32) -> Result<Vec<Stored>, TabError>
+fn read_rows<K: Keeper>(
+    alloc: Global,
+    keeper: &mut K,
+    catalog: &Catalog,
+    wid: u32,
+) -> Result<Vec<Stored>, TabError>
     requires grammar { InGrammar (K.seen keeper.old).kept }
-    requires keyed { AreKeyed (K.seen keeper.old).kept }
+    requires keyed { AreKeyed (key_lengths catalog.now.rels) (K.seen keeper.old).kept }
     ensures rows { IfOk result (λ rows. AreReadUnder (K.seen keeper.old).kept (world_prefix wid) rows.items) }
     ensures apart { IfOk result (λ rows. are_apart rows.items ≡ true) }
     ensures read { IsRead (K.seen keeper.old) (K.seen keeper.new) result TabError.Fault }
@@ -170,16 +182,21 @@ fn read_rows<K: Keeper>(alloc: Global, keeper: &mut K, wid: u32) -> Result<Vec<S
 }
 
 // Whether the rows of a world are settled over those of another one.
-fn settles(alloc: Global, own: Vec<Stored>, from: &[Stored]) -> Result<bool, AllocError>
+fn settles(
+    alloc: Global,
+    catalog: &Catalog,
+    own: Vec<Stored>,
+    from: &[Stored],
+) -> Result<bool, AllocError>
     requires from { are_apart from.now ≡ true }
-    ensures { IfOk result (λ settled. settled ≡ settles own.items from.now) }
+    ensures { IfOk result (λ settled. settled ≡ settles (key_lengths catalog.now.rels) own.items from.now) }
 {
     let mut stated = Vec::new(alloc);
     let mut inherited = Vec::new(alloc);
     for row in own {
         put_row(&mut stated, &mut inherited, row)?;
     }
-    Ok(are_settled(&stated, &inherited, from))
+    Ok(are_settled(catalog, &stated, &inherited, from))
 }
 
 // Adds a row to the explicit ones, or else to the inherited ones.

@@ -14,19 +14,27 @@ use crate::linking::hold_rows_of;
 use crate::parts::{Parts, raw_parts};
 use crate::whole::raw_base_statements;
 use bdb_base::{Base, List};
-use bdb_entries::{Format, TABLES, is_bare, is_in_grammar, others_are_bare, read_format};
+use bdb_entries::{Format, TABLES, is_bare, is_in_grammar, others_are_bare, read_format, told};
+use bdb_former::respelled_copy;
 use bdb_keep::Keeper;
 use bdb_tables::TabError;
 use std::alloc::Global;
 
-/// The format of tables that are read here.
-const FORMAT: u32 = 2;
+/// This format.
+const FORMAT: u32 = 3;
+
+/// The format before this one.
+const FORMER: u32 = 2;
 
 /// What tables are.
 #[derive(Drop)]
 pub enum Verdict {
-    /// They stand for this base.
+    /// They have no row, and stand for the empty base.
+    Empty,
+    /// They store this base.
     Held(Base),
+    /// They store this base in the format before this one.
+    Former(Base),
     /// They stand for no base.
     Damaged,
     /// They are of another format, which is told.
@@ -40,7 +48,7 @@ pub fn judge<K: Keeper>(alloc: Global, keeper: &mut K) -> Result<Verdict, TabErr
     ensures reading { OnlyReads (K.seen keeper.old) (K.seen keeper.new) result TabError.Fault }
 {
     match is_empty(alloc, keeper) {
-        Ok(true) => return Ok(Verdict::Held(Base::empty(alloc))),
+        Ok(true) => return Ok(Verdict::Empty),
         Ok(false) => {}
         Err(error) => return Err(error),
     }
@@ -84,6 +92,12 @@ fn judge_format<K: Keeper>(alloc: Global, keeper: &mut K, number: u32) -> Result
     ensures verdict { IfOk result (TellsVerdict (K.seen keeper.old).kept) }
     ensures reading { OnlyReads (K.seen keeper.old) (K.seen keeper.new) result TabError.Fault }
 {
+    if number == FORMER {
+        return match judge_former(alloc, keeper) {
+            Ok(verdict) => Ok(verdict),
+            Err(error) => Err(error),
+        };
+    }
     if number != FORMAT {
         return Ok(Verdict::Format(number));
     }
@@ -94,10 +108,31 @@ fn judge_format<K: Keeper>(alloc: Global, keeper: &mut K, number: u32) -> Result
     }
 }
 
+// What tables of the format before this one are, told by a copy of their rows in memory, spelled as this format spells them.
+fn judge_former<K: Keeper>(alloc: Global, keeper: &mut K) -> Result<Verdict, TabError>
+    requires tables { LieInTables (K.seen keeper.old).kept }
+    requires format { HasFormat (K.seen keeper.old).kept 2 }
+    ensures verdict { IfOk result (TellsVerdict (K.seen keeper.old).kept) }
+    ensures reading { OnlyReads (K.seen keeper.old) (K.seen keeper.new) result TabError.Fault }
+{
+    let mut copy = match respelled_copy(alloc, keeper) {
+        Ok(copy) => copy,
+        Err(error) => return Err(told(error)),
+    };
+    match raw_base(alloc, &mut copy) {
+        Ok(Some(base)) => Ok(Verdict::Former(base)),
+        Ok(None) => Ok(Verdict::Damaged),
+        Err(_) => {
+            keeper.undo();
+            Err(TabError::Memory)
+        }
+    }
+}
+
 // The base that tables of this format store. None exactly where they store no valid base.
 fn raw_base<K: Keeper>(alloc: Global, keeper: &mut K) -> Result<Option<Base>, TabError>
     requires tables { LieInTables (K.seen keeper.old).kept }
-    requires format { HasFormat (K.seen keeper.old).kept 2 }
+    requires format { HasFormat (K.seen keeper.old).kept 3 }
     ensures base { IfOk result (λ r. MatchOption r (StoreNone (K.seen keeper.old).kept) (StoresValid (K.seen keeper.old).kept)) }
     ensures reading { OnlyReads (K.seen keeper.old) (K.seen keeper.new) result TabError.Fault }
 {
@@ -120,7 +155,7 @@ fn raw_base<K: Keeper>(alloc: Global, keeper: &mut K) -> Result<Option<Base>, Ta
 // Whether every key and row of tables of this format is in the grammar, and no other table has a row.
 fn are_formed<K: Keeper>(alloc: Global, keeper: &mut K) -> Result<bool, TabError>
     requires tables { LieInTables (K.seen keeper.old).kept }
-    requires format { HasFormat (K.seen keeper.old).kept 2 }
+    requires format { HasFormat (K.seen keeper.old).kept 3 }
     ensures formed { IfOk result (λ formed. MatchBool formed (AreFormed (K.seen keeper.old).kept) (StoreNone (K.seen keeper.old).kept)) }
     ensures reading { OnlyReads (K.seen keeper.old) (K.seen keeper.new) result TabError.Fault }
 {
@@ -152,7 +187,7 @@ fn base_of<K: Keeper>(alloc: Global, keeper: &mut K, parts: Parts) -> Result<Opt
         Ok(None) => return Ok(None),
         Err(error) => return Err(error),
     };
-    match hold_rows_of(alloc, keeper, &paths) {
+    match hold_rows_of(alloc, keeper, &catalog, &paths) {
         Ok(true) => Ok(Some(Base::from_parts(catalog, List::from_vec(stmts)))),
         Ok(false) => Ok(None),
         Err(error) => Err(error),

@@ -1,6 +1,6 @@
 // What holds of tables of any bytes, each law as the contract of a function that does nothing.
 ghost use Rattle.bdb_decode.specs.ExplicitLaws.{FewHaveStatements, HeldRowsHavePlaces, HeldRowsMakeStatements, MisplacedHaveNoPlaces, StatedRowsAreExplicit};
-ghost use Rattle.bdb_decode.specs.Laws.{OneBaseAtMost, OthersStandForNone};
+ghost use Rattle.bdb_decode.specs.Laws.{FormerKeysHaveOneColumn, OneBaseAtMost, OthersStandForNone};
 ghost use Rattle.bdb_decode.specs.SettledRows.{PlacedRowsAreKeyed};
 ghost use Rattle.bdb_decode.specs.Whole.{BaseStatementsAreHeld, HeldBasesAreStated, HeldBasesAreWhole};
 
@@ -9,9 +9,14 @@ pub fn one_base_at_most()
     ensures { OneBaseAtMost }
 {}
 
-/// Tables of another format stand for no base.
+/// Tables of another format than this one and the one before it stand for no base.
 pub fn others_stand_for_none()
     ensures { OthersStandForNone }
+{}
+
+/// A base that tables store in the format before this one has keys of one column.
+pub fn former_keys_have_one_column()
+    ensures { FormerKeysHaveOneColumn }
 {}
 
 /// Where no two of the statements that explicit rows make clash at a path, the explicit rows are the statements.

@@ -1,5 +1,6 @@
 // Where the suffix links of worlds lead in tables of any bytes, and whether the tables hold the rows of the worlds.
 ghost use Rattle.std.specs.Prelude.{IfOk};
+ghost use Rattle.bdb_base.specs.Bases.{key_lengths};
 ghost use Rattle.bdb_keep.specs.Calls.{IsRead};
 ghost use Rattle.bdb_tables.specs.Grammar.{InGrammar};
 ghost use Rattle.bdb_entries.specs.Reading.{OnlyReads};
@@ -7,27 +8,29 @@ ghost use Rattle.bdb_decode.specs.Parts.{AreLinks, IsLink, TellsRowsOf};
 ghost use Rattle.bdb_decode.specs.SettledRows.{AreKeyed};
 
 use crate::held_rows::are_rows_held;
-use bdb_base::Path;
+use bdb_base::{Catalog, Path};
 use bdb_keep::Keeper;
 use bdb_tables::{SuffixTab, TabError, get};
 use std::alloc::Global;
 
-/// Whether the tables hold the rows of the worlds, each linked as the tables say.
+/// Whether the tables hold the rows of the worlds, each linked as the tables say. The relations of the catalog tell how long
+/// keys are.
 pub fn hold_rows_of<K: Keeper>(
     alloc: Global,
     keeper: &mut K,
+    catalog: &Catalog,
     worlds: &[(u32, Path)],
 ) -> Result<bool, TabError>
     requires grammar { InGrammar (K.seen keeper.old).kept }
-    requires keyed { AreKeyed (K.seen keeper.old).kept }
-    ensures held { IfOk result (TellsRowsOf (K.seen keeper.old).kept worlds.now) }
+    requires keyed { AreKeyed (key_lengths catalog.now.rels) (K.seen keeper.old).kept }
+    ensures held { IfOk result (TellsRowsOf (key_lengths catalog.now.rels) (K.seen keeper.old).kept worlds.now) }
     ensures reading { OnlyReads (K.seen keeper.old) (K.seen keeper.new) result TabError.Fault }
 {
     let links = match links_of(alloc, keeper, worlds) {
         Ok(links) => links,
         Err(error) => return Err(error),
     };
-    match are_rows_held(alloc, keeper, &links) {
+    match are_rows_held(alloc, keeper, catalog, &links) {
         Ok(held) => Ok(held),
         Err(error) => Err(error),
     }

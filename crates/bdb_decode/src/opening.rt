@@ -1,7 +1,7 @@
 // The base for which tables of any bytes stand.
 ghost use Rattle.std.specs.Prelude.{ℕ, IfOk, IsErrOf};
 ghost use Rattle.bdb_catalog.specs.Opening.{StandFor};
-ghost use Rattle.bdb_decode.specs.Opening.{AreDamaged, EndsReading, HaveOtherFormat};
+ghost use Rattle.bdb_decode.specs.Opening.{AreDamaged, EndsReading, HaveOtherFormat, TellsStand};
 
 use crate::judging::{Verdict, judge};
 use bdb_base::Base;
@@ -27,21 +27,50 @@ pub enum OpenError {
     Memory,
 }
 
-/// The base for which the tables stand; no rows at all stand for the empty base. `Format` comes exactly where the table of the
-/// format is one row of the right key and form with another number than this format's, and `Damaged` exactly where the tables stand
-/// for no base and that isn't so. Nothing is written. After both the rows, what is committed and a running transaction are as they
-/// were; after `Fault` and `Memory` no transaction runs.
+/// How tables stand for a base.
+#[derive(Drop)]
+pub enum Stand {
+    /// They have no row, and stand for the empty base.
+    Empty,
+    /// They store this base.
+    Stored(Base),
+    /// They store this base in the format before this one.
+    Former(Base),
+}
+
+/// How the tables stand for a base. `Format` comes exactly where the table of the format is one row of the right key and form with a
+/// number that is neither this format's nor that of the one before it, and `Damaged` exactly where the tables stand for no base and
+/// that isn't so. Nothing is written. After both the rows, what is committed and a running transaction are as they were; after
+/// `Fault` and `Memory` no transaction runs.
+pub fn stand_of<K: Keeper>(alloc: Global, keeper: &mut K) -> Result<Stand, OpenError>
+    ensures stand { IfOk result (TellsStand (K.seen keeper.old).kept) }
+    ensures damaged { IsErrOf result OpenError.Damaged → AreDamaged (K.seen keeper.old).kept }
+    ensures format { (n : ℕ) → IsErrOf result (OpenError.Format n) → HaveOtherFormat (K.seen keeper.old).kept n }
+    ensures ends { EndsReading (K.seen keeper.old) (K.seen keeper.new) result }
+{
+    match judge(alloc, keeper) {
+        Ok(Verdict::Empty) => Ok(Stand::Empty),
+        Ok(Verdict::Held(base)) => Ok(Stand::Stored(base)),
+        Ok(Verdict::Former(base)) => Ok(Stand::Former(base)),
+        Ok(Verdict::Damaged) => Err(OpenError::Damaged),
+        Ok(Verdict::Format(number)) => Err(OpenError::Format(number)),
+        Err(TabError::Fault) => Err(OpenError::Fault),
+        Err(TabError::Memory) => Err(OpenError::Memory),
+    }
+}
+
+/// The base for which the tables stand, in this format or in the one before it; no rows at all stand for the empty base. The
+/// refusals are those of `stand_of`.
 pub fn decode<K: Keeper>(alloc: Global, keeper: &mut K) -> Result<Base, OpenError>
     ensures base { IfOk result (λ base. StandFor (K.seen keeper.old).kept base) }
     ensures damaged { IsErrOf result OpenError.Damaged → AreDamaged (K.seen keeper.old).kept }
     ensures format { (n : ℕ) → IsErrOf result (OpenError.Format n) → HaveOtherFormat (K.seen keeper.old).kept n }
     ensures ends { EndsReading (K.seen keeper.old) (K.seen keeper.new) result }
 {
-    match judge(alloc, keeper) {
-        Ok(Verdict::Held(base)) => Ok(base),
-        Ok(Verdict::Damaged) => Err(OpenError::Damaged),
-        Ok(Verdict::Format(number)) => Err(OpenError::Format(number)),
-        Err(TabError::Fault) => Err(OpenError::Fault),
-        Err(TabError::Memory) => Err(OpenError::Memory),
+    match stand_of(alloc, keeper) {
+        Ok(Stand::Empty) => Ok(Base::empty(alloc)),
+        Ok(Stand::Stored(base)) => Ok(base),
+        Ok(Stand::Former(base)) => Ok(base),
+        Err(error) => Err(error),
     }
 }

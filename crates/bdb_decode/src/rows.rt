@@ -2,20 +2,22 @@
 ghost use Rattle.std.specs.Prelude.{◌≡◌, ◌≤◌, ◌++◌, true, length, IfOk, IfSome, OnOk, MatchOption};
 ghost use Rattle.std.specs.List.Sorted.{IsPermutation, IsSortedBy};
 ghost use Rattle.std.specs.Ordering.{is_lt};
+ghost use Rattle.bdb_base.specs.Bases.{key_lengths};
+ghost use Rattle.bdb_base.specs.Clash.{key_of};
 ghost use Rattle.bdb_base.specs.Limits.{most_statements};
 ghost use Rattle.bdb_base.specs.Order.{statement_cmp};
 ghost use Rattle.bdb_base.specs.SortedSet.{ascending};
 ghost use Rattle.bdb_keep.specs.Calls.{IsRead};
-ghost use Rattle.bdb_base.specs.Same.{same_value};
+ghost use Rattle.bdb_base.specs.Same.{same_values};
 ghost use Rattle.bdb_val.specs.Reads.{is_of_group};
-ghost use Rattle.bdb_val.specs.Settling.{key_value};
 ghost use Rattle.bdb_decode.specs.Explicit.{AreSaid, AreStated, is_placed, said, said_at};
 ghost use Rattle.bdb_decode.specs.Items.{number_cmp};
 ghost use Rattle.bdb_decode.specs.Many.{HaveNoStatements};
 
 use crate::items::item_of;
+use crate::keys::key_in;
 use crate::limits::are_too_many;
-use bdb_base::{Exact, Path, Sign, Stmt, Tuple, Value, cmp_stmt, first_value, same_value};
+use bdb_base::{Catalog, Exact, List, Path, Sign, Stmt, Tuple, Value, cmp_stmt, same_values};
 use bdb_entries::next_raw;
 use bdb_keep::Keeper;
 use bdb_tables::{Room, TabError, ValTab};
@@ -23,24 +25,27 @@ use std::alloc::{AllocError, Global};
 use std::cmp::Ordering;
 
 /// A row of table 11: a world, a relation, a key and a tuple, each but the key by its number; a sign, and whether it is explicit.
-pub type ValRow = ((u32, u32, Value, u32), (Sign, bool));
+pub type ValRow = ((u32, u32, List<Value>, u32), (Sign, bool));
 
 /// The statements that the explicit rows make, in order, where each row's world has a path, its tuple a number, and its
-/// relation and key are the tuple's. None exactly where this isn't so of some row, or the rows make more statements than a base
-/// may have: it comes as soon as they do. One read more than there are rows at most, of which none is kept.
+/// relation and key are the tuple's, by the relations of the catalog. None exactly where this isn't so of some row, or the rows
+/// make more statements than a base may have: it comes as soon as they do. One read more than there are rows at most, of which
+/// none is kept.
 pub fn raw_statements<K: Keeper>(
     alloc: Global,
     keeper: &mut K,
+    catalog: &Catalog,
     worlds: &[(u32, Path)],
     tuples: &[(u32, Tuple)],
 ) -> Result<Option<Vec<Stmt>>, TabError>
     requires worlds { ascending number_cmp worlds.now ≡ true }
     requires tuples { ascending number_cmp tuples.now ≡ true }
-    ensures statements { IfOk result (λ r. MatchOption r (HaveNoStatements (K.seen keeper.old).kept worlds.now tuples.now) (λ stmts. AreStated (K.seen keeper.old).kept worlds.now tuples.now stmts.items)) }
+    ensures statements { IfOk result (λ r. MatchOption r (HaveNoStatements (key_lengths catalog.now.rels) (K.seen keeper.old).kept worlds.now tuples.now)
+        (λ stmts. AreStated (key_lengths catalog.now.rels) (K.seen keeper.old).kept worlds.now tuples.now stmts.items)) }
     ensures few { IfOk result (λ r. IfSome r (λ stmts. length stmts.items ≤ most_statements)) }
     ensures read { IsRead (K.seen keeper.old) (K.seen keeper.new) result TabError.Fault }
 {
-    match said_statements(alloc, keeper, worlds, tuples) {
+    match said_statements(alloc, keeper, catalog, worlds, tuples) {
         Ok(Some(made)) => match in_order(made) {
             Ok(stmts) => Ok(Some(stmts)),
             Err(_) => {
@@ -73,12 +78,14 @@ fn by_place(a: &Stmt, b: &Stmt) -> Ordering
 fn said_statements<K: Keeper>(
     alloc: Global,
     keeper: &mut K,
+    catalog: &Catalog,
     worlds: &[(u32, Path)],
     tuples: &[(u32, Tuple)],
 ) -> Result<Option<Vec<Stmt>>, TabError>
     requires worlds { ascending number_cmp worlds.now ≡ true }
     requires tuples { ascending number_cmp tuples.now ≡ true }
-    ensures statements { IfOk result (λ r. MatchOption r (HaveNoStatements (K.seen keeper.old).kept worlds.now tuples.now) (λ stmts. AreSaid (K.seen keeper.old).kept worlds.now tuples.now stmts.items)) }
+    ensures statements { IfOk result (λ r. MatchOption r (HaveNoStatements (key_lengths catalog.now.rels) (K.seen keeper.old).kept worlds.now tuples.now)
+        (λ stmts. AreSaid (key_lengths catalog.now.rels) (K.seen keeper.old).kept worlds.now tuples.now stmts.items)) }
     ensures few { IfOk result (λ r. IfSome r (λ stmts. length stmts.items ≤ most_statements)) }
     ensures read { IsRead (K.seen keeper.old) (K.seen keeper.new) result TabError.Fault }
 {
@@ -87,7 +94,9 @@ fn said_statements<K: Keeper>(
     let mut room = Room::new(alloc);
     for _ in 0..u64::MAX {
         match next_raw::<ValTab, K>(alloc, keeper, &mut low, &mut room) {
-            Ok(Some(Some(row))) => match push_said(alloc, worlds, tuples, &row, &mut stmts) {
+            Ok(Some(Some(row))) => match push_said(
+                alloc, catalog, worlds, tuples, &row, &mut stmts,
+            ) {
                 Ok(true) => {
                     if are_too_many(&stmts) {
                         return Ok(None);
@@ -111,6 +120,7 @@ fn said_statements<K: Keeper>(
 // Appends the statement that a row makes, if it is explicit. False where the row hasn't its place.
 fn push_said(
     alloc: Global,
+    catalog: &Catalog,
     worlds: &[(u32, Path)],
     tuples: &[(u32, Tuple)],
     row: &ValRow,
@@ -118,12 +128,12 @@ fn push_said(
 ) -> Result<bool, AllocError>
     requires worlds { ascending number_cmp worlds.now ≡ true }
     requires tuples { ascending number_cmp tuples.now ≡ true }
-    ensures placed { IfOk result (λ placed. placed ≡ is_placed worlds.now tuples.now row.now) }
+    ensures placed { IfOk result (λ placed. placed ≡ is_placed (key_lengths catalog.now.rels) worlds.now tuples.now row.now) }
     ensures said { IfOk result (λ placed. placed ≡ true → stmts.new.items ≡ stmts.old.items ++ said worlds.now tuples.now row.now) }
 {
     match item_of(worlds, row.0.0) {
         Some(path) => match item_of(tuples, row.0.3) {
-            Some(tuple) => push_placed(alloc, path, tuple, row, stmts),
+            Some(tuple) => push_placed(alloc, catalog, path, tuple, row, stmts),
             None => Ok(false),
         },
         None => Ok(false),
@@ -133,15 +143,16 @@ fn push_said(
 // The same for a row whose world's path and whose tuple are known.
 fn push_placed(
     alloc: Global,
+    catalog: &Catalog,
     path: &Path,
     tuple: &Tuple,
     row: &ValRow,
     stmts: &mut Vec<Stmt>,
 ) -> Result<bool, AllocError>
-    ensures placed { IfOk result (λ placed. placed ≡ is_of_group row.now.0.1 row.now.0.2 tuple.now) }
+    ensures placed { IfOk result (λ placed. placed ≡ is_of_group (key_lengths catalog.now.rels) row.now.0.1 row.now.0.2 tuple.now) }
     ensures said { IfOk result (λ placed. placed ≡ true → stmts.new.items ≡ stmts.old.items ++ said_at path.now tuple.now row.now) }
 {
-    if !is_of_group(tuple, row) {
+    if !is_of_group(catalog, tuple, row) {
         return Ok(false);
     }
     if row.1.1 {
@@ -155,15 +166,15 @@ fn push_placed(
 }
 
 // Whether a row's relation and key are those of a tuple.
-fn is_of_group(tuple: &Tuple, row: &ValRow) -> bool
-    ensures { result ≡ is_of_group row.now.0.1 row.now.0.2 tuple.now }
+fn is_of_group(catalog: &Catalog, tuple: &Tuple, row: &ValRow) -> bool
+    ensures { result ≡ is_of_group (key_lengths catalog.now.rels) row.now.0.1 row.now.0.2 tuple.now }
 {
-    tuple.rel == row.0.1 && has_key(tuple, &row.0.2)
+    tuple.rel == row.0.1 && has_key(catalog, tuple, row)
 }
 
-// Whether a value is that of a tuple's key.
-fn has_key(tuple: &Tuple, key: &Value) -> bool
-    ensures { result ≡ same_value (key_value tuple.now.vals) key.now }
+// Whether a row's key is that of a tuple.
+fn has_key(catalog: &Catalog, tuple: &Tuple, row: &ValRow) -> bool
+    ensures { result ≡ same_values (key_of (key_lengths catalog.now.rels) tuple.now) row.now.0.2 }
 {
-    same_value(first_value(tuple), key)
+    same_values(key_in(catalog, tuple), row.0.2.as_slice())
 }

@@ -1,30 +1,38 @@
 // Whether the rows of a world are settled over those of another one.
 ghost use Rattle.std.specs.Prelude.{◌≡◌, ◌&&◌, true, is_some};
 ghost use Rattle.std.specs.List.{list_all};
+ghost use Rattle.bdb_base.specs.Bases.{key_lengths};
 ghost use Rattle.bdb_base.specs.Clash.{clash};
 ghost use Rattle.bdb_val.specs.Settling.{are_apart, barred_by, mark_in};
 ghost use Rattle.bdb_decode.specs.Settles.{are_settled, has_sign, is_fitting, is_passed};
 
-use bdb_base::{Sign, clash};
+use crate::keys::key_length_in;
+use bdb_base::{Catalog, Sign, clash};
 use bdb_val::Stored;
 
 /// Whether a world with these explicit rows and these inherited ones is settled over the rows of the world to which its suffix
-/// link leads. Where the rows come in one order each list is gone along once.
-pub fn are_settled(stated: &[Stored], inherited: &[Stored], from: &[Stored]) -> bool
+/// link leads, with keys as long as the relations of the catalog say. Where the rows come in one order each list is gone along
+/// once.
+pub fn are_settled(
+    catalog: &Catalog,
+    stated: &[Stored],
+    inherited: &[Stored],
+    from: &[Stored],
+) -> bool
     requires from { are_apart from.now ≡ true }
-    ensures { result ≡ are_settled stated.now inherited.now from.now }
+    ensures { result ≡ are_settled (key_lengths catalog.now.rels) stated.now inherited.now from.now }
 {
-    all_fit(stated, inherited, from) && all_passed(stated, inherited, from)
+    all_fit(catalog, stated, inherited, from) && all_passed(catalog, stated, inherited, from)
 }
 
 // Whether each inherited row is passed on from the other world.
-fn all_fit(stated: &[Stored], inherited: &[Stored], from: &[Stored]) -> bool
+fn all_fit(catalog: &Catalog, stated: &[Stored], inherited: &[Stored], from: &[Stored]) -> bool
     requires { are_apart from.now ≡ true }
-    ensures { result ≡ list_all (is_fitting stated.now from.now) inherited.now }
+    ensures { result ≡ list_all (is_fitting (key_lengths catalog.now.rels) stated.now from.now) inherited.now }
 {
     let mut at = 0;
     for row in inherited {
-        if !is_fitting(stated, from, row, &mut at) {
+        if !is_fitting(catalog, stated, from, row, &mut at) {
             return false;
         }
     }
@@ -32,11 +40,17 @@ fn all_fit(stated: &[Stored], inherited: &[Stored], from: &[Stored]) -> bool
 }
 
 // Whether a row clashes with no explicit one, and its tuple has its sign in the other world. The search begins at a place.
-fn is_fitting(stated: &[Stored], from: &[Stored], row: &Stored, at: &mut usize) -> bool
+fn is_fitting(
+    catalog: &Catalog,
+    stated: &[Stored],
+    from: &[Stored],
+    row: &Stored,
+    at: &mut usize,
+) -> bool
     requires { are_apart from.now ≡ true }
-    ensures { result ≡ is_fitting stated.now from.now row.now }
+    ensures { result ≡ is_fitting (key_lengths catalog.now.rels) stated.now from.now row.now }
 {
-    if is_barred(stated, row) {
+    if is_barred(catalog, stated, row) {
         return false;
     }
     has_sign(row.mark.0, mark_from(from, row.tid, at))
@@ -53,12 +67,12 @@ fn has_sign(sign: Sign, mark: Option<(Sign, bool)>) -> bool
 }
 
 // Whether each row of the other world is passed on, or clashes with an explicit one.
-fn all_passed(stated: &[Stored], inherited: &[Stored], from: &[Stored]) -> bool
-    ensures { result ≡ list_all (is_passed stated.now inherited.now) from.now }
+fn all_passed(catalog: &Catalog, stated: &[Stored], inherited: &[Stored], from: &[Stored]) -> bool
+    ensures { result ≡ list_all (is_passed (key_lengths catalog.now.rels) stated.now inherited.now) from.now }
 {
     let mut at = 0;
     for row in from {
-        if !is_passed(stated, inherited, row, &mut at) {
+        if !is_passed(catalog, stated, inherited, row, &mut at) {
             return false;
         }
     }
@@ -66,10 +80,16 @@ fn all_passed(stated: &[Stored], inherited: &[Stored], from: &[Stored]) -> bool
 }
 
 // Whether a row clashes with an explicit one, or its tuple has a row. The search begins at a place.
-fn is_passed(stated: &[Stored], inherited: &[Stored], row: &Stored, at: &mut usize) -> bool
-    ensures { result ≡ is_passed stated.now inherited.now row.now }
+fn is_passed(
+    catalog: &Catalog,
+    stated: &[Stored],
+    inherited: &[Stored],
+    row: &Stored,
+    at: &mut usize,
+) -> bool
+    ensures { result ≡ is_passed (key_lengths catalog.now.rels) stated.now inherited.now row.now }
 {
-    if is_barred(stated, row) {
+    if is_barred(catalog, stated, row) {
         return true;
     }
     if first_mark(stated, row.tid).is_some() {
@@ -79,17 +99,24 @@ fn is_passed(stated: &[Stored], inherited: &[Stored], row: &Stored, at: &mut usi
 }
 
 // Whether a row clashes with an explicit one.
-fn is_barred(rows: &[Stored], row: &Stored) -> bool
-    ensures { result ≡ barred_by (λ _. 1) rows.now row.now.tuple row.now.mark.0 }
+fn is_barred(catalog: &Catalog, rows: &[Stored], row: &Stored) -> bool
+    ensures { result ≡ barred_by (key_lengths catalog.now.rels) rows.now row.now.tuple row.now.mark.0 }
 {
-    rows.iter().any(|other| bars(other, row))
+    is_barred_by(key_length_in(catalog, &row.tuple), rows, row)
+}
+
+// The same, where keys have the length `n`.
+fn is_barred_by(n: u32, rows: &[Stored], row: &Stored) -> bool
+    ensures { result ≡ barred_by (λ _. n) rows.now row.now.tuple row.now.mark.0 }
+{
+    rows.iter().any(|other| bars(n, other, row))
 }
 
 // Whether a row is explicit, and another one clashes with it.
-fn bars(other: &Stored, row: &Stored) -> bool
-    ensures { result ≡ (other.now.mark.1 && clash (λ _. 1) row.now.tuple row.now.mark.0 other.now.tuple other.now.mark.0) }
+fn bars(n: u32, other: &Stored, row: &Stored) -> bool
+    ensures { result ≡ (other.now.mark.1 && clash (λ _. n) row.now.tuple row.now.mark.0 other.now.tuple other.now.mark.0) }
 {
-    other.mark.1 && clash(1, &row.tuple, row.mark.0, &other.tuple, other.mark.0)
+    other.mark.1 && clash(n, &row.tuple, row.mark.0, &other.tuple, other.mark.0)
 }
 
 // The mark of a tuple's row. The search begins at a place, and leaves that of the row there.

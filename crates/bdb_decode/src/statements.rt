@@ -1,13 +1,14 @@
 // Whether statements are those of a valid base. Each is looked at once, where they are in order.
-ghost use Rattle.std.specs.Prelude.{◌≡◌, ◌&&◌, ◌||◌, not, nat_le, take, IfOk};
+ghost use Rattle.std.specs.Prelude.{◌≡◌, ◌&&◌, ◌||◌, not, nat_le, IfOk};
 ghost use Rattle.std.specs.Bool.{MatchBool};
 ghost use Rattle.std.specs.Ordering.{is_lt};
-ghost use Rattle.bdb_base.specs.Bases.{AreStatements, tuple_count, world_count};
+ghost use Rattle.bdb_base.specs.Bases.{AreStatements, key_lengths, tuple_count, world_count};
 ghost use Rattle.bdb_base.specs.Limits.{most_tuples, most_worlds};
 ghost use Rattle.bdb_decode.specs.Statements.{are_apart, are_consistent, are_few, below_next, below_plus, climbs, group_cmp, is_plus, place_cmp, plus_climb};
 
+use crate::keys::key_in;
 use bdb_base::limits::{MOST_STATEMENTS, MOST_TUPLES, MOST_WORLDS};
-use bdb_base::{Catalog, Sign, Stmt, Tuple, Value, cmp_path, cmp_row, cmp_tuple, distinct_tuples};
+use bdb_base::{Catalog, Sign, Stmt, cmp_path, cmp_row, cmp_tuple, distinct_tuples};
 use bdb_entries::all_belong;
 use bdb_paths::states_of;
 use std::alloc::{AllocError, Global};
@@ -31,14 +32,14 @@ pub fn are_statements(alloc: Global, catalog: &Catalog, stmts: &[Stmt]) -> Resul
 fn are_consistent(catalog: &Catalog, stmts: &[Stmt]) -> bool
     ensures { result ≡ are_consistent catalog.now stmts.now }
 {
-    all_belong(catalog, stmts) && are_apart(stmts)
+    all_belong(catalog, stmts) && are_apart(catalog, stmts)
 }
 
 // Whether statements are in order, and no two clash at a path.
-fn are_apart(stmts: &[Stmt]) -> bool
-    ensures { result ≡ are_apart stmts.now }
+fn are_apart(catalog: &Catalog, stmts: &[Stmt]) -> bool
+    ensures { result ≡ are_apart (key_lengths catalog.now.rels) stmts.now }
 {
-    climb(stmts) && plus_climb(stmts)
+    climb(stmts) && plus_climb(catalog, stmts)
 }
 
 // Whether statements, their tuples and their worlds are not too many.
@@ -114,12 +115,12 @@ fn cmp_place(a: &Stmt, b: &Stmt) -> Ordering
 }
 
 // Whether each plus statement is below the next one by path, relation and key.
-fn plus_climb(stmts: &[Stmt]) -> bool
-    ensures { result ≡ plus_climb stmts.now }
+fn plus_climb(catalog: &Catalog, stmts: &[Stmt]) -> bool
+    ensures { result ≡ plus_climb (key_lengths catalog.now.rels) stmts.now }
 {
     let mut rest = stmts;
     while let [first, others @ ..] = rest {
-        if !goes_before(first, others) {
+        if !goes_before(catalog, first, others) {
             return false;
         }
         rest = others;
@@ -128,20 +129,20 @@ fn plus_climb(stmts: &[Stmt]) -> bool
 }
 
 // Whether a statement, if it is plus, is below the first plus one of a list by path, relation and key.
-fn goes_before(stmt: &Stmt, others: &[Stmt]) -> bool
-    ensures { result ≡ (not (is_plus stmt.now) || below_plus stmt.now others.now) }
+fn goes_before(catalog: &Catalog, stmt: &Stmt, others: &[Stmt]) -> bool
+    ensures { result ≡ (not (is_plus stmt.now) || below_plus (key_lengths catalog.now.rels) stmt.now others.now) }
 {
-    !is_plus(stmt) || is_below_plus(stmt, others)
+    !is_plus(stmt) || is_below_plus(catalog, stmt, others)
 }
 
 // Whether a statement is below the first plus one of a list by path, relation and key, if there is one.
-fn is_below_plus(stmt: &Stmt, others: &[Stmt]) -> bool
-    ensures { result ≡ below_plus stmt.now others.now }
+fn is_below_plus(catalog: &Catalog, stmt: &Stmt, others: &[Stmt]) -> bool
+    ensures { result ≡ below_plus (key_lengths catalog.now.rels) stmt.now others.now }
 {
     let mut rest = others;
     while let [next, others @ ..] = rest {
         if is_plus(next) {
-            return cmp_group(stmt, next).is_lt();
+            return cmp_group(catalog, stmt, next).is_lt();
         }
         rest = others;
     }
@@ -156,21 +157,14 @@ fn is_plus(stmt: &Stmt) -> bool
 }
 
 // The order by path, then relation, then key.
-fn cmp_group(a: &Stmt, b: &Stmt) -> Ordering
-    ensures { result ≡ group_cmp a.now b.now }
+fn cmp_group(catalog: &Catalog, a: &Stmt, b: &Stmt) -> Ordering
+    ensures { result ≡ group_cmp (key_lengths catalog.now.rels) a.now b.now }
 {
     match cmp_path(a.path.as_slice(), b.path.as_slice()) {
         Ordering::Equal => match a.tuple.rel.cmp(&b.tuple.rel) {
-            Ordering::Equal => cmp_row(key_row(&a.tuple), key_row(&b.tuple)),
+            Ordering::Equal => cmp_row(key_in(catalog, &a.tuple), key_in(catalog, &b.tuple)),
             other => other,
         },
         other => other,
     }
-}
-
-// The values of a tuple's key.
-fn key_row(tuple: &Tuple) -> &[Value]
-    ensures { result.now ≡ take 1 tuple.now.vals }
-{
-    &tuple.vals.as_slice()[..1]
 }

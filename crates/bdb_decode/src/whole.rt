@@ -30,7 +30,7 @@ pub fn raw_base_statements<K: Keeper>(
         (λ stmts. AreBaseStatements (K.seen keeper.old).kept catalog.now worlds.now tuples.now stmts.items)) }
     ensures read { IsRead (K.seen keeper.old) (K.seen keeper.new) result TabError.Fault }
 {
-    match raw_statements(alloc, keeper, worlds, tuples) {
+    match raw_statements(alloc, keeper, catalog, worlds, tuples) {
         Ok(Some(stmts)) => match are_whole(alloc, catalog, worlds, tuples, &stmts) {
             Ok(true) => Ok(Some(stmts)),
             Ok(false) => Ok(None),

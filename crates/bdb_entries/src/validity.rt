@@ -1,7 +1,7 @@
 // Whether users and relations are those of a valid base.
 ghost use Rattle.std.specs.Prelude.{◌≡◌, ◌&&◌, ℕ, nat_le, nat_lt, not, List, length, map};
 ghost use Rattle.std.specs.List.{list_all, list_any};
-ghost use Rattle.bdb_base.specs.Bases.{are_distinct, is_plain, is_valid_relation, users_name};
+ghost use Rattle.bdb_base.specs.Bases.{are_distinct, is_key, is_plain, is_valid_relation, users_name};
 ghost use Rattle.bdb_base.specs.Limits.{most_columns};
 ghost use Rattle.bdb_base.specs.Same.{same_text};
 ghost use Rattle.bdb_entries.specs.Catalog.{are_relations, are_users, is_catalog, names_differ};
@@ -44,12 +44,19 @@ fn all_valid(rels: &[RelDef]) -> bool
     rels.iter().all(is_valid_relation)
 }
 
-// Whether a relation is valid: with columns, not too many, whose names differ, and plain names, its own not `Users`.
+// Whether a relation is valid: with columns, not too many, whose names differ, plain names, its own not `Users`, and a key.
 fn is_valid_relation(def: &RelDef) -> bool
     ensures { result ≡ is_valid_relation def.now }
 {
     has_columns(def.cols.as_slice())
-        && (are_names(def.cols.as_slice()) && is_relation_name(&def.name))
+        && (are_names(def.cols.as_slice()) && is_relation_name(&def.name) && is_key(def))
+}
+
+// Whether the key of a relation is of its first columns, at least one and at most all.
+fn is_key(def: &RelDef) -> bool
+    ensures { result ≡ is_key def.now }
+{
+    0 < def.key && def.key as usize <= def.cols.len()
 }
 
 // Whether there are columns, and not too many.

@@ -1,24 +1,24 @@
 -- Rows of one key, and when the rows of a world deny a tuple.
-use Rattle.std.proofs.Common.{◌≡◌, ◌∙◌, ℕ, suc, ◌≤◌, ◌<◌, ◌^◌, Bool, true, false, not, ◌&&◌, ◌||◌, cond, nat_eq, nat_lt, List, [], ◌∷◌, ◌++◌, Option, Some, None, length, map, filter, take, refl, ap, sym, subst, arith}
-use Rattle.std.specs.List.{list_any, list_all, AllByRecursion, slice_get}
+use Rattle.std.proofs.Common.{◌≡◌, ◌∙◌, ℕ, suc, ◌≤◌, ◌<◌, ◌^◌, Bool, true, false, not, ◌&&◌, ◌||◌, cond, nat_eq, nat_lt, List, [], ◌∷◌, ◌++◌, Option, Some, None, length, map, filter, take, drop, refl, ap, sym, subst, arith}
+use Rattle.std.specs.List.{list_any, list_all, AllByRecursion}
 use Rattle.std.specs.Ordering.{is_eq}
 use Rattle.std.proofs.lemmas.Bool.{and_parts, and_from, cond-true, cond-false, false≢true, false_from_ne_true, eqb-true, eq-eqb}
 use Rattle.std.proofs.lemmas.Bool.Decides.{nat_tests}
-use Rattle.std.proofs.lemmas.Cmp.{tied_itself}
-use Rattle.bdb_base.specs.OrderLemmas.{value_exact}
+use Rattle.std.proofs.lemmas.List.{append_assoc}
 use Rattle.bdb_base.specs.Clash.{clash, same_key, key_of}
+use Rattle.bdb_base.specs.Conditions.{compare_so}
 use Rattle.bdb_base.specs.Order.{value_cmp}
-use Rattle.bdb_base.specs.Same.{same_value, same_values, same_tuple}
-use Rattle.bdb_base.specs.SameLemmas.{same_value-Decides, same_tuple-Decides}
+use Rattle.bdb_base.specs.Same.{same_values, same_tuple}
+use Rattle.bdb_base.specs.SameLemmas.{same_values-Decides, same_tuple-Decides}
 use Rattle.bdb_base.specs.Segments.{is_prefix}
+use Rattle.bdb_base.specs.declared.kinds.Cmp.TheVariants.{Eq}
 use Rattle.bdb_base.specs.declared.kinds.Sign.{Sign}
 use Rattle.bdb_base.specs.declared.kinds.Sign.TheVariants.{Plus, Minus}
 use Rattle.bdb_base.specs.declared.kinds.Value.{Value}
-use Rattle.bdb_base.specs.declared.kinds.Value.TheVariants.{Int, Text}
 use Rattle.bdb_base.specs.declared.tuple.Tuple.{Tuple}
 use Rattle.bdb_keep.specs.Tables.{Tables}
-use Rattle.bdb_key.specs.Bytes.{num_bytes, value_bytes}
-use Rattle.bdb_key.specs.Grammar.{IsNum, IsPlainValue}
+use Rattle.bdb_key.specs.Bytes.{num_bytes, value_bytes, values_bytes, vals_bytes}
+use Rattle.bdb_key.specs.Grammar.{IsNum, ArePlain, AreKeyVals}
 use Rattle.bdb_key.proofs.Compared.{values_tie}
 use Rattle.bdb_key.proofs.Readings.{num_form, value_form}
 use Rattle.bdb_plan.specs.Running.{plus_tuples}
@@ -30,10 +30,13 @@ use Rattle.bdb_tables.specs.InUseLaws.{vals_are_one, mark_rows_are_one}
 use Rattle.bdb_tables.specs.Marks.{Mark}
 use Rattle.bdb_tables.specs.Names.{leads_to}
 use Rattle.bdb_tables.specs.Spans.{AreUnder, IsUnder}
-use Rattle.bdb_exec.specs.Keys.{key_is, of_key, rows_of_key}
+use Rattle.bdb_tables.proofs.PartLemmas.{vals_form}
+use Rattle.bdb_exec.specs.Keys.{begins_so, of_key, rows_of_key}
 use Rattle.bdb_exec.specs.Readable.{CanBeRun}
-use Rattle.bdb_exec.specs.Rows.{IsNumberOf, signed_of, mark_denies, row_denies, is_written, world_prefix, key_prefix}
+use Rattle.bdb_exec.specs.Rows.{IsNumberOf, signed_of, mark_denies, row_denies, is_written, world_prefix, key_prefix, group_prefix}
 use Rattle.bdb_exec.specs.Seen.{rows_at, signed_in, signed_under, sight_of}
+use Rattle.bdb_exec.proofs.LengthLemmas.{keys_sized, take_and_drop, take_long, take_plain, take_short, take_take, take_whole}
+use Rattle.bdb_exec.proofs.LookingLemmas.{all_written}
 use Rattle.bdb_exec.proofs.TypedLemmas.{raw}
 use Rattle.bdb_exec.proofs.WorldLemmas.{AreTyped, IsThere, IsTold, typed_under, typed_rows, shown, signed_is, has_row, tuple_named, all_told, all_both}
 
@@ -105,51 +108,63 @@ prefix_shorter (i ∷ p) r (j ∷ q) e = let k = and_parts (nat_eq i j) (is_pref
 pub world_parts : (w rel : ℕ) → IsNum w → IsNum rel → (k : ValKey) → IsValKey k → is_prefix (world_prefix w rel) (val_bytes k) ≡ true → (k.0 ≡ w) × (k.1 ≡ rel)
 world_parts w rel nw nr k f e =
     let s = prefix_rest (world_prefix w rel) (val_bytes k) e in
-    let one = num_form k.0 w (num_bytes k.1 ++ value_bytes k.2 ++ num_bytes k.3) (num_bytes rel ++ s.0) f.world nw s.1 in
-    let two = num_form k.1 rel (value_bytes k.2 ++ num_bytes k.3) s.0 f.rel nr one.1 in
+    let one = num_form k.0 w (num_bytes k.1 ++ vals_bytes k.2 ++ num_bytes k.3) (num_bytes rel ++ s.0) f.world nw s.1 in
+    let two = num_form k.1 rel (vals_bytes k.2 ++ num_bytes k.3) s.0 f.rel nr one.1 in
     (one.0, two.0)
 
--- a key begins with a value exactly where it has it
-value_part : (w rel : ℕ) (v : Value) → IsNum w → IsNum rel → IsPlainValue v → (k : ValKey) → IsValKey k → is_prefix (key_prefix w rel v) (val_bytes k) ≡ true → k.2 ≡ v
-value_part w rel v nw nr nv k f e =
-    let s = prefix_rest (key_prefix w rel v) (val_bytes k) e in
-    let one = num_form k.0 w (num_bytes k.1 ++ value_bytes k.2 ++ num_bytes k.3) (num_bytes rel ++ value_bytes v ++ s.0) f.world nw s.1 in
-    let two = num_form k.1 rel (value_bytes k.2 ++ num_bytes k.3) (value_bytes v ++ s.0) f.rel nr one.1 in
-    (value_form k.2 v (num_bytes k.3) s.0 f.value nv two.1).0
+-- values whose bytes begin with those of others, which are no more, begin with them
+values_part : (vs xs : List Value) (a b : List ℕ) → ArePlain vs → ArePlain xs → length vs ≤ length xs → values_bytes xs ++ a ≡ values_bytes vs ++ b → take (length vs) xs ≡ vs
+values_part [] xs a b pv px few e = refl
+values_part (v ∷ vs) [] a b pv px few e = absurd (omega (arith, few))
+values_part (v ∷ vs) (x ∷ xs) a b pv px few e =
+    let one = value_form x v (values_bytes xs ++ a) (values_bytes vs ++ b) px.0 pv.0 (sym (append_assoc (value_bytes x) (values_bytes xs) a) ∙ e ∙ append_assoc (value_bytes v) (values_bytes vs) b) in
+    ap (λ (y : Value). y ∷ take (length vs) xs) one.0 ∙ ap (λ (ys : List Value). v ∷ ys) (values_part vs xs a b pv.1 px.1 (omega (arith, few)) one.1)
 
-begins_with : (w rel : ℕ) (v : Value) (k : ValKey) → k.0 ≡ w → k.1 ≡ rel → k.2 ≡ v → is_prefix (key_prefix w rel v) (val_bytes k) ≡ true
-begins_with w rel v k a b c =
-    ap (λ n. is_prefix (key_prefix w rel v) (val_bytes (n, k.1, k.2, k.3))) a
-    ∙ ap (λ n. is_prefix (key_prefix w rel v) (val_bytes (w, n, k.2, k.3))) b
-    ∙ ap (λ n. is_prefix (key_prefix w rel v) (val_bytes (w, rel, n, k.3))) c
-    ∙ prefix_append (key_prefix w rel v) (num_bytes k.3)
+-- the values of a key whose bytes begin with those of how many values it has and of some of them
+values_of : (n : ℕ) (vs xs : List Value) (tid : ℕ) (rest : List ℕ) → length vs ≤ n → IsNum n → ArePlain vs → AreKeyVals xs → vals_bytes xs ++ num_bytes tid ≡ num_bytes n ++ (values_bytes vs ++ rest)
+    → take (length vs) xs ≡ vs
+values_of n vs xs tid rest few nn nv k e =
+    let one = num_form (length xs) n (values_bytes xs ++ num_bytes tid) (values_bytes vs ++ rest) k.short nn e in
+    values_part vs xs (num_bytes tid) rest nv k.plain (subst (λ m. length vs ≤ m) (sym one.0) few) one.1
 
--- ---- the first value of a tuple
+key_part : (w rel n : ℕ) (vs : List Value) → IsNum w → IsNum rel → length vs ≤ n → IsNum n → ArePlain vs → (k : ValKey) → IsValKey k → is_prefix (key_prefix n w rel vs) (val_bytes k) ≡ true → take (length vs) k.2 ≡ vs
+key_part w rel n vs nw nr few nn nv k f e =
+    let s = prefix_rest (key_prefix n w rel vs) (val_bytes k) e in
+    let one = num_form k.0 w (num_bytes k.1 ++ vals_bytes k.2 ++ num_bytes k.3) (num_bytes rel ++ num_bytes n ++ (values_bytes vs ++ s.0)) f.world nw s.1 in
+    let two = num_form k.1 rel (vals_bytes k.2 ++ num_bytes k.3) (num_bytes n ++ (values_bytes vs ++ s.0)) f.rel nr one.1 in
+    values_of n vs k.2 k.3 s.0 few nn nv f.key two.1
 
--- a tuple's first value
-record HasFirst (u : Tuple) (x : Value) : Type 0 where
-  rest : List Value
-  vals : u.vals ≡ x ∷ rest
+values_append : (xs ys : List Value) → values_bytes (xs ++ ys) ≡ values_bytes xs ++ values_bytes ys
+values_append [] ys = refl
+values_append (x ∷ xs) ys = ap (λ (r : List ℕ). value_bytes x ++ r) (values_append xs ys) ∙ sym (append_assoc (value_bytes x) (values_bytes xs) (values_bytes ys))
 
-first_of : (vs : List Value) (x : Value) → slice_get vs 0 ≡ Some x → (rest : List Value) × (vs ≡ x ∷ rest)
-first_of [] x e = absurd cc
-first_of (y ∷ vs) x e = (vs, ap (λ z. z ∷ vs) (some_value e))
-  where
-    some_value : {a b : Value} → Some a ≡ Some b → a ≡ b
-    some_value e = cc
+begins_with : (w rel n : ℕ) (vs rest : List Value) (k : ValKey) → k.0 ≡ w → k.1 ≡ rel → k.2 ≡ vs ++ rest → length (vs ++ rest) ≡ n → is_prefix (key_prefix n w rel vs) (val_bytes k) ≡ true
+begins_with w rel n vs rest k a b c many =
+    let own = length (vs ++ rest) in
+    ap (λ (i : ℕ). is_prefix (key_prefix n w rel vs) (val_bytes (i, k.1, k.2, k.3))) a
+    ∙ ap (λ (i : ℕ). is_prefix (key_prefix n w rel vs) (val_bytes (w, i, k.2, k.3))) b
+    ∙ ap (λ (xs : List Value). is_prefix (key_prefix n w rel vs) (val_bytes (w, rel, xs, k.3))) c
+    ∙ ap (λ (i : ℕ). is_prefix (key_prefix i w rel vs) (val_bytes (w, rel, vs ++ rest, k.3))) (sym many)
+    ∙ ap (λ (tail : List ℕ). is_prefix (key_prefix own w rel vs) (num_bytes w ++ num_bytes rel ++ num_bytes own ++ tail))
+    (ap (λ (r : List ℕ). r ++ num_bytes k.3) (values_append vs rest) ∙ append_assoc (values_bytes vs) (values_bytes rest) (num_bytes k.3))
+    ∙ prefix_append (key_prefix own w rel vs) (values_bytes rest ++ num_bytes k.3)
 
-key_first : (u : Tuple) (x : Value) → same_values (key_of (λ _. 1) u) (x ∷ []) ≡ true → (rest : List Value) × (u.vals ≡ x ∷ rest)
-key_first u x e = by u.vals refl
-  where
-    by : (vs : List Value) → u.vals ≡ vs → (rest : List Value) × (u.vals ≡ x ∷ rest)
-    by [] k = absurd (false≢true (sym (ap (λ v. same_values (take 1 v) (x ∷ [])) k) ∙ e))
-    by (y ∷ vs) k =
-        let p = and_parts (same_value y x) true (sym (ap (λ v. same_values (take 1 v) (x ∷ [])) k) ∙ e) in
-        (vs, k ∙ ap (λ z. z ∷ vs) ((same_value-Decides y x).0 p.0))
+-- a key begins with a group's bytes exactly where it is the group's
+group_part : (w rel : ℕ) (vs : List Value) → IsNum w → IsNum rel → AreKeyVals vs → (k : ValKey) → IsValKey k → is_prefix (group_prefix w rel vs) (val_bytes k) ≡ true → k.2 ≡ vs
+group_part w rel vs nw nr nv k f e =
+    let s = prefix_rest (group_prefix w rel vs) (val_bytes k) e in
+    let one = num_form k.0 w (num_bytes k.1 ++ vals_bytes k.2 ++ num_bytes k.3) (num_bytes rel ++ vals_bytes vs ++ s.0) f.world nw s.1 in
+    let two = num_form k.1 rel (vals_bytes k.2 ++ num_bytes k.3) (vals_bytes vs ++ s.0) f.rel nr one.1 in
+    (vals_form k.2 vs (num_bytes k.3) s.0 f.key nv two.1).0
 
--- a tuple has a key exactly where its first value is the key
-key_is_first : (u : Tuple) (x v : Value) (rest : List Value) → u.vals ≡ x ∷ rest → key_is (Some v) u ≡ is_eq (value_cmp x v)
-key_is_first u x v rest e = ap (λ vs. Rattle.bdb_base.specs.Conditions.compare_so Rattle.bdb_base.specs.declared.kinds.Cmp.TheVariants.Eq (slice_get vs 0) (Some v)) e
+group_begins : (w rel : ℕ) (vs : List Value) (k : ValKey) → k.0 ≡ w → k.1 ≡ rel → k.2 ≡ vs → is_prefix (group_prefix w rel vs) (val_bytes k) ≡ true
+group_begins w rel vs k a b c =
+    ap (λ (i : ℕ). is_prefix (group_prefix w rel vs) (val_bytes (i, k.1, k.2, k.3))) a
+    ∙ ap (λ (i : ℕ). is_prefix (group_prefix w rel vs) (val_bytes (w, i, k.2, k.3))) b
+    ∙ ap (λ (xs : List Value). is_prefix (group_prefix w rel vs) (val_bytes (w, rel, xs, k.3))) c
+    ∙ prefix_append (group_prefix w rel vs) (num_bytes k.3)
+
+-- ---- the first values of a tuple
 
 is_equal_value : (x v : Value) → is_eq (value_cmp x v) ≡ true → x ≡ v
 is_equal_value x v e = by (value_cmp x v) refl e
@@ -159,8 +174,17 @@ is_equal_value x v e = by (value_cmp x v) refl e
     by Rattle.std.specs.declared.cmp.Ordering.TheVariants.Equal a b = values_tie x v a
     by Rattle.std.specs.declared.cmp.Ordering.TheVariants.Greater a b = absurd (false≢true b)
 
-value_equal : (x v : Value) → x ≡ v → is_eq (value_cmp x v) ≡ true
-value_equal x v e = ap (λ y. is_eq (value_cmp x y)) (sym e) ∙ ap is_eq (tied_itself value_exact.total x)
+-- a value that equals one, where it is known, is that one
+pub equal_value : (o : Option Value) (v : Value) → compare_so Eq o (Some v) ≡ true → o ≡ Some v
+equal_value None v e = absurd (false≢true e)
+equal_value (Some x) v e = ap Some (is_equal_value x v e)
+
+-- a tuple begins with values exactly where its first ones are these
+has_begun : (vs : List Value) (u : Tuple) → take (length vs) u.vals ≡ vs → begins_so vs u ≡ true
+has_begun vs u e = (same_values-Decides (take (length vs) u.vals) vs).1 e
+
+begun : (vs : List Value) (u : Tuple) → begins_so vs u ≡ true → take (length vs) u.vals ≡ vs
+begun vs u e = (same_values-Decides (take (length vs) u.vals) vs).0 e
 
 -- ---- rows of one world and relation
 
@@ -171,10 +195,6 @@ module _ (t : Tables) (h : CanBeRun t) (w rel : ℕ) (nw : IsNum w) (nr : IsNum 
     where
       below : (n : ℕ) → n < 2 ^ 32 → nat_lt n (2 ^ 32) ≡ true
       below n lt = grind (arith, nat_tests)
-
-  keys_of : (sight_of t).keys ≡ (λ _. 1)
-  unfolding sight_of
-  keys_of = refl
 
   pub all : List (ValKey × Mark)
   all = (typed_rows t (world_prefix w rel) h.rows.fits).0
@@ -192,14 +212,12 @@ module _ (t : Tables) (h : CanBeRun t) (w rel : ℕ) (nw : IsNum w) (nr : IsNum 
     pub at_world : e.0.0 ≡ w
     pub at_rel : e.0.1 ≡ rel
     pub of_rel : u.rel ≡ rel
-    pub rest : List Value
-    pub vals : u.vals ≡ e.0.2 ∷ rest
+    pub vals : key_of (sight_of t).keys u ≡ e.0.2
 
   here : (e : ValKey × Mark) → IsUnder val_codec (world_prefix w rel) e → IsTold t h e → IsHere e
   here e a k =
       let p = world_parts w rel nw nr e.0 a.key a.begins in
-      let q = and_parts (nat_eq k.0.rel e.0.1) (same_values (key_of (λ _. 1) k.0) (e.0.2 ∷ [])) k.2 in
-      let f = key_first k.0 e.0.2 q.1 in
+      let q = and_parts (nat_eq k.0.rel e.0.1) (same_values (key_of (sight_of t).keys k.0) e.0.2) k.2 in
       record {
         u = k.0;
         key = a.key;
@@ -208,8 +226,7 @@ module _ (t : Tables) (h : CanBeRun t) (w rel : ℕ) (nw : IsNum w) (nr : IsNum 
         at_world = p.0;
         at_rel = p.1;
         of_rel = eqb-true k.0.rel e.0.1 q.0 ∙ p.1;
-        rest = f.0;
-        vals = f.1;
+        vals = (same_values-Decides (key_of (sight_of t).keys k.0) e.0.2).0 q.1;
       }
 
   pub all_here : AllByRecursion IsHere all
@@ -218,61 +235,87 @@ module _ (t : Tables) (h : CanBeRun t) (w rel : ℕ) (nw : IsNum w) (nr : IsNum 
   pub shown_all : (sight_of t).rows w rel ≡ map (signed_of t) all
   shown_all = rows_of ∙ shown t (world_prefix w rel) all are_typed
 
-  -- ---- rows of one key
+  -- a row's key begins as its tuple does
+  first_at : (e : ValKey × Mark) (k : IsHere e) (m : ℕ) → m ≤ (sight_of t).keys k.u.rel → take m e.0.2 ≡ take m k.u.vals
+  first_at e k m le = ap (take m) (sym k.vals) ∙ take_take m ((sight_of t).keys k.u.rel) k.u.vals le
 
-  module _ (v : Value) where
-    -- a row is of the key
-    abbrev of_value : ValKey × Mark → Bool
-    of_value e = is_prefix (key_prefix w rel v) (val_bytes e.0)
+  -- it has as many values as the relation's keys
+  many_at : (e : ValKey × Mark) (k : IsHere e) → length e.0.2 ≡ (sight_of t).keys rel
+  many_at e k =
+      ap length (sym k.vals) ∙ take_long ((sight_of t).keys k.u.rel) k.u.vals (h.whole e.0.3 k.u k.named) ∙ ap (λ (r : ℕ). (sight_of t).keys r) k.of_rel
 
-    key_same : (e : ValKey × Mark) (k : IsHere e) → key_is (Some v) k.u ≡ is_eq (value_cmp e.0.2 v)
-    key_same e k = key_is_first k.u e.0.2 v k.rest k.vals
+  -- ---- rows whose keys go on with some bytes
 
-    tested : IsPlainValue v → (e : ValKey × Mark) (k : IsHere e) → of_value e ≡ key_is (Some v) k.u
-    tested nv e k = both_ways (of_value e) (key_is (Some v) k.u)
-        (λ b. key_same e k ∙ value_equal e.0.2 v (value_part w rel v nw nr nv e.0 k.key b))
-        (λ b. begins_with w rel v e.0 k.at_world k.at_rel (is_equal_value e.0.2 v (sym (key_same e k) ∙ b)))
+  module _ (more : List ℕ) where
+    abbrev goes_on : ValKey × Mark → Bool
+    goes_on e = is_prefix (world_prefix w rel ++ more) (val_bytes e.0)
 
-    rows_narrow : rows_at t (val_codec.number ∷ key_prefix w rel v) ≡ map (raw val_codec) (filter of_value all)
+    rows_narrow : rows_at t (val_codec.number ∷ (world_prefix w rel ++ more)) ≡ map (raw val_codec) (filter goes_on all)
     rows_narrow =
-        filter_narrow (λ e. is_prefix (val_codec.number ∷ key_prefix w rel v) e.0) (λ e. is_prefix (val_codec.number ∷ world_prefix w rel) e.0) (Rattle.std.specs.FinMap.entries t)
-        (λ e b. prefix_shorter (val_codec.number ∷ world_prefix w rel) (value_bytes v) e.0 b)
-        ∙ ap (filter (λ e. is_prefix (val_codec.number ∷ key_prefix w rel v) e.0)) are_typed.rows
-        ∙ filter_map (raw val_codec) (λ e. is_prefix (val_codec.number ∷ key_prefix w rel v) e.0) all
+        filter_narrow (λ e. is_prefix (val_codec.number ∷ (world_prefix w rel ++ more)) e.0) (λ e. is_prefix (val_codec.number ∷ world_prefix w rel) e.0) (Rattle.std.specs.FinMap.entries t)
+        (λ e b. prefix_shorter (val_codec.number ∷ world_prefix w rel) more e.0 b)
+        ∙ ap (filter (λ e. is_prefix (val_codec.number ∷ (world_prefix w rel ++ more)) e.0)) are_typed.rows
+        ∙ filter_map (raw val_codec) (λ e. is_prefix (val_codec.number ∷ (world_prefix w rel ++ more)) e.0) all
 
-    narrow_shown : signed_under t (key_prefix w rel v) ≡ map (signed_of t) (filter of_value all)
-    narrow_shown = ap (map (signed_in t)) rows_narrow ∙ twice (filter of_value all)
+    narrow_shown : signed_under t (world_prefix w rel ++ more) ≡ map (signed_of t) (filter goes_on all)
+    narrow_shown = ap (map (signed_in t)) rows_narrow ∙ twice (filter goes_on all)
       where
         twice : (es : List (ValKey × Mark)) → map (signed_in t) (map (raw val_codec) es) ≡ map (signed_of t) es
         twice [] = refl
         twice (e ∷ es) = ap (λ (x : List (Tuple × Sign)). signed_of t e ∷ x) (twice es)
 
+  -- ---- rows whose tuples begin with values, no more than a key has
+
+  module _ (vs : List Value) (few : length vs ≤ (sight_of t).keys rel) where
+    -- how the keys of such rows go on
+    abbrev of_first : List ℕ
+    of_first = num_bytes ((sight_of t).keys rel) ++ values_bytes vs
+
+    -- a row is one of these
+    abbrev of_value : ValKey × Mark → Bool
+    of_value e = is_prefix (key_prefix ((sight_of t).keys rel) w rel vs) (val_bytes e.0)
+
+    few_of : (e : ValKey × Mark) (k : IsHere e) → length vs ≤ (sight_of t).keys k.u.rel
+    few_of e k = subst (λ r. length vs ≤ (sight_of t).keys r) (sym k.of_rel) few
+
+    tested : ArePlain vs → (e : ValKey × Mark) (k : IsHere e) → of_value e ≡ begins_so vs k.u
+    tested nv e k = both_ways (of_value e) (begins_so vs k.u)
+        (λ b. has_begun vs k.u (sym (first_at e k (length vs) (few_of e k)) ∙ key_part w rel ((sight_of t).keys rel) vs nw nr few (keys_sized t h rel) nv e.0 k.key b))
+        (λ b.
+        let front : take (length vs) e.0.2 ≡ vs = first_at e k (length vs) (few_of e k) ∙ begun vs k.u b in
+        let rest = drop (length vs) e.0.2 in
+        let split : e.0.2 ≡ vs ++ rest = sym (take_and_drop (length vs) e.0.2) ∙ ap (λ (xs : List Value). xs ++ rest) front in
+        begins_with w rel ((sight_of t).keys rel) vs rest e.0 k.at_world k.at_rel split (ap length (sym split) ∙ many_at e k))
+
+    value_shown : signed_under t (key_prefix ((sight_of t).keys rel) w rel vs) ≡ map (signed_of t) (filter of_value all)
+    value_shown = narrow_shown of_first
+
     map_cond : (b : Bool) (e : ValKey × Mark) (r : List (ValKey × Mark)) → map (signed_of t) (cond b (e ∷ r) r) ≡ cond b (signed_of t e ∷ map (signed_of t) r) (map (signed_of t) r)
     map_cond true e r = refl
     map_cond false e r = refl
 
-    keyed_rows : IsPlainValue v → (es : List (ValKey × Mark)) → AllByRecursion IsHere es → map (signed_of t) (filter of_value es) ≡ rows_of_key (Some v) (map (signed_of t) es)
+    keyed_rows : ArePlain vs → (es : List (ValKey × Mark)) → AllByRecursion IsHere es → map (signed_of t) (filter of_value es) ≡ rows_of_key vs (map (signed_of t) es)
     keyed_rows nv [] a = refl
     keyed_rows nv (e ∷ es) a =
         let r = map (signed_of t) (filter of_value es) in
         map_cond (of_value e) e (filter of_value es)
-        ∙ ap (λ b. cond b (signed_of t e ∷ r) r) (tested nv e a.0 ∙ ap (λ x. key_is (Some v) x.0) (sym (signed_is t e a.0.u a.0.row)))
-        ∙ ap (λ x. cond (key_is (Some v) (signed_of t e).0) (signed_of t e ∷ x) x) (keyed_rows nv es a.1)
+        ∙ ap (λ b. cond b (signed_of t e ∷ r) r) (tested nv e a.0 ∙ ap (λ x. begins_so vs x.0) (sym (signed_is t e a.0.u a.0.row)))
+        ∙ ap (λ x. cond (begins_so vs (signed_of t e).0) (signed_of t e ∷ x) x) (keyed_rows nv es a.1)
 
-    -- the rows whose keys begin with a value are those of the tuples that have it first
-    pub key_rows : IsPlainValue v → signed_under t (key_prefix w rel v) ≡ rows_of_key (Some v) ((sight_of t).rows w rel)
-    key_rows nv = narrow_shown ∙ keyed_rows nv all all_here ∙ ap (rows_of_key (Some v)) (sym shown_all)
+    -- the rows whose keys begin with values are those of the tuples that begin with them
+    pub key_rows : ArePlain vs → signed_under t (key_prefix ((sight_of t).keys rel) w rel vs) ≡ rows_of_key vs ((sight_of t).rows w rel)
+    key_rows nv = value_shown ∙ keyed_rows nv all all_here ∙ ap (rows_of_key vs) (sym shown_all)
 
     -- ---- tuples with plus
 
-    pool_step : (b : Bool) (u : Tuple) (s : Sign) (xs ys : List (Tuple × Sign)) → key_is (Some v) u ≡ b → plus_tuples xs ≡ of_key (Some v) (plus_tuples ys)
-        → plus_tuples (cond b ((u, s) ∷ xs) xs) ≡ of_key (Some v) (plus_tuples ((u, s) ∷ ys))
-    pool_step true u Plus xs ys e rest = ap (λ (x : List Tuple). u ∷ x) rest ∙ sym (cond-true (key_is (Some v) u) (u ∷ of_key (Some v) (plus_tuples ys)) (of_key (Some v) (plus_tuples ys)) e)
-    pool_step false u Plus xs ys e rest = rest ∙ sym (cond-false (key_is (Some v) u) (u ∷ of_key (Some v) (plus_tuples ys)) (of_key (Some v) (plus_tuples ys)) e)
+    pool_step : (b : Bool) (u : Tuple) (s : Sign) (xs ys : List (Tuple × Sign)) → begins_so vs u ≡ b → plus_tuples xs ≡ of_key vs (plus_tuples ys)
+        → plus_tuples (cond b ((u, s) ∷ xs) xs) ≡ of_key vs (plus_tuples ((u, s) ∷ ys))
+    pool_step true u Plus xs ys e rest = ap (λ (x : List Tuple). u ∷ x) rest ∙ sym (cond-true (begins_so vs u) (u ∷ of_key vs (plus_tuples ys)) (of_key vs (plus_tuples ys)) e)
+    pool_step false u Plus xs ys e rest = rest ∙ sym (cond-false (begins_so vs u) (u ∷ of_key vs (plus_tuples ys)) (of_key vs (plus_tuples ys)) e)
     pool_step true u Minus xs ys e rest = rest
     pool_step false u Minus xs ys e rest = rest
 
-    keyed_pool : IsPlainValue v → (es : List (ValKey × Mark)) → AllByRecursion IsHere es → plus_tuples (map (signed_of t) (filter of_value es)) ≡ of_key (Some v) (plus_tuples (map (signed_of t) es))
+    keyed_pool : ArePlain vs → (es : List (ValKey × Mark)) → AllByRecursion IsHere es → plus_tuples (map (signed_of t) (filter of_value es)) ≡ of_key vs (plus_tuples (map (signed_of t) es))
     keyed_pool nv [] a = refl
     keyed_pool nv (e ∷ es) a =
         let same = signed_is t e a.0.u a.0.row in
@@ -281,28 +324,24 @@ module _ (t : Tables) (h : CanBeRun t) (w rel : ℕ) (nw : IsNum w) (nr : IsNum 
         ap plus_tuples (map_cond (of_value e) e (filter of_value es))
         ∙ ap (λ x. plus_tuples (cond (of_value e) (x ∷ xs) xs)) same
         ∙ pool_step (of_value e) a.0.u e.1.0 xs ys (sym (tested nv e a.0)) (keyed_pool nv es a.1)
-        ∙ ap (λ x. of_key (Some v) (plus_tuples (x ∷ ys))) (sym same)
+        ∙ ap (λ x. of_key vs (plus_tuples (x ∷ ys))) (sym same)
 
-    pub key_tuples : IsPlainValue v → plus_tuples (signed_under t (key_prefix w rel v)) ≡ of_key (Some v) (plus_tuples ((sight_of t).rows w rel))
-    key_tuples nv = ap plus_tuples narrow_shown ∙ keyed_pool nv all all_here ∙ ap (λ r. of_key (Some v) (plus_tuples r)) (sym shown_all)
+    pub key_tuples : ArePlain vs → plus_tuples (signed_under t (key_prefix ((sight_of t).keys rel) w rel vs)) ≡ of_key vs (plus_tuples ((sight_of t).rows w rel))
+    key_tuples nv = ap plus_tuples value_shown ∙ keyed_pool nv all all_here ∙ ap (λ r. of_key vs (plus_tuples r)) (sym shown_all)
 
-    -- a value that no key may have
-    plain_written : (x : Value) → IsPlainValue x → is_written x ≡ true
-    plain_written (Int m) p = refl
-    plain_written (Text s) p = p
+    -- values that no key may have
+    not_of_key : list_all is_written vs ≡ false → (e : ValKey × Mark) (k : IsHere e) → begins_so vs k.u ≡ false
+    not_of_key no_text e k = false_from_ne_true (begins_so vs k.u)
+        (λ b. false≢true (sym no_text ∙ all_written vs (subst ArePlain (begun vs k.u b) (take_plain (length vs) k.u.vals k.row.in_grammar.plain))))
 
-    not_of_key : is_written v ≡ false → (e : ValKey × Mark) (k : IsHere e) → key_is (Some v) k.u ≡ false
-    not_of_key no_text e k = false_from_ne_true (key_is (Some v) k.u)
-        (λ b. false≢true (sym no_text ∙ ap is_written (sym (is_equal_value e.0.2 v (sym (key_same e k) ∙ b))) ∙ plain_written e.0.2 k.key.value))
-
-    none_of_key : is_written v ≡ false → (es : List (ValKey × Mark)) → AllByRecursion IsHere es → of_key (Some v) (plus_tuples (map (signed_of t) es)) ≡ []
+    none_of_key : list_all is_written vs ≡ false → (es : List (ValKey × Mark)) → AllByRecursion IsHere es → of_key vs (plus_tuples (map (signed_of t) es)) ≡ []
     none_of_key n [] a = refl
     none_of_key n (e ∷ es) a =
-        ap (λ x. of_key (Some v) (plus_tuples (x ∷ map (signed_of t) es))) (signed_is t e a.0.u a.0.row)
+        ap (λ x. of_key vs (plus_tuples (x ∷ map (signed_of t) es))) (signed_is t e a.0.u a.0.row)
         ∙ sym (pool_step false a.0.u e.1.0 [] (map (signed_of t) es) (not_of_key n e a.0) (sym (none_of_key n es a.1)))
 
-    pub unwritten : is_written v ≡ false → [] ≡ of_key (Some v) (plus_tuples ((sight_of t).rows w rel))
-    unwritten n = sym (ap (λ r. of_key (Some v) (plus_tuples r)) shown_all ∙ none_of_key n all all_here)
+    pub unwritten : list_all is_written vs ≡ false → [] ≡ of_key vs (plus_tuples ((sight_of t).rows w rel))
+    unwritten n = sym (ap (λ r. of_key vs (plus_tuples r)) shown_all ∙ none_of_key n all all_here)
 
 -- ---- rows that deny a tuple
 
@@ -334,33 +373,35 @@ module _ (t : Tables) (h : CanBeRun t) where
       let m : x.1 ≡ y.1 = mark_rows_are_one x.1 y.1 tt tt (ap (λ l. l.1) heads) in
       ap (λ z. pair z x.1 ∷ xs) k ∙ ap (λ z. pair y.0 z ∷ xs) m ∙ ap (λ (r : List (ValKey × Mark)). y ∷ r) (raw_one p q xs ys a.1 b.1 (ap (λ l. Rattle.std.specs.Prelude.drop 1 l) e))
 
-module _ (t : Tables) (h : CanBeRun t) (w rel : ℕ) (nw : IsNum w) (nr : IsNum rel) (v : Value) (u0 : Tuple) (of : u0.rel ≡ rel) (leads : slice_get u0.vals 0 ≡ Some v) where
-  rest0 : (rest : List Value) × (u0.vals ≡ v ∷ rest)
-  rest0 = first_of u0.vals v leads
+module _ (t : Tables) (h : CanBeRun t) (w rel : ℕ) (nw : IsNum w) (nr : IsNum rel) (u0 : Tuple) (of : u0.rel ≡ rel) where
+  -- the key of the tuple
+  abbrev own_key : List Value
+  own_key = key_of (sight_of t).keys u0
 
-  -- two tuples of one relation have one key exactly where their first values are one
-  keys_are : (e : ValKey × Mark) (k : IsHere t h w rel nw nr e) → same_key (λ _. 1) u0 k.u ≡ key_is (Some v) k.u
-  keys_are e k =
-      both_ways (same_key (λ _. 1) u0 k.u) (key_is (Some v) k.u)
-      (λ b.
-      let p = and_parts (nat_eq u0.rel k.u.rel) (same_values (key_of (λ _. 1) u0) (key_of (λ _. 1) k.u)) b in
-      let q : same_values (v ∷ []) (e.0.2 ∷ []) ≡ true = ap (λ vs. same_values (take 1 vs) (e.0.2 ∷ [])) (sym rest0.1) ∙ ap (λ vs. same_values (key_of (λ _. 1) u0) (take 1 vs)) (sym k.vals) ∙ p.1 in
-      let r = and_parts (same_value v e.0.2) true q in
-      key_same t h w rel nw nr v e k ∙ value_equal e.0.2 v (sym ((same_value-Decides v e.0.2).0 r.0)))
-      (λ b.
-      let x : e.0.2 ≡ v = is_equal_value e.0.2 v (sym (key_same t h w rel nw nr v e k) ∙ b) in
-      and_from (nat_eq u0.rel k.u.rel) (same_values (key_of (λ _. 1) u0) (key_of (λ _. 1) k.u)) (eq-eqb u0.rel k.u.rel (of ∙ sym k.of_rel))
-      (ap (λ vs. same_values (take 1 vs) (key_of (λ _. 1) k.u)) rest0.1 ∙ ap (λ vs. same_values (v ∷ []) (take 1 vs)) k.vals
-      ∙ and_from (same_value v e.0.2) true ((same_value-Decides v e.0.2).1 (sym x)) refl))
+  -- a row is of the tuple's key
+  abbrev of_key_of : ValKey × Mark → Bool
+  of_key_of e = is_prefix (group_prefix w rel own_key) (val_bytes e.0)
 
-  same_has_key : (e : ValKey × Mark) (k : IsHere t h w rel nw nr e) → same_tuple u0 k.u ≡ true → key_is (Some v) k.u ≡ true
+  -- two tuples of one relation have one key exactly where the row's key is the tuple's
+  keys_are : AreKeyVals (key_of (sight_of t).keys u0) → (e : ValKey × Mark) (k : IsHere t h w rel nw nr e) → same_key (sight_of t).keys u0 k.u ≡ of_key_of e
+  keys_are nv e k =
+      both_ways (same_key (sight_of t).keys u0 k.u) (of_key_of e)
+      (λ b.
+      let p = and_parts (nat_eq u0.rel k.u.rel) (same_values own_key (key_of (sight_of t).keys k.u)) b in
+      group_begins w rel own_key e.0 k.at_world k.at_rel (sym k.vals ∙ sym ((same_values-Decides own_key (key_of (sight_of t).keys k.u)).0 p.1)))
+      (λ b.
+      let x : e.0.2 ≡ own_key = group_part w rel own_key nw nr nv e.0 k.key b in
+      and_from (nat_eq u0.rel k.u.rel) (same_values own_key (key_of (sight_of t).keys k.u)) (eq-eqb u0.rel k.u.rel (of ∙ sym k.of_rel))
+      ((same_values-Decides own_key (key_of (sight_of t).keys k.u)).1 (sym (k.vals ∙ x))))
+
+  same_has_key : (e : ValKey × Mark) (k : IsHere t h w rel nw nr e) → same_tuple u0 k.u ≡ true → of_key_of e ≡ true
   same_has_key e k b =
-      let same : u0 ≡ k.u = (same_tuple-Decides u0 k.u).0 b in
-      ap (key_is (Some v)) (sym same) ∙ key_is_first u0 v v rest0.0 rest0.1 ∙ value_equal v v refl
+      group_begins w rel own_key e.0 k.at_world k.at_rel (sym k.vals ∙ ap (λ (x : Tuple). key_of (sight_of t).keys x) (sym ((same_tuple-Decides u0 k.u).0 b)))
 
-  denied_by : (e : ValKey × Mark) (k : IsHere t h w rel nw nr e) (own : Bool) (s : Sign) → own ≡ same_tuple u0 k.u → clash (λ _. 1) u0 Plus k.u s ≡ (key_is (Some v) k.u && Rattle.bdb_exec.specs.Rows.denies_by s own)
-  denied_by e k own Plus o = ap (λ b. b && not (same_tuple u0 k.u)) (keys_are e k) ∙ ap (λ b. key_is (Some v) k.u && not b) (sym o)
-  denied_by e k own Minus o = within (same_tuple u0 k.u) (key_is (Some v) k.u) (same_has_key e k) ∙ ap (λ b. key_is (Some v) k.u && b) (sym o)
+  denied_by : AreKeyVals (key_of (sight_of t).keys u0) → (e : ValKey × Mark) (k : IsHere t h w rel nw nr e) (own : Bool) (s : Sign) → own ≡ same_tuple u0 k.u
+      → clash (sight_of t).keys u0 Plus k.u s ≡ (of_key_of e && Rattle.bdb_exec.specs.Rows.denies_by s own)
+  denied_by nv e k own Plus o = ap (λ b. b && not (same_tuple u0 k.u)) (keys_are nv e k) ∙ ap (λ b. of_key_of e && not b) (sym o)
+  denied_by nv e k own Minus o = within (same_tuple u0 k.u) (of_key_of e) (same_has_key e k) ∙ ap (λ b. of_key_of e && b) (sym o)
     where
       within : (a b : Bool) → (a ≡ true → b ≡ true) → a ≡ (b && a)
       within true b f = sym (ap (λ x. x && true) (f refl))
@@ -368,50 +409,88 @@ module _ (t : Tables) (h : CanBeRun t) (w rel : ℕ) (nw : IsNum w) (nr : IsNum 
       within false false f = refl
 
   -- among all rows of the relation those of the key deny the tuple
-  some_deny : (number : Option ℕ) → IsNumberOf t u0 number → IsPlainValue v → (es : List (ValKey × Mark)) → AllByRecursion (IsHere t h w rel nw nr) es
-      → list_any (row_denies number) (filter (of_value t h w rel nw nr v) es) ≡ rows_deny (λ _. 1) (map (signed_of t) es) u0
+  some_deny : (number : Option ℕ) → IsNumberOf t u0 number → AreKeyVals (key_of (sight_of t).keys u0) → (es : List (ValKey × Mark)) → AllByRecursion (IsHere t h w rel nw nr) es
+      → list_any (row_denies number) (filter of_key_of es) ≡ rows_deny (sight_of t).keys (map (signed_of t) es) u0
   some_deny number is nv [] a = refl
   some_deny number is nv (e ∷ es) a =
       let k = a.0 in
       let same = signed_is t e k.u k.row in
-      any_cond (of_value t h w rel nw nr v e) e (filter (of_value t h w rel nw nr v) es)
-      ∙ ap (λ b. (b && row_denies number e) || list_any (row_denies number) (filter (of_value t h w rel nw nr v) es)) (tested t h w rel nw nr v nv e k)
-      ∙ ap (λ b. b || list_any (row_denies number) (filter (of_value t h w rel nw nr v) es)) (sym (denied_by e k (leads_to number e.0.3) e.1.0 (own_number t h u0 k.u number e.0.3 is k.key.tuple k.row)))
-      ∙ ap (λ b. clash (λ _. 1) u0 Plus k.u e.1.0 || b) (some_deny number is nv es a.1)
-      ∙ ap (λ x. clash (λ _. 1) u0 Plus x.0 x.1 || rows_deny (λ _. 1) (map (signed_of t) es) u0) (sym same)
+      any_cond (of_key_of e) e (filter of_key_of es)
+      ∙ ap (λ b. b || list_any (row_denies number) (filter of_key_of es)) (sym (denied_by nv e k (leads_to number e.0.3) e.1.0 (own_number t h u0 k.u number e.0.3 is k.key.tuple k.row)))
+      ∙ ap (λ b. clash (sight_of t).keys u0 Plus k.u e.1.0 || b) (some_deny number is nv es a.1)
+      ∙ ap (λ x. clash (sight_of t).keys u0 Plus x.0 x.1 || rows_deny (sight_of t).keys (map (signed_of t) es) u0) (sym same)
     where
       any_cond : (b : Bool) (x : ValKey × Mark) (r : List (ValKey × Mark)) → list_any (row_denies number) (cond b (x ∷ r) r) ≡ ((b && row_denies number x) || list_any (row_denies number) r)
       any_cond true x r = refl
       any_cond false x r = refl
 
-  denied_here : (rows : List (Tuple × Sign)) → rows ≡ map (signed_of t) (all t h w rel nw nr) → rows_deny (λ _. 1) (map (signed_of t) (all t h w rel nw nr)) u0 ≡ rows_deny (sight_of t).keys rows u0
-  denied_here rows e = ap (λ r. rows_deny (λ _. 1) r u0) (sym e) ∙ ap (λ f. rows_deny f rows u0) (sym (keys_of t h w rel nw nr))
+  denied_here : rows_deny (sight_of t).keys (map (signed_of t) (all t h w rel nw nr)) u0 ≡ rows_deny (sight_of t).keys ((sight_of t).rows w rel) u0
+  denied_here = ap (λ (r : List (Tuple × Sign)). rows_deny (sight_of t).keys r u0) (sym (shown_all t h w rel nw nr))
 
-  pub denied_is : (number : Option ℕ) (es : List (ValKey × Mark)) → IsNumberOf t u0 number → IsPlainValue v → AreUnder val_codec t (key_prefix w rel v) es
+  -- the rows that are read are those of the key
+  read_narrow : (es : List (ValKey × Mark)) → AreUnder val_codec t (group_prefix w rel own_key) es → es ≡ filter of_key_of (all t h w rel nw nr)
+  read_narrow es under =
+      let read = typed_under t (group_prefix w rel own_key) es under in
+      let narrow = filter of_key_of (all t h w rel nw nr) in
+      raw_one t h (group_prefix w rel own_key) (world_prefix w rel) es narrow read.each
+      (Rattle.bdb_exec.proofs.WorldLemmas.all_filter (IsUnder val_codec (world_prefix w rel)) of_key_of (all t h w rel nw nr) (are_typed t h w rel nw nr).each)
+      (sym read.rows ∙ rows_narrow t h w rel nw nr (vals_bytes own_key))
+
+  pub denied_is : (number : Option ℕ) (es : List (ValKey × Mark)) → IsNumberOf t u0 number → AreKeyVals (key_of (sight_of t).keys u0) → AreUnder val_codec t (group_prefix w rel (key_of (sight_of t).keys u0)) es
       → list_any (row_denies number) es ≡ rows_deny (sight_of t).keys ((sight_of t).rows w rel) u0
   denied_is number es is nv under =
-      let read = typed_under t (key_prefix w rel v) es under in
-      let narrow = filter (of_value t h w rel nw nr v) (all t h w rel nw nr) in
-      let same : es ≡ narrow = raw_one t h (key_prefix w rel v) (world_prefix w rel) es narrow read.each
-      (Rattle.bdb_exec.proofs.WorldLemmas.all_filter (IsUnder val_codec (world_prefix w rel)) (of_value t h w rel nw nr v) (all t h w rel nw nr) (are_typed t h w rel nw nr).each) (sym read.rows ∙ rows_narrow t h w rel nw nr v) in
-      ap (list_any (row_denies number)) same ∙ some_deny number is nv (all t h w rel nw nr) (all_here t h w rel nw nr) ∙ denied_here ((sight_of t).rows w rel) (shown_all t h w rel nw nr)
+      ap (list_any (row_denies number)) (read_narrow es under) ∙ some_deny number is nv (all t h w rel nw nr) (all_here t h w rel nw nr) ∙ denied_here
 
-  none_deny : is_written v ≡ false → (es : List (ValKey × Mark)) → AllByRecursion (IsHere t h w rel nw nr) es → rows_deny (λ _. 1) (map (signed_of t) es) u0 ≡ false
+  -- a key that no row may have
+  key_apart : list_all is_written (key_of (sight_of t).keys u0) ≡ false → (e : ValKey × Mark) (k : IsHere t h w rel nw nr e) → own_key ≡ key_of (sight_of t).keys k.u → ⊥
+  key_apart n e k same = false≢true (sym n ∙ ap (list_all is_written) (same ∙ k.vals) ∙ all_written e.0.2 k.key.key.plain)
+
+  not_denied : list_all is_written (key_of (sight_of t).keys u0) ≡ false → (e : ValKey × Mark) (k : IsHere t h w rel nw nr e) (s : Sign) → clash (sight_of t).keys u0 Plus k.u s ≡ false
+  not_denied n e k Plus =
+      ap (λ b. b && not (same_tuple u0 k.u)) (false_from_ne_true (same_key (sight_of t).keys u0 k.u) (λ b.
+      let p = and_parts (nat_eq u0.rel k.u.rel) (same_values own_key (key_of (sight_of t).keys k.u)) b in
+      key_apart n e k ((same_values-Decides own_key (key_of (sight_of t).keys k.u)).0 p.1)))
+  not_denied n e k Minus =
+      false_from_ne_true (same_tuple u0 k.u) (λ b. key_apart n e k (ap (λ (x : Tuple). key_of (sight_of t).keys x) ((same_tuple-Decides u0 k.u).0 b)))
+
+  none_deny : list_all is_written (key_of (sight_of t).keys u0) ≡ false → (es : List (ValKey × Mark)) → AllByRecursion (IsHere t h w rel nw nr) es → rows_deny (sight_of t).keys (map (signed_of t) es) u0 ≡ false
   none_deny n [] a = refl
   none_deny n (e ∷ es) a =
       let k = a.0 in
-      let not_key = not_of_key t h w rel nw nr v n e k in
-      ap (λ x. clash (λ _. 1) u0 Plus x.0 x.1 || rows_deny (λ _. 1) (map (signed_of t) es) u0) (signed_is t e k.u k.row)
-      ∙ ap (λ b. b || rows_deny (λ _. 1) (map (signed_of t) es) u0) (denied_by e k (same_tuple u0 k.u) e.1.0 refl ∙ ap (λ b. b && Rattle.bdb_exec.specs.Rows.denies_by e.1.0 (same_tuple u0 k.u)) not_key)
+      ap (λ x. clash (sight_of t).keys u0 Plus x.0 x.1 || rows_deny (sight_of t).keys (map (signed_of t) es) u0) (signed_is t e k.u k.row)
+      ∙ ap (λ b. b || rows_deny (sight_of t).keys (map (signed_of t) es) u0) (not_denied n e k e.1.0)
       ∙ none_deny n es a.1
 
-  pub unwritten_denied : is_written v ≡ false → false ≡ rows_deny (sight_of t).keys ((sight_of t).rows w rel) u0
-  unwritten_denied n = sym (none_deny n (all t h w rel nw nr) (all_here t h w rel nw nr)) ∙ denied_here ((sight_of t).rows w rel) (shown_all t h w rel nw nr)
+  pub unwritten_denied : list_all is_written (key_of (sight_of t).keys u0) ≡ false → false ≡ rows_deny (sight_of t).keys ((sight_of t).rows w rel) u0
+  unwritten_denied n = sym (none_deny n (all t h w rel nw nr) (all_here t h w rel nw nr)) ∙ denied_here
 
-  pub denied_reads : (es : List (ValKey × Mark)) → IsPlainValue v → AreUnder val_codec t (key_prefix w rel v) es → length es ≡ length (rows_of_key (Some v) ((sight_of t).rows w rel))
+  -- ---- the rows of the key are those of the tuples that begin with it
+
+  module _ (nv : AreKeyVals (key_of (sight_of t).keys u0)) where
+    leads_too : (e : ValKey × Mark) (k : IsHere t h w rel nw nr e) → of_key_of e ≡ true → begins_so own_key (signed_of t e).0 ≡ true
+    leads_too e k b =
+        let x : e.0.2 ≡ own_key = group_part w rel own_key nw nr nv e.0 k.key b in
+        let n = (sight_of t).keys k.u.rel in
+        let short : length own_key ≤ n = subst (λ (vs : List Value). length vs ≤ n) (k.vals ∙ x) (take_short n k.u.vals) in
+        ap (λ (y : Tuple × Sign). begins_so own_key y.0) (signed_is t e k.u k.row)
+        ∙ has_begun own_key k.u (sym (first_at t h w rel nw nr e k (length own_key) short) ∙ ap (take (length own_key)) x ∙ take_whole own_key)
+
+    fewer : (es : List (ValKey × Mark)) → AllByRecursion (IsHere t h w rel nw nr) es → length (filter of_key_of es) ≤ length (rows_of_key own_key (map (signed_of t) es))
+    fewer [] a = omega arith
+    fewer (e ∷ es) a = by (of_key_of e) refl (begins_so own_key (signed_of t e).0) refl (fewer es a.1)
+      where
+        by : (b : Bool) → of_key_of e ≡ b → (c : Bool) → begins_so own_key (signed_of t e).0 ≡ c → length (filter of_key_of es) ≤ length (rows_of_key own_key (map (signed_of t) es))
+            → length (cond b (e ∷ filter of_key_of es) (filter of_key_of es)) ≤ length (cond c (signed_of t e ∷ rows_of_key own_key (map (signed_of t) es)) (rows_of_key own_key (map (signed_of t) es)))
+        by true p true q le = omega (arith, le)
+        by true p false q le = absurd (false≢true (sym q ∙ leads_too e a.0 p))
+        by false p true q le = omega (arith, le)
+        by false p false q le = le
+
+  pub denied_reads : (es : List (ValKey × Mark)) → AreKeyVals (key_of (sight_of t).keys u0) → AreUnder val_codec t (group_prefix w rel (key_of (sight_of t).keys u0)) es
+      → length es ≤ length (rows_of_key (key_of (sight_of t).keys u0) ((sight_of t).rows w rel))
   denied_reads es nv under =
-      sym (ap length (shown t (key_prefix w rel v) es (typed_under t (key_prefix w rel v) es under)) ∙ length_map (signed_of t) es)
-      ∙ ap length (key_rows t h w rel nw nr v nv)
+      subst (λ (r : List (Tuple × Sign)). length es ≤ length (rows_of_key own_key r)) (sym (shown_all t h w rel nw nr))
+      (subst (λ (xs : List (ValKey × Mark)). length xs ≤ length (rows_of_key own_key (map (signed_of t) (all t h w rel nw nr)))) (sym (read_narrow es under)) (fewer nv (all t h w rel nw nr) (all_here t h w rel nw nr)))
 
 -- whether a row denies is told by the number of its tuple
 pub denied_by_number : (number : Option ℕ) (es : List (ValKey × Mark)) → list_any (mark_denies number) (map numbered es) ≡ list_any (row_denies number) es

@@ -1,5 +1,5 @@
--- A choice that the tests right behind it refuse gives no rows, and they refuse what has another key than they ask for.
-use Rattle.std.proofs.Common.{◌≡◌, ◌∙◌, ℕ, zero, suc, ◌+◌, ◌≤◌, ◌<◌, Bool, true, false, not, ◌&&◌, cond, nat_eq, nat_lt, List, [], ◌∷◌, ◌++◌, Option, Some, None, length, map, filter, slice_set, refl, ap, sym, arith}
+-- A choice that the tests right behind it refuse gives no rows, and they let through only what begins as they ask.
+use Rattle.std.proofs.Common.{◌≡◌, ◌∙◌, ℕ, zero, suc, ◌+◌, ◌*◌, ◌≤◌, ◌<◌, Bool, true, false, not, ◌&&◌, cond, nat_eq, nat_lt, List, [], ◌∷◌, ◌++◌, Option, Some, None, is_some, length, map, filter, take, drop, slice_set, refl, ap, sym, arith}
 use Rattle.std.specs.List.{flat_map, sum_by, slice_get}
 use Rattle.std.specs.Option.{option_and_then, unwrap_or}
 use Rattle.std.specs.Ordering.{is_eq, ordering_reverse}
@@ -13,6 +13,7 @@ use Rattle.bdb_base.specs.Queries.{option_list}
 use Rattle.bdb_base.specs.OrderLemmas.{value_exact}
 use Rattle.bdb_base.specs.Order.{value_cmp}
 use Rattle.bdb_base.specs.Safety.{is_column, is_equality, same_column}
+use Rattle.bdb_base.specs.SameLemmas.{same_values-Decides}
 use Rattle.bdb_base.specs.declared.kinds.Cmp.{Cmp}
 use Rattle.bdb_base.specs.declared.kinds.Cmp.TheVariants.{Eq, Ne, Lt, Le, Gt, Ge}
 use Rattle.bdb_base.specs.declared.kinds.Cond.{Cond}
@@ -28,9 +29,9 @@ use Rattle.bdb_plan.specs.Sight.{Sight}
 use Rattle.bdb_plan.specs.Sources.{first_there}
 use Rattle.bdb_plan.specs.declared.step.Step.{Step}
 use Rattle.bdb_plan.specs.declared.step.Step.TheVariants as step
-use Rattle.bdb_exec.specs.Keys.{tests_hold, passes, key_is, first_column, names_another, asks_on_left, asks_on_right, key_of_test, key_behind, of_key, rows_of_key, key_asked, narrowed, choices_before, after_before}
-use Rattle.bdb_exec.specs.LookUps.{looks_from, own_looks, deny_looks}
-use Rattle.bdb_exec.proofs.DenyLemmas.{length_filter, filter_narrow}
+use Rattle.bdb_exec.specs.Keys.{tests_hold, passes, begins_so, column, names_another, asks_for_key, asks_on_left, asks_on_right, value_of_test, value_behind, values_behind, led_by, of_key, rows_of_key, key_asked, narrowed, choices_before, after_before}
+use Rattle.bdb_exec.specs.LookUps.{looks_from, own_looks, deny_looks, pool_looks}
+use Rattle.bdb_exec.proofs.DenyLemmas.{equal_value, length_filter, filter_narrow}
 
 -- ---- slots with one more tuple
 
@@ -82,98 +83,151 @@ other_way v (Some x) = ap is_eq (value_exact.total.antisymm v x) ∙ reversed (v
     reversed Equal = refl
     reversed Greater = refl
 
+-- values from one on that is there
+drop_there : (vs : List Value) (i : ℕ) (v : Value) → slice_get vs i ≡ Some v → drop i vs ≡ v ∷ drop (suc i) vs
+drop_there [] i v e = absurd (none_not v e)
+drop_there (x ∷ vs) zero v e = ap (λ (y : Value). y ∷ vs) (same e)
+  where
+    same : {a b : Value} → Some a ≡ Some b → a ≡ b
+    same e = cc
+drop_there (x ∷ vs) (suc i) v e = drop_there vs i v e
+
 module _ (slots : List (Option Tuple)) (item : ℕ) (t : Tuple) (lt : item < length slots) where
   set : List (Option Tuple)
   set = slice_set slots item (Some t)
 
-  -- the first column of the item is the first value of the tuple
-  first_known : (r : Ref) → same_column (first_column item) r ≡ true → known set r ≡ slice_get t.vals 0
-  unfolding set
-  first_known r e =
-      let p = and_parts (nat_eq item r.item) (nat_eq 0 r.col) e in
-      ap (λ i. option_and_then (λ u. slice_get u.vals r.col) (slot_at set i)) (sym (eqb-true item r.item p.0))
-      ∙ ap (option_and_then (λ u. slice_get u.vals r.col)) (set_here slots item t lt)
-      ∙ ap (slice_get t.vals) (sym (eqb-true 0 r.col p.1))
+  module _ (col : ℕ) where
+    -- the column of the item is that value of the tuple
+    column_known : (r : Ref) → same_column (column item col) r ≡ true → known set r ≡ slice_get t.vals col
+    unfolding set
+    column_known r e =
+        let p = and_parts (nat_eq item r.item) (nat_eq col r.col) e in
+        ap (λ i. option_and_then (λ u. slice_get u.vals r.col) (slot_at set i)) (sym (eqb-true item r.item p.0))
+        ∙ ap (option_and_then (λ u. slice_get u.vals r.col)) (set_here slots item t lt)
+        ∙ ap (slice_get t.vals) (sym (eqb-true col r.col p.1))
 
-  -- a test that asks for a key holds exactly where the tuple has it
-  left_holds : (c : Cond) (v : Value) → asks_on_left item c ≡ true → known_operand slots c.right ≡ Some v → must_hold set c ≡ key_is (Some v) t
-  unfolding set
-  left_holds c v asks k =
-      let p = and_parts (is_equality c.cmp) (same_column (first_column item) c.left && names_another item c.right) asks in
-      let q = and_parts (same_column (first_column item) c.left) (names_another item c.right) p.1 in
-      ap (λ cmp. compare_so cmp (known set c.left) (known_operand set c.right)) (equality c.cmp p.0)
-      ∙ ap (λ o. compare_so Eq (known set c.left) o) (other_known slots item t c.right q.1 ∙ k)
-      ∙ ap (λ o. compare_so Eq o (Some v)) (first_known c.left q.0)
+    -- a test that asks for a value holds exactly where the tuple has it
+    left_holds : (c : Cond) (v : Value) → asks_on_left item col c ≡ true → known_operand slots c.right ≡ Some v → must_hold set c ≡ compare_so Eq (slice_get t.vals col) (Some v)
+    unfolding set
+    left_holds c v asks k =
+        let p = and_parts (is_equality c.cmp) (same_column (column item col) c.left && names_another item c.right) asks in
+        let q = and_parts (same_column (column item col) c.left) (names_another item c.right) p.1 in
+        ap (λ cmp. compare_so cmp (known set c.left) (known_operand set c.right)) (equality c.cmp p.0)
+        ∙ ap (λ o. compare_so Eq (known set c.left) o) (other_known slots item t c.right q.1 ∙ k)
+        ∙ ap (λ o. compare_so Eq o (Some v)) (column_known c.left q.0)
 
-  right_known : (o : Operand) → is_column (first_column item) o ≡ true → known_operand set o ≡ slice_get t.vals 0
-  right_known (Col r) e = first_known r e
-  right_known (Lit v) e = absurd (true≢false (sym e))
+    right_known : (o : Operand) → is_column (column item col) o ≡ true → known_operand set o ≡ slice_get t.vals col
+    right_known (Col r) e = column_known r e
+    right_known (Lit v) e = absurd (true≢false (sym e))
 
-  right_holds : (c : Cond) (v : Value) → asks_on_right item c ≡ true → known slots c.left ≡ Some v → must_hold set c ≡ key_is (Some v) t
-  unfolding set
-  right_holds c v asks k =
-      let p = and_parts (is_equality c.cmp) (is_column (first_column item) c.right && not (nat_eq c.left.item item)) asks in
-      let q = and_parts (is_column (first_column item) c.right) (not (nat_eq c.left.item item)) p.1 in
-      ap (λ cmp. compare_so cmp (known set c.left) (known_operand set c.right)) (equality c.cmp p.0)
-      ∙ ap (λ o. compare_so Eq o (known_operand set c.right)) (ap (option_and_then (λ u. slice_get u.vals c.left.col)) (set_elsewhere slots item c.left.item t (turned_off (nat_eq c.left.item item) q.1)) ∙ k)
-      ∙ ap (compare_so Eq (Some v)) (right_known c.right q.0)
-      ∙ other_way v (slice_get t.vals 0)
+    right_holds : (c : Cond) (v : Value) → asks_on_right item col c ≡ true → known slots c.left ≡ Some v → must_hold set c ≡ compare_so Eq (slice_get t.vals col) (Some v)
+    unfolding set
+    right_holds c v asks k =
+        let p = and_parts (is_equality c.cmp) (is_column (column item col) c.right && not (nat_eq c.left.item item)) asks in
+        let q = and_parts (is_column (column item col) c.right) (not (nat_eq c.left.item item)) p.1 in
+        ap (λ cmp. compare_so cmp (known set c.left) (known_operand set c.right)) (equality c.cmp p.0)
+        ∙ ap (λ o. compare_so Eq o (known_operand set c.right)) (ap (option_and_then (λ u. slice_get u.vals c.left.col)) (set_elsewhere slots item c.left.item t (turned_off (nat_eq c.left.item item) q.1)) ∙ k)
+        ∙ ap (compare_so Eq (Some v)) (right_known c.right q.0)
+        ∙ other_way v (slice_get t.vals col)
 
-  test_holds : (c : Cond) (v : Value) → key_of_test slots item c ≡ Some v → must_hold set c ≡ key_is (Some v) t
-  test_holds c v e = by (asks_on_left item c) refl (asks_on_right item c) refl
+    test_holds : (c : Cond) (v : Value) → value_of_test slots item col c ≡ Some v → must_hold set c ≡ compare_so Eq (slice_get t.vals col) (Some v)
+    test_holds c v e = by (asks_on_left item col c) refl (asks_on_right item col c) refl
+      where
+        on_right : asks_on_left item col c ≡ false → cond (asks_on_right item col c) (known slots c.left) None ≡ Some v
+        on_right p = sym (cond-false (asks_on_left item col c) (known_operand slots c.right) (cond (asks_on_right item col c) (known slots c.left) None) p) ∙ e
+
+        by : (a : Bool) → asks_on_left item col c ≡ a → (b : Bool) → asks_on_right item col c ≡ b → must_hold set c ≡ compare_so Eq (slice_get t.vals col) (Some v)
+        by true p b q = left_holds c v p (sym (cond-true (asks_on_left item col c) (known_operand slots c.right) (cond (asks_on_right item col c) (known slots c.left) None) p) ∙ e)
+        by false p true q = right_holds c v q (sym (cond-true (asks_on_right item col c) (known slots c.left) None q) ∙ on_right p)
+        by false p false q = absurd (none_not v (sym (cond-false (asks_on_right item col c) (known slots c.left) None q) ∙ on_right p))
+
+    -- a tuple that the tests let through has the value that they ask for
+    value_there : (xs : List Step) (v : Value) → value_behind slots item xs col ≡ Some v → tests_hold set xs ≡ true → slice_get t.vals col ≡ Some v
+    value_there [] v k h = absurd (none_not v k)
+    value_there (step.Test c ∷ xs) v k h = by (value_of_test slots item col c) refl (λ e r. value_there xs v e r)
+      where
+        both : (must_hold set c ≡ true) × (tests_hold set xs ≡ true)
+        both = and_parts (must_hold set c) (tests_hold set xs) h
+
+        by : (o : Option Value) → value_of_test slots item col c ≡ o → (value_behind slots item xs col ≡ Some v → tests_hold set xs ≡ true → slice_get t.vals col ≡ Some v) → slice_get t.vals col ≡ Some v
+        by None e rest = rest (sym (ap (λ o. first_there o (value_behind slots item xs col)) e) ∙ k) both.1
+        by (Some w) e rest =
+            let same : Some w ≡ Some v = sym (ap (λ o. first_there o (value_behind slots item xs col)) e) ∙ k in
+            equal_value (slice_get t.vals col) w (sym (test_holds c w e) ∙ both.0) ∙ same
+    value_there (step.User a ∷ xs) v k h = absurd (none_not v k)
+    value_there (step.Start a ∷ xs) v k h = absurd (none_not v k)
+    value_there (step.Edge a b ∷ xs) v k h = absurd (none_not v k)
+    value_there (step.Differ a b d ∷ xs) v k h = absurd (none_not v k)
+    value_there (step.Pos a b ∷ xs) v k h = absurd (none_not v k)
+    value_there (step.Bind a b d ∷ xs) v k h = absurd (none_not v k)
+    value_there (step.Neg a b ∷ xs) v k h = absurd (none_not v k)
+
+  -- from each column on it has the values that they ask for
+  values_there : (xs : List Step) → tests_hold set xs ≡ true → (most col : ℕ) → take (length (values_behind slots item xs most col)) (drop col t.vals) ≡ values_behind slots item xs most col
+  values_there xs h zero col = refl
+  values_there xs h (suc most) col = by (value_behind slots item xs col) refl (values_there xs h most (suc col))
     where
-      on_right : asks_on_left item c ≡ false → cond (asks_on_right item c) (known slots c.left) None ≡ Some v
-      on_right p = sym (cond-false (asks_on_left item c) (known_operand slots c.right) (cond (asks_on_right item c) (known slots c.left) None) p) ∙ e
+      by : (o : Option Value) → value_behind slots item xs col ≡ o → take (length (values_behind slots item xs most (suc col))) (drop (suc col) t.vals) ≡ values_behind slots item xs most (suc col)
+          → take (length (led_by o (values_behind slots item xs most (suc col)))) (drop col t.vals) ≡ led_by o (values_behind slots item xs most (suc col))
+      by None e rest = refl
+      by (Some v) e rest =
+          ap (take (suc (length (values_behind slots item xs most (suc col))))) (drop_there t.vals col v (value_there col xs v e h)) ∙ ap (λ (vs : List Value). v ∷ vs) rest
 
-      by : (a : Bool) → asks_on_left item c ≡ a → (b : Bool) → asks_on_right item c ≡ b → must_hold set c ≡ key_is (Some v) t
-      by true p b q = left_holds c v p (sym (cond-true (asks_on_left item c) (known_operand slots c.right) (cond (asks_on_right item c) (known slots c.left) None) p) ∙ e)
-      by false p true q = right_holds c v q (sym (cond-true (asks_on_right item c) (known slots c.left) None q) ∙ on_right p)
-      by false p false q = absurd (none_not v (sym (cond-false (asks_on_right item c) (known slots c.left) None q) ∙ on_right p))
-
-  -- the tests refuse a tuple that has another key than they ask for
-  refused : (xs : List Step) (v : Value) → key_behind slots item xs ≡ Some v → key_is (Some v) t ≡ false → tests_hold set xs ≡ false
-  refused [] v k other = absurd (none_not v k)
-  refused (step.Test c ∷ xs) v k other = by (λ e. refused xs v e other) (key_of_test slots item c) refl
-    where
-      none : (b : Bool) → (b && false) ≡ false
-      none true = refl
-      none false = refl
-
-      by : (key_behind slots item xs ≡ Some v → tests_hold set xs ≡ false) → (o : Option Value) → key_of_test slots item c ≡ o → (must_hold set c && tests_hold set xs) ≡ false
-      by rest (Some w) e =
-          let same : w ≡ v = first (sym (ap (λ o. first_there o (key_behind slots item xs)) e) ∙ k) in
-          ap (λ b. b && tests_hold set xs) (test_holds c w e ∙ ap (λ x. key_is (Some x) t) same ∙ other)
-        where
-          first : {a b : Value} → Some a ≡ Some b → a ≡ b
-          first e = cc
-      by rest None e = ap (λ b. must_hold set c && b) (rest (sym (ap (λ o. first_there o (key_behind slots item xs)) e) ∙ k)) ∙ none (must_hold set c)
-  refused (step.User a ∷ xs) v k other = absurd (none_not v k)
-  refused (step.Start a ∷ xs) v k other = absurd (none_not v k)
-  refused (step.Edge a b ∷ xs) v k other = absurd (none_not v k)
-  refused (step.Differ a b d ∷ xs) v k other = absurd (none_not v k)
-  refused (step.Pos a b ∷ xs) v k other = absurd (none_not v k)
-  refused (step.Bind a b d ∷ xs) v k other = absurd (none_not v k)
-  refused (step.Neg a b ∷ xs) v k other = absurd (none_not v k)
-
-  pub key_refused : (xs : List Step) (v : Value) → key_behind slots item xs ≡ Some v → key_is (Some v) t ≡ false → passes slots item xs t ≡ false
+  -- a tuple that the tests let through begins as they ask
+  pub key_there : (xs : List Step) (n : ℕ) → passes slots item xs t ≡ true → begins_so (key_asked n slots item xs) t ≡ true
   unfolding set
-  key_refused xs v k other = refused xs v k other
+  key_there xs n h =
+      let vs = values_behind slots item xs n 0 in
+      ap (λ (ks : List Value). begins_so ks t) (cond-true (nat_lt item (length slots)) vs [] (above item (length slots) lt))
+      ∙ (same_values-Decides (take (length vs) t.vals) vs).1 (values_there xs h n 0)
+    where
+      above : (m n : ℕ) → m < n → nat_lt m n ≡ true
+      above m n lt = grind (arith, nat_tests)
 
--- among the tuples of the key that is asked for are all that the tests let through
-pub key_passes : (slots : List (Option Tuple)) (item : ℕ) (xs : List Step) (v : Value) (pool : List Tuple) → Some v ≡ key_asked slots item xs
-    → filter (passes slots item xs) (of_key (Some v) pool) ≡ filter (passes slots item xs) pool
-key_passes slots item xs v pool asked = by (nat_lt item (length slots)) refl
+-- among the tuples that begin as is asked for are all that the tests let through
+pub key_passes : (slots : List (Option Tuple)) (item : ℕ) (xs : List Step) (n : ℕ) (pool : List Tuple)
+    → filter (passes slots item xs) (of_key (key_asked n slots item xs) pool) ≡ filter (passes slots item xs) pool
+key_passes slots item xs n pool = sym (filter_narrow (passes slots item xs) (begins_so (key_asked n slots item xs)) pool (λ t p. by t p (nat_lt item (length slots)) refl))
   where
     below : nat_lt item (length slots) ≡ true → item < length slots
     below e = grind (arith, nat_tests)
 
-    by : (b : Bool) → nat_lt item (length slots) ≡ b → filter (passes slots item xs) (of_key (Some v) pool) ≡ filter (passes slots item xs) pool
-    by true e = sym (filter_narrow (passes slots item xs) (key_is (Some v)) pool (λ t p. kept t p (key_is (Some v) t) refl))
-      where
-        kept : (t : Tuple) → passes slots item xs t ≡ true → (b : Bool) → key_is (Some v) t ≡ b → key_is (Some v) t ≡ true
-        kept t p true k = k
-        kept t p false k = absurd (true≢false (sym p ∙ key_refused slots item t (below e) xs v (sym (asked ∙ cond-true (nat_lt item (length slots)) (key_behind slots item xs) None e)) k))
-    by false e = absurd (none_not v (sym (asked ∙ cond-false (nat_lt item (length slots)) (key_behind slots item xs) None e)))
+    by : (t : Tuple) → passes slots item xs t ≡ true → (b : Bool) → nat_lt item (length slots) ≡ b → begins_so (key_asked n slots item xs) t ≡ true
+    by t p true e = key_there slots item t (below e) xs n p
+    by t p false e = ap (λ (ks : List Value). begins_so ks t) (cond-false (nat_lt item (length slots)) (values_behind slots item xs n 0) [] e)
+
+-- where nothing is asked for of the first column, nothing is asked for of the key
+pub none_asked : (slots : List (Option Tuple)) (item : ℕ) (xs : List Step) (n : ℕ) → asks_for_key slots item xs ≡ false → key_asked n slots item xs ≡ []
+none_asked slots item xs n e = by (nat_lt item (length slots)) refl
+  where
+    none : (o : Option Value) (vs : List Value) → is_some o ≡ false → led_by o vs ≡ []
+    none None vs k = refl
+    none (Some v) vs k = absurd (true≢false k)
+
+    values : (n : ℕ) → is_some (value_behind slots item xs 0) ≡ false → values_behind slots item xs n 0 ≡ []
+    values zero k = refl
+    values (suc n) k = none (value_behind slots item xs 0) (values_behind slots item xs n 1) k
+
+    by : (b : Bool) → nat_lt item (length slots) ≡ b → cond b (values_behind slots item xs n 0) [] ≡ []
+    by true k = values n (sym (ap (λ b. b && is_some (value_behind slots item xs 0)) k) ∙ e)
+    by false k = refl
+
+-- Where something is asked for of the first column, as many values as there are are asked for of a key that has a column.
+pub asked_values : (slots : List (Option Tuple)) (item : ℕ) (xs : List Step) (n : ℕ) → asks_for_key slots item xs ≡ true → key_asked n slots item xs ≡ values_behind slots item xs n 0
+asked_values slots item xs n e =
+    cond-true (nat_lt item (length slots)) (values_behind slots item xs n 0) [] (and_parts (nat_lt item (length slots)) (is_some (value_behind slots item xs 0)) e).0
+
+-- and they are read of one row at least
+pub asked_looks : (slots : List (Option Tuple)) (item : ℕ) (xs : List Step) (n : ℕ) (rows : List (Tuple × Sign)) → asks_for_key slots item xs ≡ true → 0 < n
+    → 2 * length (rows_of_key (values_behind slots item xs n 0) rows) + 2 ≡ pool_looks (key_asked n slots item xs) rows
+asked_looks slots item xs zero rows e some = absurd (omega (arith, some))
+asked_looks slots item xs (suc n) rows e some =
+    by (value_behind slots item xs 0) (values_behind slots item xs n 1) (and_parts (nat_lt item (length slots)) (is_some (value_behind slots item xs 0)) e).1
+    ∙ ap (λ (vs : List Value). pool_looks vs rows) (sym (asked_values slots item xs (suc n) e))
+  where
+    by : (o : Option Value) (vs : List Value) → is_some o ≡ true → 2 * length (rows_of_key (led_by o vs) rows) + 2 ≡ pool_looks (led_by o vs) rows
+    by None vs k = absurd (true≢false (sym k))
+    by (Some v) vs k = refl
 
 module _ (sight : Sight) (taken : List Ref) where
   -- where a test refuses what is chosen, no rows come of the steps
@@ -288,18 +342,21 @@ module _ (F G : Reached → ℕ) (h : (z : Reached) → F z ≤ G z) where
       by (Some c) = chosen_fewer (with_slot s c.0) (passes s.slots c.0 xs) c.1
 
 -- the rows of a key are not more than all
-key_fewer : (o : Option Value) (rows : List (Tuple × Sign)) → length (rows_of_key o rows) ≤ length rows
-key_fewer None rows = omega arith
-key_fewer (Some v) rows = length_filter (λ x. key_is (Some v) x.0) rows
+key_fewer : (vs : List Value) (rows : List (Tuple × Sign)) → length (rows_of_key vs rows) ≤ length rows
+key_fewer vs rows = length_filter (λ x. begins_so vs x.0) rows
 
 own_fewer : (sight : Sight) (s : Reached) (x : Step) (xs : List Step) → own_looks sight s x xs ≤ own_reads sight s x
 own_fewer sight s (step.User a) xs = omega arith
-own_fewer sight s (step.Pos a rel) xs = let fewer = key_fewer (key_asked s.slots a xs) (sight.rows s.world rel) in omega (arith, fewer)
+own_fewer sight s (step.Pos a rel) xs = by (key_asked (sight.keys rel) s.slots a xs)
+  where
+    by : (vs : List Value) → pool_looks vs (sight.rows s.world rel) + 0 ≤ 2 * length (sight.rows s.world rel) + 2 + 0
+    by [] = omega arith
+    by (v ∷ vs) = let fewer = key_fewer (v ∷ vs) (sight.rows s.world rel) in omega (arith, fewer)
 own_fewer sight s (step.Neg a rel) xs = by (slot_at s.slots a)
   where
-    by : (o : Option Tuple) → 0 + deny_looks (sight.rows s.world rel) o ≤ 0 + (length (sight.rows s.world rel) + 3)
+    by : (o : Option Tuple) → 0 + deny_looks (sight.keys rel) (sight.rows s.world rel) o ≤ 0 + (length (sight.rows s.world rel) + 3)
     by None = omega arith
-    by (Some t) = let fewer = key_fewer (slice_get t.vals 0) (sight.rows s.world rel) in omega (arith, fewer)
+    by (Some t) = let fewer = key_fewer (take (sight.keys rel) t.vals) (sight.rows s.world rel) in omega (arith, fewer)
 own_fewer sight s (step.Start a) xs = omega arith
 own_fewer sight s (step.Edge a b) xs = omega arith
 own_fewer sight s (step.Differ a b d) xs = omega arith

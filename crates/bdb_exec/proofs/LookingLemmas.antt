@@ -12,7 +12,8 @@ use Rattle.bdb_key.specs.Bytes.{num_bytes}
 use Rattle.bdb_key.specs.Grammar.{IsNum, ArePlain, IsWhole, HasPlainText}
 use Rattle.bdb_key.specs.Rows.{IsTupleRow}
 use Rattle.bdb_queries.specs.Slots.{user_tuple}
-use Rattle.bdb_tables.specs.Codec.{HasAt, HasRow}
+use Rattle.bdb_tables.specs.Codec.{HasAt, HasRow, TableFits}
+use Rattle.bdb_tables.specs.Grammar.{InGrammar}
 use Rattle.bdb_tables.specs.InUse.{user_codec, tuple_codec, tuple_ix_codec, edge_codec}
 use Rattle.bdb_tables.specs.InUseLaws.{number_rows_are_one}
 use Rattle.bdb_tables.specs.Spans.{AreUnder, IsUnder}
@@ -42,6 +43,10 @@ map_length (e ∷ es) = ap (λ n. Prim.Native.Nat.suc n) (map_length es)
 
 pub users_many : (t : Tables) (es : List (ℕ × List ℕ)) → AreUnder user_codec t [] es → length es ≡ length (sight_of t).users
 users_many t es u = sym (map_length es) ∙ ap length (users_are t es u)
+
+-- tables in the grammar fit the table of edges
+pub edge_fits : (t : Tables) → InGrammar t → TableFits edge_codec t
+edge_fits t h k r found = h 9 k r found
 
 pub edge_is : (t : Tables) (w i : ℕ) (o : Option ℕ) → HasAt edge_codec t (w, i) o → o ≡ (sight_of t).edge w i
 unfolding sight_of

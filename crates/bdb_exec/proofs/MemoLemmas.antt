@@ -3,17 +3,17 @@ use Rattle.std.proofs.Common.{◌≡◌, ◌∙◌, ℕ, Bool, true, false, cond
 use Rattle.std.specs.Prelude.{IfSome}
 use Rattle.std.specs.declared.cmp.Ordering.{Ordering}
 use Rattle.std.specs.declared.cmp.Ordering.TheVariants.{Less, Equal, Greater}
-use Rattle.std.specs.Ordering.{is_eq, nat_cmp, ordering_then}
+use Rattle.std.specs.Ordering.{eq_by_cmp, is_eq, nat_cmp, ordering_then}
 use Rattle.std.specs.BTreeMap.{BTreeMap, get, Updates}
 use Rattle.std.proofs.lemmas.Bool.{false≢true}
 use Rattle.std.proofs.lemmas.Cmp.{ranked}
 use Rattle.std.proofs.lemmas.Option.{cond_some, none-some}
-use Rattle.bdb_base.specs.SameLemmas.{same_value-Decides}
-use Rattle.bdb_base.specs.Same.{same_value}
-use Rattle.bdb_base.specs.declared.kinds.Value.{Value}
 use Rattle.bdb_base.specs.declared.tuple.Tuple.{Tuple}
-use Rattle.bdb_exec.specs.Keys.{of_key}
+use Rattle.bdb_keep.specs.Tables.{Tables, bytes_cmp}
+use Rattle.bdb_plan.specs.Running.{plus_tuples}
+use Rattle.bdb_tables.proofs.Held.{same_place}
 use Rattle.bdb_exec.specs.Memos.{pair_cmp, last_pool}
+use Rattle.bdb_exec.specs.Seen.{signed_under}
 use Rattle.bdb_exec.specs.declared.memo.KeyPool.{KeyPool}
 
 -- what holds of all entries still does with one more of which it holds
@@ -44,9 +44,10 @@ pair_tied a b e = by (nat_cmp a.0 b.0) refl e
     by Equal k i = ap (λ m. pair m a.1) (nat_tied a.0 b.0 (ap is_eq k)) ∙ ap (λ n. pair b.0 n) (nat_tied a.1 b.1 i)
     by Greater k i = absurd (false≢true i)
 
--- the tuples that are kept of a key are those of the key
-pub pool_recalled : (all : List Tuple) (kept : Option KeyPool) (v : Value) (tuples : List Tuple) → last_pool kept v ≡ Some tuples → IfSome kept (λ pool. pool.tuples ≡ of_key (Some pool.key) all) → tuples ≡ of_key (Some v) all
-pool_recalled all None v tuples is h = absurd (none-some tuples is)
-pool_recalled all (Some p) v tuples is h =
-    let both = cond_some (same_value p.key v) p.tuples tuples is in
-    sym both.1 ∙ h ∙ ap (λ x. of_key (Some x) all) ((same_value-Decides p.key v).0 both.0)
+-- the tuples that are kept beside bytes are those of the rows whose keys begin so
+pub pool_recalled : (t : Tables) (kept : Option KeyPool) (prefix : List ℕ) (tuples : List Tuple) → last_pool kept prefix ≡ Some tuples → IfSome kept (λ pool. pool.tuples ≡ plus_tuples (signed_under t pool.prefix))
+    → tuples ≡ plus_tuples (signed_under t prefix)
+pool_recalled t None prefix tuples is h = absurd (none-some tuples is)
+pool_recalled t (Some p) prefix tuples is h =
+    let both = cond_some (eq_by_cmp bytes_cmp p.prefix prefix) p.tuples tuples is in
+    sym both.1 ∙ h ∙ ap (λ x. plus_tuples (signed_under t x)) (same_place p.prefix prefix both.0)

@@ -1,5 +1,5 @@
 -- Tables that have a base show it.
-use Rattle.std.proofs.Common.{◌≡◌, ◌∙◌, ℕ, zero, suc, ◌+◌, ◌*◌, ◌/◌, ◌≤◌, ◌<◌, ◌^◌, lit<, pos, Bool, true, false, not, ◌&&◌, ◌||◌, cond, nat_eq, nat_lt, nat_le, List, [], ◌∷◌, ◌++◌, Option, Some, None, MatchOption, is_some, length, map, refl, ap, sym, subst, inl, inr, arith}
+use Rattle.std.proofs.Common.{◌≡◌, ◌∙◌, ℕ, zero, suc, ◌+◌, ◌≤◌, ◌<◌, ◌^◌, lit<, Bool, true, false, not, ◌&&◌, ◌||◌, cond, nat_eq, nat_lt, nat_le, List, [], ◌∷◌, ◌++◌, Option, Some, None, MatchOption, is_some, length, map, refl, ap, sym, subst, inl, inr, arith}
 use Rattle.std.specs.List.{list_any, list_all, flat_map, AllByRecursion, slice_get}
 use Rattle.std.specs.Option.{option_map, unwrap_or, option_and_then}
 use Rattle.std.specs.Ordering.{is_lt, is_eq, eq_by_cmp, nat_cmp}
@@ -7,32 +7,32 @@ use Rattle.std.specs.FinMap as tables
 use Rattle.std.specs.FinMap.{find}
 use Rattle.std.proofs.lemmas.Bool.{and_parts, and_from, or_right, or_cases, cond-true, cond-false, false≢true, false_from_ne_true, eqb-true, eq-eqb}
 use Rattle.std.proofs.lemmas.Bool.Decides.{nat_tests}
-use Rattle.std.proofs.lemmas.List.{append_assoc}
-use Rattle.bdb_base.specs.Bases.{Contents, IsValid, is_user, key_lengths}
+use Rattle.std.proofs.Math.Path.{fun_ext}
+use Rattle.bdb_base.specs.Alternation.{alternates}
+use Rattle.bdb_base.specs.Bases.{Contents, IsValid, belongs, fits_columns, fits_definition, fits_kind, fits_relation, is_user, key_at, key_lengths}
 use Rattle.bdb_base.specs.Clash.{key_of}
+use Rattle.bdb_base.specs.Limits.{deepest_statement}
 use Rattle.bdb_base.specs.Queries.{columns_at}
 use Rattle.bdb_base.specs.Same.{same_tuple, same_sign, same_values, same_path}
-use Rattle.bdb_base.specs.SameLemmas.{same_tuple-Decides, same_sign-Decides, same_value-Decides}
+use Rattle.bdb_base.specs.SameLemmas.{same_tuple-Decides, same_sign-Decides, same_values-Decides}
 use Rattle.bdb_base.specs.Segments.{is_prefix, is_suffix}
 use Rattle.bdb_base.specs.SortedSet.{ascending}
 use Rattle.bdb_base.specs.States.{is_state, edge_target}
 use Rattle.bdb_base.specs.Worlds.{stated, explicit, contradicted}
+use Rattle.bdb_base.specs.declared.kinds.Catalog.{Catalog}
 use Rattle.bdb_base.specs.declared.kinds.ColDef.{ColDef}
-use Rattle.bdb_base.specs.declared.kinds.Kind.{Kind}
-use Rattle.bdb_base.specs.declared.kinds.Kind.TheVariants as kinds
 use Rattle.bdb_base.specs.declared.kinds.RelDef.{RelDef}
 use Rattle.bdb_base.specs.declared.kinds.Sign.{Sign}
 use Rattle.bdb_base.specs.declared.kinds.Sign.TheVariants.{Plus, Minus}
 use Rattle.bdb_base.specs.declared.kinds.Stmt.{Stmt}
 use Rattle.bdb_base.specs.declared.kinds.Value.{Value}
-use Rattle.bdb_base.specs.declared.kinds.Value.TheVariants.{Int, Text}
 use Rattle.bdb_base.specs.declared.tuple.Tuple.{Tuple}
 use Rattle.bdb_base.proofs.WorldLemmas.{worlds_are_consistent, valid_is_consistent, list_any_weaker}
 use Rattle.bdb_paths.proofs.SuffixLemmas.{deepest_same, deepest_is_member}
 use Rattle.bdb_keep.specs.Tables.{Tables, bytes_cmp}
-use Rattle.bdb_key.specs.Bytes.{num_bytes, text_bytes, value_bytes, values_bytes}
-use Rattle.bdb_key.specs.Grammar.{IsNum, IsPlain, ArePlain, IsPlainValue}
-use Rattle.bdb_key.specs.Rows.{IsRelRow, IsCol, mark_bytes, rel_bytes, cols_bytes, kind_bytes}
+use Rattle.bdb_key.specs.Bytes.{num_bytes, text_bytes, vals_bytes}
+use Rattle.bdb_key.specs.Grammar.{IsNum, IsPlain}
+use Rattle.bdb_key.specs.Rows.{IsRelRow, IsTupleRow, mark_bytes, rel_bytes}
 use Rattle.bdb_queries.specs.Slots.{user_tuple, user_tuples}
 use Rattle.bdb_plan.specs.Sight.{has_signed}
 use Rattle.bdb_tables.specs.Codec.{place}
@@ -40,15 +40,17 @@ use Rattle.bdb_tables.specs.InUse.{ValKey, IsValKey, user_codec, rel_codec, edge
 use Rattle.bdb_tables.specs.InUseLaws.{numbers_in_order, numbers_are_one, vals_are_one, mark_rows_are_one}
 use Rattle.bdb_tables.specs.Marks.{Mark, mark_of, sign_in, sign_by, marked}
 use Rattle.bdb_tables.specs.Names.{Names, path_of, number_of, is_named, edge_from, edge_of}
-use Rattle.bdb_tables.specs.Rows.{Tuples, has_key, row_named, row_for}
+use Rattle.bdb_tables.specs.Rows.{Tuples, HoldsRows, has_key, row_named, row_for}
 use Rattle.bdb_tables.specs.Spans.{AreUnder, IsUnder, entry_bytes, entry_cmp}
 use Rattle.bdb_tables.proofs.Held.{same_place, some_same, none_some}
 use Rattle.bdb_exec.specs.Based.{HaveBase, ShowBase, TablesShowBase, world_number}
 use Rattle.bdb_exec.specs.Readable.{CanBeRun}
 use Rattle.bdb_exec.specs.Rows.{signed_of, world_prefix}
-use Rattle.bdb_exec.specs.Seen.{rows_at, signed_under, sight_of, width_in}
-use Rattle.bdb_exec.specs.Spelled.{number_in, values_in}
-use Rattle.bdb_exec.proofs.SpelledLemmas.{number_back, values_back, values_short}
+use Rattle.bdb_exec.specs.Seen.{length_in, rows_at, signed_under, sight_of, width_in}
+use Rattle.bdb_exec.specs.Spelled.{number_in}
+use Rattle.bdb_exec.proofs.LengthLemmas.{key_vals, keys_sized}
+use Rattle.bdb_exec.proofs.RelLemmas.{length_of, width_of}
+use Rattle.bdb_exec.proofs.SpelledLemmas.{number_back}
 use Rattle.bdb_exec.proofs.TypedLemmas.{raw, at_find}
 use Rattle.bdb_exec.proofs.WorldLemmas.{IsThere, signed_is, has_row}
 use Rattle.bdb_exec.proofs.DenyLemmas.{both_ways, all, are_typed, IsHere, all_here, shown_all, prefix_append}
@@ -148,55 +150,6 @@ all_plain (x ∷ names) e = let p = and_parts (Rattle.bdb_base.specs.Bases.is_pl
 few_users : (n : ℕ) → nat_le n 256 ≡ true → 1 + n ≤ 2 ^ 32
 few_users n h = grind (arith, nat_tests)
 
--- ---- columns
-
-kind_value : Kind → Value
-kind_value kinds.Int = Int (pos 0)
-kind_value kinds.Text = Int (pos 1)
-
-col_values : List ColDef → List Value
-col_values [] = []
-col_values (c ∷ cs) = Text c.name ∷ kind_value c.kind ∷ col_values cs
-
-kind_spelled : (k : Kind) → value_bytes (kind_value k) ≡ kind_bytes k
-unfolding kind_value
-kind_spelled kinds.Int = refl
-kind_spelled kinds.Text = refl
-
-kind_plain : (k : Kind) → IsPlainValue (kind_value k)
-unfolding kind_value
-kind_plain kinds.Int = record { sfits = lit< tt }
-kind_plain kinds.Text = record { sfits = lit< tt }
-
-cols_spelled : (cs : List ColDef) → values_bytes (col_values cs) ≡ cols_bytes cs
-unfolding col_values
-cols_spelled [] = refl
-cols_spelled (c ∷ cs) =
-    ap (λ k. text_bytes c.name ++ (k ++ values_bytes (col_values cs))) (kind_spelled c.kind)
-    ∙ ap (λ (r : List ℕ). text_bytes c.name ++ (kind_bytes c.kind ++ r)) (cols_spelled cs)
-    ∙ sym (append_assoc (text_bytes c.name) (kind_bytes c.kind) (cols_bytes cs))
-
-cols_plain : (cs : List ColDef) → AllByRecursion IsCol cs → ArePlain (col_values cs)
-unfolding col_values
-cols_plain [] a = tt
-cols_plain (c ∷ cs) a = (a.0, (kind_plain c.kind, cols_plain cs a.1))
-
-cols_many : (cs : List ColDef) → length (col_values cs) ≡ 2 * length cs
-unfolding col_values
-cols_many [] = refl
-cols_many (c ∷ cs) = let rest = cols_many cs in omega arith
-
-half : (n : ℕ) → (1 + 2 * n) / 2 ≡ n
-half n = omega arith
-
-width_of : (def : RelDef) → IsRelRow def → width_in (Some (rel_bytes def)) ≡ length def.cols
-width_of def h =
-    let vals : List Value = Text def.name ∷ col_values def.cols in
-    let spelled : values_bytes vals ≡ rel_bytes def = ap (λ (r : List ℕ). text_bytes def.name ++ r) (cols_spelled def.cols) in
-    let back : values_in (length (values_bytes vals)) (values_bytes vals) ≡ vals = values_back (length (values_bytes vals)) vals (h.name, cols_plain def.cols h.names) (values_short vals) in
-    let many : length vals ≡ 1 + 2 * length def.cols = let rest = cols_many def.cols in omega arith in
-    ap (λ r. length (values_in (length r) r) / 2) (sym spelled) ∙ ap (λ vs. length vs / 2) back ∙ ap (λ n. n / 2) many ∙ half (length def.cols)
-
 -- ---- statements
 
 told_by : (keys : ℕ → ℕ) (stmts : List Stmt) (w : List ℕ) (u : Tuple) (s : Sign) → stated keys stmts w u s ≡ true → list_any (λ x. same_tuple x.tuple u) stmts ≡ true
@@ -210,6 +163,28 @@ told_by keys stmts (i ∷ w) u s e = elim (or_cases (explicit stmts (i ∷ w) u 
       (λ x k. (and_parts (same_tuple x.tuple u) (same_sign x.sign s) (and_parts (same_path x.path (i ∷ w)) (same_tuple x.tuple u && same_sign x.sign s) k).1).0) stmts a
   | inr b ↦ told_by keys stmts w u s (and_parts (stated keys stmts w u s) (not (contradicted keys stmts (i ∷ w) u s)) b).0
 ]
+
+-- a tuple that is stated fits its relation
+stated_fits : (c : Catalog) (xs : List Stmt) (u : Tuple) → list_all (belongs c) xs ≡ true → list_any (λ x. same_tuple x.tuple u) xs ≡ true → fits_relation c.rels u ≡ true
+stated_fits c [] u b e = absurd (false≢true e)
+stated_fits c (x ∷ xs) u b e =
+    let p = and_parts (belongs c x) (list_all (belongs c) xs) b in
+    let path = alternates x.path && nat_le (length x.path) deepest_statement && list_all (is_user c.users) x.path in
+    elim (or_cases (same_tuple x.tuple u) (list_any (λ y. same_tuple y.tuple u) xs) e) [
+      | inl k ↦ ap (fits_relation c.rels) (sym ((same_tuple-Decides x.tuple u).0 k)) ∙ (and_parts path (fits_relation c.rels x.tuple) p.0).1
+      | inr k ↦ stated_fits c xs u p.1 k
+    ]
+
+as_many : (cols : List ColDef) (vals : List Value) → fits_columns cols vals ≡ true → length vals ≡ length cols
+as_many [] [] e = refl
+as_many [] (v ∷ vals) e = absurd (false≢true e)
+as_many (c ∷ cols) [] e = absurd (false≢true e)
+as_many (c ∷ cols) (v ∷ vals) e = ap suc (as_many cols vals (and_parts (fits_kind c.kind v) (fits_columns cols vals) e).1)
+
+-- values that fit a relation are no fewer than its key has
+key_within : (o : Option RelDef) (vals : List Value) → MatchOption o (Unit {0}) IsRelRow → fits_definition o vals ≡ true → key_at o ≤ length vals
+key_within None vals row e = absurd (false≢true e)
+key_within (Some def) vals row e = let many = as_many def.cols vals e in omega (arith, many, row.key.1)
 
 -- a sign by its tests is one that holds
 sign_holds : (plus minus : Bool) (s : Sign) → sign_by plus minus ≡ Some s → (s ≡ Plus → plus ≡ true) × (s ≡ Minus → minus ≡ true)
@@ -236,16 +211,52 @@ abbrev sign_of_mark : Mark → Sign
 sign_of_mark m = m.0
 
 module _ (ns : Names) (ts : Tuples) (t : Tables) (b : Contents) (valid : IsValid b.catalog b.stmts) (h : HaveBase ns ts t b) where
+  -- ---- relations
+
+  small : (rel : ℕ) → nat_lt rel (2 ^ 32) ≡ true → IsNum rel
+  small rel e = grind (arith, nat_tests)
+
+  none_beyond : (rel : ℕ) → nat_lt rel (2 ^ 32) ≡ false → slice_get b.catalog.rels rel ≡ None
+  none_beyond rel e = beyond b.catalog.rels rel (large (length b.catalog.rels) e valid.catalog.few_rels)
+    where
+      large : (n : ℕ) → nat_lt rel (2 ^ 32) ≡ false → nat_le n 64 ≡ true → n ≤ rel
+      large n e few = grind (arith, nat_tests)
+
+      beyond : (xs : List RelDef) (at : ℕ) → length xs ≤ at → slice_get xs at ≡ None
+      beyond [] at le = refl
+      beyond (x ∷ xs) zero le = absurd (omega arith)
+      beyond (x ∷ xs) (suc at) le = beyond xs at (omega arith)
+
+  keys_shown : (sight_of t).keys ≡ key_lengths b.catalog.rels
+  unfolding sight_of
+  keys_shown = fun_ext (λ rel. by rel (nat_lt rel (2 ^ 32)) refl)
+    where
+      inside : (o : Option RelDef) → MatchOption o (Unit {0}) IsRelRow → length_in (option_map rel_bytes o) ≡ key_at o
+      inside None k = refl
+      inside (Some def) k = length_of def k
+
+      by : (rel : ℕ) (c : Bool) → nat_lt rel (2 ^ 32) ≡ c → cond c (length_in (tables.get t (place rel_codec rel))) 1 ≡ key_lengths b.catalog.rels rel
+      by rel true e = ap length_in (h.rels.rows rel (small rel e)) ∙ inside (slice_get b.catalog.rels rel) (h.rels.written rel (small rel e))
+      by rel false e = sym (ap key_at (none_beyond rel e))
+
+  -- each tuple has a value for each column of its relation's key
+  whole : (tid : ℕ) (u : Tuple) → ts.tuple tid ≡ Some u → (sight_of t).keys u.rel ≤ length u.vals
+  whole tid u e =
+      let told : list_any (λ x. same_tuple x.tuple u) b.stmts ≡ true = sym (h.tuples.stated u) ∙ ap is_some (h.tuples.named tid u e) in
+      let row : IsTupleRow u = subst (λ o. MatchOption o (Unit {0}) IsTupleRow) e (h.tuples.tuples.written tid (h.tuples.sized tid u e)) in
+      subst (λ (f : ℕ → ℕ). f u.rel ≤ length u.vals) (sym keys_shown)
+      (key_within (slice_get b.catalog.rels u.rel) u.vals (h.rels.written u.rel row.rel) (stated_fits b.catalog b.stmts u valid.stmts.belong told))
+
   abbrev run : CanBeRun t
   run = record {
-    users = h.users.fits;
-    edges = h.states.tables.edge.fits;
+    grammar = h.grammar;
     told = b.stmts;
     tuples = ts;
     held = h.tuples;
+    whole = whole;
     stmts = b.stmts;
     path = path_of ns;
-    rows = h.rows;
+    rows = subst (λ (f : ℕ → ℕ). HoldsRows f b.stmts (path_of ns) ts.tuple t) (sym keys_shown) h.rows;
   }
 
   -- ---- users
@@ -323,24 +334,13 @@ module _ (ns : Names) (ts : Tuples) (t : Tables) (b : Contents) (valid : IsValid
   unfolding sight_of
   width_shown rel = by (nat_lt rel (2 ^ 32)) refl
     where
-      small : nat_lt rel (2 ^ 32) ≡ true → IsNum rel
-      small e = grind (arith, nat_tests)
-
-      large : (n : ℕ) → nat_lt rel (2 ^ 32) ≡ false → nat_le n 64 ≡ true → n ≤ rel
-      large n e few = grind (arith, nat_tests)
-
-      beyond : (xs : List RelDef) (at : ℕ) → length xs ≤ at → slice_get xs at ≡ None
-      beyond [] at le = refl
-      beyond (x ∷ xs) zero le = absurd (omega arith)
-      beyond (x ∷ xs) (suc at) le = beyond xs at (omega arith)
-
       inside : (o : Option RelDef) → MatchOption o (Unit {0}) IsRelRow → width_in (option_map rel_bytes o) ≡ length (Rattle.bdb_base.specs.Queries.columns_of_definition o)
       inside None k = refl
       inside (Some def) k = width_of def k
 
       by : (c : Bool) → nat_lt rel (2 ^ 32) ≡ c → cond c (width_in (tables.get t (place rel_codec rel))) 0 ≡ length (columns_at b.catalog.rels rel)
-      by true e = ap width_in (h.rels.rows rel (small e)) ∙ inside (slice_get b.catalog.rels rel) (h.rels.written rel (small e))
-      by false e = sym (ap (λ o. length (Rattle.bdb_base.specs.Queries.columns_of_definition o)) (beyond b.catalog.rels rel (large (length b.catalog.rels) e valid.catalog.few_rels)))
+      by true e = ap width_in (h.rels.rows rel (small rel e)) ∙ inside (slice_get b.catalog.rels rel) (h.rels.written rel (small rel e))
+      by false e = sym (ap (λ o. length (Rattle.bdb_base.specs.Queries.columns_of_definition o)) (none_beyond rel e))
 
   -- ---- rows
 
@@ -369,10 +369,6 @@ module _ (ns : Names) (ts : Tuples) (t : Tables) (b : Contents) (valid : IsValid
       by : (o : Option ℕ) → ts.number u ≡ o → is_some o ≡ true → (tid : ℕ) × (ts.number u ≡ Some tid)
       by None f i = absurd (false≢true i)
       by (Some tid) f i = (tid, f)
-
-  first_of : (vs : List Value) → 0 < length vs → (v : Value) × (rest : List Value) × (vs ≡ v ∷ rest)
-  first_of [] l = absurd (omega arith)
-  first_of (v ∷ vs) l = (v, vs, refl)
 
   module _ (w : List ℕ) (rel : ℕ) (u : Tuple) (s : Sign) (state : is_state b.stmts w ≡ true) (nr : IsNum rel) where
     n : ℕ
@@ -472,23 +468,22 @@ module _ (ns : Names) (ts : Tuples) (t : Tables) (b : Contents) (valid : IsValid
         let id = number_told w u s p.1 in
         let tuple : ts.tuple id.0 ≡ Some u = h.tuples.numbered u id.0 id.1 in
         let row = has_row t run id.0 u tuple in
-        let v = first_of u.vals row.in_grammar.some in
-        let k : ValKey = (world_number ns w, rel, v.0, id.0) in
+        let k : ValKey = (world_number ns w, rel, key_of keys u, id.0) in
         let m : Mark = (s, explicit b.stmts w u s) in
         let vk : IsValKey k = record {
           world = number_sized w state;
           rel = nr;
-          value = (subst ArePlain v.2 row.in_grammar.plain).0;
+          key = key_vals (keys u.rel) u.vals (subst (λ (f : ℕ → ℕ). IsNum (f u.rel)) keys_shown (keys_sized t run u.rel)) row.in_grammar.plain;
           tuple = h.tuples.sized id.0 u tuple;
         } in
-        let has : has_key keys k u ≡ true = and_from (nat_eq u.rel rel) (same_values (key_of keys u) (v.0 ∷ [])) (eq-eqb u.rel rel of)
-        (ap (λ vs. same_values (Rattle.std.specs.Prelude.take 1 vs) (v.0 ∷ [])) v.2 ∙ and_from (Rattle.bdb_base.specs.Same.same_value v.0 v.0) true ((same_value-Decides v.0 v.0).1 refl) refl) in
+        let has : has_key keys k u ≡ true =
+        and_from (nat_eq u.rel rel) (same_values (key_of keys u) (key_of keys u)) (eq-eqb u.rel rel of) ((same_values-Decides (key_of keys u) (key_of keys u)).1 refl) in
         let is : row_for keys b.stmts (path_of ns) ts.tuple k ≡ Some m =
         ap (λ x. row_named keys b.stmts k x (ts.tuple id.0)) (path_numbered w state)
         ∙ ap (row_named keys b.stmts k (Some w)) tuple
         ∙ cond-true (has_key keys k u) (mark_of keys b.stmts w u) None has
         ∙ ap (marked (explicit b.stmts w u)) (sign_of_row w u s p.1) in
-        let begins : is_prefix (val_codec.number ∷ world_prefix (world_number ns w) rel) (place val_codec k) ≡ true = prefix_append (world_prefix (world_number ns w) rel) (value_bytes v.0 ++ num_bytes id.0) in
+        let begins : is_prefix (val_codec.number ∷ world_prefix (world_number ns w) rel) (place val_codec k) ≡ true = prefix_append (world_prefix (world_number ns w) rel) (vals_bytes (key_of keys u) ++ num_bytes id.0) in
         let found : find bytes_cmp (place val_codec k) (rows_at t (val_codec.number ∷ world_prefix (world_number ns w) rel)) ≡ Some (mark_bytes m) =
         at_find val_codec t (val_codec.number ∷ world_prefix (world_number ns w) rel) (place val_codec k)
         ∙ cond-true (is_prefix (val_codec.number ∷ world_prefix (world_number ns w) rel) (place val_codec k)) (tables.get t (place val_codec k)) None begins
@@ -510,23 +505,16 @@ module _ (ns : Names) (ts : Tuples) (t : Tables) (b : Contents) (valid : IsValid
   unfolding keys
   rows_shown w rel u s state = by (nat_lt rel (2 ^ 32)) refl
     where
-      small : nat_lt rel (2 ^ 32) ≡ true → IsNum rel
-      small e = grind (arith, nat_tests)
-
       large : (n : ℕ) → n < 2 ^ 32 → n ≡ rel → nat_lt rel (2 ^ 32) ≡ true
       large n lt e = grind (arith, nat_tests)
 
       by : (c : Bool) → nat_lt rel (2 ^ 32) ≡ c → has_signed ((sight_of t).rows (world_number ns w) rel) u s ≡ (nat_eq u.rel rel && stated (key_lengths b.catalog.rels) b.stmts w u s)
-      by true e = rows_inside w rel u s state (small e)
+      by true e = rows_inside w rel u s state (small rel e)
       by false e = ap (λ r. has_signed r u s) (no_rows w rel e) ∙ sym (false_from_ne_true (nat_eq u.rel rel && stated (key_lengths b.catalog.rels) b.stmts w u s) (λ f.
           let p = and_parts (nat_eq u.rel rel) (stated (key_lengths b.catalog.rels) b.stmts w u s) f in
           let id = number_told w u s p.1 in
           let row = has_row t run id.0 u (h.tuples.numbered u id.0 id.1) in
           false≢true (sym e ∙ large u.rel row.in_grammar.rel (eqb-true u.rel rel p.0))))
-
-  keys_shown : (sight_of t).keys ≡ key_lengths b.catalog.rels
-  unfolding sight_of
-  keys_shown = refl
 
   base_shown : ShowBase ns t b
   base_shown = record {

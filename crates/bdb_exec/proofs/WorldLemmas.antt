@@ -18,7 +18,7 @@ use Rattle.bdb_base.specs.declared.kinds.Sign.TheVariants.{Plus, Minus}
 use Rattle.bdb_base.specs.declared.tuple.Tuple.{Tuple}
 use Rattle.bdb_base.specs.Segments.{is_prefix}
 use Rattle.bdb_keep.specs.Tables.{Tables, bytes_cmp}
-use Rattle.bdb_key.specs.Bytes.{num_bytes, value_bytes}
+use Rattle.bdb_key.specs.Bytes.{num_bytes, vals_bytes}
 use Rattle.bdb_key.specs.Grammar.{IsNum}
 use Rattle.bdb_key.specs.Rows.{IsTupleRow, tuple_bytes, mark_bytes}
 use Rattle.bdb_plan.specs.Running.{plus_tuples}
@@ -32,7 +32,7 @@ use Rattle.bdb_tables.specs.Spans.{AreUnder, IsUnder}
 use Rattle.bdb_tables.proofs.Held.{some_same, none_some}
 use Rattle.bdb_exec.specs.Readable.{CanBeRun}
 use Rattle.bdb_exec.specs.Rows.{HasTuple, HasPushed, signed_at, signed_of}
-use Rattle.bdb_exec.specs.Seen.{rows_at, sign_in, signed_in, signed_under}
+use Rattle.bdb_exec.specs.Seen.{rows_at, sight_of, sign_in, signed_in, signed_under}
 use Rattle.bdb_exec.specs.Spelled.{tuple_in}
 use Rattle.bdb_exec.proofs.SpelledLemmas.{tuple_back, sign_back}
 use Rattle.bdb_exec.proofs.TypedLemmas.{raw, rows_are}
@@ -160,7 +160,7 @@ module _ (t : Tables) where
 
   number_at_end : (k : ValKey) → drop (length (place val_codec k) - 4) (place val_codec k) ≡ num_bytes k.3
   number_at_end k =
-      let front : List ℕ = val_codec.number ∷ (num_bytes k.0 ++ num_bytes k.1 ++ value_bytes k.2) in
+      let front : List ℕ = val_codec.number ∷ (num_bytes k.0 ++ num_bytes k.1 ++ vals_bytes k.2) in
       let whole : length (front ++ num_bytes k.3) ≡ length front + 4 = length-append front (num_bytes k.3) in
       let less : length (front ++ num_bytes k.3) - 4 ≡ length front = omega (arith, whole) in
       ap (λ n. drop n (front ++ num_bytes k.3)) less ∙ drop-append_seam front (num_bytes k.3)
@@ -256,19 +256,19 @@ module _ (t : Tables) (h : CanBeRun t) where
 
   -- a row's number stands for a tuple, which has the row's relation and key
   abbrev pub IsTold : ValKey × Mark → Type 0
-  IsTold e = (u : Tuple) × (h.tuples.tuple e.0.3 ≡ Some u) × (has_key (λ _. 1) e.0 u ≡ true)
+  IsTold e = (u : Tuple) × (h.tuples.tuple e.0.3 ≡ Some u) × (has_key (sight_of t).keys e.0 u ≡ true)
 
-  row_told : (k : ValKey) (p : Option (List ℕ)) (o : Option Tuple) → is_some (row_named (λ _. 1) h.stmts k p o) ≡ true → (u : Tuple) × (o ≡ Some u) × (has_key (λ _. 1) k u ≡ true)
+  row_told : (k : ValKey) (p : Option (List ℕ)) (o : Option Tuple) → is_some (row_named (sight_of t).keys h.stmts k p o) ≡ true → (u : Tuple) × (o ≡ Some u) × (has_key (sight_of t).keys k u ≡ true)
   row_told k None o e = absurd (false≢true e)
   row_told k (Some w) None e = absurd (false≢true e)
-  row_told k (Some w) (Some u) e = by (has_key (λ _. 1) k u) refl e
+  row_told k (Some w) (Some u) e = by (has_key (sight_of t).keys k u) refl e
     where
-      by : (b : Bool) → has_key (λ _. 1) k u ≡ b → is_some (cond b (mark_of (λ _. 1) h.stmts w u) None) ≡ true → (v : Tuple) × (Some u ≡ Some v) × (has_key (λ _. 1) k v ≡ true)
+      by : (b : Bool) → has_key (sight_of t).keys k u ≡ b → is_some (cond b (mark_of (sight_of t).keys h.stmts w u) None) ≡ true → (v : Tuple) × (Some u ≡ Some v) × (has_key (sight_of t).keys k v ≡ true)
       by true b i = (u, refl, b)
       by false b i = absurd (false≢true i)
 
   one_told : (e : ValKey × Mark) → IsValKey e.0 → IsThere t e → IsTold e
-  one_told e k there = row_told e.0 (h.path e.0.0) (h.tuples.tuple e.0.3) (mapped (row_for (λ _. 1) h.stmts h.path h.tuples.tuple e.0) (sym (h.rows.rows e.0 k) ∙ there))
+  one_told e k there = row_told e.0 (h.path e.0.0) (h.tuples.tuple e.0.3) (mapped (row_for (sight_of t).keys h.stmts h.path h.tuples.tuple e.0) (sym (h.rows.rows e.0 k) ∙ there))
     where
       mapped : (o : Option Mark) → option_map mark_bytes o ≡ Some (mark_bytes e.1) → is_some o ≡ true
       mapped None e = absurd (none_some _ e)

@@ -5,6 +5,7 @@ use Rattle.std.specs.Option.{unwrap_or}
 use Rattle.bdb_base.specs.Bases.{Contents, IsValid, is_user, key_lengths}
 use Rattle.bdb_base.specs.States.{is_state}
 use Rattle.bdb_keep.specs.Tables.{Tables}
+use Rattle.bdb_tables.specs.Grammar.{InGrammar}
 use Rattle.bdb_tables.specs.InUse.{user_codec, rel_codec}
 use Rattle.bdb_tables.specs.Names.{Names, path_of, number_of, is_named}
 use Rattle.bdb_tables.specs.Rows.{Tuples, HoldsTuples, HoldsRows}
@@ -14,9 +15,10 @@ use Rattle.bdb_plan.specs.Shown.{Shows}
 use Rattle.bdb_exec.specs.Readable.{CanBeRun}
 use Rattle.bdb_exec.specs.Seen.{sight_of}
 
--- Tables have a base with its worlds: the users by number from 1, the relations by number from 0, the tuples of the
--- statements, the states of the statements, and the rows of the states.
+-- Tables have a base with its worlds: every key and row is in the grammar, the users by number from 1, the relations by number
+-- from 0, the tuples of the statements, the states of the statements, and the rows of the states.
 pub record HaveBase (ns : Names) (ts : Tuples) (t : Tables) (b : Contents) : Type 0 where
+  pub grammar : InGrammar t
   pub name : ℕ → Option (List ℕ)
   pub users : Gives user_codec t name
   pub none : name 0 ≡ None

@@ -1,9 +1,8 @@
--- Which tuples the tests right behind a choice let through, and which value they ask for of a tuple's first column.
-use Rattle.std.specs.Prelude.{ℕ, Bool, true, not, ◌&&◌, nat_eq, nat_lt, cond, List, [], ◌∷◌, Option, Some, None, length, filter, slice_set}
-use Rattle.std.specs.List.{slice_get}
-use Rattle.bdb_base.specs.Conditions.{compare_so}
+-- Which tuples the tests right behind a choice let through, and which first values of a tuple they ask for.
+use Rattle.std.specs.Prelude.{ℕ, suc, Bool, true, not, ◌&&◌, nat_eq, nat_lt, cond, List, [], ◌∷◌, Option, Some, None, is_some, length, filter, take, slice_set}
+use Prim.Native.Nat.{zero}
 use Rattle.bdb_base.specs.Safety.{is_column, is_equality, same_column}
-use Rattle.bdb_base.specs.declared.kinds.Cmp.TheVariants.{Eq}
+use Rattle.bdb_base.specs.Same.{same_values}
 use Rattle.bdb_base.specs.declared.kinds.Cond.{Cond}
 use Rattle.bdb_base.specs.declared.kinds.Operand.{Operand}
 use Rattle.bdb_base.specs.declared.kinds.Operand.TheVariants.{Col, Lit}
@@ -30,52 +29,66 @@ tests_hold slots (_ ∷ xs) = true
 abbrev pub passes : List (Option Tuple) → ℕ → List Step → Tuple → Bool
 passes slots item behind t = tests_hold (slice_set slots item (Some t)) behind
 
--- ---- keys
+-- ---- what tests ask for
 
--- the first value of a tuple is this one
-abbrev pub key_is : Option Value → Tuple → Bool
-key_is v t = compare_so Eq (slice_get t.vals 0) v
-
--- an item's first column
-abbrev pub first_column : ℕ → Ref
-first_column item = record { item = item; col = 0 }
+-- an item's column
+abbrev pub column : ℕ → ℕ → Ref
+column item col = record { item = item; col = col }
 
 -- an operand is a column of another item or a literal
 abbrev pub names_another : ℕ → Operand → Bool
 names_another item (Col r) = not (nat_eq r.item item)
 names_another item (Lit v) = true
 
--- a comparison says that an item's first column, on its left, equals a column of another item or a literal
-abbrev pub asks_on_left : ℕ → Cond → Bool
-asks_on_left item c = is_equality c.cmp && (same_column (first_column item) c.left && names_another item c.right)
+-- a comparison says that an item's column, on its left, equals a column of another item or a literal
+abbrev pub asks_on_left : ℕ → ℕ → Cond → Bool
+asks_on_left item col c = is_equality c.cmp && (same_column (column item col) c.left && names_another item c.right)
 
--- a comparison says that a column of another item equals an item's first column, on its right
-abbrev pub asks_on_right : ℕ → Cond → Bool
-asks_on_right item c = is_equality c.cmp && (is_column (first_column item) c.right && not (nat_eq c.left.item item))
+-- a comparison says that a column of another item equals an item's column, on its right
+abbrev pub asks_on_right : ℕ → ℕ → Cond → Bool
+asks_on_right item col c = is_equality c.cmp && (is_column (column item col) c.right && not (nat_eq c.left.item item))
 
--- the value that a test asks for, where it is known
-abbrev pub key_of_test : List (Option Tuple) → ℕ → Cond → Option Value
-key_of_test slots item c = cond (asks_on_left item c) (known_operand slots c.right) (cond (asks_on_right item c) (known slots c.left) None)
+-- the value that a test asks for of an item's column, where it is known
+abbrev pub value_of_test : List (Option Tuple) → ℕ → ℕ → Cond → Option Value
+value_of_test slots item col c = cond (asks_on_left item col c) (known_operand slots c.right) (cond (asks_on_right item col c) (known slots c.left) None)
 
--- the value that the tests right behind a choice ask for
-abbrev pub key_behind : List (Option Tuple) → ℕ → List Step → Option Value
-key_behind slots item [] = None
-key_behind slots item (step.Test c ∷ xs) = first_there (key_of_test slots item c) (key_behind slots item xs)
-key_behind slots item (_ ∷ xs) = None
+-- the value that the tests right behind a choice ask for of an item's column
+abbrev pub value_behind : List (Option Tuple) → ℕ → List Step → ℕ → Option Value
+value_behind slots item [] col = None
+value_behind slots item (step.Test c ∷ xs) col = first_there (value_of_test slots item col c) (value_behind slots item xs col)
+value_behind slots item (_ ∷ xs) col = None
 
--- the value that is asked for of an item's first column
-abbrev pub key_asked : List (Option Tuple) → ℕ → List Step → Option Value
-key_asked slots item behind = cond (nat_lt item (length slots)) (key_behind slots item behind) None
+-- ---- beginnings of keys
 
--- the tuples whose first value is the one asked for
-abbrev pub of_key : Option Value → List Tuple → List Tuple
-of_key None pool = pool
-of_key (Some v) pool = filter (key_is (Some v)) pool
+-- a value before others; none of them where there is none
+abbrev pub led_by : Option Value → List Value → List Value
+led_by None vs = []
+led_by (Some v) vs = v ∷ vs
+
+-- the values that are asked for of at most so many columns from one on, up to the first of which none is asked for
+abbrev pub values_behind : List (Option Tuple) → ℕ → List Step → ℕ → ℕ → List Value
+values_behind slots item behind zero col = []
+values_behind slots item behind (suc most) col = led_by (value_behind slots item behind col) (values_behind slots item behind most (suc col))
+
+-- the values that are asked for of the first columns of a key that has so many: as long a beginning of the key as there is
+abbrev pub key_asked : ℕ → List (Option Tuple) → ℕ → List Step → List Value
+key_asked n slots item behind = cond (nat_lt item (length slots)) (values_behind slots item behind n 0) []
+
+-- a value is asked for of the first column
+abbrev pub asks_for_key : List (Option Tuple) → ℕ → List Step → Bool
+asks_for_key slots item behind = nat_lt item (length slots) && is_some (value_behind slots item behind 0)
+
+-- a tuple's first values are these
+abbrev pub begins_so : List Value → Tuple → Bool
+begins_so vs t = same_values (take (length vs) t.vals) vs
+
+-- the tuples whose first values are these
+abbrev pub of_key : List Value → List Tuple → List Tuple
+of_key vs pool = filter (begins_so vs) pool
 
 -- the rows of those tuples
-abbrev pub rows_of_key : Option Value → List (Tuple × Sign) → List (Tuple × Sign)
-rows_of_key None rows = rows
-rows_of_key (Some v) rows = filter (λ x. key_is (Some v) x.0) rows
+abbrev pub rows_of_key : List Value → List (Tuple × Sign) → List (Tuple × Sign)
+rows_of_key vs rows = filter (λ x. begins_so vs x.0) rows
 
 -- ---- choices
 

@@ -1,10 +1,13 @@
 -- What tables show to plans.
-use Rattle.std.specs.Prelude.{ℕ, ◌-◌, ◌/◌, ◌^◌, nat_lt, cond, List, [], ◌∷◌, ◌++◌, Option, Some, None, length, map, filter, drop}
+use Rattle.std.specs.Prelude.{ℕ, ◌-◌, ◌/◌, ◌^◌, pos, nat_lt, cond, List, [], ◌∷◌, ◌++◌, Option, Some, None, length, map, filter, drop}
+use Rattle.std.specs.List.{slice_get}
 use Rattle.std.specs.Option.{option_map, unwrap_or}
 use Rattle.std.specs.FinMap as tables
 use Rattle.bdb_base.specs.Segments.{is_prefix}
 use Rattle.bdb_base.specs.declared.kinds.Sign.{Sign}
 use Rattle.bdb_base.specs.declared.kinds.Sign.TheVariants.{Plus, Minus}
+use Rattle.bdb_base.specs.declared.kinds.Value.{Value}
+use Rattle.bdb_base.specs.declared.kinds.Value.TheVariants.{Int}
 use Rattle.bdb_base.specs.declared.tuple.Tuple.{Tuple}
 use Rattle.bdb_keep.specs.Tables.{Tables}
 use Rattle.bdb_key.specs.Bytes.{num_bytes}
@@ -38,18 +41,32 @@ signed_in t e = (tuple_at t e.0, sign_in e.1)
 abbrev pub signed_under : Tables → List ℕ → List (Tuple × Sign)
 signed_under t begin = map (signed_in t) (rows_at t (val_codec.number ∷ begin))
 
--- how many columns a relation's row has: it has its name, and then a name and a kind for each
+-- the values that a relation's row spells: its name, how long its key is, and then a name and a kind for each column
+abbrev pub rel_values : List ℕ → List Value
+rel_values row = values_in (length row) row
+
+-- how many columns a relation's row has
 abbrev pub width_in : Option (List ℕ) → ℕ
 width_in None = 0
-width_in (Some row) = length (values_in (length row) row) / 2
+width_in (Some row) = length (drop 2 (rel_values row)) / 2
 
--- What tables show: the users by number; where edges lead; the rows of worlds by key; how many columns relations have. The
--- key of a tuple is its first value.
+-- the length that a value tells
+abbrev pub length_told : Option Value → ℕ
+length_told (Some (Int (pos n))) = n
+length_told _ = 1
+
+-- how long the key is of which a relation's row tells; where there is no row it counts as 1
+abbrev pub length_in : Option (List ℕ) → ℕ
+length_in None = 1
+length_in (Some row) = length_told (slice_get (rel_values row) 1)
+
+-- What tables show: the users by number; where edges lead; the rows of worlds by key; how many columns relations have, and
+-- how long their keys are.
 unfoldable pub sight_of : Tables → Sight
 sight_of t = record {
   users = map user_in (rows_at t (user_codec.number ∷ []));
   edge = λ world uid. option_map number_in (tables.get t (place edge_codec (world, uid)));
   rows = λ world rel. cond (nat_lt rel (2 ^ 32)) (signed_under t (num_bytes world ++ num_bytes rel)) [];
   width = λ rel. cond (nat_lt rel (2 ^ 32)) (width_in (tables.get t (place rel_codec rel))) 0;
-  keys = λ rel. 1;
+  keys = λ rel. cond (nat_lt rel (2 ^ 32)) (length_in (tables.get t (place rel_codec rel))) 1;
 }

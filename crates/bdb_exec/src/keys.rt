@@ -1,36 +1,33 @@
-// Which value a choice's first column has to have, by the tests right behind it.
+// Which first values a choice's tuple has to have, by the tests right behind it.
 ghost use Rattle.std.specs.Prelude.{◌≡◌};
 ghost use Rattle.std.specs.Option.{option_copied};
 ghost use Rattle.bdb_base.specs.Safety.{is_column, is_equality};
-ghost use Rattle.bdb_exec.specs.Keys.{asks_on_left, asks_on_right, first_column, names_another, key_of_test, key_behind, key_asked};
+ghost use Rattle.bdb_exec.specs.Keys.{asks_for_key, asks_on_left, asks_on_right, column, names_another, value_behind, value_of_test};
 
 use crate::shared::Shared;
 use crate::slots::{known, known_operand};
 use bdb_base::{Cmp, Cond, Operand, Value};
 use bdb_plan::Step;
 
-/// The value that the steps right behind ask for of an item's first column.
-pub fn key_asked<'a>(
+/// Whether the tests right behind ask for a value of an item's first column.
+pub fn asks_for_key(slots: &[Option<Shared>], item: u32, behind: &[Step]) -> bool
+    ensures { result ≡ asks_for_key slots.now item behind.now }
+{
+    (item as usize) < slots.len() && value_behind(slots, item, behind, 0).is_some()
+}
+
+/// The value that the tests right behind ask for of an item's column.
+pub fn value_behind<'a>(
     slots: &'a [Option<Shared>],
     item: u32,
     behind: &'a [Step],
+    col: u32,
 ) -> Option<&'a Value>
-    ensures { option_copied result ≡ key_asked slots.now item behind.now }
-{
-    if (item as usize) < slots.len() {
-        key_behind(slots, item, behind)
-    } else {
-        None
-    }
-}
-
-// The value that the tests right behind ask for.
-fn key_behind<'a>(slots: &'a [Option<Shared>], item: u32, behind: &'a [Step]) -> Option<&'a Value>
-    ensures { option_copied result ≡ key_behind slots.now item behind.now }
+    ensures { option_copied result ≡ value_behind slots.now item behind.now col }
 {
     for step in behind {
         match step {
-            Step::Test { cond } => match key_of_test(slots, item, cond) {
+            Step::Test { cond } => match value_of_test(slots, item, col, cond) {
                 Some(value) => return Some(value),
                 None => {}
             },
@@ -46,34 +43,39 @@ fn key_behind<'a>(slots: &'a [Option<Shared>], item: u32, behind: &'a [Step]) ->
     None
 }
 
-// The value that a test asks for, where it is known.
-fn key_of_test<'a>(slots: &'a [Option<Shared>], item: u32, cond: &'a Cond) -> Option<&'a Value>
-    ensures { option_copied result ≡ key_of_test slots.now item cond.now }
+// The value that a test asks for of an item's column, where it is known.
+fn value_of_test<'a>(
+    slots: &'a [Option<Shared>],
+    item: u32,
+    col: u32,
+    cond: &'a Cond,
+) -> Option<&'a Value>
+    ensures { option_copied result ≡ value_of_test slots.now item col cond.now }
 {
-    if asks_on_left(item, cond) {
+    if asks_on_left(item, col, cond) {
         known_operand(slots, &cond.right)
-    } else if asks_on_right(item, cond) {
+    } else if asks_on_right(item, col, cond) {
         known(slots, cond.left)
     } else {
         None
     }
 }
 
-// Whether a comparison asks for the value of an item's first column, which stands on its left.
-fn asks_on_left(item: u32, cond: &Cond) -> bool
-    ensures { result ≡ asks_on_left item cond.now }
+// Whether a comparison asks for the value of an item's column, which stands on its left.
+fn asks_on_left(item: u32, col: u32, cond: &Cond) -> bool
+    ensures { result ≡ asks_on_left item col cond.now }
 {
     is_equality(cond.cmp)
         && item == cond.left.item
-        && 0 == cond.left.col
+        && col == cond.left.col
         && names_another(item, &cond.right)
 }
 
-// Whether a comparison asks for the value of an item's first column, which stands on its right.
-fn asks_on_right(item: u32, cond: &Cond) -> bool
-    ensures { result ≡ asks_on_right item cond.now }
+// Whether a comparison asks for the value of an item's column, which stands on its right.
+fn asks_on_right(item: u32, col: u32, cond: &Cond) -> bool
+    ensures { result ≡ asks_on_right item col cond.now }
 {
-    is_equality(cond.cmp) && is_first(item, &cond.right) && cond.left.item != item
+    is_equality(cond.cmp) && is_column(item, col, &cond.right) && cond.left.item != item
 }
 
 // Whether a comparison is one for equality.
@@ -90,12 +92,12 @@ fn is_equality(cmp: Cmp) -> bool
     }
 }
 
-// Whether an operand is an item's first column.
-fn is_first(item: u32, operand: &Operand) -> bool
-    ensures { result ≡ is_column (first_column item) operand.now }
+// Whether an operand is an item's column.
+fn is_column(item: u32, col: u32, operand: &Operand) -> bool
+    ensures { result ≡ is_column (column item col) operand.now }
 {
     match operand {
-        Operand::Col(r) => item == r.item && 0 == r.col,
+        Operand::Col(r) => item == r.item && col == r.col,
         Operand::Lit(_) => false,
     }
 }

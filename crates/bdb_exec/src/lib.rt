@@ -8,6 +8,7 @@ pub mod laws;
 mod looking;
 mod memo;
 mod passing;
+mod prefixes;
 mod reading;
 mod running;
 mod settling;

@@ -1,36 +1,35 @@
 // What tables show, read from a keeper.
-ghost use Rattle.std.specs.Prelude.{◌≡◌, ◌≤◌, ◌+◌, ◌*◌, ◌++◌, nat_le, Some, IfOk, OnOk, length, map};
-ghost use Rattle.std.specs.List.{AllByRecursion, list_any, list_all, slice_get};
-ghost use Rattle.bdb_base.specs.Bases.{is_plain};
+ghost use Rattle.std.specs.Prelude.{◌≡◌, ◌≤◌, ◌+◌, ◌*◌, true, Some, IfOk, OnOk, length, map, take};
+ghost use Rattle.std.specs.List.{AllByRecursion, list_any};
 ghost use Rattle.bdb_base.specs.Causes.{RoseBy};
 ghost use Rattle.bdb_base.specs.declared.tuple.Tuple.{Tuple};
 ghost use Rattle.bdb_keep.specs.Calls.{IsRead};
-ghost use Rattle.bdb_key.specs.Grammar.{HasPlainText, IsPlainValue};
 ghost use Rattle.bdb_queries.specs.Slots.{user_tuple};
 ghost use Rattle.bdb_plan.specs.Running.{plus_tuples};
 ghost use Rattle.bdb_plan.specs.Sight.{rows_deny};
 ghost use Rattle.bdb_tables.specs.Codec.{HasRow};
 ghost use Rattle.bdb_tables.specs.InUse.{tuple_codec};
-ghost use Rattle.bdb_exec.specs.Keys.{of_key, rows_of_key};
-ghost use Rattle.bdb_exec.specs.LookUps.{deny_looks};
+ghost use Rattle.bdb_exec.specs.Keys.{asks_for_key, key_asked, of_key, rows_of_key, values_behind};
+ghost use Rattle.bdb_exec.specs.LookUps.{deny_looks, pool_looks};
 ghost use Rattle.bdb_exec.specs.Looks.{Looks};
 ghost use Rattle.bdb_exec.specs.Memos.{Recalls};
 ghost use Rattle.bdb_exec.specs.Readable.{CanBeRun};
-ghost use Rattle.bdb_exec.specs.Rows.{HasTuple, IsNumberOf, HasPushed, signed_at, mark_denies, is_written, world_prefix, key_prefix};
+ghost use Rattle.bdb_exec.specs.Rows.{HasTuple, IsNumberOf, HasPushed, signed_at, mark_denies};
 ghost use Rattle.bdb_exec.specs.Seen.{sight_of, signed_under};
 
-use crate::memo::{Memo, keep_pool, keep_tuple, pool_of_key};
+use crate::memo::{Memo, keep_pool, keep_tuple, last_pool};
+use crate::prefixes::{are_written, put_group, put_key, put_world};
 use crate::shared::Shared;
-use bdb_base::limits::LONGEST_TEXT;
-use bdb_base::{Exact, List, Sign, Tuple, Txt, Value};
+use crate::state::State;
+use bdb_base::{Exact, List, Sign, Tuple, Txt, key_of};
 use bdb_keep::Keeper;
-use bdb_key::{put_num, put_value};
+use bdb_plan::Step;
 use bdb_queries::user_tuple;
-use bdb_tables::{EdgeTab, TabError, TupleIx, TupleTab, UserTab, get, numbered_under, rows_under};
+use bdb_tables::{
+    EdgeTab, TabError, TupleIx, TupleTab, UserTab, get, numbered_under, rows_under,
+    stored_key_length,
+};
 use std::alloc::{AllocError, Global};
-
-// Most beginnings of keys have at most as many bytes.
-const PREFIX_ROOM: usize = 64;
 
 /// The users, by number. One read more than there are users.
 pub fn users<K: Keeper>(alloc: Global, keeper: &mut K) -> Result<List<Shared>, TabError>
@@ -98,6 +97,37 @@ pub fn edge<K: Keeper>(
     }
 }
 
+/// How long the key of a relation is. One read, the first time.
+pub fn key_length_of<K: Keeper>(
+    alloc: Global,
+    keeper: &mut K,
+    memo: &mut Memo,
+    rel: u32,
+) -> Result<u32, TabError>
+    requires run { CanBeRun (K.seen keeper.old).kept }
+    requires memo { Recalls (K.seen keeper.old).kept memo.old }
+    ensures length { IfOk result (λ n. n ≡ (sight_of (K.seen keeper.old).kept).keys rel) }
+    ensures reads { OnOk result ((K.seen keeper.new).reads ≤ (K.seen keeper.old).reads + 1) }
+    ensures memo { OnOk result (Recalls (K.seen keeper.old).kept memo.new) }
+    ensures looks { Looks (K.seen keeper.old) (K.seen keeper.new) result TabError.Fault }
+{
+    match memo.lengths.get(&rel) {
+        Some(n) => return Ok(*n),
+        None => {}
+    }
+    let n = match stored_key_length(alloc, keeper, rel) {
+        Ok(n) => n,
+        Err(error) => return Err(error),
+    };
+    match memo.lengths.insert(rel, n) {
+        Ok(_) => Ok(n),
+        Err(_) => {
+            keeper.undo();
+            Err(TabError::Memory)
+        }
+    }
+}
+
 /// The tuples of a relation that a world has with plus. At most two reads for each row of the world and the relation, and
 /// one more.
 pub fn plus_tuples<K: Keeper>(
@@ -125,76 +155,116 @@ pub fn plus_tuples<K: Keeper>(
     }
 }
 
-/// As `plus_tuples`, but only the tuples whose first value is this one, and only their rows are read. Nothing is read where the
-/// key is the last that was asked for of the world and the relation.
+/// As `plus_tuples`, but only the tuples whose first values are those that the tests right behind a choice ask for, and only their
+/// rows are read, and how long the relation's key is.
 pub fn plus_tuples_of_key<K: Keeper>(
+    alloc: Global,
+    keeper: &mut K,
+    memo: &mut Memo,
+    item: u32,
+    rel: u32,
+    state: &State,
+    behind: &[Step],
+) -> Result<List<Shared>, TabError>
+    requires run { CanBeRun (K.seen keeper.old).kept }
+    requires memo { Recalls (K.seen keeper.old).kept memo.old }
+    requires asks { asks_for_key state.now.slots item behind.now ≡ true }
+    ensures tuples { IfOk result (λ tuples. tuples ≡ of_key (key_asked ((sight_of (K.seen keeper.old).kept).keys rel) state.now.slots item behind.now) (plus_tuples ((sight_of (K.seen keeper.old).kept).rows state.now.world rel))) }
+    ensures reads { OnOk result ((K.seen keeper.new).reads ≤ (K.seen keeper.old).reads + pool_looks (key_asked ((sight_of (K.seen keeper.old).kept).keys rel) state.now.slots item behind.now) ((sight_of (K.seen keeper.old).kept).rows state.now.world rel)) }
+    ensures memo { OnOk result (Recalls (K.seen keeper.old).kept memo.new) }
+    ensures looks { Looks (K.seen keeper.old) (K.seen keeper.new) result TabError.Fault }
+{
+    let n = match key_length_of(alloc, keeper, memo, rel) {
+        Ok(n) => n,
+        Err(error) => return Err(error),
+    };
+    let world = state.world();
+    match plus_tuples_asked(
+        alloc,
+        keeper,
+        memo,
+        world,
+        rel,
+        n,
+        state.slots(),
+        item,
+        behind,
+    ) {
+        Ok(tuples) => Ok(tuples),
+        Err(error) => Err(error),
+    }
+}
+
+// The same, where the relation's key has the length `n`. One read less.
+fn plus_tuples_asked<K: Keeper>(
     alloc: Global,
     keeper: &mut K,
     memo: &mut Memo,
     world: u32,
     rel: u32,
-    key: &Value,
+    n: u32,
+    slots: &[Option<Shared>],
+    item: u32,
+    behind: &[Step],
 ) -> Result<List<Shared>, TabError>
     requires run { CanBeRun (K.seen keeper.old).kept }
     requires memo { Recalls (K.seen keeper.old).kept memo.old }
-    ensures tuples { IfOk result (λ tuples. tuples ≡ of_key (Some key.now) (plus_tuples ((sight_of (K.seen keeper.old).kept).rows world rel))) }
-    ensures reads { OnOk result ((K.seen keeper.new).reads ≤ (K.seen keeper.old).reads + (2 * length (rows_of_key (Some key.now) ((sight_of (K.seen keeper.old).kept).rows world rel)) + 1)) }
+    requires length { n ≡ (sight_of (K.seen keeper.old).kept).keys rel }
+    ensures tuples { IfOk result (λ tuples. tuples ≡ of_key (values_behind slots.now item behind.now n 0) (plus_tuples ((sight_of (K.seen keeper.old).kept).rows world rel))) }
+    ensures reads { OnOk result ((K.seen keeper.new).reads ≤ (K.seen keeper.old).reads + (2 * length (rows_of_key (values_behind slots.now item behind.now n 0) ((sight_of (K.seen keeper.old).kept).rows world rel)) + 1)) }
     ensures memo { OnOk result (Recalls (K.seen keeper.old).kept memo.new) }
     ensures looks { Looks (K.seen keeper.old) (K.seen keeper.new) result TabError.Fault }
 {
-    let place = (world, rel);
-    match pool_of_key(&memo.last_pools, &place, key) {
-        Some(tuples) => {
-            return match tuples.try_clone(alloc) {
-                Ok(copy) => Ok(copy),
-                Err(_) => {
-                    keeper.undo();
-                    Err(TabError::Memory)
-                }
-            };
+    let mut prefix = Vec::new(alloc);
+    match put_key(&mut prefix, world, rel, n, slots, item, behind) {
+        Ok(true) => {}
+        Ok(false) => return Ok(List::new(alloc)),
+        Err(_) => {
+            keeper.undo();
+            return Err(TabError::Memory);
         }
+    }
+    match pool_under(alloc, keeper, memo, (world, rel), prefix) {
+        Ok(tuples) => Ok(tuples),
+        Err(error) => Err(error),
+    }
+}
+
+// The tuples with plus of the rows of worlds whose keys begin so. Nothing is read where that was asked for last of the place.
+fn pool_under<K: Keeper>(
+    alloc: Global,
+    keeper: &mut K,
+    memo: &mut Memo,
+    place: (u32, u32),
+    prefix: Vec<u8>,
+) -> Result<List<Shared>, TabError>
+    requires run { CanBeRun (K.seen keeper.old).kept }
+    requires memo { Recalls (K.seen keeper.old).kept memo.old }
+    ensures tuples { IfOk result (λ tuples. tuples ≡ plus_tuples (signed_under (K.seen keeper.old).kept prefix.items)) }
+    ensures reads { OnOk result ((K.seen keeper.new).reads ≤ (K.seen keeper.old).reads + (2 * length (signed_under (K.seen keeper.old).kept prefix.items) + 1)) }
+    ensures memo { OnOk result (Recalls (K.seen keeper.old).kept memo.new) }
+    ensures looks { Looks (K.seen keeper.old) (K.seen keeper.new) result TabError.Fault }
+{
+    match last_pool(&memo.last_pools, &place, prefix.as_slice()) {
+        Some(tuples) => match tuples.try_clone(alloc) {
+            Ok(copy) => return Ok(copy),
+            Err(_) => {
+                keeper.undo();
+                return Err(TabError::Memory);
+            }
+        },
         None => {}
     }
-    let tuples = match read_plus_of_key(alloc, keeper, memo, world, rel, key) {
+    let tuples = match plus_under(alloc, keeper, memo, prefix.as_slice()) {
         Ok(tuples) => tuples,
         Err(error) => return Err(error),
     };
-    match keep_pool(alloc, &mut memo.last_pools, place, key, tuples) {
+    match keep_pool(alloc, &mut memo.last_pools, place, prefix, tuples) {
         Ok(copy) => Ok(copy),
         Err(_) => {
             keeper.undo();
             Err(TabError::Memory)
         }
-    }
-}
-
-// The tuples of a relation and a key that a world has with plus, from their rows.
-fn read_plus_of_key<K: Keeper>(
-    alloc: Global,
-    keeper: &mut K,
-    memo: &mut Memo,
-    world: u32,
-    rel: u32,
-    key: &Value,
-) -> Result<List<Shared>, TabError>
-    requires run { CanBeRun (K.seen keeper.old).kept }
-    requires memo { Recalls (K.seen keeper.old).kept memo.old }
-    ensures tuples { IfOk result (λ tuples. tuples ≡ of_key (Some key.now) (plus_tuples ((sight_of (K.seen keeper.old).kept).rows world rel))) }
-    ensures reads { OnOk result ((K.seen keeper.new).reads ≤ (K.seen keeper.old).reads + (2 * length (rows_of_key (Some key.now) ((sight_of (K.seen keeper.old).kept).rows world rel)) + 1)) }
-    ensures memo { OnOk result (Recalls (K.seen keeper.old).kept memo.new) }
-    ensures looks { Looks (K.seen keeper.old) (K.seen keeper.new) result TabError.Fault }
-{
-    if !is_written(key) {
-        return Ok(List::new(alloc));
-    }
-    let mut prefix = Vec::new(alloc);
-    if put_key(&mut prefix, world, rel, key).is_err() {
-        keeper.undo();
-        return Err(TabError::Memory);
-    }
-    match plus_under(alloc, keeper, memo, prefix.as_slice()) {
-        Ok(tuples) => Ok(tuples),
-        Err(error) => Err(error),
     }
 }
 
@@ -334,8 +404,8 @@ fn read_tuple<K: Keeper>(alloc: Global, keeper: &mut K, tid: u32) -> Result<Tupl
     }
 }
 
-/// Whether a world denies a tuple: it has the tuple with minus, or another tuple of its relation and key with plus. At most
-/// a read for each row of the world that has the tuple's relation and key, and two more.
+/// Whether a world denies a tuple: it has the tuple with minus, or another tuple of its relation and key with plus. A read for
+/// each row of the world that has the tuple's relation and key, and three more at most.
 pub fn denies<K: Keeper>(
     alloc: Global,
     keeper: &mut K,
@@ -346,39 +416,64 @@ pub fn denies<K: Keeper>(
     requires run { CanBeRun (K.seen keeper.old).kept }
     requires memo { Recalls (K.seen keeper.old).kept memo.old }
     ensures denies { IfOk result (λ denies. denies ≡ rows_deny (sight_of (K.seen keeper.old).kept).keys ((sight_of (K.seen keeper.old).kept).rows world tuple.now.rel) tuple.now) }
-    ensures reads { OnOk result ((K.seen keeper.new).reads ≤ (K.seen keeper.old).reads + deny_looks ((sight_of (K.seen keeper.old).kept).rows world tuple.now.rel) (Some tuple.now)) }
+    ensures reads { OnOk result ((K.seen keeper.new).reads ≤ (K.seen keeper.old).reads + deny_looks ((sight_of (K.seen keeper.old).kept).keys tuple.now.rel) ((sight_of (K.seen keeper.old).kept).rows world tuple.now.rel) (Some tuple.now)) }
     ensures memo { OnOk result (Recalls (K.seen keeper.old).kept memo.new) }
     ensures looks { Looks (K.seen keeper.old) (K.seen keeper.new) result TabError.Fault }
 {
-    match tuple.vals.get(0) {
-        Some(key) => match denies_with(alloc, keeper, memo, world, tuple.rel, key, tuple) {
-            Ok(denies) => Ok(denies),
-            Err(error) => Err(error),
-        },
-        None => Ok(false),
+    match denies_of(alloc, keeper, memo, world, tuple.rel, tuple) {
+        Ok(denies) => Ok(denies),
+        Err(error) => Err(error),
     }
 }
 
-// Whether a world denies a tuple of this relation that has this key.
+// Whether a world denies a tuple of this relation.
+fn denies_of<K: Keeper>(
+    alloc: Global,
+    keeper: &mut K,
+    memo: &mut Memo,
+    world: u32,
+    rel: u32,
+    tuple: &Tuple,
+) -> Result<bool, TabError>
+    requires run { CanBeRun (K.seen keeper.old).kept }
+    requires memo { Recalls (K.seen keeper.old).kept memo.old }
+    requires relation { tuple.now.rel ≡ rel }
+    ensures denies { IfOk result (λ denies. denies ≡ rows_deny (sight_of (K.seen keeper.old).kept).keys ((sight_of (K.seen keeper.old).kept).rows world rel) tuple.now) }
+    ensures reads { OnOk result ((K.seen keeper.new).reads ≤ (K.seen keeper.old).reads + deny_looks ((sight_of (K.seen keeper.old).kept).keys rel) ((sight_of (K.seen keeper.old).kept).rows world rel) (Some tuple.now)) }
+    ensures memo { OnOk result (Recalls (K.seen keeper.old).kept memo.new) }
+    ensures looks { Looks (K.seen keeper.old) (K.seen keeper.new) result TabError.Fault }
+{
+    let n = match key_length_of(alloc, keeper, memo, rel) {
+        Ok(n) => n,
+        Err(error) => return Err(error),
+    };
+    match denies_with(alloc, keeper, memo, world, rel, n, tuple) {
+        Ok(denies) => Ok(denies),
+        Err(error) => Err(error),
+    }
+}
+
+// The same, where the relation's key has the length `n`. One read less.
 fn denies_with<K: Keeper>(
     alloc: Global,
     keeper: &mut K,
     memo: &mut Memo,
     world: u32,
     rel: u32,
-    key: &Value,
+    n: u32,
     tuple: &Tuple,
 ) -> Result<bool, TabError>
     requires run { CanBeRun (K.seen keeper.old).kept }
     requires memo { Recalls (K.seen keeper.old).kept memo.old }
     requires relation { tuple.now.rel ≡ rel }
-    requires key { slice_get tuple.now.vals 0 ≡ Some key.now }
+    requires length { n ≡ (sight_of (K.seen keeper.old).kept).keys rel }
     ensures denies { IfOk result (λ denies. denies ≡ rows_deny (sight_of (K.seen keeper.old).kept).keys ((sight_of (K.seen keeper.old).kept).rows world rel) tuple.now) }
-    ensures reads { OnOk result ((K.seen keeper.new).reads ≤ (K.seen keeper.old).reads + (length (rows_of_key (Some key.now) ((sight_of (K.seen keeper.old).kept).rows world rel)) + 2)) }
+    ensures reads { OnOk result ((K.seen keeper.new).reads ≤ (K.seen keeper.old).reads + (length (rows_of_key (take n tuple.now.vals) ((sight_of (K.seen keeper.old).kept).rows world rel)) + 2)) }
     ensures memo { OnOk result (Recalls (K.seen keeper.old).kept memo.new) }
     ensures looks { Looks (K.seen keeper.old) (K.seen keeper.new) result TabError.Fault }
 {
-    if !is_written(key) {
+    let key = key_of(tuple, n);
+    if !are_written(key) {
         return Ok(false);
     }
     let number = match number_of(alloc, keeper, tuple) {
@@ -386,7 +481,7 @@ fn denies_with<K: Keeper>(
         Err(error) => return Err(error),
     };
     let mut prefix = Vec::new(alloc);
-    if put_key(&mut prefix, world, rel, key).is_err() {
+    if put_group(&mut prefix, world, rel, key).is_err() {
         keeper.undo();
         return Err(TabError::Memory);
     }
@@ -435,63 +530,4 @@ fn number_of<K: Keeper>(
         Ok(number) => Ok(number),
         Err(error) => Err(error),
     }
-}
-
-// Whether the texts of values are those that keys may have.
-fn are_written(values: &[Value]) -> bool
-    ensures { result ≡ list_all is_written values.now }
-{
-    values.iter().all(|value| is_written(value))
-}
-
-// Whether a text is one that keys may have.
-fn is_written(value: &Value) -> bool
-    ensures { result ≡ is_written value.now }
-{
-    match value {
-        Value::Int(_) => true,
-        Value::Text(text) => is_plain(text.as_str()),
-    }
-}
-
-// Whether a text is a plain one.
-#[tactic(auto, using(bdb_key::proofs::Readings::utf8_true))]
-fn is_plain(text: &str) -> bool
-    ensures { result ≡ is_plain text.now }
-{
-    let bytes = text.as_bytes();
-    if bytes.len() > LONGEST_TEXT {
-        return false;
-    }
-    is_printing(bytes)
-}
-
-// Whether no byte is one of a character below U+0020.
-fn is_printing(bytes: &[u8]) -> bool
-    ensures { result ≡ list_all (λ c. nat_le 32 c) bytes.now }
-{
-    bytes.iter().all(|byte| *byte >= 32)
-}
-
-// How the keys of a world's rows of a relation begin.
-fn put_world(prefix: &mut Vec<u8>, world: u32, rel: u32) -> Result<(), AllocError>
-    ensures { OnOk result (prefix.new.items ≡ prefix.old.items ++ world_prefix world rel) }
-{
-    prefix.reserve(PREFIX_ROOM)?;
-    put_num(prefix, world)?;
-    put_num(prefix, rel)?;
-    Ok(())
-}
-
-// How the keys of those rows begin whose tuples have a value as their key.
-fn put_key(prefix: &mut Vec<u8>, world: u32, rel: u32, key: &Value) -> Result<(), AllocError>
-    requires text { HasPlainText key.now }
-    ensures bytes { OnOk result (prefix.new.items ≡ prefix.old.items ++ key_prefix world rel key.now) }
-    ensures fits { OnOk result (IsPlainValue key.now) }
-{
-    prefix.reserve(PREFIX_ROOM)?;
-    put_num(prefix, world)?;
-    put_num(prefix, rel)?;
-    put_value(prefix, key)?;
-    Ok(())
 }

@@ -7,16 +7,16 @@ ghost use Rattle.bdb_keep.specs.Tables.{Tables};
 ghost use Rattle.bdb_exec.specs.Memos.{last_pool, pair_cmp, pool_of, Recalls};
 
 use crate::shared::Shared;
-use bdb_base::{Exact, List, Tuple, Value, cmp_value};
+use bdb_base::{Exact, List, Tuple};
 use bdb_tables::Room;
 use std::alloc::{AllocError, Global};
 use std::cmp::Ordering;
 use std::collections::BTreeMap;
 
-/// The tuples of a key that a world has with plus.
+/// The tuples with plus of the rows of worlds whose keys begin so.
 #[derive(Drop)]
 pub struct KeyPool {
-    pub key: Value,
+    pub prefix: List<u8>,
     pub tuples: List<Shared>,
 }
 
@@ -29,10 +29,12 @@ pub struct Memo {
     pub tuples: BTreeMap<u32, Shared>,
     /// The tuples that a world has with plus, by world and relation.
     pub pools: BTreeMap<(u32, u32), List<Shared>>,
-    /// The tuples of the key that was asked for last, by world and relation.
+    /// The tuples of the beginning of a key that was asked for last, by world and relation.
     pub last_pools: BTreeMap<(u32, u32), KeyPool>,
     /// Where edges lead, by world and user.
     pub edges: BTreeMap<(u32, u32), Option<u32>>,
+    /// How long the keys of relations are.
+    pub lengths: BTreeMap<u32, u32>,
     /// Room for the calls that read rows of worlds.
     pub room: Room,
 }
@@ -48,21 +50,22 @@ impl Memo {
             pools: BTreeMap::new(alloc),
             last_pools: BTreeMap::new(alloc),
             edges: BTreeMap::new(alloc),
+            lengths: BTreeMap::new(alloc),
             room: Room::new(alloc),
         }
     }
 }
 
-/// The tuples of a key at a place, where it is the key that was asked for last.
-pub fn pool_of_key<'a>(
+/// The tuples of the rows whose keys begin so, where that was asked for last of a place.
+pub fn last_pool<'a>(
     pools: &'a BTreeMap<(u32, u32), KeyPool>,
     place: &(u32, u32),
-    key: &Value,
+    prefix: &[u8],
 ) -> Option<&'a List<Shared>>
-    ensures { option_copied result ≡ last_pool (get pair_cmp pools.now place.now) key.now }
+    ensures { option_copied result ≡ last_pool (get pair_cmp pools.now place.now) prefix.now }
 {
     match pools.get(place) {
-        Some(pool) => match cmp_value(&pool.key, key) {
+        Some(pool) => match pool.prefix.as_slice().cmp(prefix) {
             Ordering::Equal => Some(&pool.tuples),
             Ordering::Less => None,
             Ordering::Greater => None,
@@ -71,20 +74,20 @@ pub fn pool_of_key<'a>(
     }
 }
 
-/// Keeps the tuples of a key at a place, and gives them.
+/// Keeps the tuples of the rows whose keys begin so, at a place, and gives them.
 pub fn keep_pool(
     alloc: Global,
     pools: &mut BTreeMap<(u32, u32), KeyPool>,
     place: (u32, u32),
-    key: &Value,
+    prefix: Vec<u8>,
     tuples: List<Shared>,
 ) -> Result<List<Shared>, AllocError>
     ensures pool { IfOk result (λ pool. pool ≡ tuples) }
-    ensures kept { OnOk result (Updates pair_cmp pools.old pools.new place (Some (pool_of key.now tuples))) }
+    ensures kept { OnOk result (Updates pair_cmp pools.old pools.new place (Some (pool_of prefix.items tuples))) }
 {
-    let key = key.try_clone(alloc)?;
+    let prefix = List::from_vec(prefix);
     let copy = tuples.try_clone(alloc)?;
-    pools.insert(place, KeyPool { key, tuples })?;
+    pools.insert(place, KeyPool { prefix, tuples })?;
     Ok(copy)
 }
 

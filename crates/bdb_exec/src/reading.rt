@@ -1,14 +1,14 @@
 // Steps at which something is chosen.
 ghost use Rattle.std.specs.Prelude.{◌≡◌, ◌≤◌, ◌+◌, ◌*◌, IfOk, OnOk, filter, length};
 ghost use Rattle.bdb_plan.specs.Running.{plus_tuples};
-ghost use Rattle.bdb_exec.specs.Keys.{choices_before, key_asked, passes, rows_of_key};
-ghost use Rattle.bdb_exec.specs.LookUps.{choice_looks};
+ghost use Rattle.bdb_exec.specs.Keys.{choices_before, key_asked, passes};
+ghost use Rattle.bdb_exec.specs.LookUps.{choice_looks, pool_looks};
 ghost use Rattle.bdb_exec.specs.Looks.{Looks};
 ghost use Rattle.bdb_exec.specs.Memos.{Recalls};
 ghost use Rattle.bdb_exec.specs.Readable.{CanBeRun};
 ghost use Rattle.bdb_exec.specs.Seen.{sight_of};
 
-use crate::keys::key_asked;
+use crate::keys::asks_for_key;
 use crate::looking::{plus_tuples, plus_tuples_of_key, users};
 use crate::memo::Memo;
 use crate::passing::{kept, passing};
@@ -109,20 +109,17 @@ fn some_tuples<K: Keeper>(
     requires run { CanBeRun (K.seen keeper.old).kept }
     requires memo { Recalls (K.seen keeper.old).kept memo.old }
     ensures pool { IfOk result (λ pool. pool ≡ filter (passes state.now.slots item behind.now) (plus_tuples ((sight_of (K.seen keeper.old).kept).rows state.now.world rel))) }
-    ensures reads { OnOk result ((K.seen keeper.new).reads ≤ (K.seen keeper.old).reads + (2 * length (rows_of_key (key_asked state.now.slots item behind.now) ((sight_of (K.seen keeper.old).kept).rows state.now.world rel)) + 1)) }
+    ensures reads { OnOk result ((K.seen keeper.new).reads ≤ (K.seen keeper.old).reads + pool_looks (key_asked ((sight_of (K.seen keeper.old).kept).keys rel) state.now.slots item behind.now) ((sight_of (K.seen keeper.old).kept).rows state.now.world rel)) }
     ensures memo { OnOk result (Recalls (K.seen keeper.old).kept memo.new) }
     ensures looks { Looks (K.seen keeper.old) (K.seen keeper.new) result TabError.Fault }
 {
-    let key = match key_asked(state.slots(), item, behind) {
-        Some(key) => key,
-        None => {
-            return match of_relation(alloc, keeper, memo, item, rel, state, behind) {
-                Ok(pool) => Ok(pool),
-                Err(error) => Err(error),
-            };
-        }
-    };
-    match plus_tuples_of_key(alloc, keeper, memo, state.world(), rel, key) {
+    if !asks_for_key(state.slots(), item, behind) {
+        return match of_relation(alloc, keeper, memo, item, rel, state, behind) {
+            Ok(pool) => Ok(pool),
+            Err(error) => Err(error),
+        };
+    }
+    match plus_tuples_of_key(alloc, keeper, memo, item, rel, state, behind) {
         Ok(all) => Ok(kept(state.slots(), item, behind, all)),
         Err(error) => Err(error),
     }

@@ -114,7 +114,7 @@ fn deny<K: Keeper>(
     requires run { CanBeRun (K.seen keeper.old).kept }
     requires memo { Recalls (K.seen keeper.old).kept memo.old }
     ensures next { IfOk result (λ next. next ≡ denied (sight_of (K.seen keeper.old).kept).keys ((sight_of (K.seen keeper.old).kept).rows state.world rel) state item rel (slot_at state.slots item)) }
-    ensures reads { OnOk result ((K.seen keeper.new).reads ≤ (K.seen keeper.old).reads + deny_looks ((sight_of (K.seen keeper.old).kept).rows state.world rel) (slot_at state.slots item)) }
+    ensures reads { OnOk result ((K.seen keeper.new).reads ≤ (K.seen keeper.old).reads + deny_looks ((sight_of (K.seen keeper.old).kept).keys rel) ((sight_of (K.seen keeper.old).kept).rows state.world rel) (slot_at state.slots item)) }
     ensures memo { OnOk result (Recalls (K.seen keeper.old).kept memo.new) }
     ensures looks { Looks (K.seen keeper.old) (K.seen keeper.new) result TabError.Fault }
 {

@@ -1,5 +1,5 @@
 -- Rows whole: no two are written alike.
-use Rattle.std.proofs.Common.{◌≡◌, ℕ, List, [], ◌∷◌, ◌++◌, refl, sym, ap, ◌∙◌}
+use Rattle.std.proofs.Common.{◌≡◌, ℕ, List, [], ◌∷◌, ◌++◌, append_assoc, refl, sym, ap, ◌∙◌}
 use Rattle.std.specs.declared.cmp.Ordering.{Ordering}
 use Rattle.std.specs.declared.cmp.Ordering.TheVariants.{Less, Equal, Greater}
 use Rattle.std.specs.Ordering.{ordering_then}
@@ -12,10 +12,10 @@ use Rattle.bdb_base.specs.declared.kinds.Sign.TheVariants as signs
 use Rattle.bdb_base.specs.declared.tuple.Tuple.{Tuple}
 use Rattle.bdb_key.specs.Bytes.{num_bytes, text_bytes, values_bytes}
 use Rattle.bdb_key.specs.Grammar.{IsNum, IsPlain}
-use Rattle.bdb_key.specs.Rows.{IsCol, IsRelRow, IsTupleRow, cols_bytes, rel_bytes, tuple_bytes, sign_bytes}
+use Rattle.bdb_key.specs.Rows.{IsCol, IsRelRow, IsTupleRow, cols_bytes, length_bytes, rel_bytes, tuple_bytes, sign_bytes}
 use Rattle.bdb_key.proofs.Compared.{rows, rows_tie}
 use Rattle.bdb_key.proofs.Forms.{tied}
-use Rattle.bdb_key.proofs.Readings.{num_form, text_form, col_forms}
+use Rattle.bdb_key.proofs.Readings.{num_form, text_form, length_form, one_cols}
 
 pub then_equal : (o : Ordering) → ordering_then o Equal ≡ o
 then_equal Less = refl
@@ -28,22 +28,16 @@ one_num a b fa fb e = (num_form a b [] [] fa fb (ap (λ (x : List ℕ). x ++ [])
 pub one_text : (a b : List ℕ) → IsPlain a → IsPlain b → text_bytes a ≡ text_bytes b → a ≡ b
 one_text a b fa fb e = (text_form a b [] [] fa fb (ap (λ (x : List ℕ). x ++ []) e)).0
 
-one_cols : (a b : List ColDef) → AllByRecursion IsCol a → AllByRecursion IsCol b → cols_bytes a ≡ cols_bytes b → a ≡ b
-one_cols [] [] fa fb e = refl
-one_cols [] (d ∷ b) fa fb e = absurd (col_forms.some d (cols_bytes b) e)
-one_cols (c ∷ a) [] fa fb e = absurd (col_forms.some c (cols_bytes a) (sym e))
-one_cols (c ∷ a) (d ∷ b) fa fb e =
-    let form = col_forms.form c d (cols_bytes a) (cols_bytes b) fa.0 fb.0 e in
-    ap (λ x. x ∷ a) form.0 ∙ ap (λ (x : List ColDef). d ∷ x) (one_cols a b fa.1 fb.1 form.1)
-
-def_of : List ℕ → List ColDef → RelDef
-def_of n c = record { name = n; cols = c }
+def_of : List ℕ → List ColDef → ℕ → RelDef
+def_of n c k = record { name = n; cols = c; key = k }
 
 pub one_rel : (a b : RelDef) → IsRelRow a → IsRelRow b → rel_bytes a ≡ rel_bytes b → a ≡ b
 unfolding def_of
 one_rel a b fa fb e =
-    let form = text_form a.name b.name (cols_bytes a.cols) (cols_bytes b.cols) fa.name fb.name e in
-    ap (λ n. def_of n a.cols) form.0 ∙ ap (λ c. def_of b.name c) (one_cols a.cols b.cols fa.names fb.names form.1)
+    let form = text_form a.name b.name (length_bytes a.key ++ cols_bytes a.cols) (length_bytes b.key ++ cols_bytes b.cols) fa.name fb.name
+    (sym (append_assoc (text_bytes a.name) (length_bytes a.key) (cols_bytes a.cols)) ∙ e ∙ append_assoc (text_bytes b.name) (length_bytes b.key) (cols_bytes b.cols)) in
+    let long = length_form a.key b.key (cols_bytes a.cols) (cols_bytes b.cols) fa.short fb.short form.1 in
+    ap (λ n. def_of n a.cols a.key) form.0 ∙ ap (λ c. def_of b.name c a.key) (one_cols a.cols b.cols fa.names fb.names long.1) ∙ ap (def_of b.name b.cols) long.0
 
 tuple_made : ℕ → List Value → Tuple
 tuple_made r v = record { rel = r; vals = v }

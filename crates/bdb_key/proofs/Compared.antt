@@ -1,6 +1,7 @@
--- The bytes of values and paths compare as the values and paths do.
+-- The bytes of values, of lists of values and of paths compare as what they spell does.
 use Rattle.std.proofs.Common.{◌≡◌, ℕ, ℤ, pos, negsuc, ◌+◌, ◌-◌, ◌^◌, ◌<◌, ◌≤◌, true, length, List, [], ◌∷◌, ◌++◌, refl, sym, ap, ◌∙◌, arith, inl, inr}
 use Rattle.std.specs.Prelude.{nat_le, FitsSigned}
+use Rattle.std.specs.declared.cmp.Ordering.{Ordering}
 use Rattle.std.specs.Ordering.{nat_cmp, int_cmp, ordering_then}
 use Rattle.std.specs.Cmp.Lexicographic.{slice_cmp}
 use Rattle.std.specs.Str.{is_utf8}
@@ -11,12 +12,14 @@ use Rattle.std.proofs.lemmas.Bool.{and_parts}
 use Rattle.std.proofs.lemmas.Bool.Decides.{nat_tests}
 use Rattle.std.proofs.lemmas.Int.{ints}
 use Rattle.std.proofs.lemmas.Bool.{cases_order}
+use Rattle.std.proofs.lemmas.List.{append_assoc}
 use Rattle.bdb_base.specs.Bases.{is_clean}
 use Rattle.bdb_base.specs.Order.{value_cmp, row_cmp, path_cmp}
 use Rattle.bdb_base.specs.declared.kinds.Value.{Value}
 use Rattle.bdb_base.specs.declared.kinds.Value.TheVariants.{Int, Text}
-use Rattle.bdb_key.specs.Bytes.{num_bytes, raised, value_bytes, values_bytes, path_bytes}
-use Rattle.bdb_key.specs.Grammar.{IsNum, IsPlain, IsPlainValue, ArePlain, IsKeyPath}
+use Rattle.bdb_key.specs.Bytes.{num_bytes, raised, value_bytes, values_bytes, vals_bytes, path_bytes}
+use Rattle.bdb_key.specs.Grammar.{IsNum, IsPlain, IsPlainValue, ArePlain, AreKeyVals, IsKeyPath}
+use Rattle.bdb_key.specs.Order.{vals_cmp}
 use Rattle.bdb_key.proofs.Numbers.{less, greater, then_assoc, numbers}
 use Rattle.bdb_key.proofs.Forms.{Compares, both_equal}
 
@@ -80,26 +83,46 @@ rows (Int m ∷ a) [] fa fb = refl
 rows (Text s ∷ a) [] fa fb = refl
 rows (v ∷ a) (w ∷ b) fa fb = values v w (values_bytes a) (values_bytes b) fa.0 fb.0 ∙ ap (λ o. ordering_then (value_cmp v w) o) (rows a b fa.1 fb.1)
 
+-- ---- how many there are, then each
+
+module _ {A : Type 0} (Fits : A → Type 0) (spelling : A → List ℕ) (R : A → A → Ordering) (compares : Compares Fits spelling R) where
+  as_many : (a b : List A) (x y : List ℕ) → length a ≡ length b → AllByRecursion Fits a → AllByRecursion Fits b
+      → slice_cmp nat_cmp (flat_map spelling a ++ x) (flat_map spelling b ++ y) ≡ ordering_then (slice_cmp R a b) (slice_cmp nat_cmp x y)
+  as_many [] [] x y e fa fb = refl
+  as_many [] (w ∷ b) x y e fa fb = absurd (omega arith)
+  as_many (v ∷ a) [] x y e fa fb = absurd (omega arith)
+  as_many (v ∷ a) (w ∷ b) x y e fa fb =
+      ap (λ (z : List ℕ). slice_cmp nat_cmp z (flat_map spelling (w ∷ b) ++ y)) (append_assoc (spelling v) (flat_map spelling a) x)
+      ∙ ap (λ (z : List ℕ). slice_cmp nat_cmp (spelling v ++ (flat_map spelling a ++ x)) z) (append_assoc (spelling w) (flat_map spelling b) y)
+      ∙ compares v w (flat_map spelling a ++ x) (flat_map spelling b ++ y) fa.0 fb.0
+      ∙ ap (λ o. ordering_then (R v w) o) (as_many a b x y (omega arith) fa.1 fb.1)
+      ∙ sym (then_assoc (R v w) (slice_cmp R a b) (slice_cmp nat_cmp x y))
+
+  counted : (a b : List A) (x y : List ℕ) → IsNum (length a) → IsNum (length b) → AllByRecursion Fits a → AllByRecursion Fits b
+      → slice_cmp nat_cmp ((num_bytes (length a) ++ flat_map spelling a) ++ x) ((num_bytes (length b) ++ flat_map spelling b) ++ y)
+      ≡ ordering_then (ordering_then (nat_cmp (length a) (length b)) (slice_cmp R a b)) (slice_cmp nat_cmp x y)
+  counted a b x y sa sb fa fb =
+      let X = slice_cmp nat_cmp (flat_map spelling a ++ x) (flat_map spelling b ++ y) in
+      nums (length a) (length b) (flat_map spelling a ++ x) (flat_map spelling b ++ y) sa sb
+      ∙ elim (cases_order (length a) (length b)) as (λ _. ordering_then (nat_cmp (length a) (length b)) X ≡ ordering_then (ordering_then (nat_cmp (length a) (length b)) (slice_cmp R a b)) (slice_cmp nat_cmp x y)) [
+        | inl e ↦ ap (λ o. ordering_then (nat_cmp (length a) (length b)) o) (as_many a b x y e fa fb) ∙ sym (then_assoc (nat_cmp (length a) (length b)) (slice_cmp R a b) (slice_cmp nat_cmp x y))
+        | inr (inl lt) ↦ let e = less (length a) (length b) lt in ap (λ o. ordering_then o X) e ∙ ap (λ o. ordering_then (ordering_then o (slice_cmp R a b)) (slice_cmp nat_cmp x y)) (sym e)
+        | inr (inr gt) ↦ let e = greater (length a) (length b) gt in ap (λ o. ordering_then o X) e ∙ ap (λ o. ordering_then (ordering_then o (slice_cmp R a b)) (slice_cmp nat_cmp x y)) (sym e)
+      ]
+
+-- ---- lists of values
+
+pub lists : Compares AreKeyVals vals_bytes vals_cmp
+lists a b x y fa fb = counted IsPlainValue value_bytes value_cmp values a b x y fa.short fb.short fa.plain fb.plain
+
 -- ---- paths
 
 pub users : (p q : List ℕ) (x y : List ℕ) → length p ≡ length q → AllByRecursion IsNum p → AllByRecursion IsNum q
     → slice_cmp nat_cmp (flat_map num_bytes p ++ x) (flat_map num_bytes q ++ y) ≡ ordering_then (slice_cmp nat_cmp p q) (slice_cmp nat_cmp x y)
-users [] [] x y e fp fq = refl
-users [] (j ∷ q) x y e fp fq = absurd (omega arith)
-users (i ∷ p) [] x y e fp fq = absurd (omega arith)
-users (i ∷ p) (j ∷ q) x y e fp fq =
-    nums i j (flat_map num_bytes p ++ x) (flat_map num_bytes q ++ y) fp.0 fq.0
-    ∙ ap (λ o. ordering_then (nat_cmp i j) o) (users p q x y (omega arith) fp.1 fq.1)
-    ∙ sym (then_assoc (nat_cmp i j) (slice_cmp nat_cmp p q) (slice_cmp nat_cmp x y))
+users = as_many IsNum num_bytes nat_cmp nums
 
 pub paths : Compares IsKeyPath path_bytes path_cmp
-paths p q x y fp fq =
-    nums (length p) (length q) (flat_map num_bytes p ++ x) (flat_map num_bytes q ++ y) fp.short fq.short
-    ∙ elim (cases_order (length p) (length q)) as (λ _. ordering_then (nat_cmp (length p) (length q)) (slice_cmp nat_cmp (flat_map num_bytes p ++ x) (flat_map num_bytes q ++ y)) ≡ ordering_then (path_cmp p q) (slice_cmp nat_cmp x y)) [
-      | inl e ↦ ap (λ o. ordering_then (nat_cmp (length p) (length q)) o) (users p q x y e fp.users fq.users) ∙ sym (then_assoc (nat_cmp (length p) (length q)) (slice_cmp nat_cmp p q) (slice_cmp nat_cmp x y))
-      | inr (inl lt) ↦ let e = less (length p) (length q) lt in ap (λ o. ordering_then o (slice_cmp nat_cmp (flat_map num_bytes p ++ x) (flat_map num_bytes q ++ y))) e ∙ ap (λ o. ordering_then (ordering_then o (slice_cmp nat_cmp p q)) (slice_cmp nat_cmp x y)) (sym e)
-      | inr (inr gt) ↦ let e = greater (length p) (length q) gt in ap (λ o. ordering_then o (slice_cmp nat_cmp (flat_map num_bytes p ++ x) (flat_map num_bytes q ++ y))) e ∙ ap (λ o. ordering_then (ordering_then o (slice_cmp nat_cmp p q)) (slice_cmp nat_cmp x y)) (sym e)
-    ]
+paths p q x y fp fq = counted IsNum num_bytes nat_cmp nums p q x y fp.short fq.short fp.users fq.users
 
 -- ---- only equal things tie
 
@@ -111,6 +134,9 @@ values_tie (Text s) (Text t) e = ap Text (slice_cmp-IsAntisymmetric nat_cmp-IsAn
 
 pub rows_tie : IsAntisymmetric row_cmp
 rows_tie = slice_cmp-IsAntisymmetric values_tie
+
+pub lists_tie : IsAntisymmetric vals_cmp
+lists_tie a b e = rows_tie a b (both_equal (nat_cmp (length a) (length b)) (row_cmp a b) e).1
 
 pub paths_tie : IsAntisymmetric path_cmp
 paths_tie p q e = slice_cmp-IsAntisymmetric nat_cmp-IsAntisymmetric p q (both_equal (nat_cmp (length p) (length q)) (slice_cmp nat_cmp p q) e).1

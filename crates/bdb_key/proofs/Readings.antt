@@ -1,5 +1,5 @@
 -- What is read from the front of bytes is all that stands there.
-use Rattle.std.proofs.Common.{◌≡◌, ℕ, pos, lit<, suc, ◌+◌, ◌<◌, true, false, not, length, List, [], ◌∷◌, ◌++◌, refl, sym, ap, subst, ◌∙◌, arith}
+use Rattle.std.proofs.Common.{◌≡◌, ℕ, pos, lit<, suc, ◌+◌, ◌<◌, ◌≤◌, true, false, not, length, List, [], ◌∷◌, ◌++◌, refl, sym, ap, subst, ◌∙◌, arith}
 use Rattle.std.specs.Prelude.{nat_le, nat_eq}
 use Rattle.std.specs.Ordering.{nat_cmp}
 use Rattle.std.specs.Cmp.Lexicographic.{slice_cmp}
@@ -22,10 +22,10 @@ use Rattle.std.specs.Prelude.{FitsSigned}
 use Rattle.std.specs.Int.{w64}
 use Rattle.bdb_base.specs.declared.kinds.Sign.TheVariants as signs
 use Rattle.bdb_base.specs.declared.kinds.RelDef.{RelDef}
-use Rattle.bdb_key.specs.Rows.{IsAnyKind, IsCol, IsAnySign, IsRelRow, IsTupleRow, tuple_bytes, kind_bytes, col_bytes, cols_bytes, rel_bytes, sign_bytes}
+use Rattle.bdb_key.specs.Rows.{IsAnyKind, IsCol, IsAnySign, IsRelRow, IsTupleRow, tuple_bytes, kind_bytes, col_bytes, cols_bytes, length_bytes, rel_bytes, sign_bytes}
 use Rattle.bdb_key.specs.Bytes.{num_bytes, int_bytes, text_bytes, value_bytes, values_bytes, path_bytes}
 use Rattle.bdb_key.specs.Grammar.{IsNum, IsPlain, IsPlainValue, ArePlain, IsKeyPath}
-use Rattle.bdb_key.specs.Reading.{Leads, NoneLeads, Reads, NoneReads, AreNums, nums_bytes, HasNoEnd, EndsAt}
+use Rattle.bdb_key.specs.Reading.{Leads, NoneLeads, Reads, NoneReads, AreMany, nums_bytes, HasNoEnd, EndsAt}
 use Rattle.bdb_key.proofs.Compared.{nums, users, values, paths, values_tie, paths_tie, printing, IsPrinting}
 use Rattle.bdb_key.proofs.Forms.{one_form, both_equal, same_bytes, tied}
 
@@ -50,48 +50,36 @@ seq_push spelling bytes rest more xs x e f =
     e ∙ ap (λ r. flat_map spelling xs ++ r) f ∙ sym (append_assoc (flat_map spelling xs) (spelling x) more)
     ∙ ap (λ (r : List ℕ). r ++ more) (flat_map_more spelling [] xs x)
 
--- ---- numbers one after the other
-
-pub nums_push : (k user : ℕ) (bytes rest more found : List ℕ) → Leads (AreNums k) nums_bytes bytes found rest → Leads IsNum num_bytes rest user more
-    → Leads (AreNums (k + 1)) nums_bytes bytes (found ++ user ∷ []) more
-nums_push k user bytes rest more found h u = record {
-  fits = record { many = length_push found user ∙ ap (λ n. n + 1) h.fits.many; each = all_push IsNum found user h.fits.each u.fits };
-  split = seq_push num_bytes bytes rest more found user h.split u.split;
-}
-
-pub nums_next : (k user : ℕ) (rest more left r : List ℕ) → Leads (AreNums (suc k)) nums_bytes rest left r → Leads IsNum num_bytes rest user more
-    → (after : List ℕ) × Leads (AreNums k) nums_bytes more after r
-nums_next k user rest more [] r h u = let e = h.fits.many in absurd (omega arith)
-nums_next k user rest more (i ∷ left) r h u =
-    let e = h.fits.many in
-    let form = num_form i user (nums_bytes left ++ r) more h.fits.each.0 u.fits (sym h.split ∙ u.split) in
-    (left, record { fits = record { many = omega arith; each = h.fits.each.1 }; split = sym form.1 })
-
-pub nums_none : (k : ℕ) (rest : List ℕ) → NoneLeads IsNum num_bytes rest → NoneLeads (AreNums (suc k)) nums_bytes rest
-nums_none k rest none [] r h = let e = h.fits.many in omega arith
-nums_none k rest none (i ∷ left) r h = none i (nums_bytes left ++ r) (record { fits = h.fits.each.0; split = h.split })
-
-nums_one : (k : ℕ) (a b x y : List ℕ) → AreNums k a → AreNums k b → nums_bytes a ++ x ≡ nums_bytes b ++ y → a ≡ b
-nums_one k a b x y fa fb e =
-    let same = sym (users a b x y (fa.many ∙ sym fb.many) fa.each fb.each) ∙ tied (nums_bytes a ++ x) (nums_bytes b ++ y) e in
-    same_bytes a b (both_equal (slice_cmp nat_cmp a b) (slice_cmp nat_cmp x y) same).0
-
--- the users that stand after a length are no path
-pub no_path : (len : ℕ) (bytes rest more found : List ℕ) → Leads IsNum num_bytes bytes len rest → Leads (AreNums len) nums_bytes rest found more
-    → alternates found ≡ false → NoneLeads IsKeyPath path_bytes bytes
-no_path len bytes rest more found n u repeat path r h =
-    let form = num_form (length path) len (nums_bytes path ++ r) rest h.fits.short n.fits (sym h.split ∙ n.split) in
-    let same = nums_one len path found r more (record { many = form.0; each = h.fits.users }) u.fits (form.1 ∙ u.split) in
-    false≢true (sym repeat ∙ ap alternates (sym same) ∙ h.fits.apart)
-
--- ---- spellings one after the other, up to the end
-
 -- no spelling is empty or begins another
 pub record IsForm {A : Type 0} (Fits : A → Type 0) (spelling : A → List ℕ) : Type 0 where
   pub form : (a b : A) (x y : List ℕ) → Fits a → Fits b → spelling a ++ x ≡ spelling b ++ y → (a ≡ b) × (x ≡ y)
   pub some : (a : A) (more : List ℕ) → [] ≡ spelling a ++ more → ⊥
 
+-- ---- as many spellings, one after the other
+
 module _ {A : Type 0} {Fits : A → Type 0} {spelling : A → List ℕ} (is : IsForm Fits spelling) where
+  pub many_push : (k : ℕ) (v : A) (bytes rest more : List ℕ) (found : List A) → Leads (AreMany Fits k) (flat_map spelling) bytes found rest → Leads Fits spelling rest v more
+      → Leads (AreMany Fits (k + 1)) (flat_map spelling) bytes (found ++ v ∷ []) more
+  many_push k v bytes rest more found h u = record {
+    fits = record { many = length_push found v ∙ ap (λ n. n + 1) h.fits.many; each = all_push Fits found v h.fits.each u.fits };
+    split = seq_push spelling bytes rest more found v h.split u.split;
+  }
+
+  pub many_next : (k : ℕ) (v : A) (rest more : List ℕ) (left : List A) (r : List ℕ) → Leads (AreMany Fits (suc k)) (flat_map spelling) rest left r → Leads Fits spelling rest v more
+      → (after : List A) × Leads (AreMany Fits k) (flat_map spelling) more after r
+  many_next k v rest more [] r h u = let e = h.fits.many in absurd (omega arith)
+  many_next k v rest more (w ∷ left) r h u =
+      let e = h.fits.many in
+      let form = is.form w v (flat_map spelling left ++ r) more h.fits.each.0 u.fits (sym (append_assoc (spelling w) (flat_map spelling left) r) ∙ sym h.split ∙ u.split) in
+      (left, record { fits = record { many = omega arith; each = h.fits.each.1 }; split = sym form.1 })
+
+  pub many_none : (k : ℕ) (rest : List ℕ) → NoneLeads Fits spelling rest → NoneLeads (AreMany Fits (suc k)) (flat_map spelling) rest
+  many_none k rest none [] r h = let e = h.fits.many in omega arith
+  many_none k rest none (w ∷ left) r h =
+      none w (flat_map spelling left ++ r) (record { fits = h.fits.each.0; split = h.split ∙ append_assoc (spelling w) (flat_map spelling left) r })
+
+  -- ---- spellings one after the other, up to the end
+
   pub seq_none : (rest : List ℕ) → 0 < length rest → NoneLeads Fits spelling rest → NoneReads (AllByRecursion Fits) (flat_map spelling) rest
   seq_none rest some none [] h = let e = ap length h.spelled in omega arith
   seq_none rest some none (v ∷ vs) h = none v (flat_map spelling vs) (record { fits = h.fits.0; split = sym h.spelled ∙ append_nothing })
@@ -106,6 +94,29 @@ module _ {A : Type 0} {Fits : A → Type 0} {spelling : A → List ℕ} (is : Is
       let form = is.form w v (flat_map spelling left) more h.fits.0 u.fits (h.spelled ∙ u.split) in
       (left, record { fits = h.fits.1; spelled = form.1 })
 
+-- ---- numbers one after the other
+
+num_some : (n : ℕ) (more : List ℕ) → [] ≡ num_bytes n ++ more → ⊥
+num_some n more e = cc
+
+pub num_forms : IsForm IsNum num_bytes
+num_forms = record { form = num_form; some = num_some }
+
+nums_one : (k : ℕ) (a b x y : List ℕ) → AreMany IsNum k a → AreMany IsNum k b → nums_bytes a ++ x ≡ nums_bytes b ++ y → a ≡ b
+nums_one k a b x y fa fb e =
+    let same = sym (users a b x y (fa.many ∙ sym fb.many) fa.each fb.each) ∙ tied (nums_bytes a ++ x) (nums_bytes b ++ y) e in
+    same_bytes a b (both_equal (slice_cmp nat_cmp a b) (slice_cmp nat_cmp x y) same).0
+
+-- the users that stand after a length are no path
+pub no_path : (len : ℕ) (bytes rest more found : List ℕ) → Leads IsNum num_bytes bytes len rest → Leads (AreMany IsNum len) nums_bytes rest found more
+    → alternates found ≡ false → NoneLeads IsKeyPath path_bytes bytes
+no_path len bytes rest more found n u repeat path r h =
+    let form = num_form (length path) len (nums_bytes path ++ r) rest h.fits.short n.fits (sym h.split ∙ n.split) in
+    let same = nums_one len path found r more (record { many = form.0; each = h.fits.users }) u.fits (form.1 ∙ u.split) in
+    false≢true (sym repeat ∙ ap alternates (sym same) ∙ h.fits.apart)
+
+-- ---- values
+
 value_some : (v : Value) (more : List ℕ) → [] ≡ value_bytes v ++ more → ⊥
 value_some (Int m) more e = cc
 value_some (Text t) more e = cc
@@ -118,6 +129,19 @@ text_form a b x y fa fb e = let h = value_form (Text a) (Text b) x y fa fb e in 
   where
     text_same : {s t : List ℕ} → Text s ≡ Text t → s ≡ t
     text_same e = cc
+
+-- a number of four bytes is an integer of eight
+number_fits : (n : ℕ) → IsNum n → FitsSigned w64 (pos n)
+number_fits n h = record { sfits = omega arith }
+
+pub length_form : (a b : ℕ) (x y : List ℕ) → IsNum a → IsNum b → length_bytes a ++ x ≡ length_bytes b ++ y → (a ≡ b) × (x ≡ y)
+length_form a b x y fa fb e = let h = value_form (Int (pos a)) (Int (pos b)) x y (number_fits a fa) (number_fits b fb) e in (number_same h.0, h.1)
+  where
+    number_same : {m n : ℕ} → Int (pos m) ≡ Int (pos n) → m ≡ n
+    number_same e = cc
+
+pub length_none : (bytes : List ℕ) → NoneLeads (FitsSigned w64) int_bytes bytes → NoneLeads IsNum length_bytes bytes
+length_none bytes none n rest h = none (pos n) rest (record { fits = number_fits n h.fits; split = h.split })
 
 -- the number of a kind
 kind_value : Kind → ℕ
@@ -207,6 +231,14 @@ pub sign_none : (bytes : List ℕ) → NoneReads IsNum num_bytes bytes → NoneR
 sign_none bytes none signs.Plus h = none 0 (record { fits = lit< tt; spelled = h.spelled })
 sign_none bytes none signs.Minus h = none 1 (record { fits = lit< tt; spelled = h.spelled })
 
+pub one_cols : (a b : List ColDef) → AllByRecursion IsCol a → AllByRecursion IsCol b → cols_bytes a ≡ cols_bytes b → a ≡ b
+one_cols [] [] fa fb e = refl
+one_cols [] (d ∷ b) fa fb e = absurd (col_forms.some d (cols_bytes b) e)
+one_cols (c ∷ a) [] fa fb e = absurd (col_forms.some c (cols_bytes a) (sym e))
+one_cols (c ∷ a) (d ∷ b) fa fb e =
+    let form = col_forms.form c d (cols_bytes a) (cols_bytes b) fa.0 fb.0 e in
+    ap (λ x. x ∷ a) form.0 ∙ ap (λ (x : List ColDef). d ∷ x) (one_cols a b fa.1 fb.1 form.1)
+
 module _ (bytes rest name : List ℕ) (t : Leads IsPlain text_bytes bytes name rest) where
   pub col_none : NoneLeads IsAnyKind kind_bytes rest → NoneLeads IsCol col_bytes bytes
   col_none none col r h =
@@ -219,21 +251,31 @@ module _ (bytes rest name : List ℕ) (t : Leads IsPlain text_bytes bytes name r
       let e = ap length form.1 in
       omega arith
 
-  rel_rest : (def : RelDef) → Reads IsRelRow rel_bytes bytes def → Reads (AllByRecursion IsCol) cols_bytes rest def.cols
+  -- what follows a relation's name: the length of its key and its columns
+  rel_rest : (def : RelDef) → Reads IsRelRow rel_bytes bytes def → rest ≡ length_bytes def.key ++ cols_bytes def.cols
   rel_rest def h =
-      let form = text_form def.name name (cols_bytes def.cols) rest h.fits.name t.fits (h.spelled ∙ t.split) in
-      record { fits = h.fits.names; spelled = form.1 }
+      let form = text_form def.name name (length_bytes def.key ++ cols_bytes def.cols) rest h.fits.name t.fits
+      (sym (append_assoc (text_bytes def.name) (length_bytes def.key) (cols_bytes def.cols)) ∙ h.spelled ∙ t.split) in
+      sym form.1
 
-  pub rel_none : NoneReads (AllByRecursion IsCol) cols_bytes rest → NoneReads IsRelRow rel_bytes bytes
-  rel_none none def h = none def.cols (rel_rest def h)
+  pub rel_no_length : NoneLeads IsNum length_bytes rest → NoneReads IsRelRow rel_bytes bytes
+  rel_no_length none def h = none def.key (cols_bytes def.cols) (record { fits = h.fits.short; split = rel_rest def h })
 
-  pub rel_no_cols : (cols : List ColDef) → Reads (AllByRecursion IsCol) cols_bytes rest cols → length cols ≡ 0 → NoneReads IsRelRow rel_bytes bytes
-  rel_no_cols [] r e def h = by def.cols h.fits.some ((rel_rest def h).spelled ∙ sym r.spelled)
-    where
-      by : (others : List ColDef) → 0 < length others → cols_bytes others ≡ [] → ⊥
-      by [] some same = omega arith
-      by (o ∷ others) some same = col_some o (cols_bytes others) (sym same)
-  rel_no_cols (c ∷ cols) r e def h = omega arith
+  module _ (more : List ℕ) (key : ℕ) (u : Leads IsNum length_bytes rest key more) where
+    rel_parts : (def : RelDef) → Reads IsRelRow rel_bytes bytes def → (def.key ≡ key) × (cols_bytes def.cols ≡ more)
+    rel_parts def h = length_form def.key key (cols_bytes def.cols) more h.fits.short u.fits (sym (rel_rest def h) ∙ u.split)
+
+    pub rel_none : NoneReads (AllByRecursion IsCol) cols_bytes more → NoneReads IsRelRow rel_bytes bytes
+    rel_none none def h = none def.cols (record { fits = h.fits.names; spelled = (rel_parts def h).1 })
+
+    pub rel_no_key : (cols : List ColDef) → Reads (AllByRecursion IsCol) cols_bytes more cols → ((1 ≤ key) × (key ≤ length cols) → ⊥) → NoneReads IsRelRow rel_bytes bytes
+    rel_no_key cols r none def h =
+        let parts = rel_parts def h in
+        let same : def.cols ≡ cols = one_cols def.cols cols h.fits.names r.fits (parts.1 ∙ sym r.spelled) in
+        let within = h.fits.key in
+        let k = parts.0 in
+        let l = ap length same in
+        none (omega arith, omega arith)
 
 pub text_reads_none : (bytes : List ℕ) → NoneLeads IsPlain text_bytes bytes → NoneReads IsPlain text_bytes bytes
 text_reads_none bytes none text h = none text [] (record { fits = h.fits; split = sym h.spelled ∙ sym (append-nil (text_bytes text)) })

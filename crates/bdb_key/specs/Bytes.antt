@@ -5,7 +5,7 @@ use Rattle.std.specs.List.{flat_map}
 use Rattle.bdb_base.specs.declared.kinds.Value.{Value}
 use Rattle.bdb_base.specs.declared.kinds.Value.TheVariants.{Int, Text}
 use Rattle.bdb_key.specs.declared.part.Part.{Part}
-use Rattle.bdb_key.specs.declared.part.Part.TheVariants.{Num, Val, Path}
+use Rattle.bdb_key.specs.declared.part.Part.TheVariants.{Num, Val, Vals, Path}
 
 -- a number: four bytes, the highest first
 abbrev pub num_bytes : ℕ → List ℕ
@@ -33,6 +33,10 @@ value_bytes (Text text) = text_bytes text
 abbrev pub values_bytes : List Value → List ℕ
 values_bytes values = flat_map value_bytes values
 
+-- a list of values: how many they are, then each value
+abbrev pub vals_bytes : List Value → List ℕ
+vals_bytes values = num_bytes (length values) ++ values_bytes values
+
 -- a path: how many users it has, then each user's number
 abbrev pub path_bytes : List ℕ → List ℕ
 path_bytes path = num_bytes (length path) ++ flat_map num_bytes path
@@ -41,6 +45,7 @@ path_bytes path = num_bytes (length path) ++ flat_map num_bytes path
 abbrev pub part_bytes : Part → List ℕ
 part_bytes (Num n) = num_bytes n
 part_bytes (Val value) = value_bytes value
+part_bytes (Vals values) = vals_bytes values
 part_bytes (Path path) = path_bytes path
 
 -- a key: its parts, one after the other

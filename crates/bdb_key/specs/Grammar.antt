@@ -38,6 +38,11 @@ IsPlainValue (Text text) = IsPlain text
 abbrev pub ArePlain : List Value → Type 0
 ArePlain values = AllByRecursion IsPlainValue values
 
+-- a list of plain values, its length a number of four bytes
+pub record AreKeyVals (values : List Value) : Type 0 where
+  pub short : IsNum (length values)
+  pub plain : ArePlain values
+
 -- a path without equal neighbours, its length and its users numbers of four bytes
 pub record IsKeyPath (path : List ℕ) : Type 0 where
   pub apart : alternates path ≡ true
@@ -48,6 +53,7 @@ pub record IsKeyPath (path : List ℕ) : Type 0 where
 abbrev pub FitsSlot : Slot → Part → Type 0
 FitsSlot slots.Num (parts.Num n) = IsNum n
 FitsSlot slots.Val (parts.Val value) = IsPlainValue value
+FitsSlot slots.Vals (parts.Vals values) = AreKeyVals values
 FitsSlot slots.Path (parts.Path path) = IsKeyPath path
 FitsSlot slots.Rest (parts.Val value) = IsPlainValue value
 FitsSlot slot part = ⊥
@@ -65,14 +71,16 @@ IsKey (slots.Rest ∷ shape) key = AllByRecursion (FitsSlot slots.Rest) key
 IsKey (slot ∷ shape) [] = ⊥
 IsKey (slot ∷ shape) (part ∷ key) = FitsSlot slot part × IsKey shape key
 
--- a part whose path, if it is one, has a length of four bytes
+-- a part whose values or path, if it is a list of values or a path, have a length of four bytes
 abbrev pub IsShortPart : Part → Type 0
 IsShortPart (parts.Num n) = Unit {0}
 IsShortPart (parts.Val value) = Unit {0}
+IsShortPart (parts.Vals values) = IsNum (length values)
 IsShortPart (parts.Path path) = IsNum (length path)
 
--- a part whose numbers are of four bytes, and whose integer is one of eight
+-- a part whose numbers are of four bytes, and whose integers are of eight
 abbrev pub IsWholePart : Part → Type 0
 IsWholePart (parts.Num n) = IsNum n
 IsWholePart (parts.Val value) = IsWhole value
+IsWholePart (parts.Vals values) = AllByRecursion IsWhole values
 IsWholePart (parts.Path path) = AllByRecursion IsNum path

@@ -2,7 +2,6 @@
 use Rattle.std.specs.Prelude.{◌≡◌, ℕ, true, not, nat_eq, List, ◌∷◌, ◌++◌, length}
 use Rattle.std.specs.List.{list_all, flat_map, AllByRecursion}
 use Rattle.bdb_key.specs.Bytes.{num_bytes}
-use Rattle.bdb_key.specs.Grammar.{IsNum}
 
 module _ {A : Type 0} where
   -- the bytes begin with this thing's spelling, and these bytes follow
@@ -23,6 +22,11 @@ module _ {A : Type 0} where
   abbrev pub NoneReads : (A → Type 0) → (A → List ℕ) → List ℕ → Type 0
   NoneReads Fits spelling bytes = (x : A) → Reads Fits spelling bytes x → ⊥
 
+  -- as many things
+  pub record AreMany (Fits : A → Type 0) (count : ℕ) (things : List A) : Type 0 where
+    pub many : length things ≡ count
+    pub each : AllByRecursion Fits things
+
 -- no byte is 0
 abbrev pub HasNoEnd : List ℕ → Type 0
 HasNoEnd bytes = list_all (λ b. not (nat_eq b 0)) bytes ≡ true
@@ -31,11 +35,6 @@ HasNoEnd bytes = list_all (λ b. not (nat_eq b 0)) bytes ≡ true
 pub record EndsAt (bytes front rest : List ℕ) : Type 0 where
   pub none : HasNoEnd front
   pub split : bytes ≡ front ++ 0 ∷ rest
-
--- as many numbers of four bytes
-pub record AreNums (count : ℕ) (nums : List ℕ) : Type 0 where
-  pub many : length nums ≡ count
-  pub each : AllByRecursion IsNum nums
 
 -- numbers, one after the other
 abbrev pub nums_bytes : List ℕ → List ℕ

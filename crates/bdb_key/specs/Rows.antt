@@ -1,5 +1,5 @@
 -- How rows are spelled, and which rows are in the grammar of a table.
-use Rattle.std.specs.Prelude.{◌≡◌, ℕ, pos, ◌<◌, nat_eq, ◌||◌, Bool, true, false, List, [], ◌++◌, length}
+use Rattle.std.specs.Prelude.{◌≡◌, ℕ, pos, ◌<◌, ◌≤◌, nat_eq, ◌||◌, Bool, true, false, List, [], ◌++◌, length}
 use Rattle.std.specs.List.{flat_map, AllByRecursion}
 use Rattle.bdb_base.specs.declared.tuple.Tuple.{Tuple}
 use Rattle.bdb_base.specs.declared.kinds.Kind.{Kind}
@@ -30,9 +30,13 @@ col_bytes col = text_bytes col.name ++ kind_bytes col.kind
 abbrev pub cols_bytes : List ColDef → List ℕ
 cols_bytes cols = flat_map col_bytes cols
 
--- a relation: its name, then its columns
+-- the length of a key, as an integer
+abbrev pub length_bytes : ℕ → List ℕ
+length_bytes n = int_bytes (pos n)
+
+-- a relation: its name, then the length of its key, then its columns
 abbrev pub rel_bytes : RelDef → List ℕ
-rel_bytes def = text_bytes def.name ++ cols_bytes def.cols
+rel_bytes def = text_bytes def.name ++ length_bytes def.key ++ cols_bytes def.cols
 
 -- a tuple: its relation, then its values
 abbrev pub tuple_bytes : Tuple → List ℕ
@@ -83,10 +87,12 @@ row_bytes (rows.Plain sign) = sign_bytes sign
 abbrev pub IsCol : ColDef → Type 0
 IsCol col = IsPlain col.name
 
--- a relation whose names are plain, with a column
+-- a relation whose names are plain, with a column, and whose key is of some of its columns
 pub record IsRelRow (def : RelDef) : Type 0 where
   pub name : IsPlain def.name
   pub some : 0 < length def.cols
+  pub key : (1 ≤ def.key) × (def.key ≤ length def.cols)
+  pub short : IsNum def.key
   pub names : AllByRecursion IsCol def.cols
 
 -- a tuple of plain values, with a value

@@ -2,7 +2,7 @@
 ghost use Rattle.std.specs.Prelude.{◌≡◌, IfOk};
 ghost use Rattle.bdb_key.specs.declared.part.KeyError.TheVariants.{Memory};
 
-use bdb_base::{Exact, Path, Value};
+use bdb_base::{Exact, List, Path, Value};
 use std::alloc::{AllocError, AllocFailed, Global};
 use thiserror::Error;
 
@@ -13,6 +13,8 @@ pub enum Part {
     Num(u32),
     /// A value of a tuple.
     Val(Value),
+    /// A list of values, as the first values of a tuple. A list with fewer values comes first.
+    Vals(List<Value>),
     /// A belief path.
     Path(Path),
 }
@@ -22,6 +24,7 @@ pub enum Part {
 pub enum Slot {
     Num,
     Val,
+    Vals,
     Path,
     /// Values up to the end.
     Rest,
@@ -54,6 +57,7 @@ impl Exact for Part {
         match self {
             Part::Num(n) => Ok(Part::Num(*n)),
             Part::Val(value) => Ok(Part::Val(value.try_clone(alloc)?)),
+            Part::Vals(values) => Ok(Part::Vals(values.try_clone(alloc)?)),
             Part::Path(path) => Ok(Part::Path(path.try_clone(alloc)?)),
         }
     }

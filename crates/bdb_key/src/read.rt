@@ -5,9 +5,9 @@ ghost use Rattle.std.specs.Int.{w64, to_be_bytes};
 ghost use Rattle.std.specs.List.{list_all};
 ghost use Rattle.std.specs.Str.{is_utf8};
 ghost use Rattle.bdb_base.specs.Bases.{is_plain};
-ghost use Rattle.bdb_key.specs.Bytes.{num_bytes, int_bytes, text_bytes, value_bytes, values_bytes, path_bytes};
-ghost use Rattle.bdb_key.specs.Grammar.{IsNum, IsPlain, IsPlainValue, ArePlain, IsKeyPath};
-ghost use Rattle.bdb_key.specs.Reading.{Leads, NoneLeads, Reads, NoneReads, AreNums, nums_bytes, HasNoEnd, EndsAt};
+ghost use Rattle.bdb_key.specs.Bytes.{num_bytes, int_bytes, text_bytes, value_bytes, values_bytes, vals_bytes, path_bytes};
+ghost use Rattle.bdb_key.specs.Grammar.{IsNum, IsPlain, IsPlainValue, ArePlain, AreKeyVals, IsKeyPath};
+ghost use Rattle.bdb_key.specs.Reading.{Leads, NoneLeads, Reads, NoneReads, AreMany, nums_bytes, HasNoEnd, EndsAt};
 
 use crate::part::KeyError;
 use bdb_base::limits::LONGEST_TEXT;
@@ -80,6 +80,38 @@ pub fn values_of(alloc: Global, bytes: &[u8]) -> Result<List<Value>, KeyError>
     Ok(List::from_vec(values))
 }
 
+/// The list of values at the front of these bytes, and the bytes after it. `NotAKey` comes exactly where no such list is
+/// there.
+pub fn vals_of(alloc: Global, bytes: &[u8]) -> Result<(List<Value>, &[u8]), KeyError>
+    ensures ok { IfOk result (λ x. Leads AreKeyVals vals_bytes bytes.now x.0 x.1.now) }
+    ensures none { IsErrOf result KeyError.NotAKey → NoneLeads AreKeyVals vals_bytes bytes.now }
+{
+    let Some((len, rest)) = num_of(bytes) else {
+        return Err(KeyError::NotAKey);
+    };
+    let (values, rest) = counted_values_of(alloc, len, rest)?;
+    Ok((List::from_vec(values), rest))
+}
+
+// As many values as the count says, and the bytes after them.
+fn counted_values_of(
+    alloc: Global,
+    count: u32,
+    bytes: &[u8],
+) -> Result<(Vec<Value>, &[u8]), KeyError>
+    ensures ok { IfOk result (λ x. Leads (AreMany IsPlainValue count) values_bytes bytes.now x.0.items x.1.now) }
+    ensures none { IsErrOf result KeyError.NotAKey → NoneLeads (AreMany IsPlainValue count) values_bytes bytes.now }
+{
+    let mut values = Vec::new(alloc);
+    let mut rest = bytes;
+    for _ in 0..count {
+        let (value, more) = value_of(alloc, rest)?;
+        values.push(value)?;
+        rest = more;
+    }
+    Ok((values, rest))
+}
+
 /// The path at the front of these bytes, and the bytes after it. `NotAKey` comes exactly where no path is there.
 pub fn path_of(alloc: Global, bytes: &[u8]) -> Result<(Path, &[u8]), KeyError>
     ensures ok { IfOk result (λ x. Leads IsKeyPath path_bytes bytes.now x.0 x.1.now) }
@@ -98,8 +130,8 @@ pub fn path_of(alloc: Global, bytes: &[u8]) -> Result<(Path, &[u8]), KeyError>
 
 // As many numbers as the count says, and the bytes after them.
 fn users_of(alloc: Global, count: u32, bytes: &[u8]) -> Result<(Vec<u32>, &[u8]), KeyError>
-    ensures ok { IfOk result (λ x. Leads (AreNums count) nums_bytes bytes.now x.0.items x.1.now) }
-    ensures none { IsErrOf result KeyError.NotAKey → NoneLeads (AreNums count) nums_bytes bytes.now }
+    ensures ok { IfOk result (λ x. Leads (AreMany IsNum count) nums_bytes bytes.now x.0.items x.1.now) }
+    ensures none { IsErrOf result KeyError.NotAKey → NoneLeads (AreMany IsNum count) nums_bytes bytes.now }
 {
     let mut users = Vec::new(alloc);
     let mut rest = bytes;

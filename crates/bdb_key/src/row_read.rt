@@ -1,11 +1,12 @@
 // Bytes back into rows.
-ghost use Rattle.std.specs.Prelude.{◌≡◌, IfOk, MatchOption};
+ghost use Rattle.std.specs.Prelude.{◌≡◌, ◌≤◌, length, IfOk, MatchOption};
+ghost use Rattle.std.specs.Bool.{MatchBool};
 ghost use Rattle.std.specs.Result.{IsErrOf};
 ghost use Rattle.std.specs.List.{AllByRecursion};
-ghost use Rattle.bdb_key.specs.Grammar.{IsPlain};
+ghost use Rattle.bdb_key.specs.Grammar.{IsNum, IsPlain};
 ghost use Rattle.bdb_key.specs.Bytes.{text_bytes};
 ghost use Rattle.bdb_key.specs.Reading.{Leads, NoneLeads, Reads, NoneReads};
-ghost use Rattle.bdb_key.specs.Rows.{IsAnyKind, kind_bytes, IsCol, col_bytes, cols_bytes, IsRelRow, rel_bytes, IsTupleRow, tuple_bytes, IsAnySign, sign_bytes, IsAnyMark, mark_bytes};
+ghost use Rattle.bdb_key.specs.Rows.{IsAnyKind, kind_bytes, IsCol, col_bytes, cols_bytes, IsRelRow, length_bytes, rel_bytes, IsTupleRow, tuple_bytes, IsAnySign, sign_bytes, IsAnyMark, mark_bytes};
 
 use crate::part::KeyError;
 use crate::read::{int_of, num_of, only_num, text_of, values_of};
@@ -18,11 +19,34 @@ pub fn rel_of(alloc: Global, bytes: &[u8]) -> Result<RelDef, KeyError>
     ensures none { IsErrOf result KeyError.NotAKey → NoneReads IsRelRow rel_bytes bytes.now }
 {
     let (name, rest) = text_of(alloc, bytes)?;
+    let Some((key, rest)) = length_of(rest) else {
+        return Err(KeyError::NotAKey);
+    };
     let cols = cols_of(alloc, rest)?;
-    if cols.is_empty() {
+    if !is_key(key, cols.as_slice()) {
         return Err(KeyError::NotAKey);
     }
-    Ok(RelDef { name, cols })
+    Ok(RelDef { name, cols, key })
+}
+
+// The length of a key at the front of these bytes, and the bytes after it.
+fn length_of(bytes: &[u8]) -> Option<(u32, &[u8])>
+    ensures { MatchOption result (NoneLeads IsNum length_bytes bytes.now) (λ x. Leads IsNum length_bytes bytes.now x.0 x.1.now) }
+{
+    match int_of(bytes) {
+        Some((key, rest)) => match u32::try_from(key) {
+            Ok(key) => Some((key, rest)),
+            Err(_) => None,
+        },
+        None => None,
+    }
+}
+
+// Whether a key may be of so many of these columns.
+fn is_key(key: u32, cols: &[ColDef]) -> bool
+    ensures { MatchBool result ((1 ≤ key) × (key ≤ length cols.now)) ((1 ≤ key) × (key ≤ length cols.now) → ⊥) }
+{
+    1 <= key && key as usize <= cols.len()
 }
 
 /// The tuple that these bytes are. `NotAKey` comes exactly where they are no tuple.

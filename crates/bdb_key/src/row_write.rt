@@ -91,6 +91,7 @@ fn push_rel(out: &mut Vec<u8>, def: &RelDef) -> Result<(), AllocError>
     ensures err { OnErr result (Grows out.old.items out.new.items) }
 {
     put_text(out, &def.name)?;
+    put_value(out, &Value::Int(i64::from(def.key)))?;
     push_cols(out, def.cols.as_slice())
 }
 

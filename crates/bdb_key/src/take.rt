@@ -8,7 +8,7 @@ ghost use Rattle.bdb_key.specs.Grammar.{FitsSlot, IsOne, IsKey};
 ghost use Rattle.bdb_key.specs.Reading.{Leads, NoneLeads, Reads, NoneReads};
 
 use crate::part::{KeyError, Part, Slot};
-use crate::read::{num_of, path_of, value_of};
+use crate::read::{num_of, path_of, vals_of, value_of};
 use bdb_base::List;
 use std::alloc::Global;
 
@@ -60,6 +60,7 @@ fn takes_one(slot: Slot) -> bool
         Slot::Rest => false,
         Slot::Num => true,
         Slot::Val => true,
+        Slot::Vals => true,
         Slot::Path => true,
     }
 }
@@ -103,6 +104,10 @@ fn part_of(alloc: Global, slot: Slot, bytes: &[u8]) -> Result<(Part, &[u8]), Key
         Slot::Val | Slot::Rest => {
             let (value, rest) = value_of(alloc, bytes)?;
             Ok((Part::Val(value), rest))
+        }
+        Slot::Vals => {
+            let (values, rest) = vals_of(alloc, bytes)?;
+            Ok((Part::Vals(values), rest))
         }
         Slot::Path => {
             let (path, rest) = path_of(alloc, bytes)?;

@@ -1,10 +1,13 @@
 // Worked keys and rows, both ways.
+ghost use Rattle.std.specs.Prelude.{length, IfOk};
+ghost use Rattle.bdb_key.specs.Grammar.{IsNum};
+
 use crate::{KeyError, Part, RowError, Slot, TabRow, put_key, put_row, take_key, take_row};
-use bdb_base::{Exact, Kind, Path, RelDef, Sign, Tuple, Txt, Value};
+use bdb_base::{Exact, Kind, List, Path, RelDef, Sign, Tuple, Txt, Value};
 use std::alloc::{AllocError, Global};
 use std::test::Fail;
 
-/// The parts of a key in one line: numbers, integers, texts and paths with a letter before them.
+/// The parts of a key in one line: numbers, integers, texts, lists of values and paths with a letter before them.
 fn shown(alloc: Global, bytes: &[u8], shape: &[Slot]) -> Result<String, AllocError> {
     let mut line = String::new(alloc);
     match take_key(alloc, bytes, shape) {
@@ -23,6 +26,7 @@ fn push_part(alloc: Global, line: &mut String, part: &Part) -> Result<(), AllocE
     let text = match part {
         Part::Num(n) => format!(in alloc; "n:{n} ")?,
         Part::Val(value) => value_words(alloc, value)?,
+        Part::Vals(values) => list_words(alloc, values.as_slice())?,
         Part::Path(path) => {
             let len = path.len();
             format!(in alloc; "p:{len} ")?
@@ -41,10 +45,20 @@ fn value_words(alloc: Global, value: &Value) -> Result<String, AllocError> {
     }
 }
 
+fn list_words(alloc: Global, values: &[Value]) -> Result<String, AllocError> {
+    let len = values.len();
+    let mut line = format!(in alloc; "v:{len} ")?;
+    for value in values {
+        let words = value_words(alloc, value)?;
+        line.push_str(words.as_str())?;
+    }
+    Ok(line)
+}
+
 #[test]
 fn reads_worked_keys(rt: HostRuntime) -> Result<(), Fail> {
     let vals: [Slot; 4] = [Slot::Num, Slot::Num, Slot::Val, Slot::Num];
-    let cases: [(&[u8], &[Slot], &str); 12] = [
+    let cases: [(&[u8], &[Slot], &str); 17] = [
         (b"\x01\x80\0\0\0\0\0\0\x01", &[Slot::Val], "i:1 "),
         (
             b"\x01\x7f\xff\xff\xff\xff\xff\xff\xff",
@@ -57,6 +71,15 @@ fn reads_worked_keys(rt: HostRuntime) -> Result<(), Fail> {
             &vals,
             "n:0 n:0 t:s1 n:0 ",
         ),
+        (b"\0\0\0\x01\x02s1\0", &[Slot::Vals], "v:1 t:s1 "),
+        (b"\0\0\0\0", &[Slot::Vals], "v:0 "),
+        (
+            b"\0\0\0\x02\x02a\0\x02b\0\0\0\0\x07",
+            &[Slot::Vals, Slot::Num],
+            "v:2 t:a t:b n:7 ",
+        ),
+        (b"\0\0\0\x02\x02a\0", &[Slot::Vals], "none"),
+        (b"\0\0\0\0\x02a\0", &[Slot::Vals], "none"),
         (b"\x02a\0\x02b\0", &[Slot::Rest], "t:a t:b "),
         (b"", &[Slot::Rest], ""),
         (b"\0\0\0\x02\0\0\0\x03\0\0\0\x01", &[Slot::Path], "p:2 "),
@@ -99,6 +122,28 @@ fn writes_worked_keys(rt: HostRuntime) -> Result<(), Fail> {
     Ok(())
 }
 
+/// A list of the values 's1' and 1.
+fn text_and_number(alloc: Global) -> Result<List<Value>, AllocError>
+    ensures { IfOk result (λ values. IsNum (length values)) }
+{
+    let mut values = List::new(alloc);
+    values.push(Value::Text(Txt::try_new(alloc, "s1")?))?;
+    values.push(Value::Int(1))?;
+    Ok(values)
+}
+
+#[test]
+fn writes_and_copies_lists_of_values(rt: HostRuntime) -> Result<(), Fail> {
+    let alloc = rt.alloc();
+    let mut out = Vec::new(alloc);
+    let none = Part::Vals(List::new(alloc));
+    let two = Part::Vals(text_and_number(alloc)?).try_clone(alloc)?;
+    put_key(&mut out, &[none, two, Part::Num(7)])?;
+    let want: &[u8] = b"\0\0\0\0\0\0\0\x02\x02s1\0\x01\x80\0\0\0\0\0\0\x01\0\0\0\x07";
+    assert_eq!(rt; out.as_slice(), want);
+    Ok(())
+}
+
 /// A table's row in one line.
 fn row_line(alloc: Global, row: &TabRow) -> Result<String, AllocError> {
     match row {
@@ -136,6 +181,8 @@ fn rel_line(alloc: Global, def: &RelDef) -> Result<String, AllocError> {
     let mut line = String::new(alloc);
     line.push_str("rel ")?;
     line.push_str(def.name.as_str())?;
+    let key = def.key;
+    line.push_str(format!(in alloc; " key {key}")?.as_str())?;
     for col in def.cols.as_slice() {
         let kind = match col.kind {
             Kind::Int => " int ",
@@ -180,13 +227,18 @@ fn read_and_written(
 #[test]
 fn reads_and_writes_worked_rows(rt: HostRuntime) -> Result<(), Fail> {
     let alloc = rt.alloc();
-    let cases: [(u8, &[u8], &str); 16] = [
-        (1, b"\0\0\0\x02", "meta 2"),
+    let cases: [(u8, &[u8], &str); 17] = [
+        (1, b"\0\0\0\x03", "meta 3"),
         (2, b"\x02s1\0", "user s1"),
         (
             3,
-            b"\x02s1\0\x02a\0\x01\x80\0\0\0\0\0\0\x01\x02b\0\x01\x80\0\0\0\0\0\0\0",
-            "rel s1 text a int b",
+            b"\x02s1\0\x01\x80\0\0\0\0\0\0\x01\x02a\0\x01\x80\0\0\0\0\0\0\x01\x02b\0\x01\x80\0\0\0\0\0\0\0",
+            "rel s1 key 1 text a int b",
+        ),
+        (
+            3,
+            b"\x02s1\0\x01\x80\0\0\0\0\0\0\x02\x02a\0\x01\x80\0\0\0\0\0\0\x01\x02b\0\x01\x80\0\0\0\0\0\0\0",
+            "rel s1 key 2 text a int b",
         ),
         (
             4,
@@ -218,16 +270,37 @@ fn reads_and_writes_worked_rows(rt: HostRuntime) -> Result<(), Fail> {
 #[test]
 fn refuses_what_is_no_row(rt: HostRuntime) -> Result<(), Fail> {
     let alloc = rt.alloc();
-    let cases: [(u8, &[u8]); 14] = [
+    let cases: [(u8, &[u8]); 19] = [
         (1, b"\0\0\0"),
         (1, b"\0\0\0\x01\0"),
         // a name that is an integer
         (2, b"\x01\x80\0\0\0\0\0\0\x01"),
-        (3, b"\x01\x80\0\0\0\0\0\0\x01\x02a\0\x01\x80\0\0\0\0\0\0\0"),
-        // no column, no kind, a kind that is none
+        (
+            3,
+            b"\x01\x80\0\0\0\0\0\0\x01\x01\x80\0\0\0\0\0\0\x01\x02a\0\x01\x80\0\0\0\0\0\0\0",
+        ),
+        // no length of the key, no column, no kind, a kind that is none
         (3, b"\x02s1\0"),
-        (3, b"\x02s1\0\x02a\0"),
-        (3, b"\x02s1\0\x02a\0\x01\x80\0\0\0\0\0\0\x02"),
+        (3, b"\x02s1\0\x02a\0\x01\x80\0\0\0\0\0\0\x01"),
+        (3, b"\x02s1\0\x01\x80\0\0\0\0\0\0\x01"),
+        (3, b"\x02s1\0\x01\x80\0\0\0\0\0\0\x01\x02a\0"),
+        (
+            3,
+            b"\x02s1\0\x01\x80\0\0\0\0\0\0\x01\x02a\0\x01\x80\0\0\0\0\0\0\x02",
+        ),
+        // keys of none of one column, of two, and of less than none
+        (
+            3,
+            b"\x02s1\0\x01\x80\0\0\0\0\0\0\0\x02a\0\x01\x80\0\0\0\0\0\0\x01",
+        ),
+        (
+            3,
+            b"\x02s1\0\x01\x80\0\0\0\0\0\0\x02\x02a\0\x01\x80\0\0\0\0\0\0\x01",
+        ),
+        (
+            3,
+            b"\x02s1\0\x01\x7f\xff\xff\xff\xff\xff\xff\xff\x02a\0\x01\x80\0\0\0\0\0\0\x01",
+        ),
         // no value
         (4, b"\0\0\0\x07"),
         (5, b"\0\0\x01"),

@@ -1,7 +1,7 @@
 // Keys into bytes.
 ghost use Rattle.std.specs.Prelude.{◌≡◌, ◌++◌, length, OnOk, OnErr};
 ghost use Rattle.std.specs.List.{AllByRecursion};
-ghost use Rattle.bdb_key.specs.Bytes.{num_bytes, int_bytes, text_bytes, value_bytes, values_bytes, path_bytes, part_bytes, key_bytes, Grows};
+ghost use Rattle.bdb_key.specs.Bytes.{num_bytes, int_bytes, text_bytes, value_bytes, values_bytes, vals_bytes, path_bytes, part_bytes, key_bytes, Grows};
 ghost use Rattle.bdb_key.specs.Grammar.{IsNum, IsWhole, IsShortPart, IsWholePart};
 
 use crate::part::Part;
@@ -51,6 +51,24 @@ pub fn put_values(out: &mut Vec<u8>, values: &[Value]) -> Result<(), AllocError>
 {
     let before = out.len();
     match push_values(out, values) {
+        Ok(()) => Ok(()),
+        Err(error) => {
+            out.truncate(before);
+            Err(error)
+        }
+    }
+}
+
+/// Appends a list of values: how many they are, then each of them. Other parts of a key may follow. After a refusal the
+/// bytes are unchanged.
+pub fn put_vals(out: &mut Vec<u8>, values: &[Value]) -> Result<(), AllocError>
+    requires { IsNum (length values.now) }
+    ensures ok { OnOk result (out.new.items ≡ out.old.items ++ vals_bytes values.now) }
+    ensures whole { OnOk result (AllByRecursion IsWhole values.now) }
+    ensures err { OnErr result (out.new.items ≡ out.old.items) }
+{
+    let before = out.len();
+    match push_vals(out, values) {
         Ok(()) => Ok(()),
         Err(error) => {
             out.truncate(before);
@@ -126,6 +144,18 @@ fn push_values(out: &mut Vec<u8>, values: &[Value]) -> Result<(), AllocError>
     Ok(())
 }
 
+// As `put_vals`, but a refusal may leave a part behind.
+fn push_vals(out: &mut Vec<u8>, values: &[Value]) -> Result<(), AllocError>
+    requires { IsNum (length values.now) }
+    ensures ok { OnOk result (out.new.items ≡ out.old.items ++ vals_bytes values.now) }
+    ensures whole { OnOk result (AllByRecursion IsWhole values.now) }
+    ensures err { OnErr result (Grows out.old.items out.new.items) }
+{
+    put_num(out, values.len() as u32)?;
+    put_values(out, values)?;
+    Ok(())
+}
+
 // As `put_path`, but a refusal may leave a part behind.
 fn push_path(out: &mut Vec<u8>, path: &Path) -> Result<(), AllocError>
     requires { IsNum (length path.now) }
@@ -163,6 +193,7 @@ fn put_part(out: &mut Vec<u8>, part: &Part) -> Result<(), AllocError>
     match part {
         Part::Num(n) => put_num(out, *n),
         Part::Val(value) => put_value(out, value),
+        Part::Vals(values) => put_vals(out, values.as_slice()),
         Part::Path(path) => put_path(out, path),
     }
 }

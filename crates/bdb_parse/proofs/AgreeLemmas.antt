@@ -2,7 +2,6 @@
 use Rattle.std.proofs.Common.{◌≡◌, ℕ, ℤ, pos, Bool, true, false, cond, List, [], ◌∷◌, Option, Some, None, refl}
 use Rattle.std.specs.Prelude.{codes}
 use Rattle.std.specs.List.{list_all}
-use Rattle.std.specs.Option.{option_map}
 use Rattle.std.specs.Str.Parse.{signed_digits_value}
 use Rattle.bdb_base.specs.declared.kinds.Value.{Value}
 use Rattle.bdb_base.specs.declared.kinds.Value.TheVariants as values
@@ -25,23 +24,35 @@ use Rattle.bdb_parse.specs.declared.stop.Stop.TheVariants as stops
 use Rattle.bdb_parse.specs.declared.wide.Wide.TheVariants.{Refused, Zero}
 use Rattle.bdb_parse.specs.Numbers.{number_of, is_number, is_i64}
 use Rattle.bdb_parse.specs.Gives.{number_in, narrow}
-use Rattle.bdb_parse.specs.Fits.{value_fits, side_fits, cond_fits, set_fits, query_fits, fits}
+use Rattle.bdb_parse.specs.Fits.{value_fits, side_fits, cond_fits, set_fits, query_fits, key_fits, fits}
 use Rattle.bdb_parse.specs.Stops.{cut, parts}
-use Rattle.bdb_parse.specs.Reading.{◌>>=◌, end_at, word_at, text_at, equals_at, cmp_at, keyword_at, name_at, literal_of, set_of, bare, bare_of, col_at, col_of, begins_with_word, side_of, test_of, cond_of, all_of, list_of, conds_of, inside_of, target_at, column_of, item_of, create_user_of, create_relation_of, create_of, signed_of, insert_of, delete_of, update_of, query_of, explain_of, show_world_of, show_of, why_of, command_after, command_by, command_of, beliefs_at}
+use Rattle.bdb_parse.specs.Reading.{◌>>=◌, end_at, word_at, text_at, equals_at, cmp_at, keyword_at, name_at, literal_of, set_of, bare, bare_of, col_at, col_of, begins_with_word, side_of, test_of, cond_of, all_of, list_of, conds_of, inside_at, inside_of, num_of, key_of, target_at, column_of, item_of, create_user_of, create_relation_of, create_of, signed_of, insert_of, delete_of, update_of, query_of, explain_of, show_world_of, show_of, why_of, command_after, command_by, command_of, beliefs_at}
 use Rattle.bdb_parse.proofs.Agree.{Agrees, neither, fitting, wide, agrees_made, agrees_behind, agrees_cond, agrees_map, agrees_last, agrees_two}
 
-narrow_agrees : (n : ℤ) (b : Bool) → is_i64 n ≡ b → Agrees value_fits (option_map values.Int (cond b (Some n) None)) (option_map values.Int (cond b (Some n) (Some (pos 0)))) (Some (values.Int n))
-narrow_agrees n true e = fitting (values.Int n) (values.Int n) e
-narrow_agrees n false e = wide (values.Int n) (values.Int (pos 0)) e
+narrow_agrees : (n : ℤ) (b : Bool) → is_i64 n ≡ b → Agrees is_i64 (cond b (Some n) None) (cond b (Some n) (Some (pos 0))) (Some n)
+narrow_agrees n true e = fitting n n e
+narrow_agrees n false e = wide n (pos 0) e
 
-number_agrees : (b : Bool) (n : ℤ) → Agrees value_fits (option_map values.Int (cond b (Some n) None >>= narrow Refused)) (option_map values.Int (cond b (Some n) None >>= narrow Zero)) (option_map values.Int (cond b (Some n) None))
+number_agrees : (b : Bool) (n : ℤ) → Agrees is_i64 (cond b (Some n) None >>= narrow Refused) (cond b (Some n) None >>= narrow Zero) (cond b (Some n) None)
 number_agrees true n = narrow_agrees n (is_i64 n) refl
 number_agrees false n = neither
 
 pub literal_agrees : (ts : List Token) → Agrees value_fits (literal_of (number_in Refused) ts) (literal_of (number_in Zero) ts) (literal_of number_of ts)
 literal_agrees (Text t ∷ []) = fitting (values.Text t) (values.Text t) refl
-literal_agrees (Num s ∷ []) = number_agrees (is_number s) (signed_digits_value 10 s)
+literal_agrees (Num s ∷ []) = agrees_map is_i64 value_fits values.Int (λ n. refl) (number_agrees (is_number s) (signed_digits_value 10 s))
 literal_agrees _ = neither
+
+num_agrees : (ts : List Token) → Agrees is_i64 (num_of (number_in Refused) ts) (num_of (number_in Zero) ts) (num_of number_of ts)
+num_agrees (Num s ∷ []) = number_agrees (is_number s) (signed_digits_value 10 s)
+num_agrees _ = neither
+
+key_agrees : (ts : List Token) → Agrees key_fits (key_of (number_in Refused) ts) (key_of (number_in Zero) ts) (key_of number_of ts)
+unfolding key_of
+key_agrees [] = fitting None None refl
+key_agrees (t ∷ ts) =
+    agrees_behind key_fits (keyword_at (codes "key") (t ∷ ts)) (λ (rest : List Token).
+    let made : ℤ → Option ℤ = λ n. Some n in
+    agrees_map is_i64 key_fits made (λ n. refl) (num_agrees rest))
 
 pub set_agrees : (ts : List Token) → Agrees set_fits (set_of (number_in Refused) ts) (set_of (number_in Zero) ts) (set_of number_of ts)
 unfolding set_of
@@ -93,14 +104,15 @@ create_user_agrees ts =
     agrees_behind fits (text_at ts) (λ (name : List ℕ × List Token).
     agrees_behind fits (end_at name.1) (λ (rest : List Token). fitting (CreateUser name.0) (CreateUser name.0) refl))
 
-create_relation_agrees : (ts : List Token) → Agrees fits (create_relation_of ts) (create_relation_of ts) (create_relation_of ts)
+create_relation_agrees : (ts : List Token) → Agrees fits (create_relation_of (number_in Refused) ts) (create_relation_of (number_in Zero) ts) (create_relation_of number_of ts)
 unfolding create_relation_of
 create_relation_agrees ts =
     agrees_behind fits (name_at ts) (λ (name : List ℕ × List Token).
-    agrees_behind fits (inside_of name.1) (λ (inside : List Token).
-    agrees_behind fits (list_of column_of stops.Comma inside) (λ (cols : List ColDef). fitting (CreateRelation name.0 cols) (CreateRelation name.0 cols) refl)))
+    agrees_behind fits (inside_at name.1) (λ (inside : List Token × List Token).
+    agrees_behind fits (list_of column_of stops.Comma inside.0) (λ (cols : List ColDef).
+    agrees_last key_fits fits (λ key. CreateRelation name.0 cols key) (λ key. refl) (key_agrees inside.1))))
 
-create_agrees : (ts : List Token) → Agrees fits (create_of ts) (create_of ts) (create_of ts)
+create_agrees : (ts : List Token) → Agrees fits (create_of (number_in Refused) ts) (create_of (number_in Zero) ts) (create_of number_of ts)
 unfolding create_of
 create_agrees ts =
     agrees_behind fits (word_at ts) (λ (word : List ℕ × List Token).

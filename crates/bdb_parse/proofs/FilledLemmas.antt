@@ -13,7 +13,7 @@ use Rattle.bdb_parse.specs.declared.stop.Stop.{Stop}
 use Rattle.bdb_parse.specs.declared.stop.Stop.TheVariants as stops
 use Rattle.bdb_parse.specs.declared.target.Target.{Target}
 use Rattle.bdb_parse.specs.Stops.{cut}
-use Rattle.bdb_parse.specs.Reading.{◌>>=◌, end_at, word_at, text_at, keyword_at, name_at, literal_of, set_of, col_of, test_of, cond_of, all_of, list_of, conds_of, inside_of, target_at, column_of, item_of, create_user_of, create_relation_of, create_of, signed_of, insert_of, delete_of, update_of, query_of, explain_of, show_world_of, show_of, why_of, command_after, command_by, beliefs_at}
+use Rattle.bdb_parse.specs.Reading.{◌>>=◌, end_at, word_at, text_at, keyword_at, name_at, literal_of, set_of, col_of, test_of, cond_of, all_of, list_of, conds_of, inside_at, inside_of, key_of, target_at, column_of, item_of, create_user_of, create_relation_of, create_of, signed_of, insert_of, delete_of, update_of, query_of, explain_of, show_world_of, show_of, why_of, command_after, command_by, beliefs_at}
 use Rattle.bdb_parse.proofs.CutLemmas.{parts_after, parts_cut}
 
 -- what is read, if anything is, has P
@@ -52,16 +52,17 @@ list_each {X} read stop ts =
 pub list_filled : {X : Type 0} (read : List Token → Option X) (stop : Stop) (ts : List Token) (xs : List X) → list_of read stop ts ≡ Some xs → is_filled xs ≡ true
 list_filled read stop ts xs e = each_at HasItem _ xs (list_each read stop ts) e
 
-create_filled : (ts : List Token) → Each IsFilled (create_of ts)
+create_filled : (number : List ℕ → Option ℤ) (ts : List Token) → Each IsFilled (create_of number ts)
 unfolding create_of create_user_of create_relation_of
-create_filled ts =
+create_filled number ts =
     each_behind IsFilled (word_at ts) _ (λ word e.
     each_cond IsFilled (is_keyword (codes "user") word.0) _ _
     (each_behind IsFilled (text_at word.1) _ (λ name f. each_behind IsFilled (end_at name.1) _ (λ rest g. refl)))
     (each_cond IsFilled (is_keyword (codes "relation") word.0) _ _
     (each_behind IsFilled (name_at word.1) _ (λ name f.
-    each_behind IsFilled (inside_of name.1) _ (λ inside g.
-    each_behind IsFilled (list_of column_of stops.Comma inside) _ (λ cols h. list_filled column_of stops.Comma inside cols h))))
+    each_behind IsFilled (inside_at name.1) _ (λ inside g.
+    each_behind IsFilled (list_of column_of stops.Comma inside.0) _ (λ cols h.
+    each_behind IsFilled (key_of number inside.1) _ (λ key i. list_filled column_of stops.Comma inside.0 cols h)))))
     tt))
 
 -- a tuple has a value
@@ -135,7 +136,7 @@ show_filled ts =
 after_filled : (number : List ℕ → Option ℤ) (word : List ℕ) (ts : List Token) → Each IsFilled (command_after number word ts)
 unfolding command_after
 after_filled number word ts =
-    each_cond IsFilled (is_keyword (codes "create") word) _ _ (create_filled ts)
+    each_cond IsFilled (is_keyword (codes "create") word) _ _ (create_filled number ts)
     (each_cond IsFilled (is_keyword (codes "insert") word) _ _ (insert_filled number ts)
     (each_cond IsFilled (is_keyword (codes "delete") word) _ _ (delete_filled number ts)
     (each_cond IsFilled (is_keyword (codes "update") word) _ _ (update_filled number ts)

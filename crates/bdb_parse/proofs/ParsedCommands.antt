@@ -1,5 +1,5 @@
 -- Commands, parsed from the tokens of their printed form.
-use Rattle.std.proofs.Common.{◌≡◌, ℕ, true, List, [], ◌∷◌, ◌++◌, map, Option, Some, None, refl, sym, ap, ◌∙◌, append_assoc}
+use Rattle.std.proofs.Common.{◌≡◌, ℕ, ℤ, true, List, [], ◌∷◌, ◌++◌, map, Option, Some, None, refl, sym, ap, ◌∙◌, append_assoc}
 use Rattle.std.specs.Prelude.{codes}
 use Rattle.std.specs.List.{list_all, flat_map, AllByRecursion}
 use Rattle.std.specs.Option.{option_map}
@@ -8,6 +8,7 @@ use Rattle.std.proofs.lemmas.List.{append-nil}
 use Rattle.bdb_base.specs.declared.kinds.ColDef.{ColDef}
 use Rattle.bdb_base.specs.declared.kinds.Sign.{Sign}
 use Rattle.bdb_base.specs.declared.kinds.Value.{Value}
+use Rattle.bdb_base.specs.Texts.{int_text}
 use Rattle.bdb_lex.specs.declared.token.Token.{Token}
 use Rattle.bdb_lex.specs.declared.token.Token.TheVariants.{Word, Comma, ParenL, ParenR}
 use Rattle.bdb_syntax.specs.declared.command.Command.{Command}
@@ -22,14 +23,14 @@ use Rattle.bdb_syntax.specs.Filled.{is_filled}
 use Rattle.bdb_syntax.specs.Printable.{IsName, IsBareCol, IsFullCol, IsPrintableSide, IsPrintableCond, IsPrintableItem, IsPrintableSet, IsPrintableQuery, IsPrintable}
 use Rattle.bdb_parse.specs.declared.stop.Stop.TheVariants as stops
 use Rattle.bdb_parse.specs.Numbers.{number_of}
-use Rattle.bdb_parse.specs.Fits.{value_fits, cond_fits, set_fits, query_fits, fits}
+use Rattle.bdb_parse.specs.Fits.{value_fits, cond_fits, set_fits, query_fits, key_fits, fits}
 use Rattle.bdb_parse.specs.Stops.{cut}
-use Rattle.bdb_parse.specs.Reading.{name_at, keyword_at, list_of, inside_of, conds_of, beliefs_at, target_at, literal_of, col_of, test_of, cond_of, set_of, column_of, item_of, create_user_of, create_relation_of, create_of, signed_of, insert_of, delete_of, update_of, query_of, explain_of, show_world_of, show_of, why_of, command_after, command_by, command_of}
-use Rattle.bdb_parse.proofs.PrintedTokens.{parted, value_tokens, col_tokens, cond_tokens, where_tokens, set_tokens, column_tokens, belief_tokens, target_tokens, values_tokens, signed_tokens, item_tokens, query_tokens, printed_tokens}
+use Rattle.bdb_parse.specs.Reading.{name_at, keyword_at, list_of, inside_at, inside_of, key_of, conds_of, beliefs_at, target_at, literal_of, col_of, test_of, cond_of, set_of, column_of, item_of, create_user_of, create_relation_of, create_of, signed_of, insert_of, delete_of, update_of, query_of, explain_of, show_world_of, show_of, why_of, command_after, command_by, command_of}
+use Rattle.bdb_parse.proofs.PrintedTokens.{parted, value_tokens, col_tokens, cond_tokens, where_tokens, set_tokens, column_tokens, belief_tokens, target_tokens, values_tokens, signed_tokens, item_tokens, query_tokens, key_tokens, printed_tokens}
 use Rattle.bdb_parse.proofs.PrintedLexing.{both}
 use Rattle.bdb_parse.proofs.ParsedLists.{IsClear, is_clear, cut_clear, cut_stop, list_parses, parted_clear}
 use Rattle.bdb_parse.proofs.ParsedParts.{IsSideOf, name_takes, value_clear, full_clear, bare_clear, item_clear, cond_clear, set_clear, column_clear}
-use Rattle.bdb_parse.proofs.ParsedTokens.{value_parses, col_parses, cond_parses, test_parses, set_parses, column_parses, item_parses, begins_plain, beliefs_parse, target_parses}
+use Rattle.bdb_parse.proofs.ParsedTokens.{int_parses, value_parses, col_parses, cond_parses, test_parses, set_parses, column_parses, item_parses, begins_plain, beliefs_parse, target_parses}
 
 side_of_printable : (IsCol : RawCol → Type 0) (s : RawSide) → IsPrintableSide IsCol s → IsSideOf IsCol s
 side_of_printable IsCol (Col c) h = h
@@ -62,9 +63,13 @@ query_conds_parse : (cs : List RawCond) → AllByRecursion (IsPrintableCond IsFu
 query_conds_parse cs h f = conds_parse IsFullCol (cond_of number_of) full_clear (λ x p. cond_parses x p.0.0 (side_of_printable IsFullCol x.right p.0.1) p.1) cs h f
 
 -- the tokens in parentheses
+parens_parse : (body rest : List Token) → is_clear stops.Close body ≡ true → inside_at (ParenL ∷ body ++ ParenR ∷ rest) ≡ Some (body, rest)
+unfolding inside_at
+parens_parse body rest h = let e : cut stops.Close (body ++ ParenR ∷ rest) ≡ (body, Some rest) = cut_stop stops.Close body ParenR rest h refl in rw e refl
+
 inside_parses : (body : List Token) → is_clear stops.Close body ≡ true → inside_of (ParenL ∷ body ++ ParenR ∷ []) ≡ Some body
 unfolding inside_of
-inside_parses body h = let e : cut stops.Close (body ++ ParenR ∷ []) ≡ (body, Some []) = cut_stop stops.Close body ParenR [] h refl in rw e refl
+inside_parses body h = rw (parens_parse body [] h) refl
 
 query_parses : (q : RawQuery) → IsPrintableQuery q → is_filled q.take ≡ true → is_filled q.items ≡ true → query_fits q ≡ true
     → query_of number_of (parted Comma (map col_tokens q.take) ++ Word (codes "from") ∷ (parted Comma (map item_tokens q.items) ++ where_tokens q.conds)) ≡ Some q
@@ -103,16 +108,24 @@ where_plain : (cs : List RawCond) → begins_plain (where_tokens cs) ≡ true
 where_plain [] = refl
 where_plain (c ∷ cs) = refl
 
-create_relation_parses : (name : List ℕ) (cols : List ColDef) → IsName name → AllByRecursion (λ (c : ColDef). IsName c.name) cols → is_filled cols ≡ true
-    → create_relation_of (Word name ∷ ParenL ∷ (parted Comma (map column_tokens cols) ++ ParenR ∷ [])) ≡ Some (CreateRelation name cols)
+-- the length of a key, where it is said
+key_parses : (key : Option ℤ) → key_fits key ≡ true → key_of number_of (key_tokens key) ≡ Some key
+unfolding key_of keyword_at
+key_parses None f = refl
+key_parses (Some length) f = let e : number_of (int_text length) ≡ Some length = int_parses length f in rw e refl
+
+create_relation_parses : (name : List ℕ) (cols : List ColDef) (key : Option ℤ) → IsName name → AllByRecursion (λ (c : ColDef). IsName c.name) cols → is_filled cols ≡ true
+    → key_fits key ≡ true
+    → create_relation_of number_of (Word name ∷ ParenL ∷ (parted Comma (map column_tokens cols) ++ ParenR ∷ key_tokens key)) ≡ Some (CreateRelation name cols key)
 unfolding create_relation_of
-create_relation_parses name cols h k f =
+create_relation_parses name cols key h k f fit =
     let body = parted Comma (map column_tokens cols) in
-    let e1 : name_at (Word name ∷ ParenL ∷ (body ++ ParenR ∷ [])) ≡ Some (name, ParenL ∷ (body ++ ParenR ∷ [])) = name_takes name (ParenL ∷ (body ++ ParenR ∷ [])) h in
-    let e2 : inside_of (ParenL ∷ (body ++ ParenR ∷ [])) ≡ Some body =
-    inside_parses body (parted_clear stops.Close Comma refl column_tokens (λ (c : ColDef). IsName c.name) column_clear cols k) in
+    let rest = ParenL ∷ (body ++ ParenR ∷ key_tokens key) in
+    let e1 : name_at (Word name ∷ rest) ≡ Some (name, rest) = name_takes name rest h in
+    let e2 : inside_at rest ≡ Some (body, key_tokens key) =
+    parens_parse body (key_tokens key) (parted_clear stops.Close Comma refl column_tokens (λ (c : ColDef). IsName c.name) column_clear cols k) in
     let e3 : list_of column_of stops.Comma body ≡ Some cols = list_parses column_of stops.Comma Comma refl column_tokens (λ (c : ColDef). IsName c.name) column_clear column_parses cols f k in
-    rw (e1, e2, e3) refl
+    rw (e1, e2, e3, key_parses key fit) refl
 
 signed_parses : (users : List (List ℕ)) (sign : Sign) (rel : List ℕ) (vals : List Value) → IsName rel → is_filled vals ≡ true → list_all value_fits vals ≡ true
     → signed_of number_of (signed_tokens users sign rel vals) ≡ Some (record { users = users; sign = sign; rel = rel }, vals)
@@ -168,7 +181,10 @@ show_parses users =
 pub tokens_parse : (c : Command) → IsPrintable c → fits c ≡ true → command_of (printed_tokens c) ≡ Some c
 unfolding command_of command_by command_after create_of create_user_of show_of explain_of keyword_at
 tokens_parse (CreateUser name) p f = refl
-tokens_parse (CreateRelation name cols) p f = create_relation_parses name cols p.parts.0 p.parts.1 p.filled
+tokens_parse (CreateRelation name cols key) p f =
+    let shape : printed_tokens (CreateRelation name cols key) ≡ Word (codes "create") ∷ Word (codes "relation") ∷ Word name ∷ ParenL ∷ (parted Comma (map column_tokens cols) ++ ParenR ∷ key_tokens key) =
+    simp append_assoc in
+    ap command_of shape ∙ create_relation_parses name cols key p.parts.0 p.parts.1 p.filled f
 tokens_parse (Insert users sign rel vals) p f = insert_parses users sign rel vals p.parts.1 p.filled f
 tokens_parse (Delete users sign rel conds) p f = delete_parses users sign rel conds p.parts.1 p.parts.2 f
 tokens_parse (Update users sign rel sets conds) p f =

@@ -21,7 +21,7 @@ use Rattle.bdb_syntax.specs.declared.command.Command.{Command}
 use Rattle.bdb_syntax.specs.declared.command.Command.TheVariants.{CreateUser, CreateRelation, Insert, Delete, Update, Select, Explain, ShowWorld, Why, ShowTables}
 use Rattle.bdb_syntax.specs.Printable as printable
 use Rattle.bdb_parse.specs.Spelled.{AreWellSpelled}
-use Rattle.bdb_parse.specs.Grammar.{◌▸◌, IsToken, IsKeyword, IsName, IsLiteral, AreSeparated, AreRepeated, IsBelief, IsSign, IsKind, IsColumn, cmp_token, IsBareCol, IsFullCol, IsSide, IsCond, AreConds, IsSet, IsWho, IsItemBelief, IsAlias, IsItem, IsTarget, IsSigned, IsQuery, IsCommand}
+use Rattle.bdb_parse.specs.Grammar.{◌▸◌, IsToken, IsKeyword, IsName, IsKey, IsLiteral, AreSeparated, AreRepeated, IsBelief, IsSign, IsKind, IsColumn, cmp_token, IsBareCol, IsFullCol, IsSide, IsCond, AreConds, IsSet, IsWho, IsItemBelief, IsAlias, IsItem, IsTarget, IsSigned, IsQuery, IsCommand}
 
 both_spelled : (xs ys : List Token) → AreWellSpelled (xs ++ ys) → AreWellSpelled xs × AreWellSpelled ys
 both_spelled [] ys h = (tt, h)
@@ -147,9 +147,9 @@ target_ok users sign rel After ts h w =
     (repeated_ok IsBelief printable.IsContent belief_ok users h.0 h.3 a.0, name_ok rel h.4.4.0 h.4.4.3 c.0, c.1)
 
 -- what stands in parentheses
-inside_ok : (P : List Token → Type 0) (ts : List Token) → (h : (IsToken ParenL ▸ P ▸ IsToken ParenR) ts) → AreWellSpelled ts → AreWellSpelled h.4.0
-inside_ok P ts h w =
-    (halves P (IsToken ParenR) h.1 h.4 (halves (IsToken ParenL) (P ▸ IsToken ParenR) ts h w).1).0
+inside_ok : (P Q : List Token → Type 0) (ts : List Token) → (h : (IsToken ParenL ▸ P ▸ Q) ts) → AreWellSpelled ts → AreWellSpelled h.4.0
+inside_ok P Q ts h w =
+    (halves P Q h.1 h.4 (halves (IsToken ParenL) (P ▸ Q) ts h w).1).0
 
 signed_ok : (users : List (List ℕ)) (sign : Sign) (rel : List ℕ) (vals : List Value) (ts : List Token) → IsSigned users sign rel vals ts → AreWellSpelled ts → printable.IsPrintableSigned users rel vals
 signed_ok users sign rel vals ts h w =
@@ -158,21 +158,22 @@ signed_ok users sign rel vals ts h w =
     let t = target_ok users sign rel (IsKeyword (codes "values") ▸ Body) ts h w in
     let v = h.4.4.4 in
     let b = halves (IsKeyword (codes "values")) Body h.4.4.1 v t.2 in
-    (t.0, t.1, separated_ok IsLiteral (IsToken Comma) printable.IsPrintableValue literal_ok vals v.4.4.0 v.4.4.3 (inside_ok Vals v.1 v.4 b.1))
+    (t.0, t.1, separated_ok IsLiteral (IsToken Comma) printable.IsPrintableValue literal_ok vals v.4.4.0 v.4.4.3 (inside_ok Vals (IsToken ParenR) v.1 v.4 b.1))
 
 pub parts_ok : (c : Command) (ts : List Token) → IsCommand ts c → AreWellSpelled ts → printable.HasPrintableParts c
 parts_ok (CreateUser name) ts h w =
     let a = halves (IsKeyword (codes "create")) (IsKeyword (codes "user") ▸ IsToken (Text name)) ts h w in
     let b = halves (IsKeyword (codes "user")) (IsToken (Text name)) h.1 h.4 a.1 in
     text_ok name h.4.1 h.4.4 b.1
-parts_ok (CreateRelation name cols) ts h w =
+parts_ok (CreateRelation name cols key) ts h w =
     let Cols = AreSeparated IsColumn (IsToken Comma) cols in
-    let Body = IsToken ParenL ▸ Cols ▸ IsToken ParenR in
+    let After = IsToken ParenR ▸ IsKey key in
+    let Body = IsToken ParenL ▸ Cols ▸ After in
     let a = halves (IsKeyword (codes "create")) (IsKeyword (codes "relation") ▸ IsName name ▸ Body) ts h w in
     let b = halves (IsKeyword (codes "relation")) (IsName name ▸ Body) h.1 h.4 a.1 in
     let n = h.4.4 in
     let c = halves (IsName name) Body h.4.1 n b.1 in
-    (name_ok name n.0 n.3 c.0, separated_ok IsColumn (IsToken Comma) (λ (x : ColDef). printable.IsName x.name) column_ok cols n.4.4.0 n.4.4.3 (inside_ok Cols n.1 n.4 c.1))
+    (name_ok name n.0 n.3 c.0, separated_ok IsColumn (IsToken Comma) (λ (x : ColDef). printable.IsName x.name) column_ok cols n.4.4.0 n.4.4.3 (inside_ok Cols After n.1 n.4 c.1))
 parts_ok (Insert users sign rel vals) ts h w =
     let Signed = IsSigned users sign rel vals in
     let a = halves (IsKeyword (codes "insert")) (IsKeyword (codes "into") ▸ Signed) ts h w in

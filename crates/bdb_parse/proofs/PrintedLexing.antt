@@ -1,5 +1,5 @@
 -- The parts of a printed command, read as tokens.
-use Rattle.std.proofs.Common.{◌≡◌, ℕ, Bool, true, List, [], ◌∷◌, ◌++◌, map, Option, Some, None, refl, subst}
+use Rattle.std.proofs.Common.{◌≡◌, ℕ, ℤ, Bool, true, List, [], ◌∷◌, ◌++◌, map, Option, Some, None, refl, subst}
 use Rattle.std.specs.Prelude.{codes, IsSomeAnd}
 use Rattle.std.specs.List.{list_all, flat_map, AllByRecursion}
 use Rattle.std.proofs.lemmas.Bool.{and_parts}
@@ -25,12 +25,12 @@ use Rattle.bdb_syntax.specs.declared.command.RawSide.{RawSide}
 use Rattle.bdb_syntax.specs.declared.command.RawSide.TheVariants.{Col, Lit}
 use Rattle.bdb_syntax.specs.declared.command.RawWho.{RawWho}
 use Rattle.bdb_syntax.specs.declared.command.RawWho.TheVariants as who
-use Rattle.bdb_syntax.specs.Printed.{named_column, col_text, side_text, cond_text, where_text, set_text, belief_text, who_text, not_text, target_text, values_text, signed_text, item_text, query_text, printed}
+use Rattle.bdb_syntax.specs.Printed.{named_column, col_text, side_text, cond_text, where_text, set_text, belief_text, who_text, not_text, key_text, target_text, values_text, signed_text, item_text, query_text, printed}
 use Rattle.bdb_syntax.specs.Printable.{IsName, IsContent, IsPrintableValue, IsBareCol, IsFullCol, IsPrintableSide, IsPrintableCond, IsPrintableWho, IsPrintableItem, IsPrintableSet, IsPrintableSigned, IsPrintableQuery, IsPrintable}
-use Rattle.bdb_parse.specs.Fits.{value_fits, side_fits, cond_fits, set_fits, query_fits, fits}
-use Rattle.bdb_parse.proofs.PrintedTokens.{parted, value_tokens, named_tokens, col_tokens, side_tokens, cond_tokens, where_tokens, set_tokens, column_tokens, belief_tokens, who_tokens, not_tokens, target_tokens, values_tokens, signed_tokens, item_tokens, query_tokens, printed_tokens}
+use Rattle.bdb_parse.specs.Fits.{value_fits, side_fits, cond_fits, set_fits, query_fits, key_fits, fits}
+use Rattle.bdb_parse.proofs.PrintedTokens.{parted, value_tokens, named_tokens, col_tokens, side_tokens, cond_tokens, where_tokens, set_tokens, column_tokens, belief_tokens, who_tokens, not_tokens, target_tokens, values_tokens, signed_tokens, item_tokens, query_tokens, key_tokens, printed_tokens}
 use Rattle.bdb_parse.proofs.RoundTripLexing.{is_edge, starts_edge, edge_append, edge_from_start, Reads, Ends, reads_all, reads_from_ends, ends_reads, reads_reads, reads_ends, ends_between, ends_mark, reads_word, reads_nothing}
-use Rattle.bdb_parse.proofs.SpelledTokens.{word_reads, text_reads, value_reads, cmp_reads}
+use Rattle.bdb_parse.proofs.SpelledTokens.{word_reads, text_reads, int_reads, value_reads, cmp_reads}
 
 -- what holds of each item, together with a test that each passes
 pub both : {X : Type 0} (P : X → Type 0) (q : X → Bool) (xs : List X) → AllByRecursion P xs → list_all q xs ≡ true → AllByRecursion (λ x. P x × (q x ≡ true)) xs
@@ -213,13 +213,17 @@ query_reads q h f =
     (reads_separated (codes ",") Comma bare_comma_ends refl item_text item_tokens IsPrintableItem item_reads q.items h.1))
     (where_reads IsFullCol full_reads q.conds h.2 f)
 
+key_reads : (key : Option ℤ) → key_fits key ≡ true → Reads (key_text key) (key_tokens key)
+key_reads None f = reads_nothing
+key_reads (Some length) f = ends_reads (ends_between (codes " key ") (Word (codes "key") ∷ []) refl refl) (int_reads length f)
+
 command_reads : (c : Command) → IsPrintable c → fits c ≡ true → Reads (printed c) (printed_tokens c)
 command_reads (CreateUser name) p f = ends_reads (ends_between (codes "create user ") (Word (codes "create") ∷ Word (codes "user") ∷ []) refl refl) (text_reads name p.parts)
-command_reads (CreateRelation name cols) p f =
-    reads_from_ends (reads_ends refl
+command_reads (CreateRelation name cols key) p f =
+    ends_reads (reads_ends refl
     (ends_reads (reads_ends refl (ends_reads (ends_between (codes "create relation ") (Word (codes "create") ∷ Word (codes "relation") ∷ []) refl refl) (name_reads name p.parts.0)) open_ends)
     (reads_joined column_text column_tokens (λ (c : ColDef). IsName c.name) column_reads cols p.parts.1))
-    close_ends)
+    close_ends) (key_reads key f)
 command_reads (Insert users sign rel vals) p f =
     reads_reads (signed_edge users sign rel vals) (reads_word (codes "insert into") (Word (codes "insert") ∷ []) (codes "into") refl refl refl)
     (signed_reads users sign rel vals p.parts f)

@@ -1,5 +1,5 @@
 -- The tokens of a command's printed form.
-use Rattle.std.specs.Prelude.{ℕ, codes, List, [], ◌∷◌, ◌++◌, map, Option, None, Some}
+use Rattle.std.specs.Prelude.{ℕ, ℤ, codes, List, [], ◌∷◌, ◌++◌, map, Option, None, Some}
 use Rattle.std.specs.List.{flat_map}
 use Rattle.bdb_base.specs.declared.kinds.Cmp.{Cmp}
 use Rattle.bdb_base.specs.declared.kinds.Cmp.TheVariants as cmp
@@ -94,9 +94,13 @@ abbrev pub query_tokens : RawQuery → List Token
 query_tokens q = Word (codes "select") ∷ [] ++ parted Comma (map col_tokens q.take) ++ Word (codes "from") ∷ [] ++ parted Comma (map item_tokens q.items)
     ++ where_tokens q.conds
 
+abbrev pub key_tokens : Option ℤ → List Token
+key_tokens None = []
+key_tokens (Some length) = Word (codes "key") ∷ Num (int_text length) ∷ []
+
 abbrev pub printed_tokens : Command → List Token
 printed_tokens (CreateUser name) = Word (codes "create") ∷ Word (codes "user") ∷ [] ++ Text name ∷ []
-printed_tokens (CreateRelation name cols) = Word (codes "create") ∷ Word (codes "relation") ∷ [] ++ Word name ∷ [] ++ ParenL ∷ [] ++ parted Comma (map column_tokens cols) ++ ParenR ∷ []
+printed_tokens (CreateRelation name cols key) = Word (codes "create") ∷ Word (codes "relation") ∷ [] ++ Word name ∷ [] ++ ParenL ∷ [] ++ parted Comma (map column_tokens cols) ++ ParenR ∷ [] ++ key_tokens key
 printed_tokens (Insert users sign rel vals) = Word (codes "insert") ∷ Word (codes "into") ∷ [] ++ signed_tokens users sign rel vals
 printed_tokens (Delete users sign rel conds) = Word (codes "delete") ∷ Word (codes "from") ∷ [] ++ target_tokens users sign rel ++ where_tokens conds
 printed_tokens (Update users sign rel sets conds) = Word (codes "update") ∷ [] ++ target_tokens users sign rel ++ Word (codes "set") ∷ [] ++ parted Comma (map set_tokens sets) ++ where_tokens conds

@@ -1,5 +1,5 @@
 -- Each command that is read is in the grammar.
-use Rattle.std.proofs.Common.{◌≡◌, ℕ, Bool, true, false, cond, List, [], ◌∷◌, ◌++◌, Option, Some, refl, sym, ap, ◌∙◌, subst}
+use Rattle.std.proofs.Common.{◌≡◌, ℕ, ℤ, Bool, true, false, cond, List, [], ◌∷◌, ◌++◌, Option, Some, refl, sym, ap, ◌∙◌, subst}
 use Rattle.std.specs.Prelude.{codes}
 use Rattle.std.proofs.lemmas.List.{append-nil}
 use Rattle.bdb_base.specs.declared.kinds.Value.{Value}
@@ -17,11 +17,11 @@ use Rattle.bdb_parse.specs.declared.stop.Stop.TheVariants as stops
 use Rattle.bdb_parse.specs.declared.target.Target.{Target}
 use Rattle.bdb_parse.specs.Numbers.{number_of}
 use Rattle.bdb_parse.specs.Stops.{cut}
-use Rattle.bdb_parse.specs.Grammar.{◌▸◌, IsNothing, IsToken, IsKeyword, IsName, IsLiteral, AreSeparated, AreRepeated, IsBelief, IsColumn, IsBareCol, IsFullCol, AreConds, IsSet, IsItem, IsTarget, IsSigned, IsQuery, IsCommand}
-use Rattle.bdb_parse.specs.Reading.{end_at, word_at, text_at, keyword_at, name_at, literal_of, set_of, col_of, test_of, cond_of, list_of, conds_of, inside_of, target_at, column_of, item_of, create_user_of, create_relation_of, create_of, signed_of, insert_of, delete_of, update_of, query_of, explain_of, show_world_of, show_of, why_of, command_after, command_by, command_of, beliefs_at}
+use Rattle.bdb_parse.specs.Grammar.{◌▸◌, IsNothing, IsToken, IsKeyword, IsName, IsKey, IsLiteral, AreSeparated, AreRepeated, IsBelief, IsColumn, IsBareCol, IsFullCol, AreConds, IsSet, IsItem, IsTarget, IsSigned, IsQuery, IsCommand}
+use Rattle.bdb_parse.specs.Reading.{end_at, word_at, text_at, keyword_at, name_at, literal_of, set_of, col_of, test_of, cond_of, list_of, conds_of, inside_at, inside_of, key_of, target_at, column_of, item_of, create_user_of, create_relation_of, create_of, signed_of, insert_of, delete_of, update_of, query_of, explain_of, show_world_of, show_of, why_of, command_after, command_by, command_of, beliefs_at}
 use Rattle.bdb_parse.proofs.FilledLemmas.{Each, each_behind, each_map, each_at}
 use Rattle.bdb_parse.proofs.Sound.{end_is, word_is, text_is, keyword_is, keyword_then, word_then, name_then, beliefs_then, target_then, cut_then, comma_is, from_is, list_sound}
-use Rattle.bdb_parse.proofs.SoundParts.{literal_sound, column_sound, set_sound, test_sound, cond_sound, full_sound, item_sound, inside_then, conds_then}
+use Rattle.bdb_parse.proofs.SoundParts.{literal_sound, column_sound, set_sound, test_sound, cond_sound, full_sound, item_sound, parens_then, inside_then, key_sound, conds_then}
 
 each_if : {X : Type 0} (P : X → Type 0) (b : Bool) (o p : Option X) → (b ≡ true → Each P o) → Each P p → Each P (cond b o p)
 each_if P true o p h i = h refl
@@ -54,7 +54,7 @@ items_sound : (ts : List Token) (items : List RawItem) → list_of item_of stops
 items_sound ts items e =
     each_at (λ (xs : List RawItem). AreSeparated IsItem (IsToken Comma) xs ts) _ items (list_sound IsItem (IsToken Comma) item_of stops.Comma item_sound comma_is ts) e
 
-create_sound : (whole : List Token) (w : List ℕ) (ts : List Token) → whole ≡ Word w ∷ ts → is_keyword (codes "create") w ≡ true → Each (IsCommand whole) (create_of ts)
+create_sound : (whole : List Token) (w : List ℕ) (ts : List Token) → whole ≡ Word w ∷ ts → is_keyword (codes "create") w ≡ true → Each (IsCommand whole) (create_of number_of ts)
 unfolding create_of create_user_of create_relation_of
 create_sound whole w ts e k =
     let P : Command → Type 0 = IsCommand whole in
@@ -65,13 +65,16 @@ create_sound whole w ts e k =
     (word_then (codes "user") (IsToken (Text name.0)) ts word f u
     (text_is word.1 name g ∙ ap (λ (r : List Token). Text name.0 ∷ r) (end_is name.1 rest h))))))
     (each_if P (is_keyword (codes "relation") word.0) _ _ (λ u.
-    each_behind P (name_at word.1) _ (λ name g. each_behind P (inside_of name.1) _ (λ inside h.
-    each_behind P (list_of column_of stops.Comma inside) _ (λ cols i.
-    let Body = IsToken ParenL ▸ AreSeparated IsColumn (IsToken Comma) cols ▸ IsToken ParenR in
+    each_behind P (name_at word.1) _ (λ name g. each_behind P (inside_at name.1) _ (λ inside h.
+    each_behind P (list_of column_of stops.Comma inside.0) _ (λ cols i.
+    each_behind P (key_of number_of inside.1) _ (λ key j.
+    let Cols = AreSeparated IsColumn (IsToken Comma) cols in
+    let Body = IsToken ParenL ▸ Cols ▸ IsToken ParenR ▸ IsKey key in
     first_then (codes "create") (IsKeyword (codes "relation") ▸ IsName name.0 ▸ Body) whole w ts e k
     (word_then (codes "relation") (IsName name.0 ▸ Body) ts word f u
     (name_then Body word.1 name g
-    (inside_then (AreSeparated IsColumn (IsToken Comma) cols) name.1 inside h (columns_sound inside cols i))))))))
+    (parens_then Cols (IsKey key) name.1 inside h (columns_sound inside.0 cols i)
+    (each_at (λ (k : Option ℤ). IsKey k inside.1) _ key (key_sound inside.1) j)))))))))
     tt))
 
 signed_sound : (ts : List Token) → Each (λ signed. IsSigned signed.0.users signed.0.sign signed.0.rel signed.1 ts) (signed_of number_of ts)

@@ -1,5 +1,5 @@
 -- What is read of the parts of a command is in the grammar.
-use Rattle.std.proofs.Common.{◌≡◌, ◌⊎◌, ℕ, Bool, true, false, not, ◌&&◌, cond, List, [], ◌∷◌, ◌++◌, Option, Some, None, refl, sym, ap, ◌∙◌, subst, inl, inr, append_assoc}
+use Rattle.std.proofs.Common.{◌≡◌, ◌⊎◌, ℕ, ℤ, Bool, true, false, not, ◌&&◌, cond, List, [], ◌∷◌, ◌++◌, Option, Some, None, refl, sym, ap, ◌∙◌, subst, inl, inr, append_assoc}
 use Rattle.std.specs.Prelude.{codes}
 use Rattle.std.proofs.lemmas.List.{append-nil}
 use Rattle.std.proofs.lemmas.Bool.{and_parts, not-true}
@@ -22,8 +22,8 @@ use Rattle.bdb_syntax.specs.Keywords.{is_keyword, is_reserved}
 use Rattle.bdb_parse.specs.declared.stop.Stop.TheVariants as stops
 use Rattle.bdb_parse.specs.Numbers.{number_of}
 use Rattle.bdb_parse.specs.Stops.{is_stop, cut}
-use Rattle.bdb_parse.specs.Grammar.{◌▸◌, IsToken, IsKeyword, IsName, IsLiteral, AreSeparated, AreRepeated, IsSign, IsKind, IsColumn, cmp_token, IsBareCol, IsFullCol, IsSide, IsCond, AreConds, IsSet, IsItemBelief, IsAlias, IsItem}
-use Rattle.bdb_parse.specs.Reading.{end_at, word_at, dot_at, equals_at, open_at, cmp_at, keyword_at, name_at, literal_of, sign_at, set_of, bare_of, col_at, col_of, begins_with_word, side_of, test_of, cond_of, conds_of, inside_of, column_of, kind_of, past, alias_of, item_of, whos_at}
+use Rattle.bdb_parse.specs.Grammar.{◌▸◌, IsNothing, IsToken, IsKeyword, IsName, IsNum, IsKey, IsLiteral, AreSeparated, AreRepeated, IsSign, IsKind, IsColumn, cmp_token, IsBareCol, IsFullCol, IsSide, IsCond, AreConds, IsSet, IsItemBelief, IsAlias, IsItem}
+use Rattle.bdb_parse.specs.Reading.{end_at, word_at, dot_at, equals_at, open_at, cmp_at, keyword_at, name_at, literal_of, sign_at, set_of, bare_of, col_at, col_of, begins_with_word, side_of, test_of, cond_of, conds_of, inside_at, inside_of, num_of, key_of, column_of, kind_of, past, alias_of, item_of, whos_at}
 use Rattle.bdb_parse.proofs.FilledLemmas.{Each, each_behind, each_map, each_cond, each_at}
 use Rattle.bdb_parse.proofs.Sound.{end_is, word_is, dot_is, equals_is, open_is, cmp_is, some_of_both, some_same, name_is, token_then, keyword_then, name_then, name_whole, sign_then, cut_none, cut_some, close_is, and_is, where_is, list_sound}
 
@@ -193,15 +193,48 @@ item_sound ts =
     whos_then (IsSign sign.0 ▸ IsName rel.0 ▸ After) ts (sign_then (IsName rel.0 ▸ After) path.1 (name_then After sign.1 rel e
     (each_at (λ (a : List ℕ). IsAlias rel.0 a rel.1) _ alias (alias_sound rel.0 rel.1) f)))))
 
+-- a list in parentheses, and what is behind it
+pub parens_then : (P Q : List Token → Type 0) (ts : List Token) (x : List Token × List Token) → inside_at ts ≡ Some x → P x.0 → Q x.1
+    → (IsToken ParenL ▸ P ▸ IsToken ParenR ▸ Q) ts
+unfolding inside_at
+parens_then P Q ts x e p q =
+    let h = some_of_both (open_at ts) _ x e in
+    let made : List Token → List Token × List Token = λ after. ((cut stops.Close h.0).0, after) in
+    let i = some_of_both (cut stops.Close h.0).1 (λ after. Some (made after)) x h.2 in
+    let same : made i.0 ≡ x = some_same _ _ i.2 in
+    let k = cut_some stops.Close h.0 i.0 i.1 in
+    token_then (IsToken ParenL) (P ▸ IsToken ParenR ▸ Q) ts ParenL h.0 (open_is ts h.0 h.1) refl (
+      (cut stops.Close h.0).0,
+      k.0 ∷ i.0,
+      k.1,
+      subst (λ (y : List Token × List Token). P y.0) (sym same) p,
+      (k.0 ∷ [], i.0, refl, close_is k.0 k.2, subst (λ (y : List Token × List Token). Q y.1) (sym same) q),
+    )
+
 -- a list in parentheses that takes up the whole
 pub inside_then : (P : List Token → Type 0) (ts inside : List Token) → inside_of ts ≡ Some inside → P inside → (IsToken ParenL ▸ P ▸ IsToken ParenR) ts
 unfolding inside_of
 inside_then P ts inside e p =
-    let h = some_of_both (open_at ts) _ inside e in
-    let i = some_of_both (cut stops.Close h.0).1 _ inside h.2 in
-    let j = some_of_both (end_at i.0) (λ _. Some (cut stops.Close h.0).0) inside i.2 in
-    let same : (cut stops.Close h.0).0 ≡ inside = some_same _ _ j.2 in
-    let k = cut_some stops.Close h.0 i.0 i.1 in
-    let whole : h.0 ≡ (cut stops.Close h.0).0 ++ k.0 ∷ [] = k.1 ∙ ap (λ (r : List Token). (cut stops.Close h.0).0 ++ k.0 ∷ r) (end_is i.0 j.0 j.1) in
-    token_then (IsToken ParenL) (P ▸ IsToken ParenR) ts ParenL h.0 (open_is ts h.0 h.1) refl
-    ((cut stops.Close h.0).0, k.0 ∷ [], whole, subst P (sym same) p, close_is k.0 k.2)
+    let h = some_of_both (inside_at ts) _ inside e in
+    let i = some_of_both (end_at h.0.1) (λ _. Some h.0.0) inside h.2 in
+    let w = parens_then P IsNothing ts h.0 h.1 (subst P (sym (some_same _ _ i.2)) p) (end_is h.0.1 i.0 i.1) in
+    let r = w.4.4 in
+    let last : w.4.1 ≡ ParenR ∷ [] = r.2 ∙ (ap (λ (f : List Token). f ++ r.1) r.3 ∙ ap (λ (t : List Token). ParenR ∷ t) r.4) in
+    (w.0, w.1, w.2, w.3, (w.4.0, w.4.1, w.4.2, w.4.3, last))
+
+num_sound : (ts : List Token) → Each (λ n. IsNum n ts) (num_of number_of ts)
+num_sound (Num s ∷ []) = each_of (number_of s) refl
+  where
+    each_of : (o : Option ℤ) → number_of s ≡ o → Each (λ n. IsNum n (Num s ∷ [])) o
+    each_of None e = tt
+    each_of (Some n) e = (s, refl, e)
+num_sound _ = tt
+
+pub key_sound : (ts : List Token) → Each (λ key. IsKey key ts) (key_of number_of ts)
+unfolding key_of
+key_sound [] = refl
+key_sound (t ∷ ts) =
+    let P : Option ℤ → Type 0 = λ key. IsKey key (t ∷ ts) in
+    each_behind P (keyword_at (codes "key") (t ∷ ts)) _ (λ rest e.
+    each_map P (λ n. Some n) (num_of number_of rest) (λ n f.
+    keyword_then (codes "key") (IsNum n) (t ∷ ts) rest e (each_at (λ (m : ℤ). IsNum m rest) _ n (num_sound rest) f)))

@@ -1,5 +1,5 @@
 -- What is in the grammar is read: commands.
-use Rattle.std.proofs.Common.{◌≡◌, ℕ, Bool, true, false, cond, List, [], ◌∷◌, ◌++◌, Option, Some, refl, sym, ap, ◌∙◌}
+use Rattle.std.proofs.Common.{◌≡◌, ℕ, ℤ, Bool, true, false, cond, List, [], ◌∷◌, ◌++◌, Option, Some, refl, sym, ap, ◌∙◌}
 use Rattle.std.specs.Prelude.{codes}
 use Rattle.std.specs.Option.{option_map}
 use Rattle.std.proofs.lemmas.List.{append-nil}
@@ -20,12 +20,12 @@ use Rattle.bdb_parse.specs.declared.stop.Stop.TheVariants as stops
 use Rattle.bdb_parse.specs.declared.target.Target.{Target}
 use Rattle.bdb_parse.specs.Numbers.{number_of}
 use Rattle.bdb_parse.specs.Stops.{cut}
-use Rattle.bdb_parse.specs.Grammar.{◌▸◌, IsToken, IsKeyword, IsName, IsLiteral, AreSeparated, AreRepeated, IsBelief, IsColumn, IsBareCol, IsFullCol, AreConds, IsSet, IsItem, IsTarget, IsSigned, IsQuery, IsCommand}
-use Rattle.bdb_parse.specs.Reading.{◌>>=◌, end_at, word_at, text_at, keyword_at, name_at, literal_of, set_of, col_of, test_of, cond_of, list_of, conds_of, inside_of, target_at, column_of, item_of, create_user_of, create_relation_of, create_of, signed_of, insert_of, delete_of, update_of, query_of, explain_of, show_world_of, show_of, why_of, command_after, command_by, command_of, beliefs_at}
+use Rattle.bdb_parse.specs.Grammar.{◌▸◌, IsToken, IsKeyword, IsName, IsKey, IsLiteral, AreSeparated, AreRepeated, IsBelief, IsColumn, IsBareCol, IsFullCol, AreConds, IsSet, IsItem, IsTarget, IsSigned, IsQuery, IsCommand}
+use Rattle.bdb_parse.specs.Reading.{◌>>=◌, end_at, word_at, text_at, keyword_at, name_at, literal_of, set_of, col_of, test_of, cond_of, list_of, conds_of, inside_at, inside_of, key_of, target_at, column_of, item_of, create_user_of, create_relation_of, create_of, signed_of, insert_of, delete_of, update_of, query_of, explain_of, show_world_of, show_of, why_of, command_after, command_by, command_of, beliefs_at}
 use Rattle.bdb_parse.proofs.Takes.{head_is, word_takes, keyword_takes, name_takes, other_keyword, cut_at, separated_free, list_takes, comma_stops, comma_free}
 use Rattle.bdb_parse.specs.Laws.{CommandsAreRead}
 use Rattle.bdb_parse.proofs.SoundCommands.{command_sound}
-use Rattle.bdb_parse.proofs.TakesParts.{then_some, literal_takes, literal_free, column_takes, column_free, set_takes, set_free, full_takes, full_free, test_free, cond_free, test_takes, cond_takes, item_takes, item_free, target_takes, beliefs_take, conds_take, inside_takes}
+use Rattle.bdb_parse.proofs.TakesParts.{then_some, literal_takes, literal_free, column_takes, column_free, set_takes, set_free, full_takes, full_free, test_free, cond_free, test_takes, cond_takes, item_takes, item_free, target_takes, beliefs_take, conds_take, key_takes, parens_take, inside_takes}
 
 columns_take : (cols : List ColDef) (ts : List Token) → AreSeparated IsColumn (IsToken Comma) cols ts → list_of column_of stops.Comma ts ≡ Some cols
 columns_take cols ts h =
@@ -56,7 +56,7 @@ passes : {X : Type 0} (b : Bool) (o p : Option X) (x : X) → b ≡ false → p 
 passes true o p x e h = cc
 passes false o p x e h = h
 
-create_user_takes : (name : List ℕ) (ts : List Token) → (IsKeyword (codes "user") ▸ IsToken (Text name)) ts → create_of ts ≡ Some (CreateUser name)
+create_user_takes : (name : List ℕ) (ts : List Token) → (IsKeyword (codes "user") ▸ IsToken (Text name)) ts → create_of number_of ts ≡ Some (CreateUser name)
 unfolding create_of create_user_of
 create_user_takes name ts h =
     let c = CreateUser name in
@@ -64,20 +64,23 @@ create_user_takes name ts h =
     (picks (is_keyword (codes "user") h.3.0) _ _ c h.3.2
     (then_some (text_at h.1) (name, []) _ c (ap text_at h.4) refl))
 
-create_relation_takes : (name : List ℕ) (cols : List ColDef) (ts : List Token) → (IsKeyword (codes "relation") ▸ IsName name ▸ IsToken ParenL ▸ AreSeparated IsColumn (IsToken Comma) cols ▸ IsToken ParenR) ts → create_of ts ≡ Some (CreateRelation name cols)
+create_relation_takes : (name : List ℕ) (cols : List ColDef) (key : Option ℤ) (ts : List Token)
+    → (IsKeyword (codes "relation") ▸ IsName name ▸ IsToken ParenL ▸ AreSeparated IsColumn (IsToken Comma) cols ▸ IsToken ParenR ▸ IsKey key) ts
+    → create_of number_of ts ≡ Some (CreateRelation name cols key)
 unfolding create_of create_relation_of
-create_relation_takes name cols ts h =
-    let c = CreateRelation name cols in
+create_relation_takes name cols key ts h =
+    let c = CreateRelation name cols key in
     let Cols = AreSeparated IsColumn (IsToken Comma) cols in
-    let Body = IsToken ParenL ▸ Cols ▸ IsToken ParenR in
+    let Body = IsToken ParenL ▸ Cols ▸ IsToken ParenR ▸ IsKey key in
     let n = h.4 in
-    let i = inside_takes Cols (separated_free IsColumn (IsToken Comma) stops.Close (λ x us j. column_free x stops.Close us j) (comma_free stops.Close refl) cols) n.1 n.4 in
+    let i = parens_take Cols (IsKey key) (separated_free IsColumn (IsToken Comma) stops.Close (λ x us j. column_free x stops.Close us j) (comma_free stops.Close refl) cols) n.1 n.4 in
     then_some (word_at ts) (h.3.0, h.1) _ c (word_takes (codes "relation") (IsName name ▸ Body) ts h)
     (passes (is_keyword (codes "user") h.3.0) _ _ c (other_keyword (codes "relation") (codes "user") h.3.0 h.3.2 refl)
     (picks (is_keyword (codes "relation") h.3.0) _ _ c h.3.2
     (then_some (name_at h.1) (name, n.1) _ c (name_takes name Body h.1 n)
-    (then_some (inside_of n.1) i.0 _ c i.1
-    (then_some (list_of column_of stops.Comma i.0) cols _ c (columns_take cols i.0 i.2) refl)))))
+    (then_some (inside_at n.1) i.0 _ c i.1
+    (then_some (list_of column_of stops.Comma i.0.0) cols _ c (columns_take cols i.0.0 i.2)
+    (then_some (key_of number_of i.0.1) key _ c (key_takes key i.0.1 i.3) refl))))))
 
 signed_takes : (users : List (List ℕ)) (sign : Sign) (rel : List ℕ) (vals : List Value) (ts : List Token) → IsSigned users sign rel vals ts → signed_of number_of ts ≡ Some (record { users = users; sign = sign; rel = rel }, vals)
 unfolding signed_of
@@ -183,7 +186,7 @@ unfolding command_of command_by
 first_takes keyword Q ts c h e =
     then_some (word_at ts) (h.3.0, h.1) _ c (word_takes keyword Q ts h) e
 
-create_after : (w : List ℕ) (ts : List Token) (c : Command) → is_keyword (codes "create") w ≡ true → create_of ts ≡ Some c → command_after number_of w ts ≡ Some c
+create_after : (w : List ℕ) (ts : List Token) (c : Command) → is_keyword (codes "create") w ≡ true → create_of number_of ts ≡ Some c → command_after number_of w ts ≡ Some c
 unfolding command_after
 create_after w ts c k e = picks (is_keyword (codes "create") w) _ _ c k e
 
@@ -254,9 +257,10 @@ pub command_takes : (c : Command) (ts : List Token) → IsCommand ts c → comma
 command_takes (CreateUser name) ts h =
     first_takes (codes "create") (IsKeyword (codes "user") ▸ IsToken (Text name)) ts (CreateUser name) h
     (create_after h.3.0 h.1 (CreateUser name) h.3.2 (create_user_takes name h.1 h.4))
-command_takes (CreateRelation name cols) ts h =
-    first_takes (codes "create") (IsKeyword (codes "relation") ▸ IsName name ▸ IsToken ParenL ▸ AreSeparated IsColumn (IsToken Comma) cols ▸ IsToken ParenR) ts (CreateRelation name cols) h
-    (create_after h.3.0 h.1 (CreateRelation name cols) h.3.2 (create_relation_takes name cols h.1 h.4))
+command_takes (CreateRelation name cols key) ts h =
+    first_takes (codes "create") (IsKeyword (codes "relation") ▸ IsName name ▸ IsToken ParenL ▸ AreSeparated IsColumn (IsToken Comma) cols ▸ IsToken ParenR ▸ IsKey key) ts
+    (CreateRelation name cols key) h
+    (create_after h.3.0 h.1 (CreateRelation name cols key) h.3.2 (create_relation_takes name cols key h.1 h.4))
 command_takes (Insert users sign rel vals) ts h =
     first_takes (codes "insert") (IsKeyword (codes "into") ▸ IsSigned users sign rel vals) ts (Insert users sign rel vals) h
     (insert_after h.3.0 h.1 (Insert users sign rel vals) h.3.2 (insert_takes users sign rel vals h.1 h.4))

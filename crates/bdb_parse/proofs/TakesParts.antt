@@ -1,5 +1,5 @@
 -- What is in the grammar is read: the parts of a command.
-use Rattle.std.proofs.Common.{◌≡◌, ℕ, true, false, not, ◌&&◌, List, [], ◌∷◌, ◌++◌, Option, Some, None, refl, sym, ap, ◌∙◌, subst, inl, inr, append_assoc}
+use Rattle.std.proofs.Common.{◌≡◌, ℕ, ℤ, true, false, not, ◌&&◌, List, [], ◌∷◌, ◌++◌, Option, Some, None, refl, sym, ap, ◌∙◌, subst, inl, inr, append_assoc}
 use Rattle.std.specs.Prelude.{codes}
 use Rattle.std.specs.Option.{option_map}
 use Rattle.std.proofs.lemmas.List.{append-nil}
@@ -28,8 +28,8 @@ use Rattle.bdb_parse.specs.declared.stop.Stop.TheVariants as stops
 use Rattle.bdb_parse.specs.declared.target.Target.{Target}
 use Rattle.bdb_parse.specs.Numbers.{number_of}
 use Rattle.bdb_parse.specs.Stops.{cut}
-use Rattle.bdb_parse.specs.Grammar.{◌▸◌, IsNothing, IsToken, IsKeyword, IsName, IsLiteral, AreRepeated, IsBelief, IsSign, IsKind, IsColumn, cmp_token, IsBareCol, IsFullCol, IsSide, IsCond, AreConds, IsSet, IsWho, IsItemBelief, IsAlias, IsItem, IsTarget}
-use Rattle.bdb_parse.specs.Reading.{◌>>=◌, end_at, word_at, equals_at, open_at, cmp_at, keyword_at, name_at, literal_of, sign_of, sign_at, set_of, bare_of, col_at, col_of, begins_with_word, side_of, test_of, cond_of, conds_of, inside_of, target_at, column_of, kind_of, past, alias_of, item_of, beliefs_at, whos_at}
+use Rattle.bdb_parse.specs.Grammar.{◌▸◌, IsNothing, IsToken, IsKeyword, IsName, IsNum, IsKey, IsLiteral, AreRepeated, IsBelief, IsSign, IsKind, IsColumn, cmp_token, IsBareCol, IsFullCol, IsSide, IsCond, AreConds, IsSet, IsWho, IsItemBelief, IsAlias, IsItem, IsTarget}
+use Rattle.bdb_parse.specs.Reading.{◌>>=◌, end_at, word_at, equals_at, open_at, cmp_at, keyword_at, name_at, literal_of, sign_of, sign_at, set_of, bare_of, col_at, col_of, begins_with_word, side_of, test_of, cond_of, conds_of, inside_at, inside_of, num_of, key_of, target_at, column_of, kind_of, past, alias_of, item_of, beliefs_at, whos_at}
 use Rattle.bdb_parse.proofs.Takes.{head_is, keyword_takes, name_takes, name_takes_word, keyword_misses_word, name_is_not_as, name_is_not_belief, name_is_not_not, other_keyword, Free, free_seq, cut_free, cut_at, name_free, keyword_free, text_free, num_free, dot_free, cmp_free, cmp_takes, list_takes, and_stops}
 
 pub then_some : {X Y : Type 0} (o : Option X) (x : X) (k : X → Option Y) (y : Y) → o ≡ Some x → k x ≡ Some y → (o >>= k) ≡ Some y
@@ -325,12 +325,35 @@ conds_take IsCol read r f (c ∷ cs) front rest free h = (
   list_takes (IsCond IsCol) (IsKeyword (codes "and")) read stops.And r f and_stops (c ∷ cs) h.1 h.4,
 )
 
+num_takes : (n : ℤ) (ts : List Token) → IsNum n ts → num_of number_of ts ≡ Some n
+num_takes n ts h = ap (num_of number_of) h.1 ∙ h.2
+
+pub key_takes : (key : Option ℤ) (ts : List Token) → IsKey key ts → key_of number_of ts ≡ Some key
+unfolding key_of
+key_takes None ts h = ap (key_of number_of) h
+key_takes (Some n) ts h =
+    let whole = head_is ts h.0 h.1 (Word h.3.0) h.2 h.3.1 in
+    let found = ap (keyword_at (codes "key")) (sym whole) ∙ keyword_takes (codes "key") (IsNum n) ts h in
+    ap (key_of number_of) whole
+    ∙ then_some (keyword_at (codes "key") (Word h.3.0 ∷ h.1)) h.1 _ (Some n) found (ap (option_map (λ m. Some m)) (num_takes n h.1 h.4))
+
+-- what stands in parentheses, and what stands behind them
+pub parens_take : (P Q : List Token → Type 0) → ((ts : List Token) → P ts → Free stops.Close ts) → (ts : List Token) → (IsToken ParenL ▸ P ▸ IsToken ParenR ▸ Q) ts
+    → (x : List Token × List Token) × (inside_at ts ≡ Some x) × P x.0 × Q x.1
+unfolding inside_at
+parens_take P Q f ts h =
+    let i = h.4 in
+    let c = i.4 in
+    let body : h.1 ≡ i.0 ++ ParenR ∷ c.1 = i.2 ∙ ap (λ (r : List Token). i.0 ++ r) (head_is i.1 c.0 c.1 ParenR c.2 c.3) in
+    let e : cut stops.Close h.1 ≡ (i.0, Some c.1) = ap (cut stops.Close) body ∙ cut_at stops.Close i.0 ParenR c.1 (f i.0 i.3) refl in
+    let made : List Token × Option (List Token) → Option (List Token × List Token) = λ p. p.1 >>= λ after. Some (p.0, after) in
+    ((i.0, c.1), then_some (open_at ts) h.1 _ (i.0, c.1) (ap open_at (head_is ts h.0 h.1 ParenL h.2 h.3)) (ap made e), i.3, c.4)
+
 -- what stands in parentheses and takes up the whole
 pub inside_takes : (P : List Token → Type 0) → ((ts : List Token) → P ts → Free stops.Close ts) → (ts : List Token) → (IsToken ParenL ▸ P ▸ IsToken ParenR) ts → (inside : List Token) × (inside_of ts ≡ Some inside) × P inside
 unfolding inside_of
 inside_takes P f ts h =
     let i = h.4 in
-    let body : h.1 ≡ i.0 ++ ParenR ∷ [] = i.2 ∙ ap (λ (r : List Token). i.0 ++ r) i.4 in
-    let c : cut stops.Close h.1 ≡ (i.0, Some []) = ap (cut stops.Close) body ∙ cut_at stops.Close i.0 ParenR [] (f i.0 i.3) refl in
-    let made : List Token × Option (List Token) → Option (List Token) = λ p. p.1 >>= λ after. end_at after >>= λ _. Some p.0 in
-    (i.0, then_some (open_at ts) h.1 _ i.0 (ap open_at (head_is ts h.0 h.1 ParenL h.2 h.3)) (ap made c), i.3)
+    let x = parens_take P IsNothing f ts (h.0, h.1, h.2, h.3, (i.0, i.1, i.2, i.3, (ParenR ∷ [], [], i.4, refl, refl))) in
+    let nothing : end_at x.0.1 ≡ Some [] = ap end_at x.3 in
+    (x.0.0, then_some (inside_at ts) x.0 _ x.0.0 x.1 (then_some (end_at x.0.1) [] _ x.0.0 nothing refl), x.2)

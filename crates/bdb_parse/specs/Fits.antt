@@ -1,5 +1,5 @@
 -- Whether the literals of a command are in i64.
-use Rattle.std.specs.Prelude.{Bool, true, ◌&&◌}
+use Rattle.std.specs.Prelude.{ℤ, Bool, true, ◌&&◌, Option, None, Some}
 use Rattle.std.specs.List.{list_all}
 use Rattle.bdb_base.specs.declared.kinds.Value.{Value}
 use Rattle.bdb_base.specs.declared.kinds.Value.TheVariants.{Int, Text}
@@ -34,10 +34,15 @@ set_fits s = value_fits s.to
 abbrev pub query_fits : RawQuery → Bool
 query_fits q = list_all cond_fits q.conds
 
--- each literal is in i64
+-- so is the length of a key, where it is said
+abbrev pub key_fits : Option ℤ → Bool
+key_fits None = true
+key_fits (Some length) = is_i64 length
+
+-- each literal is in i64, and so is the length of a key
 abbrev pub fits : Command → Bool
 fits (CreateUser name) = true
-fits (CreateRelation name cols) = true
+fits (CreateRelation name cols key) = key_fits key
 fits (Insert users sign rel vals) = list_all value_fits vals
 fits (Delete users sign rel conds) = list_all cond_fits conds
 fits (Update users sign rel sets conds) = list_all set_fits sets && list_all cond_fits conds

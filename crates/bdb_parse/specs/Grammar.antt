@@ -1,5 +1,5 @@
 -- The grammar: which tokens spell which command. Each definition takes a value and says which lists of tokens spell it.
-use Rattle.std.specs.Prelude.{◌≡◌, ◌⊎◌, ℕ, true, false, List, [], ◌∷◌, ◌++◌, Some, None, codes}
+use Rattle.std.specs.Prelude.{◌≡◌, ◌⊎◌, ℕ, ℤ, true, false, List, [], ◌∷◌, ◌++◌, Option, Some, None, codes}
 use Rattle.bdb_base.specs.declared.kinds.Value.{Value}
 use Rattle.bdb_base.specs.declared.kinds.Value.TheVariants as values
 use Rattle.bdb_base.specs.declared.kinds.Kind.{Kind}
@@ -46,10 +46,14 @@ IsKeyword keyword ts = (word : List ℕ) × (ts ≡ Word word ∷ []) × (is_key
 abbrev pub IsName : List ℕ → List Token → Type 0
 IsName name ts = (ts ≡ Word name ∷ []) × (is_reserved name ≡ false)
 
+-- a number
+abbrev pub IsNum : ℤ → List Token → Type 0
+IsNum n ts = (spelling : List ℕ) × (ts ≡ Num spelling ∷ []) × (number_of spelling ≡ Some n)
+
 -- a text or a number
 abbrev pub IsLiteral : Value → List Token → Type 0
 IsLiteral (values.Text t) ts = ts ≡ Text t ∷ []
-IsLiteral (values.Int n) ts = (spelling : List ℕ) × (ts ≡ Num spelling ∷ []) × (number_of spelling ≡ Some n)
+IsLiteral (values.Int n) ts = IsNum n ts
 
 -- each of these, one or more, with a separator between two
 abbrev pub AreSeparated : {X : Type 0} → (X → List Token → Type 0) → (List Token → Type 0) → List X → List Token → Type 0
@@ -79,6 +83,11 @@ IsKind kinds.Text = IsKeyword (codes "text")
 -- a name and a kind
 abbrev pub IsColumn : ColDef → List Token → Type 0
 IsColumn c = IsName c.name ▸ IsKind c.kind
+
+-- 'key' and the length of a key, or nothing where it isn't said
+abbrev pub IsKey : Option ℤ → List Token → Type 0
+IsKey None = IsNothing
+IsKey (Some length) = IsKeyword (codes "key") ▸ IsNum length
 
 -- the token of a comparison
 abbrev pub cmp_token : Cmp → Token
@@ -154,9 +163,9 @@ IsQuery q =
 abbrev pub IsCommand : List Token → Command → Type 0
 IsCommand ts (CreateUser name) =
     (IsKeyword (codes "create") ▸ IsKeyword (codes "user") ▸ IsToken (Text name)) ts
-IsCommand ts (CreateRelation name cols) =
+IsCommand ts (CreateRelation name cols key) =
     (IsKeyword (codes "create") ▸ IsKeyword (codes "relation") ▸ IsName name
-    ▸ IsToken ParenL ▸ AreSeparated IsColumn (IsToken Comma) cols ▸ IsToken ParenR) ts
+    ▸ IsToken ParenL ▸ AreSeparated IsColumn (IsToken Comma) cols ▸ IsToken ParenR ▸ IsKey key) ts
 IsCommand ts (Insert users sign rel vals) =
     (IsKeyword (codes "insert") ▸ IsKeyword (codes "into") ▸ IsSigned users sign rel vals) ts
 IsCommand ts (Delete users sign rel conds) =

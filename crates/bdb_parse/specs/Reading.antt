@@ -123,14 +123,20 @@ all_of read (part ∷ parts) = read part >>= λ x. all_of read parts >>= λ xs. 
 unfoldable pub list_of : {X : Type 0} → (List Token → Option X) → Stop → List Token → Option (List X)
 list_of read stop ts = all_of read (parts stop ts)
 
--- the tokens in parentheses that take up the whole
-unfoldable pub inside_of : List Token → Option (List Token)
-inside_of ts = do
+-- the tokens in parentheses, and those behind them
+unfoldable pub inside_at : List Token → Option (List Token × List Token)
+inside_at ts = do
   body ← open_at ts
   let halves = cut stops.Close body
   after ← halves.1
-  _ ← end_at after
-  Some halves.0
+  Some (halves.0, after)
+
+-- the tokens in parentheses that take up the whole
+unfoldable pub inside_of : List Token → Option (List Token)
+inside_of ts = do
+  inside ← inside_at ts
+  _ ← end_at inside.1
+  Some inside.0
 
 -- the conditions after a 'where', and none without it
 abbrev pub conds_of : (List Token → Option RawCond) → Option (List Token) → Option (List RawCond)
@@ -260,19 +266,32 @@ create_user_of ts = do
   _ ← end_at name.1
   Some (CreateUser name.0)
 
+-- a number, where number reads its spelling
+abbrev pub num_of : (List ℕ → Option ℤ) → List Token → Option ℤ
+num_of number (Num s ∷ []) = number s
+num_of number _ = None
+
+-- the length of a key: 'key' and a number, or nothing where it isn't said
+unfoldable pub key_of : (List ℕ → Option ℤ) → List Token → Option (Option ℤ)
+key_of number [] = Some None
+key_of number (t ∷ ts) = do
+  rest ← keyword_at (codes "key") (t ∷ ts)
+  option_map Some (num_of number rest)
+
 -- what follows 'create relation'
-unfoldable pub create_relation_of : List Token → Option Command
-create_relation_of ts = do
+unfoldable pub create_relation_of : (List ℕ → Option ℤ) → List Token → Option Command
+create_relation_of number ts = do
   name ← name_at ts
-  inside ← inside_of name.1
-  cols ← list_of column_of stops.Comma inside
-  Some (CreateRelation name.0 cols)
+  inside ← inside_at name.1
+  cols ← list_of column_of stops.Comma inside.0
+  key ← key_of number inside.1
+  Some (CreateRelation name.0 cols key)
 
 -- what follows 'create'
-unfoldable pub create_of : List Token → Option Command
-create_of ts = do
+unfoldable pub create_of : (List ℕ → Option ℤ) → List Token → Option Command
+create_of number ts = do
   word ← word_at ts
-  if is_keyword (codes "user") word.0 then create_user_of word.1 else (if is_keyword (codes "relation") word.0 then create_relation_of word.1 else None)
+  if is_keyword (codes "user") word.0 then create_user_of word.1 else (if is_keyword (codes "relation") word.0 then create_relation_of number word.1 else None)
 
 -- a path, a sign and a tuple
 unfoldable pub signed_of : (List ℕ → Option ℤ) → List Token → Option (Target × List Value)
@@ -349,7 +368,7 @@ why_of number ts = do
 -- the command that a first word begins
 unfoldable pub command_after : (List ℕ → Option ℤ) → List ℕ → List Token → Option Command
 command_after number word ts =
-    if is_keyword (codes "create") word then create_of ts
+    if is_keyword (codes "create") word then create_of number ts
     else (if is_keyword (codes "insert") word then insert_of number ts
     else (if is_keyword (codes "delete") word then delete_of number ts
     else (if is_keyword (codes "update") word then update_of number ts

@@ -23,7 +23,7 @@ pub fn command(alloc: Global, wide: Wide, tokens: &[Token<'_>]) -> Result<Comman
 {
     let (word, rest) = word(tokens)?;
     if is_keyword("create", word) {
-        return create(alloc, rest);
+        return create(alloc, wide, rest);
     }
     if is_keyword("insert", word) {
         return insert(alloc, wide, rest);

@@ -11,6 +11,7 @@ mod create;
 mod cut;
 mod error;
 mod item;
+mod key;
 mod keywords;
 mod laws;
 mod list;

@@ -50,7 +50,7 @@ fn outcome(answer: &Result<Command, ParseError>) -> &'static str {
     }
 }
 
-const CASES: [(&str, &str); 36] = [
+const CASES: [(&str, &str); 43] = [
     ("create user 'Alice", "create user"),
     ("CREATE User 'Alice", "create user"),
     ("create user Alice", "syntax"),
@@ -63,6 +63,19 @@ const CASES: [(&str, &str); 36] = [
     ("create relation R ( )", "syntax"),
     ("create relation R ( k int , )", "syntax"),
     ("create relation R ( k int ) )", "syntax"),
+    (
+        "create relation T ( a text , b int , c text ) key 2",
+        "create relation",
+    ),
+    ("create relation key ( key int ) KEY -1", "create relation"),
+    (
+        "create relation R ( k int ) key 9223372036854775808",
+        "number",
+    ),
+    ("create relation R ( k int ) key", "syntax"),
+    ("create relation R ( k int ) key two", "syntax"),
+    ("create relation R ( k int ) key 1 1", "syntax"),
+    ("create relation R ( k int ) 1", "syntax"),
     (
         "insert into belief 'Bob belief 'Alice not R values ( 'a , -0 , 007 )",
         "insert",
@@ -156,7 +169,7 @@ fn reprinted(alloc: Global, piece: &[u8]) -> Result<List<u8>, Fail> {
 }
 
 /// Commands, and their printed forms.
-const PRINTED: [(&str, &str); 16] = [
+const PRINTED: [(&str, &str); 18] = [
     ("create user 'Alice'", "create user 'Alice'"),
     ("create user 'Bob'", "create user 'Bob'"),
     ("create user 'Carol'", "create user 'Carol'"),
@@ -167,6 +180,14 @@ const PRINTED: [(&str, &str); 16] = [
     (
         "create relation Comments(cid text, note text, sid text)",
         "create relation Comments(cid text, note text, sid text)",
+    ),
+    (
+        "create relation T(a text,b int,c text)Key 02",
+        "create relation T(a text, b int, c text) key 2",
+    ),
+    (
+        "create relation key(key int) KEY -0",
+        "create relation key(key int) key 0",
     ),
     (
         "insert into BELIEF 'Alice' Sightings values('s2','Alice','crow','Lake Placid')",

@@ -16,7 +16,7 @@ use Rattle.bdb_plan.specs.PlanText.{plan_text}
 -- one relation, `S(k text, v text)`
 abbrev pub sightings : Catalog
 sightings = record {
-  rels = record { name = codes "S"; cols = record { name = codes "k"; kind = kinds.Text } ∷ record { name = codes "v"; kind = kinds.Text } ∷ [] } ∷ [];
+  rels = record { name = codes "S"; cols = record { name = codes "k"; kind = kinds.Text } ∷ record { name = codes "v"; kind = kinds.Text } ∷ []; key = 1 } ∷ [];
   users = [];
 }
 

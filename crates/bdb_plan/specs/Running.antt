@@ -90,13 +90,14 @@ meaning_of sight p = sorted_set row_cmp (rows_from sight p.take p.steps (start_o
 
 -- ---- reads
 
--- how often a step reads at most, to choose
+-- how often a step reads at most, to choose: of a relation once for how long its key is, twice for each row, and once more
 abbrev pub choice_reads : Sight → Reached → Step → ℕ
 choice_reads sight s (step.User item) = length sight.users + 1
-choice_reads sight s (step.Pos item rel) = 2 * length (sight.rows s.world rel) + 1
+choice_reads sight s (step.Pos item rel) = 2 * length (sight.rows s.world rel) + 2
 choice_reads sight s _ = 0
 
--- how often a step reads at most at which nothing is chosen
+-- How often a step reads at most at which nothing is chosen. To deny a tuple it reads how long the relation's key is, the
+-- tuple's number, each row, and once more.
 abbrev pub settled_reads : Sight → Reached → Step → ℕ
 settled_reads sight s (step.Edge item who) = 1
 settled_reads sight s (step.Neg item rel) = length (sight.rows s.world rel) + 3

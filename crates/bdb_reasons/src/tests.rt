@@ -12,7 +12,7 @@ fn curators(alloc: Global) -> Result<Catalog, AllocError> {
     let kind = Kind::Text;
     let cols = List::from_vec(vec![in alloc; ColDef { name: k, kind }, ColDef { name: v, kind }]?);
     let name = Txt::try_new(alloc, "S")?;
-    let rels = List::from_vec(vec![in alloc; RelDef { name, cols }]?);
+    let rels = List::from_vec(vec![in alloc; RelDef { name, cols, key: 1 }]?);
     let alice = Txt::try_new(alloc, "Alice")?;
     let bob = Txt::try_new(alloc, "Bob")?;
     let users = List::from_vec(vec![in alloc; alice, bob]?);

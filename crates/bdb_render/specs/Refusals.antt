@@ -3,7 +3,7 @@ use Rattle.std.specs.Prelude.{ℕ, codes, List, ◌++◌, Option, None, Some}
 use Rattle.bdb_base.specs.declared.kinds.Catalog.{Catalog}
 use Rattle.bdb_base.specs.declared.kinds.What.{What}
 use Rattle.bdb_base.specs.declared.kinds.What.TheVariants as what
-use Rattle.bdb_base.specs.Texts.{dotted, quoted}
+use Rattle.bdb_base.specs.Texts.{dotted, int_text, quoted}
 use Rattle.bdb_render.specs.declared.refusal.Refusal.{Refusal}
 use Rattle.bdb_render.specs.declared.refusal.Refusal.TheVariants as refusal
 use Rattle.bdb_render.specs.Replies.{line, signed_text}
@@ -35,6 +35,7 @@ cause_text catalog (refusal.Alias alias) = codes "alias " ++ alias
 cause_text catalog (refusal.Column alias col) = codes "column " ++ column_text alias col
 cause_text catalog (refusal.TakenUser name) = codes "taken " ++ quoted name
 cause_text catalog (refusal.TakenName name) = codes "taken " ++ name
+cause_text catalog (refusal.KeyLength length) = codes "key " ++ int_text length
 cause_text catalog refusal.Repeat = codes "repeat"
 cause_text catalog refusal.Deep = codes "deep"
 cause_text catalog refusal.Arity = codes "arity"

@@ -1,5 +1,5 @@
 -- The reply to `show tables`.
-use Rattle.std.specs.Prelude.{ℕ, codes, List, [], ◌++◌, length, map, Option, None, Some}
+use Rattle.std.specs.Prelude.{ℕ, ◌==◌, codes, List, [], ◌++◌, length, map, Option, None, Some, if◌then◌else◌}
 use Rattle.std.specs.Fmt.{decimal}
 use Rattle.std.specs.List.{flat_map, slice_get}
 use Rattle.std.specs.Option.{option_map_or}
@@ -29,8 +29,16 @@ abbrev pub user_line : Catalog → ℕ → List ℕ
 user_line catalog uid = line (codes "user " ++ decimal uid ++ codes " " ++ quoted (user_name catalog uid))
 
 -- the name of a relation, and its columns in parentheses
+abbrev pub columns_text : RelDef → List ℕ
+columns_text def = codes "relation " ++ def.name ++ codes "(" ++ joined (map column_text def.cols) ++ codes ")"
+
+-- how many columns a key has; nothing where it has one
+abbrev pub key_text : ℕ → List ℕ
+key_text key = if key == 1 then [] else codes " key " ++ decimal key
+
+-- the name of a relation, its columns, and how many of them its key has
 abbrev pub relation_line : RelDef → List ℕ
-relation_line def = line (codes "relation " ++ def.name ++ codes "(" ++ joined (map column_text def.cols) ++ codes ")")
+relation_line def = line (columns_text def ++ key_text def.key)
 
 abbrev pub tuple_line : Catalog → Tuple → List ℕ
 tuple_line catalog t = line (codes "tuple " ++ tuple_text catalog t)

@@ -1,11 +1,11 @@
 // Why a command is refused, and the reply to it.
 ghost use Rattle.std.specs.Prelude.{◌≡◌, ◌++◌, codes, IfOk, OnOk};
-ghost use Rattle.bdb_base.specs.Texts.{dotted, quoted};
+ghost use Rattle.bdb_base.specs.Texts.{dotted, int_text, quoted};
 ghost use Rattle.bdb_render.specs.Refusals.{cause_text, column_text, refusal_reply, what_text};
 ghost use Rattle.bdb_render.specs.Replies.{signed_text};
 
 use crate::lines;
-use bdb_base::{Catalog, List, Sign, Tuple, Txt, What, append_dotted, append_quoted};
+use bdb_base::{Catalog, List, Sign, Tuple, Txt, What, append_dotted, append_int, append_quoted};
 use std::alloc::{AllocError, Global};
 
 /// Why a command, or the rest of a script, is refused.
@@ -35,6 +35,8 @@ pub enum Refusal {
     TakenUser(Txt),
     /// There is a relation or column of that name.
     TakenName(Txt),
+    /// The length said of a new relation's key is below 1, or above the number of its columns.
+    KeyLength(i64),
     /// Two neighbours of a path are equal.
     Repeat,
     /// A path is too long.
@@ -87,6 +89,7 @@ fn append_cause(out: &mut Vec<u8>, catalog: &Catalog, refusal: &Refusal) -> Resu
         Refusal::Column { alias, col } => append_column(out, b"column ", alias, col),
         Refusal::TakenUser(name) => append_user(out, b"taken ", name),
         Refusal::TakenName(name) => append_name(out, b"taken ", name),
+        Refusal::KeyLength(length) => append_key(out, *length),
         Refusal::Repeat => out.extend_from_slice(b"repeat"),
         Refusal::Deep => out.extend_from_slice(b"deep"),
         Refusal::Arity => out.extend_from_slice(b"arity"),
@@ -113,6 +116,14 @@ fn append_user(out: &mut Vec<u8>, word: &[u8], name: &Txt) -> Result<(), AllocEr
 {
     out.extend_from_slice(word)?;
     append_quoted(out, name.as_bytes())
+}
+
+/// Appends the length that was said of a key.
+fn append_key(out: &mut Vec<u8>, length: i64) -> Result<(), AllocError>
+    ensures { OnOk result (out.new.items ≡ out.old.items ++ (codes "key " ++ int_text length)) }
+{
+    out.extend_from_slice(b"key ")?;
+    append_int(out, length)
 }
 
 /// Appends a word and a column, behind its alias where it has one.

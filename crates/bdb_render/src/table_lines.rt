@@ -1,6 +1,6 @@
 // The lines of the reply to `show tables`, appended to a buffer.
 ghost use Rattle.std.specs.Prelude.{◌≡◌, ◌+◌, ◌^◌, ◌++◌, ◌<◌, OnOk};
-ghost use Rattle.bdb_render.specs.Tables.{edge_line, relation_line, row_line, signed_at, suffix_text, tuple_line, user_line, world_line};
+ghost use Rattle.bdb_render.specs.Tables.{columns_text, edge_line, key_text, relation_line, row_line, signed_at, suffix_text, tuple_line, user_line, world_line};
 
 use crate::lines::{append_mark, append_path, append_signed, append_tuple};
 use crate::names;
@@ -25,12 +25,33 @@ pub fn append_user(out: &mut Vec<u8>, catalog: &Catalog, at: usize) -> Result<()
 pub fn append_relation(out: &mut Vec<u8>, def: &RelDef) -> Result<(), AllocError>
     ensures { OnOk result (out.new.items ≡ out.old.items ++ relation_line def.now) }
 {
+    append_columns(out, def)?;
+    append_key(out, def.key)?;
+    out.push(b'\n')?;
+    Ok(())
+}
+
+/// Appends the name of a relation and its columns.
+fn append_columns(out: &mut Vec<u8>, def: &RelDef) -> Result<(), AllocError>
+    ensures { OnOk result (out.new.items ≡ out.old.items ++ columns_text def.now) }
+{
     out.extend_from_slice(b"relation ")?;
     out.extend_from_slice(def.name.as_bytes())?;
     out.push(b'(')?;
     append_separated(out, b", ", def.cols.as_slice())?;
-    out.extend_from_slice(b")\n")?;
+    out.push(b')')?;
     Ok(())
+}
+
+/// Appends how many columns a key has; nothing where it has one.
+fn append_key(out: &mut Vec<u8>, key: u32) -> Result<(), AllocError>
+    ensures { OnOk result (out.new.items ≡ out.old.items ++ key_text key) }
+{
+    if key == 1 {
+        return Ok(());
+    }
+    out.extend_from_slice(b" key ")?;
+    append_decimal(out, key as u64)
 }
 
 /// Appends the line of a tuple.

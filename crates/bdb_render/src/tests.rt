@@ -1,11 +1,12 @@
 // The texts of values, and the replies of worked commands.
 use super::*;
 use bdb_base::{Catalog, ColDef, Held, Kind, List, RelDef, Sign, Tuple, Txt, Value, What, World};
+use bdb_canon::Canon;
 use std::alloc::{AllocError, Global};
 use std::test::Fail;
 
-/// The relation S, with a key k and a value v, and the users Alice and Bob.
-fn curators(alloc: Global) -> Result<Catalog, AllocError> {
+/// The relation S, with the columns k and v and a key of so many of them, and the users Alice and Bob.
+fn curators(alloc: Global, key: u32) -> Result<Catalog, AllocError> {
     let mut cols = List::new(alloc);
     for name in ["k", "v"] {
         cols.push(ColDef {
@@ -15,7 +16,7 @@ fn curators(alloc: Global) -> Result<Catalog, AllocError> {
     }
     let name = Txt::try_new(alloc, "S")?;
     let mut rels = List::new(alloc);
-    rels.push(RelDef { name, cols })?;
+    rels.push(RelDef { name, cols, key })?;
     let mut users = List::new(alloc);
     for name in ["Alice", "Bob"] {
         users.push(Txt::try_new(alloc, name)?)?;
@@ -50,7 +51,7 @@ fn values_print(rt: HostRuntime) -> Result<(), Fail> {
 #[test]
 fn worlds_print(rt: HostRuntime) -> Result<(), Fail> {
     let alloc = rt.alloc();
-    let catalog = curators(alloc)?;
+    let catalog = curators(alloc, 1)?;
     let worlds = [
         (Sign::Minus, true, "- S('s1', 'eagle') explicit\nok 1\n"),
         (Sign::Minus, false, "- S('s1', 'eagle') inherited\nok 1\n"),
@@ -85,7 +86,7 @@ fn worlds_print(rt: HostRuntime) -> Result<(), Fail> {
 #[test]
 fn rows_and_counts_print(rt: HostRuntime) -> Result<(), Fail> {
     let alloc = rt.alloc();
-    let catalog = curators(alloc)?;
+    let catalog = curators(alloc, 1)?;
     let mut rows = List::new(alloc);
     for name in ["Alice", "Bob"] {
         let first = Value::Text(Txt::try_new(alloc, name)?);
@@ -110,10 +111,34 @@ fn rows_and_counts_print(rt: HostRuntime) -> Result<(), Fail> {
     Ok(())
 }
 
+/// The reply to `show tables` where nothing is stated, and the key of the relation has so many columns.
+fn unstated(alloc: Global, key: u32) -> Result<List<u8>, AllocError> {
+    let catalog = curators(alloc, key)?;
+    let canon = Canon {
+        worlds: List::new(alloc),
+        tuples: List::new(alloc),
+        edges: List::new(alloc),
+        rows: List::new(alloc),
+    };
+    tables_reply(alloc, &catalog, &canon)
+}
+
+#[test]
+fn keys_print(rt: HostRuntime) -> Result<(), Fail> {
+    let alloc = rt.alloc();
+    let one = unstated(alloc, 1)?;
+    let want = "user 1 'Alice'\nuser 2 'Bob'\nrelation S(k text, v text)\nok 3\n";
+    assert_eq!(rt; one.as_slice(), want.as_bytes());
+    let two = unstated(alloc, 2)?;
+    let want = "user 1 'Alice'\nuser 2 'Bob'\nrelation S(k text, v text) key 2\nok 3\n";
+    assert_eq!(rt; two.as_slice(), want.as_bytes());
+    Ok(())
+}
+
 #[test]
 fn refusals_print(rt: HostRuntime) -> Result<(), Fail> {
     let alloc = rt.alloc();
-    let catalog = curators(alloc)?;
+    let catalog = curators(alloc, 1)?;
     let sign = Sign::Plus;
     let tuple = sighting(alloc, "crow")?;
     let refusals = vec![in alloc;
@@ -130,6 +155,8 @@ fn refusals_print(rt: HostRuntime) -> Result<(), Fail> {
             Refusal::TakenName(Txt::try_new(alloc, "Users")?),
             "error taken Users\n"
         ),
+        (Refusal::KeyLength(0), "error key 0\n"),
+        (Refusal::KeyLength(-2), "error key -2\n"),
         (
             Refusal::AliasTwice(Txt::try_new(alloc, "X")?),
             "error alias twice X\n"

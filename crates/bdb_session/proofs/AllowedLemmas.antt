@@ -141,8 +141,8 @@ allowed c clean names = and_from (not (some_text is_unclean c)) (names_allowed c
 
 pub printable_is_allowed : (c : Command) → IsPrintable c → is_allowed c ≡ true
 printable_is_allowed (CreateUser name) p = allowed (CreateUser name) (content_is_clean name p.parts) refl
-printable_is_allowed (CreateRelation name cols) p =
-    allowed (CreateRelation name cols) refl (and_from (nat_lt 0 (length cols)) (is_plain name && list_all (λ c. is_plain c.name) cols) (some_columns cols p.filled)
+printable_is_allowed (CreateRelation name cols key) p =
+    allowed (CreateRelation name cols key) refl (and_from (nat_lt 0 (length cols)) (is_plain name && list_all (λ c. is_plain c.name) cols) (some_columns cols p.filled)
     (and_from (is_plain name) (list_all (λ c. is_plain c.name) cols) (word_is_plain name p.parts.0.0) (columns_are_plain cols p.parts.1)))
 printable_is_allowed (Insert users sign rel vals) p =
     allowed (Insert users sign rel vals) (or_from _ _ (users_are_clean users p.parts.0) (values_are_clean vals p.parts.2)) refl

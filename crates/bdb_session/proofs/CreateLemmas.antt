@@ -27,6 +27,7 @@ use Rattle.bdb_session.specs.Within.{IsSaid, TellsWithin}
 use Rattle.bdb_session.proofs.CatalogLemmas.{user_is_valid, relation_is_valid}
 use Rattle.bdb_session.proofs.LimitLemmas.{limit_is, at_most, past}
 use Rattle.bdb_session.proofs.OutcomeLemmas.{becomes_full, becomes_done}
+use Rattle.bdb_session.proofs.RelationLemmas.{counts_stay}
 use Rattle.bdb_session.proofs.WithinLemmas.{read_tells, said_tells}
 use Rattle.bdb_update.proofs.CallLemmas.{gone_itself}
 use Rattle.bdb_val.proofs.Calls.{HasGone}
@@ -120,7 +121,8 @@ relation_passes : (t : Tables) (k : Known) (s : State) (def : RelDef) → Agrees
 relation_passes t k s def a =
     let users = ap (λ (c : Catalog). length c.users) a.catalog in
     let rels = ap (λ (c : Catalog). length c.rels + 1) a.catalog ∙ sym (length_push s.base.catalog.rels def) in
-    limit_is (relation_added def s).base (relation_limit k) (length k.catalog.users) (length k.catalog.rels + 1) k.counts refl users rels a.counts
+    limit_is (relation_added def s).base (relation_limit k) (length k.catalog.users) (length k.catalog.rels + 1) k.counts refl users rels
+    (a.counts ∙ counts_stay s.base def a.base.valid.stmts.belong)
 
 pub relation_full : (t : Tables) (k : Known) (s : State) (def : RelDef) (what : What) → relation_limit k ≡ Some what → Agrees t k s
     → bound_outcome s (CreateRelation def) ≡ Refused (Full what)
@@ -157,6 +159,6 @@ relation_tells k now def rel old mid new result number fits room some gone adds 
     (λ s a. record {
       base = adds s.base (may_add_relation old.kept k s def rel number fits room a);
       catalog = catalog ∙ ap (λ (c : Catalog). with_relation c def) a.catalog;
-      counts = counts ∙ a.counts;
+      counts = counts ∙ a.counts ∙ counts_stay s.base def a.base.valid.stmts.belong;
     })
     (λ s. said (relation_added def s))

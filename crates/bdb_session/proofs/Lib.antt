@@ -15,6 +15,7 @@ pub mod OpenLemmas
 pub mod OutcomeLemmas
 pub mod QueryLemmas
 pub mod ReadLemmas
+pub mod RelationLemmas
 pub mod ServedLemmas
 pub mod StepLemmas
 pub mod TablesLemmas

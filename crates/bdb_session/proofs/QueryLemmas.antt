@@ -45,6 +45,7 @@ use Rattle.bdb_tables.specs.Stored.{StoredAs, name_of}
 use Rattle.bdb_plan.proofs.RunLemmas.{meaning_are_choices}
 use Rattle.bdb_trans.proofs.PlanLemmas.{plans_fit_sights, plans_mean_answers}
 use Rattle.bdb_update.proofs.CallLemmas.{gone_itself}
+use Rattle.bdb_update.proofs.GrammarLemmas.{over_in_grammar}
 use Rattle.bdb_val.proofs.Calls.{HasGone}
 
 -- ---- what tables show
@@ -52,6 +53,7 @@ use Rattle.bdb_val.proofs.Calls.{HasGone}
 -- tables that store a base have it
 pub stored_has_base : (ns : Names) (ts : Tuples) (t : Tables) (b : Contents) → StoredAs ns ts t b → HaveBase ns ts t b
 stored_has_base ns ts t b h = record {
+  grammar = over_in_grammar b.stmts b.stmts ns ts t b h;
   name = name_of b.catalog.users;
   users = h.users;
   none = refl;

@@ -11,6 +11,7 @@ use Rattle.std.proofs.lemmas.Bool.Decides.{nat_tests}
 use Rattle.std.proofs.lemmas.Cmp.{nat_list_cmp_total, tied_itself}
 use Rattle.std.proofs.lemmas.List.{length-map}
 use Rattle.bdb_base.specs.Bases.{Contents, distinct_count, key_lengths}
+use Rattle.bdb_base.specs.Clash.{key_of}
 use Rattle.bdb_base.specs.Safety.{query_fits}
 use Rattle.bdb_base.specs.Same.{same_tuple, same_sign}
 use Rattle.bdb_base.specs.SameLemmas.{same_tuple-Decides, same_sign-Decides}
@@ -71,9 +72,6 @@ is_T false h = absurd h
 one : {X : Type 0} (o : Option X) (x y : X) → o ≡ Some x → o ≡ Some y → x ≡ y
 one o x y p q = cc
 
-same_first : (v x : Value) (vs xs : List Value) → v ∷ vs ≡ x ∷ xs → v ≡ x
-same_first v x vs xs e = cc
-
 module _ (t : Tables) (h : CanBeRun t) (w rel : ℕ) (nw : IsNum w) (nr : IsNum rel) where
   abbrev Here : ValKey × Mark → Type 0
   Here e = IsHere t h w rel nw nr e
@@ -89,13 +87,13 @@ module _ (t : Tables) (h : CanBeRun t) (w rel : ℕ) (nw : IsNum w) (nr : IsNum 
   one_key d e j k same =
       let u : j.u ≡ k.u = sym (tuple_is d j) ∙ same ∙ tuple_is e k in
       let number : d.0.3 ≡ e.0.3 = one (h.tuples.number k.u) d.0.3 e.0.3 (ap h.tuples.number (sym u) ∙ h.held.named d.0.3 j.u j.named) (h.held.named e.0.3 k.u k.named) in
-      let value : d.0.2 ≡ e.0.2 = same_first d.0.2 e.0.2 j.rest k.rest (sym j.vals ∙ ap (λ (x : Tuple). x.vals) u ∙ k.vals) in
+      let values : d.0.2 ≡ e.0.2 = sym j.vals ∙ ap (λ (x : Tuple). key_of (sight_of t).keys x) u ∙ k.vals in
       let world : d.0.0 ≡ e.0.0 = j.at_world ∙ sym k.at_world in
       let relation : d.0.1 ≡ e.0.1 = j.at_rel ∙ sym k.at_rel in
-      ap (λ n. key n d.0.1 d.0.2 d.0.3) world ∙ ap (λ n. key e.0.0 n d.0.2 d.0.3) relation ∙ ap (λ v. key e.0.0 e.0.1 v d.0.3) value ∙ ap (λ n. key e.0.0 e.0.1 e.0.2 n) number
+      ap (λ n. key n d.0.1 d.0.2 d.0.3) world ∙ ap (λ n. key e.0.0 n d.0.2 d.0.3) relation ∙ ap (λ vs. key e.0.0 e.0.1 vs d.0.3) values ∙ ap (λ n. key e.0.0 e.0.1 e.0.2 n) number
     where
-      key : ℕ → ℕ → Value → ℕ → ValKey
-      key a b v c = (a, b, v, c)
+      key : ℕ → ℕ → List Value → ℕ → ValKey
+      key a b vs c = (a, b, vs, c)
 
   none_again : (d : ValKey × Mark) → Here d → (es : List (ValKey × Mark)) → AllByRecursion Here es → below_all bytes_cmp (place val_codec d.0) (map (raw val_codec) es) ≡ true
       → list_any (same_tuple (tuple_in d)) (map tuple_in es) ≡ false

@@ -46,6 +46,7 @@ refusal_from (bind.Alias alias) = Some (refusal.Alias alias)
 refusal_from (bind.Column alias col) = Some (refusal.Column alias col)
 refusal_from (bind.TakenUser name) = Some (refusal.TakenUser name)
 refusal_from (bind.TakenName name) = Some (refusal.TakenName name)
+refusal_from (bind.KeyLength length) = Some (refusal.KeyLength length)
 refusal_from bind.Repeat = Some refusal.Repeat
 refusal_from bind.Deep = Some refusal.Deep
 refusal_from bind.Arity = Some refusal.Arity

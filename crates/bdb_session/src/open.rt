@@ -1,12 +1,12 @@
 // Opening a session over tables.
-ghost use Rattle.std.specs.Prelude.{◌≡◌, ℕ, false, IfOk, OnOk, OnErr, IsErrOf};
+ghost use Rattle.std.specs.Prelude.{◌≡◌, ℕ, true, false, IfOk, OnOk, OnErr, IsErrOf};
 ghost use Rattle.std.specs.FinMap as tables;
-ghost use Rattle.bdb_base.specs.Bases.{empty_contents};
+ghost use Rattle.bdb_base.specs.Bases.{Contents, empty_contents};
 ghost use Rattle.bdb_base.specs.Causes.{HasCause, Rises};
 ghost use Rattle.bdb_catalog.specs.Bases.{StoresSome};
-ghost use Rattle.bdb_catalog.specs.Opening.{StandForSome};
-ghost use Rattle.bdb_decode.specs.Opening.{AreDamaged, HaveOtherFormat};
-ghost use Rattle.bdb_keep.specs.Seen.{IsAtRest, IsStill, NeverFall, Unchanged};
+ghost use Rattle.bdb_catalog.specs.Opening.{StandFor, StandForSome};
+ghost use Rattle.bdb_decode.specs.Opening.{AreDamaged, HaveOtherFormat, TellsStand};
+ghost use Rattle.bdb_keep.specs.Seen.{IsAtRest, IsStill, NeverFall, Steps, Unchanged};
 ghost use Rattle.bdb_tables.specs.Stored.{Stores};
 ghost use Rattle.bdb_session.specs.Committing.{IsCommitted};
 ghost use Rattle.bdb_session.specs.Known.{Agrees, AgreesOnSome};
@@ -16,19 +16,22 @@ ghost use Rattle.bdb_session.specs.Outcome.{start_from};
 use crate::session::Session;
 use crate::stop::StopError;
 use crate::transact::{begin, commit, stop_from};
-use bdb_base::{Catalog, List};
+use bdb_base::{Base, Catalog, List};
 use bdb_bind::NameIndex;
 use bdb_canon::Counts;
-use bdb_catalog::{read_format, read_relations, read_users, write_empty};
-use bdb_decode::{OpenError, decode};
+use bdb_catalog::{read_relations, read_users, write_empty};
+use bdb_decode::{OpenError, Stand, stand_of};
 use bdb_keep::Keeper;
-use bdb_stored::counts_of;
+use bdb_stored::{counts_of, write_all_tables};
+use bdb_tables::TabError;
 use std::alloc::Global;
 
 impl Session {
     /// A session over the base that the tables stand for, whatever bytes they have. Tables with no row are given those of the empty
-    /// base, by one commit; others stay as they are, and nothing is written to them, whatever is answered. `Damaged` and `Format` come
-    /// exactly as they do of `decode`; then, too, the tables stay as they are, and as they have rows nothing is written.
+    /// base, and tables of the format before this one are written in this one, each by one commit, after which nothing can be
+    /// refused. Others stay as they are, and nothing is written to them, whatever is answered. `Damaged` and `Format` come exactly as
+    /// they do where tables of any bytes are decoded; then, too, the tables stay as they are, and nothing is written. After any Err the
+    /// rows and what is committed are as they were.
     pub fn open<K: Keeper>(alloc: Global, keeper: &mut K) -> Result<Self, OpenError>
         requires stopped { (K.seen keeper.old).running ≡ false }
         ensures rest { IsAtRest (K.seen keeper.old) }
@@ -40,16 +43,17 @@ impl Session {
         ensures commits { OnOk result (Rises (opening (K.seen keeper.old).kept) (K.seen keeper.old).commits (K.seen keeper.new).commits) }
         ensures unchanged { OnOk result (opening (K.seen keeper.old).kept ≡ 0 → Unchanged (K.seen keeper.old) (K.seen keeper.new)) }
         ensures unwritten { opening (K.seen keeper.old).kept ≡ 0 → (K.seen keeper.new).writes ≡ (K.seen keeper.old).writes }
+        ensures refused { ((b : Contents) → StandFor (K.seen keeper.old).kept b → ⊥) → (K.seen keeper.new).writes ≡ (K.seen keeper.old).writes }
         ensures still { IsStill (K.seen keeper.new) }
         ensures never_fall { NeverFall (K.seen keeper.old) (K.seen keeper.new) }
         ensures cause { HasCause (K.seen keeper.old).faults (K.seen keeper.new).faults result OpenError.Fault }
         ensures err { OnErr result (Unchanged (K.seen keeper.old) (K.seen keeper.new)) }
     {
-        match decode(alloc, keeper) {
-            Ok(_) => {}
+        let stand = match stand_of(alloc, keeper) {
+            Ok(stand) => stand,
             Err(error) => return Err(error),
-        }
-        match open_held(alloc, keeper) {
+        };
+        match open_held(alloc, keeper, &stand) {
             Ok(session) => Ok(session),
             Err(StopError::Fault) => Err(OpenError::Fault),
             Err(StopError::Memory) => Err(OpenError::Memory),
@@ -58,9 +62,9 @@ impl Session {
 }
 
 /// A session over tables that stand for a base.
-fn open_held<K: Keeper>(alloc: Global, keeper: &mut K) -> Result<Session, StopError>
+fn open_held<K: Keeper>(alloc: Global, keeper: &mut K, stand: &Stand) -> Result<Session, StopError>
     requires still { IsStill (K.seen keeper.old) }
-    requires base { StandForSome (K.seen keeper.old).kept }
+    requires stand { TellsStand (K.seen keeper.old).kept stand.now }
     ensures opened { IfOk result (λ session. Opens (K.seen keeper.old).kept (K.seen keeper.new).kept session) }
     ensures agrees { IfOk result (λ session. AgreesOnSome (K.seen keeper.new).kept session) }
     ensures commits { OnOk result (Rises (opening (K.seen keeper.old).kept) (K.seen keeper.old).commits (K.seen keeper.new).commits) }
@@ -71,14 +75,14 @@ fn open_held<K: Keeper>(alloc: Global, keeper: &mut K) -> Result<Session, StopEr
     ensures cause { HasCause (K.seen keeper.old).faults (K.seen keeper.new).faults result StopError.Fault }
     ensures err { OnErr result (Unchanged (K.seen keeper.old) (K.seen keeper.new)) }
 {
-    match read_format(alloc, keeper) {
-        Ok(Some(_)) => read_session(alloc, keeper),
-        Ok(None) => new_session(alloc, keeper),
-        Err(error) => Err(stop_from(error)),
+    match stand {
+        Stand::Empty => new_session(alloc, keeper),
+        Stand::Stored(_) => read_session(alloc, keeper),
+        Stand::Former(base) => migrate(alloc, keeper, base),
     }
 }
 
-/// A session over the base that the tables store.
+/// A session over the base that the tables store, where no transaction runs.
 fn read_session<K: Keeper>(alloc: Global, keeper: &mut K) -> Result<Session, StopError>
     requires still { IsStill (K.seen keeper.old) }
     requires base { StoresSome (K.seen keeper.old).kept }
@@ -89,17 +93,32 @@ fn read_session<K: Keeper>(alloc: Global, keeper: &mut K) -> Result<Session, Sto
     ensures never_fall { NeverFall (K.seen keeper.old) (K.seen keeper.new) }
     ensures cause { HasCause (K.seen keeper.old).faults (K.seen keeper.new).faults result StopError.Fault }
 {
+    match session_of(alloc, keeper) {
+        Ok(session) => Ok(session),
+        Err(error) => Err(stop_from(error)),
+    }
+}
+
+/// A session over the base that the tables store, whether a transaction runs or not.
+fn session_of<K: Keeper>(alloc: Global, keeper: &mut K) -> Result<Session, TabError>
+    requires base { StoresSome (K.seen keeper.old).kept }
+    ensures knows { IfOk result (λ session. KnowsStored (K.seen keeper.old).kept session) }
+    ensures kept { OnOk result ((K.seen keeper.new).kept ≡ (K.seen keeper.old).kept) }
+    ensures writes { (K.seen keeper.new).writes ≡ (K.seen keeper.old).writes }
+    ensures counts { NeverFall (K.seen keeper.old) (K.seen keeper.new) }
+    ensures steps { Steps (K.seen keeper.old) (K.seen keeper.new) result TabError.Fault }
+{
     let users = match read_users(alloc, keeper) {
         Ok(users) => users,
-        Err(error) => return Err(stop_from(error)),
+        Err(error) => return Err(error),
     };
     let rels = match read_relations(alloc, keeper) {
         Ok(rels) => rels,
-        Err(error) => return Err(stop_from(error)),
+        Err(error) => return Err(error),
     };
     let counts = match counts_of(alloc, keeper) {
         Ok(counts) => counts,
-        Err(error) => return Err(stop_from(error)),
+        Err(error) => return Err(error),
     };
     let catalog = Catalog { rels, users };
     match NameIndex::of(alloc, &catalog) {
@@ -109,7 +128,52 @@ fn read_session<K: Keeper>(alloc: Global, keeper: &mut K) -> Result<Session, Sto
             index,
             alloc,
         }),
-        Err(_) => Err(StopError::Memory),
+        Err(_) => {
+            keeper.undo();
+            Err(TabError::Memory)
+        }
+    }
+}
+
+/// Makes the tables those of a base, whatever rows they had, in a transaction of its own, with a session over it. The session is
+/// made before the commit: afterwards nothing is asked for that can be refused.
+fn migrate<K: Keeper>(alloc: Global, keeper: &mut K, base: &Base) -> Result<Session, StopError>
+    requires still { IsStill (K.seen keeper.old) }
+    ensures agrees { IfOk result (λ session. Agrees (K.seen keeper.new).kept session (start_from base.now)) }
+    ensures committed { IsCommitted (K.seen keeper.old) (K.seen keeper.new) result StopError.Fault }
+{
+    match begin(keeper) {
+        Ok(()) => {}
+        Err(stop) => return Err(stop),
+    }
+    let session = match written_session(alloc, keeper, base) {
+        Ok(session) => session,
+        Err(error) => return Err(stop_from(error)),
+    };
+    match commit(keeper) {
+        Ok(()) => Ok(session),
+        Err(stop) => Err(stop),
+    }
+}
+
+/// Makes the tables those of a base, whatever rows they had, with a session over it.
+fn written_session<K: Keeper>(
+    alloc: Global,
+    keeper: &mut K,
+    base: &Base,
+) -> Result<Session, TabError>
+    requires running { (K.seen keeper.old).running ≡ true }
+    ensures agrees { IfOk result (λ session. Agrees (K.seen keeper.new).kept session (start_from base.now)) }
+    ensures counts { NeverFall (K.seen keeper.old) (K.seen keeper.new) }
+    ensures steps { Steps (K.seen keeper.old) (K.seen keeper.new) result TabError.Fault }
+{
+    match write_all_tables(alloc, keeper, base) {
+        Ok(()) => {}
+        Err(error) => return Err(error),
+    }
+    match session_of(alloc, keeper) {
+        Ok(session) => Ok(session),
+        Err(error) => Err(error),
     }
 }
 

@@ -21,6 +21,7 @@ pub(crate) fn refusal_from(error: BindError) -> Option<Refusal>
         BindError::Column { alias, col } => Some(Refusal::Column { alias, col }),
         BindError::TakenUser(name) => Some(Refusal::TakenUser(name)),
         BindError::TakenName(name) => Some(Refusal::TakenName(name)),
+        BindError::KeyLength(length) => Some(Refusal::KeyLength(length)),
         BindError::Repeat => Some(Refusal::Repeat),
         BindError::Deep => Some(Refusal::Deep),
         BindError::Arity => Some(Refusal::Arity),

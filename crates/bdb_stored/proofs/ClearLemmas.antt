@@ -9,7 +9,7 @@ use Rattle.std.specs.Ordering.{eq_by_cmp, is_le}
 use Rattle.std.proofs.lemmas.Bool.{cases_Bool, false≢true, false_from_ne_true, eqb-true, eq-eqb}
 use Rattle.std.proofs.lemmas.Bool.Decides.{nat_tests}
 use Rattle.std.proofs.lemmas.Cmp.{nat_list_cmp_total}
-use Rattle.bdb_base.specs.Bases.{empty_contents, is_user}
+use Rattle.bdb_base.specs.Bases.{empty_contents, is_user, key_lengths}
 use Rattle.bdb_base.specs.Segments.{is_suffix}
 use Rattle.bdb_base.specs.States.{edge_target, is_state}
 use Rattle.bdb_base.specs.declared.kinds.RelDef.{RelDef}
@@ -116,17 +116,17 @@ no_user : (i : ℕ) → is_user [] i ≡ false
 no_user i = grind (arith, nat_tests)
 
 abbrev format_put : Tables → Tables
-format_put t = with_change meta_codec t (tt, Some 2)
+format_put t = with_change meta_codec t (tt, Some 3)
 
 abbrev two_rows : Tables → Tables
 two_rows t = with_change depth_codec (format_put t) (0, Some 0)
 
 module _ (t : Tables) (none : HaveNoRows t) where
   nothing_else : {Key Row : Type 0} (c : Codec Key Row) → (c.number ≡ 1 → ⊥) → (c.number ≡ 6 → ⊥) → Gives c (two_rows t) (λ _. None)
-  nothing_else c a b = change_elsewhere c depth_codec b (format_put t) (λ _. None) (0, Some 0) (change_elsewhere c meta_codec a t (λ _. None) (tt, Some 2) (none_gives c t none))
+  nothing_else c a b = change_elsewhere c depth_codec b (format_put t) (λ _. None) (0, Some 0) (change_elsewhere c meta_codec a t (λ _. None) (tt, Some 3) (none_gives c t none))
 
   no_worlds : (n : ℕ) (k : List ℕ) → (nat_le 6 n && nat_le n 10) ≡ true → tables.get (format_put t) (n ∷ k) ≡ None
-  no_worlds n k e = change_same meta_codec (λ m. nat_eq m 1) t (tt, Some 2) refl n k (not_one n e) ∙ none n k
+  no_worlds n k e = change_same meta_codec (λ m. nat_eq m 1) t (tt, Some 3) refl n k (not_one n e) ∙ none n k
     where
       not_one : (m : ℕ) → (nat_le 6 m && nat_le m 10) ≡ true → nat_eq m 1 ≡ false
       not_one m f = grind (arith, nat_tests)
@@ -159,10 +159,10 @@ module _ (t : Tables) (none : HaveNoRows t) where
       by [] e = refl
       by (i ∷ w) e = absurd (false≢true e)
 
-  no_held : (k : ValKey) → None ≡ row_for (λ _. 1) [] (path_of root_names) (λ _. None) k
-  no_held k = by (path_of root_names k.0)
+  no_held : (keys : ℕ → ℕ) (k : ValKey) → None ≡ row_for keys [] (path_of root_names) (λ _. None) k
+  no_held keys k = by (path_of root_names k.0)
     where
-      by : (o : Option (List ℕ)) → None ≡ row_named (λ _. 1) [] k o None
+      by : (o : Option (List ℕ)) → None ≡ row_named keys [] k o None
       by None = refl
       by (Some w) = refl
 
@@ -175,9 +175,9 @@ module _ (t : Tables) (none : HaveNoRows t) where
     names = root_names;
     tuples = no_tuples;
     stored = record {
-      format = change_elsewhere meta_codec depth_codec (λ e. cc) (format_put t) (λ _. Some 2) (0, Some 0)
-          (gives_same meta_codec (format_put t) (with_row_at meta_codec (λ _. None) (tt, Some 2)) (λ _. Some 2) (λ k f. refl)
-          (change_gives meta_codec (λ a b fa fb. refl) t (λ _. None) (tt, Some 2) (record { key = tt; row = lit< tt }) (none_gives meta_codec t none)));
+      format = change_elsewhere meta_codec depth_codec (λ e. cc) (format_put t) (λ _. Some 3) (0, Some 0)
+          (gives_same meta_codec (format_put t) (with_row_at meta_codec (λ _. None) (tt, Some 3)) (λ _. Some 3) (λ k f. refl)
+          (change_gives meta_codec (λ a b fa fb. refl) t (λ _. None) (tt, Some 3) (record { key = tt; row = lit< tt }) (none_gives meta_codec t none)));
       users = gives_same user_codec (two_rows t) (λ _. None) (name_of []) (λ k f. no_names k) (nothing_else user_codec (λ e. cc) (λ e. cc));
       rels = gives_same rel_codec (two_rows t) (λ _. None) (slice_get no_rel) (λ k f. refl) (nothing_else rel_codec (λ e. cc) (λ e. cc));
       tuples = record {
@@ -190,15 +190,15 @@ module _ (t : Tables) (none : HaveNoRows t) where
       };
       states = root_users;
       worlds = is_root;
-      rows = gives_same val_codec (two_rows t) (λ _. None) _ (λ k f. no_held k) (nothing_else val_codec (λ e. cc) (λ e. cc));
+      rows = gives_same val_codec (two_rows t) (λ _. None) _ (λ k f. no_held (key_lengths no_rel) k) (nothing_else val_codec (λ e. cc) (λ e. cc));
       plain = nothing_else plain_codec (λ e. cc) (λ e. cc);
       outside = λ n k out.
           change_same depth_codec (λ m. nat_eq m 6) (format_put t) (0, Some 0) refl n k (outside_one 6 refl n out)
-          ∙ change_same meta_codec (λ m. nat_eq m 1) t (tt, Some 2) refl n k (outside_one 1 refl n out) ∙ none n k;
+          ∙ change_same meta_codec (λ m. nat_eq m 1) t (tt, Some 3) refl n k (outside_one 1 refl n out) ∙ none n k;
     };
   }
 
 -- the two rows, put one after the other, store the empty base
-pub two_puts : (t u v : Tables) → HaveNoRows t → u ≡ tables.insert t (place meta_codec tt) (meta_codec.row_bytes 2) → v ≡ tables.insert u (place depth_codec 0) (depth_codec.row_bytes 0) → Stores v empty_contents
+pub two_puts : (t u v : Tables) → HaveNoRows t → u ≡ tables.insert t (place meta_codec tt) (meta_codec.row_bytes 3) → v ≡ tables.insert u (place depth_codec 0) (depth_codec.row_bytes 0) → Stores v empty_contents
 two_puts t u v none a b =
     subst (λ x. Stores x empty_contents) (sym (b ∙ ap (λ x. tables.insert x (place depth_codec 0) (depth_codec.row_bytes 0)) a)) (two_rows_store_empty t none)

@@ -36,8 +36,10 @@ use Rattle.bdb_tables.specs.Rows.{Tuples}
 use Rattle.bdb_tables.specs.Spans.{AreUnder}
 use Rattle.bdb_tables.specs.Stored.{StoredAs}
 use Rattle.bdb_update.proofs.GrammarLemmas.{stored_is_in_grammar}
+use Rattle.bdb_update.proofs.KeyLemmas.{lengths_fit}
 use Rattle.bdb_update.proofs.StageLemmas.{over_has_tuples}
 use Rattle.bdb_update.proofs.SumLemmas.{sum_of_states, rows_are_few}
+use Rattle.bdb_update.specs.Keys.{keys_of}
 use Rattle.bdb_val.specs.Reads.{HaveTuples}
 use Rattle.bdb_val.specs.Steps.{counted}
 use Rattle.bdb_val.specs.WorldReads.{AreRowsAt}
@@ -73,7 +75,7 @@ module _ (t : Tables) (b : Contents) (v : StoresValid t b) where
   abbrev names : AreNames ns
   names = h.states.names
 
-  pub consistent : IsConsistent (λ _. 1) b.stmts
+  pub consistent : IsConsistent (keys_of b) b.stmts
   consistent = valid_is_consistent b.catalog b.stmts v.valid
 
   pub one_path : (j k : ℕ) (w : List ℕ) → path_of ns j ≡ Some w → path_of ns k ≡ Some w → j ≡ k
@@ -124,38 +126,38 @@ module _ (t : Tables) (b : Contents) (v : StoresValid t b) where
 
     -- a sum over rows world by world
     sum_of_worlds : (f : List Held → ℕ) (ds : List (ℕ × ℕ)) (held : List (List Held)) → AllNamed (path_of ns) (numbers_of ds) → AreWorlds t ds held
-        → sum_by f held ≡ sum_by (λ w. f (world_of (λ _. 1) b.stmts w)) (items_of (path_of ns) (numbers_of ds))
+        → sum_by f held ≡ sum_by (λ w. f (world_of (keys_of b) b.stmts w)) (items_of (path_of ns) (numbers_of ds))
     sum_of_worlds f [] [] a r = refl
     sum_of_worlds f [] (x ∷ xs) a r = absurd r
     sum_of_worlds f (d ∷ ds) [] a r = absurd r
     sum_of_worlds f (d ∷ ds) (x ∷ xs) a r =
-        let g : List ℕ → ℕ = λ w. f (world_of (λ _. 1) b.stmts w) in
+        let g : List ℕ → ℕ = λ w. f (world_of (keys_of b) b.stmts w) in
         let w = first_named (path_of ns) d.0 (numbers_of ds) a in
-        let is : x ≡ world_of (λ _. 1) b.stmts w.0 = r.0 b.stmts ns ts w.0 consistent names h.tuples h.rows w.1 in
+        let is : x ≡ world_of (keys_of b) b.stmts w.0 = r.0 (keys_of b) b.stmts ns ts w.0 (lengths_fit t b.catalog.rels h.rels) consistent names h.tuples h.rows w.1 in
         let rest = sum_of_worlds f ds xs (rest_named (path_of ns) d.0 (numbers_of ds) a) r.1 in
-        sum_by-cons f x xs ∙ ap (λ y. f y + sum_by f xs) is ∙ ap (λ n. f (world_of (λ _. 1) b.stmts w.0) + n) rest
-        ∙ sym (ap (sum_by (λ w. f (world_of (λ _. 1) b.stmts w))) (items_cons (path_of ns) d.0 (numbers_of ds) w.0 w.1) ∙ sum_by-cons (λ w. f (world_of (λ _. 1) b.stmts w)) w.0 (items_of (path_of ns) (numbers_of ds)))
+        sum_by-cons f x xs ∙ ap (λ y. f y + sum_by f xs) is ∙ ap (λ n. f (world_of (keys_of b) b.stmts w.0) + n) rest
+        ∙ sym (ap (sum_by (λ w. f (world_of (keys_of b) b.stmts w))) (items_cons (path_of ns) d.0 (numbers_of ds) w.0 w.1) ∙ sum_by-cons (λ w. f (world_of (keys_of b) b.stmts w)) w.0 (items_of (path_of ns) (numbers_of ds)))
 
-    rows_sum : (held : List (List Held)) → AreWorlds t es held → sum_by (λ x. length x) held ≡ sum_by (row_count (λ _. 1) b.stmts) (states_of b.stmts)
-    rows_sum held r = sum_of_worlds (λ x. length x) es held wids_named r ∙ sum_over (row_count (λ _. 1) b.stmts)
+    rows_sum : (held : List (List Held)) → AreWorlds t es held → sum_by (λ x. length x) held ≡ sum_by (row_count (keys_of b) b.stmts) (states_of b.stmts)
+    rows_sum held r = sum_of_worlds (λ x. length x) es held wids_named r ∙ sum_over (row_count (keys_of b) b.stmts)
 
-    few_rows : sum_by (row_count (λ _. 1) b.stmts) (states_of b.stmts) ≤ 1310720000
-    few_rows = subst (λ n. n ≤ 1310720000) (sum_of_states b.stmts ns names h.worlds) (rows_are_few b.stmts ns consistent (leb-true (length b.stmts) most_statements v.valid.stmts.few_stmts) names.few)
+    few_rows : sum_by (row_count (keys_of b) b.stmts) (states_of b.stmts) ≤ 1310720000
+    few_rows = subst (λ n. n ≤ 1310720000) (sum_of_states (keys_of b) b.stmts ns names h.worlds) (rows_are_few (keys_of b) b.stmts ns consistent (leb-true (length b.stmts) most_statements v.valid.stmts.few_stmts) names.few)
 
     statements_sum : (held : List (List Held)) → AreWorlds t es held → sum_by explicit_rows held ≡ length b.stmts
     statements_sum held r =
-        sum_of_worlds explicit_rows es held wids_named r ∙ sum_over (λ w. explicit_rows (world_of (λ _. 1) b.stmts w))
+        sum_of_worlds explicit_rows es held wids_named r ∙ sum_over (λ w. explicit_rows (world_of (keys_of b) b.stmts w))
         ∙ same_sum (states_of b.stmts)
         ∙ sum_of_paths (states_of b.stmts) (ascending_apart path_exact (states_of b.stmts) (set_is_ascending path_exact (stated_prefixes b.stmts))) b.stmts (paths_are_members b.stmts b.stmts (λ p e. e))
       where
-        same_sum : (ws : List (List ℕ)) → sum_by (λ w. explicit_rows (world_of (λ _. 1) b.stmts w)) ws ≡ sum_by (λ w. length (at_path b.stmts w)) ws
+        same_sum : (ws : List (List ℕ)) → sum_by (λ w. explicit_rows (world_of (keys_of b) b.stmts w)) ws ≡ sum_by (λ w. length (at_path b.stmts w)) ws
         same_sum [] = refl
         same_sum (w ∷ ws) =
-            sum_by-cons (λ u. explicit_rows (world_of (λ _. 1) b.stmts u)) w ws
-            ∙ ap (λ n. n + sum_by (λ u. explicit_rows (world_of (λ _. 1) b.stmts u)) ws) (explicit_are_statements b.stmts v.valid.stmts.sorted consistent w)
+            sum_by-cons (λ u. explicit_rows (world_of (keys_of b) b.stmts u)) w ws
+            ∙ ap (λ n. n + sum_by (λ u. explicit_rows (world_of (keys_of b) b.stmts u)) ws) (explicit_are_statements (keys_of b) b.stmts v.valid.stmts.sorted consistent w)
             ∙ ap (λ n. length (at_path b.stmts w) + n) (same_sum ws) ∙ sym (sum_by-cons (λ u. length (at_path b.stmts u)) w ws)
 
-    pub rows_many : (held : List (List Held)) (rows : ℕ) → AreWorlds t es held → rows ≡ counted (sum_by (λ x. length x) held) → rows ≡ sum_by (row_count (λ _. 1) b.stmts) (states_of b.stmts)
+    pub rows_many : (held : List (List Held)) (rows : ℕ) → AreWorlds t es held → rows ≡ counted (sum_by (λ x. length x) held) → rows ≡ sum_by (row_count (keys_of b) b.stmts) (states_of b.stmts)
     rows_many held rows r e = let a = rows_sum held r in let f = few_rows in omega arith
 
     pub statements_many : (held : List (List Held)) (stmts : ℕ) → AreWorlds t es held → stmts ≡ counted (sum_by explicit_rows held) → stmts ≡ length b.stmts

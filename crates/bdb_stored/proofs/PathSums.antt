@@ -111,9 +111,9 @@ sum_of_paths ws d (x ∷ xs) h =
 said : List ℕ → Held → Stmt
 said w h = record { path = w; sign = h.sign; tuple = h.tuple }
 
-explicit_is_stated : (stmts : List Stmt) (w : List ℕ) (t : Tuple) (s : Sign) → explicit stmts w t s ≡ true → stated (λ _. 1) stmts w t s ≡ true
-explicit_is_stated stmts [] t s e = e
-explicit_is_stated stmts (i ∷ w) t s e = or_left (explicit stmts (i ∷ w) t s) _ e
+explicit_is_stated : (keys : ℕ → ℕ) (stmts : List Stmt) (w : List ℕ) (t : Tuple) (s : Sign) → explicit stmts w t s ≡ true → stated keys stmts w t s ≡ true
+explicit_is_stated keys stmts [] t s e = e
+explicit_is_stated keys stmts (i ∷ w) t s e = or_left (explicit stmts (i ∷ w) t s) _ e
 
 abbrev is_explicit : Held → Bool
 is_explicit h = h.explicit
@@ -219,18 +219,18 @@ listed_same (y ∷ ys) x = ap (λ b. b || is_member statement_cmp ys x) (is_eq_s
     ∙ ap (λ b. same_statement x y || b) (listed_same ys x)
 
 -- the explicit rows of a path's world are as many as the statements of the path
-pub explicit_are_statements : (stmts : List Stmt) → ascending statement_cmp stmts ≡ true → IsConsistent (λ _. 1) stmts → (w : List ℕ) → explicit_rows (world_of (λ _. 1) stmts w) ≡ length (at_path stmts w)
+pub explicit_are_statements : (keys : ℕ → ℕ) (stmts : List Stmt) → ascending statement_cmp stmts ≡ true → IsConsistent keys stmts → (w : List ℕ) → explicit_rows (world_of keys stmts w) ≡ length (at_path stmts w)
 unfolding said
-explicit_are_statements stmts sorted c w =
-    let rows = world_of (λ _. 1) stmts w in
+explicit_are_statements keys stmts sorted c w =
+    let rows = world_of keys stmts w in
     sym (length-map (filter is_explicit rows) (said w))
     ∙ ap (λ (xs : List Stmt). length xs)
-    (members_make_set statement_exact (map (said w) (filter is_explicit rows)) (at_path stmts w) (said_ascend w rows (tuples_stand_once (λ _. 1) stmts c w))
+    (members_make_set statement_exact (map (said w) (filter is_explicit rows)) (at_path stmts w) (said_ascend w rows (tuples_stand_once keys stmts c w))
     (filter_keeps_order statement_exact (λ x. same_path x.path w) stmts sorted) (λ x.
     both_ways_true (is_member statement_cmp (map (said w) (filter is_explicit rows)) x) (is_member statement_cmp (at_path stmts w) x)
     (λ e.
     let h = said_by w rows x e in
-    let t = (rows_are_the_world (λ _. 1) stmts w h.0).0 h.1 in
+    let t = (rows_are_the_world keys stmts w h.0).0 h.1 in
     let y = explicit_statement stmts w h.0.tuple h.0.sign (sym t.1 ∙ h.2) in
     let same : y.0 ≡ x = one_statement y.0 (said w h.0) y.2 y.3 y.4 ∙ h.3 in
     member_at_path stmts w x (listed_same stmts x ∙ ap (λ z. list_any (same_statement z) stmts) (sym same) ∙ y.1) (ap (λ (z : Stmt). z.path) (sym same) ∙ y.2))
@@ -238,7 +238,7 @@ explicit_are_statements stmts sorted c w =
     let m = at_path_member stmts w x e in
     let is = statement_explicit stmts w x (sym (listed_same stmts x) ∙ m.0) m.1 in
     let h : Held = record { tuple = x.tuple; sign = x.sign; explicit = explicit stmts w x.tuple x.sign } in
-    let row = (rows_are_the_world (λ _. 1) stmts w h).1 (explicit_is_stated stmts w x.tuple x.sign is, refl) in
+    let row = (rows_are_the_world keys stmts w h).1 (explicit_is_stated keys stmts w x.tuple x.sign is, refl) in
     ap (is_member statement_cmp (map (said w) (filter is_explicit rows))) (one_statement x (said w h) m.1 refl refl) ∙ said_there w rows h row is)))
   where
     made : List ℕ → Sign → Tuple → Stmt

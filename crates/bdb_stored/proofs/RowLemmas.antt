@@ -19,10 +19,12 @@ use Rattle.bdb_stored.specs.Worlds.{TellsStates}
 use Rattle.bdb_stored.specs.declared.named.NamedWorld.{NamedWorld}
 use Rattle.bdb_stored.proofs.LinkLemmas.{flat_more}
 use Rattle.bdb_stored.proofs.PlaceLemmas.{at_place}
+use Rattle.bdb_update.proofs.KeyLemmas.{lengths_fit}
+use Rattle.bdb_update.specs.Keys.{keys_of}
 
 -- the rows of the worlds of the first states
 abbrev pub FirstRows : ℕ → Tables → List CanonRow → Type 0
-FirstRows k t xs = IsPartOf (λ b. flat_map (rows_from (λ _. 1) b.stmts (states_of b.stmts) (tuples_of b.stmts)) (take k (states_of b.stmts))) t xs
+FirstRows k t xs = IsPartOf (λ b. flat_map (rows_from (keys_of b) b.stmts (states_of b.stmts) (tuples_of b.stmts)) (take k (states_of b.stmts))) t xs
 
 -- a row with a world's place
 placed_at : (tuples : List Tuple) (m n : ℕ) → m ≡ n → (hs : List Held) → map (row_placed tuples m) hs ≡ map (row_placed tuples n) hs
@@ -44,12 +46,12 @@ module _ (t : Tables) (worlds : List NamedWorld) (are : TellsStates t worlds) wh
       let s = v.stored.stored in
       let states = states_of b.stmts in
       let all = tuples_of b.stmts in
-      let f = rows_from (λ _. 1) b.stmts states all in
+      let f = rows_from (keys_of b) b.stmts states all in
       made
       ∙ ap (λ rs. now ++ rs)
-      (ap (map (row_placed tuples place)) (read b.stmts v.stored.names v.stored.tuples x.path (valid_is_consistent b.catalog b.stmts v.valid) s.states.names s.tuples s.rows a.state)
-      ∙ ap (λ us. map (row_placed us place) (world_of (λ _. 1) b.stmts x.path)) (told b v)
-      ∙ placed_at all place (place_in path_cmp states x.path) (same ∙ a.place) (world_of (λ _. 1) b.stmts x.path)
+      (ap (map (row_placed tuples place)) (read (keys_of b) b.stmts v.stored.names v.stored.tuples x.path (lengths_fit t b.catalog.rels s.rels) (valid_is_consistent b.catalog b.stmts v.valid) s.states.names s.tuples s.rows a.state)
+      ∙ ap (λ us. map (row_placed us place) (world_of (keys_of b) b.stmts x.path)) (told b v)
+      ∙ placed_at all place (place_in path_cmp states x.path) (same ∙ a.place) (world_of (keys_of b) b.stmts x.path)
       ∙ ap f a.path)
       ∙ ap (λ rs. rs ++ f (get_or states k [])) (first b v)
       ∙ sym (flat_more f states k [] a.within)
@@ -57,4 +59,4 @@ module _ (t : Tables) (worlds : List NamedWorld) (are : TellsStates t worlds) wh
   pub rows_all : (k : ℕ) (xs : List CanonRow) → length worlds ≤ k → FirstRows k t xs → IsPartOf rows_of t xs
   rows_all k xs l first b v =
       let n = ap length (are b v) ∙ length-map (states_of b.stmts) _ in
-      first b v ∙ ap (flat_map (rows_from (λ _. 1) b.stmts (states_of b.stmts) (tuples_of b.stmts))) (take_all k (states_of b.stmts) (omega arith))
+      first b v ∙ ap (flat_map (rows_from (keys_of b) b.stmts (states_of b.stmts) (tuples_of b.stmts))) (take_all k (states_of b.stmts) (omega arith))

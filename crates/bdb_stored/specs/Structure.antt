@@ -1,7 +1,7 @@
 -- What calls tell of the structure of a stored base.
 use Rattle.std.specs.Prelude.{◌≡◌, ℕ, ◌≤◌, ◌+◌, ◌*◌, true, length, List, [], map, Option}
 use Rattle.std.specs.List.{list_all, flat_map}
-use Rattle.bdb_base.specs.Bases.{Contents, is_user}
+use Rattle.bdb_base.specs.Bases.{Contents, is_user, key_lengths}
 use Rattle.bdb_base.specs.declared.kinds.Held.{Held}
 use Rattle.bdb_base.specs.declared.tuple.Tuple.{Tuple}
 use Rattle.bdb_base.specs.Order.{path_cmp, tuple_cmp}
@@ -31,7 +31,7 @@ edges_of b = flat_map (edges_from (user_numbers b.catalog.users) (states_of b.st
 
 -- the rows of all states' worlds
 abbrev pub rows_of : Contents → List CanonRow
-rows_of b = flat_map (rows_from (λ _. 1) b.stmts (states_of b.stmts) (tuples_of b.stmts)) (states_of b.stmts)
+rows_of b = flat_map (rows_from (key_lengths b.catalog.rels) b.stmts (states_of b.stmts) (tuples_of b.stmts)) (states_of b.stmts)
 
 -- whichever valid base the tables store, and the worlds are its states: this is the state with its suffix link
 abbrev pub TellsLink : Tables → List NamedWorld → NamedWorld → CanonWorld → Type 0

@@ -16,7 +16,7 @@ use bdb_update::{Added, UpdateError, add_statement};
 use std::alloc::Global;
 
 /// The format of tables that store a base with its worlds.
-const FORMAT: u32 = 2;
+const FORMAT: u32 = 3;
 
 /// Makes the tables those of a base, whatever rows they had: all rows are taken away, and users, relations and statements
 /// added one by one.

@@ -112,14 +112,14 @@ fn rows_of_a_base_are_sound(rt: HostRuntime) -> Result<(), Fail> {
     let alloc = rt.alloc();
     assert!(rt; both_tell(alloc, DENIED, "", "ok")?);
     // Bob believes what he denied.
-    let believed = "0b 00000001000000000273310000000000 00000001";
+    let believed = "0b 0000000100000000000000010273310000000000 00000001";
     assert!(rt; both_tell(alloc, DENIED, believed, "ok")?);
     // Bob's world is 5.
     let moved = "06 00000001 -; 06 00000005 00000001; 07 00000001 -; 07 00000005 00000000; \
          08 0000000000000001 -; 08 0000000000000005 .; 09 0000000000000002 00000005; \
          09 0000000100000001 -; 09 0000000500000001 00000000; 0a 000000010000000000000002 -; \
          0a 000000050000000000000002 .; 0a 000000000000000100000001 -; 0a 000000000000000500000001 .; \
-         0b 00000001000000000273310000000000 -; 0b 00000005000000000273310000000000 00000003";
+         0b 0000000100000000000000010273310000000000 -; 0b 0000000500000000000000010273310000000000 00000003";
     assert!(rt; both_tell(alloc, DENIED, moved, "ok")?);
     Ok(())
 }
@@ -127,8 +127,10 @@ fn rows_of_a_base_are_sound(rt: HostRuntime) -> Result<(), Fail> {
 #[test]
 fn other_formats_are_told(rt: HostRuntime) -> Result<(), Fail> {
     let alloc = rt.alloc();
-    let first = "01 00000000 00000001";
-    assert!(rt; both_tell(alloc, DENIED, first, "error format 1")?);
+    let earlier = "01 00000000 00000001";
+    assert!(rt; both_tell(alloc, DENIED, earlier, "error format 1")?);
+    let former = "01 00000000 00000002";
+    assert!(rt; both_tell(alloc, DENIED, former, DAMAGED)?);
     let later = "01 00000000 00000063";
     assert!(rt; both_tell(alloc, INHERITED, later, "error format 99")?);
     Ok(())
@@ -140,8 +142,8 @@ fn rows_of_no_table_are_damage(rt: HostRuntime) -> Result<(), Fail> {
     for changes in [
         // No row of a format, one that is a byte longer, and two of them.
         "01 00000000 -",
-        "01 00000000 0000000200",
-        "01 00000001 00000002",
+        "01 00000000 0000000300",
+        "01 00000001 00000003",
         // A row of a table that isn't there, and a name that doesn't end.
         "0d 00 00",
         "02 00000002 02426f62",
@@ -162,8 +164,10 @@ fn rows_that_disagree_are_damage(rt: HostRuntime) -> Result<(), Fail> {
         "08 0000000000000001 -",
         // Bob's edge leads to the list.
         "09 0000000000000002 00000000; 0a 000000010000000000000002 -; 0a 000000000000000000000002 .",
-        // A row under the key of another tuple.
-        "0b 00000001000000000273320000000000 00000003",
+        // A row under the key of another tuple, under no value, and under more values than the key of a relation has.
+        "0b 0000000100000000000000010273320000000000 00000003",
+        "0b 00000001000000000000000000000000 00000003",
+        "0b 00000001000000000000000202733100026561676c650000000000 00000003",
     ] {
         assert!(rt; both_tell(alloc, DENIED, changes, DAMAGED)?, "{changes}");
     }
@@ -175,7 +179,7 @@ fn rows_of_no_statement_are_damage(rt: HostRuntime) -> Result<(), Fail> {
     let alloc = rt.alloc();
     for changes in [
         // What Bob denies isn't stated any more.
-        "0b 00000001000000000273310000000000 00000002",
+        "0b 0000000100000000000000010273310000000000 00000002",
         // A tuple of which nothing is stated.
         "04 00000001 000000000273320002637200; 05 000000000273320002637200 00000001",
         // All rows but those of the users are gone.
@@ -183,12 +187,12 @@ fn rows_of_no_statement_are_damage(rt: HostRuntime) -> Result<(), Fail> {
          06 00000000 -; 06 00000001 -; 07 00000001 -; 08 0000000000000001 -; \
          09 0000000000000001 -; 09 0000000000000002 -; 09 0000000100000001 -; \
          0a 000000000000000000000001 -; 0a 000000010000000000000002 -; 0a 000000000000000100000001 -; \
-         0b 00000000000000000273310000000000 -; 0b 00000001000000000273310000000000 -",
+         0b 0000000000000000000000010273310000000000 -; 0b 0000000100000000000000010273310000000000 -",
     ] {
         assert!(rt; both_tell(alloc, DENIED, changes, DAMAGED)?, "{changes}");
     }
     // What Carol's Alice inherits is gone.
-    let missing = "0b 00000002000000000273320000000001 -";
+    let missing = "0b 0000000200000000000000010273320000000001 -";
     assert!(rt; both_tell(alloc, INHERITED, missing, DAMAGED)?);
     Ok(())
 }

@@ -16,7 +16,7 @@ query_filled q = is_filled q.take && is_filled q.items
 -- the lists of a command that the grammar wants filled are filled
 abbrev pub command_filled : Command → Bool
 command_filled (CreateUser name) = true
-command_filled (CreateRelation name cols) = is_filled cols
+command_filled (CreateRelation name cols key) = is_filled cols
 command_filled (Insert users sign rel vals) = is_filled vals
 command_filled (Delete users sign rel conds) = true
 command_filled (Update users sign rel sets conds) = is_filled sets

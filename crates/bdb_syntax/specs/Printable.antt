@@ -88,7 +88,7 @@ IsPrintableSigned users rel vals = AllByRecursion IsContent users × IsName rel 
 -- the names, the texts and the columns of a command are as the grammar wants them
 abbrev pub HasPrintableParts : Command → Type 0
 HasPrintableParts (CreateUser name) = IsContent name
-HasPrintableParts (CreateRelation name cols) = IsName name × AllByRecursion (λ (c : ColDef). IsName c.name) cols
+HasPrintableParts (CreateRelation name cols key) = IsName name × AllByRecursion (λ (c : ColDef). IsName c.name) cols
 HasPrintableParts (Insert users sign rel vals) = IsPrintableSigned users rel vals
 HasPrintableParts (Delete users sign rel conds) = AllByRecursion IsContent users × IsName rel × AllByRecursion (IsPrintableCond IsBareCol) conds
 HasPrintableParts (Update users sign rel sets conds) = AllByRecursion IsContent users × IsName rel × AllByRecursion IsPrintableSet sets × AllByRecursion (IsPrintableCond IsBareCol) conds

@@ -1,12 +1,13 @@
 -- The printed form of commands: keywords in lower case but BELIEF in capitals, one space between two tokens, with none
 -- before a comma or a closing parenthesis, after an opening one, around a dot, and before the parenthesis of a new
 -- relation's columns or of values.
-use Rattle.std.specs.Prelude.{ℕ, codes, List, [], ◌∷◌, ◌++◌, map, Option, None, Some}
+use Rattle.std.specs.Prelude.{ℕ, ℤ, codes, List, [], ◌∷◌, ◌++◌, map, Option, None, Some}
 use Rattle.std.specs.List.{flat_map}
+use Rattle.bdb_base.specs.declared.kinds.ColDef.{ColDef}
 use Rattle.bdb_base.specs.declared.kinds.Sign.{Sign}
 use Rattle.bdb_base.specs.declared.kinds.Sign.TheVariants.{Plus, Minus}
 use Rattle.bdb_base.specs.declared.kinds.Value.{Value}
-use Rattle.bdb_base.specs.Texts.{cmp_text, column_text, dotted, joined, quoted, separated, value_text}
+use Rattle.bdb_base.specs.Texts.{cmp_text, column_text, dotted, int_text, joined, quoted, separated, value_text}
 use Rattle.bdb_syntax.specs.declared.command.Command.{Command}
 use Rattle.bdb_syntax.specs.declared.command.Command.TheVariants.{CreateUser, CreateRelation, Insert, Delete, Update, Select, Explain, ShowWorld, Why, ShowTables}
 use Rattle.bdb_syntax.specs.declared.command.RawCol.{RawCol}
@@ -76,10 +77,19 @@ abbrev pub query_text : RawQuery → List ℕ
 query_text q = codes "select " ++ joined (map col_text q.take) ++ codes " from" ++ separated (codes ",") (map item_text q.items)
     ++ where_text q.conds
 
+-- a new relation's name and columns, and the words before them
+abbrev pub columns_text : List ℕ → List ColDef → List ℕ
+columns_text name cols = codes "create relation " ++ name ++ codes "(" ++ joined (map column_text cols) ++ codes ")"
+
+-- the length of a key where it is said, with the space before the word
+abbrev pub key_text : Option ℤ → List ℕ
+key_text None = []
+key_text (Some length) = codes " key " ++ int_text length
+
 -- the printed form of a command, without a semicolon
 abbrev pub printed : Command → List ℕ
 printed (CreateUser name) = codes "create user " ++ quoted name
-printed (CreateRelation name cols) = codes "create relation " ++ name ++ codes "(" ++ joined (map column_text cols) ++ codes ")"
+printed (CreateRelation name cols key) = columns_text name cols ++ key_text key
 printed (Insert users sign rel vals) = codes "insert into" ++ signed_text users sign rel vals
 printed (Delete users sign rel conds) = codes "delete from" ++ target_text users sign rel ++ where_text conds
 printed (Update users sign rel sets conds) = codes "update" ++ target_text users sign rel ++ codes " set " ++ joined (map set_text sets) ++ where_text conds

@@ -68,10 +68,11 @@ pub enum Command {
     CreateUser {
         name: Txt,
     },
-    /// A new relation, whose first column is its key.
+    /// A new relation. Its key is its first columns, as many as `key` says, and one where it says nothing.
     CreateRelation {
         name: Txt,
         cols: List<ColDef>,
+        key: Option<i64>,
     },
     /// A statement of a tuple at the path of the users.
     Insert {
@@ -196,9 +197,10 @@ impl Exact for Command {
             Command::CreateUser { name } => Ok(Command::CreateUser {
                 name: name.try_clone(alloc)?,
             }),
-            Command::CreateRelation { name, cols } => Ok(Command::CreateRelation {
+            Command::CreateRelation { name, cols, key } => Ok(Command::CreateRelation {
                 name: name.try_clone(alloc)?,
                 cols: cols.try_clone(alloc)?,
+                key: *key,
             }),
             Command::Insert {
                 users,

@@ -2,11 +2,11 @@
 ghost use Rattle.std.specs.Prelude.{◌≡◌, ◌++◌, codes, map, IfOk, OnOk};
 ghost use Rattle.std.specs.List.{flat_map};
 ghost use Rattle.bdb_base.specs.Texts.{column_text, joined, value_text};
-ghost use Rattle.bdb_syntax.specs.Printed.{belief_text, col_text, cond_text, item_text, not_text, printed, query_text, set_text, side_text, signed_text, target_text, values_text, where_text, who_text};
+ghost use Rattle.bdb_syntax.specs.Printed.{belief_text, col_text, columns_text, cond_text, item_text, key_text, not_text, printed, query_text, set_text, side_text, signed_text, target_text, values_text, where_text, who_text};
 
 use crate::command::{Command, RawCol, RawCond, RawItem, RawQuery, RawSet, RawSide, RawWho};
 use bdb_base::{
-    ColDef, List, Printed, Sign, Txt, Value, append_cmp, append_dotted, append_quoted,
+    ColDef, List, Printed, Sign, Txt, Value, append_cmp, append_dotted, append_int, append_quoted,
     append_separated, append_value,
 };
 use std::alloc::{AllocError, Global};
@@ -26,7 +26,9 @@ fn append_command(out: &mut Vec<u8>, command: &Command) -> Result<(), AllocError
 {
     match command {
         Command::CreateUser { name } => append_create_user(out, name),
-        Command::CreateRelation { name, cols } => append_create_relation(out, name, cols),
+        Command::CreateRelation { name, cols, key } => {
+            append_create_relation(out, name, cols, *key)
+        }
         Command::Insert {
             users,
             sign,
@@ -70,8 +72,17 @@ fn append_create_relation(
     out: &mut Vec<u8>,
     name: &Txt,
     cols: &List<ColDef>,
+    key: Option<i64>,
 ) -> Result<(), AllocError>
-    ensures { OnOk result (out.new.items ≡ out.old.items ++ printed (Command.CreateRelation name.now cols.now)) }
+    ensures { OnOk result (out.new.items ≡ out.old.items ++ printed (Command.CreateRelation name.now cols.now key)) }
+{
+    append_columns(out, name, cols)?;
+    append_key(out, key)
+}
+
+/// Appends a new relation's name and columns, and the words before them.
+fn append_columns(out: &mut Vec<u8>, name: &Txt, cols: &List<ColDef>) -> Result<(), AllocError>
+    ensures { OnOk result (out.new.items ≡ out.old.items ++ columns_text name.now cols.now) }
 {
     out.extend_from_slice(b"create relation ")?;
     out.extend_from_slice(name.as_bytes())?;
@@ -79,6 +90,19 @@ fn append_create_relation(
     append_separated(out, b", ", cols.as_slice())?;
     out.push(b')')?;
     Ok(())
+}
+
+/// Appends the length of a key where it is said, with the space before the word.
+fn append_key(out: &mut Vec<u8>, key: Option<i64>) -> Result<(), AllocError>
+    ensures { OnOk result (out.new.items ≡ out.old.items ++ key_text key) }
+{
+    match key {
+        Some(length) => {
+            out.extend_from_slice(b" key ")?;
+            append_int(out, length)
+        }
+        None => Ok(()),
+    }
 }
 
 fn append_insert(

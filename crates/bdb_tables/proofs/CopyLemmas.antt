@@ -13,7 +13,7 @@ use Rattle.bdb_keep.specs.Scans.{next_key}
 use Rattle.bdb_keep.specs.Seen.{Seen, GoesOn, NeverFall}
 use Rattle.bdb_keep.specs.Tables.{Tables, bytes_cmp}
 use Rattle.bdb_key.proofs.Readings.{all_push, num_form}
-use Rattle.bdb_key.specs.Bytes.{num_bytes, value_bytes}
+use Rattle.bdb_key.specs.Bytes.{num_bytes, vals_bytes}
 use Rattle.bdb_key.specs.Grammar.{IsNum}
 use Rattle.bdb_key.specs.Reading.{Reads}
 use Rattle.bdb_key.specs.Rows.{IsAnyMark, mark_bytes}
@@ -44,7 +44,7 @@ copy_made to t u key row copy m number reads is made e =
       made = made
           ∙ ap (λ k. tables.insert t (11 ∷ k) (mark_bytes (m.0, false))) spelled
           ∙ ap (λ (x : Mark). tables.insert t (11 ∷ val_bytes (to, e.key.1, e.key.2, e.key.3)) (mark_bytes (x.0, false))) same;
-      fits = record { key = record { world = number; rel = e.key_reads.fits.rel; value = e.key_reads.fits.value; tuple = e.key_reads.fits.tuple }; row = tt };
+      fits = record { key = record { world = number; rel = e.key_reads.fits.rel; key = e.key_reads.fits.key; tuple = e.key_reads.fits.tuple }; row = tt };
     }
 
 pub removal_made : (t u : Tables) (key row : List ℕ) → u ≡ tables.remove t (11 ∷ key) → MovesEntry None t u key row
@@ -114,7 +114,7 @@ own_key prefix w None e fits here is q begins same = same
 own_key prefix w (Some to) e fits here is q begins same =
     let own = rest_from prefix (val_bytes e.0) here in
     let other = rest_from prefix q begins in
-    let rest = num_bytes e.0.1 ++ value_bytes e.0.2 ++ num_bytes e.0.3 in
+    let rest = num_bytes e.0.1 ++ vals_bytes e.0.2 ++ num_bytes e.0.3 in
     let one = num_form e.0.0 w.0 rest own.0 fits.world w.1.fits (own.1 ∙ ap (λ p. p ++ own.0) (sym w.1.spelled)) in
     let two = num_form to w.0 rest other.0 is.key.world w.1.fits (sym same ∙ other.1 ∙ ap (λ p. p ++ other.0) (sym w.1.spelled)) in
     same ∙ ap (λ (n : ℕ). val_bytes (n, e.0.1, e.0.2, e.0.3)) (two.0 ∙ sym one.0)

@@ -3,7 +3,7 @@ use Rattle.std.proofs.Common.{◌≡◌, ℕ, ◌<◌, ◌≤◌, true, not, ◌
 use Rattle.std.specs.List.{AllByRecursion, list_all, slice_get}
 use Rattle.std.proofs.lemmas.Bool.{and_parts, false≢true, leb-true}
 use Rattle.bdb_base.specs.Alternation.{alternates}
-use Rattle.bdb_base.specs.Bases.{IsCatalog, belongs, is_user, is_plain, is_valid_relation, are_distinct, fits_kind, fits_columns, fits_definition, fits_relation, users_name}
+use Rattle.bdb_base.specs.Bases.{IsCatalog, belongs, is_user, is_plain, is_key, is_valid_relation, are_distinct, fits_kind, fits_columns, fits_definition, fits_relation, users_name}
 use Rattle.bdb_base.specs.Same.{same_text}
 use Rattle.bdb_base.specs.declared.kinds.Catalog.{Catalog}
 use Rattle.bdb_base.specs.declared.kinds.ColDef.{ColDef}
@@ -14,7 +14,7 @@ use Rattle.bdb_base.specs.declared.kinds.Stmt.{Stmt}
 use Rattle.bdb_base.specs.declared.kinds.Value.{Value}
 use Rattle.bdb_base.specs.declared.kinds.Value.TheVariants.{Int, Text}
 use Rattle.bdb_base.proofs.ListLemmas.{list_all_get}
-use Rattle.bdb_key.specs.Grammar.{HasPlainText}
+use Rattle.bdb_key.specs.Grammar.{HasPlainText, IsNum}
 use Rattle.bdb_key.specs.Rows.{IsRelRow, IsCol}
 use Rattle.bdb_tables.specs.InUse.{MayBePlain}
 
@@ -44,19 +44,26 @@ cols_plain : (cols : List ColDef) → list_all (λ (c : ColDef). is_plain c.name
 cols_plain [] h = tt
 cols_plain (c ∷ cols) h = let parts = and_parts (is_plain c.name) (list_all (λ (c : ColDef). is_plain c.name) cols) h in (parts.0, cols_plain cols parts.1)
 
+small : (n m : ℕ) → n ≤ m → m ≤ 16 → IsNum n
+small n m a b = omega (arith, a, b)
+
 pub relation_row : (def : RelDef) → is_valid_relation def ≡ true → IsRelRow def
 relation_row def h =
     let size = nat_lt 0 (length def.cols) && nat_le (length def.cols) 16 in
     let names = list_all (λ (c : ColDef). is_plain c.name) def.cols in
     let own = is_plain def.name && not (same_text def.name users_name) in
     let differ = are_distinct (map (λ (c : ColDef). c.name) def.cols) in
-    let parts = and_parts size (differ && names && own) h in
+    let parts = and_parts size (differ && names && own && is_key def) h in
     let some = and_parts (nat_lt 0 (length def.cols)) (nat_le (length def.cols) 16) parts.0 in
-    let last = and_parts (differ && names) own parts.1 in
+    let first = and_parts (differ && names && own) (is_key def) parts.1 in
+    let last = and_parts (differ && names) own first.0 in
     let cols = and_parts differ names last.0 in
+    let key = and_parts (nat_lt 0 def.key) (nat_le def.key (length def.cols)) first.1 in
     record {
       name = (and_parts (is_plain def.name) (not (same_text def.name users_name)) last.1).0;
+      key = (leb-true 1 def.key key.0, leb-true def.key (length def.cols) key.1);
       some = leb-true 1 (length def.cols) some.0;
+      short = small def.key (length def.cols) (leb-true def.key (length def.cols) key.1) (leb-true (length def.cols) 16 some.1);
       names = cols_plain def.cols cols.1;
     }
 

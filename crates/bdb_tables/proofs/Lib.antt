@@ -6,6 +6,7 @@ pub mod DifferenceLists
 pub mod Fitting
 pub mod GapLemmas
 pub mod Held
+pub mod LengthLemmas
 pub mod Loops
 pub mod MarkLemmas
 pub mod SameLemmas

@@ -10,9 +10,9 @@ use Rattle.bdb_base.specs.Segments.{is_prefix}
 use Rattle.bdb_keep.specs.Scans.{next_key}
 use Rattle.bdb_keep.specs.Tables.{Tables, IsLeastFrom}
 use Rattle.bdb_key.proofs.Alone.{one_num}
-use Rattle.bdb_key.proofs.Readings.{num_form, value_form}
-use Rattle.bdb_key.specs.Bytes.{num_bytes, value_bytes}
-use Rattle.bdb_key.specs.Grammar.{IsNum, IsPlainValue}
+use Rattle.bdb_key.proofs.Readings.{num_form}
+use Rattle.bdb_key.specs.Bytes.{num_bytes, vals_bytes}
+use Rattle.bdb_key.specs.Grammar.{IsNum, AreKeyVals}
 use Rattle.bdb_key.specs.Reading.{Reads}
 use Rattle.bdb_key.specs.Rows.{IsAnyMark, mark_bytes}
 use Rattle.bdb_tables.specs.Codec.{IsEntryOf, IsRowOf, HasAt}
@@ -22,6 +22,7 @@ use Rattle.bdb_tables.specs.InUse.{ValKey, IsValKey, val_bytes, val_codec}
 use Rattle.bdb_tables.specs.Marks.{Mark}
 use Rattle.bdb_tables.specs.Spans.{IsUnder, AreUnder, NoneUnder}
 use Rattle.bdb_tables.specs.Writes.{IsChange, with_change, with_changes}
+use Rattle.bdb_tables.proofs.PartLemmas.{vals_form}
 use Rattle.bdb_tables.proofs.SpanLemmas.{Covers, covers_none, covers_more, covers_all, next_is_under}
 
 pub rest_from : (p q : List ℕ) → is_prefix p q ≡ true → (r : List ℕ) × (q ≡ p ++ r)
@@ -34,18 +35,18 @@ rest_from (i ∷ p) (j ∷ q) e =
 
 -- ---- one group, whose keys begin with its own bytes
 
-module _ (w r : ℕ) (v : Value) (wn : IsNum w) (rn : IsNum r) (vp : IsPlainValue v) where
+module _ (w r : ℕ) (v : List Value) (wn : IsNum w) (rn : IsNum r) (vp : AreKeyVals v) where
   key_of : (n : ℕ) → IsNum n → IsValKey (w, r, v, n)
-  key_of n f = record { world = wn; rel = rn; value = vp; tuple = f }
+  key_of n f = record { world = wn; rel = rn; key = vp; tuple = f }
 
   -- a key that begins with the group's bytes is the group's
   key_is : (k : ValKey) → IsValKey k → is_prefix (group_bytes w r v) (val_bytes k) ≡ true → (w, r, v, k.3) ≡ k
   key_is k f begins =
       let rest = rest_from (group_bytes w r v) (val_bytes k) begins in
-      let one = num_form k.0 w (num_bytes k.1 ++ value_bytes k.2 ++ num_bytes k.3) (num_bytes r ++ value_bytes v ++ rest.0) f.world wn rest.1 in
-      let two = num_form k.1 r (value_bytes k.2 ++ num_bytes k.3) (value_bytes v ++ rest.0) f.rel rn one.1 in
-      let three = value_form k.2 v (num_bytes k.3) rest.0 f.value vp two.1 in
-      ap (λ (x : ℕ). (x, r, v, k.3)) (sym one.0) ∙ ap (λ (x : ℕ). (k.0, x, v, k.3)) (sym two.0) ∙ ap (λ (x : Value). (k.0, k.1, x, k.3)) (sym three.0)
+      let one = num_form k.0 w (num_bytes k.1 ++ vals_bytes k.2 ++ num_bytes k.3) (num_bytes r ++ vals_bytes v ++ rest.0) f.world wn rest.1 in
+      let two = num_form k.1 r (vals_bytes k.2 ++ num_bytes k.3) (vals_bytes v ++ rest.0) f.rel rn one.1 in
+      let three = vals_form k.2 v (num_bytes k.3) rest.0 f.key vp two.1 in
+      ap (λ (x : ℕ). (x, r, v, k.3)) (sym one.0) ∙ ap (λ (x : ℕ). (k.0, x, v, k.3)) (sym two.0) ∙ ap (λ (x : List Value). (k.0, k.1, x, k.3)) (sym three.0)
 
   all_in_group : (es : List (ValKey × Mark)) → AllByRecursion (IsUnder val_codec (group_bytes w r v)) es → es ≡ map (in_group w r v) (map numbered es)
   all_in_group [] h = refl
@@ -81,20 +82,20 @@ module _ (w r : ℕ) (v : Value) (wn : IsNum w) (rn : IsNum r) (vp : IsPlainValu
 pub are_marks : (t : Tables) (p : List ℕ) (xs : List (ℕ × Mark)) → AreNumbered t p xs → AreMarks t p xs
 are_marks t p xs h w r v g =
     subst (λ q. AreUnder val_codec t q (map (in_group w r v) xs)) (sym g.bytes)
-    (numbered_in_group w r v g.world g.rel g.value t xs (subst (λ q. AreNumbered t q xs) g.bytes h))
+    (numbered_in_group w r v g.world g.rel g.key t xs (subst (λ q. AreNumbered t q xs) g.bytes h))
 
 pub has_mark : (t : Tables) (p : List ℕ) (tid : ℕ) (found : Option Mark) → HasAt (marks_codec p) t tid found → HasMark t p tid found
-has_mark t p tid found h w r v g = at_lifted w r v g.world g.rel g.value t tid found (subst (λ q. HasAt (marks_codec q) t tid found) g.bytes h)
+has_mark t p tid found h w r v g = at_lifted w r v g.world g.rel g.key t tid found (subst (λ q. HasAt (marks_codec q) t tid found) g.bytes h)
 
 pub have_marks : (t u : Tables) (p : List ℕ) (xs : List (ℕ × Option Mark)) → u ≡ with_changes (marks_codec p) t xs → HaveMarks t u p xs
-have_marks t u p xs e w r v g = e ∙ ap (λ q. with_changes (marks_codec q) t xs) g.bytes ∙ changes_lifted w r v g.world g.rel g.value t xs
+have_marks t u p xs e w r v g = e ∙ ap (λ q. with_changes (marks_codec q) t xs) g.bytes ∙ changes_lifted w r v g.world g.rel g.key t xs
 
 pub are_changes : (p : List ℕ) (xs : List (ℕ × Option Mark)) → AllByRecursion (IsChange (marks_codec p)) xs → AreChanges p xs
-are_changes p xs h w r v g = fits_lifted w r v g.world g.rel g.value xs (subst (λ q. AllByRecursion (IsChange (marks_codec q)) xs) g.bytes h)
+are_changes p xs h w r v g = fits_lifted w r v g.world g.rel g.key xs (subst (λ q. AllByRecursion (IsChange (marks_codec q)) xs) g.bytes h)
 
 pub entry_in_table : (p : List ℕ) → IsGroup p → (k row : List ℕ) → IsEntryOf (marks_codec p) k row → IsEntry 11 k row
 entry_in_table p g k row e =
-    entry_back g.world g.rel g.value g.begins.world g.begins.rel g.begins.value k row (subst (λ q. IsEntryOf (marks_codec q) k row) g.begins.bytes e)
+    entry_back g.world g.rel g.key g.begins.world g.begins.rel g.begins.key k row (subst (λ q. IsEntryOf (marks_codec q) k row) g.begins.bytes e)
 
 -- ---- rows by the numbers of their tuples
 
@@ -103,7 +104,7 @@ is_mark_row key row e = (e.row, e.row_reads)
 
 long_enough : (k : ValKey) → 4 ≤ length (val_bytes k)
 long_enough k =
-    let whole : length (val_bytes k) ≡ length (num_bytes k.0 ++ num_bytes k.1 ++ value_bytes k.2) + 4 = length-append (num_bytes k.0 ++ num_bytes k.1 ++ value_bytes k.2) (num_bytes k.3) in
+    let whole : length (val_bytes k) ≡ length (num_bytes k.0 ++ num_bytes k.1 ++ vals_bytes k.2) + 4 = length-append (num_bytes k.0 ++ num_bytes k.1 ++ vals_bytes k.2) (num_bytes k.3) in
     omega (arith, whole)
 
 pub has_four : (key row : List ℕ) → IsEntryOf val_codec key row → 4 ≤ length key
@@ -111,7 +112,7 @@ has_four key row e = subst (λ b. 4 ≤ length b) e.key_reads.spelled (long_enou
 
 number_at_end : (k : ValKey) → drop (length (val_bytes k) - 4) (val_bytes k) ≡ num_bytes k.3
 number_at_end k =
-    let front : List ℕ = num_bytes k.0 ++ num_bytes k.1 ++ value_bytes k.2 in
+    let front : List ℕ = num_bytes k.0 ++ num_bytes k.1 ++ vals_bytes k.2 in
     let whole : length (front ++ num_bytes k.3) ≡ length front + 4 = length-append front (num_bytes k.3) in
     let less : length (front ++ num_bytes k.3) - 4 ≡ length front = omega (arith, whole) in
     ap (λ n. drop n (front ++ num_bytes k.3)) less ∙ drop-append_seam front (num_bytes k.3)

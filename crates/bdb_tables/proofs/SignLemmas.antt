@@ -69,15 +69,15 @@ put_stands xs y up here = members_make_set statement_exact (with_statement xs y)
 -- ---- one sign
 
 -- a sign is the only one where none that clashes with it is explicit
-pub one_sign_by : (stmts : List Stmt) (w : List ℕ) (u : Tuple) (s : Sign) → ((r : Sign) → clash (λ _. 1) u s u r ≡ true → explicit stmts w u r ≡ false)
+pub one_sign_by : (keys : ℕ → ℕ) (stmts : List Stmt) (w : List ℕ) (u : Tuple) (s : Sign) → ((r : Sign) → clash keys u s u r ≡ true → explicit stmts w u r ≡ false)
     → explicit stmts w u s ≡ true → explicit_sign stmts w u ≡ Some s
-one_sign_by stmts w u Plus none e = ap (λ b. sign_by b (explicit stmts w u Minus)) e
-one_sign_by stmts w u Minus none e =
+one_sign_by keys stmts w u Plus none e = ap (λ b. sign_by b (explicit stmts w u Minus)) e
+one_sign_by keys stmts w u Minus none e =
     ap (λ b. sign_by b (explicit stmts w u Minus)) (none Plus ((same_tuple-Decides u u).1 refl)) ∙ ap (λ b. sign_by false b) e
 
 -- where no statements of one path clash, a statement's sign is the only one
-pub one_sign : (stmts : List Stmt) (w : List ℕ) (u : Tuple) (s : Sign) → IsConsistent (λ _. 1) stmts → explicit stmts w u s ≡ true → explicit_sign stmts w u ≡ Some s
-one_sign stmts w u s c e = one_sign_by stmts w u s (λ r k. false_from_ne_true (explicit stmts w u r) (λ p. false≢true (sym (c w u u s r e p) ∙ k))) e
+pub one_sign : (keys : ℕ → ℕ) (stmts : List Stmt) (w : List ℕ) (u : Tuple) (s : Sign) → IsConsistent keys stmts → explicit stmts w u s ≡ true → explicit_sign stmts w u ≡ Some s
+one_sign keys stmts w u s c e = one_sign_by keys stmts w u s (λ r k. false_from_ne_true (explicit stmts w u r) (λ p. false≢true (sym (c w u u s r e p) ∙ k))) e
 
 -- an explicit sign is that of a statement
 pub sign_is_explicit : (stmts : List Stmt) (w : List ℕ) (u : Tuple) (s : Sign) → explicit_sign stmts w u ≡ Some s → explicit stmts w u s ≡ true
@@ -129,24 +129,24 @@ put_is_explicit stmts x =
     (and_from (same_tuple x.tuple x.tuple) (same_sign x.sign x.sign) ((same_tuple-Decides x.tuple x.tuple).1 refl) ((same_sign-Decides x.sign x.sign).1 refl)))
 
 -- statements with one more say its sign of its tuple at its path
-pub put_says_sign : (stmts : List Stmt) (x : Stmt) → IsConsistent (λ _. 1) (with_statement stmts x) → explicit_sign (with_statement stmts x) x.path x.tuple ≡ Some x.sign
-put_says_sign stmts x c = one_sign (with_statement stmts x) x.path x.tuple x.sign c (put_is_explicit stmts x)
+pub put_says_sign : (keys : ℕ → ℕ) (stmts : List Stmt) (x : Stmt) → IsConsistent keys (with_statement stmts x) → explicit_sign (with_statement stmts x) x.path x.tuple ≡ Some x.sign
+put_says_sign keys stmts x c = one_sign keys (with_statement stmts x) x.path x.tuple x.sign c (put_is_explicit stmts x)
 
-module _ (stmts : List Stmt) (x : Stmt) (c : IsConsistent (λ _. 1) stmts) (here : explicit stmts x.path x.tuple x.sign ≡ true) where
+module _ (keys : ℕ → ℕ) (stmts : List Stmt) (x : Stmt) (c : IsConsistent keys stmts) (here : explicit stmts x.path x.tuple x.sign ≡ true) where
   gone : (s : Sign) → x.sign ≡ s → explicit (without_statement stmts x) x.path x.tuple s ≡ false
   gone s e = any-filter_same (at x.path x.tuple s) (λ y. not (is_eq (statement_cmp y x))) false
       (λ k f. ap not (is_eq_statement_cmp k x ∙ ap (λ r. same_path k.path x.path && (same_tuple k.tuple x.tuple && same_sign k.sign r)) e ∙ f)) stmts
 
-  other : (s : Sign) → clash (λ _. 1) x.tuple s x.tuple x.sign ≡ true → explicit (without_statement stmts x) x.path x.tuple s ≡ false
+  other : (s : Sign) → clash keys x.tuple s x.tuple x.sign ≡ true → explicit (without_statement stmts x) x.path x.tuple s ≡ false
   other s k = false_from_ne_true (explicit (without_statement stmts x) x.path x.tuple s) (λ e.
       false≢true (sym (c x.path x.tuple x.tuple s x.sign (found_before (at x.path x.tuple s) (λ y. not (is_eq (statement_cmp y x))) stmts e) here) ∙ k))
 
   neither : (r : Sign) → x.sign ≡ r → (explicit (without_statement stmts x) x.path x.tuple Plus ≡ false) × (explicit (without_statement stmts x) x.path x.tuple Minus ≡ false)
-  neither Plus e = (gone Plus e, other Minus (ap (λ r. clash (λ _. 1) x.tuple Minus x.tuple r) e ∙ (same_tuple-Decides x.tuple x.tuple).1 refl))
-  neither Minus e = (other Plus (ap (λ r. clash (λ _. 1) x.tuple Plus x.tuple r) e ∙ (same_tuple-Decides x.tuple x.tuple).1 refl), gone Minus e)
+  neither Plus e = (gone Plus e, other Minus (ap (λ r. clash keys x.tuple Minus x.tuple r) e ∙ (same_tuple-Decides x.tuple x.tuple).1 refl))
+  neither Minus e = (other Plus (ap (λ r. clash keys x.tuple Plus x.tuple r) e ∙ (same_tuple-Decides x.tuple x.tuple).1 refl), gone Minus e)
 
 -- statements with one less say nothing of its tuple at its path
-pub drop_says_none : (stmts : List Stmt) (x : Stmt) → IsConsistent (λ _. 1) stmts → explicit stmts x.path x.tuple x.sign ≡ true → explicit_sign (without_statement stmts x) x.path x.tuple ≡ None
-drop_says_none stmts x c here =
-    let n = neither stmts x c here x.sign refl in
+pub drop_says_none : (keys : ℕ → ℕ) (stmts : List Stmt) (x : Stmt) → IsConsistent keys stmts → explicit stmts x.path x.tuple x.sign ≡ true → explicit_sign (without_statement stmts x) x.path x.tuple ≡ None
+drop_says_none keys stmts x c here =
+    let n = neither keys stmts x c here x.sign refl in
     ap (λ b. sign_by b (explicit (without_statement stmts x) x.path x.tuple Minus)) n.0 ∙ ap (λ b. sign_by false b) n.1

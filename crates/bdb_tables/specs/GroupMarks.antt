@@ -1,13 +1,13 @@
 -- The rows of table 11, told by the numbers of their tuples: under a beginning, and of one group, that of a world, a relation and
--- a value of its key.
+-- a key.
 use Rattle.std.specs.Prelude.{◌≡◌, ℕ, Bool, true, List, ◌++◌, Option, Some, MatchBool, MatchOption, map}
 use Rattle.std.specs.FinMap as tables
 use Rattle.std.specs.List.{AllByRecursion}
 use Rattle.std.specs.Ordering.{nat_cmp}
 use Rattle.bdb_base.specs.declared.kinds.Value.{Value}
 use Rattle.bdb_keep.specs.Tables.{Tables}
-use Rattle.bdb_key.specs.Bytes.{num_bytes, value_bytes}
-use Rattle.bdb_key.specs.Grammar.{IsNum, IsPlainValue}
+use Rattle.bdb_key.specs.Bytes.{num_bytes, vals_bytes}
+use Rattle.bdb_key.specs.Grammar.{IsNum, AreKeyVals}
 use Rattle.bdb_key.specs.Reading.{Reads}
 use Rattle.bdb_key.specs.Rows.{IsAnyMark, mark_bytes}
 use Rattle.bdb_tables.specs.Codec.{Codec, HasAt, codec_of, place}
@@ -16,43 +16,43 @@ use Rattle.bdb_tables.specs.Marks.{Mark}
 use Rattle.bdb_tables.specs.Spans.{AreUnder, IsNextUnder, IsUnder, NoneUnder}
 use Rattle.bdb_tables.specs.Writes.{IsChange, with_changes}
 
--- how the keys of the rows of a world, a relation and a value of its key begin
-abbrev pub group_bytes : ℕ → ℕ → Value → List ℕ
-group_bytes w r v = num_bytes w ++ num_bytes r ++ value_bytes v
+-- how the keys of the rows of a world, a relation and the values of a key begin
+abbrev pub group_bytes : ℕ → ℕ → List Value → List ℕ
+group_bytes w r vs = num_bytes w ++ num_bytes r ++ vals_bytes vs
 
--- the keys of a world, a relation and a value begin so
-pub record BeginsGroup (prefix : List ℕ) (w r : ℕ) (v : Value) : Type 0 where
+-- the keys of a world, a relation and the values of a key begin so
+pub record BeginsGroup (prefix : List ℕ) (w r : ℕ) (vs : List Value) : Type 0 where
   pub world : IsNum w
   pub rel : IsNum r
-  pub value : IsPlainValue v
-  pub bytes : prefix ≡ group_bytes w r v
+  pub key : AreKeyVals vs
+  pub bytes : prefix ≡ group_bytes w r vs
 
 -- the keys of some group begin so
 pub record IsGroup (prefix : List ℕ) : Type 0 where
   pub world : ℕ
   pub rel : ℕ
-  pub value : Value
-  pub begins : BeginsGroup prefix world rel value
+  pub key : List Value
+  pub begins : BeginsGroup prefix world rel key
 
 -- the number of a tuple, and what goes with it, with the whole key
-abbrev pub in_group : {X : Type 0} → ℕ → ℕ → Value → ℕ × X → ValKey × X
-in_group w r v x = ((w, r, v, x.0), x.1)
+abbrev pub in_group : {X : Type 0} → ℕ → ℕ → List Value → ℕ × X → ValKey × X
+in_group w r vs x = ((w, r, vs, x.0), x.1)
 
 -- these are the rows of the group whose keys begin so, in order
 abbrev pub AreMarks : Tables → List ℕ → List (ℕ × Mark) → Type 0
-AreMarks t prefix xs = (w r : ℕ) (v : Value) → BeginsGroup prefix w r v → AreUnder val_codec t prefix (map (in_group w r v) xs)
+AreMarks t prefix xs = (w r : ℕ) (vs : List Value) → BeginsGroup prefix w r vs → AreUnder val_codec t prefix (map (in_group w r vs) xs)
 
 -- what the group whose keys begin so has at the number of a tuple
 abbrev pub HasMark : Tables → List ℕ → ℕ → Option Mark → Type 0
-HasMark t prefix tid found = (w r : ℕ) (v : Value) → BeginsGroup prefix w r v → HasAt val_codec t (w, r, v, tid) found
+HasMark t prefix tid found = (w r : ℕ) (vs : List Value) → BeginsGroup prefix w r vs → HasAt val_codec t (w, r, vs, tid) found
 
 -- the second tables are the first with changes of the group whose keys begin so, made one after the other
 abbrev pub HaveMarks : Tables → Tables → List ℕ → List (ℕ × Option Mark) → Type 0
-HaveMarks t u prefix xs = (w r : ℕ) (v : Value) → BeginsGroup prefix w r v → u ≡ with_changes val_codec t (map (in_group w r v) xs)
+HaveMarks t u prefix xs = (w r : ℕ) (vs : List Value) → BeginsGroup prefix w r vs → u ≡ with_changes val_codec t (map (in_group w r vs) xs)
 
 -- changes of the group whose keys begin so are in the grammar
 abbrev pub AreChanges : List ℕ → List (ℕ × Option Mark) → Type 0
-AreChanges prefix xs = (w r : ℕ) (v : Value) → BeginsGroup prefix w r v → AllByRecursion (IsChange val_codec) (map (in_group w r v) xs)
+AreChanges prefix xs = (w r : ℕ) (vs : List Value) → BeginsGroup prefix w r vs → AllByRecursion (IsChange val_codec) (map (in_group w r vs) xs)
 
 -- the number of a row's tuple, and what the row has
 abbrev pub numbered : ValKey × Mark → ℕ × Mark

@@ -1,15 +1,17 @@
 -- The twelve tables, each by its number, its keys and its rows. Tables 13 to 15 have no row.
 use Rattle.std.specs.Prelude.{◌≡◌, ℕ, Bool, true, List, [], ◌++◌, length}
 use Rattle.std.specs.declared.cmp.Ordering.TheVariants.{Equal}
+use Rattle.std.specs.List.{AllByRecursion}
 use Rattle.std.specs.Ordering.{nat_cmp, ordering_then}
 use Rattle.bdb_base.specs.Alternation.{alternates}
-use Rattle.bdb_base.specs.Order.{value_cmp, path_cmp, tuple_cmp}
+use Rattle.bdb_base.specs.Order.{path_cmp, tuple_cmp}
 use Rattle.bdb_base.specs.declared.kinds.RelDef.{RelDef}
 use Rattle.bdb_base.specs.declared.kinds.Sign.{Sign}
 use Rattle.bdb_base.specs.declared.kinds.Value.{Value}
 use Rattle.bdb_base.specs.declared.tuple.Tuple.{Tuple}
-use Rattle.bdb_key.specs.Bytes.{num_bytes, text_bytes, value_bytes, path_bytes}
-use Rattle.bdb_key.specs.Grammar.{IsNum, IsPlain, IsPlainValue, HasPlainText, IsKeyPath}
+use Rattle.bdb_key.specs.Bytes.{num_bytes, text_bytes, vals_bytes, path_bytes}
+use Rattle.bdb_key.specs.Grammar.{IsNum, IsPlain, HasPlainText, AreKeyVals, IsKeyPath}
+use Rattle.bdb_key.specs.Order.{vals_cmp}
 use Rattle.bdb_key.specs.Rows.{IsRelRow, IsTupleRow, MayBeTuple, IsAnySign, IsAnyMark, rel_bytes, tuple_bytes, sign_bytes, mark_bytes}
 use Rattle.bdb_tables.specs.Codec.{Codec, Keys, Rows, codec_of}
 
@@ -57,27 +59,32 @@ triple_keys = record {
 abbrev pub tuple_keys : Keys Tuple
 tuple_keys = record { MayBe = MayBeTuple; Is = IsTupleRow; bytes = tuple_bytes; cmp = tuple_cmp }
 
--- a world, a relation, the value of the relation's key and the number of a tuple
+-- a world, a relation, the values of the relation's key and the number of a tuple
 abbrev pub ValKey : Type 0
-ValKey = ℕ × ℕ × Value × ℕ
+ValKey = ℕ × ℕ × List Value × ℕ
 
--- numbers of four bytes, and an integer of eight or a plain text
-pub record IsValKey (key : ValKey) : Type 0 where
-  pub world : IsNum key.0
-  pub rel : IsNum key.1
-  pub value : IsPlainValue key.2
-  pub tuple : IsNum key.3
+-- numbers of four bytes, and a list of integers of eight and of plain texts
+pub record IsValKey (k : ValKey) : Type 0 where
+  pub world : IsNum k.0
+  pub rel : IsNum k.1
+  pub key : AreKeyVals k.2
+  pub tuple : IsNum k.3
 
 abbrev pub val_bytes : ValKey → List ℕ
-val_bytes key = num_bytes key.0 ++ num_bytes key.1 ++ value_bytes key.2 ++ num_bytes key.3
+val_bytes k = num_bytes k.0 ++ num_bytes k.1 ++ vals_bytes k.2 ++ num_bytes k.3
+
+-- not too many values, without the sizes of their numbers
+pub record HaveKeyTexts (values : List Value) : Type 0 where
+  pub short : IsNum (length values)
+  pub texts : AllByRecursion HasPlainText values
 
 -- a world, a relation, a key and a tuple
 abbrev pub val_keys : Keys ValKey
 val_keys = record {
-  MayBe = λ key. HasPlainText key.2;
+  MayBe = λ k. HaveKeyTexts k.2;
   Is = IsValKey;
   bytes = val_bytes;
-  cmp = λ a b. ordering_then (nat_cmp a.0 b.0) (ordering_then (nat_cmp a.1 b.1) (ordering_then (value_cmp a.2 b.2) (nat_cmp a.3 b.3)));
+  cmp = λ a b. ordering_then (nat_cmp a.0 b.0) (ordering_then (nat_cmp a.1 b.1) (ordering_then (vals_cmp a.2 b.2) (nat_cmp a.3 b.3)));
 }
 
 -- a path and a tuple, without the sizes of their numbers

@@ -9,14 +9,14 @@ use Rattle.bdb_base.specs.declared.kinds.Sign.{Sign}
 use Rattle.bdb_base.specs.declared.kinds.Value.{Value}
 use Rattle.bdb_base.specs.declared.tuple.Tuple.{Tuple}
 use Rattle.bdb_key.specs.declared.part.Part.{Part}
-use Rattle.bdb_key.specs.declared.part.Part.TheVariants.{Num, Val, Path}
+use Rattle.bdb_key.specs.declared.part.Part.TheVariants.{Num, Val, Vals, Path}
 use Rattle.bdb_key.specs.declared.part.Slot.{Slot}
 use Rattle.bdb_key.specs.declared.part.Slot.TheVariants as slots
 use Rattle.bdb_key.specs.declared.row.TabRow.{TabRow}
 use Rattle.bdb_key.specs.declared.row.TabRow.TheVariants as rows
 use Rattle.bdb_key.specs.Bytes.{key_bytes, num_bytes, value_bytes, values_bytes, path_bytes}
 use Rattle.bdb_key.specs.Grammar.{FitsSlot, ArePlain}
-use Rattle.bdb_key.specs.Order.{key_cmp}
+use Rattle.bdb_key.specs.Order.{key_cmp, vals_cmp}
 use Rattle.bdb_key.proofs.Alone.{then_equal}
 use Rattle.bdb_key.proofs.Keys.{keys_keep_order, keys_have_one_spelling}
 use Rattle.bdb_key.proofs.OneRow.{rows_have_one_spelling}
@@ -155,10 +155,10 @@ tuples_in_order = keys_in_order _ _ _ tuple_parts
 pub tuples_are_one : KeysAreOne tuple_keys
 tuples_are_one = keys_are_one _ _ _ tuple_parts
 
-val_of : ℕ → ℕ → Value → ℕ → ValKey
+val_of : ℕ → ℕ → List Value → ℕ → ValKey
 val_of m n v i = (m, n, v, i)
 
-vals_one : (a b : ValKey) → Num a.0 ∷ Num a.1 ∷ Val a.2 ∷ Num a.3 ∷ [] ≡ Num b.0 ∷ Num b.1 ∷ Val b.2 ∷ Num b.3 ∷ [] → a ≡ b
+vals_one : (a b : ValKey) → Num a.0 ∷ Num a.1 ∷ Vals a.2 ∷ Num a.3 ∷ [] ≡ Num b.0 ∷ Num b.1 ∷ Vals b.2 ∷ Num b.3 ∷ [] → a ≡ b
 unfolding val_of
 vals_one a b e =
     let x : a.0 ≡ b.0 = cc in
@@ -167,11 +167,11 @@ vals_one a b e =
     let z : a.3 ≡ b.3 = cc in
     ap (λ m. val_of m a.1 a.2 a.3) x ∙ ap (λ n. val_of b.0 n a.2 a.3) y ∙ ap (λ w. val_of b.0 b.1 w a.3) v ∙ ap (λ i. val_of b.0 b.1 b.2 i) z
 
-val_parts : ArePartsOf (slots.Num ∷ slots.Num ∷ slots.Val ∷ slots.Num ∷ []) val_keys (λ k. Num k.0 ∷ Num k.1 ∷ Val k.2 ∷ Num k.3 ∷ [])
+val_parts : ArePartsOf (slots.Num ∷ slots.Num ∷ slots.Vals ∷ slots.Num ∷ []) val_keys (λ k. Num k.0 ∷ Num k.1 ∷ Vals k.2 ∷ Num k.3 ∷ [])
 val_parts = record {
-  fits = λ k f. (f.world, (f.rel, (f.value, (f.tuple, tt))));
+  fits = λ k f. (f.world, (f.rel, (f.key, (f.tuple, tt))));
   bytes = λ k. refl;
-  order = λ a b. ap (λ o. ordering_then (nat_cmp a.0 b.0) (ordering_then (nat_cmp a.1 b.1) (ordering_then (value_cmp a.2 b.2) o))) (then_equal (nat_cmp a.3 b.3));
+  order = λ a b. ap (λ o. ordering_then (nat_cmp a.0 b.0) (ordering_then (nat_cmp a.1 b.1) (ordering_then (vals_cmp a.2 b.2) o))) (then_equal (nat_cmp a.3 b.3));
   one = vals_one;
 }
 

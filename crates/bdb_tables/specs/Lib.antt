@@ -6,6 +6,7 @@ pub mod Grammar
 pub mod GroupMarks
 pub mod InUse
 pub mod InUseLaws
+pub mod Lengths
 pub mod Marks
 pub mod Names
 pub mod Parts

@@ -1,5 +1,5 @@
 -- When tables hold the tuples of statements, each under a number, and the rows of the worlds that have names.
-use Rattle.std.specs.Prelude.{◌≡◌, ℕ, Bool, ◌&&◌, nat_eq, List, [], ◌∷◌, Option, Some, None, is_some, cond}
+use Rattle.std.specs.Prelude.{◌≡◌, ℕ, Bool, ◌&&◌, nat_eq, List, Option, Some, None, is_some, cond}
 use Rattle.std.specs.List.{list_any}
 use Rattle.bdb_base.specs.declared.kinds.Stmt.{Stmt}
 use Rattle.bdb_base.specs.declared.tuple.Tuple.{Tuple}
@@ -25,9 +25,13 @@ pub record HoldsTuples (stmts : List Stmt) (ts : Tuples) (t : Tables) : Type 0 w
   pub sized : (tid : ℕ) (u : Tuple) → ts.tuple tid ≡ Some u → IsNum tid
   pub stated : (u : Tuple) → is_some (ts.number u) ≡ list_any (λ x. same_tuple x.tuple u) stmts
 
+-- the length of each relation's keys is a number of four bytes, where the relation's number is one
+abbrev pub AreKeyLengths : (ℕ → ℕ) → Type 0
+AreKeyLengths keys = (rel : ℕ) → IsNum rel → IsNum (keys rel)
+
 -- a tuple has the relation and the key of a row's key
 abbrev pub has_key : (ℕ → ℕ) → ValKey → Tuple → Bool
-has_key keys k u = nat_eq u.rel k.1 && same_values (key_of keys u) (k.2 ∷ [])
+has_key keys k u = nat_eq u.rel k.1 && same_values (key_of keys u) k.2
 
 -- the row of a world and a tuple that have names, where the key is the tuple's
 abbrev pub row_named : (ℕ → ℕ) → List Stmt → ValKey → Option (List ℕ) → Option Tuple → Option Mark

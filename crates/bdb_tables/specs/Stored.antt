@@ -27,12 +27,12 @@ abbrev pub name_of : List (List ℕ) → ℕ → Option (List ℕ)
 name_of users zero = None
 name_of users (suc n) = slice_get users n
 
--- Tables store a base over worlds and tuples that have these numbers: the one row of the format is 2, users and relations
+-- Tables store a base over worlds and tuples that have these numbers: the one row of the format is 3, users and relations
 -- are those of the catalog by number, the worlds are the states of the statements `reached`, the tuples are those of the
 -- statements `told`, the rows of each world are those that the base's statements make, and no other table has a row. In the
 -- middle of a change there may be worlds and tuples of other statements than the base's.
 pub record StoredOver (reached told : List Stmt) (ns : Names) (ts : Tuples) (t : Tables) (b : Contents) : Type 0 where
-  pub format : Gives meta_codec t (λ _. Some 2)
+  pub format : Gives meta_codec t (λ _. Some 3)
   pub users : Gives user_codec t (name_of b.catalog.users)
   pub rels : Gives rel_codec t (slice_get b.catalog.rels)
   pub tuples : HoldsTuples told ts t

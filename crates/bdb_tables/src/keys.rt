@@ -1,13 +1,13 @@
 // Keys of several parts, as bytes and back.
 ghost use Rattle.std.specs.Prelude.{◌≡◌, ◌++◌, IfOk, OnOk, OnErr, MatchOption};
 ghost use Rattle.std.specs.Result.{IsErrOf};
-ghost use Rattle.bdb_key.specs.Bytes.{Grows, num_bytes};
-ghost use Rattle.bdb_key.specs.Grammar.{HasPlainText};
+ghost use Rattle.bdb_key.specs.Bytes.{Grows, num_bytes, vals_bytes};
+ghost use Rattle.bdb_key.specs.Grammar.{AreKeyVals};
 ghost use Rattle.bdb_key.specs.Reading.{Leads, NoneLeads, Reads, NoneReads};
-ghost use Rattle.bdb_tables.specs.InUse.{IsPair, IsTriple, IsValKey, pair_bytes, triple_bytes, val_bytes};
+ghost use Rattle.bdb_tables.specs.InUse.{HaveKeyTexts, IsPair, IsTriple, IsValKey, pair_bytes, triple_bytes, val_bytes};
 
-use bdb_base::Value;
-use bdb_key::{KeyError, num_of, only_num, put_num, put_value, value_of};
+use bdb_base::{List, Value};
+use bdb_key::{KeyError, num_of, only_num, put_num, put_vals, vals_of};
 use std::alloc::{AllocError, Global};
 
 /// Appends two numbers, as the front of a key. After a refusal the bytes are unchanged.
@@ -34,21 +34,34 @@ pub fn put_triple(out: &mut Vec<u8>, key: &(u32, u32, u32)) -> Result<(), AllocE
     ])
 }
 
+/// Appends the values of a relation's key, as a part of the keys of table 11. After a refusal the bytes are unchanged.
+pub fn put_key_vals(out: &mut Vec<u8>, key: &[Value]) -> Result<(), AllocError>
+    requires { HaveKeyTexts key.now }
+    ensures ok { OnOk result (out.new.items ≡ out.old.items ++ vals_bytes key.now) }
+    ensures fits { OnOk result (AreKeyVals key.now) }
+    ensures err { OnErr result (out.new.items ≡ out.old.items) }
+{
+    match put_vals(out, key) {
+        Ok(()) => Ok(()),
+        Err(error) => Err(error),
+    }
+}
+
 /// Appends a world, a relation, a key and the number of a tuple. After a refusal the bytes are unchanged.
 pub fn put_val_key(
     out: &mut Vec<u8>,
     wid: u32,
     rel: u32,
-    value: &Value,
+    key: &[Value],
     tid: u32,
 ) -> Result<(), AllocError>
-    requires { HasPlainText value.now }
-    ensures ok { OnOk result (out.new.items ≡ out.old.items ++ val_bytes (wid, rel, value.now, tid)) }
-    ensures fits { OnOk result (IsValKey (wid, rel, value.now, tid)) }
+    requires { HaveKeyTexts key.now }
+    ensures ok { OnOk result (out.new.items ≡ out.old.items ++ val_bytes (wid, rel, key.now, tid)) }
+    ensures fits { OnOk result (IsValKey (wid, rel, key.now, tid)) }
     ensures err { OnErr result (out.new.items ≡ out.old.items) }
 {
     let before = out.len();
-    match push_val_key(out, wid, rel, value, tid) {
+    match push_val_key(out, wid, rel, key, tid) {
         Ok(()) => Ok(()),
         Err(error) => {
             out.truncate(before);
@@ -62,16 +75,16 @@ fn push_val_key(
     out: &mut Vec<u8>,
     wid: u32,
     rel: u32,
-    value: &Value,
+    key: &[Value],
     tid: u32,
 ) -> Result<(), AllocError>
-    requires { HasPlainText value.now }
-    ensures ok { OnOk result (out.new.items ≡ out.old.items ++ val_bytes (wid, rel, value.now, tid)) }
-    ensures fits { OnOk result (IsValKey (wid, rel, value.now, tid)) }
+    requires { HaveKeyTexts key.now }
+    ensures ok { OnOk result (out.new.items ≡ out.old.items ++ val_bytes (wid, rel, key.now, tid)) }
+    ensures fits { OnOk result (IsValKey (wid, rel, key.now, tid)) }
     ensures err { OnErr result (Grows out.old.items out.new.items) }
 {
     put_pair(out, wid, rel)?;
-    put_value(out, value)?;
+    put_key_vals(out, key)?;
     put_num(out, tid)?;
     Ok(())
 }
@@ -110,7 +123,7 @@ pub fn only_triple(bytes: &[u8]) -> Option<(u32, u32, u32)>
 }
 
 /// The key of table 11 that these bytes are. `NotAKey` comes exactly where they are none.
-pub fn val_key_of(alloc: Global, bytes: &[u8]) -> Result<(u32, u32, Value, u32), KeyError>
+pub fn val_key_of(alloc: Global, bytes: &[u8]) -> Result<(u32, u32, List<Value>, u32), KeyError>
     ensures ok { IfOk result (Reads IsValKey val_bytes bytes.now) }
     ensures none { IsErrOf result KeyError.NotAKey → NoneReads IsValKey val_bytes bytes.now }
 {
@@ -118,9 +131,9 @@ pub fn val_key_of(alloc: Global, bytes: &[u8]) -> Result<(u32, u32, Value, u32),
         Some(found) => found,
         None => return Err(KeyError::NotAKey),
     };
-    let (value, rest) = value_of(alloc, rest)?;
+    let (key, rest) = vals_of(alloc, rest)?;
     match only_num(rest) {
-        Some(tuple) => Ok((pair.0, pair.1, value, tuple)),
+        Some(tuple) => Ok((pair.0, pair.1, key, tuple)),
         None => Err(KeyError::NotAKey),
     }
 }

@@ -6,7 +6,7 @@ ghost use Rattle.bdb_tables.specs.InUseLaws.{numbers_in_order, numbers_are_one, 
 
 use crate::keys::{only_pair, only_triple, put_pair, put_triple, put_val_key, val_key_of};
 use crate::tab::Tab;
-use bdb_base::{Sign, Tuple, Value};
+use bdb_base::{List, Sign, Tuple, Value};
 use bdb_key::{KeyError, RowError, mark_of, only_num, put_mark, put_num, put_tuple, tuple_of};
 use std::alloc::{AllocError, Global};
 
@@ -357,7 +357,7 @@ impl Tab for EdgeIx {
 }
 
 impl Tab for ValTab {
-    type Key = (u32, u32, Value, u32);
+    type Key = (u32, u32, List<Value>, u32);
 
     type Row = (Sign, bool);
 
@@ -367,11 +367,11 @@ impl Tab for ValTab {
 
     ghost codec = { val_codec };
 
-    fn key_bytes(key: &(u32, u32, Value, u32), out: &mut Vec<u8>) -> Result<(), AllocError> {
-        put_val_key(out, key.0, key.1, &key.2, key.3)
+    fn key_bytes(key: &(u32, u32, List<Value>, u32), out: &mut Vec<u8>) -> Result<(), AllocError> {
+        put_val_key(out, key.0, key.1, key.2.as_slice(), key.3)
     }
 
-    fn key_back(alloc: Global, bytes: &[u8]) -> Result<(u32, u32, Value, u32), KeyError> {
+    fn key_back(alloc: Global, bytes: &[u8]) -> Result<(u32, u32, List<Value>, u32), KeyError> {
         val_key_of(alloc, bytes)
     }
 

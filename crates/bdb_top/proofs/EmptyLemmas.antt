@@ -8,7 +8,7 @@ use Rattle.bdb_session.specs.Known.{Known, AgreesOnSome}
 use Rattle.bdb_top.specs.Laws.{NoRowsStandForABase}
 
 pub no_rows_stand_for_a_base : NoRowsStandForABase
-no_rows_stand_for_a_base t none = inr (none, refl)
+no_rows_stand_for_a_base t none = inr (inl (none, refl))
 
 -- a keeper without rows can be opened
 pub no_rows_stand : (t : Tables) → t ≡ tables.empty → StandForSome t

@@ -24,7 +24,8 @@ pub record EndsByCount (s : State) (events : List Event) (now : Seen) (old new :
   pub before : k ≢ 0 → BeginsWith text (replies s (before_count (k - 1) s events))
   pub whole : status ≢ 4 → BeginsWith text (replies s (up_to_count k s events))
 
--- how many of the commits between two states of a keeper are of events that count: all but the one of opening
+-- how many of the commits between two states of a keeper are of events that count: all but the one of opening, which comes where
+-- the tables had no row or were of the format before this one
 abbrev pub commits_between : Seen → Seen → ℕ
 commits_between first now = now.commits - first.commits - opening first.kept
 

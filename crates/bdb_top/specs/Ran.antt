@@ -26,10 +26,10 @@ abbrev pub CommitsFor : ℕ → Seen → Seen → Type 0
 CommitsFor k first now = now.commits < 2 ^ 64 - 1 → k ≡ commits_between first now
 
 -- A run over a script from a state has ended with a status. The first of its events are done, with 0 and 1 all of them.
--- The tables store the base after them, a valid one; only where the keeper was not opened, with 5 or 6, they may still have no row
--- and stand for the empty base. There was one commit for each event that counts, and the one of opening. The replies to
--- the events are written, but where the sink failed perhaps a part of the last alone. The events done keep up with the bytes
--- that were taken of the script.
+-- The tables store the base after them, a valid one; only where the keeper was not opened, with 5 or 6, they may still be as they
+-- were, with no row or of the format before this one. There was one commit for each event that counts, and the one of opening.
+-- The replies to the events are written, but where the sink failed perhaps a part of the last alone. The events done keep up with
+-- the bytes that were taken of the script.
 pub record Ran (s : State) (text : List ℕ) (left : Option (List ℕ)) (first now : Seen) (old new : Option (List ℕ)) (status : ℕ) : Type 0 where
   pub done : List Event
   pub front : IsFrontOf done (events_of text)

@@ -11,10 +11,10 @@ use Rattle.bdb_session.specs.Outcome.{State}
 use Rattle.bdb_top.specs.Ran.{CommitsFor}
 
 -- A run over a stream from a state has ended with a status. The first of what the stream asks for is done, with 0 and 1 all of it.
--- The tables store the base after it, a valid one; only where the keeper was not opened, with 5 or 6, they may still have no row
--- and stand for the empty base. There was one commit for each batch that was run whole, and the one of opening. The replies
--- are written, but where the sink failed perhaps a part of the last alone. What is done keeps up with the bytes that were taken of
--- the stream.
+-- The tables store the base after it, a valid one; only where the keeper was not opened, with 5 or 6, they may still be as they
+-- were, with no row or of the format before this one. There was one commit for each batch that was run whole, and the one of
+-- opening. The replies are written, but where the sink failed perhaps a part of the last alone. What is done keeps up with the bytes
+-- that were taken of the stream.
 pub record RanMany (s : State) (text : List ℕ) (left : Option (List ℕ)) (first now : Seen) (old new : Option (List ℕ)) (status : ℕ) : Type 0 where
   pub done : List Asked
   pub front : IsFrontOf done (asked_of text)

@@ -3,6 +3,7 @@ ghost use Rattle.std.specs.Prelude.{◌≡◌, false};
 
 mod checking;
 mod faults;
+mod formats;
 mod jobs;
 mod limits;
 mod queries;

@@ -32,6 +32,9 @@ use std::alloc::Global;
 /// writes the replies to the sink, and answers the status. A command is carried out as soon as the bytes are read in which
 /// it ends, at most 65,536 at a time, and its reply is written at once.
 ///
+/// Tables without rows are first given those of the empty base, and those of the format before this one are written in this one, by
+/// one commit, which is that of no command.
+///
 /// | status | it comes |
 /// |---|---|
 /// | 0 | the script was read to its end, and every command was accepted |
@@ -41,7 +44,7 @@ use std::alloc::Global;
 /// | 4 | a write failed; what was written is a front of the replies |
 /// | 5 | the keeper failed; what was written is whole replies |
 /// | 6 | want of memory; what was written is whole replies |
-/// | 7 | no base of this format: the tables hold none; nothing is read or written, and the tables stay |
+/// | 7 | the tables hold no base, of this format or the one before it; nothing is read or written, and the tables stay |
 /// | 8 | exactly where none of those before came and the source gave more than 2^26 bytes, of which one more is taken; each command that ends in the first 2^26 was carried out, and its reply written |
 ///
 /// With 4, 5 and 6 each command that ends more than 65,536 bytes before the end of the bytes given was carried out, and its

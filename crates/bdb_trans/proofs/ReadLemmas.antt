@@ -162,7 +162,7 @@ users_bound v u C P le h one =
     let c : (2 * u + 8) * P ≡ u * P + (u + 8) * P = grind arith in
     omega (arith, a, b, c, le)
 
-plus_bound : (d r m C P : ℕ) → r ≤ m → C ≤ P → 1 ≤ P → d + ((2 * r + 1) + r * C) ≤ (d + 3 * m + 8) * P
+plus_bound : (d r m C P : ℕ) → r ≤ m → C ≤ P → 1 ≤ P → d + ((2 * r + 2) + r * C) ≤ (d + 3 * m + 8) * P
 plus_bound d r m C P le h one =
     let a : r * C ≤ m * P = mul-le r C m P le h in
     let b : (d + 2 * m + 8) * 1 ≤ (d + 2 * m + 8) * P = grows (d + 2 * m + 8) 1 P one in
@@ -361,13 +361,13 @@ module _ (b : Contents) (sight : Sight) (number : List ℕ → ℕ) (q : Query) 
         let other : is_users_item (slice_get q.items at) ≡ false = ap is_users_item is in
         let shape : ((walk_of at path ++ (step.Pos at rel ∷ [])) ++ (map step.Test cs ++ [])) ++ rest ≡ walk_of at path ++ (step.Pos at rel ∷ more) =
         append_assoc (walk_of at path ++ (step.Pos at rel ∷ [])) (map step.Test cs ++ []) rest ∙ append_assoc (walk_of at path) (step.Pos at rel ∷ []) more in
-        let D = (2 * m at + 1) + m at * C in
+        let D = (2 * m at + 2) + m at * C in
         let walk = costs_path sight at path (step.Pos at rel ∷ more) s D (λ n e. at_world n (walk_world set s g at alias rel Plus path is among n e) other) in
         let bound = plus_bound (length path) (m at) (m at) C P (omega arith) le one in
         subst (λ xs. reads_from sight xs s ≤ (length path + 3 * m at + 8) * P) (sym shape) (omega (arith, walk, bound))
       where
         at_world : (n : ℕ) → length (sight.rows n rel) ≤ m at → is_users_item (slice_get q.items at) ≡ false
-            → reads_from sight (step.Pos at rel ∷ ((map step.Test cs ++ []) ++ rest)) (with_world s n) ≤ (2 * m at + 1) + m at * C
+            → reads_from sight (step.Pos at rel ∷ ((map step.Test cs ++ []) ++ rest)) (with_world s n) ≤ (2 * m at + 2) + m at * C
         at_world n rows other =
             let more : List Step = (map step.Test cs ++ []) ++ rest in
             let here = with_world s n in

@@ -12,7 +12,7 @@ use Rattle.bdb_undo.specs.declared.change.Named.TheVariants.{Nothing, UserAdded,
 
 -- S, with a key k and a value v
 abbrev pub sightings : RelDef
-sightings = record { name = codes "S"; cols = record { name = codes "k"; kind = kind.Text } ∷ record { name = codes "v"; kind = kind.Text } ∷ [] }
+sightings = record { name = codes "S"; cols = record { name = codes "k"; kind = kind.Text } ∷ record { name = codes "v"; kind = kind.Text } ∷ []; key = 1 }
 
 -- Bob states S('a', 'x')
 abbrev pub bobs_word : Stmt

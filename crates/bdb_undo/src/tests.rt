@@ -20,7 +20,7 @@ fn relation(alloc: Global) -> Result<RelDef, AllocError>
     let name = Txt::try_new(alloc, "v")?;
     cols.push(ColDef { name, kind })?;
     let name = Txt::try_new(alloc, "S")?;
-    Ok(RelDef { name, cols })
+    Ok(RelDef { name, cols, key: 1 })
 }
 
 /// Bob, the second user, states S('a', 'x').

@@ -20,6 +20,7 @@ use Rattle.bdb_tables.specs.Names.{Names, number_of, is_named, with_name}
 use Rattle.bdb_tables.specs.States.{HoldsStates}
 use Rattle.bdb_worlds.specs.Growth.{with_prefixes, MayGrow, SomeMayGrow, HasGrown, AddsStates, SameOutside}
 use Rattle.bdb_worlds.specs.Holding.{Worlds}
+use Rattle.bdb_update.proofs.KeyLemmas.{lengths_fit}
 use Rattle.bdb_update.specs.ChangeLaws.{is_of_worlds}
 use Rattle.bdb_update.specs.Filling.{Before, CountsCome, HaveCome, SomeHaveCome, FillsWorlds, names_now}
 use Rattle.bdb_update.specs.Joining.{CountsArrived, MayJoin, SomeMayJoin, IsWorld, IsWorldFound, IsWorldIfAny, last_or, HaveArrived, Arrive}
@@ -31,6 +32,7 @@ use Rattle.bdb_update.proofs.ComeLemmas.{rows_one, rows_same}
 use Rattle.bdb_update.proofs.WithinLemmas.{same_reach_stores}
 use Rattle.bdb_tables.proofs.SameLemmas.{gives_still, states_still, tuples_still}
 use Rattle.bdb_update.proofs.StageLemmas.{belongs_parts}
+use Rattle.bdb_update.specs.Keys.{keys_of}
 
 or_turned : (a b : Bool) → (a || b) ≡ (b || a)
 or_turned true true = refl
@@ -111,7 +113,7 @@ module _ (t u : Tables) (x : Stmt) (worlds : ℕ) (new : List ℕ) (added : Adds
   grown = added held (may_grow t x worlds b s may counted)
 
   abbrev pub before : Before
-  before = record { users = is_user b.catalog.users; names = s.names; stmts = b.stmts; tuples = s.tuples; path = x.path; stood = grown.stood }
+  before = record { users = is_user b.catalog.users; names = s.names; keys = keys_of b; stmts = b.stmts; tuples = s.tuples; path = x.path; stood = grown.stood }
 
   pub have_come : HaveCome before u new
   have_come = record {
@@ -179,6 +181,7 @@ counts_arrive t u v x worlds n new added outside counts some b s may a z first l
     (record {
       tuples = tuples_still in_worlds t u outside b.stmts s.tuples refl refl s.stored.tuples;
       within = λ w e. e;
+      lengths = lengths_fit t b.catalog.rels s.stored.rels;
       consistent = valid_is_consistent b.catalog b.stmts may.valid;
       few = leb-true (length b.stmts) most_statements may.valid.stmts.few_stmts;
     })

@@ -24,6 +24,25 @@ pub record IsQuiet (old new : Seen) : Type 0 where
 pub quiet_read : {T E : Type 0} (old new : Seen) (x : T) (fault : E) → IsRead {T = T} {E = E} old new (Ok x) fault → IsQuiet old new
 quiet_read old new x fault r = record { goes = r.steps.ok; kept = r.kept; writes = r.writes; counts = r.counts }
 
+-- one read after another, and one that refuses after another
+pub read_then : {T U V E : Type 0} (a b c : Seen) (x : T) (y : U) (z : V) (fault : E) → IsRead {T = T} {E = E} a b (Ok x) fault → IsRead {T = U} {E = E} b c (Ok y) fault → IsRead {T = V} {E = E} a c (Ok z) fault
+read_then a b c x y z fault r s = record {
+  rest = r.rest;
+  kept = s.kept ∙ r.kept;
+  writes = s.writes ∙ r.writes;
+  counts = counts_then a b c r.counts s.counts;
+  steps = steps_ok a c z fault (goes_then a b c r.steps.ok s.steps.ok);
+}
+
+pub read_then_err : {T U V E : Type 0} (a b c : Seen) (x : T) (e fault : E) → IsRead {T = T} {E = E} a b (Ok x) fault → IsRead {T = U} {E = E} b c (Err e) fault → IsRead {T = V} {E = E} a c (Err e) fault
+read_then_err a b c x e fault r s = record {
+  rest = r.rest;
+  kept = tt;
+  writes = s.writes ∙ r.writes;
+  counts = counts_then a b c r.counts s.counts;
+  steps = steps_err a b c e fault r.steps.ok s.steps;
+}
+
 pub quiet_then : (a b c : Seen) → IsQuiet a b → IsQuiet b c → IsQuiet a c
 quiet_then a b c g h = record { goes = goes_then a b c g.goes h.goes; kept = h.kept ∙ g.kept; writes = h.writes ∙ g.writes; counts = counts_then a b c g.counts h.counts }
 

@@ -17,6 +17,7 @@ use Rattle.bdb_update.specs.Calls.{with_one, without_one}
 use Rattle.bdb_update.specs.ChangeLaws.{is_of_worlds}
 use Rattle.bdb_update.specs.Differing.{has_told}
 use Rattle.bdb_update.specs.Joining.{Arrive, CountsArrived, Numbers, Settles, SomeMayJoin, is_of_tuples}
+use Rattle.bdb_update.specs.Keys.{keys_of}
 use Rattle.bdb_update.specs.Parting.{LosesRows, LosesWorlds, Parts, SomeMayPart}
 use Rattle.bdb_update.proofs.BoundLemmas.{adds_within, drops_within}
 use Rattle.bdb_update.proofs.KeepLemmas.{stages_joined, stages_left}
@@ -48,7 +49,7 @@ module _ (old a b new : Seen) (x : Stmt) (worlds wid rows : ℕ) (some : SomeMay
       let stages = stages_joined old.kept a.kept b.kept new.kept x wid arrive numbers settles names keeps of_worlds (as_tables is_of_tuples a.kept b.kept tuples)
       (as_tables rows_alone b.kept new.kept alone) c s may in
       adds_within (length x.path) rows old a b new first second third tuples alone later last _ _ _ before middle after (came c s may _ _ before middle)
-      (one_lost c.stmts x old.kept a.kept new.kept stages)
+      (one_lost (keys_of c) c.stmts x old.kept a.kept new.kept stages)
 
 -- ---- a statement leaves a base
 
@@ -69,7 +70,7 @@ module _ (old a b new : Seen) (x : Stmt) (rows : ℕ) (some : SomeMayPart old.ke
       let before = stored_count old.kept c s may.valid in
       let middle = over_count c.stmts c.stmts p.names p.tuples a.kept (without_one c x) p.stored valid within in
       let few = over_few c.stmts c.stmts p.names p.tuples a.kept (without_one c x) p.stored valid within _ middle in
-      let l = went (row_for (λ _. 1) less (path_of p.names) p.tuples.tuple) p.stored.rows _ middle (omega arith) in
+      let l = went (row_for (keys_of c) less (path_of p.names) p.tuples.tuple) p.stored.rows _ middle (omega arith) in
       let stages = stages_left old.kept a.kept b.kept x parts loses names (as_tables rows_alone old.kept a.kept alone) of_worlds c s may in
       drops_within (length x.path) rows old a b new first second third alone tuples later last _ _ l.left before middle l.rows l.balance
-      (one_found less x b.kept a.kept old.kept stages)
+      (one_found (keys_of c) less x b.kept a.kept old.kept stages)

@@ -74,7 +74,7 @@ used_more ns path len (n ∷ new) = let e = used_more (with_name ns n (take (suc
 -- ---- so many rows have the worlds that have theirs
 
 module _ (s : Before) (told : List Stmt) (t now : Tables) (xs ys : List ℕ) (c : HaveCome s t (xs ++ ys)) (a : AreTold s told t) (same : SameBut (λ n. nat_eq n 11) t now)
-    (rows : HoldsRows (λ _. 1) s.stmts (path_of (names_now s xs)) s.tuples.tuple now) where
+    (rows : HoldsRows s.keys s.stmts (path_of (names_now s xs)) s.tuples.tuple now) where
   abbrev pub part : Names
   part = names_now s xs
 
@@ -96,19 +96,19 @@ module _ (s : Before) (told : List Stmt) (t now : Tables) (xs ys : List ℕ) (c 
         c.states.names.sized w n (c.states.names.named n w f);
   }
 
-  pub part_count : HasRowCount now (sum_by (rows_of s.stmts part) part.used)
-  part_count = rows_counted s.stmts told part s.tuples now used a.consistent (tuples_still (λ n. nat_eq n 11) t now same told s.tuples refl refl a.tuples) a.within rows
+  pub part_count : HasRowCount now (sum_by (rows_of s.keys s.stmts part) part.used)
+  part_count = rows_counted s.keys s.stmts told part s.tuples now a.lengths used a.consistent (tuples_still (λ n. nat_eq n 11) t now same told s.tuples refl refl a.tuples) a.within rows
 
-  pub part_few : sum_by (rows_of s.stmts part) part.used ≤ 1310720000
+  pub part_few : sum_by (rows_of s.keys s.stmts part) part.used ≤ 1310720000
   part_few =
       let e = ap (λ (x : Names). length x.used) whole_is ∙ used_more part s.path (s.stood + length xs) ys in
       let f = c.states.names.few in
-      rows_are_few s.stmts part a.consistent a.few (omega arith)
+      rows_are_few s.keys s.stmts part a.consistent a.few (omega arith)
 
 -- a world that has no name has no rows
-pub bare : (s : Before) (ns : Names) (now : Tables) (wid : ℕ) → HoldsRows (λ _. 1) s.stmts (path_of ns) s.tuples.tuple now → path_of ns wid ≡ None → IsBare now wid
+pub bare : (s : Before) (ns : Names) (now : Tables) (wid : ℕ) → HoldsRows s.keys s.stmts (path_of ns) s.tuples.tuple now → path_of ns wid ≡ None → IsBare now wid
 bare s ns now wid rows none k v e =
-    rows.rows k v ∙ ap (option_map val_codec.row_bytes) (ap (λ p. row_named (λ _. 1) s.stmts k p (s.tuples.tuple k.3)) (ap (path_of ns) e ∙ none))
+    rows.rows k v ∙ ap (option_map val_codec.row_bytes) (ap (λ p. row_named s.keys s.stmts k p (s.tuples.tuple k.3)) (ap (path_of ns) e ∙ none))
 
 counted_in : Tables → List (List ℕ) → ℕ
 counted_in t ps = capped (length (filter (has_none t) ps))

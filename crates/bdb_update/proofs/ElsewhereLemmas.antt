@@ -8,9 +8,11 @@ use Rattle.bdb_base.specs.Worlds.{explicit, IsConsistent}
 use Rattle.bdb_base.specs.declared.kinds.Sign.{Sign}
 use Rattle.bdb_base.specs.declared.kinds.Sign.TheVariants.{Plus, Minus}
 use Rattle.bdb_base.specs.declared.kinds.Stmt.{Stmt}
+use Rattle.bdb_base.specs.declared.kinds.Value.{Value}
 use Rattle.bdb_base.specs.declared.tuple.Tuple.{Tuple}
 use Rattle.bdb_base.proofs.ClashLemmas.{same_tuple_turned}
 use Rattle.bdb_keep.specs.Tables.{Tables}
+use Rattle.bdb_key.specs.Bytes.{num_bytes, vals_bytes}
 use Rattle.bdb_key.specs.Grammar.{IsNum}
 use Rattle.bdb_key.specs.Rows.{IsTupleRow}
 use Rattle.bdb_paths.proofs.StateLemmas.{list_any_same}
@@ -18,13 +20,15 @@ use Rattle.bdb_tables.specs.Codec.{HasAt}
 use Rattle.bdb_tables.specs.InUse.{ValKey, tuple_ix_codec}
 use Rattle.bdb_tables.specs.Marks.{Mark, explicit_of, explicit_sign}
 use Rattle.bdb_tables.specs.Names.{Names, path_of, number_of}
-use Rattle.bdb_tables.specs.Rows.{row_for, row_named}
+use Rattle.bdb_tables.specs.Rows.{row_for, row_named, AreKeyLengths}
 use Rattle.bdb_val.specs.Middle.{worlds_of, HasExplicit}
 use Rattle.bdb_val.specs.Settling.{row_key}
 use Rattle.bdb_val.proofs.HeldLemmas.{some_is, held_rows_are_explicit}
+use Rattle.bdb_update.proofs.KeyLemmas.{key_by_length, lengths_fit}
 use Rattle.bdb_update.specs.Differing.{has_told}
 use Rattle.bdb_update.specs.Elsewhere.{IsLost, AreLost, IsFresh, AreFresh, kept_if}
-use Rattle.bdb_update.specs.Keys.{key_rest}
+use Rattle.bdb_tables.specs.Lengths.{IsKeyLength}
+use Rattle.bdb_update.specs.Keys.{key_rest, keys_of}
 use Rattle.bdb_update.specs.Reads.{AnyTells, TellsAt}
 use Rattle.bdb_update.specs.Reached.{told_elsewhere, lost_of, fresh_of}
 use Rattle.bdb_tables.specs.Stored.{Stores}
@@ -35,15 +39,18 @@ use Rattle.bdb_update.proofs.TupleLemmas.{number_read}
 -- ---- all worlds' rows
 
 module _ (t : Tables) (u : Tuple) (tid : ℕ) (num : IsNum tid) (fits : IsTupleRow u) (b : Contents) (s : Stores t b) (w : List ℕ) (wid : ℕ)
-    (consistent : IsConsistent (λ _. 1) b.stmts) (number : number_of s.names w ≡ Some wid) (tuple : s.tuples.tuple tid ≡ Some u) where
+    (consistent : IsConsistent (keys_of b) b.stmts) (number : number_of s.names w ≡ Some wid) (tuple : s.tuples.tuple tid ≡ Some u) where
   abbrev ns : Names
   ns = s.names
 
   abbrev held : ValKey → Option Mark
-  held = row_for (λ _. 1) b.stmts (path_of ns) s.tuples.tuple
+  held = row_for (keys_of b) b.stmts (path_of ns) s.tuples.tuple
 
-  has : HasExplicit b.stmts (worlds_of ns) s.tuples.tuple held t
-  has = held_rows_are_explicit b.stmts ns s.tuples t s.stored.states.names (λ v e. s.stored.worlds v ∙ e) consistent s.stored.tuples s.stored.rows
+  lengths : AreKeyLengths (keys_of b)
+  lengths = lengths_fit t b.catalog.rels s.stored.rels
+
+  has : HasExplicit (keys_of b) b.stmts (worlds_of ns) s.tuples.tuple held t
+  has = held_rows_are_explicit (keys_of b) b.stmts ns s.tuples t lengths s.stored.states.names (λ v e. s.stored.worlds v ∙ e) consistent s.stored.tuples s.stored.rows
 
   one_path : {x y : List ℕ} (o : Option (List ℕ)) → o ≡ Some x → o ≡ Some y → x ≡ y
   one_path o p q = cc
@@ -95,17 +102,17 @@ module _ (t : Tables) (u : Tuple) (tid : ℕ) (num : IsNum tid) (fits : IsTupleR
   ]
 
   abbrev rest : List ℕ
-  rest = key_rest u tid
+  rest = key_rest (keys_of b) u tid
 
   -- a world that tells a tuple has a path, at which it is stated
   told_path : (k : ℕ) → TellsAt t rest (Some wid) k → told_elsewhere b.stmts w u ≡ true
   told_path k x = by (path_of ns k) refl
     where
-      row : held (row_key k tid u) ≡ Some (x.explicit.sign, true)
-      row = explicit_row t b.stmts ns s.tuples s.stored.rows u tid k num fits x.explicit
+      row : held (row_key (keys_of b) k tid u) ≡ Some (x.explicit.sign, true)
+      row = explicit_row (keys_of b) lengths t b.stmts ns s.tuples s.stored.rows u tid k num fits x.explicit
 
       by : (o : Option (List ℕ)) → path_of ns k ≡ o → told_elsewhere b.stmts w u ≡ true
-      by None p = absurd (false≢true (ap (λ o. is_some (row_named (λ _. 1) b.stmts (row_key k tid u) o (s.tuples.tuple tid))) (sym p) ∙ ap is_some row))
+      by None p = absurd (false≢true (ap (λ o. is_some (row_named (keys_of b) b.stmts (row_key (keys_of b) k tid u) o (s.tuples.tuple tid))) (sym p) ∙ ap is_some row))
       by (Some v) p =
           let g = sign_stated v (ap is_some (sym (has.explicit k v tid u p tuple) ∙ ap explicit_of row)) in
           stated_elsewhere v g.0 b.stmts (false_from_ne_true (same_path v w) (λ h.
@@ -124,10 +131,10 @@ module _ (t : Tables) (u : Tuple) (tid : ℕ) (num : IsNum tid) (fits : IsTupleR
       let apart : nat_eq k.0 wid ≡ false = false_from_ne_true (nat_eq k.0 wid) (λ h.
       let same : v ≡ w = one_path (path_of ns k.0) p (ap (path_of ns) (eqb-true k.0 wid h) ∙ s.stored.states.names.numbered w wid number) in
       false≢true (sym r.2 ∙ (same_path-Decides v w).1 same)) in
-      let some = some_is (explicit_of (held (row_key k.0 tid u))) (ap is_some (has.explicit k.0 v tid u p tuple) ∙ stated_sign v r.1 r.3) in (
+      let some = some_is (explicit_of (held (row_key (keys_of b) k.0 tid u))) (ap is_some (has.explicit k.0 v tid u p tuple) ∙ stated_sign v r.1 r.3) in (
         k.0,
         record {
-          explicit = row_explicit t b.stmts ns s.tuples s.stored.rows u tid k.0 num fits some.0 size (explicit_mark (held (row_key k.0 tid u)) some.0 some.1);
+          explicit = row_explicit (keys_of b) lengths t b.stmts ns s.tuples s.stored.rows u tid k.0 num fits some.0 size (explicit_mark (held (row_key (keys_of b) k.0 tid u)) some.0 some.1);
           beside = not_from_false (nat_eq k.0 wid) apart;
         },
       )
@@ -184,11 +191,12 @@ module _ (t : Tables) (u : Tuple) (fits : IsTupleRow u) where
         | inr h ↦ or_right (same_tuple u x.tuple) (has_tuple xs u) (elsewhere xs h)
       ]
 
-  pub lost_some : (wid tid : ℕ) (reached : List Stmt) (is : Bool) → IsNum tid → HasAt tuple_ix_codec t u (Some tid) → AnyTells t (key_rest u tid) (Some wid) is
+  pub lost_some : (len wid tid : ℕ) (reached : List Stmt) (is : Bool) → IsNum tid → HasAt tuple_ix_codec t u (Some tid) → IsKeyLength t u.rel len → AnyTells t (key_rest (λ _. len) u tid) (Some wid) is
       → IsLost t wid reached u (not (has_tuple reached u || is))
-  lost_some wid tid reached is num has tells b s w c n =
+  lost_some len wid tid reached is num has long tells b s w c n =
       let tuple : s.tuples.tuple tid ≡ Some u = s.stored.tuples.numbered u tid (sym (number_read b.stmts s.tuples t u (Some tid) s.stored.tuples fits has)) in
-      ap (λ a. not (has_tuple reached u || a)) (told_is t u tid num fits b s w wid c n tuple is tells)
+      ap (λ a. not (has_tuple reached u || a)) (told_is t u tid num fits b s w wid c n tuple is
+      (subst (λ (vs : List Value). AnyTells t (num_bytes u.rel ++ vals_bytes vs ++ num_bytes tid) (Some wid) is) (key_by_length (keys_of b) len u (long b.catalog.rels s.stored.rels)) tells))
 
 -- a tuple that one of some has is not lost
 pub lost_held : (t : Tables) (u : Tuple) (wid : ℕ) (reached : List Stmt) → has_tuple reached u ≡ true → IsLost t wid reached u false
@@ -213,7 +221,7 @@ kept_more f x xs kept next end is same put rest =
 
 -- those that are lost among the first ones, with those among the rest
 abbrev pub LostSoFar : Tables → ℕ → List Stmt → List Stmt → List Stmt → List Stmt → Type 0
-LostSoFar t wid reached gone rest kept = (b : Contents) (s : Stores t b) (w : List ℕ) → IsConsistent (λ _. 1) b.stmts → number_of s.names w ≡ Some wid
+LostSoFar t wid reached gone rest kept = (b : Contents) (s : Stores t b) (w : List ℕ) → IsConsistent (keys_of b) b.stmts → number_of s.names w ≡ Some wid
     → kept ++ lost_of b.stmts w reached rest ≡ lost_of b.stmts w reached gone
 
 pub lost_more : (t u : Tables) (wid : ℕ) (reached gone : List Stmt) (x : Stmt) (rest kept next : List Stmt) (is : Bool) → u ≡ t → LostSoFar t wid reached gone (x ∷ rest) kept → IsLost u wid reached x.tuple is

@@ -7,7 +7,7 @@ use Rattle.std.specs.FinMap as tables
 use Rattle.std.proofs.lemmas.Bool.{false≢true, false_from_ne_true, eqb-true, cond-false}
 use Rattle.std.proofs.lemmas.Bool.Decides.{nat_tests}
 use Rattle.bdb_base.specs.Alternation.{alternates}
-use Rattle.bdb_base.specs.Bases.{is_user}
+use Rattle.bdb_base.specs.Bases.{is_user, key_lengths}
 use Rattle.bdb_base.specs.declared.kinds.RelDef.{RelDef}
 use Rattle.bdb_base.specs.Segments.{is_suffix}
 use Rattle.bdb_base.specs.States.{HasPrefixes, is_state, edge_target}
@@ -29,13 +29,13 @@ use Rattle.bdb_update.specs.StoredLaws.{TwoRowsStoreEmpty}
 -- ---- the two rows
 
 abbrev format_put : Tables
-format_put = with_change meta_codec tables.empty (tt, Some 2)
+format_put = with_change meta_codec tables.empty (tt, Some 3)
 
 abbrev two_rows : Tables
 two_rows = with_change depth_codec format_put (0, Some 0)
 
 nothing_else : {Key Row : Type 0} (c : Codec Key Row) → (c.number ≡ 1 → ⊥) → (c.number ≡ 6 → ⊥) → Gives c two_rows (λ _. None)
-nothing_else c a b = change_elsewhere c depth_codec b format_put (λ _. None) (0, Some 0) (change_elsewhere c meta_codec a tables.empty (λ _. None) (tt, Some 2) (empty_gives c))
+nothing_else c a b = change_elsewhere c depth_codec b format_put (λ _. None) (0, Some 0) (change_elsewhere c meta_codec a tables.empty (λ _. None) (tt, Some 3) (empty_gives c))
 
 -- ---- the name of the empty path
 
@@ -122,7 +122,7 @@ root_tables : TablesAre two_rows (depth_of root_names) (link_of root_names) (edg
 root_tables = record {
   depth = gives_same depth_codec two_rows (with_row_at depth_codec (λ _. None) (0, Some 0)) (depth_of root_names) (λ k f. root_depths k)
       (change_gives depth_codec numbers_in_order format_put (λ _. None) (0, Some 0) (record { key = lit< tt; row = lit< tt })
-      (change_elsewhere depth_codec meta_codec (λ e. cc) tables.empty (λ _. None) (tt, Some 2) (empty_gives depth_codec)));
+      (change_elsewhere depth_codec meta_codec (λ e. cc) tables.empty (λ _. None) (tt, Some 3) (empty_gives depth_codec)));
   link = gives_same link_codec two_rows (λ _. None) (link_of root_names) (λ k f. no_links k) (nothing_else link_codec (λ e. cc) (λ e. cc));
   linked = gives_same linked_codec two_rows (λ _. None) _ (λ k f. ap (λ o. row_where (leads_to o k.0)) (no_links k.1)) (nothing_else linked_codec (λ e. cc) (λ e. cc));
   edge = gives_same edge_codec two_rows (λ _. None) (edge_of (is_user []) root_names) (λ k f. no_edges k) (nothing_else edge_codec (λ e. cc) (λ e. cc));
@@ -138,10 +138,10 @@ root_states : (w : List ℕ) → is_named root_names w ≡ is_state [] w
 root_states [] = refl
 root_states (i ∷ w) = refl
 
-no_held : (k : ValKey) → None ≡ row_for (λ _. 1) [] root_path (λ _. None) k
-no_held k = by (root_path k.0)
+no_held : (keys : ℕ → ℕ) (k : ValKey) → None ≡ row_for keys [] root_path (λ _. None) k
+no_held keys k = by (root_path k.0)
   where
-    by : (o : Option (List ℕ)) → None ≡ row_named (λ _. 1) [] k o None
+    by : (o : Option (List ℕ)) → None ≡ row_named keys [] k o None
     by None = refl
     by (Some w) = refl
 
@@ -150,9 +150,9 @@ two_rows_store_empty = record {
   names = root_names;
   tuples = no_tuples;
   stored = record {
-    format = change_elsewhere meta_codec depth_codec (λ e. cc) format_put (λ _. Some 2) (0, Some 0)
-        (gives_same meta_codec format_put (with_row_at meta_codec (λ _. None) (tt, Some 2)) (λ _. Some 2) (λ k f. refl)
-        (change_gives meta_codec (λ a b fa fb. refl) tables.empty (λ _. None) (tt, Some 2) (record { key = tt; row = lit< tt }) (empty_gives meta_codec)));
+    format = change_elsewhere meta_codec depth_codec (λ e. cc) format_put (λ _. Some 3) (0, Some 0)
+        (gives_same meta_codec format_put (with_row_at meta_codec (λ _. None) (tt, Some 3)) (λ _. Some 3) (λ k f. refl)
+        (change_gives meta_codec (λ a b fa fb. refl) tables.empty (λ _. None) (tt, Some 3) (record { key = tt; row = lit< tt }) (empty_gives meta_codec)));
     users = gives_same user_codec two_rows (λ _. None) (name_of []) (λ k f. no_names k) (nothing_else user_codec (λ e. cc) (λ e. cc));
     rels = gives_same rel_codec two_rows (λ _. None) (slice_get no_rel) (λ k f. refl) (nothing_else rel_codec (λ e. cc) (λ e. cc));
     tuples = record {
@@ -170,10 +170,10 @@ two_rows_store_empty = record {
       tables = root_tables;
     };
     worlds = root_states;
-    rows = gives_same val_codec two_rows (λ _. None) _ (λ k f. no_held k) (nothing_else val_codec (λ e. cc) (λ e. cc));
+    rows = gives_same val_codec two_rows (λ _. None) _ (λ k f. no_held (key_lengths no_rel) k) (nothing_else val_codec (λ e. cc) (λ e. cc));
     plain = nothing_else plain_codec (λ e. cc) (λ e. cc);
     outside = λ n k out.
         change_same depth_codec (λ m. nat_eq m 6) format_put (0, Some 0) refl n k (outside_one 6 refl n out)
-        ∙ change_same meta_codec (λ m. nat_eq m 1) tables.empty (tt, Some 2) refl n k (outside_one 1 refl n out) ∙ no_rows (n ∷ k);
+        ∙ change_same meta_codec (λ m. nat_eq m 1) tables.empty (tt, Some 3) refl n k (outside_one 1 refl n out) ∙ no_rows (n ∷ k);
   };
 }

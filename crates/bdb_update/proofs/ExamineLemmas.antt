@@ -73,7 +73,7 @@ module _ (t : Tables) (c : Counts) (x : Stmt) (p : Place) (place : IsPlace t x p
       }
 
   verdict : IsVerdict t b x (judged x p c)
-  verdict = by_row (least_row x p.rows.items) refl
+  verdict = by_row (least_row (λ _. p.key_len) x p.rows.items) refl
     where
       by_size : clash_of b x ≡ None → stands b.stmts x ≡ false → (o : Option What) → size_passed (counts_with x p c) ≡ o → IsVerdict t b x (filled_by x p (counts_with x p c) o)
       by_size apart fresh None e = record {
@@ -83,6 +83,7 @@ module _ (t : Tables) (c : Counts) (x : Stmt) (p : Place) (place : IsPlace t x p
         sizes = sizes fresh;
         world = world_found t x p place.reaches place.within;
         number = place.number;
+        key_length = place.key_length;
         fits = place.fits;
       }
       by_size apart fresh (Some what) e = (apart, sym (sizes_pass (counts_with x p c) (counts_of (with_one b x)) (sizes fresh)) ∙ e)
@@ -91,7 +92,7 @@ module _ (t : Tables) (c : Counts) (x : Stmt) (p : Place) (place : IsPlace t x p
       by_own apart true e = standing_found t x p place b may.base.stored may.base.valid may.belongs e
       by_own apart false e = by_size apart (none_standing t x p place b may.base.stored may.base.valid may.belongs e) (size_passed (counts_with x p c)) refl
 
-      by_row : (o : Option Stored) → least_row x p.rows.items ≡ o → IsVerdict t b x (judged_by x p c o)
+      by_row : (o : Option Stored) → least_row (λ _. p.key_len) x p.rows.items ≡ o → IsVerdict t b x (judged_by x p c o)
       by_row (Some r) e = clash_found t x p place b may.base.stored may.base.valid may.belongs r e
       by_row None e = by_own (no_clash_found t x p place b may.base.stored may.base.valid may.belongs e) (list_any (is_own x) p.rows.items) refl
 

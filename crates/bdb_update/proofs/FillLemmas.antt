@@ -48,13 +48,13 @@ inherited_only None = refl
 inherited_only (Some m) = refl
 
 -- the row of a tuple in a world that comes, over the row in the world to which its suffix link leads
-row_comes : (stmts : List Stmt) (k : ValKey) (m : ℕ) (d p : List ℕ) → ((u : Tuple) → mark_of (λ _. 1) stmts p u ≡ inherited (mark_of (λ _. 1) stmts d u)) → (o : Option Tuple)
-    → inherited_or (row_named (λ _. 1) stmts (key_in m k) (Some d) o) None ≡ row_named (λ _. 1) stmts k (Some p) o
-row_comes stmts k m d p h None = refl
-row_comes stmts k m d p h (Some u) = by (has_key (λ _. 1) k u)
+row_comes : (keys : ℕ → ℕ) (stmts : List Stmt) (k : ValKey) (m : ℕ) (d p : List ℕ) → ((u : Tuple) → mark_of keys stmts p u ≡ inherited (mark_of keys stmts d u)) → (o : Option Tuple)
+    → inherited_or (row_named keys stmts (key_in m k) (Some d) o) None ≡ row_named keys stmts k (Some p) o
+row_comes keys stmts k m d p h None = refl
+row_comes keys stmts k m d p h (Some u) = by (has_key keys k u)
   where
-    by : (b : Bool) → inherited_or (cond b (mark_of (λ _. 1) stmts d u) None) None ≡ cond b (mark_of (λ _. 1) stmts p u) None
-    by true = inherited_only (mark_of (λ _. 1) stmts d u) ∙ sym (h u)
+    by : (b : Bool) → inherited_or (cond b (mark_of keys stmts d u) None) None ≡ cond b (mark_of keys stmts p u) None
+    by true = inherited_only (mark_of keys stmts d u) ∙ sym (h u)
     by false = refl
 
 -- the first user of a path that has some
@@ -110,7 +110,7 @@ module _ (s : Before) (t : Tables) (xs ys : List ℕ) (n : ℕ) (c : HaveCome s 
   pub link_is : (m : ℕ) → HasAt link_codec t n (Some m) → link_of all n ≡ Some m
   link_is m has = sym (link_read t _ _ _ c.states.tables n number_fits (Some m) has)
 
-  module _ (now u : Tables) (m : ℕ) (rows : HoldsRows (λ _. 1) s.stmts (path_of (names_now s xs)) s.tuples.tuple now) (linked : link_of all n ≡ Some m) (copies : CopiesWorld now u m n) where
+  module _ (now u : Tables) (m : ℕ) (rows : HoldsRows s.keys s.stmts (path_of (names_now s xs)) s.tuples.tuple now) (linked : link_of all n ≡ Some m) (copies : CopiesWorld now u m n) where
     has : HasStates s.stmts (is_named all)
     has v e = c.more v (c.old v ∙ e)
 
@@ -132,35 +132,35 @@ module _ (s : Before) (t : Tables) (xs ys : List ℕ) (n : ℕ) (c : HaveCome s 
         let k = some_is (number_of s.names (i ∷ w)) (c.old (i ∷ w) ∙ e) in
         next_is_new s.names s.path s.stood xs ys n c.least whole names k.0 (c.names.numbered (i ∷ w) k.0 k.1 ∙ ap Some (sym p_is)))
 
-    inherits : (v : Tuple) → mark_of (λ _. 1) s.stmts p v ≡ inherited (mark_of (λ _. 1) s.stmts d v)
-    inherits v = ap (λ z. mark_of (λ _. 1) s.stmts z v) p_is ∙ plain_world_inherits (λ _. 1) s.stmts (is_named all) i w v has no_state
+    inherits : (v : Tuple) → mark_of s.keys s.stmts p v ≡ inherited (mark_of s.keys s.stmts d v)
+    inherits v = ap (λ z. mark_of s.keys s.stmts z v) p_is ∙ plain_world_inherits s.keys s.stmts (is_named all) i w v has no_state
 
     abbrev rows_before : ValKey → Option Mark
-    rows_before = row_for (λ _. 1) s.stmts (path_of before) s.tuples.tuple
+    rows_before = row_for s.keys s.stmts (path_of before) s.tuples.tuple
 
-    at_new : (k : ValKey) → k.0 ≡ n → inherited_or (rows_before (key_in m k)) (rows_before k) ≡ row_named (λ _. 1) s.stmts k (Some p) (s.tuples.tuple k.3)
+    at_new : (k : ValKey) → k.0 ≡ n → inherited_or (rows_before (key_in m k)) (rows_before k) ≡ row_named s.keys s.stmts k (Some p) (s.tuples.tuple k.3)
     at_new k e =
-        ap (λ z. inherited_or (row_named (λ _. 1) s.stmts (key_in m k) z (s.tuples.tuple k.3)) (rows_before k)) led_before
-        ∙ ap (λ z. inherited_or (row_named (λ _. 1) s.stmts (key_in m k) (Some d) (s.tuples.tuple k.3)) (row_named (λ _. 1) s.stmts k z (s.tuples.tuple k.3)))
+        ap (λ z. inherited_or (row_named s.keys s.stmts (key_in m k) z (s.tuples.tuple k.3)) (rows_before k)) led_before
+        ∙ ap (λ z. inherited_or (row_named s.keys s.stmts (key_in m k) (Some d) (s.tuples.tuple k.3)) (row_named s.keys s.stmts k z (s.tuples.tuple k.3)))
         (ap (path_of before) e ∙ front_free s.names s.path s.stood xs ys n c.least whole)
-        ∙ row_comes s.stmts k m d p inherits (s.tuples.tuple k.3)
+        ∙ row_comes s.keys s.stmts k m d p inherits (s.tuples.tuple k.3)
 
-    row_is : (k : ValKey) → rows_copied rows_before m n k ≡ row_named (λ _. 1) s.stmts k (cond (nat_eq k.0 n) (Some p) (path_of before k.0)) (s.tuples.tuple k.3)
+    row_is : (k : ValKey) → rows_copied rows_before m n k ≡ row_named s.keys s.stmts k (cond (nat_eq k.0 n) (Some p) (path_of before k.0)) (s.tuples.tuple k.3)
     row_is k = elim (cases_Bool (nat_eq k.0 n)) [
       | inl e ↦
           cond-true (nat_eq k.0 n) (inherited_or (rows_before (key_in m k)) (rows_before k)) (rows_before k) e
           ∙ at_new k (eqb-true k.0 n e)
-          ∙ ap (λ z. row_named (λ _. 1) s.stmts k z (s.tuples.tuple k.3)) (sym (cond-true (nat_eq k.0 n) (Some p) (path_of before k.0) e))
+          ∙ ap (λ z. row_named s.keys s.stmts k z (s.tuples.tuple k.3)) (sym (cond-true (nat_eq k.0 n) (Some p) (path_of before k.0) e))
       | inr e ↦
           cond-false (nat_eq k.0 n) (inherited_or (rows_before (key_in m k)) (rows_before k)) (rows_before k) e
-          ∙ ap (λ z. row_named (λ _. 1) s.stmts k z (s.tuples.tuple k.3)) (sym (cond-false (nat_eq k.0 n) (Some p) (path_of before k.0) e))
+          ∙ ap (λ z. row_named s.keys s.stmts k z (s.tuples.tuple k.3)) (sym (cond-false (nat_eq k.0 n) (Some p) (path_of before k.0) e))
     ]
 
-    world_filled : HoldsRows (λ _. 1) s.stmts (path_of (with_name before n p)) s.tuples.tuple u
-    world_filled = gives_same val_codec u (rows_copied rows_before m n) (row_for (λ _. 1) s.stmts (path_of (with_name before n p)) s.tuples.tuple) (λ k f. row_is k) (copies rows_before rows)
+    world_filled : HoldsRows s.keys s.stmts (path_of (with_name before n p)) s.tuples.tuple u
+    world_filled = gives_same val_codec u (rows_copied rows_before m n) (row_for s.keys s.stmts (path_of (with_name before n p)) s.tuples.tuple) (λ k f. row_is k) (copies rows_before rows)
 
-    pub one_filled : HoldsRows (λ _. 1) s.stmts (path_of (names_now s (xs ++ n ∷ []))) s.tuples.tuple u
-    one_filled = subst (λ (x : Names). HoldsRows (λ _. 1) s.stmts (path_of x) s.tuples.tuple u) (sym (prefixes_push s.names s.path s.stood xs n)) world_filled
+    pub one_filled : HoldsRows s.keys s.stmts (path_of (names_now s (xs ++ n ∷ []))) s.tuples.tuple u
+    one_filled = subst (λ (x : Names). HoldsRows s.keys s.stmts (path_of x) s.tuples.tuple u) (sym (prefixes_push s.names s.path s.stood xs n)) world_filled
 
 -- ---- the loop
 
@@ -174,7 +174,7 @@ pub record IsFilling (old now : Seen) (wids : List ℕ) (k count : ℕ) : Type 0
   pub others : SameBut rows_alone old.kept now.kept
   pub grammar : InGrammar now.kept
   pub tuples : HaveTuples now.kept
-  pub filled : (s : Before) → HaveCome s old.kept wids → HoldsRows (λ _. 1) s.stmts (path_of (names_now s (take k wids))) s.tuples.tuple now.kept
+  pub filled : (s : Before) → HaveCome s old.kept wids → HoldsRows s.keys s.stmts (path_of (names_now s (take k wids))) s.tuples.tuple now.kept
   pub counted : (s : Before) (told : List Stmt) → HaveCome s old.kept wids → AreTold s told old.kept → (a z : ℕ) → HasRowCount old.kept a → HasRowCount now.kept z → z ≡ a + count
   pub writes : Rises count old.writes now.writes
 
@@ -220,7 +220,7 @@ module _ {T E : Type 0} (old now new : Seen) (wids : List ℕ) (k n count rows m
   taken : take (k + 1) wids ≡ xs ++ n ∷ []
   taken = take_more wids k 0 lt ∙ ap (λ z. xs ++ z ∷ []) (sym e)
 
-  rows_more : (s : Before) → HaveCome s old.kept wids → HoldsRows (λ _. 1) s.stmts (path_of (names_now s (xs ++ n ∷ []))) s.tuples.tuple new.kept
+  rows_more : (s : Before) → HaveCome s old.kept wids → HoldsRows s.keys s.stmts (path_of (names_now s (xs ++ n ∷ []))) s.tuples.tuple new.kept
   rows_more s c =
       let c2 = split s c in
       let m = filled.link in
@@ -252,7 +252,7 @@ module _ {T E : Type 0} (old now new : Seen) (wids : List ℕ) (k n count rows m
     others = same_now;
     grammar = grammar;
     tuples = tuples;
-    filled = λ s c. subst (λ zs. HoldsRows (λ _. 1) s.stmts (path_of (names_now s zs)) s.tuples.tuple new.kept) (sym taken) (rows_more s c);
+    filled = λ s c. subst (λ zs. HoldsRows s.keys s.stmts (path_of (names_now s zs)) s.tuples.tuple new.kept) (sym taken) (rows_more s c);
     counted = counted_more;
     alone = λ q out. alone q out ∙ f.alone q out;
     writes = λ small.
@@ -263,4 +263,4 @@ module _ {T E : Type 0} (old now new : Seen) (wids : List ℕ) (k n count rows m
   }
 
 pub filling_ends : (old now : Seen) (wids : List ℕ) (k count : ℕ) → IsFilling old now wids k count → length wids ≤ k → FillsWorlds old.kept now.kept wids
-filling_ends old now wids k count f le s c = subst (λ zs. HoldsRows (λ _. 1) s.stmts (path_of (names_now s zs)) s.tuples.tuple now.kept) (take_all k wids le) (f.filled s c)
+filling_ends old now wids k count f le s c = subst (λ zs. HoldsRows s.keys s.stmts (path_of (names_now s zs)) s.tuples.tuple now.kept) (take_all k wids le) (f.filled s c)

@@ -7,12 +7,12 @@ use Rattle.std.specs.declared.cmp.Ordering.TheVariants.{Less, Equal, Greater}
 use Rattle.std.proofs.lemmas.Bool.{cases_Bool, and_parts, and_from, false≢true, false_from_ne_true, or_cases, or_left, or_right, eqb-true, eq-eqb, cases_lt}
 use Rattle.std.proofs.lemmas.List.{take_all}
 use Rattle.bdb_base.specs.Bases.{Contents, IsValid, belongs, is_user, has_tuple, key_lengths, stands, tuple_count, world_count, with_statement}
-use Rattle.bdb_base.specs.Clash.{clash}
+use Rattle.bdb_base.specs.Clash.{clash, key_of}
 use Rattle.bdb_base.specs.Laws.{ClashesAt}
 use Rattle.bdb_base.specs.Order.{path_cmp, sign_cmp, statement_cmp, tuple_cmp}
 use Rattle.bdb_base.specs.OrderLemmas.{is_eq_statement_cmp, is_eq_path_cmp, is_eq_tuple_cmp}
-use Rattle.bdb_base.specs.Same.{same_sign, same_statement, same_tuple, same_value}
-use Rattle.bdb_base.specs.SameLemmas.{same_path-Decides, same_sign-Decides, same_tuple-Decides, same_value-Decides}
+use Rattle.bdb_base.specs.Same.{same_sign, same_statement, same_tuple, same_values}
+use Rattle.bdb_base.specs.SameLemmas.{same_path-Decides, same_sign-Decides, same_tuple-Decides, same_values-Decides}
 use Rattle.bdb_base.specs.States.{is_state, new_states}
 use Rattle.bdb_base.specs.Worlds.{explicit, IsConsistent}
 use Rattle.bdb_base.specs.declared.kinds.Sign.{Sign}
@@ -28,20 +28,22 @@ use Rattle.bdb_base.proofs.WorldLemmas.{nothing_stands, valid_is_consistent}
 use Rattle.bdb_keep.specs.Tables.{Tables}
 use Rattle.bdb_paths.proofs.StateLemmas.{list_any_same, put_counts_worlds, states_have_prefixes}
 use Rattle.bdb_tables.specs.Names.{number_of}
-use Rattle.bdb_val.specs.Reads.{is_of_group}
-use Rattle.bdb_val.specs.Settling.{key_value}
+use Rattle.bdb_val.specs.Reads.{is_of_group, group_prefix}
 use Rattle.bdb_val.specs.declared.stored.Stored.{Stored}
 use Rattle.bdb_val.proofs.WalkLemmas.{is_group}
 use Rattle.bdb_worlds.proofs.GrowLemmas.{take_split}
 use Rattle.bdb_worlds.specs.Holding.{Worlds}
 use Rattle.bdb_worlds.specs.Reach.{Reaches}
+use Rattle.bdb_update.proofs.KeyLemmas.{key_by_length}
 use Rattle.bdb_update.specs.Calls.{clash_of}
+use Rattle.bdb_update.specs.Groups.{AreExplicitUnder}
+use Rattle.bdb_update.specs.Keys.{keys_of}
 use Rattle.bdb_update.specs.Looking.{IsPlace, is_clashing, is_own, least_row, prefix_of}
 use Rattle.bdb_tables.specs.Stored.{Stores}
 use Rattle.bdb_update.specs.declared.looking.Place.{Place}
 use Rattle.bdb_update.proofs.ExplicitLemmas.{AmongAll, among_all, filtered, is_explicit_row, unfiltered}
 use Rattle.bdb_update.proofs.GrammarLemmas.{stored_is_in_grammar}
-use Rattle.bdb_update.proofs.LeastLemmas.{IsLeastRow, IsNotBelow, least_is, none_clash}
+use Rattle.bdb_update.proofs.LeastLemmas.{IsLeastRow, IsNotBelow, least_is, none_clash, least_alike}
 use Rattle.bdb_update.proofs.MissingLemmas.{missing_behind}
 use Rattle.bdb_update.proofs.OwnLemmas.{IsSaid, rows_said, said_rows}
 use Rattle.bdb_update.proofs.StageLemmas.{belongs_parts, over_has_tuples}
@@ -74,14 +76,14 @@ below_at z y e n l =
     by Greater c h = absurd (false≢true (sym (ap (λ o. is_lt (ordering_then o (sign_cmp z.sign y.sign))) c) ∙ h))
 
 -- one tuple with signs in order clashes with itself
-signs_clash : (u : Tuple) (r s : Sign) → is_lt (sign_cmp r s) ≡ true → clash (λ _. 1) u r u s ≡ true
-signs_clash u Plus Plus e = absurd (false≢true e)
-signs_clash u Plus Minus e = (same_tuple-Decides u u).1 refl
-signs_clash u Minus Plus e = absurd (false≢true e)
-signs_clash u Minus Minus e = absurd (false≢true e)
+signs_clash : (keys : ℕ → ℕ) (u : Tuple) (r s : Sign) → is_lt (sign_cmp r s) ≡ true → clash keys u r u s ≡ true
+signs_clash keys u Plus Plus e = absurd (false≢true e)
+signs_clash keys u Plus Minus e = (same_tuple-Decides u u).1 refl
+signs_clash keys u Minus Plus e = absurd (false≢true e)
+signs_clash keys u Minus Minus e = absurd (false≢true e)
 
-abbrev IsNoClash : Stmt → Stored → Type 0
-IsNoClash x q = is_clashing x q ≡ false
+abbrev IsNoClash : (ℕ → ℕ) → Stmt → Stored → Type 0
+IsNoClash keys x q = is_clashing keys x q ≡ false
 
 module _ (t : Tables) (x : Stmt) (p : Place) (place : IsPlace t x p) (b : Contents) (s : Stores t b) (valid : IsValid b.catalog b.stmts) (belong : belongs b.catalog x ≡ true) where
   abbrev ws : Worlds
@@ -90,8 +92,15 @@ module _ (t : Tables) (x : Stmt) (p : Place) (place : IsPlace t x p) (b : Conten
   abbrev rows : List Stored
   rows = p.rows.items
 
-  consistent : IsConsistent (λ _. 1) b.stmts
+  consistent : IsConsistent (keys_of b) b.stmts
   consistent = valid_is_consistent b.catalog b.stmts valid
+
+  -- the length that was read is that of the key of the tuple's relation
+  length_is : p.key_len ≡ keys_of b x.tuple.rel
+  length_is = place.key_length b.catalog.rels s.stored.rels
+
+  least_is_row : least_row (λ _. p.key_len) x rows ≡ least_row (keys_of b) x rows
+  least_is_row = least_alike (keys_of b) p.key_len x rows length_is
 
   reached : Reaches ws x.path p.len p.wid
   reached = place.reaches ws s.stored.states (belongs_parts b.catalog x belong).users
@@ -116,55 +125,59 @@ module _ (t : Tables) (x : Stmt) (p : Place) (place : IsPlace t x p) (b : Conten
     number : number_of s.names x.path ≡ Some p.wid
     number = ap (number_of s.names) (sym (take_all p.len x.path (omega arith))) ∙ reached.number
 
-    among : AmongAll t (prefix_of p.wid x) rows
-    among = among_all t (prefix_of p.wid x) rows (stored_is_in_grammar t b s) (over_has_tuples b.stmts b.stmts s.names s.tuples t b s.stored) (place.rows full)
+    prefix_is : prefix_of (λ _. p.key_len) p.wid x ≡ prefix_of (keys_of b) p.wid x
+    prefix_is = ap (group_prefix p.wid x.tuple.rel) (key_by_length (keys_of b) p.key_len x.tuple length_is)
+
+    among : AmongAll t (prefix_of (keys_of b) p.wid x) rows
+    among = among_all t (prefix_of (keys_of b) p.wid x) rows (stored_is_in_grammar t b s) (over_has_tuples b.stmts b.stmts s.names s.tuples t b s.stored)
+        (subst (λ q. AreExplicitUnder t q rows) prefix_is (place.rows full))
 
     said : AllByRecursion (IsSaid b.stmts x.path) rows
     said = subst (AllByRecursion (IsSaid b.stmts x.path)) (sym among.are) (filtered (IsSaid b.stmts x.path) is_explicit_row among.all
         (rows_said t b s.names s.tuples s.stored consistent x.path p.wid number x.tuple place.fits among.all among.read))
 
-    found : (Q : Stored → Type 0) → AllByRecursion Q rows → (v : Tuple) (r : Sign) → explicit b.stmts x.path v r ≡ true → is_of_group x.tuple.rel (key_value x.tuple.vals) v ≡ true
+    found : (Q : Stored → Type 0) → AllByRecursion Q rows → (v : Tuple) (r : Sign) → explicit b.stmts x.path v r ≡ true → is_of_group (keys_of b) x.tuple.rel (key_of (keys_of b) x.tuple) v ≡ true
         → (q : Stored) × (q.tuple ≡ v) × (q.mark ≡ (r, true)) × Q q
     found Q all v r e like =
         let k = said_rows t b s.names s.tuples s.stored consistent x.path p.wid number x.tuple place.fits among.all among.read (λ q. is_explicit_row q ≡ true → Q q)
         (unfiltered Q is_explicit_row among.all (subst (AllByRecursion Q) among.are all)) v r e like in
         (k.0, k.1, k.2, k.3 (ap (λ (m : Sign × Bool). m.1) k.2))
 
-    like_itself : is_of_group x.tuple.rel (key_value x.tuple.vals) x.tuple ≡ true
-    like_itself = and_from (nat_eq x.tuple.rel x.tuple.rel) (same_value (key_value x.tuple.vals) (key_value x.tuple.vals)) (eq-eqb x.tuple.rel x.tuple.rel refl)
-        ((same_value-Decides (key_value x.tuple.vals) (key_value x.tuple.vals)).1 refl)
+    like_itself : is_of_group (keys_of b) x.tuple.rel (key_of (keys_of b) x.tuple) x.tuple ≡ true
+    like_itself = and_from (nat_eq x.tuple.rel x.tuple.rel) (same_values (key_of (keys_of b) x.tuple) (key_of (keys_of b) x.tuple)) (eq-eqb x.tuple.rel x.tuple.rel refl)
+        ((same_values-Decides (key_of (keys_of b) x.tuple) (key_of (keys_of b) x.tuple)).1 refl)
 
     -- each statement that clashes has a row that does
-    clashing_row : (Q : Stored → Type 0) → AllByRecursion Q rows → (y : Stmt) → ClashesAt (λ _. 1) b.stmts x.path x.tuple x.sign y → (q : Stored) × (q.tuple ≡ y.tuple) × (is_clashing x q ≡ true) × Q q
+    clashing_row : (Q : Stored → Type 0) → AllByRecursion Q rows → (y : Stmt) → ClashesAt (keys_of b) b.stmts x.path x.tuple x.sign y → (q : Stored) × (q.tuple ≡ y.tuple) × (is_clashing (keys_of b) x q ≡ true) × Q q
     clashing_row Q all y c =
         let e = statement_explicit b.stmts x.path y c.0 c.1 in
-        let like = is_group x.tuple.rel (key_value x.tuple.vals) x.tuple y.tuple x.sign y.sign like_itself c.2 in
+        let like = is_group (keys_of b) x.tuple.rel (key_of (keys_of b) x.tuple) x.tuple y.tuple x.sign y.sign like_itself c.2 in
         let r = found Q all y.tuple y.sign e like in (
           r.0,
           r.1,
-          and_from r.0.mark.1 (clash (λ _. 1) x.tuple x.sign r.0.tuple r.0.mark.0) (ap (λ (m : Sign × Bool). m.1) r.2)
-              (ap (λ v. clash (λ _. 1) x.tuple x.sign v r.0.mark.0) r.1 ∙ ap (λ (m : Sign × Bool). clash (λ _. 1) x.tuple x.sign y.tuple m.0) r.2 ∙ c.2),
+          and_from r.0.mark.1 (clash (keys_of b) x.tuple x.sign r.0.tuple r.0.mark.0) (ap (λ (m : Sign × Bool). m.1) r.2)
+              (ap (λ v. clash (keys_of b) x.tuple x.sign v r.0.mark.0) r.1 ∙ ap (λ (m : Sign × Bool). clash (keys_of b) x.tuple x.sign y.tuple m.0) r.2 ∙ c.2),
           r.3,
         )
 
-    none_here : least_row x rows ≡ None → clash_of b x ≡ None
+    none_here : least_row (keys_of b) x rows ≡ None → clash_of b x ≡ None
     none_here e = (no_least_clash (key_lengths b.catalog.rels) b.stmts x.path x.tuple x.sign).1 (λ y c.
-        let r = clashing_row (IsNoClash x) (none_clash x rows e) y c in
+        let r = clashing_row (IsNoClash (keys_of b) x) (none_clash (keys_of b) x rows e) y c in
         false≢true (sym r.3 ∙ r.2))
 
-    least_here : (r : Stored) → least_row x rows ≡ Some r → clash_of b x ≡ Some (said_by x r)
+    least_here : (r : Stored) → least_row (keys_of b) x rows ≡ Some r → clash_of b x ≡ Some (said_by x r)
     least_here r e = by (clash_of b x) refl
       where
-        least : IsLeastRow x rows r
-        least = least_is x rows r e
+        least : IsLeastRow (keys_of b) x rows r
+        least = least_is (keys_of b) x rows r e
 
-        mark : (r.mark.1 ≡ true) × (clash (λ _. 1) x.tuple x.sign r.tuple r.mark.0 ≡ true)
-        mark = and_parts r.mark.1 (clash (λ _. 1) x.tuple x.sign r.tuple r.mark.0) least.clashing
+        mark : (r.mark.1 ≡ true) × (clash (keys_of b) x.tuple x.sign r.tuple r.mark.0 ≡ true)
+        mark = and_parts r.mark.1 (clash (keys_of b) x.tuple x.sign r.tuple r.mark.0) least.clashing
 
         explicit_r : explicit b.stmts x.path r.tuple r.mark.0 ≡ true
         explicit_r = least.one (IsSaid b.stmts x.path) said mark.0
 
-        at : ClashesAt (λ _. 1) b.stmts x.path x.tuple x.sign (said_by x r)
+        at : ClashesAt (keys_of b) b.stmts x.path x.tuple x.sign (said_by x r)
         at =
             let y = explicit_statement b.stmts x.path r.tuple r.mark.0 explicit_r in
             let same : y.0 ≡ said_by x r = same_stmt y.0 (said_by x r) y.2 y.3 y.4 in
@@ -180,8 +193,8 @@ module _ (t : Tables) (x : Stmt) (p : Place) (place : IsPlace t x p) (b : Conten
         by None f = absurd ((no_least_clash (key_lengths b.catalog.rels) b.stmts x.path x.tuple x.sign).0 f (said_by x r) at)
         by (Some z) f =
             let l = least_clash_is_least (key_lengths b.catalog.rels) b.stmts valid.stmts.sorted x.path x.tuple x.sign z f in
-            let here : ClashesAt (λ _. 1) b.stmts x.path x.tuple x.sign z = l.0 in
-            let q = clashing_row (IsNotBelow x r) least.least z here in
+            let here : ClashesAt (keys_of b) b.stmts x.path x.tuple x.sign z = l.0 in
+            let q = clashing_row (IsNotBelow (keys_of b) x r) least.least z here in
             let above : is_lt (tuple_cmp z.tuple r.tuple) ≡ false = ap (λ u. is_lt (tuple_cmp u r.tuple)) (sym q.1) ∙ q.3 q.2 in
             elim (l.1 (said_by x r) at) [
               | inl same ↦ f ∙ ap Some (sym same)
@@ -189,7 +202,7 @@ module _ (t : Tables) (x : Stmt) (p : Place) (place : IsPlace t x p) (b : Conten
                   let c = below_at z (said_by x r) here.1 above below in
                   let ez = statement_explicit b.stmts x.path z here.0 here.1 in
                   absurd (false≢true (sym (consistent x.path z.tuple r.tuple z.sign r.mark.0 ez explicit_r)
-                  ∙ ap (λ u. clash (λ _. 1) u z.sign r.tuple r.mark.0) c.0 ∙ signs_clash r.tuple z.sign r.mark.0 c.1))
+                  ∙ ap (λ u. clash (keys_of b) u z.sign r.tuple r.mark.0) c.0 ∙ signs_clash (keys_of b) r.tuple z.sign r.mark.0 c.1))
             ]
 
     own_here : list_any (is_own x) rows ≡ true → stands b.stmts x ≡ true
@@ -255,14 +268,14 @@ module _ (t : Tables) (x : Stmt) (p : Place) (place : IsPlace t x p) (b : Conten
     | inr e ↦ inr (λ d. false≢true (sym e ∙ eq-eqb p.len (length x.path) d))
   ]
 
-  pub clash_found : (r : Stored) → least_row x rows ≡ Some r → clash_of b x ≡ Some (said_by x r)
+  pub clash_found : (r : Stored) → least_row (λ _. p.key_len) x rows ≡ Some r → clash_of b x ≡ Some (said_by x r)
   clash_found r e = elim full_or_short [
-    | inl f ↦ least_here f r e
-    | inr n ↦ absurd (none_some r (least_row x rows) (ap (least_row x) (no_rows n)) e)
+    | inl f ↦ least_here f r (sym least_is_row ∙ e)
+    | inr n ↦ absurd (none_some r (least_row (λ _. p.key_len) x rows) (ap (least_row (λ _. p.key_len) x) (no_rows n)) e)
   ]
 
-  pub no_clash_found : least_row x rows ≡ None → clash_of b x ≡ None
-  no_clash_found e = elim full_or_short [ inl f ↦ none_here f e | inr n ↦ none_there n ]
+  pub no_clash_found : least_row (λ _. p.key_len) x rows ≡ None → clash_of b x ≡ None
+  no_clash_found e = elim full_or_short [ inl f ↦ none_here f (sym least_is_row ∙ e) | inr n ↦ none_there n ]
 
   pub standing_found : list_any (is_own x) rows ≡ true → stands b.stmts x ≡ true
   standing_found e = elim full_or_short [ inl f ↦ own_here f e | inr n ↦ absurd (false≢true (sym (ap (list_any (is_own x)) (no_rows n)) ∙ e)) ]

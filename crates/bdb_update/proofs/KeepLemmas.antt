@@ -28,6 +28,7 @@ use Rattle.bdb_worlds.proofs.ReadLemmas.{found_is}
 use Rattle.bdb_update.specs.Keeping.{KeepsNames, KeepsTuples}
 use Rattle.bdb_update.specs.ChangeLaws.{is_of_worlds}
 use Rattle.bdb_update.specs.Joining.{Arrive, MayJoin, Numbers, Settles, SomeMayJoin, is_of_tuples}
+use Rattle.bdb_update.specs.Keys.{keys_of}
 use Rattle.bdb_update.specs.Parting.{LosesWorlds, MayPart, Parts, SomeHasParted}
 use Rattle.bdb_update.proofs.ArriveLemmas.{grown}
 use Rattle.bdb_update.proofs.LostLemmas.{AreStages}
@@ -96,7 +97,7 @@ kept_back test t u out same k r e = sym (same 4 k out) ∙ e
 -- ---- a statement joins a base
 
 pub stages_joined : (t u v w : Tables) (x : Stmt) (wid : ℕ) → Arrive t u x wid → Numbers u v x → Settles v w x → KeepsNames t u → KeepsTuples u v
-    → SameBut is_of_worlds t u → SameBut is_of_tuples u v → SameBut rows_alone v w → (b : Contents) → Stores t b → MayJoin b x → AreStages b.stmts x t u w
+    → SameBut is_of_worlds t u → SameBut is_of_tuples u v → SameBut rows_alone v w → (b : Contents) → Stores t b → MayJoin b x → AreStages (keys_of b) b.stmts x t u w
 stages_joined t u v w x wid arrive numbers settles names keeps worlds tuples rows b s may =
     let a = (arrive b s may).worlds in
     let q = settles b (numbers b a may) may in
@@ -132,7 +133,7 @@ stages_joined t u v w x wid arrive numbers settles names keeps worlds tuples row
 -- ---- a statement leaves a base
 
 pub stages_left : (t u v : Tables) (x : Stmt) → Parts t u x → LosesWorlds u v x → KeepsNames v u → SameBut rows_alone t u → SameBut is_of_worlds u v
-    → (b : Contents) → Stores t b → MayPart b x → AreStages (without_statement b.stmts x) x v u t
+    → (b : Contents) → Stores t b → MayPart b x → AreStages (keys_of b) (without_statement b.stmts x) x v u t
 stages_left t u v x parts loses names rows worlds b s may =
     let less = without_statement b.stmts x in
     let p = parts b s may in
@@ -159,7 +160,7 @@ stages_left t u v x parts loses names rows worlds b s may =
       last_held = s.stored.tuples;
       first_rows = l.stored.rows;
       rows = p.stored.rows;
-      last_rows = subst (λ (stmts : List Stmt). HoldsRows (λ _. 1) stmts (path_of s.names) s.tuples.tuple t) (sym back) s.stored.rows;
+      last_rows = subst (λ (stmts : List Stmt). HoldsRows (keys_of b) stmts (path_of s.names) s.tuples.tuple t) (sym back) s.stored.rows;
       names_stay = names_kept _ _ l.names p.names v u l.stored.states p.stored.states names;
       names_last = λ n w e. names_are_one _ _ s.names p.names u states p.stored.states n ∙ e;
       tuples_stay = tuple_stays b.stmts b.stmts l.tuples p.tuples v u l.stored.tuples p.stored.tuples (kept_back is_of_worlds u v refl worlds);

@@ -24,6 +24,7 @@ use Rattle.bdb_val.proofs.HeldLemmas.{some_is}
 use Rattle.bdb_update.specs.Calls.{MayMeet, SomeMayMeet, without_one}
 use Rattle.bdb_update.specs.Differing.{has_told}
 use Rattle.bdb_update.specs.Joining.{IsWorld, is_of_tuples}
+use Rattle.bdb_update.specs.Keys.{keys_of}
 use Rattle.bdb_update.specs.Leaving.{IsGoneWith, CountsLeft, MayLose, counts_less, standing, TriesDrop}
 use Rattle.bdb_update.specs.Looking.{IsPlace, is_own}
 use Rattle.bdb_update.specs.Parting.{MayPart, SomeMayPart, SomeHasParted, Parts, PartsRows, SomeHasFewerWorlds, LosesWorlds, CountsWorlds, LosesRows, LosesNumber, TellsNumber, Leaves}
@@ -65,11 +66,11 @@ counts_left t u v w x g taken gone went parts part_rows loses worlds rows_less n
     let c0 : HasRowCount t n0 = stored_count t b s may.valid in
     let f0 : n0 ≤ 1310720000 = over_few b.stmts b.stmts s.names s.tuples t b s.stored may.valid (λ z e. e) n0 c0 in
     let within : (z : Tuple) → has_told less z ≡ true → has_told b.stmts z ≡ true = λ z e. (drop_is_within b.stmts x).tuples z e in
-    let n1 = sum_by (rows_of less p.names) p.names.used in
+    let n1 = sum_by (rows_of (keys_of b) less p.names) p.names.used in
     let c1 : HasRowCount u n1 = over_count b.stmts b.stmts p.names p.tuples u (without_one b x) p.stored valid within in
     let f1 : n1 ≤ 1310720000 = over_few b.stmts b.stmts p.names p.tuples u (without_one b x) p.stored valid within n1 c1 in
     let first = part_rows b s may n0 n1 c0 c1 (omega arith) (omega arith) in
-    let l = rows_less (row_for (λ _. 1) less (path_of p.names) p.tuples.tuple) p.stored.rows n1 c1 (omega arith) in
+    let l = rows_less (row_for (keys_of b) less (path_of p.names) p.tuples.tuple) p.stored.rows n1 c1 (omega arith) in
     let fewer = loses b p may in
     let final : Stores w (without_one b x) = number b fewer may in
     let n2 = (counts_of (without_one b x)).rows in

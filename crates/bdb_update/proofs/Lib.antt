@@ -20,6 +20,7 @@ pub mod InsertLemmas
 pub mod JoinLemmas
 pub mod JudgeLemmas
 pub mod KeepLemmas
+pub mod KeyLemmas
 pub mod LeastLemmas
 pub mod LeastNumbers
 pub mod LeaveLemmas

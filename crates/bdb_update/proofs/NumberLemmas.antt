@@ -27,6 +27,7 @@ use Rattle.bdb_tables.proofs.SameLemmas.{outside_one, change_same, same_then, gi
 use Rattle.bdb_tables.proofs.WriteLemmas.{change_gives, change_elsewhere, gives_same}
 use Rattle.bdb_update.specs.ChangeLaws.{NumberPutStores, NumberTakenStores, DropLeavesTuples}
 use Rattle.bdb_update.specs.Differing.{has_told}
+use Rattle.bdb_update.specs.Keys.{keys_of}
 use Rattle.bdb_update.specs.Numbering.{with_number, without_number, number_put, number_taken}
 
 tuple_turned : (a b : Tuple) → same_tuple a b ≡ same_tuple b a
@@ -39,11 +40,11 @@ is_it : {X : Type 0} (x y : X) → Some x ≡ Some y → x ≡ y
 is_it x y e = cc
 
 -- a tuple of no statement has no row in any world
-unstated_mark : (stmts : List Stmt) (w : List ℕ) (u : Tuple) → has_told stmts u ≡ false → mark_of (λ _. 1) stmts w u ≡ None
-unstated_mark stmts w u none =
-    let plus : stated (λ _. 1) stmts w u Plus ≡ false = false_from_ne_true (stated (λ _. 1) stmts w u Plus) (λ e. false≢true (sym none ∙ stated_tuples_are_explicit (λ _. 1) stmts w u Plus e)) in
-    let minus : stated (λ _. 1) stmts w u Minus ≡ false = false_from_ne_true (stated (λ _. 1) stmts w u Minus) (λ e. false≢true (sym none ∙ stated_tuples_are_explicit (λ _. 1) stmts w u Minus e)) in
-    ap (λ b. marked (explicit stmts w u) (sign_by b (stated (λ _. 1) stmts w u Minus))) plus ∙ ap (λ b. marked (explicit stmts w u) (sign_by false b)) minus
+unstated_mark : (keys : ℕ → ℕ) (stmts : List Stmt) (w : List ℕ) (u : Tuple) → has_told stmts u ≡ false → mark_of keys stmts w u ≡ None
+unstated_mark keys stmts w u none =
+    let plus : stated keys stmts w u Plus ≡ false = false_from_ne_true (stated keys stmts w u Plus) (λ e. false≢true (sym none ∙ stated_tuples_are_explicit keys stmts w u Plus e)) in
+    let minus : stated keys stmts w u Minus ≡ false = false_from_ne_true (stated keys stmts w u Minus) (λ e. false≢true (sym none ∙ stated_tuples_are_explicit keys stmts w u Minus e)) in
+    ap (λ b. marked (explicit stmts w u) (sign_by b (stated keys stmts w u Minus))) plus ∙ ap (λ b. marked (explicit stmts w u) (sign_by false b)) minus
 
 abbrev no_mark : Option Mark
 no_mark = None
@@ -52,13 +53,13 @@ no_mark_either : (b : Bool) → cond b no_mark no_mark ≡ no_mark
 no_mark_either true = refl
 no_mark_either false = refl
 
-no_row_named : (stmts : List Stmt) (k : ValKey) (p : Option (List ℕ)) (u : Tuple) → has_told stmts u ≡ false → row_named (λ _. 1) stmts k p (Some u) ≡ None
-no_row_named stmts k None u none = refl
-no_row_named stmts k (Some w) u none = ap (λ o. cond (has_key (λ _. 1) k u) o None) (unstated_mark stmts w u none) ∙ no_mark_either (has_key (λ _. 1) k u)
+no_row_named : (keys : ℕ → ℕ) (stmts : List Stmt) (k : ValKey) (p : Option (List ℕ)) (u : Tuple) → has_told stmts u ≡ false → row_named keys stmts k p (Some u) ≡ None
+no_row_named keys stmts k None u none = refl
+no_row_named keys stmts k (Some w) u none = ap (λ o. cond (has_key keys k u) o None) (unstated_mark keys stmts w u none) ∙ no_mark_either (has_key keys k u)
 
-no_tuple_named : (stmts : List Stmt) (k : ValKey) (p : Option (List ℕ)) → row_named (λ _. 1) stmts k p None ≡ None
-no_tuple_named stmts k None = refl
-no_tuple_named stmts k (Some w) = refl
+no_tuple_named : (keys : ℕ → ℕ) (stmts : List Stmt) (k : ValKey) (p : Option (List ℕ)) → row_named keys stmts k p None ≡ None
+no_tuple_named keys stmts k None = refl
+no_tuple_named keys stmts k (Some w) = refl
 
 -- ---- the two tables of tuples
 
@@ -76,7 +77,7 @@ outside_tuples n h = or_from (nat_eq n 4) (nat_eq n 5) (outside_one 4 refl n h) 
 -- where two tables of tuples have changed, and no row of a world is another, the tables store the base with these tuples
 with_tuples : (reached told less : List Stmt) (ns : Names) (ts us : Tuples) (t : Tables) (b : Contents) (x : ℕ × Option Tuple) (y : Tuple × Option ℕ)
     → StoredOver reached told ns ts t b → HoldsTuples less us (with_change tuple_ix_codec (with_change tuple_codec t x) y)
-    → ((k : ValKey) → row_for (λ _. 1) b.stmts (path_of ns) ts.tuple k ≡ row_for (λ _. 1) b.stmts (path_of ns) us.tuple k)
+    → ((k : ValKey) → row_for (keys_of b) b.stmts (path_of ns) ts.tuple k ≡ row_for (keys_of b) b.stmts (path_of ns) us.tuple k)
     → StoredOver reached less ns us (with_change tuple_ix_codec (with_change tuple_codec t x) y) b
 with_tuples reached told less ns ts us t b x y h tuples rows =
     let u = with_change tuple_ix_codec (with_change tuple_codec t x) y in
@@ -88,7 +89,7 @@ with_tuples reached told less ns ts us t b x y h tuples rows =
       tuples = tuples;
       states = states_still of_tuples t u same _ ns refl refl refl refl refl h.states;
       worlds = h.worlds;
-      rows = gives_same val_codec u (row_for (λ _. 1) b.stmts (path_of ns) ts.tuple) (row_for (λ _. 1) b.stmts (path_of ns) us.tuple) (λ k f. rows k)
+      rows = gives_same val_codec u (row_for (keys_of b) b.stmts (path_of ns) ts.tuple) (row_for (keys_of b) b.stmts (path_of ns) us.tuple) (λ k f. rows k)
           (gives_still of_tuples t u same val_codec _ refl h.rows);
       plain = gives_still of_tuples t u same plain_codec _ refl h.plain;
       outside = λ n k out. same n k (outside_tuples n out) ∙ h.outside n k out;
@@ -176,10 +177,10 @@ number_put_stores reached told ns ts t b x tid h within num fits free new =
     let p = path_of ns k.0 in
     elim (cases_Bool (nat_eq k.3 tid)) [
       | inl a ↦
-          ap (λ o. row_named (λ _. 1) b.stmts k p o) (ap ts.tuple (eqb-true k.3 tid a) ∙ free) ∙ no_tuple_named b.stmts k p
-          ∙ sym (ap (λ o. row_named (λ _. 1) b.stmts k p o) (cond-true (nat_eq k.3 tid) (Some x.tuple) (ts.tuple k.3) a)
-          ∙ no_row_named b.stmts k p x.tuple (false_from_ne_true (has_told b.stmts x.tuple) (λ e. false≢true (sym new ∙ within.tuples x.tuple e))))
-      | inr a ↦ ap (λ o. row_named (λ _. 1) b.stmts k p o) (sym (cond-false (nat_eq k.3 tid) (Some x.tuple) (ts.tuple k.3) a))
+          ap (λ o. row_named (keys_of b) b.stmts k p o) (ap ts.tuple (eqb-true k.3 tid a) ∙ free) ∙ no_tuple_named (keys_of b) b.stmts k p
+          ∙ sym (ap (λ o. row_named (keys_of b) b.stmts k p o) (cond-true (nat_eq k.3 tid) (Some x.tuple) (ts.tuple k.3) a)
+          ∙ no_row_named (keys_of b) b.stmts k p x.tuple (false_from_ne_true (has_told b.stmts x.tuple) (λ e. false≢true (sym new ∙ within.tuples x.tuple e))))
+      | inr a ↦ ap (λ o. row_named (keys_of b) b.stmts k p o) (sym (cond-false (nat_eq k.3 tid) (Some x.tuple) (ts.tuple k.3) a))
     ])
 
 -- ---- a number less
@@ -249,9 +250,9 @@ number_taken_stores reached told less ns ts t b u tid h name none gone =
     let p = path_of ns k.0 in
     elim (cases_Bool (nat_eq k.3 tid)) [
       | inl a ↦
-          ap (λ o. row_named (λ _. 1) b.stmts k p o) (ap ts.tuple (eqb-true k.3 tid a) ∙ name) ∙ no_row_named b.stmts k p u none
-          ∙ sym (ap (λ o. row_named (λ _. 1) b.stmts k p o) (cond-true (nat_eq k.3 tid) None (ts.tuple k.3) a) ∙ no_tuple_named b.stmts k p)
-      | inr a ↦ ap (λ o. row_named (λ _. 1) b.stmts k p o) (sym (cond-false (nat_eq k.3 tid) None (ts.tuple k.3) a))
+          ap (λ o. row_named (keys_of b) b.stmts k p o) (ap ts.tuple (eqb-true k.3 tid a) ∙ name) ∙ no_row_named (keys_of b) b.stmts k p u none
+          ∙ sym (ap (λ o. row_named (keys_of b) b.stmts k p o) (cond-true (nat_eq k.3 tid) None (ts.tuple k.3) a) ∙ no_tuple_named (keys_of b) b.stmts k p)
+      | inr a ↦ ap (λ o. row_named (keys_of b) b.stmts k p o) (sym (cond-false (nat_eq k.3 tid) None (ts.tuple k.3) a))
     ])
 
 pub drop_leaves_tuples : DropLeavesTuples

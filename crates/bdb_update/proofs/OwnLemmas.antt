@@ -1,30 +1,32 @@
 -- The explicit rows that were read of a path's world, and the statements of this path.
-use Rattle.std.proofs.Common.{◌≡◌, ◌∙◌, ℕ, ◌<◌, Bool, true, false, ◌||◌, nat_eq, cond, List, [], ◌∷◌, length, refl, ap, sym, inl, inr, Option, Some, None, arith}
+use Rattle.std.proofs.Common.{◌≡◌, ◌∙◌, ℕ, Bool, true, false, ◌||◌, nat_eq, cond, List, [], ◌∷◌, refl, ap, sym, inl, inr, Option, Some, None}
 use Rattle.std.specs.List.{list_any, AllByRecursion}
 use Rattle.std.proofs.lemmas.Bool.{cases_Bool, cond-true, cond-false, false≢true, false_from_ne_true, eqb-true, eq-eqb}
 use Rattle.bdb_base.specs.Bases.{Contents}
+use Rattle.bdb_base.specs.Clash.{key_of}
 use Rattle.bdb_base.specs.SameLemmas.{same_tuple-Decides}
 use Rattle.bdb_base.specs.Worlds.{explicit, IsConsistent}
 use Rattle.bdb_base.specs.declared.kinds.Sign.{Sign}
 use Rattle.bdb_base.specs.declared.kinds.Sign.TheVariants.{Plus, Minus}
 use Rattle.bdb_base.specs.declared.kinds.Stmt.{Stmt}
-use Rattle.bdb_base.specs.declared.kinds.Value.{Value}
 use Rattle.bdb_base.specs.declared.tuple.Tuple.{Tuple}
 use Rattle.bdb_base.proofs.WorldLemmas.{explicit_tuple}
 use Rattle.bdb_keep.specs.Tables.{Tables}
-use Rattle.bdb_key.specs.Grammar.{IsNum, IsPlainValue, ArePlain}
+use Rattle.bdb_key.specs.Grammar.{IsNum}
 use Rattle.bdb_key.specs.Rows.{IsTupleRow}
 use Rattle.bdb_tables.specs.InUse.{ValKey}
 use Rattle.bdb_tables.specs.Marks.{Mark, sign_by, explicit_of, explicit_sign}
 use Rattle.bdb_tables.specs.Names.{Names, path_of, number_of}
-use Rattle.bdb_tables.specs.Rows.{Tuples, row_for}
+use Rattle.bdb_tables.specs.Rows.{Tuples, row_for, AreKeyLengths}
 use Rattle.bdb_val.specs.Middle.{worlds_of, HasExplicit}
 use Rattle.bdb_val.specs.Reads.{AreReadUnder, IsSpan, is_of_group, group_prefix}
-use Rattle.bdb_val.specs.Settling.{mark_in, are_apart, AreNamed, key_value}
+use Rattle.bdb_val.specs.Settling.{mark_in, are_apart, AreNamed}
 use Rattle.bdb_val.specs.declared.stored.Stored.{Stored}
 use Rattle.bdb_val.proofs.HeldLemmas.{some_is, held_rows_are_explicit}
-use Rattle.bdb_val.proofs.ReadLemmas.{read_named, read_mark, read_apart, told_tested, group_span}
+use Rattle.bdb_val.proofs.ReadLemmas.{read_named, read_mark, read_apart, told_tested, group_span, key_of_fits}
 use Rattle.bdb_tables.specs.Stored.{StoredAs}
+use Rattle.bdb_update.proofs.KeyLemmas.{lengths_fit}
+use Rattle.bdb_update.specs.Keys.{keys_of}
 
 -- ---- marks and signs
 
@@ -40,9 +42,9 @@ sign_explicit stmts w u Plus e = (by_sign (explicit stmts w u Plus) (explicit st
 sign_explicit stmts w u Minus e = (by_sign (explicit stmts w u Plus) (explicit stmts w u Minus) Minus e).1 refl
 
 -- where statements of one path don't clash, one sign at most is explicit
-explicit_is_sign : (stmts : List Stmt) (w : List ℕ) (u : Tuple) (s : Sign) → IsConsistent (λ _. 1) stmts → explicit stmts w u s ≡ true → explicit_sign stmts w u ≡ Some s
-explicit_is_sign stmts w u Plus c e = cond-true (explicit stmts w u Plus) (Some Plus) (cond (explicit stmts w u Minus) (Some Minus) None) e
-explicit_is_sign stmts w u Minus c e =
+explicit_is_sign : (keys : ℕ → ℕ) (stmts : List Stmt) (w : List ℕ) (u : Tuple) (s : Sign) → IsConsistent keys stmts → explicit stmts w u s ≡ true → explicit_sign stmts w u ≡ Some s
+explicit_is_sign keys stmts w u Plus c e = cond-true (explicit stmts w u Plus) (Some Plus) (cond (explicit stmts w u Minus) (Some Minus) None) e
+explicit_is_sign keys stmts w u Minus c e =
     cond-false (explicit stmts w u Plus) (Some Plus) (cond (explicit stmts w u Minus) (Some Minus) None)
     (false_from_ne_true (explicit stmts w u Plus) (λ p. false≢true (sym (c w u u Plus Minus p e) ∙ (same_tuple-Decides u u).1 refl)))
     ∙ cond-true (explicit stmts w u Minus) (Some Minus) None e
@@ -98,22 +100,18 @@ both : (P Q : Stored → Type 0) (xs : List Stored) → AllByRecursion P xs → 
 both P Q [] p q = tt
 both P Q (x ∷ xs) p q = ((p.0, q.0), both P Q xs p.1 q.1)
 
-first_plain : (vs : List Value) → 0 < length vs → ArePlain vs → IsPlainValue (key_value vs)
-first_plain [] l a = absurd (omega arith)
-first_plain (v ∷ vs) l a = a.0
-
 -- a row, if it is explicit, is a statement at a path
 abbrev pub IsSaid : List Stmt → List ℕ → Stored → Type 0
 IsSaid stmts w r = r.mark.1 ≡ true → explicit stmts w r.tuple r.mark.0 ≡ true
 
-module _ (t : Tables) (b : Contents) (ns : Names) (ts : Tuples) (stored : StoredAs ns ts t b) (consistent : IsConsistent (λ _. 1) b.stmts) (w : List ℕ) (wid : ℕ) (number : number_of ns w ≡ Some wid)
-    (u : Tuple) (fits : IsTupleRow u) (rows : List Stored) (read : AreReadUnder t (group_prefix wid u.rel (key_value u.vals)) rows) where
+module _ (t : Tables) (b : Contents) (ns : Names) (ts : Tuples) (stored : StoredAs ns ts t b) (consistent : IsConsistent (keys_of b) b.stmts) (w : List ℕ) (wid : ℕ) (number : number_of ns w ≡ Some wid)
+    (u : Tuple) (fits : IsTupleRow u) (rows : List Stored) (read : AreReadUnder t (group_prefix wid u.rel (key_of (keys_of b) u)) rows) where
   abbrev held : ValKey → Option Mark
-  held = row_for (λ _. 1) b.stmts (path_of ns) ts.tuple
+  held = row_for (keys_of b) b.stmts (path_of ns) ts.tuple
 
   -- whether a tuple has the relation and key of this one
   abbrev pub test : Tuple → Bool
-  test = is_of_group u.rel (key_value u.vals)
+  test = is_of_group (keys_of b) u.rel (key_of (keys_of b) u)
 
   named : path_of ns wid ≡ Some w
   named = stored.states.names.numbered w wid number
@@ -121,24 +119,27 @@ module _ (t : Tables) (b : Contents) (ns : Names) (ts : Tuples) (stored : Stored
   wid_fits : IsNum wid
   wid_fits = stored.states.names.sized w wid number
 
-  has : HasExplicit b.stmts (worlds_of ns) ts.tuple held t
-  has = held_rows_are_explicit b.stmts ns ts t stored.states.names (λ v e. stored.worlds v ∙ e) consistent stored.tuples stored.rows
+  lengths : AreKeyLengths (keys_of b)
+  lengths = lengths_fit t b.catalog.rels stored.rels
 
-  span : IsSpan wid test (group_prefix wid u.rel (key_value u.vals))
-  span = group_span wid u.rel (key_value u.vals) wid_fits fits.rel (first_plain u.vals fits.some fits.plain)
+  has : HasExplicit (keys_of b) b.stmts (worlds_of ns) ts.tuple held t
+  has = held_rows_are_explicit (keys_of b) b.stmts ns ts t lengths stored.states.names (λ v e. stored.worlds v ∙ e) consistent stored.tuples stored.rows
+
+  span : IsSpan (keys_of b) wid test (group_prefix wid u.rel (key_of (keys_of b) u))
+  span = group_span (keys_of b) lengths wid u.rel (key_of (keys_of b) u) wid_fits fits.rel (key_of_fits (keys_of b) lengths u fits)
 
   tuples : AreNamed ts.tuple rows
-  tuples = read_named ts.tuple held t has.rows (group_prefix wid u.rel (key_value u.vals)) rows read
+  tuples = read_named (keys_of b) ts.tuple held t has.rows (group_prefix wid u.rel (key_of (keys_of b) u)) rows read
 
   tested : AllByRecursion (λ r. test r.tuple ≡ true) rows
-  tested = told_tested ts.tuple held t has.rows wid test (group_prefix wid u.rel (key_value u.vals)) rows span read
+  tested = told_tested (keys_of b) ts.tuple held t has.rows wid test (group_prefix wid u.rel (key_of (keys_of b) u)) rows span read
 
   marks : AllByRecursion (λ r. mark_in rows r.tid ≡ Some r.mark) rows
-  marks = mark_of_each rows rows (λ _ _ k. k) (read_apart ts.tuple held t has.rows wid test (group_prefix wid u.rel (key_value u.vals)) rows span read)
+  marks = mark_of_each rows rows (λ _ _ k. k) (read_apart (keys_of b) ts.tuple held t has.rows wid test (group_prefix wid u.rel (key_of (keys_of b) u)) rows span read)
 
   mark : (tid : ℕ) (v : Tuple) → ts.tuple tid ≡ Some v → test v ≡ true → explicit_of (mark_in rows tid) ≡ explicit_sign b.stmts w v
   mark tid v n e =
-      ap explicit_of (read_mark ts.tuple held t has.rows wid test (group_prefix wid u.rel (key_value u.vals)) rows wid_fits span read tid v n e)
+      ap explicit_of (read_mark (keys_of b) ts.tuple held t has.rows wid test (group_prefix wid u.rel (key_of (keys_of b) u)) rows wid_fits span read tid v n e)
       ∙ has.explicit wid w tid v named n
 
   -- each explicit row is a statement
@@ -158,7 +159,7 @@ module _ (t : Tables) (b : Contents) (ns : Names) (ts : Tuples) (stored : Stored
   said_rows Q all v s e g =
       let n = some_is (ts.number v) (stored.tuples.stated v ∙ explicit_tuple b.stmts w v s e) in
       let k = stored.tuples.numbered v n.0 n.1 in
-      let m = explicit_is (mark_in rows n.0) s (mark n.0 v k g ∙ explicit_is_sign b.stmts w v s consistent e) in
+      let m = explicit_is (mark_in rows n.0) s (mark n.0 v k g ∙ explicit_is_sign (keys_of b) b.stmts w v s consistent e) in
       let r = row_found (λ q. (ts.tuple q.tid ≡ Some q.tuple) × Q q) rows n.0 (s, true) (both (λ q. ts.tuple q.tid ≡ Some q.tuple) Q rows tuples all) m in
       (r.0, same (ts.tuple n.0) (ap ts.tuple (sym r.1) ∙ r.3.0) k, r.2, r.3.1)
     where

@@ -14,6 +14,7 @@ use Rattle.bdb_tables.specs.Grammar.{InGrammar}
 use Rattle.bdb_tables.specs.InUse.{tuple_ix_codec}
 use Rattle.bdb_update.specs.Calls.{without_one}
 use Rattle.bdb_update.specs.Differing.{has_told}
+use Rattle.bdb_update.specs.Keys.{keys_of}
 use Rattle.bdb_update.specs.Numbering.{number_taken, without_number}
 use Rattle.bdb_update.specs.Parting.{MayPart, HasFewerWorlds, SomeHasFewerWorlds, LosesNumber, TellsNumber}
 use Rattle.bdb_update.specs.Reads.{TellsTold}
@@ -43,7 +44,7 @@ module _ (t : Tables) (x : Stmt) (tid : ℕ) (fits : IsTupleRow x.tuple) (has : 
     told_is is tells =
         let less = without_statement b.stmts x in
         tells less b.stmts h.names h.tuples (without_one b x) h.stored (record { states = λ w e. e; tuples = λ u e. (drop_is_within b.stmts x).tuples u e })
-        (consistent_before b.stmts x (valid_is_consistent b.catalog b.stmts may.valid)) tuple_is
+        (consistent_before (keys_of b) b.stmts x (valid_is_consistent b.catalog b.stmts may.valid)) tuple_is
 
   pub number_kept : TellsTold t x.tuple tid true → LosesNumber t t x
   number_kept tells b h may =

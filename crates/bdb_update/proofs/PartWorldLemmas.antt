@@ -35,8 +35,10 @@ use Rattle.bdb_worlds.specs.Shrinking.{without_prefixes, IsDead, AreDead, Stays,
 use Rattle.bdb_worlds.specs.Staying.{HasExplicitRow, IsNeeded, by_row, by_longer}
 use Rattle.bdb_worlds.proofs.GrowLemmas.{take_split}
 use Rattle.bdb_worlds.proofs.ReadLemmas.{found_is}
+use Rattle.bdb_update.proofs.KeyLemmas.{lengths_fit}
 use Rattle.bdb_update.specs.Calls.{without_one}
 use Rattle.bdb_update.specs.Differing.{has_told}
+use Rattle.bdb_update.specs.Keys.{keys_of}
 use Rattle.bdb_update.specs.Parting.{MayPart, HasParted, SomeHasParted, HasFewerWorlds, CountsWorlds, LosesRows, LosesWorlds, ClearsWorlds, all_cleared}
 use Rattle.bdb_tables.specs.Stored.{SameBut}
 use Rattle.bdb_update.proofs.ArriveLemmas.{in_worlds, worlds_then_rows}
@@ -159,14 +161,14 @@ cleared_alike : (f g : ValKey → Option Mark) (ns : List ℕ) → ((k : ValKey)
 cleared_alike f g [] h k = h k
 cleared_alike f g (n ∷ ns) h k = cleared_alike (rows_cleared f n) (rows_cleared g n) ns (λ q. ap (λ o. cond (nat_eq q.0 n) None o) (h q)) k
 
-gone_rows : (stmts : List Stmt) (tuple : ℕ → Option Tuple) (ns : Names) (path : List ℕ) (len : ℕ) (gone : List ℕ) (k : ValKey)
-    → all_cleared (row_for (λ _. 1) stmts (path_of ns) tuple) gone k ≡ row_for (λ _. 1) stmts (path_of (without_prefixes ns path len gone)) tuple k
-gone_rows stmts tuple ns path len [] k = refl
-gone_rows stmts tuple ns path len (n ∷ gone) k =
+gone_rows : (keys : ℕ → ℕ) (stmts : List Stmt) (tuple : ℕ → Option Tuple) (ns : Names) (path : List ℕ) (len : ℕ) (gone : List ℕ) (k : ValKey)
+    → all_cleared (row_for keys stmts (path_of ns) tuple) gone k ≡ row_for keys stmts (path_of (without_prefixes ns path len gone)) tuple k
+gone_rows keys stmts tuple ns path len [] k = refl
+gone_rows keys stmts tuple ns path len (n ∷ gone) k =
     let p = take len path in
-    cleared_alike (rows_cleared (row_for (λ _. 1) stmts (path_of ns) tuple) n) (row_for (λ _. 1) stmts (path_of (without_name ns n p)) tuple) gone
-    (λ q. sym (world_goes_with_rows (λ _. 1) stmts ns tuple n p q)) k
-    ∙ gone_rows stmts tuple (without_name ns n p) path (len - 1) gone k
+    cleared_alike (rows_cleared (row_for keys stmts (path_of ns) tuple) n) (row_for keys stmts (path_of (without_name ns n p)) tuple) gone
+    (λ q. sym (world_goes_with_rows keys stmts ns tuple n p q)) k
+    ∙ gone_rows keys stmts tuple (without_name ns n p) path (len - 1) gone k
 
 -- ---- marks
 
@@ -182,8 +184,8 @@ one_path : (v w : List ℕ) (o : Option (List ℕ)) → o ≡ Some v → o ≡ S
 one_path v w o e f = cc
 
 -- statements that are among others don't clash where those don't
-pub consistent_before : (stmts : List Stmt) (x : Stmt) → IsConsistent (λ _. 1) stmts → IsConsistent (λ _. 1) (without_statement stmts x)
-consistent_before stmts x c w u v r s e f = c w u v r s (before u r e) (before v s f)
+pub consistent_before : (keys : ℕ → ℕ) (stmts : List Stmt) (x : Stmt) → IsConsistent keys stmts → IsConsistent keys (without_statement stmts x)
+consistent_before keys stmts x c w u v r s e f = c w u v r s (before u r e) (before v s f)
   where
     before : (u : Tuple) (s : Sign) → explicit (without_statement stmts x) w u s ≡ true → explicit stmts w u s ≡ true
     before u s e = found_before (λ z. same_path z.path w && (same_tuple z.tuple u && same_sign z.sign s)) _ stmts e
@@ -203,29 +205,30 @@ module _ (t : Tables) (b : Contents) (x : Stmt) (h : HasParted t b x) (may : May
   names : AreNames ns
   names = h.stored.states.names
 
-  less_consistent : IsConsistent (λ _. 1) less
-  less_consistent = consistent_before b.stmts x (valid_is_consistent b.catalog b.stmts may.valid)
+  less_consistent : IsConsistent (keys_of b) less
+  less_consistent = consistent_before (keys_of b) b.stmts x (valid_is_consistent b.catalog b.stmts may.valid)
 
-  rows_had : HasRows h.tuples.tuple (held less b.stmts ns h.tuples t h.stored.tuples) t
+  rows_had : HasRows (keys_of b) h.tuples.tuple (held (keys_of b) less b.stmts ns h.tuples t h.stored.tuples) t
   rows_had = record {
+    lengths = lengths_fit t b.catalog.rels h.stored.rels;
     tuples = h.stored.tuples.tuples;
     rows = h.stored.rows;
     sized = h.stored.tuples.sized;
-    keyed = λ k v s. (held_names less b.stmts ns h.tuples t h.stored.tuples k s).1;
+    keyed = λ k v s. (held_names (keys_of b) less b.stmts ns h.tuples t h.stored.tuples k s).1;
   }
 
-  row_is : (n tid : ℕ) (w : List ℕ) (u : Tuple) → path_of ns n ≡ Some w → h.tuples.tuple tid ≡ Some u → held less b.stmts ns h.tuples t h.stored.tuples (row_key n tid u) ≡ mark_of (λ _. 1) less w u
-  row_is n tid w u p e = right_row less b.stmts ns h.tuples t h.stored.tuples n w tid u p e
+  row_is : (n tid : ℕ) (w : List ℕ) (u : Tuple) → path_of ns n ≡ Some w → h.tuples.tuple tid ≡ Some u → held (keys_of b) less b.stmts ns h.tuples t h.stored.tuples (row_key (keys_of b) n tid u) ≡ mark_of (keys_of b) less w u
+  row_is n tid w u p e = right_row (keys_of b) less b.stmts ns h.tuples t h.stored.tuples n w tid u p e
 
   -- the path of a world with an explicit row is a state
   row_makes_state : (n : ℕ) (w : List ℕ) → path_of ns n ≡ Some w → HasExplicitRow t n → is_state less w ≡ true
   row_makes_state n w p r =
-      let found : Some (r.sign, true) ≡ held less b.stmts ns h.tuples t h.stored.tuples r.key = found_is val_codec mark_rows_are_one t _ h.stored.rows r.key r.fits (Some (r.sign, true)) r.row in
-      let k = (held_names less b.stmts ns h.tuples t h.stored.tuples r.key (sym (ap is_some found))).1 in
+      let found : Some (r.sign, true) ≡ held (keys_of b) less b.stmts ns h.tuples t h.stored.tuples r.key = found_is val_codec mark_rows_are_one t _ h.stored.rows r.key r.fits (Some (r.sign, true)) r.row in
+      let k = (held_names (keys_of b) less b.stmts ns h.tuples t h.stored.tuples r.key (sym (ap is_some found))).1 in
       let here : path_of ns r.key.0 ≡ Some w = ap (path_of ns) r.world ∙ p in
-      let mark : mark_of (λ _. 1) less w k.0 ≡ Some (r.sign, true) =
-      sym (row_is r.key.0 r.key.3 w k.0 here k.1) ∙ ap (held less b.stmts ns h.tuples t h.stored.tuples) k.2 ∙ sym found in
-      let sign : explicit_sign less w k.0 ≡ Some r.sign = sym (explicit_mark (λ _. 1) less w k.0 less_consistent) ∙ ap explicit_of mark in
+      let mark : mark_of (keys_of b) less w k.0 ≡ Some (r.sign, true) =
+      sym (row_is r.key.0 r.key.3 w k.0 here k.1) ∙ ap (held (keys_of b) less b.stmts ns h.tuples t h.stored.tuples) k.2 ∙ sym found in
+      let sign : explicit_sign less w k.0 ≡ Some r.sign = sym (explicit_mark (keys_of b) less w k.0 less_consistent) ∙ ap explicit_of mark in
       explicit_state less w k.0 r.sign (sign_is_explicit less w k.0 r.sign sign)
 
   -- a statement at the path of a world has an explicit row
@@ -235,17 +238,17 @@ module _ (t : Tables) (b : Contents) (x : Stmt) (h : HasParted t b x) (may : May
       let i = some_is (h.tuples.number s.tuple) (h.stored.tuples.stated s.tuple ∙ told) in
       let named = h.stored.tuples.numbered s.tuple i.0 i.1 in
       let size : IsNum n = names.sized w n (names.named n w p) in
-      let fits : IsValKey (row_key n i.0 s.tuple) = key_fits h.tuples.tuple _ t rows_had n i.0 s.tuple size named in
-      let mark : mark_of (λ _. 1) less w s.tuple ≡ Some (s.sign, true) =
-      explicit_only (mark_of (λ _. 1) less w s.tuple) s.sign (explicit_mark (λ _. 1) less w s.tuple less_consistent ∙ one_sign less w s.tuple s.sign less_consistent s.there) in
+      let fits : IsValKey (row_key (keys_of b) n i.0 s.tuple) = key_fits (keys_of b) h.tuples.tuple _ t rows_had n i.0 s.tuple size named in
+      let mark : mark_of (keys_of b) less w s.tuple ≡ Some (s.sign, true) =
+      explicit_only (mark_of (keys_of b) less w s.tuple) s.sign (explicit_mark (keys_of b) less w s.tuple less_consistent ∙ one_sign (keys_of b) less w s.tuple s.sign less_consistent s.there) in
       record {
-        key = row_key n i.0 s.tuple;
+        key = row_key (keys_of b) n i.0 s.tuple;
         sign = s.sign;
         fits = fits;
         world = refl;
         row = record {
           in_grammar = tt;
-          found = h.stored.rows.rows (row_key n i.0 s.tuple) fits ∙ ap (option_map val_codec.row_bytes) (row_is n i.0 w s.tuple p named ∙ mark);
+          found = h.stored.rows.rows (row_key (keys_of b) n i.0 s.tuple) fits ∙ ap (option_map val_codec.row_bytes) (row_is n i.0 w s.tuple p named ∙ mark);
         };
       }
 
@@ -380,9 +383,9 @@ module _ (t : Tables) (b : Contents) (x : Stmt) (h : HasParted t b x) (may : May
       tuples = h.tuples;
       stored = other_worlds_store b.stmts less b.stmts ns ms h.tuples t v (without_one b x) h.stored
           (states_still (λ n. nat_eq n 11) u v same _ ms refl refl refl refl refl s.states) worlds_left
-          (gives_same val_codec v (all_cleared (row_for (λ _. 1) less (path_of ns) h.tuples.tuple) gone) (row_for (λ _. 1) less (path_of ms) h.tuples.tuple)
-          (λ k f. gone_rows less h.tuples.tuple ns x.path (length x.path) gone k)
-          (clears (row_for (λ _. 1) less (path_of ns) h.tuples.tuple) (gives_still in_worlds t u outside val_codec _ refl h.stored.rows)))
+          (gives_same val_codec v (all_cleared (row_for (keys_of b) less (path_of ns) h.tuples.tuple) gone) (row_for (keys_of b) less (path_of ms) h.tuples.tuple)
+          (λ k f. gone_rows (keys_of b) less h.tuples.tuple ns x.path (length x.path) gone k)
+          (clears (row_for (keys_of b) less (path_of ns) h.tuples.tuple) (gives_still in_worlds t u outside val_codec _ refl h.stored.rows)))
           (worlds_then_rows t u v outside same);
     }
 

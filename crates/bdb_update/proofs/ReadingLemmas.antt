@@ -1,5 +1,6 @@
 -- What rows tell of a tuple, from a world on.
-use Rattle.std.proofs.Common.{◌≡◌, ◌∙◌, ℕ, ◌+◌, ◌-◌, ◌^◌, ◌<◌, ◌≤◌, Bool, true, false, ◌&&◌, nat_eq, List, [], ◌∷◌, ◌++◌, length, Option, Some, None, MatchOption, cond, inl, inr, is_some, refl, ap, sym, subst, arith}
+use Rattle.std.proofs.Common.{◌≡◌, ◌∙◌, ℕ, ◌+◌, ◌-◌, ◌^◌, ◌<◌, ◌≤◌, Bool, true, false, ◌&&◌, nat_eq, List, [], ◌∷◌, ◌++◌, Option, Some, None, MatchOption, cond, inl, inr, is_some, refl, ap, sym, subst, arith}
+use Rattle.std.specs.List.{slice_get}
 use Rattle.std.specs.Option.{option_map}
 use Rattle.std.specs.declared.cmp.Ordering.{Ordering}
 use Rattle.std.specs.declared.cmp.Ordering.TheVariants.{Less, Equal, Greater}
@@ -9,6 +10,7 @@ use Rattle.std.proofs.lemmas.Bool.{true≢false, false≢true, cases_Bool, cases
 use Rattle.std.proofs.lemmas.Cmp.{nat_list_cmp_total}
 use Rattle.std.proofs.lemmas.Map.Keys.{le_from_is_le}
 use Rattle.std.specs.Prelude.{IsSome}
+use Rattle.bdb_base.specs.Bases.{Contents}
 use Rattle.bdb_base.specs.Same.{same_text, same_tuple, same_path, same_sign}
 use Rattle.bdb_base.specs.SameLemmas.{same_path-Decides, same_sign-Decides}
 use Rattle.bdb_base.specs.Worlds.{explicit}
@@ -18,25 +20,29 @@ use Rattle.bdb_base.specs.declared.kinds.Value.{Value}
 use Rattle.bdb_base.specs.declared.tuple.Tuple.{Tuple}
 use Rattle.bdb_base.proofs.WorldLemmas.{explicit_tuple}
 use Rattle.bdb_keep.specs.Tables.{Tables, bytes_cmp, IsLeastFrom, NoneFrom}
-use Rattle.bdb_key.specs.Bytes.{num_bytes, value_bytes}
-use Rattle.bdb_key.specs.Grammar.{IsNum, IsPlainValue, ArePlain}
+use Rattle.bdb_key.specs.Bytes.{num_bytes, vals_bytes}
+use Rattle.bdb_key.specs.Grammar.{IsNum}
 use Rattle.bdb_key.specs.Reading.{NoneLeads}
 use Rattle.bdb_key.specs.Rows.{IsTupleRow, mark_bytes}
 use Rattle.bdb_key.proofs.Compared.{nums}
 use Rattle.bdb_key.proofs.Numbers.{less, equal}
 use Rattle.bdb_tables.specs.Codec.{IsKeyOf}
-use Rattle.bdb_tables.specs.InUse.{IsValKey, val_codec}
+use Rattle.bdb_tables.specs.InUse.{IsValKey, val_codec, rel_codec}
 use Rattle.bdb_tables.specs.InUseLaws.{mark_rows_are_one}
 use Rattle.bdb_tables.specs.Marks.{Mark}
 use Rattle.bdb_tables.specs.Names.{Names, path_of, number_of}
-use Rattle.bdb_tables.specs.Rows.{HoldsRows, Tuples, row_for}
+use Rattle.bdb_tables.specs.Rows.{HoldsRows, Tuples, row_for, AreKeyLengths}
 use Rattle.bdb_tables.proofs.Held.{same_place, some_same, none_some}
 use Rattle.bdb_tables.proofs.Prefixes.{le_itself}
-use Rattle.bdb_val.specs.Settling.{key_value, row_key}
+use Rattle.bdb_tables.specs.Writes.{Gives}
+use Rattle.bdb_val.proofs.ReadLemmas.{key_of_fits}
+use Rattle.bdb_val.specs.Settling.{row_key}
 use Rattle.bdb_val.proofs.HeldLemmas.{some_is, held_names, right_row, explicit_is_stated}
 use Rattle.bdb_val.proofs.WorldLemmas.{mark_tells, mark_has}
+use Rattle.bdb_update.proofs.KeyLemmas.{key_by_length, lengths_fit}
 use Rattle.bdb_update.specs.Differing.{has_told}
-use Rattle.bdb_update.specs.Keys.{key_rest}
+use Rattle.bdb_tables.specs.Lengths.{IsKeyLength}
+use Rattle.bdb_update.specs.Keys.{key_rest, keys_of}
 use Rattle.bdb_update.specs.Reads.{HasExplicitAt, TellsAt, AnyTells, IsFurther, Looks, TellsTold, above, is_beside, look_at}
 use Rattle.bdb_update.specs.declared.reading.Look.{Look}
 use Rattle.bdb_update.specs.declared.reading.Look.TheVariants.{Told, From, Over}
@@ -76,8 +82,8 @@ same_bytes a b x y = same_place a b (tie (bytes_cmp a b) refl x (ap is_le (sym (
 pub world_leads : (key : List ℕ) → NoneLeads IsNum num_bytes key → IsKeyOf val_codec key → ⊥
 world_leads key none k = none k.0.0 (num_bytes k.0.1 ++ (val_rest k.0.2 k.0.3)) (record { fits = k.1.fits.world; split = sym k.1.spelled })
   where
-    val_rest : Value → ℕ → List ℕ
-    val_rest v tid = value_bytes v ++ num_bytes tid
+    val_rest : List Value → ℕ → List ℕ
+    val_rest vs tid = vals_bytes vs ++ num_bytes tid
 
 -- ---- a look
 
@@ -176,39 +182,40 @@ module _ (t : Tables) (rest : List ℕ) (but : Option ℕ) (wid : ℕ) (w : IsNu
 -- ---- what the stored base tells
 
 -- the key of a tuple's row in a world is in the grammar
-pub tuple_key : (wid tid : ℕ) (u : Tuple) → IsNum wid → IsNum tid → IsTupleRow u → IsValKey (row_key wid tid u)
-tuple_key wid tid u w n fits = record { world = w; rel = fits.rel; value = first u.vals fits.some fits.plain; tuple = n }
-  where
-    first : (vs : List Value) → 0 < length vs → ArePlain vs → IsPlainValue (key_value vs)
-    first [] l a = absurd (omega arith)
-    first (v ∷ vs) l a = a.0
+pub tuple_key : (keys : ℕ → ℕ) → AreKeyLengths keys → (wid tid : ℕ) (u : Tuple) → IsNum wid → IsNum tid → IsTupleRow u → IsValKey (row_key keys wid tid u)
+tuple_key keys lengths wid tid u w n fits = record { world = w; rel = fits.rel; key = key_of_fits keys lengths u fits; tuple = n }
 
 one_mark : (o : Option Mark) (m : Mark) → option_map mark_bytes o ≡ Some (mark_bytes m) → o ≡ Some m
 one_mark None m e = absurd (none_some (mark_bytes m) e)
 one_mark (Some k) m e = ap Some (mark_rows_are_one k m tt tt (some_same (mark_bytes k) (mark_bytes m) e))
 
 -- the rows of a world are those that tables have
-module _ (t : Tables) (stmts : List Stmt) (ns : Names) (ts : Tuples) (rows : HoldsRows (λ _. 1) stmts (path_of ns) ts.tuple t) (u : Tuple) (tid wid : ℕ) (n : IsNum tid) (fits : IsTupleRow u) where
-  pub explicit_row : (x : HasExplicitAt t (key_rest u tid) wid) → row_for (λ _. 1) stmts (path_of ns) ts.tuple (row_key wid tid u) ≡ Some (x.sign, true)
+module _ (keys : ℕ → ℕ) (lengths : AreKeyLengths keys) (t : Tables) (stmts : List Stmt) (ns : Names) (ts : Tuples) (rows : HoldsRows keys stmts (path_of ns) ts.tuple t) (u : Tuple) (tid wid : ℕ) (n : IsNum tid) (fits : IsTupleRow u) where
+  pub explicit_row : (x : HasExplicitAt t (key_rest keys u tid) wid) → row_for keys stmts (path_of ns) ts.tuple (row_key keys wid tid u) ≡ Some (x.sign, true)
   explicit_row x =
-      let k = row_key wid tid u in
-      one_mark (row_for (λ _. 1) stmts (path_of ns) ts.tuple k) (x.sign, true) (sym (rows.rows k (tuple_key wid tid u x.world n fits)) ∙ x.found)
+      let k = row_key keys wid tid u in
+      one_mark (row_for keys stmts (path_of ns) ts.tuple k) (x.sign, true) (sym (rows.rows k (tuple_key keys lengths wid tid u x.world n fits)) ∙ x.found)
 
-  pub row_explicit : (s : Sign) → IsNum wid → row_for (λ _. 1) stmts (path_of ns) ts.tuple (row_key wid tid u) ≡ Some (s, true) → HasExplicitAt t (key_rest u tid) wid
-  row_explicit s w e = record { world = w; sign = s; found = rows.rows (row_key wid tid u) (tuple_key wid tid u w n fits) ∙ ap (option_map mark_bytes) e }
+  pub row_explicit : (s : Sign) → IsNum wid → row_for keys stmts (path_of ns) ts.tuple (row_key keys wid tid u) ≡ Some (s, true) → HasExplicitAt t (key_rest keys u tid) wid
+  row_explicit s w e = record { world = w; sign = s; found = rows.rows (row_key keys wid tid u) (tuple_key keys lengths wid tid u w n fits) ∙ ap (option_map mark_bytes) e }
 
 -- a tuple's explicit row is that of a statement, and a statement has one
-module _ (t : Tables) (u : Tuple) (tid : ℕ) (n : IsNum tid) where
-  row_tells : (wid : ℕ) → HasExplicitAt t (key_rest u tid) wid → TellsTold t u tid true
-  row_tells wid x reached told ns ts b h within c number =
-      let fits : IsTupleRow u = subst (λ o. MatchOption o (Unit {0}) IsTupleRow) number (h.tuples.tuples.written tid n) in
-      let k = row_key wid tid u in
-      let row = explicit_row t b.stmts ns ts h.rows u tid wid n fits x in
-      let world = some_is (path_of ns wid) ((held_names b.stmts told ns ts t h.tuples k (ap is_some row)).0) in
-      let mark = sym (right_row b.stmts told ns ts t h.tuples wid world.0 tid u world.1 number) ∙ row in
-      sym (explicit_tuple b.stmts world.0 u x.sign (sym (mark_tells b.stmts world.0 u (x.sign, true) mark).1))
+module _ (t : Tables) (len : ℕ) (u : Tuple) (tid : ℕ) (n : IsNum tid) (long : IsKeyLength t u.rel len) where
+  -- what follows the world's number is by the base's keys what it is by the length that was found
+  rest_is : (b : Contents) → Gives rel_codec t (slice_get b.catalog.rels) → key_rest (λ _. len) u tid ≡ key_rest (keys_of b) u tid
+  rest_is b g = ap (λ (vs : List Value). num_bytes u.rel ++ vals_bytes vs ++ num_bytes tid) (key_by_length (keys_of b) len u (long b.catalog.rels g))
 
-  no_row_tells : ((m : ℕ) → HasExplicitAt t (key_rest u tid) m → ⊥) → TellsTold t u tid false
+  row_tells : (wid : ℕ) → HasExplicitAt t (key_rest (λ _. len) u tid) wid → TellsTold t u tid true
+  row_tells wid y reached told ns ts b h within c number =
+      let x : HasExplicitAt t (key_rest (keys_of b) u tid) wid = subst (λ rest. HasExplicitAt t rest wid) (rest_is b h.rels) y in
+      let fits : IsTupleRow u = subst (λ o. MatchOption o (Unit {0}) IsTupleRow) number (h.tuples.tuples.written tid n) in
+      let k = row_key (keys_of b) wid tid u in
+      let row = explicit_row (keys_of b) (lengths_fit t b.catalog.rels h.rels) t b.stmts ns ts h.rows u tid wid n fits x in
+      let world = some_is (path_of ns wid) ((held_names (keys_of b) b.stmts told ns ts t h.tuples k (ap is_some row)).0) in
+      let mark = sym (right_row (keys_of b) b.stmts told ns ts t h.tuples wid world.0 tid u world.1 number) ∙ row in
+      sym (explicit_tuple b.stmts world.0 u x.sign (sym (mark_tells (keys_of b) b.stmts world.0 u (x.sign, true) mark).1))
+
+  no_row_tells : ((m : ℕ) → HasExplicitAt t (key_rest (λ _. len) u tid) m → ⊥) → TellsTold t u tid false
   no_row_tells none reached told ns ts b h within c number = go (has_told b.stmts u) refl
     where
       go : (is : Bool) → has_told b.stmts u ≡ is → false ≡ has_told b.stmts u
@@ -219,10 +226,11 @@ module _ (t : Tables) (u : Tuple) (tid : ℕ) (n : IsNum tid) where
           let named = some_is (number_of ns x.0) (h.worlds x.0 ∙ within.states x.0 (explicit_state b.stmts x.0 u x.1 x.2)) in
           let path = h.states.names.numbered x.0 named.0 named.1 in
           let w = h.states.names.sized x.0 named.0 named.1 in
-          let mark : row_for (λ _. 1) b.stmts (path_of ns) ts.tuple (row_key named.0 tid u) ≡ Some (x.1, true) =
-          right_row b.stmts told ns ts t h.tuples named.0 x.0 tid u path number
-          ∙ mark_has b.stmts x.0 u x.1 c (explicit_is_stated (λ _. 1) b.stmts x.0 u x.1 x.2) ∙ ap (λ (z : Bool). Some (x.1, z)) x.2 in
-          absurd (none named.0 (row_explicit t b.stmts ns ts h.rows u tid named.0 n fits x.1 w mark))
+          let mark : row_for (keys_of b) b.stmts (path_of ns) ts.tuple (row_key (keys_of b) named.0 tid u) ≡ Some (x.1, true) =
+          right_row (keys_of b) b.stmts told ns ts t h.tuples named.0 x.0 tid u path number
+          ∙ mark_has (keys_of b) b.stmts x.0 u x.1 c (explicit_is_stated (keys_of b) b.stmts x.0 u x.1 x.2) ∙ ap (λ (z : Bool). Some (x.1, z)) x.2 in
+          absurd (none named.0 (subst (λ rest. HasExplicitAt t rest named.0) (sym (rest_is b h.rels))
+          (row_explicit (keys_of b) (lengths_fit t b.catalog.rels h.rels) t b.stmts ns ts h.rows u tid named.0 n fits x.1 w mark)))
         where
           -- a tuple that is told is explicit at some path
           told_explicit : (stmts : List Stmt) (u : Tuple) → has_told stmts u ≡ true → (w : List ℕ) × (s : Sign) × (explicit stmts w u s ≡ true)
@@ -241,7 +249,7 @@ module _ (t : Tables) (u : Tuple) (tid : ℕ) (n : IsNum tid) where
           ]
 
   -- what all worlds tell of a tuple's rows
-  pub any_tells : (is : Bool) → AnyTells t (key_rest u tid) None is → TellsTold t u tid is
+  pub any_tells : (is : Bool) → AnyTells t (key_rest (λ _. len) u tid) None is → TellsTold t u tid is
   any_tells true x = row_tells x.0 x.1.explicit
   any_tells false none = no_row_tells (λ m x. none m (record { explicit = x; beside = refl }))
 

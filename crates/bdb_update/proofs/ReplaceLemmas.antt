@@ -150,7 +150,7 @@ with_valid t c x come b m = first_is_valid b.catalog b.stmts x come m.base.valid
 -- a statement of a valid base clashes with none of it
 no_clash : (b : Contents) (x least : Stmt) → IsValid b.catalog b.stmts → IsValid b.catalog (with_statement b.stmts x) → clash_of b x ≡ Some least → ⊥
 no_clash b x least v w e =
-    let at : ClashesAt (λ _. 1) b.stmts x.path x.tuple x.sign least = (least_clash_is_least (key_lengths b.catalog.rels) b.stmts v.stmts.sorted x.path x.tuple x.sign least e).0 in
+    let at : ClashesAt (key_lengths b.catalog.rels) b.stmts x.path x.tuple x.sign least = (least_clash_is_least (key_lengths b.catalog.rels) b.stmts v.stmts.sorted x.path x.tuple x.sign least e).0 in
     let next = with_statement b.stmts x in
     let here : list_any (same_statement x) next ≡ true = list_any-put_in statement_exact (same_statement x) b.stmts x ∙ or_left (same_statement x x) (list_any (same_statement x) b.stmts) (itself x) in
     let there : list_any (same_statement least) next ≡ true = list_any-put_in statement_exact (same_statement least) b.stmts x ∙ or_right (same_statement least x) (list_any (same_statement least) b.stmts) at.0 in

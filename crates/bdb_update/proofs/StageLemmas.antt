@@ -15,6 +15,7 @@ use Rattle.bdb_tables.specs.Rows.{Tuples, row_for}
 use Rattle.bdb_val.specs.Reads.{HaveTuples}
 use Rattle.bdb_val.proofs.HeldLemmas.{held_names}
 use Rattle.bdb_tables.specs.Stored.{SameBut, StoredOver}
+use Rattle.bdb_update.specs.Keys.{keys_of}
 
 -- a row that is written stands for something
 stands_for : {X : Type 0} (bytes : X → List ℕ) (o : Option X) → is_some (option_map bytes o) ≡ is_some o
@@ -24,9 +25,9 @@ stands_for bytes (Some x) = refl
 -- each row of a world has its tuple
 pub over_has_tuples : (reached told : List Stmt) (ns : Names) (ts : Tuples) (t : Tables) (b : Contents) → StoredOver reached told ns ts t b → HaveTuples t
 over_has_tuples reached told ns ts t b h k v s =
-    let f = row_for (λ _. 1) b.stmts (path_of ns) ts.tuple in
+    let f = row_for (keys_of b) b.stmts (path_of ns) ts.tuple in
     let there : is_some (f k) ≡ true = sym (ap is_some (h.rows.rows k v) ∙ stands_for val_codec.row_bytes (f k)) ∙ s in
-    let named = (held_names b.stmts told ns ts t h.tuples k there).1 in
+    let named = (held_names (keys_of b) b.stmts told ns ts t h.tuples k there).1 in
     ap is_some (h.tuples.tuples.rows k.3 v.tuple) ∙ stands_for tuple_codec.row_bytes (ts.tuple k.3) ∙ ap is_some named.1
 
 -- and still has where neither table has changed

@@ -33,6 +33,8 @@ use Rattle.bdb_val.proofs.HeldLemmas.{some_is, held_rows_are_explicit}
 use Rattle.bdb_val.proofs.ReadLemmas.{read_named, read_mark, read_apart, world_span}
 use Rattle.bdb_worlds.specs.Holding.{HoldSome}
 use Rattle.bdb_worlds.specs.Reach.{ReachesState}
+use Rattle.bdb_update.proofs.KeyLemmas.{lengths_fit}
+use Rattle.bdb_update.specs.Keys.{keys_of}
 use Rattle.bdb_update.specs.Reached.{HasState, SomeHasState, StandAt, at_path, said_of, said_at}
 use Rattle.bdb_tables.specs.Stored.{Stores, StoredAs}
 use Rattle.bdb_update.proofs.ExamineLemmas.{world_if_any}
@@ -53,9 +55,9 @@ sign_explicit : (stmts : List Stmt) (w : List ℕ) (u : Tuple) (s : Sign) → ex
 sign_explicit stmts w u Plus e = (by_sign (explicit stmts w u Plus) (explicit stmts w u Minus) Plus e).0 refl
 sign_explicit stmts w u Minus e = (by_sign (explicit stmts w u Plus) (explicit stmts w u Minus) Minus e).1 refl
 
-explicit_is_sign : (stmts : List Stmt) (w : List ℕ) (u : Tuple) (s : Sign) → IsConsistent (λ _. 1) stmts → explicit stmts w u s ≡ true → explicit_sign stmts w u ≡ Some s
-explicit_is_sign stmts w u Plus c e = cond-true (explicit stmts w u Plus) (Some Plus) (cond (explicit stmts w u Minus) (Some Minus) None) e
-explicit_is_sign stmts w u Minus c e =
+explicit_is_sign : (keys : ℕ → ℕ) (stmts : List Stmt) (w : List ℕ) (u : Tuple) (s : Sign) → IsConsistent keys stmts → explicit stmts w u s ≡ true → explicit_sign stmts w u ≡ Some s
+explicit_is_sign keys stmts w u Plus c e = cond-true (explicit stmts w u Plus) (Some Plus) (cond (explicit stmts w u Minus) (Some Minus) None) e
+explicit_is_sign keys stmts w u Minus c e =
     cond-false (explicit stmts w u Plus) (Some Plus) (cond (explicit stmts w u Minus) (Some Minus) None)
     (false_from_ne_true (explicit stmts w u Plus) (λ p. false≢true (sym (c w u u Plus Minus p e) ∙ (same_tuple-Decides u u).1 refl)))
     ∙ cond-true (explicit stmts w u Minus) (Some Minus) None e
@@ -119,10 +121,10 @@ any-append p (x ∷ xs) ys = ap (λ b. p x || b) (any-append p xs ys) ∙ groupe
 
 -- ---- the rows of a world and the statements of its path
 
-module _ (t : Tables) (b : Contents) (ns : Names) (ts : Tuples) (stored : StoredAs ns ts t b) (consistent : IsConsistent (λ _. 1) b.stmts) (w : List ℕ) (wid : ℕ) (number : number_of ns w ≡ Some wid)
+module _ (t : Tables) (b : Contents) (ns : Names) (ts : Tuples) (stored : StoredAs ns ts t b) (consistent : IsConsistent (keys_of b) b.stmts) (w : List ℕ) (wid : ℕ) (number : number_of ns w ≡ Some wid)
     (rows : List Stored) (read : AreReadUnder t (world_prefix wid) rows) where
   abbrev held : ValKey → Option Mark
-  held = row_for (λ _. 1) b.stmts (path_of ns) ts.tuple
+  held = row_for (keys_of b) b.stmts (path_of ns) ts.tuple
 
   named : path_of ns wid ≡ Some w
   named = stored.states.names.numbered w wid number
@@ -130,21 +132,21 @@ module _ (t : Tables) (b : Contents) (ns : Names) (ts : Tuples) (stored : Stored
   wid_fits : IsNum wid
   wid_fits = stored.states.names.sized w wid number
 
-  has : HasExplicit b.stmts (worlds_of ns) ts.tuple held t
-  has = held_rows_are_explicit b.stmts ns ts t stored.states.names (λ v e. stored.worlds v ∙ e) consistent stored.tuples stored.rows
+  has : HasExplicit (keys_of b) b.stmts (worlds_of ns) ts.tuple held t
+  has = held_rows_are_explicit (keys_of b) b.stmts ns ts t (lengths_fit t b.catalog.rels stored.rels) stored.states.names (λ v e. stored.worlds v ∙ e) consistent stored.tuples stored.rows
 
-  span : IsSpan wid (λ _. true) (world_prefix wid)
-  span = world_span wid wid_fits
+  span : IsSpan (keys_of b) wid (λ _. true) (world_prefix wid)
+  span = world_span (keys_of b) wid wid_fits
 
   tuples : AreNamed ts.tuple rows
-  tuples = read_named ts.tuple held t has.rows (world_prefix wid) rows read
+  tuples = read_named (keys_of b) ts.tuple held t has.rows (world_prefix wid) rows read
 
   marks : AllByRecursion (λ r. mark_in rows r.tid ≡ Some r.mark) rows
-  marks = mark_of_each rows rows (λ _ _ k. k) (read_apart ts.tuple held t has.rows wid (λ _. true) (world_prefix wid) rows span read)
+  marks = mark_of_each rows rows (λ _ _ k. k) (read_apart (keys_of b) ts.tuple held t has.rows wid (λ _. true) (world_prefix wid) rows span read)
 
   mark : (tid : ℕ) (v : Tuple) → ts.tuple tid ≡ Some v → explicit_of (mark_in rows tid) ≡ explicit_sign b.stmts w v
   mark tid v n =
-      ap explicit_of (read_mark ts.tuple held t has.rows wid (λ _. true) (world_prefix wid) rows wid_fits span read tid v n refl)
+      ap explicit_of (read_mark (keys_of b) ts.tuple held t has.rows wid (λ _. true) (world_prefix wid) rows wid_fits span read tid v n refl)
       ∙ has.explicit wid w tid v named n
 
   -- each explicit row is a statement
@@ -164,7 +166,7 @@ module _ (t : Tables) (b : Contents) (ns : Names) (ts : Tuples) (stored : Stored
   row_of Q all v s e =
       let n = some_is (ts.number v) (stored.tuples.stated v ∙ explicit_tuple b.stmts w v s e) in
       let k = stored.tuples.numbered v n.0 n.1 in
-      let m = explicit_is (mark_in rows n.0) s (mark n.0 v k ∙ explicit_is_sign b.stmts w v s consistent e) in
+      let m = explicit_is (mark_in rows n.0) s (mark n.0 v k ∙ explicit_is_sign (keys_of b) b.stmts w v s consistent e) in
       let r = row_found (λ q. (ts.tuple q.tid ≡ Some q.tuple) × Q q) rows n.0 (s, true) (both (λ q. ts.tuple q.tid ≡ Some q.tuple) Q rows tuples all) m in
       (r.0, same (ts.tuple n.0) (ap ts.tuple (sym r.1) ∙ r.3.0) k, r.2, r.3.1)
     where

@@ -25,8 +25,10 @@ use Rattle.bdb_tables.specs.Writes.{with_change}
 use Rattle.bdb_tables.proofs.DifferenceLemmas.{is_among}
 use Rattle.bdb_tables.proofs.Held.{same_place}
 use Rattle.bdb_tables.proofs.WriteLemmas.{get_after_change}
+use Rattle.bdb_update.proofs.KeyLemmas.{lengths_fit}
 use Rattle.bdb_update.specs.Differing.{has_told}
 use Rattle.bdb_tables.specs.Stored.{StoredOver, Stores}
+use Rattle.bdb_update.specs.Keys.{keys_of}
 use Rattle.bdb_update.specs.Tallies.{HasRowCount, vals_at, nothing_at}
 use Rattle.bdb_update.proofs.ComeLemmas.{rows_one}
 use Rattle.bdb_update.proofs.RowLemmas.{AreUsed, rows_counted, rows_of}
@@ -39,21 +41,21 @@ module _ (reached told : List Stmt) (ns : Names) (ts : Tuples) (t : Tables) (b :
   used : AreUsed ns
   used = record { once = h.states.names.once; counted = h.states.names.counted; sized = λ n w e. h.states.names.sized w n (h.states.names.named n w e) }
 
-  pub over_count : HasRowCount t (sum_by (rows_of b.stmts ns) ns.used)
-  over_count = rows_counted b.stmts told ns ts t used (valid_is_consistent b.catalog b.stmts valid) h.tuples within h.rows
+  pub over_count : HasRowCount t (sum_by (rows_of (keys_of b) b.stmts ns) ns.used)
+  over_count = rows_counted (keys_of b) b.stmts told ns ts t (lengths_fit t b.catalog.rels h.rels) used (valid_is_consistent b.catalog b.stmts valid) h.tuples within h.rows
 
   -- however many rows there are, they are few
   pub over_few : (a : ℕ) → HasRowCount t a → a ≤ 1310720000
   over_few a x =
-      let few = rows_are_few b.stmts ns (valid_is_consistent b.catalog b.stmts valid) (leb-true (length b.stmts) most_statements valid.stmts.few_stmts) h.states.names.few in
-      let e = rows_one t a (sum_by (rows_of b.stmts ns) ns.used) x over_count in
+      let few = rows_are_few (keys_of b) b.stmts ns (valid_is_consistent b.catalog b.stmts valid) (leb-true (length b.stmts) most_statements valid.stmts.few_stmts) h.states.names.few in
+      let e = rows_one t a (sum_by (rows_of (keys_of b) b.stmts ns) ns.used) x over_count in
       omega arith
 
 -- ---- a base
 
 pub stored_count : (t : Tables) (b : Contents) → Stores t b → IsValid b.catalog b.stmts → HasRowCount t (counts_of b).rows
 stored_count t b s valid =
-    subst (HasRowCount t) (sum_of_states b.stmts s.names s.stored.states.names s.stored.worlds) (over_count b.stmts b.stmts s.names s.tuples t b s.stored valid (λ u e. e))
+    subst (HasRowCount t) (sum_of_states (keys_of b) b.stmts s.names s.stored.states.names s.stored.worlds) (over_count b.stmts b.stmts s.names s.tuples t b s.stored valid (λ u e. e))
 
 -- ---- one row is put
 

@@ -157,141 +157,142 @@ ascending_distinct (x ∷ xs) e =
         neither : (a b : Bool) → a ≡ false → b ≡ false → (a || b) ≡ false
         neither a b f g = ap (λ c. c || b) f ∙ g
 
--- ---- the rows of all states' worlds
+module _ (keys : ℕ → ℕ) where
+  -- ---- the rows of all states' worlds
 
-module _ (stmts : List Stmt) (ns : Names) (names : AreNames ns) where
-  some_path : Option (List ℕ) → List ℕ
-  some_path None = []
-  some_path (Some w) = w
+  module _ (stmts : List Stmt) (ns : Names) (names : AreNames ns) where
+    some_path : Option (List ℕ) → List ℕ
+    some_path None = []
+    some_path (Some w) = w
 
-  path : ℕ → List ℕ
-  path n = some_path (path_of ns n)
+    path : ℕ → List ℕ
+    path n = some_path (path_of ns n)
 
-  path_is : (n : ℕ) (w : List ℕ) → path_of ns n ≡ Some w → path n ≡ w
-  unfolding path some_path
-  path_is n w e = ap some_path e
+    path_is : (n : ℕ) (w : List ℕ) → path_of ns n ≡ Some w → path n ≡ w
+    unfolding path some_path
+    path_is n w e = ap some_path e
 
-  abbrev AllNamed : List ℕ → Type 0
-  AllNamed ks = (k : ℕ) → is_listed k ks ≡ true → is_some (path_of ns k) ≡ true
+    abbrev AllNamed : List ℕ → Type 0
+    AllNamed ks = (k : ℕ) → is_listed k ks ≡ true → is_some (path_of ns k) ≡ true
 
-  rest_named : (k : ℕ) (ks : List ℕ) → AllNamed (k ∷ ks) → AllNamed ks
-  rest_named k ks h j e = h j (or_right (nat_eq j k) (is_listed j ks) e)
+    rest_named : (k : ℕ) (ks : List ℕ) → AllNamed (k ∷ ks) → AllNamed ks
+    rest_named k ks h j e = h j (or_right (nat_eq j k) (is_listed j ks) e)
 
-  first_named : (k : ℕ) (ks : List ℕ) → AllNamed (k ∷ ks) → (w : List ℕ) × (path_of ns k ≡ Some w)
-  first_named k ks h = some_is (path_of ns k) (h k (or_left (nat_eq k k) (is_listed k ks) (eq-eqb k k refl)))
+    first_named : (k : ℕ) (ks : List ℕ) → AllNamed (k ∷ ks) → (w : List ℕ) × (path_of ns k ≡ Some w)
+    first_named k ks h = some_is (path_of ns k) (h k (or_left (nat_eq k k) (is_listed k ks) (eq-eqb k k refl)))
 
-  sums_meet : (ks : List ℕ) → AllNamed ks → sum_by (rows_of stmts ns) ks ≡ sum_by (row_count (λ _. 1) stmts) (map path ks)
-  sums_meet [] h = refl
-  sums_meet (k ∷ ks) h =
-      let w = first_named k ks h in
-      sum_by-cons (rows_of stmts ns) k ks
-      ∙ ap (λ n. n + sum_by (rows_of stmts ns) ks) (rows_of_is stmts ns k w.0 w.1 ∙ ap (row_count (λ _. 1) stmts) (sym (path_is k w.0 w.1)))
-      ∙ ap (λ n. row_count (λ _. 1) stmts (path k) + n) (sums_meet ks (rest_named k ks h))
-      ∙ sym (sum_by-cons (row_count (λ _. 1) stmts) (path k) (map path ks))
+    sums_meet : (ks : List ℕ) → AllNamed ks → sum_by (rows_of keys stmts ns) ks ≡ sum_by (row_count keys stmts) (map path ks)
+    sums_meet [] h = refl
+    sums_meet (k ∷ ks) h =
+        let w = first_named k ks h in
+        sum_by-cons (rows_of keys stmts ns) k ks
+        ∙ ap (λ n. n + sum_by (rows_of keys stmts ns) ks) (rows_of_is keys stmts ns k w.0 w.1 ∙ ap (row_count keys stmts) (sym (path_is k w.0 w.1)))
+        ∙ ap (λ n. row_count keys stmts (path k) + n) (sums_meet ks (rest_named k ks h))
+        ∙ sym (sum_by-cons (row_count keys stmts) (path k) (map path ks))
 
-  one_number : (j k : ℕ) (v w : List ℕ) → path_of ns j ≡ Some v → path_of ns k ≡ Some w → v ≡ w → j ≡ k
-  one_number j k v w p q e = one (number_of ns w) (ap (number_of ns) (sym e) ∙ names.named j v p) (names.named k w q)
+    one_number : (j k : ℕ) (v w : List ℕ) → path_of ns j ≡ Some v → path_of ns k ≡ Some w → v ≡ w → j ≡ k
+    one_number j k v w p q e = one (number_of ns w) (ap (number_of ns) (sym e) ∙ names.named j v p) (names.named k w q)
+      where
+        one : (o : Option ℕ) → o ≡ Some j → o ≡ Some k → j ≡ k
+        one o a b = cc
+
+    listed : (k : ℕ) (v : List ℕ) → path_of ns k ≡ Some v → (ks : List ℕ) → AllNamed ks → is_among v (map path ks) ≡ true → is_listed k ks ≡ true
+    listed k v p [] h e = absurd (false≢true e)
+    listed k v p (j ∷ ks) h e = elim (or_cases (same_text v (path j)) (is_among v (map path ks)) e) [
+      | inl s ↦
+          let w = first_named j ks h in
+          or_left (nat_eq k j) (is_listed k ks) (eq-eqb k j (one_number k j v w.0 p w.1 ((same_text-Decides v (path j)).0 s ∙ path_is j w.0 w.1)))
+      | inr s ↦ or_right (nat_eq k j) (is_listed k ks) (listed k v p ks (rest_named j ks h) s)
+    ]
+
+    among : (k : ℕ) (v : List ℕ) → path_of ns k ≡ Some v → (ks : List ℕ) → is_listed k ks ≡ true → is_among v (map path ks) ≡ true
+    among k v p [] e = absurd (false≢true e)
+    among k v p (j ∷ ks) e = elim (or_cases (nat_eq k j) (is_listed k ks) e) [
+      | inl s ↦ or_left (same_text v (path j)) (is_among v (map path ks)) ((same_text-Decides v (path j)).1 (sym (ap path (sym (eqb-true k j s)) ∙ path_is k v p)))
+      | inr s ↦ or_right (same_text v (path j)) (is_among v (map path ks)) (among k v p ks s)
+    ]
+
+    named_by : (v : List ℕ) (ks : List ℕ) → AllNamed ks → is_among v (map path ks) ≡ true → is_named ns v ≡ true
+    named_by v [] h e = absurd (false≢true e)
+    named_by v (j ∷ ks) h e = elim (or_cases (same_text v (path j)) (is_among v (map path ks)) e) [
+      | inl s ↦
+          let w = first_named j ks h in
+          ap (is_named ns) ((same_text-Decides v (path j)).0 s ∙ path_is j w.0 w.1) ∙ ap is_some (names.named j w.0 w.1)
+      | inr s ↦ named_by v ks (rest_named j ks h) s
+    ]
+
+    paths_distinct : (ks : List ℕ) → AllNamed ks → are_once ks ≡ true → are_distinct (map path ks) ≡ true
+    paths_distinct [] h o = refl
+    paths_distinct (k ∷ ks) h o =
+        let c = and_parts (not (is_listed k ks)) (are_once ks) o in
+        let w = first_named k ks h in
+        and_from (not (is_among (path k) (map path ks))) (are_distinct (map path ks))
+        (not_from_false (is_among (path k) (map path ks)) (false_from_ne_true (is_among (path k) (map path ks)) (λ e.
+        false≢true (sym (not-true (is_listed k ks) c.0) ∙ listed k w.0 w.1 ks (rest_named k ks h) (ap (λ z. is_among z (map path ks)) (sym (path_is k w.0 w.1)) ∙ e)))))
+        (paths_distinct ks (rest_named k ks h) c.1)
+
+    all_named : AllNamed ns.used
+    all_named k e = sym (names.counted k) ∙ e
+
+    pub sum_of_states : ((w : List ℕ) → is_named ns w ≡ is_state stmts w) → sum_by (rows_of keys stmts ns) ns.used ≡ sum_by (row_count keys stmts) (states_of stmts)
+    sum_of_states is =
+        sums_meet ns.used all_named
+        ∙ same_sum (row_count keys stmts) (map path ns.used) (states_of stmts) (paths_distinct ns.used all_named names.once)
+        (ascending_distinct (states_of stmts) (set_is_ascending path_exact (stated_prefixes stmts)))
+        (λ w. meet w ∙ is w ∙ sym (list_has_states stmts w) ∙ member_among (states_of stmts) w)
+      where
+        meet : (w : List ℕ) → is_among w (map path ns.used) ≡ is_named ns w
+        meet w = elim (cases_Bool (is_named ns w)) [
+          | inl e ↦
+              let n = some_is (number_of ns w) e in
+              let p = names.numbered w n.0 n.1 in
+              among n.0 w p ns.used (names.counted n.0 ∙ ap is_some p) ∙ sym e
+          | inr e ↦ false_from_ne_true (is_among w (map path ns.used)) (λ f. false≢true (sym e ∙ named_by w ns.used all_named f)) ∙ sym e
+        ]
+
+  -- ---- how many rows there are at most
+
+  few_at : (stmts : List Stmt) → IsConsistent keys stmts → (w : List ℕ) (us : List Tuple) → length (flat_map (rows_at keys stmts w) us) ≤ length us
+  few_at stmts c w [] = omega arith
+  few_at stmts c w (u ∷ us) =
+      let ih = few_at stmts c w us in
+      let e = length-flat_map (rows_at keys stmts w) (u ∷ us) in
+      let f = length-flat_map (rows_at keys stmts w) us in
+      let g = sum_by-cons (λ x. length (rows_at keys stmts w x)) u us in
+      let one : length (rows_at keys stmts w u) ≤ 1 = elim (one_row keys stmts c w u) [
+        | inl a ↦ let z = ap length a in omega arith
+        | inr a ↦ let z = ap length a.1 in omega arith
+      ] in
+      omega arith
+
+  set_shorter : (xs : List Tuple) → length (sorted_set tuple_cmp xs) ≤ length xs
+  set_shorter [] = omega arith
+  set_shorter (x ∷ xs) =
+      let ih = set_shorter xs in
+      let e = length-put_in tuple_exact (sorted_set tuple_cmp xs) x (set_is_ascending tuple_exact xs) in
+      let f : cond (is_member tuple_cmp (sorted_set tuple_cmp xs) x) 0 1 ≤ 1 = one (is_member tuple_cmp (sorted_set tuple_cmp xs) x) in
+      omega arith
     where
-      one : (o : Option ℕ) → o ≡ Some j → o ≡ Some k → j ≡ k
-      one o a b = cc
+      one : (b : Bool) → cond b 0 1 ≤ 1
+      one true = omega arith
+      one false = omega arith
 
-  listed : (k : ℕ) (v : List ℕ) → path_of ns k ≡ Some v → (ks : List ℕ) → AllNamed ks → is_among v (map path ks) ≡ true → is_listed k ks ≡ true
-  listed k v p [] h e = absurd (false≢true e)
-  listed k v p (j ∷ ks) h e = elim (or_cases (same_text v (path j)) (is_among v (map path ks)) e) [
-    | inl s ↦
-        let w = first_named j ks h in
-        or_left (nat_eq k j) (is_listed k ks) (eq-eqb k j (one_number k j v w.0 p w.1 ((same_text-Decides v (path j)).0 s ∙ path_is j w.0 w.1)))
-    | inr s ↦ or_right (nat_eq k j) (is_listed k ks) (listed k v p ks (rest_named j ks h) s)
-  ]
+  few_rows : (stmts : List Stmt) → IsConsistent keys stmts → (w : List ℕ) → row_count keys stmts w ≤ length stmts
+  few_rows stmts c w =
+      let a = few_at stmts c w (tuples_of stmts) in
+      let b = set_shorter (map (λ (x : Stmt). x.tuple) stmts) in
+      let d = length-map stmts (λ (x : Stmt). x.tuple) in
+      omega arith
 
-  among : (k : ℕ) (v : List ℕ) → path_of ns k ≡ Some v → (ks : List ℕ) → is_listed k ks ≡ true → is_among v (map path ks) ≡ true
-  among k v p [] e = absurd (false≢true e)
-  among k v p (j ∷ ks) e = elim (or_cases (nat_eq k j) (is_listed k ks) e) [
-    | inl s ↦ or_left (same_text v (path j)) (is_among v (map path ks)) ((same_text-Decides v (path j)).1 (sym (ap path (sym (eqb-true k j s)) ∙ path_is k v p)))
-    | inr s ↦ or_right (same_text v (path j)) (is_among v (map path ks)) (among k v p ks s)
-  ]
+  sum_few : (f : ℕ → ℕ) (xs : List ℕ) → ((x : ℕ) → f x ≤ 20000) → sum_by f xs ≤ length xs * 20000
+  sum_few f [] h = omega arith
+  sum_few f (x ∷ xs) h =
+      let ih = sum_few f xs h in
+      let e = sum_by-cons f x xs in
+      let g = h x in
+      omega arith
 
-  named_by : (v : List ℕ) (ks : List ℕ) → AllNamed ks → is_among v (map path ks) ≡ true → is_named ns v ≡ true
-  named_by v [] h e = absurd (false≢true e)
-  named_by v (j ∷ ks) h e = elim (or_cases (same_text v (path j)) (is_among v (map path ks)) e) [
-    | inl s ↦
-        let w = first_named j ks h in
-        ap (is_named ns) ((same_text-Decides v (path j)).0 s ∙ path_is j w.0 w.1) ∙ ap is_some (names.named j w.0 w.1)
-    | inr s ↦ named_by v ks (rest_named j ks h) s
-  ]
-
-  paths_distinct : (ks : List ℕ) → AllNamed ks → are_once ks ≡ true → are_distinct (map path ks) ≡ true
-  paths_distinct [] h o = refl
-  paths_distinct (k ∷ ks) h o =
-      let c = and_parts (not (is_listed k ks)) (are_once ks) o in
-      let w = first_named k ks h in
-      and_from (not (is_among (path k) (map path ks))) (are_distinct (map path ks))
-      (not_from_false (is_among (path k) (map path ks)) (false_from_ne_true (is_among (path k) (map path ks)) (λ e.
-      false≢true (sym (not-true (is_listed k ks) c.0) ∙ listed k w.0 w.1 ks (rest_named k ks h) (ap (λ z. is_among z (map path ks)) (sym (path_is k w.0 w.1)) ∙ e)))))
-      (paths_distinct ks (rest_named k ks h) c.1)
-
-  all_named : AllNamed ns.used
-  all_named k e = sym (names.counted k) ∙ e
-
-  pub sum_of_states : ((w : List ℕ) → is_named ns w ≡ is_state stmts w) → sum_by (rows_of stmts ns) ns.used ≡ sum_by (row_count (λ _. 1) stmts) (states_of stmts)
-  sum_of_states is =
-      sums_meet ns.used all_named
-      ∙ same_sum (row_count (λ _. 1) stmts) (map path ns.used) (states_of stmts) (paths_distinct ns.used all_named names.once)
-      (ascending_distinct (states_of stmts) (set_is_ascending path_exact (stated_prefixes stmts)))
-      (λ w. meet w ∙ is w ∙ sym (list_has_states stmts w) ∙ member_among (states_of stmts) w)
-    where
-      meet : (w : List ℕ) → is_among w (map path ns.used) ≡ is_named ns w
-      meet w = elim (cases_Bool (is_named ns w)) [
-        | inl e ↦
-            let n = some_is (number_of ns w) e in
-            let p = names.numbered w n.0 n.1 in
-            among n.0 w p ns.used (names.counted n.0 ∙ ap is_some p) ∙ sym e
-        | inr e ↦ false_from_ne_true (is_among w (map path ns.used)) (λ f. false≢true (sym e ∙ named_by w ns.used all_named f)) ∙ sym e
-      ]
-
--- ---- how many rows there are at most
-
-few_at : (stmts : List Stmt) → IsConsistent (λ _. 1) stmts → (w : List ℕ) (us : List Tuple) → length (flat_map (rows_at (λ _. 1) stmts w) us) ≤ length us
-few_at stmts c w [] = omega arith
-few_at stmts c w (u ∷ us) =
-    let ih = few_at stmts c w us in
-    let e = length-flat_map (rows_at (λ _. 1) stmts w) (u ∷ us) in
-    let f = length-flat_map (rows_at (λ _. 1) stmts w) us in
-    let g = sum_by-cons (λ x. length (rows_at (λ _. 1) stmts w x)) u us in
-    let one : length (rows_at (λ _. 1) stmts w u) ≤ 1 = elim (one_row (λ _. 1) stmts c w u) [
-      | inl a ↦ let z = ap length a in omega arith
-      | inr a ↦ let z = ap length a.1 in omega arith
-    ] in
-    omega arith
-
-set_shorter : (xs : List Tuple) → length (sorted_set tuple_cmp xs) ≤ length xs
-set_shorter [] = omega arith
-set_shorter (x ∷ xs) =
-    let ih = set_shorter xs in
-    let e = length-put_in tuple_exact (sorted_set tuple_cmp xs) x (set_is_ascending tuple_exact xs) in
-    let f : cond (is_member tuple_cmp (sorted_set tuple_cmp xs) x) 0 1 ≤ 1 = one (is_member tuple_cmp (sorted_set tuple_cmp xs) x) in
-    omega arith
-  where
-    one : (b : Bool) → cond b 0 1 ≤ 1
-    one true = omega arith
-    one false = omega arith
-
-few_rows : (stmts : List Stmt) → IsConsistent (λ _. 1) stmts → (w : List ℕ) → row_count (λ _. 1) stmts w ≤ length stmts
-few_rows stmts c w =
-    let a = few_at stmts c w (tuples_of stmts) in
-    let b = set_shorter (map (λ (x : Stmt). x.tuple) stmts) in
-    let d = length-map stmts (λ (x : Stmt). x.tuple) in
-    omega arith
-
-sum_few : (f : ℕ → ℕ) (xs : List ℕ) → ((x : ℕ) → f x ≤ 20000) → sum_by f xs ≤ length xs * 20000
-sum_few f [] h = omega arith
-sum_few f (x ∷ xs) h =
-    let ih = sum_few f xs h in
-    let e = sum_by-cons f x xs in
-    let g = h x in
-    omega arith
-
-pub rows_are_few : (stmts : List Stmt) (ns : Names) → IsConsistent (λ _. 1) stmts → length stmts ≤ most_statements → length ns.used ≤ 65536 → sum_by (rows_of stmts ns) ns.used ≤ 1310720000
-rows_are_few stmts ns c few used =
-    let a = sum_few (rows_of stmts ns) ns.used (λ n. let l = rows_of_few stmts ns n (few_rows stmts c) in omega arith) in
-    omega arith
+  pub rows_are_few : (stmts : List Stmt) (ns : Names) → IsConsistent keys stmts → length stmts ≤ most_statements → length ns.used ≤ 65536 → sum_by (rows_of keys stmts ns) ns.used ≤ 1310720000
+  rows_are_few stmts ns c few used =
+      let a = sum_few (rows_of keys stmts ns) ns.used (λ n. let l = rows_of_few keys stmts ns n (few_rows stmts c) in omega arith) in
+      omega arith

@@ -2,7 +2,7 @@
 use Rattle.std.proofs.Common.{◌≡◌, ◌∙◌, ℕ, ◌+◌, ◌≤◌, ◌<◌, Bool, true, false, List, [], ◌∷◌, length, refl, ap, sym, subst, inl, inr, Some, None, arith}
 use Rattle.std.specs.List.{list_all, AllByRecursion}
 use Rattle.std.proofs.lemmas.Bool.{and_parts, and_from, cases_lt, false≢true, leb-true, le-leb, lt-ltb}
-use Rattle.bdb_base.specs.Bases.{Contents, IsValid, belongs, stands, tuple_count}
+use Rattle.bdb_base.specs.Bases.{Contents, IsValid, belongs, stands, tuple_count, key_lengths}
 use Rattle.bdb_base.specs.Changes.{with_statements, first_clashing}
 use Rattle.bdb_base.specs.Limits.{most_tuples}
 use Rattle.bdb_base.specs.Same.{same_path}
@@ -11,6 +11,7 @@ use Rattle.bdb_base.specs.Alternation.{alternates}
 use Rattle.bdb_base.specs.Bases.{is_user}
 use Rattle.bdb_base.specs.States.{is_state}
 use Rattle.bdb_base.specs.declared.kinds.Catalog.{Catalog}
+use Rattle.bdb_base.specs.declared.kinds.RelDef.{RelDef}
 use Rattle.bdb_base.specs.declared.kinds.Stmt.{Stmt}
 use Rattle.bdb_base.proofs.WorldLemmas.{valid_is_consistent}
 use Rattle.bdb_canon.specs.declared.sizes.Counts.{Counts}
@@ -18,6 +19,8 @@ use Rattle.bdb_keep.specs.Tables.{Tables}
 use Rattle.bdb_tables.proofs.Fitting.{belonging_may_be}
 use Rattle.bdb_update.specs.Calls.{MayChange, clash_within, with_others, without_statements}
 use Rattle.bdb_update.specs.Elsewhere.{HasTuples}
+use Rattle.bdb_tables.specs.Lengths.{HaveKeyLengths}
+use Rattle.bdb_update.specs.Keys.{keys_of}
 use Rattle.bdb_update.specs.Reached.{HasState, SomeHasState, StandAt, AreAt, at_path, lost_of, fresh_of}
 use Rattle.bdb_update.specs.Weighing.{MayWeigh, SomeMayWeigh, IsWeight, Weighs, TellsRoom, have_room}
 use Rattle.bdb_update.specs.declared.weighing.Weight.TheVariants.{Clashes, Fills, Fits}
@@ -86,7 +89,7 @@ come_tuples t c w gone come s = have_tuples s.base come s.may.may.base.valid s.m
 
 -- ---- what was read
 
-module _ (t : Tables) (c : Counts) (w : List ℕ) (gone come stmts reached : List Stmt) (wid : ℕ) (stand : StandAt t w stmts wid) (is : reached ≡ with_statements (without_statements stmts gone) come)
+module _ (t : Tables) (c : Counts) (w : List ℕ) (gone come stmts reached : List Stmt) (wid : ℕ) (rels : List RelDef) (lengths : HaveKeyLengths t rels) (stand : StandAt t w stmts wid) (is : reached ≡ with_statements (without_statements stmts gone) come)
     (b : Contents) (m : MayWeigh t c w gone come b) where
   abbrev next : List Stmt
   next = with_statements (without_statements b.stmts gone) come
@@ -97,8 +100,10 @@ module _ (t : Tables) (c : Counts) (w : List ℕ) (gone come stmts reached : Lis
   is_reached : reached ≡ at_path w next
   is_reached = is ∙ ap (λ xs. with_statements (without_statements xs gone) come) here.stmts ∙ sym (reached_at w b.stmts gone come m.may.base.valid.stmts.sorted (all_here w come m.may.come_here))
 
-  same_first : first_clashing (λ _. 1) reached w ≡ clash_within (with_others b gone come) w
-  same_first = ap (λ xs. first_clashing (λ _. 1) xs w) is_reached ∙ first_at_path (λ _. 1) w next
+  same_first : first_clashing (key_lengths rels) reached w ≡ clash_within (with_others b gone come) w
+  same_first =
+      ap (λ (keys : ℕ → ℕ). first_clashing keys reached w) (lengths b.catalog.rels m.may.base.stored.stored.rels)
+      ∙ ap (λ xs. first_clashing (keys_of b) xs w) is_reached ∙ first_at_path (keys_of b) w next
 
   room_is : (u : Tables) (room : Bool) → u ≡ t → TellsRoom u c.tuples wid reached gone come room → room ≡ have_room c.tuples (lost_of b.stmts w reached gone) (fresh_of b.stmts come)
   room_is u room kept tells =
@@ -109,10 +114,10 @@ module _ (t : Tables) (c : Counts) (w : List ℕ) (gone come stmts reached : Lis
   counted = tuples_after b.catalog b.stmts w gone come (may_replace t c w gone come b m.may) reached is_reached
       ∙ ap (λ n. n + tuple_count (fresh_of b.stmts come)) (sym (ap (λ (k : Counts). k.tuples) m.may.base.counted))
 
-  one_clashes : (least : Stmt) → Some least ≡ first_clashing (λ _. 1) reached w → IsWeight w (with_others b gone come) (Clashes least)
+  one_clashes : (least : Stmt) → Some least ≡ first_clashing (key_lengths rels) reached w → IsWeight w (with_others b gone come) (Clashes least)
   one_clashes least e = sym same_first ∙ sym e
 
-  there_is_room : (u : Tables) → u ≡ t → None ≡ first_clashing (λ _. 1) reached w → TellsRoom u c.tuples wid reached gone come true → IsWeight w (with_others b gone come) Fits
+  there_is_room : (u : Tables) → u ≡ t → None ≡ first_clashing (key_lengths rels) reached w → TellsRoom u c.tuples wid reached gone come true → IsWeight w (with_others b gone come) Fits
   there_is_room u kept e tells =
       let l = tuple_count (lost_of b.stmts w reached gone) in
       let f = tuple_count (fresh_of b.stmts come) in
@@ -120,7 +125,7 @@ module _ (t : Tables) (c : Counts) (w : List ℕ) (gone come stmts reached : Lis
       let k = counted in
       (sym same_first ∙ sym e, omega arith)
 
-  there_is_none : (u : Tables) → u ≡ t → None ≡ first_clashing (λ _. 1) reached w → TellsRoom u c.tuples wid reached gone come false → IsWeight w (with_others b gone come) Fills
+  there_is_none : (u : Tables) → u ≡ t → None ≡ first_clashing (key_lengths rels) reached w → TellsRoom u c.tuples wid reached gone come false → IsWeight w (with_others b gone come) Fills
   there_is_none u kept e tells =
       let l = tuple_count (lost_of b.stmts w reached gone) in
       let f = tuple_count (fresh_of b.stmts come) in
@@ -132,14 +137,14 @@ module _ (t : Tables) (c : Counts) (w : List ℕ) (gone come stmts reached : Lis
         ],
       )
 
-pub weighs_clash : (t : Tables) (c : Counts) (w : List ℕ) (gone come stmts reached : List Stmt) (wid : ℕ) (least : Stmt) → StandAt t w stmts wid → reached ≡ with_statements (without_statements stmts gone) come
-    → Some least ≡ first_clashing (λ _. 1) reached w → Weighs t c w gone come (Clashes least)
-weighs_clash t c w gone come stmts reached wid least stand is e b m = one_clashes t c w gone come stmts reached wid stand is b m least e
+pub weighs_clash : (t : Tables) (c : Counts) (w : List ℕ) (gone come stmts reached : List Stmt) (wid : ℕ) (rels : List RelDef) (least : Stmt) → HaveKeyLengths t rels → StandAt t w stmts wid → reached ≡ with_statements (without_statements stmts gone) come
+    → Some least ≡ first_clashing (key_lengths rels) reached w → Weighs t c w gone come (Clashes least)
+weighs_clash t c w gone come stmts reached wid rels least lengths stand is e b m = one_clashes t c w gone come stmts reached wid rels lengths stand is b m least e
 
-pub weighs_room : (t u : Tables) (c : Counts) (w : List ℕ) (gone come stmts reached : List Stmt) (wid : ℕ) → StandAt t w stmts wid → reached ≡ with_statements (without_statements stmts gone) come
-    → u ≡ t → None ≡ first_clashing (λ _. 1) reached w → TellsRoom u c.tuples wid reached gone come true → Weighs t c w gone come Fits
-weighs_room t u c w gone come stmts reached wid stand is kept e tells b m = there_is_room t c w gone come stmts reached wid stand is b m u kept e tells
+pub weighs_room : (t u : Tables) (c : Counts) (w : List ℕ) (gone come stmts reached : List Stmt) (wid : ℕ) (rels : List RelDef) → HaveKeyLengths t rels → StandAt t w stmts wid → reached ≡ with_statements (without_statements stmts gone) come
+    → u ≡ t → None ≡ first_clashing (key_lengths rels) reached w → TellsRoom u c.tuples wid reached gone come true → Weighs t c w gone come Fits
+weighs_room t u c w gone come stmts reached wid rels lengths stand is kept e tells b m = there_is_room t c w gone come stmts reached wid rels lengths stand is b m u kept e tells
 
-pub weighs_none : (t u : Tables) (c : Counts) (w : List ℕ) (gone come stmts reached : List Stmt) (wid : ℕ) → StandAt t w stmts wid → reached ≡ with_statements (without_statements stmts gone) come
-    → u ≡ t → None ≡ first_clashing (λ _. 1) reached w → TellsRoom u c.tuples wid reached gone come false → Weighs t c w gone come Fills
-weighs_none t u c w gone come stmts reached wid stand is kept e tells b m = there_is_none t c w gone come stmts reached wid stand is b m u kept e tells
+pub weighs_none : (t u : Tables) (c : Counts) (w : List ℕ) (gone come stmts reached : List Stmt) (wid : ℕ) (rels : List RelDef) → HaveKeyLengths t rels → StandAt t w stmts wid → reached ≡ with_statements (without_statements stmts gone) come
+    → u ≡ t → None ≡ first_clashing (key_lengths rels) reached w → TellsRoom u c.tuples wid reached gone come false → Weighs t c w gone come Fills
+weighs_none t u c w gone come stmts reached wid rels lengths stand is kept e tells b m = there_is_none t c w gone come stmts reached wid rels lengths stand is b m u kept e tells

@@ -2,6 +2,7 @@
 -- `change_laws`.
 use Rattle.std.specs.Prelude.{◌≡◌, ℕ, Bool, true, false, not, ◌&&◌, nat_eq, nat_le, cond, List, ◌∷◌, Option, Some, None}
 use Rattle.bdb_base.specs.Bases.{Contents, is_user, key_lengths, with_statement, without_statement}
+use Rattle.bdb_base.specs.Clash.{key_of}
 use Rattle.bdb_base.specs.Same.{same_tuple}
 use Rattle.bdb_base.specs.Segments.{is_prefix}
 use Rattle.bdb_base.specs.States.{is_state, deepest_suffix}
@@ -20,26 +21,25 @@ use Rattle.bdb_tables.specs.Stored.{SameBut, StoredOver}
 use Rattle.bdb_tables.specs.Writes.{with_change}
 use Rattle.bdb_val.specs.Groups.{SettlesGroup}
 use Rattle.bdb_val.specs.Settled.{HasStates}
-use Rattle.bdb_val.specs.Settling.{key_value}
 use Rattle.bdb_update.specs.Differing.{DifferAt, AreWithin, has_told, said_at}
 use Rattle.bdb_update.specs.Numbering.{with_number, without_number, number_put, number_taken}
 
 -- with one statement more they differ in its tuple at its path
 abbrev pub PutDiffersAt : Type 0
-PutDiffersAt = (stmts : List Stmt) (x : Stmt) → DifferAt stmts (with_statement stmts x) x.path x.tuple
+PutDiffersAt = (keys : ℕ → ℕ) (stmts : List Stmt) (x : Stmt) → DifferAt keys stmts (with_statement stmts x) x.path x.tuple
 
 -- with one statement less they do too
 abbrev pub DropDiffersAt : Type 0
-DropDiffersAt = (stmts : List Stmt) (x : Stmt) → DifferAt stmts (without_statement stmts x) x.path x.tuple
+DropDiffersAt = (keys : ℕ → ℕ) (stmts : List Stmt) (x : Stmt) → DifferAt keys stmts (without_statement stmts x) x.path x.tuple
 
 -- Other statements differ from a base's in one tuple at one path. Where the tuple's row in the world of this path becomes
 -- what they say of it, and the rows of its relation and key are settled from this world on, the tables store the base with
 -- these statements.
 abbrev pub SettledGroupStores : Type 0
 SettledGroupStores = (reached told next : List Stmt) (ns : Names) (ts : Tuples) (t v : Tables) (b : Contents) (w : List ℕ) (u : Tuple) (wid tid : ℕ)
-    → StoredOver reached told ns ts t b → AreWithin b.stmts reached told → AreWithin next reached told → IsConsistent (λ _. 1) b.stmts → IsConsistent (λ _. 1) next
-    → DifferAt b.stmts next w u → path_of ns wid ≡ Some w → ts.tuple tid ≡ Some u
-    → SettlesGroup (with_change val_codec t (said_at next w wid tid u)) v wid u.rel (key_value u.vals)
+    → StoredOver reached told ns ts t b → AreWithin b.stmts reached told → AreWithin next reached told → IsConsistent (key_lengths b.catalog.rels) b.stmts
+    → IsConsistent (key_lengths b.catalog.rels) next → DifferAt (key_lengths b.catalog.rels) b.stmts next w u → path_of ns wid ≡ Some w → ts.tuple tid ≡ Some u
+    → SettlesGroup (with_change val_codec t (said_at (key_lengths b.catalog.rels) next w wid tid u)) v wid u.rel (key_of (key_lengths b.catalog.rels) u)
     → SameBut (λ n. nat_eq n 11) t v
     → StoredOver reached told ns ts v (record b { stmts = next })
 
@@ -114,8 +114,8 @@ SameReachStores = (reached others told like : List Stmt) (ns : Names) (ts : Tupl
 
 -- statements with one more say its sign of its tuple at its path
 abbrev pub PutSaysSign : Type 0
-PutSaysSign = (stmts : List Stmt) (x : Stmt) → IsConsistent (λ _. 1) (with_statement stmts x) → explicit_sign (with_statement stmts x) x.path x.tuple ≡ Some x.sign
+PutSaysSign = (keys : ℕ → ℕ) (stmts : List Stmt) (x : Stmt) → IsConsistent keys (with_statement stmts x) → explicit_sign (with_statement stmts x) x.path x.tuple ≡ Some x.sign
 
 -- statements with one less say nothing of its tuple at its path
 abbrev pub DropSaysNone : Type 0
-DropSaysNone = (stmts : List Stmt) (x : Stmt) → IsConsistent (λ _. 1) stmts → explicit stmts x.path x.tuple x.sign ≡ true → explicit_sign (without_statement stmts x) x.path x.tuple ≡ None
+DropSaysNone = (keys : ℕ → ℕ) (stmts : List Stmt) (x : Stmt) → IsConsistent keys stmts → explicit stmts x.path x.tuple x.sign ≡ true → explicit_sign (without_statement stmts x) x.path x.tuple ≡ None

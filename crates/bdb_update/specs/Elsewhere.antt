@@ -1,7 +1,7 @@
 -- Which tuples go with statements of a path, and which come. Tables are told of by whichever base they store.
 use Rattle.std.specs.Prelude.{◌≡◌, ℕ, Bool, not, ◌||◌, List, [], ◌∷◌, Some, cond}
 use Rattle.std.specs.List.{AllByRecursion}
-use Rattle.bdb_base.specs.Bases.{Contents, has_tuple}
+use Rattle.bdb_base.specs.Bases.{Contents, has_tuple, key_lengths}
 use Rattle.bdb_base.specs.Worlds.{IsConsistent}
 use Rattle.bdb_base.specs.declared.kinds.Stmt.{Stmt}
 use Rattle.bdb_base.specs.declared.tuple.Tuple.{Tuple}
@@ -21,11 +21,11 @@ kept_if is x = cond is (x ∷ []) []
 
 -- whether no statement of another path than a world's has a tuple, nor any of some
 abbrev pub IsLost : Tables → ℕ → List Stmt → Tuple → Bool → Type 0
-IsLost t wid reached u is = (b : Contents) (s : Stores t b) (w : List ℕ) → IsConsistent (λ _. 1) b.stmts → number_of s.names w ≡ Some wid
+IsLost t wid reached u is = (b : Contents) (s : Stores t b) (w : List ℕ) → IsConsistent (key_lengths b.catalog.rels) b.stmts → number_of s.names w ≡ Some wid
     → is ≡ not (has_tuple reached u || told_elsewhere b.stmts w u)
 
 abbrev pub AreLost : Tables → ℕ → List Stmt → List Stmt → List Stmt → Type 0
-AreLost t wid reached gone xs = (b : Contents) (s : Stores t b) (w : List ℕ) → IsConsistent (λ _. 1) b.stmts → number_of s.names w ≡ Some wid
+AreLost t wid reached gone xs = (b : Contents) (s : Stores t b) (w : List ℕ) → IsConsistent (key_lengths b.catalog.rels) b.stmts → number_of s.names w ≡ Some wid
     → xs ≡ lost_of b.stmts w reached gone
 
 -- whether no statement has a tuple

@@ -10,6 +10,7 @@ use Rattle.bdb_tables.specs.Codec.{HasAt}
 use Rattle.bdb_tables.specs.InUse.{tuple_ix_codec}
 use Rattle.bdb_update.specs.Calls.{MayMeet, clash_of, size_passed, with_one}
 use Rattle.bdb_update.specs.Joining.{IsWorldFound}
+use Rattle.bdb_tables.specs.Lengths.{IsKeyLength}
 use Rattle.bdb_update.specs.declared.looking.Ready.{Ready}
 use Rattle.bdb_update.specs.declared.looking.Verdict.{Verdict}
 use Rattle.bdb_update.specs.declared.looking.Verdict.TheVariants.{Clashes, Stands, Fills, Fits}
@@ -21,7 +22,7 @@ pub record AreSizes (a b : Counts) : Type 0 where
   pub stmts : a.stmts ≡ b.stmts
 
 -- A statement may join a base: it neither stands nor clashes, and no limit is passed. These are the sizes with it, the number of
--- its path, if that is a state, and the number of its tuple, if it has one.
+-- its path, if that is a state, the number of its tuple, if it has one, and the length of the key of its tuple's relation.
 pub record IsReady (t : Tables) (b : Contents) (x : Stmt) (r : Ready) : Type 0 where
   pub fresh : stands b.stmts x ≡ false
   pub apart : clash_of b x ≡ None
@@ -29,6 +30,7 @@ pub record IsReady (t : Tables) (b : Contents) (x : Stmt) (r : Ready) : Type 0 w
   pub sizes : AreSizes r.next (counts_of (with_one b x))
   pub world : IsWorldFound t x.path r.wid
   pub number : HasAt tuple_ix_codec t x.tuple r.tid
+  pub key_length : IsKeyLength t x.tuple.rel r.key_len
   pub fits : IsTupleRow x.tuple
 
 -- what is said of a statement and a base

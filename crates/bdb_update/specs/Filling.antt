@@ -10,17 +10,18 @@ use Rattle.bdb_keep.specs.Tables.{Tables}
 use Rattle.bdb_tables.specs.Codec.{HasAt, place}
 use Rattle.bdb_tables.specs.InUse.{link_codec}
 use Rattle.bdb_tables.specs.Names.{Names, AreNames, path_of, is_named}
-use Rattle.bdb_tables.specs.Rows.{Tuples, HoldsTuples, HoldsRows}
+use Rattle.bdb_tables.specs.Rows.{Tuples, HoldsTuples, HoldsRows, AreKeyLengths}
 use Rattle.bdb_tables.specs.States.{HoldsStates}
 use Rattle.bdb_val.specs.WorldCopies.{CopiesWorld}
 use Rattle.bdb_worlds.specs.Growth.{with_prefixes, AreLeast}
 use Rattle.bdb_update.specs.Differing.{has_told}
 use Rattle.bdb_update.specs.Tallies.{HasRowCount}
 
--- the worlds of a base, and its statements
+-- the worlds of a base, the lengths of its keys and its statements
 pub record Before : Type 0 where
   pub users : ℕ → Bool
   pub names : Names
+  pub keys : ℕ → ℕ
   pub stmts : List Stmt
   pub tuples : Tuples
   pub path : List ℕ
@@ -39,7 +40,7 @@ pub record HaveCome (s : Before) (t : Tables) (new : List ℕ) : Type 0 where
   pub least : AreLeast s.names s.path s.stood new
   pub states : HoldsStates s.users (names_now s new) t
   pub more : (w : List ℕ) → is_named s.names w ≡ true → is_named (names_now s new) w ≡ true
-  pub rows : HoldsRows (λ _. 1) s.stmts (path_of s.names) s.tuples.tuple t
+  pub rows : HoldsRows s.keys s.stmts (path_of s.names) s.tuples.tuple t
 
 -- there are such worlds
 pub record SomeHaveCome (t : Tables) (new : List ℕ) : Type 0 where
@@ -48,13 +49,15 @@ pub record SomeHaveCome (t : Tables) (new : List ℕ) : Type 0 where
 
 -- whichever worlds they are, they have their rows too
 abbrev pub FillsWorlds : Tables → Tables → List ℕ → Type 0
-FillsWorlds t u new = (s : Before) → HaveCome s t new → HoldsRows (λ _. 1) s.stmts (path_of (names_now s new)) s.tuples.tuple u
+FillsWorlds t u new = (s : Before) → HaveCome s t new → HoldsRows s.keys s.stmts (path_of (names_now s new)) s.tuples.tuple u
 
--- the tuples of the worlds' statements have numbers, no two statements of one path clash, and they are not too many
+-- the tuples of the worlds' statements have numbers, the lengths of keys are numbers of four bytes, no two statements of one path
+-- clash, and they are not too many
 pub record AreTold (s : Before) (told : List Stmt) (t : Tables) : Type 0 where
   pub tuples : HoldsTuples told s.tuples t
   pub within : (u : Tuple) → has_told s.stmts u ≡ true → has_told told u ≡ true
-  pub consistent : IsConsistent (λ _. 1) s.stmts
+  pub lengths : AreKeyLengths s.keys
+  pub consistent : IsConsistent s.keys s.stmts
   pub few : length s.stmts ≤ most_statements
 
 -- so many rows have come

@@ -97,12 +97,12 @@ Numbers t u x = (b : Contents) → HasWorlds t b x → MayJoin b x → HasNumber
 
 -- ---- its row is put, and its group settled
 
--- the key of a statement's row in a world, by the numbers of the world and of the tuple and the value of the tuple's key
-abbrev pub key_made : Stmt → ℕ → ℕ → Value → ValKey
+-- the key of a statement's row in a world, by the numbers of the world and of the tuple and the tuple's key
+abbrev pub key_made : Stmt → ℕ → ℕ → List Value → ValKey
 key_made x wid tid key = (wid, x.tuple.rel, key, tid)
 
 -- tables with the row
-abbrev pub row_put : Tables → Stmt → ℕ → ℕ → Value → Tables
+abbrev pub row_put : Tables → Stmt → ℕ → ℕ → List Value → Tables
 row_put t x wid tid key = with_change val_codec t (key_made x wid tid key, Some (x.sign, true))
 
 abbrev pub Settles : Tables → Tables → Stmt → Type 0

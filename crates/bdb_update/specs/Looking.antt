@@ -3,7 +3,7 @@ use Rattle.std.specs.Prelude.{◌≡◌, ℕ, ◌+◌, ◌-◌, ◌≤◌, Bool,
 use Rattle.std.specs.Bool.{MatchBool}
 use Rattle.std.specs.List.{list_any}
 use Rattle.std.specs.Ordering.{is_lt}
-use Rattle.bdb_base.specs.Clash.{clash}
+use Rattle.bdb_base.specs.Clash.{clash, key_of}
 use Rattle.bdb_base.specs.Limits.{deepest_statement, most_worlds, most_tuples, most_statements}
 use Rattle.bdb_base.specs.Order.{tuple_cmp}
 use Rattle.bdb_base.specs.Same.{same_sign, same_tuple}
@@ -16,36 +16,38 @@ use Rattle.bdb_keep.specs.Tables.{Tables}
 use Rattle.bdb_tables.specs.Codec.{HasAt}
 use Rattle.bdb_tables.specs.InUse.{tuple_ix_codec}
 use Rattle.bdb_val.specs.Reads.{group_prefix}
-use Rattle.bdb_val.specs.Settling.{key_value}
 use Rattle.bdb_val.specs.declared.stored.Stored.{Stored}
 use Rattle.bdb_worlds.specs.Reach.{ReachesState}
 use Rattle.bdb_update.specs.Calls.{size_passed}
 use Rattle.bdb_update.specs.Groups.{AreExplicitUnder}
+use Rattle.bdb_tables.specs.Lengths.{IsKeyLength}
 use Rattle.bdb_update.specs.declared.looking.Place.{Place}
 use Rattle.bdb_update.specs.declared.looking.Verdict.{Verdict}
 use Rattle.bdb_update.specs.declared.looking.Verdict.TheVariants.{Clashes, Stands, Fills, Fits}
 
 -- how the keys of the rows begin that have a statement's relation and key in a world
-abbrev pub prefix_of : ℕ → Stmt → List ℕ
-prefix_of wid x = group_prefix wid x.tuple.rel (key_value x.tuple.vals)
+abbrev pub prefix_of : (ℕ → ℕ) → ℕ → Stmt → List ℕ
+prefix_of keys wid x = group_prefix wid x.tuple.rel (key_of keys x.tuple)
 
 -- the explicit rows of a world for a tuple's relation and key, or none
-abbrev pub AreRowsIf : Tables → ℕ → Tuple → Bool → List Stored → Type 0
-AreRowsIf t wid u asked rows = MatchBool asked (AreExplicitUnder t (group_prefix wid u.rel (key_value u.vals)) rows) (rows ≡ [])
+abbrev pub AreRowsIf : (ℕ → ℕ) → Tables → ℕ → Tuple → Bool → List Stored → Type 0
+AreRowsIf keys t wid u asked rows = MatchBool asked (AreExplicitUnder t (group_prefix wid u.rel (key_of keys u)) rows) (rows ≡ [])
 
--- What is read: how far a statement's path goes along states and the number of the last of them, the explicit rows of the tuple's relation
--- and key there where the whole path is a state, and the number of the tuple, if it has one.
+-- What is read: how far a statement's path goes along states and the number of the last of them, the length of the key of the
+-- tuple's relation, the explicit rows of this relation and the tuple's key there where the whole path is a state, and the number
+-- of the tuple, if it has one.
 pub record IsPlace (t : Tables) (x : Stmt) (p : Place) : Type 0 where
   pub reaches : ReachesState t x.path p.len p.wid
   pub within : p.len ≤ length x.path
-  pub rows : p.len ≡ length x.path → AreExplicitUnder t (prefix_of p.wid x) p.rows.items
+  pub key_length : IsKeyLength t x.tuple.rel p.key_len
+  pub rows : p.len ≡ length x.path → AreExplicitUnder t (prefix_of (λ _. p.key_len) p.wid x) p.rows.items
   pub none : (p.len ≡ length x.path → ⊥) → p.rows.items ≡ []
   pub number : HasAt tuple_ix_codec t x.tuple p.tid
   pub fits : IsTupleRow x.tuple
 
 -- an explicit row clashes with a statement of its path
-abbrev pub is_clashing : Stmt → Stored → Bool
-is_clashing x r = r.mark.1 && clash (λ _. 1) x.tuple x.sign r.tuple r.mark.0
+abbrev pub is_clashing : (ℕ → ℕ) → Stmt → Stored → Bool
+is_clashing keys x r = r.mark.1 && clash keys x.tuple x.sign r.tuple r.mark.0
 
 -- of a row and another, if there is one, that whose tuple comes first
 abbrev pub first_of : Stored → Option Stored → Stored
@@ -53,9 +55,9 @@ first_of r None = r
 first_of r (Some s) = cond (is_lt (tuple_cmp s.tuple r.tuple)) s r
 
 -- the row whose tuple comes first among those that clash with a statement
-abbrev pub least_row : Stmt → List Stored → Option Stored
-least_row x [] = None
-least_row x (r ∷ rs) = cond (is_clashing x r) (Some (first_of r (least_row x rs))) (least_row x rs)
+abbrev pub least_row : (ℕ → ℕ) → Stmt → List Stored → Option Stored
+least_row keys x [] = None
+least_row keys x (r ∷ rs) = cond (is_clashing keys x r) (Some (first_of r (least_row keys x rs))) (least_row keys x rs)
 
 -- an explicit row is that of a statement
 abbrev pub is_own : Stmt → Stored → Bool
@@ -77,7 +79,7 @@ state_of x p = cond (nat_eq p.len (length x.path)) (Some p.wid) None
 -- what is said where a limit is passed, and where none is
 abbrev pub filled_by : Stmt → Place → Counts → Option What → Verdict
 filled_by x p c (Some what) = Fills what
-filled_by x p c None = Fits (record { wid = state_of x p; tid = p.tid; next = c })
+filled_by x p c None = Fits (record { wid = state_of x p; tid = p.tid; key_len = p.key_len; next = c })
 
 -- what is said where no row clashes: the statement has a row, or it has none
 abbrev pub joined_by : Stmt → Place → Counts → Bool → Verdict
@@ -89,7 +91,7 @@ judged_by x p c (Some r) = Clashes (record { path = x.path; sign = r.mark.0; tup
 judged_by x p c None = joined_by x p c (list_any (is_own x) p.rows.items)
 
 abbrev pub judged : Stmt → Place → Counts → Verdict
-judged x p c = judged_by x p c (least_row x p.rows.items)
+judged x p c = judged_by x p c (least_row (λ _. p.key_len) x p.rows.items)
 
 -- the sizes are those of a base within the limits, and the path is not too deep
 pub record IsSmall (x : Stmt) (p : Place) (c : Counts) : Type 0 where

@@ -31,8 +31,8 @@ pub record SomeMayPart (t : Tables) (x : Stmt) : Type 0 where
 
 -- ---- its row goes, and its group is settled
 
--- tables without the row of a statement in a world, by the numbers of the world and of the tuple and the value of the tuple's key
-abbrev pub row_taken : Tables → Stmt → ℕ → ℕ → Value → Tables
+-- tables without the row of a statement in a world, by the numbers of the world and of the tuple and the tuple's key
+abbrev pub row_taken : Tables → Stmt → ℕ → ℕ → List Value → Tables
 row_taken t x wid tid key = with_change val_codec t (key_made x wid tid key, None)
 
 -- tables store a base without a statement, over the worlds and tuples that there were with it

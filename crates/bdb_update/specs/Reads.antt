@@ -1,7 +1,7 @@
 -- Whether tables tell a tuple: whether some world has an explicit row of it.
 use Rattle.std.specs.Prelude.{◌≡◌, ℕ, ◌+◌, ◌-◌, ◌^◌, ◌<◌, ◌≤◌, Bool, true, false, not, ◌&&◌, nat_eq, List, ◌∷◌, ◌++◌, Option, Some, None, cond}
 use Rattle.std.specs.FinMap as tables
-use Rattle.bdb_base.specs.Bases.{Contents}
+use Rattle.bdb_base.specs.Bases.{Contents, key_lengths}
 use Rattle.bdb_base.specs.Same.{same_text}
 use Rattle.bdb_base.specs.Worlds.{IsConsistent}
 use Rattle.bdb_base.specs.declared.kinds.Sign.{Sign}
@@ -77,4 +77,4 @@ IsExplicitRow row is = (m : Mark) → mark_bytes m ≡ row → is ≡ m.1
 -- its number whether a statement of the base has it
 abbrev pub TellsTold : Tables → Tuple → ℕ → Bool → Type 0
 TellsTold t u tid is = (reached told : List Stmt) (ns : Names) (ts : Tuples) (b : Contents) → StoredOver reached told ns ts t b → AreWithin b.stmts reached told
-    → IsConsistent (λ _. 1) b.stmts → ts.tuple tid ≡ Some u → is ≡ has_told b.stmts u
+    → IsConsistent (key_lengths b.catalog.rels) b.stmts → ts.tuple tid ≡ Some u → is ≡ has_told b.stmts u

@@ -1,7 +1,8 @@
 -- What holds of tables that store a base with its worlds. Each law is the contract of a function of `stored_laws`.
-use Rattle.std.specs.Prelude.{◌≡◌, ℕ, ◌+◌, Bool, ◌||◌, nat_eq, List, length}
+use Rattle.std.specs.Prelude.{◌≡◌, ℕ, ◌+◌, Bool, true, ◌||◌, nat_eq, List, length}
+use Rattle.std.specs.List.{list_all}
 use Rattle.std.specs.FinMap as tables
-use Rattle.bdb_base.specs.Bases.{Contents, IsValid, empty_contents, is_user, with_user, with_relation}
+use Rattle.bdb_base.specs.Bases.{Contents, IsValid, belongs, empty_contents, is_user, with_user, with_relation}
 use Rattle.bdb_base.specs.declared.kinds.RelDef.{RelDef}
 use Rattle.bdb_keep.specs.Tables.{Tables}
 use Rattle.bdb_key.specs.Grammar.{IsNum, IsPlain}
@@ -24,11 +25,11 @@ StoredBaseIsOne = (t : Tables) (a b : Contents) → Stores t a → Stores t b �
 
 -- the row of the format and the depth of world 0 store the empty base
 abbrev pub TwoRowsStoreEmpty : Type 0
-TwoRowsStoreEmpty = Stores (tables.insert (tables.insert tables.empty (place meta_codec tt) (meta_codec.row_bytes 2)) (place depth_codec 0) (depth_codec.row_bytes 0)) empty_contents
+TwoRowsStoreEmpty = Stores (tables.insert (tables.insert tables.empty (place meta_codec tt) (meta_codec.row_bytes 3)) (place depth_codec 0) (depth_codec.row_bytes 0)) empty_contents
 
--- the row of a relation whose number is the next adds the relation
+-- the row of a relation whose number is the next adds the relation, where no statement is of a relation that there isn't
 abbrev pub PutStoresRelation : Type 0
-PutStoresRelation = (t : Tables) (b : Contents) (rel : ℕ) (def : RelDef) → Stores t b → rel ≡ length b.catalog.rels → IsNum rel → IsRelRow def
+PutStoresRelation = (t : Tables) (b : Contents) (rel : ℕ) (def : RelDef) → Stores t b → list_all (belongs b.catalog) b.stmts ≡ true → rel ≡ length b.catalog.rels → IsNum rel → IsRelRow def
     → Stores (tables.insert t (place rel_codec rel) (rel_codec.row_bytes def)) (record b { catalog = with_relation b.catalog def })
 
 -- a table is one of the two of edges

@@ -1,7 +1,7 @@
 -- What a change of statements of one path comes to, told before anything is written. Tables are told of by whichever base they
 -- store.
 use Rattle.std.specs.Prelude.{◌≡◌, ℕ, ◌+◌, ◌<◌, ◌≤◌, Bool, true, nat_le, nat_lt, List, length, Some, None}
-use Rattle.bdb_base.specs.Bases.{Contents, tuple_count}
+use Rattle.bdb_base.specs.Bases.{Contents, key_lengths, tuple_count}
 use Rattle.bdb_base.specs.Limits.{most_tuples}
 use Rattle.bdb_base.specs.Worlds.{IsConsistent}
 use Rattle.bdb_base.specs.declared.kinds.Stmt.{Stmt}
@@ -37,5 +37,5 @@ abbrev pub have_room : ℕ → List Stmt → List Stmt → Bool
 have_room tuples lost fresh = nat_le (tuples + tuple_count fresh) (most_tuples + tuple_count lost)
 
 abbrev pub TellsRoom : Tables → ℕ → ℕ → List Stmt → List Stmt → List Stmt → Bool → Type 0
-TellsRoom t tuples wid reached gone come room = (b : Contents) (s : Stores t b) (w : List ℕ) → IsConsistent (λ _. 1) b.stmts → number_of s.names w ≡ Some wid
+TellsRoom t tuples wid reached gone come room = (b : Contents) (s : Stores t b) (w : List ℕ) → IsConsistent (key_lengths b.catalog.rels) b.stmts → number_of s.names w ≡ Some wid
     → room ≡ have_room tuples (lost_of b.stmts w reached gone) (fresh_of b.stmts come)

@@ -5,6 +5,7 @@ ghost use Rattle.bdb_key.specs.Rows.{MayBeTuple};
 ghost use Rattle.bdb_tables.specs.Grammar.{InGrammar};
 ghost use Rattle.bdb_update.specs.Elsewhere.{AreFresh, AreLost, HasTuples, IsFresh, IsLost, kept_if};
 
+use crate::keys::key_length_of;
 use crate::numbers::number_of;
 use crate::reading::is_explicit;
 use bdb_base::{Exact, List, Stmt, Tuple, has_tuple};
@@ -13,7 +14,7 @@ use bdb_tables::TabError;
 use std::alloc::{AllocError, Global};
 
 /// Those of some statements whose tuple no statement of another path has than that of a world, nor any of `reached`. For
-/// each statement it reads one row, and a row or two for each world, up to the first that has the tuple's row explicit.
+/// each statement it reads two rows, and a row or two for each world, up to the first that has the tuple's row explicit.
 pub fn lost_of<K: Keeper>(
     alloc: Global,
     keeper: &mut K,
@@ -106,7 +107,11 @@ fn is_lost<K: Keeper>(
         Ok(None) => return Ok(true),
         Err(error) => return Err(error),
     };
-    match is_explicit(alloc, keeper, tuple, tid, Some(wid)) {
+    let n = match key_length_of(alloc, keeper, tuple) {
+        Ok(n) => n,
+        Err(error) => return Err(error),
+    };
+    match is_explicit(alloc, keeper, n, tuple, tid, Some(wid)) {
         Ok(told) => Ok(!told),
         Err(error) => Err(error),
     }

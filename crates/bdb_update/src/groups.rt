@@ -1,7 +1,8 @@
-// The explicit rows of a group: those of a world, a relation and a value of its key.
+// The explicit rows of a group: those of a world, a relation and a key.
 ghost use Rattle.std.specs.Prelude.{◌≡◌, ◌++◌, true, is_some, IfOk, OnOk};
 ghost use Rattle.std.specs.FinMap as tables;
 ghost use Rattle.std.specs.List.{AllByRecursion};
+ghost use Rattle.bdb_base.specs.Clash.{key_of};
 ghost use Rattle.bdb_keep.specs.Calls.{IsRead};
 ghost use Rattle.bdb_tables.specs.Codec.{HasRow, place};
 ghost use Rattle.bdb_tables.specs.Grammar.{InGrammar};
@@ -10,32 +11,32 @@ ghost use Rattle.bdb_update.specs.Groups.{AreExplicit, AreExplicitUnder, HasTupl
 ghost use Rattle.bdb_val.specs.Reads.{HaveTuples, group_prefix};
 
 use crate::keys::KEY_ROOM;
-use bdb_base::{Sign, Tuple, Value};
+use bdb_base::{List, Sign, Tuple, Value, key_of};
 use bdb_keep::Keeper;
-use bdb_key::put_value;
+use bdb_key::put_vals;
 use bdb_tables::{TabError, TupleTab, ValTab, get, put_pair, rows_under};
 use bdb_val::Stored;
 use std::alloc::{AllocError, Global};
 
-// A row of a world: its key, of the world, a relation, the value of the relation's key and the number of a tuple; and its mark.
-type Row = ((u32, u32, Value, u32), (Sign, bool));
+// A row of a world: its key, of the world, a relation, the values of the relation's key and the number of a tuple; and its mark.
+type Row = ((u32, u32, List<Value>, u32), (Sign, bool));
 
-/// The explicit rows of a world for the tuples of a relation and a value of its key, with their tuples, in order of their
-/// numbers. One read for each row, one more for each explicit one, and one.
+/// The explicit rows of a world for the tuples of a tuple's relation, whose keys have the length `n`, and its key, with
+/// their tuples, in order of their numbers. One read for each row, one more for each explicit one, and one.
 pub fn read_explicit<K: Keeper>(
     alloc: Global,
     keeper: &mut K,
     wid: u32,
-    rel: u32,
-    key: &Value,
+    n: u32,
+    tuple: &Tuple,
 ) -> Result<Vec<Stored>, TabError>
     requires running { (K.seen keeper.old).running ≡ true }
     requires grammar { InGrammar (K.seen keeper.old).kept }
     requires tuples { HaveTuples (K.seen keeper.old).kept }
-    ensures rows { IfOk result (λ rows. AreExplicitUnder (K.seen keeper.old).kept (group_prefix wid rel key.now) rows.items) }
+    ensures rows { IfOk result (λ rows. AreExplicitUnder (K.seen keeper.old).kept (group_prefix wid tuple.now.rel (key_of (λ _. n) tuple.now)) rows.items) }
     ensures read { IsRead (K.seen keeper.old) (K.seen keeper.new) result TabError.Fault }
 {
-    let prefix = match group_prefix(alloc, wid, rel, key) {
+    let prefix = match group_prefix(alloc, wid, n, tuple) {
         Ok(prefix) => prefix,
         Err(_) => {
             keeper.undo();
@@ -52,13 +53,13 @@ pub fn read_explicit<K: Keeper>(
     }
 }
 
-// How the keys of a group of a world begin.
-fn group_prefix(alloc: Global, wid: u32, rel: u32, key: &Value) -> Result<Vec<u8>, AllocError>
-    ensures { IfOk result (λ prefix. prefix.items ≡ group_prefix wid rel key.now) }
+// How the keys of a tuple's group of a world begin.
+fn group_prefix(alloc: Global, wid: u32, n: u32, tuple: &Tuple) -> Result<Vec<u8>, AllocError>
+    ensures { IfOk result (λ prefix. prefix.items ≡ group_prefix wid tuple.now.rel (key_of (λ _. n) tuple.now)) }
 {
     let mut prefix = Vec::with_capacity(alloc, KEY_ROOM)?;
-    put_pair(&mut prefix, wid, rel)?;
-    put_value(&mut prefix, key)?;
+    put_pair(&mut prefix, wid, tuple.rel)?;
+    put_vals(&mut prefix, key_of(tuple, n))?;
     Ok(prefix)
 }
 

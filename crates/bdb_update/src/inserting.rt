@@ -6,6 +6,7 @@ ghost use Rattle.bdb_tables.specs.InUse.{tuple_ix_codec};
 ghost use Rattle.bdb_update.specs.Bounds.{WritesWithin};
 ghost use Rattle.bdb_update.specs.Joining.{CountsJoined, IsWorldFound, Joins, SomeMayJoin};
 ghost use Rattle.bdb_update.specs.Keeping.{KeepsNumbers, TakesLeastNames};
+ghost use Rattle.bdb_tables.specs.Lengths.{IsKeyLength};
 ghost use Rattle.bdb_update.specs.Numbering.{HoldsSomeTuples, TakesLeast};
 ghost use Rattle.bdb_val.specs.Steps.{IsChanging};
 
@@ -39,6 +40,7 @@ pub fn insert<K: Keeper>(
     requires fits { IsTupleRow stmt.now.tuple }
     requires number { HasAt tuple_ix_codec (K.seen keeper.old).kept stmt.now.tuple ready.now.tid }
     requires counted { HoldsSomeTuples (K.seen keeper.old).kept tuples }
+    requires length { IsKeyLength (K.seen keeper.old).kept stmt.now.tuple.rel ready.now.key_len }
     ensures joined { OnOk result (Joins (K.seen keeper.old).kept (K.seen keeper.new).kept stmt.now) }
     ensures counted { IfOk result (λ moved. CountsJoined (K.seen keeper.old).kept stmt.now moved.came moved.went) }
     ensures keeps { OnOk result (KeepsNumbers (K.seen keeper.old).kept (K.seen keeper.new).kept) }
@@ -55,7 +57,7 @@ pub fn insert<K: Keeper>(
         Ok(tid) => tid,
         Err(error) => return Err(error),
     };
-    match settle_statement(alloc, keeper, stmt, wid, tid) {
+    match settle_statement(alloc, keeper, stmt, ready.key_len, wid, tid) {
         Ok(settled) => Ok(Moved {
             came: both(rows, settled.put),
             went: settled.taken,

@@ -6,12 +6,12 @@ ghost use Rattle.bdb_key.specs.Rows.{IsTupleRow, MayBeTuple, mark_bytes};
 ghost use Rattle.bdb_keep.specs.Calls.{IsRead};
 ghost use Rattle.bdb_tables.specs.Codec.{HasAt, place};
 ghost use Rattle.bdb_tables.specs.Grammar.{InGrammar};
-ghost use Rattle.bdb_tables.specs.InUse.{IsValKey, tuple_codec, tuple_ix_codec, val_codec};
-ghost use Rattle.bdb_key.specs.Grammar.{HasPlainText};
+ghost use Rattle.bdb_tables.specs.InUse.{HaveKeyTexts, IsValKey, tuple_codec, tuple_ix_codec, val_codec};
 ghost use Rattle.bdb_update.specs.Bounds.{RowWrites, StateWrites};
 ghost use Rattle.bdb_update.specs.ChangeLaws.{is_of_worlds};
 ghost use Rattle.bdb_update.specs.Joining.{Arrive, CountsArrived, CountsSettled, IsWorld, IsWorldFound, Joins, Numbers, Settles, SomeHasNumber, SomeHasWorlds, SomeMayJoin, is_of_tuples, key_made, last_or, row_put};
 ghost use Rattle.bdb_update.specs.Keeping.{KeepsNames, KeepsTuples, TakesLeastNames};
+ghost use Rattle.bdb_tables.specs.Lengths.{IsKeyLength};
 ghost use Rattle.bdb_update.specs.Numbering.{HoldsSomeTuples, IsLeastNumber, TakesLeast, number_put};
 ghost use Rattle.bdb_tables.specs.Stored.{SameBut};
 ghost use Rattle.bdb_val.specs.Others as others;
@@ -20,7 +20,7 @@ ghost use Rattle.bdb_worlds.specs.Bounds.{RisesWithin};
 
 use crate::filling::{both, fill_worlds};
 use crate::keys::{row_key, table_error};
-use bdb_base::{Sign, Stmt, Tuple, Value, first_value};
+use bdb_base::{Sign, Stmt, Tuple, Value, key_of};
 use bdb_keep::Keeper;
 use bdb_key::put_mark;
 use bdb_tables::{Tab, TabError, TupleIx, TupleTab, ValTab, first_gap, next, put};
@@ -148,11 +148,12 @@ fn free_tuple<K: Keeper>(alloc: Global, keeper: &mut K, tuples: u32) -> Result<u
 }
 
 /// Puts the row of a statement into its path's world, of number `wid`, for its tuple, of number `tid`, and settles the rows of
-/// the tuple's relation and key there and in the worlds that inherit them.
+/// the tuple's relation, whose keys have the length `n`, and its key there and in the worlds that inherit them.
 pub fn settle_statement<K: Keeper>(
     alloc: Global,
     keeper: &mut K,
     stmt: &Stmt,
+    n: u32,
     wid: u32,
     tid: u32,
 ) -> Result<Settled, TabError>
@@ -161,13 +162,14 @@ pub fn settle_statement<K: Keeper>(
     requires world { IsWorld (K.seen keeper.old).kept stmt.now.path wid }
     requires fits { IsTupleRow stmt.now.tuple }
     requires number { HasAt tuple_ix_codec (K.seen keeper.old).kept stmt.now.tuple (Some tid) }
+    requires length { IsKeyLength (K.seen keeper.old).kept stmt.now.tuple.rel n }
     ensures settled { OnOk result (Settles (K.seen keeper.old).kept (K.seen keeper.new).kept stmt.now) }
     ensures counted { IfOk result (λ s. CountsSettled (K.seen keeper.old).kept (K.seen keeper.new).kept stmt.now s.put s.taken) }
     ensures writes { OnOk result (RowWrites 2 (K.seen keeper.old) (K.seen keeper.new)) }
     ensures others { OnOk result (others.SameBut (λ n. nat_eq n 11) (K.seen keeper.old).kept (K.seen keeper.new).kept) }
     ensures changing { IsChanging (K.seen keeper.old) (K.seen keeper.new) result TabError.Fault }
 {
-    let key = first_value(&stmt.tuple);
+    let key = key_of(&stmt.tuple, n);
     let rel = rel_of(&stmt.tuple);
     let stood = match put_row(alloc, keeper, stmt, wid, tid, key) {
         Ok(stood) => stood,
@@ -205,10 +207,10 @@ fn put_row<K: Keeper>(
     stmt: &Stmt,
     wid: u32,
     tid: u32,
-    key: &Value,
+    key: &[Value],
 ) -> Result<bool, TabError>
     requires running { (K.seen keeper.old).running ≡ true }
-    requires text { HasPlainText key.now }
+    requires text { HaveKeyTexts key.now }
     ensures found { IfOk result (λ stood. stood ≡ is_some (tables.get (K.seen keeper.old).kept (place val_codec (key_made stmt.now wid tid key.now)))) }
     ensures put { OnOk result ((K.seen keeper.new).kept ≡ row_put (K.seen keeper.old).kept stmt.now wid tid key.now) }
     ensures writes { OnOk result (Rises 1 (K.seen keeper.old).writes (K.seen keeper.new).writes) }

@@ -1,47 +1,104 @@
-// Keys of rows, by their bytes.
-ghost use Rattle.std.specs.Prelude.{◌≡◌, ◌++◌, IfOk, OnOk};
+// How long keys are, and keys of rows by their bytes.
+ghost use Rattle.std.specs.Prelude.{◌≡◌, ◌++◌, true, IfOk, OnOk};
+ghost use Rattle.bdb_base.specs.Bases.{key_lengths};
+ghost use Rattle.bdb_base.specs.Clash.{clash};
+ghost use Rattle.bdb_keep.specs.Calls.{IsRead};
 ghost use Rattle.bdb_key.specs.Bytes.{num_bytes};
-ghost use Rattle.bdb_key.specs.Grammar.{HasPlainText};
-ghost use Rattle.bdb_tables.specs.InUse.{IsValKey, val_bytes};
+ghost use Rattle.bdb_tables.specs.Grammar.{InGrammar};
+ghost use Rattle.bdb_tables.specs.InUse.{HaveKeyTexts, IsValKey, val_bytes};
+ghost use Rattle.bdb_tables.specs.Lengths.{HaveKeyLengths, IsKeyLength};
 ghost use Rattle.bdb_update.specs.Keys.{key_rest};
 
-use bdb_base::{Tuple, Value, first_value};
-use bdb_keep::KeepError;
-use bdb_key::{put_num, put_value};
-use bdb_tables::{TabError, put_pair};
+use bdb_base::{List, RelDef, Sign, Tuple, Value, clash, key_length, key_of};
+use bdb_keep::{KeepError, Keeper};
+use bdb_key::{put_num, put_vals};
+use bdb_tables::{RelTab, TabError, get, put_val_key, stored_key_length};
 use std::alloc::{AllocError, Global};
 
 /// Room for the bytes of a key, unless it has long texts.
 pub const KEY_ROOM: usize = 64;
 
-/// The bytes that follow the number of the world in the key of a tuple's row. They are the same in each world.
-pub fn key_rest(alloc: Global, tuple: &Tuple, tid: u32) -> Result<Vec<u8>, AllocError>
-    ensures { IfOk result (λ rest. rest.items ≡ key_rest tuple.now tid) }
+/// The length of the key of a tuple's relation, where tables have its row. One read.
+pub fn key_length_of<K: Keeper>(
+    alloc: Global,
+    keeper: &mut K,
+    tuple: &Tuple,
+) -> Result<u32, TabError>
+    requires grammar { InGrammar (K.seen keeper.old).kept }
+    ensures length { IfOk result (IsKeyLength (K.seen keeper.old).kept tuple.now.rel) }
+    ensures read { IsRead (K.seen keeper.old) (K.seen keeper.new) result TabError.Fault }
+{
+    match stored_key_length(alloc, keeper, tuple.rel) {
+        Ok(n) => Ok(n),
+        Err(error) => Err(error),
+    }
+}
+
+/// The relations that tables have, by number from 0: they tell the lengths of all keys. A read for each, and one more.
+pub fn key_relations<K: Keeper>(alloc: Global, keeper: &mut K) -> Result<List<RelDef>, TabError>
+    requires running { (K.seen keeper.old).running ≡ true }
+    requires grammar { InGrammar (K.seen keeper.old).kept }
+    ensures lengths { IfOk result (HaveKeyLengths (K.seen keeper.old).kept) }
+    ensures read { IsRead (K.seen keeper.old) (K.seen keeper.new) result TabError.Fault }
+{
+    let mut rels = List::new(alloc);
+    for rel in 0..u32::MAX {
+        match get::<RelTab, K>(alloc, keeper, &rel) {
+            Ok(Some(def)) => {
+                if rels.push(def).is_err() {
+                    keeper.undo();
+                    return Err(TabError::Memory);
+                }
+            }
+            Ok(None) => return Ok(rels),
+            Err(error) => return Err(error),
+        }
+    }
+    keeper.undo();
+    Err(TabError::Memory)
+}
+
+/// Whether two signed tuples clash, where these are the relations.
+pub fn clash_in(rels: &[RelDef], a: &Tuple, s: Sign, b: &Tuple, t: Sign) -> bool
+    ensures { result ≡ clash (key_lengths rels.now) a.now s b.now t }
+{
+    clash(length_in(rels, a), a, s, b, t)
+}
+
+// The length of the key of a tuple's relation, where these are the relations.
+fn length_in(rels: &[RelDef], tuple: &Tuple) -> u32
+    ensures { result ≡ key_lengths rels.now tuple.now.rel }
+{
+    key_length(rels, tuple.rel)
+}
+
+/// The bytes that follow the number of the world in the key of a tuple's row, where its relation has keys of the length
+/// `n`. They are the same in each world.
+pub fn key_rest(alloc: Global, n: u32, tuple: &Tuple, tid: u32) -> Result<Vec<u8>, AllocError>
+    ensures { IfOk result (λ rest. rest.items ≡ key_rest (λ _. n) tuple.now tid) }
 {
     let mut rest = Vec::with_capacity(alloc, KEY_ROOM)?;
     put_num(&mut rest, tuple.rel)?;
-    put_value(&mut rest, first_value(tuple))?;
+    put_vals(&mut rest, key_of(tuple, n))?;
     put_num(&mut rest, tid)?;
     Ok(rest)
 }
 
-/// The bytes of the key of a world's row, by the world, the relation and value of a group, and the number of a tuple.
+/// The bytes of the key of a world's row, by the world, the relation and key of a group, and the number of a tuple.
 pub fn row_key(
     alloc: Global,
     wid: u32,
     rel: u32,
-    value: &Value,
+    key: &[Value],
     tid: u32,
 ) -> Result<Vec<u8>, AllocError>
-    requires { HasPlainText value.now }
-    ensures key { IfOk result (λ key. key.items ≡ val_bytes (wid, rel, value.now, tid)) }
-    ensures fits { OnOk result (IsValKey (wid, rel, value.now, tid)) }
+    requires { HaveKeyTexts key.now }
+    ensures bytes { IfOk result (λ bytes. bytes.items ≡ val_bytes (wid, rel, key.now, tid)) }
+    ensures fits { OnOk result (IsValKey (wid, rel, key.now, tid)) }
 {
-    let mut key = Vec::with_capacity(alloc, KEY_ROOM)?;
-    put_pair(&mut key, wid, rel)?;
-    put_value(&mut key, value)?;
-    put_num(&mut key, tid)?;
-    Ok(key)
+    let mut bytes = Vec::with_capacity(alloc, KEY_ROOM)?;
+    put_val_key(&mut bytes, wid, rel, key, tid)?;
+    Ok(bytes)
 }
 
 /// Makes the bytes of a key of those of its world's number and of what follows it.

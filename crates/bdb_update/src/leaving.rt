@@ -8,6 +8,7 @@ ghost use Rattle.bdb_update.specs.Bounds.{WritesWithin};
 ghost use Rattle.bdb_update.specs.Calls.{SomeMayMeet};
 ghost use Rattle.bdb_update.specs.Joining.{IsWorld};
 ghost use Rattle.bdb_update.specs.Keeping.{KeepsNumbers};
+ghost use Rattle.bdb_tables.specs.Lengths.{IsKeyLength};
 ghost use Rattle.bdb_update.specs.Leaving.{CountsLeft, MayLose, TriesDrop, counts_less, standing};
 ghost use Rattle.bdb_update.specs.Parting.{Leaves, SomeMayPart};
 ghost use Rattle.bdb_val.specs.Steps.{IsChanging, counted};
@@ -53,7 +54,7 @@ pub fn try_drop<K: Keeper>(
         Some(tid) => tid,
         None => return Ok(None),
     };
-    match leave(alloc, keeper, stmt, place.wid, tid) {
+    match leave(alloc, keeper, stmt, place.key_len, place.wid, tid) {
         Ok(gone) => Ok(Some(counts_less(counts, gone))),
         Err(error) => Err(error),
     }
@@ -70,11 +71,13 @@ fn number_if_stands(stmt: &Stmt, place: &Place) -> Option<u32>
 }
 
 // Lets a statement leave a base: its row goes and its group is settled, its worlds go and its tuple's number, where no other
-// statement needs them. `wid` is the number of its path, and `tid` that of its tuple.
+// statement needs them. `n` is the length of the key of its tuple's relation, `wid` the number of its path, and `tid` that of
+// its tuple.
 fn leave<K: Keeper>(
     alloc: Global,
     keeper: &mut K,
     stmt: &Stmt,
+    n: u32,
     wid: u32,
     tid: u32,
 ) -> Result<Gone, TabError>
@@ -83,13 +86,14 @@ fn leave<K: Keeper>(
     requires world { IsWorld (K.seen keeper.old).kept stmt.now.path wid }
     requires fits { IsTupleRow stmt.now.tuple }
     requires number { HasAt tuple_ix_codec (K.seen keeper.old).kept stmt.now.tuple (Some tid) }
+    requires length { IsKeyLength (K.seen keeper.old).kept stmt.now.tuple.rel n }
     ensures left { OnOk result (Leaves (K.seen keeper.old).kept (K.seen keeper.new).kept stmt.now) }
     ensures counted { IfOk result (CountsLeft (K.seen keeper.old).kept stmt.now) }
     ensures keeps { OnOk result (KeepsNumbers (K.seen keeper.new).kept (K.seen keeper.old).kept) }
     ensures writes { OnOk result (WritesWithin (length stmt.now.path + 2) 8 (K.seen keeper.old) (K.seen keeper.new)) }
     ensures changing { IsChanging (K.seen keeper.old) (K.seen keeper.new) result TabError.Fault }
 {
-    let settled = match part_statement(alloc, keeper, stmt, wid, tid) {
+    let settled = match part_statement(alloc, keeper, stmt, n, wid, tid) {
         Ok(settled) => settled,
         Err(error) => return Err(error),
     };

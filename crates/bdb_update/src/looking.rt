@@ -13,9 +13,10 @@ ghost use Rattle.bdb_worlds.specs.Holding.{HoldSome};
 ghost use Rattle.bdb_base.specs.Alternation.{alternates};
 
 use crate::groups::read_explicit;
+use crate::keys::key_length_of;
 use crate::numbers::number_of;
 use bdb_base::limits::{MOST_STATEMENTS, MOST_TUPLES, MOST_WORLDS};
-use bdb_base::{Exact, Stmt, Tuple, What, clash, cmp_tuple, first_value, same_tuple};
+use bdb_base::{Exact, Stmt, Tuple, What, clash, cmp_tuple, same_tuple};
 use bdb_canon::Counts;
 use bdb_keep::Keeper;
 use bdb_tables::TabError;
@@ -23,12 +24,14 @@ use bdb_val::Stored;
 use bdb_worlds::longest_state;
 use std::alloc::{AllocError, Global};
 
-/// What is read of a statement: how many users of its path are those of a state and that state's number, the explicit rows of
-/// its tuple's relation and key there, where the whole path is a state, and the number of its tuple, if it has one.
+/// What is read of a statement: how many users of its path are those of a state and that state's number, the length of the
+/// key of its tuple's relation, the explicit rows of this relation and the tuple's key there, where the whole path is a
+/// state, and the number of its tuple, if it has one.
 #[derive(Drop)]
 pub struct Place {
     pub len: usize,
     pub wid: u32,
+    pub key_len: u32,
     pub rows: Vec<Stored>,
     pub tid: Option<u32>,
 }
@@ -47,11 +50,12 @@ pub enum Verdict {
 }
 
 /// What there is to know of a statement that may join a base: the number of its path, if that is a state, the number of its
-/// tuple, if it has one, and the sizes with it, but for the rows.
+/// tuple, if it has one, the length of the key of its tuple's relation, and the sizes with it, but for the rows.
 #[derive(Clone, Copy, Drop)]
 pub struct Ready {
     pub wid: Option<u32>,
     pub tid: Option<u32>,
+    pub key_len: u32,
     pub next: Counts,
 }
 
@@ -71,7 +75,11 @@ pub fn look<K: Keeper>(alloc: Global, keeper: &mut K, stmt: &Stmt) -> Result<Pla
         Ok(found) => found,
         Err(error) => return Err(error),
     };
-    let rows = match read_rows(alloc, keeper, wid, len == path.len(), &stmt.tuple) {
+    let key_len = match key_length_of(alloc, keeper, &stmt.tuple) {
+        Ok(n) => n,
+        Err(error) => return Err(error),
+    };
+    let rows = match read_rows(alloc, keeper, wid, len == path.len(), key_len, &stmt.tuple) {
         Ok(rows) => rows,
         Err(error) => return Err(error),
     };
@@ -79,6 +87,7 @@ pub fn look<K: Keeper>(alloc: Global, keeper: &mut K, stmt: &Stmt) -> Result<Pla
         Ok(tid) => Ok(Place {
             len,
             wid,
+            key_len,
             rows,
             tid,
         }),
@@ -86,25 +95,27 @@ pub fn look<K: Keeper>(alloc: Global, keeper: &mut K, stmt: &Stmt) -> Result<Pla
     }
 }
 
-// The explicit rows of a world for a tuple's relation and key, or none where they are not asked for.
+// The explicit rows of a world for a tuple's relation, whose keys have the length `n`, and its key, or none where they are
+// not asked for.
 fn read_rows<K: Keeper>(
     alloc: Global,
     keeper: &mut K,
     wid: u32,
     asked: bool,
+    n: u32,
     tuple: &Tuple,
 ) -> Result<Vec<Stored>, TabError>
     requires running { (K.seen keeper.old).running ≡ true }
     requires grammar { InGrammar (K.seen keeper.old).kept }
     requires tuples { HaveTuples (K.seen keeper.old).kept }
     requires tuple { MayBeTuple tuple.now }
-    ensures rows { IfOk result (λ rows. AreRowsIf (K.seen keeper.old).kept wid tuple.now asked rows.items) }
+    ensures rows { IfOk result (λ rows. AreRowsIf (λ _. n) (K.seen keeper.old).kept wid tuple.now asked rows.items) }
     ensures read { IsRead (K.seen keeper.old) (K.seen keeper.new) result TabError.Fault }
 {
     if !asked {
         return Ok(Vec::new(alloc));
     }
-    match read_explicit(alloc, keeper, wid, tuple.rel, first_value(tuple)) {
+    match read_explicit(alloc, keeper, wid, n, tuple) {
         Ok(rows) => Ok(rows),
         Err(error) => Err(error),
     }
@@ -140,7 +151,7 @@ fn judge(alloc: Global, stmt: &Stmt, place: &Place, counts: &Counts) -> Result<V
     requires { IsSmall stmt.now place.now counts.now }
     ensures { IfOk result (λ verdict. verdict ≡ judged stmt.now place.now counts.now) }
 {
-    match least_row(stmt, &place.rows) {
+    match least_row(place.key_len, stmt, &place.rows) {
         Some(row) => {
             let path = stmt.path.try_clone(alloc)?;
             let tuple = row.tuple.try_clone(alloc)?;
@@ -168,6 +179,7 @@ fn join_verdict(stmt: &Stmt, place: &Place, counts: &Counts) -> Verdict
         None => Verdict::Fits(Ready {
             wid: state_of(stmt, place),
             tid: place.tid,
+            key_len: place.key_len,
             next,
         }),
     }
@@ -184,15 +196,15 @@ fn state_of(stmt: &Stmt, place: &Place) -> Option<u32>
     }
 }
 
-// The row whose tuple comes first among those that clash with a statement.
-fn least_row<'a>(stmt: &Stmt, rows: &'a [Stored]) -> Option<&'a Stored>
-    ensures { option_copied result ≡ least_row stmt.now rows.now }
+// The row whose tuple comes first among those that clash with a statement, where its relation has keys of the length `n`.
+fn least_row<'a>(n: u32, stmt: &Stmt, rows: &'a [Stored]) -> Option<&'a Stored>
+    ensures { option_copied result ≡ least_row (λ _. n) stmt.now rows.now }
 {
     match rows {
         [] => None,
         [row, rest @ ..] => {
-            let least = least_row(stmt, rest);
-            if is_clashing(stmt, row) {
+            let least = least_row(n, stmt, rest);
+            if is_clashing(n, stmt, row) {
                 return Some(first_of(row, least));
             }
             least
@@ -216,11 +228,11 @@ fn first_of<'a>(row: &'a Stored, other: Option<&'a Stored>) -> &'a Stored
     }
 }
 
-// Whether a row is explicit and clashes with a statement.
-fn is_clashing(stmt: &Stmt, row: &Stored) -> bool
-    ensures { result ≡ is_clashing stmt.now row.now }
+// Whether a row is explicit and clashes with a statement, where its relation has keys of the length `n`.
+fn is_clashing(n: u32, stmt: &Stmt, row: &Stored) -> bool
+    ensures { result ≡ is_clashing (λ _. n) stmt.now row.now }
 {
-    row.mark.1 && clash(1, &stmt.tuple, stmt.sign, &row.tuple, row.mark.0)
+    row.mark.1 && clash(n, &stmt.tuple, stmt.sign, &row.tuple, row.mark.0)
 }
 
 /// Whether a statement has a row.

@@ -1,15 +1,15 @@
 // A statement leaves a base, step by step.
 ghost use Rattle.std.specs.Prelude.{◌≡◌, ◌+◌, true, nat_eq, length, Some, IfOk, OnOk};
 ghost use Rattle.bdb_base.specs.Causes.{Rises};
-ghost use Rattle.bdb_key.specs.Grammar.{HasPlainText};
 ghost use Rattle.bdb_key.specs.Rows.{IsTupleRow, MayBeTuple};
 ghost use Rattle.bdb_tables.specs.Codec.{HasAt};
 ghost use Rattle.bdb_tables.specs.Grammar.{InGrammar};
-ghost use Rattle.bdb_tables.specs.InUse.{IsValKey, tuple_ix_codec};
+ghost use Rattle.bdb_tables.specs.InUse.{HaveKeyTexts, IsValKey, tuple_ix_codec};
 ghost use Rattle.bdb_update.specs.Bounds.{RowWrites, StateWrites};
 ghost use Rattle.bdb_update.specs.ChangeLaws.{is_of_worlds};
 ghost use Rattle.bdb_update.specs.Joining.{IsWorld, is_of_tuples, key_made};
 ghost use Rattle.bdb_update.specs.Keeping.{KeepsNames, KeepsTuples};
+ghost use Rattle.bdb_tables.specs.Lengths.{IsKeyLength};
 ghost use Rattle.bdb_update.specs.Numbering.{number_taken};
 ghost use Rattle.bdb_update.specs.Parting.{ClearsWorlds, CountsWorlds, LosesNumber, LosesRows, LosesWorlds, Parts, PartsRows, SomeHasFewerWorlds, SomeHasParted, SomeMayPart, TellsNumber, row_taken};
 ghost use Rattle.bdb_tables.specs.Stored.{SameBut};
@@ -22,7 +22,7 @@ use crate::filling::both;
 use crate::joining::rel_of;
 use crate::keys::{row_key, table_error};
 use crate::reading::is_told;
-use bdb_base::{Stmt, Tuple, Value, first_value};
+use bdb_base::{Stmt, Tuple, Value, key_of};
 use bdb_keep::Keeper;
 use bdb_tables::{Tab, TabError, TupleIx, TupleTab, ValTab, drop_row};
 use bdb_val::{Settled, clear_world, settle_group};
@@ -30,11 +30,12 @@ use bdb_worlds::drop_states;
 use std::alloc::Global;
 
 /// Takes the row of a statement out of its path's world, of number `wid`, for its tuple, of number `tid`, and settles the rows
-/// of the tuple's relation and key there and in the worlds that inherited them.
+/// of the tuple's relation, whose keys have the length `n`, and its key there and in the worlds that inherited them.
 pub fn part_statement<K: Keeper>(
     alloc: Global,
     keeper: &mut K,
     stmt: &Stmt,
+    n: u32,
     wid: u32,
     tid: u32,
 ) -> Result<Settled, TabError>
@@ -43,13 +44,14 @@ pub fn part_statement<K: Keeper>(
     requires world { IsWorld (K.seen keeper.old).kept stmt.now.path wid }
     requires fits { IsTupleRow stmt.now.tuple }
     requires number { HasAt tuple_ix_codec (K.seen keeper.old).kept stmt.now.tuple (Some tid) }
+    requires length { IsKeyLength (K.seen keeper.old).kept stmt.now.tuple.rel n }
     ensures parted { OnOk result (Parts (K.seen keeper.old).kept (K.seen keeper.new).kept stmt.now) }
     ensures rows { IfOk result (λ s. PartsRows (K.seen keeper.old).kept (K.seen keeper.new).kept stmt.now s.put s.taken) }
     ensures writes { OnOk result (RowWrites 2 (K.seen keeper.old) (K.seen keeper.new)) }
     ensures others { OnOk result (others.SameBut (λ n. nat_eq n 11) (K.seen keeper.old).kept (K.seen keeper.new).kept) }
     ensures changing { IsChanging (K.seen keeper.old) (K.seen keeper.new) result TabError.Fault }
 {
-    let key = first_value(&stmt.tuple);
+    let key = key_of(&stmt.tuple, n);
     let rel = rel_of(&stmt.tuple);
     match take_row(alloc, keeper, stmt, wid, tid, key) {
         Ok(()) => {}
@@ -68,10 +70,10 @@ fn take_row<K: Keeper>(
     stmt: &Stmt,
     wid: u32,
     tid: u32,
-    key: &Value,
+    key: &[Value],
 ) -> Result<(), TabError>
     requires running { (K.seen keeper.old).running ≡ true }
-    requires text { HasPlainText key.now }
+    requires text { HaveKeyTexts key.now }
     ensures taken { OnOk result ((K.seen keeper.new).kept ≡ row_taken (K.seen keeper.old).kept stmt.now wid tid key.now) }
     ensures writes { OnOk result (Rises 1 (K.seen keeper.old).writes (K.seen keeper.new).writes) }
     ensures fits { OnOk result (IsValKey (key_made stmt.now wid tid key.now)) }

@@ -8,7 +8,7 @@ ghost use Rattle.bdb_tables.specs.InUse.{val_codec};
 ghost use Rattle.bdb_update.specs.Keys.{key_rest};
 ghost use Rattle.bdb_update.specs.Reads.{AnyTells, IsExplicitRow, IsFurther, IsTelling, IsWorldOf, Looks, TellsTold, above, is_beside, look_at};
 
-use crate::keys::{key_rest, lead, table_error};
+use crate::keys::{key_length_of, key_rest, lead, table_error};
 use bdb_base::Tuple;
 use bdb_keep::Keeper;
 use bdb_key::{mark_of, num_of};
@@ -27,7 +27,8 @@ enum Look {
 }
 
 /// Whether a statement of the stored base has a tuple, by the tuple and its number: whether some world has an explicit row
-/// of it. It reads a row for each world that has one, and a row for each gap between their numbers.
+/// of it. It reads the row of the tuple's relation, a row for each world that has one, and a row for each gap between their
+/// numbers.
 pub fn is_told<K: Keeper>(
     alloc: Global,
     keeper: &mut K,
@@ -38,26 +39,31 @@ pub fn is_told<K: Keeper>(
     ensures told { IfOk result (TellsTold (K.seen keeper.old).kept tuple.now tid) }
     ensures read { IsRead (K.seen keeper.old) (K.seen keeper.new) result TabError.Fault }
 {
-    match is_explicit(alloc, keeper, tuple, tid, None) {
+    let n = match key_length_of(alloc, keeper, tuple) {
+        Ok(n) => n,
+        Err(error) => return Err(error),
+    };
+    match is_explicit(alloc, keeper, n, tuple, tid, None) {
         Ok(told) => Ok(told),
         Err(error) => Err(error),
     }
 }
 
-/// Whether some world has an explicit row of a tuple, by the tuple and its number; one world, if it is given, is left out. It
-/// reads as many rows as `is_told`.
+/// Whether some world has an explicit row of a tuple, by the length of the key of its relation, the tuple and its number; one
+/// world, if it is given, is left out. It reads as many rows as `is_told`, but for the relation's.
 pub fn is_explicit<K: Keeper>(
     alloc: Global,
     keeper: &mut K,
+    n: u32,
     tuple: &Tuple,
     tid: u32,
     but: Option<u32>,
 ) -> Result<bool, TabError>
     requires grammar { InGrammar (K.seen keeper.old).kept }
-    ensures told { IfOk result (AnyTells (K.seen keeper.old).kept (key_rest tuple.now tid) but) }
+    ensures told { IfOk result (AnyTells (K.seen keeper.old).kept (key_rest (λ _. n) tuple.now tid) but) }
     ensures read { IsRead (K.seen keeper.old) (K.seen keeper.new) result TabError.Fault }
 {
-    let rest = match key_rest(alloc, tuple, tid) {
+    let rest = match key_rest(alloc, n, tuple, tid) {
         Ok(rest) => rest,
         Err(_) => {
             keeper.undo();

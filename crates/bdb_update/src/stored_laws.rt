@@ -16,7 +16,7 @@ pub fn two_rows_store_empty()
     ensures { TwoRowsStoreEmpty }
 {}
 
-/// The row of a relation whose number is the next adds the relation.
+/// The row of a relation whose number is the next adds the relation, where no statement is of a relation that there isn't.
 pub fn put_stores_relation()
     ensures { PutStoresRelation }
 {}

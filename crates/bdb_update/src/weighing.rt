@@ -1,5 +1,6 @@
 // What a change of statements of one path comes to, before anything is written.
 ghost use Rattle.std.specs.Prelude.{◌≡◌, true, IfOk};
+ghost use Rattle.bdb_base.specs.Bases.{key_lengths};
 ghost use Rattle.bdb_base.specs.Changes.{first_clashing, with_statements};
 ghost use Rattle.bdb_base.specs.Order.{statement_cmp};
 ghost use Rattle.bdb_base.specs.SortedSet.{ascending};
@@ -10,9 +11,10 @@ ghost use Rattle.bdb_update.specs.Elsewhere.{HasTuples};
 ghost use Rattle.bdb_update.specs.Weighing.{SomeMayWeigh, TellsRoom, Weighs, have_room};
 
 use crate::elsewhere::{fresh_of, lost_of};
+use crate::keys::key_relations;
 use crate::reached::{first_clashing, read_statements, with_statements, without_statements};
 use bdb_base::limits::MOST_TUPLES;
-use bdb_base::{Exact, List, Path, Stmt, distinct_tuples};
+use bdb_base::{Exact, List, Path, RelDef, Stmt, distinct_tuples};
 use bdb_canon::Counts;
 use bdb_keep::Keeper;
 use bdb_tables::TabError;
@@ -47,7 +49,11 @@ pub fn weigh<K: Keeper>(
         Ok(found) => found,
         Err(error) => return Err(error),
     };
-    let (reached, least) = match reach(alloc, stmts, path, gone, come) {
+    let rels = match key_relations(alloc, keeper) {
+        Ok(rels) => rels,
+        Err(error) => return Err(error),
+    };
+    let (reached, least) = match reach(alloc, &rels, stmts, path, gone, come) {
         Ok(reached) => reached,
         Err(_) => {
             keeper.undo();
@@ -65,9 +71,11 @@ pub fn weigh<K: Keeper>(
     }
 }
 
-// The statements of a path with some in place of others, and a copy of the first of them that clashes with another.
+// The statements of a path with some in place of others, and a copy of the first of them that clashes with another, where
+// these are the relations.
 fn reach(
     alloc: Global,
+    rels: &List<RelDef>,
     stmts: List<Stmt>,
     path: &Path,
     gone: &[Stmt],
@@ -75,19 +83,24 @@ fn reach(
 ) -> Result<(List<Stmt>, Option<Stmt>), AllocError>
     requires { ascending statement_cmp stmts ≡ true }
     ensures reached { IfOk result (λ found. found.0 ≡ with_statements (without_statements stmts gone.now) come.now) }
-    ensures least { IfOk result (λ found. found.1 ≡ first_clashing (λ _. 1) found.0 path.now) }
+    ensures least { IfOk result (λ found. found.1 ≡ first_clashing (key_lengths rels.now) found.0 path.now) }
 {
     let left = without_statements(stmts, gone);
     let reached = with_statements(alloc, left, come)?;
-    let least = clash_among(alloc, reached.as_slice(), path.as_slice())?;
+    let least = clash_among(alloc, rels.as_slice(), reached.as_slice(), path.as_slice())?;
     Ok((reached, least))
 }
 
 // A copy of the first of some statements that clashes with another of its path.
-fn clash_among(alloc: Global, reached: &[Stmt], path: &[u32]) -> Result<Option<Stmt>, AllocError>
-    ensures { IfOk result (λ least. least ≡ first_clashing (λ _. 1) reached.now path.now) }
+fn clash_among(
+    alloc: Global,
+    rels: &[RelDef],
+    reached: &[Stmt],
+    path: &[u32],
+) -> Result<Option<Stmt>, AllocError>
+    ensures { IfOk result (λ least. least ≡ first_clashing (key_lengths rels.now) reached.now path.now) }
 {
-    match first_clashing(reached, path) {
+    match first_clashing(rels, reached, path) {
         Some(least) => Ok(Some(least.try_clone(alloc)?)),
         None => Ok(None),
     }

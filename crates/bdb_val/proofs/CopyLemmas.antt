@@ -8,7 +8,7 @@ use Rattle.std.proofs.lemmas.Bool.{true≢false, false≢true, cases_Bool, and_p
 use Rattle.bdb_base.specs.Segments.{is_prefix}
 use Rattle.bdb_base.specs.SortedSet.{ascending}
 use Rattle.bdb_keep.specs.Tables.{Tables, bytes_cmp}
-use Rattle.bdb_key.specs.Bytes.{num_bytes, value_bytes}
+use Rattle.bdb_key.specs.Bytes.{num_bytes, vals_bytes}
 use Rattle.bdb_key.specs.Grammar.{IsNum}
 use Rattle.bdb_key.specs.Rows.{mark_bytes}
 use Rattle.bdb_key.proofs.Forms.{tied}
@@ -76,7 +76,7 @@ same_key_from : (a b : ValKey) → IsValKey a → IsValKey b → a ≡ b → is_
 same_key_from a b fa fb e = ap is_eq (sym (vals_in_order a b fa fb)) ∙ ap is_eq (tied (val_bytes a) (val_bytes b) (ap val_bytes e))
 
 pub key_in_fits : (wid : ℕ) (k : ValKey) → IsNum wid → IsValKey k → IsValKey (key_in wid k)
-key_in_fits wid k n f = record { world = n; rel = f.rel; value = f.value; tuple = f.tuple }
+key_in_fits wid k n f = record { world = n; rel = f.rel; key = f.key; tuple = f.tuple }
 
 pub key_in_own : (wid : ℕ) (k : ValKey) → k.0 ≡ wid → key_in wid k ≡ k
 key_in_own wid k e = ap (λ (n : ℕ). key_in n k) (sym e)
@@ -105,7 +105,7 @@ module _ (t : Tables) (f : ValKey → Option Mark) (h : Gives val_codec t f) (wi
   row_is_there k v w s = go es are_rows (ap is_some (sym (u.found (val_bytes k) begins) ∙ h.rows k v) ∙ stands (f k) s)
     where
       begins : is_prefix (world_prefix wid) (val_bytes k) ≡ true
-      begins = ap (λ (i : ℕ). is_prefix (num_bytes i) (val_bytes k)) (sym w) ∙ prefix_append (num_bytes k.0) (num_bytes k.1 ++ value_bytes k.2 ++ num_bytes k.3)
+      begins = ap (λ (i : ℕ). is_prefix (num_bytes i) (val_bytes k)) (sym w) ∙ prefix_append (num_bytes k.0) (num_bytes k.1 ++ vals_bytes k.2 ++ num_bytes k.3)
 
       stands : (o : Option Mark) → is_some o ≡ true → is_some (option_map mark_bytes o) ≡ true
       stands None e = absurd (false≢true e)

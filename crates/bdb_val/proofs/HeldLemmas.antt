@@ -1,5 +1,5 @@
 -- Settled rows are those of tables that hold the rows of the worlds, and the other way round.
-use Rattle.std.proofs.Common.{◌≡◌, ◌∙◌, ℕ, Bool, true, false, not, ◌&&◌, nat_eq, List, [], ◌∷◌, Option, Some, None, MatchOption, cond, inl, inr, refl, ap, sym, subst, is_some, length, take, ◌<◌, arith}
+use Rattle.std.proofs.Common.{◌≡◌, ◌∙◌, ℕ, Bool, true, false, not, ◌&&◌, nat_eq, List, [], ◌∷◌, Option, Some, None, cond, inl, inr, refl, ap, sym, is_some}
 use Rattle.std.specs.Option.{option_and_then}
 use Rattle.std.proofs.lemmas.Bool.{false≢true, cases_Bool, and_parts, and_from, or_left, cond-true, cond-false, eqb-true, eq-eqb}
 use Rattle.bdb_base.specs.declared.kinds.Sign.{Sign}
@@ -15,7 +15,6 @@ use Rattle.bdb_base.specs.Worlds.{explicit, stated, contradicted, IsConsistent}
 use Rattle.bdb_base.proofs.WorldLemmas.{explicit_tuple, worlds_are_consistent}
 use Rattle.bdb_paths.proofs.SuffixLemmas.{deepest_is_member}
 use Rattle.bdb_keep.specs.Tables.{Tables}
-use Rattle.bdb_key.specs.Rows.{IsTupleRow}
 use Rattle.bdb_tables.specs.InUse.{ValKey, IsValKey, val_codec}
 use Rattle.bdb_tables.specs.Marks.{Mark, sign_by, explicit_of, explicit_sign, marked, mark_of}
 use Rattle.bdb_tables.specs.Names.{Names, AreNames, path_of, number_of, is_named}
@@ -24,8 +23,7 @@ use Rattle.bdb_tables.proofs.WriteLemmas.{gives_same}
 use Rattle.bdb_val.specs.Laws.{SettledRowsAreHeld, HeldRowsAreExplicit, HeldRowsAreSettled}
 use Rattle.bdb_val.specs.Middle.{worlds_of, HasExplicit, AreSettledBut}
 use Rattle.bdb_val.specs.Settled.{AreLinked, HasStates}
-use Rattle.bdb_val.specs.Settling.{key_value, row_key}
-use Rattle.bdb_val.proofs.ReadLemmas.{tuple_row}
+use Rattle.bdb_val.specs.Settling.{row_key}
 use Rattle.bdb_val.proofs.SettledLemmas.{settled_rows_are_right, right_rows_are_settled}
 
 -- ---- names are linked
@@ -46,43 +44,34 @@ names_are_linked ns h = record {
 
 -- ---- keys of rows
 
--- the key of a tuple with a value is its first one
-key_is_first : (u : Tuple) → 0 < length u.vals → key_of (λ _. 1) u ≡ key_value u.vals ∷ []
-key_is_first u l = go u.vals l
-  where
-    go : (vs : List Value) → 0 < length vs → take 1 vs ≡ key_value vs ∷ []
-    go [] l = absurd (omega arith)
-    go (v ∷ vs) l = refl
-
 -- a row's key has a tuple's relation and key where it is the key of the tuple's row
-key_of_row : (k : ValKey) (u : Tuple) → 0 < length u.vals → row_key k.0 k.3 u ≡ k → has_key (λ _. 1) k u ≡ true
-key_of_row k u l e = and_from (nat_eq u.rel k.1) (same_values (key_of (λ _. 1) u) (k.2 ∷ []))
+key_of_row : (keys : ℕ → ℕ) (k : ValKey) (u : Tuple) → row_key keys k.0 k.3 u ≡ k → has_key keys k u ≡ true
+key_of_row keys k u e = and_from (nat_eq u.rel k.1) (same_values (key_of keys u) k.2)
     (eq-eqb u.rel k.1 (ap (λ (z : ValKey). z.1) e))
-    ((same_values-Decides (key_of (λ _. 1) u) (k.2 ∷ [])).1 (key_is_first u l ∙ ap (λ (z : ValKey). z.2 ∷ []) e))
+    ((same_values-Decides (key_of keys u) k.2).1 (ap (λ (z : ValKey). z.2) e))
 
-abbrev made : ℕ → ℕ → Value → ℕ → ValKey
+abbrev made : ℕ → ℕ → List Value → ℕ → ValKey
 made a b c d = (a, b, c, d)
 
-row_of_key : (k : ValKey) (u : Tuple) → 0 < length u.vals → has_key (λ _. 1) k u ≡ true → row_key k.0 k.3 u ≡ k
-row_of_key k u l e =
-    let p = and_parts (nat_eq u.rel k.1) (same_values (key_of (λ _. 1) u) (k.2 ∷ [])) e in
+row_of_key : (keys : ℕ → ℕ) (k : ValKey) (u : Tuple) → has_key keys k u ≡ true → row_key keys k.0 k.3 u ≡ k
+row_of_key keys k u e =
+    let p = and_parts (nat_eq u.rel k.1) (same_values (key_of keys u) k.2) e in
     let r : u.rel ≡ k.1 = eqb-true u.rel k.1 p.0 in
-    let v : key_value u.vals ∷ [] ≡ k.2 ∷ [] = sym (key_is_first u l) ∙ (same_values-Decides (key_of (λ _. 1) u) (k.2 ∷ [])).0 p.1 in
-    let w : key_value u.vals ≡ k.2 = ap key_value v in
-    ap (λ (x : ℕ). made k.0 x (key_value u.vals) k.3) r ∙ ap (λ (x : Value). made k.0 k.1 x k.3) w
+    let v : key_of keys u ≡ k.2 = (same_values-Decides (key_of keys u) k.2).0 p.1 in
+    ap (λ (x : ℕ). made k.0 x (key_of keys u) k.3) r ∙ ap (λ (x : List Value). made k.0 k.1 x k.3) v
 
 -- ---- settled rows are held
 
-module _ (stmts : List Stmt) (ns : Names) (tuple : ℕ → Option Tuple) (f : ValKey → Option Mark) (t : Tables) (names : AreNames ns) (states : HasStates stmts (is_named ns))
-    (h : HasExplicit stmts (worlds_of ns) tuple f t) (settled : AreSettledBut stmts (worlds_of ns) tuple f (λ _ _. false)) where
+module _ (keys : ℕ → ℕ) (stmts : List Stmt) (ns : Names) (tuple : ℕ → Option Tuple) (f : ValKey → Option Mark) (t : Tables) (names : AreNames ns) (states : HasStates stmts (is_named ns))
+    (h : HasExplicit keys stmts (worlds_of ns) tuple f t) (settled : AreSettledBut keys stmts (worlds_of ns) tuple f (λ _ _. false)) where
   -- a named tuple's row in a named world
-  held_row : (wid : ℕ) (w : List ℕ) (tid : ℕ) (u : Tuple) → path_of ns wid ≡ Some w → tuple tid ≡ Some u → f (row_key wid tid u) ≡ mark_of (λ _. 1) stmts w u
+  held_row : (wid : ℕ) (w : List ℕ) (tid : ℕ) (u : Tuple) → path_of ns wid ≡ Some w → tuple tid ≡ Some u → f (row_key keys wid tid u) ≡ mark_of keys stmts w u
   held_row wid w tid u p n =
-      settled_rows_are_right (λ _. 1) stmts (is_named ns) (worlds_of ns) u (λ m. f (row_key m tid u)) h.consistent states (names_are_linked ns names)
+      settled_rows_are_right keys stmts (is_named ns) (worlds_of ns) u (λ m. f (row_key keys m tid u)) h.consistent states (names_are_linked ns names)
       (λ m. settled m tid u n refl) wid w p
 
   -- a key whose world or tuple has no name, or whose tuple has another key, has no row
-  no_row : (k : ValKey) → IsValKey k → ((w : List ℕ) (u : Tuple) → path_of ns k.0 ≡ Some w → tuple k.3 ≡ Some u → row_key k.0 k.3 u ≡ k → ⊥) → f k ≡ None
+  no_row : (k : ValKey) → IsValKey k → ((w : List ℕ) (u : Tuple) → path_of ns k.0 ≡ Some w → tuple k.3 ≡ Some u → row_key keys k.0 k.3 u ≡ k → ⊥) → f k ≡ None
   no_row k v bad = go (f k) refl
     where
       go : (o : Option Mark) → f k ≡ o → f k ≡ None
@@ -93,7 +82,7 @@ module _ (stmts : List Stmt) (ns : Names) (tuple : ℕ → Option Tuple) (f : Va
           let u = h.rows.keyed k v s in
           absurd (bad w.0 u.0 w.1 u.1 u.2)
 
-  row_is : (k : ValKey) → IsValKey k → f k ≡ row_for (λ _. 1) stmts (path_of ns) tuple k
+  row_is : (k : ValKey) → IsValKey k → f k ≡ row_for keys stmts (path_of ns) tuple k
   row_is k v = go (path_of ns k.0) (tuple k.3) refl refl
     where
       none_some : {X : Type 0} (x : X) (o : Option X) → o ≡ None → o ≡ Some x → ⊥
@@ -102,25 +91,24 @@ module _ (stmts : List Stmt) (ns : Names) (tuple : ℕ → Option Tuple) (f : Va
       same_some : {X : Type 0} (x y : X) (o : Option X) → o ≡ Some x → o ≡ Some y → x ≡ y
       same_some x y o a b = cc
 
-      go : (p : Option (List ℕ)) (o : Option Tuple) → path_of ns k.0 ≡ p → tuple k.3 ≡ o → f k ≡ row_for (λ _. 1) stmts (path_of ns) tuple k
-      go None o a b = no_row k v (λ w u x y z. none_some w (path_of ns k.0) a x) ∙ sym (ap (λ p. row_named (λ _. 1) stmts k p (tuple k.3)) a)
+      go : (p : Option (List ℕ)) (o : Option Tuple) → path_of ns k.0 ≡ p → tuple k.3 ≡ o → f k ≡ row_for keys stmts (path_of ns) tuple k
+      go None o a b = no_row k v (λ w u x y z. none_some w (path_of ns k.0) a x) ∙ sym (ap (λ p. row_named keys stmts k p (tuple k.3)) a)
       go (Some w) None a b = no_row k v (λ w u x y z. none_some u (tuple k.3) b y)
-          ∙ sym (ap (λ p. row_named (λ _. 1) stmts k p (tuple k.3)) a ∙ ap (row_named (λ _. 1) stmts k (Some w)) b)
+          ∙ sym (ap (λ p. row_named keys stmts k p (tuple k.3)) a ∙ ap (row_named keys stmts k (Some w)) b)
       go (Some w) (Some u) a b =
-          let l = (tuple_row tuple f t h.rows k.3 u b).some in
-          let row : row_for (λ _. 1) stmts (path_of ns) tuple k ≡ cond (has_key (λ _. 1) k u) (mark_of (λ _. 1) stmts w u) None =
-          ap (λ p. row_named (λ _. 1) stmts k p (tuple k.3)) a ∙ ap (row_named (λ _. 1) stmts k (Some w)) b in
-          elim (cases_Bool (has_key (λ _. 1) k u)) [
+          let row : row_for keys stmts (path_of ns) tuple k ≡ cond (has_key keys k u) (mark_of keys stmts w u) None =
+          ap (λ p. row_named keys stmts k p (tuple k.3)) a ∙ ap (row_named keys stmts k (Some w)) b in
+          elim (cases_Bool (has_key keys k u)) [
             | inl e ↦
-                ap f (sym (row_of_key k u l e)) ∙ held_row k.0 w k.3 u a b ∙ sym (cond-true (has_key (λ _. 1) k u) (mark_of (λ _. 1) stmts w u) None e) ∙ sym row
+                ap f (sym (row_of_key keys k u e)) ∙ held_row k.0 w k.3 u a b ∙ sym (cond-true (has_key keys k u) (mark_of keys stmts w u) None e) ∙ sym row
             | inr e ↦
-                no_row k v (λ w2 u2 x y z. false≢true (sym e ∙ key_of_row k u l (ap (λ q. row_key k.0 k.3 q) (same_some u u2 (tuple k.3) b y) ∙ z)))
-                ∙ sym (cond-false (has_key (λ _. 1) k u) (mark_of (λ _. 1) stmts w u) None e) ∙ sym row
+                no_row k v (λ w2 u2 x y z. false≢true (sym e ∙ key_of_row keys k u (ap (λ q. row_key keys k.0 k.3 q) (same_some u u2 (tuple k.3) b y) ∙ z)))
+                ∙ sym (cond-false (has_key keys k u) (mark_of keys stmts w u) None e) ∙ sym row
           ]
 
 pub settled_rows_are_held : SettledRowsAreHeld
-settled_rows_are_held stmts ns tuple f t names states h settled =
-    gives_same val_codec t f (row_for (λ _. 1) stmts (path_of ns) tuple) (row_is stmts ns tuple f t names states h settled) h.rows.rows
+settled_rows_are_held keys stmts ns tuple f t names states h settled =
+    gives_same val_codec t f (row_for keys stmts (path_of ns) tuple) (row_is keys stmts ns tuple f t names states h settled) h.rows.rows
 
 -- ---- held rows are explicit where there are statements, and settled. Tuples of other statements may have numbers too.
 
@@ -145,45 +133,43 @@ explicit_mark keys stmts w u c =
     cases f false false false true a b p m n = absurd (false≢true (m refl))
     cases f false false false false a b p m n = refl
 
-module _ (stmts told : List Stmt) (ns : Names) (ts : Tuples) (t : Tables) (h : HoldsTuples told ts t) where
-  some_value : (tid : ℕ) (u : Tuple) → ts.tuple tid ≡ Some u → 0 < length u.vals
-  some_value tid u n = (subst (λ o. MatchOption o (Unit {0}) IsTupleRow) n (h.tuples.written tid (h.sized tid u n))).some
-
+module _ (keys : ℕ → ℕ) (stmts told : List Stmt) (ns : Names) (ts : Tuples) (t : Tables) (h : HoldsTuples told ts t) where
   abbrev pub held : ValKey → Option Mark
-  held = row_for (λ _. 1) stmts (path_of ns) ts.tuple
+  held = row_for keys stmts (path_of ns) ts.tuple
 
-  named_row : (k : ValKey) (w : List ℕ) (u : Tuple) → path_of ns k.0 ≡ Some w → ts.tuple k.3 ≡ Some u → held k ≡ cond (has_key (λ _. 1) k u) (mark_of (λ _. 1) stmts w u) None
-  named_row k w u a b = ap (λ p. row_named (λ _. 1) stmts k p (ts.tuple k.3)) a ∙ ap (row_named (λ _. 1) stmts k (Some w)) b
+  named_row : (k : ValKey) (w : List ℕ) (u : Tuple) → path_of ns k.0 ≡ Some w → ts.tuple k.3 ≡ Some u → held k ≡ cond (has_key keys k u) (mark_of keys stmts w u) None
+  named_row k w u a b = ap (λ p. row_named keys stmts k p (ts.tuple k.3)) a ∙ ap (row_named keys stmts k (Some w)) b
 
   -- the row of a named tuple in a named world
-  pub right_row : (wid : ℕ) (w : List ℕ) (tid : ℕ) (u : Tuple) → path_of ns wid ≡ Some w → ts.tuple tid ≡ Some u → held (row_key wid tid u) ≡ mark_of (λ _. 1) stmts w u
+  pub right_row : (wid : ℕ) (w : List ℕ) (tid : ℕ) (u : Tuple) → path_of ns wid ≡ Some w → ts.tuple tid ≡ Some u → held (row_key keys wid tid u) ≡ mark_of keys stmts w u
   right_row wid w tid u a b =
-      let k = row_key wid tid u in
-      named_row k w u a b ∙ cond-true (has_key (λ _. 1) k u) (mark_of (λ _. 1) stmts w u) None (key_of_row k u (some_value tid u b) refl)
+      let k = row_key keys wid tid u in
+      named_row k w u a b ∙ cond-true (has_key keys k u) (mark_of keys stmts w u) None (key_of_row keys k u refl)
 
   -- a row that is held is that of a named world and a named tuple with the row's key
-  pub held_names : (k : ValKey) → is_some (held k) ≡ true → (is_some (path_of ns k.0) ≡ true) × ((u : Tuple) × (ts.tuple k.3 ≡ Some u) × (row_key k.0 k.3 u ≡ k))
+  pub held_names : (k : ValKey) → is_some (held k) ≡ true → (is_some (path_of ns k.0) ≡ true) × ((u : Tuple) × (ts.tuple k.3 ≡ Some u) × (row_key keys k.0 k.3 u ≡ k))
   held_names k s = go (path_of ns k.0) (ts.tuple k.3) refl refl
     where
-      go : (p : Option (List ℕ)) (o : Option Tuple) → path_of ns k.0 ≡ p → ts.tuple k.3 ≡ o → (is_some (path_of ns k.0) ≡ true) × ((u : Tuple) × (ts.tuple k.3 ≡ Some u) × (row_key k.0 k.3 u ≡ k))
-      go None o a b = absurd (false≢true (ap (λ p. is_some (row_named (λ _. 1) stmts k p (ts.tuple k.3))) (sym a) ∙ s))
-      go (Some w) None a b = absurd (false≢true (ap (λ o. is_some (row_named (λ _. 1) stmts k (Some w) o)) (sym b) ∙ ap (λ p. is_some (row_named (λ _. 1) stmts k p (ts.tuple k.3))) (sym a) ∙ s))
-      go (Some w) (Some u) a b = elim (cases_Bool (has_key (λ _. 1) k u)) [
-        | inl e ↦ (ap is_some a, (u, b, row_of_key k u (some_value k.3 u b) e))
-        | inr e ↦ absurd (false≢true (ap is_some (sym (cond-false (has_key (λ _. 1) k u) (mark_of (λ _. 1) stmts w u) None e)) ∙ ap is_some (sym (named_row k w u a b)) ∙ s))
+      go : (p : Option (List ℕ)) (o : Option Tuple) → path_of ns k.0 ≡ p → ts.tuple k.3 ≡ o → (is_some (path_of ns k.0) ≡ true) × ((u : Tuple) × (ts.tuple k.3 ≡ Some u) × (row_key keys k.0 k.3 u ≡ k))
+      go None o a b = absurd (false≢true (ap (λ p. is_some (row_named keys stmts k p (ts.tuple k.3))) (sym a) ∙ s))
+      go (Some w) None a b = absurd (false≢true (ap (λ o. is_some (row_named keys stmts k (Some w) o)) (sym b) ∙ ap (λ p. is_some (row_named keys stmts k p (ts.tuple k.3))) (sym a) ∙ s))
+      go (Some w) (Some u) a b = elim (cases_Bool (has_key keys k u)) [
+        | inl e ↦ (ap is_some a, (u, b, row_of_key keys k u e))
+        | inr e ↦ absurd (false≢true (ap is_some (sym (cond-false (has_key keys k u) (mark_of keys stmts w u) None e)) ∙ ap is_some (sym (named_row k w u a b)) ∙ s))
       ]
 
 pub held_rows_are_explicit : HeldRowsAreExplicit
-held_rows_are_explicit stmts ns ts t names states c h r = record {
+held_rows_are_explicit keys stmts ns ts t lengths names states c h r = record {
   rows = record {
+    lengths = lengths;
     tuples = h.tuples;
     rows = r;
     sized = h.sized;
-    keyed = λ k v s. (held_names stmts stmts ns ts t h k s).1;
+    keyed = λ k v s. (held_names keys stmts stmts ns ts t h k s).1;
   };
   sized = λ wid w e. names.sized w wid (names.named wid w e);
-  worlds = λ k v s. (held_names stmts stmts ns ts t h k s).0;
-  explicit = λ wid w tid u p n. ap explicit_of (right_row stmts stmts ns ts t h wid w tid u p n) ∙ explicit_mark (λ _. 1) stmts w u c;
+  worlds = λ k v s. (held_names keys stmts stmts ns ts t h k s).0;
+  explicit = λ wid w tid u p n. ap explicit_of (right_row keys stmts stmts ns ts t h wid w tid u p n) ∙ explicit_mark keys stmts w u c;
   numbered = λ w u s e.
       let n = some_is (ts.number u) (h.stated u ∙ explicit_tuple stmts w u s e) in
       (n.0, h.numbered u n.0 n.1);
@@ -191,6 +177,6 @@ held_rows_are_explicit stmts ns ts t names states c h r = record {
 }
 
 pub held_rows_are_settled : HeldRowsAreSettled
-held_rows_are_settled stmts ns ts t names states c h wid tid u n out =
-    right_rows_are_settled (λ _. 1) stmts (is_named ns) (worlds_of ns) u (λ m. row_for (λ _. 1) stmts (path_of ns) ts.tuple (row_key m tid u)) c states (names_are_linked ns names)
-    (λ m w p. right_row stmts stmts ns ts t h m w tid u p n) wid
+held_rows_are_settled keys stmts ns ts t names states c h wid tid u n out =
+    right_rows_are_settled keys stmts (is_named ns) (worlds_of ns) u (λ m. row_for keys stmts (path_of ns) ts.tuple (row_key keys m tid u)) c states (names_are_linked ns names)
+    (λ m w p. right_row keys stmts stmts ns ts t h m w tid u p n) wid

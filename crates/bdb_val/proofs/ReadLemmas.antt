@@ -1,5 +1,6 @@
 -- The rows that are read from tables are those of the function that the tables give.
-use Rattle.std.proofs.Common.{◌≡◌, ◌∙◌, ℕ, Bool, true, false, nat_eq, List, [], ◌∷◌, ◌++◌, Option, Some, None, MatchOption, cond, inl, inr, refl, ap, sym, subst, is_some, map, length, ◌<◌, arith}
+use Rattle.std.proofs.Common.{◌≡◌, ◌∙◌, ℕ, suc, ◌≤◌, Bool, true, false, nat_eq, List, [], ◌∷◌, ◌++◌, Option, Some, None, MatchOption, cond, inl, inr, refl, ap, sym, subst, is_some, map, length, take, arith}
+use Prim.Native.Nat.{zero}
 use Rattle.std.specs.List.{list_any, list_all, AllByRecursion}
 use Rattle.std.specs.Option.{option_map}
 use Rattle.std.specs.Ordering.{is_eq, is_lt, eq_by_cmp}
@@ -8,23 +9,26 @@ use Rattle.std.specs.FinMap.{find}
 use Rattle.std.proofs.lemmas.Bool.{true≢false, false≢true, cases_Bool, and_parts, and_from, or_from, false_from_ne_true, cond-true, cond-false, eqb-true, eq-eqb}
 use Rattle.bdb_base.specs.declared.kinds.Value.{Value}
 use Rattle.bdb_base.specs.declared.tuple.Tuple.{Tuple}
-use Rattle.bdb_base.specs.Same.{same_value}
-use Rattle.bdb_base.specs.SameLemmas.{same_value-Decides}
+use Rattle.bdb_base.specs.Clash.{key_of}
+use Rattle.bdb_base.specs.Same.{same_values}
+use Rattle.bdb_base.specs.SameLemmas.{same_values-Decides}
 use Rattle.bdb_base.specs.Segments.{is_prefix}
 use Rattle.bdb_base.specs.SortedSet.{ascending}
 use Rattle.bdb_keep.specs.Tables.{Tables, bytes_cmp}
-use Rattle.bdb_key.specs.Bytes.{num_bytes, value_bytes}
-use Rattle.bdb_key.specs.Grammar.{IsNum, IsPlainValue, ArePlain}
+use Rattle.bdb_key.specs.Bytes.{num_bytes, vals_bytes}
+use Rattle.bdb_key.specs.Grammar.{IsNum, ArePlain, AreKeyVals}
 use Rattle.bdb_key.specs.Rows.{IsTupleRow, tuple_bytes, mark_bytes}
 use Rattle.bdb_key.proofs.Forms.{tied}
-use Rattle.bdb_key.proofs.Readings.{num_form, value_form}
+use Rattle.bdb_key.proofs.Readings.{num_form}
 use Rattle.bdb_tables.specs.Codec.{HasRow}
 use Rattle.bdb_tables.specs.InUse.{ValKey, IsValKey, val_bytes, tuple_codec, val_codec}
 use Rattle.bdb_tables.specs.InUseLaws.{vals_are_one, mark_rows_are_one, tuple_rows_are_one}
 use Rattle.bdb_tables.specs.Spans.{AreUnder, IsUnder, entry_bytes, entry_cmp}
+use Rattle.bdb_tables.proofs.PartLemmas.{vals_form}
 use Rattle.bdb_tables.proofs.Held.{same_place, some_same, none_some}
 use Rattle.bdb_tables.specs.Marks.{Mark}
-use Rattle.bdb_val.specs.Settling.{mark_in, AreNamed, are_apart, key_value, row_key}
+use Rattle.bdb_tables.specs.Rows.{AreKeyLengths}
+use Rattle.bdb_val.specs.Settling.{mark_in, AreNamed, are_apart, row_key}
 use Rattle.bdb_val.specs.Reads.{AreTold, AreReadUnder, HasRows, IsSpan, world_prefix, group_prefix, is_of_group}
 use Rattle.bdb_val.specs.declared.stored.Stored.{Stored}
 
@@ -51,7 +55,28 @@ entry_found (e ∷ es) all k = (
 pub one_number : (tuple : ℕ → Option Tuple) (a b : ℕ) (t u : Tuple) → tuple a ≡ Some t → tuple b ≡ Some u → a ≡ b → t ≡ u
 one_number tuple a b t u p q e = let l : tuple a ≡ tuple b = ap tuple e in cc
 
-module _ (tuple : ℕ → Option Tuple) (f : ValKey → Option Mark) (t : Tables) (h : HasRows tuple f t) where
+-- ---- keys of tuples
+
+at_most : (n : ℕ) (vs : List Value) → length (take n vs) ≤ n
+at_most zero vs = omega arith
+at_most (suc n) [] = omega arith
+at_most (suc n) (v ∷ vs) = let h = at_most n vs in omega (arith, h)
+
+first_plain : (n : ℕ) (vs : List Value) → ArePlain vs → ArePlain (take n vs)
+first_plain zero vs a = tt
+first_plain (suc n) [] a = tt
+first_plain (suc n) (v ∷ vs) a = (a.0, first_plain n vs a.1)
+
+-- the key of a tuple of the grammar may stand in a row's key
+pub key_of_fits : (keys : ℕ → ℕ) → AreKeyLengths keys → (u : Tuple) → IsTupleRow u → AreKeyVals (key_of keys u)
+key_of_fits keys lengths u g = record { short = fewer (at_most (keys u.rel) u.vals) (lengths u.rel g.rel); plain = first_plain (keys u.rel) u.vals g.plain }
+  where
+    fewer : {m n : ℕ} → m ≤ n → IsNum n → IsNum m
+    fewer le lt = omega (arith, le, lt)
+
+-- ---- what tables have
+
+module _ (keys : ℕ → ℕ) (tuple : ℕ → Option Tuple) (f : ValKey → Option Mark) (t : Tables) (h : HasRows keys tuple f t) where
   -- the row of a number is the tuple of that number
   pub tuple_named : (tid : ℕ) (u : Tuple) → IsNum tid → HasRow tuple_codec t tid u → tuple tid ≡ Some u
   tuple_named tid u n r = one (tuple tid) (h.tuples.written tid n) (sym (h.tuples.rows tid n) ∙ r.found)
@@ -74,7 +99,7 @@ module _ (tuple : ℕ → Option Tuple) (f : ValKey → Option Mark) (t : Tables
 
   -- an entry's key is that of the row of the tuple of its number
   abbrev pub HasKey : ValKey × Mark → Type 0
-  HasKey e = (u : Tuple) × (tuple e.0.3 ≡ Some u) × (row_key e.0.0 e.0.3 u ≡ e.0)
+  HasKey e = (u : Tuple) × (tuple e.0.3 ≡ Some u) × (row_key keys e.0.0 e.0.3 u ≡ e.0)
 
   entries_keyed : (prefix : List ℕ) (es all : List (ValKey × Mark)) → AllByRecursion (IsUnder val_codec prefix) es
       → ((q : List ℕ) → is_prefix prefix q ≡ true → tables.get t (val_codec.number ∷ q) ≡ rows_at all q)
@@ -94,18 +119,18 @@ module _ (tuple : ℕ → Option Tuple) (f : ValKey → Option Mark) (t : Tables
 
   -- ---- what is found by a tuple's number
 
-  key_here : (wid tid : ℕ) (u : Tuple) (e : ValKey × Mark) → HasKey e → e.0.0 ≡ wid → tuple tid ≡ Some u → e.0.3 ≡ tid → e.0 ≡ row_key wid tid u
+  key_here : (wid tid : ℕ) (u : Tuple) (e : ValKey × Mark) → HasKey e → e.0.0 ≡ wid → tuple tid ≡ Some u → e.0.3 ≡ tid → e.0 ≡ row_key keys wid tid u
   key_here wid tid u e k w n i =
-      sym k.2 ∙ ap (λ x. row_key x e.0.3 k.0) w ∙ ap (λ x. row_key wid x k.0) i ∙ ap (λ x. row_key wid tid x) (one_number tuple e.0.3 tid k.0 u k.1 n i)
+      sym k.2 ∙ ap (λ x. row_key keys x e.0.3 k.0) w ∙ ap (λ x. row_key keys wid x k.0) i ∙ ap (λ x. row_key keys wid tid x) (one_number tuple e.0.3 tid k.0 u k.1 n i)
 
-  mark_found : (wid tid : ℕ) (u : Tuple) (prefix : List ℕ) → IsValKey (row_key wid tid u) → tuple tid ≡ Some u → ((k : ValKey) → IsValKey k → is_prefix prefix (val_bytes k) ≡ true → k.0 ≡ wid)
+  mark_found : (wid tid : ℕ) (u : Tuple) (prefix : List ℕ) → IsValKey (row_key keys wid tid u) → tuple tid ≡ Some u → ((k : ValKey) → IsValKey k → is_prefix prefix (val_bytes k) ≡ true → k.0 ≡ wid)
       → (es : List (ValKey × Mark)) (xs : List Stored) → AllByRecursion (IsUnder val_codec prefix) es → AllByRecursion HasKey es → AreTold t es xs
-      → rows_at es (val_bytes (row_key wid tid u)) ≡ option_map mark_bytes (mark_in xs tid)
+      → rows_at es (val_bytes (row_key keys wid tid u)) ≡ option_map mark_bytes (mark_in xs tid)
   mark_found wid tid u prefix v n w [] [] a k r = refl
   mark_found wid tid u prefix v n w [] (x ∷ xs) a k r = absurd r
   mark_found wid tid u prefix v n w (e ∷ es) [] a k r = absurd r
   mark_found wid tid u prefix v n w (e ∷ es) (x ∷ xs) a k r =
-      let key = row_key wid tid u in
+      let key = row_key keys wid tid u in
       let rest = mark_found wid tid u prefix v n w es xs a.1 k.1 r.1 in
       elim (cases_Bool (nat_eq x.tid tid)) [
         | inl b ↦
@@ -124,15 +149,11 @@ module _ (tuple : ℕ → Option Tuple) (f : ValKey → Option Mark) (t : Tables
       ]
 
   -- the key of the row of a named tuple is in the grammar
-  pub key_fits : (wid tid : ℕ) (u : Tuple) → IsNum wid → tuple tid ≡ Some u → IsValKey (row_key wid tid u)
+  pub key_fits : (wid tid : ℕ) (u : Tuple) → IsNum wid → tuple tid ≡ Some u → IsValKey (row_key keys wid tid u)
   key_fits wid tid u w n =
       let s = h.sized tid u n in
       let g : IsTupleRow u = subst (λ o. MatchOption o (Unit {0}) IsTupleRow) n (h.tuples.written tid s) in
-      record { world = w; rel = g.rel; value = first_plain u.vals g.some g.plain; tuple = s }
-    where
-      first_plain : (vs : List Value) → 0 < length vs → ArePlain vs → IsPlainValue (key_value vs)
-      first_plain [] l a = absurd (omega arith)
-      first_plain (v ∷ vs) l a = a.0
+      record { world = w; rel = g.rel; key = key_of_fits keys h.lengths u g; tuple = s }
 
   pub tuple_row : (tid : ℕ) (u : Tuple) → tuple tid ≡ Some u → IsTupleRow u
   tuple_row tid u n = subst (λ o. MatchOption o (Unit {0}) IsTupleRow) n (h.tuples.written tid (h.sized tid u n))
@@ -144,10 +165,10 @@ module _ (tuple : ℕ → Option Tuple) (f : ValKey → Option Mark) (t : Tables
   one_mark (Some m) (Some n) e = ap Some (mark_rows_are_one m n tt tt (some_same (mark_bytes m) (mark_bytes n) e))
 
   -- the mark of a tuple's row among those that were read is the one that the tables give
-  pub read_mark : (wid : ℕ) (test : Tuple → Bool) (prefix : List ℕ) (xs : List Stored) → IsNum wid → IsSpan wid test prefix → AreReadUnder t prefix xs
-      → (tid : ℕ) (u : Tuple) → tuple tid ≡ Some u → test u ≡ true → mark_in xs tid ≡ f (row_key wid tid u)
+  pub read_mark : (wid : ℕ) (test : Tuple → Bool) (prefix : List ℕ) (xs : List Stored) → IsNum wid → IsSpan keys wid test prefix → AreReadUnder t prefix xs
+      → (tid : ℕ) (u : Tuple) → tuple tid ≡ Some u → test u ≡ true → mark_in xs tid ≡ f (row_key keys wid tid u)
   read_mark wid test prefix xs w s r tid u n e =
-      let key = row_key wid tid u in
+      let key = row_key keys wid tid u in
       let v = key_fits wid tid u w n in
       one_mark (mark_in xs tid) (f key)
       (sym (mark_found wid tid u prefix v n s.world r.entries xs r.under.each (keyed_under prefix r.entries r.under) r.told)
@@ -177,26 +198,26 @@ module _ (tuple : ℕ → Option Tuple) (f : ValKey → Option Mark) (t : Tables
           let here = and_parts (is_lt (entry_cmp val_codec e d)) (list_all (λ z. is_lt (entry_cmp val_codec e z)) ds) m in
           or_from (nat_eq y.tid x.tid) (list_any (λ z. nat_eq z.tid x.tid) ys)
           (false_from_ne_true (nat_eq y.tid x.tid) (λ c.
-          let same : d.0 ≡ row_key e.0.0 e.0.3 k.0.0 = key_here e.0.0 e.0.3 k.0.0 d l.0 (w d.0 b.0.key b.0.begins ∙ sym (w e.0 a.0.key a.0.begins)) k.0.1
+          let same : d.0 ≡ row_key keys e.0.0 e.0.3 k.0.0 = key_here e.0.0 e.0.3 k.0.0 d l.0 (w d.0 b.0.key b.0.begins ∙ sym (w e.0 a.0.key a.0.begins)) k.0.1
           (sym q.0.tid ∙ eqb-true y.tid x.tid c ∙ r.0.tid) in
           not_below_itself (val_bytes e.0) (ap (λ (z : ValKey). is_lt (bytes_cmp (val_bytes e.0) (val_bytes z))) (sym k.0.2 ∙ sym same) ∙ here.0)))
           (none ds ys b.1 l.1 here.1 q.1)
 
-  pub read_apart : (wid : ℕ) (test : Tuple → Bool) (prefix : List ℕ) (xs : List Stored) → IsSpan wid test prefix → AreReadUnder t prefix xs → are_apart xs ≡ true
+  pub read_apart : (wid : ℕ) (test : Tuple → Bool) (prefix : List ℕ) (xs : List Stored) → IsSpan keys wid test prefix → AreReadUnder t prefix xs → are_apart xs ≡ true
   read_apart wid test prefix xs s r = apart prefix wid s.world r.entries xs r.under.each (keyed_under prefix r.entries r.under) r.under.sorted r.told
 
   -- rows that were read pass the test
-  tested : (prefix : List ℕ) (wid : ℕ) (test : Tuple → Bool) → IsSpan wid test prefix → (es : List (ValKey × Mark)) (xs : List Stored) → AllByRecursion (IsUnder val_codec prefix) es
+  tested : (prefix : List ℕ) (wid : ℕ) (test : Tuple → Bool) → IsSpan keys wid test prefix → (es : List (ValKey × Mark)) (xs : List Stored) → AllByRecursion (IsUnder val_codec prefix) es
       → AllByRecursion HasKey es → AreTold t es xs → AllByRecursion (λ x. test x.tuple ≡ true) xs
   tested prefix wid test s [] [] a k r = tt
   tested prefix wid test s [] (x ∷ xs) a k r = absurd r
   tested prefix wid test s (e ∷ es) [] a k r = absurd r
   tested prefix wid test s (e ∷ es) (x ∷ xs) a k r =
       let n = tuple_named x.tid x.tuple (subst IsNum (sym r.0.tid) a.0.key.tuple) r.0.tuple in
-      let same : e.0 ≡ row_key wid x.tid x.tuple = key_here wid x.tid x.tuple e k.0 (s.world e.0 a.0.key a.0.begins) n (sym r.0.tid) in
+      let same : e.0 ≡ row_key keys wid x.tid x.tuple = key_here wid x.tid x.tuple e k.0 (s.world e.0 a.0.key a.0.begins) n (sym r.0.tid) in
       (s.inside x.tid x.tuple (tuple_row x.tid x.tuple n) (ap (λ (z : ValKey). is_prefix prefix (val_bytes z)) (sym same) ∙ a.0.begins), tested prefix wid test s es xs a.1 k.1 r.1)
 
-  pub told_tested : (wid : ℕ) (test : Tuple → Bool) (prefix : List ℕ) (xs : List Stored) → IsSpan wid test prefix → AreReadUnder t prefix xs → AllByRecursion (λ x. test x.tuple ≡ true) xs
+  pub told_tested : (wid : ℕ) (test : Tuple → Bool) (prefix : List ℕ) (xs : List Stored) → IsSpan keys wid test prefix → AreReadUnder t prefix xs → AllByRecursion (λ x. test x.tuple ≡ true) xs
   told_tested wid test prefix xs s r = tested prefix wid test s r.entries xs r.under.each (keyed_under prefix r.entries r.under) r.told
 
 -- ---- the keys of a world, and of a group
@@ -222,33 +243,32 @@ prefix_rest (i ∷ p) (j ∷ q) e =
 pub world_of_key : (wid : ℕ) → IsNum wid → (k : ValKey) → IsValKey k → is_prefix (num_bytes wid) (val_bytes k) ≡ true → k.0 ≡ wid
 world_of_key wid n k v e =
     let r = prefix_rest (num_bytes wid) (val_bytes k) e in
-    (num_form k.0 wid (num_bytes k.1 ++ value_bytes k.2 ++ num_bytes k.3) r.0 v.world n r.1).0
+    (num_form k.0 wid (num_bytes k.1 ++ vals_bytes k.2 ++ num_bytes k.3) r.0 v.world n r.1).0
 
-pub world_span : (wid : ℕ) → IsNum wid → IsSpan wid (λ _. true) (world_prefix wid)
-world_span wid n = record {
+pub world_of_group : (wid rel : ℕ) (v : List Value) → IsNum wid → (k : ValKey) → IsValKey k → is_prefix (group_prefix wid rel v) (val_bytes k) ≡ true → k.0 ≡ wid
+world_of_group wid rel v w k f e = world_of_key wid w k f (prefix_shorter (num_bytes wid) (num_bytes rel ++ vals_bytes v) (val_bytes k) e)
+
+pub world_span : (keys : ℕ → ℕ) (wid : ℕ) → IsNum wid → IsSpan keys wid (λ _. true) (world_prefix wid)
+world_span keys wid n = record {
   world = world_of_key wid n;
-  begins = λ tid u _. prefix_append (num_bytes wid) (num_bytes u.rel ++ value_bytes (key_value u.vals) ++ num_bytes tid);
+  begins = λ tid u _. prefix_append (num_bytes wid) (num_bytes u.rel ++ vals_bytes (key_of keys u) ++ num_bytes tid);
   inside = λ _ _ _ _. refl;
 }
 
-pub group_span : (wid rel : ℕ) (v : Value) → IsNum wid → IsNum rel → IsPlainValue v → IsSpan wid (is_of_group rel v) (group_prefix wid rel v)
-group_span wid rel v w r p = record {
-  world = λ k f e. world_of_key wid w k f (prefix_shorter (num_bytes wid) (num_bytes rel ++ value_bytes v) (val_bytes k) e);
+pub group_span : (keys : ℕ → ℕ) → AreKeyLengths keys → (wid rel : ℕ) (v : List Value) → IsNum wid → IsNum rel → AreKeyVals v → IsSpan keys wid (is_of_group keys rel v) (group_prefix wid rel v)
+group_span keys lengths wid rel v w r p = record {
+  world = world_of_group wid rel v w;
   begins = λ tid u e.
-      let k = and_parts (nat_eq u.rel rel) (same_value (key_value u.vals) v) e in
+      let k = and_parts (nat_eq u.rel rel) (same_values (key_of keys u) v) e in
       let a : u.rel ≡ rel = eqb-true u.rel rel k.0 in
-      let b : key_value u.vals ≡ v = (same_value-Decides (key_value u.vals) v).0 k.1 in
-      ap (λ x. is_prefix (group_prefix wid rel v) (val_bytes (wid, x, key_value u.vals, tid))) a
-      ∙ ap (λ x. is_prefix (group_prefix wid rel v) (val_bytes (wid, rel, x, tid))) b
+      let b : key_of keys u ≡ v = (same_values-Decides (key_of keys u) v).0 k.1 in
+      ap (λ (x : ℕ). is_prefix (group_prefix wid rel v) (val_bytes (wid, x, key_of keys u, tid))) a
+      ∙ ap (λ (x : List Value). is_prefix (group_prefix wid rel v) (val_bytes (wid, rel, x, tid))) b
       ∙ prefix_append (group_prefix wid rel v) (num_bytes tid);
   inside = λ tid u g e.
-      let s = prefix_rest (group_prefix wid rel v) (val_bytes (row_key wid tid u)) e in
-      let one = num_form wid wid (num_bytes u.rel ++ value_bytes (key_value u.vals) ++ num_bytes tid) (num_bytes rel ++ value_bytes v ++ s.0) w w s.1 in
-      let two = num_form u.rel rel (value_bytes (key_value u.vals) ++ num_bytes tid) (value_bytes v ++ s.0) g.rel r one.1 in
-      let three = value_form (key_value u.vals) v (num_bytes tid) s.0 (first_plain u.vals g.some g.plain) p two.1 in
-      and_from (nat_eq u.rel rel) (same_value (key_value u.vals) v) (eq-eqb u.rel rel two.0) ((same_value-Decides (key_value u.vals) v).1 three.0);
+      let s = prefix_rest (group_prefix wid rel v) (val_bytes (row_key keys wid tid u)) e in
+      let one = num_form wid wid (num_bytes u.rel ++ vals_bytes (key_of keys u) ++ num_bytes tid) (num_bytes rel ++ vals_bytes v ++ s.0) w w s.1 in
+      let two = num_form u.rel rel (vals_bytes (key_of keys u) ++ num_bytes tid) (vals_bytes v ++ s.0) g.rel r one.1 in
+      let three = vals_form (key_of keys u) v (num_bytes tid) s.0 (key_of_fits keys lengths u g) p two.1 in
+      and_from (nat_eq u.rel rel) (same_values (key_of keys u) v) (eq-eqb u.rel rel two.0) ((same_values-Decides (key_of keys u) v).1 three.0);
 }
-  where
-    first_plain : (vs : List Value) → 0 < length vs → ArePlain vs → IsPlainValue (key_value vs)
-    first_plain [] l a = absurd (omega arith)
-    first_plain (v ∷ vs) l a = a.0

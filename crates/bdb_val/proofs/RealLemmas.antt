@@ -12,7 +12,7 @@ use Rattle.bdb_base.specs.declared.kinds.Value.{Value}
 use Rattle.bdb_base.specs.declared.tuple.Tuple.{Tuple}
 use Rattle.bdb_keep.specs.Seen.{Seen}
 use Rattle.bdb_keep.specs.Tables.{Tables}
-use Rattle.bdb_key.specs.Grammar.{IsNum, IsPlainValue}
+use Rattle.bdb_key.specs.Grammar.{IsNum, AreKeyVals}
 use Rattle.bdb_key.specs.Rows.{mark_bytes}
 use Rattle.bdb_tables.specs.Codec.{HasAt, place}
 use Rattle.bdb_tables.specs.Differences.{AreDifferences, AreReal}
@@ -39,80 +39,80 @@ one_mark (Some m) (Some n) e = ap Some (mark_rows_are_one m n tt tt (some_same (
 pub tail_same : (n : ℕ) (j k : List ℕ) → n ∷ j ≡ n ∷ k → j ≡ k
 tail_same n j k e = cc
 
-module _ (tuple : ℕ → Option Tuple) (f : ValKey → Option Mark) (t : Tables) (h : HasRows tuple f t) (test : Tuple → Bool) (prefix : ℕ → List ℕ) (spans : AreSpans test prefix) (wid : ℕ) (w : IsNum wid) where
+module _ (keys : ℕ → ℕ) (tuple : ℕ → Option Tuple) (f : ValKey → Option Mark) (t : Tables) (h : HasRows keys tuple f t) (test : Tuple → Bool) (prefix : ℕ → List ℕ) (spans : AreSpans keys test prefix) (wid : ℕ) (w : IsNum wid) where
   -- changes of different numbers are at different places
-  places_apart : (cs : List Change) → AllByRecursion (IsOf tuple test) cs → are_changes_apart cs ≡ true → are_distinct (map (λ x. place val_codec x.0) (map (keyed wid) cs)) ≡ true
+  places_apart : (cs : List Change) → AllByRecursion (IsOf tuple test) cs → are_changes_apart cs ≡ true → are_distinct (map (λ x. place val_codec x.0) (map (keyed keys wid) cs)) ≡ true
   places_apart [] a e = refl
   places_apart (c ∷ cs) a e = elim (cases_Bool (list_any (λ y. nat_eq y.0 c.0) cs)) [
     | inl k ↦ absurd (false≢true (sym (cond-true (list_any (λ y. nat_eq y.0 c.0) cs) false (are_changes_apart cs) k) ∙ e))
-    | inr k ↦ and_from (not (list_any (same_text here) (map (λ x. place val_codec x.0) (map (keyed wid) cs)))) (are_distinct (map (λ x. place val_codec x.0) (map (keyed wid) cs)))
-        (not_from_false (list_any (same_text here) (map (λ x. place val_codec x.0) (map (keyed wid) cs))) (none cs a.1 k))
+    | inr k ↦ and_from (not (list_any (same_text here) (map (λ x. place val_codec x.0) (map (keyed keys wid) cs)))) (are_distinct (map (λ x. place val_codec x.0) (map (keyed keys wid) cs)))
+        (not_from_false (list_any (same_text here) (map (λ x. place val_codec x.0) (map (keyed keys wid) cs))) (none cs a.1 k))
         (places_apart cs a.1 (sym (cond-false (list_any (λ y. nat_eq y.0 c.0) cs) false (are_changes_apart cs) k) ∙ e))
   ]
     where
       here : List ℕ
-      here = place val_codec (row_key wid c.0 c.1)
+      here = place val_codec (row_key keys wid c.0 c.1)
 
-      none : (ds : List Change) → AllByRecursion (IsOf tuple test) ds → list_any (λ y. nat_eq y.0 c.0) ds ≡ false → list_any (same_text here) (map (λ x. place val_codec x.0) (map (keyed wid) ds)) ≡ false
+      none : (ds : List Change) → AllByRecursion (IsOf tuple test) ds → list_any (λ y. nat_eq y.0 c.0) ds ≡ false → list_any (same_text here) (map (λ x. place val_codec x.0) (map (keyed keys wid) ds)) ≡ false
       none [] b q = refl
       none (d ∷ ds) b q =
           let p = or_parts (nat_eq d.0 c.0) (list_any (λ y. nat_eq y.0 c.0) ds) q in
-          or_from (same_text here (place val_codec (row_key wid d.0 d.1))) (list_any (same_text here) (map (λ x. place val_codec x.0) (map (keyed wid) ds)))
-          (false_from_ne_true (same_text here (place val_codec (row_key wid d.0 d.1))) (λ z.
-          let same = tail_same 11 (val_bytes (row_key wid c.0 c.1)) (val_bytes (row_key wid d.0 d.1)) ((same_text-Decides here (place val_codec (row_key wid d.0 d.1))).0 z) in
-          let one : row_key wid c.0 c.1 ≡ row_key wid d.0 d.1 =
-          vals_are_one (row_key wid c.0 c.1) (row_key wid d.0 d.1) (key_fits tuple f t h wid c.0 c.1 w a.0.0) (key_fits tuple f t h wid d.0 d.1 w b.0.0) same in
+          or_from (same_text here (place val_codec (row_key keys wid d.0 d.1))) (list_any (same_text here) (map (λ x. place val_codec x.0) (map (keyed keys wid) ds)))
+          (false_from_ne_true (same_text here (place val_codec (row_key keys wid d.0 d.1))) (λ z.
+          let same = tail_same 11 (val_bytes (row_key keys wid c.0 c.1)) (val_bytes (row_key keys wid d.0 d.1)) ((same_text-Decides here (place val_codec (row_key keys wid d.0 d.1))).0 z) in
+          let one : row_key keys wid c.0 c.1 ≡ row_key keys wid d.0 d.1 =
+          vals_are_one (row_key keys wid c.0 c.1) (row_key keys wid d.0 d.1) (key_fits keys tuple f t h wid c.0 c.1 w a.0.0) (key_fits keys tuple f t h wid d.0 d.1 w b.0.0) same in
           false≢true (sym p.0 ∙ eq-eqb d.0 c.0 (sym (ap (λ (y : ValKey). y.3) one)))))
           (none ds b.1 p.1)
 
-  module _ (u : Tables) (link : Option ℕ) (l : MatchOption link (Unit {0}) IsNum) (s : IsSettling t u wid link prefix) where
+  module _ (u : Tables) (link : Option ℕ) (l : MatchOption link (Unit {0}) IsNum) (s : IsSettling keys t u wid link prefix) where
     abbrev made : List Change
-    made = settling (λ _. 1) s.own s.own s.from
+    made = settling keys s.own s.own s.from
 
     of : AllByRecursion (IsOf tuple test) made
-    of = made_of tuple f t h test prefix spans u wid link w l s
+    of = made_of keys tuple f t h test prefix spans u wid link w l s
 
     own_apart : are_apart s.own ≡ true
-    own_apart = read_apart tuple f t h wid test (prefix wid) s.own (spans wid w) s.own_read
+    own_apart = read_apart keys tuple f t h wid test (prefix wid) s.own (spans wid w) s.own_read
 
     from_apart : are_apart s.from ≡ true
     from_apart = go link l s.from_read
       where
         go : (o : Option ℕ) → MatchOption o (Unit {0}) IsNum → MatchOption o (s.from ≡ []) (λ m. AreReadUnder t (prefix m) s.from) → are_apart s.from ≡ true
         go None a b = ap are_apart b
-        go (Some m) a b = read_apart tuple f t h m test (prefix m) s.from (spans m a) b
+        go (Some m) a b = read_apart keys tuple f t h m test (prefix m) s.from (spans m a) b
 
     altered : (cs : List Change) → AllByRecursion (IsOf tuple test) cs → AllByRecursion (λ x. mark_in s.own x.0 ≢ x.2) cs
-        → AllByRecursion (λ x. tables.get t (place val_codec x.0) ≢ option_map val_codec.row_bytes x.1) (map (keyed wid) cs)
+        → AllByRecursion (λ x. tables.get t (place val_codec x.0) ≢ option_map val_codec.row_bytes x.1) (map (keyed keys wid) cs)
     altered [] a b = tt
     altered (c ∷ cs) a b = (
-      (λ e. b.0 (own_mark tuple f t h test prefix spans u wid link w l s c.0 c.1 a.0.0 a.0.1
-          ∙ one_mark (f (row_key wid c.0 c.1)) c.2 (sym (h.rows.rows (row_key wid c.0 c.1) (key_fits tuple f t h wid c.0 c.1 w a.0.0)) ∙ e))),
+      (λ e. b.0 (own_mark keys tuple f t h test prefix spans u wid link w l s c.0 c.1 a.0.0 a.0.1
+          ∙ one_mark (f (row_key keys wid c.0 c.1)) c.2 (sym (h.rows.rows (row_key keys wid c.0 c.1) (key_fits keys tuple f t h wid c.0 c.1 w a.0.0)) ∙ e))),
       altered cs a.1 b.1,
     )
 
-    pub settling_real : AreReal val_codec t (rows_made wid s.own s.from)
+    pub settling_real : AreReal val_codec t (rows_made keys wid s.own s.from)
     settling_real = record {
-      apart = places_apart made of (settling_is_apart (λ _. 1) s.own s.own s.from own_apart own_apart from_apart);
-      each = altered made of (settling_is_real (λ _. 1) s.own s.own s.from);
+      apart = places_apart made of (settling_is_apart keys s.own s.own s.from own_apart own_apart from_apart);
+      each = altered made of (settling_is_real keys s.own s.own s.from);
     }
 
     -- the places of the changes are those where the tables differ
-    pub settling_differs : AreDifferences (tables.get t) (tables.get u) (map (λ x. place val_codec x.0) (rows_made wid s.own s.from))
-    settling_differs = subst (λ v. AreDifferences (tables.get t) (tables.get v) (map (λ x. place val_codec x.0) (rows_made wid s.own s.from))) (sym s.written)
-        (changes_differ val_codec t (rows_made wid s.own s.from) settling_real)
+    pub settling_differs : AreDifferences (tables.get t) (tables.get u) (map (λ x. place val_codec x.0) (rows_made keys wid s.own s.from))
+    settling_differs = subst (λ v. AreDifferences (tables.get t) (tables.get v) (map (λ x. place val_codec x.0) (rows_made keys wid s.own s.from))) (sym s.written)
+        (changes_differ val_codec t (rows_made keys wid s.own s.from) settling_real)
 
 pub length_mapped : {X Y : Type 0} (m : X → Y) (xs : List X) → length (map m xs) ≡ length xs
 length_mapped m [] = refl
 length_mapped m (x ∷ xs) = ap (λ n. suc n) (length_mapped m xs)
 
 -- a step makes as many writes as there are places where the tables differ
-pub step_writes : (old new : Seen) (wid rel : ℕ) (v : Value) (s : SettledWorld) → IsNum wid → IsNum rel → IsPlainValue v → IsStep old new wid (λ w. group_prefix w rel v) s → WritesDifferences old new
-step_writes old new wid rel v s w r p step tuple f h ps d =
-    let spans = λ (m : ℕ) (n : IsNum m). group_span m rel v n r p in
-    let made = rows_made wid step.settling.own step.settling.from in
+pub step_writes : (keys : ℕ → ℕ) (old new : Seen) (wid rel : ℕ) (v : List Value) (s : SettledWorld) → IsNum wid → IsNum rel → AreKeyVals v → IsStep keys old new wid (λ w. group_prefix w rel v) s → WritesDifferences keys old new
+step_writes keys old new wid rel v s w r p step tuple f h ps d =
+    let spans = λ (m : ℕ) (n : IsNum m). group_span keys h.lengths m rel v n r p in
+    let made = rows_made keys wid step.settling.own step.settling.from in
     let places = map (λ x. place val_codec x.0) made in
-    let differ = settling_differs tuple f old.kept h (is_of_group rel v) (λ m. group_prefix m rel v) spans wid w new.kept step.link (fits step.link step.linked) step.settling in
+    let differ = settling_differs keys tuple f old.kept h (is_of_group keys rel v) (λ m. group_prefix m rel v) spans wid w new.kept step.link (fits step.link step.linked) step.settling in
     let same : length ps ≡ length made = differences_are_counted (tables.get old.kept) (tables.get new.kept) ps places d differ ∙ length_mapped (λ x. place val_codec x.0) made in
     subst (λ n. Rises n old.writes new.writes) (sym same) step.writes
   where

@@ -6,9 +6,8 @@ use Rattle.std.specs.Option.{option_map}
 use Rattle.std.specs.FinMap as tables
 use Rattle.std.proofs.lemmas.Bool.{cases_Bool, cond-false}
 use Rattle.bdb_base.specs.declared.kinds.Value.{Value}
-use Rattle.bdb_base.specs.declared.kinds.Value.TheVariants.{Int, Text}
 use Rattle.bdb_keep.specs.Tables.{Tables, bytes_cmp}
-use Rattle.bdb_key.specs.Grammar.{IsNum, IsPlainValue, HasPlainText}
+use Rattle.bdb_key.specs.Grammar.{IsNum}
 use Rattle.bdb_tables.specs.Codec.{HasAt, place}
 use Rattle.bdb_tables.specs.GroupMarks.{in_group}
 use Rattle.bdb_tables.specs.InUse.{ValKey, val_bytes, link_codec, tuple_codec, val_codec}
@@ -27,12 +26,6 @@ use Rattle.bdb_val.specs.declared.stored.Stored.{Stored}
 use Rattle.bdb_val.proofs.GroupLemmas.{mark_told}
 use Rattle.bdb_val.proofs.SettlingLemmas.{all_append, all_flat_map}
 use Rattle.bdb_val.proofs.ToldLemmas.{Stands, entries_stand}
-
--- ---- texts are plain
-
-pub plain_text : (v : Value) → IsPlainValue v → HasPlainText v
-plain_text (Int m) h = tt
-plain_text (Text b) h = h
 
 -- ---- changes of a group
 
@@ -58,11 +51,11 @@ group_each own from Q a b =
     cond_each P (group_change e.0 None next) (is_some (mark_under own e.0)) (change_each P e.0 next (same_mark None next) q)) from b)
 
 -- what holds of keys holds of the numbers to which they are given, and back
-all_keyed : {X : Type 0} (wid rel : ℕ) (v : Value) (Q : ℕ → Type 0) (xs : List (ℕ × X)) → AllByRecursion (λ x. Q x.0) xs → AllByRecursion (λ (e : ValKey × X). Q e.0.3) (map (in_group wid rel v) xs)
+all_keyed : {X : Type 0} (wid rel : ℕ) (v : List Value) (Q : ℕ → Type 0) (xs : List (ℕ × X)) → AllByRecursion (λ x. Q x.0) xs → AllByRecursion (λ (e : ValKey × X). Q e.0.3) (map (in_group wid rel v) xs)
 all_keyed wid rel v Q [] a = tt
 all_keyed wid rel v Q (x ∷ xs) a = (a.0, all_keyed wid rel v Q xs a.1)
 
-all_numbered : {X : Type 0} (wid rel : ℕ) (v : Value) (Q : ℕ → Type 0) (xs : List (ℕ × X)) → AllByRecursion (λ (e : ValKey × X). Q e.0.3) (map (in_group wid rel v) xs) → AllByRecursion (λ x. Q x.0) xs
+all_numbered : {X : Type 0} (wid rel : ℕ) (v : List Value) (Q : ℕ → Type 0) (xs : List (ℕ × X)) → AllByRecursion (λ (e : ValKey × X). Q e.0.3) (map (in_group wid rel v) xs) → AllByRecursion (λ x. Q x.0) xs
 all_numbered wid rel v Q [] a = tt
 all_numbered wid rel v Q (x ∷ xs) a = (a.0, all_numbered wid rel v Q xs a.1)
 
@@ -105,7 +98,7 @@ under_tuples t prefix es h u = go es (entries_stand t prefix es u)
     go (d ∷ ds) a = (h d.0 a.0.0 a.0.1, go ds a.1)
 
 -- after the changes that settle a group each row has its tuple
-pub group_keeps_tuples : (t u : Tables) (wid rel : ℕ) (v : Value) (link : Option ℕ) (own from : List (ℕ × Mark)) → HaveTuples t
+pub group_keeps_tuples : (t u : Tables) (wid rel : ℕ) (v : List Value) (link : Option ℕ) (own from : List (ℕ × Mark)) → HaveTuples t
     → AreUnder val_codec t (group_prefix wid rel v) (map (in_group wid rel v) own) → MatchOption link (from ≡ []) (λ m. AreUnder val_codec t (group_prefix m rel v) (map (in_group m rel v) from))
     → AllByRecursion (IsChange val_codec) (map (in_group wid rel v) (group_changes own from)) → u ≡ with_changes val_codec t (map (in_group wid rel v) (group_changes own from)) → HaveTuples u
 group_keeps_tuples t u wid rel v link own from h a b c w =
@@ -125,7 +118,7 @@ fits_at t wid (Some m) h = h.in_grammar
 -- ---- what is told
 
 -- what is told by numbers is told of the rows with their tuples
-pub group_tells : (t : Tables) (wid rel : ℕ) (v : Value) (es : List (ℕ × Mark)) (xs : List Stored) (made : List (ℕ × Option Mark)) (s : SettledWorld) → AreTold t (map (in_group wid rel v) es) xs
+pub group_tells : (t : Tables) (wid rel : ℕ) (v : List Value) (es : List (ℕ × Mark)) (xs : List Stored) (made : List (ℕ × Option Mark)) (s : SettledWorld) → AreTold t (map (in_group wid rel v) es) xs
     → TellsMarks (mark_under es) made s → Tells (mark_in xs) (map (in_group wid rel v) made) s
 group_tells t wid rel v es xs made s a h = record {
   turned = h.turned ∙ any_keyed (turns_at (mark_under es)) (turns (mark_in xs)) (λ x. ap (λ m. turns_from m x.1) (mark_told t wid rel v es xs a x.0)) made;

@@ -74,18 +74,18 @@ mark_of_each (x ∷ xs) all h a = elim (cases_Bool (list_any (λ y. nat_eq y.tid
           | inr c ↦ cond-false (nat_eq y.tid i) (Some y.mark) (mark_in ys i) c ∙ absent ys i (sym (ap (λ b. b || list_any (λ z. nat_eq z.tid i) ys) c) ∙ e)
         ]
 
-module _ (tuple : ℕ → Option Tuple) (f : ValKey → Option Mark) (t : Tables) (h : HasRows tuple f t) (test : Tuple → Bool) (prefix : ℕ → List ℕ) (spans : AreSpans test prefix) where
+module _ (keys : ℕ → ℕ) (tuple : ℕ → Option Tuple) (f : ValKey → Option Mark) (t : Tables) (h : HasRows keys tuple f t) (test : Tuple → Bool) (prefix : ℕ → List ℕ) (spans : AreSpans keys test prefix) where
   -- keys of one world's rows are one where their numbers are
-  same_row_key : (wid a b : ℕ) (u v : Tuple) → IsNum wid → tuple a ≡ Some u → tuple b ≡ Some v → is_eq (val_codec.key_cmp (row_key wid b v) (row_key wid a u)) ≡ nat_eq a b
+  same_row_key : (wid a b : ℕ) (u v : Tuple) → IsNum wid → tuple a ≡ Some u → tuple b ≡ Some v → is_eq (val_codec.key_cmp (row_key keys wid b v) (row_key keys wid a u)) ≡ nat_eq a b
   same_row_key wid a b u v w p q =
-      let x = row_key wid b v in
-      let y = row_key wid a u in
-      let fx = key_fits tuple f t h wid b v w q in
-      let fy = key_fits tuple f t h wid a u w p in
+      let x = row_key keys wid b v in
+      let y = row_key keys wid a u in
+      let fx = key_fits keys tuple f t h wid b v w q in
+      let fy = key_fits keys tuple f t h wid a u w p in
       ap is_eq (sym (vals_in_order x y fx fy)) ∙ elim (cases_Bool (nat_eq a b)) [
         | inl e ↦
             let i = eqb-true a b e in
-            let same : y ≡ x = ap (λ n. row_key wid n u) i ∙ ap (λ z. row_key wid b z) (one_number tuple a b u v p q i) in
+            let same : y ≡ x = ap (λ n. row_key keys wid n u) i ∙ ap (λ z. row_key keys wid b z) (one_number tuple a b u v p q i) in
             ap is_eq (tied (val_bytes x) (val_bytes y) (ap val_bytes (sym same))) ∙ sym e
         | inr e ↦ false_from_ne_true (is_eq (bytes_cmp (val_bytes x) (val_bytes y))) (λ c.
             false≢true (sym e ∙ eq-eqb a b (ap (λ (z : ValKey). z.3) (sym (vals_are_one x y fx fy (same_place (val_bytes x) (val_bytes y) c)))))) ∙ sym e
@@ -93,43 +93,43 @@ module _ (tuple : ℕ → Option Tuple) (f : ValKey → Option Mark) (t : Tables
 
   -- after changes the row of a tuple is the last one put
   pub after_changes : (wid tid : ℕ) (u : Tuple) → IsNum wid → tuple tid ≡ Some u → (cs : List Change) (g : ValKey → Option Mark) → AllByRecursion (IsOf tuple test) cs
-      → with_rows_at val_codec g (map (keyed wid) cs) (row_key wid tid u) ≡ last_mark cs tid (g (row_key wid tid u))
+      → with_rows_at val_codec g (map (keyed keys wid) cs) (row_key keys wid tid u) ≡ last_mark cs tid (g (row_key keys wid tid u))
   after_changes wid tid u w n [] g a = refl
   after_changes wid tid u w n (x ∷ xs) g a =
-      after_changes wid tid u w n xs (with_row_at val_codec g (keyed wid x)) a.1
-      ∙ ap (λ b. last_mark xs tid (cond b x.2 (g (row_key wid tid u)))) (same_row_key wid x.0 tid x.1 u w a.0.0 n)
+      after_changes wid tid u w n xs (with_row_at val_codec g (keyed keys wid x)) a.1
+      ∙ ap (λ b. last_mark xs tid (cond b x.2 (g (row_key keys wid tid u)))) (same_row_key wid x.0 tid x.1 u w a.0.0 n)
 
   -- rows of other keys stay
-  pub other_rows : (wid : ℕ) (q : ValKey) → IsNum wid → IsValKey q → ((tid : ℕ) (u : Tuple) → tuple tid ≡ Some u → test u ≡ true → q ≡ row_key wid tid u → ⊥) → (cs : List Change) (g : ValKey → Option Mark)
-      → AllByRecursion (IsOf tuple test) cs → with_rows_at val_codec g (map (keyed wid) cs) q ≡ g q
+  pub other_rows : (wid : ℕ) (q : ValKey) → IsNum wid → IsValKey q → ((tid : ℕ) (u : Tuple) → tuple tid ≡ Some u → test u ≡ true → q ≡ row_key keys wid tid u → ⊥) → (cs : List Change) (g : ValKey → Option Mark)
+      → AllByRecursion (IsOf tuple test) cs → with_rows_at val_codec g (map (keyed keys wid) cs) q ≡ g q
   other_rows wid q w v k [] g a = refl
   other_rows wid q w v k (x ∷ xs) g a =
-      let y = row_key wid x.0 x.1 in
-      let fy = key_fits tuple f t h wid x.0 x.1 w a.0.0 in
-      other_rows wid q w v k xs (with_row_at val_codec g (keyed wid x)) a.1
+      let y = row_key keys wid x.0 x.1 in
+      let fy = key_fits keys tuple f t h wid x.0 x.1 w a.0.0 in
+      other_rows wid q w v k xs (with_row_at val_codec g (keyed keys wid x)) a.1
       ∙ cond-false (is_eq (val_codec.key_cmp q y)) x.2 (g q)
       (ap is_eq (sym (vals_in_order q y v fy))
       ∙ false_from_ne_true (is_eq (bytes_cmp (val_bytes q) (val_bytes y))) (λ c. k x.0 x.1 a.0.0 a.0.1 (vals_are_one q y v fy (same_place (val_bytes q) (val_bytes y) c))))
 
   -- changes of named tuples' rows are in the grammar
-  pub changes_fit : (wid : ℕ) → IsNum wid → (cs : List Change) → AllByRecursion (IsOf tuple test) cs → AllByRecursion (IsChange val_codec) (map (keyed wid) cs)
+  pub changes_fit : (wid : ℕ) → IsNum wid → (cs : List Change) → AllByRecursion (IsOf tuple test) cs → AllByRecursion (IsChange val_codec) (map (keyed keys wid) cs)
   changes_fit wid w [] a = tt
-  changes_fit wid w (x ∷ xs) a = (record { key = key_fits tuple f t h wid x.0 x.1 w a.0.0; row = any x.2 }, changes_fit wid w xs a.1)
+  changes_fit wid w (x ∷ xs) a = (record { key = key_fits keys tuple f t h wid x.0 x.1 w a.0.0; row = any x.2 }, changes_fit wid w xs a.1)
     where
       any : (o : Option Mark) → MatchOption o (Unit {0}) (λ _. Unit {0})
       any None = tt
       any (Some m) = tt
 
-  module _ (u : Tables) (wid : ℕ) (link : Option ℕ) (w : IsNum wid) (l : MatchOption link (Unit {0}) IsNum) (s : IsSettling t u wid link prefix) where
+  module _ (u : Tables) (wid : ℕ) (link : Option ℕ) (w : IsNum wid) (l : MatchOption link (Unit {0}) IsNum) (s : IsSettling keys t u wid link prefix) where
     -- the changes that were written
     abbrev pub made : List Change
-    made = settling (λ _. 1) s.own s.own s.from
+    made = settling keys s.own s.own s.from
 
     own_named : AreNamed tuple s.own
-    own_named = read_named tuple f t h (prefix wid) s.own s.own_read
+    own_named = read_named keys tuple f t h (prefix wid) s.own s.own_read
 
     own_tested : AreTested test s.own
-    own_tested = told_tested tuple f t h wid test (prefix wid) s.own (spans wid w) s.own_read
+    own_tested = told_tested keys tuple f t h wid test (prefix wid) s.own (spans wid w) s.own_read
 
     by_link : (P : List Stored → Type 0) → P [] → ((m : ℕ) → IsNum m → AreReadUnder t (prefix m) s.from → P s.from) → P s.from
     by_link P none some = go link l s.from_read
@@ -139,43 +139,43 @@ module _ (tuple : ℕ → Option Tuple) (f : ValKey → Option Mark) (t : Tables
         go (Some m) a b = some m a b
 
     from_named : AreNamed tuple s.from
-    from_named = by_link (AreNamed tuple) tt (λ m n r. read_named tuple f t h (prefix m) s.from r)
+    from_named = by_link (AreNamed tuple) tt (λ m n r. read_named keys tuple f t h (prefix m) s.from r)
 
     from_tested : AreTested test s.from
-    from_tested = by_link (AreTested test) tt (λ m n r. told_tested tuple f t h m test (prefix m) s.from (spans m n) r)
+    from_tested = by_link (AreTested test) tt (λ m n r. told_tested keys tuple f t h m test (prefix m) s.from (spans m n) r)
 
     pub made_of : AllByRecursion (IsOf tuple test) made
-    made_of = settling_of (λ _. 1) tuple test s.own s.own s.from own_named own_named from_named own_tested own_tested from_tested
+    made_of = settling_of keys tuple test s.own s.own s.from own_named own_named from_named own_tested own_tested from_tested
 
     -- what the tables give afterwards
     abbrev pub rows_after : ValKey → Option Mark
-    rows_after = with_rows_at val_codec f (map (keyed wid) made)
+    rows_after = with_rows_at val_codec f (map (keyed keys wid) made)
 
     pub gives_after : Gives val_codec u rows_after
-    gives_after = subst (λ v. Gives val_codec v rows_after) (sym s.written) (changes_give val_codec vals_in_order t f (map (keyed wid) made) (changes_fit wid w made made_of) h.rows)
+    gives_after = subst (λ v. Gives val_codec v rows_after) (sym s.written) (changes_give val_codec vals_in_order t f (map (keyed keys wid) made) (changes_fit wid w made made_of) h.rows)
 
-    pub own_mark : (tid : ℕ) (x : Tuple) → tuple tid ≡ Some x → test x ≡ true → mark_in s.own tid ≡ f (row_key wid tid x)
-    own_mark tid x n e = read_mark tuple f t h wid test (prefix wid) s.own w (spans wid w) s.own_read tid x n e
+    pub own_mark : (tid : ℕ) (x : Tuple) → tuple tid ≡ Some x → test x ≡ true → mark_in s.own tid ≡ f (row_key keys wid tid x)
+    own_mark tid x n e = read_mark keys tuple f t h wid test (prefix wid) s.own w (spans wid w) s.own_read tid x n e
 
-    from_mark : (tid : ℕ) (x : Tuple) → tuple tid ≡ Some x → test x ≡ true → sign_of (mark_in s.from tid) ≡ sign_at (λ m. f (row_key m tid x)) link
+    from_mark : (tid : ℕ) (x : Tuple) → tuple tid ≡ Some x → test x ≡ true → sign_of (mark_in s.from tid) ≡ sign_at (λ m. f (row_key keys m tid x)) link
     from_mark tid x n e = go link l s.from_read
       where
         go : (o : Option ℕ) → MatchOption o (Unit {0}) IsNum → MatchOption o (s.from ≡ []) (λ m. AreReadUnder t (prefix m) s.from)
-            → sign_of (mark_in s.from tid) ≡ sign_at (λ m. f (row_key m tid x)) o
+            → sign_of (mark_in s.from tid) ≡ sign_at (λ m. f (row_key keys m tid x)) o
         go None a b = ap (λ xs. sign_of (mark_in xs tid)) b
-        go (Some m) a b = ap sign_of (read_mark tuple f t h m test (prefix m) s.from a (spans m a) b tid x n e)
+        go (Some m) a b = ap sign_of (read_mark keys tuple f t h m test (prefix m) s.from a (spans m a) b tid x n e)
 
     -- each tuple's row is afterwards the one that it is to have
-    pub next_after : (tid : ℕ) (x : Tuple) → tuple tid ≡ Some x → test x ≡ true → rows_after (row_key wid tid x) ≡ next_mark (λ _. 1) s.own s.from tid x
+    pub next_after : (tid : ℕ) (x : Tuple) → tuple tid ≡ Some x → test x ≡ true → rows_after (row_key keys wid tid x) ≡ next_mark keys s.own s.from tid x
     next_after tid x n e =
         after_changes wid tid x w n made f made_of ∙ ap (last_mark made tid) (sym (own_mark tid x n e))
-        ∙ settling_is_right (λ _. 1) tuple s.own s.own s.from own_named own_named from_named tid x n
+        ∙ settling_is_right keys tuple s.own s.own s.from own_named own_named from_named tid x n
 
-    module _ (stmts : List Stmt) (v : List ℕ) (stated : (tid : ℕ) (x : Tuple) → tuple tid ≡ Some x → test x ≡ true → explicit_of (f (row_key wid tid x)) ≡ explicit_sign stmts v x) where
+    module _ (stmts : List Stmt) (v : List ℕ) (stated : (tid : ℕ) (x : Tuple) → tuple tid ≡ Some x → test x ≡ true → explicit_of (f (row_key keys wid tid x)) ≡ explicit_sign stmts v x) where
       own_explicit : AreExplicit tuple test stmts v s.own
       own_explicit = record {
         named = own_named;
-        stated = each s.own own_named own_tested (mark_of_each s.own s.own (λ _ _ k. k) (read_apart tuple f t h wid test (prefix wid) s.own (spans wid w) s.own_read));
+        stated = each s.own own_named own_tested (mark_of_each s.own s.own (λ _ _ k. k) (read_apart keys tuple f t h wid test (prefix wid) s.own (spans wid w) s.own_read));
         all = λ tid x n e. ap explicit_of (own_mark tid x n e) ∙ stated tid x n e;
       }
         where
@@ -198,9 +198,9 @@ module _ (tuple : ℕ → Option Tuple) (f : ValKey → Option Mark) (t : Tables
           )
 
       -- each tuple's row is settled afterwards, by the rows of the world to which it is linked
-      pub settled_after : IsConsistent (λ _. 1) stmts → IsGroup (λ _. 1) test → AreNumbered tuple stmts → (tid : ℕ) (x : Tuple) → tuple tid ≡ Some x → test x ≡ true
-          → rows_after (row_key wid tid x) ≡ settled_mark (explicit_sign stmts v x) (contradicted (λ _. 1) stmts v x) (sign_at (λ m. f (row_key m tid x)) link)
+      pub settled_after : IsConsistent keys stmts → IsGroup keys test → AreNumbered tuple stmts → (tid : ℕ) (x : Tuple) → tuple tid ≡ Some x → test x ≡ true
+          → rows_after (row_key keys wid tid x) ≡ settled_mark (explicit_sign stmts v x) (contradicted keys stmts v x) (sign_at (λ m. f (row_key keys m tid x)) link)
       settled_after c g n tid x k e =
           next_after tid x k e
-          ∙ next_marks_are_settled (λ _. 1) stmts tuple test s.own s.from v c g n own_explicit tid x k e
-          ∙ ap (settled_mark (explicit_sign stmts v x) (contradicted (λ _. 1) stmts v x)) (from_mark tid x k e)
+          ∙ next_marks_are_settled keys stmts tuple test s.own s.from v c g n own_explicit tid x k e
+          ∙ ap (settled_mark (explicit_sign stmts v x) (contradicted keys stmts v x)) (from_mark tid x k e)

@@ -13,8 +13,8 @@ use Rattle.bdb_val.specs.Walks.{IsVisit, IsQuiet, changes_of}
 use Rattle.bdb_val.specs.declared.stored.SettledWorld.{SettledWorld}
 
 -- a step after a read, as one from before the read
-pub step_from : (old start mid : Seen) (prefix : ℕ → List ℕ) (wid : ℕ) (s : SettledWorld) → start.kept ≡ old.kept → start.writes ≡ old.writes → IsStep start mid wid prefix s → IsStep old mid wid prefix s
-step_from old start mid prefix wid s kept writes step =
+pub step_from : (keys : ℕ → ℕ) (old start mid : Seen) (prefix : ℕ → List ℕ) (wid : ℕ) (s : SettledWorld) → start.kept ≡ old.kept → start.writes ≡ old.writes → IsStep keys start mid wid prefix s → IsStep keys old mid wid prefix s
+step_from keys old start mid prefix wid s kept writes step =
     let own = step.settling.own in
     let from = step.settling.from in
     record {
@@ -25,22 +25,22 @@ step_from old start mid prefix wid s kept writes step =
         from = from;
         own_read = subst (λ (t : Tables). AreReadUnder t (prefix wid) own) kept step.settling.own_read;
         from_read = subst (λ (t : Tables). MatchOption step.link (from ≡ []) (λ m. AreReadUnder t (prefix m) from)) kept step.settling.from_read;
-        written = step.settling.written ∙ ap (λ (t : Tables). with_changes val_codec t (rows_made wid own from)) kept;
+        written = step.settling.written ∙ ap (λ (t : Tables). with_changes val_codec t (rows_made keys wid own from)) kept;
       };
       tells = step.tells;
-      writes = subst (λ n. Rises (length (rows_made wid own from)) n mid.writes) writes step.writes;
+      writes = subst (λ n. Rises (length (rows_made keys wid own from)) n mid.writes) writes step.writes;
     }
 
-module _ (old mid new : Seen) (prefix : ℕ → List ℕ) (wid : ℕ) (s : SettledWorld) (step : IsStep old mid wid prefix s) (kept : new.kept ≡ mid.kept) (writes : new.writes ≡ mid.writes) where
+module _ (keys : ℕ → ℕ) (old mid new : Seen) (prefix : ℕ → List ℕ) (wid : ℕ) (s : SettledWorld) (step : IsStep keys old mid wid prefix s) (kept : new.kept ≡ mid.kept) (writes : new.writes ≡ mid.writes) where
   -- the visit that a step made, where nothing was written after it
-  abbrev pub visited : IsVisit prefix old.kept new.kept wid
+  abbrev pub visited : IsVisit keys prefix old.kept new.kept wid
   visited = record {
     link = step.link;
     linked = step.linked;
     settling = record { own = step.settling.own; from = step.settling.from; own_read = step.settling.own_read; from_read = step.settling.from_read; written = kept ∙ step.settling.written };
   }
 
-  pub told : IsTold old new prefix wid s visited
+  pub told : IsTold keys old new prefix wid s visited
   told = record { put = step.tells.put; taken = step.tells.taken; writes = subst (Rises (length (changes_of visited)) old.writes) (sym writes) step.writes }
 
   pub quiet : s.turned ≡ false → IsQuiet visited

@@ -18,7 +18,7 @@ use Rattle.bdb_base.specs.SortedSet.{ascending}
 use Rattle.bdb_keep.specs.Seen.{Seen}
 use Rattle.bdb_keep.specs.Tables.{Tables}
 use Rattle.bdb_key.specs.Bytes.{num_bytes}
-use Rattle.bdb_key.specs.Grammar.{IsNum, IsPlainValue}
+use Rattle.bdb_key.specs.Grammar.{IsNum, AreKeyVals}
 use Rattle.bdb_key.specs.Rows.{mark_bytes}
 use Rattle.bdb_key.proofs.Forms.{tied}
 use Rattle.bdb_tables.specs.Codec.{HasAt, place}
@@ -30,7 +30,7 @@ use Rattle.bdb_tables.specs.Names.{Names, AreNames, path_of, link_of, is_listed,
 use Rattle.bdb_tables.specs.Spans.{IsUnder, entry_cmp}
 use Rattle.bdb_tables.proofs.DifferenceLemmas.{differences_add, differences_are_counted}
 use Rattle.bdb_val.specs.Counts.{has_none, TellsDifferences}
-use Rattle.bdb_val.specs.Groups.{HasLinks, IsUnsettled, TellsGroup}
+use Rattle.bdb_val.specs.Groups.{HasLinks, IsUnsettled}
 use Rattle.bdb_val.specs.Reads.{HasRows, is_of_group, group_prefix}
 use Rattle.bdb_val.specs.Settling.{Change, mark_in, next_mark, settling, IsGroup, row_key, keyed}
 use Rattle.bdb_val.specs.Steps.{AreSpans, is_new, is_gone, counted}
@@ -123,8 +123,8 @@ all_weaker P Q h (x ∷ xs) a = (h x a.0, all_weaker P Q h xs a.1)
 
 -- ---- one visit
 
-module _ (tuple : ℕ → Option Tuple) (g : ValKey → Option Mark) (u : Tables) (h : HasRows tuple g u) (test : Tuple → Bool) (prefix : ℕ → List ℕ) (spans : AreSpans test prefix)
-    (wid : ℕ) (w : IsNum wid) (v : Tables) (s : IsVisit prefix u v wid) where
+module _ (keys : ℕ → ℕ) (tuple : ℕ → Option Tuple) (g : ValKey → Option Mark) (u : Tables) (h : HasRows keys tuple g u) (test : Tuple → Bool) (prefix : ℕ → List ℕ) (spans : AreSpans keys test prefix)
+    (wid : ℕ) (w : IsNum wid) (v : Tables) (s : IsVisit keys prefix u v wid) where
   fits : MatchOption s.link (Unit {0}) IsNum
   fits = go s.link s.linked
     where
@@ -132,36 +132,36 @@ module _ (tuple : ℕ → Option Tuple) (g : ValKey → Option Mark) (u : Tables
       go None a = tt
       go (Some m) a = a.in_grammar
 
-  of : AllByRecursion (IsOf tuple test) (settling (λ _. 1) s.settling.own s.settling.own s.settling.from)
-  of = made_of tuple g u h test prefix spans v wid s.link w fits s.settling
+  of : AllByRecursion (IsOf tuple test) (settling keys s.settling.own s.settling.own s.settling.from)
+  of = made_of keys tuple g u h test prefix spans v wid s.link w fits s.settling
 
   -- the changes are of the visited world
   pub changes_in : AllByRecursion (IsIn wid) (changes_of s)
-  changes_in = go (settling (λ _. 1) s.settling.own s.settling.own s.settling.from) of
+  changes_in = go (settling keys s.settling.own s.settling.own s.settling.from) of
     where
-      go : (ds : List Change) → AllByRecursion (IsOf tuple test) ds → AllByRecursion (IsIn wid) (map (keyed wid) ds)
+      go : (ds : List Change) → AllByRecursion (IsOf tuple test) ds → AllByRecursion (IsIn wid) (map (keyed keys wid) ds)
       go [] a = tt
-      go (d ∷ ds) a = ((key_fits tuple g u h wid d.0 d.1 w a.0.0, refl), go ds a.1)
+      go (d ∷ ds) a = ((key_fits keys tuple g u h wid d.0 d.1 w a.0.0, refl), go ds a.1)
 
   pub visit_differs : AreDifferences (tables.get u) (tables.get v) (map at_place (changes_of s))
-  visit_differs = settling_differs tuple g u h test prefix spans wid w v s.link fits s.settling
+  visit_differs = settling_differs keys tuple g u h test prefix spans wid w v s.link fits s.settling
 
   some_mapped : (o : Option Mark) → is_some (option_map mark_bytes o) ≡ is_some o
   some_mapped None = refl
   some_mapped (Some m) = refl
 
   -- a change's row before, and the one afterwards
-  had : (d : Change) → IsOf tuple test d → has_none u (place val_codec (row_key wid d.0 d.1)) ≡ not (is_some (mark_in s.settling.own d.0))
+  had : (d : Change) → IsOf tuple test d → has_none u (place val_codec (row_key keys wid d.0 d.1)) ≡ not (is_some (mark_in s.settling.own d.0))
   had d a =
-      ap (λ o. not (is_some o)) (h.rows.rows (row_key wid d.0 d.1) (key_fits tuple g u h wid d.0 d.1 w a.0))
-      ∙ ap not (some_mapped (g (row_key wid d.0 d.1)))
-      ∙ ap (λ o. not (is_some o)) (sym (own_mark tuple g u h test prefix spans v wid s.link w fits s.settling d.0 d.1 a.0 a.1))
+      ap (λ o. not (is_some o)) (h.rows.rows (row_key keys wid d.0 d.1) (key_fits keys tuple g u h wid d.0 d.1 w a.0))
+      ∙ ap not (some_mapped (g (row_key keys wid d.0 d.1)))
+      ∙ ap (λ o. not (is_some o)) (sym (own_mark keys tuple g u h test prefix spans v wid s.link w fits s.settling d.0 d.1 a.0 a.1))
 
-  gets : (d : Change) → IsOf tuple test d → d.2 ≡ next_mark (λ _. 1) s.settling.own s.settling.from d.0 d.1 → has_none v (place val_codec (row_key wid d.0 d.1)) ≡ not (is_some d.2)
+  gets : (d : Change) → IsOf tuple test d → d.2 ≡ next_mark keys s.settling.own s.settling.from d.0 d.1 → has_none v (place val_codec (row_key keys wid d.0 d.1)) ≡ not (is_some d.2)
   gets d a e =
-      ap (λ o. not (is_some o)) ((gives_after tuple g u h test prefix spans v wid s.link w fits s.settling).rows (row_key wid d.0 d.1) (key_fits tuple g u h wid d.0 d.1 w a.0))
-      ∙ ap not (some_mapped (rows_after tuple g u h test prefix spans v wid s.link w fits s.settling (row_key wid d.0 d.1)))
-      ∙ ap (λ o. not (is_some o)) (next_after tuple g u h test prefix spans v wid s.link w fits s.settling d.0 d.1 a.0 a.1 ∙ sym e)
+      ap (λ o. not (is_some o)) ((gives_after keys tuple g u h test prefix spans v wid s.link w fits s.settling).rows (row_key keys wid d.0 d.1) (key_fits keys tuple g u h wid d.0 d.1 w a.0))
+      ∙ ap not (some_mapped (rows_after keys tuple g u h test prefix spans v wid s.link w fits s.settling (row_key keys wid d.0 d.1)))
+      ∙ ap (λ o. not (is_some o)) (next_after keys tuple g u h test prefix spans v wid s.link w fits s.settling d.0 d.1 a.0 a.1 ∙ sym e)
 
   new_is : (m n : Option Mark) → (m ≢ n) → (not (is_some m) && is_some n) ≡ not (is_some m)
   new_is None None r = absurd (r refl)
@@ -173,36 +173,36 @@ module _ (tuple : ℕ → Option Tuple) (g : ValKey → Option Mark) (u : Tables
   gone_is None (Some n) r = refl
   gone_is (Some m) n r = refl
 
-  real : AllByRecursion (λ d. mark_in s.settling.own d.0 ≢ d.2) (settling (λ _. 1) s.settling.own s.settling.own s.settling.from)
-  real = settling_is_real (λ _. 1) s.settling.own s.settling.own s.settling.from
+  real : AllByRecursion (λ d. mark_in s.settling.own d.0 ≢ d.2) (settling keys s.settling.own s.settling.own s.settling.from)
+  real = settling_is_real keys s.settling.own s.settling.own s.settling.from
 
-  nexts : AllByRecursion (λ d. d.2 ≡ next_mark (λ _. 1) s.settling.own s.settling.from d.0 d.1) (settling (λ _. 1) s.settling.own s.settling.own s.settling.from)
-  nexts = settling_each (λ _. 1) s.settling.own s.settling.own s.settling.from (λ _. Unit {0}) (λ d. d.2 ≡ next_mark (λ _. 1) s.settling.own s.settling.from d.0 d.1)
-      (λ x _. change_each (λ _. 1) s.settling.own s.settling.own s.settling.from (λ d. d.2 ≡ next_mark (λ _. 1) s.settling.own s.settling.from d.0 d.1) x (λ _. refl))
+  nexts : AllByRecursion (λ d. d.2 ≡ next_mark keys s.settling.own s.settling.from d.0 d.1) (settling keys s.settling.own s.settling.own s.settling.from)
+  nexts = settling_each keys s.settling.own s.settling.own s.settling.from (λ _. Unit {0}) (λ d. d.2 ≡ next_mark keys s.settling.own s.settling.from d.0 d.1)
+      (λ x _. change_each keys s.settling.own s.settling.own s.settling.from (λ d. d.2 ≡ next_mark keys s.settling.own s.settling.from d.0 d.1) x (λ _. refl))
       (all_of (λ _. Unit {0}) (λ _. tt) s.settling.own) (all_of (λ _. Unit {0}) (λ _. tt) s.settling.own) (all_of (λ _. Unit {0}) (λ _. tt) s.settling.from)
 
   -- so many of the places had no row before
   pub put_counts : put_by s ≡ length (filter (has_none u) (map at_place (changes_of s)))
-  put_counts = filter_mapped (is_new (mark_in s.settling.own)) (has_none u) at_place (changes_of s) (go (settling (λ _. 1) s.settling.own s.settling.own s.settling.from) of real)
+  put_counts = filter_mapped (is_new (mark_in s.settling.own)) (has_none u) at_place (changes_of s) (go (settling keys s.settling.own s.settling.own s.settling.from) of real)
     where
       go : (ds : List Change) → AllByRecursion (IsOf tuple test) ds → AllByRecursion (λ d. mark_in s.settling.own d.0 ≢ d.2) ds
-          → AllByRecursion (λ x. is_new (mark_in s.settling.own) x ≡ has_none u (at_place x)) (map (keyed wid) ds)
+          → AllByRecursion (λ x. is_new (mark_in s.settling.own) x ≡ has_none u (at_place x)) (map (keyed keys wid) ds)
       go [] a b = tt
       go (d ∷ ds) a b = (new_is (mark_in s.settling.own d.0) d.2 b.0 ∙ sym (had d a.0), go ds a.1 b.1)
 
   -- so many have none afterwards
   pub taken_counts : taken_by s ≡ length (filter (has_none v) (map at_place (changes_of s)))
-  taken_counts = filter_mapped (is_gone (mark_in s.settling.own)) (has_none v) at_place (changes_of s) (go (settling (λ _. 1) s.settling.own s.settling.own s.settling.from) of real nexts)
+  taken_counts = filter_mapped (is_gone (mark_in s.settling.own)) (has_none v) at_place (changes_of s) (go (settling keys s.settling.own s.settling.own s.settling.from) of real nexts)
     where
       go : (ds : List Change) → AllByRecursion (IsOf tuple test) ds → AllByRecursion (λ d. mark_in s.settling.own d.0 ≢ d.2) ds
-          → AllByRecursion (λ d. d.2 ≡ next_mark (λ _. 1) s.settling.own s.settling.from d.0 d.1) ds → AllByRecursion (λ x. is_gone (mark_in s.settling.own) x ≡ has_none v (at_place x)) (map (keyed wid) ds)
+          → AllByRecursion (λ d. d.2 ≡ next_mark keys s.settling.own s.settling.from d.0 d.1) ds → AllByRecursion (λ x. is_gone (mark_in s.settling.own) x ≡ has_none v (at_place x)) (map (keyed keys wid) ds)
       go [] a b e = tt
       go (d ∷ ds) a b e = (gone_is (mark_in s.settling.own d.0) d.2 b.0 ∙ sym (gets d a.0 e.0), go ds a.1 b.1 e.1)
 
 -- ---- the walk
 
-module _ (stmts : List Stmt) (ns : Names) (tuple : ℕ → Option Tuple) (test : Tuple → Bool) (prefix : ℕ → List ℕ) (names : AreNames ns) (spans : AreSpans test prefix) (group : IsGroup (λ _. 1) test)
-    (f : ValKey → Option Mark) (t : Tables) (start : ℕ) (h : IsUnsettled stmts ns tuple f t start test) where
+module _ (keys : ℕ → ℕ) (stmts : List Stmt) (ns : Names) (tuple : ℕ → Option Tuple) (test : Tuple → Bool) (prefix : ℕ → List ℕ) (names : AreNames ns) (spans : AreSpans keys test prefix) (group : IsGroup keys test)
+    (f : ValKey → Option Mark) (t : Tables) (start : ℕ) (h : IsUnsettled keys stmts ns tuple f t start test) where
   -- the path of the world at which the walk begins
   pub root : (w : List ℕ) × (path_of ns start ≡ Some w)
   root = some_is (path_of ns start) h.named
@@ -230,13 +230,13 @@ module _ (stmts : List Stmt) (ns : Names) (tuple : ℕ → Option Tuple) (test :
   start_number : IsNum start
   start_number = h.explicit.sized start root.0 root.1
 
-  walk_first : (u : Tables) (more : List ℕ) (s : IsVisit prefix t u start) → AreLinkedTo u start more → HasLinks ns u → HasWalked u more (changes_of s) (put_by s) (taken_by s)
+  walk_first : (u : Tables) (more : List ℕ) (s : IsVisit keys prefix t u start) → AreLinkedTo u start more → HasLinks ns u → HasWalked u more (changes_of s) (put_by s) (taken_by s)
   walk_first u more s l links =
       let children = listed_links u links start more start_number l in
       let deeper = λ (m : ℕ) (w : List ℕ) (k : is_listed m more ≡ true) (p : path_of ns m ≡ Some w). link_is_shorter ns names m start w root.0 p root.1 (children m k) in
       record {
         seen = λ m. nat_eq m start;
-        in_seen = all_weaker (IsIn start) (λ x. IsValKey x.0 × (nat_eq x.0.0 start ≡ true)) (λ x a. (a.0, eq-eqb x.0.0 start a.1)) (changes_of s) (changes_in tuple f t h.explicit.rows test prefix spans start start_number u s);
+        in_seen = all_weaker (IsIn start) (λ x. IsValKey x.0 × (nat_eq x.0.0 start ≡ true)) (λ x a. (a.0, eq-eqb x.0.0 start a.1)) (changes_of s) (changes_in keys tuple f t h.explicit.rows test prefix spans start start_number u s);
         unseen = λ m k. false_from_ne_true (nat_eq m start) (λ e. no_loop ns names start root.0 root.1 (ap (link_of ns) (sym (eqb-true m start e)) ∙ children m k));
         once = linked_once u start more start_number l;
         linked = λ m k e. elim (or_cases (nat_eq m start) (is_listed m more) k) [
@@ -250,16 +250,16 @@ module _ (stmts : List Stmt) (ns : Names) (tuple : ℕ → Option Tuple) (test :
               omega arith
           | inr a ↦ let lt = deeper m w a p in omega (arith, lt)
         ];
-        differ = visit_differs tuple f t h.explicit.rows test prefix spans start start_number u s;
-        puts = put_counts tuple f t h.explicit.rows test prefix spans start start_number u s;
-        takes = taken_counts tuple f t h.explicit.rows test prefix spans start start_number u s;
+        differ = visit_differs keys tuple f t h.explicit.rows test prefix spans start start_number u s;
+        puts = put_counts keys tuple f t h.explicit.rows test prefix spans start start_number u s;
+        takes = taken_counts keys tuple f t h.explicit.rows test prefix spans start start_number u s;
       }
     where
       some_path : (a b : List ℕ) → Some a ≡ Some b → a ≡ b
       some_path a b e = cc
 
-  walk_next : (g : ValKey → Option Mark) (u v : Tables) (wid : ℕ) (left more : List ℕ) (made : List (ValKey × Option Mark)) (put taken : ℕ) → HasWalked u (wid ∷ left) made put taken → HasRows tuple g u
-      → (w : List ℕ) → path_of ns wid ≡ Some w → IsNum wid → (s : IsVisit prefix u v wid) → are_once more ≡ true → ((m : ℕ) → is_listed m more ≡ true → link_of ns m ≡ Some wid)
+  walk_next : (g : ValKey → Option Mark) (u v : Tables) (wid : ℕ) (left more : List ℕ) (made : List (ValKey × Option Mark)) (put taken : ℕ) → HasWalked u (wid ∷ left) made put taken → HasRows keys tuple g u
+      → (w : List ℕ) → path_of ns wid ≡ Some w → IsNum wid → (s : IsVisit keys prefix u v wid) → are_once more ≡ true → ((m : ℕ) → is_listed m more ≡ true → link_of ns m ≡ Some wid)
       → HasWalked v (left ++ more) (made ++ changes_of s) (put + put_by s) (taken + taken_by s)
   walk_next g u v wid left more made put taken k rows w named n s once children =
       let cs = changes_of s in
@@ -292,19 +292,19 @@ module _ (stmts : List Stmt) (ns : Names) (tuple : ℕ → Option Tuple) (test :
         ];
         differ = subst (AreDifferences (tables.get t) (tables.get v)) (sym (map-append at_place made cs)) (differences_add (tables.get t) (tables.get u) (tables.get v) before here k.differ differs apart);
         puts = ap (λ z. z + put_by s) k.puts ∙ ap (λ z. length (filter (has_none t) before) + z)
-            (put_counts tuple g u rows test prefix spans wid n v s ∙ filter_alike (has_none u) (has_none t) here (all_weaker (λ p. list_any (same_text p) before ≡ false) (λ p. has_none u p ≡ has_none t p) (λ p out. ap (λ o. not (is_some o)) (sym (k.differ.only p out))) here turned))
+            (put_counts keys tuple g u rows test prefix spans wid n v s ∙ filter_alike (has_none u) (has_none t) here (all_weaker (λ p. list_any (same_text p) before ≡ false) (λ p. has_none u p ≡ has_none t p) (λ p out. ap (λ o. not (is_some o)) (sym (k.differ.only p out))) here turned))
             ∙ joined (has_none t);
         takes = ap (λ z. z + taken_by s) k.takes
             ∙ ap (λ z. z + taken_by s) (filter_alike (has_none u) (has_none v) before (all_weaker (λ p. list_any (same_text p) here ≡ false) (λ p. has_none u p ≡ has_none v p) (λ p out. ap (λ o. not (is_some o)) (differs.only p out)) before apart))
-            ∙ ap (λ z. length (filter (has_none v) before) + z) (taken_counts tuple g u rows test prefix spans wid n v s)
+            ∙ ap (λ z. length (filter (has_none v) before) + z) (taken_counts keys tuple g u rows test prefix spans wid n v s)
             ∙ joined (has_none v);
       }
     where
       inside : AllByRecursion (IsIn wid) (changes_of s)
-      inside = changes_in tuple g u rows test prefix spans wid n v s
+      inside = changes_in keys tuple g u rows test prefix spans wid n v s
 
       differs : AreDifferences (tables.get u) (tables.get v) (map at_place (changes_of s))
-      differs = visit_differs tuple g u rows test prefix spans wid n v s
+      differs = visit_differs keys tuple g u rows test prefix spans wid n v s
 
       parts : (are_once left ≡ true) × (is_listed wid left ≡ false)
       parts = once_parts left wid k.once
@@ -356,11 +356,11 @@ module _ (stmts : List Stmt) (ns : Names) (tuple : ℕ → Option Tuple) (test :
           ∙ ap length (sym (filter-append p (map at_place made) (map at_place (changes_of s)))) ∙ ap (λ z. length (filter p z)) (sym (map-append at_place made (changes_of s)))
 
   -- in the middle of a walk no world came twice
-  pub walk_once : (u : Tables) (left : List ℕ) (made : List (ValKey × Option Mark)) (put taken : ℕ) → Walked prefix t start u left made put taken → HasWalked u left made put taken
-  walk_once _ _ _ _ _ (first u more s l) = walk_first u more s l (walk_on_way stmts ns tuple test prefix names spans group f t start h u more (changes_of s) (put_by s) (taken_by s) (first u more s l)).links
+  pub walk_once : (u : Tables) (left : List ℕ) (made : List (ValKey × Option Mark)) (put taken : ℕ) → Walked keys prefix t start u left made put taken → HasWalked u left made put taken
+  walk_once _ _ _ _ _ (first u more s l) = walk_first u more s l (walk_on_way keys stmts ns tuple test prefix names spans group f t start h u more (changes_of s) (put_by s) (taken_by s) (first u more s l)).links
   walk_once _ _ _ _ _ (next u v wid left more made put taken walked s l) =
-      let way = walk_on_way stmts ns tuple test prefix names spans group f t start h u (wid ∷ left) made put taken walked in
-      let after = walk_on_way stmts ns tuple test prefix names spans group f t start h v (left ++ more) (made ++ changes_of s) (put + put_by s) (taken + taken_by s) (next u v wid left more made put taken walked s l) in
+      let way = walk_on_way keys stmts ns tuple test prefix names spans group f t start h u (wid ∷ left) made put taken walked in
+      let after = walk_on_way keys stmts ns tuple test prefix names spans group f t start h v (left ++ more) (made ++ changes_of s) (put + put_by s) (taken + taken_by s) (next u v wid left more made put taken walked s l) in
       let named = some_is (path_of ns wid) (way.named wid (or_left (nat_eq wid wid) (is_listed wid left) (eq-eqb wid wid refl))) in
       let n = way.explicit.sized wid named.0 named.1 in
       let k = walk_once u (wid ∷ left) made put taken walked in
@@ -381,8 +381,9 @@ tells_from old new made put taken k rises a b ps d = record {
 }
 
 -- what a walk tells of a group
-pub walk_tells : (old new : Seen) (wid rel : ℕ) (v : Value) (left : List ℕ) (made : List (ValKey × Option Mark)) (put taken : ℕ) (s : Settled) → IsNum rel → IsPlainValue v
-    → Walked (λ w. group_prefix w rel v) old.kept wid new.kept left made put taken → s.put ≡ counted put → s.taken ≡ counted taken → Rises (length made) old.writes new.writes → TellsGroup old new wid rel v s
-walk_tells old new wid rel v left made put taken s r p walked a b rises stmts ns tuple f h =
-    let k = walk_once stmts ns tuple (is_of_group rel v) (λ w. group_prefix w rel v) h.names (λ w n. group_span w rel v n r p) (is_group rel v) f old.kept wid h new.kept left made put taken walked in
+pub walk_tells : (keys : ℕ → ℕ) (old new : Seen) (wid rel : ℕ) (v : List Value) (left : List ℕ) (made : List (ValKey × Option Mark)) (put taken : ℕ) (s : Settled) → IsNum rel → AreKeyVals v
+    → Walked keys (λ w. group_prefix w rel v) old.kept wid new.kept left made put taken → s.put ≡ counted put → s.taken ≡ counted taken → Rises (length made) old.writes new.writes
+    → (stmts : List Stmt) (ns : Names) (tuple : ℕ → Option Tuple) (f : ValKey → Option Mark) → IsUnsettled keys stmts ns tuple f old.kept wid (is_of_group keys rel v) → TellsDifferences old new s.put s.taken
+walk_tells keys old new wid rel v left made put taken s r p walked a b rises stmts ns tuple f h =
+    let k = walk_once keys stmts ns tuple (is_of_group keys rel v) (λ w. group_prefix w rel v) h.names (λ w n. group_span keys h.explicit.rows.lengths w rel v n r p) (is_group keys rel v) f old.kept wid h new.kept left made put taken walked in
     tells_from old new made s.put s.taken k.differ rises (a ∙ ap counted k.puts) (b ∙ ap counted k.takes)

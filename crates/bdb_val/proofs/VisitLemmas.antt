@@ -107,17 +107,17 @@ linked_is_named ns wid m e = go (path_of ns wid) refl
 -- ---- rows after changes of one world
 
 -- a row that there is after changes was there before, or is that of a change
-changed_row : (wid : ℕ) (tuple : ℕ → Option Tuple) (test : Tuple → Bool) (f : ValKey → Option Mark) (t : Tables) → HasRows tuple f t → IsNum wid → (k : ValKey) → IsValKey k
-    → (cs : List Change) (g : ValKey → Option Mark) → AllByRecursion (IsOf tuple test) cs → is_some (with_rows_at val_codec g (map (keyed wid) cs) k) ≡ true
-    → (is_some (g k) ≡ true) ⊎ ((tid : ℕ) × (u : Tuple) × (tuple tid ≡ Some u) × (k ≡ row_key wid tid u))
-changed_row wid tuple test f t h n k v [] g a s = inl s
-changed_row wid tuple test f t h n k v (x ∷ xs) g a s = elim (changed_row wid tuple test f t h n k v xs (with_row_at val_codec g (keyed wid x)) a.1 s) [
+changed_row : (keys : ℕ → ℕ) (wid : ℕ) (tuple : ℕ → Option Tuple) (test : Tuple → Bool) (f : ValKey → Option Mark) (t : Tables) → HasRows keys tuple f t → IsNum wid → (k : ValKey) → IsValKey k
+    → (cs : List Change) (g : ValKey → Option Mark) → AllByRecursion (IsOf tuple test) cs → is_some (with_rows_at val_codec g (map (keyed keys wid) cs) k) ≡ true
+    → (is_some (g k) ≡ true) ⊎ ((tid : ℕ) × (u : Tuple) × (tuple tid ≡ Some u) × (k ≡ row_key keys wid tid u))
+changed_row keys wid tuple test f t h n k v [] g a s = inl s
+changed_row keys wid tuple test f t h n k v (x ∷ xs) g a s = elim (changed_row keys wid tuple test f t h n k v xs (with_row_at val_codec g (keyed keys wid x)) a.1 s) [
   | inr r ↦ inr r
-  | inl e ↦ elim (cases_Bool (is_eq (val_codec.key_cmp k (row_key wid x.0 x.1)))) [
+  | inl e ↦ elim (cases_Bool (is_eq (val_codec.key_cmp k (row_key keys wid x.0 x.1)))) [
     | inl c ↦
-        let fits = key_fits tuple f t h wid x.0 x.1 n a.0.0 in
-        inr (x.0, x.1, a.0.0, vals_are_one k (row_key wid x.0 x.1) v fits (same_place (val_bytes k) (val_bytes (row_key wid x.0 x.1)) (ap is_eq (vals_in_order k (row_key wid x.0 x.1) v fits) ∙ c)))
-    | inr c ↦ inl (ap is_some (sym (cond-false (is_eq (val_codec.key_cmp k (row_key wid x.0 x.1))) x.2 (g k) c)) ∙ e)
+        let fits = key_fits keys tuple f t h wid x.0 x.1 n a.0.0 in
+        inr (x.0, x.1, a.0.0, vals_are_one k (row_key keys wid x.0 x.1) v fits (same_place (val_bytes k) (val_bytes (row_key keys wid x.0 x.1)) (ap is_eq (vals_in_order k (row_key keys wid x.0 x.1) v fits) ∙ c)))
+    | inr c ↦ inl (ap is_some (sym (cond-false (is_eq (val_codec.key_cmp k (row_key keys wid x.0 x.1))) x.2 (g k) c)) ∙ e)
   ]
 ]
 
@@ -146,18 +146,18 @@ last_sign (c ∷ cs) tid m z a e = last_sign cs tid (cond (nat_eq c.0 tid) c.2 m
   | inr k ↦ ap sign_of (cond-false (nat_eq c.0 tid) c.2 m k) ∙ e
 ])
 
-quiet_each : (wid : ℕ) (own : List Stored) (cs : List Change) → list_any (turns (mark_in own)) (map (keyed wid) cs) ≡ false → (tid : ℕ)
+quiet_each : (keys : ℕ → ℕ) (wid : ℕ) (own : List Stored) (cs : List Change) → list_any (turns (mark_in own)) (map (keyed keys wid) cs) ≡ false → (tid : ℕ)
     → AllByRecursion (λ c. nat_eq c.0 tid ≡ true → sign_of c.2 ≡ sign_of (mark_in own tid)) cs
-quiet_each wid own [] q tid = tt
-quiet_each wid own (c ∷ cs) q tid =
-    let p = or_parts (turns (mark_in own) (keyed wid c)) (list_any (turns (mark_in own)) (map (keyed wid) cs)) q in (
+quiet_each keys wid own [] q tid = tt
+quiet_each keys wid own (c ∷ cs) q tid =
+    let p = or_parts (turns (mark_in own) (keyed keys wid c)) (list_any (turns (mark_in own)) (map (keyed keys wid) cs)) q in (
       (λ k. sym (same_signs_tells (sign_of (mark_in own c.0)) (sign_of c.2) (not-false (same_signs (sign_of (mark_in own c.0)) (sign_of c.2)) p.0))
           ∙ ap (λ i. sign_of (mark_in own i)) (eqb-true c.0 tid k)),
-      quiet_each wid own cs p.1 tid,
+      quiet_each keys wid own cs p.1 tid,
     )
 
-module _ (stmts : List Stmt) (ns : Names) (tuple : ℕ → Option Tuple) (test : Tuple → Bool) (prefix : ℕ → List ℕ) (names : AreNames ns) (spans : AreSpans test prefix) (group : IsGroup (λ _. 1) test)
-    (g : ValKey → Option Mark) (u v : Tables) (h : HasExplicit stmts (worlds_of ns) tuple g u) (links : HasLinks ns u) (wid : ℕ) (w : List ℕ) (named : path_of ns wid ≡ Some w) (s : IsVisit prefix u v wid) where
+module _ (keys : ℕ → ℕ) (stmts : List Stmt) (ns : Names) (tuple : ℕ → Option Tuple) (test : Tuple → Bool) (prefix : ℕ → List ℕ) (names : AreNames ns) (spans : AreSpans keys test prefix) (group : IsGroup keys test)
+    (g : ValKey → Option Mark) (u v : Tables) (h : HasExplicit keys stmts (worlds_of ns) tuple g u) (links : HasLinks ns u) (wid : ℕ) (w : List ℕ) (named : path_of ns wid ≡ Some w) (s : IsVisit keys prefix u v wid) where
   number : IsNum wid
   number = h.sized wid w named
 
@@ -171,27 +171,27 @@ module _ (stmts : List Stmt) (ns : Names) (tuple : ℕ → Option Tuple) (test :
   abbrev pub seen : ValKey → Option Mark
   seen = with_rows_at val_codec g (changes_of s)
 
-  of : AllByRecursion (IsOf tuple test) (settling (λ _. 1) s.settling.own s.settling.own s.settling.from)
-  of = made_of tuple g u h.rows test prefix spans v wid s.link number fits s.settling
+  of : AllByRecursion (IsOf tuple test) (settling keys s.settling.own s.settling.own s.settling.from)
+  of = made_of keys tuple g u h.rows test prefix spans v wid s.link number fits s.settling
 
   -- rows of other worlds, and of other tuples, stay
-  pub stays : (k : ValKey) → IsValKey k → ((tid : ℕ) (x : Tuple) → tuple tid ≡ Some x → test x ≡ true → k ≡ row_key wid tid x → ⊥) → seen k ≡ g k
-  stays k f bad = other_rows tuple g u h.rows test prefix spans wid k number f bad (settling (λ _. 1) s.settling.own s.settling.own s.settling.from) g of
+  pub stays : (k : ValKey) → IsValKey k → ((tid : ℕ) (x : Tuple) → tuple tid ≡ Some x → test x ≡ true → k ≡ row_key keys wid tid x → ⊥) → seen k ≡ g k
+  stays k f bad = other_rows keys tuple g u h.rows test prefix spans wid k number f bad (settling keys s.settling.own s.settling.own s.settling.from) g of
 
-  pub other_world : (m tid : ℕ) (x : Tuple) → IsNum m → tuple tid ≡ Some x → (m ≡ wid → ⊥) → seen (row_key m tid x) ≡ g (row_key m tid x)
-  other_world m tid x n p bad = stays (row_key m tid x) (key_fits tuple g u h.rows m tid x n p) (λ i y q e k. bad (ap (λ (z : ValKey). z.0) k))
+  pub other_world : (m tid : ℕ) (x : Tuple) → IsNum m → tuple tid ≡ Some x → (m ≡ wid → ⊥) → seen (row_key keys m tid x) ≡ g (row_key keys m tid x)
+  other_world m tid x n p bad = stays (row_key keys m tid x) (key_fits keys tuple g u h.rows m tid x n p) (λ i y q e k. bad (ap (λ (z : ValKey). z.0) k))
 
-  pub other_tuple : (m tid : ℕ) (x : Tuple) → IsNum m → tuple tid ≡ Some x → test x ≡ false → seen (row_key m tid x) ≡ g (row_key m tid x)
-  other_tuple m tid x n p out = stays (row_key m tid x) (key_fits tuple g u h.rows m tid x n p) (λ i y q e k.
+  pub other_tuple : (m tid : ℕ) (x : Tuple) → IsNum m → tuple tid ≡ Some x → test x ≡ false → seen (row_key keys m tid x) ≡ g (row_key keys m tid x)
+  other_tuple m tid x n p out = stays (row_key keys m tid x) (key_fits keys tuple g u h.rows m tid x n p) (λ i y q e k.
       false≢true (sym out ∙ ap test (one_number tuple tid i x y p q (ap (λ (z : ValKey). z.3) k)) ∙ e))
 
   pub gives_seen : Gives val_codec v seen
-  gives_seen = gives_after tuple g u h.rows test prefix spans v wid s.link number fits s.settling
+  gives_seen = gives_after keys tuple g u h.rows test prefix spans v wid s.link number fits s.settling
 
   -- the visited world's row of a tuple is settled by the rows before
   here : (tid : ℕ) (x : Tuple) → tuple tid ≡ Some x → test x ≡ true
-      → seen (row_key wid tid x) ≡ settled_mark (explicit_sign stmts w x) (contradicted (λ _. 1) stmts w x) (sign_at (λ m. g (row_key m tid x)) s.link)
-  here tid x p e = settled_after tuple g u h.rows test prefix spans v wid s.link number fits s.settling stmts w (λ i y q f. h.explicit wid w i y named q) h.consistent group h.numbered tid x p e
+      → seen (row_key keys wid tid x) ≡ settled_mark (explicit_sign stmts w x) (contradicted keys stmts w x) (sign_at (λ m. g (row_key keys m tid x)) s.link)
+  here tid x p e = settled_after keys tuple g u h.rows test prefix spans v wid s.link number fits s.settling stmts w (λ i y q f. h.explicit wid w i y named q) h.consistent group h.numbered tid x p e
 
   -- ---- what holds of the tables after the visit
 
@@ -205,18 +205,19 @@ module _ (stmts : List Stmt) (ns : Names) (tuple : ℕ → Option Tuple) (test :
         (changes_elsewhere linked_codec val_codec (λ e. cc) u (λ k. row_where (leads_to (link_of ns k.1) k.0)) (changes_of s) links.linked);
   }
 
-  seen_or : (k : ValKey) → IsValKey k → is_some (seen k) ≡ true → (is_some (g k) ≡ true) ⊎ ((tid : ℕ) × (x : Tuple) × (tuple tid ≡ Some x) × (k ≡ row_key wid tid x))
-  seen_or k f e = changed_row wid tuple test g u h.rows number k f (settling (λ _. 1) s.settling.own s.settling.own s.settling.from) g of e
+  seen_or : (k : ValKey) → IsValKey k → is_some (seen k) ≡ true → (is_some (g k) ≡ true) ⊎ ((tid : ℕ) × (x : Tuple) × (tuple tid ≡ Some x) × (k ≡ row_key keys wid tid x))
+  seen_or k f e = changed_row keys wid tuple test g u h.rows number k f (settling keys s.settling.own s.settling.own s.settling.from) g of e
 
-  pub explicit_after : HasExplicit stmts (worlds_of ns) tuple seen v
+  pub explicit_after : HasExplicit keys stmts (worlds_of ns) tuple seen v
   explicit_after = record {
     rows = record {
+      lengths = h.rows.lengths;
       tuples = tuples_seen;
       rows = gives_seen;
       sized = h.rows.sized;
       keyed = λ k f e. elim (seen_or k f e) [
         | inl a ↦ h.rows.keyed k f a
-        | inr r ↦ (r.1, ap (λ (z : ValKey). tuple z.3) r.3 ∙ r.2, ap (λ (z : ValKey). row_key z.0 z.3 r.1) r.3 ∙ sym r.3)
+        | inr r ↦ (r.1, ap (λ (z : ValKey). tuple z.3) r.3 ∙ r.2, ap (λ (z : ValKey). row_key keys z.0 z.3 r.1) r.3 ∙ sym r.3)
       ];
     };
     sized = h.sized;
@@ -229,8 +230,8 @@ module _ (stmts : List Stmt) (ns : Names) (tuple : ℕ → Option Tuple) (test :
           let k = and_parts (nat_eq m wid) (test x) e in
           let i : m ≡ wid = eqb-true m wid k.0 in
           let same : w ≡ p = one_path w p (sym named ∙ ap (path_of ns) (sym i) ∙ a) in
-          ap (λ (z : ℕ). explicit_of (seen (row_key z tid x))) i ∙ ap explicit_of (here tid x b k.1)
-          ∙ explicit_settled (explicit_sign stmts w x) (contradicted (λ _. 1) stmts w x) (sign_at (λ z. g (row_key z tid x)) s.link) ∙ ap (λ (z : List ℕ). explicit_sign stmts z x) same
+          ap (λ (z : ℕ). explicit_of (seen (row_key keys z tid x))) i ∙ ap explicit_of (here tid x b k.1)
+          ∙ explicit_settled (explicit_sign stmts w x) (contradicted keys stmts w x) (sign_at (λ z. g (row_key keys z tid x)) s.link) ∙ ap (λ (z : List ℕ). explicit_sign stmts z x) same
       | inr e ↦ elim (and_cases (nat_eq m wid) (test x) e) [
         | inl c ↦ ap explicit_of (other_world m tid x (h.sized m p a) b (λ i. false≢true (sym c ∙ eq-eqb m wid i))) ∙ h.explicit m p tid x a b
         | inr c ↦ ap explicit_of (other_tuple m tid x (h.sized m p a) b c) ∙ h.explicit m p tid x a b
@@ -247,53 +248,53 @@ module _ (stmts : List Stmt) (ns : Names) (tuple : ℕ → Option Tuple) (test :
 
   -- the sign over a link to another world stays
   same_link : (o : Option ℕ) (tid : ℕ) (x : Tuple) → tuple tid ≡ Some x → MatchOption o (Unit {0}) IsNum → ((m : ℕ) → o ≡ Some m → m ≡ wid → ⊥)
-      → sign_at (λ m. g (row_key m tid x)) o ≡ sign_at (λ m. seen (row_key m tid x)) o
+      → sign_at (λ m. g (row_key keys m tid x)) o ≡ sign_at (λ m. seen (row_key keys m tid x)) o
   same_link None tid x p n bad = refl
   same_link (Some m) tid x p n bad = ap sign_of (sym (other_world m tid x n p (bad m refl)))
 
   -- the visited world is settled
-  pub settled_here : (tid : ℕ) (x : Tuple) → tuple tid ≡ Some x → test x ≡ true → IsSettledAt stmts (worlds_of ns) seen wid tid x
+  pub settled_here : (tid : ℕ) (x : Tuple) → tuple tid ≡ Some x → test x ≡ true → IsSettledAt keys stmts (worlds_of ns) seen wid tid x
   settled_here tid x p e q a =
       let same : w ≡ q = one_path w q (sym named ∙ a) in
       here tid x p e
-      ∙ ap (settled_mark (explicit_sign stmts w x) (contradicted (λ _. 1) stmts w x))
-      (same_link s.link tid x p fits (λ m k i. no_loop ns names wid w named (sym is_link ∙ k ∙ ap Some i)) ∙ ap (sign_at (λ m. seen (row_key m tid x))) is_link)
-      ∙ ap (λ (z : List ℕ). settled_mark (explicit_sign stmts z x) (contradicted (λ _. 1) stmts z x) (sign_at (λ m. seen (row_key m tid x)) (link_of ns wid))) same
+      ∙ ap (settled_mark (explicit_sign stmts w x) (contradicted keys stmts w x))
+      (same_link s.link tid x p fits (λ m k i. no_loop ns names wid w named (sym is_link ∙ k ∙ ap Some i)) ∙ ap (sign_at (λ m. seen (row_key keys m tid x))) is_link)
+      ∙ ap (λ (z : List ℕ). settled_mark (explicit_sign stmts z x) (contradicted keys stmts z x) (sign_at (λ m. seen (row_key keys m tid x)) (link_of ns wid))) same
     where
       one_path : (a b : List ℕ) → Some a ≡ Some b → a ≡ b
       one_path a b e = cc
 
   -- another world stays settled, unless it is linked to the visited one, where a sign is another
-  pub settled_there : (m tid : ℕ) (x : Tuple) → tuple tid ≡ Some x → (m ≡ wid → ⊥) → (link_of ns m ≡ Some wid → sign_of (seen (row_key wid tid x)) ≡ sign_of (g (row_key wid tid x)))
-      → IsSettledAt stmts (worlds_of ns) g m tid x → IsSettledAt stmts (worlds_of ns) seen m tid x
+  pub settled_there : (m tid : ℕ) (x : Tuple) → tuple tid ≡ Some x → (m ≡ wid → ⊥) → (link_of ns m ≡ Some wid → sign_of (seen (row_key keys wid tid x)) ≡ sign_of (g (row_key keys wid tid x)))
+      → IsSettledAt keys stmts (worlds_of ns) g m tid x → IsSettledAt keys stmts (worlds_of ns) seen m tid x
   settled_there m tid x p bad quiet k q a =
       let n = h.sized m q a in
       other_world m tid x n p bad ∙ k q a
-      ∙ ap (settled_mark (explicit_sign stmts q x) (contradicted (λ _. 1) stmts q x)) (over (link_of ns m) refl (link_fits ns u links m n))
+      ∙ ap (settled_mark (explicit_sign stmts q x) (contradicted keys stmts q x)) (over (link_of ns m) refl (link_fits ns u links m n))
     where
-      over : (o : Option ℕ) → link_of ns m ≡ o → MatchOption o (Unit {0}) IsNum → sign_at (λ z. g (row_key z tid x)) (link_of ns m) ≡ sign_at (λ z. seen (row_key z tid x)) (link_of ns m)
-      over None e f = ap (sign_at (λ z. g (row_key z tid x))) e ∙ sym (ap (sign_at (λ z. seen (row_key z tid x))) e)
-      over (Some z) e f = ap (sign_at (λ y. g (row_key y tid x))) e ∙ elim (cases_Bool (nat_eq z wid)) [
+      over : (o : Option ℕ) → link_of ns m ≡ o → MatchOption o (Unit {0}) IsNum → sign_at (λ z. g (row_key keys z tid x)) (link_of ns m) ≡ sign_at (λ z. seen (row_key keys z tid x)) (link_of ns m)
+      over None e f = ap (sign_at (λ z. g (row_key keys z tid x))) e ∙ sym (ap (sign_at (λ z. seen (row_key keys z tid x))) e)
+      over (Some z) e f = ap (sign_at (λ y. g (row_key keys y tid x))) e ∙ elim (cases_Bool (nat_eq z wid)) [
         | inl c ↦
             let i = eqb-true z wid c in
-            ap (λ (y : ℕ). sign_of (g (row_key y tid x))) i ∙ sym (quiet (e ∙ ap Some i)) ∙ ap (λ (y : ℕ). sign_of (seen (row_key y tid x))) (sym i)
+            ap (λ (y : ℕ). sign_of (g (row_key keys y tid x))) i ∙ sym (quiet (e ∙ ap Some i)) ∙ ap (λ (y : ℕ). sign_of (seen (row_key keys y tid x))) (sym i)
         | inr c ↦ ap sign_of (sym (other_world z tid x f p (λ i. false≢true (sym c ∙ eq-eqb z wid i))))
-      ] ∙ sym (ap (sign_at (λ y. seen (row_key y tid x))) e)
+      ] ∙ sym (ap (sign_at (λ y. seen (row_key keys y tid x))) e)
 
   -- rows of tuples that fail the test stay settled
-  pub settled_other : (m tid : ℕ) (x : Tuple) → tuple tid ≡ Some x → test x ≡ false → IsSettledAt stmts (worlds_of ns) g m tid x → IsSettledAt stmts (worlds_of ns) seen m tid x
+  pub settled_other : (m tid : ℕ) (x : Tuple) → tuple tid ≡ Some x → test x ≡ false → IsSettledAt keys stmts (worlds_of ns) g m tid x → IsSettledAt keys stmts (worlds_of ns) seen m tid x
   settled_other m tid x p out k q a =
       let n = h.sized m q a in
-      other_tuple m tid x n p out ∙ k q a ∙ ap (settled_mark (explicit_sign stmts q x) (contradicted (λ _. 1) stmts q x)) (over (link_of ns m) (link_fits ns u links m n))
+      other_tuple m tid x n p out ∙ k q a ∙ ap (settled_mark (explicit_sign stmts q x) (contradicted keys stmts q x)) (over (link_of ns m) (link_fits ns u links m n))
     where
-      over : (o : Option ℕ) → MatchOption o (Unit {0}) IsNum → sign_at (λ z. g (row_key z tid x)) o ≡ sign_at (λ z. seen (row_key z tid x)) o
+      over : (o : Option ℕ) → MatchOption o (Unit {0}) IsNum → sign_at (λ z. g (row_key keys z tid x)) o ≡ sign_at (λ z. seen (row_key keys z tid x)) o
       over None f = refl
       over (Some z) f = ap sign_of (sym (other_tuple z tid x f p out))
 
   -- where no change turns a sign, the visited world's signs stay
-  pub quiet_signs : IsQuiet s → (tid : ℕ) (x : Tuple) → tuple tid ≡ Some x → test x ≡ true → sign_of (seen (row_key wid tid x)) ≡ sign_of (g (row_key wid tid x))
+  pub quiet_signs : IsQuiet s → (tid : ℕ) (x : Tuple) → tuple tid ≡ Some x → test x ≡ true → sign_of (seen (row_key keys wid tid x)) ≡ sign_of (g (row_key keys wid tid x))
   quiet_signs q tid x p e =
-      let cs = settling (λ _. 1) s.settling.own s.settling.own s.settling.from in
-      let own = own_mark tuple g u h.rows test prefix spans v wid s.link number fits s.settling tid x p e in
-      ap sign_of (after_changes tuple g u h.rows test prefix spans wid tid x number p cs g of)
-      ∙ last_sign cs tid (g (row_key wid tid x)) (sign_of (mark_in s.settling.own tid)) (quiet_each wid s.settling.own cs q tid) (ap sign_of (sym own)) ∙ ap sign_of own
+      let cs = settling keys s.settling.own s.settling.own s.settling.from in
+      let own = own_mark keys tuple g u h.rows test prefix spans v wid s.link number fits s.settling tid x p e in
+      ap sign_of (after_changes keys tuple g u h.rows test prefix spans wid tid x number p cs g of)
+      ∙ last_sign cs tid (g (row_key keys wid tid x)) (sign_of (mark_in s.settling.own tid)) (quiet_each keys wid s.settling.own cs q tid) (ap sign_of (sym own)) ∙ ap sign_of own

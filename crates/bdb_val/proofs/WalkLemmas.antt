@@ -1,5 +1,5 @@
 -- After a walk all rows are settled.
-use Rattle.std.proofs.Common.{◌≡◌, ◌∙◌, ℕ, Bool, true, false, not, ◌&&◌, ◌||◌, nat_eq, List, [], ◌∷◌, ◌++◌, ◌⊎◌, take, Option, Some, None, cond, inl, inr, is_some, map, refl, ap, sym, subst}
+use Rattle.std.proofs.Common.{◌≡◌, ◌∙◌, ℕ, Bool, true, false, not, ◌&&◌, ◌||◌, nat_eq, List, [], ◌∷◌, ◌++◌, ◌⊎◌, Option, Some, None, cond, inl, inr, is_some, map, refl, ap, sym, subst}
 use Rattle.std.specs.List.{AllByRecursion}
 use Rattle.std.specs.Option.{option_map}
 use Rattle.std.specs.Ordering.{is_eq, eq_by_cmp}
@@ -11,26 +11,27 @@ use Rattle.bdb_base.specs.declared.kinds.Value.{Value}
 use Rattle.bdb_base.specs.declared.tuple.Tuple.{Tuple}
 use Rattle.bdb_base.specs.declared.kinds.Sign.TheVariants.{Plus, Minus}
 use Rattle.bdb_base.specs.Clash.{same_key, key_of}
-use Rattle.bdb_base.specs.Same.{same_value, same_values, same_tuple}
+use Rattle.bdb_base.specs.Same.{same_values, same_tuple}
 use Rattle.bdb_base.specs.SameLemmas.{same_tuple-Decides, same_values-Decides}
 use Rattle.bdb_base.specs.Segments.{is_prefix}
 use Rattle.bdb_keep.specs.Tables.{Tables, bytes_cmp}
 use Rattle.bdb_key.specs.Bytes.{num_bytes}
-use Rattle.bdb_key.specs.Grammar.{IsNum, IsPlainValue}
+use Rattle.bdb_key.specs.Grammar.{IsNum, AreKeyVals}
 use Rattle.bdb_key.proofs.Forms.{tied}
 use Rattle.bdb_key.proofs.Readings.{num_form}
 use Rattle.bdb_tables.specs.InUse.{ValKey, IsPair, pair_bytes, linked_codec, val_codec}
 use Rattle.bdb_tables.specs.InUseLaws.{pairs_are_one}
 use Rattle.bdb_tables.specs.Marks.{Mark}
 use Rattle.bdb_tables.specs.Names.{Names, AreNames, path_of, link_of, leads_to, is_listed}
+use Rattle.bdb_tables.specs.Rows.{HoldsRows}
 use Rattle.bdb_tables.specs.Spans.{IsUnder, entry_bytes}
 use Rattle.bdb_tables.specs.States.{row_where}
 use Rattle.bdb_tables.specs.Writes.{with_row_at, with_rows_at}
 use Rattle.bdb_tables.proofs.Held.{same_place}
-use Rattle.bdb_val.specs.Groups.{HasLinks, IsUnsettled, SettlesGroup}
+use Rattle.bdb_val.specs.Groups.{HasLinks, IsUnsettled}
 use Rattle.bdb_val.specs.Middle.{worlds_of, HasExplicit, IsSettledAt, AreSettledBut}
 use Rattle.bdb_val.specs.Reads.{is_of_group, group_prefix}
-use Rattle.bdb_val.specs.Settling.{IsGroup, key_value}
+use Rattle.bdb_val.specs.Settling.{IsGroup}
 use Rattle.bdb_val.specs.Steps.{AreSpans}
 use Rattle.bdb_val.specs.Walks.{AreLinkedTo, IsVisit, IsQuiet, Walked, changes_of}
 use Rattle.bdb_val.specs.Walks.Walked.{first, next}
@@ -112,13 +113,13 @@ rows_append : (f : ValKey → Option Mark) (xs ys : List (ValKey × Option Mark)
 rows_append f [] ys = refl
 rows_append f (x ∷ xs) ys = rows_append (with_row_at val_codec f x) xs ys
 
-module _ (stmts : List Stmt) (ns : Names) (tuple : ℕ → Option Tuple) (test : Tuple → Bool) (prefix : ℕ → List ℕ) (names : AreNames ns) (spans : AreSpans test prefix) (group : IsGroup (λ _. 1) test) where
+module _ (keys : ℕ → ℕ) (stmts : List Stmt) (ns : Names) (tuple : ℕ → Option Tuple) (test : Tuple → Bool) (prefix : ℕ → List ℕ) (names : AreNames ns) (spans : AreSpans keys test prefix) (group : IsGroup keys test) where
   -- what holds in the middle of a walk: each world that is not on the list is settled
   pub record IsOnWay (g : ValKey → Option Mark) (u : Tables) (left : List ℕ) : Type 0 where
-    pub explicit : HasExplicit stmts (worlds_of ns) tuple g u
+    pub explicit : HasExplicit keys stmts (worlds_of ns) tuple g u
     pub links : HasLinks ns u
     pub named : (m : ℕ) → is_listed m left ≡ true → is_some (path_of ns m) ≡ true
-    pub settled : AreSettledBut stmts (worlds_of ns) tuple g (λ m x. test x && is_listed m left)
+    pub settled : AreSettledBut keys stmts (worlds_of ns) tuple g (λ m x. test x && is_listed m left)
 
   more_named : (t : Tables) → HasLinks ns t → (wid : ℕ) (more : List ℕ) → AreLinkedTo t wid more → (m : ℕ) → is_listed m more ≡ true → is_some (path_of ns m) ≡ true
   more_named t h wid more l m e = let k = listed_is_linked ns t h wid more l m e in linked_is_named ns m k.0 k.1
@@ -129,25 +130,25 @@ module _ (stmts : List Stmt) (ns : Names) (tuple : ℕ → Option Tuple) (test :
   not_same : (m wid : ℕ) → nat_eq m wid ≡ false → m ≡ wid → ⊥
   not_same m wid e k = false≢true (sym e ∙ eq-eqb m wid k)
 
-  first_visit : (f : ValKey → Option Mark) (t u : Tables) (wid : ℕ) (more : List ℕ) → IsUnsettled stmts ns tuple f t wid test → (s : IsVisit prefix t u wid) → AreLinkedTo u wid more
+  first_visit : (f : ValKey → Option Mark) (t u : Tables) (wid : ℕ) (more : List ℕ) → IsUnsettled keys stmts ns tuple f t wid test → (s : IsVisit keys prefix t u wid) → AreLinkedTo u wid more
       → IsOnWay (with_rows_at val_codec f (changes_of s)) u more
   first_visit f t u wid more h s l =
       let w = some_is (path_of ns wid) h.named in
-      let links = links_after stmts ns tuple test prefix names spans group f t u h.explicit h.links wid w.0 w.1 s in
+      let links = links_after keys stmts ns tuple test prefix names spans group f t u h.explicit h.links wid w.0 w.1 s in
       record {
-        explicit = explicit_after stmts ns tuple test prefix names spans group f t u h.explicit h.links wid w.0 w.1 s;
+        explicit = explicit_after keys stmts ns tuple test prefix names spans group f t u h.explicit h.links wid w.0 w.1 s;
         links = links;
         named = more_named u links wid more l;
         settled = λ m tid x p out. elim (cases_Bool (test x)) [
-          | inr e ↦ settled_other stmts ns tuple test prefix names spans group f t u h.explicit h.links wid w.0 w.1 s m tid x p e (h.settled m tid x p (and_left (test x) (nat_eq m wid || leads_to (link_of ns m) wid) e))
+          | inr e ↦ settled_other keys stmts ns tuple test prefix names spans group f t u h.explicit h.links wid w.0 w.1 s m tid x p e (h.settled m tid x p (and_left (test x) (nat_eq m wid || leads_to (link_of ns m) wid) e))
           | inl e ↦ elim (cases_Bool (nat_eq m wid)) [
-            | inl c ↦ subst (λ z. IsSettledAt stmts (worlds_of ns) (with_rows_at val_codec f (changes_of s)) z tid x) (sym (eqb-true m wid c))
-                (settled_here stmts ns tuple test prefix names spans group f t u h.explicit h.links wid w.0 w.1 s tid x p e)
+            | inl c ↦ subst (λ z. IsSettledAt keys stmts (worlds_of ns) (with_rows_at val_codec f (changes_of s)) z tid x) (sym (eqb-true m wid c))
+                (settled_here keys stmts ns tuple test prefix names spans group f t u h.explicit h.links wid w.0 w.1 s tid x p e)
             | inr c ↦ elim (cases_Bool (leads_to (link_of ns m) wid)) [
               | inl d ↦ λ q a.
                   let here = linked_is_listed ns u links wid more (h.explicit.sized wid w.0 w.1) l m (h.explicit.sized m q a) (leads_tells (link_of ns m) wid d) in
                   absurd (true≢false (sym (and_from (test x) (is_listed m more) e here) ∙ out))
-              | inr d ↦ settled_there stmts ns tuple test prefix names spans group f t u h.explicit h.links wid w.0 w.1 s m tid x p (not_same m wid c)
+              | inr d ↦ settled_there keys stmts ns tuple test prefix names spans group f t u h.explicit h.links wid w.0 w.1 s m tid x p (not_same m wid c)
                   (λ k. absurd (not_linked t m wid d k))
                   (h.settled m tid x p (and_right (test x) (nat_eq m wid || leads_to (link_of ns m) wid) (or_from (nat_eq m wid) (leads_to (link_of ns m) wid) c d)))
             ]
@@ -158,13 +159,13 @@ module _ (stmts : List Stmt) (ns : Names) (tuple : ℕ → Option Tuple) (test :
   listed_append : (m : ℕ) (xs ys : List ℕ) → is_listed m (xs ++ ys) ≡ (is_listed m xs || is_listed m ys)
   listed_append m xs ys = list_any-append (nat_eq m) xs ys
 
-  next_visit : (g : ValKey → Option Mark) (u v : Tables) (wid : ℕ) (left more : List ℕ) → IsOnWay g u (wid ∷ left) → (s : IsVisit prefix u v wid)
+  next_visit : (g : ValKey → Option Mark) (u v : Tables) (wid : ℕ) (left more : List ℕ) → IsOnWay g u (wid ∷ left) → (s : IsVisit keys prefix u v wid)
       → ((more ≡ []) × IsQuiet s) ⊎ AreLinkedTo v wid more → IsOnWay (with_rows_at val_codec g (changes_of s)) v (left ++ more)
   next_visit g u v wid left more h s l =
       let w = some_is (path_of ns wid) (h.named wid (or_left (nat_eq wid wid) (is_listed wid left) (eq-eqb wid wid refl))) in
-      let links = links_after stmts ns tuple test prefix names spans group g u v h.explicit h.links wid w.0 w.1 s in
+      let links = links_after keys stmts ns tuple test prefix names spans group g u v h.explicit h.links wid w.0 w.1 s in
       record {
-        explicit = explicit_after stmts ns tuple test prefix names spans group g u v h.explicit h.links wid w.0 w.1 s;
+        explicit = explicit_after keys stmts ns tuple test prefix names spans group g u v h.explicit h.links wid w.0 w.1 s;
         links = links;
         named = λ m e. elim (or_cases (is_listed m left) (is_listed m more) (sym (listed_append m left more) ∙ e)) [
           | inl a ↦ h.named m (or_right (nat_eq m wid) (is_listed m left) a)
@@ -174,19 +175,19 @@ module _ (stmts : List Stmt) (ns : Names) (tuple : ℕ → Option Tuple) (test :
           ]
         ];
         settled = λ m tid x p out. elim (cases_Bool (test x)) [
-          | inr e ↦ settled_other stmts ns tuple test prefix names spans group g u v h.explicit h.links wid w.0 w.1 s m tid x p e (h.settled m tid x p (and_left (test x) (is_listed m (wid ∷ left)) e))
+          | inr e ↦ settled_other keys stmts ns tuple test prefix names spans group g u v h.explicit h.links wid w.0 w.1 s m tid x p e (h.settled m tid x p (and_left (test x) (is_listed m (wid ∷ left)) e))
           | inl e ↦
               let gone = or_parts (is_listed m left) (is_listed m more) (sym (listed_append m left more) ∙ false_from_ne_true (is_listed m (left ++ more)) (λ k.
               true≢false (sym (and_from (test x) (is_listed m (left ++ more)) e k) ∙ out))) in
               elim (cases_Bool (nat_eq m wid)) [
-                | inl c ↦ subst (λ z. IsSettledAt stmts (worlds_of ns) (with_rows_at val_codec g (changes_of s)) z tid x) (sym (eqb-true m wid c))
-                    (settled_here stmts ns tuple test prefix names spans group g u v h.explicit h.links wid w.0 w.1 s tid x p e)
+                | inl c ↦ subst (λ z. IsSettledAt keys stmts (worlds_of ns) (with_rows_at val_codec g (changes_of s)) z tid x) (sym (eqb-true m wid c))
+                    (settled_here keys stmts ns tuple test prefix names spans group g u v h.explicit h.links wid w.0 w.1 s tid x p e)
                 | inr c ↦
                     let before = h.settled m tid x p (and_right (test x) (is_listed m (wid ∷ left)) (or_from (nat_eq m wid) (is_listed m left) c gone.0)) in
                     elim l [
-                      | inl q ↦ settled_there stmts ns tuple test prefix names spans group g u v h.explicit h.links wid w.0 w.1 s m tid x p (not_same m wid c)
-                          (λ k. quiet_signs stmts ns tuple test prefix names spans group g u v h.explicit h.links wid w.0 w.1 s q.1 tid x p e) before
-                      | inr d ↦ λ y a. settled_there stmts ns tuple test prefix names spans group g u v h.explicit h.links wid w.0 w.1 s m tid x p (not_same m wid c)
+                      | inl q ↦ settled_there keys stmts ns tuple test prefix names spans group g u v h.explicit h.links wid w.0 w.1 s m tid x p (not_same m wid c)
+                          (λ k. quiet_signs keys stmts ns tuple test prefix names spans group g u v h.explicit h.links wid w.0 w.1 s q.1 tid x p e) before
+                      | inr d ↦ λ y a. settled_there keys stmts ns tuple test prefix names spans group g u v h.explicit h.links wid w.0 w.1 s m tid x p (not_same m wid c)
                           (λ k. absurd (false≢true (sym gone.1 ∙ linked_is_listed ns v links wid more (h.explicit.sized wid w.0 w.1) d m (h.explicit.sized m y a) k))) before y a
                     ]
               ]
@@ -194,8 +195,8 @@ module _ (stmts : List Stmt) (ns : Names) (tuple : ℕ → Option Tuple) (test :
       }
 
   -- in the middle of a walk each world that is not on the list is settled
-  pub walk_on_way : (f : ValKey → Option Mark) (t : Tables) (start : ℕ) → IsUnsettled stmts ns tuple f t start test
-      → (u : Tables) (left : List ℕ) (made : List (ValKey × Option Mark)) (put taken : ℕ) → Walked prefix t start u left made put taken → IsOnWay (with_rows_at val_codec f made) u left
+  pub walk_on_way : (f : ValKey → Option Mark) (t : Tables) (start : ℕ) → IsUnsettled keys stmts ns tuple f t start test
+      → (u : Tables) (left : List ℕ) (made : List (ValKey × Option Mark)) (put taken : ℕ) → Walked keys prefix t start u left made put taken → IsOnWay (with_rows_at val_codec f made) u left
   walk_on_way f t start h _ _ _ _ _ (first u more s l) = first_visit f t u start more h s l
   walk_on_way f t start h _ _ _ _ _ (next u v wid rest more before puts takes walked s l) =
       subst (λ g. IsOnWay g v (rest ++ more)) (sym (rows_append f before (changes_of s)))
@@ -203,32 +204,28 @@ module _ (stmts : List Stmt) (ns : Names) (tuple : ℕ → Option Tuple) (test :
 
 -- ---- groups
 
-key_of_first : (vs : List Value) → key_value (take 1 vs) ≡ key_value vs
-key_of_first [] = refl
-key_of_first (v ∷ vs) = refl
+same_group : (keys : ℕ → ℕ) (rel : ℕ) (v : List Value) (a b : Tuple) → a.rel ≡ b.rel → key_of keys a ≡ key_of keys b → is_of_group keys rel v a ≡ true → is_of_group keys rel v b ≡ true
+same_group keys rel v a b r k e =
+    ap (λ (n : ℕ). nat_eq n rel && same_values (key_of keys b) v) (sym r) ∙ ap (λ (x : List Value). nat_eq a.rel rel && same_values x v) (sym k) ∙ e
 
-same_group : (rel : ℕ) (v : Value) (a b : Tuple) → a.rel ≡ b.rel → key_value a.vals ≡ key_value b.vals → is_of_group rel v a ≡ true → is_of_group rel v b ≡ true
-same_group rel v a b r k e =
-    ap (λ n. nat_eq n rel && same_value (key_value b.vals) v) (sym r) ∙ ap (λ x. nat_eq a.rel rel && same_value x v) (sym k) ∙ e
-
-of_same_tuple : (rel : ℕ) (v : Value) (a b : Tuple) → same_tuple a b ≡ true → is_of_group rel v a ≡ true → is_of_group rel v b ≡ true
-of_same_tuple rel v a b e g = ap (is_of_group rel v) (sym ((same_tuple-Decides a b).0 e)) ∙ g
+of_same_tuple : (keys : ℕ → ℕ) (rel : ℕ) (v : List Value) (a b : Tuple) → same_tuple a b ≡ true → is_of_group keys rel v a ≡ true → is_of_group keys rel v b ≡ true
+of_same_tuple keys rel v a b e g = ap (is_of_group keys rel v) (sym ((same_tuple-Decides a b).0 e)) ∙ g
 
 -- a tuple that clashes with one of a group is in the group
-pub is_group : (rel : ℕ) (v : Value) → IsGroup (λ _. 1) (is_of_group rel v)
-is_group rel v a b Plus Plus e c =
-    let k = (and_parts (same_key (λ _. 1) a b) (not (same_tuple a b)) c).0 in
-    let p = and_parts (nat_eq a.rel b.rel) (same_values (key_of (λ _. 1) a) (key_of (λ _. 1) b)) k in
-    same_group rel v a b (eqb-true a.rel b.rel p.0)
-    (sym (key_of_first a.vals) ∙ ap key_value ((same_values-Decides (key_of (λ _. 1) a) (key_of (λ _. 1) b)).0 p.1) ∙ key_of_first b.vals) e
-is_group rel v a b Plus Minus e c = of_same_tuple rel v a b c e
-is_group rel v a b Minus Plus e c = of_same_tuple rel v a b c e
-is_group rel v a b Minus Minus e c = absurd (false≢true c)
+pub is_group : (keys : ℕ → ℕ) (rel : ℕ) (v : List Value) → IsGroup keys (is_of_group keys rel v)
+is_group keys rel v a b Plus Plus e c =
+    let k = (and_parts (same_key keys a b) (not (same_tuple a b)) c).0 in
+    let p = and_parts (nat_eq a.rel b.rel) (same_values (key_of keys a) (key_of keys b)) k in
+    same_group keys rel v a b (eqb-true a.rel b.rel p.0) ((same_values-Decides (key_of keys a) (key_of keys b)).0 p.1) e
+is_group keys rel v a b Plus Minus e c = of_same_tuple keys rel v a b c e
+is_group keys rel v a b Minus Plus e c = of_same_tuple keys rel v a b c e
+is_group keys rel v a b Minus Minus e c = absurd (false≢true c)
 
 -- a walk that is at its end settles the group
-pub walk_settles : (t u : Tables) (wid rel : ℕ) (v : Value) (made : List (ValKey × Option Mark)) (put taken : ℕ) → IsNum rel → IsPlainValue v
-    → Walked (λ w. group_prefix w rel v) t wid u [] made put taken → SettlesGroup t u wid rel v
-walk_settles t u wid rel v made put taken r p walked stmts ns tuple f h =
-    let way = walk_on_way stmts ns tuple (is_of_group rel v) (λ w. group_prefix w rel v) h.names (λ w n. group_span w rel v n r p) (is_group rel v) f t wid h u [] made put taken walked in
-    settled_rows_are_held stmts ns tuple (with_rows_at val_codec f made) u h.names h.states way.explicit
-    (λ m tid x n _. way.settled m tid x n (and_right (is_of_group rel v x) (is_listed m []) refl))
+pub walk_settles : (keys : ℕ → ℕ) (t u : Tables) (wid rel : ℕ) (v : List Value) (made : List (ValKey × Option Mark)) (put taken : ℕ) → IsNum rel → AreKeyVals v
+    → Walked keys (λ w. group_prefix w rel v) t wid u [] made put taken
+    → (stmts : List Stmt) (ns : Names) (tuple : ℕ → Option Tuple) (f : ValKey → Option Mark) → IsUnsettled keys stmts ns tuple f t wid (is_of_group keys rel v) → HoldsRows keys stmts (path_of ns) tuple u
+walk_settles keys t u wid rel v made put taken r p walked stmts ns tuple f h =
+    let way = walk_on_way keys stmts ns tuple (is_of_group keys rel v) (λ w. group_prefix w rel v) h.names (λ w n. group_span keys h.explicit.rows.lengths w rel v n r p) (is_group keys rel v) f t wid h u [] made put taken walked in
+    settled_rows_are_held keys stmts ns tuple (with_rows_at val_codec f made) u h.names h.states way.explicit
+    (λ m tid x n _. way.settled m tid x n (and_right (is_of_group keys rel v x) (is_listed m []) refl))

@@ -9,7 +9,7 @@ use Rattle.bdb_base.specs.declared.kinds.Value.{Value}
 use Rattle.bdb_base.specs.declared.tuple.Tuple.{Tuple}
 use Rattle.bdb_keep.specs.Seen.{Seen}
 use Rattle.bdb_keep.specs.Tables.{Tables}
-use Rattle.bdb_key.specs.Grammar.{IsNum, IsPlainValue}
+use Rattle.bdb_key.specs.Grammar.{IsNum, AreKeyVals}
 use Rattle.bdb_tables.specs.Differences.{AreDifferences}
 use Rattle.bdb_tables.specs.Grammar.{InGrammar}
 use Rattle.bdb_tables.specs.InUse.{ValKey, val_codec}
@@ -36,39 +36,40 @@ use Rattle.bdb_val.proofs.SettlingLemmas.{all_append}
 use Rattle.bdb_val.proofs.WalkLemmas.{is_group, walk_on_way}
 
 -- how far a walk has come: its changes are made, each by one write
-pub record IsWalked (old now : Seen) (prefix : ℕ → List ℕ) (start : ℕ) (list : List (ℕ × ℕ)) (total : Settled) : Type 0 where
+pub record IsWalked (keys : ℕ → ℕ) (old now : Seen) (prefix : ℕ → List ℕ) (start : ℕ) (list : List (ℕ × ℕ)) (total : Settled) : Type 0 where
   pub made : List (ValKey × Option Mark)
   pub put : ℕ
   pub taken : ℕ
-  pub walked : Walked prefix old.kept start now.kept (worlds_with list) made put taken
+  pub walked : Walked keys prefix old.kept start now.kept (worlds_with list) made put taken
   pub links : AllByRecursion (IsLink old.kept) list
   pub put_is : total.put ≡ counted put
   pub taken_is : total.taken ≡ counted taken
   pub writes : Rises (length made) old.writes now.writes
 
--- a walk goes on: this far it has come, whichever statements they are where only a group was not settled
-pub record IsWalking (old now : Seen) (rel : ℕ) (v : Value) (start : ℕ) (list : List (ℕ × ℕ)) (total : Settled) : Type 0 where
+-- a walk goes on: this far it has come, whichever statements and lengths of keys they are where only a group was
+-- not settled
+pub record IsWalking (old now : Seen) (rel : ℕ) (v : List Value) (start : ℕ) (list : List (ℕ × ℕ)) (total : Settled) : Type 0 where
   pub gone : HasGone old now
   pub grammar : InGrammar now.kept
   pub tuples : HaveTuples now.kept
   pub others : SameBut is_rows old.kept now.kept
-  pub walked : (stmts : List Stmt) (ns : Names) (tuple : ℕ → Option Tuple) (f : ValKey → Option Mark) → IsUnsettled stmts ns tuple f old.kept start (is_of_group rel v)
-      → IsWalked old now (λ w. group_prefix w rel v) start list total
+  pub walked : (keys : ℕ → ℕ) (stmts : List Stmt) (ns : Names) (tuple : ℕ → Option Tuple) (f : ValKey → Option Mark) → IsUnsettled keys stmts ns tuple f old.kept start (is_of_group keys rel v)
+      → IsWalked keys old now (λ w. group_prefix w rel v) start list total
 
 counted_both : (a b m n : ℕ) → a ≡ counted m → b ≡ n → counted (a + b) ≡ counted (m + n)
 counted_both a b m n e f = omega arith
 
 -- the first visit
-first_walked : (ns : Names) (old new : Seen) (prefix : ℕ → List ℕ) (start : ℕ) (before list : List (ℕ × ℕ)) (s : SettledWorld) (sum : Settled) → HasLinks ns old.kept → SameBut is_rows old.kept new.kept
-    → sum.put ≡ counted s.put → sum.taken ≡ counted s.taken → before ≡ [] → IsFirstVisit old new prefix start before list s → IsWalked old new prefix start list sum
-first_walked ns old new prefix start before list s sum links same p q none v =
+first_walked : (keys : ℕ → ℕ) (ns : Names) (old new : Seen) (prefix : ℕ → List ℕ) (start : ℕ) (before list : List (ℕ × ℕ)) (s : SettledWorld) (sum : Settled) → HasLinks ns old.kept → SameBut is_rows old.kept new.kept
+    → sum.put ≡ counted s.put → sum.taken ≡ counted s.taken → before ≡ [] → IsFirstVisit keys old new prefix start before list s → IsWalked keys old new prefix start list sum
+first_walked keys ns old new prefix start before list s sum links same p q none v =
     let more = v.pushed.more in
     let is : list ≡ more = v.pushed.list ∙ ap (λ (xs : List (ℕ × ℕ)). xs ++ more) none in
     record {
       made = changes_of v.visit;
       put = put_by v.visit;
       taken = taken_by v.visit;
-      walked = subst (λ xs. Walked prefix old.kept start new.kept xs (changes_of v.visit) (put_by v.visit) (taken_by v.visit)) (sym (ap worlds_with is))
+      walked = subst (λ xs. Walked keys prefix old.kept start new.kept xs (changes_of v.visit) (put_by v.visit) (taken_by v.visit)) (sym (ap worlds_with is))
           (first new.kept (worlds_with more) v.visit (linked_to new.kept start more v.pushed.linked));
       links = subst (AllByRecursion (IsLink old.kept)) (sym is) (links_are ns old.kept new.kept links same start more v.pushed.linked);
       put_is = p ∙ ap counted v.told.put;
@@ -76,14 +77,14 @@ first_walked ns old new prefix start before list s sum links same p q none v =
       writes = v.told.writes;
     }
 
-pub walk_begins : (old new : Seen) (rel : ℕ) (v : Value) (start : ℕ) (before list : List (ℕ × ℕ)) (s : SettledWorld) (sum : Settled) → HasGone old new → InGrammar new.kept → HaveTuples new.kept → SameBut is_rows old.kept new.kept
-    → sum.put ≡ counted s.put → sum.taken ≡ counted s.taken → before ≡ [] → WhereStated old.kept (IsFirstVisit old new (λ w. group_prefix w rel v) start before list s) → IsWalking old new rel v start list sum
+pub walk_begins : (old new : Seen) (rel : ℕ) (v : List Value) (start : ℕ) (before list : List (ℕ × ℕ)) (s : SettledWorld) (sum : Settled) → HasGone old new → InGrammar new.kept → HaveTuples new.kept → SameBut is_rows old.kept new.kept
+    → sum.put ≡ counted s.put → sum.taken ≡ counted s.taken → before ≡ [] → WhereStated old.kept (λ keys. IsFirstVisit keys old new (λ w. group_prefix w rel v) start before list s) → IsWalking old new rel v start list sum
 walk_begins old new rel v start before list s sum gone grammar tuples others p q none visit = record {
   gone = gone;
   grammar = grammar;
   tuples = tuples;
   others = others;
-  walked = λ stmts ns tuple f h. first_walked ns old new (λ w. group_prefix w rel v) start before list s sum h.links others p q none (visit stmts (worlds_of ns) tuple f h.explicit);
+  walked = λ keys stmts ns tuple f h. first_walked keys ns old new (λ w. group_prefix w rel v) start before list s sum h.links others p q none (visit keys stmts (worlds_of ns) tuple f h.explicit);
 }
 
 rises_then : (m n a b c : ℕ) → a ≤ b → b ≤ c → Rises m a b → Rises n b c → Rises (m + n) a c
@@ -103,9 +104,9 @@ told_back old mid new put taken k w h ps d =
     }
 
 -- a visit that puts links at the end of a list puts them at the end of what is left of it
-pub left_of_visit : (old new : Seen) (prefix : ℕ → List ℕ) (wid n : ℕ) (before after : List (ℕ × ℕ)) (s : SettledWorld) → n ≤ length before → IsNextVisit old new prefix wid before after s
-    → IsNextVisit old new prefix wid (drop n before) (drop n after) s
-left_of_visit old new prefix wid n before after s le v = record {
+pub left_of_visit : (keys : ℕ → ℕ) (old new : Seen) (prefix : ℕ → List ℕ) (wid n : ℕ) (before after : List (ℕ × ℕ)) (s : SettledWorld) → n ≤ length before → IsNextVisit keys old new prefix wid before after s
+    → IsNextVisit keys old new prefix wid (drop n before) (drop n after) s
+left_of_visit keys old new prefix wid n before after s le v = record {
   visit = v.visit;
   told = v.told;
   pushed = elim v.pushed [
@@ -115,14 +116,14 @@ left_of_visit old new prefix wid n before after s le v = record {
 }
 
 -- one visit more
-next_walked : (ns : Names) (old now new : Seen) (prefix : ℕ → List ℕ) (start : ℕ) (at : ℕ × ℕ) (list left after : List (ℕ × ℕ)) (total : Settled) (s : SettledWorld) (sum : Settled) → HasLinks ns old.kept → SameBut is_rows old.kept new.kept
-    → HasGone old now → HasGone now new → IsWalked old now prefix start list total → AllByRecursion (IsLink old.kept) left
-    → list ≡ at ∷ left → IsNextVisit now new prefix at.0 left after s → sum.put ≡ counted (total.put + s.put) → sum.taken ≡ counted (total.taken + s.taken) → IsWalked old new prefix start after sum
-next_walked ns old now new prefix start at list left after total s sum links same before gone w behind is v p q =
-    let walked : Walked prefix old.kept start now.kept (at.0 ∷ worlds_with left) w.made w.put w.taken =
-    subst (λ xs. Walked prefix old.kept start now.kept xs w.made w.put w.taken) (ap worlds_with is) w.walked in
+next_walked : (keys : ℕ → ℕ) (ns : Names) (old now new : Seen) (prefix : ℕ → List ℕ) (start : ℕ) (at : ℕ × ℕ) (list left after : List (ℕ × ℕ)) (total : Settled) (s : SettledWorld) (sum : Settled) → HasLinks ns old.kept → SameBut is_rows old.kept new.kept
+    → HasGone old now → HasGone now new → IsWalked keys old now prefix start list total → AllByRecursion (IsLink old.kept) left
+    → list ≡ at ∷ left → IsNextVisit keys now new prefix at.0 left after s → sum.put ≡ counted (total.put + s.put) → sum.taken ≡ counted (total.taken + s.taken) → IsWalked keys old new prefix start after sum
+next_walked keys ns old now new prefix start at list left after total s sum links same before gone w behind is v p q =
+    let walked : Walked keys prefix old.kept start now.kept (at.0 ∷ worlds_with left) w.made w.put w.taken =
+    subst (λ xs. Walked keys prefix old.kept start now.kept xs w.made w.put w.taken) (ap worlds_with is) w.walked in
     let goes = λ (more : List ℕ) (e : worlds_with after ≡ worlds_with left ++ more) (l : ((more ≡ []) × IsQuiet v.visit) ⊎ AreLinkedTo new.kept at.0 more).
-    subst (λ xs. Walked prefix old.kept start new.kept xs (w.made ++ changes_of v.visit) (w.put + put_by v.visit) (w.taken + taken_by v.visit)) (sym e)
+    subst (λ xs. Walked keys prefix old.kept start new.kept xs (w.made ++ changes_of v.visit) (w.put + put_by v.visit) (w.taken + taken_by v.visit)) (sym e)
     (next now.kept new.kept at.0 (worlds_with left) more w.made w.put w.taken walked v.visit l) in
     record {
       made = w.made ++ changes_of v.visit;
@@ -142,9 +143,9 @@ next_walked ns old now new prefix start at list left after total s sum links sam
           (rises_then (length w.made) (length (changes_of v.visit)) old.writes now.writes new.writes before.counts.writes gone.counts.writes w.writes v.told.writes);
     }
 
-pub walk_more : (old now new : Seen) (rel : ℕ) (v : Value) (start : ℕ) (at : ℕ × ℕ) (list left after : List (ℕ × ℕ)) (total : Settled) (s : SettledWorld) (sum : Settled) → IsNum rel → IsPlainValue v → IsWalking old now rel v start list total
+pub walk_more : (old now new : Seen) (rel : ℕ) (v : List Value) (start : ℕ) (at : ℕ × ℕ) (list left after : List (ℕ × ℕ)) (total : Settled) (s : SettledWorld) (sum : Settled) → IsNum rel → AreKeyVals v → IsWalking old now rel v start list total
     → list ≡ at ∷ left → HasGone now new → InGrammar new.kept → HaveTuples new.kept → SameBut is_rows now.kept new.kept
-    → (IsLink now.kept at → WhereStated now.kept (IsNextVisit now new (λ w. group_prefix w rel v) at.0 left after s))
+    → (IsLink now.kept at → WhereStated now.kept (λ keys. IsNextVisit keys now new (λ w. group_prefix w rel v) at.0 left after s))
     → sum.put ≡ counted (total.put + s.put) → sum.taken ≡ counted (total.taken + s.taken) → IsWalking old new rel v start after sum
 walk_more old now new rel v start at list left after total s sum r plain w is gone grammar tuples others visit p q =
     let same : SameBut is_rows old.kept new.kept = λ place out. others place out ∙ w.others place out in
@@ -153,11 +154,11 @@ walk_more old now new rel v start at list left after total s sum r plain w is go
       grammar = grammar;
       tuples = tuples;
       others = same;
-      walked = λ stmts ns tuple f h.
-          let k = w.walked stmts ns tuple f h in
+      walked = λ keys stmts ns tuple f h.
+          let k = w.walked keys stmts ns tuple f h in
           let prefix = λ (m : ℕ). group_prefix m rel v in
-          let way = walk_on_way stmts ns tuple (is_of_group rel v) prefix h.names (λ m n. group_span m rel v n r plain) (is_group rel v) f old.kept start h now.kept (worlds_with list) k.made k.put k.taken k.walked in
+          let way = walk_on_way keys stmts ns tuple (is_of_group keys rel v) prefix h.names (λ m n. group_span keys h.explicit.rows.lengths m rel v n r plain) (is_group keys rel v) f old.kept start h now.kept (worlds_with list) k.made k.put k.taken k.walked in
           let parts = subst (AllByRecursion (IsLink old.kept)) is k.links in
-          let seen = visit (still_link old.kept now.kept w.others at parts.0) stmts (worlds_of ns) tuple (with_rows_at val_codec f k.made) way.explicit in
-          next_walked ns old now new prefix start at list left after total s sum h.links same w.gone gone k parts.1 is seen p q;
+          let seen = visit (still_link old.kept now.kept w.others at parts.0) keys stmts (worlds_of ns) tuple (with_rows_at val_codec f k.made) way.explicit in
+          next_walked keys ns old now new prefix start at list left after total s sum h.links same w.gone gone k parts.1 is seen p q;
     }

@@ -29,7 +29,7 @@ use Rattle.bdb_key.specs.Grammar.{IsNum}
 use Rattle.bdb_tables.specs.InUse.{ValKey}
 use Rattle.bdb_tables.specs.Marks.{Mark, sign_by, marked, mark_of}
 use Rattle.bdb_tables.specs.Names.{Names, path_of}
-use Rattle.bdb_tables.specs.Rows.{Tuples, HoldsTuples, HoldsRows, row_for}
+use Rattle.bdb_tables.specs.Rows.{AreKeyLengths, Tuples, HoldsTuples, HoldsRows, row_for}
 use Rattle.bdb_val.specs.Reads.{HasRows, AreReadUnder, world_prefix}
 use Rattle.bdb_val.specs.Settling.{mark_in, AreNamed, are_apart}
 use Rattle.bdb_val.specs.WorldReads.{held_row, is_before, AreInOrder, AreRowsAt}
@@ -160,31 +160,31 @@ none_some : {X : Type 0} (x : X) (o : Option X) → o ≡ None → o ≡ Some x 
 none_some x o a b = cc
 
 -- a mark is that of a tuple exactly where the world has it so
-pub mark_tells : (stmts : List Stmt) (w : List ℕ) (u : Tuple) (m : Mark) → mark_of (λ _. 1) stmts w u ≡ Some m → (stated (λ _. 1) stmts w u m.0 ≡ true) × (m.1 ≡ explicit stmts w u m.0)
-mark_tells stmts w u m e = go (stated (λ _. 1) stmts w u Plus) (stated (λ _. 1) stmts w u Minus) refl refl e
+pub mark_tells : (keys : ℕ → ℕ) (stmts : List Stmt) (w : List ℕ) (u : Tuple) (m : Mark) → mark_of keys stmts w u ≡ Some m → (stated keys stmts w u m.0 ≡ true) × (m.1 ≡ explicit stmts w u m.0)
+mark_tells keys stmts w u m e = go (stated keys stmts w u Plus) (stated keys stmts w u Minus) refl refl e
   where
     some_mark : (s : Sign) → Some (s, explicit stmts w u s) ≡ Some m → (s, explicit stmts w u s) ≡ m
     some_mark s q = cc
 
-    by : (s : Sign) → stated (λ _. 1) stmts w u s ≡ true → Some (s, explicit stmts w u s) ≡ Some m → (stated (λ _. 1) stmts w u m.0 ≡ true) × (m.1 ≡ explicit stmts w u m.0)
+    by : (s : Sign) → stated keys stmts w u s ≡ true → Some (s, explicit stmts w u s) ≡ Some m → (stated keys stmts w u m.0 ≡ true) × (m.1 ≡ explicit stmts w u m.0)
     by s a q =
         let same = some_mark s q in (
-          ap (λ (k : Mark). stated (λ _. 1) stmts w u k.0) (sym same) ∙ a,
+          ap (λ (k : Mark). stated keys stmts w u k.0) (sym same) ∙ a,
           ap (λ (k : Mark). k.1) (sym same) ∙ ap (λ (k : Mark). explicit stmts w u k.0) same,
         )
 
-    go : (p q : Bool) → stated (λ _. 1) stmts w u Plus ≡ p → stated (λ _. 1) stmts w u Minus ≡ q → marked (explicit stmts w u) (sign_by (stated (λ _. 1) stmts w u Plus) (stated (λ _. 1) stmts w u Minus)) ≡ Some m
-        → (stated (λ _. 1) stmts w u m.0 ≡ true) × (m.1 ≡ explicit stmts w u m.0)
-    go true q a b k = by Plus a (sym (ap (λ x. marked (explicit stmts w u) (sign_by x (stated (λ _. 1) stmts w u Minus))) a) ∙ k)
-    go false true a b k = by Minus b (sym (ap (λ x. marked (explicit stmts w u) (sign_by x (stated (λ _. 1) stmts w u Minus))) a ∙ ap (λ x. marked (explicit stmts w u) (sign_by false x)) b) ∙ k)
-    go false false a b k = absurd (none_some m None refl (sym (ap (λ x. marked (explicit stmts w u) (sign_by x (stated (λ _. 1) stmts w u Minus))) a ∙ ap (λ x. marked (explicit stmts w u) (sign_by false x)) b) ∙ k))
+    go : (p q : Bool) → stated keys stmts w u Plus ≡ p → stated keys stmts w u Minus ≡ q → marked (explicit stmts w u) (sign_by (stated keys stmts w u Plus) (stated keys stmts w u Minus)) ≡ Some m
+        → (stated keys stmts w u m.0 ≡ true) × (m.1 ≡ explicit stmts w u m.0)
+    go true q a b k = by Plus a (sym (ap (λ x. marked (explicit stmts w u) (sign_by x (stated keys stmts w u Minus))) a) ∙ k)
+    go false true a b k = by Minus b (sym (ap (λ x. marked (explicit stmts w u) (sign_by x (stated keys stmts w u Minus))) a ∙ ap (λ x. marked (explicit stmts w u) (sign_by false x)) b) ∙ k)
+    go false false a b k = absurd (none_some m None refl (sym (ap (λ x. marked (explicit stmts w u) (sign_by x (stated keys stmts w u Minus))) a ∙ ap (λ x. marked (explicit stmts w u) (sign_by false x)) b) ∙ k))
 
-pub mark_has : (stmts : List Stmt) (w : List ℕ) (u : Tuple) (s : Sign) → IsConsistent (λ _. 1) stmts → stated (λ _. 1) stmts w u s ≡ true → mark_of (λ _. 1) stmts w u ≡ Some (s, explicit stmts w u s)
-mark_has stmts w u Plus c e = ap (λ x. marked (explicit stmts w u) (sign_by x (stated (λ _. 1) stmts w u Minus))) e
-mark_has stmts w u Minus c e =
-    let no : stated (λ _. 1) stmts w u Plus ≡ false = false_from_ne_true (stated (λ _. 1) stmts w u Plus) (λ k.
-    false≢true (sym (worlds_are_consistent (λ _. 1) stmts c w u u Plus Minus k e) ∙ (same_tuple-Decides u u).1 refl)) in
-    ap (λ x. marked (explicit stmts w u) (sign_by x (stated (λ _. 1) stmts w u Minus))) no ∙ ap (λ x. marked (explicit stmts w u) (sign_by false x)) e
+pub mark_has : (keys : ℕ → ℕ) (stmts : List Stmt) (w : List ℕ) (u : Tuple) (s : Sign) → IsConsistent keys stmts → stated keys stmts w u s ≡ true → mark_of keys stmts w u ≡ Some (s, explicit stmts w u s)
+mark_has keys stmts w u Plus c e = ap (λ x. marked (explicit stmts w u) (sign_by x (stated keys stmts w u Minus))) e
+mark_has keys stmts w u Minus c e =
+    let no : stated keys stmts w u Plus ≡ false = false_from_ne_true (stated keys stmts w u Plus) (λ k.
+    false≢true (sym (worlds_are_consistent keys stmts c w u u Plus Minus k e) ∙ (same_tuple-Decides u u).1 refl)) in
+    ap (λ x. marked (explicit stmts w u) (sign_by x (stated keys stmts w u Minus))) no ∙ ap (λ x. marked (explicit stmts w u) (sign_by false x)) e
 
 -- ---- the rows that are read
 
@@ -231,47 +231,47 @@ tuples_once ts named (x ∷ xs) n a u =
 filtered_moved : (p : Held → Bool) (xs ys : List Held) → IsPermutation xs ys → length (filter p ys) ≡ length (filter p xs)
 filtered_moved p xs ys h = length-filter p ys ∙ sum_by-IsPermutation (λ x. cond (p x) 1 0) xs ys h ∙ sym (length-filter p xs)
 
-module _ (stmts : List Stmt) (ns : Names) (ts : Tuples) (t : Tables) (consistent : IsConsistent (λ _. 1) stmts) (h : HoldsTuples stmts ts t) (r : HoldsRows (λ _. 1) stmts (path_of ns) ts.tuple t)
+module _ (keys : ℕ → ℕ) (stmts : List Stmt) (ns : Names) (ts : Tuples) (t : Tables) (lengths : AreKeyLengths keys) (consistent : IsConsistent keys stmts) (h : HoldsTuples stmts ts t) (r : HoldsRows keys stmts (path_of ns) ts.tuple t)
     (wid : ℕ) (n : IsNum wid) (w : List ℕ) (path : path_of ns wid ≡ Some w) (xs : List Stored) (read : AreReadUnder t (world_prefix wid) xs) where
   abbrev f : ValKey → Option Mark
-  f = row_for (λ _. 1) stmts (path_of ns) ts.tuple
+  f = row_for keys stmts (path_of ns) ts.tuple
 
-  rows : HasRows ts.tuple f t
-  rows = record { tuples = h.tuples; rows = r; sized = h.sized; keyed = λ k v s. (held_names stmts stmts ns ts t h k s).1 }
+  rows : HasRows keys ts.tuple f t
+  rows = record { lengths = lengths; tuples = h.tuples; rows = r; sized = h.sized; keyed = λ k v s. (held_names keys stmts stmts ns ts t h k s).1 }
 
   named : AreNamed ts.tuple xs
-  named = read_named ts.tuple f t rows (world_prefix wid) xs read
+  named = read_named keys ts.tuple f t rows (world_prefix wid) xs read
 
   apart : are_apart xs ≡ true
-  apart = read_apart ts.tuple f t rows wid (λ _. true) (world_prefix wid) xs (world_span wid n) read
+  apart = read_apart keys ts.tuple f t rows wid (λ _. true) (world_prefix wid) xs (world_span keys wid n) read
 
   -- the mark of a named tuple among the rows is that of the world
-  mark_right : (tid : ℕ) (u : Tuple) → ts.tuple tid ≡ Some u → mark_in xs tid ≡ mark_of (λ _. 1) stmts w u
-  mark_right tid u e = read_mark ts.tuple f t rows wid (λ _. true) (world_prefix wid) xs n (world_span wid n) read tid u e refl ∙ right_row stmts stmts ns ts t h wid w tid u path e
+  mark_right : (tid : ℕ) (u : Tuple) → ts.tuple tid ≡ Some u → mark_in xs tid ≡ mark_of keys stmts w u
+  mark_right tid u e = read_mark keys ts.tuple f t rows wid (λ _. true) (world_prefix wid) xs n (world_span keys wid n) read tid u e refl ∙ right_row keys stmts stmts ns ts t h wid w tid u path e
 
   -- each row that is read is one of the world
   read_are_rows : (ys : List Stored) → AreNamed ts.tuple ys → AllByRecursion (λ x. mark_in xs x.tid ≡ Some x.mark) ys → (g : Held) → list_any (λ x. same_row g (held_row x)) ys ≡ true
-      → has_row (world_of (λ _. 1) stmts w) g ≡ true
+      → has_row (world_of keys stmts w) g ≡ true
   read_are_rows [] a b g e = absurd (false≢true e)
   read_are_rows (y ∷ ys) a b g e = elim (or_cases (same_row g (held_row y)) (list_any (λ x. same_row g (held_row x)) ys) e) [
     | inr k ↦ read_are_rows ys a.1 b.1 g k
     | inl k ↦
         let same = same_row_tells g (held_row y) k in
-        let m = mark_tells stmts w y.tuple y.mark (sym (mark_right y.tid y.tuple a.0) ∙ b.0) in
-        (rows_are_the_world (λ _. 1) stmts w g).1 (
-          ap (λ u. stated (λ _. 1) stmts w u g.sign) same.0 ∙ ap (λ s. stated (λ _. 1) stmts w y.tuple s) same.1 ∙ m.0,
+        let m = mark_tells keys stmts w y.tuple y.mark (sym (mark_right y.tid y.tuple a.0) ∙ b.0) in
+        (rows_are_the_world keys stmts w g).1 (
+          ap (λ u. stated keys stmts w u g.sign) same.0 ∙ ap (λ s. stated keys stmts w y.tuple s) same.1 ∙ m.0,
           same.2 ∙ m.1 ∙ ap (λ u. explicit stmts w u y.mark.0) (sym same.0) ∙ ap (λ s. explicit stmts w g.tuple s) (sym same.1),
         )
   ]
 
   -- each row of the world is read
-  row_is_read : (g : Held) → has_row (world_of (λ _. 1) stmts w) g ≡ true → list_any (λ x. same_row g (held_row x)) xs ≡ true
+  row_is_read : (g : Held) → has_row (world_of keys stmts w) g ≡ true → list_any (λ x. same_row g (held_row x)) xs ≡ true
   row_is_read g e =
-      let is = (rows_are_the_world (λ _. 1) stmts w g).0 e in
-      let number = some_is (ts.number g.tuple) (h.stated g.tuple ∙ stated_tuples_are_explicit (λ _. 1) stmts w g.tuple g.sign is.0) in
+      let is = (rows_are_the_world keys stmts w g).0 e in
+      let number = some_is (ts.number g.tuple) (h.stated g.tuple ∙ stated_tuples_are_explicit keys stmts w g.tuple g.sign is.0) in
       let tuple = h.numbered g.tuple number.0 number.1 in
       let mark : mark_in xs number.0 ≡ Some (g.sign, g.explicit) =
-      mark_right number.0 g.tuple tuple ∙ mark_has stmts w g.tuple g.sign consistent is.0 ∙ ap (λ (b : Bool). Some (g.sign, b)) (sym is.1) in
+      mark_right number.0 g.tuple tuple ∙ mark_has keys stmts w g.tuple g.sign consistent is.0 ∙ ap (λ (b : Bool). Some (g.sign, b)) (sym is.1) in
       go xs named number.0 tuple mark
     where
       some_mark : (a b : Mark) → Some a ≡ Some b → a ≡ b
@@ -298,22 +298,22 @@ module _ (stmts : List Stmt) (ns : Names) (ts : Tuples) (t : Tables) (consistent
   same_bits false false p q = refl
 
   -- rows that are read, in order, are the world
-  pub ordered_is_world : (held : List Held) → AreInOrder xs held → held ≡ world_of (λ _. 1) stmts w
+  pub ordered_is_world : (held : List Held) → AreInOrder xs held → held ≡ world_of keys stmts w
   ordered_is_world held o =
-      same_rows_make_list held (world_of (λ _. 1) stmts w)
+      same_rows_make_list held (world_of keys stmts w)
       (order_ascends held (λ i j d le lt. sorted_far is_before (ranks_by tuple_total (λ (g : Held). g.tuple)) held o.sorted i j d le lt)
       (λ u.
       let e = filtered_moved (λ g. same_tuple g.tuple u) (map held_row xs) held o.moved in
       let le = tuples_once ts h.named xs named apart u in
       omega (arith, e, le)))
-      (tuples_stand_once (λ _. 1) stmts consistent w)
+      (tuples_stand_once keys stmts consistent w)
       (λ g. sym (list_any-IsPermutation (same_row g) (map held_row xs) held o.moved) ∙ has_mapped xs g
-      ∙ same_bits (list_any (λ x. same_row g (held_row x)) xs) (has_row (world_of (λ _. 1) stmts w) g)
+      ∙ same_bits (list_any (λ x. same_row g (held_row x)) xs) (has_row (world_of keys stmts w) g)
       (read_are_rows xs named (mark_of_each xs xs (λ _ _ k. k) apart) g) (row_is_read g))
 
 -- what is read of a world, in order, are the rows of the world of its path
 pub read_is_world : (t : Tables) (wid : ℕ) (xs : List Stored) (held : List Held) → IsNum wid → AreReadUnder t (world_prefix wid) xs → AreInOrder xs held → AreRowsAt t wid held
-read_is_world t wid xs held n read o stmts ns ts w consistent names h r path = ordered_is_world stmts ns ts t consistent h r wid n w path xs read held o
+read_is_world t wid xs held n read o keys stmts ns ts w lengths consistent names h r path = ordered_is_world keys stmts ns ts t lengths consistent h r wid n w path xs read held o
 
 -- as many rows are shown as were read
 pub read_within : (a b : ℕ) (xs : List Stored) (held : List Held) → AreInOrder xs held → b ≤ a + (2 * length xs + 1) → b ≤ a + (2 * length held + 1)

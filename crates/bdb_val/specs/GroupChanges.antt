@@ -1,5 +1,5 @@
 -- The changes that settle the rows of a group, told by their marks and the numbers of their tuples. All rows of a group are of
--- one relation and one value of its key, so of two tuples with different numbers only the plus rows contradict each other.
+-- one relation and one key, so of two tuples with different numbers only the plus rows contradict each other.
 use Rattle.std.specs.Prelude.{◌≡◌, ℕ, Bool, false, ◌&&◌, nat_eq, List, [], ◌∷◌, ◌++◌, length, filter, Option, Some, None, is_some, cond}
 use Rattle.std.specs.List.{list_any, flat_map}
 use Rattle.bdb_base.specs.Same.{same_sign}

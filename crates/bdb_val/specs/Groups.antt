@@ -28,22 +28,22 @@ is_near ns test wid m u = test u && (nat_eq m wid || leads_to (link_of ns m) wid
 
 -- The tables have named worlds and their links, and rows of which the explicit ones are the statements. All rows are settled,
 -- but for those of tuples that pass a test at a world and at the worlds linked to it.
-pub record IsUnsettled (stmts : List Stmt) (ns : Names) (tuple : ℕ → Option Tuple) (f : ValKey → Option Mark) (t : Tables) (wid : ℕ) (test : Tuple → Bool) : Type 0 where
+pub record IsUnsettled (keys : ℕ → ℕ) (stmts : List Stmt) (ns : Names) (tuple : ℕ → Option Tuple) (f : ValKey → Option Mark) (t : Tables) (wid : ℕ) (test : Tuple → Bool) : Type 0 where
   pub names : AreNames ns
   pub states : HasStates stmts (is_named ns)
   pub links : HasLinks ns t
-  pub explicit : HasExplicit stmts (worlds_of ns) tuple f t
+  pub explicit : HasExplicit keys stmts (worlds_of ns) tuple f t
   pub named : is_some (path_of ns wid) ≡ true
-  pub settled : AreSettledBut stmts (worlds_of ns) tuple f (is_near ns test wid)
+  pub settled : AreSettledBut keys stmts (worlds_of ns) tuple f (is_near ns test wid)
 
--- whichever statements they are, the rows of the worlds are held where only those of a group at a world, and at the worlds
--- linked to it, were not settled
-abbrev pub SettlesGroup : Tables → Tables → ℕ → ℕ → Value → Type 0
-SettlesGroup t u wid rel v = (stmts : List Stmt) (ns : Names) (tuple : ℕ → Option Tuple) (f : ValKey → Option Mark) → IsUnsettled stmts ns tuple f t wid (is_of_group rel v)
-    → HoldsRows (λ _. 1) stmts (path_of ns) tuple u
+-- whichever statements and lengths of keys they are, the rows of the worlds are held where only those of a group at a world, and
+-- at the worlds linked to it, were not settled
+abbrev pub SettlesGroup : Tables → Tables → ℕ → ℕ → List Value → Type 0
+SettlesGroup t u wid rel vs = (keys : ℕ → ℕ) (stmts : List Stmt) (ns : Names) (tuple : ℕ → Option Tuple) (f : ValKey → Option Mark) → IsUnsettled keys stmts ns tuple f t wid (is_of_group keys rel vs)
+    → HoldsRows keys stmts (path_of ns) tuple u
 
--- whichever statements they are, where only those rows were not settled one write was made for each row that is another, and
--- it is told how many rows were put where there was none and how many were taken away
-abbrev pub TellsGroup : Seen → Seen → ℕ → ℕ → Value → Settled → Type 0
-TellsGroup old new wid rel v s = (stmts : List Stmt) (ns : Names) (tuple : ℕ → Option Tuple) (f : ValKey → Option Mark) → IsUnsettled stmts ns tuple f old.kept wid (is_of_group rel v)
+-- whichever statements and lengths of keys they are, where only those rows were not settled one write was made for each row that
+-- is another, and it is told how many rows were put where there was none and how many were taken away
+abbrev pub TellsGroup : Seen → Seen → ℕ → ℕ → List Value → Settled → Type 0
+TellsGroup old new wid rel vs s = (keys : ℕ → ℕ) (stmts : List Stmt) (ns : Names) (tuple : ℕ → Option Tuple) (f : ValKey → Option Mark) → IsUnsettled keys stmts ns tuple f old.kept wid (is_of_group keys rel vs)
     → TellsDifferences old new s.put s.taken

@@ -8,11 +8,11 @@ use Rattle.bdb_keep.specs.Tables.{Tables}
 use Rattle.bdb_tables.specs.InUse.{ValKey}
 use Rattle.bdb_tables.specs.Marks.{Mark, sign_of, explicit_sign}
 use Rattle.bdb_tables.specs.Names.{Names, AreNames, path_of, is_named}
-use Rattle.bdb_tables.specs.Rows.{Tuples, HoldsTuples, HoldsRows, row_for}
+use Rattle.bdb_tables.specs.Rows.{AreKeyLengths, Tuples, HoldsTuples, HoldsRows, row_for}
 use Rattle.bdb_val.specs.Middle.{worlds_of, HasExplicit, AreSettledBut}
 use Rattle.bdb_val.specs.Settled.{settled_mark, Worlds, AreLinked, Rows, IsSettled, IsRight, HasStates}
 use Rattle.bdb_val.specs.Settling.{mark_in, next_mark, settling, last_mark, AreNamed, are_apart, are_changes_apart, IsGroup, AreNumbered, AreExplicit}
-use Rattle.bdb_key.specs.Grammar.{IsNum, IsPlainValue}
+use Rattle.bdb_key.specs.Grammar.{IsNum, AreKeyVals}
 use Rattle.bdb_keep.specs.Seen.{Seen}
 use Rattle.bdb_base.specs.declared.kinds.Value.{Value}
 use Rattle.bdb_val.specs.Reads.{group_prefix}
@@ -60,22 +60,23 @@ SettlingIsApart = (keys : ℕ → ℕ) (stored own from : List Stored) → are_a
 
 -- where the explicit rows are the statements and all rows are settled, the tables hold the rows of the worlds
 abbrev pub SettledRowsAreHeld : Type 0
-SettledRowsAreHeld = (stmts : List Stmt) (ns : Names) (tuple : ℕ → Option Tuple) (f : ValKey → Option Mark) (t : Tables)
-    → AreNames ns → HasStates stmts (is_named ns) → HasExplicit stmts (worlds_of ns) tuple f t → AreSettledBut stmts (worlds_of ns) tuple f (λ _ _. false)
-    → HoldsRows (λ _. 1) stmts (path_of ns) tuple t
+SettledRowsAreHeld = (keys : ℕ → ℕ) (stmts : List Stmt) (ns : Names) (tuple : ℕ → Option Tuple) (f : ValKey → Option Mark) (t : Tables)
+    → AreNames ns → HasStates stmts (is_named ns) → HasExplicit keys stmts (worlds_of ns) tuple f t → AreSettledBut keys stmts (worlds_of ns) tuple f (λ _ _. false)
+    → HoldsRows keys stmts (path_of ns) tuple t
 
 -- where tables hold tuples and the rows of the worlds, the explicit rows are the statements
 abbrev pub HeldRowsAreExplicit : Type 0
-HeldRowsAreExplicit = (stmts : List Stmt) (ns : Names) (ts : Tuples) (t : Tables)
-    → AreNames ns → HasStates stmts (is_named ns) → IsConsistent (λ _. 1) stmts → HoldsTuples stmts ts t → HoldsRows (λ _. 1) stmts (path_of ns) ts.tuple t
-    → HasExplicit stmts (worlds_of ns) ts.tuple (row_for (λ _. 1) stmts (path_of ns) ts.tuple) t
+HeldRowsAreExplicit = (keys : ℕ → ℕ) (stmts : List Stmt) (ns : Names) (ts : Tuples) (t : Tables)
+    → AreKeyLengths keys → AreNames ns → HasStates stmts (is_named ns) → IsConsistent keys stmts → HoldsTuples stmts ts t → HoldsRows keys stmts (path_of ns) ts.tuple t
+    → HasExplicit keys stmts (worlds_of ns) ts.tuple (row_for keys stmts (path_of ns) ts.tuple) t
 
 -- the rows of the worlds are settled
 abbrev pub HeldRowsAreSettled : Type 0
-HeldRowsAreSettled = (stmts : List Stmt) (ns : Names) (ts : Tuples) (t : Tables)
-    → AreNames ns → HasStates stmts (is_named ns) → IsConsistent (λ _. 1) stmts → HoldsTuples stmts ts t
-    → AreSettledBut stmts (worlds_of ns) ts.tuple (row_for (λ _. 1) stmts (path_of ns) ts.tuple) (λ _ _. false)
+HeldRowsAreSettled = (keys : ℕ → ℕ) (stmts : List Stmt) (ns : Names) (ts : Tuples) (t : Tables)
+    → AreNames ns → HasStates stmts (is_named ns) → IsConsistent keys stmts → HoldsTuples stmts ts t
+    → AreSettledBut keys stmts (worlds_of ns) ts.tuple (row_for keys stmts (path_of ns) ts.tuple) (λ _ _. false)
 
 -- settling the group of a state makes as many writes as there are places at which the tables differ
 abbrev pub StepsWriteDifferences : Type 0
-StepsWriteDifferences = (old new : Seen) (wid rel : ℕ) (v : Value) (s : SettledWorld) → IsNum wid → IsNum rel → IsPlainValue v → IsStep old new wid (λ w. group_prefix w rel v) s → WritesDifferences old new
+StepsWriteDifferences = (keys : ℕ → ℕ) (old new : Seen) (wid rel : ℕ) (vs : List Value) (s : SettledWorld) → IsNum wid → IsNum rel → AreKeyVals vs
+    → IsStep keys old new wid (λ w. group_prefix w rel vs) s → WritesDifferences keys old new

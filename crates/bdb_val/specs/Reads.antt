@@ -3,10 +3,11 @@ use Rattle.std.specs.Prelude.{◌≡◌, ℕ, Bool, true, List, [], ◌∷◌, �
 use Rattle.std.specs.FinMap as tables
 use Rattle.bdb_base.specs.declared.tuple.Tuple.{Tuple}
 use Rattle.bdb_base.specs.declared.kinds.Value.{Value}
-use Rattle.bdb_base.specs.Same.{same_value}
+use Rattle.bdb_base.specs.Clash.{key_of}
+use Rattle.bdb_base.specs.Same.{same_values}
 use Rattle.bdb_base.specs.Segments.{is_prefix}
 use Rattle.bdb_keep.specs.Tables.{Tables}
-use Rattle.bdb_key.specs.Bytes.{num_bytes, value_bytes}
+use Rattle.bdb_key.specs.Bytes.{num_bytes, vals_bytes}
 use Rattle.bdb_key.specs.Grammar.{IsNum}
 use Rattle.bdb_key.specs.Rows.{IsTupleRow}
 use Rattle.bdb_tables.specs.Codec.{HasRow, place}
@@ -14,16 +15,17 @@ use Rattle.bdb_tables.specs.InUse.{ValKey, IsValKey, val_bytes, tuple_codec, val
 use Rattle.bdb_tables.specs.Spans.{AreUnder}
 use Rattle.bdb_tables.specs.Writes.{Gives}
 use Rattle.bdb_tables.specs.Marks.{Mark}
-use Rattle.bdb_val.specs.Settling.{key_value, row_key}
+use Rattle.bdb_tables.specs.Rows.{AreKeyLengths}
+use Rattle.bdb_val.specs.Settling.{row_key}
 use Rattle.bdb_val.specs.declared.stored.Stored.{Stored}
 
 -- how the keys of a world's rows begin
 abbrev pub world_prefix : ℕ → List ℕ
 world_prefix wid = num_bytes wid
 
--- how the keys of the rows of a world's group begin: those of one relation and one value of its key
-abbrev pub group_prefix : ℕ → ℕ → Value → List ℕ
-group_prefix wid rel v = num_bytes wid ++ num_bytes rel ++ value_bytes v
+-- how the keys of the rows of a world's group begin: those of one relation and one key
+abbrev pub group_prefix : ℕ → ℕ → List Value → List ℕ
+group_prefix wid rel vs = num_bytes wid ++ num_bytes rel ++ vals_bytes vs
 
 -- a row with its tuple is one of table 11, whose tuple is that of its number
 pub record IsTold (t : Tables) (e : ValKey × Mark) (x : Stored) : Type 0 where
@@ -49,19 +51,20 @@ abbrev pub HaveTuples : Tables → Type 0
 HaveTuples t = (k : ValKey) → IsValKey k → is_some (tables.get t (place val_codec k)) ≡ true → is_some (tables.get t (place tuple_codec k.3)) ≡ true
 
 -- What tables have of tuples and of rows, told by functions: each row's tuple has a number of four bytes, and the row's
--- key has the tuple's relation and key.
-pub record HasRows (tuple : ℕ → Option Tuple) (f : ValKey → Option Mark) (t : Tables) : Type 0 where
+-- key has the tuple's relation and key, whose length is that of the relation's keys.
+pub record HasRows (keys : ℕ → ℕ) (tuple : ℕ → Option Tuple) (f : ValKey → Option Mark) (t : Tables) : Type 0 where
+  pub lengths : AreKeyLengths keys
   pub tuples : Gives tuple_codec t tuple
   pub rows : Gives val_codec t f
   pub sized : (tid : ℕ) (u : Tuple) → tuple tid ≡ Some u → IsNum tid
-  pub keyed : (k : ValKey) → IsValKey k → is_some (f k) ≡ true → (u : Tuple) × (tuple k.3 ≡ Some u) × (row_key k.0 k.3 u ≡ k)
+  pub keyed : (k : ValKey) → IsValKey k → is_some (f k) ≡ true → (u : Tuple) × (tuple k.3 ≡ Some u) × (row_key keys k.0 k.3 u ≡ k)
 
--- a tuple is of a relation and has a value of its key
-abbrev pub is_of_group : ℕ → Value → Tuple → Bool
-is_of_group rel v t = nat_eq t.rel rel && same_value (key_value t.vals) v
+-- a tuple is of a relation and has a key
+abbrev pub is_of_group : (ℕ → ℕ) → ℕ → List Value → Tuple → Bool
+is_of_group keys rel vs t = nat_eq t.rel rel && same_values (key_of keys t) vs
 
 -- All keys that begin so are of one world, and the keys of the rows of the tuples that pass a test are those that do.
-pub record IsSpan (wid : ℕ) (test : Tuple → Bool) (prefix : List ℕ) : Type 0 where
+pub record IsSpan (keys : ℕ → ℕ) (wid : ℕ) (test : Tuple → Bool) (prefix : List ℕ) : Type 0 where
   pub world : (k : ValKey) → IsValKey k → is_prefix prefix (val_bytes k) ≡ true → k.0 ≡ wid
-  pub begins : (tid : ℕ) (u : Tuple) → test u ≡ true → is_prefix prefix (val_bytes (row_key wid tid u)) ≡ true
-  pub inside : (tid : ℕ) (u : Tuple) → IsTupleRow u → is_prefix prefix (val_bytes (row_key wid tid u)) ≡ true → test u ≡ true
+  pub begins : (tid : ℕ) (u : Tuple) → test u ≡ true → is_prefix prefix (val_bytes (row_key keys wid tid u)) ≡ true
+  pub inside : (tid : ℕ) (u : Tuple) → IsTupleRow u → is_prefix prefix (val_bytes (row_key keys wid tid u)) ≡ true → test u ≡ true

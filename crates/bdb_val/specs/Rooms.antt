@@ -10,22 +10,22 @@ use Rattle.bdb_tables.specs.Spans.{AreUnder}
 use Rattle.bdb_val.specs.Reads.{group_prefix}
 
 -- bytes are none yet, or those with which the keys of a group begin in some world
-abbrev pub MayBegin : List ℕ → ℕ → Value → Type 0
-MayBegin prefix rel v = (prefix ≡ []) ⊎ ((wid : ℕ) × BeginsGroup prefix wid rel v)
+abbrev pub MayBegin : List ℕ → ℕ → List Value → Type 0
+MayBegin prefix rel vs = (prefix ≡ []) ⊎ ((wid : ℕ) × BeginsGroup prefix wid rel vs)
 
 -- these are the rows of a group of a world, by the numbers of their tuples
-pub record AreRowsOf (t : Tables) (rel : ℕ) (v : Value) (rows : List (ℕ × Mark)) (wid : ℕ) : Type 0 where
+pub record AreRowsOf (t : Tables) (rel : ℕ) (vs : List Value) (rows : List (ℕ × Mark)) (wid : ℕ) : Type 0 where
   pub world : IsNum wid
-  pub under : AreUnder val_codec t (group_prefix wid rel v) (map (in_group wid rel v) rows)
+  pub under : AreUnder val_codec t (group_prefix wid rel vs) (map (in_group wid rel vs) rows)
 
 -- rows that are kept are those of the world that they are from, if any
-abbrev pub AreHanded : Tables → ℕ → Value → Option ℕ → List (ℕ × Mark) → Type 0
-AreHanded t rel v from rows = MatchOption from (Unit {0}) (AreRowsOf t rel v rows)
+abbrev pub AreHanded : Tables → ℕ → List Value → Option ℕ → List (ℕ × Mark) → Type 0
+AreHanded t rel vs from rows = MatchOption from (Unit {0}) (AreRowsOf t rel vs rows)
 
 -- what a walk keeps is of a group of the tables
-pub record IsRoomFor (t : Tables) (rel : ℕ) (v : Value) (prefix : List ℕ) (from : Option ℕ) (rows : List (ℕ × Mark)) : Type 0 where
-  pub begins : MayBegin prefix rel v
-  pub handed : AreHanded t rel v from rows
+pub record IsRoomFor (t : Tables) (rel : ℕ) (vs : List Value) (prefix : List ℕ) (from : Option ℕ) (rows : List (ℕ × Mark)) : Type 0 where
+  pub begins : MayBegin prefix rel vs
+  pub handed : AreHanded t rel vs from rows
 
 -- rows that are kept are those of a world
 abbrev pub is_from : ℕ → Option ℕ → Bool

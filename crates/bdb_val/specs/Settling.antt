@@ -1,15 +1,14 @@
 -- The rows that the tuples of a world are to have, and the changes that bring them about.
-use Rattle.std.specs.Prelude.{◌≡◌, ℕ, pos, Bool, true, false, ◌&&◌, ◌||◌, nat_eq, List, [], ◌∷◌, ◌++◌, Option, Some, None, is_some, cond}
+use Rattle.std.specs.Prelude.{◌≡◌, ℕ, Bool, true, false, ◌&&◌, ◌||◌, nat_eq, List, [], ◌∷◌, ◌++◌, Option, Some, None, is_some, cond}
 use Rattle.std.specs.Bool.{beq}
 use Rattle.std.specs.List.{list_any, flat_map, AllByRecursion}
 use Rattle.bdb_base.specs.declared.kinds.Sign.{Sign}
 use Rattle.bdb_base.specs.declared.kinds.Stmt.{Stmt}
-use Rattle.bdb_base.specs.declared.kinds.Value.{Value}
-use Rattle.bdb_base.specs.declared.kinds.Value.TheVariants.{Int}
 use Rattle.bdb_base.specs.declared.tuple.Tuple.{Tuple}
-use Rattle.bdb_base.specs.Clash.{clash}
+use Rattle.bdb_base.specs.Clash.{clash, key_of}
 use Rattle.bdb_base.specs.Same.{same_sign}
 use Rattle.bdb_base.specs.Worlds.{explicit}
+use Rattle.bdb_tables.specs.InUse.{ValKey}
 use Rattle.bdb_tables.specs.Marks.{Mark, sign_of, explicit_of, explicit_sign}
 use Rattle.bdb_val.specs.Settled.{settled_mark}
 use Rattle.bdb_val.specs.declared.stored.Stored.{Stored}
@@ -94,15 +93,10 @@ pub record AreExplicit (tuple : ℕ → Option Tuple) (test : Tuple → Bool) (s
   pub stated : AllByRecursion (IsStatedAt stmts w) own
   pub all : (tid : ℕ) (t : Tuple) → tuple tid ≡ Some t → test t ≡ true → explicit_of (mark_in own tid) ≡ explicit_sign stmts w t
 
--- the value of a tuple's key: its first one; a tuple has at least one
-abbrev pub key_value : List Value → Value
-key_value [] = Int (pos 0)
-key_value (v ∷ vs) = v
-
 -- the key of a tuple's row in a world
-abbrev pub row_key : ℕ → ℕ → Tuple → ℕ × ℕ × Value × ℕ
-row_key wid tid t = (wid, t.rel, key_value t.vals, tid)
+abbrev pub row_key : (ℕ → ℕ) → ℕ → ℕ → Tuple → ValKey
+row_key keys wid tid t = (wid, t.rel, key_of keys t, tid)
 
 -- a change as that of a row in a world
-abbrev pub keyed : ℕ → Change → (ℕ × ℕ × Value × ℕ) × Option Mark
-keyed wid x = (row_key wid x.0 x.1, x.2)
+abbrev pub keyed : (ℕ → ℕ) → ℕ → Change → ValKey × Option Mark
+keyed keys wid x = (row_key keys wid x.0 x.1, x.2)

@@ -8,6 +8,6 @@ use Rattle.bdb_tables.specs.Marks.{Mark}
 use Rattle.bdb_val.specs.Middle.{HasExplicit}
 use Rattle.bdb_val.specs.Settled.{Worlds}
 
--- something holds, whichever statements the explicit rows of tables are
-abbrev pub WhereStated : Tables → Type 0 → Type 0
-WhereStated t P = (stmts : List Stmt) (n : Worlds) (tuple : ℕ → Option Tuple) (f : ValKey → Option Mark) → HasExplicit stmts n tuple f t → P
+-- something holds, whichever statements the explicit rows of tables are, and whichever lengths keys have
+abbrev pub WhereStated : Tables → ((ℕ → ℕ) → Type 0) → Type 0
+WhereStated t P = (keys : ℕ → ℕ) (stmts : List Stmt) (n : Worlds) (tuple : ℕ → Option Tuple) (f : ValKey → Option Mark) → HasExplicit keys stmts n tuple f t → P keys

@@ -20,20 +20,20 @@ use Rattle.bdb_val.specs.declared.stored.Stored.{Stored}
 use Rattle.bdb_val.specs.declared.stored.SettledWorld.{SettledWorld}
 
 -- in each world a beginning of keys is that of the tuples that pass a test
-abbrev pub AreSpans : (Tuple → Bool) → (ℕ → List ℕ) → Type 0
-AreSpans test prefix = (wid : ℕ) → IsNum wid → IsSpan wid test (prefix wid)
+abbrev pub AreSpans : (ℕ → ℕ) → (Tuple → Bool) → (ℕ → List ℕ) → Type 0
+AreSpans keys test prefix = (wid : ℕ) → IsNum wid → IsSpan keys wid test (prefix wid)
 
 -- the changes of rows that settle a world whose rows are `own`, over those of the world to which it is linked
-abbrev pub rows_made : ℕ → List Stored → List Stored → List (ValKey × Option Mark)
-rows_made wid own from = map (keyed wid) (settling (λ _. 1) own own from)
+abbrev pub rows_made : (ℕ → ℕ) → ℕ → List Stored → List Stored → List (ValKey × Option Mark)
+rows_made keys wid own from = map (keyed keys wid) (settling keys own own from)
 
 -- Rows of a world are settled: they, and those of the world to which it is linked, were read, and the changes are written.
-pub record IsSettling (t u : Tables) (wid : ℕ) (link : Option ℕ) (prefix : ℕ → List ℕ) : Type 0 where
+pub record IsSettling (keys : ℕ → ℕ) (t u : Tables) (wid : ℕ) (link : Option ℕ) (prefix : ℕ → List ℕ) : Type 0 where
   pub own : List Stored
   pub from : List Stored
   pub own_read : AreReadUnder t (prefix wid) own
   pub from_read : MatchOption link (from ≡ []) (λ m. AreReadUnder t (prefix m) from)
-  pub written : u ≡ with_changes val_codec t (rows_made wid own from)
+  pub written : u ≡ with_changes val_codec t (rows_made keys wid own from)
 
 -- two signs are one, or there is none of either
 abbrev pub same_signs : Option Sign → Option Sign → Bool
@@ -83,14 +83,14 @@ pub record IsChanging {T E : Type 0} (old new : Seen) (result : Result T E) (fau
   pub steps : Steps old new result fault
 
 -- The rows of a world under a beginning are settled: its link was read, and one write was made for each change.
-pub record IsStep (old new : Seen) (wid : ℕ) (prefix : ℕ → List ℕ) (s : SettledWorld) : Type 0 where
+pub record IsStep (keys : ℕ → ℕ) (old new : Seen) (wid : ℕ) (prefix : ℕ → List ℕ) (s : SettledWorld) : Type 0 where
   pub link : Option ℕ
   pub linked : HasAt link_codec old.kept wid link
-  pub settling : IsSettling old.kept new.kept wid link prefix
-  pub tells : Tells (mark_in settling.own) (rows_made wid settling.own settling.from) s
-  pub writes : Rises (length (rows_made wid settling.own settling.from)) old.writes new.writes
+  pub settling : IsSettling keys old.kept new.kept wid link prefix
+  pub tells : Tells (mark_in settling.own) (rows_made keys wid settling.own settling.from) s
+  pub writes : Rises (length (rows_made keys wid settling.own settling.from)) old.writes new.writes
 
 -- whichever rows the tables have, as many writes were made as there are places at which they differ
-abbrev pub WritesDifferences : Seen → Seen → Type 0
-WritesDifferences old new = (tuple : ℕ → Option Tuple) (f : ValKey → Option Mark) → HasRows tuple f old.kept
+abbrev pub WritesDifferences : (ℕ → ℕ) → Seen → Seen → Type 0
+WritesDifferences keys old new = (tuple : ℕ → Option Tuple) (f : ValKey → Option Mark) → HasRows keys tuple f old.kept
     → (ps : List (List ℕ)) → AreDifferences (tables.get old.kept) (tables.get new.kept) ps → Rises (length ps) old.writes new.writes

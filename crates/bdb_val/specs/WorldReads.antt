@@ -8,7 +8,7 @@ use Rattle.bdb_base.specs.WorldRows.{row_tuple_cmp, world_of}
 use Rattle.bdb_base.specs.Worlds.{IsConsistent}
 use Rattle.bdb_keep.specs.Tables.{Tables}
 use Rattle.bdb_tables.specs.Names.{Names, AreNames, path_of}
-use Rattle.bdb_tables.specs.Rows.{Tuples, HoldsTuples, HoldsRows}
+use Rattle.bdb_tables.specs.Rows.{AreKeyLengths, Tuples, HoldsTuples, HoldsRows}
 use Rattle.bdb_val.specs.declared.stored.Stored.{Stored}
 
 -- a stored row as one of a world
@@ -24,7 +24,7 @@ pub record AreInOrder (rows : List Stored) (held : List Held) : Type 0 where
   pub moved : IsPermutation (map held_row rows) held
   pub sorted : IsSortedBy is_before held
 
--- whichever statements they are whose rows the tables hold, these are the rows of the world of the path that the number names
+-- whichever statements they are whose rows the tables hold, and whichever lengths keys have, these are the rows of the world of the path that the number names
 abbrev pub AreRowsAt : Tables → ℕ → List Held → Type 0
-AreRowsAt t wid held = (stmts : List Stmt) (ns : Names) (ts : Tuples) (w : List ℕ) → IsConsistent (λ _. 1) stmts → AreNames ns
-    → HoldsTuples stmts ts t → HoldsRows (λ _. 1) stmts (path_of ns) ts.tuple t → path_of ns wid ≡ Some w → held ≡ world_of (λ _. 1) stmts w
+AreRowsAt t wid held = (keys : ℕ → ℕ) (stmts : List Stmt) (ns : Names) (ts : Tuples) (w : List ℕ) → AreKeyLengths keys → IsConsistent keys stmts → AreNames ns
+    → HoldsTuples stmts ts t → HoldsRows keys stmts (path_of ns) ts.tuple t → path_of ns wid ≡ Some w → held ≡ world_of keys stmts w

@@ -4,11 +4,11 @@ ghost use Rattle.std.specs.FinMap as tables;
 ghost use Rattle.bdb_base.specs.Causes.{RoseBy};
 ghost use Rattle.bdb_keep.specs.Calls.{IsRead};
 ghost use Rattle.bdb_key.specs.Bytes.{num_bytes};
-ghost use Rattle.bdb_key.specs.Grammar.{HasPlainText, IsPlainValue};
+ghost use Rattle.bdb_key.specs.Grammar.{AreKeyVals};
 ghost use Rattle.bdb_tables.specs.Codec.{HasRow, place};
 ghost use Rattle.bdb_tables.specs.Grammar.{InGrammar};
 ghost use Rattle.bdb_tables.specs.GroupMarks.{in_group};
-ghost use Rattle.bdb_tables.specs.InUse.{tuple_codec, val_codec};
+ghost use Rattle.bdb_tables.specs.InUse.{HaveKeyTexts, tuple_codec, val_codec};
 ghost use Rattle.bdb_tables.specs.Spans.{AreUnder};
 ghost use Rattle.bdb_val.specs.Reads.{AreReadUnder, HaveTuples, world_prefix, group_prefix};
 ghost use Rattle.bdb_val.specs.Rooms.{MayBegin};
@@ -18,8 +18,10 @@ use crate::room::{GroupRoom, PREFIX_ROOM};
 use crate::stored::Stored;
 use bdb_base::{Tuple, Value};
 use bdb_keep::Keeper;
-use bdb_key::{put_num, put_value};
-use bdb_tables::{Room, TabError, TupleTab, get, marks_under, numbered_under};
+use bdb_key::put_num;
+use bdb_tables::{
+    Room, TabError, TupleTab, get, marks_under, numbered_under, put_key_vals, put_pair,
+};
 use std::alloc::{AllocError, Global};
 
 /// The rows of worlds whose keys begin with these bytes, with their tuples, in the order of the keys. Two reads for each
@@ -98,20 +100,20 @@ pub fn read_world<K: Keeper>(
     }
 }
 
-/// The rows of a world for the tuples of a relation and a value of its key, with their tuples, in order of their numbers.
+/// The rows of a world for the tuples of a relation and a key, with their tuples, in order of their numbers.
 pub fn read_group<K: Keeper>(
     alloc: Global,
     keeper: &mut K,
     wid: u32,
     rel: u32,
-    key: &Value,
+    key: &[Value],
 ) -> Result<Vec<Stored>, TabError>
     requires grammar { InGrammar (K.seen keeper.old).kept }
     requires tuples { HaveTuples (K.seen keeper.old).kept }
-    requires text { HasPlainText key.now }
+    requires text { HaveKeyTexts key.now }
     ensures rows { IfOk result (λ rows. AreReadUnder (K.seen keeper.old).kept (group_prefix wid rel key.now) rows.items) }
     ensures reads { IfOk result (λ rows. (K.seen keeper.new).reads ≤ (K.seen keeper.old).reads + (2 * length rows.items + 1)) }
-    ensures fits { OnOk result (IsPlainValue key.now) }
+    ensures fits { OnOk result (AreKeyVals key.now) }
     ensures read { IsRead (K.seen keeper.old) (K.seen keeper.new) result TabError.Fault }
 {
     let mut prefix = match Vec::with_capacity(alloc, PREFIX_ROOM) {
@@ -131,22 +133,22 @@ pub fn read_group<K: Keeper>(
     }
 }
 
-/// Makes `rows` the rows of a world for the tuples of a relation and a value of its key, by the tuples' numbers, in their order.
+/// Makes `rows` the rows of a world for the tuples of a relation and a key, by the tuples' numbers, in their order.
 /// The room's `prefix` becomes the bytes with which the rows' keys begin.
 pub fn group_marks<K: Keeper>(
     keeper: &mut K,
     wid: u32,
     rel: u32,
-    key: &Value,
+    key: &[Value],
     room: &mut GroupRoom,
     rows: &mut Vec<Marked>,
 ) -> Result<(), TabError>
     requires grammar { InGrammar (K.seen keeper.old).kept }
-    requires text { HasPlainText key.now }
+    requires text { HaveKeyTexts key.now }
     requires begins { MayBegin room.old.prefix.items rel key.now }
     ensures rows { OnOk result (AreUnder val_codec (K.seen keeper.old).kept (group_prefix wid rel key.now) (map (in_group wid rel key.now) rows.new.items)) }
     ensures prefix { OnOk result (room.new.prefix.items ≡ group_prefix wid rel key.now) }
-    ensures fits { OnOk result (IsPlainValue key.now) }
+    ensures fits { OnOk result (AreKeyVals key.now) }
     ensures read { IsRead (K.seen keeper.old) (K.seen keeper.new) result TabError.Fault }
 {
     match put_group(&mut room.prefix, wid, rel, key) {
@@ -164,16 +166,15 @@ pub fn group_marks<K: Keeper>(
 
 // Makes bytes those with which the keys of a group of a world begin. Where they are those of the group in another world, only the
 // world's number is replaced.
-fn put_group(prefix: &mut Vec<u8>, wid: u32, rel: u32, key: &Value) -> Result<(), AllocError>
-    requires text { HasPlainText key.now }
+fn put_group(prefix: &mut Vec<u8>, wid: u32, rel: u32, key: &[Value]) -> Result<(), AllocError>
+    requires text { HaveKeyTexts key.now }
     requires begins { MayBegin prefix.old.items rel key.now }
     ensures bytes { OnOk result (prefix.new.items ≡ group_prefix wid rel key.now) }
-    ensures fits { OnOk result (IsPlainValue key.now) }
+    ensures fits { OnOk result (AreKeyVals key.now) }
 {
     if prefix.is_empty() {
-        put_num(prefix, wid)?;
-        put_num(prefix, rel)?;
-        put_value(prefix, key)?;
+        put_pair(prefix, wid, rel)?;
+        put_key_vals(prefix, key)?;
         return Ok(());
     }
     set_world(prefix, wid);

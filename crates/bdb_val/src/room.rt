@@ -6,7 +6,7 @@ use crate::changes::{MarkChange, Marked};
 use bdb_tables::Room;
 use std::alloc::{AllocError, Global};
 
-/// Room for the bytes with which the keys of a group begin, unless its key is a long text.
+/// Room for the bytes with which the keys of a group begin, unless its key is long.
 pub const PREFIX_ROOM: usize = 64;
 
 /// Room for the bytes with which a link's key begins, and of such a key with one byte more.

@@ -1,11 +1,11 @@
 // Settling the rows of one world.
 ghost use Rattle.std.specs.Prelude.{◌≡◌, ◌+◌, ◌-◌, ◌<◌, ◌^◌, ◌||◌, nat_eq, true, cond, map, MatchOption, [], IfOk, OnOk};
 ghost use Rattle.bdb_keep.specs.Calls.{IsRead};
-ghost use Rattle.bdb_key.specs.Grammar.{HasPlainText, IsPlainValue};
+ghost use Rattle.bdb_key.specs.Grammar.{AreKeyVals};
 ghost use Rattle.bdb_tables.specs.Codec.{HasAt};
 ghost use Rattle.bdb_tables.specs.Grammar.{InGrammar};
 ghost use Rattle.bdb_tables.specs.GroupMarks.{in_group};
-ghost use Rattle.bdb_tables.specs.InUse.{link_codec, val_codec};
+ghost use Rattle.bdb_tables.specs.InUse.{HaveKeyTexts, link_codec, val_codec};
 ghost use Rattle.bdb_tables.specs.Spans.{AreUnder};
 ghost use Rattle.bdb_val.specs.GroupChanges.{mark_under, TellsMarks};
 ghost use Rattle.bdb_val.specs.Others.{SameBut};
@@ -23,7 +23,7 @@ use bdb_base::{Sign, Value};
 use bdb_keep::Keeper;
 use bdb_tables::{TabError, write_marks};
 
-/// Settles the rows of a world for the tuples of a relation and a value of its key: each is explicit, or what the world
+/// Settles the rows of a world for the tuples of a relation and a key: each is explicit, or what the world
 /// inherits from the world to which its suffix link leads, where no explicit row contradicts it. One write for each row that is
 /// another afterwards. No tuple is read: where the explicit rows are statements, the numbers of tuples tell which rows of a group
 /// contradict each other. The rows of the world to which this one is linked are read where the room has others.
@@ -32,20 +32,20 @@ pub fn settle_state<K: Keeper>(
     wid: u32,
     link: Option<u32>,
     rel: u32,
-    key: &Value,
+    key: &[Value],
     room: &mut WalkRoom,
 ) -> Result<SettledWorld, TabError>
     requires running { (K.seen keeper.old).running ≡ true }
     requires grammar { InGrammar (K.seen keeper.old).kept }
     requires tuples { HaveTuples (K.seen keeper.old).kept }
-    requires text { HasPlainText key.now }
+    requires text { HaveKeyTexts key.now }
     requires room { IsRoomFor (K.seen keeper.old).kept rel key.now room.old.group.prefix.items room.old.handed.from room.old.handed.rows.items }
     ensures settled { IfOk result (λ settled. HasAt link_codec (K.seen keeper.old).kept wid link
-        → WhereStated (K.seen keeper.old).kept (IsStep (K.seen keeper.old) (K.seen keeper.new) wid (λ w. group_prefix w rel key.now) settled)) }
+        → WhereStated (K.seen keeper.old).kept (λ keys. IsStep keys (K.seen keeper.old) (K.seen keeper.new) wid (λ w. group_prefix w rel key.now) settled)) }
     ensures others { OnOk result (SameBut (λ n. nat_eq n 11) (K.seen keeper.old).kept (K.seen keeper.new).kept) }
     ensures grammar { OnOk result (InGrammar (K.seen keeper.new).kept) }
     ensures tuples { OnOk result (HaveTuples (K.seen keeper.new).kept) }
-    ensures fits { OnOk result (IsPlainValue key.now) }
+    ensures fits { OnOk result (AreKeyVals key.now) }
     ensures room { OnOk result (IsRoomFor (K.seen keeper.new).kept rel key.now room.new.group.prefix.items room.new.handed.from room.new.handed.rows.items) }
     ensures changing { IsChanging (K.seen keeper.old) (K.seen keeper.new) result TabError.Fault }
 {
@@ -82,13 +82,13 @@ fn keep_linked<K: Keeper>(
     keeper: &mut K,
     link: Option<u32>,
     rel: u32,
-    key: &Value,
+    key: &[Value],
     room: &mut GroupRoom,
     handed: &mut Handed,
 ) -> Result<(), TabError>
     requires running { (K.seen keeper.old).running ≡ true }
     requires grammar { InGrammar (K.seen keeper.old).kept }
-    requires text { HasPlainText key.now }
+    requires text { HaveKeyTexts key.now }
     requires room { IsRoomFor (K.seen keeper.old).kept rel key.now room.old.prefix.items handed.old.from handed.old.rows.items }
     ensures rows { OnOk result (MatchOption link (handed.new.rows.items ≡ []) (λ m. AreUnder val_codec (K.seen keeper.old).kept (group_prefix m rel key.now) (map (in_group m rel key.now) handed.new.rows.items))) }
     ensures room { OnOk result (IsRoomFor (K.seen keeper.old).kept rel key.now room.new.prefix.items handed.new.from handed.new.rows.items) }

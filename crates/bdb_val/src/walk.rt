@@ -3,11 +3,11 @@ ghost use Rattle.std.specs.Prelude.{◌≡◌, nat_eq, ◌+◌, true, Some, IfOk
 ghost use Rattle.std.specs.Ordering.{is_le};
 ghost use Rattle.bdb_keep.specs.Calls.{IsRead};
 ghost use Rattle.bdb_keep.specs.Tables.{bytes_cmp};
-ghost use Rattle.bdb_key.specs.Grammar.{HasPlainText, IsPlainValue};
+ghost use Rattle.bdb_key.specs.Grammar.{AreKeyVals};
 ghost use Rattle.bdb_key.specs.Bytes.{num_bytes};
 ghost use Rattle.bdb_tables.specs.Codec.{HasAt};
 ghost use Rattle.bdb_tables.specs.Grammar.{InGrammar};
-ghost use Rattle.bdb_tables.specs.InUse.{link_codec, linked_codec};
+ghost use Rattle.bdb_tables.specs.InUse.{HaveKeyTexts, link_codec, linked_codec};
 ghost use Rattle.bdb_tables.specs.Spans.{HasNextUnder};
 ghost use Rattle.bdb_val.specs.Groups.{SettlesGroup, TellsGroup};
 ghost use Rattle.bdb_val.specs.Others.{SameBut};
@@ -27,7 +27,7 @@ use bdb_key::put_num;
 use bdb_tables::{SuffixIx, SuffixTab, TabError, get, next_under};
 use std::alloc::{AllocError, Global};
 
-/// Settles the rows of the tuples of a relation and a value of its key, at a state and at all states whose suffix links lead
+/// Settles the rows of the tuples of a relation and a key, at a state and at all states whose suffix links lead
 /// to it: each is explicit, or inherited where no explicit row contradicts it. It goes on from a state only where a sign
 /// there is another. One write for each row that is another afterwards; it tells how many rows were put at keys that had none,
 /// and how many were taken away. Where it begins at the root, which all links lead to in the end, they are read at once.
@@ -36,12 +36,12 @@ pub fn settle_group<K: Keeper>(
     keeper: &mut K,
     wid: u32,
     rel: u32,
-    key: &Value,
+    key: &[Value],
 ) -> Result<Settled, TabError>
     requires running { (K.seen keeper.old).running ≡ true }
     requires grammar { InGrammar (K.seen keeper.old).kept }
     requires tuples { HaveTuples (K.seen keeper.old).kept }
-    requires text { HasPlainText key.now }
+    requires text { HaveKeyTexts key.now }
     ensures settled { OnOk result (SettlesGroup (K.seen keeper.old).kept (K.seen keeper.new).kept wid rel key.now) }
     ensures tells { IfOk result (TellsGroup (K.seen keeper.old) (K.seen keeper.new) wid rel key.now) }
     ensures others { OnOk result (SameBut (λ n. nat_eq n 11) (K.seen keeper.old).kept (K.seen keeper.new).kept) }
@@ -65,13 +65,13 @@ fn settle_from<K: Keeper>(
     keeper: &mut K,
     wid: u32,
     rel: u32,
-    key: &Value,
+    key: &[Value],
     links: &Links,
 ) -> Result<Settled, TabError>
     requires running { (K.seen keeper.old).running ≡ true }
     requires grammar { InGrammar (K.seen keeper.old).kept }
     requires tuples { HaveTuples (K.seen keeper.old).kept }
-    requires text { HasPlainText key.now }
+    requires text { HaveKeyTexts key.now }
     requires links { AreLinks (K.seen keeper.old).kept links.now.are_all links.now.list.items }
     ensures settled { OnOk result (SettlesGroup (K.seen keeper.old).kept (K.seen keeper.new).kept wid rel key.now) }
     ensures tells { IfOk result (TellsGroup (K.seen keeper.old) (K.seen keeper.new) wid rel key.now) }
@@ -115,7 +115,7 @@ fn visit_first<K: Keeper>(
     keeper: &mut K,
     wid: u32,
     rel: u32,
-    key: &Value,
+    key: &[Value],
     links: &Links,
     list: &mut Vec<(u32, u32)>,
     room: &mut WalkRoom,
@@ -123,14 +123,14 @@ fn visit_first<K: Keeper>(
     requires running { (K.seen keeper.old).running ≡ true }
     requires grammar { InGrammar (K.seen keeper.old).kept }
     requires tuples { HaveTuples (K.seen keeper.old).kept }
-    requires text { HasPlainText key.now }
+    requires text { HaveKeyTexts key.now }
     requires links { AreLinks (K.seen keeper.old).kept links.now.are_all links.now.list.items }
     requires room { IsRoomFor (K.seen keeper.old).kept rel key.now room.old.group.prefix.items room.old.handed.from room.old.handed.rows.items }
-    ensures visited { IfOk result (λ settled. WhereStated (K.seen keeper.old).kept (IsFirstVisit (K.seen keeper.old) (K.seen keeper.new) (λ w. group_prefix w rel key.now) wid list.old.items list.new.items settled)) }
+    ensures visited { IfOk result (λ settled. WhereStated (K.seen keeper.old).kept (λ keys. IsFirstVisit keys (K.seen keeper.old) (K.seen keeper.new) (λ w. group_prefix w rel key.now) wid list.old.items list.new.items settled)) }
     ensures others { OnOk result (SameBut (λ n. nat_eq n 11) (K.seen keeper.old).kept (K.seen keeper.new).kept) }
     ensures grammar { OnOk result (InGrammar (K.seen keeper.new).kept) }
     ensures tuples { OnOk result (HaveTuples (K.seen keeper.new).kept) }
-    ensures fits { OnOk result (IsPlainValue key.now) }
+    ensures fits { OnOk result (AreKeyVals key.now) }
     ensures room { OnOk result (IsRoomFor (K.seen keeper.new).kept rel key.now room.new.group.prefix.items room.new.handed.from room.new.handed.rows.items) }
     ensures changing { IsChanging (K.seen keeper.old) (K.seen keeper.new) result TabError.Fault }
 {
@@ -154,7 +154,7 @@ fn visit_next<K: Keeper>(
     keeper: &mut K,
     next: (u32, u32),
     rel: u32,
-    key: &Value,
+    key: &[Value],
     links: &Links,
     list: &mut Vec<(u32, u32)>,
     room: &mut WalkRoom,
@@ -162,11 +162,11 @@ fn visit_next<K: Keeper>(
     requires running { (K.seen keeper.old).running ≡ true }
     requires grammar { InGrammar (K.seen keeper.old).kept }
     requires tuples { HaveTuples (K.seen keeper.old).kept }
-    requires text { HasPlainText key.now }
+    requires text { HaveKeyTexts key.now }
     requires links { AreLinks (K.seen keeper.old).kept links.now.are_all links.now.list.items }
     requires room { IsRoomFor (K.seen keeper.old).kept rel key.now room.old.group.prefix.items room.old.handed.from room.old.handed.rows.items }
     ensures visited { IfOk result (λ settled. HasAt link_codec (K.seen keeper.old).kept next.0 (Some next.1)
-        → WhereStated (K.seen keeper.old).kept (IsNextVisit (K.seen keeper.old) (K.seen keeper.new) (λ w. group_prefix w rel key.now) next.0 list.old.items list.new.items settled)) }
+        → WhereStated (K.seen keeper.old).kept (λ keys. IsNextVisit keys (K.seen keeper.old) (K.seen keeper.new) (λ w. group_prefix w rel key.now) next.0 list.old.items list.new.items settled)) }
     ensures others { OnOk result (SameBut (λ n. nat_eq n 11) (K.seen keeper.old).kept (K.seen keeper.new).kept) }
     ensures grammar { OnOk result (InGrammar (K.seen keeper.new).kept) }
     ensures tuples { OnOk result (HaveTuples (K.seen keeper.new).kept) }

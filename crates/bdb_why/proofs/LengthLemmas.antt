@@ -1,16 +1,17 @@
 -- Certificates of one tuple depend on the length of its relation's key alone.
-use Rattle.std.proofs.Common.{◌≡◌, ◌∙◌, ℕ, ◌+◌, Bool, true, false, not, ◌&&◌, ◌||◌, List, [], ◌∷◌, inl, inr, refl, ap, sym}
+use Rattle.std.proofs.Common.{◌≡◌, ◌∙◌, ℕ, ◌+◌, Bool, true, false, not, ◌&&◌, ◌||◌, nat_eq, cond, List, [], ◌∷◌, map, filter, inl, inr, refl, ap, sym}
 use Rattle.std.specs.List.{list_any, list_all}
-use Rattle.std.proofs.lemmas.Bool.{cases_Bool, and_parts}
+use Rattle.std.proofs.lemmas.Bool.{cases_Bool, and_parts, eqb-true}
 use Rattle.bdb_base.specs.declared.kinds.Sign.{Sign}
 use Rattle.bdb_base.specs.declared.kinds.Sign.TheVariants.{Plus, Minus}
 use Rattle.bdb_base.specs.declared.kinds.Stmt.{Stmt}
 use Rattle.bdb_base.specs.declared.tuple.Tuple.{Tuple}
-use Rattle.bdb_base.specs.Clash.{clash}
-use Rattle.bdb_base.specs.Same.{same_sign, same_tuple}
+use Rattle.bdb_base.specs.Clash.{clash, key_of, same_key}
+use Rattle.bdb_base.specs.Order.{tuple_cmp}
+use Rattle.bdb_base.specs.Same.{same_sign, same_tuple, same_values}
 use Rattle.bdb_base.specs.SameLemmas.{same_tuple-Decides}
 use Rattle.bdb_base.specs.Segments.{is_suffix}
-use Rattle.bdb_base.specs.SortedSet.{ascending}
+use Rattle.bdb_base.specs.SortedSet.{ascending, sorted_set}
 use Rattle.bdb_base.specs.Worlds.{explicit, least_clash, stated}
 use Rattle.bdb_base.proofs.ClashLemmas.{clash_by_length}
 use Rattle.bdb_base.proofs.WorldLemmas.{found_by}
@@ -22,12 +23,18 @@ use Rattle.bdb_why.specs.declared.kinds.Ruled.{Ruled}
 use Rattle.bdb_why.specs.declared.kinds.Why.{Why}
 use Rattle.bdb_why.specs.declared.kinds.Why.TheVariants as why
 use Rattle.bdb_why.specs.Accepting.{accepts, are_considered, is_among, is_covered, is_ground, is_ruled, makes_rival, refutes, ruled_cmp, same_ground}
-use Rattle.bdb_why.specs.Certificates.{is_held, is_rival_near}
-use Rattle.bdb_why.specs.Grounds.{ground_by, ground_from, is_found}
+use Rattle.bdb_why.specs.Certificates.{considered, is_held, is_rival_near, rivals, ruled_of, why_by, why_of}
+use Rattle.bdb_why.specs.Grounds.{ground_by, ground_from, ground_of, is_found}
+use Rattle.bdb_why.proofs.FindLemmas.{map_same_all}
+use Rattle.bdb_why.proofs.RivalLemmas.{clash_key, rivals_all}
 
 list_all_same : {X : Type 0} (p q : X → Bool) → ((x : X) → p x ≡ q x) → (xs : List X) → list_all p xs ≡ list_all q xs
 list_all_same p q h [] = refl
 list_all_same p q h (x ∷ xs) = ap (λ b. b && list_all p xs) (h x) ∙ ap (λ b. q x && b) (list_all_same p q h xs)
+
+filter_alike : {X : Type 0} (p q : X → Bool) → ((x : X) → p x ≡ q x) → (xs : List X) → filter p xs ≡ filter q xs
+filter_alike p q h [] = refl
+filter_alike p q h (x ∷ xs) = ap (λ b. cond b (x ∷ filter p xs) (filter p xs)) (h x) ∙ ap (λ r. cond (q x) (x ∷ r) r) (filter_alike p q h xs)
 
 ground_by_length : (keys : ℕ → ℕ) (stmts : List Stmt) (level : ℕ) (w : List ℕ) (t : Tuple) (s : Sign) → ground_from (λ _. keys t.rel) stmts level w t s ≡ ground_from keys stmts level w t s
 ground_by_length keys stmts level [] t s = ap (λ x. ground_by (explicit stmts [] t s) x level Nowhere) (least_clash_by_length keys stmts [] t s)
@@ -91,3 +98,32 @@ module _ (keys : ℕ → ℕ) (stmts : List Stmt) (w : List ℕ) (t : Tuple) whe
   accepts_by_length s (why.Absent own others) =
       ap (λ b. not (is_found own) && (b && (not (list_any is_held others) && are_considered one stmts w t s others))) (ground_within t s own refl)
       ∙ ap (λ b. not (is_found own) && (is_ground keys stmts w t s own && (not (list_any is_held others) && b))) (considered_by_length s others)
+
+  -- ---- the certificate itself
+
+  rivals_by_length : rivals one stmts w t ≡ rivals keys stmts w t
+  rivals_by_length = ap (λ xs. sorted_set tuple_cmp (map (λ x. x.tuple) xs)) (filter_alike (is_rival_near one w t) (is_rival_near keys w t) (λ x. rival_by_length keys w t x) stmts)
+
+  -- a tuple of the key has the same ground
+  ground_of_key : (u : Tuple) → same_key keys t u ≡ true → ruled_of one stmts w u ≡ ruled_of keys stmts w u
+  ground_of_key u k =
+      let rel : t.rel ≡ u.rel = eqb-true t.rel u.rel (and_parts (nat_eq t.rel u.rel) (same_values (key_of keys t) (key_of keys u)) k).0 in
+      ap (λ g. ruled u g) (ap (λ r. ground_from (λ _. keys r) stmts 0 w u Plus) rel ∙ ground_by_length keys stmts 0 w u Plus)
+    where
+      ruled : Tuple → Ground → Ruled
+      ruled u g = record { tuple = u; reason = g }
+
+  all_by_length : (s : Sign) → considered one stmts w t s ≡ considered keys stmts w t s
+  all_by_length Plus = refl
+  all_by_length Minus =
+      ap (map (ruled_of one stmts w)) rivals_by_length
+      ∙ map_same_all (ruled_of one stmts w) (ruled_of keys stmts w) (same_key keys t) ground_of_key (rivals keys stmts w t)
+      (rivals_all keys stmts w t (same_key keys t) (λ u c. clash_key keys t u Plus Plus c))
+
+  why_by_length : (s : Sign) → why_of one stmts w t s ≡ why_of keys stmts w t s
+  why_by_length s =
+      ap (λ g. why_by g (considered one stmts w t s)) (ground_by_length keys stmts 0 w t s) ∙ ap (why_by (ground_of keys stmts w t s)) (all_by_length s)
+
+-- the same, from a length that is handed on
+pub why_of_length : (keys : ℕ → ℕ) (n : ℕ) (stmts : List Stmt) (w : List ℕ) (t : Tuple) (s : Sign) → n ≡ keys t.rel → why_of (λ _. n) stmts w t s ≡ why_of keys stmts w t s
+why_of_length keys n stmts w t s e = ap (λ k. why_of (λ _. k) stmts w t s) e ∙ why_by_length keys stmts w t s

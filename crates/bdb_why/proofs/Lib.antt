@@ -4,7 +4,6 @@ pub mod CheckLemmas
 pub mod DescentLemmas
 pub mod EndLemmas
 pub mod FindLemmas
-pub mod FirstKeyLemmas
 pub mod GroundLemmas
 pub mod HereLemmas
 pub mod LengthLemmas

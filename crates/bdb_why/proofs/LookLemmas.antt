@@ -1,5 +1,5 @@
 -- The steps of the loops over statements and over rivals.
-use Rattle.std.proofs.Common.{◌≡◌, ◌∙◌, ℕ, ◌+◌, ◌<◌, ◌≤◌, ◌++◌, Bool, true, false, cond, find, List, [], ◌∷◌, Option, Some, ap, append_assoc, sym, inl, inr, filter, map, length, drop, get_or}
+use Rattle.std.proofs.Common.{◌≡◌, ◌∙◌, ℕ, ◌+◌, ◌<◌, ◌≤◌, ◌++◌, Bool, true, false, cond, find, List, [], ◌∷◌, Some, ap, append_assoc, sym, inl, inr, filter, map, length, drop, get_or}
 use Rattle.std.proofs.lemmas.Bool.{cases_Bool, cond-true, cond-false}
 use Rattle.std.proofs.lemmas.List.{drop_more, drop_all}
 use Rattle.bdb_base.specs.declared.kinds.Stmt.{Stmt}

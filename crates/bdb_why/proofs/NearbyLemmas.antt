@@ -20,6 +20,7 @@ use Rattle.bdb_tables.specs.Names.{path_of, number_of, is_named}
 use Rattle.bdb_tables.specs.States.{HoldsStates}
 use Rattle.bdb_val.specs.Reads.{HaveTuples}
 use Rattle.bdb_tables.specs.Grammar.{InGrammar}
+use Rattle.bdb_update.specs.Keys.{keys_of}
 use Rattle.bdb_worlds.specs.Bounds.{RisesWithin}
 use Rattle.bdb_worlds.specs.Holding.{HoldSome, Worlds}
 use Rattle.bdb_catalog.specs.Bases.{SomeHasUsers}
@@ -47,21 +48,21 @@ ask_states t path u h = path_states t path (some_users t path u h)
 -- ---- what is left
 
 -- the statements near an end
-abbrev pub near_end : List Stmt → Tuple → List ℕ → List Stmt
-near_end stmts u w = flat_map (near_at (λ _. 1) stmts u) (ends_in (is_state stmts) w)
+abbrev pub near_end : (ℕ → ℕ) → List Stmt → Tuple → List ℕ → List Stmt
+near_end keys stmts u w = flat_map (near_at keys stmts u) (ends_in (is_state stmts) w)
 
 -- the reads at an end
-abbrev pub reads_end : List Stmt → Tuple → List ℕ → ℕ
-reads_end stmts u w = sum_by (reads_at (λ _. 1) stmts u) (ends_in (is_state stmts) w)
+abbrev pub reads_end : (ℕ → ℕ) → List Stmt → Tuple → List ℕ → ℕ
+reads_end keys stmts u w = sum_by (reads_at keys stmts u) (ends_in (is_state stmts) w)
 
 -- the statements near the rest of a path make of those so far all that are near the path
 abbrev pub LeftNear : Tables → List ℕ → Tuple → List ℕ → List Stmt → Type 0
-LeftNear t path u rest xs = (b : Contents) → MayAsk t path u b → put_all statement_cmp xs (near_end b.stmts u rest) ≡ filter (is_near (λ _. 1) path u) b.stmts
+LeftNear t path u rest xs = (b : Contents) → MayAsk t path u b → put_all statement_cmp xs (near_end (keys_of b) b.stmts u rest) ≡ filter (is_near (keys_of b) path u) b.stmts
 
 -- the reads so far and those for the rest of a path are no more than those for the path, and one
 abbrev pub LeftReads : Tables → List ℕ → Tuple → List ℕ → ℕ → ℕ → Type 0
 LeftReads t path u rest before now = (b : Contents) → MayAsk t path u b → now < 2 ^ 64 - 1
-    → now + reads_end b.stmts u rest ≤ before + (length path + reads_end b.stmts u path) + 1
+    → now + reads_end (keys_of b) b.stmts u rest ≤ before + (length path + reads_end (keys_of b) b.stmts u path) + 1
 
 put_all_append : (xs ys zs : List Stmt) → put_all statement_cmp xs (ys ++ zs) ≡ put_all statement_cmp (put_all statement_cmp xs ys) zs
 put_all_append xs [] zs = refl
@@ -73,8 +74,8 @@ append_nil (x ∷ xs) = ap (λ ys. x ∷ ys) (append_nil xs)
 
 pub near_begins : (t : Tables) (path : List ℕ) (u : Tuple) (xs : List Stmt) → xs ≡ [] → LeftNear t path u path xs
 near_begins t path u xs e b m =
-    ap (λ ys. put_all statement_cmp ys (near_end b.stmts u path)) e ∙ loop_makes_set statement_exact (near_end b.stmts u path)
-    ∙ near_is_at_states (λ _. 1) b.stmts m.has.base.valid.stmts.sorted path u
+    ap (λ ys. put_all statement_cmp ys (near_end (keys_of b) b.stmts u path)) e ∙ loop_makes_set statement_exact (near_end (keys_of b) b.stmts u path)
+    ∙ near_is_at_states (keys_of b) b.stmts m.has.base.valid.stmts.sorted path u
 
 pub reads_begin : (t : Tables) (path : List ℕ) (u : Tuple) (before now : ℕ) → RisesWithin (length path + 1) before now → LeftReads t path u path before now
 reads_begin t path u before now r b m below = let e = r below in omega arith
@@ -99,11 +100,11 @@ module _ (t : Tables) (path : List ℕ) (u : Tuple) (i : ℕ) (w : List ℕ) (at
         sym (stored.stored.worlds (i ∷ w)) ∙ no_state (record { users = is_user b.catalog.users; names = stored.names }) stored.stored.states m.has.own
 
     near_past_it : (xs : List Stmt) → LeftNear t path u (i ∷ w) xs → LeftNear t path u w xs
-    near_past_it xs left b m = ap (λ vs. put_all statement_cmp xs (flat_map (near_at (λ _. 1) b.stmts u) vs)) (sym (ends_past (is_state b.stmts) i w (plain b m))) ∙ left b m
+    near_past_it xs left b m = ap (λ vs. put_all statement_cmp xs (flat_map (near_at (keys_of b) b.stmts u) vs)) (sym (ends_past (is_state b.stmts) i w (plain b m))) ∙ left b m
 
     reads_past_it : (before now : ℕ) → LeftReads t path u (i ∷ w) before now → LeftReads t path u w before now
     reads_past_it before now left b m below =
-        let e : reads_end b.stmts u (i ∷ w) ≡ reads_end b.stmts u w = ap (sum_by (reads_at (λ _. 1) b.stmts u)) (ends_past (is_state b.stmts) i w (plain b m)) in
+        let e : reads_end (keys_of b) b.stmts u (i ∷ w) ≡ reads_end (keys_of b) b.stmts u w = ap (sum_by (reads_at (keys_of b) b.stmts u)) (ends_past (is_state b.stmts) i w (plain b m)) in
         let k = left b m below in
         omega arith
 
@@ -139,17 +140,17 @@ module _ (t : Tables) (path : List ℕ) (u : Tuple) (i : ℕ) (w : List ℕ) (at
 
     near_next : (xs ys : List Stmt) → PutsNear t at.0 (i ∷ w) u xs ys → LeftNear t path u (i ∷ w) xs → LeftNear t path u w ys
     near_next xs ys puts left b m =
-        let near = near_at (λ _. 1) b.stmts u in
-        ap (λ zs. put_all statement_cmp zs (near_end b.stmts u w)) (puts b m.has.base m.fits (path_stored b m))
-        ∙ sym (put_all_append xs (near (i ∷ w)) (near_end b.stmts u w))
+        let near = near_at (keys_of b) b.stmts u in
+        ap (λ zs. put_all statement_cmp zs (near_end (keys_of b) b.stmts u w)) (puts b m.has.base m.fits (path_stored b m))
+        ∙ sym (put_all_append xs (near (i ∷ w)) (near_end (keys_of b) b.stmts u w))
         ∙ ap (λ vs. put_all statement_cmp xs (flat_map near vs)) (sym (ends_here (is_state b.stmts) i w (state b m))) ∙ left b m
 
     reads_next : (before old mid new : ℕ) → old ≤ mid → mid ≤ new → ReadsHere t at.0 (i ∷ w) u old mid → new ≤ mid + 2
         → LeftReads t path u (i ∷ w) before old → LeftReads t path u w before new
     reads_next before old mid new le more spent two left b m below =
-        let e : reads_end b.stmts u (i ∷ w) ≡ reads_at (λ _. 1) b.stmts u (i ∷ w) + reads_end b.stmts u w =
-        ap (sum_by (reads_at (λ _. 1) b.stmts u)) (ends_here (is_state b.stmts) i w (state b m))
-        ∙ sum_by-cons (reads_at (λ _. 1) b.stmts u) (i ∷ w) (ends_in (is_state b.stmts) w) in
+        let e : reads_end (keys_of b) b.stmts u (i ∷ w) ≡ reads_at (keys_of b) b.stmts u (i ∷ w) + reads_end (keys_of b) b.stmts u w =
+        ap (sum_by (reads_at (keys_of b) b.stmts u)) (ends_here (is_state b.stmts) i w (state b m))
+        ∙ sum_by-cons (reads_at (keys_of b) b.stmts u) (i ∷ w) (ends_in (is_state b.stmts) w) in
         let k = left b m (omega arith) in
         let n = spent b m.has.base m.fits (path_stored b m) in
         omega arith
@@ -190,17 +191,17 @@ module _ (t : Tables) (path : List ℕ) (u : Tuple) (at : ℕ × ℕ) where
 
   pub near_ends : (w : List ℕ) (xs ys : List Stmt) → length w < 1 → EndsAt t path w at → LeftNear t path u w xs → PutsNear t at.0 w u xs ys → AreNear t path u ys
   near_ends [] xs ys l ends near puts b m =
-      puts b m.has.base m.fits (root_stored ends b m) ∙ ap (put_all statement_cmp xs) (sym (append_nil (near_at (λ _. 1) b.stmts u []))) ∙ near b m
+      puts b m.has.base m.fits (root_stored ends b m) ∙ ap (put_all statement_cmp xs) (sym (append_nil (near_at (keys_of b) b.stmts u []))) ∙ near b m
   near_ends (i ∷ w) xs ys l ends near puts b m = absurd (omega arith)
 
   pub reads_end_here : (w : List ℕ) (before old mid : ℕ) → length w < 1 → EndsAt t path w at → old ≤ mid → ReadsHere t at.0 w u old mid → LeftReads t path u w before old
-      → (b : Contents) → MayAsk t path u b → RisesWithin (length path + reads_end b.stmts u path) before mid
-  reads_end_here [] before old mid l ends le spent reads b m below =
-      let e : reads_end b.stmts u [] ≡ reads_at (λ _. 1) b.stmts u [] + 0 = sum_by-cons (reads_at (λ _. 1) b.stmts u) [] [] in
+      → (b : Contents) → MayAsk t path u b → (first : ℕ) → before ≤ first + 1 → RisesWithin (length path + reads_end (keys_of b) b.stmts u path) first mid
+  reads_end_here [] before old mid l ends le spent reads b m first later below =
+      let e : reads_end (keys_of b) b.stmts u [] ≡ reads_at (keys_of b) b.stmts u [] + 0 = sum_by-cons (reads_at (keys_of b) b.stmts u) [] [] in
       let k = reads b m (omega arith) in
       let n = spent b m.has.base m.fits (root_stored ends b m) in
       omega arith
-  reads_end_here (i ∷ w) before old mid l ends le spent reads b m below = absurd (omega arith)
+  reads_end_here (i ∷ w) before old mid l ends le spent reads b m first later below = absurd (omega arith)
 
 -- ---- paths without their first user
 

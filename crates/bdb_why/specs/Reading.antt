@@ -1,21 +1,23 @@
 -- What is read of tables on the way down a path, from one state among its ends to the next.
-use Rattle.std.specs.Prelude.{◌≡◌, ℕ, ◌+◌, ◌≤◌, ◌*◌, true, List, ◌∷◌, length, map, Some}
+use Rattle.std.specs.Prelude.{◌≡◌, ℕ, ◌+◌, ◌≤◌, ◌*◌, true, List, ◌∷◌, length, map, sum_by, Some}
 use Rattle.std.specs.List.{list_all}
 use Rattle.bdb_base.specs.Bases.{Contents, fits_relation, key_lengths}
 use Rattle.bdb_base.specs.Order.{statement_cmp}
 use Rattle.bdb_base.specs.SortedSet.{put_all}
-use Rattle.bdb_base.specs.States.{deepest_suffix}
+use Rattle.bdb_base.specs.States.{deepest_suffix, is_state}
 use Rattle.bdb_base.specs.declared.kinds.Sign.TheVariants.{Plus, Minus}
 use Rattle.bdb_base.specs.declared.kinds.Stmt.{Stmt}
 use Rattle.bdb_base.specs.declared.tuple.Tuple.{Tuple}
+use Rattle.bdb_keep.specs.Seen.{Seen}
 use Rattle.bdb_keep.specs.Tables.{Tables}
 use Rattle.bdb_tables.specs.Names.{path_of, number_of, is_named}
 use Rattle.bdb_tables.specs.States.{HoldsStates}
+use Rattle.bdb_worlds.specs.Bounds.{RisesWithin}
 use Rattle.bdb_worlds.specs.Holding.{Worlds}
 use Rattle.bdb_catalog.specs.Bases.{StoresValid}
 use Rattle.bdb_catalog.specs.Taking.{statement_at}
-use Rattle.bdb_why.specs.Ends.{near_at}
-use Rattle.bdb_why.specs.Stored.{rows_of_key}
+use Rattle.bdb_why.specs.Ends.{ends_in, near_at}
+use Rattle.bdb_why.specs.Stored.{MayAsk, reads_at, rows_of_key}
 
 -- a number stands for the deepest state that a path ends in, which has so many users
 pub record IsDeepest (s : Worlds) (w : List ℕ) (at : ℕ × ℕ) : Type 0 where
@@ -59,6 +61,12 @@ PutsNear t wid w u xs ys = (b : Contents) (h : StoresValid t b) → fits_relatio
 abbrev pub ReadsHere : Tables → ℕ → List ℕ → Tuple → ℕ → ℕ → Type 0
 ReadsHere t wid w u before now = (b : Contents) (h : StoresValid t b) → fits_relation b.catalog.rels u ≡ true → path_of h.stored.names wid ≡ Some w
     → now ≤ before + (4 * length (rows_of_key (key_lengths b.catalog.rels) b.stmts u w) + 2)
+
+-- Whichever base it is: also counted from one read before, there is one read for each user of the path, and those at each
+-- state among the path's ends, at most.
+abbrev pub ReadsAfterOne : Seen → Seen → List ℕ → Tuple → Type 0
+ReadsAfterOne old new path u = (b : Contents) → MayAsk old.kept path u b → (before : ℕ) → old.reads ≤ before + 1
+    → RisesWithin (length path + sum_by (reads_at (key_lengths b.catalog.rels) b.stmts u) (ends_in (is_state b.stmts) path)) before new.reads
 
 -- a set with statements at a path put in, those of some tuples with plus, and those of others with minus
 abbrev pub with_both : List ℕ → List Stmt → List Tuple → List Tuple → List Stmt

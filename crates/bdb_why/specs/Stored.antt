@@ -1,6 +1,7 @@
 -- Certificates over the base that tables store, whichever it is.
-use Rattle.std.specs.Prelude.{◌≡◌, ℕ, ◌+◌, ◌*◌, true, List, length, filter, Some, sum_by}
+use Rattle.std.specs.Prelude.{◌≡◌, ℕ, ◌+◌, ◌*◌, true, List, length, filter, sum_by}
 use Rattle.bdb_base.specs.Bases.{Contents, fits_relation, key_lengths}
+use Rattle.bdb_base.specs.Clash.{same_key}
 use Rattle.bdb_base.specs.States.{is_state}
 use Rattle.bdb_base.specs.WorldRows.{world_of}
 use Rattle.bdb_base.specs.declared.kinds.Held.{Held}
@@ -9,10 +10,8 @@ use Rattle.bdb_base.specs.declared.kinds.Stmt.{Stmt}
 use Rattle.bdb_base.specs.declared.tuple.Tuple.{Tuple}
 use Rattle.bdb_keep.specs.Seen.{Seen}
 use Rattle.bdb_keep.specs.Tables.{Tables}
-use Rattle.bdb_val.specs.Settling.{key_value}
 use Rattle.bdb_worlds.specs.Bounds.{RisesWithin}
 use Rattle.bdb_catalog.specs.Bases.{HasUsers}
-use Rattle.bdb_catalog.specs.Taking.{rows_asked}
 use Rattle.bdb_why.specs.declared.kinds.Why.{Why}
 use Rattle.bdb_why.specs.Certificates.{why_of}
 use Rattle.bdb_why.specs.Ends.{ends_in, is_near}
@@ -37,9 +36,9 @@ AreNear t path u xs = (b : Contents) → MayAsk t path u b → xs ≡ filter (is
 
 -- ---- how much is read
 
--- the rows of a path's world that have a tuple's relation and its first value, which is its key
+-- the rows of a path's world whose tuples have a tuple's relation and key
 abbrev pub rows_of_key : (ℕ → ℕ) → List Stmt → Tuple → List ℕ → List Held
-rows_of_key keys stmts u w = rows_asked u.rel (Some (key_value u.vals)) (world_of keys stmts w)
+rows_of_key keys stmts u w = filter (λ h. same_key keys h.tuple u) (world_of keys stmts w)
 
 -- four reads for each row of the key in a world, and four for the world
 abbrev pub reads_at : (ℕ → ℕ) → List Stmt → Tuple → List ℕ → ℕ

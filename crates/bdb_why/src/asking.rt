@@ -10,7 +10,7 @@ use crate::kinds::Why;
 use crate::nearby::near_statements;
 use bdb_base::{Sign, Tuple};
 use bdb_keep::Keeper;
-use bdb_tables::TabError;
+use bdb_tables::{TabError, stored_key_length};
 use std::alloc::Global;
 
 /// Why a path believes a signed tuple, or doesn't, by the base that the tables store. Nothing is written. A read for each
@@ -32,11 +32,15 @@ pub fn why<K: Keeper>(
     ensures counts { NeverFall (K.seen keeper.old) (K.seen keeper.new) }
     ensures steps { Steps (K.seen keeper.old) (K.seen keeper.new) result TabError.Fault }
 {
-    let near = match near_statements(alloc, keeper, path, t) {
+    let n = match stored_key_length(alloc, keeper, t.rel) {
+        Ok(n) => n,
+        Err(error) => return Err(error),
+    };
+    let near = match near_statements(alloc, keeper, n, path, t) {
         Ok(near) => near,
         Err(error) => return Err(error),
     };
-    match why_among(alloc, 1, near.as_slice(), path, t, s) {
+    match why_among(alloc, n, near.as_slice(), path, t, s) {
         Ok(y) => Ok(y),
         Err(_) => {
             keeper.undo();

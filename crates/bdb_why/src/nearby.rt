@@ -1,36 +1,42 @@
 // The statements near a path, read from the rows of the worlds of its ends.
-ghost use Rattle.std.specs.Prelude.{◌≡◌, true, map, IfOk, OnOk};
+ghost use Rattle.std.specs.Prelude.{◌≡◌, ◌++◌, true, length, map, IfOk, OnOk};
+ghost use Rattle.std.specs.List.{AllByRecursion};
 ghost use Rattle.bdb_base.specs.Alternation.{alternates};
 ghost use Rattle.bdb_base.specs.Order.{statement_cmp};
 ghost use Rattle.bdb_base.specs.SortedSet.{ascending, put_all};
 ghost use Rattle.bdb_keep.specs.Calls.{IsRead};
 ghost use Rattle.bdb_keep.specs.Seen.{NeverFall, Steps};
+ghost use Rattle.bdb_key.specs.Grammar.{IsNum, IsWhole};
 ghost use Rattle.bdb_tables.specs.Grammar.{InGrammar};
-ghost use Rattle.bdb_val.specs.Reads.{HaveTuples};
+ghost use Rattle.bdb_tables.specs.Lengths.{IsKeyLength};
+ghost use Rattle.bdb_val.specs.Reads.{HaveTuples, group_prefix};
 ghost use Rattle.bdb_catalog.specs.Taking.{statement_at};
-ghost use Rattle.bdb_why.specs.Reading.{PutsNear, ReadsHere, with_both};
-ghost use Rattle.bdb_why.specs.Stored.{AreNear, ReadsNear, SomeMayAsk};
+ghost use Rattle.bdb_why.specs.Reading.{PutsNear, ReadsAfterOne, ReadsHere, with_both};
+ghost use Rattle.bdb_why.specs.Stored.{AreNear, SomeMayAsk};
 
 use crate::descent::{deepest_end, next_end};
-use bdb_base::{List, Path, Sign, Stmt, Tuple, first_value, put};
-use bdb_catalog::explicit_tuples;
+use bdb_base::{List, Path, Sign, Stmt, Tuple, Value, key_of, put};
+use bdb_catalog::tuples_under;
 use bdb_keep::Keeper;
+use bdb_key::{put_num, put_vals};
 use bdb_tables::TabError;
 use std::alloc::{AllocError, Global};
 
-/// The statements at the path's ends whose tuples have the relation and key, in order. The ends that are states are found by
-/// suffix links; at the others no statement stands.
+/// The statements at the path's ends whose tuples have the relation and key, in order, where the relation has keys of the
+/// length `n`. The ends that are states are found by suffix links; at the others no statement stands.
 pub fn near_statements<K: Keeper>(
     alloc: Global,
     keeper: &mut K,
+    n: u32,
     path: &[u32],
     t: &Tuple,
 ) -> Result<List<Stmt>, TabError>
     requires base { SomeMayAsk (K.seen keeper.old).kept path.now t.now }
+    requires length { IsKeyLength (K.seen keeper.old).kept t.now.rel n }
     requires apart { alternates path.now ≡ true }
     ensures near { IfOk result (AreNear (K.seen keeper.old).kept path.now t.now) }
     ensures sorted { IfOk result (λ stmts. ascending statement_cmp stmts ≡ true) }
-    ensures reads { OnOk result (ReadsNear (K.seen keeper.old) (K.seen keeper.new) path.now t.now) }
+    ensures reads { OnOk result (ReadsAfterOne (K.seen keeper.old) (K.seen keeper.new) path.now t.now) }
     ensures kept { OnOk result ((K.seen keeper.new).kept ≡ (K.seen keeper.old).kept) }
     ensures writes { (K.seen keeper.new).writes ≡ (K.seen keeper.old).writes }
     ensures counts { NeverFall (K.seen keeper.old) (K.seen keeper.new) }
@@ -48,7 +54,7 @@ pub fn near_statements<K: Keeper>(
         if at.1 as usize != end.len() {
             continue;
         }
-        match put_near(alloc, keeper, at.0, end, t, &mut stmts) {
+        match put_near(alloc, keeper, n, at.0, end, t, &mut stmts) {
             Ok(()) => {}
             Err(error) => return Err(error),
         }
@@ -57,22 +63,25 @@ pub fn near_statements<K: Keeper>(
             Err(error) => return Err(error),
         };
     }
-    match put_near(alloc, keeper, at.0, rest, t, &mut stmts) {
+    match put_near(alloc, keeper, n, at.0, rest, t, &mut stmts) {
         Ok(()) => Ok(stmts),
         Err(error) => Err(error),
     }
 }
 
-/// Puts the statements of the path of a number that have the tuple's relation and key into a set.
+/// Puts the statements of the path of a number that have the tuple's relation and key into a set. The relation has keys of
+/// the length `n`.
 fn put_near<K: Keeper>(
     alloc: Global,
     keeper: &mut K,
+    n: u32,
     wid: u32,
     path: &[u32],
     t: &Tuple,
     stmts: &mut List<Stmt>,
 ) -> Result<(), TabError>
     requires grammar { InGrammar (K.seen keeper.old).kept }
+    requires length { IsKeyLength (K.seen keeper.old).kept t.now.rel n }
     requires tuples { HaveTuples (K.seen keeper.old).kept }
     requires apart { alternates path.now ≡ true }
     requires sorted { ascending statement_cmp stmts.old ≡ true }
@@ -81,12 +90,46 @@ fn put_near<K: Keeper>(
     ensures reads { OnOk result (ReadsHere (K.seen keeper.old).kept wid path.now t.now (K.seen keeper.old).reads (K.seen keeper.new).reads) }
     ensures read { IsRead (K.seen keeper.old) (K.seen keeper.new) result TabError.Fault }
 {
-    let key = first_value(t);
-    let said = match explicit_tuples(alloc, keeper, wid, Sign::Plus, t.rel, Some(key)) {
+    match put_of_key(alloc, keeper, n, wid, path, t.rel, t, stmts) {
+        Ok(()) => Ok(()),
+        Err(error) => Err(error),
+    }
+}
+
+/// The same, where the number of the tuple's relation is told.
+fn put_of_key<K: Keeper>(
+    alloc: Global,
+    keeper: &mut K,
+    n: u32,
+    wid: u32,
+    path: &[u32],
+    rel: u32,
+    t: &Tuple,
+    stmts: &mut List<Stmt>,
+) -> Result<(), TabError>
+    requires grammar { InGrammar (K.seen keeper.old).kept }
+    requires length { IsKeyLength (K.seen keeper.old).kept t.now.rel n }
+    requires tuples { HaveTuples (K.seen keeper.old).kept }
+    requires apart { alternates path.now ≡ true }
+    requires relation { t.now.rel ≡ rel }
+    requires sorted { ascending statement_cmp stmts.old ≡ true }
+    ensures put { OnOk result (PutsNear (K.seen keeper.old).kept wid path.now t.now stmts.old stmts.new) }
+    ensures sorted { OnOk result (ascending statement_cmp stmts.new ≡ true) }
+    ensures reads { OnOk result (ReadsHere (K.seen keeper.old).kept wid path.now t.now (K.seen keeper.old).reads (K.seen keeper.new).reads) }
+    ensures read { IsRead (K.seen keeper.old) (K.seen keeper.new) result TabError.Fault }
+{
+    let key = key_of(t, n);
+    let mut prefix = Vec::new(alloc);
+    if put_group(&mut prefix, wid, rel, key).is_err() {
+        keeper.undo();
+        return Err(TabError::Memory);
+    }
+    let prefix = prefix.as_slice();
+    let said = match tuples_under(alloc, keeper, prefix, Sign::Plus) {
         Ok(said) => said,
         Err(error) => return Err(error),
     };
-    let denied = match explicit_tuples(alloc, keeper, wid, Sign::Minus, t.rel, Some(key)) {
+    let denied = match tuples_under(alloc, keeper, prefix, Sign::Minus) {
         Ok(denied) => denied,
         Err(error) => return Err(error),
     };
@@ -97,6 +140,18 @@ fn put_near<K: Keeper>(
             Err(TabError::Memory)
         }
     }
+}
+
+/// How the keys of a world's rows begin that have a relation and key.
+fn put_group(prefix: &mut Vec<u8>, wid: u32, rel: u32, key: &[Value]) -> Result<(), AllocError>
+    requires { IsNum (length key.now) }
+    ensures bytes { OnOk result (prefix.new.items ≡ prefix.old.items ++ group_prefix wid rel key.now) }
+    ensures whole { OnOk result (AllByRecursion IsWhole key.now) }
+{
+    put_num(prefix, wid)?;
+    put_num(prefix, rel)?;
+    put_vals(prefix, key)?;
+    Ok(())
 }
 
 /// Puts statements at a path into a set: those of some tuples with plus, and those of others with minus.

@@ -1,5 +1,6 @@
 pub mod Beliefs
 pub mod Changes
+pub mod Keys
 pub mod Refusals
 pub mod Structure
 pub mod Worked

@@ -5,6 +5,7 @@
 
 ghost use Rattle.bdb_worked.specs.Beliefs as beliefs;
 ghost use Rattle.bdb_worked.specs.Changes as changes;
+ghost use Rattle.bdb_worked.specs.Keys as keys;
 ghost use Rattle.bdb_worked.specs.Refusals as refusals;
 ghost use Rattle.bdb_worked.specs.Structure as structure;
 ghost use Rattle.bdb_worked.specs.Worked.{IsAnswered};
@@ -24,6 +25,12 @@ pub fn structure_is_told()
 #[tactic(auto, using(crate::proofs::Computed::changes_are_told))]
 pub fn changes_are_told()
     ensures { IsAnswered changes.script changes.told }
+{}
+
+/// A key of two columns tells tuples apart that agree in the first alone; a key has a column, and no more than there are.
+#[tactic(auto, using(crate::proofs::Computed::keys_are_told))]
+pub fn keys_are_told()
+    ensures { IsAnswered keys.script keys.told }
 {}
 
 /// Relations, users, columns and aliases that aren't there, or there already, and values that don't fit.

@@ -3,7 +3,7 @@ use Rattle.std.proofs.Common.{◌≡◌, ◌∙◌, ℕ, Bool, true, false, List
 use Rattle.bdb_base.specs.declared.kinds.Sign.{Sign}
 use Rattle.bdb_base.specs.Segments.{is_prefix}
 use Rattle.bdb_keep.specs.Tables.{Tables}
-use Rattle.bdb_key.specs.Bytes.{num_bytes, value_bytes}
+use Rattle.bdb_key.specs.Bytes.{num_bytes, vals_bytes}
 use Rattle.bdb_key.specs.Grammar.{IsNum}
 use Rattle.bdb_tables.specs.Codec.{HasRow, TableFits}
 use Rattle.bdb_tables.specs.Grammar.{InGrammar}
@@ -19,11 +19,11 @@ vals_fit t h k r found = h 11 k r found
 module _ (t : Tables) (n : ℕ) (fits : IsNum n) where
   -- a key that begins with a world's number is the world's
   is_of_world : (key : ValKey) → IsValKey key → is_prefix (num_bytes n) (val_bytes key) ≡ true → key.0 ≡ n
-  is_of_world key f begins = number_begins n key.0 (num_bytes key.1 ++ value_bytes key.2 ++ num_bytes key.3) fits f.world begins
+  is_of_world key f begins = number_begins n key.0 (num_bytes key.1 ++ vals_bytes key.2 ++ num_bytes key.3) fits f.world begins
 
   of_world_begins : (key : ValKey) → key.0 ≡ n → is_prefix (num_bytes n) (val_bytes key) ≡ true
   of_world_begins key e =
-      ap (λ (i : ℕ). is_prefix (num_bytes i) (val_bytes key)) (sym e) ∙ prefix_append (num_bytes key.0) (num_bytes key.1 ++ value_bytes key.2 ++ num_bytes key.3)
+      ap (λ (i : ℕ). is_prefix (num_bytes i) (val_bytes key)) (sym e) ∙ prefix_append (num_bytes key.0) (num_bytes key.1 ++ vals_bytes key.2 ++ num_bytes key.3)
 
   explicit_of_world : HasExplicitUnder t (num_bytes n) → HasExplicitRow t n
   explicit_of_world h =

@@ -64,11 +64,11 @@ fn hold_no_base(alloc: Global, mut keeper: QuietKeeper, line: &str) -> Result<bo
 #[test]
 fn rows_of_no_base_are_told(rt: HostRuntime) -> Result<(), Fail> {
     let alloc = rt.alloc();
-    let keeper = keeper_with(alloc, 1, &[0, 0, 0, 3])?;
-    assert!(rt; hold_no_base(alloc, keeper, "error format 3\n")?);
+    let keeper = keeper_with(alloc, 1, &[0, 0, 0, 4])?;
+    assert!(rt; hold_no_base(alloc, keeper, "error format 4\n")?);
     let keeper = keeper_with(alloc, 1, &[255, 255, 255, 255])?;
     assert!(rt; hold_no_base(alloc, keeper, "error format 4294967295\n")?);
-    let keeper = keeper_with(alloc, 1, &[0, 0, 0, 2])?;
+    let keeper = keeper_with(alloc, 1, &[0, 0, 0, 3])?;
     assert!(rt; hold_no_base(alloc, keeper, "error damaged\n")?);
     let keeper = keeper_with(alloc, 6, &[0, 0, 0, 0])?;
     assert!(rt; hold_no_base(alloc, keeper, "error damaged\n")?);

@@ -61,7 +61,7 @@ row /'Alice' + S('s3', 'gull') explicit\nrow /'Bob' - S('s1', 'eagle') explicit\
 fn a_script_without_a_command_makes_the_empty_base(rt: HostRuntime) -> Result<(), Fail> {
     let alloc = rt.alloc();
     let mut empty_base = QuietKeeper::new(alloc);
-    empty_base.preset(1, &[0, 0, 0, 0], &[0, 0, 0, 2])?;
+    empty_base.preset(1, &[0, 0, 0, 0], &[0, 0, 0, 3])?;
     empty_base.preset(6, &[0, 0, 0, 0], &[0, 0, 0, 0])?;
     let (status, out, keeper) = ran_quietly(alloc, &[])?;
     assert_eq!(rt; status, 0);

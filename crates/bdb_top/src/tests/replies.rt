@@ -41,6 +41,21 @@ fn scripts_and_replies(rt: HostRuntime) -> Result<(), Fail> {
             1,
         ),
         (
+            "create relation T(a text, b int, c text) key 2; insert into T values('x',1,'p'); insert into T values('x',2,'q'); insert into T values('x',1,'r');",
+            "ok\nok 1\nok 1\nerror clash + T('x', 1, 'p')\n",
+            1,
+        ),
+        (
+            "create relation U2(a int) key 2; create relation U2(a int) key 0; create relation U2(a int) key 1;",
+            "error key 2\nerror key 0\nok\n",
+            1,
+        ),
+        (
+            "create relation P(a int, b int) key 2; insert into P values(1,1); insert into P values(1,2); show world;",
+            "ok\nok 1\nok 1\n+ P(1, 1) explicit\n+ P(1, 2) explicit\nok 2\n",
+            0,
+        ),
+        (
             "INSERT into S values('it''s',''); -- a; b\nshow world;;",
             "ok 1\n+ S('it''s', '') explicit\nok 1\n",
             0,

@@ -12,5 +12,5 @@ returns-in-Ok-put-clause-stored g c =
     subst (λ t. Stores t empty_contents)
     (sym (c.in-Ok-put.ensures.kept
     ∙ ap (λ t. tables.insert t (place depth_codec 0) (depth_codec.row_bytes 0))
-    (c.in-Ok.ensures.kept ∙ ap (λ t. tables.insert t (place meta_codec tt) (meta_codec.row_bytes 2)) c.requires.empty)))
+    (c.in-Ok.ensures.kept ∙ ap (λ t. tables.insert t (place meta_codec tt) (meta_codec.row_bytes 3)) c.requires.empty)))
     two_rows_store_empty

@@ -1,7 +1,11 @@
-use Rattle.std.proofs.Common.{◌∙◌, ap, sym}
-use Rattle.bdb_base.specs.Same.{same_value}
-use Rattle.bdb_decode.proofs.RowLemmas.{first_key}
+use Rattle.std.proofs.Common.{◌∙◌, List, ap}
+use Rattle.bdb_base.specs.Bases.{key_lengths}
+use Rattle.bdb_base.specs.Clash.{key_of}
+use Rattle.bdb_base.specs.Same.{same_values}
+use Rattle.bdb_base.specs.declared.kinds.Value.{Value}
 use Rattle.bdb_decode.proofs.rows.has_key.Goals as goal
 
 pub returns : goal.returns
-returns c = c.same_value.ensures ∙ ap (λ v. same_value v c.args.key.now) (sym (first_key c.args.tuple.now.vals c.first_value.result.now c.first_value.ensures))
+returns c =
+    c.same_values.ensures ∙ ap (λ (vs : List Value). same_values vs c.as_slice.result.now) c.key_in.ensures
+    ∙ ap (λ (vs : List Value). same_values (key_of (key_lengths c.args.catalog.now.rels) c.args.tuple.now) vs) c.as_slice.ensures

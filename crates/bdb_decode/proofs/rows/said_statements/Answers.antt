@@ -1,5 +1,6 @@
 use Rattle.std.proofs.Common.{◌≡◌, ◌≤◌, nat_lt, true, false, List, length, inl, inr, ap, sym, subst, ◌∙◌, arith, rules}
 use Rattle.std.proofs.lemmas.Bool.{ltb-true}
+use Rattle.bdb_base.specs.Bases.{key_lengths}
 use Rattle.bdb_base.specs.Limits.{most_statements}
 use Rattle.bdb_base.specs.declared.kinds.Stmt.{Stmt}
 use Rattle.bdb_tables.specs.declared.tab.TabError.TheVariants.{Fault}
@@ -17,7 +18,7 @@ loop-init g c = record {
   writes = search rules;
   counts = search rules;
   read = (
-    said_none c.args.worlds.now c.args.tuples.now (g.K.Keeper.seen c.args.keeper.now).kept c.new-low.result.items c.new-stmts.result.items c.new-low.ensures.items c.new-stmts.ensures.items,
+    said_none (key_lengths c.args.catalog.now.rels) c.args.worlds.now c.args.tuples.now (g.K.Keeper.seen c.args.keeper.now).kept c.new-low.result.items c.new-stmts.result.items c.new-low.ensures.items c.new-stmts.ensures.items,
     subst (λ (xs : List Stmt). length xs ≤ most_statements) (sym c.new-stmts.ensures.items) (omega arith),
   );
 }
@@ -25,7 +26,7 @@ loop-init g c = record {
 pub returns-in-Ok-Some-None-clause-statements : goal.returns-in-Ok-Some-None-clause-statements
 returns-in-Ok-Some-None-clause-statements g c =
     let w = c.in-Ok-Some-None in
-    said_all c.args.worlds.now c.args.tuples.now (g.K.Keeper.seen c.args.keeper.now).kept (g.K.Keeper.seen c.loop.keeper).kept c.loop.low.items c.next_raw.new.low.items w.field-0-0 c.loop.stmts.items
+    said_all (key_lengths c.args.catalog.now.rels) c.args.worlds.now c.args.tuples.now (g.K.Keeper.seen c.args.keeper.now).kept (g.K.Keeper.seen c.loop.keeper).kept c.loop.low.items c.next_raw.new.low.items w.field-0-0 c.loop.stmts.items
     c.loop.invariant.kept w.field-0-0-is c.loop.invariant.read.0 (some_told _ _ w.field-0 w.field-0-0 w.field-0-is w.ensures.found)
 
 pub returns-in-Ok-Some-None-clause-few : goal.returns-in-Ok-Some-None-clause-few
@@ -33,13 +34,13 @@ returns-in-Ok-Some-None-clause-few g c = c.loop.invariant.read.1
 
 pub returns-in-Ok-None-clause-statements : goal.returns-in-Ok-None-clause-statements
 returns-in-Ok-None-clause-statements g c =
-    inl (foreign_misplaced c.args.worlds.now c.args.tuples.now (g.K.Keeper.seen c.args.keeper.now).kept (g.K.Keeper.seen c.loop.keeper).kept c.loop.low.items c.loop.invariant.kept
+    inl (foreign_misplaced (key_lengths c.args.catalog.now.rels) c.args.worlds.now c.args.tuples.now (g.K.Keeper.seen c.args.keeper.now).kept (g.K.Keeper.seen c.loop.keeper).kept c.loop.low.items c.loop.invariant.kept
     (none_told _ _ c.in-Ok-None.field-0 c.in-Ok-None.field-0-is c.in-Ok-None.ensures.found))
 
 pub returns-in-Ok-false-clause-statements : goal.returns-in-Ok-false-clause-statements
 returns-in-Ok-false-clause-statements g c =
     let w = c.in-Ok-Some-Some in
-    inl (row_misplaced c.args.worlds.now c.args.tuples.now (g.K.Keeper.seen c.args.keeper.now).kept (g.K.Keeper.seen c.loop.keeper).kept c.loop.low.items c.next_raw.new.low.items w.field-0-0 w.row
+    inl (row_misplaced (key_lengths c.args.catalog.now.rels) c.args.worlds.now c.args.tuples.now (g.K.Keeper.seen c.args.keeper.now).kept (g.K.Keeper.seen c.loop.keeper).kept c.loop.low.items c.next_raw.new.low.items w.field-0-0 w.row
     c.in-Ok-false.field-0 c.loop.invariant.kept w.field-0-0-is c.in-Ok-false.field-0-test c.in-Ok-false.ensures.placed (some_told _ _ w.field-0 w.field-0-0 w.field-0-is w.ensures.found))
 
 pub returns-then-are_too_many-clause-statements : goal.returns-then-are_too_many-clause-statements
@@ -48,7 +49,7 @@ returns-then-are_too_many-clause-statements g c =
     let p = c.in-Ok-true in
     let told : nat_lt most_statements (length c.deref.result.now) ≡ true = search rules in
     let many : nat_lt most_statements (length c.push_said.new.stmts.items) ≡ true = ap (λ (xs : List Stmt). nat_lt most_statements (length xs)) (sym c.deref.ensures.value) ∙ told in
-    inr (said_many c.args.worlds.now c.args.tuples.now (g.K.Keeper.seen c.args.keeper.now).kept (g.K.Keeper.seen c.loop.keeper).kept c.loop.low.items c.next_raw.new.low.items w.field-0-0 w.row
+    inr (said_many (key_lengths c.args.catalog.now.rels) c.args.worlds.now c.args.tuples.now (g.K.Keeper.seen c.args.keeper.now).kept (g.K.Keeper.seen c.loop.keeper).kept c.loop.low.items c.next_raw.new.low.items w.field-0-0 w.row
     c.loop.stmts.items c.push_said.new.stmts.items p.field-0 c.loop.invariant.kept w.field-0-0-is p.field-0-test p.ensures.placed p.ensures.said c.loop.invariant.read.0
     (some_told _ _ w.field-0 w.field-0-0 w.field-0-is w.ensures.found) (ltb-true most_statements (length c.push_said.new.stmts.items) many))
 
@@ -62,7 +63,7 @@ loop-preserved g c =
     let told : nat_lt most_statements (length c.deref.result.now) ≡ false = search rules in
     let few : nat_lt most_statements (length c.push_said.new.stmts.items) ≡ false = ap (λ (xs : List Stmt). nat_lt most_statements (length xs)) (sym c.deref.ensures.value) ∙ told in
     reading_more old now new w.field-0 Fault c.loop.invariant w.ensures.read (
-      said_more c.args.worlds.now c.args.tuples.now old.kept now.kept c.loop.low.items c.next_raw.new.low.items w.field-0-0 w.row c.loop.stmts.items c.push_said.new.stmts.items p.field-0
+      said_more (key_lengths c.args.catalog.now.rels) c.args.worlds.now c.args.tuples.now old.kept now.kept c.loop.low.items c.next_raw.new.low.items w.field-0-0 w.row c.loop.stmts.items c.push_said.new.stmts.items p.field-0
           c.loop.invariant.kept w.field-0-0-is p.field-0-test p.ensures.placed p.ensures.said c.loop.invariant.read.0 (some_told _ _ w.field-0 w.field-0-0 w.field-0-is w.ensures.found),
       not_many most_statements (length c.push_said.new.stmts.items) few,
     )

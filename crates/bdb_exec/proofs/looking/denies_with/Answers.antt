@@ -1,37 +1,65 @@
-use Rattle.std.proofs.Common.{◌≡◌, ◌∙◌, ap, sym, subst, length, rules, arith}
-use Rattle.std.specs.List.{list_any}
-use Rattle.bdb_key.specs.Grammar.{IsPlainValue}
+use Rattle.std.proofs.Common.{◌≡◌, ◌∙◌, ◌≤◌, List, ap, sym, subst, length, take, rules, arith}
+use Rattle.std.specs.List.{list_all, list_any}
+use Rattle.bdb_base.specs.declared.kinds.Value.{Value}
+use Rattle.bdb_base.specs.Clash.{key_of}
+use Rattle.bdb_key.specs.Grammar.{AreKeyVals, IsNum}
+use Rattle.bdb_tables.specs.Codec.{TableFits}
 use Rattle.bdb_tables.specs.GroupMarks.{AreNumbered, numbered}
-use Rattle.bdb_exec.specs.Rows.{key_prefix, mark_denies}
+use Rattle.bdb_tables.specs.InUse.{val_codec}
+use Rattle.bdb_exec.specs.Keys.{rows_of_key}
+use Rattle.bdb_exec.specs.Rows.{group_prefix, is_written, mark_denies}
+use Rattle.bdb_exec.specs.Seen.{sight_of}
 use Rattle.bdb_exec.proofs.DenyLemmas.{denied_by_number, denied_is, denied_reads, length_map, unwritten_denied}
+use Rattle.bdb_exec.proofs.LengthLemmas.{key_shown, key_texts, keys_sized}
 use Rattle.bdb_exec.proofs.looking.denies_with.Goals as goal
 
-pub returns-then-not-is_written-clause-denies : goal.returns-then-not-is_written-clause-denies
-returns-then-not-is_written-clause-denies g c =
-    unwritten_denied (g.K.Keeper.seen c.args.keeper.now).kept c.requires.run c.args.world c.args.rel c.ranges.world.fits c.ranges.rel.fits c.args.key.now c.args.tuple.now
-    c.requires.relation c.requires.key (sym c.is_written.ensures ∙ c.if-not-is_written.true)
+pub put_group-requires : goal.put_group-requires
+put_group-requires g c =
+    let t = (g.K.Keeper.seen c.args.keeper.now).kept in
+    let size : IsNum c.args.n = subst IsNum (sym c.requires.length) (keys_sized t c.requires.run c.args.rel) in
+    record { texts = key_texts c.args.n c.args.tuple.now c.key_of-key.result.now size c.key_of-key.ensures (sym c.are_written.ensures ∙ c.if-not-are_written.false) }
+
+pub numbered_under-requires : goal.numbered_under-requires
+numbered_under-requires g c = record { grammar = subst (TableFits val_codec) (sym c.in-Ok.ensures.looks.kept) c.requires.run.rows.fits }
+
+pub returns-then-not-are_written-clause-denies : goal.returns-then-not-are_written-clause-denies
+returns-then-not-are_written-clause-denies g c =
+    let t = (g.K.Keeper.seen c.args.keeper.now).kept in
+    let own : c.key_of-key.result.now ≡ key_of (sight_of t).keys c.args.tuple.now =
+    key_shown t c.args.rel c.args.n c.args.tuple.now c.key_of-key.result.now c.requires.relation c.requires.length c.key_of-key.ensures in
+    unwritten_denied t c.requires.run c.args.world c.args.rel c.ranges.world.fits c.ranges.rel.fits c.args.tuple.now c.requires.relation
+    (ap (list_all is_written) (sym own) ∙ sym c.are_written.ensures ∙ c.if-not-are_written.true)
 
 pub returns-in-Ok-numbered_under-clause-denies : goal.returns-in-Ok-numbered_under-clause-denies
 returns-in-Ok-numbered_under-clause-denies g c =
     let t = (g.K.Keeper.seen c.args.keeper.now).kept in
     let xs = c.in-Ok-numbered_under.entries.items in
-    let prefix : c.as_slice.result.now ≡ key_prefix c.args.world c.args.rel c.args.key.now = search rules in
-    let rows : AreNumbered t (key_prefix c.args.world c.args.rel c.args.key.now) xs =
-    subst (λ p. AreNumbered t p xs) prefix (subst (λ u. AreNumbered u c.as_slice.result.now xs) c.in-Ok.ensures.looks.kept c.in-Ok-numbered_under.ensures.rows) in
-    let fits : IsPlainValue c.args.key.now = search rules in
+    let own : c.key_of-key.result.now ≡ key_of (sight_of t).keys c.args.tuple.now =
+    key_shown t c.args.rel c.args.n c.args.tuple.now c.key_of-key.result.now c.requires.relation c.requires.length c.key_of-key.ensures in
+    let prefix : c.as_slice.result.now ≡ group_prefix c.args.world c.args.rel c.key_of-key.result.now = search rules in
+    let rows : AreNumbered t (group_prefix c.args.world c.args.rel (key_of (sight_of t).keys c.args.tuple.now)) xs =
+    subst (λ p. AreNumbered t p xs) (prefix ∙ ap (group_prefix c.args.world c.args.rel) own)
+    (subst (λ u. AreNumbered u c.as_slice.result.now xs) c.in-Ok.ensures.looks.kept c.in-Ok-numbered_under.ensures.rows) in
+    let fits : AreKeyVals c.key_of-key.result.now = search rules in
     c.one_denies.ensures ∙ ap (list_any (mark_denies c.in-Ok.number)) (c.as_slice-in-Ok-numbered_under.ensures.value ∙ rows.are)
     ∙ denied_by_number c.in-Ok.number rows.entries
-    ∙ denied_is t c.requires.run c.args.world c.args.rel c.ranges.world.fits c.ranges.rel.fits c.args.key.now c.args.tuple.now c.requires.relation c.requires.key c.in-Ok.number rows.entries
-    c.in-Ok.ensures.number fits rows.under
+    ∙ denied_is t c.requires.run c.args.world c.args.rel c.ranges.world.fits c.ranges.rel.fits c.args.tuple.now c.requires.relation c.in-Ok.number rows.entries
+    c.in-Ok.ensures.number (subst AreKeyVals own fits) rows.under
 
 pub returns-in-Ok-numbered_under-clause-reads : goal.returns-in-Ok-numbered_under-clause-reads
 returns-in-Ok-numbered_under-clause-reads g c =
     let t = (g.K.Keeper.seen c.args.keeper.now).kept in
     let xs = c.in-Ok-numbered_under.entries.items in
-    let prefix : c.as_slice.result.now ≡ key_prefix c.args.world c.args.rel c.args.key.now = search rules in
-    let rows : AreNumbered t (key_prefix c.args.world c.args.rel c.args.key.now) xs =
-    subst (λ p. AreNumbered t p xs) prefix (subst (λ u. AreNumbered u c.as_slice.result.now xs) c.in-Ok.ensures.looks.kept c.in-Ok-numbered_under.ensures.rows) in
+    let own : c.key_of-key.result.now ≡ key_of (sight_of t).keys c.args.tuple.now =
+    key_shown t c.args.rel c.args.n c.args.tuple.now c.key_of-key.result.now c.requires.relation c.requires.length c.key_of-key.ensures in
+    let prefix : c.as_slice.result.now ≡ group_prefix c.args.world c.args.rel c.key_of-key.result.now = search rules in
+    let rows : AreNumbered t (group_prefix c.args.world c.args.rel (key_of (sight_of t).keys c.args.tuple.now)) xs =
+    subst (λ p. AreNumbered t p xs) (prefix ∙ ap (group_prefix c.args.world c.args.rel) own)
+    (subst (λ u. AreNumbered u c.as_slice.result.now xs) c.in-Ok.ensures.looks.kept c.in-Ok-numbered_under.ensures.rows) in
     let told : length xs ≡ length rows.entries = ap length rows.are ∙ length_map numbered rows.entries in
-    let fits : IsPlainValue c.args.key.now = search rules in
-    let fewer = denied_reads t c.requires.run c.args.world c.args.rel c.ranges.world.fits c.ranges.rel.fits c.args.key.now c.args.tuple.now c.requires.relation c.requires.key rows.entries fits rows.under in
+    let fits : AreKeyVals c.key_of-key.result.now = search rules in
+    let all = (sight_of t).rows c.args.world c.args.rel in
+    let fewer : length rows.entries ≤ length (rows_of_key (take c.args.n c.args.tuple.now.vals) all) =
+    subst (λ (vs : List Value). length rows.entries ≤ length (rows_of_key vs all)) (sym own ∙ c.key_of-key.ensures)
+    (denied_reads t c.requires.run c.args.world c.args.rel c.ranges.world.fits c.ranges.rel.fits c.args.tuple.now c.requires.relation rows.entries (subst AreKeyVals own fits) rows.under) in
     omega (arith, told, fewer, c.in-Ok.ensures.reads, c.in-Ok-numbered_under.ensures.reads)

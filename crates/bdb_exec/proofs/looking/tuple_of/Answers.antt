@@ -22,4 +22,5 @@ returns-in-Ok-keep_tuple-clause-memo g c =
       h.2,
       h.3,
       h.4,
+      h.5,
     )

@@ -1,6 +1,10 @@
 use Rattle.std.proofs.Common.{◌∙◌, ◌+◌, ◌≤◌, subst}
+use Rattle.bdb_tables.proofs.Held.{user_fits}
 use Rattle.bdb_exec.proofs.LookingLemmas.{users_are, users_many}
 use Rattle.bdb_exec.proofs.looking.users.Goals as goal
+
+pub rows_under-requires : goal.rows_under-requires
+rows_under-requires g c = record { grammar = user_fits (g.K.Keeper.seen c.args.keeper.now).kept c.requires.run.grammar }
 
 pub returns-in-Ok-users_of-clause-users : goal.returns-in-Ok-users_of-clause-users
 returns-in-Ok-users_of-clause-users g c =

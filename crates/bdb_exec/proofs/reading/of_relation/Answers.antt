@@ -26,4 +26,5 @@ returns-in-Ok-insert-clause-memo g c =
           (pair_tied (c.world-world.result, c.args.rel)) c.in-Ok-plus_tuples.ensures.tuples c.in-Ok-insert.ensures.updates h.2,
       h.3,
       h.4,
+      h.5,
     )

@@ -1,4 +1,4 @@
-use Rattle.std.proofs.Common.{◌≡◌, ◌∙◌, ap}
+use Rattle.std.proofs.Common.{◌∙◌, ap}
 use Rattle.bdb_base.specs.Bases.{key_lengths}
 use Rattle.bdb_base.specs.WorldRows.{world_of}
 use Rattle.bdb_model.proofs.BaseLemmas.{valid_world_once, valid_world_agrees}

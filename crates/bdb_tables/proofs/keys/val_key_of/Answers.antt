@@ -6,4 +6,4 @@ returns-in-None-clause-none c _ = val_none_pair c.args.bytes.now c.in-None.ensur
 
 pub returns-in-None-only_num-clause-none : goal.returns-in-None-only_num-clause-none
 returns-in-None-only_num-clause-none c _ =
-    val_none_tuple c.args.bytes.now c.in-Some.found.1.now c.in_ok-value.rest.now c.in-Some.found.0 c.in_ok-value.value c.in-Some.ensures c.in_ok-value.ensures.ok c.in-None-only_num.ensures
+    val_none_tuple c.args.bytes.now c.in-Some.found.1.now c.in_ok-key.rest.now c.in-Some.found.0 c.in_ok-key.key c.in-Some.ensures c.in_ok-key.ensures.ok c.in-None-only_num.ensures

@@ -1,5 +1,4 @@
 use Rattle.std.proofs.Common.{Err, ap, inl, inr, refl}
-use Rattle.bdb_session.proofs.OpenLemmas.{opening_refused}
 use Rattle.bdb_top.proofs.RanLemmas.{but_for_large, each_closed, each_refused, each_run, each_status, many_if, not_seven, of_large, run_status, taken_by}
 use Rattle.bdb_top.proofs.top.run_script.Goals as goal
 
@@ -49,13 +48,16 @@ pub returns-clause-one_more : goal.returns-clause-one_more
 returns-clause-one_more g c = of_large _ c.carry_out_script.result c.status_of.ensures c.carry_out_script.ensures.one_more
 
 pub returns-in-Err-Damaged-clause-silent : goal.returns-in-Err-Damaged-clause-silent
-returns-in-Err-Damaged-clause-silent g c = λ none. (refl, refl, record { unchanged = c.in-Err-Damaged.ensures.err; unwritten = c.open.ensures.unwritten (opening_refused _ none) })
+returns-in-Err-Damaged-clause-silent g c = λ none. (refl, refl, record { unchanged = c.in-Err-Damaged.ensures.err; unwritten = c.open.ensures.refused none })
 
 pub returns-in-Err-Format-clause-silent : goal.returns-in-Err-Format-clause-silent
-returns-in-Err-Format-clause-silent g c = λ none. (refl, refl, record { unchanged = c.in-Err-Format.ensures.err; unwritten = c.open.ensures.unwritten (opening_refused _ none) })
+returns-in-Err-Format-clause-silent g c = λ none. (refl, refl, record { unchanged = c.in-Err-Format.ensures.err; unwritten = c.open.ensures.refused none })
 
 pub returns-in-Err-Fault-clause-silent : goal.returns-in-Err-Fault-clause-silent
-returns-in-Err-Fault-clause-silent g c = λ none. (refl, refl, record { unchanged = c.in-Err-Fault.ensures.err; unwritten = c.open.ensures.unwritten (opening_refused _ none) })
+returns-in-Err-Fault-clause-silent g c = λ none. (refl, refl, record { unchanged = c.in-Err-Fault.ensures.err; unwritten = c.open.ensures.refused none })
 
 pub returns-in-Err-Memory-clause-silent : goal.returns-in-Err-Memory-clause-silent
-returns-in-Err-Memory-clause-silent g c = λ none. (refl, refl, record { unchanged = c.in-Err-Memory.ensures.err; unwritten = c.open.ensures.unwritten (opening_refused _ none) })
+returns-in-Err-Memory-clause-silent g c = λ none. (refl, refl, record { unchanged = c.in-Err-Memory.ensures.err; unwritten = c.open.ensures.refused none })
+
+pub returns-clause-none : goal.returns-clause-none
+returns-clause-none g c = λ none. absurd (none c.in-Ok.ensures.stand.base c.in-Ok.ensures.stand.stand)

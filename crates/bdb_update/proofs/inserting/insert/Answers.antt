@@ -6,6 +6,7 @@ use Rattle.bdb_update.specs.Joining.{is_of_tuples}
 use Rattle.bdb_update.proofs.CallLemmas.{gone_itself}
 use Rattle.bdb_update.proofs.ChangeBounds.{as_tables, join_within}
 use Rattle.bdb_update.proofs.InsertLemmas.{counts_join, number_still, some_worlds, some_number, here_now, joins}
+use Rattle.bdb_update.proofs.KeyLemmas.{length_still}
 use Rattle.bdb_update.proofs.LeastNumbers.{some_still, takes_between}
 use Rattle.bdb_update.proofs.StayLemmas.{insert_keeps, insert_least}
 use Rattle.bdb_update.proofs.TallyLemmas.{rows_alone}
@@ -106,3 +107,12 @@ returns-in-Ok-settle_statement-clause-least g c =
     let w = (g.K.Keeper.seen c.settle_statement.new.keeper).kept in
     insert_least (g.K.Keeper.seen c.args.keeper.now).kept u v w c.args.stmt.now.path c.in-Ok.ensures.least
     (as_tables is_of_tuples u v c.in-Ok-number_tuple.ensures.others) (as_tables rows_alone v w c.in-Ok-settle_statement.ensures.others)
+
+pub settle_statement-requires-clause-length : goal.settle_statement-requires-clause-length
+settle_statement-requires-clause-length g c =
+    let t = (g.K.Keeper.seen c.args.keeper.now).kept in
+    let u = (g.K.Keeper.seen c.add_worlds.new.keeper).kept in
+    let v = (g.K.Keeper.seen c.number_tuple.new.keeper).kept in
+    let rel = c.args.stmt.now.tuple.rel in
+    let n = c.args.ready.now.key_len in
+    length_still is_of_tuples u v rel n (as_tables is_of_tuples u v c.in-Ok-number_tuple.ensures.others) refl (length_still is_of_worlds t u rel n c.in-Ok.ensures.others refl c.requires.length)

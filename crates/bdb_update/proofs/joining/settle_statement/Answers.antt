@@ -7,13 +7,14 @@ use Rattle.bdb_val.proofs.Calls.{gone_then, gone_changing, changing_ok, changing
 use Rattle.bdb_update.specs.Joining.{CountsSettled, key_made}
 use Rattle.bdb_update.proofs.CallLemmas.{gone_itself}
 use Rattle.bdb_update.proofs.GrammarLemmas.{over_in_grammar}
-use Rattle.bdb_update.proofs.SettleLemmas.{counts_settle, first_plain, may_be_tuple, row_has_tuple, settled, settling_tells}
+use Rattle.bdb_update.proofs.KeyLemmas.{key_in, key_texts}
+use Rattle.bdb_update.proofs.SettleLemmas.{counts_settle, may_be_tuple, row_has_tuple, settled, settling_tells}
 use Rattle.bdb_update.proofs.SpendLemmas.{row_alone, row_then_group}
 use Rattle.bdb_update.proofs.joining.settle_statement.Goals as goal
 
 pub put_row-requires-clause-text : goal.put_row-requires-clause-text
 put_row-requires-clause-text g c =
-    first_plain c.args.stmt.now.tuple.vals c.first_value-key.result.now c.first_value-key.ensures (may_be_tuple c.requires.base.base c.args.stmt.now c.requires.base.may).texts
+    key_texts c.args.n c.args.stmt.now.tuple c.key_of-key.result.now c.ranges.n.fits c.key_of-key.ensures (may_be_tuple c.requires.base.base c.args.stmt.now c.requires.base.may).texts
 
 pub settle_group-requires-clause-grammar : goal.settle_group-requires-clause-grammar
 settle_group-requires-clause-grammar g c =
@@ -25,20 +26,20 @@ pub settle_group-requires-clause-tuples : goal.settle_group-requires-clause-tupl
 settle_group-requires-clause-tuples g c =
     let num : IsNum c.args.tid = search rules in
     let x = c.args.stmt.now in
-    let key = c.first_value-key.result.now in
+    let key = c.key_of-key.result.now in
     row_has_tuple (g.K.Keeper.seen c.args.keeper.now).kept (g.K.Keeper.seen c.put_row.new.keeper).kept x c.args.wid c.args.tid key c.requires.base c.requires.fits num
     c.requires.number c.in-Ok.ensures.fits (c.in-Ok.ensures.put)
 
 pub settle_group-requires-clause-text : goal.settle_group-requires-clause-text
 settle_group-requires-clause-text g c =
-    first_plain c.args.stmt.now.tuple.vals c.first_value-key.result.now c.first_value-key.ensures (may_be_tuple c.requires.base.base c.args.stmt.now c.requires.base.may).texts
+    key_texts c.args.n c.args.stmt.now.tuple c.key_of-key.result.now c.ranges.n.fits c.key_of-key.ensures (may_be_tuple c.requires.base.base c.args.stmt.now c.requires.base.may).texts
 
 pub returns-in-Ok-settle_group-clause-settled : goal.returns-in-Ok-settle_group-clause-settled
 returns-in-Ok-settle_group-clause-settled g c =
     let x = c.args.stmt.now in
-    let key = c.first_value-key.result.now in
+    let key = c.key_of-key.result.now in
     settled (g.K.Keeper.seen c.args.keeper.now).kept (g.K.Keeper.seen c.put_row.new.keeper).kept (g.K.Keeper.seen c.settle_group.new.keeper).kept x c.args.wid c.args.tid
-    key c.first_value-key.ensures (c.in-Ok.ensures.put)
+    key (key_in (g.K.Keeper.seen c.args.keeper.now).kept c.args.n x.tuple key c.key_of-key.ensures c.requires.length) c.in-Ok.ensures.put
     (subst (λ (n : ℕ). SettlesGroup (g.K.Keeper.seen c.put_row.new.keeper).kept (g.K.Keeper.seen c.settle_group.new.keeper).kept c.args.wid n key) c.rel_of-rel.ensures
     c.in-Ok-settle_group.ensures.settled) (λ n k out. c.in-Ok-settle_group.ensures.others (n ∷ k) out)
     c.requires.world c.requires.fits c.requires.number
@@ -49,9 +50,9 @@ returns-in-Ok-settle_group-clause-counted g c =
     let mid = g.K.Keeper.seen c.put_row.new.keeper in
     let new = g.K.Keeper.seen c.settle_group.new.keeper in
     let x = c.args.stmt.now in
-    let key = c.first_value-key.result.now in
-    let counts = counts_settle t mid new x c.args.wid c.args.tid key c.in-Ok.stood c.in-Ok-settle_group.settled c.first_value-key.ensures
-    (c.in-Ok.ensures.put) c.in-Ok.ensures.found
+    let key = c.key_of-key.result.now in
+    let counts = counts_settle t mid new x c.args.wid c.args.tid key c.in-Ok.stood c.in-Ok-settle_group.settled
+    (key_in t c.args.n x.tuple key c.key_of-key.ensures c.requires.length) c.in-Ok.ensures.put c.in-Ok.ensures.found
     (subst (λ (n : ℕ). SettlesGroup mid.kept new.kept c.args.wid n key) c.rel_of-rel.ensures c.in-Ok-settle_group.ensures.settled)
     (subst (λ (n : ℕ). TellsGroup mid new c.args.wid n key c.in-Ok-settle_group.settled) c.rel_of-rel.ensures c.in-Ok-settle_group.ensures.tells)
     c.in-Ok-settle_group.ensures.others c.requires.world c.requires.fits c.requires.number in
@@ -78,10 +79,10 @@ returns-in-Ok-settle_group-clause-writes g c =
     let mid = g.K.Keeper.seen c.put_row.new.keeper in
     let new = g.K.Keeper.seen c.settle_group.new.keeper in
     let x = c.args.stmt.now in
-    let key = c.first_value-key.result.now in
+    let key = c.key_of-key.result.now in
     let s = c.in-Ok-settle_group.settled in
     let made = c.in-Ok.ensures.put in
-    let tells = settling_tells old.kept mid new x c.args.wid c.args.tid key s c.first_value-key.ensures made
+    let tells = settling_tells old.kept mid new x c.args.wid c.args.tid key s (key_in old.kept c.args.n x.tuple key c.key_of-key.ensures c.requires.length) made
     (subst (λ (n : ℕ). TellsGroup mid new c.args.wid n key s) c.rel_of-rel.ensures c.in-Ok-settle_group.ensures.tells)
     c.requires.world c.requires.fits c.requires.number c.requires.base.base c.requires.base.number c.requires.base.may in
     row_then_group old mid new (key_made x c.args.wid c.args.tid key, Some (x.sign, true)) s.put s.taken made
@@ -90,7 +91,7 @@ returns-in-Ok-settle_group-clause-writes g c =
 pub returns-in-Ok-settle_group-clause-others : goal.returns-in-Ok-settle_group-clause-others
 returns-in-Ok-settle_group-clause-others g c =
     let x = c.args.stmt.now in
-    let key = c.first_value-key.result.now in
+    let key = c.key_of-key.result.now in
     row_alone (g.K.Keeper.seen c.args.keeper.now).kept (g.K.Keeper.seen c.put_row.new.keeper).kept (g.K.Keeper.seen c.settle_group.new.keeper).kept (key_made x c.args.wid c.args.tid key, Some (x.sign, true))
     (c.in-Ok.ensures.put) c.in-Ok-settle_group.ensures.others
 

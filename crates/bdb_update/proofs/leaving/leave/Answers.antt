@@ -55,3 +55,6 @@ returns-in-Ok-drop_number-clause-keeps g c =
     let w = (g.K.Keeper.seen c.drop_number.new.keeper).kept in
     leave_keeps t u v w (as_tables (λ n. nat_eq n 11) t u c.in-Ok.ensures.others) c.in-Ok-drop_worlds.ensures.names c.in-Ok-drop_worlds.ensures.others c.in-Ok-drop_number.ensures.stood
     (as_tables is_of_tuples v w c.in-Ok-drop_number.ensures.others)
+
+pub part_statement-requires-clause-length : goal.part_statement-requires-clause-length
+part_statement-requires-clause-length g c = c.requires.length

@@ -1,5 +1,7 @@
 use Rattle.std.proofs.Common.{◌+◌, length, subst, sym}
+use Rattle.bdb_keep.specs.Tables.{Tables}
 use Rattle.bdb_update.specs.Keeping.{KeepsNumbers}
+use Rattle.bdb_tables.specs.Lengths.{IsKeyLength}
 use Rattle.bdb_tables.specs.declared.tab.TabError.TheVariants.{Fault}
 use Rattle.bdb_tables.proofs.Fitting.{belonging_may_be}
 use Rattle.bdb_tables.proofs.Loops.{goes_then}
@@ -93,3 +95,7 @@ returns-in-None-clause-keeps g c =
 pub returns-in-Ok-leave-clause-keeps : goal.returns-in-Ok-leave-clause-keeps
 returns-in-Ok-leave-clause-keeps g c =
     subst (KeepsNumbers (g.K.Keeper.seen c.leave.new.keeper).kept) c.in-Ok.ensures.read.kept c.in-Ok-leave.ensures.keeps
+
+pub leave-requires-clause-length : goal.leave-requires-clause-length
+leave-requires-clause-length g c =
+    subst (λ (t : Tables). IsKeyLength t c.args.stmt.now.tuple.rel c.in-Ok.place.key_len) (sym c.in-Ok.ensures.read.kept) c.in-Ok.ensures.place.key_length

@@ -2,9 +2,10 @@ use Rattle.std.proofs.Common.{sym, subst}
 use Rattle.bdb_tables.specs.declared.tab.TabError.TheVariants.{Fault}
 use Rattle.bdb_tables.proofs.Fitting.{belonging_may_be}
 use Rattle.bdb_update.specs.Examining.{Examines}
-use Rattle.bdb_update.proofs.CallLemmas.{quiet_itself, read_err}
+use Rattle.bdb_update.proofs.CallLemmas.{quiet_itself, quiet_read, read_ok, read_err}
 use Rattle.bdb_update.proofs.ExamineLemmas.{examined}
 use Rattle.bdb_update.proofs.GrammarLemmas.{stored_is_in_grammar}
+use Rattle.bdb_update.proofs.QuietLemmas.{read_undone}
 use Rattle.bdb_update.proofs.StageLemmas.{belongs_parts, over_has_tuples}
 use Rattle.bdb_update.proofs.looking.examine.Goals as goal
 
@@ -42,3 +43,15 @@ pub returns-in-Ok-judge-clause-examined : goal.returns-in-Ok-judge-clause-examin
 returns-in-Ok-judge-clause-examined g c =
     let t = (g.K.Keeper.seen c.args.keeper.now).kept in
     subst (Examines t c.args.counts.now c.args.stmt.now) (sym c.in-Ok-judge.ensures) (examined t c.args.counts.now c.args.stmt.now c.in-Ok.place c.in-Ok.ensures.place)
+
+pub returns-in-Ok-judge-clause-read : goal.returns-in-Ok-judge-clause-read
+returns-in-Ok-judge-clause-read g c =
+    let old = g.K.Keeper.seen c.args.keeper.now in
+    let new = g.K.Keeper.seen c.look.new.keeper in
+    read_ok old new c.in-Ok-judge.verdict Fault c.requires.running (quiet_read old new c.in-Ok.place Fault c.in-Ok.ensures.read)
+
+pub returns-clause-read : goal.returns-clause-read
+returns-clause-read g c =
+    let old = g.K.Keeper.seen c.args.keeper.now in
+    let mid = g.K.Keeper.seen c.look.new.keeper in
+    read_undone old mid (g.K.Keeper.seen c.undo.new.self) c.requires.running (quiet_read old mid c.in-Ok.place Fault c.in-Ok.ensures.read) c.undo.ensures.undone

@@ -69,6 +69,13 @@ insert-requires-clause-number g c =
     (ready_now old mid c.args.counts.now c.args.stmt.now c.in-Ok-Fits.ready (subst (Examines old.kept c.args.counts.now c.args.stmt.now) c.in-Ok-Fits.field-0-is c.in-Ok-Fits.ensures.examined)
     (quiet_read old mid c.in-Ok-Fits.field-0 Fault c.in-Ok-Fits.ensures.read) c.requires.base).number
 
+pub insert-requires-clause-length : goal.insert-requires-clause-length
+insert-requires-clause-length g c =
+    let old = g.K.Keeper.seen c.args.keeper.now in
+    let mid = g.K.Keeper.seen c.examine.new.keeper in
+    (ready_now old mid c.args.counts.now c.args.stmt.now c.in-Ok-Fits.ready (subst (Examines old.kept c.args.counts.now c.args.stmt.now) c.in-Ok-Fits.field-0-is c.in-Ok-Fits.ensures.examined)
+    (quiet_read old mid c.in-Ok-Fits.field-0 Fault c.in-Ok-Fits.ensures.read) c.requires.base).key_length
+
 pub counts_after-requires-clause-came : goal.counts_after-requires-clause-came
 counts_after-requires-clause-came g c =
     let old = g.K.Keeper.seen c.args.keeper.now in

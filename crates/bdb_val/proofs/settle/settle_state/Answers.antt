@@ -20,7 +20,7 @@ use Rattle.bdb_val.proofs.StateLemmas.{fits_at, group_keeps_tuples, group_tells}
 use Rattle.bdb_val.proofs.settle.settle_state.Goals as goal
 
 pub returns-in-Ok-write_marks-clause-settled : goal.returns-in-Ok-write_marks-clause-settled
-returns-in-Ok-write_marks-clause-settled g c linked stmts n tuple f h =
+returns-in-Ok-write_marks-clause-settled g c linked keys stmts n tuple f h =
     let old = g.K.Keeper.seen c.args.keeper.now in
     let new = g.K.Keeper.seen c.write_marks.new.keeper in
     let wid = c.args.wid in
@@ -36,12 +36,12 @@ returns-in-Ok-write_marks-clause-settled g c linked stmts n tuple f h =
     let writes = b.writes ∙ a.writes in
     let under = subst (λ (t : Tables). AreUnder val_codec t (prefix wid) (map (in_group wid rel v) es)) a.kept c.in-Ok-group_marks.ensures.rows in
     let fits = c.in-Ok-group_marks.ensures.fits in
-    let read = group_read stmts n tuple f old.kept h rel v c.ranges.rel.fits fits wid link es fs c.ranges.wid.fits (fits_at old.kept wid link linked) under c.in-Ok.ensures.rows in
+    let read = group_read keys stmts n tuple f old.kept h rel v c.ranges.rel.fits fits wid link es fs c.ranges.wid.fits (fits_at old.kept wid link linked) under c.in-Ok.ensures.rows in
     let cs = c.deref-4.result.now in
-    let bytes : BeginsGroup c.deref-3.result.now wid rel v = record { world = c.ranges.wid.fits; rel = c.ranges.rel.fits; value = fits; bytes = c.deref-3.ensures.value ∙ c.in-Ok-group_marks.ensures.prefix } in
+    let bytes : BeginsGroup c.deref-3.result.now wid rel v = record { world = c.ranges.wid.fits; rel = c.ranges.rel.fits; key = fits; bytes = c.deref-3.ensures.value ∙ c.in-Ok-group_marks.ensures.prefix } in
     let changes : cs ≡ group_changes es fs = c.deref-4.ensures.value ∙ c.in-Ok-put_changes.ensures
     ∙ ap (λ (x : List (ℕ × Mark)). group_changes x c.deref-2.result.now) c.deref.ensures.value ∙ ap (group_changes es) c.deref-2.ensures.value in
-    let made : map (in_group wid rel v) cs ≡ rows_made wid read.own read.from = ap (map (in_group wid rel v)) changes ∙ read.made in
+    let made : map (in_group wid rel v) cs ≡ rows_made keys wid read.own read.from = ap (map (in_group wid rel v)) changes ∙ read.made in
     let told : TellsMarks (mark_under es) cs c.told.result = subst (λ (x : List (ℕ × Option Mark)). TellsMarks (mark_under es) x c.told.result) (c.deref-in-Ok-write_marks-2.ensures.value ∙ sym c.deref-4.ensures.value)
     (subst (λ (x : List (ℕ × Mark)). TellsMarks (mark_under x) c.deref-in-Ok-write_marks-2.result.now c.told.result) c.deref-in-Ok-write_marks.ensures.value c.told.ensures) in
     record {
@@ -71,7 +71,7 @@ returns-in-Ok-write_marks-clause-tuples g c =
     let kept = c.in-Ok-group_marks.ensures.read.kept ∙ a.kept in
     let under = subst (λ (t : Tables). AreUnder val_codec t (group_prefix wid rel v) (map (in_group wid rel v) es)) a.kept c.in-Ok-group_marks.ensures.rows in
     let cs = c.deref-4.result.now in
-    let bytes : BeginsGroup c.deref-3.result.now wid rel v = record { world = c.ranges.wid.fits; rel = c.ranges.rel.fits; value = c.in-Ok-group_marks.ensures.fits; bytes = c.deref-3.ensures.value ∙ c.in-Ok-group_marks.ensures.prefix } in
+    let bytes : BeginsGroup c.deref-3.result.now wid rel v = record { world = c.ranges.wid.fits; rel = c.ranges.rel.fits; key = c.in-Ok-group_marks.ensures.fits; bytes = c.deref-3.ensures.value ∙ c.in-Ok-group_marks.ensures.prefix } in
     let changes : cs ≡ group_changes es fs = c.deref-4.ensures.value ∙ c.in-Ok-put_changes.ensures
     ∙ ap (λ (x : List (ℕ × Mark)). group_changes x c.deref-2.result.now) c.deref.ensures.value ∙ ap (group_changes es) c.deref-2.ensures.value in
     group_keeps_tuples old.kept new.kept wid rel v c.args.link es fs c.requires.tuples under c.in-Ok.ensures.rows
@@ -85,7 +85,7 @@ returns-in-Ok-write_marks-clause-others g c =
     let v = c.args.key.now in
     let kept = c.in-Ok-group_marks.ensures.read.kept ∙ c.in-Ok.ensures.read.kept in
     let cs = c.deref-4.result.now in
-    let bytes : BeginsGroup c.deref-3.result.now wid rel v = record { world = c.ranges.wid.fits; rel = c.ranges.rel.fits; value = c.in-Ok-group_marks.ensures.fits; bytes = c.deref-3.ensures.value ∙ c.in-Ok-group_marks.ensures.prefix } in
+    let bytes : BeginsGroup c.deref-3.result.now wid rel v = record { world = c.ranges.wid.fits; rel = c.ranges.rel.fits; key = c.in-Ok-group_marks.ensures.fits; bytes = c.deref-3.ensures.value ∙ c.in-Ok-group_marks.ensures.prefix } in
     made_same (g.K.Keeper.seen c.args.keeper.now).kept (g.K.Keeper.seen c.write_marks.new.keeper).kept (map (in_group wid rel v) cs)
     (c.in-Ok-write_marks.ensures.kept wid rel v bytes ∙ ap (λ (t : Tables). with_changes val_codec t (map (in_group wid rel v) cs)) kept)
 
@@ -93,8 +93,8 @@ pub write_marks-requires-clause-group : goal.write_marks-requires-clause-group
 write_marks-requires-clause-group g c = record {
   world = c.args.wid;
   rel = c.args.rel;
-  value = c.args.key.now;
-  begins = record { world = c.ranges.wid.fits; rel = c.ranges.rel.fits; value = c.in-Ok-group_marks.ensures.fits; bytes = c.deref-3.ensures.value ∙ c.in-Ok-group_marks.ensures.prefix };
+  key = c.args.key.now;
+  begins = record { world = c.ranges.wid.fits; rel = c.ranges.rel.fits; key = c.in-Ok-group_marks.ensures.fits; bytes = c.deref-3.ensures.value ∙ c.in-Ok-group_marks.ensures.prefix };
 }
 
 pub returns-in-Ok-write_marks-clause-room : goal.returns-in-Ok-write_marks-clause-room
@@ -108,12 +108,12 @@ returns-in-Ok-write_marks-clause-room g c =
     let kept = c.in-Ok-group_marks.ensures.read.kept ∙ c.in-Ok.ensures.read.kept in
     let fits = c.in-Ok-group_marks.ensures.fits in
     let cs = c.deref-4.result.now in
-    let bytes : BeginsGroup c.deref-3.result.now wid rel v = record { world = c.ranges.wid.fits; rel = c.ranges.rel.fits; value = fits; bytes = c.deref-3.ensures.value ∙ c.in-Ok-group_marks.ensures.prefix } in
+    let bytes : BeginsGroup c.deref-3.result.now wid rel v = record { world = c.ranges.wid.fits; rel = c.ranges.rel.fits; key = fits; bytes = c.deref-3.ensures.value ∙ c.in-Ok-group_marks.ensures.prefix } in
     record {
-      begins = inr (wid, record { world = c.ranges.wid.fits; rel = c.ranges.rel.fits; value = fits; bytes = c.in-Ok-group_marks.ensures.prefix });
+      begins = inr (wid, record { world = c.ranges.wid.fits; rel = c.ranges.rel.fits; key = fits; bytes = c.in-Ok-group_marks.ensures.prefix });
       handed = subst (AreHanded new.kept rel v c.forget.new.self.from) (sym c.forget.ensures.rows)
           (subst (λ o. AreHanded new.kept rel v o rows) (sym c.forget.ensures.from)
-          (handed_stay old.kept new.kept wid rel v c.keep_linked.new.handed.from rows cs c.ranges.rel.fits fits (c.in-Ok-write_marks.ensures.fits wid rel v bytes)
+          (handed_stay old.kept new.kept wid rel v c.keep_linked.new.handed.from rows cs (c.in-Ok-write_marks.ensures.fits wid rel v bytes)
           (c.in-Ok-write_marks.ensures.kept wid rel v bytes ∙ ap (λ (t : Tables). with_changes val_codec t (map (in_group wid rel v) cs)) kept) c.in-Ok.ensures.room.handed));
     }
 

@@ -16,7 +16,7 @@ pub get-requires-clause-grammar : goal.get-requires-clause-grammar
 get-requires-clause-grammar g c = λ k r found. c.requires.grammar 7 k r found
 
 pub returns-in-Ok-push_linked-clause-visited : goal.returns-in-Ok-push_linked-clause-visited
-returns-in-Ok-push_linked-clause-visited g c stmts n tuple f h =
+returns-in-Ok-push_linked-clause-visited g c keys stmts n tuple f h =
     let old = g.K.Keeper.seen c.args.keeper.now in
     let start = g.K.Keeper.seen c.get.new.keeper in
     let mid = g.K.Keeper.seen c.settle_state.new.keeper in
@@ -25,11 +25,11 @@ returns-in-Ok-push_linked-clause-visited g c stmts n tuple f h =
     let s = c.in-Ok-settle_state.settled in
     let link = c.in-Ok.ensures.read in
     let found = subst (λ (t : Tables). HasAt link_codec t c.args.wid c.in-Ok.link) (sym link.kept) c.in-Ok.ensures.found in
-    let settled = c.in-Ok-settle_state.ensures.settled found stmts n tuple f (subst (HasExplicit stmts n tuple f) (sym link.kept) h) in
-    let step = step_from old start mid prefix c.args.wid s link.kept link.writes settled in
+    let settled = c.in-Ok-settle_state.ensures.settled found keys stmts n tuple f (subst (HasExplicit keys stmts n tuple f) (sym link.kept) h) in
+    let step = step_from keys old start mid prefix c.args.wid s link.kept link.writes settled in
     let read = c.in-Ok-push_linked.ensures.read in record {
-      visit = visited old mid new prefix c.args.wid s step read.kept read.writes;
-      told = told old mid new prefix c.args.wid s step read.kept read.writes;
+      visit = visited keys old mid new prefix c.args.wid s step read.kept read.writes;
+      told = told keys old mid new prefix c.args.wid s step read.kept read.writes;
       pushed = subst (λ (t : Tables). ArePushed t c.args.wid c.args.list.now.items c.push_linked.new.list.items) (sym read.kept) c.in-Ok-push_linked.ensures.pushed;
     }
 

@@ -11,27 +11,27 @@ use Rattle.bdb_val.proofs.StepsMade.{visited, told, quiet}
 use Rattle.bdb_val.proofs.walk.visit_next.Goals as goal
 
 pub returns-then-not-settled-clause-visited : goal.returns-then-not-settled-clause-visited
-returns-then-not-settled-clause-visited g c link stmts n tuple f h =
+returns-then-not-settled-clause-visited g c link keys stmts n tuple f h =
     let old = g.K.Keeper.seen c.args.keeper.now in
     let mid = g.K.Keeper.seen c.settle_state.new.keeper in
     let prefix = λ (w : ℕ). group_prefix w c.args.rel c.args.key.now in
-    let step = c.in-Ok.ensures.settled link stmts n tuple f h in
+    let step = c.in-Ok.ensures.settled link keys stmts n tuple f h in
     record {
-      visit = visited old mid mid prefix c.args.next.0 c.in-Ok.settled step refl refl;
-      told = told old mid mid prefix c.args.next.0 c.in-Ok.settled step refl refl;
-      pushed = inl (refl, quiet old mid mid prefix c.args.next.0 c.in-Ok.settled step refl refl (not-true c.in-Ok.settled.turned c.if-not-settled.true));
+      visit = visited keys old mid mid prefix c.args.next.0 c.in-Ok.settled step refl refl;
+      told = told keys old mid mid prefix c.args.next.0 c.in-Ok.settled step refl refl;
+      pushed = inl (refl, quiet keys old mid mid prefix c.args.next.0 c.in-Ok.settled step refl refl (not-true c.in-Ok.settled.turned c.if-not-settled.true));
     }
 
 pub returns-in-Ok-push_linked-clause-visited : goal.returns-in-Ok-push_linked-clause-visited
-returns-in-Ok-push_linked-clause-visited g c link stmts n tuple f h =
+returns-in-Ok-push_linked-clause-visited g c link keys stmts n tuple f h =
     let old = g.K.Keeper.seen c.args.keeper.now in
     let mid = g.K.Keeper.seen c.settle_state.new.keeper in
     let new = g.K.Keeper.seen c.push_linked.new.keeper in
     let prefix = λ (w : ℕ). group_prefix w c.args.rel c.args.key.now in
-    let step = c.in-Ok.ensures.settled link stmts n tuple f h in
+    let step = c.in-Ok.ensures.settled link keys stmts n tuple f h in
     let read = c.in-Ok-push_linked.ensures.read in record {
-      visit = visited old mid new prefix c.args.next.0 c.in-Ok.settled step read.kept read.writes;
-      told = told old mid new prefix c.args.next.0 c.in-Ok.settled step read.kept read.writes;
+      visit = visited keys old mid new prefix c.args.next.0 c.in-Ok.settled step read.kept read.writes;
+      told = told keys old mid new prefix c.args.next.0 c.in-Ok.settled step read.kept read.writes;
       pushed = inr (subst (λ (t : Tables). ArePushed t c.args.next.0 c.args.list.now.items c.push_linked.new.list.items) (sym read.kept) c.in-Ok-push_linked.ensures.pushed);
     }
 

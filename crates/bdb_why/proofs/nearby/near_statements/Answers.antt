@@ -4,6 +4,7 @@ use Rattle.bdb_base.specs.Order.{statement_cmp}
 use Rattle.bdb_base.specs.SortedSet.{ascending}
 use Rattle.bdb_keep.specs.Tables.{Tables}
 use Rattle.bdb_tables.specs.Grammar.{InGrammar}
+use Rattle.bdb_tables.specs.Lengths.{IsKeyLength}
 use Rattle.bdb_tables.proofs.Loops.{counts_then, goes_then, steps_err, steps_ok}
 use Rattle.bdb_val.specs.Reads.{HaveTuples}
 use Rattle.bdb_why.specs.Reading.{LinksTo, PutsNear, ReadsHere, SomeHaveLink}
@@ -63,6 +64,9 @@ pub put_near-requires-clause-grammar : goal.put_near-requires-clause-grammar
 put_near-requires-clause-grammar g c =
     subst InGrammar (sym c.loop-rest.invariant.kept) (ask_grammar (g.K.Keeper.seen c.args.keeper.now).kept c.args.path.now c.args.t.now c.requires.base)
 
+pub put_near-requires-clause-length : goal.put_near-requires-clause-length
+put_near-requires-clause-length g c = subst (λ (t : Tables). IsKeyLength t c.args.t.now.rel c.args.n) (sym c.loop-rest.invariant.kept) c.requires.length
+
 pub put_near-requires-clause-tuples : goal.put_near-requires-clause-tuples
 put_near-requires-clause-tuples g c =
     subst HaveTuples (sym c.loop-rest.invariant.kept) (ask_tuples (g.K.Keeper.seen c.args.keeper.now).kept c.args.path.now c.args.t.now c.requires.base)
@@ -121,6 +125,9 @@ loop-rest-preserved g c =
 pub put_near-requires-2-clause-grammar : goal.put_near-requires-2-clause-grammar
 put_near-requires-2-clause-grammar g c =
     subst InGrammar (sym c.loop-rest.invariant.kept) (ask_grammar (g.K.Keeper.seen c.args.keeper.now).kept c.args.path.now c.args.t.now c.requires.base)
+
+pub put_near-requires-2-clause-length : goal.put_near-requires-2-clause-length
+put_near-requires-2-clause-length g c = subst (λ (t : Tables). IsKeyLength t c.args.t.now.rel c.args.n) (sym c.loop-rest.invariant.kept) c.requires.length
 
 pub put_near-requires-2-clause-tuples : goal.put_near-requires-2-clause-tuples
 put_near-requires-2-clause-tuples g c =

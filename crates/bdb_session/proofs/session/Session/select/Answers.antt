@@ -1,10 +1,13 @@
 use Rattle.std.proofs.Common.{refl}
-use Rattle.bdb_session.proofs.QueryLemmas.{answers_tell, fault_tells, many_tell, no_memory_tells}
+use Rattle.bdb_session.proofs.QueryLemmas.{answers_tell, fault_tells, many_tell, no_memory_tells, plans_can_be_run}
 use Rattle.bdb_session.proofs.ReadLemmas.{answers_read}
 use Rattle.bdb_session.proofs.TellLemmas.{said_nothing, said_reads}
 use Rattle.bdb_session.proofs.WithinLemmas.{memory_tells}
 use Rattle.bdb_update.proofs.CallLemmas.{gone_itself}
 use Rattle.bdb_session.proofs.session.Session.select.Goals as goal
+
+pub execute-requires : goal.execute-requires
+execute-requires g c = record { run = plans_can_be_run (g.K.Keeper.seen c.args.keeper.now).kept c.args.self.now c.requires.agrees }
 
 pub returns-in-Err-clause-told : goal.returns-in-Err-clause-told
 returns-in-Err-clause-told g c =

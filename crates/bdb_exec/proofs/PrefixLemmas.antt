@@ -1,0 +1,74 @@
+-- Values that are asked for, one column after the other.
+use Rattle.std.proofs.Common.{◌≡◌, ◌∙◌, ℕ, zero, suc, ◌+◌, ◌-◌, ◌≤◌, ◌<◌, Bool, true, false, ◌&&◌, List, [], ◌∷◌, ◌++◌, Option, Some, None, length, refl, ap, sym, subst, arith}
+use Rattle.std.specs.List.{list_all}
+use Rattle.std.proofs.lemmas.List.{append_assoc}
+use Rattle.bdb_base.specs.declared.kinds.Value.{Value}
+use Rattle.bdb_base.specs.declared.kinds.Value.TheVariants.{Int, Text}
+use Rattle.bdb_base.specs.declared.tuple.Tuple.{Tuple}
+use Rattle.bdb_key.specs.Bytes.{value_bytes, values_bytes}
+use Rattle.bdb_key.specs.Grammar.{IsPlainValue, IsWhole}
+use Rattle.bdb_plan.specs.declared.step.Step.{Step}
+use Rattle.bdb_exec.specs.Keys.{led_by, value_behind, values_behind}
+use Rattle.bdb_exec.specs.Rows.{HasPutValues, is_written}
+
+plain_value : (v : Value) → is_written v ≡ true → IsWhole v → IsPlainValue v
+plain_value (Int m) w h = h
+plain_value (Text t) w h = w
+
+append_nil : (xs : List ℕ) → xs ≡ xs ++ []
+append_nil [] = refl
+append_nil (x ∷ xs) = ap (λ (r : List ℕ). x ∷ r) (append_nil xs)
+
+-- nothing is asked for
+pub put_none : (old : List ℕ) (vs : List Value) → vs ≡ [] → HasPutValues true old old vs
+put_none old vs e = subst (HasPutValues true old old) (sym e) (append_nil old, tt)
+
+-- a value that no key may have is asked for first
+pub put_unwritten : (old new : List ℕ) (v : Value) (vs : List Value) → is_written v ≡ false → HasPutValues false old new (v ∷ vs)
+put_unwritten old new v vs e = ap (λ b. b && list_all is_written vs) e
+
+-- one that keys may have was put, and then the others
+pub put_more : (all : Bool) (old mid new : List ℕ) (v : Value) (vs : List Value) → is_written v ≡ true → IsWhole v → mid ≡ old ++ value_bytes v → HasPutValues all mid new vs → HasPutValues all old new (v ∷ vs)
+put_more true old mid new v vs w whole e h = (
+  h.0 ∙ ap (λ (x : List ℕ). x ++ values_bytes vs) e ∙ append_assoc old (value_bytes v) (values_bytes vs),
+  (plain_value v w whole, h.1),
+)
+put_more false old mid new v vs w whole e h = ap (λ b. b && list_all is_written vs) w ∙ h
+
+module _ (slots : List (Option Tuple)) (item : ℕ) (behind : List Step) where
+  -- no more values are asked for than there are columns
+  pub few_asked : (n col : ℕ) → length (values_behind slots item behind n col) ≤ n
+  few_asked zero col = omega arith
+  few_asked (suc n) col = by (value_behind slots item behind col) (few_asked n (suc col))
+    where
+      by : (o : Option Value) → length (values_behind slots item behind n (suc col)) ≤ n → length (led_by o (values_behind slots item behind n (suc col))) ≤ suc n
+      by None rest = omega arith
+      by (Some v) rest = omega (arith, rest)
+
+  -- at first all columns are left
+  pub all_columns : (n : ℕ) → values_behind slots item behind (n - 0) 0 ≡ values_behind slots item behind n 0
+  all_columns n = ap (λ k. values_behind slots item behind k 0) (all n)
+    where
+      all : (n : ℕ) → n - 0 ≡ n
+      all n = omega arith
+
+  -- where no column is left, nothing is asked for
+  pub none_left : (n col : ℕ) → n ≤ col → values_behind slots item behind (n - col) col ≡ []
+  none_left n col le = ap (λ k. values_behind slots item behind k col) (nothing n col le)
+    where
+      nothing : (n col : ℕ) → n ≤ col → n - col ≡ 0
+      nothing n col le = omega (arith, le)
+
+  -- what is asked for from a column on
+  pub from_column : (n col : ℕ) (o : Option Value) → col < n → o ≡ value_behind slots item behind col
+      → values_behind slots item behind (n - col) col ≡ led_by o (values_behind slots item behind (n - (col + 1)) (col + 1))
+  from_column n col o lt e =
+      ap (λ k. values_behind slots item behind k col) (one_more n col lt)
+      ∙ ap (λ p. led_by p (values_behind slots item behind (n - (col + 1)) (suc col))) (sym e)
+      ∙ ap (λ k. led_by o (values_behind slots item behind (n - (col + 1)) k)) (next col)
+    where
+      one_more : (n col : ℕ) → col < n → n - col ≡ suc (n - (col + 1))
+      one_more n col lt = omega (arith, lt)
+
+      next : (col : ℕ) → suc col ≡ col + 1
+      next col = omega arith

@@ -1,0 +1,8 @@
+use Rattle.std.proofs.Common.{◌-◌, Bool, List, ℕ}
+use Rattle.bdb_exec.specs.Keys.{values_behind}
+use Rattle.bdb_exec.specs.Rows.{HasPutValues}
+use Rattle.bdb_exec.proofs.prefixes.put_asked.Given as goal
+
+-- what comes of the columns that are left comes of all
+abbrev pub invariant-loop-col : goal.invariant-loop-col
+invariant-loop-col l = (all : Bool) (new : List ℕ) → HasPutValues all l.prefix.items new (values_behind l.slots l.item l.behind (l.n - l.col) l.col) → HasPutValues all l.fn.prefix.items new (values_behind l.slots l.item l.behind l.n 0)

@@ -1,0 +1,4 @@
+pub mod SpellLemmas
+pub mod TableLemmas
+pub mod WalkLemmas
+pub mod CopyLemmas

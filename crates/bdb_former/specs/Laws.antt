@@ -1,0 +1,38 @@
+-- What respelled tables have, and what the rows of the format before this one become. Each law is the contract of a function
+-- of `laws`.
+use Rattle.std.specs.Prelude.{◌≡◌, ℕ, List, [], ◌∷◌, ◌++◌, Some}
+use Rattle.std.specs.FinMap as tables
+use Rattle.std.specs.Option.{option_map}
+use Rattle.bdb_base.specs.declared.kinds.ColDef.{ColDef}
+use Rattle.bdb_base.specs.declared.kinds.Value.{Value}
+use Rattle.bdb_keep.specs.Tables.{Tables}
+use Rattle.bdb_key.specs.Bytes.{num_bytes, text_bytes, value_bytes, vals_bytes}
+use Rattle.bdb_key.specs.Grammar.{IsPlain}
+use Rattle.bdb_key.specs.Rows.{cols_bytes, rel_bytes}
+use Rattle.bdb_former.specs.Respelled.{IsRespelled, respelled, respelled_at, respelled_key, respelled_place, respelled_row}
+
+-- each row stands, respelled, at its place, respelled
+abbrev pub RowsAreRespelled : Type 0
+RowsAreRespelled = (t : Tables) (p : List ℕ) → tables.get (respelled t) (respelled_place p) ≡ option_map (respelled_at p) (tables.get t p)
+
+-- there is no other row
+abbrev pub NoOtherRowIsThere : Type 0
+NoOtherRowIsThere = (t : Tables) (q row : List ℕ) → tables.get (respelled t) q ≡ Some row → IsRespelled t q row
+
+-- places that differ still do
+abbrev pub PlacesStayApart : Type 0
+PlacesStayApart = (p q : List ℕ) → respelled_place p ≡ respelled_place q → p ≡ q
+
+-- the format becomes this one
+abbrev pub FormatsBecomeThis : Type 0
+FormatsBecomeThis = respelled_row 1 (num_bytes 2) ≡ num_bytes 3
+
+-- a relation's row was its name and its columns, and becomes that of a relation whose key has one column
+abbrev pub RelationsGetALength : Type 0
+RelationsGetALength = (name : List ℕ) (cols : List ColDef) → IsPlain name
+    → respelled_row 3 (text_bytes name ++ cols_bytes cols) ≡ rel_bytes (record { name = name; cols = cols; key = 1 })
+
+-- a key of table 11 was a world, a relation, a value and a tuple, and its value becomes a list of one
+abbrev pub KeysGetACount : Type 0
+KeysGetACount = (wid rel : ℕ) (value : Value) (tid : ℕ)
+    → respelled_key 11 (num_bytes wid ++ num_bytes rel ++ value_bytes value ++ num_bytes tid) ≡ num_bytes wid ++ num_bytes rel ++ vals_bytes (value ∷ []) ++ num_bytes tid

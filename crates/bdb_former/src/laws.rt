@@ -1,0 +1,38 @@
+// What holds of respelled tables, each law as the contract of a function that does nothing.
+ghost use Rattle.bdb_former.specs.Laws.{FormatsBecomeThis, KeysGetACount, NoOtherRowIsThere, PlacesStayApart, RelationsGetALength, RowsAreRespelled};
+
+/// Each row stands, respelled, at its place, respelled.
+#[tactic(auto, using(crate::proofs::TableLemmas::rows_are_respelled))]
+pub fn rows_are_respelled()
+    ensures { RowsAreRespelled }
+{}
+
+/// There is no other row.
+#[tactic(auto, using(crate::proofs::TableLemmas::no_other_row_is_there))]
+pub fn no_other_row_is_there()
+    ensures { NoOtherRowIsThere }
+{}
+
+/// Places that differ still do.
+#[tactic(auto, using(crate::proofs::SpellLemmas::places_stay_apart))]
+pub fn places_stay_apart()
+    ensures { PlacesStayApart }
+{}
+
+/// The format becomes this one.
+#[tactic(auto, using(crate::proofs::SpellLemmas::formats_become_this))]
+pub fn formats_become_this()
+    ensures { FormatsBecomeThis }
+{}
+
+/// The row of a relation becomes that of one whose key has one column.
+#[tactic(auto, using(crate::proofs::SpellLemmas::relations_get_a_length))]
+pub fn relations_get_a_length()
+    ensures { RelationsGetALength }
+{}
+
+/// The value in a key of table 11 becomes a list of one.
+#[tactic(auto, using(crate::proofs::SpellLemmas::keys_get_a_count))]
+pub fn keys_get_a_count()
+    ensures { KeysGetACount }
+{}

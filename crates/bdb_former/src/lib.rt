@@ -1,0 +1,14 @@
+//! Tables of the format before this one: what they are as this one spells them, and a copy of them so spelled, in memory.
+#![tactic(auto)]
+
+mod copying;
+mod laws;
+mod spelling;
+#[cfg(test)]
+mod tests;
+
+pub use copying::respelled_copy;
+pub use laws::{
+    formats_become_this, keys_get_a_count, no_other_row_is_there, places_stay_apart,
+    relations_get_a_length, rows_are_respelled,
+};
