@@ -13,7 +13,6 @@ pub mod Queries
 pub mod Safety
 pub mod Same
 pub mod SameLemmas
-pub mod Samples
 pub mod Segments
 pub mod SetLaws
 pub mod SortedSet

@@ -1,7 +1,6 @@
 // Bases.
 ghost use Rattle.std.specs.Prelude.{◌≡◌, ◌<◌, not, length, IfOk, OnOk, OnErr};
 ghost use Rattle.bdb_base.specs.Bases.{IsValid, empty_contents, stands, with_statement, without_last_relation, without_last_user, without_statement, with_user, with_relation};
-ghost use Rattle.bdb_base.specs.Samples.{sample_relation, sample_statement};
 
 use crate::kinds::{Catalog, RelDef, Stmt};
 use crate::list::{Exact, List};
@@ -152,70 +151,5 @@ impl Exact for Base {
         let catalog = self.catalog.try_clone(alloc)?;
         let stmts = self.stmts.try_clone(alloc)?;
         Ok(Base { catalog, stmts })
-    }
-}
-
-#[cfg(test)]
-mod tests {
-    use super::*;
-    use crate::kinds::{ColDef, Kind, Sign, Value};
-    use crate::path::Path;
-    use crate::tuple::Tuple;
-    use std::test::Fail;
-
-    fn relation(alloc: Global) -> Result<RelDef, AllocError>
-        ensures { IfOk result (λ def. def ≡ sample_relation) }
-    {
-        let mut cols = List::new(alloc);
-        cols.push(ColDef {
-            name: Txt::try_new(alloc, "n")?,
-            kind: Kind::Int,
-        })?;
-        let name = Txt::try_new(alloc, "R")?;
-        Ok(RelDef { name, cols, key: 1 })
-    }
-
-    fn statement(alloc: Global) -> Result<Stmt, Fail>
-        ensures { IfOk result (λ s. s ≡ sample_statement) }
-    {
-        let path = Path::try_new(alloc, &[1])?;
-        let mut vals = List::new(alloc);
-        vals.push(Value::Int(7))?;
-        Ok(Stmt {
-            path,
-            sign: Sign::Plus,
-            tuple: Tuple { rel: 0, vals },
-        })
-    }
-
-    #[test]
-    fn takes_the_last_away(rt: HostRuntime) -> Result<(), Fail> {
-        let alloc = rt.alloc();
-        let mut base = Base::empty(alloc);
-        base.add_user(Txt::try_new(alloc, "Ann")?)?;
-        base.add_relation(relation(alloc)?)?;
-        base.pop_relation();
-        assert_eq!(rt; base.catalog().rels.len(), 0);
-        assert_eq!(rt; base.catalog().users.len(), 1);
-        base.pop_user();
-        assert_eq!(rt; base.catalog().users.len(), 0);
-        Ok(())
-    }
-
-    #[test]
-    fn keeps_what_is_put(rt: HostRuntime) -> Result<(), Fail> {
-        let alloc = rt.alloc();
-        let mut base = Base::empty(alloc);
-        base.add_user(Txt::try_new(alloc, "Ann")?)?;
-        base.add_relation(relation(alloc)?)?;
-        assert!(rt; base.put(statement(alloc)?)?);
-        assert!(rt; !base.put(statement(alloc)?)?);
-        let copy = base.try_clone(alloc)?;
-        assert!(rt; base.take(&statement(alloc)?));
-        assert!(rt; !base.take(&statement(alloc)?));
-        assert_eq!(rt; copy.stmts().len(), 1);
-        assert_eq!(rt; base.stmts().len(), 0);
-        assert_eq!(rt; base.catalog().users.len(), 1);
-        Ok(())
     }
 }

@@ -16,5 +16,4 @@ pub mod RefusalLemmas
 pub mod Repeats
 pub mod SafeLemmas
 pub mod SafetyLemmas
-pub mod Samples
 pub mod ScopeLemmas

@@ -20,8 +20,6 @@ mod refusals;
 mod safety;
 mod scope;
 mod shape;
-#[cfg(test)]
-mod tests;
 mod unsafes;
 
 pub use binding::{bind, bind_by};

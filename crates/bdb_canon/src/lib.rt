@@ -9,8 +9,6 @@ mod places;
 mod rows;
 mod sizes;
 mod structure;
-#[cfg(test)]
-mod tests;
 mod users;
 mod worlds;
 

@@ -6,8 +6,6 @@ mod acts;
 mod crowd;
 mod laws;
 mod stream;
-#[cfg(test)]
-mod tests;
 mod write;
 
 pub use crowd::Crowd;

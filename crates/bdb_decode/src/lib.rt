@@ -15,8 +15,6 @@ mod rows;
 mod settles;
 mod stated;
 mod statements;
-#[cfg(test)]
-mod tests;
 mod whole;
 
 pub use held_rows::are_rows_held;

@@ -6,8 +6,6 @@ mod form;
 mod gaps;
 mod laws;
 mod read;
-#[cfg(test)]
-mod tests;
 mod words;
 
 pub use event::event_of;

@@ -4,8 +4,6 @@
 mod copying;
 mod laws;
 mod spelling;
-#[cfg(test)]
-mod tests;
 
 pub use copying::respelled_copy;
 pub use laws::{

@@ -7,8 +7,6 @@ mod drain;
 mod failed;
 mod feed;
 mod quiet;
-#[cfg(test)]
-mod tests;
 mod traits;
 
 pub use adapters::{ReadSource, WriteSink};

@@ -64,42 +64,51 @@ padded_cmp (suc n) (a ∷ x) (b ∷ y) =
     ∙ sym (then_assoc (nat_cmp a b) (bytes_cmp (padded n x) (padded n y)) more)
     ∙ ap (λ o. ordering_then (ordering_then (nat_cmp a b) (bytes_cmp (padded n x) (padded n y))) (ordering_then o (bytes_cmp (drop n x) (drop n y)))) (sym (stepped (length (take n x)) (length (take n y))))
 
--- three numbers
-three : (a b c d e f : ℕ) → a < 2 ^ 64 → b < 2 ^ 64 → c < 2 ^ 64 → d < 2 ^ 64 → e < 2 ^ 64 → f < 2 ^ 64
-    → bytes_cmp (to_be_bytes w64 a ++ (to_be_bytes w64 b ++ (to_be_bytes w64 c ++ []))) (to_be_bytes w64 d ++ (to_be_bytes w64 e ++ (to_be_bytes w64 f ++ [])))
-    ≡ ordering_then (nat_cmp a d) (ordering_then (nat_cmp b e) (nat_cmp c f))
-three a b c d e f ha hb hc hd he hf =
-    numbers 8 a d (to_be_bytes w64 b ++ (to_be_bytes w64 c ++ [])) (to_be_bytes w64 e ++ (to_be_bytes w64 f ++ [])) ha hd
-    ∙ ap (λ o. ordering_then (nat_cmp a d) o)
-    (numbers 8 b e (to_be_bytes w64 c ++ []) (to_be_bytes w64 f ++ []) hb he
-    ∙ ap (λ o. ordering_then (nat_cmp b e) o) (numbers 8 c f [] [] hc hf ∙ then_equal (nat_cmp c f)))
+-- four numbers
+four : (a b c d e f g h : ℕ) → a < 2 ^ 64 → b < 2 ^ 64 → c < 2 ^ 64 → d < 2 ^ 64 → e < 2 ^ 64 → f < 2 ^ 64 → g < 2 ^ 64 → h < 2 ^ 64
+    → bytes_cmp (to_be_bytes w64 a ++ (to_be_bytes w64 b ++ (to_be_bytes w64 c ++ (to_be_bytes w64 d ++ [])))) (to_be_bytes w64 e ++ (to_be_bytes w64 f ++ (to_be_bytes w64 g ++ (to_be_bytes w64 h ++ []))))
+    ≡ ordering_then (nat_cmp a e) (ordering_then (nat_cmp b f) (ordering_then (nat_cmp c g) (nat_cmp d h)))
+four a b c d e f g h ha hb hc hd he hf hg hh =
+    numbers 8 a e (to_be_bytes w64 b ++ (to_be_bytes w64 c ++ (to_be_bytes w64 d ++ []))) (to_be_bytes w64 f ++ (to_be_bytes w64 g ++ (to_be_bytes w64 h ++ []))) ha he
+    ∙ ap (λ o. ordering_then (nat_cmp a e) o)
+    (numbers 8 b f (to_be_bytes w64 c ++ (to_be_bytes w64 d ++ [])) (to_be_bytes w64 g ++ (to_be_bytes w64 h ++ [])) hb hf
+    ∙ ap (λ o. ordering_then (nat_cmp b f) o)
+    (numbers 8 c g (to_be_bytes w64 d ++ []) (to_be_bytes w64 h ++ []) hc hg
+    ∙ ap (λ o. ordering_then (nat_cmp c g) o) (numbers 8 d h [] [] hd hh ∙ then_equal (nat_cmp d h))))
 
-regroup : (t f s u n r : Ordering) → ordering_then t (ordering_then (ordering_then f (ordering_then s u)) (ordering_then n r)) ≡ ordering_then (ordering_then t (ordering_then f (ordering_then s (ordering_then u n)))) r
-regroup Less f s u n r = refl
-regroup Greater f s u n r = refl
-regroup Equal Less s u n r = refl
-regroup Equal Greater s u n r = refl
-regroup Equal Equal Less u n r = refl
-regroup Equal Equal Greater u n r = refl
-regroup Equal Equal Equal Less n r = refl
-regroup Equal Equal Equal Greater n r = refl
-regroup Equal Equal Equal Equal n r = refl
+-- how the numbers of two heads compare, without their counts
+abbrev words_cmp : Head → Head → Ordering
+words_cmp a b = ordering_then (nat_cmp a.first b.first) (ordering_then (nat_cmp a.second b.second) (ordering_then (nat_cmp a.third b.third) (nat_cmp a.fourth b.fourth)))
+
+regroup : (t f s u w n r : Ordering) → ordering_then t (ordering_then (ordering_then f (ordering_then s (ordering_then u w))) (ordering_then n r))
+    ≡ ordering_then (ordering_then t (ordering_then f (ordering_then s (ordering_then u (ordering_then w n))))) r
+regroup Less f s u w n r = refl
+regroup Greater f s u w n r = refl
+regroup Equal Less s u w n r = refl
+regroup Equal Greater s u w n r = refl
+regroup Equal Equal Less u w n r = refl
+regroup Equal Equal Greater u w n r = refl
+regroup Equal Equal Equal Less w n r = refl
+regroup Equal Equal Equal Greater w n r = refl
+regroup Equal Equal Equal Equal Less n r = refl
+regroup Equal Equal Equal Equal Greater n r = refl
+regroup Equal Equal Equal Equal Equal n r = refl
 
 -- places compare by their heads, and then by what is behind
 pub by_heads : (x y r s : List ℕ) (a b : Head) → IsHeadOf x a r → IsHeadOf y b s → bytes_cmp (a.tab ∷ x) (b.tab ∷ y) ≡ ordering_then (heads_cmp a b) (bytes_cmp r s)
 by_heads x y r s a b h k =
-    let front : bytes_cmp (padded 24 x) (padded 24 y) ≡ ordering_then (nat_cmp a.first b.first) (ordering_then (nat_cmp a.second b.second) (nat_cmp a.third b.third)) =
-    ap (λ l. bytes_cmp l (padded 24 y)) h.bytes ∙ ap (λ l. bytes_cmp (bytes_of a) l) k.bytes
-    ∙ three a.first a.second a.third b.first b.second b.third h.first_fits h.second_fits h.third_fits k.first_fits k.second_fits k.third_fits in
-    let counts : nat_cmp (length (take 24 x)) (length (take 24 y)) ≡ nat_cmp a.count b.count =
-    ap (λ n. nat_cmp n (length (take 24 y))) (sym h.count) ∙ ap (λ n. nat_cmp a.count n) (sym k.count) in
-    let behind : bytes_cmp (drop 24 x) (drop 24 y) ≡ bytes_cmp r s = ap (λ l. bytes_cmp l (drop 24 y)) (sym h.behind) ∙ ap (λ l. bytes_cmp r l) (sym k.behind) in
+    let front : bytes_cmp (padded 32 x) (padded 32 y) ≡ words_cmp a b =
+    ap (λ l. bytes_cmp l (padded 32 y)) h.bytes ∙ ap (λ l. bytes_cmp (bytes_of a) l) k.bytes
+    ∙ four a.first a.second a.third a.fourth b.first b.second b.third b.fourth h.first_fits h.second_fits h.third_fits h.fourth_fits k.first_fits k.second_fits k.third_fits k.fourth_fits in
+    let counts : nat_cmp (length (take 32 x)) (length (take 32 y)) ≡ nat_cmp a.count b.count =
+    ap (λ n. nat_cmp n (length (take 32 y))) (sym h.count) ∙ ap (λ n. nat_cmp a.count n) (sym k.count) in
+    let behind : bytes_cmp (drop 32 x) (drop 32 y) ≡ bytes_cmp r s = ap (λ l. bytes_cmp l (drop 32 y)) (sym h.behind) ∙ ap (λ l. bytes_cmp r l) (sym k.behind) in
     ap (λ o. ordering_then (nat_cmp a.tab b.tab) o)
-    (padded_cmp 24 x y
-    ∙ ap (λ o. ordering_then o (ordering_then (nat_cmp (length (take 24 x)) (length (take 24 y))) (bytes_cmp (drop 24 x) (drop 24 y)))) front
-    ∙ ap (λ o. ordering_then (ordering_then (nat_cmp a.first b.first) (ordering_then (nat_cmp a.second b.second) (nat_cmp a.third b.third))) (ordering_then o (bytes_cmp (drop 24 x) (drop 24 y)))) counts
-    ∙ ap (λ o. ordering_then (ordering_then (nat_cmp a.first b.first) (ordering_then (nat_cmp a.second b.second) (nat_cmp a.third b.third))) (ordering_then (nat_cmp a.count b.count) o)) behind)
-    ∙ regroup (nat_cmp a.tab b.tab) (nat_cmp a.first b.first) (nat_cmp a.second b.second) (nat_cmp a.third b.third) (nat_cmp a.count b.count) (bytes_cmp r s)
+    (padded_cmp 32 x y
+    ∙ ap (λ o. ordering_then o (ordering_then (nat_cmp (length (take 32 x)) (length (take 32 y))) (bytes_cmp (drop 32 x) (drop 32 y)))) front
+    ∙ ap (λ o. ordering_then (words_cmp a b) (ordering_then o (bytes_cmp (drop 32 x) (drop 32 y)))) counts
+    ∙ ap (λ o. ordering_then (words_cmp a b) (ordering_then (nat_cmp a.count b.count) o)) behind)
+    ∙ regroup (nat_cmp a.tab b.tab) (nat_cmp a.first b.first) (nat_cmp a.second b.second) (nat_cmp a.third b.third) (nat_cmp a.fourth b.fourth) (nat_cmp a.count b.count) (bytes_cmp r s)
 
 padded_back : (n : ℕ) (key : List ℕ) → take (length (take n key)) (padded n key) ++ drop n key ≡ key
 padded_back zero [] = refl
@@ -110,7 +119,7 @@ padded_back (suc n) (b ∷ key) = ap (λ l. b ∷ l) (padded_back n key)
 -- the key of its head
 pub key_back : (key rest : List ℕ) (h : Head) → IsHeadOf key h rest → key_of h rest ≡ key
 key_back key rest h i =
-    ap (λ n. take n (bytes_of h) ++ rest) i.count ∙ ap (λ l. take (length (take 24 key)) l ++ rest) (sym i.bytes) ∙ ap (λ l. take (length (take 24 key)) (padded 24 key) ++ l) i.behind ∙ padded_back 24 key
+    ap (λ n. take n (bytes_of h) ++ rest) i.count ∙ ap (λ l. take (length (take 32 key)) l ++ rest) (sym i.bytes) ∙ ap (λ l. take (length (take 32 key)) (padded 32 key) ++ l) i.behind ∙ padded_back 32 key
 
 -- what is made of a key is a head of the key that it has
 pub head_itself : (key rest : List ℕ) (h : Head) → IsHeadOf key h rest → IsHeadOf (key_of h rest) h rest
@@ -131,18 +140,22 @@ padded_more (suc m) n [] = ap (λ l. 0 ∷ l) (padded_more m n [] ∙ ap (λ l. 
     drop_none (suc m) = refl
 padded_more (suc m) n (b ∷ key) = ap (λ l. b ∷ l) (padded_more m n key)
 
--- the head of a key by its three words
-pub head_of_words : (key : List ℕ) (h : Head) → h.count ≡ length (take 24 key) → padded 8 key ≡ to_be_bytes w64 h.first → padded 8 (drop 8 key) ≡ to_be_bytes w64 h.second → padded 8 (drop 16 key) ≡ to_be_bytes w64 h.third
-    → h.first < 2 ^ 64 → h.second < 2 ^ 64 → h.third < 2 ^ 64 → IsHeadOf key h (drop 24 key)
-head_of_words key h n a b c i j k = record {
-  bytes = padded_more 8 16 key ∙ ap (λ l. l ++ padded 16 (drop 8 key)) a
-      ∙ ap (λ l. to_be_bytes w64 h.first ++ l)
-      (padded_more 8 8 (drop 8 key) ∙ ap (λ l. l ++ padded 8 (drop 8 (drop 8 key))) b ∙ ap (λ l. to_be_bytes w64 h.second ++ l) (ap (padded 8) (drop-drop 8 8 key) ∙ c ∙ sym (append-nil (to_be_bytes w64 h.third))));
+-- the head of a key by its four words
+pub head_of_words : (key : List ℕ) (h : Head) → h.count ≡ length (take 32 key) → padded 8 key ≡ to_be_bytes w64 h.first → padded 8 (drop 8 key) ≡ to_be_bytes w64 h.second → padded 8 (drop 16 key) ≡ to_be_bytes w64 h.third → padded 8 (drop 24 key) ≡ to_be_bytes w64 h.fourth
+    → h.first < 2 ^ 64 → h.second < 2 ^ 64 → h.third < 2 ^ 64 → h.fourth < 2 ^ 64 → IsHeadOf key h (drop 32 key)
+head_of_words key h n a b c d i j k l = record {
+  bytes = padded_more 8 24 key ∙ ap (λ m. m ++ padded 24 (drop 8 key)) a
+      ∙ ap (λ m. to_be_bytes w64 h.first ++ m)
+      (padded_more 8 16 (drop 8 key) ∙ ap (λ m. m ++ padded 16 (drop 8 (drop 8 key))) b
+      ∙ ap (λ m. to_be_bytes w64 h.second ++ m)
+      (ap (padded 16) (drop-drop 8 8 key) ∙ padded_more 8 8 (drop 16 key) ∙ ap (λ m. m ++ padded 8 (drop 8 (drop 16 key))) c
+      ∙ ap (λ m. to_be_bytes w64 h.third ++ m) (ap (padded 8) (drop-drop 8 16 key) ∙ d ∙ sym (append-nil (to_be_bytes w64 h.fourth)))));
   count = n;
   behind = refl;
   first_fits = i;
   second_fits = j;
   third_fits = k;
+  fourth_fits = l;
 }
 
 -- the word of a key with eight bytes, and of one with fewer
@@ -173,11 +186,11 @@ apart m n r x d h = h ∙ there (nat_cmp m n) refl
 pub alike : (m n : ℕ) (r x : Ordering) → m ≡ n → r ≡ x → r ≡ ordering_then (nat_cmp m n) x
 alike m n r x e h = h ∙ ap (λ o. ordering_then o x) (sym (ap (λ k. nat_cmp k n) e ∙ equal n))
 
--- as many bytes as a key has, and at most 24
-pub count_is : (key : List ℕ) (n : ℕ) → n ≡ min (length key) 24 → n ≡ length (take 24 key)
-count_is key n h = elim (cases_lt (length key) 24) [
-  | inl lt ↦ let e = ap length (take_all 24 key (omega arith)) in omega arith
-  | inr le ↦ let e = length-take-le 24 key (omega arith) in omega arith
+-- as many bytes as a key has, and at most 32
+pub count_is : (key : List ℕ) (n : ℕ) → n ≡ min (length key) 32 → n ≡ length (take 32 key)
+count_is key n h = elim (cases_lt (length key) 32) [
+  | inl lt ↦ let e = ap length (take_all 32 key (omega arith)) in omega arith
+  | inr le ↦ let e = length-take-le 32 key (omega arith) in omega arith
 ]
 
 -- what writing bytes to a cleared key, and cutting, makes
@@ -203,7 +216,7 @@ head_within p h rest e i = subst (IsHeadOfPlace h) e (refl, subst (IsHeadOf (key
 pub head_tells : (p q : List ℕ) (a b : Head) (s : List ℕ) (o : Ordering) → b.tab ∷ key_of b s ≡ q → IsHeadOf (key_of b s) b s → o ≡ heads_cmp a b → IsHeadOfPlace a p → (o ≡ Equal → ⊥) → o ≡ bytes_cmp p q
 head_tells [] q a b s o e k d h n = absurd h
 head_tells (tab ∷ key) q a b s o e k d h n =
-    decided (heads_cmp a b) o (bytes_cmp (drop 24 key) s) (sym d) n
-    ∙ sym (by_heads key (key_of b s) (drop 24 key) s a b h.1 k)
+    decided (heads_cmp a b) o (bytes_cmp (drop 32 key) s) (sym d) n
+    ∙ sym (by_heads key (key_of b s) (drop 32 key) s a b h.1 k)
     ∙ ap (λ t. bytes_cmp (t ∷ key) (b.tab ∷ key_of b s)) h.0
     ∙ ap (bytes_cmp (tab ∷ key)) e

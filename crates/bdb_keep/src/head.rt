@@ -7,7 +7,7 @@ use crate::bytes::{from_index, padded_word};
 use std::alloc::AllocError;
 use std::cmp::Ordering;
 
-/// The table of a place, and the first 24 bytes of its key as three numbers, the highest byte first, with zeros behind the
+/// The table of a place, and the first 32 bytes of its key as four numbers, the highest byte first, with zeros behind the
 /// bytes of a shorter key.
 #[derive(Clone, Copy)]
 pub struct Head {
@@ -17,6 +17,7 @@ pub struct Head {
     pub first: u64,
     pub second: u64,
     pub third: u64,
+    pub fourth: u64,
 }
 
 impl Head {
@@ -24,14 +25,15 @@ impl Head {
     #[inline(always)]
     pub fn of(tab: u8, key: &[u8]) -> Self
         ensures tab { result.tab ≡ tab }
-        ensures head { IsHeadOf key.now result (drop 24 key.now) }
+        ensures head { IsHeadOf key.now result (drop 32 key.now) }
     {
         Head {
             tab,
-            count: key.len().min(24) as u8,
+            count: key.len().min(32) as u8,
             first: padded_word(key),
             second: padded_word(from_index(key, 8)),
             third: padded_word(from_index(key, 16)),
+            fourth: padded_word(from_index(key, 24)),
         }
     }
 
@@ -60,6 +62,9 @@ impl Head {
         if self.third != other.third {
             return self.third.cmp(&other.third);
         }
+        if self.fourth != other.fourth {
+            return self.fourth.cmp(&other.fourth);
+        }
         self.count.cmp(&other.count)
     }
 
@@ -75,15 +80,17 @@ impl Head {
     }
 }
 
-/// The bytes of the three numbers, the highest first.
+/// The bytes of the four numbers, the highest first.
 #[inline(always)]
-fn all_bytes(head: &Head) -> [u8; 24]
+fn all_bytes(head: &Head) -> [u8; 32]
     ensures { result ≡ bytes_of head.now }
 {
     let [a, b, c, d, e, f, g, h] = head.first.to_be_bytes();
     let [i, j, k, l, m, n, o, p] = head.second.to_be_bytes();
     let [q, r, s, t, u, v, w, x] = head.third.to_be_bytes();
+    let [y, z, aa, ab, ac, ad, ae, af] = head.fourth.to_be_bytes();
     [
-        a, b, c, d, e, f, g, h, i, j, k, l, m, n, o, p, q, r, s, t, u, v, w, x,
+        a, b, c, d, e, f, g, h, i, j, k, l, m, n, o, p, q, r, s, t, u, v, w, x, y, z, aa, ab, ac,
+        ad, ae, af,
     ]
 }

@@ -20,8 +20,6 @@ mod rows;
 mod shelf;
 mod shelves;
 mod store;
-#[cfg(test)]
-mod tests;
 mod words;
 
 pub use keeper::{KeepError, Keeper};

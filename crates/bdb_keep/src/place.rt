@@ -6,11 +6,11 @@ use smallvec::SmallVec;
 use std::alloc::{AllocError, Global};
 use std::marker::Model;
 
-/// The place of a row: the number of its table, and its key. A key of at most 24 bytes lies in the value itself.
+/// The place of a row: the number of its table, and its key. A key of at most 32 bytes lies in the value itself.
 #[derive(Drop)]
 pub struct Place {
     tab: u8,
-    key: SmallVec<u8, 24>,
+    key: SmallVec<u8, 32>,
 }
 
 impl Model for Place {

@@ -167,7 +167,7 @@ impl<'a> Probe<'a> {
     {
         Probe {
             head: Head::of(tab, key),
-            rest: from_index(key, 24),
+            rest: from_index(key, 32),
         }
     }
 

@@ -265,6 +265,9 @@ module _ (bytes rest name : List ℕ) (t : Leads IsPlain text_bytes bytes name r
     rel_parts : (def : RelDef) → Reads IsRelRow rel_bytes bytes def → (def.key ≡ key) × (cols_bytes def.cols ≡ more)
     rel_parts def h = length_form def.key key (cols_bytes def.cols) more h.fits.short u.fits (sym (rel_rest def h) ∙ u.split)
 
+    pub rel_key : (def : RelDef) → Reads IsRelRow rel_bytes bytes def → key ≡ def.key
+    rel_key def h = sym (rel_parts def h).0
+
     pub rel_none : NoneReads (AllByRecursion IsCol) cols_bytes more → NoneReads IsRelRow rel_bytes bytes
     rel_none none def h = none def.cols (record { fits = h.fits.names; spelled = (rel_parts def h).1 })
 

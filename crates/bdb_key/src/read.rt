@@ -169,8 +169,8 @@ fn u64_of(bytes: &[u8]) -> Option<(u64, &[u8])>
     Some((n, rest))
 }
 
-// The plain text at the front of these bytes, and the bytes after it.
-fn plain_text_of(bytes: &[u8]) -> Option<(&str, &[u8])>
+/// The plain text at the front of these bytes, and the bytes after it.
+pub fn plain_text_of(bytes: &[u8]) -> Option<(&str, &[u8])>
     ensures { MatchOption result (NoneLeads IsPlain text_bytes bytes.now) (λ x. Leads IsPlain text_bytes bytes.now x.0.now x.1.now) }
 {
     let (front, rest) = split_at_end(after_mark(bytes)?)?;

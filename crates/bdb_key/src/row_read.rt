@@ -9,7 +9,7 @@ ghost use Rattle.bdb_key.specs.Reading.{Leads, NoneLeads, Reads, NoneReads};
 ghost use Rattle.bdb_key.specs.Rows.{IsAnyKind, kind_bytes, IsCol, col_bytes, cols_bytes, IsRelRow, length_bytes, rel_bytes, IsTupleRow, tuple_bytes, IsAnySign, sign_bytes, IsAnyMark, mark_bytes};
 
 use crate::part::KeyError;
-use crate::read::{int_of, num_of, only_num, text_of, values_of};
+use crate::read::{int_of, num_of, only_num, plain_text_of, text_of, values_of};
 use bdb_base::{ColDef, Kind, List, RelDef, Sign, Tuple, Txt};
 use std::alloc::Global;
 
@@ -27,6 +27,15 @@ pub fn rel_of(alloc: Global, bytes: &[u8]) -> Result<RelDef, KeyError>
         return Err(KeyError::NotAKey);
     }
     Ok(RelDef { name, cols, key })
+}
+
+/// The length of the key of the relation that these bytes are. Its columns are not looked at.
+pub fn key_length_of(bytes: &[u8]) -> Option<u32>
+    ensures { MatchOption result (NoneReads IsRelRow rel_bytes bytes.now) (λ n. (def : RelDef) → Reads IsRelRow rel_bytes bytes.now def → n ≡ def.key) }
+{
+    let (_, rest) = plain_text_of(bytes)?;
+    let (key, _) = length_of(rest)?;
+    Some(key)
 }
 
 // The length of a key at the front of these bytes, and the bytes after it.

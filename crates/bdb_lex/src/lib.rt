@@ -12,8 +12,6 @@ mod piece_bytes;
 mod quoted;
 mod reader;
 mod run;
-#[cfg(test)]
-mod tests;
 mod token;
 mod token_laws;
 mod token_text;

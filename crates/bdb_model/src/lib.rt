@@ -15,8 +15,6 @@ mod queries;
 mod rows;
 mod sources;
 mod stages;
-#[cfg(test)]
-mod tests;
 
 pub use bases::{believes, clashing, key_length_in, stated, world_rows};
 pub use beliefs::{believes_among, clashing_among, is_explicit, stated_among};

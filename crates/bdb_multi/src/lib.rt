@@ -6,8 +6,6 @@ mod acts;
 mod desk;
 mod kinds;
 mod laws;
-#[cfg(test)]
-mod tests;
 
 pub use acts::acts_of;
 pub use desk::{Desk, MOST_QUEUED, SESSIONS};

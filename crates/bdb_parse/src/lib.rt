@@ -34,6 +34,3 @@ pub use keywords::is_keyword;
 pub use laws::commands_are_read;
 pub use reading::parse;
 pub use round_trip::printed_reads_back;
-
-#[cfg(test)]
-mod tests;

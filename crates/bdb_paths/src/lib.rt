@@ -7,8 +7,6 @@ pub mod laws;
 mod places;
 mod states;
 mod suffixes;
-#[cfg(test)]
-mod tests;
 
 pub use counts::new_state_count;
 pub use states::states_of;

@@ -3,7 +3,5 @@
 
 mod lines;
 mod reply;
-#[cfg(test)]
-mod tests;
 
 pub use reply::why_reply;

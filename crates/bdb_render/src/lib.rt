@@ -14,6 +14,3 @@ pub use reply::{
     count_reply, ok_reply, path_text, rows_reply, tuple_text, value_text, world_reply,
 };
 pub use tables::tables_reply;
-
-#[cfg(test)]
-mod tests;

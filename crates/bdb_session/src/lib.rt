@@ -18,8 +18,6 @@ mod session;
 mod show;
 mod step;
 mod stop;
-#[cfg(test)]
-mod tests;
 mod transact;
 mod why;
 mod within;

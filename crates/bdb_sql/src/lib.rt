@@ -8,8 +8,6 @@ pub mod laws;
 mod load;
 mod look;
 mod schema;
-#[cfg(test)]
-mod tests;
 mod told;
 mod write;
 

@@ -2,6 +2,7 @@
 mod files;
 mod rows;
 mod script;
+mod sql;
 
 use crate::tests::files::{Ending, Failing, after_a_stop, as_they_were_left, ended, opened};
 use crate::tests::rows::{commits_in, commits_told};

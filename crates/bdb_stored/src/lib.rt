@@ -10,13 +10,14 @@ mod links;
 mod named;
 mod rows;
 mod structure;
-#[cfg(test)]
-mod tests;
 mod tuples;
 mod users;
 mod worlds;
 mod writing;
 
 pub use counting::counts_of;
+pub use named::{NamedWorld, place_of_number};
 pub use structure::canon_of;
+pub use users::user_numbers;
+pub use worlds::worlds_in_order;
 pub use writing::write_all_tables;

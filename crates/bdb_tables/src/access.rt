@@ -293,7 +293,7 @@ pub fn spell_row<T: Tab>(row: &T::Row, out: &mut Vec<u8>) -> Result<(), AllocErr
 }
 
 // Makes room hold the bytes of a key.
-fn fill_key<T: Tab>(key: &T::Key, room: &mut Vec<u8>) -> Result<(), AllocError>
+pub fn fill_key<T: Tab>(key: &T::Key, room: &mut Vec<u8>) -> Result<(), AllocError>
     requires { T.codec.MayBeKey key.now }
     ensures ok { OnOk result (room.new.items ≡ T.codec.key_bytes key.now) }
     ensures fits { OnOk result (T.codec.IsKey key.now) }

@@ -1,16 +1,20 @@
 // The length of the key of a stored relation.
 ghost use Rattle.std.specs.Prelude.{◌≡◌, IfOk, OnOk};
-ghost use Rattle.bdb_base.specs.Bases.{key_at};
 ghost use Rattle.bdb_base.specs.Causes.{RoseBy};
 ghost use Rattle.bdb_keep.specs.Calls.{IsRead};
+ghost use Rattle.bdb_key.specs.Reading.{Reads};
+ghost use Rattle.bdb_tables.specs.Codec.{IsRowOf};
 ghost use Rattle.bdb_tables.specs.Grammar.{InGrammar};
+ghost use Rattle.bdb_tables.specs.InUse.{rel_codec};
 ghost use Rattle.bdb_tables.specs.Lengths.{HasKeyAt, IsKeyLength};
 
-use crate::access::get;
-use crate::tab::TabError;
+use crate::access::{fill_key, told};
+use crate::room::Room;
+use crate::tab::{Tab, TabError};
 use crate::tabs::RelTab;
 use bdb_base::RelDef;
 use bdb_keep::Keeper;
+use bdb_key::key_length_of;
 use std::alloc::Global;
 
 /// The length of the key of a relation, as its row has it; 1 where there is no row. One read.
@@ -25,18 +29,32 @@ pub fn stored_key_length<K: Keeper>(
     ensures reads { OnOk result (RoseBy 1 (K.seen keeper.old).reads (K.seen keeper.new).reads) }
     ensures read { IsRead (K.seen keeper.old) (K.seen keeper.new) result TabError.Fault }
 {
-    match get::<RelTab, K>(alloc, keeper, &rel) {
-        Ok(row) => Ok(length_in(&row)),
-        Err(error) => Err(error),
+    let Room {
+        mut key,
+        mut row,
+        ..
+    } = Room::new(alloc);
+    match fill_key::<RelTab>(&rel, &mut key) {
+        Ok(()) => {}
+        Err(_) => {
+            keeper.undo();
+            return Err(TabError::Memory);
+        }
+    }
+    match keeper.get(RelTab::NUMBER, &key, &mut row) {
+        Ok(true) => Ok(length_in(&row)),
+        Ok(false) => Ok(1),
+        Err(error) => Err(told(error)),
     }
 }
 
-// The length of the key of a definition; 1 where there is none.
-fn length_in(def: &Option<RelDef>) -> u32
-    ensures { result ≡ key_at def.now }
+// The length of the key of a relation's row.
+fn length_in(row: &[u8]) -> u32
+    requires { IsRowOf rel_codec row.now }
+    ensures { (def : RelDef) → Reads rel_codec.IsRow rel_codec.row_bytes row.now def → result ≡ def.key }
 {
-    match def {
-        Some(def) => def.key,
-        None => 1,
+    match key_length_of(row) {
+        Some(length) => length,
+        None => unreachable!(),
     }
 }

@@ -16,8 +16,6 @@ mod room;
 mod spans;
 mod tab;
 mod tabs;
-#[cfg(test)]
-mod tests;
 mod world_tabs;
 
 pub use access::{after, drop_in, drop_row, get, get_in, next, next_in, put, put_in};

@@ -2,7 +2,6 @@ pub mod ByCommits
 pub mod ByCount
 pub mod Checked
 pub mod Counted
-pub mod Failing
 pub mod Generated
 pub mod Laws
 pub mod Lines

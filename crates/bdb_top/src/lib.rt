@@ -2,16 +2,12 @@
 #![tactic(auto)]
 
 mod check;
-#[cfg(test)]
-mod failing;
 mod generated;
 mod laws;
 mod lines;
 mod many;
 mod status;
 mod tally;
-#[cfg(test)]
-mod tests;
 mod top;
 mod words;
 

@@ -1,5 +1,4 @@
 pub mod ChangeLemmas
 pub mod HistoryLemmas
-pub mod Samples
 pub mod StatementLemmas
 pub mod TimelineLemmas

@@ -2,6 +2,5 @@ pub mod ChangeLaws
 pub mod Changes
 pub mod Histories
 pub mod Limits
-pub mod Samples
 pub mod TimelineLaws
 pub mod Timelines

@@ -7,8 +7,6 @@ mod history;
 mod laws;
 mod limits;
 mod steps;
-#[cfg(test)]
-mod tests;
 
 pub use change::{Change, Named, missing_from};
 pub use history::History;

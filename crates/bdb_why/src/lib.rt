@@ -10,8 +10,6 @@ mod kinds;
 pub mod laws;
 mod nearby;
 mod rivals;
-#[cfg(test)]
-mod tests;
 
 pub use among::why_among;
 pub use asking::why;

@@ -1,0 +1,2 @@
+pub mod BaseSamples
+pub mod UndoSamples

@@ -1,0 +1,102 @@
+// The orders of values and paths, and a base to which a relation and a statement are added and taken away.
+ghost use Rattle.std.specs.Prelude.{◌≡◌, IfOk};
+ghost use Rattle.bdb_base_tests.specs.BaseSamples.{sample_relation, sample_statement};
+
+use bdb_base::{
+    Base, ColDef, Exact, Kind, List, Path, RelDef, Sign, Stmt, Tuple, Txt, Value, cmp_path,
+    cmp_value,
+};
+use std::alloc::{AllocError, Global};
+use std::test::Fail;
+
+// Each value is below all later ones.
+#[test]
+fn values_come_in_order(rt: HostRuntime) -> Result<(), Fail> {
+    let alloc = rt.alloc();
+    let values = [
+        Value::Int(-10),
+        Value::Int(-9),
+        Value::Int(9),
+        Value::Int(10),
+        Value::Text(Txt::try_new(alloc, "")?),
+        Value::Text(Txt::try_new(alloc, "10")?),
+        Value::Text(Txt::try_new(alloc, "9")?),
+        Value::Text(Txt::try_new(alloc, "Z")?),
+        Value::Text(Txt::try_new(alloc, "a")?),
+        Value::Text(Txt::try_new(alloc, "ab")?),
+        Value::Text(Txt::try_new(alloc, "é")?),
+    ];
+    for (i, a) in values.iter().enumerate() {
+        for (j, b) in values.iter().enumerate() {
+            assert_eq!(rt; cmp_value(a, b), i.cmp(&j), "{i} and {j}");
+        }
+    }
+    Ok(())
+}
+
+// Each path is below all later ones: a shorter one comes first.
+#[test]
+fn paths_come_in_order(rt: HostRuntime) {
+    let paths: [&[u32]; 6] = [&[], &[2], &[10], &[1, 2], &[2, 1], &[1, 2, 1]];
+    for (i, a) in paths.iter().enumerate() {
+        for (j, b) in paths.iter().enumerate() {
+            assert_eq!(rt; cmp_path(a, b), i.cmp(&j), "{i} and {j}");
+        }
+    }
+}
+
+fn relation(alloc: Global) -> Result<RelDef, AllocError>
+    ensures { IfOk result (λ def. def ≡ sample_relation) }
+{
+    let mut cols = List::new(alloc);
+    cols.push(ColDef {
+        name: Txt::try_new(alloc, "n")?,
+        kind: Kind::Int,
+    })?;
+    let name = Txt::try_new(alloc, "R")?;
+    Ok(RelDef { name, cols, key: 1 })
+}
+
+fn statement(alloc: Global) -> Result<Stmt, Fail>
+    ensures { IfOk result (λ s. s ≡ sample_statement) }
+{
+    let path = Path::try_new(alloc, &[1])?;
+    let mut vals = List::new(alloc);
+    vals.push(Value::Int(7))?;
+    Ok(Stmt {
+        path,
+        sign: Sign::Plus,
+        tuple: Tuple { rel: 0, vals },
+    })
+}
+
+#[test]
+fn takes_the_last_away(rt: HostRuntime) -> Result<(), Fail> {
+    let alloc = rt.alloc();
+    let mut base = Base::empty(alloc);
+    base.add_user(Txt::try_new(alloc, "Ann")?)?;
+    base.add_relation(relation(alloc)?)?;
+    base.pop_relation();
+    assert_eq!(rt; base.catalog().rels.len(), 0);
+    assert_eq!(rt; base.catalog().users.len(), 1);
+    base.pop_user();
+    assert_eq!(rt; base.catalog().users.len(), 0);
+    Ok(())
+}
+
+#[test]
+fn keeps_what_is_put(rt: HostRuntime) -> Result<(), Fail> {
+    let alloc = rt.alloc();
+    let mut base = Base::empty(alloc);
+    base.add_user(Txt::try_new(alloc, "Ann")?)?;
+    base.add_relation(relation(alloc)?)?;
+    assert!(rt; base.put(statement(alloc)?)?);
+    assert!(rt; !base.put(statement(alloc)?)?);
+    let copy = base.try_clone(alloc)?;
+    assert!(rt; base.take(&statement(alloc)?));
+    assert!(rt; !base.take(&statement(alloc)?));
+    assert_eq!(rt; copy.stmts().len(), 1);
+    assert_eq!(rt; base.stmts().len(), 0);
+    assert_eq!(rt; base.catalog().users.len(), 1);
+    Ok(())
+}

@@ -1,0 +1,357 @@
+// The structures of worked bases. Alice is user 1, Bob is user 2, Carol is user 3.
+ghost use Rattle.std.specs.Prelude.{◌≡◌, true, [], ◌∷◌, IfOk};
+ghost use Rattle.bdb_base.specs.Safety.{query_fits, IsSafe};
+ghost use Rattle.bdb_canon.specs.Samples.{sightings, stated_at, denied, disputed, reported, joined, deniers};
+
+use bdb_base::{
+    Base, Catalog, Cmp, ColDef, Cond, Item, Kind, List, Operand, Path, Query, Ref, RelDef, Sign,
+    Stmt, Tuple, Txt, Value, Who, append_decimal,
+};
+use bdb_canon::{Canon, canon, has_more_lines, line_count};
+use bdb_model::{answers, believes, clashing, stated, world_rows};
+use std::alloc::{AllocError, Global};
+use std::test::Fail;
+
+/// The relation S, with a key k and a value v.
+fn relation(alloc: Global) -> Result<RelDef, AllocError>
+    ensures { IfOk result (λ def. def ≡ sightings) }
+{
+    let mut cols = List::new(alloc);
+    let name = Txt::try_new(alloc, "k")?;
+    let kind = Kind::Text;
+    cols.push(ColDef { name, kind })?;
+    let name = Txt::try_new(alloc, "v")?;
+    cols.push(ColDef { name, kind })?;
+    let name = Txt::try_new(alloc, "S")?;
+    let key = 1;
+    Ok(RelDef { name, cols, key })
+}
+
+/// The relation S, and these users.
+fn catalog(alloc: Global, users: List<Txt>) -> Result<Catalog, AllocError>
+    ensures { IfOk result (λ c. c ≡ record { rels = sightings ∷ []; users = users }) }
+{
+    let mut rels = List::new(alloc);
+    let def = relation(alloc)?;
+    rels.push(def)?;
+    Ok(Catalog { rels, users })
+}
+
+fn statement(alloc: Global, users: &[u32], sign: Sign, key: &str, value: &str) -> Result<Stmt, Fail>
+    ensures { IfOk result (λ s. s ≡ stated_at users.now sign key.now value.now) }
+{
+    let path = Path::try_new(alloc, users)?;
+    let mut vals = List::new(alloc);
+    let key = Txt::try_new(alloc, key)?;
+    vals.push(Value::Text(key))?;
+    let value = Txt::try_new(alloc, value)?;
+    vals.push(Value::Text(value))?;
+    let tuple = Tuple { rel: 0, vals };
+    Ok(Stmt { path, sign, tuple })
+}
+
+/// An eagle, which Bob denies.
+fn denied(alloc: Global) -> Result<Base, Fail>
+    ensures { IfOk result (λ b. b.catalog ≡ denied.catalog) }
+{
+    let mut users = List::new(alloc);
+    users.push(Txt::try_new(alloc, "Alice")?)?;
+    users.push(Txt::try_new(alloc, "Bob")?)?;
+    let mut stmts = List::new(alloc);
+    stmts.push(statement(alloc, &[], Sign::Plus, "s1", "eagle")?)?;
+    stmts.push(statement(alloc, &[2], Sign::Minus, "s1", "eagle")?)?;
+    let catalog = catalog(alloc, users)?;
+    Ok(Base::from_parts(catalog, stmts))
+}
+
+/// The same, where Alice sees a crow.
+fn disputed(alloc: Global) -> Result<Base, Fail>
+    ensures { IfOk result (λ b. b.catalog ≡ disputed.catalog) }
+{
+    let mut users = List::new(alloc);
+    users.push(Txt::try_new(alloc, "Alice")?)?;
+    users.push(Txt::try_new(alloc, "Bob")?)?;
+    let mut stmts = List::new(alloc);
+    stmts.push(statement(alloc, &[], Sign::Plus, "s1", "eagle")?)?;
+    stmts.push(statement(alloc, &[1], Sign::Plus, "s1", "crow")?)?;
+    stmts.push(statement(alloc, &[2], Sign::Minus, "s1", "eagle")?)?;
+    let catalog = catalog(alloc, users)?;
+    Ok(Base::from_parts(catalog, stmts))
+}
+
+/// What Alice sees, and what Carol believes that Alice sees.
+fn reported(alloc: Global) -> Result<Base, Fail>
+    ensures { IfOk result (λ b. b.catalog ≡ reported.catalog) }
+{
+    let mut users = List::new(alloc);
+    users.push(Txt::try_new(alloc, "Alice")?)?;
+    users.push(Txt::try_new(alloc, "Bob")?)?;
+    users.push(Txt::try_new(alloc, "Carol")?)?;
+    let mut stmts = List::new(alloc);
+    stmts.push(statement(alloc, &[1], Sign::Plus, "s2", "crow")?)?;
+    stmts.push(statement(alloc, &[3, 1], Sign::Plus, "s1", "eagle")?)?;
+    let catalog = catalog(alloc, users)?;
+    Ok(Base::from_parts(catalog, stmts))
+}
+
+/// The worlds as `path>link`, the edges as `from.user>to`, and the rows as world, sign, tuple, and e where explicit.
+fn text_of(alloc: Global, k: &Canon) -> Result<Vec<u8>, AllocError> {
+    let mut out = Vec::new(alloc);
+    for world in k.worlds.as_slice() {
+        for uid in world.path.as_slice() {
+            append_decimal(&mut out, u64::from(*uid))?;
+        }
+        out.push(b'>')?;
+        if let Some(at) = world.suffix {
+            append_decimal(&mut out, u64::from(at))?;
+        }
+        out.push(b' ')?;
+    }
+    for edge in k.edges.as_slice() {
+        append_decimal(&mut out, u64::from(edge.from))?;
+        out.push(b'.')?;
+        append_decimal(&mut out, u64::from(edge.uid))?;
+        out.push(b'>')?;
+        append_decimal(&mut out, u64::from(edge.to))?;
+        out.push(b' ')?;
+    }
+    for row in k.rows.as_slice() {
+        append_decimal(&mut out, u64::from(row.world))?;
+        out.push(if row.sign == Sign::Plus { b'+' } else { b'-' })?;
+        append_decimal(&mut out, u64::from(row.tuple))?;
+        out.push(if row.explicit { b'e' } else { b'i' })?;
+        out.push(b' ')?;
+    }
+    Ok(out)
+}
+
+/// Whether a base's structure reads so, and has so many lines.
+fn reads(alloc: Global, base: &Base, text: &str, lines: usize) -> Result<bool, AllocError> {
+    let k = canon(alloc, base)?;
+    let found = text_of(alloc, &k)?;
+    let fits = !has_more_lines(alloc, base, lines)?;
+    let counted = line_count(base.catalog(), &k) == lines;
+    Ok(found.as_slice() == text.as_bytes() && fits && counted)
+}
+
+#[test]
+fn structures_of_worked_bases(rt: HostRuntime) -> Result<(), Fail> {
+    let alloc = rt.alloc();
+    let nothing = Base::empty(alloc);
+    assert!(rt; reads(alloc, &nothing, "> ", 1)?);
+    assert!(rt; has_more_lines(alloc, &nothing, 0)?);
+    let text = "> 2>0 0.1>0 0.2>1 1.1>0 0+0e 1-0e ";
+    assert!(rt; reads(alloc, &denied(alloc)?, text, 11)?);
+    let text = "> 1>0 2>0 0.1>1 0.2>2 1.2>2 2.1>1 0+1e 1+0e 2-1e ";
+    assert!(rt; reads(alloc, &disputed(alloc)?, text, 15)?);
+    let text =
+        "> 1>0 3>0 31>1 0.1>1 0.2>0 0.3>2 1.2>0 1.3>2 2.1>3 2.2>0 3.2>0 3.3>2 1+1e 3+0e 3+1i ";
+    assert!(rt; reads(alloc, &reported(alloc)?, text, 22)?);
+    Ok(())
+}
+
+fn tuple(alloc: Global, key: &str, value: &str) -> Result<Tuple, AllocError> {
+    let mut vals = List::new(alloc);
+    vals.push(Value::Text(Txt::try_new(alloc, key)?))?;
+    vals.push(Value::Text(Txt::try_new(alloc, value)?))?;
+    Ok(Tuple { rel: 0, vals })
+}
+
+/// What a path believes of a tuple: whether its world has it with plus and with minus, whether it believes it and its
+/// negation, and whether a statement of the path clashes with it and with its negation; 1 or 0 for each.
+fn told(base: &Base, path: &[u32], t: &Tuple) -> [bool; 6] {
+    [
+        stated(base, path, t, Sign::Plus),
+        stated(base, path, t, Sign::Minus),
+        believes(base, path, t, Sign::Plus),
+        believes(base, path, t, Sign::Minus),
+        clashing(base, path, t, Sign::Plus).is_some(),
+        clashing(base, path, t, Sign::Minus).is_some(),
+    ]
+}
+
+/// The rows of a path's world: for each its sign, e where it is explicit, and its values.
+fn world_text(alloc: Global, base: &Base, path: &[u32]) -> Result<Vec<u8>, AllocError> {
+    let world = world_rows(alloc, base, path)?;
+    let mut out = Vec::new(alloc);
+    for row in world.held.as_slice() {
+        out.push(if row.sign == Sign::Plus { b'+' } else { b'-' })?;
+        out.push(if row.explicit { b'e' } else { b'i' })?;
+        for value in row.tuple.vals.as_slice() {
+            if let Value::Text(text) = value {
+                out.push(b' ')?;
+                for byte in text.as_str().as_bytes() {
+                    out.push(*byte)?;
+                }
+            }
+        }
+        out.push(b';')?;
+    }
+    Ok(out)
+}
+
+#[test]
+fn beliefs_of_worked_bases(rt: HostRuntime) -> Result<(), Fail> {
+    let alloc = rt.alloc();
+    let eagle = tuple(alloc, "s1", "eagle")?;
+    let raven = tuple(alloc, "s1", "raven")?;
+    let denied = denied(alloc)?;
+    let disputed = disputed(alloc)?;
+    let reported = reported(alloc)?;
+    let cases: [(&Base, &[u32], &Tuple, [bool; 6]); 7] = [
+        (
+            &denied,
+            &[],
+            &eagle,
+            [true, false, true, false, false, true],
+        ),
+        (
+            &denied,
+            &[2],
+            &eagle,
+            [false, true, false, true, true, false],
+        ),
+        (
+            &denied,
+            &[1, 2],
+            &eagle,
+            [false, true, false, true, false, false],
+        ),
+        (
+            &denied,
+            &[2, 1],
+            &eagle,
+            [true, false, true, false, false, false],
+        ),
+        (
+            &disputed,
+            &[1],
+            &eagle,
+            [false, false, false, true, true, false],
+        ),
+        (
+            &disputed,
+            &[2, 1],
+            &raven,
+            [false, false, false, true, false, false],
+        ),
+        (
+            &reported,
+            &[3, 1],
+            &raven,
+            [false, false, false, true, true, false],
+        ),
+    ];
+    for (base, path, t, want) in cases {
+        assert!(rt; told(base, path, t) == want);
+    }
+    Ok(())
+}
+
+#[test]
+fn worlds_of_worked_bases(rt: HostRuntime) -> Result<(), Fail> {
+    let alloc = rt.alloc();
+    let denied = denied(alloc)?;
+    let disputed = disputed(alloc)?;
+    let reported = reported(alloc)?;
+    let cases: [(&Base, &[u32], &str); 7] = [
+        (&denied, &[2], "-e s1 eagle;"),
+        (&denied, &[1, 2], "-i s1 eagle;"),
+        (&denied, &[2, 1], "+i s1 eagle;"),
+        (&disputed, &[1], "+e s1 crow;"),
+        (&disputed, &[], "+e s1 eagle;"),
+        (&reported, &[2, 3, 1], "+i s1 eagle;+i s2 crow;"),
+        (&reported, &[3, 1], "+e s1 eagle;+i s2 crow;"),
+    ];
+    for (base, path, want) in cases {
+        let found = world_text(alloc, base, path)?;
+        assert!(rt; found.as_slice() == want.as_bytes());
+    }
+    Ok(())
+}
+
+/// A comparison that says that two columns are equal.
+fn joined(left: Ref, right: Ref) -> Cond
+    ensures { result ≡ joined left right }
+{
+    let cmp = Cmp::Eq;
+    let right = Operand::Col(right);
+    Cond { left, cmp, right }
+}
+
+/// The query for the users who don't believe what is seen.
+fn deniers(alloc: Global) -> Result<Query, Fail>
+    ensures { IfOk result (λ q. q ≡ deniers) }
+{
+    let items = denied_items(alloc)?;
+    let mut take = List::new(alloc);
+    take.push(Ref { item: 0, col: 1 })?;
+    let mut conds = List::new(alloc);
+    conds.push(joined(Ref { item: 2, col: 0 }, Ref { item: 1, col: 0 }))?;
+    conds.push(joined(Ref { item: 2, col: 1 }, Ref { item: 1, col: 1 }))?;
+    Ok(Query { take, items, conds })
+}
+
+fn denied_items(alloc: Global) -> Result<List<Item>, Fail>
+    ensures { IfOk result (λ items. items ≡ deniers.items) }
+{
+    let alias = Txt::try_new(alloc, "U")?;
+    let mut items = List::new(alloc);
+    items.push(Item::Users { alias })?;
+    let alias = Txt::try_new(alloc, "X")?;
+    let path = List::new(alloc);
+    let sign = Sign::Plus;
+    items.push(Item::Rel {
+        alias,
+        rel: 0,
+        sign,
+        path,
+    })?;
+    let alias = Txt::try_new(alloc, "Y")?;
+    let mut path = List::new(alloc);
+    path.push(Who::Of(0))?;
+    let sign = Sign::Minus;
+    items.push(Item::Rel {
+        alias,
+        rel: 0,
+        sign,
+        path,
+    })?;
+    Ok(items)
+}
+
+/// The names that the query for deniers gives over a base.
+fn names_told(alloc: Global, base: &Base, query: &Query) -> Result<Vec<u8>, AllocError>
+    requires fits { query_fits base.now.catalog query.now ≡ true }
+    requires safe { IsSafe base.now.catalog.rels query.now }
+{
+    let rows = answers(alloc, base, query)?;
+    let mut out = Vec::new(alloc);
+    for row in rows.as_slice() {
+        for value in row.as_slice() {
+            if let Value::Text(text) = value {
+                for byte in text.as_str().as_bytes() {
+                    out.push(*byte)?;
+                }
+                out.push(b';')?;
+            }
+        }
+    }
+    Ok(out)
+}
+
+#[test]
+fn answers_over_worked_bases(rt: HostRuntime) -> Result<(), Fail> {
+    let alloc = rt.alloc();
+    let query = deniers(alloc)?;
+    let denied = denied(alloc)?;
+    let names = names_told(alloc, &denied, &query)?;
+    assert!(rt; names.as_slice() == "Bob;".as_bytes());
+    let disputed = disputed(alloc)?;
+    let names = names_told(alloc, &disputed, &query)?;
+    assert!(rt; names.as_slice() == "Alice;Bob;".as_bytes());
+    let reported = reported(alloc)?;
+    let names = names_told(alloc, &reported, &query)?;
+    assert!(rt; names.is_empty());
+    Ok(())
+}

@@ -1,5 +1,0 @@
-use Rattle.bdb_multi.specs.Sessions.{AreSessions}
-use Rattle.bdb_multi.proofs.tests.no_more_commands_wait_than_may.Given as goal
-
-abbrev pub invariant-loop-command : goal.invariant-loop-command
-invariant-loop-command g l = AreSessions l.events

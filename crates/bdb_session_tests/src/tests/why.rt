@@ -1,0 +1,201 @@
+// Certificates over three statements: all users believe an eagle, user 1, Alice, a crow, and user 2, Bob, no eagle.
+ghost use Rattle.std.specs.Prelude.{◌≡◌, true, IfOk};
+ghost use Rattle.bdb_base.specs.Order.{statement_cmp};
+ghost use Rattle.bdb_base.specs.SortedSet.{ascending};
+
+use bdb_base::{Base, List, Path, Sign, Stmt, Tuple, Txt, Value, put};
+use bdb_why::{Ground, Ruled, Why, check_why, check_why_among, says, why_among};
+use std::alloc::{AllocError, Global};
+use std::test::Fail;
+
+/// A statement of a test: its path, its sign, and the two columns of its tuple.
+type Given<'a> = (&'a [u32], Sign, &'a str, &'a str);
+
+const EAGLE: Given = (&[], Sign::Plus, "s1", "eagle");
+
+const BOB_DENIES: Given = (&[2], Sign::Minus, "s1", "eagle");
+
+const CROW: Given = (&[1], Sign::Plus, "s1", "crow");
+
+#[test]
+fn certificates(rt: HostRuntime) -> Result<(), Fail> {
+    let alloc = rt.alloc();
+    let stmts = stmts_of(alloc, &[EAGLE, CROW, BOB_DENIES])?;
+    let cases: [(&[u32], Sign, &str, bool, &str); 5] = [
+        (&[1], Sign::Minus, "eagle", true, "crow found 0 "),
+        (&[1, 2], Sign::Plus, "eagle", false, "blocked 1 "),
+        (&[2], Sign::Minus, "crow", false, "nowhere eagle blocked 0 "),
+        (&[2, 1], Sign::Plus, "crow", true, "found 1 "),
+        (&[3, 1, 2], Sign::Minus, "eagle", true, "found 2 "),
+    ];
+    for (path, sign, bird, yes, want) in cases {
+        let t = tuple_of(alloc, "s1", bird)?;
+        let y = why_at(alloc, stmts.as_slice(), path, &t, sign)?;
+        let text = text_of(alloc, &y)?;
+        assert_eq!(rt; text.as_str(), want);
+        assert_eq!(rt; says(&y), yes);
+        assert!(rt; is_accepted(stmts.as_slice(), path, &t, sign, &y));
+        let deeper = raised(alloc, y)?;
+        assert!(rt; !is_accepted(stmts.as_slice(), path, &t, sign, &deeper));
+    }
+    Ok(())
+}
+
+#[test]
+fn nothing_stands(rt: HostRuntime) -> Result<(), Fail> {
+    let alloc = rt.alloc();
+    let base = Base::empty(alloc);
+    let t = tuple_of(alloc, "s1", "eagle")?;
+    let y = Why::Absent {
+        own: Ground::Nowhere,
+        others: List::new(alloc),
+    };
+    assert!(rt; check_why(&base, &[], &t, Sign::Minus, &y));
+    let found = Why::Stated {
+        reason: Ground::Found { level: 0 },
+    };
+    assert!(rt; !check_why(&base, &[], &t, Sign::Minus, &found));
+    Ok(())
+}
+
+/// The certificate at a path of few users.
+fn why_at(
+    alloc: Global,
+    stmts: &[Stmt],
+    path: &[u32],
+    t: &Tuple,
+    s: Sign,
+) -> Result<Why, AllocError>
+    requires { ascending statement_cmp stmts.now ≡ true }
+{
+    if path.len() > 8 {
+        return Err(AllocError);
+    }
+    let y = why_among(alloc, 1, stmts, path, t, s)?;
+    Ok(y)
+}
+
+fn is_accepted(stmts: &[Stmt], path: &[u32], t: &Tuple, s: Sign, y: &Why) -> bool
+    requires { ascending statement_cmp stmts.now ≡ true }
+{
+    if path.len() > 8 {
+        return false;
+    }
+    check_why_among(1, stmts, path, t, s, y)
+}
+
+/// A certificate with each level raised by one.
+fn raised(alloc: Global, y: Why) -> Result<Why, AllocError> {
+    match y {
+        Why::Stated { reason } => Ok(Why::Stated {
+            reason: deeper(reason),
+        }),
+        Why::Other { found } => Ok(Why::Other {
+            found: Ruled {
+                tuple: found.tuple,
+                reason: deeper(found.reason),
+            },
+        }),
+        Why::Absent { own, others } => {
+            let mut list = List::new(alloc);
+            for r in others.into_vec() {
+                list.push(Ruled {
+                    tuple: r.tuple,
+                    reason: deeper(r.reason),
+                })?;
+            }
+            Ok(Why::Absent {
+                own: deeper(own),
+                others: list,
+            })
+        }
+    }
+}
+
+fn deeper(reason: Ground) -> Ground {
+    match reason {
+        Ground::Found { level } => Ground::Found {
+            level: level.saturating_add(1),
+        },
+        Ground::Blocked { level, by } => Ground::Blocked {
+            level: level.saturating_add(1),
+            by,
+        },
+        Ground::Nowhere => Ground::Nowhere,
+    }
+}
+
+fn text_of(alloc: Global, y: &Why) -> Result<String, AllocError> {
+    let mut text = String::new(alloc);
+    match y {
+        Why::Stated { reason } => push_ground(&mut text, reason)?,
+        Why::Other { found } => push_ruled(&mut text, found)?,
+        Why::Absent { own, others } => {
+            push_ground(&mut text, own)?;
+            for r in others.as_slice() {
+                push_ruled(&mut text, r)?;
+            }
+        }
+    }
+    Ok(text)
+}
+
+fn push_ruled(text: &mut String, r: &Ruled) -> Result<(), AllocError> {
+    if let [_, Value::Text(bird)] = r.tuple.vals.as_slice() {
+        text.push_str(bird.as_str())?;
+        text.push_str(" ")?;
+    }
+    push_ground(text, &r.reason)?;
+    Ok(())
+}
+
+fn push_ground(text: &mut String, reason: &Ground) -> Result<(), AllocError> {
+    match reason {
+        Ground::Found { level } => {
+            text.push_str("found ")?;
+            push_level(text, *level)?;
+        }
+        Ground::Blocked { level, .. } => {
+            text.push_str("blocked ")?;
+            push_level(text, *level)?;
+        }
+        Ground::Nowhere => text.push_str("nowhere ")?,
+    }
+    Ok(())
+}
+
+fn push_level(text: &mut String, level: u32) -> Result<(), AllocError> {
+    text.push_str(match level {
+        0 => "0 ",
+        1 => "1 ",
+        2 => "2 ",
+        _ => "deep ",
+    })?;
+    Ok(())
+}
+
+fn stmts_of(alloc: Global, given: &[Given]) -> Result<List<Stmt>, Fail>
+    ensures { IfOk result (λ stmts. ascending statement_cmp stmts ≡ true) }
+{
+    let mut stmts = List::new(alloc);
+    for (path, sign, k, v) in given {
+        let stmt = stmt_of(alloc, *path, *sign, *k, *v)?;
+        let _added = put(&mut stmts, stmt)?;
+    }
+    Ok(stmts)
+}
+
+fn stmt_of(alloc: Global, path: &[u32], sign: Sign, k: &str, v: &str) -> Result<Stmt, Fail> {
+    Ok(Stmt {
+        path: Path::try_new(alloc, path)?,
+        sign,
+        tuple: tuple_of(alloc, k, v)?,
+    })
+}
+
+fn tuple_of(alloc: Global, k: &str, v: &str) -> Result<Tuple, AllocError> {
+    let mut vals = List::new(alloc);
+    vals.push(Value::Text(Txt::try_new(alloc, k)?))?;
+    vals.push(Value::Text(Txt::try_new(alloc, v)?))?;
+    Ok(Tuple { rel: 0, vals })
+}

@@ -1,4 +1,0 @@
-use Rattle.bdb_tables.proofs.tests.edges_of_a_world.Goals as goal
-
-pub rows_under-requires : goal.rows_under-requires
-rows_under-requires g c = record { grammar = λ k r found. c.in_ok-write_rows.ensures.grammar c.requires.grammar 9 k r found }

@@ -1,0 +1,5 @@
+// What stands below sessions, library by library: a module is named for the library that it tests.
+mod former;
+mod keep;
+mod key;
+mod tables;
