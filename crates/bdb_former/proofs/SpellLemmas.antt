@@ -5,13 +5,13 @@ use Rattle.std.specs.List.{list_all}
 use Rattle.std.proofs.lemmas.List.{take_all}
 use Rattle.std.proofs.lemmas.Bool.{and_parts, eq-eqb, eqb-true, false_from_ne_true, false≢true}
 use Rattle.bdb_base.specs.declared.kinds.RelDef.{RelDef}
-use Rattle.bdb_key.specs.Bytes.{num_bytes, int_bytes, value_bytes}
+use Rattle.bdb_key.specs.Bytes.{num_bytes, int_bytes, text_bytes, value_bytes}
 use Rattle.bdb_key.specs.Grammar.{IsNum}
 use Rattle.bdb_key.specs.Reading.{HasNoEnd}
 use Rattle.bdb_key.specs.Rows.{IsRelRow, cols_bytes, length_bytes, rel_bytes}
 use Rattle.bdb_key.proofs.Compared.{printing}
 use Rattle.bdb_key.proofs.Readings.{length_form, no_end}
-use Rattle.bdb_former.specs.Laws.{FormatsBecomeThis, KeysGetACount, RelationsGetALength}
+use Rattle.bdb_former.specs.Laws.{FormatsBecomeThis, KeysGetACount, RelationsGetALength, RelationsHadNoLength}
 use Rattle.bdb_former.specs.Respelled.{with_count, with_length, respelled_format, respelled_key, respelled_place, respelled_relation, respelled_row}
 
 -- ---- keys
@@ -135,39 +135,50 @@ relations_get_a_length name cols plain =
 at_end : (b : ℕ) (name : List ℕ) → nat_eq b 0 ≡ true → HasNoEnd (b ∷ name) → ⊥
 at_end b name e h = let p = and_parts (not (nat_eq b 0)) (list_all (λ c. not (nat_eq c 0)) name) h in false≢true (sym (ap not e) ∙ p.0)
 
--- behind the first 0 stands the integer 1, and no other
-length_read : (bytes name more : List ℕ) (key : ℕ) → HasNoEnd name → IsNum key → with_length bytes ≡ name ++ 0 ∷ (length_bytes key ++ more) → key ≡ 1
+-- behind the first 0 stands the integer 1, and no other; without it these are the bytes before
+length_read : (bytes name more : List ℕ) (key : ℕ) → HasNoEnd name → IsNum key → with_length bytes ≡ name ++ 0 ∷ (length_bytes key ++ more) → (key ≡ 1) × (bytes ≡ name ++ 0 ∷ more)
 length_read [] [] more key h num e = absurd cc
 length_read [] (c ∷ name) more key h num e = absurd cc
 length_read (b ∷ bytes) [] more key h num e = by (nat_eq b 0) refl e
   where
-    by : (t : Bool) → nat_eq b 0 ≡ t → cond t (b ∷ (int_bytes (pos 1) ++ bytes)) (b ∷ with_length bytes) ≡ 0 ∷ (length_bytes key ++ more) → key ≡ 1
-    by true z f = let rest : length_bytes 1 ++ bytes ≡ length_bytes key ++ more = tail f in sym (length_form 1 key bytes more (lit< tt) num rest).0
+    by : (t : Bool) → nat_eq b 0 ≡ t → cond t (b ∷ (int_bytes (pos 1) ++ bytes)) (b ∷ with_length bytes) ≡ 0 ∷ (length_bytes key ++ more) → (key ≡ 1) × (b ∷ bytes ≡ 0 ∷ more)
+    by true z f =
+        let rest : length_bytes 1 ++ bytes ≡ length_bytes key ++ more = tail f in
+        let form = length_form 1 key bytes more (lit< tt) num rest in
+        (sym form.0, ap (λ x. x ∷ bytes) (eqb-true b 0 z) ∙ ap (λ (k : List ℕ). 0 ∷ k) form.1)
       where
         tail : {x y : ℕ} {xs ys : List ℕ} → x ∷ xs ≡ y ∷ ys → xs ≡ ys
         tail g = cc
     by false z f = absurd (let zero_here : b ≡ 0 = cc in false≢true (sym z ∙ eq-eqb b 0 zero_here))
 length_read (b ∷ bytes) (c ∷ name) more key h num e = by (length_read bytes name more key) (nat_eq b 0) refl e
   where
-    by : (HasNoEnd name → IsNum key → with_length bytes ≡ name ++ 0 ∷ (length_bytes key ++ more) → key ≡ 1)
-        → (t : Bool) → nat_eq b 0 ≡ t → cond t (b ∷ (int_bytes (pos 1) ++ bytes)) (b ∷ with_length bytes) ≡ c ∷ (name ++ 0 ∷ (length_bytes key ++ more)) → key ≡ 1
+    by : (HasNoEnd name → IsNum key → with_length bytes ≡ name ++ 0 ∷ (length_bytes key ++ more) → (key ≡ 1) × (bytes ≡ name ++ 0 ∷ more))
+        → (t : Bool) → nat_eq b 0 ≡ t → cond t (b ∷ (int_bytes (pos 1) ++ bytes)) (b ∷ with_length bytes) ≡ c ∷ (name ++ 0 ∷ (length_bytes key ++ more))
+        → (key ≡ 1) × (b ∷ bytes ≡ c ∷ (name ++ 0 ∷ more))
     by later true z f = absurd (let same : c ≡ b = cc in at_end b name z (subst (λ x. HasNoEnd (x ∷ name)) same h))
     by later false z f =
         let p = and_parts (not (nat_eq c 0)) (list_all (λ d. not (nat_eq d 0)) name) h in
+        let first : b ≡ c = cc in
         let rest : with_length bytes ≡ name ++ 0 ∷ (length_bytes key ++ more) = cc in
-        later p.1 num rest
+        let l = later p.1 num rest in
+        (l.0, ap (λ x. x ∷ bytes) first ∙ ap (λ (k : List ℕ). c ∷ k) l.1)
 
--- a respelled relation has a key of one column
-pub respelled_has_one : (former : List ℕ) (def : RelDef) → IsRelRow def → respelled_relation former ≡ rel_bytes def → def.key ≡ 1
-respelled_has_one former def fits e = by former (e ∙ row)
+-- a row that becomes a relation's was its name and its columns, and the key of the relation has one column
+pub relations_had_no_length : RelationsHadNoLength
+relations_had_no_length former def fits e = by former (e ∙ row)
   where
     row : rel_bytes def ≡ 2 ∷ (def.name ++ 0 ∷ (length_bytes def.key ++ cols_bytes def.cols))
     row = ap (λ (x : List ℕ). 2 ∷ x) (append_assoc (def.name ++ 0 ∷ []) (length_bytes def.key) (cols_bytes def.cols) ∙ append_assoc def.name (0 ∷ []) (length_bytes def.key ++ cols_bytes def.cols))
 
-    by : (former : List ℕ) → respelled_relation former ≡ 2 ∷ (def.name ++ 0 ∷ (length_bytes def.key ++ cols_bytes def.cols)) → def.key ≡ 1
+    by : (former : List ℕ) → respelled_relation former ≡ 2 ∷ (def.name ++ 0 ∷ (length_bytes def.key ++ cols_bytes def.cols)) → (def.key ≡ 1) × (former ≡ text_bytes def.name ++ cols_bytes def.cols)
     by [] f = absurd cc
     by (mark ∷ bytes) f =
         let two : mark ≡ 2 = cc in
         let rest : cond (nat_eq mark 2) (with_length bytes) bytes ≡ def.name ++ 0 ∷ (length_bytes def.key ++ cols_bytes def.cols) = cc in
-        length_read bytes def.name (cols_bytes def.cols) def.key (no_end def.name (printing def.name fits.name)) fits.short
-        (sym (ap (λ b. cond b (with_length bytes) bytes) (eq-eqb mark 2 two)) ∙ rest)
+        let read = length_read bytes def.name (cols_bytes def.cols) def.key (no_end def.name (printing def.name fits.name)) fits.short
+        (sym (ap (λ b. cond b (with_length bytes) bytes) (eq-eqb mark 2 two)) ∙ rest) in
+        (read.0, ap (λ x. x ∷ bytes) two ∙ ap (λ (x : List ℕ). 2 ∷ x) (read.1 ∙ sym (append_assoc def.name (0 ∷ []) (cols_bytes def.cols))))
+
+-- a respelled relation has a key of one column
+pub respelled_has_one : (former : List ℕ) (def : RelDef) → IsRelRow def → respelled_relation former ≡ rel_bytes def → def.key ≡ 1
+respelled_has_one former def fits e = (relations_had_no_length former def fits e).0

@@ -4,11 +4,12 @@ use Rattle.std.specs.Prelude.{◌≡◌, ℕ, List, [], ◌∷◌, ◌++◌, Som
 use Rattle.std.specs.FinMap as tables
 use Rattle.std.specs.Option.{option_map}
 use Rattle.bdb_base.specs.declared.kinds.ColDef.{ColDef}
+use Rattle.bdb_base.specs.declared.kinds.RelDef.{RelDef}
 use Rattle.bdb_base.specs.declared.kinds.Value.{Value}
 use Rattle.bdb_keep.specs.Tables.{Tables}
 use Rattle.bdb_key.specs.Bytes.{num_bytes, text_bytes, value_bytes, vals_bytes}
 use Rattle.bdb_key.specs.Grammar.{IsPlain}
-use Rattle.bdb_key.specs.Rows.{cols_bytes, rel_bytes}
+use Rattle.bdb_key.specs.Rows.{IsRelRow, cols_bytes, rel_bytes}
 use Rattle.bdb_former.specs.Respelled.{IsRespelled, respelled, respelled_at, respelled_key, respelled_place, respelled_row}
 
 -- each row stands, respelled, at its place, respelled
@@ -31,6 +32,10 @@ FormatsBecomeThis = respelled_row 1 (num_bytes 2) ≡ num_bytes 3
 abbrev pub RelationsGetALength : Type 0
 RelationsGetALength = (name : List ℕ) (cols : List ColDef) → IsPlain name
     → respelled_row 3 (text_bytes name ++ cols_bytes cols) ≡ rel_bytes (record { name = name; cols = cols; key = 1 })
+
+-- a row that becomes a relation's was its name and its columns, and the key of the relation has one column
+abbrev pub RelationsHadNoLength : Type 0
+RelationsHadNoLength = (row : List ℕ) (def : RelDef) → IsRelRow def → respelled_row 3 row ≡ rel_bytes def → (def.key ≡ 1) × (row ≡ text_bytes def.name ++ cols_bytes def.cols)
 
 -- a key of table 11 was a world, a relation, a value and a tuple, and its value becomes a list of one
 abbrev pub KeysGetACount : Type 0

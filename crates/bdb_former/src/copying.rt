@@ -19,6 +19,7 @@ const TABLES: u8 = 15;
 pub fn respelled_copy<K: Keeper>(alloc: Global, keeper: &mut K) -> Result<QuietKeeper, KeepError>
     requires tables { LieInTables (K.seen keeper.old).kept }
     ensures copy { IfOk result (λ copy. copy.kept ≡ respelled (K.seen keeper.old).kept) }
+    ensures still { IfOk result (λ copy. copy.running ≡ false) }
     ensures kept { OnOk result ((K.seen keeper.new).kept ≡ (K.seen keeper.old).kept) }
     ensures writes { (K.seen keeper.new).writes ≡ (K.seen keeper.old).writes }
     ensures counts { NeverFall (K.seen keeper.old) (K.seen keeper.new) }

@@ -1,5 +1,5 @@
 // What holds of respelled tables, each law as the contract of a function that does nothing.
-ghost use Rattle.bdb_former.specs.Laws.{FormatsBecomeThis, KeysGetACount, NoOtherRowIsThere, PlacesStayApart, RelationsGetALength, RowsAreRespelled};
+ghost use Rattle.bdb_former.specs.Laws.{FormatsBecomeThis, KeysGetACount, NoOtherRowIsThere, PlacesStayApart, RelationsGetALength, RelationsHadNoLength, RowsAreRespelled};
 
 /// Each row stands, respelled, at its place, respelled.
 #[tactic(auto, using(crate::proofs::TableLemmas::rows_are_respelled))]
@@ -29,6 +29,12 @@ pub fn formats_become_this()
 #[tactic(auto, using(crate::proofs::SpellLemmas::relations_get_a_length))]
 pub fn relations_get_a_length()
     ensures { RelationsGetALength }
+{}
+
+/// A row that becomes a relation's told no length of a key, and the key of the relation has one column.
+#[tactic(auto, using(crate::proofs::SpellLemmas::relations_had_no_length))]
+pub fn relations_had_no_length()
+    ensures { RelationsHadNoLength }
 {}
 
 /// The value in a key of table 11 becomes a list of one.
