@@ -1,14 +1,14 @@
--- What tests ask for of the first column, and the keys of the rows that have it.
-use Rattle.std.proofs.Common.{◌≡◌, ◌∙◌, ℕ, suc, zero, ◌<◌, ◌≤◌, Bool, true, false, ◌&&◌, nat_eq, List, [], ◌∷◌, ◌++◌, append_assoc, length, take, Option, Some, None, MatchOption, refl, ap, sym, subst, arith}
-use Rattle.std.specs.List.{slice_get}
+-- What tests ask for of the first columns of a key, and the keys of the rows that have it.
+use Rattle.std.proofs.Common.{◌≡◌, ◌∙◌, ℕ, suc, zero, ◌+◌, ◌-◌, ◌<◌, ◌≤◌, Bool, true, false, ◌&&◌, nat_eq, List, [], ◌∷◌, ◌++◌, append_assoc, length, take, drop, Option, Some, None, refl, ap, sym, subst, arith}
+use Rattle.std.specs.List.{list_all, slice_get}
 use Rattle.std.proofs.lemmas.Bool.{and_parts, and_from, cond-true, cond-false, eqb-true, eq-eqb, false≢true}
 use Rattle.bdb_base.specs.Clash.{key_of}
 use Rattle.bdb_base.specs.Conditions.{meets, meets_one, value_at, operand_at, compare_so}
 use Rattle.bdb_base.specs.Order.{value_cmp}
 use Rattle.bdb_base.specs.OrderLemmas.{value_exact}
 use Rattle.bdb_base.specs.Safety.{is_equality}
-use Rattle.bdb_base.specs.Same.{same_value}
-use Rattle.bdb_base.specs.SameLemmas.{same_value-Decides}
+use Rattle.bdb_base.specs.Same.{same_values}
+use Rattle.bdb_base.specs.SameLemmas.{same_values-Decides}
 use Rattle.bdb_base.specs.Segments.{is_prefix}
 use Rattle.bdb_base.specs.declared.kinds.Cmp.{Cmp}
 use Rattle.bdb_base.specs.declared.kinds.Cmp.TheVariants.{Eq, Ne, Lt, Le, Gt, Ge}
@@ -28,7 +28,7 @@ use Rattle.bdb_tables.specs.Rows.{AreKeyLengths}
 use Rattle.bdb_val.specs.Reads.{IsSpan}
 use Rattle.bdb_val.specs.Settling.{row_key}
 use Rattle.bdb_val.proofs.ReadLemmas.{prefix_append, prefix_rest, key_of_fits}
-use Rattle.bdb_catalog.specs.Taking.{literal_of, asks_for_first, key_of_test, first_there, key_asked, is_written, may_be_there, starts_with, is_asked, beginning}
+use Rattle.bdb_catalog.specs.Taking.{HasPutValues, asks_for, beginning, first_there, is_asked, is_written, led_by, literal_of, starts_with, value_asked, value_of_test, values_asked, values_from}
 
 -- ---- what a tuple has that meets tests
 
@@ -54,168 +54,234 @@ literal_is : (u : Tuple) (o : Operand) (v : Value) → literal_of o ≡ Some v �
 literal_is u (Col r) v e = absurd (none_some v e)
 literal_is u (Lit x) v e = e
 
--- a tuple that meets a test has the first value that the test asks for
-test_tells : (c : Cond) (u : Tuple) (v : Value) → key_of_test c ≡ Some v → meets_one u c ≡ true → slice_get u.vals 0 ≡ Some v
-test_tells c u v k m = by (asks_for_first c) refl
+-- a tuple that meets a test has the value that the test asks for of a column
+test_tells : (c : Cond) (col : ℕ) (u : Tuple) (v : Value) → value_of_test c col ≡ Some v → meets_one u c ≡ true → slice_get u.vals col ≡ Some v
+test_tells c col u v k m = by (asks_for c col) refl
   where
-    by : (b : Bool) → asks_for_first c ≡ b → slice_get u.vals 0 ≡ Some v
+    by : (b : Bool) → asks_for c col ≡ b → slice_get u.vals col ≡ Some v
     by true a =
-        let p = and_parts (is_equality c.cmp) (nat_eq c.left.item 0 && nat_eq c.left.col 0) a in
-        let q = and_parts (nat_eq c.left.item 0) (nat_eq c.left.col 0) p.1 in
-        let right : operand_at u c.right ≡ Some v = literal_is u c.right v (sym (cond-true (asks_for_first c) (literal_of c.right) None a) ∙ k) in
-        let left : value_at u c.left ≡ slice_get u.vals 0 =
-        cond-true (nat_eq c.left.item 0) (slice_get u.vals c.left.col) None q.0 ∙ ap (λ n. slice_get u.vals n) (eqb-true c.left.col 0 q.1) in
-        equal_values (slice_get u.vals 0) v
+        let p = and_parts (is_equality c.cmp) (nat_eq c.left.item 0 && nat_eq c.left.col col) a in
+        let q = and_parts (nat_eq c.left.item 0) (nat_eq c.left.col col) p.1 in
+        let right : operand_at u c.right ≡ Some v = literal_is u c.right v (sym (cond-true (asks_for c col) (literal_of c.right) None a) ∙ k) in
+        let left : value_at u c.left ≡ slice_get u.vals col =
+        cond-true (nat_eq c.left.item 0) (slice_get u.vals c.left.col) None q.0 ∙ ap (λ n. slice_get u.vals n) (eqb-true c.left.col col q.1) in
+        equal_values (slice_get u.vals col) v
         (sym (ap (λ cmp. compare_so cmp (value_at u c.left) (operand_at u c.right)) (equality c.cmp p.0)
-        ∙ ap (λ o. compare_so Eq o (operand_at u c.right)) left ∙ ap (λ o. compare_so Eq (slice_get u.vals 0) o) right) ∙ m)
-    by false a = absurd (none_some v (sym (cond-false (asks_for_first c) (literal_of c.right) None a) ∙ k))
+        ∙ ap (λ o. compare_so Eq o (operand_at u c.right)) left ∙ ap (λ o. compare_so Eq (slice_get u.vals col) o) right) ∙ m)
+    by false a = absurd (none_some v (sym (cond-false (asks_for c col) (literal_of c.right) None a) ∙ k))
 
--- a tuple that meets all tests has the first value that they ask for
-asked_met : (conds : List Cond) (u : Tuple) (v : Value) → key_asked conds ≡ Some v → meets conds u ≡ true → slice_get u.vals 0 ≡ Some v
-asked_met [] u v k m = absurd (none_some v k)
-asked_met (c ∷ cs) u v k m = by (key_of_test c) refl (λ e. asked_met cs u v e parts.1)
+-- a tuple that meets all tests has the value that they ask for of a column
+asked_met : (conds : List Cond) (col : ℕ) (u : Tuple) (v : Value) → value_asked conds col ≡ Some v → meets conds u ≡ true → slice_get u.vals col ≡ Some v
+asked_met [] col u v k m = absurd (none_some v k)
+asked_met (c ∷ cs) col u v k m = by (value_of_test c col) refl (λ e. asked_met cs col u v e parts.1)
   where
     parts : (meets_one u c ≡ true) × (meets cs u ≡ true)
     parts = and_parts (meets_one u c) (meets cs u) m
 
-    by : (o : Option Value) → key_of_test c ≡ o → (key_asked cs ≡ Some v → slice_get u.vals 0 ≡ Some v) → slice_get u.vals 0 ≡ Some v
-    by None e rest = rest (sym (ap (λ o. first_there o (key_asked cs)) e) ∙ k)
-    by (Some x) e rest = test_tells c u v (e ∙ (sym (ap (λ o. first_there o (key_asked cs)) e) ∙ k)) parts.0
+    by : (o : Option Value) → value_of_test c col ≡ o → (value_asked cs col ≡ Some v → slice_get u.vals col ≡ Some v) → slice_get u.vals col ≡ Some v
+    by None e rest = rest (sym (ap (λ o. first_there o (value_asked cs col)) e) ∙ k)
+    by (Some x) e rest = test_tells c col u v (e ∙ (sym (ap (λ o. first_there o (value_asked cs col)) e) ∙ k)) parts.0
+
+-- values from one on that is there
+drop_there : (vs : List Value) (i : ℕ) (v : Value) → slice_get vs i ≡ Some v → drop i vs ≡ v ∷ drop (suc i) vs
+drop_there [] i v e = absurd (none_some v e)
+drop_there (x ∷ vs) zero v e = ap (λ (y : Value). y ∷ vs) (some_value x v e)
+drop_there (x ∷ vs) (suc i) v e = drop_there vs i v e
+
+-- from each column on it has the values that they ask for
+values_met : (conds : List Cond) (u : Tuple) → meets conds u ≡ true → (most col : ℕ) → take (length (values_from conds most col)) (drop col u.vals) ≡ values_from conds most col
+values_met conds u m zero col = refl
+values_met conds u m (suc most) col = by (value_asked conds col) refl (values_met conds u m most (suc col))
+  where
+    by : (o : Option Value) → value_asked conds col ≡ o → take (length (values_from conds most (suc col))) (drop (suc col) u.vals) ≡ values_from conds most (suc col)
+        → take (length (led_by o (values_from conds most (suc col)))) (drop col u.vals) ≡ led_by o (values_from conds most (suc col))
+    by None e rest = refl
+    by (Some v) e rest =
+        ap (take (suc (length (values_from conds most (suc col))))) (drop_there u.vals col v (asked_met conds col u v e m)) ∙ ap (λ (vs : List Value). v ∷ vs) rest
+
+-- no more values are asked for than there are columns
+few_from : (conds : List Cond) (n col : ℕ) → length (values_from conds n col) ≤ n
+few_from conds zero col = omega arith
+few_from conds (suc n) col = by (value_asked conds col) (few_from conds n (suc col))
+  where
+    by : (o : Option Value) → length (values_from conds n (suc col)) ≤ n → length (led_by o (values_from conds n (suc col))) ≤ suc n
+    by None rest = omega arith
+    by (Some v) rest = omega (arith, rest)
+
+-- ---- first values
 
 take_long : (n : ℕ) (vs : List Value) → n ≤ length vs → length (take n vs) ≡ n
 take_long zero vs l = refl
 take_long (suc n) [] l = absurd (omega arith)
 take_long (suc n) (v ∷ vs) l = ap suc (take_long n vs (omega arith))
 
--- a key of some length starts with the first of the values that it is taken from
-starts_first : (n : ℕ) (v : Value) (vs : List Value) → 0 < n → n ≤ length vs → slice_get vs 0 ≡ Some v → starts_with n v (take n vs) ≡ true
-starts_first zero v vs some l e = absurd (omega arith)
-starts_first (suc n) v [] some l e = absurd (omega arith)
-starts_first (suc n) v (x ∷ vs) some l e =
-    and_from (nat_eq (length (x ∷ take n vs)) (suc n)) (same_value x v) (eq-eqb (length (x ∷ take n vs)) (suc n) (ap suc (take_long n vs (omega arith))))
-    ((same_value-Decides x v).1 (some_value x v e))
+take_plain : (n : ℕ) (vs : List Value) → ArePlain vs → ArePlain (take n vs)
+take_plain zero vs a = tt
+take_plain (suc n) [] a = tt
+take_plain (suc n) (v ∷ vs) a = (a.0, take_plain n vs a.1)
 
--- a key has a value, and its tuple has at least as many as its key
-pub record HasWholeKey (keys : ℕ → ℕ) (u : Tuple) : Type 0 where
-  pub some : 0 < keys u.rel
-  pub within : keys u.rel ≤ length u.vals
+-- the first of some first values are the first of all
+take_take : (m n : ℕ) (vs : List Value) → m ≤ n → take m (take n vs) ≡ take m vs
+take_take zero n vs le = refl
+take_take (suc m) zero vs le = absurd (omega arith)
+take_take (suc m) (suc n) [] le = refl
+take_take (suc m) (suc n) (v ∷ vs) le = ap (λ (xs : List Value). v ∷ xs) (take_take m n vs (omega arith))
 
-pub meets_asked : (keys : ℕ → ℕ) (conds : List Cond) (rel : ℕ) (u : Tuple) → HasWholeKey keys u → nat_eq u.rel rel ≡ true → meets conds u ≡ true → is_asked keys rel (key_asked conds) u ≡ true
-meets_asked keys conds rel u whole r m = by (key_asked conds) refl
-  where
-    by : (o : Option Value) → key_asked conds ≡ o → is_asked keys rel (key_asked conds) u ≡ true
-    by None e = ap (λ o. is_asked keys rel o u) e ∙ r
-    by (Some v) e =
-        ap (λ o. is_asked keys rel o u) e
-        ∙ and_from (nat_eq u.rel rel) (starts_with (keys rel) v (key_of keys u)) r
-        (ap (λ (k : ℕ). starts_with (keys k) v (key_of keys u)) (sym (eqb-true u.rel rel r)) ∙ starts_first (keys u.rel) v u.vals whole.some whole.within (asked_met conds u v e m))
+-- some first values, and the others
+take_and_drop : (n : ℕ) (vs : List Value) → take n vs ++ drop n vs ≡ vs
+take_and_drop zero vs = refl
+take_and_drop (suc n) [] = refl
+take_and_drop (suc n) (v ∷ vs) = ap (λ (xs : List Value). v ∷ xs) (take_and_drop n vs)
 
-pub asked_rel : (keys : ℕ → ℕ) (rel : ℕ) (key : Option Value) (u : Tuple) → is_asked keys rel key u ≡ true → nat_eq u.rel rel ≡ true
-asked_rel keys rel None u e = e
-asked_rel keys rel (Some v) u e = (and_parts (nat_eq u.rel rel) (starts_with (keys rel) v (key_of keys u)) e).0
+-- ---- tuples that are asked for
+
+has_started : (n : ℕ) (vs key : List Value) → length key ≡ n → take (length vs) key ≡ vs → starts_with n vs key ≡ true
+has_started n vs key many e =
+    and_from (nat_eq (length key) n) (same_values (take (length vs) key) vs) (eq-eqb (length key) n many) ((same_values-Decides (take (length vs) key) vs).1 e)
+
+started : (n : ℕ) (vs key : List Value) → starts_with n vs key ≡ true → (length key ≡ n) × (take (length vs) key ≡ vs)
+started n vs key e =
+    let p = and_parts (nat_eq (length key) n) (same_values (take (length vs) key) vs) e in
+    (eqb-true (length key) n p.0, (same_values-Decides (take (length vs) key) vs).0 p.1)
+
+-- a tuple of a relation that meets all tests is asked for, where it has at least as many values as its key
+pub meets_asked : (keys : ℕ → ℕ) (conds : List Cond) (rel : ℕ) (u : Tuple) → keys u.rel ≤ length u.vals → nat_eq u.rel rel ≡ true → meets conds u ≡ true
+    → is_asked keys rel (values_asked conds (keys rel)) u ≡ true
+meets_asked keys conds rel u whole r m =
+    let vs = values_asked conds (keys rel) in
+    let is : u.rel ≡ rel = eqb-true u.rel rel r in
+    let long : keys rel ≤ length u.vals = subst (λ (k : ℕ). keys k ≤ length u.vals) is whole in
+    and_from (nat_eq u.rel rel) (starts_with (keys rel) vs (key_of keys u)) r
+    (ap (λ (k : ℕ). starts_with (keys rel) vs (take (keys k) u.vals)) is
+    ∙ has_started (keys rel) vs (take (keys rel) u.vals) (take_long (keys rel) u.vals long)
+    (take_take (length vs) (keys rel) u.vals (few_from conds (keys rel) 0) ∙ values_met conds u m (keys rel) 0))
+
+pub asked_rel : (keys : ℕ → ℕ) (rel : ℕ) (vs : List Value) (u : Tuple) → is_asked keys rel vs u ≡ true → nat_eq u.rel rel ≡ true
+asked_rel keys rel vs u e = (and_parts (nat_eq u.rel rel) (starts_with (keys rel) vs (key_of keys u)) e).0
 
 -- ---- values that no tuple has
 
-first_plain : (vs : List Value) (v : Value) → slice_get vs 0 ≡ Some v → ArePlain vs → IsPlainValue v
-first_plain [] v e a = absurd (none_some v e)
-first_plain (x ∷ vs) v e a = subst IsPlainValue (some_value x v e) a.0
-
-written : (v : Value) → IsPlainValue v → is_written v ≡ true
-written (Int n) h = refl
-written (Text t) h = h
+all_written : (vs : List Value) → ArePlain vs → list_all is_written vs ≡ true
+all_written [] a = refl
+all_written (Int m ∷ vs) a = all_written vs a.1
+all_written (Text t ∷ vs) a = and_from (is_written (Text t)) (list_all is_written vs) a.0 (all_written vs a.1)
 
 -- no tuple meets tests that ask for a value that no tuple has
-pub none_meets : (conds : List Cond) (u : Tuple) → IsTupleRow u → may_be_there (key_asked conds) ≡ false → meets conds u ≡ true → ⊥
-none_meets conds u g out m = by (key_asked conds) refl
-  where
-    by : (o : Option Value) → key_asked conds ≡ o → ⊥
-    by None e = false≢true (sym out ∙ ap may_be_there e)
-    by (Some v) e =
-        let there : is_written v ≡ true = written v (first_plain u.vals v (asked_met conds u v e m) g.plain) in
-        false≢true (sym out ∙ ap may_be_there e ∙ there)
-
-pub plain_key : (key : Option Value) → may_be_there key ≡ true → MatchOption key (Unit {0}) IsWhole → MatchOption key (Unit {0}) IsPlainValue
-plain_key None a b = tt
-plain_key (Some (Int n)) a b = b
-plain_key (Some (Text t)) a b = a
+pub none_meets : (conds : List Cond) (n : ℕ) (u : Tuple) → IsTupleRow u → list_all is_written (values_asked conds n) ≡ false → meets conds u ≡ true → ⊥
+none_meets conds n u g out m =
+    let vs = values_asked conds n in
+    false≢true (sym out ∙ all_written vs (subst ArePlain (values_met conds u m n 0) (take_plain (length vs) u.vals g.plain)))
 
 -- ---- keys
 
--- the keys of a world's rows of a relation are those that begin with the two
-rel_span : (keys : ℕ → ℕ) (wid rel : ℕ) → IsNum wid → IsNum rel → IsSpan keys wid (λ u. nat_eq u.rel rel) (num_bytes wid ++ num_bytes rel)
-rel_span keys wid rel w r = record {
-  world = λ k f e.
-      let s = prefix_rest (num_bytes wid ++ num_bytes rel) (val_bytes k) e in
-      (num_form k.0 wid (num_bytes k.1 ++ vals_bytes k.2 ++ num_bytes k.3) (num_bytes rel ++ s.0) f.world w s.1).0;
-  begins = λ tid u e.
-      ap (λ x. is_prefix (num_bytes wid ++ num_bytes rel) (val_bytes (wid, x, key_of keys u, tid))) (eqb-true u.rel rel e)
-      ∙ prefix_append (num_bytes wid ++ num_bytes rel) (vals_bytes (key_of keys u) ++ num_bytes tid);
-  inside = λ tid u g e.
-      let s = prefix_rest (num_bytes wid ++ num_bytes rel) (val_bytes (row_key keys wid tid u)) e in
-      let one = num_form wid wid (num_bytes u.rel ++ vals_bytes (key_of keys u) ++ num_bytes tid) (num_bytes rel ++ s.0) w w s.1 in
-      let two = num_form u.rel rel (vals_bytes (key_of keys u) ++ num_bytes tid) s.0 g.rel r one.1 in
-      eq-eqb u.rel rel two.0;
-}
+-- values whose bytes begin with those of others, which are no more, begin with them
+values_part : (vs xs : List Value) (a b : List ℕ) → ArePlain vs → ArePlain xs → length vs ≤ length xs → values_bytes xs ++ a ≡ values_bytes vs ++ b → take (length vs) xs ≡ vs
+values_part [] xs a b pv px few e = refl
+values_part (v ∷ vs) [] a b pv px few e = absurd (omega (arith, few))
+values_part (v ∷ vs) (x ∷ xs) a b pv px few e =
+    let one = value_form x v (values_bytes xs ++ a) (values_bytes vs ++ b) px.0 pv.0 (sym (append_assoc (value_bytes x) (values_bytes xs) a) ∙ e ∙ append_assoc (value_bytes v) (values_bytes vs) b) in
+    ap (λ (y : Value). y ∷ take (length vs) xs) one.0 ∙ ap (λ (ys : List Value). v ∷ ys) (values_part vs xs a b pv.1 px.1 (omega (arith, few)) one.1)
 
--- a key that has so many values and starts with one begins with their number and this one
-module _ (wid rel n : ℕ) (v : Value) where
-  abbrev front : List ℕ
-  front = num_bytes wid ++ num_bytes rel ++ num_bytes n ++ value_bytes v
+values_append : (xs ys : List Value) → values_bytes (xs ++ ys) ≡ values_bytes xs ++ values_bytes ys
+values_append [] ys = refl
+values_append (x ∷ xs) ys = ap (λ (r : List ℕ). value_bytes x ++ r) (values_append xs ys) ∙ sym (append_assoc (value_bytes x) (values_bytes xs) (values_bytes ys))
 
-  front_begins : (vs : List Value) (tid : ℕ) → starts_with n v vs ≡ true → is_prefix front (val_bytes (wid, rel, vs, tid)) ≡ true
-  front_begins [] tid e = absurd (false≢true e)
-  front_begins (x ∷ xs) tid e =
-      let m = length (x ∷ xs) in
-      let p = and_parts (nat_eq m n) (same_value x v) e in
-      let whole = val_bytes (wid, rel, x ∷ xs, tid) in
-      ap (λ (k : ℕ). is_prefix (num_bytes wid ++ num_bytes rel ++ num_bytes k ++ value_bytes v) whole) (sym (eqb-true m n p.0))
-      ∙ ap (λ (y : Value). is_prefix (num_bytes wid ++ num_bytes rel ++ num_bytes m ++ value_bytes y) whole) (sym ((same_value-Decides x v).0 p.1))
-      ∙ ap (λ (tail : List ℕ). is_prefix (num_bytes wid ++ num_bytes rel ++ num_bytes m ++ value_bytes x) (num_bytes wid ++ num_bytes rel ++ num_bytes m ++ tail))
-      (append_assoc (value_bytes x) (values_bytes xs) (num_bytes tid))
-      ∙ prefix_append (num_bytes wid ++ num_bytes rel ++ num_bytes m ++ value_bytes x) (values_bytes xs ++ num_bytes tid)
+-- a key that has so many values and starts with some begins with their number and these
+module _ (wid rel n : ℕ) (vs : List Value) where
+  begins_with : (rest : List Value) (tid : ℕ) → length (vs ++ rest) ≡ n → is_prefix (beginning n wid rel vs) (val_bytes (wid, rel, vs ++ rest, tid)) ≡ true
+  begins_with rest tid many =
+      let m = length (vs ++ rest) in
+      ap (λ (k : ℕ). is_prefix (beginning k wid rel vs) (val_bytes (wid, rel, vs ++ rest, tid))) (sym many)
+      ∙ ap (λ (tail : List ℕ). is_prefix (beginning m wid rel vs) (num_bytes wid ++ num_bytes rel ++ num_bytes m ++ tail))
+      (ap (λ (r : List ℕ). r ++ num_bytes tid) (values_append vs rest) ∙ append_assoc (values_bytes vs) (values_bytes rest) (num_bytes tid))
+      ∙ prefix_append (beginning m wid rel vs) (values_bytes rest ++ num_bytes tid)
+
+  front_begins : (key : List Value) (tid : ℕ) → starts_with n vs key ≡ true → is_prefix (beginning n wid rel vs) (val_bytes (wid, rel, key, tid)) ≡ true
+  front_begins key tid e =
+      let p = started n vs key e in
+      let split : key ≡ vs ++ drop (length vs) key = sym (take_and_drop (length vs) key) ∙ ap (λ (xs : List Value). xs ++ drop (length vs) key) p.1 in
+      ap (λ (xs : List Value). is_prefix (beginning n wid rel vs) (val_bytes (wid, rel, xs, tid))) split ∙ begins_with (drop (length vs) key) tid (sym (ap length split) ∙ p.0)
 
   -- and the other way round
-  front_starts : (vs : List Value) (tid : ℕ) (rest : List ℕ) → 0 < n → IsNum n → IsPlainValue v → AreKeyVals vs → vals_bytes vs ++ num_bytes tid ≡ num_bytes n ++ value_bytes v ++ rest
-      → starts_with n v vs ≡ true
-  front_starts [] tid rest some num plain k e =
-      let one = num_form 0 n (num_bytes tid) (value_bytes v ++ rest) k.short num e in
-      let none : 0 ≡ n = one.0 in
-      absurd (omega (arith, some, none))
-  front_starts (x ∷ xs) tid rest some num plain k e =
-      let m = length (x ∷ xs) in
-      let one = num_form m n (values_bytes (x ∷ xs) ++ num_bytes tid) (value_bytes v ++ rest) k.short num e in
-      let two = value_form x v (values_bytes xs ++ num_bytes tid) rest k.plain.0 plain (sym (append_assoc (value_bytes x) (values_bytes xs) (num_bytes tid)) ∙ one.1) in
-      and_from (nat_eq m n) (same_value x v) (eq-eqb m n one.0) ((same_value-Decides x v).1 two.0)
+  front_starts : (key : List Value) (tid : ℕ) (rest : List ℕ) → length vs ≤ n → IsNum n → ArePlain vs → AreKeyVals key → vals_bytes key ++ num_bytes tid ≡ num_bytes n ++ (values_bytes vs ++ rest)
+      → starts_with n vs key ≡ true
+  front_starts key tid rest few num plain k e =
+      let one = num_form (length key) n (values_bytes key ++ num_bytes tid) (values_bytes vs ++ rest) k.short num e in
+      has_started n vs key one.0 (values_part vs key (num_bytes tid) rest plain k.plain (subst (λ m. length vs ≤ m) (sym one.0) few) one.1)
 
-value_span : (keys : ℕ → ℕ) → AreKeyLengths keys → (wid rel : ℕ) (v : Value) → IsNum wid → IsNum rel → 0 < keys rel → IsPlainValue v
-    → IsSpan keys wid (is_asked keys rel (Some v)) (beginning (keys rel) wid rel (Some v))
-value_span keys lengths wid rel v w r some p = record {
+-- the keys of a world's rows whose tuples are asked for are those that begin so
+pub asked_span : (keys : ℕ → ℕ) → AreKeyLengths keys → (wid rel : ℕ) (vs : List Value) → IsNum wid → IsNum rel → length vs ≤ keys rel → ArePlain vs
+    → IsSpan keys wid (is_asked keys rel vs) (beginning (keys rel) wid rel vs)
+asked_span keys lengths wid rel vs w r few p = record {
   world = λ k f e.
-      let s = prefix_rest (front wid rel (keys rel) v) (val_bytes k) e in
-      (num_form k.0 wid (num_bytes k.1 ++ vals_bytes k.2 ++ num_bytes k.3) (num_bytes rel ++ num_bytes (keys rel) ++ value_bytes v ++ s.0) f.world w s.1).0;
+      let s = prefix_rest (beginning (keys rel) wid rel vs) (val_bytes k) e in
+      (num_form k.0 wid (num_bytes k.1 ++ vals_bytes k.2 ++ num_bytes k.3) (num_bytes rel ++ num_bytes (keys rel) ++ (values_bytes vs ++ s.0)) f.world w s.1).0;
   begins = λ tid u e.
-      let k = and_parts (nat_eq u.rel rel) (starts_with (keys rel) v (key_of keys u)) e in
-      ap (λ (x : ℕ). is_prefix (front wid rel (keys rel) v) (val_bytes (wid, x, key_of keys u, tid))) (eqb-true u.rel rel k.0)
-      ∙ front_begins wid rel (keys rel) v (key_of keys u) tid k.1;
+      let k = and_parts (nat_eq u.rel rel) (starts_with (keys rel) vs (key_of keys u)) e in
+      ap (λ (x : ℕ). is_prefix (beginning (keys rel) wid rel vs) (val_bytes (wid, x, key_of keys u, tid))) (eqb-true u.rel rel k.0)
+      ∙ front_begins wid rel (keys rel) vs (key_of keys u) tid k.1;
   inside = λ tid u g e.
-      let s = prefix_rest (front wid rel (keys rel) v) (val_bytes (row_key keys wid tid u)) e in
-      let one = num_form wid wid (num_bytes u.rel ++ vals_bytes (key_of keys u) ++ num_bytes tid) (num_bytes rel ++ num_bytes (keys rel) ++ value_bytes v ++ s.0) w w s.1 in
-      let two = num_form u.rel rel (vals_bytes (key_of keys u) ++ num_bytes tid) (num_bytes (keys rel) ++ value_bytes v ++ s.0) g.rel r one.1 in
-      and_from (nat_eq u.rel rel) (starts_with (keys rel) v (key_of keys u)) (eq-eqb u.rel rel two.0)
-      (front_starts wid rel (keys rel) v (key_of keys u) tid s.0 some (lengths rel r) p (key_of_fits keys lengths u g) two.1);
+      let s = prefix_rest (beginning (keys rel) wid rel vs) (val_bytes (row_key keys wid tid u)) e in
+      let one = num_form wid wid (num_bytes u.rel ++ vals_bytes (key_of keys u) ++ num_bytes tid) (num_bytes rel ++ num_bytes (keys rel) ++ (values_bytes vs ++ s.0)) w w s.1 in
+      let two = num_form u.rel rel (vals_bytes (key_of keys u) ++ num_bytes tid) (num_bytes (keys rel) ++ (values_bytes vs ++ s.0)) g.rel r one.1 in
+      and_from (nat_eq u.rel rel) (starts_with (keys rel) vs (key_of keys u)) (eq-eqb u.rel rel two.0)
+      (front_starts wid rel (keys rel) vs (key_of keys u) tid s.0 few (lengths rel r) p (key_of_fits keys lengths u g) two.1);
 }
 
-pub asked_span : (keys : ℕ → ℕ) → AreKeyLengths keys → (wid rel : ℕ) (key : Option Value) → IsNum wid → IsNum rel → 0 < keys rel → MatchOption key (Unit {0}) IsPlainValue
-    → IsSpan keys wid (is_asked keys rel key) (beginning (keys rel) wid rel key)
-asked_span keys lengths wid rel None w r some p = rel_span keys wid rel w r
-asked_span keys lengths wid rel (Some v) w r some p = value_span keys lengths wid rel v w r some p
+-- ---- values that are put one behind the other
 
--- the parts are put one behind the other
-pub beginning_put : (wid rel n : ℕ) (v : Value) (before one two three four : List ℕ) → one ≡ before ++ num_bytes wid → two ≡ one ++ num_bytes rel → three ≡ two ++ num_bytes n
-    → four ≡ three ++ value_bytes v → four ≡ before ++ beginning n wid rel (Some v)
-beginning_put wid rel n v before one two three four a b c d =
-    let ends = num_bytes n ++ value_bytes v in
-    d ∙ ap (λ (xs : List ℕ). xs ++ value_bytes v) (c ∙ ap (λ (xs : List ℕ). xs ++ num_bytes n) (b ∙ ap (λ (xs : List ℕ). xs ++ num_bytes rel) a))
-    ∙ append_assoc (before ++ num_bytes wid ++ num_bytes rel) (num_bytes n) (value_bytes v)
-    ∙ append_assoc (before ++ num_bytes wid) (num_bytes rel) ends
-    ∙ append_assoc before (num_bytes wid) (num_bytes rel ++ ends)
+plain_value : (v : Value) → is_written v ≡ true → IsWhole v → IsPlainValue v
+plain_value (Int m) w h = h
+plain_value (Text t) w h = w
+
+append_nil : (xs : List ℕ) → xs ≡ xs ++ []
+append_nil [] = refl
+append_nil (x ∷ xs) = ap (λ (r : List ℕ). x ∷ r) (append_nil xs)
+
+-- nothing is asked for
+pub put_none : (old : List ℕ) (vs : List Value) → vs ≡ [] → HasPutValues true old old vs
+put_none old vs e = subst (HasPutValues true old old) (sym e) (append_nil old, tt)
+
+-- a value that no tuple has is asked for first
+pub put_unwritten : (old new : List ℕ) (v : Value) (vs : List Value) → is_written v ≡ false → HasPutValues false old new (v ∷ vs)
+put_unwritten old new v vs e = ap (λ b. b && list_all is_written vs) e
+
+-- one that tuples may have was put, and then the others
+pub put_more : (all : Bool) (old mid new : List ℕ) (v : Value) (vs : List Value) → is_written v ≡ true → IsWhole v → mid ≡ old ++ value_bytes v → HasPutValues all mid new vs → HasPutValues all old new (v ∷ vs)
+put_more true old mid new v vs w whole e h = (
+  h.0 ∙ ap (λ (x : List ℕ). x ++ values_bytes vs) e ∙ append_assoc old (value_bytes v) (values_bytes vs),
+  (plain_value v w whole, h.1),
+)
+put_more false old mid new v vs w whole e h = ap (λ b. b && list_all is_written vs) w ∙ h
+
+module _ (conds : List Cond) where
+  -- no more values are asked for than the key has columns
+  pub few_asked : (n : ℕ) → length (values_asked conds n) ≤ n
+  few_asked n = few_from conds n 0
+
+  -- at first all columns are left
+  pub all_columns : (n : ℕ) → values_from conds (n - 0) 0 ≡ values_asked conds n
+  all_columns n = ap (λ k. values_from conds k 0) (all n)
+    where
+      all : (n : ℕ) → n - 0 ≡ n
+      all n = omega arith
+
+  -- where no column is left, nothing is asked for
+  pub none_left : (n col : ℕ) → n ≤ col → values_from conds (n - col) col ≡ []
+  none_left n col le = ap (λ k. values_from conds k col) (nothing n col le)
+    where
+      nothing : (n col : ℕ) → n ≤ col → n - col ≡ 0
+      nothing n col le = omega (arith, le)
+
+  -- what is asked for from a column on
+  pub from_column : (n col : ℕ) (o : Option Value) → col < n → o ≡ value_asked conds col → values_from conds (n - col) col ≡ led_by o (values_from conds (n - (col + 1)) (col + 1))
+  from_column n col o lt e =
+      ap (λ k. values_from conds k col) (one_more n col lt)
+      ∙ ap (λ p. led_by p (values_from conds (n - (col + 1)) (suc col))) (sym e)
+      ∙ ap (λ k. led_by o (values_from conds (n - (col + 1)) k)) (next col)
+    where
+      one_more : (n col : ℕ) → col < n → n - col ≡ suc (n - (col + 1))
+      one_more n col lt = omega (arith, lt)
+
+      next : (col : ℕ) → suc col ≡ col + 1
+      next col = omega arith

@@ -28,7 +28,7 @@ use Rattle.bdb_base.proofs.SetLemmas.{is_eq-Equal, is_eq_itself, filter_keeps_or
 use Rattle.bdb_base.proofs.WorldLemmas.{explicit_tuple}
 use Rattle.bdb_keep.specs.Seen.{Seen}
 use Rattle.bdb_keep.specs.Tables.{Tables}
-use Rattle.bdb_key.specs.Grammar.{IsNum, IsPlainValue}
+use Rattle.bdb_key.specs.Grammar.{IsNum, ArePlain}
 use Rattle.bdb_key.specs.Rows.{IsTupleRow}
 use Rattle.bdb_paths.proofs.SuffixLemmas.{deepest_of_member}
 use Rattle.bdb_tables.specs.InUse.{val_codec}
@@ -48,8 +48,8 @@ use Rattle.bdb_val.proofs.HeldLemmas.{some_is}
 use Rattle.bdb_worlds.specs.Bounds.{RisesWithin}
 use Rattle.bdb_catalog.specs.Bases.{HasUsers}
 use Rattle.bdb_catalog.specs.Showing.{FindsState, IsStateOf}
-use Rattle.bdb_catalog.specs.Taking.{AreTuplesRead, AreTuplesOf, beginning, is_asked, is_said, key_asked, may_be_there, rows_asked, rows_said, statement_at, statements_of}
-use Rattle.bdb_catalog.proofs.AskingLemmas.{meets_asked, asked_rel, asked_span, none_meets, HasWholeKey}
+use Rattle.bdb_catalog.specs.Taking.{AreTuplesRead, AreTuplesOf, beginning, is_asked, is_said, is_written, rows_asked, rows_said, statement_at, statements_of, values_asked}
+use Rattle.bdb_catalog.proofs.AskingLemmas.{meets_asked, asked_rel, asked_span, few_asked, none_meets}
 use Rattle.bdb_catalog.proofs.RowLemmas.{tuples_are_stated, stated_are_read, rows_within, tuples_within, as_many}
 use Rattle.bdb_catalog.proofs.ShowingLemmas.{nothing_explicit}
 
@@ -204,20 +204,6 @@ module _ (stmts : List Stmt) (w : List ℕ) (s : Sign) (rel : ℕ) (conds : List
 
 -- ---- keys
 
--- each key of a valid base has a value
-some_key : (b : Contents) → IsValid b.catalog b.stmts → (rel : ℕ) → 0 < keys_of b rel
-some_key b valid rel = by (slice_get b.catalog.rels rel) refl
-  where
-    one : 0 < 1
-    one = omega arith
-
-    some : (n : ℕ) → 1 ≤ n → 0 < n
-    some n l = omega (arith, l)
-
-    by : (o : Option RelDef) → slice_get b.catalog.rels rel ≡ o → 0 < key_at o
-    by None e = one
-    by (Some def) e = some def.key (relation_row def (list_all_get is_valid_relation b.catalog.rels rel def valid.catalog.rels_valid e)).key.0
-
 as_many_values : (cols : List ColDef) (vals : List Value) → fits_columns cols vals ≡ true → length vals ≡ length cols
 as_many_values [] [] h = refl
 as_many_values [] (v ∷ vals) h = absurd (false≢true h)
@@ -235,8 +221,8 @@ stated_fits c (x ∷ xs) u all any =
     ]
 
 -- and a tuple that fits its relation has all of its key
-whole_key : (b : Contents) → IsValid b.catalog b.stmts → (u : Tuple) → fits_relation b.catalog.rels u ≡ true → HasWholeKey (keys_of b) u
-whole_key b valid u fits = record { some = some_key b valid u.rel; within = by (slice_get b.catalog.rels u.rel) refl fits }
+whole_key : (b : Contents) → IsValid b.catalog b.stmts → (u : Tuple) → fits_relation b.catalog.rels u ≡ true → keys_of b u.rel ≤ length u.vals
+whole_key b valid u fits = by (slice_get b.catalog.rels u.rel) refl fits
   where
     enough : (n m k : ℕ) → n ≤ m → k ≡ m → n ≤ k
     enough n m k l e = omega (arith, l, e)
@@ -282,19 +268,25 @@ module _ (t : Tables) (w : List ℕ) (wid : ℕ) (own : Bool) (state : FindsStat
       subst (λ o. MatchOption o (Unit {0}) IsTupleRow) named (stored.tuples.tuples.written number.0 (stored.tuples.sized number.0 u named))
 
   -- nor has any with a value that no tuple has
-  pub none_with_key : may_be_there (key_asked conds) ≡ false → [] ≡ taken_by w s rel conds b.stmts
-  none_with_key out = statements_are_taken b.stmts w s rel conds [] tt none has.base.valid.stmts.sorted
+  pub none_with_values : (n : ℕ) → list_all is_written (values_asked conds n) ≡ false → [] ≡ taken_by w s rel conds b.stmts
+  none_with_values n out = statements_are_taken b.stmts w s rel conds [] tt none has.base.valid.stmts.sorted
     where
       none : (u : Tuple) → explicit b.stmts w u s ≡ true → nat_eq u.rel rel ≡ true → meets conds u ≡ true → list_any (same_tuple u) [] ≡ true
-      none u x r m = absurd (none_meets conds u (stated_row u x) out m)
+      none u x r m = absurd (none_meets conds n u (stated_row u x) out m)
 
-  module _ (yes : own ≡ true) (nr : IsNum rel) (n : ℕ) (long : IsKeyLength t rel n) (old new : Seen) (same : old.kept ≡ t) (plain : MatchOption (key_asked conds) (Unit {0}) IsPlainValue) (us : List Tuple)
-      (read : AreTuplesRead old new (beginning n wid rel (key_asked conds)) s us) where
+  module _ (yes : own ≡ true) (nr : IsNum rel) (n : ℕ) (long : IsKeyLength t rel n) (old new : Seen) (same : old.kept ≡ t) (us : List Tuple)
+      (plain : ArePlain (values_asked conds n)) (read : AreTuplesRead old new (beginning n wid rel (values_asked conds n)) s us) where
     lengths : AreKeyLengths (keys_of b)
     lengths = lengths_fit t b.catalog.rels stored.rels
 
-    was_read : AreTuplesRead old new (beginning (keys_of b rel) wid rel (key_asked conds)) s us
-    was_read = subst (λ k. AreTuplesRead old new (beginning k wid rel (key_asked conds)) s us) (long b.catalog.rels stored.rels) read
+    abbrev vs : List Value
+    vs = values_asked conds (keys_of b rel)
+
+    are_plain : ArePlain vs
+    are_plain = subst (λ k. ArePlain (values_asked conds k)) (long b.catalog.rels stored.rels) plain
+
+    was_read : AreTuplesRead old new (beginning (keys_of b rel) wid rel vs) s us
+    was_read = subst (λ k. AreTuplesRead old new (beginning k wid rel (values_asked conds k)) s us) (long b.catalog.rels stored.rels) read
 
     number : number_of ns w ≡ Some wid
     number = ap (number_of ns) (sym (deepest_of_member (is_named ns) w (sym is.own ∙ yes))) ∙ is.number
@@ -305,42 +297,42 @@ module _ (t : Tables) (w : List ℕ) (wid : ℕ) (own : Bool) (state : FindsStat
     small : IsNum wid
     small = stored.states.names.sized w wid number
 
-    span : IsSpan (keys_of b) wid (is_asked (keys_of b) rel (key_asked conds)) (beginning (keys_of b rel) wid rel (key_asked conds))
-    span = asked_span (keys_of b) lengths wid rel (key_asked conds) small nr (some_key b has.base.valid rel) plain
+    span : IsSpan (keys_of b) wid (is_asked (keys_of b) rel vs) (beginning (keys_of b rel) wid rel vs)
+    span = asked_span (keys_of b) lengths wid rel vs small nr (few_asked conds (keys_of b rel)) are_plain
 
-    under : AreUnder val_codec t (beginning (keys_of b rel) wid rel (key_asked conds)) was_read.rows
-    under = subst (λ u. AreUnder val_codec u (beginning (keys_of b rel) wid rel (key_asked conds)) was_read.rows) same was_read.under
+    under : AreUnder val_codec t (beginning (keys_of b rel) wid rel vs) was_read.rows
+    under = subst (λ u. AreUnder val_codec u (beginning (keys_of b rel) wid rel vs) was_read.rows) same was_read.under
 
     told : AreTuplesOf t (filter (is_said s) was_read.rows) us
     told = subst (λ u. AreTuplesOf u (filter (is_said s) was_read.rows) us) same was_read.told
 
-    of_rel : (vs : List Tuple) → AllByRecursion (λ u. (explicit b.stmts w u s ≡ true) × (is_asked (keys_of b) rel (key_asked conds) u ≡ true)) vs
-        → AllByRecursion (λ u. (explicit b.stmts w u s ≡ true) × (nat_eq u.rel rel ≡ true)) vs
+    of_rel : (xs : List Tuple) → AllByRecursion (λ u. (explicit b.stmts w u s ≡ true) × (is_asked (keys_of b) rel vs u ≡ true)) xs
+        → AllByRecursion (λ u. (explicit b.stmts w u s ≡ true) × (nat_eq u.rel rel ≡ true)) xs
     of_rel [] a = tt
-    of_rel (u ∷ vs) a = ((a.0.0, asked_rel (keys_of b) rel (key_asked conds) u a.0.1), of_rel vs a.1)
+    of_rel (u ∷ xs) a = ((a.0.0, asked_rel (keys_of b) rel vs u a.0.1), of_rel xs a.1)
 
     pub read_are_taken : statements_of w s conds us ≡ taken_by w s rel conds b.stmts
     read_are_taken =
         statements_are_taken b.stmts w s rel conds us
-        (of_rel us (tuples_are_stated (keys_of b) b.stmts ns ts t lengths (consistent b has.base.valid) stored.tuples stored.rows wid small w path s (is_asked (keys_of b) rel (key_asked conds))
-        (beginning (keys_of b rel) wid rel (key_asked conds)) span was_read.rows us under told))
-        (λ u x r m. stated_are_read (keys_of b) b.stmts ns ts t lengths (consistent b has.base.valid) stored.tuples stored.rows wid small w path s (is_asked (keys_of b) rel (key_asked conds))
-        (beginning (keys_of b rel) wid rel (key_asked conds)) span was_read.rows us under told u x (meets_asked (keys_of b) conds rel u (whole_key b has.base.valid u (stated_fits b.catalog b.stmts u has.base.valid.stmts.belong (explicit_tuple b.stmts w u s x))) r m))
+        (of_rel us (tuples_are_stated (keys_of b) b.stmts ns ts t lengths (consistent b has.base.valid) stored.tuples stored.rows wid small w path s (is_asked (keys_of b) rel vs)
+        (beginning (keys_of b rel) wid rel vs) span was_read.rows us under told))
+        (λ u x r m. stated_are_read (keys_of b) b.stmts ns ts t lengths (consistent b has.base.valid) stored.tuples stored.rows wid small w path s (is_asked (keys_of b) rel vs)
+        (beginning (keys_of b rel) wid rel vs) span was_read.rows us under told u x (meets_asked (keys_of b) conds rel u (whole_key b has.base.valid u (stated_fits b.catalog b.stmts u has.base.valid.stmts.belong (explicit_tuple b.stmts w u s x))) r m))
         has.base.valid.stmts.sorted
 
-    few_rows : length was_read.rows ≤ length (rows_asked (key_lengths b.catalog.rels) rel (key_asked conds) (world_of (key_lengths b.catalog.rels) b.stmts w))
-    few_rows = rows_within (keys_of b) b.stmts ns ts t lengths (consistent b has.base.valid) stored.tuples stored.rows wid small w path s (is_asked (keys_of b) rel (key_asked conds))
-        (beginning (keys_of b rel) wid rel (key_asked conds)) span was_read.rows under
+    few_rows : length was_read.rows ≤ length (rows_asked (key_lengths b.catalog.rels) rel conds (world_of (key_lengths b.catalog.rels) b.stmts w))
+    few_rows = rows_within (keys_of b) b.stmts ns ts t lengths (consistent b has.base.valid) stored.tuples stored.rows wid small w path s (is_asked (keys_of b) rel vs)
+        (beginning (keys_of b rel) wid rel vs) span was_read.rows under
 
-    few_tuples : length us ≤ length (rows_said (key_lengths b.catalog.rels) s rel (key_asked conds) (world_of (key_lengths b.catalog.rels) b.stmts w))
+    few_tuples : length us ≤ length (rows_said (key_lengths b.catalog.rels) s rel conds (world_of (key_lengths b.catalog.rels) b.stmts w))
     few_tuples =
-        let within = tuples_within (keys_of b) b.stmts ns ts t lengths (consistent b has.base.valid) stored.tuples stored.rows wid small w path s (is_asked (keys_of b) rel (key_asked conds))
-        (beginning (keys_of b rel) wid rel (key_asked conds)) span was_read.rows us under told in
-        subst (λ n. n ≤ length (rows_said (key_lengths b.catalog.rels) s rel (key_asked conds) (world_of (key_lengths b.catalog.rels) b.stmts w))) (sym (as_many t (filter (is_said s) was_read.rows) us told)) within
+        let within = tuples_within (keys_of b) b.stmts ns ts t lengths (consistent b has.base.valid) stored.tuples stored.rows wid small w path s (is_asked (keys_of b) rel vs)
+        (beginning (keys_of b rel) wid rel vs) span was_read.rows us under told in
+        subst (λ n. n ≤ length (rows_said (key_lengths b.catalog.rels) s rel conds (world_of (key_lengths b.catalog.rels) b.stmts w))) (sym (as_many t (filter (is_said s) was_read.rows) us told)) within
 
     pub reads_are_few : (a : ℕ) → old.reads ≤ new.reads → RisesWithin (length w + 2) a old.reads
-        → RisesWithin (length w + length (rows_asked (key_lengths b.catalog.rels) rel (key_asked conds) (world_of (key_lengths b.catalog.rels) b.stmts w))
-        + length (rows_said (key_lengths b.catalog.rels) s rel (key_asked conds) (world_of (key_lengths b.catalog.rels) b.stmts w)) + 3) a new.reads
+        → RisesWithin (length w + length (rows_asked (key_lengths b.catalog.rels) rel conds (world_of (key_lengths b.catalog.rels) b.stmts w))
+        + length (rows_said (key_lengths b.catalog.rels) s rel conds (world_of (key_lengths b.catalog.rels) b.stmts w)) + 3) a new.reads
     reads_are_few a le first =
-        reads_all (length w) (length (rows_asked (key_lengths b.catalog.rels) rel (key_asked conds) (world_of (key_lengths b.catalog.rels) b.stmts w)))
-        (length (rows_said (key_lengths b.catalog.rels) s rel (key_asked conds) (world_of (key_lengths b.catalog.rels) b.stmts w))) (length was_read.rows) (length us) a old.reads new.reads le first was_read.reads few_rows few_tuples
+        reads_all (length w) (length (rows_asked (key_lengths b.catalog.rels) rel conds (world_of (key_lengths b.catalog.rels) b.stmts w)))
+        (length (rows_said (key_lengths b.catalog.rels) s rel conds (world_of (key_lengths b.catalog.rels) b.stmts w))) (length was_read.rows) (length us) a old.reads new.reads le first was_read.reads few_rows few_tuples

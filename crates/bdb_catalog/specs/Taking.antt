@@ -1,12 +1,14 @@
 -- The statements that a delete or an update takes, as they are read from the rows of the world of their path.
-use Rattle.std.specs.Prelude.{◌≡◌, ℕ, ◌+◌, ◌≤◌, Bool, true, false, ◌&&◌, nat_eq, List, [], ◌∷◌, ◌++◌, length, map, filter, Option, None, Some, cond}
+use Rattle.std.specs.Prelude.{◌≡◌, ℕ, suc, ◌+◌, ◌≤◌, Bool, true, false, ◌&&◌, nat_eq, List, [], ◌∷◌, ◌++◌, length, map, filter, take, Option, None, Some, cond}
+use Prim.Native.Nat.{zero}
+use Rattle.std.specs.List.{list_all}
 use Rattle.bdb_base.specs.Bases.{Contents, is_plain, key_lengths}
 use Rattle.bdb_base.specs.Changes.{taken_by}
 use Rattle.bdb_base.specs.Clash.{key_of}
 use Rattle.bdb_base.specs.Conditions.{meets}
 use Rattle.bdb_base.specs.Order.{statement_cmp}
 use Rattle.bdb_base.specs.Safety.{is_equality}
-use Rattle.bdb_base.specs.Same.{same_sign, same_value}
+use Rattle.bdb_base.specs.Same.{same_sign, same_values}
 use Rattle.bdb_base.specs.SortedSet.{put_all}
 use Rattle.bdb_base.specs.WorldRows.{world_of}
 use Rattle.bdb_base.specs.declared.kinds.Cond.{Cond}
@@ -20,7 +22,8 @@ use Rattle.bdb_base.specs.declared.kinds.Value.TheVariants.{Int, Text}
 use Rattle.bdb_base.specs.declared.tuple.Tuple.{Tuple}
 use Rattle.bdb_keep.specs.Seen.{Seen}
 use Rattle.bdb_keep.specs.Tables.{Tables}
-use Rattle.bdb_key.specs.Bytes.{num_bytes, value_bytes}
+use Rattle.bdb_key.specs.Bytes.{num_bytes, values_bytes}
+use Rattle.bdb_key.specs.Grammar.{ArePlain}
 use Rattle.bdb_tables.specs.Codec.{HasRow}
 use Rattle.bdb_tables.specs.InUse.{ValKey, tuple_codec, val_codec}
 use Rattle.bdb_tables.specs.Marks.{Mark}
@@ -32,54 +35,67 @@ use Rattle.bdb_catalog.specs.Bases.{HasUsers}
 abbrev pub AreTaken : Tables → List ℕ → Sign → ℕ → List Cond → List Stmt → Type 0
 AreTaken t w s rel conds xs = (b : Contents) → HasUsers t w b → xs ≡ taken_by w s rel conds b.stmts
 
--- ---- the value of the first column
+-- ---- what tests ask for
 
 -- the value of a literal
 abbrev pub literal_of : Operand → Option Value
 literal_of (Col r) = None
 literal_of (Lit v) = Some v
 
--- a test asks for equality of the first column
-abbrev pub asks_for_first : Cond → Bool
-asks_for_first c = is_equality c.cmp && (nat_eq c.left.item 0 && nat_eq c.left.col 0)
+-- a test asks for equality of a column
+abbrev pub asks_for : Cond → ℕ → Bool
+asks_for c col = is_equality c.cmp && (nat_eq c.left.item 0 && nat_eq c.left.col col)
 
--- the value that a test asks for of the first column, where it is a literal
-abbrev pub key_of_test : Cond → Option Value
-key_of_test c = cond (asks_for_first c) (literal_of c.right) None
+-- the value that a test asks for of a column, where it is a literal
+abbrev pub value_of_test : Cond → ℕ → Option Value
+value_of_test c col = cond (asks_for c col) (literal_of c.right) None
 
 abbrev pub first_there : Option Value → Option Value → Option Value
 first_there None o = o
 first_there (Some v) o = Some v
 
--- the value that tests ask for of the first column: that of the first test that asks for one
-abbrev pub key_asked : List Cond → Option Value
-key_asked [] = None
-key_asked (c ∷ cs) = first_there (key_of_test c) (key_asked cs)
+-- the value that tests ask for of a column: that of the first test that asks for one
+abbrev pub value_asked : List Cond → ℕ → Option Value
+value_asked [] col = None
+value_asked (c ∷ cs) col = first_there (value_of_test c col) (value_asked cs col)
+
+-- ---- beginnings of keys
+
+-- a value before others; none of them where there is none
+abbrev pub led_by : Option Value → List Value → List Value
+led_by None vs = []
+led_by (Some v) vs = v ∷ vs
+
+-- the values that are asked for of at most so many columns from one on, up to the first of which none is asked for
+abbrev pub values_from : List Cond → ℕ → ℕ → List Value
+values_from conds zero col = []
+values_from conds (suc most) col = led_by (value_asked conds col) (values_from conds most (suc col))
+
+-- the values that are asked for of the first columns of a key that has so many: as long a beginning of the key as there is
+abbrev pub values_asked : List Cond → ℕ → List Value
+values_asked conds n = values_from conds n 0
 
 -- a value is one that tuples may have: a text has to be plain
 abbrev pub is_written : Value → Bool
 is_written (Int n) = true
 is_written (Text t) = is_plain t
 
--- what is asked for is a value that tuples may have
-abbrev pub may_be_there : Option Value → Bool
-may_be_there None = true
-may_be_there (Some v) = is_written v
+-- The bytes of plain values were appended, unless one of them is a value that no tuple has.
+abbrev pub HasPutValues : Bool → List ℕ → List ℕ → List Value → Type 0
+HasPutValues true old new vs = (new ≡ old ++ values_bytes vs) × ArePlain vs
+HasPutValues false old new vs = list_all is_written vs ≡ false
 
--- values are so many, and the first of them is a value
-abbrev pub starts_with : ℕ → Value → List Value → Bool
-starts_with n v [] = false
-starts_with n v (x ∷ xs) = nat_eq (length (x ∷ xs)) n && same_value x v
+-- a key is so long, and its first values are these
+abbrev pub starts_with : ℕ → List Value → List Value → Bool
+starts_with n vs key = nat_eq (length key) n && same_values (take (length vs) key) vs
 
--- a tuple is of a relation, and where a value is asked for its key, which is as long as the relation's keys, begins with it
-abbrev pub is_asked : (ℕ → ℕ) → ℕ → Option Value → Tuple → Bool
-is_asked keys rel None u = nat_eq u.rel rel
-is_asked keys rel (Some v) u = nat_eq u.rel rel && starts_with (keys rel) v (key_of keys u)
+-- a tuple is of a relation, and its key, which is as long as the relation's keys, begins with these values
+abbrev pub is_asked : (ℕ → ℕ) → ℕ → List Value → Tuple → Bool
+is_asked keys rel vs u = nat_eq u.rel rel && starts_with (keys rel) vs (key_of keys u)
 
--- how the keys of a world's rows begin whose tuples are asked for, by the length of the relation's keys
-abbrev pub beginning : ℕ → ℕ → ℕ → Option Value → List ℕ
-beginning n wid rel None = num_bytes wid ++ num_bytes rel
-beginning n wid rel (Some v) = num_bytes wid ++ num_bytes rel ++ num_bytes n ++ value_bytes v
+-- how the keys of a world's rows of a relation begin whose tuples have a key of some length that begins with these values
+abbrev pub beginning : ℕ → ℕ → ℕ → List Value → List ℕ
+beginning n wid rel vs = num_bytes wid ++ num_bytes rel ++ num_bytes n ++ values_bytes vs
 
 -- ---- rows and their tuples
 
@@ -111,18 +127,18 @@ statements_of w s conds us = put_all statement_cmp [] (map (statement_at w s) (f
 
 -- ---- how much is read
 
--- the rows of a world whose tuples are asked for
-abbrev pub rows_asked : (ℕ → ℕ) → ℕ → Option Value → List Held → List Held
-rows_asked keys rel key rows = filter (λ h. is_asked keys rel key h.tuple) rows
+-- the rows of a world whose tuples are of a relation and have a key that begins with the values that tests ask for
+abbrev pub rows_asked : (ℕ → ℕ) → ℕ → List Cond → List Held → List Held
+rows_asked keys rel conds rows = filter (λ h. is_asked keys rel (values_asked conds (keys rel)) h.tuple) rows
 
 -- those of them that are explicit, with this sign
-abbrev pub rows_said : (ℕ → ℕ) → Sign → ℕ → Option Value → List Held → List Held
-rows_said keys s rel key rows = filter (λ h. is_asked keys rel key h.tuple && (h.explicit && same_sign h.sign s)) rows
+abbrev pub rows_said : (ℕ → ℕ) → Sign → ℕ → List Cond → List Held → List Held
+rows_said keys s rel conds rows = filter (λ h. is_asked keys rel (values_asked conds (keys rel)) h.tuple && (h.explicit && same_sign h.sign s)) rows
 
 -- Whichever valid base the tables store with the users of a path: one read for each of these users, one for each row of the
--- world of the path whose tuple is asked for, one more for each of those that are explicit with the sign, and three, at most:
--- of how deep the path's state is, of the relation's key, and of no row behind the last.
-abbrev pub ReadsTaken : Seen → Seen → List ℕ → Sign → ℕ → Option Value → Type 0
-ReadsTaken old new w s rel key = (b : Contents) → HasUsers old.kept w b
-    → RisesWithin (length w + length (rows_asked (key_lengths b.catalog.rels) rel key (world_of (key_lengths b.catalog.rels) b.stmts w))
-    + length (rows_said (key_lengths b.catalog.rels) s rel key (world_of (key_lengths b.catalog.rels) b.stmts w)) + 3) old.reads new.reads
+-- world of the path whose tuple's key begins with the values that tests ask for, one more for each of those that are explicit
+-- with the sign, and three, at most: of how deep the path's state is, of the relation's key, and of no row behind the last.
+abbrev pub ReadsTaken : Seen → Seen → List ℕ → Sign → ℕ → List Cond → Type 0
+ReadsTaken old new w s rel conds = (b : Contents) → HasUsers old.kept w b
+    → RisesWithin (length w + length (rows_asked (key_lengths b.catalog.rels) rel conds (world_of (key_lengths b.catalog.rels) b.stmts w))
+    + length (rows_said (key_lengths b.catalog.rels) s rel conds (world_of (key_lengths b.catalog.rels) b.stmts w)) + 3) old.reads new.reads

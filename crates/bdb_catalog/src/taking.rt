@@ -1,31 +1,30 @@
 // The statements that a delete or an update takes.
-ghost use Rattle.std.specs.Prelude.{◌≡◌, ◌++◌, true, IfOk, OnOk, MatchOption, is_some};
+ghost use Rattle.std.specs.Prelude.{◌≡◌, ◌++◌, true, IfOk, OnOk, is_some};
 ghost use Rattle.std.specs.FinMap as tables;
-ghost use Rattle.std.specs.List.{list_all};
-ghost use Rattle.std.specs.Option.{option_copied};
 ghost use Rattle.bdb_base.specs.Causes.{RoseBy};
 ghost use Rattle.bdb_keep.specs.Calls.{IsRead};
 ghost use Rattle.bdb_keep.specs.Seen.{NeverFall, Steps};
-ghost use Rattle.bdb_key.specs.Grammar.{IsWhole};
+ghost use Rattle.bdb_key.specs.Bytes.{num_bytes};
 ghost use Rattle.bdb_tables.specs.Codec.{HasRow, place};
 ghost use Rattle.bdb_tables.specs.Grammar.{InGrammar};
 ghost use Rattle.bdb_tables.specs.InUse.{tuple_codec};
 ghost use Rattle.bdb_val.specs.Reads.{HaveTuples};
 ghost use Rattle.bdb_catalog.specs.Bases.{SomeHasUsers};
-ghost use Rattle.bdb_catalog.specs.Taking.{AreTaken, AreTuplesRead, ReadsTaken, beginning, is_said, key_asked, may_be_there, statements_of};
+ghost use Rattle.bdb_catalog.specs.Taking.{AreTaken, AreTuplesRead, HasPutValues, ReadsTaken, is_said, statements_of, values_asked};
 
-use crate::asking::{key_asked, may_be_there};
+use crate::asking::put_asked;
 use crate::showing::state_of;
 use bdb_base::{Cond, Exact, List, Path, Sign, Stmt, Tuple, Value, meets, put};
 use bdb_keep::Keeper;
-use bdb_key::{put_num, put_value};
+use bdb_key::put_num;
 use bdb_tables::{TabError, TupleTab, ValTab, get, rows_under, stored_key_length};
 use std::alloc::{AllocError, Global};
 
 /// The statements of exactly this path, sign and relation whose tuples meet all tests, in order. They are the explicit rows
 /// of the path's world, of which there are none where the path is no state. A read for each user of the path and for each
-/// row of its world and the relation, one more for each of these that is explicit with the sign, and three, at most. Where a
-/// test asks for a value of the first column, only the rows with this value are read.
+/// row of its world and the relation, one more for each of these that is explicit with the sign, and three, at most. Only
+/// those rows are read whose keys begin with the values that tests ask for by equality with a literal, as many values as
+/// there are from the first column on.
 pub fn taken<K: Keeper>(
     alloc: Global,
     keeper: &mut K,
@@ -36,7 +35,7 @@ pub fn taken<K: Keeper>(
 ) -> Result<List<Stmt>, TabError>
     requires base { SomeHasUsers (K.seen keeper.old).kept path.now }
     ensures taken { IfOk result (AreTaken (K.seen keeper.old).kept path.now sign rel conds.now) }
-    ensures reads { OnOk result (ReadsTaken (K.seen keeper.old) (K.seen keeper.new) path.now sign rel (key_asked conds.now)) }
+    ensures reads { OnOk result (ReadsTaken (K.seen keeper.old) (K.seen keeper.new) path.now sign rel conds.now) }
     ensures kept { OnOk result ((K.seen keeper.new).kept ≡ (K.seen keeper.old).kept) }
     ensures writes { (K.seen keeper.new).writes ≡ (K.seen keeper.old).writes }
     ensures counts { NeverFall (K.seen keeper.old) (K.seen keeper.new) }
@@ -49,16 +48,21 @@ pub fn taken<K: Keeper>(
     if !own {
         return Ok(List::new(alloc));
     }
-    let conds = conds.as_slice();
-    let key = key_asked(conds);
-    if !may_be_there(key) {
-        return Ok(List::new(alloc));
-    }
     let n = match stored_key_length(alloc, keeper, rel) {
         Ok(n) => n,
         Err(error) => return Err(error),
     };
-    let tuples = match explicit_tuples(alloc, keeper, wid, sign, rel, n, key) {
+    let conds = conds.as_slice();
+    let mut prefix = Vec::new(alloc);
+    match put_beginning(&mut prefix, wid, rel, n, conds) {
+        Ok(true) => {}
+        Ok(false) => return Ok(List::new(alloc)),
+        Err(_) => {
+            keeper.undo();
+            return Err(TabError::Memory);
+        }
+    }
+    let tuples = match tuples_under(alloc, keeper, prefix.as_slice(), sign) {
         Ok(tuples) => tuples,
         Err(error) => return Err(error),
     };
@@ -71,56 +75,22 @@ pub fn taken<K: Keeper>(
     }
 }
 
-/// The tuples that a world's rows of a relation state with a sign; where a value is asked for, only those whose keys have the
-/// length `n` and begin with it.
-pub fn explicit_tuples<K: Keeper>(
-    alloc: Global,
-    keeper: &mut K,
-    wid: u32,
-    sign: Sign,
-    rel: u32,
-    n: u32,
-    key: Option<&Value>,
-) -> Result<Vec<Tuple>, TabError>
-    requires grammar { InGrammar (K.seen keeper.old).kept }
-    requires tuples { HaveTuples (K.seen keeper.old).kept }
-    ensures tuples { IfOk result (λ tuples. AreTuplesRead (K.seen keeper.old) (K.seen keeper.new) (beginning n wid rel (option_copied key.entry)) sign tuples.items) }
-    ensures whole { OnOk result (MatchOption (option_copied key.entry) (Unit {0}) IsWhole) }
-    ensures read { IsRead (K.seen keeper.old) (K.seen keeper.new) result TabError.Fault }
-{
-    let mut prefix = Vec::new(alloc);
-    if put_beginning(&mut prefix, wid, rel, n, key).is_err() {
-        keeper.undo();
-        return Err(TabError::Memory);
-    }
-    match tuples_under(alloc, keeper, prefix.as_slice(), sign) {
-        Ok(tuples) => Ok(tuples),
-        Err(error) => Err(error),
-    }
-}
-
-// How the keys of a world's rows of a relation begin; where a value is asked for, those of rows whose tuples have a key of
-// the length `n` that begins with it.
+// How the keys of those of a world's rows of a relation begin whose tuples have a key of the length `n` that begins with the
+// values that tests ask for. False where one of these is a value that no tuple has.
 fn put_beginning(
     prefix: &mut Vec<u8>,
     wid: u32,
     rel: u32,
     n: u32,
-    key: Option<&Value>,
-) -> Result<(), AllocError>
-    ensures bytes { OnOk result (prefix.new.items ≡ prefix.old.items ++ beginning n wid rel (option_copied key.entry)) }
-    ensures whole { OnOk result (MatchOption (option_copied key.entry) (Unit {0}) IsWhole) }
+    conds: &[Cond],
+) -> Result<bool, AllocError>
+    ensures { IfOk result (λ all. HasPutValues all (prefix.old.items ++ (num_bytes wid ++ num_bytes rel ++ num_bytes n)) prefix.new.items (values_asked conds.now n)) }
 {
     put_num(prefix, wid)?;
     put_num(prefix, rel)?;
-    match key {
-        Some(value) => {
-            put_num(prefix, n)?;
-            put_value(prefix, value)?;
-            Ok(())
-        }
-        None => Ok(()),
-    }
+    put_num(prefix, n)?;
+    let all = put_asked(prefix, n, conds)?;
+    Ok(all)
 }
 
 /// The tuples of those rows of worlds whose keys begin so that are explicit with a sign. A read for each row, one for each tuple,
