@@ -32,7 +32,6 @@ pub fn relations_get_a_length()
 {}
 
 /// A row that becomes a relation's told no length of a key, and the key of the relation has one column.
-#[tactic(auto, using(crate::proofs::SpellLemmas::relations_had_no_length))]
 pub fn relations_had_no_length()
     ensures { RelationsHadNoLength }
 {}
