@@ -1,0 +1,10 @@
+use Rattle.std.proofs.Common.{◌≡◌, sym, subst, rules}
+use Rattle.std.specs.FinMap as map
+use Rattle.bdb_tables.specs.Grammar.{InGrammar}
+use Rattle.bdb_tables.proofs.Held.{empty_in_grammar}
+use Rattle.bdb_tables_tests.proofs.tests.tables.lengths_of_keys_are_read.Goals as goal
+
+pub lengths_of_keys-requires-clause-grammar : goal.lengths_of_keys-requires-clause-grammar
+lengths_of_keys-requires-clause-grammar g c =
+    let e : c.begin.new.self.kept ≡ map.empty = search rules in
+    subst InGrammar (sym e) empty_in_grammar
