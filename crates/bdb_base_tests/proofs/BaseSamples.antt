@@ -10,17 +10,8 @@ use Rattle.bdb_base.specs.declared.kinds.RelDef.{RelDef}
 use Rattle.bdb_base.specs.declared.kinds.Sign.TheVariants.{Plus}
 use Rattle.bdb_base.specs.declared.kinds.Stmt.{Stmt}
 use Rattle.bdb_base.specs.declared.kinds.Value.TheVariants.{Int}
-use Rattle.bdb_base_tests.specs.BaseSamples.{sample_relation, sample_statement}
+use Rattle.bdb_base_tests.specs.BaseSamples.{sample_relation, sample_statement, first, second, third}
 use Rattle.bdb_base.specs.Bases.{Contents, IsValid, empty_contents, with_user, with_relation, without_last_user, without_last_relation, with_statement}
-
-abbrev pub first : Contents
-first = record empty_contents { catalog = with_user empty_contents.catalog (codes "Ann") }
-
-abbrev pub second : Contents
-second = record first { catalog = with_relation first.catalog sample_relation }
-
-abbrev pub third : Contents
-third = record second { stmts = with_statement second.stmts sample_statement }
 
 -- the names are text: each byte is below 128
 ascii_cons : (b : ℕ) (bs : List ℕ) → b < 128 → IsAscii bs → IsAscii (b ∷ bs)

@@ -1,6 +1,6 @@
 // The orders of values and paths, and a base to which a relation and a statement are added and taken away.
 ghost use Rattle.std.specs.Prelude.{◌≡◌, IfOk};
-ghost use Rattle.bdb_base_tests.specs.BaseSamples.{sample_relation, sample_statement};
+ghost use Rattle.bdb_base_tests.specs.BaseSamples.{sample_relation, sample_statement, second};
 
 use bdb_base::{
     Base, ColDef, Exact, Kind, List, Path, RelDef, Sign, Stmt, Tuple, Txt, Value, cmp_path,
@@ -13,19 +13,13 @@ use std::test::Fail;
 #[test]
 fn values_come_in_order(rt: HostRuntime) -> Result<(), Fail> {
     let alloc = rt.alloc();
-    let values = [
-        Value::Int(-10),
-        Value::Int(-9),
-        Value::Int(9),
-        Value::Int(10),
-        Value::Text(Txt::try_new(alloc, "")?),
-        Value::Text(Txt::try_new(alloc, "10")?),
-        Value::Text(Txt::try_new(alloc, "9")?),
-        Value::Text(Txt::try_new(alloc, "Z")?),
-        Value::Text(Txt::try_new(alloc, "a")?),
-        Value::Text(Txt::try_new(alloc, "ab")?),
-        Value::Text(Txt::try_new(alloc, "é")?),
-    ];
+    let mut values = Vec::new(alloc);
+    for number in [-10, -9, 9, 10] {
+        values.push(Value::Int(number))?;
+    }
+    for text in ["", "10", "9", "Z", "a", "ab", "é"] {
+        values.push(Value::Text(Txt::try_new(alloc, text)?))?;
+    }
     for (i, a) in values.iter().enumerate() {
         for (j, b) in values.iter().enumerate() {
             assert_eq!(rt; cmp_value(a, b), i.cmp(&j), "{i} and {j}");
@@ -70,12 +64,48 @@ fn statement(alloc: Global) -> Result<Stmt, Fail>
     })
 }
 
+/// A base with the user Ann and the relation R.
+fn related(alloc: Global) -> Result<Base, Fail>
+    ensures { IfOk result (λ b. b ≡ second) }
+{
+    let mut base = Base::empty(alloc);
+    let name = Txt::try_new(alloc, "Ann")?;
+    base.add_user(name)?;
+    let def = relation(alloc)?;
+    base.add_relation(def)?;
+    Ok(base)
+}
+
+/// Puts the statement twice, and tells whether the first time alone added it.
+fn put_twice(alloc: Global, base: &mut Base) -> Result<bool, Fail>
+    requires start { base.old ≡ second }
+{
+    let stmt = statement(alloc)?;
+    let added = base.put(stmt)?;
+    let stmt = statement(alloc)?;
+    let again = base.put(stmt)?;
+    Ok(added & !again)
+}
+
+/// Takes the statement twice, and tells whether the first time alone took it.
+fn take_twice(alloc: Global, base: &mut Base) -> Result<bool, Fail> {
+    let stmt = statement(alloc)?;
+    let taken = base.take(&stmt);
+    let again = base.take(&stmt);
+    Ok(taken & !again)
+}
+
+/// Takes the statement twice after a copy was made, and tells whether the copy keeps one.
+fn copy_keeps_one(alloc: Global, base: &mut Base) -> Result<bool, Fail> {
+    let copy = base.try_clone(alloc)?;
+    let taken = take_twice(alloc, base)?;
+    Ok(taken & (copy.stmts().len() == 1))
+}
+
 #[test]
 fn takes_the_last_away(rt: HostRuntime) -> Result<(), Fail> {
     let alloc = rt.alloc();
-    let mut base = Base::empty(alloc);
-    base.add_user(Txt::try_new(alloc, "Ann")?)?;
-    base.add_relation(relation(alloc)?)?;
+    let mut base = related(alloc)?;
     base.pop_relation();
     assert_eq!(rt; base.catalog().rels.len(), 0);
     assert_eq!(rt; base.catalog().users.len(), 1);
@@ -87,15 +117,10 @@ fn takes_the_last_away(rt: HostRuntime) -> Result<(), Fail> {
 #[test]
 fn keeps_what_is_put(rt: HostRuntime) -> Result<(), Fail> {
     let alloc = rt.alloc();
-    let mut base = Base::empty(alloc);
-    base.add_user(Txt::try_new(alloc, "Ann")?)?;
-    base.add_relation(relation(alloc)?)?;
-    assert!(rt; base.put(statement(alloc)?)?);
-    assert!(rt; !base.put(statement(alloc)?)?);
-    let copy = base.try_clone(alloc)?;
-    assert!(rt; base.take(&statement(alloc)?));
-    assert!(rt; !base.take(&statement(alloc)?));
-    assert_eq!(rt; copy.stmts().len(), 1);
+    let mut base = related(alloc)?;
+    assert!(rt; put_twice(alloc, &mut base)?);
+    assert_eq!(rt; base.stmts().len(), 1);
+    assert!(rt; copy_keeps_one(alloc, &mut base)?);
     assert_eq!(rt; base.stmts().len(), 0);
     assert_eq!(rt; base.catalog().users.len(), 1);
     Ok(())

@@ -1,6 +1,6 @@
 // Changes of a worked base, back and forth, and histories of changes that add users.
 ghost use Rattle.std.specs.Prelude.{◌≡◌, [], ◌∷◌, IfOk, OnOk};
-ghost use Rattle.bdb_base_tests.specs.UndoSamples.{sightings, bobs_word, bobs_next_word, alone, joined, of_relation, of_bob, of_carol, of_word, of_next_word, word_gone};
+ghost use Rattle.bdb_base_tests.specs.UndoSamples.{sightings, bobs_word, bobs_next_word, alone, related, joined, joined_by_carol, told, told_anew, of_relation, of_bob, of_carol, of_word, of_next_word, word_gone};
 
 use bdb_base::{
     Base, Catalog, ColDef, Kind, List, Path, RelDef, Sign, Stmt, Tuple, Txt, Value, cmp_stmt,
@@ -176,154 +176,125 @@ fn stands_alone(base: &Base, stmts: &List<Stmt>) -> bool {
     }
 }
 
-/// Adds the relation and Bob, and tells whether the base had what it should after each.
-fn names_come(
-    alloc: Global,
-    base: &mut Base,
-    relation: &Change,
-    bob: &Change,
-) -> Result<bool, AllocError>
+/// The relation comes; tells whether it stands then, and no Bob.
+fn relation_comes(alloc: Global, base: &mut Base) -> Result<bool, Fail>
     requires start { base.old ≡ alone }
-    requires relation { relation.now ≡ of_relation }
-    requires bob { bob.now ≡ of_bob }
-    ensures { OnOk result (base.new ≡ joined) }
+    ensures { OnOk result (base.new ≡ related) }
 {
-    change_forth(alloc, base, relation)?;
-    let related = has(base, 1, 1, 0);
-    change_forth(alloc, base, bob)?;
-    let joined = has(base, 1, 2, 0);
-    let named = second_user(base) == "Bob";
-    Ok(related & joined & named)
+    let change = relation_added(alloc)?;
+    change_forth(alloc, base, &change)?;
+    Ok(has(base, 1, 1, 0))
 }
 
-/// Takes Bob and the relation back, and tells whether the base had what it should after each.
-fn names_go(
-    alloc: Global,
-    base: &mut Base,
-    relation: &Change,
-    bob: &Change,
-) -> Result<bool, AllocError>
+/// Bob comes; tells whether he is user 2 then.
+fn bob_comes(alloc: Global, base: &mut Base) -> Result<bool, Fail>
+    requires start { base.old ≡ related }
+    ensures { OnOk result (base.new ≡ joined) }
+{
+    let change = bob_added(alloc)?;
+    change_forth(alloc, base, &change)?;
+    Ok(has(base, 1, 2, 0) & (second_user(base) == "Bob"))
+}
+
+/// Carol comes; tells whether she is user 2 then.
+fn carol_comes(alloc: Global, base: &mut Base) -> Result<bool, Fail>
+    requires start { base.old ≡ related }
+    ensures { OnOk result (base.new ≡ joined_by_carol) }
+{
+    let change = carol_added(alloc)?;
+    change_forth(alloc, base, &change)?;
+    Ok(has(base, 1, 2, 0) & (second_user(base) == "Carol"))
+}
+
+/// Bob is taken back; tells whether he is gone.
+fn bob_goes(alloc: Global, base: &mut Base) -> Result<bool, Fail>
     requires start { base.old ≡ joined }
-    requires relation { relation.now ≡ of_relation }
-    requires bob { bob.now ≡ of_bob }
+    ensures { OnOk result (base.new ≡ related) }
+{
+    let change = bob_added(alloc)?;
+    change_back(alloc, base, &change)?;
+    Ok(has(base, 1, 1, 0))
+}
+
+/// The relation is taken back; tells whether it is gone.
+fn relation_goes(alloc: Global, base: &mut Base) -> Result<bool, Fail>
+    requires start { base.old ≡ related }
     ensures { OnOk result (base.new ≡ alone) }
 {
-    change_back(alloc, base, bob)?;
-    let related = has(base, 1, 1, 0);
-    change_back(alloc, base, relation)?;
-    let alone = has(base, 0, 1, 0);
-    Ok(related & alone)
+    let change = relation_added(alloc)?;
+    change_back(alloc, base, &change)?;
+    Ok(has(base, 0, 1, 0))
 }
 
-/// Lets the relation and Bob come, go and come again, and tells whether all was as it should.
-fn names_move(
-    alloc: Global,
-    base: &mut Base,
-    relation: &Change,
-    bob: &Change,
-) -> Result<bool, AllocError>
-    requires start { base.old ≡ alone }
-    requires relation { relation.now ≡ of_relation }
-    requires bob { bob.now ≡ of_bob }
-{
-    let came = names_come(alloc, base, relation, bob)?;
-    let went = names_go(alloc, base, relation, bob)?;
-    let again = names_come(alloc, base, relation, bob)?;
-    Ok(came & went & again)
-}
-
-/// Takes Bob back and adds Carol, and tells whether each was user 2.
-fn carol_comes(
-    alloc: Global,
-    base: &mut Base,
-    bob: &Change,
-    carol: &Change,
-) -> Result<bool, AllocError>
+/// Bob's first statement comes; tells whether it stands then, alone.
+fn word_comes(alloc: Global, base: &mut Base) -> Result<bool, Fail>
     requires start { base.old ≡ joined }
-    requires bob { bob.now ≡ of_bob }
-    requires carol { carol.now ≡ of_carol }
+    ensures { OnOk result (base.new ≡ told) }
 {
-    let before = second_user(base) == "Bob";
-    change_back(alloc, base, bob)?;
-    change_forth(alloc, base, carol)?;
-    let after = second_user(base) == "Carol";
-    Ok(before & after)
+    let change = stated(alloc)?;
+    change_forth(alloc, base, &change)?;
+    Ok(stands_alone(base, &change.come))
 }
 
-/// Lets Bob's first statement come, replaces it, and takes the next one away; and tells whether the base had what it should
-/// after each.
-fn statements_come(
-    alloc: Global,
-    base: &mut Base,
-    stated: &Change,
-    replaced: &Change,
-    taken: &Change,
-) -> Result<bool, AllocError>
-    requires start { base.old ≡ joined }
-    requires stated { stated.now ≡ of_word }
-    requires replaced { replaced.now ≡ of_next_word }
-    requires taken { taken.now ≡ word_gone }
+/// The next one comes in its place; tells whether it stands then, alone.
+fn word_changes(alloc: Global, base: &mut Base) -> Result<bool, Fail>
+    requires start { base.old ≡ told }
+    ensures { OnOk result (base.new ≡ told_anew) }
+{
+    let change = replaced(alloc)?;
+    change_forth(alloc, base, &change)?;
+    Ok(stands_alone(base, &change.come))
+}
+
+/// The next one goes; tells whether no statement stands then.
+fn word_goes(alloc: Global, base: &mut Base) -> Result<bool, Fail>
+    requires start { base.old ≡ told_anew }
     ensures { OnOk result (base.new ≡ joined) }
 {
-    change_forth(alloc, base, stated)?;
-    let came = stands_alone(base, &stated.come);
-    change_forth(alloc, base, replaced)?;
-    let changed = stands_alone(base, &replaced.come);
-    change_forth(alloc, base, taken)?;
-    let went = has(base, 1, 2, 0);
-    Ok(came & changed & went)
+    let change = taken(alloc)?;
+    change_forth(alloc, base, &change)?;
+    Ok(has(base, 1, 2, 0))
 }
 
-/// Takes the three changes back, and tells whether the base had what it should after each.
-fn statements_go(
-    alloc: Global,
-    base: &mut Base,
-    stated: &Change,
-    replaced: &Change,
-    taken: &Change,
-) -> Result<bool, AllocError>
+/// That is taken back; tells whether the next one stands then, alone.
+fn going_is_taken_back(alloc: Global, base: &mut Base) -> Result<bool, Fail>
     requires start { base.old ≡ joined }
-    requires stated { stated.now ≡ of_word }
-    requires replaced { replaced.now ≡ of_next_word }
-    requires taken { taken.now ≡ word_gone }
+    ensures { OnOk result (base.new ≡ told_anew) }
+{
+    let change = taken(alloc)?;
+    change_back(alloc, base, &change)?;
+    Ok(stands_alone(base, &change.gone))
+}
+
+/// Its coming is taken back; tells whether the first one stands then, alone.
+fn changing_is_taken_back(alloc: Global, base: &mut Base) -> Result<bool, Fail>
+    requires start { base.old ≡ told_anew }
+    ensures { OnOk result (base.new ≡ told) }
+{
+    let change = replaced(alloc)?;
+    change_back(alloc, base, &change)?;
+    Ok(stands_alone(base, &change.gone))
+}
+
+/// The first one's coming is taken back; tells whether no statement stands then.
+fn coming_is_taken_back(alloc: Global, base: &mut Base) -> Result<bool, Fail>
+    requires start { base.old ≡ told }
     ensures { OnOk result (base.new ≡ joined) }
 {
-    change_back(alloc, base, taken)?;
-    let came = stands_alone(base, &replaced.come);
-    change_back(alloc, base, replaced)?;
-    let changed = stands_alone(base, &stated.come);
-    change_back(alloc, base, stated)?;
-    let went = has(base, 1, 2, 0);
-    Ok(came & changed & went)
-}
-
-/// Lets Bob's statements come, go and come again, and tells whether all was as it should.
-fn statements_move(
-    alloc: Global,
-    base: &mut Base,
-    stated: &Change,
-    replaced: &Change,
-    taken: &Change,
-) -> Result<bool, AllocError>
-    requires start { base.old ≡ joined }
-    requires stated { stated.now ≡ of_word }
-    requires replaced { replaced.now ≡ of_next_word }
-    requires taken { taken.now ≡ word_gone }
-{
-    let came = statements_come(alloc, base, stated, replaced, taken)?;
-    let went = statements_go(alloc, base, stated, replaced, taken)?;
-    let again = statements_come(alloc, base, stated, replaced, taken)?;
-    Ok(came & went & again)
+    let change = stated(alloc)?;
+    change_back(alloc, base, &change)?;
+    Ok(has(base, 1, 2, 0))
 }
 
 #[test]
 fn names_come_and_go(rt: HostRuntime) -> Result<(), Fail> {
     let alloc = rt.alloc();
     let mut base = start(alloc)?;
-    let relation = relation_added(alloc)?;
-    let bob = bob_added(alloc)?;
-    let fine = names_move(alloc, &mut base, &relation, &bob)?;
-    assert!(rt; fine);
+    assert!(rt; relation_comes(alloc, &mut base)?);
+    assert!(rt; bob_comes(alloc, &mut base)?);
+    assert!(rt; bob_goes(alloc, &mut base)?);
+    assert!(rt; relation_goes(alloc, &mut base)?);
+    assert!(rt; relation_comes(alloc, &mut base)?);
     Ok(())
 }
 
@@ -331,10 +302,8 @@ fn names_come_and_go(rt: HostRuntime) -> Result<(), Fail> {
 fn a_number_is_given_again(rt: HostRuntime) -> Result<(), Fail> {
     let alloc = rt.alloc();
     let mut base = joined(alloc)?;
-    let bob = bob_added(alloc)?;
-    let carol = carol_added(alloc)?;
-    let fine = carol_comes(alloc, &mut base, &bob, &carol)?;
-    assert!(rt; fine);
+    assert!(rt; bob_goes(alloc, &mut base)?);
+    assert!(rt; carol_comes(alloc, &mut base)?);
     Ok(())
 }
 
@@ -342,11 +311,13 @@ fn a_number_is_given_again(rt: HostRuntime) -> Result<(), Fail> {
 fn statements_come_and_go(rt: HostRuntime) -> Result<(), Fail> {
     let alloc = rt.alloc();
     let mut base = joined(alloc)?;
-    let stated = stated(alloc)?;
-    let replaced = replaced(alloc)?;
-    let taken = taken(alloc)?;
-    let fine = statements_move(alloc, &mut base, &stated, &replaced, &taken)?;
-    assert!(rt; fine);
+    assert!(rt; word_comes(alloc, &mut base)?);
+    assert!(rt; word_changes(alloc, &mut base)?);
+    assert!(rt; word_goes(alloc, &mut base)?);
+    assert!(rt; going_is_taken_back(alloc, &mut base)?);
+    assert!(rt; changing_is_taken_back(alloc, &mut base)?);
+    assert!(rt; coming_is_taken_back(alloc, &mut base)?);
+    assert!(rt; word_comes(alloc, &mut base)?);
     Ok(())
 }
 
