@@ -190,84 +190,16 @@ fn world_text(alloc: Global, base: &Base, path: &[u32]) -> Result<Vec<u8>, Alloc
     Ok(out)
 }
 
-#[test]
-fn beliefs_of_worked_bases(rt: HostRuntime) -> Result<(), Fail> {
-    let alloc = rt.alloc();
-    let eagle = tuple(alloc, "s1", "eagle")?;
-    let raven = tuple(alloc, "s1", "raven")?;
-    let denied = denied(alloc)?;
-    let disputed = disputed(alloc)?;
-    let reported = reported(alloc)?;
-    let cases: [(&Base, &[u32], &Tuple, [bool; 6]); 7] = [
-        (
-            &denied,
-            &[],
-            &eagle,
-            [true, false, true, false, false, true],
-        ),
-        (
-            &denied,
-            &[2],
-            &eagle,
-            [false, true, false, true, true, false],
-        ),
-        (
-            &denied,
-            &[1, 2],
-            &eagle,
-            [false, true, false, true, false, false],
-        ),
-        (
-            &denied,
-            &[2, 1],
-            &eagle,
-            [true, false, true, false, false, false],
-        ),
-        (
-            &disputed,
-            &[1],
-            &eagle,
-            [false, false, false, true, true, false],
-        ),
-        (
-            &disputed,
-            &[2, 1],
-            &raven,
-            [false, false, false, true, false, false],
-        ),
-        (
-            &reported,
-            &[3, 1],
-            &raven,
-            [false, false, false, true, true, false],
-        ),
-    ];
-    for (base, path, t, want) in cases {
-        assert!(rt; told(base, path, t) == want);
-    }
-    Ok(())
+/// Whether a path's world is told so over a base.
+fn is_world(alloc: Global, base: &Base, path: &[u32], want: &str) -> Result<bool, AllocError> {
+    let text = world_text(alloc, base, path)?;
+    Ok(text.as_slice() == want.as_bytes())
 }
 
-#[test]
-fn worlds_of_worked_bases(rt: HostRuntime) -> Result<(), Fail> {
-    let alloc = rt.alloc();
-    let denied = denied(alloc)?;
-    let disputed = disputed(alloc)?;
-    let reported = reported(alloc)?;
-    let cases: [(&Base, &[u32], &str); 7] = [
-        (&denied, &[2], "-e s1 eagle;"),
-        (&denied, &[1, 2], "-i s1 eagle;"),
-        (&denied, &[2, 1], "+i s1 eagle;"),
-        (&disputed, &[1], "+e s1 crow;"),
-        (&disputed, &[], "+e s1 eagle;"),
-        (&reported, &[2, 3, 1], "+i s1 eagle;+i s2 crow;"),
-        (&reported, &[3, 1], "+e s1 eagle;+i s2 crow;"),
-    ];
-    for (base, path, want) in cases {
-        let found = world_text(alloc, base, path)?;
-        assert!(rt; found.as_slice() == want.as_bytes());
-    }
-    Ok(())
+/// What is told of a tuple with the key s1 at a path.
+fn told_of(alloc: Global, base: &Base, path: &[u32], value: &str) -> Result<[bool; 6], AllocError> {
+    let t = tuple(alloc, "s1", value)?;
+    Ok(told(base, path, &t))
 }
 
 /// A comparison that says that two columns are equal.
@@ -340,18 +272,81 @@ fn names_told(alloc: Global, base: &Base, query: &Query) -> Result<Vec<u8>, Allo
     Ok(out)
 }
 
-#[test]
-fn answers_over_worked_bases(rt: HostRuntime) -> Result<(), Fail> {
-    let alloc = rt.alloc();
+/// Whether the query for deniers gives these names over a base of Alice and Bob.
+fn are_deniers(alloc: Global, base: &Base, want: &str) -> Result<bool, Fail>
+    requires catalog { base.now.catalog ≡ disputed.catalog }
+{
     let query = deniers(alloc)?;
-    let denied = denied(alloc)?;
-    let names = names_told(alloc, &denied, &query)?;
-    assert!(rt; names.as_slice() == "Bob;".as_bytes());
-    let disputed = disputed(alloc)?;
-    let names = names_told(alloc, &disputed, &query)?;
-    assert!(rt; names.as_slice() == "Alice;Bob;".as_bytes());
-    let reported = reported(alloc)?;
-    let names = names_told(alloc, &reported, &query)?;
-    assert!(rt; names.is_empty());
+    let names = names_told(alloc, base, &query)?;
+    Ok(names.as_slice() == want.as_bytes())
+}
+
+/// Whether it gives these names over a base of Alice, Bob and Carol.
+fn are_deniers_of_three(alloc: Global, base: &Base, want: &str) -> Result<bool, Fail>
+    requires catalog { base.now.catalog ≡ reported.catalog }
+{
+    let query = deniers(alloc)?;
+    let names = names_told(alloc, base, &query)?;
+    Ok(names.as_slice() == want.as_bytes())
+}
+
+#[test]
+fn an_eagle_is_denied(rt: HostRuntime) -> Result<(), Fail> {
+    let alloc = rt.alloc();
+    let base = denied(alloc)?;
+    let beliefs: [(&[u32], [bool; 6]); 4] = [
+        (&[], [true, false, true, false, false, true]),
+        (&[2], [false, true, false, true, true, false]),
+        (&[1, 2], [false, true, false, true, false, false]),
+        (&[2, 1], [true, false, true, false, false, false]),
+    ];
+    for (path, want) in beliefs {
+        assert!(rt; told_of(alloc, &base, path, "eagle")? == want);
+    }
+    let worlds: [(&[u32], &str); 3] = [
+        (&[2], "-e s1 eagle;"),
+        (&[1, 2], "-i s1 eagle;"),
+        (&[2, 1], "+i s1 eagle;"),
+    ];
+    for (path, want) in worlds {
+        assert!(rt; is_world(alloc, &base, path, want)?);
+    }
+    assert!(rt; are_deniers(alloc, &base, "Bob;")?);
+    Ok(())
+}
+
+#[test]
+fn a_crow_is_seen_in_its_place(rt: HostRuntime) -> Result<(), Fail> {
+    let alloc = rt.alloc();
+    let base = disputed(alloc)?;
+    let beliefs: [(&[u32], &str, [bool; 6]); 2] = [
+        (&[1], "eagle", [false, false, false, true, true, false]),
+        (&[2, 1], "raven", [false, false, false, true, false, false]),
+    ];
+    for (path, value, want) in beliefs {
+        assert!(rt; told_of(alloc, &base, path, value)? == want);
+    }
+    let worlds: [(&[u32], &str); 2] = [(&[1], "+e s1 crow;"), (&[], "+e s1 eagle;")];
+    for (path, want) in worlds {
+        assert!(rt; is_world(alloc, &base, path, want)?);
+    }
+    assert!(rt; are_deniers(alloc, &base, "Alice;Bob;")?);
+    Ok(())
+}
+
+#[test]
+fn carol_reports_what_alice_sees(rt: HostRuntime) -> Result<(), Fail> {
+    let alloc = rt.alloc();
+    let base = reported(alloc)?;
+    let raven = told_of(alloc, &base, &[3, 1], "raven")?;
+    assert!(rt; raven == [false, false, false, true, true, false]);
+    let worlds: [(&[u32], &str); 2] = [
+        (&[2, 3, 1], "+i s1 eagle;+i s2 crow;"),
+        (&[3, 1], "+e s1 eagle;+i s2 crow;"),
+    ];
+    for (path, want) in worlds {
+        assert!(rt; is_world(alloc, &base, path, want)?);
+    }
+    assert!(rt; are_deniers_of_three(alloc, &base, "")?);
     Ok(())
 }
