@@ -51,26 +51,27 @@ fn values_print(rt: HostRuntime) -> Result<(), Fail> {
     Ok(())
 }
 
-#[test]
-fn worlds_print(rt: HostRuntime) -> Result<(), Fail> {
-    let alloc = rt.alloc();
-    let catalog = curators(alloc, 1)?;
-    let worlds = [
-        (Sign::Minus, true, "- S('s1', 'eagle') explicit\nok 1\n"),
-        (Sign::Minus, false, "- S('s1', 'eagle') inherited\nok 1\n"),
-        (Sign::Plus, false, "+ S('s1', 'eagle') inherited\nok 1\n"),
-    ];
-    for (sign, explicit, want) in worlds {
-        let mut held = List::new(alloc);
-        let tuple = sighting(alloc, "eagle")?;
-        held.push(Held {
-            tuple,
-            sign,
-            explicit,
-        })?;
-        let reply = world_reply(alloc, &catalog, &World { held })?;
-        assert_eq!(rt; reply.as_slice(), want.as_bytes());
-    }
+/// Whether a world of one row prints so.
+fn row_prints(
+    alloc: Global,
+    catalog: &Catalog,
+    sign: Sign,
+    explicit: bool,
+    want: &str,
+) -> Result<bool, AllocError> {
+    let mut held = List::new(alloc);
+    let tuple = sighting(alloc, "eagle")?;
+    held.push(Held {
+        tuple,
+        sign,
+        explicit,
+    })?;
+    let reply = world_reply(alloc, catalog, &World { held })?;
+    Ok(reply.as_slice() == want.as_bytes())
+}
+
+/// A world with an eagle that is inherited, and a raven that is denied.
+fn two_rows(alloc: Global) -> Result<World, AllocError> {
     let mut held = List::new(alloc);
     for (sign, explicit, species) in [(Sign::Plus, false, "eagle"), (Sign::Minus, true, "raven")] {
         let tuple = sighting(alloc, species)?;
@@ -80,37 +81,93 @@ fn worlds_print(rt: HostRuntime) -> Result<(), Fail> {
             explicit,
         })?;
     }
-    let reply = world_reply(alloc, &catalog, &World { held })?;
-    let want = "+ S('s1', 'eagle') inherited\n- S('s1', 'raven') explicit\nok 2\n";
-    assert_eq!(rt; reply.as_slice(), want.as_bytes());
+    Ok(World { held })
+}
+
+/// Whether a world prints so.
+fn world_prints(
+    alloc: Global,
+    catalog: &Catalog,
+    world: &World,
+    want: &str,
+) -> Result<bool, AllocError> {
+    let reply = world_reply(alloc, catalog, world)?;
+    Ok(reply.as_slice() == want.as_bytes())
+}
+
+#[test]
+fn rows_of_worlds_print(rt: HostRuntime) -> Result<(), Fail> {
+    let alloc = rt.alloc();
+    let catalog = curators(alloc, 1)?;
+    let rows = [
+        (Sign::Minus, true, "- S('s1', 'eagle') explicit\nok 1\n"),
+        (Sign::Minus, false, "- S('s1', 'eagle') inherited\nok 1\n"),
+        (Sign::Plus, false, "+ S('s1', 'eagle') inherited\nok 1\n"),
+    ];
+    for (sign, explicit, want) in rows {
+        assert!(rt; row_prints(alloc, &catalog, sign, explicit, want)?);
+    }
     Ok(())
 }
 
 #[test]
-fn rows_and_counts_print(rt: HostRuntime) -> Result<(), Fail> {
+fn worlds_print(rt: HostRuntime) -> Result<(), Fail> {
     let alloc = rt.alloc();
     let catalog = curators(alloc, 1)?;
+    let world = two_rows(alloc)?;
+    let want = "+ S('s1', 'eagle') inherited\n- S('s1', 'raven') explicit\nok 2\n";
+    assert!(rt; world_prints(alloc, &catalog, &world, want)?);
+    Ok(())
+}
+
+/// Two rows of a name and a number.
+fn two_answers(alloc: Global) -> Result<List<List<Value>>, AllocError> {
     let mut rows = List::new(alloc);
     for name in ["Alice", "Bob"] {
         let first = Value::Text(Txt::try_new(alloc, name)?);
         rows.push(List::from_vec(vec![in alloc; first, Value::Int(7)]?))?;
     }
+    Ok(rows)
+}
+
+#[test]
+fn rows_and_counts_print(rt: HostRuntime) -> Result<(), Fail> {
+    let alloc = rt.alloc();
+    let rows = two_answers(alloc)?;
     let reply = rows_reply(alloc, &rows)?;
-    assert_eq!(rt;
-        reply.as_slice(),
-        b"'Alice', 7\n'Bob', 7\nok 2\n".as_slice()
-    );
-    assert_eq!(rt; ok_reply(alloc)?.as_slice(), b"ok\n".as_slice());
-    assert_eq!(rt; count_reply(alloc, 10)?.as_slice(), b"ok 10\n".as_slice());
+    assert!(rt; reply.as_slice() == b"'Alice', 7\n'Bob', 7\nok 2\n".as_slice());
+    let reply = ok_reply(alloc)?;
+    assert!(rt; reply.as_slice() == b"ok\n".as_slice());
+    let reply = count_reply(alloc, 10)?;
+    assert!(rt; reply.as_slice() == b"ok 10\n".as_slice());
+    Ok(())
+}
+
+/// Whether a tuple of S prints so.
+fn tuple_prints(alloc: Global, catalog: &Catalog, want: &str) -> Result<bool, AllocError> {
     let tuple = sighting(alloc, "crow")?;
-    let text = tuple_text(alloc, &catalog, &tuple)?;
-    assert_eq!(rt; text.as_slice(), b"S('s1', 'crow')".as_slice());
-    let text = path_text(alloc, &catalog, &[2, 1])?;
-    assert_eq!(rt; text.as_slice(), b"/'Bob'/'Alice'".as_slice());
-    assert_eq!(rt;
-        path_text(alloc, &catalog, &[])?.as_slice(),
-        b"/".as_slice()
-    );
+    let text = tuple_text(alloc, catalog, &tuple)?;
+    Ok(text.as_slice() == want.as_bytes())
+}
+
+/// Whether a path prints so.
+fn path_prints(
+    alloc: Global,
+    catalog: &Catalog,
+    path: &[u32],
+    want: &str,
+) -> Result<bool, AllocError> {
+    let text = path_text(alloc, catalog, path)?;
+    Ok(text.as_slice() == want.as_bytes())
+}
+
+#[test]
+fn tuples_and_paths_print(rt: HostRuntime) -> Result<(), Fail> {
+    let alloc = rt.alloc();
+    let catalog = curators(alloc, 1)?;
+    assert!(rt; tuple_prints(alloc, &catalog, "S('s1', 'crow')")?);
+    assert!(rt; path_prints(alloc, &catalog, &[2, 1], "/'Bob'/'Alice'")?);
+    assert!(rt; path_prints(alloc, &catalog, &[], "/")?);
     Ok(())
 }
 
@@ -138,55 +195,66 @@ fn keys_print(rt: HostRuntime) -> Result<(), Fail> {
     Ok(())
 }
 
+/// Whether a refusal prints so.
+fn prints(
+    alloc: Global,
+    catalog: &Catalog,
+    refusal: &Refusal,
+    want: &str,
+) -> Result<bool, AllocError> {
+    let reply = refusal_reply(alloc, catalog, refusal)?;
+    Ok(reply.as_slice() == want.as_bytes())
+}
+
+/// Eleven refusals, by number, each with its text.
+fn refusal_of(alloc: Global, number: u32) -> Result<(Refusal, &'static str), AllocError> {
+    match number {
+        0 => Ok((Refusal::Unfinished, "error unfinished\n")),
+        1 => {
+            let name = Txt::try_new(alloc, "Zoe")?;
+            Ok((Refusal::User(name), "error user 'Zoe'\n"))
+        }
+        2 => {
+            let name = Txt::try_new(alloc, "Bob")?;
+            Ok((Refusal::TakenUser(name), "error taken 'Bob'\n"))
+        }
+        3 => {
+            let name = Txt::try_new(alloc, "Users")?;
+            Ok((Refusal::TakenName(name), "error taken Users\n"))
+        }
+        4 => Ok((Refusal::KeyLength(0), "error key 0\n")),
+        5 => Ok((Refusal::KeyLength(-2), "error key -2\n")),
+        6 => {
+            let alias = Txt::try_new(alloc, "X")?;
+            Ok((Refusal::AliasTwice(alias), "error alias twice X\n"))
+        }
+        7 => {
+            let col = Txt::try_new(alloc, "v")?;
+            let alias = None;
+            Ok((Refusal::Kind { alias, col }, "error kind v\n"))
+        }
+        8 => {
+            let alias = Txt::try_new(alloc, "Y")?;
+            let col = Txt::try_new(alloc, "v")?;
+            Ok((Refusal::Unsafe { alias, col }, "error unsafe Y.v\n"))
+        }
+        9 => {
+            let tuple = sighting(alloc, "crow")?;
+            let sign = Sign::Plus;
+            let want = "error clash + S('s1', 'crow')\n";
+            Ok((Refusal::Clash { sign, tuple }, want))
+        }
+        _ => Ok((Refusal::Full(What::Users), "error full users\n")),
+    }
+}
+
 #[test]
 fn refusals_print(rt: HostRuntime) -> Result<(), Fail> {
     let alloc = rt.alloc();
     let catalog = curators(alloc, 1)?;
-    let sign = Sign::Plus;
-    let tuple = sighting(alloc, "crow")?;
-    let refusals = vec![in alloc;
-        (Refusal::Unfinished, "error unfinished\n"),
-        (
-            Refusal::User(Txt::try_new(alloc, "Zoe")?),
-            "error user 'Zoe'\n"
-        ),
-        (
-            Refusal::TakenUser(Txt::try_new(alloc, "Bob")?),
-            "error taken 'Bob'\n"
-        ),
-        (
-            Refusal::TakenName(Txt::try_new(alloc, "Users")?),
-            "error taken Users\n"
-        ),
-        (Refusal::KeyLength(0), "error key 0\n"),
-        (Refusal::KeyLength(-2), "error key -2\n"),
-        (
-            Refusal::AliasTwice(Txt::try_new(alloc, "X")?),
-            "error alias twice X\n"
-        ),
-        (
-            Refusal::Kind {
-                alias: None,
-                col: Txt::try_new(alloc, "v")?
-            },
-            "error kind v\n"
-        ),
-        (
-            Refusal::Unsafe {
-                alias: Txt::try_new(alloc, "Y")?,
-                col: Txt::try_new(alloc, "v")?
-            },
-            "error unsafe Y.v\n"
-        ),
-        (
-            Refusal::Clash { sign, tuple },
-            "error clash + S('s1', 'crow')\n"
-        ),
-        (Refusal::Full(What::Users), "error full users\n"),
-    ]?;
-    for (refusal, want) in &refusals {
-        let reply = refusal_reply(alloc, &catalog, refusal)?;
-        assert_eq!(rt; reply.as_slice(), want.as_bytes());
+    for number in 0..11 {
+        let (refusal, want) = refusal_of(alloc, number)?;
+        assert!(rt; prints(alloc, &catalog, &refusal, want)?, "{want}");
     }
     Ok(())
 }

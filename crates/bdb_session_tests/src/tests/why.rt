@@ -19,34 +19,56 @@ const BOB_DENIES: Given = (&[2], Sign::Minus, "s1", "eagle");
 
 const CROW: Given = (&[1], Sign::Plus, "s1", "crow");
 
+/// A case: a path, a sign and a bird of which is asked; whether it is believed, and the text of the certificate.
+type Case<'a> = (&'a [u32], Sign, &'a str, bool, &'a str);
+
 #[test]
 fn certificates(rt: HostRuntime) -> Result<(), Fail> {
     let alloc = rt.alloc();
     let stmts = stmts_of(alloc, &[EAGLE, CROW, BOB_DENIES])?;
     let base = disputed(alloc)?;
-    let cases: [(&[u32], Sign, &str, bool, &str); 5] = [
+    let cases: [Case; 5] = [
         (&[1], Sign::Minus, "eagle", true, "crow found 0 "),
         (&[1, 2], Sign::Plus, "eagle", false, "blocked 1 "),
         (&[2], Sign::Minus, "crow", false, "nowhere eagle blocked 0 "),
         (&[2, 1], Sign::Plus, "crow", true, "found 1 "),
         (&[3, 1, 2], Sign::Minus, "eagle", true, "found 2 "),
     ];
-    for (path, sign, bird, yes, want) in cases {
-        let t = tuple_of(alloc, "s1", bird)?;
-        let y = why_at(alloc, stmts.as_slice(), path, &t, sign)?;
-        let text = text_of(alloc, &y)?;
-        assert_eq!(rt; text.as_str(), want);
-        assert_eq!(rt; says(&y), yes);
-        assert!(rt; is_accepted(stmts.as_slice(), path, &t, sign, &y));
-        assert!(rt; is_right(&base, path, &t, sign, &y), "{want}");
-        let deeper = raised(alloc, y)?;
-        assert!(rt; !is_accepted(stmts.as_slice(), path, &t, sign, &deeper));
+    for case in cases {
         assert!(rt;
-            !is_right(&base, path, &t, sign, &deeper),
-            "the levels of {want}"
+            is_certified(alloc, stmts.as_slice(), &base, case)?,
+            "{}",
+            case.4
         );
     }
     Ok(())
+}
+
+/// Whether the certificate of a case is told so, says so and is accepted, and is refused with its levels raised.
+fn is_certified(
+    alloc: Global,
+    stmts: &[Stmt],
+    base: &Base,
+    case: Case<'_>,
+) -> Result<bool, AllocError>
+    requires { ascending statement_cmp stmts.now ≡ true }
+{
+    let (path, sign, bird, yes, want) = case;
+    let t = tuple_of(alloc, "s1", bird)?;
+    let y = why_at(alloc, stmts, path, &t, sign)?;
+    let told = is_told(alloc, &y, want)?;
+    let said = says(&y) == yes;
+    let right = is_accepted(stmts, path, &t, sign, &y) & is_right(base, path, &t, sign, &y);
+    let deeper = raised(alloc, y)?;
+    let refused = !is_accepted(stmts, path, &t, sign, &deeper)
+        & !is_right(base, path, &t, sign, &deeper);
+    Ok(told & said & right & refused)
+}
+
+/// Whether a certificate is told so.
+fn is_told(alloc: Global, y: &Why, want: &str) -> Result<bool, AllocError> {
+    let text = text_of(alloc, y)?;
+    Ok(text.as_str() == want)
 }
 
 #[test]
