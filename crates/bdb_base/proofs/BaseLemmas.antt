@@ -18,7 +18,7 @@ use Rattle.bdb_base.specs.declared.kinds.RelDef.{RelDef}
 use Rattle.bdb_base.specs.declared.kinds.Catalog.{Catalog}
 use Rattle.bdb_base.specs.declared.kinds.Stmt.{Stmt}
 use Rattle.bdb_base.specs.declared.kinds.UserSlot.{UserSlot}
-use Rattle.bdb_base.specs.declared.kinds.UserSlot.TheVariants.{Live, Gone}
+use Rattle.bdb_base.specs.declared.kinds.UserSlot.TheVariants.{Live}
 use Rattle.bdb_base.specs.declared.tuple.Tuple.{Tuple}
 use Rattle.bdb_base.specs.Alternation.{alternates}
 use Rattle.bdb_base.specs.Order.{statement_cmp}

@@ -5,23 +5,24 @@ use Rattle.std.specs.List.{list_any, list_all, slice_get}
 use Rattle.std.specs.Option.{option_and_then, is_some}
 use Rattle.std.specs.declared.cmp.Ordering.{Ordering}
 use Rattle.std.specs.Ordering.{is_eq}
-use Rattle.std.proofs.lemmas.Bool.{cases_Bool, and_parts, and_from, and_left, and_right, or_parts, or_from, cond-true, cond-false, false≢true, not-true, eqb-false, ltb-true}
+use Rattle.std.proofs.lemmas.Bool.{cases_Bool, and_parts, and_from, and_left, and_right, or_parts, or_from, or_cases, cond-true, cond-false, false≢true, not-true, eqb-false, eqb-true, lt-ltb, ltb-true}
 use Rattle.std.proofs.lemmas.List.{length-set}
-use Rattle.std.proofs.lemmas.Option.{none-some, same_Some}
+use Rattle.std.proofs.lemmas.Option.{none-some, same_Some, slice_get_past}
 use Rattle.bdb_base.specs.declared.kinds.Catalog.{Catalog}
 use Rattle.bdb_base.specs.declared.kinds.Stmt.{Stmt}
 use Rattle.bdb_base.specs.declared.kinds.UserSlot.{UserSlot}
 use Rattle.bdb_base.specs.declared.kinds.UserSlot.TheVariants.{Live, Gone}
-use Rattle.bdb_base.specs.Bases.{IsValid, are_distinct, belongs, is_gone, is_left, is_plain, is_user, live_name, name_at, stands, user_names, with_user, without_user}
+use Rattle.bdb_base.specs.Bases.{are_distinct, belongs, is_gone, is_left, is_plain, is_user, live_name, name_at, user_names, without_user}
 use Rattle.bdb_base.specs.Changes.{names_user, without_statements_of}
-use Rattle.bdb_base.specs.Order.{statement_cmp}
 use Rattle.bdb_base.specs.OrderLemmas.{statement_exact}
-use Rattle.bdb_base.specs.Queries.{user_name}
+use Rattle.bdb_base.specs.Queries.{live_numbers, numbers_from, user_name, user_numbers}
 use Rattle.bdb_base.specs.Same.{same_text}
 use Rattle.bdb_base.specs.SameLemmas.{same_text-Decides}
+use Rattle.bdb_base.specs.Segments.{is_prefix}
 use Rattle.bdb_base.specs.SortedSet.{IsExactOrder, is_member}
-use Rattle.bdb_base.specs.UserLaws.{DropUserIsValid, WhoLeavesIsGone, WhoIsGoneIsNoUser, GoneAfterUsersCome, GoneAfterUsersLeave, OthersAreUsers, OthersKeepNames, StandsWithoutUser, StatementsAreParted, NameIsFree, NameIsGivenAgain, ComesBack}
-use Rattle.bdb_base.proofs.BaseLemmas.{Belongs, add_user_is_valid, belongs_from, belongs_parts, filter_is_valid}
+use Rattle.bdb_base.specs.States.{is_state}
+use Rattle.bdb_base.specs.UserLaws.{DropUserIsValid, WhoLeavesIsGone, WhoIsGoneIsNoUser, GoneAfterUsersCome, GoneAfterUsersLeave, OthersAreUsers, OthersKeepNames, StandsWithoutUser, StatementsAreParted, StatesNameOthers, NameIsFree, NameIsGivenAgain, ComesBack, NumbersAreLive, NumbersAreCounted}
+use Rattle.bdb_base.proofs.BaseLemmas.{add_user_is_valid, belongs_from, belongs_parts, filter_is_valid}
 use Rattle.bdb_base.proofs.ClashLemmas.{turned}
 use Rattle.bdb_base.proofs.ListLemmas.{filter_kept_one, filter_dropped_one}
 use Rattle.bdb_base.proofs.SetLemmas.{filter_keeps_order, is_eq-Equal}
@@ -177,7 +178,7 @@ name_elsewhere users uid other a b n = ap (option_and_then live_name) (get_other
     same_number : (other - 1) ≡ (uid - 1) → other ≡ uid
     same_number e = omega arith
 
-user_elsewhere : (users : List UserSlot) (uid other : ℕ) → 0 < uid → (other ≡ uid → ⊥) → is_user (slice_set users (uid - 1) Gone) other ≡ is_user users other
+pub user_elsewhere : (users : List UserSlot) (uid other : ℕ) → 0 < uid → (other ≡ uid → ⊥) → is_user (slice_set users (uid - 1) Gone) other ≡ is_user users other
 user_elsewhere users uid other a n =
     let now = name_at (slice_set users (uid - 1) Gone) (other - 1) in
     let old = name_at users (other - 1) in
@@ -185,9 +186,6 @@ user_elsewhere users uid other a n =
       | inl p ↦ ap (λ m. nat_lt 0 other && is_some m) (name_elsewhere users uid other a (ltb-true 0 other p) n)
       | inr p ↦ and_left (nat_lt 0 other) (is_some now) p ∙ sym (and_left (nat_lt 0 other) (is_some old) p)
     ]
-
-pub others_are_users : OthersAreUsers
-others_are_users c uid other h n = user_elsewhere c.users uid other (user_above c.users uid h) (eqb-false other uid n)
 
 pub others_keep_names : OthersKeepNames
 others_keep_names c uid other h n =
@@ -217,6 +215,18 @@ no_name (Some Gone) h = refl
 pub who_is_gone_is_no_user : WhoIsGoneIsNoUser
 who_is_gone_is_no_user users uid h = and_right (nat_lt 0 uid) (is_some (name_at users (uid - 1)))
     (no_name (slice_get users (uid - 1)) (and_parts (nat_lt 0 uid) (is_left (slice_get users (uid - 1))) h).1)
+
+pub others_are_users : OthersAreUsers
+others_are_users c uid other h =
+    let now = slice_set c.users (uid - 1) Gone in
+    elim (cases_Bool (nat_eq other uid)) [
+      | inl e ↦
+          ap (is_user now) (eqb-true other uid e) ∙ who_is_gone_is_no_user now uid (who_leaves_is_gone c uid h)
+          ∙ ap (λ b. not b && is_user c.users other) (sym e)
+      | inr e ↦
+          user_elsewhere c.users uid other (user_above c.users uid h) (eqb-false other uid e)
+          ∙ ap (λ b. not b && is_user c.users other) (sym e)
+    ]
 
 left_longer : (users more : List UserSlot) (at : ℕ) → is_left (slice_get users at) ≡ true → is_left (slice_get (users ++ more) at) ≡ true
 left_longer [] more at h = absurd (false≢true h)
@@ -367,3 +377,121 @@ name_is_given_again c stmts uid name v e room =
     plain_at (Gone ∷ us) zero name h e = cc
     plain_at (Live n ∷ us) (suc at) name h e = plain_at us at name (and_parts (is_plain n) (list_all is_plain (user_names us)) h).1 e
     plain_at (Gone ∷ us) (suc at) name h e = plain_at us at name h e
+
+-- ---- no state names who left
+
+all_left : (q : Stmt → Bool) (xs : List Stmt) → list_all q (filter q xs) ≡ true
+all_left q [] = refl
+all_left q (x ∷ xs) = elim (cases_Bool (q x)) [
+  | inl e ↦ ap (list_all q) (filter_kept_one q x xs e) ∙ and_from (q x) (list_all q (filter q xs)) e (all_left q xs)
+  | inr e ↦ ap (list_all q) (filter_dropped_one q x xs e) ∙ all_left q xs
+]
+
+-- the beginning of a path names no user whom the path does not name
+pub prefix_names : (uid : ℕ) (p w : List ℕ) → is_prefix p w ≡ true → names_user uid w ≡ false → names_user uid p ≡ false
+prefix_names uid [] w h n = refl
+prefix_names uid (i ∷ p) [] h n = absurd (false≢true h)
+prefix_names uid (i ∷ p) (j ∷ w) h n =
+    let k = and_parts (nat_eq i j) (is_prefix p w) h in
+    let m = or_parts (nat_eq j uid) (names_user uid w) n in
+    or_from (nat_eq i uid) (names_user uid p) (ap (λ x. nat_eq x uid) (eqb-true i j k.0) ∙ m.0) (prefix_names uid p w k.1 m.1)
+
+none_names : (uid : ℕ) (p : List ℕ) (xs : List Stmt) → list_all (λ x. not (names_user uid x.path)) xs ≡ true → list_any (λ x. is_prefix p x.path) xs ≡ true
+    → names_user uid p ≡ false
+none_names uid p [] h e = absurd (false≢true e)
+none_names uid p (x ∷ xs) h e =
+    let k = and_parts (not (names_user uid x.path)) (list_all (λ y. not (names_user uid y.path)) xs) h in
+    elim (or_cases (is_prefix p x.path) (list_any (λ y. is_prefix p y.path) xs) e) [
+      | inl a ↦ prefix_names uid p x.path a (not-true (names_user uid x.path) k.0)
+      | inr b ↦ none_names uid p xs k.1 b
+    ]
+
+pub states_name_others : StatesNameOthers
+states_name_others stmts uid [] h = refl
+states_name_others stmts uid (i ∷ w) h =
+    none_names uid (i ∷ w) (without_statements_of uid stmts) (all_left (λ x. not (names_user uid x.path)) stmts) h
+
+-- ---- the numbers of users
+
+-- a number is a user's exactly where its place has a name
+pub user_at_place : (users : List UserSlot) (at : ℕ) → is_user users (1 + at) ≡ is_some (name_at users at)
+user_at_place users at =
+    let above : nat_lt 0 (1 + at) ≡ true = lt-ltb 0 (1 + at) (omega arith) in
+    let place : (1 + at) - 1 ≡ at = omega arith in
+    ap (λ b. b && is_some (name_at users ((1 + at) - 1))) above ∙ ap (λ i. is_some (name_at users i)) place
+
+live_since : (q : ℕ → Bool) (n : ℕ) (users : List UserSlot) → ((at : ℕ) → q (n + at) ≡ is_some (name_at users at)) → filter q (numbers_from n users) ≡ live_numbers n users
+live_since q n [] tells = refl
+live_since q n (Live name ∷ us) tells =
+    filter_kept_one q n (numbers_from (suc n) us) (ap q (sym (first n)) ∙ tells zero) ∙ ap (λ l. n ∷ l) (live_since q (suc n) us (λ at. ap q (later n at) ∙ tells (suc at)))
+  where
+    first : (n : ℕ) → n + zero ≡ n
+    first n = omega arith
+
+    later : (n at : ℕ) → suc n + at ≡ n + suc at
+    later n at = omega arith
+live_since q n (Gone ∷ us) tells =
+    filter_dropped_one q n (numbers_from (suc n) us) (ap q (sym (first n)) ∙ tells zero) ∙ live_since q (suc n) us (λ at. ap q (later n at) ∙ tells (suc at))
+  where
+    first : (n : ℕ) → n + zero ≡ n
+    first n = omega arith
+
+    later : (n at : ℕ) → suc n + at ≡ n + suc at
+    later n at = omega arith
+
+pub numbers_are_live : NumbersAreLive
+numbers_are_live users = live_since (is_user users) 1 users (user_at_place users)
+
+pub length-live_numbers : (n : ℕ) (users : List UserSlot) → length (live_numbers n users) ≡ length (user_names users)
+length-live_numbers n [] = refl
+length-live_numbers n (Live name ∷ us) = ap suc (length-live_numbers (suc n) us)
+length-live_numbers n (Gone ∷ us) = length-live_numbers (suc n) us
+
+pub numbers_are_counted : NumbersAreCounted
+numbers_are_counted users = ap length (numbers_are_live users) ∙ length-live_numbers 1 users
+
+pub live_are_counted : (users : List UserSlot) → length (filter (λ s. is_some (live_name s)) users) ≡ length (user_names users)
+live_are_counted [] = refl
+live_are_counted (Live name ∷ us) = ap suc (live_are_counted us)
+live_are_counted (Gone ∷ us) = live_are_counted us
+
+-- ---- one user more
+
+-- the next number is no user's yet
+pub next_is_no_user : (users : List UserSlot) (uid : ℕ) → uid ≡ length users + 1 → is_user users uid ≡ false
+next_is_no_user users uid e =
+    and_right (nat_lt 0 uid) (is_some (name_at users (uid - 1))) (ap (λ o. is_some (option_and_then live_name o)) (slice_get_past users (uid - 1) (omega arith)))
+
+pub name_at_end : (users : List UserSlot) (name : List ℕ) → name_at (users ++ Live name ∷ []) (length users) ≡ Some name
+name_at_end [] name = refl
+name_at_end (u ∷ us) name = name_at_end us name
+
+name_at_longer : (users : List UserSlot) (name : List ℕ) (at : ℕ) → (at ≡ length users → ⊥) → name_at (users ++ Live name ∷ []) at ≡ name_at users at
+name_at_longer [] name zero n = absurd (n refl)
+name_at_longer [] name (suc at) n = refl
+name_at_longer (u ∷ us) name zero n = refl
+name_at_longer (u ∷ us) name (suc at) n = name_at_longer us name at (λ e. n (ap suc e))
+
+-- a number is a user's with one more exactly where it is his, or was one's
+pub user_or_new : (users : List UserSlot) (name : List ℕ) (uid other : ℕ) → uid ≡ length users + 1
+    → (nat_eq other uid || is_user users other) ≡ is_user (users ++ Live name ∷ []) other
+user_or_new users name uid other e =
+    let more = users ++ Live name ∷ [] in
+    elim (cases_Bool (nat_eq other uid)) [
+      | inl t ↦
+          let is : other ≡ length users + 1 = eqb-true other uid t ∙ e in
+          let place : other - 1 ≡ length users = omega arith in
+          ap (λ b. b || is_user users other) t
+          ∙ sym (and_from (nat_lt 0 other) (is_some (name_at more (other - 1))) (lt-ltb 0 other (omega arith))
+          (ap (λ i. is_some (name_at more i)) place ∙ ap is_some (name_at_end users name)))
+      | inr f ↦
+          ap (λ b. b || is_user users other) f ∙ elim (cases_Bool (nat_lt 0 other)) as (λ _. is_user users other ≡ is_user more other) [
+            | inl p ↦
+                let above = ltb-true 0 other p in
+                ap (λ m. nat_lt 0 other && is_some m) (sym (name_at_longer users name (other - 1) (apart users uid other e above (eqb-false other uid f))))
+            | inr z ↦ and_left (nat_lt 0 other) (is_some (name_at users (other - 1))) z ∙ sym (and_left (nat_lt 0 other) (is_some (name_at more (other - 1))) z)
+          ]
+    ]
+  where
+    apart : (users : List UserSlot) (uid other : ℕ) → uid ≡ length users + 1 → 0 < other → (other ≡ uid → ⊥) → other - 1 ≡ length users → ⊥
+    apart users uid other e above n k = n (omega arith)

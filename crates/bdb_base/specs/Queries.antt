@@ -13,6 +13,7 @@ use Rattle.bdb_base.specs.declared.kinds.Ref.{Ref}
 use Rattle.bdb_base.specs.declared.kinds.RelDef.{RelDef}
 use Rattle.bdb_base.specs.declared.kinds.Sign.{Sign}
 use Rattle.bdb_base.specs.declared.kinds.UserSlot.{UserSlot}
+use Rattle.bdb_base.specs.declared.kinds.UserSlot.TheVariants.{Live, Gone}
 use Rattle.bdb_base.specs.declared.kinds.Value.{Value}
 use Rattle.bdb_base.specs.declared.kinds.Value.TheVariants.{Int, Text}
 use Rattle.bdb_base.specs.declared.kinds.Who.{Who}
@@ -120,6 +121,12 @@ numbers_from n (user ∷ users) = n ∷ numbers_from (suc n) users
 -- the numbers of all live users
 abbrev pub user_numbers : List UserSlot → List ℕ
 user_numbers users = filter (is_user users) (numbers_from 1 users)
+
+-- the same, told place by place: the numbers of the live users at these places, the first of which has the number `n`
+abbrev pub live_numbers : ℕ → List UserSlot → List ℕ
+live_numbers n [] = []
+live_numbers n (Live name ∷ users) = n ∷ live_numbers (suc n) users
+live_numbers n (Gone ∷ users) = live_numbers (suc n) users
 
 -- what an option has, as a list
 abbrev pub option_list : {X : Type 0} → Option X → List X

@@ -7,8 +7,9 @@ use Rattle.bdb_base.specs.declared.kinds.UserSlot.{UserSlot}
 use Rattle.bdb_base.specs.Bases.{IsValid, is_gone, is_user, stands, user_names, with_user, with_user_back, without_user}
 use Rattle.bdb_base.specs.Changes.{names_user, statements_naming, without_statements_of}
 use Rattle.bdb_base.specs.Limits.{most_users}
-use Rattle.bdb_base.specs.Queries.{user_name}
+use Rattle.bdb_base.specs.Queries.{live_numbers, user_name, user_numbers}
 use Rattle.bdb_base.specs.Same.{same_text}
+use Rattle.bdb_base.specs.States.{is_state}
 
 -- a valid base stays valid where a user leaves, and with him each statement whose path names him
 abbrev pub DropUserIsValid : Type 0
@@ -31,10 +32,10 @@ GoneAfterUsersCome = (c : Catalog) (name : List ℕ) (uid : ℕ) → is_gone c.u
 abbrev pub GoneAfterUsersLeave : Type 0
 GoneAfterUsersLeave = (c : Catalog) (other uid : ℕ) → is_gone c.users uid ≡ true → is_gone (without_user c other).users uid ≡ true
 
--- all other numbers are users' afterwards exactly where they were
+-- a number is a user's afterwards exactly where it was one's and is not his
 abbrev pub OthersAreUsers : Type 0
-OthersAreUsers = (c : Catalog) (uid other : ℕ) → is_user c.users uid ≡ true → nat_eq other uid ≡ false
-    → is_user (without_user c uid).users other ≡ is_user c.users other
+OthersAreUsers = (c : Catalog) (uid other : ℕ) → is_user c.users uid ≡ true
+    → is_user (without_user c uid).users other ≡ (not (nat_eq other uid) && is_user c.users other)
 
 -- all other users keep their names
 abbrev pub OthersKeepNames : Type 0
@@ -44,6 +45,10 @@ OthersKeepNames = (c : Catalog) (uid other : ℕ) → is_user c.users uid ≡ tr
 -- a statement stands afterwards exactly where it stood and its path does not name him
 abbrev pub StandsWithoutUser : Type 0
 StandsWithoutUser = (stmts : List Stmt) (uid : ℕ) (x : Stmt) → stands (without_statements_of uid stmts) x ≡ (stands stmts x && not (names_user uid x.path))
+
+-- no state names him afterwards
+abbrev pub StatesNameOthers : Type 0
+StatesNameOthers = (stmts : List Stmt) (uid : ℕ) (w : List ℕ) → is_state (without_statements_of uid stmts) w ≡ true → names_user uid w ≡ false
 
 -- the statements that go and those that stay are as many as stood
 abbrev pub StatementsAreParted : Type 0
@@ -58,6 +63,14 @@ NameIsFree = (c : Catalog) (stmts : List Stmt) (uid : ℕ) (name : List ℕ) →
 abbrev pub NameIsGivenAgain : Type 0
 NameIsGivenAgain = (c : Catalog) (stmts : List Stmt) (uid : ℕ) (name : List ℕ) → IsValid c stmts → user_name c.users uid ≡ Some name → length c.users < most_users
     → IsValid (with_user (without_user c uid) name) (without_statements_of uid stmts)
+
+-- the users' numbers, found by a test of each place or told place by place, are one list
+abbrev pub NumbersAreLive : Type 0
+NumbersAreLive = (users : List UserSlot) → user_numbers users ≡ live_numbers 1 users
+
+-- there are as many numbers of users as names
+abbrev pub NumbersAreCounted : Type 0
+NumbersAreCounted = (users : List UserSlot) → length (user_numbers users) ≡ length (user_names users)
 
 -- where he comes back under his name, the catalog is the one that it was
 abbrev pub ComesBack : Type 0

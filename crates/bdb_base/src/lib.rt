@@ -53,11 +53,12 @@ pub use tuple::Tuple;
 pub use tuples::tuples_of;
 pub use update_laws::{delete_is_valid, update_is_valid};
 pub use user_laws::{
-    comes_back, drop_user_is_valid, gone_after_users_come, gone_after_users_leave,
-    name_is_free, name_is_given_again, others_are_users, others_keep_names, stands_without_user,
-    statements_are_parted, who_is_gone_is_no_user, who_leaves_is_gone,
+    comes_back, drop_user_is_valid, gone_after_users_come, gone_after_users_leave, name_is_free,
+    name_is_given_again, numbers_are_counted, numbers_are_live, others_are_users,
+    others_keep_names, stands_without_user, statements_are_parted, states_name_others,
+    who_is_gone_is_no_user, who_leaves_is_gone,
 };
-pub use users::{is_user, name_at, user_name};
+pub use users::{is_user, live_count, name_at, user_name};
 pub use validity::{
     add_relation_is_valid, add_user_is_valid, put_counts_statement, put_counts_tuple, put_is_valid,
     take_is_valid,

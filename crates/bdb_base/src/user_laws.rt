@@ -1,5 +1,5 @@
 //! What becomes of a base where a user leaves, each law as the contract of a function that does nothing.
-ghost use Rattle.bdb_base.specs.UserLaws.{DropUserIsValid, WhoLeavesIsGone, WhoIsGoneIsNoUser, GoneAfterUsersCome, GoneAfterUsersLeave, OthersAreUsers, OthersKeepNames, StandsWithoutUser, StatementsAreParted, NameIsFree, NameIsGivenAgain, ComesBack};
+ghost use Rattle.bdb_base.specs.UserLaws.{DropUserIsValid, WhoLeavesIsGone, WhoIsGoneIsNoUser, GoneAfterUsersCome, GoneAfterUsersLeave, OthersAreUsers, OthersKeepNames, StandsWithoutUser, StatementsAreParted, StatesNameOthers, NameIsFree, NameIsGivenAgain, ComesBack, NumbersAreLive, NumbersAreCounted};
 
 /// A valid base stays valid where a user leaves, and with him each statement whose path names him.
 pub fn drop_user_is_valid()
@@ -26,7 +26,7 @@ pub fn gone_after_users_leave()
     ensures { GoneAfterUsersLeave }
 {}
 
-/// All other numbers are users' after a user left exactly where they were.
+/// A number is a user's after one left exactly where it was one's and is not his.
 pub fn others_are_users()
     ensures { OthersAreUsers }
 {}
@@ -39,6 +39,11 @@ pub fn others_keep_names()
 /// A statement stands after a user left exactly where it stood and its path does not name him.
 pub fn stands_without_user()
     ensures { StandsWithoutUser }
+{}
+
+/// No state names a user who left.
+pub fn states_name_others()
+    ensures { StatesNameOthers }
 {}
 
 /// The statements that go with a user and those that stay are as many as stood.
@@ -54,6 +59,16 @@ pub fn name_is_free()
 /// The name of one who left may be given again, where there is room for one more place.
 pub fn name_is_given_again()
     ensures { NameIsGivenAgain }
+{}
+
+/// The users' numbers, found by a test of each place or told place by place, are one list.
+pub fn numbers_are_live()
+    ensures { NumbersAreLive }
+{}
+
+/// There are as many numbers of users as names.
+pub fn numbers_are_counted()
+    ensures { NumbersAreCounted }
 {}
 
 /// Where one who left comes back under his name, the catalog is the one that it was.

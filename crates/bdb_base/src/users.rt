@@ -1,7 +1,7 @@
 // The users of a catalog, by number and by place.
 ghost use Rattle.std.specs.Prelude.{◌≡◌, ◌-◌, ◌≤◌, ◌<◌, length, slice_set};
-ghost use Rattle.std.specs.Option.{option_copied};
-ghost use Rattle.bdb_base.specs.Bases.{is_user, live_name, name_at};
+ghost use Rattle.std.specs.Option.{is_some, option_copied};
+ghost use Rattle.bdb_base.specs.Bases.{is_user, live_name, name_at, user_names};
 ghost use Rattle.bdb_base.specs.Queries.{user_name};
 
 use crate::kinds::UserSlot;
@@ -46,6 +46,21 @@ pub fn user_name(users: &[UserSlot], uid: u32) -> Option<&Txt>
         return None;
     }
     name_at(users, uid as usize - 1)
+}
+
+/// How many live users there are.
+#[tactic(auto, using(crate::proofs::UserLemmas::live_are_counted))]
+pub fn live_count(users: &[UserSlot]) -> usize
+    ensures { result ≡ length (user_names users.now) }
+{
+    users.iter().filter(|slot| is_live(slot)).count()
+}
+
+// Whether the user of a place is live.
+fn is_live(slot: &UserSlot) -> bool
+    ensures { result ≡ is_some (live_name slot.now) }
+{
+    slot.name().is_some()
 }
 
 /// Lets the place of a number be this one.
