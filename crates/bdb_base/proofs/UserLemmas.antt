@@ -15,12 +15,11 @@ use Rattle.bdb_base.specs.declared.kinds.UserSlot.TheVariants.{Live, Gone}
 use Rattle.bdb_base.specs.Bases.{are_distinct, belongs, is_gone, is_left, is_plain, is_user, live_name, name_at, user_names, without_user}
 use Rattle.bdb_base.specs.Changes.{names_user, without_statements_of}
 use Rattle.bdb_base.specs.OrderLemmas.{statement_exact}
-use Rattle.bdb_base.specs.Queries.{live_numbers, numbers_from, user_name, user_numbers}
+use Rattle.bdb_base.specs.Queries.{live_numbers, numbers_from, user_name}
 use Rattle.bdb_base.specs.Same.{same_text}
 use Rattle.bdb_base.specs.SameLemmas.{same_text-Decides}
 use Rattle.bdb_base.specs.Segments.{is_prefix}
 use Rattle.bdb_base.specs.SortedSet.{IsExactOrder, is_member}
-use Rattle.bdb_base.specs.States.{is_state}
 use Rattle.bdb_base.specs.UserLaws.{DropUserIsValid, WhoLeavesIsGone, WhoIsGoneIsNoUser, GoneAfterUsersCome, GoneAfterUsersLeave, OthersAreUsers, OthersKeepNames, StandsWithoutUser, StatementsAreParted, StatesNameOthers, NameIsFree, NameIsGivenAgain, ComesBack, NumbersAreLive, NumbersAreCounted}
 use Rattle.bdb_base.proofs.BaseLemmas.{add_user_is_valid, belongs_from, belongs_parts, filter_is_valid}
 use Rattle.bdb_base.proofs.ClashLemmas.{turned}

@@ -1,5 +1,5 @@
 // The users of a catalog, by number and by place.
-ghost use Rattle.std.specs.Prelude.{◌≡◌, ◌-◌, ◌≤◌, ◌<◌, length, slice_set};
+ghost use Rattle.std.specs.Prelude.{◌≡◌, ◌-◌, ◌≤◌, ◌<◌, filter, length, slice_set};
 ghost use Rattle.std.specs.Option.{is_some, option_copied};
 ghost use Rattle.bdb_base.specs.Bases.{is_user, live_name, name_at, user_names};
 ghost use Rattle.bdb_base.specs.Queries.{user_name};
@@ -52,6 +52,13 @@ pub fn user_name(users: &[UserSlot], uid: u32) -> Option<&Txt>
 #[tactic(auto, using(crate::proofs::UserLemmas::live_are_counted))]
 pub fn live_count(users: &[UserSlot]) -> usize
     ensures { result ≡ length (user_names users.now) }
+{
+    count_live(users)
+}
+
+// How many places have a live user.
+fn count_live(users: &[UserSlot]) -> usize
+    ensures { result ≡ length (filter (λ s. is_some (live_name s)) users.now) }
 {
     users.iter().filter(|slot| is_live(slot)).count()
 }
