@@ -45,11 +45,7 @@ pub fn add_user_edges<K: Keeper>(alloc: Global, keeper: &mut K, uid: u32) -> Res
 
 /// Takes away the edge of each world for a user whom no path names. For each world two writes are made, and no more than
 /// two reads, and one read at the end; no table but the two of edges changes.
-pub fn drop_user_edges<K: Keeper>(
-    alloc: Global,
-    keeper: &mut K,
-    uid: u32,
-) -> Result<(), TabError>
+pub fn drop_user_edges<K: Keeper>(alloc: Global, keeper: &mut K, uid: u32) -> Result<(), TabError>
     requires running { (K.seen keeper.old).running ≡ true }
     requires grammar { InGrammar (K.seen keeper.old).kept }
     ensures dropped { OnOk result (DropsUser (K.seen keeper.old).kept (K.seen keeper.new).kept uid) }
