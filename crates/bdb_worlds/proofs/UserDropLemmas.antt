@@ -1,5 +1,5 @@
 -- The edge of each world for a user goes, one world after the other.
-use Rattle.std.proofs.Common.{◌≡◌, ◌∙◌, ℕ, ◌+◌, ◌*◌, ◌^◌, ◌-◌, ◌≤◌, ◌<◌, Bool, true, false, not, ◌&&◌, ◌||◌, nat_eq, nat_lt, cond, List, [], ◌∷◌, ◌++◌, length, refl, ap, sym, subst, inl, inr, arith, Option, Some, None}
+use Rattle.std.proofs.Common.{◌≡◌, ◌∙◌, ℕ, ◌+◌, ◌*◌, ◌≤◌, ◌<◌, Bool, true, false, not, ◌&&◌, ◌||◌, nat_eq, nat_lt, cond, List, [], ◌∷◌, ◌++◌, length, refl, ap, sym, subst, inl, inr, arith, Option, Some, None}
 use Rattle.std.specs.Option.{is_some}
 use Rattle.std.specs.List.{list_all}
 use Rattle.std.specs.FinMap as tables
@@ -285,8 +285,11 @@ WorldsRead old new low = (s : Worlds) → HoldsStates s.users s.names old.kept �
 pub dropped_begin : (old : Seen) (uid : ℕ) → EdgesDropped old old uid 0
 dropped_begin old uid s h leaves = twice_none (below 0 s.names.used) old.writes (none_below s.names.used)
 
+none_read : (n a : ℕ) → RisesWithin n a a
+none_read n a less = omega arith
+
 pub read_begin : (old : Seen) → WorldsRead old old 0
-read_begin old s h less = omega arith
+read_begin old s h = none_read (2 * below 0 s.names.used) old.reads
 
 pub within_one : (a b : ℕ) → RoseBy 1 a b → RisesWithin 1 a b
 within_one a b rose less = omega arith

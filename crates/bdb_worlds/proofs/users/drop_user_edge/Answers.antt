@@ -1,4 +1,4 @@
-use Rattle.std.proofs.Common.{◌≡◌, sym, subst}
+use Rattle.std.proofs.Common.{sym, subst}
 use Rattle.bdb_base.specs.Causes.{Rises}
 use Rattle.bdb_tables.specs.Grammar.{InGrammar}
 use Rattle.bdb_worlds.proofs.ReadLemmas.{edges_fit}

@@ -1,4 +1,4 @@
-use Rattle.std.proofs.Common.{◌≡◌, sym, subst, refl, rules, Some, None}
+use Rattle.std.proofs.Common.{sym, subst, refl, rules, Some, None}
 use Rattle.bdb_key.specs.Grammar.{IsNum}
 use Rattle.bdb_worlds.proofs.OutsideLemmas.{SameButEdges, edges_itself, edges_then}
 use Rattle.bdb_worlds.proofs.StepsLemmas.{goes_then, falls_then}
@@ -31,14 +31,14 @@ returns-in-Ok-None-clause-reads g c =
     let here = g.K.Keeper.seen c.loop.keeper in
     let size : IsNum c.args.uid = search rules in
     let none = number_at here.kept here.kept c.loop.low c.in-Ok-None.field-0 None refl c.in-Ok-None.field-0-is c.in-Ok-None.ensures.number in
-    read_end (g.K.Keeper.seen c.args.keeper.now) here c.args.uid c.loop.low size c.loop.invariant.at _ c.in-Ok-None.ensures.counts.reads c.in-Ok-None.ensures.reads none c.loop.invariant.reads
+    read_end (g.K.Keeper.seen c.args.keeper.now) here c.args.uid c.loop.low size c.loop.invariant.at (g.K.Keeper.seen c.next_number.new.keeper) c.in-Ok-None.ensures.counts.reads c.in-Ok-None.ensures.reads none c.loop.invariant.reads
 
 pub returns-in-Ok-None-clause-writes : goal.returns-in-Ok-None-clause-writes
 returns-in-Ok-None-clause-writes g c =
     let here = g.K.Keeper.seen c.loop.keeper in
     let size : IsNum c.args.uid = search rules in
     let none = number_at here.kept here.kept c.loop.low c.in-Ok-None.field-0 None refl c.in-Ok-None.field-0-is c.in-Ok-None.ensures.number in
-    dropped_end (g.K.Keeper.seen c.args.keeper.now) here c.args.uid c.loop.low size c.loop.invariant.at _ c.in-Ok-None.ensures.writes none c.loop.invariant.writes
+    dropped_end (g.K.Keeper.seen c.args.keeper.now) here c.args.uid c.loop.low size c.loop.invariant.at (g.K.Keeper.seen c.next_number.new.keeper) c.in-Ok-None.ensures.writes none c.loop.invariant.writes
 
 pub returns-in-Ok-None-clause-others : goal.returns-in-Ok-None-clause-others
 returns-in-Ok-None-clause-others g c = subst (SameButEdges (g.K.Keeper.seen c.args.keeper.now).kept) (sym c.in-Ok-None.ensures.kept) c.loop.invariant.others
