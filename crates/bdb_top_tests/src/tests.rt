@@ -11,6 +11,7 @@ mod queries;
 mod reading;
 mod replies;
 mod sessions;
+mod why;
 
 use bdb_base::{List, Txt};
 use bdb_io::{MemSink, MemSource};

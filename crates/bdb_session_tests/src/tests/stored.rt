@@ -21,7 +21,7 @@ use std::alloc::{AllocError, Global};
 use std::test::Fail;
 
 /// The relation S, with a key k and a value v.
-fn relation(alloc: Global) -> Result<RelDef, AllocError>
+pub(crate) fn relation(alloc: Global) -> Result<RelDef, AllocError>
     ensures { IfOk result (λ def. def ≡ sightings) }
 {
     let mut cols = List::new(alloc);
@@ -49,7 +49,14 @@ fn catalog(alloc: Global) -> Result<Catalog, AllocError>
     Ok(Catalog { rels, users })
 }
 
-fn statement(alloc: Global, users: &[u32], sign: Sign, key: &str, value: &str) -> Result<Stmt, Fail>
+/// What the path of these users states of a tuple of S.
+pub(crate) fn statement(
+    alloc: Global,
+    users: &[u32],
+    sign: Sign,
+    key: &str,
+    value: &str,
+) -> Result<Stmt, Fail>
     ensures { IfOk result (λ s. s ≡ stated_at users.now sign key.now value.now) }
 {
     let path = Path::try_new(alloc, users)?;

@@ -1,9 +1,11 @@
 // Certificates over three statements: all users believe an eagle, user 1, Alice, a crow, and user 2, Bob, no eagle.
-ghost use Rattle.std.specs.Prelude.{◌≡◌, true, IfOk};
+ghost use Rattle.std.specs.Prelude.{◌≡◌, true, [], ◌∷◌, IfOk};
 ghost use Rattle.bdb_base.specs.Order.{statement_cmp};
 ghost use Rattle.bdb_base.specs.SortedSet.{ascending};
+ghost use Rattle.bdb_canon.specs.Samples.{sightings};
 
-use bdb_base::{Base, List, Path, Sign, Stmt, Tuple, Txt, Value, put};
+use crate::tests::stored::{relation, statement};
+use bdb_base::{Base, Catalog, List, Path, Sign, Stmt, Tuple, Txt, Value, put};
 use bdb_why::{Ground, Ruled, Why, check_why, check_why_among, says, why_among};
 use std::alloc::{AllocError, Global};
 use std::test::Fail;
@@ -21,6 +23,7 @@ const CROW: Given = (&[1], Sign::Plus, "s1", "crow");
 fn certificates(rt: HostRuntime) -> Result<(), Fail> {
     let alloc = rt.alloc();
     let stmts = stmts_of(alloc, &[EAGLE, CROW, BOB_DENIES])?;
+    let base = disputed(alloc)?;
     let cases: [(&[u32], Sign, &str, bool, &str); 5] = [
         (&[1], Sign::Minus, "eagle", true, "crow found 0 "),
         (&[1, 2], Sign::Plus, "eagle", false, "blocked 1 "),
@@ -35,8 +38,13 @@ fn certificates(rt: HostRuntime) -> Result<(), Fail> {
         assert_eq!(rt; text.as_str(), want);
         assert_eq!(rt; says(&y), yes);
         assert!(rt; is_accepted(stmts.as_slice(), path, &t, sign, &y));
+        assert!(rt; is_right(&base, path, &t, sign, &y), "{want}");
         let deeper = raised(alloc, y)?;
         assert!(rt; !is_accepted(stmts.as_slice(), path, &t, sign, &deeper));
+        assert!(rt;
+            !is_right(&base, path, &t, sign, &deeper),
+            "the levels of {want}"
+        );
     }
     Ok(())
 }
@@ -82,6 +90,14 @@ fn is_accepted(stmts: &[Stmt], path: &[u32], t: &Tuple, s: Sign, y: &Why) -> boo
         return false;
     }
     check_why_among(1, stmts, path, t, s, y)
+}
+
+/// Whether a certificate is that of a base, at a path of few users.
+fn is_right(base: &Base, path: &[u32], t: &Tuple, s: Sign, y: &Why) -> bool {
+    if path.len() > 8 {
+        return false;
+    }
+    check_why(base, path, t, s, y)
 }
 
 /// A certificate with each level raised by one.
@@ -172,6 +188,29 @@ fn push_level(text: &mut String, level: u32) -> Result<(), AllocError> {
         _ => "deep ",
     })?;
     Ok(())
+}
+
+/// The relation S, and these users.
+fn catalog(alloc: Global, users: List<Txt>) -> Result<Catalog, AllocError>
+    ensures { IfOk result (λ c. c ≡ record { rels = sightings ∷ []; users = users }) }
+{
+    let mut rels = List::new(alloc);
+    let def = relation(alloc)?;
+    rels.push(def)?;
+    Ok(Catalog { rels, users })
+}
+
+/// The base in which these three statements stand.
+fn disputed(alloc: Global) -> Result<Base, Fail> {
+    let mut users = List::new(alloc);
+    users.push(Txt::try_new(alloc, "Alice")?)?;
+    users.push(Txt::try_new(alloc, "Bob")?)?;
+    let mut stmts = List::new(alloc);
+    stmts.push(statement(alloc, &[], Sign::Plus, "s1", "eagle")?)?;
+    stmts.push(statement(alloc, &[1], Sign::Plus, "s1", "crow")?)?;
+    stmts.push(statement(alloc, &[2], Sign::Minus, "s1", "eagle")?)?;
+    let catalog = catalog(alloc, users)?;
+    Ok(Base::from_parts(catalog, stmts))
 }
 
 fn stmts_of(alloc: Global, given: &[Given]) -> Result<List<Stmt>, Fail>

@@ -14,7 +14,12 @@ fn row_of(alloc: Global, value: &str, count: usize) -> Result<String, Fail> {
 }
 
 /// A part so many times, with another text between.
-fn repeated(alloc: Global, part: &str, between: &str, count: usize) -> Result<String, Fail> {
+pub(crate) fn repeated(
+    alloc: Global,
+    part: &str,
+    between: &str,
+    count: usize,
+) -> Result<String, Fail> {
     let mut text = String::new(alloc);
     for number in 0..count {
         if 0 < number {
@@ -34,7 +39,7 @@ fn is_answered(alloc: Global, script: &str, replies: &str) -> Result<bool, Fail>
 }
 
 /// A path of so many users, of whom two take turns.
-fn path_of(alloc: Global, count: usize) -> Result<String, Fail> {
+pub(crate) fn path_of(alloc: Global, count: usize) -> Result<String, Fail> {
     let mut path = repeated(alloc, "BELIEF 'Alice' BELIEF 'Bob'", " ", count / 2)?;
     if count % 2 == 1 {
         path.push_str(" BELIEF 'Alice'")?;
