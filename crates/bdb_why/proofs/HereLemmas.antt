@@ -6,7 +6,6 @@ use Rattle.bdb_base.specs.Bases.{Contents, fits_columns, fits_definition, fits_k
 use Rattle.bdb_base.specs.Clash.{key_of, same_key}
 use Rattle.bdb_base.specs.Limits.{most_relations}
 use Rattle.bdb_base.specs.Order.{statement_cmp}
-use Rattle.bdb_base.specs.OrderLemmas.{statement_exact}
 use Rattle.bdb_base.specs.Same.{same_tuple}
 use Rattle.bdb_base.specs.SortedSet.{ascending, put_all}
 use Rattle.bdb_base.specs.Worlds.{explicit}
@@ -22,7 +21,6 @@ use Rattle.bdb_base.specs.declared.kinds.Value.TheVariants.{Int, Text}
 use Rattle.bdb_base.specs.declared.tuple.Tuple.{Tuple}
 use Rattle.bdb_base.proofs.ClashLemmas.{same_key_turned}
 use Rattle.bdb_base.proofs.ListLemmas.{length-filter_le}
-use Rattle.bdb_base.proofs.SetLemmas.{put_all_is_ascending}
 use Rattle.bdb_keep.specs.Seen.{Seen}
 use Rattle.bdb_keep.specs.Tables.{Tables}
 use Rattle.bdb_key.specs.Grammar.{IsNum, IsWhole, IsPlainValue, ArePlain, AreKeyVals}
@@ -43,7 +41,7 @@ use Rattle.bdb_catalog.proofs.RowLemmas.{as_many, rows_within, stated_are_read, 
 use Rattle.bdb_why.specs.Ends.{near_at}
 use Rattle.bdb_why.specs.Reading.{PutsNear, ReadsHere, with_both}
 use Rattle.bdb_why.specs.Stored.{rows_of_key}
-use Rattle.bdb_why.proofs.NearSetLemmas.{both_are_near, made}
+use Rattle.bdb_why.proofs.NearSetLemmas.{both_are_near}
 
 -- ---- the values of a tuple that fits its relation are plain
 
@@ -177,8 +175,3 @@ module _ (old mid new : Seen) (again : mid.kept ≡ old.kept) (wid : ℕ) (w : L
 
   pub reads_here : ReadsHere old.kept wid w u old.reads new.reads
   reads_here b h fits path = both_spent old.kept wid w u b h (own_whole b h) fits path old mid new refl again said denied (own_say b h) (own_deny b h)
-
-pub both_ascend : (w : List ℕ) (xs : List Stmt) (said denied : List Tuple) → ascending statement_cmp xs ≡ true → ascending statement_cmp (with_both w xs said denied) ≡ true
-both_ascend w xs said denied up =
-    put_all_is_ascending statement_exact (put_all statement_cmp xs (map (made w Plus) said)) (map (made w Minus) denied)
-    (put_all_is_ascending statement_exact xs (map (made w Plus) said) up)

@@ -1,8 +1,11 @@
 -- The statements of the tuples that are explicit at a path and have a key, put into a set, are those near a tuple there.
-use Rattle.std.proofs.Common.{◌≡◌, ◌∙◌, ℕ, Bool, true, false, ◌&&◌, ◌||◌, List, [], ◌∷◌, ◌++◌, refl, ap, sym, subst, inl, inr, map}
+use Rattle.std.proofs.Common.{◌≡◌, ◌∙◌, ℕ, Bool, true, false, ◌&&◌, ◌||◌, List, [], ◌∷◌, ◌++◌, refl, ap, sym, subst, inl, inr, map, append_assoc}
 use Rattle.std.specs.List.{list_any, AllByRecursion}
+use Rattle.std.specs.List.Sorted.{IsPermutation}
 use Rattle.std.specs.Ordering.{is_eq}
 use Rattle.std.proofs.lemmas.Bool.{and_parts, and_from, or_cases, or_left, or_right, false≢true}
+use Rattle.std.proofs.lemmas.List.{map-append}
+use Rattle.std.proofs.lemmas.List.Sorted.{list_any-IsPermutation}
 use Rattle.bdb_base.specs.declared.kinds.Sign.{Sign}
 use Rattle.bdb_base.specs.declared.kinds.Sign.TheVariants.{Plus, Minus}
 use Rattle.bdb_base.specs.declared.kinds.Stmt.{Stmt}
@@ -18,6 +21,7 @@ use Rattle.bdb_base.proofs.CountLemmas.{list_any-map}
 use Rattle.bdb_base.proofs.SetLemmas.{is_eq-Equal, is_eq_itself, list_any-put_all, members_make_set, put_all_is_ascending}
 use Rattle.bdb_base.proofs.WorldLemmas.{found_by, list_any_weaker}
 use Rattle.bdb_why.specs.Ends.{near_at}
+use Rattle.bdb_why.specs.Reading.{set_of, with_both}
 use Rattle.bdb_why.proofs.FindLemmas.{any_filter, bool_same}
 
 -- a tuple as a statement at a path
@@ -37,10 +41,28 @@ made_is y w s x p q r =
     ∙ ap (made w s) ((same_tuple-Decides y.tuple x).0 r)
 
 -- one tuple more
-pub put_more : (w : List ℕ) (s : Sign) (xs : List Stmt) (us : List Tuple) (u : Tuple)
-    → put_all statement_cmp xs (map (made w s) (us ++ u ∷ [])) ≡ put_in statement_cmp (put_all statement_cmp xs (map (made w s) us)) (made w s u)
-put_more w s xs [] u = refl
-put_more w s xs (v ∷ us) u = put_more w s (put_in statement_cmp xs (made w s v)) us u
+pub push_more : (w : List ℕ) (s : Sign) (xs : List Stmt) (us : List Tuple) (u : Tuple) (ys : List Stmt) → ys ≡ xs ++ map (made w s) us
+    → ys ++ made w s u ∷ [] ≡ xs ++ map (made w s) (us ++ u ∷ [])
+push_more w s xs us u ys e =
+    ap (λ zs. zs ++ made w s u ∷ []) e ∙ append_assoc xs (map (made w s) us) (made w s u ∷ [])
+    ∙ ap (λ zs. xs ++ zs) (sym (map-append (made w s) us (u ∷ [])))
+
+pub put_all_append : (xs ys zs : List Stmt) → put_all statement_cmp xs (ys ++ zs) ≡ put_all statement_cmp (put_all statement_cmp xs ys) zs
+put_all_append xs [] zs = refl
+put_all_append xs (y ∷ ys) zs = put_all_append (put_in statement_cmp xs y) ys zs
+
+pub both_pushed : (w : List ℕ) (said denied : List Tuple) (xs ys zs : List Stmt) → ys ≡ xs ++ map (made w Plus) said → zs ≡ ys ++ map (made w Minus) denied
+    → set_of zs ≡ with_both w (set_of xs) said denied
+both_pushed w said denied xs ys zs e f =
+    ap set_of f ∙ put_all_append [] ys (map (made w Minus) denied)
+    ∙ ap (λ us. put_all statement_cmp us (map (made w Minus) denied)) (ap set_of e ∙ put_all_append [] xs (map (made w Plus) said))
+
+-- the order in which statements come doesn't matter
+pub moved_set : (xs ys : List Stmt) → IsPermutation xs ys → set_of ys ≡ set_of xs
+moved_set xs ys h =
+    members_make_set statement_exact (set_of ys) (set_of xs) (put_all_is_ascending statement_exact [] ys refl) (put_all_is_ascending statement_exact [] xs refl)
+    (λ z. list_any-put_all statement_exact (λ y. is_eq (statement_cmp y z)) [] ys ∙ sym (list_any-IsPermutation (λ y. is_eq (statement_cmp y z)) xs ys h)
+    ∙ sym (list_any-put_all statement_exact (λ y. is_eq (statement_cmp y z)) [] xs))
 
 or_group : (a b c : Bool) → ((a || b) || c) ≡ (a || (b || c))
 or_group true b c = refl

@@ -7,7 +7,7 @@ use Rattle.bdb_base.specs.Alternation.{alternates, begins_otherwise}
 use Rattle.bdb_base.specs.Bases.{Contents, is_user}
 use Rattle.bdb_base.specs.Order.{statement_cmp}
 use Rattle.bdb_base.specs.OrderLemmas.{statement_exact}
-use Rattle.bdb_base.specs.SortedSet.{put_all, put_in}
+use Rattle.bdb_base.specs.SortedSet.{put_all}
 use Rattle.bdb_base.specs.States.{deepest_suffix, is_state}
 use Rattle.bdb_base.specs.declared.kinds.Stmt.{Stmt}
 use Rattle.bdb_base.specs.declared.tuple.Tuple.{Tuple}
@@ -30,6 +30,7 @@ use Rattle.bdb_why.specs.Reading.{EndsAt, LinksTo, PutsNear, ReadsHere, SomeHave
 use Rattle.bdb_why.specs.Stored.{AreNear, MayAsk, SomeMayAsk, reads_at}
 use Rattle.bdb_why.proofs.EndLemmas.{ends_here, ends_past}
 use Rattle.bdb_why.proofs.NearLemmas.{near_is_at_states}
+use Rattle.bdb_why.proofs.NearSetLemmas.{put_all_append}
 
 -- ---- where some base may be asked
 
@@ -63,10 +64,6 @@ LeftNear t path u rest xs = (b : Contents) → MayAsk t path u b → put_all sta
 abbrev pub LeftReads : Tables → List ℕ → Tuple → List ℕ → ℕ → ℕ → Type 0
 LeftReads t path u rest before now = (b : Contents) → MayAsk t path u b → now < 2 ^ 64 - 1
     → now + reads_end (keys_of b) b.stmts u rest ≤ before + (length path + reads_end (keys_of b) b.stmts u path) + 1
-
-put_all_append : (xs ys zs : List Stmt) → put_all statement_cmp xs (ys ++ zs) ≡ put_all statement_cmp (put_all statement_cmp xs ys) zs
-put_all_append xs [] zs = refl
-put_all_append xs (y ∷ ys) zs = put_all_append (put_in statement_cmp xs y) ys zs
 
 append_nil : (xs : List Stmt) → xs ++ [] ≡ xs
 append_nil [] = refl

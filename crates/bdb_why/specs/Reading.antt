@@ -1,5 +1,5 @@
 -- What is read of tables on the way down a path, from one state among its ends to the next.
-use Rattle.std.specs.Prelude.{◌≡◌, ℕ, ◌+◌, ◌≤◌, ◌*◌, true, List, ◌∷◌, length, map, sum_by, Some}
+use Rattle.std.specs.Prelude.{◌≡◌, ℕ, ◌+◌, ◌≤◌, ◌*◌, true, List, [], ◌∷◌, length, map, sum_by, Some}
 use Rattle.std.specs.List.{list_all}
 use Rattle.bdb_base.specs.Bases.{Contents, fits_relation, key_lengths}
 use Rattle.bdb_base.specs.Order.{statement_cmp}
@@ -50,6 +50,10 @@ HasDepth t wid depth = (s : Worlds) → HoldsStates s.users s.names t → (w : L
 -- whichever states the tables hold, the suffix link of the number's path leads to this world
 abbrev pub LinksTo : Tables → ℕ → ℕ × ℕ → Type 0
 LinksTo t wid at = (s : Worlds) → HoldsStates s.users s.names t → (i : ℕ) (w : List ℕ) → path_of s.names wid ≡ Some (i ∷ w) → IsDeepest s w at
+
+-- the set of some statements
+abbrev pub set_of : List Stmt → List Stmt
+set_of xs = put_all statement_cmp [] xs
 
 -- Whichever valid base the tables store, of which a relation fits the tuple: where the number stands for a path in it, its
 -- statements at this very path with the tuple's relation and key were put into a set.

@@ -1,9 +1,10 @@
 // The statements near a path, read from the rows of the worlds of its ends.
 ghost use Rattle.std.specs.Prelude.{◌≡◌, ◌++◌, true, length, map, IfOk, OnOk};
 ghost use Rattle.std.specs.List.{AllByRecursion};
+ghost use Rattle.std.specs.List.Sorted.{IsPermutation};
 ghost use Rattle.bdb_base.specs.Alternation.{alternates};
 ghost use Rattle.bdb_base.specs.Order.{statement_cmp};
-ghost use Rattle.bdb_base.specs.SortedSet.{ascending, put_all};
+ghost use Rattle.bdb_base.specs.SortedSet.{ascending};
 ghost use Rattle.bdb_keep.specs.Calls.{IsRead};
 ghost use Rattle.bdb_keep.specs.Seen.{NeverFall, Steps};
 ghost use Rattle.bdb_key.specs.Grammar.{IsNum, IsWhole};
@@ -11,16 +12,17 @@ ghost use Rattle.bdb_tables.specs.Grammar.{InGrammar};
 ghost use Rattle.bdb_tables.specs.Lengths.{IsKeyLength};
 ghost use Rattle.bdb_val.specs.Reads.{HaveTuples, group_prefix};
 ghost use Rattle.bdb_catalog.specs.Taking.{statement_at};
-ghost use Rattle.bdb_why.specs.Reading.{PutsNear, ReadsAfterOne, ReadsHere, with_both};
+ghost use Rattle.bdb_why.specs.Reading.{PutsNear, ReadsAfterOne, ReadsHere, set_of, with_both};
 ghost use Rattle.bdb_why.specs.Stored.{AreNear, SomeMayAsk};
 
 use crate::descent::{deepest_end, next_end};
-use bdb_base::{List, Path, Sign, Stmt, Tuple, Value, key_of, put};
+use bdb_base::{List, Path, Sign, Stmt, Tuple, Value, cmp_stmt, key_of, put};
 use bdb_catalog::tuples_under;
 use bdb_keep::Keeper;
 use bdb_key::{put_num, put_vals};
 use bdb_tables::TabError;
 use std::alloc::{AllocError, Global};
+use std::cmp::Ordering;
 
 /// The statements at the path's ends whose tuples have the relation and key, in order, where the relation has keys of the
 /// length `n`. The ends that are states are found by suffix links; at the others no statement stands.
@@ -42,11 +44,42 @@ pub fn near_statements<K: Keeper>(
     ensures counts { NeverFall (K.seen keeper.old) (K.seen keeper.new) }
     ensures steps { Steps (K.seen keeper.old) (K.seen keeper.new) result TabError.Fault }
 {
+    let stmts = match collect_near(alloc, keeper, n, path, t) {
+        Ok(stmts) => stmts,
+        Err(error) => return Err(error),
+    };
+    match set_of(alloc, stmts) {
+        Ok(set) => Ok(set),
+        Err(_) => {
+            keeper.undo();
+            Err(TabError::Memory)
+        }
+    }
+}
+
+/// The same as they are read, end by end, and at each end those with plus before those with minus.
+fn collect_near<K: Keeper>(
+    alloc: Global,
+    keeper: &mut K,
+    n: u32,
+    path: &[u32],
+    t: &Tuple,
+) -> Result<Vec<Stmt>, TabError>
+    requires base { SomeMayAsk (K.seen keeper.old).kept path.now t.now }
+    requires length { IsKeyLength (K.seen keeper.old).kept t.now.rel n }
+    requires apart { alternates path.now ≡ true }
+    ensures near { IfOk result (λ stmts. AreNear (K.seen keeper.old).kept path.now t.now (set_of stmts.items)) }
+    ensures reads { OnOk result (ReadsAfterOne (K.seen keeper.old) (K.seen keeper.new) path.now t.now) }
+    ensures kept { OnOk result ((K.seen keeper.new).kept ≡ (K.seen keeper.old).kept) }
+    ensures writes { (K.seen keeper.new).writes ≡ (K.seen keeper.old).writes }
+    ensures counts { NeverFall (K.seen keeper.old) (K.seen keeper.new) }
+    ensures steps { Steps (K.seen keeper.old) (K.seen keeper.new) result TabError.Fault }
+{
     let mut at = match deepest_end(alloc, keeper, path) {
         Ok(at) => at,
         Err(error) => return Err(error),
     };
-    let mut stmts = List::new(alloc);
+    let mut stmts = Vec::new(alloc);
     let mut rest = path;
     while let [_, others @ ..] = rest {
         let end = rest;
@@ -54,7 +87,7 @@ pub fn near_statements<K: Keeper>(
         if at.1 as usize != end.len() {
             continue;
         }
-        match put_near(alloc, keeper, n, at.0, end, t, &mut stmts) {
+        match push_near(alloc, keeper, n, at.0, end, t, &mut stmts) {
             Ok(()) => {}
             Err(error) => return Err(error),
         }
@@ -63,41 +96,39 @@ pub fn near_statements<K: Keeper>(
             Err(error) => return Err(error),
         };
     }
-    match put_near(alloc, keeper, n, at.0, rest, t, &mut stmts) {
+    match push_near(alloc, keeper, n, at.0, rest, t, &mut stmts) {
         Ok(()) => Ok(stmts),
         Err(error) => Err(error),
     }
 }
 
-/// Puts the statements of the path of a number that have the tuple's relation and key into a set. The relation has keys of
-/// the length `n`.
-fn put_near<K: Keeper>(
+/// Appends the statements of the path of a number that have the tuple's relation and key. The relation has keys of the length
+/// `n`.
+fn push_near<K: Keeper>(
     alloc: Global,
     keeper: &mut K,
     n: u32,
     wid: u32,
     path: &[u32],
     t: &Tuple,
-    stmts: &mut List<Stmt>,
+    stmts: &mut Vec<Stmt>,
 ) -> Result<(), TabError>
     requires grammar { InGrammar (K.seen keeper.old).kept }
     requires length { IsKeyLength (K.seen keeper.old).kept t.now.rel n }
     requires tuples { HaveTuples (K.seen keeper.old).kept }
     requires apart { alternates path.now ≡ true }
-    requires sorted { ascending statement_cmp stmts.old ≡ true }
-    ensures put { OnOk result (PutsNear (K.seen keeper.old).kept wid path.now t.now stmts.old stmts.new) }
-    ensures sorted { OnOk result (ascending statement_cmp stmts.new ≡ true) }
+    ensures put { OnOk result (PutsNear (K.seen keeper.old).kept wid path.now t.now (set_of stmts.old.items) (set_of stmts.new.items)) }
     ensures reads { OnOk result (ReadsHere (K.seen keeper.old).kept wid path.now t.now (K.seen keeper.old).reads (K.seen keeper.new).reads) }
     ensures read { IsRead (K.seen keeper.old) (K.seen keeper.new) result TabError.Fault }
 {
-    match put_of_key(alloc, keeper, n, wid, path, t.rel, t, stmts) {
+    match push_of_key(alloc, keeper, n, wid, path, t.rel, t, stmts) {
         Ok(()) => Ok(()),
         Err(error) => Err(error),
     }
 }
 
 /// The same, where the number of the tuple's relation is told.
-fn put_of_key<K: Keeper>(
+fn push_of_key<K: Keeper>(
     alloc: Global,
     keeper: &mut K,
     n: u32,
@@ -105,16 +136,14 @@ fn put_of_key<K: Keeper>(
     path: &[u32],
     rel: u32,
     t: &Tuple,
-    stmts: &mut List<Stmt>,
+    stmts: &mut Vec<Stmt>,
 ) -> Result<(), TabError>
     requires grammar { InGrammar (K.seen keeper.old).kept }
     requires length { IsKeyLength (K.seen keeper.old).kept t.now.rel n }
     requires tuples { HaveTuples (K.seen keeper.old).kept }
     requires apart { alternates path.now ≡ true }
     requires relation { t.now.rel ≡ rel }
-    requires sorted { ascending statement_cmp stmts.old ≡ true }
-    ensures put { OnOk result (PutsNear (K.seen keeper.old).kept wid path.now t.now stmts.old stmts.new) }
-    ensures sorted { OnOk result (ascending statement_cmp stmts.new ≡ true) }
+    ensures put { OnOk result (PutsNear (K.seen keeper.old).kept wid path.now t.now (set_of stmts.old.items) (set_of stmts.new.items)) }
     ensures reads { OnOk result (ReadsHere (K.seen keeper.old).kept wid path.now t.now (K.seen keeper.old).reads (K.seen keeper.new).reads) }
     ensures read { IsRead (K.seen keeper.old) (K.seen keeper.new) result TabError.Fault }
 {
@@ -133,7 +162,7 @@ fn put_of_key<K: Keeper>(
         Ok(denied) => denied,
         Err(error) => return Err(error),
     };
-    match put_both(alloc, stmts, path, said, denied) {
+    match push_both(alloc, stmts, path, said, denied) {
         Ok(()) => Ok(()),
         Err(_) => {
             keeper.undo();
@@ -154,39 +183,36 @@ fn put_group(prefix: &mut Vec<u8>, wid: u32, rel: u32, key: &[Value]) -> Result<
     Ok(())
 }
 
-/// Puts statements at a path into a set: those of some tuples with plus, and those of others with minus.
-fn put_both(
+/// Appends statements at a path: those of some tuples with plus, and those of others with minus.
+fn push_both(
     alloc: Global,
-    stmts: &mut List<Stmt>,
+    stmts: &mut Vec<Stmt>,
     path: &[u32],
     said: Vec<Tuple>,
     denied: Vec<Tuple>,
 ) -> Result<(), AllocError>
     requires apart { alternates path.now ≡ true }
-    requires sorted { ascending statement_cmp stmts.old ≡ true }
-    ensures { OnOk result (stmts.new ≡ with_both path.now stmts.old said.items denied.items) }
+    ensures { OnOk result (set_of stmts.new.items ≡ with_both path.now (set_of stmts.old.items) said.items denied.items) }
 {
-    put_tuples(alloc, stmts, path, Sign::Plus, said)?;
-    put_tuples(alloc, stmts, path, Sign::Minus, denied)?;
+    push_tuples(alloc, stmts, path, Sign::Plus, said)?;
+    push_tuples(alloc, stmts, path, Sign::Minus, denied)?;
     Ok(())
 }
 
-/// Puts the statements of tuples at a path, with one sign, into a set.
-fn put_tuples(
+/// Appends the statements of tuples at a path, with one sign.
+fn push_tuples(
     alloc: Global,
-    stmts: &mut List<Stmt>,
+    stmts: &mut Vec<Stmt>,
     path: &[u32],
     sign: Sign,
     tuples: Vec<Tuple>,
 ) -> Result<(), AllocError>
     requires apart { alternates path.now ≡ true }
-    requires sorted { ascending statement_cmp stmts.old ≡ true }
-    ensures put { OnOk result (stmts.new ≡ put_all statement_cmp stmts.old (map (statement_at path.now sign) tuples.items)) }
-    ensures sorted { OnOk result (ascending statement_cmp stmts.new ≡ true) }
+    ensures { OnOk result (stmts.new.items ≡ stmts.old.items ++ map (statement_at path.now sign) tuples.items) }
 {
     for tuple in tuples {
         let path = path_of(alloc, path)?;
-        put(stmts, Stmt { path, sign, tuple })?;
+        stmts.push(Stmt { path, sign, tuple })?;
     }
     Ok(())
 }
@@ -200,4 +226,37 @@ fn path_of(alloc: Global, users: &[u32]) -> Result<Path, AllocError>
         Ok(path) => Ok(path),
         Err(_) => Err(AllocError),
     }
+}
+
+/// The set of some statements. They are sorted before they are put in, so that each is put behind the one before.
+fn set_of(alloc: Global, stmts: Vec<Stmt>) -> Result<List<Stmt>, AllocError>
+    ensures { IfOk result (λ set. set ≡ set_of stmts.items) }
+{
+    let moved = in_order(stmts)?;
+    let set = put_each(alloc, moved)?;
+    Ok(set)
+}
+
+/// Statements in their order.
+fn in_order(mut stmts: Vec<Stmt>) -> Result<Vec<Stmt>, AllocError>
+    ensures { IfOk result (λ moved. IsPermutation stmts.items moved.items) }
+{
+    stmts.sort_by(by_place)?;
+    Ok(stmts)
+}
+
+/// The order of two statements.
+fn by_place(a: &Stmt, b: &Stmt) -> Ordering {
+    cmp_stmt(a, b)
+}
+
+/// Puts each of some statements into a set, the first one first.
+fn put_each(alloc: Global, stmts: Vec<Stmt>) -> Result<List<Stmt>, AllocError>
+    ensures { IfOk result (λ set. set ≡ set_of stmts.items) }
+{
+    let mut set = List::new(alloc);
+    for stmt in stmts {
+        put(&mut set, stmt)?;
+    }
+    Ok(set)
 }

@@ -1,20 +1,17 @@
 use Rattle.std.proofs.Common.{◌≡◌, true, length}
 use Rattle.bdb_base.specs.Alternation.{alternates}
-use Rattle.bdb_base.specs.Order.{statement_cmp}
-use Rattle.bdb_base.specs.SortedSet.{ascending}
 use Rattle.bdb_tables.proofs.Loops.{IsReading}
-use Rattle.bdb_why.specs.Reading.{EndsAt}
+use Rattle.bdb_why.specs.Reading.{EndsAt, set_of}
 use Rattle.bdb_why.proofs.NearbyLemmas.{LeftNear, LeftReads}
-use Rattle.bdb_why.proofs.nearby.near_statements.Given as goal
+use Rattle.bdb_why.proofs.nearby.collect_near.Given as goal
 
 -- the number and depth are those of the deepest state that the rest of the path ends in, and what is left to be read there
 -- makes of the statements so far all that are near the path
 abbrev pub invariant-loop-rest : goal.invariant-loop-rest
 invariant-loop-rest g l = IsReading (g.K.Keeper.seen l.fn.keeper) (g.K.Keeper.seen l.keeper) (record {
   apart : alternates l.rest ≡ true;
-  sorted : ascending statement_cmp l.stmts ≡ true;
   ends : EndsAt (g.K.Keeper.seen l.fn.keeper).kept l.path l.rest l.at;
-  near : LeftNear (g.K.Keeper.seen l.fn.keeper).kept l.path l.fn.t l.rest l.stmts;
+  near : LeftNear (g.K.Keeper.seen l.fn.keeper).kept l.path l.fn.t l.rest (set_of l.stmts.items);
   reads : LeftReads (g.K.Keeper.seen l.fn.keeper).kept l.path l.fn.t l.rest (g.K.Keeper.seen l.fn.keeper).reads (g.K.Keeper.seen l.keeper).reads;
 })
 
