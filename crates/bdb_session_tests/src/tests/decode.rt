@@ -35,6 +35,17 @@ fn set(alloc: Global, keeper: &mut QuietKeeper, line: &str) -> Result<(), AllocE
     keeper.preset(tab, &key, &row)
 }
 
+/// Sets the rows of a keeper that are told between semicolons.
+fn set_all(alloc: Global, keeper: &mut QuietKeeper, lines: &str) -> Result<(), AllocError>
+    requires idle { keeper.old.running ≡ false }
+    ensures idle { keeper.new.running ≡ false }
+{
+    for line in lines.split(';') {
+        set(alloc, keeper, line)?;
+    }
+    Ok(())
+}
+
 /// The bytes of hexadecimal digits.
 fn bytes_of(alloc: Global, digits: &str) -> Result<Vec<u8>, AllocError> {
     let mut bytes = Vec::new(alloc);
@@ -60,12 +71,8 @@ fn keeper_with(alloc: Global, changes: &str) -> Result<QuietKeeper, Fail>
     ensures idle { IfOk result (λ keeper. keeper.running ≡ false) }
 {
     let mut keeper = QuietKeeper::new(alloc);
-    for line in FORMER.split(';') {
-        set(alloc, &mut keeper, line)?;
-    }
-    for line in changes.split(';') {
-        set(alloc, &mut keeper, line)?;
-    }
+    set_all(alloc, &mut keeper, FORMER)?;
+    set_all(alloc, &mut keeper, changes)?;
     Ok(keeper)
 }
 

@@ -35,11 +35,7 @@ fn certificates(rt: HostRuntime) -> Result<(), Fail> {
         (&[3, 1, 2], Sign::Minus, "eagle", true, "found 2 "),
     ];
     for case in cases {
-        assert!(rt;
-            is_certified(alloc, stmts.as_slice(), &base, case)?,
-            "{}",
-            case.4
-        );
+        assert!(rt; is_certified(alloc, stmts.as_slice(), &base, case)?);
     }
     Ok(())
 }
