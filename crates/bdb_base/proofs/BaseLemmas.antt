@@ -1,13 +1,15 @@
 -- What keeps a base valid, and how its counts change.
-use Rattle.std.proofs.Common.{◌≡◌, ◌∙◌, ℕ, ◌+◌, ◌≤◌, Bool, true, false, not, ◌&&◌, ◌||◌, cond, List, [], ◌∷◌, ◌++◌, refl, ap, sym, inl, inr, suc, arith, filter, length, map, nat_eq, nat_lt, nat_le, length-append}
+use Rattle.std.proofs.Common.{◌≡◌, ◌∙◌, ℕ, ◌+◌, ◌-◌, ◌≤◌, Bool, true, false, not, ◌&&◌, ◌||◌, cond, List, [], ◌∷◌, ◌++◌, refl, ap, sym, inl, inr, suc, arith, filter, length, map, nat_eq, nat_lt, nat_le, length-append}
 use Prim.Native.Nat.{zero}
 use Rattle.std.specs.Bool.{Decides}
 use Rattle.std.specs.List.{list_any, list_all, slice_get, flat_map}
+use Rattle.std.specs.Option.{is_some}
 use Rattle.std.specs.declared.cmp.Ordering.{Ordering}
 use Rattle.std.specs.Ordering.{is_eq}
 use Rattle.std.proofs.lemmas.Bool.{cases_Bool, and_parts, and_from, and_right, or_parts, or_from, or_cases, or_left, or_right, false≢true, not-true, not_from_true, not_from_false, leb-true, le-leb}
 use Rattle.std.proofs.lemmas.Bool.Decides.{Decides-eqb, same_from_decides, Decides-like}
 use Rattle.std.proofs.lemmas.List.{map-append}
+use Rattle.std.proofs.lemmas.List.Elements.{filter_map-append}
 use Rattle.std.proofs.lemmas.List.Folds.{list_any-append, list_all-append}
 use Rattle.bdb_base.specs.declared.kinds.Value.{Value}
 use Rattle.bdb_base.specs.declared.kinds.Sign.{Sign}
@@ -15,6 +17,8 @@ use Rattle.bdb_base.specs.declared.kinds.Sign.TheVariants.{Plus, Minus}
 use Rattle.bdb_base.specs.declared.kinds.RelDef.{RelDef}
 use Rattle.bdb_base.specs.declared.kinds.Catalog.{Catalog}
 use Rattle.bdb_base.specs.declared.kinds.Stmt.{Stmt}
+use Rattle.bdb_base.specs.declared.kinds.UserSlot.{UserSlot}
+use Rattle.bdb_base.specs.declared.kinds.UserSlot.TheVariants.{Live}
 use Rattle.bdb_base.specs.declared.tuple.Tuple.{Tuple}
 use Rattle.bdb_base.specs.Alternation.{alternates}
 use Rattle.bdb_base.specs.Order.{statement_cmp}
@@ -24,7 +28,7 @@ use Rattle.bdb_base.specs.SameLemmas.{same_text-Decides, same_path-Decides, same
 use Rattle.bdb_base.specs.SortedSet.{IsExactOrder, is_member, ascending, put_at, put_in}
 use Rattle.bdb_base.specs.Clash.{key_of, same_key, clash}
 use Rattle.bdb_base.specs.Worlds.{contradicted}
-use Rattle.bdb_base.specs.Bases.{AreStatements, are_distinct, belongs, fits_definition, fits_relation, is_user, is_plain, is_valid_relation, key_at, key_lengths, stands, tuple_count, world_count, with_user, with_relation, with_statement}
+use Rattle.bdb_base.specs.Bases.{AreStatements, are_distinct, belongs, fits_definition, fits_relation, is_user, is_plain, is_valid_relation, key_at, key_lengths, live_name, name_at, stands, tuple_count, user_names, world_count, with_user, with_relation, with_statement}
 use Rattle.bdb_base.specs.States.{prefixes, stated_prefixes}
 use Rattle.bdb_base.specs.BaseLaws.{PutIsValid, TakeIsValid, AddUserIsValid, AddRelationIsValid, PutCountsTuple, PutCountsStatement}
 use Rattle.bdb_base.proofs.ClashLemmas.{clash_by_length}
@@ -82,7 +86,7 @@ filter_is_valid c stmts q v sorted =
     let tuples = leb-true (tuple_count stmts) 4000 v.few_tuples in
     let no_more_tuples = distinct_count-le same_tuple same_tuple-Decides (map (λ x. x.tuple) (filter q stmts)) (map (λ x. x.tuple) stmts)
     (λ t k. list_any-map (same_tuple t) (λ x. x.tuple) stmts ∙ list_any-filter_some (λ x. same_tuple t x.tuple) q stmts (sym (list_any-map (same_tuple t) (λ x. x.tuple) (filter q stmts)) ∙ k)) in
-    let worlds = leb-true (world_count stmts) 2000 v.few_worlds in
+    let worlds = leb-true (world_count stmts) 4000 v.few_worlds in
     let no_more_worlds = distinct_count-le same_path same_path-Decides (stated_prefixes (filter q stmts)) (stated_prefixes stmts) (fewer_prefixes stmts q) in
     record {
       sorted = sorted;
@@ -93,7 +97,7 @@ filter_is_valid c stmts q v sorted =
           (list_any-filter_none (opposes keys x) q stmts (not-true (contradicted keys stmts x.path x.tuple x.sign) h))) stmts v.no_clash);
       few_stmts = le-leb (length (filter q stmts)) 20000 (omega arith);
       few_tuples = le-leb (tuple_count (filter q stmts)) 4000 (omega arith);
-      few_worlds = le-leb (world_count (filter q stmts)) 2000 (omega arith);
+      few_worlds = le-leb (world_count (filter q stmts)) 4000 (omega arith);
     }
 
 pub take_is_valid : TakeIsValid
@@ -157,7 +161,7 @@ put_is_valid c stmts s v belong apart room tuples worlds =
             (none_of keys stmts s s (and_right (same_path s.path s.path) (clash keys s.tuple s.sign s.tuple s.sign) (clash_itself keys s.tuple s.sign)) apart);
         few_stmts = le-leb (length next) 20000 fits;
         few_tuples = le-leb (tuple_count next) 4000 tuples;
-        few_worlds = le-leb (world_count next) 2000 worlds;
+        few_worlds = le-leb (world_count next) 4000 worlds;
       };
     }
   where
@@ -183,13 +187,21 @@ distinct_push (n ∷ ns) name h g =
     (or_from (same_text n name) false (turned same_text same_text-Decides n name ∙ l.0) refl)))
     (distinct_push ns name k.1 l.1)
 
+-- where a place of a list has a name, that place of a longer list has one
+name_stays : (users more : List UserSlot) (at : ℕ) → is_some (name_at users at) ≡ true → is_some (name_at (users ++ more) at) ≡ true
+name_stays [] more at h = absurd (false≢true h)
+name_stays (u ∷ us) more zero h = h
+name_stays (u ∷ us) more (suc at) h = name_stays us more at h
+
 -- a user of a list is one of a longer list
-user_stays : (users : List (List ℕ)) (name : List ℕ) (uid : ℕ) → is_user users uid ≡ true → is_user (users ++ name ∷ []) uid ≡ true
-user_stays users name uid h =
-    let k = and_parts (nat_lt 0 uid) (nat_le uid (length users)) h in
-    let a = leb-true uid (length users) k.1 in
-    let l = length-append users (name ∷ []) in
-    and_from (nat_lt 0 uid) (nat_le uid (length (users ++ name ∷ []))) k.0 (le-leb uid (length (users ++ name ∷ [])) (omega arith))
+pub user_stays : (users more : List UserSlot) (uid : ℕ) → is_user users uid ≡ true → is_user (users ++ more) uid ≡ true
+user_stays users more uid h =
+    let k = and_parts (nat_lt 0 uid) (is_some (name_at users (uid - 1))) h in
+    and_from (nat_lt 0 uid) (is_some (name_at (users ++ more) (uid - 1))) k.0 (name_stays users more (uid - 1) k.1)
+
+-- the names with one more user
+pub names_push : (users : List UserSlot) (name : List ℕ) → user_names (users ++ Live name ∷ []) ≡ user_names users ++ name ∷ []
+names_push users name = filter_map-append live_name users (Live name ∷ [])
 
 -- what fits a relation of a list fits that relation of a longer list
 fit_stays : (rels : List RelDef) (def : RelDef) (rel : ℕ) (vals : List Value) → fits_definition (slice_get rels rel) vals ≡ true → fits_definition (slice_get (rels ++ def ∷ []) rel) vals ≡ true
@@ -198,27 +210,27 @@ fit_stays (r ∷ rels) def zero vals h = h
 fit_stays (r ∷ rels) def (suc rel) vals h = fit_stays rels def rel vals h
 
 -- the parts of what belongs to a catalog
-record Belongs (c : Catalog) (x : Stmt) : Type 0 where
-  path : (alternates x.path && nat_le (length x.path) 16) ≡ true
-  users : list_all (is_user c.users) x.path ≡ true
-  tuple : fits_relation c.rels x.tuple ≡ true
+pub record Belongs (c : Catalog) (x : Stmt) : Type 0 where
+  pub path : (alternates x.path && nat_le (length x.path) 64) ≡ true
+  pub users : list_all (is_user c.users) x.path ≡ true
+  pub tuple : fits_relation c.rels x.tuple ≡ true
 
-belongs_parts : (c : Catalog) (x : Stmt) → belongs c x ≡ true → Belongs c x
+pub belongs_parts : (c : Catalog) (x : Stmt) → belongs c x ≡ true → Belongs c x
 belongs_parts c x h =
-    let k = and_parts (alternates x.path && nat_le (length x.path) 16 && list_all (is_user c.users) x.path) (fits_relation c.rels x.tuple) h in
-    let l = and_parts (alternates x.path && nat_le (length x.path) 16) (list_all (is_user c.users) x.path) k.0 in
+    let k = and_parts (alternates x.path && nat_le (length x.path) 64 && list_all (is_user c.users) x.path) (fits_relation c.rels x.tuple) h in
+    let l = and_parts (alternates x.path && nat_le (length x.path) 64) (list_all (is_user c.users) x.path) k.0 in
     record { path = l.0; users = l.1; tuple = k.1 }
 
-belongs_from : (c : Catalog) (x : Stmt) → Belongs c x → belongs c x ≡ true
-belongs_from c x b = and_from (alternates x.path && nat_le (length x.path) 16 && list_all (is_user c.users) x.path) (fits_relation c.rels x.tuple)
-    (and_from (alternates x.path && nat_le (length x.path) 16) (list_all (is_user c.users) x.path) b.path b.users) b.tuple
+pub belongs_from : (c : Catalog) (x : Stmt) → Belongs c x → belongs c x ≡ true
+belongs_from c x b = and_from (alternates x.path && nat_le (length x.path) 64 && list_all (is_user c.users) x.path) (fits_relation c.rels x.tuple)
+    (and_from (alternates x.path && nat_le (length x.path) 64) (list_all (is_user c.users) x.path) b.path b.users) b.tuple
 
 pub belongs_with_user : (c : Catalog) (name : List ℕ) (x : Stmt) → belongs c x ≡ true → belongs (with_user c name) x ≡ true
 belongs_with_user c name x h =
     let b = belongs_parts c x h in
     belongs_from (with_user c name) x (record {
       path = b.path;
-      users = list_all_weaker (is_user c.users) (is_user (c.users ++ name ∷ [])) (user_stays c.users name) x.path b.users;
+      users = list_all_weaker (is_user c.users) (is_user (c.users ++ Live name ∷ [])) (user_stays c.users (Live name ∷ [])) x.path b.users;
       tuple = b.tuple;
     })
 
@@ -229,12 +241,13 @@ belongs_with_relation c def x h =
 
 pub add_user_is_valid : AddUserIsValid
 add_user_is_valid c stmts name v plain apart room =
-    let l = length-append c.users (name ∷ []) in
+    let l = length-append c.users (Live name ∷ []) in
+    let names = names_push c.users name in
     record {
       catalog = record {
-        users_differ = distinct_push c.users name v.catalog.users_differ apart;
-        users_plain = list_all_push is_plain c.users name v.catalog.users_plain plain;
-        few_users = le-leb (length (c.users ++ name ∷ [])) 256 (omega arith);
+        users_differ = ap are_distinct names ∙ distinct_push (user_names c.users) name v.catalog.users_differ apart;
+        users_plain = ap (list_all is_plain) names ∙ list_all_push is_plain (user_names c.users) name v.catalog.users_plain plain;
+        few_users = le-leb (length (c.users ++ Live name ∷ [])) 1024 (omega arith);
         rels_differ = v.catalog.rels_differ;
         rels_valid = v.catalog.rels_valid;
         few_rels = v.catalog.few_rels;

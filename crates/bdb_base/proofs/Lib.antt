@@ -9,5 +9,6 @@ pub mod SameLemmas
 pub mod SegmentLemmas
 pub mod SetLemmas
 pub mod UpdateLemmas
+pub mod UserLemmas
 pub mod WorldLemmas
 pub mod WorldRowsLemmas

@@ -78,7 +78,7 @@ taken_rel w s rel conds x e =
 belongs_changed : (c : Catalog) (sets : List SetCol) (x : Stmt) → belongs c x ≡ true
     → (fits_relation c.rels x.tuple ≡ true → fits_relation c.rels (changed sets x.tuple) ≡ true) → belongs c (changed_statement sets x) ≡ true
 belongs_changed c sets x h fit =
-    let placed = alternates x.path && nat_le (length x.path) 16 && list_all (is_user c.users) x.path in
+    let placed = alternates x.path && nat_le (length x.path) 64 && list_all (is_user c.users) x.path in
     let k = and_parts placed (fits_relation c.rels x.tuple) h in
     and_from placed (fits_relation c.rels (changed sets x.tuple)) k.0 (fit k.1)
 
@@ -158,6 +158,6 @@ update_is_valid c stmts w s rel conds sets v fit none tuples worlds room =
             (list_all_weaker (λ y. same_path y.path w) (is_free_elsewhere keys next w) (λ y k. or_left (same_path y.path w) (is_free keys next y) k) more at));
         few_stmts = le-leb (length next) 20000 room;
         few_tuples = le-leb (tuple_count next) 4000 tuples;
-        few_worlds = le-leb (world_count next) 2000 worlds;
+        few_worlds = le-leb (world_count next) 4000 worlds;
       };
     }

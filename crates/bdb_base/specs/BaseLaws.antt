@@ -7,7 +7,7 @@ use Rattle.bdb_base.specs.declared.kinds.Stmt.{Stmt}
 use Rattle.bdb_base.specs.Limits.{most_users, most_relations, most_statements, most_tuples, most_worlds}
 use Rattle.bdb_base.specs.Same.{same_text}
 use Rattle.bdb_base.specs.Worlds.{contradicted}
-use Rattle.bdb_base.specs.Bases.{IsValid, belongs, is_plain, is_valid_relation, key_lengths, stands, has_tuple, tuple_count, world_count, with_user, with_relation, with_statement, without_statement}
+use Rattle.bdb_base.specs.Bases.{IsValid, belongs, is_plain, is_valid_relation, key_lengths, stands, has_tuple, tuple_count, user_names, world_count, with_user, with_relation, with_statement, without_statement}
 
 -- A valid base stays valid with one more statement: one that belongs to its catalog and clashes with none of its path,
 -- where the limits leave room.
@@ -21,9 +21,9 @@ PutIsValid = (c : Catalog) (stmts : List Stmt) (s : Stmt) → IsValid c stmts �
 abbrev pub TakeIsValid : Type 0
 TakeIsValid = (c : Catalog) (stmts : List Stmt) (s : Stmt) → IsValid c stmts → IsValid c (without_statement stmts s)
 
--- a valid base stays valid with one more user, of a plain name that no user has, where there is room
+-- a valid base stays valid with one more user, of a plain name that no live user has, where there is room
 abbrev pub AddUserIsValid : Type 0
-AddUserIsValid = (c : Catalog) (stmts : List Stmt) (name : List ℕ) → IsValid c stmts → is_plain name ≡ true → list_any (same_text name) c.users ≡ false → length c.users < most_users
+AddUserIsValid = (c : Catalog) (stmts : List Stmt) (name : List ℕ) → IsValid c stmts → is_plain name ≡ true → list_any (same_text name) (user_names c.users) ≡ false → length c.users < most_users
     → IsValid (with_user c name) stmts
 
 -- a valid base stays valid with one more valid relation, of a name that none has, where there is room

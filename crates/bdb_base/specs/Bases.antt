@@ -1,6 +1,7 @@
 -- Bases, and when one is valid.
 use Rattle.std.specs.Prelude.{◌≡◌, ℕ, ◌+◌, ◌-◌, Bool, true, false, not, ◌&&◌, nat_lt, nat_le, List, [], ◌∷◌, ◌++◌, length, map, take, Option, None, Some, cond}
-use Rattle.std.specs.List.{list_any, list_all, slice_get}
+use Rattle.std.specs.List.{list_any, list_all, filter_map, slice_get, slice_set}
+use Rattle.std.specs.Option.{option_and_then, is_some}
 use Rattle.std.specs.Str.{is_utf8}
 use Rattle.bdb_base.specs.declared.kinds.Value.{Value}
 use Rattle.bdb_base.specs.declared.kinds.Value.TheVariants.{Int, Text}
@@ -10,6 +11,8 @@ use Rattle.bdb_base.specs.declared.kinds.ColDef.{ColDef}
 use Rattle.bdb_base.specs.declared.kinds.RelDef.{RelDef}
 use Rattle.bdb_base.specs.declared.kinds.Catalog.{Catalog}
 use Rattle.bdb_base.specs.declared.kinds.Stmt.{Stmt}
+use Rattle.bdb_base.specs.declared.kinds.UserSlot.{UserSlot}
+use Rattle.bdb_base.specs.declared.kinds.UserSlot.TheVariants.{Live, Gone}
 use Rattle.bdb_base.specs.declared.tuple.Tuple.{Tuple}
 use Rattle.bdb_base.specs.Same.{same_text, same_path, same_tuple}
 use Rattle.bdb_base.specs.Alternation.{alternates}
@@ -33,9 +36,31 @@ key_at (Some def) = def.key
 abbrev pub key_lengths : List RelDef → ℕ → ℕ
 key_lengths rels rel = key_at (slice_get rels rel)
 
--- a number is that of a user: they are numbered from 1
-abbrev pub is_user : List (List ℕ) → ℕ → Bool
-is_user users uid = nat_lt 0 uid && nat_le uid (length users)
+-- the name of the user of a place; none where he is gone
+abbrev pub live_name : UserSlot → Option (List ℕ)
+live_name (Live name) = Some name
+live_name Gone = None
+
+-- the name of the user at a place, the first of which is 0; none where he is gone, and past the last place
+abbrev pub name_at : List UserSlot → ℕ → Option (List ℕ)
+name_at users at = option_and_then live_name (slice_get users at)
+
+-- a number is that of a live user: the places are numbered from 1
+abbrev pub is_user : List UserSlot → ℕ → Bool
+is_user users uid = nat_lt 0 uid && is_some (name_at users (uid - 1))
+
+-- there is such a place, and its user is gone
+abbrev pub is_left : Option UserSlot → Bool
+is_left (Some Gone) = true
+is_left _ = false
+
+-- a number is that of a user who is gone
+abbrev pub is_gone : List UserSlot → ℕ → Bool
+is_gone users uid = nat_lt 0 uid && is_left (slice_get users (uid - 1))
+
+-- the names of the live users, in order
+abbrev pub user_names : List UserSlot → List (List ℕ)
+user_names users = filter_map live_name users
 
 -- the bytes are those of a text without characters below U+0020
 abbrev pub is_clean : List ℕ → Bool
@@ -89,16 +114,16 @@ abbrev pub is_valid_relation : RelDef → Bool
 is_valid_relation def = nat_lt 0 (length def.cols) && nat_le (length def.cols) most_columns && (are_distinct (map (λ c. c.name) def.cols)
     && list_all (λ c. is_plain c.name) def.cols && (is_plain def.name && not (same_text def.name users_name)) && is_key def)
 
--- the users and relations have plain names that differ, and are not too many
+-- the live users and the relations have plain names that differ; the places of users, and the relations, are not too many
 pub record IsCatalog (c : Catalog) : Type 0 where
-  pub users_differ : are_distinct c.users ≡ true
-  pub users_plain : list_all is_plain c.users ≡ true
+  pub users_differ : are_distinct (user_names c.users) ≡ true
+  pub users_plain : list_all is_plain (user_names c.users) ≡ true
   pub few_users : nat_le (length c.users) most_users ≡ true
   pub rels_differ : are_distinct (map (λ r. r.name) c.rels) ≡ true
   pub rels_valid : list_all is_valid_relation c.rels ≡ true
   pub few_rels : nat_le (length c.rels) most_relations ≡ true
 
--- a statement's path is one of users of the catalog and not too deep, and its tuple fits its relation
+-- a statement's path is one of live users and not too deep, and its tuple fits its relation
 abbrev pub belongs : Catalog → Stmt → Bool
 belongs c x = alternates x.path && nat_le (length x.path) deepest_statement && list_all (is_user c.users) x.path && fits_relation c.rels x.tuple
 
@@ -133,15 +158,23 @@ pub record IsValid (c : Catalog) (xs : List Stmt) : Type 0 where
 abbrev pub empty_contents : Contents
 empty_contents = record { catalog = record { rels = []; users = [] }; stmts = [] }
 
--- the catalog with one more user
+-- the catalog with one more user, at a place behind the others
 abbrev pub with_user : Catalog → List ℕ → Catalog
-with_user c name = record c { users = c.users ++ name ∷ [] }
+with_user c name = record c { users = c.users ++ Live name ∷ [] }
 
 -- the catalog with one more relation
 abbrev pub with_relation : Catalog → RelDef → Catalog
 with_relation c def = record c { rels = c.rels ++ def ∷ [] }
 
--- the catalog without the user added last
+-- the catalog without a user: he is gone from his place, and all other places stay as they are
+abbrev pub without_user : Catalog → ℕ → Catalog
+without_user c uid = record c { users = slice_set c.users (uid - 1) Gone }
+
+-- the catalog with a live user of this name at the place of one who is gone
+abbrev pub with_user_back : Catalog → ℕ → List ℕ → Catalog
+with_user_back c uid name = record c { users = slice_set c.users (uid - 1) (Live name) }
+
+-- the catalog without the place of the user added last
 abbrev pub without_last_user : Catalog → Catalog
 without_last_user c = record c { users = take (length c.users - 1) c.users }
 

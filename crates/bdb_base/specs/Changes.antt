@@ -1,5 +1,6 @@
--- What a delete and an update do to the standing statements.
+-- What a delete, an update and the leaving of a user do to the standing statements.
 use Rattle.std.specs.Prelude.{ℕ, Bool, not, ◌&&◌, nat_eq, List, [], ◌∷◌, filter, map, Option, find}
+use Rattle.std.specs.List.{list_any}
 use Rattle.bdb_base.specs.declared.kinds.Cond.{Cond}
 use Rattle.bdb_base.specs.declared.kinds.SetCol.{SetCol}
 use Rattle.bdb_base.specs.declared.kinds.Sign.{Sign}
@@ -37,3 +38,15 @@ updated w s rel conds sets stmts = with_statements (without_taken w s rel conds 
 -- the least statement of this very path that clashes with another of it
 abbrev pub first_clashing : (ℕ → ℕ) → List Stmt → List ℕ → Option Stmt
 first_clashing keys stmts w = find (λ x. same_path x.path w && contradicted keys stmts w x.tuple x.sign) stmts
+
+-- a path names a user
+abbrev pub names_user : ℕ → List ℕ → Bool
+names_user uid w = list_any (λ i. nat_eq i uid) w
+
+-- the statements whose path names a user
+abbrev pub statements_naming : ℕ → List Stmt → List Stmt
+statements_naming uid stmts = filter (λ x. names_user uid x.path) stmts
+
+-- the statements whose path does not name a user
+abbrev pub without_statements_of : ℕ → List Stmt → List Stmt
+without_statements_of uid stmts = filter (λ x. not (names_user uid x.path)) stmts

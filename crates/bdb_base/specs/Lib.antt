@@ -20,5 +20,6 @@ pub mod States
 pub mod Texts
 pub mod TupleFields
 pub mod UpdateLaws
+pub mod UserLaws
 pub mod WorldRows
 pub mod Worlds

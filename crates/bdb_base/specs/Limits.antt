@@ -1,9 +1,9 @@
 -- The limits of the language.
 use Rattle.std.specs.Prelude.{ℕ}
 
--- users of a base
+-- places of users of a base: those of live users, and of those who are gone
 abbrev pub most_users : ℕ
-most_users = 256
+most_users = 1024
 
 -- relations of a base
 abbrev pub most_relations : ℕ
@@ -23,7 +23,7 @@ longest_word = 255
 
 -- users of a statement's path
 abbrev pub deepest_statement : ℕ
-deepest_statement = 16
+deepest_statement = 64
 
 -- users of a path in a query, and of one whose world is shown
 abbrev pub deepest_query : ℕ
@@ -39,7 +39,7 @@ most_select_columns = 32
 
 -- worlds of a base
 abbrev pub most_worlds : ℕ
-most_worlds = 2000
+most_worlds = 4000
 
 -- different tuples of a base's statements
 abbrev pub most_tuples : ℕ

@@ -12,50 +12,52 @@ use Rattle.bdb_base.specs.declared.kinds.Query.{Query}
 use Rattle.bdb_base.specs.declared.kinds.Ref.{Ref}
 use Rattle.bdb_base.specs.declared.kinds.RelDef.{RelDef}
 use Rattle.bdb_base.specs.declared.kinds.Sign.{Sign}
+use Rattle.bdb_base.specs.declared.kinds.UserSlot.{UserSlot}
+use Rattle.bdb_base.specs.declared.kinds.UserSlot.TheVariants.{Live, Gone}
 use Rattle.bdb_base.specs.declared.kinds.Value.{Value}
 use Rattle.bdb_base.specs.declared.kinds.Value.TheVariants.{Int, Text}
 use Rattle.bdb_base.specs.declared.kinds.Who.{Who}
 use Rattle.bdb_base.specs.declared.kinds.Who.TheVariants.{User, Of}
 use Rattle.bdb_base.specs.declared.tuple.Tuple.{Tuple}
 use Rattle.bdb_base.specs.Alternation.{alternates}
-use Rattle.bdb_base.specs.Bases.{Contents, fits_relation, is_user, key_lengths}
+use Rattle.bdb_base.specs.Bases.{Contents, fits_relation, is_user, key_lengths, name_at, user_names}
 use Rattle.bdb_base.specs.Conditions.{compare_so}
 use Rattle.bdb_base.specs.Order.{row_cmp}
 use Rattle.bdb_base.specs.Same.{same_value}
 use Rattle.bdb_base.specs.SortedSet.{is_member, ascending, sorted_set}
 use Rattle.bdb_base.specs.Worlds.{believes}
 
--- what is chosen for an item: a user for a `Users` item, a tuple for each other
+-- what is chosen for an item: a live user for a `Users` item, a tuple for each other
 pub data Choice : Type 0 where
   ChosenUser : ℕ → Choice
   ChosenTuple : Tuple → Choice
 
 -- ---- the values and paths of an assignment, which is a choice for each item in order
 
--- the name of a user
-abbrev pub user_name : List (List ℕ) → ℕ → Option (List ℕ)
-user_name users uid = cond (is_user users uid) (slice_get users (uid - 1)) None
+-- the name of a live user, by his number
+abbrev pub user_name : List UserSlot → ℕ → Option (List ℕ)
+user_name users uid = cond (is_user users uid) (name_at users (uid - 1)) None
 
 -- a column of a user: column 0 is the number, column 1 the name
-abbrev pub user_column : List (List ℕ) → ℕ → ℕ → Option Value
+abbrev pub user_column : List UserSlot → ℕ → ℕ → Option Value
 user_column users uid col = cond (nat_eq col 0) (Some (Int (pos uid))) (cond (nat_eq col 1) (option_map Text (user_name users uid)) None)
 
 -- a column of what is chosen
-abbrev pub choice_column : List (List ℕ) → Choice → ℕ → Option Value
+abbrev pub choice_column : List UserSlot → Choice → ℕ → Option Value
 choice_column users (ChosenUser uid) col = user_column users uid col
 choice_column users (ChosenTuple t) col = slice_get t.vals col
 
 -- the value of a column of an item
-abbrev pub chosen_value : List (List ℕ) → List Choice → Ref → Option Value
+abbrev pub chosen_value : List UserSlot → List Choice → Ref → Option Value
 chosen_value users chosen r = option_and_then (λ c. choice_column users c r.col) (slice_get chosen r.item)
 
 -- the value of a comparison's right side
-abbrev pub chosen_operand : List (List ℕ) → List Choice → Operand → Option Value
+abbrev pub chosen_operand : List UserSlot → List Choice → Operand → Option Value
 chosen_operand users chosen (Col r) = chosen_value users chosen r
 chosen_operand users chosen (Lit v) = Some v
 
 -- a comparison holds
-abbrev pub cond_holds : List (List ℕ) → List Choice → Cond → Bool
+abbrev pub cond_holds : List UserSlot → List Choice → Cond → Bool
 cond_holds users chosen c = compare_so c.cmp (chosen_value users chosen c.left) (chosen_operand users chosen c.right)
 
 abbrev pub chosen_user : Choice → Option ℕ
@@ -79,7 +81,7 @@ abbrev pub path_believes : Contents → Tuple → Sign → Option (List ℕ) →
 path_believes b t s None = false
 path_believes b t s (Some w) = alternates w && believes (key_lengths b.catalog.rels) b.stmts w t s
 
--- An item holds of a choice: it is a user; or a tuple that fits the item's relation, and the item's path believes it with
+-- An item holds of a choice: it is a live user; or a tuple that fits the item's relation, and the item's path believes it with
 -- the item's sign.
 abbrev pub item_holds : Contents → List Choice → Item → Choice → Bool
 item_holds b chosen (Users alias) (ChosenUser uid) = is_user b.catalog.users uid
@@ -111,30 +113,32 @@ is_true_assignment b dom q chosen = holds_in b q chosen && list_all (choice_with
 
 -- ---- the active domain
 
--- the numbers of users, from one number on
-abbrev pub numbers_from : ℕ → List (List ℕ) → List ℕ
+-- the numbers of places, from one number on
+abbrev pub numbers_from : ℕ → List UserSlot → List ℕ
 numbers_from n [] = []
-numbers_from n (name ∷ names) = n ∷ numbers_from (suc n) names
+numbers_from n (user ∷ users) = n ∷ numbers_from (suc n) users
 
--- the numbers of all users
-abbrev pub user_numbers : List (List ℕ) → List ℕ
+-- the numbers of all live users
+abbrev pub user_numbers : List UserSlot → List ℕ
 user_numbers users = filter (is_user users) (numbers_from 1 users)
+
+-- the same, told place by place: the numbers of the live users at these places, the first of which has the number `n`
+abbrev pub live_numbers : ℕ → List UserSlot → List ℕ
+live_numbers n [] = []
+live_numbers n (Live name ∷ users) = n ∷ live_numbers (suc n) users
+live_numbers n (Gone ∷ users) = live_numbers (suc n) users
 
 -- what an option has, as a list
 abbrev pub option_list : {X : Type 0} → Option X → List X
 option_list None = []
 option_list (Some x) = x ∷ []
 
--- the names of all users
-abbrev pub user_names : List (List ℕ) → List (List ℕ)
-user_names users = flat_map (λ uid. option_list (user_name users uid)) (user_numbers users)
-
 -- the literal of a comparison's right side
 abbrev pub literal_of : Operand → List Value
 literal_of (Col r) = []
 literal_of (Lit v) = v ∷ []
 
--- the values of the statements' tuples, the users' names and numbers, and the query's literals
+-- the values of the statements' tuples, the live users' names and numbers, and the query's literals
 abbrev pub active_domain : Contents → Query → List Value
 active_domain b q = flat_map (λ x. x.tuple.vals) b.stmts
     ++ (map Text (user_names b.catalog.users) ++ (map (λ uid. Int (pos uid)) (user_numbers b.catalog.users) ++ flat_map (λ c. literal_of c.right) q.conds))
@@ -146,7 +150,7 @@ HasValues dom part = list_all (in_domain dom) part ≡ true
 -- ---- the answers
 
 -- the values of columns, where all are there
-abbrev pub chosen_row : List (List ℕ) → List Choice → List Ref → Option (List Value)
+abbrev pub chosen_row : List UserSlot → List Choice → List Ref → Option (List Value)
 chosen_row users chosen [] = Some []
 chosen_row users chosen (r ∷ rs) = option_and_then (λ v. option_map (λ vs. v ∷ vs) (chosen_row users chosen rs)) (chosen_value users chosen r)
 
@@ -164,7 +168,7 @@ abbrev pub rows_over : List Value → List ColDef → List (List Value)
 rows_over dom [] = [] ∷ []
 rows_over dom (c ∷ cs) = flat_map (λ v. map (λ vs. v ∷ vs) (rows_over dom cs)) dom
 
--- all that can be chosen for an item: the users, or the tuples of its relation over a domain
+-- all that can be chosen for an item: the live users, or the tuples of its relation over a domain
 abbrev pub choices_over : Contents → List Value → Item → List Choice
 choices_over b dom (Users alias) = map ChosenUser (user_numbers b.catalog.users)
 choices_over b dom (Rel alias rel sign path) = map (λ vals. ChosenTuple (record { rel = rel; vals = vals })) (rows_over dom (columns_at b.catalog.rels rel))

@@ -16,6 +16,7 @@ use Rattle.bdb_base.specs.declared.kinds.Query.{Query}
 use Rattle.bdb_base.specs.declared.kinds.Ref.{Ref}
 use Rattle.bdb_base.specs.declared.kinds.RelDef.{RelDef}
 use Rattle.bdb_base.specs.declared.kinds.Sign.TheVariants.{Plus, Minus}
+use Rattle.bdb_base.specs.declared.kinds.UserSlot.{UserSlot}
 use Rattle.bdb_base.specs.declared.kinds.Value.{Value}
 use Rattle.bdb_base.specs.declared.kinds.Value.TheVariants as value
 use Rattle.bdb_base.specs.declared.kinds.Who.{Who}
@@ -58,8 +59,8 @@ abbrev pub is_users_item : Option Item → Bool
 is_users_item (Some (Users alias)) = true
 is_users_item _ = false
 
--- a user of a path is a user of the catalog, or names a `Users` item
-abbrev pub who_fits : List (List ℕ) → List Item → Who → Bool
+-- a user of a path is a live user of the catalog, or names a `Users` item
+abbrev pub who_fits : List UserSlot → List Item → Who → Bool
 who_fits users items (User uid) = is_user users uid
 who_fits users items (Of item) = is_users_item (slice_get items item)
 

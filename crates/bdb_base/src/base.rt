@@ -1,11 +1,14 @@
 // Bases.
-ghost use Rattle.std.specs.Prelude.{◌≡◌, ◌<◌, not, length, IfOk, OnOk, OnErr};
-ghost use Rattle.bdb_base.specs.Bases.{IsValid, empty_contents, stands, with_statement, without_last_relation, without_last_user, without_statement, with_user, with_relation};
+ghost use Rattle.std.specs.Prelude.{◌≡◌, ◌<◌, not, true, length, IfOk, OnOk, OnErr};
+ghost use Rattle.bdb_base.specs.Bases.{IsValid, empty_contents, is_gone, is_user, stands, with_statement, without_last_relation, without_last_user, without_statement, without_user, with_user, with_user_back, with_relation};
+ghost use Rattle.bdb_base.specs.Changes.{statements_naming, without_statements_of};
 
-use crate::kinds::{Catalog, RelDef, Stmt};
+use crate::kinds::{Catalog, RelDef, Stmt, UserSlot};
+use crate::leaving::{count_naming, drop_naming};
 use crate::list::{Exact, List};
 use crate::ordered::{contains, put, take};
 use crate::text::Txt;
+use crate::users::set_slot;
 use std::alloc::{AllocError, Global};
 use std::marker::Model;
 
@@ -66,13 +69,13 @@ impl Base {
         self.stmts.as_slice()
     }
 
-    /// Adds a user, whose number is the count of users then. After a refusal the base is unchanged.
+    /// Adds a user, whose number is the count of places then. After a refusal the base is unchanged.
     pub fn add_user(&mut self, name: Txt) -> Result<(), AllocError>
         requires { IsValid (with_user self.old.catalog name) self.old.stmts }
         ensures ok { OnOk result (self.new ≡ record self.old { catalog = with_user self.old.catalog name }) }
         ensures err { OnErr result (self.new ≡ self.old) }
     {
-        self.catalog.users.push(name)
+        self.catalog.users.push(UserSlot::Live(name))
     }
 
     /// Adds a relation after the others. After a refusal the base is unchanged.
@@ -84,7 +87,7 @@ impl Base {
         self.catalog.rels.push(def)
     }
 
-    /// Takes the user added last away, which no statement may name: so that an addition can be taken back.
+    /// Takes the place of the user added last away, which no statement may name: so that an addition can be taken back.
     pub fn pop_user(&mut self)
         requires some { 0 < length self.old.catalog.users }
         requires valid { IsValid (without_last_user self.old.catalog) self.old.stmts }
@@ -92,6 +95,29 @@ impl Base {
     {
         let last = self.catalog.users.len() - 1;
         self.catalog.users.truncate(last);
+    }
+
+    /// Lets a user leave: he is gone from his place, and each statement whose path names him is taken away; the others stay, in
+    /// order. Gives the number of statements that were taken away. It takes no memory.
+    pub fn drop_user(&mut self, uid: u32) -> u32
+        requires { is_user self.old.catalog.users uid ≡ true }
+        ensures count { result ≡ length (statements_naming uid self.old.stmts) }
+        ensures left { self.new ≡ record { catalog = without_user self.old.catalog uid; stmts = without_statements_of uid self.old.stmts } }
+    {
+        let count = count_naming(self.stmts.as_slice(), uid);
+        drop_naming(&mut self.stmts, uid);
+        set_slot(&mut self.catalog.users, uid, UserSlot::Gone);
+        count as u32
+    }
+
+    /// Lets a live user of this name stand at the place of one who is gone: so that his leaving can be taken back. It takes no
+    /// memory.
+    pub fn revive_user(&mut self, uid: u32, name: Txt)
+        requires gone { is_gone self.old.catalog.users uid ≡ true }
+        requires valid { IsValid (with_user_back self.old.catalog uid name) self.old.stmts }
+        ensures { self.new ≡ record self.old { catalog = with_user_back self.old.catalog uid name } }
+    {
+        set_slot(&mut self.catalog.users, uid, UserSlot::Live(name));
     }
 
     /// Takes the relation added last away, of which no tuple may stand: so that an addition can be taken back.

@@ -51,11 +51,19 @@ pub struct RelDef {
     pub key: u32,
 }
 
-/// The relations, numbered from 0, and the users, numbered from 1, in order of creation.
+/// A place of the list of users: a live user, by name, or one who is gone.
+#[derive(Drop)]
+pub enum UserSlot {
+    Live(Txt),
+    Gone,
+}
+
+/// The relations, numbered from 0, and the places of the users, numbered from 1, in order of creation. A user who is gone
+/// keeps his place, so that his number is not given again.
 #[derive(Drop)]
 pub struct Catalog {
     pub rels: List<RelDef>,
-    pub users: List<Txt>,
+    pub users: List<UserSlot>,
 }
 
 /// What a base can be full of.
@@ -191,6 +199,15 @@ impl Exact for RelDef {
             cols,
             key: self.key,
         })
+    }
+}
+
+impl Exact for UserSlot {
+    fn try_clone(&self, alloc: Global) -> Result<Self, AllocError> {
+        match self {
+            UserSlot::Live(name) => Ok(UserSlot::Live(name.try_clone(alloc)?)),
+            UserSlot::Gone => Ok(UserSlot::Gone),
+        }
     }
 }
 

@@ -9,6 +9,7 @@ mod conflict;
 mod counts;
 mod kinds;
 pub mod laws;
+mod leaving;
 pub mod limits;
 mod list;
 mod order;
@@ -20,6 +21,8 @@ mod texts;
 mod tuple;
 mod tuples;
 mod update_laws;
+mod user_laws;
+mod users;
 mod validity;
 
 pub use base::Base;
@@ -29,8 +32,9 @@ pub use conflict::{clash, key_length, key_of, same_key, same_tuple, same_value, 
 pub use counts::{distinct_tuples, has_tuple};
 pub use kinds::{
     Catalog, Cmp, ColDef, Cond, Held, Item, Kind, Operand, Query, Ref, RelDef, SetCol, Sign, Stmt,
-    Value, What, Who, World,
+    UserSlot, Value, What, Who, World,
 };
+pub use leaving::names_user;
 pub use list::{Exact, List};
 pub use order::{cmp_path, cmp_row, cmp_stmt, cmp_tuple, cmp_value};
 pub use ordered::{
@@ -48,6 +52,13 @@ pub use texts::{
 pub use tuple::Tuple;
 pub use tuples::tuples_of;
 pub use update_laws::{delete_is_valid, update_is_valid};
+pub use user_laws::{
+    comes_back, drop_user_is_valid, gone_after_users_come, gone_after_users_leave, name_is_free,
+    name_is_given_again, numbers_are_counted, numbers_are_live, others_are_users,
+    others_keep_names, stands_without_user, statements_are_parted, states_name_others,
+    who_is_gone_is_no_user, who_leaves_is_gone,
+};
+pub use users::{is_user, live_count, name_at, user_name};
 pub use validity::{
     add_relation_is_valid, add_user_is_valid, put_counts_statement, put_counts_tuple, put_is_valid,
     take_is_valid,

@@ -19,8 +19,8 @@ ghost use Rattle.bdb_base.specs.Limits.{
   most_generated,
 };
 
-/// Users of a base.
-pub const MOST_USERS: usize = 256;
+/// Places of users of a base: those of live users, and of those who are gone.
+pub const MOST_USERS: usize = 1_024;
 
 /// Relations of a base.
 pub const MOST_RELATIONS: usize = 64;
@@ -35,7 +35,7 @@ pub const LONGEST_TEXT: usize = 255;
 pub const LONGEST_WORD: usize = 255;
 
 /// Users of a statement's path.
-pub const DEEPEST_STATEMENT: usize = 16;
+pub const DEEPEST_STATEMENT: usize = 64;
 
 /// Users of a path in a query, and of one whose world is shown.
 pub const DEEPEST_QUERY: usize = 1_024;
@@ -47,7 +47,7 @@ pub const MOST_ITEMS: usize = 8;
 pub const MOST_SELECT_COLUMNS: usize = 32;
 
 /// Worlds of a base.
-pub const MOST_WORLDS: usize = 2_000;
+pub const MOST_WORLDS: usize = 4_000;
 
 /// Different tuples of a base's statements.
 pub const MOST_TUPLES: usize = 4_000;

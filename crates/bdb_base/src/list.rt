@@ -1,5 +1,7 @@
 // One list type for all lists of the project.
-ghost use Rattle.std.specs.Prelude.{◌≡◌, ◌==◌, [], ◌∷◌, ◌++◌, ◌≤◌, ◌<◌, length, insert, remove, take, IfOk, OnOk, OnErr, slice_get, Some};
+ghost use Rattle.std.specs.Prelude.{◌≡◌, ◌==◌, [], ◌∷◌, ◌++◌, ◌≤◌, ◌<◌, length, insert, remove, take, IfOk, OnOk, OnErr, slice_get, slice_set, Some};
+ghost use Rattle.std.specs.Fn.{CalledAt};
+ghost use Rattle.std.specs.List.Retain.{IsFiltered};
 ghost use Rattle.std.specs.Option.{option_copied};
 
 use std::alloc::{AllocError, Global};
@@ -105,6 +107,22 @@ impl<X: Exact> List<X> {
         ensures rest { self.new ≡ remove self.old at }
     {
         self.items.remove(at)
+    }
+
+    /// Lets an item stand at a place, instead of the one that stood there.
+    pub fn set(&mut self, at: usize, item: X)
+        requires { at < length self.old }
+        ensures { self.new ≡ slice_set self.old at item }
+    {
+        self.items[at] = item;
+    }
+
+    /// Keeps the items that pass a test, in order.
+    pub fn retain<F: FnMut(&X) -> bool>(&mut self, keep: F)
+        requires { F.IsAlwaysCallable keep }
+        ensures { IsFiltered (CalledAt F.FnMut) keep self.old self.new }
+    {
+        self.items.retain(keep);
     }
 
     /// Keeps the first items, as many as `len`.

@@ -12,7 +12,7 @@ pub fn take_is_valid()
     ensures { TakeIsValid }
 {}
 
-/// A valid base stays valid with one more user, of a plain name that no user has, where there is room.
+/// A valid base stays valid with one more user, of a plain name that no live user has, where there is room.
 pub fn add_user_is_valid()
     ensures { AddUserIsValid }
 {}

@@ -10,8 +10,9 @@ use Rattle.bdb_base.specs.declared.kinds.RelDef.{RelDef}
 use Rattle.bdb_base.specs.declared.kinds.Sign.TheVariants.{Plus}
 use Rattle.bdb_base.specs.declared.kinds.Stmt.{Stmt}
 use Rattle.bdb_base.specs.declared.kinds.Value.TheVariants.{Int}
-use Rattle.bdb_base_tests.specs.BaseSamples.{sample_relation, sample_statement, first, second, third}
-use Rattle.bdb_base.specs.Bases.{Contents, IsValid, empty_contents, with_user, with_relation, without_last_user, without_last_relation, with_statement}
+use Rattle.bdb_base_tests.specs.BaseSamples.{sample_relation, sample_statement, first, second, third, fourth}
+use Rattle.bdb_base.specs.Bases.{Contents, IsValid, empty_contents, is_gone, is_user, with_user, with_user_back, with_relation, without_last_user, without_last_relation, without_user, with_statement}
+use Rattle.bdb_base.specs.Changes.{without_statements_of}
 
 -- the names are text: each byte is below 128
 ascii_cons : (b : ℕ) (bs : List ℕ) → b < 128 → IsAscii bs → IsAscii (b ∷ bs)
@@ -116,3 +117,22 @@ relation_taken v = record v { catalog = without_last_relation v.catalog }
 
 pub after_pop : (b next : Contents) → next ≡ relation_taken b → b ≡ second → next ≡ first
 after_pop b next h e = h ∙ ap relation_taken e
+
+-- a base without its first user
+abbrev pub user_left : Contents → Contents
+user_left v = record { catalog = without_user v.catalog 1; stmts = without_statements_of 1 v.stmts }
+
+pub user_is_there : (b : Contents) → b ≡ third → is_user b.catalog.users 1 ≡ true
+user_is_there b e = ap (λ (v : Contents). is_user v.catalog.users 1) e
+
+pub after_leaving : (b next : Contents) → next ≡ user_left b → b ≡ third → next ≡ fourth
+after_leaving b next h e = h ∙ ap user_left e
+
+pub user_is_gone : (b : Contents) → b ≡ fourth → is_gone b.catalog.users 1 ≡ true
+user_is_gone b e = ap (λ (v : Contents). is_gone v.catalog.users 1) e
+
+pub user_may_come_back : (b : Contents) (name : List ℕ) → b ≡ fourth → name ≡ codes "Ann" → IsValid (with_user_back b.catalog 1 name) b.stmts
+user_may_come_back b name e f =
+    let P : Contents → Type 0 = λ v. IsValid (with_user_back v.catalog 1 name) v.stmts in
+    let Q : List ℕ → Type 0 = λ n. IsValid (with_user_back fourth.catalog 1 n) [] in
+    subst P (sym e) (subst Q (sym f) second_valid)

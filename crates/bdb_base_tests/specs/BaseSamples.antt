@@ -5,7 +5,8 @@ use Rattle.bdb_base.specs.declared.kinds.RelDef.{RelDef}
 use Rattle.bdb_base.specs.declared.kinds.Sign.TheVariants.{Plus}
 use Rattle.bdb_base.specs.declared.kinds.Stmt.{Stmt}
 use Rattle.bdb_base.specs.declared.kinds.Value.TheVariants.{Int}
-use Rattle.bdb_base.specs.Bases.{Contents, empty_contents, with_user, with_relation, with_statement}
+use Rattle.bdb_base.specs.Bases.{Contents, empty_contents, with_user, without_user, with_relation, with_statement}
+use Rattle.bdb_base.specs.Changes.{without_statements_of}
 
 -- R, with one column of integers, which is its key
 abbrev pub sample_relation : RelDef
@@ -26,3 +27,7 @@ second = record first { catalog = with_relation first.catalog sample_relation }
 -- .. and with the statement
 abbrev pub third : Contents
 third = record second { stmts = with_statement second.stmts sample_statement }
+
+-- the third base, after its user left
+abbrev pub fourth : Contents
+fourth = record { catalog = without_user third.catalog 1; stmts = without_statements_of 1 third.stmts }

@@ -5,6 +5,7 @@ use Rattle.bdb_base.specs.declared.kinds.Kind.TheVariants as kind
 use Rattle.bdb_base.specs.declared.kinds.RelDef.{RelDef}
 use Rattle.bdb_base.specs.declared.kinds.Sign.TheVariants.{Plus}
 use Rattle.bdb_base.specs.declared.kinds.Stmt.{Stmt}
+use Rattle.bdb_base.specs.declared.kinds.UserSlot.TheVariants.{Live}
 use Rattle.bdb_base.specs.declared.kinds.Value.TheVariants.{Text}
 use Rattle.bdb_base.specs.Bases.{Contents, with_user, with_relation}
 use Rattle.bdb_undo.specs.declared.change.Change.{Change}
@@ -24,7 +25,7 @@ bobs_next_word = record { path = 2 ∷ []; sign = Plus; tuple = record { rel = 0
 
 -- Alice alone
 abbrev pub alone : Contents
-alone = record { catalog = record { rels = []; users = codes "Alice" ∷ [] }; stmts = [] }
+alone = record { catalog = record { rels = []; users = Live (codes "Alice") ∷ [] }; stmts = [] }
 
 -- .. with the relation
 abbrev pub related : Contents

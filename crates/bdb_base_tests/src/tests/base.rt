@@ -1,10 +1,10 @@
-// The orders of values and paths, and a base to which a relation and a statement are added and taken away.
+// The orders of values and paths, and a base to which a user, a relation and a statement are added and taken away.
 ghost use Rattle.std.specs.Prelude.{◌≡◌, IfOk};
 ghost use Rattle.bdb_base_tests.specs.BaseSamples.{sample_relation, sample_statement, second};
 
 use bdb_base::{
     Base, ColDef, Exact, Kind, List, Path, RelDef, Sign, Stmt, Tuple, Txt, Value, cmp_path,
-    cmp_value,
+    cmp_value, is_user, live_count, user_name,
 };
 use std::alloc::{AllocError, Global};
 use std::test::Fail;
@@ -123,5 +123,22 @@ fn keeps_what_is_put(rt: HostRuntime) -> Result<(), Fail> {
     assert!(rt; copy_keeps_one(alloc, &mut base)?);
     assert_eq!(rt; base.stmts().len(), 0);
     assert_eq!(rt; base.catalog().users.len(), 1);
+    Ok(())
+}
+
+#[test]
+fn who_leaves_may_come_back(rt: HostRuntime) -> Result<(), Fail> {
+    let alloc = rt.alloc();
+    let mut base = Base::empty(alloc);
+    base.add_user(Txt::try_new(alloc, "Ann")?)?;
+    base.add_relation(relation(alloc)?)?;
+    assert!(rt; base.put(statement(alloc)?)?);
+    assert_eq!(rt; base.drop_user(1), 1);
+    assert_eq!(rt; base.stmts().len(), 0);
+    assert_eq!(rt; base.catalog().users.len(), 1);
+    assert_eq!(rt; live_count(base.catalog().users.as_slice()), 0);
+    assert!(rt; user_name(base.catalog().users.as_slice(), 1).is_none());
+    base.revive_user(1, Txt::try_new(alloc, "Ann")?);
+    assert!(rt; is_user(base.catalog().users.as_slice(), 1));
     Ok(())
 }

@@ -1,11 +1,12 @@
 // The structures of worked bases. Alice is user 1, Bob is user 2, Carol is user 3.
 ghost use Rattle.std.specs.Prelude.{◌≡◌, true, [], ◌∷◌, IfOk};
+ghost use Rattle.bdb_base.specs.declared.kinds.UserSlot.TheVariants.{Live};
 ghost use Rattle.bdb_base.specs.Safety.{query_fits, IsSafe};
 ghost use Rattle.bdb_canon.specs.Samples.{sightings, stated_at, denied, disputed, reported, joined, deniers};
 
 use bdb_base::{
     Base, Catalog, Cmp, ColDef, Cond, Item, Kind, List, Operand, Path, Query, Ref, RelDef, Sign,
-    Stmt, Tuple, Txt, Value, Who, append_decimal,
+    Stmt, Tuple, Txt, UserSlot, Value, Who, append_decimal,
 };
 use bdb_canon::{Canon, canon, has_more_lines, line_count};
 use bdb_model::{answers, believes, clashing, stated, world_rows};
@@ -27,8 +28,16 @@ fn relation(alloc: Global) -> Result<RelDef, AllocError>
     Ok(RelDef { name, cols, key })
 }
 
+/// A live user of a name.
+fn live(alloc: Global, name: &str) -> Result<UserSlot, AllocError>
+    ensures { IfOk result (λ user. user ≡ Live name.now) }
+{
+    let name = Txt::try_new(alloc, name)?;
+    Ok(UserSlot::Live(name))
+}
+
 /// The relation S, and these users.
-fn catalog(alloc: Global, users: List<Txt>) -> Result<Catalog, AllocError>
+fn catalog(alloc: Global, users: List<UserSlot>) -> Result<Catalog, AllocError>
     ensures { IfOk result (λ c. c ≡ record { rels = sightings ∷ []; users = users }) }
 {
     let mut rels = List::new(alloc);
@@ -55,8 +64,8 @@ fn denied(alloc: Global) -> Result<Base, Fail>
     ensures { IfOk result (λ b. b.catalog ≡ denied.catalog) }
 {
     let mut users = List::new(alloc);
-    users.push(Txt::try_new(alloc, "Alice")?)?;
-    users.push(Txt::try_new(alloc, "Bob")?)?;
+    users.push(live(alloc, "Alice")?)?;
+    users.push(live(alloc, "Bob")?)?;
     let mut stmts = List::new(alloc);
     stmts.push(statement(alloc, &[], Sign::Plus, "s1", "eagle")?)?;
     stmts.push(statement(alloc, &[2], Sign::Minus, "s1", "eagle")?)?;
@@ -69,8 +78,8 @@ fn disputed(alloc: Global) -> Result<Base, Fail>
     ensures { IfOk result (λ b. b.catalog ≡ disputed.catalog) }
 {
     let mut users = List::new(alloc);
-    users.push(Txt::try_new(alloc, "Alice")?)?;
-    users.push(Txt::try_new(alloc, "Bob")?)?;
+    users.push(live(alloc, "Alice")?)?;
+    users.push(live(alloc, "Bob")?)?;
     let mut stmts = List::new(alloc);
     stmts.push(statement(alloc, &[], Sign::Plus, "s1", "eagle")?)?;
     stmts.push(statement(alloc, &[1], Sign::Plus, "s1", "crow")?)?;
@@ -84,9 +93,9 @@ fn reported(alloc: Global) -> Result<Base, Fail>
     ensures { IfOk result (λ b. b.catalog ≡ reported.catalog) }
 {
     let mut users = List::new(alloc);
-    users.push(Txt::try_new(alloc, "Alice")?)?;
-    users.push(Txt::try_new(alloc, "Bob")?)?;
-    users.push(Txt::try_new(alloc, "Carol")?)?;
+    users.push(live(alloc, "Alice")?)?;
+    users.push(live(alloc, "Bob")?)?;
+    users.push(live(alloc, "Carol")?)?;
     let mut stmts = List::new(alloc);
     stmts.push(statement(alloc, &[1], Sign::Plus, "s2", "crow")?)?;
     stmts.push(statement(alloc, &[3, 1], Sign::Plus, "s1", "eagle")?)?;

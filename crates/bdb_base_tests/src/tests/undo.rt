@@ -1,9 +1,11 @@
 // Changes of a worked base, back and forth, and histories of changes that add users.
 ghost use Rattle.std.specs.Prelude.{◌≡◌, [], ◌∷◌, IfOk, OnOk};
+ghost use Rattle.bdb_base.specs.declared.kinds.UserSlot.TheVariants.{Live};
 ghost use Rattle.bdb_base_tests.specs.UndoSamples.{sightings, bobs_word, bobs_next_word, alone, related, joined, joined_by_carol, told, told_anew, of_relation, of_bob, of_carol, of_word, of_next_word, word_gone};
 
 use bdb_base::{
-    Base, Catalog, ColDef, Kind, List, Path, RelDef, Sign, Stmt, Tuple, Txt, Value, cmp_stmt,
+    Base, Catalog, ColDef, Kind, List, Path, RelDef, Sign, Stmt, Tuple, Txt, UserSlot, Value,
+    cmp_stmt, user_name,
 };
 use bdb_undo::{Change, History, MOST_CHANGES, Named, change_back, change_forth, missing_from};
 use std::alloc::{AllocError, Global};
@@ -69,12 +71,20 @@ fn next_words(alloc: Global) -> Result<List<Stmt>, Fail>
     Ok(stmts)
 }
 
+/// A live user of a name.
+fn live(alloc: Global, name: &str) -> Result<UserSlot, AllocError>
+    ensures { IfOk result (λ user. user ≡ Live name.now) }
+{
+    let name = Txt::try_new(alloc, name)?;
+    Ok(UserSlot::Live(name))
+}
+
 /// A base of one user, Alice.
 fn start(alloc: Global) -> Result<Base, Fail>
     ensures { IfOk result (λ b. b ≡ alone) }
 {
     let mut users = List::new(alloc);
-    users.push(Txt::try_new(alloc, "Alice")?)?;
+    users.push(live(alloc, "Alice")?)?;
     let catalog = Catalog {
         rels: List::new(alloc),
         users,
@@ -87,8 +97,8 @@ fn joined(alloc: Global) -> Result<Base, Fail>
     ensures { IfOk result (λ b. b ≡ joined) }
 {
     let mut users = List::new(alloc);
-    users.push(Txt::try_new(alloc, "Alice")?)?;
-    users.push(Txt::try_new(alloc, "Bob")?)?;
+    users.push(live(alloc, "Alice")?)?;
+    users.push(live(alloc, "Bob")?)?;
     let mut rels = List::new(alloc);
     let def = relation(alloc)?;
     rels.push(def)?;
@@ -162,7 +172,7 @@ fn has(base: &Base, rels: usize, users: usize, stmts: usize) -> bool {
 
 /// The name of user 2.
 fn second_user(base: &Base) -> &str {
-    match base.catalog().users.get(1) {
+    match user_name(base.catalog().users.as_slice(), 2) {
         Some(name) => name.as_str(),
         None => "nobody",
     }

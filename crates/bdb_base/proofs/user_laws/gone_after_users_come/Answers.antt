@@ -1,0 +1,5 @@
+use Rattle.bdb_base.proofs.UserLemmas.{gone_after_users_come}
+use Rattle.bdb_base.proofs.user_laws.gone_after_users_come.Goals as goal
+
+pub returns : goal.returns
+returns c = gone_after_users_come
