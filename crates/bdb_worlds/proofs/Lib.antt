@@ -18,6 +18,7 @@ pub mod StepLemmas
 pub mod StepsLemmas
 pub mod TakenLemmas
 pub mod UnderLemmas
+pub mod UserDropLemmas
 pub mod UserEdgeLemmas
 pub mod UserWriteLemmas
 pub mod WalkLemmas

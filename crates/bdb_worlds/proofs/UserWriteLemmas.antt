@@ -8,8 +8,9 @@ use Rattle.bdb_keep.specs.Tables.{Tables}
 use Rattle.bdb_key.specs.Grammar.{IsNum}
 use Rattle.bdb_tables.specs.Codec.{place}
 use Rattle.bdb_tables.specs.InUse.{depth_codec}
-use Rattle.bdb_tables.specs.Names.{Names, AreNames, path_of, is_listed, are_once}
+use Rattle.bdb_tables.specs.Names.{Names, AreNames, path_of, depth_of, is_listed, are_once}
 use Rattle.bdb_tables.specs.States.{HoldsStates}
+use Rattle.bdb_tables.specs.Writes.{Gives}
 use Rattle.bdb_worlds.specs.Holding.{Worlds}
 use Rattle.bdb_worlds.specs.UserEdges.{IsNextNumber, HasNextNumber, WritesEdges}
 use Rattle.bdb_worlds.proofs.UserEdgeLemmas.{UserAddedTo, path_absent, path_present}
@@ -19,11 +20,11 @@ abbrev one_below : ℕ → ℕ → ℕ
 one_below k n = cond (nat_lt k n) 1 0
 
 -- how many of these are below a number
-abbrev below : ℕ → List ℕ → ℕ
+abbrev pub below : ℕ → List ℕ → ℕ
 below n [] = 0
 below n (k ∷ ks) = one_below k n + below n ks
 
-none_below : (ks : List ℕ) → below 0 ks ≡ 0
+pub none_below : (ks : List ℕ) → below 0 ks ≡ 0
 none_below [] = refl
 none_below (k ∷ ks) =
     let one : one_below k 0 ≡ 0 = ap (λ b. cond b 1 0) (le-ltb k 0 (omega arith)) in
@@ -94,43 +95,51 @@ listed_small ns h k l = by (path_of ns k) refl (sym (h.counted k) ∙ l)
     by None e i = absurd (false≢true (sym (ap is_some e) ∙ i))
     by (Some w) e i = h.sized w k (h.named k w e)
 
+-- the names whose depths the tables have
+module _ (u : Tables) (ns : Names) (names : AreNames ns) (depths : Gives depth_codec u (depth_of ns)) where
+  -- a number of which no depth is stored isn't listed
+  not_listed : (k : ℕ) → is_listed k ns.used ≡ true → tables.get u (place depth_codec k) ≡ None → ⊥
+  not_listed k l gone =
+      let small = listed_small ns names k l in
+      false≢true (sym (ap is_some (path_absent (path_of ns k) (sym (depths.rows k small) ∙ gone))) ∙ sym (names.counted k) ∙ l)
+
+  pub below_more : (low wid high : ℕ) → high ≡ wid + 1 → IsNextNumber u low wid → below high ns.used ≡ below low ns.used + 1
+  below_more low wid high is next =
+      let there : is_listed wid ns.used ≡ true =
+      names.counted wid ∙ path_present (path_of ns wid) (ap is_some (sym (depths.rows wid next.fits)) ∙ next.there) in
+      ap (λ n. below n ns.used) is ∙ one_more low wid next.from ns.used names.once there (λ k l a b. not_listed k l (next.least k a b))
+
+  pub below_ends : (low : ℕ) → HasNextNumber u low None → below low ns.used ≡ length ns.used
+  below_ends low none = all_below low ns.used under
+    where
+      under : (k : ℕ) → is_listed k ns.used ≡ true → k < low
+      under k l = elim (cases_lt k low) [
+        | inl lt ↦ lt
+        | inr ge ↦ absurd (not_listed k l (none k ge (listed_small ns names k l)))
+      ]
+
 -- two writes were made for each world with a number below `low`
 abbrev pub EdgesWritten : Seen → Seen → ℕ → ℕ → Type 0
 EdgesWritten old new uid low = (s : Worlds) → HoldsStates s.users s.names old.kept → s.users uid ≡ false → Rises (2 * below low s.names.used) old.writes new.writes
 
-twice_none : (n a : ℕ) → n ≡ 0 → Rises (2 * n) a a
+pub twice_none : (n a : ℕ) → n ≡ 0 → Rises (2 * n) a a
 twice_none n a e less = omega arith
 
-twice_more : (n m a b c : ℕ) → b ≤ c → m ≡ n + 1 → Rises (2 * n) a b → Rises 2 b c → Rises (2 * m) a c
+pub twice_more : (n m a b c : ℕ) → b ≤ c → m ≡ n + 1 → Rises (2 * n) a b → Rises 2 b c → Rises (2 * m) a c
 twice_more n m a b c le more before two less = let d = two less in let e = before (omega arith) in omega arith
 
-twice_all : (n m a b : ℕ) → n ≡ m → Rises (2 * n) a b → Rises (2 * m) a b
+pub twice_all : (n m a b : ℕ) → n ≡ m → Rises (2 * n) a b → Rises (2 * m) a b
 twice_all n m a b e h less = let d = h less in omega arith
 
 pub edges_begin : (old : Seen) (uid : ℕ) → EdgesWritten old old uid 0
 edges_begin old uid s h new = twice_none (below 0 s.names.used) old.writes (none_below s.names.used)
 
 module _ (old : Seen) (u : Tables) (uid low : ℕ) (so_far : UserAddedTo old.kept u uid low) where
-  -- a number of which no depth is stored isn't listed
-  not_listed : (s : Worlds) → HoldsStates s.users s.names old.kept → s.users uid ≡ false → (k : ℕ) → is_listed k s.names.used ≡ true → tables.get u (place depth_codec k) ≡ None → ⊥
-  not_listed s h new k l gone =
-      let small = listed_small s.names h.names k l in
-      false≢true (sym (ap is_some (path_absent (path_of s.names k) (sym ((so_far s h new).depth.rows k small) ∙ gone))) ∙ sym (h.names.counted k) ∙ l)
-
   pub edges_more : (mid now : Seen) (wid high : ℕ) → high ≡ wid + 1 → IsNextNumber u low wid → mid.writes ≤ now.writes → EdgesWritten old mid uid low → Rises 2 mid.writes now.writes → EdgesWritten old now uid high
   edges_more mid now wid high is next le before two s h new =
-      let there : is_listed wid s.names.used ≡ true =
-      h.names.counted wid ∙ path_present (path_of s.names wid) (ap is_some (sym ((so_far s h new).depth.rows wid next.fits)) ∙ next.there) in
-      let more = one_more low wid next.from s.names.used h.names.once there (λ k l a b. not_listed s h new k l (next.least k a b)) in
       twice_more (below low s.names.used) (below high s.names.used) old.writes mid.writes now.writes le
-      (ap (λ n. below n s.names.used) is ∙ more) (before s h new) two
+      (below_more u s.names h.names (so_far s h new).depth low wid high is next) (before s h new) two
 
   pub edges_end : (now : Seen) → HasNextNumber u low None → EdgesWritten old now uid low → WritesEdges old now uid
   edges_end now none before s h new =
-      twice_all (below low s.names.used) (length s.names.used) old.writes now.writes (all_below low s.names.used under) (before s h new)
-    where
-      under : (k : ℕ) → is_listed k s.names.used ≡ true → k < low
-      under k l = elim (cases_lt k low) [
-        | inl lt ↦ lt
-        | inr ge ↦ absurd (not_listed s h new k l (none k ge (listed_small s.names h.names k l)))
-      ]
+      twice_all (below low s.names.used) (length s.names.used) old.writes now.writes (below_ends u s.names h.names (so_far s h new).depth low none) (before s h new)

@@ -187,8 +187,8 @@ fn drop_edges<K: Keeper>(
     Ok(())
 }
 
-/// Takes the edge of a world for a user away.
-fn drop_edge<K: Keeper>(
+/// Takes the edge of a world for a user away. Two writes.
+pub fn drop_edge<K: Keeper>(
     keeper: &mut K,
     wid: u32,
     uid: u32,
@@ -198,6 +198,7 @@ fn drop_edge<K: Keeper>(
     requires running { (K.seen keeper.old).running ≡ true }
     ensures kept { OnOk result ((K.seen keeper.new).kept ≡ edge_set (K.seen keeper.old).kept (Some from) None (wid, uid)) }
     ensures grammar { OnOk result (InGrammar (K.seen keeper.old).kept → InGrammar (K.seen keeper.new).kept) }
+    ensures reads { (K.seen keeper.new).reads ≡ (K.seen keeper.old).reads }
     ensures writes { OnOk result (Rises 2 (K.seen keeper.old).writes (K.seen keeper.new).writes) }
     ensures counts { NeverFall (K.seen keeper.old) (K.seen keeper.new) }
     ensures steps { Steps (K.seen keeper.old) (K.seen keeper.new) result TabError.Fault }
