@@ -1,9 +1,11 @@
 -- What holds of tables that store a base with its worlds. Each law is the contract of a function of `stored_laws`.
-use Rattle.std.specs.Prelude.{◌≡◌, ℕ, ◌+◌, Bool, true, ◌||◌, nat_eq, List, length}
+use Rattle.std.specs.Prelude.{◌≡◌, ℕ, ◌+◌, Bool, true, ◌||◌, nat_eq, List, [], ◌∷◌, ◌++◌, length}
 use Rattle.std.specs.List.{list_all}
 use Rattle.std.specs.FinMap as tables
-use Rattle.bdb_base.specs.Bases.{Contents, IsValid, belongs, empty_contents, is_user, with_user, with_relation}
+use Rattle.bdb_base.specs.Bases.{Contents, IsValid, belongs, empty_contents, is_user, with_user, without_user, with_relation}
+use Rattle.bdb_base.specs.declared.kinds.Catalog.{Catalog}
 use Rattle.bdb_base.specs.declared.kinds.RelDef.{RelDef}
+use Rattle.bdb_base.specs.declared.kinds.UserSlot.TheVariants.{Live, Gone}
 use Rattle.bdb_keep.specs.Tables.{Tables}
 use Rattle.bdb_key.specs.Grammar.{IsNum, IsPlain}
 use Rattle.bdb_key.specs.Rows.{IsRelRow}
@@ -42,5 +44,22 @@ abbrev pub EdgesStoreUser : Type 0
 EdgesStoreUser = (ns : Names) (ts : Tuples) (t u : Tables) (b : Contents) (uid : ℕ) (name : List ℕ) → StoredAs ns ts t b
     → uid ≡ length b.catalog.users + 1 → IsNum uid → IsPlain name
     → HoldsStates (is_user (with_user b.catalog name).users) ns u
-    → SameBut is_edges (tables.insert t (place user_codec uid) (user_codec.row_bytes name)) u
+    → SameBut is_edges (tables.insert t (place user_codec uid) (user_codec.row_bytes (Live name))) u
     → StoredAs ns ts u (record b { catalog = with_user b.catalog name })
+
+-- Where the names of worlds stand for states over the users without one, and all but edges is as after a put of the row of
+-- one who is gone at his number, the tables store the base without the user.
+abbrev pub EdgesStoreWithoutUser : Type 0
+EdgesStoreWithoutUser = (ns : Names) (ts : Tuples) (t u : Tables) (b : Contents) (uid : ℕ) → StoredAs ns ts t b → is_user b.catalog.users uid ≡ true
+    → HoldsStates (is_user (without_user b.catalog uid).users) ns u
+    → SameBut is_edges (tables.insert t (place user_codec uid) (user_codec.row_bytes Gone)) u
+    → StoredAs ns ts u (record b { catalog = without_user b.catalog uid })
+
+-- the catalog with one more place, whose user is gone
+abbrev pub with_gone_place : Catalog → Catalog
+with_gone_place c = record c { users = c.users ++ Gone ∷ [] }
+
+-- the row of one who is gone, at the next number, adds such a place
+abbrev pub GonePlaceStored : Type 0
+GonePlaceStored = (ns : Names) (ts : Tuples) (t : Tables) (b : Contents) (uid : ℕ) → StoredAs ns ts t b → uid ≡ length b.catalog.users + 1 → IsNum uid
+    → StoredAs ns ts (tables.insert t (place user_codec uid) (user_codec.row_bytes Gone)) (record b { catalog = with_gone_place b.catalog })
