@@ -1,13 +1,14 @@
 -- The list of answers has the answers, and is the only list that does.
-use Rattle.std.proofs.Common.{◌≡◌, ◌∙◌, ℕ, ◌+◌, ◌<◌, ◌≤◌, Bool, true, false, ◌&&◌, nat_eq, nat_lt, nat_le, List, [], ◌∷◌, length, inl, inr, refl, ap, sym, suc, None, Some, Option, filter, map, arith}
+use Rattle.std.proofs.Common.{◌≡◌, ◌∙◌, ℕ, ◌+◌, ◌<◌, ◌≤◌, Bool, true, false, ◌&&◌, nat_eq, List, [], ◌∷◌, length, inl, inr, refl, ap, sym, suc, None, Some, Option, filter, map, arith}
 use Rattle.std.specs.List.{list_any, list_all, slice_get, flat_map}
 use Rattle.std.specs.Ordering.{is_eq}
-use Rattle.std.proofs.lemmas.Bool.{false≢true, cases_eq, or_cases, or_left, or_right, and_parts, and_from, eqb-true, ltb-true, leb-true}
+use Rattle.std.proofs.lemmas.Bool.{false≢true, cases_eq, or_cases, or_left, or_right, and_parts, and_from, eqb-true}
 use Rattle.bdb_base.specs.declared.kinds.ColDef.{ColDef}
 use Rattle.bdb_base.specs.declared.kinds.Item.{Item}
 use Rattle.bdb_base.specs.declared.kinds.Item.TheVariants.{Users, Rel}
 use Rattle.bdb_base.specs.declared.kinds.Query.{Query}
 use Rattle.bdb_base.specs.declared.kinds.RelDef.{RelDef}
+use Rattle.bdb_base.specs.declared.kinds.UserSlot.{UserSlot}
 use Rattle.bdb_base.specs.declared.kinds.Value.{Value}
 use Rattle.bdb_base.specs.Bases.{Contents, is_user, fits_kind, fits_columns, fits_definition, fits_relation}
 use Rattle.bdb_base.specs.Order.{row_cmp}
@@ -17,6 +18,7 @@ use Rattle.bdb_base.specs.Same.{same_value}
 use Rattle.bdb_base.specs.SameLemmas.{same_value-Decides}
 use Rattle.bdb_base.specs.SortedSet.{is_member}
 use Rattle.bdb_base.proofs.SetLemmas.{is_eq-Equal, is_eq_itself, members_make_set, set_is_ascending, set_keeps_members}
+use Rattle.bdb_base.proofs.UserLemmas.{user_above, user_within}
 use Rattle.bdb_base.proofs.WorldLemmas.{list_any_weaker, found_by}
 use Rattle.bdb_base.proofs.WorldRowsLemmas.{list_any-flat_map}
 use Rattle.bdb_queries.specs.QueryLaws.{AnswersAreTheAnswers, AnswersAreOneList}
@@ -27,19 +29,18 @@ use Rattle.bdb_queries.proofs.FoundLemmas.{Found, list_any-filter, found_first, 
 pub found_in_domain : (dom : List Value) (v : Value) → in_domain dom v ≡ true → Found v dom
 found_in_domain dom v h p e = list_any_weaker (same_value v) p (λ w k. ap p (sym ((same_value-Decides v w).0 k)) ∙ e) dom h
 
-pub found_number : (n : ℕ) (users : List (List ℕ)) (uid : ℕ) → n ≤ uid → uid < n + length users → Found uid (numbers_from n users)
+pub found_number : (n : ℕ) (users : List UserSlot) (uid : ℕ) → n ≤ uid → uid < n + length users → Found uid (numbers_from n users)
 found_number n [] uid l h p e = absurd (omega arith)
-found_number n (name ∷ names) uid l h p e = elim (cases_eq n uid) [
-  | inl k ↦ or_left (p n) (list_any p (numbers_from (suc n) names)) (ap p k ∙ e)
-  | inr d ↦ or_right (p n) (list_any p (numbers_from (suc n) names)) (found_number (suc n) names uid (omega arith) (omega arith) p e)
+found_number n (user ∷ users) uid l h p e = elim (cases_eq n uid) [
+  | inl k ↦ or_left (p n) (list_any p (numbers_from (suc n) users)) (ap p k ∙ e)
+  | inr d ↦ or_right (p n) (list_any p (numbers_from (suc n) users)) (found_number (suc n) users uid (omega arith) (omega arith) p e)
 ]
 
 -- a user is among all users
-pub found_user : (users : List (List ℕ)) (uid : ℕ) → is_user users uid ≡ true → Found uid (user_numbers users)
+pub found_user : (users : List UserSlot) (uid : ℕ) → is_user users uid ≡ true → Found uid (user_numbers users)
 found_user users uid h =
-    let k = and_parts (nat_lt 0 uid) (nat_le uid (length users)) h in
-    let low = ltb-true 0 uid k.0 in
-    let high = leb-true uid (length users) k.1 in
+    let low = user_above users uid h in
+    let high = user_within users uid h in
     found-filter (is_user users) (numbers_from 1 users) uid (found_number 1 users uid (omega arith) (omega arith)) h
 
 pub found_row : (dom : List Value) (cols : List ColDef) (vals : List Value) → fits_columns cols vals ≡ true → list_all (in_domain dom) vals ≡ true → Found vals (rows_over dom cols)

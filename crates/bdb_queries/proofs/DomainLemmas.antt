@@ -1,5 +1,5 @@
 -- A safe query needs no domain.
-use Rattle.std.proofs.Common.{◌≡◌, ◌∙◌, ℕ, true, ◌&&◌, nat_eq, List, ◌++◌, inl, inr, refl, ap, sym, None, Some, Option, map, cond, pos}
+use Rattle.std.proofs.Common.{◌≡◌, ◌∙◌, ℕ, ◌-◌, true, ◌&&◌, nat_eq, List, ◌++◌, inl, inr, refl, ap, sym, None, Some, Option, map, cond, pos}
 use Rattle.std.specs.List.{list_any, list_all, slice_get, flat_map}
 use Rattle.std.specs.Option.{option_map, option_and_then}
 use Rattle.std.proofs.lemmas.Bool.{false≢true, cases_Bool, or_left, or_right, and_parts, and_from, cond-true, cond-false}
@@ -14,20 +14,22 @@ use Rattle.bdb_base.specs.declared.kinds.Value.{Value}
 use Rattle.bdb_base.specs.declared.kinds.Value.TheVariants.{Int, Text}
 use Rattle.bdb_base.specs.declared.tuple.Tuple.{Tuple}
 use Rattle.bdb_base.specs.Alternation.{alternates}
-use Rattle.bdb_base.specs.Bases.{Contents, key_lengths, is_user, fits_relation}
+use Rattle.bdb_base.specs.Bases.{Contents, key_lengths, is_user, user_names, fits_relation}
 use Rattle.bdb_base.specs.Order.{row_cmp}
-use Rattle.bdb_base.specs.Queries.{Choice, ChosenUser, ChosenTuple, user_name, user_column, choice_column, chosen_path, cond_holds, path_believes, item_holds, items_hold, holds_in, in_domain, choice_within, user_numbers, user_names, option_list, active_domain, HasValues, answers_over, answers_of, AreAnswers}
+use Rattle.bdb_base.specs.Queries.{Choice, ChosenUser, ChosenTuple, user_name, user_column, choice_column, chosen_path, cond_holds, path_believes, item_holds, items_hold, holds_in, in_domain, choice_within, user_numbers, active_domain, HasValues, answers_over, answers_of, AreAnswers}
 use Rattle.bdb_base.specs.Safety.{is_given, is_minus, IsSafe}
 use Rattle.bdb_base.specs.Same.{same_tuple, same_value}
 use Rattle.bdb_base.specs.SameLemmas.{same_tuple-Decides, same_value-Decides}
 use Rattle.bdb_base.specs.SortedSet.{is_member, ascending}
 use Rattle.bdb_base.specs.Worlds.{stated}
 use Rattle.bdb_base.proofs.ListLemmas.{list_all_weaker}
+use Rattle.bdb_base.proofs.UserLemmas.{name_found}
 use Rattle.bdb_base.proofs.WorldLemmas.{list_any_weaker, stated_tuples_are_explicit}
 use Rattle.bdb_base.proofs.WorldRowsLemmas.{list_any-flat_map}
 use Rattle.bdb_queries.specs.QueryLaws.{literals_of, IsInRange, DomainIsEnough, HoldingIsTruth, HoldingIsEnough, AnswersNeedNoDomain, IsHeldRow, AnswersAreWhatHolds}
-use Rattle.bdb_queries.proofs.FoundLemmas.{Found, found-map, found-flat_map, found-option_list, found_at, list_all_from_gets, found_both, option_map_some}
+use Rattle.bdb_queries.proofs.FoundLemmas.{Found, found-map, found_at, list_all_from_gets, found_both, option_map_some}
 use Rattle.bdb_queries.proofs.AnswerLemmas.{found_user, answers_are_the_answers, answers_are_one_list}
+use Rattle.bdb_queries.proofs.UserLemmas.{found_name}
 use Rattle.bdb_queries.proofs.RangeLemmas.{item_of_choice, and_then_some, minus_values_are_in_range}
 
 -- ---- values of a domain
@@ -78,7 +80,7 @@ name_in_domain : (b : Contents) (q : Query) (uid : ℕ) (name : List ℕ) → is
 name_in_domain b q uid name h e =
     let users = b.catalog.users in
     let v = Text name in
-    let listed = found-flat_map (λ u. option_list (user_name users u)) (user_numbers users) uid name (found_user users uid h) (found-option_list (user_name users uid) name e) in
+    let listed = found_name users (uid - 1) name (name_found users uid name e).1 in
     in_back (tuple_values b) (name_values b ++ (number_values b ++ literals_of q)) v
     (in_front (name_values b) (number_values b ++ literals_of q) v (in_from_found (name_values b) v (found-map Text (user_names users) name listed)))
 

@@ -4,7 +4,6 @@ use Prim.Native.Nat.{zero}
 use Rattle.std.specs.List.{list_any, list_all, slice_get, flat_map}
 use Rattle.std.specs.Option.{option_map}
 use Rattle.std.proofs.lemmas.Bool.{false≢true, cases_Bool, or_cases, or_left, or_right, and_parts, and_from}
-use Rattle.bdb_base.specs.Queries.{option_list}
 use Rattle.bdb_base.proofs.CountLemmas.{list_any-map}
 use Rattle.bdb_base.proofs.ListLemmas.{filter_kept_one, filter_dropped_one}
 use Rattle.bdb_base.proofs.WorldRowsLemmas.{list_any-flat_map}
@@ -34,9 +33,6 @@ found-flat_map f xs x y h g p e = list_any-flat_map p f xs ∙ h (λ z. list_any
 
 pub found-filter : {X : Type 0} (q : X → Bool) (xs : List X) (x : X) → Found x xs → q x ≡ true → Found x (filter q xs)
 found-filter q xs x h e p k = list_any-filter p q xs ∙ h (λ y. q y && p y) (and_from (q x) (p x) e k)
-
-pub found-option_list : {X : Type 0} (o : Option X) (x : X) → o ≡ Some x → Found x (option_list o)
-found-option_list o x k p e = ap (λ z. list_any p (option_list z)) k ∙ or_left (p x) false e
 
 -- what stands at a place is in the list
 pub found_at : {X : Type 0} (xs : List X) (at : ℕ) (x : X) → slice_get xs at ≡ Some x → Found x xs

@@ -1,9 +1,9 @@
 -- When the items of a query hold of slots, and how slots are assignments.
-use Rattle.std.proofs.Common.{◌≡◌, ◌∙◌, ℕ, suc, ◌-◌, ◌<◌, ◌≤◌, ◌^◌, Bool, true, false, ◌&&◌, nat_eq, nat_lt, nat_le, List, [], ◌∷◌, Option, None, Some, refl, ap, sym, cond, length, map, arith, pos, subst}
+use Rattle.std.proofs.Common.{◌≡◌, ◌∙◌, ℕ, suc, ◌-◌, ◌^◌, Bool, true, false, ◌&&◌, nat_eq, nat_lt, List, [], ◌∷◌, Option, None, Some, refl, ap, sym, cond, length, map, arith, pos, subst}
 use Prim.Native.Nat.{zero}
 use Rattle.std.specs.List.{list_all, slice_get}
 use Rattle.std.specs.Option.{option_map, option_and_then, is_some}
-use Rattle.std.proofs.lemmas.Bool.{false≢true, cond-true, cond-false, and_parts, and_from, leb-true, ltb-true}
+use Rattle.std.proofs.lemmas.Bool.{false≢true, cond-true, cond-false, and_parts, and_from}
 use Rattle.std.proofs.lemmas.Bool.Decides.{Decides-eqb, nat_tests}
 use Rattle.bdb_base.specs.declared.kinds.Cond.{Cond}
 use Rattle.bdb_base.specs.declared.kinds.Item.{Item}
@@ -12,15 +12,17 @@ use Rattle.bdb_base.specs.declared.kinds.Operand.{Operand}
 use Rattle.bdb_base.specs.declared.kinds.Operand.TheVariants.{Col, Lit}
 use Rattle.bdb_base.specs.declared.kinds.Query.{Query}
 use Rattle.bdb_base.specs.declared.kinds.Ref.{Ref}
+use Rattle.bdb_base.specs.declared.kinds.UserSlot.{UserSlot}
 use Rattle.bdb_base.specs.declared.kinds.Value.{Value}
 use Rattle.bdb_base.specs.declared.kinds.Value.TheVariants.{Int, Text}
 use Rattle.bdb_base.specs.declared.kinds.Who.{Who}
 use Rattle.bdb_base.specs.declared.kinds.Who.TheVariants.{User, Of}
 use Rattle.bdb_base.specs.declared.tuple.Tuple.{Tuple}
-use Rattle.bdb_base.specs.Bases.{Contents, is_user, fits_relation}
+use Rattle.bdb_base.specs.Bases.{Contents, is_user, live_name, name_at, fits_relation}
 use Rattle.bdb_base.specs.Conditions.{compare_so}
 use Rattle.bdb_base.specs.Queries.{Choice, ChosenUser, ChosenTuple, user_name, user_column, choice_column, chosen_value, chosen_operand, cond_holds, chosen_user, user_of, chosen_path, path_believes, item_holds, items_hold, chosen_row}
 use Rattle.bdb_base.specs.Safety.{is_users_item, who_fits, fixed_differ, item_fits, query_fits}
+use Rattle.bdb_base.proofs.UserLemmas.{user_lives}
 use Rattle.bdb_queries.specs.QueryLaws.{IsHeldRow}
 use Rattle.bdb_queries.specs.Slots.{slot_at, known, known_operand, must_hold, must_all_hold, known_row, uid_of, path_of, user_tuple}
 
@@ -41,31 +43,23 @@ SlotsHold b slots (item ∷ items) (x ∷ xs) = SlotHolds b slots item x × Slot
 
 -- ---- what is chosen, as a slot
 
-abbrev pub slot_of : List (List ℕ) → Choice → Option Tuple
+abbrev pub slot_of : List UserSlot → Choice → Option Tuple
 slot_of users (ChosenUser uid) = option_map (user_tuple uid) (user_name users uid)
 slot_of users (ChosenTuple t) = Some t
 
 -- a chosen user is one
-abbrev pub is_choice : List (List ℕ) → Choice → Bool
+abbrev pub is_choice : List UserSlot → Choice → Bool
 is_choice users (ChosenUser uid) = is_user users uid
 is_choice users (ChosenTuple t) = true
 
-there : {X : Type 0} (xs : List X) (at : ℕ) → at < length xs → (x : X) × (slice_get xs at ≡ Some x)
-there [] at h = absurd (omega arith)
-there (x ∷ xs) zero h = (x, refl)
-there (x ∷ xs) (suc at) h = there xs at (omega arith)
-
 -- a user has a name
-pub has_name : (users : List (List ℕ)) (uid : ℕ) → is_user users uid ≡ true → (name : List ℕ) × (user_name users uid ≡ Some name)
+pub has_name : (users : List UserSlot) (uid : ℕ) → is_user users uid ≡ true → (name : List ℕ) × (user_name users uid ≡ Some name)
 has_name users uid h =
-    let k = and_parts (nat_lt 0 uid) (nat_le uid (length users)) h in
-    let above : 0 < uid = ltb-true 0 uid k.0 in
-    let within : uid ≤ length users = leb-true uid (length users) k.1 in
-    let at = there users (uid - 1) (omega arith) in
-    (at.0, cond-true (is_user users uid) (slice_get users (uid - 1)) None h ∙ at.1)
+    let k = user_lives users uid h in
+    (k.0, cond-true (is_user users uid) (name_at users (uid - 1)) None h ∙ ap (option_and_then live_name) k.1)
 
 -- a column of a user's tuple is that of the user
-user_columns : (users : List (List ℕ)) (uid : ℕ) (name : List ℕ) (col : ℕ) → user_name users uid ≡ Some name → slice_get (user_tuple uid name).vals col ≡ user_column users uid col
+user_columns : (users : List UserSlot) (uid : ℕ) (name : List ℕ) (col : ℕ) → user_name users uid ≡ Some name → slice_get (user_tuple uid name).vals col ≡ user_column users uid col
 user_columns users uid name zero e = refl
 user_columns users uid name (suc zero) e = ap (option_map Text) (sym e)
 user_columns users uid name (suc (suc col)) e =
@@ -74,19 +68,19 @@ user_columns users uid name (suc (suc col)) e =
     let named : Option Value = option_map Text (user_name users uid) in
     sym (cond-false (nat_eq (suc (suc col)) 0) (Some (Int (pos uid))) (cond (nat_eq (suc (suc col)) 1) named None) a ∙ cond-false (nat_eq (suc (suc col)) 1) named None b)
 
-slot_column : (users : List (List ℕ)) (c : Choice) (col : ℕ) → is_choice users c ≡ true → option_and_then (λ t. slice_get t.vals col) (slot_of users c) ≡ choice_column users c col
+slot_column : (users : List UserSlot) (c : Choice) (col : ℕ) → is_choice users c ≡ true → option_and_then (λ t. slice_get t.vals col) (slot_of users c) ≡ choice_column users c col
 slot_column users (ChosenUser uid) col h =
     let name = has_name users uid h in
     ap (λ n. option_and_then (λ t. slice_get t.vals col) (option_map (user_tuple uid) n)) name.1 ∙ user_columns users uid name.0 col name.1
 slot_column users (ChosenTuple t) col h = refl
 
-pub slot_of_choice : (users : List (List ℕ)) (chosen : List Choice) (at : ℕ) → slot_at (map (slot_of users) chosen) at ≡ option_and_then (slot_of users) (slice_get chosen at)
+pub slot_of_choice : (users : List UserSlot) (chosen : List Choice) (at : ℕ) → slot_at (map (slot_of users) chosen) at ≡ option_and_then (slot_of users) (slice_get chosen at)
 slot_of_choice users [] at = refl
 slot_of_choice users (c ∷ cs) zero = refl
 slot_of_choice users (c ∷ cs) (suc at) = slot_of_choice users cs at
 
 -- the choices of which the items hold are users and tuples
-all_get : (users : List (List ℕ)) (chosen : List Choice) (at : ℕ) (c : Choice) → list_all (is_choice users) chosen ≡ true → slice_get chosen at ≡ Some c → is_choice users c ≡ true
+all_get : (users : List UserSlot) (chosen : List Choice) (at : ℕ) (c : Choice) → list_all (is_choice users) chosen ≡ true → slice_get chosen at ≡ Some c → is_choice users c ≡ true
 all_get users [] at c h e = cc
 all_get users (d ∷ ds) zero c h e =
     let same : d ≡ c = cc in
@@ -94,7 +88,7 @@ all_get users (d ∷ ds) zero c h e =
 all_get users (d ∷ ds) (suc at) c h e = all_get users ds at c (and_parts (is_choice users d) (list_all (is_choice users) ds) h).1 e
 
 -- the value of a column is the same
-pub known_is_chosen : (users : List (List ℕ)) (chosen : List Choice) → list_all (is_choice users) chosen ≡ true → (r : Ref) → known (map (slot_of users) chosen) r ≡ chosen_value users chosen r
+pub known_is_chosen : (users : List UserSlot) (chosen : List Choice) → list_all (is_choice users) chosen ≡ true → (r : Ref) → known (map (slot_of users) chosen) r ≡ chosen_value users chosen r
 known_is_chosen users chosen h r =
     ap (option_and_then (λ t. slice_get t.vals r.col)) (slot_of_choice users chosen r.item)
     ∙ column (slice_get chosen r.item) (λ c e. all_get users chosen r.item c h e)
@@ -104,7 +98,7 @@ known_is_chosen users chosen h r =
     column None k = refl
     column (Some c) k = slot_column users c r.col (k c refl)
 
-pub operand_is_chosen : (users : List (List ℕ)) (chosen : List Choice) → list_all (is_choice users) chosen ≡ true → (o : Operand)
+pub operand_is_chosen : (users : List UserSlot) (chosen : List Choice) → list_all (is_choice users) chosen ≡ true → (o : Operand)
     → known_operand (map (slot_of users) chosen) o ≡ chosen_operand users chosen o
 operand_is_chosen users chosen h (Col r) = known_is_chosen users chosen h r
 operand_is_chosen users chosen h (Lit v) = refl
@@ -114,7 +108,7 @@ list_all_same p q h [] = refl
 list_all_same p q h (x ∷ xs) = ap (λ b. b && list_all p xs) (h x) ∙ ap (λ b. q x && b) (list_all_same p q h xs)
 
 -- the comparisons hold of both or of neither
-pub conds_are_chosen : (users : List (List ℕ)) (chosen : List Choice) → list_all (is_choice users) chosen ≡ true → (conds : List Cond)
+pub conds_are_chosen : (users : List UserSlot) (chosen : List Choice) → list_all (is_choice users) chosen ≡ true → (conds : List Cond)
     → must_all_hold (map (slot_of users) chosen) conds ≡ list_all (cond_holds users chosen) conds
 conds_are_chosen users chosen h conds = list_all_same (must_hold (map (slot_of users) chosen)) (cond_holds users chosen)
     (λ c. ap (λ x. compare_so c.cmp x (known_operand (map (slot_of users) chosen) c.right)) (known_is_chosen users chosen h c.left)
@@ -122,7 +116,7 @@ conds_are_chosen users chosen h conds = list_all_same (must_hold (map (slot_of u
     conds
 
 -- the selected columns are the same
-pub row_is_chosen : (users : List (List ℕ)) (chosen : List Choice) → list_all (is_choice users) chosen ≡ true → (take : List Ref) → known_row (map (slot_of users) chosen) take ≡ chosen_row users chosen take
+pub row_is_chosen : (users : List UserSlot) (chosen : List Choice) → list_all (is_choice users) chosen ≡ true → (take : List Ref) → known_row (map (slot_of users) chosen) take ≡ chosen_row users chosen take
 row_is_chosen users chosen h [] = refl
 row_is_chosen users chosen h (r ∷ rs) =
     ap (λ o. option_and_then (λ v. option_map (λ vs. v ∷ vs) o) (known (map (slot_of users) chosen) r)) (row_is_chosen users chosen h rs)
@@ -152,7 +146,7 @@ user_there (Rel alias rel sign path ∷ items) (c ∷ cs) zero k h = absurd (fal
 user_there (item ∷ items) (c ∷ cs) (suc at) k h = user_there items cs at (and_parts (is_of_kind item c) (are_of_kind items cs) k).1 h
 
 -- a user of a path is the same
-pub uid_is_chosen : (users : List (List ℕ)) (items : List Item) (chosen : List Choice) → are_of_kind items chosen ≡ true → list_all (is_choice users) chosen ≡ true → (who : Who)
+pub uid_is_chosen : (users : List UserSlot) (items : List Item) (chosen : List Choice) → are_of_kind items chosen ≡ true → list_all (is_choice users) chosen ≡ true → (who : Who)
     → who_fits users items who ≡ true → uid_of (map (slot_of users) chosen) who ≡ user_of chosen who
 uid_is_chosen users items chosen k h (User i) f = refl
 uid_is_chosen users items chosen k h (Of item) f =
@@ -163,7 +157,7 @@ uid_is_chosen users items chosen k h (Of item) f =
     ∙ ap (λ n. option_map (λ t. t.rel) (option_map (user_tuple user.0) n)) name.1
     ∙ sym (ap (option_and_then chosen_user) user.1)
 
-pub path_is_chosen : (users : List (List ℕ)) (items : List Item) (chosen : List Choice) → are_of_kind items chosen ≡ true → list_all (is_choice users) chosen ≡ true → (path : List Who)
+pub path_is_chosen : (users : List UserSlot) (items : List Item) (chosen : List Choice) → are_of_kind items chosen ≡ true → list_all (is_choice users) chosen ≡ true → (path : List Who)
     → list_all (who_fits users items) path ≡ true → path_of (map (slot_of users) chosen) path ≡ chosen_path chosen path
 path_is_chosen users items chosen k h [] f = refl
 path_is_chosen users items chosen k h (who ∷ whos) f =

@@ -16,6 +16,7 @@ use Rattle.bdb_base.specs.declared.kinds.Operand.TheVariants.{Col, Lit}
 use Rattle.bdb_base.specs.declared.kinds.Query.{Query}
 use Rattle.bdb_base.specs.declared.kinds.Ref.{Ref}
 use Rattle.bdb_base.specs.declared.kinds.Sign.TheVariants.{Plus, Minus}
+use Rattle.bdb_base.specs.declared.kinds.UserSlot.{UserSlot}
 use Rattle.bdb_base.specs.declared.kinds.Value.{Value}
 use Rattle.bdb_base.specs.Bases.{Contents, fits_kind, fits_columns, fits_relation}
 use Rattle.bdb_base.specs.Conditions.{compare_so}
@@ -56,23 +57,23 @@ equal_sides None b h = absurd (false≢true h)
 equal_sides (Some x) None h = absurd (false≢true h)
 equal_sides (Some x) (Some y) h = (x, refl, ap Some (sym (value_exact.exact x y (is_eq-Equal (value_cmp x y) h))))
 
-pub sides_are_equal : (users : List (List ℕ)) (chosen : List Choice) (c : Cond) → is_equality c.cmp ≡ true → cond_holds users chosen c ≡ true
+pub sides_are_equal : (users : List UserSlot) (chosen : List Choice) (c : Cond) → is_equality c.cmp ≡ true → cond_holds users chosen c ≡ true
     → (v : Value) × (chosen_value users chosen c.left ≡ Some v) × (chosen_operand users chosen c.right ≡ Some v)
 sides_are_equal users chosen c e h = equal_sides (chosen_value users chosen c.left) (chosen_operand users chosen c.right)
     (ap (λ cmp. compare_so cmp (chosen_value users chosen c.left) (chosen_operand users chosen c.right)) (sym (equality_is c.cmp e)) ∙ h)
 
 -- a literal is the value of its side
-literal_value : (users : List (List ℕ)) (chosen : List Choice) (right : Operand) (v : Value) → is_literal right ≡ true → chosen_operand users chosen right ≡ Some v
+literal_value : (users : List UserSlot) (chosen : List Choice) (right : Operand) (v : Value) → is_literal right ≡ true → chosen_operand users chosen right ≡ Some v
     → in_domain (literal_of right) v ≡ true
 literal_value users chosen (Col r) v l e = absurd (false≢true l)
 literal_value users chosen (Lit w) v l e = or_left (same_value v w) false ((same_value-Decides v w).1 (sym (same_Some w v e)))
 
-column_value : (users : List (List ℕ)) (chosen : List Choice) (right : Operand) (s : Ref) → is_column s right ≡ true → chosen_operand users chosen right ≡ chosen_value users chosen s
+column_value : (users : List UserSlot) (chosen : List Choice) (right : Operand) (s : Ref) → is_column s right ≡ true → chosen_operand users chosen right ≡ chosen_value users chosen s
 column_value users chosen (Col r) s h = ap (chosen_value users chosen) (sym (same_column_is s r h))
 column_value users chosen (Lit v) s h = absurd (false≢true h)
 
 -- a column that equals a literal has its value
-pub pinned_value : (users : List (List ℕ)) (chosen : List Choice) (r : Ref) (v : Value) → chosen_value users chosen r ≡ Some v → (c : Cond) → cond_holds users chosen c ≡ true → pins r c ≡ true
+pub pinned_value : (users : List UserSlot) (chosen : List Choice) (r : Ref) (v : Value) → chosen_value users chosen r ≡ Some v → (c : Cond) → cond_holds users chosen c ≡ true → pins r c ≡ true
     → in_domain (literal_of c.right) v ≡ true
 pinned_value users chosen r v e c h p =
     let k = and_parts (is_equality c.cmp) (same_column r c.left && is_literal c.right) p in
@@ -82,7 +83,7 @@ pinned_value users chosen r v e c h p =
     literal_value users chosen c.right v m.1 (sides.2 ∙ sym sides.1 ∙ left)
 
 -- a column that equals another has its value
-pub linked_value : (users : List (List ℕ)) (chosen : List Choice) (r s : Ref) (v : Value) → chosen_value users chosen r ≡ Some v → (c : Cond) → cond_holds users chosen c ≡ true → links r s c ≡ true
+pub linked_value : (users : List UserSlot) (chosen : List Choice) (r s : Ref) (v : Value) → chosen_value users chosen r ≡ Some v → (c : Cond) → cond_holds users chosen c ≡ true → links r s c ≡ true
     → chosen_value users chosen s ≡ Some v
 linked_value users chosen r s v e c h l =
     let k = and_parts (is_equality c.cmp) ((same_column r c.left && is_column s c.right) || (same_column s c.left && is_column r c.right)) l in

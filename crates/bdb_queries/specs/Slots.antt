@@ -7,6 +7,8 @@ use Rattle.bdb_base.specs.declared.kinds.Cond.{Cond}
 use Rattle.bdb_base.specs.declared.kinds.Operand.{Operand}
 use Rattle.bdb_base.specs.declared.kinds.Operand.TheVariants.{Col, Lit}
 use Rattle.bdb_base.specs.declared.kinds.Ref.{Ref}
+use Rattle.bdb_base.specs.declared.kinds.UserSlot.{UserSlot}
+use Rattle.bdb_base.specs.declared.kinds.UserSlot.TheVariants.{Live, Gone}
 use Rattle.bdb_base.specs.declared.kinds.Value.{Value}
 use Rattle.bdb_base.specs.declared.kinds.Value.TheVariants.{Int, Text}
 use Rattle.bdb_base.specs.declared.kinds.Who.{Who}
@@ -54,7 +56,8 @@ path_of slots (who ∷ whos) = option_and_then (λ uid. option_map (λ w. uid �
 abbrev pub user_tuple : ℕ → List ℕ → Tuple
 user_tuple uid name = record { rel = uid; vals = Int (pos uid) ∷ Text name ∷ [] }
 
--- users as tuples, numbered from one number on
-abbrev pub user_tuples : ℕ → List (List ℕ) → List Tuple
+-- the live users as tuples, their places numbered from one number on
+abbrev pub user_tuples : ℕ → List UserSlot → List Tuple
 user_tuples uid [] = []
-user_tuples uid (name ∷ names) = user_tuple uid name ∷ user_tuples (suc uid) names
+user_tuples uid (Live name ∷ users) = user_tuple uid name ∷ user_tuples (suc uid) users
+user_tuples uid (Gone ∷ users) = user_tuples (suc uid) users

@@ -5,7 +5,9 @@ ghost use Rattle.std.specs.Option.{option_copied, option_map};
 ghost use Rattle.bdb_base.specs.Limits.{most_users};
 ghost use Rattle.bdb_queries.specs.Slots.{slot_at, known, known_operand, must_hold, must_all_hold, known_row, uid_of, path_of, user_tuple, user_tuples};
 
-use bdb_base::{Cond, Exact, List, Operand, Ref, Tuple, Txt, Value, Who, cmp_value, compares};
+use bdb_base::{
+    Cond, Exact, List, Operand, Ref, Tuple, Txt, UserSlot, Value, Who, cmp_value, compares,
+};
 use std::alloc::{AllocError, Global};
 
 /// What is chosen for the item at a place.
@@ -137,16 +139,18 @@ fn uid_of(slots: &[Option<Tuple>], who: Who) -> Option<u32>
     }
 }
 
-/// The users as tuples.
-pub fn user_tuples(alloc: Global, users: &[Txt]) -> Result<List<Tuple>, AllocError>
+/// The live users as tuples.
+pub fn user_tuples(alloc: Global, users: &[UserSlot]) -> Result<List<Tuple>, AllocError>
     requires { length users.now ≤ most_users }
     ensures { IfOk result (λ tuples. tuples ≡ user_tuples 1 users.now) }
 {
     let mut tuples = List::new(alloc);
     let mut uid = 1;
-    for name in users {
-        let tuple = user_tuple(alloc, uid, name.try_clone(alloc)?)?;
-        tuples.push(tuple)?;
+    for slot in users {
+        match slot {
+            UserSlot::Live(name) => tuples.push(user_tuple(alloc, uid, name.try_clone(alloc)?)?)?,
+            UserSlot::Gone => {}
+        }
         uid += 1;
     }
     Ok(tuples)
