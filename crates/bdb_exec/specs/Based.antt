@@ -2,6 +2,7 @@
 use Rattle.std.specs.Prelude.{◌≡◌, ℕ, suc, List, Option, None}
 use Rattle.std.specs.List.{slice_get}
 use Rattle.std.specs.Option.{unwrap_or}
+use Rattle.bdb_base.specs.declared.kinds.UserSlot.{UserSlot}
 use Rattle.bdb_base.specs.Bases.{Contents, IsValid, is_user, key_lengths}
 use Rattle.bdb_base.specs.States.{is_state}
 use Rattle.bdb_keep.specs.Tables.{Tables}
@@ -15,11 +16,11 @@ use Rattle.bdb_plan.specs.Shown.{Shows}
 use Rattle.bdb_exec.specs.Readable.{CanBeRun}
 use Rattle.bdb_exec.specs.Seen.{sight_of}
 
--- Tables have a base with its worlds: every key and row is in the grammar, the users by number from 1, the relations by number
+-- Tables have a base with its worlds: every key and row is in the grammar, the places of users by number from 1, the relations by number
 -- from 0, the tuples of the statements, the states of the statements, and the rows of the states.
 pub record HaveBase (ns : Names) (ts : Tuples) (t : Tables) (b : Contents) : Type 0 where
   pub grammar : InGrammar t
-  pub name : ℕ → Option (List ℕ)
+  pub name : ℕ → Option UserSlot
   pub users : Gives user_codec t name
   pub none : name 0 ≡ None
   pub names : (n : ℕ) → name (suc n) ≡ slice_get b.catalog.users n

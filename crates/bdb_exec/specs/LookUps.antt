@@ -20,7 +20,7 @@ pool_looks (v ∷ vs) rows = 2 * length (rows_of_key (v ∷ vs) rows) + 2
 
 -- how often a step reads at most, to choose
 abbrev pub choice_looks : Sight → Reached → Step → List Step → ℕ
-choice_looks sight s (step.User item) behind = length sight.users + 1
+choice_looks sight s (step.User item) behind = sight.places + 1
 choice_looks sight s (step.Pos item rel) behind = pool_looks (key_asked (sight.keys rel) s.slots item behind) (sight.rows s.world rel)
 choice_looks sight s _ behind = 0
 

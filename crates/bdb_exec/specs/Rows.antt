@@ -2,22 +2,28 @@
 use Rattle.std.specs.Prelude.{◌≡◌, ℕ, Bool, true, false, not, List, [], ◌∷◌, ◌++◌, Option, MatchOption}
 use Rattle.std.specs.FinMap as tables
 use Rattle.std.specs.List.{list_all}
-use Rattle.std.specs.Option.{unwrap_or}
-use Rattle.bdb_base.specs.Bases.{is_plain}
+use Rattle.std.specs.Option.{option_map, unwrap_or}
+use Rattle.bdb_base.specs.Bases.{is_plain, live_name}
 use Rattle.bdb_base.specs.declared.kinds.Sign.{Sign}
 use Rattle.bdb_base.specs.declared.kinds.Sign.TheVariants.{Plus, Minus}
+use Rattle.bdb_base.specs.declared.kinds.UserSlot.{UserSlot}
 use Rattle.bdb_base.specs.declared.kinds.Value.{Value}
 use Rattle.bdb_base.specs.declared.kinds.Value.TheVariants.{Int, Text}
 use Rattle.bdb_base.specs.declared.tuple.Tuple.{Tuple}
 use Rattle.bdb_keep.specs.Tables.{Tables}
 use Rattle.bdb_key.specs.Bytes.{num_bytes, values_bytes, vals_bytes}
 use Rattle.bdb_key.specs.Grammar.{IsNum, ArePlain}
+use Rattle.bdb_queries.specs.Slots.{user_tuple}
 use Rattle.bdb_tables.specs.Codec.{HasRow, place}
 use Rattle.bdb_tables.specs.InUse.{ValKey, tuple_codec, val_codec}
 use Rattle.bdb_tables.specs.Marks.{Mark}
 use Rattle.bdb_tables.specs.Names.{leads_to}
 use Rattle.bdb_exec.specs.Seen.{signed_in}
 use Rattle.bdb_exec.specs.Spelled.{tuple_in}
+
+-- the tuple of a user, by number and place; none of one who is gone
+abbrev pub tuple_of_slot : ℕ × UserSlot → Option Tuple
+tuple_of_slot e = option_map (user_tuple e.0) (live_name e.1)
 
 -- a text is one that keys may have
 abbrev pub is_written : Value → Bool

@@ -1,5 +1,5 @@
 -- What tables show to plans.
-use Rattle.std.specs.Prelude.{ℕ, ◌-◌, ◌/◌, ◌^◌, pos, nat_lt, cond, List, [], ◌∷◌, ◌++◌, Option, Some, None, length, map, filter, drop}
+use Rattle.std.specs.Prelude.{ℕ, ◌-◌, ◌/◌, ◌^◌, pos, nat_lt, cond, List, [], ◌∷◌, ◌++◌, Option, Some, None, length, map, filter, filter_map, drop}
 use Rattle.std.specs.List.{slice_get}
 use Rattle.std.specs.Option.{option_map, unwrap_or}
 use Rattle.std.specs.FinMap as tables
@@ -21,9 +21,18 @@ use Rattle.bdb_exec.specs.Spelled.{number_in, before_end, values_in, tuple_in}
 abbrev pub rows_at : Tables → List ℕ → List (List ℕ × List ℕ)
 rows_at t begin = filter (λ e. is_prefix begin e.0) (tables.entries t)
 
--- the user of a row of users: its number, and its name behind the byte that marks a text
-abbrev pub user_in : List ℕ × List ℕ → Tuple
-user_in e = user_tuple (number_in (drop 1 e.0)) (before_end (drop 1 e.1))
+-- the name that a row of users spells, behind the byte that marks a text; none where the row has no bytes: the user is gone
+abbrev pub name_in : List ℕ → Option (List ℕ)
+name_in [] = None
+name_in (mark ∷ bytes) = Some (before_end bytes)
+
+-- the user of a row of users, its number and its name; none where the user is gone
+abbrev pub user_in : List ℕ × List ℕ → Option Tuple
+user_in e = option_map (user_tuple (number_in (drop 1 e.0))) (name_in e.1)
+
+-- the rows of users, one for each place
+abbrev pub user_rows : Tables → List (List ℕ × List ℕ)
+user_rows t = rows_at t (user_codec.number ∷ [])
 
 -- the tuple whose number stands at the end of a place
 abbrev pub tuple_at : Tables → List ℕ → Tuple
@@ -60,11 +69,12 @@ abbrev pub length_in : Option (List ℕ) → ℕ
 length_in None = 1
 length_in (Some row) = length_told (slice_get (rel_values row) 1)
 
--- What tables show: the users by number; where edges lead; the rows of worlds by key; how many columns relations have, and
+-- What tables show: how many places of users there are, and the users by number; where edges lead; the rows of worlds by key; how many columns relations have, and
 -- how long their keys are.
 unfoldable pub sight_of : Tables → Sight
 sight_of t = record {
-  users = map user_in (rows_at t (user_codec.number ∷ []));
+  places = length (user_rows t);
+  users = filter_map user_in (user_rows t);
   edge = λ world uid. option_map number_in (tables.get t (place edge_codec (world, uid)));
   rows = λ world rel. cond (nat_lt rel (2 ^ 32)) (signed_under t (num_bytes world ++ num_bytes rel)) [];
   width = λ rel. cond (nat_lt rel (2 ^ 32)) (width_in (tables.get t (place rel_codec rel))) 0;

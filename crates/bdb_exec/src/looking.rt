@@ -1,10 +1,9 @@
 // What tables show, read from a keeper.
-ghost use Rattle.std.specs.Prelude.{◌≡◌, ◌≤◌, ◌+◌, ◌*◌, true, Some, IfOk, OnOk, length, map, take};
+ghost use Rattle.std.specs.Prelude.{◌≡◌, ◌≤◌, ◌+◌, ◌*◌, true, Some, IfOk, OnOk, filter_map, length, map, take};
 ghost use Rattle.std.specs.List.{AllByRecursion, list_any};
 ghost use Rattle.bdb_base.specs.Causes.{RoseBy};
 ghost use Rattle.bdb_base.specs.declared.tuple.Tuple.{Tuple};
 ghost use Rattle.bdb_keep.specs.Calls.{IsRead};
-ghost use Rattle.bdb_queries.specs.Slots.{user_tuple};
 ghost use Rattle.bdb_plan.specs.Running.{plus_tuples};
 ghost use Rattle.bdb_plan.specs.Sight.{rows_deny};
 ghost use Rattle.bdb_tables.specs.Codec.{HasRow};
@@ -14,14 +13,14 @@ ghost use Rattle.bdb_exec.specs.LookUps.{deny_looks, pool_looks};
 ghost use Rattle.bdb_exec.specs.Looks.{Looks};
 ghost use Rattle.bdb_exec.specs.Memos.{Recalls};
 ghost use Rattle.bdb_exec.specs.Readable.{CanBeRun};
-ghost use Rattle.bdb_exec.specs.Rows.{HasTuple, IsNumberOf, HasPushed, signed_at, mark_denies};
+ghost use Rattle.bdb_exec.specs.Rows.{HasTuple, IsNumberOf, HasPushed, signed_at, mark_denies, tuple_of_slot};
 ghost use Rattle.bdb_exec.specs.Seen.{sight_of, signed_under};
 
 use crate::memo::{Memo, keep_pool, keep_tuple, last_pool};
 use crate::prefixes::{are_written, put_group, put_key, put_world};
 use crate::shared::Shared;
 use crate::state::State;
-use bdb_base::{Exact, List, Sign, Tuple, Txt, key_of};
+use bdb_base::{Exact, List, Sign, Tuple, UserSlot, key_of};
 use bdb_keep::Keeper;
 use bdb_plan::Step;
 use bdb_queries::user_tuple;
@@ -31,11 +30,11 @@ use bdb_tables::{
 };
 use std::alloc::{AllocError, Global};
 
-/// The users, by number. One read more than there are users.
+/// The users, by number. One read for each place of users, and one more.
 pub fn users<K: Keeper>(alloc: Global, keeper: &mut K) -> Result<List<Shared>, TabError>
     requires run { CanBeRun (K.seen keeper.old).kept }
     ensures users { IfOk result (λ users. users ≡ (sight_of (K.seen keeper.old).kept).users) }
-    ensures reads { OnOk result ((K.seen keeper.new).reads ≤ (K.seen keeper.old).reads + (length (sight_of (K.seen keeper.old).kept).users + 1)) }
+    ensures reads { OnOk result ((K.seen keeper.new).reads ≤ (K.seen keeper.old).reads + ((sight_of (K.seen keeper.old).kept).places + 1)) }
     ensures looks { Looks (K.seen keeper.old) (K.seen keeper.new) result TabError.Fault }
 {
     let entries = match rows_under::<UserTab, K>(alloc, keeper, &[]) {
@@ -51,15 +50,20 @@ pub fn users<K: Keeper>(alloc: Global, keeper: &mut K) -> Result<List<Shared>, T
     }
 }
 
-// The users of rows.
-fn users_of(alloc: Global, entries: Vec<(u32, Txt)>) -> Result<List<Shared>, AllocError>
-    ensures { IfOk result (λ users. users ≡ map (λ e. user_tuple e.0 e.1) entries.items) }
+// The users of rows, without those who are gone.
+fn users_of(alloc: Global, entries: Vec<(u32, UserSlot)>) -> Result<List<Shared>, AllocError>
+    ensures { IfOk result (λ users. users ≡ filter_map tuple_of_slot entries.items) }
 {
     let mut users = List::new(alloc);
     for entry in entries {
-        let (uid, name) = entry;
-        let tuple = user_tuple(alloc, uid, name)?;
-        users.push(Shared::new(alloc, tuple)?)?;
+        let (uid, slot) = entry;
+        match slot {
+            UserSlot::Live(name) => {
+                let tuple = user_tuple(alloc, uid, name)?;
+                users.push(Shared::new(alloc, tuple)?)?;
+            }
+            UserSlot::Gone => {}
+        }
     }
     Ok(users)
 }

@@ -69,7 +69,7 @@ fn some_users<K: Keeper>(
     requires run { CanBeRun (K.seen keeper.old).kept }
     requires memo { Recalls (K.seen keeper.old).kept memo.old }
     ensures pool { IfOk result (λ pool. pool ≡ filter (passes state.now.slots item behind.now) (sight_of (K.seen keeper.old).kept).users) }
-    ensures reads { OnOk result ((K.seen keeper.new).reads ≤ (K.seen keeper.old).reads + (length (sight_of (K.seen keeper.old).kept).users + 1)) }
+    ensures reads { OnOk result ((K.seen keeper.new).reads ≤ (K.seen keeper.old).reads + ((sight_of (K.seen keeper.old).kept).places + 1)) }
     ensures memo { OnOk result (Recalls (K.seen keeper.old).kept memo.new) }
     ensures looks { Looks (K.seen keeper.old) (K.seen keeper.new) result TabError.Fault }
 {

@@ -90,9 +90,10 @@ meaning_of sight p = sorted_set row_cmp (rows_from sight p.take p.steps (start_o
 
 -- ---- reads
 
--- how often a step reads at most, to choose: of a relation once for how long its key is, twice for each row, and once more
+-- How often a step reads at most, to choose: of users once for each place, and once more; of a relation once for how long its
+-- key is, twice for each row, and once more.
 abbrev pub choice_reads : Sight → Reached → Step → ℕ
-choice_reads sight s (step.User item) = length sight.users + 1
+choice_reads sight s (step.User item) = sight.places + 1
 choice_reads sight s (step.Pos item rel) = 2 * length (sight.rows s.world rel) + 2
 choice_reads sight s _ = 0
 

@@ -10,9 +10,10 @@ use Rattle.bdb_base.specs.Worlds.{stated}
 use Rattle.bdb_queries.specs.Slots.{user_tuples}
 use Rattle.bdb_plan.specs.Sight.{Sight, has_signed}
 
--- What is seen is a base: its users; the edges and rows of its states, each of which has a number, the empty path 0; and
--- its relations.
+-- What is seen is a base: its places of users, and its users; the edges and rows of its states, each of which has a number,
+-- the empty path 0; and its relations.
 pub record Shows (b : Contents) (sight : Sight) (number : List ℕ → ℕ) : Type 0 where
+  pub places : sight.places ≡ length b.catalog.users
   pub users : sight.users ≡ user_tuples 1 b.catalog.users
   pub root : number [] ≡ 0
   pub edges : (w : List ℕ) (i : ℕ) → is_state b.stmts w ≡ true → is_user b.catalog.users i ≡ true → is_suffix (i ∷ []) w ≡ false

@@ -7,9 +7,11 @@ use Rattle.bdb_base.specs.declared.tuple.Tuple.{Tuple}
 use Rattle.bdb_base.specs.Clash.{clash}
 use Rattle.bdb_base.specs.Same.{same_tuple, same_sign}
 
--- What a plan sees: the users as tuples of number and name, where the edge of a world for a user leads, the signed tuples
--- of a world and relation, and the width and key length of each relation.
+-- What a plan sees: how many places of users there are, each of which is read to see the users; the users as tuples of
+-- number and name; where the edge of a world for a user leads; the signed tuples of a world and relation; and the width and
+-- key length of each relation.
 pub record Sight : Type 0 where
+  pub places : ℕ
   pub users : List Tuple
   pub edge : ℕ → ℕ → Option ℕ
   pub rows : ℕ → ℕ → List (Tuple × Sign)

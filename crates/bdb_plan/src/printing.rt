@@ -268,14 +268,11 @@ fn relation_column(catalog: &Catalog, rel: u32, col: u32) -> &[u8]
     }
 }
 
-// The name of a user; empty where there is none.
+// The name of a live user; empty where there is none.
 fn user_name(catalog: &Catalog, uid: u32) -> &[u8]
     ensures { result.now ≡ user_name catalog.now uid }
 {
-    if uid == 0 {
-        return b"";
-    }
-    match catalog.users.get(uid as usize - 1) {
+    match bdb_base::user_name(catalog.users.as_slice(), uid) {
         Some(name) => name.as_bytes(),
         None => b"",
     }

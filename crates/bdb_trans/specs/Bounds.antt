@@ -17,7 +17,7 @@ use Rattle.bdb_plan.specs.Running.{reads_from, start_of}
 use Rattle.bdb_plan.specs.Shown.{Shows}
 use Rattle.bdb_plan.specs.Sight.{Sight}
 
--- The factor of an item: by how many users there are for a `Users` item; for another by its path, and how many rows of its
+-- The factor of an item: by how many places of users there are for a `Users` item; for another by its path, and how many rows of its
 -- relation the worlds of its path have.
 abbrev pub factor : ℕ → (ℕ → ℕ) → ℕ → Option Item → ℕ
 factor users rows at None = 1
@@ -38,5 +38,5 @@ AreSmall b sight number q rows = (at : ℕ) (alias : List ℕ) (rel : ℕ) (sign
 -- Whatever shows a valid base, the plan of a query that fits reads at most the product of one factor for each item.
 abbrev pub PlanReadsAreBounded : Type 0
 PlanReadsAreBounded = (b : Contents) (sight : Sight) (number : List ℕ → ℕ) (q : Query) (users : ℕ) (rows : ℕ → ℕ) → IsValid b.catalog b.stmts → Shows b sight number
-    → query_fits b.catalog q ≡ true → length sight.users ≤ users → AreSmall b sight number q rows
+    → query_fits b.catalog q ≡ true → sight.places ≤ users → AreSmall b sight number q rows
     → reads_from sight (plan_steps b.catalog.rels q) (start_of (length q.items)) ≤ product_of users rows 0 q.items
