@@ -1,10 +1,11 @@
 -- The worlds of a valid base are within its limits.
-use Rattle.std.proofs.Common.{◌≡◌, ◌∙◌, ℕ, suc, ◌+◌, ◌<◌, ◌≤◌, true, false, List, [], ◌∷◌, ◌++◌, length, map, Option, Some, None, is_some, refl, ap, sym, subst, inl, inr, arith}
+use Rattle.std.proofs.Common.{◌≡◌, ◌∙◌, ℕ, suc, ◌+◌, ◌<◌, ◌≤◌, true, false, nat_le, List, [], ◌∷◌, ◌++◌, length, map, Option, Some, None, is_some, refl, ap, sym, subst, inl, inr, arith}
 use Rattle.std.specs.List.{list_all, list_any, AllByRecursion}
 use Rattle.std.specs.Ordering.{is_lt, nat_cmp}
 use Rattle.std.proofs.lemmas.Bool.{and_parts, and_from, or_cases, leb-true, le-leb, false≢true}
 use Rattle.std.proofs.lemmas.List.{length-append}
 use Rattle.std.proofs.lemmas.List.Folds.{list_all-append}
+use Rattle.bdb_base.specs.Alternation.{alternates}
 use Rattle.bdb_base.specs.Bases.{Contents, belongs, is_user, world_count}
 use Rattle.bdb_base.specs.Limits.{deepest_statement, most_worlds}
 use Rattle.bdb_base.specs.Segments.{is_prefix}
@@ -12,6 +13,7 @@ use Rattle.bdb_base.specs.SortedSet.{ascending}
 use Rattle.bdb_base.specs.States.{is_state}
 use Rattle.bdb_base.specs.declared.kinds.Catalog.{Catalog}
 use Rattle.bdb_base.specs.declared.kinds.Stmt.{Stmt}
+use Rattle.bdb_base.proofs.BaseLemmas.{belongs_parts}
 use Rattle.bdb_catalog.specs.Bases.{StoresValid}
 use Rattle.bdb_keep.specs.Tables.{Tables}
 use Rattle.bdb_key.proofs.Readings.{all_push}
@@ -24,7 +26,6 @@ use Rattle.bdb_tables.specs.Spans.{HasNextUnder, IsNextUnder, IsUnder, entry_cmp
 use Rattle.bdb_tables.specs.States.{HoldsStates}
 use Rattle.bdb_tables.proofs.SpanLemmas.{Covers, covers_none, rows_end, rows_more}
 use Rattle.bdb_update.proofs.CountLemmas.{numbers_are_counted}
-use Rattle.bdb_update.proofs.StageLemmas.{belongs_parts}
 use Rattle.bdb_worlds.proofs.ShrinkLemmas.{prefix_short}
 use Rattle.bdb_decode.specs.Limits.{AreWithinLimits, is_shallow}
 use Rattle.bdb_decode.specs.Parts.{StoreNone}
@@ -41,7 +42,10 @@ fronts_are_short c [] w h e = absurd (false≢true e)
 fronts_are_short c (x ∷ xs) w h e =
     let k = and_parts (belongs c x) (list_all (belongs c) xs) h in
     elim (or_cases (is_prefix w x.path) (list_any (λ (y : Stmt). is_prefix w y.path) xs) e) [
-      | inl p ↦ let short = (belongs_parts c x k.0).short in let front = prefix_short w x.path p in omega (arith, short, front)
+      | inl p ↦
+          let short = leb-true (length x.path) deepest_statement (and_parts (alternates x.path) (nat_le (length x.path) deepest_statement) (belongs_parts c x k.0).path).1 in
+          let front = prefix_short w x.path p in
+          omega (arith, short, front)
       | inr p ↦ fronts_are_short c xs w k.1 p
     ]
 

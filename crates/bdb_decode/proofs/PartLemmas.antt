@@ -11,6 +11,7 @@ use Rattle.bdb_base.specs.Limits.{most_users}
 use Rattle.bdb_base.specs.SortedSet.{ascending}
 use Rattle.bdb_base.specs.declared.kinds.Catalog.{Catalog}
 use Rattle.bdb_base.specs.declared.kinds.Stmt.{Stmt}
+use Rattle.bdb_base.specs.declared.kinds.UserSlot.{UserSlot}
 use Rattle.bdb_base.specs.declared.tuple.Tuple.{Tuple}
 use Rattle.bdb_base.proofs.WorldLemmas.{valid_is_consistent}
 use Rattle.bdb_catalog.specs.Bases.{StoresValid}
@@ -265,10 +266,10 @@ no_states t c has h = λ b s. h s.stored.names (subst (λ (x : Catalog). HoldsSt
 pub no_tuples_now : (t u : Tables) → u ≡ t → HaveNoTuples u → StoreNone t
 no_tuples_now t u same h = no_tuples t (subst HaveNoTuples same h)
 
-pub no_states_now : (t u : Tables) (c : Catalog) (users : List (List ℕ)) → u ≡ t → users ≡ c.users → HasCatalog t c → HoldNoneOver (is_user users) u → StoreNone t
+pub no_states_now : (t u : Tables) (c : Catalog) (users : List UserSlot) → u ≡ t → users ≡ c.users → HasCatalog t c → HoldNoneOver (is_user users) u → StoreNone t
 no_states_now t u c users same is has h = no_states t c has (subst (λ v. HoldNoneOver (is_user c.users) v) same (subst (λ xs. HoldNoneOver (is_user xs) u) is h))
 
-pub parts_now : (t u v : Tables) (c : Catalog) (users : List (List ℕ)) (worlds : Paths) (tuples : TupleRows) → u ≡ t → v ≡ t → users ≡ c.users → HasCatalog t c
+pub parts_now : (t u v : Tables) (c : Catalog) (users : List UserSlot) (worlds : Paths) (tuples : TupleRows) → u ≡ t → v ≡ t → users ≡ c.users → HasCatalog t c
     → ArePaths (is_user users) v worlds → AreTuples u tuples → AreParts t c worlds tuples
 parts_now t u v c users worlds tuples first second is has states numbered = record {
   catalog = has;

@@ -7,7 +7,7 @@ ghost use Rattle.bdb_entries.specs.Reading.{OnlyReads};
 ghost use Rattle.bdb_decode.specs.Parts.{AreParts, ArePaths, HoldNoneOver, StoreNone, path_row};
 
 use crate::limits::worlds_are_within_limits;
-use bdb_base::{Catalog, Path, Tuple, Txt};
+use bdb_base::{Catalog, Path, Tuple, UserSlot};
 use bdb_entries::{raw_catalog, raw_tuples};
 use bdb_graph::{World, are_states_held, raw_worlds};
 use bdb_keep::Keeper;
@@ -61,7 +61,7 @@ pub fn raw_parts<K: Keeper>(alloc: Global, keeper: &mut K) -> Result<Option<Part
 fn raw_paths<K: Keeper>(
     alloc: Global,
     keeper: &mut K,
-    users: &[Txt],
+    users: &[UserSlot],
 ) -> Result<Option<Vec<(u32, Path)>>, TabError>
     requires grammar { InGrammar (K.seen keeper.old).kept }
     requires users { length users.now ≤ most_users }

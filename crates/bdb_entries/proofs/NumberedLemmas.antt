@@ -10,14 +10,15 @@ use Rattle.std.proofs.lemmas.Bool.{and_parts, and_from, cases_Bool, cond-true, c
 use Rattle.std.proofs.lemmas.Bool.Decides.{nat_tests}
 use Rattle.bdb_base.specs.SortedSet.{ascending}
 use Rattle.bdb_base.specs.declared.kinds.RelDef.{RelDef}
+use Rattle.bdb_base.specs.declared.kinds.UserSlot.{UserSlot}
 use Rattle.bdb_keep.specs.Tables.{Tables, bytes_cmp}
 use Rattle.bdb_key.specs.Bytes.{num_bytes}
 use Rattle.bdb_key.specs.Grammar.{IsNum}
 use Rattle.bdb_tables.specs.Codec.{Codec, Rows, RowsAreOne, codec_of}
-use Rattle.bdb_tables.specs.InUse.{number_keys, user_codec, rel_codec, text_rows, rel_rows}
-use Rattle.bdb_tables.specs.InUseLaws.{numbers_in_order, numbers_are_one, text_rows_are_one, rel_rows_are_one}
+use Rattle.bdb_tables.specs.InUse.{number_keys, user_codec, rel_codec, slot_rows, rel_rows}
+use Rattle.bdb_tables.specs.InUseLaws.{numbers_in_order, numbers_are_one, slot_rows_are_one, rel_rows_are_one}
 use Rattle.bdb_tables.specs.Spans.{AreUnder, IsUnder, entry_bytes, entry_cmp}
-use Rattle.bdb_tables.specs.Stored.{name_of}
+use Rattle.bdb_tables.specs.Stored.{slot_of}
 use Rattle.bdb_tables.specs.Writes.{Gives}
 use Rattle.bdb_tables.proofs.WriteLemmas.{gives_same}
 use Rattle.bdb_entries.specs.Catalog.{HasRelations, HasUsers, TellsRelations, TellsUsers}
@@ -70,9 +71,9 @@ module _ {X : Type 0} where
   item_of_slice (x ∷ xs) zero = refl
   item_of_slice (x ∷ xs) (suc k) = cond-false (nat_eq (suc k) 0) (Some x) (item_at 1 xs (suc k)) (not_first k) ∙ item_later 0 xs k ∙ item_of_slice xs k
 
-item_of_name : (xs : List (List ℕ)) (k : ℕ) → item_at 1 xs k ≡ name_of xs k
-item_of_name xs zero = item_before 1 xs 0 (omega arith)
-item_of_name xs (suc k) = item_later 0 xs k ∙ item_of_slice xs k
+item_of_place : (xs : List UserSlot) (k : ℕ) → item_at 1 xs k ≡ slot_of xs k
+item_of_place xs zero = item_before 1 xs 0 (omega arith)
+item_of_place xs (suc k) = item_later 0 xs k ∙ item_of_slice xs k
 
 -- ---- tables of rows by number
 
@@ -164,19 +165,19 @@ module _ {Row : Type 0} (tab : ℕ) (rows : Rows Row) where
 
 -- ---- users and relations
 
-users_given : (t : Tables) (es : List (ℕ × List ℕ)) (xs : List (List ℕ)) → AreUnder user_codec t [] es → es ≡ numbered 1 xs → HasUsers t xs
+users_given : (t : Tables) (es : List (ℕ × UserSlot)) (xs : List UserSlot) → AreUnder user_codec t [] es → es ≡ numbered 1 xs → HasUsers t xs
 users_given t es xs h e =
     let under = subst (AreUnder user_codec t []) e h in
-    let few = numbered_sized 2 text_rows 1 xs (omega arith) under.each in
+    let few = numbered_sized 2 slot_rows 1 xs (omega arith) under.each in
     record {
-      gives = gives_same user_codec t (item_at 1 xs) (name_of xs) (λ k fits. item_of_name xs k) (numbered_give 2 text_rows 1 xs t under);
+      gives = gives_same user_codec t (item_at 1 xs) (slot_of xs) (λ k fits. item_of_place xs k) (numbered_give 2 slot_rows 1 xs t under);
       sized = omega (arith, few);
     }
 
-no_users : (t : Tables) (es : List (ℕ × List ℕ)) → AreUnder user_codec t [] es → are_numbered 1 es ≡ false → (xs : List (List ℕ)) → HasUsers t xs → ⊥
+no_users : (t : Tables) (es : List (ℕ × UserSlot)) → AreUnder user_codec t [] es → are_numbered 1 es ≡ false → (xs : List UserSlot) → HasUsers t xs → ⊥
 no_users t es under differ xs h =
     let few = h.sized in
-    false≢true (sym differ ∙ given_numbered 2 text_rows text_rows_are_one 1 xs t es (omega (arith, few)) (gives_same user_codec t (name_of xs) (item_at 1 xs) (λ k fits. sym (item_of_name xs k)) h.gives) under)
+    false≢true (sym differ ∙ given_numbered 2 slot_rows slot_rows_are_one 1 xs t es (omega (arith, few)) (gives_same user_codec t (slot_of xs) (item_at 1 xs) (λ k fits. sym (item_of_place xs k)) h.gives) under)
 
 relations_given : (t : Tables) (es : List (ℕ × RelDef)) (xs : List RelDef) → AreUnder rel_codec t [] es → es ≡ numbered 0 xs → HasRelations t xs
 relations_given t es xs h e =
@@ -192,7 +193,7 @@ no_relations t es under differ xs h =
     let few = h.sized in
     false≢true (sym differ ∙ given_numbered 3 rel_rows rel_rows_are_one 0 xs t es (omega (arith, few)) (gives_same rel_codec t (slice_get xs) (item_at 0 xs) (λ k fits. sym (item_of_slice xs k)) h.gives) under)
 
-pub tells_users : (t : Tables) (es : List (ℕ × List ℕ)) (found : Option (List (List ℕ))) → AreUnder user_codec t [] es
+pub tells_users : (t : Tables) (es : List (ℕ × UserSlot)) (found : Option (List UserSlot)) → AreUnder user_codec t [] es
     → MatchOption found (are_numbered 1 es ≡ false) (λ xs. es ≡ numbered 1 xs) → TellsUsers t found
 tells_users t es None under h = λ xs has. no_users t es under h xs has
 tells_users t es (Some xs) under h = users_given t es xs under h

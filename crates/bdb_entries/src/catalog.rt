@@ -6,7 +6,7 @@ ghost use Rattle.bdb_entries.specs.Numbered.{are_numbered, numbered};
 
 use crate::reading::raw_rows;
 use crate::validity::is_catalog;
-use bdb_base::{Catalog, Exact, List, RelDef, Txt};
+use bdb_base::{Catalog, Exact, List, RelDef, UserSlot};
 use bdb_keep::Keeper;
 use bdb_tables::{RelTab, TabError, UserTab};
 use std::alloc::{AllocError, Global};
@@ -33,8 +33,12 @@ pub fn raw_catalog<K: Keeper>(alloc: Global, keeper: &mut K) -> Result<Option<Ca
     Ok(Some(catalog))
 }
 
-/// The names of the users, by number from 1. None exactly where the table of users has no list of names.
-pub fn raw_users<K: Keeper>(alloc: Global, keeper: &mut K) -> Result<Option<List<Txt>>, TabError>
+/// The places of the users, by number from 1: names, and those who are gone. None exactly where the table of users has no list
+/// of them.
+pub fn raw_users<K: Keeper>(
+    alloc: Global,
+    keeper: &mut K,
+) -> Result<Option<List<UserSlot>>, TabError>
     ensures users { IfOk result (TellsUsers (K.seen keeper.old).kept) }
     ensures read { IsRead (K.seen keeper.old) (K.seen keeper.new) result TabError.Fault }
 {

@@ -7,7 +7,7 @@ ghost use Rattle.bdb_base.specs.Limits.{deepest_statement};
 
 use crate::validity::is_plain;
 use bdb_base::limits::DEEPEST_STATEMENT;
-use bdb_base::{Catalog, ColDef, Kind, Path, RelDef, Stmt, Tuple, Txt, Value};
+use bdb_base::{Catalog, ColDef, Kind, Path, RelDef, Stmt, Tuple, UserSlot, Value, is_user};
 
 /// Whether each statement belongs to a catalog.
 pub fn all_belong(catalog: &Catalog, stmts: &[Stmt]) -> bool
@@ -16,7 +16,7 @@ pub fn all_belong(catalog: &Catalog, stmts: &[Stmt]) -> bool
     stmts.iter().all(|stmt| belongs(catalog, stmt))
 }
 
-// Whether a statement's path is one of users of a catalog and not too deep, and its tuple fits its relation.
+// Whether a statement's path is one of live users of a catalog and not too deep, and its tuple fits its relation.
 fn belongs(catalog: &Catalog, stmt: &Stmt) -> bool
     ensures { result ≡ belongs catalog.now stmt.now }
 {
@@ -24,25 +24,18 @@ fn belongs(catalog: &Catalog, stmt: &Stmt) -> bool
         && fits_relation(catalog.rels.as_slice(), &stmt.tuple)
 }
 
-// Whether a path is one of users and not too deep.
-fn is_path_of(users: &[Txt], path: &Path) -> bool
+// Whether a path is one of live users and not too deep.
+fn is_path_of(users: &[UserSlot], path: &Path) -> bool
     ensures { result ≡ (alternates path.now && nat_le (length path.now) deepest_statement && list_all (is_user users.now) path.now) }
 {
     path.len() <= DEEPEST_STATEMENT && are_users(users, path.as_slice())
 }
 
-/// Whether numbers are those of users.
-pub fn are_users(users: &[Txt], path: &[u32]) -> bool
+/// Whether numbers are those of live users.
+pub fn are_users(users: &[UserSlot], path: &[u32]) -> bool
     ensures { result ≡ list_all (is_user users.now) path.now }
 {
     path.iter().all(|user| is_user(users, *user))
-}
-
-/// Whether a number is that of a user.
-pub fn is_user(users: &[Txt], user: u32) -> bool
-    ensures { result ≡ is_user users.now user }
-{
-    0 < user && user as usize <= users.len()
 }
 
 // Whether a tuple fits its relation, if there is one of its number: a value for each column, of its kind.

@@ -13,7 +13,7 @@ mod validity;
 
 pub use bare::{TABLES, is_bare, others_are_bare, told};
 pub use catalog::{raw_catalog, raw_relations, raw_users};
-pub use fitting::{all_belong, are_users, is_user};
+pub use fitting::{all_belong, are_users};
 pub use format::{Format, read_format};
 pub use grammar::is_in_grammar;
 pub use reading::{fits, next_raw, raw_rows};

@@ -1,13 +1,13 @@
 // Whether users and relations are those of a valid base.
 ghost use Rattle.std.specs.Prelude.{◌≡◌, ◌&&◌, ℕ, nat_le, nat_lt, not, List, length, map};
 ghost use Rattle.std.specs.List.{list_all, list_any};
-ghost use Rattle.bdb_base.specs.Bases.{are_distinct, is_key, is_plain, is_valid_relation, users_name};
+ghost use Rattle.bdb_base.specs.Bases.{are_distinct, is_key, is_plain, is_valid_relation, user_names, users_name};
 ghost use Rattle.bdb_base.specs.Limits.{most_columns};
 ghost use Rattle.bdb_base.specs.Same.{same_text};
-ghost use Rattle.bdb_entries.specs.Catalog.{are_relations, are_users, is_catalog, names_differ};
+ghost use Rattle.bdb_entries.specs.Catalog.{are_relations, are_users, has_name_of, has_plain_name, is_called, is_catalog, names_differ, slots_differ};
 
 use bdb_base::limits::{LONGEST_TEXT, MOST_COLUMNS, MOST_RELATIONS, MOST_USERS};
-use bdb_base::{Catalog, ColDef, RelDef, Txt};
+use bdb_base::{Catalog, ColDef, RelDef, Txt, UserSlot};
 
 /// Whether users and relations are those of a valid base.
 pub fn is_catalog(catalog: &Catalog) -> bool
@@ -16,11 +16,92 @@ pub fn is_catalog(catalog: &Catalog) -> bool
     are_users(catalog.users.as_slice()) && are_relations(catalog.rels.as_slice())
 }
 
-// Whether names are those of users: not too many, plain, and no two alike.
-fn are_users(users: &[Txt]) -> bool
+// Whether places are those of users: not too many, and the names of the live ones plain, and no two alike.
+fn are_users(users: &[UserSlot]) -> bool
     ensures { result ≡ are_users users.now }
 {
-    users.len() <= MOST_USERS && are_names(users)
+    users.len() <= MOST_USERS && are_user_names(users)
+}
+
+// Whether the names of live users are plain, and no two alike.
+fn are_user_names(users: &[UserSlot]) -> bool
+    ensures { result ≡ (are_distinct (user_names users.now) && list_all is_plain (user_names users.now)) }
+{
+    are_users_apart(users) && are_users_plain(users)
+}
+
+// Whether no two live users have the same name.
+#[tactic(auto, using(crate::proofs::CatalogLemmas::slots_are_distinct))]
+fn are_users_apart(users: &[UserSlot]) -> bool
+    ensures { result ≡ are_distinct (user_names users.now) }
+{
+    slots_differ(users)
+}
+
+// Whether no live user has the name of a later one.
+fn slots_differ(users: &[UserSlot]) -> bool
+    ensures { result ≡ slots_differ users.now }
+{
+    let mut rest = users;
+    while let [first, others @ ..] = rest {
+        if has_name_of(others, first) {
+            return false;
+        }
+        rest = others;
+    }
+    true
+}
+
+// Whether one of these users has the name of the live user of a place.
+fn has_name_of(users: &[UserSlot], slot: &UserSlot) -> bool
+    ensures { result ≡ has_name_of users.now slot.now }
+{
+    match slot {
+        UserSlot::Live(name) => has_user(users, name),
+        UserSlot::Gone => false,
+    }
+}
+
+// Whether one of these users has a name.
+fn has_user(users: &[UserSlot], name: &Txt) -> bool
+    ensures { result ≡ list_any (is_called name.now) users.now }
+{
+    users.iter().any(|slot| is_called(name, slot))
+}
+
+// Whether a place is that of a live user of this name.
+fn is_called(name: &Txt, slot: &UserSlot) -> bool
+    ensures { result ≡ is_called name.now slot.now }
+{
+    match slot {
+        UserSlot::Live(other) => is_same(name, other),
+        UserSlot::Gone => false,
+    }
+}
+
+// Whether the names of live users are plain.
+#[tactic(auto, using(crate::proofs::CatalogLemmas::slots_are_plain))]
+fn are_users_plain(users: &[UserSlot]) -> bool
+    ensures { result ≡ list_all is_plain (user_names users.now) }
+{
+    have_plain_names(users)
+}
+
+// Whether each place that has a live user has a plain name.
+fn have_plain_names(users: &[UserSlot]) -> bool
+    ensures { result ≡ list_all has_plain_name users.now }
+{
+    users.iter().all(has_plain_name)
+}
+
+// Whether a place has a plain name, if its user is live.
+fn has_plain_name(slot: &UserSlot) -> bool
+    ensures { result ≡ has_plain_name slot.now }
+{
+    match slot {
+        UserSlot::Live(name) => is_plain(name),
+        UserSlot::Gone => true,
+    }
 }
 
 // Whether relations are those of a base: not too many, valid, and no two of one name.
@@ -87,14 +168,6 @@ trait Named {
 
     fn name(&self) -> &Txt
         ensures { result.now ≡ name_of self.now };
-}
-
-impl Named for Txt {
-    ghost name_of = { λ t. t };
-
-    fn name(&self) -> &Txt {
-        self
-    }
 }
 
 impl Named for ColDef {

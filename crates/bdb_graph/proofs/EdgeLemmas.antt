@@ -1,15 +1,17 @@
 -- Edges of worlds in tables.
-use Rattle.std.proofs.Common.{◌≡◌, ◌∙◌, ℕ, ◌+◌, ◌≤◌, ◌<◌, ◌^◌, Bool, true, false, not, ◌&&◌, cond, nat_le, nat_lt, List, [], ◌∷◌, ◌++◌, length, take, get_or, Option, Some, None, is_some, refl, ap, sym, subst, inl, inr, arith}
+use Rattle.std.proofs.Common.{◌≡◌, ◌∙◌, ℕ, ◌+◌, ◌≤◌, ◌<◌, ◌^◌, Bool, true, false, not, ◌&&◌, cond, nat_le, List, [], ◌∷◌, ◌++◌, length, take, get_or, Option, Some, None, is_some, refl, ap, sym, subst, inl, inr, arith}
 use Rattle.std.specs.Prelude.{MatchOption}
 use Rattle.std.specs.Bool.{MatchBool}
 use Rattle.std.specs.List.{AllByRecursion}
 use Rattle.std.specs.Option.{option_map}
 use Rattle.std.specs.FinMap as tables
-use Rattle.std.proofs.lemmas.Bool.{and_from, and_parts, cases_Bool, cond-false, false≢true, leb-true, le-leb, lt-ltb}
+use Rattle.std.proofs.lemmas.Bool.{and_from, cases_Bool, cond-false, false≢true, leb-true}
 use Rattle.std.proofs.lemmas.Bool.Decides.{nat_tests}
 use Rattle.bdb_base.specs.Bases.{is_user}
 use Rattle.bdb_base.specs.Segments.{is_suffix}
 use Rattle.bdb_base.specs.States.{edge_target}
+use Rattle.bdb_base.specs.declared.kinds.UserSlot.{UserSlot}
+use Rattle.bdb_base.proofs.UserLemmas.{user_within}
 use Rattle.bdb_keep.specs.Tables.{Tables}
 use Rattle.bdb_key.specs.Bytes.{num_bytes}
 use Rattle.bdb_key.specs.Grammar.{IsNum}
@@ -81,12 +83,15 @@ edge_told t users ws a x i is found b h told =
 abbrev pub HasEdgesTo : Tables → (ℕ → Bool) → List World → World → ℕ → Type 0
 HasEdgesTo t users ws x k = (i : ℕ) → users i ≡ true → i ≤ k → HasEdgeFor t users ws x i
 
--- a number is that of a user
-pub user_is : (users : List (List ℕ)) (k : ℕ) → k < length users → is_user users (k + 1) ≡ true
-user_is users k l = and_from (nat_lt 0 (k + 1)) (nat_le (k + 1) (length users)) (lt-ltb 0 (k + 1) (omega arith)) (le-leb (k + 1) (length users) (omega arith))
+last : (i k : ℕ) → i ≤ k + 1 → nat_le i k ≡ false → k + 1 ≡ i
+last i k l above = grind (arith, nat_tests)
 
-user_most : (users : List (List ℕ)) (i : ℕ) → is_user users i ≡ true → i ≤ length users
-user_most users i h = leb-true i (length users) (and_parts (nat_lt 0 i) (nat_le i (length users)) h).1
+-- the number of one who is gone has no edge
+pub edges_over : (t : Tables) (users : ℕ → Bool) (ws : List World) (x : World) (k : ℕ) → users (k + 1) ≡ false → HasEdgesTo t users ws x k → HasEdgesTo t users ws x (k + 1)
+edges_over t users ws x k none h i user l = elim (cases_Bool (nat_le i k)) [
+  | inl below ↦ h i user (leb-true i k below)
+  | inr above ↦ absurd (false≢true (sym none ∙ ap users (last i k l above) ∙ user))
+]
 
 pub edges_more : (t u : Tables) (users : ℕ → Bool) (ws : List World) (x : World) (k : ℕ) (b : Bool) → u ≡ t → b ≡ true → MatchBool b (HasEdgeFor u users ws x (k + 1)) (HasEdgeFor u users ws x (k + 1) → ⊥)
     → HasEdgesTo t users ws x k → HasEdgesTo t users ws x (k + 1)
@@ -97,12 +102,9 @@ edges_more t u users ws x k b same good told h i user l = elim (cases_Bool (nat_
       let is : k + 1 ≡ i = last i k l above in
       subst (HasEdgeFor t users ws x) is here
 ]
-  where
-    last : (i k : ℕ) → i ≤ k + 1 → nat_le i k ≡ false → k + 1 ≡ i
-    last i k l above = grind (arith, nat_tests)
 
-pub edges_all : (t : Tables) (users : List (List ℕ)) (ws : List World) (x : World) (k : ℕ) → length users ≤ k → HasEdgesTo t (is_user users) ws x k → HasEdges t (is_user users) ws x
-edges_all t users ws x k l h i user = let most = user_most users i user in h i user (omega arith)
+pub edges_all : (t : Tables) (users : List UserSlot) (ws : List World) (x : World) (k : ℕ) → length users ≤ k → HasEdgesTo t (is_user users) ws x k → HasEdges t (is_user users) ws x
+edges_all t users ws x k l h i user = let most = user_within users i user in h i user (omega arith)
 
 pub not_edge : (t u : Tables) (users : ℕ → Bool) (ws : List World) (x : World) (i : ℕ) (b : Bool) → u ≡ t → users i ≡ true → b ≡ false → MatchBool b (HasEdgeFor u users ws x i) (HasEdgeFor u users ws x i → ⊥)
     → HasEdges t users ws x → ⊥
@@ -122,7 +124,7 @@ module _ (t u : Tables) (users : ℕ → Bool) (ws : List World) (k : ℕ) (x : 
 
 -- ---- the table
 
-module _ (t : Tables) (users : List (List ℕ)) (ws : List World) (ps : List (List ℕ)) (h : AreIndexed ws ps) where
+module _ (t : Tables) (users : List UserSlot) (ws : List World) (ps : List (List ℕ)) (h : AreIndexed ws ps) where
   abbrev edges : ℕ × ℕ → Option ℕ
   edges k = edge_of (is_user users) (names_of ws) k
 
@@ -152,7 +154,7 @@ module _ (t : Tables) (users : List (List ℕ)) (ws : List World) (ps : List (Li
   all_edged few gives =
       all_by_place (HasEdges t (is_user users) ws) ws
       (λ k x l is i user.
-      let most = user_most users i user in
+      let most = user_within users i user in
       gives.rows (x.wid, i) (record { first = world_fits ws h.names x (world_at ws k x h.sorted l is); second = omega arith }))
 
   only_edged : Gives edge_codec t edges → AllKeysPass edge_codec t (is_edge_key users ws)

@@ -1,10 +1,12 @@
 -- Whether tables hold the states of worlds.
-use Rattle.std.proofs.Common.{◌≡◌, ◌∙◌, ℕ, ◌≤◌, ◌<◌, ◌^◌, Bool, true, false, nat_le, nat_lt, List, [], ◌∷◌, length, refl, sym, subst, arith}
+use Rattle.std.proofs.Common.{◌≡◌, ◌∙◌, ℕ, ◌≤◌, ◌<◌, ◌^◌, Bool, true, false, List, [], ◌∷◌, length, refl, sym, subst, arith}
 use Rattle.std.specs.Bool.{MatchBool}
 use Rattle.std.specs.List.{AllByRecursion, list_all}
-use Rattle.std.proofs.lemmas.Bool.{and_from, and_parts, false≢true, leb-true}
+use Rattle.std.proofs.lemmas.Bool.{and_from, false≢true}
 use Rattle.bdb_base.specs.Bases.{is_user}
 use Rattle.bdb_base.specs.Limits.{most_users}
+use Rattle.bdb_base.specs.declared.kinds.UserSlot.{UserSlot}
+use Rattle.bdb_base.proofs.UserLemmas.{user_within}
 use Rattle.bdb_keep.specs.Tables.{Tables}
 use Rattle.bdb_tables.specs.InUse.{edge_codec, link_codec}
 use Rattle.bdb_tables.specs.Names.{edge_of, is_named, link_of}
@@ -32,7 +34,7 @@ all_tested : (p : World → Bool) (ws : List World) → AllByRecursion (λ (x : 
 all_tested p [] h = refl
 all_tested p (x ∷ ws) h = and_from (p x) (list_all p ws) h.0 (all_tested p ws h.1)
 
-module _ (t : Tables) (users : List (List ℕ)) (ws : List World) (h : AreWorlds t ws) where
+module _ (t : Tables) (users : List UserSlot) (ws : List World) (h : AreWorlds t ws) where
   -- a path that isn't one of users is in no states
   pub not_own : (b : Bool) → b ≡ have_own_paths (is_user users) ws → b ≡ false → HoldsStates (is_user users) (names_of ws) t → ⊥
   not_own b is bad holds =
@@ -41,7 +43,7 @@ module _ (t : Tables) (users : List (List ℕ)) (ws : List World) (h : AreWorlds
       (λ k x l here. holds.own x.path (path_is_named (names_of ws) h.names x.wid x.path (world_at ws k x h.told.sorted l here)))))
 
   four_bytes : length users ≤ most_users → (i : ℕ) → is_user users i ≡ true → i < 2 ^ 32
-  four_bytes few i user = let most = leb-true i (length users) (and_parts (nat_lt 0 i) (nat_le i (length users)) user).1 in omega arith
+  four_bytes few i user = let most = user_within users i user in omega arith
 
   own_paths : have_own_paths (is_user users) ws ≡ true → (w : List ℕ) → is_named (names_of ws) w ≡ true → list_all (is_user users) w ≡ true
   own_paths own w named =

@@ -8,6 +8,7 @@ use Rattle.bdb_base.specs.Bases.{is_user}
 use Rattle.bdb_base.specs.Order.{path_cmp}
 use Rattle.bdb_base.specs.SortedSet.{ascending, is_member}
 use Rattle.bdb_base.specs.States.{deepest_suffix, suffix_link}
+use Rattle.bdb_base.specs.declared.kinds.UserSlot.{UserSlot}
 use Rattle.bdb_keep.specs.Tables.{Tables}
 use Rattle.bdb_tables.specs.Codec.{Codec, place}
 use Rattle.bdb_tables.specs.InUse.{edge_codec, link_codec}
@@ -60,8 +61,8 @@ abbrev pub is_right : Option ℕ → Option ℕ → Bool
 is_right None right = not (is_some right)
 is_right (Some n) right = leads_to right n
 
--- a key is that of an edge of a world for a user
-abbrev pub is_edge_key : List (List ℕ) → List World → ℕ × ℕ → Bool
+-- a key is that of an edge of a world for a live user
+abbrev pub is_edge_key : List UserSlot → List World → ℕ × ℕ → Bool
 is_edge_key users worlds k = is_world worlds k.0 && is_user users k.1
 
 -- ---- tables

@@ -17,18 +17,17 @@ ghost use Rattle.bdb_graph.specs.States.{AllKeysPass, AreIndexed, HasEdgeFor, Ha
 
 use crate::finding::{is_world, leads_to};
 use crate::naming::World;
-use bdb_base::{Path, Txt, path_is_suffix};
-use bdb_entries::is_user;
+use bdb_base::{Path, UserSlot, is_user, path_is_suffix};
 use bdb_keep::Keeper;
 use bdb_tables::{EdgeTab, TabError, get, next_under};
 use std::alloc::{AllocError, Global};
 
-/// Whether the edges are those of the worlds' paths for these users. A read for each world and user, and one for each
-/// edge.
+/// Whether the edges are those of the worlds' paths for these users, and none is there for one who is gone. A read for each world
+/// and live user, and one for each edge.
 pub fn are_edges_held<K: Keeper>(
     alloc: Global,
     keeper: &mut K,
-    users: &[Txt],
+    users: &[UserSlot],
     worlds: &[World],
     paths: &[Path],
 ) -> Result<bool, TabError>
@@ -54,7 +53,7 @@ pub fn are_edges_held<K: Keeper>(
 fn each_has_edges<K: Keeper>(
     alloc: Global,
     keeper: &mut K,
-    users: &[Txt],
+    users: &[UserSlot],
     worlds: &[World],
     paths: &[Path],
 ) -> Result<bool, TabError>
@@ -75,11 +74,11 @@ fn each_has_edges<K: Keeper>(
     Ok(true)
 }
 
-// Whether the edges of a world are right. One read for each user.
+// Whether the edges of a world are right. One read for each live user.
 fn has_edges<K: Keeper>(
     alloc: Global,
     keeper: &mut K,
-    users: &[Txt],
+    users: &[UserSlot],
     worlds: &[World],
     paths: &[Path],
     world: &World,
@@ -93,6 +92,9 @@ fn has_edges<K: Keeper>(
     ensures reading { OnlyReads (K.seen keeper.old) (K.seen keeper.new) result TabError.Fault }
 {
     for at in 0..users.len() {
+        if !is_user(users, at as u32 + 1) {
+            continue;
+        }
         match has_edge(alloc, keeper, users, worlds, paths, world, at as u32 + 1) {
             Ok(true) => {}
             Ok(false) => return Ok(false),
@@ -106,7 +108,7 @@ fn has_edges<K: Keeper>(
 fn has_edge<K: Keeper>(
     alloc: Global,
     keeper: &mut K,
-    users: &[Txt],
+    users: &[UserSlot],
     worlds: &[World],
     paths: &[Path],
     world: &World,
@@ -144,7 +146,7 @@ fn has_edge<K: Keeper>(
 // Whether this is the edge of a path for a user.
 fn is_edge(
     alloc: Global,
-    users: &[Txt],
+    users: &[UserSlot],
     worlds: &[World],
     paths: &[Path],
     path: &[u32],
@@ -180,7 +182,7 @@ fn longer(alloc: Global, path: &[u32], uid: u32) -> Result<Vec<u32>, AllocError>
 fn are_edges_of_worlds<K: Keeper>(
     alloc: Global,
     keeper: &mut K,
-    users: &[Txt],
+    users: &[UserSlot],
     worlds: &[World],
 ) -> Result<bool, TabError>
     requires grammar { InGrammar (K.seen keeper.old).kept }
@@ -206,7 +208,7 @@ fn are_edges_of_worlds<K: Keeper>(
 fn next_edge<K: Keeper>(
     alloc: Global,
     keeper: &mut K,
-    users: &[Txt],
+    users: &[UserSlot],
     worlds: &[World],
     low: &mut Vec<u8>,
 ) -> Result<Option<bool>, TabError>
@@ -225,7 +227,7 @@ fn next_edge<K: Keeper>(
 }
 
 // Whether a key is that of an edge of a world for a user.
-fn is_edge_key(users: &[Txt], worlds: &[World], key: &(u32, u32)) -> bool
+fn is_edge_key(users: &[UserSlot], worlds: &[World], key: &(u32, u32)) -> bool
     requires { ascending nat_cmp (map number_of_world worlds.now) ≡ true }
     ensures { result ≡ is_edge_key users.now worlds.now key.now }
 {

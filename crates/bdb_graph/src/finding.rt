@@ -10,7 +10,7 @@ ghost use Rattle.bdb_graph.specs.States.{AreIndexed, ArePathsOf, have_own_paths,
 
 use crate::naming::World;
 use crate::numbers::place_of_number;
-use bdb_base::{List, Path, Txt, cmp_path, put_copy};
+use bdb_base::{List, Path, UserSlot, cmp_path, put_copy};
 use bdb_entries::are_users;
 use bdb_paths::deepest_suffix_in_set;
 use std::alloc::{AllocError, Global};
@@ -26,8 +26,8 @@ pub fn paths_of(alloc: Global, worlds: &[World]) -> Result<List<Path>, AllocErro
     Ok(paths)
 }
 
-/// Whether each world's path is one of users only.
-pub fn have_own_paths(users: &[Txt], worlds: &[World]) -> bool
+/// Whether each world's path is one of live users only.
+pub fn have_own_paths(users: &[UserSlot], worlds: &[World]) -> bool
     ensures { result ≡ have_own_paths (is_user users.now) worlds.now }
 {
     worlds

@@ -14,18 +14,19 @@ use crate::finding::{have_own_paths, paths_of};
 use crate::links::are_links_held;
 use crate::naming::World;
 use crate::turning::are_turned_round;
-use bdb_base::{Path, Txt};
+use bdb_base::{Path, UserSlot};
 use bdb_keep::Keeper;
 use bdb_tables::TabError;
 use std::alloc::Global;
 
 /// Whether the tables hold the states of these worlds over these users: their suffix links and edges are those of the paths, and two
-/// more tables have them turned round. Beside what the last takes, a read for each world and user and one for each link and edge;
-/// where a path leads is searched by halves among the paths in order.
+/// more tables have them turned round; a world that is named by one who is gone, or has an edge for him, is none of them. Beside
+/// what the last takes, a read for each world and live user and one for each link and edge; where a path leads is searched by
+/// halves among the paths in order.
 pub fn are_states_held<K: Keeper>(
     alloc: Global,
     keeper: &mut K,
-    users: &[Txt],
+    users: &[UserSlot],
     worlds: &[World],
 ) -> Result<bool, TabError>
     requires grammar { InGrammar (K.seen keeper.old).kept }
@@ -52,7 +53,7 @@ pub fn are_states_held<K: Keeper>(
 fn are_held<K: Keeper>(
     alloc: Global,
     keeper: &mut K,
-    users: &[Txt],
+    users: &[UserSlot],
     worlds: &[World],
     paths: &[Path],
 ) -> Result<bool, TabError>

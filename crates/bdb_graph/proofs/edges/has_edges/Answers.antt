@@ -1,16 +1,13 @@
-use Rattle.std.proofs.Common.{◌+◌, sym, subst, arith}
+use Rattle.std.proofs.Common.{◌≡◌, ◌+◌, true, sym, subst, arith, rules}
 use Rattle.bdb_base.specs.Bases.{is_user}
 use Rattle.bdb_tables.specs.Grammar.{InGrammar}
 use Rattle.bdb_tables.specs.declared.tab.TabError.TheVariants.{Fault}
-use Rattle.bdb_graph.proofs.EdgeLemmas.{edges_all, edges_more, not_edge, user_is}
+use Rattle.bdb_graph.proofs.EdgeLemmas.{edges_all, edges_more, not_edge}
 use Rattle.bdb_graph.proofs.UpLemmas.{only_reads_more}
 use Rattle.bdb_graph.proofs.edges.has_edges.Goals as goal
 
 pub has_edge-requires-clause-grammar : goal.has_edge-requires-clause-grammar
 has_edge-requires-clause-grammar g c = subst InGrammar (sym c.loop-at.invariant.kept) c.requires.grammar
-
-pub has_edge-requires-clause-user : goal.has_edge-requires-clause-user
-has_edge-requires-clause-user g c = user_is c.args.users.now c.loop-at.at (omega arith)
 
 pub loop-at-preserved : goal.loop-at-preserved
 loop-at-preserved g c =
@@ -25,7 +22,7 @@ loop-at-preserved g c =
 pub returns-in-Ok-false-clause-edges : goal.returns-in-Ok-false-clause-edges
 returns-in-Ok-false-clause-edges g c =
     let w = c.in-Ok-false in
-    let user = user_is c.args.users.now c.loop-at.at (omega arith) in
+    let user : is_user c.args.users.now (c.loop-at.at + 1) ≡ true = search rules in
     not_edge (g.K.Keeper.seen c.args.keeper.now).kept (g.K.Keeper.seen c.loop-at.keeper).kept (is_user c.args.users.now) c.args.worlds.now c.args.world.now (c.loop-at.at + 1) w.field-0 c.loop-at.invariant.kept user w.field-0-test w.ensures.edge
 
 pub returns-clause-edges : goal.returns-clause-edges
