@@ -6,13 +6,15 @@ use Rattle.std.specs.Ordering.{ordering_then}
 use Rattle.std.specs.List.{AllByRecursion}
 use Rattle.bdb_base.specs.declared.kinds.ColDef.{ColDef}
 use Rattle.bdb_base.specs.declared.kinds.RelDef.{RelDef}
+use Rattle.bdb_base.specs.declared.kinds.UserSlot.{UserSlot}
+use Rattle.bdb_base.specs.declared.kinds.UserSlot.TheVariants.{Live, Gone}
 use Rattle.bdb_base.specs.declared.kinds.Value.{Value}
 use Rattle.bdb_base.specs.declared.kinds.Sign.{Sign}
 use Rattle.bdb_base.specs.declared.kinds.Sign.TheVariants as signs
 use Rattle.bdb_base.specs.declared.tuple.Tuple.{Tuple}
 use Rattle.bdb_key.specs.Bytes.{num_bytes, text_bytes, values_bytes}
 use Rattle.bdb_key.specs.Grammar.{IsNum, IsPlain}
-use Rattle.bdb_key.specs.Rows.{IsCol, IsRelRow, IsTupleRow, cols_bytes, length_bytes, rel_bytes, tuple_bytes, sign_bytes}
+use Rattle.bdb_key.specs.Rows.{IsCol, IsRelRow, IsTupleRow, IsUserRow, cols_bytes, length_bytes, rel_bytes, tuple_bytes, slot_bytes, sign_bytes}
 use Rattle.bdb_key.proofs.Compared.{rows, rows_tie}
 use Rattle.bdb_key.proofs.Forms.{tied}
 use Rattle.bdb_key.proofs.Readings.{num_form, text_form, length_form, one_cols}
@@ -27,6 +29,12 @@ one_num a b fa fb e = (num_form a b [] [] fa fb (ap (λ (x : List ℕ). x ++ [])
 
 pub one_text : (a b : List ℕ) → IsPlain a → IsPlain b → text_bytes a ≡ text_bytes b → a ≡ b
 one_text a b fa fb e = (text_form a b [] [] fa fb (ap (λ (x : List ℕ). x ++ []) e)).0
+
+pub one_slot : (a b : UserSlot) → IsUserRow a → IsUserRow b → slot_bytes a ≡ slot_bytes b → a ≡ b
+one_slot (Live s) (Live t) fa fb e = ap Live (one_text s t fa fb e)
+one_slot (Live s) Gone fa fb e = absurd cc
+one_slot Gone (Live t) fa fb e = absurd cc
+one_slot Gone Gone fa fb e = refl
 
 def_of : List ℕ → List ColDef → ℕ → RelDef
 def_of n c k = record { name = n; cols = c; key = k }

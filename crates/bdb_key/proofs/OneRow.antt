@@ -1,17 +1,18 @@
 -- No two rows of one table are written alike.
-use Rattle.std.proofs.Common.{◌≡◌, ℕ, Bool, List, true, false, cond, nat_eq, lit<, refl, sym, ap, subst, ◌∙◌, inl, inr}
+use Rattle.std.proofs.Common.{◌≡◌, ℕ, Bool, true, false, cond, nat_eq, lit<, refl, sym, ap, subst, ◌∙◌, inl, inr}
 use Rattle.std.proofs.lemmas.Bool.{eqb-true, false≢true, or_cases}
 use Rattle.bdb_base.specs.declared.kinds.RelDef.{RelDef}
 use Rattle.bdb_base.specs.declared.kinds.Sign.{Sign}
 use Rattle.bdb_base.specs.declared.kinds.Sign.TheVariants as signs
+use Rattle.bdb_base.specs.declared.kinds.UserSlot.{UserSlot}
 use Rattle.bdb_base.specs.declared.tuple.Tuple.{Tuple}
 use Rattle.bdb_key.specs.declared.row.TabRow.{TabRow}
 use Rattle.bdb_key.specs.declared.row.TabRow.TheVariants as rows
-use Rattle.bdb_key.specs.Bytes.{num_bytes, text_bytes}
-use Rattle.bdb_key.specs.Grammar.{IsNum, IsPlain}
+use Rattle.bdb_key.specs.Bytes.{num_bytes}
+use Rattle.bdb_key.specs.Grammar.{IsNum}
 use Rattle.bdb_key.specs.Laws.{RowsHaveOneSpelling}
-use Rattle.bdb_key.specs.Rows.{IsRow, IsRelRow, IsTupleRow, mark_number, row_bytes, rel_bytes, tuple_bytes, sign_bytes}
-use Rattle.bdb_key.proofs.Alone.{one_num, one_text, one_rel, one_tuple, one_sign}
+use Rattle.bdb_key.specs.Rows.{IsRow, IsRelRow, IsTupleRow, IsUserRow, mark_number, row_bytes, rel_bytes, tuple_bytes, slot_bytes, sign_bytes}
+use Rattle.bdb_key.proofs.Alone.{one_num, one_slot, one_rel, one_tuple, one_sign}
 
 -- ---- the number of a sign and a mark
 
@@ -44,9 +45,9 @@ beside_meta : (n : ℕ) (b : TabRow) → IsNum n → IsRow 1 b → num_bytes n �
 beside_meta n (rows.Meta m) f h e = ap rows.Meta (one_num n m f h.fits e)
 beside_meta n b f h e = absurd (false≢true h.of)
 
-beside_user : (t : List ℕ) (b : TabRow) → IsPlain t → IsRow 2 b → text_bytes t ≡ row_bytes b → rows.User t ≡ b
-beside_user t (rows.User u) f h e = ap rows.User (one_text t u f h.fits e)
-beside_user t b f h e = absurd (false≢true h.of)
+beside_user : (s : UserSlot) (b : TabRow) → IsUserRow s → IsRow 2 b → slot_bytes s ≡ row_bytes b → rows.User s ≡ b
+beside_user s (rows.User u) f h e = ap rows.User (one_slot s u f h.fits e)
+beside_user s b f h e = absurd (false≢true h.of)
 
 beside_rel : (d : RelDef) (b : TabRow) → IsRelRow d → IsRow 3 b → rel_bytes d ≡ row_bytes b → rows.Rel d ≡ b
 beside_rel d (rows.Rel c) f h e = ap rows.Rel (one_rel d c f h.fits e)
@@ -96,7 +97,7 @@ moved tab n b e h = subst (λ i. IsRow i b) (eqb-true tab n e) h
 
 pub rows_have_one_spelling : RowsHaveOneSpelling
 rows_have_one_spelling tab (rows.Meta n) b f h e = beside_meta n b f.fits (moved tab 1 b f.of h) e
-rows_have_one_spelling tab (rows.User t) b f h e = beside_user t b f.fits (moved tab 2 b f.of h) e
+rows_have_one_spelling tab (rows.User s) b f h e = beside_user s b f.fits (moved tab 2 b f.of h) e
 rows_have_one_spelling tab (rows.Rel d) b f h e = beside_rel d b f.fits (moved tab 3 b f.of h) e
 rows_have_one_spelling tab (rows.Tuple t) b f h e = beside_tuple t b f.fits (moved tab 4 b f.of h) e
 rows_have_one_spelling tab (rows.Tid n) b f h e = beside_tid n b f.fits (moved tab 5 b f.of h) e

@@ -1,18 +1,24 @@
 -- What is no row of its kind is no row of its table.
 use Rattle.std.proofs.Common.{ℕ, ◌<◌, List, length, ap, arith}
 use Rattle.std.proofs.lemmas.Bool.{false≢true}
+use Rattle.bdb_base.specs.declared.kinds.UserSlot.TheVariants.{Live, Gone}
 use Rattle.bdb_key.specs.declared.row.TabRow.TheVariants as rows
 use Rattle.bdb_key.specs.Bytes.{num_bytes, text_bytes}
 use Rattle.bdb_key.specs.Grammar.{IsNum, IsPlain}
 use Rattle.bdb_key.specs.Reading.{NoneReads}
-use Rattle.bdb_key.specs.Rows.{IsRow, IsRelRow, IsTupleRow, IsAnySign, IsAnyMark, row_bytes, rel_bytes, tuple_bytes, sign_bytes, mark_bytes}
+use Rattle.bdb_key.specs.Rows.{IsRow, IsRelRow, IsTupleRow, IsUserRow, IsAnySign, IsAnyMark, row_bytes, rel_bytes, tuple_bytes, slot_bytes, sign_bytes, mark_bytes}
 
 pub none_1 : (bytes : List ℕ) → NoneReads IsNum num_bytes bytes → NoneReads (IsRow 1) row_bytes bytes
 none_1 bytes none (rows.Meta n) h = none n (record { fits = h.fits.fits; spelled = h.spelled })
 none_1 bytes none row h = false≢true h.fits.of
 
-pub none_2 : (bytes : List ℕ) → NoneReads IsPlain text_bytes bytes → NoneReads (IsRow 2) row_bytes bytes
-none_2 bytes none (rows.User name) h = none name (record { fits = h.fits.fits; spelled = h.spelled })
+-- bytes that are there and are no plain text are no place of the list of users
+pub none_slot : (bytes : List ℕ) → 0 < length bytes → NoneReads IsPlain text_bytes bytes → NoneReads IsUserRow slot_bytes bytes
+none_slot bytes some none (Live name) h = none name (record { fits = h.fits; spelled = h.spelled })
+none_slot bytes some none Gone h = let e = ap length h.spelled in omega arith
+
+pub none_2 : (bytes : List ℕ) → NoneReads IsUserRow slot_bytes bytes → NoneReads (IsRow 2) row_bytes bytes
+none_2 bytes none (rows.User slot) h = none slot (record { fits = h.fits.fits; spelled = h.spelled })
 none_2 bytes none row h = false≢true h.fits.of
 
 pub none_3 : (bytes : List ℕ) → NoneReads IsRelRow rel_bytes bytes → NoneReads (IsRow 3) row_bytes bytes

@@ -8,6 +8,8 @@ use Rattle.bdb_base.specs.declared.kinds.Sign.{Sign}
 use Rattle.bdb_base.specs.declared.kinds.Sign.TheVariants as signs
 use Rattle.bdb_base.specs.declared.kinds.ColDef.{ColDef}
 use Rattle.bdb_base.specs.declared.kinds.RelDef.{RelDef}
+use Rattle.bdb_base.specs.declared.kinds.UserSlot.{UserSlot}
+use Rattle.bdb_base.specs.declared.kinds.UserSlot.TheVariants.{Live, Gone}
 use Rattle.bdb_key.specs.Bytes.{num_bytes, int_bytes, text_bytes, values_bytes}
 use Rattle.bdb_key.specs.Grammar.{IsNum, IsPlain, ArePlain, HasPlainText}
 use Rattle.bdb_key.specs.declared.row.TabRow.{TabRow}
@@ -37,6 +39,11 @@ length_bytes n = int_bytes (pos n)
 -- a relation: its name, then the length of its key, then its columns
 abbrev pub rel_bytes : RelDef → List ℕ
 rel_bytes def = text_bytes def.name ++ length_bytes def.key ++ cols_bytes def.cols
+
+-- a place of the list of users: the name of a live one, no bytes for one who is gone
+abbrev pub slot_bytes : UserSlot → List ℕ
+slot_bytes (Live name) = text_bytes name
+slot_bytes Gone = []
 
 -- a tuple: its relation, then its values
 abbrev pub tuple_bytes : Tuple → List ℕ
@@ -73,7 +80,7 @@ IsAnyMark mark = Unit {0}
 -- a row
 abbrev pub row_bytes : TabRow → List ℕ
 row_bytes (rows.Meta format) = num_bytes format
-row_bytes (rows.User name) = text_bytes name
+row_bytes (rows.User slot) = slot_bytes slot
 row_bytes (rows.Rel def) = rel_bytes def
 row_bytes (rows.Tuple t) = tuple_bytes t
 row_bytes (rows.Tid tid) = num_bytes tid
@@ -82,6 +89,11 @@ row_bytes (rows.Link wid) = num_bytes wid
 row_bytes rows.Empty = []
 row_bytes (rows.Val sign explicit) = num_bytes (mark_number sign explicit)
 row_bytes (rows.Plain sign) = sign_bytes sign
+
+-- a live user with a plain name, or one who is gone
+abbrev pub IsUserRow : UserSlot → Type 0
+IsUserRow (Live name) = IsPlain name
+IsUserRow Gone = Unit {0}
 
 -- a column with a plain name
 abbrev pub IsCol : ColDef → Type 0
@@ -104,7 +116,7 @@ pub record IsTupleRow (t : Tuple) : Type 0 where
 -- a row is one of a table, by the table's number
 abbrev pub is_of : ℕ → TabRow → Bool
 is_of tab (rows.Meta format) = nat_eq tab 1
-is_of tab (rows.User name) = nat_eq tab 2
+is_of tab (rows.User slot) = nat_eq tab 2
 is_of tab (rows.Rel def) = nat_eq tab 3
 is_of tab (rows.Tuple t) = nat_eq tab 4
 is_of tab (rows.Tid tid) = nat_eq tab 5
@@ -117,7 +129,7 @@ is_of tab (rows.Plain sign) = nat_eq tab 12
 -- a row's numbers, texts and lists are in the grammar
 abbrev pub FitsRow : TabRow → Type 0
 FitsRow (rows.Meta format) = IsNum format
-FitsRow (rows.User name) = IsPlain name
+FitsRow (rows.User slot) = IsUserRow slot
 FitsRow (rows.Rel def) = IsRelRow def
 FitsRow (rows.Tuple t) = IsTupleRow t
 FitsRow (rows.Tid tid) = IsNum tid

@@ -1,13 +1,13 @@
 // The rows of the twelve tables.
-use bdb_base::{RelDef, Sign, Tuple, Txt};
+use bdb_base::{RelDef, Sign, Tuple, UserSlot};
 
 /// A row of one of the twelve tables.
 #[derive(Drop)]
 pub enum TabRow {
     /// Of table 1: the format.
     Meta(u32),
-    /// Of table 2: a user's name.
-    User(Txt),
+    /// Of table 2: a place of the list of users.
+    User(UserSlot),
     /// Of table 3: a relation.
     Rel(RelDef),
     /// Of table 4: a tuple.

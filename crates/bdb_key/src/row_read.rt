@@ -6,11 +6,11 @@ ghost use Rattle.std.specs.List.{AllByRecursion};
 ghost use Rattle.bdb_key.specs.Grammar.{IsNum, IsPlain};
 ghost use Rattle.bdb_key.specs.Bytes.{text_bytes};
 ghost use Rattle.bdb_key.specs.Reading.{Leads, NoneLeads, Reads, NoneReads};
-ghost use Rattle.bdb_key.specs.Rows.{IsAnyKind, kind_bytes, IsCol, col_bytes, cols_bytes, IsRelRow, length_bytes, rel_bytes, IsTupleRow, tuple_bytes, IsAnySign, sign_bytes, IsAnyMark, mark_bytes};
+ghost use Rattle.bdb_key.specs.Rows.{IsAnyKind, kind_bytes, IsCol, col_bytes, cols_bytes, IsRelRow, length_bytes, rel_bytes, IsTupleRow, tuple_bytes, IsUserRow, slot_bytes, IsAnySign, sign_bytes, IsAnyMark, mark_bytes};
 
 use crate::part::KeyError;
 use crate::read::{int_of, num_of, only_num, plain_text_of, text_of, values_of};
-use bdb_base::{ColDef, Kind, List, RelDef, Sign, Tuple, Txt};
+use bdb_base::{ColDef, Kind, List, RelDef, Sign, Tuple, Txt, UserSlot};
 use std::alloc::Global;
 
 /// The relation that these bytes are. `NotAKey` comes exactly where they are no relation.
@@ -83,6 +83,22 @@ pub fn only_text(alloc: Global, bytes: &[u8]) -> Result<Txt, KeyError>
         return Err(KeyError::NotAKey);
     }
     Ok(text)
+}
+
+/// The place of the list of users that these bytes are: a name, or no bytes for one who is gone. `NotAKey` comes exactly
+/// where they are neither.
+pub fn user_of(alloc: Global, bytes: &[u8]) -> Result<UserSlot, KeyError>
+    ensures ok { IfOk result (Reads IsUserRow slot_bytes bytes.now) }
+    ensures none { IsErrOf result KeyError.NotAKey → NoneReads IsUserRow slot_bytes bytes.now }
+{
+    if bytes.is_empty() {
+        return Ok(UserSlot::Gone);
+    }
+    match only_text(alloc, bytes) {
+        Ok(name) => Ok(UserSlot::Live(name)),
+        Err(KeyError::NotAKey) => Err(KeyError::NotAKey),
+        Err(KeyError::Memory) => Err(KeyError::Memory),
+    }
 }
 
 /// The sign that these bytes are. None exactly where they are no sign.

@@ -7,7 +7,7 @@ ghost use Rattle.bdb_key.specs.Rows.{IsRow, row_bytes};
 use crate::part::{KeyError, RowError};
 use crate::read::only_num;
 use crate::row::TabRow;
-use crate::row_read::{mark_of, only_text, rel_of, sign_of, tuple_of};
+use crate::row_read::{mark_of, rel_of, sign_of, tuple_of, user_of};
 use std::alloc::Global;
 
 /// The row of a table that these bytes are. `NotARow` comes exactly where they are no row of that table.
@@ -75,8 +75,8 @@ fn user_row(alloc: Global, bytes: &[u8]) -> Result<TabRow, RowError>
     ensures ok { IfOk result (Reads (IsRow 2) row_bytes bytes.now) }
     ensures none { IsErrOf result RowError.NotARow → NoneReads (IsRow 2) row_bytes bytes.now }
 {
-    match only_text(alloc, bytes) {
-        Ok(name) => Ok(TabRow::User(name)),
+    match user_of(alloc, bytes) {
+        Ok(slot) => Ok(TabRow::User(slot)),
         Err(KeyError::NotAKey) => Err(RowError::NotARow),
         Err(KeyError::Memory) => Err(RowError::Memory),
     }

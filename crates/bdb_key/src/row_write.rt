@@ -3,11 +3,11 @@ ghost use Rattle.std.specs.Prelude.{◌≡◌, ◌++◌, pos, OnOk, OnErr};
 ghost use Rattle.std.specs.List.{AllByRecursion};
 ghost use Rattle.bdb_key.specs.Bytes.{Grows};
 ghost use Rattle.bdb_key.specs.Grammar.{IsNum, IsWhole};
-ghost use Rattle.bdb_key.specs.Rows.{kind_bytes, cols_bytes, rel_bytes, tuple_bytes, sign_bytes, mark_bytes, row_bytes};
+ghost use Rattle.bdb_key.specs.Rows.{kind_bytes, cols_bytes, rel_bytes, tuple_bytes, slot_bytes, sign_bytes, mark_bytes, row_bytes};
 
 use crate::row::TabRow;
 use crate::write::{put_num, put_text, put_value, put_values};
-use bdb_base::{ColDef, Kind, RelDef, Sign, Tuple, Value};
+use bdb_base::{ColDef, Kind, RelDef, Sign, Tuple, UserSlot, Value};
 use std::alloc::AllocError;
 
 /// Appends a relation. After a refusal the bytes are unchanged.
@@ -42,6 +42,18 @@ pub fn put_tuple(out: &mut Vec<u8>, tuple: &Tuple) -> Result<(), AllocError>
     }
 }
 
+/// Appends a place of the list of users: the name of a live one, nothing for one who is gone. After a refusal the bytes are
+/// unchanged.
+pub fn put_user(out: &mut Vec<u8>, slot: &UserSlot) -> Result<(), AllocError>
+    ensures ok { OnOk result (out.new.items ≡ out.old.items ++ slot_bytes slot.now) }
+    ensures err { OnErr result (out.new.items ≡ out.old.items) }
+{
+    match slot {
+        UserSlot::Live(name) => put_text(out, name),
+        UserSlot::Gone => Ok(()),
+    }
+}
+
 /// Appends a statement's sign. After a refusal the bytes are unchanged.
 pub fn put_sign(out: &mut Vec<u8>, sign: Sign) -> Result<(), AllocError>
     ensures ok { OnOk result (out.new.items ≡ out.old.items ++ sign_bytes sign) }
@@ -73,7 +85,7 @@ pub fn put_row(out: &mut Vec<u8>, row: &TabRow) -> Result<(), AllocError>
 {
     match row {
         TabRow::Meta(format) => put_num(out, *format),
-        TabRow::User(name) => put_text(out, name),
+        TabRow::User(slot) => put_user(out, slot),
         TabRow::Rel(def) => put_rel(out, def),
         TabRow::Tuple(tuple) => put_tuple(out, tuple),
         TabRow::Tid(tid) => put_num(out, *tid),

@@ -1,5 +1,6 @@
--- What tables have of a catalog: with one user or relation more, of the empty one, and that they have one.
-use Rattle.std.proofs.Common.{◌≡◌, ℕ, suc, ◌+◌, ◌≤◌, ◌^◌, true, nat_eq, nat_le, cond, List, [], ◌∷◌, ◌++◌, length, Some, None, refl, ap, sym, ◌∙◌, inl, inr, arith}
+-- What tables have of a catalog: with one user or relation more, with a user's place set anew, of the empty one, and that they
+-- have one.
+use Rattle.std.proofs.Common.{◌≡◌, ℕ, suc, ◌+◌, ◌-◌, ◌<◌, ◌≤◌, ◌^◌, true, nat_eq, nat_le, cond, List, [], ◌∷◌, ◌++◌, length, slice_set, Some, None, refl, ap, sym, ◌∙◌, inl, inr, arith}
 use Prim.Native.Nat.{zero}
 use Rattle.std.specs.List.{slice_get}
 use Rattle.std.specs.Ordering.{is_eq, nat_cmp}
@@ -9,17 +10,20 @@ use Rattle.std.proofs.lemmas.Cmp.{nat_list_cmp_total}
 use Rattle.std.proofs.lemmas.Bool.{cases_Bool, cases_lt, false≢true, eqb-true, eq-eqb, cond-true, cond-false, leb-true}
 use Rattle.std.proofs.lemmas.Bool.Decides.{nat_tests}
 use Rattle.std.proofs.lemmas.Option.{slice_get_past}
-use Rattle.bdb_base.specs.Bases.{Contents}
+use Rattle.bdb_base.specs.Bases.{Contents, is_user}
 use Rattle.bdb_base.specs.Limits.{most_users, most_relations}
 use Rattle.bdb_base.specs.declared.kinds.RelDef.{RelDef}
 use Rattle.bdb_base.specs.declared.kinds.Stmt.{Stmt}
+use Rattle.bdb_base.specs.declared.kinds.UserSlot.{UserSlot}
+use Rattle.bdb_base.specs.declared.kinds.UserSlot.TheVariants.{Gone}
+use Rattle.bdb_base.proofs.UserLemmas.{user_above, user_within}
 use Rattle.bdb_keep.specs.Tables.{Tables}
-use Rattle.bdb_key.specs.Grammar.{IsNum, IsPlain}
-use Rattle.bdb_key.specs.Rows.{IsRelRow}
+use Rattle.bdb_key.specs.Grammar.{IsNum}
+use Rattle.bdb_key.specs.Rows.{IsRelRow, IsUserRow}
 use Rattle.bdb_tables.specs.Codec.{Codec, place}
 use Rattle.bdb_tables.specs.InUse.{user_codec, rel_codec}
-use Rattle.bdb_tables.specs.InUseLaws.{numbers_in_order, text_rows_are_one, rel_rows_are_one}
-use Rattle.bdb_tables.specs.Stored.{name_of}
+use Rattle.bdb_tables.specs.InUseLaws.{numbers_in_order, slot_rows_are_one, rel_rows_are_one}
+use Rattle.bdb_tables.specs.Stored.{slot_of}
 use Rattle.bdb_tables.specs.Writes.{Gives, with_change, with_row_at}
 use Rattle.bdb_tables.proofs.WriteLemmas.{change_gives, gives_same, gives_one}
 
@@ -38,9 +42,9 @@ empty_gives c = record {
   written = λ key fits. tt;
 }
 
-pub no_names : (n : ℕ) → None ≡ name_of [] n
-no_names zero = refl
-no_names (suc n) = refl
+pub no_slots : (n : ℕ) → None ≡ slot_of [] n
+no_slots zero = refl
+no_slots (suc n) = refl
 
 -- ---- lists with one item more
 
@@ -63,24 +67,56 @@ rels_more rels def rel k s = elim (cases_Bool (nat_eq k rel)) [
   | inr e ↦ cond-false (is_eq (nat_cmp k rel)) (Some def) (slice_get rels k) (same_number k rel ∙ e) ∙ not_end rels def k (λ z. false≢true (sym e ∙ eq-eqb k rel (z ∙ sym s)))
 ]
 
-names_more : (users : List (List ℕ)) (name : List ℕ) (uid k : ℕ) → uid ≡ suc (length users) → cond (is_eq (nat_cmp k uid)) (Some name) (name_of users k) ≡ name_of (users ++ name ∷ []) k
-names_more users name uid k s = elim (cases_Bool (nat_eq k uid)) [
-  | inl e ↦ cond-true (is_eq (nat_cmp k uid)) (Some name) (name_of users k) (same_number k uid ∙ e) ∙ sym (ap (name_of (users ++ name ∷ [])) (eqb-true k uid e ∙ s) ∙ at_end users name)
-  | inr e ↦ cond-false (is_eq (nat_cmp k uid)) (Some name) (name_of users k) (same_number k uid ∙ e) ∙ old k (λ z. false≢true (sym e ∙ eq-eqb k uid (z ∙ sym s)))
+-- a list with a slot at one place, and with those of another list at all others
+slots_changed : (users after : List UserSlot) (slot : UserSlot) (uid at k : ℕ) → uid ≡ suc at → slice_get after at ≡ Some slot → ((n : ℕ) → (n ≡ at → ⊥) → slice_get users n ≡ slice_get after n)
+    → cond (is_eq (nat_cmp k uid)) (Some slot) (slot_of users k) ≡ slot_of after k
+slots_changed users after slot uid at k s here else = elim (cases_Bool (nat_eq k uid)) [
+  | inl e ↦ cond-true (is_eq (nat_cmp k uid)) (Some slot) (slot_of users k) (same_number k uid ∙ e) ∙ sym (ap (slot_of after) (eqb-true k uid e ∙ s) ∙ here)
+  | inr e ↦ cond-false (is_eq (nat_cmp k uid)) (Some slot) (slot_of users k) (same_number k uid ∙ e) ∙ old k (λ z. false≢true (sym e ∙ eq-eqb k uid (z ∙ sym s)))
 ]
   where
-    old : (k : ℕ) → (k ≡ suc (length users) → ⊥) → name_of users k ≡ name_of (users ++ name ∷ []) k
+    old : (k : ℕ) → (k ≡ suc at → ⊥) → slot_of users k ≡ slot_of after k
     old zero n = refl
-    old (suc m) n = not_end users name m (λ e. n (ap suc e))
+    old (suc m) n = else m (λ e. n (ap suc e))
+
+-- ---- a place that is set
+
+set_here : {X : Type 0} (xs : List X) (at : ℕ) (x : X) → at < length xs → slice_get (slice_set xs at x) at ≡ Some x
+set_here [] at x h = absurd (omega (arith, h))
+set_here (y ∷ xs) zero x h = refl
+set_here (y ∷ xs) (suc at) x h = set_here xs at x (omega (arith, h))
+
+set_elsewhere : {X : Type 0} (xs : List X) (at : ℕ) (x : X) (n : ℕ) → (n ≡ at → ⊥) → slice_get xs n ≡ slice_get (slice_set xs at x) n
+set_elsewhere [] at x n h = refl
+set_elsewhere (y ∷ xs) zero x zero h = absurd (h refl)
+set_elsewhere (y ∷ xs) zero x (suc n) h = refl
+set_elsewhere (y ∷ xs) (suc at) x zero h = refl
+set_elsewhere (y ∷ xs) (suc at) x (suc n) h = set_elsewhere xs at x n (λ e. h (ap suc e))
 
 -- ---- a user or a relation more
 
-pub user_more : (t : Tables) (users : List (List ℕ)) (uid : ℕ) (name : List ℕ) → uid ≡ length users + 1 → IsNum uid → IsPlain name → Gives user_codec t (name_of users)
-    → Gives user_codec (with_change user_codec t (uid, Some name)) (name_of (users ++ name ∷ []))
-user_more t users uid name e num fits h =
+pub user_more : (t : Tables) (users : List UserSlot) (uid : ℕ) (slot : UserSlot) → uid ≡ length users + 1 → IsNum uid → IsUserRow slot → Gives user_codec t (slot_of users)
+    → Gives user_codec (with_change user_codec t (uid, Some slot)) (slot_of (users ++ slot ∷ []))
+user_more t users uid slot e num fits h =
     let next : uid ≡ suc (length users) = omega (arith, e) in
-    gives_same user_codec (with_change user_codec t (uid, Some name)) (with_row_at user_codec (name_of users) (uid, Some name)) (name_of (users ++ name ∷ []))
-    (λ k f. names_more users name uid k next) (change_gives user_codec numbers_in_order t (name_of users) (uid, Some name) (record { key = num; row = fits }) h)
+    gives_same user_codec (with_change user_codec t (uid, Some slot)) (with_row_at user_codec (slot_of users) (uid, Some slot)) (slot_of (users ++ slot ∷ []))
+    (λ k f. slots_changed users (users ++ slot ∷ []) slot uid (length users) k next (at_end users slot) (not_end users slot))
+    (change_gives user_codec numbers_in_order t (slot_of users) (uid, Some slot) (record { key = num; row = fits }) h)
+
+-- the row of a place that stands is replaced
+pub user_set : (t : Tables) (users : List UserSlot) (uid : ℕ) (slot : UserSlot) → 0 < uid → uid ≤ length users → IsNum uid → IsUserRow slot → Gives user_codec t (slot_of users)
+    → Gives user_codec (with_change user_codec t (uid, Some slot)) (slot_of (slice_set users (uid - 1) slot))
+user_set t users uid slot above within num fits h =
+    let next : uid ≡ suc (uid - 1) = omega (arith, above) in
+    let inside : (uid - 1) < length users = omega (arith, above, within) in
+    gives_same user_codec (with_change user_codec t (uid, Some slot)) (with_row_at user_codec (slot_of users) (uid, Some slot)) (slot_of (slice_set users (uid - 1) slot))
+    (λ k f. slots_changed users (slice_set users (uid - 1) slot) slot uid (uid - 1) k next (set_here users (uid - 1) slot inside) (set_elsewhere users (uid - 1) slot))
+    (change_gives user_codec numbers_in_order t (slot_of users) (uid, Some slot) (record { key = num; row = fits }) h)
+
+-- a user leaves
+pub user_gone : (t : Tables) (users : List UserSlot) (uid : ℕ) → is_user users uid ≡ true → IsNum uid → Gives user_codec t (slot_of users)
+    → Gives user_codec (with_change user_codec t (uid, Some Gone)) (slot_of (slice_set users (uid - 1) Gone))
+user_gone t users uid is num h = user_set t users uid Gone (user_above users uid is) (user_within users uid is) num tt h
 
 pub relation_more : (t : Tables) (rels : List RelDef) (rel : ℕ) (def : RelDef) → rel ≡ length rels → IsNum rel → IsRelRow def → Gives rel_codec t (slice_get rels)
     → Gives rel_codec (with_change rel_codec t (rel, Some def)) (slice_get (rels ++ def ∷ []))
@@ -100,11 +136,11 @@ same_by_place (x ∷ xs) (y ∷ ys) h =
     let s : x ≡ y = cc in
     ap (λ z. z ∷ xs) s ∙ ap (λ zs. y ∷ zs) (same_by_place xs ys (λ n. h (suc n)))
 
-pub one_users : (t : Tables) (xs ys : List (List ℕ)) → Gives user_codec t (name_of xs) → Gives user_codec t (name_of ys)
+pub one_users : (t : Tables) (xs ys : List UserSlot) → Gives user_codec t (slot_of xs) → Gives user_codec t (slot_of ys)
     → nat_le (length xs) most_users ≡ true → nat_le (length ys) most_users ≡ true → xs ≡ ys
 one_users t xs ys h k a b = same_by_place xs ys (λ n.
     elim (cases_lt (suc n) (2 ^ 32)) as (λ _. slice_get xs n ≡ slice_get ys n) [
-      | inl num ↦ gives_one user_codec text_rows_are_one t (name_of xs) (name_of ys) h k (suc n) num
+      | inl num ↦ gives_one user_codec slot_rows_are_one t (slot_of xs) (slot_of ys) h k (suc n) num
       | inr past ↦
           let few : length xs ≤ most_users = leb-true (length xs) most_users a in
           let few2 : length ys ≤ most_users = leb-true (length ys) most_users b in
@@ -123,7 +159,7 @@ one_relations t xs ys h k a b = same_by_place xs ys (λ n.
     ])
 
 -- a base made of its parts
-abbrev pub contents_of : List (List ℕ) → List RelDef → List Stmt → Contents
+abbrev pub contents_of : List UserSlot → List RelDef → List Stmt → Contents
 contents_of users rels stmts = record { catalog = record { rels = rels; users = users }; stmts = stmts }
 
 -- bases with the same users, relations and statements are one

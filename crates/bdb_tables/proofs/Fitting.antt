@@ -4,6 +4,7 @@ use Rattle.std.specs.List.{AllByRecursion, list_all, slice_get}
 use Rattle.std.proofs.lemmas.Bool.{and_parts, false≢true, leb-true}
 use Rattle.bdb_base.specs.Alternation.{alternates}
 use Rattle.bdb_base.specs.Bases.{IsCatalog, belongs, is_user, is_plain, is_key, is_valid_relation, are_distinct, fits_kind, fits_columns, fits_definition, fits_relation, users_name}
+use Rattle.bdb_base.specs.Limits.{deepest_statement}
 use Rattle.bdb_base.specs.Same.{same_text}
 use Rattle.bdb_base.specs.declared.kinds.Catalog.{Catalog}
 use Rattle.bdb_base.specs.declared.kinds.ColDef.{ColDef}
@@ -78,10 +79,10 @@ values_of rels (Some def) n vals valid is h =
 
 pub belonging_may_be : (c : Catalog) (x : Stmt) → IsCatalog c → belongs c x ≡ true → MayBePlain (x.path, x.tuple)
 belonging_may_be c x valid h =
-    let path = alternates x.path && nat_le (length x.path) 16 in
+    let path = alternates x.path && nat_le (length x.path) deepest_statement in
     let fit = and_parts (path && list_all (is_user c.users) x.path) (fits_relation c.rels x.tuple) h in
     let users = and_parts path (list_all (is_user c.users) x.path) fit.0 in
-    let apart = and_parts (alternates x.path) (nat_le (length x.path) 16) users.0 in
-    let few : length x.path ≤ 16 = leb-true (length x.path) 16 apart.1 in
+    let apart = and_parts (alternates x.path) (nat_le (length x.path) deepest_statement) users.0 in
+    let few : length x.path ≤ deepest_statement = leb-true (length x.path) deepest_statement apart.1 in
     let vals = values_of c.rels (slice_get c.rels x.tuple.rel) x.tuple.rel x.tuple.vals valid.rels_valid refl fit.1 in
     record { apart = apart.0; short = omega (arith, few); tuple = record { some = vals.0; texts = vals.1 } }

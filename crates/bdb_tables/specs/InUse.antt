@@ -7,12 +7,13 @@ use Rattle.bdb_base.specs.Alternation.{alternates}
 use Rattle.bdb_base.specs.Order.{path_cmp, tuple_cmp}
 use Rattle.bdb_base.specs.declared.kinds.RelDef.{RelDef}
 use Rattle.bdb_base.specs.declared.kinds.Sign.{Sign}
+use Rattle.bdb_base.specs.declared.kinds.UserSlot.{UserSlot}
 use Rattle.bdb_base.specs.declared.kinds.Value.{Value}
 use Rattle.bdb_base.specs.declared.tuple.Tuple.{Tuple}
-use Rattle.bdb_key.specs.Bytes.{num_bytes, text_bytes, vals_bytes, path_bytes}
-use Rattle.bdb_key.specs.Grammar.{IsNum, IsPlain, HasPlainText, AreKeyVals, IsKeyPath}
+use Rattle.bdb_key.specs.Bytes.{num_bytes, vals_bytes, path_bytes}
+use Rattle.bdb_key.specs.Grammar.{IsNum, HasPlainText, AreKeyVals, IsKeyPath}
 use Rattle.bdb_key.specs.Order.{vals_cmp}
-use Rattle.bdb_key.specs.Rows.{IsRelRow, IsTupleRow, MayBeTuple, IsAnySign, IsAnyMark, rel_bytes, tuple_bytes, sign_bytes, mark_bytes}
+use Rattle.bdb_key.specs.Rows.{IsRelRow, IsTupleRow, MayBeTuple, IsUserRow, IsAnySign, IsAnyMark, rel_bytes, tuple_bytes, slot_bytes, sign_bytes, mark_bytes}
 use Rattle.bdb_tables.specs.Codec.{Codec, Keys, Rows, codec_of}
 
 -- ---- keys
@@ -108,9 +109,9 @@ plain_keys = record {
 abbrev pub number_rows : Rows ℕ
 number_rows = record { MayBe = λ _. Unit {0}; Is = IsNum; bytes = num_bytes }
 
--- a name
-abbrev pub text_rows : Rows (List ℕ)
-text_rows = record { MayBe = IsPlain; Is = IsPlain; bytes = text_bytes }
+-- a place of the list of users: a live one by name, or one who is gone
+abbrev pub slot_rows : Rows UserSlot
+slot_rows = record { MayBe = IsUserRow; Is = IsUserRow; bytes = slot_bytes }
 
 -- a relation
 abbrev pub rel_rows : Rows RelDef
@@ -138,9 +139,9 @@ sign_rows = record { MayBe = λ _. Unit {0}; Is = IsAnySign; bytes = sign_bytes 
 abbrev pub meta_codec : Codec (Unit {0}) ℕ
 meta_codec = codec_of 1 only_key number_rows
 
--- table 2: the users' names by number
-abbrev pub user_codec : Codec ℕ (List ℕ)
-user_codec = codec_of 2 number_keys text_rows
+-- table 2: the places of the users by number
+abbrev pub user_codec : Codec ℕ UserSlot
+user_codec = codec_of 2 number_keys slot_rows
 
 -- table 3: the relations by number
 abbrev pub rel_codec : Codec ℕ RelDef

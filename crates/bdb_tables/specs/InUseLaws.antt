@@ -22,7 +22,7 @@ use Rattle.bdb_key.proofs.Keys.{keys_keep_order, keys_have_one_spelling}
 use Rattle.bdb_key.proofs.OneRow.{rows_have_one_spelling}
 use Rattle.bdb_keep.specs.Tables.{bytes_cmp}
 use Rattle.bdb_tables.specs.Codec.{Keys, Rows, KeysInOrder, KeysAreOne, RowsAreOne}
-use Rattle.bdb_tables.specs.InUse.{ValKey, only_key, number_keys, pair_keys, triple_keys, tuple_keys, val_keys, plain_keys, number_rows, text_rows, rel_rows, tuple_rows, empty_rows, mark_rows, sign_rows}
+use Rattle.bdb_tables.specs.InUse.{ValKey, only_key, number_keys, pair_keys, triple_keys, tuple_keys, val_keys, plain_keys, number_rows, slot_rows, rel_rows, tuple_rows, empty_rows, mark_rows, sign_rows}
 use Rattle.bdb_tables.specs.Parts.{ArePartsOf, AreRowsOf}
 
 -- ---- from parts and rows to the laws
@@ -210,8 +210,8 @@ plains_are_one = keys_are_one _ _ _ plain_parts
 pub number_rows_are_one : RowsAreOne number_rows
 number_rows_are_one = rows_are_one 5 number_rows rows.Tid (record { fits = λ n f. record { of = refl; fits = f }; bytes = λ n. refl; one = λ a b e. cc })
 
-pub text_rows_are_one : RowsAreOne text_rows
-text_rows_are_one = rows_are_one 2 text_rows rows.User (record { fits = λ t f. record { of = refl; fits = f }; bytes = λ t. refl; one = λ a b e. cc })
+pub slot_rows_are_one : RowsAreOne slot_rows
+slot_rows_are_one = rows_are_one 2 slot_rows rows.User (record { fits = λ s f. record { of = refl; fits = f }; bytes = λ s. refl; one = λ a b e. cc })
 
 pub rel_rows_are_one : RowsAreOne rel_rows
 rel_rows_are_one = rows_are_one 3 rel_rows rows.Rel (record { fits = λ d f. record { of = refl; fits = f }; bytes = λ d. refl; one = λ a b e. cc })

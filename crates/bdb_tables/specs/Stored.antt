@@ -7,6 +7,7 @@ use Rattle.std.specs.FinMap as tables
 use Rattle.bdb_base.specs.Bases.{Contents, is_user, key_lengths}
 use Rattle.bdb_base.specs.States.{is_state}
 use Rattle.bdb_base.specs.declared.kinds.Stmt.{Stmt}
+use Rattle.bdb_base.specs.declared.kinds.UserSlot.{UserSlot}
 use Rattle.bdb_keep.specs.Tables.{Tables}
 use Rattle.bdb_tables.specs.InUse.{meta_codec, user_codec, rel_codec, plain_codec}
 use Rattle.bdb_tables.specs.Names.{Names, path_of, is_named}
@@ -22,10 +23,10 @@ SameBut test t u = (n : ℕ) (k : List ℕ) → test n ≡ false → tables.get 
 abbrev pub is_table : ℕ → Bool
 is_table n = nat_le 1 n && nat_le n 12
 
--- the name of the user of a number: users are numbered from 1
-abbrev pub name_of : List (List ℕ) → ℕ → Option (List ℕ)
-name_of users zero = None
-name_of users (suc n) = slice_get users n
+-- the place of the user of a number: users are numbered from 1
+abbrev pub slot_of : List UserSlot → ℕ → Option UserSlot
+slot_of users zero = None
+slot_of users (suc n) = slice_get users n
 
 -- Tables store a base over worlds and tuples that have these numbers: the one row of the format is 3, users and relations
 -- are those of the catalog by number, the worlds are the states of the statements `reached`, the tuples are those of the
@@ -33,7 +34,7 @@ name_of users (suc n) = slice_get users n
 -- middle of a change there may be worlds and tuples of other statements than the base's.
 pub record StoredOver (reached told : List Stmt) (ns : Names) (ts : Tuples) (t : Tables) (b : Contents) : Type 0 where
   pub format : Gives meta_codec t (λ _. Some 3)
-  pub users : Gives user_codec t (name_of b.catalog.users)
+  pub users : Gives user_codec t (slot_of b.catalog.users)
   pub rels : Gives rel_codec t (slice_get b.catalog.rels)
   pub tuples : HoldsTuples told ts t
   pub states : HoldsStates (is_user b.catalog.users) ns t

@@ -2,20 +2,20 @@
 ghost use Rattle.std.specs.Prelude.{ℕ, refl};
 ghost use Rattle.std.proofs.Common.{rules};
 ghost use Rattle.bdb_tables.specs.InUse.{meta_codec, user_codec, rel_codec, plain_codec};
-ghost use Rattle.bdb_tables.specs.InUseLaws.{numbers_in_order, numbers_are_one, plains_in_order, plains_are_one, only_key_is_one, number_rows_are_one, text_rows_are_one, rel_rows_are_one, sign_rows_are_one};
+ghost use Rattle.bdb_tables.specs.InUseLaws.{numbers_in_order, numbers_are_one, plains_in_order, plains_are_one, only_key_is_one, number_rows_are_one, slot_rows_are_one, rel_rows_are_one, sign_rows_are_one};
 
 use crate::tab::Tab;
-use bdb_base::{Path, RelDef, Sign, Tuple, Txt};
+use bdb_base::{Path, RelDef, Sign, Tuple, UserSlot};
 use bdb_key::{
-    KeyError, RowError, num_of, only_num, only_text, path_of, put_num, put_path, put_rel, put_sign,
-    put_text, put_tuple, rel_of, sign_of, tuple_of,
+    KeyError, RowError, num_of, only_num, path_of, put_num, put_path, put_rel, put_sign, put_tuple,
+    put_user, rel_of, sign_of, tuple_of, user_of,
 };
 use std::alloc::{AllocError, Global};
 
 /// Table 1: the format, in one row.
 pub struct MetaTab;
 
-/// Table 2: the users' names, by number.
+/// Table 2: the places of the users, by number: a live user's name, or one who is gone.
 pub struct UserTab;
 
 /// Table 3: the relations, by number.
@@ -74,7 +74,7 @@ impl Tab for MetaTab {
 impl Tab for UserTab {
     type Key = u32;
 
-    type Row = Txt;
+    type Row = UserSlot;
 
     const NUMBER: u8 = 2;
 
@@ -93,13 +93,13 @@ impl Tab for UserTab {
         }
     }
 
-    fn row_bytes(row: &Txt, out: &mut Vec<u8>) -> Result<(), AllocError> {
-        put_text(out, row)
+    fn row_bytes(row: &UserSlot, out: &mut Vec<u8>) -> Result<(), AllocError> {
+        put_user(out, row)
     }
 
-    fn row_back(alloc: Global, bytes: &[u8]) -> Result<Txt, RowError> {
-        match only_text(alloc, bytes) {
-            Ok(name) => Ok(name),
+    fn row_back(alloc: Global, bytes: &[u8]) -> Result<UserSlot, RowError> {
+        match user_of(alloc, bytes) {
+            Ok(slot) => Ok(slot),
             Err(KeyError::NotAKey) => Err(RowError::NotARow),
             Err(KeyError::Memory) => Err(RowError::Memory),
         }
@@ -111,7 +111,7 @@ impl Tab for UserTab {
 
     ghost one_key = { numbers_are_one };
 
-    ghost one_row = { text_rows_are_one };
+    ghost one_row = { slot_rows_are_one };
 
     ghost entry = { λ _ _ h. h };
 
