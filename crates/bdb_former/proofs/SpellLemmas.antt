@@ -5,14 +5,15 @@ use Rattle.std.specs.List.{list_all}
 use Rattle.std.proofs.lemmas.List.{take_all}
 use Rattle.std.proofs.lemmas.Bool.{and_parts, eq-eqb, eqb-true, false_from_ne_true, false≢true}
 use Rattle.bdb_base.specs.declared.kinds.RelDef.{RelDef}
+use Rattle.bdb_base.specs.declared.kinds.UserSlot.TheVariants.{Live, Gone}
 use Rattle.bdb_key.specs.Bytes.{num_bytes, int_bytes, text_bytes, value_bytes}
 use Rattle.bdb_key.specs.Grammar.{IsNum}
 use Rattle.bdb_key.specs.Reading.{HasNoEnd}
 use Rattle.bdb_key.specs.Rows.{IsRelRow, cols_bytes, length_bytes, rel_bytes}
 use Rattle.bdb_key.proofs.Compared.{printing}
 use Rattle.bdb_key.proofs.Readings.{length_form, no_end}
-use Rattle.bdb_former.specs.Laws.{FormatsBecomeThis, KeysGetACount, RelationsGetALength, RelationsHadNoLength}
-use Rattle.bdb_former.specs.Respelled.{with_count, with_length, respelled_format, respelled_key, respelled_place, respelled_relation, respelled_row}
+use Rattle.bdb_former.specs.Laws.{FormatsBecomeThis, KeysGetACount, NamesStay, NoUserWasGone, RelationsGetALength, RelationsHadNoLength}
+use Rattle.bdb_former.specs.Respelled.{with_count, with_length, respelled_format, respelled_key, respelled_place, respelled_relation, respelled_row, respelled_user}
 
 -- ---- keys
 
@@ -59,6 +60,25 @@ places_stay_apart (m ∷ a) (n ∷ b) e =
     let head : m ≡ n = cc in
     let rest : respelled_key m a ≡ respelled_key n b = cc in
     ap (λ z. z ∷ a) head ∙ ap (λ (k : List ℕ). n ∷ k) (keys_apart n a b (ap (λ z. respelled_key z a) (sym head) ∙ rest))
+
+-- ---- rows of users
+
+pub no_user_there : (row : List ℕ) → length row ≡ 0 → respelled_user row ≡ 0 ∷ []
+no_user_there [] h = refl
+no_user_there (b ∷ row) h = absurd (omega (arith, h))
+
+pub user_as_it_is : (row : List ℕ) → 0 < length row → respelled_user row ≡ row
+user_as_it_is [] h = absurd (omega (arith, h))
+user_as_it_is (b ∷ row) h = refl
+
+pub names_stay : NamesStay
+names_stay name = refl
+
+pub no_user_was_gone : NoUserWasGone
+no_user_was_gone [] (Live name) e = absurd cc
+no_user_was_gone [] Gone e = absurd cc
+no_user_was_gone (b ∷ row) (Live name) e = (name, (refl, e))
+no_user_was_gone (b ∷ row) Gone e = absurd cc
 
 -- ---- rows of relations
 
@@ -109,10 +129,11 @@ pub no_end_row : (row bytes : List ℕ) (at : ℕ) → row ≡ 2 ∷ bytes → l
 no_end_row row bytes at e le h =
     ap respelled_relation e ∙ ap (λ (x : List ℕ). 2 ∷ x) (no_end_as_it_is bytes (subst HasNoEnd (take_all at bytes le) h)) ∙ sym e
 
--- a row that is no relation's and doesn't tell the format
-pub row_as_it_is : (tab : ℕ) (row : List ℕ) → (tab ≡ 1 → ⊥) → (tab ≡ 3 → ⊥) → respelled_row tab row ≡ row
-row_as_it_is tab row one three =
-    ap (λ b. cond b (respelled_format row) (cond (nat_eq tab 3) (respelled_relation row) row)) (false_from_ne_true (nat_eq tab 1) (λ e. one (eqb-true tab 1 e)))
+-- a row that is no relation's and no user's, and doesn't tell the format
+pub row_as_it_is : (tab : ℕ) (row : List ℕ) → (tab ≡ 1 → ⊥) → (tab ≡ 2 → ⊥) → (tab ≡ 3 → ⊥) → respelled_row tab row ≡ row
+row_as_it_is tab row one two three =
+    ap (λ b. cond b (respelled_format row) (cond (nat_eq tab 2) (respelled_user row) (cond (nat_eq tab 3) (respelled_relation row) row))) (false_from_ne_true (nat_eq tab 1) (λ e. one (eqb-true tab 1 e)))
+    ∙ ap (λ b. cond b (respelled_user row) (cond (nat_eq tab 3) (respelled_relation row) row)) (false_from_ne_true (nat_eq tab 2) (λ e. two (eqb-true tab 2 e)))
     ∙ ap (λ b. cond b (respelled_relation row) row) (false_from_ne_true (nat_eq tab 3) (λ e. three (eqb-true tab 3 e)))
 
 -- a row that begins with no text

@@ -5,11 +5,13 @@ use Rattle.std.specs.FinMap as tables
 use Rattle.std.specs.Option.{option_map}
 use Rattle.bdb_base.specs.declared.kinds.ColDef.{ColDef}
 use Rattle.bdb_base.specs.declared.kinds.RelDef.{RelDef}
+use Rattle.bdb_base.specs.declared.kinds.UserSlot.{UserSlot}
+use Rattle.bdb_base.specs.declared.kinds.UserSlot.TheVariants.{Live}
 use Rattle.bdb_base.specs.declared.kinds.Value.{Value}
 use Rattle.bdb_keep.specs.Tables.{Tables}
 use Rattle.bdb_key.specs.Bytes.{num_bytes, text_bytes, value_bytes, vals_bytes}
 use Rattle.bdb_key.specs.Grammar.{IsPlain}
-use Rattle.bdb_key.specs.Rows.{IsRelRow, cols_bytes, rel_bytes}
+use Rattle.bdb_key.specs.Rows.{IsRelRow, cols_bytes, rel_bytes, slot_bytes}
 use Rattle.bdb_former.specs.Respelled.{IsRespelled, respelled, respelled_at, respelled_key, respelled_place, respelled_row}
 
 -- each row stands, respelled, at its place, respelled
@@ -27,6 +29,14 @@ PlacesStayApart = (p q : List ℕ) → respelled_place p ≡ respelled_place q �
 -- the format becomes this one
 abbrev pub FormatsBecomeThis : Type 0
 FormatsBecomeThis = respelled_row 1 (num_bytes 2) ≡ num_bytes 3
+
+-- a user's row was his name, and stays so
+abbrev pub NamesStay : Type 0
+NamesStay = (name : List ℕ) → respelled_row 2 (text_bytes name) ≡ slot_bytes (Live name)
+
+-- a row that becomes a user's was a name: no user was gone
+abbrev pub NoUserWasGone : Type 0
+NoUserWasGone = (row : List ℕ) (slot : UserSlot) → respelled_row 2 row ≡ slot_bytes slot → (name : List ℕ) × ((slot ≡ Live name) × (row ≡ text_bytes name))
 
 -- a relation's row was its name and its columns, and becomes that of a relation whose key has one column
 abbrev pub RelationsGetALength : Type 0

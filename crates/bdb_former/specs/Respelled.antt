@@ -1,6 +1,7 @@
 -- Tables of the format before this one, their rows spelled as this one spells them. What has changed between the two: the
--- number of the format was 2 and is 3, a relation tells the length of its key behind its name, and a key of table 11 tells how
--- many values it has before them. In the format before this one each key had one value.
+-- number of the format was 2 and is 3, no bytes are a row of a user, one who is gone, a relation tells the length of its key
+-- behind its name, and a key of table 11 tells how many values it has before them. In the format before this one each user had
+-- a name, and each key one value.
 use Rattle.std.specs.Prelude.{◌≡◌, ℕ, suc, pos, nat_eq, List, [], ◌∷◌, ◌++◌, Some, cond, map}
 use Prim.Native.Nat.{zero}
 use Rattle.std.specs.FinMap as tables
@@ -11,6 +12,11 @@ use Rattle.bdb_key.specs.Bytes.{num_bytes, int_bytes}
 -- the row of the format: 3 in place of 2
 abbrev pub respelled_format : List ℕ → List ℕ
 respelled_format row = cond (eq_by_cmp bytes_cmp row (num_bytes 2)) (num_bytes 3) row
+
+-- the row of a user: no bytes were no user's row, and become bytes that are none; any others are as they are
+abbrev pub respelled_user : List ℕ → List ℕ
+respelled_user [] = 0 ∷ []
+respelled_user (b ∷ bytes) = b ∷ bytes
 
 -- the integer 1 behind the first byte 0, where there is one
 abbrev pub with_length : List ℕ → List ℕ
@@ -24,7 +30,7 @@ respelled_relation (mark ∷ bytes) = mark ∷ cond (nat_eq mark 2) (with_length
 
 -- a row of a table
 abbrev pub respelled_row : ℕ → List ℕ → List ℕ
-respelled_row tab row = cond (nat_eq tab 1) (respelled_format row) (cond (nat_eq tab 3) (respelled_relation row) row)
+respelled_row tab row = cond (nat_eq tab 1) (respelled_format row) (cond (nat_eq tab 2) (respelled_user row) (cond (nat_eq tab 3) (respelled_relation row) row))
 
 -- a key with the number 1 behind its first `n` bytes; a shorter one is as it is
 abbrev pub with_count : ℕ → List ℕ → List ℕ

@@ -1,5 +1,5 @@
 // What holds of respelled tables, each law as the contract of a function that does nothing.
-ghost use Rattle.bdb_former.specs.Laws.{FormatsBecomeThis, KeysGetACount, NoOtherRowIsThere, PlacesStayApart, RelationsGetALength, RelationsHadNoLength, RowsAreRespelled};
+ghost use Rattle.bdb_former.specs.Laws.{FormatsBecomeThis, KeysGetACount, NamesStay, NoOtherRowIsThere, NoUserWasGone, PlacesStayApart, RelationsGetALength, RelationsHadNoLength, RowsAreRespelled};
 
 /// Each row stands, respelled, at its place, respelled.
 #[tactic(auto, using(crate::proofs::TableLemmas::rows_are_respelled))]
@@ -23,6 +23,17 @@ pub fn places_stay_apart()
 #[tactic(auto, using(crate::proofs::SpellLemmas::formats_become_this))]
 pub fn formats_become_this()
     ensures { FormatsBecomeThis }
+{}
+
+/// The row of a user stays his name.
+#[tactic(auto, using(crate::proofs::SpellLemmas::names_stay))]
+pub fn names_stay()
+    ensures { NamesStay }
+{}
+
+/// A row that becomes a user's was a name: no user of the former format is gone.
+pub fn no_user_was_gone()
+    ensures { NoUserWasGone }
 {}
 
 /// The row of a relation becomes that of one whose key has one column.

@@ -1,7 +1,7 @@
 // Keys and rows of the format before this one, spelled as this one spells them.
 ghost use Rattle.std.specs.Prelude.{◌≡◌, ◌∷◌, ◌++◌, pos, IfOk, MatchOption};
 ghost use Rattle.bdb_key.specs.Bytes.{int_bytes};
-ghost use Rattle.bdb_former.specs.Respelled.{respelled_format, respelled_key, respelled_relation, respelled_row, with_count};
+ghost use Rattle.bdb_former.specs.Respelled.{respelled_format, respelled_key, respelled_relation, respelled_row, respelled_user, with_count};
 
 use bdb_base::Value;
 use bdb_key::{put_num, put_value};
@@ -49,6 +49,7 @@ pub fn respelled_row(alloc: Global, tab: u8, row: &[u8]) -> Result<Vec<u8>, Allo
 {
     match tab {
         1 => respelled_format(alloc, row),
+        2 => respelled_user(alloc, row),
         3 => respelled_relation(alloc, row),
         _ => copied(alloc, row),
     }
@@ -63,6 +64,17 @@ fn respelled_format(alloc: Global, row: &[u8]) -> Result<Vec<u8>, AllocError>
         let mut spelled = Vec::new(alloc);
         put_num(&mut spelled, FORMAT)?;
         return Ok(spelled);
+    }
+    copied(alloc, row)
+}
+
+// The row of a user. No bytes, which were no user's row, become bytes that are none.
+#[tactic(auto, using(crate::proofs::SpellLemmas::no_user_there, crate::proofs::SpellLemmas::user_as_it_is))]
+fn respelled_user(alloc: Global, row: &[u8]) -> Result<Vec<u8>, AllocError>
+    ensures { IfOk result (λ spelled. spelled.items ≡ respelled_user row.now) }
+{
+    if row.is_empty() {
+        return copied(alloc, &[0]);
     }
     copied(alloc, row)
 }
