@@ -1,0 +1,6 @@
+//! A user leaves the base that tables store: with him go the statements whose paths name him, and the edges for him.
+#![tactic(auto)]
+
+mod leaving;
+
+pub use leaving::drop_user;
