@@ -1,6 +1,7 @@
 use Rattle.std.proofs.Common.{◌≡◌, ◌∙◌, ◌*◌, sym, ap, subst, refl, rules, arith, length, Some, None}
 use Rattle.bdb_base.specs.Causes.{Rises}
 use Rattle.bdb_key.specs.Grammar.{IsNum}
+use Rattle.bdb_tables.specs.Grammar.{InGrammar}
 use Rattle.bdb_names.specs.Turned.{edge_set}
 use Rattle.bdb_worlds.proofs.OutsideLemmas.{SameButEdges, edges_itself, edges_then, edge_alone}
 use Rattle.bdb_worlds.proofs.StepsLemmas.{goes_then, falls_then}
@@ -54,7 +55,7 @@ loop-preserved g c =
           (let one = c.in-Ok-Some.ensures.counts.writes in let two = c.in-Ok.ensures.counts.writes in omega arith) c.loop.invariant.writes
           (subst (λ n. Rises 2 n (g.K.Keeper.seen c.make_edge.new.keeper).writes) c.in-Ok-Some.ensures.writes c.in-Ok.ensures.writes);
       others = subst (SameButEdges t) (sym made) (edges_then t u (edge_set u None (Some 0) (c.in-Ok-Some.wid, c.args.uid)) c.loop.invariant.others (edge_alone u None (Some 0) (c.in-Ok-Some.wid, c.args.uid)));
-      grammar = search rules;
+      grammar = c.in-Ok.ensures.grammar (subst InGrammar (sym c.in-Ok-Some.ensures.kept) c.loop.invariant.grammar);
       counts = falls_then _ _ _ c.loop.invariant.counts (falls_then _ _ _ c.in-Ok-Some.ensures.counts c.in-Ok.ensures.counts);
       goes_on = goes_then _ _ _ (goes_then _ _ _ c.loop.invariant.goes_on c.in-Ok-Some.ensures.steps.ok) c.in-Ok.ensures.steps.ok;
     }
