@@ -20,7 +20,7 @@ use Rattle.bdb_bind.proofs.PathLemmas.{path_alternates}
 use Rattle.bdb_bind.proofs.Cleared.{cleared, neither, few_columns, key_told, users_known, names_apart, not_refused}
 
 pub users_few : (c : Catalog) → IsCatalog c → length c.users ≤ most_users
-users_few c valid = leb-true (length c.users) 256 valid.few_users
+users_few c valid = leb-true (length c.users) most_users valid.few_users
 
 pub relations_few : (c : Catalog) → IsCatalog c → length c.rels ≤ most_relations
 relations_few c valid = leb-true (length c.rels) 64 valid.few_rels

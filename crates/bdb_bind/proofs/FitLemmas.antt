@@ -8,16 +8,18 @@ use Rattle.bdb_base.specs.declared.kinds.Catalog.{Catalog}
 use Rattle.bdb_base.specs.declared.kinds.ColDef.{ColDef}
 use Rattle.bdb_base.specs.declared.kinds.Kind.{Kind}
 use Rattle.bdb_base.specs.declared.kinds.Kind.TheVariants as kind
+use Rattle.bdb_base.specs.declared.kinds.UserSlot.{UserSlot}
+use Rattle.bdb_base.specs.declared.kinds.UserSlot.TheVariants.{Live, Gone}
 use Rattle.bdb_base.specs.declared.kinds.Value.{Value}
 use Rattle.bdb_base.specs.declared.kinds.Value.TheVariants.{Int, Text}
 use Rattle.bdb_base.specs.Same.{same_text, same_kind}
-use Rattle.bdb_base.specs.Bases.{is_clean, is_plain, fits_kind, fits_columns, are_distinct}
+use Rattle.bdb_base.specs.Bases.{is_clean, is_plain, fits_kind, fits_columns, are_distinct, user_names}
 use Rattle.bdb_syntax.specs.declared.command.Command.{Command}
 use Rattle.bdb_syntax.specs.declared.command.RawCond.{RawCond}
 use Rattle.bdb_syntax.specs.declared.command.RawSide.{RawSide}
 use Rattle.bdb_syntax.specs.declared.command.RawSide.TheVariants.{Col, Lit}
 use Rattle.bdb_syntax.specs.declared.command.RawSet.{RawSet}
-use Rattle.bdb_bind.specs.Lookup.{column_at, has_column, kind_at, path_of}
+use Rattle.bdb_bind.specs.Lookup.{is_called, column_at, has_column, kind_at, path_of}
 use Rattle.bdb_bind.specs.Parts.{path_names, depth_limit, value_texts, side_texts, cond_columns, side_columns, is_long}
 use Rattle.bdb_bind.specs.Kinds.{are_one_kind, kind_of}
 use Rattle.bdb_bind.specs.Lines.{first_repeated, misfit, side_kind, fits_set, fits_cond}
@@ -139,6 +141,14 @@ none_among p start (x ∷ xs) none = elim (cases_Bool (p x)) [
   | inr other ↦ or_from (p x) (list_any p xs) other
       (none_among p (start + 1) xs (sym (ap is_some (cond-false (p x) (Some start) (position_from p (start + 1) xs) other)) ∙ none))
 ]
+
+-- where no place is of one who is called so, no name is this one
+pub none_called : (users : List UserSlot) (name : List ℕ) → list_any (is_called name) users ≡ false → list_any (λ x. same_text x name) (user_names users) ≡ false
+none_called [] name none = refl
+none_called (Live x ∷ us) name none =
+    let parts = or_parts (same_text x name) (list_any (is_called name) us) none in
+    or_from (same_text x name) (list_any (λ y. same_text y name) (user_names us)) parts.0 (none_called us name parts.1)
+none_called (Gone ∷ us) name none = none_called us name none
 
 pub any_mapped : {X Y : Type 0} (p : Y → Bool) (f : X → Y) (xs : List X) → list_any p (map f xs) ≡ list_any (λ x. p (f x)) xs
 any_mapped p f [] = refl

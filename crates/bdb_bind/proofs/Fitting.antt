@@ -10,13 +10,13 @@ use Rattle.bdb_base.specs.declared.kinds.RelDef.{RelDef}
 use Rattle.bdb_base.specs.declared.kinds.Sign.{Sign}
 use Rattle.bdb_base.specs.declared.kinds.Value.{Value}
 use Rattle.bdb_base.specs.Same.{same_text}
-use Rattle.bdb_base.specs.Bases.{IsCatalog, is_plain, fits_columns, fits_relation, are_distinct, users_name}
+use Rattle.bdb_base.specs.Bases.{IsCatalog, is_plain, fits_columns, fits_relation, are_distinct, is_user, user_names, users_name}
 use Rattle.bdb_syntax.specs.declared.command.Command.{Command}
-use Rattle.bdb_syntax.specs.declared.command.Command.TheVariants.{CreateUser, CreateRelation, Insert, Delete, Update, Select, Explain, ShowWorld, Why, ShowTables}
+use Rattle.bdb_syntax.specs.declared.command.Command.TheVariants.{CreateUser, DropUser, CreateRelation, Insert, Delete, Update, Select, Explain, ShowWorld, Why, ShowTables}
 use Rattle.bdb_syntax.specs.declared.command.RawCond.{RawCond}
 use Rattle.bdb_syntax.specs.declared.command.RawQuery.{RawQuery}
 use Rattle.bdb_syntax.specs.declared.command.RawSet.{RawSet}
-use Rattle.bdb_bind.specs.Lookup.{is_user_name, number_of, columns_in, columns_of, has_column}
+use Rattle.bdb_bind.specs.Lookup.{is_called, is_user_name, uid_at, number_of, columns_in, columns_of, has_column}
 use Rattle.bdb_bind.specs.Parts.{query_of, relation_name, tuple_values, columns_for, change_columns, value_texts, side_texts, cond_columns, is_long, some_who_text, some_query_text, some_signed_text, some_text}
 use Rattle.bdb_bind.specs.Lines.{first_repeated, missing_column, items_line, relation_line, user_line, alias_line, column_line, key_line, repeat_line, taken_line, misfit, values_kind, fits_set, fits_cond, set_kinds, cond_kinds, change_kind, kind_line}
 use Rattle.bdb_bind.specs.Binding.{relation_at, key_length, bound_cond, bound_set, bound_of}
@@ -25,10 +25,11 @@ use Rattle.bdb_bind.specs.QueryLines.{query_items, query_relation, query_user, q
 use Rattle.bdb_bind.specs.Refusal.{unsafe_line, refusal_of}
 use Rattle.bdb_bind.specs.Fits.{can_be_answered, is_unclean, names_allowed, is_allowed, set_fits, cond_fits, columns_numbered, fits_catalog, WhatIsBoundFits}
 use Rattle.bdb_bind.proofs.Founds.{all_pass}
-use Rattle.bdb_bind.proofs.Cleared.{IsCleared, cleared, both_accepted, neither, not_refused, nothing_mapped, no_long_text, few_columns, key_told}
+use Rattle.bdb_bind.proofs.Cleared.{IsCleared, cleared, both_accepted, neither, not_refused, nothing_mapped, no_long_text, few_columns, key_told, users_known}
 use Rattle.bdb_bind.proofs.CatalogLemmas.{relation_found, named_relation, values_counted}
+use Rattle.bdb_bind.proofs.PathLemmas.{uid_is_user}
 use Rattle.bdb_bind.proofs.QueryFitting.{IsClearQuery, clear_query_fits}
-use Rattle.bdb_bind.proofs.FitLemmas.{plain_text, path_fits, values_fit, sets_fit, conds_fit, none_among, any_mapped, distinct_with, none_repeated}
+use Rattle.bdb_bind.proofs.FitLemmas.{plain_text, path_fits, values_fit, sets_fit, conds_fit, none_among, none_called, any_mapped, distinct_with, none_repeated}
 
 -- the relation of a name, by its number
 record IsRelation (catalog : Catalog) (name : List ℕ) : Type 0 where
@@ -131,10 +132,16 @@ texts_clean : (c : Command) → is_allowed c ≡ true → some_text is_unclean c
 texts_clean c allowed = not-true (some_text is_unclean c) (and_parts (not (some_text is_unclean c)) (names_allowed c) allowed).0
 
 new_user_fits : (catalog : Catalog) (name : List ℕ) → IsCatalog catalog → is_allowed (CreateUser name) ≡ true → IsCleared catalog (CreateUser name)
-    → (is_plain name && are_distinct (catalog.users ++ name ∷ [])) ≡ true
+    → (is_plain name && are_distinct (user_names catalog.users ++ name ∷ [])) ≡ true
 new_user_fits catalog name valid allowed clear =
     and_from _ _ (plain_text name (no_long_text (CreateUser name) clear.text) (texts_clean (CreateUser name) allowed))
-    (distinct_with catalog.users name valid.users_differ (none_among (λ x. same_text x name) 1 catalog.users (user_free catalog name clear.taken)))
+    (distinct_with (user_names catalog.users) name valid.users_differ
+    (none_called catalog.users name (none_among (is_called name) 1 catalog.users (user_free catalog name clear.taken))))
+
+-- who leaves is a live user
+leaver_fits : (catalog : Catalog) (name : List ℕ) → IsCleared catalog (DropUser name) → is_user catalog.users (uid_at catalog.users name) ≡ true
+leaver_fits catalog name clear =
+    uid_is_user catalog.users name (and_parts (is_user_name catalog.users name) true (users_known catalog (DropUser name) clear.user)).0
 
 new_relation_fits : (catalog : Catalog) (name : List ℕ) (cols : List ColDef) (key : Option ℤ) → IsCatalog catalog → is_allowed (CreateRelation name cols key) ≡ true
     → IsCleared catalog (CreateRelation name cols key) → fits_catalog catalog (bound_of catalog (CreateRelation name cols key)) ≡ true
@@ -262,6 +269,7 @@ names_cleared catalog c accepted = cleared catalog c (both_accepted catalog c ac
 
 pub what_is_bound_fits : WhatIsBoundFits
 what_is_bound_fits catalog (CreateUser name) valid allowed accepted = new_user_fits catalog name valid allowed (names_cleared catalog (CreateUser name) accepted)
+what_is_bound_fits catalog (DropUser name) valid allowed accepted = leaver_fits catalog name (names_cleared catalog (DropUser name) accepted)
 what_is_bound_fits catalog (CreateRelation name cols key) valid allowed accepted =
     new_relation_fits catalog name cols key valid allowed (names_cleared catalog (CreateRelation name cols key) accepted)
 what_is_bound_fits catalog (Insert users sign rel vals) valid allowed accepted =

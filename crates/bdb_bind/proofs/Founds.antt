@@ -4,7 +4,10 @@ use Rattle.std.specs.Option.{is_some}
 use Rattle.std.specs.List.{position_from, slice_get, list_all}
 use Rattle.std.proofs.lemmas.Bool.{cases_Bool, cond-true, cond-false, and_from, not-false}
 use Rattle.std.proofs.lemmas.Slice.Eq.{bytes_eq-Decides}
+use Rattle.bdb_base.specs.declared.kinds.UserSlot.{UserSlot}
+use Rattle.bdb_base.specs.declared.kinds.UserSlot.TheVariants.{Live, Gone}
 use Rattle.bdb_base.specs.Same.{same_text}
+use Rattle.bdb_bind.specs.Lookup.{is_called, uid_of}
 
 -- what is found at a place: an item that passes, the first that does
 pub record IsFound {X : Type 0} (p : X → Bool) (start : ℕ) (xs : List X) (k : ℕ) : Type 0 where
@@ -54,15 +57,20 @@ same_text_itself a = (bytes_eq-Decides a a).1 refl
 pub same_text_equal : (a b : List ℕ) → same_text a b ≡ true → a ≡ b
 same_text_equal a b e = (bytes_eq-Decides a b).0 e
 
--- two names that are found at one place are one
-pub one_name : (start : ℕ) (names : List (List ℕ)) (a b : List ℕ) (k : ℕ) → position_from (λ x. same_text x a) start names ≡ Some k
-    → position_from (λ x. same_text x b) start names ≡ Some k → same_text a b ≡ true
-one_name start names a b k ea eb =
-    let fa = found (λ x. same_text x a) start names k ea in
-    let fb = found (λ x. same_text x b) start names k eb in
+-- the place of one who is called so is his
+pub called_so : (name : List ℕ) (slot : UserSlot) → is_called name slot ≡ true → slot ≡ Live name
+called_so name (Live x) called = ap Live (same_text_equal x name called)
+called_so name Gone called = cc
+
+-- two names that have one uid are one
+pub one_name : (users : List UserSlot) (a b : List ℕ) (uid : ℕ) → uid_of users a ≡ Some uid → uid_of users b ≡ Some uid → same_text a b ≡ true
+one_name users a b uid ea eb =
+    let fa = found (is_called a) 1 users uid ea in
+    let fb = found (is_called b) 1 users uid eb in
     let places : fa.at ≡ fb.at = omega (arith, fa.place, fb.place) in
-    let items : Some fa.item ≡ Some fb.item = sym fa.there ∙ ap (slice_get names) places ∙ fb.there in
-    let left : fa.item ≡ a = same_text_equal fa.item a fa.passes in
-    let right : fb.item ≡ b = same_text_equal fb.item b fb.passes in
+    let items : Some fa.item ≡ Some fb.item = sym fa.there ∙ ap (slice_get users) places ∙ fb.there in
+    let left : fa.item ≡ Live a = called_so a fa.item fa.passes in
+    let right : fb.item ≡ Live b = called_so b fb.item fb.passes in
+    let slots : Live a ≡ Live b = cc in
     let same : a ≡ b = cc in
     ap (same_text a) (sym same) ∙ same_text_itself a

@@ -5,9 +5,11 @@ use Rattle.std.proofs.lemmas.List.{take_more, length-take}
 use Rattle.std.specs.Option.{option_or}
 use Rattle.std.specs.List.{position_from}
 use Rattle.bdb_base.specs.declared.kinds.RelDef.{RelDef}
+use Rattle.bdb_base.specs.declared.kinds.UserSlot.{UserSlot}
+use Rattle.bdb_base.specs.declared.kinds.UserSlot.TheVariants.{Live, Gone}
 use Rattle.bdb_base.specs.Same.{same_text}
-use Rattle.bdb_bind.specs.Indexes.{or_place, user_place}
-use Rattle.bdb_bind.specs.Lookup.{number_of}
+use Rattle.bdb_bind.specs.Indexes.{or_place, or_slot, user_place}
+use Rattle.bdb_bind.specs.Lookup.{is_called, number_of}
 use Rattle.bdb_bind.proofs.Founds.{same_text_equal}
 
 pushed : {X : Type 0} (p : X → Bool) (start : ℕ) (xs : List X) (x : X) (n : ℕ) → n ≡ start + length xs
@@ -27,17 +29,22 @@ place_more p xs at x below item =
     let many = length-take at xs in
     ap (position_from p 0) more ∙ pushed p 0 (take at xs) x at (omega (arith, many))
 
-pub users_more : (users : List (List ℕ)) (at : ℕ) (x q : List ℕ) → at < length users → x ≡ get_or users at x
-    → user_place (take (at + 1) users) q ≡ or_place (user_place (take at users) q) x at q
-users_more users at x q below item = place_more (λ y. same_text y q) users at x below item
+or_nothing : (o : Option ℕ) → option_or o None ≡ o
+or_nothing None = refl
+or_nothing (Some x) = refl
+
+-- what is told after one place more
+told_more : (told : Option ℕ) (slot : UserSlot) (at : ℕ) (q : List ℕ) → option_or told (cond (is_called q slot) (Some at) None) ≡ or_slot told slot at q
+told_more told (Live name) at q = refl
+told_more told Gone at q = or_nothing told
+
+pub users_more : (users : List UserSlot) (at : ℕ) (slot : UserSlot) (q : List ℕ) → at < length users → slot ≡ get_or users at slot
+    → user_place (take (at + 1) users) q ≡ or_slot (user_place (take at users) q) slot at q
+users_more users at slot q below item = place_more (is_called q) users at slot below item ∙ told_more (user_place (take at users) q) slot at q
 
 pub relations_more : (rels : List RelDef) (at : ℕ) (x : RelDef) (q : List ℕ) → at < length rels → x ≡ get_or rels at x
     → number_of (take (at + 1) rels) q ≡ or_place (number_of (take at rels) q) x.name at q
 relations_more rels at x q below item = place_more (λ (r : RelDef). same_text r.name q) rels at x below item
-
-or_nothing : (o : Option ℕ) → option_or o None ≡ o
-or_nothing None = refl
-or_nothing (Some x) = refl
 
 -- a name that wasn't known is told its place, and no other changes
 pub added : (told : List ℕ → Option ℕ) (name : List ℕ) (at : ℕ) (q : List ℕ) (new : Option ℕ) → told name ≡ None

@@ -1,46 +1,48 @@
 -- The path of names.
 use Rattle.std.proofs.Common.{◌≡◌, ◌∙◌, ℕ, true, false, nat_eq, List, [], ◌∷◌, length, Some, refl, sym, ap, inl, inr, arith}
-use Rattle.std.specs.Option.{unwrap_or}
+use Rattle.std.specs.Option.{is_some, option_and_then, unwrap_or}
 use Rattle.std.specs.List.{list_all}
-use Rattle.std.proofs.lemmas.Bool.{cases_Bool, and_from, and_parts, or_parts, eqb-true, not_from_false, lt-ltb, le-leb}
+use Rattle.std.proofs.lemmas.Bool.{cases_Bool, and_from, and_parts, or_parts, eqb-true, not_from_false}
+use Rattle.bdb_base.specs.declared.kinds.UserSlot.{UserSlot}
 use Rattle.bdb_base.specs.Alternation.{alternates, begins_otherwise}
-use Rattle.bdb_base.specs.Bases.{is_user}
-use Rattle.bdb_bind.specs.Lookup.{uid_of, is_user_name, path_of}
+use Rattle.bdb_base.specs.Bases.{live_name, name_at, is_user}
+use Rattle.bdb_bind.specs.Lookup.{is_called, uid_of, is_user_name, uid_at, path_of}
 use Rattle.bdb_bind.specs.Lines.{begins_with, has_repeat}
-use Rattle.bdb_bind.proofs.Founds.{found, is_there, one_name}
+use Rattle.bdb_base.proofs.UserLemmas.{user_at_place}
+use Rattle.bdb_bind.proofs.Founds.{found, is_there, called_so, one_name}
 
 -- the uid of a user's name
-pub known_uid : (users : List (List ℕ)) (name : List ℕ) → is_user_name users name ≡ true → uid_of users name ≡ Some (unwrap_or (uid_of users name) 0)
+pub known_uid : (users : List UserSlot) (name : List ℕ) → is_user_name users name ≡ true → uid_of users name ≡ Some (uid_at users name)
 known_uid users name known = let w = is_there (uid_of users name) known in w.1 ∙ ap (λ o. Some (unwrap_or o 0)) (sym w.1)
 
--- a known name is a user's
-pub uid_is_user : (users : List (List ℕ)) (name : List ℕ) → is_user_name users name ≡ true → is_user users (unwrap_or (uid_of users name) 0) ≡ true
+-- a known name is a live user's
+pub uid_is_user : (users : List UserSlot) (name : List ℕ) → is_user_name users name ≡ true → is_user users (uid_at users name) ≡ true
 uid_is_user users name known =
-    let uid = unwrap_or (uid_of users name) 0 in
-    let f = found _ 1 users uid (known_uid users name known) in
-    and_from _ _ (lt-ltb 0 uid (omega (arith, f.place))) (le-leb uid (length users) (omega (arith, f.place, f.within)))
+    let f = found (is_called name) 1 users (uid_at users name) (known_uid users name known) in
+    let named : name_at users f.at ≡ Some name = ap (option_and_then live_name) f.there ∙ ap live_name (called_so name f.item f.passes) in
+    ap (is_user users) f.place ∙ user_at_place users f.at ∙ ap is_some named
 
-pub path_users : (users names : List (List ℕ)) → list_all (is_user_name users) names ≡ true → list_all (is_user users) (path_of users names) ≡ true
+pub path_users : (users : List UserSlot) (names : List (List ℕ)) → list_all (is_user_name users) names ≡ true → list_all (is_user users) (path_of users names) ≡ true
 path_users users [] known = refl
 path_users users (n ∷ ns) known =
     let parts = and_parts (is_user_name users n) (list_all (is_user_name users) ns) known in
     and_from _ _ (uid_is_user users n parts.0) (path_users users ns parts.1)
 
 -- where two neighbouring names differ, so do their uids
-first_differs : (users : List (List ℕ)) (n : List ℕ) (ns : List (List ℕ)) → list_all (is_user_name users) (n ∷ ns) ≡ true → begins_with n ns ≡ false
-    → begins_otherwise (unwrap_or (uid_of users n) 0) (path_of users ns) ≡ true
+first_differs : (users : List UserSlot) (n : List ℕ) (ns : List (List ℕ)) → list_all (is_user_name users) (n ∷ ns) ≡ true → begins_with n ns ≡ false
+    → begins_otherwise (uid_at users n) (path_of users ns) ≡ true
 first_differs users n [] known apart = refl
 first_differs users n (m ∷ ms) known apart =
     let parts = and_parts (is_user_name users n) (list_all (is_user_name users) (m ∷ ms)) known in
     let next = and_parts (is_user_name users m) (list_all (is_user_name users) ms) parts.1 in
-    let a = unwrap_or (uid_of users n) 0 in
-    let b = unwrap_or (uid_of users m) 0 in
+    let a = uid_at users n in
+    let b = uid_at users m in
     elim (cases_Bool (nat_eq a b)) [
-      | inl same ↦ let one = one_name 1 users n m a (known_uid users n parts.0) (known_uid users m next.0 ∙ ap Some (sym (eqb-true a b same))) in cc
+      | inl same ↦ let one = one_name users n m a (known_uid users n parts.0) (known_uid users m next.0 ∙ ap Some (sym (eqb-true a b same))) in cc
       | inr other ↦ not_from_false (nat_eq a b) other
     ]
 
-pub path_alternates : (users names : List (List ℕ)) → list_all (is_user_name users) names ≡ true → has_repeat names ≡ false
+pub path_alternates : (users : List UserSlot) (names : List (List ℕ)) → list_all (is_user_name users) names ≡ true → has_repeat names ≡ false
     → alternates (path_of users names) ≡ true
 path_alternates users [] known apart = refl
 path_alternates users (n ∷ ns) known apart =
@@ -48,6 +50,6 @@ path_alternates users (n ∷ ns) known apart =
     let differ = or_parts (begins_with n ns) (has_repeat ns) apart in
     and_from _ _ (first_differs users n ns known differ.0) (path_alternates users ns parts.1 differ.1)
 
-pub path_length : (users names : List (List ℕ)) → length (path_of users names) ≡ length names
+pub path_length : (users : List UserSlot) (names : List (List ℕ)) → length (path_of users names) ≡ length names
 path_length users [] = refl
 path_length users (n ∷ ns) = let rest = path_length users ns in omega arith

@@ -3,11 +3,12 @@ use Rattle.std.proofs.Common.{◌≡◌, ◌∙◌, ℕ, ◌+◌, zero, suc, tru
 use Rattle.std.specs.Option.{option_map}
 use Rattle.std.specs.List.{list_any, slice_get, position_from}
 use Rattle.std.proofs.lemmas.Bool.{cases_Bool, cond-true, cond-false, and_parts, not-true, or_left, or_right}
-use Rattle.std.proofs.lemmas.List.{map-id}
 use Rattle.bdb_base.specs.declared.kinds.RelDef.{RelDef}
-use Rattle.bdb_base.specs.Bases.{are_distinct}
+use Rattle.bdb_base.specs.declared.kinds.UserSlot.{UserSlot}
+use Rattle.bdb_base.specs.declared.kinds.UserSlot.TheVariants.{Live, Gone}
+use Rattle.bdb_base.specs.Bases.{are_distinct, user_names}
 use Rattle.bdb_base.specs.Same.{same_text}
-use Rattle.bdb_bind.specs.Lookup.{uid_of, is_name, number_of, columns_in, columns_of}
+use Rattle.bdb_bind.specs.Lookup.{is_called, is_called_at, uid_of, is_name, number_of, columns_in, columns_of}
 use Rattle.bdb_bind.proofs.Founds.{same_text_equal, found}
 
 -- a name of a list is among the names
@@ -35,15 +36,38 @@ stands_at f start (x ∷ xs) (suc at) name differ here =
           ∙ stands_at f (start + 1) xs at name parts.1 here ∙ ap Some same
     ]
 
-no_change : (o : Option (List ℕ)) → option_map (λ x. x) o ≡ o
-no_change None = refl
-no_change (Some x) = refl
+-- the name of a live user is among the names
+among_live : (users : List UserSlot) (at : ℕ) (name first : List ℕ) → is_called_at name (slice_get users at) ≡ true → same_text first name ≡ true
+    → list_any (same_text first) (user_names users) ≡ true
+among_live [] at name first here same = cc
+among_live (Live x ∷ us) zero name first here same = or_left _ _ (ap (same_text first) (same_text_equal x name here) ∙ same)
+among_live (Gone ∷ us) zero name first here same = cc
+among_live (Live x ∷ us) (suc at) name first here same = or_right _ _ (among_live us at name first here same)
+among_live (Gone ∷ us) (suc at) name first here same = among_live us at name first here same
 
-pub user_at : (users : List (List ℕ)) (at : ℕ) (name : List ℕ) → are_distinct users ≡ true → is_name name (slice_get users at) ≡ true
+-- where the names of live users differ, one that stands at a place is found there
+lives_there : (start : ℕ) (users : List UserSlot) (at : ℕ) (name : List ℕ) → are_distinct (user_names users) ≡ true → is_called_at name (slice_get users at) ≡ true
+    → position_from (is_called name) start users ≡ Some (start + at)
+lives_there start [] at name differ here = cc
+lives_there start (Live x ∷ us) zero name differ here =
+    let same : start ≡ start + 0 = omega arith in
+    cond-true (same_text x name) (Some start) (position_from (is_called name) (start + 1) us) here ∙ ap Some same
+lives_there start (Gone ∷ us) zero name differ here = cc
+lives_there start (Live x ∷ us) (suc at) name differ here =
+    let parts = and_parts (not (list_any (same_text x) (user_names us))) (are_distinct (user_names us)) differ in
+    let same : start + 1 + at ≡ start + suc at = omega arith in
+    elim (cases_Bool (same_text x name)) [
+      | inl twice ↦ let there = among_live us at name x here twice in let none = not-true (list_any (same_text x) (user_names us)) parts.0 in cc
+      | inr other ↦ cond-false (same_text x name) (Some start) (position_from (is_called name) (start + 1) us) other
+          ∙ lives_there (start + 1) us at name parts.1 here ∙ ap Some same
+    ]
+lives_there start (Gone ∷ us) (suc at) name differ here =
+    let same : start + 1 + at ≡ start + suc at = omega arith in
+    lives_there (start + 1) us at name differ here ∙ ap Some same
+
+pub user_at : (users : List UserSlot) (at : ℕ) (name : List ℕ) → are_distinct (user_names users) ≡ true → is_called_at name (slice_get users at) ≡ true
     → uid_of users name ≡ Some (at + 1)
-user_at users at name differ here =
-    let place : 1 + at ≡ at + 1 = omega arith in
-    stands_at (λ x. x) 1 users at name (ap are_distinct (map-id users) ∙ differ) (ap (is_name name) (no_change (slice_get users at)) ∙ here) ∙ ap Some place
+user_at users at name differ here = let place : 1 + at ≡ at + 1 = omega arith in lives_there 1 users at name differ here ∙ ap Some place
 
 pub relation_at_place : (rels : List RelDef) (at : ℕ) (name : List ℕ) → are_distinct (map (λ r. r.name) rels) ≡ true
     → is_name name (option_map (λ r. r.name) (slice_get rels at)) ≡ true → number_of rels name ≡ Some at

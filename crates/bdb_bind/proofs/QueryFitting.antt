@@ -28,7 +28,7 @@ use Rattle.bdb_bind.specs.declared.bound.BindError.{BindError}
 use Rattle.bdb_bind.specs.Firsts.{first_in}
 use Rattle.bdb_bind.specs.Fits.{is_unclean}
 use Rattle.bdb_bind.specs.Kinds.{kind_of, are_one_kind}
-use Rattle.bdb_bind.specs.Lookup.{uid_of, is_user_name, number_of, columns_in, columns_of, column_at}
+use Rattle.bdb_bind.specs.Lookup.{is_user_name, uid_at, number_of, columns_in, columns_of, column_at}
 use Rattle.bdb_bind.specs.Parts.{value_texts, side_texts, is_long}
 use Rattle.bdb_bind.specs.QueryBinding.{place_named, query_column_at, query_side, query_cond, query_who, query_item, bound_query}
 use Rattle.bdb_bind.specs.QueryLines.{item_relation, who_user, item_user, in_who, in_path, in_side, in_cond, in_later_columns, in_columns, column_alias, column_missing, column_not_uid, begins_with_name, repeats_name, kind_named, kind_of_side, cond_kind}
@@ -173,15 +173,15 @@ whos_fit catalog items (w ∷ ws) known alias uid =
 
 -- where two neighbouring names differ, so do their numbers
 next_differs : (catalog : Catalog) (items : List RawItem) (n : List ℕ) (ws : List RawWho) → is_user_name catalog.users n ≡ true → first_in (who_user catalog.users) ws ≡ None
-    → begins_with_name n ws ≡ false → begins_with_another (unwrap_or (uid_of catalog.users n) 0) (map (query_who catalog.users items) ws) ≡ true
+    → begins_with_name n ws ≡ false → begins_with_another (uid_at catalog.users n) (map (query_who catalog.users items) ws) ≡ true
 next_differs catalog items n [] known others apart = refl
 next_differs catalog items n (who.Col c ∷ ws) known others apart = refl
 next_differs catalog items n (who.Name m ∷ ws) known others apart =
     let next = not-false _ (not_refused _ _ (neither (who_user catalog.users (who.Name m)) (first_in (who_user catalog.users) ws) others).0) in
-    let a = unwrap_or (uid_of catalog.users n) 0 in
-    let b = unwrap_or (uid_of catalog.users m) 0 in
+    let a = uid_at catalog.users n in
+    let b = uid_at catalog.users m in
     elim (cases_Bool (nat_eq a b)) [
-      | inl same ↦ let one = one_name 1 catalog.users n m a (known_uid catalog.users n known) (known_uid catalog.users m next ∙ ap Some (sym (eqb-true a b same))) in cc
+      | inl same ↦ let one = one_name catalog.users n m a (known_uid catalog.users n known) (known_uid catalog.users m next ∙ ap Some (sym (eqb-true a b same))) in cc
       | inr other ↦ not_from_false (nat_eq a b) other
     ]
 

@@ -6,7 +6,7 @@ use Rattle.std.specs.Prelude.{nat_lt}
 use Rattle.bdb_base.specs.declared.kinds.Catalog.{Catalog}
 use Rattle.bdb_base.specs.declared.kinds.Query.{Query}
 use Rattle.bdb_syntax.specs.declared.command.Command.{Command}
-use Rattle.bdb_syntax.specs.declared.command.Command.TheVariants.{CreateUser, CreateRelation, Insert, Delete, Update, Select, Explain, ShowWorld, Why, ShowTables}
+use Rattle.bdb_syntax.specs.declared.command.Command.TheVariants.{CreateUser, DropUser, CreateRelation, Insert, Delete, Update, Select, Explain, ShowWorld, Why, ShowTables}
 use Rattle.bdb_syntax.specs.declared.command.RawQuery.{RawQuery}
 use Rattle.bdb_bind.specs.declared.bound.BindError.{BindError}
 use Rattle.bdb_bind.specs.declared.bound.BindError.TheVariants as error
@@ -89,6 +89,7 @@ unfolding unsafe_line
 never_unsafe catalog (Select raw) none = cc
 never_unsafe catalog (Explain raw) none = cc
 never_unsafe catalog (CreateUser name) none = refl
+never_unsafe catalog (DropUser name) none = refl
 never_unsafe catalog (CreateRelation name cols key) none = refl
 never_unsafe catalog (Insert users sign rel vals) none = refl
 never_unsafe catalog (Delete users sign rel conds) none = refl

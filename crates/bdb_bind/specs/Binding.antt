@@ -1,5 +1,5 @@
 -- What a command that isn't refused is bound to.
-use Rattle.std.specs.Prelude.{ℕ, ℤ, unsigned_abs, List, map, Option, None, Some}
+use Rattle.std.specs.Prelude.{ℕ, ℤ, unsigned_abs, List, [], ◌∷◌, map, Option, None, Some}
 use Rattle.std.specs.Option.{unwrap_or}
 use Rattle.bdb_base.specs.declared.kinds.Catalog.{Catalog}
 use Rattle.bdb_base.specs.declared.kinds.ColDef.{ColDef}
@@ -13,14 +13,14 @@ use Rattle.bdb_base.specs.declared.kinds.Value.{Value}
 use Rattle.bdb_base.specs.declared.kinds.Sign.{Sign}
 use Rattle.bdb_base.specs.declared.kinds.Stmt.{Stmt}
 use Rattle.bdb_syntax.specs.declared.command.Command.{Command}
-use Rattle.bdb_syntax.specs.declared.command.Command.TheVariants.{CreateUser, CreateRelation, Insert, Delete, Update, Select, Explain, ShowWorld, Why, ShowTables}
+use Rattle.bdb_syntax.specs.declared.command.Command.TheVariants.{CreateUser, DropUser, CreateRelation, Insert, Delete, Update, Select, Explain, ShowWorld, Why, ShowTables}
 use Rattle.bdb_syntax.specs.declared.command.RawCond.{RawCond}
 use Rattle.bdb_syntax.specs.declared.command.RawSide.{RawSide}
 use Rattle.bdb_syntax.specs.declared.command.RawSide.TheVariants.{Col, Lit}
 use Rattle.bdb_syntax.specs.declared.command.RawSet.{RawSet}
 use Rattle.bdb_bind.specs.declared.bound.Bound.{Bound}
 use Rattle.bdb_bind.specs.declared.bound.Bound.TheVariants as bound
-use Rattle.bdb_bind.specs.Lookup.{path_of, number_of, columns_of, column_at}
+use Rattle.bdb_bind.specs.Lookup.{uid_at, path_of, number_of, columns_of, column_at}
 use Rattle.bdb_bind.specs.QueryBinding.{bound_query}
 
 -- the number of a relation that is there
@@ -53,6 +53,11 @@ statement_of catalog users sign rel vals = record {
   tuple = record { rel = relation_at catalog.rels rel; vals = vals };
 }
 
+-- the first number of a path; 0 where it is empty
+abbrev pub first_of : List ℕ → ℕ
+first_of [] = 0
+first_of (uid ∷ uids) = uid
+
 -- how many columns the key of a new relation has: one where no number is said
 abbrev pub key_length : Option ℤ → ℕ
 key_length None = 1
@@ -61,6 +66,7 @@ key_length (Some length) = unsigned_abs length
 -- what a command is bound to where it isn't refused
 abbrev pub bound_of : Catalog → Command → Bound
 bound_of catalog (CreateUser name) = bound.CreateUser name
+bound_of catalog (DropUser name) = bound.DropUser (uid_at catalog.users name)
 bound_of catalog (CreateRelation name cols key) = bound.CreateRelation (record { name = name; cols = cols; key = key_length key })
 bound_of catalog (Insert users sign rel vals) = bound.Insert (statement_of catalog users sign rel vals)
 bound_of catalog (Delete users sign rel conds) = bound.Delete (path_of catalog.users users) sign (relation_at catalog.rels rel)

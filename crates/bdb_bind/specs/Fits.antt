@@ -12,9 +12,10 @@ use Rattle.bdb_base.specs.declared.kinds.Operand.TheVariants as operand
 use Rattle.bdb_base.specs.declared.kinds.Kind.{Kind}
 use Rattle.bdb_base.specs.declared.kinds.Query.{Query}
 use Rattle.bdb_base.specs.declared.kinds.SetCol.{SetCol}
+use Rattle.bdb_base.specs.declared.kinds.UserSlot.{UserSlot}
 use Rattle.bdb_base.specs.declared.kinds.Value.{Value}
 use Rattle.bdb_base.specs.Alternation.{alternates}
-use Rattle.bdb_base.specs.Bases.{IsCatalog, belongs, is_user, is_clean, is_plain, fits_kind, fits_relation, are_distinct, is_valid_relation}
+use Rattle.bdb_base.specs.Bases.{IsCatalog, belongs, is_user, user_names, is_clean, is_plain, fits_kind, fits_relation, are_distinct, is_valid_relation}
 use Rattle.bdb_base.specs.Safety.{query_fits}
 use Rattle.bdb_syntax.specs.declared.command.Command.{Command}
 use Rattle.bdb_syntax.specs.declared.command.Command.TheVariants.{CreateRelation}
@@ -40,8 +41,8 @@ names_allowed _ = true
 abbrev pub is_allowed : Command → Bool
 is_allowed c = not (some_text is_unclean c) && names_allowed c
 
--- a path names no user twice in a row, is not too long, and names users of the catalog
-abbrev pub fits_path : List (List ℕ) → ℕ → List ℕ → Bool
+-- a path names no user twice in a row, is not too long, and names live users of the catalog
+abbrev pub fits_path : List UserSlot → ℕ → List ℕ → Bool
 fits_path users limit path = alternates path && nat_le (length path) limit && list_all (is_user users) path
 
 -- a value fits a column that may not be there: it is of its kind, and a text is a plain one
@@ -77,7 +78,8 @@ can_be_answered catalog q = query_fits catalog q && is_safe catalog.rels q
 -- What is bound fits a catalog. With it a base that is valid stays so, but for clashes and for what it may be full of; and
 -- a query has answers.
 abbrev pub fits_catalog : Catalog → Bound → Bool
-fits_catalog catalog (bound.CreateUser name) = is_plain name && are_distinct (catalog.users ++ name ∷ [])
+fits_catalog catalog (bound.CreateUser name) = is_plain name && are_distinct (user_names catalog.users ++ name ∷ [])
+fits_catalog catalog (bound.DropUser uid) = is_user catalog.users uid
 fits_catalog catalog (bound.CreateRelation def) = is_valid_relation def && are_distinct (map (λ r. r.name) (catalog.rels ++ def ∷ []))
 fits_catalog catalog (bound.Insert x) = belongs catalog x
 fits_catalog catalog (bound.Delete path sign rel conds) = fits_path catalog.users deepest_statement path && (nat_lt rel (length catalog.rels)

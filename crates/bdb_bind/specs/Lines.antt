@@ -7,6 +7,7 @@ use Rattle.bdb_base.specs.declared.kinds.Catalog.{Catalog}
 use Rattle.bdb_base.specs.declared.kinds.ColDef.{ColDef}
 use Rattle.bdb_base.specs.declared.kinds.RelDef.{RelDef}
 use Rattle.bdb_base.specs.declared.kinds.Kind.{Kind}
+use Rattle.bdb_base.specs.declared.kinds.UserSlot.{UserSlot}
 use Rattle.bdb_base.specs.declared.kinds.Value.{Value}
 use Rattle.bdb_base.specs.Same.{same_text, same_kind}
 use Rattle.bdb_base.specs.Bases.{users_name}
@@ -45,11 +46,11 @@ unknown_relation rels (Some name) = refused_if (not (is_some (number_of rels nam
 unfoldable pub relation_line : Catalog → Command → Option BindError
 relation_line catalog c = or_next (unknown_relation catalog.rels (relation_name c)) (option_and_then (query_relation catalog.rels) (query_of c))
 
--- the first name of a path that is no user's
-abbrev pub unknown_user : List (List ℕ) → List (List ℕ) → Option BindError
+-- the first name of a path that is no live user's
+abbrev pub unknown_user : List UserSlot → List (List ℕ) → Option BindError
 unknown_user users names = option_map error.User (find (λ name. not (is_user_name users name)) names)
 
--- the first name after BELIEF that is no user's
+-- the first name after BELIEF, or of who is to leave, that is no live user's
 unfoldable pub user_line : Catalog → Command → Option BindError
 user_line catalog c = or_next (unknown_user catalog.users (path_names c)) (option_and_then (query_user catalog.users) (query_of c))
 
@@ -80,7 +81,7 @@ abbrev pub first_repeated : List ColDef → List ColDef → Option (List ℕ)
 first_repeated seen [] = None
 first_repeated seen (c ∷ cs) = if list_any (λ d. same_text c.name d.name) seen then Some c.name else first_repeated (seen ++ c ∷ []) cs
 
--- a new name is taken: that of a user, of a relation or `Users`, or of an earlier column
+-- a new name is taken: that of a live user, of a relation or `Users`, or of an earlier column
 unfoldable pub taken_line : Catalog → Command → Option BindError
 taken_line catalog (CreateUser name) = refused_if (is_user_name catalog.users name) (error.TakenUser name)
 taken_line catalog (CreateRelation name cols key) = or_next

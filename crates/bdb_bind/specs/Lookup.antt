@@ -5,19 +5,35 @@ use Rattle.std.specs.List.{position_from}
 use Rattle.bdb_base.specs.declared.kinds.Kind.{Kind}
 use Rattle.bdb_base.specs.declared.kinds.ColDef.{ColDef}
 use Rattle.bdb_base.specs.declared.kinds.RelDef.{RelDef}
+use Rattle.bdb_base.specs.declared.kinds.UserSlot.{UserSlot}
+use Rattle.bdb_base.specs.declared.kinds.UserSlot.TheVariants.{Live, Gone}
 use Rattle.bdb_base.specs.Same.{same_text}
 
--- the uid of a name: the place of the first user of that name, from 1
-abbrev pub uid_of : List (List ℕ) → List ℕ → Option ℕ
-uid_of users name = position_from (λ x. same_text x name) 1 users
+-- the user of a place is live, and is called so
+abbrev pub is_called : List ℕ → UserSlot → Bool
+is_called name (Live x) = same_text x name
+is_called name Gone = false
 
--- a name is that of a user
-abbrev pub is_user_name : List (List ℕ) → List ℕ → Bool
+-- there is such a place, its user is live, and is called so
+abbrev pub is_called_at : List ℕ → Option UserSlot → Bool
+is_called_at name None = false
+is_called_at name (Some user) = is_called name user
+
+-- the uid of a name: the place of the first live user of that name, from 1
+abbrev pub uid_of : List UserSlot → List ℕ → Option ℕ
+uid_of users name = position_from (is_called name) 1 users
+
+-- a name is that of a live user
+abbrev pub is_user_name : List UserSlot → List ℕ → Bool
 is_user_name users name = is_some (uid_of users name)
 
--- the path of names, each of which is a user's
-abbrev pub path_of : List (List ℕ) → List (List ℕ) → List ℕ
-path_of users names = map (λ name. unwrap_or (uid_of users name) 0) names
+-- the uid of a name that is a live user's
+abbrev pub uid_at : List UserSlot → List ℕ → ℕ
+uid_at users name = unwrap_or (uid_of users name) 0
+
+-- the path of names, each of which is a live user's
+abbrev pub path_of : List UserSlot → List (List ℕ) → List ℕ
+path_of users names = map (uid_at users) names
 
 -- a name may stand here, and is this one
 abbrev pub is_name : List ℕ → Option (List ℕ) → Bool

@@ -8,7 +8,7 @@ use Rattle.bdb_base.specs.declared.kinds.RelDef.{RelDef}
 use Rattle.bdb_base.specs.declared.kinds.Value.{Value}
 use Rattle.bdb_base.specs.declared.kinds.Value.TheVariants.{Int, Text}
 use Rattle.bdb_syntax.specs.declared.command.Command.{Command}
-use Rattle.bdb_syntax.specs.declared.command.Command.TheVariants.{CreateUser, CreateRelation, Insert, Delete, Update, Select, Explain, ShowWorld, Why}
+use Rattle.bdb_syntax.specs.declared.command.Command.TheVariants.{CreateUser, DropUser, CreateRelation, Insert, Delete, Update, Select, Explain, ShowWorld, Why}
 use Rattle.bdb_syntax.specs.declared.command.RawCond.{RawCond}
 use Rattle.bdb_syntax.specs.declared.command.RawSide.{RawSide}
 use Rattle.bdb_syntax.specs.declared.command.RawSide.TheVariants.{Col, Lit}
@@ -23,8 +23,9 @@ query_of (Select query) = Some query
 query_of (Explain query) = Some query
 query_of _ = None
 
--- the names of a command's one path
+-- the names of a command's one path; a user who leaves is a path of his own
 abbrev pub path_names : Command → List (List ℕ)
+path_names (DropUser name) = name ∷ []
 path_names (Insert users sign rel vals) = users
 path_names (Delete users sign rel conds) = users
 path_names (Update users sign rel sets conds) = users
@@ -115,6 +116,7 @@ some_signed_text p users vals = list_any p users || list_any (λ v. list_any p (
 -- a test holds of a text of a command
 abbrev pub some_text : (List ℕ → Bool) → Command → Bool
 some_text p (CreateUser name) = p name
+some_text p (DropUser name) = p name
 some_text p (Insert users sign rel vals) = some_signed_text p users vals
 some_text p (Delete users sign rel conds) = list_any p users || list_any (λ c. list_any p (side_texts c.right)) conds
 some_text p (Update users sign rel sets conds) = list_any p users || (list_any (λ s. list_any p (value_texts s.to)) sets

@@ -10,6 +10,7 @@ use Rattle.bdb_base.specs.declared.kinds.Operand.TheVariants as operand
 use Rattle.bdb_base.specs.declared.kinds.Query.{Query}
 use Rattle.bdb_base.specs.declared.kinds.Ref.{Ref}
 use Rattle.bdb_base.specs.declared.kinds.RelDef.{RelDef}
+use Rattle.bdb_base.specs.declared.kinds.UserSlot.{UserSlot}
 use Rattle.bdb_base.specs.declared.kinds.Who.{Who}
 use Rattle.bdb_base.specs.declared.kinds.Who.TheVariants as user
 use Rattle.bdb_syntax.specs.declared.command.RawCol.{RawCol}
@@ -20,7 +21,7 @@ use Rattle.bdb_syntax.specs.declared.command.RawSide.{RawSide}
 use Rattle.bdb_syntax.specs.declared.command.RawSide.TheVariants.{Col, Lit}
 use Rattle.bdb_syntax.specs.declared.command.RawWho.{RawWho}
 use Rattle.bdb_syntax.specs.declared.command.RawWho.TheVariants as who
-use Rattle.bdb_bind.specs.Lookup.{uid_of, number_of, column_at}
+use Rattle.bdb_bind.specs.Lookup.{uid_at, number_of, column_at}
 use Rattle.bdb_bind.specs.Scope.{is_users, item_place, columns_named}
 
 -- the place of an item that is there
@@ -39,8 +40,8 @@ abbrev pub query_cond : List RelDef → List RawItem → RawCond → Cond
 query_cond rels items c = record { left = query_column_at rels items c.left; cmp = c.cmp; right = query_side rels items c.right }
 
 -- a user of a path: a user's number, or the place of a `Users` item
-abbrev pub query_who : List (List ℕ) → List RawItem → RawWho → Who
-query_who users items (who.Name name) = user.User (unwrap_or (uid_of users name) 0)
+abbrev pub query_who : List UserSlot → List RawItem → RawWho → Who
+query_who users items (who.Name name) = user.User (uid_at users name)
 query_who users items (who.Col c) = user.Of (place_named items c.alias)
 
 abbrev pub query_item : Catalog → List RawItem → RawItem → Item

@@ -5,6 +5,7 @@ use Rattle.std.specs.List.{list_any}
 use Rattle.bdb_base.specs.Limits.{most_items, most_select_columns, deepest_query}
 use Rattle.bdb_base.specs.declared.kinds.Kind.{Kind}
 use Rattle.bdb_base.specs.declared.kinds.RelDef.{RelDef}
+use Rattle.bdb_base.specs.declared.kinds.UserSlot.{UserSlot}
 use Rattle.bdb_base.specs.Same.{same_text}
 use Rattle.bdb_syntax.specs.declared.command.RawCol.{RawCol}
 use Rattle.bdb_syntax.specs.declared.command.RawCond.{RawCond}
@@ -33,17 +34,17 @@ item_relation rels i = refused_if (not (is_users i || is_some (number_of rels i.
 abbrev pub query_relation : List RelDef → RawQuery → Option BindError
 query_relation rels q = first_in (item_relation rels) q.items
 
--- a name after BELIEF is no user's
-abbrev pub who_user : List (List ℕ) → RawWho → Option BindError
+-- a name after BELIEF is no live user's
+abbrev pub who_user : List UserSlot → RawWho → Option BindError
 who_user users (who.Name name) = refused_if (not (is_user_name users name)) (error.User name)
 who_user users (who.Col c) = None
 
--- the first name of an item's path that is no user's
-abbrev pub item_user : List (List ℕ) → RawItem → Option BindError
+-- the first name of an item's path that is no live user's
+abbrev pub item_user : List UserSlot → RawItem → Option BindError
 item_user users i = first_in (who_user users) i.path
 
--- the first name after BELIEF that is no user's
-abbrev pub query_user : List (List ℕ) → RawQuery → Option BindError
+-- the first name after BELIEF that is no live user's
+abbrev pub query_user : List UserSlot → RawQuery → Option BindError
 query_user users q = first_in (item_user users) q.items
 
 -- the first item whose alias stands at an earlier item, or among the items seen before

@@ -9,6 +9,10 @@ pub enum Bound {
     CreateUser {
         name: Txt,
     },
+    /// The user of this number leaves, with all statements whose path names him.
+    DropUser {
+        uid: u32,
+    },
     /// A relation is made.
     CreateRelation {
         def: RelDef,
@@ -64,7 +68,7 @@ pub enum BindError {
     /// The catalog has no relation of this name.
     #[error("no relation has this name")]
     Relation(Txt),
-    /// No user has this name.
+    /// No live user has this name.
     #[error("no user has this name")]
     User(Txt),
     /// This alias stands at an earlier item.
@@ -76,7 +80,7 @@ pub enum BindError {
     /// The relation has no such column, or a column after BELIEF isn't the number of a user.
     #[error("there is no such column")]
     Column { alias: Option<Txt>, col: Txt },
-    /// A user has this name.
+    /// A live user has this name.
     #[error("a user has this name")]
     TakenUser(Txt),
     /// A relation has this name, or it is `Users`, or a column of this name stands earlier.

@@ -3,18 +3,18 @@ ghost use Rattle.std.specs.Prelude.{◌≡◌, ◌<◌, ◌≤◌, [], None, tru
 ghost use Rattle.std.specs.List.{slice_get};
 ghost use Rattle.std.specs.Option.{option_map};
 ghost use Rattle.bdb_base.specs.Limits.{most_users};
-ghost use Rattle.bdb_base.specs.Bases.{IsCatalog, are_distinct};
+ghost use Rattle.bdb_base.specs.Bases.{IsCatalog, are_distinct, user_names};
 ghost use Rattle.bdb_bind.specs.Firsts.{Checks};
-ghost use Rattle.bdb_bind.specs.Lookup.{uid_of, path_of, is_name, number_of, columns_of};
+ghost use Rattle.bdb_bind.specs.Lookup.{is_called_at, uid_of, path_of, is_name, number_of, columns_of};
 ghost use Rattle.bdb_bind.specs.Lines.{unknown_user};
 ghost use Rattle.bdb_bind.specs.Parts.{relation_place, change_columns};
 
 use crate::bound::BindError;
 use crate::index::NameIndex;
-use crate::lookup::{is_same, uid_of};
+use crate::lookup::{is_called, is_same, uid_of};
 use crate::parts::relation_name;
 use crate::refusals::unknown_user;
-use bdb_base::{Catalog, ColDef, List, RelDef, Txt};
+use bdb_base::{Catalog, ColDef, List, RelDef, Txt, UserSlot};
 use bdb_syntax::Command;
 use std::alloc::Global;
 
@@ -88,14 +88,14 @@ fn search<'a>(rels: &'a [RelDef], name: &Txt) -> Found<'a>
     }
 }
 
-/// The uids of names. The first that is no user's is refused.
+/// The uids of names. The first that is no live user's is refused.
 pub fn find_users(
     alloc: Global,
-    users: &[Txt],
+    users: &[UserSlot],
     index: &NameIndex,
     names: &[Txt],
 ) -> Result<List<u32>, BindError>
-    requires differ { are_distinct users.now ≡ true }
+    requires differ { are_distinct (user_names users.now) ≡ true }
     requires few { length users.now ≤ most_users }
     ensures checks { Checks result (unknown_user users.now names.now) }
     ensures ids { IfOk result (λ ids. ids ≡ path_of users.now names.now) }
@@ -114,8 +114,8 @@ pub fn find_users(
 
 /// The uid of a name: where the index says, or else by a search.
 #[tactic(auto, using(crate::proofs::PlaceLemmas::user_at))]
-fn find_user(users: &[Txt], index: &NameIndex, name: &Txt) -> Option<usize>
-    requires differ { are_distinct users.now ≡ true }
+fn find_user(users: &[UserSlot], index: &NameIndex, name: &Txt) -> Option<usize>
+    requires differ { are_distinct (user_names users.now) ≡ true }
     ensures uid { result ≡ uid_of users.now name.now }
     ensures within { IfSome result (λ uid. uid ≤ length users.now) }
 {
@@ -127,13 +127,13 @@ fn find_user(users: &[Txt], index: &NameIndex, name: &Txt) -> Option<usize>
     uid_of(users, name)
 }
 
-/// Whether a user of this name stands at a place.
-fn is_user_at(users: &[Txt], at: usize, name: &Txt) -> bool
-    ensures here { result ≡ is_name name.now (slice_get users.now at) }
+/// Whether a live user of this name stands at a place.
+fn is_user_at(users: &[UserSlot], at: usize, name: &Txt) -> bool
+    ensures here { result ≡ is_called_at name.now (slice_get users.now at) }
     ensures within { result ≡ true → at < length users.now }
 {
     match users.get(at) {
-        Some(user) => is_same(user, name),
+        Some(user) => is_called(name, user),
         None => false,
     }
 }

@@ -1,10 +1,10 @@
 // Where the names of a catalog stand.
 ghost use Rattle.std.specs.Prelude.{◌≡◌, ℕ, List, None, IfOk, OnOk, OnErr};
 ghost use Rattle.std.specs.BTreeMap.{get_by_text};
-ghost use Rattle.bdb_bind.specs.Indexes.{or_place, user_place, TellsOf};
+ghost use Rattle.bdb_bind.specs.Indexes.{or_place, or_slot, but_of, user_place, TellsOf};
 ghost use Rattle.bdb_bind.specs.Lookup.{number_of};
 
-use bdb_base::{Catalog, RelDef, Txt};
+use bdb_base::{Catalog, RelDef, Txt, UserSlot};
 use std::alloc::{AllocError, Global};
 use std::collections::BTreeMap;
 
@@ -45,6 +45,14 @@ impl NameIndex {
         ensures err { OnErr result (self.new.users.entries ≡ self.old.users.entries) }
     {
         add_place(&mut self.users, alloc, name, at)
+    }
+
+    /// Forgets where the user of this name stands: he leaves. Another user may have the name later, and is told then.
+    pub fn forget_user(&mut self, name: &Txt)
+        ensures users { (q : List ℕ) → get_by_text self.new.users q ≡ but_of (get_by_text self.old.users q) name.now q }
+        ensures rels { self.new.rels ≡ self.old.rels }
+    {
+        self.users.remove(name.as_str());
     }
 
     /// A relation of this name stands at this place. Where a relation of this name is known, nothing
@@ -90,13 +98,34 @@ fn add_place(
     Ok(())
 }
 
-/// Where the users stand.
-fn places_of_users(alloc: Global, users: &[Txt]) -> Result<BTreeMap<String, usize>, AllocError>
+/// A user who is live stands at this place, unless his name is known.
+fn add_slot(
+    places: &mut BTreeMap<String, usize>,
+    alloc: Global,
+    user: &UserSlot,
+    at: usize,
+) -> Result<(), AllocError>
+    ensures { OnOk result ((q : List ℕ) → get_by_text places.new q ≡ or_slot (get_by_text places.old q) user.now at q) }
+{
+    match user {
+        UserSlot::Live(name) => {
+            add_place(places, alloc, name, at)?;
+            Ok(())
+        }
+        UserSlot::Gone => Ok(()),
+    }
+}
+
+/// Where the live users stand.
+fn places_of_users(
+    alloc: Global,
+    users: &[UserSlot],
+) -> Result<BTreeMap<String, usize>, AllocError>
     ensures { IfOk result (λ m. (q : List ℕ) → get_by_text m q ≡ user_place users.now q) }
 {
     let mut places = BTreeMap::new(alloc);
     for (at, user) in users.iter().enumerate() {
-        add_place(&mut places, alloc, user, at)?;
+        add_slot(&mut places, alloc, user, at)?;
     }
     Ok(places)
 }

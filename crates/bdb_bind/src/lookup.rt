@@ -1,9 +1,9 @@
 // Looking names up in a catalog.
 ghost use Rattle.std.specs.Prelude.{◌≡◌, ◌<◌, ◌≤◌, length, IfSome};
 ghost use Rattle.bdb_base.specs.Same.{same_text};
-ghost use Rattle.bdb_bind.specs.Lookup.{uid_of, number_of, columns_of, column_at, kind_at};
+ghost use Rattle.bdb_bind.specs.Lookup.{is_called, uid_of, number_of, columns_of, column_at, kind_at};
 
-use bdb_base::{ColDef, Kind, RelDef, Txt};
+use bdb_base::{ColDef, Kind, RelDef, Txt, UserSlot};
 
 /// Whether two names are the same.
 pub fn is_same(a: &Txt, b: &Txt) -> bool
@@ -12,13 +12,23 @@ pub fn is_same(a: &Txt, b: &Txt) -> bool
     a.as_bytes() == b.as_bytes()
 }
 
-/// The uid of a name: users are numbered from 1.
-pub fn uid_of(users: &[Txt], name: &Txt) -> Option<usize>
+/// Whether the user of a place is live, and is called so.
+pub fn is_called(name: &Txt, user: &UserSlot) -> bool
+    ensures { result ≡ is_called name.now user.now }
+{
+    match user {
+        UserSlot::Live(live) => is_same(live, name),
+        UserSlot::Gone => false,
+    }
+}
+
+/// The uid of a live user's name: the places of users are numbered from 1.
+pub fn uid_of(users: &[UserSlot], name: &Txt) -> Option<usize>
     ensures uid { result ≡ uid_of users.now name.now }
     ensures within { IfSome result (λ uid. uid ≤ length users.now) }
 {
     for (at, user) in users.iter().enumerate() {
-        if is_same(user, name) {
+        if is_called(name, user) {
             return Some(at + 1);
         }
     }

@@ -4,10 +4,10 @@ ghost use Rattle.std.specs.Option.{unwrap_or};
 ghost use Rattle.bdb_base.specs.Limits.{most_users, most_relations, most_columns};
 ghost use Rattle.bdb_base.specs.Alternation.{alternates};
 ghost use Rattle.bdb_base.specs.Bases.{IsCatalog};
-ghost use Rattle.bdb_bind.specs.Lookup.{uid_of, path_of};
+ghost use Rattle.bdb_bind.specs.Lookup.{uid_at, path_of};
 ghost use Rattle.bdb_bind.specs.Parts.{query_of, path_names, relation_place, change_columns};
 ghost use Rattle.bdb_bind.specs.Refusal.{names_refused};
-ghost use Rattle.bdb_bind.specs.Binding.{relation_at, key_length, place_of, bound_column, bound_side, bound_cond, bound_set, bound_of};
+ghost use Rattle.bdb_bind.specs.Binding.{relation_at, key_length, place_of, bound_column, bound_side, bound_cond, bound_set, first_of, bound_of};
 
 use crate::bound::Bound;
 use crate::found::Found;
@@ -15,16 +15,16 @@ use crate::lookup::{column_at, number_of, uid_of};
 use crate::parts::new_key;
 use bdb_base::{
     Catalog, ColDef, Cond, List, Operand, Path, PathError, Ref, RelDef, SetCol, Sign, Stmt, Tuple,
-    Txt, Value,
+    Txt, UserSlot, Value,
 };
 use bdb_syntax::{Command, RawCond, RawSet, RawSide};
 use std::alloc::{AllocError, Global};
 use std::mem;
 
-/// The uid of a name that is a user's.
-pub fn uid_at(users: &[Txt], name: &Txt) -> u32
+/// The uid of a name that is a live user's.
+pub fn uid_at(users: &[UserSlot], name: &Txt) -> u32
     requires { length users.now ≤ most_users }
-    ensures { result ≡ unwrap_or (uid_of users.now name.now) 0 }
+    ensures { result ≡ uid_at users.now name.now }
 {
     match uid_of(users, name) {
         Some(uid) => uid as u32,
@@ -264,6 +264,16 @@ fn bound_user(alloc: Global, name: &mut Txt) -> Result<Bound, AllocError>
     Ok(Bound::CreateUser { name })
 }
 
+/// The first number of a path; 0 where it is empty.
+fn first_of(ids: &[u32]) -> u32
+    ensures { result ≡ first_of ids.now }
+{
+    match ids {
+        [uid, ..] => *uid,
+        [] => 0,
+    }
+}
+
 /// How many columns the key of a new relation has: one where no number is said.
 fn key_length(said: Option<i64>) -> u32
     requires { IfSome said (λ length. unsigned_abs length < 2 ^ 32) }
@@ -321,6 +331,7 @@ pub fn bound_change(
     let key = key_length(new_key(command));
     match command {
         Command::CreateUser { name } => bound_user(alloc, name),
+        Command::DropUser { .. } => Ok(Bound::DropUser { uid: first_of(ids) }),
         Command::CreateRelation { name, cols, .. } => bound_relation(alloc, name, cols, key),
         Command::Insert { sign, vals, .. } => {
             let vals = mem::replace(vals, List::new(alloc));

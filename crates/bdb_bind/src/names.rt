@@ -35,7 +35,7 @@ pub fn check_relation(
     }
 }
 
-/// The uids of a command's path. The first name after BELIEF that is no user's is refused.
+/// The uids of a command's path. The first name that is no live user's is refused.
 #[tactic(auto, using(crate::proofs::CatalogLemmas::users_few))]
 pub fn check_users(
     alloc: Global,

@@ -7,12 +7,14 @@ ghost use Rattle.bdb_bind.specs.Parts.{path_names, depth_limit, relation_name, t
 use bdb_base::limits::{DEEPEST_QUERY, DEEPEST_STATEMENT, LONGEST_TEXT};
 use bdb_base::{ColDef, List, Txt, Value};
 use bdb_syntax::{Command, RawCond, RawItem, RawQuery, RawSet, RawSide, RawWho};
+use std::slice;
 
-/// The names of a command's one path.
+/// The names of a command's one path; a user who leaves is a path of his own.
 pub fn path_names(command: &Command) -> &[Txt]
     ensures { result.now ≡ path_names command.now }
 {
     match command {
+        Command::DropUser { name } => slice::from_ref(name),
         Command::Insert { users, .. } => users.as_slice(),
         Command::Delete { users, .. } => users.as_slice(),
         Command::Update { users, .. } => users.as_slice(),
@@ -83,6 +85,7 @@ pub fn has_long_text(command: &Command) -> bool
 {
     match command {
         Command::CreateUser { name } => is_long(name),
+        Command::DropUser { name } => is_long(name),
         Command::Insert { users, vals, .. } => has_long_signed(users, vals),
         Command::Delete { users, conds, .. } => {
             has_long_name(users.as_slice()) || has_long_cond(conds.as_slice())

@@ -12,7 +12,7 @@ use crate::query_items::QueryItems;
 use crate::refusals::{unknown_relation, unknown_user, wrong_query_kind};
 use crate::scope::{is_users, kind_named};
 use bdb_base::limits::{DEEPEST_QUERY, MOST_ITEMS, MOST_SELECT_COLUMNS};
-use bdb_base::{Kind, RelDef, Txt};
+use bdb_base::{Kind, RelDef, Txt, UserSlot};
 use bdb_syntax::{RawCond, RawItem, RawQuery, RawSide, RawWho};
 use std::alloc::Global;
 
@@ -50,8 +50,8 @@ fn check_item(alloc: Global, rels: &[RelDef], item: &RawItem) -> Result<(), Bind
     Err(unknown_relation(alloc, &item.rel))
 }
 
-/// Refuses the first name after BELIEF that is no user's.
-pub fn check_query_users(alloc: Global, users: &[Txt], query: &RawQuery) -> Result<(), BindError>
+/// Refuses the first name after BELIEF that is no live user's.
+pub fn check_query_users(alloc: Global, users: &[UserSlot], query: &RawQuery) -> Result<(), BindError>
     ensures { Checks result (query_user users.now query.now) }
 {
     let items = query.items.as_slice();
@@ -61,7 +61,7 @@ pub fn check_query_users(alloc: Global, users: &[Txt], query: &RawQuery) -> Resu
     Ok(())
 }
 
-fn check_path(alloc: Global, users: &[Txt], path: &[RawWho]) -> Result<(), BindError>
+fn check_path(alloc: Global, users: &[UserSlot], path: &[RawWho]) -> Result<(), BindError>
     ensures { Checks result (first_in (who_user users.now) path.now) }
 {
     for who in path {
@@ -72,7 +72,7 @@ fn check_path(alloc: Global, users: &[Txt], path: &[RawWho]) -> Result<(), BindE
     Ok(())
 }
 
-fn check_user(alloc: Global, users: &[Txt], name: &Txt) -> Result<(), BindError>
+fn check_user(alloc: Global, users: &[UserSlot], name: &Txt) -> Result<(), BindError>
     ensures { Checks result (who_user users.now (RawWho.Name name.now)) }
 {
     if uid_of(users, name).is_none() {

@@ -13,7 +13,7 @@ use Rattle.bdb_parse.specs.declared.stop.Stop.{Stop}
 use Rattle.bdb_parse.specs.declared.stop.Stop.TheVariants as stops
 use Rattle.bdb_parse.specs.declared.target.Target.{Target}
 use Rattle.bdb_parse.specs.Stops.{cut}
-use Rattle.bdb_parse.specs.Reading.{◌>>=◌, end_at, word_at, text_at, keyword_at, name_at, literal_of, set_of, col_of, test_of, cond_of, all_of, list_of, conds_of, inside_at, inside_of, key_of, target_at, column_of, item_of, create_user_of, create_relation_of, create_of, signed_of, insert_of, delete_of, update_of, query_of, explain_of, show_world_of, show_of, why_of, command_after, command_by, beliefs_at}
+use Rattle.bdb_parse.specs.Reading.{◌>>=◌, end_at, word_at, text_at, keyword_at, name_at, literal_of, set_of, col_of, test_of, cond_of, all_of, list_of, conds_of, inside_at, inside_of, key_of, target_at, column_of, item_of, create_user_of, create_relation_of, create_of, signed_of, insert_of, delete_of, update_of, query_of, explain_of, show_world_of, show_of, why_of, drop_of, command_after, command_by, beliefs_at}
 use Rattle.bdb_parse.proofs.CutLemmas.{parts_after, parts_cut}
 
 -- what is read, if anything is, has P
@@ -133,6 +133,12 @@ show_filled ts =
     (each_behind IsFilled (end_at (beliefs_at word.1).1) _ (λ rest f. refl))
     (each_cond IsFilled (is_keyword (codes "tables") word.0) _ _ (each_map IsFilled (λ _. ShowTables) (end_at word.1) (λ _ _. refl)) tt))
 
+drop_filled : (ts : List Token) → Each IsFilled (drop_of ts)
+unfolding drop_of
+drop_filled ts =
+    each_behind IsFilled (keyword_at (codes "user") ts) _ (λ rest e.
+    each_behind IsFilled (text_at rest) _ (λ name f. each_behind IsFilled (end_at name.1) _ (λ _ g. refl)))
+
 after_filled : (number : List ℕ → Option ℤ) (word : List ℕ) (ts : List Token) → Each IsFilled (command_after number word ts)
 unfolding command_after
 after_filled number word ts =
@@ -143,7 +149,8 @@ after_filled number word ts =
     (each_cond IsFilled (is_keyword (codes "select") word) _ _ (each_map IsFilled Select (query_of number ts) (λ q f. each_at IsFilledQuery _ q (query_is_filled number ts) f))
     (each_cond IsFilled (is_keyword (codes "explain") word) _ _ (explain_filled number ts)
     (each_cond IsFilled (is_keyword (codes "show") word) _ _ (show_filled ts)
-    (each_cond IsFilled (is_keyword (codes "why") word) _ _ (why_filled number ts) tt)))))))
+    (each_cond IsFilled (is_keyword (codes "why") word) _ _ (why_filled number ts)
+    (each_cond IsFilled (is_keyword (codes "drop") word) _ _ (drop_filled ts) tt))))))))
 
 pub command_filled_of : (number : List ℕ → Option ℤ) (ts : List Token) (c : Command) → command_by number ts ≡ Some c → IsFilled c
 unfolding command_by

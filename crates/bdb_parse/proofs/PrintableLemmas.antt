@@ -18,7 +18,7 @@ use Rattle.bdb_syntax.specs.declared.command.RawItem.{RawItem}
 use Rattle.bdb_syntax.specs.declared.command.RawSet.{RawSet}
 use Rattle.bdb_syntax.specs.declared.command.RawQuery.{RawQuery}
 use Rattle.bdb_syntax.specs.declared.command.Command.{Command}
-use Rattle.bdb_syntax.specs.declared.command.Command.TheVariants.{CreateUser, CreateRelation, Insert, Delete, Update, Select, Explain, ShowWorld, Why, ShowTables}
+use Rattle.bdb_syntax.specs.declared.command.Command.TheVariants.{CreateUser, DropUser, CreateRelation, Insert, Delete, Update, Select, Explain, ShowWorld, Why, ShowTables}
 use Rattle.bdb_syntax.specs.Printable as printable
 use Rattle.bdb_parse.specs.Spelled.{AreWellSpelled}
 use Rattle.bdb_parse.specs.Grammar.{◌▸◌, IsToken, IsKeyword, IsName, IsKey, IsLiteral, AreSeparated, AreRepeated, IsBelief, IsSign, IsKind, IsColumn, cmp_token, IsBareCol, IsFullCol, IsSide, IsCond, AreConds, IsSet, IsWho, IsItemBelief, IsAlias, IsItem, IsTarget, IsSigned, IsQuery, IsCommand}
@@ -163,6 +163,10 @@ signed_ok users sign rel vals ts h w =
 pub parts_ok : (c : Command) (ts : List Token) → IsCommand ts c → AreWellSpelled ts → printable.HasPrintableParts c
 parts_ok (CreateUser name) ts h w =
     let a = halves (IsKeyword (codes "create")) (IsKeyword (codes "user") ▸ IsToken (Text name)) ts h w in
+    let b = halves (IsKeyword (codes "user")) (IsToken (Text name)) h.1 h.4 a.1 in
+    text_ok name h.4.1 h.4.4 b.1
+parts_ok (DropUser name) ts h w =
+    let a = halves (IsKeyword (codes "drop")) (IsKeyword (codes "user") ▸ IsToken (Text name)) ts h w in
     let b = halves (IsKeyword (codes "user")) (IsToken (Text name)) h.1 h.4 a.1 in
     text_ok name h.4.1 h.4.4 b.1
 parts_ok (CreateRelation name cols key) ts h w =

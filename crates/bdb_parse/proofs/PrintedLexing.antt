@@ -15,7 +15,7 @@ use Rattle.bdb_lex.specs.declared.token.Token.{Token}
 use Rattle.bdb_lex.specs.declared.token.Token.TheVariants.{Word, Comma, Dot, ParenL, ParenR, Eq}
 use Rattle.bdb_lex.specs.Tokens.{tokens_of}
 use Rattle.bdb_syntax.specs.declared.command.Command.{Command}
-use Rattle.bdb_syntax.specs.declared.command.Command.TheVariants.{CreateUser, CreateRelation, Insert, Delete, Update, Select, Explain, ShowWorld, Why, ShowTables}
+use Rattle.bdb_syntax.specs.declared.command.Command.TheVariants.{CreateUser, DropUser, CreateRelation, Insert, Delete, Update, Select, Explain, ShowWorld, Why, ShowTables}
 use Rattle.bdb_syntax.specs.declared.command.RawCol.{RawCol}
 use Rattle.bdb_syntax.specs.declared.command.RawCond.{RawCond}
 use Rattle.bdb_syntax.specs.declared.command.RawItem.{RawItem}
@@ -219,6 +219,7 @@ key_reads (Some length) f = ends_reads (ends_between (codes " key ") (Word (code
 
 command_reads : (c : Command) → IsPrintable c → fits c ≡ true → Reads (printed c) (printed_tokens c)
 command_reads (CreateUser name) p f = ends_reads (ends_between (codes "create user ") (Word (codes "create") ∷ Word (codes "user") ∷ []) refl refl) (text_reads name p.parts)
+command_reads (DropUser name) p f = ends_reads (ends_between (codes "drop user ") (Word (codes "drop") ∷ Word (codes "user") ∷ []) refl refl) (text_reads name p.parts)
 command_reads (CreateRelation name cols key) p f =
     ends_reads (reads_ends refl
     (ends_reads (reads_ends refl (ends_reads (ends_between (codes "create relation ") (Word (codes "create") ∷ Word (codes "relation") ∷ []) refl refl) (name_reads name p.parts.0)) open_ends)

@@ -12,7 +12,7 @@ use Rattle.bdb_base.specs.Texts.{int_text, kind_text}
 use Rattle.bdb_lex.specs.declared.token.Token.{Token}
 use Rattle.bdb_lex.specs.declared.token.Token.TheVariants.{Word, Text, Num, Comma, Dot, ParenL, ParenR, Eq, Ne, Lt, Le, Gt, Ge}
 use Rattle.bdb_syntax.specs.declared.command.Command.{Command}
-use Rattle.bdb_syntax.specs.declared.command.Command.TheVariants.{CreateUser, CreateRelation, Insert, Delete, Update, Select, Explain, ShowWorld, Why, ShowTables}
+use Rattle.bdb_syntax.specs.declared.command.Command.TheVariants.{CreateUser, DropUser, CreateRelation, Insert, Delete, Update, Select, Explain, ShowWorld, Why, ShowTables}
 use Rattle.bdb_syntax.specs.declared.command.RawCol.{RawCol}
 use Rattle.bdb_syntax.specs.declared.command.RawCond.{RawCond}
 use Rattle.bdb_syntax.specs.declared.command.RawItem.{RawItem}
@@ -100,6 +100,7 @@ key_tokens (Some length) = Word (codes "key") ∷ Num (int_text length) ∷ []
 
 abbrev pub printed_tokens : Command → List Token
 printed_tokens (CreateUser name) = Word (codes "create") ∷ Word (codes "user") ∷ [] ++ Text name ∷ []
+printed_tokens (DropUser name) = Word (codes "drop") ∷ Word (codes "user") ∷ [] ++ Text name ∷ []
 printed_tokens (CreateRelation name cols key) = Word (codes "create") ∷ Word (codes "relation") ∷ [] ++ Word name ∷ [] ++ ParenL ∷ [] ++ parted Comma (map column_tokens cols) ++ ParenR ∷ [] ++ key_tokens key
 printed_tokens (Insert users sign rel vals) = Word (codes "insert") ∷ Word (codes "into") ∷ [] ++ signed_tokens users sign rel vals
 printed_tokens (Delete users sign rel conds) = Word (codes "delete") ∷ Word (codes "from") ∷ [] ++ target_tokens users sign rel ++ where_tokens conds

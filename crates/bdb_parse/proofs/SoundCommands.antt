@@ -18,7 +18,7 @@ use Rattle.bdb_parse.specs.declared.target.Target.{Target}
 use Rattle.bdb_parse.specs.Numbers.{number_of}
 use Rattle.bdb_parse.specs.Stops.{cut}
 use Rattle.bdb_parse.specs.Grammar.{◌▸◌, IsNothing, IsToken, IsKeyword, IsName, IsKey, IsLiteral, AreSeparated, AreRepeated, IsBelief, IsColumn, IsBareCol, IsFullCol, AreConds, IsSet, IsItem, IsTarget, IsSigned, IsQuery, IsCommand}
-use Rattle.bdb_parse.specs.Reading.{end_at, word_at, text_at, keyword_at, name_at, literal_of, set_of, col_of, test_of, cond_of, list_of, conds_of, inside_at, inside_of, key_of, target_at, column_of, item_of, create_user_of, create_relation_of, create_of, signed_of, insert_of, delete_of, update_of, query_of, explain_of, show_world_of, show_of, why_of, command_after, command_by, command_of, beliefs_at}
+use Rattle.bdb_parse.specs.Reading.{end_at, word_at, text_at, keyword_at, name_at, literal_of, set_of, col_of, test_of, cond_of, list_of, conds_of, inside_at, inside_of, key_of, target_at, column_of, item_of, create_user_of, create_relation_of, create_of, signed_of, insert_of, delete_of, update_of, query_of, explain_of, show_world_of, show_of, why_of, drop_of, command_after, command_by, command_of, beliefs_at}
 use Rattle.bdb_parse.proofs.FilledLemmas.{Each, each_behind, each_map, each_at}
 use Rattle.bdb_parse.proofs.Sound.{end_is, word_is, text_is, keyword_is, keyword_then, word_then, name_then, beliefs_then, target_then, cut_then, comma_is, from_is, list_sound}
 use Rattle.bdb_parse.proofs.SoundParts.{literal_sound, column_sound, set_sound, test_sound, cond_sound, full_sound, item_sound, parens_then, inside_then, key_sound, conds_then}
@@ -186,6 +186,16 @@ why_sound whole w ts e k =
     each_behind P (signed_of number_of ts) _ (λ signed f.
     first_then (codes "why") (IsSigned signed.0.users signed.0.sign signed.0.rel signed.1) whole w ts e k (signed_is ts signed f))
 
+drop_sound : (whole : List Token) (w : List ℕ) (ts : List Token) → whole ≡ Word w ∷ ts → is_keyword (codes "drop") w ≡ true → Each (IsCommand whole) (drop_of ts)
+unfolding drop_of
+drop_sound whole w ts e k =
+    let P : Command → Type 0 = IsCommand whole in
+    each_behind P (keyword_at (codes "user") ts) _ (λ rest f.
+    each_behind P (text_at rest) _ (λ name g. each_behind P (end_at name.1) _ (λ after i.
+    first_then (codes "drop") (IsKeyword (codes "user") ▸ IsToken (Text name.0)) whole w ts e k
+    (keyword_then (codes "user") (IsToken (Text name.0)) ts rest f
+    (text_is rest name g ∙ ap (λ (r : List Token). Text name.0 ∷ r) (end_is name.1 after i))))))
+
 after_command : (whole : List Token) (w : List ℕ) (ts : List Token) → whole ≡ Word w ∷ ts → Each (IsCommand whole) (command_after number_of w ts)
 unfolding command_after
 after_command whole w ts e =
@@ -197,7 +207,8 @@ after_command whole w ts e =
     (each_if P (is_keyword (codes "select") w) _ _ (λ k. each_map P Select (query_of number_of ts) (λ q f. each_at (λ (x : RawQuery). IsQuery x whole) _ q (query_sound whole w ts e k) f))
     (each_if P (is_keyword (codes "explain") w) _ _ (explain_sound whole w ts e)
     (each_if P (is_keyword (codes "show") w) _ _ (show_sound whole w ts e)
-    (each_if P (is_keyword (codes "why") w) _ _ (why_sound whole w ts e) tt)))))))
+    (each_if P (is_keyword (codes "why") w) _ _ (why_sound whole w ts e)
+    (each_if P (is_keyword (codes "drop") w) _ _ (drop_sound whole w ts e) tt))))))))
 
 pub command_sound : (ts : List Token) (c : Command) → command_of ts ≡ Some c → IsCommand ts c
 unfolding command_of command_by

@@ -14,14 +14,14 @@ use Rattle.bdb_syntax.specs.declared.command.RawItem.{RawItem}
 use Rattle.bdb_syntax.specs.declared.command.RawSet.{RawSet}
 use Rattle.bdb_syntax.specs.declared.command.RawQuery.{RawQuery}
 use Rattle.bdb_syntax.specs.declared.command.Command.{Command}
-use Rattle.bdb_syntax.specs.declared.command.Command.TheVariants.{CreateUser, CreateRelation, Insert, Delete, Update, Select, Explain, ShowWorld, Why, ShowTables}
+use Rattle.bdb_syntax.specs.declared.command.Command.TheVariants.{CreateUser, DropUser, CreateRelation, Insert, Delete, Update, Select, Explain, ShowWorld, Why, ShowTables}
 use Rattle.bdb_syntax.specs.Keywords.{is_keyword}
 use Rattle.bdb_parse.specs.declared.stop.Stop.TheVariants as stops
 use Rattle.bdb_parse.specs.declared.target.Target.{Target}
 use Rattle.bdb_parse.specs.Numbers.{number_of}
 use Rattle.bdb_parse.specs.Stops.{cut}
 use Rattle.bdb_parse.specs.Grammar.{◌▸◌, IsToken, IsKeyword, IsName, IsKey, IsLiteral, AreSeparated, AreRepeated, IsBelief, IsColumn, IsBareCol, IsFullCol, AreConds, IsSet, IsItem, IsTarget, IsSigned, IsQuery, IsCommand}
-use Rattle.bdb_parse.specs.Reading.{◌>>=◌, end_at, word_at, text_at, keyword_at, name_at, literal_of, set_of, col_of, test_of, cond_of, list_of, conds_of, inside_at, inside_of, key_of, target_at, column_of, item_of, create_user_of, create_relation_of, create_of, signed_of, insert_of, delete_of, update_of, query_of, explain_of, show_world_of, show_of, why_of, command_after, command_by, command_of, beliefs_at}
+use Rattle.bdb_parse.specs.Reading.{◌>>=◌, end_at, word_at, text_at, keyword_at, name_at, literal_of, set_of, col_of, test_of, cond_of, list_of, conds_of, inside_at, inside_of, key_of, target_at, column_of, item_of, create_user_of, create_relation_of, create_of, signed_of, insert_of, delete_of, update_of, query_of, explain_of, show_world_of, show_of, why_of, drop_of, command_after, command_by, command_of, beliefs_at}
 use Rattle.bdb_parse.proofs.Takes.{head_is, word_takes, keyword_takes, name_takes, other_keyword, cut_at, separated_free, list_takes, comma_stops, comma_free}
 use Rattle.bdb_parse.specs.Laws.{CommandsAreRead}
 use Rattle.bdb_parse.proofs.SoundCommands.{command_sound}
@@ -180,6 +180,13 @@ unfolding why_of
 why_takes users sign rel vals ts h =
     then_some (signed_of number_of ts) (record { users = users; sign = sign; rel = rel }, vals) _ (Why users sign rel vals) (signed_takes users sign rel vals ts h) refl
 
+drop_user_takes : (name : List ℕ) (ts : List Token) → (IsKeyword (codes "user") ▸ IsToken (Text name)) ts → drop_of ts ≡ Some (DropUser name)
+unfolding drop_of
+drop_user_takes name ts h =
+    let c = DropUser name in
+    then_some (keyword_at (codes "user") ts) h.1 _ c (keyword_takes (codes "user") (IsToken (Text name)) ts h)
+    (then_some (text_at h.1) (name, []) _ c (ap text_at h.4) refl)
+
 -- a first word decides which command follows
 first_takes : (keyword : List ℕ) (Q : List Token → Type 0) (ts : List Token) (c : Command) → (h : (IsKeyword keyword ▸ Q) ts) → command_after number_of h.3.0 h.1 ≡ Some c → command_of ts ≡ Some c
 unfolding command_of command_by
@@ -253,10 +260,26 @@ why_after w ts c k e =
     (passes (is_keyword (codes "show") w) _ _ c (other_keyword (codes "why") (codes "show") w k refl)
     (picks (is_keyword (codes "why") w) _ _ c k e)))))))
 
+drop_after : (w : List ℕ) (ts : List Token) (c : Command) → is_keyword (codes "drop") w ≡ true → drop_of ts ≡ Some c → command_after number_of w ts ≡ Some c
+unfolding command_after
+drop_after w ts c k e =
+    passes (is_keyword (codes "create") w) _ _ c (other_keyword (codes "drop") (codes "create") w k refl)
+    (passes (is_keyword (codes "insert") w) _ _ c (other_keyword (codes "drop") (codes "insert") w k refl)
+    (passes (is_keyword (codes "delete") w) _ _ c (other_keyword (codes "drop") (codes "delete") w k refl)
+    (passes (is_keyword (codes "update") w) _ _ c (other_keyword (codes "drop") (codes "update") w k refl)
+    (passes (is_keyword (codes "select") w) _ _ c (other_keyword (codes "drop") (codes "select") w k refl)
+    (passes (is_keyword (codes "explain") w) _ _ c (other_keyword (codes "drop") (codes "explain") w k refl)
+    (passes (is_keyword (codes "show") w) _ _ c (other_keyword (codes "drop") (codes "show") w k refl)
+    (passes (is_keyword (codes "why") w) _ _ c (other_keyword (codes "drop") (codes "why") w k refl)
+    (picks (is_keyword (codes "drop") w) _ _ c k e))))))))
+
 pub command_takes : (c : Command) (ts : List Token) → IsCommand ts c → command_of ts ≡ Some c
 command_takes (CreateUser name) ts h =
     first_takes (codes "create") (IsKeyword (codes "user") ▸ IsToken (Text name)) ts (CreateUser name) h
     (create_after h.3.0 h.1 (CreateUser name) h.3.2 (create_user_takes name h.1 h.4))
+command_takes (DropUser name) ts h =
+    first_takes (codes "drop") (IsKeyword (codes "user") ▸ IsToken (Text name)) ts (DropUser name) h
+    (drop_after h.3.0 h.1 (DropUser name) h.3.2 (drop_user_takes name h.1 h.4))
 command_takes (CreateRelation name cols key) ts h =
     first_takes (codes "create") (IsKeyword (codes "relation") ▸ IsName name ▸ IsToken ParenL ▸ AreSeparated IsColumn (IsToken Comma) cols ▸ IsToken ParenR ▸ IsKey key) ts
     (CreateRelation name cols key) h

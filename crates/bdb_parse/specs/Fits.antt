@@ -9,7 +9,7 @@ use Rattle.bdb_syntax.specs.declared.command.RawCond.{RawCond}
 use Rattle.bdb_syntax.specs.declared.command.RawSet.{RawSet}
 use Rattle.bdb_syntax.specs.declared.command.RawQuery.{RawQuery}
 use Rattle.bdb_syntax.specs.declared.command.Command.{Command}
-use Rattle.bdb_syntax.specs.declared.command.Command.TheVariants.{CreateUser, CreateRelation, Insert, Delete, Update, Select, Explain, ShowWorld, Why, ShowTables}
+use Rattle.bdb_syntax.specs.declared.command.Command.TheVariants.{CreateUser, DropUser, CreateRelation, Insert, Delete, Update, Select, Explain, ShowWorld, Why, ShowTables}
 use Rattle.bdb_parse.specs.Numbers.{is_i64}
 
 -- a value is a text or in i64
@@ -42,6 +42,7 @@ key_fits (Some length) = is_i64 length
 -- each literal is in i64, and so is the length of a key
 abbrev pub fits : Command → Bool
 fits (CreateUser name) = true
+fits (DropUser name) = true
 fits (CreateRelation name cols key) = key_fits key
 fits (Insert users sign rel vals) = list_all value_fits vals
 fits (Delete users sign rel conds) = list_all cond_fits conds

@@ -21,7 +21,7 @@ use Rattle.bdb_syntax.specs.declared.command.RawItem.{RawItem}
 use Rattle.bdb_syntax.specs.declared.command.RawSet.{RawSet}
 use Rattle.bdb_syntax.specs.declared.command.RawQuery.{RawQuery}
 use Rattle.bdb_syntax.specs.declared.command.Command.{Command}
-use Rattle.bdb_syntax.specs.declared.command.Command.TheVariants.{CreateUser, CreateRelation, Insert, Delete, Update, Select, Explain, ShowWorld, Why, ShowTables}
+use Rattle.bdb_syntax.specs.declared.command.Command.TheVariants.{CreateUser, DropUser, CreateRelation, Insert, Delete, Update, Select, Explain, ShowWorld, Why, ShowTables}
 use Rattle.bdb_syntax.specs.Keywords.{is_keyword, is_reserved}
 use Rattle.bdb_parse.specs.Numbers.{number_of}
 
@@ -163,6 +163,8 @@ IsQuery q =
 abbrev pub IsCommand : List Token → Command → Type 0
 IsCommand ts (CreateUser name) =
     (IsKeyword (codes "create") ▸ IsKeyword (codes "user") ▸ IsToken (Text name)) ts
+IsCommand ts (DropUser name) =
+    (IsKeyword (codes "drop") ▸ IsKeyword (codes "user") ▸ IsToken (Text name)) ts
 IsCommand ts (CreateRelation name cols key) =
     (IsKeyword (codes "create") ▸ IsKeyword (codes "relation") ▸ IsName name
     ▸ IsToken ParenL ▸ AreSeparated IsColumn (IsToken Comma) cols ▸ IsToken ParenR ▸ IsKey key) ts

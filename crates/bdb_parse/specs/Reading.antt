@@ -22,7 +22,7 @@ use Rattle.bdb_syntax.specs.declared.command.RawItem.{RawItem}
 use Rattle.bdb_syntax.specs.declared.command.RawSet.{RawSet}
 use Rattle.bdb_syntax.specs.declared.command.RawQuery.{RawQuery}
 use Rattle.bdb_syntax.specs.declared.command.Command.{Command}
-use Rattle.bdb_syntax.specs.declared.command.Command.TheVariants.{CreateUser, CreateRelation, Insert, Delete, Update, Select, Explain, ShowWorld, Why, ShowTables}
+use Rattle.bdb_syntax.specs.declared.command.Command.TheVariants.{CreateUser, DropUser, CreateRelation, Insert, Delete, Update, Select, Explain, ShowWorld, Why, ShowTables}
 use Rattle.bdb_parse.specs.declared.stop.Stop.{Stop}
 use Rattle.bdb_parse.specs.declared.stop.Stop.TheVariants as stops
 use Rattle.bdb_parse.specs.declared.target.Target.{Target}
@@ -365,6 +365,14 @@ why_of number ts = do
   signed ← signed_of number ts
   Some (Why signed.0.users signed.0.sign signed.0.rel signed.1)
 
+-- what follows 'drop'
+unfoldable pub drop_of : List Token → Option Command
+drop_of ts = do
+  rest ← keyword_at (codes "user") ts
+  name ← text_at rest
+  _ ← end_at name.1
+  Some (DropUser name.0)
+
 -- the command that a first word begins
 unfoldable pub command_after : (List ℕ → Option ℤ) → List ℕ → List Token → Option Command
 command_after number word ts =
@@ -375,7 +383,8 @@ command_after number word ts =
     else (if is_keyword (codes "select") word then option_map Select (query_of number ts)
     else (if is_keyword (codes "explain") word then explain_of number ts
     else (if is_keyword (codes "show") word then show_of ts
-    else (if is_keyword (codes "why") word then why_of number ts else None)))))))
+    else (if is_keyword (codes "why") word then why_of number ts
+    else (if is_keyword (codes "drop") word then drop_of ts else None))))))))
 
 -- the command of these tokens, where number reads the spelling of a number
 unfoldable pub command_by : (List ℕ → Option ℤ) → List Token → Option Command

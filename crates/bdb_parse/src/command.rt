@@ -7,6 +7,7 @@ use crate::change::{delete, insert, update};
 use crate::create::create;
 use crate::error::ParseError;
 use crate::keywords::is_keyword;
+use crate::leave::drop_user;
 use crate::query::{explain, select};
 use crate::show::show;
 use crate::tokens::word;
@@ -45,6 +46,9 @@ pub fn command(alloc: Global, wide: Wide, tokens: &[Token<'_>]) -> Result<Comman
     }
     if is_keyword("why", word) {
         return why(alloc, wide, rest);
+    }
+    if is_keyword("drop", word) {
+        return drop_user(alloc, rest);
     }
     Err(ParseError::Syntax)
 }

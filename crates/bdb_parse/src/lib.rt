@@ -14,6 +14,7 @@ mod item;
 mod key;
 mod keywords;
 mod laws;
+mod leave;
 mod list;
 mod literal;
 mod number;

@@ -2,7 +2,7 @@
 use Rattle.std.specs.Prelude.{Bool, true, false, ◌&&◌, ◌≡◌, List, [], ◌∷◌}
 use Rattle.bdb_syntax.specs.declared.command.RawQuery.{RawQuery}
 use Rattle.bdb_syntax.specs.declared.command.Command.{Command}
-use Rattle.bdb_syntax.specs.declared.command.Command.TheVariants.{CreateUser, CreateRelation, Insert, Delete, Update, Select, Explain, ShowWorld, Why, ShowTables}
+use Rattle.bdb_syntax.specs.declared.command.Command.TheVariants.{CreateUser, DropUser, CreateRelation, Insert, Delete, Update, Select, Explain, ShowWorld, Why, ShowTables}
 
 -- a list has an item
 abbrev pub is_filled : {X : Type 0} → List X → Bool
@@ -16,6 +16,7 @@ query_filled q = is_filled q.take && is_filled q.items
 -- the lists of a command that the grammar wants filled are filled
 abbrev pub command_filled : Command → Bool
 command_filled (CreateUser name) = true
+command_filled (DropUser name) = true
 command_filled (CreateRelation name cols key) = is_filled cols
 command_filled (Insert users sign rel vals) = is_filled vals
 command_filled (Delete users sign rel conds) = true

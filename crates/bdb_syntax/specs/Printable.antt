@@ -17,7 +17,7 @@ use Rattle.bdb_syntax.specs.declared.command.RawItem.{RawItem}
 use Rattle.bdb_syntax.specs.declared.command.RawSet.{RawSet}
 use Rattle.bdb_syntax.specs.declared.command.RawQuery.{RawQuery}
 use Rattle.bdb_syntax.specs.declared.command.Command.{Command}
-use Rattle.bdb_syntax.specs.declared.command.Command.TheVariants.{CreateUser, CreateRelation, Insert, Delete, Update, Select, Explain, ShowWorld, Why, ShowTables}
+use Rattle.bdb_syntax.specs.declared.command.Command.TheVariants.{CreateUser, DropUser, CreateRelation, Insert, Delete, Update, Select, Explain, ShowWorld, Why, ShowTables}
 use Rattle.bdb_syntax.specs.Keywords.{is_reserved}
 use Rattle.bdb_syntax.specs.Filled.{IsFilled}
 
@@ -88,6 +88,7 @@ IsPrintableSigned users rel vals = AllByRecursion IsContent users × IsName rel 
 -- the names, the texts and the columns of a command are as the grammar wants them
 abbrev pub HasPrintableParts : Command → Type 0
 HasPrintableParts (CreateUser name) = IsContent name
+HasPrintableParts (DropUser name) = IsContent name
 HasPrintableParts (CreateRelation name cols key) = IsName name × AllByRecursion (λ (c : ColDef). IsName c.name) cols
 HasPrintableParts (Insert users sign rel vals) = IsPrintableSigned users rel vals
 HasPrintableParts (Delete users sign rel conds) = AllByRecursion IsContent users × IsName rel × AllByRecursion (IsPrintableCond IsBareCol) conds

@@ -9,7 +9,7 @@ use Rattle.bdb_base.specs.declared.kinds.Sign.TheVariants.{Plus, Minus}
 use Rattle.bdb_base.specs.declared.kinds.Value.{Value}
 use Rattle.bdb_base.specs.Texts.{cmp_text, column_text, dotted, int_text, joined, quoted, separated, value_text}
 use Rattle.bdb_syntax.specs.declared.command.Command.{Command}
-use Rattle.bdb_syntax.specs.declared.command.Command.TheVariants.{CreateUser, CreateRelation, Insert, Delete, Update, Select, Explain, ShowWorld, Why, ShowTables}
+use Rattle.bdb_syntax.specs.declared.command.Command.TheVariants.{CreateUser, DropUser, CreateRelation, Insert, Delete, Update, Select, Explain, ShowWorld, Why, ShowTables}
 use Rattle.bdb_syntax.specs.declared.command.RawCol.{RawCol}
 use Rattle.bdb_syntax.specs.declared.command.RawCond.{RawCond}
 use Rattle.bdb_syntax.specs.declared.command.RawItem.{RawItem}
@@ -89,6 +89,7 @@ key_text (Some length) = codes " key " ++ int_text length
 -- the printed form of a command, without a semicolon
 abbrev pub printed : Command → List ℕ
 printed (CreateUser name) = codes "create user " ++ quoted name
+printed (DropUser name) = codes "drop user " ++ quoted name
 printed (CreateRelation name cols key) = columns_text name cols ++ key_text key
 printed (Insert users sign rel vals) = codes "insert into" ++ signed_text users sign rel vals
 printed (Delete users sign rel conds) = codes "delete from" ++ target_text users sign rel ++ where_text conds

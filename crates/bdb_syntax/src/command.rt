@@ -68,6 +68,10 @@ pub enum Command {
     CreateUser {
         name: Txt,
     },
+    /// The user of this name leaves.
+    DropUser {
+        name: Txt,
+    },
     /// A new relation. Its key is its first columns, as many as `key` says, and one where it says nothing.
     CreateRelation {
         name: Txt,
@@ -195,6 +199,9 @@ impl Exact for Command {
     fn try_clone(&self, alloc: Global) -> Result<Self, AllocError> {
         match self {
             Command::CreateUser { name } => Ok(Command::CreateUser {
+                name: name.try_clone(alloc)?,
+            }),
+            Command::DropUser { name } => Ok(Command::DropUser {
                 name: name.try_clone(alloc)?,
             }),
             Command::CreateRelation { name, cols, key } => Ok(Command::CreateRelation {

@@ -26,6 +26,7 @@ fn append_command(out: &mut Vec<u8>, command: &Command) -> Result<(), AllocError
 {
     match command {
         Command::CreateUser { name } => append_create_user(out, name),
+        Command::DropUser { name } => append_drop_user(out, name),
         Command::CreateRelation { name, cols, key } => {
             append_create_relation(out, name, cols, *key)
         }
@@ -65,6 +66,13 @@ fn append_create_user(out: &mut Vec<u8>, name: &Txt) -> Result<(), AllocError>
     ensures { OnOk result (out.new.items ≡ out.old.items ++ printed (Command.CreateUser name.now)) }
 {
     out.extend_from_slice(b"create user ")?;
+    append_quoted(out, name.as_bytes())
+}
+
+fn append_drop_user(out: &mut Vec<u8>, name: &Txt) -> Result<(), AllocError>
+    ensures { OnOk result (out.new.items ≡ out.old.items ++ printed (Command.DropUser name.now)) }
+{
+    out.extend_from_slice(b"drop user ")?;
     append_quoted(out, name.as_bytes())
 }
 

@@ -1,8 +1,7 @@
 use Rattle.std.proofs.Common.{◌≡◌, ◌+◌, drop}
 use Rattle.std.specs.List.{position_from}
-use Rattle.bdb_base.specs.Same.{same_text}
-use Rattle.bdb_bind.specs.Lookup.{uid_of}
+use Rattle.bdb_bind.specs.Lookup.{is_called, uid_of}
 use Rattle.bdb_bind.proofs.lookup.uid_of.Given as goal
 
 abbrev pub invariant-loop-at : goal.invariant-loop-at
-invariant-loop-at l = uid_of l.users l.name ≡ position_from (λ x. same_text x l.name) (l.at + 1) (drop l.at l.users)
+invariant-loop-at l = uid_of l.users l.name ≡ position_from (is_called l.name) (l.at + 1) (drop l.at l.users)
