@@ -1,11 +1,10 @@
 -- The two rows that store the empty base.
-use Rattle.std.proofs.Common.{◌≡◌, ℕ, suc, ◌<◌, ◌^◌, true, false, not, ◌&&◌, ◌||◌, nat_eq, cond, List, [], ◌∷◌, length, Option, Some, None, is_some, refl, ap, sym, ◌∙◌, arith, lit<}
+use Rattle.std.proofs.Common.{◌≡◌, ℕ, suc, ◌<◌, ◌^◌, true, false, not, ◌&&◌, ◌||◌, nat_eq, nat_lt, cond, List, [], ◌∷◌, length, Option, Some, None, is_some, refl, ap, sym, ◌∙◌, arith, lit<}
 use Prim.Native.Nat.{zero}
 use Rattle.std.specs.List.{slice_get, list_all}
 use Rattle.std.specs.Ordering.{is_eq, nat_cmp}
 use Rattle.std.specs.FinMap as tables
-use Rattle.std.proofs.lemmas.Bool.{false≢true, false_from_ne_true, eqb-true, cond-false}
-use Rattle.std.proofs.lemmas.Bool.Decides.{nat_tests}
+use Rattle.std.proofs.lemmas.Bool.{and_right, false≢true, false_from_ne_true, eqb-true, cond-false}
 use Rattle.bdb_base.specs.Alternation.{alternates}
 use Rattle.bdb_base.specs.Bases.{is_user, key_lengths}
 use Rattle.bdb_base.specs.declared.kinds.RelDef.{RelDef}
@@ -19,9 +18,9 @@ use Rattle.bdb_tables.specs.InUseLaws.{numbers_in_order}
 use Rattle.bdb_tables.specs.Names.{Names, AreNames, number_of, is_named, is_listed, leads_to, depth_of, link_of, edge_of}
 use Rattle.bdb_tables.specs.Rows.{Tuples, row_for, row_named}
 use Rattle.bdb_tables.specs.States.{TablesAre, row_where}
-use Rattle.bdb_tables.specs.Stored.{name_of}
+use Rattle.bdb_tables.specs.Stored.{slot_of}
 use Rattle.bdb_tables.specs.Writes.{Gives, with_change, with_row_at}
-use Rattle.bdb_tables.proofs.CatalogLemmas.{no_rows, empty_gives, no_names}
+use Rattle.bdb_tables.proofs.CatalogLemmas.{no_rows, empty_gives, no_slots}
 use Rattle.bdb_tables.proofs.SameLemmas.{outside_one, change_same}
 use Rattle.bdb_tables.proofs.WriteLemmas.{change_gives, change_elsewhere, gives_same}
 use Rattle.bdb_update.specs.StoredLaws.{TwoRowsStoreEmpty}
@@ -99,7 +98,7 @@ root_are_names = record {
 }
 
 no_user : (i : ℕ) → is_user [] i ≡ false
-no_user i = grind (arith, nat_tests)
+no_user i = and_right (nat_lt 0 i) false refl
 
 -- ---- the rows of states
 
@@ -153,7 +152,7 @@ two_rows_store_empty = record {
     format = change_elsewhere meta_codec depth_codec (λ e. cc) format_put (λ _. Some 3) (0, Some 0)
         (gives_same meta_codec format_put (with_row_at meta_codec (λ _. None) (tt, Some 3)) (λ _. Some 3) (λ k f. refl)
         (change_gives meta_codec (λ a b fa fb. refl) tables.empty (λ _. None) (tt, Some 3) (record { key = tt; row = lit< tt }) (empty_gives meta_codec)));
-    users = gives_same user_codec two_rows (λ _. None) (name_of []) (λ k f. no_names k) (nothing_else user_codec (λ e. cc) (λ e. cc));
+    users = gives_same user_codec two_rows (λ _. None) (slot_of []) (λ k f. no_slots k) (nothing_else user_codec (λ e. cc) (λ e. cc));
     rels = gives_same rel_codec two_rows (λ _. None) (slice_get no_rel) (λ k f. refl) (nothing_else rel_codec (λ e. cc) (λ e. cc));
     tuples = record {
       tuples = nothing_else tuple_codec (λ e. cc) (λ e. cc);

@@ -44,7 +44,7 @@ pub record Belongs (c : Catalog) (x : Stmt) : Type 0 where
 
 pub belongs_parts : (c : Catalog) (x : Stmt) → belongs c x ≡ true → Belongs c x
 belongs_parts c x h =
-    let k = and_parts (alternates x.path && nat_le (length x.path) 16 && list_all (is_user c.users) x.path) (fits_relation c.rels x.tuple) h in
-    let l = and_parts (alternates x.path && nat_le (length x.path) 16) (list_all (is_user c.users) x.path) k.0 in
-    let m = and_parts (alternates x.path) (nat_le (length x.path) 16) l.0 in
-    record { apart = m.0; short = leb-true (length x.path) 16 m.1; users = l.1; tuple = k.1 }
+    let k = and_parts (alternates x.path && nat_le (length x.path) deepest_statement && list_all (is_user c.users) x.path) (fits_relation c.rels x.tuple) h in
+    let l = and_parts (alternates x.path && nat_le (length x.path) deepest_statement) (list_all (is_user c.users) x.path) k.0 in
+    let m = and_parts (alternates x.path) (nat_le (length x.path) deepest_statement) l.0 in
+    record { apart = m.0; short = leb-true (length x.path) deepest_statement m.1; users = l.1; tuple = k.1 }

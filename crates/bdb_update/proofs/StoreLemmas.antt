@@ -1,31 +1,38 @@
 -- Rows of the catalog put into tables that store a base.
-use Rattle.std.proofs.Common.{◌≡◌, ℕ, Bool, true, false, not, ◌&&◌, ◌||◌, nat_eq, List, [], ◌∷◌, ◌++◌, take, Option, Some, None, is_some, cond, suc, zero, inl, inr, refl, ap, sym, ◌∙◌}
+use Rattle.std.proofs.Common.{◌≡◌, ℕ, ◌-◌, Bool, true, false, not, ◌&&◌, ◌||◌, nat_eq, nat_lt, List, [], ◌∷◌, ◌++◌, take, slice_set, Option, Some, None, is_some, cond, suc, zero, inl, inr, refl, ap, sym, ◌∙◌}
 use Rattle.std.specs.List.{list_all, list_any, slice_get}
+use Rattle.std.specs.Option.{option_and_then}
 use Rattle.std.proofs.lemmas.Bool.{and_parts, or_cases, or_from, false≢true}
-use Rattle.bdb_base.specs.Bases.{belongs, fits_definition, key_at, key_lengths}
+use Rattle.bdb_base.specs.Bases.{Contents, belongs, fits_definition, is_user, key_at, key_lengths, name_at}
 use Rattle.bdb_base.specs.Clash.{clash}
 use Rattle.bdb_base.specs.Same.{same_path, same_tuple, same_values}
 use Rattle.bdb_base.specs.SameLemmas.{same_tuple-Decides}
+use Rattle.bdb_base.specs.Segments.{is_suffix}
+use Rattle.bdb_base.specs.States.{edge_target}
 use Rattle.bdb_base.specs.Worlds.{contradicted, explicit, stated}
 use Rattle.bdb_base.specs.declared.kinds.Catalog.{Catalog}
 use Rattle.bdb_base.specs.declared.kinds.RelDef.{RelDef}
 use Rattle.bdb_base.specs.declared.kinds.Sign.{Sign}
 use Rattle.bdb_base.specs.declared.kinds.Sign.TheVariants.{Plus, Minus}
 use Rattle.bdb_base.specs.declared.kinds.Stmt.{Stmt}
+use Rattle.bdb_base.specs.declared.kinds.UserSlot.{UserSlot}
+use Rattle.bdb_base.specs.declared.kinds.UserSlot.TheVariants.{Live, Gone}
 use Rattle.bdb_base.specs.declared.kinds.Value.{Value}
 use Rattle.bdb_base.specs.declared.tuple.Tuple.{Tuple}
 use Rattle.bdb_base.proofs.ClashLemmas.{clash_by_length}
 use Rattle.bdb_keep.specs.Tables.{Tables}
+use Rattle.bdb_names.proofs.TurnedLemmas.{tables_same}
 use Rattle.bdb_tables.specs.InUse.{ValKey, meta_codec, user_codec, rel_codec, val_codec, plain_codec}
 use Rattle.bdb_tables.specs.Marks.{mark_of, marked, sign_by}
-use Rattle.bdb_tables.specs.Names.{path_of}
+use Rattle.bdb_tables.specs.Names.{Names, path_of, number_of, is_named, depth_of, link_of, edge_of, edge_from}
 use Rattle.bdb_tables.specs.Rows.{HoldsRows, HoldsTuples, Tuples, row_for, row_named}
-use Rattle.bdb_tables.specs.Stored.{is_table, SameBut}
-use Rattle.bdb_tables.specs.Writes.{with_change}
-use Rattle.bdb_tables.proofs.CatalogLemmas.{user_more, relation_more}
+use Rattle.bdb_tables.specs.States.{HoldsStates}
+use Rattle.bdb_tables.specs.Stored.{is_table, slot_of, SameBut, StoredAs}
+use Rattle.bdb_tables.specs.Writes.{Gives, with_change}
+use Rattle.bdb_tables.proofs.CatalogLemmas.{user_more, user_gone, relation_more}
 use Rattle.bdb_tables.proofs.SameLemmas.{outside_one, change_same, gives_still, tuples_still, states_still}
 use Rattle.bdb_tables.proofs.WriteLemmas.{gives_same}
-use Rattle.bdb_update.specs.StoredLaws.{is_edges, PutStoresRelation, EdgesStoreUser}
+use Rattle.bdb_update.specs.StoredLaws.{is_edges, PutStoresRelation, EdgesStoreUser, EdgesStoreWithoutUser, GonePlaceStored}
 use Rattle.bdb_update.proofs.StageLemmas.{belongs_parts}
 
 -- ---- worlds by other lengths of keys
@@ -119,15 +126,20 @@ put_stores_relation t b rel def s all e num fits =
 outside_edges : (n : ℕ) → is_table n ≡ false → is_edges n ≡ false
 outside_edges n h = or_from (nat_eq n 9) (nat_eq n 10) (outside_one 9 refl n h) (outside_one 10 refl n h)
 
-pub edges_store_user : EdgesStoreUser
-edges_store_user ns ts t u b uid name h e num fits states same =
-    let x : ℕ × Option (List ℕ) = (uid, Some name) in
+-- a list of users that the tables have once the row of one place is put
+users_put : (ns : Names) (ts : Tuples) (t u : Tables) (b : Contents) (uid : ℕ) (slot : UserSlot) (after : List UserSlot) → StoredAs ns ts t b
+    → Gives user_codec (with_change user_codec t (uid, Some slot)) (slot_of after)
+    → HoldsStates (is_user after) ns u
+    → SameBut is_edges (with_change user_codec t (uid, Some slot)) u
+    → StoredAs ns ts u (record b { catalog = record b.catalog { users = after } })
+users_put ns ts t u b uid slot after h users states same =
+    let x : ℕ × Option UserSlot = (uid, Some slot) in
     let m = with_change user_codec t x in
     let two : ℕ → Bool = λ n. nat_eq n 2 in
     let first : SameBut two t m = change_same user_codec two t x refl in
     record {
       format = gives_still is_edges m u same meta_codec _ refl (gives_still two t m first meta_codec _ refl h.format);
-      users = gives_still is_edges m u same user_codec _ refl (user_more t b.catalog.users uid name e num fits h.users);
+      users = gives_still is_edges m u same user_codec _ refl users;
       rels = gives_still is_edges m u same rel_codec _ refl (gives_still two t m first rel_codec _ refl h.rels);
       tuples = tuples_still is_edges m u same b.stmts ts refl refl (tuples_still two t m first b.stmts ts refl refl h.tuples);
       states = states;
@@ -136,3 +148,53 @@ edges_store_user ns ts t u b uid name h e num fits states same =
       plain = gives_still is_edges m u same plain_codec _ refl (gives_still two t m first plain_codec _ refl h.plain);
       outside = λ n k out. same n k (outside_edges n out) ∙ first n k (outside_one 2 refl n out) ∙ h.outside n k out;
     }
+
+pub edges_store_user : EdgesStoreUser
+edges_store_user ns ts t u b uid name h e num fits states same =
+    users_put ns ts t u b uid (Live name) (b.catalog.users ++ Live name ∷ []) h (user_more t b.catalog.users uid (Live name) e num fits h.users) states same
+
+pub edges_store_without_user : EdgesStoreWithoutUser
+edges_store_without_user ns ts t u b uid h is states same =
+    users_put ns ts t u b uid Gone (slice_set b.catalog.users (uid - 1) Gone) h (user_gone t b.catalog.users uid is (h.states.numbers uid is) h.users) states same
+
+-- ---- a place without a user
+
+-- states over users that are the same
+edges_as : (f g : ℕ → Bool) (ns : Names) → ((i : ℕ) → f i ≡ g i) → (k : ℕ × ℕ) → edge_of f ns k ≡ edge_of g ns k
+edges_as f g ns same k = by (path_of ns k.0)
+  where
+    by : (o : Option (List ℕ)) → option_and_then (edge_from f ns k.1) o ≡ option_and_then (edge_from g ns k.1) o
+    by None = refl
+    by (Some w) = ap (λ b. cond (b && not (is_suffix (k.1 ∷ []) w)) (number_of ns (edge_target (is_named ns) w k.1)) None) (same k.1)
+
+all_as : (f g : ℕ → Bool) → ((i : ℕ) → f i ≡ g i) → (w : List ℕ) → list_all f w ≡ list_all g w
+all_as f g same [] = refl
+all_as f g same (i ∷ w) = ap (λ b. b && list_all f w) (same i) ∙ ap (λ b. g i && b) (all_as f g same w)
+
+pub states_as : (f g : ℕ → Bool) (ns : Names) (t : Tables) → ((i : ℕ) → f i ≡ g i) → HoldsStates f ns t → HoldsStates g ns t
+states_as f g ns t same h = record {
+  names = h.names;
+  numbers = λ i e. h.numbers i (same i ∙ e);
+  own = λ w e. sym (all_as f g same w) ∙ h.own w e;
+  tables = tables_same t (depth_of ns) (link_of ns) (edge_of f ns) (depth_of ns) (link_of ns) (edge_of g ns) (λ k. refl) (λ k. refl) (edges_as f g ns same) h.tables;
+}
+
+no_name_more : (users : List UserSlot) (at : ℕ) → name_at users at ≡ name_at (users ++ Gone ∷ []) at
+no_name_more [] zero = refl
+no_name_more [] (suc at) = refl
+no_name_more (slot ∷ users) zero = refl
+no_name_more (slot ∷ users) (suc at) = no_name_more users at
+
+-- one who is gone at the end is no user
+pub no_user_more : (users : List UserSlot) (i : ℕ) → is_user users i ≡ is_user (users ++ Gone ∷ []) i
+no_user_more users i = ap (λ o. nat_lt 0 i && is_some o) (no_name_more users (i - 1))
+
+pub gone_place_stored : GonePlaceStored
+gone_place_stored ns ts t b uid h e num =
+    let x : ℕ × Option UserSlot = (uid, Some Gone) in
+    let m = with_change user_codec t x in
+    let two : ℕ → Bool = λ n. nat_eq n 2 in
+    let users = b.catalog.users in
+    let still : HoldsStates (is_user users) ns m = states_still two t m (change_same user_codec two t x refl) _ ns refl refl refl refl refl h.states in
+    users_put ns ts t m b uid Gone (users ++ Gone ∷ []) h (user_more t users uid Gone e num tt h.users)
+    (states_as (is_user users) (is_user (users ++ Gone ∷ [])) ns m (no_user_more users) still) (λ n k out. refl)
