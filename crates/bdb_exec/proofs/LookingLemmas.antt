@@ -1,14 +1,17 @@
 -- What single calls read is what the tables show.
-use Rattle.std.proofs.Common.{◌≡◌, ◌∙◌, ℕ, ◌<◌, true, false, List, [], ◌∷◌, Option, Some, None, MatchOption, length, map, refl, ap, sym}
+use Rattle.std.proofs.Common.{◌≡◌, ◌∙◌, ℕ, ◌<◌, true, false, List, [], ◌∷◌, Option, Some, None, MatchOption, length, map, filter_map, drop, refl, ap, sym}
 use Rattle.std.specs.List.{list_all, AllByRecursion}
 use Rattle.std.specs.Option.{option_map}
 use Rattle.std.specs.FinMap as tables
 use Rattle.std.proofs.lemmas.Bool.{and_parts, and_from, false≢true}
+use Rattle.std.proofs.lemmas.List.{length-map}
+use Rattle.bdb_base.specs.declared.kinds.UserSlot.{UserSlot}
+use Rattle.bdb_base.specs.declared.kinds.UserSlot.TheVariants.{Live, Gone}
 use Rattle.bdb_base.specs.declared.kinds.Value.{Value}
 use Rattle.bdb_base.specs.declared.kinds.Value.TheVariants.{Int, Text}
 use Rattle.bdb_base.specs.declared.tuple.Tuple.{Tuple}
 use Rattle.bdb_keep.specs.Tables.{Tables}
-use Rattle.bdb_key.specs.Bytes.{num_bytes}
+use Rattle.bdb_key.specs.Bytes.{num_bytes, text_bytes}
 use Rattle.bdb_key.specs.Grammar.{IsNum, ArePlain, IsWhole, HasPlainText}
 use Rattle.bdb_key.specs.Rows.{IsTupleRow}
 use Rattle.bdb_queries.specs.Slots.{user_tuple}
@@ -19,30 +22,29 @@ use Rattle.bdb_tables.specs.InUseLaws.{number_rows_are_one}
 use Rattle.bdb_tables.specs.Spans.{AreUnder, IsUnder}
 use Rattle.bdb_tables.proofs.Held.{some_same, none_some}
 use Rattle.bdb_exec.specs.Readable.{CanBeRun}
-use Rattle.bdb_exec.specs.Rows.{IsNumberOf, is_written}
+use Rattle.bdb_exec.specs.Rows.{IsNumberOf, is_written, tuple_of_slot}
 use Rattle.bdb_exec.specs.Seen.{user_in, sight_of}
-use Rattle.bdb_exec.specs.Spelled.{number_in}
+use Rattle.bdb_exec.specs.Spelled.{number_in, before_end}
 use Rattle.bdb_exec.proofs.SpelledLemmas.{number_back, name_back}
 use Rattle.bdb_exec.proofs.TypedLemmas.{raw, rows_are}
 use Rattle.bdb_exec.proofs.WorldLemmas.{tuple_named}
 
-users_back : (es : List (ℕ × List ℕ)) → AllByRecursion (IsUnder user_codec []) es → map user_in (map (raw user_codec) es) ≡ map (λ e. user_tuple e.0 e.1) es
+-- what rows of users spell
+users_back : (es : List (ℕ × UserSlot)) → AllByRecursion (IsUnder user_codec []) es → filter_map user_in (map (raw user_codec) es) ≡ filter_map tuple_of_slot es
 users_back [] a = refl
-users_back (e ∷ es) a =
-    ap (λ n. user_tuple n (Rattle.bdb_exec.specs.Spelled.before_end (Rattle.std.specs.Prelude.drop 1 (Rattle.bdb_key.specs.Bytes.text_bytes e.1))) ∷ map user_in (map (raw user_codec) es)) (number_back e.0 a.0.key)
-    ∙ ap (λ x. user_tuple e.0 x ∷ map user_in (map (raw user_codec) es)) (name_back e.1 a.0.row)
-    ∙ ap (λ (x : List Tuple). user_tuple e.0 e.1 ∷ x) (users_back es a.1)
+users_back ((uid, Live name) ∷ es) a =
+    ap (λ n. user_tuple n (before_end (drop 1 (text_bytes name))) ∷ filter_map user_in (map (raw user_codec) es)) (number_back uid a.0.key)
+    ∙ ap (λ x. user_tuple uid x ∷ filter_map user_in (map (raw user_codec) es)) (name_back name a.0.row)
+    ∙ ap (λ (x : List Tuple). user_tuple uid name ∷ x) (users_back es a.1)
+users_back ((uid, Gone) ∷ es) a = users_back es a.1
 
-pub users_are : (t : Tables) (es : List (ℕ × List ℕ)) → AreUnder user_codec t [] es → map (λ e. user_tuple e.0 e.1) es ≡ (sight_of t).users
+pub users_are : (t : Tables) (es : List (ℕ × UserSlot)) → AreUnder user_codec t [] es → filter_map tuple_of_slot es ≡ (sight_of t).users
 unfolding sight_of
-users_are t es u = sym (ap (map user_in) (rows_are user_codec t [] es u) ∙ users_back es u.each)
+users_are t es u = sym (ap (filter_map user_in) (rows_are user_codec t [] es u) ∙ users_back es u.each)
 
-map_length : (es : List (ℕ × List ℕ)) → length (map (λ e. user_tuple e.0 e.1) es) ≡ length es
-map_length [] = refl
-map_length (e ∷ es) = ap (λ n. Prim.Native.Nat.suc n) (map_length es)
-
-pub users_many : (t : Tables) (es : List (ℕ × List ℕ)) → AreUnder user_codec t [] es → length es ≡ length (sight_of t).users
-users_many t es u = sym (map_length es) ∙ ap length (users_are t es u)
+pub places_many : (t : Tables) (es : List (ℕ × UserSlot)) → AreUnder user_codec t [] es → length es ≡ (sight_of t).places
+unfolding sight_of
+places_many t es u = sym (ap length (rows_are user_codec t [] es u) ∙ length-map es (raw user_codec))
 
 -- tables in the grammar fit the table of edges
 pub edge_fits : (t : Tables) → InGrammar t → TableFits edge_codec t

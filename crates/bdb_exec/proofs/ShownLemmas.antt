@@ -1,5 +1,5 @@
 -- Tables that have a base show it.
-use Rattle.std.proofs.Common.{◌≡◌, ◌∙◌, ℕ, zero, suc, ◌+◌, ◌≤◌, ◌<◌, ◌^◌, lit<, Bool, true, false, not, ◌&&◌, ◌||◌, cond, nat_eq, nat_lt, nat_le, List, [], ◌∷◌, ◌++◌, Option, Some, None, MatchOption, is_some, length, map, refl, ap, sym, subst, inl, inr, arith}
+use Rattle.std.proofs.Common.{◌≡◌, ◌∙◌, ℕ, zero, suc, ◌+◌, ◌≤◌, ◌<◌, ◌^◌, lit<, Bool, true, false, not, ◌&&◌, ◌||◌, cond, nat_eq, nat_lt, nat_le, List, [], ◌∷◌, ◌++◌, Option, Some, None, MatchOption, is_some, length, map, filter_map, refl, ap, sym, subst, inl, inr, arith}
 use Rattle.std.specs.List.{list_any, list_all, flat_map, AllByRecursion, slice_get}
 use Rattle.std.specs.Option.{option_map, unwrap_or, option_and_then}
 use Rattle.std.specs.Ordering.{is_lt, is_eq, eq_by_cmp, nat_cmp}
@@ -9,9 +9,9 @@ use Rattle.std.proofs.lemmas.Bool.{and_parts, and_from, or_right, or_cases, cond
 use Rattle.std.proofs.lemmas.Bool.Decides.{nat_tests}
 use Rattle.std.proofs.Math.Path.{fun_ext}
 use Rattle.bdb_base.specs.Alternation.{alternates}
-use Rattle.bdb_base.specs.Bases.{Contents, IsValid, belongs, fits_columns, fits_definition, fits_kind, fits_relation, is_user, key_at, key_lengths}
+use Rattle.bdb_base.specs.Bases.{Contents, IsValid, belongs, fits_columns, fits_definition, fits_kind, fits_relation, is_plain, is_user, key_at, key_lengths, user_names}
 use Rattle.bdb_base.specs.Clash.{key_of}
-use Rattle.bdb_base.specs.Limits.{deepest_statement}
+use Rattle.bdb_base.specs.Limits.{deepest_statement, most_users}
 use Rattle.bdb_base.specs.Queries.{columns_at}
 use Rattle.bdb_base.specs.Same.{same_tuple, same_sign, same_values, same_path}
 use Rattle.bdb_base.specs.SameLemmas.{same_tuple-Decides, same_sign-Decides, same_values-Decides}
@@ -25,14 +25,16 @@ use Rattle.bdb_base.specs.declared.kinds.RelDef.{RelDef}
 use Rattle.bdb_base.specs.declared.kinds.Sign.{Sign}
 use Rattle.bdb_base.specs.declared.kinds.Sign.TheVariants.{Plus, Minus}
 use Rattle.bdb_base.specs.declared.kinds.Stmt.{Stmt}
+use Rattle.bdb_base.specs.declared.kinds.UserSlot.{UserSlot}
+use Rattle.bdb_base.specs.declared.kinds.UserSlot.TheVariants.{Live, Gone}
 use Rattle.bdb_base.specs.declared.kinds.Value.{Value}
 use Rattle.bdb_base.specs.declared.tuple.Tuple.{Tuple}
 use Rattle.bdb_base.proofs.WorldLemmas.{worlds_are_consistent, valid_is_consistent, list_any_weaker}
 use Rattle.bdb_paths.proofs.SuffixLemmas.{deepest_same, deepest_is_member}
 use Rattle.bdb_keep.specs.Tables.{Tables, bytes_cmp}
-use Rattle.bdb_key.specs.Bytes.{num_bytes, text_bytes, vals_bytes}
-use Rattle.bdb_key.specs.Grammar.{IsNum, IsPlain}
-use Rattle.bdb_key.specs.Rows.{IsRelRow, IsTupleRow, mark_bytes, rel_bytes}
+use Rattle.bdb_key.specs.Bytes.{num_bytes, vals_bytes}
+use Rattle.bdb_key.specs.Grammar.{IsNum}
+use Rattle.bdb_key.specs.Rows.{IsRelRow, IsTupleRow, IsUserRow, mark_bytes, rel_bytes, slot_bytes}
 use Rattle.bdb_queries.specs.Slots.{user_tuple, user_tuples}
 use Rattle.bdb_plan.specs.Sight.{has_signed}
 use Rattle.bdb_tables.specs.Codec.{place}
@@ -45,7 +47,7 @@ use Rattle.bdb_tables.specs.Spans.{AreUnder, IsUnder, entry_bytes, entry_cmp}
 use Rattle.bdb_tables.proofs.Held.{same_place, some_same, none_some}
 use Rattle.bdb_exec.specs.Based.{HaveBase, ShowBase, TablesShowBase, world_number}
 use Rattle.bdb_exec.specs.Readable.{CanBeRun}
-use Rattle.bdb_exec.specs.Rows.{signed_of, world_prefix}
+use Rattle.bdb_exec.specs.Rows.{signed_of, tuple_of_slot, world_prefix}
 use Rattle.bdb_exec.specs.Seen.{length_in, rows_at, signed_under, sight_of, width_in}
 use Rattle.bdb_exec.specs.Spelled.{number_in}
 use Rattle.bdb_exec.proofs.LengthLemmas.{key_vals, keys_sized}
@@ -54,38 +56,44 @@ use Rattle.bdb_exec.proofs.SpelledLemmas.{number_back}
 use Rattle.bdb_exec.proofs.TypedLemmas.{raw, at_find}
 use Rattle.bdb_exec.proofs.WorldLemmas.{IsThere, signed_is, has_row}
 use Rattle.bdb_exec.proofs.DenyLemmas.{both_ways, all, are_typed, IsHere, all_here, shown_all, prefix_append}
-use Rattle.bdb_exec.proofs.LookingLemmas.{users_are}
+use Rattle.bdb_exec.proofs.LookingLemmas.{places_many, users_are}
 
 -- ---- users
 
--- names with their numbers
-numbered : ℕ → List (List ℕ) → List (ℕ × List ℕ)
+-- places of users with their numbers
+numbered : ℕ → List UserSlot → List (ℕ × UserSlot)
 numbered uid [] = []
-numbered uid (name ∷ names) = (uid, name) ∷ numbered (suc uid) names
+numbered uid (slot ∷ slots) = (uid, slot) ∷ numbered (suc uid) slots
 
--- the name of a number among these
-among : ℕ → List (List ℕ) → ℕ → Option (List ℕ)
+-- the place of a number among these
+among : ℕ → List UserSlot → ℕ → Option UserSlot
 among uid [] n = None
-among uid (name ∷ names) n = cond (nat_eq n uid) (Some name) (among (suc uid) names n)
+among uid (slot ∷ slots) n = cond (nat_eq n uid) (Some slot) (among (suc uid) slots n)
 
-users_listed : (uid : ℕ) (names : List (List ℕ)) → map (λ e. user_tuple e.0 e.1) (numbered uid names) ≡ user_tuples uid names
+users_listed : (uid : ℕ) (slots : List UserSlot) → filter_map tuple_of_slot (numbered uid slots) ≡ user_tuples uid slots
 unfolding numbered
 users_listed uid [] = refl
-users_listed uid (name ∷ names) = ap (λ (x : List Tuple). user_tuple uid name ∷ x) (users_listed (suc uid) names)
+users_listed uid (Live name ∷ slots) = ap (λ (x : List Tuple). user_tuple uid name ∷ x) (users_listed (suc uid) slots)
+users_listed uid (Gone ∷ slots) = users_listed (suc uid) slots
+
+numbered_many : (uid : ℕ) (slots : List UserSlot) → length (numbered uid slots) ≡ length slots
+unfolding numbered
+numbered_many uid [] = refl
+numbered_many uid (slot ∷ slots) = ap suc (numbered_many (suc uid) slots)
 
 later : (uid n : ℕ) → n < uid → nat_eq n uid ≡ false
 later uid n lt = grind (arith, nat_tests)
 
-among_below : (uid : ℕ) (names : List (List ℕ)) (n : ℕ) → n < uid → among uid names n ≡ None
+among_below : (uid : ℕ) (slots : List UserSlot) (n : ℕ) → n < uid → among uid slots n ≡ None
 unfolding among
 among_below uid [] n lt = refl
-among_below uid (name ∷ names) n lt = cond-false (nat_eq n uid) (Some name) (among (suc uid) names n) (later uid n lt) ∙ among_below (suc uid) names n (omega arith)
+among_below uid (slot ∷ slots) n lt = cond-false (nat_eq n uid) (Some slot) (among (suc uid) slots n) (later uid n lt) ∙ among_below (suc uid) slots n (omega arith)
 
-among_at : (uid : ℕ) (names : List (List ℕ)) (i n : ℕ) → n ≡ uid + i → among uid names n ≡ slice_get names i
+among_at : (uid : ℕ) (slots : List UserSlot) (i n : ℕ) → n ≡ uid + i → among uid slots n ≡ slice_get slots i
 unfolding among
 among_at uid [] i n e = refl
-among_at uid (name ∷ names) zero n e = cond-true (nat_eq n uid) (Some name) (among (suc uid) names n) (eq-eqb n uid (omega arith))
-among_at uid (name ∷ names) (suc i) n e = cond-false (nat_eq n uid) (Some name) (among (suc uid) names n) (apart n uid i e) ∙ among_at (suc uid) names i n (omega arith)
+among_at uid (slot ∷ slots) zero n e = cond-true (nat_eq n uid) (Some slot) (among (suc uid) slots n) (eq-eqb n uid (omega arith))
+among_at uid (slot ∷ slots) (suc i) n e = cond-false (nat_eq n uid) (Some slot) (among (suc uid) slots n) (apart n uid i e) ∙ among_at (suc uid) slots i n (omega arith)
   where
     apart : (n uid i : ℕ) → n ≡ uid + suc i → nat_eq n uid ≡ false
     apart n uid i e = grind (arith, nat_tests)
@@ -98,56 +106,57 @@ number_same m n hm hn = both_ways (eq_by_cmp bytes_cmp (num_bytes m) (num_bytes 
     same_number : (k : ℕ) → is_eq (nat_cmp k k) ≡ true
     same_number k = ap is_eq (Rattle.bdb_key.proofs.Numbers.equal k)
 
-number_found : (uid : ℕ) (names : List (List ℕ)) (n : ℕ) → IsNum n → uid + length names ≤ 2 ^ 32 → find bytes_cmp (num_bytes n) (map (entry_bytes user_codec) (numbered uid names)) ≡ option_map text_bytes (among uid names n)
+number_found : (uid : ℕ) (slots : List UserSlot) (n : ℕ) → IsNum n → uid + length slots ≤ 2 ^ 32 → find bytes_cmp (num_bytes n) (map (entry_bytes user_codec) (numbered uid slots)) ≡ option_map slot_bytes (among uid slots n)
 unfolding numbered among
 number_found uid [] n h few = refl
-number_found uid (name ∷ names) n h few =
-    ap (λ b. cond b (Some (text_bytes name)) (find bytes_cmp (num_bytes n) (map (entry_bytes user_codec) (numbered (suc uid) names)))) (number_same n uid h (omega arith))
-    ∙ ap (λ o. cond (nat_eq n uid) (Some (text_bytes name)) o) (number_found (suc uid) names n h (omega arith))
-    ∙ chosen (nat_eq n uid) name (among (suc uid) names n)
+number_found uid (slot ∷ slots) n h few =
+    ap (λ b. cond b (Some (slot_bytes slot)) (find bytes_cmp (num_bytes n) (map (entry_bytes user_codec) (numbered (suc uid) slots)))) (number_same n uid h (omega arith))
+    ∙ ap (λ o. cond (nat_eq n uid) (Some (slot_bytes slot)) o) (number_found (suc uid) slots n h (omega arith))
+    ∙ chosen (nat_eq n uid) slot (among (suc uid) slots n)
   where
-    chosen : (b : Bool) (x : List ℕ) (o : Option (List ℕ)) → cond b (Some (text_bytes x)) (option_map text_bytes o) ≡ option_map text_bytes (cond b (Some x) o)
+    chosen : (b : Bool) (x : UserSlot) (o : Option UserSlot) → cond b (Some (slot_bytes x)) (option_map slot_bytes o) ≡ option_map slot_bytes (cond b (Some x) o)
     chosen true x o = refl
     chosen false x o = refl
 
 -- what is found is found by a number
-found_number : (uid : ℕ) (names : List (List ℕ)) (q r : List ℕ) → uid + length names ≤ 2 ^ 32 → find bytes_cmp q (map (entry_bytes user_codec) (numbered uid names)) ≡ Some r → (n : ℕ) × (q ≡ num_bytes n) × IsNum n
+found_number : (uid : ℕ) (slots : List UserSlot) (q r : List ℕ) → uid + length slots ≤ 2 ^ 32 → find bytes_cmp q (map (entry_bytes user_codec) (numbered uid slots)) ≡ Some r → (n : ℕ) × (q ≡ num_bytes n) × IsNum n
 unfolding numbered
 found_number uid [] q r few e = absurd (none_some r e)
-found_number uid (name ∷ names) q r few e = by (λ f. found_number (suc uid) names q r (omega arith) f) (eq_by_cmp bytes_cmp q (num_bytes uid)) refl e
+found_number uid (slot ∷ slots) q r few e = by (λ f. found_number (suc uid) slots q r (omega arith) f) (eq_by_cmp bytes_cmp q (num_bytes uid)) refl e
   where
     small : IsNum uid
     small = omega arith
 
-    by : (find bytes_cmp q (map (entry_bytes user_codec) (numbered (suc uid) names)) ≡ Some r → (n : ℕ) × (q ≡ num_bytes n) × IsNum n) → (b : Bool) → eq_by_cmp bytes_cmp q (num_bytes uid) ≡ b
-        → cond b (Some (text_bytes name)) (find bytes_cmp q (map (entry_bytes user_codec) (numbered (suc uid) names))) ≡ Some r → (n : ℕ) × (q ≡ num_bytes n) × IsNum n
+    by : (find bytes_cmp q (map (entry_bytes user_codec) (numbered (suc uid) slots)) ≡ Some r → (n : ℕ) × (q ≡ num_bytes n) × IsNum n) → (b : Bool) → eq_by_cmp bytes_cmp q (num_bytes uid) ≡ b
+        → cond b (Some (slot_bytes slot)) (find bytes_cmp q (map (entry_bytes user_codec) (numbered (suc uid) slots))) ≡ Some r → (n : ℕ) × (q ≡ num_bytes n) × IsNum n
     by rest true b f = (uid, same_place q (num_bytes uid) b, small)
     by rest false b f = rest f
 
-numbers_rise : (uid m : ℕ) (names : List (List ℕ)) (name : List ℕ) → uid < m → m + length names ≤ 2 ^ 32 → list_all (λ y. is_lt (entry_cmp user_codec (uid, name) y)) (numbered m names) ≡ true
+numbers_rise : (uid m : ℕ) (slots : List UserSlot) (slot : UserSlot) → uid < m → m + length slots ≤ 2 ^ 32 → list_all (λ y. is_lt (entry_cmp user_codec (uid, slot) y)) (numbered m slots) ≡ true
 unfolding numbered
-numbers_rise uid m [] name lt few = refl
-numbers_rise uid m (x ∷ names) name lt few =
-    and_from (is_lt (bytes_cmp (num_bytes uid) (num_bytes m))) (list_all (λ y. is_lt (entry_cmp user_codec (uid, name) y)) (numbered (suc m) names))
-    (ap is_lt (numbers_in_order uid m (omega arith) (omega arith) ∙ Rattle.bdb_key.proofs.Numbers.less uid m lt)) (numbers_rise uid (suc m) names name (omega arith) (omega arith))
+numbers_rise uid m [] slot lt few = refl
+numbers_rise uid m (x ∷ slots) slot lt few =
+    and_from (is_lt (bytes_cmp (num_bytes uid) (num_bytes m))) (list_all (λ y. is_lt (entry_cmp user_codec (uid, slot) y)) (numbered (suc m) slots))
+    (ap is_lt (numbers_in_order uid m (omega arith) (omega arith) ∙ Rattle.bdb_key.proofs.Numbers.less uid m lt)) (numbers_rise uid (suc m) slots slot (omega arith) (omega arith))
 
-numbered_sorted : (uid : ℕ) (names : List (List ℕ)) → uid + length names ≤ 2 ^ 32 → ascending (entry_cmp user_codec) (numbered uid names) ≡ true
+numbered_sorted : (uid : ℕ) (slots : List UserSlot) → uid + length slots ≤ 2 ^ 32 → ascending (entry_cmp user_codec) (numbered uid slots) ≡ true
 unfolding numbered
 numbered_sorted uid [] few = refl
-numbered_sorted uid (name ∷ names) few =
-    and_from (list_all (λ y. is_lt (entry_cmp user_codec (uid, name) y)) (numbered (suc uid) names)) (ascending (entry_cmp user_codec) (numbered (suc uid) names))
-    (numbers_rise uid (suc uid) names name (omega arith) (omega arith)) (numbered_sorted (suc uid) names (omega arith))
+numbered_sorted uid (slot ∷ slots) few =
+    and_from (list_all (λ y. is_lt (entry_cmp user_codec (uid, slot) y)) (numbered (suc uid) slots)) (ascending (entry_cmp user_codec) (numbered (suc uid) slots))
+    (numbers_rise uid (suc uid) slots slot (omega arith) (omega arith)) (numbered_sorted (suc uid) slots (omega arith))
 
-numbered_each : (uid : ℕ) (names : List (List ℕ)) → uid + length names ≤ 2 ^ 32 → AllByRecursion IsPlain names → AllByRecursion (IsUnder user_codec []) (numbered uid names)
+numbered_each : (uid : ℕ) (slots : List UserSlot) → uid + length slots ≤ 2 ^ 32 → AllByRecursion IsUserRow slots → AllByRecursion (IsUnder user_codec []) (numbered uid slots)
 unfolding numbered
 numbered_each uid [] few a = tt
-numbered_each uid (name ∷ names) few a = (record { key = omega arith; row = a.0; begins = refl }, numbered_each (suc uid) names (omega arith) a.1)
+numbered_each uid (slot ∷ slots) few a = (record { key = omega arith; row = a.0; begins = refl }, numbered_each (suc uid) slots (omega arith) a.1)
 
-all_plain : (names : List (List ℕ)) → list_all Rattle.bdb_base.specs.Bases.is_plain names ≡ true → AllByRecursion IsPlain names
-all_plain [] e = tt
-all_plain (x ∷ names) e = let p = and_parts (Rattle.bdb_base.specs.Bases.is_plain x) (list_all Rattle.bdb_base.specs.Bases.is_plain names) e in (p.0, all_plain names p.1)
+slots_fit : (slots : List UserSlot) → list_all is_plain (user_names slots) ≡ true → AllByRecursion IsUserRow slots
+slots_fit [] e = tt
+slots_fit (Live name ∷ slots) e = let p = and_parts (is_plain name) (list_all is_plain (user_names slots)) e in (p.0, slots_fit slots p.1)
+slots_fit (Gone ∷ slots) e = (tt, slots_fit slots e)
 
-few_users : (n : ℕ) → nat_le n 256 ≡ true → 1 + n ≤ 2 ^ 32
+few_users : (n : ℕ) → nat_le n most_users ≡ true → 1 + n ≤ 2 ^ 32
 few_users n h = grind (arith, nat_tests)
 
 -- ---- statements
@@ -270,13 +279,13 @@ module _ (ns : Names) (ts : Tuples) (t : Tables) (b : Contents) (valid : IsValid
 
   users_under : AreUnder user_codec t [] (numbered 1 b.catalog.users)
   users_under = record {
-    each = numbered_each 1 b.catalog.users few (all_plain b.catalog.users valid.catalog.users_plain);
+    each = numbered_each 1 b.catalog.users few (slots_fit b.catalog.users valid.catalog.users_plain);
     sorted = numbered_sorted 1 b.catalog.users few;
     found = λ q _. by q (tables.get t (user_codec.number ∷ q)) refl;
   }
     where
       at_number : (n : ℕ) → IsNum n → tables.get t (user_codec.number ∷ num_bytes n) ≡ find bytes_cmp (num_bytes n) (map (entry_bytes user_codec) (numbered 1 b.catalog.users))
-      at_number n k = h.users.rows n k ∙ ap (option_map text_bytes) (sym (named n)) ∙ sym (number_found 1 b.catalog.users n k few)
+      at_number n k = h.users.rows n k ∙ ap (option_map slot_bytes) (sym (named n)) ∙ sym (number_found 1 b.catalog.users n k few)
 
       by : (q : List ℕ) (o : Option (List ℕ)) → tables.get t (user_codec.number ∷ q) ≡ o → tables.get t (user_codec.number ∷ q) ≡ find bytes_cmp q (map (entry_bytes user_codec) (numbered 1 b.catalog.users))
       by q (Some r) e =
@@ -290,6 +299,9 @@ module _ (ns : Names) (ts : Tuples) (t : Tables) (b : Contents) (valid : IsValid
           none (Some r) f =
               let k = found_number 1 b.catalog.users q r few f in
               absurd (none_some r (sym e ∙ ap (λ x. tables.get t (user_codec.number ∷ x)) k.1 ∙ at_number k.0 k.2 ∙ ap (λ x. find bytes_cmp x (map (entry_bytes user_codec) (numbered 1 b.catalog.users))) (sym k.1) ∙ f))
+
+  places_shown : (sight_of t).places ≡ length b.catalog.users
+  places_shown = sym (places_many t (numbered 1 b.catalog.users) users_under) ∙ numbered_many 1 b.catalog.users
 
   users_shown : (sight_of t).users ≡ user_tuples 1 b.catalog.users
   users_shown = sym (users_are t (numbered 1 b.catalog.users) users_under) ∙ users_listed 1 b.catalog.users
@@ -520,6 +532,7 @@ module _ (ns : Names) (ts : Tuples) (t : Tables) (b : Contents) (valid : IsValid
   base_shown = record {
     run = run;
     shown = record {
+      places = places_shown;
       users = users_shown;
       root = ap (λ o. unwrap_or o 0) h.states.names.root;
       edges = edges_shown;

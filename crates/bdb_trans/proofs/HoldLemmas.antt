@@ -1,5 +1,5 @@
 -- The steps of a query's plan hold exactly of the slots that hold of the query.
-use Rattle.std.proofs.Common.{◌≡◌, ◌∙◌, ℕ, suc, ◌+◌, ◌^◌, nat_lt, Bool, true, false, not, ◌&&◌, ◌||◌, nat_eq, List, [], ◌∷◌, ◌++◌, Option, None, Some, inl, inr, refl, ap, sym, subst, length, map, arith}
+use Rattle.std.proofs.Common.{◌≡◌, ◌∙◌, ℕ, suc, ◌+◌, ◌-◌, ◌^◌, nat_lt, Bool, true, false, not, ◌&&◌, ◌||◌, nat_eq, List, [], ◌∷◌, ◌++◌, Option, None, Some, inl, inr, refl, ap, sym, subst, length, map, arith}
 use Prim.Native.Nat.{zero}
 use Rattle.std.specs.List.{list_all, slice_get}
 use Rattle.std.specs.Option.{option_map, option_and_then, is_some}
@@ -21,15 +21,16 @@ use Rattle.bdb_base.specs.declared.kinds.Value.TheVariants.{Int, Text}
 use Rattle.bdb_base.specs.declared.kinds.Who.{Who}
 use Rattle.bdb_base.specs.declared.kinds.Who.TheVariants.{User, Of}
 use Rattle.bdb_base.specs.declared.tuple.Tuple.{Tuple}
-use Rattle.bdb_base.specs.Bases.{Contents, IsValid, is_user, is_plain, fits_kind, fits_columns, fits_definition, fits_relation}
+use Rattle.bdb_base.specs.Bases.{Contents, IsValid, is_user, user_names, is_plain, fits_kind, fits_columns, fits_definition, fits_relation}
 use Rattle.bdb_base.specs.Queries.{columns_at, columns_of_definition}
 use Rattle.bdb_base.specs.Safety.{is_given, is_minus, is_users_item, is_literal, who_fits, fixed_differ, item_fits, item_kinds, column_kind, operand_kind, literal_kind, one_kind, joins_one_kind, query_fits, IsSafe}
 use Rattle.bdb_base.proofs.ListLemmas.{list_all_get, list_all-filter}
+use Rattle.bdb_base.proofs.UserLemmas.{name_found}
 use Rattle.bdb_queries.specs.Slots.{slot_at, known, known_operand, must_hold, must_all_hold, uid_of, path_of, user_tuple}
 use Rattle.bdb_queries.proofs.AnswerLemmas.{fits_its_columns}
 use Rattle.bdb_queries.proofs.FoundLemmas.{Found, found_at, found-filter, found_passes, list_all_from_gets}
 use Rattle.bdb_queries.proofs.HoldingLemmas.{SlotHolds, SlotsHold, items_fit}
-use Rattle.bdb_queries.proofs.UserLemmas.{named_at}
+use Rattle.bdb_queries.proofs.UserLemmas.{found_name}
 use Rattle.bdb_plan.specs.declared.step.Step.{Step}
 use Rattle.bdb_plan.specs.Fitness.{is_among}
 use Rattle.bdb_plan.specs.Holding.{world_if, world_at_end, steps_hold}
@@ -258,7 +259,7 @@ given_fits b valid q zs h s k v g ck e = by (slice_get q.items s.item) refl g ck
     by None i g c = absurd (false≢true g)
     by (Some (Users alias)) i g c =
         let (uid, name, there, named, is) = h s.item (Users alias) i refl in
-        user uid name s.col (list_all_get is_plain b.catalog.users _ name valid.catalog.users_plain (named_at b.catalog.users uid name there named)) c (sym (value_of zs s.item (user_tuple uid name) s.col is) ∙ e)
+        user uid name s.col (found_passes is_plain (user_names b.catalog.users) name valid.catalog.users_plain (found_name b.catalog.users (uid - 1) name (name_found b.catalog.users uid name named).1)) c (sym (value_of zs s.item (user_tuple uid name) s.col is) ∙ e)
     by (Some (Rel alias rel Plus path)) i g c =
         let (t, is, r, fits, believed) = h s.item (Rel alias rel Plus path) i refl in
         kind_fits (columns_at b.catalog.rels rel) t.vals s.col k v (ap (λ n. fits_columns (columns_at b.catalog.rels n) t.vals) (sym r) ∙ fits_its_columns (slice_get b.catalog.rels t.rel) t.vals fits) c

@@ -1,15 +1,16 @@
 -- How often the plan of a query reads.
-use Rattle.std.proofs.Common.{◌≡◌, ◌∙◌, ℕ, zero, suc, ◌+◌, ◌*◌, ◌^◌, ◌≤◌, ◌<◌, Bool, true, false, ◌&&◌, ◌||◌, cond, nat_eq, nat_lt, nat_le, List, [], ◌∷◌, ◌++◌, Option, None, Some, inl, inr, refl, ap, sym, subst, length, map, slice_set, arith}
-use Rattle.std.specs.List.{list_all, sum_by, slice_get, AllByRecursion}
+use Rattle.std.proofs.Common.{◌≡◌, ◌∙◌, ℕ, zero, suc, ◌+◌, ◌*◌, ◌^◌, ◌≤◌, ◌<◌, Bool, true, false, ◌&&◌, ◌||◌, cond, nat_eq, nat_lt, List, [], ◌∷◌, ◌++◌, Option, None, Some, inl, inr, refl, ap, sym, subst, length, map, slice_set, arith}
+use Rattle.std.specs.List.{list_all, list_any, sum_by, slice_get, AllByRecursion}
 use Rattle.std.specs.Option.{option_map, option_and_then, is_some}
-use Rattle.std.proofs.lemmas.Bool.{false≢true, cases_Bool, or_cases, and_parts, and_from, eqb-true}
-use Rattle.std.proofs.lemmas.Bool.Decides.{nat_tests}
+use Rattle.std.proofs.lemmas.Bool.{false≢true, cases_Bool, or_cases, or_left, or_right, and_parts, and_from, eqb-true}
 use Rattle.std.proofs.lemmas.List.{append_assoc, length-replicate}
 use Rattle.std.proofs.lemmas.List.Sums.{sum_by-cons}
 use Rattle.std.proofs.lemmas.Nat.{mul-le}
 use Rattle.bdb_base.specs.Alternation.{alternates}
 use Rattle.bdb_base.specs.Bases.{Contents, is_user}
 use Rattle.bdb_base.specs.Queries.{option_list, columns_at}
+use Rattle.bdb_base.specs.Same.{same_tuple}
+use Rattle.bdb_base.specs.SameLemmas.{same_tuple-Decides}
 use Rattle.bdb_base.specs.Safety.{item_fits, who_fits, fixed_differ, is_users_item}
 use Rattle.bdb_base.specs.States.{is_state, deepest_suffix}
 use Rattle.bdb_base.specs.declared.kinds.ColDef.{ColDef}
@@ -21,11 +22,14 @@ use Rattle.bdb_base.specs.declared.kinds.Query.{Query}
 use Rattle.bdb_base.specs.declared.kinds.Ref.{Ref}
 use Rattle.bdb_base.specs.declared.kinds.Sign.{Sign}
 use Rattle.bdb_base.specs.declared.kinds.Sign.TheVariants.{Plus, Minus}
+use Rattle.bdb_base.specs.declared.kinds.UserSlot.{UserSlot}
+use Rattle.bdb_base.specs.declared.kinds.UserSlot.TheVariants.{Live, Gone}
 use Rattle.bdb_base.specs.declared.kinds.Value.{Value}
 use Rattle.bdb_base.specs.declared.kinds.Who.{Who}
 use Rattle.bdb_base.specs.declared.kinds.Who.TheVariants.{User, Of}
 use Rattle.bdb_base.specs.declared.tuple.Tuple.{Tuple}
 use Rattle.bdb_queries.specs.Slots.{slot_at, known_operand, must_hold, uid_of, path_of, user_tuple, user_tuples}
+use Rattle.bdb_queries.proofs.UserLemmas.{user_of_test}
 use Rattle.bdb_plan.specs.Fitness.{is_among}
 use Rattle.bdb_plan.specs.Holding.{differ, world_if, world_after, world_at_end}
 use Rattle.bdb_plan.specs.PlanOf.{differ_from, walk_from, walk_of, bind_of, binds_from, due, item_steps, steps_from, order_of, places, is_users, is_plus, is_minus_item, plan_steps}
@@ -155,9 +159,9 @@ fewer_plus ((u, Minus) ∷ rows) = let rest = fewer_plus rows in omega (arith, r
 grows : (a C P : ℕ) → C ≤ P → a * C ≤ a * P
 grows a C P h = mul-le a C a P (omega arith) h
 
-users_bound : (v u C P : ℕ) → v ≤ u → C ≤ P → 1 ≤ P → (v + 1) + v * C ≤ (2 * u + 8) * P
-users_bound v u C P le h one =
-    let a : v * C ≤ u * P = mul-le v C u P le h in
+users_bound : (n v u C P : ℕ) → n ≤ u → v ≤ n → C ≤ P → 1 ≤ P → (n + 1) + v * C ≤ (2 * u + 8) * P
+users_bound n v u C P le less h one =
+    let a : v * C ≤ u * P = mul-le v C u P (omega arith) h in
     let b : (u + 8) * 1 ≤ (u + 8) * P = grows (u + 8) 1 P one in
     let c : (2 * u + 8) * P ≡ u * P + (u + 8) * P = grind arith in
     omega (arith, a, b, c, le)
@@ -191,26 +195,33 @@ product_some u m items (at ∷ order) = by (slice_get items at) (product_some u 
 
 -- ---- what is chosen for users
 
+-- what holds of each tuple that is found among some holds of all of them
+each_tuple : (P : Tuple → Type 0) (ts : List Tuple) → ((t : Tuple) → list_any (λ x. same_tuple x t) ts ≡ true → P t) → AllByRecursion P ts
+each_tuple P [] f = tt
+each_tuple P (t ∷ ts) f =
+    (f t (or_left (same_tuple t t) (list_any (λ x. same_tuple x t) ts) ((same_tuple-Decides t t).1 refl)), each_tuple P ts (λ u e. f u (or_right (same_tuple t u) (list_any (λ x. same_tuple x u) ts) e)))
+
+-- live users are no more than places
+fewer_tuples : (uid : ℕ) (users : List UserSlot) → length (user_tuples uid users) ≤ length users
+fewer_tuples uid [] = omega arith
+fewer_tuples uid (Live name ∷ users) = let rest = fewer_tuples (suc uid) users in omega (arith, rest)
+fewer_tuples uid (Gone ∷ users) = let rest = fewer_tuples (suc uid) users in omega (arith, rest)
+
 module _ (b : Contents) (sight : Sight) (number : List ℕ → ℕ) (q : Query) (shows : Shows b sight number) (fits : list_all (item_fits b.catalog q.items) q.items ≡ true) where
   -- a tuple is that of a user
   abbrev IsUser : Tuple → Type 0
   IsUser t = (uid : ℕ) × (name : List ℕ) × (is_user b.catalog.users uid ≡ true) × (t ≡ user_tuple uid name)
 
-  tuples_users : (uid : ℕ) (names : List (List ℕ)) → 0 < uid → uid + length names ≡ 1 + length b.catalog.users → AllByRecursion IsUser (user_tuples uid names)
-  tuples_users uid [] some e = tt
-  tuples_users uid (name ∷ names) some e = ((uid, name, user uid (length names) some e, refl), tuples_users (suc uid) names (omega arith) (omega arith))
-    where
-      user : (uid n : ℕ) → 0 < uid → uid + suc n ≡ 1 + length b.catalog.users → is_user b.catalog.users uid ≡ true
-      user uid n some e = and_from (nat_lt 0 uid) (nat_le uid (length b.catalog.users)) (low uid some) (high uid n (length b.catalog.users) e)
-        where
-          low : (uid : ℕ) → 0 < uid → nat_lt 0 uid ≡ true
-          low uid some = grind (arith, nat_tests)
-
-          high : (uid n m : ℕ) → uid + suc n ≡ 1 + m → nat_le uid m ≡ true
-          high uid n m e = grind (arith, nat_tests)
-
   sight_users : AllByRecursion IsUser sight.users
-  sight_users = subst (AllByRecursion IsUser) (sym shows.users) (tuples_users 1 b.catalog.users (omega arith) refl)
+  sight_users = subst (AllByRecursion IsUser) (sym shows.users) (each_tuple IsUser (user_tuples 1 b.catalog.users) (λ t e. let u = user_of_test b.catalog.users t e in (u.0, u.1, u.2, u.4)))
+
+  -- no more users are seen than there are places
+  fewer_users : length sight.users ≤ sight.places
+  fewer_users =
+      let users : length sight.users ≡ length (user_tuples 1 b.catalog.users) = ap length shows.users in
+      let places = shows.places in
+      let fewer = fewer_tuples 1 b.catalog.users in
+      omega (arith, users, places, fewer)
 
   -- each `Users` item that is set has a user
   record Good (set : List ℕ) (slots : List (Option Tuple)) : Type 0 where
@@ -313,7 +324,7 @@ module _ (b : Contents) (sight : Sight) (number : List ℕ → ℕ) (q : Query) 
 
   -- ---- items
 
-  module _ (u : ℕ) (m : ℕ → ℕ) (few : length sight.users ≤ u) (small : AreSmall b sight number q m) where
+  module _ (u : ℕ) (m : ℕ → ℕ) (few : sight.places ≤ u) (small : AreSmall b sight number q m) where
     -- the rest reads at most so often, once an item is set
     abbrev Then : List ℕ → List Step → ℕ → Type 0
     Then set rest C = (s : Reached) → Good set s.slots → reads_from sight rest s ≤ C
@@ -330,7 +341,7 @@ module _ (b : Contents) (sight : Sight) (number : List ℕ → ℕ) (q : Query) 
         (λ t user. tests_then (at ∷ set) cs rest C h (with_slot s at t) (good_user set s.slots at t lt user g)) sight_users in
         let sum = sum_within (reads_from sight more) (map (with_slot s at) sight.users) C each in
         let many : length (map (with_slot s at) sight.users) * C ≡ length sight.users * C = ap (λ n. n * C) (length_mapped (with_slot s at) sight.users) in
-        let bound = users_bound (length sight.users) u C P few le one in
+        let bound = users_bound sight.places (length sight.users) u C P few fewer_users le one in
         omega (arith, sum, many, bound)
 
     -- where a walk comes to
