@@ -1,9 +1,8 @@
 -- Rows whole: no two are written alike.
-use Rattle.std.proofs.Common.{◌≡◌, ℕ, List, [], ◌∷◌, ◌++◌, append_assoc, refl, sym, ap, ◌∙◌}
+use Rattle.std.proofs.Common.{◌≡◌, ℕ, List, [], ◌++◌, append_assoc, refl, sym, ap, ◌∙◌}
 use Rattle.std.specs.declared.cmp.Ordering.{Ordering}
 use Rattle.std.specs.declared.cmp.Ordering.TheVariants.{Less, Equal, Greater}
 use Rattle.std.specs.Ordering.{ordering_then}
-use Rattle.std.specs.List.{AllByRecursion}
 use Rattle.bdb_base.specs.declared.kinds.ColDef.{ColDef}
 use Rattle.bdb_base.specs.declared.kinds.RelDef.{RelDef}
 use Rattle.bdb_base.specs.declared.kinds.UserSlot.{UserSlot}
@@ -14,7 +13,7 @@ use Rattle.bdb_base.specs.declared.kinds.Sign.TheVariants as signs
 use Rattle.bdb_base.specs.declared.tuple.Tuple.{Tuple}
 use Rattle.bdb_key.specs.Bytes.{num_bytes, text_bytes, values_bytes}
 use Rattle.bdb_key.specs.Grammar.{IsNum, IsPlain}
-use Rattle.bdb_key.specs.Rows.{IsCol, IsRelRow, IsTupleRow, IsUserRow, cols_bytes, length_bytes, rel_bytes, tuple_bytes, slot_bytes, sign_bytes}
+use Rattle.bdb_key.specs.Rows.{IsRelRow, IsTupleRow, IsUserRow, cols_bytes, length_bytes, rel_bytes, tuple_bytes, slot_bytes, sign_bytes}
 use Rattle.bdb_key.proofs.Compared.{rows, rows_tie}
 use Rattle.bdb_key.proofs.Forms.{tied}
 use Rattle.bdb_key.proofs.Readings.{num_form, text_form, length_form, one_cols}

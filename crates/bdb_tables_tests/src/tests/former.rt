@@ -80,6 +80,16 @@ fn a_key_gets_a_count(rt: HostRuntime) -> Result<(), Fail> {
 }
 
 #[test]
+fn no_user_was_gone(rt: HostRuntime) -> Result<(), Fail> {
+    let alloc = rt.alloc();
+    let nameless = becomes(alloc, 2, b"\0\0\0\x01", b"", b"\0\0\0\x01", b"\0")?;
+    assert!(rt; nameless);
+    let elsewhere = stays(alloc, 8, b"\0\0\0\0\0\0\0\x01", b"")?;
+    assert!(rt; elsewhere);
+    Ok(())
+}
+
+#[test]
 fn other_rows_stay(rt: HostRuntime) -> Result<(), Fail> {
     let alloc = rt.alloc();
     let user = stays(alloc, 2, b"\0\0\0\x01", b"\x02Bob\0")?;

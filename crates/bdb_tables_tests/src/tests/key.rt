@@ -2,7 +2,7 @@
 ghost use Rattle.std.specs.Prelude.{length, IfOk};
 ghost use Rattle.bdb_key.specs.Grammar.{IsNum};
 
-use bdb_base::{Exact, Kind, List, Path, RelDef, Sign, Tuple, Txt, Value};
+use bdb_base::{Exact, Kind, List, Path, RelDef, Sign, Tuple, Txt, UserSlot, Value};
 use bdb_key::{KeyError, Part, RowError, Slot, TabRow, put_key, put_row, take_key, take_row};
 use std::alloc::{AllocError, Global};
 use std::test::Fail;
@@ -148,10 +148,7 @@ fn writes_and_copies_lists_of_values(rt: HostRuntime) -> Result<(), Fail> {
 fn row_line(alloc: Global, row: &TabRow) -> Result<String, AllocError> {
     match row {
         TabRow::Meta(n) => format!(in alloc; "meta {n}"),
-        TabRow::User(name) => {
-            let name = name.as_str();
-            format!(in alloc; "user {name}")
-        }
+        TabRow::User(slot) => slot_line(alloc, slot),
         TabRow::Rel(def) => rel_line(alloc, def),
         TabRow::Tuple(tuple) => tuple_line(alloc, tuple),
         TabRow::Tid(n) => format!(in alloc; "tid {n}"),
@@ -167,6 +164,16 @@ fn row_line(alloc: Global, row: &TabRow) -> Result<String, AllocError> {
             let sign = sign_word(*sign);
             format!(in alloc; "{sign}")
         }
+    }
+}
+
+fn slot_line(alloc: Global, slot: &UserSlot) -> Result<String, AllocError> {
+    match slot {
+        UserSlot::Live(name) => {
+            let name = name.as_str();
+            format!(in alloc; "user {name}")
+        }
+        UserSlot::Gone => format!(in alloc; "gone"),
     }
 }
 
@@ -227,9 +234,12 @@ fn read_and_written(
 #[test]
 fn reads_and_writes_worked_rows(rt: HostRuntime) -> Result<(), Fail> {
     let alloc = rt.alloc();
-    let cases: [(u8, &[u8], &str); 17] = [
+    let cases: [(u8, &[u8], &str); 19] = [
         (1, b"\0\0\0\x03", "meta 3"),
         (2, b"\x02s1\0", "user s1"),
+        // a name of no characters, and no name
+        (2, b"\x02\0", "user "),
+        (2, b"", "gone"),
         (
             3,
             b"\x02s1\0\x01\x80\0\0\0\0\0\0\x01\x02a\0\x01\x80\0\0\0\0\0\0\x01\x02b\0\x01\x80\0\0\0\0\0\0\0",
@@ -270,11 +280,12 @@ fn reads_and_writes_worked_rows(rt: HostRuntime) -> Result<(), Fail> {
 #[test]
 fn refuses_what_is_no_row(rt: HostRuntime) -> Result<(), Fail> {
     let alloc = rt.alloc();
-    let cases: [(u8, &[u8]); 19] = [
+    let cases: [(u8, &[u8]); 20] = [
         (1, b"\0\0\0"),
         (1, b"\0\0\0\x01\0"),
-        // a name that is an integer
+        // a name that is an integer, and no mark of a text
         (2, b"\x01\x80\0\0\0\0\0\0\x01"),
+        (2, b"\0"),
         (
             3,
             b"\x01\x80\0\0\0\0\0\0\x01\x01\x80\0\0\0\0\0\0\x01\x02a\0\x01\x80\0\0\0\0\0\0\0",
