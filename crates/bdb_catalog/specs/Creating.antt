@@ -5,6 +5,7 @@ use Rattle.bdb_base.specs.Causes.{Rises}
 use Rattle.bdb_base.specs.declared.kinds.RelDef.{RelDef}
 use Rattle.bdb_keep.specs.Seen.{Seen}
 use Rattle.bdb_keep.specs.Tables.{Tables}
+use Rattle.bdb_update.specs.StoredLaws.{with_gone_place}
 use Rattle.bdb_catalog.specs.Bases.{StoresValid}
 
 -- the base with one relation more
@@ -48,3 +49,22 @@ AddsUserNamed t u uid name = (b : Contents) → MayAddUser t uid name b → Stor
 -- whichever base it is, two writes were made for each of its worlds, and one for the user
 abbrev pub WritesUser : Seen → Seen → ℕ → List ℕ → Type 0
 WritesUser old new uid name = (b : Contents) → MayAddUser old.kept uid name b → Rises (2 * world_count b.stmts + 1) old.writes new.writes
+
+-- the base with one place more, whose user is gone
+abbrev pub with_one_gone : Contents → Contents
+with_one_gone b = record b { catalog = with_gone_place b.catalog }
+
+-- tables store a valid base, to which a place of the next number may be added
+pub record MayAddGonePlace (t : Tables) (uid : ℕ) (b : Contents) : Type 0 where
+  pub base : StoresValid t b
+  pub next : uid ≡ length b.catalog.users + 1
+  pub valid : IsValid (with_gone_place b.catalog) b.stmts
+
+-- there is such a base
+pub record SomeMayAddGonePlace (t : Tables) (uid : ℕ) : Type 0 where
+  pub base : Contents
+  pub may : MayAddGonePlace t uid base
+
+-- whichever base it is, the tables store it with the place
+abbrev pub AddsGonePlace : Tables → Tables → ℕ → Type 0
+AddsGonePlace t u uid = (b : Contents) → MayAddGonePlace t uid b → StoresValid u (with_one_gone b)

@@ -4,13 +4,13 @@ ghost use Rattle.bdb_keep.specs.Seen.{NeverFall, Steps};
 ghost use Rattle.bdb_catalog.specs.Bases.{StoresSome};
 ghost use Rattle.bdb_catalog.specs.Opening.{IsPartOf};
 
-use bdb_base::{List, RelDef, Txt};
+use bdb_base::{List, RelDef, UserSlot};
 use bdb_keep::Keeper;
 use bdb_tables::{RelTab, TabError, UserTab, get};
 use std::alloc::Global;
 
-/// The names of the users, by number from 1.
-pub fn read_users<K: Keeper>(alloc: Global, keeper: &mut K) -> Result<List<Txt>, TabError>
+/// The places of the users, by number from 1.
+pub fn read_users<K: Keeper>(alloc: Global, keeper: &mut K) -> Result<List<UserSlot>, TabError>
     requires base { StoresSome (K.seen keeper.old).kept }
     ensures users { IfOk result (IsPartOf (λ b. b.catalog.users) (K.seen keeper.old).kept) }
     ensures kept { OnOk result ((K.seen keeper.new).kept ≡ (K.seen keeper.old).kept) }
@@ -22,8 +22,8 @@ pub fn read_users<K: Keeper>(alloc: Global, keeper: &mut K) -> Result<List<Txt>,
     for number in 0..u32::MAX {
         let uid = number + 1;
         match get::<UserTab, K>(alloc, keeper, &uid) {
-            Ok(Some(name)) => {
-                if users.push(name).is_err() {
+            Ok(Some(slot)) => {
+                if users.push(slot).is_err() {
                     keeper.undo();
                     return Err(TabError::Memory);
                 }

@@ -1,4 +1,4 @@
--- The bases on the way to a valid one: of its first users, then of its first relations, then of its first statements.
+-- The bases on the way to a valid one: of its first places of users, then of its first relations, then of its first statements.
 use Rattle.std.proofs.Common.{◌≡◌, ◌∙◌, ℕ, suc, ◌+◌, ◌<◌, ◌≤◌, Bool, true, false, not, ◌&&◌, ◌||◌, nat_le, nat_lt, List, [], ◌∷◌, ◌++◌, length, map, take, drop, get_or, append_assoc, Some, None, Ok, Err, if◌then◌else◌, refl, ap, sym, subst, arith}
 use Prim.Native.Nat.{zero}
 use Rattle.std.specs.List.{list_all, list_any, slice_get, find}
@@ -8,7 +8,7 @@ use Rattle.std.specs.Ordering.{is_eq, is_lt}
 use Rattle.std.proofs.lemmas.Bool.{and_parts, and_from, false≢true, le-leb, leb-true, not-true, not_from_false, not_from_true, or_parts, cond-false}
 use Rattle.std.proofs.lemmas.List.{append-nil, take-append-drop, take_more}
 use Rattle.std.proofs.lemmas.Option.{slice_get_read}
-use Rattle.bdb_base.specs.Bases.{Contents, IsCatalog, IsValid, are_distinct, belongs, is_plain, is_valid_relation, stands, with_statement}
+use Rattle.bdb_base.specs.Bases.{Contents, IsCatalog, IsValid, are_distinct, belongs, is_plain, is_valid_relation, stands, user_names, with_statement}
 use Rattle.bdb_base.specs.Limits.{most_relations, most_users}
 use Rattle.bdb_base.specs.Order.{statement_cmp}
 use Rattle.bdb_base.specs.OrderLemmas.{statement_exact}
@@ -17,6 +17,8 @@ use Rattle.bdb_base.specs.SortedSet.{ascending, put_at}
 use Rattle.bdb_base.specs.declared.kinds.Catalog.{Catalog}
 use Rattle.bdb_base.specs.declared.kinds.RelDef.{RelDef}
 use Rattle.bdb_base.specs.declared.kinds.Stmt.{Stmt}
+use Rattle.bdb_base.specs.declared.kinds.UserSlot.{UserSlot}
+use Rattle.bdb_base.specs.declared.kinds.UserSlot.TheVariants.{Live, Gone}
 use Rattle.bdb_base.proofs.SetLemmas.{absent_below, is_lt-Less, stands_at}
 use Rattle.bdb_base.proofs.BaseLemmas.{take_is_valid}
 use Rattle.bdb_base.specs.Bases.{key_lengths, tuple_count, without_statement, world_count}
@@ -73,15 +75,22 @@ distinct_front (x ∷ xs) (suc k) e =
     and_from (not (list_any (same_text x) (take k xs))) (are_distinct (take k xs))
     (not_from_false (list_any (same_text x) (take k xs)) (any_front (same_text x) xs k (not-true (list_any (same_text x) xs) h.0))) (distinct_front xs k h.1)
 
--- ---- a valid base's first users and relations
+-- the names of the first places are the first of all names
+names_front : (us : List UserSlot) (k : ℕ) → user_names (take k us) ≡ take (length (user_names (take k us))) (user_names us)
+names_front us zero = refl
+names_front [] (suc k) = refl
+names_front (Live name ∷ us) (suc k) = ap (λ (names : List (List ℕ)). name ∷ names) (names_front us k)
+names_front (Gone ∷ us) (suc k) = names_front us k
+
+-- ---- a valid base's first places of users and first relations
 
 few_front : {X : Type 0} (xs : List X) (k n : ℕ) → nat_le (length xs) n ≡ true → nat_le (length (take k xs)) n ≡ true
 few_front xs k n e = le-leb (length (take k xs)) n (short_front xs k n (leb-true (length xs) n e))
 
 pub catalog_front : (c : Catalog) (j k : ℕ) → IsCatalog c → IsCatalog (record { rels = take j c.rels; users = take k c.users })
 catalog_front c j k v = record {
-  users_differ = distinct_front c.users k v.users_differ;
-  users_plain = all_front is_plain c.users k v.users_plain;
+  users_differ = ap are_distinct (names_front c.users k) ∙ distinct_front (user_names c.users) (length (user_names (take k c.users))) v.users_differ;
+  users_plain = ap (list_all is_plain) (names_front c.users k) ∙ all_front is_plain (user_names c.users) (length (user_names (take k c.users))) v.users_plain;
   few_users = few_front c.users k most_users v.few_users;
   rels_differ = ap are_distinct (map_front (λ (r : RelDef). r.name) c.rels j) ∙ distinct_front (map (λ (r : RelDef). r.name) c.rels) j v.rels_differ;
   rels_valid = all_front is_valid_relation c.rels j v.rels_valid;

@@ -1,6 +1,7 @@
 -- The structure, put together from what is read of its parts.
 use Rattle.std.proofs.Common.{◌∙◌, ◌<◌, ◌^◌, List, length, ap, arith, ◌≡◌, ◌≤◌, ◌+◌, ◌*◌, ℕ, sym}
 use Rattle.std.proofs.lemmas.List.{length-map}
+use Rattle.std.proofs.lemmas.Nat.{mul-le}
 use Rattle.bdb_base.specs.Bases.{Contents}
 use Rattle.bdb_base.specs.Queries.{user_numbers}
 use Rattle.bdb_base.specs.States.{states_of}
@@ -12,12 +13,12 @@ use Rattle.bdb_canon.specs.declared.structure.CanonEdge.{CanonEdge}
 use Rattle.bdb_canon.specs.declared.structure.CanonRow.{CanonRow}
 use Rattle.bdb_canon.specs.declared.structure.CanonWorld.{CanonWorld}
 use Rattle.bdb_canon.proofs.PlaceLemmas.{few_states, tuples_are}
-use Rattle.bdb_canon.proofs.UserLemmas.{users_are_counted}
 use Rattle.bdb_keep.specs.Tables.{Tables}
 use Rattle.bdb_stored.specs.Structure.{edges_of, rows_of, worlds_with_links}
 use Rattle.bdb_stored.specs.Valid.{StoresValid, StoreSome, IsPartOf}
 use Rattle.bdb_stored.specs.Worlds.{TellsStates}
 use Rattle.bdb_stored.specs.declared.named.NamedWorld.{NamedWorld}
+use Rattle.bdb_stored.proofs.UserLemmas.{few_numbers}
 
 -- there are few states
 pub states_few : (t : Tables) (worlds : List NamedWorld) → StoreSome t → TellsStates t worlds → length worlds < 2 ^ 32
@@ -43,21 +44,25 @@ structure_told t worlds tuples edges rows w u e r b v =
 
 -- ---- how much is read
 
-pub users_as_many : (t : Tables) (numbers : List ℕ) (b : Contents) → StoresValid t b → IsPartOf (λ b. user_numbers b.catalog.users) t numbers → length numbers ≡ length b.catalog.users
-users_as_many t numbers b v told = ap (λ (xs : List ℕ). length xs) (told b v) ∙ users_are_counted b.catalog.users
+pub users_at_most : (t : Tables) (numbers : List ℕ) (b : Contents) → StoresValid t b → IsPartOf (λ b. user_numbers b.catalog.users) t numbers → length numbers ≤ length b.catalog.users
+users_at_most t numbers b v told =
+    let many = ap (λ (xs : List ℕ). length xs) (told b v) in
+    let few = few_numbers b.catalog.users in
+    omega (arith, many, few)
 
 pub linked_as_many : (t : Tables) (worlds : List NamedWorld) (linked : List CanonWorld) (b : Contents) → StoresValid t b → TellsStates t worlds → IsPartOf worlds_with_links t linked → length linked ≡ length worlds
 linked_as_many t worlds linked b v are told =
     ap (λ (xs : List CanonWorld). length xs) (told b v) ∙ length-map (states_of b.stmts) _
     ∙ sym (ap (λ (xs : List NamedWorld). length xs) (are b v) ∙ length-map (states_of b.stmts) _)
 
-pub read_in_all : (a b c d e f h : ℕ) (users worlds tuples rows : ℕ) (u u1 w w2 w3 u4 w5 : ℕ) → u ≡ users → worlds ≡ w → u1 ≡ u → w2 ≡ w → w3 ≡ w → u4 ≡ u → w5 ≡ w
-    → b ≤ a + (u + 1) → c ≤ b + (w + 1 + w * (2 * u1)) → d ≤ c + (tuples + 1) → e ≤ d + w2 → f ≤ e + w3 * u4 → h ≤ f + (w5 + 2 * rows)
+pub read_in_all : (a b c d e f h : ℕ) (users worlds tuples rows : ℕ) (u u1 w w2 w3 u4 w5 : ℕ) → u ≤ users → worlds ≡ w → u1 ≡ u → w2 ≡ w → w3 ≡ w → u4 ≡ u → w5 ≡ w
+    → b ≤ a + (users + 1) → c ≤ b + (w + 1 + w * (2 * u1)) → d ≤ c + (tuples + 1) → e ≤ d + w2 → f ≤ e + w3 * u4 → h ≤ f + (w5 + 2 * rows)
     → h ≤ a + (3 * (worlds * users) + 3 * worlds + users + tuples + 2 * rows + 3)
-read_in_all a b c d e f h users worlds tuples rows u u1 w w2 w3 u4 w5 eu ew e1 e2 e3 e4 e5 r1 r2 r3 r4 r5 r6 =
-    let p : w * (2 * u1) ≡ 2 * (worlds * users) = double w u1 ∙ ap (λ n. 2 * n) (ap (λ n. n * u1) (sym ew) ∙ ap (λ n. worlds * n) (e1 ∙ eu)) in
-    let q : w3 * u4 ≡ worlds * users = ap (λ n. n * u4) (e3 ∙ sym ew) ∙ ap (λ n. worlds * n) (e4 ∙ eu) in
-    omega (arith, p, q, eu, ew, e2, e5, r1, r2, r3, r4, r5, r6)
+read_in_all a b c d e f h users worlds tuples rows u u1 w w2 w3 u4 w5 lu ew e1 e2 e3 e4 e5 r1 r2 r3 r4 r5 r6 =
+    let p : w * (2 * u1) ≡ 2 * (w * u1) = double w u1 in
+    let l : w * u1 ≤ worlds * users = mul-le w u1 worlds users (omega (arith, ew)) (omega (arith, e1, lu)) in
+    let q : w3 * u4 ≤ worlds * users = mul-le w3 u4 worlds users (omega (arith, ew, e3)) (omega (arith, e4, lu)) in
+    omega (arith, p, l, q, ew, e2, e5, r1, r2, r3, r4, r5, r6)
   where
     double : (m n : ℕ) → m * (2 * n) ≡ 2 * (m * n)
     double m n = grind arith

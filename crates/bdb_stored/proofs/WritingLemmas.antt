@@ -1,19 +1,21 @@
--- Users, relations and statements, added one by one.
+-- Places of users, relations and statements, added one by one.
 use Rattle.std.proofs.Common.{◌≡◌, ◌∙◌, ℕ, ◌+◌, ◌<◌, ◌≤◌, List, [], ◌∷◌, ◌++◌, length, take, get_or, Err, refl, ap, sym, subst, arith}
 use Rattle.std.proofs.lemmas.List.{length-take-le, take_all, take_more}
 use Rattle.bdb_base.specs.Bases.{Contents, IsCatalog, IsValid, empty_contents}
 use Rattle.bdb_base.specs.declared.kinds.Catalog.{Catalog}
 use Rattle.bdb_base.specs.declared.kinds.RelDef.{RelDef}
+use Rattle.bdb_base.specs.declared.kinds.UserSlot.{UserSlot}
+use Rattle.bdb_base.specs.declared.kinds.UserSlot.TheVariants.{Live, Gone}
 use Rattle.bdb_canon.specs.declared.sizes.Counts.{Counts}
 use Rattle.bdb_catalog.specs.Bases.{StoresValid as StoresBase}
-use Rattle.bdb_catalog.specs.Creating.{AddsRelation, AddsUserNamed, MayAddRelation, MayAddUser}
+use Rattle.bdb_catalog.specs.Creating.{AddsGonePlace, AddsRelation, AddsUserNamed, MayAddGonePlace, MayAddRelation, MayAddUser, SomeMayAddGonePlace, SomeMayAddUser}
 use Rattle.bdb_keep.specs.Seen.{NeverFall, Seen, Steps}
 use Rattle.bdb_keep.specs.Tables.{Tables}
 use Rattle.bdb_tables.specs.Stored.{Stores}
 use Rattle.bdb_tables.specs.declared.tab.TabError.TheVariants.{Fault, Memory}
 use Rattle.bdb_update.specs.Calls.{HasFailed, HasStopped, StoresSized, of_stmts}
 use Rattle.bdb_stored.specs.Valid.{StoresValid}
-use Rattle.bdb_stored.specs.Writing.{base_of, with_front, with_relations, with_users}
+use Rattle.bdb_stored.specs.Writing.{AddsPlace, MayAddPlace, SomeMayAddPlace, base_of, with_front, with_relations, with_users}
 use Rattle.bdb_stored.proofs.FrontLemmas.{catalog_front, plain_is_valid}
 
 as_base : (t : Tables) (b : Contents) → StoresValid t b → StoresBase t b
@@ -22,10 +24,30 @@ as_base t b s = record { stored = s.stored; valid = s.valid }
 from_base : (t : Tables) (b : Contents) → StoresBase t b → StoresValid t b
 from_base t b s = record { stored = s.stored; valid = s.valid }
 
-module _ (c : Catalog) (v : IsCatalog c) where
-  -- ---- users
+-- ---- one place, that of a user or of one who is gone
 
-  users_of : List (List ℕ) → Contents
+user_may : (t : Tables) (uid : ℕ) (name : List ℕ) (b : Contents) → MayAddPlace t uid (Live name) b → MayAddUser t uid name b
+user_may t uid name b h = record { base = as_base t b h.base; next = h.next; valid = h.valid }
+
+gone_may : (t : Tables) (uid : ℕ) (b : Contents) → MayAddPlace t uid Gone b → MayAddGonePlace t uid b
+gone_may t uid b h = record { base = as_base t b h.base; next = h.next; valid = h.valid }
+
+pub some_user : (t : Tables) (uid : ℕ) (slot : UserSlot) (name : List ℕ) → slot ≡ Live name → SomeMayAddPlace t uid slot → SomeMayAddUser t uid name
+some_user t uid slot name e h = record { base = h.base; may = user_may t uid name h.base (subst (λ s. MayAddPlace t uid s h.base) e h.may) }
+
+pub some_gone : (t : Tables) (uid : ℕ) (slot : UserSlot) → slot ≡ Gone → SomeMayAddPlace t uid slot → SomeMayAddGonePlace t uid
+some_gone t uid slot e h = record { base = h.base; may = gone_may t uid h.base (subst (λ s. MayAddPlace t uid s h.base) e h.may) }
+
+pub user_added : (t u : Tables) (uid : ℕ) (slot : UserSlot) (name : List ℕ) → slot ≡ Live name → AddsUserNamed t u uid name → AddsPlace t u uid slot
+user_added t u uid slot name e added = subst (AddsPlace t u uid) (sym e) (λ b h. from_base u _ (added b (user_may t uid name b h)))
+
+pub gone_added : (t u : Tables) (uid : ℕ) (slot : UserSlot) → slot ≡ Gone → AddsGonePlace t u uid → AddsPlace t u uid slot
+gone_added t u uid slot e added = subst (AddsPlace t u uid) (sym e) (λ b h. from_base u _ (added b (gone_may t uid b h)))
+
+module _ (c : Catalog) (v : IsCatalog c) where
+  -- ---- places of users
+
+  users_of : List UserSlot → Contents
   users_of us = base_of us [] []
 
   users_valid : (k : ℕ) → IsValid (with_users c k).catalog []
@@ -34,21 +56,21 @@ module _ (c : Catalog) (v : IsCatalog c) where
   pub users_begin : (t : Tables) → Stores t empty_contents → StoresValid t (with_users c 0)
   users_begin t s = record { stored = s; valid = users_valid 0 }
 
-  module _ (k : ℕ) (name : List ℕ) (l : k < length c.users) (is : name ≡ get_or c.users k name) where
-    one_user : take k c.users ++ name ∷ [] ≡ take (k + 1) c.users
-    one_user = ap (λ n. take k c.users ++ n ∷ []) is ∙ sym (take_more c.users k name l)
+  module _ (k : ℕ) (slot : UserSlot) (l : k < length c.users) (is : slot ≡ get_or c.users k slot) where
+    one_place : take k c.users ++ slot ∷ [] ≡ take (k + 1) c.users
+    one_place = ap (λ s. take k c.users ++ s ∷ []) is ∙ sym (take_more c.users k slot l)
 
-    pub user_may : (t : Tables) (uid : ℕ) → uid ≡ k + 1 → StoresValid t (with_users c k) → MayAddUser t uid name (with_users c k)
+    pub place_may : (t : Tables) (uid : ℕ) → uid ≡ k + 1 → StoresValid t (with_users c k) → MayAddPlace t uid slot (with_users c k)
     unfolding users_of
-    user_may t uid e s = record {
-      base = as_base t (with_users c k) s;
+    place_may t uid e s = record {
+      base = s;
       next = (let n = length-take-le k c.users (omega arith) in omega arith);
-      valid = subst (λ us. IsValid (users_of us).catalog []) (sym one_user) (users_valid (k + 1));
+      valid = subst (λ us. IsValid (users_of us).catalog []) (sym one_place) (users_valid (k + 1));
     }
 
-    pub user_added : (t u : Tables) (uid : ℕ) → uid ≡ k + 1 → StoresValid t (with_users c k) → AddsUserNamed t u uid name → StoresValid u (with_users c (k + 1))
+    pub place_added : (t u : Tables) (uid : ℕ) → uid ≡ k + 1 → StoresValid t (with_users c k) → AddsPlace t u uid slot → StoresValid u (with_users c (k + 1))
     unfolding users_of
-    user_added t u uid e s added = subst (λ us. StoresValid u (users_of us)) one_user (from_base u _ (added (with_users c k) (user_may t uid e s)))
+    place_added t u uid e s added = subst (λ us. StoresValid u (users_of us)) one_place (added (with_users c k) (place_may t uid e s))
 
   pub users_end : (t : Tables) (k : ℕ) → length c.users ≤ k → StoresValid t (with_users c k) → StoresValid t (base_of c.users [] [])
   unfolding users_of

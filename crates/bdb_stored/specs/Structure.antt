@@ -1,8 +1,9 @@
 -- What calls tell of the structure of a stored base.
-use Rattle.std.specs.Prelude.{◌≡◌, ℕ, ◌≤◌, ◌+◌, ◌*◌, true, length, List, [], map, Option}
+use Rattle.std.specs.Prelude.{◌≡◌, ℕ, ◌≤◌, ◌+◌, ◌*◌, Bool, true, length, List, [], map, filter, Option, is_some}
 use Rattle.std.specs.List.{list_all, flat_map}
-use Rattle.bdb_base.specs.Bases.{Contents, is_user, key_lengths}
+use Rattle.bdb_base.specs.Bases.{Contents, is_user, key_lengths, live_name}
 use Rattle.bdb_base.specs.declared.kinds.Held.{Held}
+use Rattle.bdb_base.specs.declared.kinds.UserSlot.{UserSlot}
 use Rattle.bdb_base.specs.declared.tuple.Tuple.{Tuple}
 use Rattle.bdb_base.specs.Order.{path_cmp, tuple_cmp}
 use Rattle.bdb_base.specs.Queries.{user_numbers}
@@ -20,6 +21,18 @@ use Rattle.bdb_stored.specs.Items.{with_item}
 use Rattle.bdb_stored.specs.Valid.{StoresValid}
 use Rattle.bdb_stored.specs.Worlds.{AreStates, IsState}
 use Rattle.bdb_stored.specs.declared.named.NamedWorld.{NamedWorld}
+
+-- a row is that of a live user
+abbrev pub is_live : ℕ × UserSlot → Bool
+is_live row = is_some (live_name row.1)
+
+-- the numbers of the rows of live users
+abbrev pub live_keys : List (ℕ × UserSlot) → List ℕ
+live_keys rows = map (λ (e : ℕ × UserSlot). e.0) (filter is_live rows)
+
+-- whichever valid base the tables store, there is no more than one read for each place of a user, and one
+abbrev pub ReadsPlaces : Seen → Seen → Type 0
+ReadsPlaces old new = (b : Contents) → StoresValid old.kept b → new.reads ≤ old.reads + (length b.catalog.users + 1)
 
 -- the states of a base with their suffix links
 abbrev pub worlds_with_links : Contents → List CanonWorld
@@ -55,9 +68,9 @@ TellsEdges t worlds x from uids found = (b : Contents) (v : StoresValid t b) →
 abbrev pub row_placed : List Tuple → ℕ → Held → CanonRow
 row_placed tuples world h = record { world = world; tuple = place_in tuple_cmp tuples h.tuple; sign = h.sign; explicit = h.explicit }
 
--- How many reads a base's structure takes at most, for so many users: one for each user and each tuple, and three that end the
--- tables of users, states and tuples; three for each state, for its depth, its link and the end of its rows; two for each row; and
--- three for each state and user, two that look for the state one user deeper, and one for the edge.
+-- How many reads a base's structure takes at most, for so many places of users: one for each place and each tuple, and three
+-- that end the tables of users, states and tuples; three for each state, for its depth, its link and the end of its rows; two for
+-- each row; and three for each state and user, two that look for the state one user deeper, and one for the edge.
 abbrev pub canon_reads : ℕ → Canon → ℕ
 canon_reads users k = let worlds = length k.worlds in 3 * (worlds * users) + 3 * worlds + users + length k.tuples + 2 * length k.rows + 3
 

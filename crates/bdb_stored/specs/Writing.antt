@@ -1,15 +1,17 @@
 -- Tables that are cleared, and the base that is written into them piece by piece.
-use Rattle.std.specs.Prelude.{◌≡◌, ℕ, ◌≤◌, Bool, true, false, ◌&&◌, nat_eq, nat_le, nat_lt, List, [], ◌∷◌, take, Some, None}
+use Rattle.std.specs.Prelude.{◌≡◌, ℕ, ◌+◌, ◌≤◌, Bool, true, false, ◌&&◌, nat_eq, nat_le, nat_lt, List, [], ◌∷◌, ◌++◌, length, take, Some, None}
 use Rattle.std.specs.FinMap as tables
 use Rattle.bdb_base.specs.Bases.{Contents, IsValid, stands, with_statement}
 use Rattle.bdb_base.specs.declared.kinds.Catalog.{Catalog}
 use Rattle.bdb_base.specs.declared.kinds.RelDef.{RelDef}
 use Rattle.bdb_base.specs.declared.kinds.Stmt.{Stmt}
+use Rattle.bdb_base.specs.declared.kinds.UserSlot.{UserSlot}
 use Rattle.bdb_canon.specs.Sizes.{counts_of}
 use Rattle.bdb_canon.specs.declared.sizes.Counts.{Counts}
 use Rattle.bdb_keep.specs.Tables.{Tables}
 use Rattle.bdb_tables.specs.Stored.{SameBut}
 use Rattle.bdb_update.specs.Calls.{MayMeet, StoresSized, clash_of, of_stmts, size_passed, with_one}
+use Rattle.bdb_stored.specs.Valid.{StoresValid}
 
 -- the number of a table that is before another
 abbrev pub is_before : ℕ → ℕ → Bool
@@ -29,11 +31,11 @@ pub record IsCleared (tab : ℕ) (t u : Tables) : Type 0 where
 abbrev pub HaveNoRows : Tables → Type 0
 HaveNoRows t = (n : ℕ) (k : List ℕ) → tables.get t (n ∷ k) ≡ None
 
--- the base of users, relations and statements
-abbrev pub base_of : List (List ℕ) → List RelDef → List Stmt → Contents
+-- the base of places of users, relations and statements
+abbrev pub base_of : List UserSlot → List RelDef → List Stmt → Contents
 base_of users rels stmts = record { catalog = record { rels = rels; users = users }; stmts = stmts }
 
--- the base of the first users of a catalog
+-- the base of the first places of users of a catalog
 abbrev pub with_users : Catalog → ℕ → Contents
 with_users c k = base_of (take k c.users) [] []
 
@@ -44,6 +46,25 @@ with_relations c k = base_of c.users (take k c.rels) []
 -- the base of the first statements of another
 abbrev pub with_front : Contents → ℕ → Contents
 with_front b k = of_stmts b (take k b.stmts)
+
+-- the catalog with one more place, whoever's it is
+abbrev pub with_slot : Catalog → UserSlot → Catalog
+with_slot c slot = record c { users = c.users ++ slot ∷ [] }
+
+-- tables store a valid base, to which a place of the next number may be added
+pub record MayAddPlace (t : Tables) (uid : ℕ) (slot : UserSlot) (b : Contents) : Type 0 where
+  pub base : StoresValid t b
+  pub next : uid ≡ length b.catalog.users + 1
+  pub valid : IsValid (with_slot b.catalog slot) b.stmts
+
+-- there is such a base
+pub record SomeMayAddPlace (t : Tables) (uid : ℕ) (slot : UserSlot) : Type 0 where
+  pub base : Contents
+  pub may : MayAddPlace t uid slot base
+
+-- whichever base it is, the tables store it with the place
+abbrev pub AddsPlace : Tables → Tables → ℕ → UserSlot → Type 0
+AddsPlace t u uid slot = (b : Contents) → MayAddPlace t uid slot b → StoresValid u (record b { catalog = with_slot b.catalog slot })
 
 -- tables store a valid base of these sizes, which a statement more leaves valid, and the statement neither stands nor
 -- clashes, and passes no limit

@@ -4,12 +4,12 @@ ghost use Rattle.bdb_base.specs.Bases.{IsCatalog, empty_contents};
 ghost use Rattle.bdb_keep.specs.Seen.{NeverFall, Steps};
 ghost use Rattle.bdb_tables.specs.Stored.{Stores};
 ghost use Rattle.bdb_stored.specs.Valid.{StoresValid};
-ghost use Rattle.bdb_stored.specs.Writing.{AddsNext, HaveNoRows, SomeMayFollow, base_of};
+ghost use Rattle.bdb_stored.specs.Writing.{AddsNext, AddsPlace, HaveNoRows, SomeMayAddPlace, SomeMayFollow, base_of};
 
 use crate::clearing::clear_tables;
-use bdb_base::{Base, Catalog, Stmt};
+use bdb_base::{Base, Catalog, Stmt, UserSlot};
 use bdb_canon::Counts;
-use bdb_catalog::{add_relation, add_user};
+use bdb_catalog::{add_gone_place, add_relation, add_user};
 use bdb_keep::Keeper;
 use bdb_tables::{DepthTab, MetaTab, TabError, put};
 use bdb_update::{Added, UpdateError, add_statement};
@@ -18,8 +18,8 @@ use std::alloc::Global;
 /// The format of tables that store a base with its worlds.
 const FORMAT: u32 = 3;
 
-/// Makes the tables those of a base, whatever rows they had: all rows are taken away, and users, relations and statements
-/// added one by one.
+/// Makes the tables those of a base, whatever rows they had: all rows are taken away, and places of users, relations and
+/// statements added one by one.
 pub fn write_all_tables<K: Keeper>(
     alloc: Global,
     keeper: &mut K,
@@ -89,7 +89,7 @@ fn write_catalog<K: Keeper>(
     }
 }
 
-// Adds the users to the empty base.
+// Adds the places of users to the empty base.
 fn write_users<K: Keeper>(alloc: Global, keeper: &mut K, catalog: &Catalog) -> Result<(), TabError>
     requires running { (K.seen keeper.old).running ≡ true }
     requires catalog { IsCatalog catalog.now }
@@ -100,12 +100,37 @@ fn write_users<K: Keeper>(alloc: Global, keeper: &mut K, catalog: &Catalog) -> R
 {
     let users = catalog.users.as_slice();
     for at in 0..users.len() {
-        match add_user(alloc, keeper, at as u32 + 1, &users[at]) {
+        match write_place(alloc, keeper, at as u32 + 1, &users[at]) {
             Ok(()) => {}
             Err(error) => return Err(error),
         }
     }
     Ok(())
+}
+
+// Adds a place of the next number, that of a live user or of one who is gone.
+fn write_place<K: Keeper>(
+    alloc: Global,
+    keeper: &mut K,
+    uid: u32,
+    slot: &UserSlot,
+) -> Result<(), TabError>
+    requires running { (K.seen keeper.old).running ≡ true }
+    requires base { SomeMayAddPlace (K.seen keeper.old).kept uid slot.now }
+    ensures added { OnOk result (AddsPlace (K.seen keeper.old).kept (K.seen keeper.new).kept uid slot.now) }
+    ensures counts { NeverFall (K.seen keeper.old) (K.seen keeper.new) }
+    ensures steps { Steps (K.seen keeper.old) (K.seen keeper.new) result TabError.Fault }
+{
+    match slot {
+        UserSlot::Live(name) => match add_user(alloc, keeper, uid, name) {
+            Ok(()) => Ok(()),
+            Err(error) => Err(error),
+        },
+        UserSlot::Gone => match add_gone_place(alloc, keeper, uid) {
+            Ok(()) => Ok(()),
+            Err(error) => Err(error),
+        },
+    }
 }
 
 // Adds the relations to the base that has the users alone.

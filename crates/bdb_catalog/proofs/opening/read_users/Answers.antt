@@ -22,8 +22,8 @@ pub loop-number-preserved : goal.loop-number-preserved
 loop-number-preserved g c =
     let n = c.loop-number.number in
     let num : IsNum (n + 1) = search rules in
-    let row : HasAt user_codec (g.K.Keeper.seen c.args.keeper.now).kept (n + 1) (Some c.in-Ok-Some.name) =
-    at_old user_codec (g.K.Keeper.seen c.args.keeper.now).kept (g.K.Keeper.seen c.loop-number.keeper).kept (n + 1) c.in-Ok-Some.field-0 (Some c.in-Ok-Some.name) c.loop-number.invariant.kept c.in-Ok-Some.field-0-is c.in-Ok-Some.ensures.found in
-    let more = users_more (g.K.Keeper.seen c.args.keeper.now).kept n c.in-Ok-Some.name c.loop-number.users num row c.loop-number.invariant.read in
-    let pushed : c.push.new.self ≡ c.loop-number.users ++ c.in-Ok-Some.name ∷ [] = search rules in
+    let row : HasAt user_codec (g.K.Keeper.seen c.args.keeper.now).kept (n + 1) (Some c.in-Ok-Some.slot) =
+    at_old user_codec (g.K.Keeper.seen c.args.keeper.now).kept (g.K.Keeper.seen c.loop-number.keeper).kept (n + 1) c.in-Ok-Some.field-0 (Some c.in-Ok-Some.slot) c.loop-number.invariant.kept c.in-Ok-Some.field-0-is c.in-Ok-Some.ensures.found in
+    let more = users_more (g.K.Keeper.seen c.args.keeper.now).kept n c.in-Ok-Some.slot c.loop-number.users num row c.loop-number.invariant.read in
+    let pushed : c.push.new.self ≡ c.loop-number.users ++ c.in-Ok-Some.slot ∷ [] = search rules in
     record { goes = search rules; kept = search rules; writes = search rules; counts = search rules; read = rw pushed more }

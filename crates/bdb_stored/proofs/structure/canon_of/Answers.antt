@@ -10,7 +10,7 @@ use Rattle.bdb_stored.specs.Valid.{IsPartOf}
 use Rattle.bdb_stored.specs.Worlds.{TellsStates}
 use Rattle.bdb_stored.specs.declared.named.NamedWorld.{NamedWorld}
 use Rattle.bdb_stored.proofs.CountingLemmas.{valid_has_tuples, valid_in_grammar}
-use Rattle.bdb_stored.proofs.StructureLemmas.{linked_as_many, read_in_all, states_few, tuples_in_set, users_as_many}
+use Rattle.bdb_stored.proofs.StructureLemmas.{linked_as_many, read_in_all, states_few, tuples_in_set, users_at_most}
 use Rattle.bdb_stored.proofs.structure.canon_of.Goals as goal
 
 pub worlds_with_links-requires-clause-worlds : goal.worlds_with_links-requires-clause-worlds
@@ -73,7 +73,7 @@ returns-in-Ok-rows_of-clause-reads g c b v =
     let u = c.in-Ok.users.items in
     let w = c.in-Ok-worlds_in_order.worlds.items in
     let k = c.in-Ok-worlds_with_links.linked in
-    let users : length u ≡ length b.catalog.users = users_as_many t u b v c.in-Ok.ensures.numbers in
+    let users : length u ≤ length b.catalog.users = users_at_most t u b v c.in-Ok.ensures.numbers in
     let back = c.in-Ok-tuples_in_order.ensures.read.kept ∙ c.in-Ok-worlds_in_order.ensures.read.kept ∙ c.in-Ok.ensures.read.kept in
     let many : length k ≡ length w =
     linked_as_many t w k b v (subst (λ x. TellsStates x w) c.in-Ok.ensures.read.kept c.in-Ok-worlds_in_order.ensures.worlds) (subst (λ x. IsPartOf worlds_with_links x k) back c.in-Ok-worlds_with_links.ensures.linked) in
@@ -84,5 +84,5 @@ returns-in-Ok-rows_of-clause-reads g c b v =
     let d5 : length c.deref-5.result.now ≡ length w = ap (λ (xs : List NamedWorld). length xs) c.deref-5.ensures.value in
     read_in_all _ _ _ _ _ _ _ (length b.catalog.users) (length k) (length c.in-Ok-tuples_in_order.tuples) (length c.in-Ok-rows_of.rows)
     (length u) (length c.deref.result.now) (length w) (length c.deref-2.result.now) (length c.deref-3.result.now) (length c.deref-4.result.now) (length c.deref-5.result.now)
-    users many d d2 d3 d4 d5 c.in-Ok.ensures.reads c.in-Ok-worlds_in_order.ensures.reads c.in-Ok-tuples_in_order.ensures.reads
+    users many d d2 d3 d4 d5 (c.in-Ok.ensures.reads b v) c.in-Ok-worlds_in_order.ensures.reads c.in-Ok-tuples_in_order.ensures.reads
     c.in-Ok-worlds_with_links.ensures.reads c.in-Ok-edges_of.ensures.reads c.in-Ok-rows_of.ensures.reads
