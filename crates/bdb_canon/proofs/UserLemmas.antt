@@ -1,42 +1,59 @@
--- The numbers of users.
-use Rattle.std.proofs.Common.{◌≡◌, ◌∙◌, ℕ, ◌+◌, ◌<◌, ◌≤◌, true, nat_lt, nat_le, List, [], ◌∷◌, ◌++◌, refl, ap, sym, suc, arith, length, take, get_or}
-use Rattle.std.specs.List.{list_all}
-use Rattle.std.proofs.lemmas.Bool.{and_from, lt-ltb, le-leb}
-use Rattle.std.proofs.lemmas.List.{take_more, take_all, length-take-le}
-use Rattle.bdb_base.specs.Bases.{is_user}
-use Rattle.bdb_base.specs.Queries.{numbers_from, user_numbers}
-use Rattle.bdb_base.proofs.ListLemmas.{filter_all}
+-- The numbers of the live users, place by place.
+use Rattle.std.proofs.Common.{◌≡◌, ◌∙◌, ℕ, ◌+◌, ◌-◌, ◌<◌, ◌≤◌, true, false, List, [], ◌∷◌, ◌++◌, refl, ap, sym, suc, arith, length, take, get_or, Some}
+use Rattle.std.specs.List.{slice_get}
+use Rattle.std.specs.Option.{option_and_then, is_some}
+use Rattle.std.proofs.lemmas.Bool.{false≢true}
+use Rattle.std.proofs.lemmas.List.{append-nil, take_more, take_all, length-take-le}
+use Rattle.std.proofs.lemmas.Option.{get_or_from_slice_get, slice_get-get_or}
+use Rattle.bdb_base.specs.declared.kinds.UserSlot.{UserSlot}
+use Rattle.bdb_base.specs.declared.kinds.UserSlot.TheVariants.{Live, Gone}
+use Rattle.bdb_base.specs.Bases.{is_user, live_name, user_names}
+use Rattle.bdb_base.specs.Queries.{live_numbers, user_numbers}
+use Rattle.bdb_base.proofs.UserLemmas.{numbers_are_counted, numbers_are_live, user_at_place, user_lives}
 
-pub numbers_push : (n : ℕ) (xs : List (List ℕ)) (x : List ℕ) → numbers_from n (xs ++ x ∷ []) ≡ numbers_from n xs ++ (n + length xs) ∷ []
-numbers_push n [] x = let e : n ≡ n + 0 = omega arith in ap (λ m. m ∷ []) e
-numbers_push n (y ∷ ys) x =
-    let e : suc n + length ys ≡ n + suc (length ys) = omega arith in
-    ap (λ l. n ∷ l) (numbers_push (suc n) ys x) ∙ ap (λ m. n ∷ (numbers_from (suc n) ys ++ m ∷ [])) e
+-- a place behind the others
+live_push : (n : ℕ) (users : List UserSlot) (slot : UserSlot) → live_numbers n (users ++ slot ∷ []) ≡ live_numbers n users ++ live_numbers (n + length users) (slot ∷ [])
+live_push n [] slot = let e : n ≡ n + 0 = omega arith in ap (λ m. live_numbers m (slot ∷ [])) e
+live_push n (Live name ∷ us) slot =
+    let e : suc n + length us ≡ n + suc (length us) = omega arith in
+    ap (λ l. n ∷ l) (live_push (suc n) us slot) ∙ ap (λ m. n ∷ (live_numbers (suc n) us ++ live_numbers m (slot ∷ []))) e
+live_push n (Gone ∷ us) slot =
+    let e : suc n + length us ≡ n + suc (length us) = omega arith in
+    live_push (suc n) us slot ∙ ap (λ m. live_numbers (suc n) us ++ live_numbers m (slot ∷ [])) e
 
-are_numbered : (users xs : List (List ℕ)) (n : ℕ) → 0 < n → n + length xs ≤ 1 + length users → list_all (is_user users) (numbers_from n xs) ≡ true
-are_numbered users [] n p l = refl
-are_numbered users (x ∷ xs) n p l =
-    and_from (is_user users n) (list_all (is_user users) (numbers_from (suc n) xs))
-    (and_from (nat_lt 0 n) (nat_le n (length users)) (lt-ltb 0 n p) (le-leb n (length users) (omega arith)))
-    (are_numbered users xs (suc n) (omega arith) (omega arith))
-
--- every number from 1 to the count of users is that of a user
-pub all_are_users : (users : List (List ℕ)) → user_numbers users ≡ numbers_from 1 users
-all_are_users users = filter_all (is_user users) (numbers_from 1 users) (are_numbered users users 1 (omega arith) (omega arith))
-
-pub next_number : (users : List (List ℕ)) (at : ℕ) → at < length users → numbers_from 1 (take (at + 1) users) ≡ numbers_from 1 (take at users) ++ (at + 1) ∷ []
-next_number users at l =
+-- the numbers up to a place, and that of the place
+live_next : (users : List UserSlot) (at : ℕ) → at < length users
+    → live_numbers 1 (take (at + 1) users) ≡ live_numbers 1 (take at users) ++ live_numbers (at + 1) (get_or users at Gone ∷ [])
+live_next users at l =
     let e : 1 + length (take at users) ≡ at + 1 = (let k = length-take-le at users (omega arith) in omega arith) in
-    ap (numbers_from 1) (take_more users at [] l) ∙ numbers_push 1 (take at users) (get_or users at [])
-    ∙ ap (λ m. numbers_from 1 (take at users) ++ m ∷ []) e
+    ap (live_numbers 1) (take_more users at Gone l) ∙ live_push 1 (take at users) (get_or users at Gone)
+    ∙ ap (λ m. live_numbers 1 (take at users) ++ live_numbers m (get_or users at Gone ∷ [])) e
 
-pub all_numbers : (users : List (List ℕ)) (at : ℕ) → length users ≤ at → numbers_from 1 (take at users) ≡ user_numbers users
-all_numbers users at l = ap (numbers_from 1) (take_all at users l) ∙ sym (all_are_users users)
+pub next_number : (users : List UserSlot) (at : ℕ) → at < length users → is_user users (at + 1) ≡ true
+    → live_numbers 1 (take (at + 1) users) ≡ live_numbers 1 (take at users) ++ (at + 1) ∷ []
+next_number users at l h =
+    let name = user_lives users (at + 1) h in
+    let place : (at + 1) - 1 ≡ at = omega arith in
+    let here : slice_get users at ≡ Some (Live name.0) = sym (ap (slice_get users) place) ∙ name.1 in
+    live_next users at l
+    ∙ ap (λ s. live_numbers 1 (take at users) ++ live_numbers (at + 1) (s ∷ [])) (get_or_from_slice_get users at (Live name.0) Gone here)
 
-length-numbers : (n : ℕ) (xs : List (List ℕ)) → length (numbers_from n xs) ≡ length xs
-length-numbers n [] = refl
-length-numbers n (x ∷ xs) = ap suc (length-numbers (suc n) xs)
+-- who has no name has no number
+none_of : (n : ℕ) (slot : UserSlot) → is_some (live_name slot) ≡ false → live_numbers n (slot ∷ []) ≡ []
+none_of n (Live name) h = absurd (false≢true (sym h))
+none_of n Gone h = refl
 
--- there are as many numbers as users
-pub users_are_counted : (users : List (List ℕ)) → length (user_numbers users) ≡ length users
-users_are_counted users = ap length (all_are_users users) ∙ length-numbers 1 users
+pub no_number : (users : List UserSlot) (at : ℕ) → at < length users → is_user users (at + 1) ≡ false → live_numbers 1 (take (at + 1) users) ≡ live_numbers 1 (take at users)
+no_number users at l h =
+    let e : 1 + at ≡ at + 1 = omega arith in
+    let unnamed : is_some (live_name (get_or users at Gone)) ≡ false =
+    sym (ap (λ o. is_some (option_and_then live_name o)) (slice_get-get_or users at Gone l)) ∙ sym (user_at_place users at) ∙ ap (is_user users) e ∙ h in
+    live_next users at l ∙ ap (λ ns. live_numbers 1 (take at users) ++ ns) (none_of (at + 1) (get_or users at Gone) unnamed)
+    ∙ append-nil (live_numbers 1 (take at users))
+
+pub all_numbers : (users : List UserSlot) (at : ℕ) → length users ≤ at → live_numbers 1 (take at users) ≡ user_numbers users
+all_numbers users at l = ap (live_numbers 1) (take_all at users l) ∙ sym (numbers_are_live users)
+
+-- there are as many numbers as names
+pub users_are_counted : (users : List UserSlot) → length (user_numbers users) ≡ length (user_names users)
+users_are_counted users = numbers_are_counted users

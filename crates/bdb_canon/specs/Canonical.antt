@@ -47,7 +47,7 @@ row_entry states tuples w h = record { world = place_in path_cmp states w; tuple
 abbrev pub rows_from : (ℕ → ℕ) → List Stmt → List (List ℕ) → List Tuple → List ℕ → List CanonRow
 rows_from keys stmts states tuples w = map (row_entry states tuples w) (world_of keys stmts w)
 
--- the structure over the users, the states and the tuples
+-- the structure over the live users, the states and the tuples
 abbrev pub canon_over : (ℕ → ℕ) → List Stmt → List ℕ → List (List ℕ) → List Tuple → Canon
 canon_over keys stmts users states tuples = record {
   worlds = map (world_entry states) states;
@@ -60,7 +60,7 @@ canon_over keys stmts users states tuples = record {
 abbrev pub canon_of : Contents → Canon
 canon_of b = canon_over (key_lengths b.catalog.rels) b.stmts (user_numbers b.catalog.users) (states_of b.stmts) (tuples_of b.stmts)
 
--- how many lines tell the structure: one for each user, relation, tuple, world, edge and row
+-- how many lines tell the structure: one for each live user, relation, tuple, world, edge and row
 abbrev pub line_count : Catalog → Canon → ℕ
 line_count catalog k = length (user_numbers catalog.users) + (length catalog.rels + (length k.tuples + (length k.worlds + (length k.edges + length k.rows))))
 

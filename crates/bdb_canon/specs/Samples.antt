@@ -13,6 +13,8 @@ use Rattle.bdb_base.specs.declared.kinds.RelDef.{RelDef}
 use Rattle.bdb_base.specs.declared.kinds.Sign.{Sign}
 use Rattle.bdb_base.specs.declared.kinds.Sign.TheVariants.{Plus, Minus}
 use Rattle.bdb_base.specs.declared.kinds.Stmt.{Stmt}
+use Rattle.bdb_base.specs.declared.kinds.UserSlot.{UserSlot}
+use Rattle.bdb_base.specs.declared.kinds.UserSlot.TheVariants.{Live}
 use Rattle.bdb_base.specs.declared.kinds.Value.TheVariants.{Text}
 use Rattle.bdb_base.specs.Bases.{Contents}
 
@@ -24,11 +26,11 @@ sightings = record { name = codes "S"; cols = record { name = codes "k"; kind = 
 abbrev pub stated_at : List ℕ → Sign → List ℕ → List ℕ → Stmt
 stated_at w s k v = record { path = w; sign = s; tuple = record { rel = 0; vals = Text k ∷ Text v ∷ [] } }
 
-abbrev pub two_users : List (List ℕ)
-two_users = codes "Alice" ∷ codes "Bob" ∷ []
+abbrev pub two_users : List UserSlot
+two_users = Live (codes "Alice") ∷ Live (codes "Bob") ∷ []
 
-abbrev pub three_users : List (List ℕ)
-three_users = codes "Alice" ∷ codes "Bob" ∷ codes "Carol" ∷ []
+abbrev pub three_users : List UserSlot
+three_users = Live (codes "Alice") ∷ Live (codes "Bob") ∷ Live (codes "Carol") ∷ []
 
 -- an eagle, which Bob denies
 abbrev pub denied : Contents

@@ -7,7 +7,7 @@ ghost use Rattle.bdb_canon.specs.Canonical.{canon_of, edge_count, left_after, li
 
 use crate::structure::Canon;
 use crate::users::user_numbers;
-use bdb_base::{Base, Catalog, Path, RelDef, Stmt, path_is_suffix, tuples_of};
+use bdb_base::{Base, Catalog, Path, RelDef, Stmt, live_count, path_is_suffix, tuples_of};
 use bdb_model::world_among;
 use bdb_paths::states_of;
 use std::alloc::{AllocError, Global};
@@ -64,13 +64,13 @@ fn has_more_parts(
 pub fn line_count(catalog: &Catalog, canon: &Canon) -> usize
     ensures { result ≡ line_count catalog.now canon.now }
 {
-    let users = catalog.users.as_slice();
+    let users = live_count(catalog.users.as_slice());
     let rels = catalog.rels.as_slice();
     let tuples = canon.tuples.as_slice();
     let worlds = canon.worlds.as_slice();
     let edges = canon.edges.as_slice();
     let rows = canon.rows.as_slice();
-    users.len() + rels.len() + tuples.len() + worlds.len() + edges.len() + rows.len()
+    users + rels.len() + tuples.len() + worlds.len() + edges.len() + rows.len()
 }
 
 /// What the edges of states leave of a number; none where they are more.

@@ -1,28 +1,26 @@
 -- What the pools of a query's items hold.
-use Rattle.std.proofs.Common.{◌≡◌, ◌∙◌, ℕ, suc, ◌+◌, ◌-◌, ◌<◌, true, ◌&&◌, nat_eq, nat_lt, nat_le, List, [], ◌∷◌, Option, None, Some, inl, inr, refl, ap, sym, subst, length, filter, arith, ◌⊎◌}
-use Prim.Native.Nat.{zero}
-use Rattle.std.specs.List.{list_any, list_all, slice_get}
-use Rattle.std.proofs.lemmas.Bool.{false≢true, cases_Bool, cond-true, cond-false, or_cases, and_parts, and_from, le-leb, lt-ltb, ltb-true}
+use Rattle.std.proofs.Common.{◌≡◌, ◌∙◌, ℕ, true, ◌&&◌, nat_eq, List, [], Option, None, Some, inl, inr, refl, ap, sym, subst, filter, ◌⊎◌}
+use Rattle.std.specs.List.{list_any}
+use Rattle.std.proofs.lemmas.Bool.{false≢true, cases_Bool, cond-true, cond-false, and_parts, and_from}
 use Rattle.std.proofs.lemmas.Bool.Decides.{Decides-eqb}
-use Rattle.std.proofs.lemmas.Option.{slice_get_within}
-use Rattle.bdb_base.specs.declared.kinds.Catalog.{Catalog}
 use Rattle.bdb_base.specs.declared.kinds.Held.{Held}
 use Rattle.bdb_base.specs.declared.kinds.Sign.{Sign}
 use Rattle.bdb_base.specs.declared.kinds.Sign.TheVariants.{Plus, Minus}
 use Rattle.bdb_base.specs.declared.kinds.Stmt.{Stmt}
 use Rattle.bdb_base.specs.declared.tuple.Tuple.{Tuple}
 use Rattle.bdb_base.specs.Alternation.{alternates}
-use Rattle.bdb_base.specs.Bases.{Contents, AreStatements, is_user, belongs, fits_relation, key_lengths}
+use Rattle.bdb_base.specs.Bases.{Contents, AreStatements, belongs, fits_relation, key_lengths}
 use Rattle.bdb_base.specs.Clash.{clash}
-use Rattle.bdb_base.specs.Queries.{user_name, path_believes}
+use Rattle.bdb_base.specs.Queries.{path_believes}
 use Rattle.bdb_base.specs.Same.{same_tuple, same_sign}
 use Rattle.bdb_base.specs.SameLemmas.{same_tuple-Decides, same_sign-Decides}
 use Rattle.bdb_base.specs.WorldRows.{world_of, same_row, has_row}
 use Rattle.bdb_base.specs.Worlds.{explicit, stated, believes}
+use Rattle.bdb_base.proofs.BaseLemmas.{belongs_parts}
 use Rattle.bdb_base.proofs.CountLemmas.{list_any-map}
 use Rattle.bdb_base.proofs.WorldLemmas.{stated_tuples_are_explicit, rival_from_clash, clash_from_rival, negations_are_believed}
 use Rattle.bdb_base.proofs.WorldRowsLemmas.{rows_are_the_world, same_row_from, same_row_tells}
-use Rattle.bdb_queries.proofs.FoundLemmas.{Found, found_first, found_later, found-map, found-filter, found_both, list_any-filter}
+use Rattle.bdb_queries.proofs.FoundLemmas.{Found, found-map, found-filter, found_both, list_any-filter}
 use Rattle.bdb_model.specs.Pools.{world_at, is_plus_of, plus_tuples, denies}
 use Rattle.bdb_queries.proofs.UserLemmas.{found_nowhere}
 use Rattle.bdb_queries.proofs.FoundLemmas.{found_with}
@@ -148,7 +146,4 @@ believed_fits b h (Some w) t e =
     let k = and_parts (alternates w) (stated (keys_of b) b.stmts w t Plus) e in
     let found = found_both (belongs b.catalog) (λ x. same_tuple x.tuple t) b.stmts h.belong (stated_tuples_are_explicit (keys_of b) b.stmts w t Plus k.1) in
     let same : found.0.tuple ≡ t = (same_tuple-Decides found.0.tuple t).0 found.2 in
-    ap (fits_relation b.catalog.rels) (sym same) ∙ belongs_fits b.catalog found.0 found.1
-  where
-    belongs_fits : (c : Catalog) (x : Stmt) → belongs c x ≡ true → fits_relation c.rels x.tuple ≡ true
-    belongs_fits c x h = (and_parts (alternates x.path && nat_le (length x.path) 16 && list_all (is_user c.users) x.path) (fits_relation c.rels x.tuple) h).1
+    ap (fits_relation b.catalog.rels) (sym same) ∙ (belongs_parts b.catalog found.0 found.1).tuple

@@ -14,6 +14,7 @@ use Rattle.bdb_base.specs.declared.kinds.Query.{Query}
 use Rattle.bdb_base.specs.declared.kinds.Ref.{Ref}
 use Rattle.bdb_base.specs.declared.kinds.RelDef.{RelDef}
 use Rattle.bdb_base.specs.declared.kinds.Sign.TheVariants.{Plus, Minus}
+use Rattle.bdb_base.specs.declared.kinds.UserSlot.{UserSlot}
 use Rattle.bdb_base.specs.declared.kinds.Value.{Value}
 use Rattle.bdb_base.specs.declared.kinds.Who.{Who}
 use Rattle.bdb_base.specs.declared.kinds.Who.TheVariants.{User, Of}
@@ -70,11 +71,11 @@ given_in_part (Rel alias rel Plus path ∷ items) (x ∷ xs) (suc at) h = given_
 given_in_part (Rel alias rel Minus path ∷ items) (x ∷ xs) (suc at) h = given_in_part items xs at h
 
 -- a path needs the users alone
-uid_of_part : (users : List (List ℕ)) (items : List Item) (xs : List (Option Tuple)) (who : Who) → who_fits users items who ≡ true → uid_of (users_part items xs) who ≡ uid_of xs who
+uid_of_part : (users : List UserSlot) (items : List Item) (xs : List (Option Tuple)) (who : Who) → who_fits users items who ≡ true → uid_of (users_part items xs) who ≡ uid_of xs who
 uid_of_part users items xs (User i) f = refl
 uid_of_part users items xs (Of item) f = ap (option_map (λ t. t.rel)) (user_in_part items xs item f)
 
-path_of_part : (users : List (List ℕ)) (items : List Item) (xs : List (Option Tuple)) (path : List Who) → list_all (who_fits users items) path ≡ true → path_of (users_part items xs) path ≡ path_of xs path
+path_of_part : (users : List UserSlot) (items : List Item) (xs : List (Option Tuple)) (path : List Who) → list_all (who_fits users items) path ≡ true → path_of (users_part items xs) path ≡ path_of xs path
 path_of_part users items xs [] f = refl
 path_of_part users items xs (who ∷ whos) f =
     let parts = and_parts (who_fits users items who) (list_all (who_fits users items) whos) f in

@@ -11,6 +11,7 @@ use Rattle.bdb_base.specs.declared.kinds.RelDef.{RelDef}
 use Rattle.bdb_base.specs.declared.kinds.Ref.{Ref}
 use Rattle.bdb_base.specs.declared.kinds.Sign.TheVariants.{Plus, Minus}
 use Rattle.bdb_base.specs.declared.kinds.Stmt.{Stmt}
+use Rattle.bdb_base.specs.declared.kinds.UserSlot.{UserSlot}
 use Rattle.bdb_base.specs.declared.kinds.Value.{Value}
 use Rattle.bdb_base.specs.declared.tuple.Tuple.{Tuple}
 use Rattle.bdb_base.specs.Alternation.{alternates}
@@ -32,8 +33,8 @@ abbrev pub item_world : (ℕ → ℕ) → List Stmt → List (Option Tuple) → 
 item_world keys stmts slots (Users alias) = []
 item_world keys stmts slots (Rel alias rel sign path) = world_at keys stmts (path_of slots path)
 
--- the users, for a `Users` item
-abbrev pub user_pool : List (List ℕ) → Item → Option (List Tuple)
+-- the live users, for a `Users` item
+abbrev pub user_pool : List UserSlot → Item → Option (List Tuple)
 user_pool users (Users alias) = Some (user_tuples 1 users)
 user_pool users (Rel alias rel sign path) = None
 

@@ -15,7 +15,7 @@ use crate::keys::key_length_of;
 use crate::rows::world_among;
 use crate::sources::source_of;
 use bdb_base::{
-    ColDef, Cond, Exact, Held, Item, List, Path, PathError, RelDef, Sign, Stmt, Tuple, Txt, Value,
+    ColDef, Cond, Exact, Held, Item, List, Path, PathError, RelDef, Sign, Stmt, Tuple, UserSlot, Value,
     clash,
 };
 use bdb_queries::{known_operand, path_of, user_tuples};
@@ -81,10 +81,10 @@ fn world_at(
     }
 }
 
-/// The users for each `Users` item.
+/// The live users for each `Users` item.
 pub fn user_pools(
     alloc: Global,
-    users: &[Txt],
+    users: &[UserSlot],
     items: &[Item],
 ) -> Result<Vec<Option<List<Tuple>>>, AllocError>
     requires { length users.now ≤ most_users }
@@ -97,7 +97,11 @@ pub fn user_pools(
     Ok(pools)
 }
 
-fn user_pool(alloc: Global, users: &[Txt], item: &Item) -> Result<Option<List<Tuple>>, AllocError>
+fn user_pool(
+    alloc: Global,
+    users: &[UserSlot],
+    item: &Item,
+) -> Result<Option<List<Tuple>>, AllocError>
     requires { length users.now ≤ most_users }
     ensures { IfOk result (λ pool. pool ≡ user_pool users.now item.now) }
 {
