@@ -117,10 +117,7 @@ fn add_slot(
 }
 
 /// Where the live users stand.
-fn places_of_users(
-    alloc: Global,
-    users: &[UserSlot],
-) -> Result<BTreeMap<String, usize>, AllocError>
+fn places_of_users(alloc: Global, users: &[UserSlot]) -> Result<BTreeMap<String, usize>, AllocError>
     ensures { IfOk result (λ m. (q : List ℕ) → get_by_text m q ≡ user_place users.now q) }
 {
     let mut places = BTreeMap::new(alloc);

@@ -51,7 +51,11 @@ fn check_item(alloc: Global, rels: &[RelDef], item: &RawItem) -> Result<(), Bind
 }
 
 /// Refuses the first name after BELIEF that is no live user's.
-pub fn check_query_users(alloc: Global, users: &[UserSlot], query: &RawQuery) -> Result<(), BindError>
+pub fn check_query_users(
+    alloc: Global,
+    users: &[UserSlot],
+    query: &RawQuery,
+) -> Result<(), BindError>
     ensures { Checks result (query_user users.now query.now) }
 {
     let items = query.items.as_slice();

@@ -1,6 +1,7 @@
 pub mod Beliefs
 pub mod Changes
 pub mod Keys
+pub mod Leaving
 pub mod Refusals
 pub mod Structure
 pub mod Worked

@@ -6,6 +6,7 @@
 ghost use Rattle.bdb_worked.specs.Beliefs as beliefs;
 ghost use Rattle.bdb_worked.specs.Changes as changes;
 ghost use Rattle.bdb_worked.specs.Keys as keys;
+ghost use Rattle.bdb_worked.specs.Leaving as leaving;
 ghost use Rattle.bdb_worked.specs.Refusals as refusals;
 ghost use Rattle.bdb_worked.specs.Structure as structure;
 ghost use Rattle.bdb_worked.specs.Worked.{IsAnswered};
@@ -31,6 +32,12 @@ pub fn changes_are_told()
 #[tactic(auto, using(crate::proofs::Computed::keys_are_told))]
 pub fn keys_are_told()
     ensures { IsAnswered keys.script keys.told }
+{}
+
+/// A user leaves with all statements that name her; her name is free, and her number isn't given again.
+#[tactic(auto, using(crate::proofs::Computed::leaving_is_told))]
+pub fn leaving_is_told()
+    ensures { IsAnswered leaving.script leaving.told }
 {}
 
 /// Relations, users, columns and aliases that aren't there, or there already, and values that don't fit.

@@ -35,6 +35,7 @@ fn read(alloc: Global, line: &str) -> Result<Result<Command, ParseError>, AllocE
 fn outcome(answer: &Result<Command, ParseError>) -> &'static str {
     match answer {
         Ok(Command::CreateUser { .. }) => "create user",
+        Ok(Command::DropUser { .. }) => "drop user",
         Ok(Command::CreateRelation { .. }) => "create relation",
         Ok(Command::Insert { .. }) => "insert",
         Ok(Command::Delete { .. }) => "delete",
@@ -50,11 +51,25 @@ fn outcome(answer: &Result<Command, ParseError>) -> &'static str {
     }
 }
 
-const CASES: [(&str, &str); 43] = [
+const CASES: [(&str, &str); 51] = [
     ("create user 'Alice", "create user"),
     ("CREATE User 'Alice", "create user"),
     ("create user Alice", "syntax"),
     ("create user 'Alice 'Bob", "syntax"),
+    ("drop user 'Alice", "drop user"),
+    ("DROP User 'Alice", "drop user"),
+    ("drop user Alice", "syntax"),
+    ("drop user", "syntax"),
+    ("drop user 'Alice 'Bob", "syntax"),
+    ("drop relation R", "syntax"),
+    (
+        "create relation drop ( user text , drop int )",
+        "create relation",
+    ),
+    (
+        "select user . drop from drop user where user . user = 'Bob",
+        "select",
+    ),
     (
         "create relation user ( key text , value INT )",
         "create relation",
@@ -169,10 +184,11 @@ fn reprinted(alloc: Global, piece: &[u8]) -> Result<List<u8>, Fail> {
 }
 
 /// Commands, and their printed forms.
-const PRINTED: [(&str, &str); 18] = [
+const PRINTED: [(&str, &str); 19] = [
     ("create user 'Alice'", "create user 'Alice'"),
     ("create user 'Bob'", "create user 'Bob'"),
     ("create user 'Carol'", "create user 'Carol'"),
+    ("Drop USER 'O''Hara' -- at last", "drop user 'O''Hara'"),
     (
         "CREATE relation Sightings(sid text, observer text,species TEXT , place text)",
         "create relation Sightings(sid text, observer text, species text, place text)",

@@ -1,5 +1,7 @@
 // The texts of values, and the replies of worked commands.
-use bdb_base::{Catalog, ColDef, Held, Kind, List, RelDef, Sign, Tuple, Txt, Value, What, World};
+use bdb_base::{
+    Catalog, ColDef, Held, Kind, List, RelDef, Sign, Tuple, Txt, UserSlot, Value, What, World,
+};
 use bdb_canon::Canon;
 use bdb_render::{
     Refusal, count_reply, ok_reply, path_text, refusal_reply, rows_reply, tables_reply, tuple_text,
@@ -8,7 +10,8 @@ use bdb_render::{
 use std::alloc::{AllocError, Global};
 use std::test::Fail;
 
-/// The relation S, with the columns k and v and a key of so many of them, and the users Alice and Bob.
+/// The relation S, with the columns k and v and a key of so many of them; and the users Alice and Bob, with a place between
+/// them whose user is gone.
 fn curators(alloc: Global, key: u32) -> Result<Catalog, AllocError> {
     let mut cols = List::new(alloc);
     for name in ["k", "v"] {
@@ -21,9 +24,9 @@ fn curators(alloc: Global, key: u32) -> Result<Catalog, AllocError> {
     let mut rels = List::new(alloc);
     rels.push(RelDef { name, cols, key })?;
     let mut users = List::new(alloc);
-    for name in ["Alice", "Bob"] {
-        users.push(Txt::try_new(alloc, name)?)?;
-    }
+    users.push(UserSlot::Live(Txt::try_new(alloc, "Alice")?))?;
+    users.push(UserSlot::Gone)?;
+    users.push(UserSlot::Live(Txt::try_new(alloc, "Bob")?))?;
     Ok(Catalog { rels, users })
 }
 
@@ -166,7 +169,7 @@ fn tuples_and_paths_print(rt: HostRuntime) -> Result<(), Fail> {
     let alloc = rt.alloc();
     let catalog = curators(alloc, 1)?;
     assert!(rt; tuple_prints(alloc, &catalog, "S('s1', 'crow')")?);
-    assert!(rt; path_prints(alloc, &catalog, &[2, 1], "/'Bob'/'Alice'")?);
+    assert!(rt; path_prints(alloc, &catalog, &[3, 1], "/'Bob'/'Alice'")?);
     assert!(rt; path_prints(alloc, &catalog, &[], "/")?);
     Ok(())
 }
@@ -187,10 +190,10 @@ fn unstated(alloc: Global, key: u32) -> Result<List<u8>, AllocError> {
 fn keys_print(rt: HostRuntime) -> Result<(), Fail> {
     let alloc = rt.alloc();
     let one = unstated(alloc, 1)?;
-    let want = "user 1 'Alice'\nuser 2 'Bob'\nrelation S(k text, v text)\nok 3\n";
+    let want = "user 1 'Alice'\nuser 3 'Bob'\nrelation S(k text, v text)\nok 3\n";
     assert_eq!(rt; one.as_slice(), want.as_bytes());
     let two = unstated(alloc, 2)?;
-    let want = "user 1 'Alice'\nuser 2 'Bob'\nrelation S(k text, v text) key 2\nok 3\n";
+    let want = "user 1 'Alice'\nuser 3 'Bob'\nrelation S(k text, v text) key 2\nok 3\n";
     assert_eq!(rt; two.as_slice(), want.as_bytes());
     Ok(())
 }

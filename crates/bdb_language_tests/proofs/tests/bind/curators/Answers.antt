@@ -4,11 +4,13 @@ use lib.Utf8.{encode}
 use Rattle.bdb_base.specs.declared.kinds.ColDef.{ColDef}
 use Rattle.bdb_base.specs.declared.kinds.RelDef.{RelDef}
 use Rattle.bdb_base.specs.declared.kinds.Kind.TheVariants as kind
+use Rattle.bdb_base.specs.declared.kinds.UserSlot.{UserSlot}
+use Rattle.bdb_base.specs.declared.kinds.UserSlot.TheVariants.{Live, Gone}
 use Rattle.bdb_base.specs.Bases.{IsCatalog}
 use Rattle.bdb_language_tests.proofs.tests.bind.curators.Goals as goal
 
 -- a catalog with these names is valid
-valid_with : (rels : List RelDef) (users : List (List ℕ)) (cols : List ColDef) (k v s a b : List ℕ) → users ≡ a ∷ b ∷ [] → rels ≡ record { name = s; cols = cols; key = 1 } ∷ []
+valid_with : (rels : List RelDef) (users : List UserSlot) (cols : List ColDef) (k v s a b : List ℕ) → users ≡ Live a ∷ Live b ∷ Gone ∷ [] → rels ≡ record { name = s; cols = cols; key = 1 } ∷ []
     → cols ≡ record { name = k; kind = kind.Text } ∷ record { name = v; kind = kind.Text } ∷ []
     → k ≡ 107 ∷ [] → v ≡ 118 ∷ [] → s ≡ 83 ∷ [] → a ≡ 65 ∷ 108 ∷ 105 ∷ 99 ∷ 101 ∷ [] → b ≡ 66 ∷ 111 ∷ 98 ∷ [] → IsCatalog (record { rels = rels; users = users })
 unfolding is_utf8 chars encode

@@ -1,0 +1,54 @@
+-- A user leaves, and with her all that was said of her.
+use Rattle.std.specs.Prelude.{ℕ, List, [], ◌∷◌, codes}
+
+-- Carol believes that Alice saw an eagle, and Alice saw a crow; Carol leaves, and another Carol comes, who has a number of her own
+abbrev pub script : List (List ℕ)
+script =
+    codes "create user 'Alice'; create user 'Bob';"
+    ∷ codes "create relation S(k text, v text);"
+    ∷ codes "create user 'Carol';"
+    ∷ codes "insert into BELIEF 'Carol' BELIEF 'Alice' S values('s1','eagle');"
+    ∷ codes "insert into BELIEF 'Alice' S values('s2','crow');"
+    ∷ codes "drop user 'Carol';"
+    ∷ codes "show world BELIEF 'Carol';"
+    ∷ codes "drop user 'Carol';"
+    ∷ codes "show tables;"
+    ∷ codes "create user 'Carol';"
+    ∷ codes "select U.uid, U.name from Users U;"
+    ∷ codes "insert into BELIEF 'Alice' BELIEF 'Carol' S values('s1','raven');"
+    ∷ codes "drop user 'Alice';"
+    ∷ codes "select U.uid, U.name from Users U;" ∷ []
+
+-- the replies
+abbrev pub told : List (List ℕ)
+told =
+    codes "ok"
+    ∷ codes "ok"
+    ∷ codes "ok"
+    ∷ codes "ok"
+    ∷ codes "ok 1"
+    ∷ codes "ok 1"
+    ∷ codes "ok 1"
+    ∷ codes "error user 'Carol'"
+    ∷ codes "error user 'Carol'"
+    ∷ codes "user 1 'Alice'"
+    ∷ codes "user 2 'Bob'"
+    ∷ codes "relation S(k text, v text)"
+    ∷ codes "tuple S('s2', 'crow')"
+    ∷ codes "world / depth 0"
+    ∷ codes "world /'Alice' depth 1 suffix /"
+    ∷ codes "edge / 'Alice' /'Alice'"
+    ∷ codes "edge / 'Bob' /"
+    ∷ codes "edge /'Alice' 'Bob' /"
+    ∷ codes "row /'Alice' + S('s2', 'crow') explicit"
+    ∷ codes "ok 10"
+    ∷ codes "ok"
+    ∷ codes "1, 'Alice'"
+    ∷ codes "2, 'Bob'"
+    ∷ codes "4, 'Carol'"
+    ∷ codes "ok 3"
+    ∷ codes "ok 1"
+    ∷ codes "ok 2"
+    ∷ codes "2, 'Bob'"
+    ∷ codes "4, 'Carol'"
+    ∷ codes "ok 2" ∷ []
