@@ -1,0 +1,5 @@
+pub mod LeavingLemmas
+pub mod NamingLemmas
+pub mod PlaceLemmas
+pub mod TakenLemmas
+pub mod WorldLemmas

@@ -4,9 +4,12 @@ ghost use Rattle.bdb_leaving.specs.Leaving.{LeavesThrough, SomeMayDropUser, User
 ghost use Rattle.bdb_update.specs.Keeping.{KeepsNumbers};
 ghost use Rattle.bdb_val.specs.Steps.{IsChanging};
 
+use crate::naming::statements_naming;
+use crate::place::empty_place;
 use bdb_canon::Counts;
 use bdb_keep::Keeper;
 use bdb_tables::TabError;
+use bdb_update::drop_statements;
 use std::alloc::Global;
 
 /// A user leaves the base that the tables store, whose sizes are `counts`: each statement whose path names him goes, with the
@@ -27,6 +30,16 @@ pub fn drop_user<K: Keeper>(
     ensures keeps { OnOk result (KeepsNumbers (K.seen keeper.new).kept (K.seen keeper.old).kept) }
     ensures changing { IsChanging (K.seen keeper.old) (K.seen keeper.new) result TabError.Fault }
 {
-    keeper.undo();
-    Err(TabError::Memory)
+    let gone = match statements_naming(alloc, keeper, uid) {
+        Ok(gone) => gone,
+        Err(error) => return Err(error),
+    };
+    match drop_statements(alloc, keeper, counts, gone.as_slice()) {
+        Ok(()) => {}
+        Err(error) => return Err(error),
+    }
+    match empty_place(alloc, keeper, uid) {
+        Ok(()) => Ok(gone.len() as u32),
+        Err(error) => Err(error),
+    }
 }

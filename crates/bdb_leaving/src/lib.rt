@@ -2,5 +2,7 @@
 #![tactic(auto)]
 
 mod leaving;
+mod naming;
+mod place;
 
 pub use leaving::drop_user;

@@ -1,0 +1,105 @@
+-- The row of one who is gone in place of a user's, and no edge for him at any world.
+use Rattle.std.proofs.Common.{◌≡◌, ◌∙◌, ℕ, ◌+◌, ◌*◌, ◌≤◌, Bool, true, false, not, ◌&&◌, ◌||◌, nat_eq, nat_le, List, [], ◌∷◌, length, refl, sym, ap, subst, arith, Option, Some}
+use Rattle.std.specs.FinMap as tables
+use Rattle.std.proofs.lemmas.Bool.Decides.{nat_tests}
+use Rattle.bdb_base.specs.Bases.{Contents, is_user, without_user, world_count}
+use Rattle.bdb_base.specs.Causes.{Rises, RoseBy}
+use Rattle.bdb_base.specs.Changes.{names_user}
+use Rattle.bdb_base.specs.declared.kinds.UserSlot.{UserSlot}
+use Rattle.bdb_base.specs.declared.kinds.UserSlot.TheVariants.{Gone}
+use Rattle.bdb_base.proofs.UserLemmas.{others_are_users}
+use Rattle.bdb_keep.specs.Seen.{Seen}
+use Rattle.bdb_keep.specs.Tables.{Tables}
+use Rattle.bdb_names.proofs.NamedLemmas.{named_path, path_is_told}
+use Rattle.bdb_tables.specs.Codec.{place}
+use Rattle.bdb_tables.specs.Grammar.{InGrammar}
+use Rattle.bdb_tables.specs.InUse.{user_codec}
+use Rattle.bdb_tables.specs.Names.{is_listed}
+use Rattle.bdb_tables.specs.States.{HoldsStates}
+use Rattle.bdb_tables.specs.Stored.{SameBut}
+use Rattle.bdb_tables.specs.Writes.{with_change}
+use Rattle.bdb_tables.proofs.SameLemmas.{change_same, states_still}
+use Rattle.bdb_worlds.specs.Growth.{SameOutside}
+use Rattle.bdb_worlds.specs.Holding.{Worlds}
+use Rattle.bdb_worlds.specs.UserEdges.{DropsUser, MayLeave, WritesDropped, without_one_user}
+use Rattle.bdb_update.specs.Keeping.{KeepsNumbers}
+use Rattle.bdb_update.specs.StoredLaws.{is_edges}
+use Rattle.bdb_update.proofs.CountLemmas.{numbers_are_counted}
+use Rattle.bdb_update.proofs.GrammarLemmas.{stored_is_in_grammar}
+use Rattle.bdb_update.proofs.StoreLemmas.{edges_store_without_user, states_as}
+use Rattle.bdb_leaving.specs.Place.{LosesUser, MayLoseUser, SomeMayLoseUser, WritesPlace}
+
+-- ---- what changes
+
+no_edges : (n : ℕ) → (nat_eq n 9 || nat_eq n 10) ≡ false → (nat_le 9 n && nat_le n 10) ≡ false
+no_edges n e = grind (arith, nat_tests)
+
+-- the range of two tables is those of edges
+edges_alone : (t u : Tables) → SameOutside 9 10 t u → SameBut is_edges t u
+edges_alone t u same n k other = same n k (no_edges n other)
+
+turned : (a b : ℕ) → nat_eq a b ≡ nat_eq b a
+turned a b = grind (arith, nat_tests)
+
+-- a path names a user where he is among its users
+listed_is_named : (uid : ℕ) (w : List ℕ) → is_listed uid w ≡ names_user uid w
+listed_is_named uid [] = refl
+listed_is_named uid (i ∷ w) = ap (λ b. b || is_listed uid w) (turned uid i) ∙ ap (λ b. nat_eq i uid || b) (listed_is_named uid w)
+
+pub place_grammar : (t : Tables) (uid : ℕ) → SomeMayLoseUser t uid → InGrammar t
+place_grammar t uid h = stored_is_in_grammar t h.base h.may.stored
+
+module _ (t m : Tables) (uid : ℕ) (put : m ≡ tables.insert t (place user_codec uid) (user_codec.row_bytes Gone)) where
+  abbrev one : ℕ × Option UserSlot
+  one = (uid, Some Gone)
+
+  abbrev is_users : ℕ → Bool
+  is_users n = nat_eq n 2
+
+  put_alone : SameBut is_users t m
+  put_alone = subst (SameBut is_users t) (sym put) (change_same user_codec is_users t one refl)
+
+  module _ (b : Contents) (h : MayLoseUser t uid b) where
+    abbrev worlds : Worlds
+    worlds = record { users = is_user b.catalog.users; names = h.stored.names }
+
+    -- the row leaves the states as they were
+    before : HoldsStates (is_user b.catalog.users) h.stored.names m
+    before = states_still is_users t m put_alone (is_user b.catalog.users) h.stored.names refl refl refl refl refl h.stored.stored.states
+
+    may : MayLeave worlds uid
+    may = record { user = h.user; unnamed = λ w e. listed_is_named uid w ∙ h.unnamed w (sym (h.stored.stored.worlds w) ∙ e) }
+
+    module _ (u : Tables) (drops : DropsUser m u uid) where
+      after : HoldsStates (is_user (without_user b.catalog uid).users) h.stored.names u
+      after =
+          states_as (without_one_user (is_user b.catalog.users) uid) (is_user (without_user b.catalog uid).users) h.stored.names u
+          (λ i. sym (others_are_users b.catalog uid i h.user)) (drops worlds before may)
+
+  pub user_lost : (u : Tables) → DropsUser m u uid → SameOutside 9 10 m u → LosesUser t u uid
+  user_lost u drops same b h = record {
+    names = h.stored.names;
+    tuples = h.stored.tuples;
+    stored = edges_store_without_user h.stored.names h.stored.tuples t u b uid h.stored.stored h.user (after b h u drops) (subst (λ z. SameBut is_edges z u) put (edges_alone m u same));
+  }
+
+  -- all worlds and tuples keep their numbers
+  pub numbers_kept : (u : Tables) → DropsUser m u uid → SameOutside 9 10 m u → SomeMayLoseUser t uid → KeepsNumbers u t
+  numbers_kept u drops same s = record {
+    worlds = λ n w x.
+        path_is_told (is_user s.base.catalog.users) s.may.stored.names t s.may.stored.stored.states n w
+        (named_path (is_user (without_user s.base.catalog uid).users) s.may.stored.names u (after s.base s.may u drops) x);
+    tuples = λ k r e. sym (put_alone 4 k refl) ∙ sym (same 4 k refl) ∙ e;
+  }
+
+-- ---- how often is written
+
+place_and_edges : (n k a b c : ℕ) → b ≤ c → n ≡ k → RoseBy 1 a b → Rises (2 * n) b c → Rises (2 * k + 1) a c
+place_and_edges n k a b c le same one edges below = let e = edges below in omega arith
+
+pub place_written : (old mid new : Seen) (uid : ℕ) → mid.kept ≡ tables.insert old.kept (place user_codec uid) (user_codec.row_bytes Gone) → mid.writes ≤ new.writes
+    → RoseBy 1 old.writes mid.writes → WritesDropped mid new uid → WritesPlace old new uid
+place_written old mid new uid put le one edges b h =
+    place_and_edges (length h.stored.names.used) (world_count b.stmts) old.writes mid.writes new.writes le
+    (numbers_are_counted h.stored.names h.stored.stored.states.names b.stmts h.stored.stored.worlds) one
+    (edges (worlds old.kept mid.kept uid put b h) (before old.kept mid.kept uid put b h) (may old.kept mid.kept uid put b h))
