@@ -16,7 +16,7 @@ use Rattle.bdb_tables.specs.InUseLaws.{slot_rows_are_one, rel_rows_are_one}
 use Rattle.bdb_tables.specs.Stored.{slot_of}
 use Rattle.bdb_tables.proofs.CatalogLemmas.{same_by_place}
 use Rattle.bdb_tables.proofs.WriteLemmas.{gives_one}
-use Rattle.bdb_entries.specs.Catalog.{HasCatalog, HasRelations, HasUsers, TellsRelations, TellsUsers, names_differ, are_relations, are_users, has_name_of, has_plain_name, is_called, is_catalog, slots_differ}
+use Rattle.bdb_entries.specs.Catalog.{HasCatalog, HasRelations, HasUsers, TellsRelations, TellsUsers, names_differ, are_relations, are_users, has_plain_name, is_called, is_catalog, slots_differ}
 
 -- a test of the items of a list, and of what they are taken to
 any_named : {X N : Type 0} (f : X → N) (p : N → Bool) (xs : List X) → list_any (λ x. p (f x)) xs ≡ list_any p (map f xs)

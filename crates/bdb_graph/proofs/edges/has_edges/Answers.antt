@@ -1,13 +1,26 @@
-use Rattle.std.proofs.Common.{◌≡◌, ◌+◌, true, sym, subst, arith, rules}
+use Rattle.std.proofs.Common.{◌≡◌, ◌+◌, true, false, sym, subst, arith, rules}
 use Rattle.bdb_base.specs.Bases.{is_user}
 use Rattle.bdb_tables.specs.Grammar.{InGrammar}
 use Rattle.bdb_tables.specs.declared.tab.TabError.TheVariants.{Fault}
-use Rattle.bdb_graph.proofs.EdgeLemmas.{edges_all, edges_more, not_edge}
+use Rattle.bdb_graph.proofs.EdgeLemmas.{edges_all, edges_more, edges_over, not_edge}
 use Rattle.bdb_graph.proofs.UpLemmas.{only_reads_more}
 use Rattle.bdb_graph.proofs.edges.has_edges.Goals as goal
 
 pub has_edge-requires-clause-grammar : goal.has_edge-requires-clause-grammar
 has_edge-requires-clause-grammar g c = subst InGrammar (sym c.loop-at.invariant.kept) c.requires.grammar
+
+pub loop-at-preserved-then-not-is_user : goal.loop-at-preserved-then-not-is_user
+loop-at-preserved-then-not-is_user g c =
+    let old = g.K.Keeper.seen c.args.keeper.now in
+    let h = c.loop-at.invariant in
+    let gone : is_user c.args.users.now (c.loop-at.at + 1) ≡ false = search rules in
+    record {
+      goes = h.goes;
+      kept = h.kept;
+      writes = h.writes;
+      counts = h.counts;
+      read = edges_over old.kept (is_user c.args.users.now) c.args.worlds.now c.args.world.now c.loop-at.at gone h.read;
+    }
 
 pub loop-at-preserved : goal.loop-at-preserved
 loop-at-preserved g c =
