@@ -1,10 +1,11 @@
 -- What single calls read is what the tables show.
-use Rattle.std.proofs.Common.{◌≡◌, ◌∙◌, ℕ, ◌<◌, true, false, List, [], ◌∷◌, Option, Some, None, MatchOption, length, map, filter_map, drop, refl, ap, sym}
+use Rattle.std.proofs.Common.{◌≡◌, ◌∙◌, ℕ, ◌<◌, true, false, List, [], ◌∷◌, ◌++◌, Option, Some, None, MatchOption, length, map, filter_map, drop, refl, ap, sym}
 use Rattle.std.specs.List.{list_all, AllByRecursion}
 use Rattle.std.specs.Option.{option_map}
 use Rattle.std.specs.FinMap as tables
 use Rattle.std.proofs.lemmas.Bool.{and_parts, and_from, false≢true}
-use Rattle.std.proofs.lemmas.List.{length-map}
+use Rattle.std.proofs.lemmas.List.{append-nil, length-map}
+use Rattle.std.proofs.lemmas.List.Elements.{filter_map-append}
 use Rattle.bdb_base.specs.declared.kinds.UserSlot.{UserSlot}
 use Rattle.bdb_base.specs.declared.kinds.UserSlot.TheVariants.{Live, Gone}
 use Rattle.bdb_base.specs.declared.kinds.Value.{Value}
@@ -45,6 +46,19 @@ users_are t es u = sym (ap (filter_map user_in) (rows_are user_codec t [] es u) 
 pub places_many : (t : Tables) (es : List (ℕ × UserSlot)) → AreUnder user_codec t [] es → length es ≡ (sight_of t).places
 unfolding sight_of
 places_many t es u = sym (ap length (rows_are user_codec t [] es u) ∙ length-map es (raw user_codec))
+
+-- with one row more, of a live user, there is one user more
+pub user_more : (users : List Tuple) (es : List (ℕ × UserSlot)) (e : ℕ × UserSlot) (name : List ℕ) (t : Tuple) → users ≡ filter_map tuple_of_slot es → e.1 ≡ Live name → t ≡ user_tuple e.0 name
+    → users ++ t ∷ [] ≡ filter_map tuple_of_slot (es ++ e ∷ [])
+user_more users es e name t h live is =
+    ap (λ (x : List Tuple). x ++ t ∷ []) h ∙ ap (λ x. filter_map tuple_of_slot es ++ x ∷ []) is
+    ∙ ap (λ slot. filter_map tuple_of_slot es ++ filter_map tuple_of_slot ((e.0, slot) ∷ [])) (sym live) ∙ sym (filter_map-append tuple_of_slot es (e ∷ []))
+
+-- with one row more, of one who is gone, the users are as before
+pub no_user_more : (users : List Tuple) (es : List (ℕ × UserSlot)) (e : ℕ × UserSlot) → users ≡ filter_map tuple_of_slot es → e.1 ≡ Gone → users ≡ filter_map tuple_of_slot (es ++ e ∷ [])
+no_user_more users es e h gone =
+    h ∙ sym (append-nil (filter_map tuple_of_slot es)) ∙ ap (λ slot. filter_map tuple_of_slot es ++ filter_map tuple_of_slot ((e.0, slot) ∷ [])) (sym gone)
+    ∙ sym (filter_map-append tuple_of_slot es (e ∷ []))
 
 -- tables in the grammar fit the table of edges
 pub edge_fits : (t : Tables) → InGrammar t → TableFits edge_codec t

@@ -1,6 +1,6 @@
 -- Tables that have a base show it.
 use Rattle.std.proofs.Common.{◌≡◌, ◌∙◌, ℕ, zero, suc, ◌+◌, ◌≤◌, ◌<◌, ◌^◌, lit<, Bool, true, false, not, ◌&&◌, ◌||◌, cond, nat_eq, nat_lt, nat_le, List, [], ◌∷◌, ◌++◌, Option, Some, None, MatchOption, is_some, length, map, filter_map, refl, ap, sym, subst, inl, inr, arith}
-use Rattle.std.specs.List.{list_any, list_all, flat_map, AllByRecursion, slice_get}
+use Rattle.std.specs.List.{list_any, list_all, AllByRecursion, slice_get}
 use Rattle.std.specs.Option.{option_map, unwrap_or, option_and_then}
 use Rattle.std.specs.Ordering.{is_lt, is_eq, eq_by_cmp, nat_cmp}
 use Rattle.std.specs.FinMap as tables
