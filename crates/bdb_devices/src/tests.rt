@@ -8,6 +8,7 @@ mod long;
 mod openings;
 mod sinks;
 mod sources;
+mod streams;
 
 use bdb_base::{List, Txt};
 use bdb_io::{MemSink, MemSource};

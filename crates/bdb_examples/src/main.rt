@@ -13,7 +13,15 @@ use std::process::ExitCode;
 use std::{fs, io};
 
 /// The examples, in order. Each has a script, `NAME.bsql`, and what is written where it runs, `NAME.replies`.
-const NAMES: [&str; 6] = ["ask", "birds", "collection", "first", "keys", "why"];
+const NAMES: [&str; 7] = [
+    "ask",
+    "birds",
+    "collection",
+    "first",
+    "keys",
+    "leaving",
+    "why",
+];
 
 /// The example that is run once more, in two halves.
 const HALVED: &str = "collection";

@@ -26,7 +26,7 @@ use Rattle.bdb_syntax.specs.declared.command.RawWho.{RawWho}
 use Rattle.bdb_syntax.specs.declared.command.RawWho.TheVariants as who
 use Rattle.bdb_syntax.specs.declared.command.RawSet.{RawSet}
 use Rattle.bdb_syntax.specs.declared.command.Command.{Command}
-use Rattle.bdb_syntax.specs.declared.command.Command.TheVariants.{CreateUser, CreateRelation, Insert, Delete, Update, Select, Explain, ShowWorld, Why, ShowTables}
+use Rattle.bdb_syntax.specs.declared.command.Command.TheVariants.{CreateUser, CreateRelation, DropUser, Insert, Delete, Update, Select, Explain, ShowWorld, Why, ShowTables}
 use Rattle.bdb_syntax.specs.Filled.{is_filled}
 use Rattle.bdb_syntax.specs.Printable.{begins_word, is_in_word, is_word, IsName, IsContent, IsPrintableValue, IsBareCol, IsFullCol, IsPrintableSide, IsPrintableCond, IsPrintableSet, IsPrintableWho, IsPrintableItem, IsPrintableQuery, IsPrintable}
 use Rattle.bdb_parse.specs.Spelled.{IsWellSpelled, AreWellSpelled}
@@ -144,6 +144,7 @@ printable_is_allowed (CreateUser name) p = allowed (CreateUser name) (content_is
 printable_is_allowed (CreateRelation name cols key) p =
     allowed (CreateRelation name cols key) refl (and_from (nat_lt 0 (length cols)) (is_plain name && list_all (λ c. is_plain c.name) cols) (some_columns cols p.filled)
     (and_from (is_plain name) (list_all (λ c. is_plain c.name) cols) (word_is_plain name p.parts.0.0) (columns_are_plain cols p.parts.1)))
+printable_is_allowed (DropUser name) p = allowed (DropUser name) (content_is_clean name p.parts) refl
 printable_is_allowed (Insert users sign rel vals) p =
     allowed (Insert users sign rel vals) (or_from _ _ (users_are_clean users p.parts.0) (values_are_clean vals p.parts.2)) refl
 printable_is_allowed (Delete users sign rel conds) p =

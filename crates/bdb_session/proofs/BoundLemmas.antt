@@ -4,7 +4,7 @@ use Rattle.std.proofs.lemmas.Bool.{false≢true}
 use Rattle.bdb_bind.specs.declared.bound.BindError.{BindError}
 use Rattle.bdb_bind.specs.declared.bound.BindError.TheVariants.{Memory}
 use Rattle.bdb_bind.specs.declared.bound.Bound.{Bound}
-use Rattle.bdb_bind.specs.declared.bound.Bound.TheVariants.{CreateUser, CreateRelation, Insert, Delete, Update, Select, Explain, ShowWorld, Why, ShowTables}
+use Rattle.bdb_bind.specs.declared.bound.Bound.TheVariants.{CreateUser, CreateRelation, DropUser, Insert, Delete, Update, Select, Explain, ShowWorld, Why, ShowTables}
 use Rattle.bdb_base.specs.Bases.{Contents}
 use Rattle.bdb_base.specs.declared.kinds.SetCol.{SetCol}
 use Rattle.bdb_base.specs.declared.kinds.Stmt.{Stmt}
@@ -55,6 +55,7 @@ update_unwritten b gone sets old new (Err stop) h = tt
 pub told_unwritten : (b : Bound) (k : Known) (old new : Seen) (result : Result Reply StopError) → AgreesOnSome old.kept k → WritesAsTold b k old new result → RefusedUnwritten old new result
 told_unwritten (CreateUser name) k old new result some h = h
 told_unwritten (CreateRelation def) k old new result some h = h
+told_unwritten (DropUser uid) k old new result some h = never_refused old new result (h some.state some.agrees).accepted
 told_unwritten (Insert x) k old new result some h = h.refused
 told_unwritten (Delete path sign rel conds) k old new result some h = never_refused old new result (h some.state some.agrees).accepted
 told_unwritten (Update path sign rel sets conds) k old new result some h = update_unwritten _ _ sets old new result (h some.state some.agrees)

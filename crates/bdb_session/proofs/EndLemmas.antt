@@ -3,7 +3,7 @@ use Rattle.std.proofs.Common.{◌≡◌, ◌∙◌, ℕ, ◌+◌, ◌≤◌, len
 use Rattle.std.proofs.lemmas.Bool.{cases_Bool, MatchBool-at_true, MatchBool-at_false}
 use Rattle.bdb_base.specs.declared.kinds.Query.{Query}
 use Rattle.bdb_bind.specs.declared.bound.Bound.{Bound}
-use Rattle.bdb_bind.specs.declared.bound.Bound.TheVariants.{CreateUser, CreateRelation, Insert, Delete, Update, Select, Explain, ShowWorld, Why, ShowTables}
+use Rattle.bdb_bind.specs.declared.bound.Bound.TheVariants.{CreateUser, CreateRelation, DropUser, Insert, Delete, Update, Select, Explain, ShowWorld, Why, ShowTables}
 use Rattle.bdb_keep.specs.Calls.{IsBegin}
 use Rattle.bdb_keep.specs.Seen.{Seen}
 use Rattle.bdb_session.specs.Bounds.{ReadsAsTold, WritesAsTold}
@@ -16,7 +16,7 @@ use Rattle.bdb_session.specs.declared.reply.Reply.{Reply}
 use Rattle.bdb_session.specs.declared.stop.StopError.{StopError}
 use Rattle.bdb_session.specs.declared.stop.StopError.TheVariants.{Fault}
 use Rattle.bdb_session.proofs.ServedLemmas.{still_agrees}
-use Rattle.bdb_session.proofs.StepLemmas.{delete_settles, update_settles}
+use Rattle.bdb_session.proofs.StepLemmas.{delete_settles, leave_settles, update_settles}
 use Rattle.bdb_session.proofs.TellLemmas.{always_ok}
 use Rattle.bdb_session.proofs.WriteLemmas.{insert_settles, settled_unwritten}
 use Rattle.bdb_trans.specs.Bounds.{product_of}
@@ -63,6 +63,7 @@ module _ (learns : Known) (r : Reply) (before now : Known) (old run mid new : Se
   pub reads_settle : (b : Bound) → ReadsAsTold b before run mid (Ok r) → ReadsAsTold b before old new result
   reads_settle (CreateUser name) h = tt
   reads_settle (CreateRelation def) h = tt
+  reads_settle (DropUser uid) h = tt
   reads_settle (Insert x) h = tt
   reads_settle (Delete path sign rel conds) h = tt
   reads_settle (Update path sign rel sets conds) h = tt
@@ -75,6 +76,7 @@ module _ (learns : Known) (r : Reply) (before now : Known) (old run mid new : Se
   pub writes_settle : (b : Bound) → WritesAsTold b before run mid (Ok r) → WritesAsTold b before old new result
   writes_settle (CreateUser name) h = settled_unwritten learns r before now old run mid new began h result ended
   writes_settle (CreateRelation def) h = settled_unwritten learns r before now old run mid new began h result ended
+  writes_settle (DropUser uid) h = leave_settles learns r before now old run mid new result began uid h ended
   writes_settle (Insert x) h =
       insert_settles (length x.path + 2) 8 learns r before now old run mid new began h.within h.refused x refl refl h.already result ended
   writes_settle (Delete path sign rel conds) h = delete_settles learns r before now old run mid new result began path sign rel conds h ended
@@ -90,6 +92,7 @@ module _ (learns : Known) (r : Reply) (before now : Known) (old run mid new : Se
 pub reads_stop : (b : Bound) (k : Known) (old new : Seen) (stop : StopError) → ReadsAsTold b k old new (Err stop)
 reads_stop (CreateUser name) k old new stop = tt
 reads_stop (CreateRelation def) k old new stop = tt
+reads_stop (DropUser uid) k old new stop = tt
 reads_stop (Insert x) k old new stop = tt
 reads_stop (Delete path sign rel conds) k old new stop = tt
 reads_stop (Update path sign rel sets conds) k old new stop = tt
@@ -103,6 +106,7 @@ reads_stop ShowTables k old new stop = tt
 pub writes_stop : (b : Bound) (k : Known) (old run new : Seen) (stop : StopError) → run.writes ≡ old.writes → WritesAsTold b k run new (Err stop) → WritesAsTold b k old new (Err stop)
 writes_stop (CreateUser name) k old run new stop e h = tt
 writes_stop (CreateRelation def) k old run new stop e h = tt
+writes_stop (DropUser uid) k old run new stop e h = λ s a. record { steps = tt; accepted = tt }
 writes_stop (Insert x) k old run new stop e h = record { within = tt; refused = tt; already = λ s a there. tt }
 writes_stop (Delete path sign rel conds) k old run new stop e h = λ s a. record { one = λ single. tt; steps = tt; accepted = tt }
 writes_stop (Update path sign rel sets conds) k old run new stop e h = λ s a. record { steps = tt; refused = tt }
@@ -116,6 +120,7 @@ writes_stop ShowTables k old run new stop e h = record { kept = tt; writes = h.w
 pub writes_unbegun : (b : Bound) (k : Known) (old new : Seen) (stop : StopError) → new.writes ≡ old.writes → WritesAsTold b k old new (Err stop)
 writes_unbegun (CreateUser name) k old new stop e = tt
 writes_unbegun (CreateRelation def) k old new stop e = tt
+writes_unbegun (DropUser uid) k old new stop e = λ s a. record { steps = tt; accepted = tt }
 writes_unbegun (Insert x) k old new stop e = record { within = tt; refused = tt; already = λ s a there. tt }
 writes_unbegun (Delete path sign rel conds) k old new stop e = λ s a. record { one = λ single. tt; steps = tt; accepted = tt }
 writes_unbegun (Update path sign rel sets conds) k old new stop e = λ s a. record { steps = tt; refused = tt }

@@ -9,6 +9,7 @@ pub mod DeleteLemmas
 pub mod EndLemmas
 pub mod FindLemmas
 pub mod InsertLemmas
+pub mod LeaveLemmas
 pub mod LimitLemmas
 pub mod LineLemmas
 pub mod OpenLemmas

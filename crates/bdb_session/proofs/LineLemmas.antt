@@ -1,14 +1,15 @@
 -- How many lines the structure of a stored base has.
-use Rattle.std.proofs.Common.{◌≡◌, ◌∙◌, ℕ, suc, ◌+◌, ◌-◌, ◌*◌, ◌<◌, ◌≤◌, Bool, true, false, not, nat_eq, nat_lt, nat_le, List, [], ◌∷◌, Some, length, map, filter, sum_by, slice_get, refl, ap, sym, inl, inr, arith}
+use Rattle.std.proofs.Common.{◌≡◌, ◌∙◌, ℕ, suc, ◌+◌, ◌-◌, ◌*◌, ◌<◌, ◌≤◌, Bool, true, false, not, nat_eq, nat_lt, nat_le, List, [], ◌∷◌, Some, length, map, filter, sum_by, slice_get, refl, ap, sym, subst, inl, inr, arith}
+use Rattle.std.specs.Option.{is_some}
 use Prim.Native.Nat.{zero}
 use Rattle.std.specs.List.{list_all}
 use Rattle.std.specs.Ordering.{is_lt}
-use Rattle.std.proofs.lemmas.Bool.{cases_Bool, and_parts, false≢true, eqb-true, eqb-false, ne_eqb, ltb-true, leb-true}
+use Rattle.std.proofs.lemmas.Bool.{cases_Bool, and_parts, false≢true, eqb-true, eqb-false, ne_eqb, ltb-true}
 use Rattle.std.proofs.lemmas.List.Sums.{sum_by-cons}
-use Rattle.bdb_base.specs.Bases.{Contents, is_user, tuple_count}
+use Rattle.bdb_base.specs.Bases.{Contents, is_user, name_at, tuple_count, user_names}
 use Rattle.bdb_base.specs.Order.{path_cmp}
 use Rattle.bdb_base.specs.OrderLemmas.{path_exact, tuple_exact}
-use Rattle.bdb_base.specs.Queries.{numbers_from, user_numbers}
+use Rattle.bdb_base.specs.Queries.{live_numbers, user_numbers}
 use Rattle.bdb_base.specs.Same.{same_tuple}
 use Rattle.bdb_base.specs.SameLemmas.{same_tuple-Decides}
 use Rattle.bdb_base.specs.Segments.{is_suffix}
@@ -16,15 +17,17 @@ use Rattle.bdb_base.specs.SortedSet.{ascending, is_member}
 use Rattle.bdb_base.specs.States.{states_of, stated_prefixes}
 use Rattle.bdb_base.specs.WorldRows.{tuples_of}
 use Rattle.bdb_base.specs.declared.kinds.Stmt.{Stmt}
+use Rattle.bdb_base.specs.declared.kinds.UserSlot.{UserSlot}
+use Rattle.bdb_base.specs.declared.kinds.UserSlot.TheVariants.{Live, Gone}
 use Rattle.bdb_base.proofs.CountLemmas.{put_all_count}
 use Rattle.bdb_base.proofs.ListLemmas.{filter_dropped_one, filter_kept_one, list_all_weaker}
 use Rattle.bdb_base.proofs.SetLemmas.{loop_makes_set, set_is_ascending}
+use Rattle.bdb_base.proofs.UserLemmas.{numbers_are_counted, numbers_are_live}
 use Rattle.bdb_canon.specs.Canonical.{canon_of, edge_count, line_count}
 use Rattle.bdb_canon.specs.Sizes.{counts_of}
 use Rattle.bdb_canon.proofs.LineLemmas.{lines_by_counts}
 use Rattle.bdb_canon.proofs.PlaceLemmas.{root_is_listed}
 use Rattle.bdb_canon.proofs.RangeLemmas.{items_are_members}
-use Rattle.bdb_canon.proofs.UserLemmas.{all_are_users, users_are_counted}
 use Rattle.bdb_keep.specs.Tables.{Tables}
 use Rattle.bdb_paths.proofs.StateLemmas.{list_has_states, states_are_counted}
 use Rattle.bdb_paths.proofs.SuffixLemmas.{root_comes_first}
@@ -46,29 +49,47 @@ last_is_user : (p : ℕ → Bool) (a : ℕ) (w : List ℕ) → list_all p (a ∷
 last_is_user p a [] h = (and_parts (p a) true h).0
 last_is_user p a (b ∷ w) h = last_is_user p b w (and_parts (p a) (list_all p (b ∷ w)) h).1
 
--- all numbers but one
-none_left_out : (n l : ℕ) (names : List (List ℕ)) → l < n → length (filter (λ j. not (nat_eq j l)) (numbers_from n names)) ≡ length names
+-- the numbers of all live users but one
+none_left_out : (n l : ℕ) (users : List UserSlot) → l < n → length (filter (λ j. not (nat_eq j l)) (live_numbers n users)) ≡ length (user_names users)
 none_left_out n l [] h = refl
-none_left_out n l (x ∷ names) h =
+none_left_out n l (Live name ∷ users) h =
     let q : ℕ → Bool = λ j. not (nat_eq j l) in
     let other : nat_eq n l ≡ false = ne_eqb n l (λ e. omega arith) in
-    ap length (filter_kept_one q n (numbers_from (suc n) names) (ap not other)) ∙ ap suc (none_left_out (suc n) l names (omega arith))
+    ap length (filter_kept_one q n (live_numbers (suc n) users) (ap not other)) ∙ ap suc (none_left_out (suc n) l users (omega arith))
+none_left_out n l (Gone ∷ users) h = none_left_out (suc n) l users (omega arith)
 
-one_left_out : (n l : ℕ) (names : List (List ℕ)) → n ≤ l → l < n + length names → length (filter (λ j. not (nat_eq j l)) (numbers_from n names)) + 1 ≡ length names
-one_left_out n l [] low high = absurd (omega arith)
-one_left_out n l (x ∷ names) low high =
+-- where the number behind the first one stands in the rest
+named_behind : (n l : ℕ) (slot : UserSlot) (users : List UserSlot) → n < l → is_some (name_at (slot ∷ users) (l - n)) ≡ true → is_some (name_at users (l - suc n)) ≡ true
+named_behind n l slot users h e =
+    let one : l - n ≡ suc (l - suc n) = omega arith in
+    subst (λ k. is_some (name_at (slot ∷ users) k) ≡ true) one e
+
+none_is_gone : (n l : ℕ) (users : List UserSlot) → n ≡ l → is_some (name_at (Gone ∷ users) (l - n)) ≡ true → ⊥
+none_is_gone n l users h e =
+    let first : l - n ≡ 0 = omega arith in
+    absurd (false≢true (subst (λ k. is_some (name_at (Gone ∷ users) k) ≡ true) first e))
+
+one_left_out : (n l : ℕ) (users : List UserSlot) → n ≤ l → is_some (name_at users (l - n)) ≡ true
+    → length (filter (λ j. not (nat_eq j l)) (live_numbers n users)) + 1 ≡ length (user_names users)
+one_left_out n l [] low named = absurd (false≢true named)
+one_left_out n l (Live name ∷ users) low named =
     let q : ℕ → Bool = λ j. not (nat_eq j l) in
     elim (cases_Bool (nat_eq n l)) [
       | inl e ↦
           let this = eqb-true n l e in
-          let here = ap length (filter_dropped_one q n (numbers_from (suc n) names) (ap not e)) in
-          let rest = none_left_out (suc n) l names (omega arith) in
+          let here = ap length (filter_dropped_one q n (live_numbers (suc n) users) (ap not e)) in
+          let rest = none_left_out (suc n) l users (omega arith) in
           omega arith
       | inr e ↦
           let other = eqb-false n l e in
-          let here = ap length (filter_kept_one q n (numbers_from (suc n) names) (ap not e)) in
-          let rest = one_left_out (suc n) l names (omega arith) (omega arith) in
+          let here = ap length (filter_kept_one q n (live_numbers (suc n) users) (ap not e)) in
+          let rest = one_left_out (suc n) l users (omega arith) (named_behind n l (Live name) users (omega arith) named) in
           omega arith
+    ]
+one_left_out n l (Gone ∷ users) low named =
+    elim (cases_Bool (nat_eq n l)) [
+      | inl e ↦ absurd (none_is_gone n l users (eqb-true n l e) named)
+      | inr e ↦ let other = eqb-false n l e in one_left_out (suc n) l users (omega arith) (named_behind n l Gone users (omega arith) named)
     ]
 
 filter_same : (p q : ℕ → Bool) → ((j : ℕ) → p j ≡ q j) → (js : List ℕ) → length (filter p js) ≡ length (filter q js)
@@ -88,22 +109,21 @@ past_root [] = 0
 past_root (i ∷ w) = 1
 
 -- a state has an edge for each user, but for the last one of its path
-edges_of_one : (users : List (List ℕ)) (w : List ℕ) → list_all (is_user users) w ≡ true → edge_count (user_numbers users) w + past_root w ≡ length users
-edges_of_one users [] h = let k = all_kept (λ j. not (is_suffix (j ∷ []) [])) (λ j. refl) (user_numbers users) in let n = users_are_counted users in omega arith
+edges_of_one : (users : List UserSlot) (w : List ℕ) → list_all (is_user users) w ≡ true → edge_count (user_numbers users) w + past_root w ≡ length (user_names users)
+edges_of_one users [] h = let k = all_kept (λ j. not (is_suffix (j ∷ []) [])) (λ j. refl) (user_numbers users) in let n = numbers_are_counted users in omega arith
 edges_of_one users (a ∷ w) h =
     let l = last_of a w in
-    let own = and_parts (nat_lt 0 l) (nat_le l (length users)) (last_is_user (is_user users) a w h) in
+    let own = and_parts (nat_lt 0 l) (is_some (name_at users (l - 1))) (last_is_user (is_user users) a w h) in
     let low = ltb-true 0 l own.0 in
-    let high = leb-true l (length users) own.1 in
     let same = filter_same (λ j. not (is_suffix (j ∷ []) (a ∷ w))) (λ j. not (nat_eq j l)) (λ j. ap not (ends_in_last a w j)) (user_numbers users) in
-    let numbers = ap (λ (js : List ℕ). length (filter (λ j. not (nat_eq j l)) js)) (all_are_users users) in
-    let one = one_left_out 1 l users (omega arith) (omega arith) in
+    let numbers = ap (λ (js : List ℕ). length (filter (λ j. not (nat_eq j l)) js)) (numbers_are_live users) in
+    let one = one_left_out 1 l users (omega arith) own.1 in
     omega arith
 
 -- ---- the edges of all states
 
-edges_of_all : (users : List (List ℕ)) (states : List (List ℕ)) → list_all (λ w. list_all (is_user users) w) states ≡ true
-    → sum_by (edge_count (user_numbers users)) states + sum_by past_root states ≡ length states * length users
+edges_of_all : (users : List UserSlot) (states : List (List ℕ)) → list_all (λ w. list_all (is_user users) w) states ≡ true
+    → sum_by (edge_count (user_numbers users)) states + sum_by past_root states ≡ length states * length (user_names users)
 edges_of_all users [] h = omega arith
 edges_of_all users (w ∷ ws) h =
     let parts = and_parts (list_all (is_user users) w) (list_all (λ v. list_all (is_user users) v) ws) h in
@@ -154,16 +174,16 @@ edges_from_sum edges (suc v) (suc m) some e =
     let r : edges ≡ suc m + v * m = omega arith in
     r ∙ ap (λ x. suc m + x * m) (sym p) ∙ ap (λ x. suc m + (suc v - 1) * x) (sym q)
 
-pub lines_are : (t : Tables) (b : Contents) → Stores t b → line_count b.catalog (canon_of b) ≡ lines_by (length b.catalog.users) (length b.catalog.rels) (counts_of b)
+pub lines_are : (t : Tables) (b : Contents) → Stores t b → line_count b.catalog (canon_of b) ≡ lines_by (length (user_names b.catalog.users)) (length b.catalog.rels) (counts_of b)
 lines_are t b h =
     let states = states_of b.stmts in
     let users = user_numbers b.catalog.users in
-    let count = users_are_counted b.catalog.users in
+    let count = numbers_are_counted b.catalog.users in
     let worlds = states_are_counted b.stmts in
     let tuples = tuples_counted b.stmts in
     let some = one_is_root states (set_is_ascending path_exact (stated_prefixes b.stmts)) (root_comes_first states (set_is_ascending path_exact (stated_prefixes b.stmts)) (root_is_listed b.stmts)) in
     let all = edges_of_all b.catalog.users states (states_have_users t b h) in
-    let edges = edges_from_sum (sum_by (edge_count users) states) (length states) (length b.catalog.users) (omega arith) (omega arith) in
-    let same = ap (edges_by (length b.catalog.users)) worlds in
+    let edges = edges_from_sum (sum_by (edge_count users) states) (length states) (length (user_names b.catalog.users)) (omega arith) (omega arith) in
+    let same = ap (edges_by (length (user_names b.catalog.users))) worlds in
     let lines = lines_by_counts b in
     omega arith

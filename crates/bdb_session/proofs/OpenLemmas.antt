@@ -9,6 +9,7 @@ use Prim.Native.Nat.{zero}
 use Rattle.bdb_base.specs.Bases.{Contents, IsValid, empty_contents}
 use Rattle.bdb_base.specs.Causes.{Rises}
 use Rattle.bdb_base.specs.declared.kinds.RelDef.{RelDef}
+use Rattle.bdb_base.specs.declared.kinds.UserSlot.{UserSlot}
 use Rattle.bdb_base.proofs.SameLemmas.{same_text-Decides}
 use Rattle.bdb_canon.specs.declared.sizes.Counts.{Counts}
 use Rattle.bdb_catalog.specs.Bases.{StoresValid, StoresSome}
@@ -38,11 +39,11 @@ some_stored t h = record { base = h.base; is = record { stored = h.stores.stored
 pub stored_valid : (t : Tables) (b : Contents) → stored.StoresValid t b → StoresValid t b
 stored_valid t b h = record { stored = h.stored; valid = h.valid }
 
-pub knows_parts : (t : Tables) (users : List (List ℕ)) (rels : List RelDef) (counts : Counts) → IsPartOf (λ b. b.catalog.users) t users → IsPartOf (λ b. b.catalog.rels) t rels
+pub knows_parts : (t : Tables) (users : List UserSlot) (rels : List RelDef) (counts : Counts) → IsPartOf (λ b. b.catalog.users) t users → IsPartOf (λ b. b.catalog.rels) t rels
     → TellsCounts t counts → KnowsStored t (record { catalog = record { rels = rels; users = users }; counts = counts })
 knows_parts t users rels counts u r c = λ b h. record {
   base = h;
-  catalog = ap (λ (us : List (List ℕ)). record { rels = rels; users = us }) (u b h) ∙ ap (λ (rs : List RelDef). record { rels = rs; users = b.catalog.users }) (r b h);
+  catalog = ap (λ (us : List UserSlot). record { rels = rels; users = us }) (u b h) ∙ ap (λ (rs : List RelDef). record { rels = rs; users = b.catalog.users }) (r b h);
   counts = c b (record { stored = h.stored; valid = h.valid });
 }
 
@@ -52,11 +53,11 @@ empty_is_valid = record {
   stmts = record { sorted = refl; belong = refl; no_clash = refl; few_stmts = refl; few_tuples = refl; few_worlds = refl };
 }
 
-pub agrees_empty : (t : Tables) (users : List (List ℕ)) (rels : List RelDef) → users ≡ [] → rels ≡ [] → Stores t empty_contents
+pub agrees_empty : (t : Tables) (users : List UserSlot) (rels : List RelDef) → users ≡ [] → rels ≡ [] → Stores t empty_contents
     → Agrees t (record { catalog = record { rels = rels; users = users }; counts = record { worlds = 1; tuples = 0; stmts = 0; rows = 0 } }) (start_from empty_contents)
 agrees_empty t users rels u r h = record {
   base = record { stored = h; valid = empty_is_valid };
-  catalog = ap (λ (us : List (List ℕ)). record { rels = rels; users = us }) u ∙ ap (λ (rs : List RelDef). record { rels = rs; users = [] }) r;
+  catalog = ap (λ (us : List UserSlot). record { rels = rels; users = us }) u ∙ ap (λ (rs : List RelDef). record { rels = rs; users = [] }) r;
   counts = refl;
 }
 

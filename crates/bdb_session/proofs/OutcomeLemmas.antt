@@ -4,7 +4,7 @@ use Rattle.std.proofs.lemmas.Bool.{false≢true}
 use Rattle.std.specs.Option.{option_map, option_and_then}
 use Rattle.std.specs.Prelude.{if◌then◌else◌}
 use Rattle.bdb_base.specs.Bases.{Contents, IsValid, stands, with_relation, with_statement, with_user}
-use Rattle.bdb_base.specs.Changes.{taken_by, updated, without_taken}
+use Rattle.bdb_base.specs.Changes.{statements_naming, taken_by, updated, without_taken}
 use Rattle.bdb_base.specs.Queries.{answers_of}
 use Rattle.bdb_base.specs.declared.kinds.Cond.{Cond}
 use Rattle.bdb_base.specs.declared.kinds.SetCol.{SetCol}
@@ -14,7 +14,7 @@ use Rattle.bdb_base.specs.declared.kinds.What.{What}
 use Rattle.bdb_bind.specs.declared.bound.BindError.{BindError}
 use Rattle.bdb_bind.specs.declared.bound.BindError.TheVariants.{Memory}
 use Rattle.bdb_bind.specs.declared.bound.Bound.{Bound}
-use Rattle.bdb_bind.specs.declared.bound.Bound.TheVariants.{CreateUser, CreateRelation, Insert, Delete, Update, Select, Explain, ShowWorld, Why, ShowTables}
+use Rattle.bdb_bind.specs.declared.bound.Bound.TheVariants.{CreateUser, CreateRelation, DropUser, Insert, Delete, Update, Select, Explain, ShowWorld, Why, ShowTables}
 use Rattle.bdb_bind.specs.Binding.{bound_of}
 use Rattle.bdb_bind.specs.Refusal.{refusal_of}
 use Rattle.bdb_canon.specs.Canonical.{canon_of, line_count}
@@ -22,7 +22,7 @@ use Rattle.bdb_render.specs.Replies.{count_reply, ok_reply, rows_reply}
 use Rattle.bdb_render.specs.Tables.{tables_reply}
 use Rattle.bdb_render.specs.declared.refusal.Refusal.{Refusal}
 use Rattle.bdb_render.specs.declared.refusal.Refusal.TheVariants as refusal
-use Rattle.bdb_session.specs.Machine.{refusal_from, becomes, bound_outcome, clashes_with, clashing, clashing_within, command_outcome, tells, with_catalog, with_stmts}
+use Rattle.bdb_session.specs.Machine.{refusal_from, base_without, becomes, bound_outcome, clashes_with, clashing, clashing_within, command_outcome, tells, with_catalog, with_stmts}
 use Rattle.bdb_session.specs.Outcome.{State, Outcome, Refused, Done, unless, is_accepted, commit_count}
 use Rattle.bdb_session.specs.Sizes.{passed_limit, too_many}
 use Rattle.bdb_syntax.specs.declared.command.Command.{Command}
@@ -87,6 +87,7 @@ changed s path sign rel sets conds = with_stmts s.base (updated path sign rel co
 pub bound_counts : (b : Bound) (s : State) → is_accepted (bound_outcome s b) ≡ true → commit_count (bound_outcome s b) ≡ 1
 bound_counts (CreateUser name) s = becomes_counts s (with_catalog s.base (with_user s.base.catalog name)) ok_reply
 bound_counts (CreateRelation def) s = becomes_counts s (with_catalog s.base (with_relation s.base.catalog def)) ok_reply
+bound_counts (DropUser uid) s = becomes_counts s (base_without s.base uid) (count_reply (length (statements_naming uid s.base.stmts)))
 bound_counts (Insert x) s =
     unless_counts (clashes_with (clashing s.base x)) (becomes s (inserted s x) (count_reply (if stands s.base.stmts x then 0 else 1)))
     (becomes_counts s (inserted s x) (count_reply (if stands s.base.stmts x then 0 else 1)))

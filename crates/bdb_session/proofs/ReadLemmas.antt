@@ -48,7 +48,6 @@ use Rattle.bdb_plan.specs.PlanOf.{plan_of}
 use Rattle.bdb_plan.specs.Fitness.{Fields}
 use Rattle.bdb_plan.specs.Running.{reads_from, start_of}
 use Rattle.bdb_plan.specs.Sight.{has_signed}
-use Rattle.bdb_queries.specs.Slots.{user_tuples}
 use Rattle.bdb_tables.specs.Codec.{place}
 use Rattle.bdb_tables.specs.InUse.{ValKey, val_codec}
 use Rattle.bdb_tables.specs.Marks.{Mark}
@@ -230,16 +229,11 @@ few_are_small t b h q rows few at alias rel sign path item slots w named own apa
     let most = few at alias rel sign path item slots w named own apart in
     omega arith
 
--- there are as many user tuples as users
-users_counted : (uid : ℕ) (names : List (List ℕ)) → length (user_tuples uid names) ≡ length names
-users_counted uid [] = refl
-users_counted uid (name ∷ names) = ap suc (users_counted (suc uid) names)
-
 -- whichever tables store a base, the plan of a query reads over them no more than the product
 pub stored_plans_read_few : StoredPlansReadFew
 stored_plans_read_few t b q rows h fits few =
     let shown = (stored_shows t b h).shown in
-    let users = ap length shown.users ∙ users_counted 1 b.catalog.users in
+    let places = shown.places in
     plan_reads b (sight_of t) (world_number h.stored.names) q (length b.catalog.users) rows h.valid shown fits (omega arith) (few_are_small t b h q rows few)
 
 -- the plan of a query reads no more than the product over the base of each state

@@ -1,8 +1,9 @@
 -- How often is written step by step where statements are taken away or changed, and where the transaction ends.
-use Rattle.std.proofs.Common.{◌≡◌, ◌∙◌, ℕ, ◌+◌, true, false, List, [], ◌∷◌, length, map, Result, Ok, Err, IfOk, OnOk, refl, ap, sym, subst, inl, inr}
+use Rattle.std.proofs.Common.{◌≡◌, ◌∙◌, ℕ, ◌+◌, ◌*◌, true, false, List, [], ◌∷◌, length, map, Result, Ok, Err, IfOk, OnOk, refl, ap, sym, subst, inl, inr}
 use Rattle.std.proofs.lemmas.Bool.{cases_Bool, false≢true, MatchBool-at_true, MatchBool-at_false}
-use Rattle.bdb_base.specs.Bases.{Contents}
-use Rattle.bdb_base.specs.Changes.{changed_statement, taken_by}
+use Rattle.bdb_base.specs.Bases.{Contents, world_count}
+use Rattle.bdb_base.specs.Causes.{Rises}
+use Rattle.bdb_base.specs.Changes.{changed_statement, statements_naming, taken_by, without_statements_of}
 use Rattle.bdb_base.specs.Limits.{deepest_statement}
 use Rattle.bdb_base.specs.declared.kinds.Catalog.{Catalog}
 use Rattle.bdb_base.specs.declared.kinds.Cond.{Cond}
@@ -10,11 +11,12 @@ use Rattle.bdb_base.specs.declared.kinds.SetCol.{SetCol}
 use Rattle.bdb_base.specs.declared.kinds.Sign.{Sign}
 use Rattle.bdb_base.specs.declared.kinds.Stmt.{Stmt}
 use Rattle.bdb_bind.specs.Fits.{fits_catalog, fits_path}
-use Rattle.bdb_bind.specs.declared.bound.Bound.TheVariants.{Delete, Update}
+use Rattle.bdb_bind.specs.declared.bound.Bound.TheVariants.{Delete, DropUser, Update}
 use Rattle.bdb_canon.specs.declared.sizes.Counts.{Counts}
 use Rattle.bdb_catalog.specs.Taking.{AreTaken}
 use Rattle.bdb_keep.specs.Calls.{IsBegin}
 use Rattle.bdb_keep.specs.Seen.{Seen}
+use Rattle.bdb_leaving.specs.Leaving.{LeavesThrough, WritesLeaving}
 use Rattle.bdb_render.specs.declared.refusal.Refusal.TheVariants as refusal
 use Rattle.bdb_update.specs.Calls.{Changes}
 use Rattle.bdb_update.specs.Replacing.{WritesForOne}
@@ -30,6 +32,7 @@ use Rattle.bdb_session.specs.Machine.{clash_with}
 use Rattle.bdb_session.specs.Outcome.{State, Outcome, Refused, is_accepted}
 use Rattle.bdb_session.specs.Within.{IsSaid, IsStopped, Refuses, IsKept, IsUndone, Settles, sized}
 use Rattle.bdb_session.proofs.DeleteLemmas.{gone_is, may_go}
+use Rattle.bdb_session.proofs.LeaveLemmas.{may_leave}
 use Rattle.bdb_session.proofs.ServedLemmas.{still_agrees}
 use Rattle.bdb_session.proofs.UpdateLemmas.{may_change, update_path_fits}
 use Rattle.bdb_session.proofs.WriteLemmas.{one_delete_writes, same_writes, settled_writes}
@@ -40,6 +43,14 @@ through_same : (es : List (Stmt × Contents)) (old from to new : Seen) → from.
 through_same [] old from to new k w l v h = (l ∙ h.0 ∙ k, v ∙ h.1 ∙ w)
 through_same (e ∷ es) old from to new k w l v h =
     (h.0, h.1, same_writes (length e.0.path + 2) 8 old from h.0 h.0 k w refl refl h.2, through_same es h.0 h.0 to new refl refl l v h.3)
+
+-- and so are the writes of a user who leaves
+leaves_same : (b : Contents) (uid : ℕ) (old from to new : Seen) → from.kept ≡ old.kept → from.writes ≡ old.writes → new.writes ≡ to.writes → WritesLeaving b uid from to → WritesLeaving b uid old new
+leaves_same b uid old from to new k w v h = record {
+  between = h.between;
+  gone = through_same (steps_without b (statements_naming uid b.stmts)) old from h.between h.between k w refl refl h.gone;
+  left = subst (λ n. Rises (2 * world_count (without_statements_of uid b.stmts) + 1) h.between.writes n) (sym v) h.left;
+}
 
 -- ---- within a transaction
 
@@ -52,6 +63,19 @@ said_through es c o old read mid new (Err stop) k w h said = tt
 pub said_accepted : (c : Catalog) (o : Outcome) (mid new : Seen) (result : Result Reply StopError) → is_accepted o ≡ true → IsSaid c o mid new result → IfOk result (λ r. r.accepted ≡ true)
 said_accepted c o mid new (Ok r) e said = said.reply.accepted ∙ e
 said_accepted c o mid new (Err stop) e said = tt
+
+-- a user who leaves
+said_leaves : (b : Contents) (uid : ℕ) (c : Catalog) (o : Outcome) (old mid new : Seen) (result : Result Reply StopError) → WritesLeaving b uid old mid → IsSaid c o mid new result
+    → OnOk result (WritesLeaving b uid old new)
+said_leaves b uid c o old mid new (Ok r) h said = leaves_same b uid old old mid new refl refl (ap (λ (x : Seen). x.writes) said.alone) h
+said_leaves b uid c o old mid new (Err stop) h said = tt
+
+pub leave_writes : (k : Known) (counts : Counts) (uid : ℕ) (old mid new : Seen) (c : Catalog) (o : Outcome) (result : Result Reply StopError) → is_accepted o ≡ true
+    → fits_catalog k.catalog (DropUser uid) ≡ true → counts ≡ k.counts → LeavesThrough counts uid old mid → IsSaid c o mid new result → WritesAsTold (DropUser uid) k old new result
+leave_writes k counts uid old mid new c o result done fits same through said = λ s a. record {
+  steps = said_leaves s.base uid c o old mid new result (through s.base (may_leave k counts uid old.kept fits same s a)) said;
+  accepted = said_accepted c o mid new result done said;
+}
 
 -- a delete
 pub delete_writes : (k : Known) (before : Counts) (w : List ℕ) (sign : Sign) (rel : ℕ) (conds : List Cond) (gone : List Stmt) (old read mid new : Seen) (c : Catalog) (o : Outcome)
@@ -126,6 +150,15 @@ module _ (learns : Known) (r : Reply) (before now : Known) (old run mid new : Se
   done_through es done h result e =
       kept_through es h result (MatchBool-at_true (IsKept learns r before now mid new result) (IsUndone r before now mid new result) done e)
 
+  kept_leaves : (b : Contents) (uid : ℕ) → WritesLeaving b uid run mid → (result : Result Reply StopError) → IsKept learns r before now mid new result → OnOk result (WritesLeaving b uid old new)
+  kept_leaves b uid h (Ok q) k = leaves_same b uid old run mid new began.kept began.writes k.commit.writes h
+  kept_leaves b uid h (Err stop) k = tt
+
+  done_leaves : (b : Contents) (uid : ℕ) → r.accepted ≡ true → WritesLeaving b uid run mid → (result : Result Reply StopError) → Settles learns r before now mid new result
+      → OnOk result (WritesLeaving b uid old new)
+  done_leaves b uid done h result e =
+      kept_leaves b uid h result (MatchBool-at_true (IsKept learns r before now mid new result) (IsUndone r before now mid new result) done e)
+
   kept_accepted : r.accepted ≡ true → (result : Result Reply StopError) → IsKept learns r before now mid new result → IfOk result (λ q. q.accepted ≡ true)
   kept_accepted done (Ok q) k = ap (λ (x : Reply). x.accepted) k.reply ∙ done
   kept_accepted done (Err stop) k = tt
@@ -160,6 +193,14 @@ module _ (learns : Known) (r : Reply) (before now : Known) (old run mid new : Se
     (began : IsBegin {T = Unit {0}} {E = StopError} old run (Ok tt) Fault) where
   begun_agrees : (s : State) → Agrees old.kept before s → Agrees run.kept before s
   begun_agrees s a = still_agrees old.kept run.kept before s began.kept a
+
+  pub leave_settles : (uid : ℕ) → WritesAsTold (DropUser uid) before run mid (Ok r) → Settles learns r before now mid new result → WritesAsTold (DropUser uid) before old new result
+  leave_settles uid within e = λ s a.
+      let h = within s (begun_agrees s a) in
+      record {
+        steps = done_leaves learns r before now old run mid new began s.base uid h.accepted h.steps result e;
+        accepted = done_accepted learns r before now old run mid new began h.accepted result e;
+      }
 
   pub delete_settles : (w : List ℕ) (sign : Sign) (rel : ℕ) (conds : List Cond) → WritesAsTold (Delete w sign rel conds) before run mid (Ok r)
       → Settles learns r before now mid new result → WritesAsTold (Delete w sign rel conds) before old new result

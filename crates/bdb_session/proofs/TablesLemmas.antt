@@ -1,6 +1,7 @@
 -- How a session tells the structure of a stored base.
 use Rattle.std.proofs.Common.{◌≡◌, ◌∙◌, ℕ, true, false, nat_lt, Some, None, Result, length, refl, ap, sym}
 use Rattle.std.proofs.lemmas.Bool.{cond-true, cond-false}
+use Rattle.bdb_base.specs.Bases.{user_names}
 use Rattle.bdb_base.specs.Limits.{most_lines}
 use Rattle.bdb_base.specs.declared.kinds.Catalog.{Catalog}
 use Rattle.bdb_bind.specs.declared.bound.Bound.TheVariants.{ShowTables}
@@ -27,13 +28,13 @@ use Rattle.bdb_update.proofs.CallLemmas.{gone_itself}
 
 -- how many lines there are, by what a session knows
 abbrev pub known_lines : Known → ℕ
-known_lines k = lines_by (length k.catalog.users) (length k.catalog.rels) k.counts
+known_lines k = lines_by (length (user_names k.catalog.users)) (length k.catalog.rels) k.counts
 
 pub lines_known : (t : Tables) (k : Known) (s : State) → Agrees t k s → line_count s.base.catalog (canon_of s.base) ≡ known_lines k
 lines_known t k s a =
     lines_are t s.base a.base.stored
-    ∙ ap (λ (c : Catalog). lines_by (length c.users) (length c.rels) (counts_of s.base)) (sym a.catalog)
-    ∙ ap (lines_by (length k.catalog.users) (length k.catalog.rels)) (sym a.counts)
+    ∙ ap (λ (c : Catalog). lines_by (length (user_names c.users)) (length c.rels) (counts_of s.base)) (sym a.catalog)
+    ∙ ap (lines_by (length (user_names k.catalog.users)) (length k.catalog.rels)) (sym a.counts)
 
 -- too many lines are refused, and others told
 pub many_lines : (t : Tables) (k : Known) (s : State) → Agrees t k s → nat_lt most_lines (known_lines k) ≡ true → bound_outcome s ShowTables ≡ Refused refusal.Many

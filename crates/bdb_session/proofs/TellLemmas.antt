@@ -8,6 +8,7 @@ use Rattle.bdb_base.specs.Causes.{HasCause}
 use Rattle.bdb_base.specs.WorldRows.{world_of}
 use Rattle.bdb_base.specs.declared.kinds.Catalog.{Catalog}
 use Rattle.bdb_base.specs.declared.kinds.Held.{Held}
+use Rattle.bdb_base.specs.declared.kinds.UserSlot.{UserSlot}
 use Rattle.bdb_base.specs.declared.kinds.World.{World}
 use Rattle.bdb_bind.specs.declared.bound.Bound.TheVariants.{ShowWorld}
 use Rattle.bdb_bind.specs.Fits.{fits_path}
@@ -80,7 +81,7 @@ world_reads_within k path held old mid new result h own most same s a =
     always_ok result (subst (λ n. RisesWithin (world_reads s.base path) old.reads n) (sym same) there)
 
 -- the users of a path that fits are those of the catalog
-pub fitting_users : (users : List (List ℕ)) (limit : ℕ) (path : List ℕ) → fits_path users limit path ≡ true → list_all (is_user users) path ≡ true
+pub fitting_users : (users : List UserSlot) (limit : ℕ) (path : List ℕ) → fits_path users limit path ≡ true → list_all (is_user users) path ≡ true
 fitting_users users limit path fits = (and_parts (alternates path && nat_le (length path) limit) (list_all (is_user users) path) fits).1
 
 pub some_has_users : (t : Tables) (k : Known) (path : List ℕ) → AgreesOnSome t k → list_all (is_user k.catalog.users) path ≡ true → SomeHasUsers t path

@@ -6,10 +6,11 @@ use Rattle.bdb_base.specs.declared.kinds.Catalog.{Catalog}
 use Rattle.bdb_base.specs.declared.kinds.SetCol.{SetCol}
 use Rattle.bdb_base.specs.declared.kinds.Stmt.{Stmt}
 use Rattle.bdb_bind.specs.declared.bound.Bound.{Bound}
-use Rattle.bdb_bind.specs.declared.bound.Bound.TheVariants.{CreateUser, CreateRelation, Insert, Delete, Update, Select, Explain, ShowWorld, Why, ShowTables}
+use Rattle.bdb_bind.specs.declared.bound.Bound.TheVariants.{CreateUser, CreateRelation, DropUser, Insert, Delete, Update, Select, Explain, ShowWorld, Why, ShowTables}
 use Rattle.bdb_bind.specs.Binding.{bound_of}
 use Rattle.bdb_bind.specs.Refusal.{refusal_of}
 use Rattle.bdb_keep.specs.Seen.{Seen}
+use Rattle.bdb_leaving.specs.Leaving.{WritesLeaving}
 use Rattle.bdb_syntax.specs.declared.command.Command.{Command}
 use Rattle.bdb_update.specs.Bounds.{WritesWithin}
 use Rattle.bdb_update.specs.Steps.{WritesThrough, steps_of, steps_without}
@@ -63,11 +64,18 @@ pub record UpdatesThrough (b : Contents) (gone : List Stmt) (sets : List SetCol)
   pub steps : IfOk result (λ r. r.accepted ≡ true → WritesThrough old (steps_of b gone (map (changed_statement sets) gone)) new)
   pub refused : IfOk result (λ r. r.accepted ≡ false → WritesNothing old new result)
 
+-- A user leaves. The statements that name him go one after the other, each with as many writes as one alone; two writes are made for
+-- each world that is left, and one more. It is never refused.
+pub record LeavesAsTold (b : Contents) (uid : ℕ) (old new : Seen) (result : Result Reply StopError) : Type 0 where
+  pub steps : OnOk result (WritesLeaving b uid old new)
+  pub accepted : IfOk result (λ r. r.accepted ≡ true)
+
 -- A statement is added within its bound. Statements are taken away or changed step by step, whichever base the tables store. What is
 -- shown, answered, explained or asked for its reasons writes nothing, nor does a user or a relation that is refused.
 abbrev pub WritesAsTold : Bound → Known → Seen → Seen → Result Reply StopError → Type 0
 WritesAsTold (CreateUser name) k old new result = RefusedUnwritten old new result
 WritesAsTold (CreateRelation def) k old new result = RefusedUnwritten old new result
+WritesAsTold (DropUser uid) k old new result = (s : State) → Agrees old.kept k s → LeavesAsTold s.base uid old new result
 WritesAsTold (Insert x) k old new result = InsertsWithin x k old new result
 WritesAsTold (Delete path sign rel conds) k old new result =
     (s : State) → Agrees old.kept k s → DeletesThrough s.base path (taken_by path sign rel conds s.base.stmts) old new result

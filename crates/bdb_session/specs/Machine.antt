@@ -5,14 +5,14 @@ use Rattle.bdb_base.specs.declared.kinds.Catalog.{Catalog}
 use Rattle.bdb_base.specs.declared.kinds.Query.{Query}
 use Rattle.bdb_base.specs.declared.kinds.Stmt.{Stmt}
 use Rattle.bdb_base.specs.declared.kinds.World.{World}
-use Rattle.bdb_base.specs.Bases.{Contents, key_lengths, with_statement, with_user, with_relation, stands}
+use Rattle.bdb_base.specs.Bases.{Contents, key_lengths, with_statement, with_user, without_user, with_relation, stands}
 use Rattle.bdb_base.specs.Worlds.{least_clash}
 use Rattle.bdb_base.specs.Queries.{answers_of}
 use Rattle.bdb_base.specs.WorldRows.{world_of}
-use Rattle.bdb_base.specs.Changes.{taken_by, without_taken, updated, first_clashing}
+use Rattle.bdb_base.specs.Changes.{taken_by, without_taken, updated, first_clashing, statements_naming, without_statements_of}
 use Rattle.bdb_syntax.specs.declared.command.Command.{Command}
 use Rattle.bdb_bind.specs.declared.bound.Bound.{Bound}
-use Rattle.bdb_bind.specs.declared.bound.Bound.TheVariants.{CreateUser, CreateRelation, Insert, Delete, Update, Select, Explain, ShowWorld, Why, ShowTables}
+use Rattle.bdb_bind.specs.declared.bound.Bound.TheVariants.{CreateUser, CreateRelation, DropUser, Insert, Delete, Update, Select, Explain, ShowWorld, Why, ShowTables}
 use Rattle.bdb_bind.specs.declared.bound.BindError.{BindError}
 use Rattle.bdb_bind.specs.declared.bound.BindError.TheVariants as bind
 use Rattle.bdb_bind.specs.Refusal.{refusal_of}
@@ -63,6 +63,10 @@ with_catalog b catalog = record b { catalog = catalog }
 abbrev pub with_stmts : Contents → List Stmt → Contents
 with_stmts b stmts = record b { stmts = stmts }
 
+-- the base without a user, and without each statement whose path names him
+abbrev pub base_without : Contents → ℕ → Contents
+base_without b uid = record { catalog = without_user b.catalog uid; stmts = without_statements_of uid b.stmts }
+
 -- the clash with a statement, where there is one
 abbrev pub clash_with : Stmt → Refusal
 clash_with x = refusal.Clash x.sign x.tuple
@@ -102,6 +106,7 @@ plan_reply c q = plan_text c q (plan_of c.rels q) ++ count_reply (length (plan_o
 abbrev pub bound_outcome : State → Bound → Outcome
 bound_outcome s (CreateUser name) = becomes s (with_catalog s.base (with_user s.base.catalog name)) ok_reply
 bound_outcome s (CreateRelation def) = becomes s (with_catalog s.base (with_relation s.base.catalog def)) ok_reply
+bound_outcome s (DropUser uid) = becomes s (base_without s.base uid) (count_reply (length (statements_naming uid s.base.stmts)))
 bound_outcome s (Insert x) =
     unless (clashes_with (clashing s.base x))
     (becomes s (with_stmts s.base (with_statement s.base.stmts x)) (count_reply (if stands s.base.stmts x then 0 else 1)))

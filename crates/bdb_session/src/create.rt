@@ -14,7 +14,7 @@ use crate::reply::Reply;
 use crate::session::Session;
 use crate::stop::StopError;
 use crate::transact::stop_from;
-use bdb_base::{Catalog, Exact, RelDef, Txt};
+use bdb_base::{Catalog, Exact, RelDef, Txt, UserSlot};
 use bdb_bind::{Bound, NameIndex};
 use bdb_catalog::{add_relation, add_user};
 use bdb_keep::Keeper;
@@ -140,7 +140,8 @@ fn names_with_user(alloc: Global, catalog: &Catalog, name: &Txt) -> Result<Names
     ensures { IfOk result (λ names. names.catalog ≡ with_user catalog.now name.now) }
 {
     let mut catalog = catalog.try_clone(alloc)?;
-    catalog.users.push(name.try_clone(alloc)?)?;
+    let name = name.try_clone(alloc)?;
+    catalog.users.push(UserSlot::Live(name))?;
     let index = NameIndex::of(alloc, &catalog)?;
     Ok(Names { catalog, index })
 }

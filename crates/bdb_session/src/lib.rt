@@ -7,6 +7,7 @@ mod create;
 mod event;
 mod insert;
 pub mod laws;
+mod leave;
 mod limits;
 mod news;
 mod open;

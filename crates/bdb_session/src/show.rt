@@ -1,6 +1,6 @@
 // The commands that show the world of a path, and the whole structure.
 ghost use Rattle.std.specs.Prelude.{◌≡◌, ◌≤◌, true, nat_lt, length};
-ghost use Rattle.bdb_base.specs.Bases.{IsCatalog};
+ghost use Rattle.bdb_base.specs.Bases.{IsCatalog, user_names};
 ghost use Rattle.bdb_base.specs.Limits.{most_lines, most_relations, most_users};
 ghost use Rattle.bdb_bind.specs.Fits.{fits_catalog};
 ghost use Rattle.bdb_render.specs.Replies.{world_reply};
@@ -17,7 +17,7 @@ use crate::session::Session;
 use crate::stop::StopError;
 use crate::transact::stop_from;
 use bdb_base::limits::MOST_LINES;
-use bdb_base::{Path, World};
+use bdb_base::{Path, World, live_count};
 use bdb_bind::Bound;
 use bdb_canon::{Canon, Counts};
 use bdb_catalog::world_of_path;
@@ -81,9 +81,9 @@ impl Session {
     /// Whether the structure has more lines than may be told.
     fn has_many_lines(&self) -> bool
         requires catalog { IsCatalog self.now.catalog }
-        ensures { result ≡ nat_lt most_lines (lines_by (length self.now.catalog.users) (length self.now.catalog.rels) self.now.counts) }
+        ensures { result ≡ nat_lt most_lines (lines_by (length (user_names self.now.catalog.users)) (length self.now.catalog.rels) self.now.counts) }
     {
-        let users = self.catalog.users.len();
+        let users = live_count(self.catalog.users.as_slice());
         let rels = self.catalog.rels.len();
         MOST_LINES < lines_by(users, rels, &self.counts)
     }

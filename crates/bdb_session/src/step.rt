@@ -61,6 +61,7 @@ impl Session {
         match bound {
             Bound::CreateUser { name } => self.create_user(keeper, news, &name),
             Bound::CreateRelation { def } => self.create_relation(keeper, news, &def),
+            Bound::DropUser { uid } => self.drop_user(keeper, news, uid),
             Bound::Insert { stmt } => self.insert(keeper, &mut news.counts, &stmt),
             Bound::Delete {
                 path,

@@ -6,6 +6,7 @@ mod crowd;
 mod faults;
 mod formats;
 mod jobs;
+mod leaving;
 mod limits;
 mod queries;
 mod reading;

@@ -37,28 +37,40 @@ fn push_eagle(alloc: Global, script: &mut String, outer: u32, inner: u32) -> Res
     Ok(())
 }
 
-/// Users 1 to 45, and inserts at as many paths of two users as make 2,000 worlds.
+/// Users 1 to 64, and inserts at as many paths of two users as make 4,000 worlds.
 fn full_of_worlds(alloc: Global) -> Result<String, Fail> {
     let mut script = String::new(alloc);
-    for user in 1..46 {
-        let name = format!(in alloc; "create user '{user}';\n")?;
-        script.push_str(name.as_str())?;
-    }
+    push_users(alloc, &mut script, 64)?;
     script.push_str("create relation S(k text, v text);\n")?;
-    for outer in 1..45 {
-        for inner in 1..45 {
+    for outer in 1..64 {
+        for inner in 1..64 {
             if outer != inner {
                 push_eagle(alloc, &mut script, outer, inner)?;
             }
         }
     }
-    for inner in 1..45 {
-        push_eagle(alloc, &mut script, 45, inner)?;
-    }
-    for outer in 1..19 {
-        push_eagle(alloc, &mut script, outer, 45)?;
+    for outer in 1..31 {
+        push_eagle(alloc, &mut script, outer, 64)?;
     }
     Ok(script)
+}
+
+/// So many users, each with a number as name, from 1 on.
+pub(crate) fn push_users(alloc: Global, script: &mut String, count: u32) -> Result<(), Fail> {
+    for user in 0..count {
+        let number = user as u64 + 1;
+        let name = format!(in alloc; "create user '{number}';\n")?;
+        script.push_str(name.as_str())?;
+    }
+    Ok(())
+}
+
+/// A reply so many times.
+pub(crate) fn push_replies(replies: &mut Vec<u8>, reply: &[u8], count: u32) -> Result<(), Fail> {
+    for _ in 0..count {
+        replies.extend_from_slice(reply)?;
+    }
+    Ok(())
 }
 
 #[test]
@@ -67,16 +79,12 @@ fn worlds_have_a_limit(rt: HostRuntime) -> Result<(), Fail> {
     let script = full_of_worlds(alloc)?;
     let rows = [
         script.as_str(),
-        "insert into BELIEF '19' BELIEF '45' S values('s1','eagle');",
-        "insert into BELIEF '1' BELIEF '45' S values('s2','owl');",
+        "insert into BELIEF '31' BELIEF '64' S values('s1','eagle');",
+        "insert into BELIEF '1' BELIEF '64' S values('s2','owl');",
     ];
     let mut replies = Vec::new(alloc);
-    for _ in 0..46 {
-        replies.extend_from_slice(b"ok\n")?;
-    }
-    for _ in 0..1954 {
-        replies.extend_from_slice(b"ok 1\n")?;
-    }
+    push_replies(&mut replies, b"ok\n", 65)?;
+    push_replies(&mut replies, b"ok 1\n", 3936)?;
     replies.extend_from_slice(b"error full worlds\nok 1\n")?;
     let (status, out, _) = ran_quietly(alloc, &rows)?;
     assert_eq!(rt; status, 1);
@@ -89,13 +97,10 @@ fn users_have_a_limit(rt: HostRuntime) -> Result<(), Fail> {
     let alloc = rt.alloc();
     let mut script = String::new(alloc);
     let mut replies = Vec::new(alloc);
-    for user in 1..257 {
-        let name = format!(in alloc; "create user '{user}';\n")?;
-        script.push_str(name.as_str())?;
-        replies.extend_from_slice(b"ok\n")?;
-    }
-    script.push_str("create user 'Alice';")?;
-    replies.extend_from_slice(b"error full users\n")?;
+    push_users(alloc, &mut script, 1024)?;
+    push_replies(&mut replies, b"ok\n", 1024)?;
+    script.push_str("create user 'Alice'; drop user '1'; create user 'Alice'; create user '1';")?;
+    replies.extend_from_slice(b"error full users\nok 0\nerror full users\nerror full users\n")?;
     let (status, out, _) = ran_quietly(alloc, &[script.as_str()])?;
     assert_eq!(rt; status, 1);
     assert_eq!(rt; out.bytes(), replies.as_slice());

@@ -70,6 +70,24 @@ fn paths_of_queries_have_a_limit(rt: HostRuntime) -> Result<(), Fail> {
     Ok(())
 }
 
+#[test]
+fn paths_of_statements_have_a_limit(rt: HostRuntime) -> Result<(), Fail> {
+    let alloc = rt.alloc();
+    let cases = [
+        (64, "ok 1\nok 1\nok 1\n"),
+        (65, "error deep\nerror deep\nerror deep\n"),
+    ];
+    for (count, replies) in cases {
+        let path = path_of(alloc, count)?;
+        let path = path.as_str();
+        let script = format!(in alloc;
+            "insert into {path} S values('s2','crow'); update {path} S set v = 'owl'; delete from {path} S;"
+        )?;
+        assert!(rt; is_answered(alloc, script.as_str(), replies)?, "{count}");
+    }
+    Ok(())
+}
+
 /// A query of the keys of so many items.
 fn query_of_items(alloc: Global, count: usize) -> Result<String, Fail> {
     let mut columns = String::new(alloc);

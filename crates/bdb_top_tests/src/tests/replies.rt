@@ -155,16 +155,6 @@ fn scripts_and_replies(rt: HostRuntime) -> Result<(), Fail> {
             "ok 1\nok 1\nok 2\n- S('c', 'x') explicit\nok 1\n",
             0,
         ),
-        (
-            "insert into BELIEF 'Alice' BELIEF 'Bob' BELIEF 'Alice' BELIEF 'Bob' BELIEF 'Alice' BELIEF 'Bob' BELIEF 'Alice' BELIEF 'Bob' BELIEF 'Alice' BELIEF 'Bob' BELIEF 'Alice' BELIEF 'Bob' BELIEF 'Alice' BELIEF 'Bob' BELIEF 'Alice' BELIEF 'Bob' S values('s1','eagle');",
-            "ok 1\n",
-            0,
-        ),
-        (
-            "insert into BELIEF 'Alice' BELIEF 'Bob' BELIEF 'Alice' BELIEF 'Bob' BELIEF 'Alice' BELIEF 'Bob' BELIEF 'Alice' BELIEF 'Bob' BELIEF 'Alice' BELIEF 'Bob' BELIEF 'Alice' BELIEF 'Bob' BELIEF 'Alice' BELIEF 'Bob' BELIEF 'Alice' BELIEF 'Bob' BELIEF 'Alice' S values('s1','eagle');",
-            "error deep\n",
-            1,
-        ),
         ("insert into S values('a", "error unfinished\n", 1),
     ];
     for (script, replies, status) in cases {
