@@ -217,8 +217,9 @@ live_told n (e ∷ es) [] k s = absurd cc
 live_told n (e ∷ es) (u ∷ us) k s =
     let first : e.0 ≡ n = cc in
     let place : e.1 ≡ u = cc in
-    let rest = live_told (suc n) es us cc cc in
-    by e.0 e.1 first u place rest
+    let later_keys : keys es ≡ numbers_from (suc n) us = cc in
+    let later_slots : slots es ≡ us = cc in
+    by e.0 e.1 first u place (live_told (suc n) es us later_keys later_slots)
   where
     by : (m : ℕ) (x : UserSlot) → m ≡ n → (z : UserSlot) → x ≡ z → live_keys es ≡ live_numbers (suc n) us → live_keys ((m, x) ∷ es) ≡ live_numbers n (z ∷ us)
     by m x first (Live name) place rest =
