@@ -5,6 +5,7 @@ pub mod Cleared
 pub mod ColumnLemmas
 pub mod FitLemmas
 pub mod Fitting
+pub mod ForgetLemmas
 pub mod Founds
 pub mod IndexLemmas
 pub mod KnownLemmas

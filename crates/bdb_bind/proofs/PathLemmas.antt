@@ -1,8 +1,10 @@
 -- The path of names.
-use Rattle.std.proofs.Common.{◌≡◌, ◌∙◌, ℕ, true, false, nat_eq, List, [], ◌∷◌, length, Some, refl, sym, ap, inl, inr, arith}
+use Rattle.std.proofs.Common.{◌≡◌, ◌∙◌, ℕ, ◌+◌, ◌<◌, suc, true, false, not, nat_eq, List, [], ◌∷◌, ◌++◌, length, map, take, drop, get_or, find, Some, refl, sym, ap, inl, inr, arith, add-one}
 use Rattle.std.specs.Option.{is_some, option_and_then, unwrap_or}
 use Rattle.std.specs.List.{list_all}
-use Rattle.std.proofs.lemmas.Bool.{cases_Bool, and_from, and_parts, or_parts, eqb-true, not_from_false}
+use Rattle.std.proofs.Math.Seq.{drop-cons}
+use Rattle.std.proofs.lemmas.List.{take_more, map-append}
+use Rattle.std.proofs.lemmas.Bool.{cases_Bool, cond-false, and_from, and_parts, or_parts, eqb-true, not_from_false}
 use Rattle.bdb_base.specs.declared.kinds.UserSlot.{UserSlot}
 use Rattle.bdb_base.specs.Alternation.{alternates, begins_otherwise}
 use Rattle.bdb_base.specs.Bases.{live_name, name_at, is_user}
@@ -53,3 +55,20 @@ path_alternates users (n ∷ ns) known apart =
 pub path_length : (users : List UserSlot) (names : List (List ℕ)) → length (path_of users names) ≡ length names
 path_length users [] = refl
 path_length users (n ∷ ns) = let rest = path_length users ns in omega arith
+
+-- ---- one name more of a path
+
+-- where a name is a live user's, the first that is none comes behind it
+pub known_next : (users : List UserSlot) (names : List (List ℕ)) (at : ℕ) (name : List ℕ) (uid : ℕ) → at < length names → name ≡ get_or names at name
+    → uid_of users name ≡ Some uid → find (λ n. not (is_user_name users n)) (drop at names) ≡ find (λ n. not (is_user_name users n)) (drop (at + 1) names)
+known_next users names at name uid below item here =
+    let first : drop at names ≡ name ∷ drop (at + 1) names = rw add-one (drop-cons names at name below ∙ ap (λ x. x ∷ drop (suc at) names) (sym item)) in
+    ap (find (λ n. not (is_user_name users n))) first
+    ∙ cond-false (not (is_user_name users name)) (Some name) (find (λ n. not (is_user_name users n)) (drop (at + 1) names)) (ap (λ o. not (is_some o)) here)
+
+pub path_next : (users : List UserSlot) (names : List (List ℕ)) (at : ℕ) (name : List ℕ) (uid : ℕ) → at < length names → name ≡ get_or names at name
+    → uid_of users name ≡ Some uid → path_of users (take at names) ++ uid ∷ [] ≡ path_of users (take (at + 1) names)
+path_next users names at name uid below item here =
+    let more : take (at + 1) names ≡ take at names ++ name ∷ [] = take_more names at name below ∙ ap (λ x. take at names ++ x ∷ []) (sym item) in
+    sym (ap (path_of users) more ∙ map-append (uid_at users) (take at names) (name ∷ [])
+    ∙ ap (λ o. path_of users (take at names) ++ unwrap_or o 0 ∷ []) here)

@@ -1,5 +1,6 @@
 // Laws of binding, each as the clause of a function that does nothing.
 ghost use Rattle.bdb_bind.specs.Fits.{WhatIsBoundFits};
+ghost use Rattle.bdb_bind.specs.Indexes.{WhoLeavesIsForgotten};
 ghost use Rattle.bdb_bind.specs.Safe.{TestTellsBound, TestTellsSafe};
 
 /// What an allowed command that isn't refused is bound to fits the catalog: with it a valid base stays valid, but for
@@ -7,6 +8,12 @@ ghost use Rattle.bdb_bind.specs.Safe.{TestTellsBound, TestTellsSafe};
 #[tactic(auto, using(crate::proofs::Fitting::what_is_bound_fits))]
 pub fn what_is_bound_fits()
     ensures { WhatIsBoundFits }
+{}
+
+/// Where an index of a catalog forgets the name of a live user who leaves, it is that of the catalog without him.
+#[tactic(auto, using(crate::proofs::ForgetLemmas::who_leaves_is_forgotten))]
+pub fn who_leaves_is_forgotten()
+    ensures { WhoLeavesIsForgotten }
 {}
 
 /// The test of bound columns tells exactly the bound ones.

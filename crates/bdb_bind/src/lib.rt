@@ -25,5 +25,5 @@ mod unsafes;
 pub use binding::{bind, bind_by};
 pub use bound::{BindError, Bound};
 pub use index::NameIndex;
-pub use laws::{test_tells_bound, test_tells_safe, what_is_bound_fits};
+pub use laws::{test_tells_bound, test_tells_safe, what_is_bound_fits, who_leaves_is_forgotten};
 pub use safety::safe;
