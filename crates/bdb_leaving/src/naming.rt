@@ -78,7 +78,8 @@ fn push_naming<K: Keeper>(
     ensures appended { OnOk result (AppendsNaming (K.seen keeper.old).kept uid world.now stmts.old stmts.new) }
     ensures reading { OnlyReads (K.seen keeper.old) (K.seen keeper.new) result TabError.Fault }
 {
-    if !names_user(uid, world.path.as_slice()) {
+    let users = world.path.as_slice();
+    if !names_user(uid, users) {
         return Ok(());
     }
     let rows = match world_at(alloc, keeper, world.wid) {
