@@ -57,3 +57,9 @@ all_numbers users at l = ap (live_numbers 1) (take_all at users l) ∙ sym (numb
 -- there are as many numbers as names
 pub users_are_counted : (users : List UserSlot) → length (user_numbers users) ≡ length (user_names users)
 users_are_counted users = numbers_are_counted users
+
+-- there are no more names than places
+pub names_within : (users : List UserSlot) → length (user_names users) ≤ length users
+names_within [] = omega arith
+names_within (Live name ∷ us) = let k = names_within us in omega arith
+names_within (Gone ∷ us) = let k = names_within us in omega arith

@@ -6,8 +6,8 @@ ghost use Rattle.bdb_base.specs.SortedSet.{ascending};
 ghost use Rattle.bdb_canon.specs.Canonical.{canon_of, edge_count, left_after, line_count, row_count};
 
 use crate::structure::Canon;
-use crate::users::user_numbers;
-use bdb_base::{Base, Catalog, Path, RelDef, Stmt, live_count, path_is_suffix, tuples_of};
+use crate::users::{user_count, user_numbers};
+use bdb_base::{Base, Catalog, Path, RelDef, Stmt, path_is_suffix, tuples_of};
 use bdb_model::world_among;
 use bdb_paths::states_of;
 use std::alloc::{AllocError, Global};
@@ -60,11 +60,10 @@ fn has_more_parts(
 }
 
 /// How many lines tell a structure.
-#[tactic(auto, using(crate::proofs::UserLemmas::users_are_counted))]
 pub fn line_count(catalog: &Catalog, canon: &Canon) -> usize
     ensures { result ≡ line_count catalog.now canon.now }
 {
-    let users = live_count(catalog.users.as_slice());
+    let users = user_count(catalog.users.as_slice());
     let rels = catalog.rels.as_slice();
     let tuples = canon.tuples.as_slice();
     let worlds = canon.worlds.as_slice();

@@ -1,8 +1,8 @@
 // The numbers of the live users.
-ghost use Rattle.std.specs.Prelude.{◌≡◌, ◌<◌, ◌^◌, length, IfOk};
+ghost use Rattle.std.specs.Prelude.{◌≡◌, ◌<◌, ◌≤◌, ◌^◌, length, IfOk};
 ghost use Rattle.bdb_base.specs.Queries.{user_numbers};
 
-use bdb_base::{List, UserSlot, is_user};
+use bdb_base::{List, UserSlot, is_user, live_count};
 use std::alloc::{AllocError, Global};
 
 /// The numbers of all live users, in order.
@@ -20,4 +20,13 @@ pub fn user_numbers(alloc: Global, users: &[UserSlot]) -> Result<List<u32>, Allo
         numbers.push(uid)?;
     }
     Ok(numbers)
+}
+
+/// How many live users there are, which are no more than places.
+#[tactic(auto, using(crate::proofs::UserLemmas::users_are_counted, crate::proofs::UserLemmas::names_within))]
+pub fn user_count(users: &[UserSlot]) -> usize
+    ensures count { result ≡ length (user_numbers users.now) }
+    ensures few { result ≤ length users.now }
+{
+    live_count(users)
 }

@@ -15,8 +15,8 @@ use crate::keys::key_length_of;
 use crate::rows::world_among;
 use crate::sources::source_of;
 use bdb_base::{
-    ColDef, Cond, Exact, Held, Item, List, Path, PathError, RelDef, Sign, Stmt, Tuple, UserSlot, Value,
-    clash,
+    ColDef, Cond, Exact, Held, Item, List, Path, PathError, RelDef, Sign, Stmt, Tuple, UserSlot,
+    Value, clash,
 };
 use bdb_queries::{known_operand, path_of, user_tuples};
 use std::alloc::{AllocError, Global};
