@@ -1,5 +1,5 @@
 -- The texts of replies.
-use Rattle.std.specs.Prelude.{ℕ, ◌-◌, ◌==◌, Bool, true, false, if◌then◌else◌, codes, List, [], ◌∷◌, ◌++◌, length, map, unwrap_or}
+use Rattle.std.specs.Prelude.{ℕ, Bool, true, false, codes, List, [], ◌∷◌, ◌++◌, length, map, unwrap_or}
 use Rattle.std.specs.List.{flat_map, slice_get}
 use Rattle.std.specs.Option.{option_map_or}
 use Rattle.std.specs.Fmt.{decimal}
@@ -10,15 +10,16 @@ use Rattle.bdb_base.specs.declared.kinds.Sign.TheVariants.{Plus, Minus}
 use Rattle.bdb_base.specs.declared.kinds.Value.{Value}
 use Rattle.bdb_base.specs.declared.kinds.World.{World}
 use Rattle.bdb_base.specs.declared.tuple.Tuple.{Tuple}
+use Rattle.bdb_base.specs.Queries.{user_name as name_of}
 use Rattle.bdb_base.specs.Texts.{joined, quoted, value_text}
 
 -- the name of a relation, by its number; empty where there is none
 abbrev pub relation_name : Catalog → ℕ → List ℕ
 relation_name catalog rel = option_map_or (λ def. def.name) (slice_get catalog.rels rel) []
 
--- the name of a user, by its number from 1; empty where there is none
+-- the name of a live user, by his number; empty where there is none
 abbrev pub user_name : Catalog → ℕ → List ℕ
-user_name catalog uid = if uid == 0 then [] else unwrap_or (slice_get catalog.users (uid - 1)) []
+user_name catalog uid = unwrap_or (name_of catalog.users uid) []
 
 -- a line: its text, and a line feed
 abbrev pub line : List ℕ → List ℕ

@@ -24,7 +24,7 @@ world_path k at = option_map_or (λ w. w.path) (slice_get k.worlds at) []
 abbrev pub signed_at : Catalog → Canon → Sign → ℕ → List ℕ
 signed_at catalog k sign at = option_map_or (signed_text catalog sign) (slice_get k.tuples at) []
 
--- the number and the name of a user
+-- the number and the name of a live user
 abbrev pub user_line : Catalog → ℕ → List ℕ
 user_line catalog uid = line (codes "user " ++ decimal uid ++ codes " " ++ quoted (user_name catalog uid))
 
@@ -60,7 +60,7 @@ edge_line catalog k e = line (codes "edge " ++ path_text catalog (world_path k e
 abbrev pub row_line : Catalog → Canon → CanonRow → List ℕ
 row_line catalog k r = line (codes "row " ++ path_text catalog (world_path k r.world) ++ codes " " ++ signed_at catalog k r.sign r.tuple ++ codes " " ++ mark_text r.explicit)
 
--- the users by number, and the relations in order of creation
+-- the live users by number, and the relations in order of creation
 abbrev pub catalog_lines : Catalog → List ℕ
 catalog_lines catalog = flat_map (user_line catalog) (user_numbers catalog.users) ++ flat_map relation_line catalog.rels
 

@@ -1,9 +1,10 @@
 // Names by their numbers.
 ghost use Rattle.std.specs.Prelude.{◌≡◌, ◌+◌};
+ghost use Rattle.bdb_base.specs.Bases.{is_user};
 ghost use Rattle.bdb_render.specs.Replies.{relation_name, user_name};
 ghost use Rattle.bdb_render.specs.Tables.{world_path};
 
-use bdb_base::Catalog;
+use bdb_base::{Catalog, name_at};
 use bdb_canon::Canon;
 
 /// The name of a relation; empty where there is none of that number.
@@ -16,27 +17,33 @@ pub fn relation_name(catalog: &Catalog, rel: u32) -> &[u8]
     }
 }
 
-/// The name of a user; empty where there is none of that number.
+/// The name of a live user; empty where there is none of that number.
 pub fn user_name(catalog: &Catalog, uid: u32) -> &[u8]
     ensures { result.now ≡ user_name catalog.now uid }
 {
-    if uid == 0 {
-        return &[];
-    }
-    match catalog.users.get(uid as usize - 1) {
+    match bdb_base::user_name(catalog.users.as_slice(), uid) {
         Some(name) => name.as_bytes(),
         None => &[],
     }
 }
 
-/// The name of the user at a place, whose number is one more; empty where there is none.
+/// The name of the live user at a place, whose number is one more; empty where there is none.
+#[tactic(auto, using(crate::proofs::UserLemmas::name_after))]
 pub fn user_name_at(catalog: &Catalog, at: usize) -> &[u8]
     ensures { result.now ≡ user_name catalog.now (at + 1) }
 {
-    match catalog.users.get(at) {
+    match name_at(catalog.users.as_slice(), at) {
         Some(name) => name.as_bytes(),
         None => &[],
     }
+}
+
+/// Whether there is a live user at a place, whose number is one more.
+#[tactic(auto, using(crate::proofs::UserLemmas::user_after))]
+pub fn is_user_at(catalog: &Catalog, at: usize) -> bool
+    ensures { result ≡ is_user catalog.now.users (at + 1) }
+{
+    name_at(catalog.users.as_slice(), at).is_some()
 }
 
 /// The path of the state at a place; empty where there is none.

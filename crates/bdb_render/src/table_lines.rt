@@ -8,7 +8,7 @@ use bdb_base::{Catalog, RelDef, Sign, Tuple, append_decimal, append_quoted, appe
 use bdb_canon::{Canon, CanonEdge, CanonRow, CanonWorld};
 use std::alloc::AllocError;
 
-/// Appends the line of the user at a place, whose number is one more.
+/// Appends the line of the live user at a place, whose number is one more.
 pub fn append_user(out: &mut Vec<u8>, catalog: &Catalog, at: usize) -> Result<(), AllocError>
     requires { at + 1 < 2 ^ 64 }
     ensures { OnOk result (out.new.items ≡ out.old.items ++ user_line catalog.now (at + 1)) }

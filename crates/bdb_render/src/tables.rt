@@ -5,12 +5,13 @@ ghost use Rattle.bdb_base.specs.Queries.{user_numbers};
 ghost use Rattle.bdb_render.specs.Tables.{catalog_lines, structure_lines, tables_reply, user_line};
 
 use crate::lines::append_count;
+use crate::names::is_user_at;
 use crate::table_lines as lines;
 use bdb_base::{Catalog, List};
 use bdb_canon::{Canon, line_count};
 use std::alloc::{AllocError, Global};
 
-/// The reply to `show tables`: a line for each user, relation, tuple, world, edge and row, then their number.
+/// The reply to `show tables`: a line for each live user, relation, tuple, world, edge and row, then their number.
 pub fn tables_reply(alloc: Global, catalog: &Catalog, canon: &Canon) -> Result<List<u8>, AllocError>
     ensures { IfOk result (λ text. text ≡ tables_reply catalog.now canon.now) }
 {
@@ -21,7 +22,7 @@ pub fn tables_reply(alloc: Global, catalog: &Catalog, canon: &Canon) -> Result<L
     Ok(List::from_vec(out))
 }
 
-/// Appends the lines of the users and of the relations.
+/// Appends the lines of the live users and of the relations.
 fn append_catalog(out: &mut Vec<u8>, catalog: &Catalog) -> Result<(), AllocError>
     ensures { OnOk result (out.new.items ≡ out.old.items ++ catalog_lines catalog.now) }
 {
@@ -32,12 +33,15 @@ fn append_catalog(out: &mut Vec<u8>, catalog: &Catalog) -> Result<(), AllocError
     Ok(())
 }
 
-/// Appends the lines of the users.
+/// Appends the lines of the live users.
 fn append_users(out: &mut Vec<u8>, catalog: &Catalog) -> Result<(), AllocError>
     ensures { OnOk result (out.new.items ≡ out.old.items ++ flat_map (user_line catalog.now) (user_numbers catalog.now.users)) }
 {
     let users = catalog.users.as_slice();
     for at in 0..users.len() {
+        if !is_user_at(catalog, at) {
+            continue;
+        }
         lines::append_user(out, catalog, at)?;
     }
     Ok(())

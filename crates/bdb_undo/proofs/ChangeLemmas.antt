@@ -1,21 +1,29 @@
 -- A change leads back to the base before it and forth to the one after it.
-use Rattle.std.proofs.Common.{◌≡◌, ◌∙◌, ◌-◌, Bool, true, false, not, ◌||◌, nat_lt, List, [], ◌∷◌, ◌++◌, refl, ap, sym, subst, length, filter, arith}
-use Rattle.std.proofs.lemmas.Bool.{and_parts, or_parts, false≢true, lt-ltb}
-use Rattle.std.proofs.lemmas.List.{take_at, length_push, append_cancel_left}
+use Rattle.std.proofs.Common.{◌≡◌, ◌∙◌, ℕ, ◌-◌, Bool, true, false, not, ◌&&◌, ◌||◌, nat_eq, nat_lt, List, [], ◌∷◌, ◌++◌, Some, refl, ap, sym, subst, inl, inr, length, filter, arith}
+use Rattle.std.specs.List.{list_all}
+use Rattle.std.proofs.lemmas.Bool.{cases_Bool, and_parts, or_parts, or_from, eqb-true, false≢true, lt-ltb}
+use Rattle.std.proofs.lemmas.List.{take_at, length_push, length-set, append_cancel_left}
+use Rattle.std.proofs.lemmas.Option.{same_Some}
 use Rattle.std.specs.Ordering.{is_eq}
 use Rattle.bdb_base.specs.declared.kinds.Catalog.{Catalog}
 use Rattle.bdb_base.specs.declared.kinds.Stmt.{Stmt}
-use Rattle.bdb_base.specs.Bases.{Contents, IsValid, stands, with_user, with_relation, with_statement}
-use Rattle.bdb_base.specs.Changes.{with_statements}
+use Rattle.bdb_base.specs.declared.kinds.UserSlot.{UserSlot}
+use Rattle.bdb_base.specs.declared.kinds.UserSlot.TheVariants.{Live, Gone}
+use Rattle.bdb_base.specs.Bases.{Contents, IsValid, belongs, is_gone, is_user, stands, with_relation, with_statement, with_user, with_user_back, without_user}
+use Rattle.bdb_base.specs.Changes.{names_user, with_statements, without_statements_of}
 use Rattle.bdb_base.specs.Order.{statement_cmp}
 use Rattle.bdb_base.specs.OrderLemmas.{statement_exact}
+use Rattle.bdb_base.specs.Queries.{user_name}
 use Rattle.bdb_base.specs.SortedSet.{ascending}
+use Rattle.bdb_base.proofs.BaseLemmas.{belongs_parts}
+use Rattle.bdb_base.proofs.ListLemmas.{filter_all, list_all_weaker}
 use Rattle.bdb_base.proofs.SetLemmas.{put_adds_member, filter_keeps_order}
+use Rattle.bdb_base.proofs.UserLemmas.{comes_back, drop_user_is_valid, name_found, others_are_users, who_is_gone_is_no_user, who_leaves_is_gone}
 use Rattle.bdb_undo.specs.declared.change.Change.{Change}
 use Rattle.bdb_undo.specs.declared.change.Named.{Named}
-use Rattle.bdb_undo.specs.declared.change.Named.TheVariants.{Nothing, UserAdded, RelationAdded}
-use Rattle.bdb_undo.specs.Changes.{Leads, all_but_last, named_forth, named_back, without_statements, missing_from, changed_forth, changed_back, names_something, alters}
-use Rattle.bdb_undo.specs.ChangeLaws.{BackGivesTheBaseBefore, ForthGivesTheBaseAfter, ChangesAreOne, NothingIsAltered, SameBaseAltersNothing, FewerAreValid, StatementsLead, PutLeads, TakesLead, UpdateLeads, UserLeads, RelationLeads}
+use Rattle.bdb_undo.specs.declared.change.Named.TheVariants.{Nothing, UserAdded, RelationAdded, UserDropped}
+use Rattle.bdb_undo.specs.Changes.{CanName, Leads, all_but_last, named_forth, named_back, without_statements, missing_from, changed_forth, changed_back, names_something, alters}
+use Rattle.bdb_undo.specs.ChangeLaws.{BackGivesTheBaseBefore, ForthGivesTheBaseAfter, ChangesAreOne, NothingIsAltered, SameBaseAltersNothing, FewerAreValid, StatementsLead, PutLeads, TakesLead, UpdateLeads, UserLeads, RelationLeads, LeavingLeads}
 use Rattle.bdb_undo.proofs.StatementLemmas as statements
 
 abbrev contents : Catalog → List Stmt → Contents
@@ -24,14 +32,15 @@ contents c stmts = record { catalog = c; stmts = stmts }
 all_but_last_push : {X : Type 0} (xs : List X) (x : X) → all_but_last (xs ++ x ∷ []) ≡ xs
 all_but_last_push xs x = let e = length_push xs x in take_at xs (x ∷ []) (length (xs ++ x ∷ []) - 1) (omega arith)
 
--- the catalog before what was named is that to which the name was added
-name_left : (n : Named) (k : Catalog) → named_back n (named_forth n k) ≡ k
-name_left Nothing k = refl
-name_left (UserAdded name) k = ap (λ us. record k { users = us }) (all_but_last_push k.users name)
-name_left (RelationAdded def) k = ap (λ rs. record k { rels = rs }) (all_but_last_push k.rels def)
+-- the catalog before what was named is that to which the name was added, or which the user left
+name_left : (n : Named) (k : Catalog) → CanName n k → named_back n (named_forth n k) ≡ k
+name_left Nothing k h = refl
+name_left (UserAdded name) k h = ap (λ us. record k { users = us }) (all_but_last_push k.users (Live name))
+name_left (RelationAdded def) k h = ap (λ rs. record k { rels = rs }) (all_but_last_push k.rels def)
+name_left (UserDropped uid name) k h = comes_back k uid name h
 
 catalog_before : (c : Change) (a b : Contents) → Leads c a b → named_back c.named b.catalog ≡ a.catalog
-catalog_before c a b l = ap (named_back c.named) l.forth ∙ name_left c.named a.catalog
+catalog_before c a b l = ap (named_back c.named) l.forth ∙ name_left c.named a.catalog l.can
 
 -- statements that are exchanged, with what goes and comes by other names
 exchanged_by : (stmts next gone come : List Stmt) → ascending statement_cmp stmts ≡ true → ascending statement_cmp next ≡ true
@@ -69,23 +78,62 @@ users_of k l e = ap (λ (m : Catalog). m.users) e
 rels_of : (k l : Catalog) → k ≡ l → k.rels ≡ l.rels
 rels_of k l e = ap (λ (m : Catalog). m.rels) e
 
-names_are_one : (m n : Named) (k : Catalog) → named_forth m k ≡ named_forth n k → m ≡ n
-names_are_one Nothing Nothing k e = refl
-names_are_one Nothing (UserAdded b) k e = absurd (longer k.users b (sym (users_of k (with_user k b) e)))
-names_are_one Nothing (RelationAdded b) k e = absurd (longer k.rels b (sym (rels_of k (with_relation k b) e)))
-names_are_one (UserAdded a) Nothing k e = absurd (longer k.users a (users_of (with_user k a) k e))
-names_are_one (UserAdded a) (UserAdded b) k e = ap UserAdded (last_is k.users a b (users_of (with_user k a) (with_user k b) e))
-names_are_one (UserAdded a) (RelationAdded b) k e = absurd (longer k.users a (users_of (with_user k a) (with_relation k b) e))
-names_are_one (RelationAdded a) Nothing k e = absurd (longer k.rels a (rels_of (with_relation k a) k e))
-names_are_one (RelationAdded a) (UserAdded b) k e = absurd (longer k.rels a (rels_of (with_relation k a) (with_user k b) e))
-names_are_one (RelationAdded a) (RelationAdded b) k e = ap RelationAdded (last_is k.rels a b (rels_of (with_relation k a) (with_relation k b) e))
+same_live : (a b : List ℕ) → Live a ≡ Live b → a ≡ b
+same_live a b e = cc
+
+-- who leaves is a user no more
+leaves : (k : Catalog) (uid : ℕ) (name : List ℕ) (users : List UserSlot) → user_name k.users uid ≡ Some name → users ≡ (without_user k uid).users → is_user users uid ≡ false
+leaves k uid name users h e = who_is_gone_is_no_user users uid
+    (ap (λ us. is_gone us uid) e ∙ who_leaves_is_gone k uid (name_found k.users uid name h).0)
+
+-- so he does not leave a catalog as it was, and no user is added
+stays : (k : Catalog) (uid : ℕ) (name : List ℕ) → user_name k.users uid ≡ Some name → k.users ≡ (without_user k uid).users → ⊥
+stays k uid name h e = false≢true (sym (leaves k uid name k.users h e) ∙ (name_found k.users uid name h).0)
+
+grows : (k : Catalog) (uid : ℕ) (name : List ℕ) → (with_user k name).users ≡ (without_user k uid).users → ⊥
+grows k uid name e =
+    let h = ap length e in
+    let g = length_push k.users (Live name) in
+    let s = length-set k.users (uid - 1) Gone in
+    omega arith
+
+-- from a catalog no two users leave one
+leavers_are_one : (k : Catalog) (u v : ℕ) (n m : List ℕ) → user_name k.users u ≡ Some n → user_name k.users v ≡ Some m → (without_user k u).users ≡ (without_user k v).users → u ≡ v
+leavers_are_one k u v n m h g e =
+    let user = (name_found k.users u n h).0 in
+    let other : is_user (without_user k v).users u ≡ (not (nat_eq u v) && is_user k.users u) = others_are_users k v u (name_found k.users v m g).0 in
+    let none : (not (nat_eq u v) && is_user k.users u) ≡ false = sym other ∙ leaves k u n (without_user k v).users h (sym e) in
+    elim (cases_Bool (nat_eq u v)) [
+      | inl s ↦ eqb-true u v s
+      | inr d ↦ absurd (false≢true (sym none ∙ ap (λ b. not b && is_user k.users u) d ∙ user))
+    ]
+
+names_are_one : (m n : Named) (k : Catalog) → CanName m k → CanName n k → named_forth m k ≡ named_forth n k → m ≡ n
+names_are_one Nothing Nothing k h g e = refl
+names_are_one Nothing (UserAdded b) k h g e = absurd (longer k.users (Live b) (sym (users_of k (with_user k b) e)))
+names_are_one Nothing (RelationAdded b) k h g e = absurd (longer k.rels b (sym (rels_of k (with_relation k b) e)))
+names_are_one Nothing (UserDropped v b) k h g e = absurd (stays k v b g (users_of k (without_user k v) e))
+names_are_one (UserAdded a) Nothing k h g e = absurd (longer k.users (Live a) (users_of (with_user k a) k e))
+names_are_one (UserAdded a) (UserAdded b) k h g e = ap UserAdded (same_live a b (last_is k.users (Live a) (Live b) (users_of (with_user k a) (with_user k b) e)))
+names_are_one (UserAdded a) (RelationAdded b) k h g e = absurd (longer k.users (Live a) (users_of (with_user k a) (with_relation k b) e))
+names_are_one (UserAdded a) (UserDropped v b) k h g e = absurd (grows k v a (users_of (with_user k a) (without_user k v) e))
+names_are_one (RelationAdded a) Nothing k h g e = absurd (longer k.rels a (rels_of (with_relation k a) k e))
+names_are_one (RelationAdded a) (UserAdded b) k h g e = absurd (longer k.rels a (rels_of (with_relation k a) (with_user k b) e))
+names_are_one (RelationAdded a) (RelationAdded b) k h g e = ap RelationAdded (last_is k.rels a b (rels_of (with_relation k a) (with_relation k b) e))
+names_are_one (RelationAdded a) (UserDropped v b) k h g e = absurd (longer k.rels a (rels_of (with_relation k a) (without_user k v) e))
+names_are_one (UserDropped u a) Nothing k h g e = absurd (stays k u a h (users_of k (without_user k u) (sym e)))
+names_are_one (UserDropped u a) (UserAdded b) k h g e = absurd (grows k u b (users_of (with_user k b) (without_user k u) (sym e)))
+names_are_one (UserDropped u a) (RelationAdded b) k h g e = absurd (longer k.rels b (rels_of (with_relation k b) (without_user k u) (sym e)))
+names_are_one (UserDropped u a) (UserDropped v b) k h g e =
+    let one = leavers_are_one k u v a b h g (users_of (without_user k u) (without_user k v) e) in
+    ap (λ i. UserDropped i a) one ∙ ap (UserDropped v) (same_Some a b (sym h ∙ ap (user_name k.users) one ∙ g))
 
 abbrev change : Named → List Stmt → List Stmt → Change
 change named gone come = record { named = named; gone = gone; come = come }
 
 pub changes_are_one : ChangesAreOne
 changes_are_one c d a b l m =
-    ap (λ n. change n c.gone c.come) (names_are_one c.named d.named a.catalog (sym l.forth ∙ m.forth))
+    ap (λ n. change n c.gone c.come) (names_are_one c.named d.named a.catalog l.can m.can (sym l.forth ∙ m.forth))
     ∙ ap (λ g. change d.named g c.come) (l.gone ∙ sym m.gone)
     ∙ ap (change d.named d.gone) (l.come ∙ sym m.come)
 
@@ -99,12 +147,13 @@ none_missing : (stmts : List Stmt) → missing_from stmts stmts ≡ []
 none_missing stmts = statements.nothing_missing stmts stmts (λ z k. k)
 
 pub statements_lead : StatementsLead
-statements_lead c stmts next v w = record { before = v; after = w; forth = refl; gone = refl; come = refl }
+statements_lead c stmts next v w = record { before = v; after = w; can = tt; forth = refl; gone = refl; come = refl }
 
 pub put_leads : PutLeads
 put_leads c stmts s v w fresh = record {
   before = v;
   after = w;
+  can = tt;
   forth = refl;
   gone = sym (statements.nothing_missing (with_statement stmts s) stmts
       (λ z k. put_adds_member statement_exact stmts s z ∙ ap (λ b. is_eq (statement_cmp s z) || b) k ∙ or_true (is_eq (statement_cmp s z))));
@@ -118,6 +167,7 @@ takes_lead c stmts q v =
     record {
       before = v;
       after = fewer_are_valid c stmts left v (filter_keeps_order statement_exact (λ x. not (q x)) stmts v.stmts.sorted) among;
+      can = tt;
       forth = refl;
       gone = sym (statements.taken_are_missing q stmts v.stmts.sorted);
       come = sym (statements.nothing_missing stmts left among);
@@ -127,6 +177,7 @@ pub update_leads : UpdateLeads
 update_leads c stmts made q v w = record {
   before = v;
   after = w;
+  can = tt;
   forth = refl;
   gone = sym (statements.replaced_are_missing q stmts made v.stmts.sorted);
   come = sym (statements.made_are_missing q stmts made v.stmts.sorted);
@@ -136,6 +187,7 @@ pub user_leads : UserLeads
 user_leads c stmts name v w = record {
   before = v;
   after = w;
+  can = tt;
   forth = refl;
   gone = sym (none_missing stmts);
   come = sym (none_missing stmts);
@@ -145,10 +197,23 @@ pub relation_leads : RelationLeads
 relation_leads c stmts def v w = record {
   before = v;
   after = w;
+  can = tt;
   forth = refl;
   gone = sym (none_missing stmts);
   come = sym (none_missing stmts);
 }
+
+pub leaving_leads : LeavingLeads
+leaving_leads c stmts uid name v h =
+    let taken = takes_lead c stmts (λ x. names_user uid x.path) v in
+    record {
+      before = v;
+      after = drop_user_is_valid c stmts uid v (name_found c.users uid name h).0;
+      can = h;
+      forth = refl;
+      gone = taken.gone;
+      come = taken.come;
+    }
 
 -- ---- a change that alters nothing
 
@@ -156,6 +221,7 @@ nothing_named : (n : Named) → names_something n ≡ false → n ≡ Nothing
 nothing_named Nothing e = refl
 nothing_named (UserAdded name) e = absurd (false≢true (sym e))
 nothing_named (RelationAdded def) e = absurd (false≢true (sym e))
+nothing_named (UserDropped uid name) e = absurd (false≢true (sym e))
 
 no_items : (xs : List Stmt) → nat_lt 0 (length xs) ≡ false → xs ≡ []
 no_items [] e = refl
@@ -190,6 +256,12 @@ back_last c a b mid stmts l e =
     let held : mid.catalog ≡ b.catalog = ap (λ (m : Contents). m.catalog) e in
     held ∙ l.forth ∙ ap (named_forth c.named) (sym (catalog_before c a b l)) ∙ ap (λ k. named_forth c.named (named_back c.named k)) (sym held)
 
+-- who left had his name before
+pub back_can : (c : Change) (a b mid : Contents) (stmts : List Stmt) → Leads c a b → mid ≡ contents b.catalog stmts → CanName c.named (named_back c.named mid.catalog)
+back_can c a b mid stmts l e =
+    let held : mid.catalog ≡ b.catalog = ap (λ (m : Contents). m.catalog) e in
+    subst (CanName c.named) (sym (ap (named_back c.named) held ∙ catalog_before c a b l)) l.can
+
 -- once what came is taken away
 pub back_taken : (c : Change) (a b mid : Contents) (come : List Stmt) → Leads c a b → come ≡ c.come → mid ≡ contents b.catalog (without_statements b.stmts come)
     → IsValid (named_back c.named mid.catalog) mid.stmts
@@ -222,6 +294,10 @@ back_is c a b next l e = e ∙ back_gives_the_base_before c a b l
 
 -- ---- the bases between, forth
 
+-- who leaves has his name
+pub forth_can : (c : Change) (a b mid : Contents) (stmts : List Stmt) → Leads c a b → mid ≡ contents a.catalog stmts → CanName c.named mid.catalog
+forth_can c a b mid stmts l e = subst (CanName c.named) (sym (ap (λ (m : Contents). m.catalog) e)) l.can
+
 -- once what went is taken away
 pub forth_taken : (c : Change) (a b mid : Contents) (gone : List Stmt) → Leads c a b → gone ≡ c.gone → mid ≡ contents a.catalog (without_statements a.stmts gone)
     → IsValid (named_forth c.named mid.catalog) mid.stmts
@@ -251,3 +327,35 @@ forth_valid c a b next come l e f =
 
 pub forth_is : (c : Change) (a b next : Contents) → Leads c a b → next ≡ changed_forth c a → next ≡ b
 forth_is c a b next l e = e ∙ forth_gives_the_base_after c a b l
+
+-- ---- a user who leaves, and comes back
+
+-- whose leaving is taken back is gone
+pub is_left_behind : (k : Catalog) (uid : ℕ) (name : List ℕ) → user_name (with_user_back k uid name).users uid ≡ Some name
+    → k ≡ without_user (with_user_back k uid name) uid → is_gone k.users uid ≡ true
+is_left_behind k uid name h e =
+    let before = with_user_back k uid name in
+    ap (λ (m : Catalog). is_gone m.users uid) e ∙ who_leaves_is_gone before uid (name_found before.users uid name h).0
+
+-- a user is another than one who is none
+other_than : (users : List UserSlot) (uid other : ℕ) → is_user users uid ≡ false → is_user users other ≡ true → nat_eq other uid ≡ false
+other_than users uid other n h = elim (cases_Bool (nat_eq other uid)) [
+  | inl s ↦ absurd (false≢true (sym n ∙ ap (is_user users) (sym (eqb-true other uid s)) ∙ h))
+  | inr d ↦ d
+]
+
+unnamed : (users : List UserSlot) (uid : ℕ) (w : List ℕ) → is_user users uid ≡ false → list_all (is_user users) w ≡ true → names_user uid w ≡ false
+unnamed users uid [] n h = refl
+unnamed users uid (i ∷ w) n h =
+    let k = and_parts (is_user users i) (list_all (is_user users) w) h in
+    or_from (nat_eq i uid) (names_user uid w) (other_than users uid i n k.0) (unnamed users uid w n k.1)
+
+-- the statements of a base that he can leave name him no more
+pub none_name_him : (k : Catalog) (uid : ℕ) (name : List ℕ) (stmts : List Stmt) → user_name k.users uid ≡ Some name → IsValid (without_user k uid) stmts
+    → without_statements_of uid stmts ≡ stmts
+none_name_him k uid name stmts h v =
+    let after = without_user k uid in
+    let none = leaves k uid name after.users h refl in
+    filter_all (λ x. not (names_user uid x.path)) stmts
+    (list_all_weaker (belongs after) (λ x. not (names_user uid x.path))
+    (λ x b. ap not (unnamed after.users uid x.path none (belongs_parts after x b).users)) stmts v.stmts.belong)

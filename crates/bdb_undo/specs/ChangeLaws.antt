@@ -1,14 +1,15 @@
 -- What holds of changes.
-use Rattle.std.specs.Prelude.{◌≡◌, ℕ, Bool, true, false, not, List, [], ◌∷◌, filter}
+use Rattle.std.specs.Prelude.{◌≡◌, ℕ, Bool, true, false, not, List, [], ◌∷◌, filter, Some}
 use Rattle.bdb_base.specs.declared.kinds.Catalog.{Catalog}
 use Rattle.bdb_base.specs.declared.kinds.RelDef.{RelDef}
 use Rattle.bdb_base.specs.declared.kinds.Stmt.{Stmt}
-use Rattle.bdb_base.specs.Bases.{Contents, IsValid, stands, with_user, with_relation, with_statement}
-use Rattle.bdb_base.specs.Changes.{with_statements}
+use Rattle.bdb_base.specs.Bases.{Contents, IsValid, stands, with_relation, with_statement, with_user, without_user}
+use Rattle.bdb_base.specs.Changes.{statements_naming, with_statements, without_statements_of}
 use Rattle.bdb_base.specs.Order.{statement_cmp}
+use Rattle.bdb_base.specs.Queries.{user_name}
 use Rattle.bdb_base.specs.SortedSet.{ascending, sorted_set}
 use Rattle.bdb_undo.specs.declared.change.Change.{Change}
-use Rattle.bdb_undo.specs.declared.change.Named.TheVariants.{Nothing, UserAdded, RelationAdded}
+use Rattle.bdb_undo.specs.declared.change.Named.TheVariants.{Nothing, UserAdded, RelationAdded, UserDropped}
 use Rattle.bdb_undo.specs.Changes.{Leads, missing_from, changed_forth, changed_back, alters}
 
 -- taking a change back gives the base from which it led
@@ -67,3 +68,9 @@ UserLeads = (c : Catalog) (stmts : List Stmt) (name : List ℕ) → IsValid c st
 abbrev pub RelationLeads : Type 0
 RelationLeads = (c : Catalog) (stmts : List Stmt) (def : RelDef) → IsValid c stmts → IsValid (with_relation c def) stmts
     → Leads (record { named = RelationAdded def; gone = []; come = [] }) (record { catalog = c; stmts = stmts }) (record { catalog = with_relation c def; stmts = stmts })
+
+-- where a user leaves, the statements go whose path names him, and nothing comes
+abbrev pub LeavingLeads : Type 0
+LeavingLeads = (c : Catalog) (stmts : List Stmt) (uid : ℕ) (name : List ℕ) → IsValid c stmts → user_name c.users uid ≡ Some name
+    → Leads (record { named = UserDropped uid name; gone = statements_naming uid stmts; come = [] }) (record { catalog = c; stmts = stmts })
+    (record { catalog = without_user c uid; stmts = without_statements_of uid stmts })

@@ -16,10 +16,12 @@ pub enum Named {
     UserAdded { name: Txt },
     /// A relation of this definition was added, behind the others.
     RelationAdded { def: RelDef },
+    /// The user of this number left, who had this name.
+    UserDropped { uid: u32, name: Txt },
 }
 
-/// What a change did to a base: the user or the relation that it added, and the statements that went and those that came,
-/// each in order.
+/// What a change did to a base: the user or the relation that it added, or the user who left, and the statements that went and
+/// those that came, each in order.
 #[derive(Drop)]
 pub struct Change {
     pub named: Named,
@@ -28,7 +30,7 @@ pub struct Change {
 }
 
 impl Named {
-    /// Whether a user or a relation was added.
+    /// Whether a user or a relation was added, or a user left.
     fn is_something(&self) -> bool
         ensures { result ≡ names_something self.now }
     {
@@ -36,6 +38,7 @@ impl Named {
             Named::Nothing => false,
             Named::UserAdded { name: _ } => true,
             Named::RelationAdded { def: _ } => true,
+            Named::UserDropped { uid: _, name: _ } => true,
         }
     }
 }

@@ -1,5 +1,5 @@
 //! What holds of changes and histories, each law as the contract of a function that does nothing.
-ghost use Rattle.bdb_undo.specs.ChangeLaws.{BackGivesTheBaseBefore, ForthGivesTheBaseAfter, ChangesAreOne, NothingIsAltered, SameBaseAltersNothing, FewerAreValid, StatementsLead, PutLeads, TakesLead, UpdateLeads, UserLeads, RelationLeads};
+ghost use Rattle.bdb_undo.specs.ChangeLaws.{BackGivesTheBaseBefore, ForthGivesTheBaseAfter, ChangesAreOne, NothingIsAltered, SameBaseAltersNothing, FewerAreValid, StatementsLead, PutLeads, TakesLead, UpdateLeads, UserLeads, RelationLeads, LeavingLeads};
 ghost use Rattle.bdb_undo.specs.TimelineLaws.{BasesAreDetermined, ChangesAreDetermined, ChangesAreCounted, NothingKeptStarts, NoteMoves, BackUndoes, ForthRedoes, LastLeadsHere, ComingLeadsAhead, NothingToUndo, NothingToRedo};
 
 /// Taking a change back gives the base from which it led.
@@ -72,6 +72,12 @@ pub fn user_leads()
 #[tactic(auto, using(crate::proofs::ChangeLemmas::relation_leads))]
 pub fn relation_leads()
     ensures { RelationLeads }
+{}
+
+/// Where a user leaves, the statements go whose path names him, and nothing comes.
+#[tactic(auto, using(crate::proofs::ChangeLemmas::leaving_leads))]
+pub fn leaving_leads()
+    ensures { LeavingLeads }
 {}
 
 /// The base held and the changes kept determine the bases to which undo and redo lead.

@@ -1,9 +1,12 @@
 use Rattle.std.proofs.Common.{rules}
-use Rattle.bdb_undo.proofs.ChangeLemmas.{forth_taken, forth_named, forth_sorted, forth_valid, forth_is}
+use Rattle.bdb_undo.proofs.ChangeLemmas.{forth_can, forth_taken, forth_named, forth_sorted, forth_valid, forth_is}
 use Rattle.bdb_undo.proofs.steps.change_forth.Goals as goal
 
-pub name_forth-requires : goal.name_forth-requires
-name_forth-requires c = forth_taken c.args.change.now c.args.base.now c.requires.0 c.take_each.new.base c.as_slice.result.now c.requires.1 c.as_slice.ensures c.take_each.ensures
+pub name_forth-requires-clause-can : goal.name_forth-requires-clause-can
+name_forth-requires-clause-can c = forth_can c.args.change.now c.args.base.now c.requires.0 c.take_each.new.base _ c.requires.1 c.take_each.ensures
+
+pub name_forth-requires-clause-valid : goal.name_forth-requires-clause-valid
+name_forth-requires-clause-valid c = forth_taken c.args.change.now c.args.base.now c.requires.0 c.take_each.new.base c.as_slice.result.now c.requires.1 c.as_slice.ensures c.take_each.ensures
 
 pub put_each-requires-clause-sorted : goal.put_each-requires-clause-sorted
 put_each-requires-clause-sorted c =
