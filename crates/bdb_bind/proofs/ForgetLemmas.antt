@@ -1,5 +1,5 @@
 -- An index that forgets the name of who leaves.
-use Rattle.std.proofs.Common.{◌≡◌, ◌∙◌, ℕ, ◌+◌, ◌-◌, zero, suc, true, false, not, List, [], ◌∷◌, Option, Some, None, slice_set, refl, sym, ap, inl, inr}
+use Rattle.std.proofs.Common.{◌≡◌, ◌∙◌, ℕ, ◌+◌, ◌-◌, zero, suc, true, false, not, List, [], ◌∷◌, Some, None, slice_set, refl, sym, ap, inl, inr}
 use Rattle.std.specs.List.{list_any, slice_get, position_from}
 use Rattle.std.proofs.lemmas.Bool.{cases_Bool, cond-true, cond-false, and_parts, or_parts, not-true}
 use Rattle.std.proofs.lemmas.Option.{none-some}

@@ -1,5 +1,5 @@
 -- Where names differ, a name that stands at a place is found there.
-use Rattle.std.proofs.Common.{◌≡◌, ◌∙◌, ℕ, ◌+◌, zero, suc, true, not, List, [], ◌∷◌, map, Option, Some, None, refl, sym, ap, inl, inr, arith, zero-add}
+use Rattle.std.proofs.Common.{◌≡◌, ◌∙◌, ℕ, ◌+◌, zero, suc, true, not, List, [], ◌∷◌, map, Some, sym, ap, inl, inr, arith, zero-add}
 use Rattle.std.specs.Option.{option_map}
 use Rattle.std.specs.List.{list_any, slice_get, position_from}
 use Rattle.std.proofs.lemmas.Bool.{cases_Bool, cond-true, cond-false, and_parts, not-true, or_left, or_right}

@@ -1,5 +1,5 @@
-use Rattle.std.proofs.Common.{◌≡◌, ◌∙◌, ◌∷◌, [], ◌++◌, Some, ap, sym, arith, rules}
-use Rattle.bdb_bind.specs.Lookup.{uid_of, path_of}
+use Rattle.std.proofs.Common.{◌≡◌, ◌∙◌, ◌∷◌, [], ◌++◌, Some, ap, arith, rules}
+use Rattle.bdb_bind.specs.Lookup.{uid_of}
 use Rattle.bdb_bind.proofs.PathLemmas.{known_next, path_next}
 use Rattle.bdb_bind.proofs.found.find_users.Goals as goal
 
