@@ -7,8 +7,8 @@ use Rattle.bdb_base.specs.declared.kinds.Stmt.{Stmt}
 use Rattle.bdb_base.specs.Bases.{Contents, IsValid}
 use Rattle.bdb_undo.specs.declared.change.Change.{Change}
 use Rattle.bdb_undo.specs.Changes.{Leads}
-use Rattle.bdb_base_tests.specs.UndoSamples.{sightings, bobs_word, alone, related, joined, joined_by_carol, told, told_anew, of_relation, of_bob, of_carol, of_word, of_next_word, word_gone}
-use Rattle.bdb_undo.proofs.ChangeLemmas.{relation_leads, user_leads, put_leads, takes_lead, statements_lead}
+use Rattle.bdb_base_tests.specs.UndoSamples.{sightings, bobs_word, alone, related, joined, joined_by_carol, told, told_anew, left_by_bob, of_relation, of_bob, of_carol, of_word, of_next_word, word_gone, of_leaving}
+use Rattle.bdb_undo.proofs.ChangeLemmas.{relation_leads, user_leads, put_leads, takes_lead, statements_lead, leaving_leads}
 
 alone_valid : IsValid alone.catalog alone.stmts
 unfolding is_utf8 chars encode
@@ -69,6 +69,9 @@ next_word_comes = statements_lead told.catalog told.stmts told_anew.stmts told_v
 
 pub word_goes : Leads word_gone told_anew joined
 word_goes = takes_lead told_anew.catalog told_anew.stmts (λ x. true) told_anew_valid
+
+pub bob_leaves : Leads of_leaving told left_by_bob
+bob_leaves = leaving_leads told.catalog told.stmts 2 _ told_valid refl
 
 -- a change that is one of these leads from a base that is one of these, and to one
 pub led_from : {c d : Change} {x a b : Contents} → c ≡ d → x ≡ a → Leads d a b → Leads c x b

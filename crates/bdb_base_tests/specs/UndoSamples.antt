@@ -7,9 +7,10 @@ use Rattle.bdb_base.specs.declared.kinds.Sign.TheVariants.{Plus}
 use Rattle.bdb_base.specs.declared.kinds.Stmt.{Stmt}
 use Rattle.bdb_base.specs.declared.kinds.UserSlot.TheVariants.{Live}
 use Rattle.bdb_base.specs.declared.kinds.Value.TheVariants.{Text}
-use Rattle.bdb_base.specs.Bases.{Contents, with_user, with_relation}
+use Rattle.bdb_base.specs.Bases.{Contents, with_relation, with_user, without_user}
+use Rattle.bdb_base.specs.Changes.{without_statements_of}
 use Rattle.bdb_undo.specs.declared.change.Change.{Change}
-use Rattle.bdb_undo.specs.declared.change.Named.TheVariants.{Nothing, UserAdded, RelationAdded}
+use Rattle.bdb_undo.specs.declared.change.Named.TheVariants.{Nothing, UserAdded, RelationAdded, UserDropped}
 
 -- S, with a key k and a value v
 abbrev pub sightings : RelDef
@@ -47,6 +48,10 @@ told = record joined { stmts = bobs_word ∷ [] }
 abbrev pub told_anew : Contents
 told_anew = record joined { stmts = bobs_next_word ∷ [] }
 
+-- Alice, after Bob left with his statement
+abbrev pub left_by_bob : Contents
+left_by_bob = record { catalog = without_user told.catalog 2; stmts = without_statements_of 2 told.stmts }
+
 -- the relation is added
 abbrev pub of_relation : Change
 of_relation = record { named = RelationAdded sightings; gone = []; come = [] }
@@ -70,3 +75,7 @@ of_next_word = record { named = Nothing; gone = bobs_word ∷ []; come = bobs_ne
 -- Bob's next statement goes
 abbrev pub word_gone : Change
 word_gone = record { named = Nothing; gone = bobs_next_word ∷ []; come = [] }
+
+-- Bob leaves, and his statement goes
+abbrev pub of_leaving : Change
+of_leaving = record { named = UserDropped 2 (codes "Bob"); gone = bobs_word ∷ []; come = [] }

@@ -159,6 +159,21 @@ fn structures_of_worked_bases(rt: HostRuntime) -> Result<(), Fail> {
     Ok(())
 }
 
+/// The disputed base, after Bob left.
+fn left_by_bob(alloc: Global) -> Result<Base, Fail> {
+    let mut base = disputed(alloc)?;
+    let _count = base.drop_user(2);
+    Ok(base)
+}
+
+#[test]
+fn who_is_gone_has_no_edge(rt: HostRuntime) -> Result<(), Fail> {
+    let alloc = rt.alloc();
+    let base = left_by_bob(alloc)?;
+    assert!(rt; reads(alloc, &base, "> 1>0 0.1>1 0+1e 1+0e ", 9)?);
+    Ok(())
+}
+
 fn tuple(alloc: Global, key: &str, value: &str) -> Result<Tuple, AllocError> {
     let mut vals = List::new(alloc);
     vals.push(Value::Text(Txt::try_new(alloc, key)?))?;

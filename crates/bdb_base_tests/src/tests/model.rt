@@ -126,6 +126,18 @@ fn answers_of_a_query(rt: HostRuntime) -> Result<(), Fail> {
     Ok(())
 }
 
+#[test]
+fn who_left_is_no_answer(rt: HostRuntime) -> Result<(), Fail> {
+    let alloc = rt.alloc();
+    let mut base = Base::empty(alloc);
+    base.add_user(Txt::try_new(alloc, "Ann")?)?;
+    assert_eq!(rt; base.drop_user(1), 0);
+    let query = names_of_users(alloc, Txt::try_new(alloc, "U")?)?;
+    let rows = answers(alloc, &base, &query)?;
+    assert_eq!(rt; rows.len(), 0);
+    Ok(())
+}
+
 /// The query for the names of all users.
 fn names_of_users(alloc: Global, alias: Txt) -> Result<Query, Fail>
     ensures { IfOk result (λ q. q ≡ record { take = record { item = 0; col = 1 } ∷ []; items = Users alias ∷ []; conds = [] }) }

@@ -1,7 +1,7 @@
 // Changes of a worked base, back and forth, and histories of changes that add users.
 ghost use Rattle.std.specs.Prelude.{◌≡◌, [], ◌∷◌, IfOk, OnOk};
 ghost use Rattle.bdb_base.specs.declared.kinds.UserSlot.TheVariants.{Live};
-ghost use Rattle.bdb_base_tests.specs.UndoSamples.{sightings, bobs_word, bobs_next_word, alone, related, joined, joined_by_carol, told, told_anew, of_relation, of_bob, of_carol, of_word, of_next_word, word_gone};
+ghost use Rattle.bdb_base_tests.specs.UndoSamples.{sightings, bobs_word, bobs_next_word, alone, related, joined, joined_by_carol, told, told_anew, left_by_bob, of_relation, of_bob, of_carol, of_word, of_next_word, word_gone, of_leaving};
 
 use bdb_base::{
     Base, Catalog, ColDef, Kind, List, Path, RelDef, Sign, Stmt, Tuple, Txt, UserSlot, Value,
@@ -164,7 +164,18 @@ fn taken(alloc: Global) -> Result<Change, Fail>
     Ok(Change { named, gone, come })
 }
 
-/// Whether a base has so many relations, users and statements.
+/// Bob, the second user, leaves, and his first statement goes.
+fn bob_dropped(alloc: Global) -> Result<Change, Fail>
+    ensures { IfOk result (λ c. c ≡ of_leaving) }
+{
+    let name = Txt::try_new(alloc, "Bob")?;
+    let gone = first_words(alloc)?;
+    let named = Named::UserDropped { uid: 2, name };
+    let come = List::new(alloc);
+    Ok(Change { named, gone, come })
+}
+
+/// Whether a base has so many relations, places of users and statements.
 fn has(base: &Base, rels: usize, users: usize, stmts: usize) -> bool {
     let catalog = base.catalog();
     catalog.rels.len() == rels && catalog.users.len() == users && base.stmts().len() == stmts
@@ -296,6 +307,26 @@ fn coming_is_taken_back(alloc: Global, base: &mut Base) -> Result<bool, Fail>
     Ok(has(base, 1, 2, 0))
 }
 
+/// Bob leaves with his statement; tells whether his place alone is left.
+fn bob_leaves(alloc: Global, base: &mut Base) -> Result<bool, Fail>
+    requires start { base.old ≡ told }
+    ensures { OnOk result (base.new ≡ left_by_bob) }
+{
+    let change = bob_dropped(alloc)?;
+    change_forth(alloc, base, &change)?;
+    Ok(has(base, 1, 2, 0) & (second_user(base) == "nobody"))
+}
+
+/// That is taken back; tells whether he is user 2 then, and his statement stands, alone.
+fn leaving_is_taken_back(alloc: Global, base: &mut Base) -> Result<bool, Fail>
+    requires start { base.old ≡ left_by_bob }
+    ensures { OnOk result (base.new ≡ told) }
+{
+    let change = bob_dropped(alloc)?;
+    change_back(alloc, base, &change)?;
+    Ok(stands_alone(base, &change.gone) & (second_user(base) == "Bob"))
+}
+
 #[test]
 fn names_come_and_go(rt: HostRuntime) -> Result<(), Fail> {
     let alloc = rt.alloc();
@@ -328,6 +359,19 @@ fn statements_come_and_go(rt: HostRuntime) -> Result<(), Fail> {
     assert!(rt; changing_is_taken_back(alloc, &mut base)?);
     assert!(rt; coming_is_taken_back(alloc, &mut base)?);
     assert!(rt; word_comes(alloc, &mut base)?);
+    Ok(())
+}
+
+#[test]
+fn who_leaves_comes_back_with_his_word(rt: HostRuntime) -> Result<(), Fail> {
+    let alloc = rt.alloc();
+    let mut base = joined(alloc)?;
+    assert!(rt; word_comes(alloc, &mut base)?);
+    assert!(rt; bob_leaves(alloc, &mut base)?);
+    assert!(rt; leaving_is_taken_back(alloc, &mut base)?);
+    assert!(rt; coming_is_taken_back(alloc, &mut base)?);
+    assert!(rt; word_comes(alloc, &mut base)?);
+    assert!(rt; bob_leaves(alloc, &mut base)?);
     Ok(())
 }
 
