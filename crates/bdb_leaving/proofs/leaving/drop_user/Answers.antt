@@ -7,8 +7,8 @@ use Rattle.bdb_update.specs.Keeping.{KeepsNumbers}
 use Rattle.bdb_leaving.proofs.LeavingLemmas.{few_gone, left_through, some_may_go, some_may_lose, some_valid, user_left}
 use Rattle.bdb_leaving.proofs.leaving.drop_user.Goals as goal
 
-pub statements_naming-requires-clause-base : goal.statements_naming-requires-clause-base
-statements_naming-requires-clause-base g c = some_valid (g.K.Keeper.seen c.args.keeper.now).kept c.args.counts.now c.args.uid c.requires.base
+pub statements_naming-requires : goal.statements_naming-requires
+statements_naming-requires g c = record { base = some_valid (g.K.Keeper.seen c.args.keeper.now).kept c.args.counts.now c.args.uid c.requires.base }
 
 pub drop_statements-requires-clause-base : goal.drop_statements-requires-clause-base
 drop_statements-requires-clause-base g c =
