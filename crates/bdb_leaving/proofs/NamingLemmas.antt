@@ -2,7 +2,7 @@
 use Rattle.std.proofs.Common.{◌≡◌, ◌∙◌, ℕ, Bool, true, false, ◌&&◌, cond, List, [], ◌∷◌, map, filter, refl, ap, sym, inl, inr}
 use Rattle.std.specs.List.{flat_map, list_any, list_all}
 use Rattle.std.specs.Ordering.{is_eq, is_lt, ordering_then}
-use Rattle.std.proofs.lemmas.Bool.{cases_Bool, and_parts, and_from, or_left, or_right, or_cases, false≢true}
+use Rattle.std.proofs.lemmas.Bool.{and_parts, and_from, or_left, or_right, or_cases, false≢true}
 use Rattle.bdb_base.specs.Bases.{stands}
 use Rattle.bdb_base.specs.Changes.{names_user, statements_naming}
 use Rattle.bdb_base.specs.Order.{path_cmp, sign_cmp, tuple_cmp, statement_cmp}

@@ -1,5 +1,5 @@
 -- The row of one who is gone in place of a user's, and no edge for him at any world.
-use Rattle.std.proofs.Common.{◌≡◌, ◌∙◌, ℕ, ◌+◌, ◌*◌, ◌≤◌, Bool, true, false, not, ◌&&◌, ◌||◌, nat_eq, nat_le, List, [], ◌∷◌, length, refl, sym, ap, subst, arith, Option, Some}
+use Rattle.std.proofs.Common.{◌≡◌, ◌∙◌, ℕ, ◌+◌, ◌*◌, ◌≤◌, Bool, false, ◌&&◌, ◌||◌, nat_eq, nat_le, List, [], ◌∷◌, length, refl, sym, ap, subst, arith, Option, Some}
 use Rattle.std.specs.FinMap as tables
 use Rattle.std.proofs.lemmas.Bool.Decides.{nat_tests}
 use Rattle.bdb_base.specs.Bases.{Contents, is_user, without_user, world_count}
@@ -17,7 +17,6 @@ use Rattle.bdb_tables.specs.InUse.{user_codec}
 use Rattle.bdb_tables.specs.Names.{is_listed}
 use Rattle.bdb_tables.specs.States.{HoldsStates}
 use Rattle.bdb_tables.specs.Stored.{SameBut}
-use Rattle.bdb_tables.specs.Writes.{with_change}
 use Rattle.bdb_tables.proofs.SameLemmas.{change_same, states_still}
 use Rattle.bdb_worlds.specs.Growth.{SameOutside}
 use Rattle.bdb_worlds.specs.Holding.{Worlds}

@@ -1,9 +1,9 @@
 -- The statements that name a user, read world by world.
-use Rattle.std.proofs.Common.{◌≡◌, ◌∙◌, ℕ, ◌+◌, ◌<◌, ◌≤◌, Bool, true, false, ◌&&◌, List, [], ◌∷◌, ◌++◌, filter, length, map, take, get_or, cond, refl, ap, sym, arith}
+use Rattle.std.proofs.Common.{◌≡◌, ◌∙◌, ℕ, ◌+◌, ◌<◌, ◌≤◌, Bool, true, false, List, [], ◌∷◌, ◌++◌, filter, length, map, take, get_or, cond, refl, ap, sym, arith}
 use Rattle.std.specs.List.{flat_map}
 use Rattle.std.proofs.lemmas.Bool.{cond-true, cond-false}
 use Rattle.std.proofs.lemmas.List.{append-nil, length-map, map-append, take_all}
-use Rattle.bdb_base.specs.Bases.{Contents, key_lengths}
+use Rattle.bdb_base.specs.Bases.{key_lengths}
 use Rattle.bdb_base.specs.Changes.{names_user, statements_naming}
 use Rattle.bdb_base.specs.States.{states_of}
 use Rattle.bdb_base.specs.WorldRows.{world_of}
@@ -13,7 +13,7 @@ use Rattle.bdb_base.proofs.WorldLemmas.{valid_is_consistent}
 use Rattle.bdb_keep.specs.Tables.{Tables}
 use Rattle.bdb_update.proofs.KeyLemmas.{lengths_fit}
 use Rattle.bdb_val.specs.WorldReads.{AreRowsAt}
-use Rattle.bdb_stored.specs.Valid.{StoresValid, IsPartOf}
+use Rattle.bdb_stored.specs.Valid.{IsPartOf}
 use Rattle.bdb_stored.specs.Worlds.{TellsStates}
 use Rattle.bdb_stored.specs.declared.named.NamedWorld.{NamedWorld}
 use Rattle.bdb_stored.proofs.LinkLemmas.{flat_more}
