@@ -34,12 +34,13 @@ pub fn drop_user<K: Keeper>(
         Ok(gone) => gone,
         Err(error) => return Err(error),
     };
+    let count = gone.len() as u32;
     match drop_statements(alloc, keeper, counts, gone.as_slice()) {
         Ok(()) => {}
         Err(error) => return Err(error),
     }
     match empty_place(alloc, keeper, uid) {
-        Ok(()) => Ok(gone.len() as u32),
+        Ok(()) => Ok(count),
         Err(error) => Err(error),
     }
 }
