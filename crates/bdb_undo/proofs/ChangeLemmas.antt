@@ -9,7 +9,7 @@ use Rattle.bdb_base.specs.declared.kinds.Catalog.{Catalog}
 use Rattle.bdb_base.specs.declared.kinds.Stmt.{Stmt}
 use Rattle.bdb_base.specs.declared.kinds.UserSlot.{UserSlot}
 use Rattle.bdb_base.specs.declared.kinds.UserSlot.TheVariants.{Live, Gone}
-use Rattle.bdb_base.specs.Bases.{Contents, IsValid, belongs, is_gone, is_user, stands, with_relation, with_statement, with_user, with_user_back, without_user}
+use Rattle.bdb_base.specs.Bases.{Contents, IsValid, belongs, is_gone, is_user, stands, with_relation, with_statement, with_user, without_user}
 use Rattle.bdb_base.specs.Changes.{names_user, with_statements, without_statements_of}
 use Rattle.bdb_base.specs.Order.{statement_cmp}
 use Rattle.bdb_base.specs.OrderLemmas.{statement_exact}
@@ -328,14 +328,7 @@ forth_valid c a b next come l e f =
 pub forth_is : (c : Change) (a b next : Contents) → Leads c a b → next ≡ changed_forth c a → next ≡ b
 forth_is c a b next l e = e ∙ forth_gives_the_base_after c a b l
 
--- ---- a user who leaves, and comes back
-
--- whose leaving is taken back is gone
-pub is_left_behind : (k : Catalog) (uid : ℕ) (name : List ℕ) → user_name (with_user_back k uid name).users uid ≡ Some name
-    → k ≡ without_user (with_user_back k uid name) uid → is_gone k.users uid ≡ true
-is_left_behind k uid name h e =
-    let before = with_user_back k uid name in
-    ap (λ (m : Catalog). is_gone m.users uid) e ∙ who_leaves_is_gone before uid (name_found before.users uid name h).0
+-- ---- a user who leaves
 
 -- a user is another than one who is none
 other_than : (users : List UserSlot) (uid other : ℕ) → is_user users uid ≡ false → is_user users other ≡ true → nat_eq other uid ≡ false
@@ -351,7 +344,7 @@ unnamed users uid (i ∷ w) n h =
     or_from (nat_eq i uid) (names_user uid w) (other_than users uid i n k.0) (unnamed users uid w n k.1)
 
 -- the statements of a base that he can leave name him no more
-pub none_name_him : (k : Catalog) (uid : ℕ) (name : List ℕ) (stmts : List Stmt) → user_name k.users uid ≡ Some name → IsValid (without_user k uid) stmts
+none_name_him : (k : Catalog) (uid : ℕ) (name : List ℕ) (stmts : List Stmt) → user_name k.users uid ≡ Some name → IsValid (without_user k uid) stmts
     → without_statements_of uid stmts ≡ stmts
 none_name_him k uid name stmts h v =
     let after = without_user k uid in
@@ -359,3 +352,12 @@ none_name_him k uid name stmts h v =
     filter_all (λ x. not (names_user uid x.path)) stmts
     (list_all_weaker (belongs after) (λ x. not (names_user uid x.path))
     (λ x b. ap not (unnamed after.users uid x.path none (belongs_parts after x b).users)) stmts v.stmts.belong)
+
+-- where his statements have gone before, his leaving is all that is left to do
+pub he_leaves : (n : Named) (b next : Contents) (uid : ℕ) (name : List ℕ) → n ≡ UserDropped uid name → CanName n b.catalog → IsValid (named_forth n b.catalog) b.stmts
+    → next ≡ contents (without_user b.catalog uid) (without_statements_of uid b.stmts) → next ≡ contents (named_forth n b.catalog) b.stmts
+he_leaves n b next uid name e can valid left =
+    let k = b.catalog in
+    let h : user_name k.users uid ≡ Some name = subst (λ (m : Named). CanName m k) e can in
+    let v : IsValid (without_user k uid) b.stmts = subst (λ (m : Named). IsValid (named_forth m k) b.stmts) e valid in
+    left ∙ ap (contents (without_user k uid)) (none_name_him k uid name b.stmts h v) ∙ ap (λ (m : Named). contents (named_forth m k) b.stmts) (sym e)
