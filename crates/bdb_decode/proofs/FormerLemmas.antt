@@ -3,21 +3,23 @@ use Rattle.std.proofs.Common.{◌≡◌, ◌∙◌, ℕ, suc, ◌<◌, Bool, tru
 use Rattle.std.specs.Prelude.{nat_eq}
 use Rattle.std.specs.FinMap as tables
 use Rattle.std.specs.List.{list_all, slice_get}
-use Rattle.std.specs.Option.{option_map}
+use Rattle.std.specs.Option.{is_some, option_map}
 use Rattle.std.proofs.lemmas.Bool.{and_from, eq-eqb, leb-true}
-use Rattle.bdb_base.specs.Limits.{most_relations}
+use Rattle.bdb_base.specs.Bases.{live_name}
+use Rattle.bdb_base.specs.Limits.{most_relations, most_users}
 use Rattle.bdb_base.specs.declared.kinds.RelDef.{RelDef}
+use Rattle.bdb_base.specs.declared.kinds.UserSlot.{UserSlot}
 use Rattle.bdb_former.specs.Respelled.{respelled, respelled_at, respelled_key, respelled_place, respelled_row}
-use Rattle.bdb_former.proofs.SpellLemmas.{respelled_has_one}
+use Rattle.bdb_former.proofs.SpellLemmas.{no_user_was_gone, respelled_has_one}
 use Rattle.bdb_former.proofs.TableLemmas.{no_other_row_is_there, row_respelled}
 use Rattle.bdb_keep.specs.Tables.{Tables}
 use Rattle.bdb_key.specs.Bytes.{num_bytes}
 use Rattle.bdb_key.specs.Grammar.{IsNum}
-use Rattle.bdb_key.specs.Rows.{IsRelRow, rel_bytes}
+use Rattle.bdb_key.specs.Rows.{IsRelRow, rel_bytes, slot_bytes}
 use Rattle.bdb_tables.specs.Codec.{IsEntryOf}
 use Rattle.bdb_tables.specs.InUse.{meta_codec}
 use Rattle.bdb_entries.specs.Format.{HasFormat}
-use Rattle.bdb_decode.specs.Laws.{FormerKeysHaveOneColumn}
+use Rattle.bdb_decode.specs.Laws.{FormerKeysHaveOneColumn, FormerUsersAreLive}
 
 -- ---- the format
 
@@ -54,6 +56,10 @@ module _ (t : Tables) (h : HasFormat t 2) where
     written = λ key fits. lit< tt;
   }
 
+all_by_gets : {X : Type 0} (p : X → Bool) (xs : List X) → ((i : ℕ) (x : X) → i < length xs → slice_get xs i ≡ Some x → p x ≡ true) → list_all p xs ≡ true
+all_by_gets p [] f = refl
+all_by_gets p (x ∷ xs) f = and_from (p x) (list_all p xs) (f 0 x (omega arith) refl) (all_by_gets p xs (λ i y lt e. f (suc i) y (omega (arith, lt)) e))
+
 -- ---- the keys of relations
 
 -- a relation that stands in respelled tables has a key of one column
@@ -65,10 +71,6 @@ relation_has_one t n def fits e = let x = no_other_row_is_there t (3 ∷ num_byt
     by (m ∷ l) former placed spelled =
         let three : m ≡ 3 = cc in
         respelled_has_one former def fits (sym (ap (λ k. respelled_row k former) three) ∙ spelled)
-
-all_by_gets : (p : RelDef → Bool) (xs : List RelDef) → ((i : ℕ) (x : RelDef) → i < length xs → slice_get xs i ≡ Some x → p x ≡ true) → list_all p xs ≡ true
-all_by_gets p [] f = refl
-all_by_gets p (x ∷ xs) f = and_from (p x) (list_all p xs) (f 0 x (omega arith) refl) (all_by_gets p xs (λ i y lt e. f (suc i) y (omega (arith, lt)) e))
 
 pub former_keys_have_one_column : FormerKeysHaveOneColumn
 former_keys_have_one_column t b h = all_by_gets (λ r. nat_eq r.key 1) b.catalog.rels one
@@ -82,3 +84,25 @@ former_keys_have_one_column t b h = all_by_gets (λ r. nat_eq r.key 1) b.catalog
         eq-eqb def.key 1 (relation_has_one t i def
         (subst (λ o. MatchOption o (Unit {0}) IsRelRow) e (rels.written i (number i lt)))
         (rels.rows i (number i lt) ∙ ap (option_map rel_bytes) e))
+
+-- ---- users
+
+-- a user who stands in respelled tables has a name
+user_has_name : (t : Tables) (n : ℕ) (slot : UserSlot) → tables.get (respelled t) (2 ∷ num_bytes n) ≡ Some (slot_bytes slot) → is_some (live_name slot) ≡ true
+user_has_name t n slot e = let x = no_other_row_is_there t (2 ∷ num_bytes n) (slot_bytes slot) e in by x.place x.former x.placed x.spelled
+  where
+    by : (place former : List ℕ) → respelled_place place ≡ 2 ∷ num_bytes n → respelled_at place former ≡ slot_bytes slot → is_some (live_name slot) ≡ true
+    by [] former placed spelled = absurd cc
+    by (m ∷ l) former placed spelled =
+        let two : m ≡ 2 = cc in
+        let named = no_user_was_gone former slot (sym (ap (λ k. respelled_row k former) two) ∙ spelled) in
+        ap (λ s. is_some (live_name s)) named.1.0
+
+pub former_users_are_live : FormerUsersAreLive
+former_users_are_live t b h = all_by_gets (λ u. is_some (live_name u)) b.catalog.users named
+  where
+    number : (i : ℕ) → i < length b.catalog.users → IsNum (suc i)
+    number i lt = let few = leb-true (length b.catalog.users) most_users h.stored.valid.catalog.few_users in omega (arith, few, lt)
+
+    named : (i : ℕ) (slot : UserSlot) → i < length b.catalog.users → slice_get b.catalog.users i ≡ Some slot → is_some (live_name slot) ≡ true
+    named i slot lt e = user_has_name t (suc i) slot (h.stored.stored.stored.users.rows (suc i) (number i lt) ∙ ap (option_map slot_bytes) e)

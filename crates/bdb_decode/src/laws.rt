@@ -1,6 +1,6 @@
 // What holds of tables of any bytes, each law as the contract of a function that does nothing.
 ghost use Rattle.bdb_decode.specs.ExplicitLaws.{FewHaveStatements, HeldRowsHavePlaces, HeldRowsMakeStatements, MisplacedHaveNoPlaces, StatedRowsAreExplicit};
-ghost use Rattle.bdb_decode.specs.Laws.{FormerKeysHaveOneColumn, OneBaseAtMost, OthersStandForNone};
+ghost use Rattle.bdb_decode.specs.Laws.{FormerKeysHaveOneColumn, FormerUsersAreLive, OneBaseAtMost, OthersStandForNone};
 ghost use Rattle.bdb_decode.specs.SettledRows.{PlacedRowsAreKeyed};
 ghost use Rattle.bdb_decode.specs.Whole.{BaseStatementsAreHeld, HeldBasesAreStated, HeldBasesAreWhole};
 
@@ -17,6 +17,11 @@ pub fn others_stand_for_none()
 /// A base that tables store in the format before this one has keys of one column.
 pub fn former_keys_have_one_column()
     ensures { FormerKeysHaveOneColumn }
+{}
+
+/// A base that tables store in the format before this one has no user who is gone.
+pub fn former_users_are_live()
+    ensures { FormerUsersAreLive }
 {}
 
 /// Where no two of the statements that explicit rows make clash at a path, the explicit rows are the statements.

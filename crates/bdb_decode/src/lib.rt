@@ -21,9 +21,9 @@ pub use held_rows::are_rows_held;
 pub use items::item_of;
 pub use laws::{
     base_statements_are_held, few_have_statements, former_keys_have_one_column,
-    held_bases_are_stated, held_bases_are_whole, held_rows_have_places, held_rows_make_statements,
-    misplaced_have_no_places, one_base_at_most, others_stand_for_none, placed_rows_are_keyed,
-    stated_rows_are_explicit,
+    former_users_are_live, held_bases_are_stated, held_bases_are_whole, held_rows_have_places,
+    held_rows_make_statements, misplaced_have_no_places, one_base_at_most, others_stand_for_none,
+    placed_rows_are_keyed, stated_rows_are_explicit,
 };
 pub use limits::worlds_are_within_limits;
 pub use opening::{OpenError, Stand, decode, stand_of};
