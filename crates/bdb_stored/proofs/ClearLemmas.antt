@@ -21,7 +21,7 @@ use Rattle.bdb_tables.specs.Rows.{Tuples, row_for, row_named}
 use Rattle.bdb_tables.specs.States.{HoldsStates, row_where}
 use Rattle.bdb_tables.specs.Stored.{slot_of, SameBut, Stores}
 use Rattle.bdb_tables.specs.Writes.{Gives, with_change, with_row_at}
-use Rattle.bdb_tables.proofs.CatalogLemmas.{no_names}
+use Rattle.bdb_tables.proofs.CatalogLemmas.{no_slots}
 use Rattle.bdb_tables.proofs.Held.{same_place}
 use Rattle.bdb_tables.proofs.SameLemmas.{outside_one, change_same}
 use Rattle.bdb_tables.proofs.WriteLemmas.{change_gives, change_elsewhere, gives_same}
@@ -178,7 +178,7 @@ module _ (t : Tables) (none : HaveNoRows t) where
       format = change_elsewhere meta_codec depth_codec (λ e. cc) (format_put t) (λ _. Some 3) (0, Some 0)
           (gives_same meta_codec (format_put t) (with_row_at meta_codec (λ _. None) (tt, Some 3)) (λ _. Some 3) (λ k f. refl)
           (change_gives meta_codec (λ a b fa fb. refl) t (λ _. None) (tt, Some 3) (record { key = tt; row = lit< tt }) (none_gives meta_codec t none)));
-      users = gives_same user_codec (two_rows t) (λ _. None) (slot_of []) (λ k f. no_names k) (nothing_else user_codec (λ e. cc) (λ e. cc));
+      users = gives_same user_codec (two_rows t) (λ _. None) (slot_of []) (λ k f. no_slots k) (nothing_else user_codec (λ e. cc) (λ e. cc));
       rels = gives_same rel_codec (two_rows t) (λ _. None) (slice_get no_rel) (λ k f. refl) (nothing_else rel_codec (λ e. cc) (λ e. cc));
       tuples = record {
         tuples = nothing_else tuple_codec (λ e. cc) (λ e. cc);
