@@ -5,6 +5,7 @@ use Rattle.std.proofs.lemmas.Bool.{and_parts, not-true, or_from, or_parts}
 use Rattle.std.proofs.lemmas.List.{length_push}
 use Rattle.std.proofs.lemmas.List.Folds.{list_any-append}
 use Rattle.bdb_base.specs.declared.kinds.RelDef.{RelDef}
+use Rattle.bdb_base.specs.declared.kinds.UserSlot.TheVariants.{Live}
 use Rattle.bdb_base.specs.Same.{same_text}
 use Rattle.bdb_base.specs.Bases.{Contents, IsValid, is_plain, is_valid_relation, are_distinct, user_names, with_user, with_relation}
 use Rattle.bdb_base.specs.Limits.{most_users, most_relations}
@@ -31,7 +32,7 @@ pub user_is_valid : (b : Contents) (name : List ℕ) → IsValid b.catalog b.stm
     → IsValid (with_user b.catalog name) b.stmts
 user_is_valid b name valid fits fine =
     let few = (within_limits (with_catalog b (with_user b.catalog name)) fine).users in
-    let more = length_push b.catalog.users name in
+    let more = length_push b.catalog.users (Live name) in
     let room : length b.catalog.users < most_users = omega arith in
     let parts = and_parts (is_plain name) (are_distinct (user_names b.catalog.users ++ name ∷ [])) fits in
     add_user_is_valid b.catalog b.stmts name valid parts.0 (not_among (user_names b.catalog.users) name parts.1) room

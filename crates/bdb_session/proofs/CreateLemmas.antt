@@ -6,6 +6,7 @@ use Rattle.bdb_base.specs.Bases.{with_user, with_relation}
 use Rattle.bdb_base.specs.Limits.{most_users, most_relations}
 use Rattle.bdb_base.specs.declared.kinds.Catalog.{Catalog}
 use Rattle.bdb_base.specs.declared.kinds.RelDef.{RelDef}
+use Rattle.bdb_base.specs.declared.kinds.UserSlot.TheVariants.{Live}
 use Rattle.bdb_base.specs.declared.kinds.What.{What}
 use Rattle.bdb_base.specs.declared.kinds.What.TheVariants.{Users, Relations}
 use Rattle.bdb_bind.specs.Fits.{fits_catalog}
@@ -60,7 +61,7 @@ user_limit_is k o users rels counts e u r c =
 
 user_passes : (t : Tables) (k : Known) (s : State) (name : List ℕ) → Agrees t k s → user_limit k ≡ passed_limit (user_added name s).base
 user_passes t k s name a =
-    let users = ap (λ (c : Catalog). length c.users + 1) a.catalog ∙ sym (length_push s.base.catalog.users name) in
+    let users = ap (λ (c : Catalog). length c.users + 1) a.catalog ∙ sym (length_push s.base.catalog.users (Live name)) in
     let rels = ap (λ (c : Catalog). length c.rels) a.catalog in
     limit_is (user_added name s).base (user_limit k) (length k.catalog.users + 1) (length k.catalog.rels) k.counts refl users rels a.counts
 

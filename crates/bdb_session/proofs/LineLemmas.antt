@@ -4,9 +4,10 @@ use Rattle.std.specs.Option.{is_some}
 use Prim.Native.Nat.{zero}
 use Rattle.std.specs.List.{list_all}
 use Rattle.std.specs.Ordering.{is_lt}
-use Rattle.std.proofs.lemmas.Bool.{cases_Bool, and_parts, false≢true, eqb-true, eqb-false, ne_eqb, ltb-true}
+use Rattle.std.proofs.lemmas.Bool.{cases_Bool, and_parts, false≢true, eqb-true, eqb-false, leb-true, ne_eqb, ltb-true}
 use Rattle.std.proofs.lemmas.List.Sums.{sum_by-cons}
 use Rattle.bdb_base.specs.Bases.{Contents, is_user, name_at, tuple_count, user_names}
+use Rattle.bdb_base.specs.Limits.{most_users}
 use Rattle.bdb_base.specs.Order.{path_cmp}
 use Rattle.bdb_base.specs.OrderLemmas.{path_exact, tuple_exact}
 use Rattle.bdb_base.specs.Queries.{live_numbers, user_numbers}
@@ -187,3 +188,12 @@ lines_are t b h =
     let same = ap (edges_by (length (user_names b.catalog.users))) worlds in
     let lines = lines_by_counts b in
     omega arith
+
+-- there are no more live users than places
+live_within : (users : List UserSlot) → length (user_names users) ≤ length users
+live_within [] = omega arith
+live_within (Live name ∷ users) = let rest = live_within users in omega arith
+live_within (Gone ∷ users) = let rest = live_within users in omega arith
+
+pub few_live : (users : List UserSlot) (n : ℕ) → n ≡ length (user_names users) → nat_le (length users) most_users ≡ true → n ≤ most_users
+few_live users n e few = let within = live_within users in let most = leb-true (length users) most_users few in omega arith

@@ -41,7 +41,7 @@ use Rattle.bdb_session.proofs.TellLemmas.{other_cause}
 use Rattle.bdb_session.proofs.WithinLemmas.{read_tells, stop_tells}
 use Rattle.bdb_tables.specs.Names.{Names}
 use Rattle.bdb_tables.specs.Rows.{Tuples}
-use Rattle.bdb_tables.specs.Stored.{StoredAs, name_of}
+use Rattle.bdb_tables.specs.Stored.{StoredAs, slot_of}
 use Rattle.bdb_plan.proofs.RunLemmas.{meaning_are_choices}
 use Rattle.bdb_trans.proofs.PlanLemmas.{plans_fit_sights, plans_mean_answers}
 use Rattle.bdb_update.proofs.CallLemmas.{gone_itself}
@@ -54,7 +54,7 @@ use Rattle.bdb_val.proofs.Calls.{HasGone}
 pub stored_has_base : (ns : Names) (ts : Tuples) (t : Tables) (b : Contents) → StoredAs ns ts t b → HaveBase ns ts t b
 stored_has_base ns ts t b h = record {
   grammar = over_in_grammar b.stmts b.stmts ns ts t b h;
-  name = name_of b.catalog.users;
+  name = slot_of b.catalog.users;
   users = h.users;
   none = refl;
   names = λ n. refl;

@@ -1,4 +1,5 @@
 // The replies of worked certificates: all users believe an eagle, Alice a crow, and Bob no eagle.
+use crate::tests::stored::user;
 use bdb_base::{Catalog, ColDef, Kind, List, Path, RelDef, Sign, Stmt, Tuple, Txt, Value};
 use bdb_reasons::why_reply;
 use bdb_why::{Ground, Ruled, Why};
@@ -13,8 +14,8 @@ fn curators(alloc: Global) -> Result<Catalog, AllocError> {
     let cols = List::from_vec(vec![in alloc; ColDef { name: k, kind }, ColDef { name: v, kind }]?);
     let name = Txt::try_new(alloc, "S")?;
     let rels = List::from_vec(vec![in alloc; RelDef { name, cols, key: 1 }]?);
-    let alice = Txt::try_new(alloc, "Alice")?;
-    let bob = Txt::try_new(alloc, "Bob")?;
+    let alice = user(alloc, "Alice")?;
+    let bob = user(alloc, "Bob")?;
     let users = List::from_vec(vec![in alloc; alice, bob]?);
     Ok(Catalog { rels, users })
 }

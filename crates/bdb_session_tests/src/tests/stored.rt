@@ -3,11 +3,13 @@ ghost use Rattle.std.specs.Prelude.{◌≡◌, true, IfOk, OnOk};
 ghost use Rattle.std.specs.List.{list_all};
 ghost use Rattle.bdb_base.specs.Alternation.{alternates};
 ghost use Rattle.bdb_base.specs.Bases.{is_user};
+ghost use Rattle.bdb_base.specs.declared.kinds.UserSlot.TheVariants.{Live};
 ghost use Rattle.bdb_canon.specs.Samples.{sightings, stated_at, reported, three_users};
 ghost use Rattle.bdb_stored.specs.Valid.{StoresValid};
 
 use bdb_base::{
-    Base, Catalog, ColDef, Kind, List, Path, RelDef, Sign, Stmt, Tuple, Txt, Value, append_decimal,
+    Base, Catalog, ColDef, Kind, List, Path, RelDef, Sign, Stmt, Tuple, Txt, UserSlot, Value,
+    append_decimal,
 };
 use bdb_canon::{Canon, Counts};
 use bdb_keep::{Keeper, QuietKeeper};
@@ -35,14 +37,22 @@ pub(crate) fn relation(alloc: Global) -> Result<RelDef, AllocError>
     Ok(RelDef { name, cols, key })
 }
 
+/// A live user of this name.
+pub(crate) fn user(alloc: Global, name: &str) -> Result<UserSlot, AllocError>
+    ensures { IfOk result (λ user. user ≡ Live name.now) }
+{
+    let name = Txt::try_new(alloc, name)?;
+    Ok(UserSlot::Live(name))
+}
+
 /// The relation S, and the three users.
 fn catalog(alloc: Global) -> Result<Catalog, AllocError>
     ensures { IfOk result (λ c. c ≡ reported.catalog) }
 {
     let mut users = List::new(alloc);
-    users.push(Txt::try_new(alloc, "Alice")?)?;
-    users.push(Txt::try_new(alloc, "Bob")?)?;
-    users.push(Txt::try_new(alloc, "Carol")?)?;
+    users.push(user(alloc, "Alice")?)?;
+    users.push(user(alloc, "Bob")?)?;
+    users.push(user(alloc, "Carol")?)?;
     let mut rels = List::new(alloc);
     let def = relation(alloc)?;
     rels.push(def)?;

@@ -4,8 +4,8 @@ ghost use Rattle.bdb_base.specs.Order.{statement_cmp};
 ghost use Rattle.bdb_base.specs.SortedSet.{ascending};
 ghost use Rattle.bdb_canon.specs.Samples.{sightings};
 
-use crate::tests::stored::{relation, statement};
-use bdb_base::{Base, Catalog, List, Path, Sign, Stmt, Tuple, Txt, Value, put};
+use crate::tests::stored::{relation, statement, user};
+use bdb_base::{Base, Catalog, List, Path, Sign, Stmt, Tuple, Txt, UserSlot, Value, put};
 use bdb_why::{Ground, Ruled, Why, check_why, check_why_among, says, why_among};
 use std::alloc::{AllocError, Global};
 use std::test::Fail;
@@ -209,7 +209,7 @@ fn push_level(text: &mut String, level: u32) -> Result<(), AllocError> {
 }
 
 /// The relation S, and these users.
-fn catalog(alloc: Global, users: List<Txt>) -> Result<Catalog, AllocError>
+fn catalog(alloc: Global, users: List<UserSlot>) -> Result<Catalog, AllocError>
     ensures { IfOk result (λ c. c ≡ record { rels = sightings ∷ []; users = users }) }
 {
     let mut rels = List::new(alloc);
@@ -221,8 +221,8 @@ fn catalog(alloc: Global, users: List<Txt>) -> Result<Catalog, AllocError>
 /// The base in which these three statements stand.
 fn disputed(alloc: Global) -> Result<Base, Fail> {
     let mut users = List::new(alloc);
-    users.push(Txt::try_new(alloc, "Alice")?)?;
-    users.push(Txt::try_new(alloc, "Bob")?)?;
+    users.push(user(alloc, "Alice")?)?;
+    users.push(user(alloc, "Bob")?)?;
     let mut stmts = List::new(alloc);
     stmts.push(statement(alloc, &[], Sign::Plus, "s1", "eagle")?)?;
     stmts.push(statement(alloc, &[1], Sign::Plus, "s1", "crow")?)?;

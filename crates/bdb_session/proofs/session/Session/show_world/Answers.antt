@@ -1,8 +1,14 @@
 use Rattle.bdb_base.specs.Limits.{deepest_query}
 use Rattle.bdb_base.specs.declared.kinds.World.{World}
-use Rattle.bdb_session.proofs.TellLemmas.{fitting_users, said_nothing, said_reads, world_reads_within, world_tells}
+use Rattle.bdb_session.proofs.TellLemmas.{fitting_users, some_has_users, said_nothing, said_reads, world_reads_within, world_tells}
 use Rattle.bdb_session.proofs.WithinLemmas.{table_stops}
 use Rattle.bdb_session.proofs.session.Session.show_world.Goals as goal
+
+pub world_of_path-requires : goal.world_of_path-requires
+world_of_path-requires g c =
+    let k = c.args.self.now in
+    let path = c.args.path.now in
+    record { base = some_has_users (g.K.Keeper.seen c.args.keeper.now).kept k path c.requires.agrees (fitting_users k.catalog.users deepest_query path c.requires.fits) }
 
 pub returns-in-Ok-clause-told : goal.returns-in-Ok-clause-told
 returns-in-Ok-clause-told g c =

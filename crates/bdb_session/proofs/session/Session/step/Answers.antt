@@ -1,5 +1,5 @@
 use Rattle.std.proofs.Common.{ap, refl, sym, subst}
-use Rattle.bdb_bind.specs.declared.bound.Bound.TheVariants.{Insert, Delete}
+use Rattle.bdb_bind.specs.declared.bound.Bound.TheVariants.{Insert, Delete, Update}
 use Rattle.bdb_session.specs.Known.{AgreesOnSome}
 use Rattle.bdb_session.specs.Machine.{bound_outcome}
 use Rattle.bdb_session.specs.Within.{learned, sized}
@@ -58,3 +58,9 @@ returns-in-Delete-clause-writes g c =
     let x = c.in-Delete in
     writes_from c.args.self.now (g.K.Keeper.seen c.args.keeper.now) (g.K.Keeper.seen c.delete.new.keeper) c.delete.result c.args.bound (Delete x.path x.sign x.rel x.conds) c.args.news.now
     c.requires.nothing x.is c.delete.ensures.writes
+
+pub returns-in-Update-clause-writes : goal.returns-in-Update-clause-writes
+returns-in-Update-clause-writes g c =
+    let x = c.in-Update in
+    writes_from c.args.self.now (g.K.Keeper.seen c.args.keeper.now) (g.K.Keeper.seen c.update.new.keeper) c.update.result c.args.bound (Update x.path x.sign x.rel x.sets x.conds) c.args.news.now
+    c.requires.nothing x.is c.update.ensures.writes
