@@ -222,7 +222,7 @@ fn each_read_fails_once(rt: HostRuntime) -> Result<(), Fail> {
         let left = left_by(alloc, source, quiet_sink(alloc)?, quiet_keeper(alloc))?;
         if left.status == 1 {
             assert!(rt; stands_after(alloc, &left, PIECES.len())?);
-            assert!(rt; 30 < read);
+            assert!(rt; 20 < read);
             return Ok(());
         }
         assert!(rt;
