@@ -121,6 +121,8 @@ fn former_tables_with_other_rows_are_damaged(rt: HostRuntime) -> Result<(), Fail
         // Rows as this format spells them: a relation with the length of its key, and a key that is a list of one.
         "03 00000000 025300018000000000000001026b00018000000000000001",
         "0b 00000000000000000273310000000000 -; 0b 0000000000000000000000010273310000000000 00000001",
+        // A user's row without bytes, as that of one who left is in this format.
+        "02 00000001 .",
         // The number of this format.
         "01 00000000 00000003",
         // A tuple whose number isn't told, and a row under another value than its tuple's.

@@ -18,9 +18,9 @@ const COMMANDS: [&str; 4] = [
 const REPLIES: &[u8] = b"ok\nok\nok\nok 1\n";
 
 /// The same users and relation, then worlds that come at depths of one to three, a refused change, a tuple that one of them
-/// inherits, a changed tuple, and worlds that go. The first command of each entry is accepted, so it commits; what stands behind
+/// inherits, a changed tuple, worlds that go, and a user who leaves. The first command of each entry is accepted, so it commits; what stands behind
 /// it is refused.
-const CHANGES: [&str; 8] = [
+const CHANGES: [&str; 10] = [
     "create user 'Alice';",
     "create user 'Bob';",
     "create relation S(k text, v text);",
@@ -29,12 +29,14 @@ const CHANGES: [&str; 8] = [
     "update BELIEF 'Alice' BELIEF 'Bob' BELIEF 'Alice' S set v = 'kite';",
     "delete from BELIEF 'Alice' BELIEF 'Bob' BELIEF 'Alice' S;",
     "show world BELIEF 'Alice' BELIEF 'Bob' BELIEF 'Alice';",
+    "insert into BELIEF 'Alice' BELIEF 'Bob' S values('s3','jay');",
+    "drop user 'Bob'; drop user 'Bob';",
 ];
 
 /// The replies to these.
 const CHANGES_REPLIES: &str = "ok\nok\nok\n\
 ok 1\nerror clash + S('s1', 'crow')\nok 1\nok 1\nok 1\n\
-+ S('s2', 'owl') inherited\nok 1\n";
++ S('s2', 'owl') inherited\nok 1\nok 1\nok 1\nerror user 'Bob'\n";
 
 #[test]
 fn a_script_without_a_command_makes_the_empty_base(rt: HostRuntime) -> Result<(), Fail> {

@@ -1,6 +1,6 @@
 // Users who leave.
 use crate::tests::limits::{push_replies, push_users};
-use crate::tests::{SETUP, ran_quietly};
+use crate::tests::{SETUP, ran_again, ran_quietly};
 use std::alloc::Global;
 use std::test::Fail;
 
@@ -57,6 +57,24 @@ fn who_left_is_no_user(rt: HostRuntime) -> Result<(), Fail> {
     for (script, replies) in cases {
         assert!(rt; is_answered(rt.alloc(), script, replies)?, "{script}");
     }
+    Ok(())
+}
+
+#[test]
+fn who_left_stays_gone_where_the_base_is_opened_again(rt: HostRuntime) -> Result<(), Fail> {
+    let alloc = rt.alloc();
+    let first = [
+        SETUP,
+        "insert into BELIEF 'Bob' S values('s1','owl'); drop user 'Bob';",
+    ];
+    let next = ["create user 'Bob'; select U.uid, U.name from Users U; show world BELIEF 'Bob';"];
+    let (status, out, commits) = ran_again(alloc, &first, &next)?;
+    assert_eq!(rt; status, 0);
+    assert_eq!(rt;
+        out.bytes().strip_prefix(FIRST_REPLIES.as_bytes()),
+        Some(b"ok 1\nok 1\nok\n1, 'Alice'\n3, 'Bob'\nok 2\nok 0\n".as_slice())
+    );
+    assert_eq!(rt; commits, 9);
     Ok(())
 }
 
