@@ -95,12 +95,24 @@ delete from BELIEF 'Carol' T;
 select U.name, X.v from Users U, BELIEF U.uid S X where X.k = 's6';
 """
 
+# Changes of each kind are taken back and made again.
+TAKEN_BACK = """
+create user 'Alice'; create relation S(k text, v text); create user 'Bob'; undo; undo; redo; redo;
+insert into BELIEF 'Alice' BELIEF 'Bob' S values('a', 'a note of more than twenty-four bytes');
+insert into BELIEF 'Bob' not S values('a', 'x');
+update BELIEF 'Alice' BELIEF 'Bob' S set v = 'y' where k = 'a'; undo; redo;
+delete from BELIEF 'Bob' not S; undo; redo; undo;
+drop user 'Bob'; undo; redo; undo;
+show world BELIEF 'Alice' BELIEF 'Bob';
+insert into S values('b', 'z'); redo; undo; undo; undo; redo; redo; redo; redo;
+"""
+
 
 def scripts():
     """The name and the commands of each script."""
     with open(f"{HERE}/sightings.bsql") as it:
         sightings = it.read()
-    texts = {"stated and denied": STATED_AND_DENIED, "new worlds": NEW_WORLDS, "sightings": sightings, "deep": DEEP}
+    texts = {"stated and denied": STATED_AND_DENIED, "new worlds": NEW_WORLDS, "sightings": sightings, "deep": DEEP, "taken back": TAKEN_BACK}
     return {name: [it.strip() + ";" for it in text.split(";")[:-1]] for name, text in texts.items()}
 
 

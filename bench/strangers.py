@@ -80,6 +80,9 @@ def plain_files(ours):
     return {
         "empty": (b"", True),
         "one byte": (b"S", False),
+        "one zero, as where making it was cut off": (b"\0", True),
+        "a page of a zero and text": (b"\0" + b"The crow is black.\n" * 100, False),
+        "a page with a zero for its first byte, and no log": (b"\0" + ours[1:4096], False),
         "a text": (b"The crow is black.\n" * 100, False),
         "a head alone": (ours[:100], False),
         "cut in a page": (ours[:len(ours) - 1000], False),

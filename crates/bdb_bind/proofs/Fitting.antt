@@ -12,7 +12,7 @@ use Rattle.bdb_base.specs.declared.kinds.Value.{Value}
 use Rattle.bdb_base.specs.Same.{same_text}
 use Rattle.bdb_base.specs.Bases.{IsCatalog, is_plain, fits_columns, fits_relation, are_distinct, is_user, user_names, users_name}
 use Rattle.bdb_syntax.specs.declared.command.Command.{Command}
-use Rattle.bdb_syntax.specs.declared.command.Command.TheVariants.{CreateUser, DropUser, CreateRelation, Insert, Delete, Update, Select, Explain, ShowWorld, Why, ShowTables}
+use Rattle.bdb_syntax.specs.declared.command.Command.TheVariants.{CreateUser, DropUser, CreateRelation, Insert, Delete, Update, Select, Explain, ShowWorld, Why, ShowTables, Undo, Redo}
 use Rattle.bdb_syntax.specs.declared.command.RawCond.{RawCond}
 use Rattle.bdb_syntax.specs.declared.command.RawQuery.{RawQuery}
 use Rattle.bdb_syntax.specs.declared.command.RawSet.{RawSet}
@@ -284,3 +284,5 @@ what_is_bound_fits catalog (ShowWorld users) valid allowed accepted = path_fits 
 what_is_bound_fits catalog (Why users sign rel vals) valid allowed accepted =
     why_fits catalog users sign rel vals allowed (names_cleared catalog (Why users sign rel vals) accepted)
 what_is_bound_fits catalog ShowTables valid allowed accepted = refl
+what_is_bound_fits catalog Undo valid allowed accepted = refl
+what_is_bound_fits catalog Redo valid allowed accepted = refl

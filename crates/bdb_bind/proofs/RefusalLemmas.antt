@@ -6,7 +6,7 @@ use Rattle.std.specs.Prelude.{nat_lt}
 use Rattle.bdb_base.specs.declared.kinds.Catalog.{Catalog}
 use Rattle.bdb_base.specs.declared.kinds.Query.{Query}
 use Rattle.bdb_syntax.specs.declared.command.Command.{Command}
-use Rattle.bdb_syntax.specs.declared.command.Command.TheVariants.{CreateUser, DropUser, CreateRelation, Insert, Delete, Update, Select, Explain, ShowWorld, Why, ShowTables}
+use Rattle.bdb_syntax.specs.declared.command.Command.TheVariants.{CreateUser, DropUser, CreateRelation, Insert, Delete, Update, Select, Explain, ShowWorld, Why, ShowTables, Undo, Redo}
 use Rattle.bdb_syntax.specs.declared.command.RawQuery.{RawQuery}
 use Rattle.bdb_bind.specs.declared.bound.BindError.{BindError}
 use Rattle.bdb_bind.specs.declared.bound.BindError.TheVariants as error
@@ -97,6 +97,8 @@ never_unsafe catalog (Update users sign rel sets conds) none = refl
 never_unsafe catalog (ShowWorld users) none = refl
 never_unsafe catalog (Why users sign rel vals) none = refl
 never_unsafe catalog ShowTables none = refl
+never_unsafe catalog Undo none = refl
+never_unsafe catalog Redo none = refl
 
 pub change_refusal : (catalog : Catalog) (c : Command) → query_of c ≡ None → text_line c ≡ None → refusal_of catalog c ≡ change_refused catalog c
 unfolding refusal_of

@@ -13,7 +13,7 @@ use Rattle.bdb_base.specs.declared.kinds.Value.{Value}
 use Rattle.bdb_base.specs.declared.kinds.Sign.{Sign}
 use Rattle.bdb_base.specs.declared.kinds.Stmt.{Stmt}
 use Rattle.bdb_syntax.specs.declared.command.Command.{Command}
-use Rattle.bdb_syntax.specs.declared.command.Command.TheVariants.{CreateUser, DropUser, CreateRelation, Insert, Delete, Update, Select, Explain, ShowWorld, Why, ShowTables}
+use Rattle.bdb_syntax.specs.declared.command.Command.TheVariants.{CreateUser, DropUser, CreateRelation, Insert, Delete, Update, Select, Explain, ShowWorld, Why, ShowTables, Undo, Redo}
 use Rattle.bdb_syntax.specs.declared.command.RawCond.{RawCond}
 use Rattle.bdb_syntax.specs.declared.command.RawSide.{RawSide}
 use Rattle.bdb_syntax.specs.declared.command.RawSide.TheVariants.{Col, Lit}
@@ -78,3 +78,5 @@ bound_of catalog (Select query) = bound.Select (bound_query catalog query)
 bound_of catalog (Explain query) = bound.Explain (bound_query catalog query)
 bound_of catalog (Why users sign rel vals) = bound.Why (statement_of catalog users sign rel vals)
 bound_of catalog ShowTables = bound.ShowTables
+bound_of catalog Undo = bound.Undo
+bound_of catalog Redo = bound.Redo

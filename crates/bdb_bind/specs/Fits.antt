@@ -91,6 +91,8 @@ fits_catalog catalog (bound.Explain query) = can_be_answered catalog query
 fits_catalog catalog (bound.ShowWorld path) = fits_path catalog.users deepest_query path
 fits_catalog catalog (bound.Why x) = fits_path catalog.users deepest_query x.path && fits_relation catalog.rels x.tuple
 fits_catalog catalog bound.ShowTables = true
+fits_catalog catalog bound.Undo = true
+fits_catalog catalog bound.Redo = true
 
 -- what an allowed command that isn't refused is bound to fits the catalog
 abbrev pub WhatIsBoundFits : Type 0

@@ -54,6 +54,10 @@ pub enum Bound {
     },
     /// The stored structure is shown.
     ShowTables,
+    /// The last change is taken back.
+    Undo,
+    /// The change that was taken back last is made again.
+    Redo,
 }
 
 /// Why a command is refused over a catalog.

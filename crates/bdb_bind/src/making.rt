@@ -359,5 +359,7 @@ pub fn bound_change(
             bound_why(alloc, ids, *sign, rel, vals)
         }
         Command::ShowTables => Ok(Bound::ShowTables),
+        Command::Undo => Ok(Bound::Undo),
+        Command::Redo => Ok(Bound::Redo),
     }
 }

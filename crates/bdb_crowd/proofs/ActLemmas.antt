@@ -18,7 +18,7 @@ use Rattle.bdb_multi.specs.declared.kinds.Line.TheVariants.{Begin, Commit, Abort
 use Rattle.bdb_multi.specs.Sessions.{Commands, act_after, act_by, mine, most_queued, open_batch}
 use Rattle.bdb_multi.specs.Slots.{StandsFor}
 use Rattle.bdb_session.specs.Batches.{pieces, before_refused, batch_commits, batch_state, batch_text, IsBatchReply}
-use Rattle.bdb_session.specs.Known.{Known, Agrees, AgreesOnSome}
+use Rattle.bdb_session.specs.Known.{Known, Agrees, RemembersSome}
 use Rattle.bdb_session.specs.Machine.{accepts, next_state}
 use Rattle.bdb_session.specs.Outcome.{State}
 use Rattle.bdb_session.specs.Runs.{accepts_all}
@@ -252,16 +252,18 @@ line_answers p a text fine hand now old new result is kept at h =
     on_ok (Err e) s = tt
 
 -- after an Ok what is at hand has come to some point
-pub answer_at : (p : Point) (a : Asked) (hand : AtHand) (first now : Seen) (old new : Option (List ℕ)) (result : Result Bool Stop) → IsAnswer p a hand first now old new result → OnOk result (IsAtSome now.kept hand)
-answer_at p a hand first now old new (Ok fine) h = record { point = next_point p a; at = record { agrees = h.carried.agrees; stands = h.stands } }
-answer_at p a hand first now old new (Err stop) h = tt
+pub answer_at : (p : Point) (a : Asked) (hand : AtHand) (first now : Seen) (old new : Option (List ℕ)) (result : Result Bool Stop) → IsAnswer p a hand first now old new result
+    → RemembersSome now.kept hand.session → OnOk result (IsAtSome now.kept hand)
+answer_at p a hand first now old new (Ok fine) h k =
+    record { point = next_point p a; at = record { agrees = h.carried.agrees; stands = h.stands }; remembers = k }
+answer_at p a hand first now old new (Err stop) h k = tt
 
 -- what was not answered
 pub unanswered : (p : Point) (k : Known) (now : Seen) → Agrees now.kept k p.state → Carried p [] k now now
 unanswered p k now agrees = record { agrees = agrees; commits = λ _. omega arith }
 
-pub some_state : (t : Tables) (hand : AtHand) → IsAtSome t hand → AgreesOnSome t hand.session
-some_state t hand h = record { state = h.point.state; agrees = h.at.agrees }
+pub some_timeline : (t : Tables) (hand : AtHand) → IsAtSome t hand → RemembersSome t hand.session
+some_timeline t hand h = h.remembers
 
 -- a piece that is no event was answered by a line, or by nothing
 module _ (p : Point) (r : Read) (hand : AtHand) (now : Seen) (old new : Option (List ℕ)) (result : Result Bool Stop) (at : IsAt now.kept hand p) where

@@ -4,4 +4,5 @@ pub mod CountLemmas
 pub mod LawLemmas
 pub mod RunLemmas
 pub mod StreamLemmas
+pub mod TellLemmas
 pub mod WriteLemmas

@@ -9,7 +9,7 @@ use Rattle.bdb_lex.specs.declared.token.Rest.TheVariants.{Nothing, Unfinished}
 use Rattle.bdb_many.specs.Many.{rest_reply}
 use Rattle.bdb_multi.specs.Sessions.{Commands}
 use Rattle.bdb_multi.specs.Slots.{StandsFor}
-use Rattle.bdb_session.specs.Known.{Known, Agrees}
+use Rattle.bdb_session.specs.Known.{Known, Agrees, RemembersSome}
 use Rattle.bdb_crowd.specs.Asked.{Asked, Point, after, all_fine, committed, is_fine, next_point, replies, reply_of, IsFrontOf}
 use Rattle.bdb_crowd.specs.Due.{IsTold}
 use Rattle.bdb_stream.specs.declared.stop.Stop.{Stop}
@@ -26,10 +26,11 @@ pub record IsAt (t : Tables) (hand : AtHand) (p : Point) : Type 0 where
   pub agrees : Agrees t hand.session p.state
   pub stands : StandsFor hand.slots p.before
 
--- there is such a point
+-- there is such a point, and the changes that the session knows stand for some bases
 pub record IsAtSome (t : Tables) (hand : AtHand) : Type 0 where
   pub point : Point
   pub at : IsAt t hand point
+  pub remembers : RemembersSome t hand.session
 
 -- A session and a keeper have come from a point, and from what the keeper told first, by what was asked for: they agree on the
 -- state after it, and there was one commit for each batch that was run whole.

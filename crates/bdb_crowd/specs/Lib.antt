@@ -4,3 +4,4 @@ pub mod Counted
 pub mod Due
 pub mod Laws
 pub mod Streams
+pub mod TellsErrors

@@ -7,7 +7,7 @@ ghost use Rattle.bdb_keep.specs.Seen.{IsStill, NeverFall};
 ghost use Rattle.bdb_many.specs.Marks.{mark, marked};
 ghost use Rattle.bdb_multi.specs.declared.kinds.Act.TheVariants.{One, Batch};
 ghost use Rattle.bdb_multi.specs.Sessions.{most_queued, sessions};
-ghost use Rattle.bdb_session.specs.Known.{Agrees, AgreesOnSome};
+ghost use Rattle.bdb_session.specs.Known.{Agrees, RemembersSome};
 ghost use Rattle.bdb_session.specs.Outcome.{State};
 ghost use Rattle.bdb_crowd.specs.Due.{IsDone, IsRunBy, IsTold, IsWaiting, due_to, end_line};
 
@@ -31,12 +31,12 @@ pub fn answer_act<O: Sink, K: Keeper>(
     act: Act,
 ) -> Result<bool, Stop>
     requires still { IsStill (K.seen keeper.old) }
-    requires agrees { AgreesOnSome (K.seen keeper.old).kept session.old }
+    requires agrees { RemembersSome (K.seen keeper.old).kept session.old }
     requires number { number < sessions }
     requires few { IsWaiting act }
     ensures done { (s : State) → Agrees (K.seen keeper.old).kept session.old s → IsDone s (due_to s number act) session.new (K.seen keeper.old) (K.seen keeper.new) (O.written out.old) (O.written out.new) result }
     ensures still { IsStill (K.seen keeper.new) }
-    ensures agrees { AgreesOnSome (K.seen keeper.new).kept session.new }
+    ensures agrees { RemembersSome (K.seen keeper.new).kept session.new }
     ensures never_fall { NeverFall (K.seen keeper.old) (K.seen keeper.new) }
     ensures keeper { HasCause (K.seen keeper.old).faults (K.seen keeper.new).faults result Stop.Keeper }
     ensures later { O.faults out.old ≤ O.faults out.new }
@@ -94,11 +94,11 @@ fn run_one<O: Sink, K: Keeper>(
     command: List<u8>,
 ) -> Result<bool, Stop>
     requires still { IsStill (K.seen keeper.old) }
-    requires agrees { AgreesOnSome (K.seen keeper.old).kept session.old }
+    requires agrees { RemembersSome (K.seen keeper.old).kept session.old }
     requires number { number < sessions }
     ensures done { (s : State) → Agrees (K.seen keeper.old).kept session.old s → IsDone s (due_to s number (One command)) session.new (K.seen keeper.old) (K.seen keeper.new) (O.written out.old) (O.written out.new) result }
     ensures still { IsStill (K.seen keeper.new) }
-    ensures agrees { AgreesOnSome (K.seen keeper.new).kept session.new }
+    ensures agrees { RemembersSome (K.seen keeper.new).kept session.new }
     ensures never_fall { NeverFall (K.seen keeper.old) (K.seen keeper.new) }
     ensures keeper { HasCause (K.seen keeper.old).faults (K.seen keeper.new).faults result Stop.Keeper }
     ensures later { O.faults out.old ≤ O.faults out.new }
@@ -129,12 +129,12 @@ fn run_batch<O: Sink, K: Keeper>(
     commands: &Lines,
 ) -> Result<bool, Stop>
     requires still { IsStill (K.seen keeper.old) }
-    requires agrees { AgreesOnSome (K.seen keeper.old).kept session.old }
+    requires agrees { RemembersSome (K.seen keeper.old).kept session.old }
     requires number { number < sessions }
     requires few { length commands.now ≤ most_queued }
     ensures done { (s : State) → Agrees (K.seen keeper.old).kept session.old s → IsDone s (due_to s number (Batch commands.now)) session.new (K.seen keeper.old) (K.seen keeper.new) (O.written out.old) (O.written out.new) result }
     ensures still { IsStill (K.seen keeper.new) }
-    ensures agrees { AgreesOnSome (K.seen keeper.new).kept session.new }
+    ensures agrees { RemembersSome (K.seen keeper.new).kept session.new }
     ensures never_fall { NeverFall (K.seen keeper.old) (K.seen keeper.new) }
     ensures keeper { HasCause (K.seen keeper.old).faults (K.seen keeper.new).faults result Stop.Keeper }
     ensures later { O.faults out.old ≤ O.faults out.new }
@@ -158,12 +158,12 @@ fn run<K: Keeper>(
     commands: &Lines,
 ) -> Result<BatchReply, Stop>
     requires still { IsStill (K.seen keeper.old) }
-    requires agrees { AgreesOnSome (K.seen keeper.old).kept session.old }
+    requires agrees { RemembersSome (K.seen keeper.old).kept session.old }
     requires few { length commands.now ≤ most_queued }
     ensures run { (s : State) → Agrees (K.seen keeper.old).kept session.old s → IsRunBy s commands.now session.new (K.seen keeper.old) (K.seen keeper.new) result }
     ensures few { IfOk result (λ r. r.accepted ≤ most_queued) }
     ensures still { IsStill (K.seen keeper.new) }
-    ensures agrees { AgreesOnSome (K.seen keeper.new).kept session.new }
+    ensures agrees { RemembersSome (K.seen keeper.new).kept session.new }
     ensures never_fall { NeverFall (K.seen keeper.old) (K.seen keeper.new) }
     ensures keeper { HasCause (K.seen keeper.old).faults (K.seen keeper.new).faults result Stop.Keeper }
     ensures others { OnErr result ((IsErrOf result Stop.Source → ⊥) × (IsErrOf result Stop.Large → ⊥) × (IsErrOf result Stop.Sink → ⊥)) }

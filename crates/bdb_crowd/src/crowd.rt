@@ -6,7 +6,7 @@ ghost use Rattle.bdb_events.specs.declared.read.Read.{Read};
 ghost use Rattle.bdb_keep.specs.Seen.{IsStill, NeverFall};
 ghost use Rattle.bdb_keep.specs.Tables.{Tables};
 ghost use Rattle.bdb_multi.specs.Sessions.{sessions};
-ghost use Rattle.bdb_session.specs.Known.{Agrees, AgreesOnSome};
+ghost use Rattle.bdb_session.specs.Known.{Agrees, RemembersSome};
 ghost use Rattle.bdb_session.specs.Outcome.{State};
 
 use crate::acts::{answer_act, tell, tell_error};
@@ -48,7 +48,7 @@ impl Crowd {
     pub fn new(alloc: Global, session: Session) -> Self
         ensures session { result.session ≡ session }
         ensures starts { (t : Tables) (s : State) → Agrees t session s → IsAt t result (start_at s) }
-        ensures some { (t : Tables) → AgreesOnSome t session → IsAtSome t result }
+        ensures some { (t : Tables) → RemembersSome t session → IsAtSome t result }
     {
         Crowd {
             session,
@@ -71,7 +71,7 @@ impl Crowd {
         ensures answered { (p : Point) → IsAt (K.seen keeper.old).kept self.old p → IsAnswer p (asked_by piece.now) self.new (K.seen keeper.old) (K.seen keeper.new) (O.written out.old) (O.written out.new) result }
         ensures at { OnOk result (IsAtSome (K.seen keeper.new).kept self.new) }
         ensures still { IsStill (K.seen keeper.new) }
-        ensures agrees { AgreesOnSome (K.seen keeper.new).kept self.new.session }
+        ensures agrees { RemembersSome (K.seen keeper.new).kept self.new.session }
         ensures never_fall { NeverFall (K.seen keeper.old) (K.seen keeper.new) }
         ensures keeper { HasCause (K.seen keeper.old).faults (K.seen keeper.new).faults result Stop.Keeper }
         ensures later { O.faults out.old ≤ O.faults out.new }
@@ -96,7 +96,7 @@ impl Crowd {
         requires names { NamesSession read }
         ensures answered { (p : Point) → IsAt (K.seen keeper.old).kept self.old p → IsAnswer p (piece read) self.new (K.seen keeper.old) (K.seen keeper.new) (O.written out.old) (O.written out.new) result }
         ensures still { IsStill (K.seen keeper.new) }
-        ensures agrees { AgreesOnSome (K.seen keeper.new).kept self.new.session }
+        ensures agrees { RemembersSome (K.seen keeper.new).kept self.new.session }
         ensures never_fall { NeverFall (K.seen keeper.old) (K.seen keeper.new) }
         ensures keeper { HasCause (K.seen keeper.old).faults (K.seen keeper.new).faults result Stop.Keeper }
         ensures later { O.faults out.old ≤ O.faults out.new }
@@ -125,7 +125,7 @@ impl Crowd {
         requires number { number < sessions }
         ensures answered { (p : Point) → IsAt (K.seen keeper.old).kept self.old p → IsAnswer p (piece (Read.Event (record { session = number; line = line }))) self.new (K.seen keeper.old) (K.seen keeper.new) (O.written out.old) (O.written out.new) result }
         ensures still { IsStill (K.seen keeper.new) }
-        ensures agrees { AgreesOnSome (K.seen keeper.new).kept self.new.session }
+        ensures agrees { RemembersSome (K.seen keeper.new).kept self.new.session }
         ensures never_fall { NeverFall (K.seen keeper.old) (K.seen keeper.new) }
         ensures keeper { HasCause (K.seen keeper.old).faults (K.seen keeper.new).faults result Stop.Keeper }
         ensures later { O.faults out.old ≤ O.faults out.new }

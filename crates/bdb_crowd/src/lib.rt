@@ -4,6 +4,7 @@
 
 mod acts;
 mod crowd;
+pub mod error_laws;
 mod laws;
 mod stream;
 mod write;

@@ -5,7 +5,7 @@ ghost use Rattle.bdb_base.specs.Causes.{Rose, Rises, RisesOver, HasCause};
 ghost use Rattle.bdb_base.specs.Limits.{longest_script};
 ghost use Rattle.bdb_keep.specs.Seen.{IsStill, NeverFall};
 ghost use Rattle.bdb_lex.specs.Cut.{ready, pieces_from, state_after};
-ghost use Rattle.bdb_session.specs.Known.{AgreesOnSome};
+ghost use Rattle.bdb_session.specs.Known.{RemembersSome};
 ghost use Rattle.bdb_stream.specs.Streams.{longest_read};
 ghost use Rattle.bdb_crowd.specs.Asked.{Point, asked_by};
 ghost use Rattle.bdb_crowd.specs.Carried.{Ends, IsAt, IsAtSome, IsRestTold};
@@ -38,7 +38,7 @@ pub fn carry_out_stream<S: Source, O: Sink, K: Keeper>(
     ensures end { OnOk result (IsAtEnd (S.left script.new)) }
     ensures short { OnOk result (IfSome (S.left script.old) (λ text. length text ≤ longest_script)) }
     ensures still { IsStill (K.seen keeper.new) }
-    ensures agrees { AgreesOnSome (K.seen keeper.new).kept crowd.new.session }
+    ensures agrees { RemembersSome (K.seen keeper.new).kept crowd.new.session }
     ensures source { IsErrOf result Stop.Source → Rose (S.faults script.old) (S.faults script.new) }
     ensures sink { IsErrOf result Stop.Sink → Rose (O.faults out.old) (O.faults out.new) }
     ensures keeper { IsErrOf result Stop.Keeper → Rose (K.seen keeper.old).faults (K.seen keeper.new).faults }
@@ -104,7 +104,7 @@ fn answer_block<O: Sink, K: Keeper>(
     ensures ends { (p : Point) → IsAt (K.seen keeper.old).kept crowd.old p → Ends p (map asked_by (pieces_from cutter.old.state block.now)) crowd.new (K.seen keeper.old) (K.seen keeper.new) (O.written out.old) (O.written out.new) result }
     ensures at { OnOk result (IsAtSome (K.seen keeper.new).kept crowd.new) }
     ensures still { IsStill (K.seen keeper.new) }
-    ensures agrees { AgreesOnSome (K.seen keeper.new).kept crowd.new.session }
+    ensures agrees { RemembersSome (K.seen keeper.new).kept crowd.new.session }
     ensures never_fall { NeverFall (K.seen keeper.old) (K.seen keeper.new) }
     ensures keeper { HasCause (K.seen keeper.old).faults (K.seen keeper.new).faults result Stop.Keeper }
     ensures later { O.faults out.old ≤ O.faults out.new }

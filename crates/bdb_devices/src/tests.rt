@@ -9,6 +9,7 @@ mod openings;
 mod sinks;
 mod sources;
 mod streams;
+mod undoing;
 
 use bdb_base::{List, Txt};
 use bdb_io::{MemSink, MemSource};
@@ -169,11 +170,11 @@ fn replies_in(bytes: &[u8]) -> usize {
         .count()
 }
 
-/// The bytes of the first replies.
-fn first_replies(count: usize) -> &'static [u8] {
+/// The bytes of the first of these replies.
+fn first_replies(replies: &[u8], count: usize) -> &[u8] {
     let mut left = count;
     let mut end: usize = 0;
-    for line in REPLIES.split_inclusive(|byte| *byte == b'\n') {
+    for line in replies.split_inclusive(|byte| *byte == b'\n') {
         if left == 0 {
             break;
         }
@@ -182,22 +183,22 @@ fn first_replies(count: usize) -> &'static [u8] {
             left -= 1;
         }
     }
-    REPLIES.get(..end).unwrap_or(REPLIES)
+    replies.get(..end).unwrap_or(replies)
 }
 
-/// The rows that the first commands of the script leave where so many transactions are committed.
-fn rows_after(alloc: Global, commits: usize) -> Result<MemKeeper, Fail> {
+/// The rows that the first commands of a script leave where so many transactions are committed.
+fn rows_after(alloc: Global, script: &[u8], commits: usize) -> Result<MemKeeper, Fail> {
     let mut rows = quiet_keeper(alloc);
     if 0 < commits {
-        let (first, _) = parted(SCRIPT, commits - 1);
+        let (first, _) = parted(script, commits - 1);
         told(alloc, first, &mut rows)?;
     }
     Ok(rows)
 }
 
-/// Whether a run of the script ended so.
-fn ended(alloc: Global, left: &Left, end: End<'_>) -> Result<bool, Fail> {
-    let rows = rows_after(alloc, end.commits)?;
+/// Whether a run of a script ended so.
+fn ended(alloc: Global, script: &[u8], left: &Left, end: End<'_>) -> Result<bool, Fail> {
+    let rows = rows_after(alloc, script, end.commits)?;
     Ok(
         left.status == end.status
             && left.out.bytes() == end.replies

@@ -13,13 +13,14 @@ use std::process::ExitCode;
 use std::{fs, io};
 
 /// The examples, in order. Each has a script, `NAME.bsql`, and what is written where it runs, `NAME.replies`.
-const NAMES: [&str; 7] = [
+const NAMES: [&str; 8] = [
     "ask",
     "birds",
     "collection",
     "first",
     "keys",
     "leaving",
+    "undo",
     "why",
 ];
 

@@ -1,12 +1,9 @@
 -- What was read of the statements that name a user, they gone, and then his place.
-use Rattle.std.proofs.Common.{◌≡◌, ◌∙◌, ℕ, ◌<◌, ◌^◌, true, List, length, sym, ap, subst, arith}
+use Rattle.std.proofs.Common.{◌≡◌, ◌∙◌, ℕ, true, List, sym, ap, subst}
 use Rattle.std.specs.List.{list_all}
-use Rattle.std.proofs.lemmas.Bool.{leb-true}
 use Rattle.bdb_base.specs.Bases.{Contents, stands}
 use Rattle.bdb_base.specs.Changes.{names_user, statements_naming, without_statements_of}
-use Rattle.bdb_base.specs.Limits.{most_statements}
 use Rattle.bdb_base.specs.declared.kinds.Stmt.{Stmt}
-use Rattle.bdb_base.proofs.ListLemmas.{length-filter_le}
 use Rattle.bdb_base.proofs.UserLemmas.{drop_user_is_valid, states_name_others}
 use Rattle.bdb_canon.specs.declared.sizes.Counts.{Counts}
 use Rattle.bdb_keep.specs.Seen.{Seen}
@@ -46,14 +43,6 @@ module _ (t mid : Tables) (same : mid ≡ t) (counts : Counts) (uid : ℕ) (gone
   pub some_may_go : SomeMayDropUser t counts uid → SomeMayGo mid counts gone
   some_may_go s = record { base = s.base; may = may_go s.base s.may }
 
-  -- they are few
-  pub few_gone : SomeMayDropUser t counts uid → length gone < 2 ^ 32
-  few_gone s =
-      let is : length gone ≡ length (statements_naming uid s.base.stmts) = ap length (gone_is s.base s.may) in
-      let few = leb-true (length s.base.stmts) most_statements s.may.base.valid.stmts.few_stmts in
-      let le = length-filter_le (λ (x : Stmt). names_user uid x.path) s.base.stmts in
-      omega (arith, is, few, le)
-
   -- ---- they have gone
 
   module _ (low : Tables) (after : Counts) (went : Go mid low counts after gone) where
@@ -71,9 +60,9 @@ module _ (t mid : Tables) (same : mid ≡ t) (counts : Counts) (uid : ℕ) (gone
 
     -- ---- and the place
 
-    pub user_left : (new : Tables) (n : ℕ) → LosesUser low new uid → n ≡ length gone → UserLeaves t new counts after uid n
-    user_left new n loses many b h = record {
-      count = many ∙ ap length (gone_is b h);
+    pub user_left : (new : Tables) → LosesUser low new uid → UserLeaves t new counts after uid gone
+    user_left new loses b h = record {
+      gone = gone_is b h;
       base = record {
         stored = loses (of_stmts b (without_statements_of uid b.stmts)) (may_lose b h);
         valid = drop_user_is_valid b.catalog b.stmts uid h.base.valid h.user;

@@ -17,7 +17,7 @@ use Rattle.bdb_syntax.specs.declared.command.RawSet.{RawSet}
 use Rattle.bdb_syntax.specs.declared.command.RawItem.{RawItem}
 use Rattle.bdb_parse.specs.declared.target.Target.{Target}
 use Rattle.bdb_syntax.specs.declared.command.RawQuery.{RawQuery}
-use Rattle.bdb_syntax.specs.declared.command.Command.TheVariants.{CreateUser, DropUser, CreateRelation, Insert, Delete, Update, Select, Explain, ShowWorld, Why, ShowTables}
+use Rattle.bdb_syntax.specs.declared.command.Command.TheVariants.{CreateUser, DropUser, CreateRelation, Insert, Delete, Update, Select, Explain, ShowWorld, Why, ShowTables, Undo, Redo}
 use Rattle.bdb_syntax.specs.Keywords.{is_keyword}
 use Rattle.bdb_parse.specs.declared.stop.Stop.{Stop}
 use Rattle.bdb_parse.specs.declared.stop.Stop.TheVariants as stops
@@ -26,7 +26,7 @@ use Rattle.bdb_parse.specs.Numbers.{number_of, is_number, is_i64}
 use Rattle.bdb_parse.specs.Gives.{number_in, narrow}
 use Rattle.bdb_parse.specs.Fits.{value_fits, side_fits, cond_fits, set_fits, query_fits, key_fits, fits}
 use Rattle.bdb_parse.specs.Stops.{cut, parts}
-use Rattle.bdb_parse.specs.Reading.{◌>>=◌, end_at, word_at, text_at, equals_at, cmp_at, keyword_at, name_at, literal_of, set_of, bare, bare_of, col_at, col_of, begins_with_word, side_of, test_of, cond_of, all_of, list_of, conds_of, inside_at, inside_of, num_of, key_of, target_at, column_of, item_of, create_user_of, create_relation_of, create_of, signed_of, insert_of, delete_of, update_of, query_of, explain_of, show_world_of, show_of, why_of, drop_of, command_after, command_by, command_of, beliefs_at}
+use Rattle.bdb_parse.specs.Reading.{◌>>=◌, end_at, word_at, text_at, equals_at, cmp_at, keyword_at, name_at, literal_of, set_of, bare, bare_of, col_at, col_of, begins_with_word, side_of, test_of, cond_of, all_of, list_of, conds_of, inside_at, inside_of, num_of, key_of, target_at, column_of, item_of, create_user_of, create_relation_of, create_of, signed_of, insert_of, delete_of, update_of, query_of, explain_of, show_world_of, show_of, why_of, drop_of, one_word_of, command_after, command_by, command_of, beliefs_at}
 use Rattle.bdb_parse.proofs.Agree.{Agrees, neither, fitting, wide, agrees_made, agrees_behind, agrees_cond, agrees_map, agrees_last, agrees_two}
 
 narrow_agrees : (n : ℤ) (b : Bool) → is_i64 n ≡ b → Agrees is_i64 (cond b (Some n) None) (cond b (Some n) (Some (pos 0))) (Some n)
@@ -193,6 +193,12 @@ drop_agrees ts =
     agrees_behind fits (text_at rest) (λ (name : List ℕ × List Token).
     agrees_behind fits (end_at name.1) (λ (after : List Token). fitting (DropUser name.0) (DropUser name.0) refl)))
 
+one_word_agrees : (word : List ℕ) (ts : List Token) → Agrees fits (one_word_of word ts) (one_word_of word ts) (one_word_of word ts)
+unfolding one_word_of
+one_word_agrees word ts =
+    agrees_cond fits (is_keyword (codes "undo") word) (agrees_made fits (λ _. Undo) (end_at ts) (λ _. refl))
+    (agrees_cond fits (is_keyword (codes "redo") word) (agrees_made fits (λ _. Redo) (end_at ts) (λ _. refl)) neither)
+
 after_agrees : (word : List ℕ) (ts : List Token) → Agrees fits (command_after (number_in Refused) word ts) (command_after (number_in Zero) word ts) (command_after number_of word ts)
 unfolding command_after
 after_agrees word ts =
@@ -204,7 +210,7 @@ after_agrees word ts =
     (agrees_cond fits (is_keyword (codes "explain") word) (explain_agrees ts)
     (agrees_cond fits (is_keyword (codes "show") word) (show_agrees ts)
     (agrees_cond fits (is_keyword (codes "why") word) (why_agrees ts)
-    (agrees_cond fits (is_keyword (codes "drop") word) (drop_agrees ts) neither))))))))
+    (agrees_cond fits (is_keyword (codes "drop") word) (drop_agrees ts) (one_word_agrees word ts)))))))))
 
 -- the three readings of a command
 pub command_agrees : (ts : List Token) → Agrees fits (command_by (number_in Refused) ts) (command_by (number_in Zero) ts) (command_of ts)

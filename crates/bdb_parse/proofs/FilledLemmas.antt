@@ -6,14 +6,14 @@ use Rattle.bdb_base.specs.declared.kinds.Value.{Value}
 use Rattle.bdb_lex.specs.declared.token.Token.{Token}
 use Rattle.bdb_syntax.specs.declared.command.RawQuery.{RawQuery}
 use Rattle.bdb_syntax.specs.declared.command.Command.{Command}
-use Rattle.bdb_syntax.specs.declared.command.Command.TheVariants.{Select, Explain, ShowTables}
+use Rattle.bdb_syntax.specs.declared.command.Command.TheVariants.{Select, Explain, ShowTables, Undo, Redo}
 use Rattle.bdb_syntax.specs.Keywords.{is_keyword}
 use Rattle.bdb_syntax.specs.Filled.{is_filled, query_filled, IsFilled}
 use Rattle.bdb_parse.specs.declared.stop.Stop.{Stop}
 use Rattle.bdb_parse.specs.declared.stop.Stop.TheVariants as stops
 use Rattle.bdb_parse.specs.declared.target.Target.{Target}
 use Rattle.bdb_parse.specs.Stops.{cut}
-use Rattle.bdb_parse.specs.Reading.{◌>>=◌, end_at, word_at, text_at, keyword_at, name_at, literal_of, set_of, col_of, test_of, cond_of, all_of, list_of, conds_of, inside_at, inside_of, key_of, target_at, column_of, item_of, create_user_of, create_relation_of, create_of, signed_of, insert_of, delete_of, update_of, query_of, explain_of, show_world_of, show_of, why_of, drop_of, command_after, command_by, beliefs_at}
+use Rattle.bdb_parse.specs.Reading.{◌>>=◌, end_at, word_at, text_at, keyword_at, name_at, literal_of, set_of, col_of, test_of, cond_of, all_of, list_of, conds_of, inside_at, inside_of, key_of, target_at, column_of, item_of, create_user_of, create_relation_of, create_of, signed_of, insert_of, delete_of, update_of, query_of, explain_of, show_world_of, show_of, why_of, drop_of, one_word_of, command_after, command_by, beliefs_at}
 use Rattle.bdb_parse.proofs.CutLemmas.{parts_after, parts_cut}
 
 -- what is read, if anything is, has P
@@ -139,6 +139,12 @@ drop_filled ts =
     each_behind IsFilled (keyword_at (codes "user") ts) _ (λ rest e.
     each_behind IsFilled (text_at rest) _ (λ name f. each_behind IsFilled (end_at name.1) _ (λ _ g. refl)))
 
+one_word_filled : (word : List ℕ) (ts : List Token) → Each IsFilled (one_word_of word ts)
+unfolding one_word_of
+one_word_filled word ts =
+    each_cond IsFilled (is_keyword (codes "undo") word) _ _ (each_map IsFilled (λ _. Undo) (end_at ts) (λ _ _. refl))
+    (each_cond IsFilled (is_keyword (codes "redo") word) _ _ (each_map IsFilled (λ _. Redo) (end_at ts) (λ _ _. refl)) tt)
+
 after_filled : (number : List ℕ → Option ℤ) (word : List ℕ) (ts : List Token) → Each IsFilled (command_after number word ts)
 unfolding command_after
 after_filled number word ts =
@@ -150,7 +156,7 @@ after_filled number word ts =
     (each_cond IsFilled (is_keyword (codes "explain") word) _ _ (explain_filled number ts)
     (each_cond IsFilled (is_keyword (codes "show") word) _ _ (show_filled ts)
     (each_cond IsFilled (is_keyword (codes "why") word) _ _ (why_filled number ts)
-    (each_cond IsFilled (is_keyword (codes "drop") word) _ _ (drop_filled ts) tt))))))))
+    (each_cond IsFilled (is_keyword (codes "drop") word) _ _ (drop_filled ts) (one_word_filled word ts)))))))))
 
 pub command_filled_of : (number : List ℕ → Option ℤ) (ts : List Token) (c : Command) → command_by number ts ≡ Some c → IsFilled c
 unfolding command_by

@@ -12,7 +12,7 @@ use Rattle.bdb_base.specs.Texts.{int_text}
 use Rattle.bdb_lex.specs.declared.token.Token.{Token}
 use Rattle.bdb_lex.specs.declared.token.Token.TheVariants.{Word, Comma, ParenL, ParenR}
 use Rattle.bdb_syntax.specs.declared.command.Command.{Command}
-use Rattle.bdb_syntax.specs.declared.command.Command.TheVariants.{CreateUser, DropUser, CreateRelation, Insert, Delete, Update, Select, Explain, ShowWorld, Why, ShowTables}
+use Rattle.bdb_syntax.specs.declared.command.Command.TheVariants.{CreateUser, DropUser, CreateRelation, Insert, Delete, Update, Select, Explain, ShowWorld, Why, ShowTables, Undo, Redo}
 use Rattle.bdb_syntax.specs.declared.command.RawCol.{RawCol}
 use Rattle.bdb_syntax.specs.declared.command.RawCond.{RawCond}
 use Rattle.bdb_syntax.specs.declared.command.RawQuery.{RawQuery}
@@ -25,7 +25,7 @@ use Rattle.bdb_parse.specs.declared.stop.Stop.TheVariants as stops
 use Rattle.bdb_parse.specs.Numbers.{number_of}
 use Rattle.bdb_parse.specs.Fits.{value_fits, cond_fits, set_fits, query_fits, key_fits, fits}
 use Rattle.bdb_parse.specs.Stops.{cut}
-use Rattle.bdb_parse.specs.Reading.{name_at, keyword_at, list_of, inside_at, inside_of, key_of, conds_of, beliefs_at, target_at, literal_of, col_of, test_of, cond_of, set_of, column_of, item_of, create_user_of, create_relation_of, create_of, signed_of, insert_of, delete_of, update_of, query_of, explain_of, show_world_of, show_of, why_of, drop_of, command_after, command_by, command_of}
+use Rattle.bdb_parse.specs.Reading.{name_at, keyword_at, list_of, inside_at, inside_of, key_of, conds_of, beliefs_at, target_at, literal_of, col_of, test_of, cond_of, set_of, column_of, item_of, create_user_of, create_relation_of, create_of, signed_of, insert_of, delete_of, update_of, query_of, explain_of, show_world_of, show_of, why_of, drop_of, one_word_of, command_after, command_by, command_of}
 use Rattle.bdb_parse.proofs.PrintedTokens.{parted, value_tokens, col_tokens, cond_tokens, where_tokens, set_tokens, column_tokens, belief_tokens, target_tokens, values_tokens, signed_tokens, item_tokens, query_tokens, key_tokens, printed_tokens}
 use Rattle.bdb_parse.proofs.PrintedLexing.{both}
 use Rattle.bdb_parse.proofs.ParsedLists.{IsClear, is_clear, cut_clear, cut_stop, list_parses, parted_clear}
@@ -179,7 +179,7 @@ show_parses users =
 
 -- the tokens of a printed command are parsed as the command
 pub tokens_parse : (c : Command) → IsPrintable c → fits c ≡ true → command_of (printed_tokens c) ≡ Some c
-unfolding command_of command_by command_after create_of create_user_of drop_of show_of explain_of keyword_at
+unfolding command_of command_by command_after create_of create_user_of drop_of one_word_of show_of explain_of keyword_at
 tokens_parse (CreateUser name) p f = refl
 tokens_parse (DropUser name) p f = refl
 tokens_parse (CreateRelation name cols key) p f =
@@ -202,3 +202,5 @@ tokens_parse (Explain query) p f =
 tokens_parse (ShowWorld users) p f = show_parses users
 tokens_parse (Why users sign rel vals) p f = why_parses users sign rel vals p.parts.1 p.filled f
 tokens_parse ShowTables p f = refl
+tokens_parse Undo p f = refl
+tokens_parse Redo p f = refl

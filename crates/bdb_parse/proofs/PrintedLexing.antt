@@ -15,7 +15,7 @@ use Rattle.bdb_lex.specs.declared.token.Token.{Token}
 use Rattle.bdb_lex.specs.declared.token.Token.TheVariants.{Word, Comma, Dot, ParenL, ParenR, Eq}
 use Rattle.bdb_lex.specs.Tokens.{tokens_of}
 use Rattle.bdb_syntax.specs.declared.command.Command.{Command}
-use Rattle.bdb_syntax.specs.declared.command.Command.TheVariants.{CreateUser, DropUser, CreateRelation, Insert, Delete, Update, Select, Explain, ShowWorld, Why, ShowTables}
+use Rattle.bdb_syntax.specs.declared.command.Command.TheVariants.{CreateUser, DropUser, CreateRelation, Insert, Delete, Update, Select, Explain, ShowWorld, Why, ShowTables, Undo, Redo}
 use Rattle.bdb_syntax.specs.declared.command.RawCol.{RawCol}
 use Rattle.bdb_syntax.specs.declared.command.RawCond.{RawCond}
 use Rattle.bdb_syntax.specs.declared.command.RawItem.{RawItem}
@@ -247,6 +247,8 @@ command_reads (ShowWorld users) p f =
 command_reads (Why users sign rel vals) p f =
     reads_reads (signed_edge users sign rel vals) (reads_word (codes "why") [] (codes "why") refl refl refl) (signed_reads users sign rel vals p.parts f)
 command_reads ShowTables p f = reads_word (codes "show tables") (Word (codes "show") ∷ []) (codes "tables") refl refl refl
+command_reads Undo p f = reads_word (codes "undo") [] (codes "undo") refl refl refl
+command_reads Redo p f = reads_word (codes "redo") [] (codes "redo") refl refl refl
 
 -- the printed form of a command is these tokens
 pub printed_lexes : (c : Command) → IsPrintable c → fits c ≡ true → tokens_of (printed c) ≡ Some (printed_tokens c)

@@ -12,7 +12,7 @@ use Rattle.bdb_base.specs.Texts.{int_text, kind_text}
 use Rattle.bdb_lex.specs.declared.token.Token.{Token}
 use Rattle.bdb_lex.specs.declared.token.Token.TheVariants.{Word, Text, Num, Comma, Dot, ParenL, ParenR, Eq, Ne, Lt, Le, Gt, Ge}
 use Rattle.bdb_syntax.specs.declared.command.Command.{Command}
-use Rattle.bdb_syntax.specs.declared.command.Command.TheVariants.{CreateUser, DropUser, CreateRelation, Insert, Delete, Update, Select, Explain, ShowWorld, Why, ShowTables}
+use Rattle.bdb_syntax.specs.declared.command.Command.TheVariants.{CreateUser, DropUser, CreateRelation, Insert, Delete, Update, Select, Explain, ShowWorld, Why, ShowTables, Undo, Redo}
 use Rattle.bdb_syntax.specs.declared.command.RawCol.{RawCol}
 use Rattle.bdb_syntax.specs.declared.command.RawCond.{RawCond}
 use Rattle.bdb_syntax.specs.declared.command.RawItem.{RawItem}
@@ -110,3 +110,5 @@ printed_tokens (Explain query) = Word (codes "explain") ∷ [] ++ query_tokens q
 printed_tokens (ShowWorld users) = Word (codes "show") ∷ Word (codes "world") ∷ [] ++ flat_map belief_tokens users
 printed_tokens (Why users sign rel vals) = Word (codes "why") ∷ [] ++ signed_tokens users sign rel vals
 printed_tokens ShowTables = Word (codes "show") ∷ Word (codes "tables") ∷ []
+printed_tokens Undo = Word (codes "undo") ∷ []
+printed_tokens Redo = Word (codes "redo") ∷ []

@@ -11,14 +11,14 @@ use Rattle.bdb_syntax.specs.declared.command.RawItem.{RawItem}
 use Rattle.bdb_syntax.specs.declared.command.RawSet.{RawSet}
 use Rattle.bdb_syntax.specs.declared.command.RawQuery.{RawQuery}
 use Rattle.bdb_syntax.specs.declared.command.Command.{Command}
-use Rattle.bdb_syntax.specs.declared.command.Command.TheVariants.{Select, Explain, ShowTables}
+use Rattle.bdb_syntax.specs.declared.command.Command.TheVariants.{Select, Explain, ShowTables, Undo, Redo}
 use Rattle.bdb_syntax.specs.Keywords.{is_keyword}
 use Rattle.bdb_parse.specs.declared.stop.Stop.TheVariants as stops
 use Rattle.bdb_parse.specs.declared.target.Target.{Target}
 use Rattle.bdb_parse.specs.Numbers.{number_of}
 use Rattle.bdb_parse.specs.Stops.{cut}
 use Rattle.bdb_parse.specs.Grammar.{◌▸◌, IsNothing, IsToken, IsKeyword, IsName, IsKey, IsLiteral, AreSeparated, AreRepeated, IsBelief, IsColumn, IsBareCol, IsFullCol, AreConds, IsSet, IsItem, IsTarget, IsSigned, IsQuery, IsCommand}
-use Rattle.bdb_parse.specs.Reading.{end_at, word_at, text_at, keyword_at, name_at, literal_of, set_of, col_of, test_of, cond_of, list_of, conds_of, inside_at, inside_of, key_of, target_at, column_of, item_of, create_user_of, create_relation_of, create_of, signed_of, insert_of, delete_of, update_of, query_of, explain_of, show_world_of, show_of, why_of, drop_of, command_after, command_by, command_of, beliefs_at}
+use Rattle.bdb_parse.specs.Reading.{end_at, word_at, text_at, keyword_at, name_at, literal_of, set_of, col_of, test_of, cond_of, list_of, conds_of, inside_at, inside_of, key_of, target_at, column_of, item_of, create_user_of, create_relation_of, create_of, signed_of, insert_of, delete_of, update_of, query_of, explain_of, show_world_of, show_of, why_of, drop_of, one_word_of, command_after, command_by, command_of, beliefs_at}
 use Rattle.bdb_parse.proofs.FilledLemmas.{Each, each_behind, each_map, each_at}
 use Rattle.bdb_parse.proofs.Sound.{end_is, word_is, text_is, keyword_is, keyword_then, word_then, name_then, beliefs_then, target_then, cut_then, comma_is, from_is, list_sound}
 use Rattle.bdb_parse.proofs.SoundParts.{literal_sound, column_sound, set_sound, test_sound, cond_sound, full_sound, item_sound, parens_then, inside_then, key_sound, conds_then}
@@ -196,6 +196,16 @@ drop_sound whole w ts e k =
     (keyword_then (codes "user") (IsToken (Text name.0)) ts rest f
     (text_is rest name g ∙ ap (λ (r : List Token). Text name.0 ∷ r) (end_is name.1 after i))))))
 
+one_word_sound : (whole : List Token) (w : List ℕ) (ts : List Token) → whole ≡ Word w ∷ ts → Each (IsCommand whole) (one_word_of w ts)
+unfolding one_word_of
+one_word_sound whole w ts e =
+    let P : Command → Type 0 = IsCommand whole in
+    each_if P (is_keyword (codes "undo") w) _ _ (λ k.
+    each_map P (λ _. Undo) (end_at ts) (λ rest f. (w, e ∙ ap (λ (r : List Token). Word w ∷ r) (end_is ts rest f), k)))
+    (each_if P (is_keyword (codes "redo") w) _ _ (λ k.
+    each_map P (λ _. Redo) (end_at ts) (λ rest f. (w, e ∙ ap (λ (r : List Token). Word w ∷ r) (end_is ts rest f), k)))
+    tt)
+
 after_command : (whole : List Token) (w : List ℕ) (ts : List Token) → whole ≡ Word w ∷ ts → Each (IsCommand whole) (command_after number_of w ts)
 unfolding command_after
 after_command whole w ts e =
@@ -208,7 +218,7 @@ after_command whole w ts e =
     (each_if P (is_keyword (codes "explain") w) _ _ (explain_sound whole w ts e)
     (each_if P (is_keyword (codes "show") w) _ _ (show_sound whole w ts e)
     (each_if P (is_keyword (codes "why") w) _ _ (why_sound whole w ts e)
-    (each_if P (is_keyword (codes "drop") w) _ _ (drop_sound whole w ts e) tt))))))))
+    (each_if P (is_keyword (codes "drop") w) _ _ (drop_sound whole w ts e) (one_word_sound whole w ts e)))))))))
 
 pub command_sound : (ts : List Token) (c : Command) → command_of ts ≡ Some c → IsCommand ts c
 unfolding command_of command_by

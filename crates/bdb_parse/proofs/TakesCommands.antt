@@ -14,14 +14,14 @@ use Rattle.bdb_syntax.specs.declared.command.RawItem.{RawItem}
 use Rattle.bdb_syntax.specs.declared.command.RawSet.{RawSet}
 use Rattle.bdb_syntax.specs.declared.command.RawQuery.{RawQuery}
 use Rattle.bdb_syntax.specs.declared.command.Command.{Command}
-use Rattle.bdb_syntax.specs.declared.command.Command.TheVariants.{CreateUser, DropUser, CreateRelation, Insert, Delete, Update, Select, Explain, ShowWorld, Why, ShowTables}
+use Rattle.bdb_syntax.specs.declared.command.Command.TheVariants.{CreateUser, DropUser, CreateRelation, Insert, Delete, Update, Select, Explain, ShowWorld, Why, ShowTables, Undo, Redo}
 use Rattle.bdb_syntax.specs.Keywords.{is_keyword}
 use Rattle.bdb_parse.specs.declared.stop.Stop.TheVariants as stops
 use Rattle.bdb_parse.specs.declared.target.Target.{Target}
 use Rattle.bdb_parse.specs.Numbers.{number_of}
 use Rattle.bdb_parse.specs.Stops.{cut}
 use Rattle.bdb_parse.specs.Grammar.{◌▸◌, IsToken, IsKeyword, IsName, IsKey, IsLiteral, AreSeparated, AreRepeated, IsBelief, IsColumn, IsBareCol, IsFullCol, AreConds, IsSet, IsItem, IsTarget, IsSigned, IsQuery, IsCommand}
-use Rattle.bdb_parse.specs.Reading.{◌>>=◌, end_at, word_at, text_at, keyword_at, name_at, literal_of, set_of, col_of, test_of, cond_of, list_of, conds_of, inside_at, inside_of, key_of, target_at, column_of, item_of, create_user_of, create_relation_of, create_of, signed_of, insert_of, delete_of, update_of, query_of, explain_of, show_world_of, show_of, why_of, drop_of, command_after, command_by, command_of, beliefs_at}
+use Rattle.bdb_parse.specs.Reading.{◌>>=◌, end_at, word_at, text_at, keyword_at, name_at, literal_of, set_of, col_of, test_of, cond_of, list_of, conds_of, inside_at, inside_of, key_of, target_at, column_of, item_of, create_user_of, create_relation_of, create_of, signed_of, insert_of, delete_of, update_of, query_of, explain_of, show_world_of, show_of, why_of, drop_of, one_word_of, command_after, command_by, command_of, beliefs_at}
 use Rattle.bdb_parse.proofs.Takes.{head_is, word_takes, keyword_takes, name_takes, other_keyword, cut_at, separated_free, list_takes, comma_stops, comma_free}
 use Rattle.bdb_parse.specs.Laws.{CommandsAreRead}
 use Rattle.bdb_parse.proofs.SoundCommands.{command_sound}
@@ -273,6 +273,46 @@ drop_after w ts c k e =
     (passes (is_keyword (codes "why") w) _ _ c (other_keyword (codes "drop") (codes "why") w k refl)
     (picks (is_keyword (codes "drop") w) _ _ c k e))))))))
 
+undo_after : (w : List ℕ) (ts : List Token) (c : Command) → is_keyword (codes "undo") w ≡ true → one_word_of w ts ≡ Some c → command_after number_of w ts ≡ Some c
+unfolding command_after
+undo_after w ts c k e =
+    passes (is_keyword (codes "create") w) _ _ c (other_keyword (codes "undo") (codes "create") w k refl)
+    (passes (is_keyword (codes "insert") w) _ _ c (other_keyword (codes "undo") (codes "insert") w k refl)
+    (passes (is_keyword (codes "delete") w) _ _ c (other_keyword (codes "undo") (codes "delete") w k refl)
+    (passes (is_keyword (codes "update") w) _ _ c (other_keyword (codes "undo") (codes "update") w k refl)
+    (passes (is_keyword (codes "select") w) _ _ c (other_keyword (codes "undo") (codes "select") w k refl)
+    (passes (is_keyword (codes "explain") w) _ _ c (other_keyword (codes "undo") (codes "explain") w k refl)
+    (passes (is_keyword (codes "show") w) _ _ c (other_keyword (codes "undo") (codes "show") w k refl)
+    (passes (is_keyword (codes "why") w) _ _ c (other_keyword (codes "undo") (codes "why") w k refl)
+    (passes (is_keyword (codes "drop") w) _ _ c (other_keyword (codes "undo") (codes "drop") w k refl) e))))))))
+
+redo_after : (w : List ℕ) (ts : List Token) (c : Command) → is_keyword (codes "redo") w ≡ true → one_word_of w ts ≡ Some c → command_after number_of w ts ≡ Some c
+unfolding command_after
+redo_after w ts c k e =
+    passes (is_keyword (codes "create") w) _ _ c (other_keyword (codes "redo") (codes "create") w k refl)
+    (passes (is_keyword (codes "insert") w) _ _ c (other_keyword (codes "redo") (codes "insert") w k refl)
+    (passes (is_keyword (codes "delete") w) _ _ c (other_keyword (codes "redo") (codes "delete") w k refl)
+    (passes (is_keyword (codes "update") w) _ _ c (other_keyword (codes "redo") (codes "update") w k refl)
+    (passes (is_keyword (codes "select") w) _ _ c (other_keyword (codes "redo") (codes "select") w k refl)
+    (passes (is_keyword (codes "explain") w) _ _ c (other_keyword (codes "redo") (codes "explain") w k refl)
+    (passes (is_keyword (codes "show") w) _ _ c (other_keyword (codes "redo") (codes "show") w k refl)
+    (passes (is_keyword (codes "why") w) _ _ c (other_keyword (codes "redo") (codes "why") w k refl)
+    (passes (is_keyword (codes "drop") w) _ _ c (other_keyword (codes "redo") (codes "drop") w k refl) e))))))))
+
+undo_takes : (ts : List Token) → IsKeyword (codes "undo") ts → command_of ts ≡ Some Undo
+unfolding command_of command_by one_word_of
+undo_takes ts h =
+    then_some (word_at ts) (h.0, []) _ Undo (ap word_at h.1)
+    (undo_after h.0 [] Undo h.2 (picks (is_keyword (codes "undo") h.0) _ _ Undo h.2 refl))
+
+redo_takes : (ts : List Token) → IsKeyword (codes "redo") ts → command_of ts ≡ Some Redo
+unfolding command_of command_by one_word_of
+redo_takes ts h =
+    then_some (word_at ts) (h.0, []) _ Redo (ap word_at h.1)
+    (redo_after h.0 [] Redo h.2
+    (passes (is_keyword (codes "undo") h.0) _ _ Redo (other_keyword (codes "redo") (codes "undo") h.0 h.2 refl)
+    (picks (is_keyword (codes "redo") h.0) _ _ Redo h.2 refl)))
+
 pub command_takes : (c : Command) (ts : List Token) → IsCommand ts c → command_of ts ≡ Some c
 command_takes (CreateUser name) ts h =
     first_takes (codes "create") (IsKeyword (codes "user") ▸ IsToken (Text name)) ts (CreateUser name) h
@@ -308,6 +348,8 @@ command_takes (Why users sign rel vals) ts h =
 command_takes ShowTables ts h =
     first_takes (codes "show") (IsKeyword (codes "tables")) ts ShowTables h
     (show_after h.3.0 h.1 ShowTables h.3.2 (show_tables_takes h.1 h.4))
+command_takes Undo ts h = undo_takes ts h
+command_takes Redo ts h = redo_takes ts h
 
 -- one list of tokens spells at most one command, and it is the one that is read
 pub commands_are_read : CommandsAreRead

@@ -9,7 +9,7 @@ use Rattle.bdb_syntax.specs.declared.command.RawCond.{RawCond}
 use Rattle.bdb_syntax.specs.declared.command.RawSet.{RawSet}
 use Rattle.bdb_syntax.specs.declared.command.RawQuery.{RawQuery}
 use Rattle.bdb_syntax.specs.declared.command.Command.{Command}
-use Rattle.bdb_syntax.specs.declared.command.Command.TheVariants.{CreateUser, DropUser, CreateRelation, Insert, Delete, Update, Select, Explain, ShowWorld, Why, ShowTables}
+use Rattle.bdb_syntax.specs.declared.command.Command.TheVariants.{CreateUser, DropUser, CreateRelation, Insert, Delete, Update, Select, Explain, ShowWorld, Why, ShowTables, Undo, Redo}
 use Rattle.bdb_parse.specs.Numbers.{is_i64}
 
 -- a value is a text or in i64
@@ -52,3 +52,5 @@ fits (Explain query) = query_fits query
 fits (ShowWorld users) = true
 fits (Why users sign rel vals) = list_all value_fits vals
 fits ShowTables = true
+fits Undo = true
+fits Redo = true

@@ -21,7 +21,7 @@ use Rattle.bdb_syntax.specs.declared.command.RawItem.{RawItem}
 use Rattle.bdb_syntax.specs.declared.command.RawSet.{RawSet}
 use Rattle.bdb_syntax.specs.declared.command.RawQuery.{RawQuery}
 use Rattle.bdb_syntax.specs.declared.command.Command.{Command}
-use Rattle.bdb_syntax.specs.declared.command.Command.TheVariants.{CreateUser, DropUser, CreateRelation, Insert, Delete, Update, Select, Explain, ShowWorld, Why, ShowTables}
+use Rattle.bdb_syntax.specs.declared.command.Command.TheVariants.{CreateUser, DropUser, CreateRelation, Insert, Delete, Update, Select, Explain, ShowWorld, Why, ShowTables, Undo, Redo}
 use Rattle.bdb_syntax.specs.Keywords.{is_keyword, is_reserved}
 use Rattle.bdb_parse.specs.Numbers.{number_of}
 
@@ -181,3 +181,5 @@ IsCommand ts (ShowWorld users) =
     (IsKeyword (codes "show") ▸ IsKeyword (codes "world") ▸ AreRepeated IsBelief users) ts
 IsCommand ts (Why users sign rel vals) = (IsKeyword (codes "why") ▸ IsSigned users sign rel vals) ts
 IsCommand ts ShowTables = (IsKeyword (codes "show") ▸ IsKeyword (codes "tables")) ts
+IsCommand ts Undo = IsKeyword (codes "undo") ts
+IsCommand ts Redo = IsKeyword (codes "redo") ts

@@ -22,7 +22,7 @@ use Rattle.bdb_syntax.specs.declared.command.RawItem.{RawItem}
 use Rattle.bdb_syntax.specs.declared.command.RawSet.{RawSet}
 use Rattle.bdb_syntax.specs.declared.command.RawQuery.{RawQuery}
 use Rattle.bdb_syntax.specs.declared.command.Command.{Command}
-use Rattle.bdb_syntax.specs.declared.command.Command.TheVariants.{CreateUser, DropUser, CreateRelation, Insert, Delete, Update, Select, Explain, ShowWorld, Why, ShowTables}
+use Rattle.bdb_syntax.specs.declared.command.Command.TheVariants.{CreateUser, DropUser, CreateRelation, Insert, Delete, Update, Select, Explain, ShowWorld, Why, ShowTables, Undo, Redo}
 use Rattle.bdb_parse.specs.declared.stop.Stop.{Stop}
 use Rattle.bdb_parse.specs.declared.stop.Stop.TheVariants as stops
 use Rattle.bdb_parse.specs.declared.target.Target.{Target}
@@ -373,6 +373,12 @@ drop_of ts = do
   _ ← end_at name.1
   Some (DropUser name.0)
 
+-- the command that is one word, with nothing behind it
+unfoldable pub one_word_of : List ℕ → List Token → Option Command
+one_word_of word ts =
+    if is_keyword (codes "undo") word then option_map (λ _. Undo) (end_at ts)
+    else (if is_keyword (codes "redo") word then option_map (λ _. Redo) (end_at ts) else None)
+
 -- the command that a first word begins
 unfoldable pub command_after : (List ℕ → Option ℤ) → List ℕ → List Token → Option Command
 command_after number word ts =
@@ -384,7 +390,7 @@ command_after number word ts =
     else (if is_keyword (codes "explain") word then explain_of number ts
     else (if is_keyword (codes "show") word then show_of ts
     else (if is_keyword (codes "why") word then why_of number ts
-    else (if is_keyword (codes "drop") word then drop_of ts else None))))))))
+    else (if is_keyword (codes "drop") word then drop_of ts else one_word_of word ts))))))))
 
 -- the command of these tokens, where number reads the spelling of a number
 unfoldable pub command_by : (List ℕ → Option ℤ) → List Token → Option Command

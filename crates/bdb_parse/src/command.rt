@@ -8,6 +8,7 @@ use crate::create::create;
 use crate::error::ParseError;
 use crate::keywords::is_keyword;
 use crate::leave::drop_user;
+use crate::one_word::one_word;
 use crate::query::{explain, select};
 use crate::show::show;
 use crate::tokens::word;
@@ -50,5 +51,5 @@ pub fn command(alloc: Global, wide: Wide, tokens: &[Token<'_>]) -> Result<Comman
     if is_keyword("drop", word) {
         return drop_user(alloc, rest);
     }
-    Err(ParseError::Syntax)
+    one_word(word, rest)
 }

@@ -18,6 +18,7 @@ mod leave;
 mod list;
 mod literal;
 mod number;
+mod one_word;
 mod query;
 mod reading;
 mod round_trip;

@@ -44,6 +44,8 @@ cause_text catalog (refusal.Unsafe alias col) = codes "unsafe " ++ dotted alias 
 cause_text catalog (refusal.Clash sign t) = codes "clash " ++ signed_text catalog sign t
 cause_text catalog (refusal.Full what) = codes "full " ++ what_text what
 cause_text catalog refusal.Many = codes "many"
+cause_text catalog refusal.NoUndo = codes "no undo"
+cause_text catalog refusal.NoRedo = codes "no redo"
 cause_text catalog refusal.Unfinished = codes "unfinished"
 
 -- the reply to a refused command

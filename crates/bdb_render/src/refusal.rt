@@ -53,6 +53,10 @@ pub enum Refusal {
     Full(What),
     /// There are too many lines to answer.
     Many,
+    /// No change can be taken back.
+    NoUndo,
+    /// No change that was taken back can be made again.
+    NoRedo,
     /// The script ends within a command.
     Unfinished,
 }
@@ -98,6 +102,8 @@ fn append_cause(out: &mut Vec<u8>, catalog: &Catalog, refusal: &Refusal) -> Resu
         Refusal::Clash { sign, tuple } => append_clash(out, catalog, *sign, tuple),
         Refusal::Full(what) => append_full(out, *what),
         Refusal::Many => out.extend_from_slice(b"many"),
+        Refusal::NoUndo => out.extend_from_slice(b"no undo"),
+        Refusal::NoRedo => out.extend_from_slice(b"no redo"),
         Refusal::Unfinished => out.extend_from_slice(b"unfinished"),
     }
 }

@@ -26,7 +26,7 @@ use Rattle.bdb_syntax.specs.declared.command.RawWho.{RawWho}
 use Rattle.bdb_syntax.specs.declared.command.RawWho.TheVariants as who
 use Rattle.bdb_syntax.specs.declared.command.RawSet.{RawSet}
 use Rattle.bdb_syntax.specs.declared.command.Command.{Command}
-use Rattle.bdb_syntax.specs.declared.command.Command.TheVariants.{CreateUser, CreateRelation, DropUser, Insert, Delete, Update, Select, Explain, ShowWorld, Why, ShowTables}
+use Rattle.bdb_syntax.specs.declared.command.Command.TheVariants.{CreateUser, CreateRelation, DropUser, Insert, Delete, Update, Select, Explain, ShowWorld, Why, ShowTables, Undo, Redo}
 use Rattle.bdb_syntax.specs.Filled.{is_filled}
 use Rattle.bdb_syntax.specs.Printable.{begins_word, is_in_word, is_word, IsName, IsContent, IsPrintableValue, IsBareCol, IsFullCol, IsPrintableSide, IsPrintableCond, IsPrintableSet, IsPrintableWho, IsPrintableItem, IsPrintableQuery, IsPrintable}
 use Rattle.bdb_parse.specs.Spelled.{IsWellSpelled, AreWellSpelled}
@@ -158,3 +158,5 @@ printable_is_allowed (ShowWorld users) p = allowed (ShowWorld users) (users_are_
 printable_is_allowed (Why users sign rel vals) p =
     allowed (Why users sign rel vals) (or_from _ _ (users_are_clean users p.parts.0) (values_are_clean vals p.parts.2)) refl
 printable_is_allowed ShowTables p = refl
+printable_is_allowed Undo p = refl
+printable_is_allowed Redo p = refl

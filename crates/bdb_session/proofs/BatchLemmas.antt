@@ -8,7 +8,7 @@ use Rattle.bdb_keep.specs.Calls.{IsBegin}
 use Rattle.bdb_keep.specs.Seen.{Seen, IsStill, IsDropped, NeverFall, Unchanged}
 use Rattle.bdb_tables.proofs.Loops.{counts_then}
 use Rattle.bdb_val.proofs.Calls.{HasGone}
-use Rattle.bdb_session.specs.Batches.{pieces, up_to_refused, before_refused, batch_text, batch_state, IsRun, AreRun, SettlesBatch, IsBatchReply, ServesBatch}
+use Rattle.bdb_session.specs.Batches.{pieces, up_to_refused, before_refused, batch_text, batch_state, IsRun, AreRun, IsBatchReply, ServesBatch}
 use Rattle.bdb_session.specs.Known.{Known, Agrees, AgreesOnSome}
 use Rattle.bdb_session.specs.Laws.{IsWhole, BreaksOff, BatchesAreWholeOrBreakOff}
 use Rattle.bdb_session.specs.Machine.{accepts, next_state, outcome_of, reply_of}
@@ -280,21 +280,12 @@ module _ (es : List Event) (before learns : Known) (old run mid new : Seen) (sti
         } in
         subst (λ (x : Result BatchReply StopError). ServesBatch es before now old new x) (sym k.reply) ended
 
-    pub batch_serves : (now : Known) (result : Result BatchReply StopError) → SettlesBatch learns told before now mid new result → ServesBatch es before now old new result
+    pub batch_serves : (now : Known) (result : Result BatchReply StopError) → MatchBool told.refused (IsUndone told before now mid new result) (IsKept learns told before now mid new result) → ServesBatch es before now old new result
     batch_serves now result h = elim (cases_Bool told.refused) [
       | inl refused ↦
           undone_batch now result refused (MatchBool-at_true (IsUndone told before now mid new result) (IsKept learns told before now mid new result) refused h)
       | inr done ↦ kept_batch now result done (MatchBool-at_false (IsUndone told before now mid new result) (IsKept learns told before now mid new result) done h)
     ]
-
--- a session that agreed with the tables on some state still does
-pub agrees_after_batch : (es : List Event) (before now : Known) (old new : Seen) (result : Result BatchReply StopError) → AgreesOnSome old.kept before → ServesBatch es before now old new result
-    → AgreesOnSome new.kept now
-agrees_after_batch es before now old new (Ok r) some h = record { state = batch_state some.state es; agrees = (h.served some.state some.agrees).next }
-agrees_after_batch es before now old new (Err stop) some h = record {
-  state = some.state;
-  agrees = subst (λ (k : Known). Agrees new.kept k some.state) (sym h.ends.same) (still_agrees old.kept new.kept before some.state h.ends.err.kept some.agrees);
-}
 
 -- the parts of what is answered
 module _ (s : State) (es : List Event) where

@@ -4,7 +4,7 @@ use Rattle.std.proofs.lemmas.Bool.{false≢true}
 use Rattle.bdb_bind.specs.declared.bound.BindError.{BindError}
 use Rattle.bdb_bind.specs.declared.bound.BindError.TheVariants.{Memory}
 use Rattle.bdb_bind.specs.declared.bound.Bound.{Bound}
-use Rattle.bdb_bind.specs.declared.bound.Bound.TheVariants.{CreateUser, CreateRelation, DropUser, Insert, Delete, Update, Select, Explain, ShowWorld, Why, ShowTables}
+use Rattle.bdb_bind.specs.declared.bound.Bound.TheVariants.{CreateUser, CreateRelation, DropUser, Insert, Delete, Update, Select, Explain, ShowWorld, Why, ShowTables, Undo, Redo}
 use Rattle.bdb_base.specs.Bases.{Contents}
 use Rattle.bdb_base.specs.declared.kinds.SetCol.{SetCol}
 use Rattle.bdb_base.specs.declared.kinds.Stmt.{Stmt}
@@ -64,3 +64,5 @@ told_unwritten (Explain q) k old new result some h = nothing_unwritten old new r
 told_unwritten (ShowWorld path) k old new result some h = nothing_unwritten old new result h.writes
 told_unwritten (Why x) k old new result some h = nothing_unwritten old new result h.writes
 told_unwritten ShowTables k old new result some h = nothing_unwritten old new result h.writes
+told_unwritten Undo k old new result some h = h
+told_unwritten Redo k old new result some h = h

@@ -1,5 +1,5 @@
 -- What comes of a new user and of a new relation, and what the session knows after it.
-use Rattle.std.proofs.Common.{◌≡◌, ◌∙◌, ℕ, ◌+◌, ◌≤◌, true, List, length, Option, Some, None, Result, refl, sym, ap, ltb}
+use Rattle.std.proofs.Common.{◌≡◌, ◌∙◌, ℕ, ◌+◌, ◌≤◌, true, List, [], length, Option, Some, None, Result, refl, sym, ap, subst, ltb}
 use Rattle.std.specs.Prelude.{if◌then◌else◌}
 use Rattle.std.proofs.lemmas.List.{length_push}
 use Rattle.bdb_base.specs.Bases.{with_user, with_relation}
@@ -17,6 +17,9 @@ use Rattle.bdb_keep.specs.Seen.{Seen}
 use Rattle.bdb_keep.specs.Tables.{Tables}
 use Rattle.bdb_render.specs.Replies.{ok_reply}
 use Rattle.bdb_render.specs.declared.refusal.Refusal.TheVariants.{Full}
+use Rattle.bdb_undo.specs.declared.change.Change.{Change}
+use Rattle.bdb_undo.specs.declared.change.Named.TheVariants.{UserAdded, RelationAdded}
+use Rattle.bdb_undo.proofs.ChangeLemmas.{user_leads, relation_leads}
 use Rattle.bdb_update.specs.Calls.{size_passed}
 use Rattle.bdb_session.specs.Known.{Known, Agrees, AgreesOnSome}
 use Rattle.bdb_session.specs.Machine.{bound_outcome, with_catalog}
@@ -24,9 +27,10 @@ use Rattle.bdb_session.specs.Outcome.{State, Refused, Done}
 use Rattle.bdb_session.specs.Sizes.{limit_passed, passed_limit}
 use Rattle.bdb_session.specs.declared.reply.Reply.{Reply}
 use Rattle.bdb_session.specs.declared.stop.StopError.{StopError}
-use Rattle.bdb_session.specs.Within.{IsSaid, TellsWithin}
+use Rattle.bdb_session.specs.Within.{IsSaid, TellsChange, TellsWithin}
 use Rattle.bdb_session.proofs.CatalogLemmas.{user_is_valid, relation_is_valid}
 use Rattle.bdb_session.proofs.LimitLemmas.{limit_is, at_most, past}
+use Rattle.bdb_session.proofs.NotingLemmas.{told_changes, stays_unchanged}
 use Rattle.bdb_session.proofs.OutcomeLemmas.{becomes_full, becomes_done}
 use Rattle.bdb_session.proofs.RelationLemmas.{counts_stay}
 use Rattle.bdb_session.proofs.WithinLemmas.{read_tells, said_tells}
@@ -104,6 +108,20 @@ user_tells k now name uid old mid new result number fits room some gone adds cat
     })
     (λ s. said (user_added name s))
 
+pub user_changes : (k : Known) (name : List ℕ) (uid : ℕ) (old : Seen) (result : Result Reply StopError) (c : Change)
+    → uid ≡ length k.catalog.users + 1 → fits_catalog k.catalog (CreateUser name) ≡ true → user_limit k ≡ None → c ≡ record { named = UserAdded name; gone = []; come = [] }
+    → TellsChange (λ s. bound_outcome s (CreateUser name)) k (Some c) old result
+user_changes k name uid old result c number fits room is =
+    subst (λ (d : Change). TellsChange (λ s. bound_outcome s (CreateUser name)) k (Some d) old result) (sym is)
+    (told_changes (λ s. bound_outcome s (CreateUser name)) (λ s. Done ok_reply 0 (user_added name s)) k (Some (record { named = UserAdded name; gone = []; come = [] })) old result
+    (λ s a. user_done old.kept k s name room a)
+    (λ s a. (user_leads s.base.catalog s.base.stmts name a.base.valid (may_add_user old.kept k s name uid number fits room a).valid, refl)))
+
+pub user_unchanged : (k : Known) (name : List ℕ) (what : What) (c : Option Change) (old : Seen) (result : Result Reply StopError) → user_limit k ≡ Some what → c ≡ None
+    → TellsChange (λ s. bound_outcome s (CreateUser name)) k c old result
+user_unchanged k name what c old result full none =
+    stays_unchanged (λ s. bound_outcome s (CreateUser name)) (λ s. Refused (Full what)) k c old result none (λ s a. user_full old.kept k s name what full a) (λ s. refl)
+
 -- ---- a new relation
 
 abbrev relation_added : RelDef → State → State
@@ -163,3 +181,17 @@ relation_tells k now def rel old mid new result number fits room some gone adds 
       counts = counts ∙ a.counts ∙ counts_stay s.base def a.base.valid.stmts.belong;
     })
     (λ s. said (relation_added def s))
+
+pub relation_changes : (k : Known) (def : RelDef) (rel : ℕ) (old : Seen) (result : Result Reply StopError) (c : Change)
+    → rel ≡ length k.catalog.rels → fits_catalog k.catalog (CreateRelation def) ≡ true → relation_limit k ≡ None → c ≡ record { named = RelationAdded def; gone = []; come = [] }
+    → TellsChange (λ s. bound_outcome s (CreateRelation def)) k (Some c) old result
+relation_changes k def rel old result c number fits room is =
+    subst (λ (d : Change). TellsChange (λ s. bound_outcome s (CreateRelation def)) k (Some d) old result) (sym is)
+    (told_changes (λ s. bound_outcome s (CreateRelation def)) (λ s. Done ok_reply 0 (relation_added def s)) k (Some (record { named = RelationAdded def; gone = []; come = [] })) old result
+    (λ s a. relation_done old.kept k s def room a)
+    (λ s a. (relation_leads s.base.catalog s.base.stmts def a.base.valid (may_add_relation old.kept k s def rel number fits room a).valid, refl)))
+
+pub relation_unchanged : (k : Known) (def : RelDef) (what : What) (c : Option Change) (old : Seen) (result : Result Reply StopError) → relation_limit k ≡ Some what → c ≡ None
+    → TellsChange (λ s. bound_outcome s (CreateRelation def)) k c old result
+relation_unchanged k def what c old result full none =
+    stays_unchanged (λ s. bound_outcome s (CreateRelation def)) (λ s. Refused (Full what)) k c old result none (λ s a. relation_full old.kept k s def what full a) (λ s. refl)

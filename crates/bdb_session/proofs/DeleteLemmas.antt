@@ -1,5 +1,5 @@
 -- What comes of a delete, by what was read and written.
-use Rattle.std.proofs.Common.{◌≡◌, ◌∙◌, ℕ, true, ◌&&◌, nat_le, nat_lt, List, Result, ap, sym, subst, length}
+use Rattle.std.proofs.Common.{◌≡◌, ◌∙◌, ℕ, true, ◌&&◌, nat_le, nat_lt, List, [], Option, Result, ap, sym, subst, length}
 use Rattle.std.specs.List.{list_all}
 use Rattle.std.proofs.lemmas.Bool.{and_parts}
 use Rattle.bdb_base.specs.Alternation.{alternates}
@@ -19,6 +19,9 @@ use Rattle.bdb_keep.specs.Seen.{Seen}
 use Rattle.bdb_keep.specs.Tables.{Tables}
 use Rattle.bdb_render.specs.Replies.{count_reply}
 use Rattle.bdb_tables.specs.Stored.{Stores}
+use Rattle.bdb_undo.specs.declared.change.Change.{Change}
+use Rattle.bdb_undo.specs.declared.change.Named.TheVariants.{Nothing}
+use Rattle.bdb_undo.proofs.ChangeLemmas.{takes_lead}
 use Rattle.bdb_update.specs.Calls.{StoresSized, are_apart, of_stmts, without_statements}
 use Rattle.bdb_update.specs.Replacing.{MayGo, SomeMayGo, Go}
 use Rattle.bdb_val.proofs.Calls.{HasGone}
@@ -26,9 +29,11 @@ use Rattle.bdb_session.specs.declared.reply.Reply.{Reply}
 use Rattle.bdb_session.specs.declared.stop.StopError.{StopError}
 use Rattle.bdb_session.specs.Known.{Known, Agrees, AgreesOnSome}
 use Rattle.bdb_session.specs.Machine.{bound_outcome, with_stmts}
+use Rattle.bdb_session.specs.Noting.{made_of}
 use Rattle.bdb_session.specs.Outcome.{State, Done}
-use Rattle.bdb_session.specs.Within.{TellsWithin, IsSaid, sized}
+use Rattle.bdb_session.specs.Within.{LeadsBy, TellsChange, TellsWithin, IsSaid, sized}
 use Rattle.bdb_session.proofs.LimitLemmas.{no_limit}
+use Rattle.bdb_session.proofs.NotingLemmas.{made_leads, told_changes}
 use Rattle.bdb_session.proofs.OutcomeLemmas.{becomes_done}
 use Rattle.bdb_session.proofs.TakenLemmas.{taken_stand, taken_apart, others_are_left}
 use Rattle.bdb_session.proofs.WithinLemmas.{said_tells}
@@ -92,3 +97,18 @@ module _ (k : Known) (before : Counts) (t u : Tables) (w : List ℕ) (sign : Sig
       ∙ ap (λ m. Done (count_reply m) 0 (next s)) (sym (many ∙ ap length (gone_is s (from s a)))))
       (λ s a. let d = deleted mid.kept after go s (from s a) in record { base = record { stored = d.stored; valid = d.valid }; catalog = a.catalog; counts = d.counted })
       (λ s. said (next s))
+
+  -- ---- which change is told of it
+
+  abbrev gone_change : List Stmt → Change
+  gone_change xs = record { named = Nothing; gone = xs; come = [] }
+
+  pub delete_changes : (old mid : Seen) (after : Counts) (result : Result Reply StopError) (c : Option Change) → old.kept ≡ t → Go u mid.kept before after gone
+      → c ≡ made_of (record { named = Nothing; gone = gone; come = [] }) → TellsChange (λ s. bound_outcome s (Delete w sign rel conds)) (sized k before) c old result
+  delete_changes old mid after result c start go is =
+      let from = λ (s : State) (a : Agrees old.kept (sized k before) s). subst (λ (x : Tables). Agrees x (sized k before) s) start a in
+      let next = λ (s : State). record s { base = with_stmts s.base (without_taken w sign rel conds s.base.stmts) } in
+      told_changes (λ s. bound_outcome s (Delete w sign rel conds)) (λ s. Done (count_reply (length (taken_by w sign rel conds s.base.stmts))) 0 (next s)) (sized k before) c old result
+      (λ s a. becomes_done s (next s).base (count_reply (length (taken_by w sign rel conds s.base.stmts))) (no_limit (next s).base (deleted mid.kept after go s (from s a)).valid))
+      (λ s a. subst (λ (o : Option Change). LeadsBy o s.base (next s).base) (sym (is ∙ ap (λ xs. made_of (gone_change xs)) (gone_is s (from s a))))
+      (made_leads (gone_change (taken_by w sign rel conds s.base.stmts)) s.base (next s).base (takes_lead s.base.catalog s.base.stmts (is_taken w sign rel conds) a.base.valid)))

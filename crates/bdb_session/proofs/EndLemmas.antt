@@ -3,7 +3,7 @@ use Rattle.std.proofs.Common.{◌≡◌, ◌∙◌, ℕ, ◌+◌, ◌≤◌, len
 use Rattle.std.proofs.lemmas.Bool.{cases_Bool, MatchBool-at_true, MatchBool-at_false}
 use Rattle.bdb_base.specs.declared.kinds.Query.{Query}
 use Rattle.bdb_bind.specs.declared.bound.Bound.{Bound}
-use Rattle.bdb_bind.specs.declared.bound.Bound.TheVariants.{CreateUser, CreateRelation, DropUser, Insert, Delete, Update, Select, Explain, ShowWorld, Why, ShowTables}
+use Rattle.bdb_bind.specs.declared.bound.Bound.TheVariants.{CreateUser, CreateRelation, DropUser, Insert, Delete, Update, Select, Explain, ShowWorld, Why, ShowTables, Undo, Redo}
 use Rattle.bdb_keep.specs.Calls.{IsBegin}
 use Rattle.bdb_keep.specs.Seen.{Seen}
 use Rattle.bdb_session.specs.Bounds.{ReadsAsTold, WritesAsTold}
@@ -72,6 +72,8 @@ module _ (learns : Known) (r : Reply) (before now : Known) (old run mid new : Se
   reads_settle (ShowWorld path) h = read_settles (λ s. world_reads s.base path) h
   reads_settle (Why x) h = read_settles (λ s. why_reads s.base x) h
   reads_settle ShowTables h = tt
+  reads_settle Undo h = tt
+  reads_settle Redo h = tt
 
   pub writes_settle : (b : Bound) → WritesAsTold b before run mid (Ok r) → WritesAsTold b before old new result
   writes_settle (CreateUser name) h = settled_unwritten learns r before now old run mid new began h result ended
@@ -86,6 +88,8 @@ module _ (learns : Known) (r : Reply) (before now : Known) (old run mid new : Se
   writes_settle (ShowWorld path) h = nothing_settles h
   writes_settle (Why x) h = nothing_settles h
   writes_settle ShowTables h = nothing_settles h
+  writes_settle Undo h = settled_unwritten learns r before now old run mid new began h result ended
+  writes_settle Redo h = settled_unwritten learns r before now old run mid new began h result ended
 
 -- ---- one that stopped
 
@@ -101,6 +105,8 @@ reads_stop (Explain q) k old new stop = λ s a. tt
 reads_stop (ShowWorld path) k old new stop = λ s a. tt
 reads_stop (Why x) k old new stop = λ s a. tt
 reads_stop ShowTables k old new stop = tt
+reads_stop Undo k old new stop = tt
+reads_stop Redo k old new stop = tt
 
 -- a step that stopped, after a begin that wrote nothing
 pub writes_stop : (b : Bound) (k : Known) (old run new : Seen) (stop : StopError) → run.writes ≡ old.writes → WritesAsTold b k run new (Err stop) → WritesAsTold b k old new (Err stop)
@@ -115,6 +121,8 @@ writes_stop (Explain q) k old run new stop e h = record { kept = tt; writes = h.
 writes_stop (ShowWorld path) k old run new stop e h = record { kept = tt; writes = h.writes ∙ e }
 writes_stop (Why x) k old run new stop e h = record { kept = tt; writes = h.writes ∙ e }
 writes_stop ShowTables k old run new stop e h = record { kept = tt; writes = h.writes ∙ e }
+writes_stop Undo k old run new stop e h = tt
+writes_stop Redo k old run new stop e h = tt
 
 -- a transaction that didn't begin
 pub writes_unbegun : (b : Bound) (k : Known) (old new : Seen) (stop : StopError) → new.writes ≡ old.writes → WritesAsTold b k old new (Err stop)
@@ -129,3 +137,5 @@ writes_unbegun (Explain q) k old new stop e = record { kept = tt; writes = e }
 writes_unbegun (ShowWorld path) k old new stop e = record { kept = tt; writes = e }
 writes_unbegun (Why x) k old new stop e = record { kept = tt; writes = e }
 writes_unbegun ShowTables k old new stop e = record { kept = tt; writes = e }
+writes_unbegun Undo k old new stop e = tt
+writes_unbegun Redo k old new stop e = tt

@@ -1,5 +1,5 @@
 -- What comes of an insert, by what is answered where the statement is added to tables.
-use Rattle.std.proofs.Common.{◌≡◌, ◌∙◌, ℕ, Bool, true, false, not, ◌&&◌, List, [], ◌∷◌, Some, None, Result, Ok, Err, refl, ap, sym, inl, inr}
+use Rattle.std.proofs.Common.{◌≡◌, ◌∙◌, ℕ, Bool, true, false, not, ◌&&◌, List, [], ◌∷◌, Option, Some, None, Result, Ok, Err, refl, ap, sym, subst, inl, inr}
 use Rattle.std.specs.Prelude.{find, if◌then◌else◌}
 use Rattle.std.specs.List.{list_any, list_all}
 use Rattle.std.specs.Ordering.{is_eq}
@@ -16,10 +16,14 @@ use Rattle.bdb_base.proofs.SetLemmas.{is_eq-Equal}
 use Rattle.bdb_bind.specs.declared.bound.Bound.TheVariants.{Insert}
 use Rattle.bdb_canon.specs.Sizes.{counts_of}
 use Rattle.bdb_canon.specs.declared.sizes.Counts.{Counts}
+use Rattle.bdb_keep.specs.Calls.{IsUndo}
 use Rattle.bdb_keep.specs.Seen.{Seen, NeverFall}
 use Rattle.bdb_render.specs.Replies.{count_reply}
 use Rattle.bdb_render.specs.declared.refusal.Refusal.TheVariants as refusal
 use Rattle.bdb_tables.proofs.SignLemmas.{put_stands}
+use Rattle.bdb_undo.specs.declared.change.Change.{Change}
+use Rattle.bdb_undo.specs.declared.change.Named.TheVariants.{Nothing}
+use Rattle.bdb_undo.proofs.ChangeLemmas.{put_leads}
 use Rattle.bdb_update.specs.Calls.{MayMeet, SomeMayMeet, Adds, IsAdding, clash_of, size_passed, with_one}
 use Rattle.bdb_update.specs.declared.answer.Added.TheVariants.{New, Already}
 use Rattle.bdb_update.specs.declared.answer.UpdateError.{UpdateError}
@@ -28,13 +32,15 @@ use Rattle.bdb_update.proofs.CallLemmas.{gone_itself}
 use Rattle.bdb_update.proofs.JoinLemmas.{may_join}
 use Rattle.bdb_session.specs.declared.reply.Reply.{Reply}
 use Rattle.bdb_session.specs.declared.stop.StopError.{StopError}
+use Rattle.bdb_session.specs.declared.stop.StopError.TheVariants.{Fault, Memory}
 use Rattle.bdb_session.specs.Known.{Known, Agrees, AgreesOnSome}
 use Rattle.bdb_session.specs.Machine.{bound_outcome, becomes, clash_with, clashes_with, clashing, with_stmts}
 use Rattle.bdb_session.specs.Outcome.{State, Refused, Done}
-use Rattle.bdb_session.specs.Within.{TellsWithin, IsSaid, Refuses, sized}
+use Rattle.bdb_session.specs.Within.{TellsChange, TellsWithin, IsSaid, Refuses, sized}
 use Rattle.bdb_session.proofs.ChangeFacts.{size_limit, change_stopped, change_failed, untouched_agrees}
+use Rattle.bdb_session.proofs.NotingLemmas.{told_changes, stays_unchanged, stopped_unchanged}
 use Rattle.bdb_session.proofs.OutcomeLemmas.{becomes_done, becomes_full, becomes_itself, unless_none, unless_some}
-use Rattle.bdb_session.proofs.WithinLemmas.{said_tells}
+use Rattle.bdb_session.proofs.WithinLemmas.{memory_tells, said_tells}
 
 -- what all statements pass is passed by one that stands
 member_passes : (p : Stmt → Bool) (stmts : List Stmt) (x : Stmt) → list_all p stmts ≡ true → stands stmts x ≡ true → p x ≡ true
@@ -119,6 +125,12 @@ module _ (k : Known) (x : Stmt) (before after : Counts) (old mid : Seen) (fits :
       (λ s a. let h = at s a in insert_new s x a.base.valid h.apart h.room h.fresh)
       (λ s a. new_agrees s a (at s a)) (λ s. said (record s { base = with_one s.base x }))
 
+  pub insert_tells_memory : (new : Seen) → AgreesOnSome old.kept (sized k before) → NeverFall old mid → Adds old mid before after x (Ok New) → IsUndo mid new
+      → TellsWithin (λ s. bound_outcome s (Insert x)) (sized k before) (sized k after) old new (Err Memory)
+  insert_tells_memory new some fall adds undo =
+      memory_tells (λ s. bound_outcome s (Insert x)) (sized k before) (sized k after) old mid new
+      (record { goes = (adds some.state.base (insert_meets some.state some.agrees)).becomes.goes_on; counts = fall }) undo
+
   pub insert_tells_already : (new : Seen) (result : Result Reply StopError) → AgreesOnSome old.kept (sized k before) → NeverFall old mid → Adds old mid before after x (Ok Already)
       → ((s : State) → IsSaid k.catalog (Done (count_reply 0) 0 s) mid new result) → TellsWithin (λ s. bound_outcome s (Insert x)) (sized k before) (sized k after) old new result
   insert_tells_already new result some fall adds said =
@@ -146,3 +158,34 @@ module _ (k : Known) (x : Stmt) (before after : Counts) (old mid : Seen) (fits :
       change_failed (λ s. bound_outcome s (Insert x)) (sized k before) (sized k after) before after old old mid new result (gone_itself old) fall (adds some.state.base (insert_meets some.state some.agrees)) said
   insert_tells_err new result change.Memory some fall adds said =
       change_stopped (λ s. bound_outcome s (Insert x)) (sized k before) (sized k after) before after old old mid new result (gone_itself old) fall (adds some.state.base (insert_meets some.state some.agrees)) said
+
+  -- ---- which change is told of it
+
+  pub insert_changes_new : (result : Result Reply StopError) (c : Change) → c ≡ record { named = Nothing; gone = []; come = x ∷ [] } → Adds old mid before after x (Ok New)
+      → TellsChange (λ s. bound_outcome s (Insert x)) (sized k before) (Some c) old result
+  insert_changes_new result c is adds =
+      let at = λ (s : State) (a : Agrees old.kept (sized k before) s). adds s.base (insert_meets s a) in
+      subst (λ (d : Change). TellsChange (λ s. bound_outcome s (Insert x)) (sized k before) (Some d) old result) (sym is)
+      (told_changes (λ s. bound_outcome s (Insert x)) (λ s. Done (count_reply 1) 0 (record s { base = with_one s.base x })) (sized k before) (Some (record { named = Nothing; gone = []; come = x ∷ [] })) old result
+      (λ s a. let h = at s a in insert_new s x a.base.valid h.apart h.room h.fresh)
+      (λ s a. let h = at s a in (
+        put_leads s.base.catalog s.base.stmts x a.base.valid (may_join s.base x a.base.valid (insert_meets s a).belongs h.apart h.room).next h.fresh,
+        refl,
+      )))
+
+  pub insert_changes_already : (result : Result Reply StopError) (c : Option Change) → c ≡ None → Adds old mid before after x (Ok Already)
+      → TellsChange (λ s. bound_outcome s (Insert x)) (sized k before) c old result
+  insert_changes_already result c none adds =
+      stays_unchanged (λ s. bound_outcome s (Insert x)) (λ s. Done (count_reply 0) 0 s) (sized k before) c old result none
+      (λ s a. insert_already s x a.base.valid (adds s.base (insert_meets s a)).there) (λ s. refl)
+
+  pub insert_changes_err : (new : Seen) (result : Result Reply StopError) (c : Option Change) (e : UpdateError) → c ≡ None → Adds old mid before after x (Err e)
+      → Refuses k.catalog e mid new result → TellsChange (λ s. bound_outcome s (Insert x)) (sized k before) c old result
+  insert_changes_err new result c (change.Clash least) none adds said =
+      stays_unchanged (λ s. bound_outcome s (Insert x)) (λ s. Refused (clash_with least)) (sized k before) c old result none
+      (λ s a. insert_clashes s x least (adds s.base (insert_meets s a)).clash) (λ s. refl)
+  insert_changes_err new result c (change.Full what) none adds said =
+      stays_unchanged (λ s. bound_outcome s (Insert x)) (λ s. Refused (refusal.Full what)) (sized k before) c old result none
+      (λ s a. let h = adds s.base (insert_meets s a) in insert_fills s x what a.base.valid h.apart h.passed) (λ s. refl)
+  insert_changes_err new result c change.Fault none adds said = stopped_unchanged (λ s. bound_outcome s (Insert x)) (sized k before) c old mid new result Fault said
+  insert_changes_err new result c change.Memory none adds said = stopped_unchanged (λ s. bound_outcome s (Insert x)) (sized k before) c old mid new result Memory said

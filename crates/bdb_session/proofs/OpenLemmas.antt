@@ -27,9 +27,11 @@ use Rattle.bdb_tables.specs.Codec.{place}
 use Rattle.bdb_tables.specs.InUse.{meta_codec}
 use Rattle.bdb_tables.specs.Stored.{Stores}
 use Rattle.bdb_session.specs.declared.stop.StopError.{StopError}
-use Rattle.bdb_session.specs.Known.{Known, Agrees, AgreesOnSome}
+use Rattle.bdb_undo.specs.Histories.{nothing_kept}
+use Rattle.bdb_undo.specs.Timelines.{started}
+use Rattle.bdb_undo.proofs.TimelineLemmas.{nothing_kept_starts}
+use Rattle.bdb_session.specs.Known.{Known, Remembers, RemembersSome}
 use Rattle.bdb_session.specs.Opening.{is_former, opening, KnowsStored, Opens}
-use Rattle.bdb_session.specs.Outcome.{start_from}
 
 -- ---- what is known of the tables
 
@@ -40,11 +42,14 @@ pub stored_valid : (t : Tables) (b : Contents) → stored.StoresValid t b → St
 stored_valid t b h = record { stored = h.stored; valid = h.valid }
 
 pub knows_parts : (t : Tables) (users : List UserSlot) (rels : List RelDef) (counts : Counts) → IsPartOf (λ b. b.catalog.users) t users → IsPartOf (λ b. b.catalog.rels) t rels
-    → TellsCounts t counts → KnowsStored t (record { catalog = record { rels = rels; users = users }; counts = counts })
+    → TellsCounts t counts → KnowsStored t (record { catalog = record { rels = rels; users = users }; counts = counts; history = nothing_kept })
 knows_parts t users rels counts u r c = λ b h. record {
-  base = h;
-  catalog = ap (λ (us : List UserSlot). record { rels = rels; users = us }) (u b h) ∙ ap (λ (rs : List RelDef). record { rels = rs; users = b.catalog.users }) (r b h);
-  counts = c b (record { stored = h.stored; valid = h.valid });
+  agrees = record {
+    base = h;
+    catalog = ap (λ (us : List UserSlot). record { rels = rels; users = us }) (u b h) ∙ ap (λ (rs : List RelDef). record { rels = rs; users = b.catalog.users }) (r b h);
+    counts = c b (record { stored = h.stored; valid = h.valid });
+  };
+  history = nothing_kept_starts b;
 }
 
 pub empty_is_valid : IsValid empty_contents.catalog empty_contents.stmts
@@ -53,17 +58,16 @@ empty_is_valid = record {
   stmts = record { sorted = refl; belong = refl; no_clash = refl; few_stmts = refl; few_tuples = refl; few_worlds = refl };
 }
 
-pub agrees_empty : (t : Tables) (users : List UserSlot) (rels : List RelDef) → users ≡ [] → rels ≡ [] → Stores t empty_contents
-    → Agrees t (record { catalog = record { rels = rels; users = users }; counts = record { worlds = 1; tuples = 0; stmts = 0; rows = 0 } }) (start_from empty_contents)
-agrees_empty t users rels u r h = record {
-  base = record { stored = h; valid = empty_is_valid };
-  catalog = ap (λ (us : List UserSlot). record { rels = rels; users = us }) u ∙ ap (λ (rs : List RelDef). record { rels = rs; users = [] }) r;
-  counts = refl;
+pub remembers_empty : (t : Tables) → Stores t empty_contents
+    → Remembers t (record { catalog = empty_contents.catalog; counts = record { worlds = 1; tuples = 0; stmts = 0; rows = 0 }; history = nothing_kept }) (started empty_contents)
+remembers_empty t h = record {
+  agrees = record { base = record { stored = h; valid = empty_is_valid }; catalog = refl; counts = refl };
+  history = nothing_kept_starts empty_contents;
 }
 
 -- a session over what was just written knows the base that was
-pub agrees_written : (t u : Tables) (b : Contents) (k : Known) → stored.StoresValid t b → u ≡ t → KnowsStored t k → Agrees u k (start_from b)
-agrees_written t u b k h same knows = subst (λ (x : Tables). Agrees x k (start_from b)) (sym same) (knows b (stored_valid t b h))
+pub agrees_written : (t u : Tables) (b : Contents) (k : Known) → stored.StoresValid t b → u ≡ t → KnowsStored t k → Remembers u k (started b)
+agrees_written t u b k h same knows = subst (λ (x : Tables). Remembers x k (started b)) (sym same) (knows b (stored_valid t b h))
 
 -- ---- reads where nothing runs
 
@@ -100,33 +104,33 @@ pub none_stand : (t : Tables) (x : Stand) → TellsStand t x → ((b : Contents)
 none_stand t x h none = none (base_of x) (stands_by t x h)
 
 -- what is read of tables that store a base
-agrees_stored : (t u : Tables) (b : Contents) (r : Result Known StopError) → StoresValid t b → u ≡ t → IfOk r (λ k. KnowsStored t k) → IfOk r (λ k. Agrees u k (start_from b))
-agrees_stored t u b (Ok k) h same knows = subst (λ (x : Tables). Agrees x k (start_from b)) (sym same) (knows b h)
+agrees_stored : (t u : Tables) (b : Contents) (r : Result Known StopError) → StoresValid t b → u ≡ t → IfOk r (λ k. KnowsStored t k) → IfOk r (λ k. Remembers u k (started b))
+agrees_stored t u b (Ok k) h same knows = subst (λ (x : Tables). Remembers x k (started b)) (sym same) (knows b h)
 agrees_stored t u b (Err stop) h same knows = tt
 
 -- a session that agrees with tables on a base for which the old ones stand
-opens_on : (t u : Tables) (b : Contents) (r : Result Known StopError) → StandFor t b → IfOk r (λ k. Agrees u k (start_from b)) → IfOk r (λ k. Opens t u k)
-opens_on t u b (Ok k) stands made = λ c other. subst (λ (x : Contents). Agrees u k (start_from x)) (one_base_at_most t b c stands other) made
+opens_on : (t u : Tables) (b : Contents) (r : Result Known StopError) → StandFor t b → IfOk r (λ k. Remembers u k (started b)) → IfOk r (λ k. Opens t u k)
+opens_on t u b (Ok k) stands made = λ c other. subst (λ (x : Contents). Remembers u k (started x)) (one_base_at_most t b c stands other) made
 opens_on t u b (Err stop) stands made = tt
 
-pub agrees_some : (u : Tables) (b : Contents) (r : Result Known StopError) → IfOk r (λ k. Agrees u k (start_from b)) → IfOk r (λ k. AgreesOnSome u k)
-agrees_some u b (Ok k) made = record { state = start_from b; agrees = made }
+pub agrees_some : (u : Tables) (b : Contents) (r : Result Known StopError) → IfOk r (λ k. Remembers u k (started b)) → IfOk r (λ k. RemembersSome u k)
+agrees_some u b (Ok k) made = record { timeline = started b; remembers = made }
 agrees_some u b (Err stop) made = tt
 
 module _ (t u : Tables) (x : Stand) (r : Result Known StopError) (tells : TellsStand t x) where
   is_stand : (y : Stand) → x ≡ y → TellsStand t y
   is_stand y e = subst (TellsStand t) e tells
 
-  pub opened_new : x ≡ Empty → IfOk r (λ k. Agrees u k (start_from empty_contents)) → IfOk r (λ k. Opens t u k)
+  pub opened_new : x ≡ Empty → IfOk r (λ k. Remembers u k (started empty_contents)) → IfOk r (λ k. Opens t u k)
   opened_new e made = opens_on t u empty_contents r (stands_by t Empty (is_stand Empty e)) made
 
   pub opened_read : (b : Contents) → x ≡ Stored b → u ≡ t → IfOk r (λ k. KnowsStored t k) → IfOk r (λ k. Opens t u k)
   opened_read b e same knows = opens_on t u b r (stands_by t (Stored b) (is_stand (Stored b) e)) (agrees_stored t u b r (is_stand (Stored b) e) same knows)
 
-  pub agrees_read : (b : Contents) → x ≡ Stored b → u ≡ t → IfOk r (λ k. KnowsStored t k) → IfOk r (λ k. AgreesOnSome u k)
+  pub agrees_read : (b : Contents) → x ≡ Stored b → u ≡ t → IfOk r (λ k. KnowsStored t k) → IfOk r (λ k. RemembersSome u k)
   agrees_read b e same knows = agrees_some u b r (agrees_stored t u b r (is_stand (Stored b) e) same knows)
 
-  pub opened_anew : (b : Contents) → x ≡ Former b → IfOk r (λ k. Agrees u k (start_from b)) → IfOk r (λ k. Opens t u k)
+  pub opened_anew : (b : Contents) → x ≡ Former b → IfOk r (λ k. Remembers u k (started b)) → IfOk r (λ k. Opens t u k)
   opened_anew b e made = opens_on t u b r (stands_by t (Former b) (is_stand (Former b) e)) made
 
 pub stored_some : (t : Tables) (x : Stand) (b : Contents) → TellsStand t x → x ≡ Stored b → StoresSome t

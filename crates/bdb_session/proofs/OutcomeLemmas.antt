@@ -7,6 +7,7 @@ use Rattle.bdb_base.specs.Bases.{Contents, IsValid, stands, with_relation, with_
 use Rattle.bdb_base.specs.Changes.{statements_naming, taken_by, updated, without_taken}
 use Rattle.bdb_base.specs.Queries.{answers_of}
 use Rattle.bdb_base.specs.declared.kinds.Cond.{Cond}
+use Rattle.bdb_base.specs.declared.kinds.Query.{Query}
 use Rattle.bdb_base.specs.declared.kinds.SetCol.{SetCol}
 use Rattle.bdb_base.specs.declared.kinds.Sign.{Sign}
 use Rattle.bdb_base.specs.declared.kinds.Stmt.{Stmt}
@@ -14,7 +15,7 @@ use Rattle.bdb_base.specs.declared.kinds.What.{What}
 use Rattle.bdb_bind.specs.declared.bound.BindError.{BindError}
 use Rattle.bdb_bind.specs.declared.bound.BindError.TheVariants.{Memory}
 use Rattle.bdb_bind.specs.declared.bound.Bound.{Bound}
-use Rattle.bdb_bind.specs.declared.bound.Bound.TheVariants.{CreateUser, CreateRelation, DropUser, Insert, Delete, Update, Select, Explain, ShowWorld, Why, ShowTables}
+use Rattle.bdb_bind.specs.declared.bound.Bound.TheVariants.{CreateUser, CreateRelation, DropUser, Insert, Delete, Update, Select, Explain, ShowWorld, Why, ShowTables, Undo, Redo}
 use Rattle.bdb_bind.specs.Binding.{bound_of}
 use Rattle.bdb_bind.specs.Refusal.{refusal_of}
 use Rattle.bdb_canon.specs.Canonical.{canon_of, line_count}
@@ -23,7 +24,7 @@ use Rattle.bdb_render.specs.Tables.{tables_reply}
 use Rattle.bdb_render.specs.declared.refusal.Refusal.{Refusal}
 use Rattle.bdb_render.specs.declared.refusal.Refusal.TheVariants as refusal
 use Rattle.bdb_session.specs.Machine.{refusal_from, base_without, becomes, bound_outcome, clashes_with, clashing, clashing_within, command_outcome, tells, with_catalog, with_stmts}
-use Rattle.bdb_session.specs.Outcome.{State, Outcome, Refused, Done, unless, is_accepted, commit_count}
+use Rattle.bdb_session.specs.Outcome.{State, Outcome, Refused, Done, unless, is_accepted, commit_count, state_after}
 use Rattle.bdb_session.specs.Sizes.{passed_limit, too_many}
 use Rattle.bdb_syntax.specs.declared.command.Command.{Command}
 use Rattle.bdb_session.proofs.LimitLemmas.{no_limit}
@@ -102,3 +103,20 @@ bound_counts (Explain q) s = λ e. refl
 bound_counts (ShowWorld path) s = λ e. refl
 bound_counts (Why x) s = λ e. refl
 bound_counts ShowTables s = tells_counts s (line_count s.base.catalog (canon_of s.base)) (tables_reply s.base.catalog (canon_of s.base)) 0
+bound_counts Undo s = λ e. absurd (false≢true e)
+bound_counts Redo s = λ e. absurd (false≢true e)
+
+-- ---- what is told leaves the base as it is
+
+unless_stays : (s : State) (o : Option Refusal) (x : Outcome) → state_after s x ≡ s → state_after s (unless o x) ≡ s
+unless_stays s None x e = e
+unless_stays s (Some r) x e = refl
+
+tells_stays : (s : State) (lines : ℕ) (text : List ℕ) (answers : ℕ) → state_after s (tells s lines text answers) ≡ s
+tells_stays s lines text answers = unless_stays s (too_many lines) (Done text answers s) refl
+
+pub select_stays : (q : Query) (s : State) → state_after s (bound_outcome s (Select q)) ≡ s
+select_stays q s = tells_stays s (length (answers_of s.base q)) (rows_reply (answers_of s.base q)) (length (answers_of s.base q))
+
+pub tables_stay : (s : State) → state_after s (bound_outcome s ShowTables) ≡ s
+tables_stay s = tells_stays s (line_count s.base.catalog (canon_of s.base)) (tables_reply s.base.catalog (canon_of s.base)) 0

@@ -11,7 +11,9 @@ use Rattle.bdb_base.specs.Bases.{Contents, IsValid, belongs, is_user, fits_kind,
 use Rattle.bdb_base.specs.Changes.{is_taken, taken_by, without_taken, with_statements, updated, changed_statement}
 use Rattle.bdb_base.specs.Conditions.{meets, with_column, changed}
 use Rattle.bdb_base.specs.Limits.{deepest_statement, most_worlds, most_tuples}
+use Rattle.bdb_base.specs.Order.{statement_cmp}
 use Rattle.bdb_base.specs.Same.{same_path, same_sign}
+use Rattle.bdb_base.specs.SortedSet.{sorted_set}
 use Rattle.bdb_base.specs.declared.kinds.Catalog.{Catalog}
 use Rattle.bdb_base.specs.declared.kinds.ColDef.{ColDef}
 use Rattle.bdb_base.specs.declared.kinds.Cond.{Cond}
@@ -34,6 +36,10 @@ use Rattle.bdb_keep.specs.Seen.{Seen, NeverFall}
 use Rattle.bdb_keep.specs.Tables.{Tables}
 use Rattle.bdb_render.specs.Replies.{count_reply}
 use Rattle.bdb_render.specs.declared.refusal.Refusal.TheVariants as refusal
+use Rattle.bdb_undo.specs.Changes.{missing_from}
+use Rattle.bdb_undo.specs.declared.change.Change.{Change}
+use Rattle.bdb_undo.specs.declared.change.Named.TheVariants.{Nothing}
+use Rattle.bdb_undo.proofs.ChangeLemmas.{update_leads}
 use Rattle.bdb_update.specs.Calls.{MayChange, SomeMayChange, Changes, IsUntouched, clash_within, of_stmts, size_passed, with_others}
 use Rattle.bdb_update.specs.declared.answer.UpdateError.{UpdateError}
 use Rattle.bdb_update.specs.declared.answer.UpdateError.TheVariants as change
@@ -42,13 +48,16 @@ use Rattle.bdb_update.proofs.WeighLemmas.{may_replace}
 use Rattle.bdb_val.proofs.Calls.{HasGone, gone_then}
 use Rattle.bdb_session.specs.declared.reply.Reply.{Reply}
 use Rattle.bdb_session.specs.declared.stop.StopError.{StopError}
+use Rattle.bdb_session.specs.declared.stop.StopError.TheVariants.{Fault, Memory}
 use Rattle.bdb_session.specs.Known.{Known, Agrees, AgreesOnSome}
 use Rattle.bdb_session.specs.Machine.{bound_outcome, becomes, clash_with, clashes_with, clashing_within, with_stmts}
+use Rattle.bdb_session.specs.Noting.{MayMeetEach, SomeMayMeetEach, Replaces, made_of}
 use Rattle.bdb_session.specs.Outcome.{State, Outcome, Refused, Done, unless}
-use Rattle.bdb_session.specs.Within.{TellsWithin, IsSaid, Refuses, sized}
+use Rattle.bdb_session.specs.Within.{LeadsBy, TellsChange, TellsWithin, IsSaid, Refuses, sized}
 use Rattle.bdb_session.proofs.ChangeFacts.{size_limit, change_stopped, change_failed, untouched_agrees}
 use Rattle.bdb_session.proofs.DeleteLemmas.{gone_is, gone_stand, gone_apart, left_is, stores_sized}
 use Rattle.bdb_session.proofs.LimitLemmas.{no_limit}
+use Rattle.bdb_session.proofs.NotingLemmas.{made_leads, told_changes, stays_unchanged, stopped_unchanged}
 use Rattle.bdb_session.proofs.OutcomeLemmas.{becomes_done, becomes_full, unless_none, unless_some}
 use Rattle.bdb_session.proofs.TakenLemmas.{all_taken, taken_at}
 use Rattle.bdb_session.proofs.WithinLemmas.{said_tells}
@@ -74,7 +83,7 @@ fits_definition_set None vals i v h k = h
 fits_definition_set (Some def) vals i v h k = fits_set_value def.cols vals i v h k
 
 -- a tuple of the relation fits it with the columns set
-sets_fit : (rels : List RelDef) (rel : ℕ) (sets : List SetCol) → list_all (set_fits (columns_numbered rels rel)) sets ≡ true
+pub sets_fit : (rels : List RelDef) (rel : ℕ) (sets : List SetCol) → list_all (set_fits (columns_numbered rels rel)) sets ≡ true
     → (t : Tuple) → t.rel ≡ rel → fits_relation rels t ≡ true → fits_relation rels (changed sets t) ≡ true
 sets_fit rels rel [] h t r f = f
 sets_fit rels rel (s ∷ ss) h t r f =
@@ -85,11 +94,11 @@ sets_fit rels rel (s ∷ ss) h t r f =
 -- ---- the statements that come
 
 -- what an update that fits says
-record UpdateFits (c : Catalog) (w : List ℕ) (rel : ℕ) (sets : List SetCol) : Type 0 where
+pub record UpdateFits (c : Catalog) (w : List ℕ) (rel : ℕ) (sets : List SetCol) : Type 0 where
   pub path : fits_path c.users deepest_statement w ≡ true
   pub fit : list_all (set_fits (columns_numbered c.rels rel)) sets ≡ true
 
-update_fits : (c : Catalog) (w : List ℕ) (sign : Sign) (rel : ℕ) (sets : List SetCol) (conds : List Cond) → fits_catalog c (Update w sign rel sets conds) ≡ true → UpdateFits c w rel sets
+pub update_fits : (c : Catalog) (w : List ℕ) (sign : Sign) (rel : ℕ) (sets : List SetCol) (conds : List Cond) → fits_catalog c (Update w sign rel sets conds) ≡ true → UpdateFits c w rel sets
 update_fits c w sign rel sets conds e =
     let cols = columns_numbered c.rels rel in
     let path = and_parts (fits_path c.users deepest_statement w) (nat_lt rel (length c.rels) && (list_all (set_fits cols) sets && list_all (cond_fits cols) conds)) e in
@@ -160,6 +169,13 @@ module _ (k : Known) (before : Counts) (t u : Tables) (w : List ℕ) (sign : Sig
   pub some_may_change : AgreesOnSome t (sized k before) → SomeMayChange u before w gone come
   some_may_change some = record { base = some.state.base; may = may_change some.state some.agrees }
 
+  -- those that come may be looked for
+  may_meet_each : (s : State) → Agrees t (sized k before) s → MayMeetEach u before come s.base
+  may_meet_each s a = let may = may_change s a in record { base = may.base; belong = may.belong }
+
+  pub some_may_meet_each : AgreesOnSome t (sized k before) → SomeMayMeetEach u before come
+  some_may_meet_each some = record { base = some.state.base; may = may_meet_each some.state some.agrees }
+
   -- the base afterwards
   others_are_updated : (s : State) → Agrees t (sized k before) s → with_others s.base gone come ≡ with_stmts s.base (updated w sign rel conds sets s.base.stmts)
   others_are_updated s a =
@@ -192,6 +208,28 @@ module _ (k : Known) (before : Counts) (t u : Tables) (w : List ℕ) (sign : Sig
       by_others n many s a
       ∙ unless_none (clashes_with (clashing_within (next s) w)) (becomes s (next s) (count_reply n)) (ap clashes_with apart)
       ∙ becomes_done s (next s) (count_reply n) (no_limit (next s) (next_valid s a apart room))
+
+  -- the change that leads to it
+  abbrev change_of : List Stmt → List Stmt → List Stmt → Change
+  change_of stmts xs made = record { named = Nothing; gone = missing_from (sorted_set statement_cmp made) xs; come = missing_from stmts (sorted_set statement_cmp made) }
+
+  update_leads_by : (c : Option Change) (s : State) → Agrees t (sized k before) s → c ≡ made_of (change_of s.base.stmts gone come) → clash_within (next s) w ≡ None
+      → tuple_count (next s).stmts ≤ most_tuples → LeadsBy c s.base (next s)
+  update_leads_by c s a is apart room =
+      let b = s.base in
+      let stmts = b.stmts in
+      let q = is_taken w sign rel conds in
+      let went = taken_by w sign rel conds stmts in
+      let made = map (changed_statement sets) went in
+      let taken_is = gone_is k before t u w sign rel conds gone path_fits taken same s a in
+      let made_is : come ≡ made = changes ∙ ap (map (changed_statement sets)) taken_is in
+      let after : Contents = with_stmts b (updated w sign rel conds sets stmts) in
+      let there : next s ≡ after = others_are_updated s a in
+      let valid = subst (λ (x : Contents). IsValid b.catalog x.stmts) there (next_valid s a apart room) in
+      let leads = made_leads (change_of stmts went made) b after (update_leads b.catalog stmts made q a.base.valid valid) in
+      subst (LeadsBy c b) (sym there)
+      (subst (λ (o : Option Change). LeadsBy o b after)
+      (sym (is ∙ ap (λ xs. made_of (change_of stmts xs come)) taken_is ∙ ap (λ xs. made_of (change_of stmts went xs)) made_is)) leads)
 
   update_clashes : (least : Stmt) (s : State) → Agrees t (sized k before) s → clash_within (next s) w ≡ Some least → outcome s ≡ Refused (clash_with least)
   update_clashes least s a e =
@@ -251,3 +289,23 @@ module _ (k : Known) (before : Counts) (t u : Tables) (w : List ℕ) (sign : Sig
         change_failed outcome (sized k before) (sized k after) before after old mid fin new result gone_on fall (h from_some.state.base (may from_some.state from_some.agrees)) said
     update_tells_err change.Memory h said =
         change_stopped outcome (sized k before) (sized k after) before after old mid fin new result gone_on fall (h from_some.state.base (may from_some.state from_some.agrees)) said
+
+    -- ---- which change is told of it
+
+    pub update_changes_done : (c : Option Change) → Replaces mid.kept before gone come c → Changes mid fin before after w gone come (Ok tt)
+        → TellsChange outcome (sized k before) c old result
+    update_changes_done c replaced h =
+        told_changes outcome (λ s. Done (count_reply (length gone)) 0 (record s { base = next s })) (sized k before) c old result
+        (λ s a. let d = h s.base (may s a) in update_done (length gone) refl s (from s a) d.apart d.room)
+        (λ s a. let d = h s.base (may s a) in
+        update_leads_by c s (from s a) (replaced s.base (subst (λ (x : Tables). MayMeetEach x before come s.base) (sym now) (may_meet_each s (from s a)))) d.apart d.room)
+
+    pub update_changes_err : (c : Option Change) → c ≡ None → (e : UpdateError) → Changes mid fin before after w gone come (Err e) → Refuses k.catalog e fin new result
+        → TellsChange outcome (sized k before) c old result
+    update_changes_err c none (change.Clash least) h said =
+        stays_unchanged outcome (λ s. Refused (clash_with least)) (sized k before) c old result none (λ s a. update_clashes least s (from s a) (h s.base (may s a)).clash) (λ s. refl)
+    update_changes_err c none (change.Full what) h said =
+        stays_unchanged outcome (λ s. Refused (refusal.Full what)) (sized k before) c old result none
+        (λ s a. let d = h s.base (may s a) in update_fills what s (from s a) d.apart d.tuples d.many) (λ s. refl)
+    update_changes_err c none change.Fault h said = stopped_unchanged outcome (sized k before) c old fin new result Fault said
+    update_changes_err c none change.Memory h said = stopped_unchanged outcome (sized k before) c old fin new result Memory said

@@ -114,6 +114,17 @@ tells_as outcome known before from now next old new result is e f h =
       changing = h.changing;
     }))
 
+-- whatever changes the session then keeps
+pub tells_knowing : (outcome : State → Outcome) (before now next : Known) (old new : Seen) (result : Result Reply StopError) → next.catalog ≡ now.catalog → next.counts ≡ now.counts
+    → TellsWithin outcome before now old new result → TellsWithin outcome before next old new result
+tells_knowing outcome before now next old new (Ok r) catalog counts h = record {
+  told = λ s a.
+      let k = h.told s a in
+      record { reply = k.reply; next = record { base = k.next.base; catalog = catalog ∙ k.next.catalog; counts = counts ∙ k.next.counts } };
+  changing = h.changing;
+}
+tells_knowing outcome before now next old new (Err stop) catalog counts h = record { told = λ s a. record { reply = tt; next = tt }; changing = h.changing }
+
 -- ---- the end of a transaction
 
 -- what is dropped is as it was
@@ -140,7 +151,7 @@ begin_stops outcome k old new stop still b =
     dropped_serves outcome k old new stop still b.err b.counts (cause_later {T = Unit {0}} {U = Reply} old.faults old.faults new.faults stop (omega arith) b.cause)
 
 -- what is refused changes nothing
-refused_stays : (s : State) (o : Outcome) → is_accepted o ≡ false → (state_after s o ≡ s) × (commit_count o ≡ 0)
+pub refused_stays : (s : State) (o : Outcome) → is_accepted o ≡ false → (state_after s o ≡ s) × (commit_count o ≡ 0)
 refused_stays s Blank e = absurd cc
 refused_stays s (Refused x) e = (refl, refl)
 refused_stays s (Done text answers next) e = absurd cc

@@ -1,14 +1,17 @@
 -- A batch: lines that are pieces, applied one after the other, all or none of them.
-use Rattle.std.specs.Prelude.{◌≡◌, ℕ, ◌+◌, Bool, true, false, not, List, [], ◌∷◌, ◌++◌, map, Result, IfOk, OnOk, MatchBool, if◌then◌else◌}
+use Rattle.std.specs.Prelude.{◌≡◌, ℕ, ◌+◌, Bool, true, false, not, ◌&&◌, ◌||◌, nat_lt, List, [], ◌∷◌, ◌++◌, length, map, Result, IfOk, OnOk, MatchBool, if◌then◌else◌}
 use Rattle.bdb_base.specs.Causes.{Rises}
 use Rattle.bdb_keep.specs.Seen.{Seen, Unchanged}
+use Rattle.bdb_undo.specs.Histories.{Kept, nothing_kept}
+use Rattle.bdb_undo.specs.Same.{same_contents}
+use Rattle.bdb_undo.specs.Timelines.{Timeline, started}
 use Rattle.bdb_session.specs.declared.batch.BatchReply.{BatchReply}
 use Rattle.bdb_session.specs.declared.event.Event.{Event}
 use Rattle.bdb_session.specs.declared.event.Event.TheVariants.{Piece}
 use Rattle.bdb_session.specs.declared.stop.StopError.{StopError}
 use Rattle.bdb_session.specs.Known.{Known, Agrees}
 use Rattle.bdb_session.specs.Machine.{accepts, next_state, reply_of}
-use Rattle.bdb_session.specs.Outcome.{State}
+use Rattle.bdb_session.specs.Outcome.{State, Outcome, start_from, state_after}
 use Rattle.bdb_session.specs.Runs.{accepts_all, after, replies}
 use Rattle.bdb_session.specs.Served.{Ends}
 use Rattle.bdb_session.specs.Within.{IsKept, IsUndone}
@@ -39,7 +42,43 @@ batch_state s es = if accepts_all s es then after s es else s
 abbrev pub batch_commits : State → List Event → ℕ
 batch_commits s es = if accepts_all s es then 1 else 0
 
+-- some of these events leads from the base before it to another one
+abbrev pub alters_some : State → List Event → Bool
+alters_some s [] = false
+alters_some s (e ∷ es) = not (same_contents s.base (next_state s e).base) || alters_some (next_state s e) es
+
+-- The timeline after a batch: where none of its events is refused and some of them leads to another base, undo and redo lead nowhere from
+-- the base after all of them. Else it is as it was.
+abbrev pub batch_timeline : Timeline → List Event → Timeline
+batch_timeline t es = if accepts_all (start_from t.now) es && alters_some (start_from t.now) es then started (after (start_from t.now) es).base else t
+
 -- ---- within its transaction
+
+-- what a session knows that has made no change yet
+abbrev pub without_changes : Known → Known
+without_changes k = record k { history = nothing_kept }
+
+-- a session has made changes
+abbrev pub is_altered : Known → Bool
+is_altered k = nat_lt 0 (length k.history.undos)
+
+-- the changes that are left to take back and make again: none where a batch made some
+abbrev pub left_by : Bool → Kept → Kept
+left_by altered history = if altered then nothing_kept else history
+
+-- what a session knows that takes over what its copy came to know by a batch
+abbrev pub taken_over : Known → Known → Known
+taken_over k copy = record copy { history = left_by (is_altered copy) k.history }
+
+-- What comes of an event alters the base exactly where the session made a change, whichever state it agrees on with the tables.
+abbrev pub Alters : {T : Type 0} → (State → Outcome) → Known → Known → Seen → Result T StopError → Type 0
+Alters outcome was now old result = (s : State) → Agrees old.kept was s
+    → OnOk result (is_altered now ≡ (is_altered was || not (same_contents s.base (state_after s (outcome s)).base)))
+
+-- Where none of these events is refused, some of them altered the base exactly where the session made a change.
+abbrev pub AlterSome : {T : Type 0} → List Event → Known → Known → Seen → Result T StopError → Type 0
+AlterSome es was now old result = (s : State) → Agrees old.kept was s
+    → OnOk result (accepts_all s es ≡ true → is_altered now ≡ (is_altered was || alters_some s es))
 
 -- An event was carried out, or refused: its reply is told behind what was told before, and the session agrees with the tables on the
 -- state after.
@@ -56,9 +95,10 @@ pub record AreRun (s : State) (es : List Event) (before told : List ℕ) (accept
   pub refused_is : refused ≡ not (accepts_all s es)
   pub next : accepts_all s es ≡ true → Agrees new.kept now (after s es)
 
--- how the transaction of a batch ends
+-- how the transaction of a batch ends, which a copy of the session ran
 abbrev pub SettlesBatch : Known → BatchReply → Known → Known → Seen → Seen → Result BatchReply StopError → Type 0
-SettlesBatch learns told before now old new result = MatchBool told.refused (IsUndone told before now old new result) (IsKept learns told before now old new result)
+SettlesBatch copy told before now old new result =
+    MatchBool told.refused (IsUndone told before now old new result) (IsKept (taken_over before copy) told before now old new result)
 
 -- ---- as a whole
 

@@ -6,7 +6,7 @@ use Rattle.bdb_base.specs.declared.kinds.Catalog.{Catalog}
 use Rattle.bdb_base.specs.declared.kinds.SetCol.{SetCol}
 use Rattle.bdb_base.specs.declared.kinds.Stmt.{Stmt}
 use Rattle.bdb_bind.specs.declared.bound.Bound.{Bound}
-use Rattle.bdb_bind.specs.declared.bound.Bound.TheVariants.{CreateUser, CreateRelation, DropUser, Insert, Delete, Update, Select, Explain, ShowWorld, Why, ShowTables}
+use Rattle.bdb_bind.specs.declared.bound.Bound.TheVariants.{CreateUser, CreateRelation, DropUser, Insert, Delete, Update, Select, Explain, ShowWorld, Why, ShowTables, Undo, Redo}
 use Rattle.bdb_bind.specs.Binding.{bound_of}
 use Rattle.bdb_bind.specs.Refusal.{refusal_of}
 use Rattle.bdb_keep.specs.Seen.{Seen}
@@ -71,7 +71,7 @@ pub record LeavesAsTold (b : Contents) (uid : ℕ) (old new : Seen) (result : Re
   pub accepted : IfOk result (λ r. r.accepted ≡ true)
 
 -- A statement is added within its bound. Statements are taken away or changed step by step, whichever base the tables store. What is
--- shown, answered, explained or asked for its reasons writes nothing, nor does a user or a relation that is refused.
+-- shown, answered, explained or asked for its reasons writes nothing, nor does a user, a relation, an undo or a redo that is refused.
 abbrev pub WritesAsTold : Bound → Known → Seen → Seen → Result Reply StopError → Type 0
 WritesAsTold (CreateUser name) k old new result = RefusedUnwritten old new result
 WritesAsTold (CreateRelation def) k old new result = RefusedUnwritten old new result
@@ -86,6 +86,8 @@ WritesAsTold (Explain q) k old new result = WritesNothing old new result
 WritesAsTold (ShowWorld path) k old new result = WritesNothing old new result
 WritesAsTold (Why x) k old new result = WritesNothing old new result
 WritesAsTold ShowTables k old new result = WritesNothing old new result
+WritesAsTold Undo k old new result = RefusedUnwritten old new result
+WritesAsTold Redo k old new result = RefusedUnwritten old new result
 
 -- a command reads and writes so, where binding it is not refused
 abbrev pub CommandReads : Command → Known → Seen → Seen → Result Reply StopError → Type 0

@@ -1,4 +1,4 @@
--- The belief machine: what comes of each event of a script.
+-- The belief machine over one base: what comes of each event. Undo and redo are no commands of it; with them it is that of `Undoing`.
 use Rattle.std.specs.Prelude.{ℕ, ◌+◌, Bool, List, ◌++◌, length, Option, None, Some, if◌then◌else◌}
 use Rattle.std.specs.Option.{option_map, option_and_then}
 use Rattle.bdb_base.specs.declared.kinds.Catalog.{Catalog}
@@ -12,7 +12,7 @@ use Rattle.bdb_base.specs.WorldRows.{world_of}
 use Rattle.bdb_base.specs.Changes.{taken_by, without_taken, updated, first_clashing, statements_naming, without_statements_of}
 use Rattle.bdb_syntax.specs.declared.command.Command.{Command}
 use Rattle.bdb_bind.specs.declared.bound.Bound.{Bound}
-use Rattle.bdb_bind.specs.declared.bound.Bound.TheVariants.{CreateUser, CreateRelation, DropUser, Insert, Delete, Update, Select, Explain, ShowWorld, Why, ShowTables}
+use Rattle.bdb_bind.specs.declared.bound.Bound.TheVariants.{CreateUser, CreateRelation, DropUser, Insert, Delete, Update, Select, Explain, ShowWorld, Why, ShowTables, Undo, Redo}
 use Rattle.bdb_bind.specs.declared.bound.BindError.{BindError}
 use Rattle.bdb_bind.specs.declared.bound.BindError.TheVariants as bind
 use Rattle.bdb_bind.specs.Refusal.{refusal_of}
@@ -120,6 +120,8 @@ bound_outcome s (Explain query) = Done (plan_reply s.base.catalog query) 0 s
 bound_outcome s (ShowWorld path) = Done (world_reply s.base.catalog (world_at s.base path)) 0 s
 bound_outcome s (Why x) = Done (why_reply s.base.catalog x.path x.tuple x.sign (certificate s.base x)) 0 s
 bound_outcome s ShowTables = tells s (line_count s.base.catalog (canon_of s.base)) (tables_reply s.base.catalog (canon_of s.base)) 0
+bound_outcome s Undo = Refused refusal.Syntax
+bound_outcome s Redo = Refused refusal.Syntax
 
 -- ---- what comes of a command as it is written, of what a piece says, and of an event
 

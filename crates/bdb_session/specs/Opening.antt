@@ -9,8 +9,8 @@ use Rattle.bdb_keep.specs.Tables.{Tables}
 use Rattle.bdb_key.specs.Bytes.{num_bytes}
 use Rattle.bdb_tables.specs.Codec.{place}
 use Rattle.bdb_tables.specs.InUse.{meta_codec}
-use Rattle.bdb_session.specs.Known.{Known, Agrees}
-use Rattle.bdb_session.specs.Outcome.{start_from}
+use Rattle.bdb_undo.specs.Timelines.{started}
+use Rattle.bdb_session.specs.Known.{Known, Remembers}
 
 -- a row of the format is that of the format before this one
 abbrev pub is_former : Option (List ℕ) → Bool
@@ -21,10 +21,10 @@ is_former (Some row) = same_text row (num_bytes 2)
 abbrev pub opening : Tables → ℕ
 opening t = if nat_eq (tables.len t) 0 || is_former (tables.get t (place meta_codec tt)) then 1 else 0
 
--- a session over new tables agrees with them on the base for which the old ones stand, whichever it is
+-- a session over new tables agrees with them on the base for which the old ones stand, whichever it is, and knows of no other base
 abbrev pub Opens : Tables → Tables → Known → Type 0
-Opens t u k = (b : Contents) → StandFor t b → Agrees u k (start_from b)
+Opens t u k = (b : Contents) → StandFor t b → Remembers u k (started b)
 
--- a session agrees with tables on the base that they store, whichever valid one it is
+-- a session agrees with tables on the base that they store, whichever valid one it is, and knows of no other base
 abbrev pub KnowsStored : Tables → Known → Type 0
-KnowsStored t k = (b : Contents) → StoresValid t b → Agrees t k (start_from b)
+KnowsStored t k = (b : Contents) → StoresValid t b → Remembers t k (started b)

@@ -1,10 +1,14 @@
 -- What a session does within a transaction: what it tells of a step there, and how the transaction ends.
-use Rattle.std.specs.Prelude.{◌≡◌, Option, None, Some, Result, Ok, Err, IfOk, OnOk, OnErr, IsErrOf, MatchBool}
+use Rattle.std.specs.Prelude.{◌≡◌, true, Option, None, Some, Result, Ok, Err, IfOk, OnOk, OnErr, IsErrOf, MatchBool}
+use Rattle.bdb_base.specs.Bases.{Contents}
 use Rattle.bdb_base.specs.declared.kinds.Catalog.{Catalog}
 use Rattle.bdb_canon.specs.declared.sizes.Counts.{Counts}
 use Rattle.bdb_keep.specs.Calls.{IsCommit, IsUndo}
 use Rattle.bdb_keep.specs.Seen.{Seen}
 use Rattle.bdb_render.specs.declared.refusal.Refusal.TheVariants as refusal
+use Rattle.bdb_undo.specs.Changes.{Leads, alters}
+use Rattle.bdb_undo.specs.Histories.{Kept, noted}
+use Rattle.bdb_undo.specs.declared.change.Change.{Change}
 use Rattle.bdb_update.specs.declared.answer.UpdateError.{UpdateError}
 use Rattle.bdb_update.specs.declared.answer.UpdateError.TheVariants as change
 use Rattle.bdb_val.specs.Steps.{IsChanging}
@@ -27,13 +31,18 @@ abbrev pub catalog_by : Catalog → Option Names → Catalog
 catalog_by c None = c
 catalog_by c (Some names) = names.catalog
 
+-- the changes kept with this one noted, where there is one
+abbrev pub noted_by : Option Change → Kept → Kept
+noted_by None h = h
+noted_by (Some c) h = noted c h
+
 -- what a session knows that learns this
 abbrev pub learned : Known → News → Known
-learned k news = record { catalog = catalog_by k.catalog news.names; counts = news.counts }
+learned k news = record { catalog = catalog_by k.catalog news.names; counts = news.counts; history = noted_by news.change k.history }
 
 -- nothing is learned
 abbrev pub nothing_new : Known → News
-nothing_new k = record { counts = k.counts; names = None }
+nothing_new k = record { counts = k.counts; names = None; change = None }
 
 -- ---- a step
 
@@ -48,6 +57,16 @@ pub record IsToldWithin (s : State) (outcome : Outcome) (now : Known) (old new :
 pub record TellsWithin (outcome : State → Outcome) (before now : Known) (old new : Seen) (result : Result Reply StopError) : Type 0 where
   pub told : (s : State) → Agrees old.kept before s → IsToldWithin s (outcome s) now old new result
   pub changing : IsChanging old new result Fault
+
+-- a change leads from one base to another, and alters it; where there is none, the base stays
+abbrev pub LeadsBy : Option Change → Contents → Contents → Type 0
+LeadsBy None a b = b ≡ a
+LeadsBy (Some c) a b = Leads c a b × (alters c ≡ true)
+
+-- What is told of how a step changes the base, whichever state the session agrees on with the tables: after an Ok the change leads
+-- from its base to that of the state after, and where none is told, as of what is refused, the base stays.
+abbrev pub TellsChange : (State → Outcome) → Known → Option Change → Seen → Result Reply StopError → Type 0
+TellsChange outcome k c old result = (s : State) → Agrees old.kept k s → OnOk result (LeadsBy c s.base (state_after s (outcome s)).base)
 
 -- ---- a reply
 

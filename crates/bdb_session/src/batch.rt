@@ -3,14 +3,16 @@ ghost use Rattle.std.specs.Prelude.{◌≡◌, ◌<◌, ◌≤◌, ◌^◌, [], 
 ghost use Rattle.bdb_base.specs.Causes.{HasCause, Rises};
 ghost use Rattle.bdb_keep.specs.Seen.{IsStill, NeverFall, Unchanged};
 ghost use Rattle.bdb_session.specs.declared.event.Event.TheVariants.{Piece};
-ghost use Rattle.bdb_session.specs.Known.{Agrees, AgreesOnSome};
+ghost use Rattle.bdb_session.specs.Known.{Agrees, AgreesOnSome, Remembers, RemembersSome};
 ghost use Rattle.bdb_session.specs.Machine.{bound_outcome, command_outcome, outcome_of};
 ghost use Rattle.bdb_session.specs.Outcome.{State};
 ghost use Rattle.bdb_session.specs.Runs.{accepts_all};
 ghost use Rattle.bdb_session.specs.Within.{TellsWithin};
 ghost use Rattle.bdb_bind.specs.Fits.{fits_catalog, is_allowed};
+ghost use Rattle.bdb_undo.specs.Timelines.{Timeline};
 ghost use Rattle.bdb_val.specs.Steps.{IsChanging};
 
+use crate::open::session_over;
 use crate::reading::{Reading, read_piece};
 use crate::refusals::refusal_from;
 use crate::reply::Reply;
@@ -18,7 +20,7 @@ use crate::session::Session;
 use crate::stop::StopError;
 use crate::transact::{begin, commit};
 use bdb_base::{Exact, List};
-use bdb_bind::{Bound, NameIndex, bind_by};
+use bdb_bind::{Bound, bind_by};
 use bdb_keep::Keeper;
 use bdb_syntax::Command;
 use std::alloc::AllocError;
@@ -42,19 +44,20 @@ struct Ran {
     refused: bool,
 }
 
-ghost use Rattle.bdb_session.specs.Batches.{AreRun, IsRun, ServesBatch, SettlesBatch, pieces, before_refused, batch_text, batch_state, batch_commits};
+ghost use Rattle.bdb_session.specs.Batches.{AlterSome, Alters, AreRun, IsRun, ServesBatch, SettlesBatch, pieces, before_refused, batch_text, batch_state, batch_timeline, batch_commits, taken_over, without_changes};
 
 impl Session {
     /// Applies lines as one batch: all of them in one transaction, or none. The lines are applied in order, each as `apply` would,
-    /// up to the first that is refused. Where none is refused the tables hold the last base, and are committed once; a batch
-    /// without lines is committed too. Else, and after an Err, the tables, the session and the count of commits are as before.
+    /// up to the first that is refused; undo and redo are no commands here. Where none is refused the tables hold the last base, and
+    /// are committed once; a batch without lines is committed too. Where the base was changed by a line, none of the changes before
+    /// can be taken back or made again. Else, and after an Err, the tables, the session and the count of commits are as before.
     pub fn apply_batch<K: Keeper>(
         &mut self,
         keeper: &mut K,
         lines: &Lines,
     ) -> Result<BatchReply, StopError>
         requires still { IsStill (K.seen keeper.old) }
-        requires agrees { AgreesOnSome (K.seen keeper.old).kept self.old }
+        requires agrees { RemembersSome (K.seen keeper.old).kept self.old }
         requires few { length lines.now < 2 ^ 32 }
         ensures refused { (s : State) → Agrees (K.seen keeper.old).kept self.old s → IfOk result (λ r. r.refused ≡ not (accepts_all s (pieces lines.now))) }
         ensures accepted { (s : State) → Agrees (K.seen keeper.old).kept self.old s → IfOk result (λ r. r.accepted ≡ before_refused s (pieces lines.now)) }
@@ -63,7 +66,8 @@ impl Session {
         ensures commits { (s : State) → Agrees (K.seen keeper.old).kept self.old s → OnOk result (Rises (batch_commits s (pieces lines.now)) (K.seen keeper.old).commits (K.seen keeper.new).commits) }
         ensures alone { (s : State) → Agrees (K.seen keeper.old).kept self.old s → OnOk result (accepts_all s (pieces lines.now) ≡ false → Unchanged (K.seen keeper.old) (K.seen keeper.new)) }
         ensures known { (s : State) → Agrees (K.seen keeper.old).kept self.old s → OnOk result (accepts_all s (pieces lines.now) ≡ false → self.new ≡ self.old) }
-        ensures agrees { AgreesOnSome (K.seen keeper.new).kept self.new }
+        ensures lists { (t : Timeline) → Remembers (K.seen keeper.old).kept self.old t → OnOk result (Remembers (K.seen keeper.new).kept self.new (batch_timeline t (pieces lines.now))) }
+        ensures agrees { RemembersSome (K.seen keeper.new).kept self.new }
         ensures still { IsStill (K.seen keeper.new) }
         ensures never_fall { NeverFall (K.seen keeper.old) (K.seen keeper.new) }
         ensures cause { HasCause (K.seen keeper.old).faults (K.seen keeper.new).faults result StopError.Fault }
@@ -76,18 +80,12 @@ impl Session {
         }
     }
 
-    /// A copy of the session.
+    /// A copy of the session, with no changes to take back or make again.
     fn copied(&self) -> Result<Session, AllocError>
-        ensures { IfOk result (λ copy. copy ≡ self.now) }
+        ensures { IfOk result (λ copy. copy ≡ without_changes self.now) }
     {
         let catalog = self.catalog.try_clone(self.alloc)?;
-        let index = NameIndex::of(self.alloc, &catalog)?;
-        Ok(Session {
-            catalog,
-            counts: self.counts,
-            index,
-            alloc: self.alloc,
-        })
+        session_over(self.alloc, catalog, self.counts)
     }
 
     /// Applies lines by a copy of the session, which takes its place where none of them is refused.
@@ -98,10 +96,11 @@ impl Session {
         lines: &[List<u8>],
     ) -> Result<BatchReply, StopError>
         requires still { IsStill (K.seen keeper.old) }
-        requires agrees { AgreesOnSome (K.seen keeper.old).kept self.old }
-        requires copy { copy ≡ self.old }
+        requires agrees { RemembersSome (K.seen keeper.old).kept self.old }
+        requires copy { copy ≡ without_changes self.old }
         requires few { length lines.now < 2 ^ 32 }
-        ensures { ServesBatch (pieces lines.now) self.old self.new (K.seen keeper.old) (K.seen keeper.new) result }
+        ensures served { ServesBatch (pieces lines.now) self.old self.new (K.seen keeper.old) (K.seen keeper.new) result }
+        ensures lists { (t : Timeline) → Remembers (K.seen keeper.old).kept self.old t → OnOk result (Remembers (K.seen keeper.new).kept self.new (batch_timeline t (pieces lines.now))) }
     {
         match begin(keeper) {
             Ok(()) => {}
@@ -121,8 +120,8 @@ impl Session {
         }
     }
 
-    /// Ends the transaction of a batch: it is undone where a line was refused, and else committed. Then the copy, which ran the lines,
-    /// takes the session's place.
+    /// Ends the transaction of a batch: it is undone where a line was refused, and else committed. Then the session knows what the copy
+    /// knows, which ran the lines.
     fn settle_batch<K: Keeper>(
         &mut self,
         keeper: &mut K,
@@ -138,10 +137,30 @@ impl Session {
         }
         match commit(keeper) {
             Ok(()) => {
-                *self = copy;
+                self.take_over(copy);
                 Ok(told)
             }
             Err(stop) => Err(stop),
+        }
+    }
+
+    /// Takes over what a copy of the session came to know by a batch. Where the batch changed the base, none of the changes before it
+    /// can be taken back or made again.
+    fn take_over(&mut self, copy: Session)
+        ensures { self.new ≡ taken_over self.old copy }
+    {
+        let Session {
+            catalog,
+            counts,
+            index,
+            history,
+            alloc: _,
+        } = copy;
+        self.catalog = catalog;
+        self.counts = counts;
+        self.index = index;
+        if history.undos() > 0 {
+            self.history.clear();
         }
     }
 
@@ -158,6 +177,7 @@ impl Session {
         ensures run { (s : State) → Agrees (K.seen keeper.old).kept self.old s
             → IfOk result (λ ran. AreRun s (pieces lines.now) text.old.items text.new.items ran.accepted ran.refused self.new (K.seen keeper.new)) }
         ensures few { IfOk result (λ ran. ran.accepted ≤ length lines.now) }
+        ensures altered { AlterSome (pieces lines.now) self.old self.new (K.seen keeper.old) result }
         ensures changing { IsChanging (K.seen keeper.old) (K.seen keeper.new) result StopError.Fault }
     {
         match lines {
@@ -194,6 +214,7 @@ impl Session {
         ensures run { (s : State) → Agrees (K.seen keeper.old).kept self.old s
             → IfOk result (λ accepted. IsRun s (Piece line.now) text.old.items text.new.items accepted self.new (K.seen keeper.new)) }
         ensures agrees { OnOk result (AgreesOnSome (K.seen keeper.new).kept self.new) }
+        ensures altered { Alters (λ s. outcome_of s (Piece line.now)) self.old self.new (K.seen keeper.old) result }
         ensures changing { IsChanging (K.seen keeper.old) (K.seen keeper.new) result StopError.Fault }
     {
         let reply = match self.apply_within(keeper, line) {
@@ -214,7 +235,8 @@ impl Session {
     fn apply_within<K: Keeper>(&mut self, keeper: &mut K, piece: &[u8]) -> Result<Reply, StopError>
         requires running { (K.seen keeper.old).running ≡ true }
         requires agrees { AgreesOnSome (K.seen keeper.old).kept self.old }
-        ensures { TellsWithin (λ s. outcome_of s (Piece piece.now)) self.old self.new (K.seen keeper.old) (K.seen keeper.new) result }
+        ensures told { TellsWithin (λ s. outcome_of s (Piece piece.now)) self.old self.new (K.seen keeper.old) (K.seen keeper.new) result }
+        ensures altered { Alters (λ s. outcome_of s (Piece piece.now)) self.old self.new (K.seen keeper.old) result }
     {
         match read_piece(self.alloc, piece) {
             Ok(Reading::Nothing) => Ok(Reply::accepted(List::new(self.alloc))),
@@ -236,7 +258,8 @@ impl Session {
         requires running { (K.seen keeper.old).running ≡ true }
         requires agrees { AgreesOnSome (K.seen keeper.old).kept self.old }
         requires allowed { is_allowed command ≡ true }
-        ensures { TellsWithin (λ s. command_outcome s command) self.old self.new (K.seen keeper.old) (K.seen keeper.new) result }
+        ensures told { TellsWithin (λ s. command_outcome s command) self.old self.new (K.seen keeper.old) (K.seen keeper.new) result }
+        ensures altered { Alters (λ s. command_outcome s command) self.old self.new (K.seen keeper.old) result }
     {
         match bind_by(self.alloc, &self.catalog, &self.index, command) {
             Ok(bound) => self.execute_within(keeper, bound),
@@ -259,7 +282,8 @@ impl Session {
         requires running { (K.seen keeper.old).running ≡ true }
         requires agrees { AgreesOnSome (K.seen keeper.old).kept self.old }
         requires fits { fits_catalog self.old.catalog bound ≡ true }
-        ensures { TellsWithin (λ s. bound_outcome s bound) self.old self.new (K.seen keeper.old) (K.seen keeper.new) result }
+        ensures told { TellsWithin (λ s. bound_outcome s bound) self.old self.new (K.seen keeper.old) (K.seen keeper.new) result }
+        ensures altered { Alters (λ s. bound_outcome s bound) self.old self.new (K.seen keeper.old) result }
     {
         let mut news = self.nothing_new();
         match self.step(keeper, &mut news, bound) {

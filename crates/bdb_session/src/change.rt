@@ -1,5 +1,5 @@
 // The commands that take statements away, or change them.
-ghost use Rattle.std.specs.Prelude.{◌≡◌, true, map, IfOk, OnOk};
+ghost use Rattle.std.specs.Prelude.{◌≡◌, true, None, map, IfOk, OnOk};
 ghost use Rattle.bdb_base.specs.Changes.{changed_statement};
 ghost use Rattle.bdb_bind.specs.Fits.{fits_catalog};
 ghost use Rattle.bdb_catalog.specs.Bases.{SomeHasUsers};
@@ -7,9 +7,10 @@ ghost use Rattle.bdb_catalog.specs.Taking.{AreTaken};
 ghost use Rattle.bdb_session.specs.Bounds.{WritesAsTold};
 ghost use Rattle.bdb_session.specs.Known.{AgreesOnSome};
 ghost use Rattle.bdb_session.specs.Machine.{bound_outcome};
-ghost use Rattle.bdb_session.specs.Within.{TellsWithin, sized};
+ghost use Rattle.bdb_session.specs.Within.{TellsChange, TellsWithin, sized};
 ghost use Rattle.bdb_val.specs.Steps.{IsChanging};
 
+use crate::changes::{replacement, statements_taken};
 use crate::reply::Reply;
 use crate::session::Session;
 use crate::stop::StopError;
@@ -19,6 +20,7 @@ use bdb_bind::Bound;
 use bdb_canon::Counts;
 use bdb_catalog::taken;
 use bdb_keep::Keeper;
+use bdb_undo::Change;
 use bdb_update::{change_statements, drop_statements};
 use std::alloc::{AllocError, Global};
 
@@ -39,13 +41,17 @@ impl Session {
         &self,
         keeper: &mut K,
         counts: &mut Counts,
+        change: &mut Option<Change>,
         selection: &Selection,
     ) -> Result<Reply, StopError>
         requires running { (K.seen keeper.old).running ≡ true }
         requires agrees { AgreesOnSome (K.seen keeper.old).kept (sized self.now counts.old) }
+        requires nothing { change.old ≡ None }
         requires fits { fits_catalog self.now.catalog (Bound.Delete selection.now.path selection.now.sign selection.now.rel selection.now.conds) ≡ true }
         ensures told { TellsWithin (λ s. bound_outcome s (Bound.Delete selection.now.path selection.now.sign selection.now.rel selection.now.conds))
             (sized self.now counts.old) (sized self.now counts.new) (K.seen keeper.old) (K.seen keeper.new) result }
+        ensures change { TellsChange (λ s. bound_outcome s (Bound.Delete selection.now.path selection.now.sign selection.now.rel selection.now.conds))
+            (sized self.now counts.old) change.new (K.seen keeper.old) result }
         ensures writes { WritesAsTold (Bound.Delete selection.now.path selection.now.sign selection.now.rel selection.now.conds) (sized self.now counts.old) (K.seen keeper.old) (K.seen keeper.new) result }
         ensures accepted { IfOk result (λ r. r.accepted ≡ true) }
     {
@@ -54,7 +60,11 @@ impl Session {
             Err(stop) => return Err(stop),
         };
         match drop_statements(self.alloc, keeper, counts, stmts.as_slice()) {
-            Ok(()) => self.tell_count(keeper, stmts.len()),
+            Ok(()) => {
+                let count = stmts.len();
+                *change = statements_taken(self.alloc, stmts);
+                self.tell_count(keeper, count)
+            }
             Err(error) => Err(stop_from(error)),
         }
     }
@@ -66,14 +76,18 @@ impl Session {
         &self,
         keeper: &mut K,
         counts: &mut Counts,
+        change: &mut Option<Change>,
         selection: &Selection,
         sets: &List<SetCol>,
     ) -> Result<Reply, StopError>
         requires running { (K.seen keeper.old).running ≡ true }
         requires agrees { AgreesOnSome (K.seen keeper.old).kept (sized self.now counts.old) }
+        requires nothing { change.old ≡ None }
         requires fits { fits_catalog self.now.catalog (Bound.Update selection.now.path selection.now.sign selection.now.rel sets.now selection.now.conds) ≡ true }
         ensures told { TellsWithin (λ s. bound_outcome s (Bound.Update selection.now.path selection.now.sign selection.now.rel sets.now selection.now.conds))
             (sized self.now counts.old) (sized self.now counts.new) (K.seen keeper.old) (K.seen keeper.new) result }
+        ensures change { TellsChange (λ s. bound_outcome s (Bound.Update selection.now.path selection.now.sign selection.now.rel sets.now selection.now.conds))
+            (sized self.now counts.old) change.new (K.seen keeper.old) result }
         ensures writes { WritesAsTold (Bound.Update selection.now.path selection.now.sign selection.now.rel sets.now selection.now.conds) (sized self.now counts.old) (K.seen keeper.old) (K.seen keeper.new) result }
     {
         let gone = match selected(self.alloc, keeper, selection) {
@@ -89,8 +103,15 @@ impl Session {
         };
         let path = selection.path.as_slice();
         let (gone, come) = (gone.as_slice(), come.as_slice());
+        let replaced = match replacement(self.alloc, keeper, counts, gone, come) {
+            Ok(replaced) => replaced,
+            Err(error) => return Err(stop_from(error)),
+        };
         match change_statements(self.alloc, keeper, counts, path, gone, come) {
-            Ok(()) => self.tell_count(keeper, gone.len()),
+            Ok(()) => {
+                *change = replaced;
+                self.tell_count(keeper, gone.len())
+            }
             Err(error) => self.refuse_change(keeper, error),
         }
     }

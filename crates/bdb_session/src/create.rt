@@ -6,8 +6,9 @@ ghost use Rattle.bdb_session.specs.Bounds.{RefusedUnwritten};
 ghost use Rattle.bdb_session.specs.Known.{AgreesOnSome};
 ghost use Rattle.bdb_session.specs.Machine.{bound_outcome};
 ghost use Rattle.bdb_session.specs.Sizes.{limit_passed};
-ghost use Rattle.bdb_session.specs.Within.{TellsWithin, learned, nothing_new};
+ghost use Rattle.bdb_session.specs.Within.{TellsChange, TellsWithin, learned, nothing_new};
 
+use crate::changes::{relation_added, user_added};
 use crate::limits::limit_passed;
 use crate::news::{Names, News};
 use crate::reply::Reply;
@@ -27,14 +28,15 @@ impl Session {
         &self,
         keeper: &mut K,
         news: &mut News,
-        name: &Txt,
+        name: Txt,
     ) -> Result<Reply, StopError>
         requires running { (K.seen keeper.old).running ≡ true }
         requires agrees { AgreesOnSome (K.seen keeper.old).kept self.now }
-        requires fits { fits_catalog self.now.catalog (Bound.CreateUser name.now) ≡ true }
+        requires fits { fits_catalog self.now.catalog (Bound.CreateUser name) ≡ true }
         requires nothing { news.old ≡ nothing_new self.now }
-        ensures told { TellsWithin (λ s. bound_outcome s (Bound.CreateUser name.now)) self.now (learned self.now news.new)
+        ensures told { TellsWithin (λ s. bound_outcome s (Bound.CreateUser name)) self.now (learned self.now news.new)
             (K.seen keeper.old) (K.seen keeper.new) result }
+        ensures change { TellsChange (λ s. bound_outcome s (Bound.CreateUser name)) self.now news.new.change (K.seen keeper.old) result }
         ensures unwritten { RefusedUnwritten (K.seen keeper.old) (K.seen keeper.new) result }
     {
         let users = self.catalog.users.len() + 1;
@@ -50,31 +52,33 @@ impl Session {
         &self,
         keeper: &mut K,
         news: &mut News,
-        name: &Txt,
+        name: Txt,
         uid: u32,
     ) -> Result<Reply, StopError>
         requires running { (K.seen keeper.old).running ≡ true }
         requires agrees { AgreesOnSome (K.seen keeper.old).kept self.now }
-        requires fits { fits_catalog self.now.catalog (Bound.CreateUser name.now) ≡ true }
+        requires fits { fits_catalog self.now.catalog (Bound.CreateUser name) ≡ true }
         requires nothing { news.old ≡ nothing_new self.now }
         requires number { uid ≡ length self.now.catalog.users + 1 }
         requires room { limit_passed (length self.now.catalog.users + 1) (length self.now.catalog.rels) self.now.counts ≡ None }
-        ensures told { TellsWithin (λ s. bound_outcome s (Bound.CreateUser name.now)) self.now (learned self.now news.new)
+        ensures told { TellsWithin (λ s. bound_outcome s (Bound.CreateUser name)) self.now (learned self.now news.new)
             (K.seen keeper.old) (K.seen keeper.new) result }
+        ensures change { TellsChange (λ s. bound_outcome s (Bound.CreateUser name)) self.now news.new.change (K.seen keeper.old) result }
         ensures unwritten { RefusedUnwritten (K.seen keeper.old) (K.seen keeper.new) result }
     {
-        let names = match names_with_user(self.alloc, &self.catalog, name) {
+        let names = match names_with_user(self.alloc, &self.catalog, &name) {
             Ok(names) => names,
             Err(_) => {
                 keeper.undo();
                 return Err(StopError::Memory);
             }
         };
-        match add_user(self.alloc, keeper, uid, name) {
+        match add_user(self.alloc, keeper, uid, &name) {
             Ok(()) => {}
             Err(error) => return Err(stop_from(error)),
         }
         news.names = Some(names);
+        news.change = Some(user_added(self.alloc, name));
         self.tell_done(keeper)
     }
 
@@ -83,14 +87,15 @@ impl Session {
         &self,
         keeper: &mut K,
         news: &mut News,
-        def: &RelDef,
+        def: RelDef,
     ) -> Result<Reply, StopError>
         requires running { (K.seen keeper.old).running ≡ true }
         requires agrees { AgreesOnSome (K.seen keeper.old).kept self.now }
-        requires fits { fits_catalog self.now.catalog (Bound.CreateRelation def.now) ≡ true }
+        requires fits { fits_catalog self.now.catalog (Bound.CreateRelation def) ≡ true }
         requires nothing { news.old ≡ nothing_new self.now }
-        ensures told { TellsWithin (λ s. bound_outcome s (Bound.CreateRelation def.now)) self.now (learned self.now news.new)
+        ensures told { TellsWithin (λ s. bound_outcome s (Bound.CreateRelation def)) self.now (learned self.now news.new)
             (K.seen keeper.old) (K.seen keeper.new) result }
+        ensures change { TellsChange (λ s. bound_outcome s (Bound.CreateRelation def)) self.now news.new.change (K.seen keeper.old) result }
         ensures unwritten { RefusedUnwritten (K.seen keeper.old) (K.seen keeper.new) result }
     {
         let users = self.catalog.users.len();
@@ -106,37 +111,43 @@ impl Session {
         &self,
         keeper: &mut K,
         news: &mut News,
-        def: &RelDef,
+        def: RelDef,
         rel: u32,
     ) -> Result<Reply, StopError>
         requires running { (K.seen keeper.old).running ≡ true }
         requires agrees { AgreesOnSome (K.seen keeper.old).kept self.now }
-        requires fits { fits_catalog self.now.catalog (Bound.CreateRelation def.now) ≡ true }
+        requires fits { fits_catalog self.now.catalog (Bound.CreateRelation def) ≡ true }
         requires nothing { news.old ≡ nothing_new self.now }
         requires number { rel ≡ length self.now.catalog.rels }
         requires room { limit_passed (length self.now.catalog.users) (length self.now.catalog.rels + 1) self.now.counts ≡ None }
-        ensures told { TellsWithin (λ s. bound_outcome s (Bound.CreateRelation def.now)) self.now (learned self.now news.new)
+        ensures told { TellsWithin (λ s. bound_outcome s (Bound.CreateRelation def)) self.now (learned self.now news.new)
             (K.seen keeper.old) (K.seen keeper.new) result }
+        ensures change { TellsChange (λ s. bound_outcome s (Bound.CreateRelation def)) self.now news.new.change (K.seen keeper.old) result }
         ensures unwritten { RefusedUnwritten (K.seen keeper.old) (K.seen keeper.new) result }
     {
-        let names = match names_with_relation(self.alloc, &self.catalog, def) {
+        let names = match names_with_relation(self.alloc, &self.catalog, &def) {
             Ok(names) => names,
             Err(_) => {
                 keeper.undo();
                 return Err(StopError::Memory);
             }
         };
-        match add_relation(self.alloc, keeper, rel, def) {
+        match add_relation(self.alloc, keeper, rel, &def) {
             Ok(()) => {}
             Err(error) => return Err(stop_from(error)),
         }
         news.names = Some(names);
+        news.change = Some(relation_added(self.alloc, def));
         self.tell_done(keeper)
     }
 }
 
 /// The names with one more user.
-fn names_with_user(alloc: Global, catalog: &Catalog, name: &Txt) -> Result<Names, AllocError>
+pub(crate) fn names_with_user(
+    alloc: Global,
+    catalog: &Catalog,
+    name: &Txt,
+) -> Result<Names, AllocError>
     ensures { IfOk result (λ names. names.catalog ≡ with_user catalog.now name.now) }
 {
     let mut catalog = catalog.try_clone(alloc)?;
@@ -147,7 +158,11 @@ fn names_with_user(alloc: Global, catalog: &Catalog, name: &Txt) -> Result<Names
 }
 
 /// The names with one more relation.
-fn names_with_relation(alloc: Global, catalog: &Catalog, def: &RelDef) -> Result<Names, AllocError>
+pub(crate) fn names_with_relation(
+    alloc: Global,
+    catalog: &Catalog,
+    def: &RelDef,
+) -> Result<Names, AllocError>
     ensures { IfOk result (λ names. names.catalog ≡ with_relation catalog.now def.now) }
 {
     let mut catalog = catalog.try_clone(alloc)?;

@@ -1,12 +1,13 @@
 // The command that adds a statement.
-ghost use Rattle.std.specs.Prelude.{◌≡◌, ◌+◌, true, length, OnOk};
+ghost use Rattle.std.specs.Prelude.{◌≡◌, ◌+◌, true, None, length, OnOk};
 ghost use Rattle.bdb_bind.specs.Fits.{fits_catalog};
 ghost use Rattle.bdb_session.specs.Bounds.{RefusedUnwritten, StandsUnwritten};
 ghost use Rattle.bdb_session.specs.Known.{AgreesOnSome};
 ghost use Rattle.bdb_session.specs.Machine.{bound_outcome};
-ghost use Rattle.bdb_session.specs.Within.{TellsWithin, sized};
+ghost use Rattle.bdb_session.specs.Within.{TellsChange, TellsWithin, sized};
 ghost use Rattle.bdb_update.specs.Bounds.{WritesWithin};
 
+use crate::changes::statement_added;
 use crate::reply::Reply;
 use crate::session::Session;
 use crate::stop::StopError;
@@ -14,6 +15,7 @@ use bdb_base::Stmt;
 use bdb_bind::Bound;
 use bdb_canon::Counts;
 use bdb_keep::Keeper;
+use bdb_undo::Change;
 use bdb_update::{Added, add_statement};
 
 impl Session {
@@ -24,19 +26,31 @@ impl Session {
         &self,
         keeper: &mut K,
         counts: &mut Counts,
-        stmt: &Stmt,
+        change: &mut Option<Change>,
+        stmt: Stmt,
     ) -> Result<Reply, StopError>
         requires running { (K.seen keeper.old).running ≡ true }
         requires agrees { AgreesOnSome (K.seen keeper.old).kept (sized self.now counts.old) }
-        requires fits { fits_catalog self.now.catalog (Bound.Insert stmt.now) ≡ true }
-        ensures told { TellsWithin (λ s. bound_outcome s (Bound.Insert stmt.now)) (sized self.now counts.old) (sized self.now counts.new)
+        requires nothing { change.old ≡ None }
+        requires fits { fits_catalog self.now.catalog (Bound.Insert stmt) ≡ true }
+        ensures told { TellsWithin (λ s. bound_outcome s (Bound.Insert stmt)) (sized self.now counts.old) (sized self.now counts.new)
             (K.seen keeper.old) (K.seen keeper.new) result }
-        ensures writes { OnOk result (WritesWithin (length stmt.now.path + 2) 8 (K.seen keeper.old) (K.seen keeper.new)) }
+        ensures change { TellsChange (λ s. bound_outcome s (Bound.Insert stmt)) (sized self.now counts.old) change.new (K.seen keeper.old) result }
+        ensures writes { OnOk result (WritesWithin (length stmt.path + 2) 8 (K.seen keeper.old) (K.seen keeper.new)) }
         ensures refused { RefusedUnwritten (K.seen keeper.old) (K.seen keeper.new) result }
-        ensures already { StandsUnwritten stmt.now (sized self.now counts.old) (K.seen keeper.old) (K.seen keeper.new) result }
+        ensures already { StandsUnwritten stmt (sized self.now counts.old) (K.seen keeper.old) (K.seen keeper.new) result }
     {
-        match add_statement(self.alloc, keeper, counts, stmt) {
-            Ok(Added::New) => self.tell_count(keeper, 1),
+        match add_statement(self.alloc, keeper, counts, &stmt) {
+            Ok(Added::New) => match statement_added(self.alloc, stmt) {
+                Ok(made) => {
+                    *change = Some(made);
+                    self.tell_count(keeper, 1)
+                }
+                Err(_) => {
+                    keeper.undo();
+                    Err(StopError::Memory)
+                }
+            },
             Ok(Added::Already) => self.tell_count(keeper, 0),
             Err(error) => self.refuse_change(keeper, error),
         }

@@ -1,18 +1,20 @@
 // The command by which a user leaves.
-ghost use Rattle.std.specs.Prelude.{◌≡◌, true, IfOk};
+ghost use Rattle.std.specs.Prelude.{◌≡◌, true, Some, IfOk};
 ghost use Rattle.bdb_base.specs.Bases.{is_user, without_user};
+ghost use Rattle.bdb_base.specs.Queries.{user_name};
 ghost use Rattle.bdb_bind.specs.Fits.{fits_catalog};
 ghost use Rattle.bdb_session.specs.Bounds.{WritesAsTold};
 ghost use Rattle.bdb_session.specs.Known.{AgreesOnSome};
 ghost use Rattle.bdb_session.specs.Machine.{bound_outcome};
-ghost use Rattle.bdb_session.specs.Within.{TellsWithin, learned, nothing_new};
+ghost use Rattle.bdb_session.specs.Within.{TellsChange, TellsWithin, learned, nothing_new};
 
+use crate::changes::user_dropped;
 use crate::news::{Names, News};
 use crate::reply::Reply;
 use crate::session::Session;
 use crate::stop::StopError;
 use crate::transact::stop_from;
-use bdb_base::{Catalog, Exact, UserSlot};
+use bdb_base::{Catalog, Exact, Txt, UserSlot, user_name};
 use bdb_bind::{Bound, NameIndex};
 use bdb_keep::Keeper;
 use bdb_leaving::drop_user;
@@ -33,6 +35,7 @@ impl Session {
         requires nothing { news.old ≡ nothing_new self.now }
         ensures told { TellsWithin (λ s. bound_outcome s (Bound.DropUser uid)) self.now (learned self.now news.new)
             (K.seen keeper.old) (K.seen keeper.new) result }
+        ensures change { TellsChange (λ s. bound_outcome s (Bound.DropUser uid)) self.now news.new.change (K.seen keeper.old) result }
         ensures writes { WritesAsTold (Bound.DropUser uid) self.now (K.seen keeper.old) (K.seen keeper.new) result }
     {
         let names = match names_without_user(self.alloc, &self.catalog, uid) {
@@ -42,17 +45,42 @@ impl Session {
                 return Err(StopError::Memory);
             }
         };
-        let count = match drop_user(self.alloc, keeper, &mut news.counts, uid) {
-            Ok(count) => count,
+        let name = match name_of(self.alloc, &self.catalog, uid) {
+            Ok(name) => name,
+            Err(_) => {
+                keeper.undo();
+                return Err(StopError::Memory);
+            }
+        };
+        let gone = match drop_user(self.alloc, keeper, &mut news.counts, uid) {
+            Ok(gone) => gone,
             Err(error) => return Err(stop_from(error)),
         };
+        let count = gone.len();
         news.names = Some(names);
-        self.tell_count(keeper, count as usize)
+        news.change = Some(user_dropped(self.alloc, uid, name, gone));
+        self.tell_count(keeper, count)
+    }
+}
+
+/// A copy of a live user's name.
+#[tactic(auto, using(crate::proofs::LeaveLemmas::user_has_name))]
+fn name_of(alloc: Global, catalog: &Catalog, uid: u32) -> Result<Txt, AllocError>
+    requires user { is_user catalog.now.users uid ≡ true }
+    ensures { IfOk result (λ name. user_name catalog.now.users uid ≡ Some name) }
+{
+    match user_name(catalog.users.as_slice(), uid) {
+        Some(name) => Ok(name.try_clone(alloc)?),
+        None => unreachable!(),
     }
 }
 
 /// The names without those of a user.
-fn names_without_user(alloc: Global, catalog: &Catalog, uid: u32) -> Result<Names, AllocError>
+pub(crate) fn names_without_user(
+    alloc: Global,
+    catalog: &Catalog,
+    uid: u32,
+) -> Result<Names, AllocError>
     requires user { is_user catalog.now.users uid ≡ true }
     ensures { IfOk result (λ names. names.catalog ≡ without_user catalog.now uid) }
 {

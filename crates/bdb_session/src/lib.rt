@@ -3,7 +3,10 @@
 
 mod batch;
 mod change;
+mod changes;
+mod course;
 mod create;
+pub mod error_laws;
 mod event;
 mod insert;
 pub mod laws;
@@ -20,10 +23,12 @@ mod show;
 mod step;
 mod stop;
 mod transact;
+mod undo;
 mod why;
 mod within;
 
 pub use batch::{BatchReply, Lines};
+pub use course::Course;
 pub use event::Event;
 pub use reading::{Reading, read_piece};
 pub use reply::Reply;

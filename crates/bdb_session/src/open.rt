@@ -9,9 +9,10 @@ ghost use Rattle.bdb_decode.specs.Opening.{AreDamaged, HaveOtherFormat, TellsSta
 ghost use Rattle.bdb_keep.specs.Seen.{IsAtRest, IsStill, NeverFall, Steps, Unchanged};
 ghost use Rattle.bdb_tables.specs.Stored.{Stores};
 ghost use Rattle.bdb_session.specs.Committing.{IsCommitted};
-ghost use Rattle.bdb_session.specs.Known.{Agrees, AgreesOnSome};
+ghost use Rattle.bdb_session.specs.Known.{Remembers, RemembersSome};
 ghost use Rattle.bdb_session.specs.Opening.{opening, KnowsStored, Opens};
-ghost use Rattle.bdb_session.specs.Outcome.{start_from};
+ghost use Rattle.bdb_undo.specs.Histories.{nothing_kept};
+ghost use Rattle.bdb_undo.specs.Timelines.{started};
 
 use crate::session::Session;
 use crate::stop::StopError;
@@ -24,10 +25,11 @@ use bdb_decode::{OpenError, Stand, stand_of};
 use bdb_keep::Keeper;
 use bdb_stored::{counts_of, write_all_tables};
 use bdb_tables::TabError;
-use std::alloc::Global;
+use bdb_undo::History;
+use std::alloc::{AllocError, Global};
 
 impl Session {
-    /// A session over the base that the tables stand for, whatever bytes they have. Tables with no row are given those of the empty
+    /// A session over the base that the tables stand for, whatever bytes they have, with no changes to take back or make again. Tables with no row are given those of the empty
     /// base, and tables of the format before this one are written in this one, each by one commit, after which nothing can be
     /// refused. Others stay as they are, and nothing is written to them, whatever is answered. `Damaged` and `Format` come exactly as
     /// they do where tables of any bytes are decoded; then, too, the tables stay as they are, and nothing is written. After any Err the
@@ -39,7 +41,7 @@ impl Session {
         ensures damaged { IsErrOf result OpenError.Damaged → AreDamaged (K.seen keeper.old).kept }
         ensures format { (n : ℕ) → IsErrOf result (OpenError.Format n) → HaveOtherFormat (K.seen keeper.old).kept n }
         ensures opened { IfOk result (λ session. Opens (K.seen keeper.old).kept (K.seen keeper.new).kept session) }
-        ensures agrees { IfOk result (λ session. AgreesOnSome (K.seen keeper.new).kept session) }
+        ensures agrees { IfOk result (λ session. RemembersSome (K.seen keeper.new).kept session) }
         ensures commits { OnOk result (Rises (opening (K.seen keeper.old).kept) (K.seen keeper.old).commits (K.seen keeper.new).commits) }
         ensures unchanged { OnOk result (opening (K.seen keeper.old).kept ≡ 0 → Unchanged (K.seen keeper.old) (K.seen keeper.new)) }
         ensures unwritten { opening (K.seen keeper.old).kept ≡ 0 → (K.seen keeper.new).writes ≡ (K.seen keeper.old).writes }
@@ -66,7 +68,7 @@ fn open_held<K: Keeper>(alloc: Global, keeper: &mut K, stand: &Stand) -> Result<
     requires still { IsStill (K.seen keeper.old) }
     requires stand { TellsStand (K.seen keeper.old).kept stand.now }
     ensures opened { IfOk result (λ session. Opens (K.seen keeper.old).kept (K.seen keeper.new).kept session) }
-    ensures agrees { IfOk result (λ session. AgreesOnSome (K.seen keeper.new).kept session) }
+    ensures agrees { IfOk result (λ session. RemembersSome (K.seen keeper.new).kept session) }
     ensures commits { OnOk result (Rises (opening (K.seen keeper.old).kept) (K.seen keeper.old).commits (K.seen keeper.new).commits) }
     ensures unchanged { OnOk result (opening (K.seen keeper.old).kept ≡ 0 → Unchanged (K.seen keeper.old) (K.seen keeper.new)) }
     ensures unwritten { opening (K.seen keeper.old).kept ≡ 0 → (K.seen keeper.new).writes ≡ (K.seen keeper.old).writes }
@@ -120,14 +122,8 @@ fn session_of<K: Keeper>(alloc: Global, keeper: &mut K) -> Result<Session, TabEr
         Ok(counts) => counts,
         Err(error) => return Err(error),
     };
-    let catalog = Catalog { rels, users };
-    match NameIndex::of(alloc, &catalog) {
-        Ok(index) => Ok(Session {
-            catalog,
-            counts,
-            index,
-            alloc,
-        }),
+    match session_over(alloc, Catalog { rels, users }, counts) {
+        Ok(session) => Ok(session),
         Err(_) => {
             keeper.undo();
             Err(TabError::Memory)
@@ -135,11 +131,30 @@ fn session_of<K: Keeper>(alloc: Global, keeper: &mut K) -> Result<Session, TabEr
     }
 }
 
+/// A session over a base of this catalog and these sizes, with no changes to take back or make again.
+pub(crate) fn session_over(
+    alloc: Global,
+    catalog: Catalog,
+    counts: Counts,
+) -> Result<Session, AllocError>
+    ensures { IfOk result (λ session. session ≡ record { catalog = catalog; counts = counts; history = nothing_kept }) }
+{
+    let index = NameIndex::of(alloc, &catalog)?;
+    let history = History::new(alloc)?;
+    Ok(Session {
+        catalog,
+        counts,
+        index,
+        history,
+        alloc,
+    })
+}
+
 /// Makes the tables those of a base, whatever rows they had, in a transaction of its own, with a session over it. The session is
 /// made before the commit: afterwards nothing is asked for that can be refused.
 fn migrate<K: Keeper>(alloc: Global, keeper: &mut K, base: &Base) -> Result<Session, StopError>
     requires still { IsStill (K.seen keeper.old) }
-    ensures agrees { IfOk result (λ session. Agrees (K.seen keeper.new).kept session (start_from base.now)) }
+    ensures agrees { IfOk result (λ session. Remembers (K.seen keeper.new).kept session (started base.now)) }
     ensures committed { IsCommitted (K.seen keeper.old) (K.seen keeper.new) result StopError.Fault }
 {
     match begin(keeper) {
@@ -163,7 +178,7 @@ fn written_session<K: Keeper>(
     base: &Base,
 ) -> Result<Session, TabError>
     requires running { (K.seen keeper.old).running ≡ true }
-    ensures agrees { IfOk result (λ session. Agrees (K.seen keeper.new).kept session (start_from base.now)) }
+    ensures agrees { IfOk result (λ session. Remembers (K.seen keeper.new).kept session (started base.now)) }
     ensures counts { NeverFall (K.seen keeper.old) (K.seen keeper.new) }
     ensures steps { Steps (K.seen keeper.old) (K.seen keeper.new) result TabError.Fault }
 {
@@ -181,26 +196,34 @@ fn written_session<K: Keeper>(
 fn new_session<K: Keeper>(alloc: Global, keeper: &mut K) -> Result<Session, StopError>
     requires still { IsStill (K.seen keeper.old) }
     requires empty { (K.seen keeper.old).kept ≡ tables.empty }
-    ensures agrees { IfOk result (λ session. Agrees (K.seen keeper.new).kept session (start_from empty_contents)) }
+    ensures agrees { IfOk result (λ session. Remembers (K.seen keeper.new).kept session (started empty_contents)) }
     ensures committed { IsCommitted (K.seen keeper.old) (K.seen keeper.new) result StopError.Fault }
 {
+    let session = match empty_session(alloc) {
+        Ok(session) => session,
+        Err(_) => return Err(StopError::Memory),
+    };
     match commit_empty(alloc, keeper) {
-        Ok(()) => Ok(Session {
-            catalog: Catalog {
-                rels: List::new(alloc),
-                users: List::new(alloc),
-            },
-            counts: Counts {
-                worlds: 1,
-                tuples: 0,
-                stmts: 0,
-                rows: 0,
-            },
-            index: NameIndex::new(alloc),
-            alloc,
-        }),
+        Ok(()) => Ok(session),
         Err(stop) => Err(stop),
     }
+}
+
+/// A session over the empty base.
+fn empty_session(alloc: Global) -> Result<Session, AllocError>
+    ensures { IfOk result (λ session. session ≡ record { catalog = empty_contents.catalog; counts = record { worlds = 1; tuples = 0; stmts = 0; rows = 0 }; history = nothing_kept }) }
+{
+    let catalog = Catalog {
+        rels: List::new(alloc),
+        users: List::new(alloc),
+    };
+    let counts = Counts {
+        worlds: 1,
+        tuples: 0,
+        stmts: 0,
+        rows: 0,
+    };
+    session_over(alloc, catalog, counts)
 }
 
 /// Makes the tables of the empty base, in a transaction of its own.

@@ -16,9 +16,10 @@ use std::alloc::Global;
 use std::io::{self, ErrorKind};
 
 impl<S: Start> SqlKeeper<FileStore<FileFrom<S>>> {
-    /// Opens the file at a path and loads its rows. Where there is none, or it has no byte, it becomes a database without
-    /// rows. Any other file that is no database in the keeper's form is left as it is, and the keeper doesn't work. It takes
-    /// memory. `start` stands for the bytes of the file and of the log beside it, so what is said here holds whatever they are.
+    /// Opens the file at a path and loads its rows. Where there is none, it has no byte, or a run was cut off while it made it,
+    /// it becomes a database without rows. Any other file that is no database in the keeper's form is left as it is, and the
+    /// keeper doesn't work. It takes memory. `start` stands for the bytes of the file and of the log beside it, so what is said
+    /// here holds whatever they are.
     pub fn from_file_holding(alloc: Global, rt: &HostRuntime, path: &str, start: S) -> Self
         ensures begins { Begins result }
         ensures file { works result ≡ true → IsSome result.conn }
@@ -34,8 +35,8 @@ impl<S: Start> SqlKeeper<FileStore<FileFrom<S>>> {
         }
     }
 
-    /// Opens the file at a path, which has to be there, and loads its rows. It makes no file, and where there is none, or
-    /// it has no byte, the keeper doesn't work. It takes memory. `start` is as above.
+    /// Opens the file at a path, which has to be there, and loads its rows. It makes no file, and where there is none, it has
+    /// no byte, or a run was cut off while it made it, the keeper doesn't work. It takes memory. `start` is as above.
     pub fn from_present_file_holding(alloc: Global, rt: &HostRuntime, path: &str, start: S) -> Self
         ensures begins { Begins result }
         ensures file { works result ≡ true → IsSome result.conn }

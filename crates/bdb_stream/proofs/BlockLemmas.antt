@@ -4,8 +4,8 @@ use Rattle.bdb_keep.specs.Seen.{Seen}
 use Rattle.bdb_lex.specs.Cut.{CutState, CutterState, EndsFirst, ready, start, pieces_from, state_after}
 use Rattle.bdb_lex.specs.declared.token.Piece.{Piece}
 use Rattle.bdb_session.specs.declared.event.Event.{Event}
-use Rattle.bdb_session.specs.Known.{Known, Agrees}
-use Rattle.bdb_session.specs.Outcome.{State}
+use Rattle.bdb_session.specs.Known.{Known, Remembers}
+use Rattle.bdb_undo.specs.Timelines.{Timeline}
 use Rattle.bdb_session.specs.Runs.{event_of}
 use Rattle.bdb_stream.specs.Carried.{Comes}
 use Rattle.bdb_stream.proofs.AnswerLemmas.{carries_none}
@@ -34,9 +34,9 @@ state_done last s rest others piece cutter h first is = h ∙ first.state ∙ ap
 
 -- the run has come through one piece more
 pub come_next : (all : List Event) (known : Known) (s : CutState) (rest others : List ℕ) (piece : Piece) (cutter : CutterState) (session next : Known) (first mid last : Seen) (old middle new : Option (List ℕ)) (accepted fine : Bool)
-    → (done : List Event) × (all ≡ done ++ events_in s rest) × ((x : State) → Agrees first.kept known x → Comes x done session first mid old middle accepted)
+    → (done : List Event) × (all ≡ done ++ events_in s rest) × ((x : Timeline) → Remembers first.kept known x → Comes x done session first mid old middle accepted)
     → EndsFirst s rest piece others → cutter ≡ ready start → AnswersOf (event_of piece) session next mid last middle new (Ok fine)
-    → (done : List Event) × (all ≡ done ++ events_in cutter.state others) × ((x : State) → Agrees first.kept known x → Comes x done next first last old new (accepted && fine))
+    → (done : List Event) × (all ≡ done ++ events_in cutter.state others) × ((x : Timeline) → Remembers first.kept known x → Comes x done next first last old new (accepted && fine))
 come_next all known s rest others piece cutter session next first mid last old middle new accepted fine h ends is answers =
     let done = h.0 ++ (event_of piece ∷ []) in (
       done,
@@ -45,7 +45,7 @@ come_next all known s rest others piece cutter session next first mid last old m
     )
 
 -- before the first piece nothing is done
-pub comes_none : (s : State) (session : Known) (now : Seen) (out : Option (List ℕ)) → Agrees now.kept session s → Comes s [] session now now out out true
+pub comes_none : (s : Timeline) (session : Known) (now : Seen) (out : Option (List ℕ)) → Remembers now.kept session s → Comes s [] session now now out out true
 comes_none s session now out a = record {
   carried = carries_none s session session now now refl (record { kept = refl; last = refl; commits = refl }) a;
   written = nothing_grows out;

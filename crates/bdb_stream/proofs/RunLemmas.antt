@@ -5,10 +5,10 @@ use Rattle.std.proofs.lemmas.List.{drop_more}
 use Rattle.bdb_base.specs.Causes.{Rises}
 use Rattle.bdb_keep.specs.Seen.{Seen, NeverFall}
 use Rattle.bdb_session.specs.declared.event.Event.{Event}
-use Rattle.bdb_session.specs.Machine.{accepts, reply_of, next_state, counts}
-use Rattle.bdb_session.specs.Known.{Known, Agrees}
-use Rattle.bdb_session.specs.Outcome.{State}
-use Rattle.bdb_session.specs.Runs.{after, replies, accepts_all}
+use Rattle.bdb_session.specs.Undoing.{accepts, reply_of, next_state, counts}
+use Rattle.bdb_session.specs.Known.{Known, Remembers}
+use Rattle.bdb_undo.specs.Timelines.{Timeline}
+use Rattle.bdb_session.specs.UndoRuns.{after, replies, accepts_all}
 use Rattle.bdb_stream.specs.declared.stop.Stop.{Stop}
 use Rattle.bdb_stream.specs.declared.stop.Stop.TheVariants.{Source, Sink, Keeper, Memory, Large}
 use Rattle.bdb_stream.specs.Carried.{counted, Carried, Comes, EndsEarly, IsAnswer, Writes, WritesPart}
@@ -17,11 +17,11 @@ append_nil : {X : Type 0} (xs : List X) → xs ++ [] ≡ xs
 append_nil [] = refl
 append_nil (x ∷ xs) = ap (λ l. x ∷ l) (append_nil xs)
 
-after-append : (b : State) (xs ys : List Event) → after b (xs ++ ys) ≡ after (after b xs) ys
+after-append : (b : Timeline) (xs ys : List Event) → after b (xs ++ ys) ≡ after (after b xs) ys
 after-append b [] ys = refl
 after-append b (x ∷ xs) ys = after-append (next_state b x) xs ys
 
-pub replies-append : (b : State) (xs ys : List Event) → replies b (xs ++ ys) ≡ replies b xs ++ replies (after b xs) ys
+pub replies-append : (b : Timeline) (xs ys : List Event) → replies b (xs ++ ys) ≡ replies b xs ++ replies (after b xs) ys
 replies-append b [] ys = refl
 replies-append b (x ∷ xs) ys = ap (λ l. reply_of b x ++ l) (replies-append (next_state b x) xs ys) ∙ sym (append_assoc (reply_of b x) (replies (next_state b x) xs) (replies (after (next_state b x) xs) ys))
 
@@ -31,7 +31,7 @@ zero_and n = omega arith
 three : (k m n : ℕ) → k + (m + n) ≡ k + m + n
 three k m n = omega arith
 
-counted-append : (b : State) (xs ys : List Event) → counted b (xs ++ ys) ≡ counted b xs + counted (after b xs) ys
+counted-append : (b : Timeline) (xs ys : List Event) → counted b (xs ++ ys) ≡ counted b xs + counted (after b xs) ys
 counted-append b [] ys = zero_and (counted b ys)
 counted-append b (x ∷ xs) ys = ap (λ n. counts b x + n) (counted-append (next_state b x) xs ys) ∙ three (counts b x) (counted (next_state b x) xs) (counted (after (next_state b x) xs) ys)
 
@@ -43,7 +43,7 @@ and_true : (a : Bool) → a && true ≡ a
 and_true true = refl
 and_true false = refl
 
-accepts_all-append : (b : State) (xs ys : List Event) → accepts_all b (xs ++ ys) ≡ accepts_all b xs && accepts_all (after b xs) ys
+accepts_all-append : (b : Timeline) (xs ys : List Event) → accepts_all b (xs ++ ys) ≡ accepts_all b xs && accepts_all (after b xs) ys
 accepts_all-append b [] ys = refl
 accepts_all-append b (x ∷ xs) ys = ap (λ t. accepts b x && t) (accepts_all-append (next_state b x) xs ys) ∙ sym (and_assoc (accepts b x) (accepts_all (next_state b x) xs) (accepts_all (after (next_state b x) xs) ys))
 
@@ -71,16 +71,16 @@ pub left_step : (xs : List Event) (i : ℕ) (e : Event) → i + 1 ≤ length xs 
 left_step xs i e below is = drop_more xs i e (omega arith) ∙ ap (λ x. x ∷ drop (i + 1) xs) (sym is)
 
 -- more events were carried out
-pub carried_on : (b : State) (xs ys zs : List Event) (now next : Known) (first mid last : Seen) → zs ≡ xs ++ ys
+pub carried_on : (b : Timeline) (xs ys zs : List Event) (now next : Known) (first mid last : Seen) → zs ≡ xs ++ ys
     → Carried b xs now first mid → Carried (after b xs) ys next mid last → Carried b zs next first last
 carried_on b xs ys zs now next first mid last is come then = record {
-  agrees = subst (Agrees last.kept next) (sym (ap (after b) is ∙ after-append b xs ys)) then.agrees;
+  agrees = subst (Remembers last.kept next) (sym (ap (after b) is ∙ after-append b xs ys)) then.agrees;
   commits = rises_on (counted b xs) (counted (after b xs) ys) (counted b zs) first.commits mid.commits last.commits
       (ap (counted b) is ∙ counted-append b xs ys) come.commits then.commits;
 }
 
 -- the run has come through more events
-pub comes_on : (b : State) (xs ys zs : List Event) (now next : Known) (first mid last : Seen) (old middle new : Option (List ℕ)) (accepted fine : Bool) → zs ≡ xs ++ ys
+pub comes_on : (b : Timeline) (xs ys zs : List Event) (now next : Known) (first mid last : Seen) (old middle new : Option (List ℕ)) (accepted fine : Bool) → zs ≡ xs ++ ys
     → Comes b xs now first mid old middle accepted → Comes (after b xs) ys next mid last middle new fine → Comes b zs next first last old new (accepted && fine)
 comes_on b xs ys zs now next first mid last old middle new accepted fine is come then = record {
   carried = carried_on b xs ys zs now next first mid last is come.carried then.carried;
@@ -90,7 +90,7 @@ comes_on b xs ys zs now next first mid last old middle new accepted fine is come
 }
 
 -- the replies to more events were written, but perhaps a part of the last
-part_on : (b : State) (xs done : List Event) (old middle new : Option (List ℕ)) → Appends old middle (replies b xs) → WritesPart (after b xs) done middle new → WritesPart b (xs ++ done) old new
+part_on : (b : Timeline) (xs done : List Event) (old middle new : Option (List ℕ)) → Appends old middle (replies b xs) → WritesPart (after b xs) done middle new → WritesPart b (xs ++ done) old new
 part_on b xs done old middle new h w =
     let s = after b xs in
     let reply = take w.part (reply_of (after s w.front) w.last) in
@@ -102,15 +102,15 @@ part_on b xs done old middle new h w =
       written = grows_as old new (replies b xs ++ (replies s w.front ++ reply)) (replies b (xs ++ w.front) ++ take w.part (reply_of (after b (xs ++ w.front)) w.last))
           (sym (append_assoc (replies b xs) (replies s w.front) reply)
           ∙ ap (λ l. l ++ reply) (sym (replies-append b xs w.front))
-          ∙ ap (λ (x : State). replies b (xs ++ w.front) ++ take w.part (reply_of x w.last)) (sym (after-append b xs w.front)))
+          ∙ ap (λ (x : Timeline). replies b (xs ++ w.front) ++ take w.part (reply_of x w.last)) (sym (after-append b xs w.front)))
           (grows_on old middle new (replies b xs) (replies s w.front ++ reply) h w.written);
     }
 
-whole_on : (b : State) (xs done : List Event) (old middle new : Option (List ℕ)) → Appends old middle (replies b xs) → Appends middle new (replies (after b xs) done) → Appends old new (replies b (xs ++ done))
+whole_on : (b : Timeline) (xs done : List Event) (old middle new : Option (List ℕ)) → Appends old middle (replies b xs) → Appends middle new (replies (after b xs) done) → Appends old new (replies b (xs ++ done))
 whole_on b xs done old middle new h w =
     grows_as old new (replies b xs ++ replies (after b xs) done) (replies b (xs ++ done)) (sym (replies-append b xs done)) (grows_on old middle new (replies b xs) (replies (after b xs) done) h w)
 
-pub writes_on : (b : State) (xs done : List Event) (old middle new : Option (List ℕ)) (stop : Stop) → Appends old middle (replies b xs) → Writes stop (after b xs) done middle new → Writes stop b (xs ++ done) old new
+pub writes_on : (b : Timeline) (xs done : List Event) (old middle new : Option (List ℕ)) (stop : Stop) → Appends old middle (replies b xs) → Writes stop (after b xs) done middle new → Writes stop b (xs ++ done) old new
 writes_on b xs done old middle new Sink h w = part_on b xs done old middle new h w
 writes_on b xs done old middle new Source h w = whole_on b xs done old middle new h w
 writes_on b xs done old middle new Keeper h w = whole_on b xs done old middle new h w
@@ -118,7 +118,7 @@ writes_on b xs done old middle new Memory h w = whole_on b xs done old middle ne
 writes_on b xs done old middle new Large h w = whole_on b xs done old middle new h w
 
 -- the run comes through some events, and stops at one of those behind
-abbrev pub ends_on : (b : State) (events xs ys : List Event) (now next : Known) (first mid last : Seen) (old middle new : Option (List ℕ)) (accepted : Bool) (stop : Stop) → events ≡ xs ++ ys
+abbrev pub ends_on : (b : Timeline) (events xs ys : List Event) (now next : Known) (first mid last : Seen) (old middle new : Option (List ℕ)) (accepted : Bool) (stop : Stop) → events ≡ xs ++ ys
     → Comes b xs now first mid old middle accepted → EndsEarly (after b xs) ys next mid last middle new stop → EndsEarly b events next first last old new stop
 ends_on b events xs ys now next first mid last old middle new accepted stop is come ends = record {
   done = xs ++ ends.done;
@@ -129,10 +129,10 @@ ends_on b events xs ys now next first mid last old middle new accepted stop is c
 
 -- how one event was answered, whichever state the session agreed on with the tables
 abbrev pub AnswersOf : Event → Known → Known → Seen → Seen → Option (List ℕ) → Option (List ℕ) → Result Bool Stop → Type 0
-AnswersOf e before now first last old new result = (s : State) → Agrees first.kept before s → IsAnswer s e now first last old new result
+AnswersOf e before now first last old new result = (s : Timeline) → Remembers first.kept before s → IsAnswer s e now first last old new result
 
 -- one event was answered, and the run comes through it
-pub one_comes : (b : State) (e : Event) (next : Known) (first last : Seen) (old new : Option (List ℕ)) (fine : Bool) → IsAnswer b e next first last old new (Ok fine) → Comes b (e ∷ []) next first last old new fine
+pub one_comes : (b : Timeline) (e : Event) (next : Known) (first last : Seen) (old new : Option (List ℕ)) (fine : Bool) → IsAnswer b e next first last old new (Ok fine) → Comes b (e ∷ []) next first last old new fine
 one_comes b e next first last old new fine answer = record {
   carried = answer.0;
   written = grows_as old new (reply_of b e) (reply_of b e ++ []) (sym (append_nil (reply_of b e))) answer.2;
@@ -140,7 +140,7 @@ one_comes b e next first last old new fine answer = record {
 }
 
 -- or stops at it
-pub one_stops : (b : State) (e : Event) (rest : List Event) (next : Known) (first last : Seen) (old new : Option (List ℕ)) (stop : Stop) → IsAnswer b e next first last old new (Err stop) → EndsEarly b (e ∷ rest) next first last old new stop
+pub one_stops : (b : Timeline) (e : Event) (rest : List Event) (next : Known) (first last : Seen) (old new : Option (List ℕ)) (stop : Stop) → IsAnswer b e next first last old new (Err stop) → EndsEarly b (e ∷ rest) next first last old new stop
 one_stops b e rest next first last old new Sink answer = record {
   done = e ∷ [];
   front = (rest, refl);
@@ -153,14 +153,14 @@ one_stops b e rest next first last old new Memory answer = record { done = []; f
 one_stops b e rest next first last old new Large answer = record { done = []; front = (e ∷ rest, refl); carried = answer.0; written = answer.1 }
 
 -- the run has come through one more event
-pub comes_one : (b : State) (xs ys : List Event) (e : Event) (now next : Known) (first mid last : Seen) (old middle new : Option (List ℕ)) (accepted fine : Bool) → ys ≡ xs ++ e ∷ []
+pub comes_one : (b : Timeline) (xs ys : List Event) (e : Event) (now next : Known) (first mid last : Seen) (old middle new : Option (List ℕ)) (accepted fine : Bool) → ys ≡ xs ++ e ∷ []
     → Comes b xs now first mid old middle accepted → AnswersOf e now next mid last middle new (Ok fine) → Comes b ys next first last old new (accepted && fine)
 comes_one b xs ys e now next first mid last old middle new accepted fine is come answers =
     let s = after b xs in
     comes_on b xs (e ∷ []) ys now next first mid last old middle new accepted fine is come (one_comes s e next mid last middle new fine (answers s come.carried.agrees))
 
 -- the run stops at an event
-pub comes_stops : (b : State) (events xs : List Event) (e : Event) (rest : List Event) (now next : Known) (first mid last : Seen) (old middle new : Option (List ℕ)) (accepted : Bool) (stop : Stop)
+pub comes_stops : (b : Timeline) (events xs : List Event) (e : Event) (rest : List Event) (now next : Known) (first mid last : Seen) (old middle new : Option (List ℕ)) (accepted : Bool) (stop : Stop)
     → events ≡ xs ++ (e ∷ rest) → Comes b xs now first mid old middle accepted → AnswersOf e now next mid last middle new (Err stop) → EndsEarly b events next first last old new stop
 comes_stops b events xs e rest now next first mid last old middle new accepted stop is come answers =
     let s = after b xs in

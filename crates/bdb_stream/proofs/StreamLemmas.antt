@@ -10,10 +10,11 @@ use Rattle.bdb_lex.specs.declared.token.Rest.{Rest}
 use Rattle.bdb_lex.specs.declared.token.Rest.TheVariants.{Unfinished}
 use Rattle.bdb_session.specs.declared.event.Event.{Event}
 use Rattle.bdb_session.specs.declared.event.Event.TheVariants as event
-use Rattle.bdb_session.specs.Machine.{reply_of}
-use Rattle.bdb_session.specs.Known.{Known, Agrees}
-use Rattle.bdb_session.specs.Outcome.{State}
-use Rattle.bdb_session.specs.Runs.{event_of, rest_events, events_of, after, replies, IsFrontOf}
+use Rattle.bdb_session.specs.Undoing.{reply_of}
+use Rattle.bdb_session.specs.Known.{Known, Remembers}
+use Rattle.bdb_undo.specs.Timelines.{Timeline}
+use Rattle.bdb_session.specs.Runs.{event_of, rest_events, events_of, IsFrontOf}
+use Rattle.bdb_session.specs.UndoRuns.{after, replies}
 use Rattle.bdb_stream.specs.declared.stop.Stop.{Stop}
 use Rattle.bdb_stream.specs.declared.stop.Stop.TheVariants.{Source, Sink, Keeper, Memory, Large}
 use Rattle.bdb_stream.specs.Carried.{Comes, EndsEarly, IsAnswer, Writes}
@@ -81,7 +82,7 @@ first_taken (Some xs) (Some ys) taken h many = ap ended_in (sym (ap (take longes
 
 -- ---- events that are answered
 
-answered_less : (s : State) (xs ys done : List Event) (old new : Option (List ℕ)) → IsFrontOf xs ys → AreAnswered s ys done old new → AreAnswered s xs done old new
+answered_less : (s : Timeline) (xs ys done : List Event) (old new : Option (List ℕ)) → IsFrontOf xs ys → AreAnswered s ys done old new → AreAnswered s xs done old new
 answered_less s xs ys done old new h c = record {
   first = front_on xs ys done h c.first;
   replied = (
@@ -95,7 +96,7 @@ pub few_left : (n m k : ℕ) → m ≤ k → n + m - k ≤ n
 few_left n m k h = omega arith
 
 -- what is answered of the bytes before the last read is answered of all but the last 65,536 with it
-caught_up : (s : State) (bytes part : List ℕ) (done : List Event) (old new : Option (List ℕ)) → length part ≤ longest_read
+caught_up : (s : Timeline) (bytes part : List ℕ) (done : List Event) (old new : Option (List ℕ)) → length part ≤ longest_read
     → AreAnswered s (ended_in bytes) done old new → AreAnswered s (ended_in (before_last_read (bytes ++ part))) done old new
 caught_up s bytes part done old new few c =
     let k = length (bytes ++ part) - longest_read in
@@ -104,34 +105,34 @@ caught_up s bytes part done old new few c =
     (subst (λ (l : List ℕ). IsFrontOf (ended_in l) (ended_in bytes)) (sym (take-append-le k bytes part low)) (ended_front k bytes)) c
 
 -- events behind which others were written
-wrote : (s : State) (done : List Event) (old new : Option (List ℕ)) (stop : Stop) → Writes stop s done old new → (text : List ℕ) × Appends old new text
+wrote : (s : Timeline) (done : List Event) (old new : Option (List ℕ)) (stop : Stop) → Writes stop s done old new → (text : List ℕ) × Appends old new text
 wrote s done old new Sink w = (replies s w.front ++ take w.part (reply_of (after s w.front) w.last), w.written)
 wrote s done old new Source w = (replies s done, w)
 wrote s done old new Keeper w = (replies s done, w)
 wrote s done old new Memory w = (replies s done, w)
 wrote s done old new Large w = (replies s done, w)
 
-answered_all : (s : State) (xs more : List Event) (text : List ℕ) (old middle new : Option (List ℕ)) → Appends old middle (replies s xs) → Appends middle new text → AreAnswered s xs (xs ++ more) old new
+answered_all : (s : Timeline) (xs more : List Event) (text : List ℕ) (old middle new : Option (List ℕ)) → Appends old middle (replies s xs) → Appends middle new text → AreAnswered s xs (xs ++ more) old new
 answered_all s xs more text old middle new h k = record { first = (more, refl); replied = (text, grows_on old middle new (replies s xs) text h k) }
 
 pub nothing_grows : (a : Option (List ℕ)) → Appends a a []
 nothing_grows None = tt
 nothing_grows (Some s) = sym (append-nil s)
 
-answered_these : (s : State) (xs : List Event) (old new : Option (List ℕ)) → Appends old new (replies s xs) → AreAnswered s xs xs old new
+answered_these : (s : Timeline) (xs : List Event) (old new : Option (List ℕ)) → Appends old new (replies s xs) → AreAnswered s xs xs old new
 answered_these s xs old new h = record { first = ([], sym (append-nil xs)); replied = ([], grows_as old new (replies s xs) (replies s xs ++ []) (sym (append-nil (replies s xs))) h) }
 
 -- ---- the run as it reads
 
 -- The bytes that were read so far were fed to the cutter, and the run has come through the pieces that end in them.
-pub record Reads (s : State) (before left : Option (List ℕ)) (bytes : List ℕ) (cutter : CutterState) (session : Known) (first now : Seen) (old new : Option (List ℕ)) (accepted : Bool) : Type 0 where
+pub record Reads (s : Timeline) (before left : Option (List ℕ)) (bytes : List ℕ) (cutter : CutterState) (session : Known) (first now : Seen) (old new : Option (List ℕ)) (accepted : Bool) : Type 0 where
   pub taken : Consumes before left bytes
   pub cut : cutter ≡ ready (state_after start bytes)
   pub come : Comes s (ended_in bytes) session first now old new accepted
 
 -- nothing was read yet
-pub reads_none : (s : State) (before : Option (List ℕ)) (cutter : CutterState) (session : Known) (first : Seen) (old : Option (List ℕ))
-    → cutter ≡ ready start → Agrees first.kept session s → Reads s before before [] cutter session first first old old true
+pub reads_none : (s : Timeline) (before : Option (List ℕ)) (cutter : CutterState) (session : Known) (first : Seen) (old : Option (List ℕ))
+    → cutter ≡ ready start → Remembers first.kept session s → Reads s before before [] cutter session first first old old true
 reads_none s before cutter session first old cut a = record {
   taken = consumes_none before;
   cut = cut;
@@ -139,10 +140,10 @@ reads_none s before cutter session first old cut a = record {
 }
 
 -- a block of the script was read and answered
-pub reads_on : (s : State) (before mid left : Option (List ℕ)) (bytes part : List ℕ) (cutter next_cutter : CutterState) (session next : Known) (first seen now : Seen) (old middle new : Option (List ℕ)) (accepted fine : Bool)
+pub reads_on : (s : Timeline) (before mid left : Option (List ℕ)) (bytes part : List ℕ) (cutter next_cutter : CutterState) (session next : Known) (first seen now : Seen) (old middle new : Option (List ℕ)) (accepted fine : Bool)
     → Reads s before mid bytes cutter session first seen old middle accepted → Consumes mid left part
     → next_cutter ≡ ready (state_after cutter.state part)
-    → ((x : State) → Agrees seen.kept session x → Comes x (map event_of (pieces_from cutter.state part)) next seen now middle new fine)
+    → ((x : Timeline) → Remembers seen.kept session x → Comes x (map event_of (pieces_from cutter.state part)) next seen now middle new fine)
     → Reads s before left (bytes ++ part) next_cutter next first now old new (accepted && fine)
 reads_on s before mid left bytes part cutter next_cutter session next first seen now old middle new accepted fine reads taken cut come = record {
   taken = consumes_on before mid left bytes part reads.taken taken;
@@ -152,7 +153,7 @@ reads_on s before mid left bytes part cutter next_cutter session next first seen
 }
 
 -- a read failed
-pub read_fails : (s : State) (before mid left : Option (List ℕ)) (bytes : List ℕ) (cutter : CutterState) (session : Known) (first now : Seen) (old new : Option (List ℕ)) (accepted : Bool)
+pub read_fails : (s : Timeline) (before mid left : Option (List ℕ)) (bytes : List ℕ) (cutter : CutterState) (session : Known) (first now : Seen) (old new : Option (List ℕ)) (accepted : Bool)
     → Reads s before mid bytes cutter session first now old new accepted → Keeps mid left → Streams s before left session first now old new (Err Source)
 read_fails s before mid left bytes cutter session first now old new accepted reads kept =
     let consumed = consumes_kept before mid left bytes reads.taken kept in
@@ -173,7 +174,7 @@ read_fails s before mid left bytes cutter session first now old new accepted rea
     }
 
 -- the script goes on behind as many bytes as a script may have
-pub read_over : (s : State) (before mid left : Option (List ℕ)) (bytes part : List ℕ) (cutter : CutterState) (session : Known) (first now : Seen) (old new : Option (List ℕ)) (accepted : Bool)
+pub read_over : (s : Timeline) (before mid left : Option (List ℕ)) (bytes part : List ℕ) (cutter : CutterState) (session : Known) (first now : Seen) (old new : Option (List ℕ)) (accepted : Bool)
     → Reads s before mid bytes cutter session first now old new accepted → Consumes mid left part → length bytes ≡ longest_script → length part ≤ longest_read
     → Streams s before left session first now old new (Err Large)
 read_over s before mid left bytes part cutter session first now old new accepted reads taken many few = record {
@@ -201,7 +202,7 @@ not_read Memory h k = (λ e. omega (arith, e), λ e. omega (arith, e))
 not_read Large h k = absurd (k refl)
 
 -- a run stopped behind the pieces of what was read
-stopped_behind : (s : State) (before left : Option (List ℕ)) (bytes part : List ℕ) (events : List Event) (session next : Known) (first seen now : Seen) (old middle new : Option (List ℕ)) (accepted : Bool) (stop : Stop)
+stopped_behind : (s : Timeline) (before left : Option (List ℕ)) (bytes part : List ℕ) (events : List Event) (session next : Known) (first seen now : Seen) (old middle new : Option (List ℕ)) (accepted : Bool) (stop : Stop)
     → Comes s (ended_in bytes) session first seen old middle accepted → Consumes before left (bytes ++ part) → length part ≤ longest_read
     → (stop ≡ Source → ⊥) → (stop ≡ Large → ⊥)
     → (ends : EndsEarly (after s (ended_in bytes)) events next seen now middle new stop)
@@ -230,10 +231,10 @@ front_behind : (xs ys zs : List Event) → IsFrontOf ys zs → IsFrontOf (xs ++ 
 front_behind xs ys zs h = (h.0, ap (λ l. xs ++ l) h.1 ∙ sym (append_assoc xs ys h.0))
 
 -- the run stopped at a piece that ends in the block that was read last
-pub block_stops : (s : State) (before mid left : Option (List ℕ)) (bytes part : List ℕ) (cutter : CutterState) (session next : Known) (first seen now : Seen) (old middle new : Option (List ℕ)) (accepted : Bool) (stop : Stop)
+pub block_stops : (s : Timeline) (before mid left : Option (List ℕ)) (bytes part : List ℕ) (cutter : CutterState) (session next : Known) (first seen now : Seen) (old middle new : Option (List ℕ)) (accepted : Bool) (stop : Stop)
     → Reads s before mid bytes cutter session first seen old middle accepted → Consumes mid left part → length part ≤ longest_read
     → (stop ≡ Source → ⊥) → (stop ≡ Large → ⊥)
-    → ((x : State) → Agrees seen.kept session x → EndsEarly x (map event_of (pieces_from cutter.state part)) next seen now middle new stop)
+    → ((x : Timeline) → Remembers seen.kept session x → EndsEarly x (map event_of (pieces_from cutter.state part)) next seen now middle new stop)
     → Streams s before left next first now old new (Err stop)
 block_stops s before mid left bytes part cutter session next first seen now old middle new accepted stop reads taken few not_source not_large stops =
     let ends = stops (after s (ended_in bytes)) reads.come.carried.agrees in
@@ -250,10 +251,10 @@ rest_behind : (bytes : List ℕ) (cutter : CutterState) (rest : Rest) → cutter
 rest_behind bytes cutter rest cut is = ap (λ (c : CutterState). ended_in bytes ++ rest_events (rest_of (holds_something c.state))) (sym cut) ∙ ap (λ (r : Rest). ended_in bytes ++ rest_events r) (sym is)
 
 -- the script was read to its end, and the run stopped at its rest
-pub rest_stops : (s : State) (before mid left : Option (List ℕ)) (bytes : List ℕ) (cutter : CutterState) (rest : Rest) (session next : Known) (first seen now : Seen) (old middle new : Option (List ℕ)) (accepted : Bool) (stop : Stop)
+pub rest_stops : (s : Timeline) (before mid left : Option (List ℕ)) (bytes : List ℕ) (cutter : CutterState) (rest : Rest) (session next : Known) (first seen now : Seen) (old middle new : Option (List ℕ)) (accepted : Bool) (stop : Stop)
     → Reads s before mid bytes cutter session first seen old middle accepted → Consumes mid left [] → IsAtEnd left → rest ≡ rest_of (holds_something cutter.state)
     → (stop ≡ Source → ⊥) → (stop ≡ Large → ⊥)
-    → ((x : State) → Agrees seen.kept session x → EndsEarly x (rest_events rest) next seen now middle new stop)
+    → ((x : Timeline) → Remembers seen.kept session x → EndsEarly x (rest_events rest) next seen now middle new stop)
     → Streams s before left next first now old new (Err stop)
 rest_stops s before mid left bytes cutter rest session next first seen now old middle new accepted stop reads taken end is not_source not_large stops =
     let ends = stops (after s (ended_in bytes)) reads.come.carried.agrees in
@@ -269,9 +270,9 @@ not_status true = (λ e. omega (arith, e), λ e. omega (arith, e))
 not_status false = (λ e. omega (arith, e), λ e. omega (arith, e))
 
 -- the script was read to its end, and its rest was answered
-pub reads_all : (s : State) (before mid left : Option (List ℕ)) (bytes : List ℕ) (cutter : CutterState) (rest : Rest) (session next : Known) (first seen now : Seen) (old middle new : Option (List ℕ)) (accepted fine : Bool)
+pub reads_all : (s : Timeline) (before mid left : Option (List ℕ)) (bytes : List ℕ) (cutter : CutterState) (rest : Rest) (session next : Known) (first seen now : Seen) (old middle new : Option (List ℕ)) (accepted fine : Bool)
     → Reads s before mid bytes cutter session first seen old middle accepted → Consumes mid left [] → IsAtEnd left → rest ≡ rest_of (holds_something cutter.state)
-    → ((x : State) → Agrees seen.kept session x → Comes x (rest_events rest) next seen now middle new fine)
+    → ((x : Timeline) → Remembers seen.kept session x → Comes x (rest_events rest) next seen now middle new fine)
     → Streams s before left next first now old new (Ok (accepted && fine))
 reads_all s before mid left bytes cutter rest session next first seen now old middle new accepted fine reads taken end is comes =
     let come = comes (after s (ended_in bytes)) reads.come.carried.agrees in
@@ -297,12 +298,12 @@ reads_all s before mid left bytes cutter rest session next first seen now old mi
     }
 
 -- the rest was refused, and the run stopped at its reply
-pub unfinished_stops : (s : State) (rest : Rest) (next : Known) (first last : Seen) (old new : Option (List ℕ)) (stop : Stop)
+pub unfinished_stops : (s : Timeline) (rest : Rest) (next : Known) (first last : Seen) (old new : Option (List ℕ)) (stop : Stop)
     → rest ≡ Unfinished → IsAnswer s event.Unfinished next first last old new (Err stop) → EndsEarly s (rest_events rest) next first last old new stop
 unfinished_stops s rest next first last old new stop is answer = subst (λ (r : Rest). EndsEarly s (rest_events r) next first last old new stop) (sym is) (one_stops s event.Unfinished [] next first last old new stop answer)
 
 -- and it went on at its reply
-pub unfinished_comes : (s : State) (rest : Rest) (next : Known) (first last : Seen) (old new : Option (List ℕ)) (fine : Bool)
+pub unfinished_comes : (s : Timeline) (rest : Rest) (next : Known) (first last : Seen) (old new : Option (List ℕ)) (fine : Bool)
     → rest ≡ Unfinished → IsAnswer s event.Unfinished next first last old new (Ok fine) → Comes s (rest_events rest) next first last old new fine
 unfinished_comes s rest next first last old new fine is answer = subst (λ (r : Rest). Comes s (rest_events r) next first last old new fine) (sym is) (one_comes s event.Unfinished next first last old new fine answer)
 

@@ -4,9 +4,9 @@ ghost use Rattle.bdb_base.specs.Causes.{Rose, HasCause};
 ghost use Rattle.bdb_io.specs.Failure.{failed};
 ghost use Rattle.bdb_io.specs.Pieces.{WritesPiece};
 ghost use Rattle.bdb_keep.specs.Seen.{IsStill, NeverFall};
-ghost use Rattle.bdb_session.specs.Known.{Agrees, AgreesOnSome};
+ghost use Rattle.bdb_session.specs.Known.{Remembers, RemembersSome};
 ghost use Rattle.bdb_session.specs.declared.event.Event.TheVariants as event;
-ghost use Rattle.bdb_session.specs.Outcome.{State};
+ghost use Rattle.bdb_undo.specs.Timelines.{Timeline};
 ghost use Rattle.bdb_session.specs.Runs.{event_of};
 ghost use Rattle.bdb_stream.specs.Carried.{IsAnswer};
 
@@ -24,10 +24,10 @@ pub fn answer<O: Sink, K: Keeper>(
     event: &Event,
 ) -> Result<bool, Stop>
     requires still { IsStill (K.seen keeper.old) }
-    requires agrees { AgreesOnSome (K.seen keeper.old).kept session.old }
-    ensures answered { (s : State) → Agrees (K.seen keeper.old).kept session.old s → IsAnswer s event.now session.new (K.seen keeper.old) (K.seen keeper.new) (O.written out.old) (O.written out.new) result }
+    requires agrees { RemembersSome (K.seen keeper.old).kept session.old }
+    ensures answered { (s : Timeline) → Remembers (K.seen keeper.old).kept session.old s → IsAnswer s event.now session.new (K.seen keeper.old) (K.seen keeper.new) (O.written out.old) (O.written out.new) result }
     ensures still { IsStill (K.seen keeper.new) }
-    ensures agrees { AgreesOnSome (K.seen keeper.new).kept session.new }
+    ensures agrees { RemembersSome (K.seen keeper.new).kept session.new }
     ensures never_fall { NeverFall (K.seen keeper.old) (K.seen keeper.new) }
     ensures keeper { HasCause (K.seen keeper.old).faults (K.seen keeper.new).faults result Stop.Keeper }
     ensures later { O.faults out.old ≤ O.faults out.new }
@@ -53,10 +53,10 @@ pub fn answer_piece<O: Sink, K: Keeper>(
     piece: &Piece<'_>,
 ) -> Result<bool, Stop>
     requires still { IsStill (K.seen keeper.old) }
-    requires agrees { AgreesOnSome (K.seen keeper.old).kept session.old }
-    ensures answered { (s : State) → Agrees (K.seen keeper.old).kept session.old s → IsAnswer s (event_of piece.now) session.new (K.seen keeper.old) (K.seen keeper.new) (O.written out.old) (O.written out.new) result }
+    requires agrees { RemembersSome (K.seen keeper.old).kept session.old }
+    ensures answered { (s : Timeline) → Remembers (K.seen keeper.old).kept session.old s → IsAnswer s (event_of piece.now) session.new (K.seen keeper.old) (K.seen keeper.new) (O.written out.old) (O.written out.new) result }
     ensures still { IsStill (K.seen keeper.new) }
-    ensures agrees { AgreesOnSome (K.seen keeper.new).kept session.new }
+    ensures agrees { RemembersSome (K.seen keeper.new).kept session.new }
     ensures never_fall { NeverFall (K.seen keeper.old) (K.seen keeper.new) }
     ensures keeper { HasCause (K.seen keeper.old).faults (K.seen keeper.new).faults result Stop.Keeper }
     ensures later { O.faults out.old ≤ O.faults out.new }
@@ -83,10 +83,10 @@ fn answer_command<O: Sink, K: Keeper>(
     bytes: &[u8],
 ) -> Result<bool, Stop>
     requires still { IsStill (K.seen keeper.old) }
-    requires agrees { AgreesOnSome (K.seen keeper.old).kept session.old }
-    ensures answered { (s : State) → Agrees (K.seen keeper.old).kept session.old s → IsAnswer s (event.Piece bytes.now) session.new (K.seen keeper.old) (K.seen keeper.new) (O.written out.old) (O.written out.new) result }
+    requires agrees { RemembersSome (K.seen keeper.old).kept session.old }
+    ensures answered { (s : Timeline) → Remembers (K.seen keeper.old).kept session.old s → IsAnswer s (event.Piece bytes.now) session.new (K.seen keeper.old) (K.seen keeper.new) (O.written out.old) (O.written out.new) result }
     ensures still { IsStill (K.seen keeper.new) }
-    ensures agrees { AgreesOnSome (K.seen keeper.new).kept session.new }
+    ensures agrees { RemembersSome (K.seen keeper.new).kept session.new }
     ensures never_fall { NeverFall (K.seen keeper.old) (K.seen keeper.new) }
     ensures keeper { HasCause (K.seen keeper.old).faults (K.seen keeper.new).faults result Stop.Keeper }
     ensures later { O.faults out.old ≤ O.faults out.new }

@@ -5,8 +5,8 @@ ghost use Rattle.bdb_base.specs.Causes.{Rose, Rises, RisesOver, HasCause};
 ghost use Rattle.bdb_base.specs.Limits.{longest_script};
 ghost use Rattle.bdb_keep.specs.Seen.{IsStill, NeverFall};
 ghost use Rattle.bdb_lex.specs.Cut.{ready, pieces_from, state_after};
-ghost use Rattle.bdb_session.specs.Known.{Agrees, AgreesOnSome};
-ghost use Rattle.bdb_session.specs.Outcome.{State};
+ghost use Rattle.bdb_session.specs.Known.{Remembers, RemembersSome};
+ghost use Rattle.bdb_undo.specs.Timelines.{Timeline};
 ghost use Rattle.bdb_session.specs.Runs.{event_of, rest_events};
 ghost use Rattle.bdb_stream.specs.Carried.{Ends};
 ghost use Rattle.bdb_stream.specs.Streams.{longest_read, Streams};
@@ -33,12 +33,12 @@ pub fn carry_out_script<S: Source, O: Sink, K: Keeper>(
     out: &mut O,
 ) -> Result<bool, Stop>
     requires still { IsStill (K.seen keeper.old) }
-    requires agrees { AgreesOnSome (K.seen keeper.old).kept session.old }
-    ensures streams { (s : State) → Agrees (K.seen keeper.old).kept session.old s → Streams s (S.left script.old) (S.left script.new) session.new (K.seen keeper.old) (K.seen keeper.new) (O.written out.old) (O.written out.new) result }
+    requires agrees { RemembersSome (K.seen keeper.old).kept session.old }
+    ensures streams { (s : Timeline) → Remembers (K.seen keeper.old).kept session.old s → Streams s (S.left script.old) (S.left script.new) session.new (K.seen keeper.old) (K.seen keeper.new) (O.written out.old) (O.written out.new) result }
     ensures end { OnOk result (IsAtEnd (S.left script.new)) }
     ensures short { OnOk result (IfSome (S.left script.old) (λ text. length text ≤ longest_script)) }
     ensures still { IsStill (K.seen keeper.new) }
-    ensures agrees { AgreesOnSome (K.seen keeper.new).kept session.new }
+    ensures agrees { RemembersSome (K.seen keeper.new).kept session.new }
     ensures source { IsErrOf result Stop.Source → Rose (S.faults script.old) (S.faults script.new) }
     ensures sink { IsErrOf result Stop.Sink → Rose (O.faults out.old) (O.faults out.new) }
     ensures keeper { IsErrOf result Stop.Keeper → Rose (K.seen keeper.old).faults (K.seen keeper.new).faults }
@@ -99,11 +99,11 @@ fn answer_block<O: Sink, K: Keeper>(
 ) -> Result<bool, Stop>
     requires ready { cutter.old.is_spent ≡ false }
     requires still { IsStill (K.seen keeper.old) }
-    requires agrees { AgreesOnSome (K.seen keeper.old).kept session.old }
+    requires agrees { RemembersSome (K.seen keeper.old).kept session.old }
     ensures cutter { OnOk result (cutter.new ≡ ready (state_after cutter.old.state block.now)) }
-    ensures ends { (s : State) → Agrees (K.seen keeper.old).kept session.old s → Ends s (map event_of (pieces_from cutter.old.state block.now)) session.new (K.seen keeper.old) (K.seen keeper.new) (O.written out.old) (O.written out.new) result }
+    ensures ends { (s : Timeline) → Remembers (K.seen keeper.old).kept session.old s → Ends s (map event_of (pieces_from cutter.old.state block.now)) session.new (K.seen keeper.old) (K.seen keeper.new) (O.written out.old) (O.written out.new) result }
     ensures still { IsStill (K.seen keeper.new) }
-    ensures agrees { AgreesOnSome (K.seen keeper.new).kept session.new }
+    ensures agrees { RemembersSome (K.seen keeper.new).kept session.new }
     ensures never_fall { NeverFall (K.seen keeper.old) (K.seen keeper.new) }
     ensures keeper { HasCause (K.seen keeper.old).faults (K.seen keeper.new).faults result Stop.Keeper }
     ensures later { O.faults out.old ≤ O.faults out.new }
@@ -135,10 +135,10 @@ fn answer_rest<O: Sink, K: Keeper>(
     rest: Rest,
 ) -> Result<bool, Stop>
     requires still { IsStill (K.seen keeper.old) }
-    requires agrees { AgreesOnSome (K.seen keeper.old).kept session.old }
-    ensures ends { (s : State) → Agrees (K.seen keeper.old).kept session.old s → Ends s (rest_events rest) session.new (K.seen keeper.old) (K.seen keeper.new) (O.written out.old) (O.written out.new) result }
+    requires agrees { RemembersSome (K.seen keeper.old).kept session.old }
+    ensures ends { (s : Timeline) → Remembers (K.seen keeper.old).kept session.old s → Ends s (rest_events rest) session.new (K.seen keeper.old) (K.seen keeper.new) (O.written out.old) (O.written out.new) result }
     ensures still { IsStill (K.seen keeper.new) }
-    ensures agrees { AgreesOnSome (K.seen keeper.new).kept session.new }
+    ensures agrees { RemembersSome (K.seen keeper.new).kept session.new }
     ensures never_fall { NeverFall (K.seen keeper.old) (K.seen keeper.new) }
     ensures keeper { HasCause (K.seen keeper.old).faults (K.seen keeper.new).faults result Stop.Keeper }
     ensures later { O.faults out.old ≤ O.faults out.new }

@@ -2,7 +2,7 @@
 use Rattle.std.specs.Prelude.{Bool, true, false, ◌&&◌, ◌≡◌, List, [], ◌∷◌}
 use Rattle.bdb_syntax.specs.declared.command.RawQuery.{RawQuery}
 use Rattle.bdb_syntax.specs.declared.command.Command.{Command}
-use Rattle.bdb_syntax.specs.declared.command.Command.TheVariants.{CreateUser, DropUser, CreateRelation, Insert, Delete, Update, Select, Explain, ShowWorld, Why, ShowTables}
+use Rattle.bdb_syntax.specs.declared.command.Command.TheVariants.{CreateUser, DropUser, CreateRelation, Insert, Delete, Update, Select, Explain, ShowWorld, Why, ShowTables, Undo, Redo}
 
 -- a list has an item
 abbrev pub is_filled : {X : Type 0} → List X → Bool
@@ -26,6 +26,8 @@ command_filled (Explain query) = query_filled query
 command_filled (ShowWorld users) = true
 command_filled (Why users sign rel vals) = is_filled vals
 command_filled ShowTables = true
+command_filled Undo = true
+command_filled Redo = true
 
 -- a command has those lists filled
 abbrev pub IsFilled : Command → Type 0

@@ -17,7 +17,7 @@ use Rattle.bdb_syntax.specs.declared.command.RawItem.{RawItem}
 use Rattle.bdb_syntax.specs.declared.command.RawSet.{RawSet}
 use Rattle.bdb_syntax.specs.declared.command.RawQuery.{RawQuery}
 use Rattle.bdb_syntax.specs.declared.command.Command.{Command}
-use Rattle.bdb_syntax.specs.declared.command.Command.TheVariants.{CreateUser, DropUser, CreateRelation, Insert, Delete, Update, Select, Explain, ShowWorld, Why, ShowTables}
+use Rattle.bdb_syntax.specs.declared.command.Command.TheVariants.{CreateUser, DropUser, CreateRelation, Insert, Delete, Update, Select, Explain, ShowWorld, Why, ShowTables, Undo, Redo}
 use Rattle.bdb_syntax.specs.Keywords.{is_reserved}
 use Rattle.bdb_syntax.specs.Filled.{IsFilled}
 
@@ -98,6 +98,8 @@ HasPrintableParts (Explain query) = IsPrintableQuery query
 HasPrintableParts (ShowWorld users) = AllByRecursion IsContent users
 HasPrintableParts (Why users sign rel vals) = IsPrintableSigned users rel vals
 HasPrintableParts ShowTables = Unit {0}
+HasPrintableParts Undo = Unit {0}
+HasPrintableParts Redo = Unit {0}
 
 -- a command has a printed form
 pub record IsPrintable (c : Command) : Type 0 where

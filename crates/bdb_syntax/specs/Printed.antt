@@ -9,7 +9,7 @@ use Rattle.bdb_base.specs.declared.kinds.Sign.TheVariants.{Plus, Minus}
 use Rattle.bdb_base.specs.declared.kinds.Value.{Value}
 use Rattle.bdb_base.specs.Texts.{cmp_text, column_text, dotted, int_text, joined, quoted, separated, value_text}
 use Rattle.bdb_syntax.specs.declared.command.Command.{Command}
-use Rattle.bdb_syntax.specs.declared.command.Command.TheVariants.{CreateUser, DropUser, CreateRelation, Insert, Delete, Update, Select, Explain, ShowWorld, Why, ShowTables}
+use Rattle.bdb_syntax.specs.declared.command.Command.TheVariants.{CreateUser, DropUser, CreateRelation, Insert, Delete, Update, Select, Explain, ShowWorld, Why, ShowTables, Undo, Redo}
 use Rattle.bdb_syntax.specs.declared.command.RawCol.{RawCol}
 use Rattle.bdb_syntax.specs.declared.command.RawCond.{RawCond}
 use Rattle.bdb_syntax.specs.declared.command.RawItem.{RawItem}
@@ -99,3 +99,5 @@ printed (Explain query) = codes "explain " ++ query_text query
 printed (ShowWorld users) = codes "show world" ++ flat_map belief_text users
 printed (Why users sign rel vals) = codes "why" ++ signed_text users sign rel vals
 printed ShowTables = codes "show tables"
+printed Undo = codes "undo"
+printed Redo = codes "redo"

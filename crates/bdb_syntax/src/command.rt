@@ -121,6 +121,10 @@ pub enum Command {
     },
     /// The structure that stands for all worlds.
     ShowTables,
+    /// The last change is taken back.
+    Undo,
+    /// The change that was taken back last is made again.
+    Redo,
 }
 
 impl Exact for RawCol {
@@ -265,6 +269,8 @@ impl Exact for Command {
                 vals: vals.try_clone(alloc)?,
             }),
             Command::ShowTables => Ok(Command::ShowTables),
+            Command::Undo => Ok(Command::Undo),
+            Command::Redo => Ok(Command::Redo),
         }
     }
 }

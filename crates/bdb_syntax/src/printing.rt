@@ -59,6 +59,8 @@ fn append_command(out: &mut Vec<u8>, command: &Command) -> Result<(), AllocError
             vals,
         } => append_why(out, users, *sign, rel, vals),
         Command::ShowTables => out.extend_from_slice(b"show tables"),
+        Command::Undo => out.extend_from_slice(b"undo"),
+        Command::Redo => out.extend_from_slice(b"redo"),
     }
 }
 

@@ -5,9 +5,17 @@ use Rattle.std.proofs.lemmas.List.{take-append-drop}
 use Rattle.bdb_catalog.specs.Opening.{StandFor}
 use Rattle.bdb_keep.specs.Seen.{Seen}
 use Rattle.bdb_session.specs.declared.event.Event.{Event}
-use Rattle.bdb_session.specs.Machine.{counts, next_state, reply_of, outcome_of}
-use Rattle.bdb_session.specs.Outcome.{State, start_from, Outcome, Blank, Refused, Done, state_after, commit_count}
-use Rattle.bdb_session.specs.Runs.{after, replies, events_of, IsFrontOf}
+use Rattle.bdb_render.specs.declared.refusal.Refusal.{Refusal}
+use Rattle.bdb_render.specs.declared.refusal.Refusal.TheVariants.{NoUndo, NoRedo}
+use Rattle.bdb_session.specs.declared.course.Course.{Course}
+use Rattle.bdb_session.specs.declared.course.Course.TheVariants.{Back, Forth, Onward}
+use Rattle.bdb_session.specs.Machine as machine
+use Rattle.bdb_session.specs.Outcome.{State, Outcome, Blank, Refused, Done, start_from, state_after, commit_count}
+use Rattle.bdb_session.specs.Undoing.{counts, course_of, led, next_by, next_state, outcome_by, reply_of, stepped}
+use Rattle.bdb_undo.specs.Timelines.{Timeline, arrived, redone, started, undone}
+use Rattle.bdb_undo.proofs.TimelineLemmas.{staying_arrives}
+use Rattle.bdb_session.specs.Runs.{events_of, IsFrontOf}
+use Rattle.bdb_session.specs.UndoRuns.{after, replies}
 use Rattle.bdb_stream.specs.Carried.{counted}
 use Rattle.bdb_stream.proofs.RunLemmas.{replies-append}
 use Rattle.bdb_top.specs.Counted.{before_count, up_to_count}
@@ -21,8 +29,20 @@ same_by s Blank h = refl
 same_by s (Refused r) h = refl
 same_by s (Done text answers next) h = absurd (omega (arith, h))
 
-uncounted : (s : State) (e : Event) → counts s e ≡ 0 → next_state s e ≡ s
-uncounted s e h = same_by s (outcome_of s e) h
+-- a step along the bases counts where it leads to one
+no_step : (r : Refusal) (s : Timeline) (to : Option Timeline) → commit_count (stepped r to) ≡ 0 → led s to ≡ s
+no_step r s None h = refl
+no_step r s (Some next) h = absurd (omega (arith, h))
+
+uncounted_by : (c : Course) (s : Timeline) (e : Event) → commit_count (outcome_by c s e) ≡ 0 → next_by c s e ≡ s
+uncounted_by Back s e h = no_step NoUndo s (undone s) h
+uncounted_by Forth s e h = no_step NoRedo s (redone s) h
+uncounted_by Onward s e h =
+    ap (λ (x : State). arrived x.base s) (same_by (start_from s.now) (machine.outcome_of (start_from s.now) e) h)
+    ∙ staying_arrives s
+
+uncounted : (s : Timeline) (e : Event) → counts s e ≡ 0 → next_state s e ≡ s
+uncounted s e h = uncounted_by (course_of e) s e h
 
 more_less : (m n : ℕ) → m + n - m ≡ n
 more_less m n = omega arith
@@ -34,7 +54,7 @@ front_none : (xs : List Event) → IsFrontOf [] xs
 front_none xs = (xs, refl)
 
 -- none of the events counts that come before the first that does
-before_first : (b : State) (es : List Event) → after b (before_count 0 b es) ≡ b
+before_first : (b : Timeline) (es : List Event) → after b (before_count 0 b es) ≡ b
 before_first b [] = refl
 before_first b (e ∷ es) = elim (cases_Bool (nat_lt 0 (counts b e))) [
   | inl t ↦ ap (after b) (cond-true (nat_lt 0 (counts b e)) [] (e ∷ before_count (0 - counts b e) (next_state b e) es) t)
@@ -52,26 +72,26 @@ before_first b (e ∷ es) = elim (cases_Bool (nat_lt 0 (counts b e))) [
     none_less n = omega arith
 
 -- the events before the next that counts begin with those done
-before_is : (b : State) (e : Event) (d rest : List Event) → before_count (counted b (e ∷ d)) b (e ∷ (d ++ rest)) ≡ e ∷ before_count (counted (next_state b e) d) (next_state b e) (d ++ rest)
+before_is : (b : Timeline) (e : Event) (d rest : List Event) → before_count (counted b (e ∷ d)) b (e ∷ (d ++ rest)) ≡ e ∷ before_count (counted (next_state b e) d) (next_state b e) (d ++ rest)
 before_is b e d rest =
     let c = counts b e in
     let n = counted (next_state b e) d in
     cond-false (nat_lt (c + n) c) [] (e ∷ before_count (c + n - c) (next_state b e) (d ++ rest)) (le-ltb (c + n) c (omega arith))
     ∙ ap (λ m. e ∷ before_count m (next_state b e) (d ++ rest)) (more_less c n)
 
-state_told : (b : State) (done rest : List Event) → after b done ≡ after b (before_count (counted b done) b (done ++ rest))
+state_told : (b : Timeline) (done rest : List Event) → after b done ≡ after b (before_count (counted b done) b (done ++ rest))
 state_told b [] rest = sym (before_first b rest)
 state_told b (e ∷ d) rest = state_told (next_state b e) d rest ∙ sym (ap (after b) (before_is b e d rest))
 
-no_more_told : (b : State) (done rest : List Event) → IsFrontOf done (before_count (counted b done) b (done ++ rest))
+no_more_told : (b : Timeline) (done rest : List Event) → IsFrontOf done (before_count (counted b done) b (done ++ rest))
 no_more_told b [] rest = front_none (before_count 0 b rest)
 no_more_told b (e ∷ d) rest = subst (λ (l : List Event). IsFrontOf (e ∷ d) l) (sym (before_is b e d rest)) (front_cons e d (before_count (counted (next_state b e) d) (next_state b e) (d ++ rest)) (no_more_told (next_state b e) d rest))
 
-up_to_none : (b : State) (es : List Event) → up_to_count 0 b es ≡ []
+up_to_none : (b : Timeline) (es : List Event) → up_to_count 0 b es ≡ []
 up_to_none b [] = refl
 up_to_none b (e ∷ es) = refl
 
-all_told : (b : State) (done rest : List Event) → IsFrontOf (up_to_count (counted b done) b (done ++ rest)) done
+all_told : (b : Timeline) (done rest : List Event) → IsFrontOf (up_to_count (counted b done) b (done ++ rest)) done
 all_told b [] rest = ([], sym (ap (λ (l : List Event). l ++ []) (up_to_none b rest)))
 all_told b (e ∷ d) rest =
     let c = counts b e in
@@ -91,7 +111,7 @@ still_some : (c n : ℕ) → nat_lt (c + n - 1) c ≡ false → c + n ≢ 0 → 
 still_some c n g some none = grind (arith, g)
 
 -- the events before the last that counts of those done are the first of them
-before_on : (b : State) (e : Event) (front es : List Event) (n : ℕ) → counts b e + n ≢ 0
+before_on : (b : Timeline) (e : Event) (front es : List Event) (n : ℕ) → counts b e + n ≢ 0
     → (n ≢ 0 → IsFrontOf (before_count (n - 1) (next_state b e) es) front) → IsFrontOf (before_count (counts b e + n - 1) b (e ∷ es)) (e ∷ front)
 before_on b e front es n some rest =
     let c = counts b e in
@@ -103,12 +123,12 @@ before_on b e front es n some rest =
           (front_cons e (before_count (n - 1) (next_state b e) es) front (rest (still_some c n g some)))
     ]
 
-before_done : (b : State) (done rest : List Event) → counted b done ≢ 0 → IsFrontOf (before_count (counted b done - 1) b (done ++ rest)) done
+before_done : (b : Timeline) (done rest : List Event) → counted b done ≢ 0 → IsFrontOf (before_count (counted b done - 1) b (done ++ rest)) done
 before_done b [] rest some = absurd (some refl)
 before_done b (e ∷ d) rest some = before_on b e d (d ++ rest) (counted (next_state b e) d) some (λ more. before_done (next_state b e) d rest more)
 
 -- and of all but the last of them
-before_last : (b : State) (front : List Event) (last : Event) (rest : List Event) → counted b (front ++ last ∷ []) ≢ 0
+before_last : (b : Timeline) (front : List Event) (last : Event) (rest : List Event) → counted b (front ++ last ∷ []) ≢ 0
     → IsFrontOf (before_count (counted b (front ++ last ∷ []) - 1) b (front ++ last ∷ [] ++ rest)) front
 before_last b [] last rest some =
     let c = counts b last in
@@ -121,13 +141,13 @@ before_last b [] last rest some =
 before_last b (e ∷ f) last rest some =
     before_on b e f (f ++ last ∷ [] ++ rest) (counted (next_state b e) (f ++ last ∷ [])) some (λ more. before_last (next_state b e) f last rest more)
 
-told : (b : State) (done rest : List Event) → IsToldByCount b (done ++ rest) done (counted b done)
+told : (b : Timeline) (done rest : List Event) → IsToldByCount b (done ++ rest) done (counted b done)
 told b done rest = record { state = state_told b done rest; all_of = all_told b done rest; no_more = no_more_told b done rest }
 
 pub count_tells_the_state : CountTellsTheState
 count_tells_the_state b events done is = subst (λ (l : List Event). IsToldByCount b l done (counted b done)) (sym is.1) (told b done is.0)
 
-replies_begin : (b : State) (xs ys : List Event) → IsFrontOf xs ys → BeginsWith (replies b ys) (replies b xs)
+replies_begin : (b : Timeline) (xs ys : List Event) → IsFrontOf xs ys → BeginsWith (replies b ys) (replies b xs)
 replies_begin b xs ys h = (replies (after b xs) h.0, ap (replies b) h.1 ∙ replies-append b xs h.0)
 
 pub begins_on : (x y z : List ℕ) → BeginsWith x y → BeginsWith y z → BeginsWith x z
@@ -140,11 +160,11 @@ begins_more x y z h = (h.0 ++ y, ap (λ l. l ++ y) h.1 ∙ append_assoc z h.0 y)
 pub part_begins : (x y : List ℕ) (n : ℕ) → BeginsWith (x ++ y) (x ++ take n y)
 part_begins x y n = (drop n y, ap (λ l. x ++ l) (sym (take-append-drop n y)) ∙ sym (append_assoc x (take n y) (drop n y)))
 
-before_whole : (b : State) (events done : List Event) → IsFrontOf done events → counted b done ≢ 0 → IsFrontOf (before_count (counted b done - 1) b events) done
+before_whole : (b : Timeline) (events done : List Event) → IsFrontOf done events → counted b done ≢ 0 → IsFrontOf (before_count (counted b done - 1) b events) done
 before_whole b events done h some =
     subst (λ (l : List Event). IsFrontOf (before_count (counted b done - 1) b l) done) (sym h.1) (before_done b done h.0 some)
 
-before_part : (b : State) (events done front : List Event) (last : Event) → done ≡ front ++ last ∷ [] → IsFrontOf done events → counted b done ≢ 0
+before_part : (b : Timeline) (events done front : List Event) (last : Event) → done ≡ front ++ last ∷ [] → IsFrontOf done events → counted b done ≢ 0
     → IsFrontOf (before_count (counted b done - 1) b events) front
 before_part b events done front last is h some =
     subst (λ (d : List Event). IsFrontOf (before_count (counted b d - 1) b events) front) (sym is)
@@ -155,7 +175,7 @@ append_nil : {X : Type 0} (xs : List X) → xs ++ [] ≡ xs
 append_nil [] = refl
 append_nil (x ∷ xs) = ap (λ l. x ∷ l) (append_nil xs)
 
-replies-push : (b : State) (xs : List Event) (e : Event) → replies b (xs ++ e ∷ []) ≡ replies b xs ++ reply_of (after b xs) e
+replies-push : (b : Timeline) (xs : List Event) (e : Event) → replies b (xs ++ e ∷ []) ≡ replies b xs ++ reply_of (after b xs) e
 replies-push b xs e = replies-append b xs (e ∷ []) ∙ ap (λ l. replies b xs ++ l) (append_nil (reply_of (after b xs) e))
 
 pub is_four : (n : ℕ) → nat_eq n 4 ≡ true → n ≡ 4
@@ -165,14 +185,14 @@ pub not_four : (n : ℕ) → nat_eq n 4 ≡ false → n ≢ 4
 not_four n h e = grind (arith, h, e)
 
 -- the run by the events that are done
-by_done : (b : State) (text : List ℕ) (left : Option (List ℕ)) (first now : Seen) (old new : Option (List ℕ)) (status : ℕ) (ran : Ran b text left first now old new status)
+by_done : (b : Timeline) (text : List ℕ) (left : Option (List ℕ)) (first now : Seen) (old new : Option (List ℕ)) (status : ℕ) (ran : Ran b text left first now old new status)
     → EndsByCount b (events_of text) now old new status (counted b ran.done)
 by_done b text left first now old new status ran =
     let events = events_of text in
     let done = ran.done in
     let k = counted b done in
     let is = count_tells_the_state b events done ran.front in
-    let stand = subst (λ (x : State). StandFor now.last x.base) is.state ran.stands in
+    let stand = subst (λ (x : Timeline). StandFor now.last x.now) is.state ran.stands in
     let more = replies_begin b done (before_count k b events) is.no_more in
     elim (cases_Bool (nat_eq status 4)) [
       | inl t ↦
@@ -198,13 +218,13 @@ by_done b text left first now old new status ran =
       }
     ]
 
-commits_tell : (s : State) (text : List ℕ) (left : Option (List ℕ)) (first now : Seen) (old new : Option (List ℕ)) (status : ℕ) → Ran s text left first now old new status → CommitsTell s text first now old new status
+commits_tell : (s : Timeline) (text : List ℕ) (left : Option (List ℕ)) (first now : Seen) (old new : Option (List ℕ)) (status : ℕ) → Ran s text left first now old new status → CommitsTell s text first now old new status
 commits_tell s text left first now old new status ran below =
     subst (λ (k : ℕ). EndsByCount s (events_of text) now old new status k) (ran.commits below) (by_done s text left first now old new status ran)
 
 -- the same for each base and text
 pub each_by_count : (before left : Option (List ℕ)) (first now : Seen) (old new : Option (List ℕ)) (status : ℕ)
-    → IfSome before (λ text. EachBase first.kept (λ b. Ran (start_from b) text left first now old new status))
-    → IfSome before (λ text. EachBase first.kept (λ b. CommitsTell (start_from b) text first now old new status))
+    → IfSome before (λ text. EachBase first.kept (λ b. Ran (started b) text left first now old new status))
+    → IfSome before (λ text. EachBase first.kept (λ b. CommitsTell (started b) text first now old new status))
 each_by_count None left first now old new status h = tt
-each_by_count (Some text) left first now old new status h = λ b stands. commits_tell (start_from b) text left first now old new status (h b stands)
+each_by_count (Some text) left first now old new status h = λ b stands. commits_tell (started b) text left first now old new status (h b stands)

@@ -2,6 +2,7 @@ pub mod CommitLemmas
 pub mod CountLemmas
 pub mod RanLemmas
 pub mod EmptyLemmas
+pub mod ErrorLemmas
 pub mod GeneratedLemmas
 pub mod TallyLemmas
 pub mod CheckLemmas

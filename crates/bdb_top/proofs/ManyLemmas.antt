@@ -158,7 +158,7 @@ pub each_run : (before left : Option (List ℕ)) (hand : AtHand) (session next :
     → IfSome before (λ text. EachBase first.kept (λ b. RanMany (start_from b) text left first now old new (status_of result)))
 each_run None left hand session next first mid now old new result starts opens opened still run = tt
 each_run (Some text) left hand session next first mid now old new result starts opens opened still run = λ b stands.
-    ran_from (start_from b) text left next first mid now old new result opened still (run (start_at (start_from b)) (starts mid.kept (start_from b) (opens b stands)))
+    ran_from (start_from b) text left next first mid now old new result opened still (run (start_at (start_from b)) (starts mid.kept (start_from b) (opens b stands).agrees))
 
 -- the same run, by what its status is
 pub each_status : (before left : Option (List ℕ)) (first now : Seen) (old new : Option (List ℕ)) (status number : ℕ) → status ≡ number

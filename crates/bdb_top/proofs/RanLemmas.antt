@@ -8,10 +8,11 @@ use Rattle.bdb_catalog.specs.Opening.{StandFor}
 use Rattle.bdb_keep.specs.Seen.{Seen, IsStill, Unchanged}
 use Rattle.bdb_keep.specs.Tables.{Tables}
 use Rattle.bdb_session.specs.declared.event.Event.{Event}
-use Rattle.bdb_session.specs.Known.{Known, Agrees}
+use Rattle.bdb_session.specs.Known.{Known, Remembers}
 use Rattle.bdb_session.specs.Opening.{opening, Opens}
-use Rattle.bdb_session.specs.Outcome.{State, start_from}
-use Rattle.bdb_session.specs.Runs.{after, replies, accepts_all, events_of, IsFrontOf}
+use Rattle.bdb_undo.specs.Timelines.{Timeline, started}
+use Rattle.bdb_session.specs.Runs.{events_of, IsFrontOf}
+use Rattle.bdb_session.specs.UndoRuns.{after, replies, accepts_all}
 use Rattle.bdb_stream.specs.Carried.{counted, Carried}
 use Rattle.bdb_stream.specs.Streams.{status_of, KeepsUp, Streams}
 use Rattle.bdb_stream.specs.declared.stop.Stop.{Stop}
@@ -28,8 +29,8 @@ nothing_grows (Some s) = sym (append_nil s)
 
 -- What a run from a base leaves of a keeper that was opened: the tables store the base after these events, and there was a
 -- commit for each that counts.
-record Left (s : State) (done : List Event) (first now : Seen) : Type 0 where
-  stores : StoresValid now.last (after s done).base
+record Left (s : Timeline) (done : List Event) (first now : Seen) : Type 0 where
+  stores : StoresValid now.last (after s done).now
   commits : CommitsFor (counted s done) first now
 
 -- the commits of events, behind that of opening
@@ -39,15 +40,15 @@ commits_on k n a m z h i below =
     let first = h (omega arith) in
     omega arith
 
-left_by : (s : State) (done : List Event) (session : Known) (first mid now : Seen)
+left_by : (s : Timeline) (done : List Event) (session : Known) (first mid now : Seen)
     → Rises (opening first.kept) first.commits mid.commits → Carried s done session mid now → IsStill now → Left s done first now
 left_by s done session first mid now opened carried still = record {
-  stores = subst (λ (t : Tables). StoresValid t (after s done).base) still.rest carried.agrees.base;
+  stores = subst (λ (t : Tables). StoresValid t (after s done).now) still.rest carried.agrees.agrees.base;
   commits = commits_on (counted s done) (opening first.kept) first.commits mid.commits now.commits opened carried.commits;
 }
 
 -- a run that stopped with whole replies
-early : (s : State) (text : List ℕ) (left : Option (List ℕ)) (first now : Seen) (old new : Option (List ℕ)) (status : ℕ) (done : List Event) → IsFrontOf done (events_of text)
+early : (s : Timeline) (text : List ℕ) (left : Option (List ℕ)) (first now : Seen) (old new : Option (List ℕ)) (status : ℕ) (done : List Event) → IsFrontOf done (events_of text)
     → Left s done first now → Appends old new (replies s done) → KeepsUp s (Some text) left done old new status → 2 ≤ status → status ≢ 4 → Ran s text left first now old new status
 early s text left first now old new status done front leaves written keeps_up high not_sink = record {
   done = done;
@@ -65,12 +66,12 @@ early s text left first now old new status done front leaves written keeps_up hi
 }
 
 -- a run whose keeper was not opened
-closed : (s : State) (text : List ℕ) (first now : Seen) (old : Option (List ℕ)) (status : ℕ)
-    → StandFor first.kept s.base → IsStill now → Unchanged first now → (status ≡ 5) ⊎ (status ≡ 6) → Ran s text (Some text) first now old old status
+closed : (s : Timeline) (text : List ℕ) (first now : Seen) (old : Option (List ℕ)) (status : ℕ)
+    → StandFor first.kept s.now → IsStill now → Unchanged first now → (status ≡ 5) ⊎ (status ≡ 6) → Ran s text (Some text) first now old old status
 closed s text first now old status stands still same is = record {
   done = [];
   front = (events_of text, refl);
-  stands = subst (λ (t : Tables). StandFor t s.base) (sym same.kept ∙ still.rest) stands;
+  stands = subst (λ (t : Tables). StandFor t s.now) (sym same.kept ∙ still.rest) stands;
   stores = λ not_five not_six. absurd (elim is [ inl e ↦ not_five e | inr e ↦ not_six e ]);
   committed = λ more. absurd (more same.commits);
   commits = λ _. none now.commits first.commits (opening first.kept) same.commits;
@@ -94,18 +95,18 @@ closed s text first now old status stands still same is = record {
 -- the same for each base and text
 pub each_closed : (before : Option (List ℕ)) (first now : Seen) (old : Option (List ℕ)) (status : ℕ)
     → IsStill now → Unchanged first now → (status ≡ 5) ⊎ (status ≡ 6)
-    → IfSome before (λ text. EachBase first.kept (λ b. Ran (start_from b) text before first now old old status))
+    → IfSome before (λ text. EachBase first.kept (λ b. Ran (started b) text before first now old old status))
 each_closed None first now old status still same is = tt
-each_closed (Some text) first now old status still same is = λ b stands. closed (start_from b) text first now old status stands still same is
+each_closed (Some text) first now old status still same is = λ b stands. closed (started b) text first now old status stands still same is
 
 -- where the tables stand for no base there is nothing to tell of a run
 pub each_refused : (before : Option (List ℕ)) (first now : Seen) (old : Option (List ℕ)) (status : ℕ) → StandsForNone first.kept
-    → IfSome before (λ text. EachBase first.kept (λ b. Ran (start_from b) text before first now old old status))
+    → IfSome before (λ text. EachBase first.kept (λ b. Ran (started b) text before first now old old status))
 each_refused None first now old status none = tt
 each_refused (Some text) first now old status none = λ b stands. absurd (none b stands)
 
 -- a run that has come through all its events
-through : (s : State) (text : List ℕ) (left : Option (List ℕ)) (first now : Seen) (old new : Option (List ℕ)) (accepted : Bool) (done : List Event) → done ≡ events_of text → IsFrontOf done (events_of text)
+through : (s : Timeline) (text : List ℕ) (left : Option (List ℕ)) (first now : Seen) (old new : Option (List ℕ)) (accepted : Bool) (done : List Event) → done ≡ events_of text → IsFrontOf done (events_of text)
     → Left s done first now → Appends old new (replies s done) → accepted ≡ accepts_all s done → KeepsUp s (Some text) left done old new (status_of (Ok accepted)) → Ran s text left first now old new (status_of (Ok accepted))
 through s text left first now old new true done is front leaves written none keeps_up = record {
   done = done;
@@ -136,7 +137,7 @@ through s text left first now old new false done is front leaves written none ke
   keeps_up = keeps_up;
 }
 
-ran_from : (s : State) (text : List ℕ) (left : Option (List ℕ)) (session : Known) (first mid now : Seen) (old new : Option (List ℕ)) (result : Result Bool Stop)
+ran_from : (s : Timeline) (text : List ℕ) (left : Option (List ℕ)) (session : Known) (first mid now : Seen) (old new : Option (List ℕ)) (result : Result Bool Stop)
     → Rises (opening first.kept) first.commits mid.commits → IsStill now → Streams s (Some text) left session mid now old new result → Ran s text left first now old new (status_of result)
 ran_from s text left session first mid now old new (Ok accepted) opened still run =
     through s text left first now old new accepted run.done run.all run.front (left_by s run.done session first mid now opened run.carried still) run.written run.accepted run.keeps_up
@@ -168,18 +169,18 @@ ran_from s text left session first mid now old new (Err Sink) opened still run =
 -- a run over what the source gives, from each base that the tables stand for
 pub each_run : (before left : Option (List ℕ)) (session next : Known) (first mid now : Seen) (old new : Option (List ℕ)) (result : Result Bool Stop)
     → Opens first.kept mid.kept session → Rises (opening first.kept) first.commits mid.commits → IsStill now
-    → ((s : State) → Agrees mid.kept session s → Streams s before left next mid now old new result)
-    → IfSome before (λ text. EachBase first.kept (λ b. Ran (start_from b) text left first now old new (status_of result)))
+    → ((s : Timeline) → Remembers mid.kept session s → Streams s before left next mid now old new result)
+    → IfSome before (λ text. EachBase first.kept (λ b. Ran (started b) text left first now old new (status_of result)))
 each_run None left session next first mid now old new result opens opened still run = tt
 each_run (Some text) left session next first mid now old new result opens opened still run = λ b stands.
-    ran_from (start_from b) text left next first mid now old new result opened still (run (start_from b) (opens b stands))
+    ran_from (started b) text left next first mid now old new result opened still (run (started b) (opens b stands))
 
 -- the same run, by what its status is
 pub each_status : (before left : Option (List ℕ)) (first now : Seen) (old new : Option (List ℕ)) (status number : ℕ) → status ≡ number
-    → IfSome before (λ text. EachBase first.kept (λ b. Ran (start_from b) text left first now old new number))
-    → IfSome before (λ text. EachBase first.kept (λ b. Ran (start_from b) text left first now old new status))
+    → IfSome before (λ text. EachBase first.kept (λ b. Ran (started b) text left first now old new number))
+    → IfSome before (λ text. EachBase first.kept (λ b. Ran (started b) text left first now old new status))
 each_status before left first now old new status number is ran =
-    subst (λ (n : ℕ). IfSome before (λ text. EachBase first.kept (λ b. Ran (start_from b) text left first now old new n))) (sym is) ran
+    subst (λ (n : ℕ). IfSome before (λ text. EachBase first.kept (λ b. Ran (started b) text left first now old new n))) (sym is) ran
 
 -- the status of a run that was begun
 pub run_status : (n : ℕ) (r : Result Bool Stop) → n ≡ status_of r → (n ≤ 8) × (n ≢ 2)

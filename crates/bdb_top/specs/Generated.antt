@@ -5,9 +5,10 @@ use Rattle.bdb_base.specs.Bases.{Contents, empty_contents}
 use Rattle.bdb_canon.specs.Sizes.{counts_of}
 use Rattle.bdb_gen.specs.Scripts.{script}
 use Rattle.bdb_session.specs.declared.event.Event.{Event}
-use Rattle.bdb_session.specs.Machine.{accepts, answers_to, next_state, reply_of}
-use Rattle.bdb_session.specs.Outcome.{State, start_from}
-use Rattle.bdb_session.specs.Runs.{after, events_of}
+use Rattle.bdb_session.specs.Undoing.{accepts, answers_to, next_state, reply_of}
+use Rattle.bdb_undo.specs.Timelines.{Timeline, started}
+use Rattle.bdb_session.specs.Runs.{events_of}
+use Rattle.bdb_session.specs.UndoRuns.{after}
 use Rattle.bdb_top.specs.Lines.{line_with}
 use Rattle.bdb_top.specs.declared.tally.Tally.{Tally}
 
@@ -28,11 +29,11 @@ tally_reply t text accepted answers = record {
 }
 
 -- the tally with the reply to one more event
-abbrev pub tally_with : Tally → State → Event → Tally
+abbrev pub tally_with : Tally → Timeline → Event → Tally
 tally_with t s e = tally_reply t (reply_of s e) (accepts s e) (answers_to s e)
 
 -- the tally with the replies to more events
-abbrev pub tally_from : Tally → State → List Event → Tally
+abbrev pub tally_from : Tally → Timeline → List Event → Tally
 tally_from t s [] = t
 tally_from t s (e ∷ es) = tally_from (tally_with t s e) (next_state s e) es
 
@@ -44,11 +45,11 @@ summary_text t worlds rows =
 
 -- the base after events from the empty one
 abbrev pub base_after : List Event → Contents
-base_after events = (after (start_from empty_contents) events).base
+base_after events = (after (started empty_contents) events).now
 
 -- the summary of events from the empty base
 abbrev pub summary_of : List Event → List ℕ
-summary_of events = summary_text (tally_from no_replies (start_from empty_contents) events) (counts_of (base_after events)).worlds (counts_of (base_after events)).rows
+summary_of events = summary_text (tally_from no_replies (started empty_contents) events) (counts_of (base_after events)).worlds (counts_of (base_after events)).rows
 
 -- the summary of the script of a seed and a size
 abbrev pub summary : ℕ → ℕ → List ℕ

@@ -2,10 +2,11 @@
 ghost use Rattle.std.specs.Prelude.{◌≡◌, ◌+◌, IfOk, OnOk};
 ghost use Rattle.bdb_base.specs.Causes.{HasCause};
 ghost use Rattle.bdb_keep.specs.Seen.{IsStill};
-ghost use Rattle.bdb_session.specs.Known.{Agrees, AgreesOnSome};
-ghost use Rattle.bdb_session.specs.Machine.{next_state};
-ghost use Rattle.bdb_session.specs.Outcome.{State};
-ghost use Rattle.bdb_session.specs.Runs.{after, event_of, events_of, rest_events};
+ghost use Rattle.bdb_session.specs.Known.{Remembers, RemembersSome};
+ghost use Rattle.bdb_session.specs.Undoing.{next_state};
+ghost use Rattle.bdb_undo.specs.Timelines.{Timeline};
+ghost use Rattle.bdb_session.specs.Runs.{event_of, events_of, rest_events};
+ghost use Rattle.bdb_session.specs.UndoRuns.{after};
 ghost use Rattle.bdb_session.specs.declared.event.Event.TheVariants as event;
 ghost use Rattle.bdb_top.specs.Generated.{no_replies, tally_from, tally_reply, tally_with};
 
@@ -30,12 +31,12 @@ pub fn tally_script<K: Keeper>(
     script: &[u8],
 ) -> Result<Tally, StopError>
     requires still { IsStill (K.seen keeper.old) }
-    requires agrees { AgreesOnSome (K.seen keeper.old).kept session.old }
-    ensures tally { (s : State) → Agrees (K.seen keeper.old).kept session.old s → IfOk result (λ tally. tally ≡ tally_from no_replies s (events_of script.now)) }
-    ensures state { (s : State) → Agrees (K.seen keeper.old).kept session.old s → OnOk result (Agrees (K.seen keeper.new).kept session.new (after s (events_of script.now))) }
+    requires agrees { RemembersSome (K.seen keeper.old).kept session.old }
+    ensures tally { (s : Timeline) → Remembers (K.seen keeper.old).kept session.old s → IfOk result (λ tally. tally ≡ tally_from no_replies s (events_of script.now)) }
+    ensures state { (s : Timeline) → Remembers (K.seen keeper.old).kept session.old s → OnOk result (Remembers (K.seen keeper.new).kept session.new (after s (events_of script.now))) }
     ensures still { IsStill (K.seen keeper.new) }
     ensures cause { HasCause (K.seen keeper.old).faults (K.seen keeper.new).faults result StopError.Fault }
-    ensures agrees { AgreesOnSome (K.seen keeper.new).kept session.new }
+    ensures agrees { RemembersSome (K.seen keeper.new).kept session.new }
 {
     let mut cutter = Cutter::new(alloc);
     let mut tally = Tally {
@@ -70,12 +71,12 @@ fn tally_piece<K: Keeper>(
     piece: &Piece<'_>,
 ) -> Result<Tally, StopError>
     requires still { IsStill (K.seen keeper.old) }
-    requires agrees { AgreesOnSome (K.seen keeper.old).kept session.old }
-    ensures tally { (s : State) → Agrees (K.seen keeper.old).kept session.old s → IfOk result (λ next. next ≡ tally_with tally s (event_of piece.now)) }
-    ensures state { (s : State) → Agrees (K.seen keeper.old).kept session.old s → OnOk result (Agrees (K.seen keeper.new).kept session.new (next_state s (event_of piece.now))) }
+    requires agrees { RemembersSome (K.seen keeper.old).kept session.old }
+    ensures tally { (s : Timeline) → Remembers (K.seen keeper.old).kept session.old s → IfOk result (λ next. next ≡ tally_with tally s (event_of piece.now)) }
+    ensures state { (s : Timeline) → Remembers (K.seen keeper.old).kept session.old s → OnOk result (Remembers (K.seen keeper.new).kept session.new (next_state s (event_of piece.now))) }
     ensures still { IsStill (K.seen keeper.new) }
     ensures cause { HasCause (K.seen keeper.old).faults (K.seen keeper.new).faults result StopError.Fault }
-    ensures agrees { AgreesOnSome (K.seen keeper.new).kept session.new }
+    ensures agrees { RemembersSome (K.seen keeper.new).kept session.new }
 {
     match piece {
         Piece::Cmd(bytes) => match tally_command(session, keeper, tally, bytes.as_slice()) {
@@ -97,12 +98,12 @@ fn tally_rest<K: Keeper>(
     rest: Rest,
 ) -> Result<Tally, StopError>
     requires still { IsStill (K.seen keeper.old) }
-    requires agrees { AgreesOnSome (K.seen keeper.old).kept session.old }
-    ensures tally { (s : State) → Agrees (K.seen keeper.old).kept session.old s → IfOk result (λ next. next ≡ tally_from tally s (rest_events rest)) }
-    ensures state { (s : State) → Agrees (K.seen keeper.old).kept session.old s → OnOk result (Agrees (K.seen keeper.new).kept session.new (after s (rest_events rest))) }
+    requires agrees { RemembersSome (K.seen keeper.old).kept session.old }
+    ensures tally { (s : Timeline) → Remembers (K.seen keeper.old).kept session.old s → IfOk result (λ next. next ≡ tally_from tally s (rest_events rest)) }
+    ensures state { (s : Timeline) → Remembers (K.seen keeper.old).kept session.old s → OnOk result (Remembers (K.seen keeper.new).kept session.new (after s (rest_events rest))) }
     ensures still { IsStill (K.seen keeper.new) }
     ensures cause { HasCause (K.seen keeper.old).faults (K.seen keeper.new).faults result StopError.Fault }
-    ensures agrees { AgreesOnSome (K.seen keeper.new).kept session.new }
+    ensures agrees { RemembersSome (K.seen keeper.new).kept session.new }
 {
     match rest {
         Rest::Nothing => Ok(tally),
@@ -121,12 +122,12 @@ fn tally_command<K: Keeper>(
     bytes: &[u8],
 ) -> Result<Tally, StopError>
     requires still { IsStill (K.seen keeper.old) }
-    requires agrees { AgreesOnSome (K.seen keeper.old).kept session.old }
-    ensures tally { (s : State) → Agrees (K.seen keeper.old).kept session.old s → IfOk result (λ next. next ≡ tally_with tally s (event.Piece bytes.now)) }
-    ensures state { (s : State) → Agrees (K.seen keeper.old).kept session.old s → OnOk result (Agrees (K.seen keeper.new).kept session.new (next_state s (event.Piece bytes.now))) }
+    requires agrees { RemembersSome (K.seen keeper.old).kept session.old }
+    ensures tally { (s : Timeline) → Remembers (K.seen keeper.old).kept session.old s → IfOk result (λ next. next ≡ tally_with tally s (event.Piece bytes.now)) }
+    ensures state { (s : Timeline) → Remembers (K.seen keeper.old).kept session.old s → OnOk result (Remembers (K.seen keeper.new).kept session.new (next_state s (event.Piece bytes.now))) }
     ensures still { IsStill (K.seen keeper.new) }
     ensures cause { HasCause (K.seen keeper.old).faults (K.seen keeper.new).faults result StopError.Fault }
-    ensures agrees { AgreesOnSome (K.seen keeper.new).kept session.new }
+    ensures agrees { RemembersSome (K.seen keeper.new).kept session.new }
 {
     let reply = match session.apply(keeper, bytes) {
         Ok(reply) => reply,
@@ -146,12 +147,12 @@ fn tally_event<K: Keeper>(
     event: &Event,
 ) -> Result<Tally, StopError>
     requires still { IsStill (K.seen keeper.old) }
-    requires agrees { AgreesOnSome (K.seen keeper.old).kept session.old }
-    ensures tally { (s : State) → Agrees (K.seen keeper.old).kept session.old s → IfOk result (λ next. next ≡ tally_with tally s event.now) }
-    ensures state { (s : State) → Agrees (K.seen keeper.old).kept session.old s → OnOk result (Agrees (K.seen keeper.new).kept session.new (next_state s event.now)) }
+    requires agrees { RemembersSome (K.seen keeper.old).kept session.old }
+    ensures tally { (s : Timeline) → Remembers (K.seen keeper.old).kept session.old s → IfOk result (λ next. next ≡ tally_with tally s event.now) }
+    ensures state { (s : Timeline) → Remembers (K.seen keeper.old).kept session.old s → OnOk result (Remembers (K.seen keeper.new).kept session.new (next_state s event.now)) }
     ensures still { IsStill (K.seen keeper.new) }
     ensures cause { HasCause (K.seen keeper.old).faults (K.seen keeper.new).faults result StopError.Fault }
-    ensures agrees { AgreesOnSome (K.seen keeper.new).kept session.new }
+    ensures agrees { RemembersSome (K.seen keeper.new).kept session.new }
 {
     let reply = match session.answer(keeper, event) {
         Ok(reply) => reply,

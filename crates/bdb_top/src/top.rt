@@ -6,11 +6,13 @@ ghost use Rattle.bdb_base.specs.Limits.{longest_script};
 ghost use Rattle.bdb_catalog.specs.Opening.{StandForSome};
 ghost use Rattle.bdb_keep.specs.Seen.{IsStill, NeverFall};
 ghost use Rattle.bdb_session.specs.Outcome.{start_from};
+ghost use Rattle.bdb_undo.specs.Timelines.{started};
 ghost use Rattle.bdb_top.specs.ByCommits.{CommitsTellMany};
 ghost use Rattle.bdb_top.specs.ByCount.{CommitsTell};
 ghost use Rattle.bdb_top.specs.Checked.{IsChecked, IsUntouched};
 ghost use Rattle.bdb_top.specs.Ran.{EachBase, Ran, StandsForNone};
 ghost use Rattle.bdb_top.specs.RanMany.{RanMany};
+ghost use Rattle.bdb_top.specs.TellsErrors.{StatusTellsErrors, StatusTellsRefusals};
 ghost use Rattle.bdb_top.specs.Generated.{IsSummarized};
 ghost use Rattle.bdb_top.specs.Words.{named_job, check_job, many_job, run_job};
 ghost use Rattle.bdb_top.specs.declared.words.Job.TheVariants.{Gen};
@@ -52,6 +54,7 @@ use std::alloc::Global;
 ///
 /// Where the words ask for a stream of sessions, its pieces are carried out as a script's commands are, and the statuses come as for a
 /// script: 1 where some reply has a line that tells an error. A batch runs in one transaction at its commit, or not at all.
+/// Undo and redo are no commands of a stream.
 ///
 /// Where the words ask to check a file one line tells of the keeper's tables: `ok` and status 0 where they hold a base or have no
 /// row, else `error damaged`, or `error format N` where they are of another format N, and status 7. Or the status is 4, 5 or 6, the
@@ -69,11 +72,11 @@ pub fn run<S: Source, O: Sink, K: Keeper>(
 ) -> u8
     requires idle { (K.seen keeper.old).running ≡ false }
     ensures headline { run_job words.now ≢ None → IfSome (S.left script.old) (λ text. EachBase (K.seen keeper.old).kept (λ b.
-        Ran (start_from b) text (S.left script.new) (K.seen keeper.old) (K.seen keeper.new) (O.written out.old) (O.written out.new) result)) }
+        Ran (started b) text (S.left script.new) (K.seen keeper.old) (K.seen keeper.new) (O.written out.old) (O.written out.new) result)) }
     ensures headline_many { many_job words.now ≢ None → IfSome (S.left script.old) (λ text. EachBase (K.seen keeper.old).kept (λ b.
         RanMany (start_from b) text (S.left script.new) (K.seen keeper.old) (K.seen keeper.new) (O.written out.old) (O.written out.new) result)) }
     ensures by_count { run_job words.now ≢ None → IfSome (S.left script.old) (λ text. EachBase (K.seen keeper.old).kept (λ b.
-        CommitsTell (start_from b) text (K.seen keeper.old) (K.seen keeper.new) (O.written out.old) (O.written out.new) result)) }
+        CommitsTell (started b) text (K.seen keeper.old) (K.seen keeper.new) (O.written out.old) (O.written out.new) result)) }
     ensures by_commits { many_job words.now ≢ None → IfSome (S.left script.old) (λ text. EachBase (K.seen keeper.old).kept (λ b.
         CommitsTellMany (start_from b) text (K.seen keeper.old) (K.seen keeper.new) (O.written out.old) (O.written out.new) result)) }
     ensures refused { run_job words.now ≢ None → result ≡ 7 → StandsForNone (K.seen keeper.old).kept }
@@ -127,6 +130,10 @@ pub fn run<S: Source, O: Sink, K: Keeper>(
         → ¬ Rose (O.faults out.old) (O.faults out.new)
         → ¬ Rose (K.seen keeper.old).faults (K.seen keeper.new).faults
         → (result ≤ 1) ⊎ (result ≡ 6) }
+    ensures errors { run_job words.now ≢ None → IfSome (S.left script.old) (λ text. EachBase (K.seen keeper.old).kept (λ b.
+        StatusTellsRefusals (started b) text (O.written out.old) (O.written out.new) result)) }
+    ensures errors_many { many_job words.now ≢ None → IfSome (S.left script.old) (λ text. EachBase (K.seen keeper.old).kept (λ b.
+        StatusTellsErrors (start_from b) text (O.written out.old) (O.written out.new) result)) }
 {
     match run_files(words) {
         Some(_) => run_script(alloc, script, out, keeper),
@@ -152,7 +159,7 @@ fn run_script<S: Source, O: Sink, K: Keeper>(
 ) -> u8
     requires idle { (K.seen keeper.old).running ≡ false }
     ensures ran { IfSome (S.left script.old) (λ text. EachBase (K.seen keeper.old).kept (λ b.
-        Ran (start_from b) text (S.left script.new) (K.seen keeper.old) (K.seen keeper.new) (O.written out.old) (O.written out.new) result)) }
+        Ran (started b) text (S.left script.new) (K.seen keeper.old) (K.seen keeper.new) (O.written out.old) (O.written out.new) result)) }
     ensures refused { result ≡ 7 → StandsForNone (K.seen keeper.old).kept }
     ensures none { StandsForNone (K.seen keeper.old).kept → (result ≡ 5) ⊎ (result ≡ 6) ⊎ (result ≡ 7) }
     ensures silent { StandsForNone (K.seen keeper.old).kept → (script.new ≡ script.old) × (out.new ≡ out.old) × IsUntouched (K.seen keeper.old) (K.seen keeper.new) }

@@ -12,6 +12,7 @@ mod queries;
 mod reading;
 mod replies;
 mod sessions;
+mod undoing;
 mod why;
 
 use bdb_base::{List, Txt};

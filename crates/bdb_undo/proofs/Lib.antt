@@ -1,4 +1,5 @@
 pub mod ChangeLemmas
 pub mod HistoryLemmas
+pub mod SameLemmas
 pub mod StatementLemmas
 pub mod TimelineLemmas

@@ -1,14 +1,18 @@
 -- The changes that a history keeps stand for the bases to which undo and redo lead.
-use Rattle.std.proofs.Common.{◌≡◌, ◌∙◌, ℕ, List, [], ◌∷◌, refl, ap, sym, subst, length, take, suc, Some, None, slice_get}
+use Rattle.std.proofs.Common.{◌≡◌, ◌∙◌, ℕ, Bool, true, List, [], ◌∷◌, refl, ap, sym, subst, inl, inr, length, take, suc, Some, None, slice_get}
 use Prim.Native.Nat.{zero}
+use Rattle.std.specs.Prelude.{if◌then◌else◌}
+use Rattle.std.proofs.lemmas.Bool.{cases_Bool, false≢true}
 use Rattle.bdb_base.specs.Bases.{Contents}
 use Rattle.bdb_undo.specs.declared.change.Change.{Change}
-use Rattle.bdb_undo.specs.Changes.{Leads, changed_forth, changed_back}
-use Rattle.bdb_undo.specs.Histories.{Kept, stepped_back, stepped_forth}
+use Rattle.bdb_undo.specs.Changes.{Leads, changed_forth, changed_back, alters}
+use Rattle.bdb_undo.specs.Histories.{Kept, noted, stepped_back, stepped_forth}
 use Rattle.bdb_undo.specs.Limits.{most_changes}
-use Rattle.bdb_undo.specs.Timelines.{Timeline, LeadHere, LeadAhead, StandsFor, undone_by, redone_by}
-use Rattle.bdb_undo.specs.TimelineLaws.{BasesAreDetermined, ChangesAreDetermined, ChangesAreCounted, NothingKeptStarts, NoteMoves, BackUndoes, ForthRedoes, LastLeadsHere, ComingLeadsAhead, NothingToUndo, NothingToRedo}
-use Rattle.bdb_undo.proofs.ChangeLemmas.{back_gives_the_base_before, forth_gives_the_base_after, changes_are_one}
+use Rattle.bdb_undo.specs.Same.{same_contents}
+use Rattle.bdb_undo.specs.Timelines.{Timeline, LeadHere, LeadAhead, StandsFor, moved_to, undone_by, redone_by}
+use Rattle.bdb_undo.specs.TimelineLaws.{BasesAreDetermined, ChangesAreDetermined, ChangesAreCounted, NothingKeptStarts, NoteMoves, StayingArrives, BasesMove, ArrivesThere, NoteArrives, BackUndoes, ForthRedoes, LastLeadsHere, ComingLeadsAhead, NothingToUndo, NothingToRedo}
+use Rattle.bdb_undo.proofs.ChangeLemmas.{back_gives_the_base_before, forth_gives_the_base_after, changes_are_one, same_base_alters_nothing}
+use Rattle.bdb_undo.proofs.SameLemmas.{same_contents_are_one, contents_are_their_own}
 
 none_is_some : (u : Timeline) → None ≡ Some u → ⊥
 none_is_some u e = cc
@@ -104,7 +108,7 @@ ahead_counted (c ∷ cs) b (a ∷ ahead) l = ap suc (ahead_counted cs a ahead l.
 pub changes_are_counted : ChangesAreCounted
 changes_are_counted h t s = (here_counted h.undos t.now t.before s.undos, ahead_counted h.redos t.now t.ahead s.redos)
 
--- ---- what a note, a step back and a step forth keep
+-- ---- what a note keeps
 
 pub nothing_kept_starts : NothingKeptStarts
 nothing_kept_starts b = record { undos = tt; redos = tt }
@@ -118,6 +122,37 @@ take_here (suc n) (c ∷ cs) b (a ∷ before) l = (l.0, take_here n cs a before 
 
 pub note_moves : NoteMoves
 note_moves h t c b s l = record { undos = take_here most_changes (c ∷ h.undos) b (t.now ∷ t.before) (l, s.undos); redos = tt }
+
+-- ---- where a command leads
+
+-- the timeline there, by whether that base is the one held
+abbrev there : Contents → Timeline → Bool → Timeline
+there b t same = if same then t else moved_to b t
+
+pub staying_arrives : StayingArrives
+staying_arrives t = ap (there t.now t) (contents_are_their_own t.now)
+
+pub bases_move : BasesMove
+bases_move t b apart = elim (cases_Bool (same_contents t.now b)) [
+  | inl e ↦ absurd (apart (same_contents_are_one t.now b e))
+  | inr e ↦ ap (there b t) e
+]
+
+pub arrives_there : ArrivesThere
+arrives_there t b = elim (cases_Bool (same_contents t.now b)) [
+  | inl e ↦ ap (λ s. (there b t s).now) e ∙ same_contents_are_one t.now b e
+  | inr e ↦ ap (λ s. (there b t s).now) e
+]
+
+-- a change that alters something leads to another base
+leads_apart : (c : Change) (a b : Contents) → Leads c a b → alters c ≡ true → a ≡ b → ⊥
+leads_apart c a b l h e =
+    false≢true (sym (same_base_alters_nothing c b (subst (λ (w : Contents). Leads c w b) e l)) ∙ h)
+
+pub note_arrives : NoteArrives
+note_arrives h t c b s l k = subst (StandsFor (noted c h)) (sym (bases_move t b (leads_apart c t.now b l k))) (note_moves h t c b s l)
+
+-- ---- what a step back and a step forth keep
 
 back_by : (us rs : List Change) (before : List Contents) (b : Contents) (ahead : List Contents) (u : Timeline)
     → LeadHere us b before → LeadAhead rs b ahead → undone_by before b ahead ≡ Some u → StandsFor (stepped_back (kept us rs)) u

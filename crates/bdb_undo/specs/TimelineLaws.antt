@@ -1,10 +1,10 @@
 -- What holds of the changes that a history keeps and the bases for which they stand.
-use Rattle.std.specs.Prelude.{◌≡◌, length, slice_get, Some, None}
+use Rattle.std.specs.Prelude.{◌≡◌, true, length, slice_get, Some, None}
 use Rattle.bdb_base.specs.Bases.{Contents}
 use Rattle.bdb_undo.specs.declared.change.Change.{Change}
-use Rattle.bdb_undo.specs.Changes.{Leads}
+use Rattle.bdb_undo.specs.Changes.{Leads, alters}
 use Rattle.bdb_undo.specs.Histories.{Kept, nothing_kept, noted, stepped_back, stepped_forth}
-use Rattle.bdb_undo.specs.Timelines.{Timeline, StandsFor, started, moved_to, undone, redone}
+use Rattle.bdb_undo.specs.Timelines.{Timeline, StandsFor, started, moved_to, arrived, undone, redone}
 
 -- the base held and the changes determine the bases before and ahead of it
 abbrev pub BasesAreDetermined : Type 0
@@ -25,6 +25,23 @@ NothingKeptStarts = (b : Contents) → StandsFor nothing_kept (started b)
 -- a change that is noted stands for the move to the base to which it leads
 abbrev pub NoteMoves : Type 0
 NoteMoves = (h : Kept) (t : Timeline) (c : Change) (b : Contents) → StandsFor h t → Leads c t.now b → StandsFor (noted c h) (moved_to b t)
+
+-- where a command leads to the base held, all bases stay as they are
+abbrev pub StayingArrives : Type 0
+StayingArrives = (t : Timeline) → arrived t.now t ≡ t
+
+-- where a command leads to another base, the bases move
+abbrev pub BasesMove : Type 0
+BasesMove = (t : Timeline) (b : Contents) → (t.now ≡ b → ⊥) → arrived b t ≡ moved_to b t
+
+-- wherever a command leads, that base is held
+abbrev pub ArrivesThere : Type 0
+ArrivesThere = (t : Timeline) (b : Contents) → (arrived b t).now ≡ b
+
+-- a change that alters something, and is noted, stands for where it leads
+abbrev pub NoteArrives : Type 0
+NoteArrives = (h : Kept) (t : Timeline) (c : Change) (b : Contents) → StandsFor h t
+    → Leads c t.now b → alters c ≡ true → StandsFor (noted c h) (arrived b t)
 
 -- going back stands for an undo
 abbrev pub BackUndoes : Type 0

@@ -1,10 +1,11 @@
 -- The bases to which undo and redo lead, and the changes that stand for them.
-use Rattle.std.specs.Prelude.{List, [], ◌∷◌, take, Option, None, Some}
+use Rattle.std.specs.Prelude.{List, [], ◌∷◌, take, Option, None, Some, if◌then◌else◌}
 use Rattle.bdb_base.specs.Bases.{Contents}
 use Rattle.bdb_undo.specs.declared.change.Change.{Change}
 use Rattle.bdb_undo.specs.Changes.{Leads}
 use Rattle.bdb_undo.specs.Histories.{Kept}
 use Rattle.bdb_undo.specs.Limits.{most_changes}
+use Rattle.bdb_undo.specs.Same.{same_contents}
 
 -- the base held, those to which undo leads, and those to which redo leads, the nearest first
 pub record Timeline : Type 0 where
@@ -19,6 +20,10 @@ started b = record { before = []; now = b; ahead = [] }
 -- after a change to a base: undo leads to the one held, the oldest past the limit is forgotten, and redo leads to none
 abbrev pub moved_to : Contents → Timeline → Timeline
 moved_to b t = record { before = take most_changes (t.now ∷ t.before); now = b; ahead = [] }
+
+-- after a command that leads to a base: where it is the one held, all bases stay as they are
+abbrev pub arrived : Contents → Timeline → Timeline
+arrived b t = if same_contents t.now b then t else moved_to b t
 
 -- after an undo, by the bases before, the one held and those ahead
 abbrev pub undone_by : List Contents → Contents → List Contents → Option Timeline

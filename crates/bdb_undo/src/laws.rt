@@ -1,6 +1,7 @@
 //! What holds of changes and histories, each law as the contract of a function that does nothing.
 ghost use Rattle.bdb_undo.specs.ChangeLaws.{BackGivesTheBaseBefore, ForthGivesTheBaseAfter, ChangesAreOne, NothingIsAltered, SameBaseAltersNothing, FewerAreValid, StatementsLead, PutLeads, TakesLead, UpdateLeads, UserLeads, RelationLeads, LeavingLeads};
-ghost use Rattle.bdb_undo.specs.TimelineLaws.{BasesAreDetermined, ChangesAreDetermined, ChangesAreCounted, NothingKeptStarts, NoteMoves, BackUndoes, ForthRedoes, LastLeadsHere, ComingLeadsAhead, NothingToUndo, NothingToRedo};
+ghost use Rattle.bdb_undo.specs.Same.{SameContentsAreOne, ContentsAreTheirOwn};
+ghost use Rattle.bdb_undo.specs.TimelineLaws.{BasesAreDetermined, ChangesAreDetermined, ChangesAreCounted, NothingKeptStarts, NoteMoves, StayingArrives, BasesMove, ArrivesThere, NoteArrives, BackUndoes, ForthRedoes, LastLeadsHere, ComingLeadsAhead, NothingToUndo, NothingToRedo};
 
 /// Taking a change back gives the base from which it led.
 #[tactic(auto, using(crate::proofs::ChangeLemmas::back_gives_the_base_before))]
@@ -108,6 +109,42 @@ pub fn nothing_kept_starts()
 #[tactic(auto, using(crate::proofs::TimelineLemmas::note_moves))]
 pub fn note_moves()
     ensures { NoteMoves }
+{}
+
+/// Bases that are the same are one.
+#[tactic(auto, using(crate::proofs::SameLemmas::same_contents_are_one))]
+pub fn same_contents_are_one()
+    ensures { SameContentsAreOne }
+{}
+
+/// Each base is the same as itself.
+#[tactic(auto, using(crate::proofs::SameLemmas::contents_are_their_own))]
+pub fn contents_are_their_own()
+    ensures { ContentsAreTheirOwn }
+{}
+
+/// Where a command leads to the base held, all bases stay as they are.
+#[tactic(auto, using(crate::proofs::TimelineLemmas::staying_arrives))]
+pub fn staying_arrives()
+    ensures { StayingArrives }
+{}
+
+/// Where a command leads to another base, the bases move.
+#[tactic(auto, using(crate::proofs::TimelineLemmas::bases_move))]
+pub fn bases_move()
+    ensures { BasesMove }
+{}
+
+/// Wherever a command leads, that base is held.
+#[tactic(auto, using(crate::proofs::TimelineLemmas::arrives_there))]
+pub fn arrives_there()
+    ensures { ArrivesThere }
+{}
+
+/// A change that alters something, and is noted, stands for where it leads.
+#[tactic(auto, using(crate::proofs::TimelineLemmas::note_arrives))]
+pub fn note_arrives()
+    ensures { NoteArrives }
 {}
 
 /// Going back in a history stands for an undo.

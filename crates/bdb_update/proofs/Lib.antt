@@ -48,6 +48,7 @@ pub mod SettleLemmas
 pub mod SpendLemmas
 pub mod StageLemmas
 pub mod StandLemmas
+pub mod StandingLemmas
 pub mod StayLemmas
 pub mod StepLemmas
 pub mod StoreLemmas

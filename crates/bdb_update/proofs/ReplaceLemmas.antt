@@ -148,7 +148,7 @@ with_valid : (t : Tables) (c : Counts) (x : Stmt) (come : List Stmt) (b : Conten
 with_valid t c x come b m = first_is_valid b.catalog b.stmts x come m.base.valid.stmts.sorted m.next
 
 -- a statement of a valid base clashes with none of it
-no_clash : (b : Contents) (x least : Stmt) → IsValid b.catalog b.stmts → IsValid b.catalog (with_statement b.stmts x) → clash_of b x ≡ Some least → ⊥
+pub no_clash : (b : Contents) (x least : Stmt) → IsValid b.catalog b.stmts → IsValid b.catalog (with_statement b.stmts x) → clash_of b x ≡ Some least → ⊥
 no_clash b x least v w e =
     let at : ClashesAt (key_lengths b.catalog.rels) b.stmts x.path x.tuple x.sign least = (least_clash_is_least (key_lengths b.catalog.rels) b.stmts v.stmts.sorted x.path x.tuple x.sign least e).0 in
     let next = with_statement b.stmts x in
@@ -161,7 +161,7 @@ no_clash b x least v w e =
     itself x = sym (is_eq_statement_cmp x x) ∙ is_eq_itself statement_exact x
 
 -- a valid base passes no limit
-no_limit : (b : Contents) (what : What) → IsValid b.catalog b.stmts → size_passed (counts_of b) ≡ Some what → ⊥
+pub no_limit : (b : Contents) (what : What) → IsValid b.catalog b.stmts → size_passed (counts_of b) ≡ Some what → ⊥
 no_limit b what v e = by (world_count b.stmts) (tuple_count b.stmts) (length b.stmts) (leb-true (world_count b.stmts) most_worlds v.stmts.few_worlds) (leb-true (tuple_count b.stmts) most_tuples v.stmts.few_tuples)
     (leb-true (length b.stmts) most_statements v.stmts.few_stmts) e
   where
@@ -179,7 +179,7 @@ no_limit b what v e = by (world_count b.stmts) (tuple_count b.stmts) (length b.s
         go false false false p q r e = cc
 
 -- with one that stands, statements are the same
-stands_already : (stmts : List Stmt) (x : Stmt) → ascending statement_cmp stmts ≡ true → stands stmts x ≡ true → with_statement stmts x ≡ stmts
+pub stands_already : (stmts : List Stmt) (x : Stmt) → ascending statement_cmp stmts ≡ true → stands stmts x ≡ true → with_statement stmts x ≡ stmts
 stands_already stmts x s e = members_make_set statement_exact (with_statement stmts x) stmts (put_keeps_order statement_exact stmts x s) s
     (λ z. put_adds_member statement_exact stmts x z ∙ elim (cases_Bool (is_eq (statement_cmp x z))) [
       | inl a ↦ ap (λ b. b || stands stmts z) a ∙ sym (ap (stands stmts) (sym (statement_exact.exact x z (is_eq-Equal (statement_cmp x z) a))) ∙ e)

@@ -1,5 +1,5 @@
 -- What is said of a statement before anything is written is right, whichever base the tables store.
-use Rattle.std.specs.Prelude.{◌≡◌, true, false, Some, None}
+use Rattle.std.specs.Prelude.{◌≡◌, Bool, true, false, Some, None}
 use Rattle.bdb_base.specs.Bases.{Contents, stands}
 use Rattle.bdb_base.specs.declared.kinds.Stmt.{Stmt}
 use Rattle.bdb_canon.specs.Sizes.{counts_of}
@@ -42,3 +42,14 @@ IsVerdict t b x (Fits r) = IsReady t b x r
 
 abbrev pub Examines : Tables → Counts → Stmt → Verdict → Type 0
 Examines t counts x verdict = (b : Contents) → MayMeet t counts x b → IsVerdict t b x verdict
+
+-- a statement is said to stand
+abbrev pub says_stands : Verdict → Bool
+says_stands (Clashes least) = false
+says_stands Stands = true
+says_stands (Fills what) = false
+says_stands (Fits r) = false
+
+-- whichever base the tables store, this tells whether a statement stands
+abbrev pub StandsThere : Tables → Counts → Stmt → Bool → Type 0
+StandsThere t counts x answer = (b : Contents) → MayMeet t counts x b → answer ≡ stands b.stmts x

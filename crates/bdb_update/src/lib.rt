@@ -21,6 +21,7 @@ mod parting;
 mod reached;
 mod reading;
 mod replacing;
+mod standing;
 mod stored_laws;
 mod trying;
 mod weighing;
@@ -36,7 +37,8 @@ pub use change_laws::{
 pub use changing::change_statements;
 pub use dropping::drop_statement;
 pub use reading::is_told;
-pub use replacing::drop_statements;
+pub use replacing::{add_statements, drop_statements};
+pub use standing::stands;
 pub use stored_laws::{
     edges_store_user, put_stores_relation, stored_base_is_one, stored_is_in_grammar,
     two_rows_store_empty,

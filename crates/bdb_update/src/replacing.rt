@@ -36,7 +36,7 @@ pub fn replace<K: Keeper>(
         Ok(()) => {}
         Err(error) => return Err(error),
     }
-    match add_all(alloc, keeper, &mut next, come) {
+    match add_statements(alloc, keeper, &mut next, come) {
         Ok(()) => Ok(next),
         Err(error) => Err(error),
     }
@@ -67,8 +67,9 @@ pub fn drop_statements<K: Keeper>(
     Ok(())
 }
 
-// Adds statements, with all of which the base is valid.
-fn add_all<K: Keeper>(
+/// Adds statements to the base that the tables store, whose sizes are `counts`; with all of them it is valid. Worlds and tuples keep
+/// their numbers. For each statement there are no more writes than `add_statement` makes for it.
+pub fn add_statements<K: Keeper>(
     alloc: Global,
     keeper: &mut K,
     counts: &mut Counts,

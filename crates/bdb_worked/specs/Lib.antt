@@ -4,4 +4,5 @@ pub mod Keys
 pub mod Leaving
 pub mod Refusals
 pub mod Structure
+pub mod Undoing
 pub mod Worked

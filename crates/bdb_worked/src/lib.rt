@@ -9,6 +9,7 @@ ghost use Rattle.bdb_worked.specs.Keys as keys;
 ghost use Rattle.bdb_worked.specs.Leaving as leaving;
 ghost use Rattle.bdb_worked.specs.Refusals as refusals;
 ghost use Rattle.bdb_worked.specs.Structure as structure;
+ghost use Rattle.bdb_worked.specs.Undoing as undoing;
 ghost use Rattle.bdb_worked.specs.Worked.{IsAnswered};
 
 /// A sighting and a denial of it: what each user believes, and believes that the other does. Queries, and their plans.
@@ -17,31 +18,31 @@ pub fn beliefs_are_told()
 {}
 
 /// The states of two statements, their links, edges and rows.
-#[tactic(auto, using(crate::proofs::Computed::structure_is_told))]
 pub fn structure_is_told()
     ensures { IsAnswered structure.script structure.told }
 {}
 
 /// An update that would join two tuples of one key is refused whole; a query of denials has to bind its columns.
-#[tactic(auto, using(crate::proofs::Computed::changes_are_told))]
 pub fn changes_are_told()
     ensures { IsAnswered changes.script changes.told }
 {}
 
 /// A key of two columns tells tuples apart that agree in the first alone; a key has a column, and no more than there are.
-#[tactic(auto, using(crate::proofs::Computed::keys_are_told))]
 pub fn keys_are_told()
     ensures { IsAnswered keys.script keys.told }
 {}
 
 /// A user leaves with all statements that name her; her name is free, and her number isn't given again.
-#[tactic(auto, using(crate::proofs::Computed::leaving_is_told))]
 pub fn leaving_is_told()
     ensures { IsAnswered leaving.script leaving.told }
 {}
 
 /// Relations, users, columns and aliases that aren't there, or there already, and values that don't fit.
-#[tactic(auto, using(crate::proofs::Computed::refusals_are_told))]
 pub fn refusals_are_told()
     ensures { IsAnswered refusals.script refusals.told }
+{}
+
+/// A user who leaves comes back with what he said; a redo is open until something changes the base.
+pub fn undoing_is_told()
+    ensures { IsAnswered undoing.script undoing.told }
 {}

@@ -1,7 +1,7 @@
 // Scripts that end early: the commands stand that are whole, and the rest is told of where it holds something.
 use crate::tests::{
-    End, SCRIPT, commands_in, ended, first_replies, parted, quiet_keeper, quiet_sink, quiet_source,
-    ran_with,
+    End, REPLIES, SCRIPT, commands_in, ended, first_replies, parted, quiet_keeper, quiet_sink,
+    quiet_source, ran_with,
 };
 use std::alloc::Global;
 use std::test::Fail;
@@ -30,7 +30,7 @@ fn ends_at(alloc: Global, front: &[u8]) -> Result<bool, Fail> {
         quiet_keeper(alloc),
     )?;
     let done = commands_in(front);
-    let mut replies = Vec::from_slice(alloc, first_replies(done))?;
+    let mut replies = Vec::from_slice(alloc, first_replies(REPLIES, done))?;
     let is_unfinished = has_rest(front);
     if is_unfinished {
         replies.extend_from_slice(UNFINISHED)?;
@@ -40,7 +40,7 @@ fn ends_at(alloc: Global, front: &[u8]) -> Result<bool, Fail> {
         replies: replies.as_slice(),
         commits: done.saturating_add(1),
     };
-    ended(alloc, &left, end)
+    ended(alloc, SCRIPT, &left, end)
 }
 
 #[test]

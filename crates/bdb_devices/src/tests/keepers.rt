@@ -28,7 +28,7 @@ fn left_by(alloc: Global, call: u32) -> Result<Left, Fail>
 fn end_of(commits: usize) -> End<'static> {
     End {
         status: 5,
-        replies: first_replies(commits.saturating_sub(1)),
+        replies: first_replies(REPLIES, commits.saturating_sub(1)),
         commits,
     }
 }
@@ -53,7 +53,7 @@ fn goes_on(alloc: Global, mut left: Left, whole: &Whole) -> Result<bool, Fail> {
     let (_, rest) = parted(SCRIPT, done);
     let mut keeper = copy_of(alloc, &mut left.keeper)?;
     let (status, out) = told(alloc, rest, &mut keeper)?;
-    let is_replied = REPLIES.strip_prefix(first_replies(done)) == Some(out.bytes());
+    let is_replied = REPLIES.strip_prefix(first_replies(REPLIES, done)) == Some(out.bytes());
     Ok(
         status == 0
             && is_replied
@@ -95,12 +95,12 @@ fn each_call_fails_once(rt: HostRuntime) -> Result<(), Fail> {
                 replies: REPLIES,
                 commits: COMMANDS + 1,
             };
-            assert!(rt; ended(alloc, &left, end)?);
+            assert!(rt; ended(alloc, SCRIPT, &left, end)?);
             assert!(rt; 100 < call);
             return Ok(());
         }
         let end = end_of(left.keeper.commits() as usize);
-        assert!(rt; ended(alloc, &left, end)?, "call {call}");
+        assert!(rt; ended(alloc, SCRIPT, &left, end)?, "call {call}");
         assert!(rt; goes_on(alloc, left, &whole)?, "call {call}");
     }
     assert!(rt; false, "each call fails");

@@ -12,7 +12,7 @@ fn end_of(write: usize) -> End<'static> {
     if write <= COMMANDS {
         End {
             status: 4,
-            replies: first_replies(write.saturating_sub(1)),
+            replies: first_replies(REPLIES, write.saturating_sub(1)),
             commits: write.saturating_add(1),
         }
     } else {
@@ -33,7 +33,7 @@ fn ends_at(alloc: Global, write: u32) -> Result<bool, Fail> {
         out,
         quiet_keeper(alloc),
     )?;
-    ended(alloc, &left, end_of(write as usize))
+    ended(alloc, SCRIPT, &left, end_of(write as usize))
 }
 
 #[test]

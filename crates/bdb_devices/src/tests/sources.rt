@@ -1,7 +1,7 @@
 // Sources that fail at a read: the commands stand that end in the bytes given before.
 use crate::tests::{
-    COMMANDS, End, Left, SCRIPT, commands_in, ended, first_replies, only, quiet_keeper, quiet_sink,
-    ran_with,
+    COMMANDS, End, Left, REPLIES, SCRIPT, commands_in, ended, first_replies, only, quiet_keeper,
+    quiet_sink, ran_with,
 };
 use bdb_io::MemSource;
 use std::alloc::Global;
@@ -28,7 +28,7 @@ fn end_of(read: u32, fails: bool) -> End<'static> {
     let done = commands_in(given_before(read));
     End {
         status: if fails { 3 } else { 0 },
-        replies: first_replies(done),
+        replies: first_replies(REPLIES, done),
         commits: done.saturating_add(1),
     }
 }
@@ -39,7 +39,10 @@ fn each_read_fails_once(rt: HostRuntime) -> Result<(), Fail> {
     for read in 1..1_000 {
         let left = left_by(alloc, read)?;
         let fails = left.status != 0;
-        assert!(rt; ended(alloc, &left, end_of(read, fails))?, "read {read}");
+        assert!(rt;
+            ended(alloc, SCRIPT, &left, end_of(read, fails))?,
+            "read {read}"
+        );
         if !fails {
             assert_eq!(rt; given_before(read).len(), SCRIPT.len());
             assert_eq!(rt; commands_in(given_before(read)), COMMANDS);

@@ -83,6 +83,8 @@ fn named(answer: &Result<Bound, BindError>) -> &'static str {
         Ok(Bound::CreateUser { .. }) => "joins",
         Ok(Bound::Insert { .. }) => "insert",
         Ok(Bound::ShowWorld { .. }) => "show world",
+        Ok(Bound::Undo) => "undo",
+        Ok(Bound::Redo) => "redo",
         Ok(_) => "bound",
         Err(BindError::Text) => "text",
         Err(BindError::User(_)) => "user",
@@ -94,7 +96,7 @@ fn named(answer: &Result<Bound, BindError>) -> &'static str {
 }
 
 /// Commands over the catalog. The third user, of any name, is gone.
-const BOUND: [(&str, &str); 9] = [
+const BOUND: [(&str, &str); 11] = [
     ("drop user 'Alice'", "1 leaves"),
     ("drop user 'Bob'", "2 leaves"),
     ("drop user 'bob'", "user"),
@@ -104,6 +106,8 @@ const BOUND: [(&str, &str); 9] = [
     ("create user 'Bob'", "taken"),
     ("insert into BELIEF 'Carol' S values('a','b')", "user"),
     ("insert into BELIEF 'Bob' S values('a','b')", "insert"),
+    ("undo", "undo"),
+    ("Redo", "redo"),
 ];
 
 #[test]

@@ -43,7 +43,7 @@ fn spelled<'a>(token: &'a Token<'_>) -> (&'a str, &'a str) {
 
 #[test]
 fn reads_tokens(rt: HostRuntime) -> Result<(), Fail> {
-    let cases: [(&[u8], &str); 30] = [
+    let cases: [(&[u8], &str); 31] = [
         (b"", ""),
         (b" \t\r\n", ""),
         (b"1--2", "n:1 "),
@@ -74,6 +74,7 @@ fn reads_tokens(rt: HostRuntime) -> Result<(), Fail> {
         (b"U.name,(x_1)", "w:U . w:name , ( w:x_1 ) "),
         (b"12ab", "n:12 w:ab "),
         (b"_9", "w:_9 "),
+        (b"UnDo\n--it", "w:UnDo "),
     ];
     for (piece, want) in cases {
         let line = shown(rt.alloc(), piece)?;

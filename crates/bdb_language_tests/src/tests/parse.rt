@@ -45,13 +45,15 @@ fn outcome(answer: &Result<Command, ParseError>) -> &'static str {
         Ok(Command::ShowWorld { .. }) => "show world",
         Ok(Command::Why { .. }) => "why",
         Ok(Command::ShowTables) => "show tables",
+        Ok(Command::Undo) => "undo",
+        Ok(Command::Redo) => "redo",
         Err(ParseError::Syntax) => "syntax",
         Err(ParseError::Number) => "number",
         Err(ParseError::Memory) => "memory",
     }
 }
 
-const CASES: [(&str, &str); 51] = [
+const CASES: [(&str, &str); 58] = [
     ("create user 'Alice", "create user"),
     ("CREATE User 'Alice", "create user"),
     ("create user Alice", "syntax"),
@@ -126,6 +128,13 @@ const CASES: [(&str, &str); 51] = [
     ("Why belief 'Bob not why values ( 9 )", "why"),
     ("why R values ( 9223372036854775808 )", "number"),
     ("why into R values ( 9 )", "syntax"),
+    ("undo", "undo"),
+    ("UnDo", "undo"),
+    ("REDO", "redo"),
+    ("undo 2", "syntax"),
+    ("redo undo", "syntax"),
+    ("undoes", "syntax"),
+    ("create relation undo ( redo int )", "create relation"),
     ("", "syntax"),
 ];
 
@@ -184,7 +193,7 @@ fn reprinted(alloc: Global, piece: &[u8]) -> Result<List<u8>, Fail> {
 }
 
 /// Commands, and their printed forms.
-const PRINTED: [(&str, &str); 19] = [
+const PRINTED: [(&str, &str); 21] = [
     ("create user 'Alice'", "create user 'Alice'"),
     ("create user 'Bob'", "create user 'Bob'"),
     ("create user 'Carol'", "create user 'Carol'"),
@@ -249,6 +258,8 @@ const PRINTED: [(&str, &str); 19] = [
         "explain select S.k from S -- all of it",
         "explain select S.k from S S",
     ),
+    (" Undo\n", "undo"),
+    ("REDO -- it", "redo"),
 ];
 
 #[test]

@@ -209,7 +209,7 @@ fn prints(
     Ok(reply.as_slice() == want.as_bytes())
 }
 
-/// Eleven refusals, by number, each with its text.
+/// Thirteen refusals, by number, each with its text.
 fn refusal_of(alloc: Global, number: u32) -> Result<(Refusal, &'static str), AllocError> {
     match number {
         0 => Ok((Refusal::Unfinished, "error unfinished\n")),
@@ -247,6 +247,8 @@ fn refusal_of(alloc: Global, number: u32) -> Result<(Refusal, &'static str), All
             let want = "error clash + S('s1', 'crow')\n";
             Ok((Refusal::Clash { sign, tuple }, want))
         }
+        10 => Ok((Refusal::NoUndo, "error no undo\n")),
+        11 => Ok((Refusal::NoRedo, "error no redo\n")),
         _ => Ok((Refusal::Full(What::Users), "error full users\n")),
     }
 }
@@ -255,7 +257,7 @@ fn refusal_of(alloc: Global, number: u32) -> Result<(Refusal, &'static str), All
 fn refusals_print(rt: HostRuntime) -> Result<(), Fail> {
     let alloc = rt.alloc();
     let catalog = curators(alloc, 1)?;
-    for number in 0..11 {
+    for number in 0..13 {
         let (refusal, want) = refusal_of(alloc, number)?;
         assert!(rt; prints(alloc, &catalog, &refusal, want)?, "{want}");
     }

@@ -16,7 +16,11 @@ const ROOM: usize = 100;
 const FORMAT_KEY: [u8; 4] = [0, 0, 0, 0];
 
 /// The status of checking a keeper's rows, over a source that fails at its first read.
-fn checked<K: Keeper>(alloc: Global, out: &mut MemSink, keeper: &mut K) -> Result<u8, Fail>
+pub(crate) fn checked<K: Keeper>(
+    alloc: Global,
+    out: &mut MemSink,
+    keeper: &mut K,
+) -> Result<u8, Fail>
     requires idle { (K.seen keeper.old).running ≡ false }
     ensures idle { (K.seen keeper.new).running ≡ false }
 {

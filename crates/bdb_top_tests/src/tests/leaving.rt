@@ -8,7 +8,7 @@ use std::test::Fail;
 const FIRST_REPLIES: &str = "ok\nok\nok\n";
 
 /// Whether a script behind the setup is answered so.
-fn is_answered(alloc: Global, script: &str, replies: &str) -> Result<bool, Fail> {
+pub(crate) fn is_answered(alloc: Global, script: &str, replies: &str) -> Result<bool, Fail> {
     let (_, out, _) = ran_quietly(alloc, &[SETUP, script])?;
     let text = std::str::from_utf8(out.bytes())?;
     Ok(text.strip_prefix(FIRST_REPLIES) == Some(replies))

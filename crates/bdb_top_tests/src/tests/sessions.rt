@@ -2,10 +2,11 @@
 use crate::tests::jobs::words_of;
 use crate::tests::sink;
 use bdb_base::List;
-use bdb_io::{MemSink, MemSource};
+use bdb_io::{MemSink, MemSource, ReadSource};
 use bdb_keep::QuietKeeper;
 use bdb_top::run;
 use std::alloc::Global;
+use std::io::Read;
 use std::test::Fail;
 
 /// The status, the replies and the keeper of a stream of sessions, read 7 bytes at a time over a keeper without rows.
@@ -25,6 +26,27 @@ fn is_told(alloc: Global, stream: &str, replies: &str) -> Result<bool, Fail> {
     Ok(status == 1 && out.bytes() == replies.as_bytes())
 }
 
+/// Whether a stream is told these replies, some of which tell an error, where its bytes come in two parts.
+fn is_told_in_two(alloc: Global, first: &[u8], rest: &[u8], replies: &str) -> Result<bool, Fail> {
+    let words = words_of(alloc, "many")?;
+    let mut source = ReadSource::new(first.chain(rest));
+    let mut keeper = QuietKeeper::new(alloc);
+    let mut out = sink(alloc)?;
+    let status = run(alloc, words.as_slice(), &mut source, &mut out, &mut keeper);
+    Ok(status == 1 && out.bytes() == replies.as_bytes())
+}
+
+/// The same at each place where the parts can meet.
+fn is_told_however_cut(alloc: Global, stream: &str, replies: &str) -> Result<bool, Fail> {
+    let bytes = stream.as_bytes();
+    for cut in 0..bytes.len() {
+        if !is_told_in_two(alloc, &bytes[..cut], &bytes[cut..], replies)? {
+            return Ok(false);
+        }
+    }
+    Ok(true)
+}
+
 #[test]
 fn streams_and_replies(rt: HostRuntime) -> Result<(), Fail> {
     let alloc = rt.alloc();
@@ -37,9 +59,18 @@ fn streams_and_replies(rt: HostRuntime) -> Result<(), Fail> {
             "3 begin; 3 commit; 16 begin; 4 ;",
             "3: begun\n3: committed 0\nerror session\n4: error line\n",
         ),
+        (
+            "0 create relation S(k text, v text);-- a; 'b\n; 12  begin; 12 insert into S values('it''s; ','--'); 012 COMMIT -- all\n; 12 Commit; 7 show world; 7 'open",
+            "0: ok\n12: begun\n12: queued\nerror session\n12: ok 1\n12: committed 1\n7: + S('it''s; ', '--') explicit\n7: ok 1\nerror unfinished\n",
+        ),
+        (
+            "0 create relation S(k text); 0 insert into S values('a'); 0 undo; 1 begin; 1 insert into S values('b'); 1 redo; 1 show world; 1 commit; 2 UNDO; 0 show world;",
+            "0: ok\n0: ok 1\n0: error syntax\n1: begun\n1: queued\n1: queued\n1: queued\n1: ok 1\n1: error syntax\n1: aborted 2\n2: error syntax\n0: + S('a') explicit\n0: ok 1\n",
+        ),
     ];
     for (stream, replies) in cases {
         assert!(rt; is_told(alloc, stream, replies)?, "{stream}");
+        assert!(rt; is_told_however_cut(alloc, stream, replies)?, "{stream}");
     }
     Ok(())
 }

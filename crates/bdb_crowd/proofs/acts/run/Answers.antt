@@ -1,3 +1,4 @@
+use Rattle.bdb_session.specs.Outcome.{start_from}
 use Rattle.bdb_crowd.proofs.ActLemmas.{accepted_few, run_by, stays}
 use Rattle.bdb_crowd.proofs.acts.run.Goals as goal
 
@@ -10,7 +11,8 @@ returns-in-Ok-clause-run g c = λ s a.
 pub returns-in-Ok-clause-few : goal.returns-in-Ok-clause-few
 returns-in-Ok-clause-few g c =
     let some = c.requires.agrees in
-    accepted_few some.state c.args.commands.now c.in-Ok.reply.accepted (c.in-Ok.ensures.accepted some.state some.agrees) c.requires.few
+    let state = start_from some.timeline.now in
+    accepted_few state c.args.commands.now c.in-Ok.reply.accepted (c.in-Ok.ensures.accepted state some.remembers.agrees) c.requires.few
 
 pub returns-in-Err-Fault-clause-run : goal.returns-in-Err-Fault-clause-run
 returns-in-Err-Fault-clause-run g c = λ s a. stays s c.args.session.now c.apply_batch.new.self _ _ c.in-Err-Fault.ensures.same c.in-Err-Fault.ensures.err a

@@ -1,10 +1,10 @@
-use Rattle.std.proofs.Common.{◌≡◌, ◌<◌, ◌^◌, length, List, sym, subst, arith, rules}
+use Rattle.std.proofs.Common.{List, sym, subst}
 use Rattle.bdb_base.specs.declared.kinds.Stmt.{Stmt}
 use Rattle.bdb_update.specs.Replacing.{Go, SomeMayGo}
 use Rattle.bdb_update.specs.Steps.{GoesThrough}
 use Rattle.bdb_update.proofs.StayLemmas.{keeps_then}
 use Rattle.bdb_update.specs.Keeping.{KeepsNumbers}
-use Rattle.bdb_leaving.proofs.LeavingLemmas.{few_gone, left_through, some_may_go, some_may_lose, some_valid, user_left}
+use Rattle.bdb_leaving.proofs.LeavingLemmas.{left_through, some_may_go, some_may_lose, some_valid, user_left}
 use Rattle.bdb_leaving.proofs.leaving.drop_user.Goals as goal
 
 pub statements_naming-requires : goal.statements_naming-requires
@@ -23,20 +23,13 @@ empty_place-requires-clause-base g c =
     let went = subst (λ (xs : List Stmt). Go mid low c.args.counts.now c.drop_statements.new.counts xs) c.as_slice.ensures c.in-Ok-drop_statements.ensures.gone in
     some_may_lose (g.K.Keeper.seen c.args.keeper.now).kept mid c.in-Ok.ensures.kept c.args.counts.now c.args.uid c.in-Ok.gone c.in-Ok.ensures.naming low c.drop_statements.new.counts went c.requires.base
 
-pub overflow_cast-count : goal.overflow_cast-count
-overflow_cast-count g c =
-    let few : length c.in-Ok.gone < 2 ^ 32 =
-    few_gone (g.K.Keeper.seen c.args.keeper.now).kept (g.K.Keeper.seen c.statements_naming.new.keeper).kept c.in-Ok.ensures.kept c.args.counts.now c.args.uid c.in-Ok.gone c.in-Ok.ensures.naming c.requires.base in
-    omega (arith, few, c.len-count.ensures)
-
 pub returns-in-Ok-empty_place-clause-left : goal.returns-in-Ok-empty_place-clause-left
 returns-in-Ok-empty_place-clause-left g c =
     let mid = (g.K.Keeper.seen c.statements_naming.new.keeper).kept in
     let low = (g.K.Keeper.seen c.drop_statements.new.keeper).kept in
     let went = subst (λ (xs : List Stmt). Go mid low c.args.counts.now c.drop_statements.new.counts xs) c.as_slice.ensures c.in-Ok-drop_statements.ensures.gone in
-    let many : c.len-count.result ≡ length c.in-Ok.gone = search rules in
     user_left (g.K.Keeper.seen c.args.keeper.now).kept mid c.in-Ok.ensures.kept c.args.counts.now c.args.uid c.in-Ok.gone c.in-Ok.ensures.naming low c.drop_statements.new.counts went
-    (g.K.Keeper.seen c.empty_place.new.keeper).kept c.len-count.result c.in-Ok-empty_place.ensures.lost many
+    (g.K.Keeper.seen c.empty_place.new.keeper).kept c.in-Ok-empty_place.ensures.lost
 
 pub returns-in-Ok-empty_place-clause-steps : goal.returns-in-Ok-empty_place-clause-steps
 returns-in-Ok-empty_place-clause-steps g c =

@@ -1,7 +1,7 @@
 use Rattle.std.proofs.Common.{sym, subst}
 use Rattle.bdb_keep.specs.Tables.{Tables}
-use Rattle.bdb_session.specs.Known.{Agrees}
-use Rattle.bdb_session.specs.Outcome.{start_from}
+use Rattle.bdb_undo.specs.Timelines.{started}
+use Rattle.bdb_session.specs.Known.{Remembers}
 use Rattle.bdb_session.proofs.CommitLemmas.{not_begun, not_made, not_committed, committed, committed_ok, committed_err}
 use Rattle.bdb_session.proofs.open.migrate.Goals as goal
 
@@ -14,7 +14,7 @@ returns-in-Err-written_session-clause-committed g c =
 
 pub returns-in-Ok-commit-clause-agrees : goal.returns-in-Ok-commit-clause-agrees
 returns-in-Ok-commit-clause-agrees g c =
-    subst (λ (t : Tables). Agrees t c.in-Ok-written_session.session (start_from c.args.base.now)) (sym c.in-Ok-commit.ensures.kept) c.in-Ok-written_session.ensures.agrees
+    subst (λ (t : Tables). Remembers t c.in-Ok-written_session.session (started c.args.base.now)) (sym c.in-Ok-commit.ensures.kept) c.in-Ok-written_session.ensures.agrees
 
 pub returns-in-Ok-commit-clause-committed : goal.returns-in-Ok-commit-clause-committed
 returns-in-Ok-commit-clause-committed g c =

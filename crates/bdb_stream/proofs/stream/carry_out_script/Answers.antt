@@ -75,14 +75,14 @@ pub returns-in-Ok-answer_rest-clause-short : goal.returns-in-Ok-answer_rest-clau
 returns-in-Ok-answer_rest-clause-short g c =
     let r = c.loop-count.invariant.reads in
     let agreed = c.requires.agrees in
-    short_by _ _ _ r.0 (r.2 agreed.state agreed.agrees).taken (consumes_zero _ _ c.in-Ok.count c.read.new.buf (omega (arith, c.if-count-eq0.true)) c.in-Ok.ensures.bytes.0) (search rules)
+    short_by _ _ _ r.0 (r.2 agreed.timeline agreed.remembers).taken (consumes_zero _ _ c.in-Ok.count c.read.new.buf (omega (arith, c.if-count-eq0.true)) c.in-Ok.ensures.bytes.0) (search rules)
     (omega (arith, r.1, c.loop-count.invariant.small))
 
 pub returns-then-room-eq0-clause-many : goal.returns-then-room-eq0-clause-many
 returns-then-room-eq0-clause-many g c = λ _.
     let r = c.loop-count.invariant.reads in
     let agreed = c.requires.agrees in
-    many_by _ _ _ r.0 (take c.in-Ok.count c.read.new.buf) (r.2 agreed.state agreed.agrees).taken c.in-Ok.ensures.bytes.0 (omega (arith, r.1, c.if-room-eq0.true, c.loop-count.invariant.small))
+    many_by _ _ _ r.0 (take c.in-Ok.count c.read.new.buf) (r.2 agreed.timeline agreed.remembers).taken c.in-Ok.ensures.bytes.0 (omega (arith, r.1, c.if-room-eq0.true, c.loop-count.invariant.small))
     (omega (arith, c.if-count-eq0.false, c.in-Ok.ensures.bound.1))
 
 pub returns-then-room-eq0-clause-one_more : goal.returns-then-room-eq0-clause-one_more

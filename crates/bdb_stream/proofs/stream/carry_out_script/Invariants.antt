@@ -2,14 +2,14 @@ use Rattle.std.proofs.Common.{◌≡◌, ◌≤◌, ◌-◌, ℕ, false, List, l
 use Rattle.bdb_base.specs.Causes.{Rises}
 use Rattle.bdb_base.specs.Limits.{longest_script}
 use Rattle.bdb_keep.specs.Seen.{IsStill, NeverFall}
-use Rattle.bdb_session.specs.Known.{Agrees, AgreesOnSome}
-use Rattle.bdb_session.specs.Outcome.{State}
+use Rattle.bdb_session.specs.Known.{Remembers, RemembersSome}
+use Rattle.bdb_undo.specs.Timelines.{Timeline}
 use Rattle.bdb_stream.proofs.StreamLemmas.{Reads}
 use Rattle.bdb_stream.proofs.stream.carry_out_script.Given as goal
 
 abbrev pub invariant-loop-count : goal.invariant-loop-count
 invariant-loop-count g l = record {
-  reads : (bytes : List ℕ) × (l.taken ≡ length bytes) × ((s : State) → Agrees (g.K.Keeper.seen l.fn.keeper).kept l.fn.session s
+  reads : (bytes : List ℕ) × (l.taken ≡ length bytes) × ((s : Timeline) → Remembers (g.K.Keeper.seen l.fn.keeper).kept l.fn.session s
       → Reads s (g.S.Source.left l.fn.script) (g.S.Source.left l.script) bytes l.cutter l.session
       (g.K.Keeper.seen l.fn.keeper) (g.K.Keeper.seen l.keeper) (g.O.Sink.written l.fn.out) (g.O.Sink.written l.out) l.accepted);
   ready : l.cutter.is_spent ≡ false;
@@ -18,7 +18,7 @@ invariant-loop-count g l = record {
   source : g.S.Source.faults l.fn.script ≤ g.S.Source.faults l.script;
   count : g.S.Source.given l.fn.script ≤ g.S.Source.given l.script;
   still : IsStill (g.K.Keeper.seen l.keeper);
-  agrees : AgreesOnSome (g.K.Keeper.seen l.keeper).kept l.session;
+  agrees : RemembersSome (g.K.Keeper.seen l.keeper).kept l.session;
   keeper : NeverFall (g.K.Keeper.seen l.fn.keeper) (g.K.Keeper.seen l.keeper);
   sink : g.O.Sink.faults l.fn.out ≤ g.O.Sink.faults l.out;
 }

@@ -1,6 +1,6 @@
 use Rattle.std.proofs.Common.{◌≡◌, ◌∙◌, ap, sym, subst, rules}
-use Rattle.bdb_session.specs.Known.{Agrees}
-use Rattle.bdb_session.specs.Machine.{next_state}
+use Rattle.bdb_session.specs.Known.{Remembers}
+use Rattle.bdb_session.specs.Undoing.{next_state}
 use Rattle.bdb_session.specs.Runs.{event_of}
 use Rattle.bdb_session.specs.declared.event.Event.TheVariants as event
 use Rattle.bdb_top.specs.Generated.{tally_with}
@@ -14,7 +14,11 @@ returns-in-Ok-clause-tally g c = λ s a.
 pub returns-in-Ok-clause-state : goal.returns-in-Ok-clause-state
 returns-in-Ok-clause-state g c = λ s a.
     let same : event.Piece c.as_slice.result.now ≡ event_of c.args.piece.now = search rules in
-    subst (λ e. Agrees (g.K.Keeper.seen c.tally_command.new.keeper).kept c.tally_command.new.session (next_state s e)) same (c.in-Ok.ensures.state s a)
+    subst (λ e. Remembers (g.K.Keeper.seen c.tally_command.new.keeper).kept c.tally_command.new.session (next_state s e)) same (c.in-Ok.ensures.state s a)
 
 pub returns-in-Ok-tally_event-clause-tally : goal.returns-in-Ok-tally_event-clause-tally
 returns-in-Ok-tally_event-clause-tally g c = λ s a. c.in-Ok-tally_event.ensures.tally s a ∙ ap (λ p. tally_with c.args.tally s (event_of p)) (sym c.in-Long.is)
+
+pub returns-in-Ok-tally_event-clause-state : goal.returns-in-Ok-tally_event-clause-state
+returns-in-Ok-tally_event-clause-state g c = λ s a.
+    subst (λ p. Remembers (g.K.Keeper.seen c.tally_event.new.keeper).kept c.tally_event.new.session (next_state s (event_of p))) (sym c.in-Long.is) (c.in-Ok-tally_event.ensures.state s a)

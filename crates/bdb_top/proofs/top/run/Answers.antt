@@ -1,5 +1,6 @@
 use Rattle.bdb_top.proofs.CommitLemmas.{each_by_commits}
 use Rattle.bdb_top.proofs.CountLemmas.{each_by_count}
+use Rattle.bdb_top.proofs.ErrorLemmas.{each_tells_errors, each_tells_refusals}
 use Rattle.bdb_top.proofs.RanLemmas.{finishes_by}
 use Rattle.bdb_top.proofs.WordLemmas.{many_alone, runs_alone, streams_alone}
 use Rattle.bdb_top.proofs.top.run.Goals as goal
@@ -52,3 +53,12 @@ pub returns-in-Some-many_files-clause-finishes_many : goal.returns-in-Some-many_
 returns-in-Some-many_files-clause-finishes_many g c = λ text asked stand told short source sink keeper.
     let h = c.run_stream.ensures in
     finishes_by _ _ text h.statuses.0 h.statuses.1 (λ e. source (h.source e)) (λ e. sink (h.sink e)) (λ e. keeper (h.keeper e)) (λ e. h.refused e stand.base stand.stand) h.many told short
+
+pub returns-in-Some-clause-errors_many : goal.returns-in-Some-clause-errors_many
+returns-in-Some-clause-errors_many g c = λ asked. absurd (asked (many_alone c.args.words.now _ c.in-Some.ensures))
+
+pub returns-in-Some-many_files-clause-errors_many : goal.returns-in-Some-many_files-clause-errors_many
+returns-in-Some-many_files-clause-errors_many g c = λ _. each_tells_errors _ _ _ _ _ _ _ c.run_stream.ensures.ran
+
+pub returns-in-Some-clause-errors : goal.returns-in-Some-clause-errors
+returns-in-Some-clause-errors g c = λ _. each_tells_refusals _ _ _ _ _ _ _ c.run_script.ensures.ran

@@ -1,7 +1,7 @@
 use Rattle.std.proofs.Common.{subst, sym}
 use Rattle.std.proofs.KnownBytes.{Appends-nil}
 use Rattle.bdb_crowd.specs.Carried.{AtHand, IsAt, IsAtSome}
-use Rattle.bdb_crowd.proofs.ActLemmas.{event_answers, some_state, unanswered, waits}
+use Rattle.bdb_crowd.proofs.ActLemmas.{event_answers, some_timeline, unanswered, waits}
 use Rattle.bdb_crowd.proofs.crowd.Crowd.answer_event.Goals as goal
 
 pub returns-in-Ok-clause-answered : goal.returns-in-Ok-clause-answered
@@ -11,7 +11,7 @@ returns-in-Ok-clause-answered g c = λ p a.
     (g.O.Sink.written c.args.out.now) (g.O.Sink.written c.answer_act.new.out) c.answer_act.result (c.in-Ok.ensures.act p.before here.stands) (c.answer_act.ensures.done p.state here.agrees) (c.in-Ok.ensures.stands p.before here.stands)
 
 pub answer_act-requires-clause-agrees : goal.answer_act-requires-clause-agrees
-answer_act-requires-clause-agrees g c = some_state _ _ (subst (λ (h : AtHand). IsAtSome (g.K.Keeper.seen c.args.keeper.now).kept h) (sym c.self.view_is) c.requires.at)
+answer_act-requires-clause-agrees g c = some_timeline _ _ (subst (λ (h : AtHand). IsAtSome (g.K.Keeper.seen c.args.keeper.now).kept h) (sym c.self.view_is) c.requires.at)
 
 pub answer_act-requires-clause-few : goal.answer_act-requires-clause-few
 answer_act-requires-clause-few g c =
@@ -24,4 +24,4 @@ returns-in-Err-clause-answered g c = λ p a.
     (unanswered p c.self.inside.session (g.K.Keeper.seen c.args.keeper.now) here.agrees, Appends-nil (g.O.Sink.written c.args.out.now))
 
 pub returns-in-Err-clause-agrees : goal.returns-in-Err-clause-agrees
-returns-in-Err-clause-agrees g c = some_state _ _ (subst (λ (h : AtHand). IsAtSome (g.K.Keeper.seen c.args.keeper.now).kept h) (sym c.self.view_is) c.requires.at)
+returns-in-Err-clause-agrees g c = some_timeline _ _ (subst (λ (h : AtHand). IsAtSome (g.K.Keeper.seen c.args.keeper.now).kept h) (sym c.self.view_is) c.requires.at)

@@ -3,7 +3,7 @@ use Rattle.std.proofs.KnownBytes.{Appends-nil}
 use Rattle.bdb_events.specs.declared.read.Read.{Read}
 use Rattle.bdb_crowd.specs.Asked.{piece}
 use Rattle.bdb_crowd.specs.Carried.{IsAnswer}
-use Rattle.bdb_crowd.proofs.ActLemmas.{long_answers, named, no_line_answers, no_session_answers, nothing_answers, some_state}
+use Rattle.bdb_crowd.proofs.ActLemmas.{long_answers, named, no_line_answers, no_session_answers, nothing_answers, some_timeline}
 use Rattle.bdb_crowd.proofs.crowd.Crowd.answer_read.Goals as goal
 
 pub returns-in-Nothing-clause-answered : goal.returns-in-Nothing-clause-answered
@@ -30,13 +30,13 @@ pub answer_event-requires-clause-number : goal.answer_event-requires-clause-numb
 answer_event-requires-clause-number g c = named _ _ c.in-Event.is c.requires.names
 
 pub returns-in-Nothing-clause-agrees : goal.returns-in-Nothing-clause-agrees
-returns-in-Nothing-clause-agrees g c = some_state _ _ c.requires.at
+returns-in-Nothing-clause-agrees g c = some_timeline _ _ c.requires.at
 
 pub returns-in-Long-clause-agrees : goal.returns-in-Long-clause-agrees
-returns-in-Long-clause-agrees g c = some_state _ _ c.requires.at
+returns-in-Long-clause-agrees g c = some_timeline _ _ c.requires.at
 
 pub returns-in-NoSession-clause-agrees : goal.returns-in-NoSession-clause-agrees
-returns-in-NoSession-clause-agrees g c = some_state _ _ c.requires.at
+returns-in-NoSession-clause-agrees g c = some_timeline _ _ c.requires.at
 
 pub returns-in-NoLine-clause-agrees : goal.returns-in-NoLine-clause-agrees
-returns-in-NoLine-clause-agrees g c = some_state _ _ c.requires.at
+returns-in-NoLine-clause-agrees g c = some_timeline _ _ c.requires.at

@@ -2,7 +2,7 @@ use Rattle.std.proofs.Common.{◌∙◌, ap, refl}
 use Rattle.bdb_base.specs.Bases.{with_relation}
 use Rattle.bdb_session.specs.Known.{Known}
 use Rattle.bdb_session.specs.declared.news.News.{News}
-use Rattle.bdb_session.proofs.CreateLemmas.{some_may_add_relation, relation_tells}
+use Rattle.bdb_session.proofs.CreateLemmas.{some_may_add_relation, relation_changes, relation_tells}
 use Rattle.bdb_session.proofs.WithinLemmas.{memory_tells, table_stops}
 use Rattle.bdb_session.proofs.WriteLemmas.{accepted_unrefused}
 use Rattle.bdb_update.proofs.CallLemmas.{gone_itself}
@@ -15,7 +15,7 @@ returns-in-Err-clause-told g c =
 
 pub add_relation-requires-clause-base : goal.add_relation-requires-clause-base
 add_relation-requires-clause-base g c =
-    some_may_add_relation (g.K.Keeper.seen c.args.keeper.now).kept c.args.self.now c.args.def.now c.args.rel c.requires.number c.requires.fits c.requires.room c.requires.agrees
+    some_may_add_relation (g.K.Keeper.seen c.args.keeper.now).kept c.args.self.now c.args.def c.args.rel c.requires.number c.requires.fits c.requires.room c.requires.agrees
 
 pub returns-in-Err-add_relation-clause-told : goal.returns-in-Err-add_relation-clause-told
 returns-in-Err-add_relation-clause-told g c =
@@ -26,8 +26,8 @@ returns-in-Err-add_relation-clause-told g c =
 pub returns-clause-told : goal.returns-clause-told
 returns-clause-told g c =
     let h = c.in-Ok-add_relation.ensures.write in
-    let catalog = c.in-Ok.ensures ∙ ap (λ (k : Known). with_relation k.catalog c.args.def.now) c.self.view_is in
-    relation_tells c.args.self.now _ c.args.def.now c.args.rel (g.K.Keeper.seen c.args.keeper.now) (g.K.Keeper.seen c.add_relation.new.keeper) (g.K.Keeper.seen c.tell_done.new.keeper)
+    let catalog = c.in-Ok.ensures ∙ ap (λ (k : Known). with_relation k.catalog c.args.def) c.self.view_is in
+    relation_tells c.args.self.now _ c.args.def c.args.rel (g.K.Keeper.seen c.args.keeper.now) (g.K.Keeper.seen c.add_relation.new.keeper) (g.K.Keeper.seen c.tell_done.new.keeper)
     c.tell_done.result c.requires.number c.requires.fits c.requires.room c.requires.agrees (record { goes = h.steps.ok; counts = h.counts }) c.in-Ok-add_relation.ensures.added catalog
     (ap (λ (n : News). n.counts) c.requires.nothing) c.tell_done.ensures
 
@@ -35,3 +35,8 @@ pub returns-clause-unwritten : goal.returns-clause-unwritten
 returns-clause-unwritten g c =
     accepted_unrefused c.args.self.now.catalog _ (g.K.Keeper.seen c.args.keeper.now) (g.K.Keeper.seen c.add_relation.new.keeper) (g.K.Keeper.seen c.tell_done.new.keeper) c.tell_done.result refl
     (c.tell_done.ensures c.requires.agrees.state)
+
+pub returns-clause-change : goal.returns-clause-change
+returns-clause-change g c =
+    relation_changes c.args.self.now c.args.def c.args.rel (g.K.Keeper.seen c.args.keeper.now) c.tell_done.result c.relation_added.result c.requires.number c.requires.fits
+    c.requires.room c.relation_added.ensures

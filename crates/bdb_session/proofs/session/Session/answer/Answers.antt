@@ -1,22 +1,27 @@
-use Rattle.std.proofs.Common.{ap, refl}
-use Rattle.bdb_render.specs.declared.refusal.Refusal.TheVariants as refusal
-use Rattle.bdb_session.specs.Machine.{outcome_of}
-use Rattle.bdb_session.proofs.BoundLemmas.{nothing_unwritten}
-use Rattle.bdb_session.proofs.ServedLemmas.{refused_serves}
+use Rattle.bdb_session.specs.Undoing.{next_state, outcome_of}
+use Rattle.bdb_session.specs.declared.event.Event.TheVariants.{Piece}
+use Rattle.bdb_session.proofs.FollowLemmas.{remembers_after, reply_accepted, reply_answers, reply_text}
 use Rattle.bdb_session.proofs.session.Session.answer.Goals as goal
 
-pub returns-in-Long-clause-next : goal.returns-in-Long-clause-next
-returns-in-Long-clause-next g c = λ s a.
-    ((refused_serves (λ s. outcome_of s c.args.event.now) refusal.Long c.args.self.now _ c.refuse.result
-    (λ s a. ap (outcome_of s) c.in-Long.is) c.requires.still c.refuse.ensures).served s a).next
+pub returns-clause-text : goal.returns-clause-text
+returns-clause-text g c = λ t m. reply_text t.now.catalog (outcome_of t c.args.event.now) c.respond_to.result (c.respond_to.ensures.followed.served t m).reply
 
-pub returns-in-Unfinished-clause-next : goal.returns-in-Unfinished-clause-next
-returns-in-Unfinished-clause-next g c = λ s a.
-    ((refused_serves (λ s. outcome_of s c.args.event.now) refusal.Unfinished c.args.self.now _ c.refuse-in-Unfinished.result
-    (λ s a. ap (outcome_of s) c.in-Unfinished.is) c.requires.still c.refuse-in-Unfinished.ensures).served s a).next
+pub returns-clause-accepted : goal.returns-clause-accepted
+returns-clause-accepted g c = λ t m. reply_accepted t.now.catalog (outcome_of t c.args.event.now) c.respond_to.result (c.respond_to.ensures.followed.served t m).reply
 
-pub returns-in-Long-clause-unwritten : goal.returns-in-Long-clause-unwritten
-returns-in-Long-clause-unwritten g c = nothing_unwritten (g.K.Keeper.seen c.args.keeper.now) (g.K.Keeper.seen c.args.keeper.now) c.refuse.result refl
+pub returns-clause-answers : goal.returns-clause-answers
+returns-clause-answers g c = λ t m. reply_answers t.now.catalog (outcome_of t c.args.event.now) c.respond_to.result (c.respond_to.ensures.followed.served t m).reply
 
-pub returns-in-Unfinished-clause-unwritten : goal.returns-in-Unfinished-clause-unwritten
-returns-in-Unfinished-clause-unwritten g c = nothing_unwritten (g.K.Keeper.seen c.args.keeper.now) (g.K.Keeper.seen c.args.keeper.now) c.refuse-in-Unfinished.result refl
+pub returns-clause-next : goal.returns-clause-next
+returns-clause-next g c = λ t m. (c.respond_to.ensures.followed.served t m).next
+
+pub returns-clause-commits : goal.returns-clause-commits
+returns-clause-commits g c = λ t m. (c.respond_to.ensures.followed.served t m).commits
+
+pub returns-clause-alone : goal.returns-clause-alone
+returns-clause-alone g c = λ t m. (c.respond_to.ensures.followed.served t m).alone
+
+pub returns-clause-agrees : goal.returns-clause-agrees
+returns-clause-agrees g c =
+    remembers_after (λ t. outcome_of t c.args.event.now) (λ t. next_state t c.args.event.now) c.args.self.now c.respond_to.new.self (g.K.Keeper.seen c.args.keeper.now) (g.K.Keeper.seen c.respond_to.new.keeper) c.respond_to.result
+    c.requires.agrees c.respond_to.ensures.followed

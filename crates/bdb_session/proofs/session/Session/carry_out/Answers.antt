@@ -11,7 +11,8 @@ use Rattle.bdb_bind.proofs.Fitting.{what_is_bound_fits}
 use Rattle.bdb_session.specs.Known.{Known}
 use Rattle.bdb_session.specs.Machine.{refusal_from, bound_outcome, command_outcome}
 use Rattle.bdb_session.proofs.BoundLemmas.{reads_as, writes_as, not_bound, told_unwritten, nothing_unwritten}
-use Rattle.bdb_session.proofs.OutcomeLemmas.{unless_some, refused_to_bind}
+use Rattle.bdb_session.proofs.OutcomeLemmas.{bound_command, unless_some, refused_to_bind}
+use Rattle.bdb_session.proofs.FollowLemmas.{moves_as, refused_moves}
 use Rattle.bdb_session.proofs.ServedLemmas.{refused_serves}
 use Rattle.bdb_session.proofs.session.Session.carry_out.Goals as goal
 
@@ -35,6 +36,24 @@ returns-in-Some-clause-served g c =
     (refused_to_bind (refusal_of s.base.catalog command) c.in-Err.error c.in-Some.refusal c.in-Some.ensures
     (λ other. ap (λ (k : Catalog). refusal_of k command) (sym (here ∙ a.catalog)) ∙ c.in-Err.ensures.refused other)))
     c.requires.still c.refuse.ensures
+
+pub returns-in-Ok-clause-remembers : goal.returns-in-Ok-clause-remembers
+returns-in-Ok-clause-remembers g c =
+    let command = c.args.command in
+    let here = ap (λ (k : Known). k.catalog) c.self.view_is in
+    moves_as (λ s. command_outcome s command) (λ s. bound_outcome s c.in-Ok.bound) c.args.self.now c.execute.new.self (g.K.Keeper.seen c.args.keeper.now) (g.K.Keeper.seen c.execute.new.keeper)
+    c.execute.result
+    (λ s a. bound_command s command c.in-Ok.bound (ap (λ (k : Catalog). refusal_of k command) (sym (here ∙ a.catalog)) ∙ c.in-Ok.ensures.ok.0)
+    (c.in-Ok.ensures.ok.1 ∙ ap (λ (k : Catalog). bound_of k command) (here ∙ a.catalog))) c.execute.ensures.remembers
+
+pub returns-in-Some-clause-remembers : goal.returns-in-Some-clause-remembers
+returns-in-Some-clause-remembers g c =
+    let command = c.args.command in
+    let here = ap (λ (k : Known). k.catalog) c.self.view_is in
+    refused_moves (λ s. command_outcome s command) c.in-Some.refusal c.args.self.now (g.K.Keeper.seen c.args.keeper.now) (g.K.Keeper.seen c.args.keeper.now) c.refuse.result refl
+    (λ s a. unless_some (option_and_then refusal_from (refusal_of s.base.catalog command)) c.in-Some.refusal (bound_outcome s (bound_of s.base.catalog command))
+    (refused_to_bind (refusal_of s.base.catalog command) c.in-Err.error c.in-Some.refusal c.in-Some.ensures
+    (λ other. ap (λ (k : Catalog). refusal_of k command) (sym (here ∙ a.catalog)) ∙ c.in-Err.ensures.refused other)))
 
 pub returns-in-Ok-clause-reads : goal.returns-in-Ok-clause-reads
 returns-in-Ok-clause-reads g c = λ fine.

@@ -1,6 +1,7 @@
 use Rattle.bdb_session.specs.Machine.{bound_outcome}
 use Rattle.bdb_session.specs.Within.{learned}
 use Rattle.bdb_session.proofs.EndLemmas.{reads_settle, reads_stop, writes_settle, writes_stop, writes_unbegun}
+use Rattle.bdb_session.proofs.MovesLemmas.{moves_settle}
 use Rattle.bdb_session.proofs.OutcomeLemmas.{bound_counts}
 use Rattle.bdb_session.proofs.WithinLemmas.{begin_stops, step_stops, step_serves}
 use Rattle.bdb_session.proofs.session.Session.execute.Goals as goal
@@ -47,3 +48,14 @@ pub returns-in-Err-step-clause-writes : goal.returns-in-Err-step-clause-writes
 returns-in-Err-step-clause-writes g c =
     writes_stop c.args.bound c.args.self.now (g.K.Keeper.seen c.args.keeper.now) (g.K.Keeper.seen c.begin.new.keeper) (g.K.Keeper.seen c.step.new.keeper) c.in-Err-step.stop c.in-Ok.ensures.writes
     c.in-Err-step.ensures.writes
+
+pub returns-in-Err-clause-remembers : goal.returns-in-Err-clause-remembers
+returns-in-Err-clause-remembers g c = λ t m. tt
+
+pub returns-in-Err-step-clause-remembers : goal.returns-in-Err-step-clause-remembers
+returns-in-Err-step-clause-remembers g c = λ t m. tt
+
+pub returns-in-Ok-step-clause-remembers : goal.returns-in-Ok-step-clause-remembers
+returns-in-Ok-step-clause-remembers g c =
+    moves_settle (λ s. bound_outcome s c.args.bound) c.args.self.now c.step.new.news (g.K.Keeper.seen c.args.keeper.now) (g.K.Keeper.seen c.begin.new.keeper) (g.K.Keeper.seen c.step.new.keeper)
+    (g.K.Keeper.seen c.settle.new.keeper) c.requires.still c.in-Ok.ensures c.in-Ok-step.told c.in-Ok-step.ensures.told c.in-Ok-step.ensures.change c.settle.new.self c.settle.result c.settle.ensures

@@ -1,11 +1,15 @@
 use Rattle.std.proofs.Common.{ap, refl, sym, subst}
-use Rattle.bdb_bind.specs.declared.bound.Bound.TheVariants.{Insert, Delete, Update}
+use Rattle.bdb_bind.specs.declared.bound.Bound.TheVariants.{Insert, Delete, Update, Select, Explain, ShowWorld, Why, ShowTables, Undo, Redo}
+use Rattle.bdb_render.specs.declared.refusal.Refusal.TheVariants.{Syntax}
 use Rattle.bdb_session.specs.Known.{AgreesOnSome}
 use Rattle.bdb_session.specs.Machine.{bound_outcome}
-use Rattle.bdb_session.specs.Within.{learned, sized}
+use Rattle.bdb_session.specs.Within.{catalog_by, learned, sized}
 use Rattle.bdb_session.specs.declared.news.News.{News}
-use Rattle.bdb_session.proofs.BoundLemmas.{writes_from}
-use Rattle.bdb_session.proofs.WithinLemmas.{tells_as}
+use Rattle.bdb_session.proofs.BoundLemmas.{nothing_unwritten, writes_as, writes_from}
+use Rattle.bdb_session.proofs.NotingLemmas.{changes_as, read_unchanged}
+use Rattle.bdb_session.proofs.OutcomeLemmas.{select_stays, tables_stay}
+use Rattle.bdb_session.proofs.TellLemmas.{said_nothing}
+use Rattle.bdb_session.proofs.WithinLemmas.{refused_tells, tells_as, tells_knowing}
 use Rattle.bdb_session.proofs.session.Session.step.Goals as goal
 
 pub insert-requires-clause-agrees : goal.insert-requires-clause-agrees
@@ -24,13 +28,19 @@ pub returns-in-CreateRelation-clause-told : goal.returns-in-CreateRelation-claus
 returns-in-CreateRelation-clause-told g c = tells_as _ _ _ _ _ _ _ _ _ (λ s. ap (bound_outcome s) c.in-CreateRelation.is) refl refl c.create_relation.ensures.told
 
 pub returns-in-Insert-clause-told : goal.returns-in-Insert-clause-told
-returns-in-Insert-clause-told g c = tells_as _ _ _ _ _ _ _ _ _ (λ s. ap (bound_outcome s) c.in-Insert.is) (sym (ap (λ (n : News). sized c.args.self.now n.counts) c.requires.nothing)) (ap (λ (n : News). learned c.args.self.now (record n { counts = c.insert.new.counts })) c.requires.nothing) c.insert.ensures.told
+returns-in-Insert-clause-told g c =
+    tells_as _ _ _ _ _ _ _ _ _ (λ s. ap (bound_outcome s) c.in-Insert.is) (sym (ap (λ (n : News). sized c.args.self.now n.counts) c.requires.nothing)) refl
+    (tells_knowing _ _ (sized c.args.self.now c.insert.new.counts) _ _ _ _ (ap (λ (n : News). catalog_by c.args.self.now.catalog n.names) c.requires.nothing) refl c.insert.ensures.told)
 
 pub returns-in-Delete-clause-told : goal.returns-in-Delete-clause-told
-returns-in-Delete-clause-told g c = tells_as _ _ _ _ _ _ _ _ _ (λ s. ap (bound_outcome s) c.in-Delete.is) (sym (ap (λ (n : News). sized c.args.self.now n.counts) c.requires.nothing)) (ap (λ (n : News). learned c.args.self.now (record n { counts = c.delete.new.counts })) c.requires.nothing) c.delete.ensures.told
+returns-in-Delete-clause-told g c =
+    tells_as _ _ _ _ _ _ _ _ _ (λ s. ap (bound_outcome s) c.in-Delete.is) (sym (ap (λ (n : News). sized c.args.self.now n.counts) c.requires.nothing)) refl
+    (tells_knowing _ _ (sized c.args.self.now c.delete.new.counts) _ _ _ _ (ap (λ (n : News). catalog_by c.args.self.now.catalog n.names) c.requires.nothing) refl c.delete.ensures.told)
 
 pub returns-in-Update-clause-told : goal.returns-in-Update-clause-told
-returns-in-Update-clause-told g c = tells_as _ _ _ _ _ _ _ _ _ (λ s. ap (bound_outcome s) c.in-Update.is) (sym (ap (λ (n : News). sized c.args.self.now n.counts) c.requires.nothing)) (ap (λ (n : News). learned c.args.self.now (record n { counts = c.update.new.counts })) c.requires.nothing) c.update.ensures.told
+returns-in-Update-clause-told g c =
+    tells_as _ _ _ _ _ _ _ _ _ (λ s. ap (bound_outcome s) c.in-Update.is) (sym (ap (λ (n : News). sized c.args.self.now n.counts) c.requires.nothing)) refl
+    (tells_knowing _ _ (sized c.args.self.now c.update.new.counts) _ _ _ _ (ap (λ (n : News). catalog_by c.args.self.now.catalog n.names) c.requires.nothing) refl c.update.ensures.told)
 
 pub returns-in-Select-clause-told : goal.returns-in-Select-clause-told
 returns-in-Select-clause-told g c = tells_as _ _ _ _ _ _ _ _ _ (λ s. ap (bound_outcome s) c.in-Select.is) refl (ap (learned c.args.self.now) c.requires.nothing) c.select.ensures.told
@@ -64,3 +74,88 @@ returns-in-Update-clause-writes g c =
     let x = c.in-Update in
     writes_from c.args.self.now (g.K.Keeper.seen c.args.keeper.now) (g.K.Keeper.seen c.update.new.keeper) c.update.result c.args.bound (Update x.path x.sign x.rel x.sets x.conds) c.args.news.now
     c.requires.nothing x.is c.update.ensures.writes
+
+pub returns-in-Undo-clause-told : goal.returns-in-Undo-clause-told
+returns-in-Undo-clause-told g c =
+    tells_as _ _ _ _ _ _ _ _ _ (λ s. ap (bound_outcome s) c.in-Undo.is) refl (ap (learned c.args.self.now) c.requires.nothing)
+    (refused_tells (λ s. bound_outcome s Undo) Syntax c.args.self.now _ _ _ c.requires.agrees (λ s a. refl) c.refuse_within.ensures)
+
+pub returns-in-Redo-clause-told : goal.returns-in-Redo-clause-told
+returns-in-Redo-clause-told g c =
+    tells_as _ _ _ _ _ _ _ _ _ (λ s. ap (bound_outcome s) c.in-Redo.is) refl (ap (learned c.args.self.now) c.requires.nothing)
+    (refused_tells (λ s. bound_outcome s Redo) Syntax c.args.self.now _ _ _ c.requires.agrees (λ s a. refl) c.refuse_within-in-Redo.ensures)
+
+pub returns-in-Undo-clause-writes : goal.returns-in-Undo-clause-writes
+returns-in-Undo-clause-writes g c =
+    let old = g.K.Keeper.seen c.args.keeper.now in
+    let new = g.K.Keeper.seen c.refuse_within.new.keeper in
+    writes_as c.args.self.now old new c.refuse_within.result c.args.bound Undo c.in-Undo.is
+    (nothing_unwritten old new c.refuse_within.result (said_nothing c.args.self.now.catalog _ old old new c.refuse_within.result refl refl c.refuse_within.ensures).writes)
+
+pub returns-in-Redo-clause-writes : goal.returns-in-Redo-clause-writes
+returns-in-Redo-clause-writes g c =
+    let old = g.K.Keeper.seen c.args.keeper.now in
+    let new = g.K.Keeper.seen c.refuse_within-in-Redo.new.keeper in
+    writes_as c.args.self.now old new c.refuse_within-in-Redo.result c.args.bound Redo c.in-Redo.is
+    (nothing_unwritten old new c.refuse_within-in-Redo.result
+    (said_nothing c.args.self.now.catalog _ old old new c.refuse_within-in-Redo.result refl refl c.refuse_within-in-Redo.ensures).writes)
+
+-- ---- the change
+
+pub insert-requires-clause-nothing : goal.insert-requires-clause-nothing
+insert-requires-clause-nothing g c = ap (λ (n : News). n.change) c.requires.nothing
+
+pub delete-requires-clause-nothing : goal.delete-requires-clause-nothing
+delete-requires-clause-nothing g c = ap (λ (n : News). n.change) c.requires.nothing
+
+pub update-requires-clause-nothing : goal.update-requires-clause-nothing
+update-requires-clause-nothing g c = ap (λ (n : News). n.change) c.requires.nothing
+
+pub returns-in-CreateUser-clause-change : goal.returns-in-CreateUser-clause-change
+returns-in-CreateUser-clause-change g c = changes_as _ _ _ _ _ (g.K.Keeper.seen c.args.keeper.now) _ (λ s. ap (bound_outcome s) c.in-CreateUser.is) refl c.create_user.ensures.change
+
+pub returns-in-CreateRelation-clause-change : goal.returns-in-CreateRelation-clause-change
+returns-in-CreateRelation-clause-change g c = changes_as _ _ _ _ _ (g.K.Keeper.seen c.args.keeper.now) _ (λ s. ap (bound_outcome s) c.in-CreateRelation.is) refl c.create_relation.ensures.change
+
+pub returns-in-DropUser-clause-change : goal.returns-in-DropUser-clause-change
+returns-in-DropUser-clause-change g c = changes_as _ _ _ _ _ (g.K.Keeper.seen c.args.keeper.now) _ (λ s. ap (bound_outcome s) c.in-DropUser.is) refl c.drop_user.ensures.change
+
+pub returns-in-Insert-clause-change : goal.returns-in-Insert-clause-change
+returns-in-Insert-clause-change g c =
+    changes_as _ _ _ _ _ (g.K.Keeper.seen c.args.keeper.now) _ (λ s. ap (bound_outcome s) c.in-Insert.is) (sym (ap (λ (n : News). sized c.args.self.now n.counts) c.requires.nothing)) c.insert.ensures.change
+
+pub returns-in-Delete-clause-change : goal.returns-in-Delete-clause-change
+returns-in-Delete-clause-change g c =
+    changes_as _ _ _ _ _ (g.K.Keeper.seen c.args.keeper.now) _ (λ s. ap (bound_outcome s) c.in-Delete.is) (sym (ap (λ (n : News). sized c.args.self.now n.counts) c.requires.nothing)) c.delete.ensures.change
+
+pub returns-in-Update-clause-change : goal.returns-in-Update-clause-change
+returns-in-Update-clause-change g c =
+    changes_as _ _ _ _ _ (g.K.Keeper.seen c.args.keeper.now) _ (λ s. ap (bound_outcome s) c.in-Update.is) (sym (ap (λ (n : News). sized c.args.self.now n.counts) c.requires.nothing)) c.update.ensures.change
+
+pub returns-in-Select-clause-change : goal.returns-in-Select-clause-change
+returns-in-Select-clause-change g c =
+    read_unchanged c.args.bound (Select c.in-Select.query) c.args.self.now c.args.news.now (g.K.Keeper.seen c.args.keeper.now) c.select.result c.in-Select.is c.requires.nothing (select_stays c.in-Select.query)
+
+pub returns-in-Explain-clause-change : goal.returns-in-Explain-clause-change
+returns-in-Explain-clause-change g c =
+    read_unchanged c.args.bound (Explain c.in-Explain.query) c.args.self.now c.args.news.now (g.K.Keeper.seen c.args.keeper.now) c.explain.result c.in-Explain.is c.requires.nothing (λ s. refl)
+
+pub returns-in-ShowWorld-clause-change : goal.returns-in-ShowWorld-clause-change
+returns-in-ShowWorld-clause-change g c =
+    read_unchanged c.args.bound (ShowWorld c.in-ShowWorld.path) c.args.self.now c.args.news.now (g.K.Keeper.seen c.args.keeper.now) c.show_world.result c.in-ShowWorld.is c.requires.nothing (λ s. refl)
+
+pub returns-in-Why-clause-change : goal.returns-in-Why-clause-change
+returns-in-Why-clause-change g c =
+    read_unchanged c.args.bound (Why c.in-Why.stmt) c.args.self.now c.args.news.now (g.K.Keeper.seen c.args.keeper.now) c.why.result c.in-Why.is c.requires.nothing (λ s. refl)
+
+pub returns-in-ShowTables-clause-change : goal.returns-in-ShowTables-clause-change
+returns-in-ShowTables-clause-change g c =
+    read_unchanged c.args.bound ShowTables c.args.self.now c.args.news.now (g.K.Keeper.seen c.args.keeper.now) c.show_tables.result c.in-ShowTables.is c.requires.nothing tables_stay
+
+pub returns-in-Undo-clause-change : goal.returns-in-Undo-clause-change
+returns-in-Undo-clause-change g c =
+    read_unchanged c.args.bound Undo c.args.self.now c.args.news.now (g.K.Keeper.seen c.args.keeper.now) c.refuse_within.result c.in-Undo.is c.requires.nothing (λ s. refl)
+
+pub returns-in-Redo-clause-change : goal.returns-in-Redo-clause-change
+returns-in-Redo-clause-change g c =
+    read_unchanged c.args.bound Redo c.args.self.now c.args.news.now (g.K.Keeper.seen c.args.keeper.now) c.refuse_within-in-Redo.result c.in-Redo.is c.requires.nothing (λ s. refl)

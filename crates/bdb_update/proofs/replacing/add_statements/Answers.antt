@@ -2,7 +2,7 @@ use Rattle.std.proofs.Common.{◌≡◌, ◌∙◌, ◌+◌, ◌∷◌, ap, sym,
 use Rattle.std.proofs.lemmas.List.{drop_more, drop_all}
 use Rattle.bdb_update.proofs.ReplaceLemmas.{IsComing, some_to_come, coming_is_stopped, coming_more, coming_stops, coming_ends, come_through}
 use Rattle.bdb_update.proofs.StayLemmas.{keeps_then}
-use Rattle.bdb_update.proofs.replacing.add_all.Goals as goal
+use Rattle.bdb_update.proofs.replacing.add_statements.Goals as goal
 
 pub add_statement-requires-clause-base : goal.add_statement-requires-clause-base
 add_statement-requires-clause-base g c =

@@ -1,7 +1,7 @@
 use Rattle.std.proofs.Common.{drop}
 use Rattle.bdb_update.specs.Keeping.{KeepsNumbers}
 use Rattle.bdb_update.proofs.ReplaceLemmas.{IsComing}
-use Rattle.bdb_update.proofs.replacing.add_all.Given as goal
+use Rattle.bdb_update.proofs.replacing.add_statements.Given as goal
 
 abbrev pub invariant-loop-stmt : goal.invariant-loop-stmt
 invariant-loop-stmt g l =

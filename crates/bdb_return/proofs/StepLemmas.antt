@@ -1,0 +1,220 @@
+-- Statements go, then a name goes or comes, then statements come.
+use Rattle.std.proofs.Common.{◌≡◌, ◌∙◌, Bool, true, false, not, List, [], ◌∷◌, filter, refl, sym, ap, subst}
+use Rattle.std.specs.List.{list_all}
+use Rattle.std.specs.Ordering.{is_eq, is_lt}
+use Rattle.std.proofs.lemmas.Bool.{and_from, and_parts, cond-false, or_left, or_right}
+use Rattle.bdb_base.specs.Bases.{Contents, IsValid, belongs, stands, without_statement}
+use Rattle.bdb_base.specs.Changes.{with_statements}
+use Rattle.bdb_base.specs.Order.{statement_cmp}
+use Rattle.bdb_base.specs.OrderLemmas.{statement_exact}
+use Rattle.bdb_base.specs.SortedSet.{ascending}
+use Rattle.bdb_base.specs.declared.kinds.Catalog.{Catalog}
+use Rattle.bdb_base.specs.declared.kinds.Stmt.{Stmt}
+use Rattle.bdb_base.proofs.ListLemmas.{list_all-filter, list_all_weaker}
+use Rattle.bdb_base.proofs.SetLemmas.{absent_above, filter_keeps_order, is_eq_itself}
+use Rattle.bdb_canon.specs.Sizes.{counts_of}
+use Rattle.bdb_canon.specs.declared.sizes.Counts.{Counts}
+use Rattle.bdb_keep.specs.Seen.{Seen}
+use Rattle.bdb_keep.specs.Tables.{Tables}
+use Rattle.bdb_tables.specs.Stored.{Stores}
+use Rattle.bdb_undo.specs.Changes as undo
+use Rattle.bdb_undo.specs.Changes.{Leads, missing_from, named_forth}
+use Rattle.bdb_undo.specs.declared.change.Change.{Change}
+use Rattle.bdb_undo.specs.declared.change.Named.{Named}
+use Rattle.bdb_undo.specs.declared.change.Named.TheVariants.{Nothing, UserAdded, RelationAdded, UserDropped}
+use Rattle.bdb_undo.proofs.StatementLemmas.{exchanged, left_is_valid_after}
+use Rattle.bdb_update.specs.Calls.{StoresSized, are_apart, of_stmts, without_statements}
+use Rattle.bdb_update.specs.Replacing.{Come, Go, MayCome, MayGo, SomeMayCome, SomeMayGo}
+use Rattle.bdb_update.specs.Steps.{ComesThrough, GoesThrough}
+use Rattle.bdb_return.specs.Naming.{GetsName, LosesName, MayGetName, MayLoseName, SomeMayGetName, SomeMayLoseName, base_named, WritesGain, WritesLoss}
+use Rattle.bdb_return.specs.Returning.{BackThrough, ForthThrough, GoesBack, GoesForth, MayGoBack, MayGoForth, SomeMayGoBack, SomeMayGoForth}
+use Rattle.bdb_return.proofs.RelationLemmas.{counts_stay}
+
+abbrev base_of : Catalog → List Stmt → Contents
+base_of k stmts = record { catalog = k; stmts = stmts }
+
+-- ---- the statements that go stand, each once
+
+stands_all : (xs : List Stmt) → list_all (stands xs) xs ≡ true
+stands_all [] = refl
+stands_all (x ∷ xs) =
+    and_from (stands (x ∷ xs) x) (list_all (stands (x ∷ xs)) xs) (or_left (is_eq (statement_cmp x x)) (stands xs x) (is_eq_itself statement_exact x))
+    (list_all_weaker (stands xs) (stands (x ∷ xs)) (λ y e. or_right (is_eq (statement_cmp x y)) (stands xs y) e) xs (stands_all xs))
+
+ascending_apart : (xs : List Stmt) → ascending statement_cmp xs ≡ true → are_apart xs ≡ true
+ascending_apart [] up = refl
+ascending_apart (x ∷ xs) up =
+    let k = and_parts (list_all (λ y. is_lt (statement_cmp x y)) xs) (ascending statement_cmp xs) up in
+    cond-false (stands xs x) false (are_apart xs) (absent_above statement_exact x xs k.0) ∙ ascending_apart xs k.1
+
+-- statements go in the same way, by either definition
+same_without : (stmts xs : List Stmt) → without_statements stmts xs ≡ undo.without_statements stmts xs
+same_without stmts [] = refl
+same_without stmts (x ∷ xs) = same_without (without_statement stmts x) xs
+
+-- ---- from one list of statements to another
+
+module _ (from to : Contents) (out inn : List Stmt) (v : IsValid from.catalog from.stmts) (w : IsValid to.catalog to.stmts)
+    (goes : out ≡ missing_from to.stmts from.stmts) (comes : inn ≡ missing_from from.stmts to.stmts) where
+  abbrev left : List Stmt
+  left = without_statements from.stmts out
+
+  pub may_go : (t : Tables) (counts : Counts) → StoresSized t counts from → MayGo t counts out from
+  may_go t counts h =
+      let q : Stmt → Bool = λ x. not (stands to.stmts x) in
+      record {
+        base = h;
+        stand = ap (list_all (stands from.stmts)) goes ∙ list_all-filter (stands from.stmts) q from.stmts (stands_all from.stmts);
+        apart = ap are_apart goes ∙ ascending_apart (filter q from.stmts) (filter_keeps_order statement_exact q from.stmts v.stmts.sorted);
+      }
+
+  -- the statements that are left
+  left_is : left ≡ undo.without_statements from.stmts (missing_from to.stmts from.stmts)
+  left_is = same_without from.stmts out ∙ ap (undo.without_statements from.stmts) goes
+
+  -- the base in the middle is valid under the names afterwards
+  pub valid_after : IsValid to.catalog left
+  valid_after = subst (IsValid to.catalog) (sym left_is) (left_is_valid_after to.catalog from.stmts to.stmts v.stmts.sorted w)
+
+  -- and those that come make all of the next
+  pub all_are_there : with_statements left inn ≡ to.stmts
+  all_are_there =
+      ap (λ xs. with_statements xs inn) left_is ∙ ap (with_statements (undo.without_statements from.stmts (missing_from to.stmts from.stmts))) comes
+      ∙ exchanged from.stmts to.stmts v.stmts.sorted w.stmts.sorted
+
+  pub may_come : (t : Tables) (counts : Counts) → Stores t (base_of to.catalog left) → counts ≡ counts_of (base_of to.catalog left) → MayCome t counts inn (base_of to.catalog left)
+  may_come t counts s c = record {
+    base = record { stored = s; valid = valid_after; counted = c };
+    belong = ap (list_all (belongs to.catalog)) comes ∙ list_all-filter (belongs to.catalog) (λ x. not (stands from.stmts x)) to.stmts w.stmts.belong;
+    next = subst (IsValid to.catalog) (sym all_are_there) w;
+  }
+
+  pub has_come : (t u : Tables) (counts after : Counts) → MayCome t counts inn (base_of to.catalog left) → Come t u counts after inn → StoresSized u after to
+  has_come t u counts after m c = subst (λ xs. StoresSized u after (base_of to.catalog xs)) all_are_there (c (base_of to.catalog left) m)
+
+-- ---- names leave the sizes
+
+sizes_stay : (n : Named) (a : Contents) → IsValid a.catalog a.stmts → counts_of (base_named n a) ≡ counts_of a
+sizes_stay Nothing a v = refl
+sizes_stay (UserAdded name) a v = refl
+sizes_stay (RelationAdded def) a v = sym (counts_stay a def v.stmts.belong)
+sizes_stay (UserDropped uid name) a v = refl
+
+-- ---- back
+
+module _ (t : Tables) (counts : Counts) (c : Change) where
+  back_go : (a b : Contents) → MayGoBack t counts c a b → MayGo t counts c.come b
+  back_go a b h = may_go b a c.come c.gone h.leads.after h.leads.before h.leads.come h.leads.gone t counts h.base
+
+  pub some_go_back : SomeMayGoBack t counts c → SomeMayGo t counts c.come
+  some_go_back s = record { base = s.to; may = back_go s.from s.to s.may }
+
+  module _ (m : Tables) (mid : Counts) (went : Go t m counts mid c.come) where
+    back_left : (a b : Contents) → MayGoBack t counts c a b → StoresSized m mid (of_stmts b (without_statements b.stmts c.come))
+    back_left a b h = went b (back_go a b h)
+
+    back_name : (a b : Contents) → MayGoBack t counts c a b → MayLoseName m c.named (base_of a.catalog (without_statements b.stmts c.come))
+    back_name a b h =
+        let l = h.leads in
+        let xs = without_statements b.stmts c.come in
+        let s = back_left a b h in
+        record {
+          stored = subst (λ (k : Catalog). Stores m (base_of k xs)) l.forth s.stored;
+          between = record {
+            can = l.can;
+            before = valid_after b a c.come c.gone l.after l.before l.come l.gone;
+            after = subst (λ (k : Catalog). IsValid k xs) l.forth s.valid;
+          };
+        }
+
+    pub some_lose : SomeMayGoBack t counts c → SomeMayLoseName m c.named
+    some_lose s = record { base = base_of s.from.catalog (without_statements s.to.stmts c.come); may = back_name s.from s.to s.may }
+
+    module _ (k : Tables) (loses : LosesName m k c.named) where
+      back_come : (a b : Contents) → MayGoBack t counts c a b → MayCome k mid c.gone (base_of a.catalog (without_statements b.stmts c.come))
+      back_come a b h =
+          let l = h.leads in
+          let xs = without_statements b.stmts c.come in
+          let n = back_name a b h in
+          may_come b a c.come c.gone l.after l.before l.come l.gone k mid (loses (base_of a.catalog xs) n)
+          ((back_left a b h).counted ∙ ap (λ (k : Catalog). counts_of (base_of k xs)) l.forth ∙ sizes_stay c.named (base_of a.catalog xs) n.between.before)
+
+      pub some_come_back : SomeMayGoBack t counts c → SomeMayCome k mid c.gone
+      some_come_back s = record { base = base_of s.from.catalog (without_statements s.to.stmts c.come); may = back_come s.from s.to s.may }
+
+      pub went_back : (u : Tables) (after : Counts) → Come k u mid after c.gone → GoesBack t u counts after c
+      went_back u after came a b h =
+          let l = h.leads in
+          has_come b a c.come c.gone l.after l.before l.come l.gone k u mid after (back_come a b h) came
+
+-- ---- forth
+
+module _ (t : Tables) (counts : Counts) (c : Change) where
+  forth_go : (a b : Contents) → MayGoForth t counts c a b → MayGo t counts c.gone a
+  forth_go a b h = may_go a b c.gone c.come h.leads.before h.leads.after h.leads.gone h.leads.come t counts h.base
+
+  pub some_go_forth : SomeMayGoForth t counts c → SomeMayGo t counts c.gone
+  some_go_forth s = record { base = s.from; may = forth_go s.from s.to s.may }
+
+  module _ (m : Tables) (mid : Counts) (went : Go t m counts mid c.gone) where
+    forth_left : (a b : Contents) → MayGoForth t counts c a b → StoresSized m mid (of_stmts a (without_statements a.stmts c.gone))
+    forth_left a b h = went a (forth_go a b h)
+
+    forth_name : (a b : Contents) → MayGoForth t counts c a b → MayGetName m c.named (of_stmts a (without_statements a.stmts c.gone))
+    forth_name a b h =
+        let l = h.leads in
+        let xs = without_statements a.stmts c.gone in
+        let s = forth_left a b h in
+        record {
+          stored = s.stored;
+          between = record {
+            can = l.can;
+            before = s.valid;
+            after = subst (λ (k : Catalog). IsValid k xs) l.forth (valid_after a b c.gone c.come l.before l.after l.gone l.come);
+          };
+        }
+
+    pub some_get : SomeMayGoForth t counts c → SomeMayGetName m c.named
+    some_get s = record { base = of_stmts s.from (without_statements s.from.stmts c.gone); may = forth_name s.from s.to s.may }
+
+    module _ (k : Tables) (gets : GetsName m k c.named) where
+      forth_come : (a b : Contents) → MayGoForth t counts c a b → MayCome k mid c.come (base_of b.catalog (without_statements a.stmts c.gone))
+      forth_come a b h =
+          let l = h.leads in
+          let xs = without_statements a.stmts c.gone in
+          let n = forth_name a b h in
+          may_come a b c.gone c.come l.before l.after l.gone l.come k mid
+          (subst (λ (k2 : Catalog). Stores k (base_of k2 xs)) (sym l.forth) (gets (base_of a.catalog xs) n))
+          ((forth_left a b h).counted ∙ sym (sizes_stay c.named (base_of a.catalog xs) n.between.before) ∙ ap (λ (k2 : Catalog). counts_of (base_of k2 xs)) (sym l.forth))
+
+      pub some_come_forth : SomeMayGoForth t counts c → SomeMayCome k mid c.come
+      some_come_forth s = record { base = base_of s.to.catalog (without_statements s.from.stmts c.gone); may = forth_come s.from s.to s.may }
+
+      pub went_forth : (u : Tables) (after : Counts) → Come k u mid after c.come → GoesForth t u counts after c
+      went_forth u after came a b h =
+          let l = h.leads in
+          has_come a b c.gone c.come l.before l.after l.gone l.come k u mid after (forth_come a b h) came
+
+-- ---- how often is written
+
+pub back_through : (old left named new : Seen) (counts mid : Counts) (c : Change) → Go old.kept left.kept counts mid c.come → LosesName left.kept named.kept c.named
+    → GoesThrough counts c.come old left → WritesLoss left named c.named → ComesThrough mid c.gone named new → BackThrough counts c old new
+back_through old left named new counts mid c went loses goes name comes a b h =
+    let middle = base_of a.catalog (without_statements b.stmts c.come) in
+    record {
+      left = left;
+      named = named;
+      gone = goes b (back_go old.kept counts c a b h);
+      name = name middle (back_name old.kept counts c left.kept mid went a b h);
+      come = comes middle (back_come old.kept counts c left.kept mid went named.kept loses a b h);
+    }
+
+pub forth_through : (old left named new : Seen) (counts mid : Counts) (c : Change) → Go old.kept left.kept counts mid c.gone → GetsName left.kept named.kept c.named
+    → GoesThrough counts c.gone old left → WritesGain left named c.named → ComesThrough mid c.come named new → ForthThrough counts c old new
+forth_through old left named new counts mid c went gets goes name comes a b h = record {
+  left = left;
+  named = named;
+  gone = goes a (forth_go old.kept counts c a b h);
+  name = name (base_of a.catalog (without_statements a.stmts c.gone)) (forth_name old.kept counts c left.kept mid went a b h);
+  come = comes (base_of b.catalog (without_statements a.stmts c.gone)) (forth_come old.kept counts c left.kept mid went named.kept gets a b h);
+}

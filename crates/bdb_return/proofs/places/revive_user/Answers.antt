@@ -1,0 +1,24 @@
+use Rattle.std.proofs.Common.{rules}
+use Rattle.bdb_key.specs.Grammar.{IsNum}
+use Rattle.bdb_return.proofs.PlaceLemmas.{any_grammar, back_written, left_stored, name_is_plain, user_is_back}
+use Rattle.bdb_return.proofs.places.revive_user.Goals as goal
+
+pub put_live-requires-clause-plain : goal.put_live-requires-clause-plain
+put_live-requires-clause-plain g c = name_is_plain (g.K.Keeper.seen c.args.keeper.now).kept c.args.uid c.args.name.now c.requires.base
+
+pub add_user_edges-requires-clause-grammar : goal.add_user_edges-requires-clause-grammar
+add_user_edges-requires-clause-grammar g c =
+    let t = (g.K.Keeper.seen c.args.keeper.now).kept in
+    c.in-Ok.ensures.grammar (any_grammar t (left_stored t c.args.uid c.args.name.now c.requires.base))
+
+pub returns-in-Ok-add_user_edges-clause-back : goal.returns-in-Ok-add_user_edges-clause-back
+returns-in-Ok-add_user_edges-clause-back g c =
+    let t = (g.K.Keeper.seen c.args.keeper.now).kept in
+    let num : IsNum c.args.uid = search rules in
+    user_is_back t (g.K.Keeper.seen c.put_live.new.keeper).kept (g.K.Keeper.seen c.add_user_edges.new.keeper).kept c.args.uid c.args.name.now
+    num (name_is_plain t c.args.uid c.args.name.now c.requires.base) c.in-Ok.ensures.kept c.in-Ok-add_user_edges.ensures.added c.in-Ok-add_user_edges.ensures.others
+
+pub returns-in-Ok-add_user_edges-clause-writes : goal.returns-in-Ok-add_user_edges-clause-writes
+returns-in-Ok-add_user_edges-clause-writes g c =
+    back_written (g.K.Keeper.seen c.args.keeper.now) (g.K.Keeper.seen c.put_live.new.keeper) (g.K.Keeper.seen c.add_user_edges.new.keeper) c.args.uid c.args.name.now
+    c.in-Ok.ensures.kept c.in-Ok-add_user_edges.ensures.counts.writes c.in-Ok.ensures.writes c.in-Ok-add_user_edges.ensures.writes

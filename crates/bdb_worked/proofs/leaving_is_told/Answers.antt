@@ -1,0 +1,5 @@
+use Rattle.bdb_worked.proofs.Computed as computed
+use Rattle.bdb_worked.proofs.leaving_is_told.Goals as goal
+
+pub returns : goal.returns
+returns c = computed.leaving_is_told
