@@ -9,13 +9,13 @@ use Rattle.std.proofs.lemmas.List.{append-nil}
 use Rattle.bdb_base.specs.Segments.{is_prefix}
 use Rattle.bdb_events.specs.declared.read.Read.{Read}
 use Rattle.bdb_lex.specs.Spans.{lacks}
-use Rattle.bdb_many.specs.Many.{act_next, act_reply, end_text}
+use Rattle.bdb_many.specs.Many.{Batches, act_next, act_reply, end_text}
 use Rattle.bdb_many.specs.Marks.{line, mark, marked, marked_from, told}
 use Rattle.bdb_many.proofs.MarkLemmas.{one_line}
-use Rattle.bdb_multi.specs.Sessions.{act_after}
+use Rattle.bdb_multi.specs.Sessions.{Commands, act_after}
 use Rattle.bdb_multi.specs.declared.kinds.Act.{Act}
 use Rattle.bdb_multi.specs.declared.kinds.Act.TheVariants.{Begun, Queued, Aborted, ErrBegun, ErrNotBegun, ErrBatch, One, Batch}
-use Rattle.bdb_session.specs.Batches.{batch_state, batch_text, pieces}
+use Rattle.bdb_session.specs.Batches.{batch_state, pieces}
 use Rattle.bdb_session.specs.ErrorLaws.{HasValidBase}
 use Rattle.bdb_session.specs.ErrorLines.{before_lines, lines_of, tells_error}
 use Rattle.bdb_session.specs.Machine.{next_state}
@@ -153,9 +153,6 @@ marked_tell n fine text h rest =
     ∙ (ap has_error (append_assoc (flat_map (told n) h.texts) (marked n h.last) rest)
     ∙ (behind_lines n h.texts (marked n h.last ++ rest) h.quiet ∙ ends_tell n fine h.last h.ends rest)))
 
-batch_tells : (n : ℕ) (s : State) (es : List Event) → HasValidBase s → Tells (accepts_all s es) (marked n (batch_text s es))
-batch_tells n s es v = marked_tell n (accepts_all s es) (batch_text s es) (batch_told s es v)
-
 -- ---- acts
 
 line_tells : (n : ℕ) (t : List ℕ) → is_quiet t ≡ true → Tells true (told n t)
@@ -169,39 +166,44 @@ error_line_tells n t rest =
 word_quiet : (word text : List ℕ) → IsFlat word → IsFlat text → tells_error (word ++ text) ≡ false → is_quiet (word ++ text) ≡ true
 word_quiet word text w f e = and_from (lacks 10 (word ++ text)) (not (tells_error (word ++ text))) (flat_append word text w f) (ap not e)
 
-end_quiet : (s : State) (q : List (List ℕ)) → is_quiet (end_text session_batches s q) ≡ true
-end_quiet s q =
-    let accepted = session_batches.accepted s q + 1 in
-    cond_both (accepts_all s (pieces q)) (codes "committed " ++ decimal (length q)) (codes "aborted " ++ decimal accepted) (λ t. is_quiet t ≡ true)
+-- ---- batches, whatever runs them
+
+-- over good states a batch tells an error exactly where it isn't whole, and a good state is followed by a good one
+record Telling {S : Type 0} (m : Batches S) (IsGood : S → Type 0) : Type 0 where
+  told : (s : S) (q : Commands) → IsGood s → AreTold (m.is_whole s q) (m.text s q)
+  next : (s : S) (q : Commands) → IsGood s → IsGood (m.next s q)
+
+end_quiet : {S : Type 0} (m : Batches S) (s : S) (q : Commands) → is_quiet (end_text m s q) ≡ true
+end_quiet m s q =
+    let accepted = m.accepted s q + 1 in
+    cond_both (m.is_whole s q) (codes "committed " ++ decimal (length q)) (codes "aborted " ++ decimal accepted) (λ t. is_quiet t ≡ true)
     (λ e. word_quiet (codes "committed ") (decimal (length q)) refl (decimal_flat (length q)) refl) (λ e. word_quiet (codes "aborted ") (decimal accepted) refl (decimal_flat accepted) refl)
 
-act_tells : (s : State) (n : ℕ) (a : Act) → HasValidBase s → Tells (act_is_fine session_batches s a) (act_reply session_batches s n a)
-act_tells s n Begun v = line_tells n (codes "begun") refl
-act_tells s n Queued v = line_tells n (codes "queued") refl
-act_tells s n Aborted v = line_tells n (codes "aborted") refl
-act_tells s n ErrBegun v = error_line_tells n (codes "begun")
-act_tells s n ErrNotBegun v = error_line_tells n (codes "not begun")
-act_tells s n ErrBatch v = error_line_tells n (codes "batch")
-act_tells s n (One c) v = batch_tells n s (pieces (c ∷ [])) v
-act_tells s n (Batch q) v = λ rest.
-    let text = marked n (batch_text s (pieces q)) in
-    let end = told n (end_text session_batches s q) in
+act_tells : {S : Type 0} (m : Batches S) (IsGood : S → Type 0) → Telling m IsGood → (s : S) (n : ℕ) (a : Act) → IsGood s → Tells (act_is_fine m s a) (act_reply m s n a)
+act_tells m G t s n Begun v = line_tells n (codes "begun") refl
+act_tells m G t s n Queued v = line_tells n (codes "queued") refl
+act_tells m G t s n Aborted v = line_tells n (codes "aborted") refl
+act_tells m G t s n ErrBegun v = error_line_tells n (codes "begun")
+act_tells m G t s n ErrNotBegun v = error_line_tells n (codes "not begun")
+act_tells m G t s n ErrBatch v = error_line_tells n (codes "batch")
+act_tells m G t s n (One c) v = marked_tell n (m.is_whole s (c ∷ [])) (m.text s (c ∷ [])) (t.told s (c ∷ []) v)
+act_tells m G t s n (Batch q) v = λ rest.
+    let text = marked n (m.text s q) in
+    let end = told n (end_text m s q) in
     ap has_error (append_assoc text end rest)
-    ∙ (batch_tells n s (pieces q) v (end ++ rest)
-    ∙ ap (λ b. not (accepts_all s (pieces q)) || b) (behind_told n (end_text session_batches s q) rest (end_quiet s q)))
+    ∙ (marked_tell n (m.is_whole s q) (m.text s q) (t.told s q v) (end ++ rest) ∙ ap (λ b. not (m.is_whole s q) || b) (behind_told n (end_text m s q) rest (end_quiet m s q)))
 
-read_tells : (p : Point) (r : Read) → HasValidBase p.state → Tells (read_is_fine p r) (reply_of p (piece r))
-read_tells p Read.Nothing v = λ rest. refl
-read_tells p Read.Long v = λ rest. plain_error (codes "long" ++ 10 ∷ rest)
-read_tells p Read.NoSession v = λ rest. plain_error (codes "session" ++ 10 ∷ rest)
-read_tells p (Read.NoLine n) v = error_line_tells n (codes "line")
-read_tells p (Read.Event e) v = act_tells p.state e.session (act_after p.before e) v
+act_good : {S : Type 0} (m : Batches S) (IsGood : S → Type 0) → Telling m IsGood → (s : S) (a : Act) → IsGood s → IsGood (act_next m s a)
+act_good m G t s Begun v = v
+act_good m G t s Queued v = v
+act_good m G t s Aborted v = v
+act_good m G t s ErrBegun v = v
+act_good m G t s ErrNotBegun v = v
+act_good m G t s ErrBatch v = v
+act_good m G t s (One c) v = t.next s (c ∷ []) v
+act_good m G t s (Batch q) v = t.next s q v
 
-reply_tells : (p : Point) (a : Asked) → HasValidBase p.state → Tells (is_fine p a) (reply_of p a)
-reply_tells p (piece r) v = read_tells p r v
-reply_tells p unfinished v = λ rest. plain_error (codes "unfinished" ++ 10 ∷ rest)
-
--- ---- streams
+-- ---- the batches of the belief machine
 
 after_valid : (s : State) (es : List Event) → HasValidBase s → HasValidBase (runs.after s es)
 after_valid s [] v = v
@@ -210,22 +212,28 @@ after_valid s (e ∷ es) v = after_valid (next_state s e) es (bases_stay_valid s
 batch_valid : (s : State) (es : List Event) → HasValidBase s → HasValidBase (batch_state s es)
 batch_valid s es v = cond_both (accepts_all s es) (runs.after s es) s HasValidBase (λ e. after_valid s es v) (λ e. v)
 
-act_valid : (s : State) (a : Act) → HasValidBase s → HasValidBase (act_next session_batches s a)
-act_valid s Begun v = v
-act_valid s Queued v = v
-act_valid s Aborted v = v
-act_valid s ErrBegun v = v
-act_valid s ErrNotBegun v = v
-act_valid s ErrBatch v = v
-act_valid s (One c) v = batch_valid s (pieces (c ∷ [])) v
-act_valid s (Batch q) v = batch_valid s (pieces q) v
+session_tells : Telling session_batches HasValidBase
+session_tells = record { told = λ s q v. batch_told s (pieces q) v; next = λ s q v. batch_valid s (pieces q) v }
+
+read_tells : (p : Point) (r : Read) → HasValidBase p.state → Tells (read_is_fine p r) (reply_of p (piece r))
+read_tells p Read.Nothing v = λ rest. refl
+read_tells p Read.Long v = λ rest. plain_error (codes "long" ++ 10 ∷ rest)
+read_tells p Read.NoSession v = λ rest. plain_error (codes "session" ++ 10 ∷ rest)
+read_tells p (Read.NoLine n) v = error_line_tells n (codes "line")
+read_tells p (Read.Event e) v = act_tells session_batches HasValidBase session_tells p.state e.session (act_after p.before e) v
+
+reply_tells : (p : Point) (a : Asked) → HasValidBase p.state → Tells (is_fine p a) (reply_of p a)
+reply_tells p (piece r) v = read_tells p r v
+reply_tells p unfinished v = λ rest. plain_error (codes "unfinished" ++ 10 ∷ rest)
+
+-- ---- streams
 
 read_valid : (p : Point) (r : Read) → HasValidBase p.state → HasValidBase (next_point p (piece r)).state
 read_valid p Read.Nothing v = v
 read_valid p Read.Long v = v
 read_valid p Read.NoSession v = v
 read_valid p (Read.NoLine n) v = v
-read_valid p (Read.Event e) v = act_valid p.state (act_after p.before e) v
+read_valid p (Read.Event e) v = act_good session_batches HasValidBase session_tells p.state (act_after p.before e) v
 
 next_valid : (p : Point) (a : Asked) → HasValidBase p.state → HasValidBase (next_point p a).state
 next_valid p (piece r) v = read_valid p r v

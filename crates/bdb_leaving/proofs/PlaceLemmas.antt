@@ -73,7 +73,7 @@ module _ (t m : Tables) (uid : ℕ) (put : m ≡ tables.insert t (place user_cod
       after : HoldsStates (is_user (without_user b.catalog uid).users) h.stored.names u
       after =
           states_as (without_one_user (is_user b.catalog.users) uid) (is_user (without_user b.catalog uid).users) h.stored.names u
-          (λ i. sym (others_are_users b.catalog uid i h.user)) (drops worlds before may)
+          (λ i. sym (others_are_users b.catalog uid i h.user)) (drops worlds before may.unnamed)
 
   pub user_lost : (u : Tables) → DropsUser m u uid → SameOutside 9 10 m u → LosesUser t u uid
   user_lost u drops same b h = record {

@@ -170,8 +170,7 @@ place_lost t m u uid num put drops outside name a last h =
     let s = h.stored in
     let none = none_names a.catalog a.stmts uid h.between.before (next_is_no_user users uid last) in
     let now = states_before t m uid None put (is_user more) s.names s.stored.states in
-    let left = drops (record { users = is_user more; names = s.names }) now
-    (record { user = last_is_user users name uid last; unnamed = λ w e. listed_is_named uid w ∙ none w (sym (s.stored.worlds w) ∙ e) }) in
+    let left = drops (record { users = is_user more; names = s.names }) now (λ w e. listed_is_named uid w ∙ none w (sym (s.stored.worlds w) ∙ e)) in
     record {
       names = s.names;
       tuples = s.tuples;
@@ -262,7 +261,7 @@ user_leaves t m u uid put drops outside name a h =
     let s = h.stored in
     let none = none_names (without_user k uid) a.stmts uid h.between.after (who_is_gone_is_no_user left uid (who_leaves_is_gone k uid user)) in
     let now = states_before t m uid (Some Gone) put (is_user k.users) s.names s.stored.states in
-    let after = drops (record { users = is_user k.users; names = s.names }) now (record { user = user; unnamed = λ w e. listed_is_named uid w ∙ none w (sym (s.stored.worlds w) ∙ e) }) in
+    let after = drops (record { users = is_user k.users; names = s.names }) now (λ w e. listed_is_named uid w ∙ none w (sym (s.stored.worlds w) ∙ e)) in
     record {
       names = s.names;
       tuples = s.tuples;

@@ -244,10 +244,10 @@ module _ (t u : Tables) (uid low : ℕ) (user_fits : IsNum uid) (so_far : UserDr
           two_for (Some n) e = refl
 
   pub drop_ends : HasNextNumber u low None → DropsUser t u uid
-  drop_ends none s h leaves = record {
+  drop_ends none s h unnamed = record {
     names = h.names;
     numbers = λ i e. h.numbers i (and_parts (not (nat_eq i uid)) (s.users i) e).1;
-    own = λ w n. own_without_user s.users s.names uid w (h.own w n) (leaves.unnamed w n);
+    own = λ w n. own_without_user s.users s.names uid w (h.own w n) (unnamed w n);
     tables = tables_same u (depth_of s.names) (link_of s.names) (edges_past s uid low) (depth_of s.names) (link_of s.names) (edge_of (without_one_user s.users uid) s.names) (λ k. refl) (λ k. refl)
         (λ q. all_past s h q ∙ sym (edges_without_user s.users s.names uid q.0 q.1)) (so_far s h);
   }

@@ -39,14 +39,18 @@ WritesEdges old new uid = (s : Worlds) → HoldsStates s.users s.names old.kept 
 abbrev pub without_one_user : (ℕ → Bool) → ℕ → ℕ → Bool
 without_one_user users uid j = not (nat_eq j uid) && users j
 
+-- no path that has a number names a user
+abbrev pub IsUnnamed : Worlds → ℕ → Type 0
+IsUnnamed s uid = (w : List ℕ) → is_named s.names w ≡ true → is_listed uid w ≡ false
+
 -- a user is one, and no path that has a number names him
 pub record MayLeave (s : Worlds) (uid : ℕ) : Type 0 where
   pub user : s.users uid ≡ true
-  pub unnamed : (w : List ℕ) → is_named s.names w ≡ true → is_listed uid w ≡ false
+  pub unnamed : IsUnnamed s uid
 
--- whichever states the tables held over users of whom this one may leave, they hold them over the users without him
+-- whichever states the tables held that don't name this user, they hold them over the users without him, also where he wasn't one
 abbrev pub DropsUser : Tables → Tables → ℕ → Type 0
-DropsUser t u uid = (s : Worlds) → HoldsStates s.users s.names t → MayLeave s uid → HoldsStates (without_one_user s.users uid) s.names u
+DropsUser t u uid = (s : Worlds) → HoldsStates s.users s.names t → IsUnnamed s uid → HoldsStates (without_one_user s.users uid) s.names u
 
 -- whichever states the tables held over users of whom this one may leave, two writes were made for each of their worlds
 abbrev pub WritesDropped : Seen → Seen → ℕ → Type 0
