@@ -1,5 +1,7 @@
+pub mod EdgeLemmas
 pub mod LeavingLemmas
 pub mod NamingLemmas
+pub mod PathLemmas
 pub mod PlaceLemmas
 pub mod TakenLemmas
 pub mod WorldLemmas

@@ -1,3 +1,4 @@
 pub mod Leaving
 pub mod Naming
+pub mod Paths
 pub mod Place

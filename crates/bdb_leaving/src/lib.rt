@@ -3,6 +3,7 @@
 
 mod leaving;
 mod naming;
+mod paths;
 mod place;
 
 pub use leaving::drop_user;

@@ -8,9 +8,10 @@ ghost use Rattle.bdb_tables.specs.Grammar.{InGrammar};
 ghost use Rattle.bdb_val.specs.Reads.{HaveTuples};
 ghost use Rattle.bdb_val.specs.Steps.{IsChanging};
 
+use crate::paths::worlds_by_edges;
 use bdb_base::{Exact, Held, List, Path, Stmt, names_user};
 use bdb_keep::Keeper;
-use bdb_stored::{NamedWorld, user_numbers, worlds_in_order};
+use bdb_stored::NamedWorld;
 use bdb_tables::TabError;
 use bdb_val::world_at;
 use std::alloc::{AllocError, Global};
@@ -28,11 +29,7 @@ pub fn statements_naming<K: Keeper>(
     ensures writes { (K.seen keeper.new).writes ≡ (K.seen keeper.old).writes }
     ensures changing { IsChanging (K.seen keeper.old) (K.seen keeper.new) result TabError.Fault }
 {
-    let users = match user_numbers(alloc, keeper) {
-        Ok(users) => users,
-        Err(error) => return Err(error),
-    };
-    let worlds = match worlds_in_order(alloc, keeper, &users) {
+    let worlds = match worlds_by_edges(alloc, keeper) {
         Ok(worlds) => worlds,
         Err(error) => return Err(error),
     };

@@ -1,4 +1,4 @@
-use Rattle.std.proofs.Common.{◌∙◌, sym, subst}
+use Rattle.std.proofs.Common.{sym, subst}
 use Rattle.bdb_base.specs.Changes.{statements_naming}
 use Rattle.bdb_tables.specs.Grammar.{InGrammar}
 use Rattle.bdb_val.specs.Reads.{HaveTuples}
@@ -9,17 +9,17 @@ use Rattle.bdb_leaving.proofs.naming.statements_naming.Goals as goal
 
 pub read_naming-requires-clause-grammar : goal.read_naming-requires-clause-grammar
 read_naming-requires-clause-grammar g c =
-    subst InGrammar (sym (c.in-Ok-worlds_in_order.ensures.read.kept ∙ c.in-Ok.ensures.read.kept)) (valid_in_grammar (g.K.Keeper.seen c.args.keeper.now).kept c.requires.base)
+    subst InGrammar (sym c.in-Ok.ensures.read.kept) (valid_in_grammar (g.K.Keeper.seen c.args.keeper.now).kept c.requires.base)
 
 pub read_naming-requires-clause-tuples : goal.read_naming-requires-clause-tuples
 read_naming-requires-clause-tuples g c =
-    subst HaveTuples (sym (c.in-Ok-worlds_in_order.ensures.read.kept ∙ c.in-Ok.ensures.read.kept)) (valid_has_tuples (g.K.Keeper.seen c.args.keeper.now).kept c.requires.base)
+    subst HaveTuples (sym c.in-Ok.ensures.read.kept) (valid_has_tuples (g.K.Keeper.seen c.args.keeper.now).kept c.requires.base)
 
 pub read_naming-requires-clause-worlds : goal.read_naming-requires-clause-worlds
 read_naming-requires-clause-worlds g c =
-    subst (TellsStates (g.K.Keeper.seen c.worlds_in_order.new.keeper).kept) (sym c.deref-2.ensures.value)
-    (subst (λ t. TellsStates t c.in-Ok-worlds_in_order.worlds.items) (sym c.in-Ok-worlds_in_order.ensures.read.kept) c.in-Ok-worlds_in_order.ensures.worlds)
+    subst (TellsStates (g.K.Keeper.seen c.worlds_by_edges.new.keeper).kept) (sym c.deref.ensures.value)
+    (subst (λ t. TellsStates t c.in-Ok.worlds.items) (sym c.in-Ok.ensures.read.kept) c.in-Ok.ensures.worlds)
 
 pub returns-in-Ok-read_naming-clause-naming : goal.returns-in-Ok-read_naming-clause-naming
 returns-in-Ok-read_naming-clause-naming g c =
-    subst (λ t. IsPartOf (λ b. statements_naming c.args.uid b.stmts) t c.in-Ok-read_naming.stmts) (c.in-Ok-worlds_in_order.ensures.read.kept ∙ c.in-Ok.ensures.read.kept) c.in-Ok-read_naming.ensures.naming
+    subst (λ t. IsPartOf (λ b. statements_naming c.args.uid b.stmts) t c.in-Ok-read_naming.stmts) c.in-Ok.ensures.read.kept c.in-Ok-read_naming.ensures.naming
