@@ -4,15 +4,15 @@ use Prim.Native.Nat.{zero}
 use Rattle.std.specs.FinMap as tables
 use Rattle.std.specs.Option.{option_map}
 use Rattle.std.specs.Ordering.{is_le, nat_cmp, ordering_then}
+use Rattle.std.specs.declared.cmp.Ordering.TheVariants.{Less}
 use Rattle.std.proofs.lemmas.Bool.{eqb-true, false≢true}
+use Rattle.std.proofs.lemmas.Bool.Decides.{nat_tests}
 use Rattle.std.proofs.lemmas.List.{append-nil}
 use Rattle.bdb_base.specs.Alternation.{alternates}
 use Rattle.bdb_base.specs.Bases.{is_user}
 use Rattle.bdb_base.specs.Segments.{is_suffix}
 use Rattle.bdb_base.specs.States.{deepest_suffix}
 use Rattle.bdb_keep.specs.Tables.{Tables}
-use Rattle.bdb_key.specs.Grammar.{IsNum}
-use Rattle.bdb_key.proofs.Numbers.{less}
 use Rattle.bdb_names.proofs.Ends.{front_of, length_more, more_is_end}
 use Rattle.bdb_names.proofs.NameLemmas.{edge_found, path_is_named, same_some}
 use Rattle.bdb_names.proofs.NamedLemmas.{cases_end, tables_have_names}
@@ -35,7 +35,10 @@ zero_first wid from user = le_same wid (ordering_then (nat_cmp 0 from) (nat_cmp 
   where
     by : (m : ℕ) → is_le (ordering_then (nat_cmp 0 m) (nat_cmp 0 user)) ≡ true
     by zero = le_same 0 (nat_cmp 0 user) (number_le 0 user (omega arith))
-    by (suc m) = ap (λ r. is_le (ordering_then r (nat_cmp 0 user))) (less 0 (suc m) (omega arith))
+    by (suc m) = ap (λ r. is_le (ordering_then r (nat_cmp 0 user))) less
+      where
+        less : nat_cmp 0 (suc m) ≡ Less
+        less = grind (arith, nat_tests)
 
 module _ (t : Tables) (wid : ℕ) (led : IsLed t wid) where
   there : is_some (tables.get t (place led_codec (wid, led.from, led.user))) ≡ true

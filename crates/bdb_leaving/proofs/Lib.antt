@@ -3,5 +3,6 @@ pub mod LeavingLemmas
 pub mod NamingLemmas
 pub mod PathLemmas
 pub mod PlaceLemmas
+pub mod ReadsLemmas
 pub mod TakenLemmas
 pub mod WorldLemmas

@@ -1,7 +1,7 @@
 // The statements whose paths name a user, as they are read from tables.
 ghost use Rattle.std.specs.Prelude.{◌≡◌, ◌++◌, IfOk, OnOk};
 ghost use Rattle.bdb_base.specs.Changes.{statements_naming};
-ghost use Rattle.bdb_leaving.specs.Naming.{AppendsNaming, said_at};
+ghost use Rattle.bdb_leaving.specs.Naming.{AppendsNaming, ReadsAt, ReadsNaming, ReadsRows, said_at};
 ghost use Rattle.bdb_stored.specs.Valid.{IsPartOf, OnlyReads, StoreSome};
 ghost use Rattle.bdb_stored.specs.Worlds.{TellsStates};
 ghost use Rattle.bdb_tables.specs.Grammar.{InGrammar};
@@ -16,8 +16,9 @@ use bdb_tables::TabError;
 use bdb_val::world_at;
 use std::alloc::{AllocError, Global};
 
-/// The statements whose paths name a user, in order: what the explicit rows say of the worlds whose paths name him. The
-/// worlds are read with two reads at most for each and each user, and two more for each row of those that name him.
+/// The statements whose paths name a user, in order: what the explicit rows say of the worlds whose paths name him. One read
+/// for each world and one for each user of its path, whatever the number of users; two for each row of those that name him, and
+/// one more for each of these worlds; and one more.
 pub fn statements_naming<K: Keeper>(
     alloc: Global,
     keeper: &mut K,
@@ -25,6 +26,7 @@ pub fn statements_naming<K: Keeper>(
 ) -> Result<List<Stmt>, TabError>
     requires base { StoreSome (K.seen keeper.old).kept }
     ensures naming { IfOk result (IsPartOf (λ b. statements_naming uid b.stmts) (K.seen keeper.old).kept) }
+    ensures reads { OnOk result (ReadsNaming uid (K.seen keeper.old) (K.seen keeper.new)) }
     ensures kept { OnOk result ((K.seen keeper.new).kept ≡ (K.seen keeper.old).kept) }
     ensures writes { (K.seen keeper.new).writes ≡ (K.seen keeper.old).writes }
     ensures changing { IsChanging (K.seen keeper.old) (K.seen keeper.new) result TabError.Fault }
@@ -50,6 +52,7 @@ fn read_naming<K: Keeper>(
     requires tuples { HaveTuples (K.seen keeper.old).kept }
     requires worlds { TellsStates (K.seen keeper.old).kept worlds.now }
     ensures naming { IfOk result (IsPartOf (λ b. statements_naming uid b.stmts) (K.seen keeper.old).kept) }
+    ensures reads { OnOk result (ReadsRows uid (K.seen keeper.old) (K.seen keeper.new)) }
     ensures reading { OnlyReads (K.seen keeper.old) (K.seen keeper.new) result TabError.Fault }
 {
     let mut stmts = List::new(alloc);
@@ -73,6 +76,7 @@ fn push_naming<K: Keeper>(
     requires grammar { InGrammar (K.seen keeper.old).kept }
     requires tuples { HaveTuples (K.seen keeper.old).kept }
     ensures appended { OnOk result (AppendsNaming (K.seen keeper.old).kept uid world.now stmts.old stmts.new) }
+    ensures reads { OnOk result (ReadsAt uid world.now (K.seen keeper.old) (K.seen keeper.new)) }
     ensures reading { OnlyReads (K.seen keeper.old) (K.seen keeper.new) result TabError.Fault }
 {
     let users = world.path.as_slice();

@@ -5,6 +5,7 @@ use Rattle.bdb_val.specs.Reads.{HaveTuples}
 use Rattle.bdb_stored.specs.Valid.{IsPartOf}
 use Rattle.bdb_stored.specs.Worlds.{TellsStates}
 use Rattle.bdb_stored.proofs.CountingLemmas.{valid_has_tuples, valid_in_grammar}
+use Rattle.bdb_leaving.proofs.ReadsLemmas.{reads_together}
 use Rattle.bdb_leaving.proofs.naming.statements_naming.Goals as goal
 
 pub read_naming-requires-clause-grammar : goal.read_naming-requires-clause-grammar
@@ -23,3 +24,8 @@ read_naming-requires-clause-worlds g c =
 pub returns-in-Ok-read_naming-clause-naming : goal.returns-in-Ok-read_naming-clause-naming
 returns-in-Ok-read_naming-clause-naming g c =
     subst (λ t. IsPartOf (λ b. statements_naming c.args.uid b.stmts) t c.in-Ok-read_naming.stmts) c.in-Ok.ensures.read.kept c.in-Ok-read_naming.ensures.naming
+
+pub returns-in-Ok-read_naming-clause-reads : goal.returns-in-Ok-read_naming-clause-reads
+returns-in-Ok-read_naming-clause-reads g c =
+    reads_together c.args.uid (g.K.Keeper.seen c.args.keeper.now) (g.K.Keeper.seen c.worlds_by_edges.new.keeper) (g.K.Keeper.seen c.read_naming.new.keeper) c.in-Ok.worlds.items
+    c.in-Ok.ensures.worlds c.in-Ok.ensures.reads c.in-Ok.ensures.read.kept c.in-Ok-read_naming.ensures.reads
