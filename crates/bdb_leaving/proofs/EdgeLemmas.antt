@@ -1,5 +1,5 @@
 -- The edges that lead to worlds, followed from the last user of a path to the first.
-use Rattle.std.proofs.Common.{◌≡◌, ◌∙◌, ℕ, suc, ◌+◌, ◌-◌, ◌<◌, Bool, true, false, List, [], ◌∷◌, ◌++◌, length, Option, Some, None, is_some, refl, ap, sym, subst, inl, inr, arith, append_assoc, length-append}
+use Rattle.std.proofs.Common.{◌≡◌, ◌∙◌, ℕ, suc, ◌-◌, ◌<◌, Bool, true, false, List, [], ◌∷◌, ◌++◌, length, Option, Some, None, is_some, refl, ap, sym, subst, inl, inr, arith, append_assoc, length-append}
 use Prim.Native.Nat.{zero}
 use Rattle.std.specs.FinMap as tables
 use Rattle.std.specs.Option.{option_map}
@@ -19,7 +19,7 @@ use Rattle.bdb_names.proofs.NamedLemmas.{cases_end, tables_have_names}
 use Rattle.bdb_paths.proofs.SuffixLemmas.{deepest_is_suffix}
 use Rattle.bdb_tables.specs.Codec.{HasFirst, IsFirst, place}
 use Rattle.bdb_tables.specs.InUse.{IsTriple, led_codec}
-use Rattle.bdb_tables.specs.Names.{Names, path_of, number_of, is_named, leads_to, edge_of}
+use Rattle.bdb_tables.specs.Names.{Names, path_of, is_named, leads_to, edge_of}
 use Rattle.bdb_tables.specs.States.{row_where, HoldsStates, IsNamed, root, next}
 use Rattle.bdb_worlds.proofs.ReadLemmas.{le_parts, le_same, number_le}
 use Rattle.bdb_stored.specs.Valid.{StoreSome}

@@ -1,5 +1,5 @@
 -- Worlds with their paths, in the order of the paths, are the states of a base.
-use Rattle.std.proofs.Common.{◌≡◌, ◌∙◌, ℕ, suc, ◌+◌, ◌<◌, ◌≤◌, Bool, true, false, not, cond, List, [], ◌∷◌, length, map, get_or, Option, Some, None, is_some, refl, ap, sym, subst, inl, inr, arith}
+use Rattle.std.proofs.Common.{◌≡◌, ◌∙◌, ℕ, suc, ◌+◌, ◌<◌, ◌≤◌, true, false, cond, List, [], ◌∷◌, length, map, get_or, Option, Some, None, is_some, refl, ap, sym, subst, inl, inr, arith}
 use Prim.Native.Nat.{zero}
 use Rattle.std.specs.Prelude.{sum_by}
 use Rattle.std.specs.List.{AllByRecursion, list_all}
@@ -25,7 +25,7 @@ use Rattle.bdb_names.proofs.NameLemmas.{same_some}
 use Rattle.bdb_names.proofs.TurnedLemmas.{number_eq}
 use Rattle.bdb_tables.specs.InUse.{depth_codec}
 use Rattle.bdb_tables.specs.InUseLaws.{numbers_in_order, number_rows_are_one}
-use Rattle.bdb_tables.specs.Names.{Names, path_of, number_of, depth_of}
+use Rattle.bdb_tables.specs.Names.{Names, path_of, depth_of}
 use Rattle.bdb_tables.specs.Spans.{AreUnder}
 use Rattle.bdb_tables.specs.States.{HoldsStates, IsNamed}
 use Rattle.bdb_stored.specs.Items.{items_of}

@@ -1,5 +1,5 @@
 -- How many reads it takes to find the statements whose paths name a user.
-use Rattle.std.proofs.Common.{◌≡◌, ◌∙◌, ℕ, ◌+◌, ◌*◌, ◌<◌, ◌≤◌, true, List, [], ◌∷◌, length, map, take, get_or, cond, refl, ap, sym, subst, arith}
+use Rattle.std.proofs.Common.{◌≡◌, ◌∙◌, ℕ, ◌+◌, ◌*◌, ◌<◌, ◌≤◌, true, List, [], ◌∷◌, length, map, take, get_or, refl, ap, sym, subst, arith}
 use Rattle.std.specs.Prelude.{sum_by}
 use Rattle.std.proofs.lemmas.Bool.{cond-true}
 use Rattle.std.proofs.lemmas.List.{length-map, take_all, take_more}
@@ -23,9 +23,6 @@ use Rattle.bdb_leaving.specs.Naming.{ReadsAt, ReadsNaming, ReadsRows, reads_at}
 use Rattle.bdb_leaving.specs.Paths.{path_lengths}
 
 -- ---- one world
-
-pub reads_none : (uid : ℕ) (x : NamedWorld) (old new : Seen) → new.reads ≡ old.reads → ReadsAt uid x old new
-reads_none uid x old new same b v state = omega arith
 
 pub reads_said : (uid : ℕ) (x : NamedWorld) (old new : Seen) (rows : List Held) → names_user uid x.path ≡ true → AreRowsAt old.kept x.wid rows → new.reads ≤ old.reads + (2 * length rows + 1) → ReadsAt uid x old new
 reads_said uid x old new rows named read le b v state =

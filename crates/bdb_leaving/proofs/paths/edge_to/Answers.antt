@@ -1,4 +1,4 @@
-use Rattle.std.proofs.Common.{subst, Some, None}
+use Rattle.std.proofs.Common.{subst, Some}
 use Rattle.bdb_tables.specs.Codec.{HasFirst}
 use Rattle.bdb_tables.specs.InUse.{led_codec}
 use Rattle.bdb_worlds.proofs.ReadLemmas.{led_fit}
