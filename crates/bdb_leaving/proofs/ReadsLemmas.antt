@@ -54,12 +54,6 @@ module _ (uid : ℕ) (old now new : Seen) (worlds : List NamedWorld) (are : Tell
           → (c : Contents) (w : StoresValid old.kept c) → IsState old.kept c w x → new.reads ≤ now.reads + reads_at (key_lengths c.catalog.rels) c.stmts uid x.path
       moved t e h = subst (λ u. (c : Contents) (w : StoresValid u c) → IsState u c w x → new.reads ≤ now.reads + reads_at (key_lengths c.catalog.rels) c.stmts uid x.path) (sym e) h
 
-  pub reads_all : (k : ℕ) → length worlds ≤ k → FirstReads k uid old now → ReadsRows uid old now
-  reads_all k all first b v =
-      let states = states_of b.stmts in
-      let n = ap length (are b v) ∙ length-map states (named_world v.stored.names) in
-      subst (λ ws. now.reads ≤ old.reads + sum_by (reads_at (key_lengths b.catalog.rels) b.stmts uid) ws) (take_all k states (omega arith)) (first b v)
-
 -- ---- worlds and their rows
 
 lengths_named : (ns : Names) (ws : List (List ℕ)) → path_lengths (map (named_world ns) ws) ≡ sum_by (λ w. length w) ws

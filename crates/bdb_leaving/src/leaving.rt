@@ -16,8 +16,9 @@ use std::alloc::Global;
 /// A user leaves the base that the tables store, whose sizes are `counts`: each statement whose path names him goes, with the
 /// worlds, rows and numbers that nothing needs any more, then his edges, and his name. His place is left, and no other user
 /// gets his number. It gives the statements that went, in order. Worlds and tuples that are left keep their numbers. The
-/// worlds of all paths are read, and of those that name him the rows. Each statement takes as many writes as `drop_statement`
-/// makes for it, each world that is left two for the user's edge, and his name one.
+/// paths of all worlds are read, and of the worlds whose paths name him the rows, as `statements_naming` tells; it doesn't
+/// matter how many users there are. Each statement takes as many writes as `drop_statement` makes for it, each world that is
+/// left two for the user's edge, and his name one.
 /// After an error `counts` are as they were.
 pub fn drop_user<K: Keeper>(
     alloc: Global,

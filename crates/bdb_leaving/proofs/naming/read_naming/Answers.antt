@@ -2,7 +2,7 @@ use Rattle.std.proofs.Common.{subst}
 use Rattle.bdb_tables.specs.declared.tab.TabError.TheVariants.{Fault}
 use Rattle.bdb_stored.proofs.ReadLemmas.{only_more}
 use Rattle.bdb_leaving.specs.Naming.{AppendsNaming}
-use Rattle.bdb_leaving.proofs.ReadsLemmas.{reads_all, reads_more}
+use Rattle.bdb_leaving.proofs.ReadsLemmas.{reads_more}
 use Rattle.bdb_leaving.proofs.WorldLemmas.{naming_all, naming_more}
 use Rattle.bdb_leaving.proofs.naming.read_naming.Goals as goal
 
@@ -22,9 +22,3 @@ loop-world-preserved g c =
 pub returns-clause-naming : goal.returns-clause-naming
 returns-clause-naming g c =
     naming_all (g.K.Keeper.seen c.args.keeper.now).kept c.args.uid c.args.worlds.now c.requires.worlds c.loop-world.world-index c.loop-world.stmts c.loop-world-test.false c.loop-world.invariant.read.said
-
-pub returns-clause-reads : goal.returns-clause-reads
-returns-clause-reads g c =
-    let old = g.K.Keeper.seen c.args.keeper.now in
-    let now = g.K.Keeper.seen c.loop-world.keeper in
-    reads_all c.args.uid old now now c.args.worlds.now c.requires.worlds c.loop-world.world-index c.loop-world-test.false c.loop-world.invariant.read.reads
