@@ -1,5 +1,6 @@
 -- Answering a block of a script, piece by piece.
-use Rattle.std.proofs.Common.{◌≡◌, ◌∙◌, ℕ, Bool, ◌&&◌, List, [], ◌∷◌, ◌++◌, map, Option, Ok, refl, ap, sym, append_assoc}
+use Rattle.std.proofs.Common.{◌≡◌, ◌∙◌, ℕ, Bool, ◌&&◌, List, [], ◌∷◌, ◌++◌, map, Option, Ok, refl, ap, sym, subst, append_assoc}
+use Rattle.std.proofs.lemmas.List.{append-nil}
 use Rattle.bdb_keep.specs.Seen.{Seen}
 use Rattle.bdb_lex.specs.Cut.{CutState, CutterState, EndsFirst, ready, start, pieces_from, state_after}
 use Rattle.bdb_lex.specs.declared.token.Piece.{Piece}
@@ -38,3 +39,10 @@ come_next all before s rest others piece cutter hand next first mid last old mid
       next_done all h.0 s rest others piece cutter h.1 ends is,
       λ x a. comes_one x h.0 done (asked_by piece) hand next first mid last old middle new fine more refl (h.2 x a) answers,
     )
+
+-- where no piece of the rest is left, the run has come through all
+pub come_all : (all : List Asked) (before : AtHand) (s : CutState) (rest : List ℕ) (hand : AtHand) (first mid : Seen) (old middle : Option (List ℕ)) (fine : Bool)
+    → (done : List Asked) × (all ≡ done ++ asked_in s rest) × ((x : Point) → IsAt first.kept before x → Comes x done hand first mid old middle fine)
+    → pieces_from s rest ≡ [] → (x : Point) → IsAt first.kept before x → Comes x all hand first mid old middle fine
+come_all all before s rest hand first mid old middle fine h none x a =
+    subst (λ (asked : List Asked). Comes x asked hand first mid old middle fine) (sym (h.1 ∙ ap (λ (l : List Piece). h.0 ++ map asked_by l) none ∙ append-nil h.0)) (h.2 x a)

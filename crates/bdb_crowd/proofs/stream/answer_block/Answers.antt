@@ -1,8 +1,8 @@
 use Rattle.std.proofs.Common.{◌≡◌, [], arith, ap, refl, rules}
-use Rattle.bdb_lex.specs.Cut.{EndsFirst, ready, start}
+use Rattle.bdb_lex.specs.Cut.{EndsFirst, pieces_from, ready, start}
 use Rattle.std.proofs.KnownBytes.{Appends-nil}
 use Rattle.bdb_crowd.specs.Asked.{asked_by}
-use Rattle.bdb_crowd.proofs.BlockLemmas.{asked_in, come_next, next_is, state_done}
+use Rattle.bdb_crowd.proofs.BlockLemmas.{asked_in, come_all, come_next, next_is, state_done}
 use Rattle.bdb_crowd.proofs.RunLemmas.{comes_none, comes_stops, never_fall_on}
 use Rattle.bdb_crowd.proofs.stream.answer_block.Goals as goal
 
@@ -76,3 +76,9 @@ loop-piece-init g c = record {
   keeper = record { faults = omega arith; reads = omega arith; writes = omega arith; commits = omega arith };
   sink = omega arith;
 }
+
+pub returns-in-Ok-None-clause-ends : goal.returns-in-Ok-None-clause-ends
+returns-in-Ok-None-clause-ends g c =
+    let here = c.loop-piece in
+    let none : pieces_from here.cutter.state here.rest.now ≡ [] = search rules in
+    come_all _ c.args.crowd.now here.cutter.state here.rest.now here.crowd _ _ _ _ here.fine here.invariant.come none
