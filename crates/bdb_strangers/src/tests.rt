@@ -196,3 +196,25 @@ fn rows_of_no_statement_are_damage(rt: HostRuntime) -> Result<(), Fail> {
     assert!(rt; both_tell(alloc, INHERITED, missing, DAMAGED)?);
     Ok(())
 }
+
+#[test]
+fn rows_of_who_is_gone(rt: HostRuntime) -> Result<(), Fail> {
+    let alloc = rt.alloc();
+    // Alice's name is gone, and with it the edges that stand for her.
+    let gone = "02 00000001 .; 09 0000000000000001 -; 09 0000000100000001 -; \
+         0a 000000000000000000000001 -; 0a 000000000000000100000001 -";
+    assert!(rt; both_tell(alloc, DENIED, gone, "ok")?);
+    for changes in [
+        // Her edges stay; the edge of one world stays; what leads to a world stays turned round.
+        "02 00000001 .",
+        "02 00000001 .; 09 0000000000000001 -; 0a 000000000000000000000001 -",
+        "02 00000001 .; 09 0000000000000001 -; 09 0000000100000001 -; 0a 000000000000000000000001 -",
+        // The name of Bob is gone, whose path has a world.
+        "02 00000002 .",
+        // There is a row of one who is gone, and none of the users before him.
+        "02 00000004 .",
+    ] {
+        assert!(rt; both_tell(alloc, DENIED, changes, DAMAGED)?, "{changes}");
+    }
+    Ok(())
+}

@@ -158,6 +158,22 @@ fn a_base_is_written_over_other_rows(rt: HostRuntime) -> Result<(), Fail> {
     Ok(())
 }
 
+#[test]
+fn who_is_gone_has_a_place_and_no_edge(rt: HostRuntime) -> Result<(), Fail> {
+    let alloc = rt.alloc();
+    let mut base = reported(alloc)?;
+    // Bob leaves, of whom nothing is told.
+    assert_eq!(rt; base.drop_user(2), 0);
+    let mut keeper = QuietKeeper::new(alloc);
+    assert!(rt; keeper.begin().is_ok());
+    let text = "> 1>0 3>0 31>1 0.1>1 0.3>2 1.3>2 2.1>3 3.3>2 1+1e 3+0e 3+1i ";
+    match written(alloc, &mut keeper, &base) {
+        Ok((k, _)) => assert_eq!(rt; text_of(alloc, &k)?.as_slice(), text.as_bytes()),
+        Err(_) => assert!(rt; false),
+    }
+    Ok(())
+}
+
 /// Appends the users of the path of the world of a number, and a blank.
 fn push_name(worlds: &[NamedWorld], wid: u32, out: &mut Vec<u8>) -> Result<(), AllocError> {
     if let Some(world) = worlds.get(place_of_number(worlds, wid)) {
