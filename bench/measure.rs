@@ -3,7 +3,7 @@
 mod plain;
 mod scripts;
 
-use scripts::{at_many_paths, at_one_path, at_pairs, at_the_root, beliefs, catalog, for_worlds, inserts, repeated, turns, Script};
+use scripts::{at_many_paths, at_one_path, at_pairs, at_the_root, beliefs, catalog, for_worlds, inserts, of_one_tuple, repeated, turns, Script};
 use std::collections::{BTreeMap, BTreeSet};
 use std::fs::{self, File};
 use std::hint::black_box;
@@ -270,10 +270,10 @@ fn binding(bench: &Bench) {
     let mut first = None;
     for (users, relations, uid, number, name) in [
         (4, 2, 4, 2, "4 users, 2 relations; the last ones"),
-        (256, 64, 1, 1, "256 users, 64 relations; the first ones"),
-        (256, 2, 256, 2, "256 users, 2 relations; the last ones"),
+        (1_024, 64, 1, 1, "1,024 users, 64 relations; the first ones"),
+        (1_024, 2, 1_024, 2, "1,024 users, 2 relations; the last ones"),
         (4, 64, 4, 64, "4 users, 64 relations; the last ones"),
-        (256, 64, 256, 64, "256 users, 64 relations; the last ones"),
+        (1_024, 64, 1_024, 64, "1,024 users, 64 relations; the last ones"),
     ] {
         let script = Script::new(catalog(users, relations));
         let command = format!("insert into BELIEF 'u{uid:03}' S{number:02} values('s1','bald eagle',12);");
@@ -356,9 +356,9 @@ fn showing(bench: &Bench) {
     let stmts = for_worlds();
     let script = Script::new(catalog(2, 1) + &inserts(&stmts));
     let plain = sorted(bench, &stmts);
-    for depth in [0, 1, 16, 128, 1_024] {
+    for depth in [0, 1, 16, 64, 1_024] {
         let command = format!("show world{};", beliefs(&turns(depth)));
-        let time = bench.command(&script, &command, if depth > 16 { 10 } else { 50 });
+        let time = bench.command(&script, &command, if depth > 64 { 10 } else { 50 });
         row(&[depth.to_string(), ms(time), times(time, plain)]);
     }
 }
@@ -377,6 +377,34 @@ fn structure(bench: &Bench) {
     }
 }
 
+/// The last of the most users leaves, who states so much of tuples that nobody else tells.
+fn leaving(bench: &Bench) {
+    head("One drop user, of 1,024", &["paths of others", "statements that name him", "time", "each world and statement"]);
+    for (paths, said) in [(200, 1), (200, 1_000), (3_900, 0), (3_900, 1), (3_900, 100), (3_900, 1_000), (3_900, 3_900)] {
+        let stmts = [of_one_tuple(64, paths), at_one_path(1_024, said)].concat();
+        let script = Script::new(catalog(1_024, 1) + &inserts(&stmts));
+        let time = bench.command(&script, "drop user 'u1024';", 1);
+        let each = time / ((paths + 1) * (said + 1)) as f64;
+        row(&[paths.to_string(), said.to_string(), ms(time), format!("{:.2} us", each * 1e6)]);
+    }
+}
+
+/// The largest tables: each of 4,000 worlds has nearly 4,000 rows, and an edge for each of 1,024 users. One run. It comes last: the
+/// system tells the most memory of all children so far.
+fn largest(bench: &Bench) {
+    head("The largest tables", &["rows", "time", "each row", "memory"]);
+    let stmts = [at_the_root(1_024, 3_999), of_one_tuple(64, 2_930)].concat();
+    let script = Script::new(catalog(1_024, 1) + &inserts(&stmts));
+    bench.check(&script);
+    let file = bench.file(&script);
+    let before = used(CHILDREN);
+    bench.run(&file, Stdio::null());
+    let (time, most) = (used(CHILDREN) - before, usage(CHILDREN).most_kilobytes);
+    let worlds = 1 + 1_024 + 2_930;
+    let rows = worlds * (3_999 + 2 * 1_024);
+    row(&[format!("{:.1} million", rows as f64 * 1e-6), format!("{time:.1} s"), us(time / rows as f64), format!("{:.1} GB", most as f64 * 1.024e-6)]);
+}
+
 fn main() {
     let words: Vec<String> = std::env::args().skip(1).collect();
     let [program, work, runs] = words.as_slice() else { panic!("words: PROGRAM FOLDER RUNS") };
@@ -389,4 +417,6 @@ fn main() {
     changing(&bench);
     showing(&bench);
     structure(&bench);
+    leaving(&bench);
+    largest(&bench);
 }

@@ -93,13 +93,13 @@ pub fn turns(depth: usize) -> Vec<u32> {
     (0..depth).rev().map(|place| if place % 2 == 0 { 2 } else { 1 }).collect()
 }
 
-/// 4,000 statements: half of them at the empty path, the others at the ends of `turns` from 1 to 16 users, 125 each. A
-/// quarter of the latter contradict what they inherit.
+/// 4,000 statements: half of them at the empty path, the others at the ends of `turns` of up to 64 users, every fourth, 125 each.
+/// A quarter of the latter contradict what they inherit.
 pub fn for_worlds() -> Vec<Stmt> {
     let mut stmts: Vec<Stmt> = (0..2_000).map(|number| statement(Vec::new(), number)).collect();
-    for depth in 1..=16 {
+    for depth in (4..=64).step_by(4) {
         for number in 0..125 {
-            let own = 2_000 + depth * 100 + number;
+            let own = 2_000 + depth * 25 + number;
             let mut stmt = statement(turns(depth), if number % 4 == 0 { number } else { own });
             stmt.minus = number % 4 == 0;
             stmts.push(stmt);
@@ -114,6 +114,11 @@ pub fn at_pairs(users: u32, count: usize) -> Vec<Stmt> {
     let stmts: Vec<Stmt> = pairs.take(count).enumerate().map(|(number, path)| statement(path, number)).collect();
     assert_eq!(stmts.len(), count);
     stmts
+}
+
+/// Statements of so many different paths of two of these users, all of one tuple.
+pub fn of_one_tuple(users: u32, count: usize) -> Vec<Stmt> {
+    at_pairs(users, count).into_iter().map(|stmt| statement(stmt.path, 0)).collect()
 }
 
 /// So many statements of the empty path, and one of each of these users.
