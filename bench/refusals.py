@@ -7,7 +7,8 @@ which builds a small library that stands before the C library's malloc and reall
 Each script is run with the nth call refused, for n from 1 until a run meets no refusal: in memory, with a new file, and its second half
 over the file that its first half left; and that file is checked. A run is right where its status is 6, its replies are those to the first k
 commands, and the file has the base after k commands, with the very rows; or where it ends as it does with ample memory, since it can do
-without what was refused. A check is right where it writes nothing with status 6, or says what it says with ample memory, and the
+without what was refused. Last come changes of two thousand statements each, taken back and made again over a file: of the calls that
+these make, too many to refuse each, every so many-th is. A check is right where it writes nothing with status 6, or says what it says with ample memory, and the
 database file stays. The exit status is 1 where any is not."""
 import concurrent.futures
 import os
@@ -107,13 +108,33 @@ show world BELIEF 'Alice' BELIEF 'Bob';
 insert into S values('b', 'z'); redo; undo; undo; undo; redo; redo; redo; redo;
 """
 
+# How many statements a large change takes away, and about how many of the calls that large changes make are refused.
+MANY, TRIED = 2_000, 2_000
+
+LARGE = """
+delete from BELIEF 'Bob' S; undo; redo; undo;
+update BELIEF 'Bob' S set v = 'y'; undo; redo;
+drop user 'Bob'; undo; redo;
+"""
+
+
+def many_statements():
+    """Commands after which a user states many tuples, and another believes that he denies each third of them."""
+    stated = [f"insert into BELIEF 'Bob' S values('k{number}', 'x');" for number in range(MANY)]
+    denied = [f"insert into BELIEF 'Alice' BELIEF 'Bob' not S values('k{number}', 'x');" for number in range(0, MANY, 3)]
+    return ["create user 'Alice';", "create user 'Bob';", "create relation S(k text, v text);", *stated, *denied]
+
+
+def commands_of(text):
+    return [it.strip() + ";" for it in text.split(";")[:-1]]
+
 
 def scripts():
     """The name and the commands of each script."""
     with open(f"{HERE}/sightings.bsql") as it:
         sightings = it.read()
     texts = {"stated and denied": STATED_AND_DENIED, "new worlds": NEW_WORLDS, "sightings": sightings, "deep": DEEP, "taken back": TAKEN_BACK}
-    return {name: [it.strip() + ";" for it in text.split(";")[:-1]] for name, text in texts.items()}
+    return {name: commands_of(text) for name, text in texts.items()}
 
 
 class Run:
@@ -188,6 +209,23 @@ class Script:
         removed(path)
         return told(run, same and right, run.status == 6 and right)
 
+    def calls(self, shim, text):
+        """How many calls for memory a run of these commands makes."""
+        path = f"{self.folder}/counted.db"
+
+        def meets(number):
+            shutil.copy(self.start, path)
+            return Run(self.program, ["run", "--db", path], text, shim, number).met
+
+        low, high = 0, 1
+        while meets(high):
+            low, high = high, 2 * high
+        while high - low > 1:
+            middle = (low + high) // 2
+            low, high = (middle, high) if meets(middle) else (low, middle)
+        removed(path)
+        return low
+
     def checked(self, shim, refused):
         path = f"{self.folder}/checked{refused}.db"
         shutil.copy(f"{self.folder}/after{len(self.replies) - 1}.db", path)
@@ -211,13 +249,14 @@ def told(run, harmless, stopped):
     return "harmless" if harmless else "stopped" if stopped else f"WRONG: {run.status} {run.replies!r}"
 
 
-def refused_each(jobs, name, trial):
-    """Tries each number of a call until none is refused; returns whether all was right."""
+def refused_each(jobs, name, trial, first=1, step=1):
+    """Tries each number of a call, or each so many-th, until none is refused; returns what came of them."""
     counts = {"stopped": 0, "harmless": 0, "wrong": 0}
     with concurrent.futures.ThreadPoolExecutor(jobs) as pool:
-        first, size, ended = 1, 64 * jobs, False
+        size, ended = 64 * jobs * step, False
         while not ended:
-            for number, what in enumerate(pool.map(trial, range(first, first + size)), first):
+            numbers = range(first, first + size, step)
+            for number, what in zip(numbers, pool.map(trial, numbers)):
                 if what == "none":
                     ended = True
                 elif what in counts:
@@ -229,6 +268,21 @@ def refused_each(jobs, name, trial):
     refused = sum(counts.values())
     print(f"{name}: {refused} refusals, {counts['stopped']} status 6, {counts['harmless']} harmless, {counts['wrong']} wrong", flush=True)
     return counts
+
+
+def large_changes(program, folder, shim, jobs):
+    """Refuses memory to large changes, over a file that has their statements; returns what came of it."""
+    os.mkdir(folder)
+    script = Script(program, folder, commands_of(LARGE), many_statements())
+    opening, total = script.calls(shim, ""), script.calls(shim, script.text)
+    step = max(1, (total - opening) // TRIED)
+    name = f"large changes, over a file, each {step}th of {total - opening} calls"
+    return refused_each(jobs, name, lambda number: script.in_file(shim, number), opening + 1, step)
+
+
+def add(sums, counts):
+    for what, count in counts.items():
+        sums[what] = sums.get(what, 0) + count
 
 
 def main(program, jobs=1):
@@ -248,8 +302,8 @@ def main(program, jobs=1):
                     {"in memory": script.in_memory, "in a new file": script.in_file, "checked": script.checked}
                 for how, trial in trials.items():
                     counts = refused_each(jobs, f"{name}, {how}", lambda n: trial(shim, n))
-                    for what, count in counts.items():
-                        sums[what] = sums.get(what, 0) + count
+                    add(sums, counts)
+        add(sums, large_changes(program, f"{top}/large", shim, jobs))
     print(f"in all: {sum(sums.values())} refusals, {sums['stopped']} status 6, {sums['harmless']} harmless, {sums['wrong']} wrong")
     return 1 if sums["wrong"] else 0
 

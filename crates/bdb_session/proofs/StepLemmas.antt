@@ -1,5 +1,5 @@
 -- How often is written step by step where statements are taken away or changed, and where the transaction ends.
-use Rattle.std.proofs.Common.{◌≡◌, ◌∙◌, ℕ, ◌+◌, ◌*◌, true, false, List, [], ◌∷◌, length, map, Result, Ok, Err, IfOk, OnOk, refl, ap, sym, subst, inl, inr}
+use Rattle.std.proofs.Common.{◌≡◌, ◌∙◌, ℕ, ◌+◌, ◌*◌, ◌≤◌, true, false, List, [], ◌∷◌, length, map, Result, Ok, Err, IfOk, OnOk, refl, ap, sym, subst, inl, inr}
 use Rattle.std.proofs.lemmas.Bool.{cases_Bool, false≢true, MatchBool-at_true, MatchBool-at_false}
 use Rattle.bdb_base.specs.Bases.{Contents, world_count}
 use Rattle.bdb_base.specs.Causes.{Rises}
@@ -16,11 +16,12 @@ use Rattle.bdb_canon.specs.declared.sizes.Counts.{Counts}
 use Rattle.bdb_catalog.specs.Taking.{AreTaken}
 use Rattle.bdb_keep.specs.Calls.{IsBegin}
 use Rattle.bdb_keep.specs.Seen.{Seen}
+use Rattle.bdb_keep.specs.Tables.{Tables}
 use Rattle.bdb_leaving.specs.Leaving.{LeavesThrough, WritesLeaving}
 use Rattle.bdb_render.specs.declared.refusal.Refusal.TheVariants as refusal
 use Rattle.bdb_update.specs.Calls.{Changes}
 use Rattle.bdb_update.specs.Replacing.{WritesForOne}
-use Rattle.bdb_update.specs.Steps.{ChangesThrough, GoesThrough, WritesThrough, steps_of, steps_without}
+use Rattle.bdb_update.specs.Steps.{ChangesThrough, GoesThrough, KeepsOneWay, WritesThrough, steps_of, steps_without}
 use Rattle.bdb_update.specs.declared.answer.UpdateError.{UpdateError}
 use Rattle.bdb_update.specs.declared.answer.UpdateError.TheVariants as change
 use Rattle.bdb_session.specs.Bounds.{UpdatesThrough, WritesAsTold}
@@ -42,7 +43,14 @@ through_same : (es : List (Stmt × Contents)) (old from to new : Seen) → from.
     → WritesThrough from es to → WritesThrough old es new
 through_same [] old from to new k w l v h = (l ∙ h.0 ∙ k, v ∙ h.1 ∙ w)
 through_same (e ∷ es) old from to new k w l v h =
-    (h.0, h.1, same_writes (length e.0.path + 2) 8 old from h.0 h.0 k w refl refl h.2, through_same es h.0 h.0 to new refl refl l v h.3)
+    (
+      h.0,
+      subst (λ (n : ℕ). n ≤ h.0.writes) w h.1,
+      h.2,
+      subst (λ (t : Tables). KeepsOneWay t h.0.kept) k h.3,
+      same_writes (length e.0.path + 2) 8 old from h.0 h.0 k w refl refl h.4,
+      through_same es h.0 h.0 to new refl refl l v h.5,
+    )
 
 -- and so are the writes of a user who leaves
 leaves_same : (b : Contents) (uid : ℕ) (old from to new : Seen) → from.kept ≡ old.kept → from.writes ≡ old.writes → new.writes ≡ to.writes → WritesLeaving b uid from to → WritesLeaving b uid old new

@@ -35,7 +35,7 @@ use Rattle.bdb_update.specs.Replacing.{MayGo, SomeMayGo, Go, MayCome, SomeMayCom
 use Rattle.bdb_tables.specs.Stored.{Stores}
 use Rattle.bdb_update.specs.Bounds.{WritesWithin}
 use Rattle.bdb_update.specs.Keeping.{KeepsNumbers, ReplaceKeeps}
-use Rattle.bdb_update.specs.Steps.{ComesThrough, GoesThrough, ReplacesThrough, WritesThrough, steps_with, steps_without}
+use Rattle.bdb_update.specs.Steps.{ComesThrough, GoesThrough, KeepsOneWay, ReplacesThrough, WritesThrough, steps_with, steps_without}
 use Rattle.bdb_update.specs.Trying.{stopped_by}
 use Rattle.bdb_update.specs.declared.answer.Added.{Added}
 use Rattle.bdb_update.specs.declared.answer.Added.TheVariants.{New, Already}
@@ -114,8 +114,8 @@ one_left b x rest old new c d true m h =
 one_left b x rest old new c d false m h = absurd (false≢true (sym h.none ∙ (and_parts (stands b.stmts x) (list_all (stands b.stmts) rest) m.stand).0))
 
 pub going_more : (old mid new : Seen) (before now next : Counts) (all : List Stmt) (x : Stmt) (rest : List Stmt) (r : Bool) → SomeMayGo old.kept before all → IsGoing old mid before now all (x ∷ rest)
-    → Drops mid new now next x (Ok r) → WritesWithin (length x.path + 2) 8 mid new → NeverFall mid new → IsGoing old new before next all rest
-going_more old mid new before now next all x rest r some g d w f =
+    → Drops mid new now next x (Ok r) → WritesWithin (length x.path + 2) 8 mid new → NeverFall mid new → KeepsNumbers new.kept mid.kept → IsGoing old new before next all rest
+going_more old mid new before now next all x rest r some g d w f n =
     let l = g.left some.base some.may in
     let b0 = of_stmts some.base l.stmts in
     record {
@@ -124,7 +124,7 @@ going_more old mid new before now next all x rest r some g d w f =
         stmts = without_statement k.stmts x;
         may = one_left c x rest mid new now next r k.may (d c (may_meet mid.kept now x rest c k.may));
         ends = k.ends;
-        through = λ last h. k.through last (new, (one_left c x rest mid new now next r k.may (d c (may_meet mid.kept now x rest c k.may))).base.stored, w, h);
+        through = λ last h. k.through last (new, f.writes, (one_left c x rest mid new now next r k.may (d c (may_meet mid.kept now x rest c k.may))).base.stored, inl n, w, h);
       };
     }
 
@@ -236,8 +236,8 @@ one_came b x rest old new c d Already m h =
     }
 
 pub coming_more : (old mid new : Seen) (before now next : Counts) (all : List Stmt) (x : Stmt) (rest : List Stmt) (r : Added) → SomeMayCome old.kept before all → IsComing old mid before now all (x ∷ rest)
-    → Adds mid new now next x (Ok r) → WritesWithin (length x.path + 2) 8 mid new → NeverFall mid new → IsComing old new before next all rest
-coming_more old mid new before now next all x rest r some g d w f =
+    → Adds mid new now next x (Ok r) → WritesWithin (length x.path + 2) 8 mid new → NeverFall mid new → KeepsNumbers mid.kept new.kept → IsComing old new before next all rest
+coming_more old mid new before now next all x rest r some g d w f n =
     let l = g.left some.base some.may in
     let b0 = of_stmts some.base l.stmts in
     record {
@@ -246,7 +246,7 @@ coming_more old mid new before now next all x rest r some g d w f =
         stmts = with_statement k.stmts x;
         may = one_came c x rest mid new now next r k.may (d c (may_add mid.kept now x rest c k.may));
         ends = k.ends;
-        through = λ last h. k.through last (new, (one_came c x rest mid new now next r k.may (d c (may_add mid.kept now x rest c k.may))).base.stored, w, h);
+        through = λ last h. k.through last (new, f.writes, (one_came c x rest mid new now next r k.may (d c (may_add mid.kept now x rest c k.may))).base.stored, inr n, w, h);
       };
     }
 
@@ -295,12 +295,20 @@ replaced t u v a b c gone come g k base m = k (of_stmts base (without_statements
 -- a first moment with the same rows and count of writes
 pub from_still : (old mid new : Seen) (es : List (Stmt × Contents)) → mid.kept ≡ old.kept → mid.writes ≡ old.writes → WritesThrough mid es new → WritesThrough old es new
 from_still old mid new [] kept writes h = (h.0 ∙ kept, h.1 ∙ writes)
-from_still old mid new (e ∷ es) kept writes h = (h.0, h.1, still_within (length e.0.path + 2) 8 old mid h.0 kept writes h.2, h.3)
+from_still old mid new (e ∷ es) kept writes h =
+    (
+      h.0,
+      subst (λ (n : ℕ). n ≤ h.0.writes) writes h.1,
+      h.2,
+      subst (λ (t : Tables). KeepsOneWay t h.0.kept) kept h.3,
+      still_within (length e.0.path + 2) 8 old mid h.0 kept writes h.4,
+      h.5,
+    )
 
 -- steps and then others
 through_then : (old mid new : Seen) (es fs : List (Stmt × Contents)) → WritesThrough old es mid → WritesThrough mid fs new → WritesThrough old (es ++ fs) new
 through_then old mid new [] fs h k = from_still old mid new fs h.0 h.1 k
-through_then old mid new (e ∷ es) fs h k = (h.0, h.1, h.2, through_then h.0 mid new es fs h.3 k)
+through_then old mid new (e ∷ es) fs h k = (h.0, h.1, h.2, h.3, h.4, through_then h.0 mid new es fs h.5 k)
 
 pub replaced_through : (old mid new : Seen) (c d : Counts) (gone come : List Stmt) → Go old.kept mid.kept c d gone → GoesThrough c gone old mid → ComesThrough d come mid new → ReplacesThrough c gone come old new
 replaced_through old mid new c d gone come g h k b m =

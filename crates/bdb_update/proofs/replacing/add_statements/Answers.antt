@@ -45,7 +45,7 @@ loop-stmt-preserved g c =
     let mid = g.K.Keeper.seen c.loop-stmt.keeper in
     let split : drop c.loop-stmt.stmt-index come ≡ x ∷ rest = drop_more come c.loop-stmt.stmt-index x c.loop-stmt-test.true ∙ ap (λ y. y ∷ rest) (sym c.stmt-item.is) in (
       coming_more old mid (g.K.Keeper.seen c.add_statement.new.keeper) c.args.counts.now c.loop-stmt.counts c.add_statement.new.counts come x rest c.in-Ok.field-0 c.requires.base
-          (subst (IsComing old mid c.args.counts.now c.loop-stmt.counts come) split c.loop-stmt.invariant.0) c.in-Ok.ensures.added c.in-Ok.ensures.writes c.in-Ok.ensures.counts,
+          (subst (IsComing old mid c.args.counts.now c.loop-stmt.counts come) split c.loop-stmt.invariant.0) c.in-Ok.ensures.added c.in-Ok.ensures.writes c.in-Ok.ensures.counts c.in-Ok.ensures.keeps,
       keeps_then old.kept mid.kept (g.K.Keeper.seen c.add_statement.new.keeper).kept c.loop-stmt.invariant.1 c.in-Ok.ensures.keeps,
     )
 

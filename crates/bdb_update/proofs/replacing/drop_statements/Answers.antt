@@ -37,7 +37,7 @@ loop-stmt-preserved g c =
     let mid = g.K.Keeper.seen c.loop-stmt.keeper in
     let split : drop c.loop-stmt.stmt-index gone ≡ x ∷ rest = drop_more gone c.loop-stmt.stmt-index x c.loop-stmt-test.true ∙ ap (λ y. y ∷ rest) (sym c.stmt-item.is) in (
       going_more old mid (g.K.Keeper.seen c.drop_statement.new.keeper) c.args.counts.now c.loop-stmt.counts c.drop_statement.new.counts gone x rest c.in-Ok.field-0 c.requires.base
-          (subst (IsGoing old mid c.args.counts.now c.loop-stmt.counts gone) split c.loop-stmt.invariant.0) c.in-Ok.ensures.dropped c.in-Ok.ensures.writes c.in-Ok.ensures.counts,
+          (subst (IsGoing old mid c.args.counts.now c.loop-stmt.counts gone) split c.loop-stmt.invariant.0) c.in-Ok.ensures.dropped c.in-Ok.ensures.writes c.in-Ok.ensures.counts c.in-Ok.ensures.keeps,
       one_more old mid (g.K.Keeper.seen c.drop_statement.new.keeper) gone c.loop-stmt.stmt-index x rest split c.loop-stmt.invariant.1 c.in-Ok.ensures.writes,
       keeps_then (g.K.Keeper.seen c.drop_statement.new.keeper).kept mid.kept old.kept c.in-Ok.ensures.keeps c.loop-stmt.invariant.2,
     )
