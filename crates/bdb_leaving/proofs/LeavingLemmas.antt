@@ -13,10 +13,10 @@ use Rattle.bdb_update.specs.Calls.{StoresSized, are_apart, of_stmts, without_sta
 use Rattle.bdb_update.specs.Replacing.{Go, MayGo, SomeMayGo}
 use Rattle.bdb_update.specs.Steps.{GoesThrough, WritesThrough, steps_without}
 use Rattle.bdb_update.proofs.ReplaceLemmas.{from_still}
+use Rattle.bdb_update.proofs.TakenLemmas.{others_are_left, taken_apart, taken_stand}
 use Rattle.bdb_stored.specs.Valid.{IsPartOf, StoreSome}
 use Rattle.bdb_leaving.specs.Leaving.{LeavesThrough, MayDropUser, SomeMayDropUser, UserLeaves}
 use Rattle.bdb_leaving.specs.Place.{LosesUser, MayLoseUser, SomeMayLoseUser, WritesPlace}
-use Rattle.bdb_leaving.proofs.TakenLemmas.{others_are_left, taken_apart, taken_stand}
 
 pub some_valid : (t : Tables) (counts : Counts) (uid : ℕ) → SomeMayDropUser t counts uid → StoreSome t
 some_valid t counts uid s = record { base = s.base; is = record { stored = s.may.base.stored; valid = s.may.base.valid } }

@@ -4,5 +4,4 @@ pub mod NamingLemmas
 pub mod PathLemmas
 pub mod PlaceLemmas
 pub mod ReadsLemmas
-pub mod TakenLemmas
 pub mod WorldLemmas

@@ -29,7 +29,7 @@ use Rattle.bdb_tables.specs.InUseLaws.{numbers_in_order}
 use Rattle.bdb_tables.specs.Names.{Names, is_listed}
 use Rattle.bdb_tables.specs.Rows.{Tuples}
 use Rattle.bdb_tables.specs.States.{HoldsStates}
-use Rattle.bdb_tables.specs.Stored.{SameBut, StoredAs, is_table, slot_of}
+use Rattle.bdb_tables.specs.Stored.{SameBut, StoredAs, slot_of}
 use Rattle.bdb_tables.specs.Writes.{Gives, with_change, with_row_at}
 use Rattle.bdb_tables.proofs.CatalogLemmas.{user_gone, user_set}
 use Rattle.bdb_tables.proofs.SameLemmas.{change_same, gives_still, outside_one, states_still, tuples_still}
@@ -38,7 +38,7 @@ use Rattle.bdb_undo.specs.declared.change.Named.TheVariants.{UserAdded, UserDrop
 use Rattle.bdb_update.specs.StoredLaws.{is_edges}
 use Rattle.bdb_update.proofs.CountLemmas.{numbers_are_counted}
 use Rattle.bdb_update.proofs.GrammarLemmas.{stored_is_in_grammar}
-use Rattle.bdb_update.proofs.StoreLemmas.{states_as}
+use Rattle.bdb_update.proofs.StoreLemmas.{outside_edges, states_as}
 use Rattle.bdb_worlds.specs.Growth.{SameOutside}
 use Rattle.bdb_worlds.specs.UserEdges.{AddsUser, DropsUser, without_one_user, WritesDropped, WritesEdges}
 use Rattle.bdb_return.specs.Naming.{Leaves, LosesLastUser, LosesName, MayLoseName, SomeMayLeave, SomeMayLoseName, SomeUserIsLast, base_named, WritesLastUser, WritesLeave, WritesLoss}
@@ -53,9 +53,6 @@ no_edges n e = grind (arith, nat_tests)
 -- the range of two tables is those of edges
 edges_alone : (t u : Tables) → SameOutside 9 10 t u → SameBut is_edges t u
 edges_alone t u same n k other = same n k (no_edges n other)
-
-outside_edges : (n : ℕ) → is_table n ≡ false → is_edges n ≡ false
-outside_edges n h = or_from (nat_eq n 9) (nat_eq n 10) (outside_one 9 refl n h) (outside_one 10 refl n h)
 
 -- ---- whom no state names
 
@@ -89,13 +86,13 @@ none_names k stmts uid v none w s =
 
 -- ---- the rows of places
 
-not_end : {X : Type 0} (xs : List X) (x : X) (n : ℕ) → (n ≡ length xs → ⊥) → slice_get (xs ++ x ∷ []) n ≡ slice_get xs n
+pub not_end : {X : Type 0} (xs : List X) (x : X) (n : ℕ) → (n ≡ length xs → ⊥) → slice_get (xs ++ x ∷ []) n ≡ slice_get xs n
 not_end [] x zero h = absurd (h refl)
 not_end [] x (suc n) h = refl
 not_end (y ∷ xs) x zero h = refl
 not_end (y ∷ xs) x (suc n) h = not_end xs x n (λ e. h (ap suc e))
 
-same_number : (a b : ℕ) → is_eq (nat_cmp a b) ≡ nat_eq a b
+pub same_number : (a b : ℕ) → is_eq (nat_cmp a b) ≡ nat_eq a b
 same_number a b = grind (arith, nat_tests)
 
 -- the places without the last one

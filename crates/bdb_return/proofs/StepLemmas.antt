@@ -1,24 +1,18 @@
 -- Statements go, then a name goes or comes, then statements come.
-use Rattle.std.proofs.Common.{◌≡◌, ◌∙◌, Bool, true, false, not, List, [], ◌∷◌, filter, refl, sym, ap, subst}
+use Rattle.std.proofs.Common.{◌≡◌, ◌∙◌, Bool, not, List, [], ◌∷◌, refl, sym, ap, subst}
 use Rattle.std.specs.List.{list_all}
-use Rattle.std.specs.Ordering.{is_eq, is_lt}
-use Rattle.std.proofs.lemmas.Bool.{and_from, and_parts, cond-false, or_left, or_right}
 use Rattle.bdb_base.specs.Bases.{Contents, IsValid, belongs, stands, without_statement}
 use Rattle.bdb_base.specs.Changes.{with_statements}
-use Rattle.bdb_base.specs.Order.{statement_cmp}
-use Rattle.bdb_base.specs.OrderLemmas.{statement_exact}
-use Rattle.bdb_base.specs.SortedSet.{ascending}
 use Rattle.bdb_base.specs.declared.kinds.Catalog.{Catalog}
 use Rattle.bdb_base.specs.declared.kinds.Stmt.{Stmt}
-use Rattle.bdb_base.proofs.ListLemmas.{list_all-filter, list_all_weaker}
-use Rattle.bdb_base.proofs.SetLemmas.{absent_above, filter_keeps_order, is_eq_itself}
+use Rattle.bdb_base.proofs.ListLemmas.{list_all-filter}
 use Rattle.bdb_canon.specs.Sizes.{counts_of}
 use Rattle.bdb_canon.specs.declared.sizes.Counts.{Counts}
 use Rattle.bdb_keep.specs.Seen.{Seen}
 use Rattle.bdb_keep.specs.Tables.{Tables}
 use Rattle.bdb_tables.specs.Stored.{Stores}
 use Rattle.bdb_undo.specs.Changes as undo
-use Rattle.bdb_undo.specs.Changes.{Leads, missing_from, named_forth}
+use Rattle.bdb_undo.specs.Changes.{missing_from}
 use Rattle.bdb_undo.specs.declared.change.Change.{Change}
 use Rattle.bdb_undo.specs.declared.change.Named.{Named}
 use Rattle.bdb_undo.specs.declared.change.Named.TheVariants.{Nothing, UserAdded, RelationAdded, UserDropped}
@@ -26,26 +20,13 @@ use Rattle.bdb_undo.proofs.StatementLemmas.{exchanged, left_is_valid_after}
 use Rattle.bdb_update.specs.Calls.{StoresSized, are_apart, of_stmts, without_statements}
 use Rattle.bdb_update.specs.Replacing.{Come, Go, MayCome, MayGo, SomeMayCome, SomeMayGo}
 use Rattle.bdb_update.specs.Steps.{ComesThrough, GoesThrough}
+use Rattle.bdb_update.proofs.LengthLemmas.{counts_stay}
+use Rattle.bdb_update.proofs.TakenLemmas.{taken_apart, taken_stand}
 use Rattle.bdb_return.specs.Naming.{GetsName, LosesName, MayGetName, MayLoseName, SomeMayGetName, SomeMayLoseName, base_named, WritesGain, WritesLoss}
 use Rattle.bdb_return.specs.Returning.{BackThrough, ForthThrough, GoesBack, GoesForth, MayGoBack, MayGoForth, SomeMayGoBack, SomeMayGoForth}
-use Rattle.bdb_return.proofs.RelationLemmas.{counts_stay}
 
 abbrev base_of : Catalog → List Stmt → Contents
 base_of k stmts = record { catalog = k; stmts = stmts }
-
--- ---- the statements that go stand, each once
-
-stands_all : (xs : List Stmt) → list_all (stands xs) xs ≡ true
-stands_all [] = refl
-stands_all (x ∷ xs) =
-    and_from (stands (x ∷ xs) x) (list_all (stands (x ∷ xs)) xs) (or_left (is_eq (statement_cmp x x)) (stands xs x) (is_eq_itself statement_exact x))
-    (list_all_weaker (stands xs) (stands (x ∷ xs)) (λ y e. or_right (is_eq (statement_cmp x y)) (stands xs y) e) xs (stands_all xs))
-
-ascending_apart : (xs : List Stmt) → ascending statement_cmp xs ≡ true → are_apart xs ≡ true
-ascending_apart [] up = refl
-ascending_apart (x ∷ xs) up =
-    let k = and_parts (list_all (λ y. is_lt (statement_cmp x y)) xs) (ascending statement_cmp xs) up in
-    cond-false (stands xs x) false (are_apart xs) (absent_above statement_exact x xs k.0) ∙ ascending_apart xs k.1
 
 -- statements go in the same way, by either definition
 same_without : (stmts xs : List Stmt) → without_statements stmts xs ≡ undo.without_statements stmts xs
@@ -64,8 +45,8 @@ module _ (from to : Contents) (out inn : List Stmt) (v : IsValid from.catalog fr
       let q : Stmt → Bool = λ x. not (stands to.stmts x) in
       record {
         base = h;
-        stand = ap (list_all (stands from.stmts)) goes ∙ list_all-filter (stands from.stmts) q from.stmts (stands_all from.stmts);
-        apart = ap are_apart goes ∙ ascending_apart (filter q from.stmts) (filter_keeps_order statement_exact q from.stmts v.stmts.sorted);
+        stand = ap (list_all (stands from.stmts)) goes ∙ taken_stand q from.stmts;
+        apart = ap are_apart goes ∙ taken_apart q from.stmts v.stmts.sorted;
       }
 
   -- the statements that are left

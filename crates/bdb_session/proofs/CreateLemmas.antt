@@ -32,9 +32,9 @@ use Rattle.bdb_session.proofs.CatalogLemmas.{user_is_valid, relation_is_valid}
 use Rattle.bdb_session.proofs.LimitLemmas.{limit_is, at_most, past}
 use Rattle.bdb_session.proofs.NotingLemmas.{told_changes, stays_unchanged}
 use Rattle.bdb_session.proofs.OutcomeLemmas.{becomes_full, becomes_done}
-use Rattle.bdb_session.proofs.RelationLemmas.{counts_stay}
 use Rattle.bdb_session.proofs.WithinLemmas.{read_tells, said_tells}
 use Rattle.bdb_update.proofs.CallLemmas.{gone_itself}
+use Rattle.bdb_update.proofs.LengthLemmas.{counts_stay}
 use Rattle.bdb_val.proofs.Calls.{HasGone}
 
 -- ---- so few that a number is the next

@@ -24,6 +24,7 @@ use Rattle.bdb_undo.specs.declared.change.Named.TheVariants.{Nothing}
 use Rattle.bdb_undo.proofs.ChangeLemmas.{takes_lead}
 use Rattle.bdb_update.specs.Calls.{StoresSized, are_apart, of_stmts, without_statements}
 use Rattle.bdb_update.specs.Replacing.{MayGo, SomeMayGo, Go}
+use Rattle.bdb_update.proofs.TakenLemmas.{others_are_left, taken_apart, taken_stand}
 use Rattle.bdb_val.proofs.Calls.{HasGone}
 use Rattle.bdb_session.specs.declared.reply.Reply.{Reply}
 use Rattle.bdb_session.specs.declared.stop.StopError.{StopError}
@@ -35,7 +36,6 @@ use Rattle.bdb_session.specs.Within.{LeadsBy, TellsChange, TellsWithin, IsSaid, 
 use Rattle.bdb_session.proofs.LimitLemmas.{no_limit}
 use Rattle.bdb_session.proofs.NotingLemmas.{made_leads, told_changes}
 use Rattle.bdb_session.proofs.OutcomeLemmas.{becomes_done}
-use Rattle.bdb_session.proofs.TakenLemmas.{taken_stand, taken_apart, others_are_left}
 use Rattle.bdb_session.proofs.WithinLemmas.{said_tells}
 
 -- a path that fits is one of users

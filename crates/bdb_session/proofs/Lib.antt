@@ -31,7 +31,6 @@ pub mod OpenLemmas
 pub mod OutcomeLemmas
 pub mod QueryLemmas
 pub mod ReadLemmas
-pub mod RelationLemmas
 pub mod ServedLemmas
 pub mod StepLemmas
 pub mod TablesLemmas

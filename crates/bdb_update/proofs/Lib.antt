@@ -24,7 +24,9 @@ pub mod KeyLemmas
 pub mod LeastLemmas
 pub mod LeastNumbers
 pub mod LeaveLemmas
+pub mod LengthLemmas
 pub mod LostLemmas
+pub mod MarkLemmas
 pub mod MissingLemmas
 pub mod NextLemmas
 pub mod NumberLemmas
@@ -54,6 +56,7 @@ pub mod StepLemmas
 pub mod StoreLemmas
 pub mod StoredCounts
 pub mod SumLemmas
+pub mod TakenLemmas
 pub mod TallyLemmas
 pub mod TryLemmas
 pub mod TupleLemmas

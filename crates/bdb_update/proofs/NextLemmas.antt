@@ -4,6 +4,7 @@ use Rattle.std.specs.Bool.{Decides}
 use Rattle.std.specs.List.{list_any, list_all}
 use Rattle.std.specs.Ordering.{is_eq}
 use Rattle.std.proofs.lemmas.Bool.{cases_Bool, and_parts, and_from, and_left, or_cases, or_from, or_left, or_right, cond-true, cond-false, not-true, not_from_false, false≢true, false_from_ne_true, le-leb, leb-true}
+use Rattle.std.proofs.lemmas.List.Folds.{list_any-append}
 use Rattle.bdb_base.specs.declared.kinds.Catalog.{Catalog}
 use Rattle.bdb_base.specs.declared.kinds.Stmt.{Stmt}
 use Rattle.bdb_base.specs.declared.tuple.Tuple.{Tuple}
@@ -236,14 +237,6 @@ module _ {X : Type 0} (same : X → X → Bool) (decides : (a b : X) → Decides
     ]
   ]
 
-  any-append : (p : X → Bool) (xs ys : List X) → list_any p (xs ++ ys) ≡ (list_any p xs || list_any p ys)
-  any-append p [] ys = refl
-  any-append p (x ∷ xs) ys = ap (λ b. p x || b) (any-append p xs ys) ∙ grouped (p x) (list_any p xs) (list_any p ys)
-    where
-      grouped : (a b c : Bool) → (a || (b || c)) ≡ ((a || b) || c)
-      grouped true b c = refl
-      grouped false b c = refl
-
   abbrev not_in : List X → X → Bool
   not_in ys x = not (list_any (same x) ys)
 
@@ -252,7 +245,7 @@ module _ {X : Type 0} (same : X → X → Bool) (decides : (a b : X) → Decides
   count_both [] ys = omega arith
   count_both (x ∷ xs) ys =
       let ih = count_both xs ys in
-      let a : one_unless (list_any (same x) (xs ++ ys)) ≡ one_unless (list_any (same x) xs || list_any (same x) ys) = ap one_unless (any-append (same x) xs ys) in
+      let a : one_unless (list_any (same x) (xs ++ ys)) ≡ one_unless (list_any (same x) xs || list_any (same x) ys) = ap one_unless (list_any-append (same x) xs ys) in
       elim (cases_Bool (list_any (same x) ys)) [
         | inl e ↦
             let b : one_unless (list_any (same x) xs || list_any (same x) ys) ≡ 0 = ap (λ z. one_unless (list_any (same x) xs || z)) e ∙ ap one_unless (or_true (list_any (same x) xs)) in
@@ -279,7 +272,7 @@ module _ {X : Type 0} (same : X → X → Bool) (decides : (a b : X) → Decides
   count_swapped : (xs ys : List X) → distinct_count same (filter (not_in ys) xs) + distinct_count same ys ≡ distinct_count same (filter (not_in xs) ys) + distinct_count same xs
   count_swapped xs ys =
       sym (count_both xs ys)
-      ∙ distinct_count-same same decides (xs ++ ys) (ys ++ xs) (λ z. any-append (same z) xs ys ∙ swapped (list_any (same z) xs) (list_any (same z) ys) ∙ sym (any-append (same z) ys xs))
+      ∙ distinct_count-same same decides (xs ++ ys) (ys ++ xs) (λ z. list_any-append (same z) xs ys ∙ swapped (list_any (same z) xs) (list_any (same z) ys) ∙ sym (list_any-append (same z) ys xs))
       ∙ count_both ys xs
     where
       swapped : (a b : Bool) → (a || b) ≡ (b || a)

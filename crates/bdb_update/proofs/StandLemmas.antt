@@ -1,18 +1,18 @@
 -- The statements at a path, by the rows of its world.
-use Rattle.std.proofs.Common.{◌≡◌, ◌∙◌, ℕ, Bool, true, false, ◌&&◌, ◌||◌, nat_eq, cond, List, [], ◌∷◌, ◌++◌, refl, ap, sym, subst, inl, inr, Option, Some, None}
+use Rattle.std.proofs.Common.{◌≡◌, ◌∙◌, ℕ, Bool, true, false, ◌&&◌, ◌||◌, List, [], ◌∷◌, refl, ap, sym, subst, inl, inr, Option, Some, None}
 use Rattle.std.specs.List.{list_any, AllByRecursion}
 use Rattle.std.specs.Ordering.{is_eq}
-use Rattle.std.proofs.lemmas.Bool.{cases_Bool, and_parts, and_from, or_cases, or_left, or_right, cond-true, cond-false, false≢true, false_from_ne_true, eqb-true, eq-eqb}
+use Rattle.std.proofs.lemmas.Bool.{cases_Bool, and_parts, and_from, or_cases, or_left, or_right, cond-true, cond-false, false≢true}
+use Rattle.std.proofs.lemmas.List.Folds.{list_any-append}
 use Rattle.bdb_base.specs.Bases.{Contents, is_user, stands}
 use Rattle.bdb_base.specs.Changes.{with_statements}
 use Rattle.bdb_base.specs.Order.{statement_cmp}
 use Rattle.bdb_base.specs.OrderLemmas.{statement_exact}
 use Rattle.bdb_base.specs.Same.{same_path}
-use Rattle.bdb_base.specs.SameLemmas.{same_path-Decides, same_tuple-Decides}
+use Rattle.bdb_base.specs.SameLemmas.{same_path-Decides}
 use Rattle.bdb_base.specs.SortedSet.{ascending}
 use Rattle.bdb_base.specs.Worlds.{explicit, IsConsistent}
 use Rattle.bdb_base.specs.declared.kinds.Sign.{Sign}
-use Rattle.bdb_base.specs.declared.kinds.Sign.TheVariants.{Plus, Minus}
 use Rattle.bdb_base.specs.declared.kinds.Stmt.{Stmt}
 use Rattle.bdb_base.specs.declared.tuple.Tuple.{Tuple}
 use Rattle.bdb_base.proofs.SetLemmas.{members_make_set, filter_keeps_order, is_eq-Equal, is_eq_itself}
@@ -22,15 +22,16 @@ use Rattle.bdb_keep.specs.Tables.{Tables}
 use Rattle.bdb_key.specs.Grammar.{IsNum}
 use Rattle.bdb_paths.proofs.StateLemmas.{list_any_same}
 use Rattle.bdb_tables.specs.InUse.{ValKey}
-use Rattle.bdb_tables.specs.Marks.{Mark, sign_by, explicit_of, explicit_sign}
+use Rattle.bdb_tables.specs.Marks.{Mark, explicit_of, explicit_sign}
 use Rattle.bdb_tables.specs.Names.{Names, path_of, number_of}
 use Rattle.bdb_tables.specs.Rows.{Tuples, row_for}
 use Rattle.bdb_val.specs.Middle.{worlds_of, HasExplicit}
 use Rattle.bdb_val.specs.Reads.{AreReadUnder, IsSpan, world_prefix}
-use Rattle.bdb_val.specs.Settling.{mark_in, are_apart, AreNamed}
+use Rattle.bdb_val.specs.Settling.{mark_in, AreNamed}
 use Rattle.bdb_val.specs.declared.stored.Stored.{Stored}
 use Rattle.bdb_val.proofs.HeldLemmas.{some_is, held_rows_are_explicit}
 use Rattle.bdb_val.proofs.ReadLemmas.{read_named, read_mark, read_apart, world_span}
+use Rattle.bdb_val.proofs.StepLemmas.{mark_of_each}
 use Rattle.bdb_worlds.specs.Holding.{HoldSome}
 use Rattle.bdb_worlds.specs.Reach.{ReachesState}
 use Rattle.bdb_update.proofs.KeyLemmas.{lengths_fit}
@@ -39,85 +40,9 @@ use Rattle.bdb_update.specs.Reached.{HasState, SomeHasState, StandAt, at_path, s
 use Rattle.bdb_tables.specs.Stored.{Stores, StoredAs}
 use Rattle.bdb_update.proofs.ExamineLemmas.{world_if_any}
 use Rattle.bdb_update.proofs.JudgeLemmas.{stands_is}
+use Rattle.bdb_update.proofs.MarkLemmas.{sign_explicit, explicit_is_sign, explicit_is, row_found, both}
 use Rattle.bdb_update.proofs.OwnLemmas.{IsSaid}
 use Rattle.bdb_update.proofs.ReachedLemmas.{any-filter}
-
--- ---- marks and signs
-
-by_sign : (p m : Bool) (s : Sign) → sign_by p m ≡ Some s → (s ≡ Plus → p ≡ true) × (s ≡ Minus → m ≡ true)
-by_sign true m Plus e = (λ _. refl, λ k. absurd cc)
-by_sign true m Minus e = absurd cc
-by_sign false true Plus e = absurd cc
-by_sign false true Minus e = (λ k. absurd cc, λ _. refl)
-by_sign false false s e = absurd cc
-
-sign_explicit : (stmts : List Stmt) (w : List ℕ) (u : Tuple) (s : Sign) → explicit_sign stmts w u ≡ Some s → explicit stmts w u s ≡ true
-sign_explicit stmts w u Plus e = (by_sign (explicit stmts w u Plus) (explicit stmts w u Minus) Plus e).0 refl
-sign_explicit stmts w u Minus e = (by_sign (explicit stmts w u Plus) (explicit stmts w u Minus) Minus e).1 refl
-
-explicit_is_sign : (keys : ℕ → ℕ) (stmts : List Stmt) (w : List ℕ) (u : Tuple) (s : Sign) → IsConsistent keys stmts → explicit stmts w u s ≡ true → explicit_sign stmts w u ≡ Some s
-explicit_is_sign keys stmts w u Plus c e = cond-true (explicit stmts w u Plus) (Some Plus) (cond (explicit stmts w u Minus) (Some Minus) None) e
-explicit_is_sign keys stmts w u Minus c e =
-    cond-false (explicit stmts w u Plus) (Some Plus) (cond (explicit stmts w u Minus) (Some Minus) None)
-    (false_from_ne_true (explicit stmts w u Plus) (λ p. false≢true (sym (c w u u Plus Minus p e) ∙ (same_tuple-Decides u u).1 refl)))
-    ∙ cond-true (explicit stmts w u Minus) (Some Minus) None e
-
-explicit_is : (o : Option Mark) (s : Sign) → explicit_of o ≡ Some s → o ≡ Some (s, true)
-explicit_is None s e = absurd cc
-explicit_is (Some m) s e = by m.1 refl
-  where
-    by : (b : Bool) → m.1 ≡ b → Some m ≡ Some (s, true)
-    by true k = let f : Some m.0 ≡ Some s = sym (cond-true m.1 (Some m.0) None k) ∙ e in let g : m.0 ≡ s = cc in ap (λ (b : Bool). Some (m.0, b)) k ∙ ap (λ (r : Sign). Some (r, true)) g
-    by false k = let f : None ≡ Some s = sym (cond-false m.1 (Some m.0) None k) ∙ e in absurd cc
-
-mark_of_each : (xs all : List Stored) → ((tid : ℕ) (m : Mark) → mark_in xs tid ≡ Some m → mark_in all tid ≡ Some m) → are_apart xs ≡ true → AllByRecursion (λ x. mark_in all x.tid ≡ Some x.mark) xs
-mark_of_each [] all h a = tt
-mark_of_each (x ∷ xs) all h a = elim (cases_Bool (list_any (λ y. nat_eq y.tid x.tid) xs)) [
-  | inl e ↦ absurd (false≢true (sym (cond-true (list_any (λ y. nat_eq y.tid x.tid) xs) false (are_apart xs) e) ∙ a))
-  | inr e ↦ (
-    h x.tid x.mark (cond-true (nat_eq x.tid x.tid) (Some x.mark) (mark_in xs x.tid) (eq-eqb x.tid x.tid refl)),
-    mark_of_each xs all (later e) (sym (cond-false (list_any (λ y. nat_eq y.tid x.tid) xs) false (are_apart xs) e) ∙ a),
-  )
-]
-  where
-    later : list_any (λ y. nat_eq y.tid x.tid) xs ≡ false → (tid : ℕ) (m : Mark) → mark_in xs tid ≡ Some m → mark_in all tid ≡ Some m
-    later e tid m k = h tid m (cond-false (nat_eq x.tid tid) (Some x.mark) (mark_in xs tid) (false_from_ne_true (nat_eq x.tid tid) (λ c.
-        none (mark_in xs tid) m (absent xs tid (ap (λ i. list_any (λ y. nat_eq y.tid i) xs) (sym (eqb-true x.tid tid c)) ∙ e)) k)) ∙ k)
-      where
-        none : (o : Option Mark) (m : Mark) → o ≡ None → o ≡ Some m → ⊥
-        none o m p q = cc
-
-        absent : (ys : List Stored) (i : ℕ) → list_any (λ y. nat_eq y.tid i) ys ≡ false → mark_in ys i ≡ None
-        absent [] i e = refl
-        absent (y ∷ ys) i e = elim (cases_Bool (nat_eq y.tid i)) [
-          | inl c ↦ absurd (false≢true (sym e ∙ ap (λ b. b || list_any (λ z. nat_eq z.tid i) ys) c))
-          | inr c ↦ cond-false (nat_eq y.tid i) (Some y.mark) (mark_in ys i) c ∙ absent ys i (sym (ap (λ b. b || list_any (λ z. nat_eq z.tid i) ys) c) ∙ e)
-        ]
-
--- the row whose mark is found, with what holds of each row
-row_found : (Q : Stored → Type 0) (xs : List Stored) (tid : ℕ) (m : Mark) → AllByRecursion Q xs → mark_in xs tid ≡ Some m → (r : Stored) × (r.tid ≡ tid) × (r.mark ≡ m) × Q r
-row_found Q [] tid m a e = absurd cc
-row_found Q (x ∷ xs) tid m a e = elim (cases_Bool (nat_eq x.tid tid)) [
-  | inl c ↦
-      let f : Some x.mark ≡ Some m = sym (cond-true (nat_eq x.tid tid) (Some x.mark) (mark_in xs tid) c) ∙ e in
-      (x, eqb-true x.tid tid c, the_one x.mark m f, a.0)
-  | inr c ↦ row_found Q xs tid m a.1 (sym (cond-false (nat_eq x.tid tid) (Some x.mark) (mark_in xs tid) c) ∙ e)
-]
-  where
-    the_one : (a b : Mark) → Some a ≡ Some b → a ≡ b
-    the_one a b e = cc
-
-both : (P Q : Stored → Type 0) (xs : List Stored) → AllByRecursion P xs → AllByRecursion Q xs → AllByRecursion (λ x. P x × Q x) xs
-both P Q [] p q = tt
-both P Q (x ∷ xs) p q = ((p.0, q.0), both P Q xs p.1 q.1)
-
-any-append : {X : Type 0} (p : X → Bool) (xs ys : List X) → list_any p (xs ++ ys) ≡ (list_any p xs || list_any p ys)
-any-append p [] ys = refl
-any-append p (x ∷ xs) ys = ap (λ b. p x || b) (any-append p xs ys) ∙ grouped (p x) (list_any p xs) (list_any p ys)
-  where
-    grouped : (a b c : Bool) → (a || (b || c)) ≡ ((a || b) || c)
-    grouped true b c = refl
-    grouped false b c = refl
 
 -- ---- the rows of a world and the statements of its path
 
@@ -198,7 +123,7 @@ module _ (t : Tables) (b : Contents) (ns : Names) (ts : Tuples) (stored : Stored
 
     some_said : (rs : List Stored) → AllByRecursion (IsSaid b.stmts w) rs → list_any p (said_at w rs) ≡ true → (same_path z.path w && stands b.stmts z) ≡ true
     some_said [] a e = absurd (false≢true e)
-    some_said (r ∷ rs) a e = elim (or_cases (list_any p (said_of w r)) (list_any p (said_at w rs)) (sym (any-append p (said_of w r) (said_at w rs)) ∙ e)) [
+    some_said (r ∷ rs) a e = elim (or_cases (list_any p (said_of w r)) (list_any p (said_at w rs)) (sym (list_any-append p (said_of w r) (said_at w rs)) ∙ e)) [
       | inl f ↦ one_said r a.0 f
       | inr f ↦ some_said rs a.1 f
     ]
@@ -209,8 +134,8 @@ module _ (t : Tables) (b : Contents) (ns : Names) (ts : Tuples) (stored : Stored
     each_among : (rs : List Stored) → (list_any p (said_at w rs) ≡ true → list_any p (said_at w rows) ≡ true) → AllByRecursion IsAmong rs
     each_among [] f = tt
     each_among (r ∷ rs) f = (
-      (λ e. f (any-append p (said_of w r) (said_at w rs) ∙ or_left (list_any p (said_of w r)) (list_any p (said_at w rs)) e)),
-      each_among rs (λ e. f (any-append p (said_of w r) (said_at w rs) ∙ or_right (list_any p (said_of w r)) (list_any p (said_at w rs)) e)),
+      (λ e. f (list_any-append p (said_of w r) (said_at w rs) ∙ or_left (list_any p (said_of w r)) (list_any p (said_at w rs)) e)),
+      each_among rs (λ e. f (list_any-append p (said_of w r) (said_at w rs) ∙ or_right (list_any p (said_of w r)) (list_any p (said_at w rs)) e)),
     )
 
     -- and is where it stands there

@@ -1,31 +1,21 @@
 -- Rows of the catalog put into tables that store a base.
-use Rattle.std.proofs.Common.{◌≡◌, ℕ, ◌-◌, Bool, true, false, not, ◌&&◌, ◌||◌, nat_eq, nat_lt, List, [], ◌∷◌, ◌++◌, take, slice_set, Option, Some, None, is_some, cond, suc, zero, inl, inr, refl, ap, sym, ◌∙◌}
-use Rattle.std.specs.List.{list_all, list_any, slice_get}
+use Rattle.std.proofs.Common.{◌≡◌, ℕ, ◌-◌, Bool, true, false, not, ◌&&◌, nat_eq, nat_lt, List, [], ◌∷◌, ◌++◌, slice_set, Option, Some, None, is_some, cond, suc, zero, refl, ap, sym, ◌∙◌}
+use Rattle.std.specs.List.{list_all}
 use Rattle.std.specs.Option.{option_and_then}
-use Rattle.std.proofs.lemmas.Bool.{and_parts, or_cases, or_from, false≢true}
-use Rattle.bdb_base.specs.Bases.{Contents, belongs, fits_definition, is_user, key_at, key_lengths, name_at}
-use Rattle.bdb_base.specs.Clash.{clash}
-use Rattle.bdb_base.specs.Same.{same_path, same_tuple, same_values}
-use Rattle.bdb_base.specs.SameLemmas.{same_tuple-Decides}
+use Rattle.std.proofs.lemmas.Bool.{or_from}
+use Rattle.bdb_base.specs.Bases.{Contents, belongs, is_user, key_lengths, name_at}
 use Rattle.bdb_base.specs.Segments.{is_suffix}
 use Rattle.bdb_base.specs.States.{edge_target}
-use Rattle.bdb_base.specs.Worlds.{contradicted, explicit, stated}
 use Rattle.bdb_base.specs.declared.kinds.Catalog.{Catalog}
 use Rattle.bdb_base.specs.declared.kinds.RelDef.{RelDef}
-use Rattle.bdb_base.specs.declared.kinds.Sign.{Sign}
-use Rattle.bdb_base.specs.declared.kinds.Sign.TheVariants.{Plus, Minus}
 use Rattle.bdb_base.specs.declared.kinds.Stmt.{Stmt}
 use Rattle.bdb_base.specs.declared.kinds.UserSlot.{UserSlot}
 use Rattle.bdb_base.specs.declared.kinds.UserSlot.TheVariants.{Live, Gone}
-use Rattle.bdb_base.specs.declared.kinds.Value.{Value}
-use Rattle.bdb_base.specs.declared.tuple.Tuple.{Tuple}
-use Rattle.bdb_base.proofs.ClashLemmas.{clash_by_length}
 use Rattle.bdb_keep.specs.Tables.{Tables}
 use Rattle.bdb_names.proofs.TurnedLemmas.{tables_same}
-use Rattle.bdb_tables.specs.InUse.{ValKey, meta_codec, user_codec, rel_codec, val_codec, plain_codec}
-use Rattle.bdb_tables.specs.Marks.{mark_of, marked, sign_by}
+use Rattle.bdb_tables.specs.InUse.{meta_codec, user_codec, rel_codec, val_codec, plain_codec}
 use Rattle.bdb_tables.specs.Names.{Names, path_of, number_of, is_named, depth_of, link_of, edge_of, edge_from}
-use Rattle.bdb_tables.specs.Rows.{HoldsRows, HoldsTuples, Tuples, row_for, row_named}
+use Rattle.bdb_tables.specs.Rows.{HoldsRows, HoldsTuples, Tuples, row_for}
 use Rattle.bdb_tables.specs.States.{HoldsStates}
 use Rattle.bdb_tables.specs.Stored.{is_table, slot_of, SameBut, StoredAs}
 use Rattle.bdb_tables.specs.Writes.{Gives, with_change}
@@ -33,61 +23,9 @@ use Rattle.bdb_tables.proofs.CatalogLemmas.{user_more, user_gone, relation_more}
 use Rattle.bdb_tables.proofs.SameLemmas.{outside_one, change_same, gives_still, tuples_still, states_still}
 use Rattle.bdb_tables.proofs.WriteLemmas.{gives_same}
 use Rattle.bdb_update.specs.StoredLaws.{is_edges, PutStoresRelation, EdgesStoreUser, EdgesStoreWithoutUser, GonePlaceStored}
-use Rattle.bdb_update.proofs.StageLemmas.{belongs_parts}
-
--- ---- worlds by other lengths of keys
-
-clash_elsewhere : (keys more : ℕ → ℕ) (t : Tuple) (s : Sign) (u : Tuple) (r : Sign) → more t.rel ≡ keys t.rel → clash more t s u r ≡ clash keys t s u r
-clash_elsewhere keys more t s u r e = sym (clash_by_length more t s u r) ∙ ap (λ n. clash (λ _. n) t s u r) e ∙ clash_by_length keys t s u r
-
-contradicted_elsewhere : (keys more : ℕ → ℕ) (stmts : List Stmt) (w : List ℕ) (t : Tuple) (s : Sign) → more t.rel ≡ keys t.rel → contradicted more stmts w t s ≡ contradicted keys stmts w t s
-contradicted_elsewhere keys more [] w t s e = refl
-contradicted_elsewhere keys more (x ∷ xs) w t s e =
-    ap (λ b. (same_path x.path w && b) || contradicted more xs w t s) (clash_elsewhere keys more t s x.tuple x.sign e)
-    ∙ ap (λ b. (same_path x.path w && clash keys t s x.tuple x.sign) || b) (contradicted_elsewhere keys more xs w t s e)
-
--- a world has a tuple with a sign by the length of the keys of the tuple's relation alone
-stated_elsewhere : (keys more : ℕ → ℕ) (stmts : List Stmt) (w : List ℕ) (t : Tuple) (s : Sign) → more t.rel ≡ keys t.rel → stated more stmts w t s ≡ stated keys stmts w t s
-stated_elsewhere keys more stmts [] t s e = refl
-stated_elsewhere keys more stmts (i ∷ w) t s e =
-    ap (λ b. explicit stmts (i ∷ w) t s || (b && not (contradicted more stmts (i ∷ w) t s))) (stated_elsewhere keys more stmts w t s e)
-    ∙ ap (λ b. explicit stmts (i ∷ w) t s || (stated keys stmts w t s && not b)) (contradicted_elsewhere keys more stmts (i ∷ w) t s e)
-
-mark_elsewhere : (keys more : ℕ → ℕ) (stmts : List Stmt) (w : List ℕ) (u : Tuple) → more u.rel ≡ keys u.rel → mark_of more stmts w u ≡ mark_of keys stmts w u
-mark_elsewhere keys more stmts w u e =
-    ap (λ b. marked (explicit stmts w u) (sign_by b (stated more stmts w u Minus))) (stated_elsewhere keys more stmts w u Plus e)
-    ∙ ap (λ b. marked (explicit stmts w u) (sign_by (stated keys stmts w u Plus) b)) (stated_elsewhere keys more stmts w u Minus e)
-
-row_elsewhere : (keys more : ℕ → ℕ) (stmts : List Stmt) (k : ValKey) (p : Option (List ℕ)) (o : Option Tuple) → ((u : Tuple) → o ≡ Some u → more u.rel ≡ keys u.rel)
-    → row_named keys stmts k p o ≡ row_named more stmts k p o
-row_elsewhere keys more stmts k None o h = refl
-row_elsewhere keys more stmts k (Some w) None h = refl
-row_elsewhere keys more stmts k (Some w) (Some u) h =
-    let e : keys u.rel ≡ more u.rel = sym (h u refl) in
-    ap (λ n. cond (nat_eq u.rel k.1 && same_values (take n u.vals) k.2) (mark_of keys stmts w u) None) e
-    ∙ ap (λ m. cond (nat_eq u.rel k.1 && same_values (take (more u.rel) u.vals) k.2) m None) (sym (mark_elsewhere keys more stmts w u (sym e)))
+use Rattle.bdb_update.proofs.LengthLemmas.{row_stays}
 
 -- ---- a relation
-
-definition_stays : (rels : List RelDef) (def : RelDef) (n : ℕ) (vals : List Value) → fits_definition (slice_get rels n) vals ≡ true → slice_get (rels ++ def ∷ []) n ≡ slice_get rels n
-definition_stays [] def n vals h = absurd (false≢true h)
-definition_stays (r ∷ rels) def zero vals h = refl
-definition_stays (r ∷ rels) def (suc n) vals h = definition_stays rels def n vals h
-
--- the keys of the tuples of statements that belong to a catalog have the lengths that they had
-length_stays : (c : Catalog) (def : RelDef) (stmts : List Stmt) (u : Tuple) → list_all (belongs c) stmts ≡ true → list_any (λ x. same_tuple x.tuple u) stmts ≡ true
-    → key_lengths (c.rels ++ def ∷ []) u.rel ≡ key_lengths c.rels u.rel
-length_stays c def [] u all any = absurd (false≢true any)
-length_stays c def (x ∷ xs) u all any =
-    let k = and_parts (belongs c x) (list_all (belongs c) xs) all in
-    elim (or_cases (same_tuple x.tuple u) (list_any (λ y. same_tuple y.tuple u) xs) any) [
-      | inl e ↦
-          let same : x.tuple ≡ u = (same_tuple-Decides x.tuple u).0 e in
-          ap (λ (v : Tuple). key_lengths (c.rels ++ def ∷ []) v.rel) (sym same)
-          ∙ ap key_at (definition_stays c.rels def x.tuple.rel x.tuple.vals (belongs_parts c x k.0).tuple)
-          ∙ ap (λ (v : Tuple). key_lengths c.rels v.rel) same
-      | inr e ↦ length_stays c def xs u k.1 e
-    ]
 
 rows_stay : (c : Catalog) (def : RelDef) (stmts : List Stmt) (path : ℕ → Option (List ℕ)) (ts : Tuples) (t : Tables) → list_all (belongs c) stmts ≡ true → HoldsTuples stmts ts t
     → HoldsRows (key_lengths c.rels) stmts path ts.tuple t → HoldsRows (key_lengths (c.rels ++ def ∷ [])) stmts path ts.tuple t
@@ -95,8 +33,7 @@ rows_stay c def stmts path ts t all h rows =
     let keys = key_lengths c.rels in
     let more = key_lengths (c.rels ++ def ∷ []) in
     gives_same val_codec t (row_for keys stmts path ts.tuple) (row_for more stmts path ts.tuple)
-    (λ k f. row_elsewhere keys more stmts k (path k.0) (ts.tuple k.3)
-    (λ u e. length_stays c def stmts u all (sym (h.stated u) ∙ ap is_some (h.named k.3 u e)))) rows
+    (λ k f. row_stays c def stmts path ts t all h k) rows
 
 pub put_stores_relation : PutStoresRelation
 put_stores_relation t b rel def s all e num fits =
@@ -123,7 +60,7 @@ put_stores_relation t b rel def s all e num fits =
 
 -- ---- a user
 
-outside_edges : (n : ℕ) → is_table n ≡ false → is_edges n ≡ false
+pub outside_edges : (n : ℕ) → is_table n ≡ false → is_edges n ≡ false
 outside_edges n h = or_from (nat_eq n 9) (nat_eq n 10) (outside_one 9 refl n h) (outside_one 10 refl n h)
 
 -- a list of users that the tables have once the row of one place is put

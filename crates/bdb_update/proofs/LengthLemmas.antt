@@ -1,18 +1,17 @@
--- A relation more leaves the sizes of a base whose statements belong to the catalog.
-use Rattle.std.proofs.Common.{◌≡◌, ◌∙◌, ℕ, zero, suc, ◌+◌, Bool, true, not, ◌&&◌, ◌||◌, nat_eq, cond, List, [], ◌∷◌, ◌++◌, length, map, sum_by, refl, ap, sym, arith}
-use Rattle.std.specs.List.{flat_map, list_all, slice_get}
-use Rattle.std.proofs.lemmas.Bool.{and_from, and_parts, eqb-true, false≢true}
-use Rattle.std.proofs.lemmas.Bool.Decides.{nat_tests}
+-- Lengths of keys that are the same where it matters: the worlds by them, the rows that are stored, and the sizes.
+use Rattle.std.proofs.Common.{◌≡◌, ◌∙◌, ℕ, zero, suc, ◌+◌, Bool, true, not, ◌&&◌, ◌||◌, nat_eq, cond, List, [], ◌∷◌, ◌++◌, length, map, take, sum_by, refl, ap, sym, inl, inr, Option, Some, None, is_some}
+use Rattle.std.specs.List.{flat_map, list_all, list_any, slice_get}
+use Rattle.std.proofs.lemmas.Bool.{and_from, and_parts, eq-eqb, eqb-true, false≢true, or_cases}
 use Rattle.std.proofs.lemmas.List.Sums.{sum_by-cons}
-use Rattle.bdb_base.specs.Alternation.{alternates}
-use Rattle.bdb_base.specs.Bases.{Contents, belongs, fits_definition, fits_relation, is_user, key_at, key_lengths, tuple_count, with_relation, world_count}
+use Rattle.bdb_base.specs.Bases.{Contents, belongs, fits_definition, key_at, key_lengths, tuple_count, with_relation, world_count}
 use Rattle.bdb_base.specs.Clash.{clash}
 use Rattle.bdb_base.specs.Order.{tuple_cmp}
 use Rattle.bdb_base.specs.OrderLemmas.{tuple_exact}
-use Rattle.bdb_base.specs.Same.{same_path}
+use Rattle.bdb_base.specs.Same.{same_path, same_tuple, same_values}
+use Rattle.bdb_base.specs.SameLemmas.{same_tuple-Decides}
 use Rattle.bdb_base.specs.SortedSet.{sorted_set}
 use Rattle.bdb_base.specs.States.{states_of}
-use Rattle.bdb_base.specs.WorldRows.{row_at, rows_at, tuples_of, world_of}
+use Rattle.bdb_base.specs.WorldRows.{row_at, rows_at, tuples_of}
 use Rattle.bdb_base.specs.Worlds.{contradicted, explicit, stated}
 use Rattle.bdb_base.specs.declared.kinds.Catalog.{Catalog}
 use Rattle.bdb_base.specs.declared.kinds.Held.{Held}
@@ -22,12 +21,16 @@ use Rattle.bdb_base.specs.declared.kinds.Sign.TheVariants.{Plus, Minus}
 use Rattle.bdb_base.specs.declared.kinds.Stmt.{Stmt}
 use Rattle.bdb_base.specs.declared.kinds.Value.{Value}
 use Rattle.bdb_base.specs.declared.tuple.Tuple.{Tuple}
+use Rattle.bdb_base.proofs.BaseLemmas.{belongs_parts}
 use Rattle.bdb_base.proofs.ClashLemmas.{clash_by_length}
 use Rattle.bdb_base.proofs.SetLemmas.{list_all-put_in}
 use Rattle.bdb_canon.specs.Canonical.{row_count}
 use Rattle.bdb_canon.specs.Sizes.{counts_of}
 use Rattle.bdb_canon.specs.declared.sizes.Counts.{Counts}
-use Rattle.bdb_session.specs.Machine.{with_catalog}
+use Rattle.bdb_keep.specs.Tables.{Tables}
+use Rattle.bdb_tables.specs.InUse.{ValKey}
+use Rattle.bdb_tables.specs.Marks.{mark_of, marked, sign_by}
+use Rattle.bdb_tables.specs.Rows.{HoldsTuples, Tuples, row_for, row_named}
 
 -- ---- worlds by other lengths of keys
 
@@ -47,6 +50,53 @@ stated_elsewhere keys more stmts (i ∷ w) t s e =
     ap (λ b. explicit stmts (i ∷ w) t s || (b && not (contradicted more stmts (i ∷ w) t s))) (stated_elsewhere keys more stmts w t s e)
     ∙ ap (λ b. explicit stmts (i ∷ w) t s || (stated keys stmts w t s && not b)) (contradicted_elsewhere keys more stmts (i ∷ w) t s e)
 
+-- ---- stored rows by other lengths of keys
+
+mark_elsewhere : (keys more : ℕ → ℕ) (stmts : List Stmt) (w : List ℕ) (u : Tuple) → more u.rel ≡ keys u.rel → mark_of more stmts w u ≡ mark_of keys stmts w u
+mark_elsewhere keys more stmts w u e =
+    ap (λ b. marked (explicit stmts w u) (sign_by b (stated more stmts w u Minus))) (stated_elsewhere keys more stmts w u Plus e)
+    ∙ ap (λ b. marked (explicit stmts w u) (sign_by (stated keys stmts w u Plus) b)) (stated_elsewhere keys more stmts w u Minus e)
+
+row_elsewhere : (keys more : ℕ → ℕ) (stmts : List Stmt) (k : ValKey) (p : Option (List ℕ)) (o : Option Tuple) → ((u : Tuple) → o ≡ Some u → more u.rel ≡ keys u.rel)
+    → row_named keys stmts k p o ≡ row_named more stmts k p o
+row_elsewhere keys more stmts k None o h = refl
+row_elsewhere keys more stmts k (Some w) None h = refl
+row_elsewhere keys more stmts k (Some w) (Some u) h =
+    let e : keys u.rel ≡ more u.rel = sym (h u refl) in
+    ap (λ n. cond (nat_eq u.rel k.1 && same_values (take n u.vals) k.2) (mark_of keys stmts w u) None) e
+    ∙ ap (λ m. cond (nat_eq u.rel k.1 && same_values (take (more u.rel) u.vals) k.2) m None) (sym (mark_elsewhere keys more stmts w u (sym e)))
+
+-- ---- a relation more leaves the keys of the tuples of statements that belong to a catalog
+
+definition_stays : (rels : List RelDef) (def : RelDef) (n : ℕ) (vals : List Value) → fits_definition (slice_get rels n) vals ≡ true → slice_get (rels ++ def ∷ []) n ≡ slice_get rels n
+definition_stays [] def n vals h = absurd (false≢true h)
+definition_stays (r ∷ rels) def zero vals h = refl
+definition_stays (r ∷ rels) def (suc n) vals h = definition_stays rels def n vals h
+
+own_length : (c : Catalog) (def : RelDef) (x : Stmt) → belongs c x ≡ true → key_lengths (c.rels ++ def ∷ []) x.tuple.rel ≡ key_lengths c.rels x.tuple.rel
+own_length c def x h = ap key_at (definition_stays c.rels def x.tuple.rel x.tuple.vals (belongs_parts c x h).tuple)
+
+length_stays : (c : Catalog) (def : RelDef) (stmts : List Stmt) (u : Tuple) → list_all (belongs c) stmts ≡ true → list_any (λ x. same_tuple x.tuple u) stmts ≡ true
+    → key_lengths (c.rels ++ def ∷ []) u.rel ≡ key_lengths c.rels u.rel
+length_stays c def [] u all any = absurd (false≢true any)
+length_stays c def (x ∷ xs) u all any =
+    let k = and_parts (belongs c x) (list_all (belongs c) xs) all in
+    elim (or_cases (same_tuple x.tuple u) (list_any (λ y. same_tuple y.tuple u) xs) any) [
+      | inl e ↦
+          let same : x.tuple ≡ u = (same_tuple-Decides x.tuple u).0 e in
+          ap (λ (v : Tuple). key_lengths (c.rels ++ def ∷ []) v.rel) (sym same) ∙ own_length c def x k.0 ∙ ap (λ (v : Tuple). key_lengths c.rels v.rel) same
+      | inr e ↦ length_stays c def xs u k.1 e
+    ]
+
+-- a stored row is the same with a relation more
+pub row_stays : (c : Catalog) (def : RelDef) (stmts : List Stmt) (path : ℕ → Option (List ℕ)) (ts : Tuples) (t : Tables) → list_all (belongs c) stmts ≡ true → HoldsTuples stmts ts t → (k : ValKey)
+    → row_for (key_lengths c.rels) stmts path ts.tuple k ≡ row_for (key_lengths (c.rels ++ def ∷ [])) stmts path ts.tuple k
+row_stays c def stmts path ts t all h k =
+    row_elsewhere (key_lengths c.rels) (key_lengths (c.rels ++ def ∷ [])) stmts k (path k.0) (ts.tuple k.3)
+    (λ u e. length_stays c def stmts u all (sym (h.stated u) ∙ ap is_some (h.named k.3 u e)))
+
+-- ---- the sizes stay
+
 abbrev held_at : List Stmt → List ℕ → Tuple → Sign → Held
 held_at stmts w t s = record { tuple = t; sign = s; explicit = explicit stmts w t s }
 
@@ -54,8 +104,6 @@ rows_elsewhere : (keys more : ℕ → ℕ) (stmts : List Stmt) (w : List ℕ) (t
 rows_elsewhere keys more stmts w t e =
     ap (λ b. cond b (held_at stmts w t Plus ∷ []) [] ++ row_at more stmts w t Minus) (stated_elsewhere keys more stmts w t Plus e)
     ∙ ap (λ b. row_at keys stmts w t Plus ++ cond b (held_at stmts w t Minus ∷ []) []) (stated_elsewhere keys more stmts w t Minus e)
-
--- ---- lengths of the keys of a tuple's relation that are the same
 
 abbrev as_long : (ℕ → ℕ) → (ℕ → ℕ) → Tuple → Bool
 as_long keys more u = nat_eq (more u.rel) (keys u.rel)
@@ -73,19 +121,6 @@ all_in_set p (x ∷ xs) h =
     let k = and_parts (p x) (list_all p xs) h in
     list_all-put_in tuple_exact p (sorted_set tuple_cmp xs) x (all_in_set p xs k.1) k.0
 
--- ---- a relation more
-
-definition_stays : (rels : List RelDef) (def : RelDef) (n : ℕ) (vals : List Value) → fits_definition (slice_get rels n) vals ≡ true → slice_get (rels ++ def ∷ []) n ≡ slice_get rels n
-definition_stays [] def n vals h = absurd (false≢true h)
-definition_stays (r ∷ rels) def zero vals h = refl
-definition_stays (r ∷ rels) def (suc n) vals h = definition_stays rels def n vals h
-
-own_tuple : (c : Catalog) (x : Stmt) → belongs c x ≡ true → fits_relation c.rels x.tuple ≡ true
-own_tuple c x h = (and_parts _ (fits_relation c.rels x.tuple) h).1
-
-same_number : (n m : ℕ) → n ≡ m → nat_eq n m ≡ true
-same_number n m e = grind (arith, nat_tests)
-
 tuples_as_long : (c : Catalog) (def : RelDef) (xs : List Stmt) → list_all (belongs c) xs ≡ true
     → list_all (as_long (key_lengths c.rels) (key_lengths (c.rels ++ def ∷ []))) (map (λ x. x.tuple) xs) ≡ true
 tuples_as_long c def [] h = refl
@@ -94,8 +129,7 @@ tuples_as_long c def (x ∷ xs) h =
     let more = key_lengths (c.rels ++ def ∷ []) in
     let k = and_parts (belongs c x) (list_all (belongs c) xs) h in
     and_from (as_long keys more x.tuple) (list_all (as_long keys more) (map (λ y. y.tuple) xs))
-    (same_number (more x.tuple.rel) (keys x.tuple.rel) (ap key_at (definition_stays c.rels def x.tuple.rel x.tuple.vals (own_tuple c x k.0))))
-    (tuples_as_long c def xs k.1)
+    (eq-eqb (more x.tuple.rel) (keys x.tuple.rel) (own_length c def x k.0)) (tuples_as_long c def xs k.1)
 
 sums_same : (f g : List ℕ → ℕ) → ((w : List ℕ) → f w ≡ g w) → (ws : List (List ℕ)) → sum_by f ws ≡ sum_by g ws
 sums_same f g h [] = refl
@@ -104,8 +138,8 @@ sums_same f g h (w ∷ ws) = sum_by-cons f w ws ∙ ap (λ n. n + sum_by f ws) (
 abbrev with_rows : Contents → ℕ → Counts
 with_rows b n = record { worlds = world_count b.stmts; tuples = tuple_count b.stmts; stmts = length b.stmts; rows = n }
 
--- the sizes are those of before
-pub counts_stay : (b : Contents) (def : RelDef) → list_all (belongs b.catalog) b.stmts ≡ true → counts_of b ≡ counts_of (with_catalog b (with_relation b.catalog def))
+-- with a relation more the sizes are the same
+pub counts_stay : (b : Contents) (def : RelDef) → list_all (belongs b.catalog) b.stmts ≡ true → counts_of b ≡ counts_of (record b { catalog = with_relation b.catalog def })
 counts_stay b def all =
     let keys = key_lengths b.catalog.rels in
     let more = key_lengths (b.catalog.rels ++ def ∷ []) in
