@@ -1,5 +1,5 @@
 -- A relation more in the catalog of a stored base.
-use Rattle.std.proofs.Common.{◌≡◌, ◌∙◌, ℕ, true, [], ◌∷◌, sym, subst}
+use Rattle.std.proofs.Common.{◌≡◌, ◌∙◌, ℕ, true, [], ◌∷◌, sym, subst, Some}
 use Rattle.std.specs.List.{list_all}
 use Rattle.std.specs.FinMap as tables
 use Rattle.std.proofs.lemmas.Bool.{and_parts}
@@ -13,6 +13,8 @@ use Rattle.bdb_tables.specs.Codec.{place}
 use Rattle.bdb_tables.specs.InUse.{rel_codec}
 use Rattle.bdb_tables.specs.Stored.{Stores}
 use Rattle.bdb_tables.proofs.Fitting.{relation_row}
+use Rattle.bdb_update.specs.Keeping.{SameNumbers}
+use Rattle.bdb_update.proofs.StayLemmas.{same_by_relation}
 use Rattle.bdb_update.proofs.StoreLemmas.{put_stores_relation}
 use Rattle.bdb_catalog.specs.Creating.{SomeMayAddRelation, AddsRelation, with_one_relation}
 
@@ -27,3 +29,7 @@ relation_added t u rel def num fits put b h = record {
   stored = subst (λ v. Stores v (with_one_relation b def)) (sym put) (put_stores_relation t b rel def h.base.stored h.base.valid.stmts.belong h.next num fits);
   valid = h.valid;
 }
+
+-- worlds and tuples keep their numbers
+pub relation_keeps : (t u : Tables) (rel : ℕ) (def : RelDef) → u ≡ tables.insert t (place rel_codec rel) (rel_codec.row_bytes def) → SameNumbers t u
+relation_keeps t u rel def put = subst (SameNumbers t) (sym put) (same_by_relation t rel (Some def))

@@ -27,9 +27,11 @@ use Rattle.bdb_tables.specs.States.{HoldsStates}
 use Rattle.bdb_tables.specs.Stored.{SameBut, StoredAs}
 use Rattle.bdb_tables.specs.Writes.{with_change}
 use Rattle.bdb_tables.proofs.SameLemmas.{change_same, states_still}
+use Rattle.bdb_update.specs.Keeping.{SameNumbers}
 use Rattle.bdb_update.specs.StoredLaws.{is_edges}
 use Rattle.bdb_update.proofs.CountLemmas.{numbers_are_counted}
 use Rattle.bdb_update.proofs.GrammarLemmas.{stored_is_in_grammar}
+use Rattle.bdb_update.proofs.StayLemmas.{same_by_user}
 use Rattle.bdb_update.proofs.StoreLemmas.{edges_store_user, gone_place_stored}
 use Rattle.bdb_worlds.specs.Growth.{SameOutside}
 use Rattle.bdb_worlds.specs.UserEdges.{AddsUser, WritesEdges}
@@ -107,6 +109,16 @@ user_added t m u uid name num plain put adds same b h =
       };
       valid = h.valid;
     }
+
+-- worlds and tuples keep their numbers
+pub user_keeps : (t m u : Tables) (uid : ℕ) (name : List ℕ) → m ≡ tables.insert t (place user_codec uid) (user_codec.row_bytes (Live name)) → AddsUser m u uid → SameOutside 9 10 m u
+    → SomeMayAddUser t uid name → SameNumbers t u
+user_keeps t m u uid name put adds same h =
+    let s = h.may.base.stored in
+    let users = is_user h.base.catalog.users in
+    let before = states_before t m uid name put h.base h.may in
+    same_by_user t m u uid (Some (Live name)) users (with_one_user users uid) s.names put same s.stored.states
+    (adds (record { users = users; names = s.names }) before (next_is_no_user h.base.catalog.users uid h.may.next))
 
 -- ---- how many rows come
 

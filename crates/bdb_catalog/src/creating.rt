@@ -5,6 +5,7 @@ ghost use Rattle.bdb_base.specs.Bases.{empty_contents};
 ghost use Rattle.bdb_base.specs.Causes.{Rises, RoseBy};
 ghost use Rattle.bdb_keep.specs.Calls.{IsWrite};
 ghost use Rattle.bdb_tables.specs.Stored.{Stores};
+ghost use Rattle.bdb_update.specs.Keeping.{SameNumbers};
 ghost use Rattle.bdb_catalog.specs.Creating.{AddsRelation, SomeMayAddRelation};
 
 use bdb_base::RelDef;
@@ -33,7 +34,7 @@ pub fn write_empty<K: Keeper>(alloc: Global, keeper: &mut K) -> Result<(), TabEr
     }
 }
 
-/// Adds a relation, whose number is the next. One write.
+/// Adds a relation, whose number is the next. Worlds and tuples keep their numbers. One write.
 pub fn add_relation<K: Keeper>(
     alloc: Global,
     keeper: &mut K,
@@ -44,6 +45,7 @@ pub fn add_relation<K: Keeper>(
     requires base { SomeMayAddRelation (K.seen keeper.old).kept rel def.now }
     ensures added { OnOk result (AddsRelation (K.seen keeper.old).kept (K.seen keeper.new).kept rel def.now) }
     ensures writes { OnOk result (RoseBy 1 (K.seen keeper.old).writes (K.seen keeper.new).writes) }
+    ensures keeps { OnOk result (SameNumbers (K.seen keeper.old).kept (K.seen keeper.new).kept) }
     ensures write { IsWrite (K.seen keeper.old) (K.seen keeper.new) result TabError.Fault }
 {
     match put::<RelTab, K>(alloc, keeper, &rel, def) {

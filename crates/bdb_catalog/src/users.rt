@@ -9,6 +9,7 @@ ghost use Rattle.bdb_key.specs.Grammar.{IsPlain};
 ghost use Rattle.bdb_tables.specs.Codec.{place};
 ghost use Rattle.bdb_tables.specs.Grammar.{InGrammar};
 ghost use Rattle.bdb_tables.specs.InUse.{user_codec};
+ghost use Rattle.bdb_update.specs.Keeping.{SameNumbers};
 ghost use Rattle.bdb_catalog.specs.Creating.{AddsGonePlace, AddsUserNamed, SomeMayAddGonePlace, SomeMayAddUser, WritesUser};
 
 use bdb_base::{Exact, Txt, UserSlot};
@@ -17,8 +18,8 @@ use bdb_tables::{TabError, UserTab, put};
 use bdb_worlds::add_user_edges;
 use std::alloc::{AllocError, Global};
 
-/// Adds a user, whose number is the next: the row of its name, and an edge from each world to the empty path. A write for
-/// the user, two writes and a read for each world, and one read more.
+/// Adds a user, whose number is the next: the row of its name, and an edge from each world to the empty path. Worlds and
+/// tuples keep their numbers. A write for the user, two writes and a read for each world, and one read more.
 pub fn add_user<K: Keeper>(
     alloc: Global,
     keeper: &mut K,
@@ -29,6 +30,7 @@ pub fn add_user<K: Keeper>(
     requires base { SomeMayAddUser (K.seen keeper.old).kept uid name.now }
     ensures added { OnOk result (AddsUserNamed (K.seen keeper.old).kept (K.seen keeper.new).kept uid name.now) }
     ensures writes { OnOk result (WritesUser (K.seen keeper.old) (K.seen keeper.new) uid name.now) }
+    ensures keeps { OnOk result (SameNumbers (K.seen keeper.old).kept (K.seen keeper.new).kept) }
     ensures counts { NeverFall (K.seen keeper.old) (K.seen keeper.new) }
     ensures steps { Steps (K.seen keeper.old) (K.seen keeper.new) result TabError.Fault }
 {

@@ -1,13 +1,18 @@
 -- What a change named goes, or comes: by its kind.
-use Rattle.std.proofs.Common.{◌≡◌, ℕ, List, sym, subst, ◌+◌, ◌*◌, arith}
+use Rattle.std.proofs.Common.{◌≡◌, ℕ, List, sym, subst, ◌+◌, ◌*◌, arith, None}
+use Rattle.std.specs.FinMap as tables
 use Rattle.bdb_base.specs.Bases.{Contents, world_count}
 use Rattle.bdb_base.specs.Causes.{Rises, RoseBy}
 use Rattle.bdb_base.specs.declared.kinds.RelDef.{RelDef}
 use Rattle.bdb_keep.specs.Seen.{Seen}
 use Rattle.bdb_keep.specs.Tables.{Tables}
+use Rattle.bdb_tables.specs.Codec.{place}
+use Rattle.bdb_tables.specs.InUse.{rel_codec}
 use Rattle.bdb_tables.specs.Stored.{Stores}
 use Rattle.bdb_undo.specs.declared.change.Named.{Named}
 use Rattle.bdb_undo.specs.declared.change.Named.TheVariants.{Nothing, UserAdded, RelationAdded, UserDropped}
+use Rattle.bdb_update.specs.Keeping.{SameNumbers}
+use Rattle.bdb_update.proofs.StayLemmas.{same_by_relation}
 use Rattle.bdb_catalog.specs.Creating.{AddsRelation, AddsUserNamed, MayAddRelation, MayAddUser, SomeMayAddRelation, SomeMayAddUser, WritesUser}
 use Rattle.bdb_return.specs.Naming.{GetsName, Leaves, LosesLastRelation, LosesLastUser, LosesName, MayGetName, SomeMayGetName, SomeMayLeave, SomeMayLoseName, SomeRelationIsLast, SomeUserIsLast, WritesGain, WritesLastRelation, WritesLastUser, WritesLeave, WritesLoss}
 use Rattle.bdb_return.specs.Numbers.{IsNextRelation, IsNextUser}
@@ -70,6 +75,11 @@ module _ (t m : Tables) (same : m ≡ t) (rel : ℕ) (def : RelDef) (next : IsNe
 
   pub relation_got : (u : Tables) → AddsRelation m u rel def → GetsName t u (RelationAdded def)
   relation_got u adds a h = (adds a (may_add_relation a h)).stored
+
+-- ---- worlds and tuples keep their numbers
+
+pub last_relation_keeps : (t m u : Tables) (rel : ℕ) → m ≡ t → u ≡ tables.remove m (place rel_codec rel) → SameNumbers t u
+last_relation_keeps t m u rel same put = subst (λ (z : Tables). SameNumbers z u) same (subst (SameNumbers m) (sym put) (same_by_relation m rel None))
 
 -- ---- how often is written
 

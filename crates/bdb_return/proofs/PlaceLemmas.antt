@@ -35,15 +35,17 @@ use Rattle.bdb_tables.proofs.CatalogLemmas.{user_gone, user_set}
 use Rattle.bdb_tables.proofs.SameLemmas.{change_same, gives_still, outside_one, states_still, tuples_still}
 use Rattle.bdb_tables.proofs.WriteLemmas.{change_gives, gives_same}
 use Rattle.bdb_undo.specs.declared.change.Named.TheVariants.{UserAdded, UserDropped}
+use Rattle.bdb_update.specs.Keeping.{SameNumbers}
 use Rattle.bdb_update.specs.StoredLaws.{is_edges}
 use Rattle.bdb_update.proofs.CountLemmas.{numbers_are_counted}
 use Rattle.bdb_update.proofs.GrammarLemmas.{stored_is_in_grammar}
+use Rattle.bdb_update.proofs.StayLemmas.{same_by_user}
 use Rattle.bdb_update.proofs.StoreLemmas.{outside_edges, states_as}
 use Rattle.bdb_worlds.specs.Growth.{SameOutside}
 use Rattle.bdb_worlds.specs.UserEdges.{AddsUser, DropsUser, without_one_user, WritesDropped, WritesEdges}
-use Rattle.bdb_return.specs.Naming.{Leaves, LosesLastUser, LosesName, MayLoseName, SomeMayLeave, SomeMayLoseName, SomeUserIsLast, base_named, WritesLastUser, WritesLeave, WritesLoss}
+use Rattle.bdb_return.specs.Naming.{Leaves, LosesLastUser, LosesName, MayGetName, MayLoseName, SomeMayLeave, SomeMayLoseName, SomeUserIsLast, base_named, WritesLastUser, WritesLeave, WritesLoss}
 use Rattle.bdb_return.specs.Numbers.{IsNextUser, StoreAny}
-use Rattle.bdb_return.specs.Places.{LosesPlace, WritesPlace}
+use Rattle.bdb_return.specs.Places.{LosesPlace, PlaceKeeps, WritesPlace}
 
 -- ---- the tables of edges
 
@@ -160,14 +162,22 @@ all_but_last_are users name uid e i =
 last_is_user : (users : List UserSlot) (name : List ℕ) (uid : ℕ) → uid ≡ length users + 1 → is_user (users ++ Live name ∷ []) uid ≡ true
 last_is_user users name uid e = sym (user_or_new users name uid uid e) ∙ ap (λ b. b || is_user users uid) (eq-eqb uid uid refl)
 
+-- the worlds have their names without him
+without_last : (t m u : Tables) (uid : ℕ) → m ≡ tables.remove t (place user_codec uid) → DropsUser m u uid → (name : List ℕ) (a : Contents) → uid ≡ length a.catalog.users + 1
+    → (h : MayLoseName t (UserAdded name) a) → HoldsStates (without_one_user (is_user (a.catalog.users ++ Live name ∷ [])) uid) h.stored.names u
+without_last t m u uid put drops name a last h =
+    let more = a.catalog.users ++ Live name ∷ [] in
+    let s = h.stored in
+    let none = none_names a.catalog a.stmts uid h.between.before (next_is_no_user a.catalog.users uid last) in
+    let now = states_before t m uid None put (is_user more) s.names s.stored.states in
+    drops (record { users = is_user more; names = s.names }) now (λ w e. listed_is_named uid w ∙ none w (sym (s.stored.worlds w) ∙ e))
+
 pub place_lost : (t m u : Tables) (uid : ℕ) → IsNum uid → m ≡ tables.remove t (place user_codec uid) → DropsUser m u uid → SameOutside 9 10 m u → LosesPlace t u uid
 place_lost t m u uid num put drops outside name a last h =
     let users = a.catalog.users in
     let more = users ++ Live name ∷ [] in
     let s = h.stored in
-    let none = none_names a.catalog a.stmts uid h.between.before (next_is_no_user users uid last) in
-    let now = states_before t m uid None put (is_user more) s.names s.stored.states in
-    let left = drops (record { users = is_user more; names = s.names }) now (λ w e. listed_is_named uid w ∙ none w (sym (s.stored.worlds w) ∙ e)) in
+    let left = without_last t m u uid put drops name a last h in
     record {
       names = s.names;
       tuples = s.tuples;
@@ -175,6 +185,12 @@ place_lost t m u uid num put drops outside name a last h =
           (place_less t users uid (Live name) last num s.stored.users)
           (states_as (without_one_user (is_user more) uid) (is_user users) s.names u (all_but_last_are users name uid last) left) outside;
     }
+
+-- worlds and tuples keep their numbers
+pub place_keeps : (t m u : Tables) (uid : ℕ) → m ≡ tables.remove t (place user_codec uid) → DropsUser m u uid → SameOutside 9 10 m u → PlaceKeeps t u uid
+place_keeps t m u uid put drops outside name a last h =
+    let more = is_user (a.catalog.users ++ Live name ∷ []) in
+    same_by_user t m u uid None more (without_one_user more uid) h.stored.names put outside h.stored.stored.states (without_last t m u uid put drops name a last h)
 
 longer : {X : Type 0} (xs : List X) (x : X) → length (xs ++ x ∷ []) ≡ length xs + 1
 longer [] x = refl
@@ -189,6 +205,14 @@ last_user_lost t m u next same is loses name a h =
     let e = is (base_named (UserAdded name) a) h.stored in
     let l = longer a.catalog.users (Live name) in
     loses name a (omega (arith, e, l)) (subst (λ (z : Tables). MayLoseName z (UserAdded name) a) (sym same) h)
+
+pub last_user_keeps : (t m u : Tables) (next : ℕ) → m ≡ t → IsNextUser t next → PlaceKeeps m u (next - 1) → SomeUserIsLast t → SameNumbers t u
+last_user_keeps t m u next same is keeps s =
+    let a = s.some.base in
+    let e = is (base_named (UserAdded s.name) a) s.some.may.stored in
+    let l = longer a.catalog.users (Live s.name) in
+    subst (λ (z : Tables). SameNumbers z u) same
+    (keeps s.name a (omega (arith, e, l)) (subst (λ (z : Tables). MayLoseName z (UserAdded s.name) a) (sym same) s.some.may))
 
 pub last_user_stored : (t m : Tables) → m ≡ t → SomeUserIsLast t → StoreAny m
 last_user_stored t m same s = subst StoreAny (sym same) (record { base = base_named (UserAdded s.name) s.some.base; stored = s.some.may.stored })
@@ -224,6 +248,17 @@ name_is_plain t uid name s =
 pub left_stored : (t : Tables) (uid : ℕ) (name : List ℕ) → SomeMayLoseName t (UserDropped uid name) → StoreAny t
 left_stored t uid name s = record { base = base_named (UserDropped uid name) s.base; stored = s.may.stored }
 
+-- the worlds have their names with him
+with_him : (t m u : Tables) (uid : ℕ) (name : List ℕ) → m ≡ tables.insert t (place user_codec uid) (user_codec.row_bytes (Live name)) → AddsUser m u uid → (a : Contents)
+    → (h : MayLoseName t (UserDropped uid name) a) → HoldsStates (with_one_user (is_user (without_user a.catalog uid).users) uid) h.stored.names u
+with_him t m u uid name put adds a h =
+    let k = a.catalog in
+    let user = (name_found k.users uid name h.between.can).0 in
+    let left = (without_user k uid).users in
+    let s = h.stored in
+    let now = states_before t m uid (Some (Live name)) put (is_user left) s.names s.stored.states in
+    adds (record { users = is_user left; names = s.names }) now (who_is_gone_is_no_user left uid (who_leaves_is_gone k uid user))
+
 pub user_is_back : (t m u : Tables) (uid : ℕ) (name : List ℕ) → IsNum uid → IsPlain name → m ≡ tables.insert t (place user_codec uid) (user_codec.row_bytes (Live name))
     → AddsUser m u uid → SameOutside 9 10 m u → LosesName t u (UserDropped uid name)
 user_is_back t m u uid name num plain put adds outside a h =
@@ -231,8 +266,7 @@ user_is_back t m u uid name num plain put adds outside a h =
     let user = (name_found k.users uid name h.between.can).0 in
     let left = (without_user k uid).users in
     let s = h.stored in
-    let now = states_before t m uid (Some (Live name)) put (is_user left) s.names s.stored.states in
-    let after = adds (record { users = is_user left; names = s.names }) now (who_is_gone_is_no_user left uid (who_leaves_is_gone k uid user)) in
+    let after = with_him t m u uid name put adds a h in
     let len = length-set k.users (uid - 1) Gone in
     let within = user_within k.users uid user in
     let set = user_set t left uid (Live name) (user_above k.users uid user) (omega (arith, len, within)) num plain s.stored.users in
@@ -245,10 +279,29 @@ user_is_back t m u uid name num plain put adds outside a h =
           (states_as (with_one_user (is_user left) uid) (is_user k.users) s.names u (all_and_he k uid user) after) outside;
     }
 
+pub back_keeps : (t m u : Tables) (uid : ℕ) (name : List ℕ) → m ≡ tables.insert t (place user_codec uid) (user_codec.row_bytes (Live name)) → AddsUser m u uid → SameOutside 9 10 m u
+    → SomeMayLoseName t (UserDropped uid name) → SameNumbers t u
+back_keeps t m u uid name put adds outside h =
+    let left = is_user (without_user h.base.catalog uid).users in
+    let s = h.may.stored in
+    same_by_user t m u uid (Some (Live name)) left (with_one_user left uid) s.names put outside s.stored.states (with_him t m u uid name put adds h.base h.may)
+
 -- ---- he leaves whose statements are gone
 
 pub leaving_stored : (t : Tables) (uid : ℕ) → SomeMayLeave t uid → StoreAny t
 leaving_stored t uid s = record { base = s.some.base; stored = s.some.may.stored }
+
+-- the worlds have their names without him
+without_him : (t m u : Tables) (uid : ℕ) → m ≡ tables.insert t (place user_codec uid) (user_codec.row_bytes Gone) → DropsUser m u uid → (name : List ℕ) (a : Contents)
+    → (h : MayGetName t (UserDropped uid name) a) → HoldsStates (without_one_user (is_user a.catalog.users) uid) h.stored.names u
+without_him t m u uid put drops name a h =
+    let k = a.catalog in
+    let user = (name_found k.users uid name h.between.can).0 in
+    let left = (without_user k uid).users in
+    let s = h.stored in
+    let none = none_names (without_user k uid) a.stmts uid h.between.after (who_is_gone_is_no_user left uid (who_leaves_is_gone k uid user)) in
+    let now = states_before t m uid (Some Gone) put (is_user k.users) s.names s.stored.states in
+    drops (record { users = is_user k.users; names = s.names }) now (λ w e. listed_is_named uid w ∙ none w (sym (s.stored.worlds w) ∙ e))
 
 pub user_leaves : (t m u : Tables) (uid : ℕ) → m ≡ tables.insert t (place user_codec uid) (user_codec.row_bytes Gone) → DropsUser m u uid → SameOutside 9 10 m u → Leaves t u uid
 user_leaves t m u uid put drops outside name a h =
@@ -256,9 +309,7 @@ user_leaves t m u uid put drops outside name a h =
     let user = (name_found k.users uid name h.between.can).0 in
     let left = (without_user k uid).users in
     let s = h.stored in
-    let none = none_names (without_user k uid) a.stmts uid h.between.after (who_is_gone_is_no_user left uid (who_leaves_is_gone k uid user)) in
-    let now = states_before t m uid (Some Gone) put (is_user k.users) s.names s.stored.states in
-    let after = drops (record { users = is_user k.users; names = s.names }) now (λ w e. listed_is_named uid w ∙ none w (sym (s.stored.worlds w) ∙ e)) in
+    let after = without_him t m u uid put drops name a h in
     record {
       names = s.names;
       tuples = s.tuples;
@@ -266,6 +317,12 @@ user_leaves t m u uid put drops outside name a h =
           (user_gone t k.users uid user (s.stored.states.numbers uid user) s.stored.users)
           (states_as (without_one_user (is_user k.users) uid) (is_user left) s.names u (λ i. sym (others_are_users k uid i user)) after) outside;
     }
+
+pub leave_keeps : (t m u : Tables) (uid : ℕ) → m ≡ tables.insert t (place user_codec uid) (user_codec.row_bytes Gone) → DropsUser m u uid → SameOutside 9 10 m u → SomeMayLeave t uid → SameNumbers t u
+leave_keeps t m u uid put drops outside h =
+    let users = is_user h.some.base.catalog.users in
+    let s = h.some.may.stored in
+    same_by_user t m u uid (Some Gone) users (without_one_user users uid) s.names put outside s.stored.states (without_him t m u uid put drops h.name h.some.base h.some.may)
 
 -- ---- how often is written
 

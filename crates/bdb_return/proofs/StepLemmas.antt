@@ -18,6 +18,7 @@ use Rattle.bdb_undo.specs.declared.change.Named.{Named}
 use Rattle.bdb_undo.specs.declared.change.Named.TheVariants.{Nothing, UserAdded, RelationAdded, UserDropped}
 use Rattle.bdb_undo.proofs.StatementLemmas.{exchanged, left_is_valid_after}
 use Rattle.bdb_update.specs.Calls.{StoresSized, are_apart, of_stmts, without_statements}
+use Rattle.bdb_update.specs.Keeping.{SameNumbers}
 use Rattle.bdb_update.specs.Replacing.{Come, Go, MayCome, MayGo, SomeMayCome, SomeMayGo}
 use Rattle.bdb_update.specs.Steps.{ComesThrough, GoesThrough}
 use Rattle.bdb_update.proofs.LengthLemmas.{counts_stay}
@@ -179,23 +180,30 @@ module _ (t : Tables) (counts : Counts) (c : Change) where
 -- ---- how often is written
 
 pub back_through : (old left named new : Seen) (counts mid : Counts) (c : Change) → Go old.kept left.kept counts mid c.come → LosesName left.kept named.kept c.named
-    → GoesThrough counts c.come old left → WritesLoss left named c.named → ComesThrough mid c.gone named new → BackThrough counts c old new
-back_through old left named new counts mid c went loses goes name comes a b h =
+    → GoesThrough counts c.come old left → WritesLoss left named c.named → SameNumbers left.kept named.kept → ComesThrough mid c.gone named new → BackThrough counts c old new
+back_through old left named new counts mid c went loses goes name keeps comes a b h =
     let middle = base_of a.catalog (without_statements b.stmts c.come) in
+    let there = back_come old.kept counts c left.kept mid went named.kept loses a b h in
     record {
       left = left;
       named = named;
       gone = goes b (back_go old.kept counts c a b h);
       name = name middle (back_name old.kept counts c left.kept mid went a b h);
-      come = comes middle (back_come old.kept counts c left.kept mid went named.kept loses a b h);
+      stored = there.base.stored;
+      numbers = keeps;
+      come = comes middle there;
     }
 
 pub forth_through : (old left named new : Seen) (counts mid : Counts) (c : Change) → Go old.kept left.kept counts mid c.gone → GetsName left.kept named.kept c.named
-    → GoesThrough counts c.gone old left → WritesGain left named c.named → ComesThrough mid c.come named new → ForthThrough counts c old new
-forth_through old left named new counts mid c went gets goes name comes a b h = record {
-  left = left;
-  named = named;
-  gone = goes a (forth_go old.kept counts c a b h);
-  name = name (base_of a.catalog (without_statements a.stmts c.gone)) (forth_name old.kept counts c left.kept mid went a b h);
-  come = comes (base_of b.catalog (without_statements a.stmts c.gone)) (forth_come old.kept counts c left.kept mid went named.kept gets a b h);
-}
+    → GoesThrough counts c.gone old left → WritesGain left named c.named → SameNumbers left.kept named.kept → ComesThrough mid c.come named new → ForthThrough counts c old new
+forth_through old left named new counts mid c went gets goes name keeps comes a b h =
+    let there = forth_come old.kept counts c left.kept mid went named.kept gets a b h in
+    record {
+      left = left;
+      named = named;
+      gone = goes a (forth_go old.kept counts c a b h);
+      name = name (base_of a.catalog (without_statements a.stmts c.gone)) (forth_name old.kept counts c left.kept mid went a b h);
+      stored = there.base.stored;
+      numbers = keeps;
+      come = comes (base_of b.catalog (without_statements a.stmts c.gone)) there;
+    }

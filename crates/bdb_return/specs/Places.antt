@@ -7,6 +7,7 @@ use Rattle.bdb_keep.specs.Seen.{Seen}
 use Rattle.bdb_keep.specs.Tables.{Tables}
 use Rattle.bdb_tables.specs.Stored.{Stores}
 use Rattle.bdb_undo.specs.declared.change.Named.TheVariants.{UserAdded, RelationAdded}
+use Rattle.bdb_update.specs.Keeping.{SameNumbers}
 use Rattle.bdb_return.specs.Naming.{MayLoseName}
 
 -- where the user of a number was added last, whatever his name, the tables store the base before him
@@ -16,6 +17,10 @@ LosesPlace t u uid = (name : List ℕ) (a : Contents) → uid ≡ length a.catal
 -- two writes were then made for each world, and one
 abbrev pub WritesPlace : Seen → Seen → ℕ → Type 0
 WritesPlace old new uid = (name : List ℕ) (a : Contents) → uid ≡ length a.catalog.users + 1 → MayLoseName old.kept (UserAdded name) a → Rises (2 * world_count a.stmts + 1) old.writes new.writes
+
+-- numbers of worlds and of tuples then stand for what they stood for
+abbrev pub PlaceKeeps : Tables → Tables → ℕ → Type 0
+PlaceKeeps t u uid = (name : List ℕ) (a : Contents) → uid ≡ length a.catalog.users + 1 → MayLoseName t (UserAdded name) a → SameNumbers t u
 
 -- where the relation of a number was added last, whatever its definition, the tables store the base before it
 abbrev pub LosesRelation : Tables → Tables → ℕ → Type 0

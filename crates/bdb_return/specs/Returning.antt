@@ -6,10 +6,12 @@ use Rattle.bdb_base.specs.declared.kinds.Stmt.{Stmt}
 use Rattle.bdb_canon.specs.declared.sizes.Counts.{Counts}
 use Rattle.bdb_keep.specs.Seen.{Seen}
 use Rattle.bdb_keep.specs.Tables.{Tables}
+use Rattle.bdb_tables.specs.Stored.{Stores}
 use Rattle.bdb_undo.specs.Changes.{Leads}
 use Rattle.bdb_undo.specs.declared.change.Change.{Change}
 use Rattle.bdb_undo.specs.declared.change.Named.{Named}
 use Rattle.bdb_update.specs.Calls.{StoresSized, without_statements}
+use Rattle.bdb_update.specs.Keeping.{SameNumbers}
 use Rattle.bdb_update.specs.Steps.{WritesThrough, steps_with, steps_without}
 use Rattle.bdb_return.specs.Naming.{name_writes}
 
@@ -20,12 +22,15 @@ abbrev pub base_between : Contents → Contents → List Stmt → Contents
 base_between from to out = record { catalog = to.catalog; stmts = without_statements from.stmts out }
 
 -- The statements that go are taken away one after the other, each with as many writes as are told of taking it away by itself.
--- Then the name is written. Then the statements that come are added, each with as many writes as are told of adding it by itself.
+-- Then the name is written: the tables store the base in the middle, and numbers of worlds and of tuples stand for the same as before.
+-- Then the statements that come are added, each with as many writes as are told of adding it by itself.
 pub record WritesBetween (n : Named) (from to : Contents) (out inn : List Stmt) (old new : Seen) : Type 0 where
   pub left : Seen
   pub named : Seen
   pub gone : WritesThrough old (steps_without from out) left
   pub name : Rises (name_writes n (world_count (without_statements from.stmts out))) left.writes named.writes
+  pub stored : Stores named.kept (base_between from to out)
+  pub numbers : SameNumbers left.kept named.kept
   pub come : WritesThrough named (steps_with (base_between from to out) inn) new
 
 -- ---- back

@@ -2,6 +2,7 @@
 ghost use Rattle.std.specs.Prelude.{◌≡◌, true, OnOk};
 ghost use Rattle.bdb_return.specs.Naming.{GetsName, LosesLastRelation, LosesName, SomeMayGetName, SomeMayLoseName, SomeRelationIsLast, WritesGain, WritesLastRelation, WritesLoss};
 ghost use Rattle.bdb_undo.specs.declared.change.Named.TheVariants.{RelationAdded, UserAdded};
+ghost use Rattle.bdb_update.specs.Keeping.{SameNumbers};
 ghost use Rattle.bdb_val.specs.Steps.{IsChanging};
 
 use crate::numbers::{next_relation, next_user};
@@ -14,12 +15,13 @@ use bdb_undo::Named;
 use std::alloc::Global;
 
 /// Takes away the user or the relation that a change added last, or lets the user who left come back. The statements are those
-/// that stand before the change and after it.
+/// that stand before the change and after it. Worlds and tuples keep their numbers.
 pub fn name_back<K: Keeper>(alloc: Global, keeper: &mut K, named: &Named) -> Result<(), TabError>
     requires running { (K.seen keeper.old).running ≡ true }
     requires base { SomeMayLoseName (K.seen keeper.old).kept named.now }
     ensures back { OnOk result (LosesName (K.seen keeper.old).kept (K.seen keeper.new).kept named.now) }
     ensures writes { OnOk result (WritesLoss (K.seen keeper.old) (K.seen keeper.new) named.now) }
+    ensures keeps { OnOk result (SameNumbers (K.seen keeper.old).kept (K.seen keeper.new).kept) }
     ensures changing { IsChanging (K.seen keeper.old) (K.seen keeper.new) result TabError.Fault }
 {
     match named {
@@ -40,12 +42,13 @@ pub fn name_back<K: Keeper>(alloc: Global, keeper: &mut K, named: &Named) -> Res
 }
 
 /// Adds the user or the relation that a change added, or lets the user leave who left. The statements are those that stand
-/// before the change and after it.
+/// before the change and after it. Worlds and tuples keep their numbers.
 pub fn name_forth<K: Keeper>(alloc: Global, keeper: &mut K, named: &Named) -> Result<(), TabError>
     requires running { (K.seen keeper.old).running ≡ true }
     requires base { SomeMayGetName (K.seen keeper.old).kept named.now }
     ensures forth { OnOk result (GetsName (K.seen keeper.old).kept (K.seen keeper.new).kept named.now) }
     ensures writes { OnOk result (WritesGain (K.seen keeper.old) (K.seen keeper.new) named.now) }
+    ensures keeps { OnOk result (SameNumbers (K.seen keeper.old).kept (K.seen keeper.new).kept) }
     ensures changing { IsChanging (K.seen keeper.old) (K.seen keeper.new) result TabError.Fault }
 {
     match named {
@@ -71,6 +74,7 @@ fn add_last_user<K: Keeper>(alloc: Global, keeper: &mut K, name: &Txt) -> Result
     requires base { SomeMayGetName (K.seen keeper.old).kept (UserAdded name.now) }
     ensures added { OnOk result (GetsName (K.seen keeper.old).kept (K.seen keeper.new).kept (UserAdded name.now)) }
     ensures writes { OnOk result (WritesGain (K.seen keeper.old) (K.seen keeper.new) (UserAdded name.now)) }
+    ensures keeps { OnOk result (SameNumbers (K.seen keeper.old).kept (K.seen keeper.new).kept) }
     ensures changing { IsChanging (K.seen keeper.old) (K.seen keeper.new) result TabError.Fault }
 {
     let uid = match next_user(alloc, keeper) {
@@ -89,6 +93,7 @@ fn add_last_relation<K: Keeper>(alloc: Global, keeper: &mut K, def: &RelDef) -> 
     requires base { SomeMayGetName (K.seen keeper.old).kept (RelationAdded def.now) }
     ensures added { OnOk result (GetsName (K.seen keeper.old).kept (K.seen keeper.new).kept (RelationAdded def.now)) }
     ensures writes { OnOk result (WritesGain (K.seen keeper.old) (K.seen keeper.new) (RelationAdded def.now)) }
+    ensures keeps { OnOk result (SameNumbers (K.seen keeper.old).kept (K.seen keeper.new).kept) }
     ensures changing { IsChanging (K.seen keeper.old) (K.seen keeper.new) result TabError.Fault }
 {
     let rel = match next_relation(alloc, keeper) {
@@ -107,6 +112,7 @@ fn drop_last_relation<K: Keeper>(alloc: Global, keeper: &mut K) -> Result<(), Ta
     requires base { SomeRelationIsLast (K.seen keeper.old).kept }
     ensures lost { OnOk result (LosesLastRelation (K.seen keeper.old).kept (K.seen keeper.new).kept) }
     ensures writes { OnOk result (WritesLastRelation (K.seen keeper.old) (K.seen keeper.new)) }
+    ensures keeps { OnOk result (SameNumbers (K.seen keeper.old).kept (K.seen keeper.new).kept) }
     ensures changing { IsChanging (K.seen keeper.old) (K.seen keeper.new) result TabError.Fault }
 {
     let next = match next_relation(alloc, keeper) {

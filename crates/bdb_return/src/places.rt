@@ -7,11 +7,12 @@ ghost use Rattle.bdb_keep.specs.Calls.{IsWrite};
 ghost use Rattle.bdb_key.specs.Grammar.{IsPlain};
 ghost use Rattle.bdb_return.specs.Naming.{Leaves, LosesLastUser, LosesName, SomeMayLeave, SomeMayLoseName, SomeUserIsLast, WritesLastUser, WritesLeave, WritesLoss};
 ghost use Rattle.bdb_return.specs.Numbers.{StoreAny};
-ghost use Rattle.bdb_return.specs.Places.{LosesPlace, WritesPlace};
+ghost use Rattle.bdb_return.specs.Places.{LosesPlace, PlaceKeeps, WritesPlace};
 ghost use Rattle.bdb_tables.specs.Codec.{place};
 ghost use Rattle.bdb_tables.specs.Grammar.{InGrammar};
 ghost use Rattle.bdb_tables.specs.InUse.{user_codec};
 ghost use Rattle.bdb_undo.specs.declared.change.Named.TheVariants.{UserDropped};
+ghost use Rattle.bdb_update.specs.Keeping.{SameNumbers};
 ghost use Rattle.bdb_val.specs.Steps.{IsChanging};
 
 use crate::numbers::next_user;
@@ -28,6 +29,7 @@ pub fn drop_last_user<K: Keeper>(alloc: Global, keeper: &mut K) -> Result<(), Ta
     requires base { SomeUserIsLast (K.seen keeper.old).kept }
     ensures lost { OnOk result (LosesLastUser (K.seen keeper.old).kept (K.seen keeper.new).kept) }
     ensures writes { OnOk result (WritesLastUser (K.seen keeper.old) (K.seen keeper.new)) }
+    ensures keeps { OnOk result (SameNumbers (K.seen keeper.old).kept (K.seen keeper.new).kept) }
     ensures changing { IsChanging (K.seen keeper.old) (K.seen keeper.new) result TabError.Fault }
 {
     let next = match next_user(alloc, keeper) {
@@ -46,6 +48,7 @@ fn drop_place<K: Keeper>(alloc: Global, keeper: &mut K, last: u32) -> Result<(),
     requires base { StoreAny (K.seen keeper.old).kept }
     ensures lost { OnOk result (LosesPlace (K.seen keeper.old).kept (K.seen keeper.new).kept last) }
     ensures writes { OnOk result (WritesPlace (K.seen keeper.old) (K.seen keeper.new) last) }
+    ensures keeps { OnOk result (PlaceKeeps (K.seen keeper.old).kept (K.seen keeper.new).kept last) }
     ensures changing { IsChanging (K.seen keeper.old) (K.seen keeper.new) result TabError.Fault }
 {
     match drop_row::<UserTab, K>(alloc, keeper, &last) {
@@ -70,6 +73,7 @@ pub fn revive_user<K: Keeper>(
     requires base { SomeMayLoseName (K.seen keeper.old).kept (UserDropped uid name.now) }
     ensures back { OnOk result (LosesName (K.seen keeper.old).kept (K.seen keeper.new).kept (UserDropped uid name.now)) }
     ensures writes { OnOk result (WritesLoss (K.seen keeper.old) (K.seen keeper.new) (UserDropped uid name.now)) }
+    ensures keeps { OnOk result (SameNumbers (K.seen keeper.old).kept (K.seen keeper.new).kept) }
     ensures changing { IsChanging (K.seen keeper.old) (K.seen keeper.new) result TabError.Fault }
 {
     match put_live(alloc, keeper, uid, name) {
@@ -119,6 +123,7 @@ pub fn leave_place<K: Keeper>(alloc: Global, keeper: &mut K, uid: u32) -> Result
     requires base { SomeMayLeave (K.seen keeper.old).kept uid }
     ensures left { OnOk result (Leaves (K.seen keeper.old).kept (K.seen keeper.new).kept uid) }
     ensures writes { OnOk result (WritesLeave (K.seen keeper.old) (K.seen keeper.new) uid) }
+    ensures keeps { OnOk result (SameNumbers (K.seen keeper.old).kept (K.seen keeper.new).kept) }
     ensures changing { IsChanging (K.seen keeper.old) (K.seen keeper.new) result TabError.Fault }
 {
     match put::<UserTab, K>(alloc, keeper, &uid, &UserSlot::Gone) {

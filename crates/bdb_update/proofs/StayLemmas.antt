@@ -1,18 +1,22 @@
 -- Numbers of worlds and of tuples through all steps of a change.
 use Rattle.std.proofs.Common.{◌≡◌, ◌∙◌, ℕ, Bool, false, nat_eq, cond, take, suc, List, [], ◌∷◌, length, Option, Some, is_some, refl, ap, sym, subst, arith}
+use Rattle.std.specs.FinMap as tables
+use Rattle.bdb_base.specs.declared.kinds.RelDef.{RelDef}
+use Rattle.bdb_base.specs.declared.kinds.UserSlot.{UserSlot}
 use Rattle.bdb_keep.specs.Tables.{Tables}
 use Rattle.bdb_key.specs.Bytes.{num_bytes}
-use Rattle.bdb_names.proofs.NamedLemmas.{names_are_one}
-use Rattle.bdb_tables.specs.InUse.{led_codec}
+use Rattle.bdb_names.proofs.NamedLemmas.{named_path, names_are_one, path_is_told}
+use Rattle.bdb_tables.specs.InUse.{led_codec, rel_codec, user_codec}
 use Rattle.bdb_tables.specs.Names.{Names, path_of, with_name}
-use Rattle.bdb_tables.specs.States.{IsNamed, IsNextWorld, root, next}
+use Rattle.bdb_tables.specs.States.{HoldsStates, IsNamed, IsNextWorld, root, next}
 use Rattle.bdb_tables.specs.Stored.{SameBut}
-use Rattle.bdb_tables.proofs.SameLemmas.{states_still}
+use Rattle.bdb_tables.specs.Writes.{with_change}
+use Rattle.bdb_tables.proofs.SameLemmas.{change_same, states_still}
 use Rattle.bdb_worlds.specs.Growth.{AddsStates, AreLeast, SameOutside, with_prefixes}
 use Rattle.bdb_base.specs.declared.kinds.Stmt.{Stmt}
 use Rattle.bdb_update.specs.ChangeLaws.{is_of_worlds}
 use Rattle.bdb_update.specs.Joining.{SomeMayJoin, is_of_tuples}
-use Rattle.bdb_update.specs.Keeping.{KeepsNames, KeepsTuples, KeepsNumbers, TakesLeastNames}
+use Rattle.bdb_update.specs.Keeping.{KeepsNames, KeepsTuples, KeepsNumbers, SameNumbers, TakesLeastNames}
 use Rattle.bdb_update.proofs.ArriveLemmas.{grown}
 use Rattle.bdb_update.proofs.InsertLemmas.{same_back}
 use Rattle.bdb_update.proofs.KeepLemmas.{kept_back, kept_by_same}
@@ -113,3 +117,36 @@ keeps_same t u e = subst (KeepsNumbers t) (sym e) (record { worlds = λ n w x. x
 
 pub keeps_then : (t u v : Tables) → KeepsNumbers t u → KeepsNumbers u v → KeepsNumbers t v
 keeps_then t u v a b = record { worlds = λ n w x. b.worlds n w (a.worlds n w x); tuples = λ k r e. b.tuples k r (a.tuples k r e) }
+
+-- ---- the catalog changes
+
+pub same_itself : (t : Tables) → SameNumbers t t
+same_itself t = record { forth = keeps_same t t refl; back = keeps_same t t refl }
+
+-- neither depths of worlds, nor the edges turned round, nor tuples have changed
+same_by_rows : (test : ℕ → Bool) (t u : Tables) → test 4 ≡ false → test 6 ≡ false → test 10 ≡ false → SameBut test t u → SameNumbers t u
+same_by_rows test t u tuples depths turned same = record {
+  forth = record { worlds = names_still test t u depths turned same; tuples = kept_by_same test t u tuples same };
+  back = record { worlds = names_still test u t depths turned (same_back test t u same); tuples = kept_back test t u tuples same };
+}
+
+-- worlds have the same names, whoever the users are, and tuples have not changed
+same_by_names : (users others : ℕ → Bool) (ns : Names) (t u : Tables) → HoldsStates users ns t → HoldsStates others ns u → ((k : List ℕ) → tables.get u (4 ∷ k) ≡ tables.get t (4 ∷ k)) → SameNumbers t u
+same_by_names users others ns t u h j same = record {
+  forth = record { worlds = λ n w x. path_is_told others ns u j n w (named_path users ns t h x); tuples = λ k r e. same k ∙ e };
+  back = record { worlds = λ n w x. path_is_told users ns t h n w (named_path others ns u j x); tuples = λ k r e. sym (same k) ∙ e };
+}
+
+-- the row of a relation comes or goes
+pub same_by_relation : (t : Tables) (rel : ℕ) (o : Option RelDef) → SameNumbers t (with_change rel_codec t (rel, o))
+same_by_relation t rel o =
+    let is_relations : ℕ → Bool = λ n. nat_eq n 3 in
+    same_by_rows is_relations t (with_change rel_codec t (rel, o)) refl refl refl (change_same rel_codec is_relations t (rel, o) refl)
+
+-- the row of a user changes, and then edges, and worlds have the same names
+pub same_by_user : (t m u : Tables) (uid : ℕ) (o : Option UserSlot) (users others : ℕ → Bool) (ns : Names) → m ≡ with_change user_codec t (uid, o) → SameOutside 9 10 m u
+    → HoldsStates users ns t → HoldsStates others ns u → SameNumbers t u
+same_by_user t m u uid o users others ns put edges h j =
+    let is_users : ℕ → Bool = λ n. nat_eq n 2 in
+    let row : SameBut is_users t m = subst (SameBut is_users t) (sym put) (change_same user_codec is_users t (uid, o) refl) in
+    same_by_names users others ns t u h j (λ k. edges 4 k refl ∙ row 4 k refl)

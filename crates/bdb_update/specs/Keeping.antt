@@ -29,6 +29,11 @@ pub record KeepsNumbers (t u : Tables) : Type 0 where
   pub worlds : KeepsNames t u
   pub tuples : KeepsTuples t u
 
+-- numbers of worlds and of tuples stand for the same in both
+pub record SameNumbers (t u : Tables) : Type 0 where
+  pub forth : KeepsNumbers t u
+  pub back : KeepsNumbers u t
+
 -- ---- what comes
 
 -- Names are those of before and of the prefixes of a path, from the one with a user more than `stood` on. These have the

@@ -1,3 +1,6 @@
+use Rattle.std.proofs.Common.{subst}
+use Rattle.bdb_keep.specs.Tables.{Tables}
+use Rattle.bdb_update.specs.Keeping.{SameNumbers}
 use Rattle.bdb_return.proofs.NameLemmas.{relation_got, relation_got_written, some_add_relation}
 use Rattle.bdb_return.proofs.naming.add_last_relation.Goals as goal
 
@@ -14,3 +17,7 @@ pub returns-in-Ok-add_relation-clause-writes : goal.returns-in-Ok-add_relation-c
 returns-in-Ok-add_relation-clause-writes g c =
     relation_got_written (g.K.Keeper.seen c.args.keeper.now) (g.K.Keeper.seen c.next_relation.new.keeper) (g.K.Keeper.seen c.add_relation.new.keeper) c.args.def.now
     c.in-Ok.ensures.read.writes c.in-Ok-add_relation.ensures.writes
+
+pub returns-in-Ok-add_relation-clause-keeps : goal.returns-in-Ok-add_relation-clause-keeps
+returns-in-Ok-add_relation-clause-keeps g c =
+    subst (λ (t : Tables). SameNumbers t (g.K.Keeper.seen c.add_relation.new.keeper).kept) c.in-Ok.ensures.read.kept c.in-Ok-add_relation.ensures.keeps

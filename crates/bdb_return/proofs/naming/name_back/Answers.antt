@@ -1,4 +1,5 @@
 use Rattle.std.proofs.Common.{refl, subst}
+use Rattle.bdb_update.proofs.StayLemmas.{same_itself}
 use Rattle.bdb_return.specs.Naming.{SomeMayLoseName}
 use Rattle.bdb_return.proofs.NameLemmas.{nothing_lost, nothing_lost_written, relation_lost_written, some_relation_last, some_user_last, user_lost_written}
 use Rattle.bdb_return.proofs.naming.name_back.Goals as goal
@@ -31,3 +32,6 @@ returns-in-Ok-clause-writes g c =
 pub returns-in-Ok-drop_last_relation-clause-writes : goal.returns-in-Ok-drop_last_relation-clause-writes
 returns-in-Ok-drop_last_relation-clause-writes g c =
     relation_lost_written (g.K.Keeper.seen c.args.keeper.now) (g.K.Keeper.seen c.drop_last_relation.new.keeper) c.args.named.now _ c.in-RelationAdded.is c.in-Ok-drop_last_relation.ensures.writes
+
+pub returns-in-Nothing-clause-keeps : goal.returns-in-Nothing-clause-keeps
+returns-in-Nothing-clause-keeps g c = same_itself (g.K.Keeper.seen c.args.keeper.now).kept

@@ -1,4 +1,5 @@
 use Rattle.std.proofs.Common.{refl, subst}
+use Rattle.bdb_update.proofs.StayLemmas.{same_itself}
 use Rattle.bdb_return.specs.Naming.{SomeMayGetName}
 use Rattle.bdb_return.proofs.NameLemmas.{nothing_got, nothing_got_written, some_leaves, user_left, user_left_written}
 use Rattle.bdb_return.proofs.naming.name_forth.Goals as goal
@@ -29,3 +30,6 @@ returns-in-Nothing-clause-writes g c =
 pub returns-in-Ok-leave_place-clause-writes : goal.returns-in-Ok-leave_place-clause-writes
 returns-in-Ok-leave_place-clause-writes g c =
     user_left_written (g.K.Keeper.seen c.args.keeper.now) (g.K.Keeper.seen c.leave_place.new.keeper) c.args.named.now _ _ c.in-UserDropped.is c.in-Ok-leave_place.ensures.writes
+
+pub returns-in-Nothing-clause-keeps : goal.returns-in-Nothing-clause-keeps
+returns-in-Nothing-clause-keeps g c = same_itself (g.K.Keeper.seen c.args.keeper.now).kept

@@ -1,4 +1,4 @@
-use Rattle.bdb_return.proofs.PlaceLemmas.{any_grammar, place_lost, place_written}
+use Rattle.bdb_return.proofs.PlaceLemmas.{any_grammar, place_keeps, place_lost, place_written}
 use Rattle.bdb_return.proofs.places.drop_place.Goals as goal
 
 pub drop_user_edges-requires-clause-grammar : goal.drop_user_edges-requires-clause-grammar
@@ -13,3 +13,8 @@ pub returns-in-Ok-drop_user_edges-clause-writes : goal.returns-in-Ok-drop_user_e
 returns-in-Ok-drop_user_edges-clause-writes g c =
     place_written (g.K.Keeper.seen c.args.keeper.now) (g.K.Keeper.seen c.drop_row.new.keeper) (g.K.Keeper.seen c.drop_user_edges.new.keeper) c.args.last
     c.in-Ok.ensures.kept c.in-Ok-drop_user_edges.ensures.counts.writes c.in-Ok.ensures.writes c.in-Ok-drop_user_edges.ensures.writes
+
+pub returns-in-Ok-drop_user_edges-clause-keeps : goal.returns-in-Ok-drop_user_edges-clause-keeps
+returns-in-Ok-drop_user_edges-clause-keeps g c =
+    place_keeps (g.K.Keeper.seen c.args.keeper.now).kept _ (g.K.Keeper.seen c.drop_user_edges.new.keeper).kept c.args.last
+    c.in-Ok.ensures.kept c.in-Ok-drop_user_edges.ensures.dropped c.in-Ok-drop_user_edges.ensures.others

@@ -1,6 +1,6 @@
 use Rattle.std.proofs.Common.{rules}
 use Rattle.bdb_key.specs.Grammar.{IsNum}
-use Rattle.bdb_return.proofs.PlaceLemmas.{any_grammar, back_written, left_stored, name_is_plain, user_is_back}
+use Rattle.bdb_return.proofs.PlaceLemmas.{any_grammar, back_keeps, back_written, left_stored, name_is_plain, user_is_back}
 use Rattle.bdb_return.proofs.places.revive_user.Goals as goal
 
 pub put_live-requires-clause-plain : goal.put_live-requires-clause-plain
@@ -22,3 +22,8 @@ pub returns-in-Ok-add_user_edges-clause-writes : goal.returns-in-Ok-add_user_edg
 returns-in-Ok-add_user_edges-clause-writes g c =
     back_written (g.K.Keeper.seen c.args.keeper.now) (g.K.Keeper.seen c.put_live.new.keeper) (g.K.Keeper.seen c.add_user_edges.new.keeper) c.args.uid c.args.name.now
     c.in-Ok.ensures.kept c.in-Ok-add_user_edges.ensures.counts.writes c.in-Ok.ensures.writes c.in-Ok-add_user_edges.ensures.writes
+
+pub returns-in-Ok-add_user_edges-clause-keeps : goal.returns-in-Ok-add_user_edges-clause-keeps
+returns-in-Ok-add_user_edges-clause-keeps g c =
+    back_keeps (g.K.Keeper.seen c.args.keeper.now).kept (g.K.Keeper.seen c.put_live.new.keeper).kept (g.K.Keeper.seen c.add_user_edges.new.keeper).kept c.args.uid c.args.name.now
+    c.in-Ok.ensures.kept c.in-Ok-add_user_edges.ensures.added c.in-Ok-add_user_edges.ensures.others c.requires.base

@@ -49,4 +49,4 @@ returns-in-Ok-add_statements-clause-steps g c =
     let went = subst (λ (xs : List Stmt). Go old.kept left.kept c.args.counts.now mid xs) c.as_slice.ensures c.in-Ok.ensures.gone in
     let goes = subst (λ (xs : List Stmt). GoesThrough c.args.counts.now xs old left) c.as_slice.ensures c.in-Ok.ensures.steps in
     let comes = subst (λ (xs : List Stmt). ComesThrough mid xs named new) c.as_slice-2.ensures c.in-Ok-add_statements.ensures.steps in
-    back_through old left named new c.args.counts.now mid c.args.change.now went c.in-Ok-name_back.ensures.back goes c.in-Ok-name_back.ensures.writes comes
+    back_through old left named new c.args.counts.now mid c.args.change.now went c.in-Ok-name_back.ensures.back goes c.in-Ok-name_back.ensures.writes c.in-Ok-name_back.ensures.keeps comes
