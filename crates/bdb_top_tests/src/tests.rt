@@ -1,23 +1,22 @@
-// Scripts and their replies, over a source, a sink and a keeper in memory.
-ghost use Rattle.std.specs.Prelude.{◌≡◌, false};
+// Runs and what they leave, over a source, a sink and a keeper in memory.
+ghost use Rattle.std.specs.Prelude.{◌≡◌, false, IfOk};
 
 mod checking;
-mod crowd;
 mod faults;
 mod formats;
 mod jobs;
 mod leaving;
 mod limits;
+mod made;
 mod queries;
 mod reading;
-mod replies;
 mod sessions;
 mod undoing;
 mod why;
 
 use bdb_base::{List, Txt};
 use bdb_io::{MemSink, MemSource};
-use bdb_keep::{Keeper, MemKeeper, QuietKeeper};
+use bdb_keep::{Keeper, MemKeeper};
 use bdb_top::run;
 use std::alloc::Global;
 use std::test::Fail;
@@ -29,9 +28,38 @@ pub(crate) const SETUP: &str =
 /// How many bytes of replies a sink of these tests takes.
 const ROOM: usize = 2_000_000;
 
-fn words(alloc: Global) -> Result<List<Txt>, Fail> {
+/// What runs left: the status of the last one, what was written, and the keeper.
+#[derive(Drop)]
+struct Left {
+    status: u8,
+    out: MemSink,
+    keeper: MemKeeper,
+}
+
+impl Left {
+    /// A keeper over which there was no run, and of which these calls fail.
+    fn new(alloc: Global, fails: &[u32]) -> Result<Self, Fail>
+        ensures idle { IfOk result (λ left. left.keeper.seen.running ≡ false) }
+    {
+        Ok(Left {
+            status: 0,
+            out: sink(alloc)?,
+            keeper: MemKeeper::new(alloc, listed(alloc, fails)?),
+        })
+    }
+
+    /// Whether the last run ended so, and this was written.
+    fn is_told(&self, replies: &str, status: u8) -> bool {
+        self.status == status && self.out.bytes() == replies.as_bytes()
+    }
+}
+
+/// The words of a line.
+fn words_of(alloc: Global, line: &str) -> Result<List<Txt>, Fail> {
     let mut words = List::new(alloc);
-    words.push(Txt::try_new(alloc, "run")?)?;
+    for word in line.split_whitespace() {
+        words.push(Txt::try_new(alloc, word)?)?;
+    }
     Ok(words)
 }
 
@@ -48,6 +76,21 @@ pub(crate) fn sink(alloc: Global) -> Result<MemSink, Fail> {
     Ok(MemSink::new(alloc, List::new(alloc), 0, ROOM)?)
 }
 
+/// The status of the words of a line over a source and a keeper.
+fn ran_words<K: Keeper>(
+    alloc: Global,
+    line: &str,
+    source: &mut MemSource,
+    out: &mut MemSink,
+    keeper: &mut K,
+) -> Result<u8, Fail>
+    requires idle { (K.seen keeper.old).running ≡ false }
+    ensures idle { (K.seen keeper.new).running ≡ false }
+{
+    let words = words_of(alloc, line)?;
+    Ok(run(alloc, words.as_slice(), source, out, keeper))
+}
+
 /// The status of a script, read 7 bytes at a time, over a keeper.
 pub(crate) fn ran<K: Keeper>(
     alloc: Global,
@@ -62,57 +105,36 @@ pub(crate) fn ran<K: Keeper>(
     for part in script {
         text.extend_from_slice(part.as_bytes())?;
     }
-    let words = words(alloc)?;
     let mut source = MemSource::new(text, 7, List::new(alloc));
-    Ok(run(alloc, words.as_slice(), &mut source, out, keeper))
+    ran_words(alloc, "run", &mut source, out, keeper)
 }
 
-/// The status, the replies and the keeper of a script over a keeper that never fails.
-fn ran_quietly(alloc: Global, script: &[&str]) -> Result<(u8, MemSink, QuietKeeper), Fail> {
-    let mut keeper = QuietKeeper::new(alloc);
-    let mut out = sink(alloc)?;
-    let status = ran(alloc, script, &mut out, &mut keeper)?;
-    Ok((status, out, keeper))
+/// What a script leaves over a keeper of which these calls fail.
+fn ran_failing(alloc: Global, script: &[&str], fails: &[u32]) -> Result<Left, Fail>
+    ensures idle { IfOk result (λ left. left.keeper.seen.running ≡ false) }
+{
+    let mut left = Left::new(alloc, fails)?;
+    left.status = ran(alloc, script, &mut left.out, &mut left.keeper)?;
+    Ok(left)
 }
 
-/// The status of a script over what another left, with the replies to both, and how often both committed.
-fn ran_again(alloc: Global, first: &[&str], next: &[&str]) -> Result<(u8, MemSink, u64), Fail> {
-    let mut keeper = QuietKeeper::new(alloc);
-    let mut out = sink(alloc)?;
-    ran(alloc, first, &mut out, &mut keeper)?;
-    let status = ran(alloc, next, &mut out, &mut keeper)?;
-    Ok((status, out, keeper.commits()))
+/// What a script leaves over a keeper that doesn't fail.
+fn ran_quietly(alloc: Global, script: &[&str]) -> Result<Left, Fail>
+    ensures idle { IfOk result (λ left. left.keeper.seen.running ≡ false) }
+{
+    ran_failing(alloc, script, &[])
 }
 
-/// The status, the replies and the keeper of a script over a keeper that fails these calls.
-fn ran_failing(
-    alloc: Global,
-    script: &[&str],
-    fails: &[u32],
-    mut out: MemSink,
-) -> Result<(u8, MemSink, MemKeeper), Fail> {
-    let mut keeper = MemKeeper::new(alloc, listed(alloc, fails)?);
-    let status = ran(alloc, script, &mut out, &mut keeper)?;
-    Ok((status, out, keeper))
+/// What the words of a line leave over a source.
+fn ran_from(alloc: Global, line: &str, source: &mut MemSource) -> Result<Left, Fail> {
+    let mut left = Left::new(alloc, &[])?;
+    left.status = ran_words(alloc, line, source, &mut left.out, &mut left.keeper)?;
+    Ok(left)
 }
 
-/// The status of these words over a source and a keeper without rows, and the replies.
-fn ran_from(alloc: Global, words: &[Txt], mut source: MemSource) -> Result<(u8, MemSink), Fail> {
-    let mut keeper = QuietKeeper::new(alloc);
-    let mut out = sink(alloc)?;
-    let status = run(alloc, words, &mut source, &mut out, &mut keeper);
-    Ok((status, out))
-}
-
-/// The status of a script that is read so many bytes at a time, by reads of which these fail, and the replies.
-fn ran_in_steps(
-    alloc: Global,
-    script: &[u8],
-    step: usize,
-    fails: &[u32],
-) -> Result<(u8, MemSink), Fail> {
-    let words = words(alloc)?;
+/// What a script leaves that is read so many bytes at a time, by reads of which these fail.
+fn ran_in_steps(alloc: Global, script: &[u8], step: usize, fails: &[u32]) -> Result<Left, Fail> {
     let text = Vec::from_slice(alloc, script)?;
-    let source = MemSource::new(text, step.max(1), listed(alloc, fails)?);
-    ran_from(alloc, words.as_slice(), source)
+    let mut source = MemSource::new(text, step.max(1), listed(alloc, fails)?);
+    ran_from(alloc, "run", &mut source)
 }

@@ -1,21 +1,14 @@
-// Runs over a keeper, a sink and a source that fail, and runs over what another left.
-use crate::tests::{ROOM, listed, ran_again, ran_failing, ran_in_steps, ran_quietly, sink};
+// Runs over a keeper, a sink and a source that fail.
+use crate::tests::{Left, ROOM, listed, ran, ran_failing, ran_in_steps, ran_quietly};
 use bdb_base::List;
 use bdb_io::MemSink;
-use bdb_keep::{MemKeeper, QuietKeeper};
+use bdb_keep::MemKeeper;
 use std::alloc::Global;
 use std::test::Fail;
 
-/// The same, and an insert, a command each.
-const COMMANDS: [&str; 4] = [
-    "create user 'Alice';",
-    "create user 'Bob';",
-    "create relation S(k text, v text);",
-    "insert into S values('s1','eagle');",
-];
-
-/// The replies to these commands.
-const REPLIES: &[u8] = b"ok\nok\nok\nok 1\n";
+/// Two users, a relation and an insert, and a word of a command that doesn't end.
+const COMMANDS: &str =
+    "create user 'Alice';create user 'Bob';create relation S(k text, v text);insert into S values('s1','eagle');show";
 
 /// The same users and relation, then worlds that come at depths of one to three, a refused change, a tuple that one of them
 /// inherits, a changed tuple, worlds that go, and a user who leaves. The first command of each entry is accepted, so it commits; what stands behind
@@ -38,44 +31,31 @@ const CHANGES_REPLIES: &str = "ok\nok\nok\n\
 ok 1\nerror clash + S('s1', 'crow')\nok 1\nok 1\nok 1\n\
 + S('s2', 'owl') inherited\nok 1\nok 1\nok 1\nerror user 'Bob'\n";
 
-#[test]
-fn a_script_without_a_command_makes_the_empty_base(rt: HostRuntime) -> Result<(), Fail> {
-    let alloc = rt.alloc();
-    let mut empty_base = QuietKeeper::new(alloc);
+/// Whether a keeper's rows are those of the empty base.
+fn has_empty_base(alloc: Global, keeper: &MemKeeper) -> Result<bool, Fail> {
+    let mut empty_base = MemKeeper::new(alloc, List::new(alloc));
     empty_base.preset(1, &[0, 0, 0, 0], &[0, 0, 0, 3])?;
     empty_base.preset(6, &[0, 0, 0, 0], &[0, 0, 0, 0])?;
-    let (status, out, keeper) = ran_quietly(alloc, &[])?;
-    assert_eq!(rt; status, 0);
-    assert_eq!(rt; out.bytes().len(), 0);
-    assert_eq!(rt; keeper.commits(), 1);
-    assert!(rt; keeper.same_rows(&empty_base));
-    Ok(())
+    Ok(keeper.same_rows(&empty_base))
 }
 
 #[test]
-fn runs_go_on_from_what_is_kept(rt: HostRuntime) -> Result<(), Fail> {
-    let alloc = rt.alloc();
-    let more = ["show world; create user 'Bob';"];
-    let (status, out, commits) = ran_again(alloc, &COMMANDS, &more)?;
-    assert_eq!(rt; status, 1);
-    assert_eq!(rt;
-        out.bytes().strip_prefix(REPLIES),
-        Some(b"+ S('s1', 'eagle') explicit\nok 1\nerror taken 'Bob'\n".as_slice())
-    );
-    assert_eq!(rt; commits, 6);
+fn a_script_without_a_command_makes_the_empty_base(rt: HostRuntime) -> Result<(), Fail> {
+    let left = ran_quietly(rt.alloc(), &[])?;
+    assert!(rt; left.is_told("", 0));
+    assert_eq!(rt; left.keeper.commits(), 1);
+    assert!(rt; has_empty_base(rt.alloc(), &left.keeper)?);
     Ok(())
 }
 
-/// A keeper over which the first of the changes were carried out, so many that it committed so often; the first commit is that
-/// of opening.
-fn kept_after(alloc: Global, commits: u64) -> Result<MemKeeper, Fail> {
+/// What the first of the changes leave, so many that the keeper committed so often; the first commit is that of opening.
+fn left_after(alloc: Global, commits: u64) -> Result<Left, Fail> {
     if commits == 0 {
-        return Ok(MemKeeper::new(alloc, List::new(alloc)));
+        return Left::new(alloc, &[]);
     }
     for count in 0..CHANGES.len() + 1 {
         if commits == (count as u64).saturating_add(1) {
-            let (_, _, keeper) = ran_failing(alloc, &CHANGES[..count], &[], sink(alloc)?)?;
-            return Ok(keeper);
+            return ran_quietly(alloc, &CHANGES[..count]);
         }
     }
     Err(Fail::new("there are more commits than changes"))
@@ -86,46 +66,68 @@ fn are_alike(keeper: &MemKeeper, other: &MemKeeper) -> bool {
     keeper.commits() == other.commits() && keeper.same_rows(other)
 }
 
+/// Whether a run of the changes was told all of their replies, or failed and was told the first of them.
+fn is_told_so_far(left: &Left) -> bool {
+    left.is_told(CHANGES_REPLIES, 1)
+        || left.status == 5 && CHANGES_REPLIES.as_bytes().starts_with(left.out.bytes())
+}
+
+/// The status of the changes where this call of the keeper fails; none where it leaves other rows or replies than the first of
+/// them do. What these leave is kept from call to call.
+fn ended_failing(alloc: Global, call: u32, expected: &mut Left) -> Result<Option<u8>, Fail> {
+    let left = ran_failing(alloc, &CHANGES, &[call])?;
+    if expected.keeper.commits() != left.keeper.commits() {
+        *expected = left_after(alloc, left.keeper.commits())?;
+    }
+    if are_alike(&expected.keeper, &left.keeper) && is_told_so_far(&left) {
+        Ok(Some(left.status))
+    } else {
+        Ok(None)
+    }
+}
+
 #[test]
 fn each_call_of_the_keeper_fails_once(rt: HostRuntime) -> Result<(), Fail> {
-    let alloc = rt.alloc();
-    let mut expected = kept_after(alloc, 0)?;
+    let mut expected = left_after(rt.alloc(), 0)?;
     for call in 1..10_000 {
-        let (status, out, keeper) = ran_failing(alloc, &CHANGES, &[call], sink(alloc)?)?;
-        if expected.commits() != keeper.commits() {
-            expected = kept_after(alloc, keeper.commits())?;
-        }
-        assert!(rt; are_alike(&expected, &keeper), "call {call}");
-        if status != 5 {
-            assert_eq!(rt; status, 1);
-            assert_eq!(rt; out.bytes(), CHANGES_REPLIES.as_bytes());
+        let status = ended_failing(rt.alloc(), call, &mut expected)?;
+        if status != Some(5) {
+            assert_eq!(rt; status, Some(1), "call {call}");
             assert!(rt; 60 < call, "call {call}");
             return Ok(());
         }
-        assert!(rt;
-            CHANGES_REPLIES.as_bytes().starts_with(out.bytes()),
-            "call {call}"
-        );
     }
     assert!(rt; false);
     Ok(())
 }
 
+/// What the changes leave where a write fails, of which the sink takes one byte.
+fn left_by_a_full_sink(alloc: Global) -> Result<Left, Fail> {
+    let mut left = Left {
+        status: 0,
+        out: MemSink::new(alloc, listed(alloc, &[4])?, 1, ROOM)?,
+        keeper: MemKeeper::new(alloc, List::new(alloc)),
+    };
+    left.status = ran(alloc, &CHANGES, &mut left.out, &mut left.keeper)?;
+    Ok(left)
+}
+
+/// Whether a keeper committed so often, and has the rows that the changes leave then.
+fn has_rows_after(alloc: Global, keeper: &MemKeeper, commits: u64) -> Result<bool, Fail> {
+    let expected = left_after(alloc, commits)?;
+    Ok(keeper.commits() == commits && are_alike(&expected.keeper, keeper))
+}
+
 #[test]
 fn a_fault_of_the_sink_ends_the_run(rt: HostRuntime) -> Result<(), Fail> {
-    let alloc = rt.alloc();
-    let out = MemSink::new(alloc, listed(alloc, &[4])?, 1, ROOM)?;
-    let (status, out, keeper) = ran_failing(alloc, &CHANGES, &[], out)?;
-    assert_eq!(rt; status, 4);
-    assert_eq!(rt; out.bytes(), b"ok\nok\nok\no".as_slice());
-    assert_eq!(rt; keeper.commits(), 5);
-    assert!(rt; are_alike(&kept_after(alloc, 5)?, &keeper));
+    let left = left_by_a_full_sink(rt.alloc())?;
+    assert!(rt; left.is_told("ok\nok\nok\no", 4));
+    assert!(rt; has_rows_after(rt.alloc(), &left.keeper, 5)?);
     Ok(())
 }
 
 #[test]
 fn a_fault_of_the_source_ends_the_run(rt: HostRuntime) -> Result<(), Fail> {
-    let alloc = rt.alloc();
     let cases = [
         (1, "", 3),
         (2, "ok\n", 3),
@@ -136,15 +138,9 @@ fn a_fault_of_the_source_ends_the_run(rt: HostRuntime) -> Result<(), Fail> {
         (7, "ok\nok\nok\nok 1\n", 3),
         (8, "ok\nok\nok\nok 1\nerror unfinished\n", 1),
     ];
-    let mut script = String::new(alloc);
-    for command in COMMANDS {
-        script.push_str(command)?;
-    }
-    script.push_str("show")?;
     for (read, replies, ends) in cases {
-        let (status, out) = ran_in_steps(alloc, script.as_str().as_bytes(), 20, &[read])?;
-        assert_eq!(rt; status, ends, "{read}");
-        assert_eq!(rt; out.bytes(), replies.as_bytes(), "{read}");
+        let left = ran_in_steps(rt.alloc(), COMMANDS.as_bytes(), 20, &[read])?;
+        assert!(rt; left.is_told(replies, ends), "{read}");
     }
     Ok(())
 }

@@ -1,12 +1,10 @@
 // Tables of the format before this one: a run writes them in this one.
 ghost use Rattle.std.specs.Prelude.{◌≡◌, false, IfOk};
 
-use crate::tests::jobs::words_of;
-use crate::tests::{SETUP, listed, ran, ran_failing, sink};
+use crate::tests::checking::checked;
+use crate::tests::{Left, SETUP, ran, ran_quietly};
 use bdb_base::List;
-use bdb_io::MemSource;
 use bdb_keep::MemKeeper;
-use bdb_top::run;
 use std::alloc::{AllocError, Global};
 use std::test::Fail;
 
@@ -100,95 +98,103 @@ fn preset_all(alloc: Global, rows: &[&str], keeper: &mut MemKeeper) -> Result<()
     Ok(())
 }
 
-/// A keeper with the rows that both formats spell alike, and these, of which these calls fail.
-fn keeper_with(alloc: Global, rows: &[&str], fails: &[u32]) -> Result<MemKeeper, Fail>
-    ensures idle { IfOk result (λ keeper. keeper.seen.running ≡ false) }
-{
-    let mut keeper = MemKeeper::new(alloc, listed(alloc, fails)?);
-    preset_all(alloc, &ALIKE, &mut keeper)?;
-    preset_all(alloc, rows, &mut keeper)?;
-    Ok(keeper)
+/// What a script leaves over tables of the format before this one, where these calls fail.
+fn ran_over_former(alloc: Global, script: &[&str], fails: &[u32]) -> Result<Left, Fail> {
+    let mut left = Left::new(alloc, fails)?;
+    preset_all(alloc, &ALIKE, &mut left.keeper)?;
+    preset_all(alloc, &FORMER, &mut left.keeper)?;
+    left.status = ran(alloc, script, &mut left.out, &mut left.keeper)?;
+    Ok(left)
+}
+
+/// Whether a keeper has the rows that both formats spell alike, and these.
+fn has_rows(alloc: Global, keeper: &MemKeeper, rows: &[&str]) -> Result<bool, Fail> {
+    let mut other = MemKeeper::new(alloc, List::new(alloc));
+    preset_all(alloc, &ALIKE, &mut other)?;
+    preset_all(alloc, rows, &mut other)?;
+    Ok(keeper.same_rows(&other))
+}
+
+#[test]
+fn tables_of_this_format_are_these(rt: HostRuntime) -> Result<(), Fail> {
+    let made = ran_quietly(rt.alloc(), &[SETUP, EAGLES])?;
+    assert!(rt; has_rows(rt.alloc(), &made.keeper, &LATER)?);
+    Ok(())
 }
 
 #[test]
 fn former_tables_are_written_anew(rt: HostRuntime) -> Result<(), Fail> {
-    let alloc = rt.alloc();
-    let mut keeper = keeper_with(alloc, &FORMER, &[])?;
-    let later = keeper_with(alloc, &LATER, &[])?;
-    let (_, _, made) = ran_failing(alloc, &[SETUP, EAGLES], &[], sink(alloc)?)?;
-    assert!(rt; made.same_rows(&later));
-    let mut out = sink(alloc)?;
-    let status = ran(alloc, &[], &mut out, &mut keeper)?;
-    assert_eq!(rt; status, 0);
-    assert_eq!(rt; out.bytes().len(), 0);
-    assert_eq!(rt; keeper.commits(), 1);
-    assert!(rt; keeper.same_rows(&later));
+    let left = ran_over_former(rt.alloc(), &[], &[])?;
+    assert!(rt; left.is_told("", 0));
+    assert_eq!(rt; left.keeper.commits(), 1);
+    assert!(rt; has_rows(rt.alloc(), &left.keeper, &LATER)?);
     Ok(())
 }
 
 #[test]
 fn former_tables_are_gone_on_from(rt: HostRuntime) -> Result<(), Fail> {
-    let alloc = rt.alloc();
-    let mut keeper = keeper_with(alloc, &FORMER, &[])?;
-    let mut out = sink(alloc)?;
     let script = [
         "show world BELIEF 'Bob'; insert into S values('s1','crow'); create user 'Carol';",
     ];
-    let status = ran(alloc, &script, &mut out, &mut keeper)?;
-    assert_eq!(rt; status, 1);
-    assert_eq!(rt;
-        out.bytes(),
-        b"- S('s1', 'eagle') explicit\nok 1\nerror clash + S('s1', 'eagle')\nok\n".as_slice()
-    );
-    assert_eq!(rt; keeper.commits(), 3);
+    let left = ran_over_former(rt.alloc(), &script, &[])?;
+    let replies = "- S('s1', 'eagle') explicit\nok 1\nerror clash + S('s1', 'eagle')\nok\n";
+    assert!(rt; left.is_told(replies, 1));
+    assert_eq!(rt; left.keeper.commits(), 3);
     Ok(())
+}
+
+/// What a check of tables of the format before this one leaves.
+fn checked_former(alloc: Global) -> Result<Left, Fail> {
+    let mut left = Left::new(alloc, &[])?;
+    preset_all(alloc, &ALIKE, &mut left.keeper)?;
+    preset_all(alloc, &FORMER, &mut left.keeper)?;
+    left.status = checked(alloc, &mut left.out, &mut left.keeper)?;
+    Ok(left)
 }
 
 #[test]
 fn former_tables_are_sound(rt: HostRuntime) -> Result<(), Fail> {
-    let alloc = rt.alloc();
-    let mut keeper = keeper_with(alloc, &FORMER, &[])?;
-    let mut out = sink(alloc)?;
-    let words = words_of(alloc, "check --db a")?;
-    let mut source = MemSource::new(Vec::new(alloc), 1, List::new(alloc));
-    let status = run(alloc, words.as_slice(), &mut source, &mut out, &mut keeper);
-    assert_eq!(rt; status, 0);
-    assert_eq!(rt; out.bytes(), b"ok\n".as_slice());
-    assert_eq!(rt; keeper.commits(), 0);
+    let left = checked_former(rt.alloc())?;
+    assert!(rt; left.is_told("ok\n", 0));
+    assert_eq!(rt; left.keeper.commits(), 0);
     Ok(())
+}
+
+/// A keeper with the rows of a base that this format spells otherwise, in the format before it, and no others.
+fn former_alone(alloc: Global) -> Result<Left, Fail>
+    ensures idle { IfOk result (λ left. left.keeper.seen.running ≡ false) }
+{
+    let mut left = Left::new(alloc, &[])?;
+    preset_all(alloc, &FORMER, &mut left.keeper)?;
+    Ok(left)
+}
+
+/// The same behind a run.
+fn ran_over_former_alone(alloc: Global) -> Result<Left, Fail> {
+    let mut left = former_alone(alloc)?;
+    left.status = ran(alloc, &[SETUP], &mut left.out, &mut left.keeper)?;
+    Ok(left)
 }
 
 #[test]
 fn former_tables_of_no_base_stay(rt: HostRuntime) -> Result<(), Fail> {
-    let alloc = rt.alloc();
-    let mut keeper = MemKeeper::new(alloc, List::new(alloc));
-    let mut rows = MemKeeper::new(alloc, List::new(alloc));
-    preset_all(alloc, &FORMER, &mut keeper)?;
-    preset_all(alloc, &FORMER, &mut rows)?;
-    let mut out = sink(alloc)?;
-    let status = ran(alloc, &[SETUP], &mut out, &mut keeper)?;
-    assert_eq!(rt; status, 7);
-    assert_eq!(rt; out.bytes().len(), 0);
-    assert_eq!(rt; keeper.commits(), 0);
-    assert!(rt; keeper.same_rows(&rows));
+    let left = ran_over_former_alone(rt.alloc())?;
+    assert!(rt; left.is_told("", 7));
+    assert_eq!(rt; left.keeper.commits(), 0);
+    assert!(rt; left.keeper.same_rows(&former_alone(rt.alloc())?.keeper));
     Ok(())
 }
 
 /// The status of an empty script over tables of the format before this one, where this call fails; an error where they are
 /// neither as before nor written anew.
 fn opened_failing(alloc: Global, call: u32) -> Result<u8, Fail> {
-    let mut keeper = keeper_with(alloc, &FORMER, &[call])?;
-    let mut out = sink(alloc)?;
-    let status = ran(alloc, &[], &mut out, &mut keeper)?;
-    let expected = if status == 0 {
-        keeper_with(alloc, &LATER, &[])?
-    } else {
-        keeper_with(alloc, &FORMER, &[])?
-    };
-    if !keeper.same_rows(&expected) || keeper.commits() != u64::from(status == 0) {
+    let left = ran_over_former(alloc, &[], &[call])?;
+    let rows = if left.status == 0 { &LATER } else { &FORMER };
+    let commits = u64::from(left.status == 0);
+    if !has_rows(alloc, &left.keeper, rows)? || left.keeper.commits() != commits {
         return Err(Fail::new("the rows are others"));
     }
-    Ok(status)
+    Ok(left.status)
 }
 
 #[test]

@@ -1,158 +1,90 @@
-// Queries at their limits, and past them.
-use crate::tests::{SETUP, ran_quietly};
+// Queries at their limits, and past them, over two users who believe what stands in one tuple.
+use crate::tests::SETUP;
+use crate::tests::made::Made;
 use std::alloc::Global;
 use std::test::Fail;
 
-/// What the setup and one insert are answered.
-const FIRST_REPLIES: &str = "ok\nok\nok\nok 1\n";
-
-/// The reply to a query of one row, in which this stands so many times.
-fn row_of(alloc: Global, value: &str, count: usize) -> Result<String, Fail> {
-    let mut reply = repeated(alloc, value, ", ", count)?;
-    reply.push_str("\nok 1\n")?;
-    Ok(reply)
+/// The two users, and an eagle.
+pub(crate) fn eagle(alloc: Global) -> Result<Made, Fail> {
+    let mut made = Made::new(alloc);
+    made.add(SETUP, "ok\nok\nok\n")?;
+    made.add("insert into S values('s1','eagle');", "ok 1\n")?;
+    Ok(made)
 }
 
-/// A part so many times, with another text between.
-pub(crate) fn repeated(
-    alloc: Global,
-    part: &str,
-    between: &str,
-    count: usize,
-) -> Result<String, Fail> {
-    let mut text = String::new(alloc);
-    for number in 0..count {
-        if 0 < number {
-            text.push_str(between)?;
-        }
-        text.push_str(part)?;
-    }
-    Ok(text)
-}
-
-/// Whether a script is answered so, over two users who believe what stands in one tuple.
-fn is_answered(alloc: Global, script: &str, replies: &str) -> Result<bool, Fail> {
-    let rows = [SETUP, "insert into S values('s1','eagle');", script];
-    let (_, out, _) = ran_quietly(alloc, &rows)?;
-    let text = std::str::from_utf8(out.bytes())?;
-    Ok(text.strip_prefix(FIRST_REPLIES) == Some(replies))
-}
-
-/// A path of so many users, of whom two take turns.
-pub(crate) fn path_of(alloc: Global, count: usize) -> Result<String, Fail> {
-    let mut path = repeated(alloc, "BELIEF 'Alice' BELIEF 'Bob'", " ", count / 2)?;
-    if count % 2 == 1 {
-        path.push_str(" BELIEF 'Alice'")?;
-    }
-    Ok(path)
+/// Whether commands at paths of so many users are told these replies.
+fn are_told_at(alloc: Global, users: usize, replies: [&str; 4]) -> Result<bool, Fail> {
+    let [selected, shown, reasons, named] = replies;
+    let mut made = eagle(alloc)?;
+    made.add_with_path(("select X.k from ", "S X;"), users, selected)?;
+    made.add_with_path(("show world ", ";"), users, shown)?;
+    made.add_with_path(("why ", "S values('s1','eagle');"), users, reasons)?;
+    let front = "select U.name from Users U, BELIEF U.uid ";
+    made.add_with_path((front, "S X;"), users.saturating_sub(1), named)?;
+    made.is_told(alloc, u8::from(selected.starts_with("error")))
 }
 
 #[test]
 fn paths_of_queries_have_a_limit(rt: HostRuntime) -> Result<(), Fail> {
-    let alloc = rt.alloc();
-    let cases = [
-        (
-            1_024,
-            "'s1'\nok 1\n+ S('s1', 'eagle') inherited\nok 1\nyes stated + S('s1', 'eagle') at /\nok 1\n'Bob'\nok 1\n",
-        ),
-        (1_025, "error deep\nerror deep\nerror deep\nerror deep\n"),
+    let replies = [
+        "'s1'\nok 1\n",
+        "+ S('s1', 'eagle') inherited\nok 1\n",
+        "yes stated + S('s1', 'eagle') at /\nok 1\n",
+        "'Bob'\nok 1\n",
     ];
-    for (count, replies) in cases {
-        let path = path_of(alloc, count)?;
-        let path = path.as_str();
-        let others = path_of(alloc, count - 1)?;
-        let others = others.as_str();
-        let script = format!(in alloc;
-            "select X.k from {path} S X; show world {path}; why {path} S values('s1','eagle'); select U.name from Users U, BELIEF U.uid {others} S X;"
-        )?;
-        assert!(rt; is_answered(alloc, script.as_str(), replies)?, "{count}");
-    }
+    assert!(rt; are_told_at(rt.alloc(), 1_024, replies)?);
+    let deep = "error deep\n";
+    assert!(rt; are_told_at(rt.alloc(), 1_025, [deep, deep, deep, deep])?);
     Ok(())
+}
+
+/// Whether changes at a path of so many users are each told this.
+fn are_changed_at(alloc: Global, users: usize, reply: &str, status: u8) -> Result<bool, Fail> {
+    let mut made = eagle(alloc)?;
+    made.add_with_path(("insert into ", "S values('s2','crow');"), users, reply)?;
+    made.add_with_path(("update ", "S set v = 'owl';"), users, reply)?;
+    made.add_with_path(("delete from ", "S;"), users, reply)?;
+    made.is_told(alloc, status)
 }
 
 #[test]
 fn paths_of_statements_have_a_limit(rt: HostRuntime) -> Result<(), Fail> {
-    let alloc = rt.alloc();
-    let cases = [
-        (64, "ok 1\nok 1\nok 1\n"),
-        (65, "error deep\nerror deep\nerror deep\n"),
-    ];
-    for (count, replies) in cases {
-        let path = path_of(alloc, count)?;
-        let path = path.as_str();
-        let script = format!(in alloc;
-            "insert into {path} S values('s2','crow'); update {path} S set v = 'owl'; delete from {path} S;"
-        )?;
-        assert!(rt; is_answered(alloc, script.as_str(), replies)?, "{count}");
-    }
-    Ok(())
-}
-
-/// A query of the keys of so many items.
-fn query_of_items(alloc: Global, count: usize) -> Result<String, Fail> {
-    let mut columns = String::new(alloc);
-    let mut items = String::new(alloc);
-    for number in 0..count {
-        let between = if number == 0 { "" } else { ", " };
-        let column = format!(in alloc; "{between}A{number}.k")?;
-        columns.push_str(column.as_str())?;
-        let item = format!(in alloc; "{between}S A{number}")?;
-        items.push_str(item.as_str())?;
-    }
-    let columns = columns.as_str();
-    let items = items.as_str();
-    Ok(format!(in alloc; "select {columns} from {items};")?)
-}
-
-#[test]
-fn items_of_queries_have_a_limit(rt: HostRuntime) -> Result<(), Fail> {
-    let alloc = rt.alloc();
-    let query = query_of_items(alloc, 8)?;
-    let row = row_of(alloc, "'s1'", 8)?;
-    assert!(rt; is_answered(alloc, query.as_str(), row.as_str())?);
-    let query = query_of_items(alloc, 9)?;
-    assert!(rt; is_answered(alloc, query.as_str(), "error items\n")?);
-    Ok(())
-}
-
-/// A query that selects a column so many times.
-fn query_of_columns(alloc: Global, count: usize) -> Result<String, Fail> {
-    let columns = repeated(alloc, "X.v", ", ", count)?;
-    let columns = columns.as_str();
-    Ok(format!(in alloc; "select {columns} from S X;")?)
-}
-
-#[test]
-fn columns_of_queries_have_a_limit(rt: HostRuntime) -> Result<(), Fail> {
-    let alloc = rt.alloc();
-    let query = query_of_columns(alloc, 32)?;
-    let row = row_of(alloc, "'eagle'", 32)?;
-    assert!(rt; is_answered(alloc, query.as_str(), row.as_str())?);
-    let query = query_of_columns(alloc, 33)?;
-    assert!(rt; is_answered(alloc, query.as_str(), "error items\n")?);
+    assert!(rt; are_changed_at(rt.alloc(), 64, "ok 1\n", 0)?);
+    assert!(rt; are_changed_at(rt.alloc(), 65, "error deep\n", 1)?);
     Ok(())
 }
 
 /// A query of as many equal comparisons as a command has room for, and of another one behind them.
-fn query_of_comparisons(
+fn add_comparisons(made: &mut Made, items: &str, same: &str, last: &str) -> Result<(), Fail> {
+    let fixed = "select X.k from  where ".len() + items.len() + last.len();
+    let times = 65_536_usize.saturating_sub(fixed) / (same.len() + " and ".len());
+    made.add("select X.k from ", "")?;
+    made.add(items, "")?;
+    made.add(" where ", "")?;
+    for _ in 0..times {
+        made.add(same, "")?;
+        made.add(" and ", "")?;
+    }
+    made.add(last, "")?;
+    made.add(";", "")
+}
+
+/// Whether such a query is told these replies.
+fn is_compared(
     alloc: Global,
     items: &str,
     same: &str,
     last: &str,
-) -> Result<String, Fail> {
-    let mut query = format!(in alloc; "select X.k from {items} where ")?;
-    let room = 65_536_usize.saturating_sub(query.as_str().len() + last.len());
-    let part = format!(in alloc; "{same} and ")?;
-    let many = repeated(alloc, part.as_str(), "", room / part.as_str().len().max(1))?;
-    query.push_str(many.as_str())?;
-    query.push_str(last)?;
-    query.push_str(";")?;
-    Ok(query)
+    replies: &str,
+) -> Result<bool, Fail> {
+    let mut made = eagle(alloc)?;
+    add_comparisons(&mut made, items, same, last)?;
+    made.add("", replies)?;
+    made.is_told(alloc, u8::from(replies.starts_with("error")))
 }
 
 #[test]
 fn commands_are_full_of_comparisons(rt: HostRuntime) -> Result<(), Fail> {
-    let alloc = rt.alloc();
     let cases = [
         ("S X", "X.k='s1'", "X.v='eagle'", "'s1'\nok 1\n"),
         ("S X", "X.k='s1'", "X.v='crow'", "ok 0\n"),
@@ -163,54 +95,52 @@ fn commands_are_full_of_comparisons(rt: HostRuntime) -> Result<(), Fail> {
         ("S X", "X.k='s1'", "X.z='s1'", "error column X.z\n"),
     ];
     for (items, same, last, replies) in cases {
-        let query = query_of_comparisons(alloc, items, same, last)?;
         assert!(rt;
-            is_answered(alloc, query.as_str(), replies)?,
+            is_compared(rt.alloc(), items, same, last, replies)?,
             "{items} {same} {last}"
         );
     }
     Ok(())
 }
 
-/// A relation of 16 columns, a statement of it, and a query of what seven items deny of it. Each of their columns is joined to the
-/// one before it, the last one first, and the first one of all to a given column.
-fn query_of_chain(alloc: Global, sign: &str) -> Result<String, Fail> {
-    let mut script = String::new(alloc);
-    script.push_str("create relation W(c0 text")?;
-    for column in 1..16 {
-        let part = format!(in alloc; ", c{column} text")?;
-        script.push_str(part.as_str())?;
-    }
-    let values = repeated(alloc, "'s1'", ", ", 16)?;
-    let values = values.as_str();
-    let insert = format!(in alloc;
-        "); insert into {sign} W values({values}); select X.k from S X"
-    )?;
-    script.push_str(insert.as_str())?;
-    for item in 0..7 {
-        let part = format!(in alloc; ", not W A{item}")?;
-        script.push_str(part.as_str())?;
-    }
-    script.push_str(" where ")?;
+/// Adds an equality of the columns at two places of the chain below.
+fn add_equality(alloc: Global, made: &mut Made, place: u32) -> Result<(), Fail> {
+    let before = place.saturating_sub(1);
+    let (item, column) = (place / 16, place % 16);
+    let (item_before, column_before) = (before / 16, before % 16);
+    let part = format!(in alloc; "A{item}.c{column} = A{item_before}.c{column_before} and ")?;
+    made.add(part.as_str(), "")
+}
+
+/// Adds a relation of 16 columns, a statement of it, and a query of what seven items deny of it. Each of their columns is joined to
+/// the one before it, the last one first, and the first one of all to a given column.
+fn add_chain(alloc: Global, made: &mut Made, sign: &str) -> Result<(), Fail> {
+    made.add("create relation W(c0 text", "ok\n")?;
+    made.add_numbered(alloc, (", c", " text"), 1, 15, "")?;
+    made.add("); insert into ", "ok 1\n")?;
+    made.add(sign, "")?;
+    made.add(" W values('s1'", "")?;
+    made.add_times(", 's1'", "", 15)?;
+    made.add("); select X.k from S X", "")?;
+    made.add_numbered(alloc, (", not W A", ""), 0, 7, "")?;
+    made.add(" where ", "")?;
     for step in 0..111_u32 {
-        let place = 111_u32.saturating_sub(step);
-        let before = place.saturating_sub(1);
-        let (item, column) = (place / 16, place % 16);
-        let (item_before, column_before) = (before / 16, before % 16);
-        let part = format!(in alloc; "A{item}.c{column} = A{item_before}.c{column_before} and ")?;
-        script.push_str(part.as_str())?;
+        add_equality(alloc, made, 111_u32.saturating_sub(step))?;
     }
-    script.push_str("A0.c0 = X.k;")?;
-    Ok(script)
+    made.add("A0.c0 = X.k;", "")
+}
+
+/// Whether such a query is told these replies.
+fn is_chained(alloc: Global, sign: &str, replies: &str) -> Result<bool, Fail> {
+    let mut made = eagle(alloc)?;
+    add_chain(alloc, &mut made, sign)?;
+    made.add("", replies)?;
+    made.is_told(alloc, 0)
 }
 
 #[test]
 fn chains_of_equalities_may_be_reversed(rt: HostRuntime) -> Result<(), Fail> {
-    let alloc = rt.alloc();
-    let cases = [("not", "ok\nok 1\n's1'\nok 1\n"), ("", "ok\nok 1\nok 0\n")];
-    for (sign, replies) in cases {
-        let script = query_of_chain(alloc, sign)?;
-        assert!(rt; is_answered(alloc, script.as_str(), replies)?, "{sign}");
-    }
+    assert!(rt; is_chained(rt.alloc(), "not", "'s1'\nok 1\n")?);
+    assert!(rt; is_chained(rt.alloc(), "", "ok 0\n")?);
     Ok(())
 }

@@ -1,78 +1,15 @@
 // Streams of sessions, and their batches run one after the other.
-use crate::tests::jobs::words_of;
-use crate::tests::sink;
+use crate::tests::{Left, ran_from};
 use bdb_base::List;
-use bdb_io::{MemSink, MemSource, ReadSource};
-use bdb_keep::QuietKeeper;
-use bdb_top::run;
+use bdb_io::MemSource;
 use std::alloc::Global;
-use std::io::Read;
 use std::test::Fail;
 
-/// The status, the replies and the keeper of a stream of sessions, read 7 bytes at a time over a keeper without rows.
-fn ran_stream(alloc: Global, stream: &str) -> Result<(u8, MemSink, QuietKeeper), Fail> {
-    let words = words_of(alloc, "many")?;
+/// What a stream of sessions leaves, read 7 bytes at a time over a keeper without rows.
+fn ran_stream(alloc: Global, stream: &str) -> Result<Left, Fail> {
     let text = Vec::from_slice(alloc, stream.as_bytes())?;
     let mut source = MemSource::new(text, 7, List::new(alloc));
-    let mut keeper = QuietKeeper::new(alloc);
-    let mut out = sink(alloc)?;
-    let status = run(alloc, words.as_slice(), &mut source, &mut out, &mut keeper);
-    Ok((status, out, keeper))
-}
-
-/// Whether a stream is told these replies, some of which tell an error.
-fn is_told(alloc: Global, stream: &str, replies: &str) -> Result<bool, Fail> {
-    let (status, out, _) = ran_stream(alloc, stream)?;
-    Ok(status == 1 && out.bytes() == replies.as_bytes())
-}
-
-/// Whether a stream is told these replies, some of which tell an error, where its bytes come in two parts.
-fn is_told_in_two(alloc: Global, first: &[u8], rest: &[u8], replies: &str) -> Result<bool, Fail> {
-    let words = words_of(alloc, "many")?;
-    let mut source = ReadSource::new(first.chain(rest));
-    let mut keeper = QuietKeeper::new(alloc);
-    let mut out = sink(alloc)?;
-    let status = run(alloc, words.as_slice(), &mut source, &mut out, &mut keeper);
-    Ok(status == 1 && out.bytes() == replies.as_bytes())
-}
-
-/// The same at each place where the parts can meet.
-fn is_told_however_cut(alloc: Global, stream: &str, replies: &str) -> Result<bool, Fail> {
-    let bytes = stream.as_bytes();
-    for cut in 0..bytes.len() {
-        if !is_told_in_two(alloc, &bytes[..cut], &bytes[cut..], replies)? {
-            return Ok(false);
-        }
-    }
-    Ok(true)
-}
-
-#[test]
-fn streams_and_replies(rt: HostRuntime) -> Result<(), Fail> {
-    let alloc = rt.alloc();
-    let cases = [
-        (
-            "0 create user 'Alice'; 0 create relation S(k text, v text); 1 begin; 1 insert into S values('a','x'); 2 insert into S values('a','y'); 1 commit; 2 begin; 2 insert into S values('b','z'); 2 commit; 1 commit;",
-            "0: ok\n0: ok\n1: begun\n1: queued\n2: ok 1\n1: error clash + S('a', 'y')\n1: aborted 1\n2: begun\n2: queued\n2: ok 1\n2: committed 1\n1: error not begun\n",
-        ),
-        (
-            "3 begin; 3 commit; 16 begin; 4 ;",
-            "3: begun\n3: committed 0\nerror session\n4: error line\n",
-        ),
-        (
-            "0 create relation S(k text, v text);-- a; 'b\n; 12  begin; 12 insert into S values('it''s; ','--'); 012 COMMIT -- all\n; 12 Commit; 7 show world; 7 'open",
-            "0: ok\n12: begun\n12: queued\nerror session\n12: ok 1\n12: committed 1\n7: + S('it''s; ', '--') explicit\n7: ok 1\nerror unfinished\n",
-        ),
-        (
-            "0 create relation S(k text); 0 insert into S values('a'); 0 undo; 1 begin; 1 insert into S values('b'); 1 redo; 1 show world; 1 commit; 2 UNDO; 0 show world;",
-            "0: ok\n0: ok 1\n0: error syntax\n1: begun\n1: queued\n1: queued\n1: queued\n1: ok 1\n1: error syntax\n1: aborted 2\n2: error syntax\n0: + S('a') explicit\n0: ok 1\n",
-        ),
-    ];
-    for (stream, replies) in cases {
-        assert!(rt; is_told(alloc, stream, replies)?, "{stream}");
-        assert!(rt; is_told_however_cut(alloc, stream, replies)?, "{stream}");
-    }
-    Ok(())
+    ran_from(alloc, "many", &mut source)
 }
 
 /// How many sessions the streams below have.
@@ -126,11 +63,23 @@ fn next_step(steps: &mut [u64], session: usize) -> u64 {
 }
 
 /// Lines of sessions in an order that follows from a number, and what they run, one batch behind the other.
-fn lines_of(alloc: Global, seed: u64) -> Result<(String, String), Fail> {
-    let mut mixed = String::new(alloc);
-    let mut in_turn = String::new(alloc);
-    mixed.push_str("0 create relation S(k text, v text);\n")?;
-    in_turn.push_str("0 create relation S(k text, v text);\n")?;
+#[derive(Drop)]
+struct Lines {
+    mixed: String,
+    in_turn: String,
+}
+
+/// The first line of each stream.
+const FIRST: &str = "0 create relation S(k text, v text);\n";
+
+/// The lines of a number.
+fn lines_of(alloc: Global, seed: u64) -> Result<Lines, Fail> {
+    let mut lines = Lines {
+        mixed: String::new(alloc),
+        in_turn: String::new(alloc),
+    };
+    lines.mixed.push_str(FIRST)?;
+    lines.in_turn.push_str(FIRST)?;
     let mut steps = [0_u64; SESSIONS];
     let mut state = seed;
     for _ in 0..LINES {
@@ -139,10 +88,10 @@ fn lines_of(alloc: Global, seed: u64) -> Result<(String, String), Fail> {
             .wrapping_add(1_442_695_040_888_963_407);
         let session = (state >> 33) as usize % SESSIONS;
         let step = next_step(&mut steps, session);
-        push_line(alloc, &mut mixed, session, step)?;
-        push_run(alloc, &mut in_turn, session, step)?;
+        push_line(alloc, &mut lines.mixed, session, step)?;
+        push_run(alloc, &mut lines.in_turn, session, step)?;
     }
-    Ok((mixed, in_turn))
+    Ok(lines)
 }
 
 /// The lines of replies that tell what was run.
@@ -162,27 +111,29 @@ fn is_of_waiting(line: &[u8]) -> bool {
     line.ends_with(b": begun") || line.ends_with(b": queued")
 }
 
+/// Whether two streams were told the same of what was run, some of which tells an error.
+fn are_told_alike(alloc: Global, mixed: &Left, in_turn: &Left) -> Result<bool, Fail> {
+    let told = outcomes(alloc, mixed.out.bytes())?;
+    let expected = outcomes(alloc, in_turn.out.bytes())?;
+    Ok(mixed.status == 1 && in_turn.status == 1 && told.as_slice() == expected.as_slice())
+}
+
 /// Whether the lines of a number are told what their batches are told, run one after the other, and leave the same rows.
-fn are_alike(alloc: Global, seed: u64) -> Result<bool, Fail> {
-    let (mixed, in_turn) = lines_of(alloc, seed)?;
-    let (status, out, keeper) = ran_stream(alloc, mixed.as_str())?;
-    let (ended, told, rows) = ran_stream(alloc, in_turn.as_str())?;
-    let first = outcomes(alloc, out.bytes())?;
-    let other = outcomes(alloc, told.bytes())?;
+fn are_alike(alloc: Global, lines: &Lines) -> Result<bool, Fail> {
+    let mixed = ran_stream(alloc, lines.mixed.as_str())?;
+    let in_turn = ran_stream(alloc, lines.in_turn.as_str())?;
     Ok(
-        status == 1
-            && ended == 1
-            && first.as_slice() == other.as_slice()
-            && keeper.commits() == rows.commits()
-            && keeper.same_rows(&rows),
+        are_told_alike(alloc, &mixed, &in_turn)?
+            && mixed.keeper.commits() == in_turn.keeper.commits()
+            && mixed.keeper.same_rows(&in_turn.keeper),
     )
 }
 
 #[test]
 fn mixed_lines_come_to_what_their_batches_do(rt: HostRuntime) -> Result<(), Fail> {
-    let alloc = rt.alloc();
     for seed in 0..20_u64 {
-        assert!(rt; are_alike(alloc, seed)?, "{seed}");
+        let lines = lines_of(rt.alloc(), seed)?;
+        assert!(rt; are_alike(rt.alloc(), &lines)?, "{seed}");
     }
     Ok(())
 }
