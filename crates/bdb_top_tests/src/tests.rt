@@ -28,12 +28,12 @@ pub(crate) const SETUP: &str =
 /// How many bytes of replies a sink of these tests takes.
 const ROOM: usize = 2_000_000;
 
-/// What runs left: the status of the last one, what was written, and the keeper.
+/// What runs left: the keeper, what was written, and the status of the last one.
 #[derive(Drop)]
 struct Left {
-    status: u8,
-    out: MemSink,
     keeper: MemKeeper,
+    out: MemSink,
+    status: u8,
 }
 
 impl Left {
@@ -42,9 +42,9 @@ impl Left {
         ensures idle { IfOk result (λ left. left.keeper.seen.running ≡ false) }
     {
         Ok(Left {
-            status: 0,
-            out: sink(alloc)?,
             keeper: MemKeeper::new(alloc, listed(alloc, fails)?),
+            out: sink(alloc)?,
+            status: 0,
         })
     }
 

@@ -56,9 +56,9 @@ fn rows_of_no_base_are_told(rt: HostRuntime) -> Result<(), Fail> {
 /// What a check of a keeper without rows leaves, where these calls of the keeper and these writes fail.
 fn checked_failing(alloc: Global, calls: &[u32], writes: &[u32]) -> Result<Left, Fail> {
     let mut left = Left {
-        status: 0,
-        out: MemSink::new(alloc, listed(alloc, writes)?, 2, ROOM)?,
         keeper: MemKeeper::new(alloc, listed(alloc, calls)?),
+        out: MemSink::new(alloc, listed(alloc, writes)?, 2, ROOM)?,
+        status: 0,
     };
     left.status = checked(alloc, &mut left.out, &mut left.keeper)?;
     Ok(left)
