@@ -72,7 +72,8 @@ impl Base {
     /// Adds a user, whose number is the count of places then. After a refusal the base is unchanged.
     pub fn add_user(&mut self, name: Txt) -> Result<(), AllocError>
         requires { IsValid (with_user self.old.catalog name) self.old.stmts }
-        ensures ok { OnOk result (self.new ≡ record self.old { catalog = with_user self.old.catalog name }) }
+        ensures ok { OnOk result
+            (self.new ≡ record self.old { catalog = with_user self.old.catalog name }) }
         ensures err { OnErr result (self.new ≡ self.old) }
     {
         self.catalog.users.push(UserSlot::Live(name))
@@ -81,7 +82,8 @@ impl Base {
     /// Adds a relation after the others. After a refusal the base is unchanged.
     pub fn add_relation(&mut self, def: RelDef) -> Result<(), AllocError>
         requires { IsValid (with_relation self.old.catalog def) self.old.stmts }
-        ensures ok { OnOk result (self.new ≡ record self.old { catalog = with_relation self.old.catalog def }) }
+        ensures ok { OnOk result
+            (self.new ≡ record self.old { catalog = with_relation self.old.catalog def }) }
         ensures err { OnErr result (self.new ≡ self.old) }
     {
         self.catalog.rels.push(def)
@@ -102,7 +104,10 @@ impl Base {
     pub fn drop_user(&mut self, uid: u32) -> u32
         requires { is_user self.old.catalog.users uid ≡ true }
         ensures count { result ≡ length (statements_naming uid self.old.stmts) }
-        ensures left { self.new ≡ record { catalog = without_user self.old.catalog uid; stmts = without_statements_of uid self.old.stmts } }
+        ensures left { self.new ≡ record {
+          catalog = without_user self.old.catalog uid;
+          stmts = without_statements_of uid self.old.stmts;
+        } }
     {
         let count = count_naming(self.stmts.as_slice(), uid);
         drop_naming(&mut self.stmts, uid);
@@ -115,7 +120,8 @@ impl Base {
     pub fn revive_user(&mut self, uid: u32, name: Txt)
         requires gone { is_gone self.old.catalog.users uid ≡ true }
         requires valid { IsValid (with_user_back self.old.catalog uid name) self.old.stmts }
-        ensures { self.new ≡ record self.old { catalog = with_user_back self.old.catalog uid name } }
+        ensures { self.new
+            ≡ record self.old { catalog = with_user_back self.old.catalog uid name } }
     {
         set_slot(&mut self.catalog.users, uid, UserSlot::Live(name));
     }
@@ -134,7 +140,8 @@ impl Base {
     pub fn put(&mut self, s: Stmt) -> Result<bool, AllocError>
         requires { IsValid self.old.catalog (with_statement self.old.stmts s) }
         ensures added { IfOk result (λ added. added ≡ not (stands self.old.stmts s)) }
-        ensures ok { OnOk result (self.new ≡ record self.old { stmts = with_statement self.old.stmts s }) }
+        ensures ok { OnOk result
+            (self.new ≡ record self.old { stmts = with_statement self.old.stmts s }) }
         ensures err { OnErr result (self.new ≡ self.old) }
     {
         put(&mut self.stmts, s)
@@ -143,7 +150,8 @@ impl Base {
     /// Takes a statement away. True where it stood.
     pub fn take(&mut self, s: &Stmt) -> bool
         ensures stood { result ≡ stands self.old.stmts s.now }
-        ensures taken { self.new ≡ record self.old { stmts = without_statement self.old.stmts s.now } }
+        ensures taken { self.new
+            ≡ record self.old { stmts = without_statement self.old.stmts s.now } }
     {
         take(&mut self.stmts, s)
     }

@@ -82,7 +82,8 @@ impl Ordered for Stmt {
 /// halves.
 pub fn place_of<X: Ordered>(xs: &[X], x: &X) -> Result<usize, usize>
     requires { ascending X.order xs.now ≡ true }
-    ensures { MatchResult result (λ at. slice_get xs.now at ≡ Some x.now) (BelongsAt X.order xs.now x.now) }
+    ensures { MatchResult result (λ at. slice_get xs.now at ≡ Some x.now)
+        (BelongsAt X.order xs.now x.now) }
 {
     let mut low = 0;
     let mut high = xs.len();

@@ -40,7 +40,8 @@ pub fn append_separated<X: Printed>(
     between: &[u8],
     items: &[X],
 ) -> Result<(), AllocError>
-    ensures { OnOk result (out.new.items ≡ out.old.items ++ separated between.now (map X.text items.now)) }
+    ensures { OnOk result
+        (out.new.items ≡ out.old.items ++ separated between.now (map X.text items.now)) }
 {
     match items {
         [] => Ok(()),

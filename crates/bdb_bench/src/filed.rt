@@ -34,7 +34,8 @@ pub fn measure_open(rt: &HostRuntime, file: &str) -> io::Result<()> {
 /// Commits so many rows so many times.
 pub fn commit_times<K: Keeper>(keeper: &mut K, commits: u32, rows: u32) -> Result<(), KeepError>
     requires { (K.seen keeper.old).running ≡ false }
-    ensures { HasCause (K.seen keeper.old).faults (K.seen keeper.new).faults result KeepError.Fault }
+    ensures { HasCause (K.seen keeper.old).faults
+        (K.seen keeper.new).faults result KeepError.Fault }
 {
     for round in 0..commits {
         keeper.begin()?;

@@ -59,7 +59,8 @@ fn finds(rt: &HostRuntime) -> bool {
 
 /// Whether each row is there.
 fn has_rows<K: Keeper>(alloc: Global, keeper: &mut K) -> Result<bool, KeepError>
-    ensures { HasCause (K.seen keeper.old).faults (K.seen keeper.new).faults result KeepError.Fault }
+    ensures { HasCause (K.seen keeper.old).faults
+        (K.seen keeper.new).faults result KeepError.Fault }
 {
     let mut row = Vec::new(alloc);
     for number in 0..ROWS {

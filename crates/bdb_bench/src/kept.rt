@@ -91,7 +91,8 @@ pub fn put_rows<K: Keeper>(keeper: &mut K, count: u32, round: u32) -> Result<(),
 
 /// Gets each row.
 fn get_rows<K: Keeper>(alloc: Global, keeper: &mut K, count: u32) -> Result<(), KeepError>
-    ensures { HasCause (K.seen keeper.old).faults (K.seen keeper.new).faults result KeepError.Fault }
+    ensures { HasCause (K.seen keeper.old).faults
+        (K.seen keeper.new).faults result KeepError.Fault }
 {
     let mut row = Vec::new(alloc);
     for number in 0..count {
@@ -102,7 +103,8 @@ fn get_rows<K: Keeper>(alloc: Global, keeper: &mut K, count: u32) -> Result<(), 
 
 /// Goes over the rows in order, and counts them.
 fn next_rows<K: Keeper>(alloc: Global, keeper: &mut K, count: u32) -> Result<u32, KeepError>
-    ensures { HasCause (K.seen keeper.old).faults (K.seen keeper.new).faults result KeepError.Fault }
+    ensures { HasCause (K.seen keeper.old).faults
+        (K.seen keeper.new).faults result KeepError.Fault }
 {
     let mut low = Vec::new(alloc);
     let mut key = Vec::new(alloc);

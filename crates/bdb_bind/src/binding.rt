@@ -33,8 +33,10 @@ use std::alloc::Global;
 /// their fixed order is answered.
 pub fn bind(alloc: Global, catalog: &Catalog, command: &Command) -> Result<Bound, BindError>
     requires catalog { IsCatalog catalog.now }
-    ensures ok { IfOk result (λ b. (refusal_of catalog.now command.now ≡ None) × (b ≡ bound_of catalog.now command.now)) }
-    ensures refused { IfErr result (λ e. e ≢ BindError.Memory → refusal_of catalog.now command.now ≡ Some e) }
+    ensures ok { IfOk result (λ b. (refusal_of catalog.now command.now ≡ None)
+        × (b ≡ bound_of catalog.now command.now)) }
+    ensures refused { IfErr result (λ e. e ≢ BindError.Memory → refusal_of catalog.now command.now
+        ≡ Some e) }
 {
     match command.try_clone(alloc) {
         Ok(copy) => {
@@ -54,8 +56,10 @@ pub fn bind_by(
     command: Command,
 ) -> Result<Bound, BindError>
     requires catalog { IsCatalog catalog.now }
-    ensures ok { IfOk result (λ b. (refusal_of catalog.now command ≡ None) × (b ≡ bound_of catalog.now command)) }
-    ensures refused { IfErr result (λ e. e ≢ BindError.Memory → refusal_of catalog.now command ≡ Some e) }
+    ensures ok { IfOk result (λ b. (refusal_of catalog.now command ≡ None)
+        × (b ≡ bound_of catalog.now command)) }
+    ensures refused { IfErr result (λ e. e ≢ BindError.Memory → refusal_of catalog.now command
+        ≡ Some e) }
 {
     let mut command = command;
     match bind_taking(alloc, catalog, index, &mut command) {
@@ -73,8 +77,10 @@ fn bind_taking(
     command: &mut Command,
 ) -> Result<Bound, BindError>
     requires catalog { IsCatalog catalog.now }
-    ensures ok { IfOk result (λ b. (refusal_of catalog.now command.old ≡ None) × (b ≡ bound_of catalog.now command.old)) }
-    ensures refused { IfErr result (λ e. e ≢ BindError.Memory → refusal_of catalog.now command.old ≡ Some e) }
+    ensures ok { IfOk result (λ b. (refusal_of catalog.now command.old ≡ None)
+        × (b ≡ bound_of catalog.now command.old)) }
+    ensures refused { IfErr result (λ e. e ≢ BindError.Memory → refusal_of catalog.now command.old
+        ≡ Some e) }
 {
     check_texts(command)?;
     match &*command {

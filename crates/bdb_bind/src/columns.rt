@@ -34,7 +34,9 @@ fn check_later_columns(
     query: &RawQuery,
 ) -> Result<(), BindError>
     requires items { items.now ≡ query.now.items }
-    ensures { Checks result (in_later_columns (column_missing rels.now items.now) (column_not_uid items.now) query.now) }
+    ensures { Checks result
+        (in_later_columns (column_missing rels.now items.now) (column_not_uid items.now)
+        query.now) }
 {
     check_paths(alloc, items, items.as_slice())?;
     check_conds(alloc, rels, items, query.conds.as_slice())?;

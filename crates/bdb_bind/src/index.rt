@@ -40,7 +40,8 @@ impl NameIndex {
     /// A user of this name stands at this place. Where a user of this name is known, nothing changes.
     /// After a refusal the index is unchanged.
     pub fn add_user(&mut self, alloc: Global, name: &Txt, at: usize) -> Result<(), AllocError>
-        ensures users { OnOk result ((q : List ℕ) → get_by_text self.new.users q ≡ or_place (get_by_text self.old.users q) name.now at q) }
+        ensures users { OnOk result ((q : List ℕ) → get_by_text self.new.users q ≡ or_place
+            (get_by_text self.old.users q) name.now at q) }
         ensures rels { self.new.rels ≡ self.old.rels }
         ensures err { OnErr result (self.new.users.entries ≡ self.old.users.entries) }
     {
@@ -49,7 +50,8 @@ impl NameIndex {
 
     /// Forgets where the user of this name stands: he leaves. Another user may have the name later, and is told then.
     pub fn forget_user(&mut self, name: &Txt)
-        ensures users { (q : List ℕ) → get_by_text self.new.users q ≡ but_of (get_by_text self.old.users q) name.now q }
+        ensures users { (q : List ℕ) → get_by_text self.new.users q ≡ but_of
+            (get_by_text self.old.users q) name.now q }
         ensures rels { self.new.rels ≡ self.old.rels }
     {
         self.users.remove(name.as_str());
@@ -58,7 +60,8 @@ impl NameIndex {
     /// A relation of this name stands at this place. Where a relation of this name is known, nothing
     /// changes. After a refusal the index is unchanged.
     pub fn add_relation(&mut self, alloc: Global, name: &Txt, at: usize) -> Result<(), AllocError>
-        ensures rels { OnOk result ((q : List ℕ) → get_by_text self.new.rels q ≡ or_place (get_by_text self.old.rels q) name.now at q) }
+        ensures rels { OnOk result ((q : List ℕ) → get_by_text self.new.rels q ≡ or_place
+            (get_by_text self.old.rels q) name.now at q) }
         ensures users { self.new.users ≡ self.old.users }
         ensures err { OnErr result (self.new.rels.entries ≡ self.old.rels.entries) }
     {
@@ -87,7 +90,9 @@ fn add_place(
     name: &Txt,
     at: usize,
 ) -> Result<(), AllocError>
-    ensures ok { OnOk result ((q : List ℕ) → get_by_text places.new q ≡ or_place (get_by_text places.old q) name.now at q) }
+    ensures ok { OnOk result
+        ((q : List ℕ) → get_by_text places.new q ≡ or_place (get_by_text places.old q)
+        name.now at q) }
     ensures err { OnErr result (places.new.entries ≡ places.old.entries) }
 {
     if places.get(name.as_str()).is_some() {
@@ -105,7 +110,9 @@ fn add_slot(
     user: &UserSlot,
     at: usize,
 ) -> Result<(), AllocError>
-    ensures { OnOk result ((q : List ℕ) → get_by_text places.new q ≡ or_slot (get_by_text places.old q) user.now at q) }
+    ensures { OnOk result
+        ((q : List ℕ) → get_by_text places.new q ≡ or_slot (get_by_text places.old q)
+        user.now at q) }
 {
     match user {
         UserSlot::Live(name) => {

@@ -159,7 +159,12 @@ fn statement(
 ) -> Result<Stmt, AllocError>
     requires alternates { alternates ids.now ≡ true }
     requires filled { 0 < length vals }
-    ensures { IfOk result (λ s. s ≡ record { path = ids.now; sign = sign; tuple = record { rel = rel; vals = vals } }) }
+    ensures { IfOk result
+        (λ s. s ≡ record {
+          path = ids.now;
+          sign = sign;
+          tuple = record { rel = rel; vals = vals };
+        }) }
 {
     let path = path_of(alloc, ids)?;
     let tuple = Tuple { rel, vals };
@@ -176,7 +181,9 @@ fn bound_insert(
 ) -> Result<Bound, AllocError>
     requires alternates { alternates ids.now ≡ true }
     requires filled { 0 < length vals }
-    ensures { IfOk result (λ b. b ≡ Bound.Insert (record { path = ids.now; sign = sign; tuple = record { rel = rel; vals = vals } })) }
+    ensures { IfOk result
+        (λ b. b ≡ Bound.Insert
+        (record { path = ids.now; sign = sign; tuple = record { rel = rel; vals = vals } })) }
 {
     let stmt = statement(alloc, ids, sign, rel, vals)?;
     Ok(Bound::Insert { stmt })
@@ -192,7 +199,9 @@ fn bound_why(
 ) -> Result<Bound, AllocError>
     requires alternates { alternates ids.now ≡ true }
     requires filled { 0 < length vals }
-    ensures { IfOk result (λ b. b ≡ Bound.Why (record { path = ids.now; sign = sign; tuple = record { rel = rel; vals = vals } })) }
+    ensures { IfOk result
+        (λ b. b ≡ Bound.Why
+        (record { path = ids.now; sign = sign; tuple = record { rel = rel; vals = vals } })) }
 {
     let stmt = statement(alloc, ids, sign, rel, vals)?;
     Ok(Bound::Why { stmt })
@@ -209,7 +218,8 @@ fn bound_delete(
 ) -> Result<Bound, AllocError>
     requires alternates { alternates ids.now ≡ true }
     requires few { length cols.now ≤ most_columns }
-    ensures { IfOk result (λ b. b ≡ Bound.Delete ids.now sign rel (map (bound_cond cols.now) conds)) }
+    ensures { IfOk result
+        (λ b. b ≡ Bound.Delete ids.now sign rel (map (bound_cond cols.now) conds)) }
 {
     let path = path_of(alloc, ids)?;
     let conds = bound_conds(alloc, cols, conds)?;
@@ -233,7 +243,8 @@ fn bound_update(
 ) -> Result<Bound, AllocError>
     requires alternates { alternates ids.now ≡ true }
     requires few { length cols.now ≤ most_columns }
-    ensures { IfOk result (λ b. b ≡ Bound.Update ids.now sign rel (map (bound_set cols.now) sets) (map (bound_cond cols.now) conds)) }
+    ensures { IfOk result (λ b. b ≡ Bound.Update ids.now sign rel (map (bound_set cols.now) sets)
+        (map (bound_cond cols.now) conds)) }
 {
     let path = path_of(alloc, ids)?;
     let sets = bound_sets(alloc, cols, sets)?;
@@ -292,7 +303,8 @@ fn bound_relation(
     cols: &mut List<ColDef>,
     key: u32,
 ) -> Result<Bound, AllocError>
-    ensures { IfOk result (λ b. b ≡ Bound.CreateRelation (record { name = name.old; cols = cols.old; key = key })) }
+    ensures { IfOk result
+        (λ b. b ≡ Bound.CreateRelation (record { name = name.old; cols = cols.old; key = key })) }
 {
     let name = take_text(alloc, name)?;
     let cols = mem::replace(cols, List::new(alloc));

@@ -27,8 +27,10 @@ pub fn is_uid(items: &QueryItems, col: &RawCol) -> bool
 
 /// The place of a column in its item.
 pub fn column_place(rels: &[RelDef], items: &QueryItems, col: &RawCol) -> Option<usize>
-    ensures place { result ≡ column_at (columns_named rels.now items.now col.now.alias) col.now.col }
-    ensures within { IfSome result (λ at. at < length (columns_named rels.now items.now col.now.alias)) }
+    ensures place { result ≡ column_at (columns_named rels.now items.now col.now.alias)
+        col.now.col }
+    ensures within { IfSome result
+        (λ at. at < length (columns_named rels.now items.now col.now.alias)) }
 {
     match items.item(&col.alias) {
         Some(item) => place_in_item(rels, item, &col.col),

@@ -42,7 +42,8 @@ fn unsafe_at(alloc: Global, rels: &[RelDef], items: &[Item], item: u32, col: u32
 
 /// The alias of an item.
 fn alias_at(alloc: Global, items: &[Item], at: u32) -> Result<Txt, AllocError>
-    ensures { IfOk result (λ alias. alias ≡ unwrap_or (option_map item_alias (slice_get items.now at)) []) }
+    ensures { IfOk result
+        (λ alias. alias ≡ unwrap_or (option_map item_alias (slice_get items.now at)) []) }
 {
     match items.get(at as usize) {
         Some(Item::Users { alias }) => alias.try_clone(alloc),
@@ -65,7 +66,8 @@ fn relation_columns<'a>(rels: &'a [RelDef], items: &[Item], at: u32) -> &'a [Col
 
 /// The name of a column.
 fn name_at(alloc: Global, cols: &[ColDef], at: u32) -> Result<Txt, AllocError>
-    ensures { IfOk result (λ name. name ≡ unwrap_or (option_map (λ c. c.name) (slice_get cols.now at)) []) }
+    ensures { IfOk result
+        (λ name. name ≡ unwrap_or (option_map (λ c. c.name) (slice_get cols.now at)) []) }
 {
     match cols.get(at as usize) {
         Some(col) => col.name.try_clone(alloc),

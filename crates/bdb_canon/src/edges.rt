@@ -71,7 +71,9 @@ fn push_edge(
 /// The place to which the edge of a state for a user leads.
 fn edge_place(alloc: Global, states: &[Path], path: &[u32], uid: u32) -> Result<u32, AllocError>
     requires { AreStates states.now }
-    ensures { IfOk result (λ to. to ≡ place_in path_cmp states.now (edge_target (is_member path_cmp states.now) path.now uid)) }
+    ensures { IfOk result
+        (λ to. to ≡ place_in path_cmp states.now
+        (edge_target (is_member path_cmp states.now) path.now uid)) }
 {
     let mut longer = Vec::from_slice(alloc, path)?;
     longer.push(uid)?;

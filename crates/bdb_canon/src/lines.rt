@@ -15,7 +15,8 @@ use std::alloc::{AllocError, Global};
 /// Whether a base's structure has more than so many lines. It is decided before edges and rows are built: the edges are
 /// counted, and the rows world by world, up to the first one that is too many.
 pub fn has_more_lines(alloc: Global, base: &Base, most: usize) -> Result<bool, AllocError>
-    ensures { IfOk result (λ more. more ≡ nat_lt most (line_count base.now.catalog (canon_of base.now))) }
+    ensures { IfOk result
+        (λ more. more ≡ nat_lt most (line_count base.now.catalog (canon_of base.now))) }
 {
     let catalog = base.catalog();
     let rels = catalog.rels.as_slice();
@@ -48,7 +49,10 @@ fn has_more_parts(
     most: usize,
 ) -> Result<bool, AllocError>
     requires { ascending statement_cmp stmts.now ≡ true }
-    ensures { IfOk result (λ more. more ≡ nat_lt most (sum_by (edge_count users.now) states.now + sum_by (row_count (key_lengths rels.now) stmts.now) states.now)) }
+    ensures { IfOk result
+        (λ more. more ≡ nat_lt most
+        (sum_by (edge_count users.now) states.now + sum_by
+        (row_count (key_lengths rels.now) stmts.now) states.now)) }
 {
     match left_after_edges(users, states, most) {
         None => Ok(true),
@@ -96,7 +100,9 @@ fn left_after_rows(
     most: usize,
 ) -> Result<Option<usize>, AllocError>
     requires { ascending statement_cmp stmts.now ≡ true }
-    ensures { IfOk result (λ left. left ≡ left_after most (sum_by (row_count (key_lengths rels.now) stmts.now) states.now)) }
+    ensures { IfOk result
+        (λ left. left ≡ left_after most
+        (sum_by (row_count (key_lengths rels.now) stmts.now) states.now)) }
 {
     let mut left = most;
     for path in states {

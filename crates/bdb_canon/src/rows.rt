@@ -24,7 +24,9 @@ pub fn rows_of(
     requires stmts { ascending statement_cmp stmts.now ≡ true }
     requires states { AreStates states.now }
     requires tuples { AreTuples tuples.now }
-    ensures { IfOk result (λ rows. rows ≡ flat_map (rows_from (key_lengths rels.now) stmts.now states.now tuples.now) states.now) }
+    ensures { IfOk result
+        (λ rows. rows ≡ flat_map (rows_from (key_lengths rels.now) stmts.now states.now tuples.now)
+        states.now) }
 {
     let mut rows = List::new(alloc);
     for (at, path) in states.iter().enumerate() {
@@ -57,7 +59,9 @@ fn push_rows(
     requires states { AreStates states.now }
     requires tuples { AreTuples tuples.now }
     requires place { world ≡ place_in path_cmp states.now path.now }
-    ensures { OnOk result (rows.new ≡ rows.old ++ rows_from (key_lengths rels.now) stmts.now states.now tuples.now path.now) }
+    ensures { OnOk result
+        (rows.new ≡ rows.old ++ rows_from (key_lengths rels.now)
+        stmts.now states.now tuples.now path.now) }
 {
     let found = world_among(alloc, rels, stmts, path)?;
     for held in found.held.as_slice() {

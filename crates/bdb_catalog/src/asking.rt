@@ -13,7 +13,8 @@ use std::alloc::AllocError;
 /// Appends the values that tests ask for of the first `n` columns, up to the first of these of which none is asked for. False
 /// where one of the values is one that no tuple has.
 pub fn put_asked(prefix: &mut Vec<u8>, n: u32, conds: &[Cond]) -> Result<bool, AllocError>
-    ensures { IfOk result (λ all. HasPutValues all prefix.old.items prefix.new.items (values_asked conds.now n)) }
+    ensures { IfOk result
+        (λ all. HasPutValues all prefix.old.items prefix.new.items (values_asked conds.now n)) }
 {
     for col in 0..n {
         let value = match value_asked(conds, col) {

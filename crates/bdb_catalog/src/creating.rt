@@ -43,7 +43,8 @@ pub fn add_relation<K: Keeper>(
 ) -> Result<(), TabError>
     requires running { (K.seen keeper.old).running ≡ true }
     requires base { SomeMayAddRelation (K.seen keeper.old).kept rel def.now }
-    ensures added { OnOk result (AddsRelation (K.seen keeper.old).kept (K.seen keeper.new).kept rel def.now) }
+    ensures added { OnOk result
+        (AddsRelation (K.seen keeper.old).kept (K.seen keeper.new).kept rel def.now) }
     ensures writes { OnOk result (RoseBy 1 (K.seen keeper.old).writes (K.seen keeper.new).writes) }
     ensures keeps { OnOk result (SameNumbers (K.seen keeper.old).kept (K.seen keeper.new).kept) }
     ensures write { IsWrite (K.seen keeper.old) (K.seen keeper.new) result TabError.Fault }

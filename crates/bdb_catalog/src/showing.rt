@@ -24,7 +24,8 @@ pub fn world_of_path<K: Keeper>(
 ) -> Result<World, TabError>
     requires base { SomeHasUsers (K.seen keeper.old).kept path.now }
     ensures world { IfOk result (λ world. IsWorldOf (K.seen keeper.old).kept path.now world.held) }
-    ensures reads { IfOk result (λ world. RisesWithin (length path.now + 2 * length world.held + 8) (K.seen keeper.old).reads (K.seen keeper.new).reads) }
+    ensures reads { IfOk result (λ world. RisesWithin (length path.now + 2 * length world.held + 8)
+        (K.seen keeper.old).reads (K.seen keeper.new).reads) }
     ensures kept { OnOk result ((K.seen keeper.new).kept ≡ (K.seen keeper.old).kept) }
     ensures writes { (K.seen keeper.new).writes ≡ (K.seen keeper.old).writes }
     ensures counts { NeverFall (K.seen keeper.old) (K.seen keeper.new) }
@@ -58,7 +59,8 @@ pub fn state_of<K: Keeper>(
     requires states { HoldSome (K.seen keeper.old).kept path.now }
     requires apart { alternates path.now ≡ true }
     ensures found { IfOk result (FindsState (K.seen keeper.old).kept path.now) }
-    ensures reads { OnOk result (RisesWithin (length path.now + 1) (K.seen keeper.old).reads (K.seen keeper.new).reads) }
+    ensures reads { OnOk result (RisesWithin (length path.now + 1) (K.seen keeper.old).reads
+        (K.seen keeper.new).reads) }
     ensures kept { OnOk result ((K.seen keeper.new).kept ≡ (K.seen keeper.old).kept) }
     ensures writes { (K.seen keeper.new).writes ≡ (K.seen keeper.old).writes }
     ensures counts { NeverFall (K.seen keeper.old) (K.seen keeper.new) }

@@ -35,7 +35,8 @@ pub fn taken<K: Keeper>(
 ) -> Result<List<Stmt>, TabError>
     requires base { SomeHasUsers (K.seen keeper.old).kept path.now }
     ensures taken { IfOk result (AreTaken (K.seen keeper.old).kept path.now sign rel conds.now) }
-    ensures reads { OnOk result (ReadsTaken (K.seen keeper.old) (K.seen keeper.new) path.now sign rel conds.now) }
+    ensures reads { OnOk result
+        (ReadsTaken (K.seen keeper.old) (K.seen keeper.new) path.now sign rel conds.now) }
     ensures kept { OnOk result ((K.seen keeper.new).kept ≡ (K.seen keeper.old).kept) }
     ensures writes { (K.seen keeper.new).writes ≡ (K.seen keeper.old).writes }
     ensures counts { NeverFall (K.seen keeper.old) (K.seen keeper.new) }
@@ -84,7 +85,10 @@ fn put_beginning(
     n: u32,
     conds: &[Cond],
 ) -> Result<bool, AllocError>
-    ensures { IfOk result (λ all. HasPutValues all (prefix.old.items ++ (num_bytes wid ++ num_bytes rel ++ num_bytes n)) prefix.new.items (values_asked conds.now n)) }
+    ensures { IfOk result
+        (λ all. HasPutValues all
+        (prefix.old.items ++ (num_bytes wid ++ num_bytes rel ++ num_bytes n)) prefix.new.items
+        (values_asked conds.now n)) }
 {
     put_num(prefix, wid)?;
     put_num(prefix, rel)?;
@@ -103,7 +107,8 @@ pub fn tuples_under<K: Keeper>(
 ) -> Result<Vec<Tuple>, TabError>
     requires grammar { InGrammar (K.seen keeper.old).kept }
     requires tuples { HaveTuples (K.seen keeper.old).kept }
-    ensures tuples { IfOk result (λ tuples. AreTuplesRead (K.seen keeper.old) (K.seen keeper.new) prefix.now sign tuples.items) }
+    ensures tuples { IfOk result (λ tuples. AreTuplesRead (K.seen keeper.old) (K.seen keeper.new)
+        prefix.now sign tuples.items) }
     ensures read { IsRead (K.seen keeper.old) (K.seen keeper.new) result TabError.Fault }
 {
     let rows = match rows_under::<ValTab, K>(alloc, keeper, prefix) {

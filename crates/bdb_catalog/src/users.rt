@@ -28,7 +28,8 @@ pub fn add_user<K: Keeper>(
 ) -> Result<(), TabError>
     requires running { (K.seen keeper.old).running ≡ true }
     requires base { SomeMayAddUser (K.seen keeper.old).kept uid name.now }
-    ensures added { OnOk result (AddsUserNamed (K.seen keeper.old).kept (K.seen keeper.new).kept uid name.now) }
+    ensures added { OnOk result
+        (AddsUserNamed (K.seen keeper.old).kept (K.seen keeper.new).kept uid name.now) }
     ensures writes { OnOk result (WritesUser (K.seen keeper.old) (K.seen keeper.new) uid name.now) }
     ensures keeps { OnOk result (SameNumbers (K.seen keeper.old).kept (K.seen keeper.new).kept) }
     ensures counts { NeverFall (K.seen keeper.old) (K.seen keeper.new) }
@@ -48,8 +49,10 @@ pub fn add_user<K: Keeper>(
 fn put_live<K: Keeper>(alloc: Global, keeper: &mut K, uid: u32, name: &Txt) -> Result<(), TabError>
     requires running { (K.seen keeper.old).running ≡ true }
     requires plain { IsPlain name.now }
-    ensures kept { OnOk result ((K.seen keeper.new).kept ≡ tables.insert (K.seen keeper.old).kept (place user_codec uid) (user_codec.row_bytes (Live name.now))) }
-    ensures grammar { OnOk result (InGrammar (K.seen keeper.old).kept → InGrammar (K.seen keeper.new).kept) }
+    ensures kept { OnOk result ((K.seen keeper.new).kept ≡ tables.insert (K.seen keeper.old).kept
+        (place user_codec uid) (user_codec.row_bytes (Live name.now))) }
+    ensures grammar { OnOk result (InGrammar (K.seen keeper.old).kept
+        → InGrammar (K.seen keeper.new).kept) }
     ensures writes { OnOk result (RoseBy 1 (K.seen keeper.old).writes (K.seen keeper.new).writes) }
     ensures write { IsWrite (K.seen keeper.old) (K.seen keeper.new) result TabError.Fault }
 {
@@ -79,7 +82,8 @@ fn live_slot(alloc: Global, name: &Txt) -> Result<UserSlot, AllocError>
 pub fn add_gone_place<K: Keeper>(alloc: Global, keeper: &mut K, uid: u32) -> Result<(), TabError>
     requires running { (K.seen keeper.old).running ≡ true }
     requires base { SomeMayAddGonePlace (K.seen keeper.old).kept uid }
-    ensures added { OnOk result (AddsGonePlace (K.seen keeper.old).kept (K.seen keeper.new).kept uid) }
+    ensures added { OnOk result
+        (AddsGonePlace (K.seen keeper.old).kept (K.seen keeper.new).kept uid) }
     ensures writes { OnOk result (RoseBy 1 (K.seen keeper.old).writes (K.seen keeper.new).writes) }
     ensures write { IsWrite (K.seen keeper.old) (K.seen keeper.new) result TabError.Fault }
 {

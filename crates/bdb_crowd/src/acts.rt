@@ -34,14 +34,18 @@ pub fn answer_act<O: Sink, K: Keeper>(
     requires agrees { RemembersSome (K.seen keeper.old).kept session.old }
     requires number { number < sessions }
     requires few { IsWaiting act }
-    ensures done { (s : State) → Agrees (K.seen keeper.old).kept session.old s → IsDone s (due_to s number act) session.new (K.seen keeper.old) (K.seen keeper.new) (O.written out.old) (O.written out.new) result }
+    ensures done { (s : State) → Agrees (K.seen keeper.old).kept session.old s
+        → IsDone s (due_to s number act) session.new (K.seen keeper.old) (K.seen keeper.new)
+        (O.written out.old) (O.written out.new) result }
     ensures still { IsStill (K.seen keeper.new) }
     ensures agrees { RemembersSome (K.seen keeper.new).kept session.new }
     ensures never_fall { NeverFall (K.seen keeper.old) (K.seen keeper.new) }
-    ensures keeper { HasCause (K.seen keeper.old).faults (K.seen keeper.new).faults result Stop.Keeper }
+    ensures keeper { HasCause (K.seen keeper.old).faults
+        (K.seen keeper.new).faults result Stop.Keeper }
     ensures later { O.faults out.old ≤ O.faults out.new }
     ensures sink { IsErrOf result Stop.Sink → Rose (O.faults out.old) (O.faults out.new) }
-    ensures others { OnErr result ((IsErrOf result Stop.Source → ⊥) × (IsErrOf result Stop.Large → ⊥)) }
+    ensures others { OnErr result ((IsErrOf result Stop.Source → ⊥)
+        × (IsErrOf result Stop.Large → ⊥)) }
 {
     match act {
         Act::Begun => tell(out, number, b"begun\n", true),
@@ -58,10 +62,12 @@ pub fn answer_act<O: Sink, K: Keeper>(
 /// Writes a line of a session. Ok tells whether it tells no error.
 pub fn tell<O: Sink>(out: &mut O, number: u8, line: &[u8], fine: bool) -> Result<bool, Stop>
     requires { number < sessions }
-    ensures told { IsTold (mark number ++ line.now) fine (O.written out.old) (O.written out.new) result }
+    ensures told { IsTold (mark number ++ line.now) fine (O.written out.old) (O.written out.new)
+        result }
     ensures later { O.faults out.old ≤ O.faults out.new }
     ensures sink { IsErrOf result Stop.Sink → Rose (O.faults out.old) (O.faults out.new) }
-    ensures others { OnErr result ((IsErrOf result Stop.Source → ⊥) × (IsErrOf result Stop.Large → ⊥)) }
+    ensures others { OnErr result ((IsErrOf result Stop.Source → ⊥)
+        × (IsErrOf result Stop.Large → ⊥)) }
     ensures keeper { (n : ℕ) → HasCause n n result Stop.Keeper }
 {
     match write_line(out, number, line) {
@@ -75,7 +81,8 @@ pub fn tell_error<O: Sink>(out: &mut O, line: &[u8]) -> Result<bool, Stop>
     ensures told { IsTold line.now false (O.written out.old) (O.written out.new) result }
     ensures later { O.faults out.old ≤ O.faults out.new }
     ensures sink { IsErrOf result Stop.Sink → Rose (O.faults out.old) (O.faults out.new) }
-    ensures others { OnErr result ((IsErrOf result Stop.Source → ⊥) × (IsErrOf result Stop.Large → ⊥)) }
+    ensures others { OnErr result ((IsErrOf result Stop.Source → ⊥)
+        × (IsErrOf result Stop.Large → ⊥)) }
     ensures keeper { (n : ℕ) → HasCause n n result Stop.Keeper }
 {
     match out.write_all(line) {
@@ -96,14 +103,18 @@ fn run_one<O: Sink, K: Keeper>(
     requires still { IsStill (K.seen keeper.old) }
     requires agrees { RemembersSome (K.seen keeper.old).kept session.old }
     requires number { number < sessions }
-    ensures done { (s : State) → Agrees (K.seen keeper.old).kept session.old s → IsDone s (due_to s number (One command)) session.new (K.seen keeper.old) (K.seen keeper.new) (O.written out.old) (O.written out.new) result }
+    ensures done { (s : State) → Agrees (K.seen keeper.old).kept session.old s
+        → IsDone s (due_to s number (One command)) session.new (K.seen keeper.old)
+        (K.seen keeper.new) (O.written out.old) (O.written out.new) result }
     ensures still { IsStill (K.seen keeper.new) }
     ensures agrees { RemembersSome (K.seen keeper.new).kept session.new }
     ensures never_fall { NeverFall (K.seen keeper.old) (K.seen keeper.new) }
-    ensures keeper { HasCause (K.seen keeper.old).faults (K.seen keeper.new).faults result Stop.Keeper }
+    ensures keeper { HasCause (K.seen keeper.old).faults
+        (K.seen keeper.new).faults result Stop.Keeper }
     ensures later { O.faults out.old ≤ O.faults out.new }
     ensures sink { IsErrOf result Stop.Sink → Rose (O.faults out.old) (O.faults out.new) }
-    ensures others { OnErr result ((IsErrOf result Stop.Source → ⊥) × (IsErrOf result Stop.Large → ⊥)) }
+    ensures others { OnErr result ((IsErrOf result Stop.Source → ⊥)
+        × (IsErrOf result Stop.Large → ⊥)) }
 {
     let mut lines = List::new(alloc);
     match lines.push(command) {
@@ -132,14 +143,18 @@ fn run_batch<O: Sink, K: Keeper>(
     requires agrees { RemembersSome (K.seen keeper.old).kept session.old }
     requires number { number < sessions }
     requires few { length commands.now ≤ most_queued }
-    ensures done { (s : State) → Agrees (K.seen keeper.old).kept session.old s → IsDone s (due_to s number (Batch commands.now)) session.new (K.seen keeper.old) (K.seen keeper.new) (O.written out.old) (O.written out.new) result }
+    ensures done { (s : State) → Agrees (K.seen keeper.old).kept session.old s
+        → IsDone s (due_to s number (Batch commands.now)) session.new (K.seen keeper.old)
+        (K.seen keeper.new) (O.written out.old) (O.written out.new) result }
     ensures still { IsStill (K.seen keeper.new) }
     ensures agrees { RemembersSome (K.seen keeper.new).kept session.new }
     ensures never_fall { NeverFall (K.seen keeper.old) (K.seen keeper.new) }
-    ensures keeper { HasCause (K.seen keeper.old).faults (K.seen keeper.new).faults result Stop.Keeper }
+    ensures keeper { HasCause (K.seen keeper.old).faults
+        (K.seen keeper.new).faults result Stop.Keeper }
     ensures later { O.faults out.old ≤ O.faults out.new }
     ensures sink { IsErrOf result Stop.Sink → Rose (O.faults out.old) (O.faults out.new) }
-    ensures others { OnErr result ((IsErrOf result Stop.Source → ⊥) × (IsErrOf result Stop.Large → ⊥)) }
+    ensures others { OnErr result ((IsErrOf result Stop.Source → ⊥)
+        × (IsErrOf result Stop.Large → ⊥)) }
 {
     let reply = match run(session, keeper, commands) {
         Ok(reply) => reply,
@@ -160,13 +175,16 @@ fn run<K: Keeper>(
     requires still { IsStill (K.seen keeper.old) }
     requires agrees { RemembersSome (K.seen keeper.old).kept session.old }
     requires few { length commands.now ≤ most_queued }
-    ensures run { (s : State) → Agrees (K.seen keeper.old).kept session.old s → IsRunBy s commands.now session.new (K.seen keeper.old) (K.seen keeper.new) result }
+    ensures run { (s : State) → Agrees (K.seen keeper.old).kept session.old s
+        → IsRunBy s commands.now session.new (K.seen keeper.old) (K.seen keeper.new) result }
     ensures few { IfOk result (λ r. r.accepted ≤ most_queued) }
     ensures still { IsStill (K.seen keeper.new) }
     ensures agrees { RemembersSome (K.seen keeper.new).kept session.new }
     ensures never_fall { NeverFall (K.seen keeper.old) (K.seen keeper.new) }
-    ensures keeper { HasCause (K.seen keeper.old).faults (K.seen keeper.new).faults result Stop.Keeper }
-    ensures others { OnErr result ((IsErrOf result Stop.Source → ⊥) × (IsErrOf result Stop.Large → ⊥) × (IsErrOf result Stop.Sink → ⊥)) }
+    ensures keeper { HasCause (K.seen keeper.old).faults
+        (K.seen keeper.new).faults result Stop.Keeper }
+    ensures others { OnErr result ((IsErrOf result Stop.Source → ⊥)
+        × (IsErrOf result Stop.Large → ⊥) × (IsErrOf result Stop.Sink → ⊥)) }
 {
     match session.apply_batch(keeper, commands) {
         Ok(reply) => Ok(reply),
@@ -185,7 +203,9 @@ fn write_batch<O: Sink>(
     requires number { number < sessions }
     requires few { count ≤ most_queued }
     requires accepted { reply.now.accepted ≤ most_queued }
-    ensures written { WritesPiece (O.written out.old) (O.written out.new) result (marked number reply.now.text ++ end_line number reply.now.refused reply.now.accepted count) }
+    ensures written { WritesPiece (O.written out.old) (O.written out.new) result
+        (marked number reply.now.text ++ end_line number reply.now.refused reply.now.accepted
+        count) }
     ensures cause { HasCause (O.faults out.old) (O.faults out.new) result failed }
 {
     match write_marked(out, number, reply.text.as_slice()) {
@@ -208,7 +228,8 @@ fn write_end<O: Sink>(
     requires number { number < sessions }
     requires few { count ≤ most_queued }
     requires accepted { reply.now.accepted ≤ most_queued }
-    ensures written { WritesPiece (O.written out.old) (O.written out.new) result (end_line number reply.now.refused reply.now.accepted count) }
+    ensures written { WritesPiece (O.written out.old) (O.written out.new) result
+        (end_line number reply.now.refused reply.now.accepted count) }
     ensures cause { HasCause (O.faults out.old) (O.faults out.new) result failed }
 {
     if reply.refused {

@@ -47,7 +47,8 @@ impl Crowd {
     /// A stream that has not begun, over the base of a session: no batch is open. It takes no memory.
     pub fn new(alloc: Global, session: Session) -> Self
         ensures session { result.session ≡ session }
-        ensures starts { (t : Tables) (s : State) → Agrees t session s → IsAt t result (start_at s) }
+        ensures starts { (t : Tables) (s : State) → Agrees t session s
+            → IsAt t result (start_at s) }
         ensures some { (t : Tables) → RemembersSome t session → IsAtSome t result }
     {
         Crowd {
@@ -68,15 +69,19 @@ impl Crowd {
     ) -> Result<bool, Stop>
         requires still { IsStill (K.seen keeper.old) }
         requires at { IsAtSome (K.seen keeper.old).kept self.old }
-        ensures answered { (p : Point) → IsAt (K.seen keeper.old).kept self.old p → IsAnswer p (asked_by piece.now) self.new (K.seen keeper.old) (K.seen keeper.new) (O.written out.old) (O.written out.new) result }
+        ensures answered { (p : Point) → IsAt (K.seen keeper.old).kept self.old p
+            → IsAnswer p (asked_by piece.now) self.new (K.seen keeper.old) (K.seen keeper.new)
+            (O.written out.old) (O.written out.new) result }
         ensures at { OnOk result (IsAtSome (K.seen keeper.new).kept self.new) }
         ensures still { IsStill (K.seen keeper.new) }
         ensures agrees { RemembersSome (K.seen keeper.new).kept self.new.session }
         ensures never_fall { NeverFall (K.seen keeper.old) (K.seen keeper.new) }
-        ensures keeper { HasCause (K.seen keeper.old).faults (K.seen keeper.new).faults result Stop.Keeper }
+        ensures keeper { HasCause (K.seen keeper.old).faults
+            (K.seen keeper.new).faults result Stop.Keeper }
         ensures later { O.faults out.old ≤ O.faults out.new }
         ensures sink { IsErrOf result Stop.Sink → Rose (O.faults out.old) (O.faults out.new) }
-        ensures others { OnErr result ((IsErrOf result Stop.Source → ⊥) × (IsErrOf result Stop.Large → ⊥)) }
+        ensures others { OnErr result ((IsErrOf result Stop.Source → ⊥)
+            × (IsErrOf result Stop.Large → ⊥)) }
     {
         match event_of(self.alloc, piece) {
             Ok(read) => self.answer_read(keeper, out, read),
@@ -94,14 +99,18 @@ impl Crowd {
         requires still { IsStill (K.seen keeper.old) }
         requires at { IsAtSome (K.seen keeper.old).kept self.old }
         requires names { NamesSession read }
-        ensures answered { (p : Point) → IsAt (K.seen keeper.old).kept self.old p → IsAnswer p (piece read) self.new (K.seen keeper.old) (K.seen keeper.new) (O.written out.old) (O.written out.new) result }
+        ensures answered { (p : Point) → IsAt (K.seen keeper.old).kept self.old p
+            → IsAnswer p (piece read) self.new (K.seen keeper.old) (K.seen keeper.new)
+            (O.written out.old) (O.written out.new) result }
         ensures still { IsStill (K.seen keeper.new) }
         ensures agrees { RemembersSome (K.seen keeper.new).kept self.new.session }
         ensures never_fall { NeverFall (K.seen keeper.old) (K.seen keeper.new) }
-        ensures keeper { HasCause (K.seen keeper.old).faults (K.seen keeper.new).faults result Stop.Keeper }
+        ensures keeper { HasCause (K.seen keeper.old).faults
+            (K.seen keeper.new).faults result Stop.Keeper }
         ensures later { O.faults out.old ≤ O.faults out.new }
         ensures sink { IsErrOf result Stop.Sink → Rose (O.faults out.old) (O.faults out.new) }
-        ensures others { OnErr result ((IsErrOf result Stop.Source → ⊥) × (IsErrOf result Stop.Large → ⊥)) }
+        ensures others { OnErr result ((IsErrOf result Stop.Source → ⊥)
+            × (IsErrOf result Stop.Large → ⊥)) }
     {
         match read {
             Read::Nothing => Ok(true),
@@ -123,14 +132,18 @@ impl Crowd {
         requires still { IsStill (K.seen keeper.old) }
         requires at { IsAtSome (K.seen keeper.old).kept self.old }
         requires number { number < sessions }
-        ensures answered { (p : Point) → IsAt (K.seen keeper.old).kept self.old p → IsAnswer p (piece (Read.Event (record { session = number; line = line }))) self.new (K.seen keeper.old) (K.seen keeper.new) (O.written out.old) (O.written out.new) result }
+        ensures answered { (p : Point) → IsAt (K.seen keeper.old).kept self.old p
+            → IsAnswer p (piece (Read.Event (record { session = number; line = line }))) self.new
+            (K.seen keeper.old) (K.seen keeper.new) (O.written out.old) (O.written out.new) result }
         ensures still { IsStill (K.seen keeper.new) }
         ensures agrees { RemembersSome (K.seen keeper.new).kept self.new.session }
         ensures never_fall { NeverFall (K.seen keeper.old) (K.seen keeper.new) }
-        ensures keeper { HasCause (K.seen keeper.old).faults (K.seen keeper.new).faults result Stop.Keeper }
+        ensures keeper { HasCause (K.seen keeper.old).faults
+            (K.seen keeper.new).faults result Stop.Keeper }
         ensures later { O.faults out.old ≤ O.faults out.new }
         ensures sink { IsErrOf result Stop.Sink → Rose (O.faults out.old) (O.faults out.new) }
-        ensures others { OnErr result ((IsErrOf result Stop.Source → ⊥) × (IsErrOf result Stop.Large → ⊥)) }
+        ensures others { OnErr result ((IsErrOf result Stop.Source → ⊥)
+            × (IsErrOf result Stop.Large → ⊥)) }
     {
         match self.desk.step(number, line) {
             Ok(act) => answer_act(self.alloc, &mut self.session, keeper, out, number, act),

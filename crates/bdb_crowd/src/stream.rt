@@ -34,19 +34,28 @@ pub fn carry_out_stream<S: Source, O: Sink, K: Keeper>(
 ) -> Result<bool, Stop>
     requires still { IsStill (K.seen keeper.old) }
     requires at { IsAtSome (K.seen keeper.old).kept crowd.old }
-    ensures streams { (p : Point) → IsAt (K.seen keeper.old).kept crowd.old p → Streams p (S.left script.old) (S.left script.new) crowd.new.session (K.seen keeper.old) (K.seen keeper.new) (O.written out.old) (O.written out.new) result }
+    ensures streams { (p : Point) → IsAt (K.seen keeper.old).kept crowd.old p
+        → Streams p (S.left script.old) (S.left script.new) crowd.new.session (K.seen keeper.old)
+        (K.seen keeper.new) (O.written out.old) (O.written out.new) result }
     ensures end { OnOk result (IsAtEnd (S.left script.new)) }
-    ensures short { OnOk result (IfSome (S.left script.old) (λ text. length text ≤ longest_script)) }
+    ensures short { OnOk result
+        (IfSome (S.left script.old) (λ text. length text ≤ longest_script)) }
     ensures still { IsStill (K.seen keeper.new) }
     ensures agrees { RemembersSome (K.seen keeper.new).kept crowd.new.session }
     ensures source { IsErrOf result Stop.Source → Rose (S.faults script.old) (S.faults script.new) }
     ensures sink { IsErrOf result Stop.Sink → Rose (O.faults out.old) (O.faults out.new) }
-    ensures keeper { IsErrOf result Stop.Keeper → Rose (K.seen keeper.old).faults (K.seen keeper.new).faults }
-    ensures large { IsErrOf result Stop.Large → RisesOver longest_script (S.given script.old) (S.given script.new) }
-    ensures many { IsErrOf result Stop.Large → IfSome (S.left script.old) (λ text. longest_script < length text) }
-    ensures within { (IsErrOf result Stop.Large → ⊥) → (n : ℕ) × (n ≤ longest_script) × Rises n (S.given script.old) (S.given script.new) }
-    ensures one_more { IsErrOf result Stop.Large → Rises (longest_script + 1) (S.given script.old) (S.given script.new) }
-    ensures source_counts { (S.faults script.old ≤ S.faults script.new) × (S.given script.old ≤ S.given script.new) }
+    ensures keeper { IsErrOf result Stop.Keeper → Rose (K.seen keeper.old).faults
+        (K.seen keeper.new).faults }
+    ensures large { IsErrOf result Stop.Large → RisesOver longest_script (S.given script.old)
+        (S.given script.new) }
+    ensures many { IsErrOf result Stop.Large → IfSome (S.left script.old)
+        (λ text. longest_script < length text) }
+    ensures within { (IsErrOf result Stop.Large → ⊥) → (n : ℕ) × (n ≤ longest_script)
+        × Rises n (S.given script.old) (S.given script.new) }
+    ensures one_more { IsErrOf result Stop.Large → Rises (longest_script + 1) (S.given script.old)
+        (S.given script.new) }
+    ensures source_counts { (S.faults script.old ≤ S.faults script.new)
+        × (S.given script.old ≤ S.given script.new) }
     ensures sink_count { O.faults out.old ≤ O.faults out.new }
     ensures keeper_counts { NeverFall (K.seen keeper.old) (K.seen keeper.new) }
 {
@@ -101,15 +110,19 @@ fn answer_block<O: Sink, K: Keeper>(
     requires still { IsStill (K.seen keeper.old) }
     requires at { IsAtSome (K.seen keeper.old).kept crowd.old }
     ensures cutter { OnOk result (cutter.new ≡ ready (state_after cutter.old.state block.now)) }
-    ensures ends { (p : Point) → IsAt (K.seen keeper.old).kept crowd.old p → Ends p (map asked_by (pieces_from cutter.old.state block.now)) crowd.new (K.seen keeper.old) (K.seen keeper.new) (O.written out.old) (O.written out.new) result }
+    ensures ends { (p : Point) → IsAt (K.seen keeper.old).kept crowd.old p
+        → Ends p (map asked_by (pieces_from cutter.old.state block.now)) crowd.new
+        (K.seen keeper.old) (K.seen keeper.new) (O.written out.old) (O.written out.new) result }
     ensures at { OnOk result (IsAtSome (K.seen keeper.new).kept crowd.new) }
     ensures still { IsStill (K.seen keeper.new) }
     ensures agrees { RemembersSome (K.seen keeper.new).kept crowd.new.session }
     ensures never_fall { NeverFall (K.seen keeper.old) (K.seen keeper.new) }
-    ensures keeper { HasCause (K.seen keeper.old).faults (K.seen keeper.new).faults result Stop.Keeper }
+    ensures keeper { HasCause (K.seen keeper.old).faults
+        (K.seen keeper.new).faults result Stop.Keeper }
     ensures later { O.faults out.old ≤ O.faults out.new }
     ensures sink { IsErrOf result Stop.Sink → Rose (O.faults out.old) (O.faults out.new) }
-    ensures others { OnErr result ((IsErrOf result Stop.Source → ⊥) × (IsErrOf result Stop.Large → ⊥)) }
+    ensures others { OnErr result ((IsErrOf result Stop.Source → ⊥)
+        × (IsErrOf result Stop.Large → ⊥)) }
 {
     let mut rest = block;
     let mut fine = true;
@@ -133,7 +146,8 @@ fn answer_rest<O: Sink>(out: &mut O, rest: Rest) -> Result<bool, Stop>
     ensures told { IsRestTold rest (O.written out.old) (O.written out.new) result }
     ensures later { O.faults out.old ≤ O.faults out.new }
     ensures sink { IsErrOf result Stop.Sink → Rose (O.faults out.old) (O.faults out.new) }
-    ensures others { OnErr result ((IsErrOf result Stop.Source → ⊥) × (IsErrOf result Stop.Large → ⊥)) }
+    ensures others { OnErr result ((IsErrOf result Stop.Source → ⊥)
+        × (IsErrOf result Stop.Large → ⊥)) }
     ensures keeper { (n : ℕ) → HasCause n n result Stop.Keeper }
 {
     match rest {

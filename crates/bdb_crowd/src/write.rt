@@ -12,7 +12,8 @@ use bdb_io::{Failed, Sink};
 /// Writes a line, with the mark of a session before it.
 pub fn write_line<O: Sink>(out: &mut O, session: u8, line: &[u8]) -> Result<(), Failed>
     requires { session < sessions }
-    ensures written { WritesPiece (O.written out.old) (O.written out.new) result (mark session ++ line.now) }
+    ensures written { WritesPiece (O.written out.old) (O.written out.new) result
+        (mark session ++ line.now) }
     ensures cause { HasCause (O.faults out.old) (O.faults out.new) result failed }
 {
     match write_mark(out, session) {
@@ -40,7 +41,8 @@ fn write_mark<O: Sink>(out: &mut O, session: u8) -> Result<(), Failed>
 /// Writes lines, each with the mark of a session before it.
 pub fn write_marked<O: Sink>(out: &mut O, session: u8, text: &[u8]) -> Result<(), Failed>
     requires { session < sessions }
-    ensures written { WritesPiece (O.written out.old) (O.written out.new) result (marked session text.now) }
+    ensures written { WritesPiece (O.written out.old) (O.written out.new) result
+        (marked session text.now) }
     ensures cause { HasCause (O.faults out.old) (O.faults out.new) result failed }
 {
     let mut rest = text;
@@ -62,7 +64,8 @@ fn end_of_line(text: &[u8]) -> usize
     requires { 0 < length text.now }
     ensures some { 0 < result }
     ensures within { result ≤ length text.now }
-    ensures line { (m : List ℕ) → marked_from m true text.now ≡ m ++ (take result text.now ++ marked_from m true (drop result text.now)) }
+    ensures line { (m : List ℕ) → marked_from m true text.now
+        ≡ m ++ (take result text.now ++ marked_from m true (drop result text.now)) }
 {
     match line_feed(text) {
         Some(at) => at + 1,
@@ -81,7 +84,8 @@ fn line_feed(text: &[u8]) -> Option<usize>
 pub fn write_count<O: Sink>(out: &mut O, session: u8, told: &[u8], number: u8) -> Result<(), Failed>
     requires session { session < sessions }
     requires short { number < 100 }
-    ensures written { WritesPiece (O.written out.old) (O.written out.new) result ((mark session ++ told.now) ++ (decimal number ++ 10 ∷ [])) }
+    ensures written { WritesPiece (O.written out.old) (O.written out.new) result
+        ((mark session ++ told.now) ++ (decimal number ++ 10 ∷ [])) }
     ensures cause { HasCause (O.faults out.old) (O.faults out.new) result failed }
 {
     match write_line(out, session, told) {
@@ -97,7 +101,8 @@ pub fn write_count<O: Sink>(out: &mut O, session: u8, told: &[u8], number: u8) -
 /// Writes a number of one digit or two, which ends its line.
 fn write_number<O: Sink>(out: &mut O, number: u8) -> Result<(), Failed>
     requires { number < 100 }
-    ensures written { WritesPiece (O.written out.old) (O.written out.new) result (decimal number ++ 10 ∷ []) }
+    ensures written { WritesPiece (O.written out.old) (O.written out.new) result
+        (decimal number ++ 10 ∷ []) }
     ensures cause { HasCause (O.faults out.old) (O.faults out.new) result failed }
 {
     if number < 10 {

@@ -35,7 +35,8 @@ pub fn are_rows_held<K: Keeper>(
 ) -> Result<bool, TabError>
     requires grammar { InGrammar (K.seen keeper.old).kept }
     requires keyed { AreKeyed (key_lengths catalog.now.rels) (K.seen keeper.old).kept }
-    ensures held { IfOk result (TellsRows (key_lengths catalog.now.rels) (K.seen keeper.old).kept worlds.now) }
+    ensures held { IfOk result
+        (TellsRows (key_lengths catalog.now.rels) (K.seen keeper.old).kept worlds.now) }
     ensures reading { OnlyReads (K.seen keeper.old) (K.seen keeper.new) result TabError.Fault }
 {
     match are_worlds_settled(alloc, keeper, catalog, worlds) {
@@ -53,7 +54,8 @@ fn are_worlds_settled<K: Keeper>(
 ) -> Result<bool, TabError>
     requires grammar { InGrammar (K.seen keeper.old).kept }
     requires keyed { AreKeyed (key_lengths catalog.now.rels) (K.seen keeper.old).kept }
-    ensures settled { IfOk result (TellsWorlds (key_lengths catalog.now.rels) (K.seen keeper.old).kept worlds.now) }
+    ensures settled { IfOk result
+        (TellsWorlds (key_lengths catalog.now.rels) (K.seen keeper.old).kept worlds.now) }
     ensures reading { OnlyReads (K.seen keeper.old) (K.seen keeper.new) result TabError.Fault }
 {
     let mut linked = Linked {
@@ -81,8 +83,10 @@ fn is_world_settled<K: Keeper>(
     requires grammar { InGrammar (K.seen keeper.old).kept }
     requires keyed { AreKeyed (key_lengths catalog.now.rels) (K.seen keeper.old).kept }
     requires linked { AreLinked (K.seen keeper.old).kept linked.old.link linked.old.rows.items }
-    ensures told { IfOk result (TellsWorld (key_lengths catalog.now.rels) (K.seen keeper.old).kept world.now) }
-    ensures linked { OnOk result (AreLinked (K.seen keeper.old).kept linked.new.link linked.new.rows.items) }
+    ensures told { IfOk result
+        (TellsWorld (key_lengths catalog.now.rels) (K.seen keeper.old).kept world.now) }
+    ensures linked { OnOk result
+        (AreLinked (K.seen keeper.old).kept linked.new.link linked.new.rows.items) }
     ensures read { IsRead (K.seen keeper.old) (K.seen keeper.new) result TabError.Fault }
 {
     let own = match read_rows(alloc, keeper, catalog, world.0) {
@@ -171,7 +175,8 @@ fn read_rows<K: Keeper>(
 ) -> Result<Vec<Stored>, TabError>
     requires grammar { InGrammar (K.seen keeper.old).kept }
     requires keyed { AreKeyed (key_lengths catalog.now.rels) (K.seen keeper.old).kept }
-    ensures rows { IfOk result (λ rows. AreReadUnder (K.seen keeper.old).kept (world_prefix wid) rows.items) }
+    ensures rows { IfOk result (λ rows. AreReadUnder (K.seen keeper.old).kept (world_prefix wid)
+        rows.items) }
     ensures apart { IfOk result (λ rows. are_apart rows.items ≡ true) }
     ensures read { IsRead (K.seen keeper.old) (K.seen keeper.new) result TabError.Fault }
 {
@@ -189,7 +194,8 @@ fn settles(
     from: &[Stored],
 ) -> Result<bool, AllocError>
     requires from { are_apart from.now ≡ true }
-    ensures { IfOk result (λ settled. settled ≡ settles (key_lengths catalog.now.rels) own.items from.now) }
+    ensures { IfOk result
+        (λ settled. settled ≡ settles (key_lengths catalog.now.rels) own.items from.now) }
 {
     let mut stated = Vec::new(alloc);
     let mut inherited = Vec::new(alloc);
@@ -205,8 +211,10 @@ fn put_row(
     inherited: &mut Vec<Stored>,
     row: Stored,
 ) -> Result<(), AllocError>
-    ensures stated { OnOk result (stated.new.items ≡ stated.old.items ++ filter is_explicit (row ∷ [])) }
-    ensures inherited { OnOk result (inherited.new.items ≡ inherited.old.items ++ filter is_inherited (row ∷ [])) }
+    ensures stated { OnOk result (stated.new.items ≡ stated.old.items ++ filter is_explicit
+        (row ∷ [])) }
+    ensures inherited { OnOk result
+        (inherited.new.items ≡ inherited.old.items ++ filter is_inherited (row ∷ [])) }
 {
     if row.mark.1 {
         stated.push(row)?;

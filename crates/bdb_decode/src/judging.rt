@@ -65,7 +65,8 @@ pub fn judge<K: Keeper>(alloc: Global, keeper: &mut K) -> Result<Verdict, TabErr
 
 // Whether no table has a row. One read for each table up to the first that has one.
 fn is_empty<K: Keeper>(alloc: Global, keeper: &mut K) -> Result<bool, TabError>
-    ensures empty { IfOk result (λ empty. MatchBool empty ((K.seen keeper.old).kept ≡ tables.empty) ((K.seen keeper.old).kept ≡ tables.empty → ⊥)) }
+    ensures empty { IfOk result (λ empty. MatchBool empty ((K.seen keeper.old).kept ≡ tables.empty)
+        ((K.seen keeper.old).kept ≡ tables.empty → ⊥)) }
     ensures tables { LieInTables (K.seen keeper.old).kept }
     ensures rest { IsAtRest (K.seen keeper.old) }
     ensures reading { OnlyReads (K.seen keeper.old) (K.seen keeper.new) result TabError.Fault }
@@ -133,7 +134,8 @@ fn judge_former<K: Keeper>(alloc: Global, keeper: &mut K) -> Result<Verdict, Tab
 fn raw_base<K: Keeper>(alloc: Global, keeper: &mut K) -> Result<Option<Base>, TabError>
     requires tables { LieInTables (K.seen keeper.old).kept }
     requires format { HasFormat (K.seen keeper.old).kept 3 }
-    ensures base { IfOk result (λ r. MatchOption r (StoreNone (K.seen keeper.old).kept) (StoresValid (K.seen keeper.old).kept)) }
+    ensures base { IfOk result (λ r. MatchOption r (StoreNone (K.seen keeper.old).kept)
+        (StoresValid (K.seen keeper.old).kept)) }
     ensures reading { OnlyReads (K.seen keeper.old) (K.seen keeper.new) result TabError.Fault }
 {
     match are_formed(alloc, keeper) {
@@ -156,7 +158,8 @@ fn raw_base<K: Keeper>(alloc: Global, keeper: &mut K) -> Result<Option<Base>, Ta
 fn are_formed<K: Keeper>(alloc: Global, keeper: &mut K) -> Result<bool, TabError>
     requires tables { LieInTables (K.seen keeper.old).kept }
     requires format { HasFormat (K.seen keeper.old).kept 3 }
-    ensures formed { IfOk result (λ formed. MatchBool formed (AreFormed (K.seen keeper.old).kept) (StoreNone (K.seen keeper.old).kept)) }
+    ensures formed { IfOk result (λ formed. MatchBool formed (AreFormed (K.seen keeper.old).kept)
+        (StoreNone (K.seen keeper.old).kept)) }
     ensures reading { OnlyReads (K.seen keeper.old) (K.seen keeper.new) result TabError.Fault }
 {
     match others_are_bare(alloc, keeper) {
@@ -173,8 +176,10 @@ fn are_formed<K: Keeper>(alloc: Global, keeper: &mut K) -> Result<bool, TabError
 // The base of these parts. None exactly where the tables store no valid base.
 fn base_of<K: Keeper>(alloc: Global, keeper: &mut K, parts: Parts) -> Result<Option<Base>, TabError>
     requires formed { AreFormed (K.seen keeper.old).kept }
-    requires parts { AreParts (K.seen keeper.old).kept parts.catalog parts.paths.items parts.tuples.items }
-    ensures base { IfOk result (λ r. MatchOption r (StoreNone (K.seen keeper.old).kept) (StoresValid (K.seen keeper.old).kept)) }
+    requires parts { AreParts
+        (K.seen keeper.old).kept parts.catalog parts.paths.items parts.tuples.items }
+    ensures base { IfOk result (λ r. MatchOption r (StoreNone (K.seen keeper.old).kept)
+        (StoresValid (K.seen keeper.old).kept)) }
     ensures reading { OnlyReads (K.seen keeper.old) (K.seen keeper.new) result TabError.Fault }
 {
     let Parts {

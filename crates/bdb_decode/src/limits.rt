@@ -17,7 +17,9 @@ use std::alloc::Global;
 /// where the tables store no valid base. One read for each world and one more; none is kept, and none is read behind the first
 /// that is too many or too deep. To be asked before the worlds are named, which takes as much memory as all paths together.
 pub fn worlds_are_within_limits<K: Keeper>(alloc: Global, keeper: &mut K) -> Result<bool, TabError>
-    ensures within { IfOk result (λ within. MatchBool within (AreWithinLimits (K.seen keeper.old).kept) (StoreNone (K.seen keeper.old).kept)) }
+    ensures within { IfOk result
+        (λ within. MatchBool within (AreWithinLimits (K.seen keeper.old).kept)
+        (StoreNone (K.seen keeper.old).kept)) }
     ensures reading { OnlyReads (K.seen keeper.old) (K.seen keeper.new) result TabError.Fault }
 {
     let mut low = Vec::new(alloc);

@@ -23,7 +23,8 @@ pub fn hold_rows_of<K: Keeper>(
 ) -> Result<bool, TabError>
     requires grammar { InGrammar (K.seen keeper.old).kept }
     requires keyed { AreKeyed (key_lengths catalog.now.rels) (K.seen keeper.old).kept }
-    ensures held { IfOk result (TellsRowsOf (key_lengths catalog.now.rels) (K.seen keeper.old).kept worlds.now) }
+    ensures held { IfOk result
+        (TellsRowsOf (key_lengths catalog.now.rels) (K.seen keeper.old).kept worlds.now) }
     ensures reading { OnlyReads (K.seen keeper.old) (K.seen keeper.new) result TabError.Fault }
 {
     let links = match links_of(alloc, keeper, worlds) {
@@ -43,7 +44,8 @@ fn links_of<K: Keeper>(
     worlds: &[(u32, Path)],
 ) -> Result<Vec<(u32, Option<u32>)>, TabError>
     requires grammar { InGrammar (K.seen keeper.old).kept }
-    ensures links { IfOk result (λ links. AreLinks (K.seen keeper.old).kept worlds.now links.items) }
+    ensures links { IfOk result
+        (λ links. AreLinks (K.seen keeper.old).kept worlds.now links.items) }
     ensures reading { OnlyReads (K.seen keeper.old) (K.seen keeper.new) result TabError.Fault }
 {
     let mut links = Vec::new(alloc);

@@ -45,7 +45,8 @@ pub enum Stand {
 pub fn stand_of<K: Keeper>(alloc: Global, keeper: &mut K) -> Result<Stand, OpenError>
     ensures stand { IfOk result (TellsStand (K.seen keeper.old).kept) }
     ensures damaged { IsErrOf result OpenError.Damaged → AreDamaged (K.seen keeper.old).kept }
-    ensures format { (n : ℕ) → IsErrOf result (OpenError.Format n) → HaveOtherFormat (K.seen keeper.old).kept n }
+    ensures format { (n : ℕ) → IsErrOf result (OpenError.Format n)
+        → HaveOtherFormat (K.seen keeper.old).kept n }
     ensures ends { EndsReading (K.seen keeper.old) (K.seen keeper.new) result }
 {
     match judge(alloc, keeper) {
@@ -64,7 +65,8 @@ pub fn stand_of<K: Keeper>(alloc: Global, keeper: &mut K) -> Result<Stand, OpenE
 pub fn decode<K: Keeper>(alloc: Global, keeper: &mut K) -> Result<Base, OpenError>
     ensures base { IfOk result (λ base. StandFor (K.seen keeper.old).kept base) }
     ensures damaged { IsErrOf result OpenError.Damaged → AreDamaged (K.seen keeper.old).kept }
-    ensures format { (n : ℕ) → IsErrOf result (OpenError.Format n) → HaveOtherFormat (K.seen keeper.old).kept n }
+    ensures format { (n : ℕ) → IsErrOf result (OpenError.Format n)
+        → HaveOtherFormat (K.seen keeper.old).kept n }
     ensures ends { EndsReading (K.seen keeper.old) (K.seen keeper.new) result }
 {
     match stand_of(alloc, keeper) {

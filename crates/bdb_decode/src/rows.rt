@@ -128,8 +128,11 @@ fn push_said(
 ) -> Result<bool, AllocError>
     requires worlds { ascending number_cmp worlds.now ≡ true }
     requires tuples { ascending number_cmp tuples.now ≡ true }
-    ensures placed { IfOk result (λ placed. placed ≡ is_placed (key_lengths catalog.now.rels) worlds.now tuples.now row.now) }
-    ensures said { IfOk result (λ placed. placed ≡ true → stmts.new.items ≡ stmts.old.items ++ said worlds.now tuples.now row.now) }
+    ensures placed { IfOk result (λ placed. placed ≡ is_placed (key_lengths catalog.now.rels)
+        worlds.now tuples.now row.now) }
+    ensures said { IfOk result
+        (λ placed. placed ≡ true
+        → stmts.new.items ≡ stmts.old.items ++ said worlds.now tuples.now row.now) }
 {
     match item_of(worlds, row.0.0) {
         Some(path) => match item_of(tuples, row.0.3) {
@@ -149,8 +152,11 @@ fn push_placed(
     row: &ValRow,
     stmts: &mut Vec<Stmt>,
 ) -> Result<bool, AllocError>
-    ensures placed { IfOk result (λ placed. placed ≡ is_of_group (key_lengths catalog.now.rels) row.now.0.1 row.now.0.2 tuple.now) }
-    ensures said { IfOk result (λ placed. placed ≡ true → stmts.new.items ≡ stmts.old.items ++ said_at path.now tuple.now row.now) }
+    ensures placed { IfOk result (λ placed. placed ≡ is_of_group (key_lengths catalog.now.rels)
+        row.now.0.1 row.now.0.2 tuple.now) }
+    ensures said { IfOk result
+        (λ placed. placed ≡ true
+        → stmts.new.items ≡ stmts.old.items ++ said_at path.now tuple.now row.now) }
 {
     if !is_of_group(catalog, tuple, row) {
         return Ok(false);
@@ -167,7 +173,8 @@ fn push_placed(
 
 // Whether a row's relation and key are those of a tuple.
 fn is_of_group(catalog: &Catalog, tuple: &Tuple, row: &ValRow) -> bool
-    ensures { result ≡ is_of_group (key_lengths catalog.now.rels) row.now.0.1 row.now.0.2 tuple.now }
+    ensures { result ≡ is_of_group (key_lengths catalog.now.rels)
+        row.now.0.1 row.now.0.2 tuple.now }
 {
     tuple.rel == row.0.1 && has_key(catalog, tuple, row)
 }

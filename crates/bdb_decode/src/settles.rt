@@ -20,7 +20,8 @@ pub fn are_settled(
     from: &[Stored],
 ) -> bool
     requires from { are_apart from.now ≡ true }
-    ensures { result ≡ are_settled (key_lengths catalog.now.rels) stated.now inherited.now from.now }
+    ensures { result ≡ are_settled (key_lengths catalog.now.rels)
+        stated.now inherited.now from.now }
 {
     all_fit(catalog, stated, inherited, from) && all_passed(catalog, stated, inherited, from)
 }
@@ -28,7 +29,8 @@ pub fn are_settled(
 // Whether each inherited row is passed on from the other world.
 fn all_fit(catalog: &Catalog, stated: &[Stored], inherited: &[Stored], from: &[Stored]) -> bool
     requires { are_apart from.now ≡ true }
-    ensures { result ≡ list_all (is_fitting (key_lengths catalog.now.rels) stated.now from.now) inherited.now }
+    ensures { result ≡ list_all (is_fitting (key_lengths catalog.now.rels) stated.now from.now)
+        inherited.now }
 {
     let mut at = 0;
     for row in inherited {
@@ -68,7 +70,8 @@ fn has_sign(sign: Sign, mark: Option<(Sign, bool)>) -> bool
 
 // Whether each row of the other world is passed on, or clashes with an explicit one.
 fn all_passed(catalog: &Catalog, stated: &[Stored], inherited: &[Stored], from: &[Stored]) -> bool
-    ensures { result ≡ list_all (is_passed (key_lengths catalog.now.rels) stated.now inherited.now) from.now }
+    ensures { result ≡ list_all (is_passed (key_lengths catalog.now.rels) stated.now inherited.now)
+        from.now }
 {
     let mut at = 0;
     for row in from {
@@ -100,7 +103,8 @@ fn is_passed(
 
 // Whether a row clashes with an explicit one.
 fn is_barred(catalog: &Catalog, rows: &[Stored], row: &Stored) -> bool
-    ensures { result ≡ barred_by (key_lengths catalog.now.rels) rows.now row.now.tuple row.now.mark.0 }
+    ensures { result ≡ barred_by (key_lengths catalog.now.rels)
+        rows.now row.now.tuple row.now.mark.0 }
 {
     is_barred_by(key_length_in(catalog, &row.tuple), rows, row)
 }
@@ -114,7 +118,8 @@ fn is_barred_by(n: u32, rows: &[Stored], row: &Stored) -> bool
 
 // Whether a row is explicit, and another one clashes with it.
 fn bars(n: u32, other: &Stored, row: &Stored) -> bool
-    ensures { result ≡ (other.now.mark.1 && clash (λ _. n) row.now.tuple row.now.mark.0 other.now.tuple other.now.mark.0) }
+    ensures { result ≡ (other.now.mark.1 && clash (λ _. n)
+        row.now.tuple row.now.mark.0 other.now.tuple other.now.mark.0) }
 {
     other.mark.1 && clash(n, &row.tuple, row.mark.0, &other.tuple, other.mark.0)
 }

@@ -17,7 +17,8 @@ use std::cmp::Ordering;
 /// Whether statements are those of a valid base with this catalog: in order, of its users and relations, without a clash at
 /// a path, and not too many.
 pub fn are_statements(alloc: Global, catalog: &Catalog, stmts: &[Stmt]) -> Result<bool, AllocError>
-    ensures { IfOk result (λ valid. MatchBool valid (AreStatements catalog.now stmts.now) (AreStatements catalog.now stmts.now → ⊥)) }
+    ensures { IfOk result (λ valid. MatchBool valid (AreStatements catalog.now stmts.now)
+        (AreStatements catalog.now stmts.now → ⊥)) }
 {
     if !are_consistent(catalog, stmts) {
         return Ok(false);
@@ -130,7 +131,8 @@ fn plus_climb(catalog: &Catalog, stmts: &[Stmt]) -> bool
 
 // Whether a statement, if it is plus, is below the first plus one of a list by path, relation and key.
 fn goes_before(catalog: &Catalog, stmt: &Stmt, others: &[Stmt]) -> bool
-    ensures { result ≡ (not (is_plus stmt.now) || below_plus (key_lengths catalog.now.rels) stmt.now others.now) }
+    ensures { result ≡ (not (is_plus stmt.now) || below_plus (key_lengths catalog.now.rels)
+        stmt.now others.now) }
 {
     !is_plus(stmt) || is_below_plus(catalog, stmt, others)
 }

@@ -52,7 +52,9 @@ fn are_whole(
     tuples: &[(u32, Tuple)],
     stmts: &[Stmt],
 ) -> Result<bool, AllocError>
-    ensures { IfOk result (λ whole. MatchBool whole (AreWhole catalog.now worlds.now tuples.now stmts.now) (AreWhole catalog.now worlds.now tuples.now stmts.now → ⊥)) }
+    ensures { IfOk result
+        (λ whole. MatchBool whole (AreWhole catalog.now worlds.now tuples.now stmts.now)
+        (AreWhole catalog.now worlds.now tuples.now stmts.now → ⊥)) }
 {
     match are_statements(alloc, catalog, stmts) {
         Ok(true) => match all_named(alloc, worlds, tuples, stmts) {
@@ -71,7 +73,8 @@ fn all_named(
     tuples: &[(u32, Tuple)],
     stmts: &[Stmt],
 ) -> Result<bool, AllocError>
-    ensures { IfOk result (λ all. all ≡ (all_stated stmts.now tuples.now && all_states stmts.now worlds.now)) }
+    ensures { IfOk result
+        (λ all. all ≡ (all_stated stmts.now tuples.now && all_states stmts.now worlds.now)) }
 {
     match all_stated(alloc, stmts, tuples) {
         Ok(true) => match all_states(alloc, stmts, worlds) {

@@ -18,7 +18,8 @@ pub const TABLES: u8 = 15;
 /// Whether each table that has no row in this format has none. One read for each.
 pub fn others_are_bare<K: Keeper>(alloc: Global, keeper: &mut K) -> Result<bool, TabError>
     requires tables { LieInTables (K.seen keeper.old).kept }
-    ensures bare { IfOk result (λ bare. MatchBool bare (OthersAreBare (K.seen keeper.old).kept) (OthersAreBare (K.seen keeper.old).kept → ⊥)) }
+    ensures bare { IfOk result (λ bare. MatchBool bare (OthersAreBare (K.seen keeper.old).kept)
+        (OthersAreBare (K.seen keeper.old).kept → ⊥)) }
     ensures reading { OnlyReads (K.seen keeper.old) (K.seen keeper.new) result TabError.Fault }
 {
     for tab in FIRST_BARE..TABLES + 1 {
@@ -34,7 +35,8 @@ pub fn others_are_bare<K: Keeper>(alloc: Global, keeper: &mut K) -> Result<bool,
 /// Whether a table has no row. One read.
 pub fn is_bare<K: Keeper>(alloc: Global, keeper: &mut K, tab: u8) -> Result<bool, TabError>
     requires table { (1 ≤ tab) × (tab ≤ 15) }
-    ensures bare { IfOk result (λ bare. MatchBool bare (IsBare (K.seen keeper.old).kept tab) (IsBare (K.seen keeper.old).kept tab → ⊥)) }
+    ensures bare { IfOk result (λ bare. MatchBool bare (IsBare (K.seen keeper.old).kept tab)
+        (IsBare (K.seen keeper.old).kept tab → ⊥)) }
     ensures tables { LieInTables (K.seen keeper.old).kept }
     ensures read { IsRead (K.seen keeper.old) (K.seen keeper.new) result TabError.Fault }
 {

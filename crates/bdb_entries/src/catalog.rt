@@ -83,7 +83,8 @@ fn numbered_items<X: Exact>(
     rows: Vec<(u32, X)>,
     first: u32,
 ) -> Result<Option<List<X>>, AllocError>
-    ensures { IfOk result (λ r. MatchOption r (are_numbered first rows.items ≡ false) (λ items. rows.items ≡ numbered first items)) }
+    ensures { IfOk result (λ r. MatchOption r (are_numbered first rows.items ≡ false)
+        (λ items. rows.items ≡ numbered first items)) }
 {
     if !are_numbered(&rows, first) {
         return Ok(None);

@@ -26,7 +26,8 @@ fn belongs(catalog: &Catalog, stmt: &Stmt) -> bool
 
 // Whether a path is one of live users and not too deep.
 fn is_path_of(users: &[UserSlot], path: &Path) -> bool
-    ensures { result ≡ (alternates path.now && nat_le (length path.now) deepest_statement && list_all (is_user users.now) path.now) }
+    ensures { result ≡ (alternates path.now && nat_le (length path.now)
+        deepest_statement && list_all (is_user users.now) path.now) }
 {
     path.len() <= DEEPEST_STATEMENT && are_users(users, path.as_slice())
 }

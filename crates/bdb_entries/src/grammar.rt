@@ -18,7 +18,9 @@ use std::alloc::Global;
 /// Whether every key and row is in the grammar of its table. One read for each row, and one for each table.
 pub fn is_in_grammar<K: Keeper>(alloc: Global, keeper: &mut K) -> Result<bool, TabError>
     requires tables { LieInTables (K.seen keeper.old).kept }
-    ensures grammar { IfOk result (λ in_grammar. MatchBool in_grammar (InGrammar (K.seen keeper.old).kept) (InGrammar (K.seen keeper.old).kept → ⊥)) }
+    ensures grammar { IfOk result
+        (λ in_grammar. MatchBool in_grammar (InGrammar (K.seen keeper.old).kept)
+        (InGrammar (K.seen keeper.old).kept → ⊥)) }
     ensures reading { OnlyReads (K.seen keeper.old) (K.seen keeper.new) result TabError.Fault }
 {
     for before in 0..TABLES {
@@ -34,7 +36,8 @@ pub fn is_in_grammar<K: Keeper>(alloc: Global, keeper: &mut K) -> Result<bool, T
 // Whether every key and row of a table is in its grammar.
 fn are_entries<K: Keeper>(alloc: Global, keeper: &mut K, tab: u8) -> Result<bool, TabError>
     requires table { (1 ≤ tab) × (tab ≤ 15) }
-    ensures entries { IfOk result (λ fit. MatchBool fit (AreEntries (K.seen keeper.old).kept tab) (AreEntries (K.seen keeper.old).kept tab → ⊥)) }
+    ensures entries { IfOk result (λ fit. MatchBool fit (AreEntries (K.seen keeper.old).kept tab)
+        (AreEntries (K.seen keeper.old).kept tab → ⊥)) }
     ensures read { IsRead (K.seen keeper.old) (K.seen keeper.new) result TabError.Fault }
 {
     match tab {
@@ -57,7 +60,8 @@ fn are_entries<K: Keeper>(alloc: Global, keeper: &mut K, tab: u8) -> Result<bool
 // Whether every key and row of a table with rows is in its grammar.
 fn table_fits<T: Tab, K: Keeper>(alloc: Global, keeper: &mut K, tab: u8) -> Result<bool, TabError>
     requires { tab ≡ T.NUMBER }
-    ensures entries { IfOk result (λ fit. MatchBool fit (AreEntries (K.seen keeper.old).kept tab) (AreEntries (K.seen keeper.old).kept tab → ⊥)) }
+    ensures entries { IfOk result (λ fit. MatchBool fit (AreEntries (K.seen keeper.old).kept tab)
+        (AreEntries (K.seen keeper.old).kept tab → ⊥)) }
     ensures read { IsRead (K.seen keeper.old) (K.seen keeper.new) result TabError.Fault }
 {
     match fits::<T, K>(alloc, keeper) {
@@ -69,7 +73,8 @@ fn table_fits<T: Tab, K: Keeper>(alloc: Global, keeper: &mut K, tab: u8) -> Resu
 // Whether a table that is to have no row has none.
 fn no_entries<K: Keeper>(alloc: Global, keeper: &mut K, tab: u8) -> Result<bool, TabError>
     requires table { (13 ≤ tab) × (tab ≤ 15) }
-    ensures entries { IfOk result (λ fit. MatchBool fit (AreEntries (K.seen keeper.old).kept tab) (AreEntries (K.seen keeper.old).kept tab → ⊥)) }
+    ensures entries { IfOk result (λ fit. MatchBool fit (AreEntries (K.seen keeper.old).kept tab)
+        (AreEntries (K.seen keeper.old).kept tab → ⊥)) }
     ensures read { IsRead (K.seen keeper.old) (K.seen keeper.new) result TabError.Fault }
 {
     match is_bare(alloc, keeper, tab) {

@@ -17,7 +17,8 @@ pub fn raw_rows<T: Tab, K: Keeper>(
     alloc: Global,
     keeper: &mut K,
 ) -> Result<Option<Vec<(T::Key, T::Row)>>, TabError>
-    ensures rows { IfOk result (λ r. MatchOption r (Misfits T.codec (K.seen keeper.old).kept) (λ rows. AreUnder T.codec (K.seen keeper.old).kept [] rows.items)) }
+    ensures rows { IfOk result (λ r. MatchOption r (Misfits T.codec (K.seen keeper.old).kept)
+        (λ rows. AreUnder T.codec (K.seen keeper.old).kept [] rows.items)) }
     ensures read { IsRead (K.seen keeper.old) (K.seen keeper.new) result TabError.Fault }
 {
     let mut rows = Vec::new(alloc);
@@ -42,7 +43,8 @@ pub fn raw_rows<T: Tab, K: Keeper>(
 
 /// Whether each key and each row of a table is one of the table. One read more than there are rows, of which none is kept.
 pub fn fits<T: Tab, K: Keeper>(alloc: Global, keeper: &mut K) -> Result<bool, TabError>
-    ensures fits { IfOk result (λ fits. MatchBool fits (TableFits T.codec (K.seen keeper.old).kept) (Misfits T.codec (K.seen keeper.old).kept)) }
+    ensures fits { IfOk result (λ fits. MatchBool fits (TableFits T.codec (K.seen keeper.old).kept)
+        (Misfits T.codec (K.seen keeper.old).kept)) }
     ensures read { IsRead (K.seen keeper.old) (K.seen keeper.new) result TabError.Fault }
 {
     let mut low = Vec::new(alloc);

@@ -18,7 +18,8 @@ pub fn raw_tuples<K: Keeper>(
     alloc: Global,
     keeper: &mut K,
 ) -> Result<Option<Vec<(u32, Tuple)>>, TabError>
-    ensures tuples { IfOk result (λ r. MatchOption r (HaveNoTuples (K.seen keeper.old).kept) (λ rows. AreTuples (K.seen keeper.old).kept rows.items)) }
+    ensures tuples { IfOk result (λ r. MatchOption r (HaveNoTuples (K.seen keeper.old).kept)
+        (λ rows. AreTuples (K.seen keeper.old).kept rows.items)) }
     ensures reading { OnlyReads (K.seen keeper.old) (K.seen keeper.new) result TabError.Fault }
 {
     let rows = match raw_rows::<TupleTab, K>(alloc, keeper) {
@@ -50,7 +51,9 @@ fn are_turned<T: Tab, K: Keeper>(
     rows: &[(T::Row, T::Key)],
 ) -> Result<bool, TabError>
     requires { AllByRecursion (MayBeTurned T.codec) rows.now }
-    ensures turned { IfOk result (λ all. MatchBool all (AllByRecursion (IsTurned T.codec (K.seen keeper.old).kept) rows.now) (AllByRecursion (IsTurned T.codec (K.seen keeper.old).kept) rows.now → ⊥)) }
+    ensures turned { IfOk result
+        (λ all. MatchBool all (AllByRecursion (IsTurned T.codec (K.seen keeper.old).kept) rows.now)
+        (AllByRecursion (IsTurned T.codec (K.seen keeper.old).kept) rows.now → ⊥)) }
     ensures reading { OnlyReads (K.seen keeper.old) (K.seen keeper.new) result TabError.Fault }
 {
     for row in rows {
@@ -70,7 +73,9 @@ fn is_turned<T: Tab, K: Keeper>(
     row: &(T::Row, T::Key),
 ) -> Result<bool, TabError>
     requires { MayBeTurned T.codec row.now }
-    ensures turned { IfOk result (λ is. MatchBool is (IsTurned T.codec (K.seen keeper.old).kept row.now) (IsTurned T.codec (K.seen keeper.old).kept row.now → ⊥)) }
+    ensures turned { IfOk result
+        (λ is. MatchBool is (IsTurned T.codec (K.seen keeper.old).kept row.now)
+        (IsTurned T.codec (K.seen keeper.old).kept row.now → ⊥)) }
     ensures read { IsRead (K.seen keeper.old) (K.seen keeper.new) result TabError.Fault }
 {
     let mut key = Vec::new(alloc);
@@ -95,7 +100,8 @@ fn spell_turned<T: Tab>(
 ) -> Result<(), AllocError>
     requires { MayBeTurned T.codec row.now }
     ensures key { OnOk result (key.new.items ≡ key.old.items ++ T.codec.key_bytes row.now.1) }
-    ensures content { OnOk result (content.new.items ≡ content.old.items ++ T.codec.row_bytes row.now.0) }
+    ensures content { OnOk result
+        (content.new.items ≡ content.old.items ++ T.codec.row_bytes row.now.0) }
 {
     T::key_bytes(&row.1, key)?;
     T::row_bytes(&row.0, content)?;

@@ -25,7 +25,8 @@ fn are_users(users: &[UserSlot]) -> bool
 
 // Whether the names of live users are plain, and no two alike.
 fn are_user_names(users: &[UserSlot]) -> bool
-    ensures { result ≡ (are_distinct (user_names users.now) && list_all is_plain (user_names users.now)) }
+    ensures { result ≡ (are_distinct (user_names users.now) && list_all is_plain
+        (user_names users.now)) }
 {
     are_users_apart(users) && are_users_plain(users)
 }
@@ -113,7 +114,8 @@ fn are_relations(rels: &[RelDef]) -> bool
 
 // Whether relations are valid, and no two of one name.
 fn are_valid_relations(rels: &[RelDef]) -> bool
-    ensures { result ≡ (are_distinct (map (λ r. r.name) rels.now) && list_all is_valid_relation rels.now) }
+    ensures { result ≡ (are_distinct (map (λ r. r.name) rels.now)
+        && list_all is_valid_relation rels.now) }
 {
     differ(rels) && all_valid(rels)
 }
@@ -188,7 +190,8 @@ impl Named for RelDef {
 
 // Whether names are plain, and no two alike.
 fn are_names<X: Named>(items: &[X]) -> bool
-    ensures { result ≡ (are_distinct (map X.name_of items.now) && list_all (λ x. is_plain (X.name_of x)) items.now) }
+    ensures { result ≡ (are_distinct (map X.name_of items.now) && list_all
+        (λ x. is_plain (X.name_of x)) items.now) }
 {
     differ(items) && all_plain(items)
 }

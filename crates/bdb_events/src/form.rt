@@ -8,7 +8,8 @@ use bdb_multi::SESSIONS;
 
 /// The number of one digit or two at the front, where it is one of a session and a blank follows, and what follows the blanks.
 pub fn numbered(bytes: &[u8]) -> Option<(u8, &[u8])>
-    ensures some { IfSome result (λ found. numbered bytes.now ≡ Some (numbered_by found.0 found.1.now)) }
+    ensures some { IfSome result
+        (λ found. numbered bytes.now ≡ Some (numbered_by found.0 found.1.now)) }
     ensures none { IfNone result (numbered bytes.now ≡ None) }
 {
     match bytes {
@@ -23,7 +24,8 @@ pub fn numbered(bytes: &[u8]) -> Option<(u8, &[u8])>
 /// The same behind a first digit.
 fn behind_first(number: u8, bytes: &[u8]) -> Option<(u8, &[u8])>
     requires { number < 10 }
-    ensures some { IfSome result (λ found. behind_first (Some number) bytes.now ≡ Some (numbered_by found.0 found.1.now)) }
+    ensures some { IfSome result
+        (λ found. behind_first (Some number) bytes.now ≡ Some (numbered_by found.0 found.1.now)) }
     ensures none { IfNone result (behind_first (Some number) bytes.now ≡ None) }
 {
     match bytes {
@@ -37,7 +39,8 @@ fn behind_first(number: u8, bytes: &[u8]) -> Option<(u8, &[u8])>
 
 /// The same behind a number.
 fn behind_number(number: u8, bytes: &[u8]) -> Option<(u8, &[u8])>
-    ensures some { IfSome result (λ found. behind_number number bytes.now ≡ Some (numbered_by found.0 found.1.now)) }
+    ensures some { IfSome result
+        (λ found. behind_number number bytes.now ≡ Some (numbered_by found.0 found.1.now)) }
     ensures none { IfNone result (behind_number number bytes.now ≡ None) }
 {
     match bytes {

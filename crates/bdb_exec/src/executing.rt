@@ -31,13 +31,22 @@ pub type Rows = List<List<Value>>;
 /// key that was asked for last.
 pub fn execute<K: Keeper>(alloc: Global, keeper: &mut K, plan: &Plan) -> Result<Rows, ExecError>
     requires run { CanBeRun (K.seen keeper.old).kept }
-    ensures rows { IfOk result (λ rows. rows ≡ meaning_of (sight_of (K.seen keeper.old).kept) plan.now) }
+    ensures rows { IfOk result (λ rows. rows ≡ meaning_of (sight_of (K.seen keeper.old).kept)
+        plan.now) }
     ensures few { IfOk result (λ rows. length rows ≤ most_lines) }
-    ensures many { IsErrOf result ExecError.TooMany → most_lines < length (meaning_of (sight_of (K.seen keeper.old).kept) plan.now) }
-    ensures reads { OnOk result ((K.seen keeper.new).reads ≤ (K.seen keeper.old).reads + reads_from (sight_of (K.seen keeper.old).kept) plan.now.steps (start_of plan.now.items)) }
-    ensures reads_many { IsErrOf result ExecError.TooMany → (K.seen keeper.new).reads ≤ (K.seen keeper.old).reads + reads_from (sight_of (K.seen keeper.old).kept) plan.now.steps (start_of plan.now.items) }
-    ensures few_reads { OnOk result ((K.seen keeper.new).reads ≤ (K.seen keeper.old).reads + looks_from (sight_of (K.seen keeper.old).kept) plan.now.steps (start_of plan.now.items)) }
-    ensures few_reads_many { IsErrOf result ExecError.TooMany → (K.seen keeper.new).reads ≤ (K.seen keeper.old).reads + looks_from (sight_of (K.seen keeper.old).kept) plan.now.steps (start_of plan.now.items) }
+    ensures many { IsErrOf result ExecError.TooMany
+        → most_lines < length (meaning_of (sight_of (K.seen keeper.old).kept) plan.now) }
+    ensures reads { OnOk result ((K.seen keeper.new).reads ≤ (K.seen keeper.old).reads + reads_from
+        (sight_of (K.seen keeper.old).kept) plan.now.steps (start_of plan.now.items)) }
+    ensures reads_many { IsErrOf result ExecError.TooMany → (K.seen keeper.new).reads
+        ≤ (K.seen keeper.old).reads + reads_from (sight_of (K.seen keeper.old).kept) plan.now.steps
+        (start_of plan.now.items) }
+    ensures few_reads { OnOk result
+        ((K.seen keeper.new).reads ≤ (K.seen keeper.old).reads + looks_from
+        (sight_of (K.seen keeper.old).kept) plan.now.steps (start_of plan.now.items)) }
+    ensures few_reads_many { IsErrOf result ExecError.TooMany → (K.seen keeper.new).reads
+        ≤ (K.seen keeper.old).reads + looks_from (sight_of (K.seen keeper.old).kept) plan.now.steps
+        (start_of plan.now.items) }
     ensures execution { IsExecuted (K.seen keeper.old) (K.seen keeper.new) result }
 {
     match rows_up_to(alloc, keeper, plan, MOST_LINES) {
@@ -56,8 +65,10 @@ fn rows_up_to<K: Keeper>(
     most: usize,
 ) -> Result<Option<Rows>, TabError>
     requires run { CanBeRun (K.seen keeper.old).kept }
-    ensures rows { IfOk result (λ rows. rows ≡ up_to most (meaning_of (sight_of (K.seen keeper.old).kept) plan.now)) }
-    ensures reads { OnOk result ((K.seen keeper.new).reads ≤ (K.seen keeper.old).reads + looks_from (sight_of (K.seen keeper.old).kept) plan.now.steps (start_of plan.now.items)) }
+    ensures rows { IfOk result
+        (λ rows. rows ≡ up_to most (meaning_of (sight_of (K.seen keeper.old).kept) plan.now)) }
+    ensures reads { OnOk result ((K.seen keeper.new).reads ≤ (K.seen keeper.old).reads + looks_from
+        (sight_of (K.seen keeper.old).kept) plan.now.steps (start_of plan.now.items)) }
     ensures looks { Looks (K.seen keeper.old) (K.seen keeper.new) result TabError.Fault }
 {
     let state = match State::start(alloc, plan.items()) {

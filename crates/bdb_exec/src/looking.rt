@@ -34,7 +34,9 @@ use std::alloc::{AllocError, Global};
 pub fn users<K: Keeper>(alloc: Global, keeper: &mut K) -> Result<List<Shared>, TabError>
     requires run { CanBeRun (K.seen keeper.old).kept }
     ensures users { IfOk result (λ users. users ≡ (sight_of (K.seen keeper.old).kept).users) }
-    ensures reads { OnOk result ((K.seen keeper.new).reads ≤ (K.seen keeper.old).reads + ((sight_of (K.seen keeper.old).kept).places + 1)) }
+    ensures reads { OnOk result
+        ((K.seen keeper.new).reads
+        ≤ (K.seen keeper.old).reads + ((sight_of (K.seen keeper.old).kept).places + 1)) }
     ensures looks { Looks (K.seen keeper.old) (K.seen keeper.new) result TabError.Fault }
 {
     let entries = match rows_under::<UserTab, K>(alloc, keeper, &[]) {
@@ -78,7 +80,8 @@ pub fn edge<K: Keeper>(
 ) -> Result<Option<u32>, TabError>
     requires run { CanBeRun (K.seen keeper.old).kept }
     requires memo { Recalls (K.seen keeper.old).kept memo.old }
-    ensures target { IfOk result (λ target. target ≡ (sight_of (K.seen keeper.old).kept).edge world uid) }
+    ensures target { IfOk result
+        (λ target. target ≡ (sight_of (K.seen keeper.old).kept).edge world uid) }
     ensures reads { OnOk result ((K.seen keeper.new).reads ≤ (K.seen keeper.old).reads + 1) }
     ensures memo { OnOk result (Recalls (K.seen keeper.old).kept memo.new) }
     ensures looks { Looks (K.seen keeper.old) (K.seen keeper.new) result TabError.Fault }
@@ -143,8 +146,12 @@ pub fn plus_tuples<K: Keeper>(
 ) -> Result<List<Shared>, TabError>
     requires run { CanBeRun (K.seen keeper.old).kept }
     requires memo { Recalls (K.seen keeper.old).kept memo.old }
-    ensures tuples { IfOk result (λ tuples. tuples ≡ plus_tuples ((sight_of (K.seen keeper.old).kept).rows world rel)) }
-    ensures reads { OnOk result ((K.seen keeper.new).reads ≤ (K.seen keeper.old).reads + (2 * length ((sight_of (K.seen keeper.old).kept).rows world rel) + 1)) }
+    ensures tuples { IfOk result
+        (λ tuples. tuples ≡ plus_tuples ((sight_of (K.seen keeper.old).kept).rows world rel)) }
+    ensures reads { OnOk result
+        ((K.seen keeper.new).reads
+        ≤ (K.seen keeper.old).reads + (2 * length
+        ((sight_of (K.seen keeper.old).kept).rows world rel) + 1)) }
     ensures memo { OnOk result (Recalls (K.seen keeper.old).kept memo.new) }
     ensures looks { Looks (K.seen keeper.old) (K.seen keeper.new) result TabError.Fault }
 {
@@ -173,8 +180,14 @@ pub fn plus_tuples_of_key<K: Keeper>(
     requires run { CanBeRun (K.seen keeper.old).kept }
     requires memo { Recalls (K.seen keeper.old).kept memo.old }
     requires asks { asks_for_key state.now.slots item behind.now ≡ true }
-    ensures tuples { IfOk result (λ tuples. tuples ≡ of_key (key_asked ((sight_of (K.seen keeper.old).kept).keys rel) state.now.slots item behind.now) (plus_tuples ((sight_of (K.seen keeper.old).kept).rows state.now.world rel))) }
-    ensures reads { OnOk result ((K.seen keeper.new).reads ≤ (K.seen keeper.old).reads + pool_looks (key_asked ((sight_of (K.seen keeper.old).kept).keys rel) state.now.slots item behind.now) ((sight_of (K.seen keeper.old).kept).rows state.now.world rel)) }
+    ensures tuples { IfOk result
+        (λ tuples.
+        tuples ≡ of_key
+        (key_asked ((sight_of (K.seen keeper.old).kept).keys rel) state.now.slots item behind.now)
+        (plus_tuples ((sight_of (K.seen keeper.old).kept).rows state.now.world rel))) }
+    ensures reads { OnOk result ((K.seen keeper.new).reads ≤ (K.seen keeper.old).reads + pool_looks
+        (key_asked ((sight_of (K.seen keeper.old).kept).keys rel) state.now.slots item behind.now)
+        ((sight_of (K.seen keeper.old).kept).rows state.now.world rel)) }
     ensures memo { OnOk result (Recalls (K.seen keeper.old).kept memo.new) }
     ensures looks { Looks (K.seen keeper.old) (K.seen keeper.new) result TabError.Fault }
 {
@@ -214,8 +227,14 @@ fn plus_tuples_asked<K: Keeper>(
     requires run { CanBeRun (K.seen keeper.old).kept }
     requires memo { Recalls (K.seen keeper.old).kept memo.old }
     requires length { n ≡ (sight_of (K.seen keeper.old).kept).keys rel }
-    ensures tuples { IfOk result (λ tuples. tuples ≡ of_key (values_behind slots.now item behind.now n 0) (plus_tuples ((sight_of (K.seen keeper.old).kept).rows world rel))) }
-    ensures reads { OnOk result ((K.seen keeper.new).reads ≤ (K.seen keeper.old).reads + (2 * length (rows_of_key (values_behind slots.now item behind.now n 0) ((sight_of (K.seen keeper.old).kept).rows world rel)) + 1)) }
+    ensures tuples { IfOk result
+        (λ tuples. tuples ≡ of_key (values_behind slots.now item behind.now n 0)
+        (plus_tuples ((sight_of (K.seen keeper.old).kept).rows world rel))) }
+    ensures reads { OnOk result
+        ((K.seen keeper.new).reads
+        ≤ (K.seen keeper.old).reads + (2 * length
+        (rows_of_key (values_behind slots.now item behind.now n 0)
+        ((sight_of (K.seen keeper.old).kept).rows world rel)) + 1)) }
     ensures memo { OnOk result (Recalls (K.seen keeper.old).kept memo.new) }
     ensures looks { Looks (K.seen keeper.old) (K.seen keeper.new) result TabError.Fault }
 {
@@ -244,8 +263,12 @@ fn pool_under<K: Keeper>(
 ) -> Result<List<Shared>, TabError>
     requires run { CanBeRun (K.seen keeper.old).kept }
     requires memo { Recalls (K.seen keeper.old).kept memo.old }
-    ensures tuples { IfOk result (λ tuples. tuples ≡ plus_tuples (signed_under (K.seen keeper.old).kept prefix.items)) }
-    ensures reads { OnOk result ((K.seen keeper.new).reads ≤ (K.seen keeper.old).reads + (2 * length (signed_under (K.seen keeper.old).kept prefix.items) + 1)) }
+    ensures tuples { IfOk result
+        (λ tuples. tuples ≡ plus_tuples (signed_under (K.seen keeper.old).kept prefix.items)) }
+    ensures reads { OnOk result
+        ((K.seen keeper.new).reads
+        ≤ (K.seen keeper.old).reads + (2 * length
+        (signed_under (K.seen keeper.old).kept prefix.items) + 1)) }
     ensures memo { OnOk result (Recalls (K.seen keeper.old).kept memo.new) }
     ensures looks { Looks (K.seen keeper.old) (K.seen keeper.new) result TabError.Fault }
 {
@@ -281,8 +304,12 @@ fn plus_under<K: Keeper>(
 ) -> Result<List<Shared>, TabError>
     requires run { CanBeRun (K.seen keeper.old).kept }
     requires memo { Recalls (K.seen keeper.old).kept memo.old }
-    ensures tuples { IfOk result (λ tuples. tuples ≡ plus_tuples (signed_under (K.seen keeper.old).kept prefix.now)) }
-    ensures reads { OnOk result ((K.seen keeper.new).reads ≤ (K.seen keeper.old).reads + (2 * length (signed_under (K.seen keeper.old).kept prefix.now) + 1)) }
+    ensures tuples { IfOk result
+        (λ tuples. tuples ≡ plus_tuples (signed_under (K.seen keeper.old).kept prefix.now)) }
+    ensures reads { OnOk result
+        ((K.seen keeper.new).reads
+        ≤ (K.seen keeper.old).reads + (2 * length (signed_under (K.seen keeper.old).kept prefix.now)
+        + 1)) }
     ensures memo { OnOk result (Recalls (K.seen keeper.old).kept memo.new) }
     ensures looks { Looks (K.seen keeper.old) (K.seen keeper.new) result TabError.Fault }
 {
@@ -306,8 +333,10 @@ fn plus_of<K: Keeper>(
     requires run { CanBeRun (K.seen keeper.old).kept }
     requires memo { Recalls (K.seen keeper.old).kept memo.old }
     requires there { AllByRecursion (HasTuple (K.seen keeper.old).kept) entries.now }
-    ensures tuples { IfOk result (λ tuples. tuples ≡ plus_tuples (map (signed_at (K.seen keeper.old).kept) entries.now)) }
-    ensures reads { OnOk result ((K.seen keeper.new).reads ≤ (K.seen keeper.old).reads + length entries.now) }
+    ensures tuples { IfOk result
+        (λ tuples. tuples ≡ plus_tuples (map (signed_at (K.seen keeper.old).kept) entries.now)) }
+    ensures reads { OnOk result
+        ((K.seen keeper.new).reads ≤ (K.seen keeper.old).reads + length entries.now) }
     ensures memo { OnOk result (Recalls (K.seen keeper.old).kept memo.new) }
     ensures looks { Looks (K.seen keeper.old) (K.seen keeper.new) result TabError.Fault }
 {
@@ -333,7 +362,8 @@ fn push_plus<K: Keeper>(
     requires run { CanBeRun (K.seen keeper.old).kept }
     requires memo { Recalls (K.seen keeper.old).kept memo.old }
     requires there { (u : Tuple) × HasRow tuple_codec (K.seen keeper.old).kept tid u }
-    ensures pushed { OnOk result (HasPushed (K.seen keeper.old).kept tid sign tuples.old tuples.new) }
+    ensures pushed { OnOk result
+        (HasPushed (K.seen keeper.old).kept tid sign tuples.old tuples.new) }
     ensures reads { OnOk result ((K.seen keeper.new).reads ≤ (K.seen keeper.old).reads + 1) }
     ensures memo { OnOk result (Recalls (K.seen keeper.old).kept memo.new) }
     ensures looks { Looks (K.seen keeper.old) (K.seen keeper.new) result TabError.Fault }
@@ -419,8 +449,12 @@ pub fn denies<K: Keeper>(
 ) -> Result<bool, TabError>
     requires run { CanBeRun (K.seen keeper.old).kept }
     requires memo { Recalls (K.seen keeper.old).kept memo.old }
-    ensures denies { IfOk result (λ denies. denies ≡ rows_deny (sight_of (K.seen keeper.old).kept).keys ((sight_of (K.seen keeper.old).kept).rows world tuple.now.rel) tuple.now) }
-    ensures reads { OnOk result ((K.seen keeper.new).reads ≤ (K.seen keeper.old).reads + deny_looks ((sight_of (K.seen keeper.old).kept).keys tuple.now.rel) ((sight_of (K.seen keeper.old).kept).rows world tuple.now.rel) (Some tuple.now)) }
+    ensures denies { IfOk result
+        (λ denies. denies ≡ rows_deny (sight_of (K.seen keeper.old).kept).keys
+        ((sight_of (K.seen keeper.old).kept).rows world tuple.now.rel) tuple.now) }
+    ensures reads { OnOk result ((K.seen keeper.new).reads ≤ (K.seen keeper.old).reads + deny_looks
+        ((sight_of (K.seen keeper.old).kept).keys tuple.now.rel)
+        ((sight_of (K.seen keeper.old).kept).rows world tuple.now.rel) (Some tuple.now)) }
     ensures memo { OnOk result (Recalls (K.seen keeper.old).kept memo.new) }
     ensures looks { Looks (K.seen keeper.old) (K.seen keeper.new) result TabError.Fault }
 {
@@ -442,8 +476,12 @@ fn denies_of<K: Keeper>(
     requires run { CanBeRun (K.seen keeper.old).kept }
     requires memo { Recalls (K.seen keeper.old).kept memo.old }
     requires relation { tuple.now.rel ≡ rel }
-    ensures denies { IfOk result (λ denies. denies ≡ rows_deny (sight_of (K.seen keeper.old).kept).keys ((sight_of (K.seen keeper.old).kept).rows world rel) tuple.now) }
-    ensures reads { OnOk result ((K.seen keeper.new).reads ≤ (K.seen keeper.old).reads + deny_looks ((sight_of (K.seen keeper.old).kept).keys rel) ((sight_of (K.seen keeper.old).kept).rows world rel) (Some tuple.now)) }
+    ensures denies { IfOk result
+        (λ denies. denies ≡ rows_deny (sight_of (K.seen keeper.old).kept).keys
+        ((sight_of (K.seen keeper.old).kept).rows world rel) tuple.now) }
+    ensures reads { OnOk result ((K.seen keeper.new).reads ≤ (K.seen keeper.old).reads + deny_looks
+        ((sight_of (K.seen keeper.old).kept).keys rel)
+        ((sight_of (K.seen keeper.old).kept).rows world rel) (Some tuple.now)) }
     ensures memo { OnOk result (Recalls (K.seen keeper.old).kept memo.new) }
     ensures looks { Looks (K.seen keeper.old) (K.seen keeper.new) result TabError.Fault }
 {
@@ -471,8 +509,14 @@ fn denies_with<K: Keeper>(
     requires memo { Recalls (K.seen keeper.old).kept memo.old }
     requires relation { tuple.now.rel ≡ rel }
     requires length { n ≡ (sight_of (K.seen keeper.old).kept).keys rel }
-    ensures denies { IfOk result (λ denies. denies ≡ rows_deny (sight_of (K.seen keeper.old).kept).keys ((sight_of (K.seen keeper.old).kept).rows world rel) tuple.now) }
-    ensures reads { OnOk result ((K.seen keeper.new).reads ≤ (K.seen keeper.old).reads + (length (rows_of_key (take n tuple.now.vals) ((sight_of (K.seen keeper.old).kept).rows world rel)) + 2)) }
+    ensures denies { IfOk result
+        (λ denies. denies ≡ rows_deny (sight_of (K.seen keeper.old).kept).keys
+        ((sight_of (K.seen keeper.old).kept).rows world rel) tuple.now) }
+    ensures reads { OnOk result
+        ((K.seen keeper.new).reads
+        ≤ (K.seen keeper.old).reads + (length
+        (rows_of_key (take n tuple.now.vals) ((sight_of (K.seen keeper.old).kept).rows world rel))
+        + 2)) }
     ensures memo { OnOk result (Recalls (K.seen keeper.old).kept memo.new) }
     ensures looks { Looks (K.seen keeper.old) (K.seen keeper.new) result TabError.Fault }
 {

@@ -83,7 +83,8 @@ pub fn keep_pool(
     tuples: List<Shared>,
 ) -> Result<List<Shared>, AllocError>
     ensures pool { IfOk result (λ pool. pool ≡ tuples) }
-    ensures kept { OnOk result (Updates pair_cmp pools.old pools.new place (Some (pool_of prefix.items tuples))) }
+    ensures kept { OnOk result
+        (Updates pair_cmp pools.old pools.new place (Some (pool_of prefix.items tuples))) }
 {
     let prefix = List::from_vec(prefix);
     let copy = tuples.try_clone(alloc)?;

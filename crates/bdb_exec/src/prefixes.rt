@@ -41,7 +41,9 @@ pub fn put_key(
     item: u32,
     behind: &[Step],
 ) -> Result<bool, AllocError>
-    ensures { IfOk result (λ all. HasPutValues all (prefix.old.items ++ (world_prefix world rel ++ num_bytes n)) prefix.new.items (values_behind slots.now item behind.now n 0)) }
+    ensures { IfOk result
+        (λ all. HasPutValues all (prefix.old.items ++ (world_prefix world rel ++ num_bytes n))
+        prefix.new.items (values_behind slots.now item behind.now n 0)) }
 {
     prefix.reserve(PREFIX_ROOM)?;
     put_num(prefix, world)?;
@@ -60,7 +62,9 @@ fn put_asked(
     item: u32,
     behind: &[Step],
 ) -> Result<bool, AllocError>
-    ensures { IfOk result (λ all. HasPutValues all prefix.old.items prefix.new.items (values_behind slots.now item behind.now n 0)) }
+    ensures { IfOk result
+        (λ all. HasPutValues all prefix.old.items prefix.new.items
+        (values_behind slots.now item behind.now n 0)) }
 {
     for col in 0..n {
         let value = match value_behind(slots, item, behind, col) {
@@ -83,7 +87,8 @@ pub fn put_group(
     key: &[Value],
 ) -> Result<(), AllocError>
     requires texts { HaveKeyTexts key.now }
-    ensures bytes { OnOk result (prefix.new.items ≡ prefix.old.items ++ group_prefix world rel key.now) }
+    ensures bytes { OnOk result
+        (prefix.new.items ≡ prefix.old.items ++ group_prefix world rel key.now) }
     ensures fits { OnOk result (AreKeyVals key.now) }
 {
     prefix.reserve(PREFIX_ROOM)?;

@@ -32,8 +32,12 @@ pub fn choices<K: Keeper>(
 ) -> Result<Option<(u32, List<Shared>)>, TabError>
     requires run { CanBeRun (K.seen keeper.old).kept }
     requires memo { Recalls (K.seen keeper.old).kept memo.old }
-    ensures choices { IfOk result (λ choices. choices ≡ choices_before (sight_of (K.seen keeper.old).kept) state.now step.now behind.now) }
-    ensures reads { OnOk result ((K.seen keeper.new).reads ≤ (K.seen keeper.old).reads + choice_looks (sight_of (K.seen keeper.old).kept) state.now step.now behind.now) }
+    ensures choices { IfOk result
+        (λ choices. choices ≡ choices_before (sight_of (K.seen keeper.old).kept)
+        state.now step.now behind.now) }
+    ensures reads { OnOk result
+        ((K.seen keeper.new).reads ≤ (K.seen keeper.old).reads + choice_looks
+        (sight_of (K.seen keeper.old).kept) state.now step.now behind.now) }
     ensures memo { OnOk result (Recalls (K.seen keeper.old).kept memo.new) }
     ensures looks { Looks (K.seen keeper.old) (K.seen keeper.new) result TabError.Fault }
 {
@@ -68,8 +72,11 @@ fn some_users<K: Keeper>(
 ) -> Result<List<Shared>, TabError>
     requires run { CanBeRun (K.seen keeper.old).kept }
     requires memo { Recalls (K.seen keeper.old).kept memo.old }
-    ensures pool { IfOk result (λ pool. pool ≡ filter (passes state.now.slots item behind.now) (sight_of (K.seen keeper.old).kept).users) }
-    ensures reads { OnOk result ((K.seen keeper.new).reads ≤ (K.seen keeper.old).reads + ((sight_of (K.seen keeper.old).kept).places + 1)) }
+    ensures pool { IfOk result (λ pool. pool ≡ filter (passes state.now.slots item behind.now)
+        (sight_of (K.seen keeper.old).kept).users) }
+    ensures reads { OnOk result
+        ((K.seen keeper.new).reads
+        ≤ (K.seen keeper.old).reads + ((sight_of (K.seen keeper.old).kept).places + 1)) }
     ensures memo { OnOk result (Recalls (K.seen keeper.old).kept memo.new) }
     ensures looks { Looks (K.seen keeper.old) (K.seen keeper.new) result TabError.Fault }
 {
@@ -108,8 +115,11 @@ fn some_tuples<K: Keeper>(
 ) -> Result<List<Shared>, TabError>
     requires run { CanBeRun (K.seen keeper.old).kept }
     requires memo { Recalls (K.seen keeper.old).kept memo.old }
-    ensures pool { IfOk result (λ pool. pool ≡ filter (passes state.now.slots item behind.now) (plus_tuples ((sight_of (K.seen keeper.old).kept).rows state.now.world rel))) }
-    ensures reads { OnOk result ((K.seen keeper.new).reads ≤ (K.seen keeper.old).reads + pool_looks (key_asked ((sight_of (K.seen keeper.old).kept).keys rel) state.now.slots item behind.now) ((sight_of (K.seen keeper.old).kept).rows state.now.world rel)) }
+    ensures pool { IfOk result (λ pool. pool ≡ filter (passes state.now.slots item behind.now)
+        (plus_tuples ((sight_of (K.seen keeper.old).kept).rows state.now.world rel))) }
+    ensures reads { OnOk result ((K.seen keeper.new).reads ≤ (K.seen keeper.old).reads + pool_looks
+        (key_asked ((sight_of (K.seen keeper.old).kept).keys rel) state.now.slots item behind.now)
+        ((sight_of (K.seen keeper.old).kept).rows state.now.world rel)) }
     ensures memo { OnOk result (Recalls (K.seen keeper.old).kept memo.new) }
     ensures looks { Looks (K.seen keeper.old) (K.seen keeper.new) result TabError.Fault }
 {
@@ -137,8 +147,12 @@ fn of_relation<K: Keeper>(
 ) -> Result<List<Shared>, TabError>
     requires run { CanBeRun (K.seen keeper.old).kept }
     requires memo { Recalls (K.seen keeper.old).kept memo.old }
-    ensures pool { IfOk result (λ pool. pool ≡ filter (passes state.now.slots item behind.now) (plus_tuples ((sight_of (K.seen keeper.old).kept).rows state.now.world rel))) }
-    ensures reads { OnOk result ((K.seen keeper.new).reads ≤ (K.seen keeper.old).reads + (2 * length ((sight_of (K.seen keeper.old).kept).rows state.now.world rel) + 1)) }
+    ensures pool { IfOk result (λ pool. pool ≡ filter (passes state.now.slots item behind.now)
+        (plus_tuples ((sight_of (K.seen keeper.old).kept).rows state.now.world rel))) }
+    ensures reads { OnOk result
+        ((K.seen keeper.new).reads
+        ≤ (K.seen keeper.old).reads + (2 * length
+        ((sight_of (K.seen keeper.old).kept).rows state.now.world rel) + 1)) }
     ensures memo { OnOk result (Recalls (K.seen keeper.old).kept memo.new) }
     ensures looks { Looks (K.seen keeper.old) (K.seen keeper.new) result TabError.Fault }
 {
@@ -180,7 +194,8 @@ fn let_through<K: Keeper>(
     all: &[Shared],
 ) -> Result<List<Shared>, TabError>
     requires run { CanBeRun (K.seen keeper.old).kept }
-    ensures pool { IfOk result (λ pool. pool ≡ filter (passes state.now.slots item behind.now) all.now) }
+    ensures pool { IfOk result (λ pool. pool ≡ filter (passes state.now.slots item behind.now)
+        all.now) }
     ensures reads { (K.seen keeper.new).reads ≡ (K.seen keeper.old).reads }
     ensures looks { Looks (K.seen keeper.old) (K.seen keeper.new) result TabError.Fault }
 {

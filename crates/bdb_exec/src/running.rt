@@ -61,9 +61,13 @@ pub fn advance<K: Keeper>(
 ) -> Result<Came, TabError>
     requires run { CanBeRun (K.seen keeper.old).kept }
     requires memo { Recalls (K.seen keeper.old).kept memo.old }
-    ensures rows { IfOk result (λ came. ComesTo (sight_of (K.seen keeper.old).kept) steps.now state came) }
+    ensures rows { IfOk result
+        (λ came. ComesTo (sight_of (K.seen keeper.old).kept) steps.now state came) }
     ensures on { IfOk result (λ came. ComesOn steps.now came) }
-    ensures reads { IfOk result (λ came. (K.seen keeper.new).reads + came_looks (sight_of (K.seen keeper.old).kept) steps.now came ≤ (K.seen keeper.old).reads + looks_from (sight_of (K.seen keeper.old).kept) steps.now state) }
+    ensures reads { IfOk result
+        (λ came. (K.seen keeper.new).reads + came_looks (sight_of (K.seen keeper.old).kept)
+        steps.now came ≤ (K.seen keeper.old).reads + looks_from (sight_of (K.seen keeper.old).kept)
+        steps.now state) }
     ensures memo { OnOk result (Recalls (K.seen keeper.old).kept memo.new) }
     ensures looks { Looks (K.seen keeper.old) (K.seen keeper.new) result TabError.Fault }
 {
@@ -105,8 +109,11 @@ pub fn run<K: Keeper>(
 ) -> Result<(), TabError>
     requires run { CanBeRun (K.seen keeper.old).kept }
     requires memo { Recalls (K.seen keeper.old).kept memo.old }
-    ensures rows { OnOk result (found.new ≡ with_rows found.old (rows_from (sight_of (K.seen keeper.old).kept) take.now steps.now state)) }
-    ensures reads { OnOk result ((K.seen keeper.new).reads ≤ (K.seen keeper.old).reads + looks_from (sight_of (K.seen keeper.old).kept) steps.now state) }
+    ensures rows { OnOk result
+        (found.new ≡ with_rows found.old
+        (rows_from (sight_of (K.seen keeper.old).kept) take.now steps.now state)) }
+    ensures reads { OnOk result ((K.seen keeper.new).reads ≤ (K.seen keeper.old).reads + looks_from
+        (sight_of (K.seen keeper.old).kept) steps.now state) }
     ensures memo { OnOk result (Recalls (K.seen keeper.old).kept memo.new) }
     ensures looks { Looks (K.seen keeper.old) (K.seen keeper.new) result TabError.Fault }
 {
@@ -151,8 +158,14 @@ fn run_each<K: Keeper>(
 ) -> Result<(), TabError>
     requires run { CanBeRun (K.seen keeper.old).kept }
     requires memo { Recalls (K.seen keeper.old).kept memo.old }
-    ensures rows { OnOk result (found.new ≡ with_rows found.old (flat_map (rows_with (sight_of (K.seen keeper.old).kept) take.now steps.now choosing.state choosing.item) choosing.pool)) }
-    ensures reads { OnOk result ((K.seen keeper.new).reads ≤ (K.seen keeper.old).reads + sum_by (looks_with (sight_of (K.seen keeper.old).kept) steps.now choosing.state choosing.item) choosing.pool) }
+    ensures rows { OnOk result
+        (found.new ≡ with_rows found.old
+        (flat_map
+        (rows_with (sight_of (K.seen keeper.old).kept)
+        take.now steps.now choosing.state choosing.item) choosing.pool)) }
+    ensures reads { OnOk result ((K.seen keeper.new).reads ≤ (K.seen keeper.old).reads + sum_by
+        (looks_with (sight_of (K.seen keeper.old).kept) steps.now choosing.state choosing.item)
+        choosing.pool) }
     ensures memo { OnOk result (Recalls (K.seen keeper.old).kept memo.new) }
     ensures looks { Looks (K.seen keeper.old) (K.seen keeper.new) result TabError.Fault }
 {
@@ -199,7 +212,8 @@ fn in_turn(pool: List<Shared>) -> Vec<Shared>
 
 // Takes the row of what is chosen.
 fn finish(alloc: Global, take: &[Ref], state: &State, found: &mut Found) -> Result<(), AllocError>
-    ensures { OnOk result (found.new ≡ with_rows found.old (option_list (known_row state.now.slots take.now))) }
+    ensures { OnOk result
+        (found.new ≡ with_rows found.old (option_list (known_row state.now.slots take.now))) }
 {
     match known_row(alloc, state.slots(), take)? {
         Some(row) => {

@@ -31,8 +31,11 @@ pub fn settle<K: Keeper>(
 ) -> Result<Option<State>, TabError>
     requires run { CanBeRun (K.seen keeper.old).kept }
     requires memo { Recalls (K.seen keeper.old).kept memo.old }
-    ensures next { IfOk result (λ next. next ≡ settled (sight_of (K.seen keeper.old).kept) state step.now) }
-    ensures reads { OnOk result ((K.seen keeper.new).reads ≤ (K.seen keeper.old).reads + settled_looks (sight_of (K.seen keeper.old).kept) state step.now) }
+    ensures next { IfOk result
+        (λ next. next ≡ settled (sight_of (K.seen keeper.old).kept) state step.now) }
+    ensures reads { OnOk result
+        ((K.seen keeper.new).reads ≤ (K.seen keeper.old).reads + settled_looks
+        (sight_of (K.seen keeper.old).kept) state step.now) }
     ensures memo { OnOk result (Recalls (K.seen keeper.old).kept memo.new) }
     ensures looks { Looks (K.seen keeper.old) (K.seen keeper.new) result TabError.Fault }
 {
@@ -69,7 +72,8 @@ fn reached_if(test: bool, state: State) -> Option<State>
 
 // The state where two users differ.
 fn where_they_differ(left: Who, right: Who, state: State) -> Option<State>
-    ensures { result ≡ reached_if (differ (uid_of state.slots left) (uid_of state.slots right)) state }
+    ensures { result ≡ reached_if (differ (uid_of state.slots left) (uid_of state.slots right))
+        state }
 {
     match (uid_of(state.slots(), left), uid_of(state.slots(), right)) {
         (Some(i), Some(j)) => reached_if(i != j, state),
@@ -87,7 +91,10 @@ fn follow<K: Keeper>(
 ) -> Result<Option<State>, TabError>
     requires run { CanBeRun (K.seen keeper.old).kept }
     requires memo { Recalls (K.seen keeper.old).kept memo.old }
-    ensures next { IfOk result (λ next. next ≡ option_map (with_world state) (option_and_then ((sight_of (K.seen keeper.old).kept).edge state.world) (uid_of state.slots who))) }
+    ensures next { IfOk result
+        (λ next. next ≡ option_map (with_world state)
+        (option_and_then ((sight_of (K.seen keeper.old).kept).edge state.world)
+        (uid_of state.slots who))) }
     ensures reads { OnOk result ((K.seen keeper.new).reads ≤ (K.seen keeper.old).reads + 1) }
     ensures memo { OnOk result (Recalls (K.seen keeper.old).kept memo.new) }
     ensures looks { Looks (K.seen keeper.old) (K.seen keeper.new) result TabError.Fault }
@@ -113,8 +120,12 @@ fn deny<K: Keeper>(
 ) -> Result<Option<State>, TabError>
     requires run { CanBeRun (K.seen keeper.old).kept }
     requires memo { Recalls (K.seen keeper.old).kept memo.old }
-    ensures next { IfOk result (λ next. next ≡ denied (sight_of (K.seen keeper.old).kept).keys ((sight_of (K.seen keeper.old).kept).rows state.world rel) state item rel (slot_at state.slots item)) }
-    ensures reads { OnOk result ((K.seen keeper.new).reads ≤ (K.seen keeper.old).reads + deny_looks ((sight_of (K.seen keeper.old).kept).keys rel) ((sight_of (K.seen keeper.old).kept).rows state.world rel) (slot_at state.slots item)) }
+    ensures next { IfOk result (λ next. next ≡ denied (sight_of (K.seen keeper.old).kept).keys
+        ((sight_of (K.seen keeper.old).kept).rows state.world rel) state item rel
+        (slot_at state.slots item)) }
+    ensures reads { OnOk result ((K.seen keeper.new).reads ≤ (K.seen keeper.old).reads + deny_looks
+        ((sight_of (K.seen keeper.old).kept).keys rel)
+        ((sight_of (K.seen keeper.old).kept).rows state.world rel) (slot_at state.slots item)) }
     ensures memo { OnOk result (Recalls (K.seen keeper.old).kept memo.new) }
     ensures looks { Looks (K.seen keeper.old) (K.seen keeper.new) result TabError.Fault }
 {

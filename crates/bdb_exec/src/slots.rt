@@ -104,7 +104,8 @@ fn operand_with<'a>(
     tuple: &'a Tuple,
     operand: &'a Operand,
 ) -> Option<&'a Value>
-    ensures { option_copied result ≡ known_operand (slice_set slots.now item (Some tuple.now)) operand.now }
+    ensures { option_copied result ≡ known_operand (slice_set slots.now item (Some tuple.now))
+        operand.now }
 {
     match operand {
         Operand::Col(r) => known_with(slots, item, tuple, *r),

@@ -102,7 +102,10 @@ impl State {
         item: u32,
         right: &Operand,
     ) -> Result<Option<Self>, AllocError>
-        ensures { IfOk result (λ next. next ≡ option_map (λ v. with_slot self item (with_value (slot_at self.slots item) v)) (known_operand self.slots right.now)) }
+        ensures { IfOk result
+            (λ next. next ≡ option_map
+            (λ v. with_slot self item (with_value (slot_at self.slots item) v))
+            (known_operand self.slots right.now)) }
     {
         let value = match known_operand(self.slots.as_slice(), right) {
             Some(value) => value.try_clone(alloc)?,
@@ -117,7 +120,8 @@ impl State {
 // Takes what is chosen for an item.
 fn take_slot(slots: &mut Vec<Option<Shared>>, at: usize) -> Option<Shared>
     ensures found { result ≡ slot_at slots.old.items at }
-    ensures again { (x : Option Tuple) → slice_set slots.new.items at x ≡ slice_set slots.old.items at x }
+    ensures again { (x : Option Tuple) → slice_set slots.new.items at x
+        ≡ slice_set slots.old.items at x }
 {
     if at < slots.len() {
         return mem::replace(&mut slots[at], None);

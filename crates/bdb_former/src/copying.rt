@@ -45,7 +45,8 @@ fn copy_table<K: Keeper>(
     requires table { (1 ≤ tab) × (tab ≤ 15) }
     requires still { copy.old.running ≡ false }
     requires before { copy.old.kept ≡ respelled (below (tab ∷ []) (K.seen keeper.old).kept) }
-    ensures copied { OnOk result (copy.new.kept ≡ respelled (below ((tab + 1) ∷ []) (K.seen keeper.old).kept)) }
+    ensures copied { OnOk result
+        (copy.new.kept ≡ respelled (below ((tab + 1) ∷ []) (K.seen keeper.old).kept)) }
     ensures still { OnOk result (copy.new.running ≡ false) }
     ensures read { IsRead (K.seen keeper.old) (K.seen keeper.new) result KeepError.Fault }
 {
@@ -81,7 +82,9 @@ fn copy_row(
 ) -> Result<(), AllocError>
     requires table { (1 ≤ tab) × (tab ≤ 15) }
     requires still { copy.old.running ≡ false }
-    ensures copied { OnOk result (copy.new.kept ≡ tables.insert copy.old.kept (respelled_place (tab ∷ key.now)) (respelled_row tab row.now)) }
+    ensures copied { OnOk result
+        (copy.new.kept ≡ tables.insert copy.old.kept (respelled_place (tab ∷ key.now))
+        (respelled_row tab row.now)) }
     ensures still { OnOk result (copy.new.running ≡ false) }
     ensures low { OnOk result (low.new.items ≡ next_key key.now) }
 {

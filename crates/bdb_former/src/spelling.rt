@@ -96,7 +96,8 @@ fn respelled_relation(alloc: Global, row: &[u8]) -> Result<Vec<u8>, AllocError>
 
 // A row's bytes up to the end of the text with which it begins, and those behind it.
 fn split_behind_name(row: &[u8]) -> Option<(&[u8], &[u8])>
-    ensures { MatchOption result (respelled_relation row.now ≡ row.now) (λ x. respelled_relation row.now ≡ x.0.now ++ (int_bytes (pos 1) ++ x.1.now)) }
+    ensures { MatchOption result (respelled_relation row.now ≡ row.now)
+        (λ x. respelled_relation row.now ≡ x.0.now ++ (int_bytes (pos 1) ++ x.1.now)) }
 {
     let bytes = behind_mark(row)?;
     for (at, byte) in bytes.iter().enumerate() {
@@ -109,7 +110,8 @@ fn split_behind_name(row: &[u8]) -> Option<(&[u8], &[u8])>
 
 // The bytes behind the byte that marks a text.
 fn behind_mark(row: &[u8]) -> Option<&[u8]>
-    ensures { MatchOption result (respelled_relation row.now ≡ row.now) (λ bytes. row.now ≡ 2 ∷ bytes.now) }
+    ensures { MatchOption result (respelled_relation row.now ≡ row.now)
+        (λ bytes. row.now ≡ 2 ∷ bytes.now) }
 {
     match row {
         [2, bytes @ ..] => Some(bytes),

@@ -181,7 +181,9 @@ fn append_followers(
     count: u64,
 ) -> Result<(), AllocError>
     requires { first < 8 }
-    ensures text { OnOk result (out.new.items ≡ out.old.items ++ flat_map belief_text (followers first (draws_of draws.old (sevens count)))) }
+    ensures text { OnOk result
+        (out.new.items ≡ out.old.items ++ flat_map belief_text
+        (followers first (draws_of draws.old (sevens count)))) }
     ensures state { OnOk result (draws.new ≡ state_after draws.old count) }
 {
     let mut user = first;

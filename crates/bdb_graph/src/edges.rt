@@ -155,7 +155,9 @@ fn is_edge(
 ) -> Result<bool, AllocError>
     requires worlds { AreIndexed worlds.now paths.now }
     requires user { is_user users.now uid ≡ true }
-    ensures { IfOk result (λ right. right ≡ is_right found (edge_from (is_user users.now) (names_of worlds.now) uid path.now)) }
+    ensures { IfOk result
+        (λ right. right ≡ is_right found
+        (edge_from (is_user users.now) (names_of worlds.now) uid path.now)) }
 {
     if path_is_suffix(&[uid], path) {
         return Ok(found.is_none());
@@ -214,7 +216,9 @@ fn next_edge<K: Keeper>(
 ) -> Result<Option<bool>, TabError>
     requires grammar { InGrammar (K.seen keeper.old).kept }
     requires sorted { ascending nat_cmp (map number_of_world worlds.now) ≡ true }
-    ensures found { IfOk result (HasNextKey edge_codec (K.seen keeper.old).kept (is_edge_key users.now worlds.now) low.old.items low.new.items) }
+    ensures found { IfOk result
+        (HasNextKey edge_codec (K.seen keeper.old).kept (is_edge_key users.now worlds.now)
+        low.old.items low.new.items) }
     ensures read { IsRead (K.seen keeper.old) (K.seen keeper.new) result TabError.Fault }
 {
     let mut key = Vec::new(alloc);

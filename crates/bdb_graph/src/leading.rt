@@ -20,7 +20,8 @@ const MOST_NUMBERED: usize = 65_536;
 /// no states.
 pub fn led_ups<K: Keeper>(alloc: Global, keeper: &mut K) -> Result<Option<Vec<Up>>, TabError>
     requires grammar { InGrammar (K.seen keeper.old).kept }
-    ensures ups { IfOk result (λ r. MatchOption r (HoldNoStates (K.seen keeper.old).kept) (λ ups. AreLedUps (K.seen keeper.old).kept ups.items)) }
+    ensures ups { IfOk result (λ r. MatchOption r (HoldNoStates (K.seen keeper.old).kept)
+        (λ ups. AreLedUps (K.seen keeper.old).kept ups.items)) }
     ensures reading { OnlyReads (K.seen keeper.old) (K.seen keeper.new) result TabError.Fault }
 {
     let depths = match rows_under::<DepthTab, K>(alloc, keeper, &[]) {
@@ -66,7 +67,9 @@ fn has_root(ups: &[Up]) -> bool
 // Whether the edge of the world from which each of these comes leads to it. One read for each.
 fn each_is_led<K: Keeper>(alloc: Global, keeper: &mut K, ups: &[Up]) -> Result<bool, TabError>
     requires grammar { InGrammar (K.seen keeper.old).kept }
-    ensures led { IfOk result (λ b. MatchBool b (AllByRecursion (IsLed (K.seen keeper.old).kept) ups.now) (AllByRecursion (IsLed (K.seen keeper.old).kept) ups.now → ⊥)) }
+    ensures led { IfOk result
+        (λ b. MatchBool b (AllByRecursion (IsLed (K.seen keeper.old).kept) ups.now)
+        (AllByRecursion (IsLed (K.seen keeper.old).kept) ups.now → ⊥)) }
     ensures reading { OnlyReads (K.seen keeper.old) (K.seen keeper.new) result TabError.Fault }
 {
     for up in ups {
@@ -97,7 +100,9 @@ fn has_edge<K: Keeper>(
     depth: u32,
 ) -> Result<bool, TabError>
     requires grammar { InGrammar (K.seen keeper.old).kept }
-    ensures edge { IfOk result (λ b. MatchBool b (HasEdge (K.seen keeper.old).kept from uid wid depth) (HasEdge (K.seen keeper.old).kept from uid wid depth → ⊥)) }
+    ensures edge { IfOk result
+        (λ b. MatchBool b (HasEdge (K.seen keeper.old).kept from uid wid depth)
+        (HasEdge (K.seen keeper.old).kept from uid wid depth → ⊥)) }
     ensures reading { OnlyReads (K.seen keeper.old) (K.seen keeper.new) result TabError.Fault }
 {
     if depth == 0 {

@@ -78,7 +78,9 @@ fn has_link<K: Keeper>(
     requires grammar { InGrammar (K.seen keeper.old).kept }
     requires worlds { AreIndexed worlds.now paths.now }
     requires world { IsWorldOf worlds.now world.now }
-    ensures link { IfOk result (λ has. MatchBool has (HasLink (K.seen keeper.old).kept worlds.now world.now) (HasLink (K.seen keeper.old).kept worlds.now world.now → ⊥)) }
+    ensures link { IfOk result
+        (λ has. MatchBool has (HasLink (K.seen keeper.old).kept worlds.now world.now)
+        (HasLink (K.seen keeper.old).kept worlds.now world.now → ⊥)) }
     ensures read { IsRead (K.seen keeper.old) (K.seen keeper.new) result TabError.Fault }
 {
     match get::<SuffixTab, K>(alloc, keeper, &world.wid) {
@@ -135,7 +137,9 @@ fn next_link<K: Keeper>(
 ) -> Result<Option<bool>, TabError>
     requires grammar { InGrammar (K.seen keeper.old).kept }
     requires sorted { ascending nat_cmp (map number_of_world worlds.now) ≡ true }
-    ensures found { IfOk result (HasNextKey link_codec (K.seen keeper.old).kept (is_world worlds.now) low.old.items low.new.items) }
+    ensures found { IfOk result
+        (HasNextKey link_codec (K.seen keeper.old).kept (is_world worlds.now)
+        low.old.items low.new.items) }
     ensures read { IsRead (K.seen keeper.old) (K.seen keeper.new) result TabError.Fault }
 {
     let mut key = Vec::new(alloc);

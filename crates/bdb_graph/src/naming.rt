@@ -29,7 +29,8 @@ impl Numbered for World {
 /// These worlds with their paths. None exactly where one does not come from world 0, or by way of no path.
 pub fn named_ups(alloc: Global, ups: &[Up]) -> Result<Option<Vec<World>>, AllocError>
     requires { ascending nat_cmp (map number_of_up ups.now) ≡ true }
-    ensures { IfOk result (λ r. MatchOption r (AllByRecursion (IsClimbed ups.now) ups.now → ⊥) (λ worlds. AreNamedUps ups.now ups.now worlds.items)) }
+    ensures { IfOk result (λ r. MatchOption r (AllByRecursion (IsClimbed ups.now) ups.now → ⊥)
+        (λ worlds. AreNamedUps ups.now ups.now worlds.items)) }
 {
     let mut worlds = Vec::new(alloc);
     for up in ups {
@@ -63,7 +64,9 @@ fn named_up(alloc: Global, ups: &[Up], up: Up) -> Result<Option<World>, AllocErr
 // The users from world 0 to a world, of which there are so many. None exactly where it does not come from world 0 so.
 fn climb(alloc: Global, ups: &[Up], wid: u32, depth: u32) -> Result<Option<Vec<u32>>, AllocError>
     requires { ascending nat_cmp (map number_of_up ups.now) ≡ true }
-    ensures { IfOk result (λ r. MatchOption r (climb ups.now depth wid [] ≡ None) (λ users. climb ups.now depth wid [] ≡ Some users.items)) }
+    ensures { IfOk result
+        (λ r. MatchOption r (climb ups.now depth wid [] ≡ None)
+        (λ users. climb ups.now depth wid [] ≡ Some users.items)) }
 {
     let mut users = Vec::new(alloc);
     let mut at = wid;

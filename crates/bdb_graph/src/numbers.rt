@@ -26,7 +26,8 @@ impl<X> Numbered for (u32, X) {
 /// The place of a number among those of items, which are in order. The search goes by halves.
 pub fn place_of_number<X: Numbered>(items: &[X], number: u32) -> Option<usize>
     requires { ascending nat_cmp (map X.number_of items.now) ≡ true }
-    ensures { MatchOption result (is_member nat_cmp (map X.number_of items.now) number ≡ false) (λ at. slice_get (map X.number_of items.now) at ≡ Some number) }
+    ensures { MatchOption result (is_member nat_cmp (map X.number_of items.now) number ≡ false)
+        (λ at. slice_get (map X.number_of items.now) at ≡ Some number) }
 {
     let mut low = 0;
     let mut high = items.len();

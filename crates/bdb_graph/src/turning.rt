@@ -27,7 +27,8 @@ pub enum Way {
 /// tables hold no states. Two reads for each row of the four tables.
 pub fn are_turned_round<K: Keeper>(alloc: Global, keeper: &mut K) -> Result<bool, TabError>
     requires grammar { InGrammar (K.seen keeper.old).kept }
-    ensures turned { IfOk result (λ b. MatchBool b (TurnRound (K.seen keeper.old).kept) (HoldNoStates (K.seen keeper.old).kept)) }
+    ensures turned { IfOk result (λ b. MatchBool b (TurnRound (K.seen keeper.old).kept)
+        (HoldNoStates (K.seen keeper.old).kept)) }
     ensures reading { OnlyReads (K.seen keeper.old) (K.seen keeper.new) result TabError.Fault }
 {
     match both_turned(alloc, keeper, 7, 8) {
@@ -50,7 +51,8 @@ fn both_turned<K: Keeper>(
 ) -> Result<bool, TabError>
     requires table { (1 ≤ tab) × (tab ≤ 15) }
     requires other { (1 ≤ other) × (other ≤ 15) }
-    ensures both { IfOk result (λ b. MatchBool b (BothTurned (K.seen keeper.old).kept tab other) (BothTurned (K.seen keeper.old).kept tab other → ⊥)) }
+    ensures both { IfOk result (λ b. MatchBool b (BothTurned (K.seen keeper.old).kept tab other)
+        (BothTurned (K.seen keeper.old).kept tab other → ⊥)) }
     ensures reading { OnlyReads (K.seen keeper.old) (K.seen keeper.new) result TabError.Fault }
 {
     match are_turned(alloc, keeper, tab, Way::Round, other) {
@@ -74,7 +76,9 @@ fn are_turned<K: Keeper>(
 ) -> Result<bool, TabError>
     requires table { (1 ≤ tab) × (tab ≤ 15) }
     requires other { (1 ≤ other) × (other ≤ 15) }
-    ensures turned { IfOk result (λ b. MatchBool b (AreTurned (K.seen keeper.old).kept tab way other) (AreTurned (K.seen keeper.old).kept tab way other → ⊥)) }
+    ensures turned { IfOk result
+        (λ b. MatchBool b (AreTurned (K.seen keeper.old).kept tab way other)
+        (AreTurned (K.seen keeper.old).kept tab way other → ⊥)) }
     ensures reading { OnlyReads (K.seen keeper.old) (K.seen keeper.new) result TabError.Fault }
 {
     let mut low = Vec::new(alloc);
@@ -105,7 +109,11 @@ fn step<K: Keeper>(
     row: &mut Vec<u8>,
 ) -> Result<bool, TabError>
     requires table { (1 ≤ tab) × (tab ≤ 15) }
-    ensures found { IfOk result (λ found. MatchBool found (IsStep (K.seen keeper.old).kept tab low.old.items low.new.items key.new.items row.new.items) (NoneFrom (K.seen keeper.old).kept tab low.old.items)) }
+    ensures found { IfOk result
+        (λ found.
+        MatchBool found
+        (IsStep (K.seen keeper.old).kept tab low.old.items low.new.items key.new.items
+        row.new.items) (NoneFrom (K.seen keeper.old).kept tab low.old.items)) }
     ensures read { IsRead (K.seen keeper.old) (K.seen keeper.new) result TabError.Fault }
 {
     match keeper.next(tab, low, key, row) {
@@ -140,7 +148,9 @@ fn is_turned<K: Keeper>(
     row: &[u8],
 ) -> Result<bool, TabError>
     requires table { (1 ≤ tab) × (tab ≤ 15) }
-    ensures turned { IfOk result (λ is. MatchBool is (HasTurned (K.seen keeper.old).kept way tab key.now row.now) (HasTurned (K.seen keeper.old).kept way tab key.now row.now → ⊥)) }
+    ensures turned { IfOk result
+        (λ is. MatchBool is (HasTurned (K.seen keeper.old).kept way tab key.now row.now)
+        (HasTurned (K.seen keeper.old).kept way tab key.now row.now → ⊥)) }
     ensures read { IsRead (K.seen keeper.old) (K.seen keeper.new) result TabError.Fault }
 {
     let mut place = Vec::new(alloc);
@@ -165,8 +175,10 @@ fn turn(
     place: &mut Vec<u8>,
     content: &mut Vec<u8>,
 ) -> Result<(), AllocError>
-    ensures place { OnOk result (place.new.items ≡ place.old.items ++ (turned way key.now row.now).0) }
-    ensures content { OnOk result (content.new.items ≡ content.old.items ++ (turned way key.now row.now).1) }
+    ensures place { OnOk result
+        (place.new.items ≡ place.old.items ++ (turned way key.now row.now).0) }
+    ensures content { OnOk result
+        (content.new.items ≡ content.old.items ++ (turned way key.now row.now).1) }
 {
     match way {
         Way::Round => {

@@ -41,7 +41,8 @@ pub fn raw_ups<K: Keeper>(
 ) -> Result<Option<Vec<Up>>, TabError>
     requires grammar { InGrammar (K.seen keeper.old).kept }
     requires depths { AllByRecursion (λ e. HasDepth (K.seen keeper.old).kept e.0 e.1) depths.now }
-    ensures ups { IfOk result (λ r. MatchOption r (HoldNoStates (K.seen keeper.old).kept) (λ ups. AreUps (K.seen keeper.old).kept depths.now ups.items)) }
+    ensures ups { IfOk result (λ r. MatchOption r (HoldNoStates (K.seen keeper.old).kept)
+        (λ ups. AreUps (K.seen keeper.old).kept depths.now ups.items)) }
     ensures reading { OnlyReads (K.seen keeper.old) (K.seen keeper.new) result TabError.Fault }
 {
     let mut ups = Vec::new(alloc);
@@ -77,7 +78,8 @@ fn up_of<K: Keeper>(
 ) -> Result<Option<Up>, TabError>
     requires grammar { InGrammar (K.seen keeper.old).kept }
     requires depth { HasDepth (K.seen keeper.old).kept wid depth }
-    ensures up { IfOk result (λ r. MatchOption r (HoldNoStates (K.seen keeper.old).kept) (IsUp (K.seen keeper.old).kept (wid, depth))) }
+    ensures up { IfOk result (λ r. MatchOption r (HoldNoStates (K.seen keeper.old).kept)
+        (IsUp (K.seen keeper.old).kept (wid, depth))) }
     ensures reading { OnlyReads (K.seen keeper.old) (K.seen keeper.new) result TabError.Fault }
 {
     if depth == 0 {
@@ -108,7 +110,8 @@ fn parent_of<K: Keeper>(
     depth: u32,
 ) -> Result<Option<(u32, u32)>, TabError>
     requires grammar { InGrammar (K.seen keeper.old).kept }
-    ensures parent { IfOk result (λ r. MatchOption r (NoParent (K.seen keeper.old).kept wid depth) (IsParent (K.seen keeper.old).kept wid depth)) }
+    ensures parent { IfOk result (λ r. MatchOption r (NoParent (K.seen keeper.old).kept wid depth)
+        (IsParent (K.seen keeper.old).kept wid depth)) }
     ensures reading { OnlyReads (K.seen keeper.old) (K.seen keeper.new) result TabError.Fault }
 {
     let prefix = match prefix_of(alloc, wid) {
@@ -147,7 +150,10 @@ fn first_from<K: Keeper>(
 ) -> Result<Option<(u32, u32)>, TabError>
     requires grammar { InGrammar (K.seen keeper.old).kept }
     requires rows { AllByRecursion (LeadsTo (K.seen keeper.old).kept wid) rows.now }
-    ensures first { IfOk result (λ r. MatchOption r (AllByRecursion (StartsElsewhere (K.seen keeper.old).kept depth) rows.now) (IsParent (K.seen keeper.old).kept wid depth)) }
+    ensures first { IfOk result
+        (λ r. MatchOption r
+        (AllByRecursion (StartsElsewhere (K.seen keeper.old).kept depth) rows.now)
+        (IsParent (K.seen keeper.old).kept wid depth)) }
     ensures reading { OnlyReads (K.seen keeper.old) (K.seen keeper.new) result TabError.Fault }
 {
     for row in rows {
@@ -176,7 +182,8 @@ fn has_depth<K: Keeper>(
     depth: u32,
 ) -> Result<bool, TabError>
     requires grammar { InGrammar (K.seen keeper.old).kept }
-    ensures has { IfOk result (λ has. MatchBool has (HasDepth (K.seen keeper.old).kept wid depth) (HasDepth (K.seen keeper.old).kept wid depth → ⊥)) }
+    ensures has { IfOk result (λ has. MatchBool has (HasDepth (K.seen keeper.old).kept wid depth)
+        (HasDepth (K.seen keeper.old).kept wid depth → ⊥)) }
     ensures read { IsRead (K.seen keeper.old) (K.seen keeper.new) result TabError.Fault }
 {
     match get::<DepthTab, K>(alloc, keeper, &wid) {

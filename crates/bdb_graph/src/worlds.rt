@@ -16,7 +16,8 @@ use std::alloc::Global;
 /// of these names is for a test. Two reads at most for each edge, and three for each world.
 pub fn raw_worlds<K: Keeper>(alloc: Global, keeper: &mut K) -> Result<Option<Vec<World>>, TabError>
     requires grammar { InGrammar (K.seen keeper.old).kept }
-    ensures worlds { IfOk result (λ r. MatchOption r (HoldNoStates (K.seen keeper.old).kept) (λ worlds. AreWorlds (K.seen keeper.old).kept worlds.items)) }
+    ensures worlds { IfOk result (λ r. MatchOption r (HoldNoStates (K.seen keeper.old).kept)
+        (λ worlds. AreWorlds (K.seen keeper.old).kept worlds.items)) }
     ensures reading { OnlyReads (K.seen keeper.old) (K.seen keeper.new) result TabError.Fault }
 {
     let ups = match led_ups(alloc, keeper) {

@@ -43,7 +43,15 @@ impl MemSink {
         part: usize,
         room: usize,
     ) -> Result<Self, AllocError>
-        ensures { IfOk result (λ sink. sink ≡ record { written = []; room = room; part = part; fails = fails; calls = 0; faults = 0 }) }
+        ensures { IfOk result
+            (λ sink. sink ≡ record {
+              written = [];
+              room = room;
+              part = part;
+              fails = fails;
+              calls = 0;
+              faults = 0;
+            }) }
     {
         let bytes = Vec::with_capacity(alloc, room)?;
         Ok(MemSink {
@@ -72,7 +80,8 @@ impl Sink for MemSink {
     // It takes no memory. It fails exactly where the number of the write is listed, or where the piece is longer than the
     // room that is left.
     fn write_all(&mut self, bytes: &[u8]) -> Result<(), Failed>
-        ensures bytes { WritesPiece (Some self.old.written) (Some self.new.written) result bytes.now }
+        ensures bytes { WritesPiece (Some self.old.written) (Some self.new.written)
+            result bytes.now }
         ensures cause { HasCause self.old.faults self.new.faults result failed }
 
         ensures takes { is_ok result ≡ takes_all self.old bytes.now }

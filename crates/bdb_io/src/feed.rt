@@ -38,7 +38,14 @@ impl MemSource {
     /// The source of these bytes, which gives `step` of them at most in a read.
     pub fn new(bytes: Vec<u8>, step: usize, fails: List<u32>) -> Self
         requires { 1 ≤ step }
-        ensures { result ≡ record { left = bytes.items; given = 0; step = step; fails = fails; calls = 0; faults = 0 } }
+        ensures { result ≡ record {
+          left = bytes.items;
+          given = 0;
+          step = step;
+          fails = fails;
+          calls = 0;
+          faults = 0;
+        } }
     {
         MemSource {
             bytes,
@@ -67,7 +74,8 @@ impl Source for MemSource {
         ensures cause { HasCause self.old.faults self.new.faults result failed }
 
         ensures fails { is_err result ≡ is_listed (number_of_next self.old.calls) self.old.fails }
-        ensures count { IfOk result (λ n. n ≡ min self.old.step (min (length buf.old) (length self.old.left))) }
+        ensures count { IfOk result
+            (λ n. n ≡ min self.old.step (min (length buf.old) (length self.old.left))) }
         ensures ok { OnOk result (self.new ≡ fed self.old (length buf.old)) }
         ensures err { OnErr result (self.new ≡ unfed self.old) }
     {

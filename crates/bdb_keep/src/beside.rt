@@ -23,7 +23,8 @@ pub fn row_beside<'a>(
     probe: &Probe<'_>,
 ) -> Option<(Mark, Option<&'a Row>)>
     requires { AreSorted shelves.now }
-    ensures { IfSome result (λ found. option_copied found.1 ≡ row_of (place_at (joined shelves.now) probe.now)) }
+    ensures { IfSome result
+        (λ found. option_copied found.1 ≡ row_of (place_at (joined shelves.now) probe.now)) }
 {
     let (at, spot) = mark;
     if at >= shelves.len() {
@@ -67,8 +68,10 @@ pub fn swap_beside(
 ) -> Result<(Mark, Option<Row>), Option<Row>>
     requires { AreSorted shelves.old.items }
     ensures sorted { AreSorted shelves.new.items }
-    ensures found { IfOk result (λ before. place_at (joined shelves.old.items) probe.now ≡ Some before.1) }
-    ensures set { OnOk result (IsSetAt (joined shelves.old.items) (joined shelves.new.items) probe.now (Some row)) }
+    ensures found { IfOk result (λ before. place_at (joined shelves.old.items) probe.now
+        ≡ Some before.1) }
+    ensures set { OnOk result (IsSetAt (joined shelves.old.items) (joined shelves.new.items)
+        probe.now (Some row)) }
     ensures back { IfErr result (λ back. back ≡ row) }
     ensures same { OnErr result (joined shelves.new.items ≡ joined shelves.old.items) }
 {
@@ -94,8 +97,10 @@ pub fn insert_beside(
 ) -> Result<(Mark, Option<Option<Row>>), Option<Row>>
     requires { AreSorted shelves.old.items }
     ensures sorted { AreSorted shelves.new.items }
-    ensures found { IfOk result (λ before. place_at (joined shelves.old.items) probe.now ≡ before.1) }
-    ensures set { OnOk result (IsSetAt (joined shelves.old.items) (joined shelves.new.items) probe.now (Some (Some row))) }
+    ensures found { IfOk result (λ before. place_at (joined shelves.old.items) probe.now
+        ≡ before.1) }
+    ensures set { OnOk result (IsSetAt (joined shelves.old.items) (joined shelves.new.items)
+        probe.now (Some (Some row))) }
     ensures back { IfErr result (λ back. IfSome back (λ given. given ≡ row)) }
     ensures same { OnErr result (joined shelves.new.items ≡ joined shelves.old.items) }
 {

@@ -121,7 +121,8 @@ impl Block {
     /// Puts a place with its row in at an index.
     pub fn insert(&mut self, index: usize, place: Words, row: Row) -> Result<(), AllocError>
         requires { index ≤ length self.old }
-        ensures ok { OnOk result (self.new ≡ take index self.old ++ (place, Some row) ∷ drop index self.old) }
+        ensures ok { OnOk result
+            (self.new ≡ take index self.old ++ (place, Some row) ∷ drop index self.old) }
         ensures err { OnErr result (self.new ≡ self.old) }
     {
         let head = place.head();

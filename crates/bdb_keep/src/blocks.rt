@@ -16,7 +16,10 @@ pub fn replace_at(blocks: &mut Vec<Block>, spot: Spot, row: Option<Row>) -> Opti
     requires there { IsThere blocks.old.items spot.0 spot.1 }
     ensures sorted { AreSorted blocks.new.items }
     ensures before { result ≡ (entry_at (slice_index_or blocks.old.items spot.0 []) spot.1).1 }
-    ensures entries { joined blocks.new.items ≡ before blocks.old.items spot.0 spot.1 ++ ((entry_at (slice_index_or blocks.old.items spot.0 []) spot.1).0, row) ∷ after blocks.old.items spot.0 (suc spot.1) }
+    ensures entries { joined blocks.new.items
+        ≡ before blocks.old.items spot.0 spot.1
+        ++ ((entry_at (slice_index_or blocks.old.items spot.0 []) spot.1).0, row)
+        ∷ after blocks.old.items spot.0 (suc spot.1) }
 {
     blocks[spot.0].replace(spot.1, row)
 }
@@ -34,7 +37,9 @@ pub fn add(
     requires sorted { AreSorted blocks.old.items }
     requires gap { IsGap blocks.old.items probe.now spot.0 spot.1 }
     ensures sorted { AreSorted blocks.new.items }
-    ensures ok { OnOk result (joined blocks.new.items ≡ before blocks.old.items spot.0 spot.1 ++ (probe.now, Some row) ∷ after blocks.old.items spot.0 spot.1) }
+    ensures ok { OnOk result
+        (joined blocks.new.items ≡ before blocks.old.items spot.0 spot.1 ++ (probe.now, Some row)
+        ∷ after blocks.old.items spot.0 spot.1) }
     ensures err { OnErr result (joined blocks.new.items ≡ joined blocks.old.items) }
 {
     let place = Words::of(alloc, probe)?;
@@ -57,8 +62,10 @@ fn make_room(blocks: &mut Vec<Block>, spot: Spot, rises: bool) -> Result<Spot, A
     ensures same { joined blocks.new.items ≡ joined blocks.old.items }
     ensures block { IfOk result (λ at. at.0 < length blocks.new.items) }
     ensures index { IfOk result (λ at. at.1 ≤ length (slice_index_or blocks.new.items at.0 [])) }
-    ensures before { IfOk result (λ at. before blocks.new.items at.0 at.1 ≡ before blocks.old.items spot.0 spot.1) }
-    ensures after { IfOk result (λ at. after blocks.new.items at.0 at.1 ≡ after blocks.old.items spot.0 spot.1) }
+    ensures before { IfOk result
+        (λ at. before blocks.new.items at.0 at.1 ≡ before blocks.old.items spot.0 spot.1) }
+    ensures after { IfOk result
+        (λ at. after blocks.new.items at.0 at.1 ≡ after blocks.old.items spot.0 spot.1) }
 {
     if block_at(blocks, spot.0).len() < CAPACITY {
         return Ok(spot);
@@ -111,7 +118,8 @@ pub fn take_out(blocks: &mut Vec<Block>, spot: Spot)
     requires sorted { AreSorted blocks.old.items }
     requires there { IsThere blocks.old.items spot.0 spot.1 }
     ensures sorted { AreSorted blocks.new.items }
-    ensures rest { joined blocks.new.items ≡ before blocks.old.items spot.0 spot.1 ++ after blocks.old.items spot.0 (suc spot.1) }
+    ensures rest { joined blocks.new.items
+        ≡ before blocks.old.items spot.0 spot.1 ++ after blocks.old.items spot.0 (suc spot.1) }
 {
     if block_at(blocks, spot.0).len() == 1 {
         blocks.remove(spot.0);

@@ -78,9 +78,12 @@ pub fn put_row(
 ) -> Result<(), AllocError>
     requires place { IsPlace (tab ∷ key.now) }
     requires has { HavePlaces changes.old.items rows.old }
-    ensures rows { OnOk result (rows_of rows.new ≡ map.insert (rows_of rows.old) (tab ∷ key.now) row.now) }
-    ensures last { undone changes.new.items (rows_of rows.new) ≡ undone changes.old.items (rows_of rows.old) }
-    ensures places { OnOk result (places_of changes.new.items ≡ places_of changes.old.items ++ (tab ∷ key.now) ∷ []) }
+    ensures rows { OnOk result (rows_of rows.new ≡ map.insert (rows_of rows.old) (tab ∷ key.now)
+        row.now) }
+    ensures last { undone changes.new.items (rows_of rows.new) ≡ undone changes.old.items
+        (rows_of rows.old) }
+    ensures places { OnOk result
+        (places_of changes.new.items ≡ places_of changes.old.items ++ (tab ∷ key.now) ∷ []) }
     ensures has { HavePlaces changes.new.items rows.new }
     ensures err { OnErr result ((rows.new ≡ rows.old) × (changes.new.items ≡ changes.old.items)) }
 {
@@ -108,8 +111,12 @@ pub fn take_row(
     requires has { HavePlaces changes.old.items rows.old }
     ensures found { IfOk result (λ found. found ≡ is_some (map.get (rows_of rows.old) place)) }
     ensures rows { OnOk result (rows_of rows.new ≡ map.remove (rows_of rows.old) place) }
-    ensures last { undone changes.new.items (rows_of rows.new) ≡ undone changes.old.items (rows_of rows.old) }
-    ensures places { IfOk result (λ found. places_of changes.new.items ≡ (if found then places_of changes.old.items ++ place ∷ [] else places_of changes.old.items)) }
+    ensures last { undone changes.new.items (rows_of rows.new) ≡ undone changes.old.items
+        (rows_of rows.old) }
+    ensures places { IfOk result
+        (λ found. places_of changes.new.items
+        ≡ (if found then places_of changes.old.items ++ place ∷ [] else
+        places_of changes.old.items)) }
     ensures has { HavePlaces changes.new.items rows.new }
     ensures err { OnErr result ((rows.new ≡ rows.old) × (changes.new.items ≡ changes.old.items)) }
 {

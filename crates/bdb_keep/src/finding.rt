@@ -36,7 +36,8 @@ pub fn find(blocks: &[Block], from: usize, probe: &Probe<'_>) -> Result<Spot, Sp
 pub fn find_row(blocks: &[Block], from: usize, probe: &Probe<'_>) -> Option<Spot>
     requires { AreSorted blocks.now }
     ensures there { IfSome result (λ spot. IsThere blocks.now spot.0 spot.1) }
-    ensures row { IfSome result (λ spot. is_some (entry_at (slice_index_or blocks.now spot.0 []) spot.1).1 ≡ true) }
+    ensures row { IfSome result
+        (λ spot. is_some (entry_at (slice_index_or blocks.now spot.0 []) spot.1).1 ≡ true) }
     ensures passed { IfSome result (λ spot. NoRowFrom probe.now (before blocks.now spot.0 spot.1)) }
     ensures reached { IfSome result (λ spot. NoneBelow probe.now (after blocks.now spot.0 spot.1)) }
     ensures none { IfNone result (NoRowFrom probe.now (joined blocks.now)) }
@@ -51,7 +52,8 @@ pub fn row_from(blocks: &[Block], start: Spot, probe: &Probe<'_>) -> Option<Spot
     requires sorted { AreSorted blocks.now }
     requires bound { IsBound blocks.now probe.now start.0 start.1 }
     ensures there { IfSome result (λ spot. IsThere blocks.now spot.0 spot.1) }
-    ensures row { IfSome result (λ spot. is_some (entry_at (slice_index_or blocks.now spot.0 []) spot.1).1 ≡ true) }
+    ensures row { IfSome result
+        (λ spot. is_some (entry_at (slice_index_or blocks.now spot.0 []) spot.1).1 ≡ true) }
     ensures passed { IfSome result (λ spot. NoRowFrom probe.now (before blocks.now spot.0 spot.1)) }
     ensures reached { IfSome result (λ spot. NoneBelow probe.now (after blocks.now spot.0 spot.1)) }
     ensures none { IfNone result (NoRowFrom probe.now (joined blocks.now)) }
@@ -76,8 +78,10 @@ pub fn find_beside(
     probe: &Probe<'_>,
 ) -> Option<Result<Spot, Spot>>
     requires { AreSorted blocks.now }
-    ensures there { IfSome result (λ found. IfOk found (λ at. StandsAt blocks.now probe.now at.0 at.1)) }
-    ensures gap { IfSome result (λ found. IfErr found (λ at. IsGap blocks.now probe.now at.0 at.1)) }
+    ensures there { IfSome result
+        (λ found. IfOk found (λ at. StandsAt blocks.now probe.now at.0 at.1)) }
+    ensures gap { IfSome result
+        (λ found. IfErr found (λ at. IsGap blocks.now probe.now at.0 at.1)) }
     ensures belongs { IfSome result (λ found. BelongsAmong (joined blocks.now) probe.now is_last) }
 {
     match first_at(blocks, spot) {
@@ -100,9 +104,12 @@ fn find_before(
 ) -> Option<Result<Spot, Spot>>
     requires sorted { AreSorted blocks.now }
     requires there { IsThere blocks.now spot.0 spot.1 }
-    requires above { bytes_cmp (entry_at (slice_index_or blocks.now spot.0 []) spot.1).0 probe.now ≡ Greater }
-    ensures there { IfSome result (λ found. IfOk found (λ at. StandsAt blocks.now probe.now at.0 at.1)) }
-    ensures gap { IfSome result (λ found. IfErr found (λ at. IsGap blocks.now probe.now at.0 at.1)) }
+    requires above { bytes_cmp (entry_at (slice_index_or blocks.now spot.0 []) spot.1).0 probe.now
+        ≡ Greater }
+    ensures there { IfSome result
+        (λ found. IfOk found (λ at. StandsAt blocks.now probe.now at.0 at.1)) }
+    ensures gap { IfSome result
+        (λ found. IfErr found (λ at. IsGap blocks.now probe.now at.0 at.1)) }
     ensures belongs { IfSome result (λ found. BelongsAmong (joined blocks.now) probe.now is_last) }
 {
     if spot.1 == 0 {
@@ -127,9 +134,12 @@ fn find_behind(
     requires sorted { AreSorted blocks.now }
     requires there { IsThere blocks.now spot.0 spot.1 }
     requires small { spot.1 < 2 ^ 64 - 1 }
-    requires below { bytes_cmp (entry_at (slice_index_or blocks.now spot.0 []) spot.1).0 probe.now ≡ Less }
-    ensures there { IfSome result (λ found. IfOk found (λ at. StandsAt blocks.now probe.now at.0 at.1)) }
-    ensures gap { IfSome result (λ found. IfErr found (λ at. IsGap blocks.now probe.now at.0 at.1)) }
+    requires below { bytes_cmp (entry_at (slice_index_or blocks.now spot.0 []) spot.1).0 probe.now
+        ≡ Less }
+    ensures there { IfSome result
+        (λ found. IfOk found (λ at. StandsAt blocks.now probe.now at.0 at.1)) }
+    ensures gap { IfSome result
+        (λ found. IfErr found (λ at. IsGap blocks.now probe.now at.0 at.1)) }
     ensures belongs { IfSome result (λ found. BelongsAmong (joined blocks.now) probe.now is_last) }
 {
     let behind = (spot.0, spot.1 + 1);
@@ -292,8 +302,10 @@ pub fn entry_of(blocks: &[Block], spot: Spot) -> &Entry
 fn first_at(blocks: &[Block], spot: Spot) -> Option<Spot>
     requires { HaveEntries blocks.now }
     ensures there { IfSome result (λ at. IsThere blocks.now at.0 at.1) }
-    ensures before { IfSome result (λ at. before blocks.now at.0 at.1 ≡ before blocks.now spot.0 spot.1) }
-    ensures after { IfSome result (λ at. after blocks.now at.0 at.1 ≡ after blocks.now spot.0 spot.1) }
+    ensures before { IfSome result
+        (λ at. before blocks.now at.0 at.1 ≡ before blocks.now spot.0 spot.1) }
+    ensures after { IfSome result
+        (λ at. after blocks.now at.0 at.1 ≡ after blocks.now spot.0 spot.1) }
     ensures small { IfSome result (λ at. at.1 < 2 ^ 64 - 1) }
     ensures none { IfNone result (after blocks.now spot.0 spot.1 ≡ []) }
 {

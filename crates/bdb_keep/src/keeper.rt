@@ -33,7 +33,8 @@ pub trait Keeper {
     /// Reads the row at a key into `row`. The answer is false, and `row` empty, where there is none.
     fn get(&mut self, tab: u8, key: &[u8], row: &mut Vec<u8>) -> Result<bool, KeepError>
         requires table { (1 ≤ tab) × (tab ≤ 15) }
-        ensures found { IfOk result (λ found. map.get (seen self.old).kept (tab ∷ key.now) ≡ (if found then Some row.new.items else None)) }
+        ensures found { IfOk result (λ found. map.get (seen self.old).kept (tab ∷ key.now)
+            ≡ (if found then Some row.new.items else None)) }
         ensures empty { IfOk result (λ found. found ≡ false → row.new.items ≡ []) }
         ensures reads { RoseBy 1 (seen self.old).reads (seen self.new).reads }
         ensures read { IsRead (seen self.old) (seen self.new) result KeepError.Fault };
@@ -52,7 +53,8 @@ pub trait Keeper {
             (IsLeastFrom (seen self.old).kept tab low.now key.new.items row.new.items)
             (NoneFrom (seen self.old).kept tab low.now)) }
         ensures tables { LieInTables (seen self.old).kept }
-        ensures empty { IfOk result (λ found. found ≡ false → (key.new.items ≡ []) × (row.new.items ≡ [])) }
+        ensures empty { IfOk result (λ found. found ≡ false → (key.new.items ≡ [])
+            × (row.new.items ≡ [])) }
         ensures reads { RoseBy 1 (seen self.old).reads (seen self.new).reads }
         ensures read { IsRead (seen self.old) (seen self.new) result KeepError.Fault };
 
@@ -60,7 +62,8 @@ pub trait Keeper {
     fn put(&mut self, tab: u8, key: &[u8], row: &[u8]) -> Result<(), KeepError>
         requires table { (1 ≤ tab) × (tab ≤ 15) }
         requires running { (seen self.old).running ≡ true }
-        ensures kept { OnOk result ((seen self.new).kept ≡ map.insert (seen self.old).kept (tab ∷ key.now) row.now) }
+        ensures kept { OnOk result ((seen self.new).kept ≡ map.insert (seen self.old).kept
+            (tab ∷ key.now) row.now) }
         ensures writes { RoseBy 1 (seen self.old).writes (seen self.new).writes }
         ensures write { IsWrite (seen self.old) (seen self.new) result KeepError.Fault };
 
@@ -68,8 +71,10 @@ pub trait Keeper {
     fn remove(&mut self, tab: u8, key: &[u8]) -> Result<bool, KeepError>
         requires table { (1 ≤ tab) × (tab ≤ 15) }
         requires running { (seen self.old).running ≡ true }
-        ensures found { IfOk result (λ found. found ≡ is_some (map.get (seen self.old).kept (tab ∷ key.now))) }
-        ensures kept { OnOk result ((seen self.new).kept ≡ map.remove (seen self.old).kept (tab ∷ key.now)) }
+        ensures found { IfOk result
+            (λ found. found ≡ is_some (map.get (seen self.old).kept (tab ∷ key.now))) }
+        ensures kept { OnOk result ((seen self.new).kept ≡ map.remove (seen self.old).kept
+            (tab ∷ key.now)) }
         ensures writes { RoseBy 1 (seen self.old).writes (seen self.new).writes }
         ensures write { IsWrite (seen self.old) (seen self.new) result KeepError.Fault };
 

@@ -76,7 +76,8 @@ impl Ledger {
     pub fn begin(&mut self)
         requires { self.old.seen.running ≡ false }
         ensures rest { self.old.seen.kept ≡ self.old.seen.last }
-        ensures running { self.new ≡ record self.old { seen = record self.old.seen { running = true } } }
+        ensures running { self.new
+            ≡ record self.old { seen = record self.old.seen { running = true } } }
     {
         self.running = true;
     }
@@ -84,7 +85,8 @@ impl Ledger {
     /// Reads the row at a key into `row`. The answer is false, and `row` empty, where there is none.
     pub fn get(&mut self, tab: u8, key: &[u8], row: &mut Vec<u8>) -> Result<bool, KeepError>
         requires table { (1 ≤ tab) × (tab ≤ 15) }
-        ensures found { IfOk result (λ found. map.get self.old.seen.kept (tab ∷ key.now) ≡ (if found then Some row.new.items else None)) }
+        ensures found { IfOk result (λ found. map.get self.old.seen.kept (tab ∷ key.now)
+            ≡ (if found then Some row.new.items else None)) }
         ensures empty { IfOk result (λ found. found ≡ false → row.new.items ≡ []) }
         ensures reads { RoseBy 1 self.old.seen.reads self.new.seen.reads }
         ensures read { IsRead self.old.seen self.new.seen result KeepError.Fault }
@@ -114,7 +116,8 @@ impl Ledger {
             (IsLeastFrom self.old.seen.kept tab low.now key.new.items row.new.items)
             (NoneFrom self.old.seen.kept tab low.now)) }
         ensures tables { LieInTables self.old.seen.kept }
-        ensures empty { IfOk result (λ found. found ≡ false → (key.new.items ≡ []) × (row.new.items ≡ [])) }
+        ensures empty { IfOk result (λ found. found ≡ false → (key.new.items ≡ [])
+            × (row.new.items ≡ [])) }
         ensures reads { RoseBy 1 self.old.seen.reads self.new.seen.reads }
         ensures read { IsRead self.old.seen self.new.seen result KeepError.Fault }
         ensures calm { HasNoFault self.old.seen self.new.seen result }
@@ -133,7 +136,8 @@ impl Ledger {
     pub fn put(&mut self, tab: u8, key: &[u8], row: &[u8]) -> Result<(), KeepError>
         requires table { (1 ≤ tab) × (tab ≤ 15) }
         requires running { self.old.seen.running ≡ true }
-        ensures kept { OnOk result (self.new.seen.kept ≡ map.insert self.old.seen.kept (tab ∷ key.now) row.now) }
+        ensures kept { OnOk result
+            (self.new.seen.kept ≡ map.insert self.old.seen.kept (tab ∷ key.now) row.now) }
         ensures writes { RoseBy 1 self.old.seen.writes self.new.seen.writes }
         ensures write { IsWrite self.old.seen self.new.seen result KeepError.Fault }
         ensures calm { HasNoFault self.old.seen self.new.seen result }
@@ -152,8 +156,10 @@ impl Ledger {
     pub fn remove(&mut self, tab: u8, key: &[u8]) -> Result<bool, KeepError>
         requires table { (1 ≤ tab) × (tab ≤ 15) }
         requires running { self.old.seen.running ≡ true }
-        ensures found { IfOk result (λ found. found ≡ is_some (map.get self.old.seen.kept (tab ∷ key.now))) }
-        ensures kept { OnOk result (self.new.seen.kept ≡ map.remove self.old.seen.kept (tab ∷ key.now)) }
+        ensures found { IfOk result
+            (λ found. found ≡ is_some (map.get self.old.seen.kept (tab ∷ key.now))) }
+        ensures kept { OnOk result
+            (self.new.seen.kept ≡ map.remove self.old.seen.kept (tab ∷ key.now)) }
         ensures writes { RoseBy 1 self.old.seen.writes self.new.seen.writes }
         ensures write { IsWrite self.old.seen self.new.seen result KeepError.Fault }
         ensures calm { HasNoFault self.old.seen self.new.seen result }
@@ -236,7 +242,8 @@ impl Ledger {
     pub fn preset(&mut self, tab: u8, key: &[u8], row: &[u8]) -> Result<(), AllocError>
         requires table { (1 ≤ tab) × (tab ≤ 15) }
         requires still { self.old.seen.running ≡ false }
-        ensures ok { OnOk result (let t = map.insert self.old.seen.kept (tab ∷ key.now) row.now in self.new.seen ≡ record self.old.seen { kept = t; last = t }) }
+        ensures ok { OnOk result (let t = map.insert self.old.seen.kept (tab ∷ key.now) row.now in
+            self.new.seen ≡ record self.old.seen { kept = t; last = t }) }
         ensures err { OnErr result (self.new.seen ≡ self.old.seen) }
     {
         match self.store.preset(tab, key, row) {
@@ -249,7 +256,8 @@ impl Ledger {
     pub fn unset(&mut self, tab: u8, key: &[u8])
         requires table { (1 ≤ tab) × (tab ≤ 15) }
         requires still { self.old.seen.running ≡ false }
-        ensures { let t = map.remove self.old.seen.kept (tab ∷ key.now) in self.new.seen ≡ record self.old.seen { kept = t; last = t } }
+        ensures { let t = map.remove self.old.seen.kept (tab ∷ key.now) in self.new.seen
+            ≡ record self.old.seen { kept = t; last = t } }
     {
         self.store.unset(tab, key);
     }
@@ -270,7 +278,11 @@ impl Ledger {
 
     /// The rows, and the changes that aren't committed.
     pub fn store(&self) -> &Store
-        ensures { result.now ≡ record { kept = self.now.seen.kept; last = self.now.seen.last; changes = self.now.changes } }
+        ensures { result.now ≡ record {
+          kept = self.now.seen.kept;
+          last = self.now.seen.last;
+          changes = self.now.changes;
+        } }
     {
         &self.store
     }

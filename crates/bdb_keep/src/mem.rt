@@ -120,7 +120,8 @@ impl Keeper for MemKeeper {
 
     fn get(&mut self, tab: u8, key: &[u8], row: &mut Vec<u8>) -> Result<bool, KeepError>
         requires table { (1 ≤ tab) × (tab ≤ 15) }
-        ensures found { IfOk result (λ found. map.get self.old.seen.kept (tab ∷ key.now) ≡ (if found then Some row.new.items else None)) }
+        ensures found { IfOk result (λ found. map.get self.old.seen.kept (tab ∷ key.now)
+            ≡ (if found then Some row.new.items else None)) }
         ensures empty { IfOk result (λ found. found ≡ false → row.new.items ≡ []) }
         ensures reads { RoseBy 1 self.old.seen.reads self.new.seen.reads }
         ensures read { IsRead self.old.seen self.new.seen result KeepError.Fault }
@@ -149,7 +150,8 @@ impl Keeper for MemKeeper {
             (IsLeastFrom self.old.seen.kept tab low.now key.new.items row.new.items)
             (NoneFrom self.old.seen.kept tab low.now)) }
         ensures tables { LieInTables self.old.seen.kept }
-        ensures empty { IfOk result (λ found. found ≡ false → (key.new.items ≡ []) × (row.new.items ≡ [])) }
+        ensures empty { IfOk result (λ found. found ≡ false → (key.new.items ≡ [])
+            × (row.new.items ≡ [])) }
         ensures reads { RoseBy 1 self.old.seen.reads self.new.seen.reads }
         ensures read { IsRead self.old.seen self.new.seen result KeepError.Fault }
 
@@ -168,7 +170,8 @@ impl Keeper for MemKeeper {
     fn put(&mut self, tab: u8, key: &[u8], row: &[u8]) -> Result<(), KeepError>
         requires table { (1 ≤ tab) × (tab ≤ 15) }
         requires running { self.old.seen.running ≡ true }
-        ensures kept { OnOk result (self.new.seen.kept ≡ map.insert self.old.seen.kept (tab ∷ key.now) row.now) }
+        ensures kept { OnOk result
+            (self.new.seen.kept ≡ map.insert self.old.seen.kept (tab ∷ key.now) row.now) }
         ensures writes { RoseBy 1 self.old.seen.writes self.new.seen.writes }
         ensures write { IsWrite self.old.seen self.new.seen result KeepError.Fault }
 
@@ -187,8 +190,10 @@ impl Keeper for MemKeeper {
     fn remove(&mut self, tab: u8, key: &[u8]) -> Result<bool, KeepError>
         requires table { (1 ≤ tab) × (tab ≤ 15) }
         requires running { self.old.seen.running ≡ true }
-        ensures found { IfOk result (λ found. found ≡ is_some (map.get self.old.seen.kept (tab ∷ key.now))) }
-        ensures kept { OnOk result (self.new.seen.kept ≡ map.remove self.old.seen.kept (tab ∷ key.now)) }
+        ensures found { IfOk result
+            (λ found. found ≡ is_some (map.get self.old.seen.kept (tab ∷ key.now))) }
+        ensures kept { OnOk result
+            (self.new.seen.kept ≡ map.remove self.old.seen.kept (tab ∷ key.now)) }
         ensures writes { RoseBy 1 self.old.seen.writes self.new.seen.writes }
         ensures write { IsWrite self.old.seen self.new.seen result KeepError.Fault }
 

@@ -32,7 +32,14 @@ impl Model for QuietKeeper {
 impl QuietKeeper {
     /// A keeper with no rows. It takes no memory.
     pub fn new(alloc: Global) -> Self
-        ensures { result ≡ record { kept = map.empty; last = map.empty; running = false; reads = 0; writes = 0; commits = 0 } }
+        ensures { result ≡ record {
+          kept = map.empty;
+          last = map.empty;
+          running = false;
+          reads = 0;
+          writes = 0;
+          commits = 0;
+        } }
     {
         QuietKeeper {
             ledger: Ledger::new(alloc),
@@ -43,7 +50,8 @@ impl QuietKeeper {
     pub fn preset(&mut self, tab: u8, key: &[u8], row: &[u8]) -> Result<(), AllocError>
         requires table { (1 ≤ tab) × (tab ≤ 15) }
         requires still { self.old.running ≡ false }
-        ensures ok { OnOk result (let t = map.insert self.old.kept (tab ∷ key.now) row.now in self.new ≡ record self.old { kept = t; last = t }) }
+        ensures ok { OnOk result (let t = map.insert self.old.kept (tab ∷ key.now) row.now in
+            self.new ≡ record self.old { kept = t; last = t }) }
         ensures err { OnErr result (self.new ≡ self.old) }
     {
         self.ledger.preset(tab, key, row)
@@ -54,7 +62,8 @@ impl QuietKeeper {
     pub fn unset(&mut self, tab: u8, key: &[u8])
         requires table { (1 ≤ tab) × (tab ≤ 15) }
         requires still { self.old.running ≡ false }
-        ensures { let t = map.remove self.old.kept (tab ∷ key.now) in self.new ≡ record self.old { kept = t; last = t } }
+        ensures { let t = map.remove self.old.kept (tab ∷ key.now) in self.new
+            ≡ record self.old { kept = t; last = t } }
     {
         self.ledger.unset(tab, key);
     }

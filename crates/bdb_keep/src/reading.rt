@@ -9,7 +9,8 @@ use std::alloc::AllocError;
 /// Copies a row, if there is one.
 #[inline(always)]
 pub fn copy_row(from: Option<&Row>, row: &mut Vec<u8>) -> Result<bool, AllocError>
-    ensures found { IfOk result (λ found. option_copied from.entry ≡ (if found then Some row.new.items else None)) }
+    ensures found { IfOk result
+        (λ found. option_copied from.entry ≡ (if found then Some row.new.items else None)) }
     ensures empty { IfOk result (λ found. found ≡ false → row.new.items ≡ []) }
 {
     row.clear();
@@ -30,9 +31,12 @@ pub fn give(
     key: &mut Vec<u8>,
     row: &mut Vec<u8>,
 ) -> Result<bool, AllocError>
-    ensures place { IfOk result (λ found. found ≡ true → entry.now ≡ (tab ∷ key.new.items, Some row.new.items)) }
-    ensures other { IfOk result (λ found. found ≡ false → is_some entry.now.1 ≡ true → (q : List ℕ) → entry.now.0 ≡ tab ∷ q → ⊥) }
-    ensures empty { IfOk result (λ found. found ≡ false → (key.new.items ≡ []) × (row.new.items ≡ [])) }
+    ensures place { IfOk result
+        (λ found. found ≡ true → entry.now ≡ (tab ∷ key.new.items, Some row.new.items)) }
+    ensures other { IfOk result (λ found. found ≡ false → is_some entry.now.1 ≡ true → (q : List ℕ)
+        → entry.now.0 ≡ tab ∷ q → ⊥) }
+    ensures empty { IfOk result (λ found. found ≡ false → (key.new.items ≡ [])
+        × (row.new.items ≡ [])) }
 {
     key.clear();
     row.clear();

@@ -138,7 +138,9 @@ impl Rows {
 impl Rows {
     /// Reads the row at a place.
     pub fn read(&mut self, probe: &Probe<'_>, row: &mut Vec<u8>) -> Result<bool, AllocError>
-        ensures found { IfOk result (λ found. map.get (rows_of self.old) probe.now ≡ (if found then Some row.new.items else None)) }
+        ensures found { IfOk result
+            (λ found. map.get (rows_of self.old) probe.now
+            ≡ (if found then Some row.new.items else None)) }
         ensures empty { IfOk result (λ found. found ≡ false → row.new.items ≡ []) }
         ensures same { self.new ≡ self.old }
     {
@@ -159,7 +161,8 @@ impl Rows {
         ensures found { IfOk result (λ found. MatchBool found
             (IsLeastFrom (rows_of self.old) tab low.now key.new.items row.new.items)
             (NoneFrom (rows_of self.old) tab low.now)) }
-        ensures empty { IfOk result (λ found. found ≡ false → (key.new.items ≡ []) × (row.new.items ≡ [])) }
+        ensures empty { IfOk result (λ found. found ≡ false → (key.new.items ≡ [])
+            × (row.new.items ≡ [])) }
         ensures same { self.new ≡ self.old }
     {
         let probe = Probe::of(tab, low);

@@ -93,7 +93,8 @@ impl Shelf {
         row: Option<Row>,
     ) -> Result<(Spot, Option<Row>), Option<Row>>
         ensures found { IfOk result (λ before. place_at self.old probe.now ≡ Some before.1) }
-        ensures set { OnOk result (IsChangedAt self.old self.new probe.now (place_at self.old probe.now) (Some row)) }
+        ensures set { OnOk result
+            (IsChangedAt self.old self.new probe.now (place_at self.old probe.now) (Some row)) }
         ensures absent { OnErr result (place_at self.old probe.now ≡ None) }
         ensures back { IfErr result (λ back. back ≡ row) }
         ensures same { OnErr result (self.new ≡ self.old) }
@@ -114,7 +115,9 @@ impl Shelf {
         row: Row,
     ) -> Result<(Spot, Option<Option<Row>>), AllocError>
         ensures found { IfOk result (λ before. place_at self.old probe.now ≡ before.1) }
-        ensures set { OnOk result (IsChangedAt self.old self.new probe.now (place_at self.old probe.now) (Some (Some row))) }
+        ensures set { OnOk result
+            (IsChangedAt self.old self.new probe.now (place_at self.old probe.now)
+            (Some (Some row))) }
         ensures err { OnErr result (self.new ≡ self.old) }
     {
         match find(&self.blocks, from, probe) {
@@ -174,7 +177,8 @@ impl Shelf {
     /// Cuts the blocks from an index on off. The answer is None, and nothing changes, where there are none on
     /// one side.
     pub fn cut(&mut self, index: usize) -> Result<Option<Shelf>, AllocError>
-        ensures parts { IfOk result (λ back. IfSome back (λ shelf. IsCutInTwo self.old self.new shelf)) }
+        ensures parts { IfOk result
+            (λ back. IfSome back (λ shelf. IsCutInTwo self.old self.new shelf)) }
         ensures none { IfOk result (λ back. IfNone back (self.new ≡ self.old)) }
         ensures err { OnErr result (self.new ≡ self.old) }
     {
@@ -192,7 +196,8 @@ impl Shelf {
     /// Where a place stands or would stand, and the row there, if there is one.
     #[inline(always)]
     pub fn row_beside(&self, spot: Spot, probe: &Probe<'_>) -> Option<(Spot, Option<&Row>)>
-        ensures row { IfSome result (λ found. option_copied found.1 ≡ row_of (place_at self.now probe.now)) }
+        ensures row { IfSome result
+            (λ found. option_copied found.1 ≡ row_of (place_at self.now probe.now)) }
         ensures belongs { IfSome result (λ found. BelongsAmong self.now probe.now false) }
     {
         match find_beside(&self.blocks, spot, false, probe) {
@@ -226,7 +231,8 @@ impl Shelf {
         row: Option<Row>,
     ) -> Result<(Spot, Option<Row>), Option<Row>>
         ensures found { IfOk result (λ before. place_at self.old probe.now ≡ Some before.1) }
-        ensures set { OnOk result (IsChangedAt self.old self.new probe.now (place_at self.old probe.now) (Some row)) }
+        ensures set { OnOk result
+            (IsChangedAt self.old self.new probe.now (place_at self.old probe.now) (Some row)) }
         ensures belongs { OnOk result (BelongsAmong self.old probe.now false) }
         ensures back { IfErr result (λ back. back ≡ row) }
         ensures same { OnErr result (self.new ≡ self.old) }
@@ -250,7 +256,9 @@ impl Shelf {
         row: Row,
     ) -> Result<(Spot, Option<Option<Row>>), Option<Row>>
         ensures found { IfOk result (λ before. place_at self.old probe.now ≡ before.1) }
-        ensures set { OnOk result (IsChangedAt self.old self.new probe.now (place_at self.old probe.now) (Some (Some row))) }
+        ensures set { OnOk result
+            (IsChangedAt self.old self.new probe.now (place_at self.old probe.now)
+            (Some (Some row))) }
         ensures belongs { OnOk result (BelongsAmong self.old probe.now is_last) }
         ensures back { IfErr result (λ back. IfSome back (λ given. given ≡ row)) }
         ensures same { OnErr result (self.new ≡ self.old) }

@@ -38,7 +38,8 @@ pub fn read(
     row: &mut Vec<u8>,
 ) -> Result<(Mark, bool), AllocError>
     requires { AreSorted shelves.now }
-    ensures found { IfOk result (λ found. row_of (place_at (joined shelves.now) probe.now) ≡ (if found.1 then Some row.new.items else None)) }
+    ensures found { IfOk result (λ found. row_of (place_at (joined shelves.now) probe.now)
+        ≡ (if found.1 then Some row.new.items else None)) }
     ensures empty { IfOk result (λ found. found.1 ≡ false → row.new.items ≡ []) }
 {
     let (mark, there) = row_at(shelves, near, probe);
@@ -102,7 +103,8 @@ pub fn read_first(
     ensures found { IfOk result (λ found. MatchBool found.1
         (IsLeastFrom (rows_of (joined shelves.now)) tab low.now key.new.items row.new.items)
         (NoneFrom (rows_of (joined shelves.now)) tab low.now)) }
-    ensures empty { IfOk result (λ found. found.1 ≡ false → (key.new.items ≡ []) × (row.new.items ≡ [])) }
+    ensures empty { IfOk result (λ found. found.1 ≡ false → (key.new.items ≡ [])
+        × (row.new.items ≡ [])) }
 {
     match first_row(shelves, near, probe) {
         Some((mark, entry)) => {
@@ -127,8 +129,10 @@ pub fn swap(
 ) -> Result<(Mark, Option<Row>), Option<Row>>
     requires { AreSorted shelves.old.items }
     ensures sorted { AreSorted shelves.new.items }
-    ensures found { IfOk result (λ before. place_at (joined shelves.old.items) probe.now ≡ Some before.1) }
-    ensures set { OnOk result (IsSetAt (joined shelves.old.items) (joined shelves.new.items) probe.now (Some row)) }
+    ensures found { IfOk result (λ before. place_at (joined shelves.old.items) probe.now
+        ≡ Some before.1) }
+    ensures set { OnOk result (IsSetAt (joined shelves.old.items) (joined shelves.new.items)
+        probe.now (Some row)) }
     ensures absent { OnErr result (place_at (joined shelves.old.items) probe.now ≡ None) }
     ensures back { IfErr result (λ back. back ≡ row) }
     ensures same { OnErr result (joined shelves.new.items ≡ joined shelves.old.items) }
@@ -148,8 +152,10 @@ fn swap_searched(
 ) -> Result<(Mark, Option<Row>), Option<Row>>
     requires { AreSorted shelves.old.items }
     ensures sorted { AreSorted shelves.new.items }
-    ensures found { IfOk result (λ before. place_at (joined shelves.old.items) probe.now ≡ Some before.1) }
-    ensures set { OnOk result (IsSetAt (joined shelves.old.items) (joined shelves.new.items) probe.now (Some row)) }
+    ensures found { IfOk result (λ before. place_at (joined shelves.old.items) probe.now
+        ≡ Some before.1) }
+    ensures set { OnOk result (IsSetAt (joined shelves.old.items) (joined shelves.new.items)
+        probe.now (Some row)) }
     ensures absent { OnErr result (place_at (joined shelves.old.items) probe.now ≡ None) }
     ensures back { IfErr result (λ back. back ≡ row) }
     ensures same { OnErr result (joined shelves.new.items ≡ joined shelves.old.items) }
@@ -171,8 +177,10 @@ fn swap_on(
     requires sorted { AreSorted shelves.old.items }
     requires shelf { IsBlockFor shelves.old.items probe.now at }
     ensures sorted { AreSorted shelves.new.items }
-    ensures found { IfOk result (λ before. place_at (joined shelves.old.items) probe.now ≡ Some before.1) }
-    ensures set { OnOk result (IsSetAt (joined shelves.old.items) (joined shelves.new.items) probe.now (Some row)) }
+    ensures found { IfOk result (λ before. place_at (joined shelves.old.items) probe.now
+        ≡ Some before.1) }
+    ensures set { OnOk result (IsSetAt (joined shelves.old.items) (joined shelves.new.items)
+        probe.now (Some row)) }
     ensures absent { OnErr result (place_at (joined shelves.old.items) probe.now ≡ None) }
     ensures back { IfErr result (λ back. back ≡ row) }
     ensures same { OnErr result (joined shelves.new.items ≡ joined shelves.old.items) }
@@ -194,8 +202,10 @@ pub fn insert(
 ) -> Result<(Mark, Option<Option<Row>>), AllocError>
     requires { AreSorted shelves.old.items }
     ensures sorted { AreSorted shelves.new.items }
-    ensures found { IfOk result (λ before. place_at (joined shelves.old.items) probe.now ≡ before.1) }
-    ensures set { OnOk result (IsSetAt (joined shelves.old.items) (joined shelves.new.items) probe.now (Some (Some row))) }
+    ensures found { IfOk result (λ before. place_at (joined shelves.old.items) probe.now
+        ≡ before.1) }
+    ensures set { OnOk result (IsSetAt (joined shelves.old.items) (joined shelves.new.items)
+        probe.now (Some (Some row))) }
     ensures err { OnErr result (joined shelves.new.items ≡ joined shelves.old.items) }
 {
     match insert_beside(alloc, shelves, near.0, probe, row) {
@@ -215,8 +225,10 @@ fn insert_searched(
 ) -> Result<(Mark, Option<Option<Row>>), AllocError>
     requires { AreSorted shelves.old.items }
     ensures sorted { AreSorted shelves.new.items }
-    ensures found { IfOk result (λ before. place_at (joined shelves.old.items) probe.now ≡ before.1) }
-    ensures set { OnOk result (IsSetAt (joined shelves.old.items) (joined shelves.new.items) probe.now (Some (Some row))) }
+    ensures found { IfOk result (λ before. place_at (joined shelves.old.items) probe.now
+        ≡ before.1) }
+    ensures set { OnOk result (IsSetAt (joined shelves.old.items) (joined shelves.new.items)
+        probe.now (Some (Some row))) }
     ensures err { OnErr result (joined shelves.new.items ≡ joined shelves.old.items) }
 {
     match shelf_for(shelves, near, probe) {
@@ -244,8 +256,10 @@ fn insert_on(
     requires sorted { AreSorted shelves.old.items }
     requires shelf { IsBlockFor shelves.old.items probe.now at }
     ensures sorted { AreSorted shelves.new.items }
-    ensures found { IfOk result (λ before. place_at (joined shelves.old.items) probe.now ≡ before.1) }
-    ensures set { OnOk result (IsSetAt (joined shelves.old.items) (joined shelves.new.items) probe.now (Some (Some row))) }
+    ensures found { IfOk result (λ before. place_at (joined shelves.old.items) probe.now
+        ≡ before.1) }
+    ensures set { OnOk result (IsSetAt (joined shelves.old.items) (joined shelves.new.items)
+        probe.now (Some (Some row))) }
     ensures err { OnErr result (joined shelves.new.items ≡ joined shelves.old.items) }
 {
     match shelves[at].insert(alloc, near, probe, row) {

@@ -51,7 +51,8 @@ impl Store {
 
     /// Reads the row at a key into `row`.
     pub fn get(&mut self, tab: u8, key: &[u8], row: &mut Vec<u8>) -> Result<bool, AllocError>
-        ensures found { IfOk result (λ found. map.get self.old.kept (tab ∷ key.now) ≡ (if found then Some row.new.items else None)) }
+        ensures found { IfOk result (λ found. map.get self.old.kept (tab ∷ key.now)
+            ≡ (if found then Some row.new.items else None)) }
         ensures empty { IfOk result (λ found. found ≡ false → row.new.items ≡ []) }
         ensures same { self.new ≡ self.old }
     {
@@ -69,7 +70,8 @@ impl Store {
         ensures found { IfOk result (λ found. MatchBool found
             (IsLeastFrom self.old.kept tab low.now key.new.items row.new.items)
             (NoneFrom self.old.kept tab low.now)) }
-        ensures empty { IfOk result (λ found. found ≡ false → (key.new.items ≡ []) × (row.new.items ≡ [])) }
+        ensures empty { IfOk result (λ found. found ≡ false → (key.new.items ≡ [])
+            × (row.new.items ≡ [])) }
         ensures same { self.new ≡ self.old }
     {
         self.rows.first_from(tab, low, key, row)
@@ -78,9 +80,11 @@ impl Store {
     /// Puts a row at a key.
     pub fn put(&mut self, tab: u8, key: &[u8], row: &[u8]) -> Result<(), AllocError>
         requires table { (1 ≤ tab) × (tab ≤ 15) }
-        ensures kept { OnOk result (self.new.kept ≡ map.insert self.old.kept (tab ∷ key.now) row.now) }
+        ensures kept { OnOk result (self.new.kept ≡ map.insert self.old.kept (tab ∷ key.now)
+            row.now) }
         ensures last { self.new.last ≡ self.old.last }
-        ensures changes { OnOk result (self.new.changes ≡ self.old.changes ++ (tab ∷ key.now) ∷ []) }
+        ensures changes { OnOk result (self.new.changes ≡ self.old.changes ++ (tab ∷ key.now)
+            ∷ []) }
         ensures err { OnErr result (self.new ≡ self.old) }
     {
         put_row(self.alloc, &mut self.rows, &mut self.changes, tab, key, row)
@@ -89,10 +93,13 @@ impl Store {
     /// Takes the row at a key away. The answer tells whether it was there.
     pub fn remove(&mut self, tab: u8, key: &[u8]) -> Result<bool, AllocError>
         requires table { (1 ≤ tab) × (tab ≤ 15) }
-        ensures found { IfOk result (λ found. found ≡ is_some (map.get self.old.kept (tab ∷ key.now))) }
+        ensures found { IfOk result
+            (λ found. found ≡ is_some (map.get self.old.kept (tab ∷ key.now))) }
         ensures kept { OnOk result (self.new.kept ≡ map.remove self.old.kept (tab ∷ key.now)) }
         ensures last { self.new.last ≡ self.old.last }
-        ensures changes { IfOk result (λ found. self.new.changes ≡ (if found then self.old.changes ++ (tab ∷ key.now) ∷ [] else self.old.changes)) }
+        ensures changes { IfOk result
+            (λ found. self.new.changes
+            ≡ (if found then self.old.changes ++ (tab ∷ key.now) ∷ [] else self.old.changes)) }
         ensures err { OnErr result (self.new ≡ self.old) }
     {
         let place = Place::of(self.alloc, tab, key)?;
@@ -116,8 +123,10 @@ impl Store {
 
     /// Settles the changes, and puts a row as if it had stood there.
     pub fn preset(&mut self, tab: u8, key: &[u8], row: &[u8]) -> Result<(), AllocError>
-        ensures ok { OnOk result (let t = map.insert self.old.kept (tab ∷ key.now) row.now in self.new ≡ record { kept = t; last = t; changes = [] }) }
-        ensures err { OnErr result (self.new ≡ record { kept = self.old.kept; last = self.old.kept; changes = [] }) }
+        ensures ok { OnOk result (let t = map.insert self.old.kept (tab ∷ key.now) row.now in
+            self.new ≡ record { kept = t; last = t; changes = [] }) }
+        ensures err { OnErr result
+            (self.new ≡ record { kept = self.old.kept; last = self.old.kept; changes = [] }) }
     {
         settle(&mut self.rows, &mut self.changes);
         let copy = Row::of(self.alloc, row)?;
@@ -127,7 +136,8 @@ impl Store {
 
     /// Settles the changes, and takes a row away as if it had not stood there. It takes no memory.
     pub fn unset(&mut self, tab: u8, key: &[u8])
-        ensures { let t = map.remove self.old.kept (tab ∷ key.now) in self.new ≡ record { kept = t; last = t; changes = [] } }
+        ensures { let t = map.remove self.old.kept (tab ∷ key.now) in self.new
+            ≡ record { kept = t; last = t; changes = [] } }
     {
         settle(&mut self.rows, &mut self.changes);
         self.rows.remove(&Probe::of(tab, key));
@@ -161,7 +171,8 @@ impl Store {
     /// The row that is now at the place of a change; none where it was taken away.
     pub fn changed_row(&self, at: usize) -> Option<&[u8]>
         requires { at < length self.now.changes }
-        ensures { IfSome (slice_get self.now.changes at) (λ place. option_map (λ row. row.now) result ≡ map.get self.now.kept place) }
+        ensures { IfSome (slice_get self.now.changes at)
+            (λ place. option_map (λ row. row.now) result ≡ map.get self.now.kept place) }
     {
         let probe = self.changes[at].place.probe();
         self.rows.row_at(&probe)

@@ -186,7 +186,8 @@ impl<'a> Probe<'a> {
     /// How a place with this head compares with the one that is looked for; at Equal the head doesn't tell.
     #[inline(always)]
     pub fn compare_head(&self, head: &Head) -> Ordering
-        ensures { (place : List ℕ) → IsHeadOfPlace head.now place → (result ≡ Equal → ⊥) → result ≡ bytes_cmp place self.now }
+        ensures { (place : List ℕ) → IsHeadOfPlace head.now place → (result ≡ Equal → ⊥)
+            → result ≡ bytes_cmp place self.now }
     {
         head.compare(&self.head)
     }

@@ -16,7 +16,8 @@ use std::alloc::Global;
 
 /// The number at the front of these bytes, and the bytes after it. None exactly where there are too few bytes.
 pub fn num_of(bytes: &[u8]) -> Option<(u32, &[u8])>
-    ensures { MatchOption result (NoneLeads IsNum num_bytes bytes.now) (λ x. Leads IsNum num_bytes bytes.now x.0 x.1.now) }
+    ensures { MatchOption result (NoneLeads IsNum num_bytes bytes.now)
+        (λ x. Leads IsNum num_bytes bytes.now x.0 x.1.now) }
 {
     if bytes.len() < 4 {
         return None;
@@ -28,7 +29,8 @@ pub fn num_of(bytes: &[u8]) -> Option<(u32, &[u8])>
 
 /// The number that these bytes are. None exactly where they are no number.
 pub fn only_num(bytes: &[u8]) -> Option<u32>
-    ensures { MatchOption result (NoneReads IsNum num_bytes bytes.now) (Reads IsNum num_bytes bytes.now) }
+    ensures { MatchOption result (NoneReads IsNum num_bytes bytes.now)
+        (Reads IsNum num_bytes bytes.now) }
 {
     match num_of(bytes) {
         Some((n, [])) => Some(n),
@@ -99,8 +101,10 @@ fn counted_values_of(
     count: u32,
     bytes: &[u8],
 ) -> Result<(Vec<Value>, &[u8]), KeyError>
-    ensures ok { IfOk result (λ x. Leads (AreMany IsPlainValue count) values_bytes bytes.now x.0.items x.1.now) }
-    ensures none { IsErrOf result KeyError.NotAKey → NoneLeads (AreMany IsPlainValue count) values_bytes bytes.now }
+    ensures ok { IfOk result
+        (λ x. Leads (AreMany IsPlainValue count) values_bytes bytes.now x.0.items x.1.now) }
+    ensures none { IsErrOf result KeyError.NotAKey → NoneLeads (AreMany IsPlainValue count)
+        values_bytes bytes.now }
 {
     let mut values = Vec::new(alloc);
     let mut rest = bytes;
@@ -130,8 +134,10 @@ pub fn path_of(alloc: Global, bytes: &[u8]) -> Result<(Path, &[u8]), KeyError>
 
 // As many numbers as the count says, and the bytes after them.
 fn users_of(alloc: Global, count: u32, bytes: &[u8]) -> Result<(Vec<u32>, &[u8]), KeyError>
-    ensures ok { IfOk result (λ x. Leads (AreMany IsNum count) nums_bytes bytes.now x.0.items x.1.now) }
-    ensures none { IsErrOf result KeyError.NotAKey → NoneLeads (AreMany IsNum count) nums_bytes bytes.now }
+    ensures ok { IfOk result
+        (λ x. Leads (AreMany IsNum count) nums_bytes bytes.now x.0.items x.1.now) }
+    ensures none { IsErrOf result KeyError.NotAKey → NoneLeads (AreMany IsNum count)
+        nums_bytes bytes.now }
 {
     let mut users = Vec::new(alloc);
     let mut rest = bytes;
@@ -148,7 +154,8 @@ fn users_of(alloc: Global, count: u32, bytes: &[u8]) -> Result<(Vec<u32>, &[u8])
 
 /// The integer at the front of these bytes, and the bytes after it.
 pub fn int_of(bytes: &[u8]) -> Option<(i64, &[u8])>
-    ensures { MatchOption result (NoneLeads (FitsSigned w64) int_bytes bytes.now) (λ x. Leads (FitsSigned w64) int_bytes bytes.now x.0 x.1.now) }
+    ensures { MatchOption result (NoneLeads (FitsSigned w64) int_bytes bytes.now)
+        (λ x. Leads (FitsSigned w64) int_bytes bytes.now x.0 x.1.now) }
 {
     let [1, rest @ ..] = bytes else {
         return None;
@@ -159,7 +166,8 @@ pub fn int_of(bytes: &[u8]) -> Option<(i64, &[u8])>
 
 // The number of eight bytes at the front of these bytes, and the bytes after it.
 fn u64_of(bytes: &[u8]) -> Option<(u64, &[u8])>
-    ensures { MatchOption result (NoneLeads (λ n. n < 2 ^ 64) (to_be_bytes w64) bytes.now) (λ x. Leads (λ n. n < 2 ^ 64) (to_be_bytes w64) bytes.now x.0 x.1.now) }
+    ensures { MatchOption result (NoneLeads (λ n. n < 2 ^ 64) (to_be_bytes w64) bytes.now)
+        (λ x. Leads (λ n. n < 2 ^ 64) (to_be_bytes w64) bytes.now x.0 x.1.now) }
 {
     if bytes.len() < 8 {
         return None;
@@ -171,7 +179,8 @@ fn u64_of(bytes: &[u8]) -> Option<(u64, &[u8])>
 
 /// The plain text at the front of these bytes, and the bytes after it.
 pub fn plain_text_of(bytes: &[u8]) -> Option<(&str, &[u8])>
-    ensures { MatchOption result (NoneLeads IsPlain text_bytes bytes.now) (λ x. Leads IsPlain text_bytes bytes.now x.0.now x.1.now) }
+    ensures { MatchOption result (NoneLeads IsPlain text_bytes bytes.now)
+        (λ x. Leads IsPlain text_bytes bytes.now x.0.now x.1.now) }
 {
     let (front, rest) = split_at_end(after_mark(bytes)?)?;
     let text = plain_of(front)?;
@@ -180,7 +189,8 @@ pub fn plain_text_of(bytes: &[u8]) -> Option<(&str, &[u8])>
 
 // The bytes behind the byte that marks a text.
 fn after_mark(bytes: &[u8]) -> Option<&[u8]>
-    ensures { MatchOption result ((rest : List ℕ) → bytes.now ≡ 2 ∷ rest → ⊥) (λ rest. bytes.now ≡ 2 ∷ rest.now) }
+    ensures { MatchOption result ((rest : List ℕ) → bytes.now ≡ 2 ∷ rest → ⊥)
+        (λ rest. bytes.now ≡ 2 ∷ rest.now) }
 {
     match bytes {
         [2, rest @ ..] => Some(rest),
@@ -202,7 +212,8 @@ fn split_at_end(bytes: &[u8]) -> Option<(&[u8], &[u8])>
 
 // These bytes as a plain text.
 fn plain_of(bytes: &[u8]) -> Option<&str>
-    ensures { MatchOption result (is_plain bytes.now ≡ false) (λ text. (text.now ≡ bytes.now) × (is_plain bytes.now ≡ true)) }
+    ensures { MatchOption result (is_plain bytes.now ≡ false)
+        (λ text. (text.now ≡ bytes.now) × (is_plain bytes.now ≡ true)) }
 {
     if bytes.len() > LONGEST_TEXT || !is_printing(bytes) {
         return None;
@@ -220,7 +231,8 @@ fn is_printing(bytes: &[u8]) -> bool
 // These bytes as a text.
 #[tactic(auto, using(crate::proofs::Readings::utf8_true, crate::proofs::Readings::utf8_false))]
 fn utf8_of(bytes: &[u8]) -> Option<&str>
-    ensures { MatchOption result (is_utf8 bytes.now ≡ false) (λ text. (text.now ≡ bytes.now) × (is_utf8 bytes.now ≡ true)) }
+    ensures { MatchOption result (is_utf8 bytes.now ≡ false)
+        (λ text. (text.now ≡ bytes.now) × (is_utf8 bytes.now ≡ true)) }
 {
     match std::str::from_utf8(bytes) {
         Ok(text) => Some(text),

@@ -31,7 +31,8 @@ pub fn rel_of(alloc: Global, bytes: &[u8]) -> Result<RelDef, KeyError>
 
 /// The length of the key of the relation that these bytes are. Its columns are not looked at.
 pub fn key_length_of(bytes: &[u8]) -> Option<u32>
-    ensures { MatchOption result (NoneReads IsRelRow rel_bytes bytes.now) (λ n. (def : RelDef) → Reads IsRelRow rel_bytes bytes.now def → n ≡ def.key) }
+    ensures { MatchOption result (NoneReads IsRelRow rel_bytes bytes.now)
+        (λ n. (def : RelDef) → Reads IsRelRow rel_bytes bytes.now def → n ≡ def.key) }
 {
     let (_, rest) = plain_text_of(bytes)?;
     let (key, _) = length_of(rest)?;
@@ -40,7 +41,8 @@ pub fn key_length_of(bytes: &[u8]) -> Option<u32>
 
 // The length of a key at the front of these bytes, and the bytes after it.
 fn length_of(bytes: &[u8]) -> Option<(u32, &[u8])>
-    ensures { MatchOption result (NoneLeads IsNum length_bytes bytes.now) (λ x. Leads IsNum length_bytes bytes.now x.0 x.1.now) }
+    ensures { MatchOption result (NoneLeads IsNum length_bytes bytes.now)
+        (λ x. Leads IsNum length_bytes bytes.now x.0 x.1.now) }
 {
     match int_of(bytes) {
         Some((key, rest)) => match u32::try_from(key) {
@@ -53,7 +55,8 @@ fn length_of(bytes: &[u8]) -> Option<(u32, &[u8])>
 
 // Whether a key may be of so many of these columns.
 fn is_key(key: u32, cols: &[ColDef]) -> bool
-    ensures { MatchBool result ((1 ≤ key) × (key ≤ length cols.now)) ((1 ≤ key) × (key ≤ length cols.now) → ⊥) }
+    ensures { MatchBool result ((1 ≤ key) × (key ≤ length cols.now))
+        ((1 ≤ key) × (key ≤ length cols.now) → ⊥) }
 {
     1 <= key && key as usize <= cols.len()
 }
@@ -103,7 +106,8 @@ pub fn user_of(alloc: Global, bytes: &[u8]) -> Result<UserSlot, KeyError>
 
 /// The sign that these bytes are. None exactly where they are no sign.
 pub fn sign_of(bytes: &[u8]) -> Option<Sign>
-    ensures { MatchOption result (NoneReads IsAnySign sign_bytes bytes.now) (Reads IsAnySign sign_bytes bytes.now) }
+    ensures { MatchOption result (NoneReads IsAnySign sign_bytes bytes.now)
+        (Reads IsAnySign sign_bytes bytes.now) }
 {
     match only_num(bytes) {
         Some(0) => Some(Sign::Plus),
@@ -115,7 +119,8 @@ pub fn sign_of(bytes: &[u8]) -> Option<Sign>
 
 /// The sign and the mark of a tuple in a world that these bytes are; true for explicit. None exactly where they are none.
 pub fn mark_of(bytes: &[u8]) -> Option<(Sign, bool)>
-    ensures { MatchOption result (NoneReads IsAnyMark mark_bytes bytes.now) (Reads IsAnyMark mark_bytes bytes.now) }
+    ensures { MatchOption result (NoneReads IsAnyMark mark_bytes bytes.now)
+        (Reads IsAnyMark mark_bytes bytes.now) }
 {
     match only_num(bytes) {
         Some(0) => Some((Sign::Plus, false)),
@@ -130,7 +135,8 @@ pub fn mark_of(bytes: &[u8]) -> Option<(Sign, bool)>
 // The columns that these bytes are.
 fn cols_of(alloc: Global, bytes: &[u8]) -> Result<List<ColDef>, KeyError>
     ensures ok { IfOk result (Reads (AllByRecursion IsCol) cols_bytes bytes.now) }
-    ensures none { IsErrOf result KeyError.NotAKey → NoneReads (AllByRecursion IsCol) cols_bytes bytes.now }
+    ensures none { IsErrOf result KeyError.NotAKey → NoneReads (AllByRecursion IsCol)
+        cols_bytes bytes.now }
 {
     let mut cols = Vec::new(alloc);
     let mut rest = bytes;
@@ -156,7 +162,8 @@ fn col_of(alloc: Global, bytes: &[u8]) -> Result<(ColDef, &[u8]), KeyError>
 
 // The kind at the front of these bytes, and the bytes after it.
 fn kind_of(bytes: &[u8]) -> Option<(Kind, &[u8])>
-    ensures { MatchOption result (NoneLeads IsAnyKind kind_bytes bytes.now) (λ x. Leads IsAnyKind kind_bytes bytes.now x.0 x.1.now) }
+    ensures { MatchOption result (NoneLeads IsAnyKind kind_bytes bytes.now)
+        (λ x. Leads IsAnyKind kind_bytes bytes.now x.0 x.1.now) }
 {
     match int_of(bytes) {
         Some((0, rest)) => Some((Kind::Int, rest)),

@@ -62,8 +62,10 @@ fn depth_row(bytes: &[u8]) -> Result<TabRow, RowError>
 
 // The row of table 7 or 9.
 fn link_row(bytes: &[u8]) -> Result<TabRow, RowError>
-    ensures ok { IfOk result (λ row. (Reads (IsRow 7) row_bytes bytes.now row) × (Reads (IsRow 9) row_bytes bytes.now row)) }
-    ensures none { IsErrOf result RowError.NotARow → (NoneReads (IsRow 7) row_bytes bytes.now) × (NoneReads (IsRow 9) row_bytes bytes.now) }
+    ensures ok { IfOk result (λ row. (Reads (IsRow 7) row_bytes bytes.now row)
+        × (Reads (IsRow 9) row_bytes bytes.now row)) }
+    ensures none { IsErrOf result RowError.NotARow → (NoneReads (IsRow 7) row_bytes bytes.now)
+        × (NoneReads (IsRow 9) row_bytes bytes.now) }
 {
     match only_num(bytes) {
         Some(n) => Ok(TabRow::Link(n)),
@@ -106,8 +108,10 @@ fn tuple_row(alloc: Global, bytes: &[u8]) -> Result<TabRow, RowError>
 
 // The row of table 8 or 10.
 fn empty_row(bytes: &[u8]) -> Result<TabRow, RowError>
-    ensures ok { IfOk result (λ row. (Reads (IsRow 8) row_bytes bytes.now row) × (Reads (IsRow 10) row_bytes bytes.now row)) }
-    ensures none { IsErrOf result RowError.NotARow → (NoneReads (IsRow 8) row_bytes bytes.now) × (NoneReads (IsRow 10) row_bytes bytes.now) }
+    ensures ok { IfOk result (λ row. (Reads (IsRow 8) row_bytes bytes.now row)
+        × (Reads (IsRow 10) row_bytes bytes.now row)) }
+    ensures none { IsErrOf result RowError.NotARow → (NoneReads (IsRow 8) row_bytes bytes.now)
+        × (NoneReads (IsRow 10) row_bytes bytes.now) }
 {
     if !bytes.is_empty() {
         return Err(RowError::NotARow);

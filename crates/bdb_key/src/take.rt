@@ -15,7 +15,8 @@ use std::alloc::Global;
 /// The parts of the key of a shape that these bytes are. `NotAKey` comes exactly where they are no key of that shape.
 pub fn take_key(alloc: Global, bytes: &[u8], shape: &[Slot]) -> Result<List<Part>, KeyError>
     ensures ok { IfOk result (Reads (IsKey shape.now) key_bytes bytes.now) }
-    ensures none { IsErrOf result KeyError.NotAKey → NoneReads (IsKey shape.now) key_bytes bytes.now }
+    ensures none { IsErrOf result KeyError.NotAKey
+        → NoneReads (IsKey shape.now) key_bytes bytes.now }
 {
     let parts = key_parts(alloc, bytes, shape)?;
     Ok(List::from_vec(parts))
@@ -24,7 +25,8 @@ pub fn take_key(alloc: Global, bytes: &[u8], shape: &[Slot]) -> Result<List<Part
 // As `take_key`, as a vector.
 fn key_parts(alloc: Global, bytes: &[u8], shape: &[Slot]) -> Result<Vec<Part>, KeyError>
     ensures ok { IfOk result (λ parts. Reads (IsKey shape.now) key_bytes bytes.now parts.items) }
-    ensures none { IsErrOf result KeyError.NotAKey → NoneReads (IsKey shape.now) key_bytes bytes.now }
+    ensures none { IsErrOf result KeyError.NotAKey
+        → NoneReads (IsKey shape.now) key_bytes bytes.now }
 {
     let Some((slot, more)) = first_slot(shape) else {
         return no_parts(alloc, bytes);
@@ -78,8 +80,10 @@ fn no_parts(alloc: Global, bytes: &[u8]) -> Result<Vec<Part>, KeyError>
 
 // The values that these bytes are, as parts.
 fn rest_parts(alloc: Global, bytes: &[u8]) -> Result<Vec<Part>, KeyError>
-    ensures ok { IfOk result (λ parts. Reads (AllByRecursion (FitsSlot Slot.Rest)) key_bytes bytes.now parts.items) }
-    ensures none { IsErrOf result KeyError.NotAKey → NoneReads (AllByRecursion (FitsSlot Slot.Rest)) key_bytes bytes.now }
+    ensures ok { IfOk result
+        (λ parts. Reads (AllByRecursion (FitsSlot Slot.Rest)) key_bytes bytes.now parts.items) }
+    ensures none { IsErrOf result KeyError.NotAKey → NoneReads (AllByRecursion (FitsSlot Slot.Rest))
+        key_bytes bytes.now }
 {
     let mut parts = Vec::new(alloc);
     let mut rest = bytes;
@@ -94,7 +98,8 @@ fn rest_parts(alloc: Global, bytes: &[u8]) -> Result<Vec<Part>, KeyError>
 // The part at the front of these bytes, and the bytes after it.
 fn part_of(alloc: Global, slot: Slot, bytes: &[u8]) -> Result<(Part, &[u8]), KeyError>
     ensures ok { IfOk result (λ x. Leads (FitsSlot slot) part_bytes bytes.now x.0 x.1.now) }
-    ensures none { IsErrOf result KeyError.NotAKey → NoneLeads (FitsSlot slot) part_bytes bytes.now }
+    ensures none { IsErrOf result KeyError.NotAKey
+        → NoneLeads (FitsSlot slot) part_bytes bytes.now }
 {
     match slot {
         Slot::Num => match num_of(bytes) {

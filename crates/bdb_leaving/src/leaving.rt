@@ -28,9 +28,12 @@ pub fn drop_user<K: Keeper>(
 ) -> Result<List<Stmt>, TabError>
     requires running { (K.seen keeper.old).running ≡ true }
     requires base { SomeMayDropUser (K.seen keeper.old).kept counts.old uid }
-    ensures left { IfOk result (λ gone. UserLeaves (K.seen keeper.old).kept (K.seen keeper.new).kept counts.old counts.new uid gone) }
+    ensures left { IfOk result
+        (λ gone. UserLeaves (K.seen keeper.old).kept
+        (K.seen keeper.new).kept counts.old counts.new uid gone) }
     ensures counts { OnErr result (counts.new ≡ counts.old) }
-    ensures steps { OnOk result (LeavesThrough counts.old uid (K.seen keeper.old) (K.seen keeper.new)) }
+    ensures steps { OnOk result
+        (LeavesThrough counts.old uid (K.seen keeper.old) (K.seen keeper.new)) }
     ensures keeps { OnOk result (KeepsNumbers (K.seen keeper.new).kept (K.seen keeper.old).kept) }
     ensures changing { IsChanging (K.seen keeper.old) (K.seen keeper.new) result TabError.Fault }
 {

@@ -25,7 +25,8 @@ pub fn statements_naming<K: Keeper>(
     uid: u32,
 ) -> Result<List<Stmt>, TabError>
     requires base { StoreSome (K.seen keeper.old).kept }
-    ensures naming { IfOk result (IsPartOf (λ b. statements_naming uid b.stmts) (K.seen keeper.old).kept) }
+    ensures naming { IfOk result
+        (IsPartOf (λ b. statements_naming uid b.stmts) (K.seen keeper.old).kept) }
     ensures reads { OnOk result (ReadsNaming uid (K.seen keeper.old) (K.seen keeper.new)) }
     ensures kept { OnOk result ((K.seen keeper.new).kept ≡ (K.seen keeper.old).kept) }
     ensures writes { (K.seen keeper.new).writes ≡ (K.seen keeper.old).writes }
@@ -51,7 +52,8 @@ fn read_naming<K: Keeper>(
     requires grammar { InGrammar (K.seen keeper.old).kept }
     requires tuples { HaveTuples (K.seen keeper.old).kept }
     requires worlds { TellsStates (K.seen keeper.old).kept worlds.now }
-    ensures naming { IfOk result (IsPartOf (λ b. statements_naming uid b.stmts) (K.seen keeper.old).kept) }
+    ensures naming { IfOk result
+        (IsPartOf (λ b. statements_naming uid b.stmts) (K.seen keeper.old).kept) }
     ensures reads { OnOk result (ReadsRows uid (K.seen keeper.old) (K.seen keeper.new)) }
     ensures reading { OnlyReads (K.seen keeper.old) (K.seen keeper.new) result TabError.Fault }
 {
@@ -75,7 +77,8 @@ fn push_naming<K: Keeper>(
 ) -> Result<(), TabError>
     requires grammar { InGrammar (K.seen keeper.old).kept }
     requires tuples { HaveTuples (K.seen keeper.old).kept }
-    ensures appended { OnOk result (AppendsNaming (K.seen keeper.old).kept uid world.now stmts.old stmts.new) }
+    ensures appended { OnOk result
+        (AppendsNaming (K.seen keeper.old).kept uid world.now stmts.old stmts.new) }
     ensures reads { OnOk result (ReadsAt uid world.now (K.seen keeper.old) (K.seen keeper.new)) }
     ensures reading { OnlyReads (K.seen keeper.old) (K.seen keeper.new) result TabError.Fault }
 {

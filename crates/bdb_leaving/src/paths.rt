@@ -24,7 +24,9 @@ pub(crate) fn worlds_by_edges<K: Keeper>(
 ) -> Result<Vec<NamedWorld>, TabError>
     requires base { StoreSome (K.seen keeper.old).kept }
     ensures worlds { IfOk result (λ worlds. TellsStates (K.seen keeper.old).kept worlds.items) }
-    ensures reads { IfOk result (λ worlds. (K.seen keeper.new).reads ≤ (K.seen keeper.old).reads + (length worlds.items + 1 + path_lengths worlds.items)) }
+    ensures reads { IfOk result
+        (λ worlds. (K.seen keeper.new).reads
+        ≤ (K.seen keeper.old).reads + (length worlds.items + 1 + path_lengths worlds.items)) }
     ensures read { IsRead (K.seen keeper.old) (K.seen keeper.new) result TabError.Fault }
 {
     let rows = match rows_under::<DepthTab, K>(alloc, keeper, &[]) {
@@ -52,8 +54,11 @@ fn with_paths<K: Keeper>(
 ) -> Result<Vec<NamedWorld>, TabError>
     requires base { StoreSome (K.seen keeper.old).kept }
     requires rows { AllByRecursion (IsDeep (K.seen keeper.old).kept) rows.now }
-    ensures worlds { IfOk result (λ worlds. HavePaths (K.seen keeper.old).kept rows.now worlds.items) }
-    ensures reads { IfOk result (λ worlds. (K.seen keeper.new).reads ≤ (K.seen keeper.old).reads + path_lengths worlds.items) }
+    ensures worlds { IfOk result
+        (λ worlds. HavePaths (K.seen keeper.old).kept rows.now worlds.items) }
+    ensures reads { IfOk result
+        (λ worlds. (K.seen keeper.new).reads
+        ≤ (K.seen keeper.old).reads + path_lengths worlds.items) }
     ensures reading { OnlyReads (K.seen keeper.old) (K.seen keeper.new) result TabError.Fault }
 {
     let mut worlds = Vec::new(alloc);
@@ -85,7 +90,8 @@ fn with_path<K: Keeper>(
     requires row { IsDeep (K.seen keeper.old).kept row.now }
     ensures number { IfOk result (λ world. world.wid ≡ row.now.0) }
     ensures path { IfOk result (HasPath (K.seen keeper.old).kept) }
-    ensures reads { IfOk result (λ world. (K.seen keeper.new).reads ≤ (K.seen keeper.old).reads + length world.path) }
+    ensures reads { IfOk result
+        (λ world. (K.seen keeper.new).reads ≤ (K.seen keeper.old).reads + length world.path) }
     ensures reading { OnlyReads (K.seen keeper.old) (K.seen keeper.new) result TabError.Fault }
 {
     let wid = row.0;
@@ -114,7 +120,8 @@ fn users_to<K: Keeper>(
     requires base { StoreSome (K.seen keeper.old).kept }
     requires row { IsDeep (K.seen keeper.old).kept row.now }
     ensures users { IfOk result (λ users. IsNamed (K.seen keeper.old).kept row.now.0 users.items) }
-    ensures reads { IfOk result (λ users. (K.seen keeper.new).reads ≤ (K.seen keeper.old).reads + length users.items) }
+    ensures reads { IfOk result
+        (λ users. (K.seen keeper.new).reads ≤ (K.seen keeper.old).reads + length users.items) }
     ensures reading { OnlyReads (K.seen keeper.old) (K.seen keeper.new) result TabError.Fault }
 {
     let mut users = Vec::new(alloc);

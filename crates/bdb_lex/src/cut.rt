@@ -61,11 +61,16 @@ impl Cutter {
         bytes: &'a [u8],
     ) -> Result<Option<(Piece<'a>, &'a [u8])>, AllocError>
         requires ready { self.old.is_spent ≡ false }
-        ensures some { IfOk result (λ next. IfSome next (λ found. EndsFirst self.old.state bytes.now found.0 found.1.now)) }
+        ensures some { IfOk result
+            (λ next.
+            IfSome next (λ found. EndsFirst self.old.state bytes.now found.0 found.1.now)) }
         ensures start { IfOk result (λ next. IfSome next (λ _. self.new ≡ ready start)) }
-        ensures shorter { IfOk result (λ next. IfSome next (λ found. length found.1.now < length bytes.now)) }
-        ensures none { IfOk result (λ next. IfNone next (pieces_from self.old.state bytes.now ≡ [])) }
-        ensures state { IfOk result (λ next. IfNone next (self.new ≡ ready (state_after self.old.state bytes.now))) }
+        ensures shorter { IfOk result
+            (λ next. IfSome next (λ found. length found.1.now < length bytes.now)) }
+        ensures none { IfOk result
+            (λ next. IfNone next (pieces_from self.old.state bytes.now ≡ [])) }
+        ensures state { IfOk result
+            (λ next. IfNone next (self.new ≡ ready (state_after self.old.state bytes.now))) }
         ensures spent { OnErr result (self.new.is_spent ≡ true) }
     {
         let run = run_of(self.mode, self.holds, bytes);
@@ -84,7 +89,9 @@ impl Cutter {
 
     /// Keeps the bytes of a run, in which no piece ends.
     fn keep(&mut self, bytes: &[u8], run: Run) -> Result<(), AllocError>
-        ensures state { OnOk result (self.new.state ≡ state_of run.mode (longer_by self.old.state.piece bytes.now) run.holds) }
+        ensures state { OnOk result
+            (self.new.state ≡ state_of run.mode (longer_by self.old.state.piece bytes.now)
+            run.holds) }
         ensures spent { self.new.is_spent ≡ self.old.is_spent }
     {
         self.piece.extend(bytes)?;
@@ -124,7 +131,8 @@ impl Cutter {
         requires ready { self.old.is_spent ≡ false }
         ensures pieces { OnOk result (out.new ≡ out.old ++ pieces_from self.old.state bytes.now) }
         ensures state { OnOk result (self.new ≡ ready (state_after self.old.state bytes.now)) }
-        ensures front { OnErr result (GrewByFront out.old out.new (pieces_from self.old.state bytes.now)) }
+        ensures front { OnErr result
+            (GrewByFront out.old out.new (pieces_from self.old.state bytes.now)) }
         ensures spent { OnErr result (self.new.is_spent ≡ true) }
     {
         let mut rest = bytes;

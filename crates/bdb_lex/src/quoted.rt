@@ -14,7 +14,8 @@ use std::alloc::Global;
 /// content isn't allowed.
 pub fn text_behind(alloc: Global, bytes: &[u8]) -> Result<(Token<'_>, &[u8]), LexError>
     ensures ok { IfOk result (λ read. ReadsOn (in_text []) bytes.now read.0 read.1.now) }
-    ensures not_tokens { IsErrOf result LexError.NotTokens → tokens_from (in_text []) bytes.now ≡ None }
+    ensures not_tokens { IsErrOf result LexError.NotTokens → tokens_from (in_text []) bytes.now
+        ≡ None }
 {
     match undoubled(bytes) {
         Some((content, after)) => {
@@ -40,7 +41,8 @@ fn undoubled(bytes: &[u8]) -> Option<(&[u8], &[u8])>
 /// The same as `text_behind`, where quotes may be doubled. It puts the parts between them together.
 fn doubled_text_behind(alloc: Global, bytes: &[u8]) -> Result<(Token<'_>, &[u8]), LexError>
     ensures ok { IfOk result (λ read. ReadsOn (in_text []) bytes.now read.0 read.1.now) }
-    ensures not_tokens { IsErrOf result LexError.NotTokens → tokens_from (in_text []) bytes.now ≡ None }
+    ensures not_tokens { IsErrOf result LexError.NotTokens → tokens_from (in_text []) bytes.now
+        ≡ None }
 {
     let mut content = Vec::new(alloc);
     let mut rest = bytes;

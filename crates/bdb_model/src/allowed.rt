@@ -34,7 +34,8 @@ fn known_operand_with<'a>(
     tuple: &'a Tuple,
     operand: &'a Operand,
 ) -> Option<&'a Value>
-    ensures { option_copied result ≡ known_operand (slice_set slots.now at (Some tuple.now)) operand.now }
+    ensures { option_copied result ≡ known_operand (slice_set slots.now at (Some tuple.now))
+        operand.now }
 {
     match operand {
         Operand::Col(r) => known_with(slots, at, tuple, *r),

@@ -22,14 +22,16 @@ pub fn stated(base: &Base, path: &[u32], t: &Tuple, s: Sign) -> bool
 
 /// Whether a path believes a tuple, or with minus its negation.
 pub fn believes(base: &Base, path: &[u32], t: &Tuple, s: Sign) -> bool
-    ensures { result ≡ believes (key_lengths base.now.catalog.rels) base.now.stmts path.now t.now s }
+    ensures { result ≡ believes (key_lengths base.now.catalog.rels)
+        base.now.stmts path.now t.now s }
 {
     believes_among(key_length_in(base, t), base.stmts(), path, t, s)
 }
 
 /// The least statement of this very path with which a signed tuple clashes; none exactly where none does.
 pub fn clashing<'a>(base: &'a Base, path: &[u32], t: &Tuple, s: Sign) -> Option<&'a Stmt>
-    ensures { option_copied result ≡ least_clash (key_lengths base.now.catalog.rels) base.now.stmts path.now t.now s }
+    ensures { option_copied result ≡ least_clash (key_lengths base.now.catalog.rels)
+        base.now.stmts path.now t.now s }
 {
     clashing_among(key_length_in(base, t), base.stmts(), path, t, s)
 }
@@ -37,9 +39,11 @@ pub fn clashing<'a>(base: &'a Base, path: &[u32], t: &Tuple, s: Sign) -> Option<
 /// The world of a path, by tuple: no two rows clash, and no tuple stands twice. A row is explicit exactly where it is a
 /// statement of this very path.
 pub fn world_rows(alloc: Global, base: &Base, path: &[u32]) -> Result<World, AllocError>
-    ensures world { IfOk result (λ world. world.held ≡ world_of (key_lengths base.now.catalog.rels) base.now.stmts path.now) }
+    ensures world { IfOk result (λ world. world.held ≡ world_of (key_lengths base.now.catalog.rels)
+        base.now.stmts path.now) }
     ensures once { IfOk result (λ world. ascending row_tuple_cmp world.held ≡ true) }
-    ensures compatible { IfOk result (λ world. AreCompatible (key_lengths base.now.catalog.rels) world.held) }
+    ensures compatible { IfOk result (λ world. AreCompatible (key_lengths base.now.catalog.rels)
+        world.held) }
 {
     let rels = base.catalog().rels.as_slice();
     let world = world_among(alloc, rels, base.stmts(), path)?;

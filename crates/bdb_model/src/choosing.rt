@@ -40,7 +40,9 @@ pub fn choose<S: Stage>(
     found: &mut Found,
 ) -> Result<(), AllocError>
     requires { at + length pools.now < 2 ^ 64 }
-    ensures { OnOk result (found.new ≡ with_rows found.old (chosen_rows conds.now (S.rows stage.now) at pools.now slots.now)) }
+    ensures { OnOk result
+        (found.new ≡ with_rows found.old
+        (chosen_rows conds.now (S.rows stage.now) at pools.now slots.now)) }
 {
     if !found.has_room() {
         return Ok(());

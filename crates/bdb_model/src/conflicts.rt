@@ -35,7 +35,8 @@ pub fn first_clashing_among<'a>(
 
 /// Whether a statement of this very path clashes with one that came before it.
 fn clashes_after(rels: &[RelDef], before: Option<&Stmt>, x: &Stmt, path: &[u32]) -> bool
-    ensures { result ≡ clashes_after (key_lengths rels.now) path.now (option_copied before.entry) x.now }
+    ensures { result ≡ clashes_after (key_lengths rels.now) path.now (option_copied before.entry)
+        x.now }
 {
     match before {
         Some(y) => is_at(x, path) && clash_in(rels, &y.tuple, y.sign, &x.tuple, x.sign),

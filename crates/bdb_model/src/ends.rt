@@ -36,7 +36,8 @@ fn push_at_ends(
     path: &[u32],
 ) -> Result<(), AllocError>
     requires { ascending statement_cmp stmts.now ≡ true }
-    ensures { OnOk result (near.new ≡ near.old ++ filter (λ x. is_suffix x.path path.now) stmts.now) }
+    ensures { OnOk result
+        (near.new ≡ near.old ++ filter (λ x. is_suffix x.path path.now) stmts.now) }
 {
     match path {
         [] => {

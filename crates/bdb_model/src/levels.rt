@@ -43,7 +43,8 @@ impl Level {
 
     /// Adds what a statement states.
     fn add(&mut self, alloc: Global, rels: &[RelDef], x: &Stmt) -> Result<(), AllocError>
-        ensures { OnOk result (self.new ≡ with_stated (key_lengths rels.now) self.old x.now.tuple x.now.sign) }
+        ensures { OnOk result
+            (self.new ≡ with_stated (key_lengths rels.now) self.old x.now.tuple x.now.sign) }
     {
         match x.sign {
             Sign::Plus => {
@@ -115,7 +116,8 @@ pub fn levels_of(
     path: &[u32],
 ) -> Result<Vec<Level>, AllocError>
     requires { ascending statement_cmp stmts.now ≡ true }
-    ensures { IfOk result (λ levels. levels.items ≡ levels_of (key_lengths rels.now) stmts.now path.now) }
+    ensures { IfOk result
+        (λ levels. levels.items ≡ levels_of (key_lengths rels.now) stmts.now path.now) }
 {
     let mut levels = Vec::new(alloc);
     let mut rest = path;
@@ -134,7 +136,8 @@ fn push_if_any(
     levels: &mut Vec<Level>,
     stmts: &[Stmt],
 ) -> Result<(), AllocError>
-    ensures { OnOk result (levels.new.items ≡ levels.old.items ++ level_if_any (key_lengths rels.now) stmts.now) }
+    ensures { OnOk result
+        (levels.new.items ≡ levels.old.items ++ level_if_any (key_lengths rels.now) stmts.now) }
 {
     if stmts.is_empty() {
         return Ok(());

@@ -30,7 +30,9 @@ pub fn worlds_of(
     items: &[Item],
 ) -> Result<Vec<List<Held>>, AllocError>
     requires { ascending statement_cmp stmts.now ≡ true }
-    ensures { IfOk result (λ worlds. worlds.items ≡ map (item_world (key_lengths rels.now) stmts.now slots.now) items.now) }
+    ensures { IfOk result
+        (λ worlds. worlds.items ≡ map (item_world (key_lengths rels.now) stmts.now slots.now)
+        items.now) }
 {
     let mut worlds = Vec::new(alloc);
     for item in items {
@@ -47,7 +49,8 @@ fn item_world(
     item: &Item,
 ) -> Result<List<Held>, AllocError>
     requires { ascending statement_cmp stmts.now ≡ true }
-    ensures { IfOk result (λ world. world ≡ item_world (key_lengths rels.now) stmts.now slots.now item.now) }
+    ensures { IfOk result
+        (λ world. world ≡ item_world (key_lengths rels.now) stmts.now slots.now item.now) }
 {
     match item {
         Item::Users { .. } => Ok(List::new(alloc)),
@@ -69,7 +72,8 @@ fn world_at(
     users: &[u32],
 ) -> Result<List<Held>, AllocError>
     requires { ascending statement_cmp stmts.now ≡ true }
-    ensures { IfOk result (λ world. world ≡ world_at (key_lengths rels.now) stmts.now (Some users.now)) }
+    ensures { IfOk result (λ world. world ≡ world_at (key_lengths rels.now) stmts.now
+        (Some users.now)) }
 {
     match Path::try_new(alloc, users) {
         Ok(path) => {
@@ -185,7 +189,8 @@ pub fn minus_pools(
     items: &[Item],
     worlds: &[List<Held>],
 ) -> Result<Vec<Option<List<Tuple>>>, AllocError>
-    ensures { IfOk result (λ pools. pools.items ≡ minus_pools rels.now sources.now slots.now 0 items.now worlds.now) }
+    ensures { IfOk result
+        (λ pools. pools.items ≡ minus_pools rels.now sources.now slots.now 0 items.now worlds.now) }
 {
     let mut pools = Vec::new(alloc);
     push_minus_pools(alloc, &mut pools, rels, sources, slots, 0, items, worlds)?;
@@ -203,7 +208,9 @@ fn push_minus_pools(
     worlds: &[List<Held>],
 ) -> Result<(), AllocError>
     requires { at + length items.now < 2 ^ 64 }
-    ensures { OnOk result (pools.new.items ≡ pools.old.items ++ minus_pools rels.now sources.now slots.now at items.now worlds.now) }
+    ensures { OnOk result
+        (pools.new.items
+        ≡ pools.old.items ++ minus_pools rels.now sources.now slots.now at items.now worlds.now) }
 {
     match items {
         [] => Ok(()),
@@ -228,7 +235,8 @@ fn minus_pool(
     item: &Item,
     world: &[Held],
 ) -> Result<Option<List<Tuple>>, AllocError>
-    ensures { IfOk result (λ pool. pool ≡ minus_pool rels.now sources.now slots.now at item.now world.now) }
+    ensures { IfOk result
+        (λ pool. pool ≡ minus_pool rels.now sources.now slots.now at item.now world.now) }
 {
     match item {
         Item::Users { .. } => Ok(None),
@@ -294,7 +302,8 @@ fn sourced_tuple(
     item: usize,
     rel: u32,
 ) -> Result<Option<List<Value>>, AllocError>
-    ensures { IfOk result (λ vals. vals ≡ sourced_values sources.now slots.now item 0 (columns_at rels.now rel)) }
+    ensures { IfOk result (λ vals. vals ≡ sourced_values sources.now slots.now item 0
+        (columns_at rels.now rel)) }
 {
     match rels.get(rel as usize) {
         Some(def) => {
@@ -331,7 +340,8 @@ fn sourced_value<'a>(
     item: usize,
     col: usize,
 ) -> Option<&'a Value>
-    ensures { option_copied result ≡ sourced_value sources.now slots.now (record { item = item; col = col }) }
+    ensures { option_copied result ≡ sourced_value sources.now slots.now
+        (record { item = item; col = col }) }
 {
     match source_of(sources, item, col) {
         Some(source) => known_operand(slots, source),

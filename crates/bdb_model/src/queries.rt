@@ -20,7 +20,9 @@ pub fn answers(alloc: Global, base: &Base, q: &Query) -> Result<List<List<Value>
     requires fits { query_fits base.now.catalog q.now ≡ true }
     requires safe { IsSafe base.now.catalog.rels q.now }
     ensures rows { IfOk result (λ rows. rows ≡ answers_of base.now q.now) }
-    ensures domains { IfOk result (λ rows. (dom : List Value) → HasValues dom (active_domain base.now q.now) → rows ≡ answers_over base.now dom q.now) }
+    ensures domains { IfOk result
+        (λ rows. (dom : List Value) → HasValues dom (active_domain base.now q.now)
+        → rows ≡ answers_over base.now dom q.now) }
 {
     match answers_up_to(alloc, base, q, usize::MAX)? {
         Some(rows) => Ok(rows),
@@ -39,7 +41,9 @@ pub fn answers_up_to(
     requires fits { query_fits base.now.catalog q.now ≡ true }
     requires safe { IsSafe base.now.catalog.rels q.now }
     ensures rows { IfOk result (λ rows. rows ≡ up_to most (answers_of base.now q.now)) }
-    ensures domains { IfOk result (λ rows. (dom : List Value) → HasValues dom (active_domain base.now q.now) → rows ≡ up_to most (answers_over base.now dom q.now)) }
+    ensures domains { IfOk result
+        (λ rows. (dom : List Value) → HasValues dom (active_domain base.now q.now)
+        → rows ≡ up_to most (answers_over base.now dom q.now)) }
 {
     let rows = rows_up_to(alloc, base, q, most)?;
     Ok(rows)
@@ -53,7 +57,8 @@ pub fn rows_up_to(
     q: &Query,
     most: usize,
 ) -> Result<Option<List<List<Value>>>, AllocError>
-    ensures { IfOk result (λ rows. query_fits base.now.catalog q.now ≡ true → IsSafe base.now.catalog.rels q.now → rows ≡ up_to most (answers_of base.now q.now)) }
+    ensures { IfOk result (λ rows. query_fits base.now.catalog q.now ≡ true
+        → IsSafe base.now.catalog.rels q.now → rows ≡ up_to most (answers_of base.now q.now)) }
 {
     let items = q.items.as_slice();
     let sources = sources_of(alloc, q)?;

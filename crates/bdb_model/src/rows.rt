@@ -21,7 +21,8 @@ pub fn world_among(
     path: &[u32],
 ) -> Result<World, AllocError>
     requires { ascending statement_cmp stmts.now ≡ true }
-    ensures { IfOk result (λ world. world.held ≡ world_of (key_lengths rels.now) stmts.now path.now) }
+    ensures { IfOk result
+        (λ world. world.held ≡ world_of (key_lengths rels.now) stmts.now path.now) }
 {
     let near = at_ends(alloc, stmts, path)?;
     let world = world_from(alloc, rels, near.as_slice(), path)?;
@@ -36,7 +37,8 @@ fn world_from(
     path: &[u32],
 ) -> Result<World, AllocError>
     requires { ascending statement_cmp stmts.now ≡ true }
-    ensures { IfOk result (λ world. world.held ≡ world_of (key_lengths rels.now) stmts.now path.now) }
+    ensures { IfOk result
+        (λ world. world.held ≡ world_of (key_lengths rels.now) stmts.now path.now) }
 {
     let tuples = tuples_of(alloc, stmts)?;
     let levels = levels_of(alloc, rels, stmts, path)?;
@@ -56,7 +58,8 @@ fn push_rows(
     own: &Level,
     tuple: &Tuple,
 ) -> Result<(), AllocError>
-    ensures { OnOk result (held.new ≡ held.old ++ rows_by (key_lengths rels.now) levels.now own.now tuple.now) }
+    ensures { OnOk result
+        (held.new ≡ held.old ++ rows_by (key_lengths rels.now) levels.now own.now tuple.now) }
 {
     let key = key_tuple(alloc, rels, tuple)?;
     push_row(alloc, held, levels, own, tuple, &key, Sign::Plus)?;
@@ -73,7 +76,8 @@ fn push_row(
     key: &Key,
     sign: Sign,
 ) -> Result<(), AllocError>
-    ensures { OnOk result (held.new ≡ held.old ++ row_by levels.now own.now tuple.now key.now sign) }
+    ensures { OnOk result
+        (held.new ≡ held.old ++ row_by levels.now own.now tuple.now key.now sign) }
 {
     if stated_by(levels, tuple, key, sign) {
         held.push(Held {

@@ -50,8 +50,10 @@ impl Desk {
     /// and this one. The only error is want of memory, and the desk is unchanged then.
     pub fn step(&mut self, session: u8, line: Line) -> Result<Act, AllocError>
         requires { session < sessions }
-        ensures act { (es : List Event) → StandsFor self.old es → IfOk result (λ act. act ≡ act_after es (record { session = session; line = line })) }
-        ensures stands { OnOk result ((es : List Event) → StandsFor self.old es → StandsFor self.new (es ++ record { session = session; line = line } ∷ [])) }
+        ensures act { (es : List Event) → StandsFor self.old es
+            → IfOk result (λ act. act ≡ act_after es (record { session = session; line = line })) }
+        ensures stands { OnOk result ((es : List Event) → StandsFor self.old es
+            → StandsFor self.new (es ++ record { session = session; line = line } ∷ [])) }
         ensures same { OnErr result (self.new ≡ self.old) }
     {
         step_slot(self.alloc, &mut self.slots[session as usize], line)

@@ -29,7 +29,8 @@ impl Part<RawItem> for Items {
 
 /// One user of a path, behind 'belief', and how many tokens that are.
 fn who(alloc: Global, tokens: &[Token<'_>]) -> Result<Option<(RawWho, usize)>, ParseError>
-    ensures who { Gives (option_map (λ x. (x.0, drop x.1 tokens.now))) result (Some (who_at tokens.now)) }
+    ensures who { Gives (option_map (λ x. (x.0, drop x.1 tokens.now))) result
+        (Some (who_at tokens.now)) }
     ensures within { IfOk result (λ read. IfSome read (λ x. x.1 ≤ length tokens.now)) }
     ensures few { IfOk result (λ read. IfSome read (λ x. x.1 ≤ 4)) }
 {
@@ -49,7 +50,8 @@ fn who_behind(
     token: &Token<'_>,
     tokens: &[Token<'_>],
 ) -> Result<Option<(RawWho, usize)>, ParseError>
-    ensures who { Gives (option_map (λ x. (x.0, drop x.1 (Word word.now ∷ token.now ∷ tokens.now)))) result (Some (who_at (Word word.now ∷ token.now ∷ tokens.now))) }
+    ensures who { Gives (option_map (λ x. (x.0, drop x.1 (Word word.now ∷ token.now ∷ tokens.now))))
+        result (Some (who_at (Word word.now ∷ token.now ∷ tokens.now))) }
     ensures within { IfOk result (λ read. IfSome read (λ x. x.1 ≤ length tokens.now + 2)) }
     ensures few { IfOk result (λ read. IfSome read (λ x. x.1 ≤ 4)) }
 {
@@ -72,7 +74,9 @@ fn column_behind(
     alias: &TokenText<'_>,
     tokens: &[Token<'_>],
 ) -> Result<Option<(RawWho, usize)>, ParseError>
-    ensures who { Gives (option_map (λ x. (x.0, drop x.1 (Word word.now ∷ Word alias.now ∷ tokens.now)))) result (Some (who_at (Word word.now ∷ Word alias.now ∷ tokens.now))) }
+    ensures who { Gives (option_map
+        (λ x. (x.0, drop x.1 (Word word.now ∷ Word alias.now ∷ tokens.now)))) result
+        (Some (who_at (Word word.now ∷ Word alias.now ∷ tokens.now))) }
     ensures within { IfOk result (λ read. IfSome read (λ x. x.1 ≤ length tokens.now + 2)) }
     ensures few { IfOk result (λ read. IfSome read (λ x. x.1 ≤ 4)) }
 {

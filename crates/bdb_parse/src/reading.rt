@@ -19,7 +19,8 @@ use std::alloc::Global;
 pub fn parse(alloc: Global, tokens: &[Token<'_>]) -> Result<Command, ParseError>
     ensures ok { IfOk result (λ c. (command_of tokens.now ≡ Some c) × (fits c ≡ true)) }
     ensures syntax { IsErrOf result ParseError.Syntax → command_of tokens.now ≡ None }
-    ensures number { IsErrOf result ParseError.Number → (c : Command) × (command_of tokens.now ≡ Some c) × (fits c ≡ false) }
+    ensures number { IsErrOf result ParseError.Number → (c : Command)
+        × (command_of tokens.now ≡ Some c) × (fits c ≡ false) }
     ensures filled { IfOk result (λ c. IsFilled c) }
     ensures printable { AreWellSpelled tokens.now → IfOk result (λ c. IsPrintable c) }
 {

@@ -12,7 +12,8 @@ use std::cmp::Ordering;
 /// belongs. The search goes by halves.
 pub fn place_of_users(paths: &[Path], users: &[u32]) -> Result<usize, usize>
     requires { ascending path_cmp paths.now ≡ true }
-    ensures { MatchResult result (λ at. slice_get paths.now at ≡ Some users.now) (BelongsAt path_cmp paths.now users.now) }
+    ensures { MatchResult result (λ at. slice_get paths.now at ≡ Some users.now)
+        (BelongsAt path_cmp paths.now users.now) }
 {
     let mut low = 0;
     let mut high = paths.len();

@@ -29,7 +29,9 @@ pub fn states_of(alloc: Global, stmts: &[Stmt]) -> Result<List<Path>, AllocError
 fn put_prefixes(alloc: Global, states: &mut List<Path>, path: &Path) -> Result<(), AllocError>
     requires sorted { ascending path_cmp states.old ≡ true }
     ensures sorted { OnOk result (ascending path_cmp states.new ≡ true) }
-    ensures members { OnOk result ((w : List ℕ) → is_member path_cmp states.new w ≡ (is_member path_cmp states.old w || is_prefix w path.now)) }
+    ensures members { OnOk result
+        ((w : List ℕ) → is_member path_cmp states.new w
+        ≡ (is_member path_cmp states.old w || is_prefix w path.now)) }
 {
     for len in 0..path.len() {
         let prefix = prefix_of(alloc, path, len)?;

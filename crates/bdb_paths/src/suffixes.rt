@@ -13,7 +13,8 @@ use bdb_base::{List, Path};
 pub fn deepest_suffix(states: &List<Path>, path: &[u32]) -> usize
     requires { is_member path_cmp states.now [] ≡ true }
     ensures place { result ≡ target_place states.now path.now }
-    ensures suffix { slice_get states.now result ≡ Some (deepest_suffix (is_member path_cmp states.now) path.now) }
+    ensures suffix { slice_get states.now result ≡ Some
+        (deepest_suffix (is_member path_cmp states.now) path.now) }
 {
     let mut rest = path;
     while let [_, others @ ..] = rest {
@@ -33,7 +34,8 @@ pub fn deepest_suffix_in_set(states: &[Path], path: &[u32]) -> usize
     requires sorted { ascending path_cmp states.now ≡ true }
     requires root { is_member path_cmp states.now [] ≡ true }
     ensures place { result ≡ target_place states.now path.now }
-    ensures suffix { slice_get states.now result ≡ Some (deepest_suffix (is_member path_cmp states.now) path.now) }
+    ensures suffix { slice_get states.now result ≡ Some
+        (deepest_suffix (is_member path_cmp states.now) path.now) }
 {
     let mut rest = path;
     while let [_, others @ ..] = rest {

@@ -35,7 +35,9 @@ fn append_steps(
     query: &Query,
     steps: &[Step],
 ) -> Result<(), AllocError>
-    ensures { OnOk result (out.new.items ≡ out.old.items ++ flat_map ended (map (step_text catalog.now query.now) steps.now)) }
+    ensures { OnOk result
+        (out.new.items ≡ out.old.items ++ flat_map ended
+        (map (step_text catalog.now query.now) steps.now)) }
 {
     for step in steps {
         append_step(out, catalog, query, step)?;
@@ -52,7 +54,8 @@ fn append_step(
     query: &Query,
     step: &Step,
 ) -> Result<(), AllocError>
-    ensures { OnOk result (out.new.items ≡ out.old.items ++ step_text catalog.now query.now step.now) }
+    ensures { OnOk result
+        (out.new.items ≡ out.old.items ++ step_text catalog.now query.now step.now) }
 {
     match step {
         Step::User { item } => {
@@ -95,7 +98,8 @@ fn append_differ(
     left: Who,
     right: Who,
 ) -> Result<(), AllocError>
-    ensures { OnOk result (out.new.items ≡ out.old.items ++ step_text catalog.now query.now (Step.Differ item left right)) }
+    ensures { OnOk result (out.new.items ≡ out.old.items ++ step_text catalog.now query.now
+        (Step.Differ item left right)) }
 {
     out.extend_from_slice(b"differ ")?;
     append_alias(out, query, item)?;
@@ -115,7 +119,8 @@ fn append_bind(
     col: u32,
     right: &Operand,
 ) -> Result<(), AllocError>
-    ensures { OnOk result (out.new.items ≡ out.old.items ++ step_text catalog.now query.now (Step.Bind item col right.now)) }
+    ensures { OnOk result (out.new.items ≡ out.old.items ++ step_text catalog.now query.now
+        (Step.Bind item col right.now)) }
 {
     out.extend_from_slice(b"bind ")?;
     append_ref(out, catalog, query, Ref { item, col })?;
@@ -131,7 +136,8 @@ fn append_test(
     query: &Query,
     cond: &Cond,
 ) -> Result<(), AllocError>
-    ensures { OnOk result (out.new.items ≡ out.old.items ++ step_text catalog.now query.now (Step.Test cond.now)) }
+    ensures { OnOk result (out.new.items ≡ out.old.items ++ step_text catalog.now query.now
+        (Step.Test cond.now)) }
 {
     out.extend_from_slice(b"cond ")?;
     append_ref(out, catalog, query, cond.left)?;
@@ -149,7 +155,8 @@ fn append_take(
     query: &Query,
     take: &[Ref],
 ) -> Result<(), AllocError>
-    ensures { OnOk result (out.new.items ≡ out.old.items ++ take_text catalog.now query.now take.now) }
+    ensures { OnOk result
+        (out.new.items ≡ out.old.items ++ take_text catalog.now query.now take.now) }
 {
     out.extend_from_slice(b"take ")?;
     append_refs(out, catalog, query, take)
@@ -162,7 +169,8 @@ fn append_refs(
     query: &Query,
     refs: &[Ref],
 ) -> Result<(), AllocError>
-    ensures { OnOk result (out.new.items ≡ out.old.items ++ joined (map (ref_text catalog.now query.now) refs.now)) }
+    ensures { OnOk result
+        (out.new.items ≡ out.old.items ++ joined (map (ref_text catalog.now query.now) refs.now)) }
 {
     match refs {
         [] => Ok(()),
@@ -218,7 +226,8 @@ fn append_operand(
     query: &Query,
     operand: &Operand,
 ) -> Result<(), AllocError>
-    ensures { OnOk result (out.new.items ≡ out.old.items ++ operand_text catalog.now query.now operand.now) }
+    ensures { OnOk result
+        (out.new.items ≡ out.old.items ++ operand_text catalog.now query.now operand.now) }
 {
     match operand {
         Operand::Col(column) => append_ref(out, catalog, query, *column),
@@ -246,7 +255,8 @@ fn alias_at(query: &Query, item: u32) -> &[u8]
 
 // The name of a column; empty where there is none.
 fn column_at<'a>(catalog: &'a Catalog, query: &Query, column: Ref) -> &'a [u8]
-    ensures { result.now ≡ column_of catalog.now column.col (slice_get query.now.items column.item) }
+    ensures { result.now ≡ column_of catalog.now column.col
+        (slice_get query.now.items column.item) }
 {
     match query.items.get(column.item as usize) {
         Some(Item::Users { .. }) => { if column.col == 0 { b"uid" } else { b"name" } }

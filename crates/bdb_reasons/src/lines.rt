@@ -18,7 +18,9 @@ pub fn append_own(
     sign: Sign,
     reason: &Ground,
 ) -> Result<(), AllocError>
-    ensures { OnOk result (out.new.items ≡ out.old.items ++ line (own_text catalog.now path.now tuple.now sign reason.now)) }
+    ensures { OnOk result
+        (out.new.items ≡ out.old.items ++ line
+        (own_text catalog.now path.now tuple.now sign reason.now)) }
 {
     append_reason(out, catalog, path, b"stated", sign, tuple, reason)?;
     out.push(b'\n')?;
@@ -32,7 +34,8 @@ pub fn append_other(
     path: &[u32],
     other: &Ruled,
 ) -> Result<(), AllocError>
-    ensures { OnOk result (out.new.items ≡ out.old.items ++ line (other_text catalog.now path.now other.now)) }
+    ensures { OnOk result
+        (out.new.items ≡ out.old.items ++ line (other_text catalog.now path.now other.now)) }
 {
     let (tuple, reason) = (&other.tuple, &other.reason);
     append_reason(out, catalog, path, b"other", Sign::Plus, tuple, reason)?;
@@ -47,7 +50,9 @@ pub fn append_others(
     path: &[u32],
     others: &List<Ruled>,
 ) -> Result<(), AllocError>
-    ensures { OnOk result (out.new.items ≡ out.old.items ++ flat_map line (map (other_text catalog.now path.now) others.now)) }
+    ensures { OnOk result
+        (out.new.items ≡ out.old.items ++ flat_map line
+        (map (other_text catalog.now path.now) others.now)) }
 {
     for other in others.as_slice() {
         append_other(out, catalog, path, other)?;
@@ -65,7 +70,9 @@ fn append_reason(
     tuple: &Tuple,
     reason: &Ground,
 ) -> Result<(), AllocError>
-    ensures { OnOk result (out.new.items ≡ out.old.items ++ reason_text catalog.now path.now word.now sign tuple.now reason.now) }
+    ensures { OnOk result
+        (out.new.items
+        ≡ out.old.items ++ reason_text catalog.now path.now word.now sign tuple.now reason.now) }
 {
     match reason {
         Ground::Found { level } => {
@@ -95,7 +102,9 @@ fn append_at_level(
     sign: Sign,
     tuple: &Tuple,
 ) -> Result<(), AllocError>
-    ensures { OnOk result (out.new.items ≡ out.old.items ++ signed_at_level catalog.now path.now level sign tuple.now) }
+    ensures { OnOk result
+        (out.new.items
+        ≡ out.old.items ++ signed_at_level catalog.now path.now level sign tuple.now) }
 {
     append_signed(out, catalog, sign, tuple)?;
     out.extend_from_slice(b" at ")?;

@@ -38,7 +38,8 @@ fn append_why(
     sign: Sign,
     why: &Why,
 ) -> Result<(), AllocError>
-    ensures { OnOk result (out.new.items ≡ out.old.items ++ why_reply catalog.now path.now tuple.now sign why.now) }
+    ensures { OnOk result
+        (out.new.items ≡ out.old.items ++ why_reply catalog.now path.now tuple.now sign why.now) }
 {
     match why {
         Why::Stated { reason } => {

@@ -43,7 +43,8 @@ pub fn append_path(out: &mut Vec<u8>, catalog: &Catalog, path: &[u32]) -> Result
 
 /// Appends for each user a slash and the quoted name.
 fn append_steps(out: &mut Vec<u8>, catalog: &Catalog, path: &[u32]) -> Result<(), AllocError>
-    ensures { OnOk result (out.new.items ≡ out.old.items ++ flat_map (step_text catalog.now) path.now) }
+    ensures { OnOk result (out.new.items ≡ out.old.items ++ flat_map (step_text catalog.now)
+        path.now) }
 {
     for uid in path {
         out.push(b'/')?;
@@ -70,7 +71,8 @@ pub fn append_signed(
     sign: Sign,
     tuple: &Tuple,
 ) -> Result<(), AllocError>
-    ensures { OnOk result (out.new.items ≡ out.old.items ++ signed_text catalog.now sign tuple.now) }
+    ensures { OnOk result
+        (out.new.items ≡ out.old.items ++ signed_text catalog.now sign tuple.now) }
 {
     append_sign(out, sign)?;
     out.push(b' ')?;

@@ -139,7 +139,8 @@ fn append_column(
     alias: &Option<Txt>,
     col: &Txt,
 ) -> Result<(), AllocError>
-    ensures { OnOk result (out.new.items ≡ out.old.items ++ (word.now ++ column_text alias.now col.now)) }
+    ensures { OnOk result
+        (out.new.items ≡ out.old.items ++ (word.now ++ column_text alias.now col.now)) }
 {
     out.extend_from_slice(word)?;
     match alias {
@@ -150,7 +151,8 @@ fn append_column(
 
 /// Appends the column that a query leaves unbound.
 fn append_unsafe(out: &mut Vec<u8>, alias: &Txt, col: &Txt) -> Result<(), AllocError>
-    ensures { OnOk result (out.new.items ≡ out.old.items ++ (codes "unsafe " ++ dotted alias.now col.now)) }
+    ensures { OnOk result
+        (out.new.items ≡ out.old.items ++ (codes "unsafe " ++ dotted alias.now col.now)) }
 {
     out.extend_from_slice(b"unsafe ")?;
     append_dotted(out, alias.as_bytes(), col.as_bytes())
@@ -163,7 +165,9 @@ fn append_clash(
     sign: Sign,
     tuple: &Tuple,
 ) -> Result<(), AllocError>
-    ensures { OnOk result (out.new.items ≡ out.old.items ++ (codes "clash " ++ signed_text catalog.now sign tuple.now)) }
+    ensures { OnOk result
+        (out.new.items
+        ≡ out.old.items ++ (codes "clash " ++ signed_text catalog.now sign tuple.now)) }
 {
     out.extend_from_slice(b"clash ")?;
     lines::append_signed(out, catalog, sign, tuple)

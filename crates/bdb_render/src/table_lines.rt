@@ -75,7 +75,8 @@ pub fn append_world(
     canon: &Canon,
     world: &CanonWorld,
 ) -> Result<(), AllocError>
-    ensures { OnOk result (out.new.items ≡ out.old.items ++ world_line catalog.now canon.now world.now) }
+    ensures { OnOk result
+        (out.new.items ≡ out.old.items ++ world_line catalog.now canon.now world.now) }
 {
     out.extend_from_slice(b"world ")?;
     append_path(out, catalog, world.path.as_slice())?;
@@ -93,7 +94,8 @@ fn append_suffix(
     canon: &Canon,
     suffix: Option<u32>,
 ) -> Result<(), AllocError>
-    ensures { OnOk result (out.new.items ≡ out.old.items ++ suffix_text catalog.now canon.now suffix) }
+    ensures { OnOk result
+        (out.new.items ≡ out.old.items ++ suffix_text catalog.now canon.now suffix) }
 {
     match suffix {
         None => Ok(()),
@@ -112,7 +114,8 @@ pub fn append_edge(
     canon: &Canon,
     edge: &CanonEdge,
 ) -> Result<(), AllocError>
-    ensures { OnOk result (out.new.items ≡ out.old.items ++ edge_line catalog.now canon.now edge.now) }
+    ensures { OnOk result
+        (out.new.items ≡ out.old.items ++ edge_line catalog.now canon.now edge.now) }
 {
     out.extend_from_slice(b"edge ")?;
     append_path(out, catalog, names::world_path(canon, edge.from))?;
@@ -131,7 +134,8 @@ pub fn append_row(
     canon: &Canon,
     row: &CanonRow,
 ) -> Result<(), AllocError>
-    ensures { OnOk result (out.new.items ≡ out.old.items ++ row_line catalog.now canon.now row.now) }
+    ensures { OnOk result
+        (out.new.items ≡ out.old.items ++ row_line catalog.now canon.now row.now) }
 {
     out.extend_from_slice(b"row ")?;
     append_path(out, catalog, names::world_path(canon, row.world))?;
@@ -151,7 +155,8 @@ fn append_signed_at(
     sign: Sign,
     at: u32,
 ) -> Result<(), AllocError>
-    ensures { OnOk result (out.new.items ≡ out.old.items ++ signed_at catalog.now canon.now sign at) }
+    ensures { OnOk result
+        (out.new.items ≡ out.old.items ++ signed_at catalog.now canon.now sign at) }
 {
     match canon.tuples.get(at as usize) {
         None => Ok(()),

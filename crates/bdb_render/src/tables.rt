@@ -35,7 +35,8 @@ fn append_catalog(out: &mut Vec<u8>, catalog: &Catalog) -> Result<(), AllocError
 
 /// Appends the lines of the live users.
 fn append_users(out: &mut Vec<u8>, catalog: &Catalog) -> Result<(), AllocError>
-    ensures { OnOk result (out.new.items ≡ out.old.items ++ flat_map (user_line catalog.now) (user_numbers catalog.now.users)) }
+    ensures { OnOk result (out.new.items ≡ out.old.items ++ flat_map (user_line catalog.now)
+        (user_numbers catalog.now.users)) }
 {
     let users = catalog.users.as_slice();
     for at in 0..users.len() {

@@ -19,7 +19,8 @@ use std::alloc::Global;
 pub fn name_back<K: Keeper>(alloc: Global, keeper: &mut K, named: &Named) -> Result<(), TabError>
     requires running { (K.seen keeper.old).running ≡ true }
     requires base { SomeMayLoseName (K.seen keeper.old).kept named.now }
-    ensures back { OnOk result (LosesName (K.seen keeper.old).kept (K.seen keeper.new).kept named.now) }
+    ensures back { OnOk result
+        (LosesName (K.seen keeper.old).kept (K.seen keeper.new).kept named.now) }
     ensures writes { OnOk result (WritesLoss (K.seen keeper.old) (K.seen keeper.new) named.now) }
     ensures keeps { OnOk result (SameNumbers (K.seen keeper.old).kept (K.seen keeper.new).kept) }
     ensures changing { IsChanging (K.seen keeper.old) (K.seen keeper.new) result TabError.Fault }
@@ -46,7 +47,8 @@ pub fn name_back<K: Keeper>(alloc: Global, keeper: &mut K, named: &Named) -> Res
 pub fn name_forth<K: Keeper>(alloc: Global, keeper: &mut K, named: &Named) -> Result<(), TabError>
     requires running { (K.seen keeper.old).running ≡ true }
     requires base { SomeMayGetName (K.seen keeper.old).kept named.now }
-    ensures forth { OnOk result (GetsName (K.seen keeper.old).kept (K.seen keeper.new).kept named.now) }
+    ensures forth { OnOk result
+        (GetsName (K.seen keeper.old).kept (K.seen keeper.new).kept named.now) }
     ensures writes { OnOk result (WritesGain (K.seen keeper.old) (K.seen keeper.new) named.now) }
     ensures keeps { OnOk result (SameNumbers (K.seen keeper.old).kept (K.seen keeper.new).kept) }
     ensures changing { IsChanging (K.seen keeper.old) (K.seen keeper.new) result TabError.Fault }
@@ -72,8 +74,10 @@ pub fn name_forth<K: Keeper>(alloc: Global, keeper: &mut K, named: &Named) -> Re
 fn add_last_user<K: Keeper>(alloc: Global, keeper: &mut K, name: &Txt) -> Result<(), TabError>
     requires running { (K.seen keeper.old).running ≡ true }
     requires base { SomeMayGetName (K.seen keeper.old).kept (UserAdded name.now) }
-    ensures added { OnOk result (GetsName (K.seen keeper.old).kept (K.seen keeper.new).kept (UserAdded name.now)) }
-    ensures writes { OnOk result (WritesGain (K.seen keeper.old) (K.seen keeper.new) (UserAdded name.now)) }
+    ensures added { OnOk result (GetsName (K.seen keeper.old).kept (K.seen keeper.new).kept
+        (UserAdded name.now)) }
+    ensures writes { OnOk result
+        (WritesGain (K.seen keeper.old) (K.seen keeper.new) (UserAdded name.now)) }
     ensures keeps { OnOk result (SameNumbers (K.seen keeper.old).kept (K.seen keeper.new).kept) }
     ensures changing { IsChanging (K.seen keeper.old) (K.seen keeper.new) result TabError.Fault }
 {
@@ -91,8 +95,10 @@ fn add_last_user<K: Keeper>(alloc: Global, keeper: &mut K, name: &Txt) -> Result
 fn add_last_relation<K: Keeper>(alloc: Global, keeper: &mut K, def: &RelDef) -> Result<(), TabError>
     requires running { (K.seen keeper.old).running ≡ true }
     requires base { SomeMayGetName (K.seen keeper.old).kept (RelationAdded def.now) }
-    ensures added { OnOk result (GetsName (K.seen keeper.old).kept (K.seen keeper.new).kept (RelationAdded def.now)) }
-    ensures writes { OnOk result (WritesGain (K.seen keeper.old) (K.seen keeper.new) (RelationAdded def.now)) }
+    ensures added { OnOk result (GetsName (K.seen keeper.old).kept (K.seen keeper.new).kept
+        (RelationAdded def.now)) }
+    ensures writes { OnOk result
+        (WritesGain (K.seen keeper.old) (K.seen keeper.new) (RelationAdded def.now)) }
     ensures keeps { OnOk result (SameNumbers (K.seen keeper.old).kept (K.seen keeper.new).kept) }
     ensures changing { IsChanging (K.seen keeper.old) (K.seen keeper.new) result TabError.Fault }
 {
@@ -110,7 +116,8 @@ fn add_last_relation<K: Keeper>(alloc: Global, keeper: &mut K, def: &RelDef) -> 
 fn drop_last_relation<K: Keeper>(alloc: Global, keeper: &mut K) -> Result<(), TabError>
     requires running { (K.seen keeper.old).running ≡ true }
     requires base { SomeRelationIsLast (K.seen keeper.old).kept }
-    ensures lost { OnOk result (LosesLastRelation (K.seen keeper.old).kept (K.seen keeper.new).kept) }
+    ensures lost { OnOk result
+        (LosesLastRelation (K.seen keeper.old).kept (K.seen keeper.new).kept) }
     ensures writes { OnOk result (WritesLastRelation (K.seen keeper.old) (K.seen keeper.new)) }
     ensures keeps { OnOk result (SameNumbers (K.seen keeper.old).kept (K.seen keeper.new).kept) }
     ensures changing { IsChanging (K.seen keeper.old) (K.seen keeper.new) result TabError.Fault }

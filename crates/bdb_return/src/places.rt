@@ -48,7 +48,8 @@ fn drop_place<K: Keeper>(alloc: Global, keeper: &mut K, last: u32) -> Result<(),
     requires base { StoreAny (K.seen keeper.old).kept }
     ensures lost { OnOk result (LosesPlace (K.seen keeper.old).kept (K.seen keeper.new).kept last) }
     ensures writes { OnOk result (WritesPlace (K.seen keeper.old) (K.seen keeper.new) last) }
-    ensures keeps { OnOk result (PlaceKeeps (K.seen keeper.old).kept (K.seen keeper.new).kept last) }
+    ensures keeps { OnOk result
+        (PlaceKeeps (K.seen keeper.old).kept (K.seen keeper.new).kept last) }
     ensures changing { IsChanging (K.seen keeper.old) (K.seen keeper.new) result TabError.Fault }
 {
     match drop_row::<UserTab, K>(alloc, keeper, &last) {
@@ -71,8 +72,10 @@ pub fn revive_user<K: Keeper>(
 ) -> Result<(), TabError>
     requires running { (K.seen keeper.old).running ≡ true }
     requires base { SomeMayLoseName (K.seen keeper.old).kept (UserDropped uid name.now) }
-    ensures back { OnOk result (LosesName (K.seen keeper.old).kept (K.seen keeper.new).kept (UserDropped uid name.now)) }
-    ensures writes { OnOk result (WritesLoss (K.seen keeper.old) (K.seen keeper.new) (UserDropped uid name.now)) }
+    ensures back { OnOk result (LosesName (K.seen keeper.old).kept (K.seen keeper.new).kept
+        (UserDropped uid name.now)) }
+    ensures writes { OnOk result
+        (WritesLoss (K.seen keeper.old) (K.seen keeper.new) (UserDropped uid name.now)) }
     ensures keeps { OnOk result (SameNumbers (K.seen keeper.old).kept (K.seen keeper.new).kept) }
     ensures changing { IsChanging (K.seen keeper.old) (K.seen keeper.new) result TabError.Fault }
 {
@@ -90,8 +93,10 @@ pub fn revive_user<K: Keeper>(
 fn put_live<K: Keeper>(alloc: Global, keeper: &mut K, uid: u32, name: &Txt) -> Result<(), TabError>
     requires running { (K.seen keeper.old).running ≡ true }
     requires plain { IsPlain name.now }
-    ensures kept { OnOk result ((K.seen keeper.new).kept ≡ tables.insert (K.seen keeper.old).kept (place user_codec uid) (user_codec.row_bytes (Live name.now))) }
-    ensures grammar { OnOk result (InGrammar (K.seen keeper.old).kept → InGrammar (K.seen keeper.new).kept) }
+    ensures kept { OnOk result ((K.seen keeper.new).kept ≡ tables.insert (K.seen keeper.old).kept
+        (place user_codec uid) (user_codec.row_bytes (Live name.now))) }
+    ensures grammar { OnOk result (InGrammar (K.seen keeper.old).kept
+        → InGrammar (K.seen keeper.new).kept) }
     ensures writes { OnOk result (RoseBy 1 (K.seen keeper.old).writes (K.seen keeper.new).writes) }
     ensures write { IsWrite (K.seen keeper.old) (K.seen keeper.new) result TabError.Fault }
 {

@@ -23,8 +23,11 @@ pub fn take_back<K: Keeper>(
 ) -> Result<(), TabError>
     requires running { (K.seen keeper.old).running ≡ true }
     requires base { SomeMayGoBack (K.seen keeper.old).kept counts.old change.now }
-    ensures back { OnOk result (GoesBack (K.seen keeper.old).kept (K.seen keeper.new).kept counts.old counts.new change.now) }
-    ensures steps { OnOk result (BackThrough counts.old change.now (K.seen keeper.old) (K.seen keeper.new)) }
+    ensures back { OnOk result
+        (GoesBack (K.seen keeper.old).kept
+        (K.seen keeper.new).kept counts.old counts.new change.now) }
+    ensures steps { OnOk result (BackThrough counts.old change.now (K.seen keeper.old)
+        (K.seen keeper.new)) }
     ensures changing { IsChanging (K.seen keeper.old) (K.seen keeper.new) result TabError.Fault }
 {
     match drop_statements(alloc, keeper, counts, change.come.as_slice()) {
@@ -53,8 +56,11 @@ pub fn make_again<K: Keeper>(
 ) -> Result<(), TabError>
     requires running { (K.seen keeper.old).running ≡ true }
     requires base { SomeMayGoForth (K.seen keeper.old).kept counts.old change.now }
-    ensures forth { OnOk result (GoesForth (K.seen keeper.old).kept (K.seen keeper.new).kept counts.old counts.new change.now) }
-    ensures steps { OnOk result (ForthThrough counts.old change.now (K.seen keeper.old) (K.seen keeper.new)) }
+    ensures forth { OnOk result
+        (GoesForth (K.seen keeper.old).kept
+        (K.seen keeper.new).kept counts.old counts.new change.now) }
+    ensures steps { OnOk result (ForthThrough counts.old change.now (K.seen keeper.old)
+        (K.seen keeper.new)) }
     ensures changing { IsChanging (K.seen keeper.old) (K.seen keeper.new) result TabError.Fault }
 {
     match drop_statements(alloc, keeper, counts, change.gone.as_slice()) {

@@ -42,15 +42,14 @@ use Rattle.bdb_session.proofs.WriteLemmas.{one_delete_writes, same_writes, settl
 through_same : (es : List (Stmt × Contents)) (old from to new : Seen) → from.kept ≡ old.kept → from.writes ≡ old.writes → new.kept ≡ to.kept → new.writes ≡ to.writes
     → WritesThrough from es to → WritesThrough old es new
 through_same [] old from to new k w l v h = (l ∙ h.0 ∙ k, v ∙ h.1 ∙ w)
-through_same (e ∷ es) old from to new k w l v h =
-    (
-      h.0,
-      subst (λ (n : ℕ). n ≤ h.0.writes) w h.1,
-      h.2,
-      subst (λ (t : Tables). KeepsOneWay t h.0.kept) k h.3,
-      same_writes (length e.0.path + 2) 8 old from h.0 h.0 k w refl refl h.4,
-      through_same es h.0 h.0 to new refl refl l v h.5,
-    )
+through_same (e ∷ es) old from to new k w l v h = (
+  h.0,
+  subst (λ (n : ℕ). n ≤ h.0.writes) w h.1,
+  h.2,
+  subst (λ (t : Tables). KeepsOneWay t h.0.kept) k h.3,
+  same_writes (length e.0.path + 2) 8 old from h.0 h.0 k w refl refl h.4,
+  through_same es h.0 h.0 to new refl refl l v h.5,
+)
 
 -- and so are the writes of a user who leaves
 leaves_same : (b : Contents) (uid : ℕ) (old from to new : Seen) → from.kept ≡ old.kept → from.writes ≡ old.writes → new.writes ≡ to.writes → WritesLeaving b uid from to → WritesLeaving b uid old new

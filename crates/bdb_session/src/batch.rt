@@ -59,18 +59,31 @@ impl Session {
         requires still { IsStill (K.seen keeper.old) }
         requires agrees { RemembersSome (K.seen keeper.old).kept self.old }
         requires few { length lines.now < 2 ^ 32 }
-        ensures refused { (s : State) → Agrees (K.seen keeper.old).kept self.old s → IfOk result (λ r. r.refused ≡ not (accepts_all s (pieces lines.now))) }
-        ensures accepted { (s : State) → Agrees (K.seen keeper.old).kept self.old s → IfOk result (λ r. r.accepted ≡ before_refused s (pieces lines.now)) }
-        ensures text { (s : State) → Agrees (K.seen keeper.old).kept self.old s → IfOk result (λ r. r.text ≡ batch_text s (pieces lines.now)) }
-        ensures next { (s : State) → Agrees (K.seen keeper.old).kept self.old s → OnOk result (Agrees (K.seen keeper.new).kept self.new (batch_state s (pieces lines.now))) }
-        ensures commits { (s : State) → Agrees (K.seen keeper.old).kept self.old s → OnOk result (Rises (batch_commits s (pieces lines.now)) (K.seen keeper.old).commits (K.seen keeper.new).commits) }
-        ensures alone { (s : State) → Agrees (K.seen keeper.old).kept self.old s → OnOk result (accepts_all s (pieces lines.now) ≡ false → Unchanged (K.seen keeper.old) (K.seen keeper.new)) }
-        ensures known { (s : State) → Agrees (K.seen keeper.old).kept self.old s → OnOk result (accepts_all s (pieces lines.now) ≡ false → self.new ≡ self.old) }
-        ensures lists { (t : Timeline) → Remembers (K.seen keeper.old).kept self.old t → OnOk result (Remembers (K.seen keeper.new).kept self.new (batch_timeline t (pieces lines.now))) }
+        ensures refused { (s : State) → Agrees (K.seen keeper.old).kept self.old s
+            → IfOk result (λ r. r.refused ≡ not (accepts_all s (pieces lines.now))) }
+        ensures accepted { (s : State) → Agrees (K.seen keeper.old).kept self.old s
+            → IfOk result (λ r. r.accepted ≡ before_refused s (pieces lines.now)) }
+        ensures text { (s : State) → Agrees (K.seen keeper.old).kept self.old s
+            → IfOk result (λ r. r.text ≡ batch_text s (pieces lines.now)) }
+        ensures next { (s : State) → Agrees (K.seen keeper.old).kept self.old s
+            → OnOk result
+            (Agrees (K.seen keeper.new).kept self.new (batch_state s (pieces lines.now))) }
+        ensures commits { (s : State) → Agrees (K.seen keeper.old).kept self.old s
+            → OnOk result (Rises (batch_commits s (pieces lines.now)) (K.seen keeper.old).commits
+            (K.seen keeper.new).commits) }
+        ensures alone { (s : State) → Agrees (K.seen keeper.old).kept self.old s
+            → OnOk result (accepts_all s (pieces lines.now) ≡ false → Unchanged (K.seen keeper.old)
+            (K.seen keeper.new)) }
+        ensures known { (s : State) → Agrees (K.seen keeper.old).kept self.old s
+            → OnOk result (accepts_all s (pieces lines.now) ≡ false → self.new ≡ self.old) }
+        ensures lists { (t : Timeline) → Remembers (K.seen keeper.old).kept self.old t
+            → OnOk result
+            (Remembers (K.seen keeper.new).kept self.new (batch_timeline t (pieces lines.now))) }
         ensures agrees { RemembersSome (K.seen keeper.new).kept self.new }
         ensures still { IsStill (K.seen keeper.new) }
         ensures never_fall { NeverFall (K.seen keeper.old) (K.seen keeper.new) }
-        ensures cause { HasCause (K.seen keeper.old).faults (K.seen keeper.new).faults result StopError.Fault }
+        ensures cause { HasCause (K.seen keeper.old).faults
+            (K.seen keeper.new).faults result StopError.Fault }
         ensures err { OnErr result (Unchanged (K.seen keeper.old) (K.seen keeper.new)) }
         ensures same { OnErr result (self.new ≡ self.old) }
     {
@@ -99,8 +112,11 @@ impl Session {
         requires agrees { RemembersSome (K.seen keeper.old).kept self.old }
         requires copy { copy ≡ without_changes self.old }
         requires few { length lines.now < 2 ^ 32 }
-        ensures served { ServesBatch (pieces lines.now) self.old self.new (K.seen keeper.old) (K.seen keeper.new) result }
-        ensures lists { (t : Timeline) → Remembers (K.seen keeper.old).kept self.old t → OnOk result (Remembers (K.seen keeper.new).kept self.new (batch_timeline t (pieces lines.now))) }
+        ensures served { ServesBatch (pieces lines.now) self.old self.new (K.seen keeper.old)
+            (K.seen keeper.new) result }
+        ensures lists { (t : Timeline) → Remembers (K.seen keeper.old).kept self.old t
+            → OnOk result
+            (Remembers (K.seen keeper.new).kept self.new (batch_timeline t (pieces lines.now))) }
     {
         match begin(keeper) {
             Ok(()) => {}
@@ -129,7 +145,8 @@ impl Session {
         told: BatchReply,
     ) -> Result<BatchReply, StopError>
         requires running { (K.seen keeper.old).running ≡ true }
-        ensures { SettlesBatch copy told self.old self.new (K.seen keeper.old) (K.seen keeper.new) result }
+        ensures { SettlesBatch copy told self.old self.new (K.seen keeper.old) (K.seen keeper.new)
+            result }
     {
         if told.refused {
             keeper.undo();
@@ -177,8 +194,10 @@ impl Session {
         ensures run { (s : State) → Agrees (K.seen keeper.old).kept self.old s
             → IfOk result (λ ran. AreRun s (pieces lines.now) text.old.items text.new.items ran.accepted ran.refused self.new (K.seen keeper.new)) }
         ensures few { IfOk result (λ ran. ran.accepted ≤ length lines.now) }
-        ensures altered { AlterSome (pieces lines.now) self.old self.new (K.seen keeper.old) result }
-        ensures changing { IsChanging (K.seen keeper.old) (K.seen keeper.new) result StopError.Fault }
+        ensures altered { AlterSome (pieces lines.now) self.old self.new (K.seen keeper.old)
+            result }
+        ensures changing { IsChanging (K.seen keeper.old) (K.seen keeper.new)
+            result StopError.Fault }
     {
         match lines {
             [] => Ok(Ran {
@@ -214,8 +233,10 @@ impl Session {
         ensures run { (s : State) → Agrees (K.seen keeper.old).kept self.old s
             → IfOk result (λ accepted. IsRun s (Piece line.now) text.old.items text.new.items accepted self.new (K.seen keeper.new)) }
         ensures agrees { OnOk result (AgreesOnSome (K.seen keeper.new).kept self.new) }
-        ensures altered { Alters (λ s. outcome_of s (Piece line.now)) self.old self.new (K.seen keeper.old) result }
-        ensures changing { IsChanging (K.seen keeper.old) (K.seen keeper.new) result StopError.Fault }
+        ensures altered { Alters (λ s. outcome_of s (Piece line.now)) self.old self.new
+            (K.seen keeper.old) result }
+        ensures changing { IsChanging (K.seen keeper.old) (K.seen keeper.new)
+            result StopError.Fault }
     {
         let reply = match self.apply_within(keeper, line) {
             Ok(reply) => reply,
@@ -235,8 +256,10 @@ impl Session {
     fn apply_within<K: Keeper>(&mut self, keeper: &mut K, piece: &[u8]) -> Result<Reply, StopError>
         requires running { (K.seen keeper.old).running ≡ true }
         requires agrees { AgreesOnSome (K.seen keeper.old).kept self.old }
-        ensures told { TellsWithin (λ s. outcome_of s (Piece piece.now)) self.old self.new (K.seen keeper.old) (K.seen keeper.new) result }
-        ensures altered { Alters (λ s. outcome_of s (Piece piece.now)) self.old self.new (K.seen keeper.old) result }
+        ensures told { TellsWithin (λ s. outcome_of s (Piece piece.now)) self.old self.new
+            (K.seen keeper.old) (K.seen keeper.new) result }
+        ensures altered { Alters (λ s. outcome_of s (Piece piece.now)) self.old self.new
+            (K.seen keeper.old) result }
     {
         match read_piece(self.alloc, piece) {
             Ok(Reading::Nothing) => Ok(Reply::accepted(List::new(self.alloc))),
@@ -258,8 +281,10 @@ impl Session {
         requires running { (K.seen keeper.old).running ≡ true }
         requires agrees { AgreesOnSome (K.seen keeper.old).kept self.old }
         requires allowed { is_allowed command ≡ true }
-        ensures told { TellsWithin (λ s. command_outcome s command) self.old self.new (K.seen keeper.old) (K.seen keeper.new) result }
-        ensures altered { Alters (λ s. command_outcome s command) self.old self.new (K.seen keeper.old) result }
+        ensures told { TellsWithin (λ s. command_outcome s command) self.old self.new
+            (K.seen keeper.old) (K.seen keeper.new) result }
+        ensures altered { Alters (λ s. command_outcome s command) self.old self.new
+            (K.seen keeper.old) result }
     {
         match bind_by(self.alloc, &self.catalog, &self.index, command) {
             Ok(bound) => self.execute_within(keeper, bound),
@@ -282,8 +307,10 @@ impl Session {
         requires running { (K.seen keeper.old).running ≡ true }
         requires agrees { AgreesOnSome (K.seen keeper.old).kept self.old }
         requires fits { fits_catalog self.old.catalog bound ≡ true }
-        ensures told { TellsWithin (λ s. bound_outcome s bound) self.old self.new (K.seen keeper.old) (K.seen keeper.new) result }
-        ensures altered { Alters (λ s. bound_outcome s bound) self.old self.new (K.seen keeper.old) result }
+        ensures told { TellsWithin (λ s. bound_outcome s bound) self.old self.new
+            (K.seen keeper.old) (K.seen keeper.new) result }
+        ensures altered { Alters (λ s. bound_outcome s bound) self.old self.new (K.seen keeper.old)
+            result }
     {
         let mut news = self.nothing_new();
         match self.step(keeper, &mut news, bound) {

@@ -47,12 +47,17 @@ impl Session {
         requires running { (K.seen keeper.old).running ≡ true }
         requires agrees { AgreesOnSome (K.seen keeper.old).kept (sized self.now counts.old) }
         requires nothing { change.old ≡ None }
-        requires fits { fits_catalog self.now.catalog (Bound.Delete selection.now.path selection.now.sign selection.now.rel selection.now.conds) ≡ true }
+        requires fits { fits_catalog self.now.catalog
+            (Bound.Delete selection.now.path selection.now.sign selection.now.rel
+            selection.now.conds) ≡ true }
         ensures told { TellsWithin (λ s. bound_outcome s (Bound.Delete selection.now.path selection.now.sign selection.now.rel selection.now.conds))
             (sized self.now counts.old) (sized self.now counts.new) (K.seen keeper.old) (K.seen keeper.new) result }
         ensures change { TellsChange (λ s. bound_outcome s (Bound.Delete selection.now.path selection.now.sign selection.now.rel selection.now.conds))
             (sized self.now counts.old) change.new (K.seen keeper.old) result }
-        ensures writes { WritesAsTold (Bound.Delete selection.now.path selection.now.sign selection.now.rel selection.now.conds) (sized self.now counts.old) (K.seen keeper.old) (K.seen keeper.new) result }
+        ensures writes { WritesAsTold
+            (Bound.Delete selection.now.path selection.now.sign selection.now.rel
+            selection.now.conds) (sized self.now counts.old) (K.seen keeper.old) (K.seen keeper.new)
+            result }
         ensures accepted { IfOk result (λ r. r.accepted ≡ true) }
     {
         let stmts = match selected(self.alloc, keeper, selection) {
@@ -83,12 +88,17 @@ impl Session {
         requires running { (K.seen keeper.old).running ≡ true }
         requires agrees { AgreesOnSome (K.seen keeper.old).kept (sized self.now counts.old) }
         requires nothing { change.old ≡ None }
-        requires fits { fits_catalog self.now.catalog (Bound.Update selection.now.path selection.now.sign selection.now.rel sets.now selection.now.conds) ≡ true }
+        requires fits { fits_catalog self.now.catalog
+            (Bound.Update selection.now.path selection.now.sign selection.now.rel sets.now
+            selection.now.conds) ≡ true }
         ensures told { TellsWithin (λ s. bound_outcome s (Bound.Update selection.now.path selection.now.sign selection.now.rel sets.now selection.now.conds))
             (sized self.now counts.old) (sized self.now counts.new) (K.seen keeper.old) (K.seen keeper.new) result }
         ensures change { TellsChange (λ s. bound_outcome s (Bound.Update selection.now.path selection.now.sign selection.now.rel sets.now selection.now.conds))
             (sized self.now counts.old) change.new (K.seen keeper.old) result }
-        ensures writes { WritesAsTold (Bound.Update selection.now.path selection.now.sign selection.now.rel sets.now selection.now.conds) (sized self.now counts.old) (K.seen keeper.old) (K.seen keeper.new) result }
+        ensures writes { WritesAsTold
+            (Bound.Update selection.now.path selection.now.sign selection.now.rel sets.now
+            selection.now.conds) (sized self.now counts.old) (K.seen keeper.old) (K.seen keeper.new)
+            result }
     {
         let gone = match selected(self.alloc, keeper, selection) {
             Ok(gone) => gone,
@@ -124,7 +134,9 @@ fn selected<K: Keeper>(
     selection: &Selection,
 ) -> Result<List<Stmt>, StopError>
     requires base { SomeHasUsers (K.seen keeper.old).kept selection.now.path }
-    ensures taken { IfOk result (AreTaken (K.seen keeper.old).kept selection.now.path selection.now.sign selection.now.rel selection.now.conds) }
+    ensures taken { IfOk result
+        (AreTaken (K.seen keeper.old).kept selection.now.path selection.now.sign selection.now.rel
+        selection.now.conds) }
     ensures kept { OnOk result ((K.seen keeper.new).kept ≡ (K.seen keeper.old).kept) }
     ensures writes { (K.seen keeper.new).writes ≡ (K.seen keeper.old).writes }
     ensures changing { IsChanging (K.seen keeper.old) (K.seen keeper.new) result StopError.Fault }

@@ -90,7 +90,8 @@ pub(crate) fn replacement<K: Keeper>(
 ) -> Result<Option<Change>, TabError>
     requires running { (K.seen keeper.old).running ≡ true }
     requires base { SomeMayMeetEach (K.seen keeper.old).kept counts.now come.now }
-    ensures change { IfOk result (λ c. Replaces (K.seen keeper.old).kept counts.now gone.now come.now c) }
+    ensures change { IfOk result
+        (λ c. Replaces (K.seen keeper.old).kept counts.now gone.now come.now c) }
     ensures kept { OnOk result ((K.seen keeper.new).kept ≡ (K.seen keeper.old).kept) }
     ensures writes { (K.seen keeper.new).writes ≡ (K.seen keeper.old).writes }
     ensures changing { IsChanging (K.seen keeper.old) (K.seen keeper.new) result TabError.Fault }
@@ -164,7 +165,8 @@ fn push_new<K: Keeper>(
 ) -> Result<(), TabError>
     requires running { (K.seen keeper.old).running ≡ true }
     requires base { SomeMayMeet (K.seen keeper.old).kept counts.now stmt.now }
-    ensures pushed { OnOk result (PushesNew (K.seen keeper.old).kept counts.now stmt.now list.old list.new) }
+    ensures pushed { OnOk result
+        (PushesNew (K.seen keeper.old).kept counts.now stmt.now list.old list.new) }
     ensures kept { OnOk result ((K.seen keeper.new).kept ≡ (K.seen keeper.old).kept) }
     ensures writes { (K.seen keeper.new).writes ≡ (K.seen keeper.old).writes }
     ensures changing { IsChanging (K.seen keeper.old) (K.seen keeper.new) result TabError.Fault }

@@ -36,7 +36,8 @@ impl Session {
         requires nothing { news.old ≡ nothing_new self.now }
         ensures told { TellsWithin (λ s. bound_outcome s (Bound.CreateUser name)) self.now (learned self.now news.new)
             (K.seen keeper.old) (K.seen keeper.new) result }
-        ensures change { TellsChange (λ s. bound_outcome s (Bound.CreateUser name)) self.now news.new.change (K.seen keeper.old) result }
+        ensures change { TellsChange (λ s. bound_outcome s (Bound.CreateUser name))
+            self.now news.new.change (K.seen keeper.old) result }
         ensures unwritten { RefusedUnwritten (K.seen keeper.old) (K.seen keeper.new) result }
     {
         let users = self.catalog.users.len() + 1;
@@ -60,10 +61,12 @@ impl Session {
         requires fits { fits_catalog self.now.catalog (Bound.CreateUser name) ≡ true }
         requires nothing { news.old ≡ nothing_new self.now }
         requires number { uid ≡ length self.now.catalog.users + 1 }
-        requires room { limit_passed (length self.now.catalog.users + 1) (length self.now.catalog.rels) self.now.counts ≡ None }
+        requires room { limit_passed (length self.now.catalog.users + 1)
+            (length self.now.catalog.rels) self.now.counts ≡ None }
         ensures told { TellsWithin (λ s. bound_outcome s (Bound.CreateUser name)) self.now (learned self.now news.new)
             (K.seen keeper.old) (K.seen keeper.new) result }
-        ensures change { TellsChange (λ s. bound_outcome s (Bound.CreateUser name)) self.now news.new.change (K.seen keeper.old) result }
+        ensures change { TellsChange (λ s. bound_outcome s (Bound.CreateUser name))
+            self.now news.new.change (K.seen keeper.old) result }
         ensures unwritten { RefusedUnwritten (K.seen keeper.old) (K.seen keeper.new) result }
     {
         let names = match names_with_user(self.alloc, &self.catalog, &name) {
@@ -95,7 +98,8 @@ impl Session {
         requires nothing { news.old ≡ nothing_new self.now }
         ensures told { TellsWithin (λ s. bound_outcome s (Bound.CreateRelation def)) self.now (learned self.now news.new)
             (K.seen keeper.old) (K.seen keeper.new) result }
-        ensures change { TellsChange (λ s. bound_outcome s (Bound.CreateRelation def)) self.now news.new.change (K.seen keeper.old) result }
+        ensures change { TellsChange (λ s. bound_outcome s (Bound.CreateRelation def))
+            self.now news.new.change (K.seen keeper.old) result }
         ensures unwritten { RefusedUnwritten (K.seen keeper.old) (K.seen keeper.new) result }
     {
         let users = self.catalog.users.len();
@@ -119,10 +123,12 @@ impl Session {
         requires fits { fits_catalog self.now.catalog (Bound.CreateRelation def) ≡ true }
         requires nothing { news.old ≡ nothing_new self.now }
         requires number { rel ≡ length self.now.catalog.rels }
-        requires room { limit_passed (length self.now.catalog.users) (length self.now.catalog.rels + 1) self.now.counts ≡ None }
+        requires room { limit_passed (length self.now.catalog.users)
+            (length self.now.catalog.rels + 1) self.now.counts ≡ None }
         ensures told { TellsWithin (λ s. bound_outcome s (Bound.CreateRelation def)) self.now (learned self.now news.new)
             (K.seen keeper.old) (K.seen keeper.new) result }
-        ensures change { TellsChange (λ s. bound_outcome s (Bound.CreateRelation def)) self.now news.new.change (K.seen keeper.old) result }
+        ensures change { TellsChange (λ s. bound_outcome s (Bound.CreateRelation def))
+            self.now news.new.change (K.seen keeper.old) result }
         ensures unwritten { RefusedUnwritten (K.seen keeper.old) (K.seen keeper.new) result }
     {
         let names = match names_with_relation(self.alloc, &self.catalog, &def) {

@@ -35,10 +35,13 @@ impl Session {
         requires fits { fits_catalog self.now.catalog (Bound.Insert stmt) ≡ true }
         ensures told { TellsWithin (λ s. bound_outcome s (Bound.Insert stmt)) (sized self.now counts.old) (sized self.now counts.new)
             (K.seen keeper.old) (K.seen keeper.new) result }
-        ensures change { TellsChange (λ s. bound_outcome s (Bound.Insert stmt)) (sized self.now counts.old) change.new (K.seen keeper.old) result }
-        ensures writes { OnOk result (WritesWithin (length stmt.path + 2) 8 (K.seen keeper.old) (K.seen keeper.new)) }
+        ensures change { TellsChange (λ s. bound_outcome s (Bound.Insert stmt))
+            (sized self.now counts.old) change.new (K.seen keeper.old) result }
+        ensures writes { OnOk result (WritesWithin (length stmt.path + 2) 8 (K.seen keeper.old)
+            (K.seen keeper.new)) }
         ensures refused { RefusedUnwritten (K.seen keeper.old) (K.seen keeper.new) result }
-        ensures already { StandsUnwritten stmt (sized self.now counts.old) (K.seen keeper.old) (K.seen keeper.new) result }
+        ensures already { StandsUnwritten stmt (sized self.now counts.old) (K.seen keeper.old)
+            (K.seen keeper.new) result }
     {
         match add_statement(self.alloc, keeper, counts, &stmt) {
             Ok(Added::New) => match statement_added(self.alloc, stmt) {

@@ -35,8 +35,10 @@ impl Session {
         requires nothing { news.old ≡ nothing_new self.now }
         ensures told { TellsWithin (λ s. bound_outcome s (Bound.DropUser uid)) self.now (learned self.now news.new)
             (K.seen keeper.old) (K.seen keeper.new) result }
-        ensures change { TellsChange (λ s. bound_outcome s (Bound.DropUser uid)) self.now news.new.change (K.seen keeper.old) result }
-        ensures writes { WritesAsTold (Bound.DropUser uid) self.now (K.seen keeper.old) (K.seen keeper.new) result }
+        ensures change { TellsChange (λ s. bound_outcome s (Bound.DropUser uid))
+            self.now news.new.change (K.seen keeper.old) result }
+        ensures writes { WritesAsTold (Bound.DropUser uid) self.now (K.seen keeper.old)
+            (K.seen keeper.new) result }
     {
         let names = match names_without_user(self.alloc, &self.catalog, uid) {
             Ok(names) => names,

@@ -39,16 +39,24 @@ impl Session {
         ensures rest { IsAtRest (K.seen keeper.old) }
         ensures stand { OnOk result (StandForSome (K.seen keeper.old).kept) }
         ensures damaged { IsErrOf result OpenError.Damaged → AreDamaged (K.seen keeper.old).kept }
-        ensures format { (n : ℕ) → IsErrOf result (OpenError.Format n) → HaveOtherFormat (K.seen keeper.old).kept n }
-        ensures opened { IfOk result (λ session. Opens (K.seen keeper.old).kept (K.seen keeper.new).kept session) }
+        ensures format { (n : ℕ) → IsErrOf result (OpenError.Format n)
+            → HaveOtherFormat (K.seen keeper.old).kept n }
+        ensures opened { IfOk result
+            (λ session. Opens (K.seen keeper.old).kept (K.seen keeper.new).kept session) }
         ensures agrees { IfOk result (λ session. RemembersSome (K.seen keeper.new).kept session) }
-        ensures commits { OnOk result (Rises (opening (K.seen keeper.old).kept) (K.seen keeper.old).commits (K.seen keeper.new).commits) }
-        ensures unchanged { OnOk result (opening (K.seen keeper.old).kept ≡ 0 → Unchanged (K.seen keeper.old) (K.seen keeper.new)) }
-        ensures unwritten { opening (K.seen keeper.old).kept ≡ 0 → (K.seen keeper.new).writes ≡ (K.seen keeper.old).writes }
-        ensures refused { ((b : Contents) → StandFor (K.seen keeper.old).kept b → ⊥) → (K.seen keeper.new).writes ≡ (K.seen keeper.old).writes }
+        ensures commits { OnOk result
+            (Rises (opening (K.seen keeper.old).kept) (K.seen keeper.old).commits
+            (K.seen keeper.new).commits) }
+        ensures unchanged { OnOk result (opening (K.seen keeper.old).kept ≡ 0
+            → Unchanged (K.seen keeper.old) (K.seen keeper.new)) }
+        ensures unwritten { opening (K.seen keeper.old).kept ≡ 0 → (K.seen keeper.new).writes
+            ≡ (K.seen keeper.old).writes }
+        ensures refused { ((b : Contents) → StandFor (K.seen keeper.old).kept b → ⊥)
+            → (K.seen keeper.new).writes ≡ (K.seen keeper.old).writes }
         ensures still { IsStill (K.seen keeper.new) }
         ensures never_fall { NeverFall (K.seen keeper.old) (K.seen keeper.new) }
-        ensures cause { HasCause (K.seen keeper.old).faults (K.seen keeper.new).faults result OpenError.Fault }
+        ensures cause { HasCause (K.seen keeper.old).faults
+            (K.seen keeper.new).faults result OpenError.Fault }
         ensures err { OnErr result (Unchanged (K.seen keeper.old) (K.seen keeper.new)) }
     {
         let stand = match stand_of(alloc, keeper) {
@@ -67,14 +75,20 @@ impl Session {
 fn open_held<K: Keeper>(alloc: Global, keeper: &mut K, stand: &Stand) -> Result<Session, StopError>
     requires still { IsStill (K.seen keeper.old) }
     requires stand { TellsStand (K.seen keeper.old).kept stand.now }
-    ensures opened { IfOk result (λ session. Opens (K.seen keeper.old).kept (K.seen keeper.new).kept session) }
+    ensures opened { IfOk result
+        (λ session. Opens (K.seen keeper.old).kept (K.seen keeper.new).kept session) }
     ensures agrees { IfOk result (λ session. RemembersSome (K.seen keeper.new).kept session) }
-    ensures commits { OnOk result (Rises (opening (K.seen keeper.old).kept) (K.seen keeper.old).commits (K.seen keeper.new).commits) }
-    ensures unchanged { OnOk result (opening (K.seen keeper.old).kept ≡ 0 → Unchanged (K.seen keeper.old) (K.seen keeper.new)) }
-    ensures unwritten { opening (K.seen keeper.old).kept ≡ 0 → (K.seen keeper.new).writes ≡ (K.seen keeper.old).writes }
+    ensures commits { OnOk result
+        (Rises (opening (K.seen keeper.old).kept) (K.seen keeper.old).commits
+        (K.seen keeper.new).commits) }
+    ensures unchanged { OnOk result (opening (K.seen keeper.old).kept ≡ 0
+        → Unchanged (K.seen keeper.old) (K.seen keeper.new)) }
+    ensures unwritten { opening (K.seen keeper.old).kept ≡ 0 → (K.seen keeper.new).writes
+        ≡ (K.seen keeper.old).writes }
     ensures still { IsStill (K.seen keeper.new) }
     ensures never_fall { NeverFall (K.seen keeper.old) (K.seen keeper.new) }
-    ensures cause { HasCause (K.seen keeper.old).faults (K.seen keeper.new).faults result StopError.Fault }
+    ensures cause { HasCause (K.seen keeper.old).faults
+        (K.seen keeper.new).faults result StopError.Fault }
     ensures err { OnErr result (Unchanged (K.seen keeper.old) (K.seen keeper.new)) }
 {
     match stand {
@@ -93,7 +107,8 @@ fn read_session<K: Keeper>(alloc: Global, keeper: &mut K) -> Result<Session, Sto
     ensures unwritten { (K.seen keeper.new).writes ≡ (K.seen keeper.old).writes }
     ensures still { IsStill (K.seen keeper.new) }
     ensures never_fall { NeverFall (K.seen keeper.old) (K.seen keeper.new) }
-    ensures cause { HasCause (K.seen keeper.old).faults (K.seen keeper.new).faults result StopError.Fault }
+    ensures cause { HasCause (K.seen keeper.old).faults
+        (K.seen keeper.new).faults result StopError.Fault }
 {
     match session_of(alloc, keeper) {
         Ok(session) => Ok(session),
@@ -137,7 +152,12 @@ pub(crate) fn session_over(
     catalog: Catalog,
     counts: Counts,
 ) -> Result<Session, AllocError>
-    ensures { IfOk result (λ session. session ≡ record { catalog = catalog; counts = counts; history = nothing_kept }) }
+    ensures { IfOk result
+        (λ session. session ≡ record {
+          catalog = catalog;
+          counts = counts;
+          history = nothing_kept;
+        }) }
 {
     let index = NameIndex::of(alloc, &catalog)?;
     let history = History::new(alloc)?;
@@ -154,7 +174,8 @@ pub(crate) fn session_over(
 /// made before the commit: afterwards nothing is asked for that can be refused.
 fn migrate<K: Keeper>(alloc: Global, keeper: &mut K, base: &Base) -> Result<Session, StopError>
     requires still { IsStill (K.seen keeper.old) }
-    ensures agrees { IfOk result (λ session. Remembers (K.seen keeper.new).kept session (started base.now)) }
+    ensures agrees { IfOk result (λ session. Remembers (K.seen keeper.new).kept session
+        (started base.now)) }
     ensures committed { IsCommitted (K.seen keeper.old) (K.seen keeper.new) result StopError.Fault }
 {
     match begin(keeper) {
@@ -178,7 +199,8 @@ fn written_session<K: Keeper>(
     base: &Base,
 ) -> Result<Session, TabError>
     requires running { (K.seen keeper.old).running ≡ true }
-    ensures agrees { IfOk result (λ session. Remembers (K.seen keeper.new).kept session (started base.now)) }
+    ensures agrees { IfOk result (λ session. Remembers (K.seen keeper.new).kept session
+        (started base.now)) }
     ensures counts { NeverFall (K.seen keeper.old) (K.seen keeper.new) }
     ensures steps { Steps (K.seen keeper.old) (K.seen keeper.new) result TabError.Fault }
 {
@@ -196,7 +218,8 @@ fn written_session<K: Keeper>(
 fn new_session<K: Keeper>(alloc: Global, keeper: &mut K) -> Result<Session, StopError>
     requires still { IsStill (K.seen keeper.old) }
     requires empty { (K.seen keeper.old).kept ≡ tables.empty }
-    ensures agrees { IfOk result (λ session. Remembers (K.seen keeper.new).kept session (started empty_contents)) }
+    ensures agrees { IfOk result (λ session. Remembers (K.seen keeper.new).kept session
+        (started empty_contents)) }
     ensures committed { IsCommitted (K.seen keeper.old) (K.seen keeper.new) result StopError.Fault }
 {
     let session = match empty_session(alloc) {
@@ -211,7 +234,12 @@ fn new_session<K: Keeper>(alloc: Global, keeper: &mut K) -> Result<Session, Stop
 
 /// A session over the empty base.
 fn empty_session(alloc: Global) -> Result<Session, AllocError>
-    ensures { IfOk result (λ session. session ≡ record { catalog = empty_contents.catalog; counts = record { worlds = 1; tuples = 0; stmts = 0; rows = 0 }; history = nothing_kept }) }
+    ensures { IfOk result
+        (λ session. session ≡ record {
+          catalog = empty_contents.catalog;
+          counts = record { worlds = 1; tuples = 0; stmts = 0; rows = 0 };
+          history = nothing_kept;
+        }) }
 {
     let catalog = Catalog {
         rels: List::new(alloc),

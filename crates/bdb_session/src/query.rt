@@ -35,8 +35,10 @@ impl Session {
         requires running { (K.seen keeper.old).running ≡ true }
         requires agrees { AgreesOnSome (K.seen keeper.old).kept self.now }
         requires fits { fits_catalog self.now.catalog (Bound.Select query.now) ≡ true }
-        ensures told { TellsWithin (λ s. bound_outcome s (Bound.Select query.now)) self.now self.now (K.seen keeper.old) (K.seen keeper.new) result }
-        ensures reads { ReadsAsBounded query.now self.now (K.seen keeper.old) (K.seen keeper.new) result }
+        ensures told { TellsWithin (λ s. bound_outcome s (Bound.Select query.now)) self.now self.now
+            (K.seen keeper.old) (K.seen keeper.new) result }
+        ensures reads { ReadsAsBounded query.now self.now (K.seen keeper.old) (K.seen keeper.new)
+            result }
         ensures writes { WritesNothing (K.seen keeper.old) (K.seen keeper.new) result }
     {
         let plan = match self.plan_of(query) {
@@ -57,7 +59,9 @@ impl Session {
     /// Tells the answers of a query.
     fn tell_rows<K: Keeper>(&self, keeper: &mut K, rows: &Rows) -> Result<Reply, StopError>
         requires few { length rows.now ≤ most_lines }
-        ensures { (s : State) → IsSaid self.now.catalog (Done (rows_reply rows.now) (length rows.now) s) (K.seen keeper.old) (K.seen keeper.new) result }
+        ensures { (s : State) → IsSaid self.now.catalog
+            (Done (rows_reply rows.now) (length rows.now) s) (K.seen keeper.old) (K.seen keeper.new)
+            result }
     {
         let answers = rows.len() as u32;
         let text = rows_reply(self.alloc, rows);
@@ -73,8 +77,10 @@ impl Session {
         requires running { (K.seen keeper.old).running ≡ true }
         requires agrees { AgreesOnSome (K.seen keeper.old).kept self.now }
         requires fits { fits_catalog self.now.catalog (Bound.Explain query.now) ≡ true }
-        ensures told { TellsWithin (λ s. bound_outcome s (Bound.Explain query.now)) self.now self.now (K.seen keeper.old) (K.seen keeper.new) result }
-        ensures reads { ReadsWithin (λ s. 0) self.now (K.seen keeper.old) (K.seen keeper.new) result }
+        ensures told { TellsWithin (λ s. bound_outcome s (Bound.Explain query.now))
+            self.now self.now (K.seen keeper.old) (K.seen keeper.new) result }
+        ensures reads { ReadsWithin (λ s. 0) self.now (K.seen keeper.old) (K.seen keeper.new)
+            result }
         ensures writes { WritesNothing (K.seen keeper.old) (K.seen keeper.new) result }
     {
         let text = self.plan_text(query);

@@ -96,23 +96,36 @@ impl Session {
     pub fn apply<K: Keeper>(&mut self, keeper: &mut K, piece: &[u8]) -> Result<Reply, StopError>
         requires still { IsStill (K.seen keeper.old) }
         requires agrees { RemembersSome (K.seen keeper.old).kept self.old }
-        ensures text { (t : Timeline) → Remembers (K.seen keeper.old).kept self.old t → IfOk result (λ r. r.text ≡ reply_of t (event.Piece piece.now)) }
-        ensures accepted { (t : Timeline) → Remembers (K.seen keeper.old).kept self.old t → IfOk result (λ r. r.accepted ≡ accepts t (event.Piece piece.now)) }
-        ensures answers { (t : Timeline) → Remembers (K.seen keeper.old).kept self.old t → IfOk result (λ r. r.answers ≡ answers_to t (event.Piece piece.now)) }
-        ensures next { (t : Timeline) → Remembers (K.seen keeper.old).kept self.old t → OnOk result (Remembers (K.seen keeper.new).kept self.new (next_state t (event.Piece piece.now))) }
-        ensures commits { (t : Timeline) → Remembers (K.seen keeper.old).kept self.old t → OnOk result (Rises (counts t (event.Piece piece.now)) (K.seen keeper.old).commits (K.seen keeper.new).commits) }
-        ensures alone { (t : Timeline) → Remembers (K.seen keeper.old).kept self.old t → OnOk result (counts t (event.Piece piece.now) ≡ 0 → Unchanged (K.seen keeper.old) (K.seen keeper.new)) }
+        ensures text { (t : Timeline) → Remembers (K.seen keeper.old).kept self.old t
+            → IfOk result (λ r. r.text ≡ reply_of t (event.Piece piece.now)) }
+        ensures accepted { (t : Timeline) → Remembers (K.seen keeper.old).kept self.old t
+            → IfOk result (λ r. r.accepted ≡ accepts t (event.Piece piece.now)) }
+        ensures answers { (t : Timeline) → Remembers (K.seen keeper.old).kept self.old t
+            → IfOk result (λ r. r.answers ≡ answers_to t (event.Piece piece.now)) }
+        ensures next { (t : Timeline) → Remembers (K.seen keeper.old).kept self.old t
+            → OnOk result
+            (Remembers (K.seen keeper.new).kept self.new (next_state t (event.Piece piece.now))) }
+        ensures commits { (t : Timeline) → Remembers (K.seen keeper.old).kept self.old t
+            → OnOk result (Rises (counts t (event.Piece piece.now)) (K.seen keeper.old).commits
+            (K.seen keeper.new).commits) }
+        ensures alone { (t : Timeline) → Remembers (K.seen keeper.old).kept self.old t
+            → OnOk result (counts t (event.Piece piece.now) ≡ 0 → Unchanged (K.seen keeper.old)
+            (K.seen keeper.new)) }
         ensures agrees { RemembersSome (K.seen keeper.new).kept self.new }
         ensures untouched { reading_of piece.now ≡ reading.Nothing → keeper.new ≡ keeper.old }
         ensures still { IsStill (K.seen keeper.new) }
         ensures never_fall { NeverFall (K.seen keeper.old) (K.seen keeper.new) }
-        ensures cause { HasCause (K.seen keeper.old).faults (K.seen keeper.new).faults result StopError.Fault }
+        ensures cause { HasCause (K.seen keeper.old).faults
+            (K.seen keeper.new).faults result StopError.Fault }
         ensures err { OnErr result (Unchanged (K.seen keeper.old) (K.seen keeper.new)) }
         ensures same { OnErr result (self.new ≡ self.old) }
-        ensures reads { (c : Command) → reading_of piece.now ≡ reading.Says c → CommandReads c self.old (K.seen keeper.old) (K.seen keeper.new) result }
-        ensures writes { (c : Command) → reading_of piece.now ≡ reading.Says c → CommandWrites c self.old (K.seen keeper.old) (K.seen keeper.new) result }
+        ensures reads { (c : Command) → reading_of piece.now ≡ reading.Says c
+            → CommandReads c self.old (K.seen keeper.old) (K.seen keeper.new) result }
+        ensures writes { (c : Command) → reading_of piece.now ≡ reading.Says c
+            → CommandWrites c self.old (K.seen keeper.old) (K.seen keeper.new) result }
         ensures unwritten { RefusedUnwritten (K.seen keeper.old) (K.seen keeper.new) result }
-        ensures spared { asks_keeper self.old.catalog (event.Piece piece.now) ≡ false → keeper.new ≡ keeper.old }
+        ensures spared { asks_keeper self.old.catalog (event.Piece piece.now) ≡ false
+            → keeper.new ≡ keeper.old }
     {
         self.respond(keeper, piece)
     }
@@ -122,21 +135,35 @@ impl Session {
     pub fn answer<K: Keeper>(&mut self, keeper: &mut K, event: &Event) -> Result<Reply, StopError>
         requires still { IsStill (K.seen keeper.old) }
         requires agrees { RemembersSome (K.seen keeper.old).kept self.old }
-        ensures text { (t : Timeline) → Remembers (K.seen keeper.old).kept self.old t → IfOk result (λ r. r.text ≡ reply_of t event.now) }
-        ensures accepted { (t : Timeline) → Remembers (K.seen keeper.old).kept self.old t → IfOk result (λ r. r.accepted ≡ accepts t event.now) }
-        ensures answers { (t : Timeline) → Remembers (K.seen keeper.old).kept self.old t → IfOk result (λ r. r.answers ≡ answers_to t event.now) }
-        ensures next { (t : Timeline) → Remembers (K.seen keeper.old).kept self.old t → OnOk result (Remembers (K.seen keeper.new).kept self.new (next_state t event.now)) }
-        ensures commits { (t : Timeline) → Remembers (K.seen keeper.old).kept self.old t → OnOk result (Rises (counts t event.now) (K.seen keeper.old).commits (K.seen keeper.new).commits) }
-        ensures alone { (t : Timeline) → Remembers (K.seen keeper.old).kept self.old t → OnOk result (counts t event.now ≡ 0 → Unchanged (K.seen keeper.old) (K.seen keeper.new)) }
-        ensures untouched { (bytes : List ℕ) → event.now ≡ Piece bytes → reading_of bytes ≡ reading.Nothing → keeper.new ≡ keeper.old }
-        ensures reads { (bytes : List ℕ) (c : Command) → event.now ≡ Piece bytes → reading_of bytes ≡ reading.Says c → CommandReads c self.old (K.seen keeper.old) (K.seen keeper.new) result }
-        ensures writes { (bytes : List ℕ) (c : Command) → event.now ≡ Piece bytes → reading_of bytes ≡ reading.Says c → CommandWrites c self.old (K.seen keeper.old) (K.seen keeper.new) result }
+        ensures text { (t : Timeline) → Remembers (K.seen keeper.old).kept self.old t
+            → IfOk result (λ r. r.text ≡ reply_of t event.now) }
+        ensures accepted { (t : Timeline) → Remembers (K.seen keeper.old).kept self.old t
+            → IfOk result (λ r. r.accepted ≡ accepts t event.now) }
+        ensures answers { (t : Timeline) → Remembers (K.seen keeper.old).kept self.old t
+            → IfOk result (λ r. r.answers ≡ answers_to t event.now) }
+        ensures next { (t : Timeline) → Remembers (K.seen keeper.old).kept self.old t
+            → OnOk result (Remembers (K.seen keeper.new).kept self.new (next_state t event.now)) }
+        ensures commits { (t : Timeline) → Remembers (K.seen keeper.old).kept self.old t
+            → OnOk result
+            (Rises (counts t event.now) (K.seen keeper.old).commits (K.seen keeper.new).commits) }
+        ensures alone { (t : Timeline) → Remembers (K.seen keeper.old).kept self.old t
+            → OnOk result
+            (counts t event.now ≡ 0 → Unchanged (K.seen keeper.old) (K.seen keeper.new)) }
+        ensures untouched { (bytes : List ℕ) → event.now ≡ Piece bytes → reading_of bytes
+            ≡ reading.Nothing → keeper.new ≡ keeper.old }
+        ensures reads { (bytes : List ℕ) (c : Command) → event.now ≡ Piece bytes → reading_of bytes
+            ≡ reading.Says c → CommandReads c self.old (K.seen keeper.old) (K.seen keeper.new)
+            result }
+        ensures writes { (bytes : List ℕ) (c : Command) → event.now ≡ Piece bytes → reading_of bytes
+            ≡ reading.Says c → CommandWrites c self.old (K.seen keeper.old) (K.seen keeper.new)
+            result }
         ensures unwritten { RefusedUnwritten (K.seen keeper.old) (K.seen keeper.new) result }
         ensures spared { asks_keeper self.old.catalog event.now ≡ false → keeper.new ≡ keeper.old }
         ensures agrees { RemembersSome (K.seen keeper.new).kept self.new }
         ensures still { IsStill (K.seen keeper.new) }
         ensures never_fall { NeverFall (K.seen keeper.old) (K.seen keeper.new) }
-        ensures cause { HasCause (K.seen keeper.old).faults (K.seen keeper.new).faults result StopError.Fault }
+        ensures cause { HasCause (K.seen keeper.old).faults
+            (K.seen keeper.new).faults result StopError.Fault }
         ensures err { OnErr result (Unchanged (K.seen keeper.old) (K.seen keeper.new)) }
         ensures same { OnErr result (self.new ≡ self.old) }
     {
@@ -147,12 +174,16 @@ impl Session {
     fn respond<K: Keeper>(&mut self, keeper: &mut K, piece: &[u8]) -> Result<Reply, StopError>
         requires still { IsStill (K.seen keeper.old) }
         requires agrees { RemembersSome (K.seen keeper.old).kept self.old }
-        ensures followed { FollowsEvent (event.Piece piece.now) self.old self.new (K.seen keeper.old) (K.seen keeper.new) result }
+        ensures followed { FollowsEvent (event.Piece piece.now) self.old self.new
+            (K.seen keeper.old) (K.seen keeper.new) result }
         ensures untouched { reading_of piece.now ≡ reading.Nothing → keeper.new ≡ keeper.old }
-        ensures reads { (c : Command) → reading_of piece.now ≡ reading.Says c → CommandReads c self.old (K.seen keeper.old) (K.seen keeper.new) result }
-        ensures writes { (c : Command) → reading_of piece.now ≡ reading.Says c → CommandWrites c self.old (K.seen keeper.old) (K.seen keeper.new) result }
+        ensures reads { (c : Command) → reading_of piece.now ≡ reading.Says c
+            → CommandReads c self.old (K.seen keeper.old) (K.seen keeper.new) result }
+        ensures writes { (c : Command) → reading_of piece.now ≡ reading.Says c
+            → CommandWrites c self.old (K.seen keeper.old) (K.seen keeper.new) result }
         ensures unwritten { RefusedUnwritten (K.seen keeper.old) (K.seen keeper.new) result }
-        ensures spared { asks_keeper self.old.catalog (event.Piece piece.now) ≡ false → keeper.new ≡ keeper.old }
+        ensures spared { asks_keeper self.old.catalog (event.Piece piece.now) ≡ false
+            → keeper.new ≡ keeper.old }
     {
         if says_nothing(piece) {
             return Ok(Reply::accepted(List::new(self.alloc)));
@@ -169,10 +200,16 @@ impl Session {
     fn respond_to<K: Keeper>(&mut self, keeper: &mut K, event: &Event) -> Result<Reply, StopError>
         requires still { IsStill (K.seen keeper.old) }
         requires agrees { RemembersSome (K.seen keeper.old).kept self.old }
-        ensures followed { FollowsEvent event.now self.old self.new (K.seen keeper.old) (K.seen keeper.new) result }
-        ensures untouched { (bytes : List ℕ) → event.now ≡ Piece bytes → reading_of bytes ≡ reading.Nothing → keeper.new ≡ keeper.old }
-        ensures reads { (bytes : List ℕ) (c : Command) → event.now ≡ Piece bytes → reading_of bytes ≡ reading.Says c → CommandReads c self.old (K.seen keeper.old) (K.seen keeper.new) result }
-        ensures writes { (bytes : List ℕ) (c : Command) → event.now ≡ Piece bytes → reading_of bytes ≡ reading.Says c → CommandWrites c self.old (K.seen keeper.old) (K.seen keeper.new) result }
+        ensures followed { FollowsEvent event.now self.old self.new (K.seen keeper.old)
+            (K.seen keeper.new) result }
+        ensures untouched { (bytes : List ℕ) → event.now ≡ Piece bytes → reading_of bytes
+            ≡ reading.Nothing → keeper.new ≡ keeper.old }
+        ensures reads { (bytes : List ℕ) (c : Command) → event.now ≡ Piece bytes → reading_of bytes
+            ≡ reading.Says c → CommandReads c self.old (K.seen keeper.old) (K.seen keeper.new)
+            result }
+        ensures writes { (bytes : List ℕ) (c : Command) → event.now ≡ Piece bytes → reading_of bytes
+            ≡ reading.Says c → CommandWrites c self.old (K.seen keeper.old) (K.seen keeper.new)
+            result }
         ensures unwritten { RefusedUnwritten (K.seen keeper.old) (K.seen keeper.new) result }
         ensures spared { asks_keeper self.old.catalog event.now ≡ false → keeper.new ≡ keeper.old }
     {
@@ -198,11 +235,15 @@ impl Session {
         requires still { IsStill (K.seen keeper.old) }
         requires agrees { RemembersSome (K.seen keeper.old).kept self.old }
         requires allowed { is_allowed command ≡ true }
-        ensures served { Follows (said_outcome command) (said_next command) self.old self.new (K.seen keeper.old) (K.seen keeper.new) result }
-        ensures reads { CommandReads command self.old (K.seen keeper.old) (K.seen keeper.new) result }
-        ensures writes { CommandWrites command self.old (K.seen keeper.old) (K.seen keeper.new) result }
+        ensures served { Follows (said_outcome command) (said_next command) self.old self.new
+            (K.seen keeper.old) (K.seen keeper.new) result }
+        ensures reads { CommandReads command self.old (K.seen keeper.old) (K.seen keeper.new)
+            result }
+        ensures writes { CommandWrites command self.old (K.seen keeper.old) (K.seen keeper.new)
+            result }
         ensures unwritten { RefusedUnwritten (K.seen keeper.old) (K.seen keeper.new) result }
-        ensures spared { is_none (refusal_of self.old.catalog command) ≡ false → keeper.new ≡ keeper.old }
+        ensures spared { is_none (refusal_of self.old.catalog command) ≡ false
+            → keeper.new ≡ keeper.old }
     {
         match course_of(&command) {
             Course::Back => self.undo(keeper),
@@ -216,12 +257,17 @@ impl Session {
         requires still { IsStill (K.seen keeper.old) }
         requires agrees { AgreesOnSome (K.seen keeper.old).kept self.old }
         requires allowed { is_allowed command ≡ true }
-        ensures served { Serves (λ s. command_outcome s command) self.old self.new (K.seen keeper.old) (K.seen keeper.new) result }
-        ensures remembers { Moves (λ s. command_outcome s command) self.old self.new (K.seen keeper.old) (K.seen keeper.new) result }
-        ensures reads { CommandReads command self.old (K.seen keeper.old) (K.seen keeper.new) result }
-        ensures writes { CommandWrites command self.old (K.seen keeper.old) (K.seen keeper.new) result }
+        ensures served { Serves (λ s. command_outcome s command) self.old self.new
+            (K.seen keeper.old) (K.seen keeper.new) result }
+        ensures remembers { Moves (λ s. command_outcome s command) self.old self.new
+            (K.seen keeper.old) (K.seen keeper.new) result }
+        ensures reads { CommandReads command self.old (K.seen keeper.old) (K.seen keeper.new)
+            result }
+        ensures writes { CommandWrites command self.old (K.seen keeper.old) (K.seen keeper.new)
+            result }
         ensures unwritten { RefusedUnwritten (K.seen keeper.old) (K.seen keeper.new) result }
-        ensures spared { is_none (refusal_of self.old.catalog command) ≡ false → keeper.new ≡ keeper.old }
+        ensures spared { is_none (refusal_of self.old.catalog command) ≡ false
+            → keeper.new ≡ keeper.old }
     {
         match bind_by(self.alloc, &self.catalog, &self.index, command) {
             Ok(bound) => self.execute(keeper, bound),

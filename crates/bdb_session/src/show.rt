@@ -35,8 +35,10 @@ impl Session {
         requires running { (K.seen keeper.old).running ≡ true }
         requires agrees { AgreesOnSome (K.seen keeper.old).kept self.now }
         requires fits { fits_catalog self.now.catalog (Bound.ShowWorld path.now) ≡ true }
-        ensures told { TellsWithin (λ s. bound_outcome s (Bound.ShowWorld path.now)) self.now self.now (K.seen keeper.old) (K.seen keeper.new) result }
-        ensures reads { ReadsWithin (λ s. world_reads s.base path.now) self.now (K.seen keeper.old) (K.seen keeper.new) result }
+        ensures told { TellsWithin (λ s. bound_outcome s (Bound.ShowWorld path.now))
+            self.now self.now (K.seen keeper.old) (K.seen keeper.new) result }
+        ensures reads { ReadsWithin (λ s. world_reads s.base path.now) self.now (K.seen keeper.old)
+            (K.seen keeper.new) result }
         ensures writes { WritesNothing (K.seen keeper.old) (K.seen keeper.new) result }
     {
         match world_of_path(self.alloc, keeper, path) {
@@ -47,7 +49,9 @@ impl Session {
 
     /// Tells the rows of a world.
     fn tell_world<K: Keeper>(&self, keeper: &mut K, world: &World) -> Result<Reply, StopError>
-        ensures { (s : State) → IsSaid self.now.catalog (Done (world_reply self.now.catalog world.now) 0 s) (K.seen keeper.old) (K.seen keeper.new) result }
+        ensures { (s : State) → IsSaid self.now.catalog
+            (Done (world_reply self.now.catalog world.now) 0 s) (K.seen keeper.old)
+            (K.seen keeper.new) result }
     {
         let text = world_reply(self.alloc, &self.catalog, world);
         self.say(keeper, text, 0)
@@ -58,7 +62,8 @@ impl Session {
     pub(crate) fn show_tables<K: Keeper>(&self, keeper: &mut K) -> Result<Reply, StopError>
         requires running { (K.seen keeper.old).running ≡ true }
         requires agrees { AgreesOnSome (K.seen keeper.old).kept self.now }
-        ensures told { TellsWithin (λ s. bound_outcome s Bound.ShowTables) self.now self.now (K.seen keeper.old) (K.seen keeper.new) result }
+        ensures told { TellsWithin (λ s. bound_outcome s Bound.ShowTables) self.now self.now
+            (K.seen keeper.old) (K.seen keeper.new) result }
         ensures writes { WritesNothing (K.seen keeper.old) (K.seen keeper.new) result }
     {
         if self.has_many_lines() {
@@ -72,7 +77,9 @@ impl Session {
 
     /// Tells the structure.
     fn tell_tables<K: Keeper>(&self, keeper: &mut K, canon: &Canon) -> Result<Reply, StopError>
-        ensures { (s : State) → IsSaid self.now.catalog (Done (tables_reply self.now.catalog canon.now) 0 s) (K.seen keeper.old) (K.seen keeper.new) result }
+        ensures { (s : State) → IsSaid self.now.catalog
+            (Done (tables_reply self.now.catalog canon.now) 0 s) (K.seen keeper.old)
+            (K.seen keeper.new) result }
     {
         let text = tables_reply(self.alloc, &self.catalog, canon);
         self.say(keeper, text, 0)
@@ -81,7 +88,9 @@ impl Session {
     /// Whether the structure has more lines than may be told.
     fn has_many_lines(&self) -> bool
         requires catalog { IsCatalog self.now.catalog }
-        ensures { result ≡ nat_lt most_lines (lines_by (length (user_names self.now.catalog.users)) (length self.now.catalog.rels) self.now.counts) }
+        ensures { result ≡ nat_lt most_lines
+            (lines_by (length (user_names self.now.catalog.users)) (length self.now.catalog.rels)
+            self.now.counts) }
     {
         let users = live_count(self.catalog.users.as_slice());
         let rels = self.catalog.rels.len();

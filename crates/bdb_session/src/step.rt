@@ -30,10 +30,13 @@ impl Session {
         requires still { IsStill (K.seen keeper.old) }
         requires agrees { AgreesOnSome (K.seen keeper.old).kept self.old }
         requires fits { fits_catalog self.old.catalog bound ≡ true }
-        ensures served { Serves (λ s. bound_outcome s bound) self.old self.new (K.seen keeper.old) (K.seen keeper.new) result }
-        ensures remembers { Moves (λ s. bound_outcome s bound) self.old self.new (K.seen keeper.old) (K.seen keeper.new) result }
+        ensures served { Serves (λ s. bound_outcome s bound) self.old self.new (K.seen keeper.old)
+            (K.seen keeper.new) result }
+        ensures remembers { Moves (λ s. bound_outcome s bound) self.old self.new (K.seen keeper.old)
+            (K.seen keeper.new) result }
         ensures reads { ReadsAsTold bound self.old (K.seen keeper.old) (K.seen keeper.new) result }
-        ensures writes { WritesAsTold bound self.old (K.seen keeper.old) (K.seen keeper.new) result }
+        ensures writes { WritesAsTold bound self.old (K.seen keeper.old) (K.seen keeper.new)
+            result }
     {
         match begin(keeper) {
             Ok(()) => {}
@@ -58,10 +61,13 @@ impl Session {
         requires agrees { AgreesOnSome (K.seen keeper.old).kept self.now }
         requires fits { fits_catalog self.now.catalog bound ≡ true }
         requires nothing { news.old ≡ nothing_new self.now }
-        ensures told { TellsWithin (λ s. bound_outcome s bound) self.now (learned self.now news.new) (K.seen keeper.old) (K.seen keeper.new) result }
-        ensures change { TellsChange (λ s. bound_outcome s bound) self.now news.new.change (K.seen keeper.old) result }
+        ensures told { TellsWithin (λ s. bound_outcome s bound) self.now (learned self.now news.new)
+            (K.seen keeper.old) (K.seen keeper.new) result }
+        ensures change { TellsChange (λ s. bound_outcome s bound) self.now news.new.change
+            (K.seen keeper.old) result }
         ensures reads { ReadsAsTold bound self.now (K.seen keeper.old) (K.seen keeper.new) result }
-        ensures writes { WritesAsTold bound self.now (K.seen keeper.old) (K.seen keeper.new) result }
+        ensures writes { WritesAsTold bound self.now (K.seen keeper.old) (K.seen keeper.new)
+            result }
     {
         match bound {
             Bound::CreateUser { name } => self.create_user(keeper, news, name),
@@ -170,7 +176,8 @@ impl Session {
         told: Reply,
     ) -> Result<Reply, StopError>
         requires running { (K.seen keeper.old).running ≡ true }
-        ensures { Settles (learned self.old news) told self.old self.new (K.seen keeper.old) (K.seen keeper.new) result }
+        ensures { Settles (learned self.old news) told self.old self.new (K.seen keeper.old)
+            (K.seen keeper.new) result }
     {
         if !told.accepted {
             keeper.undo();

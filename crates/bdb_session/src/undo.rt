@@ -31,7 +31,8 @@ impl Session {
     pub(crate) fn undo<K: Keeper>(&mut self, keeper: &mut K) -> Result<Reply, StopError>
         requires still { IsStill (K.seen keeper.old) }
         requires agrees { RemembersSome (K.seen keeper.old).kept self.old }
-        ensures served { Follows (λ t. stepped NoUndo (undone t)) (λ t. led t (undone t)) self.old self.new (K.seen keeper.old) (K.seen keeper.new) result }
+        ensures served { Follows (λ t. stepped NoUndo (undone t)) (λ t. led t (undone t))
+            self.old self.new (K.seen keeper.old) (K.seen keeper.new) result }
         ensures unwritten { RefusedUnwritten (K.seen keeper.old) (K.seen keeper.new) result }
     {
         if self.history.undos() == 0 {
@@ -54,7 +55,8 @@ impl Session {
         requires agrees { RemembersSome (K.seen keeper.old).kept self.now }
         requires some { 0 < length self.now.history.undos }
         requires nothing { news.old ≡ nothing_new self.now }
-        ensures told { TellsStep undone self.now (learned self.now news.new) (K.seen keeper.old) (K.seen keeper.new) result }
+        ensures told { TellsStep undone self.now (learned self.now news.new) (K.seen keeper.old)
+            (K.seen keeper.new) result }
         ensures unchanged { news.new.change ≡ None }
     {
         let change = match self.history.last() {
@@ -84,7 +86,8 @@ impl Session {
         requires running { (K.seen keeper.old).running ≡ true }
         requires some { 0 < length self.old.history.undos }
         requires unchanged { news.change ≡ None }
-        ensures { IsKept (gone_back (learned self.old news)) told self.old self.new (K.seen keeper.old) (K.seen keeper.new) result }
+        ensures { IsKept (gone_back (learned self.old news)) told self.old self.new
+            (K.seen keeper.old) (K.seen keeper.new) result }
     {
         match commit(keeper) {
             Ok(()) => {
@@ -100,7 +103,8 @@ impl Session {
     pub(crate) fn redo<K: Keeper>(&mut self, keeper: &mut K) -> Result<Reply, StopError>
         requires still { IsStill (K.seen keeper.old) }
         requires agrees { RemembersSome (K.seen keeper.old).kept self.old }
-        ensures served { Follows (λ t. stepped NoRedo (redone t)) (λ t. led t (redone t)) self.old self.new (K.seen keeper.old) (K.seen keeper.new) result }
+        ensures served { Follows (λ t. stepped NoRedo (redone t)) (λ t. led t (redone t))
+            self.old self.new (K.seen keeper.old) (K.seen keeper.new) result }
         ensures unwritten { RefusedUnwritten (K.seen keeper.old) (K.seen keeper.new) result }
     {
         if self.history.redos() == 0 {
@@ -123,7 +127,8 @@ impl Session {
         requires agrees { RemembersSome (K.seen keeper.old).kept self.now }
         requires some { 0 < length self.now.history.redos }
         requires nothing { news.old ≡ nothing_new self.now }
-        ensures told { TellsStep redone self.now (learned self.now news.new) (K.seen keeper.old) (K.seen keeper.new) result }
+        ensures told { TellsStep redone self.now (learned self.now news.new) (K.seen keeper.old)
+            (K.seen keeper.new) result }
         ensures unchanged { news.new.change ≡ None }
     {
         let change = match self.history.coming() {
@@ -153,7 +158,8 @@ impl Session {
         requires running { (K.seen keeper.old).running ≡ true }
         requires some { 0 < length self.old.history.redos }
         requires unchanged { news.change ≡ None }
-        ensures { IsKept (gone_forth (learned self.old news)) told self.old self.new (K.seen keeper.old) (K.seen keeper.new) result }
+        ensures { IsKept (gone_forth (learned self.old news)) told self.old self.new
+            (K.seen keeper.old) (K.seen keeper.new) result }
     {
         match commit(keeper) {
             Ok(()) => {
@@ -170,7 +176,8 @@ impl Session {
 fn names_back(alloc: Global, catalog: &Catalog, named: &Named) -> Result<Option<Names>, AllocError>
     requires can { CanName named.now (named_back named.now catalog.now) }
     requires last { catalog.now ≡ named_forth named.now (named_back named.now catalog.now) }
-    ensures { IfOk result (λ names. catalog_by catalog.now names ≡ named_back named.now catalog.now) }
+    ensures { IfOk result
+        (λ names. catalog_by catalog.now names ≡ named_back named.now catalog.now) }
 {
     match named {
         Named::Nothing => Ok(None),
@@ -185,7 +192,8 @@ fn names_back(alloc: Global, catalog: &Catalog, named: &Named) -> Result<Option<
 /// The names after what a change named, where it named something.
 fn names_forth(alloc: Global, catalog: &Catalog, named: &Named) -> Result<Option<Names>, AllocError>
     requires can { CanName named.now catalog.now }
-    ensures { IfOk result (λ names. catalog_by catalog.now names ≡ named_forth named.now catalog.now) }
+    ensures { IfOk result
+        (λ names. catalog_by catalog.now names ≡ named_forth named.now catalog.now) }
 {
     match named {
         Named::Nothing => Ok(None),
@@ -197,7 +205,8 @@ fn names_forth(alloc: Global, catalog: &Catalog, named: &Named) -> Result<Option
 
 /// The names without the last user.
 fn names_before_user(alloc: Global, catalog: &Catalog) -> Result<Names, AllocError>
-    ensures { IfOk result (λ names. names.catalog ≡ record catalog.now { users = all_but_last catalog.now.users }) }
+    ensures { IfOk result
+        (λ names. names.catalog ≡ record catalog.now { users = all_but_last catalog.now.users }) }
 {
     let mut catalog = catalog.try_clone(alloc)?;
     let places = catalog.users.len().saturating_sub(1);
@@ -208,7 +217,8 @@ fn names_before_user(alloc: Global, catalog: &Catalog) -> Result<Names, AllocErr
 
 /// The names without the last relation.
 fn names_before_relation(alloc: Global, catalog: &Catalog) -> Result<Names, AllocError>
-    ensures { IfOk result (λ names. names.catalog ≡ record catalog.now { rels = all_but_last catalog.now.rels }) }
+    ensures { IfOk result
+        (λ names. names.catalog ≡ record catalog.now { rels = all_but_last catalog.now.rels }) }
 {
     let mut catalog = catalog.try_clone(alloc)?;
     let relations = catalog.rels.len().saturating_sub(1);

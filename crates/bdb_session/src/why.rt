@@ -25,8 +25,10 @@ impl Session {
         requires running { (K.seen keeper.old).running ≡ true }
         requires agrees { AgreesOnSome (K.seen keeper.old).kept self.now }
         requires fits { fits_catalog self.now.catalog (Bound.Why stmt.now) ≡ true }
-        ensures told { TellsWithin (λ s. bound_outcome s (Bound.Why stmt.now)) self.now self.now (K.seen keeper.old) (K.seen keeper.new) result }
-        ensures reads { ReadsWithin (λ s. why_reads s.base stmt.now) self.now (K.seen keeper.old) (K.seen keeper.new) result }
+        ensures told { TellsWithin (λ s. bound_outcome s (Bound.Why stmt.now)) self.now self.now
+            (K.seen keeper.old) (K.seen keeper.new) result }
+        ensures reads { ReadsWithin (λ s. why_reads s.base stmt.now) self.now (K.seen keeper.old)
+            (K.seen keeper.new) result }
         ensures writes { WritesNothing (K.seen keeper.old) (K.seen keeper.new) result }
     {
         let path = stmt.path.as_slice();
@@ -43,7 +45,9 @@ impl Session {
         stmt: &Stmt,
         certificate: &Why,
     ) -> Result<Reply, StopError>
-        ensures { (s : State) → IsSaid self.now.catalog (Done (why_reply self.now.catalog stmt.now.path stmt.now.tuple stmt.now.sign certificate.now) 0 s) (K.seen keeper.old) (K.seen keeper.new) result }
+        ensures { (s : State) → IsSaid self.now.catalog
+            (Done (why_reply self.now.catalog stmt.now.path stmt.now.tuple stmt.now.sign
+            certificate.now) 0 s) (K.seen keeper.old) (K.seen keeper.new) result }
     {
         let path = stmt.path.as_slice();
         let text = why_reply(

@@ -23,7 +23,8 @@ impl Session {
         text: Result<List<u8>, AllocError>,
         answers: u32,
     ) -> Result<Reply, StopError>
-        ensures { (s : State) (told : List ℕ) → IfOk text (λ x. x ≡ told) → IsSaid self.now.catalog (Done told answers s) (K.seen keeper.old) (K.seen keeper.new) result }
+        ensures { (s : State) (told : List ℕ) → IfOk text (λ x. x ≡ told) → IsSaid self.now.catalog
+            (Done told answers s) (K.seen keeper.old) (K.seen keeper.new) result }
     {
         match text {
             Ok(text) => Ok(Reply {
@@ -40,7 +41,8 @@ impl Session {
 
     /// Tells that something was done.
     pub(crate) fn tell_done<K: Keeper>(&self, keeper: &mut K) -> Result<Reply, StopError>
-        ensures { (s : State) → IsSaid self.now.catalog (Done ok_reply 0 s) (K.seen keeper.old) (K.seen keeper.new) result }
+        ensures { (s : State) → IsSaid self.now.catalog (Done ok_reply 0 s) (K.seen keeper.old)
+            (K.seen keeper.new) result }
     {
         let text = ok_reply(self.alloc);
         self.say(keeper, text, 0)
@@ -52,7 +54,8 @@ impl Session {
         keeper: &mut K,
         count: usize,
     ) -> Result<Reply, StopError>
-        ensures { (s : State) → IsSaid self.now.catalog (Done (count_reply count) 0 s) (K.seen keeper.old) (K.seen keeper.new) result }
+        ensures { (s : State) → IsSaid self.now.catalog (Done (count_reply count) 0 s)
+            (K.seen keeper.old) (K.seen keeper.new) result }
     {
         let text = count_reply(self.alloc, count);
         self.say(keeper, text, 0)
@@ -76,7 +79,8 @@ impl Session {
 
     /// Refuses a change that would clash with a statement.
     fn refuse_clash<K: Keeper>(&self, keeper: &mut K, least: &Stmt) -> Result<Reply, StopError>
-        ensures { IsSaid self.now.catalog (Refused (clash_with least.now)) (K.seen keeper.old) (K.seen keeper.new) result }
+        ensures { IsSaid self.now.catalog (Refused (clash_with least.now)) (K.seen keeper.old)
+            (K.seen keeper.new) result }
     {
         match clash_with(self.alloc, least) {
             Ok(refusal) => self.refuse_within(keeper, &refusal),
@@ -93,7 +97,8 @@ impl Session {
         keeper: &mut K,
         refusal: &Refusal,
     ) -> Result<Reply, StopError>
-        ensures { IsSaid self.now.catalog (Refused refusal.now) (K.seen keeper.old) (K.seen keeper.new) result }
+        ensures { IsSaid self.now.catalog (Refused refusal.now) (K.seen keeper.old)
+            (K.seen keeper.new) result }
     {
         match self.refuse(refusal) {
             Ok(reply) => Ok(reply),

@@ -23,9 +23,12 @@ impl<S: Start> SqlKeeper<FileStore<FileFrom<S>>> {
     pub fn from_file_holding(alloc: Global, rt: &HostRuntime, path: &str, start: S) -> Self
         ensures begins { Begins result }
         ensures file { works result ≡ true → IsSome result.conn }
-        ensures opens { works result ≡ true → IfSome result.conn (λ c. HasCleanDisk (file_state c) → Opens (file_state c)) }
-        ensures found { works result ≡ true → IfSome result.conn (λ c. HasCleanDisk (file_state c) → IsBareOrKept (file_state c)) }
-        ensures rows { works result ≡ true → IfSome result.conn (λ c. HasCleanDisk (file_state c) → Stores (file_state c).now result.seen.kept) }
+        ensures opens { works result ≡ true → IfSome result.conn (λ c. HasCleanDisk (file_state c)
+            → Opens (file_state c)) }
+        ensures found { works result ≡ true → IfSome result.conn (λ c. HasCleanDisk (file_state c)
+            → IsBareOrKept (file_state c)) }
+        ensures rows { works result ≡ true → IfSome result.conn (λ c. HasCleanDisk (file_state c)
+            → Stores (file_state c).now result.seen.kept) }
         ensures tied { works result ≡ true → MatchesFile over_files result }
     {
         match look_at(rt, path) {
@@ -40,9 +43,12 @@ impl<S: Start> SqlKeeper<FileStore<FileFrom<S>>> {
     pub fn from_present_file_holding(alloc: Global, rt: &HostRuntime, path: &str, start: S) -> Self
         ensures begins { Begins result }
         ensures file { works result ≡ true → IsSome result.conn }
-        ensures opens { works result ≡ true → IfSome result.conn (λ c. HasCleanDisk (file_state c) → Opens (file_state c)) }
-        ensures found { works result ≡ true → IfSome result.conn (λ c. HasCleanDisk (file_state c) → IsBareOrKept (file_state c)) }
-        ensures rows { works result ≡ true → IfSome result.conn (λ c. HasCleanDisk (file_state c) → Stores (file_state c).now result.seen.kept) }
+        ensures opens { works result ≡ true → IfSome result.conn (λ c. HasCleanDisk (file_state c)
+            → Opens (file_state c)) }
+        ensures found { works result ≡ true → IfSome result.conn (λ c. HasCleanDisk (file_state c)
+            → IsBareOrKept (file_state c)) }
+        ensures rows { works result ≡ true → IfSome result.conn (λ c. HasCleanDisk (file_state c)
+            → Stores (file_state c).now result.seen.kept) }
         ensures tied { works result ≡ true → MatchesFile over_files result }
     {
         match look_at(rt, path) {
@@ -56,9 +62,12 @@ impl<S: Start> SqlKeeper<FileStore<FileFrom<S>>> {
     fn opened(alloc: Global, rt: &HostRuntime, path: &str, start: S) -> Self
         ensures begins { Begins result }
         ensures file { works result ≡ true → IsSome result.conn }
-        ensures opens { works result ≡ true → IfSome result.conn (λ c. HasCleanDisk (file_state c) → Opens (file_state c)) }
-        ensures found { works result ≡ true → IfSome result.conn (λ c. HasCleanDisk (file_state c) → IsBareOrKept (file_state c)) }
-        ensures rows { works result ≡ true → IfSome result.conn (λ c. HasCleanDisk (file_state c) → Stores (file_state c).now result.seen.kept) }
+        ensures opens { works result ≡ true → IfSome result.conn (λ c. HasCleanDisk (file_state c)
+            → Opens (file_state c)) }
+        ensures found { works result ≡ true → IfSome result.conn (λ c. HasCleanDisk (file_state c)
+            → IsBareOrKept (file_state c)) }
+        ensures rows { works result ≡ true → IfSome result.conn (λ c. HasCleanDisk (file_state c)
+            → Stores (file_state c).now result.seen.kept) }
         ensures tied { works result ≡ true → MatchesFile over_files result }
     {
         match Connection::open_from(rt, path, false, start) {
@@ -79,9 +88,12 @@ impl SqlKeeper<FileStore<File>> {
     pub fn from_file(alloc: Global, rt: &HostRuntime, path: &str) -> Self
         ensures begins { Begins result }
         ensures file { works result ≡ true → IsSome result.conn }
-        ensures opens { works result ≡ true → IfSome result.conn (λ c. HasCleanDisk (file_state c) → Opens (file_state c)) }
-        ensures found { works result ≡ true → IfSome result.conn (λ c. HasCleanDisk (file_state c) → IsBareOrKept (file_state c)) }
-        ensures rows { works result ≡ true → IfSome result.conn (λ c. HasCleanDisk (file_state c) → Stores (file_state c).now result.seen.kept) }
+        ensures opens { works result ≡ true → IfSome result.conn (λ c. HasCleanDisk (file_state c)
+            → Opens (file_state c)) }
+        ensures found { works result ≡ true → IfSome result.conn (λ c. HasCleanDisk (file_state c)
+            → IsBareOrKept (file_state c)) }
+        ensures rows { works result ≡ true → IfSome result.conn (λ c. HasCleanDisk (file_state c)
+            → Stores (file_state c).now result.seen.kept) }
         ensures tied { works result ≡ true → MatchesFile over_files result }
     {
         SqlKeeper::from_file_holding(alloc, rt, path, Unknown)
@@ -91,9 +103,12 @@ impl SqlKeeper<FileStore<File>> {
     pub fn from_present_file(alloc: Global, rt: &HostRuntime, path: &str) -> Self
         ensures begins { Begins result }
         ensures file { works result ≡ true → IsSome result.conn }
-        ensures opens { works result ≡ true → IfSome result.conn (λ c. HasCleanDisk (file_state c) → Opens (file_state c)) }
-        ensures found { works result ≡ true → IfSome result.conn (λ c. HasCleanDisk (file_state c) → IsBareOrKept (file_state c)) }
-        ensures rows { works result ≡ true → IfSome result.conn (λ c. HasCleanDisk (file_state c) → Stores (file_state c).now result.seen.kept) }
+        ensures opens { works result ≡ true → IfSome result.conn (λ c. HasCleanDisk (file_state c)
+            → Opens (file_state c)) }
+        ensures found { works result ≡ true → IfSome result.conn (λ c. HasCleanDisk (file_state c)
+            → IsBareOrKept (file_state c)) }
+        ensures rows { works result ≡ true → IfSome result.conn (λ c. HasCleanDisk (file_state c)
+            → Stores (file_state c).now result.seen.kept) }
         ensures tied { works result ≡ true → MatchesFile over_files result }
     {
         SqlKeeper::from_present_file_holding(alloc, rt, path, Unknown)

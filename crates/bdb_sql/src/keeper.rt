@@ -59,13 +59,22 @@ impl<S: Alter> SqlKeeper<S> {
         ensures begins { Begins result }
         ensures conn { IsSome result.conn }
         ensures found { works result ≡ true → IsBareOrKept (state S.Store conn) }
-        ensures rows { works result ≡ true → IfSome result.conn (λ c. HasCleanDisk (state S.Store c) → Stores (state S.Store conn).now result.seen.kept) }
-        ensures same { works result ≡ true → IfSome result.conn (λ c. HasCleanDisk (state S.Store c) → StaysAs (state S.Store conn) (state S.Store c)) }
-        ensures found_still { works result ≡ true → IfSome result.conn (λ c. HasCleanDisk (state S.Store c) → IsBareOrKept (state S.Store c)) }
-        ensures rows_still { works result ≡ true → IfSome result.conn (λ c. HasCleanDisk (state S.Store c) → Stores (state S.Store c).now result.seen.kept) }
-        ensures survives { IfSome result.conn (λ c. Survives (state S.Store conn) (state S.Store c) (λ _. ⊥)) }
-        ensures tied { works result ≡ true → StandsWhole S.Store result.conn → MatchesFile S.Store result }
-        ensures adopted { works result ≡ true → StandsWhole S.Store (Some conn) → MatchesFile S.Store result }
+        ensures rows { works result ≡ true → IfSome result.conn (λ c. HasCleanDisk (state S.Store c)
+            → Stores (state S.Store conn).now result.seen.kept) }
+        ensures same { works result ≡ true → IfSome result.conn (λ c. HasCleanDisk (state S.Store c)
+            → StaysAs (state S.Store conn) (state S.Store c)) }
+        ensures found_still { works result ≡ true
+            → IfSome result.conn (λ c. HasCleanDisk (state S.Store c)
+            → IsBareOrKept (state S.Store c)) }
+        ensures rows_still { works result ≡ true
+            → IfSome result.conn (λ c. HasCleanDisk (state S.Store c)
+            → Stores (state S.Store c).now result.seen.kept) }
+        ensures survives { IfSome result.conn (λ c. Survives (state S.Store conn) (state S.Store c)
+            (λ _. ⊥)) }
+        ensures tied { works result ≡ true → StandsWhole S.Store result.conn
+            → MatchesFile S.Store result }
+        ensures adopted { works result ≡ true → StandsWhole S.Store (Some conn)
+            → MatchesFile S.Store result }
     {
         match load(alloc, &mut conn) {
             Ok(store) => SqlKeeper::begun(alloc, store, Some(conn), None),
@@ -149,7 +158,8 @@ impl<S: Alter> Keeper for SqlKeeper<S> {
 
     fn get(&mut self, tab: u8, key: &[u8], row: &mut Vec<u8>) -> Result<bool, KeepError>
         requires table { (1 ≤ tab) × (tab ≤ 15) }
-        ensures found { IfOk result (λ found. map.get self.old.seen.kept (tab ∷ key.now) ≡ (if found then Some row.new.items else None)) }
+        ensures found { IfOk result (λ found. map.get self.old.seen.kept (tab ∷ key.now)
+            ≡ (if found then Some row.new.items else None)) }
         ensures empty { IfOk result (λ found. found ≡ false → row.new.items ≡ []) }
         ensures reads { RoseBy 1 self.old.seen.reads self.new.seen.reads }
         ensures read { IsRead self.old.seen self.new.seen result KeepError.Fault }
@@ -179,7 +189,8 @@ impl<S: Alter> Keeper for SqlKeeper<S> {
             (IsLeastFrom self.old.seen.kept tab low.now key.new.items row.new.items)
             (NoneFrom self.old.seen.kept tab low.now)) }
         ensures tables { LieInTables self.old.seen.kept }
-        ensures empty { IfOk result (λ found. found ≡ false → (key.new.items ≡ []) × (row.new.items ≡ [])) }
+        ensures empty { IfOk result (λ found. found ≡ false → (key.new.items ≡ [])
+            × (row.new.items ≡ [])) }
         ensures reads { RoseBy 1 self.old.seen.reads self.new.seen.reads }
         ensures read { IsRead self.old.seen self.new.seen result KeepError.Fault }
 
@@ -199,7 +210,8 @@ impl<S: Alter> Keeper for SqlKeeper<S> {
     fn put(&mut self, tab: u8, key: &[u8], row: &[u8]) -> Result<(), KeepError>
         requires table { (1 ≤ tab) × (tab ≤ 15) }
         requires running { self.old.seen.running ≡ true }
-        ensures kept { OnOk result (self.new.seen.kept ≡ map.insert self.old.seen.kept (tab ∷ key.now) row.now) }
+        ensures kept { OnOk result
+            (self.new.seen.kept ≡ map.insert self.old.seen.kept (tab ∷ key.now) row.now) }
         ensures writes { RoseBy 1 self.old.seen.writes self.new.seen.writes }
         ensures write { IsWrite self.old.seen self.new.seen result KeepError.Fault }
 
@@ -219,8 +231,10 @@ impl<S: Alter> Keeper for SqlKeeper<S> {
     fn remove(&mut self, tab: u8, key: &[u8]) -> Result<bool, KeepError>
         requires table { (1 ≤ tab) × (tab ≤ 15) }
         requires running { self.old.seen.running ≡ true }
-        ensures found { IfOk result (λ found. found ≡ is_some (map.get self.old.seen.kept (tab ∷ key.now))) }
-        ensures kept { OnOk result (self.new.seen.kept ≡ map.remove self.old.seen.kept (tab ∷ key.now)) }
+        ensures found { IfOk result
+            (λ found. found ≡ is_some (map.get self.old.seen.kept (tab ∷ key.now))) }
+        ensures kept { OnOk result
+            (self.new.seen.kept ≡ map.remove self.old.seen.kept (tab ∷ key.now)) }
         ensures writes { RoseBy 1 self.old.seen.writes self.new.seen.writes }
         ensures write { IsWrite self.old.seen self.new.seen result KeepError.Fault }
 
@@ -281,8 +295,10 @@ fn write_to<S: Alter>(
 ) -> Result<(), KeepError>
     ensures file { OnOk result (IsSome conn.old × IsSome conn.new) }
     ensures stays { IsSome conn.old → IsSome conn.new }
-    ensures tied { StoresRows S.Store conn.old store.now.last → OnOk result (StoresRows S.Store conn.new store.now.kept) }
-    ensures crash { StoresRows S.Store conn.old store.now.last → OnErr result (MayStore S.Store conn.new store.now.last store.now.kept) }
+    ensures tied { StoresRows S.Store conn.old store.now.last
+        → OnOk result (StoresRows S.Store conn.new store.now.kept) }
+    ensures crash { StoresRows S.Store conn.old store.now.last
+        → OnErr result (MayStore S.Store conn.new store.now.last store.now.kept) }
 {
     let Some(conn) = conn else {
         return Err(KeepError::Fault);

@@ -30,11 +30,16 @@ pub fn load<S: Alter>(alloc: Global, conn: &mut Connection<S>) -> Result<Store, 
     ensures settled { IfOk result (λ store. store.kept ≡ store.last) }
     ensures fits { IfOk result (λ store. LieInTables store.kept) }
     ensures found { OnOk result (IsBareOrKept (state S.Store conn.old)) }
-    ensures rows { HasCleanDisk (state S.Store conn.new) → IfOk result (λ store. Stores (state S.Store conn.old).now store.kept) }
-    ensures same { HasCleanDisk (state S.Store conn.new) → OnOk result (StaysAs (state S.Store conn.old) (state S.Store conn.new)) }
+    ensures rows { HasCleanDisk (state S.Store conn.new)
+        → IfOk result (λ store. Stores (state S.Store conn.old).now store.kept) }
+    ensures same { HasCleanDisk (state S.Store conn.new)
+        → OnOk result (StaysAs (state S.Store conn.old) (state S.Store conn.new)) }
     ensures survives { Survives (state S.Store conn.old) (state S.Store conn.new) (λ _. ⊥) }
-    ensures tied { HasCleanDisk (state S.Store conn.new) → IsWhole S.Store conn.new → IfOk result (λ store. IsTied (state S.Store conn.new) store.kept) }
-    ensures adopted { HasCleanDisk (state S.Store conn.new) → (HasCleanDisk (state S.Store conn.old) → IsWhole S.Store conn.old) → IfOk result (λ store. IsTied (state S.Store conn.new) store.kept) }
+    ensures tied { HasCleanDisk (state S.Store conn.new) → IsWhole S.Store conn.new
+        → IfOk result (λ store. IsTied (state S.Store conn.new) store.kept) }
+    ensures adopted { HasCleanDisk (state S.Store conn.new)
+        → (HasCleanDisk (state S.Store conn.old) → IsWhole S.Store conn.old)
+        → IfOk result (λ store. IsTied (state S.Store conn.new) store.kept) }
 {
     if !conn.is_autocommit() {
         return Err(KeepError::Fault);
@@ -55,8 +60,10 @@ fn load_found<S: Alter>(
     ensures settled { IfOk result (λ store. store.kept ≡ store.last) }
     ensures fits { IfOk result (λ store. LieInTables store.kept) }
     ensures found { OnOk result (IsBareOrKept (state S.Store conn.old)) }
-    ensures rows { HasCleanDisk (state S.Store conn.new) → IfOk result (λ store. Stores (state S.Store conn.old).now store.kept) }
-    ensures same { HasCleanDisk (state S.Store conn.new) → OnOk result (StaysAs (state S.Store conn.old) (state S.Store conn.new)) }
+    ensures rows { HasCleanDisk (state S.Store conn.new)
+        → IfOk result (λ store. Stores (state S.Store conn.old).now store.kept) }
+    ensures same { HasCleanDisk (state S.Store conn.new)
+        → OnOk result (StaysAs (state S.Store conn.old) (state S.Store conn.new)) }
     ensures survives { Survives (state S.Store conn.old) (state S.Store conn.new) (λ _. ⊥) }
 {
     match found {
@@ -74,8 +81,11 @@ fn read_rows<S: Alter>(alloc: Global, conn: &mut Connection<S>) -> Result<Store,
     requires { (state S.Store conn.old).now.schema ≡ kept_schema }
     ensures settled { IfOk result (λ store. store.kept ≡ store.last) }
     ensures fits { IfOk result (λ store. LieInTables store.kept) }
-    ensures rows { HasCleanDisk (state S.Store conn.new) → IfOk result (λ store. AreRowsOf (map entry ((state S.Store conn.old).now.trees 0)) store.kept) }
-    ensures same { HasCleanDisk (state S.Store conn.new) → OnOk result (IsUnchanged (state S.Store conn.old) (state S.Store conn.new)) }
+    ensures rows { HasCleanDisk (state S.Store conn.new)
+        → IfOk result (λ store. AreRowsOf (map entry ((state S.Store conn.old).now.trees 0))
+        store.kept) }
+    ensures same { HasCleanDisk (state S.Store conn.new)
+        → OnOk result (IsUnchanged (state S.Store conn.old) (state S.Store conn.new)) }
     ensures survives { Survives (state S.Store conn.old) (state S.Store conn.new) (λ _. ⊥) }
 {
     let mut store = Store::new(alloc);
@@ -94,7 +104,8 @@ fn read_rows<S: Alter>(alloc: Global, conn: &mut Connection<S>) -> Result<Store,
 #[tactic(auto, using(bdb_keep::proofs::TableLemmas::put_lies))]
 fn add_row(store: &mut Store, row: &Row, place: &mut Vec<u8>) -> Result<(), Error>
     requires { LieInTables store.old.kept }
-    ensures added { OnOk result (AddsAfter row.now place.old.items place.new.items store.old.kept store.new.kept) }
+    ensures added { OnOk result
+        (AddsAfter row.now place.old.items place.new.items store.old.kept store.new.kept) }
     ensures settled { OnOk result (store.new.kept ≡ store.new.last) }
     ensures fits { OnOk result (LieInTables store.new.kept) }
 {
@@ -128,7 +139,8 @@ fn comes_after(place: &[u8], tab: u8, key: &[u8]) -> bool
 /// What a row of the file stands for: a table, a key and a row; none where it fits no table 1 to 15, or is too long.
 fn entry_of(row: &Row) -> Option<(u8, &[u8], &[u8])>
     ensures some { IfSome result (λ entry. StandsFor row.now entry.0 entry.1.now entry.2.now) }
-    ensures none { IfNone result ((tab : ℕ) (key content : List ℕ) → StandsFor row.now tab key content → ⊥) }
+    ensures none { IfNone result ((tab : ℕ) (key content : List ℕ)
+        → StandsFor row.now tab key content → ⊥) }
 {
     let (Ok(tab), Ok(key), Ok(content)) = (row.get_ref(0), row.get_ref(1), row.get_ref(2)) else {
         return None;

@@ -31,7 +31,8 @@ pub fn clear_tables<K: Keeper>(alloc: Global, keeper: &mut K) -> Result<(), TabE
 fn clear_table<K: Keeper>(alloc: Global, keeper: &mut K, tab: u8) -> Result<(), TabError>
     requires table { (1 ≤ tab) × (tab ≤ 15) }
     requires running { (K.seen keeper.old).running ≡ true }
-    ensures cleared { OnOk result (IsCleared tab (K.seen keeper.old).kept (K.seen keeper.new).kept) }
+    ensures cleared { OnOk result
+        (IsCleared tab (K.seen keeper.old).kept (K.seen keeper.new).kept) }
     ensures tables { OnOk result (LieInTables (K.seen keeper.new).kept) }
     ensures counts { NeverFall (K.seen keeper.old) (K.seen keeper.new) }
     ensures steps { Steps (K.seen keeper.old) (K.seen keeper.new) result TabError.Fault }

@@ -18,7 +18,9 @@ use std::alloc::Global;
 pub fn counts_of<K: Keeper>(alloc: Global, keeper: &mut K) -> Result<Counts, TabError>
     requires base { StoreSome (K.seen keeper.old).kept }
     ensures counts { IfOk result (TellsCounts (K.seen keeper.old).kept) }
-    ensures reads { IfOk result (λ counts. (K.seen keeper.new).reads ≤ (K.seen keeper.old).reads + (2 * counts.worlds + counts.tuples + 2 * counts.rows + 2)) }
+    ensures reads { IfOk result
+        (λ counts. (K.seen keeper.new).reads
+        ≤ (K.seen keeper.old).reads + (2 * counts.worlds + counts.tuples + 2 * counts.rows + 2)) }
     ensures read { IsRead (K.seen keeper.old) (K.seen keeper.new) result TabError.Fault }
 {
     let worlds = match rows_under::<DepthTab, K>(alloc, keeper, &[]) {
@@ -48,8 +50,10 @@ fn count_rows<K: Keeper>(
 ) -> Result<(usize, usize), TabError>
     requires grammar { InGrammar (K.seen keeper.old).kept }
     requires tuples { HaveTuples (K.seen keeper.old).kept }
-    ensures counts { IfOk result (λ counts. CountsRows (K.seen keeper.old).kept worlds.now counts.0 counts.1) }
-    ensures reads { IfOk result (λ counts. counts.1 < 2 ^ 64 - 1 → (K.seen keeper.new).reads ≤ (K.seen keeper.old).reads + (length worlds.now + 2 * counts.1)) }
+    ensures counts { IfOk result
+        (λ counts. CountsRows (K.seen keeper.old).kept worlds.now counts.0 counts.1) }
+    ensures reads { IfOk result (λ counts. counts.1 < 2 ^ 64 - 1 → (K.seen keeper.new).reads
+        ≤ (K.seen keeper.old).reads + (length worlds.now + 2 * counts.1)) }
     ensures reading { OnlyReads (K.seen keeper.old) (K.seen keeper.new) result TabError.Fault }
 {
     let mut stmts: usize = 0;

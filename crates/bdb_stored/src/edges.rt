@@ -25,10 +25,13 @@ pub fn edges_of<K: Keeper>(
 ) -> Result<List<CanonEdge>, TabError>
     requires grammar { InGrammar (K.seen keeper.old).kept }
     requires worlds { TellsStates (K.seen keeper.old).kept worlds.now }
-    requires users { IsPartOf (λ b. user_numbers b.catalog.users) (K.seen keeper.old).kept users.now }
+    requires users { IsPartOf (λ b. user_numbers b.catalog.users)
+        (K.seen keeper.old).kept users.now }
     requires few { length worlds.now < 2 ^ 32 }
     ensures edges { IfOk result (IsPartOf edges_of (K.seen keeper.old).kept) }
-    ensures reads { OnOk result ((K.seen keeper.new).reads ≤ (K.seen keeper.old).reads + length worlds.now * length users.now) }
+    ensures reads { OnOk result
+        ((K.seen keeper.new).reads
+        ≤ (K.seen keeper.old).reads + length worlds.now * length users.now) }
     ensures reading { OnlyReads (K.seen keeper.old) (K.seen keeper.new) result TabError.Fault }
 {
     let mut edges = Vec::new(alloc);
@@ -59,8 +62,11 @@ fn edges_from<K: Keeper>(
 ) -> Result<Vec<CanonEdge>, TabError>
     requires grammar { InGrammar (K.seen keeper.old).kept }
     requires few { length worlds.now < 2 ^ 32 }
-    ensures edges { IfOk result (λ edges. TellsEdges (K.seen keeper.old).kept worlds.now world.now from users.now edges.items) }
-    ensures reads { OnOk result ((K.seen keeper.new).reads ≤ (K.seen keeper.old).reads + length users.now) }
+    ensures edges { IfOk result
+        (λ edges.
+        TellsEdges (K.seen keeper.old).kept worlds.now world.now from users.now edges.items) }
+    ensures reads { OnOk result
+        ((K.seen keeper.new).reads ≤ (K.seen keeper.old).reads + length users.now) }
     ensures reading { OnlyReads (K.seen keeper.old) (K.seen keeper.new) result TabError.Fault }
 {
     let mut edges = Vec::new(alloc);

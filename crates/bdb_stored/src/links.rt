@@ -25,7 +25,8 @@ pub fn worlds_with_links<K: Keeper>(
     requires worlds { TellsStates (K.seen keeper.old).kept worlds.now }
     requires few { length worlds.now < 2 ^ 32 }
     ensures linked { IfOk result (IsPartOf worlds_with_links (K.seen keeper.old).kept) }
-    ensures reads { OnOk result ((K.seen keeper.new).reads ≤ (K.seen keeper.old).reads + length worlds.now) }
+    ensures reads { OnOk result
+        ((K.seen keeper.new).reads ≤ (K.seen keeper.old).reads + length worlds.now) }
     ensures reading { OnlyReads (K.seen keeper.old) (K.seen keeper.new) result TabError.Fault }
 {
     let mut linked = List::new(alloc);

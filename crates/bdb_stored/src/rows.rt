@@ -33,7 +33,9 @@ pub fn rows_of<K: Keeper>(
     requires few_worlds { length worlds.now < 2 ^ 32 }
     requires few_tuples { length tuples.now < 2 ^ 32 }
     ensures rows { IfOk result (IsPartOf rows_of (K.seen keeper.old).kept) }
-    ensures reads { IfOk result (λ rows. (K.seen keeper.new).reads ≤ (K.seen keeper.old).reads + (length worlds.now + 2 * length rows)) }
+    ensures reads { IfOk result
+        (λ rows. (K.seen keeper.new).reads
+        ≤ (K.seen keeper.old).reads + (length worlds.now + 2 * length rows)) }
     ensures reading { OnlyReads (K.seen keeper.old) (K.seen keeper.new) result TabError.Fault }
 {
     let mut rows = List::new(alloc);

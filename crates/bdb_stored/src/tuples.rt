@@ -16,7 +16,8 @@ use std::alloc::{AllocError, Global};
 pub fn tuples_in_order<K: Keeper>(alloc: Global, keeper: &mut K) -> Result<List<Tuple>, TabError>
     requires base { StoreSome (K.seen keeper.old).kept }
     ensures tuples { IfOk result (IsPartOf (λ b. tuples_of b.stmts) (K.seen keeper.old).kept) }
-    ensures reads { IfOk result (λ tuples. (K.seen keeper.new).reads ≤ (K.seen keeper.old).reads + (length tuples + 1)) }
+    ensures reads { IfOk result
+        (λ tuples. (K.seen keeper.new).reads ≤ (K.seen keeper.old).reads + (length tuples + 1)) }
     ensures read { IsRead (K.seen keeper.old) (K.seen keeper.new) result TabError.Fault }
 {
     let rows = match rows_under::<TupleTab, K>(alloc, keeper, &[]) {
@@ -34,7 +35,8 @@ pub fn tuples_in_order<K: Keeper>(alloc: Global, keeper: &mut K) -> Result<List<
 
 // The set of the tuples of rows.
 fn set_of(alloc: Global, rows: &[(u32, Tuple)]) -> Result<List<Tuple>, AllocError>
-    ensures { IfOk result (λ tuples. tuples ≡ sorted_set tuple_cmp (map (λ (e : ℕ × Tuple). e.1) rows.now)) }
+    ensures { IfOk result
+        (λ tuples. tuples ≡ sorted_set tuple_cmp (map (λ (e : ℕ × Tuple). e.1) rows.now)) }
 {
     let mut tuples = List::new(alloc);
     for row in rows {

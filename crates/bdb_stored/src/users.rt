@@ -13,7 +13,8 @@ use std::alloc::{AllocError, Global};
 /// The numbers of the live users, in order. One read for each place of a user, also of one who is gone, and one more.
 pub fn user_numbers<K: Keeper>(alloc: Global, keeper: &mut K) -> Result<Vec<u32>, TabError>
     requires base { StoreSome (K.seen keeper.old).kept }
-    ensures numbers { IfOk result (λ numbers. IsPartOf (λ b. user_numbers b.catalog.users) (K.seen keeper.old).kept numbers.items) }
+    ensures numbers { IfOk result (λ numbers. IsPartOf (λ b. user_numbers b.catalog.users)
+        (K.seen keeper.old).kept numbers.items) }
     ensures reads { OnOk result (ReadsPlaces (K.seen keeper.old) (K.seen keeper.new)) }
     ensures read { IsRead (K.seen keeper.old) (K.seen keeper.new) result TabError.Fault }
 {

@@ -23,9 +23,13 @@ pub fn worlds_in_order<K: Keeper>(
     users: &[u32],
 ) -> Result<Vec<NamedWorld>, TabError>
     requires base { StoreSome (K.seen keeper.old).kept }
-    requires users { IsPartOf (λ b. user_numbers b.catalog.users) (K.seen keeper.old).kept users.now }
+    requires users { IsPartOf (λ b. user_numbers b.catalog.users)
+        (K.seen keeper.old).kept users.now }
     ensures worlds { IfOk result (λ worlds. TellsStates (K.seen keeper.old).kept worlds.items) }
-    ensures reads { IfOk result (λ worlds. (K.seen keeper.new).reads ≤ (K.seen keeper.old).reads + (length worlds.items + 1 + length worlds.items * (2 * length users.now))) }
+    ensures reads { IfOk result
+        (λ worlds. (K.seen keeper.new).reads
+        ≤ (K.seen keeper.old).reads
+        + (length worlds.items + 1 + length worlds.items * (2 * length users.now))) }
     ensures read { IsRead (K.seen keeper.old) (K.seen keeper.new) result TabError.Fault }
 {
     let depths = match rows_under::<DepthTab, K>(alloc, keeper, &[]) {
@@ -46,10 +50,12 @@ fn grow<K: Keeper>(
     count: usize,
 ) -> Result<Vec<NamedWorld>, TabError>
     requires base { StoreSome (K.seen keeper.old).kept }
-    requires users { IsPartOf (λ b. user_numbers b.catalog.users) (K.seen keeper.old).kept users.now }
+    requires users { IsPartOf (λ b. user_numbers b.catalog.users)
+        (K.seen keeper.old).kept users.now }
     requires count { IsPartOf (λ b. length (states_of b.stmts)) (K.seen keeper.old).kept count }
     ensures worlds { IfOk result (λ worlds. TellsStates (K.seen keeper.old).kept worlds.items) }
-    ensures reads { OnOk result ((K.seen keeper.new).reads ≤ (K.seen keeper.old).reads + count * (2 * length users.now)) }
+    ensures reads { OnOk result
+        ((K.seen keeper.new).reads ≤ (K.seen keeper.old).reads + count * (2 * length users.now)) }
     ensures reading { OnlyReads (K.seen keeper.old) (K.seen keeper.new) result TabError.Fault }
 {
     let mut worlds = match root_alone(alloc) {
@@ -95,8 +101,10 @@ fn children_of<K: Keeper>(
     users: &[u32],
 ) -> Result<Vec<NamedWorld>, TabError>
     requires grammar { InGrammar (K.seen keeper.old).kept }
-    ensures children { IfOk result (λ children. TellsChildren (K.seen keeper.old).kept world.now users.now children.items) }
-    ensures reads { OnOk result ((K.seen keeper.new).reads ≤ (K.seen keeper.old).reads + 2 * length users.now) }
+    ensures children { IfOk result
+        (λ children. TellsChildren (K.seen keeper.old).kept world.now users.now children.items) }
+    ensures reads { OnOk result
+        ((K.seen keeper.new).reads ≤ (K.seen keeper.old).reads + 2 * length users.now) }
     ensures reading { OnlyReads (K.seen keeper.old) (K.seen keeper.new) result TabError.Fault }
 {
     let mut children = Vec::new(alloc);

@@ -71,7 +71,8 @@ fn write_catalog<K: Keeper>(
     requires running { (K.seen keeper.old).running ≡ true }
     requires none { HaveNoRows (K.seen keeper.old).kept }
     requires catalog { IsCatalog catalog.now }
-    ensures stored { OnOk result (StoresValid (K.seen keeper.new).kept (base_of catalog.now.users catalog.now.rels [])) }
+    ensures stored { OnOk result
+        (StoresValid (K.seen keeper.new).kept (base_of catalog.now.users catalog.now.rels [])) }
     ensures counts { NeverFall (K.seen keeper.old) (K.seen keeper.new) }
     ensures steps { Steps (K.seen keeper.old) (K.seen keeper.new) result TabError.Fault }
 {
@@ -94,7 +95,8 @@ fn write_users<K: Keeper>(alloc: Global, keeper: &mut K, catalog: &Catalog) -> R
     requires running { (K.seen keeper.old).running ≡ true }
     requires catalog { IsCatalog catalog.now }
     requires base { Stores (K.seen keeper.old).kept empty_contents }
-    ensures stored { OnOk result (StoresValid (K.seen keeper.new).kept (base_of catalog.now.users [] [])) }
+    ensures stored { OnOk result
+        (StoresValid (K.seen keeper.new).kept (base_of catalog.now.users [] [])) }
     ensures counts { NeverFall (K.seen keeper.old) (K.seen keeper.new) }
     ensures steps { Steps (K.seen keeper.old) (K.seen keeper.new) result TabError.Fault }
 {
@@ -117,7 +119,8 @@ fn write_place<K: Keeper>(
 ) -> Result<(), TabError>
     requires running { (K.seen keeper.old).running ≡ true }
     requires base { SomeMayAddPlace (K.seen keeper.old).kept uid slot.now }
-    ensures added { OnOk result (AddsPlace (K.seen keeper.old).kept (K.seen keeper.new).kept uid slot.now) }
+    ensures added { OnOk result
+        (AddsPlace (K.seen keeper.old).kept (K.seen keeper.new).kept uid slot.now) }
     ensures counts { NeverFall (K.seen keeper.old) (K.seen keeper.new) }
     ensures steps { Steps (K.seen keeper.old) (K.seen keeper.new) result TabError.Fault }
 {
@@ -142,7 +145,8 @@ fn write_relations<K: Keeper>(
     requires running { (K.seen keeper.old).running ≡ true }
     requires catalog { IsCatalog catalog.now }
     requires base { StoresValid (K.seen keeper.old).kept (base_of catalog.now.users [] []) }
-    ensures stored { OnOk result (StoresValid (K.seen keeper.new).kept (base_of catalog.now.users catalog.now.rels [])) }
+    ensures stored { OnOk result
+        (StoresValid (K.seen keeper.new).kept (base_of catalog.now.users catalog.now.rels [])) }
     ensures counts { NeverFall (K.seen keeper.old) (K.seen keeper.new) }
     ensures steps { Steps (K.seen keeper.old) (K.seen keeper.new) result TabError.Fault }
 {
@@ -159,7 +163,8 @@ fn write_relations<K: Keeper>(
 // Adds the statements to the base that has the catalog alone.
 fn write_statements<K: Keeper>(alloc: Global, keeper: &mut K, base: &Base) -> Result<(), TabError>
     requires running { (K.seen keeper.old).running ≡ true }
-    requires base { StoresValid (K.seen keeper.old).kept (base_of base.now.catalog.users base.now.catalog.rels []) }
+    requires base { StoresValid (K.seen keeper.old).kept
+        (base_of base.now.catalog.users base.now.catalog.rels []) }
     ensures stored { OnOk result (StoresValid (K.seen keeper.new).kept base.now) }
     ensures counts { NeverFall (K.seen keeper.old) (K.seen keeper.new) }
     ensures steps { Steps (K.seen keeper.old) (K.seen keeper.new) result TabError.Fault }
@@ -188,7 +193,9 @@ fn add_next<K: Keeper>(
 ) -> Result<(), TabError>
     requires running { (K.seen keeper.old).running ≡ true }
     requires base { SomeMayFollow (K.seen keeper.old).kept counts.old stmt.now }
-    ensures added { OnOk result (AddsNext (K.seen keeper.old).kept (K.seen keeper.new).kept counts.old counts.new stmt.now) }
+    ensures added { OnOk result
+        (AddsNext (K.seen keeper.old).kept
+        (K.seen keeper.new).kept counts.old counts.new stmt.now) }
     ensures counts { NeverFall (K.seen keeper.old) (K.seen keeper.new) }
     ensures steps { Steps (K.seen keeper.old) (K.seen keeper.new) result TabError.Fault }
 {

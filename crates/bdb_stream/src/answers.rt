@@ -25,14 +25,18 @@ pub fn answer<O: Sink, K: Keeper>(
 ) -> Result<bool, Stop>
     requires still { IsStill (K.seen keeper.old) }
     requires agrees { RemembersSome (K.seen keeper.old).kept session.old }
-    ensures answered { (s : Timeline) → Remembers (K.seen keeper.old).kept session.old s → IsAnswer s event.now session.new (K.seen keeper.old) (K.seen keeper.new) (O.written out.old) (O.written out.new) result }
+    ensures answered { (s : Timeline) → Remembers (K.seen keeper.old).kept session.old s
+        → IsAnswer s event.now session.new (K.seen keeper.old) (K.seen keeper.new)
+        (O.written out.old) (O.written out.new) result }
     ensures still { IsStill (K.seen keeper.new) }
     ensures agrees { RemembersSome (K.seen keeper.new).kept session.new }
     ensures never_fall { NeverFall (K.seen keeper.old) (K.seen keeper.new) }
-    ensures keeper { HasCause (K.seen keeper.old).faults (K.seen keeper.new).faults result Stop.Keeper }
+    ensures keeper { HasCause (K.seen keeper.old).faults
+        (K.seen keeper.new).faults result Stop.Keeper }
     ensures later { O.faults out.old ≤ O.faults out.new }
     ensures sink { IsErrOf result Stop.Sink → Rose (O.faults out.old) (O.faults out.new) }
-    ensures others { OnErr result ((IsErrOf result Stop.Source → ⊥) × (IsErrOf result Stop.Large → ⊥)) }
+    ensures others { OnErr result ((IsErrOf result Stop.Source → ⊥)
+        × (IsErrOf result Stop.Large → ⊥)) }
 {
     let reply = match session.answer(keeper, event) {
         Ok(reply) => reply,
@@ -54,14 +58,18 @@ pub fn answer_piece<O: Sink, K: Keeper>(
 ) -> Result<bool, Stop>
     requires still { IsStill (K.seen keeper.old) }
     requires agrees { RemembersSome (K.seen keeper.old).kept session.old }
-    ensures answered { (s : Timeline) → Remembers (K.seen keeper.old).kept session.old s → IsAnswer s (event_of piece.now) session.new (K.seen keeper.old) (K.seen keeper.new) (O.written out.old) (O.written out.new) result }
+    ensures answered { (s : Timeline) → Remembers (K.seen keeper.old).kept session.old s
+        → IsAnswer s (event_of piece.now) session.new (K.seen keeper.old) (K.seen keeper.new)
+        (O.written out.old) (O.written out.new) result }
     ensures still { IsStill (K.seen keeper.new) }
     ensures agrees { RemembersSome (K.seen keeper.new).kept session.new }
     ensures never_fall { NeverFall (K.seen keeper.old) (K.seen keeper.new) }
-    ensures keeper { HasCause (K.seen keeper.old).faults (K.seen keeper.new).faults result Stop.Keeper }
+    ensures keeper { HasCause (K.seen keeper.old).faults
+        (K.seen keeper.new).faults result Stop.Keeper }
     ensures later { O.faults out.old ≤ O.faults out.new }
     ensures sink { IsErrOf result Stop.Sink → Rose (O.faults out.old) (O.faults out.new) }
-    ensures others { OnErr result ((IsErrOf result Stop.Source → ⊥) × (IsErrOf result Stop.Large → ⊥)) }
+    ensures others { OnErr result ((IsErrOf result Stop.Source → ⊥)
+        × (IsErrOf result Stop.Large → ⊥)) }
 {
     match piece {
         Piece::Cmd(bytes) => match answer_command(session, keeper, out, bytes.as_slice()) {
@@ -84,14 +92,18 @@ fn answer_command<O: Sink, K: Keeper>(
 ) -> Result<bool, Stop>
     requires still { IsStill (K.seen keeper.old) }
     requires agrees { RemembersSome (K.seen keeper.old).kept session.old }
-    ensures answered { (s : Timeline) → Remembers (K.seen keeper.old).kept session.old s → IsAnswer s (event.Piece bytes.now) session.new (K.seen keeper.old) (K.seen keeper.new) (O.written out.old) (O.written out.new) result }
+    ensures answered { (s : Timeline) → Remembers (K.seen keeper.old).kept session.old s
+        → IsAnswer s (event.Piece bytes.now) session.new (K.seen keeper.old) (K.seen keeper.new)
+        (O.written out.old) (O.written out.new) result }
     ensures still { IsStill (K.seen keeper.new) }
     ensures agrees { RemembersSome (K.seen keeper.new).kept session.new }
     ensures never_fall { NeverFall (K.seen keeper.old) (K.seen keeper.new) }
-    ensures keeper { HasCause (K.seen keeper.old).faults (K.seen keeper.new).faults result Stop.Keeper }
+    ensures keeper { HasCause (K.seen keeper.old).faults
+        (K.seen keeper.new).faults result Stop.Keeper }
     ensures later { O.faults out.old ≤ O.faults out.new }
     ensures sink { IsErrOf result Stop.Sink → Rose (O.faults out.old) (O.faults out.new) }
-    ensures others { OnErr result ((IsErrOf result Stop.Source → ⊥) × (IsErrOf result Stop.Large → ⊥)) }
+    ensures others { OnErr result ((IsErrOf result Stop.Source → ⊥)
+        × (IsErrOf result Stop.Large → ⊥)) }
 {
     let reply = match session.apply(keeper, bytes) {
         Ok(reply) => reply,

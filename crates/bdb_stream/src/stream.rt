@@ -34,19 +34,28 @@ pub fn carry_out_script<S: Source, O: Sink, K: Keeper>(
 ) -> Result<bool, Stop>
     requires still { IsStill (K.seen keeper.old) }
     requires agrees { RemembersSome (K.seen keeper.old).kept session.old }
-    ensures streams { (s : Timeline) → Remembers (K.seen keeper.old).kept session.old s → Streams s (S.left script.old) (S.left script.new) session.new (K.seen keeper.old) (K.seen keeper.new) (O.written out.old) (O.written out.new) result }
+    ensures streams { (s : Timeline) → Remembers (K.seen keeper.old).kept session.old s
+        → Streams s (S.left script.old) (S.left script.new) session.new (K.seen keeper.old)
+        (K.seen keeper.new) (O.written out.old) (O.written out.new) result }
     ensures end { OnOk result (IsAtEnd (S.left script.new)) }
-    ensures short { OnOk result (IfSome (S.left script.old) (λ text. length text ≤ longest_script)) }
+    ensures short { OnOk result
+        (IfSome (S.left script.old) (λ text. length text ≤ longest_script)) }
     ensures still { IsStill (K.seen keeper.new) }
     ensures agrees { RemembersSome (K.seen keeper.new).kept session.new }
     ensures source { IsErrOf result Stop.Source → Rose (S.faults script.old) (S.faults script.new) }
     ensures sink { IsErrOf result Stop.Sink → Rose (O.faults out.old) (O.faults out.new) }
-    ensures keeper { IsErrOf result Stop.Keeper → Rose (K.seen keeper.old).faults (K.seen keeper.new).faults }
-    ensures large { IsErrOf result Stop.Large → RisesOver longest_script (S.given script.old) (S.given script.new) }
-    ensures many { IsErrOf result Stop.Large → IfSome (S.left script.old) (λ text. longest_script < length text) }
-    ensures within { (IsErrOf result Stop.Large → ⊥) → (n : ℕ) × (n ≤ longest_script) × Rises n (S.given script.old) (S.given script.new) }
-    ensures one_more { IsErrOf result Stop.Large → Rises (longest_script + 1) (S.given script.old) (S.given script.new) }
-    ensures source_counts { (S.faults script.old ≤ S.faults script.new) × (S.given script.old ≤ S.given script.new) }
+    ensures keeper { IsErrOf result Stop.Keeper → Rose (K.seen keeper.old).faults
+        (K.seen keeper.new).faults }
+    ensures large { IsErrOf result Stop.Large → RisesOver longest_script (S.given script.old)
+        (S.given script.new) }
+    ensures many { IsErrOf result Stop.Large → IfSome (S.left script.old)
+        (λ text. longest_script < length text) }
+    ensures within { (IsErrOf result Stop.Large → ⊥) → (n : ℕ) × (n ≤ longest_script)
+        × Rises n (S.given script.old) (S.given script.new) }
+    ensures one_more { IsErrOf result Stop.Large → Rises (longest_script + 1) (S.given script.old)
+        (S.given script.new) }
+    ensures source_counts { (S.faults script.old ≤ S.faults script.new)
+        × (S.given script.old ≤ S.given script.new) }
     ensures sink_count { O.faults out.old ≤ O.faults out.new }
     ensures keeper_counts { NeverFall (K.seen keeper.old) (K.seen keeper.new) }
 {
@@ -101,14 +110,18 @@ fn answer_block<O: Sink, K: Keeper>(
     requires still { IsStill (K.seen keeper.old) }
     requires agrees { RemembersSome (K.seen keeper.old).kept session.old }
     ensures cutter { OnOk result (cutter.new ≡ ready (state_after cutter.old.state block.now)) }
-    ensures ends { (s : Timeline) → Remembers (K.seen keeper.old).kept session.old s → Ends s (map event_of (pieces_from cutter.old.state block.now)) session.new (K.seen keeper.old) (K.seen keeper.new) (O.written out.old) (O.written out.new) result }
+    ensures ends { (s : Timeline) → Remembers (K.seen keeper.old).kept session.old s
+        → Ends s (map event_of (pieces_from cutter.old.state block.now)) session.new
+        (K.seen keeper.old) (K.seen keeper.new) (O.written out.old) (O.written out.new) result }
     ensures still { IsStill (K.seen keeper.new) }
     ensures agrees { RemembersSome (K.seen keeper.new).kept session.new }
     ensures never_fall { NeverFall (K.seen keeper.old) (K.seen keeper.new) }
-    ensures keeper { HasCause (K.seen keeper.old).faults (K.seen keeper.new).faults result Stop.Keeper }
+    ensures keeper { HasCause (K.seen keeper.old).faults
+        (K.seen keeper.new).faults result Stop.Keeper }
     ensures later { O.faults out.old ≤ O.faults out.new }
     ensures sink { IsErrOf result Stop.Sink → Rose (O.faults out.old) (O.faults out.new) }
-    ensures others { OnErr result ((IsErrOf result Stop.Source → ⊥) × (IsErrOf result Stop.Large → ⊥)) }
+    ensures others { OnErr result ((IsErrOf result Stop.Source → ⊥)
+        × (IsErrOf result Stop.Large → ⊥)) }
 {
     let mut rest = block;
     let mut accepted = true;
@@ -136,14 +149,18 @@ fn answer_rest<O: Sink, K: Keeper>(
 ) -> Result<bool, Stop>
     requires still { IsStill (K.seen keeper.old) }
     requires agrees { RemembersSome (K.seen keeper.old).kept session.old }
-    ensures ends { (s : Timeline) → Remembers (K.seen keeper.old).kept session.old s → Ends s (rest_events rest) session.new (K.seen keeper.old) (K.seen keeper.new) (O.written out.old) (O.written out.new) result }
+    ensures ends { (s : Timeline) → Remembers (K.seen keeper.old).kept session.old s
+        → Ends s (rest_events rest) session.new (K.seen keeper.old) (K.seen keeper.new)
+        (O.written out.old) (O.written out.new) result }
     ensures still { IsStill (K.seen keeper.new) }
     ensures agrees { RemembersSome (K.seen keeper.new).kept session.new }
     ensures never_fall { NeverFall (K.seen keeper.old) (K.seen keeper.new) }
-    ensures keeper { HasCause (K.seen keeper.old).faults (K.seen keeper.new).faults result Stop.Keeper }
+    ensures keeper { HasCause (K.seen keeper.old).faults
+        (K.seen keeper.new).faults result Stop.Keeper }
     ensures later { O.faults out.old ≤ O.faults out.new }
     ensures sink { IsErrOf result Stop.Sink → Rose (O.faults out.old) (O.faults out.new) }
-    ensures others { OnErr result ((IsErrOf result Stop.Source → ⊥) × (IsErrOf result Stop.Large → ⊥)) }
+    ensures others { OnErr result ((IsErrOf result Stop.Source → ⊥)
+        × (IsErrOf result Stop.Large → ⊥)) }
 {
     match rest {
         Rest::Nothing => Ok(true),

@@ -84,7 +84,8 @@ fn append_create_relation(
     cols: &List<ColDef>,
     key: Option<i64>,
 ) -> Result<(), AllocError>
-    ensures { OnOk result (out.new.items ≡ out.old.items ++ printed (Command.CreateRelation name.now cols.now key)) }
+    ensures { OnOk result
+        (out.new.items ≡ out.old.items ++ printed (Command.CreateRelation name.now cols.now key)) }
 {
     append_columns(out, name, cols)?;
     append_key(out, key)
@@ -122,7 +123,9 @@ fn append_insert(
     rel: &Txt,
     vals: &List<Value>,
 ) -> Result<(), AllocError>
-    ensures { OnOk result (out.new.items ≡ out.old.items ++ printed (Command.Insert users.now sign rel.now vals.now)) }
+    ensures { OnOk result
+        (out.new.items ≡ out.old.items ++ printed
+        (Command.Insert users.now sign rel.now vals.now)) }
 {
     out.extend_from_slice(b"insert into")?;
     append_signed(out, users, sign, rel, vals)
@@ -135,7 +138,8 @@ fn append_why(
     rel: &Txt,
     vals: &List<Value>,
 ) -> Result<(), AllocError>
-    ensures { OnOk result (out.new.items ≡ out.old.items ++ printed (Command.Why users.now sign rel.now vals.now)) }
+    ensures { OnOk result
+        (out.new.items ≡ out.old.items ++ printed (Command.Why users.now sign rel.now vals.now)) }
 {
     out.extend_from_slice(b"why")?;
     append_signed(out, users, sign, rel, vals)
@@ -149,7 +153,8 @@ fn append_signed(
     rel: &Txt,
     vals: &List<Value>,
 ) -> Result<(), AllocError>
-    ensures { OnOk result (out.new.items ≡ out.old.items ++ signed_text users.now sign rel.now vals.now) }
+    ensures { OnOk result
+        (out.new.items ≡ out.old.items ++ signed_text users.now sign rel.now vals.now) }
 {
     append_target(out, users, sign, rel)?;
     append_values(out, vals)
@@ -172,7 +177,9 @@ fn append_delete(
     rel: &Txt,
     conds: &List<RawCond>,
 ) -> Result<(), AllocError>
-    ensures { OnOk result (out.new.items ≡ out.old.items ++ printed (Command.Delete users.now sign rel.now conds.now)) }
+    ensures { OnOk result
+        (out.new.items ≡ out.old.items ++ printed
+        (Command.Delete users.now sign rel.now conds.now)) }
 {
     out.extend_from_slice(b"delete from")?;
     append_target(out, users, sign, rel)?;
@@ -187,7 +194,9 @@ fn append_update(
     sets: &List<RawSet>,
     conds: &List<RawCond>,
 ) -> Result<(), AllocError>
-    ensures { OnOk result (out.new.items ≡ out.old.items ++ printed (Command.Update users.now sign rel.now sets.now conds.now)) }
+    ensures { OnOk result
+        (out.new.items ≡ out.old.items ++ printed
+        (Command.Update users.now sign rel.now sets.now conds.now)) }
 {
     out.extend_from_slice(b"update")?;
     append_target(out, users, sign, rel)?;

@@ -77,7 +77,8 @@ pub fn next<T: Tab, K: Keeper>(
 ) -> Result<Option<(T::Key, T::Row)>, TabError>
     requires grammar { TableFits T.codec (K.seen keeper.old).kept }
     requires low { T.codec.MayBeKey low.now }
-    ensures found { IfOk result (HasFirst T.codec (K.seen keeper.old).kept (λ key. is_le (T.codec.key_cmp low.now key))) }
+    ensures found { IfOk result
+        (HasFirst T.codec (K.seen keeper.old).kept (λ key. is_le (T.codec.key_cmp low.now key))) }
     ensures reads { OnOk result (RoseBy 1 (K.seen keeper.old).reads (K.seen keeper.new).reads) }
     ensures read { IsRead (K.seen keeper.old) (K.seen keeper.new) result TabError.Fault }
 {
@@ -97,7 +98,8 @@ pub fn next_in<T: Tab, K: Keeper>(
 ) -> Result<Option<(T::Key, T::Row)>, TabError>
     requires grammar { TableFits T.codec (K.seen keeper.old).kept }
     requires low { T.codec.MayBeKey low.now }
-    ensures found { IfOk result (HasFirst T.codec (K.seen keeper.old).kept (λ key. is_le (T.codec.key_cmp low.now key))) }
+    ensures found { IfOk result
+        (HasFirst T.codec (K.seen keeper.old).kept (λ key. is_le (T.codec.key_cmp low.now key))) }
     ensures reads { OnOk result (RoseBy 1 (K.seen keeper.old).reads (K.seen keeper.new).reads) }
     ensures read { IsRead (K.seen keeper.old) (K.seen keeper.new) result TabError.Fault }
 {
@@ -120,7 +122,8 @@ pub fn after<T: Tab, K: Keeper>(
 ) -> Result<Option<(T::Key, T::Row)>, TabError>
     requires grammar { TableFits T.codec (K.seen keeper.old).kept }
     requires key { T.codec.MayBeKey key.now }
-    ensures found { IfOk result (HasFirst T.codec (K.seen keeper.old).kept (λ q. is_lt (T.codec.key_cmp key.now q))) }
+    ensures found { IfOk result
+        (HasFirst T.codec (K.seen keeper.old).kept (λ q. is_lt (T.codec.key_cmp key.now q))) }
     ensures reads { OnOk result (RoseBy 1 (K.seen keeper.old).reads (K.seen keeper.new).reads) }
     ensures read { IsRead (K.seen keeper.old) (K.seen keeper.new) result TabError.Fault }
 {
@@ -144,10 +147,12 @@ pub fn put<T: Tab, K: Keeper>(
     requires running { (K.seen keeper.old).running ≡ true }
     requires key { T.codec.MayBeKey key.now }
     requires row { T.codec.MayBeRow row.now }
-    ensures kept { OnOk result ((K.seen keeper.new).kept ≡ map.insert (K.seen keeper.old).kept (place T.codec key.now) (T.codec.row_bytes row.now)) }
+    ensures kept { OnOk result ((K.seen keeper.new).kept ≡ map.insert (K.seen keeper.old).kept
+        (place T.codec key.now) (T.codec.row_bytes row.now)) }
     ensures key_fits { OnOk result (T.codec.IsKey key.now) }
     ensures row_fits { OnOk result (T.codec.IsRow row.now) }
-    ensures grammar { OnOk result (InGrammar (K.seen keeper.old).kept → InGrammar (K.seen keeper.new).kept) }
+    ensures grammar { OnOk result (InGrammar (K.seen keeper.old).kept
+        → InGrammar (K.seen keeper.new).kept) }
     ensures writes { OnOk result (RoseBy 1 (K.seen keeper.old).writes (K.seen keeper.new).writes) }
     ensures write { IsWrite (K.seen keeper.old) (K.seen keeper.new) result TabError.Fault }
 {
@@ -168,10 +173,12 @@ pub fn put_in<T: Tab, K: Keeper>(
     requires running { (K.seen keeper.old).running ≡ true }
     requires key { T.codec.MayBeKey key.now }
     requires row { T.codec.MayBeRow row.now }
-    ensures kept { OnOk result ((K.seen keeper.new).kept ≡ map.insert (K.seen keeper.old).kept (place T.codec key.now) (T.codec.row_bytes row.now)) }
+    ensures kept { OnOk result ((K.seen keeper.new).kept ≡ map.insert (K.seen keeper.old).kept
+        (place T.codec key.now) (T.codec.row_bytes row.now)) }
     ensures key_fits { OnOk result (T.codec.IsKey key.now) }
     ensures row_fits { OnOk result (T.codec.IsRow row.now) }
-    ensures grammar { OnOk result (InGrammar (K.seen keeper.old).kept → InGrammar (K.seen keeper.new).kept) }
+    ensures grammar { OnOk result (InGrammar (K.seen keeper.old).kept
+        → InGrammar (K.seen keeper.new).kept) }
     ensures writes { OnOk result (RoseBy 1 (K.seen keeper.old).writes (K.seen keeper.new).writes) }
     ensures write { IsWrite (K.seen keeper.old) (K.seen keeper.new) result TabError.Fault }
 {
@@ -193,10 +200,13 @@ pub fn drop_row<T: Tab, K: Keeper>(
 ) -> Result<bool, TabError>
     requires running { (K.seen keeper.old).running ≡ true }
     requires key { T.codec.MayBeKey key.now }
-    ensures found { IfOk result (λ found. found ≡ is_some (map.get (K.seen keeper.old).kept (place T.codec key.now))) }
-    ensures kept { OnOk result ((K.seen keeper.new).kept ≡ map.remove (K.seen keeper.old).kept (place T.codec key.now)) }
+    ensures found { IfOk result
+        (λ found. found ≡ is_some (map.get (K.seen keeper.old).kept (place T.codec key.now))) }
+    ensures kept { OnOk result ((K.seen keeper.new).kept ≡ map.remove (K.seen keeper.old).kept
+        (place T.codec key.now)) }
     ensures key_fits { OnOk result (T.codec.IsKey key.now) }
-    ensures grammar { OnOk result (InGrammar (K.seen keeper.old).kept → InGrammar (K.seen keeper.new).kept) }
+    ensures grammar { OnOk result (InGrammar (K.seen keeper.old).kept
+        → InGrammar (K.seen keeper.new).kept) }
     ensures writes { OnOk result (RoseBy 1 (K.seen keeper.old).writes (K.seen keeper.new).writes) }
     ensures write { IsWrite (K.seen keeper.old) (K.seen keeper.new) result TabError.Fault }
 {
@@ -215,10 +225,13 @@ pub fn drop_in<T: Tab, K: Keeper>(
 ) -> Result<bool, TabError>
     requires running { (K.seen keeper.old).running ≡ true }
     requires key { T.codec.MayBeKey key.now }
-    ensures found { IfOk result (λ found. found ≡ is_some (map.get (K.seen keeper.old).kept (place T.codec key.now))) }
-    ensures kept { OnOk result ((K.seen keeper.new).kept ≡ map.remove (K.seen keeper.old).kept (place T.codec key.now)) }
+    ensures found { IfOk result
+        (λ found. found ≡ is_some (map.get (K.seen keeper.old).kept (place T.codec key.now))) }
+    ensures kept { OnOk result ((K.seen keeper.new).kept ≡ map.remove (K.seen keeper.old).kept
+        (place T.codec key.now)) }
     ensures key_fits { OnOk result (T.codec.IsKey key.now) }
-    ensures grammar { OnOk result (InGrammar (K.seen keeper.old).kept → InGrammar (K.seen keeper.new).kept) }
+    ensures grammar { OnOk result (InGrammar (K.seen keeper.old).kept
+        → InGrammar (K.seen keeper.new).kept) }
     ensures writes { OnOk result (RoseBy 1 (K.seen keeper.old).writes (K.seen keeper.new).writes) }
     ensures write { IsWrite (K.seen keeper.old) (K.seen keeper.new) result TabError.Fault }
 {
@@ -262,7 +275,8 @@ fn first_from<T: Tab, K: Keeper>(
 // The bytes that come right behind those of a key.
 fn behind<T: Tab>(key: &T::Key, out: &mut Vec<u8>) -> Result<(), AllocError>
     requires { T.codec.MayBeKey key.now }
-    ensures ok { OnOk result (out.new.items ≡ out.old.items ++ T.codec.key_bytes key.now ++ 0 ∷ []) }
+    ensures ok { OnOk result
+        (out.new.items ≡ out.old.items ++ T.codec.key_bytes key.now ++ 0 ∷ []) }
     ensures fits { OnOk result (T.codec.IsKey key.now) }
 {
     spell_key::<T>(key, out)?;

@@ -19,10 +19,13 @@ pub fn write_rows<T: Tab, K: Keeper>(
 ) -> Result<(), TabError>
     requires running { (K.seen keeper.old).running ≡ true }
     requires changes { AllByRecursion (MayBeChange T.codec) changes.now }
-    ensures kept { OnOk result ((K.seen keeper.new).kept ≡ with_changes T.codec (K.seen keeper.old).kept changes.now) }
+    ensures kept { OnOk result
+        ((K.seen keeper.new).kept ≡ with_changes T.codec (K.seen keeper.old).kept changes.now) }
     ensures fits { OnOk result (AllByRecursion (IsChange T.codec) changes.now) }
-    ensures grammar { OnOk result (InGrammar (K.seen keeper.old).kept → InGrammar (K.seen keeper.new).kept) }
-    ensures writes { OnOk result (Rises (length changes.now) (K.seen keeper.old).writes (K.seen keeper.new).writes) }
+    ensures grammar { OnOk result (InGrammar (K.seen keeper.old).kept
+        → InGrammar (K.seen keeper.new).kept) }
+    ensures writes { OnOk result (Rises (length changes.now) (K.seen keeper.old).writes
+        (K.seen keeper.new).writes) }
     ensures write { IsWrite (K.seen keeper.old) (K.seen keeper.new) result TabError.Fault }
 {
     let mut key = Vec::new(alloc);
@@ -45,9 +48,11 @@ fn write_row<T: Tab, K: Keeper>(
 ) -> Result<(), TabError>
     requires running { (K.seen keeper.old).running ≡ true }
     requires change { MayBeChange T.codec change.now }
-    ensures kept { OnOk result ((K.seen keeper.new).kept ≡ with_change T.codec (K.seen keeper.old).kept change.now) }
+    ensures kept { OnOk result
+        ((K.seen keeper.new).kept ≡ with_change T.codec (K.seen keeper.old).kept change.now) }
     ensures fits { OnOk result (IsChange T.codec change.now) }
-    ensures grammar { OnOk result (InGrammar (K.seen keeper.old).kept → InGrammar (K.seen keeper.new).kept) }
+    ensures grammar { OnOk result (InGrammar (K.seen keeper.old).kept
+        → InGrammar (K.seen keeper.new).kept) }
     ensures writes { OnOk result (RoseBy 1 (K.seen keeper.old).writes (K.seen keeper.new).writes) }
     ensures write { IsWrite (K.seen keeper.old) (K.seen keeper.new) result TabError.Fault }
 {

@@ -33,9 +33,13 @@ pub fn copy_rows<K: Keeper>(
 ) -> Result<usize, TabError>
     requires running { (K.seen keeper.old).running ≡ true }
     requires grammar { InGrammar (K.seen keeper.old).kept }
-    ensures copied { IfOk result (AreChanged (copied to) (K.seen keeper.old).kept (K.seen keeper.new).kept (num_bytes from)) }
-    ensures reads { IfOk result (λ n. Rises (n + 1) (K.seen keeper.old).reads (K.seen keeper.new).reads) }
-    ensures writes { IfOk result (λ n. Rises n (K.seen keeper.old).writes (K.seen keeper.new).writes) }
+    ensures copied { IfOk result
+        (AreChanged (copied to) (K.seen keeper.old).kept (K.seen keeper.new).kept
+        (num_bytes from)) }
+    ensures reads { IfOk result
+        (λ n. Rises (n + 1) (K.seen keeper.old).reads (K.seen keeper.new).reads) }
+    ensures writes { IfOk result
+        (λ n. Rises n (K.seen keeper.old).writes (K.seen keeper.new).writes) }
     ensures grammar { OnOk result (InGrammar (K.seen keeper.new).kept) }
     ensures counts { NeverFall (K.seen keeper.old) (K.seen keeper.new) }
     ensures steps { Steps (K.seen keeper.old) (K.seen keeper.new) result TabError.Fault }
@@ -50,9 +54,12 @@ pub fn copy_rows<K: Keeper>(
 pub fn clear_rows<K: Keeper>(alloc: Global, keeper: &mut K, wid: u32) -> Result<usize, TabError>
     requires running { (K.seen keeper.old).running ≡ true }
     requires grammar { InGrammar (K.seen keeper.old).kept }
-    ensures cleared { IfOk result (AreChanged removed (K.seen keeper.old).kept (K.seen keeper.new).kept (num_bytes wid)) }
-    ensures reads { IfOk result (λ n. Rises (n + 1) (K.seen keeper.old).reads (K.seen keeper.new).reads) }
-    ensures writes { IfOk result (λ n. Rises n (K.seen keeper.old).writes (K.seen keeper.new).writes) }
+    ensures cleared { IfOk result
+        (AreChanged removed (K.seen keeper.old).kept (K.seen keeper.new).kept (num_bytes wid)) }
+    ensures reads { IfOk result
+        (λ n. Rises (n + 1) (K.seen keeper.old).reads (K.seen keeper.new).reads) }
+    ensures writes { IfOk result
+        (λ n. Rises n (K.seen keeper.old).writes (K.seen keeper.new).writes) }
     ensures grammar { OnOk result (InGrammar (K.seen keeper.new).kept) }
     ensures counts { NeverFall (K.seen keeper.old) (K.seen keeper.new) }
     ensures steps { Steps (K.seen keeper.old) (K.seen keeper.new) result TabError.Fault }
@@ -72,9 +79,13 @@ fn move_world<K: Keeper>(
 ) -> Result<usize, TabError>
     requires running { (K.seen keeper.old).running ≡ true }
     requires grammar { InGrammar (K.seen keeper.old).kept }
-    ensures moved { IfOk result (AreChanged (moved_to to) (K.seen keeper.old).kept (K.seen keeper.new).kept (num_bytes wid)) }
-    ensures reads { IfOk result (λ n. Rises (n + 1) (K.seen keeper.old).reads (K.seen keeper.new).reads) }
-    ensures writes { IfOk result (λ n. Rises n (K.seen keeper.old).writes (K.seen keeper.new).writes) }
+    ensures moved { IfOk result
+        (AreChanged (moved_to to) (K.seen keeper.old).kept (K.seen keeper.new).kept
+        (num_bytes wid)) }
+    ensures reads { IfOk result
+        (λ n. Rises (n + 1) (K.seen keeper.old).reads (K.seen keeper.new).reads) }
+    ensures writes { IfOk result
+        (λ n. Rises n (K.seen keeper.old).writes (K.seen keeper.new).writes) }
     ensures grammar { OnOk result (InGrammar (K.seen keeper.new).kept) }
     ensures counts { NeverFall (K.seen keeper.old) (K.seen keeper.new) }
     ensures steps { Steps (K.seen keeper.old) (K.seen keeper.new) result TabError.Fault }
@@ -100,9 +111,12 @@ fn move_rows<K: Keeper>(
     requires running { (K.seen keeper.old).running ≡ true }
     requires grammar { InGrammar (K.seen keeper.old).kept }
     requires world { IsNumber prefix.now }
-    ensures moved { IfOk result (AreChanged (moved_to to) (K.seen keeper.old).kept (K.seen keeper.new).kept prefix.now) }
-    ensures reads { IfOk result (λ n. Rises (n + 1) (K.seen keeper.old).reads (K.seen keeper.new).reads) }
-    ensures writes { IfOk result (λ n. Rises n (K.seen keeper.old).writes (K.seen keeper.new).writes) }
+    ensures moved { IfOk result
+        (AreChanged (moved_to to) (K.seen keeper.old).kept (K.seen keeper.new).kept prefix.now) }
+    ensures reads { IfOk result
+        (λ n. Rises (n + 1) (K.seen keeper.old).reads (K.seen keeper.new).reads) }
+    ensures writes { IfOk result
+        (λ n. Rises n (K.seen keeper.old).writes (K.seen keeper.new).writes) }
     ensures grammar { OnOk result (InGrammar (K.seen keeper.new).kept) }
     ensures counts { NeverFall (K.seen keeper.old) (K.seen keeper.new) }
     ensures steps { Steps (K.seen keeper.old) (K.seen keeper.new) result TabError.Fault }
@@ -212,7 +226,8 @@ fn move_entry<K: Keeper>(
 ) -> Result<(), TabError>
     requires running { (K.seen keeper.old).running ≡ true }
     requires entry { IsEntryOf val_codec key.now row.old.items }
-    ensures moved { OnOk result (MovesEntry to (K.seen keeper.old).kept (K.seen keeper.new).kept key.now row.old.items) }
+    ensures moved { OnOk result
+        (MovesEntry to (K.seen keeper.old).kept (K.seen keeper.new).kept key.now row.old.items) }
     ensures writes { OnOk result (RoseBy 1 (K.seen keeper.old).writes (K.seen keeper.new).writes) }
     ensures write { IsWrite (K.seen keeper.old) (K.seen keeper.new) result TabError.Fault }
 {
@@ -238,7 +253,9 @@ fn put_copy<K: Keeper>(
 ) -> Result<(), TabError>
     requires running { (K.seen keeper.old).running ≡ true }
     requires entry { IsEntryOf val_codec key.now row.old.items }
-    ensures moved { OnOk result (MovesEntry (Some to) (K.seen keeper.old).kept (K.seen keeper.new).kept key.now row.old.items) }
+    ensures moved { OnOk result
+        (MovesEntry (Some to) (K.seen keeper.old).kept
+        (K.seen keeper.new).kept key.now row.old.items) }
     ensures writes { OnOk result (RoseBy 1 (K.seen keeper.old).writes (K.seen keeper.new).writes) }
     ensures write { IsWrite (K.seen keeper.old) (K.seen keeper.new) result TabError.Fault }
 {

@@ -22,7 +22,8 @@ pub fn first_gap<K: Keeper>(
 ) -> Result<u32, TabError>
     requires table { (1 ≤ tab) × (tab ≤ 15) }
     ensures gap { IfOk result (IsFirstGap (K.seen keeper.old).kept tab low) }
-    ensures reads { IfOk result (λ n. (K.seen keeper.new).reads + low ≤ (K.seen keeper.old).reads + (n + 1)) }
+    ensures reads { IfOk result
+        (λ n. (K.seen keeper.new).reads + low ≤ (K.seen keeper.old).reads + (n + 1)) }
     ensures read { IsRead (K.seen keeper.old) (K.seen keeper.new) result TabError.Fault }
 {
     let mut key = Vec::new(alloc);
@@ -47,7 +48,8 @@ fn is_key<K: Keeper>(
     row: &mut Vec<u8>,
 ) -> Result<bool, TabError>
     requires table { (1 ≤ tab) × (tab ≤ 15) }
-    ensures found { IfOk result (λ found. is_some (tables.get (K.seen keeper.old).kept (tab ∷ num_bytes number)) ≡ found) }
+    ensures found { IfOk result
+        (λ found. is_some (tables.get (K.seen keeper.old).kept (tab ∷ num_bytes number)) ≡ found) }
     ensures reads { OnOk result (RoseBy 1 (K.seen keeper.old).reads (K.seen keeper.new).reads) }
     ensures read { IsRead (K.seen keeper.old) (K.seen keeper.new) result TabError.Fault }
 {

@@ -12,7 +12,8 @@ use std::alloc::{AllocError, Global};
 
 /// Appends two numbers, as the front of a key. After a refusal the bytes are unchanged.
 pub fn put_pair(out: &mut Vec<u8>, first: u32, second: u32) -> Result<(), AllocError>
-    ensures ok { OnOk result (out.new.items ≡ out.old.items ++ (num_bytes first ++ num_bytes second)) }
+    ensures ok { OnOk result
+        (out.new.items ≡ out.old.items ++ (num_bytes first ++ num_bytes second)) }
     ensures err { OnErr result (out.new.items ≡ out.old.items) }
 {
     let a = first.to_be_bytes();
@@ -91,7 +92,8 @@ fn push_val_key(
 
 /// The two numbers at the front of these bytes, and the bytes after them. None exactly where there are too few bytes.
 pub fn pair_at(bytes: &[u8]) -> Option<((u32, u32), &[u8])>
-    ensures { MatchOption result (NoneLeads IsPair pair_bytes bytes.now) (λ x. Leads IsPair pair_bytes bytes.now x.0 x.1.now) }
+    ensures { MatchOption result (NoneLeads IsPair pair_bytes bytes.now)
+        (λ x. Leads IsPair pair_bytes bytes.now x.0 x.1.now) }
 {
     let (first, rest) = num_of(bytes)?;
     let (second, rest) = num_of(rest)?;
@@ -100,7 +102,8 @@ pub fn pair_at(bytes: &[u8]) -> Option<((u32, u32), &[u8])>
 
 /// The two numbers that these bytes are. None exactly where they aren't two numbers.
 pub fn only_pair(bytes: &[u8]) -> Option<(u32, u32)>
-    ensures { MatchOption result (NoneReads IsPair pair_bytes bytes.now) (Reads IsPair pair_bytes bytes.now) }
+    ensures { MatchOption result (NoneReads IsPair pair_bytes bytes.now)
+        (Reads IsPair pair_bytes bytes.now) }
 {
     match pair_at(bytes) {
         Some((pair, [])) => Some(pair),
@@ -111,7 +114,8 @@ pub fn only_pair(bytes: &[u8]) -> Option<(u32, u32)>
 
 /// The three numbers that these bytes are. None exactly where they aren't three numbers.
 pub fn only_triple(bytes: &[u8]) -> Option<(u32, u32, u32)>
-    ensures { MatchOption result (NoneReads IsTriple triple_bytes bytes.now) (Reads IsTriple triple_bytes bytes.now) }
+    ensures { MatchOption result (NoneReads IsTriple triple_bytes bytes.now)
+        (Reads IsTriple triple_bytes bytes.now) }
 {
     match pair_at(bytes) {
         Some((pair, rest)) => match only_num(rest) {

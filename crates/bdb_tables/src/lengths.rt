@@ -51,7 +51,8 @@ pub fn stored_key_length<K: Keeper>(
 // The length of the key of a relation's row.
 fn length_in(row: &[u8]) -> u32
     requires { IsRowOf rel_codec row.now }
-    ensures { (def : RelDef) → Reads rel_codec.IsRow rel_codec.row_bytes row.now def → result ≡ def.key }
+    ensures { (def : RelDef) → Reads rel_codec.IsRow rel_codec.row_bytes row.now def
+        → result ≡ def.key }
 {
     match key_length_of(row) {
         Some(length) => length,

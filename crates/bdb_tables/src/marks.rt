@@ -37,9 +37,12 @@ pub fn numbered_under<K: Keeper>(
     room: &mut Room,
 ) -> Result<Vec<(u32, (Sign, bool))>, TabError>
     requires grammar { TableFits val_codec (K.seen keeper.old).kept }
-    ensures rows { IfOk result (λ rows. AreNumbered (K.seen keeper.old).kept prefix.now rows.items) }
-    ensures reads { IfOk result (λ rows. (K.seen keeper.new).reads ≤ (K.seen keeper.old).reads + (length rows.items + 1)) }
-    ensures each_read { IfOk result (λ rows. Rises (length rows.items + 1) (K.seen keeper.old).reads (K.seen keeper.new).reads) }
+    ensures rows { IfOk result
+        (λ rows. AreNumbered (K.seen keeper.old).kept prefix.now rows.items) }
+    ensures reads { IfOk result
+        (λ rows. (K.seen keeper.new).reads ≤ (K.seen keeper.old).reads + (length rows.items + 1)) }
+    ensures each_read { IfOk result (λ rows. Rises (length rows.items + 1) (K.seen keeper.old).reads
+        (K.seen keeper.new).reads) }
     ensures read { IsRead (K.seen keeper.old) (K.seen keeper.new) result TabError.Fault }
 {
     let Room { key, row, low } = room;
@@ -60,8 +63,10 @@ pub fn marks_under<K: Keeper>(
 ) -> Result<(), TabError>
     requires grammar { TableFits val_codec (K.seen keeper.old).kept }
     ensures rows { OnOk result (AreMarks (K.seen keeper.old).kept prefix.now rows.new.items) }
-    ensures reads { OnOk result ((K.seen keeper.new).reads ≤ (K.seen keeper.old).reads + (length rows.new.items + 1)) }
-    ensures each_read { OnOk result (Rises (length rows.new.items + 1) (K.seen keeper.old).reads (K.seen keeper.new).reads) }
+    ensures reads { OnOk result
+        ((K.seen keeper.new).reads ≤ (K.seen keeper.old).reads + (length rows.new.items + 1)) }
+    ensures each_read { OnOk result (Rises (length rows.new.items + 1) (K.seen keeper.old).reads
+        (K.seen keeper.new).reads) }
     ensures read { IsRead (K.seen keeper.old) (K.seen keeper.new) result TabError.Fault }
 {
     let Room { key, row, low } = room;
@@ -99,10 +104,13 @@ pub fn write_marks<K: Keeper>(
 ) -> Result<(), TabError>
     requires running { (K.seen keeper.old).running ≡ true }
     requires group { IsGroup prefix.now }
-    ensures kept { OnOk result (HaveMarks (K.seen keeper.old).kept (K.seen keeper.new).kept prefix.now changes.now) }
+    ensures kept { OnOk result
+        (HaveMarks (K.seen keeper.old).kept (K.seen keeper.new).kept prefix.now changes.now) }
     ensures fits { OnOk result (AreChanges prefix.now changes.now) }
-    ensures grammar { OnOk result (InGrammar (K.seen keeper.old).kept → InGrammar (K.seen keeper.new).kept) }
-    ensures writes { OnOk result (Rises (length changes.now) (K.seen keeper.old).writes (K.seen keeper.new).writes) }
+    ensures grammar { OnOk result (InGrammar (K.seen keeper.old).kept
+        → InGrammar (K.seen keeper.new).kept) }
+    ensures writes { OnOk result (Rises (length changes.now) (K.seen keeper.old).writes
+        (K.seen keeper.new).writes) }
     ensures write { IsWrite (K.seen keeper.old) (K.seen keeper.new) result TabError.Fault }
 {
     match change_marks(keeper, prefix, changes, &mut room.key, &mut room.row) {
@@ -122,8 +130,10 @@ fn read_numbered<K: Keeper>(
 ) -> Result<(), TabError>
     requires grammar { TableFits val_codec (K.seen keeper.old).kept }
     ensures rows { OnOk result (AreNumbered (K.seen keeper.old).kept prefix.now rows.new.items) }
-    ensures reads { OnOk result ((K.seen keeper.new).reads ≤ (K.seen keeper.old).reads + (length rows.new.items + 1)) }
-    ensures each_read { OnOk result (Rises (length rows.new.items + 1) (K.seen keeper.old).reads (K.seen keeper.new).reads) }
+    ensures reads { OnOk result
+        ((K.seen keeper.new).reads ≤ (K.seen keeper.old).reads + (length rows.new.items + 1)) }
+    ensures each_read { OnOk result (Rises (length rows.new.items + 1) (K.seen keeper.old).reads
+        (K.seen keeper.new).reads) }
     ensures read { IsRead (K.seen keeper.old) (K.seen keeper.new) result TabError.Fault }
 {
     rows.clear();
@@ -158,7 +168,8 @@ pub(crate) fn next_numbered<K: Keeper>(
 ) -> Result<Option<(u32, (Sign, bool))>, TabError>
     requires grammar { TableFits val_codec (K.seen keeper.old).kept }
     requires from { is_le (bytes_cmp prefix.now low.old.items) ≡ true }
-    ensures found { IfOk result (HasNextNumbered (K.seen keeper.old).kept prefix.now low.old.items low.new.items) }
+    ensures found { IfOk result
+        (HasNextNumbered (K.seen keeper.old).kept prefix.now low.old.items low.new.items) }
     ensures reads { OnOk result (RoseBy 1 (K.seen keeper.old).reads (K.seen keeper.new).reads) }
     ensures read { IsRead (K.seen keeper.old) (K.seen keeper.new) result TabError.Fault }
 {
@@ -213,10 +224,13 @@ fn change_marks<K: Keeper>(
 ) -> Result<(), TabError>
     requires running { (K.seen keeper.old).running ≡ true }
     requires group { IsGroup prefix.now }
-    ensures kept { OnOk result ((K.seen keeper.new).kept ≡ with_changes (marks_codec prefix.now) (K.seen keeper.old).kept changes.now) }
+    ensures kept { OnOk result ((K.seen keeper.new).kept ≡ with_changes (marks_codec prefix.now)
+        (K.seen keeper.old).kept changes.now) }
     ensures fits { OnOk result (AllByRecursion (IsChange (marks_codec prefix.now)) changes.now) }
-    ensures grammar { OnOk result (InGrammar (K.seen keeper.old).kept → InGrammar (K.seen keeper.new).kept) }
-    ensures writes { OnOk result (Rises (length changes.now) (K.seen keeper.old).writes (K.seen keeper.new).writes) }
+    ensures grammar { OnOk result (InGrammar (K.seen keeper.old).kept
+        → InGrammar (K.seen keeper.new).kept) }
+    ensures writes { OnOk result (Rises (length changes.now) (K.seen keeper.old).writes
+        (K.seen keeper.new).writes) }
     ensures write { IsWrite (K.seen keeper.old) (K.seen keeper.new) result TabError.Fault }
 {
     for change in changes {
@@ -238,9 +252,11 @@ fn change_mark<K: Keeper>(
 ) -> Result<(), TabError>
     requires running { (K.seen keeper.old).running ≡ true }
     requires group { IsGroup prefix.now }
-    ensures kept { OnOk result ((K.seen keeper.new).kept ≡ with_change (marks_codec prefix.now) (K.seen keeper.old).kept change.now) }
+    ensures kept { OnOk result ((K.seen keeper.new).kept ≡ with_change (marks_codec prefix.now)
+        (K.seen keeper.old).kept change.now) }
     ensures fits { OnOk result (IsChange (marks_codec prefix.now) change.now) }
-    ensures grammar { OnOk result (InGrammar (K.seen keeper.old).kept → InGrammar (K.seen keeper.new).kept) }
+    ensures grammar { OnOk result (InGrammar (K.seen keeper.old).kept
+        → InGrammar (K.seen keeper.new).kept) }
     ensures writes { OnOk result (RoseBy 1 (K.seen keeper.old).writes (K.seen keeper.new).writes) }
     ensures write { IsWrite (K.seen keeper.old) (K.seen keeper.new) result TabError.Fault }
 {

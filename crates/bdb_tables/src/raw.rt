@@ -38,9 +38,11 @@ pub fn read_raw<T: Tab, K: Keeper>(
     keeper: &mut K,
     low: &mut Vec<u8>,
 ) -> Result<Option<(T::Key, T::Row)>, RawError>
-    ensures found { IfOk result (HasNextUnder T.codec (K.seen keeper.old).kept [] low.old.items low.new.items) }
+    ensures found { IfOk result
+        (HasNextUnder T.codec (K.seen keeper.old).kept [] low.old.items low.new.items) }
     ensures stays { IfOk result (λ found. is_some found ≡ false → low.new.items ≡ low.old.items) }
-    ensures foreign { IsErrOf result RawError.NotARow → IsForeignFrom T.codec (K.seen keeper.old).kept low.old.items }
+    ensures foreign { IsErrOf result RawError.NotARow
+        → IsForeignFrom T.codec (K.seen keeper.old).kept low.old.items }
     ensures reads { OnOk result (RoseBy 1 (K.seen keeper.old).reads (K.seen keeper.new).reads) }
     ensures read { IsRawRead (K.seen keeper.old) (K.seen keeper.new) result }
 {
@@ -58,9 +60,11 @@ pub fn read_raw_in<T: Tab, K: Keeper>(
     low: &mut Vec<u8>,
     room: &mut Room,
 ) -> Result<Option<(T::Key, T::Row)>, RawError>
-    ensures found { IfOk result (HasNextUnder T.codec (K.seen keeper.old).kept [] low.old.items low.new.items) }
+    ensures found { IfOk result
+        (HasNextUnder T.codec (K.seen keeper.old).kept [] low.old.items low.new.items) }
     ensures stays { IfOk result (λ found. is_some found ≡ false → low.new.items ≡ low.old.items) }
-    ensures foreign { IsErrOf result RawError.NotARow → IsForeignFrom T.codec (K.seen keeper.old).kept low.old.items }
+    ensures foreign { IsErrOf result RawError.NotARow
+        → IsForeignFrom T.codec (K.seen keeper.old).kept low.old.items }
     ensures reads { OnOk result (RoseBy 1 (K.seen keeper.old).reads (K.seen keeper.new).reads) }
     ensures read { IsRawRead (K.seen keeper.old) (K.seen keeper.new) result }
 {

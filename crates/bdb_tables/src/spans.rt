@@ -20,9 +20,12 @@ pub fn rows_under<T: Tab, K: Keeper>(
     prefix: &[u8],
 ) -> Result<Vec<(T::Key, T::Row)>, TabError>
     requires grammar { TableFits T.codec (K.seen keeper.old).kept }
-    ensures rows { IfOk result (λ rows. AreUnder T.codec (K.seen keeper.old).kept prefix.now rows.items) }
-    ensures reads { IfOk result (λ rows. (K.seen keeper.new).reads ≤ (K.seen keeper.old).reads + (length rows.items + 1)) }
-    ensures each_read { IfOk result (λ rows. Rises (length rows.items + 1) (K.seen keeper.old).reads (K.seen keeper.new).reads) }
+    ensures rows { IfOk result
+        (λ rows. AreUnder T.codec (K.seen keeper.old).kept prefix.now rows.items) }
+    ensures reads { IfOk result
+        (λ rows. (K.seen keeper.new).reads ≤ (K.seen keeper.old).reads + (length rows.items + 1)) }
+    ensures each_read { IfOk result (λ rows. Rises (length rows.items + 1) (K.seen keeper.old).reads
+        (K.seen keeper.new).reads) }
     ensures read { IsRead (K.seen keeper.old) (K.seen keeper.new) result TabError.Fault }
 {
     let mut rows = Vec::new(alloc);
@@ -72,7 +75,8 @@ pub fn next_under<T: Tab, K: Keeper>(
 ) -> Result<Option<(T::Key, T::Row)>, TabError>
     requires grammar { TableFits T.codec (K.seen keeper.old).kept }
     requires from { is_le (bytes_cmp prefix.now low.old.items) ≡ true }
-    ensures found { IfOk result (HasNextUnder T.codec (K.seen keeper.old).kept prefix.now low.old.items low.new.items) }
+    ensures found { IfOk result
+        (HasNextUnder T.codec (K.seen keeper.old).kept prefix.now low.old.items low.new.items) }
     ensures reads { OnOk result (RoseBy 1 (K.seen keeper.old).reads (K.seen keeper.new).reads) }
     ensures read { IsRead (K.seen keeper.old) (K.seen keeper.new) result TabError.Fault }
 {

@@ -26,7 +26,8 @@ pub enum Verdict {
 /// is 4 where the write failed, 5 where the keeper failed, and 6 for want of memory. Nothing is written to the tables.
 pub fn check_tables<O: Sink, K: Keeper>(alloc: Global, out: &mut O, keeper: &mut K) -> u8
     requires idle { (K.seen keeper.old).running ≡ false }
-    ensures checked { IsChecked (K.seen keeper.old).kept (O.written out.old) (O.written out.new) result }
+    ensures checked { IsChecked (K.seen keeper.old).kept (O.written out.old) (O.written out.new)
+        result }
     ensures untouched { IsUntouched (K.seen keeper.old) (K.seen keeper.new) }
     ensures still { IsStill (K.seen keeper.new) }
     ensures sink { result ≡ 4 → Rose (O.faults out.old) (O.faults out.new) }
@@ -45,7 +46,8 @@ pub fn check_tables<O: Sink, K: Keeper>(alloc: Global, out: &mut O, keeper: &mut
 
 /// Tells a verdict by its line and its status.
 fn tell<O: Sink>(alloc: Global, out: &mut O, verdict: Verdict) -> u8
-    ensures told { (t : Tables) → IsVerdict t verdict → IsChecked t (O.written out.old) (O.written out.new) result }
+    ensures told { (t : Tables) → IsVerdict t verdict → IsChecked t (O.written out.old)
+        (O.written out.new) result }
     ensures no_fault { result ≢ 5 }
     ensures sink { result ≡ 4 → Rose (O.faults out.old) (O.faults out.new) }
     ensures later { O.faults out.old ≤ O.faults out.new }

@@ -29,22 +29,29 @@ pub fn run_stream<S: Source, O: Sink, K: Keeper>(
     ensures ran { IfSome (S.left script.old) (λ text. EachBase (K.seen keeper.old).kept (λ b.
         RanMany (start_from b) text (S.left script.new) (K.seen keeper.old) (K.seen keeper.new) (O.written out.old) (O.written out.new) result)) }
     ensures refused { result ≡ 7 → StandsForNone (K.seen keeper.old).kept }
-    ensures none { StandsForNone (K.seen keeper.old).kept → (result ≡ 5) ⊎ (result ≡ 6) ⊎ (result ≡ 7) }
-    ensures silent { StandsForNone (K.seen keeper.old).kept → (script.new ≡ script.old) × (out.new ≡ out.old) × IsUntouched (K.seen keeper.old) (K.seen keeper.new) }
+    ensures none { StandsForNone (K.seen keeper.old).kept → (result ≡ 5) ⊎ (result ≡ 6)
+        ⊎ (result ≡ 7) }
+    ensures silent { StandsForNone (K.seen keeper.old).kept → (script.new ≡ script.old)
+        × (out.new ≡ out.old) × IsUntouched (K.seen keeper.old) (K.seen keeper.new) }
     ensures still { IsStill (K.seen keeper.new) }
     ensures base { StandForSome (K.seen keeper.old).kept → StandForSome (K.seen keeper.new).kept }
     ensures statuses { (result ≤ 8) × (result ≢ 2) }
-    ensures taken { result ≤ 1 → IsAtEnd (S.left script.new) × IfSome (S.left script.old) (λ text. length text ≤ longest_script) }
+    ensures taken { result ≤ 1 → IsAtEnd (S.left script.new) × IfSome (S.left script.old)
+        (λ text. length text ≤ longest_script) }
     ensures source { result ≡ 3 → Rose (S.faults script.old) (S.faults script.new) }
     ensures sink { result ≡ 4 → Rose (O.faults out.old) (O.faults out.new) }
     ensures keeper { result ≡ 5 → Rose (K.seen keeper.old).faults (K.seen keeper.new).faults }
-    ensures large { result ≡ 8 → RisesOver longest_script (S.given script.old) (S.given script.new) }
-    ensures source_counts { (S.faults script.old ≤ S.faults script.new) × (S.given script.old ≤ S.given script.new) }
+    ensures large { result ≡ 8 → RisesOver longest_script (S.given script.old)
+        (S.given script.new) }
+    ensures source_counts { (S.faults script.old ≤ S.faults script.new)
+        × (S.given script.old ≤ S.given script.new) }
     ensures sink_count { O.faults out.old ≤ O.faults out.new }
     ensures keeper_counts { NeverFall (K.seen keeper.old) (K.seen keeper.new) }
     ensures many { result ≡ 8 → IfSome (S.left script.old) (λ text. longest_script < length text) }
-    ensures within { result ≢ 8 → (n : ℕ) × (n ≤ longest_script) × Rises n (S.given script.old) (S.given script.new) }
-    ensures one_more { result ≡ 8 → Rises (longest_script + 1) (S.given script.old) (S.given script.new) }
+    ensures within { result ≢ 8 → (n : ℕ) × (n ≤ longest_script) × Rises n (S.given script.old)
+        (S.given script.new) }
+    ensures one_more { result ≡ 8 → Rises (longest_script + 1) (S.given script.old)
+        (S.given script.new) }
 {
     let session = match Session::open(alloc, keeper) {
         Ok(session) => session,

@@ -32,10 +32,14 @@ pub fn tally_script<K: Keeper>(
 ) -> Result<Tally, StopError>
     requires still { IsStill (K.seen keeper.old) }
     requires agrees { RemembersSome (K.seen keeper.old).kept session.old }
-    ensures tally { (s : Timeline) → Remembers (K.seen keeper.old).kept session.old s → IfOk result (λ tally. tally ≡ tally_from no_replies s (events_of script.now)) }
-    ensures state { (s : Timeline) → Remembers (K.seen keeper.old).kept session.old s → OnOk result (Remembers (K.seen keeper.new).kept session.new (after s (events_of script.now))) }
+    ensures tally { (s : Timeline) → Remembers (K.seen keeper.old).kept session.old s
+        → IfOk result (λ tally. tally ≡ tally_from no_replies s (events_of script.now)) }
+    ensures state { (s : Timeline) → Remembers (K.seen keeper.old).kept session.old s
+        → OnOk result
+        (Remembers (K.seen keeper.new).kept session.new (after s (events_of script.now))) }
     ensures still { IsStill (K.seen keeper.new) }
-    ensures cause { HasCause (K.seen keeper.old).faults (K.seen keeper.new).faults result StopError.Fault }
+    ensures cause { HasCause (K.seen keeper.old).faults
+        (K.seen keeper.new).faults result StopError.Fault }
     ensures agrees { RemembersSome (K.seen keeper.new).kept session.new }
 {
     let mut cutter = Cutter::new(alloc);
@@ -72,10 +76,14 @@ fn tally_piece<K: Keeper>(
 ) -> Result<Tally, StopError>
     requires still { IsStill (K.seen keeper.old) }
     requires agrees { RemembersSome (K.seen keeper.old).kept session.old }
-    ensures tally { (s : Timeline) → Remembers (K.seen keeper.old).kept session.old s → IfOk result (λ next. next ≡ tally_with tally s (event_of piece.now)) }
-    ensures state { (s : Timeline) → Remembers (K.seen keeper.old).kept session.old s → OnOk result (Remembers (K.seen keeper.new).kept session.new (next_state s (event_of piece.now))) }
+    ensures tally { (s : Timeline) → Remembers (K.seen keeper.old).kept session.old s
+        → IfOk result (λ next. next ≡ tally_with tally s (event_of piece.now)) }
+    ensures state { (s : Timeline) → Remembers (K.seen keeper.old).kept session.old s
+        → OnOk result
+        (Remembers (K.seen keeper.new).kept session.new (next_state s (event_of piece.now))) }
     ensures still { IsStill (K.seen keeper.new) }
-    ensures cause { HasCause (K.seen keeper.old).faults (K.seen keeper.new).faults result StopError.Fault }
+    ensures cause { HasCause (K.seen keeper.old).faults
+        (K.seen keeper.new).faults result StopError.Fault }
     ensures agrees { RemembersSome (K.seen keeper.new).kept session.new }
 {
     match piece {
@@ -99,10 +107,14 @@ fn tally_rest<K: Keeper>(
 ) -> Result<Tally, StopError>
     requires still { IsStill (K.seen keeper.old) }
     requires agrees { RemembersSome (K.seen keeper.old).kept session.old }
-    ensures tally { (s : Timeline) → Remembers (K.seen keeper.old).kept session.old s → IfOk result (λ next. next ≡ tally_from tally s (rest_events rest)) }
-    ensures state { (s : Timeline) → Remembers (K.seen keeper.old).kept session.old s → OnOk result (Remembers (K.seen keeper.new).kept session.new (after s (rest_events rest))) }
+    ensures tally { (s : Timeline) → Remembers (K.seen keeper.old).kept session.old s
+        → IfOk result (λ next. next ≡ tally_from tally s (rest_events rest)) }
+    ensures state { (s : Timeline) → Remembers (K.seen keeper.old).kept session.old s
+        → OnOk result
+        (Remembers (K.seen keeper.new).kept session.new (after s (rest_events rest))) }
     ensures still { IsStill (K.seen keeper.new) }
-    ensures cause { HasCause (K.seen keeper.old).faults (K.seen keeper.new).faults result StopError.Fault }
+    ensures cause { HasCause (K.seen keeper.old).faults
+        (K.seen keeper.new).faults result StopError.Fault }
     ensures agrees { RemembersSome (K.seen keeper.new).kept session.new }
 {
     match rest {
@@ -123,10 +135,14 @@ fn tally_command<K: Keeper>(
 ) -> Result<Tally, StopError>
     requires still { IsStill (K.seen keeper.old) }
     requires agrees { RemembersSome (K.seen keeper.old).kept session.old }
-    ensures tally { (s : Timeline) → Remembers (K.seen keeper.old).kept session.old s → IfOk result (λ next. next ≡ tally_with tally s (event.Piece bytes.now)) }
-    ensures state { (s : Timeline) → Remembers (K.seen keeper.old).kept session.old s → OnOk result (Remembers (K.seen keeper.new).kept session.new (next_state s (event.Piece bytes.now))) }
+    ensures tally { (s : Timeline) → Remembers (K.seen keeper.old).kept session.old s
+        → IfOk result (λ next. next ≡ tally_with tally s (event.Piece bytes.now)) }
+    ensures state { (s : Timeline) → Remembers (K.seen keeper.old).kept session.old s
+        → OnOk result
+        (Remembers (K.seen keeper.new).kept session.new (next_state s (event.Piece bytes.now))) }
     ensures still { IsStill (K.seen keeper.new) }
-    ensures cause { HasCause (K.seen keeper.old).faults (K.seen keeper.new).faults result StopError.Fault }
+    ensures cause { HasCause (K.seen keeper.old).faults
+        (K.seen keeper.new).faults result StopError.Fault }
     ensures agrees { RemembersSome (K.seen keeper.new).kept session.new }
 {
     let reply = match session.apply(keeper, bytes) {
@@ -148,10 +164,13 @@ fn tally_event<K: Keeper>(
 ) -> Result<Tally, StopError>
     requires still { IsStill (K.seen keeper.old) }
     requires agrees { RemembersSome (K.seen keeper.old).kept session.old }
-    ensures tally { (s : Timeline) → Remembers (K.seen keeper.old).kept session.old s → IfOk result (λ next. next ≡ tally_with tally s event.now) }
-    ensures state { (s : Timeline) → Remembers (K.seen keeper.old).kept session.old s → OnOk result (Remembers (K.seen keeper.new).kept session.new (next_state s event.now)) }
+    ensures tally { (s : Timeline) → Remembers (K.seen keeper.old).kept session.old s
+        → IfOk result (λ next. next ≡ tally_with tally s event.now) }
+    ensures state { (s : Timeline) → Remembers (K.seen keeper.old).kept session.old s
+        → OnOk result (Remembers (K.seen keeper.new).kept session.new (next_state s event.now)) }
     ensures still { IsStill (K.seen keeper.new) }
-    ensures cause { HasCause (K.seen keeper.old).faults (K.seen keeper.new).faults result StopError.Fault }
+    ensures cause { HasCause (K.seen keeper.old).faults
+        (K.seen keeper.new).faults result StopError.Fault }
     ensures agrees { RemembersSome (K.seen keeper.new).kept session.new }
 {
     let reply = match session.answer(keeper, event) {
@@ -166,7 +185,8 @@ fn tally_event<K: Keeper>(
 
 /// A tally with one more reply.
 fn with_reply(tally: Tally, reply: &Reply) -> Result<Tally, AllocError>
-    ensures { IfOk result (λ next. next ≡ tally_reply tally reply.now.text reply.now.accepted reply.now.answers) }
+    ensures { IfOk result
+        (λ next. next ≡ tally_reply tally reply.now.text reply.now.accepted reply.now.answers) }
 {
     let accepted = added(
         tally.accepted,

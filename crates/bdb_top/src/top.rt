@@ -79,16 +79,21 @@ pub fn run<S: Source, O: Sink, K: Keeper>(
         CommitsTell (started b) text (K.seen keeper.old) (K.seen keeper.new) (O.written out.old) (O.written out.new) result)) }
     ensures by_commits { many_job words.now ≢ None → IfSome (S.left script.old) (λ text. EachBase (K.seen keeper.old).kept (λ b.
         CommitsTellMany (start_from b) text (K.seen keeper.old) (K.seen keeper.new) (O.written out.old) (O.written out.new) result)) }
-    ensures refused { run_job words.now ≢ None → result ≡ 7 → StandsForNone (K.seen keeper.old).kept }
-    ensures refused_many { many_job words.now ≢ None → result ≡ 7 → StandsForNone (K.seen keeper.old).kept }
-    ensures none { run_job words.now ≢ None → StandsForNone (K.seen keeper.old).kept → (result ≡ 5) ⊎ (result ≡ 6) ⊎ (result ≡ 7) }
-    ensures none_many { many_job words.now ≢ None → StandsForNone (K.seen keeper.old).kept → (result ≡ 5) ⊎ (result ≡ 6) ⊎ (result ≡ 7) }
+    ensures refused { run_job words.now ≢ None → result ≡ 7
+        → StandsForNone (K.seen keeper.old).kept }
+    ensures refused_many { many_job words.now ≢ None → result ≡ 7
+        → StandsForNone (K.seen keeper.old).kept }
+    ensures none { run_job words.now ≢ None → StandsForNone (K.seen keeper.old).kept → (result ≡ 5)
+        ⊎ (result ≡ 6) ⊎ (result ≡ 7) }
+    ensures none_many { many_job words.now ≢ None → StandsForNone (K.seen keeper.old).kept
+        → (result ≡ 5) ⊎ (result ≡ 6) ⊎ (result ≡ 7) }
     ensures silent { run_job words.now ≢ None → StandsForNone (K.seen keeper.old).kept
         → (script.new ≡ script.old) × (out.new ≡ out.old) × IsUntouched (K.seen keeper.old) (K.seen keeper.new) }
     ensures silent_many { many_job words.now ≢ None → StandsForNone (K.seen keeper.old).kept
         → (script.new ≡ script.old) × (out.new ≡ out.old) × IsUntouched (K.seen keeper.old) (K.seen keeper.new) }
     ensures words { (result ≡ 2) ↔ (named_job words.now ≡ None) }
-    ensures untouched { result ≡ 2 → (script.new ≡ script.old) × (out.new ≡ out.old) × (keeper.new ≡ keeper.old) }
+    ensures untouched { result ≡ 2 → (script.new ≡ script.old) × (out.new ≡ out.old)
+        × (keeper.new ≡ keeper.old) }
     ensures still { run_job words.now ≢ None → IsStill (K.seen keeper.new) }
     ensures still_many { many_job words.now ≢ None → IsStill (K.seen keeper.new) }
     ensures checked { check_job words.now ≢ None → IsChecked (K.seen keeper.old).kept (O.written out.old) (O.written out.new) result
@@ -100,18 +105,24 @@ pub fn run<S: Source, O: Sink, K: Keeper>(
     ensures statuses { result ≤ 8 }
     ensures ended { run_job words.now ≢ None → result ≤ 1 → IsAtEnd (S.left script.new) }
     ensures ended_many { many_job words.now ≢ None → result ≤ 1 → IsAtEnd (S.left script.new) }
-    ensures short { run_job words.now ≢ None → result ≤ 1 → IfSome (S.left script.old) (λ text. length text ≤ longest_script) }
-    ensures short_many { many_job words.now ≢ None → result ≤ 1 → IfSome (S.left script.old) (λ text. length text ≤ longest_script) }
+    ensures short { run_job words.now ≢ None → result ≤ 1 → IfSome (S.left script.old)
+        (λ text. length text ≤ longest_script) }
+    ensures short_many { many_job words.now ≢ None → result ≤ 1 → IfSome (S.left script.old)
+        (λ text. length text ≤ longest_script) }
     ensures source { result ≡ 3 → Rose (S.faults script.old) (S.faults script.new) }
     ensures sink { result ≡ 4 → Rose (O.faults out.old) (O.faults out.new) }
     ensures keeper { result ≡ 5 → Rose (K.seen keeper.old).faults (K.seen keeper.new).faults }
-    ensures large { result ≡ 8 → RisesOver longest_script (S.given script.old) (S.given script.new) }
-    ensures source_counts { (S.faults script.old ≤ S.faults script.new) × (S.given script.old ≤ S.given script.new) }
+    ensures large { result ≡ 8 → RisesOver longest_script (S.given script.old)
+        (S.given script.new) }
+    ensures source_counts { (S.faults script.old ≤ S.faults script.new)
+        × (S.given script.old ≤ S.given script.new) }
     ensures sink_count { O.faults out.old ≤ O.faults out.new }
     ensures keeper_counts { NeverFall (K.seen keeper.old) (K.seen keeper.new) }
     ensures many { result ≡ 8 → IfSome (S.left script.old) (λ text. longest_script < length text) }
-    ensures within { result ≢ 8 → (n : ℕ) × (n ≤ longest_script) × Rises n (S.given script.old) (S.given script.new) }
-    ensures one_more { result ≡ 8 → Rises (longest_script + 1) (S.given script.old) (S.given script.new) }
+    ensures within { result ≢ 8 → (n : ℕ) × (n ≤ longest_script) × Rises n (S.given script.old)
+        (S.given script.new) }
+    ensures one_more { result ≡ 8 → Rises (longest_script + 1) (S.given script.old)
+        (S.given script.new) }
     ensures complete { named_job words.now ≢ None
         → ¬ Rose (S.faults script.old) (S.faults script.new)
         → ¬ Rose (O.faults out.old) (O.faults out.new)
@@ -161,22 +172,29 @@ fn run_script<S: Source, O: Sink, K: Keeper>(
     ensures ran { IfSome (S.left script.old) (λ text. EachBase (K.seen keeper.old).kept (λ b.
         Ran (started b) text (S.left script.new) (K.seen keeper.old) (K.seen keeper.new) (O.written out.old) (O.written out.new) result)) }
     ensures refused { result ≡ 7 → StandsForNone (K.seen keeper.old).kept }
-    ensures none { StandsForNone (K.seen keeper.old).kept → (result ≡ 5) ⊎ (result ≡ 6) ⊎ (result ≡ 7) }
-    ensures silent { StandsForNone (K.seen keeper.old).kept → (script.new ≡ script.old) × (out.new ≡ out.old) × IsUntouched (K.seen keeper.old) (K.seen keeper.new) }
+    ensures none { StandsForNone (K.seen keeper.old).kept → (result ≡ 5) ⊎ (result ≡ 6)
+        ⊎ (result ≡ 7) }
+    ensures silent { StandsForNone (K.seen keeper.old).kept → (script.new ≡ script.old)
+        × (out.new ≡ out.old) × IsUntouched (K.seen keeper.old) (K.seen keeper.new) }
     ensures still { IsStill (K.seen keeper.new) }
     ensures base { StandForSome (K.seen keeper.old).kept → StandForSome (K.seen keeper.new).kept }
     ensures statuses { (result ≤ 8) × (result ≢ 2) }
-    ensures taken { result ≤ 1 → IsAtEnd (S.left script.new) × IfSome (S.left script.old) (λ text. length text ≤ longest_script) }
+    ensures taken { result ≤ 1 → IsAtEnd (S.left script.new) × IfSome (S.left script.old)
+        (λ text. length text ≤ longest_script) }
     ensures source { result ≡ 3 → Rose (S.faults script.old) (S.faults script.new) }
     ensures sink { result ≡ 4 → Rose (O.faults out.old) (O.faults out.new) }
     ensures keeper { result ≡ 5 → Rose (K.seen keeper.old).faults (K.seen keeper.new).faults }
-    ensures large { result ≡ 8 → RisesOver longest_script (S.given script.old) (S.given script.new) }
-    ensures source_counts { (S.faults script.old ≤ S.faults script.new) × (S.given script.old ≤ S.given script.new) }
+    ensures large { result ≡ 8 → RisesOver longest_script (S.given script.old)
+        (S.given script.new) }
+    ensures source_counts { (S.faults script.old ≤ S.faults script.new)
+        × (S.given script.old ≤ S.given script.new) }
     ensures sink_count { O.faults out.old ≤ O.faults out.new }
     ensures keeper_counts { NeverFall (K.seen keeper.old) (K.seen keeper.new) }
     ensures many { result ≡ 8 → IfSome (S.left script.old) (λ text. longest_script < length text) }
-    ensures within { result ≢ 8 → (n : ℕ) × (n ≤ longest_script) × Rises n (S.given script.old) (S.given script.new) }
-    ensures one_more { result ≡ 8 → Rises (longest_script + 1) (S.given script.old) (S.given script.new) }
+    ensures within { result ≢ 8 → (n : ℕ) × (n ≤ longest_script) × Rises n (S.given script.old)
+        (S.given script.new) }
+    ensures one_more { result ≡ 8 → Rises (longest_script + 1) (S.given script.old)
+        (S.given script.new) }
 {
     let mut session = match Session::open(alloc, keeper) {
         Ok(session) => session,

@@ -112,7 +112,8 @@ pub fn job_of(alloc: Global, words: &[Txt]) -> Result<Job, WordsError>
 
 /// The job to run a script, with the names of its files copied.
 fn copied_run(alloc: Global, files: RunFiles<'_>) -> Result<Job, AllocError>
-    ensures { IfOk result (λ job. job ≡ Run (option_copied files.entry.db) (option_copied files.entry.script)) }
+    ensures { IfOk result
+        (λ job. job ≡ Run (option_copied files.entry.db) (option_copied files.entry.script)) }
 {
     let db = copied(alloc, files.db)?;
     let script = copied(alloc, files.script)?;
@@ -121,7 +122,8 @@ fn copied_run(alloc: Global, files: RunFiles<'_>) -> Result<Job, AllocError>
 
 /// The job to run a stream, with the names of its files copied.
 fn copied_many(alloc: Global, files: RunFiles<'_>) -> Result<Job, AllocError>
-    ensures { IfOk result (λ job. job ≡ Many (option_copied files.entry.db) (option_copied files.entry.script)) }
+    ensures { IfOk result
+        (λ job. job ≡ Many (option_copied files.entry.db) (option_copied files.entry.script)) }
 {
     let db = copied(alloc, files.db)?;
     let script = copied(alloc, files.script)?;
@@ -143,7 +145,9 @@ fn copied(alloc: Global, text: Option<&Txt>) -> Result<Option<Txt>, AllocError>
 
 /// The files that words to run a script name; none where the words don't ask to run one.
 pub(crate) fn run_files(words: &[Txt]) -> Option<RunFiles<'_>>
-    ensures { MatchOption result (run_job words.now ≡ None) (λ files. run_job words.now ≡ Some (Run (option_copied files.db) (option_copied files.script))) }
+    ensures { MatchOption result (run_job words.now ≡ None)
+        (λ files. run_job words.now ≡ Some
+        (Run (option_copied files.db) (option_copied files.script))) }
 {
     match files_of("run", words) {
         Some(files) => Some(files),
@@ -153,7 +157,9 @@ pub(crate) fn run_files(words: &[Txt]) -> Option<RunFiles<'_>>
 
 /// The files that words to run a stream name; none where the words don't ask to run one.
 pub(crate) fn many_files(words: &[Txt]) -> Option<RunFiles<'_>>
-    ensures { MatchOption result (many_job words.now ≡ None) (λ files. many_job words.now ≡ Some (Many (option_copied files.db) (option_copied files.script))) }
+    ensures { MatchOption result (many_job words.now ≡ None)
+        (λ files. many_job words.now ≡ Some
+        (Many (option_copied files.db) (option_copied files.script))) }
 {
     match files_of("many", words) {
         Some(files) => Some(files),
@@ -163,7 +169,8 @@ pub(crate) fn many_files(words: &[Txt]) -> Option<RunFiles<'_>>
 
 /// The files of words that begin with this one.
 fn files_of<'a>(name: &str, words: &'a [Txt]) -> Option<RunFiles<'a>>
-    ensures { MatchOption result (files_of name.now words.now ≡ None) (λ f. files_of name.now words.now ≡ files (option_copied f.db) (option_copied f.script)) }
+    ensures { MatchOption result (files_of name.now words.now ≡ None)
+        (λ f. files_of name.now words.now ≡ files (option_copied f.db) (option_copied f.script)) }
 {
     match words {
         [word] if is_word(word, name) => Some(RunFiles {
@@ -178,7 +185,9 @@ fn files_of<'a>(name: &str, words: &'a [Txt]) -> Option<RunFiles<'a>>
 
 /// The files of one option with its value.
 fn files_with<'a>(option: &Txt, value: &'a Txt) -> Option<RunFiles<'a>>
-    ensures { MatchOption result (files_with option.now value.now ≡ None) (λ f. files_with option.now value.now ≡ files (option_copied f.db) (option_copied f.script)) }
+    ensures { MatchOption result (files_with option.now value.now ≡ None)
+        (λ f. files_with option.now value.now ≡ files (option_copied f.db)
+        (option_copied f.script)) }
 {
     if !is_option_value(value.as_bytes()) {
         return None;
@@ -200,7 +209,9 @@ fn files_with<'a>(option: &Txt, value: &'a Txt) -> Option<RunFiles<'a>>
 
 /// The files of two options with their values.
 fn files_by<'a>(first: &Txt, a: &'a Txt, second: &Txt, b: &'a Txt) -> Option<RunFiles<'a>>
-    ensures { MatchOption result (files_by first.now a.now second.now b.now ≡ None) (λ f. files_by first.now a.now second.now b.now ≡ files (option_copied f.db) (option_copied f.script)) }
+    ensures { MatchOption result (files_by first.now a.now second.now b.now ≡ None)
+        (λ f. files_by first.now a.now second.now b.now ≡ files (option_copied f.db)
+        (option_copied f.script)) }
 {
     if is_word(first, "--db") && is_word(second, "--script") {
         return both_files(a, b);
@@ -213,7 +224,8 @@ fn files_by<'a>(first: &Txt, a: &'a Txt, second: &Txt, b: &'a Txt) -> Option<Run
 
 /// The files of a base and of a script.
 fn both_files<'a>(db: &'a Txt, script: &'a Txt) -> Option<RunFiles<'a>>
-    ensures { MatchOption result (both_files db.now script.now ≡ None) (λ f. both_files db.now script.now ≡ files (option_copied f.db) (option_copied f.script)) }
+    ensures { MatchOption result (both_files db.now script.now ≡ None)
+        (λ f. both_files db.now script.now ≡ files (option_copied f.db) (option_copied f.script)) }
 {
     if is_option_value(db.as_bytes()) && is_option_value(script.as_bytes()) {
         return Some(RunFiles {
@@ -226,7 +238,8 @@ fn both_files<'a>(db: &'a Txt, script: &'a Txt) -> Option<RunFiles<'a>>
 
 /// The file that words ask to check; none where they don't ask for that.
 pub(crate) fn checked_file(words: &[Txt]) -> Option<&Txt>
-    ensures { MatchOption result (check_job words.now ≡ None) (λ file. check_job words.now ≡ Some (Check file.now)) }
+    ensures { MatchOption result (check_job words.now ≡ None)
+        (λ file. check_job words.now ≡ Some (Check file.now)) }
 {
     match words {
         [word, option, file]
@@ -239,7 +252,8 @@ pub(crate) fn checked_file(words: &[Txt]) -> Option<&Txt>
 
 /// What words ask to generate a script from; none where they don't ask for that.
 pub(crate) fn recipe_of(words: &[Txt]) -> Option<Recipe>
-    ensures job { MatchOption result (gen_job words.now ≡ None) (λ r. gen_job words.now ≡ Some (Gen r.seed r.size)) }
+    ensures job { MatchOption result (gen_job words.now ≡ None)
+        (λ r. gen_job words.now ≡ Some (Gen r.seed r.size)) }
     ensures size { IfSome result (λ r. r.size ≤ most_generated) }
 {
     match words {
@@ -250,7 +264,8 @@ pub(crate) fn recipe_of(words: &[Txt]) -> Option<Recipe>
 
 /// The recipe of two options with their values.
 fn recipe_by(first: &Txt, a: &Txt, second: &Txt, b: &Txt) -> Option<Recipe>
-    ensures job { MatchOption result (generating_by first.now a.now second.now b.now ≡ None) (λ r. generating_by first.now a.now second.now b.now ≡ Some (Gen r.seed r.size)) }
+    ensures job { MatchOption result (generating_by first.now a.now second.now b.now ≡ None)
+        (λ r. generating_by first.now a.now second.now b.now ≡ Some (Gen r.seed r.size)) }
     ensures size { IfSome result (λ r. r.size ≤ most_generated) }
 {
     if is_word(first, "--seed") && is_word(second, "--size") {
@@ -264,7 +279,8 @@ fn recipe_by(first: &Txt, a: &Txt, second: &Txt, b: &Txt) -> Option<Recipe>
 
 /// The recipe of a seed and a size.
 fn recipe_from(seed: &[u8], size: &[u8]) -> Option<Recipe>
-    ensures job { MatchOption result (generating (number_of seed.now) (number_of size.now) ≡ None) (λ r. generating (number_of seed.now) (number_of size.now) ≡ Some (Gen r.seed r.size)) }
+    ensures job { MatchOption result (generating (number_of seed.now) (number_of size.now) ≡ None)
+        (λ r. generating (number_of seed.now) (number_of size.now) ≡ Some (Gen r.seed r.size)) }
     ensures size { IfSome result (λ r. r.size ≤ most_generated) }
 {
     match number_of(seed) {

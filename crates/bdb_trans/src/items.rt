@@ -33,8 +33,11 @@ pub fn append_steps(
 ) -> Result<(), AllocError>
     requires relations { list_all can_number_columns scope.now.rels.now ≡ true }
     requires names { AreNames scope.now.query.now.conds scope.now.names.now }
-    requires given { scope.now.given.now ≡ given_columns scope.now.rels.now 0 scope.now.query.now.items }
-    ensures { OnOk result (steps.new ≡ steps.old ++ steps_from scope.now.rels.now scope.now.query.now set.old.items order.now) }
+    requires given { scope.now.given.now
+        ≡ given_columns scope.now.rels.now 0 scope.now.query.now.items }
+    ensures { OnOk result
+        (steps.new
+        ≡ steps.old ++ steps_from scope.now.rels.now scope.now.query.now set.old.items order.now) }
 {
     match order {
         [] => Ok(()),
@@ -57,8 +60,11 @@ fn append_place(
 ) -> Result<(), AllocError>
     requires relations { list_all can_number_columns scope.now.rels.now ≡ true }
     requires names { AreNames scope.now.query.now.conds scope.now.names.now }
-    requires given { scope.now.given.now ≡ given_columns scope.now.rels.now 0 scope.now.query.now.items }
-    ensures { OnOk result (steps.new ≡ steps.old ++ item_steps scope.now.rels.now scope.now.query.now set.now at (slice_get scope.now.query.now.items at)) }
+    requires given { scope.now.given.now
+        ≡ given_columns scope.now.rels.now 0 scope.now.query.now.items }
+    ensures { OnOk result
+        (steps.new ≡ steps.old ++ item_steps scope.now.rels.now scope.now.query.now set.now at
+        (slice_get scope.now.query.now.items at)) }
 {
     match scope.query.items.get(at as usize) {
         Some(item) => {
@@ -84,8 +90,11 @@ fn append_item(
 ) -> Result<(), AllocError>
     requires relations { list_all can_number_columns scope.now.rels.now ≡ true }
     requires names { AreNames scope.now.query.now.conds scope.now.names.now }
-    requires given { scope.now.given.now ≡ given_columns scope.now.rels.now 0 scope.now.query.now.items }
-    ensures { OnOk result (steps.new ≡ steps.old ++ item_steps scope.now.rels.now scope.now.query.now set.now at (Some item.now)) }
+    requires given { scope.now.given.now
+        ≡ given_columns scope.now.rels.now 0 scope.now.query.now.items }
+    ensures { OnOk result
+        (steps.new ≡ steps.old ++ item_steps scope.now.rels.now scope.now.query.now set.now at
+        (Some item.now)) }
 {
     append_setting(alloc, scope, steps, at, item)?;
     append_due(alloc, steps, set, at, scope.query.conds.as_slice())?;
@@ -103,8 +112,11 @@ fn append_setting(
 ) -> Result<(), AllocError>
     requires relations { list_all can_number_columns scope.now.rels.now ≡ true }
     requires names { AreNames scope.now.query.now.conds scope.now.names.now }
-    requires given { scope.now.given.now ≡ given_columns scope.now.rels.now 0 scope.now.query.now.items }
-    ensures { OnOk result (steps.new ≡ steps.old ++ setting scope.now.rels.now scope.now.query.now at (Some item.now)) }
+    requires given { scope.now.given.now
+        ≡ given_columns scope.now.rels.now 0 scope.now.query.now.items }
+    ensures { OnOk result
+        (steps.new ≡ steps.old ++ setting scope.now.rels.now scope.now.query.now at
+        (Some item.now)) }
 {
     match item {
         Item::Users { .. } => {
@@ -143,9 +155,12 @@ fn append_binds(
     cols: &[ColDef],
 ) -> Result<(), AllocError>
     requires names { AreNames scope.now.query.now.conds scope.now.names.now }
-    requires given { scope.now.given.now ≡ given_columns scope.now.rels.now 0 scope.now.query.now.items }
+    requires given { scope.now.given.now
+        ≡ given_columns scope.now.rels.now 0 scope.now.query.now.items }
     requires few { col + length cols.now < 2 ^ 32 }
-    ensures { OnOk result (steps.new ≡ steps.old ++ binds_from scope.now.rels.now scope.now.query.now item col cols.now) }
+    ensures { OnOk result
+        (steps.new
+        ≡ steps.old ++ binds_from scope.now.rels.now scope.now.query.now item col cols.now) }
 {
     match cols {
         [] => Ok(()),
@@ -166,8 +181,10 @@ fn append_bind(
     column: Ref,
 ) -> Result<(), AllocError>
     requires names { AreNames scope.now.query.now.conds scope.now.names.now }
-    requires given { scope.now.given.now ≡ given_columns scope.now.rels.now 0 scope.now.query.now.items }
-    ensures { OnOk result (steps.new ≡ steps.old ++ bind_steps scope.now.rels.now scope.now.query.now column) }
+    requires given { scope.now.given.now
+        ≡ given_columns scope.now.rels.now 0 scope.now.query.now.items }
+    ensures { OnOk result
+        (steps.new ≡ steps.old ++ bind_steps scope.now.rels.now scope.now.query.now column) }
 {
     let conds = scope.query.conds.as_slice();
     match source_by_names(alloc, conds, scope.names, scope.given, column)? {

@@ -33,7 +33,8 @@ fn append_places(
     items: &[Item],
 ) -> Result<(), AllocError>
     requires { at + length items.now < 2 ^ 32 }
-    ensures { OnOk result (order.new.items ≡ order.old.items ++ places (comes_in turn) at items.now) }
+    ensures { OnOk result
+        (order.new.items ≡ order.old.items ++ places (comes_in turn) at items.now) }
 {
     match items {
         [] => Ok(()),

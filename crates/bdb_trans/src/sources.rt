@@ -29,7 +29,8 @@ fn append_given(
 ) -> Result<(), AllocError>
     requires relations { list_all can_number_columns rels.now ≡ true }
     requires few { at + length items.now < 2 ^ 32 }
-    ensures { OnOk result (columns.new.items ≡ columns.old.items ++ given_columns rels.now at items.now) }
+    ensures { OnOk result
+        (columns.new.items ≡ columns.old.items ++ given_columns rels.now at items.now) }
 {
     match items {
         [] => Ok(()),
@@ -49,7 +50,8 @@ fn append_item(
     item: &Item,
 ) -> Result<(), AllocError>
     requires { list_all can_number_columns rels.now ≡ true }
-    ensures { OnOk result (columns.new.items ≡ columns.old.items ++ item_columns rels.now at item.now) }
+    ensures { OnOk result
+        (columns.new.items ≡ columns.old.items ++ item_columns rels.now at item.now) }
 {
     match item {
         Item::Users { .. } => {
@@ -72,7 +74,8 @@ fn append_columns(
     cols: &[ColDef],
 ) -> Result<(), AllocError>
     requires { col + length cols.now < 2 ^ 32 }
-    ensures { OnOk result (columns.new.items ≡ columns.old.items ++ columns_from item col (map (λ c. c.kind) cols.now)) }
+    ensures { OnOk result (columns.new.items ≡ columns.old.items ++ columns_from item col
+        (map (λ c. c.kind) cols.now)) }
 {
     match cols {
         [] => Ok(()),
@@ -105,7 +108,8 @@ pub fn source_by_names(
     given: &[Ref],
     column: Ref,
 ) -> Result<Option<Operand>, AllocError>
-    ensures { IfOk result (λ source. source ≡ source_by_names conds.now names.now given.now column) }
+    ensures { IfOk result
+        (λ source. source ≡ source_by_names conds.now names.now given.now column) }
 {
     let name = named(names, column);
     match pinned(conds, names, name) {

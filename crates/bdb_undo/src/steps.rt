@@ -51,7 +51,8 @@ fn take_each(base: &mut Base, stmts: &[Stmt])
 fn put_each(alloc: Global, base: &mut Base, stmts: &[Stmt]) -> Result<(), AllocError>
     requires sorted { ascending statement_cmp base.old.stmts ≡ true }
     requires valid { IsValid base.old.catalog (with_statements base.old.stmts stmts.now) }
-    ensures { OnOk result (base.new ≡ record base.old { stmts = with_statements base.old.stmts stmts.now }) }
+    ensures { OnOk result
+        (base.new ≡ record base.old { stmts = with_statements base.old.stmts stmts.now }) }
 {
     for stmt in stmts {
         base.put(stmt.try_clone(alloc)?)?;
@@ -62,9 +63,11 @@ fn put_each(alloc: Global, base: &mut Base, stmts: &[Stmt]) -> Result<(), AllocE
 /// Takes away the user or the relation that a change added last, or lets the user who left come back.
 fn name_back(alloc: Global, base: &mut Base, named: &Named) -> Result<(), AllocError>
     requires can { CanName named.now (named_back named.now base.old.catalog) }
-    requires last { base.old.catalog ≡ named_forth named.now (named_back named.now base.old.catalog) }
+    requires last { base.old.catalog ≡ named_forth named.now
+        (named_back named.now base.old.catalog) }
     requires valid { IsValid (named_back named.now base.old.catalog) base.old.stmts }
-    ensures { OnOk result (base.new ≡ record base.old { catalog = named_back named.now base.old.catalog }) }
+    ensures { OnOk result
+        (base.new ≡ record base.old { catalog = named_back named.now base.old.catalog }) }
 {
     match named {
         Named::Nothing => Ok(()),
@@ -87,7 +90,8 @@ fn name_back(alloc: Global, base: &mut Base, named: &Named) -> Result<(), AllocE
 fn name_forth(alloc: Global, base: &mut Base, named: &Named) -> Result<(), AllocError>
     requires can { CanName named.now base.old.catalog }
     requires valid { IsValid (named_forth named.now base.old.catalog) base.old.stmts }
-    ensures { OnOk result (base.new ≡ record base.old { catalog = named_forth named.now base.old.catalog }) }
+    ensures { OnOk result
+        (base.new ≡ record base.old { catalog = named_forth named.now base.old.catalog }) }
 {
     match named {
         Named::Nothing => Ok(()),

@@ -295,15 +295,14 @@ replaced t u v a b c gone come g k base m = k (of_stmts base (without_statements
 -- a first moment with the same rows and count of writes
 pub from_still : (old mid new : Seen) (es : List (Stmt × Contents)) → mid.kept ≡ old.kept → mid.writes ≡ old.writes → WritesThrough mid es new → WritesThrough old es new
 from_still old mid new [] kept writes h = (h.0 ∙ kept, h.1 ∙ writes)
-from_still old mid new (e ∷ es) kept writes h =
-    (
-      h.0,
-      subst (λ (n : ℕ). n ≤ h.0.writes) writes h.1,
-      h.2,
-      subst (λ (t : Tables). KeepsOneWay t h.0.kept) kept h.3,
-      still_within (length e.0.path + 2) 8 old mid h.0 kept writes h.4,
-      h.5,
-    )
+from_still old mid new (e ∷ es) kept writes h = (
+  h.0,
+  subst (λ (n : ℕ). n ≤ h.0.writes) writes h.1,
+  h.2,
+  subst (λ (t : Tables). KeepsOneWay t h.0.kept) kept h.3,
+  still_within (length e.0.path + 2) 8 old mid h.0 kept writes h.4,
+  h.5,
+)
 
 -- steps and then others
 through_then : (old mid new : Seen) (es fs : List (Stmt × Contents)) → WritesThrough old es mid → WritesThrough mid fs new → WritesThrough old (es ++ fs) new

@@ -27,11 +27,15 @@ pub fn add_statement<K: Keeper>(
 ) -> Result<Added, UpdateError>
     requires running { (K.seen keeper.old).running ≡ true }
     requires base { SomeMayMeet (K.seen keeper.old).kept counts.old stmt.now }
-    ensures added { Adds (K.seen keeper.old) (K.seen keeper.new) counts.old counts.new stmt.now result }
+    ensures added { Adds (K.seen keeper.old) (K.seen keeper.new)
+        counts.old counts.new stmt.now result }
     ensures keeps { OnOk result (KeepsNumbers (K.seen keeper.old).kept (K.seen keeper.new).kept) }
-    ensures worlds { OnOk result (TakesLeastNames (K.seen keeper.old).kept (K.seen keeper.new).kept stmt.now.path) }
-    ensures number { OnOk result (TakesLeast (K.seen keeper.old).kept (K.seen keeper.new).kept stmt.now.tuple) }
-    ensures writes { OnOk result (WritesWithin (length stmt.now.path + 2) 8 (K.seen keeper.old) (K.seen keeper.new)) }
+    ensures worlds { OnOk result
+        (TakesLeastNames (K.seen keeper.old).kept (K.seen keeper.new).kept stmt.now.path) }
+    ensures number { OnOk result
+        (TakesLeast (K.seen keeper.old).kept (K.seen keeper.new).kept stmt.now.tuple) }
+    ensures writes { OnOk result (WritesWithin (length stmt.now.path + 2) 8 (K.seen keeper.old)
+        (K.seen keeper.new)) }
     ensures counts { NeverFall (K.seen keeper.old) (K.seen keeper.new) }
 {
     match try_add(alloc, keeper, counts, stmt) {

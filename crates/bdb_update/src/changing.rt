@@ -31,9 +31,14 @@ pub fn change_statements<K: Keeper>(
 ) -> Result<(), UpdateError>
     requires running { (K.seen keeper.old).running ≡ true }
     requires base { SomeMayChange (K.seen keeper.old).kept counts.old path.now gone.now come.now }
-    ensures changed { Changes (K.seen keeper.old) (K.seen keeper.new) counts.old counts.new path.now gone.now come.now result }
-    ensures keeps { OnOk result (ChangeKeeps counts.old path.now gone.now come.now (K.seen keeper.old) (K.seen keeper.new)) }
-    ensures writes { OnOk result (ChangesThrough counts.old path.now gone.now come.now (K.seen keeper.old) (K.seen keeper.new)) }
+    ensures changed { Changes (K.seen keeper.old) (K.seen keeper.new)
+        counts.old counts.new path.now gone.now come.now result }
+    ensures keeps { OnOk result
+        (ChangeKeeps counts.old path.now gone.now come.now (K.seen keeper.old)
+        (K.seen keeper.new)) }
+    ensures writes { OnOk result
+        (ChangesThrough counts.old path.now gone.now come.now (K.seen keeper.old)
+        (K.seen keeper.new)) }
     ensures counts { NeverFall (K.seen keeper.old) (K.seen keeper.new) }
 {
     let first = match gone.first() {

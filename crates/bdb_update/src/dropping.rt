@@ -24,9 +24,11 @@ pub fn drop_statement<K: Keeper>(
 ) -> Result<bool, TabError>
     requires running { (K.seen keeper.old).running ≡ true }
     requires base { SomeMayMeet (K.seen keeper.old).kept counts.old stmt.now }
-    ensures dropped { Drops (K.seen keeper.old) (K.seen keeper.new) counts.old counts.new stmt.now result }
+    ensures dropped { Drops (K.seen keeper.old) (K.seen keeper.new)
+        counts.old counts.new stmt.now result }
     ensures keeps { OnOk result (KeepsNumbers (K.seen keeper.new).kept (K.seen keeper.old).kept) }
-    ensures writes { OnOk result (WritesWithin (length stmt.now.path + 2) 8 (K.seen keeper.old) (K.seen keeper.new)) }
+    ensures writes { OnOk result (WritesWithin (length stmt.now.path + 2) 8 (K.seen keeper.old)
+        (K.seen keeper.new)) }
     ensures counts { NeverFall (K.seen keeper.old) (K.seen keeper.new) }
 {
     match try_drop(alloc, keeper, counts, stmt) {

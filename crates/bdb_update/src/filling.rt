@@ -27,10 +27,14 @@ pub fn fill_worlds<K: Keeper>(
     requires grammar { InGrammar (K.seen keeper.old).kept }
     requires tuples { HaveTuples (K.seen keeper.old).kept }
     requires come { SomeHaveCome (K.seen keeper.old).kept wids.now }
-    ensures filled { OnOk result (FillsWorlds (K.seen keeper.old).kept (K.seen keeper.new).kept wids.now) }
-    ensures counted { IfOk result (CountsCome (K.seen keeper.old).kept (K.seen keeper.new).kept wids.now) }
-    ensures others { OnOk result (SameBut (λ n. nat_eq n 11) (K.seen keeper.old).kept (K.seen keeper.new).kept) }
-    ensures writes { IfOk result (λ n. Rises n (K.seen keeper.old).writes (K.seen keeper.new).writes) }
+    ensures filled { OnOk result
+        (FillsWorlds (K.seen keeper.old).kept (K.seen keeper.new).kept wids.now) }
+    ensures counted { IfOk result
+        (CountsCome (K.seen keeper.old).kept (K.seen keeper.new).kept wids.now) }
+    ensures others { OnOk result
+        (SameBut (λ n. nat_eq n 11) (K.seen keeper.old).kept (K.seen keeper.new).kept) }
+    ensures writes { IfOk result
+        (λ n. Rises n (K.seen keeper.old).writes (K.seen keeper.new).writes) }
     ensures grammar { OnOk result (InGrammar (K.seen keeper.new).kept) }
     ensures tuples { OnOk result (HaveTuples (K.seen keeper.new).kept) }
     ensures changing { IsChanging (K.seen keeper.old) (K.seen keeper.new) result TabError.Fault }
@@ -60,8 +64,10 @@ fn fill_world<K: Keeper>(alloc: Global, keeper: &mut K, wid: u32) -> Result<usiz
     requires linked { HasLink (K.seen keeper.old).kept wid }
     ensures filled { OnOk result (IsFilled (K.seen keeper.old).kept (K.seen keeper.new).kept wid) }
     ensures tells { IfOk result (TellsCopy (K.seen keeper.old) (K.seen keeper.new) wid) }
-    ensures others { OnOk result (SameBut (λ n. nat_eq n 11) (K.seen keeper.old).kept (K.seen keeper.new).kept) }
-    ensures writes { IfOk result (λ n. Rises n (K.seen keeper.old).writes (K.seen keeper.new).writes) }
+    ensures others { OnOk result
+        (SameBut (λ n. nat_eq n 11) (K.seen keeper.old).kept (K.seen keeper.new).kept) }
+    ensures writes { IfOk result
+        (λ n. Rises n (K.seen keeper.old).writes (K.seen keeper.new).writes) }
     ensures grammar { OnOk result (InGrammar (K.seen keeper.new).kept) }
     ensures tuples { OnOk result (HaveTuples (K.seen keeper.new).kept) }
     ensures changing { IsChanging (K.seen keeper.old) (K.seen keeper.new) result TabError.Fault }

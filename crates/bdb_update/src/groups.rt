@@ -33,7 +33,9 @@ pub fn read_explicit<K: Keeper>(
     requires running { (K.seen keeper.old).running ≡ true }
     requires grammar { InGrammar (K.seen keeper.old).kept }
     requires tuples { HaveTuples (K.seen keeper.old).kept }
-    ensures rows { IfOk result (λ rows. AreExplicitUnder (K.seen keeper.old).kept (group_prefix wid tuple.now.rel (key_of (λ _. n) tuple.now)) rows.items) }
+    ensures rows { IfOk result
+        (λ rows. AreExplicitUnder (K.seen keeper.old).kept
+        (group_prefix wid tuple.now.rel (key_of (λ _. n) tuple.now)) rows.items) }
     ensures read { IsRead (K.seen keeper.old) (K.seen keeper.new) result TabError.Fault }
 {
     let prefix = match group_prefix(alloc, wid, n, tuple) {
@@ -55,7 +57,8 @@ pub fn read_explicit<K: Keeper>(
 
 // How the keys of a tuple's group of a world begin.
 fn group_prefix(alloc: Global, wid: u32, n: u32, tuple: &Tuple) -> Result<Vec<u8>, AllocError>
-    ensures { IfOk result (λ prefix. prefix.items ≡ group_prefix wid tuple.now.rel (key_of (λ _. n) tuple.now)) }
+    ensures { IfOk result
+        (λ prefix. prefix.items ≡ group_prefix wid tuple.now.rel (key_of (λ _. n) tuple.now)) }
 {
     let mut prefix = Vec::with_capacity(alloc, KEY_ROOM)?;
     put_pair(&mut prefix, wid, tuple.rel)?;
@@ -72,7 +75,8 @@ fn explicit_among<K: Keeper>(
     requires running { (K.seen keeper.old).running ≡ true }
     requires grammar { InGrammar (K.seen keeper.old).kept }
     requires there { AllByRecursion (HasTuple (K.seen keeper.old).kept) entries.now }
-    ensures rows { IfOk result (λ rows. AreExplicit (K.seen keeper.old).kept entries.now rows.items) }
+    ensures rows { IfOk result
+        (λ rows. AreExplicit (K.seen keeper.old).kept entries.now rows.items) }
     ensures read { IsRead (K.seen keeper.old) (K.seen keeper.new) result TabError.Fault }
 {
     let mut rows = Vec::new(alloc);
@@ -95,7 +99,8 @@ fn push_explicit<K: Keeper>(
     requires running { (K.seen keeper.old).running ≡ true }
     requires grammar { InGrammar (K.seen keeper.old).kept }
     requires there { HasTuple (K.seen keeper.old).kept entry.now }
-    ensures pushed { OnOk result (IsPicked (K.seen keeper.old).kept entry.now rows.old.items rows.new.items) }
+    ensures pushed { OnOk result
+        (IsPicked (K.seen keeper.old).kept entry.now rows.old.items rows.new.items) }
     ensures read { IsRead (K.seen keeper.old) (K.seen keeper.new) result TabError.Fault }
 {
     if !entry.1.1 {

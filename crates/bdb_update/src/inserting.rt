@@ -41,12 +41,17 @@ pub fn insert<K: Keeper>(
     requires number { HasAt tuple_ix_codec (K.seen keeper.old).kept stmt.now.tuple ready.now.tid }
     requires counted { HoldsSomeTuples (K.seen keeper.old).kept tuples }
     requires length { IsKeyLength (K.seen keeper.old).kept stmt.now.tuple.rel ready.now.key_len }
-    ensures joined { OnOk result (Joins (K.seen keeper.old).kept (K.seen keeper.new).kept stmt.now) }
-    ensures counted { IfOk result (λ moved. CountsJoined (K.seen keeper.old).kept stmt.now moved.came moved.went) }
+    ensures joined { OnOk result
+        (Joins (K.seen keeper.old).kept (K.seen keeper.new).kept stmt.now) }
+    ensures counted { IfOk result
+        (λ moved. CountsJoined (K.seen keeper.old).kept stmt.now moved.came moved.went) }
     ensures keeps { OnOk result (KeepsNumbers (K.seen keeper.old).kept (K.seen keeper.new).kept) }
-    ensures least { OnOk result (TakesLeastNames (K.seen keeper.old).kept (K.seen keeper.new).kept stmt.now.path) }
-    ensures number { OnOk result (TakesLeast (K.seen keeper.old).kept (K.seen keeper.new).kept stmt.now.tuple) }
-    ensures writes { OnOk result (WritesWithin (length stmt.now.path + 2) 8 (K.seen keeper.old) (K.seen keeper.new)) }
+    ensures least { OnOk result
+        (TakesLeastNames (K.seen keeper.old).kept (K.seen keeper.new).kept stmt.now.path) }
+    ensures number { OnOk result
+        (TakesLeast (K.seen keeper.old).kept (K.seen keeper.new).kept stmt.now.tuple) }
+    ensures writes { OnOk result (WritesWithin (length stmt.now.path + 2) 8 (K.seen keeper.old)
+        (K.seen keeper.new)) }
     ensures changing { IsChanging (K.seen keeper.old) (K.seen keeper.new) result TabError.Fault }
 {
     let (wid, rows) = match add_worlds(alloc, keeper, stmt, ready.wid, worlds) {

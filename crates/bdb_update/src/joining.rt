@@ -41,12 +41,18 @@ pub fn add_worlds<K: Keeper>(
     requires running { (K.seen keeper.old).running ≡ true }
     requires base { SomeMayJoin (K.seen keeper.old).kept stmt.now worlds }
     requires world { IsWorldFound (K.seen keeper.old).kept stmt.now.path wid }
-    ensures arrived { IfOk result (λ found. Arrive (K.seen keeper.old).kept (K.seen keeper.new).kept stmt.now found.0) }
-    ensures counted { IfOk result (λ found. CountsArrived (K.seen keeper.old).kept (K.seen keeper.new).kept stmt.now found.1) }
+    ensures arrived { IfOk result
+        (λ found. Arrive (K.seen keeper.old).kept (K.seen keeper.new).kept stmt.now found.0) }
+    ensures counted { IfOk result
+        (λ found. CountsArrived (K.seen keeper.old).kept
+        (K.seen keeper.new).kept stmt.now found.1) }
     ensures names { OnOk result (KeepsNames (K.seen keeper.old).kept (K.seen keeper.new).kept) }
-    ensures least { OnOk result (TakesLeastNames (K.seen keeper.old).kept (K.seen keeper.new).kept stmt.now.path) }
-    ensures writes { IfOk result (λ found. StateWrites (length stmt.now.path + 2) found.1 (K.seen keeper.old) (K.seen keeper.new)) }
-    ensures others { OnOk result (SameBut is_of_worlds (K.seen keeper.old).kept (K.seen keeper.new).kept) }
+    ensures least { OnOk result
+        (TakesLeastNames (K.seen keeper.old).kept (K.seen keeper.new).kept stmt.now.path) }
+    ensures writes { IfOk result (λ found. StateWrites (length stmt.now.path + 2) found.1
+        (K.seen keeper.old) (K.seen keeper.new)) }
+    ensures others { OnOk result
+        (SameBut is_of_worlds (K.seen keeper.old).kept (K.seen keeper.new).kept) }
     ensures changing { IsChanging (K.seen keeper.old) (K.seen keeper.new) result TabError.Fault }
 {
     match wid {
@@ -88,12 +94,17 @@ pub fn number_tuple<K: Keeper>(
     requires fits { IsTupleRow stmt.now.tuple }
     requires found { HasAt tuple_ix_codec (K.seen keeper.old).kept stmt.now.tuple found }
     requires counted { HoldsSomeTuples (K.seen keeper.old).kept tuples }
-    ensures numbered { OnOk result (Numbers (K.seen keeper.old).kept (K.seen keeper.new).kept stmt.now) }
-    ensures here { IfOk result (λ tid. HasAt tuple_ix_codec (K.seen keeper.new).kept stmt.now.tuple (Some tid)) }
+    ensures numbered { OnOk result
+        (Numbers (K.seen keeper.old).kept (K.seen keeper.new).kept stmt.now) }
+    ensures here { IfOk result (λ tid. HasAt tuple_ix_codec (K.seen keeper.new).kept stmt.now.tuple
+        (Some tid)) }
     ensures keeps { OnOk result (KeepsTuples (K.seen keeper.old).kept (K.seen keeper.new).kept) }
-    ensures least { OnOk result (TakesLeast (K.seen keeper.old).kept (K.seen keeper.new).kept stmt.now.tuple) }
-    ensures writes { OnOk result (RisesWithin 2 (K.seen keeper.old).writes (K.seen keeper.new).writes) }
-    ensures others { OnOk result (others.SameBut is_of_tuples (K.seen keeper.old).kept (K.seen keeper.new).kept) }
+    ensures least { OnOk result
+        (TakesLeast (K.seen keeper.old).kept (K.seen keeper.new).kept stmt.now.tuple) }
+    ensures writes { OnOk result
+        (RisesWithin 2 (K.seen keeper.old).writes (K.seen keeper.new).writes) }
+    ensures others { OnOk result
+        (others.SameBut is_of_tuples (K.seen keeper.old).kept (K.seen keeper.new).kept) }
     ensures changing { IsChanging (K.seen keeper.old) (K.seen keeper.new) result TabError.Fault }
 {
     match found {
@@ -119,7 +130,8 @@ fn put_number<K: Keeper>(
 ) -> Result<(), TabError>
     requires running { (K.seen keeper.old).running ≡ true }
     requires tuple { MayBeTuple tuple.now }
-    ensures put { OnOk result ((K.seen keeper.new).kept ≡ number_put (K.seen keeper.old).kept tid tuple.now) }
+    ensures put { OnOk result
+        ((K.seen keeper.new).kept ≡ number_put (K.seen keeper.old).kept tid tuple.now) }
     ensures writes { OnOk result (Rises 2 (K.seen keeper.old).writes (K.seen keeper.new).writes) }
     ensures changing { IsChanging (K.seen keeper.old) (K.seen keeper.new) result TabError.Fault }
 {
@@ -163,10 +175,14 @@ pub fn settle_statement<K: Keeper>(
     requires fits { IsTupleRow stmt.now.tuple }
     requires number { HasAt tuple_ix_codec (K.seen keeper.old).kept stmt.now.tuple (Some tid) }
     requires length { IsKeyLength (K.seen keeper.old).kept stmt.now.tuple.rel n }
-    ensures settled { OnOk result (Settles (K.seen keeper.old).kept (K.seen keeper.new).kept stmt.now) }
-    ensures counted { IfOk result (λ s. CountsSettled (K.seen keeper.old).kept (K.seen keeper.new).kept stmt.now s.put s.taken) }
+    ensures settled { OnOk result
+        (Settles (K.seen keeper.old).kept (K.seen keeper.new).kept stmt.now) }
+    ensures counted { IfOk result
+        (λ s. CountsSettled (K.seen keeper.old).kept
+        (K.seen keeper.new).kept stmt.now s.put s.taken) }
     ensures writes { OnOk result (RowWrites 2 (K.seen keeper.old) (K.seen keeper.new)) }
-    ensures others { OnOk result (others.SameBut (λ n. nat_eq n 11) (K.seen keeper.old).kept (K.seen keeper.new).kept) }
+    ensures others { OnOk result (others.SameBut (λ n. nat_eq n 11) (K.seen keeper.old).kept
+        (K.seen keeper.new).kept) }
     ensures changing { IsChanging (K.seen keeper.old) (K.seen keeper.new) result TabError.Fault }
 {
     let key = key_of(&stmt.tuple, n);
@@ -211,11 +227,17 @@ fn put_row<K: Keeper>(
 ) -> Result<bool, TabError>
     requires running { (K.seen keeper.old).running ≡ true }
     requires text { HaveKeyTexts key.now }
-    ensures found { IfOk result (λ stood. stood ≡ is_some (tables.get (K.seen keeper.old).kept (place val_codec (key_made stmt.now wid tid key.now)))) }
-    ensures put { OnOk result ((K.seen keeper.new).kept ≡ row_put (K.seen keeper.old).kept stmt.now wid tid key.now) }
+    ensures found { IfOk result
+        (λ stood.
+        stood ≡ is_some
+        (tables.get (K.seen keeper.old).kept
+        (place val_codec (key_made stmt.now wid tid key.now)))) }
+    ensures put { OnOk result
+        ((K.seen keeper.new).kept ≡ row_put (K.seen keeper.old).kept stmt.now wid tid key.now) }
     ensures writes { OnOk result (Rises 1 (K.seen keeper.old).writes (K.seen keeper.new).writes) }
     ensures fits { OnOk result (IsValKey (key_made stmt.now wid tid key.now)) }
-    ensures grammar { OnOk result (InGrammar (K.seen keeper.old).kept → InGrammar (K.seen keeper.new).kept) }
+    ensures grammar { OnOk result (InGrammar (K.seen keeper.old).kept
+        → InGrammar (K.seen keeper.new).kept) }
     ensures changing { IsChanging (K.seen keeper.old) (K.seen keeper.new) result TabError.Fault }
 {
     let bytes = match row_key(alloc, wid, rel_of(&stmt.tuple), key, tid) {
@@ -239,8 +261,10 @@ fn put_explicit<K: Keeper>(
     sign: Sign,
 ) -> Result<bool, TabError>
     requires running { (K.seen keeper.old).running ≡ true }
-    ensures found { IfOk result (λ stood. stood ≡ is_some (tables.get (K.seen keeper.old).kept (11 ∷ key.now))) }
-    ensures put { OnOk result ((K.seen keeper.new).kept ≡ tables.insert (K.seen keeper.old).kept (11 ∷ key.now) (mark_bytes (sign, true))) }
+    ensures found { IfOk result
+        (λ stood. stood ≡ is_some (tables.get (K.seen keeper.old).kept (11 ∷ key.now))) }
+    ensures put { OnOk result ((K.seen keeper.new).kept ≡ tables.insert (K.seen keeper.old).kept
+        (11 ∷ key.now) (mark_bytes (sign, true))) }
     ensures writes { OnOk result (Rises 1 (K.seen keeper.old).writes (K.seen keeper.new).writes) }
     ensures changing { IsChanging (K.seen keeper.old) (K.seen keeper.new) result TabError.Fault }
 {

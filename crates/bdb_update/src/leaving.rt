@@ -43,7 +43,8 @@ pub fn try_drop<K: Keeper>(
     requires base { SomeMayMeet (K.seen keeper.old).kept counts.now stmt.now }
     ensures tried { TriesDrop (K.seen keeper.old) (K.seen keeper.new) counts.now stmt.now result }
     ensures keeps { OnOk result (KeepsNumbers (K.seen keeper.new).kept (K.seen keeper.old).kept) }
-    ensures writes { OnOk result (WritesWithin (length stmt.now.path + 2) 8 (K.seen keeper.old) (K.seen keeper.new)) }
+    ensures writes { OnOk result (WritesWithin (length stmt.now.path + 2) 8 (K.seen keeper.old)
+        (K.seen keeper.new)) }
     ensures counts { NeverFall (K.seen keeper.old) (K.seen keeper.new) }
 {
     let place = match look(alloc, keeper, stmt) {
@@ -90,7 +91,8 @@ fn leave<K: Keeper>(
     ensures left { OnOk result (Leaves (K.seen keeper.old).kept (K.seen keeper.new).kept stmt.now) }
     ensures counted { IfOk result (CountsLeft (K.seen keeper.old).kept stmt.now) }
     ensures keeps { OnOk result (KeepsNumbers (K.seen keeper.new).kept (K.seen keeper.old).kept) }
-    ensures writes { OnOk result (WritesWithin (length stmt.now.path + 2) 8 (K.seen keeper.old) (K.seen keeper.new)) }
+    ensures writes { OnOk result (WritesWithin (length stmt.now.path + 2) 8 (K.seen keeper.old)
+        (K.seen keeper.new)) }
     ensures changing { IsChanging (K.seen keeper.old) (K.seen keeper.new) result TabError.Fault }
 {
     let settled = match part_statement(alloc, keeper, stmt, n, wid, tid) {

@@ -109,7 +109,8 @@ fn read_rows<K: Keeper>(
     requires grammar { InGrammar (K.seen keeper.old).kept }
     requires tuples { HaveTuples (K.seen keeper.old).kept }
     requires tuple { MayBeTuple tuple.now }
-    ensures rows { IfOk result (λ rows. AreRowsIf (λ _. n) (K.seen keeper.old).kept wid tuple.now asked rows.items) }
+    ensures rows { IfOk result
+        (λ rows. AreRowsIf (λ _. n) (K.seen keeper.old).kept wid tuple.now asked rows.items) }
     ensures read { IsRead (K.seen keeper.old) (K.seen keeper.new) result TabError.Fault }
 {
     if !asked {
@@ -168,7 +169,8 @@ fn judge(alloc: Global, stmt: &Stmt, place: &Place, counts: &Counts) -> Result<V
 // What is said of a statement with which no row clashes.
 fn join_verdict(stmt: &Stmt, place: &Place, counts: &Counts) -> Verdict
     requires { IsSmall stmt.now place.now counts.now }
-    ensures { result ≡ joined_by stmt.now place.now counts.now (list_any (is_own stmt.now) place.now.rows.items) }
+    ensures { result ≡ joined_by stmt.now place.now counts.now
+        (list_any (is_own stmt.now) place.now.rows.items) }
 {
     if has_own(stmt, &place.rows) {
         return Verdict::Stands;

@@ -45,10 +45,13 @@ pub fn part_statement<K: Keeper>(
     requires fits { IsTupleRow stmt.now.tuple }
     requires number { HasAt tuple_ix_codec (K.seen keeper.old).kept stmt.now.tuple (Some tid) }
     requires length { IsKeyLength (K.seen keeper.old).kept stmt.now.tuple.rel n }
-    ensures parted { OnOk result (Parts (K.seen keeper.old).kept (K.seen keeper.new).kept stmt.now) }
-    ensures rows { IfOk result (λ s. PartsRows (K.seen keeper.old).kept (K.seen keeper.new).kept stmt.now s.put s.taken) }
+    ensures parted { OnOk result
+        (Parts (K.seen keeper.old).kept (K.seen keeper.new).kept stmt.now) }
+    ensures rows { IfOk result
+        (λ s. PartsRows (K.seen keeper.old).kept (K.seen keeper.new).kept stmt.now s.put s.taken) }
     ensures writes { OnOk result (RowWrites 2 (K.seen keeper.old) (K.seen keeper.new)) }
-    ensures others { OnOk result (others.SameBut (λ n. nat_eq n 11) (K.seen keeper.old).kept (K.seen keeper.new).kept) }
+    ensures others { OnOk result (others.SameBut (λ n. nat_eq n 11) (K.seen keeper.old).kept
+        (K.seen keeper.new).kept) }
     ensures changing { IsChanging (K.seen keeper.old) (K.seen keeper.new) result TabError.Fault }
 {
     let key = key_of(&stmt.tuple, n);
@@ -74,10 +77,12 @@ fn take_row<K: Keeper>(
 ) -> Result<(), TabError>
     requires running { (K.seen keeper.old).running ≡ true }
     requires text { HaveKeyTexts key.now }
-    ensures taken { OnOk result ((K.seen keeper.new).kept ≡ row_taken (K.seen keeper.old).kept stmt.now wid tid key.now) }
+    ensures taken { OnOk result
+        ((K.seen keeper.new).kept ≡ row_taken (K.seen keeper.old).kept stmt.now wid tid key.now) }
     ensures writes { OnOk result (Rises 1 (K.seen keeper.old).writes (K.seen keeper.new).writes) }
     ensures fits { OnOk result (IsValKey (key_made stmt.now wid tid key.now)) }
-    ensures grammar { OnOk result (InGrammar (K.seen keeper.old).kept → InGrammar (K.seen keeper.new).kept) }
+    ensures grammar { OnOk result (InGrammar (K.seen keeper.old).kept
+        → InGrammar (K.seen keeper.new).kept) }
     ensures changing { IsChanging (K.seen keeper.old) (K.seen keeper.new) result TabError.Fault }
 {
     let bytes = match row_key(alloc, wid, rel_of(&stmt.tuple), key, tid) {
@@ -102,12 +107,16 @@ pub fn drop_worlds<K: Keeper>(
 ) -> Result<(usize, usize), TabError>
     requires running { (K.seen keeper.old).running ≡ true }
     requires base { SomeHasParted (K.seen keeper.old).kept stmt.now }
-    ensures worlds { OnOk result (LosesWorlds (K.seen keeper.old).kept (K.seen keeper.new).kept stmt.now) }
+    ensures worlds { OnOk result
+        (LosesWorlds (K.seen keeper.old).kept (K.seen keeper.new).kept stmt.now) }
     ensures counted { IfOk result (λ gone. CountsWorlds (K.seen keeper.old).kept stmt.now gone.0) }
-    ensures rows { IfOk result (λ gone. LosesRows (K.seen keeper.old).kept (K.seen keeper.new).kept gone.1) }
+    ensures rows { IfOk result
+        (λ gone. LosesRows (K.seen keeper.old).kept (K.seen keeper.new).kept gone.1) }
     ensures names { OnOk result (KeepsNames (K.seen keeper.new).kept (K.seen keeper.old).kept) }
-    ensures writes { IfOk result (λ gone. StateWrites (length stmt.now.path + 2) gone.1 (K.seen keeper.old) (K.seen keeper.new)) }
-    ensures others { OnOk result (SameBut is_of_worlds (K.seen keeper.old).kept (K.seen keeper.new).kept) }
+    ensures writes { IfOk result (λ gone. StateWrites (length stmt.now.path + 2) gone.1
+        (K.seen keeper.old) (K.seen keeper.new)) }
+    ensures others { OnOk result
+        (SameBut is_of_worlds (K.seen keeper.old).kept (K.seen keeper.new).kept) }
     ensures changing { IsChanging (K.seen keeper.old) (K.seen keeper.new) result TabError.Fault }
 {
     let gone = match drop_states(alloc, keeper, stmt.path.as_slice()) {
@@ -132,10 +141,13 @@ fn clear_worlds<K: Keeper>(alloc: Global, keeper: &mut K, wids: &[u32]) -> Resul
     requires running { (K.seen keeper.old).running ≡ true }
     requires grammar { InGrammar (K.seen keeper.old).kept }
     requires tuples { HaveTuples (K.seen keeper.old).kept }
-    ensures cleared { OnOk result (ClearsWorlds (K.seen keeper.old).kept (K.seen keeper.new).kept wids.now) }
+    ensures cleared { OnOk result
+        (ClearsWorlds (K.seen keeper.old).kept (K.seen keeper.new).kept wids.now) }
     ensures rows { IfOk result (LosesRows (K.seen keeper.old).kept (K.seen keeper.new).kept) }
-    ensures writes { IfOk result (λ n. Rises n (K.seen keeper.old).writes (K.seen keeper.new).writes) }
-    ensures others { OnOk result (others.SameBut (λ n. nat_eq n 11) (K.seen keeper.old).kept (K.seen keeper.new).kept) }
+    ensures writes { IfOk result
+        (λ n. Rises n (K.seen keeper.old).writes (K.seen keeper.new).writes) }
+    ensures others { OnOk result (others.SameBut (λ n. nat_eq n 11) (K.seen keeper.old).kept
+        (K.seen keeper.new).kept) }
     ensures changing { IsChanging (K.seen keeper.old) (K.seen keeper.new) result TabError.Fault }
 {
     let mut count: usize = 0;
@@ -160,11 +172,14 @@ pub fn drop_number<K: Keeper>(
     requires base { SomeHasFewerWorlds (K.seen keeper.old).kept stmt.now }
     requires fits { IsTupleRow stmt.now.tuple }
     requires number { HasAt tuple_ix_codec (K.seen keeper.old).kept stmt.now.tuple (Some tid) }
-    ensures number { OnOk result (LosesNumber (K.seen keeper.old).kept (K.seen keeper.new).kept stmt.now) }
+    ensures number { OnOk result
+        (LosesNumber (K.seen keeper.old).kept (K.seen keeper.new).kept stmt.now) }
     ensures stood { OnOk result (KeepsTuples (K.seen keeper.new).kept (K.seen keeper.old).kept) }
     ensures tells { IfOk result (TellsNumber (K.seen keeper.old).kept stmt.now) }
-    ensures writes { OnOk result (RisesWithin 2 (K.seen keeper.old).writes (K.seen keeper.new).writes) }
-    ensures others { OnOk result (others.SameBut is_of_tuples (K.seen keeper.old).kept (K.seen keeper.new).kept) }
+    ensures writes { OnOk result
+        (RisesWithin 2 (K.seen keeper.old).writes (K.seen keeper.new).writes) }
+    ensures others { OnOk result
+        (others.SameBut is_of_tuples (K.seen keeper.old).kept (K.seen keeper.new).kept) }
     ensures changing { IsChanging (K.seen keeper.old) (K.seen keeper.new) result TabError.Fault }
 {
     match is_told(alloc, keeper, &stmt.tuple, tid) {
@@ -187,7 +202,8 @@ fn take_number<K: Keeper>(
 ) -> Result<(), TabError>
     requires running { (K.seen keeper.old).running ≡ true }
     requires tuple { MayBeTuple tuple.now }
-    ensures taken { OnOk result ((K.seen keeper.new).kept ≡ number_taken (K.seen keeper.old).kept tid tuple.now) }
+    ensures taken { OnOk result
+        ((K.seen keeper.new).kept ≡ number_taken (K.seen keeper.old).kept tid tuple.now) }
     ensures writes { OnOk result (Rises 2 (K.seen keeper.old).writes (K.seen keeper.new).writes) }
     ensures changing { IsChanging (K.seen keeper.old) (K.seen keeper.new) result TabError.Fault }
 {

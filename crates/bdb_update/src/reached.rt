@@ -28,7 +28,8 @@ pub fn read_statements<K: Keeper>(
 ) -> Result<(List<Stmt>, u32), TabError>
     requires running { (K.seen keeper.old).running ≡ true }
     requires base { SomeHasState (K.seen keeper.old).kept path.now }
-    ensures found { IfOk result (λ found. StandAt (K.seen keeper.old).kept path.now found.0 found.1) }
+    ensures found { IfOk result
+        (λ found. StandAt (K.seen keeper.old).kept path.now found.0 found.1) }
     ensures sorted { IfOk result (λ found. ascending statement_cmp found.0 ≡ true) }
     ensures read { IsRead (K.seen keeper.old) (K.seen keeper.new) result TabError.Fault }
 {
@@ -132,21 +133,24 @@ pub fn first_clashing<'a>(rels: &[RelDef], stmts: &'a [Stmt], path: &[u32]) -> O
 
 // Whether a statement of this very path clashes with another one at it.
 fn clashes_within(rels: &[RelDef], stmts: &[Stmt], path: &[u32], x: &Stmt) -> bool
-    ensures { result ≡ (same_path x.now.path path.now && contradicted (key_lengths rels.now) stmts.now path.now x.now.tuple x.now.sign) }
+    ensures { result ≡ (same_path x.now.path path.now && contradicted (key_lengths rels.now)
+        stmts.now path.now x.now.tuple x.now.sign) }
 {
     x.path.as_slice() == path && is_contradicted(rels, stmts, path, x)
 }
 
 // Whether a statement clashes with one of this very path.
 fn is_contradicted(rels: &[RelDef], stmts: &[Stmt], path: &[u32], x: &Stmt) -> bool
-    ensures { result ≡ contradicted (key_lengths rels.now) stmts.now path.now x.now.tuple x.now.sign }
+    ensures { result ≡ contradicted (key_lengths rels.now)
+        stmts.now path.now x.now.tuple x.now.sign }
 {
     stmts.iter().any(|y| clashes_at(rels, path, x, y))
 }
 
 // Whether a statement is one of this very path, and another clashes with it.
 fn clashes_at(rels: &[RelDef], path: &[u32], x: &Stmt, y: &Stmt) -> bool
-    ensures { result ≡ (same_path y.now.path path.now && clash (key_lengths rels.now) x.now.tuple x.now.sign y.now.tuple y.now.sign) }
+    ensures { result ≡ (same_path y.now.path path.now && clash (key_lengths rels.now)
+        x.now.tuple x.now.sign y.now.tuple y.now.sign) }
 {
     y.path.as_slice() == path && clash_in(rels, &x.tuple, x.sign, &y.tuple, y.sign)
 }

@@ -60,7 +60,8 @@ pub fn is_explicit<K: Keeper>(
     but: Option<u32>,
 ) -> Result<bool, TabError>
     requires grammar { InGrammar (K.seen keeper.old).kept }
-    ensures told { IfOk result (AnyTells (K.seen keeper.old).kept (key_rest (λ _. n) tuple.now tid) but) }
+    ensures told { IfOk result (AnyTells (K.seen keeper.old).kept (key_rest (λ _. n) tuple.now tid)
+        but) }
     ensures read { IsRead (K.seen keeper.old) (K.seen keeper.new) result TabError.Fault }
 {
     let rest = match key_rest(alloc, n, tuple, tid) {

@@ -26,9 +26,13 @@ pub fn replace<K: Keeper>(
 ) -> Result<Counts, TabError>
     requires running { (K.seen keeper.old).running ≡ true }
     requires base { SomeMayReplace (K.seen keeper.old).kept counts.now gone.now come.now }
-    ensures replaced { IfOk result (λ next. Replace (K.seen keeper.old).kept (K.seen keeper.new).kept counts.now next gone.now come.now) }
-    ensures steps { OnOk result (ReplacesThrough counts.now gone.now come.now (K.seen keeper.old) (K.seen keeper.new)) }
-    ensures keeps { OnOk result (ReplaceKeeps counts.now gone.now come.now (K.seen keeper.old) (K.seen keeper.new)) }
+    ensures replaced { IfOk result
+        (λ next. Replace (K.seen keeper.old).kept
+        (K.seen keeper.new).kept counts.now next gone.now come.now) }
+    ensures steps { OnOk result (ReplacesThrough counts.now gone.now come.now (K.seen keeper.old)
+        (K.seen keeper.new)) }
+    ensures keeps { OnOk result (ReplaceKeeps counts.now gone.now come.now (K.seen keeper.old)
+        (K.seen keeper.new)) }
     ensures changing { IsChanging (K.seen keeper.old) (K.seen keeper.new) result TabError.Fault }
 {
     let mut next = *counts;
@@ -52,8 +56,10 @@ pub fn drop_statements<K: Keeper>(
 ) -> Result<(), TabError>
     requires running { (K.seen keeper.old).running ≡ true }
     requires base { SomeMayGo (K.seen keeper.old).kept counts.old gone.now }
-    ensures gone { OnOk result (Go (K.seen keeper.old).kept (K.seen keeper.new).kept counts.old counts.new gone.now) }
-    ensures steps { OnOk result (GoesThrough counts.old gone.now (K.seen keeper.old) (K.seen keeper.new)) }
+    ensures gone { OnOk result
+        (Go (K.seen keeper.old).kept (K.seen keeper.new).kept counts.old counts.new gone.now) }
+    ensures steps { OnOk result
+        (GoesThrough counts.old gone.now (K.seen keeper.old) (K.seen keeper.new)) }
     ensures keeps { OnOk result (KeepsNumbers (K.seen keeper.new).kept (K.seen keeper.old).kept) }
     ensures changing { IsChanging (K.seen keeper.old) (K.seen keeper.new) result TabError.Fault }
     ensures writes { WritesForOne gone.now (K.seen keeper.old) (K.seen keeper.new) result }
@@ -77,8 +83,10 @@ pub fn add_statements<K: Keeper>(
 ) -> Result<(), TabError>
     requires running { (K.seen keeper.old).running ≡ true }
     requires base { SomeMayCome (K.seen keeper.old).kept counts.old come.now }
-    ensures come { OnOk result (Come (K.seen keeper.old).kept (K.seen keeper.new).kept counts.old counts.new come.now) }
-    ensures steps { OnOk result (ComesThrough counts.old come.now (K.seen keeper.old) (K.seen keeper.new)) }
+    ensures come { OnOk result
+        (Come (K.seen keeper.old).kept (K.seen keeper.new).kept counts.old counts.new come.now) }
+    ensures steps { OnOk result
+        (ComesThrough counts.old come.now (K.seen keeper.old) (K.seen keeper.new)) }
     ensures keeps { OnOk result (KeepsNumbers (K.seen keeper.old).kept (K.seen keeper.new).kept) }
     ensures changing { IsChanging (K.seen keeper.old) (K.seen keeper.new) result TabError.Fault }
 {

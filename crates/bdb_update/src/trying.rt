@@ -29,9 +29,12 @@ pub fn try_add<K: Keeper>(
     requires base { SomeMayMeet (K.seen keeper.old).kept counts.now stmt.now }
     ensures tried { Tries (K.seen keeper.old) (K.seen keeper.new) counts.now stmt.now result }
     ensures keeps { OnOk result (KeepsNumbers (K.seen keeper.old).kept (K.seen keeper.new).kept) }
-    ensures least { OnOk result (TakesLeastNames (K.seen keeper.old).kept (K.seen keeper.new).kept stmt.now.path) }
-    ensures number { OnOk result (TakesLeast (K.seen keeper.old).kept (K.seen keeper.new).kept stmt.now.tuple) }
-    ensures writes { OnOk result (WritesWithin (length stmt.now.path + 2) 8 (K.seen keeper.old) (K.seen keeper.new)) }
+    ensures least { OnOk result
+        (TakesLeastNames (K.seen keeper.old).kept (K.seen keeper.new).kept stmt.now.path) }
+    ensures number { OnOk result
+        (TakesLeast (K.seen keeper.old).kept (K.seen keeper.new).kept stmt.now.tuple) }
+    ensures writes { OnOk result (WritesWithin (length stmt.now.path + 2) 8 (K.seen keeper.old)
+        (K.seen keeper.new)) }
     ensures counts { NeverFall (K.seen keeper.old) (K.seen keeper.new) }
 {
     let ready = match examine(alloc, keeper, stmt, counts) {

@@ -42,7 +42,8 @@ pub fn weigh<K: Keeper>(
 ) -> Result<Weight, TabError>
     requires running { (K.seen keeper.old).running ≡ true }
     requires base { SomeMayWeigh (K.seen keeper.old).kept counts.now path.now gone.now come.now }
-    ensures weighed { IfOk result (Weighs (K.seen keeper.old).kept counts.now path.now gone.now come.now) }
+    ensures weighed { IfOk result
+        (Weighs (K.seen keeper.old).kept counts.now path.now gone.now come.now) }
     ensures read { IsRead (K.seen keeper.old) (K.seen keeper.new) result TabError.Fault }
 {
     let (stmts, wid) = match read_statements(alloc, keeper, path) {
@@ -82,8 +83,10 @@ fn reach(
     come: &[Stmt],
 ) -> Result<(List<Stmt>, Option<Stmt>), AllocError>
     requires { ascending statement_cmp stmts ≡ true }
-    ensures reached { IfOk result (λ found. found.0 ≡ with_statements (without_statements stmts gone.now) come.now) }
-    ensures least { IfOk result (λ found. found.1 ≡ first_clashing (key_lengths rels.now) found.0 path.now) }
+    ensures reached { IfOk result
+        (λ found. found.0 ≡ with_statements (without_statements stmts gone.now) come.now) }
+    ensures least { IfOk result
+        (λ found. found.1 ≡ first_clashing (key_lengths rels.now) found.0 path.now) }
 {
     let left = without_statements(stmts, gone);
     let reached = with_statements(alloc, left, come)?;
@@ -98,7 +101,8 @@ fn clash_among(
     reached: &[Stmt],
     path: &[u32],
 ) -> Result<Option<Stmt>, AllocError>
-    ensures { IfOk result (λ least. least ≡ first_clashing (key_lengths rels.now) reached.now path.now) }
+    ensures { IfOk result
+        (λ least. least ≡ first_clashing (key_lengths rels.now) reached.now path.now) }
 {
     match first_clashing(rels, reached, path) {
         Some(least) => Ok(Some(least.try_clone(alloc)?)),
@@ -120,7 +124,8 @@ fn tell_room<K: Keeper>(
     requires grammar { InGrammar (K.seen keeper.old).kept }
     requires gone { HasTuples gone.now }
     requires come { HasTuples come.now }
-    ensures room { IfOk result (TellsRoom (K.seen keeper.old).kept tuples wid reached.now gone.now come.now) }
+    ensures room { IfOk result
+        (TellsRoom (K.seen keeper.old).kept tuples wid reached.now gone.now come.now) }
     ensures read { IsRead (K.seen keeper.old) (K.seen keeper.new) result TabError.Fault }
 {
     let lost = match lost_of(alloc, keeper, wid, reached, gone) {

@@ -57,7 +57,8 @@ fn push_own(
     from: &Numbered<'_>,
     row: &Marked,
 ) -> Result<(), AllocError>
-    ensures { OnOk result (changes.new.items ≡ changes.old.items ++ own_change barred from.now row.now) }
+    ensures { OnOk result
+        (changes.new.items ≡ changes.old.items ++ own_change barred from.now row.now) }
 {
     if row.1.1 {
         return Ok(());
@@ -76,7 +77,8 @@ fn push_new(
     own: &Numbered<'_>,
     row: &Marked,
 ) -> Result<(), AllocError>
-    ensures { OnOk result (changes.new.items ≡ changes.old.items ++ new_change barred own.now row.now) }
+    ensures { OnOk result
+        (changes.new.items ≡ changes.old.items ++ new_change barred own.now row.now) }
 {
     if own.mark(row.0).is_some() {
         return Ok(());

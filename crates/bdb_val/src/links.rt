@@ -23,7 +23,8 @@ pub struct Links {
 pub fn read_links<K: Keeper>(alloc: Global, keeper: &mut K, wid: u32) -> Result<Links, TabError>
     requires running { (K.seen keeper.old).running ≡ true }
     requires grammar { InGrammar (K.seen keeper.old).kept }
-    ensures links { IfOk result (λ links. AreLinks (K.seen keeper.old).kept links.are_all links.list.items) }
+    ensures links { IfOk result
+        (λ links. AreLinks (K.seen keeper.old).kept links.are_all links.list.items) }
     ensures read { IsRead (K.seen keeper.old) (K.seen keeper.new) result TabError.Fault }
 {
     let list = Vec::new(alloc);
@@ -46,7 +47,9 @@ pub fn read_links<K: Keeper>(alloc: Global, keeper: &mut K, wid: u32) -> Result<
 /// Puts the links that lead to a state on the list, each by the state that has it and the one to which it leads.
 pub fn push_found(links: &Links, wid: u32, list: &mut Vec<(u32, u32)>) -> Result<(), AllocError>
     requires { IsNonDecreasingBy led_to links.now.list.items }
-    ensures { OnOk result (list.new.items ≡ list.old.items ++ map turned_round (filter (leads_to wid) links.now.list.items)) }
+    ensures { OnOk result
+        (list.new.items ≡ list.old.items ++ map turned_round
+        (filter (leads_to wid) links.now.list.items)) }
 {
     let links = links.list.as_slice();
     let start = first_from(links, wid);
@@ -58,7 +61,8 @@ pub fn push_found(links: &Links, wid: u32, list: &mut Vec<(u32, u32)>) -> Result
 fn first_from(links: &[Link], wid: u32) -> usize
     requires { IsNonDecreasingBy led_to links.now }
     ensures within { result ≤ length links.now }
-    ensures skipped { filter (leads_to wid) links.now ≡ filter (leads_to wid) (drop result links.now) }
+    ensures skipped { filter (leads_to wid) links.now ≡ filter (leads_to wid)
+        (drop result links.now) }
 {
     links.partition_point(|link| link.0.0 < wid)
 }
@@ -66,7 +70,8 @@ fn first_from(links: &[Link], wid: u32) -> usize
 // Puts the links that lead to a state on the list, up to the first that leads to one of a higher number.
 fn push_first(links: &[Link], wid: u32, list: &mut Vec<(u32, u32)>) -> Result<(), AllocError>
     requires { IsNonDecreasingBy led_to links.now }
-    ensures { OnOk result (list.new.items ≡ list.old.items ++ map turned_round (filter (leads_to wid) links.now)) }
+    ensures { OnOk result
+        (list.new.items ≡ list.old.items ++ map turned_round (filter (leads_to wid) links.now)) }
 {
     for link in links {
         if link.0.0 > wid {
@@ -79,7 +84,9 @@ fn push_first(links: &[Link], wid: u32, list: &mut Vec<(u32, u32)>) -> Result<()
 
 // Puts a link on the list, if it leads to a state.
 fn push_if(link: &Link, wid: u32, list: &mut Vec<(u32, u32)>) -> Result<(), AllocError>
-    ensures { OnOk result (list.new.items ≡ list.old.items ++ map turned_round (filter (leads_to wid) (link.now ∷ []))) }
+    ensures { OnOk result
+        (list.new.items ≡ list.old.items ++ map turned_round
+        (filter (leads_to wid) (link.now ∷ []))) }
 {
     if link.0.0 != wid {
         return Ok(());

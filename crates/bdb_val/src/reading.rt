@@ -33,8 +33,11 @@ pub fn read_stored<K: Keeper>(
 ) -> Result<Vec<Stored>, TabError>
     requires grammar { InGrammar (K.seen keeper.old).kept }
     requires tuples { HaveTuples (K.seen keeper.old).kept }
-    ensures rows { IfOk result (λ rows. AreReadUnder (K.seen keeper.old).kept prefix.now rows.items) }
-    ensures reads { IfOk result (λ rows. (K.seen keeper.new).reads ≤ (K.seen keeper.old).reads + (2 * length rows.items + 1)) }
+    ensures rows { IfOk result
+        (λ rows. AreReadUnder (K.seen keeper.old).kept prefix.now rows.items) }
+    ensures reads { IfOk result
+        (λ rows. (K.seen keeper.new).reads
+        ≤ (K.seen keeper.old).reads + (2 * length rows.items + 1)) }
     ensures read { IsRead (K.seen keeper.old) (K.seen keeper.new) result TabError.Fault }
 {
     let mut room = Room::new(alloc);
@@ -85,8 +88,11 @@ pub fn read_world<K: Keeper>(
 ) -> Result<Vec<Stored>, TabError>
     requires grammar { InGrammar (K.seen keeper.old).kept }
     requires tuples { HaveTuples (K.seen keeper.old).kept }
-    ensures rows { IfOk result (λ rows. AreReadUnder (K.seen keeper.old).kept (world_prefix wid) rows.items) }
-    ensures reads { IfOk result (λ rows. (K.seen keeper.new).reads ≤ (K.seen keeper.old).reads + (2 * length rows.items + 1)) }
+    ensures rows { IfOk result (λ rows. AreReadUnder (K.seen keeper.old).kept (world_prefix wid)
+        rows.items) }
+    ensures reads { IfOk result
+        (λ rows. (K.seen keeper.new).reads
+        ≤ (K.seen keeper.old).reads + (2 * length rows.items + 1)) }
     ensures read { IsRead (K.seen keeper.old) (K.seen keeper.new) result TabError.Fault }
 {
     let mut prefix = Vec::new(alloc);
@@ -111,8 +117,11 @@ pub fn read_group<K: Keeper>(
     requires grammar { InGrammar (K.seen keeper.old).kept }
     requires tuples { HaveTuples (K.seen keeper.old).kept }
     requires text { HaveKeyTexts key.now }
-    ensures rows { IfOk result (λ rows. AreReadUnder (K.seen keeper.old).kept (group_prefix wid rel key.now) rows.items) }
-    ensures reads { IfOk result (λ rows. (K.seen keeper.new).reads ≤ (K.seen keeper.old).reads + (2 * length rows.items + 1)) }
+    ensures rows { IfOk result
+        (λ rows. AreReadUnder (K.seen keeper.old).kept (group_prefix wid rel key.now) rows.items) }
+    ensures reads { IfOk result
+        (λ rows. (K.seen keeper.new).reads
+        ≤ (K.seen keeper.old).reads + (2 * length rows.items + 1)) }
     ensures fits { OnOk result (AreKeyVals key.now) }
     ensures read { IsRead (K.seen keeper.old) (K.seen keeper.new) result TabError.Fault }
 {
@@ -146,7 +155,9 @@ pub fn group_marks<K: Keeper>(
     requires grammar { InGrammar (K.seen keeper.old).kept }
     requires text { HaveKeyTexts key.now }
     requires begins { MayBegin room.old.prefix.items rel key.now }
-    ensures rows { OnOk result (AreUnder val_codec (K.seen keeper.old).kept (group_prefix wid rel key.now) (map (in_group wid rel key.now) rows.new.items)) }
+    ensures rows { OnOk result
+        (AreUnder val_codec (K.seen keeper.old).kept (group_prefix wid rel key.now)
+        (map (in_group wid rel key.now) rows.new.items)) }
     ensures prefix { OnOk result (room.new.prefix.items ≡ group_prefix wid rel key.now) }
     ensures fits { OnOk result (AreKeyVals key.now) }
     ensures read { IsRead (K.seen keeper.old) (K.seen keeper.new) result TabError.Fault }

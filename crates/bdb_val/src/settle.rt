@@ -39,14 +39,19 @@ pub fn settle_state<K: Keeper>(
     requires grammar { InGrammar (K.seen keeper.old).kept }
     requires tuples { HaveTuples (K.seen keeper.old).kept }
     requires text { HaveKeyTexts key.now }
-    requires room { IsRoomFor (K.seen keeper.old).kept rel key.now room.old.group.prefix.items room.old.handed.from room.old.handed.rows.items }
+    requires room { IsRoomFor (K.seen keeper.old).kept rel key.now room.old.group.prefix.items
+        room.old.handed.from room.old.handed.rows.items }
     ensures settled { IfOk result (λ settled. HasAt link_codec (K.seen keeper.old).kept wid link
         → WhereStated (K.seen keeper.old).kept (λ keys. IsStep keys (K.seen keeper.old) (K.seen keeper.new) wid (λ w. group_prefix w rel key.now) settled)) }
-    ensures others { OnOk result (SameBut (λ n. nat_eq n 11) (K.seen keeper.old).kept (K.seen keeper.new).kept) }
+    ensures others { OnOk result
+        (SameBut (λ n. nat_eq n 11) (K.seen keeper.old).kept (K.seen keeper.new).kept) }
     ensures grammar { OnOk result (InGrammar (K.seen keeper.new).kept) }
     ensures tuples { OnOk result (HaveTuples (K.seen keeper.new).kept) }
     ensures fits { OnOk result (AreKeyVals key.now) }
-    ensures room { OnOk result (IsRoomFor (K.seen keeper.new).kept rel key.now room.new.group.prefix.items room.new.handed.from room.new.handed.rows.items) }
+    ensures room { OnOk result
+        (IsRoomFor
+        (K.seen keeper.new).kept rel key.now room.new.group.prefix.items room.new.handed.from
+        room.new.handed.rows.items) }
     ensures changing { IsChanging (K.seen keeper.old) (K.seen keeper.new) result TabError.Fault }
 {
     match keep_linked(keeper, link, rel, key, &mut room.group, &mut room.handed) {
@@ -89,9 +94,16 @@ fn keep_linked<K: Keeper>(
     requires running { (K.seen keeper.old).running ≡ true }
     requires grammar { InGrammar (K.seen keeper.old).kept }
     requires text { HaveKeyTexts key.now }
-    requires room { IsRoomFor (K.seen keeper.old).kept rel key.now room.old.prefix.items handed.old.from handed.old.rows.items }
-    ensures rows { OnOk result (MatchOption link (handed.new.rows.items ≡ []) (λ m. AreUnder val_codec (K.seen keeper.old).kept (group_prefix m rel key.now) (map (in_group m rel key.now) handed.new.rows.items))) }
-    ensures room { OnOk result (IsRoomFor (K.seen keeper.old).kept rel key.now room.new.prefix.items handed.new.from handed.new.rows.items) }
+    requires room { IsRoomFor
+        (K.seen keeper.old).kept rel key.now room.old.prefix.items handed.old.from
+        handed.old.rows.items }
+    ensures rows { OnOk result
+        (MatchOption link (handed.new.rows.items ≡ [])
+        (λ m. AreUnder val_codec (K.seen keeper.old).kept (group_prefix m rel key.now)
+        (map (in_group m rel key.now) handed.new.rows.items))) }
+    ensures room { OnOk result
+        (IsRoomFor (K.seen keeper.old).kept rel key.now room.new.prefix.items handed.new.from
+        handed.new.rows.items) }
     ensures read { IsRead (K.seen keeper.old) (K.seen keeper.new) result TabError.Fault }
 {
     let wid = match link {

@@ -42,9 +42,12 @@ pub fn settle_group<K: Keeper>(
     requires grammar { InGrammar (K.seen keeper.old).kept }
     requires tuples { HaveTuples (K.seen keeper.old).kept }
     requires text { HaveKeyTexts key.now }
-    ensures settled { OnOk result (SettlesGroup (K.seen keeper.old).kept (K.seen keeper.new).kept wid rel key.now) }
-    ensures tells { IfOk result (TellsGroup (K.seen keeper.old) (K.seen keeper.new) wid rel key.now) }
-    ensures others { OnOk result (SameBut (λ n. nat_eq n 11) (K.seen keeper.old).kept (K.seen keeper.new).kept) }
+    ensures settled { OnOk result
+        (SettlesGroup (K.seen keeper.old).kept (K.seen keeper.new).kept wid rel key.now) }
+    ensures tells { IfOk result
+        (TellsGroup (K.seen keeper.old) (K.seen keeper.new) wid rel key.now) }
+    ensures others { OnOk result
+        (SameBut (λ n. nat_eq n 11) (K.seen keeper.old).kept (K.seen keeper.new).kept) }
     ensures grammar { OnOk result (InGrammar (K.seen keeper.new).kept) }
     ensures tuples { OnOk result (HaveTuples (K.seen keeper.new).kept) }
     ensures changing { IsChanging (K.seen keeper.old) (K.seen keeper.new) result TabError.Fault }
@@ -73,9 +76,12 @@ fn settle_from<K: Keeper>(
     requires tuples { HaveTuples (K.seen keeper.old).kept }
     requires text { HaveKeyTexts key.now }
     requires links { AreLinks (K.seen keeper.old).kept links.now.are_all links.now.list.items }
-    ensures settled { OnOk result (SettlesGroup (K.seen keeper.old).kept (K.seen keeper.new).kept wid rel key.now) }
-    ensures tells { IfOk result (TellsGroup (K.seen keeper.old) (K.seen keeper.new) wid rel key.now) }
-    ensures others { OnOk result (SameBut (λ n. nat_eq n 11) (K.seen keeper.old).kept (K.seen keeper.new).kept) }
+    ensures settled { OnOk result
+        (SettlesGroup (K.seen keeper.old).kept (K.seen keeper.new).kept wid rel key.now) }
+    ensures tells { IfOk result
+        (TellsGroup (K.seen keeper.old) (K.seen keeper.new) wid rel key.now) }
+    ensures others { OnOk result
+        (SameBut (λ n. nat_eq n 11) (K.seen keeper.old).kept (K.seen keeper.new).kept) }
     ensures grammar { OnOk result (InGrammar (K.seen keeper.new).kept) }
     ensures tuples { OnOk result (HaveTuples (K.seen keeper.new).kept) }
     ensures changing { IsChanging (K.seen keeper.old) (K.seen keeper.new) result TabError.Fault }
@@ -125,13 +131,21 @@ fn visit_first<K: Keeper>(
     requires tuples { HaveTuples (K.seen keeper.old).kept }
     requires text { HaveKeyTexts key.now }
     requires links { AreLinks (K.seen keeper.old).kept links.now.are_all links.now.list.items }
-    requires room { IsRoomFor (K.seen keeper.old).kept rel key.now room.old.group.prefix.items room.old.handed.from room.old.handed.rows.items }
-    ensures visited { IfOk result (λ settled. WhereStated (K.seen keeper.old).kept (λ keys. IsFirstVisit keys (K.seen keeper.old) (K.seen keeper.new) (λ w. group_prefix w rel key.now) wid list.old.items list.new.items settled)) }
-    ensures others { OnOk result (SameBut (λ n. nat_eq n 11) (K.seen keeper.old).kept (K.seen keeper.new).kept) }
+    requires room { IsRoomFor (K.seen keeper.old).kept rel key.now room.old.group.prefix.items
+        room.old.handed.from room.old.handed.rows.items }
+    ensures visited { IfOk result
+        (λ settled. WhereStated (K.seen keeper.old).kept
+        (λ keys. IsFirstVisit keys (K.seen keeper.old) (K.seen keeper.new)
+        (λ w. group_prefix w rel key.now) wid list.old.items list.new.items settled)) }
+    ensures others { OnOk result
+        (SameBut (λ n. nat_eq n 11) (K.seen keeper.old).kept (K.seen keeper.new).kept) }
     ensures grammar { OnOk result (InGrammar (K.seen keeper.new).kept) }
     ensures tuples { OnOk result (HaveTuples (K.seen keeper.new).kept) }
     ensures fits { OnOk result (AreKeyVals key.now) }
-    ensures room { OnOk result (IsRoomFor (K.seen keeper.new).kept rel key.now room.new.group.prefix.items room.new.handed.from room.new.handed.rows.items) }
+    ensures room { OnOk result
+        (IsRoomFor
+        (K.seen keeper.new).kept rel key.now room.new.group.prefix.items room.new.handed.from
+        room.new.handed.rows.items) }
     ensures changing { IsChanging (K.seen keeper.old) (K.seen keeper.new) result TabError.Fault }
 {
     let link = match get::<SuffixTab, K>(alloc, keeper, &wid) {
@@ -164,13 +178,18 @@ fn visit_next<K: Keeper>(
     requires tuples { HaveTuples (K.seen keeper.old).kept }
     requires text { HaveKeyTexts key.now }
     requires links { AreLinks (K.seen keeper.old).kept links.now.are_all links.now.list.items }
-    requires room { IsRoomFor (K.seen keeper.old).kept rel key.now room.old.group.prefix.items room.old.handed.from room.old.handed.rows.items }
+    requires room { IsRoomFor (K.seen keeper.old).kept rel key.now room.old.group.prefix.items
+        room.old.handed.from room.old.handed.rows.items }
     ensures visited { IfOk result (λ settled. HasAt link_codec (K.seen keeper.old).kept next.0 (Some next.1)
         → WhereStated (K.seen keeper.old).kept (λ keys. IsNextVisit keys (K.seen keeper.old) (K.seen keeper.new) (λ w. group_prefix w rel key.now) next.0 list.old.items list.new.items settled)) }
-    ensures others { OnOk result (SameBut (λ n. nat_eq n 11) (K.seen keeper.old).kept (K.seen keeper.new).kept) }
+    ensures others { OnOk result
+        (SameBut (λ n. nat_eq n 11) (K.seen keeper.old).kept (K.seen keeper.new).kept) }
     ensures grammar { OnOk result (InGrammar (K.seen keeper.new).kept) }
     ensures tuples { OnOk result (HaveTuples (K.seen keeper.new).kept) }
-    ensures room { OnOk result (IsRoomFor (K.seen keeper.new).kept rel key.now room.new.group.prefix.items room.new.handed.from room.new.handed.rows.items) }
+    ensures room { OnOk result
+        (IsRoomFor
+        (K.seen keeper.new).kept rel key.now room.new.group.prefix.items room.new.handed.from
+        room.new.handed.rows.items) }
     ensures changing { IsChanging (K.seen keeper.old) (K.seen keeper.new) result TabError.Fault }
 {
     let settled = match settle_state(keeper, next.0, Some(next.1), rel, key, room) {
@@ -199,7 +218,8 @@ fn push_linked<K: Keeper>(
     requires running { (K.seen keeper.old).running ≡ true }
     requires grammar { InGrammar (K.seen keeper.old).kept }
     requires links { AreLinks (K.seen keeper.old).kept links.now.are_all links.now.list.items }
-    ensures pushed { OnOk result (ArePushed (K.seen keeper.old).kept wid list.old.items list.new.items) }
+    ensures pushed { OnOk result
+        (ArePushed (K.seen keeper.old).kept wid list.old.items list.new.items) }
     ensures read { IsRead (K.seen keeper.old) (K.seen keeper.new) result TabError.Fault }
 {
     if !links.are_all {
@@ -226,7 +246,8 @@ fn read_linked<K: Keeper>(
     room: &mut LinkRoom,
 ) -> Result<(), TabError>
     requires grammar { InGrammar (K.seen keeper.old).kept }
-    ensures pushed { OnOk result (ArePushed (K.seen keeper.old).kept wid list.old.items list.new.items) }
+    ensures pushed { OnOk result
+        (ArePushed (K.seen keeper.old).kept wid list.old.items list.new.items) }
     ensures read { IsRead (K.seen keeper.old) (K.seen keeper.new) result TabError.Fault }
 {
     match put_world(&mut room.prefix, wid) {
@@ -269,7 +290,8 @@ fn push_links<K: Keeper>(
     requires grammar { InGrammar (K.seen keeper.old).kept }
     requires prefix { room.old.prefix.items ≡ num_bytes wid }
     requires low { room.old.low.items ≡ num_bytes wid }
-    ensures pushed { OnOk result (ArePushed (K.seen keeper.old).kept wid list.old.items list.new.items) }
+    ensures pushed { OnOk result
+        (ArePushed (K.seen keeper.old).kept wid list.old.items list.new.items) }
     ensures read { IsRead (K.seen keeper.old) (K.seen keeper.new) result TabError.Fault }
 {
     for _ in 0..u64::MAX {
@@ -296,7 +318,9 @@ fn next_link<K: Keeper>(
 ) -> Result<Option<((u32, u32), ())>, TabError>
     requires grammar { InGrammar (K.seen keeper.old).kept }
     requires from { is_le (bytes_cmp room.old.prefix.items room.old.low.items) ≡ true }
-    ensures found { IfOk result (HasNextUnder linked_codec (K.seen keeper.old).kept room.old.prefix.items room.old.low.items room.new.low.items) }
+    ensures found { IfOk result
+        (HasNextUnder linked_codec
+        (K.seen keeper.old).kept room.old.prefix.items room.old.low.items room.new.low.items) }
     ensures prefix { room.new.prefix ≡ room.old.prefix }
     ensures read { IsRead (K.seen keeper.old) (K.seen keeper.new) result TabError.Fault }
 {

@@ -20,7 +20,9 @@ pub fn world_at<K: Keeper>(alloc: Global, keeper: &mut K, wid: u32) -> Result<Wo
     requires grammar { InGrammar (K.seen keeper.old).kept }
     requires tuples { HaveTuples (K.seen keeper.old).kept }
     ensures world { IfOk result (λ world. AreRowsAt (K.seen keeper.old).kept wid world.held) }
-    ensures reads { IfOk result (λ world. (K.seen keeper.new).reads ≤ (K.seen keeper.old).reads + (2 * length world.held + 1)) }
+    ensures reads { IfOk result
+        (λ world. (K.seen keeper.new).reads
+        ≤ (K.seen keeper.old).reads + (2 * length world.held + 1)) }
     ensures read { IsRead (K.seen keeper.old) (K.seen keeper.new) result TabError.Fault }
 {
     let rows = match read_world(alloc, keeper, wid) {

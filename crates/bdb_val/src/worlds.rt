@@ -22,10 +22,13 @@ pub fn copy_world<K: Keeper>(
     requires running { (K.seen keeper.old).running ≡ true }
     requires grammar { InGrammar (K.seen keeper.old).kept }
     requires tuples { HaveTuples (K.seen keeper.old).kept }
-    ensures copied { OnOk result (CopiesWorld (K.seen keeper.old).kept (K.seen keeper.new).kept from to) }
-    ensures others { OnOk result (SameBut (λ n. nat_eq n 11) (K.seen keeper.old).kept (K.seen keeper.new).kept) }
+    ensures copied { OnOk result
+        (CopiesWorld (K.seen keeper.old).kept (K.seen keeper.new).kept from to) }
+    ensures others { OnOk result
+        (SameBut (λ n. nat_eq n 11) (K.seen keeper.old).kept (K.seen keeper.new).kept) }
     ensures counted { IfOk result (IsRowCount (K.seen keeper.old).kept from) }
-    ensures writes { IfOk result (λ n. Rises n (K.seen keeper.old).writes (K.seen keeper.new).writes) }
+    ensures writes { IfOk result
+        (λ n. Rises n (K.seen keeper.old).writes (K.seen keeper.new).writes) }
     ensures tells { IfOk result (TellsCopy (K.seen keeper.old) (K.seen keeper.new) to) }
     ensures grammar { OnOk result (InGrammar (K.seen keeper.new).kept) }
     ensures tuples { OnOk result (HaveTuples (K.seen keeper.new).kept) }
@@ -42,10 +45,13 @@ pub fn clear_world<K: Keeper>(alloc: Global, keeper: &mut K, wid: u32) -> Result
     requires running { (K.seen keeper.old).running ≡ true }
     requires grammar { InGrammar (K.seen keeper.old).kept }
     requires tuples { HaveTuples (K.seen keeper.old).kept }
-    ensures cleared { OnOk result (ClearsWorld (K.seen keeper.old).kept (K.seen keeper.new).kept wid) }
-    ensures others { OnOk result (SameBut (λ n. nat_eq n 11) (K.seen keeper.old).kept (K.seen keeper.new).kept) }
+    ensures cleared { OnOk result
+        (ClearsWorld (K.seen keeper.old).kept (K.seen keeper.new).kept wid) }
+    ensures others { OnOk result
+        (SameBut (λ n. nat_eq n 11) (K.seen keeper.old).kept (K.seen keeper.new).kept) }
     ensures counted { IfOk result (IsRowCount (K.seen keeper.old).kept wid) }
-    ensures writes { IfOk result (λ n. Rises n (K.seen keeper.old).writes (K.seen keeper.new).writes) }
+    ensures writes { IfOk result
+        (λ n. Rises n (K.seen keeper.old).writes (K.seen keeper.new).writes) }
     ensures tells { IfOk result (TellsDifferences (K.seen keeper.old) (K.seen keeper.new) 0) }
     ensures grammar { OnOk result (InGrammar (K.seen keeper.new).kept) }
     ensures tuples { OnOk result (HaveTuples (K.seen keeper.new).kept) }

@@ -55,7 +55,8 @@ fn look(
 ) -> Result<Searched, AllocError>
     requires sorted { ascending statement_cmp stmts.now ≡ true }
     requires short { length path.now < 2 ^ 32 }
-    ensures { IfOk result (λ found. found ≡ searched_by (considered (λ _. n) stmts.now path.now t.now s)) }
+    ensures { IfOk result
+        (λ found. found ≡ searched_by (considered (λ _. n) stmts.now path.now t.now s)) }
 {
     match s {
         Sign::Plus => Ok(Searched::Others(List::new(alloc))),
@@ -77,7 +78,8 @@ fn look_among(
 ) -> Result<Searched, AllocError>
     requires sorted { ascending statement_cmp stmts.now ≡ true }
     requires short { length path.now < 2 ^ 32 }
-    ensures { IfOk result (λ found. found ≡ searched_by (map (ruled_of (λ _. n) stmts.now path.now) tuples.now)) }
+    ensures { IfOk result
+        (λ found. found ≡ searched_by (map (ruled_of (λ _. n) stmts.now path.now) tuples.now)) }
 {
     let mut others = List::new(alloc);
     for tuple in tuples {

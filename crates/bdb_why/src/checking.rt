@@ -23,8 +23,10 @@ use bdb_model::{key_length_in, stated_among};
 /// memory.
 pub fn check_why(base: &Base, path: &[u32], t: &Tuple, s: Sign, y: &Why) -> bool
     requires { length path.now < 2 ^ 32 }
-    ensures exact { Decides result (y.now ≡ why_of (key_lengths base.now.catalog.rels) base.now.stmts path.now t.now s) }
-    ensures belief { IsTrue result → says y.now ≡ believes (key_lengths base.now.catalog.rels) base.now.stmts path.now t.now s }
+    ensures exact { Decides result
+        (y.now ≡ why_of (key_lengths base.now.catalog.rels) base.now.stmts path.now t.now s) }
+    ensures belief { IsTrue result → says y.now ≡ believes (key_lengths base.now.catalog.rels)
+        base.now.stmts path.now t.now s }
 {
     check_why_among(key_length_in(base, t), base.stmts(), path, t, s, y)
 }
@@ -184,7 +186,8 @@ fn is_ground_from(
 ) -> bool
     requires sorted { ascending statement_cmp stmts.now ≡ true }
     requires short { level + length path.now < 2 ^ 32 }
-    ensures { result ≡ same_ground reason.now (ground_from (λ _. n) stmts.now level path.now t.now s) }
+    ensures { result ≡ same_ground reason.now
+        (ground_from (λ _. n) stmts.now level path.now t.now s) }
 {
     if explicit_at(stmts, path, t, s) {
         return is_found_at(reason, level);

@@ -24,7 +24,8 @@ pub fn deepest_end<K: Keeper>(
     requires states { HoldSome (K.seen keeper.old).kept path.now }
     requires apart { alternates path.now ≡ true }
     ensures at { IfOk result (EndsAt (K.seen keeper.old).kept path.now path.now) }
-    ensures reads { OnOk result (RisesWithin (length path.now + 1) (K.seen keeper.old).reads (K.seen keeper.new).reads) }
+    ensures reads { OnOk result (RisesWithin (length path.now + 1) (K.seen keeper.old).reads
+        (K.seen keeper.new).reads) }
     ensures kept { OnOk result ((K.seen keeper.new).kept ≡ (K.seen keeper.old).kept) }
     ensures writes { (K.seen keeper.new).writes ≡ (K.seen keeper.old).writes }
     ensures counts { NeverFall (K.seen keeper.old) (K.seen keeper.new) }

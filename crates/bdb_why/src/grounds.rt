@@ -24,7 +24,8 @@ pub fn ground_from(
 ) -> Result<Ground, AllocError>
     requires sorted { ascending statement_cmp stmts.now ≡ true }
     requires short { level + length path.now < 2 ^ 32 }
-    ensures { IfOk result (λ reason. reason ≡ ground_from (λ _. n) stmts.now level path.now t.now s) }
+    ensures { IfOk result
+        (λ reason. reason ≡ ground_from (λ _. n) stmts.now level path.now t.now s) }
 {
     if explicit_at(stmts, path, t, s) {
         return Ok(Ground::Found { level });

@@ -36,7 +36,8 @@ pub fn near_statements<K: Keeper>(
     requires apart { alternates path.now ≡ true }
     ensures near { IfOk result (AreNear (K.seen keeper.old).kept path.now t.now) }
     ensures sorted { IfOk result (λ stmts. ascending statement_cmp stmts ≡ true) }
-    ensures reads { OnOk result (ReadsAfterOne (K.seen keeper.old) (K.seen keeper.new) path.now t.now) }
+    ensures reads { OnOk result
+        (ReadsAfterOne (K.seen keeper.old) (K.seen keeper.new) path.now t.now) }
     ensures kept { OnOk result ((K.seen keeper.new).kept ≡ (K.seen keeper.old).kept) }
     ensures writes { (K.seen keeper.new).writes ≡ (K.seen keeper.old).writes }
     ensures counts { NeverFall (K.seen keeper.old) (K.seen keeper.new) }
@@ -85,9 +86,11 @@ fn put_near<K: Keeper>(
     requires tuples { HaveTuples (K.seen keeper.old).kept }
     requires apart { alternates path.now ≡ true }
     requires sorted { ascending statement_cmp stmts.old ≡ true }
-    ensures put { OnOk result (PutsNear (K.seen keeper.old).kept wid path.now t.now stmts.old stmts.new) }
+    ensures put { OnOk result
+        (PutsNear (K.seen keeper.old).kept wid path.now t.now stmts.old stmts.new) }
     ensures sorted { OnOk result (ascending statement_cmp stmts.new ≡ true) }
-    ensures reads { OnOk result (ReadsHere (K.seen keeper.old).kept wid path.now t.now (K.seen keeper.old).reads (K.seen keeper.new).reads) }
+    ensures reads { OnOk result (ReadsHere (K.seen keeper.old).kept wid path.now t.now
+        (K.seen keeper.old).reads (K.seen keeper.new).reads) }
     ensures read { IsRead (K.seen keeper.old) (K.seen keeper.new) result TabError.Fault }
 {
     match put_of_key(alloc, keeper, n, wid, path, t.rel, t, stmts) {
@@ -113,9 +116,11 @@ fn put_of_key<K: Keeper>(
     requires apart { alternates path.now ≡ true }
     requires relation { t.now.rel ≡ rel }
     requires sorted { ascending statement_cmp stmts.old ≡ true }
-    ensures put { OnOk result (PutsNear (K.seen keeper.old).kept wid path.now t.now stmts.old stmts.new) }
+    ensures put { OnOk result
+        (PutsNear (K.seen keeper.old).kept wid path.now t.now stmts.old stmts.new) }
     ensures sorted { OnOk result (ascending statement_cmp stmts.new ≡ true) }
-    ensures reads { OnOk result (ReadsHere (K.seen keeper.old).kept wid path.now t.now (K.seen keeper.old).reads (K.seen keeper.new).reads) }
+    ensures reads { OnOk result (ReadsHere (K.seen keeper.old).kept wid path.now t.now
+        (K.seen keeper.old).reads (K.seen keeper.new).reads) }
     ensures read { IsRead (K.seen keeper.old) (K.seen keeper.new) result TabError.Fault }
 {
     let key = key_of(t, n);
@@ -145,7 +150,8 @@ fn put_of_key<K: Keeper>(
 /// How the keys of a world's rows begin that have a relation and key.
 fn put_group(prefix: &mut Vec<u8>, wid: u32, rel: u32, key: &[Value]) -> Result<(), AllocError>
     requires { IsNum (length key.now) }
-    ensures bytes { OnOk result (prefix.new.items ≡ prefix.old.items ++ group_prefix wid rel key.now) }
+    ensures bytes { OnOk result
+        (prefix.new.items ≡ prefix.old.items ++ group_prefix wid rel key.now) }
     ensures whole { OnOk result (AllByRecursion IsWhole key.now) }
 {
     put_num(prefix, wid)?;
@@ -181,7 +187,9 @@ fn put_tuples(
 ) -> Result<(), AllocError>
     requires apart { alternates path.now ≡ true }
     requires sorted { ascending statement_cmp stmts.old ≡ true }
-    ensures put { OnOk result (stmts.new ≡ put_all statement_cmp stmts.old (map (statement_at path.now sign) tuples.items)) }
+    ensures put { OnOk result
+        (stmts.new ≡ put_all statement_cmp stmts.old
+        (map (statement_at path.now sign) tuples.items)) }
     ensures sorted { OnOk result (ascending statement_cmp stmts.new ≡ true) }
 {
     for tuple in tuples {

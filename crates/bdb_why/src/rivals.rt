@@ -35,7 +35,8 @@ fn put_rival(
     x: &Stmt,
 ) -> Result<(), AllocError>
     requires { ascending tuple_cmp tuples.old ≡ true }
-    ensures { OnOk result (tuples.new ≡ cond (is_rival_near (λ _. n) path.now t.now x.now) (put_in tuple_cmp tuples.old x.now.tuple) tuples.old) }
+    ensures { OnOk result (tuples.new ≡ cond (is_rival_near (λ _. n) path.now t.now x.now)
+        (put_in tuple_cmp tuples.old x.now.tuple) tuples.old) }
 {
     if is_rival_near(n, path, t, x) {
         let _added = put_copy(alloc, tuples, &x.tuple)?;

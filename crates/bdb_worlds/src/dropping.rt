@@ -28,11 +28,17 @@ pub fn drop_states<K: Keeper>(
     requires grammar { InGrammar (K.seen keeper.old).kept }
     requires states { HoldSome (K.seen keeper.old).kept path.now }
     requires apart { alternates path.now ≡ true }
-    ensures dropped { IfOk result (λ gone. DropsStates (K.seen keeper.old).kept (K.seen keeper.new).kept path.now gone.items) }
-    ensures unless { IfOk result (λ gone. LeavesOthers (K.seen keeper.old).kept (K.seen keeper.new).kept path.now gone.items) }
-    ensures others { OnOk result (SameOutside 6 10 (K.seen keeper.old).kept (K.seen keeper.new).kept) }
+    ensures dropped { IfOk result
+        (λ gone. DropsStates (K.seen keeper.old).kept
+        (K.seen keeper.new).kept path.now gone.items) }
+    ensures unless { IfOk result
+        (λ gone. LeavesOthers (K.seen keeper.old).kept
+        (K.seen keeper.new).kept path.now gone.items) }
+    ensures others { OnOk result
+        (SameOutside 6 10 (K.seen keeper.old).kept (K.seen keeper.new).kept) }
     ensures grammar { OnOk result (InGrammar (K.seen keeper.new).kept) }
-    ensures writes { OnOk result (WritesWithin (length path.now + 2) (K.seen keeper.old) (K.seen keeper.new)) }
+    ensures writes { OnOk result (WritesWithin (length path.now + 2) (K.seen keeper.old)
+        (K.seen keeper.new)) }
     ensures counts { NeverFall (K.seen keeper.old) (K.seen keeper.new) }
     ensures steps { Steps (K.seen keeper.old) (K.seen keeper.new) result TabError.Fault }
 {
@@ -58,10 +64,14 @@ fn drop_dead<K: Keeper>(
     requires grammar { InGrammar (K.seen keeper.old).kept }
     requires states { HoldSome (K.seen keeper.old).kept path.now }
     requires along { AreAlong (K.seen keeper.old).kept path.now numbers.now }
-    ensures dropped { IfOk result (λ gone. DropsStates (K.seen keeper.old).kept (K.seen keeper.new).kept path.now gone.items) }
-    ensures others { OnOk result (SameOutside 6 10 (K.seen keeper.old).kept (K.seen keeper.new).kept) }
+    ensures dropped { IfOk result
+        (λ gone. DropsStates (K.seen keeper.old).kept
+        (K.seen keeper.new).kept path.now gone.items) }
+    ensures others { OnOk result
+        (SameOutside 6 10 (K.seen keeper.old).kept (K.seen keeper.new).kept) }
     ensures grammar { OnOk result (InGrammar (K.seen keeper.new).kept) }
-    ensures writes { OnOk result (WritesWithin (length path.now + 2) (K.seen keeper.old) (K.seen keeper.new)) }
+    ensures writes { OnOk result (WritesWithin (length path.now + 2) (K.seen keeper.old)
+        (K.seen keeper.new)) }
     ensures counts { NeverFall (K.seen keeper.old) (K.seen keeper.new) }
     ensures steps { Steps (K.seen keeper.old) (K.seen keeper.new) result TabError.Fault }
 {

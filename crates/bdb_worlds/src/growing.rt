@@ -26,10 +26,14 @@ pub fn add_states<K: Keeper>(
     requires grammar { InGrammar (K.seen keeper.old).kept }
     requires room { SomeMayGrow (K.seen keeper.old).kept path.now worlds }
     requires apart { alternates path.now ≡ true }
-    ensures added { IfOk result (λ new. AddsStates (K.seen keeper.old).kept (K.seen keeper.new).kept path.now worlds new.items) }
-    ensures others { OnOk result (SameOutside 6 10 (K.seen keeper.old).kept (K.seen keeper.new).kept) }
+    ensures added { IfOk result
+        (λ new. AddsStates (K.seen keeper.old).kept
+        (K.seen keeper.new).kept path.now worlds new.items) }
+    ensures others { OnOk result
+        (SameOutside 6 10 (K.seen keeper.old).kept (K.seen keeper.new).kept) }
     ensures grammar { OnOk result (InGrammar (K.seen keeper.new).kept) }
-    ensures writes { OnOk result (WritesWithin (length path.now + 2) (K.seen keeper.old) (K.seen keeper.new)) }
+    ensures writes { OnOk result (WritesWithin (length path.now + 2) (K.seen keeper.old)
+        (K.seen keeper.new)) }
     ensures counts { NeverFall (K.seen keeper.old) (K.seen keeper.new) }
     ensures steps { Steps (K.seen keeper.old) (K.seen keeper.new) result TabError.Fault }
 {

@@ -19,10 +19,13 @@ pub fn lead_edges<K: Keeper>(
     to: u32,
 ) -> Result<(), TabError>
     requires running { (K.seen keeper.old).running ≡ true }
-    ensures kept { OnOk result ((K.seen keeper.new).kept ≡ edges_led (K.seen keeper.old).kept uid from to sources.now) }
-    ensures grammar { OnOk result (InGrammar (K.seen keeper.old).kept → InGrammar (K.seen keeper.new).kept) }
+    ensures kept { OnOk result
+        ((K.seen keeper.new).kept ≡ edges_led (K.seen keeper.old).kept uid from to sources.now) }
+    ensures grammar { OnOk result (InGrammar (K.seen keeper.old).kept
+        → InGrammar (K.seen keeper.new).kept) }
     ensures reads { (K.seen keeper.new).reads ≡ (K.seen keeper.old).reads }
-    ensures writes { OnOk result (Rises (3 * length sources.now) (K.seen keeper.old).writes (K.seen keeper.new).writes) }
+    ensures writes { OnOk result (Rises (3 * length sources.now) (K.seen keeper.old).writes
+        (K.seen keeper.new).writes) }
     ensures counts { NeverFall (K.seen keeper.old) (K.seen keeper.new) }
     ensures steps { Steps (K.seen keeper.old) (K.seen keeper.new) result TabError.Fault }
 {
@@ -45,10 +48,13 @@ pub fn lead_links<K: Keeper>(
     to: u32,
 ) -> Result<(), TabError>
     requires running { (K.seen keeper.old).running ≡ true }
-    ensures kept { OnOk result ((K.seen keeper.new).kept ≡ links_led (K.seen keeper.old).kept from to sources.now) }
-    ensures grammar { OnOk result (InGrammar (K.seen keeper.old).kept → InGrammar (K.seen keeper.new).kept) }
+    ensures kept { OnOk result
+        ((K.seen keeper.new).kept ≡ links_led (K.seen keeper.old).kept from to sources.now) }
+    ensures grammar { OnOk result (InGrammar (K.seen keeper.old).kept
+        → InGrammar (K.seen keeper.new).kept) }
     ensures reads { (K.seen keeper.new).reads ≡ (K.seen keeper.old).reads }
-    ensures writes { OnOk result (Rises (3 * length sources.now) (K.seen keeper.old).writes (K.seen keeper.new).writes) }
+    ensures writes { OnOk result (Rises (3 * length sources.now) (K.seen keeper.old).writes
+        (K.seen keeper.new).writes) }
     ensures counts { NeverFall (K.seen keeper.old) (K.seen keeper.new) }
     ensures steps { Steps (K.seen keeper.old) (K.seen keeper.new) result TabError.Fault }
 {
@@ -72,8 +78,10 @@ pub fn lead_edge<K: Keeper>(
     room: &mut Room,
 ) -> Result<(), TabError>
     requires running { (K.seen keeper.old).running ≡ true }
-    ensures kept { OnOk result ((K.seen keeper.new).kept ≡ edge_set (K.seen keeper.old).kept (Some from) (Some to) (wid, uid)) }
-    ensures grammar { OnOk result (InGrammar (K.seen keeper.old).kept → InGrammar (K.seen keeper.new).kept) }
+    ensures kept { OnOk result ((K.seen keeper.new).kept ≡ edge_set (K.seen keeper.old).kept
+        (Some from) (Some to) (wid, uid)) }
+    ensures grammar { OnOk result (InGrammar (K.seen keeper.old).kept
+        → InGrammar (K.seen keeper.new).kept) }
     ensures reads { (K.seen keeper.new).reads ≡ (K.seen keeper.old).reads }
     ensures writes { OnOk result (Rises 3 (K.seen keeper.old).writes (K.seen keeper.new).writes) }
     ensures counts { NeverFall (K.seen keeper.old) (K.seen keeper.new) }
@@ -94,8 +102,10 @@ pub fn lead_link<K: Keeper>(
     room: &mut Room,
 ) -> Result<(), TabError>
     requires running { (K.seen keeper.old).running ≡ true }
-    ensures kept { OnOk result ((K.seen keeper.new).kept ≡ link_set (K.seen keeper.old).kept (Some from) (Some to) wid) }
-    ensures grammar { OnOk result (InGrammar (K.seen keeper.old).kept → InGrammar (K.seen keeper.new).kept) }
+    ensures kept { OnOk result ((K.seen keeper.new).kept ≡ link_set (K.seen keeper.old).kept
+        (Some from) (Some to) wid) }
+    ensures grammar { OnOk result (InGrammar (K.seen keeper.old).kept
+        → InGrammar (K.seen keeper.new).kept) }
     ensures reads { (K.seen keeper.new).reads ≡ (K.seen keeper.old).reads }
     ensures writes { OnOk result (Rises 3 (K.seen keeper.old).writes (K.seen keeper.new).writes) }
     ensures counts { NeverFall (K.seen keeper.old) (K.seen keeper.new) }

@@ -36,7 +36,8 @@ pub fn drop_state<K: Keeper>(alloc: Global, keeper: &mut K, wid: u32) -> Result<
     requires running { (K.seen keeper.old).running ≡ true }
     requires grammar { InGrammar (K.seen keeper.old).kept }
     requires link { is_some (map.get (K.seen keeper.old).kept (place link_codec wid)) ≡ true }
-    ensures dropped { OnOk result (IsDropped (K.seen keeper.old).kept (K.seen keeper.new).kept wid (K.seen keeper.old).writes (K.seen keeper.new).writes) }
+    ensures dropped { OnOk result (IsDropped (K.seen keeper.old).kept (K.seen keeper.new).kept wid
+        (K.seen keeper.old).writes (K.seen keeper.new).writes) }
     ensures grammar { OnOk result (InGrammar (K.seen keeper.new).kept) }
     ensures counts { NeverFall (K.seen keeper.old) (K.seen keeper.new) }
     ensures steps { Steps (K.seen keeper.old) (K.seen keeper.new) result TabError.Fault }
@@ -55,7 +56,10 @@ pub fn drop_state<K: Keeper>(alloc: Global, keeper: &mut K, wid: u32) -> Result<
 fn read_rows<K: Keeper>(alloc: Global, keeper: &mut K, wid: u32) -> Result<OwnRows, TabError>
     requires grammar { InGrammar (K.seen keeper.old).kept }
     requires link { is_some (map.get (K.seen keeper.old).kept (place link_codec wid)) ≡ true }
-    ensures rows { IfOk result (λ rows. AreRowsOf (K.seen keeper.old).kept wid rows.link rows.led.items rows.linked.items rows.own.items) }
+    ensures rows { IfOk result
+        (λ rows.
+        AreRowsOf
+        (K.seen keeper.old).kept wid rows.link rows.led.items rows.linked.items rows.own.items) }
     ensures kept { OnOk result ((K.seen keeper.new).kept ≡ (K.seen keeper.old).kept) }
     ensures writes { (K.seen keeper.new).writes ≡ (K.seen keeper.old).writes }
     ensures counts { NeverFall (K.seen keeper.old) (K.seen keeper.new) }
@@ -99,9 +103,15 @@ fn write_gone<K: Keeper>(
     wid: u32,
 ) -> Result<(), TabError>
     requires running { (K.seen keeper.old).running ≡ true }
-    ensures kept { OnOk result ((K.seen keeper.new).kept ≡ without_state (K.seen keeper.old).kept wid rows.now.link (pairs_of rows.now.led.items) (kids_of rows.now.linked.items) (edges_of rows.now.own.items)) }
-    ensures grammar { OnOk result (InGrammar (K.seen keeper.old).kept → InGrammar (K.seen keeper.new).kept) }
-    ensures writes { OnOk result (Rises (dropped_writes rows.now.led.items rows.now.linked.items rows.now.own.items) (K.seen keeper.old).writes (K.seen keeper.new).writes) }
+    ensures kept { OnOk result
+        ((K.seen keeper.new).kept ≡ without_state (K.seen keeper.old).kept wid rows.now.link
+        (pairs_of rows.now.led.items) (kids_of rows.now.linked.items)
+        (edges_of rows.now.own.items)) }
+    ensures grammar { OnOk result (InGrammar (K.seen keeper.old).kept
+        → InGrammar (K.seen keeper.new).kept) }
+    ensures writes { OnOk result
+        (Rises (dropped_writes rows.now.led.items rows.now.linked.items rows.now.own.items)
+        (K.seen keeper.old).writes (K.seen keeper.new).writes) }
     ensures counts { NeverFall (K.seen keeper.old) (K.seen keeper.new) }
     ensures steps { Steps (K.seen keeper.old) (K.seen keeper.new) result TabError.Fault }
 {
@@ -122,9 +132,13 @@ fn lead_pairs<K: Keeper>(
     to: u32,
 ) -> Result<(), TabError>
     requires running { (K.seen keeper.old).running ≡ true }
-    ensures kept { OnOk result ((K.seen keeper.new).kept ≡ pairs_led (K.seen keeper.old).kept from to (pairs_of rows.now)) }
-    ensures grammar { OnOk result (InGrammar (K.seen keeper.old).kept → InGrammar (K.seen keeper.new).kept) }
-    ensures writes { OnOk result (Rises (3 * length rows.now) (K.seen keeper.old).writes (K.seen keeper.new).writes) }
+    ensures kept { OnOk result
+        ((K.seen keeper.new).kept ≡ pairs_led (K.seen keeper.old).kept from to
+        (pairs_of rows.now)) }
+    ensures grammar { OnOk result (InGrammar (K.seen keeper.old).kept
+        → InGrammar (K.seen keeper.new).kept) }
+    ensures writes { OnOk result (Rises (3 * length rows.now) (K.seen keeper.old).writes
+        (K.seen keeper.new).writes) }
     ensures counts { NeverFall (K.seen keeper.old) (K.seen keeper.new) }
     ensures steps { Steps (K.seen keeper.old) (K.seen keeper.new) result TabError.Fault }
 {
@@ -147,9 +161,12 @@ fn lead_kids<K: Keeper>(
     to: u32,
 ) -> Result<(), TabError>
     requires running { (K.seen keeper.old).running ≡ true }
-    ensures kept { OnOk result ((K.seen keeper.new).kept ≡ links_led (K.seen keeper.old).kept from to (kids_of rows.now)) }
-    ensures grammar { OnOk result (InGrammar (K.seen keeper.old).kept → InGrammar (K.seen keeper.new).kept) }
-    ensures writes { OnOk result (Rises (3 * length rows.now) (K.seen keeper.old).writes (K.seen keeper.new).writes) }
+    ensures kept { OnOk result
+        ((K.seen keeper.new).kept ≡ links_led (K.seen keeper.old).kept from to (kids_of rows.now)) }
+    ensures grammar { OnOk result (InGrammar (K.seen keeper.old).kept
+        → InGrammar (K.seen keeper.new).kept) }
+    ensures writes { OnOk result (Rises (3 * length rows.now) (K.seen keeper.old).writes
+        (K.seen keeper.new).writes) }
     ensures counts { NeverFall (K.seen keeper.old) (K.seen keeper.new) }
     ensures steps { Steps (K.seen keeper.old) (K.seen keeper.new) result TabError.Fault }
 {
@@ -171,9 +188,13 @@ fn drop_edges<K: Keeper>(
     wid: u32,
 ) -> Result<(), TabError>
     requires running { (K.seen keeper.old).running ≡ true }
-    ensures kept { OnOk result ((K.seen keeper.new).kept ≡ edges_dropped (K.seen keeper.old).kept wid (edges_of rows.now)) }
-    ensures grammar { OnOk result (InGrammar (K.seen keeper.old).kept → InGrammar (K.seen keeper.new).kept) }
-    ensures writes { OnOk result (Rises (2 * length rows.now) (K.seen keeper.old).writes (K.seen keeper.new).writes) }
+    ensures kept { OnOk result
+        ((K.seen keeper.new).kept ≡ edges_dropped (K.seen keeper.old).kept wid
+        (edges_of rows.now)) }
+    ensures grammar { OnOk result (InGrammar (K.seen keeper.old).kept
+        → InGrammar (K.seen keeper.new).kept) }
+    ensures writes { OnOk result (Rises (2 * length rows.now) (K.seen keeper.old).writes
+        (K.seen keeper.new).writes) }
     ensures counts { NeverFall (K.seen keeper.old) (K.seen keeper.new) }
     ensures steps { Steps (K.seen keeper.old) (K.seen keeper.new) result TabError.Fault }
 {
@@ -196,8 +217,10 @@ pub fn drop_edge<K: Keeper>(
     room: &mut Room,
 ) -> Result<(), TabError>
     requires running { (K.seen keeper.old).running ≡ true }
-    ensures kept { OnOk result ((K.seen keeper.new).kept ≡ edge_set (K.seen keeper.old).kept (Some from) None (wid, uid)) }
-    ensures grammar { OnOk result (InGrammar (K.seen keeper.old).kept → InGrammar (K.seen keeper.new).kept) }
+    ensures kept { OnOk result ((K.seen keeper.new).kept ≡ edge_set (K.seen keeper.old).kept
+        (Some from) None (wid, uid)) }
+    ensures grammar { OnOk result (InGrammar (K.seen keeper.old).kept
+        → InGrammar (K.seen keeper.new).kept) }
     ensures reads { (K.seen keeper.new).reads ≡ (K.seen keeper.old).reads }
     ensures writes { OnOk result (Rises 2 (K.seen keeper.old).writes (K.seen keeper.new).writes) }
     ensures counts { NeverFall (K.seen keeper.old) (K.seen keeper.new) }
@@ -211,8 +234,10 @@ pub fn drop_edge<K: Keeper>(
 /// Takes the depth and the suffix link of a world away. Three writes.
 fn drop_own<K: Keeper>(alloc: Global, keeper: &mut K, wid: u32, link: u32) -> Result<(), TabError>
     requires running { (K.seen keeper.old).running ≡ true }
-    ensures kept { OnOk result ((K.seen keeper.new).kept ≡ state_dropped (K.seen keeper.old).kept wid link) }
-    ensures grammar { OnOk result (InGrammar (K.seen keeper.old).kept → InGrammar (K.seen keeper.new).kept) }
+    ensures kept { OnOk result
+        ((K.seen keeper.new).kept ≡ state_dropped (K.seen keeper.old).kept wid link) }
+    ensures grammar { OnOk result (InGrammar (K.seen keeper.old).kept
+        → InGrammar (K.seen keeper.new).kept) }
     ensures writes { OnOk result (Rises 3 (K.seen keeper.old).writes (K.seen keeper.new).writes) }
     ensures counts { NeverFall (K.seen keeper.old) (K.seen keeper.new) }
     ensures steps { Steps (K.seen keeper.old) (K.seen keeper.new) result TabError.Fault }

@@ -17,10 +17,13 @@ pub fn make_edges<K: Keeper>(
     edges: &[(u32, u32)],
 ) -> Result<(), TabError>
     requires running { (K.seen keeper.old).running ≡ true }
-    ensures kept { OnOk result ((K.seen keeper.new).kept ≡ edges_made (K.seen keeper.old).kept wid edges.now) }
-    ensures grammar { OnOk result (InGrammar (K.seen keeper.old).kept → InGrammar (K.seen keeper.new).kept) }
+    ensures kept { OnOk result
+        ((K.seen keeper.new).kept ≡ edges_made (K.seen keeper.old).kept wid edges.now) }
+    ensures grammar { OnOk result (InGrammar (K.seen keeper.old).kept
+        → InGrammar (K.seen keeper.new).kept) }
     ensures reads { (K.seen keeper.new).reads ≡ (K.seen keeper.old).reads }
-    ensures writes { OnOk result (Rises (2 * length edges.now) (K.seen keeper.old).writes (K.seen keeper.new).writes) }
+    ensures writes { OnOk result (Rises (2 * length edges.now) (K.seen keeper.old).writes
+        (K.seen keeper.new).writes) }
     ensures counts { NeverFall (K.seen keeper.old) (K.seen keeper.new) }
     ensures steps { Steps (K.seen keeper.old) (K.seen keeper.new) result TabError.Fault }
 {
@@ -43,8 +46,10 @@ pub fn make_edge<K: Keeper>(
     room: &mut Room,
 ) -> Result<(), TabError>
     requires running { (K.seen keeper.old).running ≡ true }
-    ensures kept { OnOk result ((K.seen keeper.new).kept ≡ edge_set (K.seen keeper.old).kept None (Some to) (wid, uid)) }
-    ensures grammar { OnOk result (InGrammar (K.seen keeper.old).kept → InGrammar (K.seen keeper.new).kept) }
+    ensures kept { OnOk result ((K.seen keeper.new).kept ≡ edge_set (K.seen keeper.old).kept None
+        (Some to) (wid, uid)) }
+    ensures grammar { OnOk result (InGrammar (K.seen keeper.old).kept
+        → InGrammar (K.seen keeper.new).kept) }
     ensures reads { (K.seen keeper.new).reads ≡ (K.seen keeper.old).reads }
     ensures writes { OnOk result (Rises 2 (K.seen keeper.old).writes (K.seen keeper.new).writes) }
     ensures counts { NeverFall (K.seen keeper.old) (K.seen keeper.new) }
@@ -64,8 +69,10 @@ pub fn make_state<K: Keeper>(
     link: u32,
 ) -> Result<(), TabError>
     requires running { (K.seen keeper.old).running ≡ true }
-    ensures kept { OnOk result ((K.seen keeper.new).kept ≡ state_made (K.seen keeper.old).kept wid depth link) }
-    ensures grammar { OnOk result (InGrammar (K.seen keeper.old).kept → InGrammar (K.seen keeper.new).kept) }
+    ensures kept { OnOk result
+        ((K.seen keeper.new).kept ≡ state_made (K.seen keeper.old).kept wid depth link) }
+    ensures grammar { OnOk result (InGrammar (K.seen keeper.old).kept
+        → InGrammar (K.seen keeper.new).kept) }
     ensures reads { (K.seen keeper.new).reads ≡ (K.seen keeper.old).reads }
     ensures writes { OnOk result (Rises 3 (K.seen keeper.old).writes (K.seen keeper.new).writes) }
     ensures counts { NeverFall (K.seen keeper.old) (K.seen keeper.new) }

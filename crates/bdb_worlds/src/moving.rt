@@ -21,7 +21,8 @@ pub fn movers<K: Keeper>(
     from: u32,
 ) -> Result<(Vec<u32>, Vec<u32>), TabError>
     requires grammar { InGrammar (K.seen keeper.old).kept }
-    ensures found { IfOk result (λ found. FindsMovers (K.seen keeper.old).kept start uid from found.0.items found.1.items) }
+    ensures found { IfOk result
+        (λ found. FindsMovers (K.seen keeper.old).kept start uid from found.0.items found.1.items) }
     ensures kept { OnOk result ((K.seen keeper.new).kept ≡ (K.seen keeper.old).kept) }
     ensures writes { (K.seen keeper.new).writes ≡ (K.seen keeper.old).writes }
     ensures counts { NeverFall (K.seen keeper.old) (K.seen keeper.new) }
@@ -90,7 +91,9 @@ fn visit<K: Keeper>(
     room: &mut Room,
 ) -> Result<(), TabError>
     requires grammar { InGrammar (K.seen keeper.old).kept }
-    ensures visit { OnOk result (IsVisit (K.seen keeper.old).kept edge.0 edge.1 from sources.old.items met.old.items sources.new.items met.new.items) }
+    ensures visit { OnOk result
+        (IsVisit (K.seen keeper.old).kept edge.0 edge.1 from sources.old.items met.old.items
+        sources.new.items met.new.items) }
     ensures kept { OnOk result ((K.seen keeper.new).kept ≡ (K.seen keeper.old).kept) }
     ensures writes { (K.seen keeper.new).writes ≡ (K.seen keeper.old).writes }
     ensures counts { NeverFall (K.seen keeper.old) (K.seen keeper.new) }
@@ -118,7 +121,8 @@ fn note(
     sources: &mut Vec<u32>,
     met: &mut Vec<u32>,
 ) -> Result<(), AllocError>
-    ensures sources { OnOk result (sources.new.items ≡ sources_after (Some target) from child sources.old.items) }
+    ensures sources { OnOk result
+        (sources.new.items ≡ sources_after (Some target) from child sources.old.items) }
     ensures met { OnOk result (met.new.items ≡ met_after (Some target) from met.old.items) }
 {
     if target == from {

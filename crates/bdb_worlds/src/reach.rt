@@ -22,7 +22,8 @@ pub fn longest_state<K: Keeper>(
     requires grammar { InGrammar (K.seen keeper.old).kept }
     requires states { HoldSome (K.seen keeper.old).kept path.now }
     requires apart { alternates path.now ≡ true }
-    ensures found { IfOk result (λ found. ReachesState (K.seen keeper.old).kept path.now found.0 found.1) }
+    ensures found { IfOk result
+        (λ found. ReachesState (K.seen keeper.old).kept path.now found.0 found.1) }
     ensures within { IfOk result (λ found. found.0 ≤ length path.now) }
     ensures kept { OnOk result ((K.seen keeper.new).kept ≡ (K.seen keeper.old).kept) }
     ensures writes { (K.seen keeper.new).writes ≡ (K.seen keeper.old).writes }
@@ -59,7 +60,9 @@ pub fn states_along<K: Keeper>(
 ) -> Result<Option<Vec<u32>>, TabError>
     requires grammar { InGrammar (K.seen keeper.old).kept }
     requires apart { alternates path.now ≡ true }
-    ensures found { IfOk result (λ found. MatchOption found (IsNoState (K.seen keeper.old).kept path.now) (λ numbers. AreAlong (K.seen keeper.old).kept path.now numbers.items)) }
+    ensures found { IfOk result
+        (λ found. MatchOption found (IsNoState (K.seen keeper.old).kept path.now)
+        (λ numbers. AreAlong (K.seen keeper.old).kept path.now numbers.items)) }
     ensures kept { OnOk result ((K.seen keeper.new).kept ≡ (K.seen keeper.old).kept) }
     ensures writes { (K.seen keeper.new).writes ≡ (K.seen keeper.old).writes }
     ensures counts { NeverFall (K.seen keeper.old) (K.seen keeper.new) }

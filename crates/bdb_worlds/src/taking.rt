@@ -40,8 +40,11 @@ pub fn add_next<K: Keeper>(
 ) -> Result<(), TabError>
     requires running { (K.seen keeper.old).running ≡ true }
     requires grammar { InGrammar (K.seen keeper.old).kept }
-    requires edge { is_some (map.get (K.seen keeper.old).kept (place edge_codec (start, uid))) ≡ true }
-    ensures added { OnOk result (IsAdded (K.seen keeper.old).kept (K.seen keeper.new).kept start uid depth number (K.seen keeper.old).writes (K.seen keeper.new).writes) }
+    requires edge { is_some (map.get (K.seen keeper.old).kept (place edge_codec (start, uid)))
+        ≡ true }
+    ensures added { OnOk result
+        (IsAdded (K.seen keeper.old).kept (K.seen keeper.new).kept start uid depth number
+        (K.seen keeper.old).writes (K.seen keeper.new).writes) }
     ensures grammar { OnOk result (InGrammar (K.seen keeper.new).kept) }
     ensures counts { NeverFall (K.seen keeper.old) (K.seen keeper.new) }
     ensures steps { Steps (K.seen keeper.old) (K.seen keeper.new) result TabError.Fault }
@@ -64,8 +67,12 @@ fn read_taken<K: Keeper>(
     uid: u32,
 ) -> Result<TakenOver, TabError>
     requires grammar { InGrammar (K.seen keeper.old).kept }
-    requires edge { is_some (map.get (K.seen keeper.old).kept (place edge_codec (start, uid))) ≡ true }
-    ensures taken { IfOk result (λ taken. IsTaken (K.seen keeper.old).kept start uid taken.from taken.sources.items taken.met.items taken.own.items) }
+    requires edge { is_some (map.get (K.seen keeper.old).kept (place edge_codec (start, uid)))
+        ≡ true }
+    ensures taken { IfOk result
+        (λ taken.
+        IsTaken (K.seen keeper.old).kept start uid taken.from taken.sources.items taken.met.items
+        taken.own.items) }
     ensures kept { OnOk result ((K.seen keeper.new).kept ≡ (K.seen keeper.old).kept) }
     ensures writes { (K.seen keeper.new).writes ≡ (K.seen keeper.old).writes }
     ensures counts { NeverFall (K.seen keeper.old) (K.seen keeper.new) }
@@ -102,10 +109,16 @@ fn write_taken<K: Keeper>(
     number: u32,
 ) -> Result<(), TabError>
     requires running { (K.seen keeper.old).running ≡ true }
-    ensures kept { OnOk result ((K.seen keeper.new).kept ≡ with_state (K.seen keeper.old).kept uid taken.now.from taken.now.sources.items taken.now.met.items taken.now.own.items number depth) }
-    ensures grammar { OnOk result (InGrammar (K.seen keeper.old).kept → InGrammar (K.seen keeper.new).kept) }
+    ensures kept { OnOk result
+        ((K.seen keeper.new).kept ≡ with_state
+        (K.seen keeper.old).kept uid taken.now.from taken.now.sources.items taken.now.met.items
+        taken.now.own.items number depth) }
+    ensures grammar { OnOk result (InGrammar (K.seen keeper.old).kept
+        → InGrammar (K.seen keeper.new).kept) }
     ensures reads { (K.seen keeper.new).reads ≡ (K.seen keeper.old).reads }
-    ensures writes { OnOk result (Rises (state_writes taken.now.sources.items taken.now.met.items taken.now.own.items) (K.seen keeper.old).writes (K.seen keeper.new).writes) }
+    ensures writes { OnOk result
+        (Rises (state_writes taken.now.sources.items taken.now.met.items taken.now.own.items)
+        (K.seen keeper.old).writes (K.seen keeper.new).writes) }
     ensures counts { NeverFall (K.seen keeper.old) (K.seen keeper.new) }
     ensures steps { Steps (K.seen keeper.old) (K.seen keeper.new) result TabError.Fault }
 {

@@ -19,7 +19,8 @@ pub fn add_user_edges<K: Keeper>(alloc: Global, keeper: &mut K, uid: u32) -> Res
     requires running { (K.seen keeper.old).running ≡ true }
     requires grammar { InGrammar (K.seen keeper.old).kept }
     ensures added { OnOk result (AddsUser (K.seen keeper.old).kept (K.seen keeper.new).kept uid) }
-    ensures others { OnOk result (SameOutside 9 10 (K.seen keeper.old).kept (K.seen keeper.new).kept) }
+    ensures others { OnOk result
+        (SameOutside 9 10 (K.seen keeper.old).kept (K.seen keeper.new).kept) }
     ensures grammar { OnOk result (InGrammar (K.seen keeper.new).kept) }
     ensures writes { OnOk result (WritesEdges (K.seen keeper.old) (K.seen keeper.new) uid) }
     ensures counts { NeverFall (K.seen keeper.old) (K.seen keeper.new) }
@@ -48,8 +49,10 @@ pub fn add_user_edges<K: Keeper>(alloc: Global, keeper: &mut K, uid: u32) -> Res
 pub fn drop_user_edges<K: Keeper>(alloc: Global, keeper: &mut K, uid: u32) -> Result<(), TabError>
     requires running { (K.seen keeper.old).running ≡ true }
     requires grammar { InGrammar (K.seen keeper.old).kept }
-    ensures dropped { OnOk result (DropsUser (K.seen keeper.old).kept (K.seen keeper.new).kept uid) }
-    ensures others { OnOk result (SameOutside 9 10 (K.seen keeper.old).kept (K.seen keeper.new).kept) }
+    ensures dropped { OnOk result
+        (DropsUser (K.seen keeper.old).kept (K.seen keeper.new).kept uid) }
+    ensures others { OnOk result
+        (SameOutside 9 10 (K.seen keeper.old).kept (K.seen keeper.new).kept) }
     ensures grammar { OnOk result (InGrammar (K.seen keeper.new).kept) }
     ensures reads { OnOk result (ReadsWorlds (K.seen keeper.old) (K.seen keeper.new)) }
     ensures writes { OnOk result (WritesDropped (K.seen keeper.old) (K.seen keeper.new) uid) }
@@ -107,7 +110,8 @@ fn next_number<K: Keeper>(alloc: Global, keeper: &mut K, low: u64) -> Result<Opt
     requires grammar { InGrammar (K.seen keeper.old).kept }
     ensures number { IfOk result (HasNextNumber (K.seen keeper.old).kept low) }
     ensures kept { OnOk result ((K.seen keeper.new).kept ≡ (K.seen keeper.old).kept) }
-    ensures reads { OnOk result (RisesWithin 1 (K.seen keeper.old).reads (K.seen keeper.new).reads) }
+    ensures reads { OnOk result
+        (RisesWithin 1 (K.seen keeper.old).reads (K.seen keeper.new).reads) }
     ensures writes { (K.seen keeper.new).writes ≡ (K.seen keeper.old).writes }
     ensures counts { NeverFall (K.seen keeper.old) (K.seen keeper.new) }
     ensures steps { Steps (K.seen keeper.old) (K.seen keeper.new) result TabError.Fault }

@@ -17,7 +17,8 @@ pub fn resolve<K: Keeper>(alloc: Global, keeper: &mut K, path: &[u32]) -> Result
     requires apart { alternates path.now ≡ true }
     ensures found { IfOk result (StandsFor (K.seen keeper.old).kept path.now) }
     ensures kept { OnOk result ((K.seen keeper.new).kept ≡ (K.seen keeper.old).kept) }
-    ensures reads { OnOk result (Rises (length path.now) (K.seen keeper.old).reads (K.seen keeper.new).reads) }
+    ensures reads { OnOk result
+        (Rises (length path.now) (K.seen keeper.old).reads (K.seen keeper.new).reads) }
     ensures writes { (K.seen keeper.new).writes ≡ (K.seen keeper.old).writes }
     ensures counts { NeverFall (K.seen keeper.old) (K.seen keeper.new) }
     ensures steps { Steps (K.seen keeper.old) (K.seen keeper.new) result TabError.Fault }

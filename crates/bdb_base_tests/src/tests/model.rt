@@ -140,7 +140,12 @@ fn who_left_is_no_answer(rt: HostRuntime) -> Result<(), Fail> {
 
 /// The query for the names of all users.
 fn names_of_users(alloc: Global, alias: Txt) -> Result<Query, Fail>
-    ensures { IfOk result (λ q. q ≡ record { take = record { item = 0; col = 1 } ∷ []; items = Users alias ∷ []; conds = [] }) }
+    ensures { IfOk result
+        (λ q. q ≡ record {
+          take = record { item = 0; col = 1 } ∷ [];
+          items = Users alias ∷ [];
+          conds = [];
+        }) }
 {
     let mut take = List::new(alloc);
     take.push(Ref { item: 0, col: 1 })?;
