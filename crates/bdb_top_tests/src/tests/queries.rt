@@ -56,7 +56,8 @@ fn paths_of_statements_have_a_limit(rt: HostRuntime) -> Result<(), Fail> {
 
 /// A query of as many equal comparisons as a command has room for, and of another one behind them.
 fn add_comparisons(made: &mut Made, items: &str, same: &str, last: &str) -> Result<(), Fail> {
-    let fixed = "select X.k from  where ".len() + items.len() + last.len();
+    let fixed = "select X.k from  where ".len() + items.len();
+    let fixed = fixed.saturating_add(last.len());
     let times = 65_536_usize.saturating_sub(fixed) / (same.len() + " and ".len());
     made.add("select X.k from ", "")?;
     made.add(items, "")?;
