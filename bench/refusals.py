@@ -214,6 +214,7 @@ class Script:
         path = f"{self.folder}/counted.db"
 
         def meets(number):
+            removed(path)
             shutil.copy(self.start, path)
             return Run(self.program, ["run", "--db", path], text, shim, number).met
 
