@@ -8,6 +8,8 @@ pub mod Numbers
 pub mod RowsLemmas
 pub mod Scans
 pub mod ShelvesLemmas
+pub mod SpanLemmas
 pub mod TableLemmas
+pub mod UnderLemmas
 pub mod WithinLemmas
 pub mod WrittenLemmas

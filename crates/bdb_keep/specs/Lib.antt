@@ -9,6 +9,7 @@ pub mod RowBytes
 pub mod Scans
 pub mod Seen
 pub mod Shelves
+pub mod Spans
 pub mod Struck
 pub mod Tables
 pub mod Told

@@ -84,6 +84,15 @@ impl Block {
         self.entries.as_slice()
     }
 
+    /// The entries from an index on.
+    #[inline(always)]
+    pub fn entries_from(&self, index: usize) -> &[Entry]
+        requires { index ≤ length self.now }
+        ensures { result.now ≡ drop index self.now }
+    {
+        &self.entries[index..]
+    }
+
     /// Whether the first place isn't above one that is looked for.
     #[inline(always)]
     pub fn starts_within(&self, probe: &Probe<'_>) -> bool

@@ -1,6 +1,7 @@
 // Bytes as numbers of eight bytes each, the highest first.
 ghost use Rattle.std.specs.Prelude.{◌≡◌, ◌++◌, ◌-◌, ◌<◌, ◌≤◌, ◌^◌, IfSome, length, drop, slice_index_or};
 ghost use Rattle.std.specs.Int.{w64, to_be_bytes};
+ghost use Rattle.bdb_base.specs.Segments.{is_prefix};
 ghost use Rattle.bdb_keep.specs.Tables.{bytes_cmp};
 ghost use Rattle.bdb_keep.specs.Heads.{padded};
 
@@ -33,6 +34,22 @@ pub fn compare_words(a: &[u8], b: &[u8]) -> Ordering
             }
         }
         _ => a.cmp(&b),
+    }
+}
+
+/// Whether bytes begin with others, eight bytes at a time as long as both have so many.
+pub fn begins_with(bytes: &[u8], prefix: &[u8]) -> bool
+    ensures { result ≡ is_prefix prefix.now bytes.now }
+{
+    match (word_of(bytes), word_of(prefix)) {
+        (Some((x, more)), Some((y, rest))) => {
+            if x == y {
+                begins_with(more, rest)
+            } else {
+                false
+            }
+        }
+        _ => bytes.starts_with(prefix),
     }
 }
 

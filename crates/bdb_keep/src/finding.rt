@@ -153,6 +153,19 @@ fn find_behind(
     }
 }
 
+/// Where the first place stands, or would stand, that isn't below the one that is looked for. It looks first beside a spot, and then
+/// at a block and those near it.
+pub fn seek_near(blocks: &[Block], spot: Spot, from: usize, probe: &Probe<'_>) -> Spot
+    requires { AreSorted blocks.now }
+    ensures { IsBound blocks.now probe.now result.0 result.1 }
+{
+    match find_beside(blocks, spot, false, probe) {
+        Some(Ok(at)) => at,
+        Some(Err(at)) => at,
+        None => seek(blocks, from, probe),
+    }
+}
+
 /// Where the first place stands, or would stand, that isn't below the one that is looked for. It looks first at the block from which
 /// it starts, then at those near it.
 fn seek(blocks: &[Block], from: usize, probe: &Probe<'_>) -> Spot

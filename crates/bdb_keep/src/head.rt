@@ -1,5 +1,5 @@
 // The table and the first bytes of a place, as numbers.
-ghost use Rattle.std.specs.Prelude.{◌≡◌, ◌++◌, OnOk, drop, take};
+ghost use Rattle.std.specs.Prelude.{◌≡◌, ◌≤◌, ◌++◌, OnOk, OnErr, drop, take};
 ghost use Rattle.std.specs.Int.{w64, to_be_bytes};
 ghost use Rattle.bdb_keep.specs.Heads.{IsHeadOf, bytes_of, heads_cmp, numbers_cmp};
 
@@ -66,6 +66,18 @@ impl Head {
             return self.fourth.cmp(&other.fourth);
         }
         self.count.cmp(&other.count)
+    }
+
+    /// Appends the bytes of the key.
+    #[inline(always)]
+    pub fn append_to(&self, key: &mut Vec<u8>) -> Result<(), AllocError>
+        requires { self.now.count ≤ 32 }
+        ensures ok { OnOk result (key.new.items ≡ key.old.items ++ take self.now.count (bytes_of self.now)) }
+        ensures err { OnErr result (key.new.items ≡ key.old.items) }
+    {
+        key.extend_from_slice(&all_bytes(self))?;
+        key.truncate(key.len() - (32 - usize::from(self.count)));
+        Ok(())
     }
 
     /// Writes the bytes of the key.

@@ -1,11 +1,13 @@
 // The trait of keepers.
-ghost use Rattle.std.specs.Prelude.{◌≡◌, ◌≤◌, [], ◌∷◌, true, false, IfOk, OnOk, MatchBool, is_some, if◌then◌else◌};
+ghost use Rattle.std.specs.Prelude.{◌≡◌, ◌+◌, ◌≤◌, length, [], ◌∷◌, true, false, IfOk, OnOk, MatchBool, is_some, if◌then◌else◌};
 ghost use Rattle.std.specs.FinMap as map;
 ghost use Rattle.bdb_base.specs.Causes.{RoseBy};
 ghost use Rattle.bdb_keep.specs.Calls.{IsBegin, IsRead, IsWrite, IsCommit, IsUndo};
 ghost use Rattle.bdb_keep.specs.Tables.{IsLeastFrom, LieInTables, NoneFrom};
 ghost use Rattle.bdb_keep.specs.Seen.{Seen};
+ghost use Rattle.bdb_keep.specs.Spans.{AreRowsUnder};
 
+use crate::span::Span;
 use thiserror::Error;
 
 /// Why a keeper refused a call. After any refusal no transaction runs, and the rows are those last committed.
@@ -56,6 +58,17 @@ pub trait Keeper {
         ensures empty { IfOk result (λ found. found ≡ false → (key.new.items ≡ [])
             × (row.new.items ≡ [])) }
         ensures reads { RoseBy 1 (seen self.old).reads (seen self.new).reads }
+        ensures read { IsRead (seen self.old) (seen self.new) result KeepError.Fault };
+
+    /// Makes `span` the rows whose keys begin with `prefix`, in the order of their keys.
+    ///
+    /// It stands for the calls of `next` that read these rows one after the other, with the last one, which finds no further row: so
+    /// it counts as one read more than there are rows, however it is done, and what is said of how often rows are read holds of it
+    /// as of those calls.
+    fn under(&mut self, tab: u8, prefix: &[u8], span: &mut Span) -> Result<(), KeepError>
+        requires table { (1 ≤ tab) × (tab ≤ 15) }
+        ensures rows { OnOk result (AreRowsUnder (seen self.old).kept tab prefix.now span.new) }
+        ensures reads { OnOk result (RoseBy (length span.new + 1) (seen self.old).reads (seen self.new).reads) }
         ensures read { IsRead (seen self.old) (seen self.new) result KeepError.Fault };
 
     /// Puts a row at a key, in place of the row that stood there.

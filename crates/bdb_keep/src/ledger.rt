@@ -1,13 +1,15 @@
 // The rows in memory with their transaction and their counts, of which each keeper is made.
-ghost use Rattle.std.specs.Prelude.{◌≡◌, ◌+◌, ◌-◌, ◌^◌, ◌≤◌, min, [], ◌∷◌, true, false, IfOk, OnOk, OnErr, MatchBool, is_some, IsTrue, ◌↔◌, if◌then◌else◌};
+ghost use Rattle.std.specs.Prelude.{◌≡◌, ◌+◌, ◌-◌, ◌^◌, ◌≤◌, min, length, [], ◌∷◌, true, false, IfOk, OnOk, OnErr, MatchBool, is_some, IsTrue, ◌↔◌, if◌then◌else◌};
 ghost use Rattle.std.specs.FinMap as map;
 ghost use Rattle.bdb_base.specs.Causes.{Rose, RoseBy};
 ghost use Rattle.bdb_keep.specs.Calls.{IsRead, IsWrite, IsUndo};
 ghost use Rattle.bdb_keep.specs.Seen.{NeverFall, IsAtRest, IsDropped};
+ghost use Rattle.bdb_keep.specs.Spans.{AreRowsUnder};
 ghost use Rattle.bdb_keep.specs.Tables.{IsLeastFrom, LieInTables, NoneFrom};
 ghost use Rattle.bdb_keep.specs.Told.{HasNoFault};
 
 use crate::keeper::KeepError;
+use crate::span::Span;
 use crate::store::Store;
 use std::alloc::{AllocError, Global};
 use std::marker::Model;
@@ -126,6 +128,27 @@ impl Ledger {
         match self.store.next(tab, low, key, row) {
             Ok(found) => Ok(found),
             Err(_) => {
+                self.undo();
+                Err(KeepError::Memory)
+            }
+        }
+    }
+
+    /// Makes `span` the rows of a table whose keys begin with these bytes, in order. It counts as one read more than there are rows.
+    pub fn under(&mut self, tab: u8, prefix: &[u8], span: &mut Span) -> Result<(), KeepError>
+        requires table { (1 ≤ tab) × (tab ≤ 15) }
+        ensures rows { OnOk result (AreRowsUnder self.old.seen.kept tab prefix.now span.new) }
+        ensures reads { OnOk result (RoseBy (length span.new + 1) self.old.seen.reads self.new.seen.reads) }
+        ensures read { IsRead self.old.seen self.new.seen result KeepError.Fault }
+        ensures calm { HasNoFault self.old.seen self.new.seen result }
+    {
+        match self.store.under(tab, prefix, span) {
+            Ok(()) => {
+                self.reads = reads_after(self.reads, span.len());
+                Ok(())
+            }
+            Err(_) => {
+                self.reads = reads_after(self.reads, 0);
                 self.undo();
                 Err(KeepError::Memory)
             }
@@ -286,4 +309,12 @@ impl Ledger {
     {
         &self.store
     }
+}
+
+/// How many reads there are after one that found so many rows.
+fn reads_after(reads: u64, rows: usize) -> u64
+    ensures count { RoseBy (rows + 1) reads result }
+    ensures later { reads ≤ result }
+{
+    reads.saturating_add(rows as u64).saturating_add(1)
 }

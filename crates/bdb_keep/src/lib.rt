@@ -19,11 +19,14 @@ mod row;
 mod rows;
 mod shelf;
 mod shelves;
+mod span;
 mod store;
+mod under;
 mod words;
 
 pub use keeper::{KeepError, Keeper};
 pub use ledger::Ledger;
 pub use mem::MemKeeper;
 pub use quiet::QuietKeeper;
+pub use span::Span;
 pub use store::Store;

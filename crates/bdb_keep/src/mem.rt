@@ -1,13 +1,15 @@
 // The keeper in memory that fails where it is told to.
-ghost use Rattle.std.specs.Prelude.{◌≡◌, ◌≤◌, [], ◌∷◌, true, false, IfOk, OnOk, OnErr, IfErr, MatchBool, is_some, IsTrue, ◌↔◌, if◌then◌else◌};
+ghost use Rattle.std.specs.Prelude.{◌≡◌, ◌+◌, ◌≤◌, length, [], ◌∷◌, true, false, IfOk, OnOk, OnErr, IfErr, MatchBool, is_some, IsTrue, ◌↔◌, if◌then◌else◌};
 ghost use Rattle.std.specs.FinMap as map;
 ghost use Rattle.bdb_base.specs.Causes.{RoseBy};
 ghost use Rattle.bdb_keep.specs.Calls.{IsBegin, IsRead, IsWrite, IsCommit, IsUndo};
+ghost use Rattle.bdb_keep.specs.Spans.{AreRowsUnder};
 ghost use Rattle.bdb_keep.specs.Tables.{IsLeastFrom, LieInTables, NoneFrom};
 ghost use Rattle.bdb_keep.specs.Struck.{number_of_next, is_listed, Counted};
 
 use crate::keeper::{KeepError, Keeper};
 use crate::ledger::Ledger;
+use crate::span::Span;
 use bdb_base::List;
 use std::alloc::{AllocError, Global};
 use std::marker::Model;
@@ -163,6 +165,24 @@ impl Keeper for MemKeeper {
         }
         match self.ledger.next(tab, low, key, row) {
             Ok(found) => Ok(found),
+            Err(error) => Err(error),
+        }
+    }
+
+    fn under(&mut self, tab: u8, prefix: &[u8], span: &mut Span) -> Result<(), KeepError>
+        requires table { (1 ≤ tab) × (tab ≤ 15) }
+        ensures rows { OnOk result (AreRowsUnder self.old.seen.kept tab prefix.now span.new) }
+        ensures reads { OnOk result (RoseBy (length span.new + 1) self.old.seen.reads self.new.seen.reads) }
+        ensures read { IsRead self.old.seen self.new.seen result KeepError.Fault }
+
+        ensures exact { Counted self.old self.new result }
+    {
+        if self.fails_now() {
+            self.ledger.refuse_read(KeepError::Fault);
+            return Err(KeepError::Fault);
+        }
+        match self.ledger.under(tab, prefix, span) {
+            Ok(()) => Ok(()),
             Err(error) => Err(error),
         }
     }

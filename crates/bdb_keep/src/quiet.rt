@@ -6,6 +6,7 @@ ghost use Rattle.bdb_keep.specs.Calm.{seen_of};
 
 use crate::keeper::{KeepError, Keeper};
 use crate::ledger::Ledger;
+use crate::span::Span;
 use std::alloc::{AllocError, Global};
 use std::marker::Model;
 
@@ -112,6 +113,13 @@ impl Keeper for QuietKeeper {
     ) -> Result<bool, KeepError> {
         match self.ledger.next(tab, low, key, row) {
             Ok(found) => Ok(found),
+            Err(error) => Err(error),
+        }
+    }
+
+    fn under(&mut self, tab: u8, prefix: &[u8], span: &mut Span) -> Result<(), KeepError> {
+        match self.ledger.under(tab, prefix, span) {
+            Ok(()) => Ok(()),
             Err(error) => Err(error),
         }
     }

@@ -4,6 +4,7 @@ ghost use Rattle.std.specs.Option.{option_map, option_copied};
 ghost use Rattle.std.specs.FinMap as map;
 ghost use Rattle.bdb_keep.specs.Entries.{place_at, rows_of, IsSetAt, IsAmong, AreAmong};
 ghost use Rattle.bdb_keep.specs.Blocks.{joined};
+ghost use Rattle.bdb_keep.specs.Spans.{AreRowsUnder};
 ghost use Rattle.bdb_keep.specs.Tables.{IsLeastFrom, NoneFrom, LieWithin};
 
 use crate::block::{Block, Entry};
@@ -11,6 +12,7 @@ use crate::cursors::Cursors;
 use crate::row::Row;
 use crate::shelf::Shelf;
 use crate::shelves;
+use crate::span::Span;
 use crate::words::Probe;
 use std::alloc::{AllocError, Global};
 use std::marker::Model;
@@ -170,6 +172,23 @@ impl Rows {
         let (mark, found) = shelves::read_first(&self.shelves, near, &probe, tab, low, key, row)?;
         self.cursors.remember_read(&probe, mark);
         Ok(found)
+    }
+
+    /// Reads the rows of a table whose keys begin with these bytes.
+    pub fn read_under(
+        &mut self,
+        tab: u8,
+        prefix: &[u8],
+        span: &mut Span,
+    ) -> Result<(), AllocError>
+        ensures rows { OnOk result (AreRowsUnder (rows_of self.old) tab prefix.now span.new) }
+        ensures same { self.new ≡ self.old }
+    {
+        let probe = Probe::of(tab, prefix);
+        let near = self.cursors.to_read(&probe);
+        let mark = shelves::read_under(&self.shelves, near, &probe, tab, prefix, span)?;
+        self.cursors.remember_read(&probe, mark);
+        Ok(())
     }
 
     /// The row at a place, if there is one.

@@ -1,14 +1,17 @@
 // A shelf of sorted blocks.
-ghost use Rattle.std.specs.Prelude.{◌≡◌, ◌∷◌, [], Some, None, IfOk, IfErr, IfSome, IfNone, OnOk, OnErr, not, false, if◌then◌else◌};
+ghost use Rattle.std.specs.Prelude.{◌≡◌, ◌∷◌, ◌++◌, [], Some, None, IfOk, IfErr, IfSome, IfNone, OnOk, OnErr, not, false, if◌then◌else◌};
 ghost use Rattle.std.specs.Option.{option_copied};
 ghost use Rattle.bdb_keep.specs.Entries.{place_at, row_of};
 ghost use Rattle.bdb_keep.specs.Blocks.{joined, starts_within, without_empty, has_any, AreSorted, IsBound};
+ghost use Rattle.bdb_keep.specs.Spans.{entries_under, HasPast};
 ghost use Rattle.bdb_keep.specs.Shelves.{IsChangedAt, NoRowFrom, IsFirstRow, IsCutInTwo, BelongsAmong};
 
 use crate::block::{Block, Entry};
 use crate::blocks::{add, drop_empty_blocks, drop_empty_places, is_behind, replace_at, take_out};
-use crate::finding::{Spot, entry_of, find, find_beside, find_row, row_from};
+use crate::finding::{Spot, entry_of, find, find_beside, find_row, row_from, seek_near};
 use crate::row::Row;
+use crate::span::Span;
+use crate::under::take_blocks;
 use crate::words::{Probe, Words};
 use std::alloc::{AllocError, Global};
 use std::marker::Model;
@@ -164,6 +167,26 @@ impl Shelf {
             Some(spot) => Some((spot, entry_of(&self.blocks, spot))),
             None => None,
         }
+    }
+
+    /// Takes the rows whose places begin so, up to a place above them, and answers where the first of them stands or would stand, and
+    /// whether there is no such place. It looks first beside a spot, and then at a block.
+    pub fn read_under(
+        &self,
+        near: Spot,
+        from: usize,
+        probe: &Probe<'_>,
+        tab: u8,
+        prefix: &[u8],
+        span: &mut Span,
+    ) -> Result<(Spot, bool), AllocError>
+        requires { probe.now ≡ tab ∷ prefix.now }
+        ensures rows { OnOk result (span.new ≡ span.old ++ entries_under probe.now self.now) }
+        ensures past { IfOk result (λ found. found.1 ≡ false → HasPast probe.now self.now) }
+    {
+        let start = seek_near(&self.blocks, near, from, probe);
+        let goes_on = take_blocks(&self.blocks, start, tab, prefix, span)?;
+        Ok((start, goes_on))
     }
 
     /// Takes all empty places out.

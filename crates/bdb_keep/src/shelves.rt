@@ -1,9 +1,10 @@
 // Finding and changing places on sorted shelves.
-ghost use Rattle.std.specs.Prelude.{is_some, ◌≡◌, ◌<◌, ◌∷◌, [], true, Some, None, IfOk, IfErr, IfSome, IfNone, OnOk, OnErr, MatchBool, if◌then◌else◌, length, slice_index_or, map as map_list, false};
+ghost use Rattle.std.specs.Prelude.{is_some, ◌≡◌, ◌<◌, ◌∷◌, ◌++◌, [], true, Some, None, IfOk, IfErr, IfSome, IfNone, OnOk, OnErr, MatchBool, if◌then◌else◌, length, slice_index_or, map as map_list, false};
 ghost use Rattle.std.specs.Option.{option_copied};
 ghost use Rattle.bdb_keep.specs.Tables.{IsLeastFrom, NoneFrom};
 ghost use Rattle.bdb_keep.specs.Entries.{place_at, row_of, rows_of, IsSetAt};
-ghost use Rattle.bdb_keep.specs.Blocks.{joined, starts_within, AreSorted, HaveEntries, IsBlockFor, without_empty};
+ghost use Rattle.bdb_keep.specs.Blocks.{joined, after, starts_within, AreSorted, HaveEntries, IsBlockFor, without_empty};
+ghost use Rattle.bdb_keep.specs.Spans.{AreRowsUnder, entries_under};
 ghost use Rattle.bdb_keep.specs.Shelves.{NoRowFrom, IsFirstRow};
 
 use crate::beside::{first_row_beside, insert_beside, row_beside, swap_beside};
@@ -13,6 +14,7 @@ use crate::finding::Spot;
 use crate::reading::{copy_row, give};
 use crate::row::Row;
 use crate::shelf::Shelf;
+use crate::span::Span;
 use crate::words::Probe;
 use std::alloc::{AllocError, Global};
 
@@ -117,6 +119,93 @@ pub fn read_first(
             Ok((near.0, false))
         }
     }
+}
+
+/// Makes `span` the rows of a table whose keys begin with these bytes, and answers where the first of them stands or would stand.
+pub fn read_under(
+    shelves: &[Shelf],
+    near: Marks,
+    probe: &Probe<'_>,
+    tab: u8,
+    prefix: &[u8],
+    span: &mut Span,
+) -> Result<Mark, AllocError>
+    requires sorted { AreSorted shelves.now }
+    requires place { probe.now ≡ tab ∷ prefix.now }
+    ensures { OnOk result (AreRowsUnder (rows_of (joined shelves.now)) tab prefix.now span.new) }
+{
+    span.clear();
+    match shelf_for(shelves, near, probe) {
+        Some(at) => {
+            let spot = read_under_from(shelves, at, near, probe, tab, prefix, span)?;
+            Ok((at, spot))
+        }
+        None => Ok(near.0),
+    }
+}
+
+/// Puts the rows whose places begin so behind the others of a span, from the shelf on where the bytes belong.
+fn read_under_from(
+    shelves: &[Shelf],
+    start: usize,
+    near: Marks,
+    probe: &Probe<'_>,
+    tab: u8,
+    prefix: &[u8],
+    span: &mut Span,
+) -> Result<Spot, AllocError>
+    requires sorted { AreSorted shelves.now }
+    requires shelf { IsBlockFor shelves.now probe.now start }
+    requires place { probe.now ≡ tab ∷ prefix.now }
+    ensures { OnOk result (span.new ≡ span.old ++ entries_under probe.now (joined shelves.now)) }
+{
+    let shelf = shelf_at(shelves, start);
+    let spot = spot_on(near, start);
+    let from = block_on(near, start);
+    let (first, goes_on) = shelf.read_under(spot, from, probe, tab, prefix, span)?;
+    if !goes_on {
+        return Ok(first);
+    }
+    read_under_behind(shelves, start + 1, probe, tab, prefix, span)?;
+    Ok(first)
+}
+
+/// The same of the shelves behind.
+fn read_under_behind(
+    shelves: &[Shelf],
+    start: usize,
+    probe: &Probe<'_>,
+    tab: u8,
+    prefix: &[u8],
+    span: &mut Span,
+) -> Result<(), AllocError>
+    requires sorted { AreSorted shelves.now }
+    requires place { probe.now ≡ tab ∷ prefix.now }
+    ensures { OnOk result (span.new ≡ span.old ++ entries_under probe.now (after shelves.now start 0)) }
+{
+    let mut at = start;
+    while at < shelves.len() {
+        match shelf_at(shelves, at).read_under((0, 0), 0, probe, tab, prefix, span) {
+            Ok((_, goes_on)) => {
+                if !goes_on {
+                    return Ok(());
+                }
+                at += 1;
+            }
+            Err(error) => return Err(error),
+        }
+    }
+    Ok(())
+}
+
+/// The spot of the last mark where it is on a shelf, and else none on it.
+#[inline(always)]
+fn spot_on(marks: Marks, shelf: usize) -> Spot {
+    let (last, _) = marks;
+    if last.0 == shelf {
+        return last.1;
+    }
+    (usize::MAX, 0)
 }
 
 /// Puts what stands at a place, and answers where, and what stood there. The answer is the new row where

@@ -3,12 +3,14 @@ ghost use Rattle.std.specs.Prelude.{◌≡◌, ◌≤◌, ◌++◌, ◌∷◌, �
 ghost use Rattle.std.specs.Option.{option_map};
 ghost use Rattle.std.specs.FinMap as map;
 ghost use Rattle.bdb_keep.specs.Held.{written};
+ghost use Rattle.bdb_keep.specs.Spans.{AreRowsUnder};
 ghost use Rattle.bdb_keep.specs.Tables.{IsLeastFrom, IsPlace, NoneFrom};
 
 use crate::changes::{Change, insert_row, put_row, roll_back, settle, take_row};
 use crate::place::Place;
 use crate::row::Row;
 use crate::rows::Rows;
+use crate::span::Span;
 use crate::words::Probe;
 use std::alloc::{AllocError, Global};
 use std::marker::Model;
@@ -75,6 +77,19 @@ impl Store {
         ensures same { self.new ≡ self.old }
     {
         self.rows.first_from(tab, low, key, row)
+    }
+
+    /// Reads the rows of a table whose keys begin with these bytes.
+    pub fn under(
+        &mut self,
+        tab: u8,
+        prefix: &[u8],
+        span: &mut Span,
+    ) -> Result<(), AllocError>
+        ensures rows { OnOk result (AreRowsUnder self.old.kept tab prefix.now span.new) }
+        ensures same { self.new ≡ self.old }
+    {
+        self.rows.read_under(tab, prefix, span)
     }
 
     /// Puts a row at a key.

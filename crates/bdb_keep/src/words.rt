@@ -1,10 +1,11 @@
 // Places as numbers.
-ghost use Rattle.std.specs.Prelude.{◌≡◌, ◌∷◌, ◌++◌, IfOk, OnOk, ℕ, List};
+ghost use Rattle.std.specs.Prelude.{◌≡◌, ◌∷◌, ◌++◌, false, true, IfOk, OnOk, OnErr, length, take, drop, ℕ, List};
 ghost use Rattle.std.specs.declared.cmp.Ordering.TheVariants.{Equal};
+ghost use Rattle.bdb_base.specs.Segments.{is_prefix};
 ghost use Rattle.bdb_keep.specs.Tables.{bytes_cmp};
 ghost use Rattle.bdb_keep.specs.Heads.{IsHeadOfPlace};
 
-use crate::bytes::{compare_words, from_index};
+use crate::bytes::{begins_with, compare_words, from_index};
 use crate::head::Head;
 use std::alloc::{AllocError, Global};
 use std::cmp::Ordering;
@@ -48,8 +49,10 @@ impl Rest {
     }
 
     /// Appends them to a key.
+    #[inline(always)]
     fn append_to(&self, key: &mut Vec<u8>) -> Result<(), AllocError>
-        ensures { OnOk result (key.new.items ≡ key.old.items ++ self.now) }
+        ensures ok { OnOk result (key.new.items ≡ key.old.items ++ self.now) }
+        ensures err { OnErr result (key.new.items ≡ key.old.items) }
     {
         match &self.bytes {
             Some(bytes) => {
@@ -129,6 +132,40 @@ impl Words {
         ensures { IsHeadOfPlace result self.now }
     {
         self.head
+    }
+
+    /// Appends the key, where the place is in this table, and answers whether it is, and the key begins so. Where not, some bytes may
+    /// be appended.
+    #[inline(always)]
+    #[tactic(auto, using(crate::proofs::SpanLemmas::front_itself))]
+    pub fn append_under(
+        &self,
+        tab: u8,
+        prefix: &[u8],
+        bytes: &mut Vec<u8>,
+    ) -> Result<bool, AllocError>
+        ensures under { IfOk result (λ under. under ≡ is_prefix (tab ∷ prefix.now) self.now) }
+        ensures key { IfOk result (λ under. under ≡ true → bytes.new.items ≡ bytes.old.items ++ drop 1 self.now) }
+        ensures front { take (length bytes.old.items) bytes.new.items ≡ bytes.old.items }
+    {
+        if self.head.tab != tab {
+            return Ok(false);
+        }
+        let start = bytes.len();
+        self.append_key(bytes)?;
+        Ok(begins_with(&bytes[start..], prefix))
+    }
+
+    /// Appends the key.
+    #[inline(always)]
+    #[tactic(auto, using(crate::proofs::SpanLemmas::front_itself, crate::proofs::SpanLemmas::front_before, crate::proofs::SpanLemmas::front_longer, crate::proofs::SpanLemmas::front_farther))]
+    fn append_key(&self, bytes: &mut Vec<u8>) -> Result<(), AllocError>
+        ensures ok { OnOk result (bytes.new.items ≡ bytes.old.items ++ drop 1 self.now) }
+        ensures front { take (length bytes.old.items) bytes.new.items ≡ bytes.old.items }
+    {
+        self.head.append_to(bytes)?;
+        self.rest.append_to(bytes)?;
+        Ok(())
     }
 
     /// Writes the key, and answers the number of the table.

@@ -1,8 +1,9 @@
 // The keeper whose rows are in an SQLite file.
-ghost use Rattle.std.specs.Prelude.{◌≡◌, ◌≤◌, [], ◌∷◌, true, false, None, Some, IfOk, IfSome, IsSome, OnOk, OnErr, MatchBool, is_some, if◌then◌else◌};
+ghost use Rattle.std.specs.Prelude.{◌≡◌, ◌+◌, ◌≤◌, length, [], ◌∷◌, true, false, None, Some, IfOk, IfSome, IsSome, OnOk, OnErr, MatchBool, is_some, if◌then◌else◌};
 ghost use Rattle.std.specs.FinMap as map;
 ghost use Rattle.bdb_base.specs.Causes.{RoseBy};
 ghost use Rattle.bdb_keep.specs.Calls.{IsBegin, IsRead, IsWrite, IsCommit, IsUndo};
+ghost use Rattle.bdb_keep.specs.Spans.{AreRowsUnder};
 ghost use Rattle.bdb_keep.specs.Tables.{IsLeastFrom, LieInTables, NoneFrom};
 ghost use Rattle.bdb_sql.specs.Filed.{works, Answers, Commits, Begins};
 ghost use Rattle.bdb_sql.specs.Kept.{IsBareOrKept};
@@ -15,7 +16,7 @@ ghost use Rattle.sqlite.specs.Held.{state};
 use crate::load::load;
 use crate::told::told;
 use crate::write::write_changes;
-use bdb_keep::{KeepError, Keeper, Ledger, Store};
+use bdb_keep::{KeepError, Keeper, Ledger, Span, Store};
 use sqlite::{Alter, Connection};
 use std::alloc::Global;
 use std::marker::Model;
@@ -203,6 +204,25 @@ impl<S: Alter> Keeper for SqlKeeper<S> {
         }
         match self.ledger.next(tab, low, key, row) {
             Ok(found) => Ok(found),
+            Err(error) => Err(error),
+        }
+    }
+
+    fn under(&mut self, tab: u8, prefix: &[u8], span: &mut Span) -> Result<(), KeepError>
+        requires table { (1 ≤ tab) × (tab ≤ 15) }
+        ensures rows { OnOk result (AreRowsUnder self.old.seen.kept tab prefix.now span.new) }
+        ensures reads { OnOk result (RoseBy (length span.new + 1) self.old.seen.reads self.new.seen.reads) }
+        ensures read { IsRead self.old.seen self.new.seen result KeepError.Fault }
+
+        ensures answers { Answers self.old self.new result }
+        ensures filed { MatchesFile S.Store self.old → MatchesFile S.Store self.new }
+    {
+        if let Some(error) = self.refusal {
+            self.ledger.refuse_read(error);
+            return Err(error);
+        }
+        match self.ledger.under(tab, prefix, span) {
+            Ok(()) => Ok(()),
             Err(error) => Err(error),
         }
     }

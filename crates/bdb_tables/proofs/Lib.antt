@@ -9,6 +9,7 @@ pub mod Held
 pub mod LengthLemmas
 pub mod Loops
 pub mod MarkLemmas
+pub mod RangeLemmas
 pub mod SameLemmas
 pub mod SignLemmas
 pub mod SpanLemmas

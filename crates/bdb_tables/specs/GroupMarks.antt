@@ -2,9 +2,10 @@
 -- a key.
 use Rattle.std.specs.Prelude.{◌≡◌, ℕ, Bool, true, List, ◌++◌, Option, Some, MatchBool, MatchOption, map}
 use Rattle.std.specs.FinMap as tables
-use Rattle.std.specs.List.{AllByRecursion}
+use Rattle.std.specs.List.{AllByRecursion, AllZip}
 use Rattle.std.specs.Ordering.{nat_cmp}
 use Rattle.bdb_base.specs.declared.kinds.Value.{Value}
+use Rattle.bdb_keep.specs.Spans.{Listed}
 use Rattle.bdb_keep.specs.Tables.{Tables}
 use Rattle.bdb_key.specs.Bytes.{num_bytes, vals_bytes}
 use Rattle.bdb_key.specs.Grammar.{IsNum, AreKeyVals}
@@ -70,6 +71,10 @@ pub record IsNumbered (key row : List ℕ) (x : ℕ × Mark) : Type 0 where
   pub key_reads : Reads IsValKey val_bytes key entry.0
   pub row_reads : Reads IsAnyMark mark_bytes row entry.1
   pub is : x ≡ numbered entry
+
+-- these bytes are the keys and the rows of the tuples' numbers, one after the other
+abbrev pub SpellNumbered : Listed → List (ℕ × Mark) → Type 0
+SpellNumbered bytes xs = AllZip (λ b x. IsNumbered b.0 b.1 x) bytes xs
 
 -- the first row from `low` on whose key begins so; the bytes `behind` are the least above its key
 pub record IsNextNumbered (t : Tables) (prefix low behind : List ℕ) (x : ℕ × Mark) : Type 0 where

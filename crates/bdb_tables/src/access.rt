@@ -107,7 +107,7 @@ pub fn next_in<T: Tab, K: Keeper>(
         keeper.undo();
         return Err(TabError::Memory);
     }
-    let Room { key, row, low } = room;
+    let Room { key, row, low, .. } = room;
     match first_from::<T, K>(alloc, keeper, low, key, row) {
         Ok(entry) => Ok(entry),
         Err(error) => Err(error),

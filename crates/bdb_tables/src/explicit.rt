@@ -21,7 +21,7 @@ pub fn has_explicit_under<K: Keeper>(
     ensures explicit { IfOk result (TellsExplicitUnder (K.seen keeper.old).kept prefix.now) }
     ensures read { IsRead (K.seen keeper.old) (K.seen keeper.new) result TabError.Fault }
 {
-    let Room { key, row, low } = room;
+    let Room { key, row, low, .. } = room;
     match find_explicit(keeper, prefix, low, key, row) {
         Ok(found) => Ok(found),
         Err(error) => Err(error),

@@ -11,16 +11,16 @@ ghost use Rattle.bdb_key.specs.Reading.{Reads};
 ghost use Rattle.bdb_key.specs.Rows.{IsAnyMark, mark_bytes};
 ghost use Rattle.bdb_tables.specs.Codec.{HasAt, IsEntryOf, IsRowOf, TableFits};
 ghost use Rattle.bdb_tables.specs.Grammar.{InGrammar};
-ghost use Rattle.bdb_tables.specs.GroupMarks.{AreChanges, AreMarks, AreNumbered, HasMark, HasNextNumbered, HaveMarks, IsGroup, IsNumber, IsNumbered, marks_codec};
+ghost use Rattle.bdb_tables.specs.GroupMarks.{AreChanges, AreMarks, AreNumbered, HasMark, SpellNumbered, HasNextNumbered, HaveMarks, IsGroup, IsNumber, IsNumbered, marks_codec};
 ghost use Rattle.bdb_tables.specs.InUse.{val_codec};
+ghost use Rattle.bdb_tables.specs.Spans.{AreEntriesOf};
 ghost use Rattle.bdb_tables.specs.Writes.{IsChange, with_change, with_changes};
 
 use crate::access::{USUAL_LENGTH, told};
 use crate::room::Room;
-use crate::spans::begin_at;
 use crate::tab::TabError;
 use bdb_base::Sign;
-use bdb_keep::Keeper;
+use bdb_keep::{Keeper, Span};
 use bdb_key::{mark_of, only_num, put_mark, put_num};
 use std::alloc::{AllocError, Global};
 use std::mem;
@@ -45,9 +45,8 @@ pub fn numbered_under<K: Keeper>(
         (K.seen keeper.new).reads) }
     ensures read { IsRead (K.seen keeper.old) (K.seen keeper.new) result TabError.Fault }
 {
-    let Room { key, row, low } = room;
     let mut rows = Vec::new(alloc);
-    match read_numbered(keeper, prefix, low, key, row, &mut rows) {
+    match read_numbered(keeper, prefix, &mut room.span, &mut rows) {
         Ok(()) => Ok(rows),
         Err(error) => Err(error),
     }
@@ -69,8 +68,7 @@ pub fn marks_under<K: Keeper>(
         (K.seen keeper.new).reads) }
     ensures read { IsRead (K.seen keeper.old) (K.seen keeper.new) result TabError.Fault }
 {
-    let Room { key, row, low } = room;
-    match read_numbered(keeper, prefix, low, key, row, rows) {
+    match read_numbered(keeper, prefix, &mut room.span, rows) {
         Ok(()) => Ok(()),
         Err(error) => Err(error),
     }
@@ -119,13 +117,11 @@ pub fn write_marks<K: Keeper>(
     }
 }
 
-// Makes `rows` the rows whose keys begin with these bytes. `low`, `key` and `row` are room for bytes.
+// Makes `rows` the rows whose keys begin with these bytes. `span` is room for them.
 fn read_numbered<K: Keeper>(
     keeper: &mut K,
     prefix: &[u8],
-    low: &mut Vec<u8>,
-    key: &mut Vec<u8>,
-    row: &mut Vec<u8>,
+    span: &mut Span,
     rows: &mut Vec<(u32, (Sign, bool))>,
 ) -> Result<(), TabError>
     requires grammar { TableFits val_codec (K.seen keeper.old).kept }
@@ -136,25 +132,31 @@ fn read_numbered<K: Keeper>(
         (K.seen keeper.new).reads) }
     ensures read { IsRead (K.seen keeper.old) (K.seen keeper.new) result TabError.Fault }
 {
-    rows.clear();
-    if begin_at(prefix, low, key).is_err() {
-        keeper.undo();
-        return Err(TabError::Memory);
+    match keeper.under(MARKS, prefix, span) {
+        Ok(()) => {}
+        Err(error) => return Err(told(error)),
     }
-    for _ in 0..u64::MAX {
-        match next_numbered(keeper, prefix, low, key, row) {
-            Ok(Some(entry)) => {
-                if rows.push(entry).is_err() {
-                    keeper.undo();
-                    return Err(TabError::Memory);
-                }
-            }
-            Ok(None) => return Ok(()),
-            Err(error) => return Err(error),
+    match fill_numbered(span, rows) {
+        Ok(()) => Ok(()),
+        Err(_) => {
+            keeper.undo();
+            Err(TabError::Memory)
         }
     }
-    keeper.undo();
-    Err(TabError::Memory)
+}
+
+// Makes `rows` the numbers of the tuples of entries of the table, and their rows.
+fn fill_numbered(span: &Span, rows: &mut Vec<(u32, (Sign, bool))>) -> Result<(), AllocError>
+    requires { AreEntriesOf val_codec span.now }
+    ensures { OnOk result (SpellNumbered span.now rows.new.items) }
+{
+    rows.clear();
+    rows.reserve(span.len())?;
+    for index in 0..span.len() {
+        let (key, row) = span.entry(index);
+        rows.push(numbered_from(key, row))?;
+    }
+    Ok(())
 }
 
 // The first row from `low` on whose key begins with these bytes. Where there is one, `low` becomes what lies right behind

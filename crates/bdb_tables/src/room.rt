@@ -1,4 +1,5 @@
 // Room for bytes.
+use bdb_keep::Span;
 use std::alloc::Global;
 
 /// Room for the bytes of keys and rows, for as many calls as use it.
@@ -7,6 +8,7 @@ pub struct Room {
     pub(crate) key: Vec<u8>,
     pub(crate) row: Vec<u8>,
     pub(crate) low: Vec<u8>,
+    pub(crate) span: Span,
 }
 
 impl Room {
@@ -16,6 +18,7 @@ impl Room {
             key: Vec::new(alloc),
             row: Vec::new(alloc),
             low: Vec::new(alloc),
+            span: Span::new(alloc),
         }
     }
 }

@@ -5,11 +5,11 @@ ghost use Rattle.bdb_base.specs.Causes.{Rises, RoseBy};
 ghost use Rattle.bdb_keep.specs.Calls.{IsRead};
 ghost use Rattle.bdb_keep.specs.Tables.{bytes_cmp};
 ghost use Rattle.bdb_tables.specs.Codec.{TableFits};
-ghost use Rattle.bdb_tables.specs.Spans.{AreUnder, HasNextUnder};
+ghost use Rattle.bdb_tables.specs.Spans.{AreEntriesOf, AreUnder, HasNextUnder, Spell};
 
 use crate::access::{USUAL_LENGTH, entry_from, told};
 use crate::tab::{Tab, TabError};
-use bdb_keep::Keeper;
+use bdb_keep::{Keeper, Span};
 use std::alloc::{AllocError, Global};
 use std::mem;
 
@@ -28,28 +28,32 @@ pub fn rows_under<T: Tab, K: Keeper>(
         (K.seen keeper.new).reads) }
     ensures read { IsRead (K.seen keeper.old) (K.seen keeper.new) result TabError.Fault }
 {
-    let mut rows = Vec::new(alloc);
-    let mut key = Vec::new(alloc);
-    let mut row = Vec::new(alloc);
-    let mut low = Vec::new(alloc);
-    if begin_at(prefix, &mut low, &mut key).is_err() {
-        keeper.undo();
-        return Err(TabError::Memory);
+    let mut span = Span::new(alloc);
+    match keeper.under(T::NUMBER, prefix, &mut span) {
+        Ok(()) => {}
+        Err(error) => return Err(told(error)),
     }
-    for _ in 0..u64::MAX {
-        match next_under::<T, K>(alloc, keeper, prefix, &mut low, &mut key, &mut row) {
-            Ok(Some(entry)) => {
-                if rows.push(entry).is_err() {
-                    keeper.undo();
-                    return Err(TabError::Memory);
-                }
-            }
-            Ok(None) => return Ok(rows),
-            Err(error) => return Err(error),
+    match entries_from::<T>(alloc, &span) {
+        Ok(rows) => Ok(rows),
+        Err(_) => {
+            keeper.undo();
+            Err(TabError::Memory)
         }
     }
-    keeper.undo();
-    Err(TabError::Memory)
+}
+
+// The keys and the rows of a table's bytes.
+fn entries_from<T: Tab>(alloc: Global, span: &Span) -> Result<Vec<(T::Key, T::Row)>, AllocError>
+    requires { AreEntriesOf T.codec span.now }
+    ensures { IfOk result (λ rows. Spell T.codec span.now rows.items) }
+{
+    let mut rows = Vec::with_capacity(alloc, span.len())?;
+    for index in 0..span.len() {
+        let (key, row) = span.entry(index);
+        let entry = entry_from::<T>(alloc, key, row)?;
+        rows.push(entry)?;
+    }
+    Ok(rows)
 }
 
 // Makes `low` these bytes, with room in it and in `key` for keys that begin so.

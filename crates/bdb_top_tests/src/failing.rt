@@ -6,7 +6,7 @@ ghost use Rattle.bdb_keep.specs.Calls.{IsUndo};
 use crate::tests::{SETUP, ran, sink};
 use bdb_base::List;
 use bdb_io::MemSink;
-use bdb_keep::{KeepError, Keeper, MemKeeper};
+use bdb_keep::{KeepError, Keeper, MemKeeper, Span};
 use std::alloc::Global;
 use std::test::Fail;
 
@@ -117,6 +117,18 @@ impl Keeper for FailingKeeper {
             return Err(KeepError::Fault);
         }
         Ok(found)
+    }
+
+    fn under(&mut self, tab: u8, prefix: &[u8], span: &mut Span) -> Result<(), KeepError> {
+        match self.inner.under(tab, prefix, span) {
+            Ok(()) => {}
+            Err(error) => return Err(error),
+        }
+        if self.fails_at(tab, prefix) {
+            self.fail();
+            return Err(KeepError::Fault);
+        }
+        Ok(())
     }
 
     fn put(&mut self, tab: u8, key: &[u8], row: &[u8]) -> Result<(), KeepError> {

@@ -2,7 +2,7 @@
 ghost use Rattle.std.specs.Prelude.{◌≡◌, false, IfOk};
 
 use bdb_base::List;
-use bdb_keep::{KeepError, Keeper, MemKeeper, QuietKeeper, Store};
+use bdb_keep::{KeepError, Keeper, MemKeeper, QuietKeeper, Span, Store};
 use std::alloc::{AllocError, Global};
 use std::test::Fail;
 
@@ -147,5 +147,34 @@ fn short_and_long_keys_come_in_order(rt: HostRuntime) -> Result<(), Fail> {
         low.extend_from_slice(&key)?;
         low.push(0)?;
     }
+    Ok(())
+}
+
+/// Those of the keys above that begin with two of the same letter.
+const KEYS_WITH_TWO: &str =
+    "aaaaaaaaaaaaaaaaaaaaaaaaaaaaaaaa aaaaaaaaaaaaaaaaaaaaaaaaaaaaaaaab aaaaaaaaaaaaaaaaaaaaaaaaaaaaaaab";
+
+#[test]
+fn rows_with_one_beginning_are_read_at_once(rt: HostRuntime) -> Result<(), Fail> {
+    let alloc = rt.alloc();
+    let mut store = Store::new(alloc);
+    for word in KEYS.split_whitespace() {
+        store.preset(1, word.as_bytes(), word.as_bytes())?;
+        store.preset(2, word.as_bytes(), b"other")?;
+    }
+    assert!(rt; store.remove(1, b"aaaaaaaaaaaaaaaaaaaaaaaaaaaaaaaaaaaaaaaaaaa")?);
+    let mut span = Span::new(alloc);
+    store.under(1, b"aa", &mut span)?;
+    let mut at = 0usize;
+    for word in KEYS_WITH_TWO.split_whitespace() {
+        assert!(rt; at < span.len());
+        let (key, row) = span.entry(at);
+        assert_eq!(rt; key, word.as_bytes());
+        assert_eq!(rt; row, word.as_bytes());
+        at += 1;
+    }
+    assert_eq!(rt; span.len(), at);
+    store.under(1, b"ab", &mut span)?;
+    assert_eq!(rt; span.len(), 0);
     Ok(())
 }

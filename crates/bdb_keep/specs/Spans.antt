@@ -1,0 +1,56 @@
+-- Rows that are read at once: those of a table whose keys begin with some bytes.
+use Rattle.std.specs.Prelude.{◌≡◌, ℕ, ◌≤◌, ◌⊎◌, true, false, cond, List, [], ◌∷◌, ◌++◌, Option, Some, None, IsTrue, drop}
+use Rattle.std.specs.List.{AllByRecursion, slice_range}
+use Rattle.std.specs.declared.cmp.Ordering.{Ordering}
+use Rattle.std.specs.Ordering.{is_le}
+use Rattle.std.specs.FinMap as map
+use Rattle.std.specs.FinMap.{find}
+use Rattle.bdb_base.specs.Segments.{is_prefix}
+use Rattle.bdb_base.specs.SortedSet.{ascending}
+use Rattle.bdb_keep.specs.Tables.{Tables, bytes_cmp}
+use Rattle.bdb_keep.specs.Entries.{Entries}
+use Rattle.bdb_keep.specs.declared.span.Cut.{Cut}
+
+-- keys, each with its row
+abbrev pub Listed : Type 0
+Listed = List (List ℕ × List ℕ)
+
+-- rows by their keys
+abbrev pub listed_cmp : List ℕ × List ℕ → List ℕ × List ℕ → Ordering
+listed_cmp a b = bytes_cmp a.0 b.0
+
+-- These are the rows of a table whose keys begin so, in order: what the table has at such a key is what they have there.
+pub record AreRowsUnder (t : Tables) (tab : ℕ) (prefix : List ℕ) (rows : Listed) : Type 0 where
+  pub each : AllByRecursion (λ r. is_prefix prefix r.0 ≡ true) rows
+  pub sorted : ascending listed_cmp rows ≡ true
+  pub found : (q : List ℕ) → is_prefix prefix q ≡ true → map.get t (tab ∷ q) ≡ find bytes_cmp q rows
+
+-- the key and the row of a cut
+abbrev pub entry_in : List ℕ → Cut → List ℕ × List ℕ
+entry_in bytes c = (slice_range bytes c.start c.middle, slice_range bytes c.middle c.end)
+
+-- those of all cuts
+abbrev pub listed : List ℕ → List Cut → Listed
+listed bytes [] = []
+listed bytes (c ∷ cs) = entry_in bytes c ∷ listed bytes cs
+
+-- a cut lies within so many bytes
+pub record IsWithin (n : ℕ) (c : Cut) : Type 0 where
+  pub key : c.start ≤ c.middle
+  pub row : c.middle ≤ c.end
+  pub bytes : c.end ≤ n
+
+-- the row of an entry whose place begins so: the table's number isn't part of the key
+abbrev pub row_under : List ℕ → List ℕ → Option (List ℕ) → Listed
+row_under p place None = []
+row_under p place (Some row) = cond (is_prefix p place) ((drop 1 place, row) ∷ []) []
+
+-- the rows of the entries whose places begin so
+abbrev pub entries_under : List ℕ → Entries → Listed
+entries_under p [] = []
+entries_under p (e ∷ es) = row_under p e.0 e.1 ++ entries_under p es
+
+-- among some entries there is one above the places that begin so
+abbrev pub HasPast : List ℕ → Entries → Type 0
+HasPast p [] = ⊥
+HasPast p (e ∷ es) = (IsTrue (is_le (bytes_cmp p e.0)) × (is_prefix p e.0 ≡ false)) ⊎ HasPast p es

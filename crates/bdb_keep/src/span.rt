@@ -1,0 +1,133 @@
+// Rows that were read at once.
+ghost use Rattle.std.specs.Prelude.{◌≡◌, ◌<◌, ◌∷◌, ◌++◌, [], false, Some, IfOk, OnOk, length, slice_index_or};
+ghost use Rattle.bdb_base.specs.Segments.{is_prefix};
+ghost use Rattle.std.specs.List.{slice_range};
+ghost use Rattle.bdb_keep.specs.Spans.{row_under, IsWithin};
+
+use crate::row::Row;
+use crate::words::Words;
+use std::alloc::{AllocError, Global};
+use std::marker::Model;
+
+/// Where a key and its row lie: the key from `start` up to `middle`, and the row from there up to `end`.
+#[derive(Clone, Copy)]
+pub struct Cut {
+    pub start: usize,
+    pub middle: usize,
+    pub end: usize,
+}
+
+impl Cut {
+    /// The key among these bytes.
+    #[inline(always)]
+    fn key<'a>(&self, bytes: &'a [u8]) -> &'a [u8]
+        requires { IsWithin (length bytes.now) self.now }
+        ensures { result.now ≡ slice_range bytes.now self.now.start self.now.middle }
+    {
+        &bytes[self.start..self.middle]
+    }
+
+    /// The row among these bytes.
+    #[inline(always)]
+    fn row<'a>(&self, bytes: &'a [u8]) -> &'a [u8]
+        requires { IsWithin (length bytes.now) self.now }
+        ensures { result.now ≡ slice_range bytes.now self.now.middle self.now.end }
+    {
+        &bytes[self.middle..self.end]
+    }
+}
+
+/// Rows with their keys, in the order in which they were read. They lie in one string of bytes, so that no row takes memory of its
+/// own, and what was taken serves all reads into the same span.
+#[derive(Drop)]
+pub struct Span {
+    bytes: Vec<u8>,
+    cuts: Vec<Cut>,
+}
+
+impl Model for Span {
+    ghost use Rattle.std.specs.Prelude.{length};
+    ghost use Rattle.std.specs.List.{AllByRecursion};
+    ghost use Rattle.bdb_keep.specs.Spans.{Listed, listed, IsWithin};
+
+    ghost Value = { Listed };
+
+    ghost view = { λ s. listed s.bytes.items s.cuts.items };
+
+    ghost invariant = { λ s. AllByRecursion (IsWithin (length s.bytes.items)) s.cuts.items };
+}
+
+impl Span {
+    /// No rows. It takes no memory.
+    pub fn new(alloc: Global) -> Self
+        ensures { result ≡ [] }
+    {
+        Span {
+            bytes: Vec::new(alloc),
+            cuts: Vec::new(alloc),
+        }
+    }
+
+    /// Takes all rows out.
+    pub fn clear(&mut self)
+        ensures { self.new ≡ [] }
+    {
+        self.cuts.clear();
+        self.bytes.clear();
+    }
+
+    /// How many rows there are.
+    #[inline(always)]
+    pub fn len(&self) -> usize
+        ensures { result ≡ length self.now }
+    {
+        self.cuts.len()
+    }
+
+    /// The key and the row at an index.
+    #[inline(always)]
+    pub fn entry(&self, index: usize) -> (&[u8], &[u8])
+        requires { index < length self.now }
+        ensures { (result.0.now, result.1.now) ≡ slice_index_or self.now index ([], []) }
+    {
+        let cut = &self.cuts[index];
+        (cut.key(&self.bytes), cut.row(&self.bytes))
+    }
+
+    /// Puts a row behind the others. Where memory is wanting, no clause says which rows there are.
+    pub fn push(&mut self, key: &[u8], row: &[u8]) -> Result<(), AllocError>
+        ensures { OnOk result (self.new ≡ self.old ++ (key.now, row.now) ∷ []) }
+    {
+        let start = self.bytes.len();
+        self.bytes.extend_from_slice(key)?;
+        let middle = self.bytes.len();
+        self.bytes.extend_from_slice(row)?;
+        let end = self.bytes.len();
+        self.cuts.push(Cut { start, middle, end })?;
+        Ok(())
+    }
+
+    /// Puts the row of a place behind the others, where the place is in this table and its key begins so. The answer tells whether it
+    /// does.
+    #[inline(always)]
+    pub fn push_under(
+        &mut self,
+        place: &Words,
+        tab: u8,
+        prefix: &[u8],
+        row: &Row,
+    ) -> Result<bool, AllocError>
+        ensures rows { OnOk result (self.new ≡ self.old ++ row_under (tab ∷ prefix.now) place.now (Some row.now)) }
+        ensures other { IfOk result (λ under. under ≡ false → is_prefix (tab ∷ prefix.now) place.now ≡ false) }
+    {
+        let start = self.bytes.len();
+        if !place.append_under(tab, prefix, &mut self.bytes)? {
+            return Ok(false);
+        }
+        let middle = self.bytes.len();
+        self.bytes.extend_from_slice(row.as_slice())?;
+        let end = self.bytes.len();
+        self.cuts.push(Cut { start, middle, end })?;
+        Ok(true)
+    }
+}
