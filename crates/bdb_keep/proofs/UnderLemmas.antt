@@ -1,11 +1,10 @@
 -- Lemmas on the rows whose places begin with some bytes.
-use Rattle.std.proofs.Common.{◌≡◌, ℕ, zero, suc, ◌+◌, ◌<◌, ◌≤◌, Bool, true, false, cond, List, [], ◌∷◌, ◌++◌, length, take, drop, get_or, Option, Some, None, refl, sym, ap, ◌∙◌, append_assoc, append-nil, subst, arith, inl, inr, ◌⊎◌}
+use Rattle.std.proofs.Common.{◌≡◌, ℕ, zero, suc, ◌+◌, ◌<◌, ◌≤◌, Bool, true, false, cond, List, [], ◌∷◌, ◌++◌, length, take, drop, get_or, Option, Some, None, refl, sym, ap, ◌∙◌, append_assoc, append-nil, subst, arith, inl, inr}
 use Rattle.std.specs.Prelude.{IsTrue, nat_eq, ◌&&◌}
 use Rattle.std.specs.declared.cmp.Ordering.{Ordering}
 use Rattle.std.specs.declared.cmp.Ordering.TheVariants.{Less, Equal, Greater}
 use Rattle.std.specs.Ordering.{is_le, is_eq, is_lt, nat_cmp, eq_by_cmp, ordering_then, ordering_reverse}
 use Rattle.std.specs.List.{AllByRecursion, list_all}
-use Rattle.std.specs.FinMap as map
 use Rattle.std.specs.FinMap.{find, nat_cmp-IsAntisymmetric}
 use Rattle.std.proofs.lemmas.Bool.{and_parts, and_from, eqb-true}
 use Rattle.std.proofs.lemmas.Cmp.{nat_list_cmp_total, nat_cmp_total, tied_itself, eq_by_cmp_equiv}
@@ -19,7 +18,7 @@ use Rattle.bdb_keep.specs.Entries.{Entries, row_of, place_at, rows_of, AreBelow,
 use Rattle.bdb_keep.specs.Blocks.{joined, before, after, AreSorted, IsBound, IsBlockFor}
 use Rattle.bdb_keep.specs.Spans.{Listed, listed_cmp, AreRowsUnder, row_under, entries_under, HasPast}
 use Rattle.bdb_keep.proofs.BlocksLemmas.{split, after-start}
-use Rattle.bdb_keep.proofs.EntriesLemmas.{ascending-parts, less_le, none_below_above, place_at-above}
+use Rattle.bdb_keep.proofs.EntriesLemmas.{ascending-parts, place_at-above}
 use Rattle.bdb_keep.proofs.RowsLemmas.{get_rows_of, same_place}
 use Rattle.bdb_keep.proofs.ShelvesLemmas.{parts, shelf-below}
 
@@ -178,8 +177,8 @@ module _ (tab : ℕ) (prefix : List ℕ) where
       here same None = sym (ap row_of (place_at-above (tab ∷ q) es (subst (λ x. AreAbove x es) (sym same) a))) ∙ more
       here same (Some row) =
           sym (
-            ap (λ b. find bytes_cmp q (cond b ((drop 1 e.0, row) ∷ []) [] ++ entries_under (tab ∷ prefix) es)) (ap (is_prefix (tab ∷ prefix)) (sym same) ∙ place_begins q h)
-            ∙ ap (λ b. cond b (Some row) (find bytes_cmp q (entries_under (tab ∷ prefix) es))) (ap (λ x. eq_by_cmp bytes_cmp q (drop 1 x)) (sym same) ∙ (eq_by_cmp_equiv nat_list_cmp_total).refl q)
+          ap (λ b. find bytes_cmp q (cond b ((drop 1 e.0, row) ∷ []) [] ++ entries_under (tab ∷ prefix) es)) (ap (is_prefix (tab ∷ prefix)) (sym same) ∙ place_begins q h)
+          ∙ ap (λ b. cond b (Some row) (find bytes_cmp q (entries_under (tab ∷ prefix) es))) (ap (λ x. eq_by_cmp bytes_cmp q (drop 1 x)) (sym same) ∙ (eq_by_cmp_equiv nat_list_cmp_total).refl q)
           )
 
       passed : eq_by_cmp bytes_cmp (tab ∷ q) e.0 ≡ false → (row : List ℕ) (b : Bool) → is_prefix (tab ∷ prefix) e.0 ≡ b

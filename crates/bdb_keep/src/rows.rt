@@ -175,12 +175,7 @@ impl Rows {
     }
 
     /// Reads the rows of a table whose keys begin with these bytes.
-    pub fn read_under(
-        &mut self,
-        tab: u8,
-        prefix: &[u8],
-        span: &mut Span,
-    ) -> Result<(), AllocError>
+    pub fn read_under(&mut self, tab: u8, prefix: &[u8], span: &mut Span) -> Result<(), AllocError>
         ensures rows { OnOk result (AreRowsUnder (rows_of self.old) tab prefix.now span.new) }
         ensures same { self.new ≡ self.old }
     {

@@ -80,12 +80,7 @@ impl Store {
     }
 
     /// Reads the rows of a table whose keys begin with these bytes.
-    pub fn under(
-        &mut self,
-        tab: u8,
-        prefix: &[u8],
-        span: &mut Span,
-    ) -> Result<(), AllocError>
+    pub fn under(&mut self, tab: u8, prefix: &[u8], span: &mut Span) -> Result<(), AllocError>
         ensures rows { OnOk result (AreRowsUnder self.old.kept tab prefix.now span.new) }
         ensures same { self.new ≡ self.old }
     {

@@ -62,12 +62,7 @@ fn take_entries(
 
 /// The same of an entry. Where it has no row, it is passed over.
 #[inline(always)]
-fn take_entry(
-    entry: &Entry,
-    tab: u8,
-    prefix: &[u8],
-    span: &mut Span,
-) -> Result<bool, AllocError>
+fn take_entry(entry: &Entry, tab: u8, prefix: &[u8], span: &mut Span) -> Result<bool, AllocError>
     ensures rows { OnOk result (span.new ≡ span.old ++ row_under (tab ∷ prefix.now) entry.now.0 entry.now.1) }
     ensures other { IfOk result (λ goes_on. goes_on ≡ false → is_prefix (tab ∷ prefix.now) entry.now.0 ≡ false) }
 {

@@ -12,6 +12,7 @@ use Rattle.bdb_base.specs.Segments.{is_prefix}
 use Rattle.bdb_keep.specs.Scans.{next_key}
 use Rattle.bdb_keep.specs.Seen.{Seen, GoesOn, NeverFall}
 use Rattle.bdb_keep.specs.Tables.{Tables, bytes_cmp}
+use Rattle.bdb_keep.proofs.UnderLemmas.{prefix_convex}
 use Rattle.bdb_key.proofs.Readings.{all_push, num_form}
 use Rattle.bdb_key.specs.Bytes.{num_bytes, vals_bytes}
 use Rattle.bdb_key.specs.Grammar.{IsNum}
@@ -29,7 +30,7 @@ use Rattle.bdb_tables.specs.Writes.{IsChange, with_change, with_changes}
 use Rattle.bdb_tables.proofs.Held.{same_place}
 use Rattle.bdb_tables.proofs.Loops.{goes_then, counts_then, rises_more}
 use Rattle.bdb_tables.proofs.MarkLemmas.{rest_from}
-use Rattle.bdb_tables.proofs.Prefixes.{le_trans, lt_from_not_le, not_le_from_lt, below_next, prefix_convex}
+use Rattle.bdb_tables.proofs.Prefixes.{le_trans, lt_from_not_le, not_le_from_lt, below_next}
 use Rattle.bdb_tables.proofs.SpanLemmas.{Covers, covers_none, covers_more, covers_all, next_is_under}
 use Rattle.bdb_tables.proofs.WriteLemmas.{get_after_change, written_grammar}
 

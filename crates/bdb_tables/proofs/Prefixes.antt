@@ -1,18 +1,16 @@
 -- Bytes that begin alike lie side by side in the order of bytes.
 use Rattle.std.proofs.Common.{◌≡◌, ℕ, true, false, List, [], ◌∷◌, refl, sym, ap, ◌∙◌, arith}
-use Rattle.std.specs.Prelude.{nat_eq, ◌&&◌}
-use Rattle.std.specs.FinMap.{nat_cmp-IsAntisymmetric}
+use Rattle.std.specs.Prelude.{nat_eq}
 use Rattle.std.specs.declared.cmp.Ordering.{Ordering}
 use Rattle.std.specs.declared.cmp.Ordering.TheVariants.{Less, Equal, Greater}
-use Rattle.std.specs.Ordering.{is_le, nat_cmp, ordering_then, ordering_reverse}
-use Rattle.std.proofs.lemmas.Bool.{and_parts, and_from, eqb-true}
-use Rattle.std.proofs.lemmas.Cmp.{nat_list_cmp_total, nat_cmp_total, tied_itself}
+use Rattle.std.specs.Ordering.{is_le, ordering_reverse}
+use Rattle.std.proofs.lemmas.Bool.{and_from}
+use Rattle.std.proofs.lemmas.Cmp.{nat_list_cmp_total, tied_itself}
 use Rattle.bdb_base.specs.Segments.{is_prefix}
 use Rattle.bdb_keep.specs.Tables.{bytes_cmp}
 use Rattle.bdb_keep.specs.Scans.{next_key}
 use Rattle.bdb_keep.proofs.Scans.{above_key}
 use Rattle.bdb_key.proofs.Forms.{same_bytes}
-use Rattle.bdb_key.proofs.Numbers.{equal}
 
 -- ---- the order of bytes
 
@@ -59,34 +57,3 @@ prefix_itself (i ∷ p) = and_from (nat_eq i i) (is_prefix p p) (nat_same i) (pr
   where
     nat_same : (n : ℕ) → nat_eq n n ≡ true
     nat_same n = grind arith
-
-pub prefix_le : (p q : List ℕ) → is_prefix p q ≡ true → is_le (bytes_cmp p q) ≡ true
-prefix_le [] [] h = refl
-prefix_le [] (j ∷ q) h = refl
-prefix_le (i ∷ p) [] h = absurd cc
-prefix_le (i ∷ p) (j ∷ q) h =
-    let both = and_parts (nat_eq i j) (is_prefix p q) h in
-    let same : i ≡ j = eqb-true i j both.0 in
-    ap (λ o. is_le (ordering_then o (bytes_cmp p q))) (ap (λ n. nat_cmp n j) same ∙ equal j) ∙ prefix_le p q both.1
-
--- what lies between a beginning and bytes that begin so begins so too
-pub prefix_convex : (p k q : List ℕ) → is_prefix p q ≡ true → is_le (bytes_cmp p k) ≡ true → is_le (bytes_cmp k q) ≡ true → is_prefix p k ≡ true
-prefix_convex [] k q h pk kq = refl
-prefix_convex (i ∷ p) k [] h pk kq = absurd cc
-prefix_convex (i ∷ p) [] (j ∷ q) h pk kq = absurd cc
-prefix_convex (i ∷ p) (m ∷ k) (j ∷ q) h pk kq = by (prefix_convex p k q both.1) (nat_cmp i m) refl pk turned
-  where
-    both : (nat_eq i j ≡ true) × (is_prefix p q ≡ true)
-    both = and_parts (nat_eq i j) (is_prefix p q) h
-
-    turned : is_le (ordering_then (ordering_reverse (nat_cmp i m)) (bytes_cmp k q)) ≡ true
-    turned = ap (λ o. is_le (ordering_then o (bytes_cmp k q))) (sym (ap (nat_cmp m) (sym (eqb-true i j both.0)) ∙ nat_cmp_total.antisymm m i)) ∙ kq
-
-    here : i ≡ m → nat_eq i m ≡ true
-    here e = grind arith
-
-    by : (is_le (bytes_cmp p k) ≡ true → is_le (bytes_cmp k q) ≡ true → is_prefix p k ≡ true) → (r : Ordering) → nat_cmp i m ≡ r → is_le (ordering_then r (bytes_cmp p k)) ≡ true
-        → is_le (ordering_then (ordering_reverse r) (bytes_cmp k q)) ≡ true → nat_eq i m && is_prefix p k ≡ true
-    by more Less e a b = absurd cc
-    by more Greater e a b = absurd cc
-    by more Equal e a b = and_from (nat_eq i m) (is_prefix p k) (here (nat_cmp-IsAntisymmetric i m e)) (more a b)

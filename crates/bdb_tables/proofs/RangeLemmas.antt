@@ -1,5 +1,5 @@
 -- Rows that were read at once are all whose keys begin so.
-use Rattle.std.proofs.Common.{◌≡◌, ℕ, ◌+◌, ◌<◌, ◌≤◌, zero, suc, Bool, true, false, cond, List, [], ◌∷◌, ◌++◌, Option, Some, None, map, length, take, get_or, refl, sym, ap, subst, ◌∙◌, arith}
+use Rattle.std.proofs.Common.{◌≡◌, ℕ, ◌+◌, ◌<◌, ◌≤◌, zero, suc, true, false, cond, List, [], ◌∷◌, ◌++◌, Some, map, length, take, get_or, refl, sym, ap, subst, ◌∙◌, arith}
 use Rattle.std.specs.Prelude.{◌&&◌}
 use Rattle.std.specs.declared.cmp.Ordering.{Ordering}
 use Rattle.std.specs.declared.cmp.Ordering.TheVariants.{Less, Equal, Greater}
@@ -8,21 +8,18 @@ use Rattle.std.specs.List.{list_all, AllByRecursion, AllZip}
 use Rattle.std.specs.FinMap as tables
 use Rattle.std.specs.FinMap.{find}
 use Rattle.std.proofs.lemmas.Bool.{and_parts, false≢true}
-use Rattle.std.proofs.lemmas.List.{get_or_default}
-use Rattle.std.proofs.lemmas.List.Elements.{all_zip_more}
-use Rattle.std.proofs.Math.ListN.{take_of_length-le}
+use Rattle.std.proofs.lemmas.List.{take_all, take_more}
 use Rattle.std.proofs.lemmas.Cmp.{nat_list_cmp_total, eq_by_cmp_equiv}
 use Rattle.bdb_base.specs.Causes.{Rises, RoseBy}
 use Rattle.bdb_base.specs.Segments.{is_prefix}
 use Rattle.bdb_base.specs.SortedSet.{ascending}
 use Rattle.bdb_keep.specs.Spans.{Listed, listed_cmp, AreRowsUnder}
 use Rattle.bdb_keep.specs.Tables.{Tables, bytes_cmp}
-use Rattle.bdb_key.specs.Reading.{Reads}
 use Rattle.bdb_tables.specs.Codec.{Codec, IsEntryOf, TableFits}
-use Rattle.bdb_tables.specs.GroupMarks.{AreNumbered, IsNumbered, SpellNumbered, numbered}
+use Rattle.bdb_tables.specs.GroupMarks.{AreNumbered, SpellNumbered, numbered}
 use Rattle.bdb_tables.specs.InUse.{ValKey, val_codec}
 use Rattle.bdb_tables.specs.Marks.{Mark}
-use Rattle.bdb_tables.specs.Spans.{entry_bytes, entry_cmp, IsUnder, AreUnder, AreEntriesOf, Spells, Spell}
+use Rattle.bdb_tables.specs.Spans.{entry_bytes, entry_cmp, IsUnder, AreUnder, AreEntriesOf, Spell}
 
 -- ---- each of some rows in order is found among them
 
@@ -131,16 +128,21 @@ entries_at c (b ∷ bytes) zero k r h lt e = subst (λ x. IsEntryOf c x.0 x.1) (
 entries_at c (b ∷ bytes) (suc i) k r h lt e = entries_at c bytes i k r h.1 (omega arith) e
 
 -- one row more
+zip_push : {X : Type 0} (R : List ℕ × List ℕ → X → Type 0) (bytes : Listed) (xs : List X) (b : List ℕ × List ℕ) (x : X) → AllZip R bytes xs → R b x → AllZip R (bytes ++ b ∷ []) (xs ++ x ∷ [])
+zip_push R [] [] b x h here = (here, tt)
+zip_push R [] (y ∷ xs) b x h here = absurd h
+zip_push R (c ∷ bytes) [] b x h here = absurd h
+zip_push R (c ∷ bytes) (y ∷ xs) b x h here = (h.0, zip_push R bytes xs b x h.1 here)
+
 pub zip_more : {X : Type 0} (R : List ℕ × List ℕ → X → Type 0) (bytes : Listed) (xs ys : List X) (i n : ℕ) (b : List ℕ × List ℕ) (x : X) → i < length bytes → b ≡ get_or bytes i ([], []) → AllZip R (take i bytes) xs
     → R b x → ys ≡ xs ++ x ∷ [] → n ≡ i + 1 → AllZip R (take n bytes) ys
 zip_more R bytes xs ys i n b x lt is so_far here pushed next =
-    subst (λ k. AllZip R (take k bytes) ys) (sym next)
-    (subst (AllZip R (take (i + 1) bytes)) (sym pushed)
-    (all_zip_more R bytes xs i b x lt (is ∙ get_or_default bytes i ([], []) b lt) so_far here))
+    let front : take n bytes ≡ take i bytes ++ b ∷ [] = ap (λ k. take k bytes) next ∙ take_more bytes i ([], []) lt ∙ ap (λ c. take i bytes ++ c ∷ []) (sym is) in
+    subst (λ l. AllZip R l ys) (sym front) (subst (AllZip R (take i bytes ++ b ∷ [])) (sym pushed) (zip_push R (take i bytes) xs b x so_far here))
 
 -- and all of them
 pub zip_all : {X : Type 0} (R : List ℕ × List ℕ → X → Type 0) (bytes : Listed) (xs : List X) (i : ℕ) → length bytes ≤ i → AllZip R (take i bytes) xs → AllZip R bytes xs
-zip_all R bytes xs i h z = subst (λ l. AllZip R l xs) (take_of_length-le bytes h) z
+zip_all R bytes xs i h z = subst (λ l. AllZip R l xs) (take_all i bytes h) z
 
 pub zip_none : {X : Type 0} (R : List ℕ × List ℕ → X → Type 0) (bytes : Listed) (xs : List X) → xs ≡ [] → AllZip R (take 0 bytes) xs
 zip_none R bytes xs e = subst (λ l. AllZip R [] l) (sym e) tt

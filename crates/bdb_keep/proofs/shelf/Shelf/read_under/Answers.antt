@@ -1,4 +1,4 @@
-use Rattle.std.proofs.Common.{◌≡◌, ◌∷◌, ◌++◌, ◌∙◌, sym, ap, subst}
+use Rattle.std.proofs.Common.{◌∷◌, ◌++◌, ◌∙◌, sym, ap, subst}
 use Rattle.bdb_keep.specs.Blocks.{joined, IsBound}
 use Rattle.bdb_keep.specs.Spans.{entries_under, HasPast}
 use Rattle.bdb_keep.proofs.shelf.Shelf.read_under.Goals as goal

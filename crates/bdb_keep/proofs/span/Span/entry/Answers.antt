@@ -1,4 +1,4 @@
-use Rattle.std.proofs.Common.{◌≡◌, ◌<◌, ◌∙◌, ◌∷◌, List, ℕ, [], sym, ap, subst, length, get_or, rules}
+use Rattle.std.proofs.Common.{◌<◌, ◌∙◌, List, ℕ, [], sym, ap, subst, length, get_or, rules}
 use Rattle.std.specs.List.{slice_range}
 use Rattle.bdb_keep.specs.Spans.{IsWithin}
 use Rattle.bdb_keep.proofs.SpanLemmas.{length_is, within-at, listed-at}

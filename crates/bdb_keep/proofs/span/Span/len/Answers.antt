@@ -1,4 +1,4 @@
-use Rattle.std.proofs.Common.{◌≡◌, ◌∙◌, sym, ap, length, rules}
+use Rattle.std.proofs.Common.{◌∙◌, sym, ap, length, rules}
 use Rattle.bdb_keep.proofs.SpanLemmas.{length_is}
 use Rattle.bdb_keep.proofs.span.Span.len.Goals as goal
 

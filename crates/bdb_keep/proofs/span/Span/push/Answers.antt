@@ -1,4 +1,4 @@
-use Rattle.std.proofs.Common.{◌≡◌, ◌∙◌, ◌∷◌, ◌++◌, [], sym, ap, subst, length, rules}
+use Rattle.std.proofs.Common.{◌∙◌, ◌∷◌, ◌++◌, [], sym, ap, subst, length, rules}
 use Rattle.std.specs.List.{AllByRecursion}
 use Rattle.bdb_keep.specs.Spans.{Listed, listed, IsWithin}
 use Rattle.bdb_keep.proofs.SpanLemmas.{front, within-kept, listed-more, within-all}

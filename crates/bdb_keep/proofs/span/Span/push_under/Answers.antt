@@ -1,4 +1,4 @@
-use Rattle.std.proofs.Common.{◌≡◌, ◌∙◌, ◌∷◌, ◌++◌, [], true, cond, drop, Some, append-nil, sym, ap, subst, length, take, rules}
+use Rattle.std.proofs.Common.{◌∙◌, ◌∷◌, ◌++◌, [], true, cond, drop, Some, append-nil, sym, ap, subst, length, take, rules}
 use Rattle.std.specs.List.{AllByRecursion}
 use Rattle.bdb_keep.specs.Spans.{Listed, listed, IsWithin}
 use Rattle.bdb_keep.proofs.SpanLemmas.{front, listed-kept, within-kept, listed-more, within-all}
