@@ -11,6 +11,7 @@ mod finding;
 mod head;
 mod keeper;
 mod ledger;
+mod many;
 mod mem;
 mod place;
 mod quiet;
