@@ -401,7 +401,7 @@ pub fn drop_empty_shelves(shelves: &mut Vec<Shelf>)
 }
 
 /// Cuts a full shelf in two, and answers where a mark is then. Where memory is wanting the shelf stays whole.
-fn cut_full(shelves: &mut Vec<Shelf>, mark: Mark) -> Mark
+pub fn cut_full(shelves: &mut Vec<Shelf>, mark: Mark) -> Mark
     requires { AreSorted shelves.old.items }
     ensures sorted { AreSorted shelves.new.items }
     ensures same { joined shelves.new.items ≡ joined shelves.old.items }
