@@ -1,25 +1,48 @@
 // What comes right behind a spot, where rows are put or taken away in the order of their places.
-ghost use Rattle.std.specs.Prelude.{◌≡◌, ◌∷◌, ◌++◌, false, Some, IfOk, IfSome, OnSome, OnOk, OnErr};
-ghost use Rattle.bdb_keep.specs.Blocks.{joined, before, after, AreSorted, StandsAt, IsGap};
+ghost use Rattle.std.specs.Prelude.{◌≡◌, ◌<◌, ◌-◌, ◌^◌, ◌∷◌, ◌++◌, [], false, Some, IfSome, OnSome, OnOk, OnErr, slice_index_or};
+ghost use Rattle.std.specs.declared.cmp.Ordering.TheVariants.{Less};
+ghost use Rattle.bdb_keep.specs.Tables.{bytes_cmp};
+ghost use Rattle.bdb_keep.specs.Blocks.{joined, before, after, entry_at, AreSorted, IsThere, StandsAt, IsGap};
 ghost use Rattle.bdb_keep.specs.Shelves.{BelongsAmong};
 
 use crate::block::Block;
 use crate::blocks::add;
-use crate::finding::{Spot, entry_of, find_beside, first_at};
+use crate::finding::{Spot, entry_of, find_behind, first_at};
 use crate::row::Row;
 use crate::words::Probe;
 use std::alloc::{AllocError, Global};
 use std::cmp::Ordering;
 
-/// Where a place belongs that stands nowhere, if that is beside a spot. None also where it may belong behind these blocks; `is_last`
+/// Where a place belongs that stands nowhere, if that is right behind the one at a spot. None also where it may belong behind these blocks; `is_last`
 /// tells that there is nothing behind them.
 #[inline(always)]
-pub fn gap_beside(blocks: &[Block], spot: Spot, is_last: bool, probe: &Probe<'_>) -> Option<Spot>
+pub fn gap_at(blocks: &[Block], spot: Spot, is_last: bool, probe: &Probe<'_>) -> Option<Spot>
     requires { AreSorted blocks.now }
     ensures gap { IfSome result (λ at. IsGap blocks.now probe.now at.0 at.1) }
     ensures belongs { OnSome result (BelongsAmong (joined blocks.now) probe.now is_last) }
 {
-    match find_beside(blocks, spot, is_last, probe) {
+    match first_at(blocks, spot) {
+        Some(here) => match entry_of(blocks, here).0.compare(probe) {
+            Ordering::Less => gap_behind(blocks, here, is_last, probe),
+            Ordering::Equal => None,
+            Ordering::Greater => None,
+        },
+        None => None,
+    }
+}
+
+/// The same where the one at the spot is below it.
+#[inline(always)]
+fn gap_behind(blocks: &[Block], spot: Spot, is_last: bool, probe: &Probe<'_>) -> Option<Spot>
+    requires sorted { AreSorted blocks.now }
+    requires there { IsThere blocks.now spot.0 spot.1 }
+    requires small { spot.1 < 2 ^ 64 - 1 }
+    requires below { bytes_cmp (entry_at (slice_index_or blocks.now spot.0 []) spot.1).0 probe.now
+        ≡ Less }
+    ensures gap { IfSome result (λ at. IsGap blocks.now probe.now at.0 at.1) }
+    ensures belongs { OnSome result (BelongsAmong (joined blocks.now) probe.now is_last) }
+{
+    match find_behind(blocks, spot, is_last, probe) {
         Some(Ok(_)) => None,
         Some(Err(at)) => Some(at),
         None => None,

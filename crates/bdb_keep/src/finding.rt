@@ -125,7 +125,7 @@ fn find_before(
 
 /// The same where the one at the spot is below it.
 #[inline(always)]
-fn find_behind(
+pub fn find_behind(
     blocks: &[Block],
     spot: Spot,
     is_last: bool,

@@ -7,7 +7,7 @@ use crate::beside::is_last_shelf;
 use crate::cursors::Mark;
 use crate::row::Row;
 use crate::shelf::Shelf;
-use crate::shelves::cut_full;
+use crate::shelves::{cut_full, has_room};
 use crate::words::Probe;
 use std::alloc::Global;
 
@@ -29,9 +29,22 @@ pub fn put_beside(
     ensures same { IfNone result (joined shelves.new.items ≡ joined shelves.old.items) }
 {
     match put_on(alloc, shelves, mark, probe, row) {
-        Some(mark) => Some(cut_full(shelves, mark)),
+        Some(mark) => Some(cut_if_full(shelves, mark)),
         None => None,
     }
+}
+
+/// Cuts the shelf of a mark in two where it is full, and answers where the mark is then.
+#[inline(always)]
+fn cut_if_full(shelves: &mut Vec<Shelf>, mark: Mark) -> Mark
+    requires { AreSorted shelves.old.items }
+    ensures sorted { AreSorted shelves.new.items }
+    ensures same { joined shelves.new.items ≡ joined shelves.old.items }
+{
+    if has_room(shelves, mark.0) {
+        return mark;
+    }
+    cut_full(shelves, mark)
 }
 
 /// The same, where the shelf isn't cut.

@@ -6,7 +6,7 @@ ghost use Rattle.bdb_keep.specs.Blocks.{joined, starts_within, without_empty, ha
 ghost use Rattle.bdb_keep.specs.Spans.{entries_under, HasPast};
 ghost use Rattle.bdb_keep.specs.Shelves.{IsChangedAt, NoRowFrom, IsFirstRow, IsCutInTwo, BelongsAmong};
 
-use crate::behind::{add_copy, gap_beside, stands_behind};
+use crate::behind::{add_copy, gap_at, stands_behind};
 use crate::block::{Block, Entry};
 use crate::blocks::{add, drop_empty_blocks, drop_empty_places, is_behind, replace_at, take_out};
 use crate::finding::{Spot, entry_of, find, find_beside, find_row, row_from, seek_near};
@@ -320,7 +320,7 @@ impl Shelf {
         ensures belongs { OnSome result (BelongsAmong self.old probe.now is_last) }
         ensures same { IfNone result (self.new ≡ self.old) }
     {
-        let gap = gap_beside(&self.blocks, spot, is_last, probe)?;
+        let gap = gap_at(&self.blocks, spot, is_last, probe)?;
         match add_copy(
             alloc,
             &mut self.blocks,
