@@ -1,9 +1,9 @@
-use Rattle.std.proofs.Common.{◌≡◌, ◌∙◌, ◌-◌, ◌++◌, ◌∷◌, [], false, List, ℕ, take, drop, length, refl, ap}
+use Rattle.std.proofs.Common.{◌∙◌, ◌-◌, ◌++◌, ◌∷◌, [], false, List, ℕ, take, drop, length, refl, ap}
 use Rattle.std.proofs.lemmas.List.{take_rest}
 use Rattle.bdb_key.specs.Bytes.{num_bytes}
 use Rattle.bdb_key.specs.Rows.{mark_bytes}
 use Rattle.bdb_tables.proofs.CopyLemmas.{copy_made}
-use Rattle.bdb_tables.proofs.MarkLemmas.{has_four, is_mark_row}
+use Rattle.bdb_tables.proofs.MarkLemmas.{is_mark_row}
 use Rattle.bdb_tables.proofs.copies.push_copy.Goals as goal
 
 pub mark_from-sign-requires : goal.mark_from-sign-requires
