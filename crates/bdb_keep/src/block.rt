@@ -18,7 +18,7 @@ use std::mem::replace;
 /// The most places of a block.
 pub const CAPACITY: usize = 32;
 
-/// A place with its row, or with none where the row was removed in the running transaction.
+/// A place with its row, or with none where the row was removed.
 pub type Entry = (Words, Option<Row>);
 
 /// A block of places in ascending order.

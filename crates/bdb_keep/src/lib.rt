@@ -6,6 +6,7 @@ mod beside;
 mod block;
 mod blocks;
 mod bytes;
+mod census;
 mod changes;
 mod cursors;
 mod finding;

@@ -81,16 +81,16 @@ fn put_next(
         (rows_of rows.old) }
     ensures has { HavePlaces changes.new.items rows.new }
 {
-    if put_beside(alloc, rows, changes, tab, key, row)? {
+    if put_behind(alloc, rows, changes, tab, key, row)? {
         return Ok(());
     }
     put_row(alloc, rows, changes, tab, key, row)?;
     Ok(())
 }
 
-/// Puts a row beside the one that was put before it. The answer is false, and no row changes, where it may belong elsewhere.
+/// Puts a row right behind the one that was put before it. The answer is false, and no row changes, where it may belong elsewhere.
 #[inline(always)]
-fn put_beside(
+fn put_behind(
     alloc: Global,
     rows: &mut Rows,
     changes: &mut Vec<Change>,
@@ -109,16 +109,15 @@ fn put_beside(
 {
     changes.reserve(1)?;
     let place = Place::of(alloc, tab, key)?;
+    let copy = Row::of(alloc, row)?;
     let probe = Probe::of(tab, key);
-    if rows.put_beside(&probe, row) {
-        changes.push_reserved(Change {
-            place,
-            before: None,
-            emptied: false,
-        });
-        return Ok(true);
+    match rows.put_behind(&probe, copy) {
+        Some(before) => {
+            changes.push_reserved(Change { place, before });
+            Ok(true)
+        }
+        None => Ok(false),
     }
-    Ok(false)
 }
 
 /// Takes a row away, mostly the one right behind the one that was taken before it.
@@ -137,7 +136,6 @@ fn take_next(rows: &mut Rows, changes: &mut Vec<Change>, place: Place) -> Result
             changes.push_reserved(Change {
                 place,
                 before: Some(row),
-                emptied: true,
             });
             Ok(())
         }

@@ -1,13 +1,14 @@
 // The rows by place, on sorted shelves, where a removed row leaves an empty place.
-ghost use Rattle.std.specs.Prelude.{◌≡◌, ◌∷◌, [], Some, None, IfOk, IfErr, IfSome, IfNone, ◌↔◌, OnSome, OnOk, OnErr, IsTrue, MatchBool, is_some, false, true, if◌then◌else◌};
+ghost use Rattle.std.specs.Prelude.{◌≡◌, ◌∷◌, [], Some, None, IfOk, IfErr, IfSome, IfNone, ◌↔◌, OnSome, OnOk, OnErr, IsTrue, MatchBool, false, if◌then◌else◌};
 ghost use Rattle.std.specs.Option.{option_map, option_copied};
 ghost use Rattle.std.specs.FinMap as map;
-ghost use Rattle.bdb_keep.specs.Entries.{place_at, rows_of, IsSetAt, IsAmong, AreAmong};
+ghost use Rattle.bdb_keep.specs.Entries.{place_at, row_of, rows_of, IsSetAt, IsAmong, AreAmong};
 ghost use Rattle.bdb_keep.specs.Blocks.{joined};
 ghost use Rattle.bdb_keep.specs.Spans.{AreRowsUnder};
 ghost use Rattle.bdb_keep.specs.Tables.{IsLeastFrom, NoneFrom, LieWithin};
 
 use crate::block::{Block, Entry};
+use crate::census::Census;
 use crate::cursors::Cursors;
 use crate::row::Row;
 use crate::shelf::Shelf;
@@ -17,13 +18,14 @@ use crate::{runs, shelves};
 use std::alloc::{AllocError, Global};
 use std::marker::Model;
 
-/// The rows by place. A place with no row is one whose row was removed in the running transaction. What was used last is
-/// remembered, so that what comes next in the order of the places of a table is found at once.
+/// The rows by place. A place with no row is one whose row was removed; such places are taken away once they are many. What was used
+/// last is remembered, so that what comes next in the order of the places of a table is found at once.
 #[derive(Drop)]
 pub struct Rows {
     alloc: Global,
     shelves: Vec<Shelf>,
     cursors: Cursors,
+    census: Census,
 }
 
 impl Model for Rows {
@@ -46,16 +48,8 @@ impl Rows {
             alloc,
             shelves: Vec::new(alloc),
             cursors: Cursors::new(alloc),
+            census: Census::none(),
         }
-    }
-
-    /// How many blocks there are.
-    pub fn block_count(&self) -> usize {
-        let mut count = 0usize;
-        for shelf in &self.shelves {
-            count = count.saturating_add(shelf.block_count());
-        }
-        count
     }
 
     /// What stands at a place.
@@ -75,9 +69,11 @@ impl Rows {
         ensures same { OnErr result (self.new ≡ self.old) }
     {
         let near = self.cursors.to_write(probe);
+        let has_row = row.is_some();
         match shelves::swap(&mut self.shelves, near, probe, row) {
             Ok((mark, before)) => {
                 self.cursors.remember_written(probe, mark);
+                self.census.swapped(before.is_some(), has_row);
                 Ok(before)
             }
             Err(row) => Err(row),
@@ -95,24 +91,27 @@ impl Rows {
         let near = self.cursors.to_write(probe);
         let (mark, before) = shelves::insert(self.alloc, &mut self.shelves, near, probe, row)?;
         self.cursors.remember_written(probe, mark);
+        self.census.inserted(&before);
         Ok(before)
     }
 
-    /// Puts a row at a place beside the one that was written last in its table. The answer is false, and nothing changes, where the
-    /// place is there, isn't beside that one, or memory is wanting.
+    /// Puts a row at a place, and answers the row that stood there. None, and nothing changes, where the place doesn't come right behind
+    /// the one that was written last in its table, or memory is wanting.
     #[inline(always)]
-    pub fn put_beside(&mut self, probe: &Probe<'_>, row: &[u8]) -> bool
-        ensures absent { result ≡ true → place_at self.old probe.now ≡ None }
-        ensures set { result ≡ true → IsSetAt self.old self.new probe.now (Some (Some row.now)) }
-        ensures same { result ≡ false → self.new ≡ self.old }
+    pub fn put_behind(&mut self, probe: &Probe<'_>, row: Row) -> Option<Option<Row>>
+        ensures found { IfSome result
+            (λ before. row_of (place_at self.old probe.now) ≡ before) }
+        ensures set { OnSome result (IsSetAt self.old self.new probe.now (Some (Some row))) }
+        ensures same { IfNone result (self.new ≡ self.old) }
     {
         let last = self.cursors.last_written(probe);
-        match runs::put_beside(self.alloc, &mut self.shelves, last, probe, row) {
-            Some(mark) => {
+        match runs::put_behind(self.alloc, &mut self.shelves, last, probe, row) {
+            Some((mark, is_new, before)) => {
                 self.cursors.remember_written(probe, mark);
-                true
+                self.census.put(is_new, before.is_some());
+                Some(before)
             }
-            None => false,
+            None => None,
         }
     }
 
@@ -128,38 +127,29 @@ impl Rows {
         match runs::empty_behind(&mut self.shelves, last, probe) {
             Some((mark, before)) => {
                 self.cursors.remember_written(probe, mark);
+                self.census.swapped(before.is_some(), false);
                 Some(before)
             }
             None => None,
         }
     }
 
-    /// Takes a place away where it is empty.
-    pub fn drop_empty(&mut self, probe: &Probe<'_>)
+    /// Takes the empty places away where they are many.
+    pub fn drop_many_empty(&mut self)
         ensures { rows_of self.new ≡ rows_of self.old }
     {
-        if !self.has_row(probe) {
-            self.remove(probe);
+        if self.census.has_many_empty() {
+            self.drop_all_empty();
         }
     }
 
-    /// Whether there is a row at a place.
-    fn has_row(&mut self, probe: &Probe<'_>) -> bool
-        ensures found { result ≡ is_some (map.get (rows_of self.old) probe.now) }
-        ensures same { self.new ≡ self.old }
-    {
-        let near = self.cursors.to_read(probe);
-        let (mark, found) = shelves::has_row(&self.shelves, near, probe);
-        self.cursors.remember_read(probe, mark);
-        found
-    }
-
     /// Takes all empty places away, in one walk over the rows.
-    pub fn drop_all_empty(&mut self)
+    fn drop_all_empty(&mut self)
         ensures { rows_of self.new ≡ rows_of self.old }
     {
         shelves::drop_empty_places(&mut self.shelves);
         shelves::drop_empty_shelves(&mut self.shelves);
+        self.census.swept();
     }
 
     /// Takes a place away, with what stands there.

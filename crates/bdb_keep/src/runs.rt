@@ -1,6 +1,6 @@
 // Putting and taking away rows in the order of their places, each right behind the one before it.
 ghost use Rattle.std.specs.Prelude.{◌≡◌, Some, None, IfSome, IfNone, OnSome};
-ghost use Rattle.bdb_keep.specs.Entries.{place_at, IsSetAt};
+ghost use Rattle.bdb_keep.specs.Entries.{place_at, row_of, IsSetAt};
 ghost use Rattle.bdb_keep.specs.Blocks.{joined, AreSorted};
 
 use crate::beside::is_last_shelf;
@@ -11,25 +11,26 @@ use crate::shelves::{cut_full, has_room};
 use crate::words::Probe;
 use std::alloc::Global;
 
-/// Puts a row at a place, and answers where. None, and nothing changes, where the place is there, isn't beside the mark, or memory is
-/// wanting.
+/// Puts a row at a place, and answers where, whether the place is new, and the row that stood there. None, and nothing changes, where the
+/// place doesn't come right behind the mark, or memory is wanting.
 #[inline(always)]
-pub fn put_beside(
+pub fn put_behind(
     alloc: Global,
     shelves: &mut Vec<Shelf>,
     mark: Mark,
     probe: &Probe<'_>,
-    row: &[u8],
-) -> Option<Mark>
+    row: Row,
+) -> Option<(Mark, bool, Option<Row>)>
     requires { AreSorted shelves.old.items }
     ensures sorted { AreSorted shelves.new.items }
-    ensures absent { OnSome result (place_at (joined shelves.old.items) probe.now ≡ None) }
+    ensures found { IfSome result
+        (λ put. row_of (place_at (joined shelves.old.items) probe.now) ≡ put.2) }
     ensures set { OnSome result (IsSetAt (joined shelves.old.items) (joined shelves.new.items)
-        probe.now (Some (Some row.now))) }
+        probe.now (Some (Some row))) }
     ensures same { IfNone result (joined shelves.new.items ≡ joined shelves.old.items) }
 {
     match put_on(alloc, shelves, mark, probe, row) {
-        Some(mark) => Some(cut_if_full(shelves, mark)),
+        Some((mark, is_new, before)) => Some((cut_if_full(shelves, mark), is_new, before)),
         None => None,
     }
 }
@@ -54,13 +55,14 @@ fn put_on(
     shelves: &mut Vec<Shelf>,
     mark: Mark,
     probe: &Probe<'_>,
-    row: &[u8],
-) -> Option<Mark>
+    row: Row,
+) -> Option<(Mark, bool, Option<Row>)>
     requires { AreSorted shelves.old.items }
     ensures sorted { AreSorted shelves.new.items }
-    ensures absent { OnSome result (place_at (joined shelves.old.items) probe.now ≡ None) }
+    ensures found { IfSome result
+        (λ put. row_of (place_at (joined shelves.old.items) probe.now) ≡ put.2) }
     ensures set { OnSome result (IsSetAt (joined shelves.old.items) (joined shelves.new.items)
-        probe.now (Some (Some row.now))) }
+        probe.now (Some (Some row))) }
     ensures same { IfNone result (joined shelves.new.items ≡ joined shelves.old.items) }
 {
     let (at, spot) = mark;
@@ -68,8 +70,8 @@ fn put_on(
         return None;
     }
     let is_last = is_last_shelf(shelves, at);
-    match shelves[at].put_beside(alloc, spot, is_last, probe, row) {
-        Some(spot) => Some((at, spot)),
+    match shelves[at].put_behind(alloc, spot, is_last, probe, row) {
+        Some((spot, is_new, before)) => Some(((at, spot), is_new, before)),
         None => None,
     }
 }

@@ -6,7 +6,7 @@ ghost use Rattle.bdb_keep.specs.Blocks.{joined, starts_within, without_empty, ha
 ghost use Rattle.bdb_keep.specs.Spans.{entries_under, HasPast};
 ghost use Rattle.bdb_keep.specs.Shelves.{IsChangedAt, NoRowFrom, IsFirstRow, IsCutInTwo, BelongsAmong};
 
-use crate::behind::{add_copy, gap_at, stands_behind};
+use crate::behind::{find_right_behind, stands_behind};
 use crate::block::{Block, Entry};
 use crate::blocks::{add, drop_empty_blocks, drop_empty_places, is_behind, replace_at, take_out};
 use crate::finding::{Spot, entry_of, find, find_beside, find_row, row_from, seek_near};
@@ -302,35 +302,34 @@ impl Shelf {
 
 /// What is done right behind a spot, where rows are put or taken away in the order of their places.
 impl Shelf {
-    /// Puts a row at a place, and answers where. None, and nothing changes, where the place is there, isn't beside the spot, or memory
-    /// is wanting.
+    /// Puts a row at a place, and answers where, whether the place is new, and the row that stood there. None, and nothing changes, where
+    /// the place doesn't come right behind the spot, or memory is wanting.
     #[inline(always)]
-    pub fn put_beside(
+    pub fn put_behind(
         &mut self,
         alloc: Global,
         spot: Spot,
         is_last: bool,
         probe: &Probe<'_>,
-        row: &[u8],
-    ) -> Option<Spot>
+        row: Row,
+    ) -> Option<(Spot, bool, Option<Row>)>
+        ensures found { IfSome result
+            (λ put. row_of (place_at self.old probe.now) ≡ put.2) }
         ensures set { OnSome result
             (IsChangedAt self.old self.new probe.now (place_at self.old probe.now)
-            (Some (Some row.now))) }
-        ensures absent { OnSome result (place_at self.old probe.now ≡ None) }
+            (Some (Some row))) }
         ensures belongs { OnSome result (BelongsAmong self.old probe.now is_last) }
         ensures same { IfNone result (self.new ≡ self.old) }
     {
-        let gap = gap_at(&self.blocks, spot, is_last, probe)?;
-        match add_copy(
-            alloc,
-            &mut self.blocks,
-            gap,
-            is_behind(spot, gap),
-            probe,
-            row,
-        ) {
-            Ok(at) => Some(at),
-            Err(_) => None,
+        match find_right_behind(&self.blocks, spot, is_last, probe) {
+            Some(Ok(at)) => Some((at, false, replace_at(&mut self.blocks, at, Some(row)))),
+            Some(Err(at)) => {
+                match add(alloc, &mut self.blocks, at, is_behind(spot, at), probe, row) {
+                    Ok(at) => Some((at, true, None)),
+                    Err(_) => None,
+                }
+            }
+            None => None,
         }
     }
 

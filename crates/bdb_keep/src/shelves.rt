@@ -1,5 +1,5 @@
 // Finding and changing places on sorted shelves.
-ghost use Rattle.std.specs.Prelude.{is_some, ◌≡◌, ◌<◌, ◌∷◌, ◌++◌, [], true, Some, None, IfOk, IfErr, IfSome, IfNone, OnOk, OnErr, MatchBool, if◌then◌else◌, length, slice_index_or, map as map_list, false};
+ghost use Rattle.std.specs.Prelude.{◌≡◌, ◌<◌, ◌∷◌, ◌++◌, [], true, Some, None, IfOk, IfErr, IfSome, IfNone, OnOk, OnErr, MatchBool, if◌then◌else◌, length, slice_index_or, map as map_list, false};
 ghost use Rattle.std.specs.Option.{option_copied};
 ghost use Rattle.bdb_keep.specs.Tables.{IsLeastFrom, NoneFrom};
 ghost use Rattle.bdb_keep.specs.Entries.{place_at, row_of, rows_of, IsSetAt};
@@ -47,19 +47,6 @@ pub fn read(
     let (mark, there) = row_at(shelves, near, probe);
     let found = copy_row(there, row)?;
     Ok((mark, found))
-}
-
-/// Where a place stands or would stand, and whether there is a row.
-#[inline(always)]
-pub fn has_row(shelves: &[Shelf], near: Marks, probe: &Probe<'_>) -> (Mark, bool)
-    requires { AreSorted shelves.now }
-    ensures { result.1 ≡ is_some (row_of (place_at (joined shelves.now) probe.now)) }
-{
-    let (mark, row) = row_at(shelves, near, probe);
-    match row {
-        Some(_) => (mark, true),
-        None => (mark, false),
-    }
 }
 
 /// Where a place stands or would stand, and the row there, if there is one.

@@ -1,5 +1,5 @@
 use Rattle.std.proofs.Common.{◌≡◌, ◌<◌, ◌≤◌, suc, length, [], get_or, true, Some, sym, ap, ◌∙◌, subst, rules}
-use Rattle.bdb_keep.specs.Entries.{place_at}
+use Rattle.bdb_keep.specs.Entries.{place_at, row_of}
 use Rattle.bdb_keep.specs.Blocks.{joined, AreSorted, IsBlockFor}
 use Rattle.bdb_keep.specs.Shelves.{IsChangedAt, BelongsAmong}
 use Rattle.bdb_keep.proofs.BlocksLemmas.{block-read}
@@ -19,12 +19,12 @@ returns-in-Some c =
     let shelf : IsBlockFor bs q i =
     shelf-belongs bs q i last c.requires within (subst (λ es. BelongsAmong es q last) read c.in-Some.ensures.belongs)
     (subst (λ ys. last ≡ true → length ys ≤ suc i) c.deref.ensures.value c.is_last_shelf-is_last.ensures) in
-    let change : IsChangedAt (get_or bs i []) c.put_beside.new.self q (place_at old q) (Some (Some c.args.row.now)) =
-    subst (λ es. IsChangedAt es c.put_beside.new.self q (place_at old q) (Some (Some c.args.row.now))) read c.in-Some.ensures.set in
+    let change : IsChangedAt (get_or bs i []) c.put_behind.new.self q (place_at old q) (Some (Some c.args.row)) =
+    subst (λ es. IsChangedAt es c.put_behind.new.self q (place_at old q) (Some (Some c.args.row))) read c.in-Some.ensures.set in
     record {
-      sorted = sorted-put bs c.put_beside.new.self q i (place_at old q) (Some c.args.row.now) c.requires shelf change;
-      absent = shelf-place bs q i c.requires shelf ∙ ap (λ es. place_at es q) (sym read) ∙ c.in-Some.ensures.absent;
-      set = shelf-set bs c.put_beside.new.self q i (place_at old q) (Some (Some c.args.row.now)) c.requires shelf change;
+      sorted = sorted-put bs c.put_behind.new.self q i (place_at old q) (Some c.args.row) c.requires shelf change;
+      found = ap row_of (shelf-place bs q i c.requires shelf ∙ ap (λ es. place_at es q) (sym read)) ∙ c.in-Some.ensures.found;
+      set = shelf-set bs c.put_behind.new.self q i (place_at old q) (Some (Some c.args.row)) c.requires shelf change;
       same = tt;
     }
 
@@ -35,5 +35,5 @@ returns-in-None c =
     let within : i < length bs = search rules in
     let old = c.index_mut.result.now in
     let read : old ≡ get_or bs i [] = block-read bs i old c.index_mut.ensures.value within in
-    let same = set-itself bs i c.put_beside.new.self (c.in-None.ensures.same ∙ read) within in
-    record { sorted = subst AreSorted (sym same) c.requires; absent = tt; set = tt; same = ap joined same }
+    let same = set-itself bs i c.put_behind.new.self (c.in-None.ensures.same ∙ read) within in
+    record { sorted = subst AreSorted (sym same) c.requires; found = tt; set = tt; same = ap joined same }
