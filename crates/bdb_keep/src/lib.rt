@@ -1,6 +1,7 @@
 //! Keepers of rows: tables of byte keys and byte rows with transactions, and the keepers in memory.
 #![tactic(auto)]
 
+mod behind;
 mod beside;
 mod block;
 mod blocks;
@@ -19,6 +20,7 @@ mod quiet;
 mod reading;
 mod row;
 mod rows;
+mod runs;
 mod shelf;
 mod shelves;
 mod span;

@@ -1,11 +1,12 @@
 // A shelf of sorted blocks.
-ghost use Rattle.std.specs.Prelude.{◌≡◌, ◌∷◌, ◌++◌, [], Some, None, IfOk, IfErr, IfSome, IfNone, OnOk, OnErr, not, false, if◌then◌else◌};
+ghost use Rattle.std.specs.Prelude.{◌≡◌, ◌∷◌, ◌++◌, [], Some, None, IfOk, IfErr, IfSome, IfNone, OnSome, OnOk, OnErr, not, false, if◌then◌else◌};
 ghost use Rattle.std.specs.Option.{option_copied};
 ghost use Rattle.bdb_keep.specs.Entries.{place_at, row_of};
 ghost use Rattle.bdb_keep.specs.Blocks.{joined, starts_within, without_empty, has_any, AreSorted, IsBound};
 ghost use Rattle.bdb_keep.specs.Spans.{entries_under, HasPast};
 ghost use Rattle.bdb_keep.specs.Shelves.{IsChangedAt, NoRowFrom, IsFirstRow, IsCutInTwo, BelongsAmong};
 
+use crate::behind::{add_copy, gap_at, stands_behind};
 use crate::block::{Block, Entry};
 use crate::blocks::{add, drop_empty_blocks, drop_empty_places, is_behind, replace_at, take_out};
 use crate::finding::{Spot, entry_of, find, find_beside, find_row, row_from, seek_near};
@@ -295,6 +296,57 @@ impl Shelf {
                 }
             }
             None => Err(Some(row)),
+        }
+    }
+}
+
+/// What is done right behind a spot, where rows are put or taken away in the order of their places.
+impl Shelf {
+    /// Puts a row at a place, and answers where. None, and nothing changes, where the place is there, isn't beside the spot, or memory
+    /// is wanting.
+    #[inline(always)]
+    pub fn put_beside(
+        &mut self,
+        alloc: Global,
+        spot: Spot,
+        is_last: bool,
+        probe: &Probe<'_>,
+        row: &[u8],
+    ) -> Option<Spot>
+        ensures set { OnSome result
+            (IsChangedAt self.old self.new probe.now (place_at self.old probe.now)
+            (Some (Some row.now))) }
+        ensures absent { OnSome result (place_at self.old probe.now ≡ None) }
+        ensures belongs { OnSome result (BelongsAmong self.old probe.now is_last) }
+        ensures same { IfNone result (self.new ≡ self.old) }
+    {
+        let gap = gap_at(&self.blocks, spot, is_last, probe)?;
+        match add_copy(
+            alloc,
+            &mut self.blocks,
+            gap,
+            is_behind(spot, gap),
+            probe,
+            row,
+        ) {
+            Ok(at) => Some(at),
+            Err(_) => None,
+        }
+    }
+
+    /// Empties a place, and answers where it stands, and the row that stood there. None, and nothing changes, where it isn't the first
+    /// one behind the spot.
+    #[inline(always)]
+    pub fn empty_behind(&mut self, spot: Spot, probe: &Probe<'_>) -> Option<(Spot, Option<Row>)>
+        ensures found { IfSome result (λ before. place_at self.old probe.now ≡ Some before.1) }
+        ensures set { OnSome result
+            (IsChangedAt self.old self.new probe.now (place_at self.old probe.now) (Some None)) }
+        ensures belongs { OnSome result (BelongsAmong self.old probe.now false) }
+        ensures same { IfNone result (self.new ≡ self.old) }
+    {
+        match stands_behind(&self.blocks, spot, probe) {
+            Some(at) => Some((at, replace_at(&mut self.blocks, at, None))),
+            None => None,
         }
     }
 }
