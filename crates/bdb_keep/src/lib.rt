@@ -13,6 +13,7 @@ mod head;
 mod keeper;
 mod ledger;
 mod mem;
+mod opening;
 mod place;
 mod quiet;
 mod reading;
