@@ -6,6 +6,7 @@ pub mod Gets
 pub mod HeadsLemmas
 pub mod ManyLemmas
 pub mod Numbers
+pub mod OpeningLemmas
 pub mod RowsLemmas
 pub mod Scans
 pub mod ShelvesLemmas

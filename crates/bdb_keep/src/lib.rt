@@ -15,6 +15,7 @@ mod keeper;
 mod ledger;
 mod many;
 mod mem;
+mod opening;
 mod place;
 mod quiet;
 mod reading;

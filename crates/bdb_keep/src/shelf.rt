@@ -10,6 +10,7 @@ use crate::behind::{find_right_behind, stands_behind};
 use crate::block::{Block, Entry};
 use crate::blocks::{add, drop_empty_blocks, drop_empty_places, is_behind, replace_at, take_out};
 use crate::finding::{Spot, entry_of, find, find_beside, find_row, row_from, seek_near};
+use crate::opening::Opening;
 use crate::row::Row;
 use crate::span::Span;
 use crate::under::take_blocks;
@@ -186,7 +187,8 @@ impl Shelf {
         ensures past { IfOk result (λ found. found.1 ≡ false → HasPast probe.now self.now) }
     {
         let start = seek_near(&self.blocks, near, from, probe);
-        let goes_on = take_blocks(&self.blocks, start, tab, prefix, span)?;
+        let opening = Opening::of(tab, prefix);
+        let goes_on = take_blocks(&self.blocks, start, &opening, span)?;
         Ok((start, goes_on))
     }
 

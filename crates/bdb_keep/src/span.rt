@@ -1,8 +1,7 @@
 // Rows that were read at once.
-ghost use Rattle.std.specs.Prelude.{◌≡◌, ◌<◌, ◌∷◌, ◌++◌, [], false, Some, IfOk, OnOk, length, slice_index_or};
-ghost use Rattle.bdb_base.specs.Segments.{is_prefix};
+ghost use Rattle.std.specs.Prelude.{◌≡◌, ◌<◌, ◌∷◌, ◌++◌, [], OnOk, length, drop, slice_index_or};
 ghost use Rattle.std.specs.List.{slice_range};
-ghost use Rattle.bdb_keep.specs.Spans.{row_under, IsWithin};
+ghost use Rattle.bdb_keep.specs.Spans.{IsWithin};
 
 use crate::row::Row;
 use crate::words::Words;
@@ -130,27 +129,17 @@ impl Span {
         Ok(())
     }
 
-    /// Puts the row of a place behind the others, where the place is in this table and its key begins so. The answer tells whether it
-    /// does.
+    /// Puts the key of a place and its row behind the others.
     #[inline(always)]
-    pub fn push_under(
-        &mut self,
-        place: &Words,
-        tab: u8,
-        prefix: &[u8],
-        row: &Row,
-    ) -> Result<bool, AllocError>
-        ensures rows { OnOk result (self.new ≡ self.old ++ row_under (tab ∷ prefix.now) place.now (Some row.now)) }
-        ensures other { IfOk result (λ under. under ≡ false → is_prefix (tab ∷ prefix.now) place.now ≡ false) }
+    pub fn push_place(&mut self, place: &Words, row: &Row) -> Result<(), AllocError>
+        ensures { OnOk result (self.new ≡ self.old ++ (drop 1 place.now, row.now) ∷ []) }
     {
         let start = self.bytes.len();
-        if !place.append_under(tab, prefix, &mut self.bytes)? {
-            return Ok(false);
-        }
+        place.append_key(&mut self.bytes)?;
         let middle = self.bytes.len();
         self.bytes.extend_from_slice(row.as_slice())?;
         let end = self.bytes.len();
         self.cuts.push(Cut { start, middle, end })?;
-        Ok(true)
+        Ok(())
     }
 }

@@ -1,12 +1,14 @@
 // Places as numbers.
-ghost use Rattle.std.specs.Prelude.{◌≡◌, ◌∷◌, ◌++◌, false, true, IfOk, OnOk, OnErr, length, take, drop, ℕ, List};
+ghost use Rattle.std.specs.Prelude.{◌≡◌, ◌∷◌, ◌++◌, IfOk, OnOk, OnErr, IsTrue, length, take, drop, ℕ, List};
 ghost use Rattle.std.specs.declared.cmp.Ordering.TheVariants.{Equal};
+ghost use Rattle.std.specs.Ordering.{is_le};
 ghost use Rattle.bdb_base.specs.Segments.{is_prefix};
 ghost use Rattle.bdb_keep.specs.Tables.{bytes_cmp};
 ghost use Rattle.bdb_keep.specs.Heads.{IsHeadOfPlace};
 
 use crate::bytes::{begins_with, compare_words, from_index};
 use crate::head::Head;
+use crate::opening::Opening;
 use std::alloc::{AllocError, Global};
 use std::cmp::Ordering;
 use std::marker::Model;
@@ -73,6 +75,17 @@ impl Rest {
         }
         compare_words(self.as_slice(), other)
     }
+
+    /// Whether they begin so. Mostly no bytes are asked for.
+    #[inline(always)]
+    fn begin_with(&self, prefix: &[u8]) -> bool
+        ensures { result ≡ is_prefix prefix.now self.now }
+    {
+        if prefix.is_empty() {
+            return true;
+        }
+        begins_with(self.as_slice(), prefix)
+    }
 }
 
 /// The place of a row as numbers: its head, and the bytes behind. So two places are mostly compared by a few numbers.
@@ -134,32 +147,22 @@ impl Words {
         self.head
     }
 
-    /// Appends the key, where the place is in this table, and answers whether it is, and the key begins so. Where not, some bytes may
-    /// be appended.
+    /// Whether the place, which isn't below these bytes, begins so.
     #[inline(always)]
-    #[tactic(auto, using(crate::proofs::SpanLemmas::front_itself))]
-    pub fn append_under(
-        &self,
-        tab: u8,
-        prefix: &[u8],
-        bytes: &mut Vec<u8>,
-    ) -> Result<bool, AllocError>
-        ensures under { IfOk result (λ under. under ≡ is_prefix (tab ∷ prefix.now) self.now) }
-        ensures key { IfOk result (λ under. under ≡ true → bytes.new.items ≡ bytes.old.items ++ drop 1 self.now) }
-        ensures front { take (length bytes.old.items) bytes.new.items ≡ bytes.old.items }
+    pub fn begins_so(&self, opening: &Opening<'_>) -> bool
+        requires { IsTrue (is_le (bytes_cmp opening.now self.now)) }
+        ensures { result ≡ is_prefix opening.now self.now }
     {
-        if self.head.tab != tab {
-            return Ok(false);
+        match opening.behind(&self.head) {
+            Some(prefix) => self.rest.begin_with(prefix),
+            None => false,
         }
-        let start = bytes.len();
-        self.append_key(bytes)?;
-        Ok(begins_with(&bytes[start..], prefix))
     }
 
     /// Appends the key.
     #[inline(always)]
     #[tactic(auto, using(crate::proofs::SpanLemmas::front_itself, crate::proofs::SpanLemmas::front_before, crate::proofs::SpanLemmas::front_longer, crate::proofs::SpanLemmas::front_farther))]
-    fn append_key(&self, bytes: &mut Vec<u8>) -> Result<(), AllocError>
+    pub fn append_key(&self, bytes: &mut Vec<u8>) -> Result<(), AllocError>
         ensures ok { OnOk result (bytes.new.items ≡ bytes.old.items ++ drop 1 self.now) }
         ensures front { take (length bytes.old.items) bytes.new.items ≡ bytes.old.items }
     {
