@@ -1,5 +1,5 @@
 // The bytes of a row, of which a few lie in the value itself.
-ghost use Rattle.std.specs.Prelude.{◌≡◌, ◌≤◌, IfOk, IfSome, length, take};
+ghost use Rattle.std.specs.Prelude.{◌≡◌, ◌≤◌, ◌++◌, IfOk, IfSome, OnOk, OnErr, length, take};
 ghost use Rattle.bdb_keep.specs.RowBytes.{row_bytes};
 
 use std::alloc::{AllocError, Global};
@@ -57,6 +57,25 @@ impl Row {
         match &self.bytes {
             Bytes::Short(count, short) => &short[..usize::from(*count)],
             Bytes::Long(long) => long.as_slice(),
+        }
+    }
+
+    /// Appends the bytes. A few are copied as many as there is room for, and then cut.
+    #[inline(always)]
+    pub fn append_to(&self, bytes: &mut Vec<u8>) -> Result<(), AllocError>
+        ensures ok { OnOk result (bytes.new.items ≡ bytes.old.items ++ self.now) }
+        ensures err { OnErr result (bytes.new.items ≡ bytes.old.items) }
+    {
+        match &self.bytes {
+            Bytes::Short(count, short) => {
+                bytes.extend_from_slice(short)?;
+                bytes.truncate(bytes.len() - (7 - usize::from(*count)));
+                Ok(())
+            }
+            Bytes::Long(long) => {
+                bytes.extend_from_slice(long.as_slice())?;
+                Ok(())
+            }
         }
     }
 }

@@ -137,7 +137,7 @@ impl Span {
         let start = self.bytes.len();
         place.append_key(&mut self.bytes)?;
         let middle = self.bytes.len();
-        self.bytes.extend_from_slice(row.as_slice())?;
+        row.append_to(&mut self.bytes)?;
         let end = self.bytes.len();
         self.cuts.push(Cut { start, middle, end })?;
         Ok(())
