@@ -12,4 +12,5 @@ pub mod Shelves
 pub mod Spans
 pub mod Struck
 pub mod Tables
+pub mod Tails
 pub mod Told

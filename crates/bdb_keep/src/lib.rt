@@ -7,6 +7,7 @@ mod blocks;
 mod bytes;
 mod changes;
 mod cursors;
+mod entry;
 mod finding;
 mod head;
 mod keeper;
@@ -21,6 +22,7 @@ mod shelf;
 mod shelves;
 mod span;
 mod store;
+mod tail;
 mod under;
 mod words;
 

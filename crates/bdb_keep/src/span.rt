@@ -4,8 +4,7 @@ ghost use Rattle.bdb_base.specs.Segments.{is_prefix};
 ghost use Rattle.std.specs.List.{slice_range};
 ghost use Rattle.bdb_keep.specs.Spans.{row_under, IsWithin};
 
-use crate::row::Row;
-use crate::words::Words;
+use crate::entry::Entry;
 use std::alloc::{AllocError, Global};
 use std::marker::Model;
 
@@ -107,25 +106,25 @@ impl Span {
         Ok(())
     }
 
-    /// Puts the row of a place behind the others, where the place is in this table and its key begins so. The answer tells whether it
+    /// Puts the row of an entry behind the others, where its place is in this table and its key begins so. The answer tells whether it
     /// does.
     #[inline(always)]
     pub fn push_under(
         &mut self,
-        place: &Words,
+        entry: &Entry,
         tab: u8,
         prefix: &[u8],
-        row: &Row,
+        row: &[u8],
     ) -> Result<bool, AllocError>
-        ensures rows { OnOk result (self.new ≡ self.old ++ row_under (tab ∷ prefix.now) place.now (Some row.now)) }
-        ensures other { IfOk result (λ under. under ≡ false → is_prefix (tab ∷ prefix.now) place.now ≡ false) }
+        ensures rows { OnOk result (self.new ≡ self.old ++ row_under (tab ∷ prefix.now) entry.now.0 (Some row.now)) }
+        ensures other { IfOk result (λ under. under ≡ false → is_prefix (tab ∷ prefix.now) entry.now.0 ≡ false) }
     {
         let start = self.bytes.len();
-        if !place.append_under(tab, prefix, &mut self.bytes)? {
+        if !entry.append_under(tab, prefix, &mut self.bytes)? {
             return Ok(false);
         }
         let middle = self.bytes.len();
-        self.bytes.extend_from_slice(row.as_slice())?;
+        self.bytes.extend_from_slice(row)?;
         let end = self.bytes.len();
         self.cuts.push(Cut { start, middle, end })?;
         Ok(true)

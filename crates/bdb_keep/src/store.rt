@@ -8,7 +8,6 @@ ghost use Rattle.bdb_keep.specs.Tables.{IsLeastFrom, IsPlace, NoneFrom};
 
 use crate::changes::{Change, insert_row, put_row, roll_back, settle, take_row};
 use crate::place::Place;
-use crate::row::Row;
 use crate::rows::Rows;
 use crate::span::Span;
 use crate::words::Probe;
@@ -139,8 +138,7 @@ impl Store {
             (self.new ≡ record { kept = self.old.kept; last = self.old.kept; changes = [] }) }
     {
         settle(&mut self.rows, &mut self.changes);
-        let copy = Row::of(self.alloc, row)?;
-        insert_row(&mut self.rows, &Probe::of(tab, key), copy)?;
+        insert_row(&mut self.rows, &Probe::of(tab, key), row)?;
         Ok(())
     }
 

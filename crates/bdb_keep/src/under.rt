@@ -5,7 +5,8 @@ ghost use Rattle.bdb_keep.specs.Blocks.{joined, AreSorted, IsBound};
 ghost use Rattle.bdb_keep.specs.Entries.{IsAscending, NoneBelow};
 ghost use Rattle.bdb_keep.specs.Spans.{entries_under, row_under, HasPast};
 
-use crate::block::{Block, Entry};
+use crate::block::Block;
+use crate::entry::Entry;
 use crate::finding::{Spot, block_at};
 use crate::span::Span;
 use std::alloc::AllocError;
@@ -66,10 +67,9 @@ fn take_entry(entry: &Entry, tab: u8, prefix: &[u8], span: &mut Span) -> Result<
     ensures rows { OnOk result (span.new ≡ span.old ++ row_under (tab ∷ prefix.now) entry.now.0 entry.now.1) }
     ensures other { IfOk result (λ goes_on. goes_on ≡ false → is_prefix (tab ∷ prefix.now) entry.now.0 ≡ false) }
 {
-    let (place, found) = entry;
-    match found {
+    match entry.row() {
         Some(row) => {
-            let open = span.push_under(place, tab, prefix, row)?;
+            let open = span.push_under(entry, tab, prefix, row)?;
             Ok(open)
         }
         None => Ok(true),

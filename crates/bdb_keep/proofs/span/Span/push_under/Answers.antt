@@ -1,4 +1,4 @@
-use Rattle.std.proofs.Common.{◌∙◌, ◌∷◌, ◌++◌, [], true, cond, drop, Some, append-nil, sym, ap, subst, length, take, rules}
+use Rattle.std.proofs.Common.{◌∙◌, ◌∷◌, ◌++◌, [], cond, drop, Some, append-nil, sym, ap, subst, length, take, rules}
 use Rattle.std.specs.List.{AllByRecursion}
 use Rattle.bdb_keep.specs.Spans.{Listed, listed, IsWithin}
 use Rattle.bdb_keep.proofs.SpanLemmas.{front, listed-kept, within-kept, listed-more, within-all}
@@ -9,7 +9,7 @@ pub returns-then-not-branch-clause-rows : goal.returns-then-not-branch-clause-ro
 returns-then-not-branch-clause-rows c =
     let p = c.args.tab ∷ c.args.prefix.now in
     listed-kept c.self.inside.bytes.items c.append_under.new.bytes.items c.self.inside.cuts.items c.in_ok-append_under.ensures.front c.self.invariant ∙ c.self.view_is ∙ sym (append-nil c.args.self.now)
-    ∙ ap (λ (l : Listed). c.args.self.now ++ l) (sym (row_under-other p c.args.place.now (Some c.args.row.now) (sym c.in_ok-append_under.ensures.under ∙ c.if-not-branch.true)))
+    ∙ ap (λ (l : Listed). c.args.self.now ++ l) (sym (row_under-other p c.args.entry.now.0 (Some c.args.row.now) (sym c.in_ok-append_under.ensures.under ∙ c.if-not-branch.true)))
 
 pub invariant_of-self-in_err-extend_from_slice : goal.invariant_of-self-in_err-extend_from_slice
 invariant_of-self-in_err-extend_from_slice c =
@@ -23,7 +23,7 @@ invariant_of-self-in_err-push c =
     let one = c.in_ok-append_under.ensures.key c.if-not-branch.false in
     let two = c.in_ok-extend_from_slice.ensures.items in
     subst (AllByRecursion (IsWithin (length new))) (sym c.in_err-push.ensures.items)
-    (within-kept old new c.self.inside.cuts.items (front old (drop 1 c.args.place.now) c.as_slice.result.now c.append_under.new.bytes.items new c.len-start.result c.len-middle.result c.len-end.result one two (search rules) (search rules) (search rules)) c.self.invariant)
+    (within-kept old new c.self.inside.cuts.items (front old (drop 1 c.args.entry.now.0) c.args.row.now c.append_under.new.bytes.items new c.len-start.result c.len-middle.result c.len-end.result one two (search rules) (search rules) (search rules)) c.self.invariant)
 
 pub invariant_of-self-2 : goal.invariant_of-self-2
 invariant_of-self-2 c =
@@ -32,16 +32,16 @@ invariant_of-self-2 c =
     let one = c.in_ok-append_under.ensures.key c.if-not-branch.false in
     let two = c.in_ok-extend_from_slice.ensures.items in
     subst (AllByRecursion (IsWithin (length new))) (sym c.in_ok-push.ensures.items)
-    (within-all old (drop 1 c.args.place.now) c.as_slice.result.now c.append_under.new.bytes.items new c.len-start.result c.len-middle.result c.len-end.result one two (search rules) (search rules) (search rules) c.self.inside.cuts.items c.self.invariant)
+    (within-all old (drop 1 c.args.entry.now.0) c.args.row.now c.append_under.new.bytes.items new c.len-start.result c.len-middle.result c.len-end.result one two (search rules) (search rules) (search rules) c.self.inside.cuts.items c.self.invariant)
 
 pub returns-clause-rows : goal.returns-clause-rows
 returns-clause-rows c =
     let old = c.self.inside.bytes.items in
     let new = c.extend_from_slice.new.self.items in
-    let place = c.args.place.now in
+    let place = c.args.entry.now.0 in
     let one = c.in_ok-append_under.ensures.key c.if-not-branch.false in
     let two = c.in_ok-extend_from_slice.ensures.items in
     ap (listed new) c.in_ok-push.ensures.items
-    ∙ listed-more old (drop 1 place) c.as_slice.result.now c.append_under.new.bytes.items new c.len-start.result c.len-middle.result c.len-end.result one two (search rules) (search rules) (search rules) c.self.inside.cuts.items c.self.invariant
-    ∙ ap (λ (l : Listed). l ++ (drop 1 place, c.as_slice.result.now) ∷ []) c.self.view_is ∙ ap (λ r. c.args.self.now ++ (drop 1 place, r) ∷ []) c.as_slice.ensures
+    ∙ listed-more old (drop 1 place) c.args.row.now c.append_under.new.bytes.items new c.len-start.result c.len-middle.result c.len-end.result one two (search rules) (search rules) (search rules) c.self.inside.cuts.items c.self.invariant
+    ∙ ap (λ (l : Listed). l ++ (drop 1 place, c.args.row.now) ∷ []) c.self.view_is
     ∙ ap (λ b. c.args.self.now ++ cond b ((drop 1 place, c.args.row.now) ∷ []) []) (sym c.if-not-branch.false ∙ c.in_ok-append_under.ensures.under)
