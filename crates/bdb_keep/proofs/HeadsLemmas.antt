@@ -65,7 +65,7 @@ padded_cmp (suc n) (a ∷ x) (b ∷ y) =
     ∙ ap (λ o. ordering_then (ordering_then (nat_cmp a b) (bytes_cmp (padded n x) (padded n y))) (ordering_then o (bytes_cmp (drop n x) (drop n y)))) (sym (stepped (length (take n x)) (length (take n y))))
 
 -- four numbers
-four : (a b c d e f g h : ℕ) → a < 2 ^ 64 → b < 2 ^ 64 → c < 2 ^ 64 → d < 2 ^ 64 → e < 2 ^ 64 → f < 2 ^ 64 → g < 2 ^ 64 → h < 2 ^ 64
+pub four : (a b c d e f g h : ℕ) → a < 2 ^ 64 → b < 2 ^ 64 → c < 2 ^ 64 → d < 2 ^ 64 → e < 2 ^ 64 → f < 2 ^ 64 → g < 2 ^ 64 → h < 2 ^ 64
     → bytes_cmp (to_be_bytes w64 a ++ (to_be_bytes w64 b ++ (to_be_bytes w64 c ++ (to_be_bytes w64 d ++ [])))) (to_be_bytes w64 e ++ (to_be_bytes w64 f ++ (to_be_bytes w64 g ++ (to_be_bytes w64 h ++ []))))
     ≡ ordering_then (nat_cmp a e) (ordering_then (nat_cmp b f) (ordering_then (nat_cmp c g) (nat_cmp d h)))
 four a b c d e f g h ha hb hc hd he hf hg hh =
@@ -126,7 +126,7 @@ pub head_itself : (key rest : List ℕ) (h : Head) → IsHeadOf key h rest → I
 head_itself key rest h i = subst (λ k. IsHeadOf k h rest) (sym (key_back key rest h i)) i
 
 -- a sum that computes at its first number
-abbrev plus : ℕ → ℕ → ℕ
+abbrev pub plus : ℕ → ℕ → ℕ
 plus zero n = n
 plus (suc m) n = suc (plus m n)
 

@@ -5,6 +5,7 @@ pub mod FirstLemmas
 pub mod Gets
 pub mod HeadsLemmas
 pub mod Numbers
+pub mod OpeningLemmas
 pub mod RowsLemmas
 pub mod Scans
 pub mod ShelvesLemmas

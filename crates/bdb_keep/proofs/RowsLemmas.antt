@@ -94,19 +94,15 @@ KeepsPlaces-updates es fs p x h q = there (eq_by_cmp bytes_cmp q p) refl
     there true e s = ap is_some (ap (place_at fs) (same_place q p e) ∙ h.here)
     there false e s = ap is_some (h.others q e) ∙ s
 
--- an empty place can go
-pub rows_of-emptied : (es fs : Entries) (p : List ℕ) → place_at es p ≡ Some None → IsSetAt es fs p None → rows_of fs ≡ rows_of es
-rows_of-emptied es fs p was h = rows_of-updates es fs p None h ∙ set_at-same (rows_of es) p None (get_rows_of es p ∙ ap row_of was)
-
-module _ (old mid new : List Change) (v : List ℕ) (b : Option (List ℕ)) (x : Bool) (p : List ℕ) (es fs : Entries)
-    (m : mid ≡ old) (n : new ≡ mid ++ record { place = v; before = b; emptied = x } ∷ []) (e : v ≡ p) where
-  pushed : new ≡ old ++ record { place = v; before = b; emptied = x } ∷ []
-  pushed = n ∙ ap (λ cs. cs ++ record { place = v; before = b; emptied = x } ∷ []) m
+module _ (old mid new : List Change) (v : List ℕ) (b : Option (List ℕ)) (p : List ℕ) (es fs : Entries)
+    (m : mid ≡ old) (n : new ≡ mid ++ record { place = v; before = b } ∷ []) (e : v ≡ p) where
+  pushed : new ≡ old ++ record { place = v; before = b } ∷ []
+  pushed = n ∙ ap (λ cs. cs ++ record { place = v; before = b } ∷ []) m
 
   -- a change that is kept in the list leaves the rows as they were before all changes
   pub undone-kept : (r : Option (List ℕ)) → row_of (place_at es p) ≡ b → rows_of fs ≡ set_at (rows_of es) p r → undone new (rows_of fs) ≡ undone old (rows_of es)
   undone-kept r h s =
-      let c : Change = record { place = v; before = b; emptied = x } in
+      let c : Change = record { place = v; before = b } in
       ap (λ cs. undone cs (rows_of fs)) pushed
       ∙ undone-change old c (rows_of es) (rows_of fs) r (s ∙ ap (λ x. set_at (rows_of es) x r) (sym e)) (sym h ∙ sym (get_rows_of es p) ∙ ap (map.get (rows_of es)) (sym e))
 
@@ -116,11 +112,11 @@ module _ (old mid new : List Change) (v : List ℕ) (b : Option (List ℕ)) (x :
 
   pub HavePlaces-kept : HavePlaces old es → IsPlace p → IsSome (place_at fs p) → KeepsPlaces es fs → HavePlaces new fs
   HavePlaces-kept h i s k =
-      let c : Change = record { place = v; before = b; emptied = x } in
+      let c : Change = record { place = v; before = b } in
       subst (λ cs. HavePlaces cs fs) (sym pushed) (HavePlaces-push old c fs (HavePlaces-keeps old es fs h k) (subst IsPlace (sym e) i) (subst (λ x. IsSome (place_at fs x)) (sym e) s))
 
   pub places_of-kept : places_of new ≡ places_of old ++ p ∷ []
-  places_of-kept = let c : Change = record { place = v; before = b; emptied = x } in ap places_of pushed ∙ places_of-push old c ∙ ap (λ x. places_of old ++ x ∷ []) e
+  places_of-kept = let c : Change = record { place = v; before = b } in ap places_of pushed ∙ places_of-push old c ∙ ap (λ x. places_of old ++ x ∷ []) e
 
 -- what stands at a place as a row
 pub row_of-place : (es : Entries) (p : List ℕ) (x : Option (Option (List ℕ))) → place_at es p ≡ x → row_of x ≡ map.get (rows_of es) p
@@ -165,7 +161,3 @@ HavePlaces-step cs ds n i c es fs m h e w k d =
 -- the newest change of the front has its place
 pub newest-has : (cs : List Change) (n i : ℕ) (c : Change) (es : Entries) → n ≡ suc i → i < length cs → c ≡ get_or cs i c → HavePlaces (take n cs) es → IsSome (place_at es c.place)
 newest-has cs n i c es m h e w = HavePlaces-last (take i cs) c es (subst (λ xs. HavePlaces xs es) (take-more cs n i c m h e) w)
-
--- a place without a row can go
-pub rows_of-without : (es fs : Entries) (p : List ℕ) → map.get (rows_of es) p ≡ None → rows_of fs ≡ map.remove (rows_of es) p → rows_of fs ≡ rows_of es
-rows_of-without es fs p none h = h ∙ set_at-same (rows_of es) p None none

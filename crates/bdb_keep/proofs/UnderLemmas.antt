@@ -27,7 +27,7 @@ use Rattle.bdb_keep.proofs.ShelvesLemmas.{parts, shelf-below}
 same_number : (n : ℕ) → nat_cmp n n ≡ Equal
 same_number n = tied_itself nat_cmp_total n
 
-nat_same : (n m : ℕ) → n ≡ m → nat_eq n m ≡ true
+pub nat_same : (n m : ℕ) → n ≡ m → nat_eq n m ≡ true
 nat_same n m e = grind arith
 
 -- bytes that begin so aren't below
@@ -73,7 +73,7 @@ row_under-other p place (Some row) h = ap (λ b. cond b ((drop 1 place, row) ∷
 less_not_le : (a b : List ℕ) → bytes_cmp a b ≡ Less → is_le (bytes_cmp b a) ≡ false
 less_not_le a b l = ap is_le (nat_list_cmp_total.antisymm b a ∙ ap ordering_reverse l)
 
-not_true : (b : Bool) → (b ≡ true → ⊥) → b ≡ false
+pub not_true : (b : Bool) → (b ≡ true → ⊥) → b ≡ false
 not_true true h = absurd (h refl)
 not_true false h = refl
 
@@ -235,6 +235,15 @@ after-end (b ∷ bs) (suc i) j h = after-end bs i j (omega arith)
 parted : (es : Entries) (i : ℕ) (d : List ℕ × Option (List ℕ)) → i < length es → es ≡ take i es ++ (get_or es i d ∷ [] ++ drop (suc i) es)
 parted es i d h = sym (take-append-drop i es) ∙ ap (λ x. take i es ++ x) (drop-cons es i d h)
 
+none-reached : (p : List ℕ) (es : Entries) (i : ℕ) (d : List ℕ × Option (List ℕ)) → i < length es → NoneBelow p es → IsTrue (is_le (bytes_cmp p (get_or es i d).0))
+none-reached p [] i d l n = absurd (omega arith)
+none-reached p (x ∷ es) zero d l n = n.0
+none-reached p (x ∷ es) (suc i) d l n = none-reached p es i d (omega arith) n.1
+
+-- an entry among those of which none is below isn't
+pub entry-reached : (p : List ℕ) (es : Entries) (i : ℕ) (d e : List ℕ × Option (List ℕ)) → i < length es → e ≡ get_or es i d → NoneBelow p es → IsTrue (is_le (bytes_cmp p e.0))
+entry-reached p es i d e h is n = subst (λ (x : List ℕ × Option (List ℕ)). IsTrue (is_le (bytes_cmp p x.0))) (sym is) (none-reached p es i d h n)
+
 module _ (p : List ℕ) (es : Entries) (i : ℕ) (d e : List ℕ × Option (List ℕ)) (old now new : Listed)
     (h : i < length es) (is : e ≡ get_or es i d) (so_far : now ≡ old ++ entries_under p (take i es)) (row : new ≡ now ++ row_under p e.0 e.1) where
   one_more : new ≡ old ++ entries_under p (take i es ++ get_or es i d ∷ [])
@@ -249,12 +258,7 @@ module _ (p : List ℕ) (es : Entries) (i : ℕ) (d e : List ℕ × Option (List
 
   module _ (above : NoneBelow p es) (ascends : IsAscending es) (other : is_prefix p e.0 ≡ false) where
     here-past : HasPast p (get_or es i d ∷ [])
-    here-past = inl (reached es i h above, ap (λ (x : List ℕ × Option (List ℕ)). is_prefix p x.0) (sym is) ∙ other)
-      where
-        reached : (xs : Entries) (k : ℕ) → k < length xs → NoneBelow p xs → IsTrue (is_le (bytes_cmp p (get_or xs k d).0))
-        reached [] k l n = absurd (omega arith)
-        reached (x ∷ xs) zero l n = n.0
-        reached (x ∷ xs) (suc k) l n = reached xs k (omega arith) n.1
+    here-past = inl (none-reached p es i d h above, ap (λ (x : List ℕ × Option (List ℕ)). is_prefix p x.0) (sym is) ∙ other)
 
     pub entries-past : HasPast p es
     entries-past = subst (HasPast p) (sym (parted es i d h)) (past-append p (take i es) (get_or es i d ∷ []) (drop (suc i) es) here-past)

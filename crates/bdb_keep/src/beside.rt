@@ -85,8 +85,8 @@ pub fn swap_beside(
     }
 }
 
-/// Puts a row at a place, which may be new, and answers where, and the row that stood there. None where the place isn't beside the
-/// mark.
+/// Puts a row at a place, which may be new, and answers where, and what stood there: at Some what the place had, at None nothing. None
+/// where the place isn't beside the mark.
 #[inline(always)]
 pub fn insert_beside(
     alloc: Global,
@@ -94,11 +94,11 @@ pub fn insert_beside(
     mark: Mark,
     probe: &Probe<'_>,
     row: &[u8],
-) -> Result<Option<(Mark, Option<Row>)>, AllocError>
+) -> Result<Option<(Mark, Option<Option<Row>>)>, AllocError>
     requires { AreSorted shelves.old.items }
     ensures sorted { AreSorted shelves.new.items }
     ensures found { IfOk result (λ put. IfSome put
-        (λ before. row_of (place_at (joined shelves.old.items) probe.now) ≡ before.1)) }
+        (λ before. place_at (joined shelves.old.items) probe.now ≡ before.1)) }
     ensures set { IfOk result (λ put. OnSome put (IsSetAt (joined shelves.old.items)
         (joined shelves.new.items) probe.now (Some (Some row.now)))) }
     ensures none { IfOk result

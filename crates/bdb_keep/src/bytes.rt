@@ -4,6 +4,7 @@ ghost use Rattle.std.specs.Int.{w64, to_be_bytes};
 ghost use Rattle.bdb_base.specs.Segments.{is_prefix};
 ghost use Rattle.bdb_keep.specs.Tables.{bytes_cmp};
 ghost use Rattle.bdb_keep.specs.Heads.{padded};
+ghost use Rattle.bdb_keep.specs.Openings.{filled};
 
 use std::cmp::Ordering;
 
@@ -91,6 +92,27 @@ fn short_word(bytes: &[u8]) -> u64
         [a, b, c, d, e] => u64::from_be_bytes([*a, *b, *c, *d, *e, 0, 0, 0]),
         [a, b, c, d, e, f] => u64::from_be_bytes([*a, *b, *c, *d, *e, *f, 0, 0]),
         [a, b, c, d, e, f, g] => u64::from_be_bytes([*a, *b, *c, *d, *e, *f, *g, 0]),
+        [_, _, _, _, _, _, _, _, ..] => {
+            let (number, _) = number_of(bytes);
+            number
+        }
+    }
+}
+
+/// The number of the first eight bytes, with 255 behind fewer.
+pub fn filled_word(bytes: &[u8]) -> u64
+    ensures bytes { filled 8 bytes.now ≡ to_be_bytes w64 result }
+    ensures small { result < 2 ^ 64 }
+{
+    match bytes {
+        [] => u64::from_be_bytes([255, 255, 255, 255, 255, 255, 255, 255]),
+        [a] => u64::from_be_bytes([*a, 255, 255, 255, 255, 255, 255, 255]),
+        [a, b] => u64::from_be_bytes([*a, *b, 255, 255, 255, 255, 255, 255]),
+        [a, b, c] => u64::from_be_bytes([*a, *b, *c, 255, 255, 255, 255, 255]),
+        [a, b, c, d] => u64::from_be_bytes([*a, *b, *c, *d, 255, 255, 255, 255]),
+        [a, b, c, d, e] => u64::from_be_bytes([*a, *b, *c, *d, *e, 255, 255, 255]),
+        [a, b, c, d, e, f] => u64::from_be_bytes([*a, *b, *c, *d, *e, *f, 255, 255]),
+        [a, b, c, d, e, f, g] => u64::from_be_bytes([*a, *b, *c, *d, *e, *f, *g, 255]),
         [_, _, _, _, _, _, _, _, ..] => {
             let (number, _) = number_of(bytes);
             number

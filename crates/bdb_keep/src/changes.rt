@@ -11,12 +11,11 @@ use crate::rows::Rows;
 use crate::words::Probe;
 use std::alloc::{AllocError, Global};
 
-/// A change of a transaction: where it was made, the row that stood there before, and whether it emptied the place.
+/// A change of a transaction: where it was made, and the row that stood there before.
 #[derive(Drop)]
 pub struct Change {
     pub place: Place,
     pub before: Option<Row>,
-    pub emptied: bool,
 }
 
 /// Puts what stands at a place, and answers what stood there. The answer is the new row where there is no such place.
@@ -48,7 +47,8 @@ pub fn insert_row(rows: &mut Rows, probe: &Probe<'_>, row: &[u8]) -> Result<Opti
     ensures err { OnErr result (rows.new ≡ rows.old) }
 {
     match rows.insert(probe, row) {
-        Ok(before) => Ok(before),
+        Ok(Some(before)) => Ok(before),
+        Ok(None) => Ok(None),
         Err(error) => Err(error),
     }
 }
@@ -91,11 +91,7 @@ pub fn put_row(
     let place = Place::of(alloc, tab, key)?;
     let probe = Probe::of(tab, key);
     let before = insert_row(rows, &probe, row)?;
-    changes.push_reserved(Change {
-        place,
-        before,
-        emptied: false,
-    });
+    changes.push_reserved(Change { place, before });
     Ok(())
 }
 
@@ -125,7 +121,6 @@ pub fn take_row(
             changes.push_reserved(Change {
                 place,
                 before: Some(row),
-                emptied: true,
             });
             Ok(true)
         }
@@ -133,39 +128,13 @@ pub fn take_row(
     }
 }
 
-/// How many of the changes emptied their place: at most so many places are empty.
-fn count_emptied(changes: &[Change]) -> usize {
-    changes.iter().filter(|change| change.emptied).count()
-}
-
-/// Forgets the changes, and takes the places away that they left empty. Where these are more than there are blocks, it walks over all
-/// rows; where no place was emptied, it looks at none.
+/// Forgets the changes. The places that were left empty go where they are many.
 pub fn settle(rows: &mut Rows, changes: &mut Vec<Change>)
     ensures rows { rows_of rows.new ≡ rows_of rows.old }
     ensures none { changes.new.items ≡ [] }
 {
-    let emptied = count_emptied(changes);
-    if emptied == 0 {
-        changes.clear();
-        return;
-    }
-    if emptied > rows.block_count() {
-        rows.drop_all_empty();
-        changes.clear();
-        return;
-    }
-    while let Some(change) = changes.pop() {
-        drop_emptied(rows, &change);
-    }
-}
-
-/// Takes the place of a change away where the change emptied it, and it is empty.
-fn drop_emptied(rows: &mut Rows, change: &Change)
-    ensures { rows_of rows.new ≡ rows_of rows.old }
-{
-    if change.emptied {
-        rows.drop_empty(&change.place.probe());
-    }
+    changes.clear();
+    rows.drop_many_empty();
 }
 
 /// Undoes the changes, the newest first, and leaves their places.
@@ -187,6 +156,5 @@ pub fn put_back(rows: &mut Rows, change: &mut Change)
     ensures keeps { KeepsPlaces rows.old rows.new }
 {
     let before = change.before.take();
-    change.emptied = before.is_none();
     let _ = swap_row(rows, &change.place, before);
 }

@@ -1,13 +1,14 @@
 // A place with its row, in few bytes.
-ghost use Rattle.std.specs.Prelude.{◌≡◌, ◌∷◌, ◌++◌, true, Some, IfOk, OnOk, is_some, length, take, drop};
+ghost use Rattle.std.specs.Prelude.{◌≡◌, ◌∷◌, ◌++◌, Some, IfOk, OnOk, IsTrue, is_some, length, take, drop};
 ghost use Rattle.std.specs.Option.{option_copied};
+ghost use Rattle.std.specs.Ordering.{is_le};
 ghost use Rattle.bdb_base.specs.Segments.{is_prefix};
 ghost use Rattle.bdb_keep.specs.Tables.{bytes_cmp};
 ghost use Rattle.bdb_keep.specs.Heads.{IsHeadOfPlace};
 ghost use Rattle.bdb_keep.specs.Tails.{head_in};
 
-use crate::bytes::begins_with;
 use crate::head::Head;
+use crate::opening::Opening;
 use crate::row::Row;
 use crate::tail::{Tail, swap_row};
 use crate::words::Probe;
@@ -108,32 +109,22 @@ impl Entry {
         swap_row(&mut self.tail, row)
     }
 
-    /// Appends the key, where the place is in this table, and answers whether it is, and the key begins so. Where not, some bytes may
-    /// be appended.
+    /// Whether the place, which isn't below these bytes, begins so.
     #[inline(always)]
-    #[tactic(auto, using(crate::proofs::SpanLemmas::front_itself))]
-    pub fn append_under(
-        &self,
-        tab: u8,
-        prefix: &[u8],
-        bytes: &mut Vec<u8>,
-    ) -> Result<bool, AllocError>
-        ensures under { IfOk result (λ under. under ≡ is_prefix (tab ∷ prefix.now) self.now.0) }
-        ensures key { IfOk result (λ under. under ≡ true → bytes.new.items ≡ bytes.old.items ++ drop 1 self.now.0) }
-        ensures front { take (length bytes.old.items) bytes.new.items ≡ bytes.old.items }
+    pub fn begins_so(&self, opening: &Opening<'_>) -> bool
+        requires { IsTrue (is_le (bytes_cmp opening.now self.now.0)) }
+        ensures { result ≡ is_prefix opening.now self.now.0 }
     {
-        if self.tail.tab() != tab {
-            return Ok(false);
+        match opening.behind(&self.head()) {
+            Some(prefix) => self.tail.rest_begins_with(prefix),
+            None => false,
         }
-        let start = bytes.len();
-        self.append_key(bytes)?;
-        Ok(begins_with(&bytes[start..], prefix))
     }
 
     /// Appends the key.
     #[inline(always)]
     #[tactic(auto, using(crate::proofs::SpanLemmas::front_itself, crate::proofs::SpanLemmas::front_before, crate::proofs::SpanLemmas::front_longer, crate::proofs::SpanLemmas::front_farther))]
-    fn append_key(&self, bytes: &mut Vec<u8>) -> Result<(), AllocError>
+    pub fn append_key(&self, bytes: &mut Vec<u8>) -> Result<(), AllocError>
         ensures ok { OnOk result (bytes.new.items ≡ bytes.old.items ++ drop 1 self.now.0) }
         ensures front { take (length bytes.old.items) bytes.new.items ≡ bytes.old.items }
     {

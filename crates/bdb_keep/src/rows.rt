@@ -1,13 +1,14 @@
 // The rows by place, on sorted shelves, where a removed row leaves an empty place.
-ghost use Rattle.std.specs.Prelude.{◌≡◌, ◌∷◌, [], Some, None, IfOk, IfErr, ◌↔◌, OnOk, OnErr, IsTrue, MatchBool, is_some, false, if◌then◌else◌};
+ghost use Rattle.std.specs.Prelude.{◌≡◌, ◌∷◌, [], Some, None, IfOk, IfErr, ◌↔◌, OnOk, OnErr, IsTrue, MatchBool, false, if◌then◌else◌};
 ghost use Rattle.std.specs.Option.{option_map, option_copied};
 ghost use Rattle.std.specs.FinMap as map;
-ghost use Rattle.bdb_keep.specs.Entries.{place_at, row_of, rows_of, IsSetAt, IsAmong, AreAmong};
+ghost use Rattle.bdb_keep.specs.Entries.{place_at, rows_of, IsSetAt, IsAmong, AreAmong};
 ghost use Rattle.bdb_keep.specs.Blocks.{joined};
 ghost use Rattle.bdb_keep.specs.Spans.{AreRowsUnder};
 ghost use Rattle.bdb_keep.specs.Tables.{IsLeastFrom, NoneFrom, LieWithin};
 
 use crate::block::Block;
+use crate::census::Census;
 use crate::cursors::Cursors;
 use crate::entry::Entry;
 use crate::row::Row;
@@ -18,13 +19,14 @@ use crate::words::Probe;
 use std::alloc::{AllocError, Global};
 use std::marker::Model;
 
-/// The rows by place. A place with no row is one whose row was removed in the running transaction. What was used last is
-/// remembered, so that what comes next in the order of the places of a table is found at once.
+/// The rows by place. A place with no row is one whose row was removed; such places are taken away once they are many. What was used
+/// last is remembered, so that what comes next in the order of the places of a table is found at once.
 #[derive(Drop)]
 pub struct Rows {
     alloc: Global,
     shelves: Vec<Shelf>,
     cursors: Cursors,
+    census: Census,
 }
 
 impl Model for Rows {
@@ -47,16 +49,8 @@ impl Rows {
             alloc,
             shelves: Vec::new(alloc),
             cursors: Cursors::new(alloc),
+            census: Census::none(),
         }
-    }
-
-    /// How many blocks there are.
-    pub fn block_count(&self) -> usize {
-        let mut count = 0usize;
-        for shelf in &self.shelves {
-            count = count.saturating_add(shelf.block_count());
-        }
-        count
     }
 
     /// Puts what stands at a place, and answers what stood there. The answer is the new row where there
@@ -69,18 +63,25 @@ impl Rows {
         ensures same { OnErr result (self.new ≡ self.old) }
     {
         let near = self.cursors.to_write(probe);
+        let has_row = row.is_some();
         match shelves::swap(&mut self.shelves, near, probe, row) {
             Ok((mark, before)) => {
                 self.cursors.remember_written(probe, mark);
+                self.census.swapped(before.is_some(), has_row);
                 Ok(before)
             }
             Err(row) => Err(row),
         }
     }
 
-    /// Puts a row at a place, which may be new, and answers the row that stood there.
-    pub fn insert(&mut self, probe: &Probe<'_>, row: &[u8]) -> Result<Option<Row>, AllocError>
-        ensures found { IfOk result (λ before. row_of (place_at self.old probe.now) ≡ before) }
+    /// Puts a row at a place, which may be new, and answers what stood there: at Some what the place
+    /// had, at None nothing.
+    pub fn insert(
+        &mut self,
+        probe: &Probe<'_>,
+        row: &[u8],
+    ) -> Result<Option<Option<Row>>, AllocError>
+        ensures found { IfOk result (λ before. place_at self.old probe.now ≡ before) }
         ensures set { OnOk result (IsSetAt self.old self.new probe.now (Some (Some row.now))) }
         ensures err { OnErr result (self.new ≡ self.old) }
     {
@@ -88,35 +89,26 @@ impl Rows {
         let near = self.cursors.to_write(probe);
         let (mark, before) = shelves::insert(self.alloc, &mut self.shelves, near, probe, row)?;
         self.cursors.remember_written(probe, mark);
+        self.census.inserted(&before);
         Ok(before)
     }
 
-    /// Takes a place away where it is empty.
-    pub fn drop_empty(&mut self, probe: &Probe<'_>)
+    /// Takes the empty places away where they are many.
+    pub fn drop_many_empty(&mut self)
         ensures { rows_of self.new ≡ rows_of self.old }
     {
-        if !self.has_row(probe) {
-            self.remove(probe);
+        if self.census.has_many_empty() {
+            self.drop_all_empty();
         }
     }
 
-    /// Whether there is a row at a place.
-    fn has_row(&mut self, probe: &Probe<'_>) -> bool
-        ensures found { result ≡ is_some (map.get (rows_of self.old) probe.now) }
-        ensures same { self.new ≡ self.old }
-    {
-        let near = self.cursors.to_read(probe);
-        let (mark, found) = shelves::has_row(&self.shelves, near, probe);
-        self.cursors.remember_read(probe, mark);
-        found
-    }
-
     /// Takes all empty places away, in one walk over the rows.
-    pub fn drop_all_empty(&mut self)
+    fn drop_all_empty(&mut self)
         ensures { rows_of self.new ≡ rows_of self.old }
     {
         shelves::drop_empty_places(&mut self.shelves);
         shelves::drop_empty_shelves(&mut self.shelves);
+        self.census.swept();
     }
 
     /// Takes a place away, with what stands there.

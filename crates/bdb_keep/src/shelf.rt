@@ -10,6 +10,7 @@ use crate::block::Block;
 use crate::blocks::{add, drop_empty_blocks, drop_empty_places, is_behind, replace_at, take_out};
 use crate::entry::Entry;
 use crate::finding::{Spot, entry_of, find, find_beside, find_row, row_from, seek_near};
+use crate::opening::Opening;
 use crate::row::Row;
 use crate::span::Span;
 use crate::under::take_blocks;
@@ -99,15 +100,16 @@ impl Shelf {
         }
     }
 
-    /// Puts a row at a place, which may be new, and answers where, and the row that stood there.
+    /// Puts a row at a place, which may be new, and answers where, and what stood there: at Some what
+    /// the place had, at None nothing.
     pub fn insert(
         &mut self,
         alloc: Global,
         from: usize,
         probe: &Probe<'_>,
         row: &[u8],
-    ) -> Result<(Spot, Option<Row>), AllocError>
-        ensures found { IfOk result (λ before. row_of (place_at self.old probe.now) ≡ before.1) }
+    ) -> Result<(Spot, Option<Option<Row>>), AllocError>
+        ensures found { IfOk result (λ before. place_at self.old probe.now ≡ before.1) }
         ensures set { OnOk result
             (IsChangedAt self.old self.new probe.now (place_at self.old probe.now)
             (Some (Some row.now))) }
@@ -116,7 +118,7 @@ impl Shelf {
         match find(&self.blocks, from, probe) {
             Ok(spot) => {
                 let row = Row::of(alloc, row)?;
-                Ok((spot, replace_at(&mut self.blocks, spot, Some(row))))
+                Ok((spot, Some(replace_at(&mut self.blocks, spot, Some(row)))))
             }
             Err(spot) => {
                 let spot = add(alloc, &mut self.blocks, spot, false, probe, row)?;
@@ -178,7 +180,8 @@ impl Shelf {
         ensures past { IfOk result (λ found. found.1 ≡ false → HasPast probe.now self.now) }
     {
         let start = seek_near(&self.blocks, near, from, probe);
-        let goes_on = take_blocks(&self.blocks, start, tab, prefix, span)?;
+        let opening = Opening::of(tab, prefix);
+        let goes_on = take_blocks(&self.blocks, start, &opening, span)?;
         Ok((start, goes_on))
     }
 
@@ -260,8 +263,8 @@ impl Shelf {
         }
     }
 
-    /// Puts a row at a place, which may be new, and answers where, and the row that stood there. The answer is None where it isn't
-    /// sure that the place belongs on this shelf.
+    /// Puts a row at a place, which may be new, and answers where, and what stood there: at Some what the place had, at None nothing. None
+    /// where it isn't sure that the place belongs on this shelf.
     #[inline(always)]
     pub fn insert_beside(
         &mut self,
@@ -270,9 +273,9 @@ impl Shelf {
         is_last: bool,
         probe: &Probe<'_>,
         row: &[u8],
-    ) -> Result<Option<(Spot, Option<Row>)>, AllocError>
+    ) -> Result<Option<(Spot, Option<Option<Row>>)>, AllocError>
         ensures found { IfOk result
-            (λ put. IfSome put (λ before. row_of (place_at self.old probe.now) ≡ before.1)) }
+            (λ put. IfSome put (λ before. place_at self.old probe.now ≡ before.1)) }
         ensures set { IfOk result
             (λ put. OnSome put (IsChangedAt self.old self.new probe.now (place_at self.old probe.now)
             (Some (Some row.now)))) }
@@ -283,7 +286,7 @@ impl Shelf {
         match find_beside(&self.blocks, spot, is_last, probe) {
             Some(Ok(at)) => {
                 let row = Row::of(alloc, row)?;
-                Ok(Some((at, replace_at(&mut self.blocks, at, Some(row)))))
+                Ok(Some((at, Some(replace_at(&mut self.blocks, at, Some(row))))))
             }
             Some(Err(at)) => {
                 let rises = is_behind(spot, at);

@@ -1,5 +1,5 @@
 // Finding and changing places on sorted shelves.
-ghost use Rattle.std.specs.Prelude.{is_some, ◌≡◌, ◌<◌, ◌∷◌, ◌++◌, [], true, Some, None, IfOk, IfErr, IfSome, IfNone, OnOk, OnErr, MatchBool, if◌then◌else◌, length, slice_index_or, map as map_list, false};
+ghost use Rattle.std.specs.Prelude.{◌≡◌, ◌<◌, ◌∷◌, ◌++◌, [], true, Some, None, IfOk, IfErr, IfSome, IfNone, OnOk, OnErr, MatchBool, if◌then◌else◌, length, slice_index_or, map as map_list, false};
 ghost use Rattle.std.specs.Option.{option_copied};
 ghost use Rattle.bdb_keep.specs.Tables.{IsLeastFrom, NoneFrom};
 ghost use Rattle.bdb_keep.specs.Entries.{place_at, row_of, rows_of, IsSetAt};
@@ -36,19 +36,6 @@ pub fn read(
     let (mark, there) = row_at(shelves, near, probe);
     let found = copy_row(there, row)?;
     Ok((mark, found))
-}
-
-/// Where a place stands or would stand, and whether there is a row.
-#[inline(always)]
-pub fn has_row(shelves: &[Shelf], near: Marks, probe: &Probe<'_>) -> (Mark, bool)
-    requires { AreSorted shelves.now }
-    ensures { result.1 ≡ is_some (row_of (place_at (joined shelves.now) probe.now)) }
-{
-    let (mark, row) = row_at(shelves, near, probe);
-    match row {
-        Some(_) => (mark, true),
-        None => (mark, false),
-    }
 }
 
 /// Where a place stands or would stand, and the row there, if there is one.
@@ -273,17 +260,18 @@ fn swap_on(
     }
 }
 
-/// Puts a row at a place, which may be new, and answers where, and the row that stood there.
+/// Puts a row at a place, which may be new, and answers where, and what stood there: at Some what the
+/// place had, at None nothing.
 pub fn insert(
     alloc: Global,
     shelves: &mut Vec<Shelf>,
     near: Marks,
     probe: &Probe<'_>,
     row: &[u8],
-) -> Result<(Mark, Option<Row>), AllocError>
+) -> Result<(Mark, Option<Option<Row>>), AllocError>
     requires { AreSorted shelves.old.items }
     ensures sorted { AreSorted shelves.new.items }
-    ensures found { IfOk result (λ before. row_of (place_at (joined shelves.old.items) probe.now)
+    ensures found { IfOk result (λ before. place_at (joined shelves.old.items) probe.now
         ≡ before.1) }
     ensures set { OnOk result (IsSetAt (joined shelves.old.items) (joined shelves.new.items)
         probe.now (Some (Some row.now))) }
@@ -303,10 +291,10 @@ fn insert_searched(
     near: Marks,
     probe: &Probe<'_>,
     row: &[u8],
-) -> Result<(Mark, Option<Row>), AllocError>
+) -> Result<(Mark, Option<Option<Row>>), AllocError>
     requires { AreSorted shelves.old.items }
     ensures sorted { AreSorted shelves.new.items }
-    ensures found { IfOk result (λ before. row_of (place_at (joined shelves.old.items) probe.now)
+    ensures found { IfOk result (λ before. place_at (joined shelves.old.items) probe.now
         ≡ before.1) }
     ensures set { OnOk result (IsSetAt (joined shelves.old.items) (joined shelves.new.items)
         probe.now (Some (Some row.now))) }
@@ -333,11 +321,11 @@ fn insert_on(
     near: usize,
     probe: &Probe<'_>,
     row: &[u8],
-) -> Result<(Mark, Option<Row>), AllocError>
+) -> Result<(Mark, Option<Option<Row>>), AllocError>
     requires sorted { AreSorted shelves.old.items }
     requires shelf { IsBlockFor shelves.old.items probe.now at }
     ensures sorted { AreSorted shelves.new.items }
-    ensures found { IfOk result (λ before. row_of (place_at (joined shelves.old.items) probe.now)
+    ensures found { IfOk result (λ before. place_at (joined shelves.old.items) probe.now
         ≡ before.1) }
     ensures set { OnOk result (IsSetAt (joined shelves.old.items) (joined shelves.new.items)
         probe.now (Some (Some row.now))) }

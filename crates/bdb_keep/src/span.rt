@@ -1,8 +1,7 @@
 // Rows that were read at once.
-ghost use Rattle.std.specs.Prelude.{◌≡◌, ◌<◌, ◌∷◌, ◌++◌, [], false, Some, IfOk, OnOk, length, slice_index_or};
-ghost use Rattle.bdb_base.specs.Segments.{is_prefix};
+ghost use Rattle.std.specs.Prelude.{◌≡◌, ◌<◌, ◌∷◌, ◌++◌, [], OnOk, length, drop, slice_index_or};
 ghost use Rattle.std.specs.List.{slice_range};
-ghost use Rattle.bdb_keep.specs.Spans.{row_under, IsWithin};
+ghost use Rattle.bdb_keep.specs.Spans.{IsWithin};
 
 use crate::entry::Entry;
 use std::alloc::{AllocError, Global};
@@ -106,27 +105,17 @@ impl Span {
         Ok(())
     }
 
-    /// Puts the row of an entry behind the others, where its place is in this table and its key begins so. The answer tells whether it
-    /// does.
+    /// Puts the key of an entry behind the others, with a row.
     #[inline(always)]
-    pub fn push_under(
-        &mut self,
-        entry: &Entry,
-        tab: u8,
-        prefix: &[u8],
-        row: &[u8],
-    ) -> Result<bool, AllocError>
-        ensures rows { OnOk result (self.new ≡ self.old ++ row_under (tab ∷ prefix.now) entry.now.0 (Some row.now)) }
-        ensures other { IfOk result (λ under. under ≡ false → is_prefix (tab ∷ prefix.now) entry.now.0 ≡ false) }
+    pub fn push_entry(&mut self, entry: &Entry, row: &[u8]) -> Result<(), AllocError>
+        ensures { OnOk result (self.new ≡ self.old ++ (drop 1 entry.now.0, row.now) ∷ []) }
     {
         let start = self.bytes.len();
-        if !entry.append_under(tab, prefix, &mut self.bytes)? {
-            return Ok(false);
-        }
+        entry.append_key(&mut self.bytes)?;
         let middle = self.bytes.len();
         self.bytes.extend_from_slice(row)?;
         let end = self.bytes.len();
         self.cuts.push(Cut { start, middle, end })?;
-        Ok(true)
+        Ok(())
     }
 }

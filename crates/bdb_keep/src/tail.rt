@@ -1,11 +1,12 @@
 // What lies behind the numbers of an entry's key.
 ghost use Rattle.std.specs.Prelude.{◌≡◌, ◌++◌, [], Some, IfOk, OnOk, OnErr, is_some};
 ghost use Rattle.std.specs.Option.{option_copied};
+ghost use Rattle.bdb_base.specs.Segments.{is_prefix};
 ghost use Rattle.bdb_keep.specs.Tables.{bytes_cmp};
 ghost use Rattle.bdb_keep.specs.RowBytes.{row_bytes, HaveRoom};
 ghost use Rattle.bdb_keep.specs.Tails.{table_in, count_in, rest_in, row_in, HasRoom};
 
-use crate::bytes::compare_words;
+use crate::bytes::{begins_with, compare_words};
 use crate::row::{Bytes, Row};
 use std::alloc::{AllocError, Global};
 use std::cmp::Ordering;
@@ -152,6 +153,17 @@ impl Tail {
             return Ordering::Equal;
         }
         compare_words(rest, other)
+    }
+
+    /// Whether they begin so. Mostly no bytes are asked for.
+    #[inline(always)]
+    pub fn rest_begins_with(&self, prefix: &[u8]) -> bool
+        ensures { result ≡ is_prefix prefix.now (rest_in self.now) }
+    {
+        if prefix.is_empty() {
+            return true;
+        }
+        begins_with(self.rest(), prefix)
     }
 
     /// Whether there is a row.

@@ -1,13 +1,16 @@
 // Reading all rows of a table whose keys begin with some bytes.
-ghost use Rattle.std.specs.Prelude.{◌≡◌, ◌∷◌, ◌++◌, false, IfOk, OnOk};
+ghost use Rattle.std.specs.Prelude.{◌≡◌, ◌++◌, false, IfOk, OnOk, IsTrue};
+ghost use Rattle.std.specs.Ordering.{is_le};
 ghost use Rattle.bdb_base.specs.Segments.{is_prefix};
 ghost use Rattle.bdb_keep.specs.Blocks.{joined, AreSorted, IsBound};
+ghost use Rattle.bdb_keep.specs.Tables.{bytes_cmp};
 ghost use Rattle.bdb_keep.specs.Entries.{IsAscending, NoneBelow};
 ghost use Rattle.bdb_keep.specs.Spans.{entries_under, row_under, HasPast};
 
 use crate::block::Block;
 use crate::entry::Entry;
 use crate::finding::{Spot, block_at};
+use crate::opening::Opening;
 use crate::span::Span;
 use std::alloc::AllocError;
 
@@ -16,18 +19,17 @@ use std::alloc::AllocError;
 pub fn take_blocks(
     blocks: &[Block],
     start: Spot,
-    tab: u8,
-    prefix: &[u8],
+    opening: &Opening<'_>,
     span: &mut Span,
 ) -> Result<bool, AllocError>
     requires sorted { AreSorted blocks.now }
-    requires bound { IsBound blocks.now (tab ∷ prefix.now) start.0 start.1 }
-    ensures rows { OnOk result (span.new ≡ span.old ++ entries_under (tab ∷ prefix.now) (joined blocks.now)) }
-    ensures past { IfOk result (λ goes_on. goes_on ≡ false → HasPast (tab ∷ prefix.now) (joined blocks.now)) }
+    requires bound { IsBound blocks.now opening.now start.0 start.1 }
+    ensures rows { OnOk result (span.new ≡ span.old ++ entries_under opening.now (joined blocks.now)) }
+    ensures past { IfOk result (λ goes_on. goes_on ≡ false → HasPast opening.now (joined blocks.now)) }
 {
     let (mut at, mut index) = start;
     while at < blocks.len() {
-        match take_entries(block_at(blocks, at).entries_from(index), tab, prefix, span) {
+        match take_entries(block_at(blocks, at).entries_from(index), opening, span) {
             Ok(true) => {
                 at += 1;
                 index = 0;
@@ -42,17 +44,16 @@ pub fn take_blocks(
 /// The same of entries.
 fn take_entries(
     entries: &[Entry],
-    tab: u8,
-    prefix: &[u8],
+    opening: &Opening<'_>,
     span: &mut Span,
 ) -> Result<bool, AllocError>
     requires sorted { IsAscending entries.now }
-    requires above { NoneBelow (tab ∷ prefix.now) entries.now }
-    ensures rows { OnOk result (span.new ≡ span.old ++ entries_under (tab ∷ prefix.now) entries.now) }
-    ensures past { IfOk result (λ goes_on. goes_on ≡ false → HasPast (tab ∷ prefix.now) entries.now) }
+    requires above { NoneBelow opening.now entries.now }
+    ensures rows { OnOk result (span.new ≡ span.old ++ entries_under opening.now entries.now) }
+    ensures past { IfOk result (λ goes_on. goes_on ≡ false → HasPast opening.now entries.now) }
 {
     for entry in entries {
-        match take_entry(entry, tab, prefix, span) {
+        match take_entry(entry, opening, span) {
             Ok(true) => {}
             Ok(false) => return Ok(false),
             Err(error) => return Err(error),
@@ -63,14 +64,18 @@ fn take_entries(
 
 /// The same of an entry. Where it has no row, it is passed over.
 #[inline(always)]
-fn take_entry(entry: &Entry, tab: u8, prefix: &[u8], span: &mut Span) -> Result<bool, AllocError>
-    ensures rows { OnOk result (span.new ≡ span.old ++ row_under (tab ∷ prefix.now) entry.now.0 entry.now.1) }
-    ensures other { IfOk result (λ goes_on. goes_on ≡ false → is_prefix (tab ∷ prefix.now) entry.now.0 ≡ false) }
+fn take_entry(entry: &Entry, opening: &Opening<'_>, span: &mut Span) -> Result<bool, AllocError>
+    requires { IsTrue (is_le (bytes_cmp opening.now entry.now.0)) }
+    ensures rows { OnOk result (span.new ≡ span.old ++ row_under opening.now entry.now.0 entry.now.1) }
+    ensures other { IfOk result (λ goes_on. goes_on ≡ false → is_prefix opening.now entry.now.0 ≡ false) }
 {
+    if !entry.begins_so(opening) {
+        return Ok(false);
+    }
     match entry.row() {
         Some(row) => {
-            let open = span.push_under(entry, tab, prefix, row)?;
-            Ok(open)
+            span.push_entry(entry, row)?;
+            Ok(true)
         }
         None => Ok(true),
     }

@@ -1,6 +1,6 @@
 use Rattle.std.proofs.Common.{◌≡◌, ◌<◌, ◌≤◌, suc, length, [], get_or, true, Some, sym, ap, ◌∙◌, subst, rules}
 use Rattle.std.specs.Prelude.{IfSome, OnSome}
-use Rattle.bdb_keep.specs.Entries.{row_of, place_at}
+use Rattle.bdb_keep.specs.Entries.{place_at}
 use Rattle.bdb_keep.specs.Blocks.{IsBlockFor}
 use Rattle.bdb_keep.specs.Shelves.{IsChangedAt, BelongsAmong}
 use Rattle.bdb_keep.proofs.BlocksLemmas.{block-read}
@@ -41,7 +41,7 @@ returns-in-Ok-Some-clause-found c =
     let i = c.args.mark.0 in
     let within : i < length bs = search rules in
     let read = block-read bs i c.index_mut.result.now c.index_mut.ensures.value within in
-    ap row_of (shelf-place bs q i c.requires (shelf c)) ∙ ap (λ es. row_of (place_at es q)) (sym read) ∙ subst (λ put. IfSome put (λ before. row_of (place_at c.index_mut.result.now q) ≡ before.1)) c.in-Ok-Some.field-0-is c.in-Ok-Some.ensures.found
+    shelf-place bs q i c.requires (shelf c) ∙ ap (λ es. place_at es q) (sym read) ∙ subst (λ put. IfSome put (λ before. place_at c.index_mut.result.now q ≡ before.1)) c.in-Ok-Some.field-0-is c.in-Ok-Some.ensures.found
 
 pub returns-in-Ok-Some-clause-set : goal.returns-in-Ok-Some-clause-set
 returns-in-Ok-Some-clause-set c =

@@ -1,8 +1,14 @@
 use Rattle.bdb_keep.proofs.RowsLemmas.{rows_of-updates, KeepsPlaces-updates}
 use Rattle.bdb_keep.proofs.changes.insert_row.Goals as goal
 
-pub returns-in-Ok-clause-rows : goal.returns-in-Ok-clause-rows
-returns-in-Ok-clause-rows c = rows_of-updates _ _ c.args.probe.now _ c.in-Ok.ensures.set
+pub returns-in-Ok-Some-clause-rows : goal.returns-in-Ok-Some-clause-rows
+returns-in-Ok-Some-clause-rows c = rows_of-updates _ _ c.args.probe.now _ c.in-Ok-Some.ensures.set
 
-pub returns-in-Ok-clause-keeps : goal.returns-in-Ok-clause-keeps
-returns-in-Ok-clause-keeps c = KeepsPlaces-updates _ _ c.args.probe.now _ c.in-Ok.ensures.set
+pub returns-in-Ok-Some-clause-keeps : goal.returns-in-Ok-Some-clause-keeps
+returns-in-Ok-Some-clause-keeps c = KeepsPlaces-updates _ _ c.args.probe.now _ c.in-Ok-Some.ensures.set
+
+pub returns-in-Ok-None-clause-rows : goal.returns-in-Ok-None-clause-rows
+returns-in-Ok-None-clause-rows c = rows_of-updates _ _ c.args.probe.now _ c.in-Ok-None.ensures.set
+
+pub returns-in-Ok-None-clause-keeps : goal.returns-in-Ok-None-clause-keeps
+returns-in-Ok-None-clause-keeps c = KeepsPlaces-updates _ _ c.args.probe.now _ c.in-Ok-None.ensures.set

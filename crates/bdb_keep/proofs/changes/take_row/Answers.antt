@@ -5,17 +5,17 @@ use Rattle.bdb_keep.proofs.changes.take_row.Goals as goal
 
 pub returns-in-Some-clause-last : goal.returns-in-Some-clause-last
 returns-in-Some-clause-last c =
-    undone-taken c.args.changes.now.items _ c.push_reserved.new.self.items _ _ _ c.args.place c.args.rows.now c.empty_place.new.rows c.reserve.ensures.items c.push_reserved.ensures.items
+    undone-taken c.args.changes.now.items _ c.push_reserved.new.self.items _ _ c.args.place c.args.rows.now c.empty_place.new.rows c.reserve.ensures.items c.push_reserved.ensures.items
     (search rules) None (sym c.in-Some.ensures.row) c.empty_place.ensures.rows
 
 pub returns-in-Some-clause-places : goal.returns-in-Some-clause-places
 returns-in-Some-clause-places c =
-    places_of-kept c.args.changes.now.items _ c.push_reserved.new.self.items _ _ _ c.args.place c.args.rows.now c.empty_place.new.rows c.reserve.ensures.items c.push_reserved.ensures.items
+    places_of-kept c.args.changes.now.items _ c.push_reserved.new.self.items _ _ c.args.place c.args.rows.now c.empty_place.new.rows c.reserve.ensures.items c.push_reserved.ensures.items
     (search rules)
 
 pub returns-in-Some-clause-has : goal.returns-in-Some-clause-has
 returns-in-Some-clause-has c =
-    HavePlaces-kept c.args.changes.now.items _ c.push_reserved.new.self.items _ _ _ c.args.place c.args.rows.now c.empty_place.new.rows c.reserve.ensures.items c.push_reserved.ensures.items
+    HavePlaces-kept c.args.changes.now.items _ c.push_reserved.new.self.items _ _ c.args.place c.args.rows.now c.empty_place.new.rows c.reserve.ensures.items c.push_reserved.ensures.items
     (search rules) c.requires.has c.requires.place c.in-Some.ensures.here c.empty_place.ensures.keeps
 
 pub returns-in-None-clause-has : goal.returns-in-None-clause-has

@@ -1,5 +1,5 @@
 use Rattle.std.proofs.Common.{◌≡◌, [], get_or, Some, sym, ap, ◌∙◌, subst}
-use Rattle.bdb_keep.specs.Entries.{row_of, place_at}
+use Rattle.bdb_keep.specs.Entries.{place_at}
 use Rattle.bdb_keep.specs.Blocks.{joined, AreSorted}
 use Rattle.bdb_keep.specs.Shelves.{IsChangedAt}
 use Rattle.bdb_keep.proofs.BlocksLemmas.{block-read}
@@ -17,7 +17,7 @@ returns-in-Ok c =
     subst (λ es. IsChangedAt es c.insert.new.self q (place_at old q) (Some (Some c.args.row.now))) read c.in-Ok.ensures.set in
     record {
       sorted = sorted-put bs c.insert.new.self q i (place_at old q) (Some c.args.row.now) c.requires.sorted c.requires.shelf change;
-      found = ap row_of (shelf-place bs q i c.requires.sorted c.requires.shelf) ∙ ap (λ es. row_of (place_at es q)) (sym read) ∙ c.in-Ok.ensures.found;
+      found = shelf-place bs q i c.requires.sorted c.requires.shelf ∙ ap (λ es. place_at es q) (sym read) ∙ c.in-Ok.ensures.found;
       set = shelf-set bs c.insert.new.self q i (place_at old q) (Some (Some c.args.row.now)) c.requires.sorted c.requires.shelf change;
       err = tt;
     }

@@ -1,5 +1,5 @@
 use Rattle.std.proofs.Common.{Some, sym, ap, ◌∙◌, subst}
-use Rattle.bdb_keep.specs.Entries.{row_of, place_at}
+use Rattle.bdb_keep.specs.Entries.{place_at}
 use Rattle.bdb_keep.specs.Blocks.{joined, StandsAt, IsGap}
 use Rattle.bdb_keep.specs.Shelves.{IsChangedAt}
 use Rattle.bdb_keep.proofs.BlocksLemmas.{place_at-stands, place_at-gap}
@@ -10,7 +10,7 @@ pub returns-in_ok-row-in-Ok-clause-found : goal.returns-in_ok-row-in-Ok-clause-f
 returns-in_ok-row-in-Ok-clause-found c =
     let q = c.args.probe.now in
     let stands : StandsAt c.self.inside.blocks.items q c.in-Ok.spot.0 c.in-Ok.spot.1 = subst (λ bs. StandsAt bs q c.in-Ok.spot.0 c.in-Ok.spot.1) c.deref.ensures.value c.in-Ok.ensures.there in
-    ap (λ es. row_of (place_at es q)) (sym c.self.view_is) ∙ ap row_of (place_at-stands c.self.inside.blocks.items q c.in-Ok.spot.0 c.in-Ok.spot.1 stands) ∙ sym c.replace_at.ensures.before
+    ap (λ es. place_at es q) (sym c.self.view_is) ∙ place_at-stands c.self.inside.blocks.items q c.in-Ok.spot.0 c.in-Ok.spot.1 stands ∙ ap Some (sym c.replace_at.ensures.before)
 
 pub returns-in_ok-row-in-Ok-clause-set : goal.returns-in_ok-row-in-Ok-clause-set
 returns-in_ok-row-in-Ok-clause-set c =
@@ -24,7 +24,7 @@ pub returns-in_ok-spot-in-Err-clause-found : goal.returns-in_ok-spot-in-Err-clau
 returns-in_ok-spot-in-Err-clause-found c =
     let q = c.args.probe.now in
     let gap : IsGap c.self.inside.blocks.items q c.in-Err.spot.0 c.in-Err.spot.1 = subst (λ bs. IsGap bs q c.in-Err.spot.0 c.in-Err.spot.1) c.deref.ensures.value c.in-Err.ensures.gap in
-    ap (λ es. row_of (place_at es q)) (sym c.self.view_is) ∙ ap row_of (place_at-gap c.self.inside.blocks.items q c.in-Err.spot.0 c.in-Err.spot.1 gap)
+    ap (λ es. place_at es q) (sym c.self.view_is) ∙ place_at-gap c.self.inside.blocks.items q c.in-Err.spot.0 c.in-Err.spot.1 gap
 
 pub returns-in_ok-spot-in-Err-clause-set : goal.returns-in_ok-spot-in-Err-clause-set
 returns-in_ok-spot-in-Err-clause-set c =

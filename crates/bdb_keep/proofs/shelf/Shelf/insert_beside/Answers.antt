@@ -1,6 +1,6 @@
 use Rattle.std.proofs.Common.{Some, sym, ap, ◌∙◌, subst}
 use Rattle.std.specs.Prelude.{IfOk, IfErr}
-use Rattle.bdb_keep.specs.Entries.{row_of, place_at}
+use Rattle.bdb_keep.specs.Entries.{place_at}
 use Rattle.bdb_keep.specs.Blocks.{joined, StandsAt, IsGap}
 use Rattle.bdb_keep.specs.Shelves.{IsChangedAt}
 use Rattle.bdb_keep.proofs.BlocksLemmas.{place_at-stands, place_at-gap}
@@ -13,7 +13,7 @@ returns-in_ok-row-in-Some-Ok-clause-found c =
     let i = c.in-Some-Ok.at.0 in
     let j = c.in-Some-Ok.at.1 in
     let stands : StandsAt c.self.inside.blocks.items q i j = subst (λ bs. StandsAt bs q i j) c.deref.ensures.value (subst (λ r. IfOk r (λ at. StandsAt c.deref.result.now q at.0 at.1)) c.in-Some-Ok.field-0-is c.in-Some-Ok.ensures.there) in
-    ap (λ es. row_of (place_at es q)) (sym c.self.view_is) ∙ ap row_of (place_at-stands c.self.inside.blocks.items q i j stands) ∙ sym c.replace_at.ensures.before
+    ap (λ es. place_at es q) (sym c.self.view_is) ∙ place_at-stands c.self.inside.blocks.items q i j stands ∙ ap Some (sym c.replace_at.ensures.before)
 
 pub returns-in_ok-row-in-Some-Ok-clause-set : goal.returns-in_ok-row-in-Some-Ok-clause-set
 returns-in_ok-row-in-Some-Ok-clause-set c =
@@ -31,7 +31,7 @@ returns-in_ok-at-in-Some-Err-clause-found c =
     let i = c.in-Some-Err.at.0 in
     let j = c.in-Some-Err.at.1 in
     let gap : IsGap c.self.inside.blocks.items q i j = subst (λ bs. IsGap bs q i j) c.deref.ensures.value (subst (λ r. IfErr r (λ at. IsGap c.deref.result.now q at.0 at.1)) c.in-Some-Err.field-0-is c.in-Some-Err.ensures.gap) in
-    ap (λ es. row_of (place_at es q)) (sym c.self.view_is) ∙ ap row_of (place_at-gap c.self.inside.blocks.items q i j gap)
+    ap (λ es. place_at es q) (sym c.self.view_is) ∙ place_at-gap c.self.inside.blocks.items q i j gap
 
 pub returns-in_ok-at-in-Some-Err-clause-set : goal.returns-in_ok-at-in-Some-Err-clause-set
 returns-in_ok-at-in-Some-Err-clause-set c =
