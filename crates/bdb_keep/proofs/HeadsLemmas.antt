@@ -1,5 +1,5 @@
 -- Lemmas on places as numbers.
-use Rattle.std.proofs.Common.{◌≡◌, ℕ, zero, suc, ◌<◌, ◌^◌, List, [], ◌∷◌, ◌++◌, length, take, drop, get_or, Ordering, Less, Equal, Greater, true, refl, sym, ap, ◌∙◌, subst, arith, append-nil, append_assoc, drop-drop, take_all, length-take-le, inl, inr}
+use Rattle.std.proofs.Common.{◌≡◌, ℕ, Option, zero, suc, ◌<◌, ◌^◌, List, [], ◌∷◌, ◌++◌, length, take, drop, get_or, Ordering, Less, Equal, Greater, true, refl, sym, ap, ◌∙◌, subst, arith, append-nil, append_assoc, drop-drop, take_all, length-take-le, inl, inr}
 use Rattle.std.specs.Ordering.{nat_cmp, ordering_then, ordering_reverse, is_le}
 use Rattle.std.specs.Int.{w64, to_be_bytes}
 use Rattle.std.proofs.lemmas.Cmp.{nat_list_cmp_total, tied_itself}
@@ -220,3 +220,28 @@ head_tells (tab ∷ key) q a b s o e k d h n =
     ∙ sym (by_heads key (key_of b s) (drop 32 key) s a b h.1 k)
     ∙ ap (λ t. bytes_cmp (t ∷ key) (b.tab ∷ key_of b s)) h.0
     ∙ ap (bytes_cmp (tab ∷ key)) e
+
+-- the same of an entry, whose head is put together from its numbers
+pub entries_compared : (g h b : Head) (r s : List ℕ) (w : Option (List ℕ)) (e : List ℕ × Option (List ℕ)) (q : List ℕ) (o : Ordering) → g ≡ h → (h.tab ∷ key_of h r, w) ≡ e → IsHeadOf (key_of h r) h r → b.tab ∷ key_of b s ≡ q → IsHeadOf (key_of b s) b s
+    → o ≡ ordering_then (heads_cmp g b) (bytes_cmp r s) → o ≡ bytes_cmp e.0 q
+entries_compared g h b r s w e q o same v i f k d =
+    compared e.0 q h b r s o (ap (λ (p : List ℕ × Option (List ℕ)). p.0) v) f i k (d ∙ ap (λ x. ordering_then (heads_cmp x b) (bytes_cmp r s)) same)
+
+-- the parts of an entry's place
+pub parts_of_entry : (g h : Head) (r s : List ℕ) → g ≡ h → s ≡ r → IsHeadOf (key_of h r) h r → IsHeadOf (key_of g s) g s
+parts_of_entry g h r s d e i = subst (λ x. IsHeadOf (key_of g x) g x) (sym e) (subst (λ x. IsHeadOf (key_of x r) x r) (sym d) i)
+
+pub place_of_entry : (g h : Head) (r s : List ℕ) (w : Option (List ℕ)) (e : List ℕ × Option (List ℕ)) → g ≡ h → s ≡ r → (h.tab ∷ key_of h r, w) ≡ e → g.tab ∷ key_of g s ≡ e.0
+place_of_entry g h r s w e d k v = ap (λ x. x.tab ∷ key_of x s) d ∙ ap (λ x. h.tab ∷ key_of h x) k ∙ ap (λ (p : List ℕ × Option (List ℕ)). p.0) v
+
+pub head_of_entry : (g h : Head) (r : List ℕ) (w : Option (List ℕ)) (e : List ℕ × Option (List ℕ)) → g ≡ h → (h.tab ∷ key_of h r, w) ≡ e → IsHeadOf (key_of h r) h r → IsHeadOfPlace g e.0
+head_of_entry g h r w e d v i = subst (λ x. IsHeadOfPlace x e.0) (sym d) (head_within e.0 h r (ap (λ (p : List ℕ × Option (List ℕ)). p.0) v) i)
+
+-- what the bytes of a head and those behind it append
+pub key_appended : (old mid new : List ℕ) (g h : Head) (r : List ℕ) (w : Option (List ℕ)) (e : List ℕ × Option (List ℕ)) → g ≡ h → (h.tab ∷ key_of h r, w) ≡ e → mid ≡ old ++ take g.count (bytes_of g) → new ≡ mid ++ r → new ≡ old ++ drop 1 e.0
+key_appended old mid new g h r w e d v m n =
+    n ∙ ap (λ x. x ++ r) m ∙ append_assoc old (take g.count (bytes_of g)) r ∙ ap (λ x. old ++ (take x.count (bytes_of x) ++ r)) d ∙ ap (λ (p : List ℕ × Option (List ℕ)). old ++ drop 1 p.0) v
+
+pub key_written : (mid new : List ℕ) (tab : ℕ) (g h : Head) (r : List ℕ) (w : Option (List ℕ)) (e : List ℕ × Option (List ℕ)) → g ≡ h → (h.tab ∷ key_of h r, w) ≡ e → mid ≡ take g.count (bytes_of g) → new ≡ mid ++ r → tab ≡ h.tab → e.0 ≡ tab ∷ new
+key_written mid new tab g h r w e d v m n s =
+    sym (ap (λ (x : ℕ). x ∷ new) s ∙ ap (λ (x : List ℕ). h.tab ∷ x) (n ∙ ap (λ x. x ++ r) m) ∙ ap (λ x. h.tab ∷ (take x.count (bytes_of x) ++ r)) d ∙ ap (λ (p : List ℕ × Option (List ℕ)). p.0) v)

@@ -10,24 +10,25 @@ use Rattle.std.specs.FinMap.{get-empty}
 use Rattle.std.proofs.lemmas.Cmp.{nat_list_cmp_total, eq_by_cmp_equiv}
 use Rattle.std.proofs.lemmas.Slice.Eq.{slice_eq-Decides}
 use Rattle.bdb_keep.specs.Tables.{Tables, bytes_cmp, LieWithin}
-use Rattle.bdb_keep.specs.Entries.{Entries, row_of, place_at, rows_of, IsAscending, IsAmong, AreAmong}
+use Rattle.bdb_keep.specs.Entries.{Entries, row_of, rows_of, IsAscending, IsAmong, AreAmong}
 use Rattle.bdb_keep.specs.Blocks.{joined}
 use Rattle.bdb_keep.proofs.EntriesLemmas.{place_at-above}
 use Rattle.bdb_keep.proofs.BlocksLemmas.{joined-take-more}
 use Rattle.bdb_keep.proofs.RowsLemmas.{get-set_at, get_rows_of, same_place, same_tables}
 
--- a row was compared with the row that stands at its place
-pub same-some : (es : Entries) (p : List ℕ) (row : Option (List ℕ)) (bytes : List ℕ) (other : List ℕ) (r : Bool) → row ≡ Some bytes → place_at es p ≡ Some (Some other) → r ≡ pointwise nat_eq bytes other → IsTrue r ↔ IfSome row (λ b. map.get (rows_of es) p ≡ Some b)
-same-some es p row bytes other r e h d =
-    let here : map.get (rows_of es) p ≡ Some other = get_rows_of es p ∙ ap row_of h in
+-- the row of an entry was compared with the row that stands at its place
+pub among-some : (t : Tables) (e : List ℕ × Option (List ℕ)) (bytes other : List ℕ) (r : Bool) → e.1 ≡ Some bytes → (p : List ℕ) → p ≡ e.0 → Some other ≡ map.get t p → r ≡ pointwise nat_eq bytes other → IsTrue r ↔ IsAmong t e
+among-some t e bytes other r f p i h d =
+    let here : map.get t e.0 ≡ Some other = ap (map.get t) (sym i) ∙ sym h in
     let same : Decides r (bytes ≡ other) = slice_eq-Decides unsigned_Decides bytes other r d in
-    subst (λ w. IsTrue r ↔ IfSome w (λ b. map.get (rows_of es) p ≡ Some b)) (sym e)
-    (λ t. here ∙ ap Some (sym (same.0 t)), λ g. same.1 (cc))
+    subst (λ w. IsTrue r ↔ IfSome w (λ b. map.get t e.0 ≡ Some b)) (sym f)
+    (λ x. here ∙ ap Some (sym (same.0 x)), λ g. same.1 (cc))
 
--- no row stands at the place of a row
-pub same-none : (es : Entries) (p : List ℕ) (row : Option (List ℕ)) (bytes : List ℕ) → row ≡ Some bytes → row_of (place_at es p) ≡ None → IsTrue false ↔ IfSome row (λ b. map.get (rows_of es) p ≡ Some b)
-same-none es p row bytes e h =
-    subst (λ w. IsTrue false ↔ IfSome w (λ b. map.get (rows_of es) p ≡ Some b)) (sym e) (λ t. absurd (cc), λ g. let n : map.get (rows_of es) p ≡ None = get_rows_of es p ∙ h in absurd (cc))
+-- no row stands at the place of an entry that has one
+pub among-none : (t : Tables) (e : List ℕ × Option (List ℕ)) (bytes : List ℕ) → e.1 ≡ Some bytes → (p : List ℕ) → p ≡ e.0 → None ≡ map.get t p → IsTrue false ↔ IsAmong t e
+among-none t e bytes f p i h =
+    let none : map.get t e.0 ≡ None = ap (map.get t) (sym i) ∙ sym h in
+    subst (λ w. IsTrue false ↔ IfSome w (λ b. map.get t e.0 ≡ Some b)) (sym f) (λ x. absurd (cc), λ g. absurd (cc))
 
 -- what is among some rows, entry by entry
 pub among-append : (t : Tables) (xs ys : Entries) → AreAmong t xs → AreAmong t ys → AreAmong t (xs ++ ys)

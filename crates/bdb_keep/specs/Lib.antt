@@ -13,4 +13,5 @@ pub mod Shelves
 pub mod Spans
 pub mod Struck
 pub mod Tables
+pub mod Tails
 pub mod Told

@@ -10,5 +10,5 @@ row_bytes (Long bytes) = bytes.value.items
 
 -- no more bytes lie in the value itself than it has room for
 abbrev pub HaveRoom : Bytes → Type 0
-HaveRoom (Short count bytes) = count ≤ 7
+HaveRoom (Short count bytes) = count ≤ 10
 HaveRoom (Long bytes) = Unit {0}

@@ -25,7 +25,7 @@ pub fn find_right_behind(
     ensures belongs { OnSome result (BelongsAmong (joined blocks.now) probe.now is_last) }
 {
     match first_at(blocks, spot) {
-        Some(here) => match entry_of(blocks, here).0.compare(probe) {
+        Some(here) => match entry_of(blocks, here).compare(probe) {
             Ordering::Less => find_behind(blocks, here, is_last, probe),
             Ordering::Equal => None,
             Ordering::Greater => None,
@@ -42,7 +42,7 @@ pub fn stands_behind(blocks: &[Block], spot: Spot, probe: &Probe<'_>) -> Option<
     ensures belongs { OnSome result (BelongsAmong (joined blocks.now) probe.now false) }
 {
     match first_at(blocks, (spot.0, spot.1.saturating_add(1))) {
-        Some(at) => match entry_of(blocks, at).0.compare(probe) {
+        Some(at) => match entry_of(blocks, at).compare(probe) {
             Ordering::Less => None,
             Ordering::Equal => Some(at),
             Ordering::Greater => None,

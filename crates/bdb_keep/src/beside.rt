@@ -1,19 +1,19 @@
 // Finding and changing places beside the mark that was set last. In work in the order of the places this is where they are, and no
 // shelf is looked for.
-ghost use Rattle.std.specs.Prelude.{◌≡◌, ◌<◌, ◌≤◌, true, Some, None, IfOk, IfErr, IfSome, OnOk, OnErr, length};
+ghost use Rattle.std.specs.Prelude.{◌≡◌, ◌<◌, ◌≤◌, true, Some, None, IfOk, IfErr, IfSome, IfNone, OnOk, OnErr, OnSome, length};
 ghost use Prim.Native.Nat.{suc};
 ghost use Rattle.std.specs.Option.{option_copied};
 ghost use Rattle.bdb_keep.specs.Entries.{place_at, row_of, IsSetAt};
 ghost use Rattle.bdb_keep.specs.Blocks.{joined, AreSorted};
 ghost use Rattle.bdb_keep.specs.Shelves.{IsFirstRow};
 
-use crate::block::Entry;
 use crate::cursors::Mark;
+use crate::entry::Entry;
 use crate::row::Row;
 use crate::shelf::Shelf;
 use crate::shelves::shelf_at;
 use crate::words::Probe;
-use std::alloc::Global;
+use std::alloc::{AllocError, Global};
 
 /// Where a place stands or would stand, and the row there, if there is one. None where it isn't beside the mark.
 #[inline(always)]
@@ -21,7 +21,7 @@ pub fn row_beside<'a>(
     shelves: &'a [Shelf],
     mark: Mark,
     probe: &Probe<'_>,
-) -> Option<(Mark, Option<&'a Row>)>
+) -> Option<(Mark, Option<&'a [u8]>)>
     requires { AreSorted shelves.now }
     ensures { IfSome result
         (λ found. option_copied found.1 ≡ row_of (place_at (joined shelves.now) probe.now)) }
@@ -85,33 +85,35 @@ pub fn swap_beside(
     }
 }
 
-/// Puts a row at a place, which may be new, and answers where, and what stood there: at Some what the place had, at None nothing. At
-/// Err it gives the row back where the place isn't beside the mark, and None where memory is wanting.
+/// Puts a row at a place, which may be new, and answers where, and what stood there: at Some what the place had, at None nothing. None
+/// where the place isn't beside the mark.
 #[inline(always)]
 pub fn insert_beside(
     alloc: Global,
     shelves: &mut Vec<Shelf>,
     mark: Mark,
     probe: &Probe<'_>,
-    row: Row,
-) -> Result<(Mark, Option<Option<Row>>), Option<Row>>
+    row: &[u8],
+) -> Result<Option<(Mark, Option<Option<Row>>)>, AllocError>
     requires { AreSorted shelves.old.items }
     ensures sorted { AreSorted shelves.new.items }
-    ensures found { IfOk result (λ before. place_at (joined shelves.old.items) probe.now
-        ≡ before.1) }
-    ensures set { OnOk result (IsSetAt (joined shelves.old.items) (joined shelves.new.items)
-        probe.now (Some (Some row))) }
-    ensures back { IfErr result (λ back. IfSome back (λ given. given ≡ row)) }
-    ensures same { OnErr result (joined shelves.new.items ≡ joined shelves.old.items) }
+    ensures found { IfOk result (λ put. IfSome put
+        (λ before. place_at (joined shelves.old.items) probe.now ≡ before.1)) }
+    ensures set { IfOk result (λ put. OnSome put (IsSetAt (joined shelves.old.items)
+        (joined shelves.new.items) probe.now (Some (Some row.now)))) }
+    ensures none { IfOk result
+        (λ put. IfNone put (joined shelves.new.items ≡ joined shelves.old.items)) }
+    ensures err { OnErr result (joined shelves.new.items ≡ joined shelves.old.items) }
 {
     let (at, spot) = mark;
     if at >= shelves.len() {
-        return Err(Some(row));
+        return Ok(None);
     }
     let is_last = is_last_shelf(shelves, at);
     match shelves[at].insert_beside(alloc, spot, is_last, probe, row) {
-        Ok((spot, before)) => Ok(((at, spot), before)),
-        Err(back) => Err(back),
+        Ok(Some((spot, before))) => Ok(Some(((at, spot), before))),
+        Ok(None) => Ok(None),
+        Err(error) => Err(error),
     }
 }
 

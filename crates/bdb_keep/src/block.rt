@@ -7,19 +7,16 @@ ghost use Rattle.bdb_keep.specs.Entries.{AreBelow, NoneBelow, IsAscending};
 ghost use Rattle.bdb_keep.specs.Heads.{IsHeadOfPlace};
 ghost use Rattle.bdb_keep.specs.Blocks.{entry_at, starts_within, without_empty, has_any, HasFirst};
 
+use crate::entry::Entry;
 use crate::head::Head;
 use crate::row::Row;
-use crate::words::{Probe, Words};
+use crate::words::Probe;
 use std::alloc::{AllocError, Global};
 use std::cmp::Ordering;
 use std::marker::Model;
-use std::mem::replace;
 
 /// The most places of a block.
 pub const CAPACITY: usize = 32;
-
-/// A place with its row, or with none where the row was removed.
-pub type Entry = (Words, Option<Row>);
 
 /// A block of places in ascending order.
 #[derive(Drop)]
@@ -42,13 +39,13 @@ impl Model for Block {
 }
 
 impl Block {
-    /// A block of one place with its row.
-    pub fn of(alloc: Global, place: Words, row: Row) -> Result<Self, AllocError>
-        ensures { IfOk result (λ block. block ≡ (place, Some row) ∷ []) }
+    /// A block of one entry.
+    pub fn of(alloc: Global, entry: Entry) -> Result<Self, AllocError>
+        ensures { IfOk result (λ block. block ≡ entry ∷ []) }
     {
-        let first = place.head();
+        let first = entry.head();
         let mut entries = Vec::with_capacity(alloc, CAPACITY)?;
-        entries.push((place, Some(row)))?;
+        entries.push(entry)?;
         Ok(Block { first, entries })
     }
 
@@ -114,7 +111,7 @@ impl Block {
         self.entries.as_slice().partition_point(
             |entry: &Entry| -> bool
                 ensures { result ≡ is_lt (bytes_cmp entry.now.0 probe.entry.now) }
-            { entry.0.compare(probe).is_lt() },
+            { entry.compare(probe).is_lt() },
         )
     }
 
@@ -124,18 +121,18 @@ impl Block {
         ensures before { result ≡ (entry_at self.old index).1 }
         ensures block { self.new ≡ slice_set self.old index ((entry_at self.old index).0, row) }
     {
-        replace(&mut self.entries[index].1, row)
+        self.entries[index].swap(row)
     }
 
-    /// Puts a place with its row in at an index.
-    pub fn insert(&mut self, index: usize, place: Words, row: Row) -> Result<(), AllocError>
+    /// Puts an entry in at an index.
+    pub fn insert(&mut self, index: usize, entry: Entry) -> Result<(), AllocError>
         requires { index ≤ length self.old }
         ensures ok { OnOk result
-            (self.new ≡ take index self.old ++ (place, Some row) ∷ drop index self.old) }
+            (self.new ≡ take index self.old ++ entry ∷ drop index self.old) }
         ensures err { OnErr result (self.new ≡ self.old) }
     {
-        let head = place.head();
-        match self.entries.insert(index, (place, Some(row))) {
+        let head = entry.head();
+        match self.entries.insert(index, entry) {
             Ok(()) => {
                 if index == 0 {
                     self.first = head;
@@ -175,7 +172,7 @@ impl Block {
     pub fn drop_empty(&mut self)
         ensures { self.new ≡ without_empty self.old }
     {
-        self.entries.retain(|entry| entry.1.is_some());
+        self.entries.retain(|entry| entry.has_row());
         self.first = head_of_first(&self.entries, self.first);
     }
 }
@@ -185,7 +182,7 @@ fn head_of_first(entries: &[Entry], other: Head) -> Head
     ensures { HasFirst result entries.now }
 {
     match entries.first() {
-        Some(entry) => entry.0.head(),
+        Some(entry) => entry.head(),
         None => other,
     }
 }
@@ -198,7 +195,7 @@ fn is_within(head: &Head, entry: &Entry, probe: &Probe<'_>) -> bool
 {
     match probe.compare_head(head) {
         Ordering::Less => true,
-        Ordering::Equal => entry.0.compare(probe).is_le(),
+        Ordering::Equal => entry.compare(probe).is_le(),
         Ordering::Greater => false,
     }
 }

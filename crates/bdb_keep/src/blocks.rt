@@ -5,9 +5,10 @@ ghost use Rattle.std.specs.Prelude.{length, slice_index_or, map as map_list};
 ghost use Rattle.bdb_keep.specs.Blocks.{joined, before, after, AreSorted, HaveEntries, IsGap, IsThere, without_empty, cut, entry_at};
 
 use crate::block::{Block, CAPACITY};
+use crate::entry::Entry;
 use crate::finding::{Spot, block_at};
 use crate::row::Row;
-use crate::words::{Probe, Words};
+use crate::words::Probe;
 use std::alloc::{AllocError, Global};
 
 /// Puts another row where a place stands, and answers the one that stood there.
@@ -32,24 +33,24 @@ pub fn add(
     spot: Spot,
     rises: bool,
     probe: &Probe<'_>,
-    row: Row,
+    row: &[u8],
 ) -> Result<Spot, AllocError>
     requires sorted { AreSorted blocks.old.items }
     requires gap { IsGap blocks.old.items probe.now spot.0 spot.1 }
     ensures sorted { AreSorted blocks.new.items }
     ensures ok { OnOk result
-        (joined blocks.new.items ≡ before blocks.old.items spot.0 spot.1 ++ (probe.now, Some row)
+        (joined blocks.new.items ≡ before blocks.old.items spot.0 spot.1 ++ (probe.now, Some row.now)
         ∷ after blocks.old.items spot.0 spot.1) }
     ensures err { OnErr result (joined blocks.new.items ≡ joined blocks.old.items) }
 {
-    let place = Words::of(alloc, probe)?;
+    let entry = Entry::of(alloc, probe, row)?;
     if blocks.is_empty() {
-        let block = Block::of(alloc, place, row)?;
+        let block = Block::of(alloc, entry)?;
         blocks.push(block)?;
         return Ok(spot);
     }
     let spot = make_room(blocks, spot, rises)?;
-    blocks[spot.0].insert(spot.1, place, row)?;
+    blocks[spot.0].insert(spot.1, entry)?;
     Ok(spot)
 }
 

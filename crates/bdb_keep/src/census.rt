@@ -10,8 +10,8 @@ const MOST: usize = 16_384;
 /// Among how many places one may be empty: two in a full block.
 const SHARE: usize = 16;
 
-/// How many places there are, and how many of them are empty. Both may be too large: they decide when the empty places are taken away,
-/// and no clause speaks of them.
+/// How many places there are, and how many of them are empty. A place that is taken away by itself isn't seen, so both may be a little
+/// off: they only decide when the empty places are taken away, and no clause speaks of them.
 #[derive(Drop)]
 pub struct Census {
     places: usize,

@@ -38,9 +38,10 @@ pub fn swap_row(
 }
 
 /// Puts a row at a place, which may be new, and answers the row that stood there.
-pub fn insert_row(rows: &mut Rows, probe: &Probe<'_>, row: Row) -> Result<Option<Row>, AllocError>
+pub fn insert_row(rows: &mut Rows, probe: &Probe<'_>, row: &[u8]) -> Result<Option<Row>, AllocError>
     ensures before { IfOk result (λ before. row_of (place_at rows.old probe.now) ≡ before) }
-    ensures rows { OnOk result (rows_of rows.new ≡ set_at (rows_of rows.old) probe.now (Some row)) }
+    ensures rows { OnOk result
+        (rows_of rows.new ≡ set_at (rows_of rows.old) probe.now (Some row.now)) }
     ensures here { OnOk result (IsSome (place_at rows.new probe.now)) }
     ensures keeps { OnOk result (KeepsPlaces rows.old rows.new) }
     ensures err { OnErr result (rows.new ≡ rows.old) }
@@ -88,9 +89,8 @@ pub fn put_row(
 {
     changes.reserve(1)?;
     let place = Place::of(alloc, tab, key)?;
-    let copy = Row::of(alloc, row)?;
     let probe = Probe::of(tab, key);
-    let before = insert_row(rows, &probe, copy)?;
+    let before = insert_row(rows, &probe, row)?;
     changes.push_reserved(Change { place, before });
     Ok(())
 }

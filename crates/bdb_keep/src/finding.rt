@@ -6,7 +6,8 @@ ghost use Rattle.bdb_keep.specs.Entries.{AreBelow, NoneBelow};
 ghost use Rattle.bdb_keep.specs.Blocks.{joined, before, after, entry_at, starts_within, AreSorted, HaveEntries, IsBound, IsBlockFor, IsThere, StandsAt, IsGap};
 ghost use Rattle.bdb_keep.specs.Shelves.{NoRowFrom, BelongsAmong};
 
-use crate::block::{Block, Entry};
+use crate::block::Block;
+use crate::entry::Entry;
 use crate::words::Probe;
 use std::cmp::Ordering;
 
@@ -22,7 +23,7 @@ pub fn find(blocks: &[Block], from: usize, probe: &Probe<'_>) -> Result<Spot, Sp
     let bound = seek(blocks, from, probe);
     match first_at(blocks, bound) {
         Some(spot) => {
-            if entry_of(blocks, spot).0.compare(probe).is_eq() {
+            if entry_of(blocks, spot).compare(probe).is_eq() {
                 Ok(spot)
             } else {
                 Err(bound)
@@ -60,7 +61,7 @@ pub fn row_from(blocks: &[Block], start: Spot, probe: &Probe<'_>) -> Option<Spot
 {
     let mut bound = start;
     while let Some(spot) = first_at(blocks, bound) {
-        if entry_of(blocks, spot).1.is_some() {
+        if entry_of(blocks, spot).has_row() {
             return Some(spot);
         }
         bound = (spot.0, spot.1 + 1);
@@ -85,7 +86,7 @@ pub fn find_beside(
     ensures belongs { IfSome result (λ found. BelongsAmong (joined blocks.now) probe.now is_last) }
 {
     match first_at(blocks, spot) {
-        Some(here) => match entry_of(blocks, here).0.compare(probe) {
+        Some(here) => match entry_of(blocks, here).compare(probe) {
             Ordering::Less => find_behind(blocks, here, is_last, probe),
             Ordering::Equal => Some(Ok(here)),
             Ordering::Greater => find_before(blocks, here, is_last, probe),
@@ -116,7 +117,7 @@ fn find_before(
         return None;
     }
     let last = (spot.0, spot.1 - 1);
-    match entry_of(blocks, last).0.compare(probe) {
+    match entry_of(blocks, last).compare(probe) {
         Ordering::Less => Some(Err(spot)),
         Ordering::Equal => Some(Ok(last)),
         Ordering::Greater => None,
@@ -144,7 +145,7 @@ pub fn find_behind(
 {
     let behind = (spot.0, spot.1 + 1);
     match first_at(blocks, behind) {
-        Some(next) => match entry_of(blocks, next).0.compare(probe) {
+        Some(next) => match entry_of(blocks, next).compare(probe) {
             Ordering::Less => None,
             Ordering::Equal => Some(Ok(next)),
             Ordering::Greater => Some(Err(behind)),

@@ -9,6 +9,7 @@ mod bytes;
 mod census;
 mod changes;
 mod cursors;
+mod entry;
 mod finding;
 mod head;
 mod keeper;
@@ -26,6 +27,7 @@ mod shelf;
 mod shelves;
 mod span;
 mod store;
+mod tail;
 mod under;
 mod words;
 

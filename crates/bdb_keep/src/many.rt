@@ -109,9 +109,8 @@ fn put_behind(
 {
     changes.reserve(1)?;
     let place = Place::of(alloc, tab, key)?;
-    let copy = Row::of(alloc, row)?;
     let probe = Probe::of(tab, key);
-    match rows.put_behind(&probe, copy) {
+    match rows.put_behind(&probe, row) {
         Some(before) => {
             changes.push_reserved(Change { place, before });
             Ok(true)

@@ -2,13 +2,12 @@
 ghost use Rattle.std.specs.Prelude.{◌≡◌, ◌∷◌, [], Some, None, IfOk, is_some, true, false, List, ℕ, if◌then◌else◌};
 ghost use Rattle.std.specs.Option.{option_copied};
 
-use crate::block::Entry;
-use crate::row::Row;
+use crate::entry::Entry;
 use std::alloc::AllocError;
 
 /// Copies a row, if there is one.
 #[inline(always)]
-pub fn copy_row(from: Option<&Row>, row: &mut Vec<u8>) -> Result<bool, AllocError>
+pub fn copy_row(from: Option<&[u8]>, row: &mut Vec<u8>) -> Result<bool, AllocError>
     ensures found { IfOk result
         (λ found. option_copied from.entry ≡ (if found then Some row.new.items else None)) }
     ensures empty { IfOk result (λ found. found ≡ false → row.new.items ≡ []) }
@@ -16,7 +15,7 @@ pub fn copy_row(from: Option<&Row>, row: &mut Vec<u8>) -> Result<bool, AllocErro
     row.clear();
     match from {
         Some(bytes) => {
-            row.extend_from_slice(bytes.as_slice())?;
+            row.extend_from_slice(bytes)?;
             Ok(true)
         }
         None => Ok(false),
@@ -40,14 +39,13 @@ pub fn give(
 {
     key.clear();
     row.clear();
-    let (place, found) = entry;
-    match found {
+    match entry.row() {
         Some(bytes) => {
-            if place.write_key(key)? != tab {
+            if entry.write_key(key)? != tab {
                 key.clear();
                 return Ok(false);
             }
-            row.extend_from_slice(bytes.as_slice())?;
+            row.extend_from_slice(bytes)?;
             Ok(true)
         }
         None => Ok(false),

@@ -7,9 +7,10 @@ ghost use Rattle.bdb_keep.specs.Blocks.{joined};
 ghost use Rattle.bdb_keep.specs.Spans.{AreRowsUnder};
 ghost use Rattle.bdb_keep.specs.Tables.{IsLeastFrom, NoneFrom, LieWithin};
 
-use crate::block::{Block, Entry};
+use crate::block::Block;
 use crate::census::Census;
 use crate::cursors::Cursors;
+use crate::entry::Entry;
 use crate::row::Row;
 use crate::shelf::Shelf;
 use crate::span::Span;
@@ -52,13 +53,6 @@ impl Rows {
         }
     }
 
-    /// What stands at a place.
-    pub fn get(&self, probe: &Probe<'_>) -> Option<&Option<Row>>
-        ensures { option_copied result ≡ place_at self.now probe.now }
-    {
-        shelves::get(&self.shelves, self.cursors.to_read(probe), probe)
-    }
-
     /// Puts what stands at a place, and answers what stood there. The answer is the new row where there
     /// is no such place.
     pub fn swap(&mut self, probe: &Probe<'_>, row: Option<Row>) -> Result<Option<Row>, Option<Row>>
@@ -82,9 +76,13 @@ impl Rows {
 
     /// Puts a row at a place, which may be new, and answers what stood there: at Some what the place
     /// had, at None nothing.
-    pub fn insert(&mut self, probe: &Probe<'_>, row: Row) -> Result<Option<Option<Row>>, AllocError>
+    pub fn insert(
+        &mut self,
+        probe: &Probe<'_>,
+        row: &[u8],
+    ) -> Result<Option<Option<Row>>, AllocError>
         ensures found { IfOk result (λ before. place_at self.old probe.now ≡ before) }
-        ensures set { OnOk result (IsSetAt self.old self.new probe.now (Some (Some row))) }
+        ensures set { OnOk result (IsSetAt self.old self.new probe.now (Some (Some row.now))) }
         ensures err { OnErr result (self.new ≡ self.old) }
     {
         self.cursors.make_room();
@@ -98,10 +96,10 @@ impl Rows {
     /// Puts a row at a place, and answers the row that stood there. None, and nothing changes, where the place doesn't come right behind
     /// the one that was written last in its table, or memory is wanting.
     #[inline(always)]
-    pub fn put_behind(&mut self, probe: &Probe<'_>, row: Row) -> Option<Option<Row>>
+    pub fn put_behind(&mut self, probe: &Probe<'_>, row: &[u8]) -> Option<Option<Row>>
         ensures found { IfSome result
             (λ before. row_of (place_at self.old probe.now) ≡ before) }
-        ensures set { OnSome result (IsSetAt self.old self.new probe.now (Some (Some row))) }
+        ensures set { OnSome result (IsSetAt self.old self.new probe.now (Some (Some row.now))) }
         ensures same { IfNone result (self.new ≡ self.old) }
     {
         let last = self.cursors.last_written(probe);
@@ -217,11 +215,8 @@ impl Rows {
     pub fn row_at(&self, probe: &Probe<'_>) -> Option<&[u8]>
         ensures { option_map (λ row. row.now) result ≡ map.get (rows_of self.now) probe.now }
     {
-        match self.get(probe) {
-            Some(Some(row)) => Some(row.as_slice()),
-            Some(None) => None,
-            None => None,
-        }
+        let (_, row) = shelves::row_at(&self.shelves, self.cursors.to_read(probe), probe);
+        row
     }
 
     /// Whether each row is in others too.
@@ -265,13 +260,10 @@ fn has_all(others: &Rows, entries: &[Entry]) -> bool
 fn has_same(others: &Rows, entry: &Entry) -> bool
     ensures { IsTrue result ↔ IsAmong (rows_of others.now) entry.now }
 {
-    let (place, row) = entry;
-    let probe = place.probe();
-    match row {
+    match entry.row() {
         None => true,
-        Some(bytes) => match others.get(&probe) {
-            Some(Some(other)) => *bytes.as_slice() == *other.as_slice(),
-            Some(None) => false,
+        Some(bytes) => match others.row_at(&entry.probe()) {
+            Some(other) => *bytes == *other,
             None => false,
         },
     }

@@ -19,14 +19,14 @@ pub fn put_behind(
     shelves: &mut Vec<Shelf>,
     mark: Mark,
     probe: &Probe<'_>,
-    row: Row,
+    row: &[u8],
 ) -> Option<(Mark, bool, Option<Row>)>
     requires { AreSorted shelves.old.items }
     ensures sorted { AreSorted shelves.new.items }
     ensures found { IfSome result
         (λ put. row_of (place_at (joined shelves.old.items) probe.now) ≡ put.2) }
     ensures set { OnSome result (IsSetAt (joined shelves.old.items) (joined shelves.new.items)
-        probe.now (Some (Some row))) }
+        probe.now (Some (Some row.now))) }
     ensures same { IfNone result (joined shelves.new.items ≡ joined shelves.old.items) }
 {
     match put_on(alloc, shelves, mark, probe, row) {
@@ -55,14 +55,14 @@ fn put_on(
     shelves: &mut Vec<Shelf>,
     mark: Mark,
     probe: &Probe<'_>,
-    row: Row,
+    row: &[u8],
 ) -> Option<(Mark, bool, Option<Row>)>
     requires { AreSorted shelves.old.items }
     ensures sorted { AreSorted shelves.new.items }
     ensures found { IfSome result
         (λ put. row_of (place_at (joined shelves.old.items) probe.now) ≡ put.2) }
     ensures set { OnSome result (IsSetAt (joined shelves.old.items) (joined shelves.new.items)
-        probe.now (Some (Some row))) }
+        probe.now (Some (Some row.now))) }
     ensures same { IfNone result (joined shelves.new.items ≡ joined shelves.old.items) }
 {
     let (at, spot) = mark;

@@ -7,14 +7,15 @@ ghost use Rattle.bdb_keep.specs.Spans.{entries_under, HasPast};
 ghost use Rattle.bdb_keep.specs.Shelves.{IsChangedAt, NoRowFrom, IsFirstRow, IsCutInTwo, BelongsAmong};
 
 use crate::behind::{find_right_behind, stands_behind};
-use crate::block::{Block, Entry};
+use crate::block::Block;
 use crate::blocks::{add, drop_empty_blocks, drop_empty_places, is_behind, replace_at, take_out};
+use crate::entry::Entry;
 use crate::finding::{Spot, entry_of, find, find_beside, find_row, row_from, seek_near};
 use crate::opening::Opening;
 use crate::row::Row;
 use crate::span::Span;
 use crate::under::take_blocks;
-use crate::words::{Probe, Words};
+use crate::words::Probe;
 use std::alloc::{AllocError, Global};
 use std::marker::Model;
 
@@ -37,11 +38,11 @@ impl Model for Shelf {
 
 impl Shelf {
     /// A shelf of one place with its row.
-    pub fn of(alloc: Global, probe: &Probe<'_>, row: Row) -> Result<Self, AllocError>
-        ensures { IfOk result (λ shelf. shelf ≡ (probe.now, Some row) ∷ []) }
+    pub fn of(alloc: Global, probe: &Probe<'_>, row: &[u8]) -> Result<Self, AllocError>
+        ensures { IfOk result (λ shelf. shelf ≡ (probe.now, Some row.now) ∷ []) }
     {
-        let place = Words::of(alloc, probe)?;
-        let block = Block::of(alloc, place, row)?;
+        let entry = Entry::of(alloc, probe, row)?;
+        let block = Block::of(alloc, entry)?;
         let mut blocks = Vec::new(alloc);
         blocks.push(block)?;
         Ok(Shelf { blocks })
@@ -79,16 +80,6 @@ impl Shelf {
         }
     }
 
-    /// What stands at a place.
-    pub fn get(&self, from: usize, probe: &Probe<'_>) -> Option<&Option<Row>>
-        ensures { option_copied result ≡ place_at self.now probe.now }
-    {
-        match find(&self.blocks, from, probe) {
-            Ok(spot) => Some(&entry_of(&self.blocks, spot).1),
-            Err(_) => None,
-        }
-    }
-
     /// Puts what stands at a place, and answers where, and what stood there. The answer is the new row
     /// where there is no such place.
     pub fn swap(
@@ -117,16 +108,19 @@ impl Shelf {
         alloc: Global,
         from: usize,
         probe: &Probe<'_>,
-        row: Row,
+        row: &[u8],
     ) -> Result<(Spot, Option<Option<Row>>), AllocError>
         ensures found { IfOk result (λ before. place_at self.old probe.now ≡ before.1) }
         ensures set { OnOk result
             (IsChangedAt self.old self.new probe.now (place_at self.old probe.now)
-            (Some (Some row))) }
+            (Some (Some row.now))) }
         ensures err { OnErr result (self.new ≡ self.old) }
     {
         match find(&self.blocks, from, probe) {
-            Ok(spot) => Ok((spot, Some(replace_at(&mut self.blocks, spot, Some(row))))),
+            Ok(spot) => {
+                let row = Row::of(alloc, row)?;
+                Ok((spot, Some(replace_at(&mut self.blocks, spot, Some(row)))))
+            }
             Err(spot) => {
                 let spot = add(alloc, &mut self.blocks, spot, false, probe, row)?;
                 Ok((spot, None))
@@ -150,11 +144,11 @@ impl Shelf {
 
 impl Shelf {
     /// Where a place stands or would stand, and the row there, if there is one.
-    pub fn row_at(&self, from: usize, probe: &Probe<'_>) -> (Spot, Option<&Row>)
+    pub fn row_at(&self, from: usize, probe: &Probe<'_>) -> (Spot, Option<&[u8]>)
         ensures { option_copied result.1 ≡ row_of (place_at self.now probe.now) }
     {
         match find(&self.blocks, from, probe) {
-            Ok(spot) => (spot, entry_of(&self.blocks, spot).1.as_ref()),
+            Ok(spot) => (spot, entry_of(&self.blocks, spot).row()),
             Err(spot) => (spot, None),
         }
     }
@@ -221,13 +215,13 @@ impl Shelf {
 impl Shelf {
     /// Where a place stands or would stand, and the row there, if there is one.
     #[inline(always)]
-    pub fn row_beside(&self, spot: Spot, probe: &Probe<'_>) -> Option<(Spot, Option<&Row>)>
+    pub fn row_beside(&self, spot: Spot, probe: &Probe<'_>) -> Option<(Spot, Option<&[u8]>)>
         ensures row { IfSome result
             (λ found. option_copied found.1 ≡ row_of (place_at self.now probe.now)) }
         ensures belongs { IfSome result (λ found. BelongsAmong self.now probe.now false) }
     {
         match find_beside(&self.blocks, spot, false, probe) {
-            Some(Ok(at)) => Some((at, entry_of(&self.blocks, at).1.as_ref())),
+            Some(Ok(at)) => Some((at, entry_of(&self.blocks, at).row())),
             Some(Err(at)) => Some((at, None)),
             None => None,
         }
@@ -270,8 +264,8 @@ impl Shelf {
         }
     }
 
-    /// Puts a row at a place, which may be new, and answers where, and what stood there: at Some what
-    /// the place had, at None nothing. At Err it gives the row back, and None where memory is wanting.
+    /// Puts a row at a place, which may be new, and answers where, and what stood there: at Some what the place had, at None nothing. None
+    /// where it isn't sure that the place belongs on this shelf.
     #[inline(always)]
     pub fn insert_beside(
         &mut self,
@@ -279,25 +273,28 @@ impl Shelf {
         spot: Spot,
         is_last: bool,
         probe: &Probe<'_>,
-        row: Row,
-    ) -> Result<(Spot, Option<Option<Row>>), Option<Row>>
-        ensures found { IfOk result (λ before. place_at self.old probe.now ≡ before.1) }
-        ensures set { OnOk result
-            (IsChangedAt self.old self.new probe.now (place_at self.old probe.now)
-            (Some (Some row))) }
-        ensures belongs { OnOk result (BelongsAmong self.old probe.now is_last) }
-        ensures back { IfErr result (λ back. IfSome back (λ given. given ≡ row)) }
-        ensures same { OnErr result (self.new ≡ self.old) }
+        row: &[u8],
+    ) -> Result<Option<(Spot, Option<Option<Row>>)>, AllocError>
+        ensures found { IfOk result
+            (λ put. IfSome put (λ before. place_at self.old probe.now ≡ before.1)) }
+        ensures set { IfOk result
+            (λ put. OnSome put (IsChangedAt self.old self.new probe.now (place_at self.old probe.now)
+            (Some (Some row.now)))) }
+        ensures belongs { IfOk result (λ put. OnSome put (BelongsAmong self.old probe.now is_last)) }
+        ensures none { IfOk result (λ put. IfNone put (self.new ≡ self.old)) }
+        ensures err { OnErr result (self.new ≡ self.old) }
     {
         match find_beside(&self.blocks, spot, is_last, probe) {
-            Some(Ok(at)) => Ok((at, Some(replace_at(&mut self.blocks, at, Some(row))))),
-            Some(Err(at)) => {
-                match add(alloc, &mut self.blocks, at, is_behind(spot, at), probe, row) {
-                    Ok(at) => Ok((at, None)),
-                    Err(_) => Err(None),
-                }
+            Some(Ok(at)) => {
+                let row = Row::of(alloc, row)?;
+                Ok(Some((at, Some(replace_at(&mut self.blocks, at, Some(row))))))
             }
-            None => Err(Some(row)),
+            Some(Err(at)) => {
+                let rises = is_behind(spot, at);
+                let at = add(alloc, &mut self.blocks, at, rises, probe, row)?;
+                Ok(Some((at, None)))
+            }
+            None => Ok(None),
         }
     }
 }
@@ -313,18 +310,21 @@ impl Shelf {
         spot: Spot,
         is_last: bool,
         probe: &Probe<'_>,
-        row: Row,
+        row: &[u8],
     ) -> Option<(Spot, bool, Option<Row>)>
         ensures found { IfSome result
             (λ put. row_of (place_at self.old probe.now) ≡ put.2) }
         ensures set { OnSome result
             (IsChangedAt self.old self.new probe.now (place_at self.old probe.now)
-            (Some (Some row))) }
+            (Some (Some row.now))) }
         ensures belongs { OnSome result (BelongsAmong self.old probe.now is_last) }
         ensures same { IfNone result (self.new ≡ self.old) }
     {
         match find_right_behind(&self.blocks, spot, is_last, probe) {
-            Some(Ok(at)) => Some((at, false, replace_at(&mut self.blocks, at, Some(row)))),
+            Some(Ok(at)) => match Row::of(alloc, row) {
+                Ok(row) => Some((at, false, replace_at(&mut self.blocks, at, Some(row)))),
+                Err(_) => None,
+            },
             Some(Err(at)) => {
                 match add(alloc, &mut self.blocks, at, is_behind(spot, at), probe, row) {
                     Ok(at) => Some((at, true, None)),

@@ -8,8 +8,8 @@ ghost use Rattle.bdb_keep.specs.Spans.{AreRowsUnder, entries_under};
 ghost use Rattle.bdb_keep.specs.Shelves.{NoRowFrom, IsFirstRow};
 
 use crate::beside::{first_row_beside, insert_beside, row_beside, swap_beside};
-use crate::block::Entry;
 use crate::cursors::{Mark, Marks};
+use crate::entry::Entry;
 use crate::finding::Spot;
 use crate::reading::{copy_row, give};
 use crate::row::Row;
@@ -20,17 +20,6 @@ use std::alloc::{AllocError, Global};
 
 /// The most blocks of a shelf, unless there was no memory to cut it.
 const CAPACITY: usize = 128;
-
-/// What stands at a place.
-pub fn get<'a>(shelves: &'a [Shelf], near: Marks, probe: &Probe<'_>) -> Option<&'a Option<Row>>
-    requires { AreSorted shelves.now }
-    ensures { option_copied result ≡ place_at (joined shelves.now) probe.now }
-{
-    match shelf_for(shelves, near, probe) {
-        Some(at) => shelf_at(shelves, at).get(block_on(near, at), probe),
-        None => None,
-    }
-}
 
 /// Reads the row at a place, and answers where it stands or would stand, and whether there is one.
 pub fn read(
@@ -51,7 +40,7 @@ pub fn read(
 
 /// Where a place stands or would stand, and the row there, if there is one.
 #[inline(always)]
-fn row_at<'a>(shelves: &'a [Shelf], near: Marks, probe: &Probe<'_>) -> (Mark, Option<&'a Row>)
+pub fn row_at<'a>(shelves: &'a [Shelf], near: Marks, probe: &Probe<'_>) -> (Mark, Option<&'a [u8]>)
     requires { AreSorted shelves.now }
     ensures { option_copied result.1 ≡ row_of (place_at (joined shelves.now) probe.now) }
 {
@@ -62,7 +51,11 @@ fn row_at<'a>(shelves: &'a [Shelf], near: Marks, probe: &Probe<'_>) -> (Mark, Op
 }
 
 /// The same by the shelf where the place belongs.
-fn row_searched<'a>(shelves: &'a [Shelf], near: Marks, probe: &Probe<'_>) -> (Mark, Option<&'a Row>)
+fn row_searched<'a>(
+    shelves: &'a [Shelf],
+    near: Marks,
+    probe: &Probe<'_>,
+) -> (Mark, Option<&'a [u8]>)
     requires { AreSorted shelves.now }
     ensures { option_copied result.1 ≡ row_of (place_at (joined shelves.now) probe.now) }
 {
@@ -274,20 +267,20 @@ pub fn insert(
     shelves: &mut Vec<Shelf>,
     near: Marks,
     probe: &Probe<'_>,
-    row: Row,
+    row: &[u8],
 ) -> Result<(Mark, Option<Option<Row>>), AllocError>
     requires { AreSorted shelves.old.items }
     ensures sorted { AreSorted shelves.new.items }
     ensures found { IfOk result (λ before. place_at (joined shelves.old.items) probe.now
         ≡ before.1) }
     ensures set { OnOk result (IsSetAt (joined shelves.old.items) (joined shelves.new.items)
-        probe.now (Some (Some row))) }
+        probe.now (Some (Some row.now))) }
     ensures err { OnErr result (joined shelves.new.items ≡ joined shelves.old.items) }
 {
     match insert_beside(alloc, shelves, near.0, probe, row) {
-        Ok((mark, before)) => Ok((cut_full(shelves, mark), before)),
-        Err(Some(row)) => insert_searched(alloc, shelves, near, probe, row),
-        Err(None) => Err(AllocError),
+        Ok(Some((mark, before))) => Ok((cut_full(shelves, mark), before)),
+        Ok(None) => insert_searched(alloc, shelves, near, probe, row),
+        Err(error) => Err(error),
     }
 }
 
@@ -297,14 +290,14 @@ fn insert_searched(
     shelves: &mut Vec<Shelf>,
     near: Marks,
     probe: &Probe<'_>,
-    row: Row,
+    row: &[u8],
 ) -> Result<(Mark, Option<Option<Row>>), AllocError>
     requires { AreSorted shelves.old.items }
     ensures sorted { AreSorted shelves.new.items }
     ensures found { IfOk result (λ before. place_at (joined shelves.old.items) probe.now
         ≡ before.1) }
     ensures set { OnOk result (IsSetAt (joined shelves.old.items) (joined shelves.new.items)
-        probe.now (Some (Some row))) }
+        probe.now (Some (Some row.now))) }
     ensures err { OnErr result (joined shelves.new.items ≡ joined shelves.old.items) }
 {
     match shelf_for(shelves, near, probe) {
@@ -327,7 +320,7 @@ fn insert_on(
     at: usize,
     near: usize,
     probe: &Probe<'_>,
-    row: Row,
+    row: &[u8],
 ) -> Result<(Mark, Option<Option<Row>>), AllocError>
     requires sorted { AreSorted shelves.old.items }
     requires shelf { IsBlockFor shelves.old.items probe.now at }
@@ -335,7 +328,7 @@ fn insert_on(
     ensures found { IfOk result (λ before. place_at (joined shelves.old.items) probe.now
         ≡ before.1) }
     ensures set { OnOk result (IsSetAt (joined shelves.old.items) (joined shelves.new.items)
-        probe.now (Some (Some row))) }
+        probe.now (Some (Some row.now))) }
     ensures err { OnErr result (joined shelves.new.items ≡ joined shelves.old.items) }
 {
     match shelves[at].insert(alloc, near, probe, row) {

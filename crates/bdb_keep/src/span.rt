@@ -3,8 +3,7 @@ ghost use Rattle.std.specs.Prelude.{◌≡◌, ◌<◌, ◌∷◌, ◌++◌, [],
 ghost use Rattle.std.specs.List.{slice_range};
 ghost use Rattle.bdb_keep.specs.Spans.{IsWithin};
 
-use crate::row::Row;
-use crate::words::Words;
+use crate::entry::Entry;
 use std::alloc::{AllocError, Global};
 use std::marker::Model;
 
@@ -129,15 +128,15 @@ impl Span {
         Ok(())
     }
 
-    /// Puts the key of a place and its row behind the others.
+    /// Puts the key of an entry behind the others, with a row.
     #[inline(always)]
-    pub fn push_place(&mut self, place: &Words, row: &Row) -> Result<(), AllocError>
-        ensures { OnOk result (self.new ≡ self.old ++ (drop 1 place.now, row.now) ∷ []) }
+    pub fn push_entry(&mut self, entry: &Entry, row: &[u8]) -> Result<(), AllocError>
+        ensures { OnOk result (self.new ≡ self.old ++ (drop 1 entry.now.0, row.now) ∷ []) }
     {
         let start = self.bytes.len();
-        place.append_key(&mut self.bytes)?;
+        entry.append_key(&mut self.bytes)?;
         let middle = self.bytes.len();
-        self.bytes.extend_from_slice(row.as_slice())?;
+        self.bytes.extend_from_slice(row)?;
         let end = self.bytes.len();
         self.cuts.push(Cut { start, middle, end })?;
         Ok(())

@@ -9,7 +9,6 @@ ghost use Rattle.bdb_keep.specs.Tables.{IsLeastFrom, IsPlace, NoneFrom};
 use crate::changes::{Change, insert_row, put_row, roll_back, settle, take_row};
 use crate::many::{put_rows, take_rows};
 use crate::place::Place;
-use crate::row::Row;
 use crate::rows::Rows;
 use crate::span::Span;
 use crate::words::Probe;
@@ -158,8 +157,7 @@ impl Store {
             (self.new ≡ record { kept = self.old.kept; last = self.old.kept; changes = [] }) }
     {
         settle(&mut self.rows, &mut self.changes);
-        let copy = Row::of(self.alloc, row)?;
-        insert_row(&mut self.rows, &Probe::of(tab, key), copy)?;
+        insert_row(&mut self.rows, &Probe::of(tab, key), row)?;
         Ok(())
     }
 

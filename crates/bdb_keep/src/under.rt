@@ -7,7 +7,8 @@ ghost use Rattle.bdb_keep.specs.Tables.{bytes_cmp};
 ghost use Rattle.bdb_keep.specs.Entries.{IsAscending, NoneBelow};
 ghost use Rattle.bdb_keep.specs.Spans.{entries_under, row_under, HasPast};
 
-use crate::block::{Block, Entry};
+use crate::block::Block;
+use crate::entry::Entry;
 use crate::finding::{Spot, block_at};
 use crate::opening::Opening;
 use crate::span::Span;
@@ -68,13 +69,12 @@ fn take_entry(entry: &Entry, opening: &Opening<'_>, span: &mut Span) -> Result<b
     ensures rows { OnOk result (span.new ≡ span.old ++ row_under opening.now entry.now.0 entry.now.1) }
     ensures other { IfOk result (λ goes_on. goes_on ≡ false → is_prefix opening.now entry.now.0 ≡ false) }
 {
-    let (place, found) = entry;
-    if !place.begins_so(opening) {
+    if !entry.begins_so(opening) {
         return Ok(false);
     }
-    match found {
+    match entry.row() {
         Some(row) => {
-            span.push_place(place, row)?;
+            span.push_entry(entry, row)?;
             Ok(true)
         }
         None => Ok(true),

@@ -6,7 +6,7 @@ use Rattle.bdb_keep.proofs.changes.put_row.Goals as goal
 pub returns-clause-last : goal.returns-clause-last
 returns-clause-last c =
     undone-kept c.args.changes.now.items _ c.push_reserved.new.self.items _ _ c.of-probe.result c.args.rows.now c.insert_row.new.rows c.reserve.ensures.items c.push_reserved.ensures.items
-    (search rules) (Some c.in_ok-copy.copy) c.in_ok-before.ensures.before c.in_ok-before.ensures.rows
+    (search rules) (Some c.args.row.now) c.in_ok-before.ensures.before c.in_ok-before.ensures.rows
 
 pub returns-clause-places : goal.returns-clause-places
 returns-clause-places c =

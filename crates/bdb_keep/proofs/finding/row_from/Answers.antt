@@ -11,7 +11,7 @@ loop-spot-init c = (passed-below c.args.probe.now (before c.args.blocks.now c.ar
 pub loop-spot-preserved : goal.loop-spot-preserved
 loop-spot-preserved c =
     passed-more c.args.blocks.now c.args.probe.now c.loop-spot.bound.0 c.loop-spot.bound.1 c.in-Some.spot.0 c.in-Some.spot.1 (c.in-Some.spot.1 + 1) c.loop-spot.invariant.0 c.loop-spot.invariant.1 c.in-Some.ensures.there c.in-Some.ensures.before c.in-Some.ensures.after
-    (ap (λ e. is_some e.1) (sym c.entry_of.ensures) ∙ sym c.is_some.ensures ∙ c.if-is_some.false) (omega arith)
+    (ap (λ e. is_some e.1) (sym c.entry_of.ensures) ∙ sym c.has_row.ensures ∙ c.if-has_row.false) (omega arith)
 
 pub loop-spot-smaller : goal.loop-spot-smaller
 loop-spot-smaller c = rest-fewer c.args.blocks.now c.loop-spot.bound.0 c.loop-spot.bound.1 c.in-Some.spot.0 c.in-Some.spot.1 (c.in-Some.spot.1 + 1) c.in-Some.ensures.there c.in-Some.ensures.after (omega arith)

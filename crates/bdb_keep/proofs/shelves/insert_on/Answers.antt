@@ -13,12 +13,12 @@ returns-in-Ok c =
     let i = c.args.at in
     let old = c.index_mut.result.now in
     let read : old ≡ get_or bs i [] = block-read bs i old c.index_mut.ensures.value c.requires.shelf.block in
-    let change : IsChangedAt (get_or bs i []) c.insert.new.self q (place_at old q) (Some (Some c.args.row)) =
-    subst (λ es. IsChangedAt es c.insert.new.self q (place_at old q) (Some (Some c.args.row))) read c.in-Ok.ensures.set in
+    let change : IsChangedAt (get_or bs i []) c.insert.new.self q (place_at old q) (Some (Some c.args.row.now)) =
+    subst (λ es. IsChangedAt es c.insert.new.self q (place_at old q) (Some (Some c.args.row.now))) read c.in-Ok.ensures.set in
     record {
-      sorted = sorted-put bs c.insert.new.self q i (place_at old q) (Some c.args.row) c.requires.sorted c.requires.shelf change;
+      sorted = sorted-put bs c.insert.new.self q i (place_at old q) (Some c.args.row.now) c.requires.sorted c.requires.shelf change;
       found = shelf-place bs q i c.requires.sorted c.requires.shelf ∙ ap (λ es. place_at es q) (sym read) ∙ c.in-Ok.ensures.found;
-      set = shelf-set bs c.insert.new.self q i (place_at old q) (Some (Some c.args.row)) c.requires.sorted c.requires.shelf change;
+      set = shelf-set bs c.insert.new.self q i (place_at old q) (Some (Some c.args.row.now)) c.requires.sorted c.requires.shelf change;
       err = tt;
     }
 

@@ -1,5 +1,4 @@
-use Rattle.std.proofs.Common.{◌≡◌, [], get_or, sym, ap, ◌∙◌, subst, rules}
-use Rattle.std.specs.Option.{option_copied}
+use Rattle.std.proofs.Common.{◌≡◌, [], get_or, sym, ap, ◌∙◌, subst}
 use Rattle.bdb_keep.specs.Entries.{row_of, place_at}
 use Rattle.bdb_keep.specs.Blocks.{entry_at, StandsAt, IsGap}
 use Rattle.bdb_keep.proofs.BlocksLemmas.{place_at-stands, place_at-gap}
@@ -11,8 +10,7 @@ returns-in-Ok c =
     let stands : StandsAt c.self.inside.blocks.items q c.in-Ok.spot.0 c.in-Ok.spot.1 = subst (λ bs. StandsAt bs q c.in-Ok.spot.0 c.in-Ok.spot.1) c.deref.ensures.value c.in-Ok.ensures.there in
     let entry : c.entry_of.result.now ≡ entry_at (get_or c.self.inside.blocks.items c.in-Ok.spot.0 []) c.in-Ok.spot.1 =
     c.entry_of.ensures ∙ ap (λ bs. entry_at (get_or bs c.in-Ok.spot.0 []) c.in-Ok.spot.1) c.deref-in-Ok.ensures.value in
-    let read : option_copied c.as_ref.result ≡ c.entry_of.result.now.1 = search rules in
-    read ∙ ap (λ e. e.1) entry ∙ sym (ap row_of (place_at-stands c.self.inside.blocks.items q c.in-Ok.spot.0 c.in-Ok.spot.1 stands)) ∙ ap (λ es. row_of (place_at es q)) c.self.view_is
+    c.row.ensures ∙ ap (λ e. e.1) entry ∙ sym (ap row_of (place_at-stands c.self.inside.blocks.items q c.in-Ok.spot.0 c.in-Ok.spot.1 stands)) ∙ ap (λ es. row_of (place_at es q)) c.self.view_is
 
 pub returns-in-Err : goal.returns-in-Err
 returns-in-Err c =

@@ -1,6 +1,5 @@
-use Rattle.std.proofs.Common.{◌≡◌, [], get_or, sym, ap, ◌∙◌, subst, rules}
+use Rattle.std.proofs.Common.{◌≡◌, [], get_or, sym, ap, ◌∙◌, subst}
 use Rattle.std.specs.Prelude.{IfOk, IfErr}
-use Rattle.std.specs.Option.{option_copied}
 use Rattle.bdb_keep.specs.Entries.{row_of, place_at}
 use Rattle.bdb_keep.specs.Blocks.{entry_at, StandsAt, IsGap}
 use Rattle.bdb_keep.proofs.BlocksLemmas.{place_at-stands, place_at-gap}
@@ -13,8 +12,7 @@ returns-in-Some-Ok-clause-row c =
     let j = c.in-Some-Ok.at.1 in
     let stands : StandsAt c.self.inside.blocks.items q i j = subst (λ bs. StandsAt bs q i j) c.deref.ensures.value (subst (λ r. IfOk r (λ at. StandsAt c.deref.result.now q at.0 at.1)) c.in-Some-Ok.field-0-is c.in-Some-Ok.ensures.there) in
     let entry : c.entry_of.result.now ≡ entry_at (get_or c.self.inside.blocks.items i []) j = c.entry_of.ensures ∙ ap (λ bs. entry_at (get_or bs i []) j) c.deref-in-Some-Ok.ensures.value in
-    let read : option_copied c.as_ref.result ≡ c.entry_of.result.now.1 = search rules in
-    read ∙ ap (λ e. e.1) entry ∙ sym (ap row_of (place_at-stands c.self.inside.blocks.items q i j stands)) ∙ ap (λ es. row_of (place_at es q)) c.self.view_is
+    c.row.ensures ∙ ap (λ e. e.1) entry ∙ sym (ap row_of (place_at-stands c.self.inside.blocks.items q i j stands)) ∙ ap (λ es. row_of (place_at es q)) c.self.view_is
 
 pub returns-in-Some-Err-clause-row : goal.returns-in-Some-Err-clause-row
 returns-in-Some-Err-clause-row c =

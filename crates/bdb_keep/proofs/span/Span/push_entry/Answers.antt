@@ -2,7 +2,7 @@ use Rattle.std.proofs.Common.{◌∙◌, ◌∷◌, ◌++◌, [], drop, sym, ap,
 use Rattle.std.specs.List.{AllByRecursion}
 use Rattle.bdb_keep.specs.Spans.{Listed, listed, IsWithin}
 use Rattle.bdb_keep.proofs.SpanLemmas.{front, within-kept, listed-more, within-all}
-use Rattle.bdb_keep.proofs.span.Span.push_place.Goals as goal
+use Rattle.bdb_keep.proofs.span.Span.push_entry.Goals as goal
 
 pub invariant_of-self : goal.invariant_of-self
 invariant_of-self c = within-kept c.self.inside.bytes.items c.append_key.new.bytes.items c.self.inside.cuts.items c.append_key.ensures.front c.self.invariant
@@ -19,7 +19,7 @@ invariant_of-self-in_err-push c =
     let one = c.in_ok-append_key.ensures.ok in
     let two = c.in_ok-extend_from_slice.ensures.items in
     subst (AllByRecursion (IsWithin (length new))) (sym c.in_err-push.ensures.items)
-    (within-kept old new c.self.inside.cuts.items (front old (drop 1 c.args.place.now) c.as_slice.result.now c.append_key.new.bytes.items new c.len-start.result c.len-middle.result c.len-end.result one two (search rules) (search rules) (search rules)) c.self.invariant)
+    (within-kept old new c.self.inside.cuts.items (front old (drop 1 c.args.entry.now.0) c.args.row.now c.append_key.new.bytes.items new c.len-start.result c.len-middle.result c.len-end.result one two (search rules) (search rules) (search rules)) c.self.invariant)
 
 pub invariant_of-self-2 : goal.invariant_of-self-2
 invariant_of-self-2 c =
@@ -28,15 +28,15 @@ invariant_of-self-2 c =
     let one = c.in_ok-append_key.ensures.ok in
     let two = c.in_ok-extend_from_slice.ensures.items in
     subst (AllByRecursion (IsWithin (length new))) (sym c.in_ok-push.ensures.items)
-    (within-all old (drop 1 c.args.place.now) c.as_slice.result.now c.append_key.new.bytes.items new c.len-start.result c.len-middle.result c.len-end.result one two (search rules) (search rules) (search rules) c.self.inside.cuts.items c.self.invariant)
+    (within-all old (drop 1 c.args.entry.now.0) c.args.row.now c.append_key.new.bytes.items new c.len-start.result c.len-middle.result c.len-end.result one two (search rules) (search rules) (search rules) c.self.inside.cuts.items c.self.invariant)
 
 pub returns : goal.returns
 returns c =
     let old = c.self.inside.bytes.items in
     let new = c.extend_from_slice.new.self.items in
-    let place = c.args.place.now in
+    let place = c.args.entry.now.0 in
     let one = c.in_ok-append_key.ensures.ok in
     let two = c.in_ok-extend_from_slice.ensures.items in
     ap (listed new) c.in_ok-push.ensures.items
-    ∙ listed-more old (drop 1 place) c.as_slice.result.now c.append_key.new.bytes.items new c.len-start.result c.len-middle.result c.len-end.result one two (search rules) (search rules) (search rules) c.self.inside.cuts.items c.self.invariant
-    ∙ ap (λ (l : Listed). l ++ (drop 1 place, c.as_slice.result.now) ∷ []) c.self.view_is ∙ ap (λ r. c.args.self.now ++ (drop 1 place, r) ∷ []) c.as_slice.ensures
+    ∙ listed-more old (drop 1 place) c.args.row.now c.append_key.new.bytes.items new c.len-start.result c.len-middle.result c.len-end.result one two (search rules) (search rules) (search rules) c.self.inside.cuts.items c.self.invariant
+    ∙ ap (λ (l : Listed). l ++ (drop 1 place, c.args.row.now) ∷ []) c.self.view_is
