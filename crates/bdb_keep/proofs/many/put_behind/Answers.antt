@@ -8,7 +8,7 @@ use Rattle.bdb_keep.proofs.many.put_behind.Goals as goal
 use Rattle.bdb_keep.proofs.many.put_behind.Goals.{After-push_reserved}
 
 set : (c : After-push_reserved) → IsSetAt c.args.rows.now c.put_behind.new.self c.of-probe.result (Some (Some c.args.row.now))
-set c = subst (λ r. IsSetAt c.args.rows.now c.put_behind.new.self c.of-probe.result (Some (Some r))) c.in_ok-copy.ensures c.in-Some.ensures.set
+set c = c.in-Some.ensures.set
 
 pub returns-in-Some-clause-rows : goal.returns-in-Some-clause-rows
 returns-in-Some-clause-rows c _ =

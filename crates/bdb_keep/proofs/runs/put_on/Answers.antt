@@ -19,12 +19,12 @@ returns-in-Some c =
     let shelf : IsBlockFor bs q i =
     shelf-belongs bs q i last c.requires within (subst (λ es. BelongsAmong es q last) read c.in-Some.ensures.belongs)
     (subst (λ ys. last ≡ true → length ys ≤ suc i) c.deref.ensures.value c.is_last_shelf-is_last.ensures) in
-    let change : IsChangedAt (get_or bs i []) c.put_behind.new.self q (place_at old q) (Some (Some c.args.row)) =
-    subst (λ es. IsChangedAt es c.put_behind.new.self q (place_at old q) (Some (Some c.args.row))) read c.in-Some.ensures.set in
+    let change : IsChangedAt (get_or bs i []) c.put_behind.new.self q (place_at old q) (Some (Some c.args.row.now)) =
+    subst (λ es. IsChangedAt es c.put_behind.new.self q (place_at old q) (Some (Some c.args.row.now))) read c.in-Some.ensures.set in
     record {
-      sorted = sorted-put bs c.put_behind.new.self q i (place_at old q) (Some c.args.row) c.requires shelf change;
+      sorted = sorted-put bs c.put_behind.new.self q i (place_at old q) (Some c.args.row.now) c.requires shelf change;
       found = ap row_of (shelf-place bs q i c.requires shelf ∙ ap (λ es. place_at es q) (sym read)) ∙ c.in-Some.ensures.found;
-      set = shelf-set bs c.put_behind.new.self q i (place_at old q) (Some (Some c.args.row)) c.requires shelf change;
+      set = shelf-set bs c.put_behind.new.self q i (place_at old q) (Some (Some c.args.row.now)) c.requires shelf change;
       same = tt;
     }
 

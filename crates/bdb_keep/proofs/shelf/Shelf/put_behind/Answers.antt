@@ -6,24 +6,25 @@ use Rattle.bdb_keep.specs.Shelves.{IsChangedAt}
 use Rattle.bdb_keep.proofs.BlocksLemmas.{place_at-stands, place_at-gap}
 use Rattle.bdb_keep.proofs.ShelvesLemmas.{changed-replaced, changed-added}
 use Rattle.bdb_keep.proofs.shelf.Shelf.put_behind.Goals as goal
-use Rattle.bdb_keep.proofs.shelf.Shelf.put_behind.Goals.{in-Ok, in-Err}
+use Rattle.bdb_keep.proofs.shelf.Shelf.put_behind.Goals.{in-Ok-add, in-Err-add}
 
-pub returns-in-Some-Ok-clause-found : goal.returns-in-Some-Ok-clause-found
-returns-in-Some-Ok-clause-found c =
+pub returns-in-Ok-clause-found : goal.returns-in-Ok-clause-found
+returns-in-Ok-clause-found c =
     let q = c.args.probe.now in
     let i = c.in-Some-Ok.at.0 in
     let j = c.in-Some-Ok.at.1 in
     let stands : StandsAt c.self.inside.blocks.items q i j = subst (λ bs. StandsAt bs q i j) c.deref.ensures.value (subst (λ r. IfOk r (λ at. StandsAt c.deref.result.now q at.0 at.1)) c.in-Some-Ok.field-0-is c.in-Some-Ok.ensures.there) in
     ap row_of (ap (λ es. place_at es q) (sym c.self.view_is) ∙ place_at-stands c.self.inside.blocks.items q i j stands) ∙ sym c.replace_at.ensures.before
 
-pub returns-in-Some-Ok-clause-set : goal.returns-in-Some-Ok-clause-set
-returns-in-Some-Ok-clause-set c =
+pub returns-in-Ok-clause-set : goal.returns-in-Ok-clause-set
+returns-in-Ok-clause-set c =
     let q = c.args.probe.now in
     let i = c.in-Some-Ok.at.0 in
     let j = c.in-Some-Ok.at.1 in
     let stands : StandsAt c.self.inside.blocks.items q i j = subst (λ bs. StandsAt bs q i j) c.deref.ensures.value (subst (λ r. IfOk r (λ at. StandsAt c.deref.result.now q at.0 at.1)) c.in-Some-Ok.field-0-is c.in-Some-Ok.ensures.there) in
-    subst (λ es. IsChangedAt es (joined c.replace_at.new.blocks.items) q (place_at es q) (Some (Some c.args.row))) c.self.view_is
-    (changed-replaced c.self.inside.blocks.items (joined c.replace_at.new.blocks.items) q i j (Some c.args.row) c.self.invariant stands c.replace_at.ensures.entries)
+    subst (λ r. IsChangedAt c.args.self.now (joined c.replace_at.new.blocks.items) q (place_at c.args.self.now q) (Some (Some r))) c.in-Ok.ensures
+    (subst (λ es. IsChangedAt es (joined c.replace_at.new.blocks.items) q (place_at es q) (Some (Some c.in-Ok.row))) c.self.view_is
+    (changed-replaced c.self.inside.blocks.items (joined c.replace_at.new.blocks.items) q i j (Some c.in-Ok.row) c.self.invariant stands c.replace_at.ensures.entries))
 
 pub returns-after-add-clause-found : goal.returns-after-add-clause-found
 returns-after-add-clause-found c =
@@ -32,10 +33,10 @@ returns-after-add-clause-found c =
     let j = c.in-Some-Err.at.1 in
     let gap : IsGap c.self.inside.blocks.items q i j = subst (λ bs. IsGap bs q i j) c.deref.ensures.value (subst (λ r. IfErr r (λ at. IsGap c.deref.result.now q at.0 at.1)) c.in-Some-Err.field-0-is c.in-Some-Err.ensures.gap) in
     elim c.match-add.branch [
-      | in-Ok w ↦
+      | in-Ok-add w ↦
           subst (λ r. IfSome r (λ put. row_of (place_at c.args.self.now q) ≡ put.2)) (sym w.result-is)
           (ap row_of (ap (λ es. place_at es q) (sym c.self.view_is) ∙ place_at-gap c.self.inside.blocks.items q i j gap))
-      | in-Err w ↦ subst (λ r. IfSome r (λ put. row_of (place_at c.args.self.now q) ≡ put.2)) (sym w.result-is) tt
+      | in-Err-add w ↦ subst (λ r. IfSome r (λ put. row_of (place_at c.args.self.now q) ≡ put.2)) (sym w.result-is) tt
     ]
 
 pub returns-after-add-clause-set : goal.returns-after-add-clause-set
@@ -45,9 +46,9 @@ returns-after-add-clause-set c =
     let j = c.in-Some-Err.at.1 in
     let gap : IsGap c.self.inside.blocks.items q i j = subst (λ bs. IsGap bs q i j) c.deref.ensures.value (subst (λ r. IfErr r (λ at. IsGap c.deref.result.now q at.0 at.1)) c.in-Some-Err.field-0-is c.in-Some-Err.ensures.gap) in
     elim c.match-add.branch [
-      | in-Ok w ↦
-          subst (λ r. OnSome r (IsChangedAt c.args.self.now (joined c.add.new.blocks.items) q (place_at c.args.self.now q) (Some (Some c.args.row)))) (sym w.result-is)
-          (subst (λ es. IsChangedAt es (joined c.add.new.blocks.items) q (place_at es q) (Some (Some c.args.row))) c.self.view_is
-          (changed-added c.self.inside.blocks.items (joined c.add.new.blocks.items) q (Some c.args.row) i j gap w.in-Ok.ensures.ok))
-      | in-Err w ↦ subst (λ r. OnSome r (IsChangedAt c.args.self.now (joined c.add.new.blocks.items) q (place_at c.args.self.now q) (Some (Some c.args.row)))) (sym w.result-is) tt
+      | in-Ok-add w ↦
+          subst (λ r. OnSome r (IsChangedAt c.args.self.now (joined c.add.new.blocks.items) q (place_at c.args.self.now q) (Some (Some c.args.row.now)))) (sym w.result-is)
+          (subst (λ es. IsChangedAt es (joined c.add.new.blocks.items) q (place_at es q) (Some (Some c.args.row.now))) c.self.view_is
+          (changed-added c.self.inside.blocks.items (joined c.add.new.blocks.items) q (Some c.args.row.now) i j gap w.in-Ok-add.ensures.ok))
+      | in-Err-add w ↦ subst (λ r. OnSome r (IsChangedAt c.args.self.now (joined c.add.new.blocks.items) q (place_at c.args.self.now q) (Some (Some c.args.row.now)))) (sym w.result-is) tt
     ]
