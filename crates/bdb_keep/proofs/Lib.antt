@@ -4,6 +4,7 @@ pub mod EntriesLemmas
 pub mod FirstLemmas
 pub mod Gets
 pub mod HeadsLemmas
+pub mod ManyLemmas
 pub mod Numbers
 pub mod OpeningLemmas
 pub mod RowsLemmas

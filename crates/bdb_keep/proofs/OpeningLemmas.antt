@@ -1,9 +1,8 @@
 -- Lemmas on the greatest head of the places that begin with some bytes.
-use Rattle.std.proofs.Common.{◌≡◌, ℕ, zero, suc, ◌<◌, ◌≤◌, ◌^◌, ◌/◌, Bool, true, false, List, [], ◌∷◌, ◌++◌, Option, Some, None, length, take, drop, Ordering, Less, Equal, Greater, refl, sym, ap, ◌∙◌, subst, arith, lit<, drop-drop, append-nil, inl, inr}
+use Rattle.std.proofs.Common.{◌≡◌, ℕ, zero, suc, ◌<◌, ◌≤◌, ◌^◌, ◌/◌, Bool, true, false, List, [], ◌∷◌, ◌++◌, length, take, drop, Ordering, Less, Equal, Greater, refl, sym, ap, ◌∙◌, subst, arith, lit<, drop-drop, append-nil, inl, inr}
 use Rattle.std.specs.Prelude.{nat_eq, ◌&&◌, IsTrue}
 use Rattle.std.specs.Ordering.{nat_cmp, ordering_then, ordering_reverse, is_le, is_lt}
 use Rattle.std.specs.List.{AllByRecursion}
-use Rattle.std.specs.Option.{option_map}
 use Rattle.std.specs.Int.{byte_at, bytes_high_first, to_be_bytes, w64}
 use Rattle.std.specs.FinMap.{nat_cmp-IsAntisymmetric}
 use Rattle.std.proofs.lemmas.Nat.{mod_below}
@@ -13,7 +12,7 @@ use mathlib.Core.Bool.{true≢false}
 use Rattle.bdb_base.specs.Segments.{is_prefix}
 use Rattle.bdb_keep.specs.Tables.{bytes_cmp}
 use Rattle.bdb_keep.specs.Heads.{padded, bytes_of, key_of, IsHeadOf, IsHeadOfPlace, numbers_cmp, heads_cmp}
-use Rattle.bdb_keep.specs.Openings.{filled, IsLastHead, goes_on}
+use Rattle.bdb_keep.specs.Openings.{filled, IsLastHead}
 use Rattle.bdb_keep.specs.declared.head.Head.{Head}
 use Rattle.bdb_keep.proofs.Numbers.{less, equal}
 use Rattle.bdb_keep.proofs.HeadsLemmas.{four, plus}

@@ -1,4 +1,4 @@
--- Rows that are read at once: those of a table whose keys begin with some bytes.
+-- Rows that are read or written at once: those of a table whose keys begin with some bytes, and those of a list.
 use Rattle.std.specs.Prelude.{◌≡◌, ℕ, ◌≤◌, ◌⊎◌, true, false, cond, List, [], ◌∷◌, ◌++◌, Option, Some, None, IsTrue, drop}
 use Rattle.std.specs.List.{AllByRecursion, slice_range}
 use Rattle.std.specs.declared.cmp.Ordering.{Ordering}
@@ -54,3 +54,13 @@ entries_under p (e ∷ es) = row_under p e.0 e.1 ++ entries_under p es
 abbrev pub HasPast : List ℕ → Entries → Type 0
 HasPast p [] = ⊥
 HasPast p (e ∷ es) = (IsTrue (is_le (bytes_cmp p e.0)) × (is_prefix p e.0 ≡ false)) ⊎ HasPast p es
+
+-- a table with these rows put, one after the other
+abbrev pub with_rows : ℕ → Tables → Listed → Tables
+with_rows tab t [] = t
+with_rows tab t (r ∷ rows) = with_rows tab (map.insert t (tab ∷ r.0) r.1) rows
+
+-- a table without the rows at these keys
+abbrev pub without_rows : ℕ → Tables → Listed → Tables
+without_rows tab t [] = t
+without_rows tab t (r ∷ rows) = without_rows tab (map.remove t (tab ∷ r.0)) rows

@@ -119,7 +119,7 @@ pub fn insert_beside(
 
 /// Whether there is no shelf behind this one.
 #[inline(always)]
-fn is_last_shelf(shelves: &[Shelf], at: usize) -> bool
+pub fn is_last_shelf(shelves: &[Shelf], at: usize) -> bool
     requires { at < length shelves.now }
     ensures { result ≡ true → length shelves.now ≤ suc at }
 {

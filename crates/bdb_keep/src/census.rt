@@ -48,6 +48,16 @@ impl Census {
         }
     }
 
+    /// Counts that a row stands at a place that is new, or had a row, or was empty.
+    #[inline(always)]
+    pub fn put(&mut self, is_new: bool, had_row: bool) {
+        if is_new {
+            self.places = self.places.saturating_add(1);
+        } else if !had_row {
+            self.empty = self.empty.saturating_sub(1);
+        }
+    }
+
     /// Counts that the empty places were taken away.
     pub fn swept(&mut self) {
         self.places = self.places.saturating_sub(self.empty);

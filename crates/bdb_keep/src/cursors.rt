@@ -62,6 +62,12 @@ impl Cursors {
         )
     }
 
+    /// Where the table of a place was written last.
+    #[inline(always)]
+    pub fn last_written(&self, probe: &Probe<'_>) -> Mark {
+        self.written[usize::from(probe.tab() % 16)]
+    }
+
     /// The marks for a write. Where the last one was in the block that was read last, so may be this one.
     #[inline(always)]
     pub fn to_write(&self, probe: &Probe<'_>) -> Marks {

@@ -126,7 +126,7 @@ fn find_before(
 
 /// The same where the one at the spot is below it.
 #[inline(always)]
-fn find_behind(
+pub fn find_behind(
     blocks: &[Block],
     spot: Spot,
     is_last: bool,
@@ -313,7 +313,7 @@ pub fn entry_of(blocks: &[Block], spot: Spot) -> &Entry
 
 /// Where the first entry from this spot on stands: here, or at the start of the next block.
 #[inline(always)]
-fn first_at(blocks: &[Block], spot: Spot) -> Option<Spot>
+pub fn first_at(blocks: &[Block], spot: Spot) -> Option<Spot>
     requires { HaveEntries blocks.now }
     ensures there { IfSome result (λ at. IsThere blocks.now at.0 at.1) }
     ensures before { IfSome result

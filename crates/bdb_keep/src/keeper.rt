@@ -5,7 +5,7 @@ ghost use Rattle.bdb_base.specs.Causes.{RoseBy};
 ghost use Rattle.bdb_keep.specs.Calls.{IsBegin, IsRead, IsWrite, IsCommit, IsUndo};
 ghost use Rattle.bdb_keep.specs.Tables.{IsLeastFrom, LieInTables, NoneFrom};
 ghost use Rattle.bdb_keep.specs.Seen.{Seen};
-ghost use Rattle.bdb_keep.specs.Spans.{AreRowsUnder};
+ghost use Rattle.bdb_keep.specs.Spans.{AreRowsUnder, with_rows, without_rows};
 
 use crate::span::Span;
 use thiserror::Error;
@@ -89,6 +89,24 @@ pub trait Keeper {
         ensures kept { OnOk result ((seen self.new).kept ≡ map.remove (seen self.old).kept
             (tab ∷ key.now)) }
         ensures writes { RoseBy 1 (seen self.old).writes (seen self.new).writes }
+        ensures write { IsWrite (seen self.old) (seen self.new) result KeepError.Fault };
+
+    /// Puts the rows of a span at their keys, one after the other. It counts as so many writes.
+    fn put_all(&mut self, tab: u8, span: &Span) -> Result<(), KeepError>
+        requires table { (1 ≤ tab) × (tab ≤ 15) }
+        requires running { (seen self.old).running ≡ true }
+        ensures kept { OnOk result ((seen self.new).kept
+            ≡ with_rows tab (seen self.old).kept span.now) }
+        ensures writes { OnOk result (RoseBy (length span.now) (seen self.old).writes (seen self.new).writes) }
+        ensures write { IsWrite (seen self.old) (seen self.new) result KeepError.Fault };
+
+    /// Takes the rows at the keys of a span away, one after the other, where they are there. It counts as so many writes.
+    fn remove_all(&mut self, tab: u8, span: &Span) -> Result<(), KeepError>
+        requires table { (1 ≤ tab) × (tab ≤ 15) }
+        requires running { (seen self.old).running ≡ true }
+        ensures kept { OnOk result ((seen self.new).kept
+            ≡ without_rows tab (seen self.old).kept span.now) }
+        ensures writes { OnOk result (RoseBy (length span.now) (seen self.old).writes (seen self.new).writes) }
         ensures write { IsWrite (seen self.old) (seen self.new) result KeepError.Fault };
 
     /// Makes the rows those last committed, and ends the transaction.

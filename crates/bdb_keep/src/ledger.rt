@@ -4,7 +4,7 @@ ghost use Rattle.std.specs.FinMap as map;
 ghost use Rattle.bdb_base.specs.Causes.{Rose, RoseBy};
 ghost use Rattle.bdb_keep.specs.Calls.{IsRead, IsWrite, IsUndo};
 ghost use Rattle.bdb_keep.specs.Seen.{NeverFall, IsAtRest, IsDropped};
-ghost use Rattle.bdb_keep.specs.Spans.{AreRowsUnder};
+ghost use Rattle.bdb_keep.specs.Spans.{AreRowsUnder, with_rows, without_rows};
 ghost use Rattle.bdb_keep.specs.Tables.{IsLeastFrom, LieInTables, NoneFrom};
 ghost use Rattle.bdb_keep.specs.Told.{HasNoFault};
 
@@ -197,6 +197,48 @@ impl Ledger {
         }
     }
 
+    /// Puts the rows of a span at their keys, one after the other. It counts as so many writes.
+    pub fn put_all(&mut self, tab: u8, span: &Span) -> Result<(), KeepError>
+        requires table { (1 ≤ tab) × (tab ≤ 15) }
+        requires running { self.old.seen.running ≡ true }
+        ensures kept { OnOk result
+            (self.new.seen.kept ≡ with_rows tab self.old.seen.kept span.now) }
+        ensures writes { OnOk result (RoseBy (length span.now) self.old.seen.writes self.new.seen.writes) }
+        ensures write { IsWrite self.old.seen self.new.seen result KeepError.Fault }
+        ensures calm { HasNoFault self.old.seen self.new.seen result }
+    {
+        self.writes = writes_after(self.writes, span.len());
+        match self.store.put_all(tab, span) {
+            Ok(()) => Ok(()),
+            Err(_) => {
+                self.store.undo();
+                self.running = false;
+                Err(KeepError::Memory)
+            }
+        }
+    }
+
+    /// Takes the rows at the keys of a span away, one after the other, where they are there. It counts as so many writes.
+    pub fn remove_all(&mut self, tab: u8, span: &Span) -> Result<(), KeepError>
+        requires table { (1 ≤ tab) × (tab ≤ 15) }
+        requires running { self.old.seen.running ≡ true }
+        ensures kept { OnOk result
+            (self.new.seen.kept ≡ without_rows tab self.old.seen.kept span.now) }
+        ensures writes { OnOk result (RoseBy (length span.now) self.old.seen.writes self.new.seen.writes) }
+        ensures write { IsWrite self.old.seen self.new.seen result KeepError.Fault }
+        ensures calm { HasNoFault self.old.seen self.new.seen result }
+    {
+        self.writes = writes_after(self.writes, span.len());
+        match self.store.remove_all(tab, span) {
+            Ok(()) => Ok(()),
+            Err(_) => {
+                self.store.undo();
+                self.running = false;
+                Err(KeepError::Memory)
+            }
+        }
+    }
+
     /// Makes the rows those last committed, and ends the transaction. It takes no memory.
     pub fn commit(&mut self)
         ensures committed { self.new ≡ record {
@@ -317,4 +359,12 @@ fn reads_after(reads: u64, rows: usize) -> u64
     ensures later { reads ≤ result }
 {
     reads.saturating_add(rows as u64).saturating_add(1)
+}
+
+/// How many writes there are after so many more.
+fn writes_after(writes: u64, rows: usize) -> u64
+    ensures count { RoseBy rows writes result }
+    ensures later { writes ≤ result }
+{
+    writes.saturating_add(rows as u64)
 }

@@ -1,6 +1,7 @@
 //! Keepers of rows: tables of byte keys and byte rows with transactions, and the keepers in memory.
 #![tactic(auto)]
 
+mod behind;
 mod beside;
 mod block;
 mod blocks;
@@ -13,6 +14,7 @@ mod finding;
 mod head;
 mod keeper;
 mod ledger;
+mod many;
 mod mem;
 mod opening;
 mod place;
@@ -20,6 +22,7 @@ mod quiet;
 mod reading;
 mod row;
 mod rows;
+mod runs;
 mod shelf;
 mod shelves;
 mod span;

@@ -138,6 +138,20 @@ impl Keeper for QuietKeeper {
         }
     }
 
+    fn put_all(&mut self, tab: u8, span: &Span) -> Result<(), KeepError> {
+        match self.ledger.put_all(tab, span) {
+            Ok(()) => Ok(()),
+            Err(error) => Err(error),
+        }
+    }
+
+    fn remove_all(&mut self, tab: u8, span: &Span) -> Result<(), KeepError> {
+        match self.ledger.remove_all(tab, span) {
+            Ok(()) => Ok(()),
+            Err(error) => Err(error),
+        }
+    }
+
     /// It is never refused.
     fn commit(&mut self) -> Result<(), KeepError>
         requires { (seen_of self.old).running ≡ true }

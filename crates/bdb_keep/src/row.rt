@@ -40,6 +40,17 @@ impl Row {
         Ok(Row { bytes })
     }
 
+    /// The same; None where memory is wanting.
+    #[inline(always)]
+    pub fn some_of(alloc: Global, bytes: &[u8]) -> Option<Self>
+        ensures { IfSome result (λ row. row ≡ bytes.now) }
+    {
+        match Row::of(alloc, bytes) {
+            Ok(row) => Some(row),
+            Err(_) => None,
+        }
+    }
+
     /// A row of bytes where they lie.
     #[inline(always)]
     pub fn from_bytes(bytes: Bytes) -> Self

@@ -1,8 +1,8 @@
 // The rows by place, on sorted shelves, where a removed row leaves an empty place.
-ghost use Rattle.std.specs.Prelude.{◌≡◌, ◌∷◌, [], Some, None, IfOk, IfErr, ◌↔◌, OnOk, OnErr, IsTrue, MatchBool, false, if◌then◌else◌};
+ghost use Rattle.std.specs.Prelude.{◌≡◌, ◌∷◌, [], Some, None, IfOk, IfErr, IfSome, IfNone, ◌↔◌, OnSome, OnOk, OnErr, IsTrue, MatchBool, false, if◌then◌else◌};
 ghost use Rattle.std.specs.Option.{option_map, option_copied};
 ghost use Rattle.std.specs.FinMap as map;
-ghost use Rattle.bdb_keep.specs.Entries.{place_at, rows_of, IsSetAt, IsAmong, AreAmong};
+ghost use Rattle.bdb_keep.specs.Entries.{place_at, row_of, rows_of, IsSetAt, IsAmong, AreAmong};
 ghost use Rattle.bdb_keep.specs.Blocks.{joined};
 ghost use Rattle.bdb_keep.specs.Spans.{AreRowsUnder};
 ghost use Rattle.bdb_keep.specs.Tables.{IsLeastFrom, NoneFrom, LieWithin};
@@ -13,9 +13,9 @@ use crate::cursors::Cursors;
 use crate::entry::Entry;
 use crate::row::Row;
 use crate::shelf::Shelf;
-use crate::shelves;
 use crate::span::Span;
 use crate::words::Probe;
+use crate::{runs, shelves};
 use std::alloc::{AllocError, Global};
 use std::marker::Model;
 
@@ -91,6 +91,45 @@ impl Rows {
         self.cursors.remember_written(probe, mark);
         self.census.inserted(&before);
         Ok(before)
+    }
+
+    /// Puts a row at a place, and answers the row that stood there. None, and nothing changes, where the place doesn't come right behind
+    /// the one that was written last in its table, or memory is wanting.
+    #[inline(always)]
+    pub fn put_behind(&mut self, probe: &Probe<'_>, row: &[u8]) -> Option<Option<Row>>
+        ensures found { IfSome result
+            (λ before. row_of (place_at self.old probe.now) ≡ before) }
+        ensures set { OnSome result (IsSetAt self.old self.new probe.now (Some (Some row.now))) }
+        ensures same { IfNone result (self.new ≡ self.old) }
+    {
+        let last = self.cursors.last_written(probe);
+        match runs::put_behind(self.alloc, &mut self.shelves, last, probe, row) {
+            Some((mark, is_new, before)) => {
+                self.cursors.remember_written(probe, mark);
+                self.census.put(is_new, before.is_some());
+                Some(before)
+            }
+            None => None,
+        }
+    }
+
+    /// Empties a place, and answers the row that stood there. None, and nothing changes, where the place isn't the first one behind the
+    /// one that was written last in its table.
+    #[inline(always)]
+    pub fn empty_behind(&mut self, probe: &Probe<'_>) -> Option<Option<Row>>
+        ensures found { IfSome result (λ before. place_at self.old probe.now ≡ Some before) }
+        ensures set { OnSome result (IsSetAt self.old self.new probe.now (Some None)) }
+        ensures same { IfNone result (self.new ≡ self.old) }
+    {
+        let last = self.cursors.last_written(probe);
+        match runs::empty_behind(&mut self.shelves, last, probe) {
+            Some((mark, before)) => {
+                self.cursors.remember_written(probe, mark);
+                self.census.swapped(before.is_some(), false);
+                Some(before)
+            }
+            None => None,
+        }
     }
 
     /// Takes the empty places away where they are many.

@@ -1,11 +1,12 @@
 // A shelf of sorted blocks.
-ghost use Rattle.std.specs.Prelude.{◌≡◌, ◌∷◌, ◌++◌, [], Some, None, IfOk, IfErr, IfSome, IfNone, OnOk, OnErr, OnSome, not, false, if◌then◌else◌};
+ghost use Rattle.std.specs.Prelude.{◌≡◌, ◌∷◌, ◌++◌, [], Some, None, IfOk, IfErr, IfSome, IfNone, OnSome, OnOk, OnErr, not, false, if◌then◌else◌};
 ghost use Rattle.std.specs.Option.{option_copied};
 ghost use Rattle.bdb_keep.specs.Entries.{place_at, row_of};
 ghost use Rattle.bdb_keep.specs.Blocks.{joined, starts_within, without_empty, has_any, AreSorted, IsBound};
 ghost use Rattle.bdb_keep.specs.Spans.{entries_under, HasPast};
 ghost use Rattle.bdb_keep.specs.Shelves.{IsChangedAt, NoRowFrom, IsFirstRow, IsCutInTwo, BelongsAmong};
 
+use crate::behind::{find_right_behind, stands_behind};
 use crate::block::Block;
 use crate::blocks::{add, drop_empty_blocks, drop_empty_places, is_behind, replace_at, take_out};
 use crate::entry::Entry;
@@ -294,6 +295,59 @@ impl Shelf {
                 Ok(Some((at, None)))
             }
             None => Ok(None),
+        }
+    }
+}
+
+/// What is done right behind a spot, where rows are put or taken away in the order of their places.
+impl Shelf {
+    /// Puts a row at a place, and answers where, whether the place is new, and the row that stood there. None, and nothing changes, where
+    /// the place doesn't come right behind the spot, or memory is wanting.
+    #[inline(always)]
+    pub fn put_behind(
+        &mut self,
+        alloc: Global,
+        spot: Spot,
+        is_last: bool,
+        probe: &Probe<'_>,
+        row: &[u8],
+    ) -> Option<(Spot, bool, Option<Row>)>
+        ensures found { IfSome result
+            (λ put. row_of (place_at self.old probe.now) ≡ put.2) }
+        ensures set { OnSome result
+            (IsChangedAt self.old self.new probe.now (place_at self.old probe.now)
+            (Some (Some row.now))) }
+        ensures belongs { OnSome result (BelongsAmong self.old probe.now is_last) }
+        ensures same { IfNone result (self.new ≡ self.old) }
+    {
+        match find_right_behind(&self.blocks, spot, is_last, probe) {
+            Some(Ok(at)) => {
+                let copy = Row::some_of(alloc, row)?;
+                Some((at, false, replace_at(&mut self.blocks, at, Some(copy))))
+            }
+            Some(Err(at)) => {
+                match add(alloc, &mut self.blocks, at, is_behind(spot, at), probe, row) {
+                    Ok(at) => Some((at, true, None)),
+                    Err(_) => None,
+                }
+            }
+            None => None,
+        }
+    }
+
+    /// Empties a place, and answers where it stands, and the row that stood there. None, and nothing changes, where it isn't the first
+    /// one behind the spot.
+    #[inline(always)]
+    pub fn empty_behind(&mut self, spot: Spot, probe: &Probe<'_>) -> Option<(Spot, Option<Row>)>
+        ensures found { IfSome result (λ before. place_at self.old probe.now ≡ Some before.1) }
+        ensures set { OnSome result
+            (IsChangedAt self.old self.new probe.now (place_at self.old probe.now) (Some None)) }
+        ensures belongs { OnSome result (BelongsAmong self.old probe.now false) }
+        ensures same { IfNone result (self.new ≡ self.old) }
+    {
+        match stands_behind(&self.blocks, spot, probe) {
+            Some(at) => Some((at, replace_at(&mut self.blocks, at, None))),
+            None => None,
         }
     }
 }

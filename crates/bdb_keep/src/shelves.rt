@@ -380,8 +380,17 @@ pub fn drop_empty_shelves(shelves: &mut Vec<Shelf>)
     shelves.retain(|shelf| !shelf.is_empty());
 }
 
+/// Whether there is a shelf at an index, and it isn't full.
+#[inline(always)]
+pub fn has_room(shelves: &[Shelf], at: usize) -> bool {
+    match shelves.get(at) {
+        Some(shelf) => shelf.block_count() <= CAPACITY,
+        None => false,
+    }
+}
+
 /// Cuts a full shelf in two, and answers where a mark is then. Where memory is wanting the shelf stays whole.
-fn cut_full(shelves: &mut Vec<Shelf>, mark: Mark) -> Mark
+pub fn cut_full(shelves: &mut Vec<Shelf>, mark: Mark) -> Mark
     requires { AreSorted shelves.old.items }
     ensures sorted { AreSorted shelves.new.items }
     ensures same { joined shelves.new.items ≡ joined shelves.old.items }

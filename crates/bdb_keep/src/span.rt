@@ -92,12 +92,35 @@ impl Span {
         (cut.key(&self.bytes), cut.row(&self.bytes))
     }
 
+    /// Takes memory for as many rows of as many bytes more as another one has.
+    pub fn reserve_like(&mut self, other: &Span) -> Result<(), AllocError>
+        ensures { self.new ≡ self.old }
+    {
+        self.bytes.reserve(other.bytes.len())?;
+        self.cuts.reserve(other.cuts.len())?;
+        Ok(())
+    }
+
     /// Puts a row behind the others. Where memory is wanting, no clause says which rows there are.
     pub fn push(&mut self, key: &[u8], row: &[u8]) -> Result<(), AllocError>
         ensures { OnOk result (self.new ≡ self.old ++ (key.now, row.now) ∷ []) }
     {
         let start = self.bytes.len();
         self.bytes.extend_from_slice(key)?;
+        let middle = self.bytes.len();
+        self.bytes.extend_from_slice(row)?;
+        let end = self.bytes.len();
+        self.cuts.push(Cut { start, middle, end })?;
+        Ok(())
+    }
+
+    /// Puts a row behind the others whose key is given in two parts. Where memory is wanting, no clause says which rows there are.
+    pub fn push_joined(&mut self, front: &[u8], back: &[u8], row: &[u8]) -> Result<(), AllocError>
+        ensures { OnOk result (self.new ≡ self.old ++ (front.now ++ back.now, row.now) ∷ []) }
+    {
+        let start = self.bytes.len();
+        self.bytes.extend_from_slice(front)?;
+        self.bytes.extend_from_slice(back)?;
         let middle = self.bytes.len();
         self.bytes.extend_from_slice(row)?;
         let end = self.bytes.len();

@@ -3,10 +3,11 @@ ghost use Rattle.std.specs.Prelude.{◌≡◌, ◌≤◌, ◌++◌, ◌∷◌, �
 ghost use Rattle.std.specs.Option.{option_map};
 ghost use Rattle.std.specs.FinMap as map;
 ghost use Rattle.bdb_keep.specs.Held.{written};
-ghost use Rattle.bdb_keep.specs.Spans.{AreRowsUnder};
+ghost use Rattle.bdb_keep.specs.Spans.{AreRowsUnder, with_rows, without_rows};
 ghost use Rattle.bdb_keep.specs.Tables.{IsLeastFrom, IsPlace, NoneFrom};
 
 use crate::changes::{Change, insert_row, put_row, roll_back, settle, take_row};
+use crate::many::{put_rows, take_rows};
 use crate::place::Place;
 use crate::rows::Rows;
 use crate::span::Span;
@@ -113,6 +114,24 @@ impl Store {
     {
         let place = Place::of(self.alloc, tab, key)?;
         take_row(&mut self.rows, &mut self.changes, place)
+    }
+
+    /// Puts the rows of a span at their keys, one after the other. After a refusal some of them may be there.
+    pub fn put_all(&mut self, tab: u8, span: &Span) -> Result<(), AllocError>
+        requires table { (1 ≤ tab) × (tab ≤ 15) }
+        ensures kept { OnOk result (self.new.kept ≡ with_rows tab self.old.kept span.now) }
+        ensures last { self.new.last ≡ self.old.last }
+    {
+        put_rows(self.alloc, &mut self.rows, &mut self.changes, tab, span)
+    }
+
+    /// Takes the rows at the keys of a span away, one after the other. After a refusal some of them may be gone.
+    pub fn remove_all(&mut self, tab: u8, span: &Span) -> Result<(), AllocError>
+        requires table { (1 ≤ tab) × (tab ≤ 15) }
+        ensures kept { OnOk result (self.new.kept ≡ without_rows tab self.old.kept span.now) }
+        ensures last { self.new.last ≡ self.old.last }
+    {
+        take_rows(self.alloc, &mut self.rows, &mut self.changes, tab, span)
     }
 
     /// Settles the changes: the rows are now those last settled. It takes no memory.

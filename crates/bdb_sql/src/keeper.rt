@@ -3,7 +3,7 @@ ghost use Rattle.std.specs.Prelude.{◌≡◌, ◌+◌, ◌≤◌, length, [], �
 ghost use Rattle.std.specs.FinMap as map;
 ghost use Rattle.bdb_base.specs.Causes.{RoseBy};
 ghost use Rattle.bdb_keep.specs.Calls.{IsBegin, IsRead, IsWrite, IsCommit, IsUndo};
-ghost use Rattle.bdb_keep.specs.Spans.{AreRowsUnder};
+ghost use Rattle.bdb_keep.specs.Spans.{AreRowsUnder, with_rows, without_rows};
 ghost use Rattle.bdb_keep.specs.Tables.{IsLeastFrom, LieInTables, NoneFrom};
 ghost use Rattle.bdb_sql.specs.Filed.{works, Answers, Commits, Begins};
 ghost use Rattle.bdb_sql.specs.Kept.{IsBareOrKept};
@@ -267,6 +267,48 @@ impl<S: Alter> Keeper for SqlKeeper<S> {
         }
         match self.ledger.remove(tab, key) {
             Ok(found) => Ok(found),
+            Err(error) => Err(error),
+        }
+    }
+
+    fn put_all(&mut self, tab: u8, span: &Span) -> Result<(), KeepError>
+        requires table { (1 ≤ tab) × (tab ≤ 15) }
+        requires running { self.old.seen.running ≡ true }
+        ensures kept { OnOk result
+            (self.new.seen.kept ≡ with_rows tab self.old.seen.kept span.now) }
+        ensures writes { OnOk result (RoseBy (length span.now) self.old.seen.writes self.new.seen.writes) }
+        ensures write { IsWrite self.old.seen self.new.seen result KeepError.Fault }
+
+        ensures answers { Answers self.old self.new result }
+        ensures filed { MatchesFile S.Store self.old → MatchesFile S.Store self.new }
+    {
+        if let Some(error) = self.refusal {
+            self.ledger.refuse_write(error);
+            return Err(error);
+        }
+        match self.ledger.put_all(tab, span) {
+            Ok(()) => Ok(()),
+            Err(error) => Err(error),
+        }
+    }
+
+    fn remove_all(&mut self, tab: u8, span: &Span) -> Result<(), KeepError>
+        requires table { (1 ≤ tab) × (tab ≤ 15) }
+        requires running { self.old.seen.running ≡ true }
+        ensures kept { OnOk result
+            (self.new.seen.kept ≡ without_rows tab self.old.seen.kept span.now) }
+        ensures writes { OnOk result (RoseBy (length span.now) self.old.seen.writes self.new.seen.writes) }
+        ensures write { IsWrite self.old.seen self.new.seen result KeepError.Fault }
+
+        ensures answers { Answers self.old self.new result }
+        ensures filed { MatchesFile S.Store self.old → MatchesFile S.Store self.new }
+    {
+        if let Some(error) = self.refusal {
+            self.ledger.refuse_write(error);
+            return Err(error);
+        }
+        match self.ledger.remove_all(tab, span) {
+            Ok(()) => Ok(()),
             Err(error) => Err(error),
         }
     }

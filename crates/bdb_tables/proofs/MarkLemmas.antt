@@ -25,7 +25,7 @@ use Rattle.bdb_tables.specs.Writes.{IsChange, with_change, with_changes}
 use Rattle.bdb_tables.proofs.PartLemmas.{vals_form}
 use Rattle.bdb_tables.proofs.SpanLemmas.{Covers, covers_none, covers_more, covers_all, next_is_under}
 
-pub rest_from : (p q : List ℕ) → is_prefix p q ≡ true → (r : List ℕ) × (q ≡ p ++ r)
+rest_from : (p q : List ℕ) → is_prefix p q ≡ true → (r : List ℕ) × (q ≡ p ++ r)
 rest_from [] q e = (q, refl)
 rest_from (i ∷ p) [] e = absurd (false≢true e)
 rest_from (i ∷ p) (j ∷ q) e =

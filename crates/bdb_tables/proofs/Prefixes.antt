@@ -1,9 +1,9 @@
 -- Bytes that begin alike lie side by side in the order of bytes.
-use Rattle.std.proofs.Common.{◌≡◌, ℕ, true, false, List, [], ◌∷◌, refl, sym, ap, ◌∙◌, arith}
+use Rattle.std.proofs.Common.{◌≡◌, ℕ, true, List, [], ◌∷◌, refl, sym, ap, ◌∙◌, arith}
 use Rattle.std.specs.Prelude.{nat_eq}
 use Rattle.std.specs.declared.cmp.Ordering.{Ordering}
 use Rattle.std.specs.declared.cmp.Ordering.TheVariants.{Less, Equal, Greater}
-use Rattle.std.specs.Ordering.{is_le, ordering_reverse}
+use Rattle.std.specs.Ordering.{is_le}
 use Rattle.std.proofs.lemmas.Bool.{and_from}
 use Rattle.std.proofs.lemmas.Cmp.{nat_list_cmp_total, tied_itself}
 use Rattle.bdb_base.specs.Segments.{is_prefix}
@@ -32,18 +32,6 @@ le_trans a b c ab bc = by (bytes_cmp a b) refl ab
     by Less e h = ap is_le (lt_le_lt a b c e bc)
     by Equal e h = ap (λ x. is_le (bytes_cmp x c)) (same_bytes a b e) ∙ bc
     by Greater e h = absurd cc
-
--- what isn't from a place on lies below it
-pub lt_from_not_le : (a b : List ℕ) → is_le (bytes_cmp a b) ≡ false → bytes_cmp b a ≡ Less
-lt_from_not_le a b h = nat_list_cmp_total.antisymm b a ∙ by (bytes_cmp a b) h
-  where
-    by : (r : Ordering) → is_le r ≡ false → ordering_reverse r ≡ Less
-    by Less e = absurd cc
-    by Equal e = absurd cc
-    by Greater e = refl
-
-pub not_le_from_lt : (a b : List ℕ) → bytes_cmp b a ≡ Less → is_le (bytes_cmp a b) ≡ false
-not_le_from_lt a b h = ap is_le (nat_list_cmp_total.antisymm a b ∙ ap ordering_reverse h)
 
 -- a key lies below the least that is above it
 pub below_next : (k : List ℕ) → bytes_cmp k (next_key k) ≡ Less

@@ -145,6 +145,20 @@ impl Keeper for FailingKeeper {
         }
     }
 
+    fn put_all(&mut self, tab: u8, span: &Span) -> Result<(), KeepError> {
+        match self.inner.put_all(tab, span) {
+            Ok(()) => Ok(()),
+            Err(error) => Err(error),
+        }
+    }
+
+    fn remove_all(&mut self, tab: u8, span: &Span) -> Result<(), KeepError> {
+        match self.inner.remove_all(tab, span) {
+            Ok(()) => Ok(()),
+            Err(error) => Err(error),
+        }
+    }
+
     fn commit(&mut self) -> Result<(), KeepError> {
         match self.inner.commit() {
             Ok(()) => Ok(()),

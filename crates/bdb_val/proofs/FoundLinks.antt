@@ -1,5 +1,5 @@
 -- The links that lead to a world, found among all links.
-use Rattle.std.proofs.Common.{◌≡◌, ◌∙◌, ℕ, suc, ◌+◌, ◌<◌, ◌≤◌, Bool, true, false, List, [], ◌∷◌, ◌++◌, length, drop, filter, get_or, Option, Some, cond, inl, inr, map, append_assoc, refl, ap, sym, subst, arith}
+use Rattle.std.proofs.Common.{◌≡◌, ◌∙◌, ℕ, suc, ◌+◌, ◌-◌, ◌<◌, ◌≤◌, Bool, true, false, List, [], ◌∷◌, ◌++◌, length, drop, filter, get_or, Option, Some, cond, inl, inr, map, append_assoc, refl, ap, sym, subst, arith}
 use Prim.Native.Nat.{zero}
 use Rattle.std.specs.declared.cmp.Ordering.{Ordering}
 use Rattle.std.specs.List.{list_all, AllByRecursion}
@@ -83,6 +83,18 @@ lower_skipped wid (x ∷ xs) (suc i) h =
 -- where the first links are found that lead to no lower number
 pub first_skipped : (wid : ℕ) (xs : List Link) (i : ℕ) → IsPartitionPoint (λ y. ltb (led_to y) wid ≡ true) (λ y. ltb (led_to y) wid ≡ false) xs i → filter (leads_to wid) xs ≡ filter (leads_to wid) (drop i xs)
 first_skipped wid xs i point = lower_skipped wid xs i (λ j d below within. ltb-true (led_to (get_or xs j d)) wid (point.0 j d (omega arith) below))
+
+-- nor before a place behind a link that leads to a lower number
+pub behind_skipped : (wid : ℕ) (xs : List Link) (i : ℕ) (d : Link) → IsNonDecreasingBy led_to xs → 0 < i → i ≤ length xs → led_to (get_or xs (i - 1) d) < wid → filter (leads_to wid) xs ≡ filter (leads_to wid) (drop i xs)
+behind_skipped wid xs i d up some within below = lower_skipped wid xs i (λ j e before there.
+    let last : led_to (get_or xs j e) ≤ led_to (get_or xs (i - 1) e) = up j (i - 1) e (omega arith) (omega arith) in
+    let same : led_to (get_or xs (i - 1) e) ≡ led_to (get_or xs (i - 1) d) = ap led_to (one_link xs (i - 1) e d (omega arith)) in
+    omega (arith, last, same, below))
+  where
+    one_link : (ys : List Link) (k : ℕ) (a b : Link) → k < length ys → get_or ys k a ≡ get_or ys k b
+    one_link [] k a b lt = absurd (omega arith)
+    one_link (y ∷ ys) zero a b lt = refl
+    one_link (y ∷ ys) (suc k) a b lt = one_link ys k a b (omega arith)
 
 -- nor from one on that leads to a higher number
 none_from : (wid : ℕ) (x : Link) (xs : List Link) → IsNonDecreasingBy led_to (x ∷ xs) → wid < led_to x → filter (leads_to wid) (x ∷ xs) ≡ []

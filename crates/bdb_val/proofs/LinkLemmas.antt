@@ -1,20 +1,22 @@
 -- The links that are listed are those of the tables.
-use Rattle.std.proofs.Common.{◌≡◌, ◌∙◌, ℕ, Bool, true, false, List, [], ◌∷◌, ◌++◌, Option, Some, None, is_some, map, append_assoc, refl, ap, sym, subst}
+use Rattle.std.proofs.Common.{◌≡◌, ◌∙◌, ℕ, ◌+◌, ◌<◌, ◌≤◌, Bool, true, false, List, [], ◌∷◌, ◌++◌, length, take, get_or, Option, Some, None, is_some, map, append_assoc, refl, ap, sym, subst}
 use Rattle.std.specs.List.{AllByRecursion}
 use Rattle.std.specs.Option.{option_map}
 use Rattle.std.proofs.lemmas.Bool.{false≢true}
 use Rattle.std.proofs.lemmas.List.{append-nil, map-append}
+use Rattle.bdb_keep.specs.Spans.{Listed, AreRowsUnder}
 use Rattle.bdb_keep.specs.Tables.{Tables}
 use Rattle.bdb_key.specs.Bytes.{num_bytes}
-use Rattle.bdb_tables.specs.Codec.{HasAt, place}
+use Rattle.bdb_key.specs.Reading.{Reads}
+use Rattle.bdb_tables.specs.Codec.{HasAt, IsEntryOf, place}
 use Rattle.bdb_tables.specs.InUse.{IsPair, pair_bytes, link_codec, linked_codec}
 use Rattle.bdb_tables.specs.Names.{Names, link_of, leads_to}
-use Rattle.bdb_tables.specs.Spans.{AreUnder, IsUnder, HasNextUnder}
+use Rattle.bdb_tables.specs.Spans.{AreUnder, IsUnder, Spells}
 use Rattle.bdb_tables.specs.States.{row_where}
-use Rattle.bdb_tables.proofs.SpanLemmas.{Covers, covers_none, rows_more, rows_end}
+use Rattle.bdb_tables.proofs.RangeLemmas.{spelled_under, zip_more, zip_all}
 use Rattle.bdb_val.specs.Groups.{HasLinks}
 use Rattle.bdb_val.specs.Others.{SameBut}
-use Rattle.bdb_val.specs.Visits.{AreLinksTo, ArePushed, turned_round}
+use Rattle.bdb_val.specs.Visits.{AreLinksTo, ArePushed, PushesRead, turned_round}
 use Rattle.bdb_val.specs.Walks.{AreLinkedTo}
 use Rattle.bdb_val.proofs.OtherLemmas.{is_rows}
 use Rattle.bdb_val.proofs.WalkLemmas.{links_at, link_found, leads_tells}
@@ -58,37 +60,29 @@ links_are ns t u h same wid more l = subst (AllByRecursion (IsLink t)) (sym l.li
         (sym (h.linked.rows d.0 a.0.key) ∙ sym (same (place linked_codec d.0) refl) ∙ l.under.found (pair_bytes d.0) a.0.begins) b.0 in
         (one d.0 a.0.key (leads_tells (link_of ns d.0.1) d.0.0 k), go ds a.1 b.1)
 
--- ---- links that are read one by one
+-- ---- links that are read at once
 
--- the links whose keys are below `low` have come at the end of a list
-pub record HavePushed (t : Tables) (prefix low : List ℕ) (before after : List (ℕ × ℕ)) : Type 0 where
-  pub entries : List ((ℕ × ℕ) × Unit {0})
-  pub covers : Covers linked_codec t prefix low entries
-  pub list : after ≡ before ++ map turned_round entries
+pub read_none : (bytes : Listed) (before : List (ℕ × ℕ)) → PushesRead (take 0 bytes) before before
+read_none bytes before = record { entries = []; spelled = tt; list = sym (append-nil before) }
 
-pub pushed_none : (t : Tables) (prefix low : List ℕ) (before : List (ℕ × ℕ)) → low ≡ prefix → HavePushed t prefix low before before
-pushed_none t prefix low before e = record {
-  entries = [];
-  covers = subst (λ b. Covers linked_codec t prefix b []) (sym e) (covers_none linked_codec t prefix [] refl);
-  list = sym (append-nil before);
+pub read_more : (bytes : Listed) (i n : ℕ) (k r : List ℕ) (link : ℕ × ℕ) (before list after : List (ℕ × ℕ)) → i < length bytes → (k, r) ≡ get_or bytes i ([], []) → IsEntryOf linked_codec k r
+    → Reads linked_codec.IsKey linked_codec.key_bytes k link → PushesRead (take i bytes) before list → after ≡ list ++ (link.1, link.0) ∷ [] → n ≡ i + 1 → PushesRead (take n bytes) before after
+read_more bytes i n k r link before list after lt is fits reads h pushed next = record {
+  entries = h.entries ++ (link, tt) ∷ [];
+  spelled = zip_more (Spells linked_codec) bytes h.entries (h.entries ++ (link, tt) ∷ []) i n (k, r) (link, tt) lt is h.spelled (record { key = reads; row = fits.row_reads }) refl next;
+  list = pushed ∙ ap (λ (xs : List (ℕ × ℕ)). xs ++ (link.1, link.0) ∷ []) h.list ∙ append_assoc before (map turned_round h.entries) ((link.1, link.0) ∷ [])
+      ∙ ap (λ (xs : List (ℕ × ℕ)). before ++ xs) (sym (map-append turned_round h.entries ((link, tt) ∷ [])));
 }
 
-pub pushed_more : (t u : Tables) (prefix low behind : List ℕ) (before list after : List (ℕ × ℕ)) (found : Option ((ℕ × ℕ) × Unit {0})) (e : (ℕ × ℕ) × Unit {0}) → u ≡ t → found ≡ Some e
-    → after ≡ list ++ turned_round e ∷ [] → HavePushed t prefix low before list → HasNextUnder linked_codec u prefix low behind found → HavePushed t prefix behind before after
-pushed_more t u prefix low behind before list after found e same is pushed h next = record {
-  entries = h.entries ++ e ∷ [];
-  covers = rows_more linked_codec t u prefix low behind h.entries found e same is h.covers next;
-  list = pushed ∙ ap (λ (xs : List (ℕ × ℕ)). xs ++ turned_round e ∷ []) h.list ∙ append_assoc before (map turned_round h.entries) (turned_round e ∷ [])
-      ∙ ap (λ (xs : List (ℕ × ℕ)). before ++ xs) (sym (map-append turned_round h.entries (e ∷ [])));
-}
+pub read_all : (bytes : Listed) (i : ℕ) (before after : List (ℕ × ℕ)) → length bytes ≤ i → PushesRead (take i bytes) before after → PushesRead bytes before after
+read_all bytes i before after past h = record { entries = h.entries; spelled = zip_all (Spells linked_codec) bytes h.entries i past h.spelled; list = h.list }
 
-pub pushed_all : (t u : Tables) (wid : ℕ) (prefix low behind : List ℕ) (before list : List (ℕ × ℕ)) (found : Option ((ℕ × ℕ) × Unit {0})) → prefix ≡ num_bytes wid → u ≡ t → found ≡ None
-    → HavePushed t prefix low before list → HasNextUnder linked_codec u prefix low behind found → ArePushed t wid before list
-pushed_all t u wid prefix low behind before list found begins same is h next = record {
+pub pushed_read : (t : Tables) (wid : ℕ) (prefix : List ℕ) (bytes : Listed) (before after : List (ℕ × ℕ)) → prefix ≡ num_bytes wid → AreRowsUnder t 8 prefix bytes → PushesRead bytes before after → ArePushed t wid before after
+pushed_read t wid prefix bytes before after begins rows h = record {
   more = map turned_round h.entries;
   linked = record {
     entries = h.entries;
-    under = subst (λ b. AreUnder linked_codec t b h.entries) begins (rows_end linked_codec t u prefix low behind h.entries found same is h.covers next);
+    under = subst (λ b. AreUnder linked_codec t b h.entries) begins (spelled_under linked_codec t 8 prefix bytes h.entries refl rows h.spelled);
     listed = refl;
   };
   list = h.list;

@@ -2,10 +2,11 @@
 use Rattle.std.specs.Prelude.{◌≡◌, ℕ, ◌⊎◌, Bool, true, nat_eq, List, [], ◌++◌, length, map}
 use Rattle.bdb_base.specs.Causes.{Rises}
 use Rattle.bdb_keep.specs.Seen.{Seen}
+use Rattle.bdb_keep.specs.Spans.{Listed}
 use Rattle.bdb_keep.specs.Tables.{Tables}
 use Rattle.bdb_key.specs.Bytes.{num_bytes}
 use Rattle.bdb_tables.specs.InUse.{linked_codec}
-use Rattle.bdb_tables.specs.Spans.{AreUnder}
+use Rattle.bdb_tables.specs.Spans.{AreUnder, Spell}
 use Rattle.bdb_val.specs.Walks.{IsVisit, IsQuiet, changes_of, put_by, taken_by}
 use Rattle.bdb_val.specs.declared.stored.SettledWorld.{SettledWorld}
 
@@ -18,6 +19,12 @@ pub record AreLinksTo (t : Tables) (wid : ℕ) (more : List (ℕ × ℕ)) : Type
   pub entries : List ((ℕ × ℕ) × Unit {0})
   pub under : AreUnder linked_codec t (num_bytes wid) entries
   pub listed : more ≡ map turned_round entries
+
+-- the links of bytes that were read come at the end of a list
+pub record PushesRead (bytes : Listed) (before after : List (ℕ × ℕ)) : Type 0 where
+  pub entries : List ((ℕ × ℕ) × Unit {0})
+  pub spelled : Spell linked_codec bytes entries
+  pub list : after ≡ before ++ map turned_round entries
 
 -- the world to which a link leads
 abbrev pub led_to : (ℕ × ℕ) × Unit {0} → ℕ

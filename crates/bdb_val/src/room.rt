@@ -3,14 +3,15 @@ ghost use Rattle.std.specs.Prelude.{◌≡◌, true, [], None, Some, IfOk};
 ghost use Rattle.bdb_val.specs.Rooms.{is_from, unless_from};
 
 use crate::changes::{MarkChange, Marked};
+use bdb_keep::Span;
 use bdb_tables::Room;
 use std::alloc::{AllocError, Global};
 
 /// Room for the bytes with which the keys of a group begin, unless its key is long.
 pub const PREFIX_ROOM: usize = 64;
 
-/// Room for the bytes with which a link's key begins, and of such a key with one byte more.
-const LINK_ROOM: usize = 16;
+/// Room for the bytes with which a link's key begins.
+const LINK_ROOM: usize = 4;
 
 /// Room that a walk uses again at each world.
 #[derive(Drop)]
@@ -42,13 +43,11 @@ pub struct Handed {
     pub rows: Vec<Marked>,
 }
 
-/// Room for the bytes of links: how their keys begin, where to look next, and a key and a row that were read.
+/// Room for the bytes of links: how their keys begin, and those that were read.
 #[derive(Drop)]
 pub struct LinkRoom {
     pub prefix: Vec<u8>,
-    pub low: Vec<u8>,
-    pub key: Vec<u8>,
-    pub row: Vec<u8>,
+    pub span: Span,
 }
 
 impl WalkRoom {
@@ -117,9 +116,7 @@ impl LinkRoom {
     fn new(alloc: Global) -> Result<Self, AllocError> {
         Ok(LinkRoom {
             prefix: Vec::with_capacity(alloc, LINK_ROOM)?,
-            low: Vec::with_capacity(alloc, LINK_ROOM)?,
-            key: Vec::with_capacity(alloc, LINK_ROOM)?,
-            row: Vec::new(alloc),
+            span: Span::new(alloc),
         })
     }
 }

@@ -1,14 +1,11 @@
 // Settling a group of rows at a state and at all states whose suffix links lead to it.
 ghost use Rattle.std.specs.Prelude.{◌≡◌, nat_eq, ◌+◌, true, Some, IfOk, OnOk};
-ghost use Rattle.std.specs.Ordering.{is_le};
 ghost use Rattle.bdb_keep.specs.Calls.{IsRead};
-ghost use Rattle.bdb_keep.specs.Tables.{bytes_cmp};
 ghost use Rattle.bdb_key.specs.Grammar.{AreKeyVals};
 ghost use Rattle.bdb_key.specs.Bytes.{num_bytes};
 ghost use Rattle.bdb_tables.specs.Codec.{HasAt};
 ghost use Rattle.bdb_tables.specs.Grammar.{InGrammar};
-ghost use Rattle.bdb_tables.specs.InUse.{HaveKeyTexts, link_codec, linked_codec};
-ghost use Rattle.bdb_tables.specs.Spans.{HasNextUnder};
+ghost use Rattle.bdb_tables.specs.InUse.{HaveKeyTexts, link_codec};
 ghost use Rattle.bdb_val.specs.Groups.{SettlesGroup, TellsGroup};
 ghost use Rattle.bdb_val.specs.Others.{SameBut};
 ghost use Rattle.bdb_val.specs.Reads.{HaveTuples, group_prefix};
@@ -17,14 +14,14 @@ ghost use Rattle.bdb_val.specs.Stated.{WhereStated};
 ghost use Rattle.bdb_val.specs.Steps.{counted, IsChanging};
 ghost use Rattle.bdb_val.specs.Visits.{AreLinks, ArePushed, IsFirstVisit, IsNextVisit};
 
-use crate::links::{Links, push_found, read_links};
+use crate::links::{Links, push_found, push_read, read_links};
 use crate::room::{LinkRoom, WalkRoom};
 use crate::settle::settle_state;
 use crate::stored::{Settled, SettledWorld};
 use bdb_base::Value;
-use bdb_keep::Keeper;
+use bdb_keep::{KeepError, Keeper};
 use bdb_key::put_num;
-use bdb_tables::{SuffixIx, SuffixTab, TabError, get, next_under};
+use bdb_tables::{SuffixIx, SuffixTab, Tab, TabError, get};
 use std::alloc::{AllocError, Global};
 
 /// Settles the rows of the tuples of a relation and a key, at a state and at all states whose suffix links lead
@@ -237,7 +234,7 @@ fn push_linked<K: Keeper>(
     }
 }
 
-// Reads the suffix links that lead to a state, and puts them on the list.
+// Reads the suffix links that lead to a state, and puts them on the list. They are read at once.
 fn read_linked<K: Keeper>(
     alloc: Global,
     keeper: &mut K,
@@ -257,16 +254,16 @@ fn read_linked<K: Keeper>(
             return Err(TabError::Memory);
         }
     }
-    match put_world(&mut room.low, wid) {
+    match keeper.under(SuffixIx::NUMBER, &room.prefix, &mut room.span) {
         Ok(()) => {}
+        Err(error) => return Err(table_error(error)),
+    }
+    match push_read(alloc, &room.span, list) {
+        Ok(()) => Ok(()),
         Err(_) => {
             keeper.undo();
-            return Err(TabError::Memory);
+            Err(TabError::Memory)
         }
-    }
-    match push_links(alloc, keeper, wid, list, room) {
-        Ok(()) => Ok(()),
-        Err(error) => Err(error),
     }
 }
 
@@ -279,61 +276,13 @@ fn put_world(prefix: &mut Vec<u8>, wid: u32) -> Result<(), AllocError>
     Ok(())
 }
 
-// Puts the suffix links that lead to a state on the list. `room` has the bytes with which their keys begin, twice.
-fn push_links<K: Keeper>(
-    alloc: Global,
-    keeper: &mut K,
-    wid: u32,
-    list: &mut Vec<(u32, u32)>,
-    room: &mut LinkRoom,
-) -> Result<(), TabError>
-    requires grammar { InGrammar (K.seen keeper.old).kept }
-    requires prefix { room.old.prefix.items ≡ num_bytes wid }
-    requires low { room.old.low.items ≡ num_bytes wid }
-    ensures pushed { OnOk result
-        (ArePushed (K.seen keeper.old).kept wid list.old.items list.new.items) }
-    ensures read { IsRead (K.seen keeper.old) (K.seen keeper.new) result TabError.Fault }
+// A keeper's error as a table's.
+fn table_error(error: KeepError) -> TabError
+    ensures { result ≡ TabError.Fault → error ≡ KeepError.Fault }
 {
-    for _ in 0..u64::MAX {
-        match next_link(alloc, keeper, room) {
-            Ok(Some(link)) => {
-                if list.push((link.0.1, link.0.0)).is_err() {
-                    keeper.undo();
-                    return Err(TabError::Memory);
-                }
-            }
-            Ok(None) => return Ok(()),
-            Err(error) => return Err(error),
-        }
-    }
-    keeper.undo();
-    Err(TabError::Memory)
-}
-
-// The next link whose key begins as `room` has it.
-fn next_link<K: Keeper>(
-    alloc: Global,
-    keeper: &mut K,
-    room: &mut LinkRoom,
-) -> Result<Option<((u32, u32), ())>, TabError>
-    requires grammar { InGrammar (K.seen keeper.old).kept }
-    requires from { is_le (bytes_cmp room.old.prefix.items room.old.low.items) ≡ true }
-    ensures found { IfOk result
-        (HasNextUnder linked_codec
-        (K.seen keeper.old).kept room.old.prefix.items room.old.low.items room.new.low.items) }
-    ensures prefix { room.new.prefix ≡ room.old.prefix }
-    ensures read { IsRead (K.seen keeper.old) (K.seen keeper.new) result TabError.Fault }
-{
-    match next_under::<SuffixIx, K>(
-        alloc,
-        keeper,
-        &room.prefix,
-        &mut room.low,
-        &mut room.key,
-        &mut room.row,
-    ) {
-        Ok(link) => Ok(link),
-        Err(error) => Err(error),
+    match error {
+        KeepError::Fault => TabError::Fault,
+        KeepError::Memory => TabError::Memory,
     }
 }
 

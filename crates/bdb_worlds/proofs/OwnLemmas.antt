@@ -1,25 +1,26 @@
 -- Reading the edges of one world.
-use Rattle.std.proofs.Common.{◌≡◌, ◌∙◌, ℕ, ◌+◌, ◌≤◌, ◌<◌, Bool, true, false, nat_eq, cond, List, [], ◌∷◌, ◌++◌, refl, ap, sym, subst, inl, inr, arith, map, Option, Some, None}
-use Rattle.std.specs.Prelude.{MatchOption}
-use Rattle.std.specs.Option.{option_map, is_some}
+use Rattle.std.proofs.Common.{◌≡◌, ◌∙◌, ℕ, ◌≤◌, ◌<◌, ◌^◌, Bool, true, false, not, nat_eq, cond, List, [], ◌∷◌, ◌++◌, refl, ap, sym, subst, inl, inr, arith, map, Option, Some, None}
+use Rattle.std.specs.Option.{is_some}
 use Rattle.std.specs.List.{AllByRecursion}
 use Rattle.std.specs.Ordering.{is_le, nat_cmp}
 use Rattle.std.specs.FinMap as tables
-use Rattle.std.proofs.lemmas.Bool.{cases_Bool, or_cases, false≢true, false_from_ne_true, cond-true, cond-false, eqb-true, ne_eqb, eqb-false, cases_lt}
+use Rattle.std.proofs.lemmas.Bool.{cases_Bool, and_parts, and_from, or_from, or_parts, false≢true, cond-true, cond-false, eqb-true, ne_eqb, eqb-false, not-true, cases_lt}
+use Rattle.std.proofs.lemmas.List.Concat.{flat_map-cons}
 use Rattle.bdb_keep.specs.Tables.{Tables}
 use Rattle.bdb_key.specs.Bytes.{num_bytes}
 use Rattle.bdb_key.specs.Grammar.{IsNum}
-use Rattle.bdb_key.proofs.Alone.{one_num}
 use Rattle.bdb_tables.specs.Codec.{HasFirst, IsFirst, place}
-use Rattle.bdb_tables.specs.InUse.{IsPair, edge_codec}
-use Rattle.bdb_tables.specs.Names.{Names, is_listed, are_once, edge_of}
-use Rattle.bdb_tables.specs.States.{HoldsStates, TablesAre}
+use Rattle.bdb_tables.specs.InUse.{edge_codec}
+use Rattle.bdb_tables.specs.Names.{is_listed, are_once, edge_of}
+use Rattle.bdb_tables.specs.Spans.{AreUnder}
+use Rattle.bdb_tables.specs.States.{HoldsStates}
 use Rattle.bdb_names.specs.Turned.{look}
-use Rattle.bdb_names.proofs.ListedLemmas.{listed_snoc, once_snoc}
-use Rattle.bdb_names.proofs.NameLemmas.{edge_found, same_some}
+use Rattle.bdb_names.proofs.NameLemmas.{edge_found}
+use Rattle.bdb_worlds.specs.Dropping.{edges_of}
 use Rattle.bdb_worlds.specs.Holding.{Worlds}
-use Rattle.bdb_worlds.specs.Owns.{IsNextEdge, HasNextEdge, IsOwnEdge, FindsEdges}
+use Rattle.bdb_worlds.specs.Owns.{IsNextEdge, HasNextEdge, IsOwnEdge, AreOwnEdges, FindsEdges, edge_beside, edges_beside}
 use Rattle.bdb_worlds.proofs.ReadLemmas.{le_parts, le_same, le_number, number_le, none_unless}
+use Rattle.bdb_worlds.proofs.UnderLemmas.{edges_are, edges_sized, edges_once}
 
 -- ---- the next edge
 
@@ -71,151 +72,108 @@ edge_some t wid low key row size first = elim (cases_Bool (nat_eq key.0 wid)) [
       ]
     ]
 
-pub next_at : (t u : Tables) (wid low : ℕ) (o p : Option (ℕ × ℕ)) → u ≡ t → o ≡ p → HasNextEdge u wid low o → HasNextEdge t wid low p
-next_at t u wid low o p e f h = subst (HasNextEdge t wid low) f (subst (λ x. HasNextEdge x wid low o) e h)
-
--- ---- what the rows are
-
-row_absent : (o : Option ℕ) → option_map num_bytes o ≡ None → o ≡ None
-row_absent None e = refl
-row_absent (Some x) e = absurd cc
-
-row_present : (o : Option ℕ) (x : ℕ) → MatchOption o (Unit {0}) IsNum → IsNum x → option_map num_bytes o ≡ Some (num_bytes x) → o ≡ Some x
-row_present None x f g e = absurd cc
-row_present (Some y) x f g e = ap Some (one_num y x f g (same_some (num_bytes y) (num_bytes x) e))
-
-module _ (t : Tables) (d l : ℕ → Option ℕ) (e : ℕ × ℕ → Option ℕ) (h : TablesAre t d l e) where
-  pub edge_absent : (wid j : ℕ) → IsNum wid → IsNum j → tables.get t (place edge_codec (wid, j)) ≡ None → e (wid, j) ≡ None
-  edge_absent wid j fw fj gone = row_absent (e (wid, j)) (sym (h.edge.rows (wid, j) (record { first = fw; second = fj })) ∙ gone)
-
-  pub edge_present : (wid j x : ℕ) → IsNum wid → IsNum j → IsNum x → tables.get t (place edge_codec (wid, j)) ≡ Some (num_bytes x) → e (wid, j) ≡ Some x
-  edge_present wid j x fw fj fx there =
-      let fits : IsPair (wid, j) = record { first = fw; second = fj } in
-      row_present (e (wid, j)) x (h.edge.written (wid, j) fits) fx (sym (h.edge.rows (wid, j) fits) ∙ there)
-
--- ---- lists of edges, one more at their end
+-- ---- the edges of rows but one
 
 abbrev users_of : List (ℕ × ℕ) → List ℕ
 users_of xs = map (λ x. x.0) xs
 
-users_snoc : (xs : List (ℕ × ℕ)) (x : ℕ × ℕ) → users_of (xs ++ x ∷ []) ≡ users_of xs ++ x.0 ∷ []
-users_snoc [] x = refl
-users_snoc (y ∷ xs) x = ap (λ (z : List ℕ). y.0 ∷ z) (users_snoc xs x)
+module _ (uid : ℕ) where
+  -- the first row, and then the others
+  beside_more : (e : (ℕ × ℕ) × ℕ) (es : List ((ℕ × ℕ) × ℕ)) → edges_beside uid (e ∷ es) ≡ cond (nat_eq e.0.1 uid) (edges_beside uid es) ((e.0.1, e.1) ∷ edges_beside uid es)
+  beside_more e es = flat_map-cons (edge_beside uid) e es ∙ by (nat_eq e.0.1 uid)
+    where
+      by : (b : Bool) → cond b [] ((e.0.1, e.1) ∷ []) ++ edges_beside uid es ≡ cond b (edges_beside uid es) ((e.0.1, e.1) ∷ edges_beside uid es)
+      by true = refl
+      by false = refl
 
-look_snoc_old : (xs : List (ℕ × ℕ)) (x : ℕ × ℕ) (j : ℕ) → nat_eq j x.0 ≡ false → look (xs ++ x ∷ []) j ≡ look xs j
-look_snoc_old [] x j f = cond-false (nat_eq j x.0) (Some x.1) None f
-look_snoc_old (y ∷ xs) x j f = ap (λ o. cond (nat_eq j y.0) (Some y.1) o) (look_snoc_old xs x j f)
+  looked_if : (b : Bool) (x : ℕ × ℕ) (xs : List (ℕ × ℕ)) (j : ℕ) → look (cond b xs (x ∷ xs)) j ≡ cond b (look xs j) (cond (nat_eq j x.0) (Some x.1) (look xs j))
+  looked_if true x xs j = refl
+  looked_if false x xs j = refl
 
-look_snoc_new : (xs : List (ℕ × ℕ)) (x : ℕ × ℕ) (j : ℕ) → nat_eq j x.0 ≡ true → look xs j ≡ None → look (xs ++ x ∷ []) j ≡ Some x.1
-look_snoc_new [] x j t none = cond-true (nat_eq j x.0) (Some x.1) None t
-look_snoc_new (y ∷ xs) x j t none = elim (cases_Bool (nat_eq j y.0)) [
-  | inl s ↦ let g : Some y.1 ≡ None = sym (cond-true (nat_eq j y.0) (Some y.1) (look xs j) s) ∙ none in absurd cc
-  | inr s ↦ cond-false (nat_eq j y.0) (Some y.1) (look (xs ++ x ∷ []) j) s ∙ look_snoc_new xs x j t (sym (cond-false (nat_eq j y.0) (Some y.1) (look xs j) s) ∙ none)
-]
+  chosen : (a b c : Bool) (own rest left : Option ℕ) → (a ≡ true → b ≡ c) → (a ≡ false → b ≡ true → c ≡ false) → left ≡ cond c None rest → cond a left (cond b own left) ≡ cond c None (cond b own rest)
+  chosen true true true own rest left same other h = h
+  chosen true true false own rest left same other h = absurd (false≢true (sym (same refl)))
+  chosen true false true own rest left same other h = absurd (false≢true (same refl))
+  chosen true false false own rest left same other h = h
+  chosen false true true own rest left same other h = absurd (false≢true (sym (other refl refl)))
+  chosen false true false own rest left same other h = refl
+  chosen false false true own rest left same other h = h
+  chosen false false false own rest left same other h = h
 
-sized_snoc : (xs : List (ℕ × ℕ)) (x : ℕ × ℕ) → AllByRecursion IsOwnEdge xs → IsOwnEdge x → AllByRecursion IsOwnEdge (xs ++ x ∷ [])
-sized_snoc [] x h f = (f, tt)
-sized_snoc (y ∷ xs) x h f = (h.0, sized_snoc xs x h.1 f)
+  none_if : (b : Bool) (o : Option ℕ) → o ≡ None → o ≡ cond b None o
+  none_if true o e = e
+  none_if false o e = refl
 
--- ---- the loop
+  -- the edge for a user among those that are left
+  beside_looked : (es : List ((ℕ × ℕ) × ℕ)) (j : ℕ) → look (edges_beside uid es) j ≡ cond (nat_eq j uid) None (look (edges_of es) j)
+  beside_looked [] j = none_if (nat_eq j uid) None refl
+  beside_looked (e ∷ es) j =
+      ap (λ (xs : List (ℕ × ℕ)). look xs j) (beside_more e es)
+      ∙ looked_if (nat_eq e.0.1 uid) (e.0.1, e.1) (edges_beside uid es) j
+      ∙ chosen (nat_eq e.0.1 uid) (nat_eq j e.0.1) (nat_eq j uid) (Some e.1) (look (edges_of es) j) (look (edges_beside uid es) j)
+      (λ p. ap (nat_eq j) (eqb-true e.0.1 uid p)) (λ p q. ap (λ k. nat_eq k uid) (eqb-true j e.0.1 q) ∙ p) (beside_looked es j)
 
--- the edges for users below `low` are read
-pub record IsReadTo (users : ℕ → Bool) (ns : Names) (wid uid low : ℕ) (xs : List (ℕ × ℕ)) : Type 0 where
-  pub below : (j : ℕ) → j < low → look xs j ≡ cond (nat_eq j uid) None (edge_of users ns (wid, j))
-  pub above : (j : ℕ) → low ≤ j → look xs j ≡ None
-  pub listed : (j : ℕ) → is_listed j (users_of xs) ≡ true → j < low
-  pub sized : AllByRecursion IsOwnEdge xs
-  pub once : are_once (users_of xs) ≡ true
+  beside_sized : (es : List ((ℕ × ℕ) × ℕ)) → AllByRecursion IsOwnEdge (edges_of es) → AllByRecursion IsOwnEdge (edges_beside uid es)
+  beside_sized [] h = tt
+  beside_sized (e ∷ es) h = subst (AllByRecursion IsOwnEdge) (sym (beside_more e es)) (by (nat_eq e.0.1 uid) (beside_sized es h.1))
+    where
+      by : (b : Bool) → AllByRecursion IsOwnEdge (edges_beside uid es) → AllByRecursion IsOwnEdge (cond b (edges_beside uid es) ((e.0.1, e.1) ∷ edges_beside uid es))
+      by true k = k
+      by false k = (h.0, k)
 
-abbrev pub ReadTo : Tables → ℕ → ℕ → ℕ → List (ℕ × ℕ) → Type 0
-ReadTo t wid uid low xs = (s : Worlds) → HoldsStates s.users s.names t → IsReadTo s.users s.names wid uid low xs
+  -- a user who has no edge has none among those that are left
+  beside_unlisted : (es : List ((ℕ × ℕ) × ℕ)) (k : ℕ) → is_listed k (users_of (edges_of es)) ≡ false → is_listed k (users_of (edges_beside uid es)) ≡ false
+  beside_unlisted [] k h = refl
+  beside_unlisted (e ∷ es) k h =
+      let p = or_parts (nat_eq k e.0.1) (is_listed k (users_of (edges_of es))) h in
+      ap (λ (xs : List (ℕ × ℕ)). is_listed k (users_of xs)) (beside_more e es) ∙ by (nat_eq e.0.1 uid) p.0 (beside_unlisted es k p.1)
+    where
+      by : (b : Bool) → nat_eq k e.0.1 ≡ false → is_listed k (users_of (edges_beside uid es)) ≡ false → is_listed k (users_of (cond b (edges_beside uid es) ((e.0.1, e.1) ∷ edges_beside uid es))) ≡ false
+      by true f g = g
+      by false f g = or_from (nat_eq k e.0.1) (is_listed k (users_of (edges_beside uid es))) f g
 
-pub read_begins : (t : Tables) (wid uid : ℕ) (xs : List (ℕ × ℕ)) → xs ≡ [] → ReadTo t wid uid 0 xs
-read_begins t wid uid xs e s h = subst (IsReadTo s.users s.names wid uid 0) (sym e)
-    (record { below = λ j l. absurd (none j l); above = λ j l. refl; listed = λ j f. absurd (false≢true f); sized = tt; once = refl })
+  beside_once : (es : List ((ℕ × ℕ) × ℕ)) → are_once (users_of (edges_of es)) ≡ true → are_once (users_of (edges_beside uid es)) ≡ true
+  beside_once [] h = refl
+  beside_once (e ∷ es) h =
+      let p = and_parts (not (is_listed e.0.1 (users_of (edges_of es)))) (are_once (users_of (edges_of es))) h in
+      ap (λ (xs : List (ℕ × ℕ)). are_once (users_of xs)) (beside_more e es)
+      ∙ by (nat_eq e.0.1 uid) (beside_unlisted es e.0.1 (not-true (is_listed e.0.1 (users_of (edges_of es))) p.0)) (beside_once es p.1)
+    where
+      by : (b : Bool) → is_listed e.0.1 (users_of (edges_beside uid es)) ≡ false → are_once (users_of (edges_beside uid es)) ≡ true
+          → are_once (users_of (cond b (edges_beside uid es) ((e.0.1, e.1) ∷ edges_beside uid es))) ≡ true
+      by true f g = g
+      by false f g = and_from (not (is_listed e.0.1 (users_of (edges_beside uid es)))) (are_once (users_of (edges_beside uid es))) (ap not f) g
+
+-- ---- what the tables have of them
+
+-- edges of users have no other number
+none_looked : (xs : List (ℕ × ℕ)) (j : ℕ) → (IsNum j → ⊥) → AllByRecursion IsOwnEdge xs → look xs j ≡ None
+none_looked [] j other h = refl
+none_looked (x ∷ xs) j other h =
+    cond-false (nat_eq j x.0) (Some x.1) (look xs j) (ne_eqb j x.0 (λ e. other (subst IsNum (sym e) h.0.0))) ∙ none_looked xs j other h.1
+
+no_edge : (s : Worlds) (t : Tables) → HoldsStates s.users s.names t → (wid j : ℕ) → (IsNum j → ⊥) → edge_of s.users s.names (wid, j) ≡ None
+no_edge s t h wid j other = by (edge_of s.users s.names (wid, j)) refl
   where
-    none : (j : ℕ) → j < 0 → ⊥
-    none j l = absurd (omega arith)
+    by : (o : Option ℕ) → edge_of s.users s.names (wid, j) ≡ o → edge_of s.users s.names (wid, j) ≡ None
+    by None e = e
+    by (Some x) e = absurd (other (h.numbers j (edge_found s.users s.names wid j x e).user))
 
-module _ (t : Tables) (wid uid : ℕ) (size : IsNum wid) where
-  -- an edge for a user that is in no row is none
-  none_there : (s : Worlds) → HoldsStates s.users s.names t → (j : ℕ) → (IsNum j → tables.get t (place edge_codec (wid, j)) ≡ None) → edge_of s.users s.names (wid, j) ≡ None
-  none_there s h j gone = by (edge_of s.users s.names (wid, j)) refl
-    where
-      by : (o : Option ℕ) → edge_of s.users s.names (wid, j) ≡ o → edge_of s.users s.names (wid, j) ≡ None
-      by None e = e
-      by (Some x) e =
-          let f = edge_found s.users s.names wid j x e in
-          let fits = h.numbers j f.user in
-          edge_absent t _ _ _ h.tables wid j size fits (gone fits)
+-- the edges of a world but one, by the rows of them all
+pub edges_found : (t : Tables) (wid uid : ℕ) (es : List ((ℕ × ℕ) × ℕ)) (edges : List (ℕ × ℕ)) → IsNum wid → AreUnder edge_codec t (num_bytes wid) es → edges ≡ edges_beside uid es → FindsEdges t wid uid edges
+edges_found t wid uid es edges fits under is s h = subst (AreOwnEdges s.users s.names wid uid) (sym is) (record {
+  leads = λ j. beside_looked uid es j ∙ ap (cond (nat_eq j uid) None) (led j);
+  sized = beside_sized uid es sized;
+  once = beside_once uid es (edges_once t wid fits es under.each under.sorted);
+})
+  where
+    sized : AllByRecursion IsOwnEdge (edges_of es)
+    sized = edges_sized t wid fits es under.each
 
-  module _ (low : ℕ) (xs : List (ℕ × ℕ)) (edge : ℕ × ℕ) (next : IsNextEdge t wid low edge) (read : ReadTo t wid uid low xs) (high : ℕ) (is : high ≡ edge.0 + 1) where
-    -- the edges for users below the one found are read
-    up_to : (s : Worlds) → HoldsStates s.users s.names t → (j : ℕ) → j < edge.0 → look xs j ≡ cond (nat_eq j uid) None (edge_of s.users s.names (wid, j))
-    up_to s h j l = elim (cases_lt j low) [
-      | inl b ↦ (read s h).below j b
-      | inr b ↦ (read s h).above j b ∙ sym (either (nat_eq j uid) (edge_of s.users s.names (wid, j)) (none_there s h j (λ _. next.least j b l)))
+    led : (j : ℕ) → look (edges_of es) j ≡ edge_of s.users s.names (wid, j)
+    led j = elim (cases_lt j (2 ^ 32)) [
+      | inl small ↦ edges_are t wid fits (edge_of s.users s.names) h.tables.edge es under j small
+      | inr large ↦
+          let other : IsNum j → ⊥ = λ k. absurd (omega arith) in
+          none_looked (edges_of es) j other sized ∙ sym (no_edge s t h wid j other)
     ]
-      where
-        either : (b : Bool) (o : Option ℕ) → o ≡ None → cond b None o ≡ None
-        either true o e = refl
-        either false o e = e
-
-    pub read_past : nat_eq edge.0 uid ≡ true → ReadTo t wid uid high xs
-    read_past t1 s h =
-        let r = read s h in
-        record {
-          below = λ j l. elim (cases_lt j edge.0) [
-            | inl b ↦ up_to s h j b
-            | inr b ↦
-                let same : j ≡ edge.0 = omega arith in
-                let f = next.from in
-                let low_is : low ≤ j = omega arith in
-                r.above j low_is ∙ sym (cond-true (nat_eq j uid) None (edge_of s.users s.names (wid, j)) (ap (λ k. nat_eq k uid) same ∙ t1))
-          ];
-          above = λ j l. let f = next.from in r.above j (omega arith);
-          listed = λ j f. let a = r.listed j f in let b = next.from in omega arith;
-          sized = r.sized;
-          once = r.once;
-        }
-
-    pub read_more : nat_eq edge.0 uid ≡ false → (ys : List (ℕ × ℕ)) → ys ≡ xs ++ edge ∷ [] → ReadTo t wid uid high ys
-    read_more f1 ys e s h =
-        let r = read s h in
-        let there = edge_present t _ _ _ h.tables wid edge.0 edge.1 size next.fits next.target_fits next.there in
-        subst (IsReadTo s.users s.names wid uid high) (sym e) (record {
-          below = λ j l. elim (cases_Bool (nat_eq j edge.0)) [
-            | inl same ↦
-                let k = eqb-true j edge.0 same in
-                look_snoc_new xs edge j same (r.above j (let f = next.from in omega arith)) ∙ sym (ap (λ i. edge_of s.users s.names (wid, i)) k ∙ there)
-                ∙ sym (cond-false (nat_eq j uid) None (edge_of s.users s.names (wid, j)) (ap (λ i. nat_eq i uid) k ∙ f1))
-            | inr other ↦
-                let d = eqb-false j edge.0 other in
-                look_snoc_old xs edge j other ∙ up_to s h j (omega (arith, d))
-          ];
-          above = λ j l.
-              let other : nat_eq j edge.0 ≡ false = ne_eqb j edge.0 (λ k. absurd (omega arith)) in
-              look_snoc_old xs edge j other ∙ r.above j (let f = next.from in omega arith);
-          listed = λ j g. elim (or_cases (is_listed j (users_of xs)) (nat_eq j edge.0) (sym (listed_snoc (users_of xs) j edge.0) ∙ ap (is_listed j) (sym (users_snoc xs edge)) ∙ g)) [
-            | inl old ↦ let a = r.listed j old in let b = next.from in omega arith
-            | inr same ↦ let k = eqb-true j edge.0 same in omega arith
-          ];
-          sized = sized_snoc xs edge r.sized (next.fits, next.target_fits);
-          once = ap are_once (users_snoc xs edge) ∙ once_snoc (users_of xs) edge.0 r.once (false_from_ne_true (is_listed edge.0 (users_of xs)) (λ g. let a = r.listed edge.0 g in let b = next.from in absurd (omega arith)));
-        })
-
-  pub read_ends : (low : ℕ) (xs : List (ℕ × ℕ)) → HasNextEdge t wid low None → ReadTo t wid uid low xs → FindsEdges t wid uid xs
-  read_ends low xs none read s h =
-      let r = read s h in
-      record {
-        leads = λ j. elim (cases_lt j low) [
-          | inl b ↦ r.below j b
-          | inr b ↦ r.above j b ∙ sym (either (nat_eq j uid) (edge_of s.users s.names (wid, j)) (none_there s h j (λ fits. none j b fits)))
-        ];
-        sized = r.sized;
-        once = r.once;
-      }
-    where
-      either : (b : Bool) (o : Option ℕ) → o ≡ None → cond b None o ≡ None
-      either true o e = refl
-      either false o e = e

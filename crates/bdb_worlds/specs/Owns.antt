@@ -1,5 +1,5 @@
 -- The edges of one world.
-use Rattle.std.specs.Prelude.{◌≡◌, ℕ, ◌≤◌, ◌<◌, Bool, true, nat_eq, cond, List, map, Option, None, Some, MatchOption}
+use Rattle.std.specs.Prelude.{◌≡◌, ℕ, ◌≤◌, ◌<◌, Bool, true, nat_eq, cond, List, [], ◌∷◌, map, flat_map, Option, None, Some, MatchOption}
 use Rattle.std.specs.List.{AllByRecursion}
 use Rattle.std.specs.FinMap as tables
 use Rattle.bdb_keep.specs.Tables.{Tables}
@@ -37,3 +37,11 @@ pub record AreOwnEdges (users : ℕ → Bool) (ns : Names) (wid uid : ℕ) (edge
 -- whichever states the tables hold, these are the edges of a world but for one user
 abbrev pub FindsEdges : Tables → ℕ → ℕ → List (ℕ × ℕ) → Type 0
 FindsEdges t wid uid edges = (s : Worlds) → HoldsStates s.users s.names t → AreOwnEdges s.users s.names wid uid edges
+
+-- the edge of a row, by its user and the world to which it leads, unless it is the one for a user
+abbrev pub edge_beside : ℕ → (ℕ × ℕ) × ℕ → List (ℕ × ℕ)
+edge_beside uid row = cond (nat_eq row.0.1 uid) [] ((row.0.1, row.1) ∷ [])
+
+-- the edges of rows but the one for a user
+abbrev pub edges_beside : ℕ → List ((ℕ × ℕ) × ℕ) → List (ℕ × ℕ)
+edges_beside uid rows = flat_map (edge_beside uid) rows

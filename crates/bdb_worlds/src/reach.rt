@@ -9,7 +9,7 @@ ghost use Rattle.bdb_worlds.specs.Shrinking.{AreAlong, IsNoState};
 
 use crate::staying::has_depth;
 use bdb_keep::Keeper;
-use bdb_tables::{DepthTab, EdgeTab, Room, TabError, get, get_in};
+use bdb_tables::{DepthTab, EdgeTab, Room, TabError, get_in};
 use std::alloc::Global;
 
 /// The longest prefix of a path that is a state: how many users it has, and its number. The walk takes an edge for each
@@ -102,13 +102,14 @@ fn deep_target<K: Keeper>(
     ensures counts { NeverFall (K.seen keeper.old) (K.seen keeper.new) }
     ensures steps { Steps (K.seen keeper.old) (K.seen keeper.new) result TabError.Fault }
 {
+    let mut room = Room::new(alloc);
     let key = (wid, uid);
-    let target = match get::<EdgeTab, K>(alloc, keeper, &key) {
+    let target = match get_in::<EdgeTab, K>(alloc, keeper, &key, &mut room) {
         Ok(Some(target)) => target,
         Ok(None) => return Ok(None),
         Err(error) => return Err(error),
     };
-    match has_depth(alloc, keeper, target, depth) {
+    match has_depth(alloc, keeper, target, depth, &mut room) {
         Ok(true) => Ok(Some(target)),
         Ok(false) => Ok(None),
         Err(error) => Err(error),

@@ -7,7 +7,7 @@ ghost use Rattle.bdb_worlds.specs.Staying.{TellsExplicit, TellsDepth, TellsLonge
 use crate::owning::next_edge;
 use bdb_keep::Keeper;
 use bdb_key::put_num;
-use bdb_tables::{DepthTab, Room, TabError, get, has_explicit_under};
+use bdb_tables::{DepthTab, Room, TabError, get_in, has_explicit_under};
 use std::alloc::Global;
 
 /// Whether the path of a world has to stay a state: it has an explicit row, or a state is one user longer, and so as deep
@@ -80,7 +80,7 @@ fn has_longer<K: Keeper>(
             Ok(None) => return Ok(false),
             Err(error) => return Err(error),
         };
-        match has_depth(alloc, keeper, edge.1, deeper) {
+        match has_depth(alloc, keeper, edge.1, deeper, &mut room) {
             Ok(true) => return Ok(true),
             Ok(false) => {}
             Err(error) => return Err(error),
@@ -91,12 +91,13 @@ fn has_longer<K: Keeper>(
     Err(TabError::Memory)
 }
 
-/// Whether a world has this depth. One read.
+/// Whether a world has this depth. One read. `room` is room for bytes.
 pub fn has_depth<K: Keeper>(
     alloc: Global,
     keeper: &mut K,
     wid: u32,
     depth: usize,
+    room: &mut Room,
 ) -> Result<bool, TabError>
     requires grammar { InGrammar (K.seen keeper.old).kept }
     ensures depth { IfOk result (TellsDepth (K.seen keeper.old).kept wid depth) }
@@ -105,7 +106,7 @@ pub fn has_depth<K: Keeper>(
     ensures counts { NeverFall (K.seen keeper.old) (K.seen keeper.new) }
     ensures steps { Steps (K.seen keeper.old) (K.seen keeper.new) result TabError.Fault }
 {
-    match get::<DepthTab, K>(alloc, keeper, &wid) {
+    match get_in::<DepthTab, K>(alloc, keeper, &wid, room) {
         Ok(Some(found)) => Ok(found as usize == depth),
         Ok(None) => Ok(false),
         Err(error) => Err(error),

@@ -40,6 +40,39 @@ fn undone<K: Keeper>(keeper: &mut K) -> Result<(), KeepError>
     Ok(())
 }
 
+/// Four calls that are counted: a transaction that puts rows at once, and takes some away at once.
+fn written_at_once<K: Keeper>(keeper: &mut K, rows: &Span, gone: &Span) -> Result<(), KeepError>
+    requires { (K.seen keeper.old).running ≡ false }
+    ensures { (K.seen keeper.new).running ≡ false }
+{
+    keeper.begin()?;
+    keeper.put_all(1, rows)?;
+    keeper.remove_all(1, gone)?;
+    keeper.commit()?;
+    Ok(())
+}
+
+/// A transaction that takes rows away at once, puts some at once, and is undone.
+fn undone_at_once<K: Keeper>(keeper: &mut K, rows: &Span, gone: &Span) -> Result<(), KeepError>
+    requires { (K.seen keeper.old).running ≡ false }
+    ensures { (K.seen keeper.new).running ≡ false }
+{
+    keeper.begin()?;
+    keeper.remove_all(1, gone)?;
+    keeper.put_all(1, rows)?;
+    keeper.undo();
+    Ok(())
+}
+
+/// Rows that are their keys.
+fn span_of(alloc: Global, words: &str) -> Result<Span, AllocError> {
+    let mut span = Span::new(alloc);
+    for word in words.split_whitespace() {
+        span.push(word.as_bytes(), word.as_bytes())?;
+    }
+    Ok(span)
+}
+
 fn failing_at(alloc: Global, call: u32) -> Result<MemKeeper, AllocError>
     ensures { IfOk result (λ keeper. keeper.seen.running ≡ false) }
 {
@@ -61,6 +94,41 @@ fn a_keeper_fails_at_each_call_in_turn(rt: HostRuntime) -> Result<(), Fail> {
         assert!(rt; keeper.same_rows(&none));
         assert_eq!(rt; keeper.commits(), 0);
     }
+    Ok(())
+}
+
+#[test]
+fn a_keeper_fails_where_rows_are_written_at_once(rt: HostRuntime) -> Result<(), Fail> {
+    let alloc = rt.alloc();
+    let none = failing_at(alloc, 0)?;
+    let rows = span_of(alloc, "a b bb c d")?;
+    let gone = span_of(alloc, "a bb x d")?;
+    for call in 1..5 {
+        let mut keeper = failing_at(alloc, call)?;
+        assert_eq!(rt;
+            written_at_once(&mut keeper, &rows, &gone),
+            Err(KeepError::Fault),
+            "at {call}"
+        );
+        assert!(rt; keeper.same_rows(&none));
+    }
+    Ok(())
+}
+
+#[test]
+fn rows_written_at_once_are_kept_or_undone(rt: HostRuntime) -> Result<(), Fail> {
+    let alloc = rt.alloc();
+    let rows = span_of(alloc, "a b bb c d")?;
+    let gone = span_of(alloc, "a bb x d")?;
+    let mut wanted = failing_at(alloc, 0)?;
+    wanted.preset(1, b"b", b"b")?;
+    wanted.preset(1, b"c", b"c")?;
+    let mut keeper = failing_at(alloc, 0)?;
+    assert_eq!(rt; written_at_once(&mut keeper, &rows, &gone), Ok(()));
+    assert!(rt; keeper.same_rows(&wanted));
+    assert_eq!(rt; undone_at_once(&mut keeper, &gone, &rows), Ok(()));
+    assert!(rt; keeper.same_rows(&wanted));
+    assert_eq!(rt; keeper.commits(), 1);
     Ok(())
 }
 

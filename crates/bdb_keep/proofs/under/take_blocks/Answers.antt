@@ -1,4 +1,4 @@
-use Rattle.std.proofs.Common.{◌≡◌, ◌≤◌, ◌+◌, ◌∷◌, ◌∙◌, [], drop, length, get_or, refl, sym, ap, subst, arith}
+use Rattle.std.proofs.Common.{◌≡◌, ◌≤◌, ◌+◌, ◌∙◌, [], drop, length, get_or, refl, sym, ap, subst, arith}
 use Rattle.bdb_keep.proofs.UnderLemmas.{walked-first, rest-above, rest-ascends, walked-more, walked-past, walked-stopped, walked-all}
 use Rattle.bdb_keep.proofs.under.take_blocks.Goals as goal
 

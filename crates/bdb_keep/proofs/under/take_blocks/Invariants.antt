@@ -1,4 +1,4 @@
-use Rattle.std.proofs.Common.{◌∷◌, ◌-◌, length}
+use Rattle.std.proofs.Common.{◌-◌, length}
 use Rattle.bdb_keep.proofs.UnderLemmas.{IsWalked}
 use Rattle.bdb_keep.proofs.under.take_blocks.Given as goal
 

@@ -1,4 +1,4 @@
-use Rattle.std.proofs.Common.{◌≡◌, ◌∷◌, ◌++◌, take}
+use Rattle.std.proofs.Common.{◌≡◌, ◌++◌, take}
 use Rattle.bdb_keep.specs.Spans.{entries_under}
 use Rattle.bdb_keep.proofs.under.take_entries.Given as goal
 

@@ -1,5 +1,5 @@
 use Rattle.bdb_worlds.proofs.ReadLemmas.{depths_fit}
 use Rattle.bdb_worlds.proofs.staying.has_depth.Goals as goal
 
-pub get-requires-clause-grammar : goal.get-requires-clause-grammar
-get-requires-clause-grammar g c = depths_fit _ c.requires.grammar
+pub get_in-requires-clause-grammar : goal.get_in-requires-clause-grammar
+get_in-requires-clause-grammar g c = depths_fit _ c.requires.grammar

@@ -1,4 +1,4 @@
-use Rattle.std.proofs.Common.{◌∙◌, sym, ap}
+use Rattle.std.proofs.Common.{◌∙◌, ap}
 use Rattle.std.specs.Ordering.{is_le}
 use Rattle.bdb_keep.proofs.OpeningLemmas.{told_behind, told_none}
 use Rattle.bdb_keep.proofs.opening.Opening.behind.Goals as goal
