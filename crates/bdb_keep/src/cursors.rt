@@ -13,7 +13,7 @@ pub type Marks = (Mark, Mark);
 const START: Mark = (0, (0, 0));
 
 /// How many places are remembered by the first bytes of their keys.
-const SLOTS: usize = 4096;
+const SLOTS: usize = 8192;
 
 /// For each table the place that was read last and the one that was written last, so that both are found at once where rows are read
 /// in one place and written in another in turn; and the place used last of those whose keys begin with the same eight bytes, which
@@ -134,5 +134,5 @@ fn slots(alloc: Global) -> Vec<Mark> {
 /// The slot of a place, by its table and the first bytes of its key.
 #[inline(always)]
 fn slot_of(probe: &Probe<'_>) -> usize {
-    (probe.prefix().wrapping_mul(0x9e37_79b9_7f4a_7c15) >> 52) as usize
+    (probe.prefix().wrapping_mul(0x9e37_79b9_7f4a_7c15) >> 51) as usize
 }
