@@ -1,5 +1,5 @@
 -- Rows that are put or taken away at once.
-use Rattle.std.proofs.Common.{◌≡◌, ℕ, suc, ◌+◌, ◌<◌, ◌≤◌, List, [], ◌∷◌, length, drop, get_or, refl, sym, ap, ◌∙◌, arith, drop-cons, drop_of_length-le}
+use Rattle.std.proofs.Common.{◌≡◌, ℕ, suc, ◌+◌, ◌<◌, ◌≤◌, List, [], ◌∷◌, length, drop, get_or, sym, ap, ◌∙◌, arith, drop-cons, drop_of_length-le}
 use Rattle.std.specs.FinMap as map
 use Rattle.bdb_keep.specs.Tables.{Tables, LieInTables}
 use Rattle.bdb_keep.specs.Spans.{Listed, with_rows, without_rows}

@@ -1,4 +1,4 @@
-use Rattle.std.proofs.Common.{◌≡◌, ◌∙◌, ◌∷◌, Some, sym, ap, subst, rules}
+use Rattle.std.proofs.Common.{◌∷◌, Some, sym, ap, subst, rules}
 use Rattle.std.specs.Prelude.{is_some}
 use Rattle.bdb_keep.specs.Tables.{IsPlace}
 use Rattle.bdb_keep.specs.Entries.{IsSetAt}

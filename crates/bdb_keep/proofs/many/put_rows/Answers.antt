@@ -1,4 +1,4 @@
-use Rattle.std.proofs.Common.{◌+◌, ◌<◌, ◌≤◌, ◌∙◌, length, refl, arith, rules}
+use Rattle.std.proofs.Common.{◌+◌, ◌<◌, ◌≤◌, ◌∙◌, length, refl, arith}
 use Rattle.bdb_keep.proofs.ManyLemmas.{put-more, put-all}
 use Rattle.bdb_keep.proofs.many.put_rows.Goals as goal
 

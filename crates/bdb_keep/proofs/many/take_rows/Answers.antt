@@ -1,5 +1,5 @@
-use Rattle.std.proofs.Common.{◌+◌, ◌<◌, ◌≤◌, ◌∙◌, length, refl, arith, rules}
-use Rattle.bdb_keep.proofs.ManyLemmas.{taken-more, taken-all}
+use Rattle.std.proofs.Common.{◌≤◌, length, arith}
+use Rattle.bdb_keep.proofs.ManyLemmas.{taken-all}
 use Rattle.bdb_keep.proofs.many.take_rows.Goals as goal
 
 pub returns-clause-rows : goal.returns-clause-rows
