@@ -1,4 +1,4 @@
-use Rattle.std.proofs.Common.{ℕ, ◌×◌, get_or, sym, subst}
+use Rattle.std.proofs.Common.{ℕ, get_or, sym, subst}
 use Rattle.std.proofs.lemmas.List.{get_or_default}
 use Rattle.bdb_tables.proofs.Loops.{all_at_index}
 use Rattle.bdb_leaving.specs.Paths.{IsDeep}
