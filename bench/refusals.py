@@ -150,7 +150,7 @@ class Run:
         env = dict(os.environ)
         if shim:
             env.update(LD_PRELOAD=shim, REFUSED=str(refused))
-        done = subprocess.run([program, *words], input=script, capture_output=True, text=True, timeout=60, env=env)
+        done = subprocess.run([program, *words], input=script, capture_output=True, text=True, timeout=600, env=env)
         self.status, self.replies, self.met = done.returncode, done.stdout, done.stderr == "r"
 
     def same(self, other):
