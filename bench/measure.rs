@@ -7,8 +7,11 @@ use scripts::{at_many_paths, at_one_path, at_pairs, at_the_root, beliefs, catalo
 use std::collections::{BTreeMap, BTreeSet};
 use std::fs::{self, File};
 use std::hint::black_box;
+use std::io::Write;
 use std::path::PathBuf;
 use std::process::{Command, Stdio};
+use std::thread::sleep;
+use std::time::Duration;
 
 #[repr(C)]
 struct Usage {
@@ -101,6 +104,21 @@ impl Bench {
         count.parse().expect("a number")
     }
 
+    /// The most memory that the program had at once, in kilobytes: as it waits for the end of a script of which it has all. What the
+    /// system tells of a child that ended counts the memory of its parent too, up to where the child begins to be another program.
+    fn most(&self, script: &Script) -> i64 {
+        let mut command = Command::new(&self.program);
+        let mut child = command.arg("run").stdin(Stdio::piped()).stdout(Stdio::null()).spawn().expect("the program");
+        let mut input = child.stdin.take().expect("a pipe");
+        input.write_all(script.text.as_bytes()).expect("a script");
+        sleep(Duration::from_millis(500));
+        let status = fs::read_to_string(format!("/proc/{}/status", child.id())).expect("the program's memory");
+        drop(input);
+        child.wait().expect("the program");
+        let most = status.lines().find_map(|line| line.strip_prefix("VmHWM:")).expect("the program's memory");
+        most.trim().trim_end_matches(" kB").parse().expect("a number")
+    }
+
     fn file(&self, script: &Script) -> PathBuf {
         let file = self.work.join("script");
         fs::write(&file, &script.text).expect("a script");
@@ -189,11 +207,10 @@ fn read_row(bench: &Bench, name: &str, command: &str, refused: bool) {
     ]);
 }
 
-/// The most memory that the program had at once. It comes first: the system tells the most of all children so far.
+/// The most memory that the program had at once.
 fn memory(bench: &Bench) {
-    head("Memory", &["script of 8 MiB", "most at once", "bytes for each byte of the script"]);
+    head("Memory", &["script of 8 MiB", "most at once"]);
     let large = format!("insert into R values('{}');\n", "x".repeat(240));
-    let mut before = usage(CHILDREN).most_kilobytes;
     for (name, command, refused) in [
         ("inserts of 266 bytes", large.as_str(), true),
         ("`show world;` and a line feed", "show world;\n", false),
@@ -201,11 +218,7 @@ fn memory(bench: &Bench) {
     ] {
         let script = repeated(command, 8 << 20, refused);
         bench.check(&script);
-        let most = usage(CHILDREN).most_kilobytes;
-        assert!(most > before, "the scripts stand in order of their memory");
-        before = most;
-        let each = most as f64 * 1024.0 / script.text.len() as f64;
-        row(&[name.into(), format!("{:.0} MB", most as f64 * 1.024e-3), format!("{each:.1}")]);
+        row(&[name.into(), format!("{:.1} MB", bench.most(&script) as f64 * 1.024e-3)]);
     }
 }
 
@@ -389,8 +402,8 @@ fn leaving(bench: &Bench) {
     }
 }
 
-/// The largest tables: each of 4,000 worlds has nearly 4,000 rows, and an edge for each of 1,024 users. One run. It comes last: the
-/// system tells the most memory of all children so far.
+/// The largest tables: each of 4,000 worlds has nearly 4,000 rows, and an edge for each of 1,024 users. One run. Of all children it has
+/// the most memory.
 fn largest(bench: &Bench) {
     head("The largest tables", &["rows", "time", "each row", "memory"]);
     let stmts = [at_the_root(1_024, 3_999), of_one_tuple(64, 2_930)].concat();
@@ -405,18 +418,27 @@ fn largest(bench: &Bench) {
     row(&[format!("{:.1} million", rows as f64 * 1e-6), format!("{time:.1} s"), us(time / rows as f64), format!("{:.1} GB", most as f64 * 1.024e-6)]);
 }
 
+/// What is measured, by name.
+const PARTS: [(&str, fn(&Bench)); 9] = [
+    ("memory", memory),
+    ("reading", reading),
+    ("inserting", inserting),
+    ("binding", binding),
+    ("changing", changing),
+    ("showing", showing),
+    ("structure", structure),
+    ("leaving", leaving),
+    ("largest", largest),
+];
+
 fn main() {
     let words: Vec<String> = std::env::args().skip(1).collect();
-    let [program, work, runs] = words.as_slice() else { panic!("words: PROGRAM FOLDER RUNS") };
+    let [program, work, runs, names @ ..] = words.as_slice() else { panic!("words: PROGRAM FOLDER RUNS [PART ..]") };
     let bench = Bench { program: program.into(), work: work.into(), runs: runs.parse().expect("a number") };
     println!("The least of {} runs; processor time, user and system.", bench.runs);
-    memory(&bench);
-    reading(&bench);
-    inserting(&bench);
-    binding(&bench);
-    changing(&bench);
-    showing(&bench);
-    structure(&bench);
-    leaving(&bench);
-    largest(&bench);
+    for (name, part) in PARTS {
+        if names.is_empty() || names.iter().any(|it| it == name) {
+            part(&bench);
+        }
+    }
 }

@@ -1,15 +1,19 @@
 #!/usr/bin/env python3
 """Refuses memory to the program, one allocation after the other, and looks at what it answers and leaves.
-   bench/refusals.py PROGRAM [JOBS]
-PROGRAM is the built beliefdb, proved or by bench/unproved.py; so many runs go side by side (one where none are named). It wants cc,
-which builds a small library that stands before the C library's malloc and realloc and refuses one call, the nth.
+   bench/refusals.py PROGRAM [JOBS [NAME]]
+PROGRAM is the built beliefdb, proved or by bench/unproved.py; so many runs go side by side (one where none are named); and only scripts
+are tried whose names have NAME in them, where it stands, as `large`. It wants cc, which builds a small library that stands before the C
+library's malloc and realloc and refuses one call, the nth.
 
 Each script is run with the nth call refused, for n from 1 until a run meets no refusal: in memory, with a new file, and its second half
 over the file that its first half left; and that file is checked. A run is right where its status is 6, its replies are those to the first k
 commands, and the file has the base after k commands, with the very rows; or where it ends as it does with ample memory, since it can do
-without what was refused. Last come changes of two thousand statements each, taken back and made again over a file: of the calls that
-these make, too many to refuse each, every so many-th is. A check is right where it writes nothing with status 6, or says what it says with ample memory, and the
-database file stays. The exit status is 1 where any is not."""
+without what was refused. A check is right where it writes nothing with status 6, or says what it says with ample memory, and the
+database file stays.
+
+Last come changes of two thousand statements each over a file: one that is taken back, of which each call is refused, and others, taken back and
+made again, of which every so many-th is. There a run is forked at the call, so that what comes before isn't done again: the copy is refused
+this one call and runs to its end over files of its own, and is right as above. The exit status is 1 where any is not."""
 import concurrent.futures
 import os
 import shutil
@@ -17,6 +21,8 @@ import sqlite3
 import subprocess
 import sys
 import tempfile
+
+import forking
 
 HERE = os.path.dirname(os.path.abspath(__file__))
 
@@ -108,14 +114,14 @@ show world BELIEF 'Alice' BELIEF 'Bob';
 insert into S values('b', 'z'); redo; undo; undo; undo; redo; redo; redo; redo;
 """
 
-# How many statements a large change takes away, and about how many of the calls that large changes make are refused.
-MANY, TRIED = 2_000, 2_000
+# How many statements a large change takes away.
+MANY = 2_000
 
-LARGE = """
-delete from BELIEF 'Bob' S; undo; redo; undo;
-update BELIEF 'Bob' S set v = 'y'; undo; redo;
-drop user 'Bob'; undo; redo;
-"""
+# Large changes, and which calls for memory are refused behind the first reply, which tells that the file is open: each, or every so many-th.
+LARGE = {
+    "a large change and its undo": ("show world; delete from BELIEF 'Bob' S; undo;", 1),
+    "other large changes": ("show world; update BELIEF 'Bob' S set v = 'y'; undo; redo; undo; drop user 'Bob'; undo; redo;", 199),
+}
 
 
 def many_statements():
@@ -144,7 +150,7 @@ class Run:
         env = dict(os.environ)
         if shim:
             env.update(LD_PRELOAD=shim, REFUSED=str(refused))
-        done = subprocess.run([program, *words], input=script, capture_output=True, text=True, timeout=60, env=env)
+        done = subprocess.run([program, *words], input=script, capture_output=True, text=True, timeout=600, env=env)
         self.status, self.replies, self.met = done.returncode, done.stdout, done.stderr == "r"
 
     def same(self, other):
@@ -209,23 +215,38 @@ class Script:
         removed(path)
         return told(run, same and right, run.status == 6 and right)
 
-    def calls(self, shim, text):
-        """How many calls for memory a run of these commands makes."""
-        path = f"{self.folder}/counted.db"
+    def forked(self, shim, jobs, step):
+        """Runs the commands once, and a copy of the run for each call for memory behind the first reply, or each so many-th, to which that call
+        is refused; returns what came of the copies."""
+        own = f"{self.folder}/own"
+        for name in "own", *(f"slot{slot}" for slot in range(jobs)):
+            os.mkdir(f"{self.folder}/{name}")
+        shutil.copy(self.start, f"{own}/run.db")
+        words = {"FOLDER": self.folder, "SLOTS": jobs, "FROM": 1, "UNTIL": len(self.replies), "STEP": step}
+        env = dict(os.environ, LD_PRELOAD=shim, **{f"FORK_{name}": str(word) for name, word in words.items()})
+        done = subprocess.run([self.program, "run", "--db", "run.db"], input=self.text, capture_output=True, text=True, cwd=own, env=env)
+        counts = {"stopped": 0, "harmless": 0, "wrong": 0}
+        if (done.returncode, done.stdout, done.stderr) != (self.last.status, self.last.replies, ""):
+            print(f"WRONG with no refusal: {done.returncode} {done.stdout!r} {done.stderr!r}")
+            counts["wrong"] += 1
+        for number, line in enumerate(content(f"{self.folder}/ends").decode().splitlines()):
+            status, told_before, first, count = map(int, line.split())
+            what = self.ended(f"{self.folder}/end{number}", status, told_before)
+            if what not in counts:
+                print(f"{count} calls, call {first} the first of them, behind {told_before} replies: {what}")
+                what = "wrong"
+            counts[what] += count
+        return counts
 
-        def meets(number):
-            removed(path)
-            shutil.copy(self.start, path)
-            return Run(self.program, ["run", "--db", path], text, shim, number).met
-
-        low, high = 0, 1
-        while meets(high):
-            low, high = high, 2 * high
-        while high - low > 1:
-            middle = (low + high) // 2
-            low, high = (middle, high) if meets(middle) else (low, middle)
-        removed(path)
-        return low
+    def ended(self, folder, status, before):
+        """What is to be said of a copy that ended so, and was forked behind so many replies."""
+        replies, left = content(f"{folder}/out").decode(), left_in(self.program, f"{folder}/run.db")
+        all_told = self.replies[before] + replies
+        if left[0] == 0 and (status, all_told) == (self.last.status, self.last.replies) and left[1:] == self.left[-1][1:]:
+            return "harmless"
+        if left[0] == 0 and status == 6 and all_told in self.replies and left[1:] == self.left[self.replies.index(all_told)][1:]:
+            return "stopped"
+        return f"WRONG: {status} {replies!r}"
 
     def checked(self, shim, refused):
         path = f"{self.folder}/checked{refused}.db"
@@ -250,13 +271,13 @@ def told(run, harmless, stopped):
     return "harmless" if harmless else "stopped" if stopped else f"WRONG: {run.status} {run.replies!r}"
 
 
-def refused_each(jobs, name, trial, first=1, step=1):
-    """Tries each number of a call, or each so many-th, until none is refused; returns what came of them."""
+def refused_each(jobs, name, trial):
+    """Tries each number of a call, until none is refused; returns what came of them."""
     counts = {"stopped": 0, "harmless": 0, "wrong": 0}
     with concurrent.futures.ThreadPoolExecutor(jobs) as pool:
-        size, ended = 64 * jobs * step, False
+        first, size, ended = 1, 64 * jobs, False
         while not ended:
-            numbers = range(first, first + size, step)
+            numbers = range(first, first + size)
             for number, what in zip(numbers, pool.map(trial, numbers)):
                 if what == "none":
                     ended = True
@@ -266,19 +287,27 @@ def refused_each(jobs, name, trial, first=1, step=1):
                     counts["wrong"] += 1
                     print(f"{name}, call {number}: {what}")
             first += size
-    refused = sum(counts.values())
-    print(f"{name}: {refused} refusals, {counts['stopped']} status 6, {counts['harmless']} harmless, {counts['wrong']} wrong", flush=True)
+    tell(name, counts)
     return counts
 
 
-def large_changes(program, folder, shim, jobs):
-    """Refuses memory to large changes, over a file that has their statements; returns what came of it."""
-    os.mkdir(folder)
-    script = Script(program, folder, commands_of(LARGE), many_statements())
-    opening, total = script.calls(shim, ""), script.calls(shim, script.text)
-    step = max(1, (total - opening) // TRIED)
-    name = f"large changes, over a file, each {step}th of {total - opening} calls"
-    return refused_each(jobs, name, lambda number: script.in_file(shim, number), opening + 1, step)
+def large_changes(program, top, shim, jobs, part):
+    """Refuses memory to large changes, over files that have their statements; returns what came of it."""
+    sums = {}
+    for name, (text, step) in LARGE.items():
+        if part not in name:
+            continue
+        folder = f"{top}/{name.replace(' ', '_')}"
+        os.mkdir(folder)
+        counts = Script(program, folder, commands_of(text), many_statements()).forked(shim, jobs, step)
+        tell(f"{name}, over a file", counts)
+        add(sums, counts)
+    return sums
+
+
+def tell(name, counts):
+    refused = sum(counts.values())
+    print(f"{name}: {refused} refusals, {counts['stopped']} status 6, {counts['harmless']} harmless, {counts['wrong']} wrong", flush=True)
 
 
 def add(sums, counts):
@@ -286,30 +315,38 @@ def add(sums, counts):
         sums[what] = sums.get(what, 0) + count
 
 
-def main(program, jobs=1):
+def built(top, name, text):
+    """A library that is made of this text, which stands before the C library."""
+    with open(f"{top}/{name}.c", "w") as it:
+        it.write(text)
+    subprocess.check_call(["cc", "-O2", "-shared", "-fPIC", "-o", f"{top}/{name}.so", f"{top}/{name}.c"])
+    return f"{top}/{name}.so"
+
+
+def main(program, jobs=1, part=""):
     sums = {}
     with tempfile.TemporaryDirectory(dir="/dev/shm" if os.path.isdir("/dev/shm") else None) as top:
-        shim = f"{top}/refusing.so"
-        with open(f"{top}/refusing.c", "w") as it:
-            it.write(REFUSING)
-        subprocess.check_call(["cc", "-O1", "-shared", "-fPIC", "-o", shim, f"{top}/refusing.c"])
+        shim = built(top, "refusing", REFUSING)
         for name, commands in scripts().items():
-            for part in "whole", "second":
-                folder = f"{top}/{name.replace(' ', '_')}_{part}"
+            if part not in name:
+                continue
+            for half in 0, len(commands) // 2:
+                folder = f"{top}/{name.replace(' ', '_')}_{half}"
                 os.mkdir(folder)
-                half = len(commands) // 2 if part == "second" else 0
                 script = Script(program, folder, commands[half:], commands[:half])
                 trials = {"over its first half": script.in_file} if half else \
                     {"in memory": script.in_memory, "in a new file": script.in_file, "checked": script.checked}
                 for how, trial in trials.items():
                     counts = refused_each(jobs, f"{name}, {how}", lambda n: trial(shim, n))
                     add(sums, counts)
-        add(sums, large_changes(program, f"{top}/large", shim, jobs))
-    print(f"in all: {sum(sums.values())} refusals, {sums['stopped']} status 6, {sums['harmless']} harmless, {sums['wrong']} wrong")
+        add(sums, large_changes(program, top, built(top, "forking", forking.TEXT), jobs, part))
+    if not sums:
+        sys.exit(f"no script has {part} in its name")
+    tell("in all", sums)
     return 1 if sums["wrong"] else 0
 
 
 if __name__ == "__main__":
-    if not 2 <= len(sys.argv) <= 3:
+    if not 2 <= len(sys.argv) <= 4:
         sys.exit(__doc__)
-    sys.exit(main(os.path.abspath(sys.argv[1]), *map(int, sys.argv[2:])))
+    sys.exit(main(os.path.abspath(sys.argv[1]), *map(int, sys.argv[2:3]), *sys.argv[3:]))

@@ -3,7 +3,8 @@
 # docs/PERFORMANCE.md.
 #   bench/run.sh PROGRAM [RUNS [SMALL]]
 # PROGRAM is the built beliefdb, SMALL the built bdb_bench (which is left out where none is named; it wants python3, whose sqlite3
-# it measures beside). Each figure is the least of RUNS runs (5 where none is named). Nothing is left behind.
+# it measures beside). Each figure is the least of RUNS runs (5 where none is named). Nothing is left behind. PARTS in the environment
+# names the parts of bench/measure.rs to run, as `leaving largest` (all where none is named).
 set -eu
 [ $# -ge 1 ] || { echo "usage: bench/run.sh PROGRAM [RUNS [SMALL]]" >&2; exit 2; }
 here=$(cd "$(dirname "$0")" && pwd)
@@ -11,7 +12,8 @@ work=$(mktemp -d)
 trap 'rm -rf "$work"' EXIT
 rustc -O --edition 2021 -o "$work/measure" "$here/measure.rs"
 cp "$1" "$work/beliefdb"
-"$work/measure" "$work/beliefdb" "$work" "${2:-5}"
+# shellcheck disable=SC2086
+"$work/measure" "$work/beliefdb" "$work" "${2:-5}" ${PARTS:-}
 [ $# -ge 3 ] || exit 0
 BENCH_FOLDER="$here" rustc -O --edition 2021 -o "$work/kept" "$here/kept.rs"
 cp "$3" "$work/bdb_bench"

@@ -35,18 +35,24 @@ fn add_eagle(alloc: Global, made: &mut Made, outer: u32, inner: u32) -> Result<(
     made.add(command.as_str(), "ok 1\n")
 }
 
-/// Users 1 to 64, and inserts at as many paths of two users as make 4,000 worlds.
-fn full_of_worlds(alloc: Global) -> Result<Made, Fail> {
+/// Users 1 to `last`, and inserts at the path of each two of them that come before the last.
+fn at_each_pair(alloc: Global, last: u32) -> Result<Made, Fail> {
     let mut made = Made::new(alloc);
-    made.add_users(alloc, 64)?;
+    made.add_users(alloc, last as u64)?;
     made.add("create relation S(k text, v text);\n", "ok\n")?;
-    for outer in 1..64 {
-        for inner in 1..64 {
+    for outer in 1..last {
+        for inner in 1..last {
             if outer != inner {
                 add_eagle(alloc, &mut made, outer, inner)?;
             }
         }
     }
+    Ok(made)
+}
+
+/// Users 1 to 64, and inserts at as many paths of two users as make 4,000 worlds.
+fn full_of_worlds(alloc: Global) -> Result<Made, Fail> {
+    let mut made = at_each_pair(alloc, 64)?;
     for outer in 1..31 {
         add_eagle(alloc, &mut made, outer, 64)?;
     }
@@ -65,6 +71,30 @@ fn worlds_have_a_limit(rt: HostRuntime) -> Result<(), Fail> {
         "ok 1\n",
     )?;
     assert!(rt; made.is_told(rt.alloc(), 1)?);
+    Ok(())
+}
+
+/// Users 1 to 45, and inserts at as many paths of two users as make 2,000 worlds.
+fn half_full_of_worlds(alloc: Global) -> Result<Made, Fail> {
+    let mut made = at_each_pair(alloc, 45)?;
+    for inner in 1..45 {
+        add_eagle(alloc, &mut made, 45, inner)?;
+    }
+    for outer in 1..19 {
+        add_eagle(alloc, &mut made, outer, 45)?;
+    }
+    Ok(made)
+}
+
+#[test]
+fn two_thousand_worlds_leave_room(rt: HostRuntime) -> Result<(), Fail> {
+    let mut made = half_full_of_worlds(rt.alloc())?;
+    add_eagle(rt.alloc(), &mut made, 19, 45)?;
+    made.add(
+        "insert into BELIEF '1' BELIEF '45' S values('s2','owl');",
+        "ok 1\n",
+    )?;
+    assert!(rt; made.is_told(rt.alloc(), 0)?);
     Ok(())
 }
 
