@@ -233,3 +233,52 @@ fn each_read_fails_once(rt: HostRuntime) -> Result<(), Fail> {
     assert!(rt; false, "each read fails");
     Ok(())
 }
+
+/// What is told of a rest that holds something.
+const UNFINISHED: &[u8] = b"error unfinished\n";
+
+/// How many of the first pieces are told without an error.
+const FINE: usize = 10;
+
+/// Whether something stands behind the last piece that ends in a front of the stream. Between two pieces there is a line feed alone.
+fn has_rest(front: &[u8]) -> bool {
+    match front.last() {
+        Some(byte) => *byte != b';' && *byte != b'\n',
+        None => false,
+    }
+}
+
+/// What a front of the stream leaves, of which nothing fails.
+fn left_by_front(alloc: Global, front: &[u8]) -> Result<Left, Fail> {
+    let source = MemSource::new(Vec::from_slice(alloc, front)?, STEP, List::new(alloc));
+    left_by(alloc, source, quiet_sink(alloc)?, quiet_keeper(alloc))
+}
+
+/// Whether a run over a front of the stream tells of the pieces that end in it and of its rest, and leaves the rows of these pieces:
+/// a batch that is open is dropped.
+fn ends_at(alloc: Global, front: &[u8]) -> Result<bool, Fail> {
+    let left = left_by_front(alloc, front)?;
+    let count = pieces_in(front, front.len());
+    let mut replies = replies_of(alloc, count)?;
+    let is_unfinished = has_rest(front);
+    if is_unfinished {
+        replies.extend_from_slice(UNFINISHED)?;
+    }
+    let status = if is_unfinished || FINE < count { 1 } else { 0 };
+    Ok(
+        left.status == status
+            && left.out.bytes() == replies.as_slice()
+            && stands_after(alloc, &left, count)?,
+    )
+}
+
+#[test]
+fn the_stream_ends_anywhere(rt: HostRuntime) -> Result<(), Fail> {
+    let stream = stream_of(rt.alloc(), PIECES.len())?;
+    let whole = stream.as_slice();
+    for count in 0..whole.len() + 1 {
+        let front = whole.get(..count).unwrap_or(whole);
+        assert!(rt; ends_at(rt.alloc(), front)?, "{count} bytes");
+    }
+    Ok(())
+}
