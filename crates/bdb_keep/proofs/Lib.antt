@@ -2,6 +2,7 @@ pub mod BesideLemmas
 pub mod BlocksLemmas
 pub mod EntriesLemmas
 pub mod FirstLemmas
+pub mod FirstRowsLemmas
 pub mod Gets
 pub mod HeadsLemmas
 pub mod ManyLemmas

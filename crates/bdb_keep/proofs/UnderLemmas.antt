@@ -70,7 +70,7 @@ pub row_under-other : (p place : List ℕ) (r : Option (List ℕ)) → is_prefix
 row_under-other p place None h = refl
 row_under-other p place (Some row) h = ap (λ b. cond b ((drop 1 place, row) ∷ []) []) h
 
-less_not_le : (a b : List ℕ) → bytes_cmp a b ≡ Less → is_le (bytes_cmp b a) ≡ false
+pub less_not_le : (a b : List ℕ) → bytes_cmp a b ≡ Less → is_le (bytes_cmp b a) ≡ false
 less_not_le a b l = ap is_le (nat_list_cmp_total.antisymm b a ∙ ap ordering_reverse l)
 
 pub not_true : (b : Bool) → (b ≡ true → ⊥) → b ≡ false
@@ -85,7 +85,7 @@ below-under p (x ∷ xs) b =
     ∙ below-under p xs b.1
 
 -- nor does what is above a place that is past
-above-under : (p k : List ℕ) (ys : Entries) → IsTrue (is_le (bytes_cmp p k)) → is_prefix p k ≡ false → AreAbove k ys → entries_under p ys ≡ []
+pub above-under : (p k : List ℕ) (ys : Entries) → IsTrue (is_le (bytes_cmp p k)) → is_prefix p k ≡ false → AreAbove k ys → entries_under p ys ≡ []
 above-under p k [] l n a = refl
 above-under p k (y ∷ ys) l n a =
     ap (λ r. r ++ entries_under p ys) (row_under-other p y.0 y.1 (not_true (is_prefix p y.0) (λ h. true≢false (sym (prefix_convex p k y.0 h l (ap is_le a.0)) ∙ n))))
@@ -110,13 +110,13 @@ past-append p [] [] zs h = absurd h
 
 module _ (tab : ℕ) (prefix : List ℕ) where
   -- such a place is the table's, and its key begins so
-  place_parts : (place : List ℕ) → is_prefix (tab ∷ prefix) place ≡ true → (place ≡ tab ∷ drop 1 place) × (is_prefix prefix (drop 1 place) ≡ true)
+  pub place_parts : (place : List ℕ) → is_prefix (tab ∷ prefix) place ≡ true → (place ≡ tab ∷ drop 1 place) × (is_prefix prefix (drop 1 place) ≡ true)
   place_parts [] h = absurd (true≢false (sym h))
   place_parts (j ∷ q) h =
       let both = and_parts (nat_eq tab j) (is_prefix prefix q) h in
       (ap (λ n. n ∷ q) (sym (eqb-true tab j both.0)), both.1)
 
-  place_begins : (q : List ℕ) → is_prefix prefix q ≡ true → is_prefix (tab ∷ prefix) (tab ∷ q) ≡ true
+  pub place_begins : (q : List ℕ) → is_prefix prefix q ≡ true → is_prefix (tab ∷ prefix) (tab ∷ q) ≡ true
   place_begins q h = and_from (nat_eq tab tab) (is_prefix prefix q) (nat_same tab tab refl) h
 
   inside : (a b : List ℕ) → bytes_cmp (tab ∷ a) (tab ∷ b) ≡ bytes_cmp a b
@@ -279,7 +279,7 @@ pub record IsWalked (p : List ℕ) (bs : List Entries) (i j : ℕ) (old now : Li
   pub above : NoneBelow p (after bs i j)
   pub index : i < length bs → j ≤ length (get_or bs i [])
 
-none-below-parts : (p : List ℕ) (xs ys : Entries) → NoneBelow p (xs ++ ys) → NoneBelow p xs × NoneBelow p ys
+pub none-below-parts : (p : List ℕ) (xs ys : Entries) → NoneBelow p (xs ++ ys) → NoneBelow p xs × NoneBelow p ys
 none-below-parts p [] ys n = (tt, n)
 none-below-parts p (x ∷ xs) ys n = let more = none-below-parts p xs ys n.1 in ((n.0, more.0), more.1)
 

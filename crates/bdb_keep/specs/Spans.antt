@@ -1,5 +1,6 @@
 -- Rows that are read or written at once: those of a table whose keys begin with some bytes, and those of a list.
-use Rattle.std.specs.Prelude.{◌≡◌, ℕ, ◌≤◌, ◌⊎◌, true, false, cond, List, [], ◌∷◌, ◌++◌, Option, Some, None, IsTrue, drop}
+use Rattle.std.specs.Prelude.{◌≡◌, ℕ, ◌≤◌, ◌⊎◌, true, false, cond, List, [], ◌∷◌, ◌++◌, Option, Some, None, IsTrue, filter, take, drop}
+use Prim.Native.Nat.{zero, suc}
 use Rattle.std.specs.List.{AllByRecursion, slice_range}
 use Rattle.std.specs.declared.cmp.Ordering.{Ordering}
 use Rattle.std.specs.Ordering.{is_le}
@@ -7,8 +8,9 @@ use Rattle.std.specs.FinMap as map
 use Rattle.std.specs.FinMap.{find}
 use Rattle.bdb_base.specs.Segments.{is_prefix}
 use Rattle.bdb_base.specs.SortedSet.{ascending}
-use Rattle.bdb_keep.specs.Tables.{Tables, bytes_cmp}
-use Rattle.bdb_keep.specs.Entries.{Entries}
+use Rattle.bdb_keep.specs.Tables.{Tables, bytes_cmp, IsLeastFrom, NoneFrom}
+use Rattle.bdb_keep.specs.Entries.{Entries, IsAscending}
+use Rattle.bdb_keep.specs.Scans.{next_key}
 use Rattle.bdb_keep.specs.declared.span.Cut.{Cut}
 
 -- keys, each with its row
@@ -24,6 +26,13 @@ pub record AreRowsUnder (t : Tables) (tab : ℕ) (prefix : List ℕ) (rows : Lis
   pub each : AllByRecursion (λ r. is_prefix prefix r.0 ≡ true) rows
   pub sorted : ascending listed_cmp rows ≡ true
   pub found : (q : List ℕ) → is_prefix prefix q ≡ true → map.get t (tab ∷ q) ≡ find bytes_cmp q rows
+
+-- These are the rows that come first in a table from `low` on, at most so many: the first has the least key that isn't below
+-- `low`, the others come first from right behind that key on, at most one fewer, and where none comes any more there are no others.
+abbrev pub AreFirstRows : Tables → ℕ → List ℕ → ℕ → Listed → Type 0
+AreFirstRows t tab low zero rows = rows ≡ []
+AreFirstRows t tab low (suc most) [] = NoneFrom t tab low
+AreFirstRows t tab low (suc most) (r ∷ rows) = IsLeastFrom t tab low r.0 r.1 × AreFirstRows t tab (next_key r.0) most rows
 
 -- the key and the row of a cut
 abbrev pub entry_in : List ℕ → Cut → List ℕ × List ℕ
@@ -49,6 +58,14 @@ row_under p place (Some row) = cond (is_prefix p place) ((drop 1 place, row) ∷
 abbrev pub entries_under : List ℕ → Entries → Listed
 entries_under p [] = []
 entries_under p (e ∷ es) = row_under p e.0 e.1 ++ entries_under p es
+
+-- the entries whose places aren't below a place
+abbrev pub rest_from : List ℕ → Entries → Entries
+rest_from q es = filter (λ e. is_le (bytes_cmp q e.0)) es
+
+-- some rows, at most so many, stay as they are where rows come that begin so and whose places are behind these
+abbrev pub TakesNoMore : ℕ → List ℕ → Entries → Listed → Type 0
+TakesNoMore most p es rows = (more : Entries) → IsAscending (es ++ more) → take most (rows ++ entries_under p more) ≡ rows
 
 -- among some entries there is one above the places that begin so
 abbrev pub HasPast : List ℕ → Entries → Type 0

@@ -77,6 +77,14 @@ impl Entry {
         }
     }
 
+    /// The number of the table.
+    #[inline(always)]
+    pub fn tab(&self) -> u8
+        ensures { self.now.0 ≡ result ∷ drop 1 self.now.0 }
+    {
+        self.tail.tab()
+    }
+
     /// The head of the place.
     #[inline(always)]
     pub fn head(&self) -> Head

@@ -5,7 +5,7 @@ ghost use Rattle.bdb_base.specs.Causes.{RoseBy};
 ghost use Rattle.bdb_keep.specs.Calls.{IsBegin, IsRead, IsWrite, IsCommit, IsUndo};
 ghost use Rattle.bdb_keep.specs.Tables.{IsLeastFrom, LieInTables, NoneFrom};
 ghost use Rattle.bdb_keep.specs.Seen.{Seen};
-ghost use Rattle.bdb_keep.specs.Spans.{AreRowsUnder, with_rows, without_rows};
+ghost use Rattle.bdb_keep.specs.Spans.{AreFirstRows, AreRowsUnder, with_rows, without_rows};
 
 use crate::span::Span;
 use thiserror::Error;
@@ -68,6 +68,22 @@ pub trait Keeper {
     fn under(&mut self, tab: u8, prefix: &[u8], span: &mut Span) -> Result<(), KeepError>
         requires table { (1 ≤ tab) × (tab ≤ 15) }
         ensures rows { OnOk result (AreRowsUnder (seen self.old).kept tab prefix.now span.new) }
+        ensures reads { OnOk result (RoseBy (length span.new + 1) (seen self.old).reads (seen self.new).reads) }
+        ensures read { IsRead (seen self.old) (seen self.new) result KeepError.Fault };
+
+    /// Makes `span` the first rows of a table whose keys aren't below `low`, at most so many, in the order of their keys.
+    ///
+    /// It stands for the calls of `next` that read these rows one after the other, each from right behind the key before it on. As
+    /// `under` it counts as one read more than there are rows, however it is done.
+    fn some_from(
+        &mut self,
+        tab: u8,
+        low: &[u8],
+        most: usize,
+        span: &mut Span,
+    ) -> Result<(), KeepError>
+        requires table { (1 ≤ tab) × (tab ≤ 15) }
+        ensures rows { OnOk result (AreFirstRows (seen self.old).kept tab low.now most span.new) }
         ensures reads { OnOk result (RoseBy (length span.new + 1) (seen self.old).reads (seen self.new).reads) }
         ensures read { IsRead (seen self.old) (seen self.new) result KeepError.Fault };
 

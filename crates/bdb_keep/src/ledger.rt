@@ -4,7 +4,7 @@ ghost use Rattle.std.specs.FinMap as map;
 ghost use Rattle.bdb_base.specs.Causes.{Rose, RoseBy};
 ghost use Rattle.bdb_keep.specs.Calls.{IsRead, IsWrite, IsUndo};
 ghost use Rattle.bdb_keep.specs.Seen.{NeverFall, IsAtRest, IsDropped};
-ghost use Rattle.bdb_keep.specs.Spans.{AreRowsUnder, with_rows, without_rows};
+ghost use Rattle.bdb_keep.specs.Spans.{AreFirstRows, AreRowsUnder, with_rows, without_rows};
 ghost use Rattle.bdb_keep.specs.Tables.{IsLeastFrom, LieInTables, NoneFrom};
 ghost use Rattle.bdb_keep.specs.Told.{HasNoFault};
 
@@ -143,6 +143,34 @@ impl Ledger {
         ensures calm { HasNoFault self.old.seen self.new.seen result }
     {
         match self.store.under(tab, prefix, span) {
+            Ok(()) => {
+                self.reads = reads_after(self.reads, span.len());
+                Ok(())
+            }
+            Err(_) => {
+                self.reads = reads_after(self.reads, 0);
+                self.undo();
+                Err(KeepError::Memory)
+            }
+        }
+    }
+
+    /// Makes `span` the first rows of a table whose keys aren't below `low`, at most so many, in order. It counts as one read more than
+    /// there are rows.
+    pub fn some_from(
+        &mut self,
+        tab: u8,
+        low: &[u8],
+        most: usize,
+        span: &mut Span,
+    ) -> Result<(), KeepError>
+        requires table { (1 ≤ tab) × (tab ≤ 15) }
+        ensures rows { OnOk result (AreFirstRows self.old.seen.kept tab low.now most span.new) }
+        ensures reads { OnOk result (RoseBy (length span.new + 1) self.old.seen.reads self.new.seen.reads) }
+        ensures read { IsRead self.old.seen self.new.seen result KeepError.Fault }
+        ensures calm { HasNoFault self.old.seen self.new.seen result }
+    {
+        match self.store.some_from(tab, low, most, span) {
             Ok(()) => {
                 self.reads = reads_after(self.reads, span.len());
                 Ok(())

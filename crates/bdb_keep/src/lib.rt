@@ -11,6 +11,7 @@ mod changes;
 mod cursors;
 mod entry;
 mod finding;
+mod firsts;
 mod head;
 mod keeper;
 mod ledger;

@@ -124,6 +124,19 @@ impl Keeper for QuietKeeper {
         }
     }
 
+    fn some_from(
+        &mut self,
+        tab: u8,
+        low: &[u8],
+        most: usize,
+        span: &mut Span,
+    ) -> Result<(), KeepError> {
+        match self.ledger.some_from(tab, low, most, span) {
+            Ok(()) => Ok(()),
+            Err(error) => Err(error),
+        }
+    }
+
     fn put(&mut self, tab: u8, key: &[u8], row: &[u8]) -> Result<(), KeepError> {
         match self.ledger.put(tab, key, row) {
             Ok(()) => Ok(()),

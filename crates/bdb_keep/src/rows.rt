@@ -4,13 +4,14 @@ ghost use Rattle.std.specs.Option.{option_map, option_copied};
 ghost use Rattle.std.specs.FinMap as map;
 ghost use Rattle.bdb_keep.specs.Entries.{place_at, row_of, rows_of, IsSetAt, IsAmong, AreAmong};
 ghost use Rattle.bdb_keep.specs.Blocks.{joined};
-ghost use Rattle.bdb_keep.specs.Spans.{AreRowsUnder};
+ghost use Rattle.bdb_keep.specs.Spans.{AreFirstRows, AreRowsUnder};
 ghost use Rattle.bdb_keep.specs.Tables.{IsLeastFrom, NoneFrom, LieWithin};
 
 use crate::block::Block;
 use crate::census::Census;
 use crate::cursors::Cursors;
 use crate::entry::Entry;
+use crate::firsts::read_first_rows;
 use crate::row::Row;
 use crate::shelf::Shelf;
 use crate::span::Span;
@@ -206,6 +207,24 @@ impl Rows {
         let probe = Probe::of(tab, prefix);
         let near = self.cursors.to_read(&probe);
         let mark = shelves::read_under(&self.shelves, near, &probe, tab, prefix, span)?;
+        self.cursors.remember_read(&probe, mark);
+        Ok(())
+    }
+
+    /// Reads the first rows of a table whose keys aren't below `low`, at most so many.
+    pub fn read_some(
+        &mut self,
+        tab: u8,
+        low: &[u8],
+        most: usize,
+        span: &mut Span,
+    ) -> Result<(), AllocError>
+        ensures rows { OnOk result (AreFirstRows (rows_of self.old) tab low.now most span.new) }
+        ensures same { self.new ≡ self.old }
+    {
+        let probe = Probe::of(tab, low);
+        let near = self.cursors.to_read(&probe);
+        let mark = read_first_rows(&self.shelves, near, &probe, tab, low, most, span)?;
         self.cursors.remember_read(&probe, mark);
         Ok(())
     }

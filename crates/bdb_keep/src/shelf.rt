@@ -1,9 +1,11 @@
 // A shelf of sorted blocks.
-ghost use Rattle.std.specs.Prelude.{◌≡◌, ◌∷◌, ◌++◌, [], Some, None, IfOk, IfErr, IfSome, IfNone, OnSome, OnOk, OnErr, not, false, if◌then◌else◌};
+ghost use Rattle.std.specs.Prelude.{◌≡◌, ◌∷◌, ◌++◌, [], Some, None, IfOk, IfErr, IfSome, IfNone, OnSome, OnOk, OnErr, IsTrue, ◌≤◌, length, take, not, false, if◌then◌else◌};
 ghost use Rattle.std.specs.Option.{option_copied};
+ghost use Rattle.std.specs.Ordering.{is_le};
+ghost use Rattle.bdb_keep.specs.Tables.{bytes_cmp};
 ghost use Rattle.bdb_keep.specs.Entries.{place_at, row_of};
 ghost use Rattle.bdb_keep.specs.Blocks.{joined, starts_within, without_empty, has_any, AreSorted, IsBound};
-ghost use Rattle.bdb_keep.specs.Spans.{entries_under, HasPast};
+ghost use Rattle.bdb_keep.specs.Spans.{rest_from, entries_under, HasPast, TakesNoMore};
 ghost use Rattle.bdb_keep.specs.Shelves.{IsChangedAt, NoRowFrom, IsFirstRow, IsCutInTwo, BelongsAmong};
 
 use crate::behind::{find_right_behind, stands_behind};
@@ -11,6 +13,7 @@ use crate::block::Block;
 use crate::blocks::{add, drop_empty_blocks, drop_empty_places, is_behind, replace_at, take_out};
 use crate::entry::Entry;
 use crate::finding::{Spot, entry_of, find, find_beside, find_row, row_from, seek_near};
+use crate::firsts::take_first_blocks;
 use crate::opening::Opening;
 use crate::row::Row;
 use crate::span::Span;
@@ -349,6 +352,32 @@ impl Shelf {
             Some(at) => Some((at, replace_at(&mut self.blocks, at, None))),
             None => None,
         }
+    }
+}
+
+/// What is read from a place on.
+impl Shelf {
+    /// Takes the rows of a table whose places aren't below one that is looked for, until there are so many rows or a place is in another
+    /// table, and answers where it stopped, and whether there may be more. It looks first beside a spot, and then at a block.
+    pub fn read_from(
+        &self,
+        near: Spot,
+        from: usize,
+        probe: &Probe<'_>,
+        tab: u8,
+        most: usize,
+        span: &mut Span,
+    ) -> Result<(Spot, bool), AllocError>
+        requires table { IsTrue (is_le (bytes_cmp (tab ∷ []) probe.now)) }
+        requires few { length span.old ≤ most }
+        ensures rows { OnOk result
+            (span.new ≡ take most (span.old ++ entries_under (tab ∷ []) (rest_from probe.now self.now))) }
+        ensures done { IfOk result (λ found. found.1 ≡ false
+            → TakesNoMore most (tab ∷ []) (rest_from probe.now self.now) span.new) }
+    {
+        let start = seek_near(&self.blocks, near, from, probe);
+        let stop = take_first_blocks(&self.blocks, start, tab, most, span)?;
+        Ok(stop)
     }
 }
 

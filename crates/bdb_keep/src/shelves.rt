@@ -180,7 +180,7 @@ fn read_under_behind(
 
 /// The spot of the last mark where it is on a shelf, and else none on it.
 #[inline(always)]
-fn spot_on(marks: Marks, shelf: usize) -> Spot {
+pub fn spot_on(marks: Marks, shelf: usize) -> Spot {
     let (last, _) = marks;
     if last.0 == shelf {
         return last.1;
@@ -500,7 +500,7 @@ fn first_row_from<'a>(
 }
 
 /// The shelf that a place belongs on. It looks first at those of the marks.
-fn shelf_for(shelves: &[Shelf], near: Marks, probe: &Probe<'_>) -> Option<usize>
+pub fn shelf_for(shelves: &[Shelf], near: Marks, probe: &Probe<'_>) -> Option<usize>
     requires { AreSorted shelves.now }
     ensures shelf { IfSome result (λ at. IsBlockFor shelves.now probe.now at) }
     ensures none { IfNone result (joined shelves.now ≡ []) }
@@ -551,7 +551,7 @@ fn search(shelves: &[Shelf], probe: &Probe<'_>) -> Option<usize>
 
 /// The block of a mark that is on a shelf, where a search begins there.
 #[inline(always)]
-fn block_on(marks: Marks, shelf: usize) -> usize {
+pub fn block_on(marks: Marks, shelf: usize) -> usize {
     let (last, used) = marks;
     if used.0 == shelf {
         return used.1.0;

@@ -7,6 +7,9 @@ use crate::entry::Entry;
 use std::alloc::{AllocError, Global};
 use std::marker::Model;
 
+/// How many bytes a key and its row take, or fewer, in most tables.
+const USUAL_LENGTH: usize = 32;
+
 /// Where a key and its row lie: the key from `start` up to `middle`, and the row from there up to `end`.
 #[derive(Clone, Copy)]
 pub struct Cut {
@@ -90,6 +93,15 @@ impl Span {
     {
         let cut = &self.cuts[index];
         (cut.key(&self.bytes), cut.row(&self.bytes))
+    }
+
+    /// Takes memory for so many rows more of a usual length.
+    pub fn reserve(&mut self, rows: usize) -> Result<(), AllocError>
+        ensures { self.new ≡ self.old }
+    {
+        self.bytes.reserve(rows.saturating_mul(USUAL_LENGTH))?;
+        self.cuts.reserve(rows)?;
+        Ok(())
     }
 
     /// Takes memory for as many rows of as many bytes more as another one has.

@@ -3,7 +3,7 @@ ghost use Rattle.std.specs.Prelude.{◌≡◌, ◌≤◌, ◌++◌, ◌∷◌, �
 ghost use Rattle.std.specs.Option.{option_map};
 ghost use Rattle.std.specs.FinMap as map;
 ghost use Rattle.bdb_keep.specs.Held.{written};
-ghost use Rattle.bdb_keep.specs.Spans.{AreRowsUnder, with_rows, without_rows};
+ghost use Rattle.bdb_keep.specs.Spans.{AreFirstRows, AreRowsUnder, with_rows, without_rows};
 ghost use Rattle.bdb_keep.specs.Tables.{IsLeastFrom, IsPlace, NoneFrom};
 
 use crate::changes::{Change, insert_row, put_row, roll_back, settle, take_row};
@@ -85,6 +85,20 @@ impl Store {
         ensures same { self.new ≡ self.old }
     {
         self.rows.read_under(tab, prefix, span)
+    }
+
+    /// Reads the first rows of a table whose keys aren't below `low`, at most so many.
+    pub fn some_from(
+        &mut self,
+        tab: u8,
+        low: &[u8],
+        most: usize,
+        span: &mut Span,
+    ) -> Result<(), AllocError>
+        ensures rows { OnOk result (AreFirstRows self.old.kept tab low.now most span.new) }
+        ensures same { self.new ≡ self.old }
+    {
+        self.rows.read_some(tab, low, most, span)
     }
 
     /// Puts a row at a key.

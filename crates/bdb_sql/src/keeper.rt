@@ -3,7 +3,7 @@ ghost use Rattle.std.specs.Prelude.{◌≡◌, ◌+◌, ◌≤◌, length, [], �
 ghost use Rattle.std.specs.FinMap as map;
 ghost use Rattle.bdb_base.specs.Causes.{RoseBy};
 ghost use Rattle.bdb_keep.specs.Calls.{IsBegin, IsRead, IsWrite, IsCommit, IsUndo};
-ghost use Rattle.bdb_keep.specs.Spans.{AreRowsUnder, with_rows, without_rows};
+ghost use Rattle.bdb_keep.specs.Spans.{AreFirstRows, AreRowsUnder, with_rows, without_rows};
 ghost use Rattle.bdb_keep.specs.Tables.{IsLeastFrom, LieInTables, NoneFrom};
 ghost use Rattle.bdb_sql.specs.Filed.{works, Answers, Commits, Begins};
 ghost use Rattle.bdb_sql.specs.Kept.{IsBareOrKept};
@@ -222,6 +222,31 @@ impl<S: Alter> Keeper for SqlKeeper<S> {
             return Err(error);
         }
         match self.ledger.under(tab, prefix, span) {
+            Ok(()) => Ok(()),
+            Err(error) => Err(error),
+        }
+    }
+
+    fn some_from(
+        &mut self,
+        tab: u8,
+        low: &[u8],
+        most: usize,
+        span: &mut Span,
+    ) -> Result<(), KeepError>
+        requires table { (1 ≤ tab) × (tab ≤ 15) }
+        ensures rows { OnOk result (AreFirstRows self.old.seen.kept tab low.now most span.new) }
+        ensures reads { OnOk result (RoseBy (length span.new + 1) self.old.seen.reads self.new.seen.reads) }
+        ensures read { IsRead self.old.seen self.new.seen result KeepError.Fault }
+
+        ensures answers { Answers self.old self.new result }
+        ensures filed { MatchesFile S.Store self.old → MatchesFile S.Store self.new }
+    {
+        if let Some(error) = self.refusal {
+            self.ledger.refuse_read(error);
+            return Err(error);
+        }
+        match self.ledger.some_from(tab, low, most, span) {
             Ok(()) => Ok(()),
             Err(error) => Err(error),
         }

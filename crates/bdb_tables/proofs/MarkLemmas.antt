@@ -1,6 +1,6 @@
 -- Rows of table 11 by the numbers of their tuples, and the rows of a group as a table of their own.
 use Rattle.std.proofs.Common.{◌≡◌, ℕ, ◌+◌, ◌-◌, ◌≤◌, true, List, [], ◌∷◌, ◌++◌, Option, Some, None, map, length, drop, refl, sym, ap, subst, ◌∙◌, arith, length-append}
-use Rattle.std.specs.Prelude.{nat_eq}
+use Rattle.std.specs.Prelude.{nat_eq, MatchOption}
 use Rattle.std.specs.List.{AllByRecursion}
 use Rattle.std.proofs.lemmas.Bool.{and_parts, eqb-true, false≢true}
 use Rattle.std.proofs.lemmas.List.{map-append}
@@ -17,10 +17,10 @@ use Rattle.bdb_key.specs.Reading.{Reads}
 use Rattle.bdb_key.specs.Rows.{IsAnyMark, mark_bytes}
 use Rattle.bdb_tables.specs.Codec.{IsEntryOf, IsRowOf, HasAt}
 use Rattle.bdb_tables.specs.Grammar.{IsEntry}
-use Rattle.bdb_tables.specs.GroupMarks.{group_bytes, IsGroup, in_group, numbered, AreMarks, AreNumbered, HasMark, HaveMarks, HasNextNumbered, AreChanges, IsNextNumbered, IsNumber, IsNumbered, marks_codec}
+use Rattle.bdb_tables.specs.GroupMarks.{group_bytes, IsGroup, in_group, numbered, AreMarks, AreNumbered, HasMark, HaveMarks, AreChanges, IsNumber, IsNumbered, marks_codec}
 use Rattle.bdb_tables.specs.InUse.{ValKey, IsValKey, val_bytes, val_codec}
 use Rattle.bdb_tables.specs.Marks.{Mark}
-use Rattle.bdb_tables.specs.Spans.{IsUnder, AreUnder, NoneUnder}
+use Rattle.bdb_tables.specs.Spans.{IsUnder, AreUnder, IsNextUnder, NoneUnder}
 use Rattle.bdb_tables.specs.Writes.{IsChange, with_change, with_changes}
 use Rattle.bdb_tables.proofs.PartLemmas.{vals_form}
 use Rattle.bdb_tables.proofs.SpanLemmas.{Covers, covers_none, covers_more, covers_all, next_is_under}
@@ -132,6 +132,16 @@ is_numbered key row last n m e is number mark = record {
   row_reads = mark;
   is = ap (λ (x : ℕ). (x, m)) (one_num n e.key.3 number.fits e.key_reads.fits.tuple (number.spelled ∙ is ∙ last_is key row e));
 }
+
+-- the first row from `low` on whose key begins so; the bytes `behind` are the least above its key
+pub record IsNextNumbered (t : Tables) (prefix low behind : List ℕ) (x : ℕ × Mark) : Type 0 where
+  pub entry : ValKey × Mark
+  pub next : IsNextUnder val_codec t prefix low behind entry
+  pub is : x ≡ numbered entry
+
+-- what comes next under a beginning
+abbrev pub HasNextNumbered : Tables → List ℕ → List ℕ → List ℕ → Option (ℕ × Mark) → Type 0
+HasNextNumbered t prefix low behind found = MatchOption found (NoneUnder val_codec t prefix low) (IsNextNumbered t prefix low behind)
 
 pub next_is_numbered : (t : Tables) (prefix low behind key row : List ℕ) (x : ℕ × Mark) → IsLeastFrom t 11 low key row → is_prefix prefix key ≡ true → IsNumbered key row x
     → behind ≡ next_key key → IsNextNumbered t prefix low behind x

@@ -1,10 +1,11 @@
 -- The rows of table 11, told by the numbers of their tuples: under a beginning, and of one group, that of a world, a relation and
 -- a key.
-use Rattle.std.specs.Prelude.{◌≡◌, ℕ, Bool, true, List, ◌++◌, Option, Some, MatchBool, MatchOption, map}
+use Rattle.std.specs.Prelude.{◌≡◌, ℕ, Bool, true, false, List, ◌∷◌, ◌++◌, Option, Some, MatchBool, MatchOption, map}
 use Rattle.std.specs.FinMap as tables
 use Rattle.std.specs.List.{AllByRecursion, AllZip}
 use Rattle.std.specs.Ordering.{nat_cmp}
 use Rattle.bdb_base.specs.declared.kinds.Value.{Value}
+use Rattle.bdb_base.specs.Segments.{is_prefix}
 use Rattle.bdb_keep.specs.Spans.{Listed}
 use Rattle.bdb_keep.specs.Tables.{Tables}
 use Rattle.bdb_key.specs.Bytes.{num_bytes, vals_bytes}
@@ -14,7 +15,7 @@ use Rattle.bdb_key.specs.Rows.{IsAnyMark, mark_bytes}
 use Rattle.bdb_tables.specs.Codec.{Codec, HasAt, codec_of, place}
 use Rattle.bdb_tables.specs.InUse.{ValKey, IsValKey, mark_rows, val_bytes, val_codec}
 use Rattle.bdb_tables.specs.Marks.{Mark}
-use Rattle.bdb_tables.specs.Spans.{AreUnder, IsNextUnder, IsUnder, NoneUnder}
+use Rattle.bdb_tables.specs.Spans.{AreUnder, IsUnder}
 use Rattle.bdb_tables.specs.Writes.{IsChange, with_changes}
 
 -- how the keys of the rows of a world, a relation and the values of a key begin
@@ -76,16 +77,6 @@ pub record IsNumbered (key row : List ℕ) (x : ℕ × Mark) : Type 0 where
 abbrev pub SpellNumbered : Listed → List (ℕ × Mark) → Type 0
 SpellNumbered bytes xs = AllZip (λ b x. IsNumbered b.0 b.1 x) bytes xs
 
--- the first row from `low` on whose key begins so; the bytes `behind` are the least above its key
-pub record IsNextNumbered (t : Tables) (prefix low behind : List ℕ) (x : ℕ × Mark) : Type 0 where
-  pub entry : ValKey × Mark
-  pub next : IsNextUnder val_codec t prefix low behind entry
-  pub is : x ≡ numbered entry
-
--- what comes next under a beginning
-abbrev pub HasNextNumbered : Tables → List ℕ → List ℕ → List ℕ → Option (ℕ × Mark) → Type 0
-HasNextNumbered t prefix low behind found = MatchOption found (NoneUnder val_codec t prefix low) (IsNextNumbered t prefix low behind)
-
 -- these bytes are a number
 abbrev pub IsNumber : List ℕ → Type 0
 IsNumber bytes = (n : ℕ) × Reads IsNum num_bytes bytes n
@@ -93,6 +84,26 @@ IsNumber bytes = (n : ℕ) × Reads IsNum num_bytes bytes n
 -- table 11 with keys that begin so, by the numbers that follow
 abbrev pub marks_codec : List ℕ → Codec ℕ Mark
 marks_codec prefix = codec_of 11 (record { MayBe = λ _. Unit {0}; Is = IsNum; bytes = λ tid. prefix ++ num_bytes tid; cmp = nat_cmp }) mark_rows
+
+-- the bytes of a row whose key begins so, and whether it is explicit
+pub record IsMarkedUnder (prefix : List ℕ) (explicit : Bool) (r : List ℕ × List ℕ) : Type 0 where
+  pub begins : is_prefix prefix r.0 ≡ true
+  pub mark : Mark
+  pub reads : Reads IsAnyMark mark_bytes r.1 mark
+  pub is : mark.1 ≡ explicit
+
+-- the first of some rows that is explicit, or whose key doesn't begin so, is the one or the other
+pub record IsTold (prefix : List ℕ) (rows : Listed) (explicit : Bool) : Type 0 where
+  pub front : Listed
+  pub row : List ℕ × List ℕ
+  pub back : Listed
+  pub parts : rows ≡ front ++ row ∷ back
+  pub passed : AllByRecursion (IsMarkedUnder prefix false) front
+  pub is : MatchBool explicit (IsMarkedUnder prefix true row) (is_prefix prefix row.0 ≡ false)
+
+-- what rows tell, one after the other; where they tell nothing, all keys begin so, and no row is explicit
+abbrev pub TellInOrder : List ℕ → Listed → Option Bool → Type 0
+TellInOrder prefix rows found = MatchOption found (AllByRecursion (IsMarkedUnder prefix false) rows) (IsTold prefix rows)
 
 -- an explicit row whose key begins so
 pub record HasExplicitUnder (t : Tables) (prefix : List ℕ) : Type 0 where

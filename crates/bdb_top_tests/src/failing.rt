@@ -131,6 +131,24 @@ impl Keeper for FailingKeeper {
         Ok(())
     }
 
+    fn some_from(
+        &mut self,
+        tab: u8,
+        low: &[u8],
+        most: usize,
+        span: &mut Span,
+    ) -> Result<(), KeepError> {
+        match self.inner.some_from(tab, low, most, span) {
+            Ok(()) => {}
+            Err(error) => return Err(error),
+        }
+        if self.fails_at(tab, low) {
+            self.fail();
+            return Err(KeepError::Fault);
+        }
+        Ok(())
+    }
+
     fn put(&mut self, tab: u8, key: &[u8], row: &[u8]) -> Result<(), KeepError> {
         match self.inner.put(tab, key, row) {
             Ok(()) => Ok(()),
