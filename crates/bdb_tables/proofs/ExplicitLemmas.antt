@@ -14,13 +14,12 @@ use Rattle.bdb_keep.specs.Tables.{Tables, bytes_cmp, IsLeastFrom, NoneFrom}
 use Rattle.bdb_key.proofs.Readings.{all_push}
 use Rattle.bdb_key.specs.Rows.{IsAnyMark, mark_bytes}
 use Rattle.bdb_tables.specs.GroupMarks.{HasExplicitUnder, TellsExplicitUnder, IsMarkedUnder, IsTold, numbered}
-use Rattle.bdb_tables.specs.Codec.{TableFits, IsEntryOf, IsRowOf}
+use Rattle.bdb_tables.specs.Codec.{TableFits, IsEntryOf}
 use Rattle.bdb_tables.specs.InUse.{ValKey, val_bytes, val_codec}
 use Rattle.bdb_tables.specs.InUseLaws.{mark_rows_are_one}
 use Rattle.bdb_tables.specs.Marks.{Mark}
 use Rattle.bdb_tables.specs.Spans.{IsUnder, AreEntriesOf, entry_bytes}
 use Rattle.bdb_tables.proofs.MarkLemmas.{HasNextNumbered, IsNextNumbered, CoversNumbered, next_is_numbered, numbered_none, numbered_more, numbered_end}
-use Rattle.bdb_tables.proofs.RangeLemmas.{entries_at}
 use Rattle.bdb_tables.proofs.SpanLemmas.{none_beyond}
 
 abbrev pub is_explicit : ℕ × Mark → Bool
@@ -146,6 +145,10 @@ least_here : (t : Tables) (low : List ℕ) (left : ℕ) (r : List ℕ × List �
 least_here t low zero r rows first = absurd cc
 least_here t low (suc left) r rows first = first.0
 
+-- the tables and the bytes from which it was read by other names
+pub same_first : (t u : Tables) (low from : List ℕ) (most : ℕ) (rows : Listed) → u ≡ t → from ≡ low → AreFirstRows u 11 from most rows → AreFirstRows t 11 low most rows
+same_first t u low from most rows e i h = subst (λ l. AreFirstRows t 11 l most rows) i (subst (λ v. AreFirstRows v 11 from most rows) e h)
+
 -- rows that were read are those of the table
 pub first_fit : (t : Tables) (low : List ℕ) (most : ℕ) (rows : Listed) → TableFits val_codec t → AreFirstRows t 11 low most rows → AreEntriesOf val_codec rows
 first_fit t low most [] fits first = tt
@@ -183,13 +186,6 @@ module _ (t : Tables) (prefix low : List ℕ) (most : ℕ) (rows : Listed) (fits
       (none_beyond val_codec t 11 prefix low' told.row.0 told.row.1 refl p.none.covers.covers.from (least_here t low' p.left told.row told.back p.first) told.is)
 
 -- ---- row by row
-
--- a row among some is in the table
-pub entry_at_index : (rows : Listed) (i : ℕ) (key row : List ℕ) → AreEntriesOf val_codec rows → i < length rows → (key, row) ≡ get_or rows i ([], []) → IsEntryOf val_codec key row
-entry_at_index rows i key row all lt is = entries_at val_codec rows i key row all lt is
-
-pub row_of_entry : (key row : List ℕ) → IsEntryOf val_codec key row → IsRowOf val_codec row
-row_of_entry key row e = (e.row, e.row_reads)
 
 module _ (prefix : List ℕ) (rows : Listed) (i : ℕ) (r : List ℕ × List ℕ) (lt : i < length rows) (is : r ≡ get_or rows i ([], [])) (so_far : AllByRecursion (IsMarkedUnder prefix false) (take i rows)) where
   pub told_here : (found : Bool) → MatchBool found (IsMarkedUnder prefix true r) (is_prefix prefix r.0 ≡ false) → IsTold prefix rows found

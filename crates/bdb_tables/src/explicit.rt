@@ -14,10 +14,7 @@ use crate::tab::TabError;
 use bdb_keep::{Keeper, Span};
 use std::alloc::AllocError;
 
-// How many rows are read at once at first.
-const FEW: usize = 8;
-
-// How many at most, as they are twice as many each time.
+// How many rows are read at once at most.
 const MANY: usize = 64;
 
 /// Whether a row of worlds is explicit whose key begins with these bytes. They are read in order, some at once, up to those among which
@@ -52,8 +49,8 @@ fn find_explicit<K: Keeper>(
         keeper.undo();
         return Err(TabError::Memory);
     }
-    let mut most = FEW;
-    for _ in 0..u64::MAX {
+    for turn in 0..u64::MAX {
+        let most = rows_at_once(turn);
         match keeper.some_from(MARKS, low, most, span) {
             Ok(()) => {}
             Err(error) => return Err(told(error)),
@@ -69,7 +66,6 @@ fn find_explicit<K: Keeper>(
             keeper.undo();
             return Err(TabError::Memory);
         }
-        most = twice(most);
     }
     keeper.undo();
     Err(TabError::Memory)
@@ -99,12 +95,16 @@ fn go_behind(span: &Span, low: &mut Vec<u8>) -> Result<(), AllocError>
     Ok(())
 }
 
-// Twice as many, up to many.
-fn twice(most: usize) -> usize
-    requires { 0 < most }
+// How many rows are read at once, by how often some were before: first few, and then twice as many each time, up to many.
+fn rows_at_once(turn: u64) -> usize
     ensures { 0 < result }
 {
-    most.saturating_mul(2).min(MANY)
+    match turn {
+        0 => 8,
+        1 => 16,
+        2 => 32,
+        _ => MANY,
+    }
 }
 
 // What rows tell, in their order, of whether a row is explicit whose key begins with these bytes: the first that is explicit tells

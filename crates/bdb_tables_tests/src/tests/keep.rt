@@ -246,3 +246,32 @@ fn rows_with_one_beginning_are_read_at_once(rt: HostRuntime) -> Result<(), Fail>
     assert_eq!(rt; span.len(), 0);
     Ok(())
 }
+
+#[test]
+fn first_rows_from_a_key_on_are_read_at_once(rt: HostRuntime) -> Result<(), Fail> {
+    let alloc = rt.alloc();
+    let mut store = Store::new(alloc);
+    for word in KEYS.split_whitespace() {
+        store.preset(1, word.as_bytes(), word.as_bytes())?;
+        store.preset(2, word.as_bytes(), b"other")?;
+    }
+    assert!(rt; store.remove(1, b"a")?);
+    let mut span = Span::new(alloc);
+    store.some_from(1, b"aa", 3, &mut span)?;
+    let mut at = 0usize;
+    for word in KEYS_WITH_TWO.split_whitespace() {
+        assert!(rt; at < span.len());
+        let (key, row) = span.entry(at);
+        assert_eq!(rt; key, word.as_bytes());
+        assert_eq!(rt; row, word.as_bytes());
+        at += 1;
+    }
+    assert_eq!(rt; span.len(), at);
+    store.some_from(1, b"aa", 2, &mut span)?;
+    assert_eq!(rt; span.len(), 2);
+    store.some_from(1, b"bb", 5, &mut span)?;
+    assert_eq!(rt; span.len(), 1);
+    store.some_from(1, b"c", 5, &mut span)?;
+    assert_eq!(rt; span.len(), 0);
+    Ok(())
+}
