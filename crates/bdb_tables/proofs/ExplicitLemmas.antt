@@ -92,7 +92,7 @@ explicit_next t u prefix low behind found x same is explicit next =
 -- ---- some rows at once
 
 -- what lies right behind the last of some rows, where reading began at `low`
-low_after : List ℕ → Listed → List ℕ
+abbrev low_after : List ℕ → Listed → List ℕ
 low_after low [] = low
 low_after low (r ∷ rows) = low_after (next_key r.0) rows
 

@@ -1,5 +1,5 @@
 use Rattle.std.proofs.Common.{◌≡◌, ◌<◌, length, rules, arith}
-use Rattle.bdb_tables.specs.declared.tab.TabError.TheVariants.{Fault}
+use Rattle.bdb_keep.specs.declared.keeper.KeepError.TheVariants.{Fault}
 use Rattle.bdb_tables.proofs.ExplicitLemmas.{none_yet, same_first, first_fit, none_behind, none_left, told_by_one}
 use Rattle.bdb_tables.proofs.Loops.{reading_more}
 use Rattle.bdb_tables.proofs.explicit.find_explicit.Goals as goal
