@@ -20,9 +20,6 @@ use crate::{runs, shelves};
 use std::alloc::{AllocError, Global};
 use std::marker::Model;
 
-/// For how many rows memory is taken at once where rows are read.
-const USUAL_COUNT: usize = 32;
-
 /// The rows by place. A place with no row is one whose row was removed; such places are taken away once they are many. What was used
 /// last is remembered, so that what comes next in the order of the places of a table is found at once.
 #[derive(Drop)]
@@ -207,8 +204,6 @@ impl Rows {
         ensures rows { OnOk result (AreRowsUnder (rows_of self.old) tab prefix.now span.new) }
         ensures same { self.new ≡ self.old }
     {
-        span.clear();
-        span.reserve(USUAL_COUNT)?;
         let probe = Probe::of(tab, prefix);
         let near = self.cursors.to_read(&probe);
         let mark = shelves::read_under(&self.shelves, near, &probe, tab, prefix, span)?;
