@@ -255,7 +255,7 @@ fn first_rows_from_a_key_on_are_read_at_once(rt: HostRuntime) -> Result<(), Fail
         store.preset(1, word.as_bytes(), word.as_bytes())?;
         store.preset(2, word.as_bytes(), b"other")?;
     }
-    assert!(rt; store.remove(1, b"a")?);
+    assert!(rt; store.remove(1, b"aaaaaaaaaaaaaaaaaaaaaaaaaaaaaaaaaaaaaaaaaaa")?);
     let mut span = Span::new(alloc);
     store.some_from(1, b"aa", 3, &mut span)?;
     let mut at = 0usize;
