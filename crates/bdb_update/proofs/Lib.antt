@@ -5,6 +5,7 @@ pub mod CallLemmas
 pub mod ChangeBounds
 pub mod ChangeLemmas
 pub mod ChangingLemmas
+pub mod ClashingLemmas
 pub mod ClearLemmas
 pub mod ComeLemmas
 pub mod CountLemmas
@@ -16,6 +17,7 @@ pub mod ExplicitLemmas
 pub mod FillLemmas
 pub mod GrammarLemmas
 pub mod GroupLemmas
+pub mod HoldingLemmas
 pub mod InsertLemmas
 pub mod JoinLemmas
 pub mod JudgeLemmas

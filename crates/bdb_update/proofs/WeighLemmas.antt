@@ -1,24 +1,31 @@
 -- What is told of a change of statements of one path is right.
-use Rattle.std.proofs.Common.{◌≡◌, ◌∙◌, ℕ, ◌+◌, ◌≤◌, ◌<◌, Bool, true, false, List, [], ◌∷◌, length, refl, ap, sym, subst, inl, inr, Some, None, arith}
+use Rattle.std.proofs.Common.{◌≡◌, ◌∙◌, ℕ, ◌+◌, ◌≤◌, ◌<◌, Bool, true, false, List, [], ◌∷◌, length, refl, ap, sym, subst, inl, inr, Some, None, filter, arith}
 use Rattle.std.specs.List.{list_all, AllByRecursion}
-use Rattle.std.proofs.lemmas.Bool.{and_parts, and_from, cases_lt, false≢true, leb-true, le-leb, lt-ltb}
+use Rattle.std.proofs.lemmas.Bool.{and_parts, and_from, cases_Bool, cases_lt, false≢true, leb-true, le-leb, lt-ltb}
 use Rattle.bdb_base.specs.Bases.{Contents, IsValid, belongs, stands, tuple_count, key_lengths}
 use Rattle.bdb_base.specs.Changes.{with_statements, first_clashing}
 use Rattle.bdb_base.specs.Limits.{most_tuples}
+use Rattle.bdb_base.specs.Order.{statement_cmp}
+use Rattle.bdb_base.specs.OrderLemmas.{statement_exact}
 use Rattle.bdb_base.specs.Same.{same_path}
 use Rattle.bdb_base.specs.SameLemmas.{same_path-Decides}
+use Rattle.bdb_base.specs.SortedSet.{ascending}
 use Rattle.bdb_base.specs.Alternation.{alternates}
 use Rattle.bdb_base.specs.Bases.{is_user}
 use Rattle.bdb_base.specs.States.{is_state}
 use Rattle.bdb_base.specs.declared.kinds.Catalog.{Catalog}
 use Rattle.bdb_base.specs.declared.kinds.RelDef.{RelDef}
 use Rattle.bdb_base.specs.declared.kinds.Stmt.{Stmt}
+use Rattle.bdb_base.proofs.ListLemmas.{filter_kept_one, filter_dropped_one}
+use Rattle.bdb_base.proofs.SetLemmas.{filter_keeps_order}
+use Rattle.bdb_base.proofs.UpdateLemmas.{with_keeps_order}
 use Rattle.bdb_base.proofs.WorldLemmas.{valid_is_consistent}
 use Rattle.bdb_canon.specs.declared.sizes.Counts.{Counts}
 use Rattle.bdb_keep.specs.Tables.{Tables}
 use Rattle.bdb_tables.proofs.Fitting.{belonging_may_be}
 use Rattle.bdb_update.specs.Calls.{MayChange, clash_within, with_others, without_statements}
 use Rattle.bdb_update.specs.Elsewhere.{HasTuples}
+use Rattle.bdb_update.specs.Holding.{AreOfOnePath}
 use Rattle.bdb_tables.specs.Lengths.{HaveKeyLengths}
 use Rattle.bdb_update.specs.Keys.{keys_of}
 use Rattle.bdb_update.specs.Reached.{HasState, SomeHasState, StandAt, AreAt, at_path, lost_of, fresh_of}
@@ -27,7 +34,7 @@ use Rattle.bdb_update.specs.declared.weighing.Weight.TheVariants.{Clashes, Fills
 use Rattle.bdb_update.proofs.JudgeLemmas.{stands_is}
 use Rattle.bdb_update.proofs.NextLemmas.{MayReplace, tuples_after}
 use Rattle.bdb_update.proofs.OneStored.{explicit_state}
-use Rattle.bdb_update.proofs.ReachedLemmas.{first_at_path, reached_at}
+use Rattle.bdb_update.proofs.ReachedLemmas.{first_at_path, reached_at, without_keeps_order}
 use Rattle.bdb_update.proofs.ReplaceLemmas.{stands_belongs}
 use Rattle.bdb_update.proofs.StageLemmas.{belongs_parts}
 
@@ -86,6 +93,28 @@ gone_tuples t c w gone come s =
 
 pub come_tuples : (t : Tables) (c : Counts) (w : List ℕ) (gone come : List Stmt) → SomeMayWeigh t c w gone come → HasTuples come
 come_tuples t c w gone come s = have_tuples s.base come s.may.may.base.valid s.may.may.belong
+
+-- what stands at the path then is in order
+pub reached_stand : (t : Tables) (c : Counts) (w : List ℕ) (gone come stmts reached : List Stmt) (wid : ℕ) → SomeMayWeigh t c w gone come → StandAt t w stmts wid → reached ≡ with_statements (without_statements stmts gone) come → AreOfOnePath reached
+reached_stand t c w gone come stmts reached wid s stand is =
+    let b = s.base in
+    let sorted = s.may.may.base.valid.stmts.sorted in
+    let next = with_statements (without_statements b.stmts gone) come in
+    let here : AreAt t b w stmts wid = stand b (has_state t c w gone come b s.may) in
+    let same : reached ≡ at_path w next = is ∙ ap (λ xs. with_statements (without_statements xs gone) come) here.stmts ∙ sym (reached_at w b.stmts gone come sorted (all_here w come s.may.may.come_here)) in
+    record {
+      path = w;
+      here = ap (list_all (λ x. same_path x.path w)) same ∙ filter_passes (λ x. same_path x.path w) next;
+      sorted = ap (ascending statement_cmp) same
+          ∙ filter_keeps_order statement_exact (λ x. same_path x.path w) next (with_keeps_order (without_statements b.stmts gone) come (without_keeps_order b.stmts gone sorted));
+    }
+  where
+    filter_passes : (q : Stmt → Bool) (xs : List Stmt) → list_all q (filter q xs) ≡ true
+    filter_passes q [] = refl
+    filter_passes q (x ∷ xs) = elim (cases_Bool (q x)) [
+      | inl e ↦ ap (list_all q) (filter_kept_one q x xs e) ∙ and_from (q x) (list_all q (filter q xs)) e (filter_passes q xs)
+      | inr e ↦ ap (list_all q) (filter_dropped_one q x xs e) ∙ filter_passes q xs
+    ]
 
 -- ---- what was read
 

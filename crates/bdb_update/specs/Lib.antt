@@ -1,11 +1,13 @@
 pub mod Bounds
 pub mod Calls
 pub mod ChangeLaws
+pub mod Clashing
 pub mod Differing
 pub mod Elsewhere
 pub mod Examining
 pub mod Filling
 pub mod Groups
+pub mod Holding
 pub mod Joining
 pub mod Keeping
 pub mod Keys

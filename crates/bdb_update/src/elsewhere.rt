@@ -4,17 +4,20 @@ ghost use Rattle.bdb_keep.specs.Calls.{IsRead};
 ghost use Rattle.bdb_key.specs.Rows.{MayBeTuple};
 ghost use Rattle.bdb_tables.specs.Grammar.{InGrammar};
 ghost use Rattle.bdb_update.specs.Elsewhere.{AreFresh, AreLost, HasTuples, IsFresh, IsLost, kept_if};
+ghost use Rattle.bdb_update.specs.Holding.{AreOfOnePath};
 
+use crate::holding::holds_tuple;
 use crate::keys::key_length_of;
 use crate::numbers::number_of;
 use crate::reading::is_explicit;
-use bdb_base::{Exact, List, Stmt, Tuple, has_tuple};
+use bdb_base::{Exact, List, Stmt, Tuple};
 use bdb_keep::Keeper;
 use bdb_tables::TabError;
 use std::alloc::{AllocError, Global};
 
-/// Those of some statements whose tuple no statement of another path has than that of a world, nor any of `reached`. For
-/// each statement it reads two rows, and a row or two for each world, up to the first that has the tuple's row explicit.
+/// Those of some statements whose tuple no statement of another path has than that of a world, nor any of `reached`, which are
+/// in order and all of one path. For each statement it reads two rows, and a row or two for each world, up to the first that
+/// has the tuple's row explicit.
 pub fn lost_of<K: Keeper>(
     alloc: Global,
     keeper: &mut K,
@@ -24,6 +27,7 @@ pub fn lost_of<K: Keeper>(
 ) -> Result<List<Stmt>, TabError>
     requires running { (K.seen keeper.old).running ≡ true }
     requires grammar { InGrammar (K.seen keeper.old).kept }
+    requires reached { AreOfOnePath reached.now }
     requires tuples { HasTuples gone.now }
     ensures lost { IfOk result (AreLost (K.seen keeper.old).kept wid reached.now gone.now) }
     ensures read { IsRead (K.seen keeper.old) (K.seen keeper.new) result TabError.Fault }
@@ -95,11 +99,12 @@ fn is_lost<K: Keeper>(
 ) -> Result<bool, TabError>
     requires running { (K.seen keeper.old).running ≡ true }
     requires grammar { InGrammar (K.seen keeper.old).kept }
+    requires reached { AreOfOnePath reached.now }
     requires tuple { MayBeTuple tuple.now }
     ensures lost { IfOk result (IsLost (K.seen keeper.old).kept wid reached.now tuple.now) }
     ensures read { IsRead (K.seen keeper.old) (K.seen keeper.new) result TabError.Fault }
 {
-    if has_tuple(reached, tuple) {
+    if holds_tuple(reached, tuple) {
         return Ok(false);
     }
     let tid = match number_of(alloc, keeper, tuple) {

@@ -1,7 +1,7 @@
 // How long keys are, and keys of rows by their bytes.
 ghost use Rattle.std.specs.Prelude.{◌≡◌, ◌++◌, true, IfOk, OnOk};
 ghost use Rattle.bdb_base.specs.Bases.{key_lengths};
-ghost use Rattle.bdb_base.specs.Clash.{clash};
+ghost use Rattle.bdb_base.specs.Clash.{clash, same_key};
 ghost use Rattle.bdb_keep.specs.Calls.{IsRead};
 ghost use Rattle.bdb_key.specs.Bytes.{num_bytes};
 ghost use Rattle.bdb_tables.specs.Grammar.{InGrammar};
@@ -9,7 +9,7 @@ ghost use Rattle.bdb_tables.specs.InUse.{HaveKeyTexts, IsValKey, val_bytes};
 ghost use Rattle.bdb_tables.specs.Lengths.{HaveKeyLengths, IsKeyLength};
 ghost use Rattle.bdb_update.specs.Keys.{key_rest};
 
-use bdb_base::{List, RelDef, Sign, Tuple, Value, clash, key_length, key_of};
+use bdb_base::{List, RelDef, Sign, Tuple, Value, clash, key_length, key_of, same_key};
 use bdb_keep::{KeepError, Keeper};
 use bdb_key::{put_num, put_vals};
 use bdb_tables::{RelTab, TabError, get, put_val_key, stored_key_length};
@@ -63,6 +63,13 @@ pub fn clash_in(rels: &[RelDef], a: &Tuple, s: Sign, b: &Tuple, t: Sign) -> bool
     ensures { result ≡ clash (key_lengths rels.now) a.now s b.now t }
 {
     clash(length_in(rels, a), a, s, b, t)
+}
+
+/// Whether two tuples are of one relation and have the same key, where these are the relations.
+pub fn same_key_in(rels: &[RelDef], a: &Tuple, b: &Tuple) -> bool
+    ensures { result ≡ same_key (key_lengths rels.now) a.now b.now }
+{
+    same_key(length_in(rels, a), a, b)
 }
 
 // The length of the key of a tuple's relation, where these are the relations.

@@ -1,19 +1,13 @@
 // What stands at a path, and what comes to stand there.
-ghost use Rattle.std.specs.Prelude.{◌≡◌, ◌&&◌, ◌++◌, [], true, IfOk, OnOk};
-ghost use Rattle.std.specs.Option.{option_copied};
-ghost use Rattle.bdb_base.specs.Bases.{key_lengths};
-ghost use Rattle.bdb_base.specs.Changes.{first_clashing, with_statements};
-ghost use Rattle.bdb_base.specs.Clash.{clash};
+ghost use Rattle.std.specs.Prelude.{◌≡◌, ◌++◌, [], true, IfOk, OnOk};
+ghost use Rattle.bdb_base.specs.Changes.{with_statements};
 ghost use Rattle.bdb_base.specs.Order.{statement_cmp};
-ghost use Rattle.bdb_base.specs.Same.{same_path};
 ghost use Rattle.bdb_base.specs.SortedSet.{ascending};
-ghost use Rattle.bdb_base.specs.Worlds.{contradicted};
 ghost use Rattle.bdb_keep.specs.Calls.{IsRead};
 ghost use Rattle.bdb_update.specs.Calls.{without_statements};
 ghost use Rattle.bdb_update.specs.Reached.{SomeHasState, StandAt, said_at, said_of};
 
-use crate::keys::clash_in;
-use bdb_base::{Exact, List, Path, RelDef, Stmt, put_copy, take};
+use bdb_base::{Exact, List, Path, Stmt, put_copy, take};
 use bdb_keep::Keeper;
 use bdb_tables::TabError;
 use bdb_val::{Stored, read_world};
@@ -121,36 +115,4 @@ pub fn without_statements(stmts: List<Stmt>, gone: &[Stmt]) -> List<Stmt>
         let _taken = take(&mut left, stmt);
     }
     left
-}
-
-/// The first of these statements at this very path that clashes with another one at it, where these are the relations; none
-/// exactly where none does.
-pub fn first_clashing<'a>(rels: &[RelDef], stmts: &'a [Stmt], path: &[u32]) -> Option<&'a Stmt>
-    ensures { option_copied result ≡ first_clashing (key_lengths rels.now) stmts.now path.now }
-{
-    stmts.iter().find(|x| clashes_within(rels, stmts, path, x))
-}
-
-// Whether a statement of this very path clashes with another one at it.
-fn clashes_within(rels: &[RelDef], stmts: &[Stmt], path: &[u32], x: &Stmt) -> bool
-    ensures { result ≡ (same_path x.now.path path.now && contradicted (key_lengths rels.now)
-        stmts.now path.now x.now.tuple x.now.sign) }
-{
-    x.path.as_slice() == path && is_contradicted(rels, stmts, path, x)
-}
-
-// Whether a statement clashes with one of this very path.
-fn is_contradicted(rels: &[RelDef], stmts: &[Stmt], path: &[u32], x: &Stmt) -> bool
-    ensures { result ≡ contradicted (key_lengths rels.now)
-        stmts.now path.now x.now.tuple x.now.sign }
-{
-    stmts.iter().any(|y| clashes_at(rels, path, x, y))
-}
-
-// Whether a statement is one of this very path, and another clashes with it.
-fn clashes_at(rels: &[RelDef], path: &[u32], x: &Stmt, y: &Stmt) -> bool
-    ensures { result ≡ (same_path y.now.path path.now && clash (key_lengths rels.now)
-        x.now.tuple x.now.sign y.now.tuple y.now.sign) }
-{
-    y.path.as_slice() == path && clash_in(rels, &x.tuple, x.sign, &y.tuple, y.sign)
 }

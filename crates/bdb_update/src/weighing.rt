@@ -8,11 +8,13 @@ ghost use Rattle.bdb_keep.specs.Calls.{IsRead};
 ghost use Rattle.bdb_tables.specs.Grammar.{InGrammar};
 ghost use Rattle.bdb_update.specs.Calls.{without_statements};
 ghost use Rattle.bdb_update.specs.Elsewhere.{HasTuples};
+ghost use Rattle.bdb_update.specs.Holding.{AreOfOnePath};
 ghost use Rattle.bdb_update.specs.Weighing.{SomeMayWeigh, TellsRoom, Weighs, have_room};
 
+use crate::clashing::first_clashing;
 use crate::elsewhere::{fresh_of, lost_of};
 use crate::keys::key_relations;
-use crate::reached::{first_clashing, read_statements, with_statements, without_statements};
+use crate::reached::{read_statements, with_statements, without_statements};
 use bdb_base::limits::MOST_TUPLES;
 use bdb_base::{Exact, List, Path, RelDef, Stmt, distinct_tuples};
 use bdb_canon::Counts;
@@ -94,13 +96,14 @@ fn reach(
     Ok((reached, least))
 }
 
-// A copy of the first of some statements that clashes with another of its path.
+// A copy of the first of some statements, which are in order, that clashes with another of its path.
 fn clash_among(
     alloc: Global,
     rels: &[RelDef],
     reached: &[Stmt],
     path: &[u32],
 ) -> Result<Option<Stmt>, AllocError>
+    requires { ascending statement_cmp reached.now ≡ true }
     ensures { IfOk result
         (λ least. least ≡ first_clashing (key_lengths rels.now) reached.now path.now) }
 {
@@ -110,7 +113,8 @@ fn clash_among(
     }
 }
 
-// Whether there are not too many tuples after a change of statements at the path of a world.
+// Whether there are not too many tuples after a change of statements at the path of a world, where `reached` are those that
+// stand there then.
 fn tell_room<K: Keeper>(
     alloc: Global,
     keeper: &mut K,
@@ -122,6 +126,7 @@ fn tell_room<K: Keeper>(
 ) -> Result<bool, TabError>
     requires running { (K.seen keeper.old).running ≡ true }
     requires grammar { InGrammar (K.seen keeper.old).kept }
+    requires reached { AreOfOnePath reached.now }
     requires gone { HasTuples gone.now }
     requires come { HasTuples come.now }
     ensures room { IfOk result

@@ -12,15 +12,15 @@ use Rattle.bdb_update.proofs.CallLemmas.{read_then, read_then_err}
 use Rattle.bdb_update.proofs.ElsewhereLemmas.{lost_held, lost_none, lost_some}
 use Rattle.bdb_update.proofs.elsewhere.is_lost.Goals as goal
 
-pub returns-then-has_tuple-clause-lost : goal.returns-then-has_tuple-clause-lost
-returns-then-has_tuple-clause-lost g c =
-    lost_held (g.K.Keeper.seen c.args.keeper.now).kept c.args.tuple.now c.args.wid c.args.reached.now (sym c.has_tuple.ensures ∙ c.if-has_tuple.true)
+pub returns-then-holds_tuple-clause-lost : goal.returns-then-holds_tuple-clause-lost
+returns-then-holds_tuple-clause-lost g c =
+    lost_held (g.K.Keeper.seen c.args.keeper.now).kept c.args.tuple.now c.args.wid c.args.reached.now (sym c.holds_tuple.ensures ∙ c.if-holds_tuple.true)
 
 pub returns-in-Ok-None-clause-lost : goal.returns-in-Ok-None-clause-lost
 returns-in-Ok-None-clause-lost g c =
     let t = (g.K.Keeper.seen c.args.keeper.now).kept in
     let u = c.args.tuple.now in
-    subst (λ b. IsLost t c.args.wid c.args.reached.now u (not b)) (sym c.has_tuple.ensures ∙ c.if-has_tuple.false)
+    subst (λ b. IsLost t c.args.wid c.args.reached.now u (not b)) (sym c.holds_tuple.ensures ∙ c.if-holds_tuple.false)
     (lost_none t u c.in-Ok-None.ensures.fits c.args.wid c.args.reached.now (subst (λ (o : Option ℕ). HasAt tuple_ix_codec t u o) c.in-Ok-None.field-0-is c.in-Ok-None.ensures.found))
 
 pub is_explicit-requires : goal.is_explicit-requires
@@ -34,7 +34,7 @@ returns-in-Ok-is_explicit-clause-lost g c =
     let is = c.in-Ok-is_explicit.told in
     let has = subst (λ (o : Option ℕ). HasAt tuple_ix_codec t u o) c.in-Ok-Some.field-0-is c.in-Ok-Some.ensures.found in
     let long : IsKeyLength t u.rel n = subst (λ (v : Tables). IsKeyLength v u.rel n) c.in-Ok-Some.ensures.read.kept c.in-Ok.ensures.length in
-    subst (λ b. IsLost t c.args.wid c.args.reached.now u (not (b || is))) (sym c.has_tuple.ensures ∙ c.if-has_tuple.false)
+    subst (λ b. IsLost t c.args.wid c.args.reached.now u (not (b || is))) (sym c.holds_tuple.ensures ∙ c.if-holds_tuple.false)
     (lost_some t u c.in-Ok-Some.ensures.fits n c.args.wid c.in-Ok-Some.tid c.args.reached.now is has.in_grammar has long
     (subst (λ (v : Tables). AnyTells v (key_rest (λ _. n) u c.in-Ok-Some.tid) (Some c.args.wid) is) (c.in-Ok.ensures.read.kept ∙ c.in-Ok-Some.ensures.read.kept) c.in-Ok-is_explicit.ensures.told))
 

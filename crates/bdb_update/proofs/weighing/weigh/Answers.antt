@@ -4,10 +4,11 @@ use Rattle.bdb_keep.specs.Tables.{Tables}
 use Rattle.bdb_tables.specs.Grammar.{InGrammar}
 use Rattle.bdb_tables.specs.Lengths.{HaveKeyLengths}
 use Rattle.bdb_tables.specs.declared.tab.TabError.TheVariants.{Fault}
+use Rattle.bdb_update.specs.Holding.{AreOfOnePath}
 use Rattle.bdb_update.specs.Weighing.{TellsRoom}
 use Rattle.bdb_update.proofs.CallLemmas.{quiet_read, read_err}
 use Rattle.bdb_update.proofs.GrammarLemmas.{stored_is_in_grammar}
-use Rattle.bdb_update.proofs.WeighLemmas.{some_state, gone_tuples, come_tuples, weighs_clash, weighs_room, weighs_none}
+use Rattle.bdb_update.proofs.WeighLemmas.{some_state, reached_stand, gone_tuples, come_tuples, weighs_clash, weighs_room, weighs_none}
 use Rattle.bdb_update.proofs.weighing.weigh.Goals as goal
 
 pub read_statements-requires-clause-base : goal.read_statements-requires-clause-base
@@ -26,6 +27,12 @@ returns-in-Some-clause-weighed g c =
 pub tell_room-requires-clause-grammar : goal.tell_room-requires-clause-grammar
 tell_room-requires-clause-grammar g c =
     subst InGrammar (sym (c.in-Ok-key_relations.ensures.read.kept ∙ c.in-Ok.ensures.read.kept)) (stored_is_in_grammar (g.K.Keeper.seen c.args.keeper.now).kept c.requires.base.base c.requires.base.may.may.base.stored)
+
+pub tell_room-requires-clause-reached : goal.tell_room-requires-clause-reached
+tell_room-requires-clause-reached g c =
+    subst AreOfOnePath (sym c.as_slice.ensures)
+    (reached_stand (g.K.Keeper.seen c.args.keeper.now).kept c.args.counts.now c.args.path.now c.args.gone.now c.args.come.now c.in-Ok.found.0 c.in-Ok-reach.reached.0 c.in-Ok.found.1
+    c.requires.base c.in-Ok.ensures.found c.in-Ok-reach.ensures.reached)
 
 pub tell_room-requires-clause-gone : goal.tell_room-requires-clause-gone
 tell_room-requires-clause-gone g c = gone_tuples (g.K.Keeper.seen c.args.keeper.now).kept c.args.counts.now c.args.path.now c.args.gone.now c.args.come.now c.requires.base

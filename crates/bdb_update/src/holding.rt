@@ -1,0 +1,31 @@
+// Whether statements of one path have a tuple.
+ghost use Rattle.std.specs.Prelude.{◌≡◌};
+ghost use Rattle.std.specs.Ordering.{is_lt};
+ghost use Rattle.bdb_base.specs.Bases.{has_tuple};
+ghost use Rattle.bdb_base.specs.Order.{tuple_cmp};
+ghost use Rattle.bdb_update.specs.Holding.{AreOfOnePath, begins_with};
+
+use bdb_base::{Stmt, Tuple, cmp_tuple, same_tuple};
+
+/// Whether one of these statements, which are in order and all of one path, has a tuple. The search goes by halves.
+pub fn holds_tuple(stmts: &[Stmt], tuple: &Tuple) -> bool
+    requires { AreOfOnePath stmts.now }
+    ensures { result ≡ has_tuple stmts.now tuple.now }
+{
+    let at = stmts.partition_point(
+        |stmt: &Stmt| -> bool
+            ensures { result ≡ is_lt (tuple_cmp stmt.now.tuple tuple.entry.now) }
+        { cmp_tuple(&stmt.tuple, tuple).is_lt() },
+    );
+    begins_with(&stmts[at..], tuple)
+}
+
+// Whether the first of some statements, if there is one, has a tuple.
+fn begins_with(stmts: &[Stmt], tuple: &Tuple) -> bool
+    ensures { result ≡ begins_with stmts.now tuple.now }
+{
+    match stmts {
+        [] => false,
+        [first, _others @ ..] => same_tuple(tuple, &first.tuple),
+    }
+}
