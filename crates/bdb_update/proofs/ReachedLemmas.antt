@@ -1,8 +1,10 @@
 -- Statements of one path in place of others: what stands at the path then, and when a base with them is valid.
-use Rattle.std.proofs.Common.{◌≡◌, ◌∙◌, ℕ, ◌+◌, ◌≤◌, Bool, true, false, not, ◌&&◌, ◌||◌, cond, List, [], ◌∷◌, Some, refl, ap, sym, inl, inr, arith, filter, find, length}
+use Rattle.std.proofs.Common.{◌≡◌, ◌∙◌, ℕ, ◌+◌, ◌≤◌, Bool, true, false, not, ◌&&◌, ◌||◌, cond, List, [], ◌∷◌, ◌++◌, Some, refl, ap, sym, inl, inr, arith, filter, find, length}
 use Rattle.std.specs.List.{list_any, list_all}
 use Rattle.std.specs.Ordering.{is_eq}
 use Rattle.std.proofs.lemmas.Bool.{cases_Bool, and_parts, and_from, or_left, or_right, cond-true, cond-false, false≢true, false_from_ne_true}
+use Rattle.std.proofs.lemmas.List.{append-nil}
+use Rattle.std.proofs.lemmas.List.Concat.{flat_map-append}
 use Rattle.bdb_base.specs.declared.kinds.Stmt.{Stmt}
 use Rattle.bdb_base.specs.Bases.{stands, with_statement, without_statement}
 use Rattle.bdb_base.specs.Changes.{with_statements, first_clashing}
@@ -17,7 +19,8 @@ use Rattle.bdb_base.proofs.ListLemmas.{filter_kept_one, filter_dropped_one}
 use Rattle.bdb_base.proofs.SetLemmas.{list_any-put_in, put_keeps_order, filter_keeps_order, members_make_set, take_drops_member, take_keeps_order, put_adds_member, is_eq_itself, is_eq_turned, is_eq-Equal}
 use Rattle.bdb_paths.proofs.StateLemmas.{list_any_same}
 use Rattle.bdb_update.specs.Calls.{without_statements, are_apart}
-use Rattle.bdb_update.specs.Reached.{at_path}
+use Rattle.bdb_update.specs.Reached.{at_path, said_at, said_of}
+use Rattle.bdb_val.specs.declared.stored.Stored.{Stored}
 
 -- ---- lists
 
@@ -103,6 +106,18 @@ first_at_path keys w xs = find_at_path (λ x. same_path x.path w) (λ x. contrad
     ∙ list_any_same (λ y. same_path y.path w && (same_path y.path w && clash keys x.tuple x.sign y.tuple y.sign)) (λ y. same_path y.path w && clash keys x.tuple x.sign y.tuple y.sign)
     (λ y. and_again (same_path y.path w) (clash keys x.tuple x.sign y.tuple y.sign)) xs)
     xs
+
+-- ---- statements that stand
+
+with_all : (xs ys zs : List Stmt) → with_statements xs (ys ++ zs) ≡ with_statements (with_statements xs ys) zs
+with_all xs [] zs = refl
+with_all xs (y ∷ ys) zs = with_all (with_statement xs y) ys zs
+
+-- one row more
+pub said_more : (w : List ℕ) (rows : List Stored) (r : Stored) → with_statements [] (said_at w (rows ++ r ∷ [])) ≡ with_statements (with_statements [] (said_at w rows)) (said_of w r)
+said_more w rows r =
+    ap (with_statements []) (flat_map-append (said_of w) rows (r ∷ []) ∙ ap (λ xs. said_at w rows ++ xs) (append-nil (said_of w r)))
+    ∙ with_all [] (said_at w rows) (said_of w r)
 
 -- ---- statements that go
 

@@ -1,5 +1,5 @@
 // What stands at a path, and what comes to stand there.
-ghost use Rattle.std.specs.Prelude.{◌≡◌, ◌++◌, [], true, IfOk, OnOk};
+ghost use Rattle.std.specs.Prelude.{◌≡◌, [], true, IfOk, OnOk};
 ghost use Rattle.bdb_base.specs.Changes.{with_statements};
 ghost use Rattle.bdb_base.specs.Order.{statement_cmp};
 ghost use Rattle.bdb_base.specs.SortedSet.{ascending};
@@ -7,7 +7,7 @@ ghost use Rattle.bdb_keep.specs.Calls.{IsRead};
 ghost use Rattle.bdb_update.specs.Calls.{without_statements};
 ghost use Rattle.bdb_update.specs.Reached.{SomeHasState, StandAt, said_at, said_of};
 
-use bdb_base::{Exact, List, Path, Stmt, put_copy, take};
+use bdb_base::{Exact, List, Path, Stmt, put, put_copy, take};
 use bdb_keep::Keeper;
 use bdb_tables::TabError;
 use bdb_val::{Stored, read_world};
@@ -35,7 +35,7 @@ pub fn read_statements<K: Keeper>(
         Ok(rows) => rows,
         Err(error) => return Err(error),
     };
-    match stated_at(alloc, path, &rows) {
+    match stated_at(alloc, path, rows) {
         Ok(stmts) => Ok((stmts, wid)),
         Err(_) => {
             keeper.undo();
@@ -45,45 +45,38 @@ pub fn read_statements<K: Keeper>(
 }
 
 // The statements that the explicit rows of a path's world are, in order.
-fn stated_at(alloc: Global, path: &Path, rows: &[Stored]) -> Result<List<Stmt>, AllocError>
-    ensures stated { IfOk result (λ stmts. stmts ≡ with_statements [] (said_at path.now rows.now)) }
+fn stated_at(alloc: Global, path: &Path, rows: Vec<Stored>) -> Result<List<Stmt>, AllocError>
+    ensures stated { IfOk result
+        (λ stmts. stmts ≡ with_statements [] (said_at path.now rows.items)) }
     ensures sorted { IfOk result (λ stmts. ascending statement_cmp stmts ≡ true) }
 {
-    let said = said_at(alloc, path, rows)?;
-    let stmts = with_statements(alloc, List::new(alloc), said.as_slice())?;
+    let mut stmts = List::new(alloc);
+    for row in rows {
+        put_said(alloc, &mut stmts, path, row)?;
+    }
     Ok(stmts)
 }
 
-// The same, in the order of the rows.
-fn said_at(alloc: Global, path: &Path, rows: &[Stored]) -> Result<List<Stmt>, AllocError>
-    ensures { IfOk result (λ said. said ≡ said_at path.now rows.now) }
-{
-    let mut said = List::new(alloc);
-    for row in rows {
-        push_said(alloc, &mut said, path, row)?;
-    }
-    Ok(said)
-}
-
-// Adds the statement that a row is, if it is explicit.
-fn push_said(
+// Puts the statement that a row is, if it is explicit, among others.
+fn put_said(
     alloc: Global,
-    said: &mut List<Stmt>,
+    stmts: &mut List<Stmt>,
     path: &Path,
-    row: &Stored,
+    row: Stored,
 ) -> Result<(), AllocError>
-    ensures { OnOk result (said.new ≡ said.old ++ said_of path.now row.now) }
+    requires { ascending statement_cmp stmts.old ≡ true }
+    ensures { OnOk result (stmts.new ≡ with_statements stmts.old (said_of path.now row)) }
 {
     if !row.mark.1 {
         return Ok(());
     }
     let path = path.try_clone(alloc)?;
-    let tuple = row.tuple.try_clone(alloc)?;
-    said.push(Stmt {
+    let stmt = Stmt {
         path,
         sign: row.mark.0,
-        tuple,
-    })?;
+        tuple: row.tuple,
+    };
+    let _added = put(stmts, stmt)?;
     Ok(())
 }
 

@@ -1,7 +1,5 @@
-use Rattle.std.proofs.Common.{◌∙◌, [], ap, sym, subst}
+use Rattle.std.proofs.Common.{sym, subst}
 use Rattle.bdb_tables.specs.declared.tab.TabError.TheVariants.{Fault}
-use Rattle.bdb_update.specs.Reached.{said_at}
-use Rattle.bdb_base.specs.Changes.{with_statements}
 use Rattle.bdb_worlds.specs.Holding.{HoldSome}
 use Rattle.bdb_worlds.specs.Reach.{ReachesState}
 use Rattle.bdb_update.proofs.CallLemmas.{IsQuiet, quiet_read, quiet_then, read_ok}
@@ -20,7 +18,7 @@ returns-in-Ok-stated_at-clause-found g c =
     let w = c.args.path.now in
     stand_at t (g.K.Keeper.seen c.longest_state.new.keeper).kept w c.in-Ok.found.0 c.in-Ok.found.1 c.in-Ok-read_world.rows.items c.in-Ok-stated_at.stmts c.in-Ok.ensures.kept
     (subst (λ v. ReachesState t v c.in-Ok.found.0 c.in-Ok.found.1) c.as_slice.ensures.users c.in-Ok.ensures.found) c.in-Ok-read_world.ensures.rows
-    (c.in-Ok-stated_at.ensures.stated ∙ ap (λ rows. with_statements [] (said_at w rows)) c.deref.ensures.value)
+    c.in-Ok-stated_at.ensures.stated
 
 pub returns-in-Ok-stated_at-clause-read : goal.returns-in-Ok-stated_at-clause-read
 returns-in-Ok-stated_at-clause-read g c =
