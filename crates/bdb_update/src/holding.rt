@@ -1,5 +1,5 @@
 // Whether statements of one path have a tuple.
-ghost use Rattle.std.specs.Prelude.{◌≡◌};
+ghost use Rattle.std.specs.Prelude.{◌≡◌, ◌≤◌, length, drop};
 ghost use Rattle.std.specs.Ordering.{is_lt};
 ghost use Rattle.bdb_base.specs.Bases.{has_tuple};
 ghost use Rattle.bdb_base.specs.Order.{tuple_cmp};
@@ -12,12 +12,21 @@ pub fn holds_tuple(stmts: &[Stmt], tuple: &Tuple) -> bool
     requires { AreOfOnePath stmts.now }
     ensures { result ≡ has_tuple stmts.now tuple.now }
 {
-    let at = stmts.partition_point(
+    let at = place_from(stmts, tuple);
+    begins_with(&stmts[at..], tuple)
+}
+
+// The place of the first of these statements whose tuple is not below another one.
+fn place_from(stmts: &[Stmt], tuple: &Tuple) -> usize
+    requires { AreOfOnePath stmts.now }
+    ensures within { result ≤ length stmts.now }
+    ensures found { begins_with (drop result stmts.now) tuple.now ≡ has_tuple stmts.now tuple.now }
+{
+    stmts.partition_point(
         |stmt: &Stmt| -> bool
             ensures { result ≡ is_lt (tuple_cmp stmt.now.tuple tuple.entry.now) }
         { cmp_tuple(&stmt.tuple, tuple).is_lt() },
-    );
-    begins_with(&stmts[at..], tuple)
+    )
 }
 
 // Whether the first of some statements, if there is one, has a tuple.
