@@ -28,8 +28,8 @@ returns-in-Ok-stated_at-clause-read g c =
     let first : IsQuiet old a = record { goes = c.in-Ok.ensures.steps.ok; kept = c.in-Ok.ensures.kept; writes = c.in-Ok.ensures.writes; counts = c.in-Ok.ensures.counts } in
     read_ok old b _ Fault c.requires.running (quiet_then old a b first (quiet_read a b c.in-Ok-read_world.rows Fault c.in-Ok-read_world.ensures.read))
 
-pub returns-clause-read : goal.returns-clause-read
-returns-clause-read g c =
+pub returns-in-Err-stated_at-clause-read : goal.returns-in-Err-stated_at-clause-read
+returns-in-Err-stated_at-clause-read g c =
     let old = g.K.Keeper.seen c.args.keeper.now in
     let a = g.K.Keeper.seen c.longest_state.new.keeper in
     let b = g.K.Keeper.seen c.read_world.new.keeper in
