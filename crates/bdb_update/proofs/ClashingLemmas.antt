@@ -1,6 +1,6 @@
 -- Over statements in order the first that clashes with another is the first that clashes with a neighbour ahead.
-use Rattle.std.proofs.Common.{◌≡◌, ◌∙◌, ◌⊎◌, ℕ, zero, suc, Bool, true, false, not, ◌&&◌, ◌||◌, nat_eq, cond, List, [], ◌∷◌, Option, Some, None, take, find, refl, ap, sym, subst, arith, inl, inr}
-use Rattle.std.specs.List.{list_all, list_any}
+use Rattle.std.proofs.Common.{◌≡◌, ◌∙◌, ◌⊎◌, ℕ, zero, suc, Bool, true, false, not, ◌&&◌, ◌||◌, nat_eq, cond, List, [], ◌∷◌, Some, take, find, refl, ap, sym, subst, arith, inl, inr}
+use Rattle.std.specs.List.{list_all}
 use Rattle.std.specs.declared.cmp.Ordering.{Ordering}
 use Rattle.std.specs.declared.cmp.Ordering.TheVariants.{Less, Equal, Greater}
 use Rattle.std.specs.Ordering.{nat_cmp, is_eq, is_gt, is_lt, ordering_then}
@@ -12,7 +12,7 @@ use Rattle.bdb_base.specs.Changes.{first_clashing}
 use Rattle.bdb_base.specs.Clash.{clash, key_of, same_key}
 use Rattle.bdb_base.specs.Order.{value_cmp, row_cmp, path_cmp, tuple_cmp, sign_cmp, statement_cmp}
 use Rattle.bdb_base.specs.OrderLemmas.{path_total, row_total, is_eq_path_cmp, is_eq_tuple_cmp, is_eq_row_cmp}
-use Rattle.bdb_base.specs.Same.{same_path, same_tuple, same_sign, same_values}
+use Rattle.bdb_base.specs.Same.{same_path, same_tuple, same_sign}
 use Rattle.bdb_base.specs.SameLemmas.{same_path-Decides, same_tuple-Decides}
 use Rattle.bdb_base.specs.SortedSet.{ascending}
 use Rattle.bdb_base.specs.Worlds.{contradicted}

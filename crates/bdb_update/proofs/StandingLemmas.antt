@@ -1,5 +1,5 @@
 -- What is said of a statement tells whether it stands.
-use Rattle.std.proofs.Common.{◌≡◌, ◌∙◌, true, false, Some, None, Result, Ok, Err, refl, ap, sym, subst, inl, inr}
+use Rattle.std.proofs.Common.{◌≡◌, ◌∙◌, true, Ok, Err, ap, sym, subst, inl, inr}
 use Rattle.std.proofs.lemmas.Bool.{cases_Bool}
 use Rattle.bdb_base.specs.Bases.{Contents, IsValid, stands, with_statement}
 use Rattle.bdb_base.specs.declared.kinds.Stmt.{Stmt}
@@ -9,7 +9,7 @@ use Rattle.bdb_keep.specs.Calls.{IsRead}
 use Rattle.bdb_keep.specs.Seen.{Seen, Steps}
 use Rattle.bdb_keep.specs.Tables.{Tables}
 use Rattle.bdb_tables.proofs.Loops.{steps_ok}
-use Rattle.bdb_update.specs.Calls.{MayMeet, of_stmts, size_passed}
+use Rattle.bdb_update.specs.Calls.{of_stmts, size_passed}
 use Rattle.bdb_update.specs.Examining.{Examines, IsVerdict, StandsThere, says_stands}
 use Rattle.bdb_update.specs.declared.looking.Verdict.{Verdict}
 use Rattle.bdb_update.specs.declared.looking.Verdict.TheVariants.{Clashes, Stands, Fills, Fits}

@@ -1,5 +1,4 @@
-use Rattle.std.proofs.Common.{◌∙◌, Ok, ap}
-use Rattle.bdb_update.specs.Examining.{says_stands}
+use Rattle.std.proofs.Common.{◌∙◌}
 use Rattle.bdb_update.proofs.StandingLemmas.{read_answers, read_refused, verdict_tells}
 use Rattle.bdb_update.proofs.standing.stands.Goals as goal
 
