@@ -1,19 +1,15 @@
 -- How a session tells what changes nothing.
-use Rattle.std.proofs.Common.{◌≡◌, ◌∙◌, ℕ, ◌+◌, ◌*◌, true, ◌&&◌, nat_le, List, Result, Ok, Err, OnOk, length, refl, sym, ap, subst, arith}
+use Rattle.std.proofs.Common.{◌≡◌, ◌∙◌, ℕ, true, ◌&&◌, nat_le, List, Result, Ok, Err, OnOk, length, refl, sym, ap, subst, arith}
 use Rattle.std.specs.List.{list_all}
 use Rattle.std.proofs.lemmas.Bool.{and_parts}
 use Rattle.bdb_base.specs.Alternation.{alternates}
-use Rattle.bdb_base.specs.Bases.{key_lengths, is_user}
+use Rattle.bdb_base.specs.Bases.{is_user}
 use Rattle.bdb_base.specs.Causes.{HasCause}
-use Rattle.bdb_base.specs.WorldRows.{world_of}
 use Rattle.bdb_base.specs.declared.kinds.Catalog.{Catalog}
-use Rattle.bdb_base.specs.declared.kinds.Held.{Held}
 use Rattle.bdb_base.specs.declared.kinds.UserSlot.{UserSlot}
-use Rattle.bdb_base.specs.declared.kinds.World.{World}
 use Rattle.bdb_bind.specs.declared.bound.Bound.TheVariants.{ShowWorld}
 use Rattle.bdb_bind.specs.Fits.{fits_path}
-use Rattle.bdb_catalog.specs.Bases.{SomeHasUsers}
-use Rattle.bdb_catalog.specs.Showing.{IsWorldOf}
+use Rattle.bdb_catalog.specs.Bases.{HasUsers, SomeHasUsers}
 use Rattle.bdb_keep.specs.Seen.{Seen, NeverFall, GoesOn}
 use Rattle.bdb_keep.specs.Tables.{Tables}
 use Rattle.bdb_render.specs.Replies.{world_reply}
@@ -24,6 +20,7 @@ use Rattle.bdb_session.specs.Machine.{bound_outcome, world_at}
 use Rattle.bdb_session.specs.Outcome.{State, Outcome, Done}
 use Rattle.bdb_session.specs.Telling.{ReadsWithin, WritesNothing, world_reads}
 use Rattle.bdb_session.specs.Within.{IsSaid, TellsWithin}
+use Rattle.bdb_shown.specs.Showing.{ReadsWorld, ShowsWorld}
 use Rattle.bdb_worlds.specs.Bounds.{RisesWithin}
 use Rattle.bdb_session.proofs.WithinLemmas.{read_tells}
 
@@ -53,31 +50,28 @@ same_reads_within k old new result same = λ s a. always_ok result (λ small. (o
 
 -- ---- the world of a path
 
--- the rows read are those of the world of each state's base, and its reply is that of the machine
-pub world_told : (t : Tables) (path : List ℕ) (held : List Held) (k : Known) (s : State) → IsWorldOf t path held → Agrees t k s → list_all (is_user k.catalog.users) path ≡ true
-    → held ≡ world_of (key_lengths s.base.catalog.rels) s.base.stmts path
-world_told t path held k s h a own = h s.base (record { base = a.base; own = sym (ap (λ (c : Catalog). list_all (is_user c.users) path) a.catalog) ∙ own })
+-- the base of a state on which a session agrees is one that the tables store, with the users of the path
+agreed_users : (t : Tables) (path : List ℕ) (k : Known) (s : State) → Agrees t k s → list_all (is_user k.catalog.users) path ≡ true → HasUsers t path s.base
+agreed_users t path k s a own = record { base = a.base; own = sym (ap (λ (c : Catalog). list_all (is_user c.users) path) a.catalog) ∙ own }
 
--- the outcome of showing a world, by the rows read
-pub world_outcome : (t : Tables) (k : Known) (s : State) (path : List ℕ) (world : World) → IsWorldOf t path world.held → Agrees t k s → list_all (is_user k.catalog.users) path ≡ true
-    → bound_outcome s (ShowWorld path) ≡ Done (world_reply k.catalog world) 0 s
-world_outcome t k s path world h a own =
-    let rows : world ≡ world_at s.base path = ap (λ (held : List Held). record { held = held }) (world_told t path world.held k s h a own) in
-    ap (λ (w : World). Done (world_reply s.base.catalog w) 0 s) (sym rows) ∙ ap (λ (c : Catalog). Done (world_reply c world) 0 s) (sym a.catalog)
+-- a reply that shows the world of a path is that of the machine
+pub world_outcome : (t : Tables) (k : Known) (s : State) (path text : List ℕ) → ShowsWorld t k.catalog path text → Agrees t k s → list_all (is_user k.catalog.users) path ≡ true
+    → bound_outcome s (ShowWorld path) ≡ Done text 0 s
+world_outcome t k s path text h a own =
+    ap (λ (c : Catalog). Done (world_reply c (world_at s.base path)) 0 s) (sym a.catalog)
+    ∙ ap (λ (x : List ℕ). Done x 0 s) (sym (h s.base (agreed_users t path k s a own)))
 
-pub world_tells : (k : Known) (path : List ℕ) (world : World) (old mid new : Seen) (result : Result Reply StopError) → AgreesOnSome old.kept k → list_all (is_user k.catalog.users) path ≡ true
-    → IsWorldOf old.kept path world.held → NeverFall old mid → mid.kept ≡ old.kept → GoesOn old mid → ((s : State) → IsSaid k.catalog (Done (world_reply k.catalog world) 0 s) mid new result)
+pub world_tells : (k : Known) (path text : List ℕ) (old mid new : Seen) (result : Result Reply StopError) → AgreesOnSome old.kept k → list_all (is_user k.catalog.users) path ≡ true
+    → ShowsWorld old.kept k.catalog path text → NeverFall old mid → mid.kept ≡ old.kept → GoesOn old mid → ((s : State) → IsSaid k.catalog (Done text 0 s) mid new result)
     → TellsWithin (λ s. bound_outcome s (ShowWorld path)) k k old new result
-world_tells k path world old mid new result some own is fall kept goes said =
-    read_tells (λ s. bound_outcome s (ShowWorld path)) (λ s. Done (world_reply k.catalog world) 0 s) k old mid new result some (record { goes = goes; counts = fall }) kept
-    (λ s a. world_outcome old.kept k s path world is a own) (λ s. refl) said
+world_tells k path text old mid new result some own is fall kept goes said =
+    read_tells (λ s. bound_outcome s (ShowWorld path)) (λ s. Done text 0 s) k old mid new result some (record { goes = goes; counts = fall }) kept
+    (λ s a. world_outcome old.kept k s path text is a own) (λ s. refl) said
 
-pub world_reads_within : {T : Type 0} (k : Known) (path : List ℕ) (held : List Held) (old mid new : Seen) (result : Result T StopError) → IsWorldOf old.kept path held
-    → list_all (is_user k.catalog.users) path ≡ true → RisesWithin (length path + 2 * length held + 8) old.reads mid.reads → new.reads ≡ mid.reads
-    → ReadsWithin (λ s. world_reads s.base path) k old new result
-world_reads_within k path held old mid new result h own most same s a =
-    let rows = ap (λ (x : List Held). length path + 2 * length x + 8) (world_told old.kept path held k s h a own) in
-    let there : RisesWithin (world_reads s.base path) old.reads mid.reads = subst (λ n. RisesWithin n old.reads mid.reads) rows most in
+pub world_reads_within : {T : Type 0} (k : Known) (path : List ℕ) (old mid new : Seen) (result : Result T StopError) → ReadsWorld old.kept path old.reads mid.reads
+    → list_all (is_user k.catalog.users) path ≡ true → new.reads ≡ mid.reads → ReadsWithin (λ s. world_reads s.base path) k old new result
+world_reads_within k path old mid new result most own same s a =
+    let there : RisesWithin (world_reads s.base path) old.reads mid.reads = most s.base (agreed_users old.kept path k s a own) in
     always_ok result (subst (λ n. RisesWithin (world_reads s.base path) old.reads n) (sym same) there)
 
 -- the users of a path that fits are those of the catalog

@@ -3,7 +3,6 @@ ghost use Rattle.std.specs.Prelude.{◌≡◌, ◌≤◌, true, nat_lt, length};
 ghost use Rattle.bdb_base.specs.Bases.{IsCatalog, user_names};
 ghost use Rattle.bdb_base.specs.Limits.{most_lines, most_relations, most_users};
 ghost use Rattle.bdb_bind.specs.Fits.{fits_catalog};
-ghost use Rattle.bdb_render.specs.Replies.{world_reply};
 ghost use Rattle.bdb_render.specs.Tables.{tables_reply};
 ghost use Rattle.bdb_session.specs.Known.{AgreesOnSome};
 ghost use Rattle.bdb_session.specs.Lines.{lines_by};
@@ -17,12 +16,12 @@ use crate::session::Session;
 use crate::stop::StopError;
 use crate::transact::stop_from;
 use bdb_base::limits::MOST_LINES;
-use bdb_base::{Path, World, live_count};
+use bdb_base::{Path, live_count};
 use bdb_bind::Bound;
 use bdb_canon::{Canon, Counts};
-use bdb_catalog::world_of_path;
 use bdb_keep::Keeper;
-use bdb_render::{Refusal, tables_reply, world_reply};
+use bdb_render::{Refusal, tables_reply};
+use bdb_shown::shown_world;
 use bdb_stored::canon_of;
 
 impl Session {
@@ -41,20 +40,10 @@ impl Session {
             (K.seen keeper.new) result }
         ensures writes { WritesNothing (K.seen keeper.old) (K.seen keeper.new) result }
     {
-        match world_of_path(self.alloc, keeper, path) {
-            Ok(world) => self.tell_world(keeper, &world),
+        match shown_world(self.alloc, keeper, &self.catalog, path) {
+            Ok(text) => self.say(keeper, Ok(text), 0),
             Err(error) => Err(stop_from(error)),
         }
-    }
-
-    /// Tells the rows of a world.
-    fn tell_world<K: Keeper>(&self, keeper: &mut K, world: &World) -> Result<Reply, StopError>
-        ensures { (s : State) → IsSaid self.now.catalog
-            (Done (world_reply self.now.catalog world.now) 0 s) (K.seen keeper.old)
-            (K.seen keeper.new) result }
-    {
-        let text = world_reply(self.alloc, &self.catalog, world);
-        self.say(keeper, text, 0)
     }
 
     /// Shows the structure within a transaction, or refuses to where there are too many lines. The sizes of the base tell how many

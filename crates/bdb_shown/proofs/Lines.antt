@@ -1,0 +1,139 @@
+-- Rows one after the other, and their lines.
+use Rattle.std.proofs.Common.{◌≡◌, ◌∙◌, ℕ, zero, suc, ◌+◌, ◌<◌, ◌≤◌, Bool, true, false, ◌&&◌, List, [], ◌∷◌, ◌++◌, codes, length, map, take, get_or, refl, sym, ap, subst, append_assoc, append-nil, arith}
+use Rattle.std.specs.List.{flat_map}
+use Rattle.std.proofs.lemmas.List.{take_all, take_more}
+use Rattle.std.proofs.lemmas.Grind.{flat_map-append}
+use Rattle.bdb_base.specs.declared.kinds.Catalog.{Catalog}
+use Rattle.bdb_base.specs.declared.kinds.Held.{Held}
+use Rattle.bdb_base.specs.declared.kinds.Sign.{Sign}
+use Rattle.bdb_base.specs.declared.kinds.Value.{Value}
+use Rattle.bdb_base.specs.declared.tuple.Tuple.{Tuple}
+use Rattle.bdb_key.specs.Bytes.{num_bytes, values_bytes}
+use Rattle.bdb_key.specs.Grammar.{ArePlain, IsNum}
+use Rattle.bdb_key.specs.Reading.{Leads, NoneLeads, NoneReads, Reads}
+use Rattle.bdb_key.specs.Rows.{IsAnyMark, IsTupleRow, mark_bytes, tuple_bytes}
+use Rattle.bdb_key.proofs.Readings.{num_form}
+use Rattle.bdb_render.specs.Replies.{count_reply, held_line, mark_text, relation_name, row_text, sign_text, tuple_text, world_reply}
+use Rattle.bdb_shown.specs.Rows.{Spell, Spells, raw, told, told_line}
+use Rattle.bdb_shown.specs.declared.row.Row.{Row}
+use Rattle.bdb_tables.specs.InUseLaws.{mark_rows_are_one}
+use Rattle.bdb_tables.specs.Marks.{Mark}
+
+-- ---- a tuple
+
+-- the relation and the values of a tuple, by its bytes
+pub tuple_read : (bytes values : List ℕ) (rel : ℕ) → Leads IsNum num_bytes bytes rel values → (t : Tuple) → Reads IsTupleRow tuple_bytes bytes t
+    → (rel ≡ t.rel) × Reads ArePlain values_bytes values t.vals
+tuple_read bytes values rel l t h =
+    let e = num_form rel t.rel values (values_bytes t.vals) l.fits h.fits.rel (sym l.split ∙ sym h.spelled) in
+    (e.0, record { fits = h.fits.plain; spelled = sym e.1 })
+
+pub no_tuple : (bytes : List ℕ) → NoneLeads IsNum num_bytes bytes → (t : Tuple) → Reads IsTupleRow tuple_bytes bytes t → ⊥
+no_tuple bytes none t h = none t.rel (values_bytes t.vals) (record { fits = h.fits.rel; split = sym h.spelled })
+
+-- a tuple is written where its name, its values and what stands between are
+pub tuple_written : (c : Catalog) (bytes values old named out : List ℕ) (rel : ℕ) → Leads IsNum num_bytes bytes rel values
+    → named ≡ (old ++ relation_name c rel) ++ codes "("
+    → ((v : Value) (vals : List Value) → Reads ArePlain values_bytes values (v ∷ vals) → out ≡ named ++ row_text (v ∷ vals))
+    → (t : Tuple) → Reads IsTupleRow tuple_bytes bytes t → out ++ codes ")" ≡ old ++ tuple_text c t
+tuple_written c bytes values old named out rel l name row t h =
+    let e = tuple_read bytes values rel l t h in
+    by t.vals h.fits.some e.1 ∙ ap (λ r. old ++ (relation_name c r ++ codes "(" ++ row_text t.vals ++ codes ")")) e.0
+  where
+    by : (vals : List Value) → 0 < length vals → Reads ArePlain values_bytes values vals
+        → out ++ codes ")" ≡ old ++ (relation_name c rel ++ codes "(" ++ row_text vals ++ codes ")")
+    by [] some r = absurd (omega (arith, some))
+    by (v ∷ vals) some r =
+        ap (λ l. l ++ codes ")") (row v vals r ∙ ap (λ l. l ++ row_text (v ∷ vals)) name)
+        ∙ append_assoc ((old ++ relation_name c rel) ++ codes "(") (row_text (v ∷ vals)) (codes ")")
+        ∙ append_assoc (old ++ relation_name c rel) (codes "(") (row_text (v ∷ vals) ++ codes ")")
+        ∙ append_assoc old (relation_name c rel) (codes "(" ++ row_text (v ∷ vals) ++ codes ")")
+
+-- ---- a row
+
+-- the mark that bytes are is the row's
+pub mark_read : (row : List ℕ × List ℕ) (mark : Mark) → Reads IsAnyMark mark_bytes row.1 mark → (h : Held) → Spells row h → (mark.0 ≡ h.sign) × (mark.1 ≡ h.explicit)
+mark_read row mark r h s =
+    let e : mark ≡ (h.sign, h.explicit) = mark_rows_are_one mark (h.sign, h.explicit) tt tt (r.spelled ∙ sym s.mark.spelled) in
+    (ap (λ (m : Mark). m.0) e, ap (λ (m : Mark). m.1) e)
+
+pub no_mark : (row : List ℕ × List ℕ) → NoneReads IsAnyMark mark_bytes row.1 → (h : Held) → Spells row h → ⊥
+no_mark row none h s = none (h.sign, h.explicit) s.mark
+
+-- a line is written where its parts are
+pub line_written : (c : Catalog) (own : Bool) (row : List ℕ × List ℕ) (sign : Sign) (explicit : Bool) (old signed tupled out : List ℕ)
+    → Reads IsAnyMark mark_bytes row.1 (sign, explicit) → signed ≡ old ++ sign_text sign ++ codes " "
+    → ((t : Tuple) → Reads IsTupleRow tuple_bytes row.0 t → tupled ≡ signed ++ tuple_text c t)
+    → out ≡ tupled ++ codes " " ++ mark_text (own && explicit) ++ 10 ∷ []
+    → (h : Held) → Spells row h → out ≡ old ++ told_line c own h
+line_written c own row sign explicit old signed tupled out r s t m h is =
+    let e = mark_read row (sign, explicit) r h is in
+    let text = tuple_text c h.tuple in
+    let end = codes " " ++ mark_text (own && explicit) ++ 10 ∷ [] in
+    m ∙ ap (λ l. l ++ end) (t h.tuple is.tuple ∙ ap (λ l. l ++ text) s)
+    ∙ append_assoc (old ++ sign_text sign ++ codes " ") text end
+    ∙ append_assoc old (sign_text sign ++ codes " ") (text ++ end)
+    ∙ ap (λ l. old ++ l) (joined (sign_text sign) text (mark_text (own && explicit)))
+    ∙ ap (λ x. old ++ held_line c (record { tuple = h.tuple; sign = x; explicit = own && explicit })) e.0
+    ∙ ap (λ x. old ++ held_line c (record { tuple = h.tuple; sign = h.sign; explicit = own && x })) e.1
+  where
+    joined : (a b d : List ℕ) → (a ++ codes " ") ++ (b ++ (codes " " ++ d ++ 10 ∷ [])) ≡ ((a ++ codes " " ++ b) ++ codes " " ++ d) ++ 10 ∷ []
+    joined a b d =
+        append_assoc a (codes " ") (b ++ (codes " " ++ d ++ 10 ∷ []))
+        ∙ ap (λ l. a ++ l) (sym (append_assoc (codes " ") b (codes " " ++ d ++ 10 ∷ [])))
+        ∙ sym (append_assoc a (codes " " ++ b) (codes " " ++ d ++ 10 ∷ []))
+        ∙ ap (λ l. (a ++ codes " " ++ b) ++ l) (sym (append_assoc (codes " ") d (10 ∷ [])))
+        ∙ sym (append_assoc (a ++ codes " " ++ b) (codes " " ++ d) (10 ∷ []))
+
+-- ---- rows one after the other
+
+-- the row of a world whose bytes stand at an index
+pub record IsNext (rows : List Row) (held : List Held) (i : ℕ) (row : Row) : Type 0 where
+  pub here : Held
+  pub spells : Spells (raw row) here
+  pub taken : take (i + 1) held ≡ take i held ++ here ∷ []
+
+pub row_next : (rows : List Row) (held : List Held) (i : ℕ) (row : Row) → i < length rows → row ≡ get_or rows i row → Spell (map raw rows) held → IsNext rows held i row
+row_next [] held i row lt e s = absurd (omega arith)
+row_next (r ∷ rows) [] i row lt e s = absurd s
+row_next (r ∷ rows) (h ∷ held) zero row lt e s = record { here = h; spells = subst (λ (x : Row). Spells (raw x) h) (sym e) s.0; taken = refl }
+row_next (r ∷ rows) (h ∷ held) (suc i) row lt e s =
+    let n = row_next rows held i row (omega arith) e s.1 in
+    record { here = n.here; spells = n.spells; taken = ap (λ (l : List Held). h ∷ l) n.taken }
+
+pub as_many : (rows : List Row) (held : List Held) → Spell (map raw rows) held → length held ≡ length rows
+as_many [] [] s = refl
+as_many [] (h ∷ held) s = absurd s
+as_many (r ∷ rows) [] s = absurd s
+as_many (r ∷ rows) (h ∷ held) s = ap suc (as_many rows held s.1)
+
+-- one line more
+pub lines_more : (c : Catalog) (own : Bool) (rows : List Row) (i : ℕ) (row : Row) (old new : List ℕ) → i < length rows → row ≡ get_or rows i row
+    → ((held : List Held) → Spell (map raw rows) held → old ≡ flat_map (told_line c own) (take i held))
+    → ((h : Held) → Spells (raw row) h → new ≡ old ++ told_line c own h)
+    → (held : List Held) → Spell (map raw rows) held → new ≡ flat_map (told_line c own) (take (i + 1) held)
+lines_more c own rows i row old new lt e before line held s =
+    let n = row_next rows held i row lt e s in
+    line n.here n.spells ∙ ap (λ l. l ++ told_line c own n.here) (before held s)
+    ∙ ap (λ l. flat_map (told_line c own) (take i held) ++ l) (sym (append-nil (told_line c own n.here)))
+    ∙ sym (flat_map-append (told_line c own) (take i held) (n.here ∷ []))
+    ∙ ap (flat_map (told_line c own)) (sym n.taken)
+
+lines_told : (c : Catalog) (own : Bool) (held : List Held) → flat_map (told_line c own) held ≡ flat_map (held_line c) (map (told own) held)
+lines_told c own [] = refl
+lines_told c own (h ∷ held) = ap (λ l. told_line c own h ++ l) (lines_told c own held)
+
+length_told : (own : Bool) (held : List Held) → length (map (told own) held) ≡ length held
+length_told own [] = refl
+length_told own (h ∷ held) = ap suc (length_told own held)
+
+-- the lines with their number are the reply
+pub lines_all : (c : Catalog) (own : Bool) (rows : List Row) (i : ℕ) (old new : List ℕ) → length rows ≤ i
+    → ((held : List Held) → Spell (map raw rows) held → old ≡ flat_map (told_line c own) (take i held))
+    → new ≡ old ++ count_reply (length rows)
+    → (held : List Held) → Spell (map raw rows) held → new ≡ world_reply c (record { held = map (told own) held })
+lines_all c own rows i old new end before counted held s =
+    let many = as_many rows held s in
+    let all : take i held ≡ held = take_all i held (omega (arith, many, end)) in
+    counted ∙ ap (λ l. l ++ count_reply (length rows)) (before held s ∙ ap (flat_map (told_line c own)) all ∙ lines_told c own held)
+    ∙ ap (λ n. flat_map (held_line c) (map (told own) held) ++ count_reply n) (sym many ∙ sym (length_told own held))

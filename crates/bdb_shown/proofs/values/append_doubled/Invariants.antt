@@ -1,0 +1,15 @@
+use Rattle.std.proofs.Common.{◌≡◌, ◌≤◌, ◌++◌, ℕ, List, length}
+use Rattle.std.specs.List.{flat_map}
+use Rattle.bdb_base.specs.Texts.{quoted_byte}
+use Rattle.bdb_key.specs.Reading.{EndsAt}
+use Rattle.bdb_shown.proofs.Texts.{IsLeft}
+use Rattle.bdb_shown.proofs.values.append_doubled.Given as goal
+
+abbrev pub invariant-loop-rest : goal.invariant-loop-rest
+invariant-loop-rest l = record {
+  text : (text more : List ℕ) → EndsAt l.bytes text more → IsLeft l.rest l.out.items (l.initial.out.items ++ flat_map quoted_byte text) more;
+  shorter : length l.rest ≤ length l.bytes;
+}
+
+abbrev pub decreases-loop-rest : goal.decreases-loop-rest
+decreases-loop-rest l = length l.rest

@@ -1,0 +1,102 @@
+// The lines of a world's rows, from their bytes.
+ghost use Rattle.std.specs.Prelude.{◌≡◌, ◌++◌, ◌∷◌, [], codes, map, IfOk, OnOk};
+ghost use Rattle.bdb_base.specs.declared.kinds.Held.{Held};
+ghost use Rattle.bdb_base.specs.declared.tuple.Tuple.{Tuple};
+ghost use Rattle.bdb_key.specs.Reading.{Reads};
+ghost use Rattle.bdb_key.specs.Rows.{IsTupleRow, tuple_bytes};
+ghost use Rattle.bdb_render.specs.Replies.{mark_text, relation_name, sign_text, tuple_text, world_reply};
+ghost use Rattle.bdb_shown.specs.Rows.{Spell, Spells, raw, told, told_line};
+ghost use Rattle.std.specs.Prelude.{List};
+
+use crate::row::Row;
+use crate::values::append_values;
+use bdb_base::{Catalog, List, Sign};
+use bdb_key::{mark_of, num_of};
+use bdb_render::append_count;
+use std::alloc::{AllocError, Global};
+
+/// For how many bytes a reply has room from the start.
+const USUAL_LENGTH: usize = 64;
+
+/// The reply that shows rows: a line for each, then their number. Where the world isn't the path's own, none is told as explicit.
+pub fn rows_reply(
+    alloc: Global,
+    catalog: &Catalog,
+    own: bool,
+    rows: &[Row<'_>],
+) -> Result<List<u8>, AllocError>
+    ensures { IfOk result (λ text. (held : List Held) → Spell (map raw rows.now) held
+        → text ≡ world_reply catalog.now (record { held = map (told own) held })) }
+{
+    let mut out = Vec::with_capacity(alloc, USUAL_LENGTH)?;
+    for row in rows {
+        append_line(&mut out, catalog, own, row)?;
+    }
+    append_count(&mut out, rows.len())?;
+    Ok(List::from_vec(out))
+}
+
+// Appends the line of a row.
+fn append_line(
+    out: &mut Vec<u8>,
+    catalog: &Catalog,
+    own: bool,
+    row: &Row<'_>,
+) -> Result<(), AllocError>
+    ensures { OnOk result ((held : Held) → Spells (raw row.now) held
+        → out.new.items ≡ out.old.items ++ told_line catalog.now own held) }
+{
+    let Some((sign, explicit)) = mark_of(row.mark) else {
+        return Ok(());
+    };
+    append_sign(out, sign)?;
+    append_tuple(out, catalog, row.tuple)?;
+    append_mark(out, own && explicit)
+}
+
+// Appends a sign and a space.
+fn append_sign(out: &mut Vec<u8>, sign: Sign) -> Result<(), AllocError>
+    ensures { OnOk result (out.new.items ≡ out.old.items ++ sign_text sign ++ codes " ") }
+{
+    match sign {
+        Sign::Plus => out.extend_from_slice(b"+ "),
+        Sign::Minus => out.extend_from_slice(b"- "),
+    }
+}
+
+// Appends the tuple of these bytes: the relation's name, and the values in parentheses.
+fn append_tuple(out: &mut Vec<u8>, catalog: &Catalog, bytes: &[u8]) -> Result<(), AllocError>
+    ensures { OnOk result ((t : Tuple) → Reads IsTupleRow tuple_bytes bytes.now t
+        → out.new.items ≡ out.old.items ++ tuple_text catalog.now t) }
+{
+    let Some((rel, values)) = num_of(bytes) else {
+        return Ok(());
+    };
+    out.extend_from_slice(relation_name(catalog, rel))?;
+    out.push(b'(')?;
+    append_values(out, values)?;
+    out.push(b')')?;
+    Ok(())
+}
+
+// The name of a relation; empty where there is none of that number.
+fn relation_name(catalog: &Catalog, rel: u32) -> &[u8]
+    ensures { result.now ≡ relation_name catalog.now rel }
+{
+    match catalog.rels.get(rel as usize) {
+        Some(def) => def.name.as_bytes(),
+        None => &[],
+    }
+}
+
+// Appends a space, the mark of a row and a line feed.
+fn append_mark(out: &mut Vec<u8>, explicit: bool) -> Result<(), AllocError>
+    ensures { OnOk result
+        (out.new.items ≡ out.old.items ++ codes " " ++ mark_text explicit ++ 10 ∷ []) }
+{
+    if explicit {
+        out.extend_from_slice(b" explicit\n")
+    } else {
+        out.extend_from_slice(b" inherited\n")
+    }
+}

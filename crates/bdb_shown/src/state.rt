@@ -1,0 +1,42 @@
+// The state whose rows the world of a path has.
+ghost use Rattle.std.specs.Prelude.{◌≡◌, ◌+◌, true, IfOk, OnOk, length};
+ghost use Rattle.bdb_base.specs.Alternation.{alternates};
+ghost use Rattle.bdb_catalog.specs.Showing.{FindsState};
+ghost use Rattle.bdb_keep.specs.Seen.{NeverFall, Steps};
+ghost use Rattle.bdb_tables.specs.Grammar.{InGrammar};
+ghost use Rattle.bdb_worlds.specs.Bounds.{RisesWithin};
+ghost use Rattle.bdb_worlds.specs.Holding.{HoldSome};
+
+use bdb_keep::Keeper;
+use bdb_tables::{DepthTab, TabError, get};
+use bdb_worlds::resolve;
+use std::alloc::Global;
+
+/// The number of the deepest state that a path ends in, and whether that is the path itself. A read for each user of the
+/// path, and one more.
+pub fn state_of<K: Keeper>(
+    alloc: Global,
+    keeper: &mut K,
+    path: &[u32],
+) -> Result<(u32, bool), TabError>
+    requires grammar { InGrammar (K.seen keeper.old).kept }
+    requires states { HoldSome (K.seen keeper.old).kept path.now }
+    requires apart { alternates path.now ≡ true }
+    ensures found { IfOk result (FindsState (K.seen keeper.old).kept path.now) }
+    ensures reads { OnOk result (RisesWithin (length path.now + 1) (K.seen keeper.old).reads
+        (K.seen keeper.new).reads) }
+    ensures kept { OnOk result ((K.seen keeper.new).kept ≡ (K.seen keeper.old).kept) }
+    ensures writes { (K.seen keeper.new).writes ≡ (K.seen keeper.old).writes }
+    ensures counts { NeverFall (K.seen keeper.old) (K.seen keeper.new) }
+    ensures steps { Steps (K.seen keeper.old) (K.seen keeper.new) result TabError.Fault }
+{
+    let wid = match resolve(alloc, keeper, path) {
+        Ok(wid) => wid,
+        Err(error) => return Err(error),
+    };
+    match get::<DepthTab, K>(alloc, keeper, &wid) {
+        Ok(Some(depth)) => Ok((wid, depth as usize == path.len())),
+        Ok(None) => unreachable!(),
+        Err(error) => Err(error),
+    }
+}
