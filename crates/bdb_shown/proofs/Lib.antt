@@ -1,6 +1,6 @@
-pub mod Texts
-pub mod Values
-pub mod Lines
-pub mod Orders
-pub mod Reads
-pub mod Worlds
+pub mod TextLemmas
+pub mod ValueLemmas
+pub mod LineLemmas
+pub mod OrderLemmas
+pub mod ReadLemmas
+pub mod WorldLemmas

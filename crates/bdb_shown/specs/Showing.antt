@@ -17,7 +17,7 @@ pub record ShowsRows (catalog : Catalog) (own : Bool) (held : List Held) (text :
   pub ordered : List Held
   pub moved : IsPermutation held ordered
   pub sorted : IsSortedBy is_before ordered
-  pub text : text ≡ world_reply catalog (record { held = map (told own) ordered })
+  pub shows : text ≡ world_reply catalog (record { held = map (told own) ordered })
 
 -- whichever valid base the tables store with the users of a path, this reply shows the world of the path
 abbrev pub ShowsWorld : Tables → Catalog → List ℕ → List ℕ → Type 0

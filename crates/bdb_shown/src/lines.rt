@@ -1,5 +1,5 @@
 // The lines of a world's rows, from their bytes.
-ghost use Rattle.std.specs.Prelude.{◌≡◌, ◌++◌, ◌∷◌, [], codes, map, IfOk, OnOk};
+ghost use Rattle.std.specs.Prelude.{◌≡◌, ◌++◌, ◌∷◌, [], ◌&&◌, codes, map, IfOk, OnOk};
 ghost use Rattle.bdb_base.specs.declared.kinds.Held.{Held};
 ghost use Rattle.bdb_base.specs.declared.tuple.Tuple.{Tuple};
 ghost use Rattle.bdb_key.specs.Reading.{Reads};
@@ -46,12 +46,22 @@ fn append_line(
     ensures { OnOk result ((held : Held) → Spells (raw row.now) held
         → out.new.items ≡ out.old.items ++ told_line catalog.now own held) }
 {
-    let Some((sign, explicit)) = mark_of(row.mark) else {
-        return Ok(());
-    };
-    append_sign(out, sign)?;
-    append_tuple(out, catalog, row.tuple)?;
-    append_mark(out, own && explicit)
+    match mark_of(row.mark) {
+        Some((sign, explicit)) => {
+            append_sign(out, sign)?;
+            append_tuple(out, catalog, row.tuple)?;
+            append_mark(out, is_told(own, explicit))?;
+            Ok(())
+        }
+        None => Ok(()),
+    }
+}
+
+// Whether a row is told as explicit.
+fn is_told(own: bool, explicit: bool) -> bool
+    ensures { result ≡ (own && explicit) }
+{
+    own && explicit
 }
 
 // Appends a sign and a space.
@@ -69,13 +79,24 @@ fn append_tuple(out: &mut Vec<u8>, catalog: &Catalog, bytes: &[u8]) -> Result<()
     ensures { OnOk result ((t : Tuple) → Reads IsTupleRow tuple_bytes bytes.now t
         → out.new.items ≡ out.old.items ++ tuple_text catalog.now t) }
 {
-    let Some((rel, values)) = num_of(bytes) else {
-        return Ok(());
-    };
+    match num_of(bytes) {
+        Some((rel, values)) => {
+            append_name(out, catalog, rel)?;
+            append_values(out, values)?;
+            out.push(b')')?;
+            Ok(())
+        }
+        None => Ok(()),
+    }
+}
+
+// Appends the name of a relation and a parenthesis.
+fn append_name(out: &mut Vec<u8>, catalog: &Catalog, rel: u32) -> Result<(), AllocError>
+    ensures { OnOk result
+        (out.new.items ≡ out.old.items ++ relation_name catalog.now rel ++ codes "(") }
+{
     out.extend_from_slice(relation_name(catalog, rel))?;
     out.push(b'(')?;
-    append_values(out, values)?;
-    out.push(b')')?;
     Ok(())
 }
 

@@ -4,14 +4,21 @@ ghost use Rattle.std.specs.FinMap as tables;
 ghost use Rattle.std.specs.List.{AllZip};
 ghost use Rattle.bdb_base.specs.Causes.{Rises, RoseBy};
 ghost use Rattle.bdb_keep.specs.Calls.{IsRead};
+ghost use Rattle.bdb_keep.specs.Seen.{NeverFall, Steps};
 ghost use Rattle.bdb_shown.specs.Rows.{AreRawRows, HasTupleFor, StandWithTuples};
 ghost use Rattle.bdb_tables.specs.Codec.{place};
 ghost use Rattle.bdb_tables.specs.Grammar.{InGrammar};
 ghost use Rattle.bdb_val.specs.Reads.{HaveTuples, world_prefix};
 
 use bdb_keep::{KeepError, Keeper, Span};
-use bdb_tables::{Tab, TabError, TupleTab, ValTab};
+use bdb_tables::TabError;
 use std::alloc::Global;
+
+// The number of the table of worlds' rows.
+const MARKS: u8 = 11;
+
+// The number of the table of tuples.
+const TUPLES: u8 = 4;
 
 /// Makes `rows` the rows of a world, each with the bytes of its tuple in the place of its key, in the order of the keys. Two reads
 /// for each row, and one more.
@@ -31,7 +38,7 @@ pub fn read_rows<K: Keeper>(
 {
     let prefix = wid.to_be_bytes();
     let mut stored = Span::new(alloc);
-    match keeper.under(ValTab::NUMBER, &prefix, &mut stored) {
+    match keeper.under(MARKS, &prefix, &mut stored) {
         Ok(()) => {}
         Err(error) => return Err(keeper_error(error)),
     }
@@ -53,7 +60,10 @@ fn fill_rows<K: Keeper>(
         (AllZip (HasTupleFor (K.seen keeper.old).kept) stored.now rows.new) }
     ensures reads { OnOk result ((K.seen keeper.new).reads
         ≤ (K.seen keeper.old).reads + length rows.new) }
-    ensures read { IsRead (K.seen keeper.old) (K.seen keeper.new) result TabError.Fault }
+    ensures kept { OnOk result ((K.seen keeper.new).kept ≡ (K.seen keeper.old).kept) }
+    ensures writes { (K.seen keeper.new).writes ≡ (K.seen keeper.old).writes }
+    ensures counts { NeverFall (K.seen keeper.old) (K.seen keeper.new) }
+    ensures steps { Steps (K.seen keeper.old) (K.seen keeper.new) result TabError.Fault }
 {
     rows.clear();
     let mut tuple = Vec::new(alloc);
@@ -63,9 +73,12 @@ fn fill_rows<K: Keeper>(
             Ok(()) => {}
             Err(error) => return Err(error),
         }
-        if rows.push(&tuple, mark).is_err() {
-            keeper.undo();
-            return Err(TabError::Memory);
+        match rows.push(&tuple, mark) {
+            Ok(()) => {}
+            Err(_) => {
+                keeper.undo();
+                return Err(TabError::Memory);
+            }
         }
     }
     Ok(())
@@ -79,7 +92,7 @@ fn read_tuple<K: Keeper>(keeper: &mut K, number: &[u8], tuple: &mut Vec<u8>) -> 
     ensures reads { OnOk result (RoseBy 1 (K.seen keeper.old).reads (K.seen keeper.new).reads) }
     ensures read { IsRead (K.seen keeper.old) (K.seen keeper.new) result TabError.Fault }
 {
-    match keeper.get(TupleTab::NUMBER, number, tuple) {
+    match keeper.get(TUPLES, number, tuple) {
         Ok(true) => Ok(()),
         Ok(false) => unreachable!(),
         Err(error) => Err(keeper_error(error)),

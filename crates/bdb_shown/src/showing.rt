@@ -62,5 +62,6 @@ fn ordered_reply(
         → ShowsRows catalog.now own held text) }
 {
     let rows = in_order(alloc, span)?;
-    rows_reply(alloc, catalog, own, &rows)
+    let text = rows_reply(alloc, catalog, own, &rows)?;
+    Ok(text)
 }

@@ -1,5 +1,5 @@
 // The texts of values, from their bytes.
-ghost use Rattle.std.specs.Prelude.{◌≡◌, ◌-◌, ◌<◌, ◌≤◌, ◌^◌, ◌∷◌, ◌++◌, ℕ, List, true, length, drop, take, FitsSigned, IfOk, OnOk, MatchOption};
+ghost use Rattle.std.specs.Prelude.{◌≡◌, ◌-◌, ◌<◌, ◌≤◌, ◌^◌, [], ◌∷◌, ◌++◌, ℕ, List, true, length, drop, take, FitsSigned, IfOk, OnOk, MatchOption};
 ghost use Rattle.std.specs.Int.{w64, to_be_bytes};
 ghost use Rattle.std.specs.List.{flat_map, list_all};
 ghost use Rattle.bdb_base.specs.Texts.{quoted, quoted_byte, value_text};
@@ -100,11 +100,15 @@ fn append_doubled<'a>(out: &mut Vec<u8>, bytes: &'a [u8]) -> Result<&'a [u8], Al
     ensures shorter { IfOk result (λ rest. length rest.now ≤ length bytes.now) }
 {
     let mut rest = bytes;
-    while let [first, others @ ..] = rest {
-        if *first == 0 {
+    loop {
+        let (first, others) = match front(rest) {
+            Some(found) => found,
+            None => return Ok(rest),
+        };
+        if first == 0 {
             return Ok(others);
         }
-        if *first == b'\'' {
+        if first == b'\'' {
             out.extend_from_slice(b"''")?;
             rest = others;
         } else {
@@ -113,7 +117,16 @@ fn append_doubled<'a>(out: &mut Vec<u8>, bytes: &'a [u8]) -> Result<&'a [u8], Al
             rest = &others[count..];
         }
     }
-    Ok(rest)
+}
+
+// The first byte, and those behind it.
+fn front(bytes: &[u8]) -> Option<(u8, &[u8])>
+    ensures { MatchOption result (bytes.now ≡ []) (λ x. bytes.now ≡ x.0 ∷ x.1.now) }
+{
+    match bytes {
+        [] => None,
+        [first, others @ ..] => Some((*first, others)),
+    }
 }
 
 // How many bytes come before the first 0 or quote.

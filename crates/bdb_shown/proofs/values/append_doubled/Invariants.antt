@@ -2,7 +2,7 @@ use Rattle.std.proofs.Common.{◌≡◌, ◌≤◌, ◌++◌, ℕ, List, length}
 use Rattle.std.specs.List.{flat_map}
 use Rattle.bdb_base.specs.Texts.{quoted_byte}
 use Rattle.bdb_key.specs.Reading.{EndsAt}
-use Rattle.bdb_shown.proofs.Texts.{IsLeft}
+use Rattle.bdb_shown.proofs.TextLemmas.{IsLeft}
 use Rattle.bdb_shown.proofs.values.append_doubled.Given as goal
 
 abbrev pub invariant-loop-rest : goal.invariant-loop-rest

@@ -4,7 +4,7 @@ use Rattle.bdb_key.specs.Bytes.{values_bytes}
 use Rattle.bdb_key.specs.Grammar.{ArePlain}
 use Rattle.bdb_key.specs.Reading.{Reads}
 use Rattle.bdb_render.specs.Replies.{row_text}
-use Rattle.bdb_shown.proofs.Values.{AreLeft}
+use Rattle.bdb_shown.proofs.ValueLemmas.{AreLeft}
 use Rattle.bdb_shown.proofs.values.append_values.Given as goal
 
 abbrev pub invariant-loop-rest : goal.invariant-loop-rest

@@ -1,11 +1,11 @@
 -- Values at the front of bytes, and what is written of them.
-use Rattle.std.proofs.Common.{◌≡◌, ◌∙◌, ℕ, ℤ, ◌+◌, ◌-◌, ◌≤◌, ◌<◌, true, false, List, [], ◌∷◌, ◌++◌, length, map, drop, codes, refl, sym, ap, subst, append_assoc, append-nil, length-append, arith, FitsSigned}
-use Rattle.std.specs.Int.{w64}
+use Rattle.std.proofs.Common.{◌≡◌, ◌∙◌, ℕ, suc, ℤ, ◌+◌, ◌-◌, ◌≤◌, ◌<◌, true, false, List, [], ◌∷◌, ◌++◌, length, map, drop, codes, refl, sym, ap, subst, append_assoc, append-nil, length-append, arith, FitsSigned}
+use Rattle.std.specs.Int.{w64, to_be_bytes}
 use Rattle.std.specs.List.{flat_map}
 use Rattle.bdb_base.specs.Texts.{quoted, int_text, value_text}
 use Rattle.bdb_base.specs.declared.kinds.Value.{Value}
 use Rattle.bdb_base.specs.declared.kinds.Value.TheVariants.{Int, Text}
-use Rattle.bdb_key.specs.Bytes.{int_bytes, value_bytes, values_bytes}
+use Rattle.bdb_key.specs.Bytes.{int_bytes, raised, value_bytes, values_bytes}
 use Rattle.bdb_key.specs.Grammar.{ArePlain, IsPlainValue}
 use Rattle.bdb_key.specs.Reading.{EndsAt, Leads, NoneLeads, Reads}
 use Rattle.bdb_key.proofs.Compared.{printing}
@@ -21,7 +21,10 @@ int_leads n bytes rest h v more l =
 
 -- the integer is behind nine bytes
 pub int_shorter : (n : ℤ) (bytes rest : List ℕ) → Leads (FitsSigned w64) int_bytes bytes n rest → length rest ≤ length bytes - 1
-int_shorter n bytes rest h = let e = ap length h.split ∙ length-append (int_bytes n) rest in omega (arith, e)
+int_shorter n bytes rest h =
+    let e : length bytes ≡ suc (length (to_be_bytes w64 (raised n) ++ rest)) = ap length h.split in
+    let f = length-append (to_be_bytes w64 (raised n)) rest in
+    omega (arith, e, f)
 
 -- a value that bytes begin with which begin with no integer is a text, behind a byte
 pub text_leads : (bytes : List ℕ) → NoneLeads (FitsSigned w64) int_bytes bytes → (v : Value) (more : List ℕ) → Leads IsPlainValue value_bytes bytes v more
@@ -68,7 +71,7 @@ pub left_more : (bytes rest old out wanted : List ℕ) → 0 < length bytes
 left_more bytes rest old out wanted some h l = by l.left l.reads l.written
   where
     by : (left : List Value) → Reads ArePlain values_bytes bytes left → old ++ flat_map behind_another left ≡ wanted → AreLeft rest out wanted
-    by [] r w = let e = ap length r.spelled in absurd (omega (arith, e, some))
+    by [] r w = let e : 0 ≡ length bytes = ap length r.spelled in absurd (omega (arith, e, some))
     by (v ∷ vals) r w =
         let e = h v (values_bytes vals) (first_leads bytes v vals r) in
         record {
@@ -81,14 +84,14 @@ left_more bytes rest old out wanted some h l = by l.left l.reads l.written
               ∙ w;
         }
 
+no_bytes : (bs : List ℕ) → length bs ≡ 0 → bs ≡ []
+no_bytes [] e = refl
+no_bytes (b ∷ bs) e = absurd (omega (arith, e))
+
 -- where no bytes are left, all is written
 pub left_all : (bytes out wanted : List ℕ) → length bytes ≡ 0 → AreLeft bytes out wanted → out ≡ wanted
 left_all bytes out wanted none l = by l.left l.reads l.written
   where
     by : (left : List Value) → Reads ArePlain values_bytes bytes left → out ++ flat_map behind_another left ≡ wanted → out ≡ wanted
     by [] r w = sym (append-nil out) ∙ w
-    by (v ∷ vals) r w = absurd (value_forms.some v (values_bytes vals) (sym (nothing bytes none) ∙ sym r.spelled))
-
-    nothing : (bs : List ℕ) → length bs ≡ 0 → bs ≡ []
-    nothing [] e = refl
-    nothing (b ∷ bs) e = absurd (omega (arith, e))
+    by (v ∷ vals) r w = absurd (value_forms.some v (values_bytes vals) (sym (no_bytes bytes none) ∙ sym r.spelled))

@@ -1,10 +1,13 @@
 -- Rows that were read with the bytes of their tuples are the rows of a world.
-use Rattle.std.proofs.Common.{◌≡◌, ◌∙◌, ℕ, zero, suc, ◌+◌, ◌-◌, ◌*◌, ◌<◌, ◌≤◌, true, List, [], ◌∷◌, ◌++◌, Some, is_some, length, map, drop, get_or, refl, sym, ap, subst, arith, length-append}
+use Rattle.std.proofs.Common.{◌≡◌, ◌∙◌, ℕ, zero, suc, ◌+◌, ◌-◌, ◌*◌, ◌<◌, ◌≤◌, true, List, [], ◌∷◌, ◌++◌, Some, Ok, Err, is_some, length, map, drop, get_or, refl, sym, ap, subst, arith, length-append}
 use Rattle.std.specs.FinMap as tables
 use Rattle.std.specs.List.{AllByRecursion, AllZip}
 use Rattle.std.proofs.Math.Seq.{drop-append_seam}
 use Rattle.bdb_base.specs.declared.kinds.Held.{Held}
 use Rattle.bdb_base.specs.declared.tuple.Tuple.{Tuple}
+use Rattle.bdb_base.specs.Causes.{RoseBy}
+use Rattle.bdb_keep.specs.Calls.{IsRead}
+use Rattle.bdb_keep.specs.Seen.{Seen, NeverFall, Steps}
 use Rattle.bdb_keep.specs.Spans.{Listed, AreRowsUnder}
 use Rattle.bdb_keep.specs.Tables.{Tables}
 use Rattle.bdb_key.specs.Bytes.{num_bytes, vals_bytes}
@@ -16,11 +19,37 @@ use Rattle.bdb_tables.specs.InUse.{ValKey, IsValKey, val_bytes, tuple_codec, val
 use Rattle.bdb_tables.specs.InUseLaws.{vals_are_one}
 use Rattle.bdb_tables.specs.Marks.{Mark}
 use Rattle.bdb_tables.specs.Spans.{AreEntriesOf, AreUnder, Spell as EntriesSpell}
+use Rattle.bdb_tables.proofs.Loops.{counts_then, goes_then, steps_err, steps_ok}
 use Rattle.bdb_tables.proofs.RangeLemmas.{as_long, read_fits, spelled_under}
 use Rattle.bdb_val.specs.Reads.{AreReadUnder, AreTold, HaveTuples}
 use Rattle.bdb_val.specs.WorldReads.{held_row}
 use Rattle.bdb_val.specs.declared.stored.Stored.{Stored}
 use Rattle.bdb_val.proofs.ToldLemmas.{Stands, entries_stand}
+
+-- ---- one read after another
+
+pub read_then_ok : {T U V E F : Type 0} (old a b : Seen) (x : T) (y : U) (z : V) (fault : E) (other : F) → IsRead {T = T} {E = E} old a (Ok x) fault
+    → b.kept ≡ a.kept → b.writes ≡ a.writes → NeverFall a b → Steps {T = U} {E = F} a b (Ok y) other → IsRead {T = V} {E = F} old b (Ok z) other
+read_then_ok old a b x y z fault other r kept writes counts steps = record {
+  rest = r.rest;
+  kept = kept ∙ r.kept;
+  writes = writes ∙ r.writes;
+  counts = counts_then old a b r.counts counts;
+  steps = steps_ok old b z other (goes_then old a b r.steps.ok steps.ok);
+}
+
+pub read_then_err : {T U V E F : Type 0} (old a b : Seen) (x : T) (e : F) (fault : E) (other : F) → IsRead {T = T} {E = E} old a (Ok x) fault
+    → b.writes ≡ a.writes → NeverFall a b → Steps {T = U} {E = F} a b (Err e) other → IsRead {T = V} {E = F} old b (Err e) other
+read_then_err old a b x e fault other r writes counts steps = record {
+  rest = r.rest;
+  kept = tt;
+  writes = writes ∙ r.writes;
+  counts = counts_then old a b r.counts counts;
+  steps = steps_err old a b e other r.steps.ok steps;
+}
+
+pub reads_of_both : (a b c n m : ℕ) → RoseBy (n + 1) a b → c ≤ b + m → m ≡ n → c ≤ a + (2 * m + 1)
+reads_of_both a b c n m rose more same = omega (arith, rose, more, same)
 
 -- ---- the entries that rows are
 
@@ -74,6 +103,11 @@ long_enough k =
 
 pub has_four : (key : List ℕ) (k : ValKey) → Reads IsValKey val_bytes key k → 4 ≤ length key
 has_four key k r = subst (λ b. 4 ≤ length b) r.spelled (long_enough k)
+
+-- the tuple's row is there still
+pub there_still : (t u : Tables) (key last : List ℕ) (k : ValKey) → u ≡ t → Reads IsValKey val_bytes key k → last ≡ drop (length key - 4) key
+    → is_some (tables.get t (place tuple_codec k.3)) ≡ true → is_some (tables.get u (4 ∷ last)) ≡ true
+there_still t u key last k same r e there = ap (λ v. is_some (tables.get v (4 ∷ last))) same ∙ ap (λ b. is_some (tables.get t (4 ∷ b))) (number_last key last k r e) ∙ there
 
 -- a row with the bytes that stand at its tuple's number
 pub with_tuple : (t : Tables) (key mark last tuple : List ℕ) (s : StandsWithTuple t (key, mark)) → last ≡ drop (length key - 4) key → tables.get t (4 ∷ last) ≡ Some tuple

@@ -32,22 +32,20 @@ pub no_tuple : (bytes : List ℕ) → NoneLeads IsNum num_bytes bytes → (t : T
 no_tuple bytes none t h = none t.rel (values_bytes t.vals) (record { fits = h.fits.rel; split = sym h.spelled })
 
 -- a tuple is written where its name, its values and what stands between are
-pub tuple_written : (c : Catalog) (bytes values old named out : List ℕ) (rel : ℕ) → Leads IsNum num_bytes bytes rel values
-    → named ≡ (old ++ relation_name c rel) ++ codes "("
+pub tuple_written : (c : Catalog) (bytes values old named out : List ℕ) (rel : ℕ) → Leads IsNum num_bytes bytes rel values → named ≡ old ++ relation_name c rel ++ codes "("
     → ((v : Value) (vals : List Value) → Reads ArePlain values_bytes values (v ∷ vals) → out ≡ named ++ row_text (v ∷ vals))
     → (t : Tuple) → Reads IsTupleRow tuple_bytes bytes t → out ++ codes ")" ≡ old ++ tuple_text c t
 tuple_written c bytes values old named out rel l name row t h =
     let e = tuple_read bytes values rel l t h in
     by t.vals h.fits.some e.1 ∙ ap (λ r. old ++ (relation_name c r ++ codes "(" ++ row_text t.vals ++ codes ")")) e.0
   where
-    by : (vals : List Value) → 0 < length vals → Reads ArePlain values_bytes values vals
-        → out ++ codes ")" ≡ old ++ (relation_name c rel ++ codes "(" ++ row_text vals ++ codes ")")
+    regrouped : (x y z u w : List ℕ) → x ++ y ++ z ++ u ++ w ≡ x ++ (y ++ z ++ u ++ w)
+    regrouped x y z u w = ap (λ l. l ++ u ++ w) (append_assoc x y z) ∙ ap (λ l. l ++ w) (append_assoc x (y ++ z) u) ∙ append_assoc x (y ++ z ++ u) w
+
+    by : (vals : List Value) → 0 < length vals → Reads ArePlain values_bytes values vals → out ++ codes ")" ≡ old ++ (relation_name c rel ++ codes "(" ++ row_text vals ++ codes ")")
     by [] some r = absurd (omega (arith, some))
     by (v ∷ vals) some r =
-        ap (λ l. l ++ codes ")") (row v vals r ∙ ap (λ l. l ++ row_text (v ∷ vals)) name)
-        ∙ append_assoc ((old ++ relation_name c rel) ++ codes "(") (row_text (v ∷ vals)) (codes ")")
-        ∙ append_assoc (old ++ relation_name c rel) (codes "(") (row_text (v ∷ vals) ++ codes ")")
-        ∙ append_assoc old (relation_name c rel) (codes "(" ++ row_text (v ∷ vals) ++ codes ")")
+        ap (λ l. l ++ codes ")") (row v vals r ∙ ap (λ l. l ++ row_text (v ∷ vals)) name) ∙ regrouped old (relation_name c rel) (codes "(") (row_text (v ∷ vals)) (codes ")")
 
 -- ---- a row
 
@@ -61,45 +59,42 @@ pub no_mark : (row : List ℕ × List ℕ) → NoneReads IsAnyMark mark_bytes ro
 no_mark row none h s = none (h.sign, h.explicit) s.mark
 
 -- a line is written where its parts are
-pub line_written : (c : Catalog) (own : Bool) (row : List ℕ × List ℕ) (sign : Sign) (explicit : Bool) (old signed tupled out : List ℕ)
+pub line_written : (c : Catalog) (own : Bool) (row : List ℕ × List ℕ) (sign : Sign) (explicit mark : Bool) (old signed tupled out : List ℕ)
     → Reads IsAnyMark mark_bytes row.1 (sign, explicit) → signed ≡ old ++ sign_text sign ++ codes " "
     → ((t : Tuple) → Reads IsTupleRow tuple_bytes row.0 t → tupled ≡ signed ++ tuple_text c t)
-    → out ≡ tupled ++ codes " " ++ mark_text (own && explicit) ++ 10 ∷ []
+    → mark ≡ (own && explicit) → out ≡ tupled ++ codes " " ++ mark_text mark ++ 10 ∷ []
     → (h : Held) → Spells row h → out ≡ old ++ told_line c own h
-line_written c own row sign explicit old signed tupled out r s t m h is =
+line_written c own row sign explicit mark old signed tupled out r s t marked m h is =
     let e = mark_read row (sign, explicit) r h is in
     let text = tuple_text c h.tuple in
-    let end = codes " " ++ mark_text (own && explicit) ++ 10 ∷ [] in
-    m ∙ ap (λ l. l ++ end) (t h.tuple is.tuple ∙ ap (λ l. l ++ text) s)
-    ∙ append_assoc (old ++ sign_text sign ++ codes " ") text end
-    ∙ append_assoc old (sign_text sign ++ codes " ") (text ++ end)
-    ∙ ap (λ l. old ++ l) (joined (sign_text sign) text (mark_text (own && explicit)))
-    ∙ ap (λ x. old ++ held_line c (record { tuple = h.tuple; sign = x; explicit = own && explicit })) e.0
-    ∙ ap (λ x. old ++ held_line c (record { tuple = h.tuple; sign = h.sign; explicit = own && x })) e.1
+    let told_so : mark ≡ (own && h.explicit) = marked ∙ ap (λ x. own && x) e.1 in
+    m ∙ ap (λ l. l ++ codes " " ++ mark_text mark ++ 10 ∷ []) (t h.tuple is.tuple ∙ ap (λ l. l ++ text) s)
+    ∙ regrouped old (sign_text sign) (codes " ") text (codes " ") (mark_text mark) (10 ∷ [])
+    ∙ ap (λ x. old ++ held_line c (record { tuple = h.tuple; sign = x; explicit = mark })) e.0
+    ∙ ap (λ x. old ++ held_line c (record { tuple = h.tuple; sign = h.sign; explicit = x })) told_so
   where
-    joined : (a b d : List ℕ) → (a ++ codes " ") ++ (b ++ (codes " " ++ d ++ 10 ∷ [])) ≡ ((a ++ codes " " ++ b) ++ codes " " ++ d) ++ 10 ∷ []
-    joined a b d =
-        append_assoc a (codes " ") (b ++ (codes " " ++ d ++ 10 ∷ []))
-        ∙ ap (λ l. a ++ l) (sym (append_assoc (codes " ") b (codes " " ++ d ++ 10 ∷ [])))
-        ∙ sym (append_assoc a (codes " " ++ b) (codes " " ++ d ++ 10 ∷ []))
-        ∙ ap (λ l. (a ++ codes " " ++ b) ++ l) (sym (append_assoc (codes " ") d (10 ∷ [])))
-        ∙ sym (append_assoc (a ++ codes " " ++ b) (codes " " ++ d) (10 ∷ []))
+    regrouped : (x y z u v w n : List ℕ) → x ++ y ++ z ++ u ++ v ++ w ++ n ≡ x ++ (y ++ z ++ u ++ v ++ w ++ n)
+    regrouped x y z u v w n =
+        ap (λ l. l ++ u ++ v ++ w ++ n) (append_assoc x y z) ∙ ap (λ l. l ++ v ++ w ++ n) (append_assoc x (y ++ z) u)
+        ∙ ap (λ l. l ++ w ++ n) (append_assoc x (y ++ z ++ u) v) ∙ ap (λ l. l ++ n) (append_assoc x (y ++ z ++ u ++ v) w)
+        ∙ append_assoc x (y ++ z ++ u ++ v ++ w) n
 
 -- ---- rows one after the other
 
 -- the row of a world whose bytes stand at an index
-pub record IsNext (rows : List Row) (held : List Held) (i : ℕ) (row : Row) : Type 0 where
+pub record IsNext (held : List Held) (i : ℕ) (row : Row) : Type 0 where
   pub here : Held
   pub spells : Spells (raw row) here
-  pub taken : take (i + 1) held ≡ take i held ++ here ∷ []
+  pub within : i < length held
+  pub is : here ≡ get_or held i here
 
-pub row_next : (rows : List Row) (held : List Held) (i : ℕ) (row : Row) → i < length rows → row ≡ get_or rows i row → Spell (map raw rows) held → IsNext rows held i row
+pub row_next : (rows : List Row) (held : List Held) (i : ℕ) (row : Row) → i < length rows → row ≡ get_or rows i row → Spell (map raw rows) held → IsNext held i row
 row_next [] held i row lt e s = absurd (omega arith)
 row_next (r ∷ rows) [] i row lt e s = absurd s
-row_next (r ∷ rows) (h ∷ held) zero row lt e s = record { here = h; spells = subst (λ (x : Row). Spells (raw x) h) (sym e) s.0; taken = refl }
+row_next (r ∷ rows) (h ∷ held) zero row lt e s = record { here = h; spells = subst (λ (x : Row). Spells (raw x) h) (sym e) s.0; within = omega arith; is = refl }
 row_next (r ∷ rows) (h ∷ held) (suc i) row lt e s =
     let n = row_next rows held i row (omega arith) e s.1 in
-    record { here = n.here; spells = n.spells; taken = ap (λ (l : List Held). h ∷ l) n.taken }
+    record { here = n.here; spells = n.spells; within = omega (arith, n.within); is = n.is }
 
 pub as_many : (rows : List Row) (held : List Held) → Spell (map raw rows) held → length held ≡ length rows
 as_many [] [] s = refl
@@ -117,7 +112,7 @@ lines_more c own rows i row old new lt e before line held s =
     line n.here n.spells ∙ ap (λ l. l ++ told_line c own n.here) (before held s)
     ∙ ap (λ l. flat_map (told_line c own) (take i held) ++ l) (sym (append-nil (told_line c own n.here)))
     ∙ sym (flat_map-append (told_line c own) (take i held) (n.here ∷ []))
-    ∙ ap (flat_map (told_line c own)) (sym n.taken)
+    ∙ ap (flat_map (told_line c own)) (sym (take_more held i n.here n.within ∙ ap (λ (x : Held). take i held ++ x ∷ []) (sym n.is)))
 
 lines_told : (c : Catalog) (own : Bool) (held : List Held) → flat_map (told_line c own) held ≡ flat_map (held_line c) (map (told own) held)
 lines_told c own [] = refl

@@ -15,7 +15,7 @@ use Rattle.bdb_keep.specs.Tables.{Tables}
 use Rattle.bdb_render.specs.Replies.{world_reply}
 use Rattle.bdb_shown.specs.Rows.{AreRawRows, Spell, told}
 use Rattle.bdb_shown.specs.Showing.{ReadsWorld, ShowsRows, ShowsWorld}
-use Rattle.bdb_shown.proofs.Reads.{AreStored, are_stored, rows_stored}
+use Rattle.bdb_shown.proofs.ReadLemmas.{AreStored, are_stored, rows_stored}
 use Rattle.bdb_tables.specs.Grammar.{InGrammar}
 use Rattle.bdb_val.specs.Reads.{world_prefix}
 use Rattle.bdb_val.specs.WorldReads.{AreInOrder, AreRowsAt, held_row}
@@ -56,7 +56,7 @@ module _ (t : Tables) (path : List ℕ) (wid : ℕ) (own : Bool) (catalog : Cata
   -- the reply shows the world
   pub shows_world : ShowsWorld t catalog path text
   shows_world b h =
-      reply.text ∙ ap (λ (held : List Held). world_reply catalog (record { held = held })) (told_as_shown own reply.ordered ∙ is_world b h)
+      reply.shows ∙ ap (λ (held : List Held). world_reply catalog (record { held = held })) (told_as_shown own reply.ordered ∙ is_world b h)
 
   length_held : (ss : List Stored) → length (map held_row ss) ≡ length ss
   length_held [] = refl
