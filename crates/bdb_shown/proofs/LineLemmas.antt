@@ -81,19 +81,19 @@ line_written c own row sign explicit mark old signed tupled out r s t marked m h
 
 -- ---- rows one after the other
 
--- the row of a world whose bytes stand at an index
-pub record IsNext (held : List Held) (i : ℕ) (row : Row) : Type 0 where
+-- the row of a world whose bytes stand at an index, whatever stands for one past the end
+pub record IsNext (rows : List Row) (held : List Held) (i : ℕ) (d : Row) : Type 0 where
   pub here : Held
-  pub spells : Spells (raw row) here
+  pub spells : Spells (raw (get_or rows i d)) here
   pub within : i < length held
   pub is : here ≡ get_or held i here
 
-pub row_next : (rows : List Row) (held : List Held) (i : ℕ) (row : Row) → i < length rows → row ≡ get_or rows i row → Spell (map raw rows) held → IsNext held i row
-row_next [] held i row lt e s = absurd (omega arith)
-row_next (r ∷ rows) [] i row lt e s = absurd s
-row_next (r ∷ rows) (h ∷ held) zero row lt e s = record { here = h; spells = subst (λ (x : Row). Spells (raw x) h) (sym e) s.0; within = omega arith; is = refl }
-row_next (r ∷ rows) (h ∷ held) (suc i) row lt e s =
-    let n = row_next rows held i row (omega arith) e s.1 in
+pub row_next : (rows : List Row) (held : List Held) (i : ℕ) (d : Row) → i < length rows → Spell (map raw rows) held → IsNext rows held i d
+row_next [] held i d lt s = absurd (omega arith)
+row_next (r ∷ rows) [] i d lt s = absurd s
+row_next (r ∷ rows) (h ∷ held) zero d lt s = record { here = h; spells = s.0; within = omega arith; is = refl }
+row_next (r ∷ rows) (h ∷ held) (suc i) d lt s =
+    let n = row_next rows held i d (omega arith) s.1 in
     record { here = n.here; spells = n.spells; within = omega (arith, n.within); is = n.is }
 
 pub as_many : (rows : List Row) (held : List Held) → Spell (map raw rows) held → length held ≡ length rows
@@ -103,12 +103,12 @@ as_many (r ∷ rows) [] s = absurd s
 as_many (r ∷ rows) (h ∷ held) s = ap suc (as_many rows held s.1)
 
 -- one line more
-pub lines_more : (c : Catalog) (own : Bool) (rows : List Row) (i : ℕ) (row : Row) (old new : List ℕ) → i < length rows → row ≡ get_or rows i row
+pub lines_more : (c : Catalog) (own : Bool) (rows : List Row) (i : ℕ) (d : Row) (old new : List ℕ) → i < length rows
     → ((held : List Held) → Spell (map raw rows) held → old ≡ flat_map (told_line c own) (take i held))
-    → ((h : Held) → Spells (raw row) h → new ≡ old ++ told_line c own h)
+    → ((h : Held) → Spells (raw (get_or rows i d)) h → new ≡ old ++ told_line c own h)
     → (held : List Held) → Spell (map raw rows) held → new ≡ flat_map (told_line c own) (take (i + 1) held)
-lines_more c own rows i row old new lt e before line held s =
-    let n = row_next rows held i row lt e s in
+lines_more c own rows i d old new lt before line held s =
+    let n = row_next rows held i d lt s in
     line n.here n.spells ∙ ap (λ l. l ++ told_line c own n.here) (before held s)
     ∙ ap (λ l. flat_map (told_line c own) (take i held) ++ l) (sym (append-nil (told_line c own n.here)))
     ∙ sym (flat_map-append (told_line c own) (take i held) (n.here ∷ []))

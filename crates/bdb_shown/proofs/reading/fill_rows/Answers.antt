@@ -24,15 +24,15 @@ pub last_four-requires : goal.last_four-requires
 last_four-requires g c =
     let t = (g.K.Keeper.seen c.args.keeper.now).kept in
     let lt : c.loop-index.index < length c.args.stored.now = omega (arith, c.len-index-end.ensures, c.loop-index-test.true) in
-    let s = each_at (StandsWithTuple t) c.args.stored.now c.loop-index.index c.entry.result.0.now c.entry.result.1.now c.requires lt c.entry.ensures in
+    let s = each_at (StandsWithTuple t) c.args.stored.now c.loop-index.index c.entry.result.0.now c.entry.result.1.now c.requires.stand lt c.entry.ensures in
     has_four c.entry.result.0.now s.key s.reads
 
 pub read_tuple-requires : goal.read_tuple-requires
 read_tuple-requires g c =
     let t = (g.K.Keeper.seen c.args.keeper.now).kept in
     let lt : c.loop-index.index < length c.args.stored.now = omega (arith, c.len-index-end.ensures, c.loop-index-test.true) in
-    let s = each_at (StandsWithTuple t) c.args.stored.now c.loop-index.index c.entry.result.0.now c.entry.result.1.now c.requires lt c.entry.ensures in
-    there_still t (g.K.Keeper.seen c.loop-index.keeper).kept c.entry.result.0.now c.last_four.result.now s.key c.loop-index.invariant.kept s.reads c.last_four.ensures s.there
+    let s = each_at (StandsWithTuple t) c.args.stored.now c.loop-index.index c.entry.result.0.now c.entry.result.1.now c.requires.stand lt c.entry.ensures in
+    record { there = there_still t (g.K.Keeper.seen c.loop-index.keeper).kept c.entry.result.0.now c.last_four.result.now s.key c.loop-index.invariant.kept s.reads c.last_four.ensures s.there }
 
 pub loop-index-preserved : goal.loop-index-preserved
 loop-index-preserved g c =
@@ -45,7 +45,7 @@ loop-index-preserved g c =
     let mark = c.entry.result.1.now in
     let tuple = c.read_tuple.new.tuple.items in
     let lt : c.loop-index.index < length stored = omega (arith, c.len-index-end.ensures, c.loop-index-test.true) in
-    let s = each_at (StandsWithTuple old.kept) stored c.loop-index.index key mark c.requires lt c.entry.ensures in
+    let s = each_at (StandsWithTuple old.kept) stored c.loop-index.index key mark c.requires.stand lt c.entry.ensures in
     let found : tables.get old.kept (4 ∷ c.last_four.result.now) ≡ Some tuple = subst (λ u. tables.get u (4 ∷ c.last_four.result.now) ≡ Some tuple) h.kept c.in-Ok.ensures.tuple in
     let pushed : c.push.new.self ≡ c.loop-index.rows ++ (tuple, mark) ∷ [] = search rules in
     let longer : length c.push.new.self ≡ length c.loop-index.rows + 1 = ap length pushed ∙ length_push c.loop-index.rows (tuple, mark) in

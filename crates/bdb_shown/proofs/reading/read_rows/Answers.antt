@@ -37,8 +37,3 @@ pub returns-in-Ok-fill_rows-clause-read : goal.returns-in-Ok-fill_rows-clause-re
 returns-in-Ok-fill_rows-clause-read g c =
     let r = c.in-Ok-fill_rows.ensures in
     read_then_ok (g.K.Keeper.seen c.args.keeper.now) (g.K.Keeper.seen c.under.new.self) (g.K.Keeper.seen c.fill_rows.new.keeper) tt tt tt keep_fault Fault c.in-Ok.ensures.read r.kept r.writes r.counts r.steps
-
-pub returns-in-Ok-Err-clause-read : goal.returns-in-Ok-Err-clause-read
-returns-in-Ok-Err-clause-read g c =
-    let r = c.in-Ok-Err.ensures in
-    read_then_err (g.K.Keeper.seen c.args.keeper.now) (g.K.Keeper.seen c.under.new.self) (g.K.Keeper.seen c.fill_rows.new.keeper) tt c.in-Ok-Err.error keep_fault Fault c.in-Ok.ensures.read r.writes r.counts r.steps

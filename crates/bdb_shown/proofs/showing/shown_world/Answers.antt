@@ -22,10 +22,10 @@ pub returns-in-Ok-ordered_reply-clause-text : goal.returns-in-Ok-ordered_reply-c
 returns-in-Ok-ordered_reply-clause-text g c =
     let kept = (g.K.Keeper.seen c.args.keeper.now).kept in
     let path = c.args.path.now in
-    let found : FindsState kept path (c.in-Ok.wid, c.in-Ok.own) = subst (λ p. FindsState kept p (c.in-Ok.wid, c.in-Ok.own)) c.as_slice.ensures.users c.in-Ok.ensures.found in
-    let raw : AreRawRows kept (world_prefix c.in-Ok.wid) c.read_rows.new.rows = subst (λ t. AreRawRows t (world_prefix c.in-Ok.wid) c.read_rows.new.rows) c.in-Ok.ensures.kept c.in-Ok-read_rows.ensures.rows in
-    let sized : IsNum c.in-Ok.wid = search rules in
-    shows_world kept path c.in-Ok.wid c.in-Ok.own c.args.catalog.now c.read_rows.new.rows c.in-Ok-ordered_reply.text (path_grammar kept path c.requires.base) sized found raw c.in-Ok-ordered_reply.ensures
+    let found : FindsState kept path c.in-Ok.found = subst (λ p. FindsState kept p c.in-Ok.found) c.as_slice.ensures.users c.in-Ok.ensures.found in
+    let raw : AreRawRows kept (world_prefix c.in-Ok.found.0) c.read_rows.new.rows = subst (λ t. AreRawRows t (world_prefix c.in-Ok.found.0) c.read_rows.new.rows) c.in-Ok.ensures.kept c.in-Ok-read_rows.ensures.rows in
+    let sized : IsNum c.in-Ok.found.0 = search rules in
+    shows_world kept path c.in-Ok.found.0 c.in-Ok.found.1 c.args.catalog.now c.read_rows.new.rows c.in-Ok-ordered_reply.text (path_grammar kept path c.requires.base) sized found raw c.in-Ok-ordered_reply.ensures
 
 pub returns-in-Ok-ordered_reply-clause-reads : goal.returns-in-Ok-ordered_reply-clause-reads
 returns-in-Ok-ordered_reply-clause-reads g c =
@@ -33,9 +33,9 @@ returns-in-Ok-ordered_reply-clause-reads g c =
     let mid = g.K.Keeper.seen c.state_of.new.keeper in
     let new = g.K.Keeper.seen c.read_rows.new.keeper in
     let path = c.args.path.now in
-    let found : FindsState old.kept path (c.in-Ok.wid, c.in-Ok.own) = subst (λ p. FindsState old.kept p (c.in-Ok.wid, c.in-Ok.own)) c.as_slice.ensures.users c.in-Ok.ensures.found in
-    let raw : AreRawRows old.kept (world_prefix c.in-Ok.wid) c.read_rows.new.rows = subst (λ t. AreRawRows t (world_prefix c.in-Ok.wid) c.read_rows.new.rows) c.in-Ok.ensures.kept c.in-Ok-read_rows.ensures.rows in
-    let sized : IsNum c.in-Ok.wid = search rules in
+    let found : FindsState old.kept path c.in-Ok.found = subst (λ p. FindsState old.kept p c.in-Ok.found) c.as_slice.ensures.users c.in-Ok.ensures.found in
+    let raw : AreRawRows old.kept (world_prefix c.in-Ok.found.0) c.read_rows.new.rows = subst (λ t. AreRawRows t (world_prefix c.in-Ok.found.0) c.read_rows.new.rows) c.in-Ok.ensures.kept c.in-Ok-read_rows.ensures.rows in
+    let sized : IsNum c.in-Ok.found.0 = search rules in
     let state : RisesWithin (length path + 1) old.reads mid.reads = subst (λ p. RisesWithin (length p + 1) old.reads mid.reads) c.as_slice.ensures.users c.in-Ok.ensures.reads in
-    reads_world old.kept path c.in-Ok.wid c.in-Ok.own c.args.catalog.now c.read_rows.new.rows c.in-Ok-ordered_reply.text (path_grammar old.kept path c.requires.base) sized found raw c.in-Ok-ordered_reply.ensures
+    reads_world old.kept path c.in-Ok.found.0 c.in-Ok.found.1 c.args.catalog.now c.read_rows.new.rows c.in-Ok-ordered_reply.text (path_grammar old.kept path c.requires.base) sized found raw c.in-Ok-ordered_reply.ensures
     old.reads mid.reads new.reads c.in-Ok-read_rows.ensures.read.counts.reads state c.in-Ok-read_rows.ensures.reads

@@ -5,11 +5,11 @@ use Rattle.bdb_key.specs.Reading.{EndsAt}
 use Rattle.bdb_shown.proofs.TextLemmas.{IsLeft}
 use Rattle.bdb_shown.proofs.values.append_doubled.Given as goal
 
-abbrev pub invariant-loop-rest : goal.invariant-loop-rest
-invariant-loop-rest l = record {
+abbrev pub invariant-loop-found : goal.invariant-loop-found
+invariant-loop-found l = record {
   text : (text more : List ℕ) → EndsAt l.bytes text more → IsLeft l.rest l.out.items (l.initial.out.items ++ flat_map quoted_byte text) more;
   shorter : length l.rest ≤ length l.bytes;
 }
 
-abbrev pub decreases-loop-rest : goal.decreases-loop-rest
-decreases-loop-rest l = length l.rest
+abbrev pub decreases-loop-found : goal.decreases-loop-found
+decreases-loop-found l = length l.rest
