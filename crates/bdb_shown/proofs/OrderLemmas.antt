@@ -1,5 +1,5 @@
 -- Rows in the order of their bytes are rows of a world in the order of their tuples.
-use Rattle.std.proofs.Common.{◌≡◌, ◌∙◌, ℕ, zero, suc, ◌+◌, ◌<◌, ◌≤◌, Bool, true, false, List, [], ◌∷◌, ◌++◌, length, map, get_or, set, refl, sym, ap, subst, arith}
+use Rattle.std.proofs.Common.{◌≡◌, ◌∙◌, ℕ, zero, suc, ◌+◌, ◌<◌, List, [], ◌∷◌, length, map, get_or, set, refl, sym, ap, subst, arith}
 use Rattle.std.specs.List.{AllZip, swap}
 use Rattle.std.specs.List.Sorted.{IsPermutation, IsSortedBy}
 use Rattle.std.specs.Ordering.{is_lt}
@@ -7,10 +7,9 @@ use Rattle.std.proofs.lemmas.List.Edits.{swap_is}
 use Rattle.std.proofs.lemmas.List.Sorted.{IsPermutation-keeps, IsPermutation-refl, IsPermutation-swap, IsPermutation-trans}
 use Rattle.bdb_base.specs.Order.{tuple_cmp}
 use Rattle.bdb_base.specs.declared.kinds.Held.{Held}
-use Rattle.bdb_base.specs.declared.tuple.Tuple.{Tuple}
 use Rattle.bdb_keep.specs.Spans.{Listed}
 use Rattle.bdb_keep.specs.Tables.{bytes_cmp}
-use Rattle.bdb_key.specs.Rows.{IsTupleRow, tuple_bytes}
+use Rattle.bdb_key.specs.Rows.{tuple_bytes}
 use Rattle.bdb_shown.specs.Rows.{AreOrdered, Spell, Spells, raw}
 use Rattle.bdb_shown.specs.declared.row.Row.{Row}
 use Rattle.bdb_tables.specs.InUseLaws.{tuples_in_order}

@@ -3,8 +3,6 @@ use Rattle.std.proofs.Common.{◌≡◌, ◌∙◌, ℕ, zero, suc, ◌+◌, ◌
 use Rattle.std.specs.FinMap as tables
 use Rattle.std.specs.List.{AllByRecursion, AllZip}
 use Rattle.std.proofs.Math.Seq.{drop-append_seam}
-use Rattle.bdb_base.specs.declared.kinds.Held.{Held}
-use Rattle.bdb_base.specs.declared.tuple.Tuple.{Tuple}
 use Rattle.bdb_base.specs.Causes.{RoseBy}
 use Rattle.bdb_keep.specs.Calls.{IsRead}
 use Rattle.bdb_keep.specs.Seen.{Seen, NeverFall, Steps}
@@ -12,15 +10,14 @@ use Rattle.bdb_keep.specs.Spans.{Listed, AreRowsUnder}
 use Rattle.bdb_keep.specs.Tables.{Tables}
 use Rattle.bdb_key.specs.Bytes.{num_bytes, vals_bytes}
 use Rattle.bdb_key.specs.Reading.{Reads}
-use Rattle.bdb_shown.specs.Rows.{AreRawRows, HasTupleFor, Spell, Spells, StandsWithTuple, StandWithTuples}
+use Rattle.bdb_shown.specs.Rows.{AreRawRows, HasTupleFor, Spell, StandsWithTuple, StandWithTuples}
 use Rattle.bdb_tables.specs.Codec.{IsEntryOf, place}
 use Rattle.bdb_tables.specs.Grammar.{InGrammar}
 use Rattle.bdb_tables.specs.InUse.{ValKey, IsValKey, val_bytes, tuple_codec, val_codec}
-use Rattle.bdb_tables.specs.InUseLaws.{vals_are_one}
 use Rattle.bdb_tables.specs.Marks.{Mark}
 use Rattle.bdb_tables.specs.Spans.{AreEntriesOf, AreUnder, Spell as EntriesSpell}
 use Rattle.bdb_tables.proofs.Loops.{counts_then, goes_then, steps_err, steps_ok}
-use Rattle.bdb_tables.proofs.RangeLemmas.{as_long, read_fits, spelled_under}
+use Rattle.bdb_tables.proofs.RangeLemmas.{read_fits, spelled_under}
 use Rattle.bdb_val.specs.Reads.{AreReadUnder, AreTold, HaveTuples}
 use Rattle.bdb_val.specs.WorldReads.{held_row}
 use Rattle.bdb_val.specs.declared.stored.Stored.{Stored}

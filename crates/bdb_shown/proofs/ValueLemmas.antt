@@ -1,5 +1,5 @@
 -- Values at the front of bytes, and what is written of them.
-use Rattle.std.proofs.Common.{◌≡◌, ◌∙◌, ℕ, suc, ℤ, ◌+◌, ◌-◌, ◌≤◌, ◌<◌, true, false, List, [], ◌∷◌, ◌++◌, length, map, drop, codes, refl, sym, ap, subst, append_assoc, append-nil, length-append, arith, FitsSigned}
+use Rattle.std.proofs.Common.{◌≡◌, ◌∙◌, ℕ, suc, ℤ, ◌-◌, ◌≤◌, ◌<◌, List, [], ◌∷◌, ◌++◌, length, map, drop, codes, refl, sym, ap, append_assoc, append-nil, length-append, arith, FitsSigned}
 use Rattle.std.specs.Int.{w64, to_be_bytes}
 use Rattle.std.specs.List.{flat_map}
 use Rattle.bdb_base.specs.Texts.{quoted, int_text, value_text}

@@ -1,4 +1,4 @@
-use Rattle.std.proofs.Common.{◌≡◌, ◌∙◌, ◌++◌, ◌∷◌, [], codes, rules}
+use Rattle.std.proofs.Common.{◌≡◌, ◌∙◌, ◌++◌, codes, rules}
 use Rattle.bdb_shown.proofs.LineLemmas.{no_tuple, tuple_written}
 use Rattle.bdb_shown.proofs.lines.append_tuple.Goals as goal
 

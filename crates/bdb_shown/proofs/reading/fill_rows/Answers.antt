@@ -1,4 +1,4 @@
-use Rattle.std.proofs.Common.{◌≡◌, ◌∙◌, ◌+◌, ◌<◌, ◌≤◌, [], ◌∷◌, ◌++◌, Some, length, refl, sym, ap, subst, arith, rules}
+use Rattle.std.proofs.Common.{◌≡◌, ◌∙◌, ◌+◌, ◌<◌, ◌≤◌, [], ◌∷◌, ◌++◌, Some, length, refl, ap, subst, arith, rules}
 use Rattle.std.specs.FinMap as tables
 use Rattle.std.proofs.lemmas.List.{length_push}
 use Rattle.bdb_shown.specs.Rows.{HasTupleFor, StandsWithTuple}

@@ -1,4 +1,4 @@
-use Rattle.std.proofs.Common.{◌≡◌, ◌+◌, ◌≤◌, length, take}
+use Rattle.std.proofs.Common.{◌+◌, ◌≤◌, length, take}
 use Rattle.std.specs.List.{AllZip}
 use Rattle.bdb_shown.specs.Rows.{HasTupleFor}
 use Rattle.bdb_tables.proofs.Loops.{IsReading}

@@ -1,10 +1,8 @@
-use Rattle.std.proofs.Common.{◌∙◌, length, refl, sym, subst}
+use Rattle.std.proofs.Common.{length, sym, subst}
 use Rattle.std.specs.List.{AllZip}
 use Rattle.bdb_keep.specs.Spans.{AreRowsUnder}
-use Rattle.bdb_keep.specs.Tables.{Tables}
-use Rattle.bdb_key.specs.Bytes.{num_bytes}
 use Rattle.bdb_shown.specs.Rows.{HasTupleFor, StandWithTuples}
-use Rattle.bdb_shown.proofs.ReadLemmas.{read_then_err, read_then_ok, reads_of_both, rows_stand}
+use Rattle.bdb_shown.proofs.ReadLemmas.{read_then_ok, reads_of_both, rows_stand}
 use Rattle.bdb_tables.proofs.RangeLemmas.{as_long}
 use Rattle.bdb_keep.specs.declared.keeper.KeepError.TheVariants.{Fault as keep_fault}
 use Rattle.bdb_tables.specs.declared.tab.TabError.TheVariants.{Fault}

@@ -1,4 +1,4 @@
-use Rattle.std.proofs.Common.{◌≡◌, ◌++◌, ◌∷◌, List, length}
+use Rattle.std.proofs.Common.{◌++◌, ◌∷◌, List, length}
 use Rattle.bdb_base.specs.declared.kinds.Value.{Value}
 use Rattle.bdb_key.specs.Bytes.{values_bytes}
 use Rattle.bdb_key.specs.Grammar.{ArePlain}
