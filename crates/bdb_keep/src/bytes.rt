@@ -100,7 +100,19 @@ fn short_word(bytes: &[u8]) -> u64
 }
 
 /// The number of the first eight bytes, with 255 behind fewer.
+#[inline(always)]
 pub fn filled_word(bytes: &[u8]) -> u64
+    ensures bytes { filled 8 bytes.now ≡ to_be_bytes w64 result }
+    ensures small { result < 2 ^ 64 }
+{
+    match word_of(bytes) {
+        Some((number, _)) => number,
+        None => short_filled_word(bytes),
+    }
+}
+
+/// The number of fewer than eight bytes, with 255 behind them.
+fn short_filled_word(bytes: &[u8]) -> u64
     ensures bytes { filled 8 bytes.now ≡ to_be_bytes w64 result }
     ensures small { result < 2 ^ 64 }
 {

@@ -6,18 +6,18 @@ use std::alloc::Global;
 /// What is remembered of a place that was used: its shelf, and its spot there.
 pub type Mark = (usize, Spot);
 
-/// Where is looked first: beside a mark, and then from another one on.
-pub type Marks = (Mark, Mark);
+/// Where is looked first: beside a mark, and then on a shelf and the one behind it.
+pub type Marks = (Mark, usize);
 
 /// The first place of all.
 const START: Mark = (0, (0, 0));
 
-/// How many places are remembered by the first bytes of their keys.
+/// How many shelves are remembered by the first bytes of keys.
 const SLOTS: usize = 8192;
 
 /// For each table the place that was read last and the one that was written last, so that both are found at once where rows are read
-/// in one place and written in another in turn; and the place used last of those whose keys begin with the same eight bytes, which
-/// most often lie near each other. A mark only says where a search looks first.
+/// in one place and written in another in turn; and the shelf that a search found last among those for keys that begin with the same
+/// four bytes, which most often lie near each other. A mark only says where a search looks first.
 #[derive(Drop)]
 pub struct Cursors {
     alloc: Global,
@@ -25,8 +25,8 @@ pub struct Cursors {
     written: [Mark; 16],
     /// Whether the last write was in the block that was read last.
     follows: [bool; 16],
-    used: Vec<Mark>,
-    /// Whether memory was asked for those places.
+    used: Vec<usize>,
+    /// Whether memory was asked for those shelves.
     asked: bool,
 }
 
@@ -43,8 +43,8 @@ impl Cursors {
         }
     }
 
-    /// Takes the memory for places remembered by the first bytes of their keys. It is asked for once: where it is refused, no such
-    /// place is ever remembered.
+    /// Takes the memory for shelves remembered by the first bytes of keys. It is asked for once: where it is refused, no such shelf is
+    /// ever remembered.
     #[inline(always)]
     pub fn make_room(&mut self) {
         if !self.asked {
@@ -96,23 +96,23 @@ impl Cursors {
         self.remember_used(probe, mark);
     }
 
-    /// The place used last of those with the same first bytes.
+    /// The shelf that was found last for keys with the same first bytes.
     #[inline(always)]
-    fn used_by(&self, probe: &Probe<'_>) -> Mark {
+    fn used_by(&self, probe: &Probe<'_>) -> usize {
         let slot = slot_of(probe);
         if slot < self.used.len() {
             self.used[slot]
         } else {
-            START
+            0
         }
     }
 
-    /// Remembers it, where there is room. It takes no memory.
+    /// Remembers the shelf of a mark, where there is room. It takes no memory.
     #[inline(always)]
     fn remember_used(&mut self, probe: &Probe<'_>, mark: Mark) {
         let slot = slot_of(probe);
         if slot < self.used.len() {
-            self.used[slot] = mark;
+            self.used[slot] = mark.0;
         }
     }
 }
@@ -123,9 +123,9 @@ fn is_in_block(one: Mark, other: Mark) -> bool {
     one.0 == other.0 && one.1.0 == other.1.0
 }
 
-/// Slots that know of no place; none where memory is wanting.
-fn slots(alloc: Global) -> Vec<Mark> {
-    match vec![in alloc; START; SLOTS] {
+/// Slots that know of no shelf; none where memory is wanting.
+fn slots(alloc: Global) -> Vec<usize> {
+    match vec![in alloc; 0usize; SLOTS] {
         Ok(slots) => slots,
         Err(_) => Vec::new(alloc),
     }

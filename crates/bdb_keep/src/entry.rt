@@ -16,8 +16,8 @@ use std::alloc::{AllocError, Global};
 use std::cmp::Ordering;
 use std::marker::Model;
 
-/// A place with its row, or with none where the row was removed in the running transaction. Many lie side by side, and are compared
-/// and moved: so the first 32 bytes of the key are four numbers, as in a head, and all else lies behind them in sixteen bytes.
+/// A place with its row, or with none where the row was removed. Many lie side by side, and are compared and moved: so the first 32
+/// bytes of the key are four numbers, as in a head, and all else lies behind them in sixteen bytes.
 #[derive(Drop)]
 pub struct Entry {
     first: u64,
@@ -130,6 +130,9 @@ impl Entry {
     {
         let head = head_with(self.first, self.second, self.third, self.fourth, &self.tail);
         head.append_to(bytes)?;
+        if !self.tail.has_rest() {
+            return Ok(());
+        }
         self.tail.append_rest(bytes)?;
         Ok(())
     }
@@ -141,8 +144,12 @@ impl Entry {
     {
         let head = head_with(self.first, self.second, self.third, self.fourth, &self.tail);
         head.write(key)?;
+        let tab = self.tail.tab();
+        if !self.tail.has_rest() {
+            return Ok(tab);
+        }
         self.tail.append_rest(key)?;
-        Ok(self.tail.tab())
+        Ok(tab)
     }
 }
 

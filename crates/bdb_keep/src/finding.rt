@@ -3,7 +3,7 @@ ghost use Rattle.std.specs.Prelude.{◌≡◌, ◌<◌, ◌≤◌, ◌-◌, ◌^
 ghost use Rattle.std.specs.declared.cmp.Ordering.TheVariants.{Less, Greater};
 ghost use Rattle.bdb_keep.specs.Tables.{bytes_cmp};
 ghost use Rattle.bdb_keep.specs.Entries.{AreBelow, NoneBelow};
-ghost use Rattle.bdb_keep.specs.Blocks.{joined, before, after, entry_at, starts_within, AreSorted, HaveEntries, IsBound, IsBlockFor, IsThere, StandsAt, IsGap};
+ghost use Rattle.bdb_keep.specs.Blocks.{joined, before, after, entry_at, starts_within, AreSorted, HaveEntries, IsBound, IsThere, StandsAt, IsGap};
 ghost use Rattle.bdb_keep.specs.Shelves.{NoRowFrom, BelongsAmong};
 
 use crate::block::Block;
@@ -14,13 +14,13 @@ use std::cmp::Ordering;
 /// Where an entry stands, or would stand: a block, and an index in it.
 pub type Spot = (usize, usize);
 
-/// Where a place stands; at Err where it belongs. It looks first at the block `from`.
-pub fn find(blocks: &[Block], from: usize, probe: &Probe<'_>) -> Result<Spot, Spot>
+/// Where a place stands; at Err where it belongs.
+pub fn find(blocks: &[Block], probe: &Probe<'_>) -> Result<Spot, Spot>
     requires { AreSorted blocks.now }
     ensures there { IfOk result (λ spot. StandsAt blocks.now probe.now spot.0 spot.1) }
     ensures gap { IfErr result (λ spot. IsGap blocks.now probe.now spot.0 spot.1) }
 {
-    let bound = seek(blocks, from, probe);
+    let bound = seek(blocks, probe);
     match first_at(blocks, bound) {
         Some(spot) => {
             if entry_of(blocks, spot).compare(probe).is_eq() {
@@ -33,8 +33,8 @@ pub fn find(blocks: &[Block], from: usize, probe: &Probe<'_>) -> Result<Spot, Sp
     }
 }
 
-/// Where the first place stands that isn't below the one that is looked for and has a row. It looks first at the block `from`.
-pub fn find_row(blocks: &[Block], from: usize, probe: &Probe<'_>) -> Option<Spot>
+/// Where the first place stands that isn't below the one that is looked for and has a row.
+pub fn find_row(blocks: &[Block], probe: &Probe<'_>) -> Option<Spot>
     requires { AreSorted blocks.now }
     ensures there { IfSome result (λ spot. IsThere blocks.now spot.0 spot.1) }
     ensures row { IfSome result
@@ -43,7 +43,7 @@ pub fn find_row(blocks: &[Block], from: usize, probe: &Probe<'_>) -> Option<Spot
     ensures reached { IfSome result (λ spot. NoneBelow probe.now (after blocks.now spot.0 spot.1)) }
     ensures none { IfNone result (NoRowFrom probe.now (joined blocks.now)) }
 {
-    let bound = seek(blocks, from, probe);
+    let bound = seek(blocks, probe);
     row_from(blocks, bound, probe)
 }
 
@@ -154,130 +154,9 @@ pub fn find_behind(
     }
 }
 
-/// Where the first place stands, or would stand, that isn't below the one that is looked for. It looks first beside a spot, and then
-/// at a block and those near it.
-pub fn seek_near(blocks: &[Block], spot: Spot, from: usize, probe: &Probe<'_>) -> Spot
-    requires { AreSorted blocks.now }
-    ensures { IsBound blocks.now probe.now result.0 result.1 }
-{
-    match find_beside(blocks, spot, false, probe) {
-        Some(Ok(at)) => at,
-        Some(Err(at)) => at,
-        None => seek(blocks, from, probe),
-    }
-}
-
-/// Where the first place stands, or would stand, that isn't below the one that is looked for. It looks first at the block from which
-/// it starts, then at those near it.
-fn seek(blocks: &[Block], from: usize, probe: &Probe<'_>) -> Spot
-    requires { AreSorted blocks.now }
-    ensures { IsBound blocks.now probe.now result.0 result.1 }
-{
-    match seek_in(blocks, from, probe) {
-        Some(spot) => spot,
-        None => match seek_in(blocks, block_near(blocks, from, probe), probe) {
-            Some(spot) => spot,
-            None => search(blocks, probe),
-        },
-    }
-}
-
-/// The block where a place may belong, in steps that double from a block on, and then by halves.
-fn block_near(blocks: &[Block], from: usize, probe: &Probe<'_>) -> usize {
-    if starts_within_at(blocks, from, probe) {
-        block_above(blocks, from, probe)
-    } else {
-        block_below(blocks, from, probe)
-    }
-}
-
-/// The same where it is the block or one behind it.
-fn block_above(blocks: &[Block], from: usize, probe: &Probe<'_>) -> usize {
-    let mut low = from;
-    let mut step = 1usize;
-    for _ in 0..8 {
-        let next = low.saturating_add(step);
-        if !starts_within_at(blocks, next, probe) {
-            return block_within(blocks, low, next, probe);
-        }
-        low = next;
-        step = step.saturating_mul(2);
-    }
-    low
-}
-
-/// The same where it is one before it.
-fn block_below(blocks: &[Block], from: usize, probe: &Probe<'_>) -> usize {
-    let mut high = from;
-    let mut step = 1usize;
-    for _ in 0..8 {
-        let next = high.saturating_sub(step);
-        if next == 0 || starts_within_at(blocks, next, probe) {
-            return block_within(blocks, next, high, probe);
-        }
-        high = next;
-        step = step.saturating_mul(2);
-    }
-    high
-}
-
-/// The last block from one up to another, not with it, that starts within, by halves.
-fn block_within(blocks: &[Block], low: usize, high: usize, probe: &Probe<'_>) -> usize {
-    let mut at = low;
-    let mut left = high.min(blocks.len()).saturating_sub(low);
-    for _ in 0..8 {
-        let half = left / 2;
-        if half == 0 {
-            return at;
-        }
-        let middle = at.saturating_add(half);
-        if starts_within_at(blocks, middle, probe) {
-            at = middle;
-            left = left.saturating_sub(half);
-        } else {
-            left = half;
-        }
-    }
-    at
-}
-
-/// Whether there is a block at an index, and it starts within.
-#[inline(always)]
-fn starts_within_at(blocks: &[Block], at: usize, probe: &Probe<'_>) -> bool {
-    match blocks.get(at) {
-        Some(block) => block.starts_within(probe),
-        None => false,
-    }
-}
-
-/// The same by halves in a block, where the place belongs there.
-fn seek_in(blocks: &[Block], at: usize, probe: &Probe<'_>) -> Option<Spot>
-    requires sorted { AreSorted blocks.now }
-    ensures { IfSome result (λ at. IsBound blocks.now probe.now at.0 at.1) }
-{
-    if at >= blocks.len() || !is_block_for(blocks, at, probe) {
-        return None;
-    }
-    Some((at, block_at(blocks, at).lower_bound(probe)))
-}
-
-/// Whether a place belongs in a block.
-#[inline(always)]
-fn is_block_for(blocks: &[Block], at: usize, probe: &Probe<'_>) -> bool
-    requires { at < length blocks.now }
-    ensures { result ≡ true → IsBlockFor blocks.now probe.now at }
-{
-    if at > 0 && !block_at(blocks, at).starts_within(probe) {
-        return false;
-    }
-    if at + 1 >= blocks.len() {
-        return true;
-    }
-    !block_at(blocks, at + 1).starts_within(probe)
-}
-
-/// The same by halves: first the block, and then the index in it.
-fn search(blocks: &[Block], probe: &Probe<'_>) -> Spot
+/// Where the first place stands, or would stand, that isn't below the one that is looked for, by halves: first the block, and then the
+/// index in it.
+pub fn seek(blocks: &[Block], probe: &Probe<'_>) -> Spot
     requires { AreSorted blocks.now }
     ensures { IsBound blocks.now probe.now result.0 result.1 }
 {

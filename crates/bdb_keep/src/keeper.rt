@@ -91,7 +91,7 @@ pub trait Keeper {
         ensures writes { RoseBy 1 (seen self.old).writes (seen self.new).writes }
         ensures write { IsWrite (seen self.old) (seen self.new) result KeepError.Fault };
 
-    /// Puts the rows of a span at their keys, one after the other. It counts as so many writes.
+    /// Puts the rows of a span at their keys, one after the other. Where it is Ok it counts as so many writes.
     fn put_all(&mut self, tab: u8, span: &Span) -> Result<(), KeepError>
         requires table { (1 ≤ tab) × (tab ≤ 15) }
         requires running { (seen self.old).running ≡ true }
@@ -100,7 +100,8 @@ pub trait Keeper {
         ensures writes { OnOk result (RoseBy (length span.now) (seen self.old).writes (seen self.new).writes) }
         ensures write { IsWrite (seen self.old) (seen self.new) result KeepError.Fault };
 
-    /// Takes the rows at the keys of a span away, one after the other, where they are there. It counts as so many writes.
+    /// Takes the rows at the keys of a span away, one after the other, where they are there. Where it is Ok it counts as so many
+    /// writes.
     fn remove_all(&mut self, tab: u8, span: &Span) -> Result<(), KeepError>
         requires table { (1 ≤ tab) × (tab ≤ 15) }
         requires running { (seen self.old).running ≡ true }

@@ -197,7 +197,7 @@ impl Ledger {
         }
     }
 
-    /// Puts the rows of a span at their keys, one after the other. It counts as so many writes.
+    /// Puts the rows of a span at their keys, one after the other. Where it is Ok it counts as so many writes.
     pub fn put_all(&mut self, tab: u8, span: &Span) -> Result<(), KeepError>
         requires table { (1 ≤ tab) × (tab ≤ 15) }
         requires running { self.old.seen.running ≡ true }
@@ -218,7 +218,8 @@ impl Ledger {
         }
     }
 
-    /// Takes the rows at the keys of a span away, one after the other, where they are there. It counts as so many writes.
+    /// Takes the rows at the keys of a span away, one after the other, where they are there. Where it is Ok it counts as so many
+    /// writes.
     pub fn remove_all(&mut self, tab: u8, span: &Span) -> Result<(), KeepError>
         requires table { (1 ≤ tab) × (tab ≤ 15) }
         requires running { self.old.seen.running ≡ true }

@@ -10,7 +10,7 @@ use crate::behind::{find_right_behind, stands_behind};
 use crate::block::Block;
 use crate::blocks::{add, drop_empty_blocks, drop_empty_places, is_behind, replace_at, take_out};
 use crate::entry::Entry;
-use crate::finding::{Spot, entry_of, find, find_beside, find_row, row_from, seek_near};
+use crate::finding::{Spot, entry_of, find, find_beside, find_row, row_from, seek};
 use crate::opening::Opening;
 use crate::row::Row;
 use crate::span::Span;
@@ -19,7 +19,7 @@ use crate::words::Probe;
 use std::alloc::{AllocError, Global};
 use std::marker::Model;
 
-/// Entries in the order of their places, in blocks. Where a search goes, it begins at the block that it is given.
+/// Entries in the order of their places, in blocks.
 #[derive(Drop)]
 pub struct Shelf {
     blocks: Vec<Block>,
@@ -84,7 +84,6 @@ impl Shelf {
     /// where there is no such place.
     pub fn swap(
         &mut self,
-        from: usize,
         probe: &Probe<'_>,
         row: Option<Row>,
     ) -> Result<(Spot, Option<Row>), Option<Row>>
@@ -95,7 +94,7 @@ impl Shelf {
         ensures back { IfErr result (λ back. back ≡ row) }
         ensures same { OnErr result (self.new ≡ self.old) }
     {
-        match find(&self.blocks, from, probe) {
+        match find(&self.blocks, probe) {
             Ok(spot) => Ok((spot, replace_at(&mut self.blocks, spot, row))),
             Err(_) => Err(row),
         }
@@ -106,7 +105,6 @@ impl Shelf {
     pub fn insert(
         &mut self,
         alloc: Global,
-        from: usize,
         probe: &Probe<'_>,
         row: &[u8],
     ) -> Result<(Spot, Option<Option<Row>>), AllocError>
@@ -116,7 +114,7 @@ impl Shelf {
             (Some (Some row.now))) }
         ensures err { OnErr result (self.new ≡ self.old) }
     {
-        match find(&self.blocks, from, probe) {
+        match find(&self.blocks, probe) {
             Ok(spot) => {
                 let row = Row::of(alloc, row)?;
                 Ok((spot, Some(replace_at(&mut self.blocks, spot, Some(row)))))
@@ -129,10 +127,10 @@ impl Shelf {
     }
 
     /// Takes a place away, with what stands there, and answers where it stood or would stand.
-    pub fn remove(&mut self, from: usize, probe: &Probe<'_>) -> Spot
+    pub fn remove(&mut self, probe: &Probe<'_>) -> Spot
         ensures { IsChangedAt self.old self.new probe.now (place_at self.old probe.now) None }
     {
-        match find(&self.blocks, from, probe) {
+        match find(&self.blocks, probe) {
             Ok(spot) => {
                 take_out(&mut self.blocks, spot);
                 spot
@@ -144,10 +142,10 @@ impl Shelf {
 
 impl Shelf {
     /// Where a place stands or would stand, and the row there, if there is one.
-    pub fn row_at(&self, from: usize, probe: &Probe<'_>) -> (Spot, Option<&[u8]>)
+    pub fn row_at(&self, probe: &Probe<'_>) -> (Spot, Option<&[u8]>)
         ensures { option_copied result.1 ≡ row_of (place_at self.now probe.now) }
     {
-        match find(&self.blocks, from, probe) {
+        match find(&self.blocks, probe) {
             Ok(spot) => (spot, entry_of(&self.blocks, spot).row()),
             Err(spot) => (spot, None),
         }
@@ -155,22 +153,20 @@ impl Shelf {
 
     /// The first place with a row that isn't below the one that is looked for: where it stands, and its
     /// entry.
-    pub fn first_row(&self, from: usize, probe: &Probe<'_>) -> Option<(Spot, &Entry)>
+    pub fn first_row(&self, probe: &Probe<'_>) -> Option<(Spot, &Entry)>
         ensures found { IfSome result (λ first. IsFirstRow self.now probe.now first.1.now) }
         ensures none { IfNone result (NoRowFrom probe.now self.now) }
     {
-        match find_row(&self.blocks, from, probe) {
+        match find_row(&self.blocks, probe) {
             Some(spot) => Some((spot, entry_of(&self.blocks, spot))),
             None => None,
         }
     }
 
     /// Takes the rows whose places begin so, up to a place above them, and answers where the first of them stands or would stand, and
-    /// whether there is no such place. It looks first beside a spot, and then at a block.
+    /// whether there is no such place.
     pub fn read_under(
         &self,
-        near: Spot,
-        from: usize,
         probe: &Probe<'_>,
         tab: u8,
         prefix: &[u8],
@@ -180,7 +176,7 @@ impl Shelf {
         ensures rows { OnOk result (span.new ≡ span.old ++ entries_under probe.now self.now) }
         ensures past { IfOk result (λ found. found.1 ≡ false → HasPast probe.now self.now) }
     {
-        let start = seek_near(&self.blocks, near, from, probe);
+        let start = seek(&self.blocks, probe);
         let opening = Opening::of(tab, prefix);
         let goes_on = take_blocks(&self.blocks, start, &opening, span)?;
         Ok((start, goes_on))

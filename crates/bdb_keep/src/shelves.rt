@@ -61,7 +61,7 @@ fn row_searched<'a>(
 {
     match shelf_for(shelves, near, probe) {
         Some(at) => {
-            let (spot, row) = shelf_at(shelves, at).row_at(block_on(near, at), probe);
+            let (spot, row) = shelf_at(shelves, at).row_at(probe);
             ((at, spot), row)
         }
         None => (near.0, None),
@@ -117,7 +117,7 @@ pub fn read_under(
     span.clear();
     match shelf_for(shelves, near, probe) {
         Some(at) => {
-            let spot = read_under_from(shelves, at, near, probe, tab, prefix, span)?;
+            let spot = read_under_from(shelves, at, probe, tab, prefix, span)?;
             Ok((at, spot))
         }
         None => Ok(near.0),
@@ -128,7 +128,6 @@ pub fn read_under(
 fn read_under_from(
     shelves: &[Shelf],
     start: usize,
-    near: Marks,
     probe: &Probe<'_>,
     tab: u8,
     prefix: &[u8],
@@ -140,9 +139,7 @@ fn read_under_from(
     ensures { OnOk result (span.new ≡ span.old ++ entries_under probe.now (joined shelves.now)) }
 {
     let shelf = shelf_at(shelves, start);
-    let spot = spot_on(near, start);
-    let from = block_on(near, start);
-    let (first, goes_on) = shelf.read_under(spot, from, probe, tab, prefix, span)?;
+    let (first, goes_on) = shelf.read_under(probe, tab, prefix, span)?;
     if !goes_on {
         return Ok(first);
     }
@@ -165,7 +162,7 @@ fn read_under_behind(
 {
     let mut at = start;
     while at < shelves.len() {
-        match shelf_at(shelves, at).read_under((0, 0), 0, probe, tab, prefix, span) {
+        match shelf_at(shelves, at).read_under(probe, tab, prefix, span) {
             Ok((_, goes_on)) => {
                 if !goes_on {
                     return Ok(());
@@ -176,16 +173,6 @@ fn read_under_behind(
         }
     }
     Ok(())
-}
-
-/// The spot of the last mark where it is on a shelf, and else none on it.
-#[inline(always)]
-fn spot_on(marks: Marks, shelf: usize) -> Spot {
-    let (last, _) = marks;
-    if last.0 == shelf {
-        return last.1;
-    }
-    (usize::MAX, 0)
 }
 
 /// Puts what stands at a place, and answers where, and what stood there. The answer is the new row where
@@ -230,7 +217,7 @@ fn swap_searched(
     ensures same { OnErr result (joined shelves.new.items ≡ joined shelves.old.items) }
 {
     match shelf_for(shelves, near, probe) {
-        Some(at) => swap_on(shelves, at, block_on(near, at), probe, row),
+        Some(at) => swap_on(shelves, at, probe, row),
         None => Err(row),
     }
 }
@@ -239,7 +226,6 @@ fn swap_searched(
 fn swap_on(
     shelves: &mut Vec<Shelf>,
     at: usize,
-    near: usize,
     probe: &Probe<'_>,
     row: Option<Row>,
 ) -> Result<(Mark, Option<Row>), Option<Row>>
@@ -254,7 +240,7 @@ fn swap_on(
     ensures back { IfErr result (λ back. back ≡ row) }
     ensures same { OnErr result (joined shelves.new.items ≡ joined shelves.old.items) }
 {
-    match shelves[at].swap(near, probe, row) {
+    match shelves[at].swap(probe, row) {
         Ok((spot, before)) => Ok(((at, spot), before)),
         Err(row) => Err(row),
     }
@@ -278,7 +264,12 @@ pub fn insert(
     ensures err { OnErr result (joined shelves.new.items ≡ joined shelves.old.items) }
 {
     match insert_beside(alloc, shelves, near.0, probe, row) {
-        Ok(Some((mark, before))) => Ok((cut_full(shelves, mark), before)),
+        Ok(Some((mark, before))) => {
+            if has_room(shelves, mark.0) {
+                return Ok((mark, before));
+            }
+            Ok((cut_full(shelves, mark), before))
+        }
         Ok(None) => insert_searched(alloc, shelves, near, probe, row),
         Err(error) => Err(error),
     }
@@ -302,7 +293,7 @@ fn insert_searched(
 {
     match shelf_for(shelves, near, probe) {
         Some(at) => {
-            let (mark, before) = insert_on(alloc, shelves, at, block_on(near, at), probe, row)?;
+            let (mark, before) = insert_on(alloc, shelves, at, probe, row)?;
             Ok((cut_full(shelves, mark), before))
         }
         None => {
@@ -318,7 +309,6 @@ fn insert_on(
     alloc: Global,
     shelves: &mut Vec<Shelf>,
     at: usize,
-    near: usize,
     probe: &Probe<'_>,
     row: &[u8],
 ) -> Result<(Mark, Option<Option<Row>>), AllocError>
@@ -331,7 +321,7 @@ fn insert_on(
         probe.now (Some (Some row.now))) }
     ensures err { OnErr result (joined shelves.new.items ≡ joined shelves.old.items) }
 {
-    match shelves[at].insert(alloc, near, probe, row) {
+    match shelves[at].insert(alloc, probe, row) {
         Ok((spot, before)) => Ok(((at, spot), before)),
         Err(error) => Err(error),
     }
@@ -344,19 +334,19 @@ pub fn remove(shelves: &mut Vec<Shelf>, near: Marks, probe: &Probe<'_>) -> Mark
     ensures set { IsSetAt (joined shelves.old.items) (joined shelves.new.items) probe.now None }
 {
     match shelf_for(shelves, near, probe) {
-        Some(at) => (at, remove_on(shelves, at, block_on(near, at), probe)),
+        Some(at) => (at, remove_on(shelves, at, probe)),
         None => near.0,
     }
 }
 
 /// The same on the shelf where the place belongs. A shelf that is then empty goes.
-fn remove_on(shelves: &mut Vec<Shelf>, at: usize, near: usize, probe: &Probe<'_>) -> Spot
+fn remove_on(shelves: &mut Vec<Shelf>, at: usize, probe: &Probe<'_>) -> Spot
     requires sorted { AreSorted shelves.old.items }
     requires shelf { IsBlockFor shelves.old.items probe.now at }
     ensures sorted { AreSorted shelves.new.items }
     ensures set { IsSetAt (joined shelves.old.items) (joined shelves.new.items) probe.now None }
 {
-    let spot = shelves[at].remove(near, probe);
+    let spot = shelves[at].remove(probe);
     if shelves[at].is_empty() {
         shelves.remove(at);
     }
@@ -472,7 +462,7 @@ fn first_row_searched<'a>(
     ensures none { IfNone result (NoRowFrom probe.now (joined shelves.now)) }
 {
     match shelf_for(shelves, near, probe) {
-        Some(at) => first_row_from(shelves, at, near, probe),
+        Some(at) => first_row_from(shelves, at, probe),
         None => None,
     }
 }
@@ -481,7 +471,6 @@ fn first_row_searched<'a>(
 fn first_row_from<'a>(
     shelves: &'a [Shelf],
     start: usize,
-    near: Marks,
     probe: &Probe<'_>,
 ) -> Option<(Mark, &'a Entry)>
     requires sorted { AreSorted shelves.now }
@@ -491,7 +480,7 @@ fn first_row_from<'a>(
 {
     let mut at = start;
     while at < shelves.len() {
-        match shelf_at(shelves, at).first_row(block_on(near, at), probe) {
+        match shelf_at(shelves, at).first_row(probe) {
             Some((spot, entry)) => return Some(((at, spot), entry)),
             None => at += 1,
         }
@@ -499,18 +488,20 @@ fn first_row_from<'a>(
     None
 }
 
-/// The shelf that a place belongs on. It looks first at those of the marks.
+/// The shelf that a place belongs on. It looks first at the one that is remembered, and at the one behind it, as that shelf may have been
+/// cut, or one before it.
 fn shelf_for(shelves: &[Shelf], near: Marks, probe: &Probe<'_>) -> Option<usize>
     requires { AreSorted shelves.now }
     ensures shelf { IfSome result (λ at. IsBlockFor shelves.now probe.now at) }
     ensures none { IfNone result (joined shelves.now ≡ []) }
 {
-    let (last, used) = near;
-    if is_shelf_for(shelves, used.0, probe) {
-        return Some(used.0);
+    let (_, used) = near;
+    if is_shelf_for(shelves, used, probe) {
+        return Some(used);
     }
-    if is_shelf_for(shelves, last.0, probe) {
-        return Some(last.0);
+    let behind = used.saturating_add(1);
+    if is_shelf_for(shelves, behind, probe) {
+        return Some(behind);
     }
     search(shelves, probe)
 }
@@ -547,19 +538,6 @@ fn search(shelves: &[Shelf], probe: &Probe<'_>) -> Option<usize>
         return None;
     }
     Some(at)
-}
-
-/// The block of a mark that is on a shelf, where a search begins there.
-#[inline(always)]
-fn block_on(marks: Marks, shelf: usize) -> usize {
-    let (last, used) = marks;
-    if used.0 == shelf {
-        return used.1.0;
-    }
-    if last.0 == shelf {
-        return last.1.0;
-    }
-    0
 }
 
 /// A shelf.

@@ -1,4 +1,4 @@
-// Rows that were read at once.
+// Rows with their keys, which were read at once or are to be written at once.
 ghost use Rattle.std.specs.Prelude.{◌≡◌, ◌<◌, ◌∷◌, ◌++◌, [], OnOk, length, drop, slice_index_or};
 ghost use Rattle.std.specs.List.{slice_range};
 ghost use Rattle.bdb_keep.specs.Spans.{IsWithin};
@@ -7,7 +7,13 @@ use crate::entry::Entry;
 use std::alloc::{AllocError, Global};
 use std::marker::Model;
 
-/// Where a key and its row lie: the key from `start` up to `middle`, and the row from there up to `end`.
+/// For so many bytes memory is taken at first where rows are read.
+const FIRST_BYTES: usize = 512;
+
+/// For so many rows.
+const FIRST_ROWS: usize = 16;
+
+/// Where a key and its row lie among the bytes of a span: the key from `start` up to `middle`, and the row from there up to `end`.
 #[derive(Clone, Copy)]
 pub struct Cut {
     pub start: usize,
@@ -35,8 +41,8 @@ impl Cut {
     }
 }
 
-/// Rows with their keys, in the order in which they were read. They lie in one string of bytes, so that no row takes memory of its
-/// own, and what was taken serves all reads into the same span.
+/// Rows with their keys, in the order in which they were read, or are to be written. They lie in one string of bytes, so that no row
+/// takes memory of its own, and what was taken serves all reads into the same span.
 #[derive(Drop)]
 pub struct Span {
     bytes: Vec<u8>,
@@ -125,6 +131,19 @@ impl Span {
         self.bytes.extend_from_slice(row)?;
         let end = self.bytes.len();
         self.cuts.push(Cut { start, middle, end })?;
+        Ok(())
+    }
+
+    /// Takes memory for a few rows where there are none.
+    #[inline(always)]
+    pub fn make_room(&mut self) -> Result<(), AllocError>
+        ensures { self.new ≡ self.old }
+    {
+        if !self.cuts.is_empty() {
+            return Ok(());
+        }
+        self.bytes.reserve(FIRST_BYTES)?;
+        self.cuts.reserve(FIRST_ROWS)?;
         Ok(())
     }
 

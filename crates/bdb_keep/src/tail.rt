@@ -1,5 +1,5 @@
 // What lies behind the numbers of an entry's key.
-ghost use Rattle.std.specs.Prelude.{◌≡◌, ◌++◌, [], Some, IfOk, OnOk, OnErr, is_some};
+ghost use Rattle.std.specs.Prelude.{◌≡◌, ◌++◌, [], false, Some, IfOk, OnOk, OnErr, is_some};
 ghost use Rattle.std.specs.Option.{option_copied};
 ghost use Rattle.bdb_base.specs.Segments.{is_prefix};
 ghost use Rattle.bdb_keep.specs.Tables.{bytes_cmp};
@@ -123,6 +123,19 @@ impl Tail {
             Tail::Bare(_, _) => &[],
             Tail::Short(_, _, _, _) => &[],
             Tail::Long(_, _, _) => &[],
+        }
+    }
+
+    /// Whether there are any.
+    #[inline(always)]
+    pub fn has_rest(&self) -> bool
+        ensures { result ≡ false → rest_in self.now ≡ [] }
+    {
+        match self {
+            Tail::Far(_, _, _) => true,
+            Tail::Bare(_, _) => false,
+            Tail::Short(_, _, _, _) => false,
+            Tail::Long(_, _, _) => false,
         }
     }
 

@@ -74,6 +74,7 @@ fn take_entry(entry: &Entry, opening: &Opening<'_>, span: &mut Span) -> Result<b
     }
     match entry.row() {
         Some(row) => {
+            span.make_room()?;
             span.push_entry(entry, row)?;
             Ok(true)
         }

@@ -62,16 +62,10 @@ impl<'a> Probe<'a> {
         self.head.tab
     }
 
-    /// A number by which places of one table whose keys begin alike are remembered together: by eight bytes, and short keys by four, so
-    /// that the many rows of short keys don't push out what is remembered of others.
+    /// A number by which places of one table whose keys begin with the same four bytes are remembered together.
     #[inline(always)]
     pub fn prefix(&self) -> u64 {
-        let front = if self.head.count <= 8 {
-            self.head.first >> 32
-        } else {
-            self.head.first
-        };
-        front ^ (u64::from(self.head.tab) << 56)
+        (self.head.first >> 32) ^ (u64::from(self.head.tab) << 56)
     }
 
     /// How a place with this head compares with the one that is looked for; at Equal the head doesn't tell.

@@ -5,9 +5,9 @@ use Rattle.bdb_keep.proofs.shelf.Shelf.read_under.Goals as goal
 
 pub take_blocks-requires-clause-bound : goal.take_blocks-requires-clause-bound
 take_blocks-requires-clause-bound c =
-    let spot = c.seek_near-start.result in
+    let spot = c.seek-start.result in
     subst (λ bs. IsBound bs c.of-opening.result spot.0 spot.1) (c.deref.ensures.value ∙ sym c.deref-2.ensures.value)
-    (subst (λ q. IsBound c.deref.result.now q spot.0 spot.1) (c.requires ∙ sym c.of-opening.ensures) c.seek_near-start.ensures)
+    (subst (λ q. IsBound c.deref.result.now q spot.0 spot.1) (c.requires ∙ sym c.of-opening.ensures) c.seek-start.ensures)
 
 pub returns-clause-rows : goal.returns-clause-rows
 returns-clause-rows c =

@@ -3,7 +3,7 @@ use Rattle.std.proofs.lemmas.Fn.{always_returns_same}
 use Rattle.bdb_keep.specs.Blocks.{starts_within}
 use Rattle.bdb_keep.specs.Entries.{IsAscending, AreBelow, NoneBelow}
 use Rattle.bdb_keep.proofs.BlocksLemmas.{starts-parted, bound-searched, ascending-block}
-use Rattle.bdb_keep.proofs.finding.search.Goals as goal
+use Rattle.bdb_keep.proofs.finding.seek.Goals as goal
 
 pub lower_bound-requires : goal.lower_bound-requires
 lower_bound-requires c =
