@@ -1,12 +1,13 @@
-//! Runs each example over a keeper in memory, and tells whether what it writes is what its file of replies has. The scripts and
-//! the replies lie in `data/`; the folder `examples` at the top is a link to it.
+//! Runs each example over a keeper in memory, and one of them over a file that is opened twice, and tells whether what it writes is
+//! what its file of replies has. The scripts and the replies lie in `data/`; the folder `examples` at the top is a link to it.
 #![tactic(auto)]
 
 ghost use Rattle.std.specs.Prelude.{◌≡◌, false};
 
 use bdb_base::{List, Txt};
 use bdb_io::{MemSink, MemSource};
-use bdb_keep::MemKeeper;
+use bdb_keep::{Keeper, MemKeeper};
+use bdb_sql::SqlKeeper;
 use bdb_top::run;
 use std::alloc::{AllocError, Global};
 use std::process::ExitCode;
@@ -24,8 +25,11 @@ const NAMES: [&str; 8] = [
     "why",
 ];
 
-/// The example that is run once more, in two halves.
+/// The example that is run twice more, in two halves.
 const HALVED: &str = "collection";
+
+/// The file over which the halves are run, which isn't there before.
+const FILE: &str = "halved.db";
 
 /// How many bytes of a script a read gives.
 const STEP: usize = 4_096;
@@ -60,7 +64,7 @@ fn main(rt: HostRuntime) -> ExitCode {
     }
 }
 
-/// Tells what came of each example, and of the one in two halves. Answers whether all are as told.
+/// Tells what came of each example, and of the one in two halves, in memory and in a file. Answers whether all are as told.
 fn tell_all(rt: &HostRuntime) -> io::Result<bool> {
     let mut is_all = true;
     for name in NAMES {
@@ -68,10 +72,13 @@ fn tell_all(rt: &HostRuntime) -> io::Result<bool> {
         tell(rt, name, outcome)?;
         is_all = is_all && is_as_told(outcome);
     }
-    let outcome = outcome_in_halves(rt, HALVED).unwrap_or(Outcome::NotRun);
+    let halved = outcome_in_halves(rt, HALVED).unwrap_or(Outcome::NotRun);
     let line = format!(in rt.alloc(); "{HALVED}, in two halves")?;
-    tell(rt, line.as_str(), outcome)?;
-    Ok(is_all && is_as_told(outcome))
+    tell(rt, line.as_str(), halved)?;
+    let filed = outcome_in_file(rt, HALVED).unwrap_or(Outcome::NotRun);
+    let line = format!(in rt.alloc(); "{HALVED}, in two halves over a file")?;
+    tell(rt, line.as_str(), filed)?;
+    Ok(is_all && is_as_told(halved) && is_as_told(filed))
 }
 
 /// Tells what came of an example.
@@ -112,6 +119,26 @@ fn outcome_in_halves(rt: &HostRuntime, name: &str) -> io::Result<Outcome> {
     Ok(judged(example.replies.as_slice(), begun.max(ended), out.bytes()))
 }
 
+/// What comes of an example in two runs over a file: it is opened, closed and opened again.
+fn outcome_in_file(rt: &HostRuntime, name: &str) -> io::Result<Outcome> {
+    let alloc = rt.alloc();
+    let example = example_of(rt, name)?;
+    let (first, second) = halves(example.script.as_slice());
+    let mut out = MemSink::new(alloc, List::new(alloc), 0, ROOM)?;
+    let begun = ran_in_file(rt, first, &mut out)?;
+    let ended = ran_in_file(rt, second, &mut out)?;
+    Ok(judged(example.replies.as_slice(), begun.max(ended), out.bytes()))
+}
+
+/// Runs a script over the file, closes it, and answers the status.
+fn ran_in_file(rt: &HostRuntime, script: &[u8], out: &mut MemSink) -> Result<u8, AllocError> {
+    let mut keeper = SqlKeeper::from_file(rt.alloc(), rt, FILE);
+    let status = ran(rt.alloc(), script, out, &mut keeper);
+    // Where this fails, the second run finds other rows, or none, and what it writes differs.
+    drop(keeper.close());
+    status
+}
+
 /// The files of an example.
 fn example_of(rt: &HostRuntime, name: &str) -> io::Result<Example> {
     let file = format!(in rt.alloc(); "{name}.bsql")?;
@@ -135,14 +162,14 @@ fn halves(script: &[u8]) -> (&[u8], &[u8]) {
 }
 
 /// Runs a script over a keeper, and answers the status.
-fn ran(
+fn ran<K: Keeper>(
     alloc: Global,
     script: &[u8],
     out: &mut MemSink,
-    keeper: &mut MemKeeper,
+    keeper: &mut K,
 ) -> Result<u8, AllocError>
-    requires idle { keeper.old.seen.running ≡ false }
-    ensures idle { keeper.new.seen.running ≡ false }
+    requires idle { (K.seen keeper.old).running ≡ false }
+    ensures idle { (K.seen keeper.new).running ≡ false }
 {
     let mut words = List::new(alloc);
     words.push(Txt::try_new(alloc, "run")?)?;
