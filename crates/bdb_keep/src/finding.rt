@@ -1,8 +1,8 @@
 // Finding a place among sorted blocks.
-ghost use Rattle.std.specs.Prelude.{◌≡◌, ◌<◌, ◌≤◌, ◌-◌, ◌^◌, ◌∷◌, ◌++◌, [], true, IfOk, IfErr, IfSome, IfNone, is_some, length, slice_index_or};
+ghost use Rattle.std.specs.Prelude.{◌≡◌, ◌<◌, ◌-◌, ◌^◌, [], true, IfOk, IfErr, IfSome, IfNone, is_some, length, slice_index_or};
 ghost use Rattle.std.specs.declared.cmp.Ordering.TheVariants.{Less, Greater};
 ghost use Rattle.bdb_keep.specs.Tables.{bytes_cmp};
-ghost use Rattle.bdb_keep.specs.Entries.{AreBelow, NoneBelow};
+ghost use Rattle.bdb_keep.specs.Entries.{NoneBelow};
 ghost use Rattle.bdb_keep.specs.Blocks.{joined, before, after, entry_at, starts_within, AreSorted, HaveEntries, IsBound, IsThere, StandsAt, IsGap};
 ghost use Rattle.bdb_keep.specs.Shelves.{NoRowFrom, BelongsAmong};
 
