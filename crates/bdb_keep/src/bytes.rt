@@ -111,6 +111,18 @@ pub fn filled_word(bytes: &[u8]) -> u64
     }
 }
 
+/// The same of the bytes from an index on.
+#[inline(always)]
+pub fn filled_from(bytes: &[u8], index: usize) -> u64
+    ensures bytes { filled 8 (drop index bytes.now) ≡ to_be_bytes w64 result }
+    ensures small { result < 2 ^ 64 }
+{
+    if index >= bytes.len() {
+        return filled_word(&[]);
+    }
+    filled_word(&bytes[index..])
+}
+
 /// The number of fewer than eight bytes, with 255 behind them.
 fn short_filled_word(bytes: &[u8]) -> u64
     ensures bytes { filled 8 bytes.now ≡ to_be_bytes w64 result }

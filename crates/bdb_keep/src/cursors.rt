@@ -6,7 +6,7 @@ use std::alloc::Global;
 /// What is remembered of a place that was used: its shelf, and its spot there.
 pub type Mark = (usize, Spot);
 
-/// Where is looked first: beside a mark, and then on a shelf and the one behind it.
+/// Where is looked first: beside a mark, and then on a shelf and a few behind it.
 pub type Marks = (Mark, usize);
 
 /// The first place of all.

@@ -7,7 +7,7 @@ ghost use Rattle.bdb_keep.specs.Tables.{bytes_cmp};
 ghost use Rattle.bdb_keep.specs.Heads.{IsHeadOfPlace};
 ghost use Rattle.bdb_keep.specs.Openings.{IsLastHead, goes_on};
 
-use crate::bytes::{filled_word, from_index};
+use crate::bytes::{filled_from, filled_word, from_index};
 use crate::head::Head;
 use std::marker::Model;
 
@@ -68,8 +68,8 @@ fn last_head(tab: u8, prefix: &[u8]) -> Head
         tab,
         count: 32,
         first: filled_word(prefix),
-        second: filled_word(from_index(prefix, 8)),
-        third: filled_word(from_index(prefix, 16)),
-        fourth: filled_word(from_index(prefix, 24)),
+        second: filled_from(prefix, 8),
+        third: filled_from(prefix, 16),
+        fourth: filled_from(prefix, 24),
     }
 }

@@ -21,6 +21,9 @@ use std::alloc::{AllocError, Global};
 /// The most blocks of a shelf, unless there was no memory to cut it.
 const CAPACITY: usize = 128;
 
+/// So many shelves behind the one that is remembered are looked at before all are searched.
+const LOOKED_AT: usize = 4;
+
 /// Reads the row at a place, and answers where it stands or would stand, and whether there is one.
 pub fn read(
     shelves: &[Shelf],
@@ -59,7 +62,7 @@ fn row_searched<'a>(
     requires { AreSorted shelves.now }
     ensures { option_copied result.1 ≡ row_of (place_at (joined shelves.now) probe.now) }
 {
-    match shelf_for(shelves, near, probe) {
+    match shelf_for(shelves, near.1, probe) {
         Some(at) => {
             let (spot, row) = shelf_at(shelves, at).row_at(probe);
             ((at, spot), row)
@@ -115,7 +118,7 @@ pub fn read_under(
     ensures { OnOk result (AreRowsUnder (rows_of (joined shelves.now)) tab prefix.now span.new) }
 {
     span.clear();
-    match shelf_for(shelves, near, probe) {
+    match shelf_for(shelves, near.1, probe) {
         Some(at) => {
             let spot = read_under_from(shelves, at, probe, tab, prefix, span)?;
             Ok((at, spot))
@@ -216,7 +219,7 @@ fn swap_searched(
     ensures back { IfErr result (λ back. back ≡ row) }
     ensures same { OnErr result (joined shelves.new.items ≡ joined shelves.old.items) }
 {
-    match shelf_for(shelves, near, probe) {
+    match shelf_for(shelves, near.1, probe) {
         Some(at) => swap_on(shelves, at, probe, row),
         None => Err(row),
     }
@@ -291,7 +294,7 @@ fn insert_searched(
         probe.now (Some (Some row.now))) }
     ensures err { OnErr result (joined shelves.new.items ≡ joined shelves.old.items) }
 {
-    match shelf_for(shelves, near, probe) {
+    match shelf_for(shelves, near.1, probe) {
         Some(at) => {
             let (mark, before) = insert_on(alloc, shelves, at, probe, row)?;
             Ok((cut_full(shelves, mark), before))
@@ -333,7 +336,7 @@ pub fn remove(shelves: &mut Vec<Shelf>, near: Marks, probe: &Probe<'_>) -> Mark
     ensures sorted { AreSorted shelves.new.items }
     ensures set { IsSetAt (joined shelves.old.items) (joined shelves.new.items) probe.now None }
 {
-    match shelf_for(shelves, near, probe) {
+    match shelf_for(shelves, near.1, probe) {
         Some(at) => (at, remove_on(shelves, at, probe)),
         None => near.0,
     }
@@ -461,7 +464,7 @@ fn first_row_searched<'a>(
     ensures found { IfSome result (λ first. IsFirstRow (joined shelves.now) probe.now first.1.now) }
     ensures none { IfNone result (NoRowFrom probe.now (joined shelves.now)) }
 {
-    match shelf_for(shelves, near, probe) {
+    match shelf_for(shelves, near.1, probe) {
         Some(at) => first_row_from(shelves, at, probe),
         None => None,
     }
@@ -488,38 +491,56 @@ fn first_row_from<'a>(
     None
 }
 
-/// The shelf that a place belongs on. It looks first at the one that is remembered, and at the one behind it, as that shelf may have been
-/// cut, or one before it.
-fn shelf_for(shelves: &[Shelf], near: Marks, probe: &Probe<'_>) -> Option<usize>
+/// The shelf that a place belongs on. It looks first at the one that is remembered.
+fn shelf_for(shelves: &[Shelf], used: usize, probe: &Probe<'_>) -> Option<usize>
     requires { AreSorted shelves.now }
     ensures shelf { IfSome result (λ at. IsBlockFor shelves.now probe.now at) }
     ensures none { IfNone result (joined shelves.now ≡ []) }
 {
-    let (_, used) = near;
-    if is_shelf_for(shelves, used, probe) {
+    if !is_from(shelves, used, probe) {
+        return search(shelves, probe);
+    }
+    if !is_from(shelves, used + 1, probe) {
         return Some(used);
     }
-    let behind = used.saturating_add(1);
-    if is_shelf_for(shelves, behind, probe) {
-        return Some(behind);
+    shelf_behind(shelves, used + 1, probe)
+}
+
+/// The same where the place isn't before a shelf. It looks first at that shelf and a few behind it, as shelves before it may have been
+/// cut since it was remembered.
+fn shelf_behind(shelves: &[Shelf], start: usize, probe: &Probe<'_>) -> Option<usize>
+    requires sorted { AreSorted shelves.now }
+    requires shelf { start < length shelves.now }
+    requires starts { 0 < start → starts_within probe.now (slice_index_or shelves.now start []) ≡ true }
+    ensures shelf { IfSome result (λ at. IsBlockFor shelves.now probe.now at) }
+    ensures none { IfNone result (joined shelves.now ≡ []) }
+{
+    let mut at = start;
+    for _ in 0..LOOKED_AT {
+        if !is_from(shelves, at + 1, probe) {
+            return Some(at);
+        }
+        at += 1;
     }
     search(shelves, probe)
 }
 
-/// Whether a place belongs on a shelf.
-fn is_shelf_for(shelves: &[Shelf], at: usize, probe: &Probe<'_>) -> bool
-    ensures { result ≡ true → IsBlockFor shelves.now probe.now at }
+/// Whether there is a shelf at an index, and a place isn't before it: it isn't below its first place, or it is the first shelf.
+#[inline(always)]
+fn is_from(shelves: &[Shelf], at: usize, probe: &Probe<'_>) -> bool
+    ensures shelf { result ≡ true → at < length shelves.now }
+    ensures starts { result ≡ true → 0 < at
+        → starts_within probe.now (slice_index_or shelves.now at []) ≡ true }
+    ensures ends { result ≡ false → at < length shelves.now
+        → starts_within probe.now (slice_index_or shelves.now at []) ≡ false }
 {
     if at >= shelves.len() {
         return false;
     }
-    if at > 0 && !shelf_at(shelves, at).starts_within(probe) {
-        return false;
-    }
-    if at + 1 >= shelves.len() {
+    if at == 0 {
         return true;
     }
-    !shelf_at(shelves, at + 1).starts_within(probe)
+    shelf_at(shelves, at).starts_within(probe)
 }
 
 /// The shelf that a place belongs on, by halves.
