@@ -77,6 +77,18 @@ impl Entry {
         }
     }
 
+    /// The same. Mostly the head tells.
+    #[inline(always)]
+    pub fn compare_by_head(&self, probe: &Probe<'_>) -> Ordering
+        ensures { result ≡ bytes_cmp self.now.0 probe.now }
+    {
+        match probe.compare_head(&self.head()) {
+            Ordering::Less => Ordering::Less,
+            Ordering::Equal => self.compare(probe),
+            Ordering::Greater => Ordering::Greater,
+        }
+    }
+
     /// The head of the place.
     #[inline(always)]
     pub fn head(&self) -> Head
