@@ -4,7 +4,6 @@ use Rattle.std.specs.List.{list_all, flat_map}
 use Rattle.std.specs.Option.{option_map}
 use Rattle.std.proofs.lemmas.Bool.{cases_Bool, false≢true, false_from_ne_true, cond-true, cond-false, eqb-true, eq-eqb}
 use Rattle.bdb_base.specs.Bases.{is_user}
-use Rattle.bdb_base.specs.Causes.{Rises, RoseBy}
 use Rattle.bdb_base.specs.States.{is_state, deepest_suffix}
 use Rattle.bdb_base.specs.WorldRows.{world_of, row_at, rows_at, tuples_of}
 use Rattle.bdb_base.specs.Worlds.{explicit, stated}
@@ -25,7 +24,6 @@ use Rattle.bdb_update.proofs.KeyLemmas.{lengths_fit}
 use Rattle.bdb_update.proofs.OneStored.{consistent}
 use Rattle.bdb_update.specs.Keys.{keys_of}
 use Rattle.bdb_val.specs.WorldReads.{AreRowsAt}
-use Rattle.bdb_worlds.specs.Bounds.{RisesWithin}
 use Rattle.bdb_worlds.specs.Holding.{HoldSome, StandsFor, Worlds}
 use Rattle.bdb_worlds.proofs.ReadLemmas.{depth_read}
 use Rattle.bdb_catalog.specs.Showing.{FindsState, IsWorldOf, PlainPathsInherit, inherited, shown}
@@ -127,14 +125,6 @@ path_world t path wid own held f a b h =
           ∙ ap (λ v. map inherited (world_of (keys_of b) b.stmts v)) same
           ∙ sym (plain_paths_inherit (keys_of b) b.stmts path (sym (st.worlds path) ∙ e))
     ]
-
--- ---- how many reads that takes
-
-pub reads_one_more : (n a b c : ℕ) → b ≤ c → Rises n a b → RoseBy 1 b c → RisesWithin (n + 1) a c
-reads_one_more n a b c le r one below = let e = r (omega arith) in omega arith
-
-pub reads_rows_more : (n m a b c : ℕ) → b ≤ c → RisesWithin (n + 1) a b → c ≤ b + (2 * m + 1) → RisesWithin (n + 2 * m + 8) a c
-reads_rows_more n m a b c le r more below = let e = r (omega arith) in omega arith
 
 pub length_shown : (own : Bool) (rows : List Held) → length (shown own rows) ≡ length rows
 length_shown true rows = refl

@@ -1,5 +1,5 @@
 //! What is made and read of tables that store a base with its worlds, all but changes of statements: the empty base, its
-//! users and relations, the world of a path, and the statements that a change is about.
+//! users and relations, the state whose rows the world of a path has, and the statements that a change is about.
 #![tactic(auto)]
 
 mod asking;
@@ -11,6 +11,6 @@ mod users;
 
 pub use creating::{add_relation, write_empty};
 pub use opening::{read_relations, read_users};
-pub use showing::{plain_paths_inherit, world_of_path};
+pub use showing::{plain_paths_inherit, state_of};
 pub use taking::{taken, tuples_under};
 pub use users::{add_gone_place, add_user};

@@ -6,7 +6,6 @@ mod order;
 mod reading;
 mod row;
 mod showing;
-mod state;
 mod values;
 
 pub use showing::shown_world;
