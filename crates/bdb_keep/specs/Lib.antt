@@ -5,6 +5,7 @@ pub mod Changes
 pub mod Entries
 pub mod Heads
 pub mod Held
+pub mod Marked
 pub mod Openings
 pub mod RowBytes
 pub mod Scans

@@ -15,6 +15,7 @@ mod head;
 mod keeper;
 mod ledger;
 mod many;
+mod marked;
 mod mem;
 mod opening;
 mod place;
@@ -31,7 +32,7 @@ mod tail;
 mod under;
 mod words;
 
-pub use keeper::{KeepError, Keeper};
+pub use keeper::{KeepError, Keeper, KeyEnd};
 pub use ledger::Ledger;
 pub use mem::MemKeeper;
 pub use quiet::QuietKeeper;

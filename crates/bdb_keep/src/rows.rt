@@ -4,6 +4,7 @@ ghost use Rattle.std.specs.Option.{option_map, option_copied};
 ghost use Rattle.std.specs.FinMap as map;
 ghost use Rattle.bdb_keep.specs.Entries.{place_at, row_of, rows_of, IsSetAt, IsAmong, AreAmong};
 ghost use Rattle.bdb_keep.specs.Blocks.{joined};
+ghost use Rattle.bdb_keep.specs.Marked.{IsMarkedCount};
 ghost use Rattle.bdb_keep.specs.Spans.{AreRowsUnder};
 ghost use Rattle.bdb_keep.specs.Tables.{IsLeastFrom, NoneFrom, LieWithin};
 
@@ -11,6 +12,8 @@ use crate::block::Block;
 use crate::census::Census;
 use crate::cursors::Cursors;
 use crate::entry::Entry;
+use crate::keeper::KeyEnd;
+use crate::marked::count_shelves;
 use crate::row::Row;
 use crate::shelf::Shelf;
 use crate::span::Span;
@@ -208,6 +211,14 @@ impl Rows {
         let mark = shelves::read_under(&self.shelves, near, &probe, tab, prefix, span)?;
         self.cursors.remember_read(&probe, mark);
         Ok(())
+    }
+
+    /// How many rows of a table are marked, of those whose keys begin, or end, with the four bytes of a number. It looks at each row.
+    /// It is refused where there are more than can be counted.
+    pub fn count_marked(&self, tab: u8, end: KeyEnd, number: u32) -> Result<usize, AllocError>
+        ensures { IfOk result (λ n. IsMarkedCount (rows_of self.now) tab end number n) }
+    {
+        count_shelves(self.shelves.as_slice(), tab, end, number)
     }
 
     /// The row at a place, if there is one.
