@@ -15,4 +15,5 @@ pub mod Spans
 pub mod Struck
 pub mod Tables
 pub mod Tails
+pub mod Tallies
 pub mod Told

@@ -8,6 +8,7 @@ mod blocks;
 mod bytes;
 mod census;
 mod changes;
+mod counts;
 mod cursors;
 mod entry;
 mod finding;
@@ -29,6 +30,7 @@ mod shelves;
 mod span;
 mod store;
 mod tail;
+mod tally;
 mod under;
 mod words;
 

@@ -7,9 +7,9 @@ use Rattle.bdb_keep.proofs.rows.Rows.drop_all_empty.Goals as goal
 
 pub invariant_of-self : goal.invariant_of-self
 invariant_of-self c =
-    sorted-without c.self.inside.shelves.items c.drop_empty_shelves.new.shelves.items c.self.invariant (c.drop_empty_shelves.ensures.same ∙ ap joined c.drop_empty_places.ensures) c.drop_empty_shelves.ensures.full
+    sorted-without c.self.inside.shelves.items c.drop_empty_shelves.new.shelves.items c.self.invariant.sorted (c.drop_empty_shelves.ensures.same ∙ ap joined c.drop_empty_places.ensures) c.drop_empty_shelves.ensures.full
 
 pub returns : goal.returns
 returns c =
     ap rows_of (c.drop_empty_shelves.ensures.same ∙ ap joined c.drop_empty_places.ensures ∙ joined-without c.self.inside.shelves.items)
-    ∙ rows_of-kept (joined c.self.inside.shelves.items) c.self.invariant.ascends ∙ ap rows_of c.self.view_is
+    ∙ rows_of-kept (joined c.self.inside.shelves.items) c.self.invariant.sorted.ascends ∙ ap rows_of c.self.view_is
