@@ -5,6 +5,8 @@ pub mod FirstLemmas
 pub mod Gets
 pub mod HeadsLemmas
 pub mod ManyLemmas
+pub mod MarkedLemmas
+pub mod NumberLemmas
 pub mod Numbers
 pub mod OpeningLemmas
 pub mod RowsLemmas
@@ -12,6 +14,8 @@ pub mod Scans
 pub mod ShelvesLemmas
 pub mod SpanLemmas
 pub mod TableLemmas
+pub mod TallyLemmas
+pub mod TallySteps
 pub mod UnderLemmas
 pub mod WithinLemmas
 pub mod WrittenLemmas

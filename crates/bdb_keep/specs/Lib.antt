@@ -5,6 +5,7 @@ pub mod Changes
 pub mod Entries
 pub mod Heads
 pub mod Held
+pub mod Marked
 pub mod Openings
 pub mod RowBytes
 pub mod Scans
@@ -14,4 +15,5 @@ pub mod Spans
 pub mod Struck
 pub mod Tables
 pub mod Tails
+pub mod Tallies
 pub mod Told

@@ -94,7 +94,7 @@ impl Head {
 
 /// The bytes of the four numbers, the highest first.
 #[inline(always)]
-fn all_bytes(head: &Head) -> [u8; 32]
+pub fn all_bytes(head: &Head) -> [u8; 32]
     ensures { result ≡ bytes_of head.now }
 {
     let [a, b, c, d, e, f, g, h] = head.first.to_be_bytes();

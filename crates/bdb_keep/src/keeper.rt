@@ -3,6 +3,7 @@ ghost use Rattle.std.specs.Prelude.{◌≡◌, ◌+◌, ◌≤◌, length, [], �
 ghost use Rattle.std.specs.FinMap as map;
 ghost use Rattle.bdb_base.specs.Causes.{RoseBy};
 ghost use Rattle.bdb_keep.specs.Calls.{IsBegin, IsRead, IsWrite, IsCommit, IsUndo};
+ghost use Rattle.bdb_keep.specs.Marked.{IsMarkedCount};
 ghost use Rattle.bdb_keep.specs.Tables.{IsLeastFrom, LieInTables, NoneFrom};
 ghost use Rattle.bdb_keep.specs.Seen.{Seen};
 ghost use Rattle.bdb_keep.specs.Spans.{AreRowsUnder, with_rows, without_rows};
@@ -19,6 +20,15 @@ pub enum KeepError {
     /// There is no memory.
     #[error("there is no memory")]
     Memory,
+}
+
+/// Which four bytes of a key are meant.
+#[derive(Clone, Copy, Debug, PartialEq, Eq, Drop)]
+pub enum KeyEnd {
+    /// The first four.
+    First,
+    /// The last four.
+    Last,
 }
 
 /// A keeper holds rows in tables 1 to 15: each row has a byte key and byte content, one row at most for a table and
@@ -69,6 +79,14 @@ pub trait Keeper {
         requires table { (1 ≤ tab) × (tab ≤ 15) }
         ensures rows { OnOk result (AreRowsUnder (seen self.old).kept tab prefix.now span.new) }
         ensures reads { OnOk result (RoseBy (length span.new + 1) (seen self.old).reads (seen self.new).reads) }
+        ensures read { IsRead (seen self.old) (seen self.new) result KeepError.Fault };
+
+    /// How many rows of a table are marked, of those whose keys begin, or end, with the four bytes of a number. A row is marked where
+    /// its last byte is odd. It counts as one read, however it is done.
+    fn count_marked(&mut self, tab: u8, end: KeyEnd, word: u32) -> Result<usize, KeepError>
+        requires table { (1 ≤ tab) × (tab ≤ 15) }
+        ensures counted { IfOk result (λ n. IsMarkedCount (seen self.old).kept tab end word n) }
+        ensures reads { RoseBy 1 (seen self.old).reads (seen self.new).reads }
         ensures read { IsRead (seen self.old) (seen self.new) result KeepError.Fault };
 
     /// Puts a row at a key, in place of the row that stood there.

@@ -3,12 +3,13 @@ ghost use Rattle.std.specs.Prelude.{◌≡◌, ◌+◌, ◌-◌, ◌^◌, ◌≤
 ghost use Rattle.std.specs.FinMap as map;
 ghost use Rattle.bdb_base.specs.Causes.{Rose, RoseBy};
 ghost use Rattle.bdb_keep.specs.Calls.{IsRead, IsWrite, IsUndo};
+ghost use Rattle.bdb_keep.specs.Marked.{IsMarkedCount};
 ghost use Rattle.bdb_keep.specs.Seen.{NeverFall, IsAtRest, IsDropped};
 ghost use Rattle.bdb_keep.specs.Spans.{AreRowsUnder, with_rows, without_rows};
 ghost use Rattle.bdb_keep.specs.Tables.{IsLeastFrom, LieInTables, NoneFrom};
 ghost use Rattle.bdb_keep.specs.Told.{HasNoFault};
 
-use crate::keeper::KeepError;
+use crate::keeper::{KeepError, KeyEnd};
 use crate::span::Span;
 use crate::store::Store;
 use std::alloc::{AllocError, Global};
@@ -149,6 +150,24 @@ impl Ledger {
             }
             Err(_) => {
                 self.reads = reads_after(self.reads, 0);
+                self.undo();
+                Err(KeepError::Memory)
+            }
+        }
+    }
+
+    /// How many rows of a table are marked, of those whose keys begin, or end, with the four bytes of a number. It counts as one read.
+    pub fn count_marked(&mut self, tab: u8, end: KeyEnd, word: u32) -> Result<usize, KeepError>
+        requires table { (1 ≤ tab) × (tab ≤ 15) }
+        ensures counted { IfOk result (λ n. IsMarkedCount self.old.seen.kept tab end word n) }
+        ensures reads { RoseBy 1 self.old.seen.reads self.new.seen.reads }
+        ensures read { IsRead self.old.seen self.new.seen result KeepError.Fault }
+        ensures calm { HasNoFault self.old.seen self.new.seen result }
+    {
+        self.reads = self.reads.saturating_add(1);
+        match self.store.count_marked(tab, end, word) {
+            Ok(count) => Ok(count),
+            Err(_) => {
                 self.undo();
                 Err(KeepError::Memory)
             }

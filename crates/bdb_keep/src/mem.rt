@@ -3,11 +3,12 @@ ghost use Rattle.std.specs.Prelude.{◌≡◌, ◌+◌, ◌≤◌, length, [], �
 ghost use Rattle.std.specs.FinMap as map;
 ghost use Rattle.bdb_base.specs.Causes.{RoseBy};
 ghost use Rattle.bdb_keep.specs.Calls.{IsBegin, IsRead, IsWrite, IsCommit, IsUndo};
+ghost use Rattle.bdb_keep.specs.Marked.{IsMarkedCount};
 ghost use Rattle.bdb_keep.specs.Spans.{AreRowsUnder, with_rows, without_rows};
 ghost use Rattle.bdb_keep.specs.Tables.{IsLeastFrom, LieInTables, NoneFrom};
 ghost use Rattle.bdb_keep.specs.Struck.{number_of_next, is_listed, Counted};
 
-use crate::keeper::{KeepError, Keeper};
+use crate::keeper::{KeepError, Keeper, KeyEnd};
 use crate::ledger::Ledger;
 use crate::span::Span;
 use bdb_base::List;
@@ -183,6 +184,24 @@ impl Keeper for MemKeeper {
         }
         match self.ledger.under(tab, prefix, span) {
             Ok(()) => Ok(()),
+            Err(error) => Err(error),
+        }
+    }
+
+    fn count_marked(&mut self, tab: u8, end: KeyEnd, word: u32) -> Result<usize, KeepError>
+        requires table { (1 ≤ tab) × (tab ≤ 15) }
+        ensures counted { IfOk result (λ n. IsMarkedCount self.old.seen.kept tab end word n) }
+        ensures reads { RoseBy 1 self.old.seen.reads self.new.seen.reads }
+        ensures read { IsRead self.old.seen self.new.seen result KeepError.Fault }
+
+        ensures exact { Counted self.old self.new result }
+    {
+        if self.fails_now() {
+            self.ledger.refuse_read(KeepError::Fault);
+            return Err(KeepError::Fault);
+        }
+        match self.ledger.count_marked(tab, end, word) {
+            Ok(count) => Ok(count),
             Err(error) => Err(error),
         }
     }

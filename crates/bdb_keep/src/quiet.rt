@@ -4,7 +4,7 @@ ghost use Rattle.std.specs.FinMap as map;
 ghost use Rattle.bdb_keep.specs.Calls.{IsBegin, IsCommit};
 ghost use Rattle.bdb_keep.specs.Calm.{seen_of};
 
-use crate::keeper::{KeepError, Keeper};
+use crate::keeper::{KeepError, Keeper, KeyEnd};
 use crate::ledger::Ledger;
 use crate::span::Span;
 use std::alloc::{AllocError, Global};
@@ -120,6 +120,13 @@ impl Keeper for QuietKeeper {
     fn under(&mut self, tab: u8, prefix: &[u8], span: &mut Span) -> Result<(), KeepError> {
         match self.ledger.under(tab, prefix, span) {
             Ok(()) => Ok(()),
+            Err(error) => Err(error),
+        }
+    }
+
+    fn count_marked(&mut self, tab: u8, end: KeyEnd, word: u32) -> Result<usize, KeepError> {
+        match self.ledger.count_marked(tab, end, word) {
+            Ok(count) => Ok(count),
             Err(error) => Err(error),
         }
     }

@@ -4,16 +4,21 @@ ghost use Rattle.std.specs.Option.{option_map, option_copied};
 ghost use Rattle.std.specs.FinMap as map;
 ghost use Rattle.bdb_keep.specs.Entries.{place_at, row_of, rows_of, IsSetAt, IsAmong, AreAmong};
 ghost use Rattle.bdb_keep.specs.Blocks.{joined};
+ghost use Rattle.bdb_keep.specs.Marked.{IsMarkedCount};
 ghost use Rattle.bdb_keep.specs.Spans.{AreRowsUnder};
 ghost use Rattle.bdb_keep.specs.Tables.{IsLeastFrom, NoneFrom, LieWithin};
+ghost use Rattle.bdb_keep.specs.Tallies.{tallied_table, is_marked_in};
 
 use crate::block::Block;
 use crate::census::Census;
 use crate::cursors::Cursors;
 use crate::entry::Entry;
+use crate::keeper::KeyEnd;
+use crate::marked::{count_shelves, had_marked_in, has_marked_in, is_marked_in};
 use crate::row::Row;
 use crate::shelf::Shelf;
 use crate::span::Span;
+use crate::tally::{TABLE, Tally};
 use crate::words::Probe;
 use crate::{runs, shelves};
 use std::alloc::{AllocError, Global};
@@ -27,17 +32,19 @@ pub struct Rows {
     shelves: Vec<Shelf>,
     cursors: Cursors,
     census: Census,
+    tally: Tally,
 }
 
 impl Model for Rows {
     ghost use Rattle.bdb_keep.specs.Entries.{Entries};
-    ghost use Rattle.bdb_keep.specs.Blocks.{joined, AreSorted};
+    ghost use Rattle.bdb_keep.specs.Blocks.{joined};
+    ghost use Rattle.bdb_keep.specs.Tallies.{AreTallied};
 
     ghost Value = { Entries };
 
     ghost view = { λ r. joined r.shelves.items };
 
-    ghost invariant = { λ r. AreSorted r.shelves.items };
+    ghost invariant = { λ r. AreTallied r.shelves.items r.tally };
 }
 
 impl Rows {
@@ -50,6 +57,7 @@ impl Rows {
             shelves: Vec::new(alloc),
             cursors: Cursors::new(alloc),
             census: Census::none(),
+            tally: Tally::new(alloc),
         }
     }
 
@@ -64,8 +72,11 @@ impl Rows {
     {
         let near = self.cursors.to_write(probe);
         let has_row = row.is_some();
+        let is = has_marked_in(TABLE, probe, &row);
         match shelves::swap(&mut self.shelves, near, probe, row) {
             Ok((mark, before)) => {
+                self.tally
+                    .note(probe, has_marked_in(TABLE, probe, &before), is);
                 self.cursors.remember_written(probe, mark);
                 self.census.swapped(before.is_some(), has_row);
                 Ok(before)
@@ -88,6 +99,9 @@ impl Rows {
         self.cursors.make_room();
         let near = self.cursors.to_write(probe);
         let (mark, before) = shelves::insert(self.alloc, &mut self.shelves, near, probe, row)?;
+        let was = had_marked_in(TABLE, probe, &before);
+        self.tally
+            .note(probe, was, is_marked_in(TABLE, probe, row));
         self.cursors.remember_written(probe, mark);
         self.census.inserted(&before);
         Ok(before)
@@ -105,6 +119,9 @@ impl Rows {
         let last = self.cursors.last_written(probe);
         match runs::put_behind(self.alloc, &mut self.shelves, last, probe, row) {
             Some((mark, is_new, before)) => {
+                let was = has_marked_in(TABLE, probe, &before);
+                self.tally
+                    .note(probe, was, is_marked_in(TABLE, probe, row));
                 self.cursors.remember_written(probe, mark);
                 self.census.put(is_new, before.is_some());
                 Some(before)
@@ -124,6 +141,8 @@ impl Rows {
         let last = self.cursors.last_written(probe);
         match runs::empty_behind(&mut self.shelves, last, probe) {
             Some((mark, before)) => {
+                self.tally
+                    .note(probe, has_marked_in(TABLE, probe, &before), false);
                 self.cursors.remember_written(probe, mark);
                 self.census.swapped(before.is_some(), false);
                 Some(before)
@@ -155,8 +174,10 @@ impl Rows {
         ensures set { IsSetAt self.old self.new probe.now None }
         ensures rows { rows_of self.new ≡ map.remove (rows_of self.old) probe.now }
     {
+        let was = self.has_marked(probe);
         let near = self.cursors.to_write(probe);
         let mark = shelves::remove(&mut self.shelves, near, probe);
+        self.tally.note(probe, was, false);
         self.cursors.remember_written(probe, mark);
     }
 }
@@ -208,6 +229,30 @@ impl Rows {
         let mark = shelves::read_under(&self.shelves, near, &probe, tab, prefix, span)?;
         self.cursors.remember_read(&probe, mark);
         Ok(())
+    }
+
+    /// Whether the row at a place is one of the marked rows that are counted as they come and go.
+    fn has_marked(&self, probe: &Probe<'_>) -> bool
+        ensures { result ≡ is_marked_in tallied_table probe.now (map.get (rows_of self.now) probe.now) }
+    {
+        match self.row_at(probe) {
+            Some(row) => is_marked_in(TABLE, probe, row),
+            None => false,
+        }
+    }
+
+    /// How many rows of a table are marked, of those whose keys begin, or end, with the four bytes of a number. It looks at each row
+    /// where these aren't counted as they come and go, and is refused where there are then more than can be counted.
+    pub fn count_marked(&self, tab: u8, end: KeyEnd, number: u32) -> Result<usize, AllocError>
+        ensures { IfOk result (λ n. IsMarkedCount (rows_of self.now) tab end number n) }
+    {
+        match self.tally.count(tab, end, number) {
+            Some(count) => Ok(count),
+            None => {
+                let count = count_shelves(self.shelves.as_slice(), tab, end, number)?;
+                Ok(count)
+            }
+        }
     }
 
     /// The row at a place, if there is one.

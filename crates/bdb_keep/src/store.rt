@@ -3,10 +3,12 @@ ghost use Rattle.std.specs.Prelude.{◌≡◌, ◌≤◌, ◌++◌, ◌∷◌, �
 ghost use Rattle.std.specs.Option.{option_map};
 ghost use Rattle.std.specs.FinMap as map;
 ghost use Rattle.bdb_keep.specs.Held.{written};
+ghost use Rattle.bdb_keep.specs.Marked.{IsMarkedCount};
 ghost use Rattle.bdb_keep.specs.Spans.{AreRowsUnder, with_rows, without_rows};
 ghost use Rattle.bdb_keep.specs.Tables.{IsLeastFrom, IsPlace, NoneFrom};
 
 use crate::changes::{Change, insert_row, put_row, roll_back, settle, take_row};
+use crate::keeper::KeyEnd;
 use crate::many::{put_rows, take_rows};
 use crate::place::Place;
 use crate::rows::Rows;
@@ -85,6 +87,13 @@ impl Store {
         ensures same { self.new ≡ self.old }
     {
         self.rows.read_under(tab, prefix, span)
+    }
+
+    /// How many rows of a table are marked, of those whose keys begin, or end, with the four bytes of a number.
+    pub fn count_marked(&self, tab: u8, end: KeyEnd, word: u32) -> Result<usize, AllocError>
+        ensures { IfOk result (λ n. IsMarkedCount self.now.kept tab end word n) }
+    {
+        self.rows.count_marked(tab, end, word)
     }
 
     /// Puts a row at a key.

@@ -3,6 +3,7 @@ ghost use Rattle.std.specs.Prelude.{◌≡◌, ◌+◌, ◌≤◌, length, [], �
 ghost use Rattle.std.specs.FinMap as map;
 ghost use Rattle.bdb_base.specs.Causes.{RoseBy};
 ghost use Rattle.bdb_keep.specs.Calls.{IsBegin, IsRead, IsWrite, IsCommit, IsUndo};
+ghost use Rattle.bdb_keep.specs.Marked.{IsMarkedCount};
 ghost use Rattle.bdb_keep.specs.Spans.{AreRowsUnder, with_rows, without_rows};
 ghost use Rattle.bdb_keep.specs.Tables.{IsLeastFrom, LieInTables, NoneFrom};
 ghost use Rattle.bdb_sql.specs.Filed.{works, Answers, Commits, Begins};
@@ -16,7 +17,7 @@ ghost use Rattle.sqlite.specs.Held.{state};
 use crate::load::load;
 use crate::told::told;
 use crate::write::write_changes;
-use bdb_keep::{KeepError, Keeper, Ledger, Span, Store};
+use bdb_keep::{KeepError, Keeper, KeyEnd, Ledger, Span, Store};
 use sqlite::{Alter, Connection};
 use std::alloc::Global;
 use std::marker::Model;
@@ -223,6 +224,25 @@ impl<S: Alter> Keeper for SqlKeeper<S> {
         }
         match self.ledger.under(tab, prefix, span) {
             Ok(()) => Ok(()),
+            Err(error) => Err(error),
+        }
+    }
+
+    fn count_marked(&mut self, tab: u8, end: KeyEnd, word: u32) -> Result<usize, KeepError>
+        requires table { (1 ≤ tab) × (tab ≤ 15) }
+        ensures counted { IfOk result (λ n. IsMarkedCount self.old.seen.kept tab end word n) }
+        ensures reads { RoseBy 1 self.old.seen.reads self.new.seen.reads }
+        ensures read { IsRead self.old.seen self.new.seen result KeepError.Fault }
+
+        ensures answers { Answers self.old self.new result }
+        ensures filed { MatchesFile S.Store self.old → MatchesFile S.Store self.new }
+    {
+        if let Some(error) = self.refusal {
+            self.ledger.refuse_read(error);
+            return Err(error);
+        }
+        match self.ledger.count_marked(tab, end, word) {
+            Ok(count) => Ok(count),
             Err(error) => Err(error),
         }
     }

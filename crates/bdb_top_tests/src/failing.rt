@@ -6,7 +6,7 @@ ghost use Rattle.bdb_keep.specs.Calls.{IsUndo};
 use crate::tests::{SETUP, ran, sink};
 use bdb_base::List;
 use bdb_io::MemSink;
-use bdb_keep::{KeepError, Keeper, MemKeeper, Span};
+use bdb_keep::{KeepError, Keeper, KeyEnd, MemKeeper, Span};
 use std::alloc::Global;
 use std::test::Fail;
 
@@ -129,6 +129,22 @@ impl Keeper for FailingKeeper {
             return Err(KeepError::Fault);
         }
         Ok(())
+    }
+
+    fn count_marked(&mut self, tab: u8, end: KeyEnd, word: u32) -> Result<usize, KeepError> {
+        let count = match self.inner.count_marked(tab, end, word) {
+            Ok(count) => count,
+            Err(error) => return Err(error),
+        };
+        let fails = match end {
+            KeyEnd::First => self.fails_at(tab, &word.to_be_bytes()),
+            KeyEnd::Last => self.fails_at(tab, &[]),
+        };
+        if fails {
+            self.fail();
+            return Err(KeepError::Fault);
+        }
+        Ok(count)
     }
 
     fn put(&mut self, tab: u8, key: &[u8], row: &[u8]) -> Result<(), KeepError> {

@@ -15,7 +15,7 @@ returns-then-not-has_blocks c = (
       let t = rows_of c.args.others.now in
       let all : AreAmong t (joined c.deref-shelf-items.result.now) =
       subst (λ bs. AreAmong t (joined bs)) (sym c.deref-shelf-items.ensures.value)
-      (among-from-lie t (joined c.self.inside.shelves.items) c.self.invariant.ascends (subst (λ es. LieWithin (rows_of es) t) (sym c.self.view_is) lie)) in
+      (among-from-lie t (joined c.self.inside.shelves.items) c.self.invariant.sorted.ascends (subst (λ es. LieWithin (rows_of es) t) (sym c.self.view_is) lie)) in
       c.if-not-has_blocks.ensures.1 (subst (AreAmong t) (sym (c.blocks-in-loop-shelf.ensures ∙ c.shelf-item.is)) (among-block t c.deref-shelf-items.result.now c.loop-shelf.shelf-index c.shelf-item.result all c.loop-shelf-test.true)),
 )
 

@@ -1,8 +1,17 @@
-use Rattle.std.proofs.Common.{None, subst}
-use Rattle.bdb_keep.specs.Entries.{IsSetAt}
+use Rattle.std.proofs.Common.{None, refl, sym, ap, ◌∙◌, subst}
+use Rattle.std.specs.FinMap as map
+use Rattle.bdb_keep.specs.Entries.{rows_of, IsSetAt}
 use Rattle.bdb_keep.specs.Blocks.{joined}
-use Rattle.bdb_keep.proofs.RowsLemmas.{rows_of-updates}
+use Rattle.bdb_keep.proofs.RowsLemmas.{get_rows_of, rows_of-updates}
+use Rattle.bdb_keep.proofs.TallySteps.{noted}
 use Rattle.bdb_keep.proofs.rows.Rows.remove.Goals as goal
+
+pub invariant_of-self : goal.invariant_of-self
+invariant_of-self c =
+    let q = c.args.probe.now in
+    noted c.self.inside.tally c.note.new.self c.self.inside.shelves.items c.remove-mark.new.shelves.items q (map.get (rows_of c.args.self.now) q) None _ _
+    c.note.ensures c.self.invariant c.remove-mark.ensures.sorted c.remove-mark.ensures.set
+    (sym (get_rows_of (joined c.self.inside.shelves.items) q) ∙ ap (λ es. map.get (rows_of es) q) c.self.view_is) c.has_marked-was.ensures refl
 
 pub returns-clause-rows : goal.returns-clause-rows
 returns-clause-rows c =
