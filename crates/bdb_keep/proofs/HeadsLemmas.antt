@@ -130,26 +130,11 @@ abbrev pub plus : ℕ → ℕ → ℕ
 plus zero n = n
 plus (suc m) n = suc (plus m n)
 
-padded_more : (m n : ℕ) (key : List ℕ) → padded (plus m n) key ≡ padded m key ++ padded n (drop m key)
-padded_more zero n [] = refl
-padded_more zero n (b ∷ key) = refl
-padded_more (suc m) n [] = ap (λ l. 0 ∷ l) (padded_more m n [] ∙ ap (λ l. padded m [] ++ padded n l) (drop_none m))
-  where
-    drop_none : (m : ℕ) → drop {A = ℕ} m [] ≡ []
-    drop_none zero = refl
-    drop_none (suc m) = refl
-padded_more (suc m) n (b ∷ key) = ap (λ l. b ∷ l) (padded_more m n key)
-
 -- the head of a key by its four words
-pub head_of_words : (key : List ℕ) (h : Head) → h.count ≡ length (take 32 key) → padded 8 key ≡ to_be_bytes w64 h.first → padded 8 (drop 8 key) ≡ to_be_bytes w64 h.second → padded 8 (drop 16 key) ≡ to_be_bytes w64 h.third → padded 8 (drop 24 key) ≡ to_be_bytes w64 h.fourth
+pub head_of_words : (key : List ℕ) (h : Head) → h.count ≡ length (take 32 key) → padded 32 key ≡ to_be_bytes w64 h.first ++ (to_be_bytes w64 h.second ++ (to_be_bytes w64 h.third ++ to_be_bytes w64 h.fourth))
     → h.first < 2 ^ 64 → h.second < 2 ^ 64 → h.third < 2 ^ 64 → h.fourth < 2 ^ 64 → IsHeadOf key h (drop 32 key)
-head_of_words key h n a b c d i j k l = record {
-  bytes = padded_more 8 24 key ∙ ap (λ m. m ++ padded 24 (drop 8 key)) a
-      ∙ ap (λ m. to_be_bytes w64 h.first ++ m)
-      (padded_more 8 16 (drop 8 key) ∙ ap (λ m. m ++ padded 16 (drop 8 (drop 8 key))) b
-      ∙ ap (λ m. to_be_bytes w64 h.second ++ m)
-      (ap (padded 16) (drop-drop 8 8 key) ∙ padded_more 8 8 (drop 16 key) ∙ ap (λ m. m ++ padded 8 (drop 8 (drop 16 key))) c
-      ∙ ap (λ m. to_be_bytes w64 h.third ++ m) (ap (padded 8) (drop-drop 8 16 key) ∙ d ∙ sym (append-nil (to_be_bytes w64 h.fourth)))));
+head_of_words key h n b i j k l = record {
+  bytes = b ∙ ap (λ m. to_be_bytes w64 h.first ++ (to_be_bytes w64 h.second ++ (to_be_bytes w64 h.third ++ m))) (sym (append-nil (to_be_bytes w64 h.fourth)));
   count = n;
   behind = refl;
   first_fits = i;

@@ -7,6 +7,7 @@ pub mod HeadsLemmas
 pub mod ManyLemmas
 pub mod Numbers
 pub mod OpeningLemmas
+pub mod PlaceLemmas
 pub mod RowsLemmas
 pub mod Scans
 pub mod ShelvesLemmas

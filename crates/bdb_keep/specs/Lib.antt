@@ -6,6 +6,7 @@ pub mod Entries
 pub mod Heads
 pub mod Held
 pub mod Openings
+pub mod Places
 pub mod RowBytes
 pub mod Scans
 pub mod Seen
