@@ -1,5 +1,5 @@
 -- Lemmas on places as numbers.
-use Rattle.std.proofs.Common.{◌≡◌, ℕ, Option, zero, suc, ◌<◌, ◌^◌, List, [], ◌∷◌, ◌++◌, length, take, drop, get_or, Ordering, Less, Equal, Greater, true, refl, sym, ap, ◌∙◌, subst, arith, append-nil, append_assoc, drop-drop, take_all, length-take-le, inl, inr}
+use Rattle.std.proofs.Common.{◌≡◌, ℕ, Option, zero, suc, ◌<◌, ◌^◌, List, [], ◌∷◌, ◌++◌, length, take, drop, Ordering, Less, Equal, Greater, true, refl, sym, ap, ◌∙◌, subst, arith, append-nil, append_assoc, take_all, length-take-le, inl, inr}
 use Rattle.std.specs.Ordering.{nat_cmp, ordering_then, ordering_reverse, is_le}
 use Rattle.std.specs.Int.{w64, to_be_bytes}
 use Rattle.std.proofs.lemmas.Cmp.{nat_list_cmp_total, tied_itself}
@@ -142,22 +142,6 @@ head_of_words key h n b i j k l = record {
   third_fits = k;
   fourth_fits = l;
 }
-
--- the word of a key with eight bytes, and of one with fewer
-pub word_of_eight : (key rest : List ℕ) (n : ℕ) → key ≡ to_be_bytes w64 n ++ rest → padded 8 key ≡ to_be_bytes w64 n
-word_of_eight key rest n e = ap (padded 8) e
-
-pub word_of_fewer : (key : List ℕ) → length key < 8
-    → padded 8 key ≡ get_or key 0 0 ∷ (get_or key 1 0 ∷ (get_or key 2 0 ∷ (get_or key 3 0 ∷ (get_or key 4 0 ∷ (get_or key 5 0 ∷ (get_or key 6 0 ∷ (0 ∷ [])))))))
-word_of_fewer [] h = refl
-word_of_fewer (a ∷ []) h = refl
-word_of_fewer (a ∷ (b ∷ [])) h = refl
-word_of_fewer (a ∷ (b ∷ (c ∷ []))) h = refl
-word_of_fewer (a ∷ (b ∷ (c ∷ (d ∷ [])))) h = refl
-word_of_fewer (a ∷ (b ∷ (c ∷ (d ∷ (e ∷ []))))) h = refl
-word_of_fewer (a ∷ (b ∷ (c ∷ (d ∷ (e ∷ (f ∷ [])))))) h = refl
-word_of_fewer (a ∷ (b ∷ (c ∷ (d ∷ (e ∷ (f ∷ (g ∷ []))))))) h = refl
-word_of_fewer (a ∷ (b ∷ (c ∷ (d ∷ (e ∷ (f ∷ (g ∷ (i ∷ key)))))))) h = absurd (omega arith)
 
 -- numbers that differ decide, and those that don't leave it to what follows
 pub apart : (m n : ℕ) (r x : Ordering) → (m ≡ n → ⊥) → r ≡ nat_cmp m n → r ≡ ordering_then (nat_cmp m n) x
