@@ -1,5 +1,5 @@
 -- Lemmas on places as numbers.
-use Rattle.std.proofs.Common.{◌≡◌, ℕ, Option, zero, suc, ◌<◌, ◌^◌, List, [], ◌∷◌, ◌++◌, length, take, drop, get_or, Ordering, Less, Equal, Greater, true, refl, sym, ap, ◌∙◌, subst, arith, append-nil, append_assoc, drop-drop, take_all, length-take-le, inl, inr}
+use Rattle.std.proofs.Common.{◌≡◌, ℕ, Option, zero, suc, ◌<◌, ◌^◌, List, [], ◌∷◌, ◌++◌, length, take, drop, Ordering, Less, Equal, Greater, true, refl, sym, ap, ◌∙◌, subst, arith, append-nil, append_assoc, take_all, length-take-le, inl, inr}
 use Rattle.std.specs.Ordering.{nat_cmp, ordering_then, ordering_reverse, is_le}
 use Rattle.std.specs.Int.{w64, to_be_bytes}
 use Rattle.std.proofs.lemmas.Cmp.{nat_list_cmp_total, tied_itself}
@@ -130,26 +130,11 @@ abbrev pub plus : ℕ → ℕ → ℕ
 plus zero n = n
 plus (suc m) n = suc (plus m n)
 
-padded_more : (m n : ℕ) (key : List ℕ) → padded (plus m n) key ≡ padded m key ++ padded n (drop m key)
-padded_more zero n [] = refl
-padded_more zero n (b ∷ key) = refl
-padded_more (suc m) n [] = ap (λ l. 0 ∷ l) (padded_more m n [] ∙ ap (λ l. padded m [] ++ padded n l) (drop_none m))
-  where
-    drop_none : (m : ℕ) → drop {A = ℕ} m [] ≡ []
-    drop_none zero = refl
-    drop_none (suc m) = refl
-padded_more (suc m) n (b ∷ key) = ap (λ l. b ∷ l) (padded_more m n key)
-
 -- the head of a key by its four words
-pub head_of_words : (key : List ℕ) (h : Head) → h.count ≡ length (take 32 key) → padded 8 key ≡ to_be_bytes w64 h.first → padded 8 (drop 8 key) ≡ to_be_bytes w64 h.second → padded 8 (drop 16 key) ≡ to_be_bytes w64 h.third → padded 8 (drop 24 key) ≡ to_be_bytes w64 h.fourth
+pub head_of_words : (key : List ℕ) (h : Head) → h.count ≡ length (take 32 key) → padded 32 key ≡ to_be_bytes w64 h.first ++ (to_be_bytes w64 h.second ++ (to_be_bytes w64 h.third ++ to_be_bytes w64 h.fourth))
     → h.first < 2 ^ 64 → h.second < 2 ^ 64 → h.third < 2 ^ 64 → h.fourth < 2 ^ 64 → IsHeadOf key h (drop 32 key)
-head_of_words key h n a b c d i j k l = record {
-  bytes = padded_more 8 24 key ∙ ap (λ m. m ++ padded 24 (drop 8 key)) a
-      ∙ ap (λ m. to_be_bytes w64 h.first ++ m)
-      (padded_more 8 16 (drop 8 key) ∙ ap (λ m. m ++ padded 16 (drop 8 (drop 8 key))) b
-      ∙ ap (λ m. to_be_bytes w64 h.second ++ m)
-      (ap (padded 16) (drop-drop 8 8 key) ∙ padded_more 8 8 (drop 16 key) ∙ ap (λ m. m ++ padded 8 (drop 8 (drop 16 key))) c
-      ∙ ap (λ m. to_be_bytes w64 h.third ++ m) (ap (padded 8) (drop-drop 8 16 key) ∙ d ∙ sym (append-nil (to_be_bytes w64 h.fourth)))));
+head_of_words key h n b i j k l = record {
+  bytes = b ∙ ap (λ m. to_be_bytes w64 h.first ++ (to_be_bytes w64 h.second ++ (to_be_bytes w64 h.third ++ m))) (sym (append-nil (to_be_bytes w64 h.fourth)));
   count = n;
   behind = refl;
   first_fits = i;
@@ -157,22 +142,6 @@ head_of_words key h n a b c d i j k l = record {
   third_fits = k;
   fourth_fits = l;
 }
-
--- the word of a key with eight bytes, and of one with fewer
-pub word_of_eight : (key rest : List ℕ) (n : ℕ) → key ≡ to_be_bytes w64 n ++ rest → padded 8 key ≡ to_be_bytes w64 n
-word_of_eight key rest n e = ap (padded 8) e
-
-pub word_of_fewer : (key : List ℕ) → length key < 8
-    → padded 8 key ≡ get_or key 0 0 ∷ (get_or key 1 0 ∷ (get_or key 2 0 ∷ (get_or key 3 0 ∷ (get_or key 4 0 ∷ (get_or key 5 0 ∷ (get_or key 6 0 ∷ (0 ∷ [])))))))
-word_of_fewer [] h = refl
-word_of_fewer (a ∷ []) h = refl
-word_of_fewer (a ∷ (b ∷ [])) h = refl
-word_of_fewer (a ∷ (b ∷ (c ∷ []))) h = refl
-word_of_fewer (a ∷ (b ∷ (c ∷ (d ∷ [])))) h = refl
-word_of_fewer (a ∷ (b ∷ (c ∷ (d ∷ (e ∷ []))))) h = refl
-word_of_fewer (a ∷ (b ∷ (c ∷ (d ∷ (e ∷ (f ∷ [])))))) h = refl
-word_of_fewer (a ∷ (b ∷ (c ∷ (d ∷ (e ∷ (f ∷ (g ∷ []))))))) h = refl
-word_of_fewer (a ∷ (b ∷ (c ∷ (d ∷ (e ∷ (f ∷ (g ∷ (i ∷ key)))))))) h = absurd (omega arith)
 
 -- numbers that differ decide, and those that don't leave it to what follows
 pub apart : (m n : ℕ) (r x : Ordering) → (m ≡ n → ⊥) → r ≡ nat_cmp m n → r ≡ ordering_then (nat_cmp m n) x

@@ -9,6 +9,7 @@ pub mod MarkedLemmas
 pub mod NumberLemmas
 pub mod Numbers
 pub mod OpeningLemmas
+pub mod PlaceLemmas
 pub mod RowsLemmas
 pub mod Scans
 pub mod ShelvesLemmas

@@ -7,6 +7,7 @@ pub mod Heads
 pub mod Held
 pub mod Marked
 pub mod Openings
+pub mod Places
 pub mod RowBytes
 pub mod Scans
 pub mod Seen

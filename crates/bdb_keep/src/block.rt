@@ -131,6 +131,11 @@ impl Block {
             (self.new ≡ take index self.old ++ entry ∷ drop index self.old) }
         ensures err { OnErr result (self.new ≡ self.old) }
     {
+        // Behind all others it moves none.
+        if index > 0 && index == self.entries.len() {
+            self.entries.push(entry)?;
+            return Ok(());
+        }
         let head = entry.head();
         match self.entries.insert(index, entry) {
             Ok(()) => {

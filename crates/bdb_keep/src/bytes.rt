@@ -1,5 +1,5 @@
 // Bytes as numbers of eight bytes each, the highest first.
-ghost use Rattle.std.specs.Prelude.{◌≡◌, ◌++◌, ◌-◌, ◌<◌, ◌≤◌, ◌^◌, IfSome, length, drop, slice_index_or};
+ghost use Rattle.std.specs.Prelude.{◌≡◌, ◌++◌, ◌-◌, ◌<◌, ◌≤◌, ◌^◌, IfSome, IfNone, length, drop, slice_index_or};
 ghost use Rattle.std.specs.Int.{w64, to_be_bytes};
 ghost use Rattle.bdb_base.specs.Segments.{is_prefix};
 ghost use Rattle.bdb_keep.specs.Tables.{bytes_cmp};
@@ -59,6 +59,7 @@ pub fn begins_with(bytes: &[u8], prefix: &[u8]) -> bool
 fn word_of(bytes: &[u8]) -> Option<(u64, &[u8])>
     ensures front { IfSome result (λ x. bytes.now ≡ to_be_bytes w64 x.0 ++ x.1.now) }
     ensures small { IfSome result (λ x. x.0 < 2 ^ 64) }
+    ensures none { IfNone result (length bytes.now < 8) }
 {
     if bytes.len() < 8 {
         return None;
@@ -75,6 +76,57 @@ pub fn padded_word(bytes: &[u8]) -> u64
     match word_of(bytes) {
         Some((number, _)) => number,
         None => short_word(bytes),
+    }
+}
+
+/// The numbers of the first sixteen bytes, eight each, with zeros behind fewer.
+#[inline(always)]
+fn two_words(bytes: &[u8]) -> (u64, u64)
+    ensures bytes { padded 16 bytes.now ≡ to_be_bytes w64 result.0 ++ to_be_bytes w64 result.1 }
+    ensures first { result.0 < 2 ^ 64 }
+    ensures second { result.1 < 2 ^ 64 }
+{
+    match word_of(bytes) {
+        Some((first, rest)) => (first, padded_word(rest)),
+        None => (short_word(bytes), 0),
+    }
+}
+
+/// Those of the first 24 bytes.
+#[inline(always)]
+fn three_words(bytes: &[u8]) -> (u64, u64, u64)
+    ensures bytes { padded 24 bytes.now
+        ≡ to_be_bytes w64 result.0 ++ to_be_bytes w64 result.1 ++ to_be_bytes w64 result.2 }
+    ensures first { result.0 < 2 ^ 64 }
+    ensures second { result.1 < 2 ^ 64 }
+    ensures third { result.2 < 2 ^ 64 }
+{
+    match word_of(bytes) {
+        Some((first, rest)) => {
+            let (second, third) = two_words(rest);
+            (first, second, third)
+        }
+        None => (short_word(bytes), 0, 0),
+    }
+}
+
+/// Those of the first 32 bytes.
+#[inline(always)]
+pub fn four_words(bytes: &[u8]) -> (u64, u64, u64, u64)
+    ensures bytes { padded 32 bytes.now
+        ≡ to_be_bytes w64 result.0 ++ to_be_bytes w64 result.1 ++ to_be_bytes w64 result.2
+        ++ to_be_bytes w64 result.3 }
+    ensures first { result.0 < 2 ^ 64 }
+    ensures second { result.1 < 2 ^ 64 }
+    ensures third { result.2 < 2 ^ 64 }
+    ensures fourth { result.3 < 2 ^ 64 }
+{
+    match word_of(bytes) {
+        Some((first, rest)) => {
+            let (second, third, fourth) = three_words(rest);
+            (first, second, third, fourth)
+        }
+        None => (short_word(bytes), 0, 0, 0),
     }
 }
 

@@ -21,17 +21,17 @@ pub struct Change {
 /// Puts what stands at a place, and answers what stood there. The answer is the new row where there is no such place.
 pub fn swap_row(
     rows: &mut Rows,
-    place: &Place,
+    probe: &Probe<'_>,
     row: Option<Row>,
 ) -> Result<Option<Row>, Option<Row>>
-    ensures found { IfOk result (λ before. place_at rows.old place.now ≡ Some before) }
-    ensures rows { OnOk result (rows_of rows.new ≡ set_at (rows_of rows.old) place.now row) }
+    ensures found { IfOk result (λ before. place_at rows.old probe.now ≡ Some before) }
+    ensures rows { OnOk result (rows_of rows.new ≡ set_at (rows_of rows.old) probe.now row) }
     ensures keeps { KeepsPlaces rows.old rows.new }
-    ensures absent { OnErr result (place_at rows.old place.now ≡ None) }
+    ensures absent { OnErr result (place_at rows.old probe.now ≡ None) }
     ensures back { IfErr result (λ back. back ≡ row) }
     ensures same { OnErr result (rows.new ≡ rows.old) }
 {
-    match rows.swap(&place.probe(), row) {
+    match rows.swap(probe, row) {
         Ok(before) => Ok(before),
         Err(row) => Err(row),
     }
@@ -54,14 +54,14 @@ pub fn insert_row(rows: &mut Rows, probe: &Probe<'_>, row: &[u8]) -> Result<Opti
 }
 
 /// Empties a place, and answers the row that stood there.
-pub fn empty_place(rows: &mut Rows, place: &Place) -> Option<Row>
-    ensures row { result ≡ map.get (rows_of rows.old) place.now }
-    ensures rows { rows_of rows.new ≡ map.remove (rows_of rows.old) place.now }
-    ensures here { OnSome result (IsSome (place_at rows.new place.now)) }
+pub fn empty_place(rows: &mut Rows, probe: &Probe<'_>) -> Option<Row>
+    ensures row { result ≡ map.get (rows_of rows.old) probe.now }
+    ensures rows { rows_of rows.new ≡ map.remove (rows_of rows.old) probe.now }
+    ensures here { OnSome result (IsSome (place_at rows.new probe.now)) }
     ensures keeps { KeepsPlaces rows.old rows.new }
     ensures same { IfNone result (rows_of rows.new ≡ rows_of rows.old) }
 {
-    match swap_row(rows, place, None) {
+    match swap_row(rows, probe, None) {
         Ok(before) => before,
         Err(_) => None,
     }
@@ -87,8 +87,41 @@ pub fn put_row(
     ensures has { HavePlaces changes.new.items rows.new }
     ensures err { OnErr result ((rows.new ≡ rows.old) × (changes.new.items ≡ changes.old.items)) }
 {
+    let probe = Probe::of(tab, key);
+    if probe.is_long() {
+        return put_far(alloc, rows, changes, tab, key, row);
+    }
     changes.reserve(1)?;
-    let place = Place::of(alloc, tab, key)?;
+    let before = insert_row(rows, &probe, row)?;
+    changes.push_reserved(Change {
+        place: Place::near(&probe),
+        before,
+    });
+    Ok(())
+}
+
+/// The same where the key has more than 32 bytes, so that its place takes memory.
+fn put_far(
+    alloc: Global,
+    rows: &mut Rows,
+    changes: &mut Vec<Change>,
+    tab: u8,
+    key: &[u8],
+    row: &[u8],
+) -> Result<(), AllocError>
+    requires place { IsPlace (tab ∷ key.now) }
+    requires has { HavePlaces changes.old.items rows.old }
+    ensures rows { OnOk result (rows_of rows.new ≡ map.insert (rows_of rows.old) (tab ∷ key.now)
+        row.now) }
+    ensures last { undone changes.new.items (rows_of rows.new) ≡ undone changes.old.items
+        (rows_of rows.old) }
+    ensures places { OnOk result
+        (places_of changes.new.items ≡ places_of changes.old.items ++ (tab ∷ key.now) ∷ []) }
+    ensures has { HavePlaces changes.new.items rows.new }
+    ensures err { OnErr result ((rows.new ≡ rows.old) × (changes.new.items ≡ changes.old.items)) }
+{
+    changes.reserve(1)?;
+    let place = Place::far(alloc, tab, key)?;
     let probe = Probe::of(tab, key);
     let before = insert_row(rows, &probe, row)?;
     changes.push_reserved(Change { place, before });
@@ -116,7 +149,7 @@ pub fn take_row(
     ensures err { OnErr result ((rows.new ≡ rows.old) × (changes.new.items ≡ changes.old.items)) }
 {
     changes.reserve(1)?;
-    match empty_place(rows, &place) {
+    match empty_place(rows, &place.probe()) {
         Some(row) => {
             changes.push_reserved(Change {
                 place,
@@ -156,5 +189,5 @@ pub fn put_back(rows: &mut Rows, change: &mut Change)
     ensures keeps { KeepsPlaces rows.old rows.new }
 {
     let before = change.before.take();
-    let _ = swap_row(rows, &change.place, before);
+    let _ = swap_row(rows, &change.place.probe(), before);
 }

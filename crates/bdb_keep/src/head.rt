@@ -1,9 +1,9 @@
 // The table and the first bytes of a place, as numbers.
-ghost use Rattle.std.specs.Prelude.{◌≡◌, ◌≤◌, ◌++◌, OnOk, OnErr, drop, take};
+ghost use Rattle.std.specs.Prelude.{◌≡◌, ◌≤◌, ◌++◌, [], OnOk, OnErr, drop, take};
 ghost use Rattle.std.specs.Int.{w64, to_be_bytes};
-ghost use Rattle.bdb_keep.specs.Heads.{IsHeadOf, bytes_of, heads_cmp, numbers_cmp};
+ghost use Rattle.bdb_keep.specs.Heads.{IsHeadOf, bytes_of, heads_cmp, numbers_cmp, padded};
 
-use crate::bytes::{from_index, padded_word};
+use crate::bytes::four_words;
 use std::alloc::AllocError;
 use std::cmp::Ordering;
 
@@ -27,13 +27,33 @@ impl Head {
         ensures tab { result.tab ≡ tab }
         ensures head { IsHeadOf key.now result (drop 32 key.now) }
     {
+        let (first, second, third, fourth) = four_words(key);
         Head {
             tab,
             count: key.len().min(32) as u8,
-            first: padded_word(key),
-            second: padded_word(from_index(key, 8)),
-            third: padded_word(from_index(key, 16)),
-            fourth: padded_word(from_index(key, 24)),
+            first,
+            second,
+            third,
+            fourth,
+        }
+    }
+
+    /// The head of the place of a key of so many of these bytes, behind which there are zeros.
+    #[inline(always)]
+    pub fn of_padded(tab: u8, count: u8, bytes: &[u8]) -> Self
+        requires count { count ≤ 32 }
+        requires zeros { padded 32 (take count bytes.now) ≡ bytes.now }
+        ensures tab { result.tab ≡ tab }
+        ensures head { IsHeadOf (take count bytes.now) result [] }
+    {
+        let (first, second, third, fourth) = four_words(bytes);
+        Head {
+            tab,
+            count,
+            first,
+            second,
+            third,
+            fourth,
         }
     }
 

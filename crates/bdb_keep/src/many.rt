@@ -6,7 +6,7 @@ ghost use Rattle.bdb_keep.specs.Changes.{undone, HavePlaces};
 ghost use Rattle.bdb_keep.specs.Spans.{with_rows, without_rows};
 ghost use Rattle.bdb_keep.specs.Tables.{IsPlace};
 
-use crate::changes::{Change, empty_place, put_row};
+use crate::changes::{Change, empty_place, put_row, take_row};
 use crate::place::Place;
 use crate::row::Row;
 use crate::rows::Rows;
@@ -57,8 +57,7 @@ pub fn take_rows(
     changes.reserve(span.len())?;
     for index in 0..span.len() {
         let (key, _) = span.entry(index);
-        let place = Place::of(alloc, tab, key)?;
-        take_next(rows, changes, place)?;
+        take_next(alloc, rows, changes, tab, key)?;
     }
     Ok(())
 }
@@ -81,17 +80,17 @@ fn put_next(
         (rows_of rows.old) }
     ensures has { HavePlaces changes.new.items rows.new }
 {
-    if put_behind(alloc, rows, changes, tab, key, row)? {
+    if put_behind(rows, changes, tab, key, row)? {
         return Ok(());
     }
     put_row(alloc, rows, changes, tab, key, row)?;
     Ok(())
 }
 
-/// Puts a row right behind the one that was put before it. The answer is false, and no row changes, where it may belong elsewhere.
+/// Puts a row right behind the one that was put before it. The answer is false, and no row changes, where it may belong elsewhere, or
+/// its place would take memory.
 #[inline(always)]
 fn put_behind(
-    alloc: Global,
     rows: &mut Rows,
     changes: &mut Vec<Change>,
     tab: u8,
@@ -107,12 +106,17 @@ fn put_behind(
         (rows_of rows.old) }
     ensures has { HavePlaces changes.new.items rows.new }
 {
-    changes.reserve(1)?;
-    let place = Place::of(alloc, tab, key)?;
     let probe = Probe::of(tab, key);
+    if probe.is_long() {
+        return Ok(false);
+    }
+    changes.reserve(1)?;
     match rows.put_behind(&probe, row) {
         Some(before) => {
-            changes.push_reserved(Change { place, before });
+            changes.push_reserved(Change {
+                place: Place::near(&probe),
+                before,
+            });
             Ok(true)
         }
         None => Ok(false),
@@ -121,19 +125,29 @@ fn put_behind(
 
 /// Takes a row away, mostly the one right behind the one that was taken before it.
 #[inline(always)]
-fn take_next(rows: &mut Rows, changes: &mut Vec<Change>, place: Place) -> Result<(), AllocError>
-    requires place { IsPlace place }
+fn take_next(
+    alloc: Global,
+    rows: &mut Rows,
+    changes: &mut Vec<Change>,
+    tab: u8,
+    key: &[u8],
+) -> Result<(), AllocError>
+    requires place { IsPlace (tab ∷ key.now) }
     requires has { HavePlaces changes.old.items rows.old }
-    ensures rows { OnOk result (rows_of rows.new ≡ map.remove (rows_of rows.old) place) }
+    ensures rows { OnOk result (rows_of rows.new ≡ map.remove (rows_of rows.old) (tab ∷ key.now)) }
     ensures last { undone changes.new.items (rows_of rows.new) ≡ undone changes.old.items
         (rows_of rows.old) }
     ensures has { HavePlaces changes.new.items rows.new }
 {
+    let probe = Probe::of(tab, key);
+    if probe.is_long() {
+        return take_far(alloc, rows, changes, tab, key);
+    }
     changes.reserve(1)?;
-    match empty_next(rows, &place) {
+    match empty_next(rows, &probe) {
         Some(row) => {
             changes.push_reserved(Change {
-                place,
+                place: Place::near(&probe),
                 before: Some(row),
             });
             Ok(())
@@ -142,19 +156,39 @@ fn take_next(rows: &mut Rows, changes: &mut Vec<Change>, place: Place) -> Result
     }
 }
 
+/// The same where the key has more than 32 bytes, so that its place takes memory.
+fn take_far(
+    alloc: Global,
+    rows: &mut Rows,
+    changes: &mut Vec<Change>,
+    tab: u8,
+    key: &[u8],
+) -> Result<(), AllocError>
+    requires place { IsPlace (tab ∷ key.now) }
+    requires has { HavePlaces changes.old.items rows.old }
+    ensures rows { OnOk result (rows_of rows.new ≡ map.remove (rows_of rows.old) (tab ∷ key.now)) }
+    ensures last { undone changes.new.items (rows_of rows.new) ≡ undone changes.old.items
+        (rows_of rows.old) }
+    ensures has { HavePlaces changes.new.items rows.new }
+{
+    let place = Place::far(alloc, tab, key)?;
+    take_row(rows, changes, place)?;
+    Ok(())
+}
+
 /// Empties a place, and answers the row that stood there. It looks first behind the one that was written last.
 #[inline(always)]
-fn empty_next(rows: &mut Rows, place: &Place) -> Option<Row>
-    ensures row { result ≡ map.get (rows_of rows.old) place.now }
-    ensures rows { rows_of rows.new ≡ map.remove (rows_of rows.old) place.now }
-    ensures here { OnSome result (IsSome (place_at rows.new place.now)) }
+fn empty_next(rows: &mut Rows, probe: &Probe<'_>) -> Option<Row>
+    ensures row { result ≡ map.get (rows_of rows.old) probe.now }
+    ensures rows { rows_of rows.new ≡ map.remove (rows_of rows.old) probe.now }
+    ensures here { OnSome result (IsSome (place_at rows.new probe.now)) }
     ensures keeps { KeepsPlaces rows.old rows.new }
     ensures same { IfNone result (rows_of rows.new ≡ rows_of rows.old) }
 {
-    match rows.empty_behind(&place.probe()) {
+    match rows.empty_behind(probe) {
         Some(before) => return before,
         None => {}
     }
-    let row = empty_place(rows, place);
+    let row = empty_place(rows, probe);
     row
 }

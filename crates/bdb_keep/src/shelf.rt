@@ -41,10 +41,8 @@ impl Shelf {
     pub fn of(alloc: Global, probe: &Probe<'_>, row: &[u8]) -> Result<Self, AllocError>
         ensures { IfOk result (λ shelf. shelf ≡ (probe.now, Some row.now) ∷ []) }
     {
-        let entry = Entry::of(alloc, probe, row)?;
-        let block = Block::of(alloc, entry)?;
         let mut blocks = Vec::new(alloc);
-        blocks.push(block)?;
+        add(alloc, &mut blocks, (0, 0), false, probe, row)?;
         Ok(Shelf { blocks })
     }
 

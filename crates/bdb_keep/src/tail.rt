@@ -242,6 +242,7 @@ pub fn swap_row(tail: &mut Tail, row: Option<Row>) -> Option<Row>
 }
 
 /// Copies of the bytes of a key behind its numbers, and of a row.
+#[inline(never)]
 fn more_of(alloc: Global, rest: &[u8], row: &[u8]) -> Result<Box<More>, AllocError>
     ensures rest { IfOk result (λ more. more.value.rest.items ≡ rest.now) }
     ensures row { IfOk result (λ more. more.value.row ≡ Some row.now) }

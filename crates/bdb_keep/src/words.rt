@@ -1,5 +1,5 @@
 // Places as numbers.
-ghost use Rattle.std.specs.Prelude.{◌≡◌, ◌∷◌, ℕ, List};
+ghost use Rattle.std.specs.Prelude.{◌≡◌, ◌≤◌, ◌∷◌, ℕ, List, false, length};
 ghost use Rattle.std.specs.declared.cmp.Ordering.TheVariants.{Equal};
 ghost use Rattle.bdb_keep.specs.Tables.{bytes_cmp};
 ghost use Rattle.bdb_keep.specs.Heads.{IsHeadOf, IsHeadOfPlace, key_of};
@@ -54,6 +54,14 @@ impl<'a> Probe<'a> {
         ensures head { IsHeadOf (key_of result.0 result.1.now) result.0 result.1.now }
     {
         (self.head, self.rest)
+    }
+
+    /// Whether the key has more bytes than those of the head.
+    #[inline(always)]
+    pub fn is_long(&self) -> bool
+        ensures { result ≡ false → length self.now ≤ 33 }
+    {
+        !self.rest.is_empty()
     }
 
     /// The number of the table.

@@ -3,16 +3,16 @@ use Rattle.bdb_keep.proofs.RowsLemmas.{row_of-place, rows_of-absent, rows_of-emp
 use Rattle.bdb_keep.proofs.changes.empty_place.Goals as goal
 
 pub returns-in-Ok-clause-row : goal.returns-in-Ok-clause-row
-returns-in-Ok-clause-row c = row_of-place c.args.rows.now c.args.place.now (Some c.in-Ok.before) c.in-Ok.ensures.found
+returns-in-Ok-clause-row c = row_of-place c.args.rows.now c.args.probe.now (Some c.in-Ok.before) c.in-Ok.ensures.found
 
 pub returns-in-Ok-clause-here : goal.returns-in-Ok-clause-here
-returns-in-Ok-clause-here c = place-stays c.args.rows.now _ c.args.place.now c.in-Ok.before c.in-Ok.ensures.found c.swap_row.ensures.keeps
+returns-in-Ok-clause-here c = place-stays c.args.rows.now _ c.args.probe.now c.in-Ok.before c.in-Ok.ensures.found c.swap_row.ensures.keeps
 
 pub returns-in-Ok-clause-same : goal.returns-in-Ok-clause-same
-returns-in-Ok-clause-same c = rows_of-empty c.args.rows.now _ c.args.place.now c.in-Ok.before c.in-Ok.ensures.found c.in-Ok.ensures.rows
+returns-in-Ok-clause-same c = rows_of-empty c.args.rows.now _ c.args.probe.now c.in-Ok.before c.in-Ok.ensures.found c.in-Ok.ensures.rows
 
 pub returns-clause-row : goal.returns-clause-row
-returns-clause-row c = row_of-place c.args.rows.now c.args.place.now None c.in-Err.ensures.absent
+returns-clause-row c = row_of-place c.args.rows.now c.args.probe.now None c.in-Err.ensures.absent
 
 pub returns-clause-rows : goal.returns-clause-rows
-returns-clause-rows c = rows_of-absent c.args.rows.now c.swap_row.new.rows c.args.place.now c.in-Err.ensures.absent c.in-Err.ensures.same
+returns-clause-rows c = rows_of-absent c.args.rows.now c.swap_row.new.rows c.args.probe.now c.in-Err.ensures.absent c.in-Err.ensures.same
