@@ -1,5 +1,5 @@
 -- Rows that are read or written at once: those of a table whose keys begin with some bytes, and those of a list.
-use Rattle.std.specs.Prelude.{◌≡◌, ℕ, ◌≤◌, ◌⊎◌, true, false, cond, List, [], ◌∷◌, ◌++◌, Option, Some, None, IsTrue, drop}
+use Rattle.std.specs.Prelude.{◌≡◌, ℕ, zero, suc, ◌+◌, ◌≤◌, ◌⊎◌, true, false, cond, List, [], ◌∷◌, ◌++◌, Option, Some, None, IsTrue, take, drop}
 use Rattle.std.specs.List.{AllByRecursion, slice_range}
 use Rattle.std.specs.declared.cmp.Ordering.{Ordering}
 use Rattle.std.specs.Ordering.{is_le}
@@ -39,6 +39,21 @@ pub record IsWithin (n : ℕ) (c : Cut) : Type 0 where
   pub key : c.start ≤ c.middle
   pub row : c.middle ≤ c.end
   pub bytes : c.end ≤ n
+
+-- cuts lie one behind the other, from a place on, within so many bytes
+abbrev pub AreCuts : ℕ → ℕ → List Cut → Type 0
+AreCuts at n [] = Unit {0}
+AreCuts at n (c ∷ cs) = (at ≤ c.start) × IsWithin n c × AreCuts c.end n cs
+
+-- bytes with four others in the place of those that begin at an index
+abbrev pub with_four : ℕ → List ℕ → List ℕ → List ℕ
+with_four at four bytes = take at bytes ++ (four ++ drop (at + 4) bytes)
+
+-- rows, of which the one at an index has other bytes in the place of the first four of its key, and another row
+abbrev pub with_ends : List ℕ → List ℕ → Listed → ℕ → Listed
+with_ends front row [] i = []
+with_ends front row (r ∷ rows) zero = (front ++ drop 4 r.0, row) ∷ rows
+with_ends front row (r ∷ rows) (suc i) = r ∷ with_ends front row rows i
 
 -- the row of an entry whose place begins so: the table's number isn't part of the key
 abbrev pub row_under : List ℕ → List ℕ → Option (List ℕ) → Listed

@@ -1,7 +1,7 @@
 // Rows with their keys, which were read at once or are to be written at once.
-ghost use Rattle.std.specs.Prelude.{◌≡◌, ◌<◌, ◌∷◌, ◌++◌, [], OnOk, length, drop, slice_index_or};
+ghost use Rattle.std.specs.Prelude.{◌≡◌, ◌+◌, ◌<◌, ◌≤◌, ◌∷◌, ◌++◌, [], OnOk, length, drop, slice_index_or};
 ghost use Rattle.std.specs.List.{slice_range};
-ghost use Rattle.bdb_keep.specs.Spans.{IsWithin};
+ghost use Rattle.bdb_keep.specs.Spans.{IsWithin, with_ends, with_four};
 
 use crate::entry::Entry;
 use std::alloc::{AllocError, Global};
@@ -51,14 +51,13 @@ pub struct Span {
 
 impl Model for Span {
     ghost use Rattle.std.specs.Prelude.{length};
-    ghost use Rattle.std.specs.List.{AllByRecursion};
-    ghost use Rattle.bdb_keep.specs.Spans.{Listed, listed, IsWithin};
+    ghost use Rattle.bdb_keep.specs.Spans.{AreCuts, Listed, listed};
 
     ghost Value = { Listed };
 
     ghost view = { λ s. listed s.bytes.items s.cuts.items };
 
-    ghost invariant = { λ s. AllByRecursion (IsWithin (length s.bytes.items)) s.cuts.items };
+    ghost invariant = { λ s. AreCuts 0 (length s.bytes.items) s.cuts.items };
 }
 
 impl Span {
@@ -98,15 +97,6 @@ impl Span {
         (cut.key(&self.bytes), cut.row(&self.bytes))
     }
 
-    /// Takes memory for as many rows of as many bytes more as another one has.
-    pub fn reserve_like(&mut self, other: &Span) -> Result<(), AllocError>
-        ensures { self.new ≡ self.old }
-    {
-        self.bytes.reserve(other.bytes.len())?;
-        self.cuts.reserve(other.cuts.len())?;
-        Ok(())
-    }
-
     /// Puts a row behind the others. Where memory is wanting, no clause says which rows there are.
     pub fn push(&mut self, key: &[u8], row: &[u8]) -> Result<(), AllocError>
         ensures { OnOk result (self.new ≡ self.old ++ (key.now, row.now) ∷ []) }
@@ -120,18 +110,17 @@ impl Span {
         Ok(())
     }
 
-    /// Puts a row behind the others whose key is given in two parts. Where memory is wanting, no clause says which rows there are.
-    pub fn push_joined(&mut self, front: &[u8], back: &[u8], row: &[u8]) -> Result<(), AllocError>
-        ensures { OnOk result (self.new ≡ self.old ++ (front.now ++ back.now, row.now) ∷ []) }
+    /// Puts other bytes in the place of the first four of the key at an index, and of its row.
+    #[inline(always)]
+    pub fn replace_ends(&mut self, index: usize, front: &[u8; 4], row: &[u8; 4])
+        requires index { index < length self.old }
+        requires key { 4 ≤ length (slice_index_or self.old index ([], [])).0 }
+        requires row { length (slice_index_or self.old index ([], [])).1 ≡ 4 }
+        ensures { self.new ≡ with_ends front.now row.now self.old index }
     {
-        let start = self.bytes.len();
-        self.bytes.extend_from_slice(front)?;
-        self.bytes.extend_from_slice(back)?;
-        let middle = self.bytes.len();
-        self.bytes.extend_from_slice(row)?;
-        let end = self.bytes.len();
-        self.cuts.push(Cut { start, middle, end })?;
-        Ok(())
+        let Cut { start, middle, .. } = self.cuts[index];
+        put_four(&mut self.bytes, start, front);
+        put_four(&mut self.bytes, middle, row);
     }
 
     /// Takes memory for a few rows where there are none.
@@ -160,4 +149,13 @@ impl Span {
         self.cuts.push(Cut { start, middle, end })?;
         Ok(())
     }
+}
+
+/// Puts four bytes in the place of those that begin at an index.
+#[inline(always)]
+fn put_four(bytes: &mut [u8], at: usize, four: &[u8; 4])
+    requires { at + 4 ≤ length bytes.old }
+    ensures { bytes.new ≡ with_four at four.now bytes.old }
+{
+    bytes[at..at + 4].copy_from_slice(four);
 }

@@ -1,16 +1,16 @@
 -- Rows of a world that are copied to another one, or taken away, all at once.
-use Rattle.std.proofs.Common.{◌≡◌, ◌∙◌, ℕ, ◌+◌, false, List, [], ◌∷◌, ◌++◌, drop, Option, length, map, refl, sym, ap, subst, arith}
+use Rattle.std.proofs.Common.{◌≡◌, ◌∙◌, ℕ, zero, suc, ◌+◌, ◌<◌, ◌≤◌, false, List, [], ◌∷◌, ◌++◌, drop, get_or, Option, length, map, refl, sym, ap, subst, arith}
 use Rattle.std.specs.List.{AllByRecursion}
 use Rattle.std.specs.FinMap as tables
 use Rattle.bdb_base.specs.Causes.{Rises, RoseBy}
-use Rattle.bdb_keep.specs.Spans.{Listed, AreRowsUnder, with_rows, without_rows}
+use Rattle.bdb_keep.specs.Spans.{Listed, AreRowsUnder, with_ends, with_rows, without_rows}
 use Rattle.bdb_keep.specs.Tables.{Tables}
 use Rattle.bdb_key.specs.Bytes.{num_bytes}
 use Rattle.bdb_key.specs.Grammar.{IsNum}
 use Rattle.bdb_key.specs.Reading.{Reads}
 use Rattle.bdb_key.specs.Rows.{IsAnyMark, mark_bytes}
 use Rattle.bdb_tables.specs.Codec.{IsEntryOf}
-use Rattle.bdb_tables.specs.Copies.{AreChanged, AreCopiesOf, IsCopyOf, copied, removed}
+use Rattle.bdb_tables.specs.Copies.{AreChanged, AreCopiesOf, BecomesCopy, IsCopyOf, copied, removed}
 use Rattle.bdb_tables.specs.Grammar.{InGrammar}
 use Rattle.bdb_tables.specs.InUse.{ValKey, val_bytes, val_codec}
 use Rattle.bdb_tables.specs.InUseLaws.{mark_rows_are_one}
@@ -34,6 +34,53 @@ copy_made to key row m c number e reads is =
       fits = record { key = record { world = number; rel = e.key_reads.fits.rel; key = e.key_reads.fits.key; tuple = e.key_reads.fits.tuple }; row = tt };
       copy = is ∙ ap (λ (k : List ℕ). (k, mark_bytes (m.0, false))) spelled ∙ ap (λ (x : Mark). (val_bytes (to, e.key.1, e.key.2, e.key.3), mark_bytes (x.0, false))) same;
     }
+
+-- ---- one more of them
+
+-- the first rows of some are copies of rows, and the others are as they were
+abbrev pub AreCopiesTo : ℕ → ℕ → Listed → Listed → Type 0
+AreCopiesTo to zero rows copies = copies ≡ rows
+AreCopiesTo to (suc i) [] copies = copies ≡ []
+AreCopiesTo to (suc i) (b ∷ rows) [] = ⊥
+AreCopiesTo to (suc i) (b ∷ rows) (c ∷ copies) = IsCopyOf to b c × AreCopiesTo to i rows copies
+
+pub as_many : (to i : ℕ) (rows copies : Listed) → AreCopiesTo to i rows copies → length copies ≡ length rows
+as_many to zero rows copies h = ap length h
+as_many to (suc i) [] copies h = ap length h
+as_many to (suc i) (b ∷ rows) [] h = absurd h
+as_many to (suc i) (b ∷ rows) (c ∷ copies) h = ap suc (as_many to i rows copies h.1)
+
+pub next_stays : (to i : ℕ) (rows copies : Listed) → AreCopiesTo to i rows copies → get_or copies i ([], []) ≡ get_or rows i ([], [])
+next_stays to zero rows copies h = ap (λ (l : Listed). get_or l 0 ([], [])) h
+next_stays to (suc i) [] copies h = ap (λ (l : Listed). get_or l (suc i) ([], [])) h
+next_stays to (suc i) (b ∷ rows) [] h = absurd h
+next_stays to (suc i) (b ∷ rows) (c ∷ copies) h = next_stays to i rows copies h.1
+
+one_more : (to i : ℕ) (front row : List ℕ) (rows copies : Listed) → i < length rows → IsCopyOf to (get_or rows i ([], [])) (front ++ drop 4 (get_or rows i ([], [])).0, row) → AreCopiesTo to i rows copies
+    → AreCopiesTo to (suc i) rows (with_ends front row copies i)
+one_more to i front row [] copies lt is h = absurd (omega arith)
+one_more to zero front row (b ∷ rows) [] lt is h = absurd cc
+one_more to zero front row (b ∷ rows) (c ∷ copies) lt is h =
+    let first : c ≡ b = ap (λ (l : Listed). get_or l 0 ([], [])) h in
+    let others : copies ≡ rows = ap (λ (l : Listed). drop 1 l) h in
+    (subst (λ (x : List ℕ × List ℕ). IsCopyOf to b (front ++ drop 4 x.0, row)) (sym first) is, others)
+one_more to (suc i) front row (b ∷ rows) [] lt is h = absurd h
+one_more to (suc i) front row (b ∷ rows) (c ∷ copies) lt is h = (h.0, one_more to i front row rows copies (omega arith) is h.1)
+
+pub copies_more : (to i n : ℕ) (rows copies new : Listed) → i < length rows → n ≡ i + 1 → AreCopiesTo to i rows copies → BecomesCopy to i copies new → AreCopiesTo to n rows new
+copies_more to i n rows copies new lt next h b =
+    let same = next_stays to i rows copies h in
+    let is = subst (λ (x : List ℕ × List ℕ). IsCopyOf to x (num_bytes to ++ drop 4 x.0, b.row)) same b.copy in
+    let step : n ≡ suc i = omega (arith, next) in
+    subst (λ (m : ℕ). AreCopiesTo to m rows new) (sym step) (subst (AreCopiesTo to (suc i) rows) (sym b.becomes) (one_more to i (num_bytes to) b.row rows copies lt is h))
+
+pub copies_all : (to i : ℕ) (rows copies : Listed) → length rows ≤ i → AreCopiesTo to i rows copies → AreCopiesOf to rows copies
+copies_all to i [] [] past h = tt
+copies_all to zero [] (c ∷ copies) past h = absurd cc
+copies_all to (suc i) [] (c ∷ copies) past h = absurd cc
+copies_all to zero (b ∷ rows) copies past h = absurd (omega arith)
+copies_all to (suc i) (b ∷ rows) [] past h = absurd h
+copies_all to (suc i) (b ∷ rows) (c ∷ copies) past h = (h.0, copies_all to i rows copies (omega arith) h.1)
 
 -- ---- all of them
 

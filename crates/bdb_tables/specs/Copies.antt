@@ -1,9 +1,11 @@
 -- Rows of a world that are put into another one as inherited rows, or taken away.
-use Rattle.std.specs.Prelude.{◌≡◌, ℕ, false, List, [], ◌∷◌, ◌++◌, length, map, Option, Some, None}
+use Rattle.std.specs.Prelude.{◌≡◌, ℕ, false, List, [], ◌++◌, drop, length, map, slice_index_or, Option, Some, None}
 use Rattle.std.specs.List.{AllByRecursion, AllZip}
-use Rattle.bdb_keep.specs.Spans.{Listed}
+use Rattle.bdb_keep.specs.Spans.{Listed, with_ends}
 use Rattle.bdb_keep.specs.Tables.{Tables}
+use Rattle.bdb_key.specs.Bytes.{num_bytes}
 use Rattle.bdb_key.specs.Rows.{mark_bytes}
+use Rattle.bdb_tables.specs.Codec.{IsEntryOf}
 use Rattle.bdb_tables.specs.InUse.{ValKey, val_bytes, val_codec}
 use Rattle.bdb_tables.specs.Marks.{Mark}
 use Rattle.bdb_tables.specs.Spans.{AreUnder, Spells}
@@ -36,8 +38,12 @@ pub record IsCopyOf (to : ℕ) (b c : List ℕ × List ℕ) : Type 0 where
 abbrev pub AreCopiesOf : ℕ → Listed → Listed → Type 0
 AreCopiesOf to rows copies = AllZip (IsCopyOf to) rows copies
 
--- the copy of a row was put behind others
-pub record GainsCopy (to : ℕ) (b : List ℕ × List ℕ) (old new : Listed) : Type 0 where
-  pub copy : List ℕ × List ℕ
-  pub made : IsCopyOf to b copy
-  pub behind : new ≡ old ++ copy ∷ []
+-- the row at an index became its copy
+pub record BecomesCopy (to i : ℕ) (old new : Listed) : Type 0 where
+  pub row : List ℕ
+  pub copy : IsCopyOf to (slice_index_or old i ([], [])) (num_bytes to ++ drop 4 (slice_index_or old i ([], [])).0, row)
+  pub becomes : new ≡ with_ends (num_bytes to) row old i
+
+-- the row at an index is one of worlds
+abbrev pub IsEntryAt : Listed → ℕ → Type 0
+IsEntryAt rows i = IsEntryOf val_codec (slice_index_or rows i ([], [])).0 (slice_index_or rows i ([], [])).1

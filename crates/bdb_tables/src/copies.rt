@@ -1,11 +1,10 @@
 // Rows of a world copied to another one, or taken away, all at once and by their bytes: no value is decoded.
-ghost use Rattle.std.specs.Prelude.{◌≡◌, ◌+◌, true, false, IfOk, OnOk};
+ghost use Rattle.std.specs.Prelude.{◌≡◌, ◌+◌, ◌<◌, length, true, false, IfOk, OnOk};
 ghost use Rattle.bdb_base.specs.Causes.{Rises};
 ghost use Rattle.bdb_keep.specs.Seen.{NeverFall, Steps};
 ghost use Rattle.bdb_key.specs.Bytes.{num_bytes};
 ghost use Rattle.bdb_key.specs.Rows.{mark_bytes};
-ghost use Rattle.bdb_tables.specs.Codec.{IsEntryOf};
-ghost use Rattle.bdb_tables.specs.Copies.{AreChanged, AreCopiesOf, GainsCopy, copied, removed};
+ghost use Rattle.bdb_tables.specs.Copies.{AreChanged, AreCopiesOf, BecomesCopy, IsEntryAt, copied, removed};
 ghost use Rattle.bdb_tables.specs.Grammar.{InGrammar};
 ghost use Rattle.bdb_tables.specs.InUse.{val_codec};
 ghost use Rattle.bdb_tables.specs.Spans.{AreEntriesOf};
@@ -15,7 +14,7 @@ use crate::marks::{MARKS, mark_from};
 use crate::tab::TabError;
 use bdb_base::Sign;
 use bdb_keep::{Keeper, Span};
-use std::alloc::{AllocError, Global};
+use std::alloc::Global;
 
 /// Copies the rows of a world to another one, where they are inherited and take the place of rows at the same keys; the rows of
 /// a world that is copied to itself become inherited ones. It gives their number. One write for each, and one read more.
@@ -44,15 +43,8 @@ pub fn copy_rows<K: Keeper>(
         Ok(()) => {}
         Err(error) => return Err(told(error)),
     }
-    let mut copies = Span::new(alloc);
-    match fill_copies(&span, to, &mut copies) {
-        Ok(()) => {}
-        Err(_) => {
-            keeper.undo();
-            return Err(TabError::Memory);
-        }
-    }
-    match keeper.put_all(MARKS, &copies) {
+    make_copies(&mut span, to);
+    match keeper.put_all(MARKS, &span) {
         Ok(()) => Ok(span.len()),
         Err(error) => Err(told(error)),
     }
@@ -84,31 +76,29 @@ pub fn clear_rows<K: Keeper>(alloc: Global, keeper: &mut K, wid: u32) -> Result<
     }
 }
 
-// Makes `copies` the copies of rows in the world `to`, where they are inherited.
-fn fill_copies(span: &Span, to: u32, copies: &mut Span) -> Result<(), AllocError>
-    requires { AreEntriesOf val_codec span.now }
-    ensures { OnOk result (AreCopiesOf to span.now copies.new) }
+// Makes rows their copies in the world `to`, where they are inherited.
+fn make_copies(span: &mut Span, to: u32)
+    requires { AreEntriesOf val_codec span.old }
+    ensures { AreCopiesOf to span.old span.new }
 {
-    copies.clear();
-    copies.reserve_like(span)?;
     for index in 0..span.len() {
-        let (key, row) = span.entry(index);
-        push_copy(copies, to, key, row)?;
+        make_copy(span, index, to);
     }
-    Ok(())
 }
 
-// Puts the copy of a row in the world `to` behind the others: it has the number of that world in place of its own, which the first
-// four bytes of its key are.
-fn push_copy(copies: &mut Span, to: u32, key: &[u8], row: &[u8]) -> Result<(), AllocError>
-    requires { IsEntryOf val_codec key.now row.now }
-    ensures { OnOk result (GainsCopy to (key.now, row.now) copies.old copies.new) }
+// Makes a row its copy in the world `to`: it has the number of that world in place of its own, which the first four bytes of its key
+// are.
+#[inline(always)]
+fn make_copy(span: &mut Span, index: usize, to: u32)
+    requires index { index < length span.old }
+    requires entry { IsEntryAt span.old index }
+    ensures { BecomesCopy to index span.old span.new }
 {
+    let (_, row) = span.entry(index);
     let (sign, _) = mark_from(row);
     let world = to.to_be_bytes();
     let mark = inherited(sign).to_be_bytes();
-    copies.push_joined(&world, &key[4..], &mark)?;
-    Ok(())
+    span.replace_ends(index, &world, &mark);
 }
 
 // The number that an inherited row of this sign is.

@@ -1,10 +1,11 @@
 // The rows of table 11 by the numbers of their tuples: no value is decoded, and none is written anew.
-ghost use Rattle.std.specs.Prelude.{◌≡◌, ◌+◌, ◌-◌, ◌≤◌, ◌++◌, true, IfOk, OnOk, length, drop};
+ghost use Rattle.std.specs.Prelude.{◌≡◌, ◌+◌, ◌-◌, ◌≤◌, ◌++◌, [], ◌∷◌, true, IfOk, OnOk, length, drop};
 ghost use Rattle.std.specs.List.{AllByRecursion};
+ghost use Rattle.std.specs.Option.{option_map};
 ghost use Rattle.std.specs.Ordering.{is_le};
 ghost use Rattle.bdb_base.specs.Causes.{Rises, RoseBy};
 ghost use Rattle.bdb_keep.specs.Calls.{IsRead, IsWrite};
-ghost use Rattle.bdb_keep.specs.Tables.{bytes_cmp};
+ghost use Rattle.bdb_keep.specs.Tables.{bytes_cmp, set_at};
 ghost use Rattle.bdb_key.specs.Bytes.{num_bytes};
 ghost use Rattle.bdb_key.specs.Grammar.{IsNum};
 ghost use Rattle.bdb_key.specs.Reading.{Reads};
@@ -21,7 +22,7 @@ use crate::room::Room;
 use crate::tab::TabError;
 use bdb_base::Sign;
 use bdb_keep::{Keeper, Span};
-use bdb_key::{mark_of, only_num, put_mark, put_num};
+use bdb_key::{mark_of, only_num, put_num};
 use std::alloc::{AllocError, Global};
 use std::mem;
 
@@ -93,25 +94,25 @@ pub fn mark_under<K: Keeper>(
 }
 
 /// Makes changes in the group whose keys begin with these bytes, one after the other: each puts a row at the number of a tuple, or
-/// takes the row there away. One write each.
+/// takes the row there away. One write each. The bytes are the same afterwards; meanwhile numbers come behind them.
 pub fn write_marks<K: Keeper>(
     keeper: &mut K,
-    prefix: &[u8],
+    prefix: &mut Vec<u8>,
     changes: &[(u32, Option<(Sign, bool)>)],
-    room: &mut Room,
 ) -> Result<(), TabError>
     requires running { (K.seen keeper.old).running ≡ true }
-    requires group { IsGroup prefix.now }
+    requires group { IsGroup prefix.old.items }
     ensures kept { OnOk result
-        (HaveMarks (K.seen keeper.old).kept (K.seen keeper.new).kept prefix.now changes.now) }
-    ensures fits { OnOk result (AreChanges prefix.now changes.now) }
+        (HaveMarks (K.seen keeper.old).kept (K.seen keeper.new).kept prefix.old.items changes.now) }
+    ensures fits { OnOk result (AreChanges prefix.old.items changes.now) }
     ensures grammar { OnOk result (InGrammar (K.seen keeper.old).kept
         → InGrammar (K.seen keeper.new).kept) }
+    ensures prefix { OnOk result (prefix.new.items ≡ prefix.old.items) }
     ensures writes { OnOk result (Rises (length changes.now) (K.seen keeper.old).writes
         (K.seen keeper.new).writes) }
     ensures write { IsWrite (K.seen keeper.old) (K.seen keeper.new) result TabError.Fault }
 {
-    match change_marks(keeper, prefix, changes, &mut room.key, &mut room.row) {
+    match change_marks(keeper, prefix, changes) {
         Ok(()) => Ok(()),
         Err(error) => Err(error),
     }
@@ -135,6 +136,10 @@ fn read_numbered<K: Keeper>(
     match keeper.under(MARKS, prefix, span) {
         Ok(()) => {}
         Err(error) => return Err(told(error)),
+    }
+    if span.len() == 0 {
+        rows.clear();
+        return Ok(());
     }
     match fill_numbered(span, rows) {
         Ok(()) => Ok(()),
@@ -216,27 +221,28 @@ fn read_mark<K: Keeper>(
     }
 }
 
-// Makes changes of a group, as a table of its own. `key` and `row` are room for bytes.
+// Makes changes of a group, as a table of its own.
 fn change_marks<K: Keeper>(
     keeper: &mut K,
-    prefix: &[u8],
+    prefix: &mut Vec<u8>,
     changes: &[(u32, Option<(Sign, bool)>)],
-    key: &mut Vec<u8>,
-    row: &mut Vec<u8>,
 ) -> Result<(), TabError>
     requires running { (K.seen keeper.old).running ≡ true }
-    requires group { IsGroup prefix.now }
-    ensures kept { OnOk result ((K.seen keeper.new).kept ≡ with_changes (marks_codec prefix.now)
+    requires group { IsGroup prefix.old.items }
+    ensures kept { OnOk result
+        ((K.seen keeper.new).kept ≡ with_changes (marks_codec prefix.old.items)
         (K.seen keeper.old).kept changes.now) }
-    ensures fits { OnOk result (AllByRecursion (IsChange (marks_codec prefix.now)) changes.now) }
+    ensures fits { OnOk result
+        (AllByRecursion (IsChange (marks_codec prefix.old.items)) changes.now) }
     ensures grammar { OnOk result (InGrammar (K.seen keeper.old).kept
         → InGrammar (K.seen keeper.new).kept) }
+    ensures prefix { OnOk result (prefix.new.items ≡ prefix.old.items) }
     ensures writes { OnOk result (Rises (length changes.now) (K.seen keeper.old).writes
         (K.seen keeper.new).writes) }
     ensures write { IsWrite (K.seen keeper.old) (K.seen keeper.new) result TabError.Fault }
 {
     for change in changes {
-        match change_mark(keeper, prefix, change, key, row) {
+        match change_mark(keeper, prefix, change) {
             Ok(()) => {}
             Err(error) => return Err(error),
         }
@@ -244,35 +250,54 @@ fn change_marks<K: Keeper>(
     Ok(())
 }
 
-// Makes a change of a group. `key` and `row` are room for bytes.
+// Makes a change of a group.
 fn change_mark<K: Keeper>(
     keeper: &mut K,
-    prefix: &[u8],
+    prefix: &mut Vec<u8>,
     change: &(u32, Option<(Sign, bool)>),
-    key: &mut Vec<u8>,
-    row: &mut Vec<u8>,
 ) -> Result<(), TabError>
     requires running { (K.seen keeper.old).running ≡ true }
-    requires group { IsGroup prefix.now }
-    ensures kept { OnOk result ((K.seen keeper.new).kept ≡ with_change (marks_codec prefix.now)
+    requires group { IsGroup prefix.old.items }
+    ensures kept { OnOk result
+        ((K.seen keeper.new).kept ≡ with_change (marks_codec prefix.old.items)
         (K.seen keeper.old).kept change.now) }
-    ensures fits { OnOk result (IsChange (marks_codec prefix.now) change.now) }
+    ensures fits { OnOk result (IsChange (marks_codec prefix.old.items) change.now) }
     ensures grammar { OnOk result (InGrammar (K.seen keeper.old).kept
         → InGrammar (K.seen keeper.new).kept) }
+    ensures prefix { OnOk result (prefix.new.items ≡ prefix.old.items) }
     ensures writes { OnOk result (RoseBy 1 (K.seen keeper.old).writes (K.seen keeper.new).writes) }
     ensures write { IsWrite (K.seen keeper.old) (K.seen keeper.new) result TabError.Fault }
 {
-    if fill_key(key, prefix, change.0).is_err() {
+    let length = prefix.len();
+    if put_num(prefix, change.0).is_err() {
         keeper.undo();
         return Err(TabError::Memory);
     }
-    match &change.1 {
+    match set_mark(keeper, prefix, &change.1) {
+        Ok(()) => {
+            prefix.truncate(length);
+            Ok(())
+        }
+        Err(error) => Err(error),
+    }
+}
+
+// Puts a row at a key, or takes the row there away.
+fn set_mark<K: Keeper>(
+    keeper: &mut K,
+    key: &[u8],
+    next: &Option<(Sign, bool)>,
+) -> Result<(), TabError>
+    requires running { (K.seen keeper.old).running ≡ true }
+    ensures kept { OnOk result ((K.seen keeper.new).kept ≡ set_at (K.seen keeper.old).kept
+        (11 ∷ key.now) (option_map mark_bytes next.now)) }
+    ensures writes { OnOk result (RoseBy 1 (K.seen keeper.old).writes (K.seen keeper.new).writes) }
+    ensures write { IsWrite (K.seen keeper.old) (K.seen keeper.new) result TabError.Fault }
+{
+    match next {
         Some(mark) => {
-            if fill_row(row, mark).is_err() {
-                keeper.undo();
-                return Err(TabError::Memory);
-            }
-            match keeper.put(MARKS, key, row) {
+            let row = mark_number(mark).to_be_bytes();
+            match keeper.put(MARKS, key, &row) {
                 Ok(()) => Ok(()),
                 Err(error) => Err(told(error)),
             }
@@ -281,6 +306,18 @@ fn change_mark<K: Keeper>(
             Ok(_) => Ok(()),
             Err(error) => Err(told(error)),
         },
+    }
+}
+
+// The number that a row is.
+fn mark_number(mark: &(Sign, bool)) -> u32
+    ensures { num_bytes result ≡ mark_bytes mark.now }
+{
+    match mark {
+        (Sign::Plus, false) => 0,
+        (Sign::Plus, true) => 1,
+        (Sign::Minus, false) => 2,
+        (Sign::Minus, true) => 3,
     }
 }
 
@@ -293,15 +330,6 @@ fn fill_key(key: &mut Vec<u8>, prefix: &[u8], tid: u32) -> Result<(), AllocError
     key.reserve(USUAL_LENGTH)?;
     key.extend_from_slice(prefix)?;
     put_num(key, tid)?;
-    Ok(())
-}
-
-// Makes room hold the bytes of a row.
-pub fn fill_row(row: &mut Vec<u8>, mark: &(Sign, bool)) -> Result<(), AllocError>
-    ensures { OnOk result (row.new.items ≡ mark_bytes mark.now) }
-{
-    row.clear();
-    put_mark(row, mark.0, mark.1)?;
     Ok(())
 }
 

@@ -102,6 +102,11 @@ none_from wid x xs h above = none_lead wid (x ∷ xs) (λ j d lt e.
     let a : led_to x ≤ led_to (get_or (x ∷ xs) j d) = h 0 j d (omega arith) lt in
     absurd (omega (arith, a, above, e)))
 
+-- nor where the first one does
+pub none_at : (wid : ℕ) (xs : List Link) (d : Link) → 0 < length xs → IsNonDecreasingBy led_to xs → wid < led_to (get_or xs 0 d) → filter (leads_to wid) xs ≡ []
+none_at wid [] d some up above = absurd (omega arith)
+none_at wid (x ∷ xs) d some up above = none_from wid x xs up above
+
 -- one more is put on a list, and then those that are left
 one_more : (wid : ℕ) (x : Link) (xs : List Link) (before : List (ℕ × ℕ)) → (before ++ map turned_round (filter (leads_to wid) (x ∷ []))) ++ map turned_round (filter (leads_to wid) xs)
     ≡ before ++ map turned_round (filter (leads_to wid) (x ∷ xs))

@@ -1,5 +1,5 @@
 // The changes that settle the rows of a group, told by the numbers of the tuples.
-ghost use Rattle.std.specs.Prelude.{◌≡◌, ◌++◌, OnOk};
+ghost use Rattle.std.specs.Prelude.{◌≡◌, ◌++◌, [], false, OnOk};
 ghost use Rattle.std.specs.List.{list_any};
 ghost use Rattle.bdb_val.specs.GroupChanges.{group_changes, own_change, new_change, group_change, is_explicit_plus};
 
@@ -13,6 +13,28 @@ pub type Marked = (u32, (Sign, bool));
 
 /// A change of a row of a group: the number of its tuple, and the row that it is to have, if any.
 pub type MarkChange = (u32, Option<(Sign, bool)>);
+
+/// Makes a list that of the changes that settle a group of a world that has no rows: all that is handed down.
+pub fn put_all_new(changes: &mut Vec<MarkChange>, from: &[Marked]) -> Result<(), AllocError>
+    ensures { OnOk result (changes.new.items ≡ group_changes [] from.now) }
+{
+    changes.clear();
+    for row in from {
+        push_first(changes, row)?;
+    }
+    Ok(())
+}
+
+// Adds what is handed down of a row, where the world has none.
+fn push_first(changes: &mut Vec<MarkChange>, row: &Marked) -> Result<(), AllocError>
+    ensures { OnOk result (changes.new.items ≡ changes.old.items ++ new_change false [] row.now) }
+{
+    let next = handed_down(false, Some(row.1));
+    match push_change(changes, row.0, None, next) {
+        Ok(()) => Ok(()),
+        Err(error) => Err(error),
+    }
+}
 
 /// Makes a list that of the changes that settle a group of a world: each row that is to be another, by the number of its tuple.
 /// `own` are the rows that the world has, and `from` those of the world to which it is linked.

@@ -78,6 +78,22 @@ fn start_at(starts: &mut Vec<usize>, end: usize, at: usize) -> Result<(), AllocE
     Ok(())
 }
 
+/// Whether it is seen at once that no link leads to a state, as is so of most states.
+pub fn leads_none(links: &Links, wid: u32) -> bool
+    requires { IsNonDecreasingBy led_to links.now.list.items }
+    ensures { result ≡ true → filter (leads_to wid) links.now.list.items ≡ [] }
+{
+    let near = start_near(&links.starts, wid, links.list.len());
+    let links = links.list.as_slice();
+    if near > links.len() {
+        return false;
+    }
+    if !is_behind(links, wid, near) {
+        return false;
+    }
+    is_past(&links[near..], wid)
+}
+
 /// Puts the links that lead to a state on the list, each by the state that has it and the one to which it leads.
 pub fn push_found(links: &Links, wid: u32, list: &mut Vec<(u32, u32)>) -> Result<(), AllocError>
     requires { IsNonDecreasingBy led_to links.now.list.items }
@@ -90,6 +106,17 @@ pub fn push_found(links: &Links, wid: u32, list: &mut Vec<(u32, u32)>) -> Result
     let start = first_from(links, wid, near);
     push_first(&links[start..], wid, list)?;
     Ok(())
+}
+
+// Whether the first link, if there is one, leads to a state of a higher number.
+fn is_past(links: &[Link], wid: u32) -> bool
+    requires { IsNonDecreasingBy led_to links.now }
+    ensures { result ≡ true → filter (leads_to wid) links.now ≡ [] }
+{
+    if links.len() == 0 {
+        return true;
+    }
+    links[0].0.0 > wid
 }
 
 // Where the links to a state may begin.

@@ -1,5 +1,5 @@
 // Reading rows of worlds with their tuples.
-ghost use Rattle.std.specs.Prelude.{◌≡◌, ◌+◌, ◌*◌, ◌≤◌, ◌++◌, true, IfOk, OnOk, length, drop, map, is_some};
+ghost use Rattle.std.specs.Prelude.{◌≡◌, ◌+◌, ◌*◌, ◌≤◌, ◌++◌, [], true, IfOk, OnOk, length, drop, map, is_some};
 ghost use Rattle.std.specs.FinMap as tables;
 ghost use Rattle.bdb_base.specs.Causes.{RoseBy};
 ghost use Rattle.bdb_keep.specs.Calls.{IsRead};
@@ -152,6 +152,7 @@ pub fn group_marks<K: Keeper>(
     room: &mut GroupRoom,
     rows: &mut Vec<Marked>,
 ) -> Result<(), TabError>
+    requires running { (K.seen keeper.old).running ≡ true }
     requires grammar { InGrammar (K.seen keeper.old).kept }
     requires text { HaveKeyTexts key.now }
     requires begins { MayBegin room.old.prefix.items rel key.now }
@@ -162,12 +163,9 @@ pub fn group_marks<K: Keeper>(
     ensures fits { OnOk result (AreKeyVals key.now) }
     ensures read { IsRead (K.seen keeper.old) (K.seen keeper.new) result TabError.Fault }
 {
-    match put_group(&mut room.prefix, wid, rel, key) {
+    match begin_group(keeper, &mut room.prefix, wid, rel, key) {
         Ok(()) => {}
-        Err(_) => {
-            keeper.undo();
-            return Err(TabError::Memory);
-        }
+        Err(error) => return Err(error),
     }
     match marks_under(keeper, &room.prefix, &mut room.marks, rows) {
         Ok(()) => Ok(()),
@@ -177,18 +175,42 @@ pub fn group_marks<K: Keeper>(
 
 // Makes bytes those with which the keys of a group of a world begin. Where they are those of the group in another world, only the
 // world's number is replaced.
-fn put_group(prefix: &mut Vec<u8>, wid: u32, rel: u32, key: &[Value]) -> Result<(), AllocError>
+fn begin_group<K: Keeper>(
+    keeper: &mut K,
+    prefix: &mut Vec<u8>,
+    wid: u32,
+    rel: u32,
+    key: &[Value],
+) -> Result<(), TabError>
+    requires running { (K.seen keeper.old).running ≡ true }
     requires text { HaveKeyTexts key.now }
     requires begins { MayBegin prefix.old.items rel key.now }
     ensures bytes { OnOk result (prefix.new.items ≡ group_prefix wid rel key.now) }
     ensures fits { OnOk result (AreKeyVals key.now) }
+    ensures read { IsRead (K.seen keeper.old) (K.seen keeper.new) result TabError.Fault }
 {
-    if prefix.is_empty() {
-        put_pair(prefix, wid, rel)?;
-        put_key_vals(prefix, key)?;
+    if !prefix.is_empty() {
+        set_world(prefix, wid);
         return Ok(());
     }
-    set_world(prefix, wid);
+    match put_group(prefix, wid, rel, key) {
+        Ok(()) => Ok(()),
+        Err(_) => {
+            keeper.undo();
+            Err(TabError::Memory)
+        }
+    }
+}
+
+// Makes no bytes those with which the keys of a group of a world begin.
+fn put_group(prefix: &mut Vec<u8>, wid: u32, rel: u32, key: &[Value]) -> Result<(), AllocError>
+    requires text { HaveKeyTexts key.now }
+    requires none { prefix.old.items ≡ [] }
+    ensures bytes { OnOk result (prefix.new.items ≡ group_prefix wid rel key.now) }
+    ensures fits { OnOk result (AreKeyVals key.now) }
+{
+    put_pair(prefix, wid, rel)?;
+    put_key_vals(prefix, key)?;
     Ok(())
 }
 

@@ -1,20 +1,21 @@
 // Settling the rows of one world.
-ghost use Rattle.std.specs.Prelude.{◌≡◌, ◌+◌, ◌-◌, ◌<◌, ◌^◌, ◌||◌, nat_eq, true, cond, map, MatchOption, [], IfOk, OnOk};
-ghost use Rattle.bdb_keep.specs.Calls.{IsRead};
+ghost use Rattle.std.specs.Prelude.{◌≡◌, ◌+◌, ◌-◌, ◌<◌, ◌^◌, ◌||◌, nat_eq, true, cond, length, map, MatchOption, [], IfOk, OnOk};
+ghost use Rattle.bdb_base.specs.Causes.{Rises};
+ghost use Rattle.bdb_keep.specs.Calls.{IsRead, IsWrite};
 ghost use Rattle.bdb_key.specs.Grammar.{AreKeyVals};
 ghost use Rattle.bdb_tables.specs.Codec.{HasAt};
 ghost use Rattle.bdb_tables.specs.Grammar.{InGrammar};
-ghost use Rattle.bdb_tables.specs.GroupMarks.{in_group};
+ghost use Rattle.bdb_tables.specs.GroupMarks.{AreChanges, HaveMarks, IsGroup, in_group};
 ghost use Rattle.bdb_tables.specs.InUse.{HaveKeyTexts, link_codec, val_codec};
 ghost use Rattle.bdb_tables.specs.Spans.{AreUnder};
-ghost use Rattle.bdb_val.specs.GroupChanges.{mark_under, TellsMarks};
+ghost use Rattle.bdb_val.specs.GroupChanges.{group_changes, mark_under, TellsMarks};
 ghost use Rattle.bdb_val.specs.Others.{SameBut};
 ghost use Rattle.bdb_val.specs.Reads.{HaveTuples, group_prefix};
 ghost use Rattle.bdb_val.specs.Rooms.{IsRoomFor};
 ghost use Rattle.bdb_val.specs.Stated.{WhereStated};
 ghost use Rattle.bdb_val.specs.Steps.{turns_from, comes, goes, IsChanging, IsStep};
 
-use crate::changes::{MarkChange, Marked, put_changes};
+use crate::changes::{MarkChange, Marked, put_all_new, put_changes};
 use crate::numbered::Numbered;
 use crate::reading::group_marks;
 use crate::room::{GroupRoom, Handed, WalkRoom};
@@ -62,23 +63,74 @@ pub fn settle_state<K: Keeper>(
         Ok(()) => {}
         Err(error) => return Err(error),
     }
-    match put_changes(&mut room.changes, &room.own, &room.handed.rows) {
+    match find_changes(keeper, &mut room.changes, &room.own, &room.handed.rows) {
         Ok(()) => {}
-        Err(_) => {
-            keeper.undo();
-            return Err(TabError::Memory);
-        }
+        Err(error) => return Err(error),
     }
     room.handed.forget(wid);
-    match write_marks(
-        keeper,
-        &room.group.prefix,
-        &room.changes,
-        &mut room.group.marks,
-    ) {
-        Ok(()) => Ok(told(&room.own, &room.changes)),
+    match write_changes(keeper, &mut room.group.prefix, &room.own, &room.changes) {
+        Ok(settled) => Ok(settled),
         Err(error) => Err(error),
     }
+}
+
+// Makes a list that of the changes that settle a group of a world. Most worlds have no row of a group before.
+fn find_changes<K: Keeper>(
+    keeper: &mut K,
+    changes: &mut Vec<MarkChange>,
+    own: &[Marked],
+    from: &[Marked],
+) -> Result<(), TabError>
+    requires running { (K.seen keeper.old).running ≡ true }
+    ensures changes { OnOk result (changes.new.items ≡ group_changes own.now from.now) }
+    ensures read { IsRead (K.seen keeper.old) (K.seen keeper.new) result TabError.Fault }
+{
+    if own.is_empty() {
+        match put_all_new(changes, from) {
+            Ok(()) => return Ok(()),
+            Err(_) => {
+                keeper.undo();
+                return Err(TabError::Memory);
+            }
+        }
+    }
+    match put_changes(changes, own, from) {
+        Ok(()) => Ok(()),
+        Err(_) => {
+            keeper.undo();
+            Err(TabError::Memory)
+        }
+    }
+}
+
+// Makes changes in a group, and tells what they do to the world's rows.
+fn write_changes<K: Keeper>(
+    keeper: &mut K,
+    prefix: &mut Vec<u8>,
+    own: &[Marked],
+    changes: &[MarkChange],
+) -> Result<SettledWorld, TabError>
+    requires running { (K.seen keeper.old).running ≡ true }
+    requires group { IsGroup prefix.old.items }
+    ensures told { IfOk result (TellsMarks (mark_under own.now) changes.now) }
+    ensures kept { OnOk result
+        (HaveMarks (K.seen keeper.old).kept (K.seen keeper.new).kept prefix.old.items changes.now) }
+    ensures fits { OnOk result (AreChanges prefix.old.items changes.now) }
+    ensures grammar { OnOk result (InGrammar (K.seen keeper.old).kept
+        → InGrammar (K.seen keeper.new).kept) }
+    ensures prefix { OnOk result (prefix.new.items ≡ prefix.old.items) }
+    ensures writes { OnOk result (Rises (length changes.now) (K.seen keeper.old).writes
+        (K.seen keeper.new).writes) }
+    ensures write { IsWrite (K.seen keeper.old) (K.seen keeper.new) result TabError.Fault }
+{
+    match write_marks(keeper, prefix, changes) {
+        Ok(()) => {}
+        Err(error) => return Err(error),
+    }
+    if own.is_empty() {
+        return Ok(told_of_new(changes));
+    }
+    Ok(told(own, changes))
 }
 
 // Makes the rows that are kept those of a group of the world to which another is linked, and none where there is no such world.
@@ -124,6 +176,21 @@ fn keep_linked<K: Keeper>(
         }
         Err(error) => Err(error),
     }
+}
+
+// What changes do to a world that has no rows.
+fn told_of_new(changes: &[MarkChange]) -> SettledWorld
+    ensures { TellsMarks (mark_under []) changes.now result }
+{
+    let mut settled = SettledWorld {
+        turned: false,
+        put: 0,
+        taken: 0,
+    };
+    for change in changes {
+        settled = with_change(settled, None, change.1);
+    }
+    settled
 }
 
 // What changes do to a world's rows.

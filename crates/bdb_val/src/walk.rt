@@ -14,7 +14,7 @@ ghost use Rattle.bdb_val.specs.Stated.{WhereStated};
 ghost use Rattle.bdb_val.specs.Steps.{counted, IsChanging};
 ghost use Rattle.bdb_val.specs.Visits.{AreLinks, ArePushed, IsFirstVisit, IsNextVisit};
 
-use crate::links::{Links, push_found, push_read, read_links};
+use crate::links::{Links, leads_none, push_found, push_read, read_links};
 use crate::room::{LinkRoom, WalkRoom};
 use crate::settle::settle_state;
 use crate::stored::{Settled, SettledWorld};
@@ -224,6 +224,9 @@ fn push_linked<K: Keeper>(
             Ok(()) => return Ok(()),
             Err(error) => return Err(error),
         }
+    }
+    if leads_none(links, wid) {
+        return Ok(());
     }
     match push_found(links, wid, list) {
         Ok(()) => Ok(()),

@@ -1,7 +1,7 @@
 use Rattle.std.proofs.Common.{◌<◌, ◌∙◌, List, ℕ, [], sym, ap, subst, length, get_or, rules}
 use Rattle.std.specs.List.{slice_range}
 use Rattle.bdb_keep.specs.Spans.{IsWithin}
-use Rattle.bdb_keep.proofs.SpanLemmas.{length_is, within-at, listed-at}
+use Rattle.bdb_keep.proofs.SpanLemmas.{all-within, length_is, within-at, listed-at}
 use Rattle.bdb_keep.proofs.span.Span.entry.Goals as goal
 
 pub index-cut-requires : goal.index-cut-requires
@@ -12,12 +12,12 @@ index-cut-requires c =
 pub key-requires : goal.key-requires
 key-requires c =
     let h : c.args.index < length c.self.inside.cuts.items = subst (λ n. c.args.index < n) (sym (ap length c.self.view_is) ∙ length_is c.self.inside.bytes.items c.self.inside.cuts.items) c.requires in
-    subst (λ b. IsWithin (length b) c.index-cut.result.now) (sym c.deref.ensures.value) (within-at (length c.self.inside.bytes.items) c.self.inside.cuts.items c.args.index c.index-cut.result.now h c.index-cut.ensures c.self.invariant)
+    subst (λ b. IsWithin (length b) c.index-cut.result.now) (sym c.deref.ensures.value) (within-at (length c.self.inside.bytes.items) c.self.inside.cuts.items c.args.index c.index-cut.result.now h c.index-cut.ensures (all-within 0 (length c.self.inside.bytes.items) c.self.inside.cuts.items c.self.invariant))
 
 pub row-requires : goal.row-requires
 row-requires c =
     let h : c.args.index < length c.self.inside.cuts.items = subst (λ n. c.args.index < n) (sym (ap length c.self.view_is) ∙ length_is c.self.inside.bytes.items c.self.inside.cuts.items) c.requires in
-    subst (λ b. IsWithin (length b) c.index-cut.result.now) (sym c.deref-2.ensures.value) (within-at (length c.self.inside.bytes.items) c.self.inside.cuts.items c.args.index c.index-cut.result.now h c.index-cut.ensures c.self.invariant)
+    subst (λ b. IsWithin (length b) c.index-cut.result.now) (sym c.deref-2.ensures.value) (within-at (length c.self.inside.bytes.items) c.self.inside.cuts.items c.args.index c.index-cut.result.now h c.index-cut.ensures (all-within 0 (length c.self.inside.bytes.items) c.self.inside.cuts.items c.self.invariant))
 
 pub returns : goal.returns
 returns c =
