@@ -14,10 +14,11 @@ use Rattle.bdb_multi.specs.declared.kinds.Event.{Event}
 use Rattle.bdb_session.specs.Batches.{pieces, batch_state}
 use Rattle.bdb_session.specs.Outcome.{State}
 use Rattle.bdb_session.specs.Runs.{accepts_all, after as after_events}
-use Rattle.bdb_crowd.specs.Asked.{Asked, Point, after, asked_by, commits_by, committed, next_point, piece, rest_asks, start_at, unfinished, IsFrontOf}
+use Rattle.bdb_crowd.specs.Asked.{Asked, Point, after, asked_by, commits_by, committed, next_point, piece, rest_asks, start_at, unfinished}
 use Rattle.bdb_crowd.specs.Counted.{before_commit, committed_among, first_committed, up_to_commit}
 use Rattle.bdb_crowd.specs.Due.{act_commits, commits_of, session_batches}
 use Rattle.bdb_crowd.specs.Laws.{CommitsTellTheState, FirstBatchesLead, IsToldByCommits}
+use Rattle.bdb_stream.specs.Handling.{IsFrontOf}
 
 -- ---- what commits nothing leaves the state
 

@@ -4,9 +4,10 @@ use Rattle.std.specs.List.{concat}
 use Rattle.bdb_many.specs.Many.{Batches, many_replies, many_last}
 use Rattle.bdb_multi.specs.Batches.{Ran}
 use Rattle.bdb_session.specs.Outcome.{State}
-use Rattle.bdb_crowd.specs.Asked.{Asked, Point, after, asked_of, committed, replies, start_at, IsFrontOf}
+use Rattle.bdb_crowd.specs.Asked.{Asked, Point, after, asked_of, committed, replies, start_at}
 use Rattle.bdb_crowd.specs.Counted.{after_first, batches_of, before_commit, up_to_commit}
 use Rattle.bdb_crowd.specs.Due.{commits_of, session_batches}
+use Rattle.bdb_stream.specs.Handling.{IsFrontOf}
 
 -- how many of these batches are committed, where they are run one after the other
 abbrev pub committed_of : {S : Type 0} → Batches S → S → List Ran → ℕ

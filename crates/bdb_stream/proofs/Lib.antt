@@ -1,4 +1,4 @@
-pub mod RunLemmas
-pub mod StreamLemmas
 pub mod AnswerLemmas
 pub mod BlockLemmas
+pub mod HandledLemmas
+pub mod ReadsLemmas

@@ -1,2 +1,5 @@
 pub mod Carried
+pub mod Handled
+pub mod Handling
+pub mod Reads
 pub mod Streams

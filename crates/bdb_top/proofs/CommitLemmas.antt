@@ -2,10 +2,12 @@
 use Rattle.std.proofs.Common.{◌≡◌, ◌∙◌, ℕ, ◌-◌, nat_eq, List, [], ◌∷◌, ◌++◌, take, Option, Some, None, IfSome, inl, inr, ap, sym, subst, append-nil}
 use Rattle.std.proofs.lemmas.Bool.{cases_Bool}
 use Rattle.bdb_catalog.specs.Opening.{StandFor}
-use Rattle.bdb_crowd.specs.Asked.{Asked, Point, after, asked_of, committed, replies, reply_of, start_at, IsFrontOf}
+use Rattle.bdb_crowd.specs.Asked.{Asked, Point, after, asked_of, committed, replies, reply_of, start_at}
+use Rattle.bdb_crowd.specs.Carried.{by_crowd, crowd_in_order}
 use Rattle.bdb_crowd.specs.Counted.{before_commit, up_to_commit}
 use Rattle.bdb_crowd.proofs.CountLemmas.{before_part, before_whole, commits_tell_the_state, first_batches_lead}
-use Rattle.bdb_crowd.proofs.RunLemmas.{replies-append}
+use Rattle.bdb_stream.specs.Handling.{IsFrontOf}
+use Rattle.bdb_stream.proofs.HandledLemmas.{replies-append}
 use Rattle.bdb_keep.specs.Seen.{Seen}
 use Rattle.bdb_session.specs.Outcome.{State, start_from}
 use Rattle.bdb_top.specs.ByCommits.{CommitsTellMany, EndsByCommits, IsWrittenBy}
@@ -15,10 +17,10 @@ use Rattle.bdb_top.specs.RanMany.{RanMany}
 use Rattle.bdb_top.proofs.CountLemmas.{begins_more, begins_on, is_four, not_four, part_begins}
 
 replies_begin : (p : Point) (xs ys : List Asked) → IsFrontOf xs ys → BeginsWith (replies p ys) (replies p xs)
-replies_begin p xs ys h = (replies (after p xs) h.0, ap (replies p) h.1 ∙ replies-append p xs h.0)
+replies_begin p xs ys h = (replies (after p xs) h.0, ap (replies p) h.1 ∙ (replies-append by_crowd crowd_in_order) p xs h.0)
 
 replies-push : (p : Point) (xs : List Asked) (a : Asked) → replies p (xs ++ a ∷ []) ≡ replies p xs ++ reply_of (after p xs) a
-replies-push p xs a = replies-append p xs (a ∷ []) ∙ ap (λ l. replies p xs ++ l) (append-nil (reply_of (after p xs) a))
+replies-push p xs a = (replies-append by_crowd crowd_in_order) p xs (a ∷ []) ∙ ap (λ l. replies p xs ++ l) (append-nil (reply_of (after p xs) a))
 
 -- what was written, by what is done
 written_by : (s : State) (script : List ℕ) (left : Option (List ℕ)) (first now : Seen) (old new : Option (List ℕ)) (status : ℕ) (ran : RanMany s script left first now old new status)

@@ -16,8 +16,8 @@ use Rattle.bdb_undo.specs.Timelines.{Timeline, arrived, redone, started, undone}
 use Rattle.bdb_undo.proofs.TimelineLemmas.{staying_arrives}
 use Rattle.bdb_session.specs.Runs.{events_of, IsFrontOf}
 use Rattle.bdb_session.specs.UndoRuns.{after, replies}
-use Rattle.bdb_stream.specs.Carried.{counted}
-use Rattle.bdb_stream.proofs.RunLemmas.{replies-append}
+use Rattle.bdb_stream.specs.Carried.{by_session, counted, session_in_order}
+use Rattle.bdb_stream.proofs.HandledLemmas.{replies-append}
 use Rattle.bdb_top.specs.Counted.{before_count, up_to_count}
 use Rattle.bdb_top.specs.Ran.{Ran, EachBase}
 use Rattle.bdb_top.specs.ByCount.{BeginsWith, EndsByCount, CommitsTell}
@@ -148,7 +148,7 @@ pub count_tells_the_state : CountTellsTheState
 count_tells_the_state b events done is = subst (λ (l : List Event). IsToldByCount b l done (counted b done)) (sym is.1) (told b done is.0)
 
 replies_begin : (b : Timeline) (xs ys : List Event) → IsFrontOf xs ys → BeginsWith (replies b ys) (replies b xs)
-replies_begin b xs ys h = (replies (after b xs) h.0, ap (replies b) h.1 ∙ replies-append b xs h.0)
+replies_begin b xs ys h = (replies (after b xs) h.0, ap (replies b) h.1 ∙ (replies-append by_session session_in_order) b xs h.0)
 
 pub begins_on : (x y z : List ℕ) → BeginsWith x y → BeginsWith y z → BeginsWith x z
 begins_on x y z h k = (k.0 ++ h.0, h.1 ∙ ap (λ l. l ++ h.0) k.1 ∙ append_assoc z k.0 h.0)
@@ -176,7 +176,7 @@ append_nil [] = refl
 append_nil (x ∷ xs) = ap (λ l. x ∷ l) (append_nil xs)
 
 replies-push : (b : Timeline) (xs : List Event) (e : Event) → replies b (xs ++ e ∷ []) ≡ replies b xs ++ reply_of (after b xs) e
-replies-push b xs e = replies-append b xs (e ∷ []) ∙ ap (λ l. replies b xs ++ l) (append_nil (reply_of (after b xs) e))
+replies-push b xs e = (replies-append by_session session_in_order) b xs (e ∷ []) ∙ ap (λ l. replies b xs ++ l) (append_nil (reply_of (after b xs) e))
 
 pub is_four : (n : ℕ) → nat_eq n 4 ≡ true → n ≡ 4
 is_four n h = grind (arith, h)
