@@ -24,7 +24,8 @@ batches_of script = ran_from 0 (events_of script) (acts_of (events_of script))
 -- of these batches, where they are run one after the other, those that are committed
 abbrev pub committed_among : {S : Type 0} → Batches S → S → List Ran → List Ran
 committed_among m s [] = []
-committed_among m s (b ∷ batches) = if m.is_whole s b.commands then b ∷ committed_among m (m.next s b.commands) batches else committed_among m s batches
+committed_among m s (b ∷ batches) =
+    if m.is_whole s b.commands then b ∷ committed_among m (m.next s b.commands) batches else committed_among m s batches
 
 -- the first so many of those
 abbrev pub first_committed : {S : Type 0} → Batches S → ℕ → S → List Ran → List Ran

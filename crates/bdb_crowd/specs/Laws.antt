@@ -36,4 +36,5 @@ CommitsTellTheState = (p : Point) (asked done : List Asked) → IsFrontOf done a
 
 -- what comes before the batch that is number k + 1 of those committed leads where the first k of them lead, run one after the other
 abbrev pub FirstBatchesLead : Type 0
-FirstBatchesLead = (k : ℕ) (s : State) (script : List ℕ) → (after (start_at s) (before_commit k (start_at s) (asked_of script))).state ≡ after_first k s script
+FirstBatchesLead = (k : ℕ) (s : State) (script : List ℕ) → (after (start_at s) (before_commit k (start_at s) (asked_of script))).state
+    ≡ after_first k s script

@@ -14,5 +14,6 @@ abbrev pub KeepsUp : Point → Option (List ℕ) → Option (List ℕ) → List 
 KeepsUp p before left done old new status = reads.KeepsUp by_crowd p before left done old new status
 
 -- A run over what a source gives has come through the first of what it asks for, with an Ok through all of it.
-abbrev pub Streams : Point → Option (List ℕ) → Option (List ℕ) → Known → Seen → Seen → Option (List ℕ) → Option (List ℕ) → Result Bool Stop → Type 0
+abbrev pub Streams : Point → Option (List ℕ) → Option (List ℕ) → Known → Seen → Seen → Option (List ℕ) → Option (List ℕ)
+    → Result Bool Stop → Type 0
 Streams p before left session first now old new result = reads.Streams by_crowd p before left session first now old new result

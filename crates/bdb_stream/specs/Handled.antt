@@ -23,7 +23,8 @@ pub record WritesPart {H : Type 0} (m : Handling H) (p : m.Point) (done : List m
   pub written : Appends old new (m.replies p front ++ take part (m.reply_of (m.after p front) last))
 
 -- One was carried out, and its reply is written.
-pub record Answered {H : Type 0} (m : Handling H) (p : m.Point) (a : m.Asked) (hand : H) (first now : Seen) (old new : Option (List ℕ)) (fine : Bool) : Type 0 where
+pub record Answered {H : Type 0} (m : Handling H) (p : m.Point) (a : m.Asked) (hand : H) (first now : Seen) (old new : Option (List ℕ))
+    (fine : Bool) : Type 0 where
   pub carried : Carried m p (a ∷ []) (m.session_of hand) first now
   pub stands : m.StandsFor hand (m.next_point p a)
   pub written : Appends old new (m.reply_of p a)
@@ -31,13 +32,16 @@ pub record Answered {H : Type 0} (m : Handling H) (p : m.Point) (a : m.Asked) (h
 
 -- How one was answered: with an Ok it was carried out and the reply is written; where the sink failed it was carried out and a part of
 -- the reply is written; after another Err nothing was carried out or written.
-abbrev pub IsAnswer : {H : Type 0} (m : Handling H) → m.Point → m.Asked → H → Seen → Seen → Option (List ℕ) → Option (List ℕ) → Result Bool Stop → Type 0
+abbrev pub IsAnswer : {H : Type 0} (m : Handling H) → m.Point → m.Asked → H → Seen → Seen → Option (List ℕ) → Option (List ℕ)
+    → Result Bool Stop → Type 0
 IsAnswer m p a hand first now old new (Ok fine) = Answered m p a hand first now old new fine
-IsAnswer m p a hand first now old new (Err Sink) = Carried m p (a ∷ []) (m.session_of hand) first now × ((part : ℕ) × Appends old new (take part (m.reply_of p a)))
+IsAnswer m p a hand first now old new (Err Sink) = Carried m p (a ∷ []) (m.session_of hand) first now
+    × ((part : ℕ) × Appends old new (take part (m.reply_of p a)))
 IsAnswer m p a hand first now old new (Err _) = Carried m p [] (m.session_of hand) first now × Appends old new []
 
 -- The run has come through these, and all replies are written.
-pub record Comes {H : Type 0} (m : Handling H) (p : m.Point) (done : List m.Asked) (hand : H) (first now : Seen) (old new : Option (List ℕ)) (fine : Bool) : Type 0 where
+pub record Comes {H : Type 0} (m : Handling H) (p : m.Point) (done : List m.Asked) (hand : H) (first now : Seen) (old new : Option (List ℕ))
+    (fine : Bool) : Type 0 where
   pub carried : Carried m p done (m.session_of hand) first now
   pub stands : m.StandsFor hand (m.after p done)
   pub written : Appends old new (m.replies p done)
@@ -49,13 +53,15 @@ Writes m Sink p done old new = WritesPart m p done old new
 Writes m _ p done old new = Appends old new (m.replies p done)
 
 -- The run has come through the first of these alone.
-pub record EndsEarly {H : Type 0} (m : Handling H) (p : m.Point) (asked : List m.Asked) (session : Known) (first now : Seen) (old new : Option (List ℕ)) (stop : Stop) : Type 0 where
+pub record EndsEarly {H : Type 0} (m : Handling H) (p : m.Point) (asked : List m.Asked) (session : Known) (first now : Seen)
+    (old new : Option (List ℕ)) (stop : Stop) : Type 0 where
   pub done : List m.Asked
   pub front : IsFrontOf done asked
   pub carried : Carried m p done session first now
   pub written : Writes m stop p done old new
 
 -- how a run over these ends
-abbrev pub Ends : {H : Type 0} (m : Handling H) → m.Point → List m.Asked → H → Seen → Seen → Option (List ℕ) → Option (List ℕ) → Result Bool Stop → Type 0
+abbrev pub Ends : {H : Type 0} (m : Handling H) → m.Point → List m.Asked → H → Seen → Seen → Option (List ℕ) → Option (List ℕ)
+    → Result Bool Stop → Type 0
 Ends m p asked hand first now old new result =
     MatchResult result (Comes m p asked hand first now old new) (EndsEarly m p asked (m.session_of hand) first now old new)

@@ -35,7 +35,8 @@ pub record AreAnswered {H : Type 0} (m : Handling H) (p : m.Point) (asked done :
 -- How far a run came in its stream, by its status and the bytes that it took. Each piece that ends more than 65,536 bytes
 -- before their end was carried out, and its reply written whole. With 3 those done are the pieces that end in these
 -- bytes, with 8 those that end in as many bytes as a script may have; no rest is among them.
-pub record KeepsUp {H : Type 0} (m : Handling H) (p : m.Point) (before left : Option (List ℕ)) (done : List m.Asked) (old new : Option (List ℕ)) (status : ℕ) : Type 0 where
+pub record KeepsUp {H : Type 0} (m : Handling H) (p : m.Point) (before left : Option (List ℕ)) (done : List m.Asked)
+    (old new : Option (List ℕ)) (status : ℕ) : Type 0 where
   pub taken : List ℕ
   pub consumed : Consumes before left taken
   pub caught : AreAnswered m p (ended_in m (before_last_read taken)) done old new
@@ -48,7 +49,8 @@ WritesBy m (Ok _) p done old new = Appends old new (m.replies p done)
 WritesBy m (Err stop) p done old new = Writes m stop p done old new
 
 -- A run over what a source gives has come through the first of what it asks for, with an Ok through all of it.
-pub record Streams {H : Type 0} (m : Handling H) (p : m.Point) (before left : Option (List ℕ)) (session : Known) (first now : Seen) (old new : Option (List ℕ)) (result : Result Bool Stop) : Type 0 where
+pub record Streams {H : Type 0} (m : Handling H) (p : m.Point) (before left : Option (List ℕ)) (session : Known) (first now : Seen)
+    (old new : Option (List ℕ)) (result : Result Bool Stop) : Type 0 where
   pub done : List m.Asked
   pub front : IfSome before (λ text. IsFrontOf done (asked_of m text))
   pub all : OnOk result (IfSome before (λ text. done ≡ asked_of m text))

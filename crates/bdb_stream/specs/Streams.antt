@@ -15,5 +15,6 @@ abbrev pub KeepsUp : Timeline → Option (List ℕ) → Option (List ℕ) → Li
 KeepsUp s before left done old new status = reads.KeepsUp by_session s before left done old new status
 
 -- A run over what a source gives has come through the first of its events, with an Ok through all of them.
-abbrev pub Streams : Timeline → Option (List ℕ) → Option (List ℕ) → Known → Seen → Seen → Option (List ℕ) → Option (List ℕ) → Result Bool Stop → Type 0
+abbrev pub Streams : Timeline → Option (List ℕ) → Option (List ℕ) → Known → Seen → Seen → Option (List ℕ) → Option (List ℕ)
+    → Result Bool Stop → Type 0
 Streams s before left session first now old new result = reads.Streams by_session s before left session first now old new result

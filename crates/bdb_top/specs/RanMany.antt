@@ -16,7 +16,8 @@ use Rattle.bdb_top.specs.Ran.{CommitsFor}
 -- were, with no row or of the format before this one. There was one commit for each batch that was run whole, and the one of
 -- opening. The replies are written, but where the sink failed perhaps a part of the last alone. What is done keeps up with the bytes
 -- that were taken of the stream.
-pub record RanMany (s : State) (text : List ℕ) (left : Option (List ℕ)) (first now : Seen) (old new : Option (List ℕ)) (status : ℕ) : Type 0 where
+pub record RanMany (s : State) (text : List ℕ) (left : Option (List ℕ)) (first now : Seen) (old new : Option (List ℕ))
+    (status : ℕ) : Type 0 where
   pub done : List Asked
   pub front : IsFrontOf done (asked_of text)
   pub stands : StandFor now.last (after (start_at s) done).state.base
