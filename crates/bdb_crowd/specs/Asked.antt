@@ -27,7 +27,7 @@ rest_asks Nothing = []
 rest_asks Unfinished = unfinished ∷ []
 
 -- what a stream asks for: its pieces, which are what stands before each end of its spans (`pieces_are_of_spans` of `bdb_lex`), and then
--- its rest where it holds something, a text or a byte other than a blank (`rest_is_of_spans`)
+-- its rest where it holds something, which is a text or a byte other than a blank behind the last end (`rest_is_of_spans`)
 abbrev pub asked_of : List ℕ → List Asked
 asked_of script = map asked_by (pieces_of script) ++ rest_asks (rest_of (has_rest script))
 

@@ -29,11 +29,14 @@ pub record Handling (H : Type 0) : Type 1 where
 -- several things are handled one after the other
 pub record IsInOrder {H : Type 0} (m : Handling H) : Type 0 where
   pub no_reply : (p : m.Point) → m.replies p [] ≡ []
-  pub replies : (p : m.Point) (a : m.Asked) (asked : List m.Asked) → m.replies p (a ∷ asked) ≡ m.reply_of p a ++ m.replies (m.next_point p a) asked
+  pub replies : (p : m.Point) (a : m.Asked) (asked : List m.Asked)
+      → m.replies p (a ∷ asked) ≡ m.reply_of p a ++ m.replies (m.next_point p a) asked
   pub none_fine : (p : m.Point) → m.all_fine p [] ≡ true
-  pub fine : (p : m.Point) (a : m.Asked) (asked : List m.Asked) → m.all_fine p (a ∷ asked) ≡ m.is_fine p a && m.all_fine (m.next_point p a) asked
+  pub fine : (p : m.Point) (a : m.Asked) (asked : List m.Asked)
+      → m.all_fine p (a ∷ asked) ≡ m.is_fine p a && m.all_fine (m.next_point p a) asked
   pub no_commit : (p : m.Point) → m.committed p [] ≡ 0
-  pub commits : (p : m.Point) (a : m.Asked) (asked : List m.Asked) → m.committed p (a ∷ asked) ≡ m.commits_by p a + m.committed (m.next_point p a) asked
+  pub commits : (p : m.Point) (a : m.Asked) (asked : List m.Asked)
+      → m.committed p (a ∷ asked) ≡ m.commits_by p a + m.committed (m.next_point p a) asked
   pub stays : (p : m.Point) → m.after p [] ≡ p
   pub leads : (p : m.Point) (a : m.Asked) (asked : List m.Asked) → m.after p (a ∷ asked) ≡ m.after (m.next_point p a) asked
 
@@ -48,12 +51,13 @@ pub record IsAtSome {H : Type 0} (m : Handling H) (t : Tables) (hand : H) : Type
   pub at : IsAt m t hand point
   pub remembers : RemembersSome t (m.session_of hand)
 
--- what a stream asks for that was cut at its semicolons: its pieces, which joined give its bytes back (`pieces_join` of
--- `bdb_lex`), and then its rest where it holds something
+-- what a stream asks for: its pieces, which are what stands before each end of its spans (`pieces_are_of_spans` of `bdb_lex`), and then
+-- its rest where it holds something, which is a text or a byte other than a blank behind the last end (`rest_is_of_spans`)
 abbrev pub asked_of : {H : Type 0} (m : Handling H) → List ℕ → List m.Asked
 asked_of m bytes = map m.asked_by (pieces_of bytes) ++ m.rest_asks (rest_of (has_rest bytes))
 
--- what the pieces ask for that end in these bytes
+-- What the pieces ask for that end in these bytes, each what stands before an end of their spans (`pieces_are_of_spans` of `bdb_lex`). That
+-- bytes come in parts changes no piece (`pieces_come_in_parts`, `states_come_in_parts`).
 abbrev pub ended_in : {H : Type 0} (m : Handling H) → List ℕ → List m.Asked
 ended_in m bytes = map m.asked_by (pieces_of bytes)
 
