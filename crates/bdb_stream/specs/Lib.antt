@@ -1,4 +1,5 @@
 pub mod Carried
+pub mod Commits
 pub mod Handled
 pub mod Handling
 pub mod Reads
