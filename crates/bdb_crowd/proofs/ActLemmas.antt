@@ -8,7 +8,7 @@ use Rattle.bdb_events.specs.Forms.{NamesSession}
 use Rattle.bdb_events.specs.declared.read.Read.{Read}
 use Rattle.bdb_keep.specs.Seen.{Seen, Unchanged}
 use Rattle.bdb_keep.specs.Tables.{Tables}
-use Rattle.bdb_many.specs.Many.{end_text}
+use Rattle.bdb_many.specs.Many.{end_text, rest_reply}
 use Rattle.bdb_many.specs.Marks.{line, mark, marked, told}
 use Rattle.bdb_multi.specs.declared.kinds.Act.{Act}
 use Rattle.bdb_multi.specs.declared.kinds.Act.TheVariants.{Begun, Queued, Aborted, ErrBegun, ErrNotBegun, ErrBatch, One, Batch}
@@ -26,10 +26,10 @@ use Rattle.bdb_session.specs.declared.batch.BatchReply.{BatchReply}
 use Rattle.bdb_session.specs.declared.event.Event as asked
 use Rattle.bdb_stream.specs.declared.stop.Stop.{Stop}
 use Rattle.bdb_stream.specs.declared.stop.Stop.TheVariants.{Source, Sink, Keeper, Memory, Large}
-use Rattle.bdb_crowd.specs.Asked.{Asked, Point, commits_by, is_fine, next_point, piece, reply_of}
+use Rattle.bdb_crowd.specs.Asked.{Asked, Point, commits_by, is_fine, next_point, piece, reply_of, unfinished}
 use Rattle.bdb_crowd.specs.Carried.{AtHand, Carried, IsAnswer, IsAt, IsAtSome}
 use Rattle.bdb_crowd.specs.Due.{Due, IsDone, IsRunBy, IsTold, IsWaiting, Lands, due_to, end_line, session_batches}
-use Rattle.bdb_crowd.proofs.WriteLemmas.{as_text}
+use Rattle.bdb_stream.proofs.HandledLemmas.{grows_as}
 
 -- ---- nothing is run
 
@@ -117,12 +117,12 @@ module _ (s : State) (n : ℕ) (c : List ℕ) (lines : Commands) (now : Known) (
   pub one_done : Appends old new (marked n r.text) → IsDone s (due_to s n (One c)) now first last old new (Ok (not r.refused))
   one_done w =
       let d = one_due s n c now first last r (subst (λ (q : Commands). IsRunBy s q now first last (Ok r)) is h) in
-      (d.0, d.1, as_text old new (marked n r.text) (due_to s n (One c)).reply d.2 w)
+      (d.0, d.1, grows_as old new (marked n r.text) (due_to s n (One c)).reply d.2 w)
 
   pub one_part : (k : ℕ) × (k ≤ length (marked n r.text)) × Appends old new (take k (marked n r.text)) → IsDone s (due_to s n (One c)) now first last old new (Err Sink)
   one_part w =
       let d = one_due s n c now first last r (subst (λ (q : Commands). IsRunBy s q now first last (Ok r)) is h) in
-      (d.0, (w.0, as_text old new (take w.0 (marked n r.text)) (take w.0 (due_to s n (One c)).reply) (ap (take w.0) d.2) w.2))
+      (d.0, (w.0, grows_as old new (take w.0 (marked n r.text)) (take w.0 (due_to s n (One c)).reply) (ap (take w.0) d.2) w.2))
 
 flipped : {X : Type 0} (b : Bool) (x y : X) → cond (not b) x y ≡ cond b y x
 flipped true x y = refl
@@ -150,14 +150,14 @@ module _ (s : State) (n : ℕ) (q : Commands) (now : Known) (first last : Seen) 
   pub batch_done : Appends old new (marked n r.text ++ end_line n r.refused r.accepted count) → IsDone s (due_to s n (Batch q)) now first last old new (Ok (not r.refused))
   batch_done w =
       let d = batch_due s n q now first last r count h many in
-      (d.0, d.1, as_text old new (marked n r.text ++ end_line n r.refused r.accepted count) (due_to s n (Batch q)).reply d.2 w)
+      (d.0, d.1, grows_as old new (marked n r.text ++ end_line n r.refused r.accepted count) (due_to s n (Batch q)).reply d.2 w)
 
   pub batch_part : (k : ℕ) × (k ≤ length (marked n r.text ++ end_line n r.refused r.accepted count)) × Appends old new (take k (marked n r.text ++ end_line n r.refused r.accepted count))
       → IsDone s (due_to s n (Batch q)) now first last old new (Err Sink)
   batch_part w =
       let text = marked n r.text ++ end_line n r.refused r.accepted count in
       let d = batch_due s n q now first last r count h many in
-      (d.0, (w.0, as_text old new (take w.0 text) (take w.0 (due_to s n (Batch q)).reply) (ap (take w.0) d.2) w.2))
+      (d.0, (w.0, grows_as old new (take w.0 text) (take w.0 (due_to s n (Batch q)).reply) (ap (take w.0) d.2) w.2))
 
 -- a batch that was not run
 pub unrun : (s : State) (act : Act) (n : ℕ) (q : Commands) (now : Known) (first last : Seen) (old : Option (List ℕ)) (stop : Stop) → (stop ≡ Sink → ⊥) → IsRunBy s q now first last (Err stop) → Appends old old []
@@ -280,6 +280,11 @@ module _ (p : Point) (r : Read) (hand : AtHand) (now : Seen) (old new : Option (
   pub no_line_answers : (n : ℕ) → r ≡ Read.NoLine n → IsTold (told n (codes "error line")) false old new result → IsAnswer p (piece r) hand now now old new result
   no_line_answers n is h =
       subst (λ (x : Read). IsAnswer p (piece x) hand now now old new result) (sym is) (line_answers p (piece (Read.NoLine n)) (told n (codes "error line")) false hand now old new result refl refl at h)
+
+-- a rest that holds something was told
+pub unfinished_answers : (p : Point) (hand : AtHand) (now : Seen) (old new : Option (List ℕ)) (result : Result Bool Stop) → IsAt now.kept hand p → IsTold (rest_reply true) false old new result
+    → IsAnswer p unfinished hand now now old new result
+unfinished_answers p hand now old new result at h = line_answers p unfinished (rest_reply true) false hand now old new result refl (sym (append-nil p.before)) at h
 
 pub named : (r s : Read) → r ≡ s → NamesSession r → NamesSession s
 named r s is h = subst NamesSession is h

@@ -14,10 +14,12 @@ use Rattle.bdb_multi.specs.declared.kinds.Event.{Event}
 use Rattle.bdb_session.specs.Batches.{pieces, batch_state}
 use Rattle.bdb_session.specs.Outcome.{State}
 use Rattle.bdb_session.specs.Runs.{accepts_all, after as after_events}
-use Rattle.bdb_crowd.specs.Asked.{Asked, Point, after, asked_by, commits_by, committed, next_point, piece, rest_asks, start_at, unfinished, IsFrontOf}
+use Rattle.bdb_crowd.specs.Asked.{Asked, Point, after, asked_by, commits_by, committed, next_point, piece, rest_asks, start_at, unfinished}
+use Rattle.bdb_crowd.specs.Carried.{by_crowd, crowd_in_order}
 use Rattle.bdb_crowd.specs.Counted.{before_commit, committed_among, first_committed, up_to_commit}
 use Rattle.bdb_crowd.specs.Due.{act_commits, commits_of, session_batches}
 use Rattle.bdb_crowd.specs.Laws.{CommitsTellTheState, FirstBatchesLead, IsToldByCommits}
+use Rattle.bdb_stream.proofs.CommitLemmas.{all_told, no_more_told, state_told}
 
 -- ---- what commits nothing leaves the state
 
@@ -54,122 +56,15 @@ idle p unfinished h = refl
 
 -- ---- what is done, by how often it has committed
 
-more_less : (m n : ℕ) → m + n - m ≡ n
-more_less m n = omega arith
-
-front_cons : (a : Asked) (xs ys : List Asked) → IsFrontOf xs ys → IsFrontOf (a ∷ xs) (a ∷ ys)
-front_cons a xs ys h = (h.0, ap (λ l. a ∷ l) h.1)
-
-front_none : (xs : List Asked) → IsFrontOf [] xs
-front_none xs = (xs, refl)
-
-zero_if : (n : ℕ) → nat_lt 0 n ≡ false → n ≡ 0
-zero_if n f = grind (arith, f)
-
-none_less : (n : ℕ) → 0 - n ≡ 0
-none_less n = omega arith
-
--- nothing commits that comes before the first that does
-before_first : (p : Point) (asked : List Asked) → (after p (before_commit 0 p asked)).state ≡ p.state
-before_first p [] = refl
-before_first p (a ∷ asked) = elim (cases_Bool (nat_lt 0 (commits_by p a))) [
-  | inl t ↦ ap (λ (l : List Asked). (after p l).state) (cond-true (nat_lt 0 (commits_by p a)) [] (a ∷ before_commit (0 - commits_by p a) (next_point p a) asked) t)
-  | inr f ↦
-      ap (λ (l : List Asked). (after p l).state) (cond-false (nat_lt 0 (commits_by p a)) [] (a ∷ before_commit (0 - commits_by p a) (next_point p a) asked) f)
-      ∙ ap (λ (n : ℕ). (after (next_point p a) (before_commit n (next_point p a) asked)).state) (none_less (commits_by p a))
-      ∙ before_first (next_point p a) asked ∙ idle p a (zero_if (commits_by p a) f)
-]
-
--- what comes before the next that commits begins with what is done
-before_is : (p : Point) (a : Asked) (d rest : List Asked)
-    → before_commit (committed p (a ∷ d)) p (a ∷ (d ++ rest)) ≡ a ∷ before_commit (committed (next_point p a) d) (next_point p a) (d ++ rest)
-before_is p a d rest =
-    let c = commits_by p a in
-    let n = committed (next_point p a) d in
-    cond-false (nat_lt (c + n) c) [] (a ∷ before_commit (c + n - c) (next_point p a) (d ++ rest)) (le-ltb (c + n) c (omega arith))
-    ∙ ap (λ m. a ∷ before_commit m (next_point p a) (d ++ rest)) (more_less c n)
-
-state_told : (p : Point) (done rest : List Asked) → (after p done).state ≡ (after p (before_commit (committed p done) p (done ++ rest))).state
-state_told p [] rest = sym (before_first p rest)
-state_told p (a ∷ d) rest = state_told (next_point p a) d rest ∙ sym (ap (λ (l : List Asked). (after p l).state) (before_is p a d rest))
-
-no_more_told : (p : Point) (done rest : List Asked) → IsFrontOf done (before_commit (committed p done) p (done ++ rest))
-no_more_told p [] rest = front_none (before_commit 0 p rest)
-no_more_told p (a ∷ d) rest = subst (λ (l : List Asked). IsFrontOf (a ∷ d) l) (sym (before_is p a d rest))
-    (front_cons a d (before_commit (committed (next_point p a) d) (next_point p a) (d ++ rest)) (no_more_told (next_point p a) d rest))
-
-up_to_none : (p : Point) (asked : List Asked) → up_to_commit 0 p asked ≡ []
-up_to_none p [] = refl
-up_to_none p (a ∷ asked) = refl
-
-all_told : (p : Point) (done rest : List Asked) → IsFrontOf (up_to_commit (committed p done) p (done ++ rest)) done
-all_told p [] rest = ([], sym (ap (λ (l : List Asked). l ++ []) (up_to_none p rest)))
-all_told p (a ∷ d) rest =
-    let c = commits_by p a in
-    let n = committed (next_point p a) d in
-    let more = up_to_commit (c + n - c) (next_point p a) (d ++ rest) in
-    elim (cases_Bool (nat_eq (c + n) 0)) [
-      | inl t ↦ subst (λ (l : List Asked). IsFrontOf l (a ∷ d)) (sym (cond-true (nat_eq (c + n) 0) [] (a ∷ more) t)) (front_none (a ∷ d))
-      | inr f ↦ subst (λ (l : List Asked). IsFrontOf l (a ∷ d))
-          (sym (cond-false (nat_eq (c + n) 0) [] (a ∷ more) f ∙ ap (λ m. a ∷ up_to_commit m (next_point p a) (d ++ rest)) (more_less c n)))
-          (front_cons a (up_to_commit n (next_point p a) (d ++ rest)) d (all_told (next_point p a) d rest))
-    ]
-
 told : (p : Point) (done rest : List Asked) → IsToldByCommits p (done ++ rest) done (committed p done)
-told p done rest = record { state = state_told p done rest; all_of = all_told p done rest; no_more = no_more_told p done rest }
+told p done rest = record {
+  state = (state_told by_crowd crowd_in_order (λ q. q.state) idle) p done rest;
+  all_of = (all_told by_crowd crowd_in_order) p done rest;
+  no_more = (no_more_told by_crowd crowd_in_order) p done rest;
+}
 
 pub commits_tell_the_state : CommitsTellTheState
 commits_tell_the_state p asked done is = subst (λ (l : List Asked). IsToldByCommits p l done (committed p done)) (sym is.1) (told p done is.0)
-
--- ---- the replies that are written whole
-
-one_less : (c n : ℕ) → c + n - 1 - c ≡ n - 1
-one_less c n = omega arith
-
-still_some : (c n : ℕ) → nat_lt (c + n - 1) c ≡ false → c + n ≢ 0 → n ≢ 0
-still_some c n g some none = grind (arith, g)
-
-first_cut : (c : ℕ) → c + 0 ≢ 0 → nat_lt (c + 0 - 1) c ≡ true
-first_cut c some = lt-ltb (c + 0 - 1) c (omega (arith, some))
-
--- what comes before the last that commits of what is done is the first of it
-before_on : (p : Point) (a : Asked) (front asked : List Asked) (n : ℕ) → commits_by p a + n ≢ 0
-    → (n ≢ 0 → IsFrontOf (before_commit (n - 1) (next_point p a) asked) front) → IsFrontOf (before_commit (commits_by p a + n - 1) p (a ∷ asked)) (a ∷ front)
-before_on p a front asked n some rest =
-    let c = commits_by p a in
-    let more = before_commit (c + n - 1 - c) (next_point p a) asked in
-    elim (cases_Bool (nat_lt (c + n - 1) c)) [
-      | inl t ↦ subst (λ (l : List Asked). IsFrontOf l (a ∷ front)) (sym (cond-true (nat_lt (c + n - 1) c) [] (a ∷ more) t)) (front_none (a ∷ front))
-      | inr g ↦ subst (λ (l : List Asked). IsFrontOf l (a ∷ front))
-          (sym (cond-false (nat_lt (c + n - 1) c) [] (a ∷ more) g ∙ ap (λ m. a ∷ before_commit m (next_point p a) asked) (one_less c n)))
-          (front_cons a (before_commit (n - 1) (next_point p a) asked) front (rest (still_some c n g some)))
-    ]
-
-before_done : (p : Point) (done rest : List Asked) → committed p done ≢ 0 → IsFrontOf (before_commit (committed p done - 1) p (done ++ rest)) done
-before_done p [] rest some = absurd (some refl)
-before_done p (a ∷ d) rest some = before_on p a d (d ++ rest) (committed (next_point p a) d) some (λ more. before_done (next_point p a) d rest more)
-
--- and of all but the last of it
-before_last : (p : Point) (front : List Asked) (last : Asked) (rest : List Asked) → committed p (front ++ last ∷ []) ≢ 0
-    → IsFrontOf (before_commit (committed p (front ++ last ∷ []) - 1) p (front ++ last ∷ [] ++ rest)) front
-before_last p [] last rest some =
-    let c = commits_by p last in
-    subst (λ (l : List Asked). IsFrontOf l [])
-    (sym (cond-true (nat_lt (c + 0 - 1) c) [] (last ∷ before_commit (c + 0 - 1 - c) (next_point p last) rest) (first_cut c some)))
-    (front_none [])
-before_last p (a ∷ f) last rest some =
-    before_on p a f (f ++ last ∷ [] ++ rest) (committed (next_point p a) (f ++ last ∷ [])) some (λ more. before_last (next_point p a) f last rest more)
-
-pub before_whole : (p : Point) (asked done : List Asked) → IsFrontOf done asked → committed p done ≢ 0 → IsFrontOf (before_commit (committed p done - 1) p asked) done
-before_whole p asked done h some =
-    subst (λ (l : List Asked). IsFrontOf (before_commit (committed p done - 1) p l) done) (sym h.1) (before_done p done h.0 some)
-
-pub before_part : (p : Point) (asked done front : List Asked) (last : Asked) → done ≡ front ++ last ∷ [] → IsFrontOf done asked → committed p done ≢ 0
-    → IsFrontOf (before_commit (committed p done - 1) p asked) front
-before_part p asked done front last is h some =
-    subst (λ (d : List Asked). IsFrontOf (before_commit (committed p d - 1) p asked) front) (sym is)
-    (subst (λ (l : List Asked). IsFrontOf (before_commit (committed p (front ++ last ∷ []) - 1) p l) front) (sym (h.1 ∙ ap (λ d. d ++ h.0) is))
-    (before_last p front last h.0 (λ e. some (ap (committed p) is ∙ e))))
 
 -- ---- the first batches that are committed
 

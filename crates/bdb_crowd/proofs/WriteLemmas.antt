@@ -9,9 +9,7 @@ use Rattle.std.proofs.lemmas.Fmt.{decimal_digit, decimal_step}
 use Rattle.std.proofs.lemmas.List.{append-nil, drop_all, length-append, take-append-le, take_all}
 use Rattle.std.proofs.lemmas.List.Quantifiers.{position-Some}
 use Rattle.bdb_many.specs.Marks.{marked_from}
-
-pub as_text : (a b : Option (List ℕ)) (x y : List ℕ) → x ≡ y → Appends a b x → Appends a b y
-as_text a b x y e h = subst (λ (l : List ℕ). Appends a b l) e h
+use Rattle.bdb_stream.proofs.HandledLemmas.{grows_as}
 
 pub part_as : (a b : Option (List ℕ)) (x y : List ℕ) → x ≡ y → (k : ℕ) × (k ≤ length x) × Appends a b (take k x) → (k : ℕ) × (k ≤ length y) × Appends a b (take k y)
 part_as a b x y e h = let P : List ℕ → Type 0 = λ l. (k : ℕ) × (k ≤ length l) × Appends a b (take k l) in subst P e h
@@ -32,7 +30,7 @@ pub wrote_part : (a b c : Option (List ℕ)) (x y : List ℕ) → Appends a b x 
 wrote_part a b c x y h k = (
   length x + k.0,
   subst (λ n. length x + k.0 ≤ n) (sym (length-append x y)) (omega (arith, k.1)),
-  as_text a c (x ++ take k.0 y) (take (length x + k.0) (x ++ y)) (sym (take_behind k.0 x y)) (Appends-trans a b c x (take k.0 y) h k.2),
+  grows_as a c (x ++ take k.0 y) (take (length x + k.0) (x ++ y)) (sym (take_behind k.0 x y)) (Appends-trans a b c x (take k.0 y) h k.2),
 )
 
 -- a front of the first part was written
@@ -40,7 +38,7 @@ pub wrote_less : (a b : Option (List ℕ)) (x y : List ℕ) → (k : ℕ) × (k 
 wrote_less a b x y h = (
   h.0,
   subst (λ n. h.0 ≤ n) (sym (length-append x y)) (omega (arith, h.1)),
-  as_text a b (take h.0 x) (take h.0 (x ++ y)) (sym (take-append-le h.0 x y h.1)) h.2,
+  grows_as a b (take h.0 x) (take h.0 (x ++ y)) (sym (take-append-le h.0 x y h.1)) h.2,
 )
 
 -- ---- numbers
@@ -121,7 +119,7 @@ line_on m all rest others piece k a b c h cut is left written = (
   h.0 ++ (m ++ take k rest),
   next_line m all rest k h.0 h.1 cut ∙ sym (append_assoc h.0 (m ++ take k rest) (marked_from m true (drop k rest)))
       ∙ ap (λ l. (h.0 ++ (m ++ take k rest)) ++ marked_from m true l) (sym left),
-  Appends-trans a b c h.0 (m ++ take k rest) h.2 (as_text b c (m ++ piece) (m ++ take k rest) (ap (λ l. m ++ l) is) written),
+  Appends-trans a b c h.0 (m ++ take k rest) h.2 (grows_as b c (m ++ piece) (m ++ take k rest) (ap (λ l. m ++ l) is) written),
 )
 
 pub line_stops : (m all rest piece : List ℕ) (k : ℕ) (a b c : Option (List ℕ)) → IsLeft m all rest a b → CutsLine rest k → piece ≡ take k rest
@@ -139,4 +137,4 @@ empty_is (x ∷ xs) h = absurd (omega (arith, h))
 
 pub lines_end : (m all rest : List ℕ) (a b : Option (List ℕ)) → IsLeft m all rest a b → length rest ≡ 0 → Appends a b (marked_from m true all)
 lines_end m all rest a b h none =
-    as_text a b h.0 (marked_from m true all) (sym (h.1 ∙ ap (λ l. h.0 ++ marked_from m true l) (empty_is rest none) ∙ append-nil h.0)) h.2
+    grows_as a b h.0 (marked_from m true all) (sym (h.1 ∙ ap (λ l. h.0 ++ marked_from m true l) (empty_is rest none) ∙ append-nil h.0)) h.2

@@ -1,5 +1,5 @@
 -- What a stream of sessions asks for, in order, and what comes of it.
-use Rattle.std.specs.Prelude.{◌≡◌, ℕ, ◌+◌, Bool, true, false, ◌&&◌, List, [], ◌∷◌, ◌++◌, map}
+use Rattle.std.specs.Prelude.{ℕ, ◌+◌, Bool, true, false, ◌&&◌, List, [], ◌∷◌, ◌++◌, map}
 use Rattle.bdb_lex.specs.Cut.{pieces_of, has_rest, rest_of}
 use Rattle.bdb_lex.specs.declared.token.Piece.{Piece}
 use Rattle.bdb_lex.specs.declared.token.Rest.{Rest}
@@ -26,7 +26,8 @@ abbrev pub rest_asks : Rest → List Asked
 rest_asks Nothing = []
 rest_asks Unfinished = unfinished ∷ []
 
--- what a stream asks for: its pieces, and then its rest where it holds something
+-- what a stream asks for: its pieces, which are what stands before each end of its spans (`pieces_are_of_spans` of `bdb_lex`), and then
+-- its rest where it holds something, which is a text or a byte other than a blank behind the last end (`rest_is_of_spans`)
 abbrev pub asked_of : List ℕ → List Asked
 asked_of script = map asked_by (pieces_of script) ++ rest_asks (rest_of (has_rest script))
 
@@ -93,7 +94,3 @@ all_fine p (a ∷ asked) = is_fine p a && all_fine (next_point p a) asked
 abbrev pub committed : Point → List Asked → ℕ
 committed p [] = 0
 committed p (a ∷ asked) = commits_by p a + committed (next_point p a) asked
-
--- one list is the front of another
-abbrev pub IsFrontOf : List Asked → List Asked → Type 0
-IsFrontOf front whole = (rest : List Asked) × (whole ≡ front ++ rest)

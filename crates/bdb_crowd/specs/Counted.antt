@@ -1,21 +1,21 @@
 -- The batches of a stream that are committed, and what it asks for before and up to one of them.
-use Rattle.std.specs.Prelude.{ℕ, ◌-◌, nat_eq, nat_lt, List, [], ◌∷◌, cond, if◌then◌else◌, take}
+use Rattle.std.specs.Prelude.{ℕ, List, [], ◌∷◌, if◌then◌else◌, take}
 use Rattle.bdb_many.specs.Many.{Batches, after_batches, events_of}
 use Rattle.bdb_multi.specs.Batches.{Ran, ran_from}
 use Rattle.bdb_multi.specs.Sessions.{acts_of}
 use Rattle.bdb_session.specs.Outcome.{State}
-use Rattle.bdb_crowd.specs.Asked.{Asked, Point, commits_by, next_point}
+use Rattle.bdb_stream.specs.Commits as commits
+use Rattle.bdb_crowd.specs.Asked.{Asked, Point}
+use Rattle.bdb_crowd.specs.Carried.{by_crowd}
 use Rattle.bdb_crowd.specs.Due.{session_batches}
 
 -- what is asked for up to and without the batch that is number k + 1 of those committed; all of it, where there is none
 abbrev pub before_commit : ℕ → Point → List Asked → List Asked
-before_commit k p [] = []
-before_commit k p (a ∷ asked) = cond (nat_lt k (commits_by p a)) [] (a ∷ before_commit (k - commits_by p a) (next_point p a) asked)
+before_commit k p asked = commits.before_commit by_crowd k p asked
 
 -- what is asked for up to and with the batch that is number k of those committed; nothing, where k is 0
 abbrev pub up_to_commit : ℕ → Point → List Asked → List Asked
-up_to_commit k p [] = []
-up_to_commit k p (a ∷ asked) = cond (nat_eq k 0) [] (a ∷ up_to_commit (k - commits_by p a) (next_point p a) asked)
+up_to_commit k p asked = commits.up_to_commit by_crowd k p asked
 
 -- the batches of a stream
 abbrev pub batches_of : List ℕ → List Ran
@@ -24,7 +24,8 @@ batches_of script = ran_from 0 (events_of script) (acts_of (events_of script))
 -- of these batches, where they are run one after the other, those that are committed
 abbrev pub committed_among : {S : Type 0} → Batches S → S → List Ran → List Ran
 committed_among m s [] = []
-committed_among m s (b ∷ batches) = if m.is_whole s b.commands then b ∷ committed_among m (m.next s b.commands) batches else committed_among m s batches
+committed_among m s (b ∷ batches) =
+    if m.is_whole s b.commands then b ∷ committed_among m (m.next s b.commands) batches else committed_among m s batches
 
 -- the first so many of those
 abbrev pub first_committed : {S : Type 0} → Batches S → ℕ → S → List Ran → List Ran

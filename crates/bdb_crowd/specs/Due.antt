@@ -77,7 +77,8 @@ pub record Lands (next : State) (commits : ℕ) (session : Known) (first now : S
 -- written; after another Err nothing was done or written.
 abbrev pub IsDone : State → Due → Known → Seen → Seen → Option (List ℕ) → Option (List ℕ) → Result Bool Stop → Type 0
 IsDone s d session first now old new (Ok fine) = Lands d.next d.commits session first now × (fine ≡ d.fine) × Appends old new d.reply
-IsDone s d session first now old new (Err Sink) = Lands d.next d.commits session first now × ((part : ℕ) × Appends old new (take part d.reply))
+IsDone s d session first now old new (Err Sink) = Lands d.next d.commits session first now
+    × ((part : ℕ) × Appends old new (take part d.reply))
 IsDone s d session first now old new (Err _) = Lands s 0 session first now × Appends old new []
 
 -- how a text was told, which tells an error or doesn't: whole, or where the sink failed a part of it
@@ -88,12 +89,14 @@ IsTold text fine old new (Err _) = ⊥
 
 -- how commands were run as one batch
 abbrev pub IsRunBy : State → Commands → Known → Seen → Seen → Result BatchReply Stop → Type 0
-IsRunBy s q session first now (Ok r) = IsBatchReply s (pieces q) r × Lands (batch_state s (pieces q)) (batch_commits s (pieces q)) session first now
+IsRunBy s q session first now (Ok r) = IsBatchReply s (pieces q) r
+    × Lands (batch_state s (pieces q)) (batch_commits s (pieces q)) session first now
 IsRunBy s q session first now (Err _) = Lands s 0 session first now
 
 -- the line that tells how a batch of so many commands ended, by whether one was refused, and how many come before it
 abbrev pub end_line : ℕ → Bool → ℕ → ℕ → List ℕ
-end_line n refused accepted count = told n (if refused then codes "aborted " ++ decimal (accepted + 1) else codes "committed " ++ decimal count)
+end_line n refused accepted count =
+    told n (if refused then codes "aborted " ++ decimal (accepted + 1) else codes "committed " ++ decimal count)
 
 -- no more commands wait than may
 abbrev pub IsWaiting : Act → Type 0

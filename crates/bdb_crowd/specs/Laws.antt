@@ -4,9 +4,10 @@ use Rattle.std.specs.List.{concat}
 use Rattle.bdb_many.specs.Many.{Batches, many_replies, many_last}
 use Rattle.bdb_multi.specs.Batches.{Ran}
 use Rattle.bdb_session.specs.Outcome.{State}
-use Rattle.bdb_crowd.specs.Asked.{Asked, Point, after, asked_of, committed, replies, start_at, IsFrontOf}
+use Rattle.bdb_crowd.specs.Asked.{Asked, Point, after, asked_of, committed, replies, start_at}
 use Rattle.bdb_crowd.specs.Counted.{after_first, batches_of, before_commit, up_to_commit}
 use Rattle.bdb_crowd.specs.Due.{commits_of, session_batches}
+use Rattle.bdb_stream.specs.Handling.{IsFrontOf}
 
 -- how many of these batches are committed, where they are run one after the other
 abbrev pub committed_of : {S : Type 0} → Batches S → S → List Ran → ℕ
@@ -35,4 +36,5 @@ CommitsTellTheState = (p : Point) (asked done : List Asked) → IsFrontOf done a
 
 -- what comes before the batch that is number k + 1 of those committed leads where the first k of them lead, run one after the other
 abbrev pub FirstBatchesLead : Type 0
-FirstBatchesLead = (k : ℕ) (s : State) (script : List ℕ) → (after (start_at s) (before_commit k (start_at s) (asked_of script))).state ≡ after_first k s script
+FirstBatchesLead = (k : ℕ) (s : State) (script : List ℕ) → (after (start_at s) (before_commit k (start_at s) (asked_of script))).state
+    ≡ after_first k s script

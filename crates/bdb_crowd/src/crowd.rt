@@ -1,5 +1,5 @@
 // What is at hand for a stream of sessions, and answering its pieces.
-ghost use Rattle.std.specs.Prelude.{◌<◌, ◌≤◌, ◌≡◌, OnOk, OnErr, IsErrOf};
+ghost use Rattle.std.specs.Prelude.{◌<◌, ◌≤◌, ◌≡◌, OnErr, IsErrOf};
 ghost use Rattle.bdb_base.specs.Causes.{Rose, HasCause};
 ghost use Rattle.bdb_events.specs.Forms.{NamesSession};
 ghost use Rattle.bdb_events.specs.declared.read.Read.{Read};
@@ -13,10 +13,10 @@ use crate::acts::{answer_act, tell, tell_error};
 use bdb_events::{Read, event_of};
 use bdb_io::Sink;
 use bdb_keep::Keeper;
-use bdb_lex::Piece;
+use bdb_lex::{Piece, Rest};
 use bdb_multi::{Desk, Line};
 use bdb_session::Session;
-use bdb_stream::Stop;
+use bdb_stream::{Handler, Stop};
 use std::alloc::Global;
 use std::marker::Model;
 
@@ -40,8 +40,8 @@ impl Model for Crowd {
     ghost invariant = { λ _. Unit {0} };
 }
 
-ghost use Rattle.bdb_crowd.specs.Asked.{Point, asked_by, piece, start_at};
-ghost use Rattle.bdb_crowd.specs.Carried.{IsAnswer, IsAt, IsAtSome};
+ghost use Rattle.bdb_crowd.specs.Asked.{Point, piece, start_at};
+ghost use Rattle.bdb_crowd.specs.Carried.{IsAnswer, IsAt, IsAtSome, by_crowd, crowd_in_order};
 
 impl Crowd {
     /// A stream that has not begun, over the base of a session: no batch is open. It takes no memory.
@@ -55,37 +55,6 @@ impl Crowd {
             session,
             desk: Desk::new(alloc),
             alloc,
-        }
-    }
-
-    /// Answers a piece of a stream, and writes the reply. A command outside a batch is run at once, a command within waits, and a
-    /// commit runs those that wait, all in one transaction or none. Ok tells whether the reply has no line that tells an error. After
-    /// an Err the crowd isn't to be asked again: what waited of a batch that was not committed may be gone.
-    pub fn answer_piece<O: Sink, K: Keeper>(
-        &mut self,
-        keeper: &mut K,
-        out: &mut O,
-        piece: &Piece<'_>,
-    ) -> Result<bool, Stop>
-        requires still { IsStill (K.seen keeper.old) }
-        requires at { IsAtSome (K.seen keeper.old).kept self.old }
-        ensures answered { (p : Point) → IsAt (K.seen keeper.old).kept self.old p
-            → IsAnswer p (asked_by piece.now) self.new (K.seen keeper.old) (K.seen keeper.new)
-            (O.written out.old) (O.written out.new) result }
-        ensures at { OnOk result (IsAtSome (K.seen keeper.new).kept self.new) }
-        ensures still { IsStill (K.seen keeper.new) }
-        ensures agrees { RemembersSome (K.seen keeper.new).kept self.new.session }
-        ensures never_fall { NeverFall (K.seen keeper.old) (K.seen keeper.new) }
-        ensures keeper { HasCause (K.seen keeper.old).faults
-            (K.seen keeper.new).faults result Stop.Keeper }
-        ensures later { O.faults out.old ≤ O.faults out.new }
-        ensures sink { IsErrOf result Stop.Sink → Rose (O.faults out.old) (O.faults out.new) }
-        ensures others { OnErr result ((IsErrOf result Stop.Source → ⊥)
-            × (IsErrOf result Stop.Large → ⊥)) }
-    {
-        match event_of(self.alloc, piece) {
-            Ok(read) => self.answer_read(keeper, out, read),
-            Err(_) => Err(Stop::Memory),
         }
     }
 
@@ -150,4 +119,37 @@ impl Crowd {
             Err(_) => Err(Stop::Memory),
         }
     }
+}
+
+/// A command outside a batch is run at once, a command within waits, and a commit runs those that wait, all in one transaction or none.
+/// What still waits at the end is dropped. After an Err the crowd isn't to be asked again: what waited of a batch that was not committed
+/// may be gone.
+impl Handler for Crowd {
+    ghost handling = { by_crowd };
+
+    fn answer_piece<O: Sink, K: Keeper>(
+        &mut self,
+        keeper: &mut K,
+        out: &mut O,
+        piece: &Piece<'_>,
+    ) -> Result<bool, Stop> {
+        match event_of(self.alloc, piece) {
+            Ok(read) => self.answer_read(keeper, out, read),
+            Err(_) => Err(Stop::Memory),
+        }
+    }
+
+    fn answer_rest<O: Sink, K: Keeper>(
+        &mut self,
+        _keeper: &mut K,
+        out: &mut O,
+        rest: Rest,
+    ) -> Result<bool, Stop> {
+        match rest {
+            Rest::Nothing => Ok(true),
+            Rest::Unfinished => tell_error(out, b"error unfinished\n"),
+        }
+    }
+
+    ghost in_order = { crowd_in_order };
 }

@@ -1,27 +1,19 @@
 // Carrying out a stream of sessions while it is read.
-ghost use Rattle.std.specs.Prelude.{◌≡◌, ◌<◌, ◌≤◌, ◌+◌, ℕ, true, false, IfSome, OnOk, OnErr, IsErrOf, length, map};
+ghost use Rattle.std.specs.Prelude.{◌<◌, ◌≤◌, ◌+◌, ℕ, IfSome, OnOk, IsErrOf, length};
 ghost use Rattle.std.specs.Io.KnownBytes.{IsAtEnd};
-ghost use Rattle.bdb_base.specs.Causes.{Rose, Rises, RisesOver, HasCause};
+ghost use Rattle.bdb_base.specs.Causes.{Rose, Rises, RisesOver};
 ghost use Rattle.bdb_base.specs.Limits.{longest_script};
 ghost use Rattle.bdb_keep.specs.Seen.{IsStill, NeverFall};
-ghost use Rattle.bdb_lex.specs.Cut.{ready, pieces_from, state_after};
 ghost use Rattle.bdb_session.specs.Known.{RemembersSome};
-ghost use Rattle.bdb_stream.specs.Streams.{longest_read};
-ghost use Rattle.bdb_crowd.specs.Asked.{Point, asked_by};
-ghost use Rattle.bdb_crowd.specs.Carried.{Ends, IsAt, IsAtSome, IsRestTold};
+ghost use Rattle.bdb_crowd.specs.Asked.{Point};
+ghost use Rattle.bdb_crowd.specs.Carried.{IsAt, IsAtSome};
 ghost use Rattle.bdb_crowd.specs.Streams.{Streams};
 
-use crate::acts::tell_error;
 use crate::crowd::Crowd;
-use bdb_base::limits::{LONGEST_COMMAND, LONGEST_SCRIPT};
-use bdb_io::{Failed, Sink, Source};
+use bdb_io::{Sink, Source};
 use bdb_keep::Keeper;
-use bdb_lex::{Cutter, Rest};
-use bdb_stream::Stop;
+use bdb_stream::{Stop, carry_out};
 use std::alloc::Global;
-
-/// How many bytes are read at a time: as many as a command may have.
-const BLOCK: usize = LONGEST_COMMAND;
 
 /// Carries out the stream that a source gives, each piece as soon as the bytes are read in which it ends. A batch that is open at the
 /// end is dropped. Ok tells whether no reply has a line that tells an error.
@@ -59,99 +51,8 @@ pub fn carry_out_stream<S: Source, O: Sink, K: Keeper>(
     ensures sink_count { O.faults out.old ≤ O.faults out.new }
     ensures keeper_counts { NeverFall (K.seen keeper.old) (K.seen keeper.new) }
 {
-    let mut cutter = Cutter::new(alloc);
-    let mut block = [0; BLOCK];
-    let mut fine = true;
-    let mut taken = 0;
-    loop {
-        let room = LONGEST_SCRIPT - taken;
-        let part = &mut block[..size_of_read(room)];
-        let count = match script.read(part) {
-            Ok(count) => count,
-            Err(Failed) => return Err(Stop::Source),
-        };
-        if count == 0 {
-            match answer_rest(out, cutter.finish()) {
-                Ok(more) => return Ok(fine & more),
-                Err(stop) => return Err(stop),
-            }
-        }
-        if room == 0 {
-            return Err(Stop::Large);
-        }
-        taken += count;
-        match answer_block(alloc, &mut cutter, &part[..count], crowd, keeper, out) {
-            Ok(more) => fine &= more,
-            Err(stop) => return Err(stop),
-        }
-    }
-}
-
-/// How many bytes to read where so many more may come: one, where no more may, to see whether there are more.
-fn size_of_read(room: usize) -> usize
-    ensures some { 0 < result }
-    ensures few { result ≤ longest_read }
-    ensures fits { 0 < room → result ≤ room }
-    ensures one { room ≡ 0 → result ≡ 1 }
-{
-    if room == 0 { 1 } else { room.min(BLOCK) }
-}
-
-/// Answers the pieces that end in a block of bytes, each as soon as it is cut.
-fn answer_block<O: Sink, K: Keeper>(
-    alloc: Global,
-    cutter: &mut Cutter,
-    block: &[u8],
-    crowd: &mut Crowd,
-    keeper: &mut K,
-    out: &mut O,
-) -> Result<bool, Stop>
-    requires ready { cutter.old.is_spent ≡ false }
-    requires still { IsStill (K.seen keeper.old) }
-    requires at { IsAtSome (K.seen keeper.old).kept crowd.old }
-    ensures cutter { OnOk result (cutter.new ≡ ready (state_after cutter.old.state block.now)) }
-    ensures ends { (p : Point) → IsAt (K.seen keeper.old).kept crowd.old p
-        → Ends p (map asked_by (pieces_from cutter.old.state block.now)) crowd.new
-        (K.seen keeper.old) (K.seen keeper.new) (O.written out.old) (O.written out.new) result }
-    ensures at { OnOk result (IsAtSome (K.seen keeper.new).kept crowd.new) }
-    ensures still { IsStill (K.seen keeper.new) }
-    ensures agrees { RemembersSome (K.seen keeper.new).kept crowd.new.session }
-    ensures never_fall { NeverFall (K.seen keeper.old) (K.seen keeper.new) }
-    ensures keeper { HasCause (K.seen keeper.old).faults
-        (K.seen keeper.new).faults result Stop.Keeper }
-    ensures later { O.faults out.old ≤ O.faults out.new }
-    ensures sink { IsErrOf result Stop.Sink → Rose (O.faults out.old) (O.faults out.new) }
-    ensures others { OnErr result ((IsErrOf result Stop.Source → ⊥)
-        × (IsErrOf result Stop.Large → ⊥)) }
-{
-    let mut rest = block;
-    let mut fine = true;
-    loop {
-        match cutter.next_piece(alloc, rest) {
-            Ok(Some((piece, others))) => match crowd.answer_piece(keeper, out, &piece) {
-                Ok(more) => {
-                    fine &= more;
-                    rest = others;
-                }
-                Err(stop) => return Err(stop),
-            },
-            Ok(None) => return Ok(fine),
-            Err(_) => return Err(Stop::Memory),
-        }
-    }
-}
-
-/// Answers what stands behind the last semicolon of a stream.
-fn answer_rest<O: Sink>(out: &mut O, rest: Rest) -> Result<bool, Stop>
-    ensures told { IsRestTold rest (O.written out.old) (O.written out.new) result }
-    ensures later { O.faults out.old ≤ O.faults out.new }
-    ensures sink { IsErrOf result Stop.Sink → Rose (O.faults out.old) (O.faults out.new) }
-    ensures others { OnErr result ((IsErrOf result Stop.Source → ⊥)
-        × (IsErrOf result Stop.Large → ⊥)) }
-    ensures keeper { (n : ℕ) → HasCause n n result Stop.Keeper }
-{
-    match rest {
-        Rest::Nothing => Ok(true),
-        Rest::Unfinished => tell_error(out, b"error unfinished\n"),
+    match carry_out(alloc, script, crowd, keeper, out) {
+        Ok(fine) => Ok(fine),
+        Err(stop) => Err(stop),
     }
 }

@@ -74,7 +74,8 @@ line_by None bytes = Cmd bytes
 line_by (Some w) bytes = cond (is_keyword (codes "begin") w) Begin
     (cond (is_keyword (codes "commit") w) Commit (cond (is_keyword (codes "abort") w) Abort (Cmd bytes)))
 
--- a line: begin, commit and abort where its only token is this word, in any case; else a command
+-- a line: begin, commit and abort where its only token is this word, in any case (`lines_are_read`); else a command. Its tokens are those
+-- spelled, each the longest that fits (`tokens_are_spelled` of `bdb_lex`).
 unfoldable pub line_of : List ℕ → Line
 line_of bytes = line_by (only_word (tokens_of bytes)) bytes
 

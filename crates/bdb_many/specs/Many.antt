@@ -70,7 +70,8 @@ event_in Read.NoSession = []
 event_in (Read.NoLine n) = []
 event_in (Read.Event e) = e ∷ []
 
--- what the pieces of a script are, and the events among them
+-- what the pieces of a script are, each what stands before an end of its spans (`pieces_are_of_spans` of `bdb_lex`), in the words of
+-- their parts (`pieces_are_read` of `bdb_events`); and the events among them
 abbrev pub reads_of : List ℕ → List Read
 reads_of script = map read_of (pieces_of script)
 
@@ -94,7 +95,8 @@ abbrev pub after_from : {S : Type 0} → Batches S → S → List Event → List
 after_from m s before [] = s
 after_from m s before (r ∷ rs) = after_from m (read_next m s before r) (before ++ event_in r) rs
 
--- all replies to a script: one for each piece, and one for its rest
+-- all replies to a script: one for each piece, and one for its rest, which holds something where a text or a byte other than a blank
+-- stands behind the last end (`rest_is_of_spans` of `bdb_lex`)
 abbrev pub many_replies : {S : Type 0} → Batches S → S → List ℕ → List (List ℕ)
 many_replies m s script = replies_from m s [] (reads_of script) ++ rest_reply (has_rest script) ∷ []
 

@@ -1,15 +1,22 @@
--- How one event was answered.
-use Rattle.std.proofs.Common.{◌≡◌, ℕ, ◌+◌, ◌≤◌, Bool, List, [], ◌∷◌, take, length, sym, subst, arith, Option, Ok, Err}
+-- How a session answered one event.
+use Rattle.std.proofs.Common.{◌≡◌, ℕ, ◌+◌, ◌≤◌, Bool, List, [], ◌∷◌, take, length, sym, subst, arith, Option, Result, Ok, Err}
 use Rattle.std.specs.Io.KnownBytes.{Appends}
 use Rattle.bdb_base.specs.Causes.{Rises}
 use Rattle.bdb_keep.specs.Seen.{Seen, Unchanged}
 use Rattle.bdb_keep.specs.Tables.{Tables}
-use Rattle.bdb_session.specs.declared.event.Event.{Event}
-use Rattle.bdb_session.specs.Known.{Known, Remembers}
+use Rattle.bdb_lex.specs.declared.token.Piece.{Piece}
+use Rattle.bdb_lex.specs.declared.token.Piece.TheVariants as piece
+use Rattle.bdb_session.specs.Known.{Known, Remembers, RemembersSome}
+use Rattle.bdb_session.specs.Runs.{event_of}
 use Rattle.bdb_session.specs.Undoing.{accepts, counts, next_state, reply_of}
-use Rattle.bdb_undo.specs.Timelines.{Timeline}
-use Rattle.bdb_stream.specs.Carried.{Carried, IsAnswer}
+use Rattle.bdb_session.specs.declared.event.Event.{Event}
+use Rattle.bdb_session.specs.declared.event.Event.TheVariants as event
+use Rattle.bdb_stream.specs.Carried.{Carried, by_session}
+use Rattle.bdb_stream.specs.Handled.{IsAnswer}
+use Rattle.bdb_stream.specs.Handling.{IsAt, IsAtSome}
+use Rattle.bdb_stream.specs.declared.stop.Stop.{Stop}
 use Rattle.bdb_stream.specs.declared.stop.Stop.TheVariants.{Sink}
+use Rattle.bdb_undo.specs.Timelines.{Timeline}
 
 -- nothing was carried out
 pub carries_none : (s : Timeline) (before now : Known) (first last : Seen) → now ≡ before → Unchanged first last → Remembers first.kept before s → Carried s [] now first last
@@ -31,9 +38,32 @@ carries_one s e now first last agrees commits = record {
 
 -- and the reply was written, or a part of it
 pub answers_one : (s : Timeline) (e : Event) (accepted : Bool) (text : List ℕ) (now : Known) (first last : Seen) (old new : Option (List ℕ)) → Carried s (e ∷ []) now first last
-    → accepted ≡ accepts s e → text ≡ reply_of s e → Appends old new text → IsAnswer s e now first last old new (Ok accepted)
-answers_one s e accepted text now first last old new carried fine is written = (carried, fine, subst (λ (x : List ℕ). Appends old new x) is written)
+    → accepted ≡ accepts s e → text ≡ reply_of s e → Appends old new text → IsAnswer by_session s e now first last old new (Ok accepted)
+answers_one s e accepted text now first last old new carried fine is written = record {
+  carried = carried;
+  stands = tt;
+  written = subst (λ (x : List ℕ). Appends old new x) is written;
+  told_fine = fine;
+}
 
 pub answers_part : (s : Timeline) (e : Event) (text : List ℕ) (now : Known) (first last : Seen) (old new : Option (List ℕ)) → Carried s (e ∷ []) now first last
-    → text ≡ reply_of s e → (k : ℕ) × (k ≤ length text) × Appends old new (take k text) → IsAnswer s e now first last old new (Err Sink)
+    → text ≡ reply_of s e → (k : ℕ) × (k ≤ length text) × Appends old new (take k text) → IsAnswer by_session s e now first last old new (Err Sink)
 answers_part s e text now first last old new carried is written = (carried, (written.0, subst (λ (x : List ℕ). Appends old new (take written.0 x)) is written.2))
+
+-- a session that remembers a timeline with tables is at it, and one that remembers some is at some
+pub at_timeline : (t : Tables) (k : Known) (s : Timeline) → Remembers t k s → IsAt by_session t k s
+at_timeline t k s a = record { agrees = a; stands = tt }
+
+pub at_some : (t : Tables) (k : Known) → RemembersSome t k → IsAtSome by_session t k
+at_some t k some = record { point = some.timeline; at = at_timeline t k some.timeline some.remembers; remembers = some }
+
+-- a piece is answered as the event for which it asks
+module _ (s : Timeline) (p : Piece) (next : Known) (first last : Seen) (old new : Option (List ℕ)) (result : Result Bool Stop) where
+  pub command_answers : (bytes text : List ℕ) → p ≡ piece.Cmd text → bytes ≡ text → IsAnswer by_session s (event.Piece bytes) next first last old new result
+      → IsAnswer by_session s (event_of p) next first last old new result
+  command_answers bytes text is same answer =
+      subst (λ (x : Piece). IsAnswer by_session s (event_of x) next first last old new result) (sym is)
+      (subst (λ (b : List ℕ). IsAnswer by_session s (event.Piece b) next first last old new result) same answer)
+
+  pub long_answers : p ≡ piece.Long → IsAnswer by_session s event.Long next first last old new result → IsAnswer by_session s (event_of p) next first last old new result
+  long_answers is answer = subst (λ (x : Piece). IsAnswer by_session s (event_of x) next first last old new result) (sym is) answer

@@ -1,53 +1,49 @@
--- Answering a block of a script, piece by piece.
-use Rattle.std.proofs.Common.{◌≡◌, ◌∙◌, ℕ, Bool, ◌&&◌, List, [], ◌∷◌, ◌++◌, map, Option, Ok, true, refl, ap, sym, append_assoc}
+-- Answering a block of a stream, piece by piece.
+use Rattle.std.proofs.Common.{◌≡◌, ◌∙◌, ℕ, Bool, ◌&&◌, List, [], ◌∷◌, ◌++◌, map, Option, Ok, refl, ap, sym, subst, append_assoc}
+use Rattle.std.proofs.lemmas.List.{append-nil}
 use Rattle.bdb_keep.specs.Seen.{Seen}
 use Rattle.bdb_lex.specs.Cut.{CutState, CutterState, EndsFirst, ready, start, pieces_from, state_after}
 use Rattle.bdb_lex.specs.declared.token.Piece.{Piece}
-use Rattle.bdb_session.specs.declared.event.Event.{Event}
-use Rattle.bdb_session.specs.Known.{Known, Remembers}
-use Rattle.bdb_undo.specs.Timelines.{Timeline}
-use Rattle.bdb_session.specs.Runs.{event_of}
-use Rattle.bdb_stream.specs.Carried.{Comes}
-use Rattle.bdb_stream.proofs.AnswerLemmas.{carries_none}
-use Rattle.bdb_stream.proofs.RunLemmas.{AnswersOf, comes_one}
-use Rattle.bdb_stream.proofs.StreamLemmas.{nothing_grows}
+use Rattle.bdb_stream.specs.Handled.{Comes}
+use Rattle.bdb_stream.specs.Handling.{Handling, IsAt, IsInOrder}
+use Rattle.bdb_stream.proofs.HandledLemmas.{AnswersOf, comes_one}
 
--- the events of the pieces that end in these bytes
-abbrev pub events_in : CutState → List ℕ → List Event
-events_in s bytes = map event_of (pieces_from s bytes)
-
--- of the events of a block some are done, and those of the rest are left: the first piece of the rest is the next
-pub next_is : (all done : List Event) (s : CutState) (rest others : List ℕ) (piece : Piece) → all ≡ done ++ events_in s rest → EndsFirst s rest piece others
-    → all ≡ done ++ (event_of piece ∷ events_in start others)
-next_is all done s rest others piece left first = left ∙ ap (λ (l : List Piece). done ++ map event_of l) first.pieces
-
--- and once it is done, those behind it are left
-pub next_done : (all done : List Event) (s : CutState) (rest others : List ℕ) (piece : Piece) (cutter : CutterState) → all ≡ done ++ events_in s rest → EndsFirst s rest piece others
-    → cutter ≡ ready start → all ≡ (done ++ (event_of piece ∷ [])) ++ events_in cutter.state others
-next_done all done s rest others piece cutter left first is =
-    next_is all done s rest others piece left first ∙ sym (append_assoc done (event_of piece ∷ []) (events_in start others))
-    ∙ ap (λ (c : CutterState). (done ++ (event_of piece ∷ [])) ++ events_in c.state others) (sym is)
+-- what the pieces ask for that end in these bytes
+abbrev pub asked_in : {H : Type 0} (m : Handling H) → CutState → List ℕ → List m.Asked
+asked_in m s bytes = map m.asked_by (pieces_from s bytes)
 
 pub state_done : (last s : CutState) (rest others : List ℕ) (piece : Piece) (cutter : CutterState) → last ≡ state_after s rest → EndsFirst s rest piece others
     → cutter ≡ ready start → last ≡ state_after cutter.state others
 state_done last s rest others piece cutter h first is = h ∙ first.state ∙ ap (λ (c : CutterState). state_after c.state others) (sym is)
 
--- the run has come through one piece more
-pub come_next : (all : List Event) (known : Known) (s : CutState) (rest others : List ℕ) (piece : Piece) (cutter : CutterState) (session next : Known) (first mid last : Seen) (old middle new : Option (List ℕ)) (accepted fine : Bool)
-    → (done : List Event) × (all ≡ done ++ events_in s rest) × ((x : Timeline) → Remembers first.kept known x → Comes x done session first mid old middle accepted)
-    → EndsFirst s rest piece others → cutter ≡ ready start → AnswersOf (event_of piece) session next mid last middle new (Ok fine)
-    → (done : List Event) × (all ≡ done ++ events_in cutter.state others) × ((x : Timeline) → Remembers first.kept known x → Comes x done next first last old new (accepted && fine))
-come_next all known s rest others piece cutter session next first mid last old middle new accepted fine h ends is answers =
-    let done = h.0 ++ (event_of piece ∷ []) in (
-      done,
-      next_done all h.0 s rest others piece cutter h.1 ends is,
-      λ x a. comes_one x h.0 done (event_of piece) session next first mid last old middle new accepted fine refl (h.2 x a) answers,
-    )
+module _ {H : Type 0} (m : Handling H) (o : IsInOrder m) where
+  -- of what a block asks for some is done, and those of the rest are left: the first piece of the rest is the next
+  pub next_is : (all done : List m.Asked) (s : CutState) (rest others : List ℕ) (piece : Piece) → all ≡ done ++ asked_in m s rest → EndsFirst s rest piece others
+      → all ≡ done ++ (m.asked_by piece ∷ asked_in m start others)
+  next_is all done s rest others piece left first = left ∙ ap (λ (l : List Piece). done ++ map m.asked_by l) first.pieces
 
--- before the first piece nothing is done
-pub comes_none : (s : Timeline) (session : Known) (now : Seen) (out : Option (List ℕ)) → Remembers now.kept session s → Comes s [] session now now out out true
-comes_none s session now out a = record {
-  carried = carries_none s session session now now refl (record { kept = refl; last = refl; commits = refl }) a;
-  written = nothing_grows out;
-  none_refused = refl;
-}
+  -- and once it is done, those behind it are left
+  pub next_done : (all done : List m.Asked) (s : CutState) (rest others : List ℕ) (piece : Piece) (cutter : CutterState) → all ≡ done ++ asked_in m s rest → EndsFirst s rest piece others
+      → cutter ≡ ready start → all ≡ (done ++ (m.asked_by piece ∷ [])) ++ asked_in m cutter.state others
+  next_done all done s rest others piece cutter left first is =
+      next_is all done s rest others piece left first ∙ sym (append_assoc done (m.asked_by piece ∷ []) (asked_in m start others))
+      ∙ ap (λ (c : CutterState). (done ++ (m.asked_by piece ∷ [])) ++ asked_in m c.state others) (sym is)
+
+  -- the run has come through one piece more
+  pub come_next : (all : List m.Asked) (before : H) (s : CutState) (rest others : List ℕ) (piece : Piece) (cutter : CutterState) (hand next : H) (first mid last : Seen) (old middle new : Option (List ℕ)) (fine more : Bool)
+      → (done : List m.Asked) × (all ≡ done ++ asked_in m s rest) × ((x : m.Point) → IsAt m first.kept before x → Comes m x done hand first mid old middle fine)
+      → EndsFirst s rest piece others → cutter ≡ ready start → AnswersOf m (m.asked_by piece) hand next mid last middle new (Ok more)
+      → (done : List m.Asked) × (all ≡ done ++ asked_in m cutter.state others) × ((x : m.Point) → IsAt m first.kept before x → Comes m x done next first last old new (fine && more))
+  come_next all before s rest others piece cutter hand next first mid last old middle new fine more h ends is answers =
+      let done = h.0 ++ (m.asked_by piece ∷ []) in (
+        done,
+        next_done all h.0 s rest others piece cutter h.1 ends is,
+        λ x a. (comes_one m o) x h.0 done (m.asked_by piece) hand next first mid last old middle new fine more refl (h.2 x a) answers,
+      )
+
+  -- where no piece of the rest is left, the run has come through all
+  pub come_all : (all : List m.Asked) (before : H) (s : CutState) (rest : List ℕ) (hand : H) (first mid : Seen) (old middle : Option (List ℕ)) (fine : Bool)
+      → (done : List m.Asked) × (all ≡ done ++ asked_in m s rest) × ((x : m.Point) → IsAt m first.kept before x → Comes m x done hand first mid old middle fine)
+      → pieces_from s rest ≡ [] → (x : m.Point) → IsAt m first.kept before x → Comes m x all hand first mid old middle fine
+  come_all all before s rest hand first mid old middle fine h none x a =
+      subst (λ (asked : List m.Asked). Comes m x asked hand first mid old middle fine) (sym (h.1 ∙ ap (λ (l : List Piece). h.0 ++ map m.asked_by l) none ∙ append-nil h.0)) (h.2 x a)

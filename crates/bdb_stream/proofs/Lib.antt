@@ -1,4 +1,5 @@
-pub mod RunLemmas
-pub mod StreamLemmas
 pub mod AnswerLemmas
 pub mod BlockLemmas
+pub mod CommitLemmas
+pub mod HandledLemmas
+pub mod ReadsLemmas

@@ -1,23 +1,111 @@
-// Answering the pieces of a script, and what follows them.
-ghost use Rattle.std.specs.Prelude.{◌≡◌, ◌≤◌, OnErr, IsErrOf};
-ghost use Rattle.bdb_base.specs.Causes.{Rose, HasCause};
+// How a session handles the pieces of a script.
+ghost use Rattle.std.specs.Prelude.{◌≡◌, ◌<◌, ◌≤◌, ◌+◌, ℕ, IfSome, OnOk, OnErr, IsErrOf, length};
+ghost use Rattle.std.specs.Io.KnownBytes.{IsAtEnd};
+ghost use Rattle.bdb_base.specs.Causes.{Rose, Rises, RisesOver, HasCause};
+ghost use Rattle.bdb_base.specs.Limits.{longest_script};
 ghost use Rattle.bdb_io.specs.Failure.{failed};
 ghost use Rattle.bdb_io.specs.Pieces.{WritesPiece};
 ghost use Rattle.bdb_keep.specs.Seen.{IsStill, NeverFall};
 ghost use Rattle.bdb_session.specs.Known.{Remembers, RemembersSome};
 ghost use Rattle.bdb_session.specs.declared.event.Event.TheVariants as event;
 ghost use Rattle.bdb_undo.specs.Timelines.{Timeline};
-ghost use Rattle.bdb_session.specs.Runs.{event_of};
-ghost use Rattle.bdb_stream.specs.Carried.{IsAnswer};
+ghost use Rattle.bdb_stream.specs.Carried.{by_session, session_in_order};
+ghost use Rattle.bdb_stream.specs.Handled.{IsAnswer};
+ghost use Rattle.bdb_stream.specs.Handling.{IsAt};
+ghost use Rattle.bdb_stream.specs.Streams.{Streams};
 
+use crate::handler::Handler;
 use crate::stop::Stop;
-use bdb_io::{Failed, Sink};
+use crate::stream::carry_out;
+use bdb_io::{Failed, Sink, Source};
 use bdb_keep::Keeper;
-use bdb_lex::Piece;
+use bdb_lex::{Piece, Rest};
 use bdb_session::{Event, Session, StopError};
+use std::alloc::Global;
+
+/// Carries out the script that a source gives, each command as soon as the bytes are read in which it ends. Ok tells
+/// whether each was accepted.
+pub fn carry_out_script<S: Source, O: Sink, K: Keeper>(
+    alloc: Global,
+    script: &mut S,
+    session: &mut Session,
+    keeper: &mut K,
+    out: &mut O,
+) -> Result<bool, Stop>
+    requires still { IsStill (K.seen keeper.old) }
+    requires agrees { RemembersSome (K.seen keeper.old).kept session.old }
+    ensures streams { (s : Timeline) → Remembers (K.seen keeper.old).kept session.old s
+        → Streams s (S.left script.old) (S.left script.new) session.new (K.seen keeper.old)
+        (K.seen keeper.new) (O.written out.old) (O.written out.new) result }
+    ensures end { OnOk result (IsAtEnd (S.left script.new)) }
+    ensures short { OnOk result
+        (IfSome (S.left script.old) (λ text. length text ≤ longest_script)) }
+    ensures still { IsStill (K.seen keeper.new) }
+    ensures agrees { RemembersSome (K.seen keeper.new).kept session.new }
+    ensures source { IsErrOf result Stop.Source → Rose (S.faults script.old) (S.faults script.new) }
+    ensures sink { IsErrOf result Stop.Sink → Rose (O.faults out.old) (O.faults out.new) }
+    ensures keeper { IsErrOf result Stop.Keeper → Rose (K.seen keeper.old).faults
+        (K.seen keeper.new).faults }
+    ensures large { IsErrOf result Stop.Large → RisesOver longest_script (S.given script.old)
+        (S.given script.new) }
+    ensures many { IsErrOf result Stop.Large → IfSome (S.left script.old)
+        (λ text. longest_script < length text) }
+    ensures within { (IsErrOf result Stop.Large → ⊥) → (n : ℕ) × (n ≤ longest_script)
+        × Rises n (S.given script.old) (S.given script.new) }
+    ensures one_more { IsErrOf result Stop.Large → Rises (longest_script + 1) (S.given script.old)
+        (S.given script.new) }
+    ensures source_counts { (S.faults script.old ≤ S.faults script.new)
+        × (S.given script.old ≤ S.given script.new) }
+    ensures sink_count { O.faults out.old ≤ O.faults out.new }
+    ensures keeper_counts { NeverFall (K.seen keeper.old) (K.seen keeper.new) }
+{
+    match carry_out(alloc, script, session, keeper, out) {
+        Ok(accepted) => Ok(accepted),
+        Err(stop) => Err(stop),
+    }
+}
+
+impl Handler for Session {
+    ghost handling = { by_session };
+
+    fn answer_piece<O: Sink, K: Keeper>(
+        &mut self,
+        keeper: &mut K,
+        out: &mut O,
+        piece: &Piece<'_>,
+    ) -> Result<bool, Stop> {
+        match piece {
+            Piece::Cmd(bytes) => match answer_command(self, keeper, out, bytes.as_slice()) {
+                Ok(accepted) => Ok(accepted),
+                Err(stop) => Err(stop),
+            },
+            Piece::Long => match answer(self, keeper, out, &Event::Long) {
+                Ok(accepted) => Ok(accepted),
+                Err(stop) => Err(stop),
+            },
+        }
+    }
+
+    fn answer_rest<O: Sink, K: Keeper>(
+        &mut self,
+        keeper: &mut K,
+        out: &mut O,
+        rest: Rest,
+    ) -> Result<bool, Stop> {
+        match rest {
+            Rest::Nothing => Ok(true),
+            Rest::Unfinished => match answer(self, keeper, out, &Event::Unfinished) {
+                Ok(accepted) => Ok(accepted),
+                Err(stop) => Err(stop),
+            },
+        }
+    }
+
+    ghost in_order = { session_in_order };
+}
 
 /// Answers an event, and writes the reply.
-pub fn answer<O: Sink, K: Keeper>(
+fn answer<O: Sink, K: Keeper>(
     session: &mut Session,
     keeper: &mut K,
     out: &mut O,
@@ -26,7 +114,7 @@ pub fn answer<O: Sink, K: Keeper>(
     requires still { IsStill (K.seen keeper.old) }
     requires agrees { RemembersSome (K.seen keeper.old).kept session.old }
     ensures answered { (s : Timeline) → Remembers (K.seen keeper.old).kept session.old s
-        → IsAnswer s event.now session.new (K.seen keeper.old) (K.seen keeper.new)
+        → IsAnswer by_session s event.now session.new (K.seen keeper.old) (K.seen keeper.new)
         (O.written out.old) (O.written out.new) result }
     ensures still { IsStill (K.seen keeper.new) }
     ensures agrees { RemembersSome (K.seen keeper.new).kept session.new }
@@ -49,40 +137,6 @@ pub fn answer<O: Sink, K: Keeper>(
     }
 }
 
-/// Answers a piece, and writes the reply.
-pub fn answer_piece<O: Sink, K: Keeper>(
-    session: &mut Session,
-    keeper: &mut K,
-    out: &mut O,
-    piece: &Piece<'_>,
-) -> Result<bool, Stop>
-    requires still { IsStill (K.seen keeper.old) }
-    requires agrees { RemembersSome (K.seen keeper.old).kept session.old }
-    ensures answered { (s : Timeline) → Remembers (K.seen keeper.old).kept session.old s
-        → IsAnswer s (event_of piece.now) session.new (K.seen keeper.old) (K.seen keeper.new)
-        (O.written out.old) (O.written out.new) result }
-    ensures still { IsStill (K.seen keeper.new) }
-    ensures agrees { RemembersSome (K.seen keeper.new).kept session.new }
-    ensures never_fall { NeverFall (K.seen keeper.old) (K.seen keeper.new) }
-    ensures keeper { HasCause (K.seen keeper.old).faults
-        (K.seen keeper.new).faults result Stop.Keeper }
-    ensures later { O.faults out.old ≤ O.faults out.new }
-    ensures sink { IsErrOf result Stop.Sink → Rose (O.faults out.old) (O.faults out.new) }
-    ensures others { OnErr result ((IsErrOf result Stop.Source → ⊥)
-        × (IsErrOf result Stop.Large → ⊥)) }
-{
-    match piece {
-        Piece::Cmd(bytes) => match answer_command(session, keeper, out, bytes.as_slice()) {
-            Ok(accepted) => Ok(accepted),
-            Err(stop) => Err(stop),
-        },
-        Piece::Long => match answer(session, keeper, out, &Event::Long) {
-            Ok(accepted) => Ok(accepted),
-            Err(stop) => Err(stop),
-        },
-    }
-}
-
 /// Answers a piece of these bytes, and writes the reply.
 fn answer_command<O: Sink, K: Keeper>(
     session: &mut Session,
@@ -93,8 +147,8 @@ fn answer_command<O: Sink, K: Keeper>(
     requires still { IsStill (K.seen keeper.old) }
     requires agrees { RemembersSome (K.seen keeper.old).kept session.old }
     ensures answered { (s : Timeline) → Remembers (K.seen keeper.old).kept session.old s
-        → IsAnswer s (event.Piece bytes.now) session.new (K.seen keeper.old) (K.seen keeper.new)
-        (O.written out.old) (O.written out.new) result }
+        → IsAnswer by_session s (event.Piece bytes.now) session.new (K.seen keeper.old)
+        (K.seen keeper.new) (O.written out.old) (O.written out.new) result }
     ensures still { IsStill (K.seen keeper.new) }
     ensures agrees { RemembersSome (K.seen keeper.new).kept session.new }
     ensures never_fall { NeverFall (K.seen keeper.old) (K.seen keeper.new) }

@@ -1,47 +1,47 @@
-// Carrying out a script while it is read.
+// Carrying out a stream while it is read.
 ghost use Rattle.std.specs.Prelude.{◌≡◌, ◌<◌, ◌≤◌, ◌+◌, ℕ, true, false, IfSome, OnOk, OnErr, IsErrOf, length, map};
 ghost use Rattle.std.specs.Io.KnownBytes.{IsAtEnd};
 ghost use Rattle.bdb_base.specs.Causes.{Rose, Rises, RisesOver, HasCause};
 ghost use Rattle.bdb_base.specs.Limits.{longest_script};
 ghost use Rattle.bdb_keep.specs.Seen.{IsStill, NeverFall};
 ghost use Rattle.bdb_lex.specs.Cut.{ready, pieces_from, state_after};
-ghost use Rattle.bdb_session.specs.Known.{Remembers, RemembersSome};
-ghost use Rattle.bdb_undo.specs.Timelines.{Timeline};
-ghost use Rattle.bdb_session.specs.Runs.{event_of, rest_events};
-ghost use Rattle.bdb_stream.specs.Carried.{Ends};
-ghost use Rattle.bdb_stream.specs.Streams.{longest_read, Streams};
+ghost use Rattle.bdb_session.specs.Known.{RemembersSome};
+ghost use Rattle.bdb_stream.specs.Handled.{Ends};
+ghost use Rattle.bdb_stream.specs.Handling.{IsAt, IsAtSome};
+ghost use Rattle.bdb_stream.specs.Reads.{longest_read, Streams};
 
-use crate::answers::{answer, answer_piece};
+use crate::handler::Handler;
 use crate::stop::Stop;
 use bdb_base::limits::{LONGEST_COMMAND, LONGEST_SCRIPT};
 use bdb_io::{Failed, Sink, Source};
 use bdb_keep::Keeper;
-use bdb_lex::{Cutter, Rest};
-use bdb_session::{Event, Session};
+use bdb_lex::Cutter;
 use std::alloc::Global;
 
 /// How many bytes are read at a time: as many as a command may have.
 const BLOCK: usize = LONGEST_COMMAND;
 
-/// Carries out the script that a source gives, each command as soon as the bytes are read in which it ends. Ok tells
-/// whether each was accepted.
-pub fn carry_out_script<S: Source, O: Sink, K: Keeper>(
+/// Carries out the stream that a source gives: each piece is handled as soon as the bytes are read in which it ends. Ok tells whether
+/// no reply tells an error.
+pub fn carry_out<S: Source, H: Handler, K: Keeper, O: Sink>(
     alloc: Global,
     script: &mut S,
-    session: &mut Session,
+    handler: &mut H,
     keeper: &mut K,
     out: &mut O,
 ) -> Result<bool, Stop>
     requires still { IsStill (K.seen keeper.old) }
-    requires agrees { RemembersSome (K.seen keeper.old).kept session.old }
-    ensures streams { (s : Timeline) → Remembers (K.seen keeper.old).kept session.old s
-        → Streams s (S.left script.old) (S.left script.new) session.new (K.seen keeper.old)
-        (K.seen keeper.new) (O.written out.old) (O.written out.new) result }
+    requires at { IsAtSome H.handling (K.seen keeper.old).kept handler.old }
+    ensures streams { (p : H.handling.Point)
+        → IsAt H.handling (K.seen keeper.old).kept handler.old p
+        → Streams H.handling p (S.left script.old) (S.left script.new)
+        (H.handling.session_of handler.new) (K.seen keeper.old) (K.seen keeper.new)
+        (O.written out.old) (O.written out.new) result }
     ensures end { OnOk result (IsAtEnd (S.left script.new)) }
     ensures short { OnOk result
         (IfSome (S.left script.old) (λ text. length text ≤ longest_script)) }
     ensures still { IsStill (K.seen keeper.new) }
-    ensures agrees { RemembersSome (K.seen keeper.new).kept session.new }
+    ensures agrees { RemembersSome (K.seen keeper.new).kept (H.handling.session_of handler.new) }
     ensures source { IsErrOf result Stop.Source → Rose (S.faults script.old) (S.faults script.new) }
     ensures sink { IsErrOf result Stop.Sink → Rose (O.faults out.old) (O.faults out.new) }
     ensures keeper { IsErrOf result Stop.Keeper → Rose (K.seen keeper.old).faults
@@ -61,7 +61,7 @@ pub fn carry_out_script<S: Source, O: Sink, K: Keeper>(
 {
     let mut cutter = Cutter::new(alloc);
     let mut block = [0; BLOCK];
-    let mut accepted = true;
+    let mut fine = true;
     let mut taken = 0;
     loop {
         let room = LONGEST_SCRIPT - taken;
@@ -71,8 +71,8 @@ pub fn carry_out_script<S: Source, O: Sink, K: Keeper>(
             Err(Failed) => return Err(Stop::Source),
         };
         if count == 0 {
-            match answer_rest(session, keeper, out, cutter.finish()) {
-                Ok(fine) => return Ok(accepted & fine),
+            match handler.answer_rest(keeper, out, cutter.finish()) {
+                Ok(more) => return Ok(fine & more),
                 Err(stop) => return Err(stop),
             }
         }
@@ -80,8 +80,8 @@ pub fn carry_out_script<S: Source, O: Sink, K: Keeper>(
             return Err(Stop::Large);
         }
         taken += count;
-        match answer_block(alloc, &mut cutter, &part[..count], session, keeper, out) {
-            Ok(fine) => accepted &= fine,
+        match answer_block(alloc, &mut cutter, &part[..count], handler, keeper, out) {
+            Ok(more) => fine &= more,
             Err(stop) => return Err(stop),
         }
     }
@@ -98,23 +98,26 @@ fn size_of_read(room: usize) -> usize
 }
 
 /// Answers the pieces that end in a block of bytes, each as soon as it is cut.
-fn answer_block<O: Sink, K: Keeper>(
+fn answer_block<H: Handler, K: Keeper, O: Sink>(
     alloc: Global,
     cutter: &mut Cutter,
     block: &[u8],
-    session: &mut Session,
+    handler: &mut H,
     keeper: &mut K,
     out: &mut O,
 ) -> Result<bool, Stop>
     requires ready { cutter.old.is_spent ≡ false }
     requires still { IsStill (K.seen keeper.old) }
-    requires agrees { RemembersSome (K.seen keeper.old).kept session.old }
+    requires at { IsAtSome H.handling (K.seen keeper.old).kept handler.old }
     ensures cutter { OnOk result (cutter.new ≡ ready (state_after cutter.old.state block.now)) }
-    ensures ends { (s : Timeline) → Remembers (K.seen keeper.old).kept session.old s
-        → Ends s (map event_of (pieces_from cutter.old.state block.now)) session.new
-        (K.seen keeper.old) (K.seen keeper.new) (O.written out.old) (O.written out.new) result }
+    ensures ends { (p : H.handling.Point)
+        → IsAt H.handling (K.seen keeper.old).kept handler.old p
+        → Ends H.handling p (map H.handling.asked_by (pieces_from cutter.old.state block.now))
+        handler.new (K.seen keeper.old) (K.seen keeper.new) (O.written out.old) (O.written out.new)
+        result }
+    ensures at { OnOk result (IsAtSome H.handling (K.seen keeper.new).kept handler.new) }
     ensures still { IsStill (K.seen keeper.new) }
-    ensures agrees { RemembersSome (K.seen keeper.new).kept session.new }
+    ensures agrees { RemembersSome (K.seen keeper.new).kept (H.handling.session_of handler.new) }
     ensures never_fall { NeverFall (K.seen keeper.old) (K.seen keeper.new) }
     ensures keeper { HasCause (K.seen keeper.old).faults
         (K.seen keeper.new).faults result Stop.Keeper }
@@ -124,49 +127,18 @@ fn answer_block<O: Sink, K: Keeper>(
         × (IsErrOf result Stop.Large → ⊥)) }
 {
     let mut rest = block;
-    let mut accepted = true;
+    let mut fine = true;
     loop {
         match cutter.next_piece(alloc, rest) {
-            Ok(Some((piece, others))) => match answer_piece(session, keeper, out, &piece) {
-                Ok(fine) => {
-                    accepted &= fine;
+            Ok(Some((piece, others))) => match handler.answer_piece(keeper, out, &piece) {
+                Ok(more) => {
+                    fine &= more;
                     rest = others;
                 }
                 Err(stop) => return Err(stop),
             },
-            Ok(None) => return Ok(accepted),
+            Ok(None) => return Ok(fine),
             Err(_) => return Err(Stop::Memory),
         }
-    }
-}
-
-/// Answers what stands behind the last semicolon of a script.
-fn answer_rest<O: Sink, K: Keeper>(
-    session: &mut Session,
-    keeper: &mut K,
-    out: &mut O,
-    rest: Rest,
-) -> Result<bool, Stop>
-    requires still { IsStill (K.seen keeper.old) }
-    requires agrees { RemembersSome (K.seen keeper.old).kept session.old }
-    ensures ends { (s : Timeline) → Remembers (K.seen keeper.old).kept session.old s
-        → Ends s (rest_events rest) session.new (K.seen keeper.old) (K.seen keeper.new)
-        (O.written out.old) (O.written out.new) result }
-    ensures still { IsStill (K.seen keeper.new) }
-    ensures agrees { RemembersSome (K.seen keeper.new).kept session.new }
-    ensures never_fall { NeverFall (K.seen keeper.old) (K.seen keeper.new) }
-    ensures keeper { HasCause (K.seen keeper.old).faults
-        (K.seen keeper.new).faults result Stop.Keeper }
-    ensures later { O.faults out.old ≤ O.faults out.new }
-    ensures sink { IsErrOf result Stop.Sink → Rose (O.faults out.old) (O.faults out.new) }
-    ensures others { OnErr result ((IsErrOf result Stop.Source → ⊥)
-        × (IsErrOf result Stop.Large → ⊥)) }
-{
-    match rest {
-        Rest::Nothing => Ok(true),
-        Rest::Unfinished => match answer(session, keeper, out, &Event::Unfinished) {
-            Ok(accepted) => Ok(accepted),
-            Err(stop) => Err(stop),
-        },
     }
 }

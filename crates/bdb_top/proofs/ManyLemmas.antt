@@ -4,7 +4,7 @@ use Rattle.std.specs.Io.KnownBytes.{Appends}
 use Rattle.bdb_base.specs.Causes.{Rises}
 use Rattle.bdb_catalog.specs.Bases.{StoresValid}
 use Rattle.bdb_catalog.specs.Opening.{StandFor}
-use Rattle.bdb_crowd.specs.Asked.{Asked, Point, after, all_fine, asked_of, committed, replies, start_at, IsFrontOf}
+use Rattle.bdb_crowd.specs.Asked.{Asked, Point, after, all_fine, asked_of, committed, replies, start_at}
 use Rattle.bdb_crowd.specs.Carried.{AtHand, Carried, IsAt}
 use Rattle.bdb_crowd.specs.Streams.{KeepsUp, Streams}
 use Rattle.bdb_keep.specs.Seen.{Seen, IsStill, Unchanged}
@@ -12,7 +12,8 @@ use Rattle.bdb_keep.specs.Tables.{Tables}
 use Rattle.bdb_session.specs.Known.{Known, Agrees}
 use Rattle.bdb_session.specs.Opening.{opening, Opens}
 use Rattle.bdb_session.specs.Outcome.{State, start_from}
-use Rattle.bdb_stream.specs.Streams.{status_of}
+use Rattle.bdb_stream.specs.Handling.{IsFrontOf}
+use Rattle.bdb_stream.specs.Reads.{status_of}
 use Rattle.bdb_stream.specs.declared.stop.Stop.{Stop}
 use Rattle.bdb_stream.specs.declared.stop.Stop.TheVariants.{Source, Sink, Keeper, Memory, Large}
 use Rattle.bdb_top.specs.Ran.{EachBase, StandsForNone, CommitsFor}

@@ -14,7 +14,8 @@ use Rattle.bdb_undo.specs.Timelines.{Timeline, started}
 use Rattle.bdb_session.specs.Runs.{events_of, IsFrontOf}
 use Rattle.bdb_session.specs.UndoRuns.{after, replies, accepts_all}
 use Rattle.bdb_stream.specs.Carried.{counted, Carried}
-use Rattle.bdb_stream.specs.Streams.{status_of, KeepsUp, Streams}
+use Rattle.bdb_stream.specs.Reads.{status_of}
+use Rattle.bdb_stream.specs.Streams.{KeepsUp, Streams}
 use Rattle.bdb_stream.specs.declared.stop.Stop.{Stop}
 use Rattle.bdb_stream.specs.declared.stop.Stop.TheVariants.{Source, Sink, Keeper, Memory, Large}
 use Rattle.bdb_top.specs.Ran.{EachBase, Ran, StandsForNone, CommitsFor}
@@ -140,7 +141,7 @@ through s text left first now old new false done is front leaves written none ke
 ran_from : (s : Timeline) (text : List ℕ) (left : Option (List ℕ)) (session : Known) (first mid now : Seen) (old new : Option (List ℕ)) (result : Result Bool Stop)
     → Rises (opening first.kept) first.commits mid.commits → IsStill now → Streams s (Some text) left session mid now old new result → Ran s text left first now old new (status_of result)
 ran_from s text left session first mid now old new (Ok accepted) opened still run =
-    through s text left first now old new accepted run.done run.all run.front (left_by s run.done session first mid now opened run.carried still) run.written run.accepted run.keeps_up
+    through s text left first now old new accepted run.done run.all run.front (left_by s run.done session first mid now opened run.carried still) run.written run.fine run.keeps_up
 ran_from s text left session first mid now old new (Err Source) opened still run =
     early s text left first now old new 3 run.done run.front (left_by s run.done session first mid now opened run.carried still) run.written run.keeps_up (omega arith) (λ e. omega arith)
 ran_from s text left session first mid now old new (Err Keeper) opened still run =

@@ -25,4 +25,5 @@ pub record EndsByCommits (s : State) (script : List ℕ) (now : Seen) (old new :
 
 -- the count of commits, unless it stands at the end of its type, tells how a run over a stream ends
 abbrev pub CommitsTellMany : State → List ℕ → Seen → Seen → Option (List ℕ) → Option (List ℕ) → ℕ → Type 0
-CommitsTellMany s script first now old new status = now.commits < 2 ^ 64 - 1 → EndsByCommits s script now old new status (commits_between first now)
+CommitsTellMany s script first now old new status = now.commits < 2 ^ 64 - 1 → EndsByCommits s script now old new status
+    (commits_between first now)

@@ -32,4 +32,5 @@ commits_between first now = now.commits - first.commits - opening first.kept
 
 -- the count of commits, unless it stands at the end of its type, tells how a run over a script ends
 abbrev pub CommitsTell : Timeline → List ℕ → Seen → Seen → Option (List ℕ) → Option (List ℕ) → ℕ → Type 0
-CommitsTell s text first now old new status = now.commits < 2 ^ 64 - 1 → EndsByCount s (events_of text) now old new status (commits_between first now)
+CommitsTell s text first now old new status = now.commits < 2 ^ 64 - 1 → EndsByCount s (events_of text) now old new status
+    (commits_between first now)

@@ -49,7 +49,8 @@ base_after events = (after (started empty_contents) events).now
 
 -- the summary of events from the empty base
 abbrev pub summary_of : List Event → List ℕ
-summary_of events = summary_text (tally_from no_replies (started empty_contents) events) (counts_of (base_after events)).worlds (counts_of (base_after events)).rows
+summary_of events = summary_text (tally_from no_replies (started empty_contents) events)
+    (counts_of (base_after events)).worlds (counts_of (base_after events)).rows
 
 -- the summary of the script of a seed and a size
 abbrev pub summary : ℕ → ℕ → List ℕ

@@ -31,7 +31,8 @@ CommitsFor k first now = now.commits < 2 ^ 64 - 1 → k ≡ commits_between firs
 -- were, with no row or of the format before this one. There was one commit for each event that counts, and the one of opening.
 -- The replies to the events are written, but where the sink failed perhaps a part of the last alone. The events done keep up with
 -- the bytes that were taken of the script.
-pub record Ran (s : Timeline) (text : List ℕ) (left : Option (List ℕ)) (first now : Seen) (old new : Option (List ℕ)) (status : ℕ) : Type 0 where
+pub record Ran (s : Timeline) (text : List ℕ) (left : Option (List ℕ)) (first now : Seen) (old new : Option (List ℕ))
+    (status : ℕ) : Type 0 where
   pub done : List Event
   pub front : IsFrontOf done (events_of text)
   pub stands : StandFor now.last (after s done).now

@@ -3,11 +3,12 @@ use Rattle.std.specs.Prelude.{◌≡◌, ◌≢◌, ℕ, ◌≤◌, true, false,
 use Rattle.std.specs.Io.KnownBytes.{Appends}
 use Rattle.bdb_catalog.specs.Bases.{StoresValid}
 use Rattle.bdb_catalog.specs.Opening.{StandFor}
-use Rattle.bdb_crowd.specs.Asked.{Asked, after, all_fine, asked_of, committed, replies, start_at, IsFrontOf}
+use Rattle.bdb_crowd.specs.Asked.{Asked, after, all_fine, asked_of, committed, replies, start_at}
 use Rattle.bdb_crowd.specs.Carried.{WritesPart}
 use Rattle.bdb_crowd.specs.Streams.{KeepsUp}
 use Rattle.bdb_keep.specs.Seen.{Seen}
 use Rattle.bdb_session.specs.Outcome.{State}
+use Rattle.bdb_stream.specs.Handling.{IsFrontOf}
 use Rattle.bdb_top.specs.Ran.{CommitsFor}
 
 -- A run over a stream from a state has ended with a status. The first of what the stream asks for is done, with 0 and 1 all of it.
@@ -15,7 +16,8 @@ use Rattle.bdb_top.specs.Ran.{CommitsFor}
 -- were, with no row or of the format before this one. There was one commit for each batch that was run whole, and the one of
 -- opening. The replies are written, but where the sink failed perhaps a part of the last alone. What is done keeps up with the bytes
 -- that were taken of the stream.
-pub record RanMany (s : State) (text : List ℕ) (left : Option (List ℕ)) (first now : Seen) (old new : Option (List ℕ)) (status : ℕ) : Type 0 where
+pub record RanMany (s : State) (text : List ℕ) (left : Option (List ℕ)) (first now : Seen) (old new : Option (List ℕ))
+    (status : ℕ) : Type 0 where
   pub done : List Asked
   pub front : IsFrontOf done (asked_of text)
   pub stands : StandFor now.last (after (start_at s) done).state.base

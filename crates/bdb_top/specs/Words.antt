@@ -69,7 +69,8 @@ many_job words = option_map (λ f. Many f.db f.script) (files_of (codes "many") 
 
 -- the job of words that ask to check a file
 abbrev pub check_job : List (List ℕ) → Option Job
-check_job (word ∷ option ∷ value ∷ []) = cond (same_text word (codes "check") && (same_text option (codes "--db") && is_value value)) (Some (Check value)) None
+check_job (word ∷ option ∷ value ∷ []) = cond (same_text word (codes "check") && (same_text option (codes "--db") && is_value value))
+    (Some (Check value)) None
 check_job _ = None
 
 -- the job of a seed and a size

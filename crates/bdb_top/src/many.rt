@@ -27,7 +27,8 @@ pub fn run_stream<S: Source, O: Sink, K: Keeper>(
 ) -> u8
     requires idle { (K.seen keeper.old).running ≡ false }
     ensures ran { IfSome (S.left script.old) (λ text. EachBase (K.seen keeper.old).kept (λ b.
-        RanMany (start_from b) text (S.left script.new) (K.seen keeper.old) (K.seen keeper.new) (O.written out.old) (O.written out.new) result)) }
+        RanMany (start_from b) text (S.left script.new) (K.seen keeper.old) (K.seen keeper.new)
+        (O.written out.old) (O.written out.new) result)) }
     ensures refused { result ≡ 7 → StandsForNone (K.seen keeper.old).kept }
     ensures none { StandsForNone (K.seen keeper.old).kept → (result ≡ 5) ⊎ (result ≡ 6)
         ⊎ (result ≡ 7) }

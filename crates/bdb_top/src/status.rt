@@ -1,6 +1,6 @@
 // The status of a run.
 ghost use Rattle.std.specs.Prelude.{◌≡◌};
-ghost use Rattle.bdb_stream.specs.Streams.{status_of};
+ghost use Rattle.bdb_stream.specs.Reads.{status_of};
 
 use bdb_stream::Stop;
 

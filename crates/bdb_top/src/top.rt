@@ -37,17 +37,9 @@ use std::alloc::Global;
 /// Tables without rows are first given those of the empty base, and those of the format before this one are written in this one, by
 /// one commit, which is that of no command.
 ///
-/// | status | it comes |
-/// |---|---|
-/// | 0 | the script was read to its end, and every command was accepted |
-/// | 1 | the script was read to its end, and a command was refused |
-/// | 2 | exactly where the words name no job; nothing is read, written or kept |
-/// | 3 | a read failed; each command that ends in the bytes given was carried out, and its reply written |
-/// | 4 | a write failed; what was written is a front of the replies |
-/// | 5 | the keeper failed; what was written is whole replies |
-/// | 6 | want of memory; what was written is whole replies |
-/// | 7 | the tables hold no base, of this format or the one before it; nothing is read or written, and the tables stay |
-/// | 8 | exactly where none of those before came and the source gave more than 2^26 bytes, of which one more is taken; each command that ends in the first 2^26 was carried out, and its reply written |
+/// The statuses are those of docs/LANGUAGE.md, "How the program ends", with the keeper as the storage and the source as what is read. 2
+/// comes exactly where the words name no job, and then nothing is read, written or kept; 8 exactly where none of those before came and
+/// the source gave more than 2^26 bytes, of which one more is taken.
 ///
 /// With 4, 5 and 6 each command that ends more than 65,536 bytes before the end of the bytes given was carried out, and its
 /// reply written. What stands behind the last semicolon is told as unfinished at the end of the script alone.
@@ -71,14 +63,18 @@ pub fn run<S: Source, O: Sink, K: Keeper>(
     keeper: &mut K,
 ) -> u8
     requires idle { (K.seen keeper.old).running ≡ false }
-    ensures headline { run_job words.now ≢ None → IfSome (S.left script.old) (λ text. EachBase (K.seen keeper.old).kept (λ b.
-        Ran (started b) text (S.left script.new) (K.seen keeper.old) (K.seen keeper.new) (O.written out.old) (O.written out.new) result)) }
-    ensures headline_many { many_job words.now ≢ None → IfSome (S.left script.old) (λ text. EachBase (K.seen keeper.old).kept (λ b.
-        RanMany (start_from b) text (S.left script.new) (K.seen keeper.old) (K.seen keeper.new) (O.written out.old) (O.written out.new) result)) }
-    ensures by_count { run_job words.now ≢ None → IfSome (S.left script.old) (λ text. EachBase (K.seen keeper.old).kept (λ b.
-        CommitsTell (started b) text (K.seen keeper.old) (K.seen keeper.new) (O.written out.old) (O.written out.new) result)) }
-    ensures by_commits { many_job words.now ≢ None → IfSome (S.left script.old) (λ text. EachBase (K.seen keeper.old).kept (λ b.
-        CommitsTellMany (start_from b) text (K.seen keeper.old) (K.seen keeper.new) (O.written out.old) (O.written out.new) result)) }
+    ensures headline { run_job words.now ≢ None → IfSome (S.left script.old) (λ text.
+        EachBase (K.seen keeper.old).kept (λ b. Ran (started b) text (S.left script.new)
+        (K.seen keeper.old) (K.seen keeper.new) (O.written out.old) (O.written out.new) result)) }
+    ensures headline_many { many_job words.now ≢ None → IfSome (S.left script.old) (λ text.
+        EachBase (K.seen keeper.old).kept (λ b. RanMany (start_from b) text (S.left script.new)
+        (K.seen keeper.old) (K.seen keeper.new) (O.written out.old) (O.written out.new) result)) }
+    ensures by_count { run_job words.now ≢ None → IfSome (S.left script.old) (λ text.
+        EachBase (K.seen keeper.old).kept (λ b. CommitsTell (started b) text
+        (K.seen keeper.old) (K.seen keeper.new) (O.written out.old) (O.written out.new) result)) }
+    ensures by_commits { many_job words.now ≢ None → IfSome (S.left script.old) (λ text.
+        EachBase (K.seen keeper.old).kept (λ b. CommitsTellMany (start_from b) text
+        (K.seen keeper.old) (K.seen keeper.new) (O.written out.old) (O.written out.new) result)) }
     ensures refused { run_job words.now ≢ None → result ≡ 7
         → StandsForNone (K.seen keeper.old).kept }
     ensures refused_many { many_job words.now ≢ None → result ≡ 7
@@ -88,18 +84,22 @@ pub fn run<S: Source, O: Sink, K: Keeper>(
     ensures none_many { many_job words.now ≢ None → StandsForNone (K.seen keeper.old).kept
         → (result ≡ 5) ⊎ (result ≡ 6) ⊎ (result ≡ 7) }
     ensures silent { run_job words.now ≢ None → StandsForNone (K.seen keeper.old).kept
-        → (script.new ≡ script.old) × (out.new ≡ out.old) × IsUntouched (K.seen keeper.old) (K.seen keeper.new) }
+        → (script.new ≡ script.old) × (out.new ≡ out.old)
+        × IsUntouched (K.seen keeper.old) (K.seen keeper.new) }
     ensures silent_many { many_job words.now ≢ None → StandsForNone (K.seen keeper.old).kept
-        → (script.new ≡ script.old) × (out.new ≡ out.old) × IsUntouched (K.seen keeper.old) (K.seen keeper.new) }
+        → (script.new ≡ script.old) × (out.new ≡ out.old)
+        × IsUntouched (K.seen keeper.old) (K.seen keeper.new) }
     ensures words { (result ≡ 2) ↔ (named_job words.now ≡ None) }
     ensures untouched { result ≡ 2 → (script.new ≡ script.old) × (out.new ≡ out.old)
         × (keeper.new ≡ keeper.old) }
     ensures still { run_job words.now ≢ None → IsStill (K.seen keeper.new) }
     ensures still_many { many_job words.now ≢ None → IsStill (K.seen keeper.new) }
-    ensures checked { check_job words.now ≢ None → IsChecked (K.seen keeper.old).kept (O.written out.old) (O.written out.new) result
-        × (script.new ≡ script.old) × IsUntouched (K.seen keeper.old) (K.seen keeper.new) × IsStill (K.seen keeper.new) }
+    ensures checked { check_job words.now ≢ None → IsChecked (K.seen keeper.old).kept
+        (O.written out.old) (O.written out.new) result × (script.new ≡ script.old)
+        × IsUntouched (K.seen keeper.old) (K.seen keeper.new) × IsStill (K.seen keeper.new) }
     ensures generated { (seed size : ℕ) → named_job words.now ≡ Some (Gen seed size)
-        → IsSummarized seed size (O.written out.old) (O.written out.new) result × (script.new ≡ script.old) × (keeper.new ≡ keeper.old) }
+        → IsSummarized seed size (O.written out.old) (O.written out.new) result
+        × (script.new ≡ script.old) × (keeper.new ≡ keeper.old) }
     ensures idle { (K.seen keeper.new).running ≡ false }
     ensures base { StandForSome (K.seen keeper.old).kept → StandForSome (K.seen keeper.new).kept }
     ensures statuses { result ≤ 8 }
@@ -130,21 +130,25 @@ pub fn run<S: Source, O: Sink, K: Keeper>(
         → ¬ RisesOver longest_script (S.given script.old) (S.given script.new)
         → (result ≤ 1) ⊎ (result ≡ 6) ⊎ (result ≡ 7) }
     ensures finishes { (text : List ℕ) → run_job words.now ≢ None
-        → StandForSome (K.seen keeper.old).kept → S.left script.old ≡ Some text → length text ≤ longest_script
+        → StandForSome (K.seen keeper.old).kept
+        → S.left script.old ≡ Some text → length text ≤ longest_script
         → ¬ Rose (S.faults script.old) (S.faults script.new)
         → ¬ Rose (O.faults out.old) (O.faults out.new)
         → ¬ Rose (K.seen keeper.old).faults (K.seen keeper.new).faults
         → (result ≤ 1) ⊎ (result ≡ 6) }
     ensures finishes_many { (text : List ℕ) → many_job words.now ≢ None
-        → StandForSome (K.seen keeper.old).kept → S.left script.old ≡ Some text → length text ≤ longest_script
+        → StandForSome (K.seen keeper.old).kept
+        → S.left script.old ≡ Some text → length text ≤ longest_script
         → ¬ Rose (S.faults script.old) (S.faults script.new)
         → ¬ Rose (O.faults out.old) (O.faults out.new)
         → ¬ Rose (K.seen keeper.old).faults (K.seen keeper.new).faults
         → (result ≤ 1) ⊎ (result ≡ 6) }
-    ensures errors { run_job words.now ≢ None → IfSome (S.left script.old) (λ text. EachBase (K.seen keeper.old).kept (λ b.
-        StatusTellsRefusals (started b) text (O.written out.old) (O.written out.new) result)) }
-    ensures errors_many { many_job words.now ≢ None → IfSome (S.left script.old) (λ text. EachBase (K.seen keeper.old).kept (λ b.
-        StatusTellsErrors (start_from b) text (O.written out.old) (O.written out.new) result)) }
+    ensures errors { run_job words.now ≢ None → IfSome (S.left script.old) (λ text.
+        EachBase (K.seen keeper.old).kept (λ b. StatusTellsRefusals (started b) text
+        (O.written out.old) (O.written out.new) result)) }
+    ensures errors_many { many_job words.now ≢ None → IfSome (S.left script.old) (λ text.
+        EachBase (K.seen keeper.old).kept (λ b. StatusTellsErrors (start_from b) text
+        (O.written out.old) (O.written out.new) result)) }
 {
     match run_files(words) {
         Some(_) => run_script(alloc, script, out, keeper),
@@ -170,7 +174,8 @@ fn run_script<S: Source, O: Sink, K: Keeper>(
 ) -> u8
     requires idle { (K.seen keeper.old).running ≡ false }
     ensures ran { IfSome (S.left script.old) (λ text. EachBase (K.seen keeper.old).kept (λ b.
-        Ran (started b) text (S.left script.new) (K.seen keeper.old) (K.seen keeper.new) (O.written out.old) (O.written out.new) result)) }
+        Ran (started b) text (S.left script.new) (K.seen keeper.old) (K.seen keeper.new)
+        (O.written out.old) (O.written out.new) result)) }
     ensures refused { result ≡ 7 → StandsForNone (K.seen keeper.old).kept }
     ensures none { StandsForNone (K.seen keeper.old).kept → (result ≡ 5) ⊎ (result ≡ 6)
         ⊎ (result ≡ 7) }

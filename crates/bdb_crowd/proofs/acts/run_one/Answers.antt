@@ -3,7 +3,8 @@ use Rattle.std.proofs.KnownBytes.{Appends-nil}
 use Rattle.bdb_many.specs.Marks.{marked}
 use Rattle.bdb_multi.specs.declared.kinds.Act.TheVariants.{One}
 use Rattle.bdb_crowd.proofs.ActLemmas.{one_done, one_part, still_here, unrun}
-use Rattle.bdb_crowd.proofs.WriteLemmas.{as_text, part_as}
+use Rattle.bdb_crowd.proofs.WriteLemmas.{part_as}
+use Rattle.bdb_stream.proofs.HandledLemmas.{grows_as}
 use Rattle.bdb_crowd.proofs.acts.run_one.Goals as goal
 
 pub returns-in-Err-clause-done : goal.returns-in-Err-clause-done
@@ -18,7 +19,7 @@ pub returns-in-Ok-write_marked-clause-done : goal.returns-in-Ok-write_marked-cla
 returns-in-Ok-write_marked-clause-done g c = λ s a.
     let lines : c.push.new.self ≡ c.args.command ∷ [] = search rules in
     one_done s c.args.number c.args.command c.push.new.self c.run.new.session (g.K.Keeper.seen c.args.keeper.now) (g.K.Keeper.seen c.run.new.keeper) (g.O.Sink.written c.args.out.now) (g.O.Sink.written c.write_marked.new.out) c.in-Ok-run.reply lines (c.in-Ok-run.ensures.run s a)
-    (as_text (g.O.Sink.written c.args.out.now) (g.O.Sink.written c.write_marked.new.out) (marked c.args.number c.as_slice.result.now) (marked c.args.number c.in-Ok-run.reply.text) (ap (marked c.args.number) c.as_slice.ensures) c.in-Ok-write_marked.ensures.written)
+    (grows_as (g.O.Sink.written c.args.out.now) (g.O.Sink.written c.write_marked.new.out) (marked c.args.number c.as_slice.result.now) (marked c.args.number c.in-Ok-run.reply.text) (ap (marked c.args.number) c.as_slice.ensures) c.in-Ok-write_marked.ensures.written)
 
 pub returns-clause-done : goal.returns-clause-done
 returns-clause-done g c = λ s a.

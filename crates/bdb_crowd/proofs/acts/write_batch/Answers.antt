@@ -2,7 +2,8 @@ use Rattle.std.proofs.Common.{ap}
 use Rattle.std.proofs.KnownBytes.{Appends-trans}
 use Rattle.bdb_many.specs.Marks.{marked}
 use Rattle.bdb_crowd.specs.Due.{end_line}
-use Rattle.bdb_crowd.proofs.WriteLemmas.{as_text, part_as, wrote_less, wrote_part}
+use Rattle.bdb_crowd.proofs.WriteLemmas.{part_as, wrote_less, wrote_part}
+use Rattle.bdb_stream.proofs.HandledLemmas.{grows_as}
 use Rattle.bdb_crowd.proofs.acts.write_batch.Goals as goal
 
 pub returns-in-Err-clause-written : goal.returns-in-Err-clause-written
@@ -15,12 +16,12 @@ pub returns-in-Ok-write_end-clause-written : goal.returns-in-Ok-write_end-clause
 returns-in-Ok-write_end-clause-written g c =
     let reply = c.args.reply.now in
     Appends-trans (g.O.Sink.written c.args.out.now) (g.O.Sink.written c.write_marked.new.out) (g.O.Sink.written c.write_end.new.out) (marked c.args.number reply.text) (end_line c.args.number reply.refused reply.accepted c.args.count)
-    (as_text (g.O.Sink.written c.args.out.now) (g.O.Sink.written c.write_marked.new.out) (marked c.args.number c.as_slice.result.now) (marked c.args.number reply.text) (ap (marked c.args.number) c.as_slice.ensures) c.in-Ok.ensures.written)
+    (grows_as (g.O.Sink.written c.args.out.now) (g.O.Sink.written c.write_marked.new.out) (marked c.args.number c.as_slice.result.now) (marked c.args.number reply.text) (ap (marked c.args.number) c.as_slice.ensures) c.in-Ok.ensures.written)
     c.in-Ok-write_end.ensures.written
 
 pub returns-in-Err-write_end-clause-written : goal.returns-in-Err-write_end-clause-written
 returns-in-Err-write_end-clause-written g c =
     let reply = c.args.reply.now in
     wrote_part (g.O.Sink.written c.args.out.now) (g.O.Sink.written c.write_marked.new.out) (g.O.Sink.written c.write_end.new.out) (marked c.args.number reply.text) (end_line c.args.number reply.refused reply.accepted c.args.count)
-    (as_text (g.O.Sink.written c.args.out.now) (g.O.Sink.written c.write_marked.new.out) (marked c.args.number c.as_slice.result.now) (marked c.args.number reply.text) (ap (marked c.args.number) c.as_slice.ensures) c.in-Ok.ensures.written)
+    (grows_as (g.O.Sink.written c.args.out.now) (g.O.Sink.written c.write_marked.new.out) (marked c.args.number c.as_slice.result.now) (marked c.args.number reply.text) (ap (marked c.args.number) c.as_slice.ensures) c.in-Ok.ensures.written)
     c.in-Err-write_end.ensures.written

@@ -1,6 +1,6 @@
 use Rattle.std.proofs.Common.{◌∙◌}
 use Rattle.bdb_stream.proofs.AnswerLemmas.{answers_one, answers_part, carries_none, carries_one}
-use Rattle.bdb_stream.proofs.StreamLemmas.{nothing_grows}
+use Rattle.std.proofs.KnownBytes.{Appends-nil}
 use Rattle.bdb_stream.proofs.answers.answer.Goals as goal
 
 pub returns-in-Ok-write_reply-clause-answered : goal.returns-in-Ok-write_reply-clause-answered
@@ -20,9 +20,9 @@ returns-clause-answered g c = λ s a.
 pub returns-in-Err-Fault-clause-answered : goal.returns-in-Err-Fault-clause-answered
 returns-in-Err-Fault-clause-answered g c = λ s a.
     let told = c.in-Err-Fault.ensures in
-    (carries_none s c.args.session.now c.answer.new.self _ _ told.same told.err a, nothing_grows (g.O.Sink.written c.args.out.now))
+    (carries_none s c.args.session.now c.answer.new.self _ _ told.same told.err a, Appends-nil (g.O.Sink.written c.args.out.now))
 
 pub returns-in-Err-Memory-clause-answered : goal.returns-in-Err-Memory-clause-answered
 returns-in-Err-Memory-clause-answered g c = λ s a.
     let told = c.in-Err-Memory.ensures in
-    (carries_none s c.args.session.now c.answer.new.self _ _ told.same told.err a, nothing_grows (g.O.Sink.written c.args.out.now))
+    (carries_none s c.args.session.now c.answer.new.self _ _ told.same told.err a, Appends-nil (g.O.Sink.written c.args.out.now))

@@ -1,4 +1,5 @@
 use Rattle.std.proofs.Common.{Err, ap, inl, inr, refl}
+use Rattle.bdb_top.proofs.EmptyLemmas.{agreed_stand}
 use Rattle.bdb_top.proofs.RanLemmas.{but_for_large, each_closed, each_refused, each_run, each_status, many_if, not_seven, of_large, run_status, taken_by}
 use Rattle.bdb_top.proofs.top.run_script.Goals as goal
 
@@ -61,3 +62,6 @@ returns-in-Err-Memory-clause-silent g c = λ none. (refl, refl, record { unchang
 
 pub returns-clause-none : goal.returns-clause-none
 returns-clause-none g c = λ none. absurd (none c.in-Ok.ensures.stand.base c.in-Ok.ensures.stand.stand)
+
+pub returns-clause-base : goal.returns-clause-base
+returns-clause-base g c = λ _. agreed_stand _ _ c.carry_out_script.ensures.agrees

@@ -4,7 +4,7 @@ use Rattle.bdb_events.specs.declared.read.Read.{Read}
 use Rattle.bdb_crowd.specs.Asked.{piece}
 use Rattle.bdb_crowd.specs.Carried.{IsAnswer}
 use Rattle.bdb_crowd.proofs.ActLemmas.{answer_at, some_timeline, unanswered}
-use Rattle.bdb_crowd.proofs.crowd.Crowd.answer_piece.Goals as goal
+use Rattle.bdb_crowd.proofs.crowd.CrowdHandler.answer_piece.Goals as goal
 
 pub returns-in-Ok-clause-answered : goal.returns-in-Ok-clause-answered
 returns-in-Ok-clause-answered g c = λ p a.

@@ -1,33 +1,31 @@
 use Rattle.std.proofs.Common.{◌≡◌, ◌+◌, rules, arith, refl, ap, subst, take, length, [], ◌++◌, Err}
 use Rattle.std.proofs.lemmas.List.{length-append}
 use Rattle.bdb_base.specs.Causes.{Rises}
-use Rattle.bdb_stream.proofs.StreamLemmas.{consumes_zero, many_by, short_by}
-use Rattle.bdb_crowd.proofs.RunLemmas.{rest_comes, rest_ends}
-use Rattle.bdb_crowd.proofs.StreamLemmas.{read_fails, read_over, reads_all, reads_on, rest_stops, block_stops, reads_none}
-use Rattle.bdb_crowd.proofs.stream.carry_out_stream.Goals as goal
+use Rattle.bdb_stream.proofs.ReadsLemmas.{consumes_zero, many_by, short_by, read_fails, read_over, reads_all, reads_on, rest_stops, block_stops, reads_none}
+use Rattle.bdb_stream.proofs.stream.carry_out.Goals as goal
 
 pub returns-in-Err-clause-streams : goal.returns-in-Err-clause-streams
 returns-in-Err-clause-streams g c = λ p a.
     let r = c.loop-count.invariant.reads in
-    read_fails p _ _ _ r.0 c.loop-count.cutter _ _ _ _ _ c.loop-count.fine (r.2 p a) c.in-Err.ensures.bytes
+    (read_fails g.H.Handler.handling g.met.H.Handler.in_order) p _ _ _ r.0 c.loop-count.cutter _ _ _ _ _ c.loop-count.fine (r.2 p a) c.in-Err.ensures.bytes
 
 pub returns-in-Ok-answer_rest-clause-streams : goal.returns-in-Ok-answer_rest-clause-streams
 returns-in-Ok-answer_rest-clause-streams g c = λ p a.
     let r = c.loop-count.invariant.reads in
-    reads_all p _ _ _ r.0 c.loop-count.cutter c.finish.result c.loop-count.crowd c.loop-count.crowd _ (g.K.Keeper.seen c.loop-count.keeper) _ _ (g.O.Sink.written c.loop-count.out) _ c.loop-count.fine c.in-Ok-answer_rest.more (r.2 p a)
-    (consumes_zero _ _ c.in-Ok.count c.read.new.buf (omega (arith, c.if-count-eq0.true)) c.in-Ok.ensures.bytes.0) (search rules) c.finish.ensures (λ x at. rest_comes x c.finish.result c.loop-count.crowd (g.K.Keeper.seen c.loop-count.keeper) _ _ c.in-Ok-answer_rest.more c.in-Ok-answer_rest.ensures.told at)
+    (reads_all g.H.Handler.handling g.met.H.Handler.in_order) p _ _ _ r.0 c.loop-count.cutter c.finish.result c.loop-count.handler c.answer_rest.new.self _ (g.K.Keeper.seen c.loop-count.keeper) _ _ (g.O.Sink.written c.loop-count.out) _ c.loop-count.fine c.in-Ok-answer_rest.more (r.2 p a)
+    (consumes_zero _ _ c.in-Ok.count c.read.new.buf (omega (arith, c.if-count-eq0.true)) c.in-Ok.ensures.bytes.0) (search rules) c.finish.ensures c.in-Ok-answer_rest.ensures.ends
 
 pub returns-in-Err-answer_rest-clause-streams : goal.returns-in-Err-answer_rest-clause-streams
 returns-in-Err-answer_rest-clause-streams g c = λ p a.
     let r = c.loop-count.invariant.reads in
-    rest_stops p _ _ _ r.0 c.loop-count.cutter c.finish.result c.loop-count.crowd c.loop-count.crowd _ (g.K.Keeper.seen c.loop-count.keeper) _ _ (g.O.Sink.written c.loop-count.out) _ c.loop-count.fine c.in-Err-answer_rest.stop (r.2 p a)
+    (rest_stops g.H.Handler.handling g.met.H.Handler.in_order) p _ _ _ r.0 c.loop-count.cutter c.finish.result c.loop-count.handler c.answer_rest.new.self _ (g.K.Keeper.seen c.loop-count.keeper) _ _ (g.O.Sink.written c.loop-count.out) _ c.loop-count.fine c.in-Err-answer_rest.stop (r.2 p a)
     (consumes_zero _ _ c.in-Ok.count c.read.new.buf (omega (arith, c.if-count-eq0.true)) c.in-Ok.ensures.bytes.0) (search rules) c.finish.ensures
-    (λ e. c.in-Err-answer_rest.ensures.others.0 (ap Err e)) (λ e. c.in-Err-answer_rest.ensures.others.1 (ap Err e)) (λ x at. rest_ends x c.finish.result c.loop-count.crowd (g.K.Keeper.seen c.loop-count.keeper) _ _ c.in-Err-answer_rest.stop c.in-Err-answer_rest.ensures.told at)
+    (λ e. c.in-Err-answer_rest.ensures.others.0 (ap Err e)) (λ e. c.in-Err-answer_rest.ensures.others.1 (ap Err e)) c.in-Err-answer_rest.ensures.ends
 
 pub returns-then-room-eq0-clause-streams : goal.returns-then-room-eq0-clause-streams
 returns-then-room-eq0-clause-streams g c = λ p a.
     let r = c.loop-count.invariant.reads in
-    read_over p _ _ _ r.0 (take c.in-Ok.count c.read.new.buf) c.loop-count.cutter _ _ _ _ _ c.loop-count.fine (r.2 p a) c.in-Ok.ensures.bytes.0
+    (read_over g.H.Handler.handling g.met.H.Handler.in_order) p _ _ _ r.0 (take c.in-Ok.count c.read.new.buf) c.loop-count.cutter _ _ _ _ _ c.loop-count.fine (r.2 p a) c.in-Ok.ensures.bytes.0
     (omega (arith, r.1, c.if-room-eq0.true, c.loop-count.invariant.small)) (search rules)
 
 pub loop-count-preserved : goal.loop-count-preserved
@@ -38,7 +36,7 @@ loop-count-preserved g c =
       reads = (
         r.0 ++ part,
         omega (arith, r.1, length-append r.0 part, c.in-Ok.ensures.bound.1),
-        λ p a. reads_on p _ _ _ r.0 part c.loop-count.cutter c.answer_block.new.cutter c.loop-count.crowd _ _ (g.K.Keeper.seen c.loop-count.keeper) _ _ (g.O.Sink.written c.loop-count.out) _ c.loop-count.fine c.in-Ok-answer_block.more (r.2 p a)
+        λ p a. (reads_on g.H.Handler.handling g.met.H.Handler.in_order) p _ _ _ r.0 part c.loop-count.cutter c.answer_block.new.cutter c.loop-count.handler _ _ (g.K.Keeper.seen c.loop-count.keeper) _ _ (g.O.Sink.written c.loop-count.out) _ c.loop-count.fine c.in-Ok-answer_block.more (r.2 p a)
             c.in-Ok.ensures.bytes.0 c.in-Ok-answer_block.ensures.cutter c.in-Ok-answer_block.ensures.ends,
       );
       ready = search rules;
@@ -55,13 +53,13 @@ loop-count-preserved g c =
 pub returns-in-Err-answer_block-clause-streams : goal.returns-in-Err-answer_block-clause-streams
 returns-in-Err-answer_block-clause-streams g c = λ p a.
     let r = c.loop-count.invariant.reads in
-    block_stops p _ _ _ r.0 (take c.in-Ok.count c.read.new.buf) c.loop-count.cutter c.loop-count.crowd c.answer_block.new.crowd _ (g.K.Keeper.seen c.loop-count.keeper) _ _ (g.O.Sink.written c.loop-count.out) _ c.loop-count.fine c.in-Err-answer_block.stop (r.2 p a)
+    (block_stops g.H.Handler.handling g.met.H.Handler.in_order) p _ _ _ r.0 (take c.in-Ok.count c.read.new.buf) c.loop-count.cutter c.loop-count.handler c.answer_block.new.handler _ (g.K.Keeper.seen c.loop-count.keeper) _ _ (g.O.Sink.written c.loop-count.out) _ c.loop-count.fine c.in-Err-answer_block.stop (r.2 p a)
     c.in-Ok.ensures.bytes.0 (search rules)
     (λ e. c.in-Err-answer_block.ensures.others.0 (ap Err e)) (λ e. c.in-Err-answer_block.ensures.others.1 (ap Err e)) c.in-Err-answer_block.ensures.ends
 
 pub loop-count-init : goal.loop-count-init
 loop-count-init g c = record {
-  reads = ([], refl, λ p a. reads_none p _ c.new-cutter.result c.args.crowd.now _ _ c.new-cutter.ensures a);
+  reads = ([], refl, λ p a. (reads_none g.H.Handler.handling g.met.H.Handler.in_order) p _ c.new-cutter.result c.args.handler.now _ _ c.new-cutter.ensures a);
   ready = ap (λ x. x.is_spent) c.new-cutter.ensures;
   small = search rules;
   given = search rules;
