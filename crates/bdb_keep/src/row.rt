@@ -36,7 +36,7 @@ impl Row {
     pub fn of(alloc: Global, bytes: &[u8]) -> Result<Self, AllocError>
         ensures { IfOk result (λ row. row ≡ bytes.now) }
     {
-        let bytes = any_of(alloc, bytes)?;
+        let bytes = Bytes::of(alloc, bytes)?;
         Ok(Row { bytes })
     }
 
@@ -76,25 +76,13 @@ impl Bytes {
         ensures same { IfOk result (λ copy. row_bytes copy ≡ bytes.now) }
         ensures room { IfOk result (λ copy. HaveRoom copy) }
     {
-        match bytes {
-            [a, b, c, d] => Ok(Bytes::Short(4, [*a, *b, *c, *d, 0, 0, 0, 0, 0, 0])),
-            _ => any_of(alloc, bytes),
-        }
-    }
-}
-
-/// The same of any number of bytes. Most rows have four.
-#[inline(never)]
-fn any_of(alloc: Global, bytes: &[u8]) -> Result<Bytes, AllocError>
-    ensures same { IfOk result (λ copy. row_bytes copy ≡ bytes.now) }
-    ensures room { IfOk result (λ copy. HaveRoom copy) }
-{
-    match short_of(bytes) {
-        Some(short) => Ok(Bytes::Short(bytes.len() as u8, short)),
-        None => {
-            let copy = Vec::from_slice(alloc, bytes)?;
-            let long = Box::new(alloc, copy)?;
-            Ok(Bytes::Long(long))
+        match short_of(bytes) {
+            Some(short) => Ok(Bytes::Short(bytes.len() as u8, short)),
+            None => {
+                let copy = Vec::from_slice(alloc, bytes)?;
+                let long = Box::new(alloc, copy)?;
+                Ok(Bytes::Long(long))
+            }
         }
     }
 }

@@ -49,12 +49,18 @@ impl Tail {
         ensures row { IfOk result (λ tail. row_in tail ≡ Some row.now) }
         ensures room { IfOk result (λ tail. HasRoom tail) }
     {
-        if rest.is_empty() {
-            let bytes = Bytes::of(alloc, row)?;
-            return Ok(Tail::with(tab, count, bytes));
+        if !rest.is_empty() {
+            let more = more_of(alloc, rest, row)?;
+            return Ok(Tail::Far(tab, count, more));
         }
-        let more = more_of(alloc, rest, row)?;
-        Ok(Tail::Far(tab, count, more))
+        match row {
+            // Most rows have four bytes.
+            [a, b, c, d] => {
+                let bytes = [*a, *b, *c, *d, 0, 0, 0, 0, 0, 0];
+                Ok(Tail::Short(tab, count, 4, bytes))
+            }
+            _ => Ok(Tail::with(tab, count, Bytes::of(alloc, row)?)),
+        }
     }
 
     /// The tail of a place with this row whose key is numbers alone.
