@@ -2,4 +2,5 @@
 mod former;
 mod keep;
 mod key;
+mod marked;
 mod tables;
