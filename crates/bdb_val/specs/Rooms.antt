@@ -1,5 +1,6 @@
 -- What a walk keeps to use it again at the next world: the bytes with which a group's keys begin, and the rows that are handed down.
-use Rattle.std.specs.Prelude.{◌≡◌, ◌⊎◌, ℕ, Bool, false, nat_eq, List, [], Option, Some, None, MatchOption, cond, map}
+use Rattle.std.specs.Prelude.{◌≡◌, ◌⊎◌, ℕ, Bool, false, nat_eq, List, [], ◌∷◌, slice_index_or, Option, Some, None, MatchOption, cond, map}
+use Rattle.std.specs.List.{AllByRecursion}
 use Rattle.bdb_base.specs.declared.kinds.Value.{Value}
 use Rattle.bdb_keep.specs.Tables.{Tables}
 use Rattle.bdb_key.specs.Grammar.{IsNum}
@@ -22,10 +23,28 @@ pub record AreRowsOf (t : Tables) (rel : ℕ) (vs : List Value) (rows : List (�
 abbrev pub AreHanded : Tables → ℕ → List Value → Option ℕ → List (ℕ × Mark) → Type 0
 AreHanded t rel vs from rows = MatchOption from (Unit {0}) (AreRowsOf t rel vs rows)
 
+-- a row that is kept by a world's number is the only one of the group in that world
+abbrev pub AreSingle : Tables → ℕ → List Value → List (Option (ℕ × Mark)) → Type 0
+AreSingle t rel vs singles = (wid : ℕ) (row : ℕ × Mark) → slice_index_or singles wid None ≡ Some row → AreRowsOf t rel vs (row ∷ []) wid
+
+-- none is kept
+abbrev pub HaveNone : List (Option (ℕ × Mark)) → Type 0
+HaveNone singles = AllByRecursion (λ single. single ≡ None) singles
+
 -- what a walk keeps is of a group of the tables
-pub record IsRoomFor (t : Tables) (rel : ℕ) (vs : List Value) (prefix : List ℕ) (from : Option ℕ) (rows : List (ℕ × Mark)) : Type 0 where
+pub record IsRoomFor (t : Tables) (rel : ℕ) (vs : List Value) (prefix : List ℕ) (from : Option ℕ) (rows : List (ℕ × Mark)) (singles : List (Option (ℕ × Mark))) : Type 0 where
   pub begins : MayBegin prefix rel vs
   pub handed : AreHanded t rel vs from rows
+  pub singles_are : AreSingle t rel vs singles
+
+-- changes give a world that has no rows one
+abbrev pub GiveOne : List (ℕ × Mark) → List (ℕ × Option Mark) → ℕ × Mark → Type 0
+GiveOne own changes row = (own ≡ []) × (changes ≡ (row.0, Some row.1) ∷ [])
+
+-- the row that is kept by a world's number is the one that changes give it, if there is one; those of other worlds stay
+pub record IsNoted (wid : ℕ) (own : List (ℕ × Mark)) (changes : List (ℕ × Option Mark)) (old new : List (Option (ℕ × Mark))) : Type 0 where
+  pub others : (m : ℕ) → (wid ≡ m → ⊥) → slice_index_or new m None ≡ slice_index_or old m None
+  pub given : (row : ℕ × Mark) → slice_index_or new wid None ≡ Some row → GiveOne own changes row
 
 -- rows that are kept are those of a world
 abbrev pub is_from : ℕ → Option ℕ → Bool

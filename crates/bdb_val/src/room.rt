@@ -1,6 +1,6 @@
 // What a walk uses again at each world.
-ghost use Rattle.std.specs.Prelude.{◌≡◌, true, [], None, Some, IfOk};
-ghost use Rattle.bdb_val.specs.Rooms.{is_from, unless_from};
+ghost use Rattle.std.specs.Prelude.{◌≡◌, true, [], None, Some, IfOk, IfSome, slice_index_or};
+ghost use Rattle.bdb_val.specs.Rooms.{GiveOne, HaveNone, IsNoted, is_from, unless_from};
 
 use crate::changes::{MarkChange, Marked};
 use bdb_keep::Span;
@@ -41,6 +41,8 @@ pub struct Handed {
     /// The world, while these are its rows.
     pub from: Option<u32>,
     pub rows: Vec<Marked>,
+    /// By the numbers of worlds: the only row of a world, where it is known.
+    pub singles: Vec<Option<Marked>>,
 }
 
 /// Room for the bytes of links: how their keys begin, and those that were read.
@@ -51,15 +53,16 @@ pub struct LinkRoom {
 }
 
 impl WalkRoom {
-    /// Room with nothing in it.
-    pub fn new(alloc: Global) -> Result<Self, AllocError>
+    /// Room with nothing in it, that keeps the only rows of as many worlds.
+    pub fn new(alloc: Global, worlds: usize) -> Result<Self, AllocError>
         ensures group { IfOk result (λ room. room.group.prefix.items ≡ []) }
         ensures handed { IfOk result (λ room. room.handed.from ≡ None) }
+        ensures singles { IfOk result (λ room. HaveNone room.handed.singles.items) }
     {
         Ok(WalkRoom {
             group: GroupRoom::new(alloc)?,
             own: Vec::new(alloc),
-            handed: Handed::new(alloc),
+            handed: Handed::new(alloc, worlds)?,
             changes: Vec::new(alloc),
             links: LinkRoom::new(alloc)?,
         })
@@ -80,12 +83,37 @@ impl GroupRoom {
 
 impl Handed {
     /// No rows.
-    fn new(alloc: Global) -> Self
-        ensures { result.from ≡ None }
+    fn new(alloc: Global, worlds: usize) -> Result<Self, AllocError>
+        ensures from { IfOk result (λ handed. handed.from ≡ None) }
+        ensures singles { IfOk result (λ handed. HaveNone handed.singles.items) }
     {
-        Handed {
+        Ok(Handed {
             from: None,
             rows: Vec::new(alloc),
+            singles: no_singles(alloc, worlds)?,
+        })
+    }
+
+    /// The only row of a world, where it is known.
+    pub fn single(&self, wid: u32) -> Option<Marked>
+        ensures { result ≡ slice_index_or self.now.singles.items wid None }
+    {
+        match self.singles.get(wid as usize) {
+            Some(single) => *single,
+            None => None,
+        }
+    }
+
+    /// Keeps the row that changes give a world, where they give it its only one.
+    pub fn note(&mut self, wid: u32, own: &[Marked], changes: &[MarkChange])
+        ensures from { self.new.from ≡ self.old.from }
+        ensures rows { self.new.rows.items ≡ self.old.rows.items }
+        ensures singles { IsNoted wid own.now changes.now self.old.singles.items
+            self.new.singles.items }
+    {
+        let at = wid as usize;
+        if at < self.singles.len() {
+            self.singles[at] = single_of(own, changes);
         }
     }
 
@@ -104,6 +132,7 @@ impl Handed {
     pub fn forget(&mut self, wid: u32)
         ensures from { self.new.from ≡ unless_from wid self.old.from }
         ensures rows { self.new.rows.items ≡ self.old.rows.items }
+        ensures singles { self.new.singles.items ≡ self.old.singles.items }
     {
         if self.is_from(wid) {
             self.from = None;
@@ -118,5 +147,30 @@ impl LinkRoom {
             prefix: Vec::with_capacity(alloc, LINK_ROOM)?,
             span: Span::new(alloc),
         })
+    }
+}
+
+// No row for each of so many worlds.
+fn no_singles(alloc: Global, worlds: usize) -> Result<Vec<Option<Marked>>, AllocError>
+    ensures { IfOk result (λ singles. HaveNone singles.items) }
+{
+    let mut singles = Vec::with_capacity(alloc, worlds)?;
+    for _ in 0..worlds {
+        singles.push(None)?;
+    }
+    Ok(singles)
+}
+
+// The row that changes give a world, if it has none, and they give it one alone.
+fn single_of(own: &[Marked], changes: &[MarkChange]) -> Option<Marked>
+    ensures { IfSome result (GiveOne own.now changes.now) }
+{
+    if own.len() != 0 || changes.len() != 1 {
+        return None;
+    }
+    let change = &changes[0];
+    match change.1 {
+        Some(mark) => Some((change.0, mark)),
+        None => None,
     }
 }

@@ -1,5 +1,5 @@
 // Settling the rows of one world.
-ghost use Rattle.std.specs.Prelude.{◌≡◌, ◌+◌, ◌-◌, ◌<◌, ◌^◌, ◌||◌, nat_eq, true, cond, length, map, MatchOption, [], IfOk, OnOk};
+ghost use Rattle.std.specs.Prelude.{◌≡◌, ◌+◌, ◌-◌, ◌<◌, ◌^◌, ◌||◌, nat_eq, true, cond, length, map, MatchOption, [], ◌∷◌, Some, IfOk, OnOk};
 ghost use Rattle.bdb_base.specs.Causes.{Rises};
 ghost use Rattle.bdb_keep.specs.Calls.{IsRead, IsWrite};
 ghost use Rattle.bdb_key.specs.Grammar.{AreKeyVals};
@@ -41,7 +41,8 @@ pub fn settle_state<K: Keeper>(
     requires tuples { HaveTuples (K.seen keeper.old).kept }
     requires text { HaveKeyTexts key.now }
     requires room { IsRoomFor (K.seen keeper.old).kept rel key.now room.old.group.prefix.items
-        room.old.handed.from room.old.handed.rows.items }
+        room.old.handed.from room.old.handed.rows.items
+        room.old.handed.singles.items }
     ensures settled { IfOk result (λ settled. HasAt link_codec (K.seen keeper.old).kept wid link
         → WhereStated (K.seen keeper.old).kept (λ keys. IsStep keys (K.seen keeper.old) (K.seen keeper.new) wid (λ w. group_prefix w rel key.now) settled)) }
     ensures others { OnOk result
@@ -52,7 +53,7 @@ pub fn settle_state<K: Keeper>(
     ensures room { OnOk result
         (IsRoomFor
         (K.seen keeper.new).kept rel key.now room.new.group.prefix.items room.new.handed.from
-        room.new.handed.rows.items) }
+        room.new.handed.rows.items room.new.handed.singles.items) }
     ensures changing { IsChanging (K.seen keeper.old) (K.seen keeper.new) result TabError.Fault }
 {
     match keep_linked(keeper, link, rel, key, &mut room.group, &mut room.handed) {
@@ -68,6 +69,7 @@ pub fn settle_state<K: Keeper>(
         Err(error) => return Err(error),
     }
     room.handed.forget(wid);
+    room.handed.note(wid, &room.own, &room.changes);
     match write_changes(keeper, &mut room.group.prefix, &room.own, &room.changes) {
         Ok(settled) => Ok(settled),
         Err(error) => Err(error),
@@ -148,14 +150,15 @@ fn keep_linked<K: Keeper>(
     requires text { HaveKeyTexts key.now }
     requires room { IsRoomFor
         (K.seen keeper.old).kept rel key.now room.old.prefix.items handed.old.from
-        handed.old.rows.items }
+        handed.old.rows.items handed.old.singles.items }
     ensures rows { OnOk result
         (MatchOption link (handed.new.rows.items ≡ [])
         (λ m. AreUnder val_codec (K.seen keeper.old).kept (group_prefix m rel key.now)
         (map (in_group m rel key.now) handed.new.rows.items))) }
     ensures room { OnOk result
         (IsRoomFor (K.seen keeper.old).kept rel key.now room.new.prefix.items handed.new.from
-        handed.new.rows.items) }
+        handed.new.rows.items handed.new.singles.items) }
+    ensures singles { handed.new.singles.items ≡ handed.old.singles.items }
     ensures read { IsRead (K.seen keeper.old) (K.seen keeper.new) result TabError.Fault }
 {
     let wid = match link {
@@ -169,6 +172,13 @@ fn keep_linked<K: Keeper>(
     if handed.is_from(wid) {
         return Ok(());
     }
+    match handed.single(wid) {
+        Some(row) => match keep_single(keeper, wid, row, handed) {
+            Ok(()) => return Ok(()),
+            Err(error) => return Err(error),
+        },
+        None => {}
+    }
     match group_marks(keeper, wid, rel, key, room, &mut handed.rows) {
         Ok(()) => {
             handed.from = Some(wid);
@@ -176,6 +186,28 @@ fn keep_linked<K: Keeper>(
         }
         Err(error) => Err(error),
     }
+}
+
+// Makes the rows that are kept the only one of a world.
+fn keep_single<K: Keeper>(
+    keeper: &mut K,
+    wid: u32,
+    row: Marked,
+    handed: &mut Handed,
+) -> Result<(), TabError>
+    requires running { (K.seen keeper.old).running ≡ true }
+    ensures from { OnOk result (handed.new.from ≡ Some wid) }
+    ensures rows { OnOk result (handed.new.rows.items ≡ row ∷ []) }
+    ensures singles { handed.new.singles.items ≡ handed.old.singles.items }
+    ensures read { IsRead (K.seen keeper.old) (K.seen keeper.new) result TabError.Fault }
+{
+    handed.rows.clear();
+    if handed.rows.push(row).is_err() {
+        keeper.undo();
+        return Err(TabError::Memory);
+    }
+    handed.from = Some(wid);
+    Ok(())
 }
 
 // What changes do to a world that has no rows.

@@ -83,7 +83,7 @@ fn settle_from<K: Keeper>(
     ensures tuples { OnOk result (HaveTuples (K.seen keeper.new).kept) }
     ensures changing { IsChanging (K.seen keeper.old) (K.seen keeper.new) result TabError.Fault }
 {
-    let mut room = match WalkRoom::new(alloc) {
+    let mut room = match WalkRoom::new(alloc, links.starts.len()) {
         Ok(room) => room,
         Err(_) => {
             keeper.undo();
@@ -129,7 +129,8 @@ fn visit_first<K: Keeper>(
     requires text { HaveKeyTexts key.now }
     requires links { AreLinks (K.seen keeper.old).kept links.now.are_all links.now.list.items }
     requires room { IsRoomFor (K.seen keeper.old).kept rel key.now room.old.group.prefix.items
-        room.old.handed.from room.old.handed.rows.items }
+        room.old.handed.from room.old.handed.rows.items
+        room.old.handed.singles.items }
     ensures visited { IfOk result
         (λ settled. WhereStated (K.seen keeper.old).kept
         (λ keys. IsFirstVisit keys (K.seen keeper.old) (K.seen keeper.new)
@@ -142,7 +143,7 @@ fn visit_first<K: Keeper>(
     ensures room { OnOk result
         (IsRoomFor
         (K.seen keeper.new).kept rel key.now room.new.group.prefix.items room.new.handed.from
-        room.new.handed.rows.items) }
+        room.new.handed.rows.items room.new.handed.singles.items) }
     ensures changing { IsChanging (K.seen keeper.old) (K.seen keeper.new) result TabError.Fault }
 {
     let link = match get::<SuffixTab, K>(alloc, keeper, &wid) {
@@ -176,7 +177,8 @@ fn visit_next<K: Keeper>(
     requires text { HaveKeyTexts key.now }
     requires links { AreLinks (K.seen keeper.old).kept links.now.are_all links.now.list.items }
     requires room { IsRoomFor (K.seen keeper.old).kept rel key.now room.old.group.prefix.items
-        room.old.handed.from room.old.handed.rows.items }
+        room.old.handed.from room.old.handed.rows.items
+        room.old.handed.singles.items }
     ensures visited { IfOk result (λ settled. HasAt link_codec (K.seen keeper.old).kept next.0 (Some next.1)
         → WhereStated (K.seen keeper.old).kept (λ keys. IsNextVisit keys (K.seen keeper.old) (K.seen keeper.new) (λ w. group_prefix w rel key.now) next.0 list.old.items list.new.items settled)) }
     ensures others { OnOk result
@@ -186,7 +188,7 @@ fn visit_next<K: Keeper>(
     ensures room { OnOk result
         (IsRoomFor
         (K.seen keeper.new).kept rel key.now room.new.group.prefix.items room.new.handed.from
-        room.new.handed.rows.items) }
+        room.new.handed.rows.items room.new.handed.singles.items) }
     ensures changing { IsChanging (K.seen keeper.old) (K.seen keeper.new) result TabError.Fault }
 {
     let settled = match settle_state(keeper, next.0, Some(next.1), rel, key, room) {

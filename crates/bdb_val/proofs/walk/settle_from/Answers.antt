@@ -74,7 +74,7 @@ returns-then-at-len-clause-tells g c keys stmts ns tuple f u =
 pub visit_first-requires-clause-room : goal.visit_first-requires-clause-room
 visit_first-requires-clause-room g c =
     let room = c.in-Ok.room in
-    bare_room (g.K.Keeper.seen c.args.keeper.now).kept c.args.rel c.args.key.now room.group.prefix.items room.handed.from room.handed.rows.items c.in-Ok.ensures.group c.in-Ok.ensures.handed
+    bare_room (g.K.Keeper.seen c.args.keeper.now).kept c.args.rel c.args.key.now room.group.prefix.items room.handed.from room.handed.rows.items room.handed.singles.items c.in-Ok.ensures.group c.in-Ok.ensures.handed c.in-Ok.ensures.singles
 
 pub visit_next-requires-clause-links : goal.visit_next-requires-clause-links
 visit_next-requires-clause-links g c =

@@ -41,13 +41,13 @@ returns-in-Ok-push_linked-clause-others g c =
 pub returns-in-Ok-push_linked-clause-room : goal.returns-in-Ok-push_linked-clause-room
 returns-in-Ok-push_linked-clause-room g c =
     let room = c.settle_state.new.room in
-    same_room (g.K.Keeper.seen c.settle_state.new.keeper).kept (g.K.Keeper.seen c.push_linked.new.keeper).kept c.args.rel c.args.key.now room.group.prefix.items room.handed.from room.handed.rows.items
+    same_room (g.K.Keeper.seen c.settle_state.new.keeper).kept (g.K.Keeper.seen c.push_linked.new.keeper).kept c.args.rel c.args.key.now room.group.prefix.items room.handed.from room.handed.rows.items room.handed.singles.items
     c.in-Ok-push_linked.ensures.read.kept c.in-Ok-settle_state.ensures.room
 
 pub settle_state-requires-clause-room : goal.settle_state-requires-clause-room
 settle_state-requires-clause-room g c =
     let room = c.args.room.now in
-    same_room (g.K.Keeper.seen c.args.keeper.now).kept (g.K.Keeper.seen c.get.new.keeper).kept c.args.rel c.args.key.now room.group.prefix.items room.handed.from room.handed.rows.items
+    same_room (g.K.Keeper.seen c.args.keeper.now).kept (g.K.Keeper.seen c.get.new.keeper).kept c.args.rel c.args.key.now room.group.prefix.items room.handed.from room.handed.rows.items room.handed.singles.items
     c.in-Ok.ensures.read.kept c.requires.room
 
 pub push_linked-requires-clause-links : goal.push_linked-requires-clause-links

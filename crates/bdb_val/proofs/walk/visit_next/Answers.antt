@@ -42,7 +42,7 @@ returns-in-Ok-push_linked-clause-others g c =
 pub returns-in-Ok-push_linked-clause-room : goal.returns-in-Ok-push_linked-clause-room
 returns-in-Ok-push_linked-clause-room g c =
     let room = c.settle_state.new.room in
-    same_room (g.K.Keeper.seen c.settle_state.new.keeper).kept (g.K.Keeper.seen c.push_linked.new.keeper).kept c.args.rel c.args.key.now room.group.prefix.items room.handed.from room.handed.rows.items
+    same_room (g.K.Keeper.seen c.settle_state.new.keeper).kept (g.K.Keeper.seen c.push_linked.new.keeper).kept c.args.rel c.args.key.now room.group.prefix.items room.handed.from room.handed.rows.items room.handed.singles.items
     c.in-Ok-push_linked.ensures.read.kept c.in-Ok.ensures.room
 
 pub push_linked-requires-clause-links : goal.push_linked-requires-clause-links
