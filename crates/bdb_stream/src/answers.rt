@@ -11,7 +11,6 @@ ghost use Rattle.bdb_session.specs.declared.event.Event.TheVariants as event;
 ghost use Rattle.bdb_undo.specs.Timelines.{Timeline};
 ghost use Rattle.bdb_stream.specs.Carried.{by_session, session_in_order};
 ghost use Rattle.bdb_stream.specs.Handled.{IsAnswer};
-ghost use Rattle.bdb_stream.specs.Handling.{IsAt};
 ghost use Rattle.bdb_stream.specs.Streams.{Streams};
 
 use crate::error::RunError;
