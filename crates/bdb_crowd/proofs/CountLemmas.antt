@@ -1,5 +1,5 @@
 -- What the batches that are committed tell of a stream.
-use Rattle.std.proofs.Common.{◌≡◌, ◌≢◌, ◌∙◌, ℕ, zero, suc, ◌+◌, ◌-◌, Bool, true, false, nat_eq, nat_lt, List, [], ◌∷◌, ◌++◌, map, take, inl, inr, refl, ap, sym, subst, append-nil, arith}
+use Rattle.std.proofs.Common.{◌≡◌, ◌∙◌, ℕ, zero, suc, ◌+◌, ◌-◌, Bool, true, false, nat_lt, List, [], ◌∷◌, ◌++◌, map, take, inl, inr, refl, ap, sym, subst, append-nil, arith}
 use Rattle.std.proofs.lemmas.Bool.{cases_Bool, cond-true, cond-false, le-ltb, lt-ltb}
 use Rattle.bdb_events.specs.Pieces.{read_of}
 use Rattle.bdb_events.specs.declared.read.Read.{Read}
@@ -16,7 +16,7 @@ use Rattle.bdb_session.specs.Outcome.{State}
 use Rattle.bdb_session.specs.Runs.{accepts_all, after as after_events}
 use Rattle.bdb_crowd.specs.Asked.{Asked, Point, after, asked_by, commits_by, committed, next_point, piece, rest_asks, start_at, unfinished}
 use Rattle.bdb_crowd.specs.Carried.{by_crowd, crowd_in_order}
-use Rattle.bdb_crowd.specs.Counted.{before_commit, committed_among, first_committed, up_to_commit}
+use Rattle.bdb_crowd.specs.Counted.{before_commit, committed_among, first_committed}
 use Rattle.bdb_crowd.specs.Due.{act_commits, commits_of, session_batches}
 use Rattle.bdb_crowd.specs.Laws.{CommitsTellTheState, FirstBatchesLead, IsToldByCommits}
 use Rattle.bdb_stream.proofs.CommitLemmas.{all_told, no_more_told, state_told}

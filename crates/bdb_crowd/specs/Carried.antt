@@ -8,7 +8,7 @@ use Rattle.bdb_session.specs.Known.{Known, Agrees}
 use Rattle.bdb_stream.specs.Handled as handled
 use Rattle.bdb_stream.specs.Handling as handling
 use Rattle.bdb_stream.specs.Handling.{Handling, IsInOrder}
-use Rattle.bdb_stream.specs.declared.stop.Stop.{Stop}
+use Rattle.bdb_stream.specs.declared.error.RunError.{RunError}
 use Rattle.bdb_crowd.specs.Asked.{Asked, Point, after, all_fine, asked_by, commits_by, committed, is_fine, next_point, replies, reply_of, rest_asks}
 
 -- what is at hand for a stream: what the session knows of the base, and for each number of a session the commands that wait
@@ -70,5 +70,5 @@ WritesPart p done old new = handled.WritesPart by_crowd p done old new
 
 -- How one was answered: with an Ok it was carried out and the reply is written; where the sink failed it was carried out and a part of
 -- the reply is written; after another Err nothing was carried out or written.
-abbrev pub IsAnswer : Point → Asked → AtHand → Seen → Seen → Option (List ℕ) → Option (List ℕ) → Result Bool Stop → Type 0
+abbrev pub IsAnswer : Point → Asked → AtHand → Seen → Seen → Option (List ℕ) → Option (List ℕ) → Result Bool RunError → Type 0
 IsAnswer p a hand first now old new result = handled.IsAnswer by_crowd p a hand first now old new result

@@ -14,8 +14,8 @@ use Rattle.bdb_session.specs.Known.{Known, Agrees}
 use Rattle.bdb_session.specs.Outcome.{State}
 use Rattle.bdb_session.specs.Runs.{accepts_all}
 use Rattle.bdb_session.specs.declared.batch.BatchReply.{BatchReply}
-use Rattle.bdb_stream.specs.declared.stop.Stop.{Stop}
-use Rattle.bdb_stream.specs.declared.stop.Stop.TheVariants.{Sink}
+use Rattle.bdb_stream.specs.declared.error.RunError.{RunError}
+use Rattle.bdb_stream.specs.declared.error.RunError.TheVariants.{Sink}
 
 -- how the belief machine runs batches
 abbrev pub session_batches : Batches State
@@ -75,20 +75,20 @@ pub record Lands (next : State) (commits : ℕ) (session : Known) (first now : S
 
 -- How what is due was done: with an Ok whole, and the reply is written; where the sink failed it was done, and a part of the reply is
 -- written; after another Err nothing was done or written.
-abbrev pub IsDone : State → Due → Known → Seen → Seen → Option (List ℕ) → Option (List ℕ) → Result Bool Stop → Type 0
+abbrev pub IsDone : State → Due → Known → Seen → Seen → Option (List ℕ) → Option (List ℕ) → Result Bool RunError → Type 0
 IsDone s d session first now old new (Ok fine) = Lands d.next d.commits session first now × (fine ≡ d.fine) × Appends old new d.reply
 IsDone s d session first now old new (Err Sink) = Lands d.next d.commits session first now
     × ((part : ℕ) × Appends old new (take part d.reply))
 IsDone s d session first now old new (Err _) = Lands s 0 session first now × Appends old new []
 
 -- how a text was told, which tells an error or doesn't: whole, or where the sink failed a part of it
-abbrev pub IsTold : List ℕ → Bool → Option (List ℕ) → Option (List ℕ) → Result Bool Stop → Type 0
+abbrev pub IsTold : List ℕ → Bool → Option (List ℕ) → Option (List ℕ) → Result Bool RunError → Type 0
 IsTold text fine old new (Ok is) = (is ≡ fine) × Appends old new text
 IsTold text fine old new (Err Sink) = (part : ℕ) × Appends old new (take part text)
 IsTold text fine old new (Err _) = ⊥
 
 -- how commands were run as one batch
-abbrev pub IsRunBy : State → Commands → Known → Seen → Seen → Result BatchReply Stop → Type 0
+abbrev pub IsRunBy : State → Commands → Known → Seen → Seen → Result BatchReply RunError → Type 0
 IsRunBy s q session first now (Ok r) = IsBatchReply s (pieces q) r
     × Lands (batch_state s (pieces q)) (batch_commits s (pieces q)) session first now
 IsRunBy s q session first now (Err _) = Lands s 0 session first now

@@ -3,7 +3,7 @@ use Rattle.std.specs.Prelude.{ℕ, Bool, List, Option, Result}
 use Rattle.bdb_keep.specs.Seen.{Seen}
 use Rattle.bdb_session.specs.Known.{Known}
 use Rattle.bdb_stream.specs.Reads as reads
-use Rattle.bdb_stream.specs.declared.stop.Stop.{Stop}
+use Rattle.bdb_stream.specs.declared.error.RunError.{RunError}
 use Rattle.bdb_crowd.specs.Asked.{Asked, Point}
 use Rattle.bdb_crowd.specs.Carried.{by_crowd}
 
@@ -15,5 +15,5 @@ KeepsUp p before left done old new status = reads.KeepsUp by_crowd p before left
 
 -- A run over what a source gives has come through the first of what it asks for, with an Ok through all of it.
 abbrev pub Streams : Point → Option (List ℕ) → Option (List ℕ) → Known → Seen → Seen → Option (List ℕ) → Option (List ℕ)
-    → Result Bool Stop → Type 0
+    → Result Bool RunError → Type 0
 Streams p before left session first now old new result = reads.Streams by_crowd p before left session first now old new result

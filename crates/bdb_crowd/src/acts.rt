@@ -17,7 +17,7 @@ use bdb_io::{Failed, Sink};
 use bdb_keep::Keeper;
 use bdb_multi::{Act, Lines};
 use bdb_session::{BatchReply, Session, StopError};
-use bdb_stream::Stop;
+use bdb_stream::RunError;
 use std::alloc::Global;
 
 /// Answers an act of a session: what is to be run is run, and its reply is written in parts. Ok tells whether the reply has no line that
@@ -29,7 +29,7 @@ pub fn answer_act<O: Sink, K: Keeper>(
     out: &mut O,
     number: u8,
     act: Act,
-) -> Result<bool, Stop>
+) -> Result<bool, RunError>
     requires still { IsStill (K.seen keeper.old) }
     requires agrees { RemembersSome (K.seen keeper.old).kept session.old }
     requires number { number < sessions }
@@ -41,11 +41,11 @@ pub fn answer_act<O: Sink, K: Keeper>(
     ensures agrees { RemembersSome (K.seen keeper.new).kept session.new }
     ensures never_fall { NeverFall (K.seen keeper.old) (K.seen keeper.new) }
     ensures keeper { HasCause (K.seen keeper.old).faults
-        (K.seen keeper.new).faults result Stop.Keeper }
+        (K.seen keeper.new).faults result RunError.Keeper }
     ensures later { O.faults out.old ≤ O.faults out.new }
-    ensures sink { IsErrOf result Stop.Sink → Rose (O.faults out.old) (O.faults out.new) }
-    ensures others { OnErr result ((IsErrOf result Stop.Source → ⊥)
-        × (IsErrOf result Stop.Large → ⊥)) }
+    ensures sink { IsErrOf result RunError.Sink → Rose (O.faults out.old) (O.faults out.new) }
+    ensures others { OnErr result ((IsErrOf result RunError.Source → ⊥)
+        × (IsErrOf result RunError.Large → ⊥)) }
 {
     match act {
         Act::Begun => tell(out, number, b"begun\n", true),
@@ -60,34 +60,34 @@ pub fn answer_act<O: Sink, K: Keeper>(
 }
 
 /// Writes a line of a session. Ok tells whether it tells no error.
-pub fn tell<O: Sink>(out: &mut O, number: u8, line: &[u8], fine: bool) -> Result<bool, Stop>
+pub fn tell<O: Sink>(out: &mut O, number: u8, line: &[u8], fine: bool) -> Result<bool, RunError>
     requires { number < sessions }
     ensures told { IsTold (mark number ++ line.now) fine (O.written out.old) (O.written out.new)
         result }
     ensures later { O.faults out.old ≤ O.faults out.new }
-    ensures sink { IsErrOf result Stop.Sink → Rose (O.faults out.old) (O.faults out.new) }
-    ensures others { OnErr result ((IsErrOf result Stop.Source → ⊥)
-        × (IsErrOf result Stop.Large → ⊥)) }
-    ensures keeper { (n : ℕ) → HasCause n n result Stop.Keeper }
+    ensures sink { IsErrOf result RunError.Sink → Rose (O.faults out.old) (O.faults out.new) }
+    ensures others { OnErr result ((IsErrOf result RunError.Source → ⊥)
+        × (IsErrOf result RunError.Large → ⊥)) }
+    ensures keeper { (n : ℕ) → HasCause n n result RunError.Keeper }
 {
     match write_line(out, number, line) {
         Ok(()) => Ok(fine),
-        Err(Failed) => Err(Stop::Sink),
+        Err(Failed) => Err(RunError::Sink),
     }
 }
 
 /// Writes a line that tells an error, of no session.
-pub fn tell_error<O: Sink>(out: &mut O, line: &[u8]) -> Result<bool, Stop>
+pub fn tell_error<O: Sink>(out: &mut O, line: &[u8]) -> Result<bool, RunError>
     ensures told { IsTold line.now false (O.written out.old) (O.written out.new) result }
     ensures later { O.faults out.old ≤ O.faults out.new }
-    ensures sink { IsErrOf result Stop.Sink → Rose (O.faults out.old) (O.faults out.new) }
-    ensures others { OnErr result ((IsErrOf result Stop.Source → ⊥)
-        × (IsErrOf result Stop.Large → ⊥)) }
-    ensures keeper { (n : ℕ) → HasCause n n result Stop.Keeper }
+    ensures sink { IsErrOf result RunError.Sink → Rose (O.faults out.old) (O.faults out.new) }
+    ensures others { OnErr result ((IsErrOf result RunError.Source → ⊥)
+        × (IsErrOf result RunError.Large → ⊥)) }
+    ensures keeper { (n : ℕ) → HasCause n n result RunError.Keeper }
 {
     match out.write_all(line) {
         Ok(()) => Ok(false),
-        Err(Failed) => Err(Stop::Sink),
+        Err(Failed) => Err(RunError::Sink),
     }
 }
 
@@ -99,7 +99,7 @@ fn run_one<O: Sink, K: Keeper>(
     out: &mut O,
     number: u8,
     command: List<u8>,
-) -> Result<bool, Stop>
+) -> Result<bool, RunError>
     requires still { IsStill (K.seen keeper.old) }
     requires agrees { RemembersSome (K.seen keeper.old).kept session.old }
     requires number { number < sessions }
@@ -110,16 +110,16 @@ fn run_one<O: Sink, K: Keeper>(
     ensures agrees { RemembersSome (K.seen keeper.new).kept session.new }
     ensures never_fall { NeverFall (K.seen keeper.old) (K.seen keeper.new) }
     ensures keeper { HasCause (K.seen keeper.old).faults
-        (K.seen keeper.new).faults result Stop.Keeper }
+        (K.seen keeper.new).faults result RunError.Keeper }
     ensures later { O.faults out.old ≤ O.faults out.new }
-    ensures sink { IsErrOf result Stop.Sink → Rose (O.faults out.old) (O.faults out.new) }
-    ensures others { OnErr result ((IsErrOf result Stop.Source → ⊥)
-        × (IsErrOf result Stop.Large → ⊥)) }
+    ensures sink { IsErrOf result RunError.Sink → Rose (O.faults out.old) (O.faults out.new) }
+    ensures others { OnErr result ((IsErrOf result RunError.Source → ⊥)
+        × (IsErrOf result RunError.Large → ⊥)) }
 {
     let mut lines = List::new(alloc);
     match lines.push(command) {
         Ok(()) => {}
-        Err(_) => return Err(Stop::Memory),
+        Err(_) => return Err(RunError::Memory),
     }
     let reply = match run(session, keeper, &lines) {
         Ok(reply) => reply,
@@ -127,7 +127,7 @@ fn run_one<O: Sink, K: Keeper>(
     };
     match write_marked(out, number, reply.text.as_slice()) {
         Ok(()) => Ok(!reply.refused),
-        Err(Failed) => Err(Stop::Sink),
+        Err(Failed) => Err(RunError::Sink),
     }
 }
 
@@ -138,7 +138,7 @@ fn run_batch<O: Sink, K: Keeper>(
     out: &mut O,
     number: u8,
     commands: &Lines,
-) -> Result<bool, Stop>
+) -> Result<bool, RunError>
     requires still { IsStill (K.seen keeper.old) }
     requires agrees { RemembersSome (K.seen keeper.old).kept session.old }
     requires number { number < sessions }
@@ -150,11 +150,11 @@ fn run_batch<O: Sink, K: Keeper>(
     ensures agrees { RemembersSome (K.seen keeper.new).kept session.new }
     ensures never_fall { NeverFall (K.seen keeper.old) (K.seen keeper.new) }
     ensures keeper { HasCause (K.seen keeper.old).faults
-        (K.seen keeper.new).faults result Stop.Keeper }
+        (K.seen keeper.new).faults result RunError.Keeper }
     ensures later { O.faults out.old ≤ O.faults out.new }
-    ensures sink { IsErrOf result Stop.Sink → Rose (O.faults out.old) (O.faults out.new) }
-    ensures others { OnErr result ((IsErrOf result Stop.Source → ⊥)
-        × (IsErrOf result Stop.Large → ⊥)) }
+    ensures sink { IsErrOf result RunError.Sink → Rose (O.faults out.old) (O.faults out.new) }
+    ensures others { OnErr result ((IsErrOf result RunError.Source → ⊥)
+        × (IsErrOf result RunError.Large → ⊥)) }
 {
     let reply = match run(session, keeper, commands) {
         Ok(reply) => reply,
@@ -162,7 +162,7 @@ fn run_batch<O: Sink, K: Keeper>(
     };
     match write_batch(out, number, &reply, commands.len()) {
         Ok(()) => Ok(!reply.refused),
-        Err(Failed) => Err(Stop::Sink),
+        Err(Failed) => Err(RunError::Sink),
     }
 }
 
@@ -171,7 +171,7 @@ fn run<K: Keeper>(
     session: &mut Session,
     keeper: &mut K,
     commands: &Lines,
-) -> Result<BatchReply, Stop>
+) -> Result<BatchReply, RunError>
     requires still { IsStill (K.seen keeper.old) }
     requires agrees { RemembersSome (K.seen keeper.old).kept session.old }
     requires few { length commands.now ≤ most_queued }
@@ -182,14 +182,14 @@ fn run<K: Keeper>(
     ensures agrees { RemembersSome (K.seen keeper.new).kept session.new }
     ensures never_fall { NeverFall (K.seen keeper.old) (K.seen keeper.new) }
     ensures keeper { HasCause (K.seen keeper.old).faults
-        (K.seen keeper.new).faults result Stop.Keeper }
-    ensures others { OnErr result ((IsErrOf result Stop.Source → ⊥)
-        × (IsErrOf result Stop.Large → ⊥) × (IsErrOf result Stop.Sink → ⊥)) }
+        (K.seen keeper.new).faults result RunError.Keeper }
+    ensures others { OnErr result ((IsErrOf result RunError.Source → ⊥)
+        × (IsErrOf result RunError.Large → ⊥) × (IsErrOf result RunError.Sink → ⊥)) }
 {
     match session.apply_batch(keeper, commands) {
         Ok(reply) => Ok(reply),
-        Err(StopError::Fault) => Err(Stop::Keeper),
-        Err(StopError::Memory) => Err(Stop::Memory),
+        Err(StopError::Fault) => Err(RunError::Keeper),
+        Err(StopError::Memory) => Err(RunError::Memory),
     }
 }
 

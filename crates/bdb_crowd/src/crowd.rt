@@ -16,7 +16,7 @@ use bdb_keep::Keeper;
 use bdb_lex::{Piece, Rest};
 use bdb_multi::{Desk, Line};
 use bdb_session::Session;
-use bdb_stream::{Handler, Stop};
+use bdb_stream::{Handler, RunError};
 use std::alloc::Global;
 use std::marker::Model;
 
@@ -64,7 +64,7 @@ impl Crowd {
         keeper: &mut K,
         out: &mut O,
         read: Read,
-    ) -> Result<bool, Stop>
+    ) -> Result<bool, RunError>
         requires still { IsStill (K.seen keeper.old) }
         requires at { IsAtSome (K.seen keeper.old).kept self.old }
         requires names { NamesSession read }
@@ -75,11 +75,11 @@ impl Crowd {
         ensures agrees { RemembersSome (K.seen keeper.new).kept self.new.session }
         ensures never_fall { NeverFall (K.seen keeper.old) (K.seen keeper.new) }
         ensures keeper { HasCause (K.seen keeper.old).faults
-            (K.seen keeper.new).faults result Stop.Keeper }
+            (K.seen keeper.new).faults result RunError.Keeper }
         ensures later { O.faults out.old ≤ O.faults out.new }
-        ensures sink { IsErrOf result Stop.Sink → Rose (O.faults out.old) (O.faults out.new) }
-        ensures others { OnErr result ((IsErrOf result Stop.Source → ⊥)
-            × (IsErrOf result Stop.Large → ⊥)) }
+        ensures sink { IsErrOf result RunError.Sink → Rose (O.faults out.old) (O.faults out.new) }
+        ensures others { OnErr result ((IsErrOf result RunError.Source → ⊥)
+            × (IsErrOf result RunError.Large → ⊥)) }
     {
         match read {
             Read::Nothing => Ok(true),
@@ -97,7 +97,7 @@ impl Crowd {
         out: &mut O,
         number: u8,
         line: Line,
-    ) -> Result<bool, Stop>
+    ) -> Result<bool, RunError>
         requires still { IsStill (K.seen keeper.old) }
         requires at { IsAtSome (K.seen keeper.old).kept self.old }
         requires number { number < sessions }
@@ -108,15 +108,15 @@ impl Crowd {
         ensures agrees { RemembersSome (K.seen keeper.new).kept self.new.session }
         ensures never_fall { NeverFall (K.seen keeper.old) (K.seen keeper.new) }
         ensures keeper { HasCause (K.seen keeper.old).faults
-            (K.seen keeper.new).faults result Stop.Keeper }
+            (K.seen keeper.new).faults result RunError.Keeper }
         ensures later { O.faults out.old ≤ O.faults out.new }
-        ensures sink { IsErrOf result Stop.Sink → Rose (O.faults out.old) (O.faults out.new) }
-        ensures others { OnErr result ((IsErrOf result Stop.Source → ⊥)
-            × (IsErrOf result Stop.Large → ⊥)) }
+        ensures sink { IsErrOf result RunError.Sink → Rose (O.faults out.old) (O.faults out.new) }
+        ensures others { OnErr result ((IsErrOf result RunError.Source → ⊥)
+            × (IsErrOf result RunError.Large → ⊥)) }
     {
         match self.desk.step(number, line) {
             Ok(act) => answer_act(self.alloc, &mut self.session, keeper, out, number, act),
-            Err(_) => Err(Stop::Memory),
+            Err(_) => Err(RunError::Memory),
         }
     }
 }
@@ -132,10 +132,10 @@ impl Handler for Crowd {
         keeper: &mut K,
         out: &mut O,
         piece: &Piece<'_>,
-    ) -> Result<bool, Stop> {
+    ) -> Result<bool, RunError> {
         match event_of(self.alloc, piece) {
             Ok(read) => self.answer_read(keeper, out, read),
-            Err(_) => Err(Stop::Memory),
+            Err(_) => Err(RunError::Memory),
         }
     }
 
@@ -144,7 +144,7 @@ impl Handler for Crowd {
         _keeper: &mut K,
         out: &mut O,
         rest: Rest,
-    ) -> Result<bool, Stop> {
+    ) -> Result<bool, RunError> {
         match rest {
             Rest::Nothing => Ok(true),
             Rest::Unfinished => tell_error(out, b"error unfinished\n"),

@@ -12,7 +12,7 @@ ghost use Rattle.bdb_crowd.specs.Streams.{Streams};
 use crate::crowd::Crowd;
 use bdb_io::{Sink, Source};
 use bdb_keep::Keeper;
-use bdb_stream::{Stop, carry_out};
+use bdb_stream::{RunError, carry_out};
 use std::alloc::Global;
 
 /// Carries out the stream that a source gives, each piece as soon as the bytes are read in which it ends. A batch that is open at the
@@ -23,7 +23,7 @@ pub fn carry_out_stream<S: Source, O: Sink, K: Keeper>(
     crowd: &mut Crowd,
     keeper: &mut K,
     out: &mut O,
-) -> Result<bool, Stop>
+) -> Result<bool, RunError>
     requires still { IsStill (K.seen keeper.old) }
     requires at { IsAtSome (K.seen keeper.old).kept crowd.old }
     ensures streams { (p : Point) → IsAt (K.seen keeper.old).kept crowd.old p
@@ -34,18 +34,19 @@ pub fn carry_out_stream<S: Source, O: Sink, K: Keeper>(
         (IfSome (S.left script.old) (λ text. length text ≤ longest_script)) }
     ensures still { IsStill (K.seen keeper.new) }
     ensures agrees { RemembersSome (K.seen keeper.new).kept crowd.new.session }
-    ensures source { IsErrOf result Stop.Source → Rose (S.faults script.old) (S.faults script.new) }
-    ensures sink { IsErrOf result Stop.Sink → Rose (O.faults out.old) (O.faults out.new) }
-    ensures keeper { IsErrOf result Stop.Keeper → Rose (K.seen keeper.old).faults
+    ensures source { IsErrOf result RunError.Source
+        → Rose (S.faults script.old) (S.faults script.new) }
+    ensures sink { IsErrOf result RunError.Sink → Rose (O.faults out.old) (O.faults out.new) }
+    ensures keeper { IsErrOf result RunError.Keeper → Rose (K.seen keeper.old).faults
         (K.seen keeper.new).faults }
-    ensures large { IsErrOf result Stop.Large → RisesOver longest_script (S.given script.old)
+    ensures large { IsErrOf result RunError.Large → RisesOver longest_script (S.given script.old)
         (S.given script.new) }
-    ensures many { IsErrOf result Stop.Large → IfSome (S.left script.old)
+    ensures many { IsErrOf result RunError.Large → IfSome (S.left script.old)
         (λ text. longest_script < length text) }
-    ensures within { (IsErrOf result Stop.Large → ⊥) → (n : ℕ) × (n ≤ longest_script)
+    ensures within { (IsErrOf result RunError.Large → ⊥) → (n : ℕ) × (n ≤ longest_script)
         × Rises n (S.given script.old) (S.given script.new) }
-    ensures one_more { IsErrOf result Stop.Large → Rises (longest_script + 1) (S.given script.old)
-        (S.given script.new) }
+    ensures one_more { IsErrOf result RunError.Large
+        → Rises (longest_script + 1) (S.given script.old) (S.given script.new) }
     ensures source_counts { (S.faults script.old ≤ S.faults script.new)
         × (S.given script.old ≤ S.given script.new) }
     ensures sink_count { O.faults out.old ≤ O.faults out.new }

@@ -14,8 +14,8 @@ use Rattle.bdb_session.specs.declared.event.Event.TheVariants as event
 use Rattle.bdb_stream.specs.Carried.{Carried, by_session}
 use Rattle.bdb_stream.specs.Handled.{IsAnswer}
 use Rattle.bdb_stream.specs.Handling.{IsAt, IsAtSome}
-use Rattle.bdb_stream.specs.declared.stop.Stop.{Stop}
-use Rattle.bdb_stream.specs.declared.stop.Stop.TheVariants.{Sink}
+use Rattle.bdb_stream.specs.declared.error.RunError.{RunError}
+use Rattle.bdb_stream.specs.declared.error.RunError.TheVariants.{Sink}
 use Rattle.bdb_undo.specs.Timelines.{Timeline}
 
 -- nothing was carried out
@@ -58,7 +58,7 @@ pub at_some : (t : Tables) (k : Known) → RemembersSome t k → IsAtSome by_ses
 at_some t k some = record { point = some.timeline; at = at_timeline t k some.timeline some.remembers; remembers = some }
 
 -- a piece is answered as the event for which it asks
-module _ (s : Timeline) (p : Piece) (next : Known) (first last : Seen) (old new : Option (List ℕ)) (result : Result Bool Stop) where
+module _ (s : Timeline) (p : Piece) (next : Known) (first last : Seen) (old new : Option (List ℕ)) (result : Result Bool RunError) where
   pub command_answers : (bytes text : List ℕ) → p ≡ piece.Cmd text → bytes ≡ text → IsAnswer by_session s (event.Piece bytes) next first last old new result
       → IsAnswer by_session s (event_of p) next first last old new result
   command_answers bytes text is same answer =

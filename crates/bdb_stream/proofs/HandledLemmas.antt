@@ -9,8 +9,8 @@ use Rattle.bdb_lex.specs.declared.token.Rest.{Rest}
 use Rattle.bdb_session.specs.Known.{Known}
 use Rattle.bdb_stream.specs.Handled.{Carried, Comes, Ends, EndsEarly, IsAnswer, Writes, WritesPart}
 use Rattle.bdb_stream.specs.Handling.{Handling, IsAt, IsInOrder}
-use Rattle.bdb_stream.specs.declared.stop.Stop.{Stop}
-use Rattle.bdb_stream.specs.declared.stop.Stop.TheVariants.{Source, Sink, Keeper, Memory, Large}
+use Rattle.bdb_stream.specs.declared.error.RunError.{RunError}
+use Rattle.bdb_stream.specs.declared.error.RunError.TheVariants.{Source, Sink, Keeper, Memory, Large}
 
 zero_and : (n : ℕ) → n ≡ 0 + n
 zero_and n = omega arith
@@ -42,7 +42,7 @@ pub grows_as : (a b : Option (List ℕ)) (x y : List ℕ) → x ≡ y → Append
 grows_as a b x y e h = subst (λ (l : List ℕ). Appends a b l) e h
 
 -- how one was answered, whichever point was reached
-abbrev pub AnswersOf : {H : Type 0} (m : Handling H) → m.Asked → H → H → Seen → Seen → Option (List ℕ) → Option (List ℕ) → Result Bool Stop → Type 0
+abbrev pub AnswersOf : {H : Type 0} (m : Handling H) → m.Asked → H → H → Seen → Seen → Option (List ℕ) → Option (List ℕ) → Result Bool RunError → Type 0
 AnswersOf m a before now first last old new result = (p : m.Point) → IsAt m first.kept before p → IsAnswer m p a now first last old new result
 
 module _ {H : Type 0} (m : Handling H) (o : IsInOrder m) where
@@ -126,7 +126,7 @@ module _ {H : Type 0} (m : Handling H) (o : IsInOrder m) where
   whole_on p xs done old middle new h w =
       grows_as old new (m.replies p xs ++ m.replies (m.after p xs) done) (m.replies p (xs ++ done)) (sym (replies-append p xs done)) (Appends-trans old middle new (m.replies p xs) (m.replies (m.after p xs) done) h w)
 
-  pub writes_on : (p : m.Point) (xs done : List m.Asked) (old middle new : Option (List ℕ)) (stop : Stop) → Appends old middle (m.replies p xs) → Writes m stop (m.after p xs) done middle new → Writes m stop p (xs ++ done) old new
+  pub writes_on : (p : m.Point) (xs done : List m.Asked) (old middle new : Option (List ℕ)) (stop : RunError) → Appends old middle (m.replies p xs) → Writes m stop (m.after p xs) done middle new → Writes m stop p (xs ++ done) old new
   writes_on p xs done old middle new Sink h w = part_on p xs done old middle new h w
   writes_on p xs done old middle new Source h w = whole_on p xs done old middle new h w
   writes_on p xs done old middle new Keeper h w = whole_on p xs done old middle new h w
@@ -134,7 +134,7 @@ module _ {H : Type 0} (m : Handling H) (o : IsInOrder m) where
   writes_on p xs done old middle new Large h w = whole_on p xs done old middle new h w
 
   -- the run comes through some, and stops at one of those behind
-  abbrev pub ends_on : (p : m.Point) (asked xs ys : List m.Asked) (now : H) (next : Known) (first mid last : Seen) (old middle new : Option (List ℕ)) (fine : Bool) (stop : Stop) → asked ≡ xs ++ ys
+  abbrev pub ends_on : (p : m.Point) (asked xs ys : List m.Asked) (now : H) (next : Known) (first mid last : Seen) (old middle new : Option (List ℕ)) (fine : Bool) (stop : RunError) → asked ≡ xs ++ ys
       → Comes m p xs now first mid old middle fine → EndsEarly m (m.after p xs) ys next mid last middle new stop → EndsEarly m p asked next first last old new stop
   ends_on p asked xs ys now next first mid last old middle new fine stop is come ends = record {
     done = xs ++ ends.done;
@@ -159,7 +159,7 @@ module _ {H : Type 0} (m : Handling H) (o : IsInOrder m) where
   none_written p old new none = grows_as old new [] (m.replies p []) (sym (o.no_reply p)) none
 
   -- or stops at it
-  pub one_stops : (p : m.Point) (a : m.Asked) (rest : List m.Asked) (next : H) (first last : Seen) (old new : Option (List ℕ)) (stop : Stop) → IsAnswer m p a next first last old new (Err stop)
+  pub one_stops : (p : m.Point) (a : m.Asked) (rest : List m.Asked) (next : H) (first last : Seen) (old new : Option (List ℕ)) (stop : RunError) → IsAnswer m p a next first last old new (Err stop)
       → EndsEarly m p (a ∷ rest) (m.session_of next) first last old new stop
   one_stops p a rest next first last old new Sink answer = record {
     done = a ∷ [];
@@ -191,7 +191,7 @@ module _ {H : Type 0} (m : Handling H) (o : IsInOrder m) where
       (one_comes (m.after p xs) a next mid last middle new more (answers (m.after p xs) (is_there p xs now first mid old middle fine come)))
 
   -- the run stops at one
-  pub comes_stops : (p : m.Point) (asked xs : List m.Asked) (a : m.Asked) (rest : List m.Asked) (now next : H) (first mid last : Seen) (old middle new : Option (List ℕ)) (fine : Bool) (stop : Stop)
+  pub comes_stops : (p : m.Point) (asked xs : List m.Asked) (a : m.Asked) (rest : List m.Asked) (now next : H) (first mid last : Seen) (old middle new : Option (List ℕ)) (fine : Bool) (stop : RunError)
       → asked ≡ xs ++ (a ∷ rest) → Comes m p xs now first mid old middle fine → AnswersOf m a now next mid last middle new (Err stop) → EndsEarly m p asked (m.session_of next) first last old new stop
   comes_stops p asked xs a rest now next first mid last old middle new fine stop is come answers =
       ends_on p asked xs (a ∷ rest) now (m.session_of next) first mid last old middle new fine stop is come
@@ -215,11 +215,11 @@ module _ {H : Type 0} (m : Handling H) (o : IsInOrder m) where
   nothing_ends p rest is hand now old new e asks at none =
       subst (λ (l : List m.Asked). Ends m p l hand now now old new (Ok true)) (sym (ap m.rest_asks e ∙ asks)) (comes_none p hand now old new at none)
 
-  pub one_ends : (p : m.Point) (rest is : Rest) (a : m.Asked) (next : H) (first last : Seen) (old new : Option (List ℕ)) (result : Result Bool Stop) → rest ≡ is → m.rest_asks is ≡ a ∷ []
+  pub one_ends : (p : m.Point) (rest is : Rest) (a : m.Asked) (next : H) (first last : Seen) (old new : Option (List ℕ)) (result : Result Bool RunError) → rest ≡ is → m.rest_asks is ≡ a ∷ []
       → IsAnswer m p a next first last old new result → Ends m p (m.rest_asks rest) next first last old new result
   one_ends p rest is a next first last old new result e asks answer =
       subst (λ (l : List m.Asked). Ends m p l next first last old new result) (sym (ap m.rest_asks e ∙ asks)) (by_result result answer)
     where
-      by_result : (r : Result Bool Stop) → IsAnswer m p a next first last old new r → Ends m p (a ∷ []) next first last old new r
+      by_result : (r : Result Bool RunError) → IsAnswer m p a next first last old new r → Ends m p (a ∷ []) next first last old new r
       by_result (Ok fine) h = one_comes p a next first last old new fine h
       by_result (Err stop) h = one_stops p a [] next first last old new stop h

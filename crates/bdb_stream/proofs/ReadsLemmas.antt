@@ -11,8 +11,8 @@ use Rattle.bdb_lex.specs.declared.token.Rest.{Rest}
 use Rattle.bdb_stream.specs.Handled.{Comes, EndsEarly, Writes}
 use Rattle.bdb_stream.specs.Handling.{Handling, IsAt, IsFrontOf, IsInOrder, asked_of, ended_in}
 use Rattle.bdb_stream.specs.Reads.{longest_read, before_last_read, status_of, AreAnswered, Streams}
-use Rattle.bdb_stream.specs.declared.stop.Stop.{Stop}
-use Rattle.bdb_stream.specs.declared.stop.Stop.TheVariants.{Source, Sink, Keeper, Memory, Large}
+use Rattle.bdb_stream.specs.declared.error.RunError.{RunError}
+use Rattle.bdb_stream.specs.declared.error.RunError.TheVariants.{Source, Sink, Keeper, Memory, Large}
 use Rattle.bdb_stream.proofs.HandledLemmas.{comes_none, comes_on, ends_on, grows_as, is_there, replies-append}
 
 -- ---- bytes that are taken
@@ -30,7 +30,7 @@ few_left : (n m k : ℕ) → m ≤ k → n + m - k ≤ n
 few_left n m k h = omega arith
 
 -- the status of a run that neither the source nor too much of it stopped
-not_read : (stop : Stop) → (stop ≡ Source → ⊥) → (stop ≡ Large → ⊥) → (status_of (Err stop) ≢ 3) × (status_of (Err stop) ≢ 8)
+not_read : (stop : RunError) → (stop ≡ Source → ⊥) → (stop ≡ Large → ⊥) → (status_of (Err stop) ≢ 3) × (status_of (Err stop) ≢ 8)
 not_read Source h k = absurd (h refl)
 not_read Sink h k = (λ e. omega (arith, e), λ e. omega (arith, e))
 not_read Keeper h k = (λ e. omega (arith, e), λ e. omega (arith, e))
@@ -120,7 +120,7 @@ module _ {H : Type 0} (m : Handling H) (o : IsInOrder m) where
       (subst (λ (l : List ℕ). IsFrontOf (ended_in m l) (ended_in m bytes)) (sym (take-append-le k bytes part low)) (ended_front k bytes)) c
 
   -- events behind which others were written
-  wrote : (p : m.Point) (done : List m.Asked) (old new : Option (List ℕ)) (stop : Stop) → Writes m stop p done old new → (text : List ℕ) × Appends old new text
+  wrote : (p : m.Point) (done : List m.Asked) (old new : Option (List ℕ)) (stop : RunError) → Writes m stop p done old new → (text : List ℕ) × Appends old new text
   wrote p done old new Sink w = (m.replies p w.front ++ take w.part (m.reply_of (m.after p w.front) w.last), w.written)
   wrote p done old new Source w = (m.replies p done, w)
   wrote p done old new Keeper w = (m.replies p done, w)
@@ -199,7 +199,7 @@ module _ {H : Type 0} (m : Handling H) (o : IsInOrder m) where
   }
 
   -- a run stopped behind the pieces of what was read
-  stopped_behind : (p : m.Point) (before left : Option (List ℕ)) (bytes part : List ℕ) (events : List m.Asked) (hand next : H) (first seen now : Seen) (old middle new : Option (List ℕ)) (fine : Bool) (stop : Stop)
+  stopped_behind : (p : m.Point) (before left : Option (List ℕ)) (bytes part : List ℕ) (events : List m.Asked) (hand next : H) (first seen now : Seen) (old middle new : Option (List ℕ)) (fine : Bool) (stop : RunError)
       → Comes m p (ended_in m bytes) hand first seen old middle fine → Consumes before left (bytes ++ part) → length part ≤ longest_read
       → (stop ≡ Source → ⊥) → (stop ≡ Large → ⊥)
       → (ends : EndsEarly m (m.after p (ended_in m bytes)) events (m.session_of next) seen now middle new stop)
@@ -228,7 +228,7 @@ module _ {H : Type 0} (m : Handling H) (o : IsInOrder m) where
   front_behind xs ys zs h = (h.0, ap (λ l. xs ++ l) h.1 ∙ sym (append_assoc xs ys h.0))
 
   -- the run stopped at a piece that ends in the block that was read last
-  pub block_stops : (p : m.Point) (before mid left : Option (List ℕ)) (bytes part : List ℕ) (cutter : CutterState) (hand next : H) (first seen now : Seen) (old middle new : Option (List ℕ)) (fine : Bool) (stop : Stop)
+  pub block_stops : (p : m.Point) (before mid left : Option (List ℕ)) (bytes part : List ℕ) (cutter : CutterState) (hand next : H) (first seen now : Seen) (old middle new : Option (List ℕ)) (fine : Bool) (stop : RunError)
       → Reads m p before mid bytes cutter hand first seen old middle fine → Consumes mid left part → length part ≤ longest_read
       → (stop ≡ Source → ⊥) → (stop ≡ Large → ⊥)
       → ((x : m.Point) → IsAt m seen.kept hand x → EndsEarly m x (map m.asked_by (pieces_from cutter.state part)) (m.session_of next) seen now middle new stop)
@@ -248,7 +248,7 @@ module _ {H : Type 0} (m : Handling H) (o : IsInOrder m) where
   rest_behind bytes cutter rest cut is = ap (λ (c : CutterState). ended_in m bytes ++ m.rest_asks (rest_of (holds_something c.state))) (sym cut) ∙ ap (λ (r : Rest). ended_in m bytes ++ m.rest_asks r) (sym is)
 
   -- the script was read to its end, and the run stopped at its rest
-  pub rest_stops : (p : m.Point) (before mid left : Option (List ℕ)) (bytes : List ℕ) (cutter : CutterState) (rest : Rest) (hand next : H) (first seen now : Seen) (old middle new : Option (List ℕ)) (fine : Bool) (stop : Stop)
+  pub rest_stops : (p : m.Point) (before mid left : Option (List ℕ)) (bytes : List ℕ) (cutter : CutterState) (rest : Rest) (hand next : H) (first seen now : Seen) (old middle new : Option (List ℕ)) (fine : Bool) (stop : RunError)
       → Reads m p before mid bytes cutter hand first seen old middle fine → Consumes mid left [] → IsAtEnd left → rest ≡ rest_of (holds_something cutter.state)
       → (stop ≡ Source → ⊥) → (stop ≡ Large → ⊥)
       → ((x : m.Point) → IsAt m seen.kept hand x → EndsEarly m x (m.rest_asks rest) (m.session_of next) seen now middle new stop)

@@ -5,8 +5,8 @@ use Rattle.bdb_base.specs.Causes.{Rises}
 use Rattle.bdb_keep.specs.Seen.{Seen}
 use Rattle.bdb_session.specs.Known.{Known}
 use Rattle.bdb_stream.specs.Handling.{Handling, IsFrontOf}
-use Rattle.bdb_stream.specs.declared.stop.Stop.{Stop}
-use Rattle.bdb_stream.specs.declared.stop.Stop.TheVariants.{Sink}
+use Rattle.bdb_stream.specs.declared.error.RunError.{RunError}
+use Rattle.bdb_stream.specs.declared.error.RunError.TheVariants.{Sink}
 
 -- A session and a keeper have come from a point, and from what the keeper told first, by what was asked for: they agree on the point
 -- after it, and there was one commit for each time that it commits.
@@ -33,7 +33,7 @@ pub record Answered {H : Type 0} (m : Handling H) (p : m.Point) (a : m.Asked) (h
 -- How one was answered: with an Ok it was carried out and the reply is written; where the sink failed it was carried out and a part of
 -- the reply is written; after another Err nothing was carried out or written.
 abbrev pub IsAnswer : {H : Type 0} (m : Handling H) → m.Point → m.Asked → H → Seen → Seen → Option (List ℕ) → Option (List ℕ)
-    → Result Bool Stop → Type 0
+    → Result Bool RunError → Type 0
 IsAnswer m p a hand first now old new (Ok fine) = Answered m p a hand first now old new fine
 IsAnswer m p a hand first now old new (Err Sink) = Carried m p (a ∷ []) (m.session_of hand) first now
     × ((part : ℕ) × Appends old new (take part (m.reply_of p a)))
@@ -48,13 +48,13 @@ pub record Comes {H : Type 0} (m : Handling H) (p : m.Point) (done : List m.Aske
   pub told_fine : fine ≡ m.all_fine p done
 
 -- the replies were written, but where the sink failed perhaps a part of the last alone
-abbrev pub Writes : {H : Type 0} (m : Handling H) → Stop → m.Point → List m.Asked → Option (List ℕ) → Option (List ℕ) → Type 0
+abbrev pub Writes : {H : Type 0} (m : Handling H) → RunError → m.Point → List m.Asked → Option (List ℕ) → Option (List ℕ) → Type 0
 Writes m Sink p done old new = WritesPart m p done old new
 Writes m _ p done old new = Appends old new (m.replies p done)
 
 -- The run has come through the first of these alone.
 pub record EndsEarly {H : Type 0} (m : Handling H) (p : m.Point) (asked : List m.Asked) (session : Known) (first now : Seen)
-    (old new : Option (List ℕ)) (stop : Stop) : Type 0 where
+    (old new : Option (List ℕ)) (stop : RunError) : Type 0 where
   pub done : List m.Asked
   pub front : IsFrontOf done asked
   pub carried : Carried m p done session first now
@@ -62,6 +62,6 @@ pub record EndsEarly {H : Type 0} (m : Handling H) (p : m.Point) (asked : List m
 
 -- how a run over these ends
 abbrev pub Ends : {H : Type 0} (m : Handling H) → m.Point → List m.Asked → H → Seen → Seen → Option (List ℕ) → Option (List ℕ)
-    → Result Bool Stop → Type 0
+    → Result Bool RunError → Type 0
 Ends m p asked hand first now old new result =
     MatchResult result (Comes m p asked hand first now old new) (EndsEarly m p asked (m.session_of hand) first now old new)

@@ -6,11 +6,11 @@ use Rattle.bdb_keep.specs.Seen.{Seen}
 use Rattle.bdb_session.specs.Known.{Known}
 use Rattle.bdb_stream.specs.Handling.{Handling, IsFrontOf, asked_of, ended_in}
 use Rattle.bdb_stream.specs.Handled.{Carried, Writes}
-use Rattle.bdb_stream.specs.declared.stop.Stop.{Stop}
-use Rattle.bdb_stream.specs.declared.stop.Stop.TheVariants.{Source, Sink, Keeper, Memory, Large}
+use Rattle.bdb_stream.specs.declared.error.RunError.{RunError}
+use Rattle.bdb_stream.specs.declared.error.RunError.TheVariants.{Source, Sink, Keeper, Memory, Large}
 
 -- the status of a run
-abbrev pub status_of : Result Bool Stop → ℕ
+abbrev pub status_of : Result Bool RunError → ℕ
 status_of (Ok true) = 0
 status_of (Ok false) = 1
 status_of (Err Source) = 3
@@ -44,13 +44,13 @@ pub record KeepsUp {H : Type 0} (m : Handling H) (p : m.Point) (before left : Op
   pub large : status ≡ 8 → IfSome before (λ text. done ≡ ended_in m (take longest_script text))
 
 -- the replies were written, where the run was stopped by the sink perhaps a part of the last alone
-abbrev pub WritesBy : {H : Type 0} (m : Handling H) → Result Bool Stop → m.Point → List m.Asked → Option (List ℕ) → Option (List ℕ) → Type 0
+abbrev pub WritesBy : {H : Type 0} (m : Handling H) → Result Bool RunError → m.Point → List m.Asked → Option (List ℕ) → Option (List ℕ) → Type 0
 WritesBy m (Ok _) p done old new = Appends old new (m.replies p done)
 WritesBy m (Err stop) p done old new = Writes m stop p done old new
 
 -- A run over what a source gives has come through the first of what it asks for, with an Ok through all of it.
 pub record Streams {H : Type 0} (m : Handling H) (p : m.Point) (before left : Option (List ℕ)) (session : Known) (first now : Seen)
-    (old new : Option (List ℕ)) (result : Result Bool Stop) : Type 0 where
+    (old new : Option (List ℕ)) (result : Result Bool RunError) : Type 0 where
   pub done : List m.Asked
   pub front : IfSome before (λ text. IsFrontOf done (asked_of m text))
   pub all : OnOk result (IfSome before (λ text. done ≡ asked_of m text))

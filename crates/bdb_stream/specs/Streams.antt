@@ -5,7 +5,7 @@ use Rattle.bdb_session.specs.declared.event.Event.{Event}
 use Rattle.bdb_session.specs.Known.{Known}
 use Rattle.bdb_stream.specs.Carried.{by_session}
 use Rattle.bdb_stream.specs.Reads as reads
-use Rattle.bdb_stream.specs.declared.stop.Stop.{Stop}
+use Rattle.bdb_stream.specs.declared.error.RunError.{RunError}
 use Rattle.bdb_undo.specs.Timelines.{Timeline}
 
 -- How far a run came in its script, by its status and the bytes that it took. Each piece that ends more than 65,536 bytes
@@ -16,5 +16,5 @@ KeepsUp s before left done old new status = reads.KeepsUp by_session s before le
 
 -- A run over what a source gives has come through the first of its events, with an Ok through all of them.
 abbrev pub Streams : Timeline → Option (List ℕ) → Option (List ℕ) → Known → Seen → Seen → Option (List ℕ) → Option (List ℕ)
-    → Result Bool Stop → Type 0
+    → Result Bool RunError → Type 0
 Streams s before left session first now old new result = reads.Streams by_session s before left session first now old new result

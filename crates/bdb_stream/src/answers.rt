@@ -11,11 +11,10 @@ ghost use Rattle.bdb_session.specs.declared.event.Event.TheVariants as event;
 ghost use Rattle.bdb_undo.specs.Timelines.{Timeline};
 ghost use Rattle.bdb_stream.specs.Carried.{by_session, session_in_order};
 ghost use Rattle.bdb_stream.specs.Handled.{IsAnswer};
-ghost use Rattle.bdb_stream.specs.Handling.{IsAt};
 ghost use Rattle.bdb_stream.specs.Streams.{Streams};
 
+use crate::error::RunError;
 use crate::handler::Handler;
-use crate::stop::Stop;
 use crate::stream::carry_out;
 use bdb_io::{Failed, Sink, Source};
 use bdb_keep::Keeper;
@@ -31,7 +30,7 @@ pub fn carry_out_script<S: Source, O: Sink, K: Keeper>(
     session: &mut Session,
     keeper: &mut K,
     out: &mut O,
-) -> Result<bool, Stop>
+) -> Result<bool, RunError>
     requires still { IsStill (K.seen keeper.old) }
     requires agrees { RemembersSome (K.seen keeper.old).kept session.old }
     ensures streams { (s : Timeline) → Remembers (K.seen keeper.old).kept session.old s
@@ -42,18 +41,19 @@ pub fn carry_out_script<S: Source, O: Sink, K: Keeper>(
         (IfSome (S.left script.old) (λ text. length text ≤ longest_script)) }
     ensures still { IsStill (K.seen keeper.new) }
     ensures agrees { RemembersSome (K.seen keeper.new).kept session.new }
-    ensures source { IsErrOf result Stop.Source → Rose (S.faults script.old) (S.faults script.new) }
-    ensures sink { IsErrOf result Stop.Sink → Rose (O.faults out.old) (O.faults out.new) }
-    ensures keeper { IsErrOf result Stop.Keeper → Rose (K.seen keeper.old).faults
+    ensures source { IsErrOf result RunError.Source
+        → Rose (S.faults script.old) (S.faults script.new) }
+    ensures sink { IsErrOf result RunError.Sink → Rose (O.faults out.old) (O.faults out.new) }
+    ensures keeper { IsErrOf result RunError.Keeper → Rose (K.seen keeper.old).faults
         (K.seen keeper.new).faults }
-    ensures large { IsErrOf result Stop.Large → RisesOver longest_script (S.given script.old)
+    ensures large { IsErrOf result RunError.Large → RisesOver longest_script (S.given script.old)
         (S.given script.new) }
-    ensures many { IsErrOf result Stop.Large → IfSome (S.left script.old)
+    ensures many { IsErrOf result RunError.Large → IfSome (S.left script.old)
         (λ text. longest_script < length text) }
-    ensures within { (IsErrOf result Stop.Large → ⊥) → (n : ℕ) × (n ≤ longest_script)
+    ensures within { (IsErrOf result RunError.Large → ⊥) → (n : ℕ) × (n ≤ longest_script)
         × Rises n (S.given script.old) (S.given script.new) }
-    ensures one_more { IsErrOf result Stop.Large → Rises (longest_script + 1) (S.given script.old)
-        (S.given script.new) }
+    ensures one_more { IsErrOf result RunError.Large
+        → Rises (longest_script + 1) (S.given script.old) (S.given script.new) }
     ensures source_counts { (S.faults script.old ≤ S.faults script.new)
         × (S.given script.old ≤ S.given script.new) }
     ensures sink_count { O.faults out.old ≤ O.faults out.new }
@@ -73,7 +73,7 @@ impl Handler for Session {
         keeper: &mut K,
         out: &mut O,
         piece: &Piece<'_>,
-    ) -> Result<bool, Stop> {
+    ) -> Result<bool, RunError> {
         match piece {
             Piece::Cmd(bytes) => match answer_command(self, keeper, out, bytes.as_slice()) {
                 Ok(accepted) => Ok(accepted),
@@ -91,7 +91,7 @@ impl Handler for Session {
         keeper: &mut K,
         out: &mut O,
         rest: Rest,
-    ) -> Result<bool, Stop> {
+    ) -> Result<bool, RunError> {
         match rest {
             Rest::Nothing => Ok(true),
             Rest::Unfinished => match answer(self, keeper, out, &Event::Unfinished) {
@@ -110,7 +110,7 @@ fn answer<O: Sink, K: Keeper>(
     keeper: &mut K,
     out: &mut O,
     event: &Event,
-) -> Result<bool, Stop>
+) -> Result<bool, RunError>
     requires still { IsStill (K.seen keeper.old) }
     requires agrees { RemembersSome (K.seen keeper.old).kept session.old }
     ensures answered { (s : Timeline) → Remembers (K.seen keeper.old).kept session.old s
@@ -120,20 +120,20 @@ fn answer<O: Sink, K: Keeper>(
     ensures agrees { RemembersSome (K.seen keeper.new).kept session.new }
     ensures never_fall { NeverFall (K.seen keeper.old) (K.seen keeper.new) }
     ensures keeper { HasCause (K.seen keeper.old).faults
-        (K.seen keeper.new).faults result Stop.Keeper }
+        (K.seen keeper.new).faults result RunError.Keeper }
     ensures later { O.faults out.old ≤ O.faults out.new }
-    ensures sink { IsErrOf result Stop.Sink → Rose (O.faults out.old) (O.faults out.new) }
-    ensures others { OnErr result ((IsErrOf result Stop.Source → ⊥)
-        × (IsErrOf result Stop.Large → ⊥)) }
+    ensures sink { IsErrOf result RunError.Sink → Rose (O.faults out.old) (O.faults out.new) }
+    ensures others { OnErr result ((IsErrOf result RunError.Source → ⊥)
+        × (IsErrOf result RunError.Large → ⊥)) }
 {
     let reply = match session.answer(keeper, event) {
         Ok(reply) => reply,
-        Err(StopError::Fault) => return Err(Stop::Keeper),
-        Err(StopError::Memory) => return Err(Stop::Memory),
+        Err(StopError::Fault) => return Err(RunError::Keeper),
+        Err(StopError::Memory) => return Err(RunError::Memory),
     };
     match write_reply(out, reply.text.as_slice()) {
         Ok(()) => Ok(reply.accepted),
-        Err(_) => Err(Stop::Sink),
+        Err(_) => Err(RunError::Sink),
     }
 }
 
@@ -143,7 +143,7 @@ fn answer_command<O: Sink, K: Keeper>(
     keeper: &mut K,
     out: &mut O,
     bytes: &[u8],
-) -> Result<bool, Stop>
+) -> Result<bool, RunError>
     requires still { IsStill (K.seen keeper.old) }
     requires agrees { RemembersSome (K.seen keeper.old).kept session.old }
     ensures answered { (s : Timeline) → Remembers (K.seen keeper.old).kept session.old s
@@ -153,20 +153,20 @@ fn answer_command<O: Sink, K: Keeper>(
     ensures agrees { RemembersSome (K.seen keeper.new).kept session.new }
     ensures never_fall { NeverFall (K.seen keeper.old) (K.seen keeper.new) }
     ensures keeper { HasCause (K.seen keeper.old).faults
-        (K.seen keeper.new).faults result Stop.Keeper }
+        (K.seen keeper.new).faults result RunError.Keeper }
     ensures later { O.faults out.old ≤ O.faults out.new }
-    ensures sink { IsErrOf result Stop.Sink → Rose (O.faults out.old) (O.faults out.new) }
-    ensures others { OnErr result ((IsErrOf result Stop.Source → ⊥)
-        × (IsErrOf result Stop.Large → ⊥)) }
+    ensures sink { IsErrOf result RunError.Sink → Rose (O.faults out.old) (O.faults out.new) }
+    ensures others { OnErr result ((IsErrOf result RunError.Source → ⊥)
+        × (IsErrOf result RunError.Large → ⊥)) }
 {
     let reply = match session.apply(keeper, bytes) {
         Ok(reply) => reply,
-        Err(StopError::Fault) => return Err(Stop::Keeper),
-        Err(StopError::Memory) => return Err(Stop::Memory),
+        Err(StopError::Fault) => return Err(RunError::Keeper),
+        Err(StopError::Memory) => return Err(RunError::Memory),
     };
     match write_reply(out, reply.text.as_slice()) {
         Ok(()) => Ok(reply.accepted),
-        Err(_) => Err(Stop::Sink),
+        Err(_) => Err(RunError::Sink),
     }
 }
 

@@ -6,7 +6,7 @@ ghost use Rattle.bdb_session.specs.Known.{RemembersSome};
 ghost use Rattle.bdb_stream.specs.Handled.{Ends, IsAnswer};
 ghost use Rattle.bdb_stream.specs.Handling.{Handling, IsAt, IsAtSome, IsInOrder};
 
-use crate::stop::Stop;
+use crate::error::RunError;
 use bdb_io::Sink;
 use bdb_keep::Keeper;
 use bdb_lex::{Piece, Rest};
@@ -23,7 +23,7 @@ pub trait Handler {
         keeper: &mut K,
         out: &mut O,
         piece: &Piece<'_>,
-    ) -> Result<bool, Stop>
+    ) -> Result<bool, RunError>
         requires still { IsStill (K.seen keeper.old) }
         requires at { IsAtSome handling (K.seen keeper.old).kept self.old }
         ensures answered { (p : handling.Point) → IsAt handling (K.seen keeper.old).kept self.old p
@@ -34,11 +34,11 @@ pub trait Handler {
         ensures agrees { RemembersSome (K.seen keeper.new).kept (handling.session_of self.new) }
         ensures never_fall { NeverFall (K.seen keeper.old) (K.seen keeper.new) }
         ensures keeper { HasCause (K.seen keeper.old).faults
-            (K.seen keeper.new).faults result Stop.Keeper }
+            (K.seen keeper.new).faults result RunError.Keeper }
         ensures later { O.faults out.old ≤ O.faults out.new }
-        ensures sink { IsErrOf result Stop.Sink → Rose (O.faults out.old) (O.faults out.new) }
-        ensures others { OnErr result ((IsErrOf result Stop.Source → ⊥)
-            × (IsErrOf result Stop.Large → ⊥)) };
+        ensures sink { IsErrOf result RunError.Sink → Rose (O.faults out.old) (O.faults out.new) }
+        ensures others { OnErr result ((IsErrOf result RunError.Source → ⊥)
+            × (IsErrOf result RunError.Large → ⊥)) };
 
     /// Answers what stands behind the last semicolon, and writes the reply.
     fn answer_rest<O: Sink, K: Keeper>(
@@ -46,7 +46,7 @@ pub trait Handler {
         keeper: &mut K,
         out: &mut O,
         rest: Rest,
-    ) -> Result<bool, Stop>
+    ) -> Result<bool, RunError>
         requires still { IsStill (K.seen keeper.old) }
         requires at { IsAtSome handling (K.seen keeper.old).kept self.old }
         ensures ends { (p : handling.Point) → IsAt handling (K.seen keeper.old).kept self.old p
@@ -56,11 +56,11 @@ pub trait Handler {
         ensures agrees { RemembersSome (K.seen keeper.new).kept (handling.session_of self.new) }
         ensures never_fall { NeverFall (K.seen keeper.old) (K.seen keeper.new) }
         ensures keeper { HasCause (K.seen keeper.old).faults
-            (K.seen keeper.new).faults result Stop.Keeper }
+            (K.seen keeper.new).faults result RunError.Keeper }
         ensures later { O.faults out.old ≤ O.faults out.new }
-        ensures sink { IsErrOf result Stop.Sink → Rose (O.faults out.old) (O.faults out.new) }
-        ensures others { OnErr result ((IsErrOf result Stop.Source → ⊥)
-            × (IsErrOf result Stop.Large → ⊥)) };
+        ensures sink { IsErrOf result RunError.Sink → Rose (O.faults out.old) (O.faults out.new) }
+        ensures others { OnErr result ((IsErrOf result RunError.Source → ⊥)
+            × (IsErrOf result RunError.Large → ⊥)) };
 
     // it handles several things one after the other
     ghost in_order: { IsInOrder handling };

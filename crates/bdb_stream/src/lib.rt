@@ -3,11 +3,11 @@
 #![tactic(auto)]
 
 mod answers;
+mod error;
 mod handler;
-mod stop;
 mod stream;
 
 pub use answers::carry_out_script;
+pub use error::RunError;
 pub use handler::Handler;
-pub use stop::Stop;
 pub use stream::carry_out;

@@ -10,8 +10,8 @@ ghost use Rattle.bdb_stream.specs.Handled.{Ends};
 ghost use Rattle.bdb_stream.specs.Handling.{IsAt, IsAtSome};
 ghost use Rattle.bdb_stream.specs.Reads.{longest_read, Streams};
 
+use crate::error::RunError;
 use crate::handler::Handler;
-use crate::stop::Stop;
 use bdb_base::limits::{LONGEST_COMMAND, LONGEST_SCRIPT};
 use bdb_io::{Failed, Sink, Source};
 use bdb_keep::Keeper;
@@ -29,7 +29,7 @@ pub fn carry_out<S: Source, H: Handler, K: Keeper, O: Sink>(
     handler: &mut H,
     keeper: &mut K,
     out: &mut O,
-) -> Result<bool, Stop>
+) -> Result<bool, RunError>
     requires still { IsStill (K.seen keeper.old) }
     requires at { IsAtSome H.handling (K.seen keeper.old).kept handler.old }
     ensures streams { (p : H.handling.Point)
@@ -42,18 +42,19 @@ pub fn carry_out<S: Source, H: Handler, K: Keeper, O: Sink>(
         (IfSome (S.left script.old) (λ text. length text ≤ longest_script)) }
     ensures still { IsStill (K.seen keeper.new) }
     ensures agrees { RemembersSome (K.seen keeper.new).kept (H.handling.session_of handler.new) }
-    ensures source { IsErrOf result Stop.Source → Rose (S.faults script.old) (S.faults script.new) }
-    ensures sink { IsErrOf result Stop.Sink → Rose (O.faults out.old) (O.faults out.new) }
-    ensures keeper { IsErrOf result Stop.Keeper → Rose (K.seen keeper.old).faults
+    ensures source { IsErrOf result RunError.Source
+        → Rose (S.faults script.old) (S.faults script.new) }
+    ensures sink { IsErrOf result RunError.Sink → Rose (O.faults out.old) (O.faults out.new) }
+    ensures keeper { IsErrOf result RunError.Keeper → Rose (K.seen keeper.old).faults
         (K.seen keeper.new).faults }
-    ensures large { IsErrOf result Stop.Large → RisesOver longest_script (S.given script.old)
+    ensures large { IsErrOf result RunError.Large → RisesOver longest_script (S.given script.old)
         (S.given script.new) }
-    ensures many { IsErrOf result Stop.Large → IfSome (S.left script.old)
+    ensures many { IsErrOf result RunError.Large → IfSome (S.left script.old)
         (λ text. longest_script < length text) }
-    ensures within { (IsErrOf result Stop.Large → ⊥) → (n : ℕ) × (n ≤ longest_script)
+    ensures within { (IsErrOf result RunError.Large → ⊥) → (n : ℕ) × (n ≤ longest_script)
         × Rises n (S.given script.old) (S.given script.new) }
-    ensures one_more { IsErrOf result Stop.Large → Rises (longest_script + 1) (S.given script.old)
-        (S.given script.new) }
+    ensures one_more { IsErrOf result RunError.Large
+        → Rises (longest_script + 1) (S.given script.old) (S.given script.new) }
     ensures source_counts { (S.faults script.old ≤ S.faults script.new)
         × (S.given script.old ≤ S.given script.new) }
     ensures sink_count { O.faults out.old ≤ O.faults out.new }
@@ -68,7 +69,7 @@ pub fn carry_out<S: Source, H: Handler, K: Keeper, O: Sink>(
         let part = &mut block[..size_of_read(room)];
         let count = match script.read(part) {
             Ok(count) => count,
-            Err(Failed) => return Err(Stop::Source),
+            Err(Failed) => return Err(RunError::Source),
         };
         if count == 0 {
             match handler.answer_rest(keeper, out, cutter.finish()) {
@@ -77,7 +78,7 @@ pub fn carry_out<S: Source, H: Handler, K: Keeper, O: Sink>(
             }
         }
         if room == 0 {
-            return Err(Stop::Large);
+            return Err(RunError::Large);
         }
         taken += count;
         match answer_block(alloc, &mut cutter, &part[..count], handler, keeper, out) {
@@ -105,7 +106,7 @@ fn answer_block<H: Handler, K: Keeper, O: Sink>(
     handler: &mut H,
     keeper: &mut K,
     out: &mut O,
-) -> Result<bool, Stop>
+) -> Result<bool, RunError>
     requires ready { cutter.old.is_spent ≡ false }
     requires still { IsStill (K.seen keeper.old) }
     requires at { IsAtSome H.handling (K.seen keeper.old).kept handler.old }
@@ -120,11 +121,11 @@ fn answer_block<H: Handler, K: Keeper, O: Sink>(
     ensures agrees { RemembersSome (K.seen keeper.new).kept (H.handling.session_of handler.new) }
     ensures never_fall { NeverFall (K.seen keeper.old) (K.seen keeper.new) }
     ensures keeper { HasCause (K.seen keeper.old).faults
-        (K.seen keeper.new).faults result Stop.Keeper }
+        (K.seen keeper.new).faults result RunError.Keeper }
     ensures later { O.faults out.old ≤ O.faults out.new }
-    ensures sink { IsErrOf result Stop.Sink → Rose (O.faults out.old) (O.faults out.new) }
-    ensures others { OnErr result ((IsErrOf result Stop.Source → ⊥)
-        × (IsErrOf result Stop.Large → ⊥)) }
+    ensures sink { IsErrOf result RunError.Sink → Rose (O.faults out.old) (O.faults out.new) }
+    ensures others { OnErr result ((IsErrOf result RunError.Source → ⊥)
+        × (IsErrOf result RunError.Large → ⊥)) }
 {
     let mut rest = block;
     let mut fine = true;
@@ -138,7 +139,7 @@ fn answer_block<H: Handler, K: Keeper, O: Sink>(
                 Err(stop) => return Err(stop),
             },
             Ok(None) => return Ok(fine),
-            Err(_) => return Err(Stop::Memory),
+            Err(_) => return Err(RunError::Memory),
         }
     }
 }

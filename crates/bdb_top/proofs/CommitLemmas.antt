@@ -1,8 +1,8 @@
 -- What the batches that are committed tell of a run over a stream of sessions.
-use Rattle.std.proofs.Common.{◌≡◌, ◌∙◌, ℕ, ◌-◌, nat_eq, List, [], ◌∷◌, ◌++◌, take, Option, Some, None, IfSome, inl, inr, ap, sym, subst, append-nil}
+use Rattle.std.proofs.Common.{◌∙◌, ℕ, ◌-◌, nat_eq, List, ◌++◌, take, Option, Some, None, IfSome, inl, inr, ap, sym, subst}
 use Rattle.std.proofs.lemmas.Bool.{cases_Bool}
 use Rattle.bdb_catalog.specs.Opening.{StandFor}
-use Rattle.bdb_crowd.specs.Asked.{Asked, Point, after, asked_of, committed, replies, reply_of, start_at}
+use Rattle.bdb_crowd.specs.Asked.{after, asked_of, committed, replies, reply_of, start_at}
 use Rattle.bdb_crowd.specs.Carried.{by_crowd, crowd_in_order}
 use Rattle.bdb_crowd.specs.Counted.{before_commit, up_to_commit}
 use Rattle.bdb_crowd.proofs.CountLemmas.{commits_tell_the_state, first_batches_lead}

@@ -1,6 +1,6 @@
 -- What the events that count tell of a run.
-use Rattle.std.proofs.Common.{◌≡◌, ◌≢◌, ◌∙◌, ℕ, ◌+◌, ◌-◌, ◌<◌, true, false, nat_eq, nat_lt, List, [], ◌∷◌, ◌++◌, take, drop, Option, Some, None, IfSome, inl, inr, refl, ap, sym, subst, append_assoc, arith}
-use Rattle.std.proofs.lemmas.Bool.{cases_Bool, cond-true, cond-false, le-ltb, lt-ltb}
+use Rattle.std.proofs.Common.{◌≡◌, ◌≢◌, ◌∙◌, ℕ, ◌+◌, ◌-◌, true, false, nat_eq, List, ◌++◌, take, drop, Option, Some, None, IfSome, inl, inr, refl, ap, sym, subst, append_assoc, arith}
+use Rattle.std.proofs.lemmas.Bool.{cases_Bool}
 use Rattle.std.proofs.lemmas.List.{take-append-drop}
 use Rattle.bdb_catalog.specs.Opening.{StandFor}
 use Rattle.bdb_keep.specs.Seen.{Seen}
@@ -14,7 +14,7 @@ use Rattle.bdb_session.specs.Outcome.{State, Outcome, Blank, Refused, Done, star
 use Rattle.bdb_session.specs.Undoing.{counts, course_of, led, next_by, next_state, outcome_by, reply_of, stepped}
 use Rattle.bdb_undo.specs.Timelines.{Timeline, arrived, redone, started, undone}
 use Rattle.bdb_undo.proofs.TimelineLemmas.{staying_arrives}
-use Rattle.bdb_session.specs.Runs.{events_of, IsFrontOf}
+use Rattle.bdb_session.specs.Runs.{events_of}
 use Rattle.bdb_session.specs.UndoRuns.{after, replies}
 use Rattle.bdb_stream.specs.Carried.{by_session, counted, session_in_order}
 use Rattle.bdb_stream.proofs.CommitLemmas.{all_told, before_part, before_whole, no_more_told, replies-push, replies_begin, state_told}

@@ -14,8 +14,8 @@ use Rattle.bdb_session.specs.Opening.{opening, Opens}
 use Rattle.bdb_session.specs.Outcome.{State, start_from}
 use Rattle.bdb_stream.specs.Handling.{IsFrontOf}
 use Rattle.bdb_stream.specs.Reads.{status_of}
-use Rattle.bdb_stream.specs.declared.stop.Stop.{Stop}
-use Rattle.bdb_stream.specs.declared.stop.Stop.TheVariants.{Source, Sink, Keeper, Memory, Large}
+use Rattle.bdb_stream.specs.declared.error.RunError.{RunError}
+use Rattle.bdb_stream.specs.declared.error.RunError.TheVariants.{Source, Sink, Keeper, Memory, Large}
 use Rattle.bdb_top.specs.Ran.{EachBase, StandsForNone, CommitsFor}
 use Rattle.bdb_top.specs.RanMany.{RanMany}
 use Rattle.bdb_top.proofs.RanLemmas.{commits_on, nothing_grows}
@@ -123,7 +123,7 @@ through s text left first now old new false done is front leaves written none ke
   keeps_up = keeps_up;
 }
 
-ran_from : (s : State) (text : List ℕ) (left : Option (List ℕ)) (session : Known) (first mid now : Seen) (old new : Option (List ℕ)) (result : Result Bool Stop)
+ran_from : (s : State) (text : List ℕ) (left : Option (List ℕ)) (session : Known) (first mid now : Seen) (old new : Option (List ℕ)) (result : Result Bool RunError)
     → Rises (opening first.kept) first.commits mid.commits → IsStill now → Streams (start_at s) (Some text) left session mid now old new result → RanMany s text left first now old new (status_of result)
 ran_from s text left session first mid now old new (Ok accepted) opened still run =
     through s text left first now old new accepted run.done run.all run.front (left_by s run.done session first mid now opened run.carried still) run.written run.fine run.keeps_up
@@ -153,7 +153,7 @@ ran_from s text left session first mid now old new (Err Sink) opened still run =
     }
 
 -- a run over what the source gives, from each base that the tables stand for
-pub each_run : (before left : Option (List ℕ)) (hand : AtHand) (session next : Known) (first mid now : Seen) (old new : Option (List ℕ)) (result : Result Bool Stop)
+pub each_run : (before left : Option (List ℕ)) (hand : AtHand) (session next : Known) (first mid now : Seen) (old new : Option (List ℕ)) (result : Result Bool RunError)
     → ((t : Tables) (s : State) → Agrees t session s → IsAt t hand (start_at s)) → Opens first.kept mid.kept session → Rises (opening first.kept) first.commits mid.commits → IsStill now
     → ((p : Point) → IsAt mid.kept hand p → Streams p before left next mid now old new result)
     → IfSome before (λ text. EachBase first.kept (λ b. RanMany (start_from b) text left first now old new (status_of result)))

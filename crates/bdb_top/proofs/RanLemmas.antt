@@ -16,8 +16,8 @@ use Rattle.bdb_session.specs.UndoRuns.{after, replies, accepts_all}
 use Rattle.bdb_stream.specs.Carried.{counted, Carried}
 use Rattle.bdb_stream.specs.Reads.{status_of}
 use Rattle.bdb_stream.specs.Streams.{KeepsUp, Streams}
-use Rattle.bdb_stream.specs.declared.stop.Stop.{Stop}
-use Rattle.bdb_stream.specs.declared.stop.Stop.TheVariants.{Source, Sink, Keeper, Memory, Large}
+use Rattle.bdb_stream.specs.declared.error.RunError.{RunError}
+use Rattle.bdb_stream.specs.declared.error.RunError.TheVariants.{Source, Sink, Keeper, Memory, Large}
 use Rattle.bdb_top.specs.Ran.{EachBase, Ran, StandsForNone, CommitsFor}
 
 append_nil : {X : Type 0} (xs : List X) → xs ++ [] ≡ xs
@@ -138,7 +138,7 @@ through s text left first now old new false done is front leaves written none ke
   keeps_up = keeps_up;
 }
 
-ran_from : (s : Timeline) (text : List ℕ) (left : Option (List ℕ)) (session : Known) (first mid now : Seen) (old new : Option (List ℕ)) (result : Result Bool Stop)
+ran_from : (s : Timeline) (text : List ℕ) (left : Option (List ℕ)) (session : Known) (first mid now : Seen) (old new : Option (List ℕ)) (result : Result Bool RunError)
     → Rises (opening first.kept) first.commits mid.commits → IsStill now → Streams s (Some text) left session mid now old new result → Ran s text left first now old new (status_of result)
 ran_from s text left session first mid now old new (Ok accepted) opened still run =
     through s text left first now old new accepted run.done run.all run.front (left_by s run.done session first mid now opened run.carried still) run.written run.fine run.keeps_up
@@ -168,7 +168,7 @@ ran_from s text left session first mid now old new (Err Sink) opened still run =
     }
 
 -- a run over what the source gives, from each base that the tables stand for
-pub each_run : (before left : Option (List ℕ)) (session next : Known) (first mid now : Seen) (old new : Option (List ℕ)) (result : Result Bool Stop)
+pub each_run : (before left : Option (List ℕ)) (session next : Known) (first mid now : Seen) (old new : Option (List ℕ)) (result : Result Bool RunError)
     → Opens first.kept mid.kept session → Rises (opening first.kept) first.commits mid.commits → IsStill now
     → ((s : Timeline) → Remembers mid.kept session s → Streams s before left next mid now old new result)
     → IfSome before (λ text. EachBase first.kept (λ b. Ran (started b) text left first now old new (status_of result)))
@@ -184,7 +184,7 @@ each_status before left first now old new status number is ran =
     subst (λ (n : ℕ). IfSome before (λ text. EachBase first.kept (λ b. Ran (started b) text left first now old new n))) (sym is) ran
 
 -- the status of a run that was begun
-pub run_status : (n : ℕ) (r : Result Bool Stop) → n ≡ status_of r → (n ≤ 8) × (n ≢ 2)
+pub run_status : (n : ℕ) (r : Result Bool RunError) → n ≡ status_of r → (n ≤ 8) × (n ≢ 2)
 run_status n (Ok true) is = (omega arith, λ e. omega arith)
 run_status n (Ok false) is = (omega arith, λ e. omega arith)
 run_status n (Err Source) is = (omega arith, λ e. omega arith)
@@ -193,7 +193,7 @@ run_status n (Err Keeper) is = (omega arith, λ e. omega arith)
 run_status n (Err Memory) is = (omega arith, λ e. omega arith)
 run_status n (Err Large) is = (omega arith, λ e. omega arith)
 
-pub not_seven : (n : ℕ) (r : Result Bool Stop) → n ≡ status_of r → n ≡ 7 → ⊥
+pub not_seven : (n : ℕ) (r : Result Bool RunError) → n ≡ status_of r → n ≡ 7 → ⊥
 not_seven n (Ok true) is e = omega arith
 not_seven n (Ok false) is e = omega arith
 not_seven n (Err Source) is e = omega arith
@@ -203,7 +203,7 @@ not_seven n (Err Memory) is e = omega arith
 not_seven n (Err Large) is e = omega arith
 
 -- 0 and 1 come of an Ok alone
-low_is_ok : {X : Type 0} (n : ℕ) (r : Result Bool Stop) → n ≡ status_of r → n ≤ 1 → OnOk r X → X
+low_is_ok : {X : Type 0} (n : ℕ) (r : Result Bool RunError) → n ≡ status_of r → n ≤ 1 → OnOk r X → X
 low_is_ok n (Ok accepted) is low h = h
 low_is_ok n (Err Source) is low h = absurd (omega arith)
 low_is_ok n (Err Sink) is low h = absurd (omega arith)
@@ -212,7 +212,7 @@ low_is_ok n (Err Memory) is low h = absurd (omega arith)
 low_is_ok n (Err Large) is low h = absurd (omega arith)
 
 -- and 8 of a script that is too large
-large_by : (n : ℕ) (r : Result Bool Stop) → n ≡ status_of r → n ≡ 8 → r ≡ Err Large
+large_by : (n : ℕ) (r : Result Bool RunError) → n ≡ status_of r → n ≡ 8 → r ≡ Err Large
 large_by n (Ok true) is e = absurd (omega arith)
 large_by n (Ok false) is e = absurd (omega arith)
 large_by n (Err Source) is e = absurd (omega arith)
@@ -221,7 +221,7 @@ large_by n (Err Keeper) is e = absurd (omega arith)
 large_by n (Err Memory) is e = absurd (omega arith)
 large_by n (Err Large) is e = refl
 
-pub taken_by : (n : ℕ) (r : Result Bool Stop) (before left : Option (List ℕ)) → n ≡ status_of r → OnOk r (IsAtEnd left) → OnOk r (IfSome before (λ text. length text ≤ longest_script))
+pub taken_by : (n : ℕ) (r : Result Bool RunError) (before left : Option (List ℕ)) → n ≡ status_of r → OnOk r (IsAtEnd left) → OnOk r (IfSome before (λ text. length text ≤ longest_script))
     → n ≤ 1 → IsAtEnd left × IfSome before (λ text. length text ≤ longest_script)
 taken_by n r before left is end short low = (low_is_ok n r is low end, low_is_ok n r is low short)
 
@@ -229,10 +229,10 @@ too_long : {n : ℕ} → longest_script < n → n ≤ longest_script → ⊥
 too_long h k = omega (arith, h, k)
 
 -- what holds where a run was stopped by a script that is too large, and what where it wasn't, by its status
-pub but_for_large : {X : Type 0} (n : ℕ) (r : Result Bool Stop) → n ≡ status_of r → ((IsErrOf r Large → ⊥) → X) → n ≢ 8 → X
+pub but_for_large : {X : Type 0} (n : ℕ) (r : Result Bool RunError) → n ≡ status_of r → ((IsErrOf r Large → ⊥) → X) → n ≢ 8 → X
 but_for_large n r is h low = h (λ e. low (is ∙ ap status_of e))
 
-pub of_large : {X : Type 0} (n : ℕ) (r : Result Bool Stop) → n ≡ status_of r → (IsErrOf r Large → X) → n ≡ 8 → X
+pub of_large : {X : Type 0} (n : ℕ) (r : Result Bool RunError) → n ≡ status_of r → (IsErrOf r Large → X) → n ≡ 8 → X
 of_large n r is h e = h (large_by n r is e)
 
 -- a source that isn't called gives nothing
@@ -253,6 +253,6 @@ finishes_by (suc (suc (suc (suc (suc (suc (suc zero))))))) before text few a b c
 finishes_by (suc (suc (suc (suc (suc (suc (suc (suc zero)))))))) before text few a b c d e many is short = absurd (too_long (subst (λ (o : Option (List ℕ)). IfSome o (λ t. longest_script < length t)) is (many refl)) short)
 finishes_by (suc (suc (suc (suc (suc (suc (suc (suc (suc n))))))))) before text few a b c d e many is short = absurd (omega (arith, few))
 
-pub many_if : (n : ℕ) (r : Result Bool Stop) (before : Option (List ℕ)) → n ≡ status_of r → (IsErrOf r Large → IfSome before (λ text. longest_script < length text))
+pub many_if : (n : ℕ) (r : Result Bool RunError) (before : Option (List ℕ)) → n ≡ status_of r → (IsErrOf r Large → IfSome before (λ text. longest_script < length text))
     → n ≡ 8 → IfSome before (λ text. longest_script < length text)
 many_if n r before is many e = many (large_by n r is e)

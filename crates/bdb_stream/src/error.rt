@@ -3,7 +3,7 @@ use thiserror::Error;
 
 /// Why a run stops before the end of its script.
 #[derive(Clone, Copy, Debug, PartialEq, Eq, Drop, Error)]
-pub enum Stop {
+pub enum RunError {
     /// A read failed.
     #[error("a read failed")]
     Source,
