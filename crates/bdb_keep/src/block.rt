@@ -1,10 +1,9 @@
 // A block of places in their order.
 ghost use Rattle.std.specs.Prelude.{◌≡◌, ◌<◌, ◌≤◌, ◌∷◌, ◌++◌, [], Some, None, IfOk, OnOk, OnErr, not, length, take, drop, slice_set};
 ghost use Prim.Native.Nat.{suc};
-ghost use Rattle.std.specs.Ordering.{is_le, is_lt};
+ghost use Rattle.std.specs.Ordering.{is_lt};
 ghost use Rattle.bdb_keep.specs.Tables.{bytes_cmp};
 ghost use Rattle.bdb_keep.specs.Entries.{AreBelow, NoneBelow, IsAscending};
-ghost use Rattle.bdb_keep.specs.Heads.{IsHeadOfPlace};
 ghost use Rattle.bdb_keep.specs.Blocks.{entry_at, starts_within, without_empty, has_any, HasFirst};
 
 use crate::entry::Entry;
@@ -95,8 +94,19 @@ impl Block {
     pub fn starts_within(&self, probe: &Probe<'_>) -> bool
         ensures { result ≡ starts_within probe.now self.now }
     {
+        match probe.compare_head(&self.first) {
+            Ordering::Less => true,
+            Ordering::Equal => self.starts_within_alike(probe),
+            Ordering::Greater => self.entries.is_empty(),
+        }
+    }
+
+    /// The same where the head doesn't tell.
+    fn starts_within_alike(&self, probe: &Probe<'_>) -> bool
+        ensures { result ≡ starts_within probe.now self.now }
+    {
         match self.entries.first() {
-            Some(entry) => is_within(&self.first, entry, probe),
+            Some(entry) => entry.compare(probe).is_le(),
             None => true,
         }
     }
@@ -200,19 +210,6 @@ fn is_below(entry: &Entry, probe: &Probe<'_>) -> bool
     match probe.compare_head(&entry.head()) {
         Ordering::Less => true,
         Ordering::Equal => entry.compare(probe).is_lt(),
-        Ordering::Greater => false,
-    }
-}
-
-/// Whether a place with this head isn't above one that is looked for. It looks at the place where the head doesn't tell.
-#[inline(always)]
-fn is_within(head: &Head, entry: &Entry, probe: &Probe<'_>) -> bool
-    requires { IsHeadOfPlace head.now entry.now.0 }
-    ensures { result ≡ is_le (bytes_cmp entry.now.0 probe.now) }
-{
-    match probe.compare_head(head) {
-        Ordering::Less => true,
-        Ordering::Equal => entry.compare(probe).is_le(),
         Ordering::Greater => false,
     }
 }
