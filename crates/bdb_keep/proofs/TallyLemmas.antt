@@ -40,7 +40,7 @@ put-new tab end n k v (r ∷ rows) h = there (bytes_cmp k r.0) h (put-new tab en
     there : (o : Ordering) → cond (is_eq o) (Some r.1) (find bytes_cmp k rows) ≡ None
         → (find bytes_cmp k rows ≡ None → count_listed tab end n (put bytes_cmp k v rows) ≡ one_at tab end n k (Some v) + count_listed tab end n rows)
         → count_listed tab end n (by_order o ((k, v) ∷ r ∷ rows) ((r.0, v) ∷ rows) (r ∷ put bytes_cmp k v rows))
-            ≡ one_at tab end n k (Some v) + (one_at tab end n r.0 (Some r.1) + count_listed tab end n rows)
+        ≡ one_at tab end n k (Some v) + (one_at tab end n r.0 (Some r.1) + count_listed tab end n rows)
     there Less h more = refl
     there Equal h more = absurd (none-some r.1 h)
     there Greater h more =

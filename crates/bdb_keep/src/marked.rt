@@ -159,12 +159,7 @@ fn count_blocks(blocks: &[Block], tab: u8, end: KeyEnd, number: u32) -> Result<u
 }
 
 /// How many rows of entries are.
-fn count_entries(
-    entries: &[Entry],
-    tab: u8,
-    end: KeyEnd,
-    number: u32,
-) -> Result<usize, AllocError>
+fn count_entries(entries: &[Entry], tab: u8, end: KeyEnd, number: u32) -> Result<usize, AllocError>
     ensures { IfOk result (λ n. n ≡ count_among tab end number entries.now) }
 {
     let mut count = 0;

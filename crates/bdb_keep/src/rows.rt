@@ -100,8 +100,7 @@ impl Rows {
         let near = self.cursors.to_write(probe);
         let (mark, before) = shelves::insert(self.alloc, &mut self.shelves, near, probe, row)?;
         let was = had_marked_in(TABLE, probe, &before);
-        self.tally
-            .note(probe, was, is_marked_in(TABLE, probe, row));
+        self.tally.note(probe, was, is_marked_in(TABLE, probe, row));
         self.cursors.remember_written(probe, mark);
         self.census.inserted(&before);
         Ok(before)
@@ -120,8 +119,7 @@ impl Rows {
         match runs::put_behind(self.alloc, &mut self.shelves, last, probe, row) {
             Some((mark, is_new, before)) => {
                 let was = has_marked_in(TABLE, probe, &before);
-                self.tally
-                    .note(probe, was, is_marked_in(TABLE, probe, row));
+                self.tally.note(probe, was, is_marked_in(TABLE, probe, row));
                 self.cursors.remember_written(probe, mark);
                 self.census.put(is_new, before.is_some());
                 Some(before)

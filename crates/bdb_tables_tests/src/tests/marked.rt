@@ -8,8 +8,11 @@ use std::test::Fail;
 
 /// Keys that begin with the number 1, or 2, and end with 7, or 8; the long ones are of 33 and 36 bytes.
 const SHORT_1_7: &[u8] = b"\0\0\0\x01\0\0\0\x07";
+
 const LONG_1_7: &[u8] = b"\0\0\0\x01aaaaaaaaaaaaaaaaaaaaaaaaa\0\0\0\x07";
+
 const SHORT_1_8: &[u8] = b"\0\0\0\x01\0\0\0\x08";
+
 const LONG_2_7: &[u8] = b"\0\0\0\x02aaaaaaaaaaaaaaaaaaaaaaaaaaaa\0\0\0\x07";
 
 /// Whether so many rows are marked at the number 1 in the first four bytes of their keys, and so many at 7 in the last four.
