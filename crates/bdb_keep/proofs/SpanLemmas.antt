@@ -287,6 +287,7 @@ ends_replaced b mid new front row cs i c h lt e long ends as_front as_row one tw
     let end : c.end ≡ length ((p ++ (f ++ m)) ++ r) = omega (arith, middle, pfmr, ends, r_is.1) in
     let key = same_key p f m r q front row c start middle end f_is.1 r_is.1 as_front as_row in
     let mid_is : mid ≡ (p ++ (front ++ m)) ++ (r ++ q) = one ∙ ap (with_four c.start front) whole ∙ four_put p f (m ++ (r ++ q)) front c.start start f_is.1 ∙ grouped front in
-    let new_is : new ≡ ((p ++ (front ++ m)) ++ row) ++ q = two ∙ ap (with_four c.middle row) mid_is ∙ four_put (p ++ (front ++ m)) r q row c.middle (middle ∙ sym key) r_is.1 ∙ sym (append_assoc (p ++ (front ++ m)) row q) in
-    (ap (λ (x : List ℕ). listed x cs) new_is ∙ replaced p f m r q front row c start middle end f_is.1 r_is.1 as_front as_row 0 (length b) cs i h lt e ∙ ap (λ (x : List ℕ). with_ends front row (listed x cs) i) (sym old_is),
-    ap length new_is ∙ same_length p f m r q front row c start middle end f_is.1 r_is.1 as_front as_row ∙ ap length (sym old_is))
+    let new_is : new ≡ ((p ++ (front ++ m)) ++ row) ++ q = two ∙ ap (with_four c.middle row) mid_is ∙ four_put (p ++ (front ++ m)) r q row c.middle (middle ∙ sym key) r_is.1 ∙ sym (append_assoc (p ++ (front ++ m)) row q) in (
+      ap (λ (x : List ℕ). listed x cs) new_is ∙ replaced p f m r q front row c start middle end f_is.1 r_is.1 as_front as_row 0 (length b) cs i h lt e ∙ ap (λ (x : List ℕ). with_ends front row (listed x cs) i) (sym old_is),
+      ap length new_is ∙ same_length p f m r q front row c start middle end f_is.1 r_is.1 as_front as_row ∙ ap length (sym old_is),
+    )

@@ -86,8 +86,8 @@ fn make_copies(span: &mut Span, to: u32)
     }
 }
 
-// Makes a row its copy in the world `to`: it has the number of that world in place of its own, which the first four bytes of its key
-// are.
+// Makes a row its copy in the world `to`: it has the number of that world in place of its own, which the first four bytes of its
+// key are.
 #[inline(always)]
 fn make_copy(span: &mut Span, index: usize, to: u32)
     requires index { index < length span.old }

@@ -32,7 +32,8 @@ abbrev pub HaveNone : List (Option (ℕ × Mark)) → Type 0
 HaveNone singles = AllByRecursion (λ single. single ≡ None) singles
 
 -- what a walk keeps is of a group of the tables
-pub record IsRoomFor (t : Tables) (rel : ℕ) (vs : List Value) (prefix : List ℕ) (from : Option ℕ) (rows : List (ℕ × Mark)) (singles : List (Option (ℕ × Mark))) : Type 0 where
+pub record IsRoomFor (t : Tables) (rel : ℕ) (vs : List Value) (prefix : List ℕ) (from : Option ℕ) (rows : List (ℕ × Mark))
+    (singles : List (Option (ℕ × Mark))) : Type 0 where
   pub begins : MayBegin prefix rel vs
   pub handed : AreHanded t rel vs from rows
   pub singles_are : AreSingle t rel vs singles

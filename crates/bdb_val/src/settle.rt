@@ -27,7 +27,7 @@ use bdb_tables::{TabError, write_marks};
 /// Settles the rows of a world for the tuples of a relation and a key: each is explicit, or what the world
 /// inherits from the world to which its suffix link leads, where no explicit row contradicts it. One write for each row that is
 /// another afterwards. No tuple is read: where the explicit rows are statements, the numbers of tuples tell which rows of a group
-/// contradict each other. The rows of the world to which this one is linked are read where the room has others.
+/// contradict each other. The rows of the world to which this one is linked are read unless the room has them.
 pub fn settle_state<K: Keeper>(
     keeper: &mut K,
     wid: u32,
@@ -136,7 +136,7 @@ fn write_changes<K: Keeper>(
 }
 
 // Makes the rows that are kept those of a group of the world to which another is linked, and none where there is no such world.
-// They are read where those of another world were kept.
+// They are read where those of another world were kept, and its only row isn't known.
 fn keep_linked<K: Keeper>(
     keeper: &mut K,
     link: Option<u32>,

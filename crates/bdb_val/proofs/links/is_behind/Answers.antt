@@ -1,4 +1,4 @@
-use Rattle.std.proofs.Common.{◌<◌, ◌≤◌, ◌-◌, length, get_or, arith, rules}
+use Rattle.std.proofs.Common.{◌<◌, ◌-◌, get_or, arith, rules}
 use Rattle.bdb_val.specs.Visits.{led_to}
 use Rattle.bdb_val.proofs.FoundLinks.{behind_skipped}
 use Rattle.bdb_val.proofs.links.is_behind.Goals as goal

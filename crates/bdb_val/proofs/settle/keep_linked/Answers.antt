@@ -1,4 +1,4 @@
-use Rattle.std.proofs.Common.{◌≡◌, [], ◌∷◌, ℕ, List, Option, Some, None, MatchOption, get_or, map, sym, subst, rules}
+use Rattle.std.proofs.Common.{◌≡◌, [], ℕ, List, Option, Some, None, MatchOption, get_or, map, sym, subst, rules}
 use Rattle.bdb_tables.specs.GroupMarks.{in_group}
 use Rattle.bdb_tables.specs.InUse.{val_codec}
 use Rattle.bdb_tables.specs.Marks.{Mark}

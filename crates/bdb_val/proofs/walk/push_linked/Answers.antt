@@ -1,4 +1,4 @@
-use Rattle.std.proofs.Common.{◌≡◌, ◌∙◌, ◌++◌, ℕ, List, map, sym, ap}
+use Rattle.std.proofs.Common.{◌∙◌, ◌++◌, List, map, sym, ap}
 use Rattle.std.proofs.lemmas.List.{append-nil}
 use Rattle.bdb_val.specs.Visits.{turned_round}
 use Rattle.bdb_val.proofs.FoundLinks.{Link, found_links, links_in_order}

@@ -1,4 +1,4 @@
-use Rattle.std.proofs.Common.{◌≡◌, ◌∙◌, refl, rules}
+use Rattle.std.proofs.Common.{◌≡◌, ◌∙◌, refl}
 use Rattle.bdb_key.specs.Bytes.{num_bytes}
 use Rattle.bdb_tables.specs.InUse.{linked_codec}
 use Rattle.bdb_tables.proofs.RangeLemmas.{read_fits}
