@@ -1,81 +1,100 @@
--- Rows whose keys begin with some bytes, read in order up to the first that is explicit.
-use Rattle.std.proofs.Common.{◌≡◌, ◌∙◌, ℕ, Bool, true, false, ◌||◌, List, [], ◌∷◌, ◌++◌, Option, Some, None, map, inl, inr, refl, sym, ap, subst}
-use Rattle.std.specs.FinMap.{find}
-use Rattle.std.specs.List.{AllByRecursion, list_any}
-use Rattle.std.specs.Ordering.{is_eq}
-use Rattle.std.proofs.lemmas.Bool.{cases_Bool, cond-true, cond-false, false≢true, or_parts}
-use Rattle.bdb_keep.specs.Tables.{Tables, bytes_cmp}
-use Rattle.bdb_key.specs.Rows.{IsAnyMark, mark_bytes}
-use Rattle.bdb_tables.specs.GroupMarks.{HasExplicitUnder, HasNextNumbered, IsNextNumbered, numbered}
-use Rattle.bdb_tables.specs.InUse.{ValKey, val_bytes, val_codec}
-use Rattle.bdb_tables.specs.InUseLaws.{mark_rows_are_one}
+-- Marked rows of table 11 are explicit ones.
+use Rattle.std.proofs.Common.{◌≡◌, ◌∙◌, ℕ, ◌<◌, ◌≤◌, Bool, true, false, nat_lt, List, [], ◌∷◌, length, Some, inl, inr, refl, ap, sym, subst, arith}
+use Rattle.std.specs.List.{AllByRecursion}
+use Rattle.std.specs.FinMap as tables
+use Rattle.std.proofs.lemmas.Bool.{cases_lt, lt-ltb, le-ltb}
+use Rattle.bdb_base.specs.SameLemmas.{same_text-Decides}
+use Rattle.bdb_base.specs.declared.kinds.Sign.{Sign}
+use Rattle.bdb_base.specs.declared.kinds.Sign.TheVariants.{Plus, Minus}
+use Rattle.bdb_keep.specs.Marked.{IsMarkedAt, IsMarkedCount, four_bytes, is_marked}
+use Rattle.bdb_keep.specs.Tables.{Tables}
+use Rattle.bdb_keep.specs.declared.keeper.KeyEnd.{KeyEnd}
+use Rattle.bdb_keep.specs.declared.keeper.KeyEnd.TheVariants.{First, Last}
+use Rattle.bdb_keep.proofs.MarkedLemmas.{none_marked}
+use Rattle.bdb_key.proofs.Alone.{one_num}
+use Rattle.bdb_key.specs.Bytes.{num_bytes}
+use Rattle.bdb_key.specs.Grammar.{IsNum}
+use Rattle.bdb_key.specs.Rows.{mark_bytes}
+use Rattle.bdb_tables.specs.Codec.{HasRow, IsEntryOf, TableFits}
+use Rattle.bdb_tables.specs.Explicit.{HasExplicitRow, TellsExplicit}
+use Rattle.bdb_tables.specs.InUse.{ValKey, IsValKey, val_bytes, val_codec}
 use Rattle.bdb_tables.specs.Marks.{Mark}
-use Rattle.bdb_tables.specs.Spans.{IsUnder, entry_bytes}
-use Rattle.bdb_tables.proofs.MarkLemmas.{CoversNumbered, numbered_none, numbered_more, numbered_end}
+use Rattle.bdb_tables.proofs.MarkLemmas.{number_at_end}
 
-abbrev pub is_explicit : ℕ × Mark → Bool
-is_explicit x = x.1.1
+-- the number in the first or the last four bytes of a key: its world's, or its tuple's
+abbrev pub number_at : KeyEnd → ValKey → ℕ
+number_at First k = k.0
+number_at Last k = k.3
 
--- the rows read so far, of which none is explicit
-pub record HaveNoneExplicit (t : Tables) (prefix low : List ℕ) : Type 0 where
-  pub rows : List (ℕ × Mark)
-  pub covers : CoversNumbered t prefix low rows
-  pub none : list_any is_explicit rows ≡ false
+number_fits : (end : KeyEnd) (k : ValKey) → IsValKey k → IsNum (number_at end k)
+number_fits First k f = f.world
+number_fits Last k f = f.tuple
 
-any_append : (xs ys : List (ℕ × Mark)) → list_any is_explicit xs ≡ false → list_any is_explicit ys ≡ false → list_any is_explicit (xs ++ ys) ≡ false
-any_append [] ys h k = k
-any_append (x ∷ xs) ys h k =
-    let p = or_parts (is_explicit x) (list_any is_explicit xs) h in
-    ap (λ b. b || list_any is_explicit (xs ++ ys)) p.0 ∙ any_append xs ys p.1 k
+four_are : (end : KeyEnd) (k : ValKey) → four_bytes end (val_bytes k) ≡ num_bytes (number_at end k)
+four_are First k = refl
+four_are Last k = number_at_end k
 
-pub none_yet : (t : Tables) (prefix low : List ℕ) → low ≡ prefix → HaveNoneExplicit t prefix low
-none_yet t prefix low e = record { rows = []; covers = numbered_none t prefix low [] refl e; none = refl }
+-- a row is marked where it is explicit
+marked_is : (g : Sign) (explicit : Bool) → is_marked (mark_bytes (g, explicit)) ≡ explicit
+marked_is Plus true = refl
+marked_is Plus false = refl
+marked_is Minus true = refl
+marked_is Minus false = refl
 
-pub none_more : (t u : Tables) (prefix low behind : List ℕ) (found : Option (ℕ × Mark)) (x : ℕ × Mark) → u ≡ t → found ≡ Some x → is_explicit x ≡ false
-    → HaveNoneExplicit t prefix low → HasNextNumbered u prefix low behind found → HaveNoneExplicit t prefix behind
-none_more t u prefix low behind found x same is not h next = record {
-  rows = h.rows ++ x ∷ [];
-  covers = numbered_more t u prefix low behind h.rows found x same is h.covers next;
-  none = any_append h.rows (x ∷ []) h.none (ap (λ b. b || false) not);
+-- an explicit row with this number has these bytes as its key
+pub record IsExplicitAt (t : Tables) (end : KeyEnd) (word : ℕ) (bytes : List ℕ) : Type 0 where
+  pub key : ValKey
+  pub sign : Sign
+  pub fits : IsValKey key
+  pub number : number_at end key ≡ word
+  pub spelled : val_bytes key ≡ bytes
+  pub row : HasRow val_codec t key (sign, true)
+
+pub marked_is_explicit : (t : Tables) (end : KeyEnd) (word : ℕ) (bytes : List ℕ) → TableFits val_codec t → IsNum word → IsMarkedAt t 11 end word bytes → IsExplicitAt t end word bytes
+marked_is_explicit t end word bytes fit num m =
+    let e : IsEntryOf val_codec bytes m.row = fit bytes m.row m.found in
+    let marked : e.row.1 ≡ true = sym (marked_is e.row.0 e.row.1) ∙ ap is_marked e.row_reads.spelled ∙ m.marked in
+    let four : num_bytes (number_at end e.key) ≡ num_bytes word =
+    sym (four_are end e.key) ∙ ap (four_bytes end) e.key_reads.spelled ∙ (same_text-Decides (four_bytes end bytes) (num_bytes word)).0 m.number in
+    record {
+      key = e.key;
+      sign = e.row.0;
+      fits = e.key_reads.fits;
+      number = one_num (number_at end e.key) word (number_fits end e.key e.key_reads.fits) num four;
+      spelled = e.key_reads.spelled;
+      row = subst (λ (m : Mark). HasRow val_codec t e.key m) (ap (pair e.row.0) marked) (record { in_grammar = e.row_reads.fits; found = ap (λ k. tables.get t (11 ∷ k)) e.key_reads.spelled ∙ m.found ∙ ap Some (sym e.row_reads.spelled) });
+    }
+  where
+    pair : Sign → Bool → Mark
+    pair g b = (g, b)
+
+pub explicit_is_marked : (t : Tables) (end : KeyEnd) (k : ValKey) (g : Sign) → tables.get t (11 ∷ val_bytes k) ≡ Some (mark_bytes (g, true)) → IsMarkedAt t 11 end (number_at end k) (val_bytes k)
+explicit_is_marked t end k g found = record {
+  row = mark_bytes (g, true);
+  found = found;
+  marked = marked_is g true;
+  number = (same_text-Decides (four_bytes end (val_bytes k)) (num_bytes (number_at end k))).1 (four_are end k);
 }
 
--- what a row that is found has
-find_explicit : (prefix : List ℕ) (es : List (ValKey × Mark)) → AllByRecursion (IsUnder val_codec prefix) es → list_any is_explicit (map numbered es) ≡ false → (q r : List ℕ)
-    → find bytes_cmp q (map (entry_bytes val_codec) es) ≡ Some r → (m : Mark) × (r ≡ mark_bytes m) × IsAnyMark m × (m.1 ≡ false)
-find_explicit prefix [] each none q r e = absurd (nothing r e)
+-- where some are counted, a row is marked
+pub some_marked : (t : Tables) (tab : ℕ) (end : KeyEnd) (word n : ℕ) → IsMarkedCount t tab end word n → 0 < n → (bytes : List ℕ) × IsMarkedAt t tab end word bytes
+some_marked t tab end word n c some = first c.keys c.each c.count
   where
-    nothing : (r : List ℕ) → None ≡ Some r → ⊥
-    nothing r e = cc
-find_explicit prefix (e ∷ es) each none q r h =
-    let p = or_parts (is_explicit (numbered e)) (list_any is_explicit (map numbered es)) none in
-    let test = is_eq (bytes_cmp q (val_bytes e.0)) in
-    let rest = find bytes_cmp q (map (entry_bytes val_codec) es) in
-    elim (cases_Bool test) [
-      | inl c ↦ (e.1, some_is r (mark_bytes e.1) (sym h ∙ cond-true test (Some (mark_bytes e.1)) rest c), each.0.row, p.0)
-      | inr c ↦ find_explicit prefix es each.1 p.1 q r (sym (cond-false test (Some (mark_bytes e.1)) rest c) ∙ h)
-    ]
-  where
-    some_is : (a b : List ℕ) → Some a ≡ Some b → a ≡ b
-    some_is a b e = cc
+    first : (keys : List (List ℕ)) → AllByRecursion (IsMarkedAt t tab end word) keys → length keys ≡ n → (bytes : List ℕ) × IsMarkedAt t tab end word bytes
+    first [] each e = absurd (omega (arith, e, some))
+    first (x ∷ xs) each e = (x, each.0)
 
--- where all were read, and none is explicit, there is none
-pub none_at_all : (t u : Tables) (prefix low behind : List ℕ) (found : Option (ℕ × Mark)) → u ≡ t → found ≡ None → HaveNoneExplicit t prefix low → HasNextNumbered u prefix low behind found
-    → HasExplicitUnder t prefix → ⊥
-none_at_all t u prefix low behind found same is h next x =
-    let all = numbered_end t u prefix low behind h.rows found same is h.covers next in
-    let none : list_any is_explicit (map numbered all.entries) ≡ false = ap (list_any is_explicit) (sym all.are) ∙ h.none in
-    let m = find_explicit prefix all.entries all.under.each none (val_bytes x.entry.0) (mark_bytes x.entry.1) (sym (all.under.found (val_bytes x.entry.0) x.under.begins) ∙ x.found) in
-    let one : x.entry.1 ≡ m.0 = mark_rows_are_one x.entry.1 m.0 x.under.row m.2 m.1 in
-    false≢true (sym m.3 ∙ ap (λ (y : Mark). y.1) (sym one) ∙ x.explicit)
+-- and where none is, none is marked
+pub none_there : (t : Tables) (tab : ℕ) (end : KeyEnd) (word n : ℕ) → IsMarkedCount t tab end word n → n ≤ 0 → (bytes : List ℕ) → IsMarkedAt t tab end word bytes → ⊥
+none_there t tab end word n c none = none_marked t tab end word (subst (IsMarkedCount t tab end word) (omega (arith, none)) c)
 
--- an explicit one that comes next
-pub explicit_next : (t u : Tables) (prefix low behind : List ℕ) (found : Option (ℕ × Mark)) (x : ℕ × Mark) → u ≡ t → found ≡ Some x → is_explicit x ≡ true
-    → HasNextNumbered u prefix low behind found → HasExplicitUnder t prefix
-explicit_next t u prefix low behind found x same is explicit next =
-    let n : IsNextNumbered t prefix low behind x = subst (λ v. IsNextNumbered v prefix low behind x) same (subst (HasNextNumbered u prefix low behind) is next) in
-    record {
-      entry = n.entry;
-      under = n.next.under;
-      found = n.next.least.found;
-      explicit = ap (λ (y : ℕ × Mark). y.1.1) (sym n.is) ∙ explicit;
-    }
+-- whether there are marked rows of a world's number tells whether it has an explicit row
+pub count_tells : (t : Tables) (wid n : ℕ) → TableFits val_codec t → IsNum wid → IsMarkedCount t 11 First wid n → TellsExplicit t wid (nat_lt 0 n)
+count_tells t wid n fit num counted = elim (cases_lt 0 n) [
+  | inl some ↦
+      let m = some_marked t 11 First wid n counted some in
+      let x = marked_is_explicit t First wid m.0 fit num m.1 in
+      subst (TellsExplicit t wid) (sym (lt-ltb 0 n some)) (record { key = x.key; sign = x.sign; fits = x.fits; world = x.number; row = x.row })
+  | inr none ↦ subst (TellsExplicit t wid) (sym (le-ltb 0 n none)) (λ (x : HasExplicitRow t wid).
+      none_there t 11 First wid n counted none (val_bytes x.key) (subst (λ w. IsMarkedAt t 11 First w (val_bytes x.key)) x.world (explicit_is_marked t First x.key x.sign x.row.found)))
+]

@@ -3,12 +3,10 @@ use Rattle.std.proofs.Common.{◌≡◌, ℕ, ◌+◌, ◌-◌, ◌≤◌, true,
 use Rattle.std.specs.Prelude.{nat_eq}
 use Rattle.std.specs.List.{AllByRecursion}
 use Rattle.std.proofs.lemmas.Bool.{and_parts, eqb-true, false≢true}
-use Rattle.std.proofs.lemmas.List.{map-append}
 use Rattle.std.proofs.Math.Seq.{drop-append_seam}
 use Rattle.bdb_base.specs.declared.kinds.Value.{Value}
 use Rattle.bdb_base.specs.Segments.{is_prefix}
-use Rattle.bdb_keep.specs.Scans.{next_key}
-use Rattle.bdb_keep.specs.Tables.{Tables, IsLeastFrom}
+use Rattle.bdb_keep.specs.Tables.{Tables}
 use Rattle.bdb_key.proofs.Alone.{one_num}
 use Rattle.bdb_key.proofs.Readings.{num_form}
 use Rattle.bdb_key.specs.Bytes.{num_bytes, vals_bytes}
@@ -17,13 +15,12 @@ use Rattle.bdb_key.specs.Reading.{Reads}
 use Rattle.bdb_key.specs.Rows.{IsAnyMark, mark_bytes}
 use Rattle.bdb_tables.specs.Codec.{IsEntryOf, IsRowOf, HasAt}
 use Rattle.bdb_tables.specs.Grammar.{IsEntry}
-use Rattle.bdb_tables.specs.GroupMarks.{group_bytes, IsGroup, in_group, numbered, AreMarks, AreNumbered, HasMark, HaveMarks, HasNextNumbered, AreChanges, IsNextNumbered, IsNumber, IsNumbered, marks_codec}
+use Rattle.bdb_tables.specs.GroupMarks.{group_bytes, IsGroup, in_group, numbered, AreMarks, AreNumbered, HasMark, HaveMarks, AreChanges, IsNumber, IsNumbered, marks_codec}
 use Rattle.bdb_tables.specs.InUse.{ValKey, IsValKey, val_bytes, val_codec}
 use Rattle.bdb_tables.specs.Marks.{Mark}
-use Rattle.bdb_tables.specs.Spans.{IsUnder, AreUnder, NoneUnder}
+use Rattle.bdb_tables.specs.Spans.{IsUnder, AreUnder}
 use Rattle.bdb_tables.specs.Writes.{IsChange, with_change, with_changes}
 use Rattle.bdb_tables.proofs.PartLemmas.{vals_form}
-use Rattle.bdb_tables.proofs.SpanLemmas.{Covers, covers_none, covers_more, covers_all, next_is_under}
 
 rest_from : (p q : List ℕ) → is_prefix p q ≡ true → (r : List ℕ) × (q ≡ p ++ r)
 rest_from [] q e = (q, refl)
@@ -110,7 +107,7 @@ long_enough k =
 pub has_four : (key row : List ℕ) → IsEntryOf val_codec key row → 4 ≤ length key
 has_four key row e = subst (λ b. 4 ≤ length b) e.key_reads.spelled (long_enough e.key)
 
-number_at_end : (k : ValKey) → drop (length (val_bytes k) - 4) (val_bytes k) ≡ num_bytes k.3
+pub number_at_end : (k : ValKey) → drop (length (val_bytes k) - 4) (val_bytes k) ≡ num_bytes k.3
 number_at_end k =
     let front : List ℕ = num_bytes k.0 ++ num_bytes k.1 ++ vals_bytes k.2 in
     let whole : length (front ++ num_bytes k.3) ≡ length front + 4 = length-append front (num_bytes k.3) in
@@ -131,39 +128,4 @@ is_numbered key row last n m e is number mark = record {
   key_reads = e.key_reads;
   row_reads = mark;
   is = ap (λ (x : ℕ). (x, m)) (one_num n e.key.3 number.fits e.key_reads.fits.tuple (number.spelled ∙ is ∙ last_is key row e));
-}
-
-pub next_is_numbered : (t : Tables) (prefix low behind key row : List ℕ) (x : ℕ × Mark) → IsLeastFrom t 11 low key row → is_prefix prefix key ≡ true → IsNumbered key row x
-    → behind ≡ next_key key → IsNextNumbered t prefix low behind x
-next_is_numbered t prefix low behind key row x least begins h moved = record {
-  entry = h.entry;
-  next = next_is_under val_codec t 11 prefix low behind key row h.entry refl least begins h.key_reads h.row_reads moved;
-  is = h.is;
-}
-
--- rows that are read so far, by the numbers of their tuples
-pub record CoversNumbered (t : Tables) (prefix low : List ℕ) (xs : List (ℕ × Mark)) : Type 0 where
-  pub entries : List (ValKey × Mark)
-  pub covers : Covers val_codec t prefix low entries
-  pub are : xs ≡ map numbered entries
-
-pub numbered_none : (t : Tables) (prefix low : List ℕ) (xs : List (ℕ × Mark)) → xs ≡ [] → low ≡ prefix → CoversNumbered t prefix low xs
-numbered_none t prefix low xs e same = record { entries = []; covers = subst (λ l. Covers val_codec t prefix l []) (sym same) (covers_none val_codec t prefix [] refl); are = e }
-
-pub numbered_more : (t u : Tables) (prefix low behind : List ℕ) (xs : List (ℕ × Mark)) (found : Option (ℕ × Mark)) (x : ℕ × Mark) → u ≡ t → found ≡ Some x
-    → CoversNumbered t prefix low xs → HasNextNumbered u prefix low behind found → CoversNumbered t prefix behind (xs ++ x ∷ [])
-numbered_more t u prefix low behind xs found x same is h next =
-    let n : IsNextNumbered t prefix low behind x = subst (λ v. IsNextNumbered v prefix low behind x) same (subst (HasNextNumbered u prefix low behind) is next) in
-    record {
-      entries = h.entries ++ n.entry ∷ [];
-      covers = covers_more val_codec t prefix low behind h.entries n.entry h.covers n.next;
-      are = ap (λ ys. ys ++ x ∷ []) h.are ∙ ap (λ (y : ℕ × Mark). map numbered h.entries ++ y ∷ []) n.is ∙ sym (map-append numbered h.entries (n.entry ∷ []));
-    }
-
-pub numbered_end : (t u : Tables) (prefix low behind : List ℕ) (xs : List (ℕ × Mark)) (found : Option (ℕ × Mark)) → u ≡ t → found ≡ None
-    → CoversNumbered t prefix low xs → HasNextNumbered u prefix low behind found → AreNumbered t prefix xs
-numbered_end t u prefix low behind xs found same is h next = record {
-  entries = h.entries;
-  under = covers_all val_codec t prefix low h.entries h.covers (subst (λ v. NoneUnder val_codec v prefix low) same (subst (HasNextNumbered u prefix low behind) is next));
-  are = h.are;
 }

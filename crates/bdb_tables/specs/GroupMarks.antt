@@ -1,7 +1,6 @@
 -- The rows of table 11, told by the numbers of their tuples: under a beginning, and of one group, that of a world, a relation and
 -- a key.
-use Rattle.std.specs.Prelude.{◌≡◌, ℕ, Bool, true, List, ◌++◌, Option, Some, MatchBool, MatchOption, map}
-use Rattle.std.specs.FinMap as tables
+use Rattle.std.specs.Prelude.{◌≡◌, ℕ, List, ◌++◌, Option, map}
 use Rattle.std.specs.List.{AllByRecursion, AllZip}
 use Rattle.std.specs.Ordering.{nat_cmp}
 use Rattle.bdb_base.specs.declared.kinds.Value.{Value}
@@ -11,10 +10,10 @@ use Rattle.bdb_key.specs.Bytes.{num_bytes, vals_bytes}
 use Rattle.bdb_key.specs.Grammar.{IsNum, AreKeyVals}
 use Rattle.bdb_key.specs.Reading.{Reads}
 use Rattle.bdb_key.specs.Rows.{IsAnyMark, mark_bytes}
-use Rattle.bdb_tables.specs.Codec.{Codec, HasAt, codec_of, place}
+use Rattle.bdb_tables.specs.Codec.{Codec, HasAt, codec_of}
 use Rattle.bdb_tables.specs.InUse.{ValKey, IsValKey, mark_rows, val_bytes, val_codec}
 use Rattle.bdb_tables.specs.Marks.{Mark}
-use Rattle.bdb_tables.specs.Spans.{AreUnder, IsNextUnder, IsUnder, NoneUnder}
+use Rattle.bdb_tables.specs.Spans.{AreUnder}
 use Rattle.bdb_tables.specs.Writes.{IsChange, with_changes}
 
 -- how the keys of the rows of a world, a relation and the values of a key begin
@@ -76,16 +75,6 @@ pub record IsNumbered (key row : List ℕ) (x : ℕ × Mark) : Type 0 where
 abbrev pub SpellNumbered : Listed → List (ℕ × Mark) → Type 0
 SpellNumbered bytes xs = AllZip (λ b x. IsNumbered b.0 b.1 x) bytes xs
 
--- the first row from `low` on whose key begins so; the bytes `behind` are the least above its key
-pub record IsNextNumbered (t : Tables) (prefix low behind : List ℕ) (x : ℕ × Mark) : Type 0 where
-  pub entry : ValKey × Mark
-  pub next : IsNextUnder val_codec t prefix low behind entry
-  pub is : x ≡ numbered entry
-
--- what comes next under a beginning
-abbrev pub HasNextNumbered : Tables → List ℕ → List ℕ → List ℕ → Option (ℕ × Mark) → Type 0
-HasNextNumbered t prefix low behind found = MatchOption found (NoneUnder val_codec t prefix low) (IsNextNumbered t prefix low behind)
-
 -- these bytes are a number
 abbrev pub IsNumber : List ℕ → Type 0
 IsNumber bytes = (n : ℕ) × Reads IsNum num_bytes bytes n
@@ -93,14 +82,3 @@ IsNumber bytes = (n : ℕ) × Reads IsNum num_bytes bytes n
 -- table 11 with keys that begin so, by the numbers that follow
 abbrev pub marks_codec : List ℕ → Codec ℕ Mark
 marks_codec prefix = codec_of 11 (record { MayBe = λ _. Unit {0}; Is = IsNum; bytes = λ tid. prefix ++ num_bytes tid; cmp = nat_cmp }) mark_rows
-
--- an explicit row whose key begins so
-pub record HasExplicitUnder (t : Tables) (prefix : List ℕ) : Type 0 where
-  pub entry : ValKey × Mark
-  pub under : IsUnder val_codec prefix entry
-  pub found : tables.get t (place val_codec entry.0) ≡ Some (mark_bytes entry.1)
-  pub explicit : entry.1.1 ≡ true
-
--- whether a row is explicit whose key begins so
-abbrev pub TellsExplicitUnder : Tables → List ℕ → Bool → Type 0
-TellsExplicitUnder t prefix found = MatchBool found (HasExplicitUnder t prefix) (HasExplicitUnder t prefix → ⊥)

@@ -1,6 +1,7 @@
 pub mod Codec
 pub mod Copies
 pub mod Differences
+pub mod Explicit
 pub mod Gaps
 pub mod Grammar
 pub mod GroupMarks

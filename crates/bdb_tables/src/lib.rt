@@ -21,7 +21,7 @@ mod world_tabs;
 pub use access::{after, drop_in, drop_row, get, get_in, next, next_in, put, put_in};
 pub use changes::write_rows;
 pub use copies::{clear_rows, copy_rows};
-pub use explicit::has_explicit_under;
+pub use explicit::has_explicit;
 pub use gaps::first_gap;
 pub use keys::{put_key_vals, put_pair, put_val_key};
 pub use laws::{differences_add, differences_are_counted, differences_are_listed};

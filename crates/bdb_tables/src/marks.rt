@@ -1,17 +1,15 @@
 // The rows of table 11 by the numbers of their tuples: no value is decoded, and none is written anew.
 ghost use Rattle.std.specs.Prelude.{◌≡◌, ◌+◌, ◌-◌, ◌≤◌, ◌++◌, true, IfOk, OnOk, length, drop};
 ghost use Rattle.std.specs.List.{AllByRecursion};
-ghost use Rattle.std.specs.Ordering.{is_le};
 ghost use Rattle.bdb_base.specs.Causes.{Rises, RoseBy};
 ghost use Rattle.bdb_keep.specs.Calls.{IsRead, IsWrite};
-ghost use Rattle.bdb_keep.specs.Tables.{bytes_cmp};
 ghost use Rattle.bdb_key.specs.Bytes.{num_bytes};
 ghost use Rattle.bdb_key.specs.Grammar.{IsNum};
 ghost use Rattle.bdb_key.specs.Reading.{Reads};
 ghost use Rattle.bdb_key.specs.Rows.{IsAnyMark, mark_bytes};
 ghost use Rattle.bdb_tables.specs.Codec.{HasAt, IsEntryOf, IsRowOf, TableFits};
 ghost use Rattle.bdb_tables.specs.Grammar.{InGrammar};
-ghost use Rattle.bdb_tables.specs.GroupMarks.{AreChanges, AreMarks, AreNumbered, HasMark, SpellNumbered, HasNextNumbered, HaveMarks, IsGroup, IsNumber, IsNumbered, marks_codec};
+ghost use Rattle.bdb_tables.specs.GroupMarks.{AreChanges, AreMarks, AreNumbered, HasMark, SpellNumbered, HaveMarks, IsGroup, IsNumber, IsNumbered, marks_codec};
 ghost use Rattle.bdb_tables.specs.InUse.{val_codec};
 ghost use Rattle.bdb_tables.specs.Spans.{AreEntriesOf};
 ghost use Rattle.bdb_tables.specs.Writes.{IsChange, with_change, with_changes};
@@ -23,7 +21,6 @@ use bdb_base::Sign;
 use bdb_keep::{Keeper, Span};
 use bdb_key::{mark_of, only_num, put_mark, put_num};
 use std::alloc::{AllocError, Global};
-use std::mem;
 
 // The number of the table of worlds' rows.
 pub const MARKS: u8 = 11;
@@ -157,39 +154,6 @@ fn fill_numbered(span: &Span, rows: &mut Vec<(u32, (Sign, bool))>) -> Result<(),
         rows.push(numbered_from(key, row))?;
     }
     Ok(())
-}
-
-// The first row from `low` on whose key begins with these bytes. Where there is one, `low` becomes what lies right behind
-// its key. `key` and `row` are room for bytes.
-pub(crate) fn next_numbered<K: Keeper>(
-    keeper: &mut K,
-    prefix: &[u8],
-    low: &mut Vec<u8>,
-    key: &mut Vec<u8>,
-    row: &mut Vec<u8>,
-) -> Result<Option<(u32, (Sign, bool))>, TabError>
-    requires grammar { TableFits val_codec (K.seen keeper.old).kept }
-    requires from { is_le (bytes_cmp prefix.now low.old.items) ≡ true }
-    ensures found { IfOk result
-        (HasNextNumbered (K.seen keeper.old).kept prefix.now low.old.items low.new.items) }
-    ensures reads { OnOk result (RoseBy 1 (K.seen keeper.old).reads (K.seen keeper.new).reads) }
-    ensures read { IsRead (K.seen keeper.old) (K.seen keeper.new) result TabError.Fault }
-{
-    match keeper.next(MARKS, low, key, row) {
-        Ok(true) => {}
-        Ok(false) => return Ok(None),
-        Err(error) => return Err(told(error)),
-    }
-    if !key.starts_with(prefix) {
-        return Ok(None);
-    }
-    let entry = numbered_from(key, row);
-    if key.push(0).is_err() {
-        keeper.undo();
-        return Err(TabError::Memory);
-    }
-    mem::swap(low, key);
-    Ok(Some(entry))
 }
 
 // The row of a tuple's number in a group, as a table of its own. `key` and `row` are room for bytes.

@@ -7,7 +7,7 @@ ghost use Rattle.bdb_keep.specs.Tables.{bytes_cmp};
 ghost use Rattle.bdb_tables.specs.Codec.{TableFits};
 ghost use Rattle.bdb_tables.specs.Spans.{AreEntriesOf, AreUnder, HasNextUnder, Spell};
 
-use crate::access::{USUAL_LENGTH, entry_from, told};
+use crate::access::{entry_from, told};
 use crate::tab::{Tab, TabError};
 use bdb_keep::{Keeper, Span};
 use std::alloc::{AllocError, Global};
@@ -54,17 +54,6 @@ fn entries_from<T: Tab>(alloc: Global, span: &Span) -> Result<Vec<(T::Key, T::Ro
         rows.push(entry)?;
     }
     Ok(rows)
-}
-
-// Makes `low` these bytes, with room in it and in `key` for keys that begin so.
-pub fn begin_at(prefix: &[u8], low: &mut Vec<u8>, key: &mut Vec<u8>) -> Result<(), AllocError>
-    ensures { OnOk result (low.new.items ≡ prefix.now) }
-{
-    low.clear();
-    low.reserve(USUAL_LENGTH)?;
-    key.reserve(USUAL_LENGTH)?;
-    low.extend_from_slice(prefix)?;
-    Ok(())
 }
 
 /// The first row from `low` on whose key begins with these bytes. Where there is one, `low` becomes what lies right behind

@@ -1,5 +1,4 @@
 pub mod CostLemmas
-pub mod ExplicitLemmas
 pub mod FreeLemmas
 pub mod GoneLemmas
 pub mod GrowLemmas

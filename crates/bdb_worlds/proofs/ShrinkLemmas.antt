@@ -12,6 +12,7 @@ use Rattle.bdb_keep.specs.Tables.{Tables}
 use Rattle.bdb_key.specs.Bytes.{num_bytes}
 use Rattle.bdb_key.specs.Grammar.{IsNum}
 use Rattle.bdb_tables.specs.Codec.{place}
+use Rattle.bdb_tables.specs.Explicit.{HasExplicitRow}
 use Rattle.bdb_tables.specs.InUse.{link_codec, val_bytes}
 use Rattle.bdb_tables.specs.Names.{Names, AreNames, path_of, number_of, is_named, without_name}
 use Rattle.bdb_tables.specs.States.{HoldsStates}
@@ -21,7 +22,7 @@ use Rattle.bdb_worlds.specs.Dropping.{IsDropped}
 use Rattle.bdb_worlds.specs.Holding.{Worlds, HoldSome}
 use Rattle.bdb_worlds.specs.Reach.{LeadsDeep, HasDeepTarget}
 use Rattle.bdb_worlds.specs.Shrinking.{IsNoState, AreNumbersAlong, AreAlong, without_prefixes, IsDead, AreDead, as_root, as_needed, HasShrunk, DropsStates, LeavesOthers}
-use Rattle.bdb_worlds.specs.Staying.{HasExplicitRow, IsNeeded, by_row, by_longer, TellsNeeded}
+use Rattle.bdb_worlds.specs.Staying.{IsNeeded, by_row, by_longer, TellsNeeded}
 use Rattle.bdb_worlds.proofs.GoneLemmas.{state_is_gone}
 use Rattle.bdb_worlds.proofs.GrowLemmas.{length-take-is, take_split}
 use Rattle.bdb_worlds.proofs.OutsideLemmas.{SameElsewhere}

@@ -10,6 +10,7 @@ use Rattle.bdb_keep.specs.Tables.{Tables}
 use Rattle.bdb_key.specs.Bytes.{num_bytes}
 use Rattle.bdb_key.specs.Grammar.{IsNum}
 use Rattle.bdb_tables.specs.Codec.{HasAt, HasRow, place}
+use Rattle.bdb_tables.specs.Explicit.{TellsExplicit}
 use Rattle.bdb_tables.specs.InUse.{depth_codec, edge_codec}
 use Rattle.bdb_tables.specs.InUseLaws.{number_rows_are_one}
 use Rattle.bdb_tables.specs.Names.{path_of, number_of, is_named, depth_of, edge_of}
@@ -20,7 +21,7 @@ use Rattle.bdb_names.proofs.NamedLemmas.{user_of_end}
 use Rattle.bdb_worlds.specs.Holding.{Worlds}
 use Rattle.bdb_worlds.specs.Owns.{IsNextEdge, HasNextEdge}
 use Rattle.bdb_worlds.specs.Reach.{LeadsDeep, HasDeepTarget}
-use Rattle.bdb_worlds.specs.Staying.{TellsExplicit, TellsDepth, HasLonger, TellsLonger, IsNeeded, by_row, by_longer, TellsNeeded}
+use Rattle.bdb_worlds.specs.Staying.{TellsDepth, HasLonger, TellsLonger, IsNeeded, by_row, by_longer, TellsNeeded}
 use Rattle.bdb_worlds.proofs.ReadLemmas.{edge_read, depth_read}
 
 -- ---- depths

@@ -68,7 +68,7 @@ module _ {Key Row : Type 0} (c : Codec Key Row) (order : KeepsOrder c) where
 
 -- ---- keys that begin with a number
 
-pub prefix_append : (p q : List ℕ) → is_prefix p (p ++ q) ≡ true
+prefix_append : (p q : List ℕ) → is_prefix p (p ++ q) ≡ true
 prefix_append [] q = refl
 prefix_append (i ∷ p) q = and_from (nat_eq i i) (is_prefix p (p ++ q)) (eq-eqb i i refl) (prefix_append p q)
 
@@ -80,7 +80,7 @@ prefix_rest (i ∷ p) (j ∷ q) e =
     let r = prefix_rest p q k.1 in
     (r.0, ap (λ n. n ∷ q) (sym (eqb-true i j k.0)) ∙ ap (λ (x : List ℕ). i ∷ x) r.1)
 
-pub number_begins : (n a : ℕ) (rest : List ℕ) → IsNum n → IsNum a → is_prefix (num_bytes n) (num_bytes a ++ rest) ≡ true → a ≡ n
+number_begins : (n a : ℕ) (rest : List ℕ) → IsNum n → IsNum a → is_prefix (num_bytes n) (num_bytes a ++ rest) ≡ true → a ≡ n
 number_begins n a rest fn fa e = let r = prefix_rest (num_bytes n) (num_bytes a ++ rest) e in (num_form a n rest r.0 fa fn r.1).0
 
 -- an earlier key is another

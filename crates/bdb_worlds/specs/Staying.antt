@@ -1,25 +1,13 @@
 -- Which states stay.
 use Rattle.std.specs.Prelude.{◌≡◌, ℕ, ◌+◌, Bool, true, List, [], ◌∷◌, ◌++◌, length, Some}
 use Rattle.std.specs.Bool.{MatchBool}
-use Rattle.bdb_base.specs.declared.kinds.Sign.{Sign}
 use Rattle.bdb_keep.specs.Tables.{Tables}
 use Rattle.bdb_tables.specs.Codec.{HasRow}
-use Rattle.bdb_tables.specs.InUse.{ValKey, IsValKey, depth_codec, val_codec}
+use Rattle.bdb_tables.specs.Explicit.{HasExplicitRow}
+use Rattle.bdb_tables.specs.InUse.{depth_codec}
 use Rattle.bdb_tables.specs.Names.{Names, number_of, is_named}
 use Rattle.bdb_tables.specs.States.{HoldsStates}
 use Rattle.bdb_worlds.specs.Holding.{Worlds}
-
--- a world has an explicit row
-pub record HasExplicitRow (t : Tables) (n : ℕ) : Type 0 where
-  pub key : ValKey
-  pub sign : Sign
-  pub fits : IsValKey key
-  pub world : key.0 ≡ n
-  pub row : HasRow val_codec t key (sign, true)
-
--- whether a world has an explicit row
-abbrev pub TellsExplicit : Tables → ℕ → Bool → Type 0
-TellsExplicit t n found = MatchBool found (HasExplicitRow t n) (HasExplicitRow t n → ⊥)
 
 -- whether a world has this depth
 abbrev pub TellsDepth : Tables → ℕ → ℕ → Bool → Type 0

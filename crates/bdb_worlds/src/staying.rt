@@ -2,12 +2,11 @@
 ghost use Rattle.std.specs.Prelude.{◌≡◌, IfOk, OnOk};
 ghost use Rattle.bdb_keep.specs.Seen.{NeverFall, Steps};
 ghost use Rattle.bdb_tables.specs.Grammar.{InGrammar};
-ghost use Rattle.bdb_worlds.specs.Staying.{TellsExplicit, TellsDepth, TellsLonger, TellsNeeded};
+ghost use Rattle.bdb_worlds.specs.Staying.{TellsDepth, TellsLonger, TellsNeeded};
 
 use crate::owning::next_edge;
 use bdb_keep::Keeper;
-use bdb_key::put_num;
-use bdb_tables::{DepthTab, Room, TabError, get_in, has_explicit_under};
+use bdb_tables::{DepthTab, Room, TabError, get_in, has_explicit};
 use std::alloc::Global;
 
 /// Whether the path of a world has to stay a state: it has an explicit row, or a state is one user longer, and so as deep
@@ -25,33 +24,12 @@ pub fn is_needed<K: Keeper>(
     ensures counts { NeverFall (K.seen keeper.old) (K.seen keeper.new) }
     ensures steps { Steps (K.seen keeper.old) (K.seen keeper.new) result TabError.Fault }
 {
-    match has_explicit(alloc, keeper, wid) {
+    match has_explicit(keeper, wid) {
         Ok(true) => return Ok(true),
         Ok(false) => {}
         Err(error) => return Err(error),
     }
     match has_longer(alloc, keeper, wid, deeper) {
-        Ok(found) => Ok(found),
-        Err(error) => Err(error),
-    }
-}
-
-/// Whether a world has an explicit row. Its rows are read in order, up to the first that is one.
-fn has_explicit<K: Keeper>(alloc: Global, keeper: &mut K, wid: u32) -> Result<bool, TabError>
-    requires grammar { InGrammar (K.seen keeper.old).kept }
-    ensures explicit { IfOk result (TellsExplicit (K.seen keeper.old).kept wid) }
-    ensures kept { OnOk result ((K.seen keeper.new).kept ≡ (K.seen keeper.old).kept) }
-    ensures writes { (K.seen keeper.new).writes ≡ (K.seen keeper.old).writes }
-    ensures counts { NeverFall (K.seen keeper.old) (K.seen keeper.new) }
-    ensures steps { Steps (K.seen keeper.old) (K.seen keeper.new) result TabError.Fault }
-{
-    let mut prefix = Vec::new(alloc);
-    if put_num(&mut prefix, wid).is_err() {
-        keeper.undo();
-        return Err(TabError::Memory);
-    }
-    let mut room = Room::new(alloc);
-    match has_explicit_under(keeper, &prefix, &mut room) {
         Ok(found) => Ok(found),
         Err(error) => Err(error),
     }
