@@ -1,163 +1,118 @@
--- Whether a tuple is told at another path than a world's, by the rows of the other worlds.
-use Rattle.std.proofs.Common.{◌≡◌, ◌∙◌, ℕ, Bool, true, false, not, ◌&&◌, ◌||◌, nat_eq, cond, List, [], ◌∷◌, ◌++◌, append_assoc, filter, refl, ap, sym, subst, inl, inr, Option, Some, None, is_some}
-use Rattle.std.proofs.lemmas.Bool.{cases_Bool, and_parts, and_from, or_cases, or_left, or_right, cond-true, cond-false, false≢true, false_from_ne_true, not_from_false, not-true, eqb-true, eq-eqb}
+-- Whether a tuple is told at another path than one at which it is stated, by how many of its rows are explicit.
+use Rattle.std.proofs.Common.{◌≡◌, ◌∙◌, ℕ, zero, suc, ◌+◌, ◌-◌, ◌<◌, ◌≤◌, Bool, true, false, not, ◌&&◌, ◌||◌, nat_lt, List, [], ◌∷◌, ◌++◌, append_assoc, drop, filter, refl, ap, sym, subst, inl, inr, Option, Some, None, is_some, arith}
+use Rattle.std.specs.List.{list_all}
+use Rattle.std.proofs.lemmas.Bool.{cases_lt, and_parts, and_from, or_cases, or_left, or_right, cond-true, cond-false, false≢true, false_from_ne_true, not_from_false, not-true, lt-ltb, le-ltb}
 use Rattle.bdb_base.specs.Bases.{Contents, has_tuple}
+use Rattle.bdb_base.specs.Clash.{key_of}
 use Rattle.bdb_base.specs.Same.{same_path, same_tuple, same_sign}
 use Rattle.bdb_base.specs.SameLemmas.{same_path-Decides, same_sign-Decides}
 use Rattle.bdb_base.specs.Worlds.{explicit, IsConsistent}
 use Rattle.bdb_base.specs.declared.kinds.Sign.{Sign}
-use Rattle.bdb_base.specs.declared.kinds.Sign.TheVariants.{Plus, Minus}
 use Rattle.bdb_base.specs.declared.kinds.Stmt.{Stmt}
-use Rattle.bdb_base.specs.declared.kinds.Value.{Value}
 use Rattle.bdb_base.specs.declared.tuple.Tuple.{Tuple}
 use Rattle.bdb_base.proofs.ClashLemmas.{same_tuple_turned}
+use Rattle.bdb_base.proofs.WorldLemmas.{explicit_tuple}
+use Rattle.bdb_keep.specs.Marked.{IsMarkedCount}
 use Rattle.bdb_keep.specs.Tables.{Tables}
+use Rattle.bdb_keep.specs.declared.keeper.KeyEnd.TheVariants.{Last}
+use Rattle.bdb_keep.proofs.MarkedLemmas.{another_marked, only_marked}
 use Rattle.bdb_key.specs.Bytes.{num_bytes, vals_bytes}
-use Rattle.bdb_key.specs.Grammar.{IsNum}
 use Rattle.bdb_key.specs.Rows.{IsTupleRow}
+use Rattle.bdb_key.proofs.Readings.{num_form}
 use Rattle.bdb_paths.proofs.StateLemmas.{list_any_same}
 use Rattle.bdb_tables.specs.Codec.{HasAt}
-use Rattle.bdb_tables.specs.InUse.{ValKey, tuple_ix_codec}
-use Rattle.bdb_tables.specs.Marks.{Mark, explicit_of, explicit_sign}
-use Rattle.bdb_tables.specs.Names.{Names, path_of, number_of}
-use Rattle.bdb_tables.specs.Rows.{row_for, row_named, AreKeyLengths}
-use Rattle.bdb_val.specs.Middle.{worlds_of, HasExplicit}
-use Rattle.bdb_val.specs.Settling.{row_key}
-use Rattle.bdb_val.proofs.HeldLemmas.{some_is, held_rows_are_explicit}
-use Rattle.bdb_update.proofs.KeyLemmas.{key_by_length, lengths_fit}
-use Rattle.bdb_update.specs.Differing.{has_told}
-use Rattle.bdb_update.specs.Elsewhere.{IsLost, AreLost, IsFresh, AreFresh, kept_if}
-use Rattle.bdb_tables.specs.Lengths.{IsKeyLength}
-use Rattle.bdb_update.specs.Keys.{key_rest, keys_of}
-use Rattle.bdb_update.specs.Reads.{AnyTells, TellsAt}
-use Rattle.bdb_update.specs.Reached.{told_elsewhere, lost_of, fresh_of}
+use Rattle.bdb_tables.specs.InUse.{tuple_ix_codec, val_bytes}
+use Rattle.bdb_tables.specs.Names.{path_of, number_of}
 use Rattle.bdb_tables.specs.Stored.{Stores}
-use Rattle.bdb_update.proofs.OneStored.{explicit_state}
-use Rattle.bdb_update.proofs.ReadingLemmas.{explicit_row, row_explicit}
+use Rattle.bdb_tables.proofs.ExplicitLemmas.{none_there}
+use Rattle.bdb_val.specs.Settling.{row_key}
+use Rattle.bdb_update.specs.Differing.{AreWithin, has_told}
+use Rattle.bdb_update.specs.Elsewhere.{IsLost, AreLost, IsFresh, AreFresh, are_at, kept_if}
+use Rattle.bdb_update.specs.Keys.{keys_of}
+use Rattle.bdb_update.specs.Reached.{told_elsewhere, lost_of, fresh_of}
+use Rattle.bdb_update.proofs.ReadingLemmas.{HasMarkedRow, marked_told, told_marked}
 use Rattle.bdb_update.proofs.TupleLemmas.{number_read}
 
--- ---- all worlds' rows
+-- ---- another path's statements
 
-module _ (t : Tables) (u : Tuple) (tid : ℕ) (num : IsNum tid) (fits : IsTupleRow u) (b : Contents) (s : Stores t b) (w : List ℕ) (wid : ℕ)
-    (consistent : IsConsistent (keys_of b) b.stmts) (number : number_of s.names w ≡ Some wid) (tuple : s.tuples.tuple tid ≡ Some u) where
-  abbrev ns : Names
-  ns = s.names
+-- a tuple that is stated at another path is told elsewhere
+stated_elsewhere : (w v : List ℕ) (u : Tuple) (g : Sign) (stmts : List Stmt) → same_path v w ≡ false → explicit stmts v u g ≡ true → told_elsewhere stmts w u ≡ true
+stated_elsewhere w v u g [] n e = absurd (false≢true e)
+stated_elsewhere w v u g (x ∷ xs) n e = elim (or_cases (same_path x.path v && (same_tuple x.tuple u && same_sign x.sign g)) (explicit xs v u g) e) [
+  | inl h ↦
+      let k = and_parts (same_path x.path v) (same_tuple x.tuple u && same_sign x.sign g) h in
+      let m = and_parts (same_tuple x.tuple u) (same_sign x.sign g) k.1 in
+      or_left (not (same_path x.path w) && same_tuple u x.tuple) (told_elsewhere xs w u)
+      (and_from (not (same_path x.path w)) (same_tuple u x.tuple) (not_from_false (same_path x.path w) (ap (λ z. same_path z w) ((same_path-Decides x.path v).0 k.0) ∙ n)) (same_tuple_turned u x.tuple ∙ m.0))
+  | inr h ↦ or_right (not (same_path x.path w) && same_tuple u x.tuple) (told_elsewhere xs w u) (stated_elsewhere w v u g xs n h)
+]
 
-  abbrev held : ValKey → Option Mark
-  held = row_for (keys_of b) b.stmts (path_of ns) s.tuples.tuple
-
-  lengths : AreKeyLengths (keys_of b)
-  lengths = lengths_fit t b.catalog.rels s.stored.rels
-
-  has : HasExplicit (keys_of b) b.stmts (worlds_of ns) s.tuples.tuple held t
-  has = held_rows_are_explicit (keys_of b) b.stmts ns s.tuples t lengths s.stored.states.names (λ v e. s.stored.worlds v ∙ e) consistent s.stored.tuples s.stored.rows
-
-  one_path : {x y : List ℕ} (o : Option (List ℕ)) → o ≡ Some x → o ≡ Some y → x ≡ y
-  one_path o p q = cc
-
-  one_number : {x y : ℕ} (o : Option ℕ) → o ≡ Some x → o ≡ Some y → x ≡ y
-  one_number o p q = cc
-
-  -- a tuple that is stated at another path is told elsewhere
-  stated_elsewhere : (v : List ℕ) (g : Sign) (stmts : List Stmt) → same_path v w ≡ false → explicit stmts v u g ≡ true → told_elsewhere stmts w u ≡ true
-  stated_elsewhere v g [] n e = absurd (false≢true e)
-  stated_elsewhere v g (x ∷ xs) n e = elim (or_cases (same_path x.path v && (same_tuple x.tuple u && same_sign x.sign g)) (explicit xs v u g) e) [
-    | inl h ↦
-        let k = and_parts (same_path x.path v) (same_tuple x.tuple u && same_sign x.sign g) h in
-        let m = and_parts (same_tuple x.tuple u) (same_sign x.sign g) k.1 in
-        or_left (not (same_path x.path w) && same_tuple u x.tuple) (told_elsewhere xs w u)
-        (and_from (not (same_path x.path w)) (same_tuple u x.tuple) (not_from_false (same_path x.path w) (ap (λ z. same_path z w) ((same_path-Decides x.path v).0 k.0) ∙ n)) (same_tuple_turned u x.tuple ∙ m.0))
-    | inr h ↦ or_right (not (same_path x.path w) && same_tuple u x.tuple) (told_elsewhere xs w u) (stated_elsewhere v g xs n h)
-  ]
-
-  -- and is stated at one
-  stated_at : (stmts : List Stmt) → told_elsewhere stmts w u ≡ true → (v : List ℕ) × (g : Sign) × (same_path v w ≡ false) × (explicit stmts v u g ≡ true)
-  stated_at [] e = absurd (false≢true e)
-  stated_at (x ∷ xs) e = elim (or_cases (not (same_path x.path w) && same_tuple u x.tuple) (told_elsewhere xs w u) e) [
-    | inl h ↦
-        let k = and_parts (not (same_path x.path w)) (same_tuple u x.tuple) h in (
-          x.path,
-          x.sign,
-          not-true (same_path x.path w) k.0,
-          or_left (same_path x.path x.path && (same_tuple x.tuple u && same_sign x.sign x.sign)) (explicit xs x.path u x.sign)
-              (and_from (same_path x.path x.path) (same_tuple x.tuple u && same_sign x.sign x.sign) ((same_path-Decides x.path x.path).1 refl)
-              (and_from (same_tuple x.tuple u) (same_sign x.sign x.sign) (same_tuple_turned x.tuple u ∙ k.1) ((same_sign-Decides x.sign x.sign).1 refl))),
-        )
-    | inr h ↦ let r = stated_at xs h in (r.0, r.1, r.2, or_right (same_path x.path r.0 && (same_tuple x.tuple u && same_sign x.sign r.1)) (explicit xs r.0 u r.1) r.3)
-  ]
-
-  sign_stated : (v : List ℕ) → is_some (explicit_sign b.stmts v u) ≡ true → (g : Sign) × (explicit b.stmts v u g ≡ true)
-  sign_stated v e = by (explicit b.stmts v u Plus) (explicit b.stmts v u Minus) refl refl (sym e)
-    where
-      by : (p m : Bool) → explicit b.stmts v u Plus ≡ p → explicit b.stmts v u Minus ≡ m → true ≡ is_some (cond (explicit b.stmts v u Plus) (Some Plus) (cond (explicit b.stmts v u Minus) (Some Minus) None)) → (g : Sign) × (explicit b.stmts v u g ≡ true)
-      by true m a c e = (Plus, a)
-      by false true a c e = (Minus, c)
-      by false false a c e = absurd (false≢true (sym (e ∙ ap is_some (cond-false (explicit b.stmts v u Plus) (Some Plus) (cond (explicit b.stmts v u Minus) (Some Minus) None) a ∙ cond-false (explicit b.stmts v u Minus) (Some Minus) None c))))
-
-  stated_sign : (v : List ℕ) (g : Sign) → explicit b.stmts v u g ≡ true → is_some (explicit_sign b.stmts v u) ≡ true
-  stated_sign v Plus e = ap is_some (cond-true (explicit b.stmts v u Plus) (Some Plus) (cond (explicit b.stmts v u Minus) (Some Minus) None) e)
-  stated_sign v Minus e = elim (cases_Bool (explicit b.stmts v u Plus)) [
-    | inl a ↦ ap is_some (cond-true (explicit b.stmts v u Plus) (Some Plus) (cond (explicit b.stmts v u Minus) (Some Minus) None) a)
-    | inr a ↦ ap is_some (cond-false (explicit b.stmts v u Plus) (Some Plus) (cond (explicit b.stmts v u Minus) (Some Minus) None) a ∙ cond-true (explicit b.stmts v u Minus) (Some Minus) None e)
-  ]
-
-  abbrev rest : List ℕ
-  rest = key_rest (keys_of b) u tid
-
-  -- a world that tells a tuple has a path, at which it is stated
-  told_path : (k : ℕ) → TellsAt t rest (Some wid) k → told_elsewhere b.stmts w u ≡ true
-  told_path k x = by (path_of ns k) refl
-    where
-      row : held (row_key (keys_of b) k tid u) ≡ Some (x.explicit.sign, true)
-      row = explicit_row (keys_of b) lengths t b.stmts ns s.tuples s.stored.rows u tid k num fits x.explicit
-
-      by : (o : Option (List ℕ)) → path_of ns k ≡ o → told_elsewhere b.stmts w u ≡ true
-      by None p = absurd (false≢true (ap (λ o. is_some (row_named (keys_of b) b.stmts (row_key (keys_of b) k tid u) o (s.tuples.tuple tid))) (sym p) ∙ ap is_some row))
-      by (Some v) p =
-          let g = sign_stated v (ap is_some (sym (has.explicit k v tid u p tuple) ∙ ap explicit_of row)) in
-          stated_elsewhere v g.0 b.stmts (false_from_ne_true (same_path v w) (λ h.
-          let same : v ≡ w = (same_path-Decides v w).0 h in
-          let k2 : k ≡ wid = one_number (number_of ns w) (ap (number_of ns) (sym same) ∙ s.stored.states.names.named k v p) number in
-          false≢true (sym (not-true (nat_eq k wid) x.beside) ∙ eq-eqb k wid k2))) g.1
-
-  -- a tuple that is told elsewhere is told by a world
-  path_told : told_elsewhere b.stmts w u ≡ true → (k : ℕ) × TellsAt t rest (Some wid) k
-  path_told e =
-      let r = stated_at b.stmts e in
-      let v = r.0 in
-      let k = some_is (number_of ns v) (s.stored.worlds v ∙ explicit_state b.stmts v u r.1 r.3) in
-      let p : path_of ns k.0 ≡ Some v = s.stored.states.names.numbered v k.0 k.1 in
-      let size : IsNum k.0 = s.stored.states.names.sized v k.0 k.1 in
-      let apart : nat_eq k.0 wid ≡ false = false_from_ne_true (nat_eq k.0 wid) (λ h.
-      let same : v ≡ w = one_path (path_of ns k.0) p (ap (path_of ns) (eqb-true k.0 wid h) ∙ s.stored.states.names.numbered w wid number) in
-      false≢true (sym r.2 ∙ (same_path-Decides v w).1 same)) in
-      let some = some_is (explicit_of (held (row_key (keys_of b) k.0 tid u))) (ap is_some (has.explicit k.0 v tid u p tuple) ∙ stated_sign v r.1 r.3) in (
-        k.0,
-        record {
-          explicit = row_explicit (keys_of b) lengths t b.stmts ns s.tuples s.stored.rows u tid k.0 num fits some.0 size (explicit_mark (held (row_key (keys_of b) k.0 tid u)) some.0 some.1);
-          beside = not_from_false (nat_eq k.0 wid) apart;
-        },
+-- and is stated at one
+stated_at : (w : List ℕ) (u : Tuple) (stmts : List Stmt) → told_elsewhere stmts w u ≡ true → (v : List ℕ) × (g : Sign) × (same_path v w ≡ false) × (explicit stmts v u g ≡ true)
+stated_at w u [] e = absurd (false≢true e)
+stated_at w u (x ∷ xs) e = elim (or_cases (not (same_path x.path w) && same_tuple u x.tuple) (told_elsewhere xs w u) e) [
+  | inl h ↦
+      let k = and_parts (not (same_path x.path w)) (same_tuple u x.tuple) h in (
+        x.path,
+        x.sign,
+        not-true (same_path x.path w) k.0,
+        or_left (same_path x.path x.path && (same_tuple x.tuple u && same_sign x.sign x.sign)) (explicit xs x.path u x.sign)
+            (and_from (same_path x.path x.path) (same_tuple x.tuple u && same_sign x.sign x.sign) ((same_path-Decides x.path x.path).1 refl)
+            (and_from (same_tuple x.tuple u) (same_sign x.sign x.sign) (same_tuple_turned x.tuple u ∙ k.1) ((same_sign-Decides x.sign x.sign).1 refl))),
       )
-    where
-      explicit_mark : (o : Option Mark) (g : Sign) → explicit_of o ≡ Some g → o ≡ Some (g, true)
-      explicit_mark None g e = absurd cc
-      explicit_mark (Some m) g e = elim (cases_Bool m.1) [
-        | inl a ↦ ap (λ (z : Bool). Some (pair m.0 z)) a ∙ ap (λ (z : Sign). Some (pair z true)) (one_sign m.0 g (sym (cond-true m.1 (Some m.0) None a) ∙ e))
-        | inr a ↦ absurd (none_is_some g (sym (cond-false m.1 (Some m.0) None a) ∙ e))
-      ]
-        where
-          pair : Sign → Bool → Mark
-          pair s b = (s, b)
+  | inr h ↦ let r = stated_at w u xs h in (r.0, r.1, r.2, or_right (same_path x.path r.0 && (same_tuple x.tuple u && same_sign x.sign r.1)) (explicit xs r.0 u r.1) r.3)
+]
 
-          one_sign : (x y : Sign) → Some x ≡ Some y → x ≡ y
-          one_sign x y e = cc
+one_path : {x y : List ℕ} (o : Option (List ℕ)) → o ≡ Some x → o ≡ Some y → x ≡ y
+one_path o p q = cc
 
-          none_is_some : (x : Sign) → None ≡ Some x → ⊥
-          none_is_some x e = cc
+one_number : {x y : ℕ} (o : Option ℕ) → o ≡ Some x → o ≡ Some y → x ≡ y
+one_number o p q = cc
 
-  pub told_is : (is : Bool) → AnyTells t rest (Some wid) is → is ≡ told_elsewhere b.stmts w u
-  told_is true x = sym (told_path x.0 x.1)
-  told_is false none = sym (false_from_ne_true (told_elsewhere b.stmts w u) (λ e. let x = path_told e in none x.0 x.1))
+-- where a statement of a path has a tuple, another marked row of its number is that of another path's statement
+module _ (t : Tables) (u : Tuple) (tid n : ℕ) (counted : IsMarkedCount t 11 Last tid n) (b : Contents) (s : Stores t b) (tuple : s.tuples.tuple tid ≡ Some u) (w : List ℕ) (g : Sign)
+    (consistent : IsConsistent (keys_of b) b.stmts) (here : explicit b.stmts w u g ≡ true) where
+  abbrev key : ℕ → List ℕ
+  key wid = val_bytes (row_key (keys_of b) wid tid u)
+
+  within : AreWithin b.stmts b.stmts b.stmts
+  within = record { states = λ v e. e; tuples = λ v e. e }
+
+  marked : (v : List ℕ) (f : Sign) → explicit b.stmts v u f ≡ true → HasMarkedRow b.stmts b.stmts s.names s.tuples t b s.stored u tid tuple v
+  marked v f e = told_marked b.stmts b.stmts s.names s.tuples t b s.stored u tid tuple within consistent v f e
+
+  own : HasMarkedRow b.stmts b.stmts s.names s.tuples t b s.stored u tid tuple w
+  own = marked w g here
+
+  more_tell : 2 ≤ n → told_elsewhere b.stmts w u ≡ true
+  more_tell more =
+      let two : n ≡ (n - 2) + 2 = omega (arith, more) in
+      let other = another_marked t 11 Last tid (n - 2) (subst (IsMarkedCount t 11 Last tid) two counted) (key own.wid) in
+      let x = marked_told b.stmts b.stmts s.names s.tuples t b s.stored u tid tuple other.0 other.1 in
+      stated_elsewhere w x.0 u x.1.sign b.stmts (false_from_ne_true (same_path x.0 w) (λ e.
+      let same : number_of s.names x.0 ≡ number_of s.names w = ap (number_of s.names) ((same_path-Decides x.0 w).0 e) in
+      let named = s.stored.states.names.named in
+      let one : x.1.wid ≡ own.wid = one_number (number_of s.names w) (sym same ∙ named x.1.wid x.0 x.1.world) (named own.wid w own.world) in
+      other.2 (x.1.key ∙ ap key one))) x.1.there
+
+  is_one : n < 2 → n ≡ 1
+  is_one one = elim (cases_lt 0 n) [ inl some ↦ omega (arith, one, some) | inr none ↦ absurd (none_there t 11 Last tid n counted none (key own.wid) own.marked) ]
+
+  one_tells : n < 2 → told_elsewhere b.stmts w u ≡ true → ⊥
+  one_tells one e =
+      let r = stated_at w u b.stmts e in
+      let other = marked r.0 r.1 r.3 in
+      let same : key other.wid ≡ key own.wid = only_marked t 11 Last tid (subst (IsMarkedCount t 11 Last tid) (is_one one) counted) (key own.wid) (key other.wid) own.marked other.marked in
+      let rest : List ℕ = num_bytes u.rel ++ vals_bytes (key_of (keys_of b) u) ++ num_bytes tid in
+      let wid : other.wid ≡ own.wid = (num_form other.wid own.wid rest rest other.fits own.fits same).0 in
+      let path : r.0 ≡ w = one_path (path_of s.names own.wid) (ap (path_of s.names) (sym wid) ∙ other.world) own.world in
+      false≢true (sym r.2 ∙ (same_path-Decides r.0 w).1 path)
+
+  pub told_is : not (nat_lt n 2) ≡ told_elsewhere b.stmts w u
+  told_is = elim (cases_lt n 2) [
+    | inl less ↦ ap not (lt-ltb n 2 less) ∙ sym (false_from_ne_true (told_elsewhere b.stmts w u) (one_tells less))
+    | inr more ↦ ap not (le-ltb n 2 more) ∙ sym (more_tell more)
+  ]
 
 -- ---- a tuple's number
 
@@ -175,32 +130,21 @@ module _ (t : Tables) (u : Tuple) (fits : IsTupleRow u) where
   fresh_some tid has b s = sym (ap not (has_is (Some tid) has b s))
 
   -- a tuple that no statement has is told nowhere
-  pub lost_none : (wid : ℕ) (reached : List Stmt) → HasAt tuple_ix_codec t u None → IsLost t wid reached u (not (has_tuple reached u))
-  lost_none wid reached has b s w c n =
-      let none : told_elsewhere b.stmts w u ≡ false = false_from_ne_true (told_elsewhere b.stmts w u) (λ e. false≢true (sym (has_is None has b s) ∙ elsewhere b.stmts e)) in
-      ap not (sym (or_none (has_tuple reached u)) ∙ ap (λ a. has_tuple reached u || a) (sym none))
-    where
-      or_none : (a : Bool) → (a || false) ≡ a
-      or_none true = refl
-      or_none false = refl
+  pub lost_none : (reached : List Stmt) → HasAt tuple_ix_codec t u None → IsLost t reached u true
+  lost_none reached has b s w g c e = absurd (false≢true (sym (has_is None has b s) ∙ has_is_told b.stmts ∙ explicit_tuple b.stmts w u g e))
 
-      elsewhere : (xs : List Stmt) → told_elsewhere xs w u ≡ true → has_tuple xs u ≡ true
-      elsewhere [] e = e
-      elsewhere (x ∷ xs) e = elim (or_cases (not (same_path x.path w) && same_tuple u x.tuple) (told_elsewhere xs w u) e) [
-        | inl h ↦ or_left (same_tuple u x.tuple) (has_tuple xs u) (and_parts (not (same_path x.path w)) (same_tuple u x.tuple) h).1
-        | inr h ↦ or_right (same_tuple u x.tuple) (has_tuple xs u) (elsewhere xs h)
-      ]
-
-  pub lost_some : (len wid tid : ℕ) (reached : List Stmt) (is : Bool) → IsNum tid → HasAt tuple_ix_codec t u (Some tid) → IsKeyLength t u.rel len → AnyTells t (key_rest (λ _. len) u tid) (Some wid) is
-      → IsLost t wid reached u (not (has_tuple reached u || is))
-  lost_some len wid tid reached is num has long tells b s w c n =
+  pub lost_some : (tid n : ℕ) (reached : List Stmt) → HasAt tuple_ix_codec t u (Some tid) → IsMarkedCount t 11 Last tid n → has_tuple reached u ≡ false → IsLost t reached u (nat_lt n 2)
+  lost_some tid n reached has counted none b s w g c e =
       let tuple : s.tuples.tuple tid ≡ Some u = s.stored.tuples.numbered u tid (sym (number_read b.stmts s.tuples t u (Some tid) s.stored.tuples fits has)) in
-      ap (λ a. not (has_tuple reached u || a)) (told_is t u tid num fits b s w wid c n tuple is
-      (subst (λ (vs : List Value). AnyTells t (num_bytes u.rel ++ vals_bytes vs ++ num_bytes tid) (Some wid) is) (key_by_length (keys_of b) len u (long b.catalog.rels s.stored.rels)) tells))
+      sym (not_not (nat_lt n 2)) ∙ ap not (told_is t u tid n counted b s tuple w g c e) ∙ sym (ap (λ a. not (a || told_elsewhere b.stmts w u)) none)
+    where
+      not_not : (a : Bool) → not (not a) ≡ a
+      not_not true = refl
+      not_not false = refl
 
 -- a tuple that one of some has is not lost
-pub lost_held : (t : Tables) (u : Tuple) (wid : ℕ) (reached : List Stmt) → has_tuple reached u ≡ true → IsLost t wid reached u false
-lost_held t u wid reached e b s w c n = sym (ap (λ a. not (a || told_elsewhere b.stmts w u)) e)
+pub lost_held : (t : Tables) (u : Tuple) (reached : List Stmt) → has_tuple reached u ≡ true → IsLost t reached u false
+lost_held t u reached e b s w g c here = sym (ap (λ a. not (a || told_elsewhere b.stmts w u)) e)
 
 -- ---- one statement more
 
@@ -219,19 +163,26 @@ kept_more f x xs kept next end is same put rest =
     ∙ append_assoc kept (kept_if (f x) x) (filter f xs)
     ∙ ap (λ l. kept ++ l) (sym (kept_first f x xs)) ∙ rest
 
+all_dropped : (p : Stmt → Bool) (i : ℕ) (xs : List Stmt) → list_all p xs ≡ true → list_all p (drop i xs) ≡ true
+all_dropped p zero xs e = e
+all_dropped p (suc i) [] e = e
+all_dropped p (suc i) (x ∷ xs) e = all_dropped p i xs (and_parts (p x) (list_all p xs) e).1
+
 -- those that are lost among the first ones, with those among the rest
-abbrev pub LostSoFar : Tables → ℕ → List Stmt → List Stmt → List Stmt → List Stmt → Type 0
-LostSoFar t wid reached gone rest kept = (b : Contents) (s : Stores t b) (w : List ℕ) → IsConsistent (keys_of b) b.stmts → number_of s.names w ≡ Some wid
+abbrev pub LostSoFar : Tables → List Stmt → List Stmt → List Stmt → List Stmt → Type 0
+LostSoFar t reached gone rest kept = (b : Contents) → Stores t b → (w : List ℕ) → IsConsistent (keys_of b) b.stmts → are_at b.stmts w gone ≡ true
     → kept ++ lost_of b.stmts w reached rest ≡ lost_of b.stmts w reached gone
 
-pub lost_more : (t u : Tables) (wid : ℕ) (reached gone : List Stmt) (x : Stmt) (rest kept next : List Stmt) (is : Bool) → u ≡ t → LostSoFar t wid reached gone (x ∷ rest) kept → IsLost u wid reached x.tuple is
-    → next ≡ kept ++ kept_if is x → LostSoFar t wid reached gone rest next
-lost_more t u wid reached gone x rest kept next is same h l put b s w c n =
+pub lost_more : (t u : Tables) (reached gone : List Stmt) (i : ℕ) (x : Stmt) (rest kept next : List Stmt) (is : Bool) → u ≡ t → drop i gone ≡ x ∷ rest → LostSoFar t reached gone (drop i gone) kept
+    → IsLost u reached x.tuple is → next ≡ kept ++ kept_if is x → LostSoFar t reached gone rest next
+lost_more t u reached gone i x rest kept next is same split h l put b s w c at =
+    let here : are_at b.stmts w (x ∷ rest) ≡ true = ap (are_at b.stmts w) (sym split) ∙ all_dropped (λ y. explicit b.stmts w y.tuple y.sign) i gone at in
+    let first = (and_parts (explicit b.stmts w x.tuple x.sign) (are_at b.stmts w rest) here).0 in
     kept_more (λ y. not (has_tuple reached y.tuple || told_elsewhere b.stmts w y.tuple)) x rest kept next (lost_of b.stmts w reached gone) is
-    (subst (λ (v : Tables). IsLost v wid reached x.tuple is) same l b s w c n) put (h b s w c n)
+    (subst (λ (v : Tables). IsLost v reached x.tuple is) same l b s w x.sign c first) put (subst (λ xs. kept ++ lost_of b.stmts w reached xs ≡ lost_of b.stmts w reached gone) split (h b s w c at))
 
-pub lost_all : (t : Tables) (wid : ℕ) (reached gone kept : List Stmt) → LostSoFar t wid reached gone [] kept → AreLost t wid reached gone kept
-lost_all t wid reached gone kept h b s w c n = sym (append_none kept) ∙ h b s w c n
+pub lost_all : (t : Tables) (reached gone kept : List Stmt) → LostSoFar t reached gone [] kept → AreLost t reached gone kept
+lost_all t reached gone kept h b s w c at = sym (append_none kept) ∙ h b s w c at
   where
     append_none : (xs : List Stmt) → xs ++ [] ≡ xs
     append_none [] = refl

@@ -10,17 +10,15 @@ use Rattle.bdb_base.proofs.WorldLemmas.{valid_is_consistent}
 use Rattle.bdb_keep.specs.Tables.{Tables}
 use Rattle.bdb_key.specs.Rows.{IsTupleRow}
 use Rattle.bdb_tables.specs.Codec.{HasAt}
-use Rattle.bdb_tables.specs.Grammar.{InGrammar}
 use Rattle.bdb_tables.specs.InUse.{tuple_ix_codec}
 use Rattle.bdb_update.specs.Calls.{without_one}
 use Rattle.bdb_update.specs.Differing.{has_told}
 use Rattle.bdb_update.specs.Keys.{keys_of}
 use Rattle.bdb_update.specs.Numbering.{number_taken, without_number}
-use Rattle.bdb_update.specs.Parting.{MayPart, HasFewerWorlds, SomeHasFewerWorlds, LosesNumber, TellsNumber}
+use Rattle.bdb_update.specs.Parting.{MayPart, HasFewerWorlds, LosesNumber, TellsNumber}
 use Rattle.bdb_update.specs.Reads.{TellsTold}
 use Rattle.bdb_tables.specs.Stored.{StoredOver}
 use Rattle.bdb_tables.proofs.SignLemmas.{drop_unfelt}
-use Rattle.bdb_update.proofs.GrammarLemmas.{over_in_grammar}
 use Rattle.bdb_update.proofs.NumberLemmas.{drop_leaves_tuples, number_taken_stores}
 use Rattle.bdb_update.proofs.PartWorldLemmas.{consistent_before}
 use Rattle.bdb_update.proofs.TupleLemmas.{number_read}
@@ -40,13 +38,13 @@ module _ (t : Tables) (x : Stmt) (tid : ℕ) (fits : IsTupleRow x.tuple) (has : 
     tuple_is : h.tuples.tuple tid ≡ Some x.tuple
     tuple_is = h.stored.tuples.numbered x.tuple tid (sym (number_read b.stmts h.tuples t x.tuple (Some tid) h.stored.tuples fits has))
 
-    pub told_is : (is : Bool) → TellsTold t x.tuple tid is → is ≡ has_told (without_statement b.stmts x) x.tuple
+    pub told_is : (is : Bool) → TellsTold t tid is → is ≡ has_told (without_statement b.stmts x) x.tuple
     told_is is tells =
         let less = without_statement b.stmts x in
         tells less b.stmts h.names h.tuples (without_one b x) h.stored (record { states = λ w e. e; tuples = λ u e. (drop_is_within b.stmts x).tuples u e })
-        (consistent_before (keys_of b) b.stmts x (valid_is_consistent b.catalog b.stmts may.valid)) tuple_is
+        (consistent_before (keys_of b) b.stmts x (valid_is_consistent b.catalog b.stmts may.valid)) x.tuple tuple_is
 
-  pub number_kept : TellsTold t x.tuple tid true → LosesNumber t t x
+  pub number_kept : TellsTold t tid true → LosesNumber t t x
   number_kept tells b h may =
       let less = without_statement b.stmts x in
       record {
@@ -55,7 +53,7 @@ module _ (t : Tables) (x : Stmt) (tid : ℕ) (fits : IsTupleRow x.tuple) (has : 
         stored = same_reach_stores less less b.stmts less h.names h.tuples t (without_one b x) h.stored (λ w. refl) (told_stays b.stmts x (sym (told_is b h may true tells)));
       }
 
-  pub number_lost : (u : Tables) → TellsTold t x.tuple tid false → u ≡ number_taken t tid x.tuple → LosesNumber t u x
+  pub number_lost : (u : Tables) → TellsTold t tid false → u ≡ number_taken t tid x.tuple → LosesNumber t u x
   number_lost u tells taken b h may =
       let less = without_statement b.stmts x in
       let none : has_told less x.tuple ≡ false = sym (told_is b h may false tells) in
@@ -66,10 +64,5 @@ module _ (t : Tables) (x : Stmt) (tid : ℕ) (fits : IsTupleRow x.tuple) (has : 
         stored = subst (λ (v : Tables). StoredOver less less h.names (without_number h.tuples tid x.tuple) v (without_one b x)) (sym taken) stored;
       }
 
-  pub number_told : (went is : Bool) → went ≡ not is → TellsTold t x.tuple tid is → TellsNumber t x went
+  pub number_told : (went is : Bool) → went ≡ not is → TellsTold t tid is → TellsNumber t x went
   number_told went is e tells b h may = e ∙ ap not (told_is b h may is tells)
-
--- ---- what there is before
-
-pub fewer_over : (t : Tables) (x : Stmt) → SomeHasFewerWorlds t x → InGrammar t
-fewer_over t x s = over_in_grammar (without_statement s.base.stmts x) s.base.stmts s.worlds.names s.worlds.tuples t (without_one s.base x) s.worlds.stored

@@ -18,6 +18,7 @@ use Rattle.bdb_keep.specs.Tables.{Tables}
 use Rattle.bdb_key.specs.Grammar.{IsNum}
 use Rattle.bdb_paths.proofs.StateLemmas.{states_have_prefixes}
 use Rattle.bdb_tables.specs.Grammar.{InGrammar}
+use Rattle.bdb_tables.specs.Explicit.{HasExplicitRow}
 use Rattle.bdb_tables.specs.InUse.{ValKey, IsValKey, val_codec}
 use Rattle.bdb_tables.specs.InUseLaws.{mark_rows_are_one}
 use Rattle.bdb_tables.specs.Marks.{Mark, explicit_of, explicit_sign, mark_of}
@@ -32,7 +33,7 @@ use Rattle.bdb_val.proofs.ReadLemmas.{key_fits}
 use Rattle.bdb_worlds.specs.Growth.{SameOutside}
 use Rattle.bdb_worlds.specs.Holding.{Worlds, HoldSome}
 use Rattle.bdb_worlds.specs.Shrinking.{without_prefixes, IsDead, AreDead, Stays, as_root, as_needed, HasShrunk, DropsStates}
-use Rattle.bdb_worlds.specs.Staying.{HasExplicitRow, IsNeeded, by_row, by_longer}
+use Rattle.bdb_worlds.specs.Staying.{IsNeeded, by_row, by_longer}
 use Rattle.bdb_worlds.proofs.GrowLemmas.{take_split}
 use Rattle.bdb_worlds.proofs.ReadLemmas.{found_is}
 use Rattle.bdb_update.proofs.KeyLemmas.{lengths_fit}

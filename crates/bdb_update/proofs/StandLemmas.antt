@@ -190,19 +190,16 @@ module _ (t : Tables) (b : Contents) (ns : Names) (ts : Tuples) (stored : Stored
 -- ---- what is read of a path
 
 -- the number of a state
-pub state_number : (t : Tables) (w : List ℕ) (len wid : ℕ) → ReachesState t w len wid → (b : Contents) → HasState t w b → (s : Stores t b) → number_of s.names w ≡ Some wid
+state_number : (t : Tables) (w : List ℕ) (len wid : ℕ) → ReachesState t w len wid → (b : Contents) → HasState t w b → (s : Stores t b) → number_of s.names w ≡ Some wid
 state_number t w len wid reaches b h s =
     world_if_any t w len wid reaches (record { users = is_user b.catalog.users; names = s.names }) s.stored.states h.users (s.stored.worlds w ∙ h.state)
 
 pub stand_at : (t u : Tables) (w : List ℕ) (len wid : ℕ) (rows : List Stored) (xs : List Stmt) → u ≡ t → ReachesState t w len wid → AreReadUnder u (world_prefix wid) rows
-    → xs ≡ with_statements [] (said_at w rows) → StandAt t w xs wid
+    → xs ≡ with_statements [] (said_at w rows) → StandAt t w xs
 stand_at t u w len wid rows xs kept reaches read is b h =
     let s = h.stored in
-    record {
-      stmts = is ∙ read_are_stated t b s.names s.tuples s.stored (valid_is_consistent b.catalog b.stmts h.valid) w wid (state_number t w len wid reaches b h s) rows
-          (subst (λ (v : Tables). AreReadUnder v (world_prefix wid) rows) kept read) h.valid.stmts.sorted;
-      world = state_number t w len wid reaches b h;
-    }
+    is ∙ read_are_stated t b s.names s.tuples s.stored (valid_is_consistent b.catalog b.stmts h.valid) w wid (state_number t w len wid reaches b h s) rows
+    (subst (λ (v : Tables). AreReadUnder v (world_prefix wid) rows) kept read) h.valid.stmts.sorted
 
 pub hold_some : (t : Tables) (w : List ℕ) → SomeHasState t w → HoldSome t w
 hold_some t w s = record { worlds = record { users = is_user s.base.catalog.users; names = s.has.stored.names }; states = s.has.stored.stored.states; own = s.has.users }

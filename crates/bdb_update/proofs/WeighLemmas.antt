@@ -13,6 +13,7 @@ use Rattle.bdb_base.specs.SortedSet.{ascending}
 use Rattle.bdb_base.specs.Alternation.{alternates}
 use Rattle.bdb_base.specs.Bases.{is_user}
 use Rattle.bdb_base.specs.States.{is_state}
+use Rattle.bdb_base.specs.Worlds.{explicit}
 use Rattle.bdb_base.specs.declared.kinds.Catalog.{Catalog}
 use Rattle.bdb_base.specs.declared.kinds.RelDef.{RelDef}
 use Rattle.bdb_base.specs.declared.kinds.Stmt.{Stmt}
@@ -24,11 +25,11 @@ use Rattle.bdb_canon.specs.declared.sizes.Counts.{Counts}
 use Rattle.bdb_keep.specs.Tables.{Tables}
 use Rattle.bdb_tables.proofs.Fitting.{belonging_may_be}
 use Rattle.bdb_update.specs.Calls.{MayChange, clash_within, with_others, without_statements}
-use Rattle.bdb_update.specs.Elsewhere.{HasTuples}
+use Rattle.bdb_update.specs.Elsewhere.{HasTuples, are_at}
 use Rattle.bdb_update.specs.Holding.{AreOfOnePath}
 use Rattle.bdb_tables.specs.Lengths.{HaveKeyLengths}
 use Rattle.bdb_update.specs.Keys.{keys_of}
-use Rattle.bdb_update.specs.Reached.{HasState, SomeHasState, StandAt, AreAt, at_path, lost_of, fresh_of}
+use Rattle.bdb_update.specs.Reached.{HasState, SomeHasState, StandAt, at_path, lost_of, fresh_of}
 use Rattle.bdb_update.specs.Weighing.{MayWeigh, SomeMayWeigh, IsWeight, Weighs, TellsRoom, have_room}
 use Rattle.bdb_update.specs.declared.weighing.Weight.TheVariants.{Clashes, Fills, Fits}
 use Rattle.bdb_update.proofs.JudgeLemmas.{stands_is}
@@ -66,6 +67,13 @@ may_replace t c w gone come b m = record {
   no_more = m.no_more;
 }
 
+-- those that go are at the path
+stand_there : (stmts : List Stmt) (w : List ℕ) (xs : List Stmt) → AllByRecursion (λ x. x.path ≡ w) xs → list_all (stands stmts) xs ≡ true → are_at stmts w xs ≡ true
+stand_there stmts w [] h e = refl
+stand_there stmts w (x ∷ xs) h e =
+    let k = and_parts (stands stmts x) (list_all (stands stmts) xs) e in
+    and_from (explicit stmts w x.tuple x.sign) (are_at stmts w xs) (ap (λ v. explicit stmts v x.tuple x.sign) (sym h.0) ∙ sym (stands_is stmts x) ∙ k.0) (stand_there stmts w xs h.1 k.1)
+
 -- where some go, the path is a state
 pub has_state : (t : Tables) (c : Counts) (w : List ℕ) (gone come : List Stmt) (b : Contents) → MayWeigh t c w gone come b → HasState t w b
 has_state t c w gone come b m = by gone m.may.gone_here m.may.stand m.some
@@ -95,13 +103,13 @@ pub come_tuples : (t : Tables) (c : Counts) (w : List ℕ) (gone come : List Stm
 come_tuples t c w gone come s = have_tuples s.base come s.may.may.base.valid s.may.may.belong
 
 -- what stands at the path then is in order
-pub reached_stand : (t : Tables) (c : Counts) (w : List ℕ) (gone come stmts reached : List Stmt) (wid : ℕ) → SomeMayWeigh t c w gone come → StandAt t w stmts wid → reached ≡ with_statements (without_statements stmts gone) come → AreOfOnePath reached
-reached_stand t c w gone come stmts reached wid s stand is =
+pub reached_stand : (t : Tables) (c : Counts) (w : List ℕ) (gone come stmts reached : List Stmt) → SomeMayWeigh t c w gone come → StandAt t w stmts → reached ≡ with_statements (without_statements stmts gone) come → AreOfOnePath reached
+reached_stand t c w gone come stmts reached s stand is =
     let b = s.base in
     let sorted = s.may.may.base.valid.stmts.sorted in
     let next = with_statements (without_statements b.stmts gone) come in
-    let here : AreAt t b w stmts wid = stand b (has_state t c w gone come b s.may) in
-    let same : reached ≡ at_path w next = is ∙ ap (λ xs. with_statements (without_statements xs gone) come) here.stmts ∙ sym (reached_at w b.stmts gone come sorted (all_here w come s.may.may.come_here)) in
+    let here : stmts ≡ at_path w b.stmts = stand b (has_state t c w gone come b s.may) in
+    let same : reached ≡ at_path w next = is ∙ ap (λ xs. with_statements (without_statements xs gone) come) here ∙ sym (reached_at w b.stmts gone come sorted (all_here w come s.may.may.come_here)) in
     record {
       path = w;
       here = ap (list_all (λ x. same_path x.path w)) same ∙ filter_passes (λ x. same_path x.path w) next;
@@ -118,26 +126,26 @@ reached_stand t c w gone come stmts reached wid s stand is =
 
 -- ---- what was read
 
-module _ (t : Tables) (c : Counts) (w : List ℕ) (gone come stmts reached : List Stmt) (wid : ℕ) (rels : List RelDef) (lengths : HaveKeyLengths t rels) (stand : StandAt t w stmts wid) (is : reached ≡ with_statements (without_statements stmts gone) come)
+module _ (t : Tables) (c : Counts) (w : List ℕ) (gone come stmts reached : List Stmt) (rels : List RelDef) (lengths : HaveKeyLengths t rels) (stand : StandAt t w stmts) (is : reached ≡ with_statements (without_statements stmts gone) come)
     (b : Contents) (m : MayWeigh t c w gone come b) where
   abbrev next : List Stmt
   next = with_statements (without_statements b.stmts gone) come
 
-  here : AreAt t b w stmts wid
+  here : stmts ≡ at_path w b.stmts
   here = stand b (has_state t c w gone come b m)
 
   is_reached : reached ≡ at_path w next
-  is_reached = is ∙ ap (λ xs. with_statements (without_statements xs gone) come) here.stmts ∙ sym (reached_at w b.stmts gone come m.may.base.valid.stmts.sorted (all_here w come m.may.come_here))
+  is_reached = is ∙ ap (λ xs. with_statements (without_statements xs gone) come) here ∙ sym (reached_at w b.stmts gone come m.may.base.valid.stmts.sorted (all_here w come m.may.come_here))
 
   same_first : first_clashing (key_lengths rels) reached w ≡ clash_within (with_others b gone come) w
   same_first =
       ap (λ (keys : ℕ → ℕ). first_clashing keys reached w) (lengths b.catalog.rels m.may.base.stored.stored.rels)
       ∙ ap (λ xs. first_clashing (keys_of b) xs w) is_reached ∙ first_at_path (keys_of b) w next
 
-  room_is : (u : Tables) (room : Bool) → u ≡ t → TellsRoom u c.tuples wid reached gone come room → room ≡ have_room c.tuples (lost_of b.stmts w reached gone) (fresh_of b.stmts come)
+  room_is : (u : Tables) (room : Bool) → u ≡ t → TellsRoom u c.tuples reached gone come room → room ≡ have_room c.tuples (lost_of b.stmts w reached gone) (fresh_of b.stmts come)
   room_is u room kept tells =
       let h = has_state t c w gone come b m in
-      subst (λ (v : Tables). TellsRoom v c.tuples wid reached gone come room) kept tells b h.stored w (valid_is_consistent b.catalog b.stmts h.valid) (here.world h.stored)
+      subst (λ (v : Tables). TellsRoom v c.tuples reached gone come room) kept tells b h.stored w (valid_is_consistent b.catalog b.stmts h.valid) (stand_there b.stmts w gone m.may.gone_here m.may.stand)
 
   counted : tuple_count next + tuple_count (lost_of b.stmts w reached gone) ≡ c.tuples + tuple_count (fresh_of b.stmts come)
   counted = tuples_after b.catalog b.stmts w gone come (may_replace t c w gone come b m.may) reached is_reached
@@ -146,7 +154,7 @@ module _ (t : Tables) (c : Counts) (w : List ℕ) (gone come stmts reached : Lis
   one_clashes : (least : Stmt) → Some least ≡ first_clashing (key_lengths rels) reached w → IsWeight w (with_others b gone come) (Clashes least)
   one_clashes least e = sym same_first ∙ sym e
 
-  there_is_room : (u : Tables) → u ≡ t → None ≡ first_clashing (key_lengths rels) reached w → TellsRoom u c.tuples wid reached gone come true → IsWeight w (with_others b gone come) Fits
+  there_is_room : (u : Tables) → u ≡ t → None ≡ first_clashing (key_lengths rels) reached w → TellsRoom u c.tuples reached gone come true → IsWeight w (with_others b gone come) Fits
   there_is_room u kept e tells =
       let l = tuple_count (lost_of b.stmts w reached gone) in
       let f = tuple_count (fresh_of b.stmts come) in
@@ -154,7 +162,7 @@ module _ (t : Tables) (c : Counts) (w : List ℕ) (gone come stmts reached : Lis
       let k = counted in
       (sym same_first ∙ sym e, omega arith)
 
-  there_is_none : (u : Tables) → u ≡ t → None ≡ first_clashing (key_lengths rels) reached w → TellsRoom u c.tuples wid reached gone come false → IsWeight w (with_others b gone come) Fills
+  there_is_none : (u : Tables) → u ≡ t → None ≡ first_clashing (key_lengths rels) reached w → TellsRoom u c.tuples reached gone come false → IsWeight w (with_others b gone come) Fills
   there_is_none u kept e tells =
       let l = tuple_count (lost_of b.stmts w reached gone) in
       let f = tuple_count (fresh_of b.stmts come) in
@@ -166,14 +174,14 @@ module _ (t : Tables) (c : Counts) (w : List ℕ) (gone come stmts reached : Lis
         ],
       )
 
-pub weighs_clash : (t : Tables) (c : Counts) (w : List ℕ) (gone come stmts reached : List Stmt) (wid : ℕ) (rels : List RelDef) (least : Stmt) → HaveKeyLengths t rels → StandAt t w stmts wid → reached ≡ with_statements (without_statements stmts gone) come
+pub weighs_clash : (t : Tables) (c : Counts) (w : List ℕ) (gone come stmts reached : List Stmt) (rels : List RelDef) (least : Stmt) → HaveKeyLengths t rels → StandAt t w stmts → reached ≡ with_statements (without_statements stmts gone) come
     → Some least ≡ first_clashing (key_lengths rels) reached w → Weighs t c w gone come (Clashes least)
-weighs_clash t c w gone come stmts reached wid rels least lengths stand is e b m = one_clashes t c w gone come stmts reached wid rels lengths stand is b m least e
+weighs_clash t c w gone come stmts reached rels least lengths stand is e b m = one_clashes t c w gone come stmts reached rels lengths stand is b m least e
 
-pub weighs_room : (t u : Tables) (c : Counts) (w : List ℕ) (gone come stmts reached : List Stmt) (wid : ℕ) (rels : List RelDef) → HaveKeyLengths t rels → StandAt t w stmts wid → reached ≡ with_statements (without_statements stmts gone) come
-    → u ≡ t → None ≡ first_clashing (key_lengths rels) reached w → TellsRoom u c.tuples wid reached gone come true → Weighs t c w gone come Fits
-weighs_room t u c w gone come stmts reached wid rels lengths stand is kept e tells b m = there_is_room t c w gone come stmts reached wid rels lengths stand is b m u kept e tells
+pub weighs_room : (t u : Tables) (c : Counts) (w : List ℕ) (gone come stmts reached : List Stmt) (rels : List RelDef) → HaveKeyLengths t rels → StandAt t w stmts → reached ≡ with_statements (without_statements stmts gone) come
+    → u ≡ t → None ≡ first_clashing (key_lengths rels) reached w → TellsRoom u c.tuples reached gone come true → Weighs t c w gone come Fits
+weighs_room t u c w gone come stmts reached rels lengths stand is kept e tells b m = there_is_room t c w gone come stmts reached rels lengths stand is b m u kept e tells
 
-pub weighs_none : (t u : Tables) (c : Counts) (w : List ℕ) (gone come stmts reached : List Stmt) (wid : ℕ) (rels : List RelDef) → HaveKeyLengths t rels → StandAt t w stmts wid → reached ≡ with_statements (without_statements stmts gone) come
-    → u ≡ t → None ≡ first_clashing (key_lengths rels) reached w → TellsRoom u c.tuples wid reached gone come false → Weighs t c w gone come Fills
-weighs_none t u c w gone come stmts reached wid rels lengths stand is kept e tells b m = there_is_none t c w gone come stmts reached wid rels lengths stand is b m u kept e tells
+pub weighs_none : (t u : Tables) (c : Counts) (w : List ℕ) (gone come stmts reached : List Stmt) (rels : List RelDef) → HaveKeyLengths t rels → StandAt t w stmts → reached ≡ with_statements (without_statements stmts gone) come
+    → u ≡ t → None ≡ first_clashing (key_lengths rels) reached w → TellsRoom u c.tuples reached gone come false → Weighs t c w gone come Fills
+weighs_none t u c w gone come stmts reached rels lengths stand is kept e tells b m = there_is_none t c w gone come stmts reached rels lengths stand is b m u kept e tells

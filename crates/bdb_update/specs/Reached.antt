@@ -1,6 +1,6 @@
 -- Statements of one path in place of others: what is read of a base to tell what it comes to. Tables are told of by whichever
 -- base they store.
-use Rattle.std.specs.Prelude.{◌≡◌, ℕ, Bool, true, not, ◌&&◌, ◌||◌, List, [], ◌∷◌, Some, filter, cond}
+use Rattle.std.specs.Prelude.{◌≡◌, ℕ, Bool, true, not, ◌&&◌, ◌||◌, List, [], ◌∷◌, filter, cond}
 use Rattle.std.specs.List.{list_any, list_all, flat_map}
 use Rattle.bdb_base.specs.Alternation.{alternates}
 use Rattle.bdb_base.specs.Bases.{Contents, IsValid, has_tuple, is_user}
@@ -9,7 +9,6 @@ use Rattle.bdb_base.specs.States.{is_state}
 use Rattle.bdb_base.specs.declared.kinds.Stmt.{Stmt}
 use Rattle.bdb_base.specs.declared.tuple.Tuple.{Tuple}
 use Rattle.bdb_keep.specs.Tables.{Tables}
-use Rattle.bdb_tables.specs.Names.{number_of}
 use Rattle.bdb_val.specs.declared.stored.Stored.{Stored}
 use Rattle.bdb_tables.specs.Stored.{Stores}
 
@@ -50,10 +49,6 @@ said_of w r = cond r.mark.1 (record { path = w; sign = r.mark.0; tuple = r.tuple
 abbrev pub said_at : List ℕ → List Stored → List Stmt
 said_at w rows = flat_map (said_of w) rows
 
--- these are the statements at a path, whose world has this number
-pub record AreAt (t : Tables) (b : Contents) (w : List ℕ) (xs : List Stmt) (wid : ℕ) : Type 0 where
-  pub stmts : xs ≡ at_path w b.stmts
-  pub world : (s : Stores t b) → number_of s.names w ≡ Some wid
-
-abbrev pub StandAt : Tables → List ℕ → List Stmt → ℕ → Type 0
-StandAt t w xs wid = (b : Contents) → HasState t w b → AreAt t b w xs wid
+-- whichever base tables store, these are its statements at a path that is a state
+abbrev pub StandAt : Tables → List ℕ → List Stmt → Type 0
+StandAt t w xs = (b : Contents) → HasState t w b → xs ≡ at_path w b.stmts

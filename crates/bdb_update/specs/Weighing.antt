@@ -7,8 +7,8 @@ use Rattle.bdb_base.specs.Worlds.{IsConsistent}
 use Rattle.bdb_base.specs.declared.kinds.Stmt.{Stmt}
 use Rattle.bdb_canon.specs.declared.sizes.Counts.{Counts}
 use Rattle.bdb_keep.specs.Tables.{Tables}
-use Rattle.bdb_tables.specs.Names.{number_of}
 use Rattle.bdb_update.specs.Calls.{MayChange, clash_within, with_others}
+use Rattle.bdb_update.specs.Elsewhere.{are_at}
 use Rattle.bdb_update.specs.Reached.{lost_of, fresh_of}
 use Rattle.bdb_tables.specs.Stored.{Stores}
 use Rattle.bdb_update.specs.declared.weighing.Weight.{Weight}
@@ -36,6 +36,7 @@ Weighs t counts w gone come weight = (b : Contents) → MayWeigh t counts w gone
 abbrev pub have_room : ℕ → List Stmt → List Stmt → Bool
 have_room tuples lost fresh = nat_le (tuples + tuple_count fresh) (most_tuples + tuple_count lost)
 
-abbrev pub TellsRoom : Tables → ℕ → ℕ → List Stmt → List Stmt → List Stmt → Bool → Type 0
-TellsRoom t tuples wid reached gone come room = (b : Contents) (s : Stores t b) (w : List ℕ) → IsConsistent (key_lengths b.catalog.rels) b.stmts → number_of s.names w ≡ Some wid
+-- whichever base tables store, and at whichever path those that go stand: whether there is room
+abbrev pub TellsRoom : Tables → ℕ → List Stmt → List Stmt → List Stmt → Bool → Type 0
+TellsRoom t tuples reached gone come room = (b : Contents) → Stores t b → (w : List ℕ) → IsConsistent (key_lengths b.catalog.rels) b.stmts → are_at b.stmts w gone ≡ true
     → room ≡ have_room tuples (lost_of b.stmts w reached gone) (fresh_of b.stmts come)

@@ -7,21 +7,18 @@ ghost use Rattle.bdb_update.specs.Elsewhere.{AreFresh, AreLost, HasTuples, IsFre
 ghost use Rattle.bdb_update.specs.Holding.{AreOfOnePath};
 
 use crate::holding::holds_tuple;
-use crate::keys::key_length_of;
 use crate::numbers::number_of;
-use crate::reading::is_explicit;
+use crate::reading::count_told;
 use bdb_base::{Exact, List, Stmt, Tuple};
 use bdb_keep::Keeper;
 use bdb_tables::TabError;
 use std::alloc::{AllocError, Global};
 
-/// Those of some statements whose tuple no statement of another path has than that of a world, nor any of `reached`, which are
-/// in order and all of one path. For each statement it reads two rows, and a row or two for each world, up to the first that
-/// has the tuple's row explicit.
+/// Those of some statements of one path whose tuple no statement of another path has, nor any of `reached`, which are in order and
+/// all of one path. Two reads for each statement, however many worlds there are.
 pub fn lost_of<K: Keeper>(
     alloc: Global,
     keeper: &mut K,
-    wid: u32,
     reached: &[Stmt],
     gone: &[Stmt],
 ) -> Result<List<Stmt>, TabError>
@@ -29,12 +26,12 @@ pub fn lost_of<K: Keeper>(
     requires grammar { InGrammar (K.seen keeper.old).kept }
     requires reached { AreOfOnePath reached.now }
     requires tuples { HasTuples gone.now }
-    ensures lost { IfOk result (AreLost (K.seen keeper.old).kept wid reached.now gone.now) }
+    ensures lost { IfOk result (AreLost (K.seen keeper.old).kept reached.now gone.now) }
     ensures read { IsRead (K.seen keeper.old) (K.seen keeper.new) result TabError.Fault }
 {
     let mut lost = List::new(alloc);
     for stmt in gone {
-        let missing = match is_lost(alloc, keeper, wid, reached, &stmt.tuple) {
+        let missing = match is_lost(alloc, keeper, reached, &stmt.tuple) {
             Ok(missing) => missing,
             Err(error) => return Err(error),
         };
@@ -89,11 +86,10 @@ fn keep_if(alloc: Global, kept: &mut List<Stmt>, stmt: &Stmt, is: bool) -> Resul
     Ok(())
 }
 
-// Whether no statement of another path than that of a world has a tuple, nor any of `reached`.
+// Whether no statement of another path than one at which a tuple is stated has it, nor any of `reached`.
 fn is_lost<K: Keeper>(
     alloc: Global,
     keeper: &mut K,
-    wid: u32,
     reached: &[Stmt],
     tuple: &Tuple,
 ) -> Result<bool, TabError>
@@ -101,7 +97,7 @@ fn is_lost<K: Keeper>(
     requires grammar { InGrammar (K.seen keeper.old).kept }
     requires reached { AreOfOnePath reached.now }
     requires tuple { MayBeTuple tuple.now }
-    ensures lost { IfOk result (IsLost (K.seen keeper.old).kept wid reached.now tuple.now) }
+    ensures lost { IfOk result (IsLost (K.seen keeper.old).kept reached.now tuple.now) }
     ensures read { IsRead (K.seen keeper.old) (K.seen keeper.new) result TabError.Fault }
 {
     if holds_tuple(reached, tuple) {
@@ -112,12 +108,8 @@ fn is_lost<K: Keeper>(
         Ok(None) => return Ok(true),
         Err(error) => return Err(error),
     };
-    let n = match key_length_of(alloc, keeper, tuple) {
-        Ok(n) => n,
-        Err(error) => return Err(error),
-    };
-    match is_explicit(alloc, keeper, n, tuple, tid, Some(wid)) {
-        Ok(told) => Ok(!told),
+    match count_told(keeper, tid) {
+        Ok(count) => Ok(count < 2),
         Err(error) => Err(error),
     }
 }

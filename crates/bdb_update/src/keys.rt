@@ -1,17 +1,14 @@
 // How long keys are, and keys of rows by their bytes.
-ghost use Rattle.std.specs.Prelude.{◌≡◌, ◌++◌, true, IfOk, OnOk};
+ghost use Rattle.std.specs.Prelude.{◌≡◌, true, IfOk, OnOk};
 ghost use Rattle.bdb_base.specs.Bases.{key_lengths};
 ghost use Rattle.bdb_base.specs.Clash.{clash, same_key};
 ghost use Rattle.bdb_keep.specs.Calls.{IsRead};
-ghost use Rattle.bdb_key.specs.Bytes.{num_bytes};
 ghost use Rattle.bdb_tables.specs.Grammar.{InGrammar};
 ghost use Rattle.bdb_tables.specs.InUse.{HaveKeyTexts, IsValKey, val_bytes};
 ghost use Rattle.bdb_tables.specs.Lengths.{HaveKeyLengths, IsKeyLength};
-ghost use Rattle.bdb_update.specs.Keys.{key_rest};
 
-use bdb_base::{List, RelDef, Sign, Tuple, Value, clash, key_length, key_of, same_key};
+use bdb_base::{List, RelDef, Sign, Tuple, Value, clash, key_length, same_key};
 use bdb_keep::{KeepError, Keeper};
-use bdb_key::{put_num, put_vals};
 use bdb_tables::{RelTab, TabError, get, put_val_key, stored_key_length};
 use std::alloc::{AllocError, Global};
 
@@ -79,18 +76,6 @@ fn length_in(rels: &[RelDef], tuple: &Tuple) -> u32
     key_length(rels, tuple.rel)
 }
 
-/// The bytes that follow the number of the world in the key of a tuple's row, where its relation has keys of the length
-/// `n`. They are the same in each world.
-pub fn key_rest(alloc: Global, n: u32, tuple: &Tuple, tid: u32) -> Result<Vec<u8>, AllocError>
-    ensures { IfOk result (λ rest. rest.items ≡ key_rest (λ _. n) tuple.now tid) }
-{
-    let mut rest = Vec::with_capacity(alloc, KEY_ROOM)?;
-    put_num(&mut rest, tuple.rel)?;
-    put_vals(&mut rest, key_of(tuple, n))?;
-    put_num(&mut rest, tid)?;
-    Ok(rest)
-}
-
 /// The bytes of the key of a world's row, by the world, the relation and key of a group, and the number of a tuple.
 pub fn row_key(
     alloc: Global,
@@ -106,16 +91,6 @@ pub fn row_key(
     let mut bytes = Vec::with_capacity(alloc, KEY_ROOM)?;
     put_val_key(&mut bytes, wid, rel, key, tid)?;
     Ok(bytes)
-}
-
-/// Makes the bytes of a key of those of its world's number and of what follows it.
-pub fn lead(key: &mut Vec<u8>, wid: u32, rest: &[u8]) -> Result<(), AllocError>
-    ensures { OnOk result (key.new.items ≡ num_bytes wid ++ rest.now) }
-{
-    key.clear();
-    put_num(key, wid)?;
-    key.extend_from_slice(rest)?;
-    Ok(())
 }
 
 /// A keeper's error as a table's.

@@ -38,7 +38,6 @@ pub use change_laws::{
 };
 pub use changing::change_statements;
 pub use dropping::drop_statement;
-pub use reading::is_told;
 pub use replacing::{add_statements, drop_statements};
 pub use standing::stands;
 pub use stored_laws::{

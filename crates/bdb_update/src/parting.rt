@@ -182,7 +182,7 @@ pub fn drop_number<K: Keeper>(
         (others.SameBut is_of_tuples (K.seen keeper.old).kept (K.seen keeper.new).kept) }
     ensures changing { IsChanging (K.seen keeper.old) (K.seen keeper.new) result TabError.Fault }
 {
-    match is_told(alloc, keeper, &stmt.tuple, tid) {
+    match is_told(keeper, tid) {
         Ok(true) => return Ok(false),
         Ok(false) => {}
         Err(error) => return Err(error),

@@ -14,17 +14,16 @@ use bdb_val::{Stored, read_world};
 use bdb_worlds::longest_state;
 use std::alloc::{AllocError, Global};
 
-/// The statements at a path that is a state, in order, and the state's number.
+/// The statements at a path that is a state, in order.
 pub fn read_statements<K: Keeper>(
     alloc: Global,
     keeper: &mut K,
     path: &Path,
-) -> Result<(List<Stmt>, u32), TabError>
+) -> Result<List<Stmt>, TabError>
     requires running { (K.seen keeper.old).running ≡ true }
     requires base { SomeHasState (K.seen keeper.old).kept path.now }
-    ensures found { IfOk result
-        (λ found. StandAt (K.seen keeper.old).kept path.now found.0 found.1) }
-    ensures sorted { IfOk result (λ found. ascending statement_cmp found.0 ≡ true) }
+    ensures found { IfOk result (StandAt (K.seen keeper.old).kept path.now) }
+    ensures sorted { IfOk result (λ stmts. ascending statement_cmp stmts ≡ true) }
     ensures read { IsRead (K.seen keeper.old) (K.seen keeper.new) result TabError.Fault }
 {
     let (_, wid) = match longest_state(alloc, keeper, path.as_slice()) {
@@ -36,7 +35,7 @@ pub fn read_statements<K: Keeper>(
         Err(error) => return Err(error),
     };
     match stated_at(alloc, path, rows) {
-        Ok(stmts) => Ok((stmts, wid)),
+        Ok(stmts) => Ok(stmts),
         Err(_) => {
             keeper.undo();
             Err(TabError::Memory)

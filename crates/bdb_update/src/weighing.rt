@@ -48,8 +48,8 @@ pub fn weigh<K: Keeper>(
         (Weighs (K.seen keeper.old).kept counts.now path.now gone.now come.now) }
     ensures read { IsRead (K.seen keeper.old) (K.seen keeper.new) result TabError.Fault }
 {
-    let (stmts, wid) = match read_statements(alloc, keeper, path) {
-        Ok(found) => found,
+    let stmts = match read_statements(alloc, keeper, path) {
+        Ok(stmts) => stmts,
         Err(error) => return Err(error),
     };
     let rels = match key_relations(alloc, keeper) {
@@ -67,7 +67,7 @@ pub fn weigh<K: Keeper>(
         return Ok(Weight::Clashes(least));
     }
     let tuples = counts.tuples;
-    match tell_room(alloc, keeper, tuples, wid, reached.as_slice(), gone, come) {
+    match tell_room(alloc, keeper, tuples, reached.as_slice(), gone, come) {
         Ok(true) => Ok(Weight::Fits),
         Ok(false) => Ok(Weight::Fills),
         Err(error) => Err(error),
@@ -113,13 +113,11 @@ fn clash_among(
     }
 }
 
-// Whether there are not too many tuples after a change of statements at the path of a world, where `reached` are those that
-// stand there then.
+// Whether there are not too many tuples after a change of statements at a path, where `reached` are those that stand there then.
 fn tell_room<K: Keeper>(
     alloc: Global,
     keeper: &mut K,
     tuples: u32,
-    wid: u32,
     reached: &[Stmt],
     gone: &[Stmt],
     come: &[Stmt],
@@ -130,10 +128,10 @@ fn tell_room<K: Keeper>(
     requires gone { HasTuples gone.now }
     requires come { HasTuples come.now }
     ensures room { IfOk result
-        (TellsRoom (K.seen keeper.old).kept tuples wid reached.now gone.now come.now) }
+        (TellsRoom (K.seen keeper.old).kept tuples reached.now gone.now come.now) }
     ensures read { IsRead (K.seen keeper.old) (K.seen keeper.new) result TabError.Fault }
 {
-    let lost = match lost_of(alloc, keeper, wid, reached, gone) {
+    let lost = match lost_of(alloc, keeper, reached, gone) {
         Ok(lost) => lost,
         Err(error) => return Err(error),
     };

@@ -15,12 +15,12 @@ loop-stmt-preserved g c =
     let h = c.loop-stmt.invariant in
     let split : drop c.loop-stmt.stmt-index gone ≡ x ∷ rest = drop_more gone c.loop-stmt.stmt-index x c.loop-stmt-test.true ∙ ap (λ y. y ∷ rest) (sym c.stmt-item.is) in
     looking_more old mid (g.K.Keeper.seen c.is_lost.new.keeper) c.in-Ok.missing Fault h c.in-Ok.ensures.read
-    (lost_more old.kept mid.kept c.args.wid c.args.reached.now gone x rest c.loop-stmt.lost c.keep_if.new.kept c.in-Ok.missing h.quiet.kept
-    (subst (λ xs. LostSoFar old.kept c.args.wid c.args.reached.now gone xs c.loop-stmt.lost) split h.read) c.in-Ok.ensures.lost c.in-Ok-keep_if.ensures)
+    (lost_more old.kept mid.kept c.args.reached.now gone c.loop-stmt.stmt-index x rest c.loop-stmt.lost c.keep_if.new.kept c.in-Ok.missing h.quiet.kept split h.read
+    c.in-Ok.ensures.lost c.in-Ok-keep_if.ensures)
 
 pub returns-clause-lost : goal.returns-clause-lost
 returns-clause-lost g c =
     let t = (g.K.Keeper.seen c.args.keeper.now).kept in
     let gone = c.args.gone.now in
-    lost_all t c.args.wid c.args.reached.now gone c.loop-stmt.lost
-    (subst (λ xs. LostSoFar t c.args.wid c.args.reached.now gone xs c.loop-stmt.lost) (drop_all c.loop-stmt.stmt-index gone c.loop-stmt-test.false) c.loop-stmt.invariant.read)
+    lost_all t c.args.reached.now gone c.loop-stmt.lost
+    (subst (λ xs. LostSoFar t c.args.reached.now gone xs c.loop-stmt.lost) (drop_all c.loop-stmt.stmt-index gone c.loop-stmt-test.false) c.loop-stmt.invariant.read)

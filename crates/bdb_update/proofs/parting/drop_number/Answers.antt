@@ -5,19 +5,16 @@ use Rattle.bdb_update.specs.Numbering.{number_taken}
 use Rattle.bdb_update.specs.Parting.{LosesNumber}
 use Rattle.bdb_update.specs.Reads.{TellsTold}
 use Rattle.bdb_update.proofs.PartLemmas.{part_may_be_tuple}
-use Rattle.bdb_update.proofs.PartTupleLemmas.{number_kept, number_lost, number_told, fewer_over}
+use Rattle.bdb_update.proofs.PartTupleLemmas.{number_kept, number_lost, number_told}
 use Rattle.bdb_update.proofs.SpendLemmas.{number_gone_alone, number_stood}
 use Rattle.bdb_update.proofs.parting.drop_number.Goals as goal
-
-pub is_told-requires : goal.is_told-requires
-is_told-requires g c = record { grammar = fewer_over (g.K.Keeper.seen c.args.keeper.now).kept c.args.stmt.now c.requires.base }
 
 pub returns-in-Ok-true-clause-number : goal.returns-in-Ok-true-clause-number
 returns-in-Ok-true-clause-number g c =
     let t = (g.K.Keeper.seen c.args.keeper.now).kept in
     let x = c.args.stmt.now in
     subst (λ (v : Tables). LosesNumber t v x) (sym c.in-Ok-true.ensures.read.kept)
-    (number_kept t x c.args.tid c.requires.fits c.requires.number (subst (TellsTold t x.tuple c.args.tid) c.in-Ok-true.field-0-test c.in-Ok-true.ensures.told))
+    (number_kept t x c.args.tid c.requires.fits c.requires.number (subst (TellsTold t c.args.tid) c.in-Ok-true.field-0-test c.in-Ok-true.ensures.told))
 
 pub take_number-requires-clause-tuple : goal.take_number-requires-clause-tuple
 take_number-requires-clause-tuple g c = part_may_be_tuple c.requires.base.base c.args.stmt.now c.requires.base.may
@@ -27,20 +24,20 @@ returns-in-Ok-clause-number g c =
     let t = (g.K.Keeper.seen c.args.keeper.now).kept in
     let x = c.args.stmt.now in
     number_lost t x c.args.tid c.requires.fits c.requires.number (g.K.Keeper.seen c.take_number.new.keeper).kept
-    (subst (TellsTold t x.tuple c.args.tid) c.in-Ok-false.field-0-test c.in-Ok-false.ensures.told)
+    (subst (TellsTold t c.args.tid) c.in-Ok-false.field-0-test c.in-Ok-false.ensures.told)
     (c.in-Ok.ensures.taken ∙ ap (λ (v : Tables). number_taken v c.args.tid x.tuple) c.in-Ok-false.ensures.read.kept)
 
 pub returns-in-Ok-true-clause-tells : goal.returns-in-Ok-true-clause-tells
 returns-in-Ok-true-clause-tells g c =
     let t = (g.K.Keeper.seen c.args.keeper.now).kept in
     let x = c.args.stmt.now in
-    number_told t x c.args.tid c.requires.fits c.requires.number false true refl (subst (TellsTold t x.tuple c.args.tid) c.in-Ok-true.field-0-test c.in-Ok-true.ensures.told)
+    number_told t x c.args.tid c.requires.fits c.requires.number false true refl (subst (TellsTold t c.args.tid) c.in-Ok-true.field-0-test c.in-Ok-true.ensures.told)
 
 pub returns-in-Ok-clause-tells : goal.returns-in-Ok-clause-tells
 returns-in-Ok-clause-tells g c =
     let t = (g.K.Keeper.seen c.args.keeper.now).kept in
     let x = c.args.stmt.now in
-    number_told t x c.args.tid c.requires.fits c.requires.number true false refl (subst (TellsTold t x.tuple c.args.tid) c.in-Ok-false.field-0-test c.in-Ok-false.ensures.told)
+    number_told t x c.args.tid c.requires.fits c.requires.number true false refl (subst (TellsTold t c.args.tid) c.in-Ok-false.field-0-test c.in-Ok-false.ensures.told)
 
 pub returns-in-Ok-clause-others : goal.returns-in-Ok-clause-others
 returns-in-Ok-clause-others g c =

@@ -21,7 +21,7 @@ key_relations-requires-clause-grammar g c =
 pub returns-in-Some-clause-weighed : goal.returns-in-Some-clause-weighed
 returns-in-Some-clause-weighed g c =
     let rels = c.in-Ok-key_relations.rels in
-    weighs_clash (g.K.Keeper.seen c.args.keeper.now).kept c.args.counts.now c.args.path.now c.args.gone.now c.args.come.now c.in-Ok.found.0 c.in-Ok-reach.reached.0 c.in-Ok.found.1 rels c.in-Some.least
+    weighs_clash (g.K.Keeper.seen c.args.keeper.now).kept c.args.counts.now c.args.path.now c.args.gone.now c.args.come.now c.in-Ok.stmts c.in-Ok-reach.reached.0 rels c.in-Some.least
     (subst (λ (t : Tables). HaveKeyLengths t rels) c.in-Ok.ensures.read.kept c.in-Ok-key_relations.ensures.lengths) c.in-Ok.ensures.found c.in-Ok-reach.ensures.reached (sym c.in-Some.is ∙ c.in-Ok-reach.ensures.least)
 
 pub tell_room-requires-clause-grammar : goal.tell_room-requires-clause-grammar
@@ -31,7 +31,7 @@ tell_room-requires-clause-grammar g c =
 pub tell_room-requires-clause-reached : goal.tell_room-requires-clause-reached
 tell_room-requires-clause-reached g c =
     subst AreOfOnePath (sym c.as_slice.ensures)
-    (reached_stand (g.K.Keeper.seen c.args.keeper.now).kept c.args.counts.now c.args.path.now c.args.gone.now c.args.come.now c.in-Ok.found.0 c.in-Ok-reach.reached.0 c.in-Ok.found.1
+    (reached_stand (g.K.Keeper.seen c.args.keeper.now).kept c.args.counts.now c.args.path.now c.args.gone.now c.args.come.now c.in-Ok.stmts c.in-Ok-reach.reached.0
     c.requires.base c.in-Ok.ensures.found c.in-Ok-reach.ensures.reached)
 
 pub tell_room-requires-clause-gone : goal.tell_room-requires-clause-gone
@@ -46,10 +46,10 @@ returns-in-Ok-true-clause-weighed g c =
     let u = (g.K.Keeper.seen c.key_relations.new.keeper).kept in
     let same : u ≡ t = c.in-Ok-key_relations.ensures.read.kept ∙ c.in-Ok.ensures.read.kept in
     let rels = c.in-Ok-key_relations.rels in
-    weighs_room t u c.args.counts.now c.args.path.now c.args.gone.now c.args.come.now c.in-Ok.found.0 c.in-Ok-reach.reached.0 c.in-Ok.found.1 rels
+    weighs_room t u c.args.counts.now c.args.path.now c.args.gone.now c.args.come.now c.in-Ok.stmts c.in-Ok-reach.reached.0 rels
     (subst (λ (v : Tables). HaveKeyLengths v rels) c.in-Ok.ensures.read.kept c.in-Ok-key_relations.ensures.lengths) c.in-Ok.ensures.found c.in-Ok-reach.ensures.reached same (sym c.in_default.is ∙ c.in-Ok-reach.ensures.least)
-    (subst (λ (xs : List Stmt). TellsRoom u c.args.counts.now.tuples c.in-Ok.found.1 xs c.args.gone.now c.args.come.now true) c.as_slice.ensures
-    (subst (TellsRoom u c.args.counts.now.tuples c.in-Ok.found.1 c.as_slice.result.now c.args.gone.now c.args.come.now) c.in-Ok-true.field-0-test c.in-Ok-true.ensures.room))
+    (subst (λ (xs : List Stmt). TellsRoom u c.args.counts.now.tuples xs c.args.gone.now c.args.come.now true) c.as_slice.ensures
+    (subst (TellsRoom u c.args.counts.now.tuples c.as_slice.result.now c.args.gone.now c.args.come.now) c.in-Ok-true.field-0-test c.in-Ok-true.ensures.room))
 
 pub returns-in-Ok-false-clause-weighed : goal.returns-in-Ok-false-clause-weighed
 returns-in-Ok-false-clause-weighed g c =
@@ -57,14 +57,14 @@ returns-in-Ok-false-clause-weighed g c =
     let u = (g.K.Keeper.seen c.key_relations.new.keeper).kept in
     let same : u ≡ t = c.in-Ok-key_relations.ensures.read.kept ∙ c.in-Ok.ensures.read.kept in
     let rels = c.in-Ok-key_relations.rels in
-    weighs_none t u c.args.counts.now c.args.path.now c.args.gone.now c.args.come.now c.in-Ok.found.0 c.in-Ok-reach.reached.0 c.in-Ok.found.1 rels
+    weighs_none t u c.args.counts.now c.args.path.now c.args.gone.now c.args.come.now c.in-Ok.stmts c.in-Ok-reach.reached.0 rels
     (subst (λ (v : Tables). HaveKeyLengths v rels) c.in-Ok.ensures.read.kept c.in-Ok-key_relations.ensures.lengths) c.in-Ok.ensures.found c.in-Ok-reach.ensures.reached same (sym c.in_default.is ∙ c.in-Ok-reach.ensures.least)
-    (subst (λ (xs : List Stmt). TellsRoom u c.args.counts.now.tuples c.in-Ok.found.1 xs c.args.gone.now c.args.come.now false) c.as_slice.ensures
-    (subst (TellsRoom u c.args.counts.now.tuples c.in-Ok.found.1 c.as_slice.result.now c.args.gone.now c.args.come.now) c.in-Ok-false.field-0-test c.in-Ok-false.ensures.room))
+    (subst (λ (xs : List Stmt). TellsRoom u c.args.counts.now.tuples xs c.args.gone.now c.args.come.now false) c.as_slice.ensures
+    (subst (TellsRoom u c.args.counts.now.tuples c.as_slice.result.now c.args.gone.now c.args.come.now) c.in-Ok-false.field-0-test c.in-Ok-false.ensures.room))
 
 pub returns-in-Err-key_relations-clause-read : goal.returns-in-Err-key_relations-clause-read
 returns-in-Err-key_relations-clause-read g c =
     let old = g.K.Keeper.seen c.args.keeper.now in
     let a = g.K.Keeper.seen c.read_statements.new.keeper in
     read_err old a (g.K.Keeper.seen c.key_relations.new.keeper) c.in-Err-key_relations.error Fault c.requires.running
-    (quiet_read old a c.in-Ok.found Fault c.in-Ok.ensures.read) c.in-Err-key_relations.ensures.read
+    (quiet_read old a c.in-Ok.stmts Fault c.in-Ok.ensures.read) c.in-Err-key_relations.ensures.read
