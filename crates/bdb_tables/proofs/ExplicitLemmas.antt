@@ -1,5 +1,6 @@
 -- Marked rows of table 11 are explicit ones.
-use Rattle.std.proofs.Common.{◌≡◌, ◌∙◌, ℕ, Bool, true, false, nat_lt, List, ◌∷◌, Some, inl, inr, refl, ap, sym, subst}
+use Rattle.std.proofs.Common.{◌≡◌, ◌∙◌, ℕ, ◌<◌, ◌≤◌, Bool, true, false, nat_lt, List, [], ◌∷◌, length, Some, inl, inr, refl, ap, sym, subst, arith}
+use Rattle.std.specs.List.{AllByRecursion}
 use Rattle.std.specs.FinMap as tables
 use Rattle.std.proofs.lemmas.Bool.{cases_lt, lt-ltb, le-ltb}
 use Rattle.bdb_base.specs.SameLemmas.{same_text-Decides}
@@ -9,7 +10,7 @@ use Rattle.bdb_keep.specs.Marked.{IsMarkedAt, IsMarkedCount, four_bytes, is_mark
 use Rattle.bdb_keep.specs.Tables.{Tables}
 use Rattle.bdb_keep.specs.declared.keeper.KeyEnd.{KeyEnd}
 use Rattle.bdb_keep.specs.declared.keeper.KeyEnd.TheVariants.{First, Last}
-use Rattle.bdb_keep.proofs.MarkedLemmas.{none_marked, some_marked}
+use Rattle.bdb_keep.proofs.MarkedLemmas.{none_marked}
 use Rattle.bdb_key.proofs.Alone.{one_num}
 use Rattle.bdb_key.specs.Bytes.{num_bytes}
 use Rattle.bdb_key.specs.Grammar.{IsNum}
@@ -75,6 +76,18 @@ explicit_is_marked t end k g found = record {
   number = (same_text-Decides (four_bytes end (val_bytes k)) (num_bytes (number_at end k))).1 (four_are end k);
 }
 
+-- where some are counted, a row is marked
+pub some_marked : (t : Tables) (tab : ℕ) (end : KeyEnd) (word n : ℕ) → IsMarkedCount t tab end word n → 0 < n → (bytes : List ℕ) × IsMarkedAt t tab end word bytes
+some_marked t tab end word n c some = first c.keys c.each c.count
+  where
+    first : (keys : List (List ℕ)) → AllByRecursion (IsMarkedAt t tab end word) keys → length keys ≡ n → (bytes : List ℕ) × IsMarkedAt t tab end word bytes
+    first [] each e = absurd (omega (arith, e, some))
+    first (x ∷ xs) each e = (x, each.0)
+
+-- and where none is, none is marked
+pub none_there : (t : Tables) (tab : ℕ) (end : KeyEnd) (word n : ℕ) → IsMarkedCount t tab end word n → n ≤ 0 → (bytes : List ℕ) → IsMarkedAt t tab end word bytes → ⊥
+none_there t tab end word n c none = none_marked t tab end word (subst (IsMarkedCount t tab end word) (omega (arith, none)) c)
+
 -- whether there are marked rows of a world's number tells whether it has an explicit row
 pub count_tells : (t : Tables) (wid n : ℕ) → TableFits val_codec t → IsNum wid → IsMarkedCount t 11 First wid n → TellsExplicit t wid (nat_lt 0 n)
 count_tells t wid n fit num counted = elim (cases_lt 0 n) [
@@ -83,5 +96,5 @@ count_tells t wid n fit num counted = elim (cases_lt 0 n) [
       let x = marked_is_explicit t First wid m.0 fit num m.1 in
       subst (TellsExplicit t wid) (sym (lt-ltb 0 n some)) (record { key = x.key; sign = x.sign; fits = x.fits; world = x.number; row = x.row })
   | inr none ↦ subst (TellsExplicit t wid) (sym (le-ltb 0 n none)) (λ (x : HasExplicitRow t wid).
-      none_marked t 11 First wid n counted none (val_bytes x.key) (subst (λ w. IsMarkedAt t 11 First w (val_bytes x.key)) x.world (explicit_is_marked t First x.key x.sign x.row.found)))
+      none_there t 11 First wid n counted none (val_bytes x.key) (subst (λ w. IsMarkedAt t 11 First w (val_bytes x.key)) x.world (explicit_is_marked t First x.key x.sign x.row.found)))
 ]

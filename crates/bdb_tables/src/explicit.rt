@@ -8,7 +8,7 @@ ghost use Rattle.bdb_tables.specs.Grammar.{InGrammar};
 use crate::access::told;
 use crate::marks::MARKS;
 use crate::tab::TabError;
-use bdb_keep::{KeyEnd, Keeper};
+use bdb_keep::{Keeper, KeyEnd};
 
 /// Whether a world has an explicit row. One read.
 pub fn has_explicit<K: Keeper>(keeper: &mut K, wid: u32) -> Result<bool, TabError>

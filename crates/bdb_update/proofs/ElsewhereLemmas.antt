@@ -1,5 +1,5 @@
 -- Whether a tuple is told at another path than one at which it is stated, by how many of its rows are explicit.
-use Rattle.std.proofs.Common.{◌≡◌, ◌∙◌, ℕ, zero, suc, ◌<◌, ◌≤◌, Bool, true, false, not, ◌&&◌, ◌||◌, nat_lt, List, [], ◌∷◌, ◌++◌, append_assoc, drop, filter, refl, ap, sym, subst, inl, inr, Option, Some, None, is_some}
+use Rattle.std.proofs.Common.{◌≡◌, ◌∙◌, ℕ, zero, suc, ◌+◌, ◌-◌, ◌<◌, ◌≤◌, Bool, true, false, not, ◌&&◌, ◌||◌, nat_lt, List, [], ◌∷◌, ◌++◌, append_assoc, drop, filter, refl, ap, sym, subst, inl, inr, Option, Some, None, is_some, arith}
 use Rattle.std.specs.List.{list_all}
 use Rattle.std.proofs.lemmas.Bool.{cases_lt, and_parts, and_from, or_cases, or_left, or_right, cond-true, cond-false, false≢true, false_from_ne_true, not_from_false, not-true, lt-ltb, le-ltb}
 use Rattle.bdb_base.specs.Bases.{Contents, has_tuple}
@@ -15,7 +15,7 @@ use Rattle.bdb_base.proofs.WorldLemmas.{explicit_tuple}
 use Rattle.bdb_keep.specs.Marked.{IsMarkedCount}
 use Rattle.bdb_keep.specs.Tables.{Tables}
 use Rattle.bdb_keep.specs.declared.keeper.KeyEnd.TheVariants.{Last}
-use Rattle.bdb_keep.proofs.MarkedLemmas.{one_marked, other_marked}
+use Rattle.bdb_keep.proofs.MarkedLemmas.{another_marked, only_marked}
 use Rattle.bdb_key.specs.Bytes.{num_bytes, vals_bytes}
 use Rattle.bdb_key.specs.Rows.{IsTupleRow}
 use Rattle.bdb_key.proofs.Readings.{num_form}
@@ -24,6 +24,7 @@ use Rattle.bdb_tables.specs.Codec.{HasAt}
 use Rattle.bdb_tables.specs.InUse.{tuple_ix_codec, val_bytes}
 use Rattle.bdb_tables.specs.Names.{path_of, number_of}
 use Rattle.bdb_tables.specs.Stored.{Stores}
+use Rattle.bdb_tables.proofs.ExplicitLemmas.{none_there}
 use Rattle.bdb_val.specs.Settling.{row_key}
 use Rattle.bdb_update.specs.Differing.{AreWithin, has_told}
 use Rattle.bdb_update.specs.Elsewhere.{IsLost, AreLost, IsFresh, AreFresh, are_at, kept_if}
@@ -85,7 +86,8 @@ module _ (t : Tables) (u : Tuple) (tid n : ℕ) (counted : IsMarkedCount t 11 La
 
   more_tell : 2 ≤ n → told_elsewhere b.stmts w u ≡ true
   more_tell more =
-      let other = other_marked t 11 Last tid n counted more (key own.wid) in
+      let two : n ≡ (n - 2) + 2 = omega (arith, more) in
+      let other = another_marked t 11 Last tid (n - 2) (subst (IsMarkedCount t 11 Last tid) two counted) (key own.wid) in
       let x = marked_told b.stmts b.stmts s.names s.tuples t b s.stored u tid tuple other.0 other.1 in
       stated_elsewhere w x.0 u x.1.sign b.stmts (false_from_ne_true (same_path x.0 w) (λ e.
       let same : number_of s.names x.0 ≡ number_of s.names w = ap (number_of s.names) ((same_path-Decides x.0 w).0 e) in
@@ -93,11 +95,14 @@ module _ (t : Tables) (u : Tuple) (tid n : ℕ) (counted : IsMarkedCount t 11 La
       let one : x.1.wid ≡ own.wid = one_number (number_of s.names w) (sym same ∙ named x.1.wid x.0 x.1.world) (named own.wid w own.world) in
       other.2 (x.1.key ∙ ap key one))) x.1.there
 
+  is_one : n < 2 → n ≡ 1
+  is_one one = elim (cases_lt 0 n) [ inl some ↦ omega (arith, one, some) | inr none ↦ absurd (none_there t 11 Last tid n counted none (key own.wid) own.marked) ]
+
   one_tells : n < 2 → told_elsewhere b.stmts w u ≡ true → ⊥
   one_tells one e =
       let r = stated_at w u b.stmts e in
       let other = marked r.0 r.1 r.3 in
-      let same : key other.wid ≡ key own.wid = one_marked t 11 Last tid n counted one (key other.wid) (key own.wid) other.marked own.marked in
+      let same : key other.wid ≡ key own.wid = only_marked t 11 Last tid (subst (IsMarkedCount t 11 Last tid) (is_one one) counted) (key own.wid) (key other.wid) own.marked other.marked in
       let rest : List ℕ = num_bytes u.rel ++ vals_bytes (key_of (keys_of b) u) ++ num_bytes tid in
       let wid : other.wid ≡ own.wid = (num_form other.wid own.wid rest rest other.fits own.fits same).0 in
       let path : r.0 ≡ w = one_path (path_of s.names own.wid) (ap (path_of s.names) (sym wid) ∙ other.world) own.world in

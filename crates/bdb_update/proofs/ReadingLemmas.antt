@@ -1,5 +1,5 @@
 -- The rows of a tuple's number that are marked are those of the statements that have the tuple.
-use Rattle.std.proofs.Common.{◌≡◌, ◌∙◌, ℕ, Bool, true, false, ◌&&◌, nat_lt, List, [], ◌∷◌, Option, Some, None, MatchOption, inl, inr, is_some, refl, ap, sym, subst}
+use Rattle.std.proofs.Common.{◌≡◌, ◌∙◌, ℕ, Bool, true, ◌&&◌, nat_lt, List, [], ◌∷◌, Option, Some, None, MatchOption, inl, inr, is_some, refl, ap, sym, subst}
 use Rattle.std.specs.Option.{option_map}
 use Rattle.std.proofs.lemmas.Bool.{cases_lt, false≢true, false_from_ne_true, and_from, or_cases, or_left, or_right, lt-ltb, le-ltb}
 use Rattle.bdb_base.specs.Bases.{Contents}
@@ -13,7 +13,6 @@ use Rattle.bdb_base.proofs.WorldLemmas.{explicit_tuple}
 use Rattle.bdb_keep.specs.Marked.{IsMarkedAt, IsMarkedCount}
 use Rattle.bdb_keep.specs.Tables.{Tables}
 use Rattle.bdb_keep.specs.declared.keeper.KeyEnd.TheVariants.{Last}
-use Rattle.bdb_keep.proofs.MarkedLemmas.{none_marked, some_marked}
 use Rattle.bdb_key.specs.Grammar.{IsNum}
 use Rattle.bdb_key.specs.Rows.{IsTupleRow, mark_bytes}
 use Rattle.bdb_tables.specs.InUse.{ValKey, IsValKey, val_bytes}
@@ -22,7 +21,7 @@ use Rattle.bdb_tables.specs.Marks.{Mark, mark_of}
 use Rattle.bdb_tables.specs.Names.{Names, path_of, number_of}
 use Rattle.bdb_tables.specs.Rows.{Tuples, row_for}
 use Rattle.bdb_tables.specs.Stored.{StoredOver}
-use Rattle.bdb_tables.proofs.ExplicitLemmas.{IsExplicitAt, marked_is_explicit, explicit_is_marked}
+use Rattle.bdb_tables.proofs.ExplicitLemmas.{IsExplicitAt, marked_is_explicit, explicit_is_marked, none_there, some_marked}
 use Rattle.bdb_tables.proofs.Held.{some_same, none_some}
 use Rattle.bdb_val.specs.Settling.{row_key}
 use Rattle.bdb_val.proofs.HeldLemmas.{some_is, held_names, right_row, explicit_is_stated}
@@ -131,5 +130,5 @@ count_tells t tid n counted reached told ns ts b h within c u number = elim (cas
   | inr none ↦ le-ltb 0 n none ∙ sym (false_from_ne_true (has_told b.stmts u) (λ e.
       let x = told_explicit b.stmts u e in
       let m = told_marked reached told ns ts t b h u tid number within c x.0 x.1 x.2 in
-      none_marked t 11 Last tid n counted none (val_bytes (row_key (keys_of b) m.wid tid u)) m.marked))
+      none_there t 11 Last tid n counted none (val_bytes (row_key (keys_of b) m.wid tid u)) m.marked))
 ]

@@ -18,9 +18,9 @@ use std::alloc::Global;
 /// Puts statements of a path in place of others of it, in the base that the tables store, whose sizes are `counts`. `Clash`
 /// comes exactly where two statements of the path would clash then, with the least that clashes with another, and `Full`
 /// exactly where none would and there would be too many tuples; at both nothing is written. Worlds and tuples of statements
-/// that stay keep their numbers. It reads the path's rows and, for each statement that goes, a row or two of each world; then
-/// it takes statements away and adds others, one after the other. For each of them there are no more writes than
-/// `drop_statement` or `add_statement` makes for it.
+/// that stay keep their numbers. It reads the path's rows, and makes at most two reads for each statement that goes and one for
+/// each that comes, however many worlds there are; then it takes statements away and adds others, one after the other. For each
+/// of them there are no more writes than `drop_statement` or `add_statement` makes for it.
 pub fn change_statements<K: Keeper>(
     alloc: Global,
     keeper: &mut K,

@@ -5,7 +5,7 @@ ghost use Rattle.bdb_keep.specs.Marked.{IsMarkedCount};
 ghost use Rattle.bdb_update.specs.Reads.{TellsTold};
 
 use crate::keys::table_error;
-use bdb_keep::{KeyEnd, Keeper};
+use bdb_keep::{Keeper, KeyEnd};
 use bdb_tables::{Tab, TabError, ValTab};
 
 /// Whether a statement of the stored base has the tuple of a number: whether some world has an explicit row of it. One read,
