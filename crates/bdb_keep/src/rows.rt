@@ -231,7 +231,8 @@ impl Rows {
 
     /// Whether the row at a place is one of the marked rows that are counted as they come and go.
     fn has_marked(&self, probe: &Probe<'_>) -> bool
-        ensures { result ≡ is_marked_in tallied_table probe.now (map.get (rows_of self.now) probe.now) }
+        ensures { result ≡ is_marked_in tallied_table probe.now
+            (map.get (rows_of self.now) probe.now) }
     {
         match self.row_at(probe) {
             Some(row) => is_marked_in(TABLE, probe, row),

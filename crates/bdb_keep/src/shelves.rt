@@ -161,7 +161,8 @@ fn read_under_behind(
 ) -> Result<(), AllocError>
     requires sorted { AreSorted shelves.now }
     requires place { probe.now ≡ tab ∷ prefix.now }
-    ensures { OnOk result (span.new ≡ span.old ++ entries_under probe.now (after shelves.now start 0)) }
+    ensures { OnOk result
+        (span.new ≡ span.old ++ entries_under probe.now (after shelves.now start 0)) }
 {
     let mut at = start;
     while at < shelves.len() {
@@ -511,7 +512,8 @@ fn shelf_for(shelves: &[Shelf], used: usize, probe: &Probe<'_>) -> Option<usize>
 fn shelf_behind(shelves: &[Shelf], start: usize, probe: &Probe<'_>) -> Option<usize>
     requires sorted { AreSorted shelves.now }
     requires shelf { start < length shelves.now }
-    requires starts { 0 < start → starts_within probe.now (slice_index_or shelves.now start []) ≡ true }
+    requires starts { 0 < start → starts_within probe.now (slice_index_or shelves.now start [])
+        ≡ true }
     ensures shelf { IfSome result (λ at. IsBlockFor shelves.now probe.now at) }
     ensures none { IfNone result (joined shelves.now ≡ []) }
 {
@@ -543,7 +545,7 @@ fn is_from(shelves: &[Shelf], at: usize, probe: &Probe<'_>) -> bool
     shelf_at(shelves, at).starts_within(probe)
 }
 
-/// The shelf that a place belongs on, by halves.
+/// The shelf that a place belongs on, by binary search.
 fn search(shelves: &[Shelf], probe: &Probe<'_>) -> Option<usize>
     requires { AreSorted shelves.now }
     ensures shelf { IfSome result (λ at. IsBlockFor shelves.now probe.now at) }
