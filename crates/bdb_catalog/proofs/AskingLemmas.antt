@@ -25,10 +25,11 @@ use Rattle.bdb_key.specs.Rows.{IsTupleRow}
 use Rattle.bdb_key.proofs.Readings.{num_form, value_form}
 use Rattle.bdb_tables.specs.InUse.{val_bytes}
 use Rattle.bdb_tables.specs.Rows.{AreKeyLengths}
+use Rattle.bdb_tables.specs.Beginnings.{HasPutValues, is_written, led_by}
 use Rattle.bdb_val.specs.Reads.{IsSpan}
 use Rattle.bdb_val.specs.Settling.{row_key}
 use Rattle.bdb_val.proofs.ReadLemmas.{prefix_append, prefix_rest, key_of_fits}
-use Rattle.bdb_catalog.specs.Taking.{HasPutValues, asks_for, beginning, first_there, is_asked, is_written, led_by, literal_of, starts_with, value_asked, value_of_test, values_asked, values_from}
+use Rattle.bdb_catalog.specs.Taking.{asks_for, beginning, first_there, is_asked, literal_of, starts_with, value_asked, value_of_test, values_asked, values_from}
 
 -- ---- what a tuple has that meets tests
 

@@ -6,7 +6,7 @@ ghost use Rattle.bdb_catalog.specs.Bases.{StoresValid};
 ghost use Rattle.bdb_keep.specs.Seen.{IsAtRest};
 ghost use Rattle.bdb_keep.specs.Tables.{LieInTables};
 ghost use Rattle.bdb_entries.specs.Format.{HasFormat};
-ghost use Rattle.bdb_entries.specs.Reading.{OnlyReads};
+ghost use Rattle.bdb_tables.specs.Reading.{OnlyReads};
 ghost use Rattle.bdb_decode.specs.Judging.{TellsVerdict};
 ghost use Rattle.bdb_decode.specs.Parts.{AreFormed, AreParts, StoreNone};
 

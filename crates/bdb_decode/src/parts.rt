@@ -3,7 +3,7 @@ ghost use Rattle.std.specs.Prelude.{◌≡◌, ◌≤◌, length, map, IfOk, Mat
 ghost use Rattle.bdb_base.specs.Bases.{is_user};
 ghost use Rattle.bdb_base.specs.Limits.{most_users};
 ghost use Rattle.bdb_tables.specs.Grammar.{InGrammar};
-ghost use Rattle.bdb_entries.specs.Reading.{OnlyReads};
+ghost use Rattle.bdb_tables.specs.Reading.{OnlyReads};
 ghost use Rattle.bdb_decode.specs.Parts.{AreParts, ArePaths, HoldNoneOver, StoreNone, path_row};
 
 use crate::limits::worlds_are_within_limits;
@@ -26,7 +26,8 @@ pub struct Parts {
 pub fn raw_parts<K: Keeper>(alloc: Global, keeper: &mut K) -> Result<Option<Parts>, TabError>
     requires grammar { InGrammar (K.seen keeper.old).kept }
     ensures parts { IfOk result (λ r. MatchOption r (StoreNone (K.seen keeper.old).kept)
-        (λ parts. AreParts (K.seen keeper.old).kept parts.catalog parts.paths.items parts.tuples.items)) }
+        (λ parts. AreParts (K.seen keeper.old).kept parts.catalog parts.paths.items
+        parts.tuples.items)) }
     ensures reading { OnlyReads (K.seen keeper.old) (K.seen keeper.new) result TabError.Fault }
 {
     let catalog = match raw_catalog(alloc, keeper) {
@@ -65,7 +66,8 @@ fn raw_paths<K: Keeper>(
 ) -> Result<Option<Vec<(u32, Path)>>, TabError>
     requires grammar { InGrammar (K.seen keeper.old).kept }
     requires users { length users.now ≤ most_users }
-    ensures paths { IfOk result (λ r. MatchOption r (HoldNoneOver (is_user users.now) (K.seen keeper.old).kept)
+    ensures paths { IfOk result
+        (λ r. MatchOption r (HoldNoneOver (is_user users.now) (K.seen keeper.old).kept)
         (λ paths. ArePaths (is_user users.now) (K.seen keeper.old).kept paths.items)) }
     ensures reading { OnlyReads (K.seen keeper.old) (K.seen keeper.new) result TabError.Fault }
 {

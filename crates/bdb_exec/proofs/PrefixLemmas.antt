@@ -8,8 +8,8 @@ use Rattle.bdb_base.specs.declared.tuple.Tuple.{Tuple}
 use Rattle.bdb_key.specs.Bytes.{value_bytes, values_bytes}
 use Rattle.bdb_key.specs.Grammar.{IsPlainValue, IsWhole}
 use Rattle.bdb_plan.specs.declared.step.Step.{Step}
-use Rattle.bdb_exec.specs.Keys.{led_by, value_behind, values_behind}
-use Rattle.bdb_exec.specs.Rows.{HasPutValues, is_written}
+use Rattle.bdb_exec.specs.Keys.{value_behind, values_behind}
+use Rattle.bdb_tables.specs.Beginnings.{HasPutValues, is_written, led_by}
 
 plain_value : (v : Value) → is_written v ≡ true → IsWhole v → IsPlainValue v
 plain_value (Int m) w h = h

@@ -11,7 +11,7 @@ ghost use Rattle.bdb_tables.specs.Grammar.{InGrammar};
 ghost use Rattle.bdb_tables.specs.InUse.{edge_codec};
 ghost use Rattle.bdb_tables.specs.Names.{edge_from, edge_of};
 ghost use Rattle.bdb_tables.specs.Writes.{Gives};
-ghost use Rattle.bdb_entries.specs.Reading.{OnlyReads};
+ghost use Rattle.bdb_tables.specs.Reading.{OnlyReads};
 ghost use Rattle.bdb_graph.specs.Naming.{names_of};
 ghost use Rattle.bdb_graph.specs.States.{AllKeysPass, AreIndexed, HasEdgeFor, HasEdges, HasNextKey, IsWorldOf, is_edge_key, is_right, number_of_world};
 
@@ -34,8 +34,12 @@ pub fn are_edges_held<K: Keeper>(
     requires grammar { InGrammar (K.seen keeper.old).kept }
     requires users { length users.now ≤ most_users }
     requires worlds { AreIndexed worlds.now paths.now }
-    ensures held { IfOk result (λ held. MatchBool held (Gives edge_codec (K.seen keeper.old).kept (edge_of (is_user users.now) (names_of worlds.now)))
-        (Gives edge_codec (K.seen keeper.old).kept (edge_of (is_user users.now) (names_of worlds.now)) → ⊥)) }
+    ensures held { IfOk result
+        (λ held. MatchBool held
+        (Gives edge_codec (K.seen keeper.old).kept
+        (edge_of (is_user users.now) (names_of worlds.now)))
+        (Gives edge_codec (K.seen keeper.old).kept
+        (edge_of (is_user users.now) (names_of worlds.now)) → ⊥)) }
     ensures reading { OnlyReads (K.seen keeper.old) (K.seen keeper.new) result TabError.Fault }
 {
     match each_has_edges(alloc, keeper, users, worlds, paths) {
@@ -60,8 +64,12 @@ fn each_has_edges<K: Keeper>(
     requires grammar { InGrammar (K.seen keeper.old).kept }
     requires users { length users.now ≤ most_users }
     requires worlds { AreIndexed worlds.now paths.now }
-    ensures edges { IfOk result (λ b. MatchBool b (AllByRecursion (HasEdges (K.seen keeper.old).kept (is_user users.now) worlds.now) worlds.now)
-        (AllByRecursion (HasEdges (K.seen keeper.old).kept (is_user users.now) worlds.now) worlds.now → ⊥)) }
+    ensures edges { IfOk result
+        (λ b. MatchBool b
+        (AllByRecursion (HasEdges (K.seen keeper.old).kept (is_user users.now) worlds.now)
+        worlds.now)
+        (AllByRecursion (HasEdges (K.seen keeper.old).kept (is_user users.now) worlds.now)
+        worlds.now → ⊥)) }
     ensures reading { OnlyReads (K.seen keeper.old) (K.seen keeper.new) result TabError.Fault }
 {
     for world in worlds {
@@ -87,7 +95,9 @@ fn has_edges<K: Keeper>(
     requires users { length users.now ≤ most_users }
     requires worlds { AreIndexed worlds.now paths.now }
     requires world { IsWorldOf worlds.now world.now }
-    ensures edges { IfOk result (λ has. MatchBool has (HasEdges (K.seen keeper.old).kept (is_user users.now) worlds.now world.now)
+    ensures edges { IfOk result
+        (λ has. MatchBool has
+        (HasEdges (K.seen keeper.old).kept (is_user users.now) worlds.now world.now)
         (HasEdges (K.seen keeper.old).kept (is_user users.now) worlds.now world.now → ⊥)) }
     ensures reading { OnlyReads (K.seen keeper.old) (K.seen keeper.new) result TabError.Fault }
 {
@@ -118,7 +128,9 @@ fn has_edge<K: Keeper>(
     requires worlds { AreIndexed worlds.now paths.now }
     requires world { IsWorldOf worlds.now world.now }
     requires user { is_user users.now uid ≡ true }
-    ensures edge { IfOk result (λ has. MatchBool has (HasEdgeFor (K.seen keeper.old).kept (is_user users.now) worlds.now world.now uid)
+    ensures edge { IfOk result
+        (λ has. MatchBool has
+        (HasEdgeFor (K.seen keeper.old).kept (is_user users.now) worlds.now world.now uid)
         (HasEdgeFor (K.seen keeper.old).kept (is_user users.now) worlds.now world.now uid → ⊥)) }
     ensures reading { OnlyReads (K.seen keeper.old) (K.seen keeper.new) result TabError.Fault }
 {
@@ -189,7 +201,9 @@ fn are_edges_of_worlds<K: Keeper>(
 ) -> Result<bool, TabError>
     requires grammar { InGrammar (K.seen keeper.old).kept }
     requires sorted { ascending nat_cmp (map number_of_world worlds.now) ≡ true }
-    ensures keys { IfOk result (λ b. MatchBool b (AllKeysPass edge_codec (K.seen keeper.old).kept (is_edge_key users.now worlds.now))
+    ensures keys { IfOk result
+        (λ b. MatchBool b
+        (AllKeysPass edge_codec (K.seen keeper.old).kept (is_edge_key users.now worlds.now))
         (AllKeysPass edge_codec (K.seen keeper.old).kept (is_edge_key users.now worlds.now) → ⊥)) }
     ensures reading { OnlyReads (K.seen keeper.old) (K.seen keeper.new) result TabError.Fault }
 {

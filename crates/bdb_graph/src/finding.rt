@@ -35,7 +35,7 @@ pub fn have_own_paths(users: &[UserSlot], worlds: &[World]) -> bool
         .all(|world| are_users(users, world.path.as_slice()))
 }
 
-/// Whether a number is that of a world. The search goes by halves.
+/// Whether a number is that of a world. It is a binary search.
 pub fn is_world(worlds: &[World], wid: u32) -> bool
     requires { ascending nat_cmp (map number_of_world worlds.now) ≡ true }
     ensures { result ≡ is_world worlds.now wid }
@@ -46,8 +46,8 @@ pub fn is_world(worlds: &[World], wid: u32) -> bool
     }
 }
 
-/// Whether a path leads to a world: its deepest suffix that is the path of one is the path of this one. The searches go
-/// by halves.
+/// Whether a path leads to a world: its deepest suffix that is the path of one is the path of this one. The searches are
+/// binary.
 pub fn leads_to(worlds: &[World], paths: &[Path], users: &[u32], wid: u32) -> bool
     requires { AreIndexed worlds.now paths.now }
     ensures { result ≡ leads_to (target_of (names_of worlds.now) users.now) wid }

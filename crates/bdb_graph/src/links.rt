@@ -9,7 +9,7 @@ ghost use Rattle.bdb_tables.specs.Grammar.{InGrammar};
 ghost use Rattle.bdb_tables.specs.InUse.{link_codec};
 ghost use Rattle.bdb_tables.specs.Names.{link_of};
 ghost use Rattle.bdb_tables.specs.Writes.{Gives};
-ghost use Rattle.bdb_entries.specs.Reading.{OnlyReads};
+ghost use Rattle.bdb_tables.specs.Reading.{OnlyReads};
 ghost use Rattle.bdb_graph.specs.Naming.{names_of};
 ghost use Rattle.bdb_graph.specs.States.{AllKeysPass, AreIndexed, HasLink, HasNextKey, IsWorldOf, is_right, is_world, link_from, number_of_world};
 
@@ -29,7 +29,9 @@ pub fn are_links_held<K: Keeper>(
 ) -> Result<bool, TabError>
     requires grammar { InGrammar (K.seen keeper.old).kept }
     requires worlds { AreIndexed worlds.now paths.now }
-    ensures held { IfOk result (λ held. MatchBool held (Gives link_codec (K.seen keeper.old).kept (link_of (names_of worlds.now)))
+    ensures held { IfOk result
+        (λ held. MatchBool held
+        (Gives link_codec (K.seen keeper.old).kept (link_of (names_of worlds.now)))
         (Gives link_codec (K.seen keeper.old).kept (link_of (names_of worlds.now)) → ⊥)) }
     ensures reading { OnlyReads (K.seen keeper.old) (K.seen keeper.new) result TabError.Fault }
 {
@@ -53,7 +55,8 @@ fn each_has_link<K: Keeper>(
 ) -> Result<bool, TabError>
     requires grammar { InGrammar (K.seen keeper.old).kept }
     requires worlds { AreIndexed worlds.now paths.now }
-    ensures links { IfOk result (λ b. MatchBool b (AllByRecursion (HasLink (K.seen keeper.old).kept worlds.now) worlds.now)
+    ensures links { IfOk result
+        (λ b. MatchBool b (AllByRecursion (HasLink (K.seen keeper.old).kept worlds.now) worlds.now)
         (AllByRecursion (HasLink (K.seen keeper.old).kept worlds.now) worlds.now → ⊥)) }
     ensures reading { OnlyReads (K.seen keeper.old) (K.seen keeper.new) result TabError.Fault }
 {
@@ -111,7 +114,8 @@ fn are_links_of_worlds<K: Keeper>(
 ) -> Result<bool, TabError>
     requires grammar { InGrammar (K.seen keeper.old).kept }
     requires sorted { ascending nat_cmp (map number_of_world worlds.now) ≡ true }
-    ensures keys { IfOk result (λ b. MatchBool b (AllKeysPass link_codec (K.seen keeper.old).kept (is_world worlds.now))
+    ensures keys { IfOk result
+        (λ b. MatchBool b (AllKeysPass link_codec (K.seen keeper.old).kept (is_world worlds.now))
         (AllKeysPass link_codec (K.seen keeper.old).kept (is_world worlds.now) → ⊥)) }
     ensures reading { OnlyReads (K.seen keeper.old) (K.seen keeper.new) result TabError.Fault }
 {

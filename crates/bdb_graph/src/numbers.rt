@@ -23,7 +23,7 @@ impl<X> Numbered for (u32, X) {
     }
 }
 
-/// The place of a number among those of items, which are in order. The search goes by halves.
+/// The place of a number among those of items, which are in order. It is a binary search.
 pub fn place_of_number<X: Numbered>(items: &[X], number: u32) -> Option<usize>
     requires { ascending nat_cmp (map X.number_of items.now) ≡ true }
     ensures { MatchOption result (is_member nat_cmp (map X.number_of items.now) number ≡ false)

@@ -5,7 +5,7 @@ ghost use Rattle.bdb_base.specs.Bases.{is_user};
 ghost use Rattle.bdb_base.specs.Limits.{most_users};
 ghost use Rattle.bdb_tables.specs.Grammar.{InGrammar};
 ghost use Rattle.bdb_tables.specs.States.{HoldsStates};
-ghost use Rattle.bdb_entries.specs.Reading.{OnlyReads};
+ghost use Rattle.bdb_tables.specs.Reading.{OnlyReads};
 ghost use Rattle.bdb_graph.specs.Naming.{AreWorlds, names_of};
 ghost use Rattle.bdb_graph.specs.States.{AreIndexed};
 
@@ -21,8 +21,8 @@ use std::alloc::Global;
 
 /// Whether the tables hold the states of these worlds over these users: their suffix links and edges are those of the paths, and two
 /// more tables have them turned round; a world that is named by one who is gone, or has an edge for him, is none of them. Beside
-/// what the last takes, a read for each world and live user and one for each link and edge; where a path leads is searched by
-/// halves among the paths in order.
+/// what the last takes, a read for each world and live user and one for each link and edge; where a path leads is found by
+/// binary search among the paths in order.
 pub fn are_states_held<K: Keeper>(
     alloc: Global,
     keeper: &mut K,
@@ -32,7 +32,9 @@ pub fn are_states_held<K: Keeper>(
     requires grammar { InGrammar (K.seen keeper.old).kept }
     requires worlds { AreWorlds (K.seen keeper.old).kept worlds.now }
     requires users { length users.now ≤ most_users }
-    ensures held { IfOk result (λ held. MatchBool held (HoldsStates (is_user users.now) (names_of worlds.now) (K.seen keeper.old).kept)
+    ensures held { IfOk result
+        (λ held. MatchBool held
+        (HoldsStates (is_user users.now) (names_of worlds.now) (K.seen keeper.old).kept)
         (HoldsStates (is_user users.now) (names_of worlds.now) (K.seen keeper.old).kept → ⊥)) }
     ensures reading { OnlyReads (K.seen keeper.old) (K.seen keeper.new) result TabError.Fault }
 {
@@ -61,7 +63,9 @@ fn are_held<K: Keeper>(
     requires worlds { AreWorlds (K.seen keeper.old).kept worlds.now }
     requires users { length users.now ≤ most_users }
     requires found { AreIndexed worlds.now paths.now }
-    ensures held { IfOk result (λ held. MatchBool held (HoldsStates (is_user users.now) (names_of worlds.now) (K.seen keeper.old).kept)
+    ensures held { IfOk result
+        (λ held. MatchBool held
+        (HoldsStates (is_user users.now) (names_of worlds.now) (K.seen keeper.old).kept)
         (HoldsStates (is_user users.now) (names_of worlds.now) (K.seen keeper.old).kept → ⊥)) }
     ensures reading { OnlyReads (K.seen keeper.old) (K.seen keeper.new) result TabError.Fault }
 {

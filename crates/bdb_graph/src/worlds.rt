@@ -1,7 +1,7 @@
 // The worlds of tables of any bytes.
 ghost use Rattle.std.specs.Prelude.{IfOk, MatchOption};
 ghost use Rattle.bdb_tables.specs.Grammar.{InGrammar};
-ghost use Rattle.bdb_entries.specs.Reading.{OnlyReads};
+ghost use Rattle.bdb_tables.specs.Reading.{OnlyReads};
 ghost use Rattle.bdb_graph.specs.Naming.{AreWorlds};
 ghost use Rattle.bdb_graph.specs.Ups.{HoldNoStates};
 

@@ -16,7 +16,7 @@ abbrev pub coded_told : Coded Told
 coded_told = code_by (Seen × List (List ℕ)) (coded× coded_seen (coded_list (coded_list coded_ℕ)))
     (λ t. (t.seen, t.changes)) (λ p. record { seen = p.0; changes = p.1 }) (λ _. refl)
 
--- a call is refused only by want of memory, and counts no fault
+-- a call is refused only where memory runs out, and counts no fault
 pub record HasNoFault {T : Type 0} (old new : Seen) (result : Result T KeepError) : Type 0 where
   pub memory : IfErr result (λ error. error ≡ Memory)
   pub faults : new.faults ≡ old.faults

@@ -39,7 +39,8 @@ pub fn add(
     requires gap { IsGap blocks.old.items probe.now spot.0 spot.1 }
     ensures sorted { AreSorted blocks.new.items }
     ensures ok { OnOk result
-        (joined blocks.new.items ≡ before blocks.old.items spot.0 spot.1 ++ (probe.now, Some row.now)
+        (joined blocks.new.items ≡ before blocks.old.items spot.0 spot.1
+        ++ (probe.now, Some row.now)
         ∷ after blocks.old.items spot.0 spot.1) }
     ensures err { OnErr result (joined blocks.new.items ≡ joined blocks.old.items) }
 {

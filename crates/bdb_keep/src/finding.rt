@@ -154,8 +154,8 @@ pub fn find_behind(
     }
 }
 
-/// Where the first place stands, or would stand, that isn't below the one that is looked for, by halves: first the block, and then the
-/// index in it.
+/// Where the first place stands, or would stand, that isn't below the one that is looked for, by binary search: first the block,
+/// and then the index in it.
 pub fn seek(blocks: &[Block], probe: &Probe<'_>) -> Spot
     requires { AreSorted blocks.now }
     ensures { IsBound blocks.now probe.now result.0 result.1 }

@@ -72,7 +72,8 @@ impl Head {
     #[inline(always)]
     pub fn append_to(&self, key: &mut Vec<u8>) -> Result<(), AllocError>
         requires { self.now.count ≤ 32 }
-        ensures ok { OnOk result (key.new.items ≡ key.old.items ++ take self.now.count (bytes_of self.now)) }
+        ensures ok { OnOk result
+            (key.new.items ≡ key.old.items ++ take self.now.count (bytes_of self.now)) }
         ensures err { OnErr result (key.new.items ≡ key.old.items) }
     {
         key.extend_from_slice(&all_bytes(self))?;

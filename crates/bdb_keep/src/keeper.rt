@@ -68,7 +68,8 @@ pub trait Keeper {
     fn under(&mut self, tab: u8, prefix: &[u8], span: &mut Span) -> Result<(), KeepError>
         requires table { (1 ≤ tab) × (tab ≤ 15) }
         ensures rows { OnOk result (AreRowsUnder (seen self.old).kept tab prefix.now span.new) }
-        ensures reads { OnOk result (RoseBy (length span.new + 1) (seen self.old).reads (seen self.new).reads) }
+        ensures reads { OnOk result
+            (RoseBy (length span.new + 1) (seen self.old).reads (seen self.new).reads) }
         ensures read { IsRead (seen self.old) (seen self.new) result KeepError.Fault };
 
     /// Puts a row at a key, in place of the row that stood there.
@@ -97,7 +98,8 @@ pub trait Keeper {
         requires running { (seen self.old).running ≡ true }
         ensures kept { OnOk result ((seen self.new).kept
             ≡ with_rows tab (seen self.old).kept span.now) }
-        ensures writes { OnOk result (RoseBy (length span.now) (seen self.old).writes (seen self.new).writes) }
+        ensures writes { OnOk result
+            (RoseBy (length span.now) (seen self.old).writes (seen self.new).writes) }
         ensures write { IsWrite (seen self.old) (seen self.new) result KeepError.Fault };
 
     /// Takes the rows at the keys of a span away, one after the other, where they are there. Where it is Ok it counts as so many
@@ -107,7 +109,8 @@ pub trait Keeper {
         requires running { (seen self.old).running ≡ true }
         ensures kept { OnOk result ((seen self.new).kept
             ≡ without_rows tab (seen self.old).kept span.now) }
-        ensures writes { OnOk result (RoseBy (length span.now) (seen self.old).writes (seen self.new).writes) }
+        ensures writes { OnOk result
+            (RoseBy (length span.now) (seen self.old).writes (seen self.new).writes) }
         ensures write { IsWrite (seen self.old) (seen self.new) result KeepError.Fault };
 
     /// Makes the rows those last committed, and ends the transaction.

@@ -14,7 +14,7 @@ use crate::store::Store;
 use std::alloc::{AllocError, Global};
 use std::marker::Model;
 
-/// The rows of a keeper, whether a transaction runs, and the four counts. Its calls are refused by want of memory alone,
+/// The rows of a keeper, whether a transaction runs, and the four counts. Its calls are refused only where memory runs out,
 /// and then undo the transaction. A keeper that can be refused for another reason asks for that itself, by `refuse`.
 #[derive(Drop)]
 pub struct Ledger {
@@ -35,20 +35,24 @@ impl Model for Ledger {
     ghost coded = { coded_told };
 
     ghost view = { λ l. record {
-      seen = record { kept = l.store.kept; last = l.store.last; running = l.running; faults = l.faults; reads = l.reads; writes = l.writes; commits = l.commits };
+      seen = record { kept = l.store.kept; last = l.store.last; running = l.running;
+      faults = l.faults; reads = l.reads; writes = l.writes; commits = l.commits };
       changes = l.store.changes;
     } };
 
     ghost use Rattle.bdb_keep.specs.Told.{IsSound};
 
-    ghost invariant = { λ l. IsSound (record { kept = l.store.kept; last = l.store.last; running = l.running; faults = l.faults; reads = l.reads; writes = l.writes; commits = l.commits }) };
+    ghost invariant = { λ l. IsSound
+        (record { kept = l.store.kept; last = l.store.last; running = l.running; faults = l.faults;
+        reads = l.reads; writes = l.writes; commits = l.commits }) };
 }
 
 impl Ledger {
     /// A ledger with no rows. It takes no memory.
     pub fn new(alloc: Global) -> Self
         ensures { result ≡ record {
-          seen = record { kept = map.empty; last = map.empty; running = false; faults = 0; reads = 0; writes = 0; commits = 0 };
+          seen = record { kept = map.empty; last = map.empty; running = false; faults = 0;
+          reads = 0; writes = 0; commits = 0 };
           changes = [];
         } }
     {
@@ -60,7 +64,8 @@ impl Ledger {
         requires settled { store.kept ≡ store.last }
         requires tables { LieInTables store.kept }
         ensures { result ≡ record {
-          seen = record { kept = store.kept; last = store.last; running = false; faults = faults; reads = 0; writes = 0; commits = 0 };
+          seen = record { kept = store.kept; last = store.last; running = false; faults = faults;
+          reads = 0; writes = 0; commits = 0 };
           changes = store.changes;
         } }
     {
@@ -138,7 +143,8 @@ impl Ledger {
     pub fn under(&mut self, tab: u8, prefix: &[u8], span: &mut Span) -> Result<(), KeepError>
         requires table { (1 ≤ tab) × (tab ≤ 15) }
         ensures rows { OnOk result (AreRowsUnder self.old.seen.kept tab prefix.now span.new) }
-        ensures reads { OnOk result (RoseBy (length span.new + 1) self.old.seen.reads self.new.seen.reads) }
+        ensures reads { OnOk result
+            (RoseBy (length span.new + 1) self.old.seen.reads self.new.seen.reads) }
         ensures read { IsRead self.old.seen self.new.seen result KeepError.Fault }
         ensures calm { HasNoFault self.old.seen self.new.seen result }
     {
@@ -203,7 +209,8 @@ impl Ledger {
         requires running { self.old.seen.running ≡ true }
         ensures kept { OnOk result
             (self.new.seen.kept ≡ with_rows tab self.old.seen.kept span.now) }
-        ensures writes { OnOk result (RoseBy (length span.now) self.old.seen.writes self.new.seen.writes) }
+        ensures writes { OnOk result
+            (RoseBy (length span.now) self.old.seen.writes self.new.seen.writes) }
         ensures write { IsWrite self.old.seen self.new.seen result KeepError.Fault }
         ensures calm { HasNoFault self.old.seen self.new.seen result }
     {
@@ -225,7 +232,8 @@ impl Ledger {
         requires running { self.old.seen.running ≡ true }
         ensures kept { OnOk result
             (self.new.seen.kept ≡ without_rows tab self.old.seen.kept span.now) }
-        ensures writes { OnOk result (RoseBy (length span.now) self.old.seen.writes self.new.seen.writes) }
+        ensures writes { OnOk result
+            (RoseBy (length span.now) self.old.seen.writes self.new.seen.writes) }
         ensures write { IsWrite self.old.seen self.new.seen result KeepError.Fault }
         ensures calm { HasNoFault self.old.seen self.new.seen result }
     {
@@ -243,7 +251,8 @@ impl Ledger {
     /// Makes the rows those last committed, and ends the transaction. It takes no memory.
     pub fn commit(&mut self)
         ensures committed { self.new ≡ record {
-          seen = record self.old.seen { last = self.old.seen.kept; running = false; commits = min (self.old.seen.commits + 1) (2 ^ 64 - 1) };
+          seen = record self.old.seen { last = self.old.seen.kept; running = false;
+          commits = min (self.old.seen.commits + 1) (2 ^ 64 - 1) };
           changes = [];
         } }
         ensures counts { NeverFall self.old.seen self.new.seen }

@@ -37,7 +37,8 @@ impl MemKeeper {
     /// A keeper with no rows that fails the calls with these numbers. It takes no memory.
     pub fn new(alloc: Global, fails: List<u32>) -> Self
         ensures { result ≡ record {
-          seen = record { kept = map.empty; last = map.empty; running = false; faults = 0; reads = 0; writes = 0; commits = 0 };
+          seen = record { kept = map.empty; last = map.empty; running = false; faults = 0;
+          reads = 0; writes = 0; commits = 0 };
           calls = 0;
           fails = fails;
         } }
@@ -172,7 +173,8 @@ impl Keeper for MemKeeper {
     fn under(&mut self, tab: u8, prefix: &[u8], span: &mut Span) -> Result<(), KeepError>
         requires table { (1 ≤ tab) × (tab ≤ 15) }
         ensures rows { OnOk result (AreRowsUnder self.old.seen.kept tab prefix.now span.new) }
-        ensures reads { OnOk result (RoseBy (length span.new + 1) self.old.seen.reads self.new.seen.reads) }
+        ensures reads { OnOk result
+            (RoseBy (length span.new + 1) self.old.seen.reads self.new.seen.reads) }
         ensures read { IsRead self.old.seen self.new.seen result KeepError.Fault }
 
         ensures exact { Counted self.old self.new result }
@@ -234,7 +236,8 @@ impl Keeper for MemKeeper {
         requires running { self.old.seen.running ≡ true }
         ensures kept { OnOk result
             (self.new.seen.kept ≡ with_rows tab self.old.seen.kept span.now) }
-        ensures writes { OnOk result (RoseBy (length span.now) self.old.seen.writes self.new.seen.writes) }
+        ensures writes { OnOk result
+            (RoseBy (length span.now) self.old.seen.writes self.new.seen.writes) }
         ensures write { IsWrite self.old.seen self.new.seen result KeepError.Fault }
 
         ensures exact { Counted self.old self.new result }
@@ -254,7 +257,8 @@ impl Keeper for MemKeeper {
         requires running { self.old.seen.running ≡ true }
         ensures kept { OnOk result
             (self.new.seen.kept ≡ without_rows tab self.old.seen.kept span.now) }
-        ensures writes { OnOk result (RoseBy (length span.now) self.old.seen.writes self.new.seen.writes) }
+        ensures writes { OnOk result
+            (RoseBy (length span.now) self.old.seen.writes self.new.seen.writes) }
         ensures write { IsWrite self.old.seen self.new.seen result KeepError.Fault }
 
         ensures exact { Counted self.old self.new result }

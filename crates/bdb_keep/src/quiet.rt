@@ -10,7 +10,7 @@ use crate::span::Span;
 use std::alloc::{AllocError, Global};
 use std::marker::Model;
 
-/// A keeper in memory that has no faults. It is refused only by want of memory, and neither to begin nor to commit nor to
+/// A keeper in memory that has no faults. It is refused only where memory runs out, and neither to begin nor to commit nor to
 /// undo a transaction takes memory.
 #[derive(Drop)]
 pub struct QuietKeeper {

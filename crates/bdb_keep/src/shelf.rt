@@ -274,9 +274,11 @@ impl Shelf {
         ensures found { IfOk result
             (λ put. IfSome put (λ before. place_at self.old probe.now ≡ before.1)) }
         ensures set { IfOk result
-            (λ put. OnSome put (IsChangedAt self.old self.new probe.now (place_at self.old probe.now)
+            (λ put. OnSome put
+            (IsChangedAt self.old self.new probe.now (place_at self.old probe.now)
             (Some (Some row.now)))) }
-        ensures belongs { IfOk result (λ put. OnSome put (BelongsAmong self.old probe.now is_last)) }
+        ensures belongs { IfOk result
+            (λ put. OnSome put (BelongsAmong self.old probe.now is_last)) }
         ensures none { IfOk result (λ put. IfNone put (self.new ≡ self.old)) }
         ensures err { OnErr result (self.new ≡ self.old) }
     {

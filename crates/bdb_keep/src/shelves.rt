@@ -158,7 +158,8 @@ fn read_under_behind(
 ) -> Result<(), AllocError>
     requires sorted { AreSorted shelves.now }
     requires place { probe.now ≡ tab ∷ prefix.now }
-    ensures { OnOk result (span.new ≡ span.old ++ entries_under probe.now (after shelves.now start 0)) }
+    ensures { OnOk result
+        (span.new ≡ span.old ++ entries_under probe.now (after shelves.now start 0)) }
 {
     let mut at = start;
     while at < shelves.len() {
@@ -522,7 +523,7 @@ fn is_shelf_for(shelves: &[Shelf], at: usize, probe: &Probe<'_>) -> bool
     !shelf_at(shelves, at + 1).starts_within(probe)
 }
 
-/// The shelf that a place belongs on, by halves.
+/// The shelf that a place belongs on, by binary search.
 fn search(shelves: &[Shelf], probe: &Probe<'_>) -> Option<usize>
     requires { AreSorted shelves.now }
     ensures shelf { IfSome result (λ at. IsBlockFor shelves.now probe.now at) }

@@ -24,8 +24,10 @@ pub fn take_blocks(
 ) -> Result<bool, AllocError>
     requires sorted { AreSorted blocks.now }
     requires bound { IsBound blocks.now opening.now start.0 start.1 }
-    ensures rows { OnOk result (span.new ≡ span.old ++ entries_under opening.now (joined blocks.now)) }
-    ensures past { IfOk result (λ goes_on. goes_on ≡ false → HasPast opening.now (joined blocks.now)) }
+    ensures rows { OnOk result
+        (span.new ≡ span.old ++ entries_under opening.now (joined blocks.now)) }
+    ensures past { IfOk result
+        (λ goes_on. goes_on ≡ false → HasPast opening.now (joined blocks.now)) }
 {
     let (mut at, mut index) = start;
     while at < blocks.len() {
@@ -66,8 +68,10 @@ fn take_entries(
 #[inline(always)]
 fn take_entry(entry: &Entry, opening: &Opening<'_>, span: &mut Span) -> Result<bool, AllocError>
     requires { IsTrue (is_le (bytes_cmp opening.now entry.now.0)) }
-    ensures rows { OnOk result (span.new ≡ span.old ++ row_under opening.now entry.now.0 entry.now.1) }
-    ensures other { IfOk result (λ goes_on. goes_on ≡ false → is_prefix opening.now entry.now.0 ≡ false) }
+    ensures rows { OnOk result
+        (span.new ≡ span.old ++ row_under opening.now entry.now.0 entry.now.1) }
+    ensures other { IfOk result
+        (λ goes_on. goes_on ≡ false → is_prefix opening.now entry.now.0 ≡ false) }
 {
     if !entry.begins_so(opening) {
         return Ok(false);

@@ -132,7 +132,7 @@ blank_follows outcome next k old r is stays still text accepted answers =
       };
     })
 
--- want of memory, with nothing done
+-- out of memory, with nothing done
 pub stop_follows : (outcome : Timeline → Outcome) (next : Timeline → Timeline) (k : Known) (old : Seen) (stop : StopError) → IsStill old → (stop ≡ Fault → ⊥)
     → Follows outcome next k k old old (Err stop)
 stop_follows outcome next k old stop still memory = record {

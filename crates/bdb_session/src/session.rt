@@ -220,7 +220,7 @@ impl Session {
         }
     }
 
-    /// The reply to what is refused. The only error is want of memory.
+    /// The reply to what is refused. The only error is running out of memory.
     pub(crate) fn refuse(&self, refusal: &Refusal) -> Result<Reply, StopError>
         ensures { IsTold self.now.catalog (Refused refusal.now) result }
     {

@@ -45,7 +45,7 @@ use std::alloc::Global;
 /// | 3 | a read failed; each command that ends in the bytes given was carried out, and its reply written |
 /// | 4 | a write failed; what was written is a front of the replies |
 /// | 5 | the keeper failed; what was written is whole replies |
-/// | 6 | want of memory; what was written is whole replies |
+/// | 6 | out of memory; what was written is whole replies |
 /// | 7 | the tables hold no base, of this format or the one before it; nothing is read or written, and the tables stay |
 /// | 8 | exactly where none of those before came and the source gave more than 2^26 bytes, of which one more is taken; each command that ends in the first 2^26 was carried out, and its reply written |
 ///

@@ -9,7 +9,7 @@ use Rattle.bdb_keep.specs.Calls.{IsRead}
 use Rattle.bdb_keep.specs.Seen.{Seen, Steps}
 use Rattle.bdb_keep.specs.Tables.{Tables}
 use Rattle.bdb_tables.proofs.Loops.{steps_ok}
-use Rattle.bdb_update.specs.Calls.{of_stmts, size_passed}
+use Rattle.bdb_update.specs.Calls.{with_stmts, size_passed}
 use Rattle.bdb_update.specs.Examining.{Examines, IsVerdict, StandsThere, says_stands}
 use Rattle.bdb_update.specs.declared.looking.Verdict.{Verdict}
 use Rattle.bdb_update.specs.declared.looking.Verdict.TheVariants.{Clashes, Stands, Fills, Fits}
@@ -29,7 +29,7 @@ by_verdict t b x (Clashes least) v h = elim (cases_Bool (stands b.stmts x)) [
 ]
 by_verdict t b x Stands v h = sym h
 by_verdict t b x (Fills what) v h = elim (cases_Bool (stands b.stmts x)) [
-  | inl a ↦ absurd (no_limit b what v (ap (λ stmts. size_passed (counts_of (of_stmts b stmts))) (sym (with_standing b x v a)) ∙ h.1))
+  | inl a ↦ absurd (no_limit b what v (ap (λ stmts. size_passed (counts_of (with_stmts b stmts))) (sym (with_standing b x v a)) ∙ h.1))
   | inr a ↦ sym a
 ]
 by_verdict t b x (Fits r) v h = sym h.fresh

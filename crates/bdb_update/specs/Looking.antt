@@ -15,23 +15,23 @@ use Rattle.bdb_key.specs.Rows.{IsTupleRow}
 use Rattle.bdb_keep.specs.Tables.{Tables}
 use Rattle.bdb_tables.specs.Codec.{HasAt}
 use Rattle.bdb_tables.specs.InUse.{tuple_ix_codec}
-use Rattle.bdb_val.specs.Reads.{group_prefix}
 use Rattle.bdb_val.specs.declared.stored.Stored.{Stored}
 use Rattle.bdb_worlds.specs.Reach.{ReachesState}
 use Rattle.bdb_update.specs.Calls.{size_passed}
 use Rattle.bdb_update.specs.Groups.{AreExplicitUnder}
 use Rattle.bdb_tables.specs.Lengths.{IsKeyLength}
+use Rattle.bdb_tables.specs.GroupMarks.{group_bytes}
 use Rattle.bdb_update.specs.declared.looking.Place.{Place}
 use Rattle.bdb_update.specs.declared.looking.Verdict.{Verdict}
 use Rattle.bdb_update.specs.declared.looking.Verdict.TheVariants.{Clashes, Stands, Fills, Fits}
 
 -- how the keys of the rows begin that have a statement's relation and key in a world
 abbrev pub prefix_of : (ℕ → ℕ) → ℕ → Stmt → List ℕ
-prefix_of keys wid x = group_prefix wid x.tuple.rel (key_of keys x.tuple)
+prefix_of keys wid x = group_bytes wid x.tuple.rel (key_of keys x.tuple)
 
 -- the explicit rows of a world for a tuple's relation and key, or none
 abbrev pub AreRowsIf : (ℕ → ℕ) → Tables → ℕ → Tuple → Bool → List Stored → Type 0
-AreRowsIf keys t wid u asked rows = MatchBool asked (AreExplicitUnder t (group_prefix wid u.rel (key_of keys u)) rows) (rows ≡ [])
+AreRowsIf keys t wid u asked rows = MatchBool asked (AreExplicitUnder t (group_bytes wid u.rel (key_of keys u)) rows) (rows ≡ [])
 
 -- What is read: how far a statement's path goes along states and the number of the last of them, the length of the key of the
 -- tuple's relation, the explicit rows of this relation and the tuple's key there where the whole path is a state, and the number

@@ -19,9 +19,10 @@ use Rattle.bdb_tables.specs.Differences.{AreDifferences, AreReal}
 use Rattle.bdb_tables.specs.InUse.{ValKey, val_bytes, link_codec, val_codec}
 use Rattle.bdb_tables.specs.InUseLaws.{vals_are_one, mark_rows_are_one}
 use Rattle.bdb_tables.specs.Marks.{Mark}
+use Rattle.bdb_tables.specs.GroupMarks.{group_bytes}
 use Rattle.bdb_tables.proofs.DifferenceLemmas.{changes_differ, differences_are_counted}
 use Rattle.bdb_tables.proofs.Held.{some_same, none_some}
-use Rattle.bdb_val.specs.Reads.{HasRows, AreReadUnder, is_of_group, group_prefix}
+use Rattle.bdb_val.specs.Reads.{HasRows, AreReadUnder, is_of_group}
 use Rattle.bdb_val.specs.Settling.{Change, mark_in, settling, are_apart, are_changes_apart, row_key, keyed}
 use Rattle.bdb_val.specs.Steps.{AreSpans, IsSettling, IsStep, WritesDifferences, rows_made}
 use Rattle.bdb_val.specs.declared.stored.SettledWorld.{SettledWorld}
@@ -107,12 +108,12 @@ length_mapped m [] = refl
 length_mapped m (x ∷ xs) = ap (λ n. suc n) (length_mapped m xs)
 
 -- a step makes as many writes as there are places where the tables differ
-pub step_writes : (keys : ℕ → ℕ) (old new : Seen) (wid rel : ℕ) (v : List Value) (s : SettledWorld) → IsNum wid → IsNum rel → AreKeyVals v → IsStep keys old new wid (λ w. group_prefix w rel v) s → WritesDifferences keys old new
+pub step_writes : (keys : ℕ → ℕ) (old new : Seen) (wid rel : ℕ) (v : List Value) (s : SettledWorld) → IsNum wid → IsNum rel → AreKeyVals v → IsStep keys old new wid (λ w. group_bytes w rel v) s → WritesDifferences keys old new
 step_writes keys old new wid rel v s w r p step tuple f h ps d =
     let spans = λ (m : ℕ) (n : IsNum m). group_span keys h.lengths m rel v n r p in
     let made = rows_made keys wid step.settling.own step.settling.from in
     let places = map (λ x. place val_codec x.0) made in
-    let differ = settling_differs keys tuple f old.kept h (is_of_group keys rel v) (λ m. group_prefix m rel v) spans wid w new.kept step.link (fits step.link step.linked) step.settling in
+    let differ = settling_differs keys tuple f old.kept h (is_of_group keys rel v) (λ m. group_bytes m rel v) spans wid w new.kept step.link (fits step.link step.linked) step.settling in
     let same : length ps ≡ length made = differences_are_counted (tables.get old.kept) (tables.get new.kept) ps places d differ ∙ length_mapped (λ x. place val_codec x.0) made in
     subst (λ n. Rises n old.writes new.writes) (sym same) step.writes
   where

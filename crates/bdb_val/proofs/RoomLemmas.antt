@@ -10,13 +10,12 @@ use Rattle.bdb_base.specs.Segments.{is_prefix}
 use Rattle.bdb_keep.specs.Tables.{Tables, bytes_cmp}
 use Rattle.bdb_key.specs.Grammar.{IsNum}
 use Rattle.bdb_tables.specs.Codec.{place}
-use Rattle.bdb_tables.specs.GroupMarks.{in_group}
+use Rattle.bdb_tables.specs.GroupMarks.{group_bytes, in_group}
 use Rattle.bdb_tables.specs.InUse.{ValKey, val_bytes, val_codec}
 use Rattle.bdb_tables.specs.Marks.{Mark}
 use Rattle.bdb_tables.specs.Writes.{IsChange, with_change, with_changes}
 use Rattle.bdb_tables.proofs.Held.{same_place}
 use Rattle.bdb_tables.proofs.WriteLemmas.{get_after_change}
-use Rattle.bdb_val.specs.Reads.{group_prefix}
 use Rattle.bdb_val.specs.Rooms.{AreHanded, IsRoomFor, unless_from}
 use Rattle.bdb_val.proofs.ReadLemmas.{world_of_group}
 
@@ -27,7 +26,7 @@ tail_same n j k e = cc
 
 module _ (rel : ℕ) (v : List Value) (wid m : ℕ) (n : IsNum m) (other : wid ≡ m → ⊥) where
   -- a change of another world's row
-  change_apart : (t : Tables) (x : ℕ × Option Mark) → IsChange val_codec (in_group wid rel v x) → (q : List ℕ) → is_prefix (group_prefix m rel v) q ≡ true
+  change_apart : (t : Tables) (x : ℕ × Option Mark) → IsChange val_codec (in_group wid rel v x) → (q : List ℕ) → is_prefix (group_bytes m rel v) q ≡ true
       → tables.get (with_change val_codec t (in_group wid rel v x)) (11 ∷ q) ≡ tables.get t (11 ∷ q)
   change_apart t x c q begins =
       let key : ValKey = (wid, rel, v, x.0) in
@@ -35,9 +34,9 @@ module _ (rel : ℕ) (v : List Value) (wid m : ℕ) (n : IsNum m) (other : wid �
       ∙ ap (λ b. cond b (option_map val_codec.row_bytes x.1) (tables.get t (11 ∷ q)))
       (false_from_ne_true (eq_by_cmp bytes_cmp (11 ∷ q) (place val_codec key)) (λ e.
       let same : q ≡ val_bytes key = tail_same 11 q (val_bytes key) (same_place (11 ∷ q) (place val_codec key) e) in
-      other (world_of_group m rel v n key c.key (ap (is_prefix (group_prefix m rel v)) (sym same) ∙ begins))))
+      other (world_of_group m rel v n key c.key (ap (is_prefix (group_bytes m rel v)) (sym same) ∙ begins))))
 
-  changes_apart : (cs : List (ℕ × Option Mark)) (t : Tables) → AllByRecursion (IsChange val_codec) (map (in_group wid rel v) cs) → (q : List ℕ) → is_prefix (group_prefix m rel v) q ≡ true
+  changes_apart : (cs : List (ℕ × Option Mark)) (t : Tables) → AllByRecursion (IsChange val_codec) (map (in_group wid rel v) cs) → (q : List ℕ) → is_prefix (group_bytes m rel v) q ≡ true
       → tables.get (with_changes val_codec t (map (in_group wid rel v) cs)) (11 ∷ q) ≡ tables.get t (11 ∷ q)
   changes_apart [] t c q begins = refl
   changes_apart (x ∷ xs) t c q begins = changes_apart xs (with_change val_codec t (in_group wid rel v x)) c.1 q begins ∙ change_apart t x c.0 q begins

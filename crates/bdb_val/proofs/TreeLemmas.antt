@@ -28,10 +28,11 @@ use Rattle.bdb_tables.specs.InUseLaws.{vals_are_one}
 use Rattle.bdb_tables.specs.Marks.{Mark}
 use Rattle.bdb_tables.specs.Names.{Names, AreNames, path_of, link_of, is_listed, are_once}
 use Rattle.bdb_tables.specs.Spans.{IsUnder, entry_cmp}
+use Rattle.bdb_tables.specs.GroupMarks.{group_bytes}
 use Rattle.bdb_tables.proofs.DifferenceLemmas.{differences_add, differences_are_counted}
 use Rattle.bdb_val.specs.Counts.{has_none, TellsDifferences}
 use Rattle.bdb_val.specs.Groups.{HasLinks, IsUnsettled}
-use Rattle.bdb_val.specs.Reads.{HasRows, is_of_group, group_prefix}
+use Rattle.bdb_val.specs.Reads.{HasRows, is_of_group}
 use Rattle.bdb_val.specs.Settling.{Change, mark_in, next_mark, settling, IsGroup, row_key, keyed}
 use Rattle.bdb_val.specs.Steps.{AreSpans, is_new, is_gone, counted}
 use Rattle.bdb_val.specs.Walks.{AreLinkedTo, IsVisit, Walked, changes_of, put_by, taken_by}
@@ -382,8 +383,8 @@ tells_from old new made put taken k rises a b ps d = record {
 
 -- what a walk tells of a group
 pub walk_tells : (keys : ℕ → ℕ) (old new : Seen) (wid rel : ℕ) (v : List Value) (left : List ℕ) (made : List (ValKey × Option Mark)) (put taken : ℕ) (s : Settled) → IsNum rel → AreKeyVals v
-    → Walked keys (λ w. group_prefix w rel v) old.kept wid new.kept left made put taken → s.put ≡ counted put → s.taken ≡ counted taken → Rises (length made) old.writes new.writes
+    → Walked keys (λ w. group_bytes w rel v) old.kept wid new.kept left made put taken → s.put ≡ counted put → s.taken ≡ counted taken → Rises (length made) old.writes new.writes
     → (stmts : List Stmt) (ns : Names) (tuple : ℕ → Option Tuple) (f : ValKey → Option Mark) → IsUnsettled keys stmts ns tuple f old.kept wid (is_of_group keys rel v) → TellsDifferences old new s.put s.taken
 walk_tells keys old new wid rel v left made put taken s r p walked a b rises stmts ns tuple f h =
-    let k = walk_once keys stmts ns tuple (is_of_group keys rel v) (λ w. group_prefix w rel v) h.names (λ w n. group_span keys h.explicit.rows.lengths w rel v n r p) (is_group keys rel v) f old.kept wid h new.kept left made put taken walked in
+    let k = walk_once keys stmts ns tuple (is_of_group keys rel v) (λ w. group_bytes w rel v) h.names (λ w n. group_span keys h.explicit.rows.lengths w rel v n r p) (is_group keys rel v) f old.kept wid h new.kept left made put taken walked in
     tells_from old new made s.put s.taken k.differ rises (a ∙ ap counted k.puts) (b ∙ ap counted k.takes)

@@ -37,12 +37,12 @@ impl<'a> Numbered<'a> {
         }
     }
 
-    /// The mark of the row of a tuple's number. The search goes by halves where the numbers rise, as those of a group do.
+    /// The mark of the row of a tuple's number. It is found by binary search where the numbers rise, as those of a group do.
     pub fn mark(&self, tid: u32) -> Option<(Sign, bool)>
         ensures { result ≡ mark_under self.now tid }
     {
         if self.rising {
-            mark_by_halves(self.rows, tid)
+            mark_by_search(self.rows, tid)
         } else {
             first_mark(self.rows, tid)
         }
@@ -62,7 +62,7 @@ fn are_rising(rows: &[Marked]) -> bool
 }
 
 // The mark of a number among rows whose numbers rise.
-fn mark_by_halves(rows: &[Marked], tid: u32) -> Option<(Sign, bool)>
+fn mark_by_search(rows: &[Marked], tid: u32) -> Option<(Sign, bool)>
     requires { AreRising rows.now }
     ensures { result ≡ mark_under rows.now tid }
 {

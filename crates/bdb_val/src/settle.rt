@@ -4,12 +4,12 @@ ghost use Rattle.bdb_keep.specs.Calls.{IsRead};
 ghost use Rattle.bdb_key.specs.Grammar.{AreKeyVals};
 ghost use Rattle.bdb_tables.specs.Codec.{HasAt};
 ghost use Rattle.bdb_tables.specs.Grammar.{InGrammar};
-ghost use Rattle.bdb_tables.specs.GroupMarks.{in_group};
+ghost use Rattle.bdb_tables.specs.GroupMarks.{group_bytes, in_group};
 ghost use Rattle.bdb_tables.specs.InUse.{HaveKeyTexts, link_codec, val_codec};
 ghost use Rattle.bdb_tables.specs.Spans.{AreUnder};
 ghost use Rattle.bdb_val.specs.GroupChanges.{mark_under, TellsMarks};
 ghost use Rattle.bdb_val.specs.Others.{SameBut};
-ghost use Rattle.bdb_val.specs.Reads.{HaveTuples, group_prefix};
+ghost use Rattle.bdb_val.specs.Reads.{HaveTuples};
 ghost use Rattle.bdb_val.specs.Rooms.{IsRoomFor};
 ghost use Rattle.bdb_val.specs.Stated.{WhereStated};
 ghost use Rattle.bdb_val.specs.Steps.{turns_from, comes, goes, IsChanging, IsStep};
@@ -42,7 +42,9 @@ pub fn settle_state<K: Keeper>(
     requires room { IsRoomFor (K.seen keeper.old).kept rel key.now room.old.group.prefix.items
         room.old.handed.from room.old.handed.rows.items }
     ensures settled { IfOk result (λ settled. HasAt link_codec (K.seen keeper.old).kept wid link
-        → WhereStated (K.seen keeper.old).kept (λ keys. IsStep keys (K.seen keeper.old) (K.seen keeper.new) wid (λ w. group_prefix w rel key.now) settled)) }
+        → WhereStated (K.seen keeper.old).kept
+        (λ keys. IsStep keys (K.seen keeper.old) (K.seen keeper.new) wid
+        (λ w. group_bytes w rel key.now) settled)) }
     ensures others { OnOk result
         (SameBut (λ n. nat_eq n 11) (K.seen keeper.old).kept (K.seen keeper.new).kept) }
     ensures grammar { OnOk result (InGrammar (K.seen keeper.new).kept) }
@@ -99,7 +101,7 @@ fn keep_linked<K: Keeper>(
         handed.old.rows.items }
     ensures rows { OnOk result
         (MatchOption link (handed.new.rows.items ≡ [])
-        (λ m. AreUnder val_codec (K.seen keeper.old).kept (group_prefix m rel key.now)
+        (λ m. AreUnder val_codec (K.seen keeper.old).kept (group_bytes m rel key.now)
         (map (in_group m rel key.now) handed.new.rows.items))) }
     ensures room { OnOk result
         (IsRoomFor (K.seen keeper.old).kept rel key.now room.new.prefix.items handed.new.from
