@@ -34,8 +34,11 @@ impl Model for Entry {
 
     ghost Value = { List ℕ × Option (List ℕ) };
 
-    ghost view = { λ e. (table_in e.tail ∷ key_of (head_in e.first e.second e.third e.fourth e.tail)
-        (rest_in e.tail), row_in e.tail) };
+    ghost view = { λ e. (
+      table_in e.tail ∷ key_of (head_in e.first e.second e.third e.fourth e.tail)
+          (rest_in e.tail),
+      row_in e.tail,
+    ) };
 
     ghost invariant = { λ e. IsHeadOf
         (key_of (head_in e.first e.second e.third e.fourth e.tail) (rest_in e.tail))

@@ -35,24 +35,45 @@ impl Model for Ledger {
     ghost coded = { coded_told };
 
     ghost view = { λ l. record {
-      seen = record { kept = l.store.kept; last = l.store.last; running = l.running;
-      faults = l.faults; reads = l.reads; writes = l.writes; commits = l.commits };
+      seen = record {
+        kept = l.store.kept;
+        last = l.store.last;
+        running = l.running;
+        faults = l.faults;
+        reads = l.reads;
+        writes = l.writes;
+        commits = l.commits;
+      };
       changes = l.store.changes;
     } };
 
     ghost use Rattle.bdb_keep.specs.Told.{IsSound};
 
     ghost invariant = { λ l. IsSound
-        (record { kept = l.store.kept; last = l.store.last; running = l.running; faults = l.faults;
-        reads = l.reads; writes = l.writes; commits = l.commits }) };
+        (record {
+          kept = l.store.kept;
+          last = l.store.last;
+          running = l.running;
+          faults = l.faults;
+          reads = l.reads;
+          writes = l.writes;
+          commits = l.commits;
+        }) };
 }
 
 impl Ledger {
     /// A ledger with no rows. It takes no memory.
     pub fn new(alloc: Global) -> Self
         ensures { result ≡ record {
-          seen = record { kept = map.empty; last = map.empty; running = false; faults = 0;
-          reads = 0; writes = 0; commits = 0 };
+          seen = record {
+            kept = map.empty;
+            last = map.empty;
+            running = false;
+            faults = 0;
+            reads = 0;
+            writes = 0;
+            commits = 0;
+          };
           changes = [];
         } }
     {
@@ -64,8 +85,15 @@ impl Ledger {
         requires settled { store.kept ≡ store.last }
         requires tables { LieInTables store.kept }
         ensures { result ≡ record {
-          seen = record { kept = store.kept; last = store.last; running = false; faults = faults;
-          reads = 0; writes = 0; commits = 0 };
+          seen = record {
+            kept = store.kept;
+            last = store.last;
+            running = false;
+            faults = faults;
+            reads = 0;
+            writes = 0;
+            commits = 0;
+          };
           changes = store.changes;
         } }
     {
@@ -251,8 +279,11 @@ impl Ledger {
     /// Makes the rows those last committed, and ends the transaction. It takes no memory.
     pub fn commit(&mut self)
         ensures committed { self.new ≡ record {
-          seen = record self.old.seen { last = self.old.seen.kept; running = false;
-          commits = min (self.old.seen.commits + 1) (2 ^ 64 - 1) };
+          seen = record self.old.seen {
+            last = self.old.seen.kept;
+            running = false;
+            commits = min (self.old.seen.commits + 1) (2 ^ 64 - 1);
+          };
           changes = [];
         } }
         ensures counts { NeverFall self.old.seen self.new.seen }

@@ -37,8 +37,15 @@ impl MemKeeper {
     /// A keeper with no rows that fails the calls with these numbers. It takes no memory.
     pub fn new(alloc: Global, fails: List<u32>) -> Self
         ensures { result ≡ record {
-          seen = record { kept = map.empty; last = map.empty; running = false; faults = 0;
-          reads = 0; writes = 0; commits = 0 };
+          seen = record {
+            kept = map.empty;
+            last = map.empty;
+            running = false;
+            faults = 0;
+            reads = 0;
+            writes = 0;
+            commits = 0;
+          };
           calls = 0;
           fails = fails;
         } }

@@ -34,8 +34,11 @@ impl Model for Store {
     ghost use Rattle.bdb_keep.specs.Entries.{rows_of};
     ghost use Rattle.bdb_keep.specs.Changes.{undone, places_of, HavePlaces};
 
-    ghost view = { λ s. record { kept = rows_of s.rows;
-        last = undone s.changes.items (rows_of s.rows); changes = places_of s.changes.items } };
+    ghost view = { λ s. record {
+      kept = rows_of s.rows;
+      last = undone s.changes.items (rows_of s.rows);
+      changes = places_of s.changes.items;
+    } };
 
     ghost invariant = { λ s. HavePlaces s.changes.items s.rows };
 }
