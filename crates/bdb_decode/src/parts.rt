@@ -9,7 +9,7 @@ ghost use Rattle.bdb_decode.specs.Parts.{AreParts, ArePaths, HoldNoneOver, Store
 use crate::limits::worlds_are_within_limits;
 use bdb_base::{Catalog, Path, Tuple, UserSlot};
 use bdb_entries::{raw_catalog, raw_tuples};
-use bdb_graph::{World, are_states_held, raw_worlds};
+use bdb_graph::{NamedWorld, are_states_held, raw_worlds};
 use bdb_keep::Keeper;
 use bdb_tables::TabError;
 use std::alloc::{AllocError, Global};
@@ -91,7 +91,7 @@ fn raw_paths<K: Keeper>(
 }
 
 // The numbers and paths of worlds.
-fn paths_of(alloc: Global, worlds: Vec<World>) -> Result<Vec<(u32, Path)>, AllocError>
+fn paths_of(alloc: Global, worlds: Vec<NamedWorld>) -> Result<Vec<(u32, Path)>, AllocError>
     ensures { IfOk result (λ paths. paths.items ≡ map path_row worlds.items) }
 {
     let mut paths = Vec::new(alloc);

@@ -39,7 +39,7 @@ use Rattle.bdb_exec.specs.Seen.{rows_at, signed_in, signed_under, sight_of}
 use Rattle.bdb_exec.proofs.LengthLemmas.{keys_sized, take_and_drop, take_long, take_plain, take_short, take_take, take_whole}
 use Rattle.bdb_exec.proofs.LookingLemmas.{all_written}
 use Rattle.bdb_exec.proofs.TypedLemmas.{raw}
-use Rattle.bdb_exec.proofs.WorldLemmas.{AreTyped, IsThere, IsTold, typed_under, typed_rows, shown, signed_is, has_row, tuple_named, all_told, all_both}
+use Rattle.bdb_exec.proofs.WorldLemmas.{AreTyped, IsThere, StandsForTuple, typed_under, typed_rows, shown, signed_is, has_row, tuple_named, all_told, all_both}
 
 -- ---- tests and lists
 
@@ -215,7 +215,7 @@ module _ (t : Tables) (h : CanBeRun t) (w rel : ℕ) (nw : IsNum w) (nr : IsNum 
     pub of_rel : u.rel ≡ rel
     pub vals : key_of (sight_of t).keys u ≡ e.0.2
 
-  here : (e : ValKey × Mark) → IsUnder val_codec (world_prefix w rel) e → IsTold t h e → IsHere e
+  here : (e : ValKey × Mark) → IsUnder val_codec (world_prefix w rel) e → StandsForTuple t h e → IsHere e
   here e a k =
       let p = world_parts w rel nw nr e.0 a.key a.begins in
       let q = and_parts (nat_eq k.0.rel e.0.1) (same_values (key_of (sight_of t).keys k.0) e.0.2) k.2 in
@@ -231,7 +231,7 @@ module _ (t : Tables) (h : CanBeRun t) (w rel : ℕ) (nw : IsNum w) (nr : IsNum 
       }
 
   pub all_here : AllByRecursion IsHere all
-  all_here = all_both (IsUnder val_codec (world_prefix w rel)) (IsTold t h) IsHere all here are_typed.each (all_told t h (world_prefix w rel) all are_typed)
+  all_here = all_both (IsUnder val_codec (world_prefix w rel)) (StandsForTuple t h) IsHere all here are_typed.each (all_told t h (world_prefix w rel) all are_typed)
 
   pub shown_all : (sight_of t).rows w rel ≡ map (signed_of t) all
   shown_all = rows_of ∙ shown t (world_prefix w rel) all are_typed

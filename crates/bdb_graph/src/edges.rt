@@ -16,7 +16,7 @@ ghost use Rattle.bdb_graph.specs.Naming.{names_of};
 ghost use Rattle.bdb_graph.specs.States.{AllKeysPass, AreIndexed, HasEdgeFor, HasEdges, HasNextKey, IsWorldOf, is_edge_key, is_right, number_of_world};
 
 use crate::finding::{is_world, leads_to};
-use crate::naming::World;
+use crate::naming::NamedWorld;
 use bdb_base::{Path, UserSlot, is_user, path_is_suffix};
 use bdb_keep::Keeper;
 use bdb_tables::{EdgeTab, TabError, get, next_under};
@@ -28,7 +28,7 @@ pub fn are_edges_held<K: Keeper>(
     alloc: Global,
     keeper: &mut K,
     users: &[UserSlot],
-    worlds: &[World],
+    worlds: &[NamedWorld],
     paths: &[Path],
 ) -> Result<bool, TabError>
     requires grammar { InGrammar (K.seen keeper.old).kept }
@@ -58,7 +58,7 @@ fn each_has_edges<K: Keeper>(
     alloc: Global,
     keeper: &mut K,
     users: &[UserSlot],
-    worlds: &[World],
+    worlds: &[NamedWorld],
     paths: &[Path],
 ) -> Result<bool, TabError>
     requires grammar { InGrammar (K.seen keeper.old).kept }
@@ -87,9 +87,9 @@ fn has_edges<K: Keeper>(
     alloc: Global,
     keeper: &mut K,
     users: &[UserSlot],
-    worlds: &[World],
+    worlds: &[NamedWorld],
     paths: &[Path],
-    world: &World,
+    world: &NamedWorld,
 ) -> Result<bool, TabError>
     requires grammar { InGrammar (K.seen keeper.old).kept }
     requires users { length users.now ≤ most_users }
@@ -119,9 +119,9 @@ fn has_edge<K: Keeper>(
     alloc: Global,
     keeper: &mut K,
     users: &[UserSlot],
-    worlds: &[World],
+    worlds: &[NamedWorld],
     paths: &[Path],
-    world: &World,
+    world: &NamedWorld,
     uid: u32,
 ) -> Result<bool, TabError>
     requires grammar { InGrammar (K.seen keeper.old).kept }
@@ -159,7 +159,7 @@ fn has_edge<K: Keeper>(
 fn is_edge(
     alloc: Global,
     users: &[UserSlot],
-    worlds: &[World],
+    worlds: &[NamedWorld],
     paths: &[Path],
     path: &[u32],
     uid: u32,
@@ -197,7 +197,7 @@ fn are_edges_of_worlds<K: Keeper>(
     alloc: Global,
     keeper: &mut K,
     users: &[UserSlot],
-    worlds: &[World],
+    worlds: &[NamedWorld],
 ) -> Result<bool, TabError>
     requires grammar { InGrammar (K.seen keeper.old).kept }
     requires sorted { ascending nat_cmp (map number_of_world worlds.now) ≡ true }
@@ -225,7 +225,7 @@ fn next_edge<K: Keeper>(
     alloc: Global,
     keeper: &mut K,
     users: &[UserSlot],
-    worlds: &[World],
+    worlds: &[NamedWorld],
     low: &mut Vec<u8>,
 ) -> Result<Option<bool>, TabError>
     requires grammar { InGrammar (K.seen keeper.old).kept }
@@ -245,7 +245,7 @@ fn next_edge<K: Keeper>(
 }
 
 // Whether a key is that of an edge of a world for a user.
-fn is_edge_key(users: &[UserSlot], worlds: &[World], key: &(u32, u32)) -> bool
+fn is_edge_key(users: &[UserSlot], worlds: &[NamedWorld], key: &(u32, u32)) -> bool
     requires { ascending nat_cmp (map number_of_world worlds.now) ≡ true }
     ensures { result ≡ is_edge_key users.now worlds.now key.now }
 {

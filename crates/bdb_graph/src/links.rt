@@ -14,7 +14,7 @@ ghost use Rattle.bdb_graph.specs.Naming.{names_of};
 ghost use Rattle.bdb_graph.specs.States.{AllKeysPass, AreIndexed, HasLink, HasNextKey, IsWorldOf, is_right, is_world, link_from, number_of_world};
 
 use crate::finding::{is_world, leads_to};
-use crate::naming::World;
+use crate::naming::NamedWorld;
 use bdb_base::Path;
 use bdb_keep::Keeper;
 use bdb_tables::{SuffixTab, TabError, get, next_under};
@@ -24,7 +24,7 @@ use std::alloc::Global;
 pub fn are_links_held<K: Keeper>(
     alloc: Global,
     keeper: &mut K,
-    worlds: &[World],
+    worlds: &[NamedWorld],
     paths: &[Path],
 ) -> Result<bool, TabError>
     requires grammar { InGrammar (K.seen keeper.old).kept }
@@ -50,7 +50,7 @@ pub fn are_links_held<K: Keeper>(
 fn each_has_link<K: Keeper>(
     alloc: Global,
     keeper: &mut K,
-    worlds: &[World],
+    worlds: &[NamedWorld],
     paths: &[Path],
 ) -> Result<bool, TabError>
     requires grammar { InGrammar (K.seen keeper.old).kept }
@@ -74,9 +74,9 @@ fn each_has_link<K: Keeper>(
 fn has_link<K: Keeper>(
     alloc: Global,
     keeper: &mut K,
-    worlds: &[World],
+    worlds: &[NamedWorld],
     paths: &[Path],
-    world: &World,
+    world: &NamedWorld,
 ) -> Result<bool, TabError>
     requires grammar { InGrammar (K.seen keeper.old).kept }
     requires worlds { AreIndexed worlds.now paths.now }
@@ -93,7 +93,7 @@ fn has_link<K: Keeper>(
 }
 
 // Whether this is the suffix link of a path.
-fn is_link(worlds: &[World], paths: &[Path], path: &[u32], found: Option<u32>) -> bool
+fn is_link(worlds: &[NamedWorld], paths: &[Path], path: &[u32], found: Option<u32>) -> bool
     requires { AreIndexed worlds.now paths.now }
     ensures { result ≡ is_right found (link_from (names_of worlds.now) path.now) }
 {
@@ -110,7 +110,7 @@ fn is_link(worlds: &[World], paths: &[Path], path: &[u32], found: Option<u32>) -
 fn are_links_of_worlds<K: Keeper>(
     alloc: Global,
     keeper: &mut K,
-    worlds: &[World],
+    worlds: &[NamedWorld],
 ) -> Result<bool, TabError>
     requires grammar { InGrammar (K.seen keeper.old).kept }
     requires sorted { ascending nat_cmp (map number_of_world worlds.now) ≡ true }
@@ -136,7 +136,7 @@ fn are_links_of_worlds<K: Keeper>(
 fn next_link<K: Keeper>(
     alloc: Global,
     keeper: &mut K,
-    worlds: &[World],
+    worlds: &[NamedWorld],
     low: &mut Vec<u8>,
 ) -> Result<Option<bool>, TabError>
     requires grammar { InGrammar (K.seen keeper.old).kept }

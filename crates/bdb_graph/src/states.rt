@@ -12,7 +12,7 @@ ghost use Rattle.bdb_graph.specs.States.{AreIndexed};
 use crate::edges::are_edges_held;
 use crate::finding::{have_own_paths, paths_of};
 use crate::links::are_links_held;
-use crate::naming::World;
+use crate::naming::NamedWorld;
 use crate::turning::are_turned_round;
 use bdb_base::{Path, UserSlot};
 use bdb_keep::Keeper;
@@ -27,7 +27,7 @@ pub fn are_states_held<K: Keeper>(
     alloc: Global,
     keeper: &mut K,
     users: &[UserSlot],
-    worlds: &[World],
+    worlds: &[NamedWorld],
 ) -> Result<bool, TabError>
     requires grammar { InGrammar (K.seen keeper.old).kept }
     requires worlds { AreWorlds (K.seen keeper.old).kept worlds.now }
@@ -56,7 +56,7 @@ fn are_held<K: Keeper>(
     alloc: Global,
     keeper: &mut K,
     users: &[UserSlot],
-    worlds: &[World],
+    worlds: &[NamedWorld],
     paths: &[Path],
 ) -> Result<bool, TabError>
     requires grammar { InGrammar (K.seen keeper.old).kept }

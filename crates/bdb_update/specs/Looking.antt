@@ -22,8 +22,8 @@ use Rattle.bdb_update.specs.Groups.{AreExplicitUnder}
 use Rattle.bdb_tables.specs.Lengths.{IsKeyLength}
 use Rattle.bdb_tables.specs.GroupMarks.{group_bytes}
 use Rattle.bdb_update.specs.declared.looking.Place.{Place}
-use Rattle.bdb_update.specs.declared.looking.Verdict.{Verdict}
-use Rattle.bdb_update.specs.declared.looking.Verdict.TheVariants.{Clashes, Stands, Fills, Fits}
+use Rattle.bdb_update.specs.declared.looking.Prospect.{Prospect}
+use Rattle.bdb_update.specs.declared.looking.Prospect.TheVariants.{Clashes, Stands, Fills, Fits}
 
 -- how the keys of the rows begin that have a statement's relation and key in a world
 abbrev pub prefix_of : (ℕ → ℕ) → ℕ → Stmt → List ℕ
@@ -77,20 +77,20 @@ abbrev pub state_of : Stmt → Place → Option ℕ
 state_of x p = cond (nat_eq p.len (length x.path)) (Some p.wid) None
 
 -- what is said where a limit is passed, and where none is
-abbrev pub filled_by : Stmt → Place → Counts → Option What → Verdict
+abbrev pub filled_by : Stmt → Place → Counts → Option What → Prospect
 filled_by x p c (Some what) = Fills what
 filled_by x p c None = Fits (record { wid = state_of x p; tid = p.tid; key_len = p.key_len; next = c })
 
 -- what is said where no row clashes: the statement has a row, or it has none
-abbrev pub joined_by : Stmt → Place → Counts → Bool → Verdict
+abbrev pub joined_by : Stmt → Place → Counts → Bool → Prospect
 joined_by x p c own = cond own Stands (filled_by x p (counts_with x p c) (size_passed (counts_with x p c)))
 
 -- what is said by the row that clashes, if there is one
-abbrev pub judged_by : Stmt → Place → Counts → Option Stored → Verdict
+abbrev pub judged_by : Stmt → Place → Counts → Option Stored → Prospect
 judged_by x p c (Some r) = Clashes (record { path = x.path; sign = r.mark.0; tuple = r.tuple })
 judged_by x p c None = joined_by x p c (list_any (is_own x) p.rows.items)
 
-abbrev pub judged : Stmt → Place → Counts → Verdict
+abbrev pub judged : Stmt → Place → Counts → Prospect
 judged x p c = judged_by x p c (least_row (λ _. p.key_len) x p.rows.items)
 
 -- the sizes are those of a base within the limits, and the path is not too deep

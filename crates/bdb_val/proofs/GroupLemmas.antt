@@ -24,7 +24,7 @@ use Rattle.bdb_val.specs.GroupChanges.{mark_under, is_explicit_plus, handed_down
 use Rattle.bdb_val.specs.Middle.{HasExplicit}
 use Rattle.bdb_val.specs.Reads.{AreTold, AreReadUnder, is_of_group}
 use Rattle.bdb_val.specs.Settled.{Worlds, settled_mark, passed_on, is_barred}
-use Rattle.bdb_val.specs.Settling.{Change, mark_in, barred_by, next_mark, same_mark, change_at, has_mark, fresh_change, AreNamed, row_key, keyed}
+use Rattle.bdb_val.specs.Settling.{RowChange, mark_in, barred_by, next_mark, same_mark, change_at, has_mark, fresh_change, AreNamed, row_key, keyed}
 use Rattle.bdb_val.specs.Steps.{rows_made}
 use Rattle.bdb_val.specs.declared.stored.Stored.{Stored}
 use Rattle.bdb_val.proofs.ReadLemmas.{HasKey, keyed_under, key_fits, tuple_row, read_named, read_mark, read_apart, told_tested, group_span}
@@ -278,7 +278,7 @@ module _ (keys : ℕ → ℕ) (stmts : List Stmt) (n : Worlds) (tuple : ℕ → 
         ∙ ap (λ cs. cs ++ map (in_group wid rel v) (flat_map (new_change barred es) fs)) (all_own es xs own_told own_in)
         ∙ ap (λ cs. map (keyed keys wid) one ++ cs) (all_new fs ys from_told from_in)
         ∙ sym (map-append (keyed keys wid) one three)
-        ∙ ap (λ (cs : List Change). map (keyed keys wid) (cs ++ three)) (sym (append-nil one) ∙ ap (λ (cs : List Change). one ++ cs) (sym none_fresh))
+        ∙ ap (λ (cs : List RowChange). map (keyed keys wid) (cs ++ three)) (sym (append-nil one) ∙ ap (λ (cs : List RowChange). one ++ cs) (sym none_fresh))
 
   -- What settles a group, with the tuples: the rows that were read, and the changes made.
   pub record IsGroupRead (wid : ℕ) (link : Option ℕ) (es fs : List (ℕ × Mark)) : Type 0 where

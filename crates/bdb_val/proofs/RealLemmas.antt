@@ -23,7 +23,7 @@ use Rattle.bdb_tables.specs.GroupMarks.{group_bytes}
 use Rattle.bdb_tables.proofs.DifferenceLemmas.{changes_differ, differences_are_counted}
 use Rattle.bdb_tables.proofs.Held.{some_same, none_some}
 use Rattle.bdb_val.specs.Reads.{HasRows, AreReadUnder, is_of_group}
-use Rattle.bdb_val.specs.Settling.{Change, mark_in, settling, are_apart, are_changes_apart, row_key, keyed}
+use Rattle.bdb_val.specs.Settling.{RowChange, mark_in, settling, are_apart, are_changes_apart, row_key, keyed}
 use Rattle.bdb_val.specs.Steps.{AreSpans, IsSettling, IsStep, WritesDifferences, rows_made}
 use Rattle.bdb_val.specs.declared.stored.SettledWorld.{SettledWorld}
 use Rattle.bdb_val.proofs.ApartLemmas.{settling_is_apart}
@@ -42,7 +42,7 @@ tail_same n j k e = cc
 
 module _ (keys : ℕ → ℕ) (tuple : ℕ → Option Tuple) (f : ValKey → Option Mark) (t : Tables) (h : HasRows keys tuple f t) (test : Tuple → Bool) (prefix : ℕ → List ℕ) (spans : AreSpans keys test prefix) (wid : ℕ) (w : IsNum wid) where
   -- changes of different numbers are at different places
-  places_apart : (cs : List Change) → AllByRecursion (IsOf tuple test) cs → are_changes_apart cs ≡ true → are_distinct (map (λ x. place val_codec x.0) (map (keyed keys wid) cs)) ≡ true
+  places_apart : (cs : List RowChange) → AllByRecursion (IsOf tuple test) cs → are_changes_apart cs ≡ true → are_distinct (map (λ x. place val_codec x.0) (map (keyed keys wid) cs)) ≡ true
   places_apart [] a e = refl
   places_apart (c ∷ cs) a e = elim (cases_Bool (list_any (λ y. nat_eq y.0 c.0) cs)) [
     | inl k ↦ absurd (false≢true (sym (cond-true (list_any (λ y. nat_eq y.0 c.0) cs) false (are_changes_apart cs) k) ∙ e))
@@ -54,7 +54,7 @@ module _ (keys : ℕ → ℕ) (tuple : ℕ → Option Tuple) (f : ValKey → Opt
       here : List ℕ
       here = place val_codec (row_key keys wid c.0 c.1)
 
-      none : (ds : List Change) → AllByRecursion (IsOf tuple test) ds → list_any (λ y. nat_eq y.0 c.0) ds ≡ false → list_any (same_text here) (map (λ x. place val_codec x.0) (map (keyed keys wid) ds)) ≡ false
+      none : (ds : List RowChange) → AllByRecursion (IsOf tuple test) ds → list_any (λ y. nat_eq y.0 c.0) ds ≡ false → list_any (same_text here) (map (λ x. place val_codec x.0) (map (keyed keys wid) ds)) ≡ false
       none [] b q = refl
       none (d ∷ ds) b q =
           let p = or_parts (nat_eq d.0 c.0) (list_any (λ y. nat_eq y.0 c.0) ds) q in
@@ -67,7 +67,7 @@ module _ (keys : ℕ → ℕ) (tuple : ℕ → Option Tuple) (f : ValKey → Opt
           (none ds b.1 p.1)
 
   module _ (u : Tables) (link : Option ℕ) (l : MatchOption link (Unit {0}) IsNum) (s : IsSettling keys t u wid link prefix) where
-    abbrev made : List Change
+    abbrev made : List RowChange
     made = settling keys s.own s.own s.from
 
     of : AllByRecursion (IsOf tuple test) made
@@ -83,7 +83,7 @@ module _ (keys : ℕ → ℕ) (tuple : ℕ → Option Tuple) (f : ValKey → Opt
         go None a b = ap are_apart b
         go (Some m) a b = read_apart keys tuple f t h m test (prefix m) s.from (spans m a) b
 
-    altered : (cs : List Change) → AllByRecursion (IsOf tuple test) cs → AllByRecursion (λ x. mark_in s.own x.0 ≢ x.2) cs
+    altered : (cs : List RowChange) → AllByRecursion (IsOf tuple test) cs → AllByRecursion (λ x. mark_in s.own x.0 ≢ x.2) cs
         → AllByRecursion (λ x. tables.get t (place val_codec x.0) ≢ option_map val_codec.row_bytes x.1) (map (keyed keys wid) cs)
     altered [] a b = tt
     altered (c ∷ cs) a b = (

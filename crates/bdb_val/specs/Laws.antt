@@ -11,7 +11,7 @@ use Rattle.bdb_tables.specs.Names.{Names, AreNames, path_of, is_named}
 use Rattle.bdb_tables.specs.Rows.{AreKeyLengths, Tuples, HoldsTuples, HoldsRows, row_for}
 use Rattle.bdb_tables.specs.GroupMarks.{group_bytes}
 use Rattle.bdb_val.specs.Middle.{worlds_of, HasExplicit, AreSettledBut}
-use Rattle.bdb_val.specs.Settled.{settled_mark, Worlds, AreLinked, Rows, IsSettled, IsRight, HasStates}
+use Rattle.bdb_val.specs.Settled.{settled_mark, Worlds, AreLinked, RowsByWorld, IsSettled, IsRight, HasStates}
 use Rattle.bdb_val.specs.Settling.{mark_in, next_mark, settling, last_mark, AreNamed, are_apart, are_changes_apart, IsGroup, AreNumbered, AreExplicit}
 use Rattle.bdb_key.specs.Grammar.{IsNum, AreKeyVals}
 use Rattle.bdb_keep.specs.Seen.{Seen}
@@ -22,13 +22,13 @@ use Rattle.bdb_val.specs.declared.stored.Stored.{Stored}
 
 -- where no two statements of one path clash and all rows of a tuple are settled, they are the rows of the worlds
 abbrev pub SettledRowsAreRight : Type 0
-SettledRowsAreRight = (keys : ℕ → ℕ) (stmts : List Stmt) (P : List ℕ → Bool) (n : Worlds) (t : Tuple) (f : Rows)
+SettledRowsAreRight = (keys : ℕ → ℕ) (stmts : List Stmt) (P : List ℕ → Bool) (n : Worlds) (t : Tuple) (f : RowsByWorld)
     → IsConsistent keys stmts → HasStates stmts P → AreLinked P n
     → ((wid : ℕ) → IsSettled keys stmts n t f wid) → (wid : ℕ) → IsRight keys stmts n t f wid
 
 -- where no two statements of one path clash, the rows of the worlds are settled
 abbrev pub RightRowsAreSettled : Type 0
-RightRowsAreSettled = (keys : ℕ → ℕ) (stmts : List Stmt) (P : List ℕ → Bool) (n : Worlds) (t : Tuple) (f : Rows)
+RightRowsAreSettled = (keys : ℕ → ℕ) (stmts : List Stmt) (P : List ℕ → Bool) (n : Worlds) (t : Tuple) (f : RowsByWorld)
     → IsConsistent keys stmts → HasStates stmts P → AreLinked P n
     → ((wid : ℕ) → IsRight keys stmts n t f wid) → (wid : ℕ) → IsSettled keys stmts n t f wid
 

@@ -9,12 +9,12 @@ use std::marker::Model;
 
 /// Rows of a group of a world by the numbers of their tuples. Contracts see the list of the rows.
 #[derive(Drop)]
-pub struct Numbered<'a> {
+pub struct NumberedRows<'a> {
     rows: &'a [Marked],
     rising: bool,
 }
 
-impl<'a> Model for Numbered<'a> {
+impl<'a> Model for NumberedRows<'a> {
     ghost use Rattle.std.specs.Prelude.{◌≡◌, ℕ, true, List};
     ghost use Rattle.bdb_tables.specs.Marks.{Mark};
     ghost use Rattle.bdb_val.specs.Numbered.{AreRising};
@@ -26,12 +26,12 @@ impl<'a> Model for Numbered<'a> {
     ghost invariant = { λ n. n.rising ≡ true → AreRising n.rows.now };
 }
 
-impl<'a> Numbered<'a> {
+impl<'a> NumberedRows<'a> {
     /// Rows, whose order by number is found out once.
     pub fn of(rows: &'a [Marked]) -> Self
         ensures { result ≡ rows.now }
     {
-        Numbered {
+        NumberedRows {
             rows,
             rising: are_rising(rows),
         }

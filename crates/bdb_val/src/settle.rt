@@ -15,7 +15,7 @@ ghost use Rattle.bdb_val.specs.Stated.{WhereStated};
 ghost use Rattle.bdb_val.specs.Steps.{turns_from, comes, goes, IsChanging, IsStep};
 
 use crate::changes::{MarkChange, Marked, put_changes};
-use crate::numbered::Numbered;
+use crate::numbered::NumberedRows;
 use crate::reading::group_marks;
 use crate::room::{GroupRoom, Handed, WalkRoom};
 use crate::stored::SettledWorld;
@@ -132,7 +132,7 @@ fn keep_linked<K: Keeper>(
 fn told(own: &[Marked], changes: &[MarkChange]) -> SettledWorld
     ensures { TellsMarks (mark_under own.now) changes.now result }
 {
-    let rows = Numbered::of(own);
+    let rows = NumberedRows::of(own);
     let mut settled = SettledWorld {
         turned: false,
         put: 0,
