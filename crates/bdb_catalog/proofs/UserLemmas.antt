@@ -32,7 +32,7 @@ use Rattle.bdb_update.specs.StoredLaws.{is_edges}
 use Rattle.bdb_update.proofs.CountLemmas.{numbers_are_counted}
 use Rattle.bdb_update.proofs.GrammarLemmas.{stored_is_in_grammar}
 use Rattle.bdb_update.proofs.StayLemmas.{same_by_user}
-use Rattle.bdb_update.proofs.StoreLemmas.{edges_store_user, gone_place_stored}
+use Rattle.bdb_update.proofs.StoreLemmas.{edges_store_user, gone_place_stored, states_as}
 use Rattle.bdb_worlds.specs.Growth.{SameOutside}
 use Rattle.bdb_worlds.specs.UserEdges.{AddsUser, WritesEdges}
 use Rattle.bdb_catalog.specs.Creating.{MayAddUser, SomeMayAddUser, AddsUserNamed, WritesUser, AddsGonePlace, with_one_gone}
@@ -45,27 +45,6 @@ no_edges n e = grind (arith, nat_tests)
 -- the range of two tables is those of edges
 edges_alone : (t u : Tables) → SameOutside 9 10 t u → SameBut is_edges t u
 edges_alone t u same n k other = same n k (no_edges n other)
-
--- ---- states over users that are the same
-
-edges_as : (f g : ℕ → Bool) (ns : Names) → ((i : ℕ) → f i ≡ g i) → (k : ℕ × ℕ) → edge_of f ns k ≡ edge_of g ns k
-edges_as f g ns same k = by (path_of ns k.0)
-  where
-    by : (o : Option (List ℕ)) → option_and_then (edge_from f ns k.1) o ≡ option_and_then (edge_from g ns k.1) o
-    by None = refl
-    by (Some w) = ap (λ b. cond (b && not (is_suffix (k.1 ∷ []) w)) (number_of ns (edge_target (is_named ns) w k.1)) None) (same k.1)
-
-all_as : (f g : ℕ → Bool) → ((i : ℕ) → f i ≡ g i) → (w : List ℕ) → list_all f w ≡ list_all g w
-all_as f g same [] = refl
-all_as f g same (i ∷ w) = ap (λ b. b && list_all f w) (same i) ∙ ap (λ b. g i && b) (all_as f g same w)
-
-states_as : (f g : ℕ → Bool) (ns : Names) (t : Tables) → ((i : ℕ) → f i ≡ g i) → HoldsStates f ns t → HoldsStates g ns t
-states_as f g ns t same h = record {
-  names = h.names;
-  numbers = λ i e. h.numbers i (same i ∙ e);
-  own = λ w e. sym (all_as f g same w) ∙ h.own w e;
-  tables = tables_same t (depth_of ns) (link_of ns) (edge_of f ns) (depth_of ns) (link_of ns) (edge_of g ns) (λ k. refl) (λ k. refl) (edges_as f g ns same) h.tables;
-}
 
 -- ---- a user that may be added
 

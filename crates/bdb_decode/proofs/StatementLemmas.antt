@@ -27,6 +27,7 @@ use Rattle.bdb_base.proofs.BaseLemmas.{clash_itself}
 use Rattle.bdb_base.proofs.ClashLemmas.{turned, clash_is_symmetric}
 use Rattle.bdb_base.proofs.ListLemmas.{list_all_weaker, list_all_both, list_all_from_none, list_all-filter, filter_kept_one, filter_dropped_one}
 use Rattle.bdb_base.proofs.SetLemmas.{is_lt-Less, filter_keeps_order}
+use Rattle.bdb_update.proofs.ClashingLemmas.{keys_tell}
 use Rattle.bdb_decode.specs.Statements.{are_apart, are_consistent, are_few, below_next, below_plus, climbs, group_cmp, is_plus, place_cmp, plus_climb}
 
 -- ---- neighbours, and all pairs
@@ -203,25 +204,6 @@ less_of_group Equal Equal Equal k d h = absurd (not_equal_less h)
 less_of_group Equal Equal Greater k d h = absurd (not_greater_less h)
 less_of_group Equal Greater v k d h = absurd (not_greater_less h)
 less_of_group Greater n v k d h = absurd (not_greater_less h)
-
--- the first values of two rows tie, or they compare as the rows do
-first_tell : (n : ℕ) (xs ys : List Value) → (row_cmp (take n xs) (take n ys) ≡ Equal) ⊎ (row_cmp (take n xs) (take n ys) ≡ row_cmp xs ys)
-first_tell zero xs ys = inl refl
-first_tell (suc n) [] [] = inl refl
-first_tell (suc n) [] (y ∷ ys) = inr refl
-first_tell (suc n) (x ∷ xs) [] = inr refl
-first_tell (suc n) (x ∷ xs) (y ∷ ys) = by (value_cmp x y) (row_cmp (take n xs) (take n ys)) (row_cmp xs ys) (first_tell n xs ys)
-  where
-    by : (r a q : Ordering) → (a ≡ Equal) ⊎ (a ≡ q) → (ordering_then r a ≡ Equal) ⊎ (ordering_then r a ≡ ordering_then r q)
-    by Less a q d = inr refl
-    by Equal a q d = d
-    by Greater a q d = inr refl
-
--- the keys of two tuples of one relation tie, or they compare as the values do
-keys_tell : (keys : ℕ → ℕ) (t u : Tuple) → nat_cmp t.rel u.rel ≡ Equal → (row_cmp (key_of keys t) (key_of keys u) ≡ Equal) ⊎ (row_cmp (key_of keys t) (key_of keys u) ≡ row_cmp t.vals u.vals)
-keys_tell keys t u e =
-    let rel : t.rel ≡ u.rel = eqb-true t.rel u.rel (sym (is_eq_nat_cmp t.rel u.rel) ∙ ap is_eq e) in
-    subst (λ (r : ℕ). (row_cmp (key_of keys t) (take (keys r) u.vals) ≡ Equal) ⊎ (row_cmp (key_of keys t) (take (keys r) u.vals) ≡ row_cmp t.vals u.vals)) rel (first_tell (keys t.rel) t.vals u.vals)
 
 -- ---- which statements clash
 

@@ -32,6 +32,7 @@ use Rattle.bdb_tables.specs.Names.{leads_to}
 use Rattle.bdb_tables.specs.Spans.{AreUnder, IsUnder}
 use Rattle.bdb_tables.specs.Beginnings.{is_written}
 use Rattle.bdb_tables.proofs.PartLemmas.{vals_form}
+use Rattle.bdb_tables.proofs.BeginningLemmas.{values_part}
 use Rattle.bdb_exec.specs.Keys.{begins_so, of_key, rows_of_key}
 use Rattle.bdb_exec.specs.Readable.{CanBeRun}
 use Rattle.bdb_exec.specs.Rows.{IsNumberOf, signed_of, mark_denies, row_denies, world_prefix, key_prefix}
@@ -112,14 +113,6 @@ world_parts w rel nw nr k f e =
     let one = num_form k.0 w (num_bytes k.1 ++ vals_bytes k.2 ++ num_bytes k.3) (num_bytes rel ++ s.0) f.world nw s.1 in
     let two = num_form k.1 rel (vals_bytes k.2 ++ num_bytes k.3) s.0 f.rel nr one.1 in
     (one.0, two.0)
-
--- values whose bytes begin with those of others, which are no more, begin with them
-values_part : (vs xs : List Value) (a b : List ℕ) → ArePlain vs → ArePlain xs → length vs ≤ length xs → values_bytes xs ++ a ≡ values_bytes vs ++ b → take (length vs) xs ≡ vs
-values_part [] xs a b pv px few e = refl
-values_part (v ∷ vs) [] a b pv px few e = absurd (omega (arith, few))
-values_part (v ∷ vs) (x ∷ xs) a b pv px few e =
-    let one = value_form x v (values_bytes xs ++ a) (values_bytes vs ++ b) px.0 pv.0 (sym (append_assoc (value_bytes x) (values_bytes xs) a) ∙ e ∙ append_assoc (value_bytes v) (values_bytes vs) b) in
-    ap (λ (y : Value). y ∷ take (length vs) xs) one.0 ∙ ap (λ (ys : List Value). v ∷ ys) (values_part vs xs a b pv.1 px.1 (omega (arith, few)) one.1)
 
 -- the values of a key whose bytes begin with those of how many values it has and of some of them
 values_of : (n : ℕ) (vs xs : List Value) (tid : ℕ) (rest : List ℕ) → length vs ≤ n → IsNum n → ArePlain vs → AreKeyVals xs → vals_bytes xs ++ num_bytes tid ≡ num_bytes n ++ (values_bytes vs ++ rest)

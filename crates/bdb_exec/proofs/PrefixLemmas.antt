@@ -11,30 +11,6 @@ use Rattle.bdb_plan.specs.declared.step.Step.{Step}
 use Rattle.bdb_exec.specs.Keys.{value_behind, values_behind}
 use Rattle.bdb_tables.specs.Beginnings.{HasPutValues, is_written, led_by}
 
-plain_value : (v : Value) → is_written v ≡ true → IsWhole v → IsPlainValue v
-plain_value (Int m) w h = h
-plain_value (Text t) w h = w
-
-append_nil : (xs : List ℕ) → xs ≡ xs ++ []
-append_nil [] = refl
-append_nil (x ∷ xs) = ap (λ (r : List ℕ). x ∷ r) (append_nil xs)
-
--- nothing is asked for
-pub put_none : (old : List ℕ) (vs : List Value) → vs ≡ [] → HasPutValues true old old vs
-put_none old vs e = subst (HasPutValues true old old) (sym e) (append_nil old, tt)
-
--- a value that no key may have is asked for first
-pub put_unwritten : (old new : List ℕ) (v : Value) (vs : List Value) → is_written v ≡ false → HasPutValues false old new (v ∷ vs)
-put_unwritten old new v vs e = ap (λ b. b && list_all is_written vs) e
-
--- one that keys may have was put, and then the others
-pub put_more : (all : Bool) (old mid new : List ℕ) (v : Value) (vs : List Value) → is_written v ≡ true → IsWhole v → mid ≡ old ++ value_bytes v → HasPutValues all mid new vs → HasPutValues all old new (v ∷ vs)
-put_more true old mid new v vs w whole e h = (
-  h.0 ∙ ap (λ (x : List ℕ). x ++ values_bytes vs) e ∙ append_assoc old (value_bytes v) (values_bytes vs),
-  (plain_value v w whole, h.1),
-)
-put_more false old mid new v vs w whole e h = ap (λ b. b && list_all is_written vs) w ∙ h
-
 module _ (slots : List (Option Tuple)) (item : ℕ) (behind : List Step) where
   -- no more values are asked for than there are columns
   pub few_asked : (n col : ℕ) → length (values_behind slots item behind n col) ≤ n

@@ -10,7 +10,7 @@ use Rattle.bdb_base.specs.Bases.{Contents, IsValid, empty_contents}
 use Rattle.bdb_base.specs.Causes.{Rises}
 use Rattle.bdb_base.specs.declared.kinds.RelDef.{RelDef}
 use Rattle.bdb_base.specs.declared.kinds.UserSlot.{UserSlot}
-use Rattle.bdb_base.proofs.SameLemmas.{same_text-Decides}
+use Rattle.bdb_base.specs.SameLemmas.{same_text-Decides}
 use Rattle.bdb_canon.specs.declared.sizes.Counts.{Counts}
 use Rattle.bdb_catalog.specs.Bases.{StoresValid, StoresSome}
 use Rattle.bdb_catalog.specs.Opening.{StandFor, StandForSome, StoredFormerly, IsPartOf}
