@@ -20,12 +20,12 @@ use Rattle.bdb_base.specs.declared.kinds.Value.TheVariants.{Int, Text}
 use Rattle.bdb_base.specs.declared.tuple.Tuple.{Tuple}
 use Rattle.bdb_base.proofs.SetLemmas.{is_eq-Equal}
 use Rattle.bdb_key.specs.Bytes.{num_bytes, value_bytes, values_bytes, vals_bytes}
-use Rattle.bdb_key.specs.Grammar.{IsNum, IsWhole, IsPlainValue, ArePlain, AreKeyVals}
+use Rattle.bdb_key.specs.Grammar.{IsNum, ArePlain, AreKeyVals}
 use Rattle.bdb_key.specs.Rows.{IsTupleRow}
-use Rattle.bdb_key.proofs.Readings.{num_form, value_form}
+use Rattle.bdb_key.proofs.Readings.{num_form}
 use Rattle.bdb_tables.specs.InUse.{val_bytes}
 use Rattle.bdb_tables.specs.Rows.{AreKeyLengths}
-use Rattle.bdb_tables.specs.Beginnings.{HasPutValues, is_written, led_by}
+use Rattle.bdb_tables.specs.Beginnings.{is_written, led_by}
 use Rattle.bdb_tables.proofs.BeginningLemmas.{values_part}
 use Rattle.bdb_val.specs.Reads.{IsSpan}
 use Rattle.bdb_val.specs.Settling.{row_key}

@@ -1,15 +1,12 @@
 -- A user more in the catalog of a stored base.
-use Rattle.std.proofs.Common.{◌≡◌, ◌∙◌, ℕ, ◌+◌, ◌*◌, ◌≤◌, Bool, true, false, not, ◌&&◌, ◌||◌, nat_eq, nat_le, cond, List, [], ◌∷◌, ◌++◌, length, refl, sym, ap, subst, arith, Option, Some, None}
+use Rattle.std.proofs.Common.{◌≡◌, ◌∙◌, ℕ, ◌+◌, ◌*◌, ◌≤◌, Bool, true, false, ◌&&◌, ◌||◌, nat_eq, nat_le, List, [], ◌∷◌, ◌++◌, length, refl, sym, ap, subst, arith, Option, Some}
 use Rattle.std.specs.List.{list_all}
-use Rattle.std.specs.Option.{option_and_then}
 use Rattle.std.specs.FinMap as tables
 use Rattle.std.proofs.lemmas.Bool.{and_parts}
 use Rattle.std.proofs.lemmas.Bool.Decides.{nat_tests}
 use Rattle.std.proofs.lemmas.List.Folds.{list_all-append}
 use Rattle.bdb_base.specs.Bases.{Contents, is_plain, is_user, user_names, world_count}
 use Rattle.bdb_base.specs.Causes.{Rises, RoseBy}
-use Rattle.bdb_base.specs.Segments.{is_suffix}
-use Rattle.bdb_base.specs.States.{edge_target}
 use Rattle.bdb_base.specs.declared.kinds.UserSlot.{UserSlot}
 use Rattle.bdb_base.specs.declared.kinds.UserSlot.TheVariants.{Live, Gone}
 use Rattle.bdb_base.proofs.BaseLemmas.{names_push}
@@ -18,11 +15,9 @@ use Rattle.bdb_keep.specs.Seen.{Seen}
 use Rattle.bdb_keep.specs.Tables.{Tables}
 use Rattle.bdb_key.specs.Grammar.{IsNum, IsPlain}
 use Rattle.bdb_names.specs.Drops.{with_one_user}
-use Rattle.bdb_names.proofs.TurnedLemmas.{tables_same}
 use Rattle.bdb_tables.specs.Codec.{place}
 use Rattle.bdb_tables.specs.Grammar.{InGrammar}
 use Rattle.bdb_tables.specs.InUse.{user_codec}
-use Rattle.bdb_tables.specs.Names.{Names, path_of, number_of, is_named, depth_of, link_of, edge_of, edge_from}
 use Rattle.bdb_tables.specs.States.{HoldsStates}
 use Rattle.bdb_tables.specs.Stored.{SameBut, StoredAs}
 use Rattle.bdb_tables.specs.Writes.{with_change}

@@ -1,18 +1,18 @@
 -- Neighbours that ascend make statements that are in order and do not clash.
-use Rattle.std.proofs.Common.{◌≡◌, ◌∙◌, ◌⊎◌, ℕ, zero, suc, Bool, true, false, not, ◌&&◌, ◌||◌, nat_eq, nat_le, List, [], ◌∷◌, length, take, filter, refl, ap, sym, subst, arith, inl, inr}
+use Rattle.std.proofs.Common.{◌≡◌, ◌∙◌, ◌⊎◌, ℕ, Bool, true, false, not, ◌&&◌, ◌||◌, nat_eq, nat_le, List, [], ◌∷◌, length, filter, refl, ap, sym, arith, inl, inr}
 use Rattle.std.specs.Bool.{MatchBool}
 use Rattle.std.specs.List.{list_all, list_any}
 use Rattle.std.specs.declared.cmp.Ordering.{Ordering}
 use Rattle.std.specs.declared.cmp.Ordering.TheVariants.{Less, Equal, Greater}
 use Rattle.std.specs.Ordering.{nat_cmp, is_eq, is_lt, ordering_then}
 use Rattle.std.specs.Cmp.{IsTotalOrder}
-use Rattle.std.proofs.lemmas.Bool.{cases_Bool, and_parts, and_from, and_right, or_parts, or_from, false≢true, not_from_false, cond-true, cond-false, eqb-true}
+use Rattle.std.proofs.lemmas.Bool.{cases_Bool, and_parts, and_from, and_right, or_parts, or_from, false≢true, not_from_false, cond-true, cond-false}
 use Rattle.std.proofs.lemmas.Bool.Decides.{nat_tests}
 use Rattle.std.proofs.lemmas.Cmp.{then_total, on_total, nat_cmp_total}
 use Rattle.bdb_base.specs.Bases.{AreStatements, belongs, key_lengths, tuple_count, world_count}
 use Rattle.bdb_base.specs.Clash.{clash, key_of, same_key}
 use Rattle.bdb_base.specs.Limits.{most_statements, most_tuples, most_worlds}
-use Rattle.bdb_base.specs.Order.{value_cmp, row_cmp, path_cmp, tuple_cmp, sign_cmp, statement_cmp}
+use Rattle.bdb_base.specs.Order.{row_cmp, path_cmp, tuple_cmp, sign_cmp, statement_cmp}
 use Rattle.bdb_base.specs.OrderLemmas.{path_total, row_total, tuple_total, statement_exact, is_eq_path_cmp, is_eq_tuple_cmp, is_eq_row_cmp}
 use Rattle.bdb_base.specs.Same.{same_path, same_tuple, same_values, same_sign}
 use Rattle.bdb_base.specs.SameLemmas.{same_path-Decides}
@@ -21,7 +21,6 @@ use Rattle.bdb_base.specs.declared.kinds.Catalog.{Catalog}
 use Rattle.bdb_base.specs.declared.kinds.Sign.{Sign}
 use Rattle.bdb_base.specs.declared.kinds.Sign.TheVariants.{Plus, Minus}
 use Rattle.bdb_base.specs.declared.kinds.Stmt.{Stmt}
-use Rattle.bdb_base.specs.declared.kinds.Value.{Value}
 use Rattle.bdb_base.specs.declared.tuple.Tuple.{Tuple}
 use Rattle.bdb_base.proofs.BaseLemmas.{clash_itself}
 use Rattle.bdb_base.proofs.ClashLemmas.{turned, clash_is_symmetric}

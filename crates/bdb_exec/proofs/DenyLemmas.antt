@@ -20,7 +20,7 @@ use Rattle.bdb_keep.specs.Tables.{Tables}
 use Rattle.bdb_key.specs.Bytes.{num_bytes, value_bytes, values_bytes, vals_bytes}
 use Rattle.bdb_key.specs.Grammar.{IsNum, ArePlain, AreKeyVals}
 use Rattle.bdb_key.proofs.Compared.{values_tie}
-use Rattle.bdb_key.proofs.Readings.{num_form, value_form}
+use Rattle.bdb_key.proofs.Readings.{num_form}
 use Rattle.bdb_plan.specs.Running.{plus_tuples}
 use Rattle.bdb_plan.specs.Sight.{rows_deny}
 use Rattle.bdb_tables.specs.Codec.{HasRow}

@@ -1,15 +1,10 @@
 -- Values that are asked for, one column after the other.
-use Rattle.std.proofs.Common.{◌≡◌, ◌∙◌, ℕ, zero, suc, ◌+◌, ◌-◌, ◌≤◌, ◌<◌, Bool, true, false, ◌&&◌, List, [], ◌∷◌, ◌++◌, Option, Some, None, length, refl, ap, sym, subst, arith}
-use Rattle.std.specs.List.{list_all}
-use Rattle.std.proofs.lemmas.List.{append_assoc}
+use Rattle.std.proofs.Common.{◌≡◌, ◌∙◌, ℕ, zero, suc, ◌+◌, ◌-◌, ◌≤◌, ◌<◌, List, [], Option, Some, None, length, ap, sym, arith}
 use Rattle.bdb_base.specs.declared.kinds.Value.{Value}
-use Rattle.bdb_base.specs.declared.kinds.Value.TheVariants.{Int, Text}
 use Rattle.bdb_base.specs.declared.tuple.Tuple.{Tuple}
-use Rattle.bdb_key.specs.Bytes.{value_bytes, values_bytes}
-use Rattle.bdb_key.specs.Grammar.{IsPlainValue, IsWhole}
 use Rattle.bdb_plan.specs.declared.step.Step.{Step}
 use Rattle.bdb_exec.specs.Keys.{value_behind, values_behind}
-use Rattle.bdb_tables.specs.Beginnings.{HasPutValues, is_written, led_by}
+use Rattle.bdb_tables.specs.Beginnings.{led_by}
 
 module _ (slots : List (Option Tuple)) (item : ℕ) (behind : List Step) where
   -- no more values are asked for than there are columns
