@@ -5,7 +5,6 @@ pub mod BaseLemmas
 pub mod CountLemmas
 pub mod ListLemmas
 pub mod Rows
-pub mod SameLemmas
 pub mod SegmentLemmas
 pub mod SetLemmas
 pub mod UpdateLemmas

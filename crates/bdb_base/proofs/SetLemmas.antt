@@ -249,7 +249,7 @@ module _ {X : Type 0} {R : X → X → Ordering} (o : IsExactOrder R) where
   pub taken_belongs : (xs : List X) (x : X) (at : ℕ) → BelongsAt R xs x at → taken_out R xs x ≡ xs
   taken_belongs xs x at b = taken_absent x xs (member_belongs xs x at b)
 
-  -- ---- the steps of a search by halves
+  -- ---- the steps of a binary search
 
   pub search_up : (xs : List X) (x y : X) (m : ℕ) → ascending R xs ≡ true → m < length xs → y ≡ get_or xs m y → Less ≡ R y x → are_below R x (take (m + 1) xs) ≡ true
   search_up xs x y m h l r e =

@@ -16,7 +16,7 @@ pub fn has_tuple(stmts: &[Stmt], t: &Tuple) -> bool
     stmts.iter().any(|stmt| cmp_tuple(t, &stmt.tuple).is_eq())
 }
 
-/// How many different tuples the statements have. It keeps a sorted list of them, so that each look-up goes by halves.
+/// How many different tuples the statements have. It keeps a sorted list of them, so that each look-up is a binary search.
 pub fn distinct_tuples(alloc: Global, stmts: &[Stmt]) -> Result<usize, AllocError>
     ensures { IfOk result (λ count. count ≡ tuple_count stmts.now) }
 {

@@ -9,7 +9,7 @@ use std::marker::Model;
 
 /// A value that can be copied exactly.
 pub trait Exact: Drop {
-    /// An equal value. The only error is want of memory.
+    /// An equal value. The only error is running out of memory.
     fn try_clone(&self, alloc: Global) -> Result<Self, AllocError>
         ensures { IfOk result (λ copy. copy ≡ self.now) };
 }

@@ -78,8 +78,8 @@ impl Ordered for Stmt {
     }
 }
 
-/// Where an item stands in a set: `Ok` with its place, or `Err` with the place where it belongs. The search goes by
-/// halves.
+/// Where an item stands in a set: `Ok` with its place, or `Err` with the place where it belongs. It is a
+/// binary search.
 pub fn place_of<X: Ordered>(xs: &[X], x: &X) -> Result<usize, usize>
     requires { ascending X.order xs.now ≡ true }
     ensures { MatchResult result (λ at. slice_get xs.now at ≡ Some x.now)

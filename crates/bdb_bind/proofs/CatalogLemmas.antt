@@ -10,8 +10,9 @@ use Rattle.bdb_base.specs.Limits.{most_users, most_relations, most_columns}
 use Rattle.bdb_base.specs.Alternation.{alternates}
 use Rattle.bdb_base.specs.Bases.{IsCatalog, is_valid_relation}
 use Rattle.bdb_base.specs.Same.{same_text}
+use Rattle.bdb_base.specs.Queries.{columns_of_definition}
 use Rattle.bdb_syntax.specs.declared.command.Command.{Command}
-use Rattle.bdb_bind.specs.Lookup.{number_of, columns_in, columns_of, path_of}
+use Rattle.bdb_bind.specs.Lookup.{number_of, columns_of, path_of}
 use Rattle.bdb_bind.specs.Parts.{path_names, new_columns, new_key, relation_name, tuple_values, relation_place, columns_for, change_columns}
 use Rattle.bdb_bind.specs.Lines.{unknown_relation, relation_line, values_arity, arity_line}
 use Rattle.bdb_bind.specs.Refusal.{names_refused}
@@ -42,7 +43,7 @@ few_of : (rels : List RelDef) (name : List ℕ) → list_all is_valid_relation r
 few_of [] name valid = omega arith
 few_of (r ∷ rs) name valid =
     let parts = and_parts (is_valid_relation r) (list_all is_valid_relation rs) valid in
-    let Few : Option RelDef → Type 0 = λ o. length (columns_in o) ≤ 16 in
+    let Few : Option RelDef → Type 0 = λ o. length (columns_of_definition o) ≤ 16 in
     elim (cases_Bool (same_text r.name name)) [
       | inl here ↦ subst Few (sym (cond-true (same_text r.name name) (Some r) (find (λ x. same_text x.name name) rs) here)) (columns_within r parts.0).1
       | inr other ↦ subst Few (sym (cond-false (same_text r.name name) (Some r) (find (λ x. same_text x.name name) rs) other)) (few_of rs name parts.1)
@@ -98,7 +99,7 @@ values_filled catalog c rel vals valid named valued accepted =
     let clear = cleared catalog c accepted in
     let w = relation_found catalog rel (named_relation catalog c rel named clear.relation) in
     let many = (columns_within w.2.item (all_at is_valid_relation catalog.rels w.2.at w.2.item valid.rels_valid w.2.there)).0 in
-    let same : columns_of catalog.rels rel ≡ w.2.item.cols = ap columns_in w.2.first in
+    let same : columns_of catalog.rels rel ≡ w.2.item.cols = ap columns_of_definition w.2.first in
     let counted = values_counted catalog c rel vals named valued clear.arity in
     omega (arith, ap length same)
 

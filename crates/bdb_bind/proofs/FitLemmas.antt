@@ -14,6 +14,7 @@ use Rattle.bdb_base.specs.declared.kinds.Value.{Value}
 use Rattle.bdb_base.specs.declared.kinds.Value.TheVariants.{Int, Text}
 use Rattle.bdb_base.specs.Same.{same_text, same_kind}
 use Rattle.bdb_base.specs.Bases.{is_clean, is_plain, fits_kind, fits_columns, are_distinct, user_names}
+use Rattle.bdb_base.specs.Safety.{one_kind}
 use Rattle.bdb_syntax.specs.declared.command.Command.{Command}
 use Rattle.bdb_syntax.specs.declared.command.RawCond.{RawCond}
 use Rattle.bdb_syntax.specs.declared.command.RawSide.{RawSide}
@@ -21,7 +22,7 @@ use Rattle.bdb_syntax.specs.declared.command.RawSide.TheVariants.{Col, Lit}
 use Rattle.bdb_syntax.specs.declared.command.RawSet.{RawSet}
 use Rattle.bdb_bind.specs.Lookup.{is_called, column_at, has_column, kind_at, path_of}
 use Rattle.bdb_bind.specs.Parts.{path_names, depth_limit, value_texts, side_texts, cond_columns, side_columns, is_long}
-use Rattle.bdb_bind.specs.Kinds.{are_one_kind, kind_of}
+use Rattle.bdb_bind.specs.Kinds.{kind_of}
 use Rattle.bdb_bind.specs.Lines.{first_repeated, misfit, side_kind, fits_set, fits_cond}
 use Rattle.bdb_bind.specs.Binding.{place_of, bound_side, bound_cond, bound_set}
 use Rattle.bdb_bind.specs.Fits.{is_unclean, fits_path, fits_found, set_fits, kind_of_place, side_fits, cond_fits}
@@ -89,7 +90,7 @@ pub one_set_fits : (cols : List ColDef) (s : RawSet) → has_column cols s.col �
     → list_any is_long (value_texts s.to) ≡ false → list_any is_unclean (value_texts s.to) ≡ false → set_fits cols (bound_set cols s) ≡ true
 one_set_fits cols s known fit short clean =
     let w = column_found cols s.col known in
-    let same : same_kind w.item.kind (kind_of s.to) ≡ true = sym (ap (λ o. are_one_kind o (Some (kind_of s.to))) w.kind) ∙ fit in
+    let same : same_kind w.item.kind (kind_of s.to) ≡ true = sym (ap (λ o. one_kind o (Some (kind_of s.to))) w.kind) ∙ fit in
     ap (λ o. fits_found o s.to) w.there ∙ value_fits w.item.kind s.to same short clean
 
 pub sets_fit : (cols : List ColDef) (sets : List RawSet) → list_all (has_column cols) (map (λ s. s.col) sets) ≡ true → list_all (fits_set cols) sets ≡ true
@@ -106,17 +107,17 @@ sets_fit cols (s ∷ ss) known fit short clean =
 -- comparisons
 
 pub one_side_fits : (cols : List ColDef) (left : List ℕ) (side : RawSide) → has_column cols left ≡ true → list_all (has_column cols) (side_columns side) ≡ true
-    → are_one_kind (kind_at cols left) (side_kind cols side) ≡ true → list_any is_long (side_texts side) ≡ false → list_any is_unclean (side_texts side) ≡ false
+    → one_kind (kind_at cols left) (side_kind cols side) ≡ true → list_any is_long (side_texts side) ≡ false → list_any is_unclean (side_texts side) ≡ false
     → side_fits cols (place_of cols left) (bound_side cols side) ≡ true
 one_side_fits cols left (Col r) known right fit short clean =
     let a = column_found cols left known in
     let b = column_found cols r.col (and_parts (has_column cols r.col) true right).0 in
     let kind_a : kind_of_place cols (place_of cols left) ≡ kind_at cols left = ap (option_map (λ c. c.kind)) a.there ∙ sym a.kind in
     let kind_b : kind_of_place cols (place_of cols r.col) ≡ kind_at cols r.col = ap (option_map (λ c. c.kind)) b.there ∙ sym b.kind in
-    ap (λ k. are_one_kind k (kind_of_place cols (place_of cols r.col))) kind_a ∙ ap (are_one_kind (kind_at cols left)) kind_b ∙ fit
+    ap (λ k. one_kind k (kind_of_place cols (place_of cols r.col))) kind_a ∙ ap (one_kind (kind_at cols left)) kind_b ∙ fit
 one_side_fits cols left (Lit v) known right fit short clean =
     let a = column_found cols left known in
-    let same : same_kind a.item.kind (kind_of v) ≡ true = sym (ap (λ o. are_one_kind o (Some (kind_of v))) a.kind) ∙ fit in
+    let same : same_kind a.item.kind (kind_of v) ≡ true = sym (ap (λ o. one_kind o (Some (kind_of v))) a.kind) ∙ fit in
     ap (λ o. fits_found o v) a.there ∙ value_fits a.item.kind v same short clean
 
 pub conds_fit : (cols : List ColDef) (conds : List RawCond) → list_all (has_column cols) (cond_columns conds) ≡ true → list_all (fits_cond cols) conds ≡ true

@@ -11,12 +11,13 @@ use Rattle.bdb_base.specs.declared.kinds.Sign.{Sign}
 use Rattle.bdb_base.specs.declared.kinds.Value.{Value}
 use Rattle.bdb_base.specs.Same.{same_text}
 use Rattle.bdb_base.specs.Bases.{IsCatalog, is_plain, fits_columns, fits_relation, are_distinct, is_user, user_names, users_name}
+use Rattle.bdb_base.specs.Queries.{columns_of_definition}
 use Rattle.bdb_syntax.specs.declared.command.Command.{Command}
 use Rattle.bdb_syntax.specs.declared.command.Command.TheVariants.{CreateUser, DropUser, CreateRelation, Insert, Delete, Update, Select, Explain, ShowWorld, Why, ShowTables, Undo, Redo}
 use Rattle.bdb_syntax.specs.declared.command.RawCond.{RawCond}
 use Rattle.bdb_syntax.specs.declared.command.RawQuery.{RawQuery}
 use Rattle.bdb_syntax.specs.declared.command.RawSet.{RawSet}
-use Rattle.bdb_bind.specs.Lookup.{is_called, is_user_name, uid_at, number_of, columns_in, columns_of, has_column}
+use Rattle.bdb_bind.specs.Lookup.{is_called, is_user_name, uid_at, number_of, columns_of, has_column}
 use Rattle.bdb_bind.specs.Parts.{query_of, relation_name, tuple_values, columns_for, change_columns, value_texts, side_texts, cond_columns, is_long, some_who_text, some_query_text, some_signed_text, some_text}
 use Rattle.bdb_bind.specs.Lines.{first_repeated, missing_column, items_line, relation_line, user_line, alias_line, column_line, key_line, repeat_line, taken_line, misfit, values_kind, fits_set, fits_cond, set_kinds, cond_kinds, change_kind, kind_line}
 use Rattle.bdb_bind.specs.Binding.{relation_at, key_length, bound_cond, bound_set, bound_of}
@@ -43,11 +44,11 @@ relation_numbered catalog name known =
     let w = relation_found catalog name known in
     let f = w.2 in
     let place : relation_at catalog.rels name ≡ f.at = ap (λ o. unwrap_or o 0) w.1 ∙ f.place ∙ zero-add f.at in
-    record { def = f.item; there = ap (slice_get catalog.rels) place ∙ f.there; columns = ap columns_in f.first; within = omega (arith, place, f.within) }
+    record { def = f.item; there = ap (slice_get catalog.rels) place ∙ f.there; columns = ap columns_of_definition f.first; within = omega (arith, place, f.within) }
 
 -- the columns of a name and of its number are the same
 same_columns : (catalog : Catalog) (name : List ℕ) (r : IsRelation catalog name) → columns_numbered catalog.rels (relation_at catalog.rels name) ≡ columns_of catalog.rels name
-same_columns catalog name r = ap columns_in r.there ∙ sym r.columns
+same_columns catalog name r = ap columns_of_definition r.there ∙ sym r.columns
 
 columns_there : (cols : List ColDef) (names : List (List ℕ)) → missing_column cols names ≡ None → list_all (has_column cols) names ≡ true
 unfolding missing_column

@@ -8,7 +8,8 @@ use Rattle.bdb_base.specs.declared.kinds.UserSlot.{UserSlot}
 use Rattle.bdb_base.specs.declared.kinds.UserSlot.TheVariants.{Live, Gone}
 use Rattle.bdb_base.specs.Bases.{are_distinct, user_names}
 use Rattle.bdb_base.specs.Same.{same_text}
-use Rattle.bdb_bind.specs.Lookup.{is_called, is_called_at, uid_of, is_name, number_of, columns_in, columns_of}
+use Rattle.bdb_base.specs.Queries.{columns_of_definition}
+use Rattle.bdb_bind.specs.Lookup.{is_called, is_called_at, uid_of, is_name, number_of, columns_of}
 use Rattle.bdb_bind.proofs.Founds.{same_text_equal, found}
 
 -- a name of a list is among the names
@@ -80,4 +81,4 @@ columns_at_place rels at name def differ here there =
     let place : f.at ≡ at = sym (f.place ∙ zero-add f.at) in
     let one : Some f.item ≡ Some def = sym f.there ∙ ap (slice_get rels) place ∙ there in
     let item : f.item ≡ def = cc in
-    ap columns_in f.first ∙ ap (λ d. d.cols) item
+    ap columns_of_definition f.first ∙ ap (λ d. d.cols) item

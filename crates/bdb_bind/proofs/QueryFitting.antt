@@ -27,8 +27,8 @@ use Rattle.bdb_syntax.specs.declared.command.RawWho.TheVariants as who
 use Rattle.bdb_bind.specs.declared.bound.BindError.{BindError}
 use Rattle.bdb_bind.specs.Firsts.{first_in}
 use Rattle.bdb_bind.specs.Fits.{is_unclean}
-use Rattle.bdb_bind.specs.Kinds.{kind_of, are_one_kind}
-use Rattle.bdb_bind.specs.Lookup.{is_user_name, uid_at, number_of, columns_in, columns_of, column_at}
+use Rattle.bdb_bind.specs.Kinds.{kind_of}
+use Rattle.bdb_bind.specs.Lookup.{is_user_name, uid_at, number_of, columns_of, column_at}
 use Rattle.bdb_bind.specs.Parts.{value_texts, side_texts, is_long}
 use Rattle.bdb_bind.specs.QueryBinding.{place_named, query_column_at, query_side, query_cond, query_who, query_item, bound_query}
 use Rattle.bdb_bind.specs.QueryLines.{item_relation, who_user, item_user, in_who, in_path, in_side, in_cond, in_later_columns, in_columns, column_alias, column_missing, column_not_uid, begins_with_name, repeats_name, kind_named, kind_of_side, cond_kind}
@@ -91,7 +91,7 @@ numbered_columns catalog name known =
     let w = relation_found catalog name known in
     let f = w.2 in
     let place : unwrap_or (number_of catalog.rels name) 0 ≡ f.at = ap (λ o. unwrap_or o 0) w.1 ∙ f.place ∙ zero-add f.at in
-    ap columns_of_definition (ap (slice_get catalog.rels) place ∙ f.there) ∙ sym (ap columns_in f.first)
+    ap columns_of_definition (ap (slice_get catalog.rels) place ∙ f.there) ∙ sym (ap columns_of_definition f.first)
 
 relation_there : (catalog : Catalog) (name : List ℕ) → is_some (number_of catalog.rels name) ≡ true
     → is_some (slice_get catalog.rels (unwrap_or (number_of catalog.rels name) 0)) ≡ true
@@ -233,12 +233,6 @@ takes_fit catalog items (c ∷ cs) relations alias missing =
 
 -- ---- comparisons
 
-one_kind_is : (a b : Option Kind) → one_kind a b ≡ are_one_kind a b
-one_kind_is None None = refl
-one_kind_is None (Some k) = refl
-one_kind_is (Some k) None = refl
-one_kind_is (Some k) (Some j) = refl
-
 -- a literal that is short and clean may stand in a base
 literal_fits : (v : Value) → list_any is_long (value_texts v) ≡ false → list_any is_unclean (value_texts v) ≡ false → literal_kind v ≡ Some (kind_of v)
 literal_fits (value.Int n) short clean = refl
@@ -264,7 +258,7 @@ one_cond_fits catalog items c relations alias missing agree short clean =
     let bound = map (query_item catalog items) items in
     ap (λ k. one_kind k (operand_kind catalog.rels bound (query_side catalog.rels items c.right))) (left.numbered ∙ sym left.named)
     ∙ ap (one_kind (kind_named catalog.rels items c.left)) right
-    ∙ one_kind_is (kind_named catalog.rels items c.left) (kind_of_side catalog.rels items c.right) ∙ not-false _ (not_refused _ _ agree)
+    ∙ not-false _ (not_refused _ _ agree)
 
 conds_all_fit : (catalog : Catalog) (items : List RawItem) (conds : List RawCond) → first_in (item_relation catalog.rels) items ≡ None
     → first_in (in_cond (column_alias items)) conds ≡ None → first_in (in_cond (column_missing catalog.rels items)) conds ≡ None

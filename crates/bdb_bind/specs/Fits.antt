@@ -16,14 +16,13 @@ use Rattle.bdb_base.specs.declared.kinds.UserSlot.{UserSlot}
 use Rattle.bdb_base.specs.declared.kinds.Value.{Value}
 use Rattle.bdb_base.specs.Alternation.{alternates}
 use Rattle.bdb_base.specs.Bases.{IsCatalog, belongs, is_user, user_names, is_clean, is_plain, fits_kind, fits_relation, are_distinct, is_valid_relation}
-use Rattle.bdb_base.specs.Safety.{query_fits}
+use Rattle.bdb_base.specs.Safety.{one_kind, query_fits}
+use Rattle.bdb_base.specs.Queries.{columns_of_definition}
 use Rattle.bdb_syntax.specs.declared.command.Command.{Command}
 use Rattle.bdb_syntax.specs.declared.command.Command.TheVariants.{CreateRelation}
 use Rattle.bdb_bind.specs.declared.bound.Bound.{Bound}
 use Rattle.bdb_bind.specs.declared.bound.Bound.TheVariants as bound
-use Rattle.bdb_bind.specs.Lookup.{columns_in}
 use Rattle.bdb_bind.specs.Parts.{some_text}
-use Rattle.bdb_bind.specs.Kinds.{are_one_kind}
 use Rattle.bdb_bind.specs.Refusal.{refusal_of}
 use Rattle.bdb_bind.specs.Binding.{bound_of}
 use Rattle.bdb_bind.specs.Safe.{is_safe}
@@ -60,7 +59,7 @@ kind_of_place cols at = option_map (λ c. c.kind) (slice_get cols at)
 
 -- a comparison's right side is of the kind of the column at a place; a column is there, and of item 0
 abbrev pub side_fits : List ColDef → ℕ → Operand → Bool
-side_fits cols at (operand.Col r) = nat_eq r.item 0 && are_one_kind (kind_of_place cols at) (kind_of_place cols r.col)
+side_fits cols at (operand.Col r) = nat_eq r.item 0 && one_kind (kind_of_place cols at) (kind_of_place cols r.col)
 side_fits cols at (operand.Lit v) = fits_found (slice_get cols at) v
 
 -- a comparison's sides are columns of item 0 that are there, or values, of one kind
@@ -69,7 +68,7 @@ cond_fits cols c = nat_eq c.left.item 0 && side_fits cols c.left.col c.right
 
 -- the columns of a relation, by its number
 abbrev pub columns_numbered : List RelDef → ℕ → List ColDef
-columns_numbered rels number = columns_in (slice_get rels number)
+columns_numbered rels number = columns_of_definition (slice_get rels number)
 
 -- a query fits the catalog, and is safe
 abbrev pub can_be_answered : Catalog → Query → Bool

@@ -11,6 +11,7 @@ use Rattle.bdb_base.specs.declared.kinds.UserSlot.{UserSlot}
 use Rattle.bdb_base.specs.declared.kinds.Value.{Value}
 use Rattle.bdb_base.specs.Same.{same_text, same_kind}
 use Rattle.bdb_base.specs.Bases.{users_name}
+use Rattle.bdb_base.specs.Safety.{one_kind}
 use Rattle.bdb_syntax.specs.declared.command.Command.{Command}
 use Rattle.bdb_syntax.specs.declared.command.Command.TheVariants.{CreateUser, CreateRelation, Insert, Delete, Update, Why}
 use Rattle.bdb_syntax.specs.declared.command.RawCond.{RawCond}
@@ -20,7 +21,7 @@ use Rattle.bdb_syntax.specs.declared.command.RawSet.{RawSet}
 use Rattle.bdb_bind.specs.declared.bound.BindError.{BindError}
 use Rattle.bdb_bind.specs.declared.bound.BindError.TheVariants as error
 use Rattle.bdb_bind.specs.Firsts.{refused_if, or_next}
-use Rattle.bdb_bind.specs.Kinds.{kind_of, are_one_kind}
+use Rattle.bdb_bind.specs.Kinds.{kind_of}
 use Rattle.bdb_bind.specs.Lookup.{is_user_name, number_of, has_column, kind_at}
 use Rattle.bdb_bind.specs.Parts.{query_of, change_columns, path_names, depth_limit, relation_name, tuple_values, new_columns, new_key, cond_columns, is_long, some_text}
 use Rattle.bdb_bind.specs.QueryLines.{query_items, query_relation, query_user, query_alias_twice, query_alias, query_column, query_repeat, query_deep, query_kind}
@@ -154,11 +155,11 @@ side_kind cols (Lit v) = Some (kind_of v)
 
 -- a set gives a column a value of its kind
 abbrev pub fits_set : List ColDef → RawSet → Bool
-fits_set cols s = are_one_kind (kind_at cols s.col) (Some (kind_of s.to))
+fits_set cols s = one_kind (kind_at cols s.col) (Some (kind_of s.to))
 
 -- a comparison's sides are of one kind
 abbrev pub fits_cond : List ColDef → RawCond → Bool
-fits_cond cols c = are_one_kind (kind_at cols c.left.col) (side_kind cols c.right)
+fits_cond cols c = one_kind (kind_at cols c.left.col) (side_kind cols c.right)
 
 -- the first set that joins two kinds
 unfoldable pub set_kinds : List ColDef → List RawSet → Option BindError

@@ -8,6 +8,7 @@ use Rattle.bdb_base.specs.declared.kinds.RelDef.{RelDef}
 use Rattle.bdb_base.specs.declared.kinds.UserSlot.{UserSlot}
 use Rattle.bdb_base.specs.declared.kinds.UserSlot.TheVariants.{Live, Gone}
 use Rattle.bdb_base.specs.Same.{same_text}
+use Rattle.bdb_base.specs.Queries.{columns_of_definition}
 
 -- the user of a place is live, and is called so
 abbrev pub is_called : List ℕ → UserSlot → Bool
@@ -44,14 +45,9 @@ is_name name (Some x) = same_text x name
 abbrev pub number_of : List RelDef → List ℕ → Option ℕ
 number_of rels name = position_from (λ r. same_text r.name name) 0 rels
 
--- the columns of a relation that may not be there
-abbrev pub columns_in : Option RelDef → List ColDef
-columns_in None = []
-columns_in (Some def) = def.cols
-
 -- the columns of the relation of a name
 abbrev pub columns_of : List RelDef → List ℕ → List ColDef
-columns_of rels name = columns_in (find (λ r. same_text r.name name) rels)
+columns_of rels name = columns_of_definition (find (λ r. same_text r.name name) rels)
 
 -- the place of a column, from 0
 abbrev pub column_at : List ColDef → List ℕ → Option ℕ

@@ -7,6 +7,7 @@ use Rattle.bdb_base.specs.declared.kinds.Kind.{Kind}
 use Rattle.bdb_base.specs.declared.kinds.RelDef.{RelDef}
 use Rattle.bdb_base.specs.declared.kinds.UserSlot.{UserSlot}
 use Rattle.bdb_base.specs.Same.{same_text}
+use Rattle.bdb_base.specs.Safety.{one_kind}
 use Rattle.bdb_syntax.specs.declared.command.RawCol.{RawCol}
 use Rattle.bdb_syntax.specs.declared.command.RawCond.{RawCond}
 use Rattle.bdb_syntax.specs.declared.command.RawItem.{RawItem}
@@ -18,7 +19,7 @@ use Rattle.bdb_syntax.specs.declared.command.RawWho.TheVariants as who
 use Rattle.bdb_bind.specs.declared.bound.BindError.{BindError}
 use Rattle.bdb_bind.specs.declared.bound.BindError.TheVariants as error
 use Rattle.bdb_bind.specs.Firsts.{refused_if, or_next, first_in}
-use Rattle.bdb_bind.specs.Kinds.{kind_of, are_one_kind}
+use Rattle.bdb_bind.specs.Kinds.{kind_of}
 use Rattle.bdb_bind.specs.Lookup.{is_user_name, number_of, has_column, kind_at}
 use Rattle.bdb_bind.specs.Scope.{is_users, item_place, columns_named, is_uid}
 
@@ -131,7 +132,7 @@ kind_of_side rels items (Lit v) = Some (kind_of v)
 
 -- a comparison joins two kinds
 abbrev pub cond_kind : List RelDef → List RawItem → RawCond → Option BindError
-cond_kind rels items c = refused_if (not (are_one_kind (kind_named rels items c.left) (kind_of_side rels items c.right))) (error.Kind c.left.alias c.left.col)
+cond_kind rels items c = refused_if (not (one_kind (kind_named rels items c.left) (kind_of_side rels items c.right))) (error.Kind c.left.alias c.left.col)
 
 -- the first comparison that joins two kinds
 abbrev pub query_kind : List RelDef → RawQuery → Option BindError

@@ -12,7 +12,7 @@ ghost use Rattle.bdb_bind.specs.QueryBinding.{bound_query};
 use crate::aliases::check_query_aliases;
 use crate::bound::{BindError, Bound};
 use crate::columns::check_query_columns;
-use crate::found::{Found, find_relation};
+use crate::found::{FoundRelation, find_relation};
 use crate::index::NameIndex;
 use crate::kinds::check_kinds;
 use crate::making::bound_change;
@@ -166,7 +166,7 @@ fn check_change(
     alloc: Global,
     catalog: &Catalog,
     index: &NameIndex,
-    found: &Found,
+    found: &FoundRelation,
     command: &Command,
 ) -> Result<List<u32>, BindError>
     requires catalog { IsCatalog catalog.now }

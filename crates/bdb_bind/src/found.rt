@@ -20,20 +20,20 @@ use std::alloc::Global;
 
 /// The place and the columns of a relation that may not be there.
 #[derive(Drop)]
-pub struct Found<'a> {
+pub struct FoundRelation<'a> {
     pub place: Option<usize>,
     pub cols: &'a [ColDef],
 }
 
 /// The relation that a command names.
-pub fn find_relation<'a>(catalog: &'a Catalog, index: &NameIndex, command: &Command) -> Found<'a>
+pub fn find_relation<'a>(catalog: &'a Catalog, index: &NameIndex, command: &Command) -> FoundRelation<'a>
     requires catalog { IsCatalog catalog.now }
     ensures place { result.place ≡ relation_place catalog.now.rels command.now }
     ensures cols { result.cols.now ≡ change_columns catalog.now.rels command.now }
 {
     match relation_name(command) {
         Some(name) => find_by_name(catalog.rels.as_slice(), index, name),
-        None => Found {
+        None => FoundRelation {
             place: None,
             cols: &[],
         },
@@ -42,14 +42,14 @@ pub fn find_relation<'a>(catalog: &'a Catalog, index: &NameIndex, command: &Comm
 
 /// The relation of a name: where the index says, or else by a search.
 #[tactic(auto, using(crate::proofs::PlaceLemmas::relation_at_place, crate::proofs::PlaceLemmas::columns_at_place))]
-fn find_by_name<'a>(rels: &'a [RelDef], index: &NameIndex, name: &Txt) -> Found<'a>
+fn find_by_name<'a>(rels: &'a [RelDef], index: &NameIndex, name: &Txt) -> FoundRelation<'a>
     requires differ { are_distinct (map (λ r. r.name) rels.now) ≡ true }
     ensures place { result.place ≡ number_of rels.now name.now }
     ensures cols { result.cols.now ≡ columns_of rels.now name.now }
 {
     if let Some(at) = index.relation(name) {
         if is_relation_at(rels, at, name) {
-            return Found {
+            return FoundRelation {
                 place: Some(at),
                 cols: rels[at].cols.as_slice(),
             };
@@ -70,19 +70,19 @@ fn is_relation_at(rels: &[RelDef], at: usize, name: &Txt) -> bool
 }
 
 /// The relation of a name, by a search.
-fn search<'a>(rels: &'a [RelDef], name: &Txt) -> Found<'a>
+fn search<'a>(rels: &'a [RelDef], name: &Txt) -> FoundRelation<'a>
     ensures place { result.place ≡ number_of rels.now name.now }
     ensures cols { result.cols.now ≡ columns_of rels.now name.now }
 {
     for (at, rel) in rels.iter().enumerate() {
         if is_same(&rel.name, name) {
-            return Found {
+            return FoundRelation {
                 place: Some(at),
                 cols: rel.cols.as_slice(),
             };
         }
     }
-    Found {
+    FoundRelation {
         place: None,
         cols: &[],
     }

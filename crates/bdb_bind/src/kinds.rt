@@ -1,8 +1,9 @@
 // The check of kinds.
 ghost use Rattle.std.specs.Prelude.{◌≡◌};
 ghost use Rattle.bdb_base.specs.Same.{same_kind};
+ghost use Rattle.bdb_base.specs.Safety.{one_kind};
 ghost use Rattle.bdb_bind.specs.Firsts.{Checks};
-ghost use Rattle.bdb_bind.specs.Kinds.{kind_of, are_one_kind};
+ghost use Rattle.bdb_bind.specs.Kinds.{kind_of};
 ghost use Rattle.bdb_bind.specs.Lines.{values_kind, side_kind, fits_set, fits_cond, set_kinds, cond_kinds, change_kind};
 
 use crate::bound::BindError;
@@ -80,14 +81,14 @@ fn check_conds(alloc: Global, cols: &[ColDef], conds: &[RawCond]) -> Result<(), 
 fn fits_set(cols: &[ColDef], set: &RawSet) -> bool
     ensures { result ≡ fits_set cols.now set.now }
 {
-    are_one_kind(kind_at(cols, &set.col), Some(kind_of(&set.to)))
+    one_kind(kind_at(cols, &set.col), Some(kind_of(&set.to)))
 }
 
 /// Whether the sides of a comparison are of one kind.
 fn fits_cond(cols: &[ColDef], cond: &RawCond) -> bool
     ensures { result ≡ fits_cond cols.now cond.now }
 {
-    are_one_kind(kind_at(cols, &cond.left.col), side_kind(cols, &cond.right))
+    one_kind(kind_at(cols, &cond.left.col), side_kind(cols, &cond.right))
 }
 
 /// The kind of a comparison's right side.
@@ -101,8 +102,8 @@ fn side_kind(cols: &[ColDef], side: &RawSide) -> Option<Kind>
 }
 
 /// Whether both kinds are known, and are one.
-pub fn are_one_kind(a: Option<Kind>, b: Option<Kind>) -> bool
-    ensures { result ≡ are_one_kind a b }
+pub fn one_kind(a: Option<Kind>, b: Option<Kind>) -> bool
+    ensures { result ≡ one_kind a b }
 {
     match (a, b) {
         (Some(a), Some(b)) => is_same_kind(a, b),

@@ -10,7 +10,7 @@ ghost use Rattle.bdb_bind.specs.Refusal.{names_refused};
 ghost use Rattle.bdb_bind.specs.Binding.{relation_at, key_length, place_of, bound_column, bound_side, bound_cond, bound_set, first_of, bound_of};
 
 use crate::bound::Bound;
-use crate::found::Found;
+use crate::found::FoundRelation;
 use crate::lookup::{column_at, number_of, uid_of};
 use crate::parts::new_key;
 use bdb_base::{
@@ -327,7 +327,7 @@ fn bound_world(alloc: Global, ids: &[u32]) -> Result<Bound, AllocError>
 pub fn bound_change(
     alloc: Global,
     catalog: &Catalog,
-    found: &Found,
+    found: &FoundRelation,
     ids: &[u32],
     command: &mut Command,
 ) -> Result<Bound, AllocError>

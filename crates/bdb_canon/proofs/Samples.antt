@@ -9,7 +9,7 @@ use Rattle.bdb_base.specs.declared.kinds.Stmt.{Stmt}
 use Rattle.bdb_base.specs.declared.kinds.Query.{Query}
 use Rattle.bdb_base.specs.Bases.{IsValid}
 use Rattle.bdb_base.specs.Safety.{IsSafe, IsBound, IsMinusColumn, given, linked}
-use Rattle.bdb_canon.specs.Samples.{sightings, denied, disputed, reported, column_at, deniers}
+use Rattle.bdb_canon.specs.Samples.{sightings, denied, disputed, reported, column, deniers}
 
 pub denied_is_valid : (c : Catalog) (xs : List Stmt) → c ≡ denied.catalog → xs ≡ denied.stmts → IsValid c xs
 unfolding is_utf8 chars encode
@@ -32,11 +32,11 @@ reported_is_valid c xs e f = rw (e, f) (record {
   stmts = record { sorted = refl; belong = refl; no_clash = refl; few_stmts = refl; few_tuples = refl; few_worlds = refl };
 })
 
-minus_is_bound : (i k : ℕ) → IsMinusColumn (sightings ∷ []) deniers (column_at i k) → IsBound deniers (column_at i k)
+minus_is_bound : (i k : ℕ) → IsMinusColumn (sightings ∷ []) deniers (column i k) → IsBound deniers (column i k)
 minus_is_bound zero k h = absurd (false≢true h.minus)
 minus_is_bound (suc zero) k h = absurd (false≢true h.minus)
-minus_is_bound (suc (suc zero)) zero h = linked {s = column_at 1 0} refl (given refl)
-minus_is_bound (suc (suc zero)) (suc zero) h = linked {s = column_at 1 1} refl (given refl)
+minus_is_bound (suc (suc zero)) zero h = linked {s = column 1 0} refl (given refl)
+minus_is_bound (suc (suc zero)) (suc zero) h = linked {s = column 1 1} refl (given refl)
 minus_is_bound (suc (suc zero)) (suc (suc k)) h = absurd (false≢true h.there)
 minus_is_bound (suc (suc (suc i))) k h = absurd (false≢true h.minus)
 

@@ -54,8 +54,8 @@ reported = record {
   stmts = stated_at (1 ∷ []) Plus (codes "s2") (codes "crow") ∷ stated_at (3 ∷ 1 ∷ []) Plus (codes "s1") (codes "eagle") ∷ [];
 }
 
-abbrev pub column_at : ℕ → ℕ → Ref
-column_at item col = record { item = item; col = col }
+abbrev pub column : ℕ → ℕ → Ref
+column item col = record { item = item; col = col }
 
 -- two columns are equal
 abbrev pub joined : Ref → Ref → Cond
@@ -65,7 +65,7 @@ joined r s = record { left = r; cmp = Eq; right = Col s }
 -- and Y.v = X.v
 abbrev pub deniers : Query
 deniers = record {
-  take = column_at 0 1 ∷ [];
+  take = column 0 1 ∷ [];
   items = Users (codes "U") ∷ Rel (codes "X") 0 Plus [] ∷ Rel (codes "Y") 0 Minus (Of 0 ∷ []) ∷ [];
-  conds = joined (column_at 2 0) (column_at 1 0) ∷ joined (column_at 2 1) (column_at 1 1) ∷ [];
+  conds = joined (column 2 0) (column 1 0) ∷ joined (column 2 1) (column 1 1) ∷ [];
 }

@@ -20,15 +20,17 @@ use Rattle.bdb_base.specs.declared.kinds.Value.TheVariants.{Int, Text}
 use Rattle.bdb_base.specs.declared.tuple.Tuple.{Tuple}
 use Rattle.bdb_base.proofs.SetLemmas.{is_eq-Equal}
 use Rattle.bdb_key.specs.Bytes.{num_bytes, value_bytes, values_bytes, vals_bytes}
-use Rattle.bdb_key.specs.Grammar.{IsNum, IsWhole, IsPlainValue, ArePlain, AreKeyVals}
+use Rattle.bdb_key.specs.Grammar.{IsNum, ArePlain, AreKeyVals}
 use Rattle.bdb_key.specs.Rows.{IsTupleRow}
-use Rattle.bdb_key.proofs.Readings.{num_form, value_form}
+use Rattle.bdb_key.proofs.Readings.{num_form}
 use Rattle.bdb_tables.specs.InUse.{val_bytes}
 use Rattle.bdb_tables.specs.Rows.{AreKeyLengths}
+use Rattle.bdb_tables.specs.Beginnings.{is_written, led_by}
+use Rattle.bdb_tables.proofs.BeginningLemmas.{values_part}
 use Rattle.bdb_val.specs.Reads.{IsSpan}
 use Rattle.bdb_val.specs.Settling.{row_key}
 use Rattle.bdb_val.proofs.ReadLemmas.{prefix_append, prefix_rest, key_of_fits}
-use Rattle.bdb_catalog.specs.Taking.{HasPutValues, asks_for, beginning, first_there, is_asked, is_written, led_by, literal_of, starts_with, value_asked, value_of_test, values_asked, values_from}
+use Rattle.bdb_catalog.specs.Taking.{asks_for, beginning, first_there, is_asked, literal_of, starts_with, value_asked, value_of_test, values_asked, values_from}
 
 -- ---- what a tuple has that meets tests
 
@@ -174,14 +176,6 @@ none_meets conds n u g out m =
 
 -- ---- keys
 
--- values whose bytes begin with those of others, which are no more, begin with them
-values_part : (vs xs : List Value) (a b : List ℕ) → ArePlain vs → ArePlain xs → length vs ≤ length xs → values_bytes xs ++ a ≡ values_bytes vs ++ b → take (length vs) xs ≡ vs
-values_part [] xs a b pv px few e = refl
-values_part (v ∷ vs) [] a b pv px few e = absurd (omega (arith, few))
-values_part (v ∷ vs) (x ∷ xs) a b pv px few e =
-    let one = value_form x v (values_bytes xs ++ a) (values_bytes vs ++ b) px.0 pv.0 (sym (append_assoc (value_bytes x) (values_bytes xs) a) ∙ e ∙ append_assoc (value_bytes v) (values_bytes vs) b) in
-    ap (λ (y : Value). y ∷ take (length vs) xs) one.0 ∙ ap (λ (ys : List Value). v ∷ ys) (values_part vs xs a b pv.1 px.1 (omega (arith, few)) one.1)
-
 values_append : (xs ys : List Value) → values_bytes (xs ++ ys) ≡ values_bytes xs ++ values_bytes ys
 values_append [] ys = refl
 values_append (x ∷ xs) ys = ap (λ (r : List ℕ). value_bytes x ++ r) (values_append xs ys) ∙ sym (append_assoc (value_bytes x) (values_bytes xs) (values_bytes ys))
@@ -229,30 +223,6 @@ asked_span keys lengths wid rel vs w r few p = record {
 }
 
 -- ---- values that are put one behind the other
-
-plain_value : (v : Value) → is_written v ≡ true → IsWhole v → IsPlainValue v
-plain_value (Int m) w h = h
-plain_value (Text t) w h = w
-
-append_nil : (xs : List ℕ) → xs ≡ xs ++ []
-append_nil [] = refl
-append_nil (x ∷ xs) = ap (λ (r : List ℕ). x ∷ r) (append_nil xs)
-
--- nothing is asked for
-pub put_none : (old : List ℕ) (vs : List Value) → vs ≡ [] → HasPutValues true old old vs
-put_none old vs e = subst (HasPutValues true old old) (sym e) (append_nil old, tt)
-
--- a value that no tuple has is asked for first
-pub put_unwritten : (old new : List ℕ) (v : Value) (vs : List Value) → is_written v ≡ false → HasPutValues false old new (v ∷ vs)
-put_unwritten old new v vs e = ap (λ b. b && list_all is_written vs) e
-
--- one that tuples may have was put, and then the others
-pub put_more : (all : Bool) (old mid new : List ℕ) (v : Value) (vs : List Value) → is_written v ≡ true → IsWhole v → mid ≡ old ++ value_bytes v → HasPutValues all mid new vs → HasPutValues all old new (v ∷ vs)
-put_more true old mid new v vs w whole e h = (
-  h.0 ∙ ap (λ (x : List ℕ). x ++ values_bytes vs) e ∙ append_assoc old (value_bytes v) (values_bytes vs),
-  (plain_value v w whole, h.1),
-)
-put_more false old mid new v vs w whole e h = ap (λ b. b && list_all is_written vs) w ∙ h
 
 module _ (conds : List Cond) where
   -- no more values are asked for than the key has columns

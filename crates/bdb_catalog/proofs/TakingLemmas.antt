@@ -10,7 +10,7 @@ use Rattle.bdb_base.specs.Conditions.{meets}
 use Rattle.bdb_base.specs.Order.{statement_cmp}
 use Rattle.bdb_base.specs.OrderLemmas.{statement_exact}
 use Rattle.bdb_base.specs.Same.{same_path, same_sign, same_tuple}
-use Rattle.bdb_base.specs.SameLemmas.{same_path-Decides, same_sign-Decides, same_tuple-Decides}
+use Rattle.bdb_base.specs.SameLemmas.{same_path-Decides, same_sign-Decides, same_tuple-Decides, statement_of}
 use Rattle.bdb_base.specs.SortedSet.{ascending, put_in, put_all}
 use Rattle.bdb_base.specs.States.{is_state}
 use Rattle.bdb_base.specs.WorldRows.{world_of}
@@ -37,6 +37,7 @@ use Rattle.bdb_tables.specs.Names.{Names, path_of, number_of, is_named}
 use Rattle.bdb_tables.specs.Rows.{Tuples, AreKeyLengths}
 use Rattle.bdb_tables.specs.Spans.{AreUnder}
 use Rattle.bdb_tables.specs.Stored.{StoredAs}
+use Rattle.bdb_tables.specs.Beginnings.{is_written}
 use Rattle.bdb_tables.proofs.Fitting.{relation_row}
 use Rattle.bdb_tables.proofs.SignLemmas.{one_answer, stands_is_explicit}
 use Rattle.bdb_update.proofs.KeyLemmas.{lengths_fit}
@@ -48,7 +49,7 @@ use Rattle.bdb_val.proofs.HeldLemmas.{some_is}
 use Rattle.bdb_worlds.specs.Bounds.{RisesWithin}
 use Rattle.bdb_catalog.specs.Bases.{HasUsers}
 use Rattle.bdb_catalog.specs.Showing.{FindsState, IsStateOf}
-use Rattle.bdb_catalog.specs.Taking.{AreTuplesRead, AreTuplesOf, beginning, is_asked, is_said, is_written, rows_asked, rows_said, statement_at, statements_of, values_asked}
+use Rattle.bdb_catalog.specs.Taking.{AreTuplesRead, AreTuplesOf, beginning, is_asked, is_said, rows_asked, rows_said, statements_of, values_asked}
 use Rattle.bdb_catalog.proofs.AskingLemmas.{meets_asked, asked_rel, asked_span, few_asked, none_meets}
 use Rattle.bdb_catalog.proofs.RowLemmas.{tuples_are_stated, stated_are_read, rows_within, tuples_within, as_many}
 use Rattle.bdb_catalog.proofs.ShowingLemmas.{nothing_explicit}
@@ -99,7 +100,7 @@ put_all_more xs (z ∷ ys) y = put_all_more (put_in statement_cmp xs z) ys y
 
 module _ (w : List ℕ) (s : Sign) (conds : List Cond) where
   abbrev made : Tuple → Stmt
-  made u = statement_at w s u
+  made u = statement_of w s u
 
   made_more : (us : List Tuple) (u : Tuple) → map made (filter (meets conds) (us ++ u ∷ [])) ≡ map made (filter (meets conds) us) ++ map made (cond (meets conds u) (u ∷ []) [])
   made_more [] u = refl
@@ -135,7 +136,7 @@ module _ (stmts : List Stmt) (w : List ℕ) (s : Sign) (rel : ℕ) (conds : List
     (each : AllByRecursion (λ u. (explicit stmts w u s ≡ true) × (nat_eq u.rel rel ≡ true)) us)
     (all : (u : Tuple) → explicit stmts w u s ≡ true → nat_eq u.rel rel ≡ true → meets conds u ≡ true → list_any (same_tuple u) us ≡ true) where
   abbrev of_path : Tuple → Stmt
-  of_path u = statement_at w s u
+  of_path u = statement_of w s u
 
   abbrev IsSaid : Tuple → Type 0
   IsSaid u = (explicit stmts w u s ≡ true) × (nat_eq u.rel rel ≡ true)

@@ -1,15 +1,12 @@
 -- A user more in the catalog of a stored base.
-use Rattle.std.proofs.Common.{◌≡◌, ◌∙◌, ℕ, ◌+◌, ◌*◌, ◌≤◌, Bool, true, false, not, ◌&&◌, ◌||◌, nat_eq, nat_le, cond, List, [], ◌∷◌, ◌++◌, length, refl, sym, ap, subst, arith, Option, Some, None}
+use Rattle.std.proofs.Common.{◌≡◌, ◌∙◌, ℕ, ◌+◌, ◌*◌, ◌≤◌, Bool, true, false, ◌&&◌, ◌||◌, nat_eq, nat_le, List, [], ◌∷◌, ◌++◌, length, refl, sym, ap, subst, arith, Option, Some}
 use Rattle.std.specs.List.{list_all}
-use Rattle.std.specs.Option.{option_and_then}
 use Rattle.std.specs.FinMap as tables
 use Rattle.std.proofs.lemmas.Bool.{and_parts}
 use Rattle.std.proofs.lemmas.Bool.Decides.{nat_tests}
 use Rattle.std.proofs.lemmas.List.Folds.{list_all-append}
 use Rattle.bdb_base.specs.Bases.{Contents, is_plain, is_user, user_names, world_count}
 use Rattle.bdb_base.specs.Causes.{Rises, RoseBy}
-use Rattle.bdb_base.specs.Segments.{is_suffix}
-use Rattle.bdb_base.specs.States.{edge_target}
 use Rattle.bdb_base.specs.declared.kinds.UserSlot.{UserSlot}
 use Rattle.bdb_base.specs.declared.kinds.UserSlot.TheVariants.{Live, Gone}
 use Rattle.bdb_base.proofs.BaseLemmas.{names_push}
@@ -18,11 +15,9 @@ use Rattle.bdb_keep.specs.Seen.{Seen}
 use Rattle.bdb_keep.specs.Tables.{Tables}
 use Rattle.bdb_key.specs.Grammar.{IsNum, IsPlain}
 use Rattle.bdb_names.specs.Drops.{with_one_user}
-use Rattle.bdb_names.proofs.TurnedLemmas.{tables_same}
 use Rattle.bdb_tables.specs.Codec.{place}
 use Rattle.bdb_tables.specs.Grammar.{InGrammar}
 use Rattle.bdb_tables.specs.InUse.{user_codec}
-use Rattle.bdb_tables.specs.Names.{Names, path_of, number_of, is_named, depth_of, link_of, edge_of, edge_from}
 use Rattle.bdb_tables.specs.States.{HoldsStates}
 use Rattle.bdb_tables.specs.Stored.{SameBut, StoredAs}
 use Rattle.bdb_tables.specs.Writes.{with_change}
@@ -32,7 +27,7 @@ use Rattle.bdb_update.specs.StoredLaws.{is_edges}
 use Rattle.bdb_update.proofs.CountLemmas.{numbers_are_counted}
 use Rattle.bdb_update.proofs.GrammarLemmas.{stored_is_in_grammar}
 use Rattle.bdb_update.proofs.StayLemmas.{same_by_user}
-use Rattle.bdb_update.proofs.StoreLemmas.{edges_store_user, gone_place_stored}
+use Rattle.bdb_update.proofs.StoreLemmas.{edges_store_user, gone_place_stored, states_as}
 use Rattle.bdb_worlds.specs.Growth.{SameOutside}
 use Rattle.bdb_worlds.specs.UserEdges.{AddsUser, WritesEdges}
 use Rattle.bdb_catalog.specs.Creating.{MayAddUser, SomeMayAddUser, AddsUserNamed, WritesUser, AddsGonePlace, with_one_gone}
@@ -45,27 +40,6 @@ no_edges n e = grind (arith, nat_tests)
 -- the range of two tables is those of edges
 edges_alone : (t u : Tables) → SameOutside 9 10 t u → SameBut is_edges t u
 edges_alone t u same n k other = same n k (no_edges n other)
-
--- ---- states over users that are the same
-
-edges_as : (f g : ℕ → Bool) (ns : Names) → ((i : ℕ) → f i ≡ g i) → (k : ℕ × ℕ) → edge_of f ns k ≡ edge_of g ns k
-edges_as f g ns same k = by (path_of ns k.0)
-  where
-    by : (o : Option (List ℕ)) → option_and_then (edge_from f ns k.1) o ≡ option_and_then (edge_from g ns k.1) o
-    by None = refl
-    by (Some w) = ap (λ b. cond (b && not (is_suffix (k.1 ∷ []) w)) (number_of ns (edge_target (is_named ns) w k.1)) None) (same k.1)
-
-all_as : (f g : ℕ → Bool) → ((i : ℕ) → f i ≡ g i) → (w : List ℕ) → list_all f w ≡ list_all g w
-all_as f g same [] = refl
-all_as f g same (i ∷ w) = ap (λ b. b && list_all f w) (same i) ∙ ap (λ b. g i && b) (all_as f g same w)
-
-states_as : (f g : ℕ → Bool) (ns : Names) (t : Tables) → ((i : ℕ) → f i ≡ g i) → HoldsStates f ns t → HoldsStates g ns t
-states_as f g ns t same h = record {
-  names = h.names;
-  numbers = λ i e. h.numbers i (same i ∙ e);
-  own = λ w e. sym (all_as f g same w) ∙ h.own w e;
-  tables = tables_same t (depth_of ns) (link_of ns) (edge_of f ns) (depth_of ns) (link_of ns) (edge_of g ns) (λ k. refl) (λ k. refl) (edges_as f g ns same) h.tables;
-}
 
 -- ---- a user that may be added
 

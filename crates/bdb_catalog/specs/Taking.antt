@@ -1,8 +1,7 @@
 -- The statements that a delete or an update takes, as they are read from the rows of the world of their path.
-use Rattle.std.specs.Prelude.{◌≡◌, ℕ, suc, ◌+◌, ◌≤◌, Bool, true, false, ◌&&◌, nat_eq, List, [], ◌∷◌, ◌++◌, length, map, filter, take, Option, None, Some, cond}
+use Rattle.std.specs.Prelude.{◌≡◌, ℕ, suc, ◌+◌, ◌≤◌, Bool, ◌&&◌, nat_eq, List, [], ◌∷◌, ◌++◌, length, map, filter, take, Option, None, Some, cond}
 use Prim.Native.Nat.{zero}
-use Rattle.std.specs.List.{list_all}
-use Rattle.bdb_base.specs.Bases.{Contents, is_plain, key_lengths}
+use Rattle.bdb_base.specs.Bases.{Contents, key_lengths}
 use Rattle.bdb_base.specs.Changes.{taken_by}
 use Rattle.bdb_base.specs.Clash.{key_of}
 use Rattle.bdb_base.specs.Conditions.{meets}
@@ -18,16 +17,16 @@ use Rattle.bdb_base.specs.declared.kinds.Operand.TheVariants.{Col, Lit}
 use Rattle.bdb_base.specs.declared.kinds.Sign.{Sign}
 use Rattle.bdb_base.specs.declared.kinds.Stmt.{Stmt}
 use Rattle.bdb_base.specs.declared.kinds.Value.{Value}
-use Rattle.bdb_base.specs.declared.kinds.Value.TheVariants.{Int, Text}
 use Rattle.bdb_base.specs.declared.tuple.Tuple.{Tuple}
+use Rattle.bdb_base.specs.SameLemmas.{statement_of}
 use Rattle.bdb_keep.specs.Seen.{Seen}
 use Rattle.bdb_keep.specs.Tables.{Tables}
 use Rattle.bdb_key.specs.Bytes.{num_bytes, values_bytes}
-use Rattle.bdb_key.specs.Grammar.{ArePlain}
 use Rattle.bdb_tables.specs.Codec.{HasRow}
 use Rattle.bdb_tables.specs.InUse.{ValKey, tuple_codec, val_codec}
 use Rattle.bdb_tables.specs.Marks.{Mark}
 use Rattle.bdb_tables.specs.Spans.{AreUnder}
+use Rattle.bdb_tables.specs.Beginnings.{led_by}
 use Rattle.bdb_worlds.specs.Bounds.{RisesWithin}
 use Rattle.bdb_catalog.specs.Bases.{HasUsers}
 
@@ -61,11 +60,6 @@ value_asked (c ∷ cs) col = first_there (value_of_test c col) (value_asked cs c
 
 -- ---- beginnings of keys
 
--- a value before others; none of them where there is none
-abbrev pub led_by : Option Value → List Value → List Value
-led_by None vs = []
-led_by (Some v) vs = v ∷ vs
-
 -- the values that are asked for of at most so many columns from one on, up to the first of which none is asked for
 abbrev pub values_from : List Cond → ℕ → ℕ → List Value
 values_from conds zero col = []
@@ -74,16 +68,6 @@ values_from conds (suc most) col = led_by (value_asked conds col) (values_from c
 -- the values that are asked for of the first columns of a key that has so many: as long a beginning of the key as there is
 abbrev pub values_asked : List Cond → ℕ → List Value
 values_asked conds n = values_from conds n 0
-
--- a value is one that tuples may have: a text has to be plain
-abbrev pub is_written : Value → Bool
-is_written (Int n) = true
-is_written (Text t) = is_plain t
-
--- The bytes of plain values were appended, unless one of them is a value that no tuple has.
-abbrev pub HasPutValues : Bool → List ℕ → List ℕ → List Value → Type 0
-HasPutValues true old new vs = (new ≡ old ++ values_bytes vs) × ArePlain vs
-HasPutValues false old new vs = list_all is_written vs ≡ false
 
 -- a key is so long, and its first values are these
 abbrev pub starts_with : ℕ → List Value → List Value → Bool
@@ -117,13 +101,9 @@ pub record AreTuplesRead (old new : Seen) (begin : List ℕ) (s : Sign) (us : Li
   pub told : AreTuplesOf old.kept (filter (is_said s) rows) us
   pub reads : new.reads ≤ old.reads + (length rows + length us + 1)
 
--- a tuple as a statement at a path
-abbrev pub statement_at : List ℕ → Sign → Tuple → Stmt
-statement_at w s u = record { path = w; sign = s; tuple = u }
-
 -- the statements of those tuples that meet all tests, in order
 abbrev pub statements_of : List ℕ → Sign → List Cond → List Tuple → List Stmt
-statements_of w s conds us = put_all statement_cmp [] (map (statement_at w s) (filter (meets conds) us))
+statements_of w s conds us = put_all statement_cmp [] (map (statement_of w s) (filter (meets conds) us))
 
 -- ---- how much is read
 

@@ -3,7 +3,8 @@ ghost use Rattle.std.specs.Prelude.{◌≡◌, nat_le, IfOk};
 ghost use Rattle.std.specs.List.{list_all};
 ghost use Rattle.std.specs.Option.{option_copied};
 ghost use Rattle.bdb_base.specs.Bases.{is_plain};
-ghost use Rattle.bdb_catalog.specs.Taking.{HasPutValues, asks_for, is_written, literal_of, value_asked, value_of_test, values_asked};
+ghost use Rattle.bdb_catalog.specs.Taking.{asks_for, literal_of, value_asked, value_of_test, values_asked};
+ghost use Rattle.bdb_tables.specs.Beginnings.{HasPutValues, is_written};
 
 use bdb_base::limits::LONGEST_TEXT;
 use bdb_base::{Cmp, Cond, Operand, Txt, Value};

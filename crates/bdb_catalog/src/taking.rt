@@ -8,9 +8,10 @@ ghost use Rattle.bdb_key.specs.Bytes.{num_bytes};
 ghost use Rattle.bdb_tables.specs.Codec.{HasRow, place};
 ghost use Rattle.bdb_tables.specs.Grammar.{InGrammar};
 ghost use Rattle.bdb_tables.specs.InUse.{tuple_codec};
+ghost use Rattle.bdb_tables.specs.Beginnings.{HasPutValues};
 ghost use Rattle.bdb_val.specs.Reads.{HaveTuples};
 ghost use Rattle.bdb_catalog.specs.Bases.{SomeHasUsers};
-ghost use Rattle.bdb_catalog.specs.Taking.{AreTaken, AreTuplesRead, HasPutValues, ReadsTaken, is_said, statements_of, values_asked};
+ghost use Rattle.bdb_catalog.specs.Taking.{AreTaken, AreTuplesRead, ReadsTaken, is_said, statements_of, values_asked};
 
 use crate::asking::put_asked;
 use crate::showing::state_of;

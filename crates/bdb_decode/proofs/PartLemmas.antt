@@ -39,7 +39,7 @@ use Rattle.bdb_entries.proofs.ReadLemmas.{past, under_fits}
 use Rattle.bdb_entries.proofs.TupleLemmas.{holding, item_all, item_in, items_give, same_number}
 use Rattle.bdb_graph.specs.Naming.{AreWorlds, names_of, path_in}
 use Rattle.bdb_graph.specs.Ups.{HoldNoStates}
-use Rattle.bdb_graph.specs.declared.naming.World.{World}
+use Rattle.bdb_graph.specs.declared.naming.NamedWorld.{NamedWorld}
 use Rattle.bdb_graph.proofs.HeldLemmas.{held_so, named_same, worlds_are_held}
 use Rattle.bdb_decode.specs.Explicit.{AreStated, Paths, TupleRows}
 use Rattle.bdb_decode.specs.ExplicitLaws.{HavePaths}
@@ -108,22 +108,22 @@ tuples_ascend (e ∷ rows) a h =
 
 -- ---- worlds
 
-path_is : (worlds : List World) (n : ℕ) → path_in worlds n ≡ item_of (map path_row worlds) n
+path_is : (worlds : List NamedWorld) (n : ℕ) → path_in worlds n ≡ item_of (map path_row worlds) n
 path_is [] n = refl
 path_is (x ∷ worlds) n =
     ap (λ o. cond (nat_eq n x.wid) (Some x.path) o) (path_is worlds n) ∙ ap (λ b. cond b (Some x.path) (item_of (map path_row worlds) n)) (sym (same_test n x.wid))
 
-paths_above : (k : ℕ) (w : List ℕ) (worlds : List World) → list_all (λ y. is_lt (number_cmp (k, w) y)) (map path_row worlds) ≡ list_all (λ n. is_lt (nat_cmp k n)) (map (λ (x : World). x.wid) worlds)
+paths_above : (k : ℕ) (w : List ℕ) (worlds : List NamedWorld) → list_all (λ y. is_lt (number_cmp (k, w) y)) (map path_row worlds) ≡ list_all (λ n. is_lt (nat_cmp k n)) (map (λ (x : NamedWorld). x.wid) worlds)
 paths_above k w [] = refl
 paths_above k w (x ∷ worlds) = ap (λ b. is_lt (nat_cmp k x.wid) && b) (paths_above k w worlds)
 
-paths_ascend : (worlds : List World) → ascending number_cmp (map path_row worlds) ≡ ascending nat_cmp (map (λ (x : World). x.wid) worlds)
+paths_ascend : (worlds : List NamedWorld) → ascending number_cmp (map path_row worlds) ≡ ascending nat_cmp (map (λ (x : NamedWorld). x.wid) worlds)
 paths_ascend [] = refl
 paths_ascend (x ∷ worlds) =
     ap (λ b. b && ascending number_cmp (map path_row worlds)) (paths_above x.wid x.path worlds)
-    ∙ ap (λ b. list_all (λ n. is_lt (nat_cmp x.wid n)) (map (λ (y : World). y.wid) worlds) && b) (paths_ascend worlds)
+    ∙ ap (λ b. list_all (λ n. is_lt (nat_cmp x.wid n)) (map (λ (y : NamedWorld). y.wid) worlds) && b) (paths_ascend worlds)
 
-pub are_paths : (t : Tables) (users : ℕ → Bool) (worlds : List World) (paths : Paths) → AreWorlds t worlds → HoldsStates users (names_of worlds) t → paths ≡ map path_row worlds → ArePaths users t paths
+pub are_paths : (t : Tables) (users : ℕ → Bool) (worlds : List NamedWorld) (paths : Paths) → AreWorlds t worlds → HoldsStates users (names_of worlds) t → paths ≡ map path_row worlds → ArePaths users t paths
 are_paths t users worlds paths a h is = record {
   names = names_of worlds;
   paths = record { names = a.names; paths = λ n. path_is worlds n ∙ ap (λ xs. item_of xs n) (sym is) };
@@ -134,24 +134,24 @@ are_paths t users worlds paths a h is = record {
 pub no_paths : (t : Tables) (users : ℕ → Bool) → HoldNoStates t → HoldNoneOver users t
 no_paths t users h = λ ns held. h users ns held
 
-pub other_paths : (t : Tables) (users : ℕ → Bool) (worlds : List World) → AreWorlds t worlds → (HoldsStates users (names_of worlds) t → ⊥) → HoldNoneOver users t
+pub other_paths : (t : Tables) (users : ℕ → Bool) (worlds : List NamedWorld) → AreWorlds t worlds → (HoldsStates users (names_of worlds) t → ⊥) → HoldNoneOver users t
 other_paths t users worlds a no_states = λ ns held. no_states (worlds_are_held t users ns worlds a held)
 
-pub worlds_now : (t u : Tables) (worlds now : List World) → u ≡ t → now ≡ worlds → AreWorlds t worlds → AreWorlds u now
+pub worlds_now : (t u : Tables) (worlds now : List NamedWorld) → u ≡ t → now ≡ worlds → AreWorlds t worlds → AreWorlds u now
 worlds_now t u worlds now same is a = subst (λ v. AreWorlds v now) (sym same) (subst (AreWorlds t) (sym is) a)
 
 -- whether tables hold the states of worlds
-abbrev Tells : (ℕ → Bool) → Tables → List World → Bool → Type 0
+abbrev Tells : (ℕ → Bool) → Tables → List NamedWorld → Bool → Type 0
 Tells users t worlds b = MatchBool b (HoldsStates users (names_of worlds) t) (HoldsStates users (names_of worlds) t → ⊥)
 
-tells_now : (t u : Tables) (users : ℕ → Bool) (worlds now : List World) (b : Bool) → u ≡ t → now ≡ worlds → Tells users u now b → Tells users t worlds b
+tells_now : (t u : Tables) (users : ℕ → Bool) (worlds now : List NamedWorld) (b : Bool) → u ≡ t → now ≡ worlds → Tells users u now b → Tells users t worlds b
 tells_now t u users worlds now b same is h = subst (λ v. Tells users v worlds b) same (subst (λ ws. Tells users u ws b) is h)
 
-pub paths_known : (t u : Tables) (users : ℕ → Bool) (worlds now : List World) (paths : Paths) (b : Bool) → u ≡ t → now ≡ worlds → AreWorlds t worlds → b ≡ true
+pub paths_known : (t u : Tables) (users : ℕ → Bool) (worlds now : List NamedWorld) (paths : Paths) (b : Bool) → u ≡ t → now ≡ worlds → AreWorlds t worlds → b ≡ true
     → MatchBool b (HoldsStates users (names_of now) u) (HoldsStates users (names_of now) u → ⊥) → paths ≡ map path_row worlds → ArePaths users t paths
 paths_known t u users worlds now paths b same is a good h made = are_paths t users worlds paths a (holding _ _ b good (tells_now t u users worlds now b same is h)) made
 
-pub paths_none : (t u : Tables) (users : ℕ → Bool) (worlds now : List World) (b : Bool) → u ≡ t → now ≡ worlds → AreWorlds t worlds → b ≡ false
+pub paths_none : (t u : Tables) (users : ℕ → Bool) (worlds now : List NamedWorld) (b : Bool) → u ≡ t → now ≡ worlds → AreWorlds t worlds → b ≡ false
     → MatchBool b (HoldsStates users (names_of now) u) (HoldsStates users (names_of now) u → ⊥) → HoldNoneOver users t
 paths_none t u users worlds now b same is a bad h = other_paths t users worlds a (past _ _ b bad (tells_now t u users worlds now b same is h))
 

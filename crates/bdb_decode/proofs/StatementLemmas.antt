@@ -1,18 +1,18 @@
 -- Neighbours that ascend make statements that are in order and do not clash.
-use Rattle.std.proofs.Common.{◌≡◌, ◌∙◌, ◌⊎◌, ℕ, zero, suc, Bool, true, false, not, ◌&&◌, ◌||◌, nat_eq, nat_le, List, [], ◌∷◌, length, take, filter, refl, ap, sym, subst, arith, inl, inr}
+use Rattle.std.proofs.Common.{◌≡◌, ◌∙◌, ◌⊎◌, ℕ, Bool, true, false, not, ◌&&◌, ◌||◌, nat_eq, nat_le, List, [], ◌∷◌, length, filter, refl, ap, sym, arith, inl, inr}
 use Rattle.std.specs.Bool.{MatchBool}
 use Rattle.std.specs.List.{list_all, list_any}
 use Rattle.std.specs.declared.cmp.Ordering.{Ordering}
 use Rattle.std.specs.declared.cmp.Ordering.TheVariants.{Less, Equal, Greater}
 use Rattle.std.specs.Ordering.{nat_cmp, is_eq, is_lt, ordering_then}
 use Rattle.std.specs.Cmp.{IsTotalOrder}
-use Rattle.std.proofs.lemmas.Bool.{cases_Bool, and_parts, and_from, and_right, or_parts, or_from, false≢true, not_from_false, cond-true, cond-false, eqb-true}
+use Rattle.std.proofs.lemmas.Bool.{cases_Bool, and_parts, and_from, and_right, or_parts, or_from, false≢true, not_from_false, cond-true, cond-false}
 use Rattle.std.proofs.lemmas.Bool.Decides.{nat_tests}
 use Rattle.std.proofs.lemmas.Cmp.{then_total, on_total, nat_cmp_total}
 use Rattle.bdb_base.specs.Bases.{AreStatements, belongs, key_lengths, tuple_count, world_count}
 use Rattle.bdb_base.specs.Clash.{clash, key_of, same_key}
 use Rattle.bdb_base.specs.Limits.{most_statements, most_tuples, most_worlds}
-use Rattle.bdb_base.specs.Order.{value_cmp, row_cmp, path_cmp, tuple_cmp, sign_cmp, statement_cmp}
+use Rattle.bdb_base.specs.Order.{row_cmp, path_cmp, tuple_cmp, sign_cmp, statement_cmp}
 use Rattle.bdb_base.specs.OrderLemmas.{path_total, row_total, tuple_total, statement_exact, is_eq_path_cmp, is_eq_tuple_cmp, is_eq_row_cmp}
 use Rattle.bdb_base.specs.Same.{same_path, same_tuple, same_values, same_sign}
 use Rattle.bdb_base.specs.SameLemmas.{same_path-Decides}
@@ -21,12 +21,12 @@ use Rattle.bdb_base.specs.declared.kinds.Catalog.{Catalog}
 use Rattle.bdb_base.specs.declared.kinds.Sign.{Sign}
 use Rattle.bdb_base.specs.declared.kinds.Sign.TheVariants.{Plus, Minus}
 use Rattle.bdb_base.specs.declared.kinds.Stmt.{Stmt}
-use Rattle.bdb_base.specs.declared.kinds.Value.{Value}
 use Rattle.bdb_base.specs.declared.tuple.Tuple.{Tuple}
 use Rattle.bdb_base.proofs.BaseLemmas.{clash_itself}
 use Rattle.bdb_base.proofs.ClashLemmas.{turned, clash_is_symmetric}
 use Rattle.bdb_base.proofs.ListLemmas.{list_all_weaker, list_all_both, list_all_from_none, list_all-filter, filter_kept_one, filter_dropped_one}
 use Rattle.bdb_base.proofs.SetLemmas.{is_lt-Less, filter_keeps_order}
+use Rattle.bdb_update.proofs.ClashingLemmas.{keys_tell}
 use Rattle.bdb_decode.specs.Statements.{are_apart, are_consistent, are_few, below_next, below_plus, climbs, group_cmp, is_plus, place_cmp, plus_climb}
 
 -- ---- neighbours, and all pairs
@@ -203,25 +203,6 @@ less_of_group Equal Equal Equal k d h = absurd (not_equal_less h)
 less_of_group Equal Equal Greater k d h = absurd (not_greater_less h)
 less_of_group Equal Greater v k d h = absurd (not_greater_less h)
 less_of_group Greater n v k d h = absurd (not_greater_less h)
-
--- the first values of two rows tie, or they compare as the rows do
-first_tell : (n : ℕ) (xs ys : List Value) → (row_cmp (take n xs) (take n ys) ≡ Equal) ⊎ (row_cmp (take n xs) (take n ys) ≡ row_cmp xs ys)
-first_tell zero xs ys = inl refl
-first_tell (suc n) [] [] = inl refl
-first_tell (suc n) [] (y ∷ ys) = inr refl
-first_tell (suc n) (x ∷ xs) [] = inr refl
-first_tell (suc n) (x ∷ xs) (y ∷ ys) = by (value_cmp x y) (row_cmp (take n xs) (take n ys)) (row_cmp xs ys) (first_tell n xs ys)
-  where
-    by : (r a q : Ordering) → (a ≡ Equal) ⊎ (a ≡ q) → (ordering_then r a ≡ Equal) ⊎ (ordering_then r a ≡ ordering_then r q)
-    by Less a q d = inr refl
-    by Equal a q d = d
-    by Greater a q d = inr refl
-
--- the keys of two tuples of one relation tie, or they compare as the values do
-keys_tell : (keys : ℕ → ℕ) (t u : Tuple) → nat_cmp t.rel u.rel ≡ Equal → (row_cmp (key_of keys t) (key_of keys u) ≡ Equal) ⊎ (row_cmp (key_of keys t) (key_of keys u) ≡ row_cmp t.vals u.vals)
-keys_tell keys t u e =
-    let rel : t.rel ≡ u.rel = eqb-true t.rel u.rel (sym (is_eq_nat_cmp t.rel u.rel) ∙ ap is_eq e) in
-    subst (λ (r : ℕ). (row_cmp (key_of keys t) (take (keys r) u.vals) ≡ Equal) ⊎ (row_cmp (key_of keys t) (take (keys r) u.vals) ≡ row_cmp t.vals u.vals)) rel (first_tell (keys t.rel) t.vals u.vals)
 
 -- ---- which statements clash
 

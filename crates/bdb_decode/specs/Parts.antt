@@ -15,7 +15,7 @@ use Rattle.bdb_entries.specs.Catalog.{HasCatalog}
 use Rattle.bdb_entries.specs.Format.{HasFormat}
 use Rattle.bdb_entries.specs.Reading.{OthersAreBare}
 use Rattle.bdb_entries.specs.Tuples.{AreTuples}
-use Rattle.bdb_graph.specs.declared.naming.World.{World}
+use Rattle.bdb_graph.specs.declared.naming.NamedWorld.{NamedWorld}
 use Rattle.bdb_decode.specs.Explicit.{Paths, TupleRows}
 use Rattle.bdb_decode.specs.ExplicitLaws.{HavePaths}
 use Rattle.bdb_decode.specs.Items.{number_cmp}
@@ -34,7 +34,7 @@ pub record AreFormed (t : Tables) : Type 0 where
 -- ---- worlds
 
 -- a world's number and path
-abbrev pub path_row : World → ℕ × List ℕ
+abbrev pub path_row : NamedWorld → ℕ × List ℕ
 path_row x = (x.wid, x.path)
 
 -- these are the worlds of the states that tables hold over users, in order of their numbers

@@ -3,9 +3,9 @@ ghost use Rattle.std.specs.Prelude.{◌≡◌, ◌++◌, ◌∷◌, [], true, fi
 ghost use Rattle.bdb_base.specs.Bases.{key_lengths};
 ghost use Rattle.bdb_keep.specs.Calls.{IsRead};
 ghost use Rattle.bdb_tables.specs.Grammar.{InGrammar};
+ghost use Rattle.bdb_tables.specs.Reading.{OnlyReads};
 ghost use Rattle.bdb_val.specs.Reads.{AreReadUnder, world_prefix};
 ghost use Rattle.bdb_val.specs.Settling.{are_apart};
-ghost use Rattle.bdb_entries.specs.Reading.{OnlyReads};
 ghost use Rattle.bdb_decode.specs.SettledRows.{AreKeyed, AreLinked, TellsRows, TellsWorld, TellsWorlds};
 ghost use Rattle.bdb_decode.specs.Settles.{is_explicit, is_inherited, settles};
 

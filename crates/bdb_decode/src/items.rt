@@ -6,7 +6,7 @@ ghost use Rattle.bdb_decode.specs.Items.{item_of, number_cmp};
 
 use bdb_graph::place_of_number;
 
-/// The item of a number, if there is one. The search goes by halves.
+/// The item of a number, if there is one. It is a binary search.
 pub fn item_of<X>(items: &[(u32, X)], number: u32) -> Option<&X>
     requires { ascending number_cmp items.now ≡ true }
     ensures { option_copied result ≡ item_of items.now number }

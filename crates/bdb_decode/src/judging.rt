@@ -6,8 +6,8 @@ ghost use Rattle.bdb_catalog.specs.Bases.{StoresValid};
 ghost use Rattle.bdb_keep.specs.Seen.{IsAtRest};
 ghost use Rattle.bdb_keep.specs.Tables.{LieInTables};
 ghost use Rattle.bdb_entries.specs.Format.{HasFormat};
-ghost use Rattle.bdb_entries.specs.Reading.{OnlyReads};
-ghost use Rattle.bdb_decode.specs.Judging.{TellsVerdict};
+ghost use Rattle.bdb_tables.specs.Reading.{OnlyReads};
+ghost use Rattle.bdb_decode.specs.Judging.{TellsJudgement};
 ghost use Rattle.bdb_decode.specs.Parts.{AreFormed, AreParts, StoreNone};
 
 use crate::linking::hold_rows_of;
@@ -28,7 +28,7 @@ const FORMER: u32 = 2;
 
 /// What tables are.
 #[derive(Drop)]
-pub enum Verdict {
+pub enum Judgement {
     /// They have no row, and stand for the empty base.
     Empty,
     /// They store this base.
@@ -42,13 +42,13 @@ pub enum Verdict {
 }
 
 /// What the tables are. No rows at all stand for the empty base.
-pub fn judge<K: Keeper>(alloc: Global, keeper: &mut K) -> Result<Verdict, TabError>
-    ensures verdict { IfOk result (TellsVerdict (K.seen keeper.old).kept) }
+pub fn judge<K: Keeper>(alloc: Global, keeper: &mut K) -> Result<Judgement, TabError>
+    ensures verdict { IfOk result (TellsJudgement (K.seen keeper.old).kept) }
     ensures rest { IsAtRest (K.seen keeper.old) }
     ensures reading { OnlyReads (K.seen keeper.old) (K.seen keeper.new) result TabError.Fault }
 {
     match is_empty(alloc, keeper) {
-        Ok(true) => return Ok(Verdict::Empty),
+        Ok(true) => return Ok(Judgement::Empty),
         Ok(false) => {}
         Err(error) => return Err(error),
     }
@@ -57,8 +57,8 @@ pub fn judge<K: Keeper>(alloc: Global, keeper: &mut K) -> Result<Verdict, TabErr
             Ok(verdict) => Ok(verdict),
             Err(error) => Err(error),
         },
-        Ok(Format::Bare) => Ok(Verdict::Damaged),
-        Ok(Format::Damaged) => Ok(Verdict::Damaged),
+        Ok(Format::Bare) => Ok(Judgement::Damaged),
+        Ok(Format::Damaged) => Ok(Judgement::Damaged),
         Err(error) => Err(error),
     }
 }
@@ -87,10 +87,10 @@ fn is_empty<K: Keeper>(alloc: Global, keeper: &mut K) -> Result<bool, TabError>
 }
 
 // What tables of a format are.
-fn judge_format<K: Keeper>(alloc: Global, keeper: &mut K, number: u32) -> Result<Verdict, TabError>
+fn judge_format<K: Keeper>(alloc: Global, keeper: &mut K, number: u32) -> Result<Judgement, TabError>
     requires tables { LieInTables (K.seen keeper.old).kept }
     requires format { HasFormat (K.seen keeper.old).kept number }
-    ensures verdict { IfOk result (TellsVerdict (K.seen keeper.old).kept) }
+    ensures verdict { IfOk result (TellsJudgement (K.seen keeper.old).kept) }
     ensures reading { OnlyReads (K.seen keeper.old) (K.seen keeper.new) result TabError.Fault }
 {
     if number == FORMER {
@@ -100,20 +100,20 @@ fn judge_format<K: Keeper>(alloc: Global, keeper: &mut K, number: u32) -> Result
         };
     }
     if number != FORMAT {
-        return Ok(Verdict::Format(number));
+        return Ok(Judgement::Format(number));
     }
     match raw_base(alloc, keeper) {
-        Ok(Some(base)) => Ok(Verdict::Held(base)),
-        Ok(None) => Ok(Verdict::Damaged),
+        Ok(Some(base)) => Ok(Judgement::Held(base)),
+        Ok(None) => Ok(Judgement::Damaged),
         Err(error) => Err(error),
     }
 }
 
 // What tables of the format before this one are, told by a copy of their rows in memory, spelled as this format spells them.
-fn judge_former<K: Keeper>(alloc: Global, keeper: &mut K) -> Result<Verdict, TabError>
+fn judge_former<K: Keeper>(alloc: Global, keeper: &mut K) -> Result<Judgement, TabError>
     requires tables { LieInTables (K.seen keeper.old).kept }
     requires format { HasFormat (K.seen keeper.old).kept 2 }
-    ensures verdict { IfOk result (TellsVerdict (K.seen keeper.old).kept) }
+    ensures verdict { IfOk result (TellsJudgement (K.seen keeper.old).kept) }
     ensures reading { OnlyReads (K.seen keeper.old) (K.seen keeper.new) result TabError.Fault }
 {
     let mut copy = match respelled_copy(alloc, keeper) {
@@ -121,8 +121,8 @@ fn judge_former<K: Keeper>(alloc: Global, keeper: &mut K) -> Result<Verdict, Tab
         Err(error) => return Err(told(error)),
     };
     match raw_base(alloc, &mut copy) {
-        Ok(Some(base)) => Ok(Verdict::Former(base)),
-        Ok(None) => Ok(Verdict::Damaged),
+        Ok(Some(base)) => Ok(Judgement::Former(base)),
+        Ok(None) => Ok(Judgement::Damaged),
         Err(_) => {
             keeper.undo();
             Err(TabError::Memory)

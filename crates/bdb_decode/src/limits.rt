@@ -4,7 +4,7 @@ ghost use Rattle.std.specs.Bool.{MatchBool};
 ghost use Rattle.bdb_base.specs.Limits.{most_statements};
 ghost use Rattle.bdb_decode.specs.Limits.{AreWithinLimits, is_shallow};
 ghost use Rattle.bdb_decode.specs.Parts.{StoreNone};
-ghost use Rattle.bdb_entries.specs.Reading.{OnlyReads};
+ghost use Rattle.bdb_tables.specs.Reading.{OnlyReads};
 
 use bdb_base::Stmt;
 use bdb_base::limits::{DEEPEST_STATEMENT, MOST_STATEMENTS, MOST_WORLDS};

@@ -3,7 +3,7 @@ ghost use Rattle.std.specs.Prelude.{ℕ, IfOk, IsErrOf};
 ghost use Rattle.bdb_catalog.specs.Opening.{StandFor};
 ghost use Rattle.bdb_decode.specs.Opening.{AreDamaged, EndsReading, HaveOtherFormat, TellsStand};
 
-use crate::judging::{Verdict, judge};
+use crate::judging::{Judgement, judge};
 use bdb_base::Base;
 use bdb_keep::Keeper;
 use bdb_tables::TabError;
@@ -50,11 +50,11 @@ pub fn stand_of<K: Keeper>(alloc: Global, keeper: &mut K) -> Result<Stand, OpenE
     ensures ends { EndsReading (K.seen keeper.old) (K.seen keeper.new) result }
 {
     match judge(alloc, keeper) {
-        Ok(Verdict::Empty) => Ok(Stand::Empty),
-        Ok(Verdict::Held(base)) => Ok(Stand::Stored(base)),
-        Ok(Verdict::Former(base)) => Ok(Stand::Former(base)),
-        Ok(Verdict::Damaged) => Err(OpenError::Damaged),
-        Ok(Verdict::Format(number)) => Err(OpenError::Format(number)),
+        Ok(Judgement::Empty) => Ok(Stand::Empty),
+        Ok(Judgement::Held(base)) => Ok(Stand::Stored(base)),
+        Ok(Judgement::Former(base)) => Ok(Stand::Former(base)),
+        Ok(Judgement::Damaged) => Err(OpenError::Damaged),
+        Ok(Judgement::Format(number)) => Err(OpenError::Format(number)),
         Err(TabError::Fault) => Err(OpenError::Fault),
         Err(TabError::Memory) => Err(OpenError::Memory),
     }

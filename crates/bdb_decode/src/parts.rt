@@ -3,13 +3,13 @@ ghost use Rattle.std.specs.Prelude.{◌≡◌, ◌≤◌, length, map, IfOk, Mat
 ghost use Rattle.bdb_base.specs.Bases.{is_user};
 ghost use Rattle.bdb_base.specs.Limits.{most_users};
 ghost use Rattle.bdb_tables.specs.Grammar.{InGrammar};
-ghost use Rattle.bdb_entries.specs.Reading.{OnlyReads};
+ghost use Rattle.bdb_tables.specs.Reading.{OnlyReads};
 ghost use Rattle.bdb_decode.specs.Parts.{AreParts, ArePaths, HoldNoneOver, StoreNone, path_row};
 
 use crate::limits::worlds_are_within_limits;
 use bdb_base::{Catalog, Path, Tuple, UserSlot};
 use bdb_entries::{raw_catalog, raw_tuples};
-use bdb_graph::{World, are_states_held, raw_worlds};
+use bdb_graph::{NamedWorld, are_states_held, raw_worlds};
 use bdb_keep::Keeper;
 use bdb_tables::TabError;
 use std::alloc::{AllocError, Global};
@@ -26,7 +26,8 @@ pub struct Parts {
 pub fn raw_parts<K: Keeper>(alloc: Global, keeper: &mut K) -> Result<Option<Parts>, TabError>
     requires grammar { InGrammar (K.seen keeper.old).kept }
     ensures parts { IfOk result (λ r. MatchOption r (StoreNone (K.seen keeper.old).kept)
-        (λ parts. AreParts (K.seen keeper.old).kept parts.catalog parts.paths.items parts.tuples.items)) }
+        (λ parts. AreParts (K.seen keeper.old).kept parts.catalog parts.paths.items
+        parts.tuples.items)) }
     ensures reading { OnlyReads (K.seen keeper.old) (K.seen keeper.new) result TabError.Fault }
 {
     let catalog = match raw_catalog(alloc, keeper) {
@@ -65,7 +66,8 @@ fn raw_paths<K: Keeper>(
 ) -> Result<Option<Vec<(u32, Path)>>, TabError>
     requires grammar { InGrammar (K.seen keeper.old).kept }
     requires users { length users.now ≤ most_users }
-    ensures paths { IfOk result (λ r. MatchOption r (HoldNoneOver (is_user users.now) (K.seen keeper.old).kept)
+    ensures paths { IfOk result
+        (λ r. MatchOption r (HoldNoneOver (is_user users.now) (K.seen keeper.old).kept)
         (λ paths. ArePaths (is_user users.now) (K.seen keeper.old).kept paths.items)) }
     ensures reading { OnlyReads (K.seen keeper.old) (K.seen keeper.new) result TabError.Fault }
 {
@@ -89,7 +91,7 @@ fn raw_paths<K: Keeper>(
 }
 
 // The numbers and paths of worlds.
-fn paths_of(alloc: Global, worlds: Vec<World>) -> Result<Vec<(u32, Path)>, AllocError>
+fn paths_of(alloc: Global, worlds: Vec<NamedWorld>) -> Result<Vec<(u32, Path)>, AllocError>
     ensures { IfOk result (λ paths. paths.items ≡ map path_row worlds.items) }
 {
     let mut paths = Vec::new(alloc);

@@ -40,8 +40,12 @@ pub fn raw_statements<K: Keeper>(
 ) -> Result<Option<Vec<Stmt>>, TabError>
     requires worlds { ascending number_cmp worlds.now ≡ true }
     requires tuples { ascending number_cmp tuples.now ≡ true }
-    ensures statements { IfOk result (λ r. MatchOption r (HaveNoStatements (key_lengths catalog.now.rels) (K.seen keeper.old).kept worlds.now tuples.now)
-        (λ stmts. AreStated (key_lengths catalog.now.rels) (K.seen keeper.old).kept worlds.now tuples.now stmts.items)) }
+    ensures statements { IfOk result
+        (λ r. MatchOption r
+        (HaveNoStatements (key_lengths catalog.now.rels) (K.seen keeper.old).kept worlds.now
+        tuples.now)
+        (λ stmts. AreStated (key_lengths catalog.now.rels) (K.seen keeper.old).kept worlds.now
+        tuples.now stmts.items)) }
     ensures few { IfOk result (λ r. IfSome r (λ stmts. length stmts.items ≤ most_statements)) }
     ensures read { IsRead (K.seen keeper.old) (K.seen keeper.new) result TabError.Fault }
 {
@@ -84,8 +88,12 @@ fn said_statements<K: Keeper>(
 ) -> Result<Option<Vec<Stmt>>, TabError>
     requires worlds { ascending number_cmp worlds.now ≡ true }
     requires tuples { ascending number_cmp tuples.now ≡ true }
-    ensures statements { IfOk result (λ r. MatchOption r (HaveNoStatements (key_lengths catalog.now.rels) (K.seen keeper.old).kept worlds.now tuples.now)
-        (λ stmts. AreSaid (key_lengths catalog.now.rels) (K.seen keeper.old).kept worlds.now tuples.now stmts.items)) }
+    ensures statements { IfOk result
+        (λ r. MatchOption r
+        (HaveNoStatements (key_lengths catalog.now.rels) (K.seen keeper.old).kept worlds.now
+        tuples.now)
+        (λ stmts. AreSaid (key_lengths catalog.now.rels) (K.seen keeper.old).kept worlds.now
+        tuples.now stmts.items)) }
     ensures few { IfOk result (λ r. IfSome r (λ stmts. length stmts.items ≤ most_statements)) }
     ensures read { IsRead (K.seen keeper.old) (K.seen keeper.new) result TabError.Fault }
 {

@@ -31,7 +31,7 @@ pub fn all_states(alloc: Global, stmts: &[Stmt], worlds: &[(u32, Path)]) -> Resu
     }
 }
 
-// Whether each item is in a set. Each look-up goes by halves.
+// Whether each item is in a set. Each look-up is a binary search.
 fn all_in<X: Ordered>(set: &[X], items: &[(u32, X)]) -> bool
     requires { ascending X.order set.now ≡ true }
     ensures { result ≡ all_in X.order set.now items.now }

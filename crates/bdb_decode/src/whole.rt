@@ -26,8 +26,11 @@ pub fn raw_base_statements<K: Keeper>(
 ) -> Result<Option<Vec<Stmt>>, TabError>
     requires worlds { ascending number_cmp worlds.now ≡ true }
     requires tuples { ascending number_cmp tuples.now ≡ true }
-    ensures statements { IfOk result (λ r. MatchOption r (HaveNoBaseStatements (K.seen keeper.old).kept catalog.now worlds.now tuples.now)
-        (λ stmts. AreBaseStatements (K.seen keeper.old).kept catalog.now worlds.now tuples.now stmts.items)) }
+    ensures statements { IfOk result
+        (λ r. MatchOption r
+        (HaveNoBaseStatements (K.seen keeper.old).kept catalog.now worlds.now tuples.now)
+        (λ stmts. AreBaseStatements (K.seen keeper.old).kept catalog.now worlds.now tuples.now
+        stmts.items)) }
     ensures read { IsRead (K.seen keeper.old) (K.seen keeper.new) result TabError.Fault }
 {
     match raw_statements(alloc, keeper, catalog, worlds, tuples) {

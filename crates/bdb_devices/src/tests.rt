@@ -115,9 +115,10 @@ fn ran(
     Ok(run(alloc, words.as_slice(), &mut source, out, keeper))
 }
 
-/// What a script leaves, over these three.
-fn ran_with(
+/// What a line of words leaves, over these three.
+fn left_by(
     alloc: Global,
+    line: &str,
     source: MemSource,
     mut out: MemSink,
     mut keeper: MemKeeper,
@@ -125,12 +126,25 @@ fn ran_with(
     requires idle { keeper.seen.running ≡ false }
     ensures idle { IfOk result (λ left. left.keeper.seen.running ≡ false) }
 {
-    let status = ran(alloc, "run", source, &mut out, &mut keeper)?;
+    let status = ran(alloc, line, source, &mut out, &mut keeper)?;
     Ok(Left {
         status,
         out,
         keeper,
     })
+}
+
+/// What a script leaves, over these three.
+fn ran_with(
+    alloc: Global,
+    source: MemSource,
+    out: MemSink,
+    keeper: MemKeeper,
+) -> Result<Left, Fail>
+    requires idle { keeper.seen.running ≡ false }
+    ensures idle { IfOk result (λ left. left.keeper.seen.running ≡ false) }
+{
+    left_by(alloc, "run", source, out, keeper)
 }
 
 /// The status and the replies of a script over a keeper, with no other device that fails.

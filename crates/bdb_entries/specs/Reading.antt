@@ -1,7 +1,6 @@
 -- What reading whole tables of any bytes tells.
-use Rattle.std.specs.Prelude.{◌≡◌, ℕ, false, List, ◌∷◌, Some, None, Result, OnOk}
+use Rattle.std.specs.Prelude.{◌≡◌, ℕ, false, List, ◌∷◌, Some, None}
 use Rattle.std.specs.FinMap as tables
-use Rattle.bdb_keep.specs.Seen.{Seen, NeverFall, Steps}
 use Rattle.bdb_keep.specs.Tables.{Tables}
 use Rattle.bdb_tables.specs.Codec.{Codec, TableFits}
 use Rattle.bdb_tables.specs.Grammar.{IsEntry}
@@ -20,13 +19,6 @@ IsBare t n = (k : List ℕ) → tables.get t (n ∷ k) ≡ None
 -- every key and row that stands under a number is in the grammar of that table
 abbrev pub AreEntries : Tables → ℕ → Type 0
 AreEntries t n = (k r : List ℕ) → tables.get t (n ∷ k) ≡ Some r → IsEntry n k r
-
--- How a call ends that makes any number of reads, or none: an Ok leaves the rows as they were, and nothing is written.
-pub record OnlyReads {T E : Type 0} (old new : Seen) (result : Result T E) (fault : E) : Type 0 where
-  pub kept : OnOk result (new.kept ≡ old.kept)
-  pub writes : new.writes ≡ old.writes
-  pub counts : NeverFall old new
-  pub steps : Steps old new result fault
 
 -- the table of statements by path has no row, and no table but the twelve has one
 pub record OthersAreBare (t : Tables) : Type 0 where

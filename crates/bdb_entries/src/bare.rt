@@ -3,7 +3,8 @@ ghost use Rattle.std.specs.Prelude.{◌≡◌, ◌≤◌, IfOk};
 ghost use Rattle.std.specs.Bool.{MatchBool};
 ghost use Rattle.bdb_keep.specs.Calls.{IsRead};
 ghost use Rattle.bdb_keep.specs.Tables.{LieInTables};
-ghost use Rattle.bdb_entries.specs.Reading.{IsBare, OnlyReads, OthersAreBare};
+ghost use Rattle.bdb_entries.specs.Reading.{IsBare, OthersAreBare};
+ghost use Rattle.bdb_tables.specs.Reading.{OnlyReads};
 
 use bdb_keep::{KeepError, Keeper};
 use bdb_tables::TabError;

@@ -3,8 +3,9 @@ ghost use Rattle.std.specs.Prelude.{◌≡◌, ◌≤◌, IfOk};
 ghost use Rattle.std.specs.Bool.{MatchBool};
 ghost use Rattle.bdb_keep.specs.Calls.{IsRead};
 ghost use Rattle.bdb_tables.specs.Grammar.{InGrammar};
+ghost use Rattle.bdb_tables.specs.Reading.{OnlyReads};
 ghost use Rattle.bdb_keep.specs.Tables.{LieInTables};
-ghost use Rattle.bdb_entries.specs.Reading.{AreEntries, OnlyReads};
+ghost use Rattle.bdb_entries.specs.Reading.{AreEntries};
 
 use crate::bare::{TABLES, is_bare};
 use crate::reading::fits;

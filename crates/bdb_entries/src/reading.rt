@@ -68,7 +68,8 @@ pub fn next_raw<T: Tab, K: Keeper>(
     low: &mut Vec<u8>,
     room: &mut Room,
 ) -> Result<Option<Option<(T::Key, T::Row)>>, TabError>
-    ensures found { IfOk result (λ r. MatchOption r (IsForeignFrom T.codec (K.seen keeper.old).kept low.old.items)
+    ensures found { IfOk result
+        (λ r. MatchOption r (IsForeignFrom T.codec (K.seen keeper.old).kept low.old.items)
         (HasNextUnder T.codec (K.seen keeper.old).kept [] low.old.items low.new.items)) }
     ensures read { IsRead (K.seen keeper.old) (K.seen keeper.new) result TabError.Fault }
 {

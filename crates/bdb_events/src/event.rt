@@ -12,7 +12,7 @@ use bdb_multi::Event;
 use std::alloc::{AllocError, Global};
 
 /// What a piece of a stream of sessions is: blanks and comments alone, too long, or behind these the number of a session, from
-/// 0 to 15 in one digit or two, one blank or more, and the line. The only error is want of memory.
+/// 0 to 15 in one digit or two, one blank or more, and the line. The only error is running out of memory.
 pub fn event_of(alloc: Global, piece: &Piece<'_>) -> Result<Read, AllocError>
     ensures read { IfOk result (λ read. read ≡ read_of piece.now) }
     ensures session { IfOk result NamesSession }

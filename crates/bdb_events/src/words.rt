@@ -8,7 +8,7 @@ use bdb_lex::{LexError, Token, TokenText, tokens};
 use bdb_multi::Line;
 use std::alloc::{AllocError, Global};
 
-/// The line of these bytes. The only error is want of memory.
+/// The line of these bytes. The only error is running out of memory.
 #[tactic(auto, unfolding(crate::specs::Pieces::line_of))]
 pub fn line_of(alloc: Global, bytes: &[u8]) -> Result<Line, AllocError>
     ensures { IfOk result (λ line. line ≡ line_of bytes.now) }

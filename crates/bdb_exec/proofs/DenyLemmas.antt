@@ -20,25 +20,27 @@ use Rattle.bdb_keep.specs.Tables.{Tables}
 use Rattle.bdb_key.specs.Bytes.{num_bytes, value_bytes, values_bytes, vals_bytes}
 use Rattle.bdb_key.specs.Grammar.{IsNum, ArePlain, AreKeyVals}
 use Rattle.bdb_key.proofs.Compared.{values_tie}
-use Rattle.bdb_key.proofs.Readings.{num_form, value_form}
+use Rattle.bdb_key.proofs.Readings.{num_form}
 use Rattle.bdb_plan.specs.Running.{plus_tuples}
 use Rattle.bdb_plan.specs.Sight.{rows_deny}
 use Rattle.bdb_tables.specs.Codec.{HasRow}
-use Rattle.bdb_tables.specs.GroupMarks.{numbered}
+use Rattle.bdb_tables.specs.GroupMarks.{group_bytes, numbered}
 use Rattle.bdb_tables.specs.InUse.{ValKey, IsValKey, val_bytes, tuple_codec, val_codec}
 use Rattle.bdb_tables.specs.InUseLaws.{vals_are_one, mark_rows_are_one}
 use Rattle.bdb_tables.specs.Marks.{Mark}
 use Rattle.bdb_tables.specs.Names.{leads_to}
 use Rattle.bdb_tables.specs.Spans.{AreUnder, IsUnder}
+use Rattle.bdb_tables.specs.Beginnings.{is_written}
 use Rattle.bdb_tables.proofs.PartLemmas.{vals_form}
+use Rattle.bdb_tables.proofs.BeginningLemmas.{values_part}
 use Rattle.bdb_exec.specs.Keys.{begins_so, of_key, rows_of_key}
 use Rattle.bdb_exec.specs.Readable.{CanBeRun}
-use Rattle.bdb_exec.specs.Rows.{IsNumberOf, signed_of, mark_denies, row_denies, is_written, world_prefix, key_prefix, group_prefix}
+use Rattle.bdb_exec.specs.Rows.{IsNumberOf, signed_of, mark_denies, row_denies, world_prefix, key_prefix}
 use Rattle.bdb_exec.specs.Seen.{rows_at, signed_in, signed_under, sight_of}
 use Rattle.bdb_exec.proofs.LengthLemmas.{keys_sized, take_and_drop, take_long, take_plain, take_short, take_take, take_whole}
 use Rattle.bdb_exec.proofs.LookingLemmas.{all_written}
 use Rattle.bdb_exec.proofs.TypedLemmas.{raw}
-use Rattle.bdb_exec.proofs.WorldLemmas.{AreTyped, IsThere, IsTold, typed_under, typed_rows, shown, signed_is, has_row, tuple_named, all_told, all_both}
+use Rattle.bdb_exec.proofs.WorldLemmas.{AreTyped, IsThere, StandsForTuple, typed_under, typed_rows, shown, signed_is, has_row, tuple_named, all_told, all_both}
 
 -- ---- tests and lists
 
@@ -112,14 +114,6 @@ world_parts w rel nw nr k f e =
     let two = num_form k.1 rel (vals_bytes k.2 ++ num_bytes k.3) s.0 f.rel nr one.1 in
     (one.0, two.0)
 
--- values whose bytes begin with those of others, which are no more, begin with them
-values_part : (vs xs : List Value) (a b : List ℕ) → ArePlain vs → ArePlain xs → length vs ≤ length xs → values_bytes xs ++ a ≡ values_bytes vs ++ b → take (length vs) xs ≡ vs
-values_part [] xs a b pv px few e = refl
-values_part (v ∷ vs) [] a b pv px few e = absurd (omega (arith, few))
-values_part (v ∷ vs) (x ∷ xs) a b pv px few e =
-    let one = value_form x v (values_bytes xs ++ a) (values_bytes vs ++ b) px.0 pv.0 (sym (append_assoc (value_bytes x) (values_bytes xs) a) ∙ e ∙ append_assoc (value_bytes v) (values_bytes vs) b) in
-    ap (λ (y : Value). y ∷ take (length vs) xs) one.0 ∙ ap (λ (ys : List Value). v ∷ ys) (values_part vs xs a b pv.1 px.1 (omega (arith, few)) one.1)
-
 -- the values of a key whose bytes begin with those of how many values it has and of some of them
 values_of : (n : ℕ) (vs xs : List Value) (tid : ℕ) (rest : List ℕ) → length vs ≤ n → IsNum n → ArePlain vs → AreKeyVals xs → vals_bytes xs ++ num_bytes tid ≡ num_bytes n ++ (values_bytes vs ++ rest)
     → take (length vs) xs ≡ vs
@@ -150,19 +144,19 @@ begins_with w rel n vs rest k a b c many =
     ∙ prefix_append (key_prefix own w rel vs) (values_bytes rest ++ num_bytes k.3)
 
 -- a key begins with a group's bytes exactly where it is the group's
-group_part : (w rel : ℕ) (vs : List Value) → IsNum w → IsNum rel → AreKeyVals vs → (k : ValKey) → IsValKey k → is_prefix (group_prefix w rel vs) (val_bytes k) ≡ true → k.2 ≡ vs
+group_part : (w rel : ℕ) (vs : List Value) → IsNum w → IsNum rel → AreKeyVals vs → (k : ValKey) → IsValKey k → is_prefix (group_bytes w rel vs) (val_bytes k) ≡ true → k.2 ≡ vs
 group_part w rel vs nw nr nv k f e =
-    let s = prefix_rest (group_prefix w rel vs) (val_bytes k) e in
+    let s = prefix_rest (group_bytes w rel vs) (val_bytes k) e in
     let one = num_form k.0 w (num_bytes k.1 ++ vals_bytes k.2 ++ num_bytes k.3) (num_bytes rel ++ vals_bytes vs ++ s.0) f.world nw s.1 in
     let two = num_form k.1 rel (vals_bytes k.2 ++ num_bytes k.3) (vals_bytes vs ++ s.0) f.rel nr one.1 in
     (vals_form k.2 vs (num_bytes k.3) s.0 f.key nv two.1).0
 
-group_begins : (w rel : ℕ) (vs : List Value) (k : ValKey) → k.0 ≡ w → k.1 ≡ rel → k.2 ≡ vs → is_prefix (group_prefix w rel vs) (val_bytes k) ≡ true
+group_begins : (w rel : ℕ) (vs : List Value) (k : ValKey) → k.0 ≡ w → k.1 ≡ rel → k.2 ≡ vs → is_prefix (group_bytes w rel vs) (val_bytes k) ≡ true
 group_begins w rel vs k a b c =
-    ap (λ (i : ℕ). is_prefix (group_prefix w rel vs) (val_bytes (i, k.1, k.2, k.3))) a
-    ∙ ap (λ (i : ℕ). is_prefix (group_prefix w rel vs) (val_bytes (w, i, k.2, k.3))) b
-    ∙ ap (λ (xs : List Value). is_prefix (group_prefix w rel vs) (val_bytes (w, rel, xs, k.3))) c
-    ∙ prefix_append (group_prefix w rel vs) (num_bytes k.3)
+    ap (λ (i : ℕ). is_prefix (group_bytes w rel vs) (val_bytes (i, k.1, k.2, k.3))) a
+    ∙ ap (λ (i : ℕ). is_prefix (group_bytes w rel vs) (val_bytes (w, i, k.2, k.3))) b
+    ∙ ap (λ (xs : List Value). is_prefix (group_bytes w rel vs) (val_bytes (w, rel, xs, k.3))) c
+    ∙ prefix_append (group_bytes w rel vs) (num_bytes k.3)
 
 -- ---- the first values of a tuple
 
@@ -214,7 +208,7 @@ module _ (t : Tables) (h : CanBeRun t) (w rel : ℕ) (nw : IsNum w) (nr : IsNum 
     pub of_rel : u.rel ≡ rel
     pub vals : key_of (sight_of t).keys u ≡ e.0.2
 
-  here : (e : ValKey × Mark) → IsUnder val_codec (world_prefix w rel) e → IsTold t h e → IsHere e
+  here : (e : ValKey × Mark) → IsUnder val_codec (world_prefix w rel) e → StandsForTuple t h e → IsHere e
   here e a k =
       let p = world_parts w rel nw nr e.0 a.key a.begins in
       let q = and_parts (nat_eq k.0.rel e.0.1) (same_values (key_of (sight_of t).keys k.0) e.0.2) k.2 in
@@ -230,7 +224,7 @@ module _ (t : Tables) (h : CanBeRun t) (w rel : ℕ) (nw : IsNum w) (nr : IsNum 
       }
 
   pub all_here : AllByRecursion IsHere all
-  all_here = all_both (IsUnder val_codec (world_prefix w rel)) (IsTold t h) IsHere all here are_typed.each (all_told t h (world_prefix w rel) all are_typed)
+  all_here = all_both (IsUnder val_codec (world_prefix w rel)) (StandsForTuple t h) IsHere all here are_typed.each (all_told t h (world_prefix w rel) all are_typed)
 
   pub shown_all : (sight_of t).rows w rel ≡ map (signed_of t) all
   shown_all = rows_of ∙ shown t (world_prefix w rel) all are_typed
@@ -380,7 +374,7 @@ module _ (t : Tables) (h : CanBeRun t) (w rel : ℕ) (nw : IsNum w) (nr : IsNum 
 
   -- a row is of the tuple's key
   abbrev of_key_of : ValKey × Mark → Bool
-  of_key_of e = is_prefix (group_prefix w rel own_key) (val_bytes e.0)
+  of_key_of e = is_prefix (group_bytes w rel own_key) (val_bytes e.0)
 
   -- two tuples of one relation have one key exactly where the row's key is the tuple's
   keys_are : AreKeyVals (key_of (sight_of t).keys u0) → (e : ValKey × Mark) (k : IsHere t h w rel nw nr e) → same_key (sight_of t).keys u0 k.u ≡ of_key_of e
@@ -428,15 +422,15 @@ module _ (t : Tables) (h : CanBeRun t) (w rel : ℕ) (nw : IsNum w) (nr : IsNum 
   denied_here = ap (λ (r : List (Tuple × Sign)). rows_deny (sight_of t).keys r u0) (sym (shown_all t h w rel nw nr))
 
   -- the rows that are read are those of the key
-  read_narrow : (es : List (ValKey × Mark)) → AreUnder val_codec t (group_prefix w rel own_key) es → es ≡ filter of_key_of (all t h w rel nw nr)
+  read_narrow : (es : List (ValKey × Mark)) → AreUnder val_codec t (group_bytes w rel own_key) es → es ≡ filter of_key_of (all t h w rel nw nr)
   read_narrow es under =
-      let read = typed_under t (group_prefix w rel own_key) es under in
+      let read = typed_under t (group_bytes w rel own_key) es under in
       let narrow = filter of_key_of (all t h w rel nw nr) in
-      raw_one t h (group_prefix w rel own_key) (world_prefix w rel) es narrow read.each
+      raw_one t h (group_bytes w rel own_key) (world_prefix w rel) es narrow read.each
       (Rattle.bdb_exec.proofs.WorldLemmas.all_filter (IsUnder val_codec (world_prefix w rel)) of_key_of (all t h w rel nw nr) (are_typed t h w rel nw nr).each)
       (sym read.rows ∙ rows_narrow t h w rel nw nr (vals_bytes own_key))
 
-  pub denied_is : (number : Option ℕ) (es : List (ValKey × Mark)) → IsNumberOf t u0 number → AreKeyVals (key_of (sight_of t).keys u0) → AreUnder val_codec t (group_prefix w rel (key_of (sight_of t).keys u0)) es
+  pub denied_is : (number : Option ℕ) (es : List (ValKey × Mark)) → IsNumberOf t u0 number → AreKeyVals (key_of (sight_of t).keys u0) → AreUnder val_codec t (group_bytes w rel (key_of (sight_of t).keys u0)) es
       → list_any (row_denies number) es ≡ rows_deny (sight_of t).keys ((sight_of t).rows w rel) u0
   denied_is number es is nv under =
       ap (list_any (row_denies number)) (read_narrow es under) ∙ some_deny number is nv (all t h w rel nw nr) (all_here t h w rel nw nr) ∙ denied_here
@@ -486,7 +480,7 @@ module _ (t : Tables) (h : CanBeRun t) (w rel : ℕ) (nw : IsNum w) (nr : IsNum 
         by false p true q le = omega (arith, le)
         by false p false q le = le
 
-  pub denied_reads : (es : List (ValKey × Mark)) → AreKeyVals (key_of (sight_of t).keys u0) → AreUnder val_codec t (group_prefix w rel (key_of (sight_of t).keys u0)) es
+  pub denied_reads : (es : List (ValKey × Mark)) → AreKeyVals (key_of (sight_of t).keys u0) → AreUnder val_codec t (group_bytes w rel (key_of (sight_of t).keys u0)) es
       → length es ≤ length (rows_of_key (key_of (sight_of t).keys u0) ((sight_of t).rows w rel))
   denied_reads es nv under =
       subst (λ (r : List (Tuple × Sign)). length es ≤ length (rows_of_key own_key r)) (sym (shown_all t h w rel nw nr))

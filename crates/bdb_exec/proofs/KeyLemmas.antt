@@ -29,7 +29,8 @@ use Rattle.bdb_plan.specs.Sight.{Sight}
 use Rattle.bdb_plan.specs.Sources.{first_there}
 use Rattle.bdb_plan.specs.declared.step.Step.{Step}
 use Rattle.bdb_plan.specs.declared.step.Step.TheVariants as step
-use Rattle.bdb_exec.specs.Keys.{tests_hold, passes, begins_so, column, names_another, asks_for_key, asks_on_left, asks_on_right, value_of_test, value_behind, values_behind, led_by, of_key, rows_of_key, key_asked, narrowed, choices_before, after_before}
+use Rattle.bdb_exec.specs.Keys.{tests_hold, passes, begins_so, column, names_another, asks_for_key, asks_on_left, asks_on_right, value_of_test, value_behind, values_behind, of_key, rows_of_key, key_asked, narrowed, choices_before, after_before}
+use Rattle.bdb_tables.specs.Beginnings.{led_by}
 use Rattle.bdb_exec.specs.LookUps.{looks_from, own_looks, deny_looks, pool_looks}
 use Rattle.bdb_exec.proofs.DenyLemmas.{equal_value, length_filter, filter_narrow}
 

@@ -14,9 +14,9 @@ use Rattle.bdb_key.specs.Grammar.{IsNum, ArePlain, AreKeyVals}
 use Rattle.bdb_tables.specs.Codec.{HasAt, TableFits, place}
 use Rattle.bdb_tables.specs.InUse.{HaveKeyTexts, rel_codec}
 use Rattle.bdb_tables.specs.Lengths.{HasKeyAt}
+use Rattle.bdb_tables.specs.Beginnings.{is_written}
 use Rattle.bdb_tables.proofs.Held.{rel_fits}
 use Rattle.bdb_exec.specs.Readable.{CanBeRun}
-use Rattle.bdb_exec.specs.Rows.{is_written}
 use Rattle.bdb_exec.specs.Seen.{length_in, sight_of}
 use Rattle.bdb_exec.proofs.LookingLemmas.{written_texts}
 use Rattle.bdb_exec.proofs.RelLemmas.{length_of}

@@ -1,39 +1,10 @@
 -- Values that are asked for, one column after the other.
-use Rattle.std.proofs.Common.{◌≡◌, ◌∙◌, ℕ, zero, suc, ◌+◌, ◌-◌, ◌≤◌, ◌<◌, Bool, true, false, ◌&&◌, List, [], ◌∷◌, ◌++◌, Option, Some, None, length, refl, ap, sym, subst, arith}
-use Rattle.std.specs.List.{list_all}
-use Rattle.std.proofs.lemmas.List.{append_assoc}
+use Rattle.std.proofs.Common.{◌≡◌, ◌∙◌, ℕ, zero, suc, ◌+◌, ◌-◌, ◌≤◌, ◌<◌, List, [], Option, Some, None, length, ap, sym, arith}
 use Rattle.bdb_base.specs.declared.kinds.Value.{Value}
-use Rattle.bdb_base.specs.declared.kinds.Value.TheVariants.{Int, Text}
 use Rattle.bdb_base.specs.declared.tuple.Tuple.{Tuple}
-use Rattle.bdb_key.specs.Bytes.{value_bytes, values_bytes}
-use Rattle.bdb_key.specs.Grammar.{IsPlainValue, IsWhole}
 use Rattle.bdb_plan.specs.declared.step.Step.{Step}
-use Rattle.bdb_exec.specs.Keys.{led_by, value_behind, values_behind}
-use Rattle.bdb_exec.specs.Rows.{HasPutValues, is_written}
-
-plain_value : (v : Value) → is_written v ≡ true → IsWhole v → IsPlainValue v
-plain_value (Int m) w h = h
-plain_value (Text t) w h = w
-
-append_nil : (xs : List ℕ) → xs ≡ xs ++ []
-append_nil [] = refl
-append_nil (x ∷ xs) = ap (λ (r : List ℕ). x ∷ r) (append_nil xs)
-
--- nothing is asked for
-pub put_none : (old : List ℕ) (vs : List Value) → vs ≡ [] → HasPutValues true old old vs
-put_none old vs e = subst (HasPutValues true old old) (sym e) (append_nil old, tt)
-
--- a value that no key may have is asked for first
-pub put_unwritten : (old new : List ℕ) (v : Value) (vs : List Value) → is_written v ≡ false → HasPutValues false old new (v ∷ vs)
-put_unwritten old new v vs e = ap (λ b. b && list_all is_written vs) e
-
--- one that keys may have was put, and then the others
-pub put_more : (all : Bool) (old mid new : List ℕ) (v : Value) (vs : List Value) → is_written v ≡ true → IsWhole v → mid ≡ old ++ value_bytes v → HasPutValues all mid new vs → HasPutValues all old new (v ∷ vs)
-put_more true old mid new v vs w whole e h = (
-  h.0 ∙ ap (λ (x : List ℕ). x ++ values_bytes vs) e ∙ append_assoc old (value_bytes v) (values_bytes vs),
-  (plain_value v w whole, h.1),
-)
-put_more false old mid new v vs w whole e h = ap (λ b. b && list_all is_written vs) w ∙ h
+use Rattle.bdb_exec.specs.Keys.{value_behind, values_behind}
+use Rattle.bdb_tables.specs.Beginnings.{led_by}
 
 module _ (slots : List (Option Tuple)) (item : ℕ) (behind : List Step) where
   -- no more values are asked for than there are columns

@@ -255,8 +255,8 @@ module _ (t : Tables) (h : CanBeRun t) where
       one (Some v) w e = ap Some (tuple_rows_are_one v u w r.in_grammar (some_same (tuple_bytes v) (tuple_bytes u) e))
 
   -- a row's number stands for a tuple, which has the row's relation and key
-  abbrev pub IsTold : ValKey × Mark → Type 0
-  IsTold e = (u : Tuple) × (h.tuples.tuple e.0.3 ≡ Some u) × (has_key (sight_of t).keys e.0 u ≡ true)
+  abbrev pub StandsForTuple : ValKey × Mark → Type 0
+  StandsForTuple e = (u : Tuple) × (h.tuples.tuple e.0.3 ≡ Some u) × (has_key (sight_of t).keys e.0 u ≡ true)
 
   row_told : (k : ValKey) (p : Option (List ℕ)) (o : Option Tuple) → is_some (row_named (sight_of t).keys h.stmts k p o) ≡ true → (u : Tuple) × (o ≡ Some u) × (has_key (sight_of t).keys k u ≡ true)
   row_told k None o e = absurd (false≢true e)
@@ -267,19 +267,19 @@ module _ (t : Tables) (h : CanBeRun t) where
       by true b i = (u, refl, b)
       by false b i = absurd (false≢true i)
 
-  one_told : (e : ValKey × Mark) → IsValKey e.0 → IsThere t e → IsTold e
+  one_told : (e : ValKey × Mark) → IsValKey e.0 → IsThere t e → StandsForTuple e
   one_told e k there = row_told e.0 (h.path e.0.0) (h.tuples.tuple e.0.3) (mapped (row_for (sight_of t).keys h.stmts h.path h.tuples.tuple e.0) (sym (h.rows.rows e.0 k) ∙ there))
     where
       mapped : (o : Option Mark) → option_map mark_bytes o ≡ Some (mark_bytes e.1) → is_some o ≡ true
       mapped None e = absurd (none_some _ e)
       mapped (Some m) e = refl
 
-  pub all_told : (prefix : List ℕ) (es : List (ValKey × Mark)) → AreTyped t prefix es → AllByRecursion IsTold es
-  all_told prefix es r = all_both (IsUnder val_codec prefix) (IsThere t) IsTold es (λ e u i. one_told e u.key i) r.each r.there
+  pub all_told : (prefix : List ℕ) (es : List (ValKey × Mark)) → AreTyped t prefix es → AllByRecursion StandsForTuple es
+  all_told prefix es r = all_both (IsUnder val_codec prefix) (IsThere t) StandsForTuple es (λ e u i. one_told e u.key i) r.each r.there
 
   pub all_have : (prefix : List ℕ) (es : List (ValKey × Mark)) → AreTyped t prefix es → AllByRecursion (HasTuple t) (map numbered es)
   all_have prefix es r = have es (all_told prefix es r)
     where
-      have : (es : List (ValKey × Mark)) → AllByRecursion IsTold es → AllByRecursion (HasTuple t) (map numbered es)
+      have : (es : List (ValKey × Mark)) → AllByRecursion StandsForTuple es → AllByRecursion (HasTuple t) (map numbered es)
       have [] k = tt
       have (e ∷ es) k = ((k.0.0, has_row e.0.3 k.0.0 k.0.1), have es k.1)

@@ -15,6 +15,7 @@ use Rattle.bdb_plan.specs.Running.{Reached, choices, settled, with_choice}
 use Rattle.bdb_plan.specs.Sight.{Sight}
 use Rattle.bdb_plan.specs.Sources.{first_there}
 use Rattle.bdb_plan.specs.declared.step.Step.{Step}
+use Rattle.bdb_tables.specs.Beginnings.{led_by}
 use Rattle.bdb_plan.specs.declared.step.Step.TheVariants as step
 
 -- ---- tests
@@ -59,11 +60,6 @@ value_behind slots item (step.Test c ∷ xs) col = first_there (value_of_test sl
 value_behind slots item (_ ∷ xs) col = None
 
 -- ---- beginnings of keys
-
--- a value before others; none of them where there is none
-abbrev pub led_by : Option Value → List Value → List Value
-led_by None vs = []
-led_by (Some v) vs = v ∷ vs
 
 -- the values that are asked for of at most so many columns from one on, up to the first of which none is asked for
 abbrev pub values_behind : List (Option Tuple) → ℕ → List Step → ℕ → ℕ → List Value

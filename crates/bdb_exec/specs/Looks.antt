@@ -1,16 +1,9 @@
 -- How calls that look at tables end.
 use Rattle.std.specs.Prelude.{◌≡◌, Result, OnOk, IsErrOf}
 use Rattle.bdb_base.specs.Causes.{HasCause}
-use Rattle.bdb_keep.specs.Seen.{Seen, NeverFall, IsDropped, Steps}
+use Rattle.bdb_keep.specs.Seen.{Seen, NeverFall, IsDropped}
 use Rattle.bdb_exec.specs.declared.errors.ExecError.{ExecError}
 use Rattle.bdb_exec.specs.declared.errors.ExecError.TheVariants.{TooMany, Fault, Memory}
-
--- Nothing is written, and an Ok leaves the rows as they were. How many were read, its own clause says.
-pub record Looks {T E : Type 0} (old new : Seen) (result : Result T E) (fault : E) : Type 0 where
-  pub kept : OnOk result (new.kept ≡ old.kept)
-  pub writes : new.writes ≡ old.writes
-  pub counts : NeverFall old new
-  pub steps : Steps old new result fault
 
 -- the rows, the rows last committed, the count of commits and a transaction that runs are as before
 pub record Stays (old new : Seen) : Type 0 where

@@ -1,18 +1,16 @@
 -- Rows of worlds as they are read.
-use Rattle.std.specs.Prelude.{◌≡◌, ℕ, Bool, true, false, not, List, [], ◌∷◌, ◌++◌, Option, MatchOption}
+use Rattle.std.specs.Prelude.{◌≡◌, ℕ, Bool, not, List, [], ◌∷◌, ◌++◌, Option, MatchOption}
 use Rattle.std.specs.FinMap as tables
-use Rattle.std.specs.List.{list_all}
 use Rattle.std.specs.Option.{option_map, unwrap_or}
-use Rattle.bdb_base.specs.Bases.{is_plain, live_name}
+use Rattle.bdb_base.specs.Bases.{live_name}
 use Rattle.bdb_base.specs.declared.kinds.Sign.{Sign}
 use Rattle.bdb_base.specs.declared.kinds.Sign.TheVariants.{Plus, Minus}
 use Rattle.bdb_base.specs.declared.kinds.UserSlot.{UserSlot}
 use Rattle.bdb_base.specs.declared.kinds.Value.{Value}
-use Rattle.bdb_base.specs.declared.kinds.Value.TheVariants.{Int, Text}
 use Rattle.bdb_base.specs.declared.tuple.Tuple.{Tuple}
 use Rattle.bdb_keep.specs.Tables.{Tables}
-use Rattle.bdb_key.specs.Bytes.{num_bytes, values_bytes, vals_bytes}
-use Rattle.bdb_key.specs.Grammar.{IsNum, ArePlain}
+use Rattle.bdb_key.specs.Bytes.{num_bytes, values_bytes}
+use Rattle.bdb_key.specs.Grammar.{IsNum}
 use Rattle.bdb_queries.specs.Slots.{user_tuple}
 use Rattle.bdb_tables.specs.Codec.{HasRow, place}
 use Rattle.bdb_tables.specs.InUse.{ValKey, tuple_codec, val_codec}
@@ -25,11 +23,6 @@ use Rattle.bdb_exec.specs.Spelled.{tuple_in}
 abbrev pub tuple_of_slot : ℕ × UserSlot → Option Tuple
 tuple_of_slot e = option_map (user_tuple e.0) (live_name e.1)
 
--- a text is one that keys may have
-abbrev pub is_written : Value → Bool
-is_written (Int n) = true
-is_written (Text t) = is_plain t
-
 -- how the keys of a world's rows of a relation begin
 abbrev pub world_prefix : ℕ → ℕ → List ℕ
 world_prefix world rel = num_bytes world ++ num_bytes rel
@@ -37,15 +30,6 @@ world_prefix world rel = num_bytes world ++ num_bytes rel
 -- how the keys of those rows begin whose tuples have a key of some length that begins with these values
 abbrev pub key_prefix : ℕ → ℕ → ℕ → List Value → List ℕ
 key_prefix n world rel vs = world_prefix world rel ++ num_bytes n ++ values_bytes vs
-
--- The bytes of plain values were appended, unless one of them is a text that keys may not have.
-abbrev pub HasPutValues : Bool → List ℕ → List ℕ → List Value → Type 0
-HasPutValues true old new vs = (new ≡ old ++ values_bytes vs) × ArePlain vs
-HasPutValues false old new vs = list_all is_written vs ≡ false
-
--- how the keys of those rows begin whose tuples have a key
-abbrev pub group_prefix : ℕ → ℕ → List Value → List ℕ
-group_prefix world rel vs = world_prefix world rel ++ vals_bytes vs
 
 -- a row's signed tuple, as the tables show it
 abbrev pub signed_of : Tables → ValKey × Mark → Tuple × Sign

@@ -5,7 +5,8 @@ ghost use Rattle.bdb_base.specs.Limits.{most_lines};
 ghost use Rattle.bdb_queries.specs.Limits.{up_to};
 ghost use Rattle.bdb_plan.specs.Running.{meaning_of, reads_from, start_of};
 ghost use Rattle.bdb_exec.specs.LookUps.{looks_from};
-ghost use Rattle.bdb_exec.specs.Looks.{Looks, IsExecuted};
+ghost use Rattle.bdb_exec.specs.Looks.{IsExecuted};
+ghost use Rattle.bdb_tables.specs.Reading.{OnlyReads};
 ghost use Rattle.bdb_exec.specs.Readable.{CanBeRun};
 ghost use Rattle.bdb_exec.specs.Seen.{sight_of};
 
@@ -69,7 +70,7 @@ fn rows_up_to<K: Keeper>(
         (λ rows. rows ≡ up_to most (meaning_of (sight_of (K.seen keeper.old).kept) plan.now)) }
     ensures reads { OnOk result ((K.seen keeper.new).reads ≤ (K.seen keeper.old).reads + looks_from
         (sight_of (K.seen keeper.old).kept) plan.now.steps (start_of plan.now.items)) }
-    ensures looks { Looks (K.seen keeper.old) (K.seen keeper.new) result TabError.Fault }
+    ensures looks { OnlyReads (K.seen keeper.old) (K.seen keeper.new) result TabError.Fault }
 {
     let state = match State::start(alloc, plan.items()) {
         Ok(state) => state,

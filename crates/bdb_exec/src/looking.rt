@@ -8,9 +8,9 @@ ghost use Rattle.bdb_plan.specs.Running.{plus_tuples};
 ghost use Rattle.bdb_plan.specs.Sight.{rows_deny};
 ghost use Rattle.bdb_tables.specs.Codec.{HasRow};
 ghost use Rattle.bdb_tables.specs.InUse.{tuple_codec};
+ghost use Rattle.bdb_tables.specs.Reading.{OnlyReads};
 ghost use Rattle.bdb_exec.specs.Keys.{asks_for_key, key_asked, of_key, rows_of_key, values_behind};
 ghost use Rattle.bdb_exec.specs.LookUps.{deny_looks, pool_looks};
-ghost use Rattle.bdb_exec.specs.Looks.{Looks};
 ghost use Rattle.bdb_exec.specs.Memos.{Recalls};
 ghost use Rattle.bdb_exec.specs.Readable.{CanBeRun};
 ghost use Rattle.bdb_exec.specs.Rows.{HasTuple, IsNumberOf, HasPushed, signed_at, mark_denies, tuple_of_slot};
@@ -37,7 +37,7 @@ pub fn users<K: Keeper>(alloc: Global, keeper: &mut K) -> Result<List<Shared>, T
     ensures reads { OnOk result
         ((K.seen keeper.new).reads
         ≤ (K.seen keeper.old).reads + ((sight_of (K.seen keeper.old).kept).places + 1)) }
-    ensures looks { Looks (K.seen keeper.old) (K.seen keeper.new) result TabError.Fault }
+    ensures looks { OnlyReads (K.seen keeper.old) (K.seen keeper.new) result TabError.Fault }
 {
     let entries = match rows_under::<UserTab, K>(alloc, keeper, &[]) {
         Ok(entries) => entries,
@@ -84,7 +84,7 @@ pub fn edge<K: Keeper>(
         (λ target. target ≡ (sight_of (K.seen keeper.old).kept).edge world uid) }
     ensures reads { OnOk result ((K.seen keeper.new).reads ≤ (K.seen keeper.old).reads + 1) }
     ensures memo { OnOk result (Recalls (K.seen keeper.old).kept memo.new) }
-    ensures looks { Looks (K.seen keeper.old) (K.seen keeper.new) result TabError.Fault }
+    ensures looks { OnlyReads (K.seen keeper.old) (K.seen keeper.new) result TabError.Fault }
 {
     let key = (world, uid);
     match memo.edges.get(&key) {
@@ -116,7 +116,7 @@ pub fn key_length_of<K: Keeper>(
     ensures length { IfOk result (λ n. n ≡ (sight_of (K.seen keeper.old).kept).keys rel) }
     ensures reads { OnOk result ((K.seen keeper.new).reads ≤ (K.seen keeper.old).reads + 1) }
     ensures memo { OnOk result (Recalls (K.seen keeper.old).kept memo.new) }
-    ensures looks { Looks (K.seen keeper.old) (K.seen keeper.new) result TabError.Fault }
+    ensures looks { OnlyReads (K.seen keeper.old) (K.seen keeper.new) result TabError.Fault }
 {
     match memo.lengths.get(&rel) {
         Some(n) => return Ok(*n),
@@ -153,7 +153,7 @@ pub fn plus_tuples<K: Keeper>(
         ≤ (K.seen keeper.old).reads + (2 * length
         ((sight_of (K.seen keeper.old).kept).rows world rel) + 1)) }
     ensures memo { OnOk result (Recalls (K.seen keeper.old).kept memo.new) }
-    ensures looks { Looks (K.seen keeper.old) (K.seen keeper.new) result TabError.Fault }
+    ensures looks { OnlyReads (K.seen keeper.old) (K.seen keeper.new) result TabError.Fault }
 {
     let mut prefix = Vec::new(alloc);
     if put_world(&mut prefix, world, rel).is_err() {
@@ -189,7 +189,7 @@ pub fn plus_tuples_of_key<K: Keeper>(
         (key_asked ((sight_of (K.seen keeper.old).kept).keys rel) state.now.slots item behind.now)
         ((sight_of (K.seen keeper.old).kept).rows state.now.world rel)) }
     ensures memo { OnOk result (Recalls (K.seen keeper.old).kept memo.new) }
-    ensures looks { Looks (K.seen keeper.old) (K.seen keeper.new) result TabError.Fault }
+    ensures looks { OnlyReads (K.seen keeper.old) (K.seen keeper.new) result TabError.Fault }
 {
     let n = match key_length_of(alloc, keeper, memo, rel) {
         Ok(n) => n,
@@ -236,7 +236,7 @@ fn plus_tuples_asked<K: Keeper>(
         (rows_of_key (values_behind slots.now item behind.now n 0)
         ((sight_of (K.seen keeper.old).kept).rows world rel)) + 1)) }
     ensures memo { OnOk result (Recalls (K.seen keeper.old).kept memo.new) }
-    ensures looks { Looks (K.seen keeper.old) (K.seen keeper.new) result TabError.Fault }
+    ensures looks { OnlyReads (K.seen keeper.old) (K.seen keeper.new) result TabError.Fault }
 {
     let mut prefix = Vec::new(alloc);
     match put_key(&mut prefix, world, rel, n, slots, item, behind) {
@@ -270,7 +270,7 @@ fn pool_under<K: Keeper>(
         ≤ (K.seen keeper.old).reads + (2 * length
         (signed_under (K.seen keeper.old).kept prefix.items) + 1)) }
     ensures memo { OnOk result (Recalls (K.seen keeper.old).kept memo.new) }
-    ensures looks { Looks (K.seen keeper.old) (K.seen keeper.new) result TabError.Fault }
+    ensures looks { OnlyReads (K.seen keeper.old) (K.seen keeper.new) result TabError.Fault }
 {
     match last_pool(&memo.last_pools, &place, prefix.as_slice()) {
         Some(tuples) => match tuples.try_clone(alloc) {
@@ -311,7 +311,7 @@ fn plus_under<K: Keeper>(
         ≤ (K.seen keeper.old).reads + (2 * length (signed_under (K.seen keeper.old).kept prefix.now)
         + 1)) }
     ensures memo { OnOk result (Recalls (K.seen keeper.old).kept memo.new) }
-    ensures looks { Looks (K.seen keeper.old) (K.seen keeper.new) result TabError.Fault }
+    ensures looks { OnlyReads (K.seen keeper.old) (K.seen keeper.new) result TabError.Fault }
 {
     let entries = match numbered_under(alloc, keeper, prefix, &mut memo.room) {
         Ok(entries) => entries,
@@ -338,7 +338,7 @@ fn plus_of<K: Keeper>(
     ensures reads { OnOk result
         ((K.seen keeper.new).reads ≤ (K.seen keeper.old).reads + length entries.now) }
     ensures memo { OnOk result (Recalls (K.seen keeper.old).kept memo.new) }
-    ensures looks { Looks (K.seen keeper.old) (K.seen keeper.new) result TabError.Fault }
+    ensures looks { OnlyReads (K.seen keeper.old) (K.seen keeper.new) result TabError.Fault }
 {
     let mut tuples = List::new(alloc);
     for entry in entries {
@@ -366,7 +366,7 @@ fn push_plus<K: Keeper>(
         (HasPushed (K.seen keeper.old).kept tid sign tuples.old tuples.new) }
     ensures reads { OnOk result ((K.seen keeper.new).reads ≤ (K.seen keeper.old).reads + 1) }
     ensures memo { OnOk result (Recalls (K.seen keeper.old).kept memo.new) }
-    ensures looks { Looks (K.seen keeper.old) (K.seen keeper.new) result TabError.Fault }
+    ensures looks { OnlyReads (K.seen keeper.old) (K.seen keeper.new) result TabError.Fault }
 {
     match sign {
         Sign::Plus => match tuple_of(alloc, keeper, memo, tid) {
@@ -396,7 +396,7 @@ fn tuple_of<K: Keeper>(
     ensures tuple { IfOk result (λ tuple. HasRow tuple_codec (K.seen keeper.old).kept tid tuple) }
     ensures reads { OnOk result ((K.seen keeper.new).reads ≤ (K.seen keeper.old).reads + 1) }
     ensures memo { OnOk result (Recalls (K.seen keeper.old).kept memo.new) }
-    ensures looks { Looks (K.seen keeper.old) (K.seen keeper.new) result TabError.Fault }
+    ensures looks { OnlyReads (K.seen keeper.old) (K.seen keeper.new) result TabError.Fault }
 {
     match memo.tuples.get(&tid) {
         Some(shared) => {
@@ -456,7 +456,7 @@ pub fn denies<K: Keeper>(
         ((sight_of (K.seen keeper.old).kept).keys tuple.now.rel)
         ((sight_of (K.seen keeper.old).kept).rows world tuple.now.rel) (Some tuple.now)) }
     ensures memo { OnOk result (Recalls (K.seen keeper.old).kept memo.new) }
-    ensures looks { Looks (K.seen keeper.old) (K.seen keeper.new) result TabError.Fault }
+    ensures looks { OnlyReads (K.seen keeper.old) (K.seen keeper.new) result TabError.Fault }
 {
     match denies_of(alloc, keeper, memo, world, tuple.rel, tuple) {
         Ok(denies) => Ok(denies),
@@ -483,7 +483,7 @@ fn denies_of<K: Keeper>(
         ((sight_of (K.seen keeper.old).kept).keys rel)
         ((sight_of (K.seen keeper.old).kept).rows world rel) (Some tuple.now)) }
     ensures memo { OnOk result (Recalls (K.seen keeper.old).kept memo.new) }
-    ensures looks { Looks (K.seen keeper.old) (K.seen keeper.new) result TabError.Fault }
+    ensures looks { OnlyReads (K.seen keeper.old) (K.seen keeper.new) result TabError.Fault }
 {
     let n = match key_length_of(alloc, keeper, memo, rel) {
         Ok(n) => n,
@@ -518,7 +518,7 @@ fn denies_with<K: Keeper>(
         (rows_of_key (take n tuple.now.vals) ((sight_of (K.seen keeper.old).kept).rows world rel))
         + 2)) }
     ensures memo { OnOk result (Recalls (K.seen keeper.old).kept memo.new) }
-    ensures looks { Looks (K.seen keeper.old) (K.seen keeper.new) result TabError.Fault }
+    ensures looks { OnlyReads (K.seen keeper.old) (K.seen keeper.new) result TabError.Fault }
 {
     let key = key_of(tuple, n);
     if !are_written(key) {
@@ -569,7 +569,7 @@ fn number_of<K: Keeper>(
     requires run { CanBeRun (K.seen keeper.old).kept }
     ensures number { IfOk result (IsNumberOf (K.seen keeper.old).kept tuple.now) }
     ensures reads { OnOk result ((K.seen keeper.new).reads ≤ (K.seen keeper.old).reads + 1) }
-    ensures looks { Looks (K.seen keeper.old) (K.seen keeper.new) result TabError.Fault }
+    ensures looks { OnlyReads (K.seen keeper.old) (K.seen keeper.new) result TabError.Fault }
 {
     if !are_written(tuple.vals.as_slice()) {
         return Ok(None);

@@ -5,8 +5,10 @@ ghost use Rattle.bdb_base.specs.Bases.{is_plain};
 ghost use Rattle.bdb_key.specs.Bytes.{num_bytes};
 ghost use Rattle.bdb_key.specs.Grammar.{AreKeyVals};
 ghost use Rattle.bdb_tables.specs.InUse.{HaveKeyTexts};
+ghost use Rattle.bdb_tables.specs.GroupMarks.{group_bytes};
+ghost use Rattle.bdb_tables.specs.Beginnings.{HasPutValues, is_written};
 ghost use Rattle.bdb_exec.specs.Keys.{values_behind};
-ghost use Rattle.bdb_exec.specs.Rows.{HasPutValues, group_prefix, is_written, world_prefix};
+ghost use Rattle.bdb_exec.specs.Rows.{world_prefix};
 
 use crate::keys::value_behind;
 use crate::shared::Shared;
@@ -88,7 +90,7 @@ pub fn put_group(
 ) -> Result<(), AllocError>
     requires texts { HaveKeyTexts key.now }
     ensures bytes { OnOk result
-        (prefix.new.items ≡ prefix.old.items ++ group_prefix world rel key.now) }
+        (prefix.new.items ≡ prefix.old.items ++ group_bytes world rel key.now) }
     ensures fits { OnOk result (AreKeyVals key.now) }
 {
     prefix.reserve(PREFIX_ROOM)?;

@@ -3,7 +3,7 @@ ghost use Rattle.std.specs.Prelude.{◌≡◌, ◌≤◌, ◌+◌, ◌*◌, IfOk
 ghost use Rattle.bdb_plan.specs.Running.{plus_tuples};
 ghost use Rattle.bdb_exec.specs.Keys.{choices_before, key_asked, passes};
 ghost use Rattle.bdb_exec.specs.LookUps.{choice_looks, pool_looks};
-ghost use Rattle.bdb_exec.specs.Looks.{Looks};
+ghost use Rattle.bdb_tables.specs.Reading.{OnlyReads};
 ghost use Rattle.bdb_exec.specs.Memos.{Recalls};
 ghost use Rattle.bdb_exec.specs.Readable.{CanBeRun};
 ghost use Rattle.bdb_exec.specs.Seen.{sight_of};
@@ -39,7 +39,7 @@ pub fn choices<K: Keeper>(
         ((K.seen keeper.new).reads ≤ (K.seen keeper.old).reads + choice_looks
         (sight_of (K.seen keeper.old).kept) state.now step.now behind.now) }
     ensures memo { OnOk result (Recalls (K.seen keeper.old).kept memo.new) }
-    ensures looks { Looks (K.seen keeper.old) (K.seen keeper.new) result TabError.Fault }
+    ensures looks { OnlyReads (K.seen keeper.old) (K.seen keeper.new) result TabError.Fault }
 {
     match step {
         Step::User { item } => match some_users(alloc, keeper, memo, *item, state, behind) {
@@ -78,7 +78,7 @@ fn some_users<K: Keeper>(
         ((K.seen keeper.new).reads
         ≤ (K.seen keeper.old).reads + ((sight_of (K.seen keeper.old).kept).places + 1)) }
     ensures memo { OnOk result (Recalls (K.seen keeper.old).kept memo.new) }
-    ensures looks { Looks (K.seen keeper.old) (K.seen keeper.new) result TabError.Fault }
+    ensures looks { OnlyReads (K.seen keeper.old) (K.seen keeper.new) result TabError.Fault }
 {
     match &memo.users {
         Some(all) => {
@@ -121,7 +121,7 @@ fn some_tuples<K: Keeper>(
         (key_asked ((sight_of (K.seen keeper.old).kept).keys rel) state.now.slots item behind.now)
         ((sight_of (K.seen keeper.old).kept).rows state.now.world rel)) }
     ensures memo { OnOk result (Recalls (K.seen keeper.old).kept memo.new) }
-    ensures looks { Looks (K.seen keeper.old) (K.seen keeper.new) result TabError.Fault }
+    ensures looks { OnlyReads (K.seen keeper.old) (K.seen keeper.new) result TabError.Fault }
 {
     if !asks_for_key(state.slots(), item, behind) {
         return match of_relation(alloc, keeper, memo, item, rel, state, behind) {
@@ -154,7 +154,7 @@ fn of_relation<K: Keeper>(
         ≤ (K.seen keeper.old).reads + (2 * length
         ((sight_of (K.seen keeper.old).kept).rows state.now.world rel) + 1)) }
     ensures memo { OnOk result (Recalls (K.seen keeper.old).kept memo.new) }
-    ensures looks { Looks (K.seen keeper.old) (K.seen keeper.new) result TabError.Fault }
+    ensures looks { OnlyReads (K.seen keeper.old) (K.seen keeper.new) result TabError.Fault }
 {
     let world = state.world();
     let place = (world, rel);
@@ -197,7 +197,7 @@ fn let_through<K: Keeper>(
     ensures pool { IfOk result (λ pool. pool ≡ filter (passes state.now.slots item behind.now)
         all.now) }
     ensures reads { (K.seen keeper.new).reads ≡ (K.seen keeper.old).reads }
-    ensures looks { Looks (K.seen keeper.old) (K.seen keeper.new) result TabError.Fault }
+    ensures looks { OnlyReads (K.seen keeper.old) (K.seen keeper.new) result TabError.Fault }
 {
     match passing(alloc, state.slots(), item, behind, all) {
         Ok(pool) => Ok(pool),

@@ -7,7 +7,7 @@ ghost use Rattle.bdb_queries.specs.Slots.{known_row};
 ghost use Rattle.bdb_plan.specs.Running.{rows_from};
 ghost use Rattle.bdb_exec.specs.Coming.{ComesTo, ComesOn, came_looks, looks_with, rows_with};
 ghost use Rattle.bdb_exec.specs.LookUps.{looks_from};
-ghost use Rattle.bdb_exec.specs.Looks.{Looks};
+ghost use Rattle.bdb_tables.specs.Reading.{OnlyReads};
 ghost use Rattle.bdb_exec.specs.Memos.{Recalls};
 ghost use Rattle.bdb_exec.specs.Readable.{CanBeRun};
 ghost use Rattle.bdb_exec.specs.Seen.{sight_of};
@@ -69,7 +69,7 @@ pub fn advance<K: Keeper>(
         steps.now came ≤ (K.seen keeper.old).reads + looks_from (sight_of (K.seen keeper.old).kept)
         steps.now state) }
     ensures memo { OnOk result (Recalls (K.seen keeper.old).kept memo.new) }
-    ensures looks { Looks (K.seen keeper.old) (K.seen keeper.new) result TabError.Fault }
+    ensures looks { OnlyReads (K.seen keeper.old) (K.seen keeper.new) result TabError.Fault }
 {
     let mut state = state;
     let mut done = 0;
@@ -115,7 +115,7 @@ pub fn run<K: Keeper>(
     ensures reads { OnOk result ((K.seen keeper.new).reads ≤ (K.seen keeper.old).reads + looks_from
         (sight_of (K.seen keeper.old).kept) steps.now state) }
     ensures memo { OnOk result (Recalls (K.seen keeper.old).kept memo.new) }
-    ensures looks { Looks (K.seen keeper.old) (K.seen keeper.new) result TabError.Fault }
+    ensures looks { OnlyReads (K.seen keeper.old) (K.seen keeper.new) result TabError.Fault }
 {
     match advance(alloc, keeper, memo, steps, state) {
         Ok(Came::Nothing) => Ok(()),
@@ -167,7 +167,7 @@ fn run_each<K: Keeper>(
         (looks_with (sight_of (K.seen keeper.old).kept) steps.now choosing.state choosing.item)
         choosing.pool) }
     ensures memo { OnOk result (Recalls (K.seen keeper.old).kept memo.new) }
-    ensures looks { Looks (K.seen keeper.old) (K.seen keeper.new) result TabError.Fault }
+    ensures looks { OnlyReads (K.seen keeper.old) (K.seen keeper.new) result TabError.Fault }
 {
     let Choosing {
         item,

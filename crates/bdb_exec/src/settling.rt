@@ -5,7 +5,7 @@ ghost use Rattle.bdb_queries.specs.Slots.{slot_at, uid_of, must_hold};
 ghost use Rattle.bdb_plan.specs.Holding.{differ};
 ghost use Rattle.bdb_plan.specs.Running.{with_world, denied, settled, reached_if, tuple_of};
 ghost use Rattle.bdb_exec.specs.LookUps.{deny_looks, settled_looks};
-ghost use Rattle.bdb_exec.specs.Looks.{Looks};
+ghost use Rattle.bdb_tables.specs.Reading.{OnlyReads};
 ghost use Rattle.bdb_exec.specs.Memos.{Recalls};
 ghost use Rattle.bdb_exec.specs.Readable.{CanBeRun};
 ghost use Rattle.bdb_exec.specs.Seen.{sight_of};
@@ -37,7 +37,7 @@ pub fn settle<K: Keeper>(
         ((K.seen keeper.new).reads ≤ (K.seen keeper.old).reads + settled_looks
         (sight_of (K.seen keeper.old).kept) state step.now) }
     ensures memo { OnOk result (Recalls (K.seen keeper.old).kept memo.new) }
-    ensures looks { Looks (K.seen keeper.old) (K.seen keeper.new) result TabError.Fault }
+    ensures looks { OnlyReads (K.seen keeper.old) (K.seen keeper.new) result TabError.Fault }
 {
     match step {
         Step::User { .. } => Ok(None),
@@ -97,7 +97,7 @@ fn follow<K: Keeper>(
         (uid_of state.slots who))) }
     ensures reads { OnOk result ((K.seen keeper.new).reads ≤ (K.seen keeper.old).reads + 1) }
     ensures memo { OnOk result (Recalls (K.seen keeper.old).kept memo.new) }
-    ensures looks { Looks (K.seen keeper.old) (K.seen keeper.new) result TabError.Fault }
+    ensures looks { OnlyReads (K.seen keeper.old) (K.seen keeper.new) result TabError.Fault }
 {
     match uid_of(state.slots(), who) {
         Some(uid) => match edge(alloc, keeper, memo, state.world(), uid) {
@@ -127,7 +127,7 @@ fn deny<K: Keeper>(
         ((sight_of (K.seen keeper.old).kept).keys rel)
         ((sight_of (K.seen keeper.old).kept).rows state.world rel) (slot_at state.slots item)) }
     ensures memo { OnOk result (Recalls (K.seen keeper.old).kept memo.new) }
-    ensures looks { Looks (K.seen keeper.old) (K.seen keeper.new) result TabError.Fault }
+    ensures looks { OnlyReads (K.seen keeper.old) (K.seen keeper.new) result TabError.Fault }
 {
     let (state, chosen) = state.taken(item);
     let shared = match chosen {

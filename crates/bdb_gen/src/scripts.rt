@@ -8,7 +8,7 @@ use crate::lines::{append_first_lines, append_line};
 use std::alloc::{AllocError, Global};
 
 /// The script of a seed and a size: it makes eight users and a relation, and then as many inserts, deletes and queries as the
-/// size says. The only error is want of memory.
+/// size says. The only error is running out of memory.
 pub fn generate(alloc: Global, seed: u64, size: u32) -> Result<Vec<u8>, AllocError>
     requires size { size ≤ most_generated }
     ensures { IfOk result (λ text. text.items ≡ script seed size) }

@@ -26,7 +26,7 @@ use Rattle.bdb_entries.proofs.ReadLemmas.{past}
 use Rattle.bdb_entries.proofs.TupleLemmas.{holding}
 use Rattle.bdb_graph.specs.Naming.{names_of, path_in}
 use Rattle.bdb_graph.specs.States.{AllKeysPass, AreIndexed, HasEdgeFor, HasEdges, IsWorldOf, is_edge_key, is_right, is_world, target_of}
-use Rattle.bdb_graph.specs.declared.naming.World.{World}
+use Rattle.bdb_graph.specs.declared.naming.NamedWorld.{NamedWorld}
 use Rattle.bdb_graph.proofs.FindingLemmas.{all_by_place, each_at, member_is, world_at, world_fits}
 use Rattle.bdb_graph.proofs.LinkLemmas.{number_fits}
 use Rattle.bdb_graph.proofs.PassLemmas.{no_row, row_told}
@@ -71,7 +71,7 @@ pub edge_leads : (users : ℕ → Bool) (ns : Names) (i : ℕ) (w longer : List 
 edge_leads users ns i w longer found n b user apart is more told =
     told ∙ ap (λ v. leads_to (target_of ns v) n) more ∙ ap (λ o. leads_to o n) (sym (edge_is users ns i w user apart)) ∙ ap (λ o. is_right o (edge_from users ns i w)) (sym is)
 
-pub edge_told : (t : Tables) (users : ℕ → Bool) (ws : List World) → AreNames (names_of ws) → (x : World) (i : ℕ) → IsWorldOf ws x → (found : Option ℕ) (b : Bool) → HasAt edge_codec t (x.wid, i) found
+pub edge_told : (t : Tables) (users : ℕ → Bool) (ws : List NamedWorld) → AreNames (names_of ws) → (x : NamedWorld) (i : ℕ) → IsWorldOf ws x → (found : Option ℕ) (b : Bool) → HasAt edge_codec t (x.wid, i) found
     → b ≡ is_right found (edge_from users (names_of ws) i x.path) → MatchBool b (HasEdgeFor t users ws x i) (HasEdgeFor t users ws x i → ⊥)
 edge_told t users ws a x i is found b h told =
     row_told edge_codec number_rows_are_one t (x.wid, i) (edge_of users (names_of ws)) found (edge_from users (names_of ws) i x.path) b h (edge_at users (names_of ws) x.wid i x.path is)
@@ -80,20 +80,20 @@ edge_told t users ws a x i is found b h told =
 -- ---- the users of one world
 
 -- the edges for users up to a number are right
-abbrev pub HasEdgesTo : Tables → (ℕ → Bool) → List World → World → ℕ → Type 0
+abbrev pub HasEdgesTo : Tables → (ℕ → Bool) → List NamedWorld → NamedWorld → ℕ → Type 0
 HasEdgesTo t users ws x k = (i : ℕ) → users i ≡ true → i ≤ k → HasEdgeFor t users ws x i
 
 last : (i k : ℕ) → i ≤ k + 1 → nat_le i k ≡ false → k + 1 ≡ i
 last i k l above = grind (arith, nat_tests)
 
 -- the number of one who is gone has no edge
-pub edges_over : (t : Tables) (users : ℕ → Bool) (ws : List World) (x : World) (k : ℕ) → users (k + 1) ≡ false → HasEdgesTo t users ws x k → HasEdgesTo t users ws x (k + 1)
+pub edges_over : (t : Tables) (users : ℕ → Bool) (ws : List NamedWorld) (x : NamedWorld) (k : ℕ) → users (k + 1) ≡ false → HasEdgesTo t users ws x k → HasEdgesTo t users ws x (k + 1)
 edges_over t users ws x k none h i user l = elim (cases_Bool (nat_le i k)) [
   | inl below ↦ h i user (leb-true i k below)
   | inr above ↦ absurd (false≢true (sym none ∙ ap users (last i k l above) ∙ user))
 ]
 
-pub edges_more : (t u : Tables) (users : ℕ → Bool) (ws : List World) (x : World) (k : ℕ) (b : Bool) → u ≡ t → b ≡ true → MatchBool b (HasEdgeFor u users ws x (k + 1)) (HasEdgeFor u users ws x (k + 1) → ⊥)
+pub edges_more : (t u : Tables) (users : ℕ → Bool) (ws : List NamedWorld) (x : NamedWorld) (k : ℕ) (b : Bool) → u ≡ t → b ≡ true → MatchBool b (HasEdgeFor u users ws x (k + 1)) (HasEdgeFor u users ws x (k + 1) → ⊥)
     → HasEdgesTo t users ws x k → HasEdgesTo t users ws x (k + 1)
 edges_more t u users ws x k b same good told h i user l = elim (cases_Bool (nat_le i k)) [
   | inl below ↦ h i user (leb-true i k below)
@@ -103,16 +103,16 @@ edges_more t u users ws x k b same good told h i user l = elim (cases_Bool (nat_
       subst (HasEdgeFor t users ws x) is here
 ]
 
-pub edges_all : (t : Tables) (users : List UserSlot) (ws : List World) (x : World) (k : ℕ) → length users ≤ k → HasEdgesTo t (is_user users) ws x k → HasEdges t (is_user users) ws x
+pub edges_all : (t : Tables) (users : List UserSlot) (ws : List NamedWorld) (x : NamedWorld) (k : ℕ) → length users ≤ k → HasEdgesTo t (is_user users) ws x k → HasEdges t (is_user users) ws x
 edges_all t users ws x k l h i user = let most = user_within users i user in h i user (omega arith)
 
-pub not_edge : (t u : Tables) (users : ℕ → Bool) (ws : List World) (x : World) (i : ℕ) (b : Bool) → u ≡ t → users i ≡ true → b ≡ false → MatchBool b (HasEdgeFor u users ws x i) (HasEdgeFor u users ws x i → ⊥)
+pub not_edge : (t u : Tables) (users : ℕ → Bool) (ws : List NamedWorld) (x : NamedWorld) (i : ℕ) (b : Bool) → u ≡ t → users i ≡ true → b ≡ false → MatchBool b (HasEdgeFor u users ws x i) (HasEdgeFor u users ws x i → ⊥)
     → HasEdges t users ws x → ⊥
 not_edge t u users ws x i b same user bad told h = past (HasEdgeFor u users ws x i) (HasEdgeFor u users ws x i → ⊥) b bad told (subst (λ v. HasEdgeFor v users ws x i) (sym same) (h i user))
 
 -- ---- all worlds
 
-module _ (t u : Tables) (users : ℕ → Bool) (ws : List World) (k : ℕ) (x : World) (b : Bool) where
+module _ (t u : Tables) (users : ℕ → Bool) (ws : List NamedWorld) (k : ℕ) (x : NamedWorld) (b : Bool) where
   pub edged_more : k < length ws → x ≡ get_or ws k x → u ≡ t → b ≡ true → MatchBool b (HasEdges u users ws x) (HasEdges u users ws x → ⊥)
       → AllByRecursion (HasEdges t users ws) (take k ws) → AllByRecursion (HasEdges t users ws) (take (k + 1) ws)
   edged_more l is same good told h =
@@ -124,7 +124,7 @@ module _ (t u : Tables) (users : ℕ → Bool) (ws : List World) (k : ℕ) (x : 
 
 -- ---- the table
 
-module _ (t : Tables) (users : List UserSlot) (ws : List World) (ps : List (List ℕ)) (h : AreIndexed ws ps) where
+module _ (t : Tables) (users : List UserSlot) (ws : List NamedWorld) (ps : List (List ℕ)) (h : AreIndexed ws ps) where
   abbrev edges : ℕ × ℕ → Option ℕ
   edges k = edge_of (is_user users) (names_of ws) k
 

@@ -18,7 +18,7 @@ use Rattle.bdb_tables.specs.Names.{AreNames, is_named, leads_to}
 use Rattle.bdb_names.proofs.NameLemmas.{deep_number, same_some}
 use Rattle.bdb_graph.specs.Naming.{names_of, number_in, path_in}
 use Rattle.bdb_graph.specs.States.{AreIndexed, ArePathsOf, IsWorldOf, is_world, number_of_world, target_of}
-use Rattle.bdb_graph.specs.declared.naming.World.{World}
+use Rattle.bdb_graph.specs.declared.naming.NamedWorld.{NamedWorld}
 use Rattle.bdb_graph.proofs.NumberLemmas.{all_at, eq_turned, lt_differs}
 
 -- ---- lists
@@ -36,27 +36,27 @@ got (z ∷ xs) (suc k) x y e is = got xs k x y e is
 
 -- ---- by number
 
-number_at : (ws : List World) (k : ℕ) (x : World) → k < length ws → x ≡ get_or ws k x → slice_get (map number_of_world ws) k ≡ Some x.wid
+number_at : (ws : List NamedWorld) (k : ℕ) (x : NamedWorld) → k < length ws → x ≡ get_or ws k x → slice_get (map number_of_world ws) k ≡ Some x.wid
 number_at [] k x l is = absurd (omega arith)
-number_at (y ∷ ws) zero x l is = ap (λ (z : World). Some z.wid) (sym is)
+number_at (y ∷ ws) zero x l is = ap (λ (z : NamedWorld). Some z.wid) (sym is)
 number_at (y ∷ ws) (suc k) x l is = number_at ws k x (omega arith) is
 
-pub path_found : (ws : List World) (at n : ℕ) (x : World) → ascending nat_cmp (map number_of_world ws) ≡ true → slice_get (map number_of_world ws) at ≡ Some n → x ≡ get_or ws at x → path_in ws n ≡ Some x.path
+pub path_found : (ws : List NamedWorld) (at n : ℕ) (x : NamedWorld) → ascending nat_cmp (map number_of_world ws) ≡ true → slice_get (map number_of_world ws) at ≡ Some n → x ≡ get_or ws at x → path_in ws n ≡ Some x.path
 path_found [] at n x a e is = absurd cc
 path_found (y ∷ ws) zero n x a e is =
     let s : y.wid ≡ n = cc in
-    cond-true (nat_eq n y.wid) (Some y.path) (path_in ws n) (eq-eqb n y.wid (sym s)) ∙ ap (λ (z : World). Some z.path) (sym is)
+    cond-true (nat_eq n y.wid) (Some y.path) (path_in ws n) (eq-eqb n y.wid (sym s)) ∙ ap (λ (z : NamedWorld). Some z.path) (sym is)
 path_found (y ∷ ws) (suc at) n x a e is =
     let k = and_parts (list_all (λ z. is_lt (nat_cmp y.wid z)) (map number_of_world ws)) (ascending nat_cmp (map number_of_world ws)) a in
     let less = all_at (λ z. is_lt (nat_cmp y.wid z)) (map number_of_world ws) at n k.0 e in
     cond-false (nat_eq n y.wid) (Some y.path) (path_in ws n) (lt_differs y.wid n less) ∙ path_found ws at n x k.1 e is
 
 -- the world at a place is one of the worlds
-pub world_at : (ws : List World) (k : ℕ) (x : World) → ascending nat_cmp (map number_of_world ws) ≡ true → k < length ws → x ≡ get_or ws k x → IsWorldOf ws x
+pub world_at : (ws : List NamedWorld) (k : ℕ) (x : NamedWorld) → ascending nat_cmp (map number_of_world ws) ≡ true → k < length ws → x ≡ get_or ws k x → IsWorldOf ws x
 world_at ws k x a l is = path_found ws k x.wid x a (number_at ws k x l is) is
 
 -- a number is that of a world where it has a path
-pub member_is : (ws : List World) (n : ℕ) → is_world ws n ≡ is_some (path_in ws n)
+pub member_is : (ws : List NamedWorld) (n : ℕ) → is_world ws n ≡ is_some (path_in ws n)
 member_is [] n = refl
 member_is (x ∷ ws) n =
     ap (λ b. b || is_member nat_cmp (map number_of_world ws) n) (eq_turned x.wid n) ∙ ap (λ b. nat_eq n x.wid || b) (member_is ws n) ∙ by (nat_eq n x.wid) (path_in ws n)
@@ -66,7 +66,7 @@ member_is (x ∷ ws) n =
     by false o = refl
 
 -- what holds of the number of each world holds of a number with a path
-pub each_at : (P : ℕ → Type 0) (ws : List World) → AllByRecursion (λ (x : World). P x.wid) ws → (n : ℕ) (w : List ℕ) → path_in ws n ≡ Some w → P n
+pub each_at : (P : ℕ → Type 0) (ws : List NamedWorld) → AllByRecursion (λ (x : NamedWorld). P x.wid) ws → (n : ℕ) (w : List ℕ) → path_in ws n ≡ Some w → P n
 each_at P [] h n w e = absurd cc
 each_at P (x ∷ ws) h n w e = by (nat_eq n x.wid) refl (λ f. each_at P ws h.1 n w f)
   where
@@ -75,20 +75,20 @@ each_at P (x ∷ ws) h n w e = by (nat_eq n x.wid) refl (λ f. each_at P ws h.1 
     by false s later = later (sym (cond-false (nat_eq n x.wid) (Some x.path) (path_in ws n) s) ∙ e)
 
 -- what holds of each path holds of the path of a number
-pub path_all : (p : List ℕ → Bool) (ws : List World) → list_all (λ (x : World). p x.path) ws ≡ true → (n : ℕ) (w : List ℕ) → path_in ws n ≡ Some w → p w ≡ true
+pub path_all : (p : List ℕ → Bool) (ws : List NamedWorld) → list_all (λ (x : NamedWorld). p x.path) ws ≡ true → (n : ℕ) (w : List ℕ) → path_in ws n ≡ Some w → p w ≡ true
 path_all p [] h n w e = absurd cc
-path_all p (x ∷ ws) h n w e = by (nat_eq n x.wid) refl (and_parts (p x.path) (list_all (λ (y : World). p y.path) ws) h) (λ q f. path_all p ws q n w f)
+path_all p (x ∷ ws) h n w e = by (nat_eq n x.wid) refl (and_parts (p x.path) (list_all (λ (y : NamedWorld). p y.path) ws) h) (λ q f. path_all p ws q n w f)
   where
-    by : (b : Bool) → nat_eq n x.wid ≡ b → (p x.path ≡ true) × (list_all (λ (y : World). p y.path) ws ≡ true) → (list_all (λ (y : World). p y.path) ws ≡ true → path_in ws n ≡ Some w → p w ≡ true) → p w ≡ true
+    by : (b : Bool) → nat_eq n x.wid ≡ b → (p x.path ≡ true) × (list_all (λ (y : NamedWorld). p y.path) ws ≡ true) → (list_all (λ (y : NamedWorld). p y.path) ws ≡ true → path_in ws n ≡ Some w → p w ≡ true) → p w ≡ true
     by true s q later = ap p (same_some w x.path (sym e ∙ cond-true (nat_eq n x.wid) (Some x.path) (path_in ws n) s)) ∙ q.0
     by false s q later = later q.1 (sym (cond-false (nat_eq n x.wid) (Some x.path) (path_in ws n) s) ∙ e)
 
-pub world_fits : (ws : List World) → AreNames (names_of ws) → (x : World) → IsWorldOf ws x → IsNum x.wid
+pub world_fits : (ws : List NamedWorld) → AreNames (names_of ws) → (x : NamedWorld) → IsWorldOf ws x → IsNum x.wid
 world_fits ws a x is = a.sized x.path x.wid (a.named x.wid x.path is)
 
 -- ---- by path
 
-named_more : (ws : List World) (x : World) (w : List ℕ) → is_some (number_in (ws ++ x ∷ []) w) ≡ (same_path w x.path || is_some (number_in ws w))
+named_more : (ws : List NamedWorld) (x : NamedWorld) (w : List ℕ) → is_some (number_in (ws ++ x ∷ []) w) ≡ (same_path w x.path || is_some (number_in ws w))
 named_more [] x w = by (same_path w x.path)
   where
     by : (b : Bool) → is_some (cond b (Some x.wid) None) ≡ (b || false)
@@ -101,7 +101,7 @@ named_more (y ∷ ws) x w = by (same_path w y.path) (number_in (ws ++ x ∷ []) 
     by true o p false h = refl
     by false o p s h = h
 
-pub paths_more : (ws : List World) (k : ℕ) (x : World) (old new : List (List ℕ)) → k < length ws → x ≡ get_or ws k x → new ≡ put_in path_cmp old x.path → ArePathsOf (take k ws) old → ArePathsOf (take (k + 1) ws) new
+pub paths_more : (ws : List NamedWorld) (k : ℕ) (x : NamedWorld) (old new : List (List ℕ)) → k < length ws → x ≡ get_or ws k x → new ≡ put_in path_cmp old x.path → ArePathsOf (take k ws) old → ArePathsOf (take (k + 1) ws) new
 paths_more ws k x old new l is put h = record {
   sorted = ap (ascending path_cmp) put ∙ put_keeps_order path_exact old x.path h.sorted;
   members = λ w.
@@ -112,15 +112,15 @@ paths_more ws k x old new l is put h = record {
       ∙ ap (λ us. is_some (number_in us w)) (sym (take_more ws k x l ∙ ap (λ y. take k ws ++ y ∷ []) (sym is)));
 }
 
-pub paths_all : (ws : List World) (k : ℕ) (paths : List (List ℕ)) → length ws ≤ k → ArePathsOf (take k ws) paths → ArePathsOf ws paths
+pub paths_all : (ws : List NamedWorld) (k : ℕ) (paths : List (List ℕ)) → length ws ≤ k → ArePathsOf (take k ws) paths → ArePathsOf ws paths
 paths_all ws k paths l h = subst (λ us. ArePathsOf us paths) (take_all k ws l) h
 
-pub root_is_member : (ws : List World) (ps : List (List ℕ)) → AreIndexed ws ps → is_member path_cmp ps [] ≡ true
+pub root_is_member : (ws : List NamedWorld) (ps : List (List ℕ)) → AreIndexed ws ps → is_member path_cmp ps [] ≡ true
 root_is_member ws ps h = h.listed.members [] ∙ ap is_some h.names.root
 
 -- ---- where a path leads
 
-module _ (ws : List World) (ps : List (List ℕ)) (h : AreIndexed ws ps) (users : List ℕ) (n : ℕ) where
+module _ (ws : List NamedWorld) (ps : List (List ℕ)) (h : AreIndexed ws ps) (users : List ℕ) (n : ℕ) where
   abbrev deep : List ℕ
   deep = deepest_suffix (is_named (names_of ws)) users
 
@@ -137,7 +137,7 @@ module _ (ws : List World) (ps : List (List ℕ)) (h : AreIndexed ws ps) (users 
         false≢true (sym f ∙ (same_path-Decides path deep).1 (same_some path deep (sym is ∙ there)))))
   ]
 
-  pub leads_found : (at target : ℕ) (x : World) (p : List ℕ) (b : Bool) → slice_get (map number_of_world ws) at ≡ Some n → x ≡ get_or ws at x → slice_get ps target ≡ Some (deepest_suffix (is_member path_cmp ps) users) → p ≡ get_or ps target p
+  pub leads_found : (at target : ℕ) (x : NamedWorld) (p : List ℕ) (b : Bool) → slice_get (map number_of_world ws) at ≡ Some n → x ≡ get_or ws at x → slice_get ps target ≡ Some (deepest_suffix (is_member path_cmp ps) users) → p ≡ get_or ps target p
       → b ≡ same_path x.path p → b ≡ leads_to (target_of (names_of ws) users) n
   leads_found at target x p b there is led member told =
       let path = path_found ws at n x h.sorted there is in

@@ -21,7 +21,7 @@ use Rattle.bdb_entries.proofs.ReadLemmas.{past}
 use Rattle.bdb_entries.proofs.TupleLemmas.{holding}
 use Rattle.bdb_graph.specs.Naming.{names_of, path_in}
 use Rattle.bdb_graph.specs.States.{AllKeysPass, AreIndexed, HasLink, IsWorldOf, is_right, is_world, link_from}
-use Rattle.bdb_graph.specs.declared.naming.World.{World}
+use Rattle.bdb_graph.specs.declared.naming.NamedWorld.{NamedWorld}
 use Rattle.bdb_graph.proofs.FindingLemmas.{all_by_place, each_at, member_is, world_at, world_fits}
 use Rattle.bdb_graph.proofs.PassLemmas.{no_row, row_told}
 
@@ -57,24 +57,24 @@ link_missing ns a (i ∷ w) found some none =
     let m = deep_number ns a w in
     sym (ap (λ o. is_right o (link_from ns (i ∷ w))) none ∙ ap (is_right None) m.1)
 
-pub link_told : (t : Tables) (ws : List World) → AreNames (names_of ws) → (x : World) → IsWorldOf ws x → (found : Option ℕ) (b : Bool) → HasAt link_codec t x.wid found
+pub link_told : (t : Tables) (ws : List NamedWorld) → AreNames (names_of ws) → (x : NamedWorld) → IsWorldOf ws x → (found : Option ℕ) (b : Bool) → HasAt link_codec t x.wid found
     → b ≡ is_right found (link_from (names_of ws) x.path) → MatchBool b (HasLink t ws x) (HasLink t ws x → ⊥)
 link_told t ws a x is found b h told =
     row_told link_codec number_rows_are_one t x.wid (link_of (names_of ws)) found (link_from (names_of ws) x.path) b h (link_is (names_of ws) x.wid x.path is) (link_from_fits (names_of ws) a x.path) told
 
 -- ---- all worlds
 
-pub linked_more : (t u : Tables) (ws : List World) (k : ℕ) (x : World) (b : Bool) → k < length ws → x ≡ get_or ws k x → u ≡ t → b ≡ true
+pub linked_more : (t u : Tables) (ws : List NamedWorld) (k : ℕ) (x : NamedWorld) (b : Bool) → k < length ws → x ≡ get_or ws k x → u ≡ t → b ≡ true
     → MatchBool b (HasLink u ws x) (HasLink u ws x → ⊥) → AllByRecursion (HasLink t ws) (take k ws) → AllByRecursion (HasLink t ws) (take (k + 1) ws)
 linked_more t u ws k x b l is same good told h = all_take_more (HasLink t ws) ws k x l is h (subst (λ v. HasLink v ws x) same (holding (HasLink u ws x) (HasLink u ws x → ⊥) b good told))
 
-pub not_linked : (t u : Tables) (ws : List World) (k : ℕ) (x : World) (b : Bool) → k < length ws → x ≡ get_or ws k x → u ≡ t → b ≡ false
+pub not_linked : (t u : Tables) (ws : List NamedWorld) (k : ℕ) (x : NamedWorld) (b : Bool) → k < length ws → x ≡ get_or ws k x → u ≡ t → b ≡ false
     → MatchBool b (HasLink u ws x) (HasLink u ws x → ⊥) → AllByRecursion (HasLink t ws) ws → ⊥
 not_linked t u ws k x b l is same bad told h = past (HasLink u ws x) (HasLink u ws x → ⊥) b bad told (subst (λ v. HasLink v ws x) (sym same) (all_at_index (HasLink t ws) ws k x l is h))
 
 -- ---- the table
 
-module _ (t : Tables) (ws : List World) (ps : List (List ℕ)) (h : AreIndexed ws ps) where
+module _ (t : Tables) (ws : List NamedWorld) (ps : List (List ℕ)) (h : AreIndexed ws ps) where
   links_give : TableFits link_codec t → AllByRecursion (HasLink t ws) ws → AllKeysPass link_codec t (is_world ws) → Gives link_codec t (link_of (names_of ws))
   links_give fits each only = record {
     fits = fits;

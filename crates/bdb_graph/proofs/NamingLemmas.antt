@@ -22,7 +22,7 @@ use Rattle.bdb_names.proofs.NameLemmas.{depth_at, path_is_named}
 use Rattle.bdb_entries.proofs.TupleLemmas.{item_in, items_give}
 use Rattle.bdb_graph.specs.Naming.{AreNamedUps, IsClimbed, IsNamedUp, TellNames, climb, climbed_as, named_as, number_of_up, path_in, up_in}
 use Rattle.bdb_graph.specs.Ups.{AreUps, HasDepth, HasFront, HoldNoStates, TellsUp, depth_row}
-use Rattle.bdb_graph.specs.declared.naming.World.{World}
+use Rattle.bdb_graph.specs.declared.naming.NamedWorld.{NamedWorld}
 use Rattle.bdb_graph.specs.declared.ups.Up.{Up}
 use Rattle.bdb_graph.proofs.NumberLemmas.{all_at, eq_turned, lt_differs}
 use Rattle.bdb_graph.proofs.UpLemmas.{path_deep, rows_have_depths}
@@ -103,7 +103,7 @@ pub append_none : (w : List ℕ) → w ++ [] ≡ w
 append_none [] = refl
 append_none (i ∷ w) = ap (λ (v : List ℕ). i ∷ v) (append_none w)
 
-pub paths_of_ups : (ups xs : List Up) (ws : List World) → map named_as ws ≡ map (climbed_as ups) xs → (n : ℕ) → option_map (λ (w : List ℕ). Some w) (path_in ws n) ≡ option_map (λ (x : Up). climb ups x.depth x.wid []) (up_in xs n)
+pub paths_of_ups : (ups xs : List Up) (ws : List NamedWorld) → map named_as ws ≡ map (climbed_as ups) xs → (n : ℕ) → option_map (λ (w : List ℕ). Some w) (path_in ws n) ≡ option_map (λ (x : Up). climb ups x.depth x.wid []) (up_in xs n)
 paths_of_ups ups [] [] e n = refl
 paths_of_ups ups [] (y ∷ ws) e n = absurd cc
 paths_of_ups ups (x ∷ xs) [] e n = absurd cc
@@ -168,7 +168,7 @@ module _ (t : Tables) (users : ℕ → Bool) (ns : Names) (h : HoldsStates users
       record { path = deep.0; climbed = whole_climb x.wid deep.0 x.depth deep.2 deep.1; apart = h.names.apart deep.0 (path_is_named ns h.names x.wid deep.0 deep.1) })
       (all_mapped depth_row (λ (e : ℕ × ℕ). HasDepth t e.0 e.1) ups (subst (AllByRecursion (λ (e : ℕ × ℕ). HasDepth t e.0 e.1)) (sym are.rows) (rows_have_depths t depths under)))
 
-  pub names_told : (ws : List World) → map named_as ws ≡ map (climbed_as ups) ups → (n : ℕ) → n < 2 ^ 32 → path_of ns n ≡ path_in ws n
+  pub names_told : (ws : List NamedWorld) → map named_as ws ≡ map (climbed_as ups) ups → (n : ℕ) → n < 2 ^ 32 → path_of ns n ≡ path_in ws n
   names_told ws e n fits = by (path_of ns n) refl
     where
       some : (o : Option (List ℕ)) (w : List ℕ) → option_map (λ (v : List ℕ). Some v) o ≡ Some (Some w) → o ≡ Some w
@@ -213,7 +213,7 @@ pub ups_ascend : (t : Tables) (depths : List (ℕ × ℕ)) (ups : List Up) → A
 ups_ascend t depths ups under are =
     numbers_ascend ups (subst (AllByRecursion (IsUnder depth_codec [])) (sym are.rows) under.each) (ap (ascending (entry_cmp depth_codec)) are.rows ∙ under.sorted)
 
-pub numbers_kept : (ups xs : List Up) (ws : List World) → map named_as ws ≡ map (climbed_as ups) xs → map (λ (y : World). y.wid) ws ≡ map number_of_up xs
+pub numbers_kept : (ups xs : List Up) (ws : List NamedWorld) → map named_as ws ≡ map (climbed_as ups) xs → map (λ (y : NamedWorld). y.wid) ws ≡ map number_of_up xs
 numbers_kept ups [] [] e = refl
 numbers_kept ups [] (y ∷ ws) e = absurd cc
 numbers_kept ups (x ∷ xs) [] e = absurd cc
@@ -221,7 +221,7 @@ numbers_kept ups (x ∷ xs) (y ∷ ws) e =
     let both : named_as y ≡ climbed_as ups x = cc in
     let rest : map named_as ws ≡ map (climbed_as ups) xs = cc in
     let number : y.wid ≡ x.wid = ap (λ (c : ℕ × Option (List ℕ)). c.0) both in
-    ap (λ k. k ∷ map (λ (z : World). z.wid) ws) number ∙ ap (λ (ks : List ℕ). x.wid ∷ ks) (numbers_kept ups xs ws rest)
+    ap (λ k. k ∷ map (λ (z : NamedWorld). z.wid) ws) number ∙ ap (λ (ks : List ℕ). x.wid ∷ ks) (numbers_kept ups xs ws rest)
 
 -- ---- what the function tells
 
@@ -231,7 +231,7 @@ ups_here t u depths rows ups same is h = subst (λ v. AreUps v depths ups) same 
 pub no_names : (t : Tables) (depths : List (ℕ × ℕ)) (ups given : List Up) → AreUnder depth_codec t [] depths → AreUps t depths ups → given ≡ ups → (AllByRecursion (IsClimbed given) given → ⊥) → HoldNoStates t
 no_names t depths ups given under are is h users ns holds = subst (λ xs. AllByRecursion (IsClimbed xs) xs → ⊥) is h (all_climbed t users ns holds depths ups under are)
 
-pub names_known : (t : Tables) (depths : List (ℕ × ℕ)) (ups given : List Up) → AreUnder depth_codec t [] depths → AreUps t depths ups → given ≡ ups → (ws : List World)
+pub names_known : (t : Tables) (depths : List (ℕ × ℕ)) (ups given : List Up) → AreUnder depth_codec t [] depths → AreUps t depths ups → given ≡ ups → (ws : List NamedWorld)
     → AreNamedUps given given ws → TellNames t ws
 names_known t depths ups given under are is ws h =
     let made : map named_as ws ≡ map (climbed_as ups) ups = subst (λ xs. map named_as ws ≡ map (climbed_as xs) xs) is h.same in
@@ -242,11 +242,11 @@ names_known t depths ups given under are is ws h =
 
 -- ---- one more
 
-pub named_more : (ups xs : List Up) (k : ℕ) (other x : Up) (ws after : List World) (w : World) → k < length xs → x ≡ get_or xs k other → AreNamedUps ups (take k xs) ws → IsNamedUp ups x w
+pub named_more : (ups xs : List Up) (k : ℕ) (other x : Up) (ws after : List NamedWorld) (w : NamedWorld) → k < length xs → x ≡ get_or xs k other → AreNamedUps ups (take k xs) ws → IsNamedUp ups x w
     → after ≡ ws ++ w ∷ [] → AreNamedUps ups (take (k + 1) xs) after
 named_more ups xs k other x ws after w l there h one is = record {
   same = ap (map named_as) is ∙ map-append named_as ws (w ∷ []) ∙ ap (λ ps. ps ++ named_as w ∷ []) h.same ∙ ap (λ p. map (climbed_as ups) (take k xs) ++ p ∷ []) (one.same ∙ ap (climbed_as ups) there)
       ∙ sym (map-append (climbed_as ups) (take k xs) (get_or xs k other ∷ [])) ∙ ap (map (climbed_as ups)) (sym (take_more xs k other l));
-  apart = ap (list_all (λ (y : World). alternates y.path)) is ∙ list_all-append (λ (y : World). alternates y.path) ws (w ∷ [])
-      ∙ and_from (list_all (λ (y : World). alternates y.path) ws) (alternates w.path && true) h.apart (and_from (alternates w.path) true one.apart refl);
+  apart = ap (list_all (λ (y : NamedWorld). alternates y.path)) is ∙ list_all-append (λ (y : NamedWorld). alternates y.path) ws (w ∷ [])
+      ∙ and_from (list_all (λ (y : NamedWorld). alternates y.path) ws) (alternates w.path && true) h.apart (and_from (alternates w.path) true one.apart refl);
 }

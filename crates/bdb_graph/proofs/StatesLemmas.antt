@@ -19,27 +19,27 @@ use Rattle.bdb_graph.specs.Naming.{AreWorlds, names_of}
 use Rattle.bdb_graph.specs.States.{AreIndexed, ArePathsOf, have_own_paths}
 use Rattle.bdb_graph.specs.Turning.{TurnRound}
 use Rattle.bdb_graph.specs.Ups.{HoldNoStates}
-use Rattle.bdb_graph.specs.declared.naming.World.{World}
+use Rattle.bdb_graph.specs.declared.naming.NamedWorld.{NamedWorld}
 use Rattle.bdb_graph.proofs.FindingLemmas.{all_by_place, path_all, world_at}
 
 -- the worlds of tables are found by their numbers and their paths
-pub indexed : (t : Tables) (ws : List World) → AreWorlds t ws → (paths shown : List (List ℕ)) → ArePathsOf ws paths → shown ≡ paths → AreIndexed ws shown
+pub indexed : (t : Tables) (ws : List NamedWorld) → AreWorlds t ws → (paths shown : List (List ℕ)) → ArePathsOf ws paths → shown ≡ paths → AreIndexed ws shown
 indexed t ws h paths shown own same = record {
   names = h.names;
   sorted = h.told.sorted;
   listed = subst (ArePathsOf ws) (sym same) own;
 }
 
-all_tested : (p : World → Bool) (ws : List World) → AllByRecursion (λ (x : World). p x ≡ true) ws → list_all p ws ≡ true
+all_tested : (p : NamedWorld → Bool) (ws : List NamedWorld) → AllByRecursion (λ (x : NamedWorld). p x ≡ true) ws → list_all p ws ≡ true
 all_tested p [] h = refl
 all_tested p (x ∷ ws) h = and_from (p x) (list_all p ws) h.0 (all_tested p ws h.1)
 
-module _ (t : Tables) (users : List UserSlot) (ws : List World) (h : AreWorlds t ws) where
+module _ (t : Tables) (users : List UserSlot) (ws : List NamedWorld) (h : AreWorlds t ws) where
   -- a path that isn't one of users is in no states
   pub not_own : (b : Bool) → b ≡ have_own_paths (is_user users) ws → b ≡ false → HoldsStates (is_user users) (names_of ws) t → ⊥
   not_own b is bad holds =
-      false≢true (sym (sym is ∙ bad) ∙ all_tested (λ (x : World). list_all (is_user users) x.path) ws
-      (all_by_place (λ (x : World). list_all (is_user users) x.path ≡ true) ws
+      false≢true (sym (sym is ∙ bad) ∙ all_tested (λ (x : NamedWorld). list_all (is_user users) x.path) ws
+      (all_by_place (λ (x : NamedWorld). list_all (is_user users) x.path ≡ true) ws
       (λ k x l here. holds.own x.path (path_is_named (names_of ws) h.names x.wid x.path (world_at ws k x h.told.sorted l here)))))
 
   four_bytes : length users ≤ most_users → (i : ℕ) → is_user users i ≡ true → i < 2 ^ 32

@@ -25,10 +25,10 @@ use Rattle.bdb_tables.specs.InUseLaws.{number_rows_are_one, triples_are_one}
 use Rattle.bdb_tables.specs.Names.{Names, path_of, depth_of}
 use Rattle.bdb_tables.specs.Spans.{AreUnder, IsUnder, entry_bytes}
 use Rattle.bdb_tables.specs.States.{HoldsStates, IsNamed, root, next}
+use Rattle.bdb_tables.specs.Reading.{OnlyReads}
 use Rattle.bdb_tables.proofs.Held.{same_place, some_same, none_some}
 use Rattle.bdb_tables.proofs.Loops.{IsReading, goes_then, counts_then}
 use Rattle.bdb_names.proofs.NamedLemmas.{named_path, path_is_told}
-use Rattle.bdb_entries.specs.Reading.{OnlyReads}
 use Rattle.bdb_entries.proofs.ListedLemmas.{all_found}
 use Rattle.bdb_entries.proofs.ReadLemmas.{past}
 use Rattle.bdb_entries.proofs.TupleLemmas.{all_both, given_is, holding}

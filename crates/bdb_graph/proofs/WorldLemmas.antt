@@ -30,7 +30,7 @@ use Rattle.bdb_entries.proofs.TupleLemmas.{given_is, item_in, items_give}
 use Rattle.bdb_graph.specs.Leading.{AreLedUps, HasEdge, IsLed, has_root}
 use Rattle.bdb_graph.specs.Naming.{AreNamedUps, AreWorlds, IsClimbed, climb, climbed_as, named_as, names_of, number_in, number_of_up, path_in, up_in}
 use Rattle.bdb_graph.specs.Ups.{AreUps, HasDepth, HasStart, HoldNoStates, StartsAt, depth_row}
-use Rattle.bdb_graph.specs.declared.naming.World.{World}
+use Rattle.bdb_graph.specs.declared.naming.NamedWorld.{NamedWorld}
 use Rattle.bdb_graph.specs.declared.ups.Up.{Up}
 use Rattle.bdb_graph.proofs.LeadingLemmas.{all_are_led}
 use Rattle.bdb_graph.proofs.NamingLemmas.{all_mapped, append_none, items_of_ups, names_known, no_names, numbers_kept, paths_of_ups, up_of_path, up_tells, ups_ascend}
@@ -105,10 +105,10 @@ once_of (k ∷ ks) h =
     let p = and_parts (list_all (λ y. is_lt (nat_cmp k y)) ks) (ascending nat_cmp ks) h in
     and_from (not (is_listed k ks)) (are_once ks) (ap not (none_listed k ks p.0)) (once_of ks p.1)
 
-abbrev wids : List World → List ℕ
-wids ws = map (λ (x : World). x.wid) ws
+abbrev wids : List NamedWorld → List ℕ
+wids ws = map (λ (x : NamedWorld). x.wid) ws
 
-counted : (n : ℕ) (ws : List World) → is_listed n (wids ws) ≡ is_some (path_in ws n)
+counted : (n : ℕ) (ws : List NamedWorld) → is_listed n (wids ws) ≡ is_some (path_in ws n)
 counted n [] = refl
 counted n (x ∷ ws) = ap (λ b. nat_eq n x.wid || b) (counted n ws) ∙ by (nat_eq n x.wid) (path_in ws n)
   where
@@ -116,7 +116,7 @@ counted n (x ∷ ws) = ap (λ b. nat_eq n x.wid || b) (counted n ws) ∙ by (nat
     by true o = refl
     by false o = refl
 
-all_wids : (p : ℕ → Bool) (ws : List World) (n : ℕ) (w : List ℕ) → list_all p (wids ws) ≡ true → path_in ws n ≡ Some w → p n ≡ true
+all_wids : (p : ℕ → Bool) (ws : List NamedWorld) (n : ℕ) (w : List ℕ) → list_all p (wids ws) ≡ true → path_in ws n ≡ Some w → p n ≡ true
 all_wids p [] n w h e = absurd cc
 all_wids p (x ∷ ws) n w h e = by (nat_eq n x.wid) refl (and_parts (p x.wid) (list_all p (wids ws)) h) (λ q f. all_wids p ws n w q f)
   where
@@ -124,15 +124,15 @@ all_wids p (x ∷ ws) n w h e = by (nat_eq n x.wid) refl (and_parts (p x.wid) (l
     by true s q later = ap p (eqb-true n x.wid s) ∙ q.0
     by false s q later = later q.1 (sym (cond-false (nat_eq n x.wid) (Some x.path) (path_in ws n) s) ∙ e)
 
-all_paths : (p : List ℕ → Bool) (ws : List World) (n : ℕ) (w : List ℕ) → list_all (λ (x : World). p x.path) ws ≡ true → path_in ws n ≡ Some w → p w ≡ true
+all_paths : (p : List ℕ → Bool) (ws : List NamedWorld) (n : ℕ) (w : List ℕ) → list_all (λ (x : NamedWorld). p x.path) ws ≡ true → path_in ws n ≡ Some w → p w ≡ true
 all_paths p [] n w h e = absurd cc
-all_paths p (x ∷ ws) n w h e = by (nat_eq n x.wid) refl (and_parts (p x.path) (list_all (λ (y : World). p y.path) ws) h) (λ q f. all_paths p ws n w q f)
+all_paths p (x ∷ ws) n w h e = by (nat_eq n x.wid) refl (and_parts (p x.path) (list_all (λ (y : NamedWorld). p y.path) ws) h) (λ q f. all_paths p ws n w q f)
   where
-    by : (b : Bool) → nat_eq n x.wid ≡ b → (p x.path ≡ true) × (list_all (λ (y : World). p y.path) ws ≡ true) → (list_all (λ (y : World). p y.path) ws ≡ true → path_in ws n ≡ Some w → p w ≡ true) → p w ≡ true
+    by : (b : Bool) → nat_eq n x.wid ≡ b → (p x.path ≡ true) × (list_all (λ (y : NamedWorld). p y.path) ws ≡ true) → (list_all (λ (y : NamedWorld). p y.path) ws ≡ true → path_in ws n ≡ Some w → p w ≡ true) → p w ≡ true
     by true s q later = ap p (same_some w x.path (sym e ∙ cond-true (nat_eq n x.wid) (Some x.path) (path_in ws n) s)) ∙ q.0
     by false s q later = later q.1 (sym (cond-false (nat_eq n x.wid) (Some x.path) (path_in ws n) s) ∙ e)
 
-path_of_number : (ws : List World) → ascending nat_cmp (wids ws) ≡ true → (w : List ℕ) (n : ℕ) → number_in ws w ≡ Some n → path_in ws n ≡ Some w
+path_of_number : (ws : List NamedWorld) → ascending nat_cmp (wids ws) ≡ true → (w : List ℕ) (n : ℕ) → number_in ws w ≡ Some n → path_in ws n ≡ Some w
 path_of_number [] a w n e = absurd cc
 path_of_number (x ∷ ws) a w n e = by (same_path w x.path) refl (and_parts (list_all (λ y. is_lt (nat_cmp x.wid y)) (wids ws)) (ascending nat_cmp (wids ws)) a) (λ q f. path_of_number ws q w n f)
   where
@@ -148,7 +148,7 @@ path_of_number (x ∷ ws) a w n e = by (same_path w x.path) refl (and_parts (lis
         let path = later q.1 (sym (cond-false (same_path w x.path) (Some x.wid) (number_in ws w) s) ∙ e) in
         cond-false (nat_eq n x.wid) (Some x.path) (path_in ws n) (turned x.wid n (all_wids (λ y. is_lt (nat_cmp x.wid y)) ws n w q.0 path)) ∙ path
 
-has_number : (ws : List World) (n : ℕ) (w : List ℕ) → path_in ws n ≡ Some w → (m : ℕ) × (number_in ws w ≡ Some m)
+has_number : (ws : List NamedWorld) (n : ℕ) (w : List ℕ) → path_in ws n ≡ Some w → (m : ℕ) × (number_in ws w ≡ Some m)
 has_number [] n w e = absurd cc
 has_number (x ∷ ws) n w e = by (same_path w x.path) refl (λ f. has_number ws n w f)
   where
@@ -176,12 +176,12 @@ pub record IsWay (ups : List Up) (n : ℕ) (w : List ℕ) : Type 0 where
   pub climbed : climb ups up.depth n [] ≡ Some w
 
 -- a world's row, and the world from which it comes
-pub record HasParent (t : Tables) (ws : List World) (n i : ℕ) (v : List ℕ) : Type 0 where
+pub record HasParent (t : Tables) (ws : List NamedWorld) (n i : ℕ) (v : List ℕ) : Type 0 where
   pub from : ℕ
   pub path : path_in ws from ≡ Some v
   pub edge : tables.get t (place edge_codec (from, i)) ≡ Some (num_bytes n)
 
-module _ (t : Tables) (depths : List (ℕ × ℕ)) (ups : List Up) (under : AreUnder depth_codec t [] depths) (are : AreUps t depths ups) (ws : List World)
+module _ (t : Tables) (depths : List (ℕ × ℕ)) (ups : List Up) (under : AreUnder depth_codec t [] depths) (are : AreUps t depths ups) (ws : List NamedWorld)
     (made : map named_as ws ≡ map (climbed_as ups) ups) (led : AllByRecursion (IsLed t) ups) where
   number_same : (n : ℕ) (x : Up) → up_in ups n ≡ Some x → x.wid ≡ n
   number_same n x e = (up_tells (HasStart t) ups n x are.starts e).0
@@ -260,7 +260,7 @@ module _ (t : Tables) (depths : List (ℕ × ℕ)) (ups : List Up) (under : AreU
         one_num n m (own_depth n w e).number (own_depth m w f).number both
   ]
 
-  module _ (sorted : ascending nat_cmp (wids ws) ≡ true) (apart : list_all (λ (x : World). alternates x.path) ws ≡ true) (first : Up) (there : up_in ups 0 ≡ Some first) (flat : first.depth ≡ 0) (few : length ups ≤ most_numbered) where
+  module _ (sorted : ascending nat_cmp (wids ws) ≡ true) (apart : list_all (λ (x : NamedWorld). alternates x.path) ws ≡ true) (first : Up) (there : up_in ups 0 ≡ Some first) (flat : first.depth ≡ 0) (few : length ups ≤ most_numbered) where
     named : (n : ℕ) (w : List ℕ) → path_in ws n ≡ Some w → number_in ws w ≡ Some n
     named n w e =
         let m = has_number ws n w e in
@@ -456,7 +456,7 @@ led_known t u depths ups given too under are same is also good led =
       led = subst (λ v. AllByRecursion (IsLed v) ups) same (subst (AllByRecursion (IsLed u)) also led);
     }
 
-pub worlds_known : (t : Tables) (ups given : List Up) → AreLedUps t ups → given ≡ ups → (ws : List World) → AreNamedUps given given ws → AreWorlds t ws
+pub worlds_known : (t : Tables) (ups given : List Up) → AreLedUps t ups → given ≡ ups → (ws : List NamedWorld) → AreNamedUps given given ws → AreWorlds t ws
 worlds_known t ups given h is ws named =
     let told = names_known t h.depths ups given h.under h.are is ws named in
     let made : map named_as ws ≡ map (climbed_as ups) ups = subst (λ xs. map named_as ws ≡ map (climbed_as xs) xs) is named.same in

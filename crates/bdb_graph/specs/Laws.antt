@@ -4,8 +4,8 @@ use Rattle.bdb_keep.specs.Tables.{Tables}
 use Rattle.bdb_tables.specs.Names.{Names}
 use Rattle.bdb_tables.specs.States.{HoldsStates}
 use Rattle.bdb_graph.specs.Naming.{AreWorlds, names_of}
-use Rattle.bdb_graph.specs.declared.naming.World.{World}
+use Rattle.bdb_graph.specs.declared.naming.NamedWorld.{NamedWorld}
 
 -- whichever states tables hold, they hold those of their worlds
 abbrev pub WorldsAreHeld : Type 0
-WorldsAreHeld = (t : Tables) (users : ℕ → Bool) (ns : Names) (worlds : List World) → AreWorlds t worlds → HoldsStates users ns t → HoldsStates users (names_of worlds) t
+WorldsAreHeld = (t : Tables) (users : ℕ → Bool) (ns : Names) (worlds : List NamedWorld) → AreWorlds t worlds → HoldsStates users ns t → HoldsStates users (names_of worlds) t

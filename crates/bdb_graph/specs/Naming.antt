@@ -11,7 +11,7 @@ use Rattle.bdb_tables.specs.InUse.{depth_codec}
 use Rattle.bdb_tables.specs.Names.{Names, AreNames, path_of, depth_of}
 use Rattle.bdb_tables.specs.Writes.{Gives}
 use Rattle.bdb_tables.specs.States.{HoldsStates}
-use Rattle.bdb_graph.specs.declared.naming.World.{World}
+use Rattle.bdb_graph.specs.declared.naming.NamedWorld.{NamedWorld}
 use Rattle.bdb_graph.specs.declared.ups.Up.{Up}
 
 -- the number of a world
@@ -39,41 +39,41 @@ abbrev pub climbed_as : List Up → Up → ℕ × Option (List ℕ)
 climbed_as ups x = (x.wid, climb ups x.depth x.wid [])
 
 -- a world's number and its path
-abbrev pub named_as : World → ℕ × Option (List ℕ)
+abbrev pub named_as : NamedWorld → ℕ × Option (List ℕ)
 named_as x = (x.wid, Some x.path)
 
 -- a world has the number of one of these, and its way from world 0 for a path
-pub record IsNamedUp (ups : List Up) (x : Up) (world : World) : Type 0 where
+pub record IsNamedUp (ups : List Up) (x : Up) (world : NamedWorld) : Type 0 where
   pub same : named_as world ≡ climbed_as ups x
   pub apart : alternates world.path ≡ true
 
 -- worlds have the numbers of some of these, and their ways from world 0 for paths
-pub record AreNamedUps (ups xs : List Up) (worlds : List World) : Type 0 where
+pub record AreNamedUps (ups xs : List Up) (worlds : List NamedWorld) : Type 0 where
   pub same : map named_as worlds ≡ map (climbed_as ups) xs
-  pub apart : list_all (λ (x : World). alternates x.path) worlds ≡ true
+  pub apart : list_all (λ (x : NamedWorld). alternates x.path) worlds ≡ true
 
 -- the path of a number among worlds
-abbrev pub path_in : List World → ℕ → Option (List ℕ)
+abbrev pub path_in : List NamedWorld → ℕ → Option (List ℕ)
 path_in [] n = None
 path_in (x ∷ xs) n = cond (nat_eq n x.wid) (Some x.path) (path_in xs n)
 
 -- whichever states the tables hold, over whichever users, these are the paths of all numbers of four bytes; the worlds
 -- are in order of their numbers
-pub record TellNames (t : Tables) (worlds : List World) : Type 0 where
-  pub sorted : ascending nat_cmp (map (λ (x : World). x.wid) worlds) ≡ true
+pub record TellNames (t : Tables) (worlds : List NamedWorld) : Type 0 where
+  pub sorted : ascending nat_cmp (map (λ (x : NamedWorld). x.wid) worlds) ≡ true
   pub tell : (users : ℕ → Bool) (ns : Names) → HoldsStates users ns t → (n : ℕ) → n < 2 ^ 32 → path_of ns n ≡ path_in worlds n
 
 -- the number of a path among worlds
-abbrev pub number_in : List World → List ℕ → Option ℕ
+abbrev pub number_in : List NamedWorld → List ℕ → Option ℕ
 number_in [] w = None
 number_in (x ∷ xs) w = cond (same_path w x.path) (Some x.wid) (number_in xs w)
 
 -- worlds as names
-abbrev pub names_of : List World → Names
-names_of worlds = record { path = path_in worlds; number = number_in worlds; used = map (λ (x : World). x.wid) worlds }
+abbrev pub names_of : List NamedWorld → Names
+names_of worlds = record { path = path_in worlds; number = number_in worlds; used = map (λ (x : NamedWorld). x.wid) worlds }
 
 -- worlds whose names are those of whichever states the tables hold, and whose depths are the tables'
-pub record AreWorlds (t : Tables) (worlds : List World) : Type 0 where
+pub record AreWorlds (t : Tables) (worlds : List NamedWorld) : Type 0 where
   pub told : TellNames t worlds
   pub names : AreNames (names_of worlds)
   pub depths : Gives depth_codec t (depth_of (names_of worlds))

@@ -15,36 +15,36 @@ use Rattle.bdb_tables.specs.InUse.{edge_codec, link_codec}
 use Rattle.bdb_tables.specs.Names.{Names, AreNames, edge_of, is_named, leads_to, link_of, number_of}
 use Rattle.bdb_tables.specs.Spans.{IsNextUnder, NoneUnder}
 use Rattle.bdb_graph.specs.Naming.{names_of, path_in}
-use Rattle.bdb_graph.specs.declared.naming.World.{World}
+use Rattle.bdb_graph.specs.declared.naming.NamedWorld.{NamedWorld}
 
 -- ---- worlds by number and by path
 
 -- the number of a world
-abbrev pub number_of_world : World → ℕ
+abbrev pub number_of_world : NamedWorld → ℕ
 number_of_world x = x.wid
 
 -- a number is that of a world
-abbrev pub is_world : List World → ℕ → Bool
+abbrev pub is_world : List NamedWorld → ℕ → Bool
 is_world worlds n = is_member nat_cmp (map number_of_world worlds) n
 
 -- these are the paths of worlds, in order
-pub record ArePathsOf (worlds : List World) (paths : List (List ℕ)) : Type 0 where
+pub record ArePathsOf (worlds : List NamedWorld) (paths : List (List ℕ)) : Type 0 where
   pub sorted : ascending path_cmp paths ≡ true
   pub members : (w : List ℕ) → is_member path_cmp paths w ≡ is_named (names_of worlds) w
 
 -- worlds that are names, in the order of their numbers, with their paths in order
-pub record AreIndexed (worlds : List World) (paths : List (List ℕ)) : Type 0 where
+pub record AreIndexed (worlds : List NamedWorld) (paths : List (List ℕ)) : Type 0 where
   pub names : AreNames (names_of worlds)
   pub sorted : ascending nat_cmp (map number_of_world worlds) ≡ true
   pub listed : ArePathsOf worlds paths
 
 -- a world is one of these, and its number stands for its path alone
-abbrev pub IsWorldOf : List World → World → Type 0
+abbrev pub IsWorldOf : List NamedWorld → NamedWorld → Type 0
 IsWorldOf worlds x = path_in worlds x.wid ≡ Some x.path
 
 -- each path is one of users only
-abbrev pub have_own_paths : (ℕ → Bool) → List World → Bool
-have_own_paths users worlds = list_all (λ (x : World). list_all users x.path) worlds
+abbrev pub have_own_paths : (ℕ → Bool) → List NamedWorld → Bool
+have_own_paths users worlds = list_all (λ (x : NamedWorld). list_all users x.path) worlds
 
 -- ---- where links and edges lead
 
@@ -62,7 +62,7 @@ is_right None right = not (is_some right)
 is_right (Some n) right = leads_to right n
 
 -- a key is that of an edge of a world for a live user
-abbrev pub is_edge_key : List UserSlot → List World → ℕ × ℕ → Bool
+abbrev pub is_edge_key : List UserSlot → List NamedWorld → ℕ × ℕ → Bool
 is_edge_key users worlds k = is_world worlds k.0 && is_user users k.1
 
 -- ---- tables
@@ -87,13 +87,13 @@ module _ {Key Row : Type 0} where
   HasNextKey c t p low behind found = MatchOption found (NoneUnder c t [] low) (TellsKey c t p low behind)
 
 -- the suffix link of a world is right
-abbrev pub HasLink : Tables → List World → World → Type 0
+abbrev pub HasLink : Tables → List NamedWorld → NamedWorld → Type 0
 HasLink t worlds x = GivesAt link_codec t (link_of (names_of worlds)) x.wid
 
 -- the edge of a world for a user is right
-abbrev pub HasEdgeFor : Tables → (ℕ → Bool) → List World → World → ℕ → Type 0
+abbrev pub HasEdgeFor : Tables → (ℕ → Bool) → List NamedWorld → NamedWorld → ℕ → Type 0
 HasEdgeFor t users worlds x i = GivesAt edge_codec t (edge_of users (names_of worlds)) (x.wid, i)
 
 -- the edges of a world for all users are right
-abbrev pub HasEdges : Tables → (ℕ → Bool) → List World → World → Type 0
+abbrev pub HasEdges : Tables → (ℕ → Bool) → List NamedWorld → NamedWorld → Type 0
 HasEdges t users worlds x = (i : ℕ) → users i ≡ true → HasEdgeFor t users worlds x i

@@ -11,12 +11,12 @@ ghost use Rattle.bdb_tables.specs.Grammar.{InGrammar};
 ghost use Rattle.bdb_tables.specs.InUse.{edge_codec};
 ghost use Rattle.bdb_tables.specs.Names.{edge_from, edge_of};
 ghost use Rattle.bdb_tables.specs.Writes.{Gives};
-ghost use Rattle.bdb_entries.specs.Reading.{OnlyReads};
+ghost use Rattle.bdb_tables.specs.Reading.{OnlyReads};
 ghost use Rattle.bdb_graph.specs.Naming.{names_of};
 ghost use Rattle.bdb_graph.specs.States.{AllKeysPass, AreIndexed, HasEdgeFor, HasEdges, HasNextKey, IsWorldOf, is_edge_key, is_right, number_of_world};
 
 use crate::finding::{is_world, leads_to};
-use crate::naming::World;
+use crate::naming::NamedWorld;
 use bdb_base::{Path, UserSlot, is_user, path_is_suffix};
 use bdb_keep::Keeper;
 use bdb_tables::{EdgeTab, TabError, get, next_under};
@@ -28,14 +28,18 @@ pub fn are_edges_held<K: Keeper>(
     alloc: Global,
     keeper: &mut K,
     users: &[UserSlot],
-    worlds: &[World],
+    worlds: &[NamedWorld],
     paths: &[Path],
 ) -> Result<bool, TabError>
     requires grammar { InGrammar (K.seen keeper.old).kept }
     requires users { length users.now ≤ most_users }
     requires worlds { AreIndexed worlds.now paths.now }
-    ensures held { IfOk result (λ held. MatchBool held (Gives edge_codec (K.seen keeper.old).kept (edge_of (is_user users.now) (names_of worlds.now)))
-        (Gives edge_codec (K.seen keeper.old).kept (edge_of (is_user users.now) (names_of worlds.now)) → ⊥)) }
+    ensures held { IfOk result
+        (λ held. MatchBool held
+        (Gives edge_codec (K.seen keeper.old).kept
+        (edge_of (is_user users.now) (names_of worlds.now)))
+        (Gives edge_codec (K.seen keeper.old).kept
+        (edge_of (is_user users.now) (names_of worlds.now)) → ⊥)) }
     ensures reading { OnlyReads (K.seen keeper.old) (K.seen keeper.new) result TabError.Fault }
 {
     match each_has_edges(alloc, keeper, users, worlds, paths) {
@@ -54,14 +58,18 @@ fn each_has_edges<K: Keeper>(
     alloc: Global,
     keeper: &mut K,
     users: &[UserSlot],
-    worlds: &[World],
+    worlds: &[NamedWorld],
     paths: &[Path],
 ) -> Result<bool, TabError>
     requires grammar { InGrammar (K.seen keeper.old).kept }
     requires users { length users.now ≤ most_users }
     requires worlds { AreIndexed worlds.now paths.now }
-    ensures edges { IfOk result (λ b. MatchBool b (AllByRecursion (HasEdges (K.seen keeper.old).kept (is_user users.now) worlds.now) worlds.now)
-        (AllByRecursion (HasEdges (K.seen keeper.old).kept (is_user users.now) worlds.now) worlds.now → ⊥)) }
+    ensures edges { IfOk result
+        (λ b. MatchBool b
+        (AllByRecursion (HasEdges (K.seen keeper.old).kept (is_user users.now) worlds.now)
+        worlds.now)
+        (AllByRecursion (HasEdges (K.seen keeper.old).kept (is_user users.now) worlds.now)
+        worlds.now → ⊥)) }
     ensures reading { OnlyReads (K.seen keeper.old) (K.seen keeper.new) result TabError.Fault }
 {
     for world in worlds {
@@ -79,15 +87,17 @@ fn has_edges<K: Keeper>(
     alloc: Global,
     keeper: &mut K,
     users: &[UserSlot],
-    worlds: &[World],
+    worlds: &[NamedWorld],
     paths: &[Path],
-    world: &World,
+    world: &NamedWorld,
 ) -> Result<bool, TabError>
     requires grammar { InGrammar (K.seen keeper.old).kept }
     requires users { length users.now ≤ most_users }
     requires worlds { AreIndexed worlds.now paths.now }
     requires world { IsWorldOf worlds.now world.now }
-    ensures edges { IfOk result (λ has. MatchBool has (HasEdges (K.seen keeper.old).kept (is_user users.now) worlds.now world.now)
+    ensures edges { IfOk result
+        (λ has. MatchBool has
+        (HasEdges (K.seen keeper.old).kept (is_user users.now) worlds.now world.now)
         (HasEdges (K.seen keeper.old).kept (is_user users.now) worlds.now world.now → ⊥)) }
     ensures reading { OnlyReads (K.seen keeper.old) (K.seen keeper.new) result TabError.Fault }
 {
@@ -109,16 +119,18 @@ fn has_edge<K: Keeper>(
     alloc: Global,
     keeper: &mut K,
     users: &[UserSlot],
-    worlds: &[World],
+    worlds: &[NamedWorld],
     paths: &[Path],
-    world: &World,
+    world: &NamedWorld,
     uid: u32,
 ) -> Result<bool, TabError>
     requires grammar { InGrammar (K.seen keeper.old).kept }
     requires worlds { AreIndexed worlds.now paths.now }
     requires world { IsWorldOf worlds.now world.now }
     requires user { is_user users.now uid ≡ true }
-    ensures edge { IfOk result (λ has. MatchBool has (HasEdgeFor (K.seen keeper.old).kept (is_user users.now) worlds.now world.now uid)
+    ensures edge { IfOk result
+        (λ has. MatchBool has
+        (HasEdgeFor (K.seen keeper.old).kept (is_user users.now) worlds.now world.now uid)
         (HasEdgeFor (K.seen keeper.old).kept (is_user users.now) worlds.now world.now uid → ⊥)) }
     ensures reading { OnlyReads (K.seen keeper.old) (K.seen keeper.new) result TabError.Fault }
 {
@@ -147,7 +159,7 @@ fn has_edge<K: Keeper>(
 fn is_edge(
     alloc: Global,
     users: &[UserSlot],
-    worlds: &[World],
+    worlds: &[NamedWorld],
     paths: &[Path],
     path: &[u32],
     uid: u32,
@@ -185,11 +197,13 @@ fn are_edges_of_worlds<K: Keeper>(
     alloc: Global,
     keeper: &mut K,
     users: &[UserSlot],
-    worlds: &[World],
+    worlds: &[NamedWorld],
 ) -> Result<bool, TabError>
     requires grammar { InGrammar (K.seen keeper.old).kept }
     requires sorted { ascending nat_cmp (map number_of_world worlds.now) ≡ true }
-    ensures keys { IfOk result (λ b. MatchBool b (AllKeysPass edge_codec (K.seen keeper.old).kept (is_edge_key users.now worlds.now))
+    ensures keys { IfOk result
+        (λ b. MatchBool b
+        (AllKeysPass edge_codec (K.seen keeper.old).kept (is_edge_key users.now worlds.now))
         (AllKeysPass edge_codec (K.seen keeper.old).kept (is_edge_key users.now worlds.now) → ⊥)) }
     ensures reading { OnlyReads (K.seen keeper.old) (K.seen keeper.new) result TabError.Fault }
 {
@@ -211,7 +225,7 @@ fn next_edge<K: Keeper>(
     alloc: Global,
     keeper: &mut K,
     users: &[UserSlot],
-    worlds: &[World],
+    worlds: &[NamedWorld],
     low: &mut Vec<u8>,
 ) -> Result<Option<bool>, TabError>
     requires grammar { InGrammar (K.seen keeper.old).kept }
@@ -231,7 +245,7 @@ fn next_edge<K: Keeper>(
 }
 
 // Whether a key is that of an edge of a world for a user.
-fn is_edge_key(users: &[UserSlot], worlds: &[World], key: &(u32, u32)) -> bool
+fn is_edge_key(users: &[UserSlot], worlds: &[NamedWorld], key: &(u32, u32)) -> bool
     requires { ascending nat_cmp (map number_of_world worlds.now) ≡ true }
     ensures { result ≡ is_edge_key users.now worlds.now key.now }
 {

@@ -8,7 +8,7 @@ ghost use Rattle.bdb_tables.specs.Names.{leads_to};
 ghost use Rattle.bdb_graph.specs.Naming.{names_of};
 ghost use Rattle.bdb_graph.specs.States.{AreIndexed, ArePathsOf, have_own_paths, is_world, number_of_world, target_of};
 
-use crate::naming::World;
+use crate::naming::NamedWorld;
 use crate::numbers::place_of_number;
 use bdb_base::{List, Path, UserSlot, cmp_path, put_copy};
 use bdb_entries::are_users;
@@ -16,7 +16,7 @@ use bdb_paths::deepest_suffix_in_set;
 use std::alloc::{AllocError, Global};
 
 /// The paths of worlds, in order.
-pub fn paths_of(alloc: Global, worlds: &[World]) -> Result<List<Path>, AllocError>
+pub fn paths_of(alloc: Global, worlds: &[NamedWorld]) -> Result<List<Path>, AllocError>
     ensures { IfOk result (ArePathsOf worlds.now) }
 {
     let mut paths = List::new(alloc);
@@ -27,7 +27,7 @@ pub fn paths_of(alloc: Global, worlds: &[World]) -> Result<List<Path>, AllocErro
 }
 
 /// Whether each world's path is one of live users only.
-pub fn have_own_paths(users: &[UserSlot], worlds: &[World]) -> bool
+pub fn have_own_paths(users: &[UserSlot], worlds: &[NamedWorld]) -> bool
     ensures { result ≡ have_own_paths (is_user users.now) worlds.now }
 {
     worlds
@@ -35,8 +35,8 @@ pub fn have_own_paths(users: &[UserSlot], worlds: &[World]) -> bool
         .all(|world| are_users(users, world.path.as_slice()))
 }
 
-/// Whether a number is that of a world. The search goes by halves.
-pub fn is_world(worlds: &[World], wid: u32) -> bool
+/// Whether a number is that of a world. It is a binary search.
+pub fn is_world(worlds: &[NamedWorld], wid: u32) -> bool
     requires { ascending nat_cmp (map number_of_world worlds.now) ≡ true }
     ensures { result ≡ is_world worlds.now wid }
 {
@@ -46,9 +46,9 @@ pub fn is_world(worlds: &[World], wid: u32) -> bool
     }
 }
 
-/// Whether a path leads to a world: its deepest suffix that is the path of one is the path of this one. The searches go
-/// by halves.
-pub fn leads_to(worlds: &[World], paths: &[Path], users: &[u32], wid: u32) -> bool
+/// Whether a path leads to a world: its deepest suffix that is the path of one is the path of this one. The searches are
+/// binary.
+pub fn leads_to(worlds: &[NamedWorld], paths: &[Path], users: &[u32], wid: u32) -> bool
     requires { AreIndexed worlds.now paths.now }
     ensures { result ≡ leads_to (target_of (names_of worlds.now) users.now) wid }
 {
@@ -60,7 +60,7 @@ pub fn leads_to(worlds: &[World], paths: &[Path], users: &[u32], wid: u32) -> bo
 }
 
 // Whether a world has a path.
-fn has_path(world: &World, path: &Path) -> bool
+fn has_path(world: &NamedWorld, path: &Path) -> bool
     ensures { result ≡ same_path world.now.path path.now }
 {
     cmp_path(world.path.as_slice(), path.as_slice()).is_eq()

@@ -9,12 +9,12 @@ ghost use Rattle.bdb_tables.specs.Grammar.{InGrammar};
 ghost use Rattle.bdb_tables.specs.InUse.{link_codec};
 ghost use Rattle.bdb_tables.specs.Names.{link_of};
 ghost use Rattle.bdb_tables.specs.Writes.{Gives};
-ghost use Rattle.bdb_entries.specs.Reading.{OnlyReads};
+ghost use Rattle.bdb_tables.specs.Reading.{OnlyReads};
 ghost use Rattle.bdb_graph.specs.Naming.{names_of};
 ghost use Rattle.bdb_graph.specs.States.{AllKeysPass, AreIndexed, HasLink, HasNextKey, IsWorldOf, is_right, is_world, link_from, number_of_world};
 
 use crate::finding::{is_world, leads_to};
-use crate::naming::World;
+use crate::naming::NamedWorld;
 use bdb_base::Path;
 use bdb_keep::Keeper;
 use bdb_tables::{SuffixTab, TabError, get, next_under};
@@ -24,12 +24,14 @@ use std::alloc::Global;
 pub fn are_links_held<K: Keeper>(
     alloc: Global,
     keeper: &mut K,
-    worlds: &[World],
+    worlds: &[NamedWorld],
     paths: &[Path],
 ) -> Result<bool, TabError>
     requires grammar { InGrammar (K.seen keeper.old).kept }
     requires worlds { AreIndexed worlds.now paths.now }
-    ensures held { IfOk result (λ held. MatchBool held (Gives link_codec (K.seen keeper.old).kept (link_of (names_of worlds.now)))
+    ensures held { IfOk result
+        (λ held. MatchBool held
+        (Gives link_codec (K.seen keeper.old).kept (link_of (names_of worlds.now)))
         (Gives link_codec (K.seen keeper.old).kept (link_of (names_of worlds.now)) → ⊥)) }
     ensures reading { OnlyReads (K.seen keeper.old) (K.seen keeper.new) result TabError.Fault }
 {
@@ -48,12 +50,13 @@ pub fn are_links_held<K: Keeper>(
 fn each_has_link<K: Keeper>(
     alloc: Global,
     keeper: &mut K,
-    worlds: &[World],
+    worlds: &[NamedWorld],
     paths: &[Path],
 ) -> Result<bool, TabError>
     requires grammar { InGrammar (K.seen keeper.old).kept }
     requires worlds { AreIndexed worlds.now paths.now }
-    ensures links { IfOk result (λ b. MatchBool b (AllByRecursion (HasLink (K.seen keeper.old).kept worlds.now) worlds.now)
+    ensures links { IfOk result
+        (λ b. MatchBool b (AllByRecursion (HasLink (K.seen keeper.old).kept worlds.now) worlds.now)
         (AllByRecursion (HasLink (K.seen keeper.old).kept worlds.now) worlds.now → ⊥)) }
     ensures reading { OnlyReads (K.seen keeper.old) (K.seen keeper.new) result TabError.Fault }
 {
@@ -71,9 +74,9 @@ fn each_has_link<K: Keeper>(
 fn has_link<K: Keeper>(
     alloc: Global,
     keeper: &mut K,
-    worlds: &[World],
+    worlds: &[NamedWorld],
     paths: &[Path],
-    world: &World,
+    world: &NamedWorld,
 ) -> Result<bool, TabError>
     requires grammar { InGrammar (K.seen keeper.old).kept }
     requires worlds { AreIndexed worlds.now paths.now }
@@ -90,7 +93,7 @@ fn has_link<K: Keeper>(
 }
 
 // Whether this is the suffix link of a path.
-fn is_link(worlds: &[World], paths: &[Path], path: &[u32], found: Option<u32>) -> bool
+fn is_link(worlds: &[NamedWorld], paths: &[Path], path: &[u32], found: Option<u32>) -> bool
     requires { AreIndexed worlds.now paths.now }
     ensures { result ≡ is_right found (link_from (names_of worlds.now) path.now) }
 {
@@ -107,11 +110,12 @@ fn is_link(worlds: &[World], paths: &[Path], path: &[u32], found: Option<u32>) -
 fn are_links_of_worlds<K: Keeper>(
     alloc: Global,
     keeper: &mut K,
-    worlds: &[World],
+    worlds: &[NamedWorld],
 ) -> Result<bool, TabError>
     requires grammar { InGrammar (K.seen keeper.old).kept }
     requires sorted { ascending nat_cmp (map number_of_world worlds.now) ≡ true }
-    ensures keys { IfOk result (λ b. MatchBool b (AllKeysPass link_codec (K.seen keeper.old).kept (is_world worlds.now))
+    ensures keys { IfOk result
+        (λ b. MatchBool b (AllKeysPass link_codec (K.seen keeper.old).kept (is_world worlds.now))
         (AllKeysPass link_codec (K.seen keeper.old).kept (is_world worlds.now) → ⊥)) }
     ensures reading { OnlyReads (K.seen keeper.old) (K.seen keeper.new) result TabError.Fault }
 {
@@ -132,7 +136,7 @@ fn are_links_of_worlds<K: Keeper>(
 fn next_link<K: Keeper>(
     alloc: Global,
     keeper: &mut K,
-    worlds: &[World],
+    worlds: &[NamedWorld],
     low: &mut Vec<u8>,
 ) -> Result<Option<bool>, TabError>
     requires grammar { InGrammar (K.seen keeper.old).kept }

@@ -6,19 +6,19 @@ ghost use Rattle.bdb_base.specs.SortedSet.{ascending};
 ghost use Rattle.bdb_graph.specs.Naming.{AreNamedUps, IsClimbed, IsNamedUp, climb, number_of_up, up_in};
 
 use crate::leading::copy_of;
-use crate::numbers::{Numbered, place_of_number};
+use crate::numbers::{HasNumber, place_of_number};
 use crate::ups::Up;
 use bdb_base::{Path, PathError};
 use std::alloc::{AllocError, Global};
 
 /// A world: its number, and the path whose world it is.
 #[derive(Drop)]
-pub struct World {
+pub struct NamedWorld {
     pub wid: u32,
     pub path: Path,
 }
 
-impl Numbered for World {
+impl HasNumber for NamedWorld {
     ghost number_of = { λ x. x.wid };
 
     fn number(&self) -> u32 {
@@ -27,7 +27,7 @@ impl Numbered for World {
 }
 
 /// These worlds with their paths. None exactly where one does not come from world 0, or by way of no path.
-pub fn named_ups(alloc: Global, ups: &[Up]) -> Result<Option<Vec<World>>, AllocError>
+pub fn named_ups(alloc: Global, ups: &[Up]) -> Result<Option<Vec<NamedWorld>>, AllocError>
     requires { ascending nat_cmp (map number_of_up ups.now) ≡ true }
     ensures { IfOk result (λ r. MatchOption r (AllByRecursion (IsClimbed ups.now) ups.now → ⊥)
         (λ worlds. AreNamedUps ups.now ups.now worlds.items)) }
@@ -45,7 +45,7 @@ pub fn named_ups(alloc: Global, ups: &[Up]) -> Result<Option<Vec<World>>, AllocE
 }
 
 // A world with its path.
-fn named_up(alloc: Global, ups: &[Up], up: Up) -> Result<Option<World>, AllocError>
+fn named_up(alloc: Global, ups: &[Up], up: Up) -> Result<Option<NamedWorld>, AllocError>
     requires { ascending nat_cmp (map number_of_up ups.now) ≡ true }
     ensures { IfOk result (λ r. MatchOption r (IsClimbed ups.now up → ⊥) (IsNamedUp ups.now up)) }
 {
@@ -55,7 +55,7 @@ fn named_up(alloc: Global, ups: &[Up], up: Up) -> Result<Option<World>, AllocErr
         Err(error) => return Err(error),
     };
     match Path::try_new(alloc, &users) {
-        Ok(path) => Ok(Some(World { wid: up.wid, path })),
+        Ok(path) => Ok(Some(NamedWorld { wid: up.wid, path })),
         Err(PathError::Repeat) => Ok(None),
         Err(PathError::Memory) => Err(AllocError),
     }

@@ -6,7 +6,7 @@ ghost use Rattle.bdb_base.specs.SortedSet.{ascending, is_member};
 use std::cmp::Ordering;
 
 /// What has a number.
-pub trait Numbered {
+pub trait HasNumber {
     // the number
     ghost number_of: { Self → ℕ };
 
@@ -15,7 +15,7 @@ pub trait Numbered {
 }
 
 // An item beside its number.
-impl<X> Numbered for (u32, X) {
+impl<X> HasNumber for (u32, X) {
     ghost number_of = { λ e. e.0 };
 
     fn number(&self) -> u32 {
@@ -23,8 +23,8 @@ impl<X> Numbered for (u32, X) {
     }
 }
 
-/// The place of a number among those of items, which are in order. The search goes by halves.
-pub fn place_of_number<X: Numbered>(items: &[X], number: u32) -> Option<usize>
+/// The place of a number among those of items, which are in order. It is a binary search.
+pub fn place_of_number<X: HasNumber>(items: &[X], number: u32) -> Option<usize>
     requires { ascending nat_cmp (map X.number_of items.now) ≡ true }
     ensures { MatchOption result (is_member nat_cmp (map X.number_of items.now) number ≡ false)
         (λ at. slice_get (map X.number_of items.now) at ≡ Some number) }
@@ -44,7 +44,7 @@ pub fn place_of_number<X: Numbered>(items: &[X], number: u32) -> Option<usize>
 }
 
 // The order of an item's number and another one.
-fn number_order<X: Numbered>(item: &X, number: u32) -> Ordering
+fn number_order<X: HasNumber>(item: &X, number: u32) -> Ordering
     ensures { result ≡ nat_cmp (X.number_of item.now) number }
 {
     item.number().cmp(&number)

@@ -5,14 +5,14 @@ ghost use Rattle.bdb_base.specs.Bases.{is_user};
 ghost use Rattle.bdb_base.specs.Limits.{most_users};
 ghost use Rattle.bdb_tables.specs.Grammar.{InGrammar};
 ghost use Rattle.bdb_tables.specs.States.{HoldsStates};
-ghost use Rattle.bdb_entries.specs.Reading.{OnlyReads};
+ghost use Rattle.bdb_tables.specs.Reading.{OnlyReads};
 ghost use Rattle.bdb_graph.specs.Naming.{AreWorlds, names_of};
 ghost use Rattle.bdb_graph.specs.States.{AreIndexed};
 
 use crate::edges::are_edges_held;
 use crate::finding::{have_own_paths, paths_of};
 use crate::links::are_links_held;
-use crate::naming::World;
+use crate::naming::NamedWorld;
 use crate::turning::are_turned_round;
 use bdb_base::{Path, UserSlot};
 use bdb_keep::Keeper;
@@ -21,18 +21,20 @@ use std::alloc::Global;
 
 /// Whether the tables hold the states of these worlds over these users: their suffix links and edges are those of the paths, and two
 /// more tables have them turned round; a world that is named by one who is gone, or has an edge for him, is none of them. Beside
-/// what the last takes, a read for each world and live user and one for each link and edge; where a path leads is searched by
-/// halves among the paths in order.
+/// what the last takes, a read for each world and live user and one for each link and edge; where a path leads is found by
+/// binary search among the paths in order.
 pub fn are_states_held<K: Keeper>(
     alloc: Global,
     keeper: &mut K,
     users: &[UserSlot],
-    worlds: &[World],
+    worlds: &[NamedWorld],
 ) -> Result<bool, TabError>
     requires grammar { InGrammar (K.seen keeper.old).kept }
     requires worlds { AreWorlds (K.seen keeper.old).kept worlds.now }
     requires users { length users.now ≤ most_users }
-    ensures held { IfOk result (λ held. MatchBool held (HoldsStates (is_user users.now) (names_of worlds.now) (K.seen keeper.old).kept)
+    ensures held { IfOk result
+        (λ held. MatchBool held
+        (HoldsStates (is_user users.now) (names_of worlds.now) (K.seen keeper.old).kept)
         (HoldsStates (is_user users.now) (names_of worlds.now) (K.seen keeper.old).kept → ⊥)) }
     ensures reading { OnlyReads (K.seen keeper.old) (K.seen keeper.new) result TabError.Fault }
 {
@@ -54,14 +56,16 @@ fn are_held<K: Keeper>(
     alloc: Global,
     keeper: &mut K,
     users: &[UserSlot],
-    worlds: &[World],
+    worlds: &[NamedWorld],
     paths: &[Path],
 ) -> Result<bool, TabError>
     requires grammar { InGrammar (K.seen keeper.old).kept }
     requires worlds { AreWorlds (K.seen keeper.old).kept worlds.now }
     requires users { length users.now ≤ most_users }
     requires found { AreIndexed worlds.now paths.now }
-    ensures held { IfOk result (λ held. MatchBool held (HoldsStates (is_user users.now) (names_of worlds.now) (K.seen keeper.old).kept)
+    ensures held { IfOk result
+        (λ held. MatchBool held
+        (HoldsStates (is_user users.now) (names_of worlds.now) (K.seen keeper.old).kept)
         (HoldsStates (is_user users.now) (names_of worlds.now) (K.seen keeper.old).kept → ⊥)) }
     ensures reading { OnlyReads (K.seen keeper.old) (K.seen keeper.new) result TabError.Fault }
 {

@@ -5,7 +5,7 @@ ghost use Rattle.bdb_keep.specs.Calls.{IsRead};
 ghost use Rattle.bdb_keep.specs.Scans.{next_key};
 ghost use Rattle.bdb_keep.specs.Tables.{NoneFrom};
 ghost use Rattle.bdb_tables.specs.Grammar.{InGrammar};
-ghost use Rattle.bdb_entries.specs.Reading.{OnlyReads};
+ghost use Rattle.bdb_tables.specs.Reading.{OnlyReads};
 ghost use Rattle.bdb_graph.specs.Turning.{AreTurned, BothTurned, HasTurned, IsStep, TurnRound, turned};
 ghost use Rattle.bdb_graph.specs.Ups.{HoldNoStates};
 

@@ -5,10 +5,10 @@ ghost use Rattle.std.specs.List.{AllByRecursion};
 ghost use Rattle.bdb_keep.specs.Calls.{IsRead};
 ghost use Rattle.bdb_key.specs.Bytes.{num_bytes};
 ghost use Rattle.bdb_tables.specs.Grammar.{InGrammar};
-ghost use Rattle.bdb_entries.specs.Reading.{OnlyReads};
+ghost use Rattle.bdb_tables.specs.Reading.{OnlyReads};
 ghost use Rattle.bdb_graph.specs.Ups.{AreUps, HasDepth, HoldNoStates, IsParent, IsUp, LeadsTo, NoParent, StartsElsewhere, parent_in};
 
-use crate::numbers::Numbered;
+use crate::numbers::HasNumber;
 use bdb_keep::Keeper;
 use bdb_key::put_num;
 use bdb_tables::{DepthTab, EdgeIx, TabError, get, rows_under};
@@ -24,7 +24,7 @@ pub struct Up {
     pub uid: u32,
 }
 
-impl Numbered for Up {
+impl HasNumber for Up {
     ghost number_of = { λ x. x.wid };
 
     fn number(&self) -> u32 {

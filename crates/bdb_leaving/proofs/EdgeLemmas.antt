@@ -22,7 +22,7 @@ use Rattle.bdb_tables.specs.InUse.{IsTriple, led_codec}
 use Rattle.bdb_tables.specs.Names.{Names, path_of, is_named, leads_to, edge_of}
 use Rattle.bdb_tables.specs.States.{row_where, HoldsStates, IsNamed, root, next}
 use Rattle.bdb_worlds.proofs.ReadLemmas.{le_parts, le_same, number_le}
-use Rattle.bdb_stored.specs.Valid.{StoreSome}
+use Rattle.bdb_catalog.specs.Bases.{StoresSome}
 use Rattle.bdb_leaving.specs.Paths.{IsDeep, IsLed, IsLedBy}
 
 -- ---- the first edge that leads to a world
@@ -89,15 +89,15 @@ pub record EndsIn (t : Tables) (wid : ℕ) (users : List ℕ) (at left : ℕ) : 
   pub here : IsNamed t at (above ++ front)
   pub long : length front ≡ left
 
-module _ (t : Tables) (some : StoreSome t) where
+module _ (t : Tables) (some : StoresSome t) where
   abbrev users : ℕ → Bool
   users = is_user some.base.catalog.users
 
   abbrev ns : Names
-  ns = some.is.stored.names
+  ns = some.stores.stored.names
 
   abbrev h : HoldsStates users ns t
-  h = some.is.stored.stored.states
+  h = some.stores.stored.stored.states
 
   path_is : (n : ℕ) (w : List ℕ) → IsNamed t n w → path_of ns n ≡ Some w
   path_is n w x = (tables_have_names users ns t h n w).0 x

@@ -9,17 +9,18 @@ use Rattle.bdb_canon.specs.declared.sizes.Counts.{Counts}
 use Rattle.bdb_keep.specs.Seen.{Seen}
 use Rattle.bdb_keep.specs.Tables.{Tables}
 use Rattle.bdb_tables.specs.Stored.{Stores}
-use Rattle.bdb_update.specs.Calls.{StoresSized, are_apart, of_stmts, without_statements}
+use Rattle.bdb_update.specs.Calls.{StoresSized, are_apart, with_stmts, without_statements}
 use Rattle.bdb_update.specs.Replacing.{Go, MayGo, SomeMayGo}
 use Rattle.bdb_update.specs.Steps.{GoesThrough, WritesThrough, steps_without}
 use Rattle.bdb_update.proofs.ReplaceLemmas.{from_still}
 use Rattle.bdb_update.proofs.TakenLemmas.{others_are_left, taken_apart, taken_stand}
-use Rattle.bdb_stored.specs.Valid.{IsPartOf, StoreSome}
+use Rattle.bdb_catalog.specs.Bases.{StoresSome}
+use Rattle.bdb_catalog.specs.Opening.{IsPartOf}
 use Rattle.bdb_leaving.specs.Leaving.{LeavesThrough, MayDropUser, SomeMayDropUser, UserLeaves}
 use Rattle.bdb_leaving.specs.Place.{LosesUser, MayLoseUser, SomeMayLoseUser, WritesPlace}
 
-pub some_valid : (t : Tables) (counts : Counts) (uid : ℕ) → SomeMayDropUser t counts uid → StoreSome t
-some_valid t counts uid s = record { base = s.base; is = record { stored = s.may.base.stored; valid = s.may.base.valid } }
+pub some_valid : (t : Tables) (counts : Counts) (uid : ℕ) → SomeMayDropUser t counts uid → StoresSome t
+some_valid t counts uid s = record { base = s.base; stores = record { stored = s.may.base.stored; valid = s.may.base.valid } }
 
 module _ (t mid : Tables) (same : mid ≡ t) (counts : Counts) (uid : ℕ) (gone : List Stmt) (named : IsPartOf (λ b. statements_naming uid b.stmts) t gone) where
   gone_is : (b : Contents) → MayDropUser t counts uid b → gone ≡ statements_naming uid b.stmts
@@ -49,14 +50,14 @@ module _ (t mid : Tables) (same : mid ≡ t) (counts : Counts) (uid : ℕ) (gone
     left_is : (b : Contents) → MayDropUser t counts uid b → without_statements b.stmts gone ≡ without_statements_of uid b.stmts
     left_is b h = ap (without_statements b.stmts) (gone_is b h) ∙ others_are_left (λ x. names_user uid x.path) b.stmts h.base.valid.stmts.sorted
 
-    left : (b : Contents) → MayDropUser t counts uid b → StoresSized low after (of_stmts b (without_statements_of uid b.stmts))
-    left b h = subst (λ (xs : List Stmt). StoresSized low after (of_stmts b xs)) (left_is b h) (went b (may_go b h))
+    left : (b : Contents) → MayDropUser t counts uid b → StoresSized low after (with_stmts b (without_statements_of uid b.stmts))
+    left b h = subst (λ (xs : List Stmt). StoresSized low after (with_stmts b xs)) (left_is b h) (went b (may_go b h))
 
-    may_lose : (b : Contents) → MayDropUser t counts uid b → MayLoseUser low uid (of_stmts b (without_statements_of uid b.stmts))
+    may_lose : (b : Contents) → MayDropUser t counts uid b → MayLoseUser low uid (with_stmts b (without_statements_of uid b.stmts))
     may_lose b h = record { stored = (left b h).stored; user = h.user; unnamed = λ w e. states_name_others b.stmts uid w e }
 
     pub some_may_lose : SomeMayDropUser t counts uid → SomeMayLoseUser low uid
-    some_may_lose s = record { base = of_stmts s.base (without_statements_of uid s.base.stmts); may = may_lose s.base s.may }
+    some_may_lose s = record { base = with_stmts s.base (without_statements_of uid s.base.stmts); may = may_lose s.base s.may }
 
     -- ---- and the place
 
@@ -64,7 +65,7 @@ module _ (t mid : Tables) (same : mid ≡ t) (counts : Counts) (uid : ℕ) (gone
     user_left new loses b h = record {
       gone = gone_is b h;
       base = record {
-        stored = loses (of_stmts b (without_statements_of uid b.stmts)) (may_lose b h);
+        stored = loses (with_stmts b (without_statements_of uid b.stmts)) (may_lose b h);
         valid = drop_user_is_valid b.catalog b.stmts uid h.base.valid h.user;
         counted = (left b h).counted;
       };
@@ -77,5 +78,5 @@ left_through old mid low new counts after uid gone same still named went goes pl
   between = low;
   gone = from_still old mid low (steps_without b (statements_naming uid b.stmts)) same still
       (subst (λ (xs : List Stmt). WritesThrough mid (steps_without b xs) low) (gone_is old.kept mid.kept same counts uid gone named b h) (goes b (may_go old.kept mid.kept same counts uid gone named b h)));
-  left = place (of_stmts b (without_statements_of uid b.stmts)) (may_lose old.kept mid.kept same counts uid gone named low.kept after went b h);
+  left = place (with_stmts b (without_statements_of uid b.stmts)) (may_lose old.kept mid.kept same counts uid gone named low.kept after went b h);
 }

@@ -29,7 +29,7 @@ use Rattle.bdb_tables.specs.Names.{Names, path_of, depth_of}
 use Rattle.bdb_tables.specs.Spans.{AreUnder}
 use Rattle.bdb_tables.specs.States.{HoldsStates, IsNamed}
 use Rattle.bdb_stored.specs.Items.{items_of}
-use Rattle.bdb_stored.specs.Valid.{StoresValid, StoreSome}
+use Rattle.bdb_catalog.specs.Bases.{StoresSome, StoresValid}
 use Rattle.bdb_stored.specs.Worlds.{TellsStates, named_world}
 use Rattle.bdb_stored.specs.declared.named.NamedWorld.{NamedWorld}
 use Rattle.bdb_stored.proofs.CountingLemmas.{numbers_of, one_path, paths_are_states, wids_named, wids_once}
@@ -212,8 +212,8 @@ module _ (t : Tables) (b : Contents) (v : StoresValid t b) where
           ∙ ap (map (named_world ns)) paths_in_order
 
 -- each row of depths tells the length of a world's path
-pub rows_are_deep : (t : Tables) (rows : List (ℕ × ℕ)) → StoreSome t → AreUnder depth_codec t [] rows → AllByRecursion (IsDeep t) rows
-rows_are_deep t rows s under = all_deep t s.base s.is rows under
+pub rows_are_deep : (t : Tables) (rows : List (ℕ × ℕ)) → StoresSome t → AreUnder depth_codec t [] rows → AllByRecursion (IsDeep t) rows
+rows_are_deep t rows s under = all_deep t s.base s.stores rows under
 
 module _ (t : Tables) (rows : List (ℕ × ℕ)) (worlds ordered : List NamedWorld) (have : HavePaths t rows worlds) (o : AreInOrder worlds ordered) where
   -- the worlds in order are the states, whichever base the tables store

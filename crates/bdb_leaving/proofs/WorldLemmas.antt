@@ -13,7 +13,7 @@ use Rattle.bdb_base.proofs.WorldLemmas.{valid_is_consistent}
 use Rattle.bdb_keep.specs.Tables.{Tables}
 use Rattle.bdb_update.proofs.KeyLemmas.{lengths_fit}
 use Rattle.bdb_val.specs.WorldReads.{AreRowsAt}
-use Rattle.bdb_stored.specs.Valid.{IsPartOf}
+use Rattle.bdb_catalog.specs.Opening.{IsPartOf}
 use Rattle.bdb_stored.specs.Worlds.{TellsStates}
 use Rattle.bdb_stored.specs.declared.named.NamedWorld.{NamedWorld}
 use Rattle.bdb_stored.proofs.LinkLemmas.{flat_more}

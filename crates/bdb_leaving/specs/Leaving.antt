@@ -20,7 +20,7 @@ pub record SomeMayDropUser (t : Tables) (counts : Counts) (uid : ℕ) : Type 0 w
   pub base : Contents
   pub may : MayDropUser t counts uid base
 
--- the base without a user, and without the statements whose paths name him
+-- the base without a user, and without each statement whose path names him
 abbrev pub base_without_user : Contents → ℕ → Contents
 base_without_user b uid = record { catalog = without_user b.catalog uid; stmts = without_statements_of uid b.stmts }
 

@@ -8,7 +8,7 @@ use Rattle.bdb_base.specs.declared.kinds.Held.{Held}
 use Rattle.bdb_base.specs.declared.kinds.Stmt.{Stmt}
 use Rattle.bdb_keep.specs.Seen.{Seen}
 use Rattle.bdb_keep.specs.Tables.{Tables}
-use Rattle.bdb_stored.specs.Valid.{StoresValid}
+use Rattle.bdb_catalog.specs.Bases.{StoresValid}
 use Rattle.bdb_stored.specs.Worlds.{IsState}
 use Rattle.bdb_stored.specs.declared.named.NamedWorld.{NamedWorld}
 

@@ -2,9 +2,11 @@
 ghost use Rattle.std.specs.Prelude.{◌≡◌, ◌++◌, IfOk, OnOk};
 ghost use Rattle.bdb_base.specs.Changes.{statements_naming};
 ghost use Rattle.bdb_leaving.specs.Naming.{AppendsNaming, ReadsAt, ReadsNaming, ReadsRows, said_at};
-ghost use Rattle.bdb_stored.specs.Valid.{IsPartOf, OnlyReads, StoreSome};
+ghost use Rattle.bdb_catalog.specs.Bases.{StoresSome};
+ghost use Rattle.bdb_catalog.specs.Opening.{IsPartOf};
 ghost use Rattle.bdb_stored.specs.Worlds.{TellsStates};
 ghost use Rattle.bdb_tables.specs.Grammar.{InGrammar};
+ghost use Rattle.bdb_tables.specs.Reading.{OnlyReads};
 ghost use Rattle.bdb_val.specs.Reads.{HaveTuples};
 ghost use Rattle.bdb_val.specs.Steps.{IsChanging};
 
@@ -24,7 +26,7 @@ pub fn statements_naming<K: Keeper>(
     keeper: &mut K,
     uid: u32,
 ) -> Result<List<Stmt>, TabError>
-    requires base { StoreSome (K.seen keeper.old).kept }
+    requires base { StoresSome (K.seen keeper.old).kept }
     ensures naming { IfOk result
         (IsPartOf (λ b. statements_naming uid b.stmts) (K.seen keeper.old).kept) }
     ensures reads { OnOk result (ReadsNaming uid (K.seen keeper.old) (K.seen keeper.new)) }

@@ -5,10 +5,11 @@ ghost use Rattle.bdb_base.specs.Causes.{RoseBy};
 ghost use Rattle.bdb_base.specs.Order.{path_cmp};
 ghost use Rattle.bdb_keep.specs.Calls.{IsRead};
 ghost use Rattle.bdb_leaving.specs.Paths.{AreInOrder, HasPath, HavePaths, IsDeep, IsLed, IsLedBy, path_lengths};
-ghost use Rattle.bdb_stored.specs.Valid.{OnlyReads, StoreSome};
+ghost use Rattle.bdb_catalog.specs.Bases.{StoresSome};
 ghost use Rattle.bdb_stored.specs.Worlds.{TellsStates};
 ghost use Rattle.bdb_tables.specs.Grammar.{InGrammar};
 ghost use Rattle.bdb_tables.specs.States.{IsNamed};
+ghost use Rattle.bdb_tables.specs.Reading.{OnlyReads};
 
 use bdb_base::{Path, PathError, cmp_path};
 use bdb_keep::Keeper;
@@ -22,7 +23,7 @@ pub(crate) fn worlds_by_edges<K: Keeper>(
     alloc: Global,
     keeper: &mut K,
 ) -> Result<Vec<NamedWorld>, TabError>
-    requires base { StoreSome (K.seen keeper.old).kept }
+    requires base { StoresSome (K.seen keeper.old).kept }
     ensures worlds { IfOk result (λ worlds. TellsStates (K.seen keeper.old).kept worlds.items) }
     ensures reads { IfOk result
         (λ worlds. (K.seen keeper.new).reads
@@ -52,7 +53,7 @@ fn with_paths<K: Keeper>(
     keeper: &mut K,
     rows: &[(u32, u32)],
 ) -> Result<Vec<NamedWorld>, TabError>
-    requires base { StoreSome (K.seen keeper.old).kept }
+    requires base { StoresSome (K.seen keeper.old).kept }
     requires rows { AllByRecursion (IsDeep (K.seen keeper.old).kept) rows.now }
     ensures worlds { IfOk result
         (λ worlds. HavePaths (K.seen keeper.old).kept rows.now worlds.items) }
@@ -86,7 +87,7 @@ fn with_path<K: Keeper>(
     row: &(u32, u32),
     room: &mut Room,
 ) -> Result<NamedWorld, TabError>
-    requires base { StoreSome (K.seen keeper.old).kept }
+    requires base { StoresSome (K.seen keeper.old).kept }
     requires row { IsDeep (K.seen keeper.old).kept row.now }
     ensures number { IfOk result (λ world. world.wid ≡ row.now.0) }
     ensures path { IfOk result (HasPath (K.seen keeper.old).kept) }
@@ -117,7 +118,7 @@ fn users_to<K: Keeper>(
     row: &(u32, u32),
     room: &mut Room,
 ) -> Result<Vec<u32>, TabError>
-    requires base { StoreSome (K.seen keeper.old).kept }
+    requires base { StoresSome (K.seen keeper.old).kept }
     requires row { IsDeep (K.seen keeper.old).kept row.now }
     ensures users { IfOk result (λ users. IsNamed (K.seen keeper.old).kept row.now.0 users.items) }
     ensures reads { IfOk result

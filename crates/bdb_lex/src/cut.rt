@@ -53,8 +53,8 @@ impl Cutter {
     }
 
     /// Takes the bytes of a block up to the first semicolon that ends a piece, and gives that piece and the bytes behind it;
-    /// all of them, where none ends there. A piece that began in the block is borrowed from it. The only error is want of
-    /// memory, and the cutter is spent then.
+    /// all of them, where none ends there. A piece that began in the block is borrowed from it. The only error is running out
+    /// of memory, and the cutter is spent then.
     pub fn next_piece<'a>(
         &mut self,
         alloc: Global,
@@ -112,7 +112,7 @@ impl Cutter {
         Ok(piece)
     }
 
-    /// Spends the cutter for want of memory.
+    /// Spends the cutter, as memory ran out.
     fn spend(&mut self) -> AllocError
         ensures { self.new.is_spent ≡ true }
     {
@@ -120,7 +120,7 @@ impl Cutter {
         AllocError
     }
 
-    /// Takes the next block of the script, and adds each piece that ends in it. The only error is want of memory: a front of
+    /// Takes the next block of the script, and adds each piece that ends in it. The only error is running out of memory: a front of
     /// these pieces was added, whole and in order, and the cutter is spent.
     pub fn feed<'a>(
         &mut self,

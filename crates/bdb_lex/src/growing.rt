@@ -42,7 +42,7 @@ impl Growing {
         }
     }
 
-    /// Adds bytes. The only error is want of memory.
+    /// Adds bytes. The only error is running out of memory.
     #[tactic(auto, using(crate::proofs::CutLemmas::kept_short))]
     pub fn extend(&mut self, run: &[u8]) -> Result<(), AllocError>
         ensures grown { OnOk result (self.new ≡ longer_by self.old run.now) }

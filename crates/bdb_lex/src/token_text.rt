@@ -49,7 +49,7 @@ impl<'a> TokenText<'a> {
         self.text.as_str()
     }
 
-    /// A copy of the text. The only error is want of memory.
+    /// A copy of the text. The only error is running out of memory.
     pub fn to_txt(&self, alloc: Global) -> Result<Txt, AllocError>
         ensures { IfOk result (λ text. text ≡ self.now) }
     {

@@ -124,7 +124,7 @@ not_up_to_stays w x y h e = elim (paths_rise x y h) [
     passed k (inl t) = path_total.trans x.path y.path w k (is_lt-Less (path_cmp y.path w) t)
     passed k (inr t) = ap (path_cmp x.path) (sym ((same_path-Decides y.path w).0 t)) ∙ k
 
--- ---- the search by halves
+-- ---- the binary search
 
 pub search_up : (stmts : List Stmt) (w : List ℕ) (y : Stmt) (m : ℕ) → ascending statement_cmp stmts ≡ true → m < length stmts → y ≡ get_or stmts m y → is_before w y ≡ true
     → list_all (is_before w) (take (m + 1) stmts) ≡ true

@@ -1,4 +1,4 @@
-// The statements at the ends of a path, found by halves.
+// The statements at the ends of a path, found by binary search.
 ghost use Rattle.std.specs.Prelude.{◌≡◌, ◌++◌, true, filter, IfOk, OnOk};
 ghost use Rattle.bdb_base.specs.Order.{statement_cmp};
 ghost use Rattle.bdb_base.specs.Same.{same_path};
@@ -18,7 +18,7 @@ pub fn worlds_depend_on_ends()
 {}
 
 /// The statements whose paths are ends of a path, in order. Those of each end stand side by side, and are found by
-/// halves.
+/// binary search.
 pub fn at_ends(alloc: Global, stmts: &[Stmt], path: &[u32]) -> Result<List<Stmt>, AllocError>
     requires { ascending statement_cmp stmts.now ≡ true }
     ensures { IfOk result (λ near. near ≡ filter (λ x. is_suffix x.path path.now) stmts.now) }
@@ -61,7 +61,7 @@ fn push_copies(alloc: Global, near: &mut List<Stmt>, stmts: &[Stmt]) -> Result<(
     Ok(())
 }
 
-/// The statements of this very path. The first one is found by halves, and no other is looked at than those of the path
+/// The statements of this very path. The first one is found by binary search, and no other is looked at than those of the path
 /// and the one behind them.
 pub fn at_path<'a>(stmts: &'a [Stmt], path: &[u32]) -> &'a [Stmt]
     requires { ascending statement_cmp stmts.now ≡ true }
@@ -77,7 +77,7 @@ pub fn at_path<'a>(stmts: &'a [Stmt], path: &[u32]) -> &'a [Stmt]
     rest
 }
 
-/// The first place whose statement's path does not come before a path, by halves; the length where there is none.
+/// The first place whose statement's path does not come before a path, by binary search; the length where there is none.
 fn first_at(stmts: &[Stmt], path: &[u32]) -> usize
     requires { ascending statement_cmp stmts.now ≡ true }
     ensures { IsFirstAt stmts.now path.now result }

@@ -7,7 +7,7 @@ use crate::kinds::{Acts, Event};
 use bdb_base::{Exact, List};
 use std::alloc::{AllocError, Global};
 
-/// What becomes of events, from no open batch on: one act for each. The only error is want of memory.
+/// What becomes of events, from no open batch on: one act for each. The only error is running out of memory.
 pub fn acts_of(alloc: Global, events: &[Event]) -> Result<Acts, AllocError>
     requires { AreSessions events.now }
     ensures { IfOk result (λ acts. acts ≡ acts_of events.now) }

@@ -47,7 +47,7 @@ impl Desk {
     }
 
     /// Takes the next line of a session, and tells what becomes of it. Whichever events the desk stood for, it stands for them
-    /// and this one. The only error is want of memory, and the desk is unchanged then.
+    /// and this one. The only error is running out of memory, and the desk is unchanged then.
     pub fn step(&mut self, session: u8, line: Line) -> Result<Act, AllocError>
         requires { session < sessions }
         ensures act { (es : List Event) → StandsFor self.old es

@@ -4,7 +4,7 @@ ghost use Rattle.bdb_parse.specs.Gives.{Gives};
 ghost use Rattle.bdb_parse.specs.Reading.{bare_of, col_at, col_of};
 
 use crate::error::ParseError;
-use crate::list::Part;
+use crate::list::ItemReader;
 use crate::tokens::{dot, end, name};
 use bdb_lex::Token;
 use bdb_syntax::RawCol;
@@ -14,7 +14,7 @@ use std::alloc::Global;
 #[derive(Clone, Copy, Drop)]
 pub struct Taken;
 
-impl Part<RawCol> for Taken {
+impl ItemReader<RawCol> for Taken {
     ghost item = { λ _. col_of };
 
     fn read(&self, alloc: Global, part: &[Token<'_>]) -> Result<RawCol, ParseError> {

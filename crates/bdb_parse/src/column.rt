@@ -5,7 +5,7 @@ ghost use Rattle.bdb_parse.specs.Reading.{kind_of, column_of};
 
 use crate::error::ParseError;
 use crate::keywords::is_keyword;
-use crate::list::Part;
+use crate::list::ItemReader;
 use crate::tokens::{end, name, word};
 use bdb_base::{ColDef, Kind};
 use bdb_lex::{Token, TokenText};
@@ -15,7 +15,7 @@ use std::alloc::Global;
 #[derive(Clone, Copy, Drop)]
 pub struct Columns;
 
-impl Part<ColDef> for Columns {
+impl ItemReader<ColDef> for Columns {
     ghost item = { λ _. column_of };
 
     fn read(&self, alloc: Global, part: &[Token<'_>]) -> Result<ColDef, ParseError> {

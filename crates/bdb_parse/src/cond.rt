@@ -6,7 +6,7 @@ ghost use Rattle.bdb_parse.specs.Reading.{begins_with_word, bare_of, col_of, sid
 
 use crate::col::{bare, col, first_col};
 use crate::error::ParseError;
-use crate::list::{Part, list_of};
+use crate::list::{ItemReader, list_of};
 use crate::literal::literal;
 use crate::stop::Stop;
 use crate::tokens::{cmp, name};
@@ -22,7 +22,7 @@ pub struct Tests {
     pub wide: Wide,
 }
 
-impl Part<RawCond> for Tests {
+impl ItemReader<RawCond> for Tests {
     ghost item = { λ s. test_of (number_in s.wide) };
 
     fn read(&self, alloc: Global, part: &[Token<'_>]) -> Result<RawCond, ParseError> {
@@ -36,7 +36,7 @@ pub struct QueryConds {
     pub wide: Wide,
 }
 
-impl Part<RawCond> for QueryConds {
+impl ItemReader<RawCond> for QueryConds {
     ghost item = { λ s. cond_of (number_in s.wide) };
 
     fn read(&self, alloc: Global, part: &[Token<'_>]) -> Result<RawCond, ParseError> {
@@ -97,7 +97,7 @@ fn cond(alloc: Global, wide: Wide, tokens: &[Token<'_>]) -> Result<RawCond, Pars
 }
 
 /// The conditions behind a 'where', and none where there isn't one.
-pub fn conds<R: Part<RawCond>>(
+pub fn conds<R: ItemReader<RawCond>>(
     alloc: Global,
     reader: &R,
     tokens: Option<&[Token<'_>]>,

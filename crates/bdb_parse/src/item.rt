@@ -7,7 +7,7 @@ ghost use Rattle.bdb_parse.specs.Reading.{who_at, whos_at, past, keyword_at, ali
 
 use crate::error::ParseError;
 use crate::keywords::{is_keyword, is_reserved};
-use crate::list::Part;
+use crate::list::ItemReader;
 use crate::target::sign;
 use crate::tokens::{after_keyword, end, name};
 use bdb_base::{Exact, List, Txt};
@@ -19,7 +19,7 @@ use std::alloc::Global;
 #[derive(Clone, Copy, Drop)]
 pub struct Items;
 
-impl Part<RawItem> for Items {
+impl ItemReader<RawItem> for Items {
     ghost item = { λ _. item_of };
 
     fn read(&self, alloc: Global, part: &[Token<'_>]) -> Result<RawItem, ParseError> {

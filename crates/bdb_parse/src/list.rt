@@ -12,7 +12,7 @@ use bdb_lex::Token;
 use std::alloc::Global;
 
 /// What reads the tokens of one item of a list.
-pub trait Part<X> {
+pub trait ItemReader<X> {
     /// What it reads.
     ghost item: { Self → List Token → Option X };
 
@@ -23,7 +23,7 @@ pub trait Part<X> {
 
 /// One item or more, with a stop between two.
 #[tactic(auto, unfolding(crate::specs::Reading::list_of))]
-pub fn list_of<X: Exact, R: Part<X>>(
+pub fn list_of<X: Exact, R: ItemReader<X>>(
     alloc: Global,
     reader: &R,
     stop: Stop,

@@ -4,7 +4,7 @@ ghost use Rattle.bdb_parse.specs.Gives.{Gives, number_in};
 ghost use Rattle.bdb_parse.specs.Reading.{literal_of};
 
 use crate::error::ParseError;
-use crate::list::Part;
+use crate::list::ItemReader;
 use crate::number::number;
 use crate::wide::Wide;
 use bdb_base::Value;
@@ -17,7 +17,7 @@ pub struct Literals {
     pub wide: Wide,
 }
 
-impl Part<Value> for Literals {
+impl ItemReader<Value> for Literals {
     ghost item = { λ s. literal_of (number_in s.wide) };
 
     fn read(&self, alloc: Global, part: &[Token<'_>]) -> Result<Value, ParseError> {

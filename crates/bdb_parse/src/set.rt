@@ -4,7 +4,7 @@ ghost use Rattle.bdb_parse.specs.Gives.{Gives, number_in};
 ghost use Rattle.bdb_parse.specs.Reading.{set_of};
 
 use crate::error::ParseError;
-use crate::list::Part;
+use crate::list::ItemReader;
 use crate::literal::literal;
 use crate::tokens::{equals, name};
 use crate::wide::Wide;
@@ -18,7 +18,7 @@ pub struct Sets {
     pub wide: Wide,
 }
 
-impl Part<RawSet> for Sets {
+impl ItemReader<RawSet> for Sets {
     ghost item = { λ s. set_of (number_in s.wide) };
 
     fn read(&self, alloc: Global, part: &[Token<'_>]) -> Result<RawSet, ParseError> {

@@ -9,7 +9,7 @@ use bdb_base::{Path, cmp_path};
 use std::cmp::Ordering;
 
 /// Where a path, given by its users, stands in a set of paths: `Ok` with its place, or `Err` with the place where it
-/// belongs. The search goes by halves.
+/// belongs. It is a binary search.
 pub fn place_of_users(paths: &[Path], users: &[u32]) -> Result<usize, usize>
     requires { ascending path_cmp paths.now ≡ true }
     ensures { MatchResult result (λ at. slice_get paths.now at ≡ Some users.now)

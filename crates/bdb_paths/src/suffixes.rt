@@ -29,7 +29,7 @@ pub fn deepest_suffix(states: &List<Path>, path: &[u32]) -> usize
     }
 }
 
-/// The same in a set of paths, which is in order: the search goes by halves.
+/// The same in a set of paths, which is in order: it is a binary search.
 pub fn deepest_suffix_in_set(states: &[Path], path: &[u32]) -> usize
     requires sorted { ascending path_cmp states.now ≡ true }
     requires root { is_member path_cmp states.now [] ≡ true }

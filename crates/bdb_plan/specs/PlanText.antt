@@ -72,10 +72,10 @@ take_text c q take = codes "take " ++ joined (map (ref_text c q) take)
 abbrev pub plan_lines : Catalog → Query → Fields → List (List ℕ)
 plan_lines c q p = map (step_text c q) p.steps ++ take_text c q p.take ∷ []
 
--- a line, and a line feed
-abbrev pub ended : List ℕ → List ℕ
-ended text = text ++ 10 ∷ []
+-- a line: its text, and a line feed
+abbrev pub line : List ℕ → List ℕ
+line text = text ++ 10 ∷ []
 
 -- the lines of a plan, each with a line feed
 abbrev pub plan_text : Catalog → Query → Fields → List ℕ
-plan_text c q p = flat_map ended (plan_lines c q p)
+plan_text c q p = flat_map line (plan_lines c q p)

@@ -2,7 +2,7 @@
 ghost use Rattle.std.specs.Prelude.{◌≡◌, ◌++◌, map, IfOk, OnOk};
 ghost use Rattle.std.specs.List.{flat_map, slice_get};
 ghost use Rattle.bdb_base.specs.Texts.{joined};
-ghost use Rattle.bdb_plan.specs.PlanText.{alias_at, column_of, ended, operand_text, plan_text, ref_text, relation_column, step_text, take_text, user_name, who_text};
+ghost use Rattle.bdb_plan.specs.PlanText.{alias_at, column_of, line, operand_text, plan_text, ref_text, relation_column, step_text, take_text, user_name, who_text};
 
 use crate::plan::Plan;
 use crate::step::Step;
@@ -12,7 +12,7 @@ use bdb_base::{
 };
 use std::alloc::{AllocError, Global};
 
-/// The text of a query's plan: a line for each step, and one with the columns taken. The only error is want of memory.
+/// The text of a query's plan: a line for each step, and one with the columns taken. The only error is running out of memory.
 pub fn print_plan(
     alloc: Global,
     catalog: &Catalog,
@@ -36,7 +36,7 @@ fn append_steps(
     steps: &[Step],
 ) -> Result<(), AllocError>
     ensures { OnOk result
-        (out.new.items ≡ out.old.items ++ flat_map ended
+        (out.new.items ≡ out.old.items ++ flat_map line
         (map (step_text catalog.now query.now) steps.now)) }
 {
     for step in steps {

@@ -8,10 +8,10 @@ use Rattle.bdb_render.specs.declared.refusal.Refusal.{Refusal}
 use Rattle.bdb_render.specs.declared.refusal.Refusal.TheVariants as refusal
 use Rattle.bdb_render.specs.Replies.{line, signed_text}
 
--- a column: its name, behind the alias and a dot where it has an alias
-abbrev pub column_text : Option (List ℕ) → List ℕ → List ℕ
-column_text None col = col
-column_text (Some alias) col = dotted alias col
+-- a column's name, behind its alias where it has one
+abbrev pub named_column : Option (List ℕ) → List ℕ → List ℕ
+named_column None col = col
+named_column (Some alias) col = dotted alias col
 
 -- what a base can be full of
 abbrev pub what_text : What → List ℕ
@@ -32,14 +32,14 @@ cause_text catalog (refusal.Relation name) = codes "relation " ++ name
 cause_text catalog (refusal.User name) = codes "user " ++ quoted name
 cause_text catalog (refusal.AliasTwice alias) = codes "alias twice " ++ alias
 cause_text catalog (refusal.Alias alias) = codes "alias " ++ alias
-cause_text catalog (refusal.Column alias col) = codes "column " ++ column_text alias col
+cause_text catalog (refusal.Column alias col) = codes "column " ++ named_column alias col
 cause_text catalog (refusal.TakenUser name) = codes "taken " ++ quoted name
 cause_text catalog (refusal.TakenName name) = codes "taken " ++ name
 cause_text catalog (refusal.KeyLength length) = codes "key " ++ int_text length
 cause_text catalog refusal.Repeat = codes "repeat"
 cause_text catalog refusal.Deep = codes "deep"
 cause_text catalog refusal.Arity = codes "arity"
-cause_text catalog (refusal.Kind alias col) = codes "kind " ++ column_text alias col
+cause_text catalog (refusal.Kind alias col) = codes "kind " ++ named_column alias col
 cause_text catalog (refusal.Unsafe alias col) = codes "unsafe " ++ dotted alias col
 cause_text catalog (refusal.Clash sign t) = codes "clash " ++ signed_text catalog sign t
 cause_text catalog (refusal.Full what) = codes "full " ++ what_text what

@@ -3,7 +3,7 @@ use Rattle.std.proofs.Common.{◌≡◌, ◌∙◌, ℕ, zero, suc, ◌+◌, ◌
 use Rattle.std.specs.List.{list_all, slice_get}
 use Rattle.std.specs.Ordering.{is_eq, nat_cmp}
 use Rattle.std.specs.FinMap as tables
-use Rattle.std.proofs.lemmas.Bool.{and_parts, cases_Bool, cond-false, cond-true, eq-eqb, eqb-true, false≢true, or_from}
+use Rattle.std.proofs.lemmas.Bool.{and_parts, cases_Bool, cond-false, cond-true, eq-eqb, eqb-true, false≢true}
 use Rattle.std.proofs.lemmas.Bool.Decides.{nat_tests}
 use Rattle.std.proofs.lemmas.List.{length-set}
 use Rattle.std.proofs.lemmas.Option.{none-some, slice_get_past}
@@ -35,6 +35,7 @@ use Rattle.bdb_tables.proofs.CatalogLemmas.{user_gone, user_set}
 use Rattle.bdb_tables.proofs.SameLemmas.{change_same, gives_still, outside_one, states_still, tuples_still}
 use Rattle.bdb_tables.proofs.WriteLemmas.{change_gives, gives_same}
 use Rattle.bdb_undo.specs.declared.change.Named.TheVariants.{UserAdded, UserDropped}
+use Rattle.bdb_undo.proofs.ChangeLemmas.{unnamed}
 use Rattle.bdb_update.specs.Keeping.{SameNumbers}
 use Rattle.bdb_update.specs.StoredLaws.{is_edges}
 use Rattle.bdb_update.proofs.CountLemmas.{numbers_are_counted}
@@ -65,19 +66,6 @@ turned a b = grind (arith, nat_tests)
 listed_is_named : (uid : ℕ) (w : List ℕ) → is_listed uid w ≡ names_user uid w
 listed_is_named uid [] = refl
 listed_is_named uid (i ∷ w) = ap (λ b. b || is_listed uid w) (turned uid i) ∙ ap (λ b. nat_eq i uid || b) (listed_is_named uid w)
-
--- a user is another than one who is none
-other_than : (users : List UserSlot) (uid other : ℕ) → is_user users uid ≡ false → is_user users other ≡ true → nat_eq other uid ≡ false
-other_than users uid other n h = elim (cases_Bool (nat_eq other uid)) [
-  | inl s ↦ absurd (false≢true (sym n ∙ ap (is_user users) (sym (eqb-true other uid s)) ∙ h))
-  | inr d ↦ d
-]
-
-unnamed : (users : List UserSlot) (uid : ℕ) (w : List ℕ) → is_user users uid ≡ false → list_all (is_user users) w ≡ true → names_user uid w ≡ false
-unnamed users uid [] n h = refl
-unnamed users uid (i ∷ w) n h =
-    let k = and_parts (is_user users i) (list_all (is_user users) w) h in
-    or_from (nat_eq i uid) (names_user uid w) (other_than users uid i n k.0) (unnamed users uid w n k.1)
 
 -- no state of a valid base names one who is no user of it
 none_names : (k : Catalog) (stmts : List Stmt) (uid : ℕ) → IsValid k stmts → is_user k.users uid ≡ false → (w : List ℕ) → is_state stmts w ≡ true → names_user uid w ≡ false

@@ -17,7 +17,7 @@ use Rattle.bdb_undo.specs.declared.change.Change.{Change}
 use Rattle.bdb_undo.specs.declared.change.Named.{Named}
 use Rattle.bdb_undo.specs.declared.change.Named.TheVariants.{Nothing, UserAdded, RelationAdded, UserDropped}
 use Rattle.bdb_undo.proofs.StatementLemmas.{exchanged, left_is_valid_after}
-use Rattle.bdb_update.specs.Calls.{StoresSized, are_apart, of_stmts, without_statements}
+use Rattle.bdb_update.specs.Calls.{StoresSized, are_apart, with_stmts, without_statements}
 use Rattle.bdb_update.specs.Keeping.{SameNumbers}
 use Rattle.bdb_update.specs.Replacing.{Come, Go, MayCome, MayGo, SomeMayCome, SomeMayGo}
 use Rattle.bdb_update.specs.Steps.{ComesThrough, GoesThrough}
@@ -92,7 +92,7 @@ module _ (t : Tables) (counts : Counts) (c : Change) where
   some_go_back s = record { base = s.to; may = back_go s.from s.to s.may }
 
   module _ (m : Tables) (mid : Counts) (went : Go t m counts mid c.come) where
-    back_left : (a b : Contents) → MayGoBack t counts c a b → StoresSized m mid (of_stmts b (without_statements b.stmts c.come))
+    back_left : (a b : Contents) → MayGoBack t counts c a b → StoresSized m mid (with_stmts b (without_statements b.stmts c.come))
     back_left a b h = went b (back_go a b h)
 
     back_name : (a b : Contents) → MayGoBack t counts c a b → MayLoseName m c.named (base_of a.catalog (without_statements b.stmts c.come))
@@ -139,10 +139,10 @@ module _ (t : Tables) (counts : Counts) (c : Change) where
   some_go_forth s = record { base = s.from; may = forth_go s.from s.to s.may }
 
   module _ (m : Tables) (mid : Counts) (went : Go t m counts mid c.gone) where
-    forth_left : (a b : Contents) → MayGoForth t counts c a b → StoresSized m mid (of_stmts a (without_statements a.stmts c.gone))
+    forth_left : (a b : Contents) → MayGoForth t counts c a b → StoresSized m mid (with_stmts a (without_statements a.stmts c.gone))
     forth_left a b h = went a (forth_go a b h)
 
-    forth_name : (a b : Contents) → MayGoForth t counts c a b → MayGetName m c.named (of_stmts a (without_statements a.stmts c.gone))
+    forth_name : (a b : Contents) → MayGoForth t counts c a b → MayGetName m c.named (with_stmts a (without_statements a.stmts c.gone))
     forth_name a b h =
         let l = h.leads in
         let xs = without_statements a.stmts c.gone in
@@ -157,7 +157,7 @@ module _ (t : Tables) (counts : Counts) (c : Change) where
         }
 
     pub some_get : SomeMayGoForth t counts c → SomeMayGetName m c.named
-    some_get s = record { base = of_stmts s.from (without_statements s.from.stmts c.gone); may = forth_name s.from s.to s.may }
+    some_get s = record { base = with_stmts s.from (without_statements s.from.stmts c.gone); may = forth_name s.from s.to s.may }
 
     module _ (k : Tables) (gets : GetsName m k c.named) where
       forth_come : (a b : Contents) → MayGoForth t counts c a b → MayCome k mid c.come (base_of b.catalog (without_statements a.stmts c.gone))

@@ -10,7 +10,7 @@ use Rattle.bdb_base.specs.Same.{same_text}
 use Rattle.bdb_base.specs.Bases.{Contents, IsValid, is_plain, is_valid_relation, are_distinct, user_names, with_user, with_relation}
 use Rattle.bdb_base.specs.Limits.{most_users, most_relations}
 use Rattle.bdb_base.proofs.BaseLemmas.{add_user_is_valid, add_relation_is_valid}
-use Rattle.bdb_base.proofs.SameLemmas.{same_text-Decides}
+use Rattle.bdb_base.specs.SameLemmas.{same_text-Decides}
 use Rattle.bdb_base.proofs.ClashLemmas.{turned}
 use Rattle.bdb_bind.specs.declared.bound.Bound.TheVariants.{CreateUser, CreateRelation}
 use Rattle.bdb_bind.specs.Fits.{fits_catalog}

@@ -10,13 +10,12 @@ use Rattle.bdb_canon.specs.declared.sizes.Counts.{Counts}
 use Rattle.bdb_keep.specs.Seen.{Seen, IsDropped, NeverFall}
 use Rattle.bdb_keep.specs.Tables.{Tables}
 use Rattle.bdb_tables.specs.Stored.{Stores}
-use Rattle.bdb_update.specs.Calls.{IsUntouched, HasStopped, HasFailed, size_passed}
+use Rattle.bdb_update.specs.Calls.{IsUntouched, HasStopped, HasFailed, size_passed, with_stmts}
 use Rattle.bdb_val.proofs.Calls.{HasGone, changing_err}
 use Rattle.bdb_session.specs.declared.reply.Reply.{Reply}
 use Rattle.bdb_session.specs.declared.stop.StopError.{StopError}
 use Rattle.bdb_session.specs.declared.stop.StopError.TheVariants.{Fault, Memory}
 use Rattle.bdb_session.specs.Known.{Known, Agrees}
-use Rattle.bdb_session.specs.Machine.{with_stmts}
 use Rattle.bdb_session.specs.Outcome.{State, Outcome}
 use Rattle.bdb_session.specs.Sizes.{passed_limit}
 use Rattle.bdb_session.specs.Within.{TellsWithin, IsStopped, sized}

@@ -22,14 +22,14 @@ use Rattle.bdb_tables.specs.Stored.{Stores}
 use Rattle.bdb_undo.specs.declared.change.Change.{Change}
 use Rattle.bdb_undo.specs.declared.change.Named.TheVariants.{Nothing}
 use Rattle.bdb_undo.proofs.ChangeLemmas.{takes_lead}
-use Rattle.bdb_update.specs.Calls.{StoresSized, are_apart, of_stmts, without_statements}
+use Rattle.bdb_update.specs.Calls.{StoresSized, are_apart, with_stmts, without_statements}
 use Rattle.bdb_update.specs.Replacing.{MayGo, SomeMayGo, Go}
 use Rattle.bdb_update.proofs.TakenLemmas.{others_are_left, taken_apart, taken_stand}
 use Rattle.bdb_val.proofs.Calls.{HasGone}
 use Rattle.bdb_session.specs.declared.reply.Reply.{Reply}
 use Rattle.bdb_session.specs.declared.stop.StopError.{StopError}
 use Rattle.bdb_session.specs.Known.{Known, Agrees, AgreesOnSome}
-use Rattle.bdb_session.specs.Machine.{bound_outcome, with_stmts}
+use Rattle.bdb_session.specs.Machine.{bound_outcome}
 use Rattle.bdb_session.specs.Noting.{made_of}
 use Rattle.bdb_session.specs.Outcome.{State, Done}
 use Rattle.bdb_session.specs.Within.{LeadsBy, TellsChange, TellsWithin, IsSaid, sized}
@@ -83,7 +83,7 @@ module _ (k : Known) (before : Counts) (t u : Tables) (w : List ℕ) (sign : Sig
 
   deleted : (v : Tables) (after : Counts) → Go u v before after gone → (s : State) → Agrees t (sized k before) s
       → StoresSized v after (with_stmts s.base (without_taken w sign rel conds s.base.stmts))
-  deleted v after go s a = subst (λ xs. StoresSized v after (of_stmts s.base xs)) (left_is s a) (go s.base (may_go s a))
+  deleted v after go s a = subst (λ xs. StoresSized v after (with_stmts s.base xs)) (left_is s a) (go s.base (may_go s a))
 
   pub delete_tells : (old mid new : Seen) (after : Counts) (n : ℕ) (result : Result Reply StopError) → old.kept ≡ t → AgreesOnSome t (sized k before) → HasGone old mid → Go u mid.kept before after gone
       → n ≡ length gone → ((s : State) → IsSaid k.catalog (Done (count_reply n) 0 s) mid new result)

@@ -35,7 +35,9 @@ use Rattle.bdb_session.proofs.ErrorTexts.{IsQuiet, begins_quiet, behind_quiet, e
 use Rattle.bdb_session.proofs.ErrorValid.{bases_stay_valid, bound_fits}
 use Rattle.bdb_session.specs.ErrorLaws.{HasValidBase, RefusalsAreErrors, RunsTellErrors, TellsRefusal}
 use Rattle.bdb_session.specs.ErrorLines.{has_error_line}
-use Rattle.bdb_session.specs.Machine.{base_without, becomes, bound_outcome, clashes_with, clashing, clashing_within, command_outcome, next_state, outcome_of, reading_outcome, refusal_from, tells, with_catalog, with_stmts, world_at}
+use Rattle.bdb_session.specs.Machine.{becomes, bound_outcome, clashes_with, clashing_within, command_outcome, next_state, outcome_of, reading_outcome, refusal_from, tells, with_catalog, world_at}
+use Rattle.bdb_leaving.specs.Leaving.{base_without_user}
+use Rattle.bdb_update.specs.Calls.{clash_of, with_stmts}
 use Rattle.bdb_session.specs.Outcome.{State, Outcome, Blank, Refused, Done, is_accepted, text_of, unless}
 use Rattle.bdb_session.specs.Reading.{reading_of}
 use Rattle.bdb_session.specs.Runs.{accepts_all, replies}
@@ -72,11 +74,11 @@ bound_quiet : (s : State) (b : Bound) → HasValidBase s → fits_catalog s.base
 bound_quiet s (bound.CreateUser name) v fits f = becomes_quiet s (with_catalog s.base (with_user s.base.catalog name)) ok_reply ok_quiet
 bound_quiet s (bound.CreateRelation def) v fits f = becomes_quiet s (with_catalog s.base (with_relation s.base.catalog def)) ok_reply ok_quiet
 bound_quiet s (bound.DropUser uid) v fits f =
-    becomes_quiet s (base_without s.base uid) (count_reply (length (statements_naming uid s.base.stmts))) (count_quiet (length (statements_naming uid s.base.stmts)))
+    becomes_quiet s (base_without_user s.base uid) (count_reply (length (statements_naming uid s.base.stmts))) (count_quiet (length (statements_naming uid s.base.stmts)))
 bound_quiet s (bound.Insert x) v fits f =
     let count = if stands s.base.stmts x then 0 else 1 in
     let next = with_stmts s.base (with_statement s.base.stmts x) in
-    unless_quiet (clashes_with (clashing s.base x)) (becomes s next (count_reply count)) (λ e. becomes_quiet s next (count_reply count) (count_quiet count))
+    unless_quiet (clashes_with (clash_of s.base x)) (becomes s next (count_reply count)) (λ e. becomes_quiet s next (count_reply count) (count_quiet count))
 bound_quiet s (bound.Delete path sign rel conds) v fits f =
     let count = length (taken_by path sign rel conds s.base.stmts) in
     becomes_quiet s (with_stmts s.base (without_taken path sign rel conds s.base.stmts)) (count_reply count) (count_quiet count)

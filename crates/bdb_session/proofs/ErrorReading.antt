@@ -1,4 +1,4 @@
--- What a piece says is printable, and never refused for want of memory.
+-- What a piece says is printable, and never refused because memory runs out.
 use Rattle.std.proofs.Common.{◌≡◌, ℕ, ℤ, Bool, true, false, not, ◌&&◌, ◌||◌, ◌==◌, nat_eq, nat_le, nat_lt, is_some, List, [], ◌∷◌, ◌++◌, length, map, Option, Some, None, refl, arith, unwrap_or}
 use Rattle.std.specs.List.{AllByRecursion, list_all, list_any}
 use Rattle.std.specs.Option.{option_and_then, option_map}
@@ -16,6 +16,7 @@ use Rattle.bdb_base.specs.declared.kinds.Value.TheVariants.{Int, Text}
 use Rattle.bdb_base.specs.Bases.{users_name}
 use Rattle.bdb_base.specs.Limits.{deepest_query, longest_word, most_columns, most_items, most_select_columns}
 use Rattle.bdb_base.specs.Same.{same_text}
+use Rattle.bdb_base.specs.Safety.{one_kind}
 use Rattle.bdb_base.proofs.ListLemmas.{list_all_weaker}
 use Rattle.bdb_bind.specs.declared.bound.BindError.{BindError}
 use Rattle.bdb_bind.specs.declared.bound.BindError.TheVariants as error
@@ -24,7 +25,6 @@ use Rattle.bdb_bind.specs.declared.bound.Bound.TheVariants as bound
 use Rattle.bdb_bind.specs.Binding.{bound_of}
 use Rattle.bdb_bind.specs.Firsts.{first_in, or_next, refused_if}
 use Rattle.bdb_bind.specs.Lines.{alias_line, alias_twice_line, arity_line, change_column, change_kind, column_line, cond_kinds, deep_line, first_repeated, fits_cond, fits_set, has_repeat, is_key_length, items_line, key_line, key_refused, kind_line, misfit, missing_column, path_repeats, path_too_deep, relation_line, repeat_line, set_kinds, taken_line, text_line, too_many_columns, unknown_relation, unknown_user, user_line, values_arity, values_kind}
-use Rattle.bdb_bind.specs.Kinds.{are_one_kind}
 use Rattle.bdb_bind.specs.Lookup.{has_column, is_user_name, number_of}
 use Rattle.bdb_bind.specs.Parts.{change_columns, cond_columns, depth_limit, is_long, new_columns, new_key, path_names, query_of, relation_name, some_text, tuple_values}
 use Rattle.bdb_bind.specs.QueryBinding.{bound_query, query_cond, query_item, query_side, query_who}
@@ -140,7 +140,7 @@ pub query_flat : (catalog : Catalog) (q : RawQuery) → IsPrintableQuery q → I
 unfolding bound_query
 query_flat catalog q h = record { items = items_flat catalog q.items q.items h.1; conds = conds_flat catalog.rels q.items q.conds h.2 }
 
--- ---- no command is refused for want of memory
+-- ---- no command is refused because memory runs out
 
 abbrev is_reason : BindError → Bool
 is_reason error.Memory = false
@@ -343,7 +343,7 @@ kind_line_reason catalog c =
     next_reason (change_kind (change_columns catalog.rels c) c) (option_and_then (query_kind catalog.rels) (query_of c)) (kind_reason (change_columns catalog.rels c) c)
     (then_reason (query_kind catalog.rels)
     (λ q. first_reason (cond_kind catalog.rels q.items)
-    (λ x. when_reason (not (are_one_kind (kind_named catalog.rels q.items x.left) (kind_of_side catalog.rels q.items x.right))) (error.Kind x.left.alias x.left.col) refl) q.conds) (query_of c))
+    (λ x. when_reason (not (one_kind (kind_named catalog.rels q.items x.left) (kind_of_side catalog.rels q.items x.right))) (error.Kind x.left.alias x.left.col) refl) q.conds) (query_of c))
 
 names_reason : (catalog : Catalog) (c : Command) → HasReason (names_refused catalog c)
 unfolding names_refused

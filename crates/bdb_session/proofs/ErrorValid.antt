@@ -34,7 +34,9 @@ use Rattle.bdb_session.proofs.LimitLemmas.{within_limits}
 use Rattle.bdb_session.proofs.OutcomeLemmas.{none_mapped}
 use Rattle.bdb_session.proofs.UpdateLemmas.{sets_fit, update_fits}
 use Rattle.bdb_session.specs.ErrorLaws.{BasesStayValid, HasValidBase}
-use Rattle.bdb_session.specs.Machine.{base_without, becomes, bound_outcome, clash_with, clashes_with, clashing, clashing_within, command_outcome, reading_outcome, refusal_from, tells, with_catalog, with_stmts}
+use Rattle.bdb_session.specs.Machine.{becomes, bound_outcome, clash_with, clashes_with, clashing_within, command_outcome, reading_outcome, refusal_from, tells, with_catalog}
+use Rattle.bdb_leaving.specs.Leaving.{base_without_user}
+use Rattle.bdb_update.specs.Calls.{clash_of, with_stmts}
 use Rattle.bdb_session.specs.Outcome.{State, Outcome, Done, state_after, unless}
 use Rattle.bdb_session.specs.Reading.{reading_of}
 use Rattle.bdb_session.specs.Sizes.{passed_limit, too_many}
@@ -61,7 +63,7 @@ becomes_leads s b text v h = becomes_by s b text (passed_limit b) v h
 tells_leads : (s : State) (lines : ℕ) (text : List ℕ) (answers : ℕ) → HasValidBase s → LeadsOn s (tells s lines text answers)
 tells_leads s lines text answers v = unless_leads s (too_many lines) (Done text answers s) v (λ e. v)
 
-insert_valid : (s : State) (x : Stmt) → HasValidBase s → fits_catalog s.base.catalog (Insert x) ≡ true → clashing s.base x ≡ None
+insert_valid : (s : State) (x : Stmt) → HasValidBase s → fits_catalog s.base.catalog (Insert x) ≡ true → clash_of s.base x ≡ None
     → passed_limit (with_stmts s.base (with_statement s.base.stmts x)) ≡ None → IsValid s.base.catalog (with_statement s.base.stmts x)
 insert_valid s x v fits apart room =
     (may_join s.base x v fits apart (sym (size_limit s.base (with_statement s.base.stmts x) v) ∙ room)).next
@@ -78,12 +80,12 @@ bound_leads : (s : State) (b : Bound) → HasValidBase s → fits_catalog s.base
 bound_leads s (CreateUser name) v fits = becomes_leads s (with_catalog s.base (with_user s.base.catalog name)) ok_reply v (λ e. user_is_valid s.base name v fits e)
 bound_leads s (CreateRelation def) v fits = becomes_leads s (with_catalog s.base (with_relation s.base.catalog def)) ok_reply v (λ e. relation_is_valid s.base def v fits e)
 bound_leads s (DropUser uid) v fits =
-    becomes_leads s (base_without s.base uid) (count_reply (length (statements_naming uid s.base.stmts))) v (λ e. drop_user_is_valid s.base.catalog s.base.stmts uid v fits)
+    becomes_leads s (base_without_user s.base uid) (count_reply (length (statements_naming uid s.base.stmts))) v (λ e. drop_user_is_valid s.base.catalog s.base.stmts uid v fits)
 bound_leads s (Insert x) v fits =
     let next = with_stmts s.base (with_statement s.base.stmts x) in
     let text = count_reply (if stands s.base.stmts x then 0 else 1) in
-    unless_leads s (clashes_with (clashing s.base x)) (becomes s next text) v
-    (λ apart. becomes_leads s next text v (λ room. insert_valid s x v fits (none_mapped clash_with (clashing s.base x) apart) room))
+    unless_leads s (clashes_with (clash_of s.base x)) (becomes s next text) v
+    (λ apart. becomes_leads s next text v (λ room. insert_valid s x v fits (none_mapped clash_with (clash_of s.base x) apart) room))
 bound_leads s (Delete path sign rel conds) v fits =
     becomes_leads s (with_stmts s.base (without_taken path sign rel conds s.base.stmts)) (count_reply (length (taken_by path sign rel conds s.base.stmts))) v
     (λ e. delete_is_valid s.base.catalog s.base.stmts path sign rel conds v)

@@ -13,7 +13,7 @@ use Rattle.bdb_session.specs.Known.{Known, Agrees, AgreesOnSome, Remembers, Reme
 use Rattle.bdb_session.specs.Machine.{reading_outcome}
 use Rattle.bdb_session.specs.Outcome.{State, Outcome, Blank, Refused, text_of, is_accepted, answer_count, start_from, state_after}
 use Rattle.bdb_session.specs.Reading.{reading_of}
-use Rattle.bdb_session.specs.Served.{IsReply, IsTold, Serves}
+use Rattle.bdb_session.specs.Served.{IsReply, AnswersAlone, Serves}
 use Rattle.bdb_session.specs.Undoing.{course_of_command, course_of_reading, next_by, next_state, outcome_by, outcome_of}
 use Rattle.bdb_session.specs.declared.course.Course.{Course}
 use Rattle.bdb_session.specs.declared.course.Course.TheVariants.{Back, Forth, Onward}
@@ -95,7 +95,7 @@ follows_as outcome known next there before now old new result e f h = record {
 -- what is refused follows, and leads nowhere
 pub refused_follows : (outcome : Timeline → Outcome) (next : Timeline → Timeline) (x : Refusal) (k : Known) (old : Seen) (result : Result Reply StopError)
     → ((t : Timeline) → Remembers old.kept k t → outcome t ≡ Refused x) → ((t : Timeline) → Remembers old.kept k t → next t ≡ t) → IsStill old
-    → IsTold k.catalog (Refused x) result → Follows outcome next k k old old result
+    → AnswersAlone k.catalog (Refused x) result → Follows outcome next k k old old result
 refused_follows outcome next x k old result is stays still told =
     follows_as outcome (λ t. Refused x) next (moved_by (λ s. Refused x)) k k old old result is
     (λ t r. stays t r ∙ sym (stays_moved (λ s. Refused x) t refl))
@@ -132,7 +132,7 @@ blank_follows outcome next k old r is stays still text accepted answers =
       };
     })
 
--- want of memory, with nothing done
+-- out of memory, with nothing done
 pub stop_follows : (outcome : Timeline → Outcome) (next : Timeline → Timeline) (k : Known) (old : Seen) (stop : StopError) → IsStill old → (stop ≡ Fault → ⊥)
     → Follows outcome next k k old old (Err stop)
 stop_follows outcome next k old stop still memory = record {
@@ -188,7 +188,7 @@ module _ (bytes : List ℕ) (k : Known) (old : Seen) where
   blank_piece r e still text accepted answers =
       blank_follows (λ t. outcome_of t (Piece bytes)) (λ t. next_state t (Piece bytes)) k old r (λ t. blank_is t bytes e) (λ t. blank_stays t bytes e) still text accepted answers
 
-  pub refused_piece : (x : Refusal) (result : Result Reply StopError) → reading_of bytes ≡ reading.Refused x → IsStill old → IsTold k.catalog (Refused x) result
+  pub refused_piece : (x : Refusal) (result : Result Reply StopError) → reading_of bytes ≡ reading.Refused x → IsStill old → AnswersAlone k.catalog (Refused x) result
       → FollowsEvent (Piece bytes) k k old old result
   refused_piece x result e still told =
       refused_follows (λ t. outcome_of t (Piece bytes)) (λ t. next_state t (Piece bytes)) x k old result (λ t m. refused_is t bytes x e) (λ t m. refused_stays t bytes x e) still told
@@ -201,7 +201,7 @@ said_piece bytes c before now old new result e h =
 
 -- an event that is refused as it stands
 pub refused_event : (e : Event) (x : Refusal) (k : Known) (old : Seen) (result : Result Reply StopError) → ((t : Timeline) → outcome_of t e ≡ Refused x)
-    → ((t : Timeline) → next_state t e ≡ t) → IsStill old → IsTold k.catalog (Refused x) result → FollowsEvent e k k old old result
+    → ((t : Timeline) → next_state t e ≡ t) → IsStill old → AnswersAlone k.catalog (Refused x) result → FollowsEvent e k k old old result
 refused_event e x k old result is stays still told = refused_follows (λ t. outcome_of t e) (λ t. next_state t e) x k old result (λ t m. is t) (λ t m. stays t) still told
 
 pub event_as : (e known : Event) (before now : Known) (old new : Seen) (result : Result Reply StopError) → e ≡ known → FollowsEvent known before now old new result

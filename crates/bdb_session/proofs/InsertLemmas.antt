@@ -24,7 +24,7 @@ use Rattle.bdb_tables.proofs.SignLemmas.{put_stands}
 use Rattle.bdb_undo.specs.declared.change.Change.{Change}
 use Rattle.bdb_undo.specs.declared.change.Named.TheVariants.{Nothing}
 use Rattle.bdb_undo.proofs.ChangeLemmas.{put_leads}
-use Rattle.bdb_update.specs.Calls.{MayMeet, SomeMayMeet, Adds, IsAdding, clash_of, size_passed, with_one}
+use Rattle.bdb_update.specs.Calls.{MayMeet, SomeMayMeet, Adds, IsAdding, clash_of, size_passed, with_one, with_stmts}
 use Rattle.bdb_update.specs.declared.answer.Added.TheVariants.{New, Already}
 use Rattle.bdb_update.specs.declared.answer.UpdateError.{UpdateError}
 use Rattle.bdb_update.specs.declared.answer.UpdateError.TheVariants as change
@@ -34,7 +34,7 @@ use Rattle.bdb_session.specs.declared.reply.Reply.{Reply}
 use Rattle.bdb_session.specs.declared.stop.StopError.{StopError}
 use Rattle.bdb_session.specs.declared.stop.StopError.TheVariants.{Fault, Memory}
 use Rattle.bdb_session.specs.Known.{Known, Agrees, AgreesOnSome}
-use Rattle.bdb_session.specs.Machine.{bound_outcome, becomes, clash_with, clashes_with, clashing, with_stmts}
+use Rattle.bdb_session.specs.Machine.{bound_outcome, becomes, clash_with, clashes_with}
 use Rattle.bdb_session.specs.Outcome.{State, Refused, Done}
 use Rattle.bdb_session.specs.Within.{TellsChange, TellsWithin, IsSaid, Refuses, sized}
 use Rattle.bdb_session.proofs.ChangeFacts.{size_limit, change_stopped, change_failed, untouched_agrees}
@@ -58,7 +58,7 @@ nothing_found p [] e = refl
 nothing_found p (x ∷ xs) e = let k = or_parts (p x) (list_any p xs) e in cond-false (p x) (Some x) (find p xs) k.0 ∙ nothing_found p xs k.1
 
 -- a statement of a valid base clashes with none of it
-standing_is_apart : (b : Contents) (x : Stmt) → IsValid b.catalog b.stmts → stands b.stmts x ≡ true → clashing b x ≡ None
+standing_is_apart : (b : Contents) (x : Stmt) → IsValid b.catalog b.stmts → stands b.stmts x ≡ true → clash_of b x ≡ None
 standing_is_apart b x valid there =
     let keys = key_lengths b.catalog.rels in
     nothing_found (λ y. same_path y.path x.path && clash keys x.tuple x.sign y.tuple y.sign) b.stmts
@@ -71,7 +71,7 @@ insert_text s x = count_reply (if stands s.base.stmts x then 0 else 1)
 
 -- an insert that clashes with nothing
 insert_apart : (s : State) (x : Stmt) → clash_of s.base x ≡ None → bound_outcome s (Insert x) ≡ becomes s (with_one s.base x) (insert_text s x)
-insert_apart s x e = unless_none (clashes_with (clashing s.base x)) (becomes s (with_one s.base x) (insert_text s x)) (ap clashes_with e)
+insert_apart s x e = unless_none (clashes_with (clash_of s.base x)) (becomes s (with_one s.base x) (insert_text s x)) (ap clashes_with e)
 
 insert_new : (s : State) (x : Stmt) → IsValid s.base.catalog s.base.stmts → clash_of s.base x ≡ None → size_passed (counts_of (with_one s.base x)) ≡ None → stands s.base.stmts x ≡ false
     → bound_outcome s (Insert x) ≡ Done (count_reply 1) 0 (record s { base = with_one s.base x })
@@ -87,7 +87,7 @@ insert_already s x valid there =
     ∙ ap (λ (k : Bool). Done (count_reply (if k then 0 else 1)) 0 s) there
 
 insert_clashes : (s : State) (x least : Stmt) → clash_of s.base x ≡ Some least → bound_outcome s (Insert x) ≡ Refused (clash_with least)
-insert_clashes s x least e = unless_some (clashes_with (clashing s.base x)) (clash_with least) (becomes s (with_one s.base x) (insert_text s x)) (ap clashes_with e)
+insert_clashes s x least e = unless_some (clashes_with (clash_of s.base x)) (clash_with least) (becomes s (with_one s.base x) (insert_text s x)) (ap clashes_with e)
 
 insert_fills : (s : State) (x : Stmt) (what : What) → IsValid s.base.catalog s.base.stmts → clash_of s.base x ≡ None → size_passed (counts_of (with_one s.base x)) ≡ Some what
     → bound_outcome s (Insert x) ≡ Refused (refusal.Full what)

@@ -13,7 +13,7 @@ use Rattle.bdb_bind.specs.declared.bound.Bound.TheVariants.{DropUser}
 use Rattle.bdb_canon.specs.declared.sizes.Counts.{Counts}
 use Rattle.bdb_keep.specs.Seen.{Seen}
 use Rattle.bdb_keep.specs.Tables.{Tables}
-use Rattle.bdb_leaving.specs.Leaving.{IsWithoutUser, MayDropUser, SomeMayDropUser, UserLeaves}
+use Rattle.bdb_leaving.specs.Leaving.{IsWithoutUser, MayDropUser, SomeMayDropUser, UserLeaves, base_without_user}
 use Rattle.bdb_render.specs.Replies.{count_reply}
 use Rattle.bdb_undo.specs.declared.change.Change.{Change}
 use Rattle.bdb_undo.specs.declared.change.Named.TheVariants.{UserDropped}
@@ -22,7 +22,7 @@ use Rattle.bdb_val.proofs.Calls.{HasGone}
 use Rattle.bdb_session.specs.declared.reply.Reply.{Reply}
 use Rattle.bdb_session.specs.declared.stop.StopError.{StopError}
 use Rattle.bdb_session.specs.Known.{Known, Agrees, AgreesOnSome}
-use Rattle.bdb_session.specs.Machine.{base_without, bound_outcome}
+use Rattle.bdb_session.specs.Machine.{bound_outcome}
 use Rattle.bdb_session.specs.Outcome.{State, Done}
 use Rattle.bdb_session.specs.Within.{LeadsBy, TellsChange, TellsWithin, IsSaid}
 use Rattle.bdb_session.proofs.LimitLemmas.{no_limit}
@@ -54,7 +54,7 @@ dropped uid name xs = record { named = UserDropped uid name; gone = xs; come = [
 
 -- what the base becomes
 abbrev left_by_user : ℕ → State → State
-left_by_user uid s = record s { base = base_without s.base uid }
+left_by_user uid s = record s { base = base_without_user s.base uid }
 
 module _ (k : Known) (before after : Counts) (uid : ℕ) (went : List Stmt) (old mid : Seen) (fits : fits_catalog k.catalog (DropUser uid) ≡ true) (same : before ≡ k.counts)
     (leaves : UserLeaves old.kept mid.kept before after uid went) where

@@ -10,7 +10,7 @@ use Rattle.bdb_base.specs.Bases.{Contents, IsValid, empty_contents}
 use Rattle.bdb_base.specs.Causes.{Rises}
 use Rattle.bdb_base.specs.declared.kinds.RelDef.{RelDef}
 use Rattle.bdb_base.specs.declared.kinds.UserSlot.{UserSlot}
-use Rattle.bdb_base.proofs.SameLemmas.{same_text-Decides}
+use Rattle.bdb_base.specs.SameLemmas.{same_text-Decides}
 use Rattle.bdb_canon.specs.declared.sizes.Counts.{Counts}
 use Rattle.bdb_catalog.specs.Bases.{StoresValid, StoresSome}
 use Rattle.bdb_catalog.specs.Opening.{StandFor, StandForSome, StoredFormerly, IsPartOf}
@@ -22,7 +22,6 @@ use Rattle.bdb_keep.specs.Seen.{Seen, IsStill, NeverFall, Steps, Unchanged}
 use Rattle.bdb_keep.specs.Tables.{Tables, bytes_cmp}
 use Rattle.bdb_key.specs.Bytes.{num_bytes}
 use Rattle.bdb_stored.specs.Counting.{TellsCounts}
-use Rattle.bdb_stored.specs.Valid as stored
 use Rattle.bdb_tables.specs.Codec.{place}
 use Rattle.bdb_tables.specs.InUse.{meta_codec}
 use Rattle.bdb_tables.specs.Stored.{Stores}
@@ -35,19 +34,13 @@ use Rattle.bdb_session.specs.Opening.{is_former, opening, KnowsStored, Opens}
 
 -- ---- what is known of the tables
 
-pub some_stored : (t : Tables) → StoresSome t → stored.StoreSome t
-some_stored t h = record { base = h.base; is = record { stored = h.stores.stored; valid = h.stores.valid } }
-
-pub stored_valid : (t : Tables) (b : Contents) → stored.StoresValid t b → StoresValid t b
-stored_valid t b h = record { stored = h.stored; valid = h.valid }
-
 pub knows_parts : (t : Tables) (users : List UserSlot) (rels : List RelDef) (counts : Counts) → IsPartOf (λ b. b.catalog.users) t users → IsPartOf (λ b. b.catalog.rels) t rels
     → TellsCounts t counts → KnowsStored t (record { catalog = record { rels = rels; users = users }; counts = counts; history = nothing_kept })
 knows_parts t users rels counts u r c = λ b h. record {
   agrees = record {
     base = h;
     catalog = ap (λ (us : List UserSlot). record { rels = rels; users = us }) (u b h) ∙ ap (λ (rs : List RelDef). record { rels = rs; users = b.catalog.users }) (r b h);
-    counts = c b (record { stored = h.stored; valid = h.valid });
+    counts = c b h;
   };
   history = nothing_kept_starts b;
 }
@@ -66,8 +59,8 @@ remembers_empty t h = record {
 }
 
 -- a session over what was just written knows the base that was
-pub agrees_written : (t u : Tables) (b : Contents) (k : Known) → stored.StoresValid t b → u ≡ t → KnowsStored t k → Remembers u k (started b)
-agrees_written t u b k h same knows = subst (λ (x : Tables). Remembers x k (started b)) (sym same) (knows b (stored_valid t b h))
+pub agrees_written : (t u : Tables) (b : Contents) (k : Known) → StoresValid t b → u ≡ t → KnowsStored t k → Remembers u k (started b)
+agrees_written t u b k h same knows = subst (λ (x : Tables). Remembers x k (started b)) (sym same) (knows b h)
 
 -- ---- reads where nothing runs
 

@@ -23,7 +23,9 @@ use Rattle.bdb_render.specs.Replies.{count_reply, ok_reply, rows_reply}
 use Rattle.bdb_render.specs.Tables.{tables_reply}
 use Rattle.bdb_render.specs.declared.refusal.Refusal.{Refusal}
 use Rattle.bdb_render.specs.declared.refusal.Refusal.TheVariants as refusal
-use Rattle.bdb_session.specs.Machine.{refusal_from, base_without, becomes, bound_outcome, clashes_with, clashing, clashing_within, command_outcome, tells, with_catalog, with_stmts}
+use Rattle.bdb_session.specs.Machine.{refusal_from, becomes, bound_outcome, clashes_with, clashing_within, command_outcome, tells, with_catalog}
+use Rattle.bdb_leaving.specs.Leaving.{base_without_user}
+use Rattle.bdb_update.specs.Calls.{clash_of, with_stmts}
 use Rattle.bdb_session.specs.Outcome.{State, Outcome, Refused, Done, unless, is_accepted, commit_count, state_after}
 use Rattle.bdb_session.specs.Sizes.{passed_limit, too_many}
 use Rattle.bdb_syntax.specs.declared.command.Command.{Command}
@@ -88,9 +90,9 @@ changed s path sign rel sets conds = with_stmts s.base (updated path sign rel co
 pub bound_counts : (b : Bound) (s : State) → is_accepted (bound_outcome s b) ≡ true → commit_count (bound_outcome s b) ≡ 1
 bound_counts (CreateUser name) s = becomes_counts s (with_catalog s.base (with_user s.base.catalog name)) ok_reply
 bound_counts (CreateRelation def) s = becomes_counts s (with_catalog s.base (with_relation s.base.catalog def)) ok_reply
-bound_counts (DropUser uid) s = becomes_counts s (base_without s.base uid) (count_reply (length (statements_naming uid s.base.stmts)))
+bound_counts (DropUser uid) s = becomes_counts s (base_without_user s.base uid) (count_reply (length (statements_naming uid s.base.stmts)))
 bound_counts (Insert x) s =
-    unless_counts (clashes_with (clashing s.base x)) (becomes s (inserted s x) (count_reply (if stands s.base.stmts x then 0 else 1)))
+    unless_counts (clashes_with (clash_of s.base x)) (becomes s (inserted s x) (count_reply (if stands s.base.stmts x then 0 else 1)))
     (becomes_counts s (inserted s x) (count_reply (if stands s.base.stmts x then 0 else 1)))
 bound_counts (Delete path sign rel conds) s =
     becomes_counts s (with_stmts s.base (without_taken path sign rel conds s.base.stmts)) (count_reply (length (taken_by path sign rel conds s.base.stmts)))

@@ -9,7 +9,7 @@ use Rattle.bdb_session.specs.declared.stop.StopError.{StopError}
 use Rattle.bdb_session.specs.declared.stop.StopError.TheVariants.{Fault}
 use Rattle.bdb_session.specs.Known.{Known, Agrees, AgreesOnSome}
 use Rattle.bdb_session.specs.Outcome.{State, Outcome, Refused, text_of, state_after}
-use Rattle.bdb_session.specs.Served.{Ends, IsTold, IsServed, Serves}
+use Rattle.bdb_session.specs.Served.{Ends, AnswersAlone, IsServed, Serves}
 
 pub nothing_falls : (old : Seen) → NeverFall old old
 nothing_falls old = record { faults = omega arith; reads = omega arith; writes = omega arith; commits = omega arith }
@@ -35,7 +35,7 @@ serves_as outcome known before now old new result is h = record {
 
 -- what is refused leaves all as it was
 refused_served : (s : State) (x : Refusal) (k : Known) (old new : Seen) (result : Result Reply StopError) → Agrees old.kept k s → Unchanged old new → NeverFall old new
-    → IsTold k.catalog (Refused x) result → IsServed s (Refused x) k old new result
+    → AnswersAlone k.catalog (Refused x) result → IsServed s (Refused x) k old new result
 refused_served s x k old new (Ok r) a same fall told = record {
   reply = record { text = told.reply.text ∙ ap (λ c. text_of c (Refused x)) a.catalog; accepted = told.reply.accepted; answers = told.reply.answers };
   next = still_agrees old.kept new.kept k s same.kept a;
@@ -45,7 +45,7 @@ refused_served s x k old new (Ok r) a same fall told = record {
 refused_served s x k old new (Err stop) a same fall told = record { reply = tt; next = tt; commits = tt; alone = tt }
 
 refused_ends : (x : Refusal) (k : Known) (old new : Seen) (result : Result Reply StopError) → IsStill new → Unchanged old new → NeverFall old new
-    → IsTold k.catalog (Refused x) result → Ends k k old new result
+    → AnswersAlone k.catalog (Refused x) result → Ends k k old new result
 refused_ends x k old new (Ok r) still same fall told = record {
   same = tt;
   still = still;
@@ -62,7 +62,7 @@ refused_ends x k old new (Err stop) still same fall told = record {
 }
 
 pub refusal_serves : (outcome : State → Outcome) (x : Refusal) (k : Known) (old new : Seen) (result : Result Reply StopError)
-    → ((s : State) → Agrees old.kept k s → outcome s ≡ Refused x) → IsStill new → Unchanged old new → NeverFall old new → IsTold k.catalog (Refused x) result
+    → ((s : State) → Agrees old.kept k s → outcome s ≡ Refused x) → IsStill new → Unchanged old new → NeverFall old new → AnswersAlone k.catalog (Refused x) result
     → Serves outcome k k old new result
 refusal_serves outcome x k old new result is still same fall told = record {
   served = λ s a. served_as s (outcome s) (Refused x) k old new result (is s a) (refused_served s x k old new result a same fall told);
@@ -71,7 +71,7 @@ refusal_serves outcome x k old new result is still same fall told = record {
 
 -- where nothing was done at all
 pub refused_serves : (outcome : State → Outcome) (x : Refusal) (k : Known) (old : Seen) (result : Result Reply StopError)
-    → ((s : State) → Agrees old.kept k s → outcome s ≡ Refused x) → IsStill old → IsTold k.catalog (Refused x) result → Serves outcome k k old old result
+    → ((s : State) → Agrees old.kept k s → outcome s ≡ Refused x) → IsStill old → AnswersAlone k.catalog (Refused x) result → Serves outcome k k old old result
 refused_serves outcome x k old result is still told = refusal_serves outcome x k old old result is still (as_it_was old) (nothing_falls old) told
 
 -- an Err that leaves all as it was

@@ -23,7 +23,8 @@ use Rattle.bdb_session.specs.declared.stop.StopError.{StopError}
 use Rattle.bdb_session.proofs.LineLemmas.{lines_are}
 use Rattle.bdb_session.proofs.OutcomeLemmas.{unless_some, unless_none}
 use Rattle.bdb_session.proofs.WithinLemmas.{read_tells}
-use Rattle.bdb_stored.specs.Valid.{IsPartOf, StoreSome}
+use Rattle.bdb_catalog.specs.Bases.{StoresSome}
+use Rattle.bdb_catalog.specs.Opening.{IsPartOf}
 use Rattle.bdb_update.proofs.CallLemmas.{gone_itself}
 
 -- how many lines there are, by what a session knows
@@ -64,5 +65,5 @@ tables_tell k canon old mid new result some few is fall kept goes said =
     read_tells (λ s. bound_outcome s ShowTables) (λ s. Done (tables_reply k.catalog canon) 0 s) k old mid new result some (record { goes = goes; counts = fall }) kept
     (λ s a. few_lines old.kept k s canon a (is s.base (record { stored = a.base.stored; valid = a.base.valid })) few) (λ s. refl) said
 
-pub some_is_stored : (t : Tables) (k : Known) → AgreesOnSome t k → StoreSome t
-some_is_stored t k h = record { base = h.state.base; is = record { stored = h.agrees.base.stored; valid = h.agrees.base.valid } }
+pub some_is_stored : (t : Tables) (k : Known) → AgreesOnSome t k → StoresSome t
+some_is_stored t k h = record { base = h.state.base; stores = record { stored = h.agrees.base.stored; valid = h.agrees.base.valid } }

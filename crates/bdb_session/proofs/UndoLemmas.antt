@@ -29,7 +29,7 @@ use Rattle.bdb_session.specs.Bounds.{RefusedUnwritten}
 use Rattle.bdb_session.specs.Following.{Follows, IsFollowed, IsStepTo, TellsStep, gone_back, gone_forth}
 use Rattle.bdb_session.specs.Known.{Known, Agrees, AgreesOnSome, Remembers, RemembersSome}
 use Rattle.bdb_session.specs.Outcome.{State, Outcome, Blank, Refused, Done, is_accepted, commit_count, start_from}
-use Rattle.bdb_session.specs.Served.{IsReply, Serves, IsTold}
+use Rattle.bdb_session.specs.Served.{IsReply, Serves, AnswersAlone}
 use Rattle.bdb_session.specs.Undoing.{led, stepped}
 use Rattle.bdb_session.specs.declared.news.News.{News}
 use Rattle.bdb_session.specs.Within.{IsKept, IsUndone, IsSaid, Settles, TellsWithin, learned, noted_by}
@@ -79,7 +79,7 @@ pub no_redo : (k : Known) (t : Tables) (l : Timeline) → length k.history.redos
 no_redo k t l e r = nothing_to_redo k.history l r.history (none_of k.history.redos e)
 
 pub nowhere : (x : Refusal) (step : Timeline → Option Timeline) (k : Known) (old : Seen) (result : Result Reply StopError)
-    → ((t : Timeline) → Remembers old.kept k t → step t ≡ None) → IsStill old → IsTold k.catalog (Refused x) result
+    → ((t : Timeline) → Remembers old.kept k t → step t ≡ None) → IsStill old → AnswersAlone k.catalog (Refused x) result
     → Follows (λ t. stepped x (step t)) (λ t. led t (step t)) k k old old result
 nowhere x step k old result none still told =
     refused_follows (λ t. stepped x (step t)) (λ t. led t (step t)) x k old result (λ t r. ap (stepped x) (none t r)) (λ t r. ap (led t) (none t r)) still told

@@ -25,9 +25,9 @@ use Rattle.bdb_base.specs.declared.kinds.Value.{Value}
 use Rattle.bdb_base.specs.declared.kinds.What.{What}
 use Rattle.bdb_base.specs.declared.kinds.What.TheVariants.{Tuples}
 use Rattle.bdb_base.specs.declared.tuple.Tuple.{Tuple}
+use Rattle.bdb_base.specs.Queries.{columns_of_definition}
 use Rattle.bdb_base.proofs.ListLemmas.{list_all-filter}
 use Rattle.bdb_bind.specs.Fits.{fits_catalog, fits_found, fits_path, set_fits, cond_fits, columns_numbered}
-use Rattle.bdb_bind.specs.Lookup.{columns_in}
 use Rattle.bdb_bind.specs.declared.bound.Bound.TheVariants.{Update}
 use Rattle.bdb_canon.specs.Sizes.{counts_of}
 use Rattle.bdb_canon.specs.declared.sizes.Counts.{Counts}
@@ -40,7 +40,7 @@ use Rattle.bdb_undo.specs.Changes.{missing_from}
 use Rattle.bdb_undo.specs.declared.change.Change.{Change}
 use Rattle.bdb_undo.specs.declared.change.Named.TheVariants.{Nothing}
 use Rattle.bdb_undo.proofs.ChangeLemmas.{update_leads}
-use Rattle.bdb_update.specs.Calls.{MayChange, SomeMayChange, Changes, IsUntouched, clash_within, of_stmts, size_passed, with_others}
+use Rattle.bdb_update.specs.Calls.{MayChange, SomeMayChange, Changes, IsUntouched, clash_within, with_stmts, size_passed, with_others}
 use Rattle.bdb_update.specs.declared.answer.UpdateError.{UpdateError}
 use Rattle.bdb_update.specs.declared.answer.UpdateError.TheVariants as change
 use Rattle.bdb_update.proofs.NextLemmas.{MayReplace, next_is_valid, no_more_worlds}
@@ -50,7 +50,7 @@ use Rattle.bdb_session.specs.declared.reply.Reply.{Reply}
 use Rattle.bdb_session.specs.declared.stop.StopError.{StopError}
 use Rattle.bdb_session.specs.declared.stop.StopError.TheVariants.{Fault, Memory}
 use Rattle.bdb_session.specs.Known.{Known, Agrees, AgreesOnSome}
-use Rattle.bdb_session.specs.Machine.{bound_outcome, becomes, clash_with, clashes_with, clashing_within, with_stmts}
+use Rattle.bdb_session.specs.Machine.{bound_outcome, becomes, clash_with, clashes_with, clashing_within}
 use Rattle.bdb_session.specs.Noting.{MayMeetEach, SomeMayMeetEach, Replaces, made_of}
 use Rattle.bdb_session.specs.Outcome.{State, Outcome, Refused, Done, unless}
 use Rattle.bdb_session.specs.Within.{LeadsBy, TellsChange, TellsWithin, IsSaid, Refuses, sized}
@@ -77,7 +77,7 @@ fits_set_value (c ∷ cs) (x ∷ xs) (suc i) v h k =
     let parts = and_parts (fits_kind c.kind x) (fits_columns cs xs) h in
     and_from (fits_kind c.kind x) (fits_columns cs (slice_set xs i v)) parts.0 (fits_set_value cs xs i v parts.1 k)
 
-fits_definition_set : (o : Option RelDef) (vals : List Value) (i : ℕ) (v : Value) → fits_definition o vals ≡ true → fits_found (slice_get (columns_in o) i) v ≡ true
+fits_definition_set : (o : Option RelDef) (vals : List Value) (i : ℕ) (v : Value) → fits_definition o vals ≡ true → fits_found (slice_get (columns_of_definition o) i) v ≡ true
     → fits_definition o (slice_set vals i v) ≡ true
 fits_definition_set None vals i v h k = h
 fits_definition_set (Some def) vals i v h k = fits_set_value def.cols vals i v h k
@@ -88,7 +88,7 @@ pub sets_fit : (rels : List RelDef) (rel : ℕ) (sets : List SetCol) → list_al
 sets_fit rels rel [] h t r f = f
 sets_fit rels rel (s ∷ ss) h t r f =
     let parts = and_parts (set_fits (columns_numbered rels rel) s) (list_all (set_fits (columns_numbered rels rel)) ss) h in
-    let here : fits_found (slice_get (columns_in (slice_get rels t.rel)) s.col) s.to ≡ true = ap (λ n. fits_found (slice_get (columns_in (slice_get rels n)) s.col) s.to) r ∙ parts.0 in
+    let here : fits_found (slice_get (columns_of_definition (slice_get rels t.rel)) s.col) s.to ≡ true = ap (λ n. fits_found (slice_get (columns_of_definition (slice_get rels n)) s.col) s.to) r ∙ parts.0 in
     sets_fit rels rel ss parts.1 (with_column t s) r (fits_definition_set (slice_get rels t.rel) t.vals s.col s.to f here)
 
 -- ---- the statements that come
@@ -180,8 +180,8 @@ module _ (k : Known) (before : Counts) (t u : Tables) (w : List ℕ) (sign : Sig
   others_are_updated : (s : State) → Agrees t (sized k before) s → with_others s.base gone come ≡ with_stmts s.base (updated w sign rel conds sets s.base.stmts)
   others_are_updated s a =
       let is = gone_is k before t u w sign rel conds gone path_fits taken same s a in
-      ap (λ xs. of_stmts s.base (with_statements xs come)) (left_is k before t u w sign rel conds gone path_fits taken same s a)
-      ∙ ap (λ xs. of_stmts s.base (with_statements (without_taken w sign rel conds s.base.stmts) xs)) (changes ∙ ap (map (changed_statement sets)) is)
+      ap (λ xs. with_stmts s.base (with_statements xs come)) (left_is k before t u w sign rel conds gone path_fits taken same s a)
+      ∙ ap (λ xs. with_stmts s.base (with_statements (without_taken w sign rel conds s.base.stmts) xs)) (changes ∙ ap (map (changed_statement sets)) is)
 
   abbrev next : State → Contents
   next s = with_others s.base gone come

@@ -70,7 +70,7 @@ pub table_stops : {T : Type 0} (outcome : State → Outcome) (before now : Known
     → IsChanging {T = T} old new (Err error) tab.Fault → TellsWithin outcome before now old new (Err stop)
 table_stops {T} outcome before now old new error stop same h = tables_stop {T = T} outcome before now old old new error stop same (gone_itself old) h
 
--- a step that was undone for want of memory, after calls that went on
+-- a step that was undone as memory ran out, after calls that went on
 pub memory_tells : (outcome : State → Outcome) (before now : Known) (old mid new : Seen) → HasGone old mid → IsUndo mid new → TellsWithin outcome before now old new (Err Memory)
 memory_tells outcome before now old mid new gone undo =
     stop_tells outcome before now old new Memory (changing_undone {U = Reply} old mid new Memory Fault gone undo (λ e. absurd cc))

@@ -5,11 +5,10 @@ use Rattle.bdb_base.specs.declared.kinds.Catalog.{Catalog}
 use Rattle.bdb_base.specs.declared.kinds.Query.{Query}
 use Rattle.bdb_base.specs.declared.kinds.Stmt.{Stmt}
 use Rattle.bdb_base.specs.declared.kinds.World.{World}
-use Rattle.bdb_base.specs.Bases.{Contents, key_lengths, with_statement, with_user, without_user, with_relation, stands}
-use Rattle.bdb_base.specs.Worlds.{least_clash}
+use Rattle.bdb_base.specs.Bases.{Contents, key_lengths, with_statement, with_user, with_relation, stands}
 use Rattle.bdb_base.specs.Queries.{answers_of}
 use Rattle.bdb_base.specs.WorldRows.{world_of}
-use Rattle.bdb_base.specs.Changes.{taken_by, without_taken, updated, first_clashing, statements_naming, without_statements_of}
+use Rattle.bdb_base.specs.Changes.{taken_by, without_taken, updated, first_clashing, statements_naming}
 use Rattle.bdb_syntax.specs.declared.command.Command.{Command}
 use Rattle.bdb_bind.specs.declared.bound.Bound.{Bound}
 use Rattle.bdb_bind.specs.declared.bound.Bound.TheVariants.{CreateUser, CreateRelation, DropUser, Insert, Delete, Update, Select, Explain, ShowWorld, Why, ShowTables, Undo, Redo}
@@ -27,6 +26,8 @@ use Rattle.bdb_render.specs.Tables.{tables_reply}
 use Rattle.bdb_render.specs.Replies.{ok_reply, count_reply, world_reply, rows_reply}
 use Rattle.bdb_why.specs.Certificates.{why_of}
 use Rattle.bdb_why.specs.declared.kinds.Why.{Why as Certificate}
+use Rattle.bdb_update.specs.Calls.{clash_of, with_stmts}
+use Rattle.bdb_leaving.specs.Leaving.{base_without_user}
 use Rattle.bdb_session.specs.declared.reading.Reading.{Reading}
 use Rattle.bdb_session.specs.declared.reading.Reading.TheVariants as reading
 use Rattle.bdb_session.specs.declared.event.Event.{Event}
@@ -35,7 +36,7 @@ use Rattle.bdb_session.specs.Outcome.{State, Outcome, Blank, Refused, Done, unle
 use Rattle.bdb_session.specs.Reading.{reading_of}
 use Rattle.bdb_session.specs.Sizes.{passed_limit, too_many}
 
--- a refusal to bind, as a refusal of the command; want of memory is none
+-- a refusal to bind, as a refusal of the command; running out of memory is none
 abbrev pub refusal_from : BindError → Option Refusal
 refusal_from bind.Text = Some refusal.Text
 refusal_from bind.Items = Some refusal.Items
@@ -56,16 +57,9 @@ refusal_from bind.Memory = None
 
 -- ---- the words of the machine
 
--- the base with another catalog, and the base with other statements
+-- the base with another catalog
 abbrev pub with_catalog : Contents → Catalog → Contents
 with_catalog b catalog = record b { catalog = catalog }
-
-abbrev pub with_stmts : Contents → List Stmt → Contents
-with_stmts b stmts = record b { stmts = stmts }
-
--- the base without a user, and without each statement whose path names him
-abbrev pub base_without : Contents → ℕ → Contents
-base_without b uid = record { catalog = without_user b.catalog uid; stmts = without_statements_of uid b.stmts }
 
 -- the clash with a statement, where there is one
 abbrev pub clash_with : Stmt → Refusal
@@ -74,10 +68,7 @@ clash_with x = refusal.Clash x.sign x.tuple
 abbrev pub clashes_with : Option Stmt → Option Refusal
 clashes_with found = option_map clash_with found
 
--- the least statement of its path that a statement clashes with, and the least of a path that clashes with another
-abbrev pub clashing : Contents → Stmt → Option Stmt
-clashing b x = least_clash (key_lengths b.catalog.rels) b.stmts x.path x.tuple x.sign
-
+-- the least statement of a path that clashes with another of it
 abbrev pub clashing_within : Contents → List ℕ → Option Stmt
 clashing_within b path = first_clashing (key_lengths b.catalog.rels) b.stmts path
 
@@ -106,9 +97,9 @@ plan_reply c q = plan_text c q (plan_of c.rels q) ++ count_reply (length (plan_o
 abbrev pub bound_outcome : State → Bound → Outcome
 bound_outcome s (CreateUser name) = becomes s (with_catalog s.base (with_user s.base.catalog name)) ok_reply
 bound_outcome s (CreateRelation def) = becomes s (with_catalog s.base (with_relation s.base.catalog def)) ok_reply
-bound_outcome s (DropUser uid) = becomes s (base_without s.base uid) (count_reply (length (statements_naming uid s.base.stmts)))
+bound_outcome s (DropUser uid) = becomes s (base_without_user s.base uid) (count_reply (length (statements_naming uid s.base.stmts)))
 bound_outcome s (Insert x) =
-    unless (clashes_with (clashing s.base x))
+    unless (clashes_with (clash_of s.base x))
     (becomes s (with_stmts s.base (with_statement s.base.stmts x)) (count_reply (if stands s.base.stmts x then 0 else 1)))
 bound_outcome s (Delete path sign rel conds) =
     becomes s (with_stmts s.base (without_taken path sign rel conds s.base.stmts)) (count_reply (length (taken_by path sign rel conds s.base.stmts)))

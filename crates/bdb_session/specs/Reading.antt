@@ -15,12 +15,14 @@ abbrev pub reading_of_command : Option Command → Reading
 reading_of_command None = reading.Refused refusal.Syntax
 reading_of_command (Some c) = if fits c then reading.Says c else reading.Refused refusal.Number
 
+-- what tokens say: the command that they spell by the grammar, by the law `commands_are_read` of `bdb_parse`
 abbrev pub reading_of_tokens : Option (List Token) → Reading
 reading_of_tokens None = reading.Refused refusal.Syntax
 reading_of_tokens (Some []) = reading.Nothing
 reading_of_tokens (Some (t ∷ ts)) = reading_of_command (command_of (t ∷ ts))
 
--- what the bytes of a piece say
+-- what the bytes of a piece say: its tokens are those that it spells, each the longest that fits, by the law `tokens_are_spelled` of
+-- `bdb_lex`
 abbrev pub reading_of : List ℕ → Reading
 reading_of bytes = reading_of_tokens (tokens_of bytes)
 

@@ -20,7 +20,8 @@ abbrev pub rest_events : Rest → List Event
 rest_events Nothing = []
 rest_events Unfinished = event.Unfinished ∷ []
 
--- the pieces of a script, and then its rest where it holds something
+-- the pieces of a script, and then its rest where it holds something: in the words of spans by the laws `pieces_are_of_spans` and
+-- `rest_is_of_spans` of `bdb_lex`
 abbrev pub events_of : List ℕ → List Event
 events_of script = map event_of (pieces_of script) ++ rest_events (rest_of (has_rest script))
 

@@ -15,8 +15,8 @@ pub record IsReply (c : Catalog) (outcome : Outcome) (r : Reply) : Type 0 where
   pub accepted : r.accepted ≡ is_accepted outcome
   pub answers : r.answers ≡ answer_count outcome
 
--- a reply without the keeper: the only error is want of memory
-pub record IsTold (c : Catalog) (outcome : Outcome) (result : Result Reply StopError) : Type 0 where
+-- a reply without the keeper: the only error is running out of memory
+pub record AnswersAlone (c : Catalog) (outcome : Outcome) (result : Result Reply StopError) : Type 0 where
   pub reply : IfOk result (λ r. IsReply c outcome r)
   pub memory : IsErrOf result Fault → ⊥
 

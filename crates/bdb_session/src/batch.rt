@@ -192,7 +192,9 @@ impl Session {
         requires agrees { AgreesOnSome (K.seen keeper.old).kept self.old }
         requires few { length lines.now < 2 ^ 32 }
         ensures run { (s : State) → Agrees (K.seen keeper.old).kept self.old s
-            → IfOk result (λ ran. AreRun s (pieces lines.now) text.old.items text.new.items ran.accepted ran.refused self.new (K.seen keeper.new)) }
+            → IfOk result
+            (λ ran. AreRun s (pieces lines.now) text.old.items text.new.items ran.accepted
+            ran.refused self.new (K.seen keeper.new)) }
         ensures few { IfOk result (λ ran. ran.accepted ≤ length lines.now) }
         ensures altered { AlterSome (pieces lines.now) self.old self.new (K.seen keeper.old)
             result }
@@ -231,7 +233,9 @@ impl Session {
         requires running { (K.seen keeper.old).running ≡ true }
         requires agrees { AgreesOnSome (K.seen keeper.old).kept self.old }
         ensures run { (s : State) → Agrees (K.seen keeper.old).kept self.old s
-            → IfOk result (λ accepted. IsRun s (Piece line.now) text.old.items text.new.items accepted self.new (K.seen keeper.new)) }
+            → IfOk result
+            (λ accepted. IsRun s (Piece line.now) text.old.items text.new.items accepted self.new
+            (K.seen keeper.new)) }
         ensures agrees { OnOk result (AgreesOnSome (K.seen keeper.new).kept self.new) }
         ensures altered { Alters (λ s. outcome_of s (Piece line.now)) self.old self.new
             (K.seen keeper.old) result }

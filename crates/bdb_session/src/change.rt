@@ -50,9 +50,16 @@ impl Session {
         requires fits { fits_catalog self.now.catalog
             (Bound.Delete selection.now.path selection.now.sign selection.now.rel
             selection.now.conds) ≡ true }
-        ensures told { TellsWithin (λ s. bound_outcome s (Bound.Delete selection.now.path selection.now.sign selection.now.rel selection.now.conds))
-            (sized self.now counts.old) (sized self.now counts.new) (K.seen keeper.old) (K.seen keeper.new) result }
-        ensures change { TellsChange (λ s. bound_outcome s (Bound.Delete selection.now.path selection.now.sign selection.now.rel selection.now.conds))
+        ensures told { TellsWithin
+            (λ s. bound_outcome s
+            (Bound.Delete selection.now.path selection.now.sign selection.now.rel
+            selection.now.conds))
+            (sized self.now counts.old) (sized self.now counts.new) (K.seen keeper.old)
+            (K.seen keeper.new) result }
+        ensures change { TellsChange
+            (λ s. bound_outcome s
+            (Bound.Delete selection.now.path selection.now.sign selection.now.rel
+            selection.now.conds))
             (sized self.now counts.old) change.new (K.seen keeper.old) result }
         ensures writes { WritesAsTold
             (Bound.Delete selection.now.path selection.now.sign selection.now.rel
@@ -91,9 +98,16 @@ impl Session {
         requires fits { fits_catalog self.now.catalog
             (Bound.Update selection.now.path selection.now.sign selection.now.rel sets.now
             selection.now.conds) ≡ true }
-        ensures told { TellsWithin (λ s. bound_outcome s (Bound.Update selection.now.path selection.now.sign selection.now.rel sets.now selection.now.conds))
-            (sized self.now counts.old) (sized self.now counts.new) (K.seen keeper.old) (K.seen keeper.new) result }
-        ensures change { TellsChange (λ s. bound_outcome s (Bound.Update selection.now.path selection.now.sign selection.now.rel sets.now selection.now.conds))
+        ensures told { TellsWithin
+            (λ s. bound_outcome s
+            (Bound.Update selection.now.path selection.now.sign selection.now.rel sets.now
+            selection.now.conds))
+            (sized self.now counts.old) (sized self.now counts.new) (K.seen keeper.old)
+            (K.seen keeper.new) result }
+        ensures change { TellsChange
+            (λ s. bound_outcome s
+            (Bound.Update selection.now.path selection.now.sign selection.now.rel sets.now
+            selection.now.conds))
             (sized self.now counts.old) change.new (K.seen keeper.old) result }
         ensures writes { WritesAsTold
             (Bound.Update selection.now.path selection.now.sign selection.now.rel sets.now

@@ -34,7 +34,8 @@ impl Session {
         requires agrees { AgreesOnSome (K.seen keeper.old).kept self.now }
         requires fits { fits_catalog self.now.catalog (Bound.CreateUser name) ≡ true }
         requires nothing { news.old ≡ nothing_new self.now }
-        ensures told { TellsWithin (λ s. bound_outcome s (Bound.CreateUser name)) self.now (learned self.now news.new)
+        ensures told { TellsWithin (λ s. bound_outcome s (Bound.CreateUser name)) self.now
+            (learned self.now news.new)
             (K.seen keeper.old) (K.seen keeper.new) result }
         ensures change { TellsChange (λ s. bound_outcome s (Bound.CreateUser name))
             self.now news.new.change (K.seen keeper.old) result }
@@ -63,7 +64,8 @@ impl Session {
         requires number { uid ≡ length self.now.catalog.users + 1 }
         requires room { limit_passed (length self.now.catalog.users + 1)
             (length self.now.catalog.rels) self.now.counts ≡ None }
-        ensures told { TellsWithin (λ s. bound_outcome s (Bound.CreateUser name)) self.now (learned self.now news.new)
+        ensures told { TellsWithin (λ s. bound_outcome s (Bound.CreateUser name)) self.now
+            (learned self.now news.new)
             (K.seen keeper.old) (K.seen keeper.new) result }
         ensures change { TellsChange (λ s. bound_outcome s (Bound.CreateUser name))
             self.now news.new.change (K.seen keeper.old) result }
@@ -96,7 +98,8 @@ impl Session {
         requires agrees { AgreesOnSome (K.seen keeper.old).kept self.now }
         requires fits { fits_catalog self.now.catalog (Bound.CreateRelation def) ≡ true }
         requires nothing { news.old ≡ nothing_new self.now }
-        ensures told { TellsWithin (λ s. bound_outcome s (Bound.CreateRelation def)) self.now (learned self.now news.new)
+        ensures told { TellsWithin (λ s. bound_outcome s (Bound.CreateRelation def)) self.now
+            (learned self.now news.new)
             (K.seen keeper.old) (K.seen keeper.new) result }
         ensures change { TellsChange (λ s. bound_outcome s (Bound.CreateRelation def))
             self.now news.new.change (K.seen keeper.old) result }
@@ -125,7 +128,8 @@ impl Session {
         requires number { rel ≡ length self.now.catalog.rels }
         requires room { limit_passed (length self.now.catalog.users)
             (length self.now.catalog.rels + 1) self.now.counts ≡ None }
-        ensures told { TellsWithin (λ s. bound_outcome s (Bound.CreateRelation def)) self.now (learned self.now news.new)
+        ensures told { TellsWithin (λ s. bound_outcome s (Bound.CreateRelation def)) self.now
+            (learned self.now news.new)
             (K.seen keeper.old) (K.seen keeper.new) result }
         ensures change { TellsChange (λ s. bound_outcome s (Bound.CreateRelation def))
             self.now news.new.change (K.seen keeper.old) result }

@@ -33,7 +33,8 @@ impl Session {
         requires agrees { AgreesOnSome (K.seen keeper.old).kept (sized self.now counts.old) }
         requires nothing { change.old ≡ None }
         requires fits { fits_catalog self.now.catalog (Bound.Insert stmt) ≡ true }
-        ensures told { TellsWithin (λ s. bound_outcome s (Bound.Insert stmt)) (sized self.now counts.old) (sized self.now counts.new)
+        ensures told { TellsWithin (λ s. bound_outcome s (Bound.Insert stmt))
+            (sized self.now counts.old) (sized self.now counts.new)
             (K.seen keeper.old) (K.seen keeper.new) result }
         ensures change { TellsChange (λ s. bound_outcome s (Bound.Insert stmt))
             (sized self.now counts.old) change.new (K.seen keeper.old) result }

@@ -33,7 +33,8 @@ impl Session {
         requires agrees { AgreesOnSome (K.seen keeper.old).kept self.now }
         requires fits { fits_catalog self.now.catalog (Bound.DropUser uid) ≡ true }
         requires nothing { news.old ≡ nothing_new self.now }
-        ensures told { TellsWithin (λ s. bound_outcome s (Bound.DropUser uid)) self.now (learned self.now news.new)
+        ensures told { TellsWithin (λ s. bound_outcome s (Bound.DropUser uid)) self.now
+            (learned self.now news.new)
             (K.seen keeper.old) (K.seen keeper.new) result }
         ensures change { TellsChange (λ s. bound_outcome s (Bound.DropUser uid))
             self.now news.new.change (K.seen keeper.old) result }

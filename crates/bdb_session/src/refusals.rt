@@ -7,7 +7,7 @@ use bdb_bind::BindError;
 use bdb_render::Refusal;
 use std::alloc::{AllocError, Global};
 
-/// A refusal to bind, as a refusal of the command; want of memory is none.
+/// A refusal to bind, as a refusal of the command; running out of memory is none.
 pub(crate) fn refusal_from(error: BindError) -> Option<Refusal>
     ensures { result ≡ refusal_from error }
 {

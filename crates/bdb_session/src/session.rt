@@ -53,7 +53,7 @@ ghost use Rattle.bdb_session.specs.Known.{AgreesOnSome, Remembers, RemembersSome
 ghost use Rattle.bdb_session.specs.Machine.{command_outcome};
 ghost use Rattle.bdb_session.specs.Outcome.{Refused};
 ghost use Rattle.bdb_session.specs.Reading.{reading_of};
-ghost use Rattle.bdb_session.specs.Served.{IsTold, Serves};
+ghost use Rattle.bdb_session.specs.Served.{AnswersAlone, Serves};
 ghost use Rattle.bdb_session.specs.Undoing.{reply_of, accepts, answers_to, next_state, counts};
 ghost use Rattle.bdb_undo.specs.Timelines.{Timeline};
 
@@ -220,9 +220,9 @@ impl Session {
         }
     }
 
-    /// The reply to what is refused. The only error is want of memory.
+    /// The reply to what is refused. The only error is running out of memory.
     pub(crate) fn refuse(&self, refusal: &Refusal) -> Result<Reply, StopError>
-        ensures { IsTold self.now.catalog (Refused refusal.now) result }
+        ensures { AnswersAlone self.now.catalog (Refused refusal.now) result }
     {
         match refusal_reply(self.alloc, &self.catalog, refusal) {
             Ok(text) => Ok(Reply::refused(text)),

@@ -212,7 +212,8 @@ impl<S: Alter> Keeper for SqlKeeper<S> {
     fn under(&mut self, tab: u8, prefix: &[u8], span: &mut Span) -> Result<(), KeepError>
         requires table { (1 ≤ tab) × (tab ≤ 15) }
         ensures rows { OnOk result (AreRowsUnder self.old.seen.kept tab prefix.now span.new) }
-        ensures reads { OnOk result (RoseBy (length span.new + 1) self.old.seen.reads self.new.seen.reads) }
+        ensures reads { OnOk result
+            (RoseBy (length span.new + 1) self.old.seen.reads self.new.seen.reads) }
         ensures read { IsRead self.old.seen self.new.seen result KeepError.Fault }
 
         ensures answers { Answers self.old self.new result }
@@ -296,7 +297,8 @@ impl<S: Alter> Keeper for SqlKeeper<S> {
         requires running { self.old.seen.running ≡ true }
         ensures kept { OnOk result
             (self.new.seen.kept ≡ with_rows tab self.old.seen.kept span.now) }
-        ensures writes { OnOk result (RoseBy (length span.now) self.old.seen.writes self.new.seen.writes) }
+        ensures writes { OnOk result
+            (RoseBy (length span.now) self.old.seen.writes self.new.seen.writes) }
         ensures write { IsWrite self.old.seen self.new.seen result KeepError.Fault }
 
         ensures answers { Answers self.old self.new result }
@@ -317,7 +319,8 @@ impl<S: Alter> Keeper for SqlKeeper<S> {
         requires running { self.old.seen.running ≡ true }
         ensures kept { OnOk result
             (self.new.seen.kept ≡ without_rows tab self.old.seen.kept span.now) }
-        ensures writes { OnOk result (RoseBy (length span.now) self.old.seen.writes self.new.seen.writes) }
+        ensures writes { OnOk result
+            (RoseBy (length span.now) self.old.seen.writes self.new.seen.writes) }
         ensures write { IsWrite self.old.seen self.new.seen result KeepError.Fault }
 
         ensures answers { Answers self.old self.new result }
@@ -339,7 +342,9 @@ impl<S: Alter> Keeper for SqlKeeper<S> {
 
         ensures ends { Commits self.old self.new result }
         ensures crash { MatchesFile S.Store self.old
-            → OnErr result (IsSome self.new.conn × MayStore S.Store self.new.conn self.old.seen.last self.old.seen.kept) }
+            → OnErr result
+            (IsSome self.new.conn × MayStore S.Store self.new.conn self.old.seen.last
+            self.old.seen.kept) }
         ensures tied { MatchesFile S.Store self.old → OnOk result (MatchesFile S.Store self.new) }
     {
         if let Some(error) = self.refusal {

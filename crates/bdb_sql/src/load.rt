@@ -11,7 +11,7 @@ ghost use Rattle.bdb_sql.specs.Stays.{StaysAs};
 ghost use Rattle.bdb_sql.specs.Tied.{IsTied, IsWhole};
 
 use crate::kept::{LONGEST, SELECT};
-use crate::schema::{Found, schema_of};
+use crate::schema::{FileSchema, schema_of};
 use crate::told::told;
 use bdb_keep::{KeepError, Store};
 use sqlite::types::ValueRef;
@@ -53,10 +53,11 @@ pub fn load<S: Alter>(alloc: Global, conn: &mut Connection<S>) -> Result<Store, 
 fn load_found<S: Alter>(
     alloc: Global,
     conn: &mut Connection<S>,
-    found: Found,
+    found: FileSchema,
 ) -> Result<Store, KeepError>
-    requires nothing { found ≡ Found.Nothing → (state S.Store conn.old).now.schema ≡ no_schema }
-    requires table { found ≡ Found.Table → (state S.Store conn.old).now.schema ≡ kept_schema }
+    requires nothing { found ≡ FileSchema.Nothing → (state S.Store conn.old).now.schema
+        ≡ no_schema }
+    requires table { found ≡ FileSchema.Table → (state S.Store conn.old).now.schema ≡ kept_schema }
     ensures settled { IfOk result (λ store. store.kept ≡ store.last) }
     ensures fits { IfOk result (λ store. LieInTables store.kept) }
     ensures found { OnOk result (IsBareOrKept (state S.Store conn.old)) }
@@ -67,12 +68,12 @@ fn load_found<S: Alter>(
     ensures survives { Survives (state S.Store conn.old) (state S.Store conn.new) (λ _. ⊥) }
 {
     match found {
-        Found::Nothing => Ok(Store::new(alloc)),
-        Found::Table => match read_rows(alloc, conn) {
+        FileSchema::Nothing => Ok(Store::new(alloc)),
+        FileSchema::Table => match read_rows(alloc, conn) {
             Ok(store) => Ok(store),
             Err(error) => Err(told(error)),
         },
-        Found::Other => Err(KeepError::Fault),
+        FileSchema::Other => Err(KeepError::Fault),
     }
 }
 

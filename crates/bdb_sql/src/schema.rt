@@ -14,7 +14,7 @@ use sqlite_value::keys::{Collation, Order};
 use sqlite_value::value::Value;
 
 /// What a file's schema is.
-pub enum Found {
+pub enum FileSchema {
     Nothing,
     /// The one table as the keeper makes it, and nothing else.
     Table,
@@ -22,19 +22,20 @@ pub enum Found {
 }
 
 /// What the schema of a connection is. It runs no statement.
-pub fn schema_of<S: Alter>(conn: &Connection<S>) -> Found
-    ensures nothing { result ≡ Found.Nothing → (state S.Store conn.now).now.schema ≡ no_schema }
-    ensures table { result ≡ Found.Table → (state S.Store conn.now).now.schema ≡ kept_schema }
+pub fn schema_of<S: Alter>(conn: &Connection<S>) -> FileSchema
+    ensures nothing { result ≡ FileSchema.Nothing → (state S.Store conn.now).now.schema
+        ≡ no_schema }
+    ensures table { result ≡ FileSchema.Table → (state S.Store conn.now).now.schema ≡ kept_schema }
     ensures live { IsLive (state S.Store conn.now) }
 {
     let schema = conn.schema();
     if is_nothing(schema) {
-        return Found::Nothing;
+        return FileSchema::Nothing;
     }
     if is_kept(schema) {
-        Found::Table
+        FileSchema::Table
     } else {
-        Found::Other
+        FileSchema::Other
     }
 }
 

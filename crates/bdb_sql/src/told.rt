@@ -4,7 +4,7 @@ ghost use Rattle.std.specs.Prelude.{◌↔◌, ◌≡◌};
 use bdb_keep::KeepError;
 use sqlite::{Error, ErrorCode};
 
-/// What a keeper answers to a refusal: want of memory as such, and anything else as a fault.
+/// What a keeper answers to a refusal: out of memory as such, and anything else as a fault.
 pub fn told(error: Error) -> KeepError
     ensures { (result ≡ KeepError.Memory) ↔ (error ≡ Error.SqliteFailure ErrorCode.OutOfMemory) }
 {

@@ -78,7 +78,8 @@ fn write_each<S: Alter>(
 ) -> Result<(), Error>
     ensures same_reference { transaction.new.conn.ghost_name ≡ transaction.old.conn.ghost_name }
     ensures set { Inside S.Store transaction.old.conn.now transaction.new.conn.now
-        (λ old new. HoldsTable old → OnOk result (SetsPlaces store.now.changes store.now.kept old new)) }
+        (λ old new. HoldsTable old → OnOk result
+        (SetsPlaces store.now.changes store.now.kept old new)) }
     ensures all { written store.now.changes store.now.kept store.now.last ≡ store.now.kept }
     ensures survives { CommitsNothing S.Store transaction.old.conn.now transaction.new.conn.now }
 {
@@ -103,7 +104,8 @@ fn write_row<S: Alter>(
     requires { (1 ≤ tab) × (tab ≤ 15) }
     ensures same_reference { transaction.new.conn.ghost_name ≡ transaction.old.conn.ghost_name }
     ensures set { Inside S.Store transaction.old.conn.now transaction.new.conn.now
-        (λ old new. HoldsTable old → OnOk result (SetsPlace (tab ∷ key.now) (option_map (λ row. row.now) row.entry) old new)) }
+        (λ old new. HoldsTable old → OnOk result
+        (SetsPlace (tab ∷ key.now) (option_map (λ row. row.now) row.entry) old new)) }
     ensures survives { CommitsNothing S.Store transaction.old.conn.now transaction.new.conn.now }
 {
     match row {
@@ -131,7 +133,8 @@ fn put<S: Alter>(
 ) -> Result<usize, Error>
     ensures same_reference { transaction.new.conn.ghost_name ≡ transaction.old.conn.ghost_name }
     ensures set { Inside S.Store transaction.old.conn.now transaction.new.conn.now
-        (λ old new. HoldsTable old → (1 ≤ tab) × (tab ≤ 15) → OnOk result (SetsPlace (tab ∷ key.now) (Some row.now) old new)) }
+        (λ old new. HoldsTable old → (1 ≤ tab) × (tab ≤ 15) → OnOk result
+        (SetsPlace (tab ∷ key.now) (Some row.now) old new)) }
     ensures survives { CommitsNothing S.Store transaction.old.conn.now transaction.new.conn.now }
 {
     if key.len() > LONGEST || row.len() > LONGEST {

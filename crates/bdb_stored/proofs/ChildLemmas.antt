@@ -20,7 +20,7 @@ use Rattle.bdb_tables.specs.States.{HoldsStates}
 use Rattle.bdb_worlds.proofs.ReadLemmas.{found_is}
 use Rattle.bdb_stored.specs.Items.{with_item, items_of}
 use Rattle.bdb_stored.specs.Tree.{child_of}
-use Rattle.bdb_stored.specs.Valid.{StoresValid}
+use Rattle.bdb_catalog.specs.Bases.{StoresValid}
 use Rattle.bdb_stored.specs.Worlds.{named_world, TellsChild, TellsChildren}
 use Rattle.bdb_stored.specs.declared.named.NamedWorld.{NamedWorld}
 

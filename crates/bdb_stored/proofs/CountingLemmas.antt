@@ -46,7 +46,8 @@ use Rattle.bdb_val.specs.WorldReads.{AreRowsAt}
 use Rattle.bdb_val.proofs.HeldLemmas.{some_is}
 use Rattle.bdb_stored.specs.Counting.{AreWorlds, CountsRows, TellsCounts, explicit_rows}
 use Rattle.bdb_stored.specs.Items.{items_of}
-use Rattle.bdb_stored.specs.Valid.{StoresValid, StoreSome, IsPartOf}
+use Rattle.bdb_catalog.specs.Bases.{StoresSome, StoresValid}
+use Rattle.bdb_catalog.specs.Opening.{IsPartOf}
 use Rattle.bdb_stored.proofs.ItemLemmas.{AllNamed, ascending_apart, first_named, items_apart, items_cons, items_make_set, items_many, rest_named, sum_ones, sum_sorted}
 use Rattle.bdb_stored.proofs.KeyLemmas.{numbers_are, numbers_once, rows_are_items}
 use Rattle.bdb_stored.proofs.PathSums.{at_path, explicit_are_statements, paths_are_members, sum_of_paths}
@@ -258,32 +259,32 @@ module _ (t : Tables) (es : List (ℕ × ℕ)) (ds : List (ℕ × Tuple)) (stmts
       made : ℕ → ℕ → ℕ → ℕ → Counts
       made w u s n = record { worlds = w; tuples = u; stmts = s; rows = n }
 
-  module _ (some : StoreSome t) where
+  module _ (some : StoresSome t) where
     abbrev b : Contents
     b = some.base
 
     pub worlds_few : length es < 2 ^ 32
-    worlds_few = let e = worlds_many t b some.is es r.worlds in let f = leb-true (world_count b.stmts) most_worlds some.is.valid.stmts.few_worlds in omega arith
+    worlds_few = let e = worlds_many t b some.stores es r.worlds in let f = leb-true (world_count b.stmts) most_worlds some.stores.valid.stmts.few_worlds in omega arith
 
     pub tuples_few : length ds < 2 ^ 32
-    tuples_few = let e = tuples_many t b some.is ds r.tuples in let f = leb-true (tuple_count b.stmts) most_tuples some.is.valid.stmts.few_tuples in omega arith
+    tuples_few = let e = tuples_many t b some.stores ds r.tuples in let f = leb-true (tuple_count b.stmts) most_tuples some.stores.valid.stmts.few_tuples in omega arith
 
     pub statements_few : stmts < 2 ^ 32
     statements_few =
-        let e = statements_many t b some.is es r.worlds r.counts.held stmts r.counts.are r.counts.explicit in
-        let f = leb-true (length b.stmts) most_statements some.is.valid.stmts.few_stmts in
+        let e = statements_many t b some.stores es r.worlds r.counts.held stmts r.counts.are r.counts.explicit in
+        let f = leb-true (length b.stmts) most_statements some.stores.valid.stmts.few_stmts in
         omega arith
 
     pub rows_few : rows < 2 ^ 32
     rows_few =
-        let e = rows_many t b some.is es r.worlds r.counts.held rows r.counts.are r.counts.all in
-        let f = few_rows t b some.is es r.worlds in
+        let e = rows_many t b some.stores es r.worlds r.counts.held rows r.counts.are r.counts.all in
+        let f = few_rows t b some.stores es r.worlds in
         omega arith
 
 -- ---- what the tables have
 
-pub valid_in_grammar : (t : Tables) → StoreSome t → InGrammar t
-valid_in_grammar t s = stored_is_in_grammar t s.base s.is.stored
+pub valid_in_grammar : (t : Tables) → StoresSome t → InGrammar t
+valid_in_grammar t s = stored_is_in_grammar t s.base s.stores.stored
 
-pub valid_has_tuples : (t : Tables) → StoreSome t → HaveTuples t
-valid_has_tuples t s = over_has_tuples s.base.stmts s.base.stmts s.is.stored.names s.is.stored.tuples t s.base s.is.stored.stored
+pub valid_has_tuples : (t : Tables) → StoresSome t → HaveTuples t
+valid_has_tuples t s = over_has_tuples s.base.stmts s.base.stmts s.stores.stored.names s.stores.stored.tuples t s.base s.stores.stored.stored

@@ -36,7 +36,7 @@ use Rattle.bdb_keep.specs.Seen.{Seen}
 use Rattle.bdb_keep.specs.Tables.{Tables}
 use Rattle.bdb_names.proofs.NameLemmas.{none_is_some}
 use Rattle.bdb_stored.specs.Writing.{AddsNext, MayFollow, with_front}
-use Rattle.bdb_update.specs.Calls.{IsAdding, StoresSized, clash_of, of_stmts, size_passed, with_one}
+use Rattle.bdb_update.specs.Calls.{IsAdding, StoresSized, clash_of, with_stmts, size_passed, with_one}
 use Rattle.bdb_update.specs.declared.answer.Added.TheVariants.{New, Already}
 use Rattle.bdb_update.specs.declared.answer.UpdateError.TheVariants.{Clash, Full}
 
@@ -166,7 +166,7 @@ module _ (b : Contents) (v : IsValid b.catalog b.stmts) (k : ℕ) (x : Stmt) (l 
   belongs_to = list_all_get (belongs b.catalog) b.stmts k x v.stmts.belong stands_there
 
   pub next_base : with_one (front k) x ≡ front (k + 1)
-  next_base = ap (of_stmts b) (next_front b.stmts v.stmts.sorted k x l is)
+  next_base = ap (with_stmts b) (next_front b.stmts v.stmts.sorted k x l is)
 
   pub is_fresh : stands (front k).stmts x ≡ false
   is_fresh = not_before b.stmts v.stmts.sorted k x l is

@@ -13,7 +13,8 @@ use Rattle.bdb_names.proofs.NamedLemmas.{user_of_end}
 use Rattle.bdb_names.proofs.NameLemmas.{root_is_named}
 use Rattle.bdb_tables.specs.Names.{path_of, is_named, is_listed}
 use Rattle.bdb_stored.specs.Tree.{children_of, grown_from}
-use Rattle.bdb_stored.specs.Valid.{StoresValid, StoreSome, IsPartOf}
+use Rattle.bdb_catalog.specs.Bases.{StoresSome, StoresValid}
+use Rattle.bdb_catalog.specs.Opening.{IsPartOf}
 use Rattle.bdb_stored.specs.Worlds.{TellsChildren, TellsStates, named_world}
 use Rattle.bdb_stored.specs.declared.named.NamedWorld.{NamedWorld}
 use Rattle.bdb_stored.proofs.PlaceLemmas.{all_get, get_named, path_named, state_named, states_named}
@@ -85,8 +86,8 @@ grown_begin t worlds is b v = is ∙ ap (λ (o : Option ℕ). root (unwrap_or o 
     root n = record { wid = n; path = [] }
 
 module _ (t : Tables) (count : ℕ) (all : IsPartOf (λ b. length (states_of b.stmts)) t count) where
-  pub grown_there : (k : ℕ) (worlds : List NamedWorld) → StoreSome t → HaveGrown t k worlds → k < count → k < length worlds
-  grown_there k worlds some grown l = let n = all some.base some.is in has_grown t some.base some.is k worlds grown (omega arith)
+  pub grown_there : (k : ℕ) (worlds : List NamedWorld) → StoresSome t → HaveGrown t k worlds → k < count → k < length worlds
+  grown_there k worlds some grown l = let n = all some.base some.stores in has_grown t some.base some.stores k worlds grown (omega arith)
 
   pub grown_next : (k : ℕ) (x : NamedWorld) (uids : List ℕ) (worlds children next : List NamedWorld) → k < count → HaveGrown t k worlds → x ≡ get_or worlds k x
       → IsPartOf (λ b. user_numbers b.catalog.users) t uids → TellsChildren t x uids children → next ≡ worlds ++ children → HaveGrown t (k + 1) next

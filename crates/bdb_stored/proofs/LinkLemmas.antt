@@ -25,7 +25,8 @@ use Rattle.bdb_tables.specs.Names.{Names, AreNames, path_of, number_of, is_named
 use Rattle.bdb_worlds.proofs.ReadLemmas.{found_is}
 use Rattle.bdb_stored.specs.Items.{with_item}
 use Rattle.bdb_stored.specs.Structure.{TellsEdge, TellsEdges, TellsLink, edges_of, worlds_with_links}
-use Rattle.bdb_stored.specs.Valid.{StoresValid, IsPartOf}
+use Rattle.bdb_catalog.specs.Bases.{StoresValid}
+use Rattle.bdb_catalog.specs.Opening.{IsPartOf}
 use Rattle.bdb_stored.specs.Worlds.{AreStates, TellsStates, place_of_number}
 use Rattle.bdb_stored.specs.declared.named.NamedWorld.{NamedWorld}
 use Rattle.bdb_stored.proofs.ChildLemmas.{edge_is_read, end_is, users_less}

@@ -20,7 +20,7 @@ use Rattle.bdb_paths.specs.Places.{place_in}
 use Rattle.bdb_paths.proofs.PlaceLemmas.{place_of_item}
 use Rattle.bdb_paths.proofs.StateLemmas.{list_has_states}
 use Rattle.bdb_tables.specs.Names.{Names, AreNames, path_of, number_of, is_named}
-use Rattle.bdb_stored.specs.Valid.{StoresValid, StoreSome}
+use Rattle.bdb_catalog.specs.Bases.{StoresSome, StoresValid}
 use Rattle.bdb_stored.specs.Worlds.{AreStates, IsState, TellsStates, named_world, place_of_number}
 use Rattle.bdb_stored.specs.declared.named.NamedWorld.{NamedWorld}
 
@@ -156,5 +156,5 @@ module _ (t : Tables) (b : Contents) (v : StoresValid t b) where
           defaults (u ∷ us) (suc j) p c = defaults us j (omega arith) c
 
 -- worlds are as many as the states
-pub states_as_many : (t : Tables) (worlds : List NamedWorld) (s : StoreSome t) → TellsStates t worlds → length worlds ≡ length (states_of s.base.stmts)
-states_as_many t worlds s are = ap (λ (xs : List NamedWorld). length xs) (are s.base s.is) ∙ length-map (states_of s.base.stmts) (named_world s.is.stored.names)
+pub states_as_many : (t : Tables) (worlds : List NamedWorld) (s : StoresSome t) → TellsStates t worlds → length worlds ≡ length (states_of s.base.stmts)
+states_as_many t worlds s are = ap (λ (xs : List NamedWorld). length xs) (are s.base s.stores) ∙ length-map (states_of s.base.stmts) (named_world s.stores.stored.names)

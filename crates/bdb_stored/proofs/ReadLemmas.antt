@@ -6,8 +6,8 @@ use Rattle.bdb_keep.specs.Tables.{Tables}
 use Rattle.bdb_tables.specs.Codec.{TableFits}
 use Rattle.bdb_tables.specs.Grammar.{InGrammar}
 use Rattle.bdb_tables.specs.InUse.{depth_codec, edge_codec, link_codec}
+use Rattle.bdb_tables.specs.Reading.{OnlyReads}
 use Rattle.bdb_tables.proofs.Loops.{IsReading, counts_then, goes_then}
-use Rattle.bdb_stored.specs.Valid.{OnlyReads}
 
 -- one call more
 pub only_more : {P T E Q : Type 0} (old a b : Seen) (x : T) (fault : E) → IsReading old a P → OnlyReads {T = T} {E = E} a b (Ok x) fault → Q → IsReading old b Q

@@ -14,7 +14,7 @@ use Rattle.bdb_keep.specs.Tables.{Tables}
 use Rattle.bdb_paths.specs.Places.{place_in}
 use Rattle.bdb_val.specs.WorldReads.{AreRowsAt}
 use Rattle.bdb_stored.specs.Structure.{row_placed, rows_of}
-use Rattle.bdb_stored.specs.Valid.{IsPartOf}
+use Rattle.bdb_catalog.specs.Opening.{IsPartOf}
 use Rattle.bdb_stored.specs.Worlds.{TellsStates}
 use Rattle.bdb_stored.specs.declared.named.NamedWorld.{NamedWorld}
 use Rattle.bdb_stored.proofs.LinkLemmas.{flat_more}

@@ -15,22 +15,23 @@ use Rattle.bdb_canon.specs.declared.structure.CanonWorld.{CanonWorld}
 use Rattle.bdb_canon.proofs.PlaceLemmas.{few_states, tuples_are}
 use Rattle.bdb_keep.specs.Tables.{Tables}
 use Rattle.bdb_stored.specs.Structure.{edges_of, rows_of, worlds_with_links}
-use Rattle.bdb_stored.specs.Valid.{StoresValid, StoreSome, IsPartOf}
+use Rattle.bdb_catalog.specs.Bases.{StoresSome, StoresValid}
+use Rattle.bdb_catalog.specs.Opening.{IsPartOf}
 use Rattle.bdb_stored.specs.Worlds.{TellsStates}
 use Rattle.bdb_stored.specs.declared.named.NamedWorld.{NamedWorld}
 use Rattle.bdb_stored.proofs.UserLemmas.{few_numbers}
 
 -- there are few states
-pub states_few : (t : Tables) (worlds : List NamedWorld) → StoreSome t → TellsStates t worlds → length worlds < 2 ^ 32
+pub states_few : (t : Tables) (worlds : List NamedWorld) → StoresSome t → TellsStates t worlds → length worlds < 2 ^ 32
 states_few t worlds s are =
     let b = s.base in
-    let n = ap length (are b s.is) ∙ length-map (states_of b.stmts) _ in
-    let f = few_states b.catalog b.stmts s.is.valid in
+    let n = ap length (are b s.stores) ∙ length-map (states_of b.stmts) _ in
+    let f = few_states b.catalog b.stmts s.stores.valid in
     omega arith
 
 -- the tuples are in order, and few
-pub tuples_in_set : (t : Tables) (tuples : List Tuple) → StoreSome t → IsPartOf (λ b. tuples_of b.stmts) t tuples → AreTuples tuples
-tuples_in_set t tuples s told = tuples_are s.base.catalog s.base.stmts tuples s.is.valid (told s.base s.is)
+pub tuples_in_set : (t : Tables) (tuples : List Tuple) → StoresSome t → IsPartOf (λ b. tuples_of b.stmts) t tuples → AreTuples tuples
+tuples_in_set t tuples s told = tuples_are s.base.catalog s.base.stmts tuples s.stores.valid (told s.base s.stores)
 
 made : List CanonWorld → List Tuple → List CanonEdge → List CanonRow → Canon
 made worlds tuples edges rows = record { worlds = worlds; tuples = tuples; edges = edges; rows = rows }

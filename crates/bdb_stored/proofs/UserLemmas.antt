@@ -27,7 +27,8 @@ use Rattle.bdb_tables.specs.Spans.{AreUnder, IsUnder, entry_cmp}
 use Rattle.bdb_tables.specs.Stored.{slot_of}
 use Rattle.bdb_stored.specs.Items.{items_of, with_item}
 use Rattle.bdb_stored.specs.Structure.{is_live, live_keys}
-use Rattle.bdb_stored.specs.Valid.{IsPartOf, StoresValid}
+use Rattle.bdb_catalog.specs.Bases.{StoresValid}
+use Rattle.bdb_catalog.specs.Opening.{IsPartOf}
 use Rattle.bdb_stored.proofs.KeyLemmas.{numbers_are, rows_are_items}
 
 -- numbers in their order

@@ -7,30 +7,23 @@ use Rattle.bdb_base.specs.declared.kinds.RelDef.{RelDef}
 use Rattle.bdb_base.specs.declared.kinds.UserSlot.{UserSlot}
 use Rattle.bdb_base.specs.declared.kinds.UserSlot.TheVariants.{Live, Gone}
 use Rattle.bdb_canon.specs.declared.sizes.Counts.{Counts}
-use Rattle.bdb_catalog.specs.Bases.{StoresValid as StoresBase}
+use Rattle.bdb_catalog.specs.Bases.{StoresValid}
 use Rattle.bdb_catalog.specs.Creating.{AddsGonePlace, AddsRelation, AddsUserNamed, MayAddGonePlace, MayAddRelation, MayAddUser, SomeMayAddGonePlace, SomeMayAddUser}
 use Rattle.bdb_keep.specs.Seen.{NeverFall, Seen, Steps}
 use Rattle.bdb_keep.specs.Tables.{Tables}
 use Rattle.bdb_tables.specs.Stored.{Stores}
 use Rattle.bdb_tables.specs.declared.tab.TabError.TheVariants.{Fault, Memory}
-use Rattle.bdb_update.specs.Calls.{HasFailed, HasStopped, StoresSized, of_stmts}
-use Rattle.bdb_stored.specs.Valid.{StoresValid}
+use Rattle.bdb_update.specs.Calls.{HasFailed, HasStopped, StoresSized, with_stmts}
 use Rattle.bdb_stored.specs.Writing.{AddsPlace, MayAddPlace, SomeMayAddPlace, base_of, with_front, with_relations, with_users}
 use Rattle.bdb_stored.proofs.FrontLemmas.{catalog_front, plain_is_valid}
-
-as_base : (t : Tables) (b : Contents) → StoresValid t b → StoresBase t b
-as_base t b s = record { stored = s.stored; valid = s.valid }
-
-from_base : (t : Tables) (b : Contents) → StoresBase t b → StoresValid t b
-from_base t b s = record { stored = s.stored; valid = s.valid }
 
 -- ---- one place, that of a user or of one who is gone
 
 user_may : (t : Tables) (uid : ℕ) (name : List ℕ) (b : Contents) → MayAddPlace t uid (Live name) b → MayAddUser t uid name b
-user_may t uid name b h = record { base = as_base t b h.base; next = h.next; valid = h.valid }
+user_may t uid name b h = record { base = h.base; next = h.next; valid = h.valid }
 
 gone_may : (t : Tables) (uid : ℕ) (b : Contents) → MayAddPlace t uid Gone b → MayAddGonePlace t uid b
-gone_may t uid b h = record { base = as_base t b h.base; next = h.next; valid = h.valid }
+gone_may t uid b h = record { base = h.base; next = h.next; valid = h.valid }
 
 pub some_user : (t : Tables) (uid : ℕ) (slot : UserSlot) (name : List ℕ) → slot ≡ Live name → SomeMayAddPlace t uid slot → SomeMayAddUser t uid name
 some_user t uid slot name e h = record { base = h.base; may = user_may t uid name h.base (subst (λ s. MayAddPlace t uid s h.base) e h.may) }
@@ -39,10 +32,10 @@ pub some_gone : (t : Tables) (uid : ℕ) (slot : UserSlot) → slot ≡ Gone →
 some_gone t uid slot e h = record { base = h.base; may = gone_may t uid h.base (subst (λ s. MayAddPlace t uid s h.base) e h.may) }
 
 pub user_added : (t u : Tables) (uid : ℕ) (slot : UserSlot) (name : List ℕ) → slot ≡ Live name → AddsUserNamed t u uid name → AddsPlace t u uid slot
-user_added t u uid slot name e added = subst (AddsPlace t u uid) (sym e) (λ b h. from_base u _ (added b (user_may t uid name b h)))
+user_added t u uid slot name e added = subst (AddsPlace t u uid) (sym e) (λ b h. added b (user_may t uid name b h))
 
 pub gone_added : (t u : Tables) (uid : ℕ) (slot : UserSlot) → slot ≡ Gone → AddsGonePlace t u uid → AddsPlace t u uid slot
-gone_added t u uid slot e added = subst (AddsPlace t u uid) (sym e) (λ b h. from_base u _ (added b (gone_may t uid b h)))
+gone_added t u uid slot e added = subst (AddsPlace t u uid) (sym e) (λ b h. added b (gone_may t uid b h))
 
 module _ (c : Catalog) (v : IsCatalog c) where
   -- ---- places of users
@@ -91,14 +84,14 @@ module _ (c : Catalog) (v : IsCatalog c) where
     pub relation_may : (t : Tables) (rel : ℕ) → rel ≡ k → StoresValid t (with_relations c k) → MayAddRelation t rel def (with_relations c k)
     unfolding rels_of
     relation_may t rel e s = record {
-      base = as_base t (with_relations c k) s;
+      base = s;
       next = (let n = length-take-le k c.rels (omega arith) in omega arith);
       valid = subst (λ rs. IsValid (rels_of rs).catalog []) (sym one_relation) (relations_valid (k + 1));
     }
 
     pub relation_added : (t u : Tables) (rel : ℕ) → rel ≡ k → StoresValid t (with_relations c k) → AddsRelation t u rel def → StoresValid u (with_relations c (k + 1))
     unfolding rels_of
-    relation_added t u rel e s added = subst (λ rs. StoresValid u (rels_of rs)) one_relation (from_base u _ (added (with_relations c k) (relation_may t rel e s)))
+    relation_added t u rel e s added = subst (λ rs. StoresValid u (rels_of rs)) one_relation (added (with_relations c k) (relation_may t rel e s))
 
   pub relations_end : (t : Tables) (k : ℕ) → length c.rels ≤ k → StoresValid t (with_relations c k) → StoresValid t (base_of c.users c.rels [])
   unfolding rels_of
@@ -110,7 +103,7 @@ pub statements_begin : (t : Tables) (b : Contents) → StoresValid t (base_of b.
 statements_begin t b s = record { stored = s.stored; valid = s.valid; counted = refl }
 
 pub statements_end : (t : Tables) (b : Contents) (counts : Counts) (k : ℕ) → length b.stmts ≤ k → StoresSized t counts (with_front b k) → StoresValid t b
-statements_end t b counts k l s = subst (λ xs. StoresValid t (of_stmts b xs)) (take_all k b.stmts l) (record { stored = s.stored; valid = s.valid })
+statements_end t b counts k l s = subst (λ xs. StoresValid t (with_stmts b xs)) (take_all k b.stmts l) (record { stored = s.stored; valid = s.valid })
 
 -- ---- how one statement ends
 

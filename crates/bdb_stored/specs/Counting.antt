@@ -7,7 +7,7 @@ use Rattle.bdb_canon.specs.declared.sizes.Counts.{Counts}
 use Rattle.bdb_keep.specs.Tables.{Tables}
 use Rattle.bdb_val.specs.Steps.{counted}
 use Rattle.bdb_val.specs.WorldReads.{AreRowsAt}
-use Rattle.bdb_stored.specs.Valid.{StoresValid}
+use Rattle.bdb_catalog.specs.Bases.{StoresValid}
 
 -- how many rows are explicit
 abbrev pub explicit_rows : List Held → ℕ

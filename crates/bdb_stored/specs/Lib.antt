@@ -2,6 +2,5 @@ pub mod Counting
 pub mod Items
 pub mod Structure
 pub mod Tree
-pub mod Valid
 pub mod Worlds
 pub mod Writing

@@ -18,7 +18,7 @@ use Rattle.bdb_keep.specs.Seen.{Seen}
 use Rattle.bdb_keep.specs.Tables.{Tables}
 use Rattle.bdb_paths.specs.Places.{place_in}
 use Rattle.bdb_stored.specs.Items.{with_item}
-use Rattle.bdb_stored.specs.Valid.{StoresValid}
+use Rattle.bdb_catalog.specs.Bases.{StoresValid}
 use Rattle.bdb_stored.specs.Worlds.{AreStates, IsState}
 use Rattle.bdb_stored.specs.declared.named.NamedWorld.{NamedWorld}
 

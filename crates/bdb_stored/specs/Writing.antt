@@ -10,8 +10,8 @@ use Rattle.bdb_canon.specs.Sizes.{counts_of}
 use Rattle.bdb_canon.specs.declared.sizes.Counts.{Counts}
 use Rattle.bdb_keep.specs.Tables.{Tables}
 use Rattle.bdb_tables.specs.Stored.{SameBut}
-use Rattle.bdb_update.specs.Calls.{MayMeet, StoresSized, clash_of, of_stmts, size_passed, with_one}
-use Rattle.bdb_stored.specs.Valid.{StoresValid}
+use Rattle.bdb_update.specs.Calls.{MayMeet, StoresSized, clash_of, with_stmts, size_passed, with_one}
+use Rattle.bdb_catalog.specs.Bases.{StoresValid}
 
 -- the number of a table that is before another
 abbrev pub is_before : ℕ → ℕ → Bool
@@ -45,7 +45,7 @@ with_relations c k = base_of c.users (take k c.rels) []
 
 -- the base of the first statements of another
 abbrev pub with_front : Contents → ℕ → Contents
-with_front b k = of_stmts b (take k b.stmts)
+with_front b k = with_stmts b (take k b.stmts)
 
 -- the catalog with one more place, whoever's it is
 abbrev pub with_slot : Catalog → UserSlot → Catalog

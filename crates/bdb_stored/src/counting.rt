@@ -2,9 +2,10 @@
 ghost use Rattle.std.specs.Prelude.{◌≡◌, ◌≤◌, ◌<◌, ◌+◌, ◌-◌, ◌*◌, ◌^◌, length, IfOk};
 ghost use Rattle.bdb_keep.specs.Calls.{IsRead};
 ghost use Rattle.bdb_tables.specs.Grammar.{InGrammar};
+ghost use Rattle.bdb_tables.specs.Reading.{OnlyReads};
 ghost use Rattle.bdb_val.specs.Reads.{HaveTuples};
 ghost use Rattle.bdb_stored.specs.Counting.{CountsRows, TellsCounts, explicit_rows};
-ghost use Rattle.bdb_stored.specs.Valid.{OnlyReads, StoreSome};
+ghost use Rattle.bdb_catalog.specs.Bases.{StoresSome};
 
 use bdb_base::Held;
 use bdb_canon::Counts;
@@ -16,7 +17,7 @@ use std::alloc::Global;
 /// How large the stored base is: its worlds, different tuples and statements, and the rows of its worlds. The rows are read
 /// world by world, two reads for each at most.
 pub fn counts_of<K: Keeper>(alloc: Global, keeper: &mut K) -> Result<Counts, TabError>
-    requires base { StoreSome (K.seen keeper.old).kept }
+    requires base { StoresSome (K.seen keeper.old).kept }
     ensures counts { IfOk result (TellsCounts (K.seen keeper.old).kept) }
     ensures reads { IfOk result
         (λ counts. (K.seen keeper.new).reads

@@ -4,8 +4,9 @@ ghost use Rattle.bdb_base.specs.Causes.{RoseBy};
 ghost use Rattle.bdb_base.specs.Queries.{user_numbers};
 ghost use Rattle.bdb_keep.specs.Calls.{IsRead};
 ghost use Rattle.bdb_tables.specs.Grammar.{InGrammar};
+ghost use Rattle.bdb_tables.specs.Reading.{OnlyReads};
 ghost use Rattle.bdb_stored.specs.Structure.{TellsEdge, TellsEdges, edges_of};
-ghost use Rattle.bdb_stored.specs.Valid.{IsPartOf, OnlyReads};
+ghost use Rattle.bdb_catalog.specs.Opening.{IsPartOf};
 ghost use Rattle.bdb_stored.specs.Worlds.{TellsStates};
 
 use crate::items::push_item;

@@ -4,8 +4,9 @@ ghost use Rattle.std.specs.Option.{option_map};
 ghost use Rattle.bdb_base.specs.Causes.{RoseBy};
 ghost use Rattle.bdb_keep.specs.Calls.{IsRead};
 ghost use Rattle.bdb_tables.specs.Grammar.{InGrammar};
+ghost use Rattle.bdb_tables.specs.Reading.{OnlyReads};
 ghost use Rattle.bdb_stored.specs.Structure.{TellsLink, worlds_with_links};
-ghost use Rattle.bdb_stored.specs.Valid.{IsPartOf, OnlyReads};
+ghost use Rattle.bdb_catalog.specs.Opening.{IsPartOf};
 ghost use Rattle.bdb_stored.specs.Worlds.{TellsStates, place_of_number};
 
 use crate::named::{NamedWorld, place_of_number};

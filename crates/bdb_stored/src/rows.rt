@@ -4,10 +4,12 @@ ghost use Rattle.bdb_base.specs.Order.{tuple_cmp};
 ghost use Rattle.bdb_base.specs.SortedSet.{ascending};
 ghost use Rattle.bdb_base.specs.WorldRows.{tuples_of};
 ghost use Rattle.bdb_tables.specs.Grammar.{InGrammar};
+ghost use Rattle.bdb_tables.specs.Reading.{OnlyReads};
 ghost use Rattle.bdb_paths.specs.Places.{place_in};
 ghost use Rattle.bdb_val.specs.Reads.{HaveTuples};
 ghost use Rattle.bdb_stored.specs.Structure.{row_placed, rows_of};
-ghost use Rattle.bdb_stored.specs.Valid.{IsPartOf, OnlyReads, StoreSome};
+ghost use Rattle.bdb_catalog.specs.Bases.{StoresSome};
+ghost use Rattle.bdb_catalog.specs.Opening.{IsPartOf};
 ghost use Rattle.bdb_stored.specs.Worlds.{TellsStates};
 
 use crate::named::NamedWorld;

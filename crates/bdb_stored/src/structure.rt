@@ -3,7 +3,9 @@ ghost use Rattle.std.specs.Prelude.{◌≡◌, IfOk};
 ghost use Rattle.bdb_canon.specs.Canonical.{canon_of};
 ghost use Rattle.bdb_keep.specs.Calls.{IsRead};
 ghost use Rattle.bdb_stored.specs.Structure.{ReadsAsCanon};
-ghost use Rattle.bdb_stored.specs.Valid.{IsPartOf, OnlyReads, StoreSome};
+ghost use Rattle.bdb_catalog.specs.Bases.{StoresSome};
+ghost use Rattle.bdb_catalog.specs.Opening.{IsPartOf};
+ghost use Rattle.bdb_tables.specs.Reading.{OnlyReads};
 
 use crate::edges::edges_of;
 use crate::links::worlds_with_links;
@@ -19,7 +21,7 @@ use std::alloc::Global;
 /// The structure of the stored base, read from its tables: the states with their suffix links, the tuples, the edges, and
 /// the rows of the states' worlds. Worlds and tuples are named by their places, whatever numbers the tables give them.
 pub fn canon_of<K: Keeper>(alloc: Global, keeper: &mut K) -> Result<Canon, TabError>
-    requires base { StoreSome (K.seen keeper.old).kept }
+    requires base { StoresSome (K.seen keeper.old).kept }
     ensures canon { IfOk result (IsPartOf canon_of (K.seen keeper.old).kept) }
     ensures reads { IfOk result (ReadsAsCanon (K.seen keeper.old) (K.seen keeper.new)) }
     ensures read { IsRead (K.seen keeper.old) (K.seen keeper.new) result TabError.Fault }

@@ -5,7 +5,8 @@ ghost use Rattle.bdb_base.specs.SortedSet.{sorted_set};
 ghost use Rattle.bdb_base.specs.WorldRows.{tuples_of};
 ghost use Rattle.bdb_base.specs.declared.tuple.Tuple.{Tuple};
 ghost use Rattle.bdb_keep.specs.Calls.{IsRead};
-ghost use Rattle.bdb_stored.specs.Valid.{IsPartOf, StoreSome};
+ghost use Rattle.bdb_catalog.specs.Bases.{StoresSome};
+ghost use Rattle.bdb_catalog.specs.Opening.{IsPartOf};
 
 use bdb_base::{List, Tuple, put_copy};
 use bdb_keep::Keeper;
@@ -14,7 +15,7 @@ use std::alloc::{AllocError, Global};
 
 /// The tuples of the statements, in order. One read for each tuple, and one more.
 pub fn tuples_in_order<K: Keeper>(alloc: Global, keeper: &mut K) -> Result<List<Tuple>, TabError>
-    requires base { StoreSome (K.seen keeper.old).kept }
+    requires base { StoresSome (K.seen keeper.old).kept }
     ensures tuples { IfOk result (IsPartOf (λ b. tuples_of b.stmts) (K.seen keeper.old).kept) }
     ensures reads { IfOk result
         (λ tuples. (K.seen keeper.new).reads ≤ (K.seen keeper.old).reads + (length tuples + 1)) }

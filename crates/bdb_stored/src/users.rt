@@ -3,7 +3,8 @@ ghost use Rattle.std.specs.Prelude.{◌≡◌, IfOk, OnOk};
 ghost use Rattle.bdb_base.specs.Queries.{user_numbers};
 ghost use Rattle.bdb_keep.specs.Calls.{IsRead};
 ghost use Rattle.bdb_stored.specs.Structure.{ReadsPlaces, is_live, live_keys};
-ghost use Rattle.bdb_stored.specs.Valid.{IsPartOf, StoreSome};
+ghost use Rattle.bdb_catalog.specs.Bases.{StoresSome};
+ghost use Rattle.bdb_catalog.specs.Opening.{IsPartOf};
 
 use bdb_base::UserSlot;
 use bdb_keep::Keeper;
@@ -12,7 +13,7 @@ use std::alloc::{AllocError, Global};
 
 /// The numbers of the live users, in order. One read for each place of a user, also of one who is gone, and one more.
 pub fn user_numbers<K: Keeper>(alloc: Global, keeper: &mut K) -> Result<Vec<u32>, TabError>
-    requires base { StoreSome (K.seen keeper.old).kept }
+    requires base { StoresSome (K.seen keeper.old).kept }
     ensures numbers { IfOk result (λ numbers. IsPartOf (λ b. user_numbers b.catalog.users)
         (K.seen keeper.old).kept numbers.items) }
     ensures reads { OnOk result (ReadsPlaces (K.seen keeper.old) (K.seen keeper.new)) }

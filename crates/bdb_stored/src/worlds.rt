@@ -5,7 +5,9 @@ ghost use Rattle.bdb_base.specs.Queries.{user_numbers};
 ghost use Rattle.bdb_base.specs.States.{states_of};
 ghost use Rattle.bdb_keep.specs.Calls.{IsRead};
 ghost use Rattle.bdb_tables.specs.Grammar.{InGrammar};
-ghost use Rattle.bdb_stored.specs.Valid.{IsPartOf, OnlyReads, StoreSome};
+ghost use Rattle.bdb_tables.specs.Reading.{OnlyReads};
+ghost use Rattle.bdb_catalog.specs.Bases.{StoresSome};
+ghost use Rattle.bdb_catalog.specs.Opening.{IsPartOf};
 ghost use Rattle.bdb_stored.specs.Worlds.{TellsChild, TellsChildren, TellsStates};
 
 use crate::items::push_item;
@@ -22,7 +24,7 @@ pub fn worlds_in_order<K: Keeper>(
     keeper: &mut K,
     users: &[u32],
 ) -> Result<Vec<NamedWorld>, TabError>
-    requires base { StoreSome (K.seen keeper.old).kept }
+    requires base { StoresSome (K.seen keeper.old).kept }
     requires users { IsPartOf (λ b. user_numbers b.catalog.users)
         (K.seen keeper.old).kept users.now }
     ensures worlds { IfOk result (λ worlds. TellsStates (K.seen keeper.old).kept worlds.items) }
@@ -49,7 +51,7 @@ fn grow<K: Keeper>(
     users: &[u32],
     count: usize,
 ) -> Result<Vec<NamedWorld>, TabError>
-    requires base { StoreSome (K.seen keeper.old).kept }
+    requires base { StoresSome (K.seen keeper.old).kept }
     requires users { IsPartOf (λ b. user_numbers b.catalog.users)
         (K.seen keeper.old).kept users.now }
     requires count { IsPartOf (λ b. length (states_of b.stmts)) (K.seen keeper.old).kept count }

@@ -3,7 +3,7 @@ ghost use Rattle.std.specs.Prelude.{◌≡◌, true, [], OnOk};
 ghost use Rattle.bdb_base.specs.Bases.{IsCatalog, empty_contents};
 ghost use Rattle.bdb_keep.specs.Seen.{NeverFall, Steps};
 ghost use Rattle.bdb_tables.specs.Stored.{Stores};
-ghost use Rattle.bdb_stored.specs.Valid.{StoresValid};
+ghost use Rattle.bdb_catalog.specs.Bases.{StoresValid};
 ghost use Rattle.bdb_stored.specs.Writing.{AddsNext, AddsPlace, HaveNoRows, SomeMayAddPlace, SomeMayFollow, base_of};
 
 use crate::clearing::clear_tables;

@@ -1,3 +1,4 @@
+pub mod BeginningLemmas
 pub mod CatalogLemmas
 pub mod CopyLemmas
 pub mod DifferenceLemmas

@@ -1,3 +1,4 @@
+pub mod Beginnings
 pub mod Codec
 pub mod Copies
 pub mod Differences
@@ -12,6 +13,7 @@ pub mod Marks
 pub mod Names
 pub mod Parts
 pub mod Raw
+pub mod Reading
 pub mod Rows
 pub mod Spans
 pub mod States

@@ -44,7 +44,8 @@ pub trait Tab {
     /// The key that these bytes are. `NotAKey` comes exactly where they are no key of the table.
     fn key_back(alloc: Global, bytes: &[u8]) -> Result<Self::Key, KeyError>
         ensures ok { IfOk result (Reads codec.IsKey codec.key_bytes bytes.now) }
-        ensures none { IsErrOf result KeyError.NotAKey → NoneReads codec.IsKey codec.key_bytes bytes.now };
+        ensures none { IsErrOf result KeyError.NotAKey → NoneReads codec.IsKey codec.key_bytes
+            bytes.now };
 
     /// Appends the bytes of a row. After a refusal the bytes are unchanged.
     fn row_bytes(row: &Self::Row, out: &mut Vec<u8>) -> Result<(), AllocError>
@@ -56,7 +57,8 @@ pub trait Tab {
     /// The row that these bytes are. `NotARow` comes exactly where they are no row of the table.
     fn row_back(alloc: Global, bytes: &[u8]) -> Result<Self::Row, RowError>
         ensures ok { IfOk result (Reads codec.IsRow codec.row_bytes bytes.now) }
-        ensures none { IsErrOf result RowError.NotARow → NoneReads codec.IsRow codec.row_bytes bytes.now };
+        ensures none { IsErrOf result RowError.NotARow → NoneReads codec.IsRow codec.row_bytes
+            bytes.now };
 
     // the number is one of the keeper's tables
     ghost number_ok: { (1 ≤ codec.number) × (codec.number ≤ 15) × (codec.number ≡ NUMBER) };

@@ -39,7 +39,7 @@ pub record IsTold (t : Tables) (old new : Option (List ℕ)) (status : ℕ) : Ty
   pub whole : status ≢ 4 → (status ≡ verdict_status verdict) × Appends old new (verdict_line verdict)
   pub part : status ≡ 4 → (n : ℕ) × Appends old new (take n (verdict_line verdict))
 
--- How a check of tables ends: a verdict is told, but nothing where the keeper failed, with 5, or for want of memory, with 6.
+-- How a check of tables ends: a verdict is told, but nothing where the keeper failed, with 5, or where memory ran out, with 6.
 pub record IsChecked (t : Tables) (old new : Option (List ℕ)) (status : ℕ) : Type 0 where
   pub statuses : (status ≡ 0) ⊎ ((status ≡ 4) ⊎ ((status ≡ 5) ⊎ ((status ≡ 6) ⊎ (status ≡ 7))))
   pub told : status ≢ 5 → status ≢ 6 → IsTold t old new status

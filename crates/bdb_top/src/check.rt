@@ -23,7 +23,7 @@ pub enum Verdict {
 }
 
 /// Tells whether the keeper's tables hold a base, by a line and the status: 0 where they do, and 7 where they don't. The status
-/// is 4 where the write failed, 5 where the keeper failed, and 6 for want of memory. Nothing is written to the tables.
+/// is 4 where the write failed, 5 where the keeper failed, and 6 where memory ran out. Nothing is written to the tables.
 pub fn check_tables<O: Sink, K: Keeper>(alloc: Global, out: &mut O, keeper: &mut K) -> u8
     requires idle { (K.seen keeper.old).running ≡ false }
     ensures checked { IsChecked (K.seen keeper.old).kept (O.written out.old) (O.written out.new)

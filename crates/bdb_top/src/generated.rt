@@ -15,7 +15,7 @@ use bdb_session::{Session, StopError};
 use std::alloc::{AllocError, Global};
 
 /// Runs the script of a seed and a size over a keeper in memory of its own, and writes the summary. The status is 0, or 4
-/// where the write failed, or 6 for want of memory.
+/// where the write failed, or 6 where memory ran out.
 pub fn summarize<O: Sink>(alloc: Global, seed: u64, size: u32, out: &mut O) -> u8
     requires size { size ≤ most_generated }
     ensures summary { IsSummarized seed size (O.written out.old) (O.written out.new) result }

@@ -23,7 +23,7 @@ pub struct Tally {
     pub answers: u64,
 }
 
-/// Carries out a script, each piece as it is cut, and counts the replies. A count that doesn't fit is told as want of memory.
+/// Carries out a script, each piece as it is cut, and counts the replies. A count that doesn't fit is told as out of memory.
 pub fn tally_script<K: Keeper>(
     alloc: Global,
     session: &mut Session,
@@ -201,7 +201,7 @@ fn with_reply(tally: Tally, reply: &Reply) -> Result<Tally, AllocError>
     })
 }
 
-/// A count and more. One that doesn't fit is told as want of memory.
+/// A count and more. One that doesn't fit is told as out of memory.
 fn added(count: u64, more: u64) -> Result<u64, AllocError>
     ensures { IfOk result (λ sum. sum ≡ count + more) }
 {

@@ -13,7 +13,7 @@ use bdb_base::{Catalog, Exact, List, Query, RelDef};
 use bdb_plan::{Plan, Step};
 use std::alloc::{AllocError, Global};
 
-/// The plan of a safe query that fits a catalog. It looks at no stored rows. The only error is want of memory.
+/// The plan of a safe query that fits a catalog. It looks at no stored rows. The only error is running out of memory.
 #[tactic(auto, using(crate::proofs::TurnLemmas::columns_are_numbered))]
 pub fn translate(alloc: Global, catalog: &Catalog, q: &Query) -> Result<Plan, AllocError>
     requires fits { query_fits catalog.now q.now ≡ true }

@@ -337,7 +337,7 @@ other_than users uid other n h = elim (cases_Bool (nat_eq other uid)) [
   | inr d ↦ d
 ]
 
-unnamed : (users : List UserSlot) (uid : ℕ) (w : List ℕ) → is_user users uid ≡ false → list_all (is_user users) w ≡ true → names_user uid w ≡ false
+pub unnamed : (users : List UserSlot) (uid : ℕ) (w : List ℕ) → is_user users uid ≡ false → list_all (is_user users) w ≡ true → names_user uid w ≡ false
 unnamed users uid [] n h = refl
 unnamed users uid (i ∷ w) n h =
     let k = and_parts (is_user users i) (list_all (is_user users) w) h in

@@ -54,7 +54,7 @@ impl Change {
 }
 
 /// The statements that do not stand among others, which are in order: those that went, or those that came, where one list
-/// takes the place of the other. The only error is want of memory.
+/// takes the place of the other. The only error is running out of memory.
 pub fn missing_from(
     alloc: Global,
     others: &[Stmt],

@@ -29,7 +29,7 @@ impl Model for History {
 }
 
 impl History {
-    /// A history of no changes, with the room for all that it will ever keep. The only error is want of memory.
+    /// A history of no changes, with the room for all that it will ever keep. The only error is running out of memory.
     pub fn new(alloc: Global) -> Result<Self, AllocError>
         ensures { IfOk result (λ h. h ≡ nothing_kept) }
     {

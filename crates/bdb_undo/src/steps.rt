@@ -12,8 +12,8 @@ use std::alloc::{AllocError, Global};
 
 /// Takes a change back: whichever base the change leads from to the one held, that one comes out. The statements that came
 /// are taken away first, then the name that was added (or he who left comes back), and then the statements that went are put
-/// back; so each base between is valid. The only error is want of memory, after which nothing is said of the base but that it is valid, by the
-/// invariant of `Base`.
+/// back; so each base between is valid. The only error is running out of memory, after which nothing is said of the base but
+/// that it is valid, by the invariant of `Base`.
 pub fn change_back(alloc: Global, base: &mut Base, change: &Change) -> Result<(), AllocError>
     requires { LeadsTo change.now base.old }
     ensures { (a : Contents) → Leads change.now a base.old → OnOk result (base.new ≡ a) }
@@ -26,8 +26,8 @@ pub fn change_back(alloc: Global, base: &mut Base, change: &Change) -> Result<()
 
 /// Makes a change again: whichever base the change leads to from the one held, that one comes out. The statements that go
 /// are taken away first, then the name is added (or the user leaves), and then the statements that come are put in; so each
-/// base between is valid. The only error is want of memory, after which nothing is said of the base but that it is valid, by the invariant
-/// of `Base`.
+/// base between is valid. The only error is running out of memory, after which nothing is said of the base but that it is
+/// valid, by the invariant of `Base`.
 pub fn change_forth(alloc: Global, base: &mut Base, change: &Change) -> Result<(), AllocError>
     requires { LeadsFrom change.now base.old }
     ensures { (b : Contents) → Leads change.now base.old b → OnOk result (base.new ≡ b) }

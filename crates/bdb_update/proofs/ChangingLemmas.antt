@@ -16,7 +16,7 @@ use Rattle.bdb_keep.specs.Tables.{Tables}
 use Rattle.bdb_tables.specs.declared.tab.TabError.{TabError}
 use Rattle.bdb_tables.specs.declared.tab.TabError.TheVariants as stop
 use Rattle.bdb_val.specs.Steps.{IsChanging}
-use Rattle.bdb_update.specs.Calls.{MayChange, SomeMayChange, Changes, IsUntouched, HasStopped, StoresSized, of_stmts, with_others, without_statements}
+use Rattle.bdb_update.specs.Calls.{MayChange, SomeMayChange, Changes, IsUntouched, HasStopped, StoresSized, with_stmts, with_others, without_statements}
 use Rattle.bdb_update.specs.Replacing.{MayReplaceAll, SomeMayReplace, Replace}
 use Rattle.bdb_tables.specs.Stored.{Stores}
 use Rattle.bdb_update.specs.Steps.{ChangesThrough, ReplacesThrough, WritesThrough, steps_of}
@@ -49,8 +49,8 @@ nothing_changes s c w gone come e b m = record {
       ((no_first_clashing (key_lengths b.catalog.rels) b.stmts w).1 (valid_is_consistent b.catalog b.stmts m.base.valid w));
   room = subst (λ ys. tuple_count ys ≤ most_tuples) same (leb-true (tuple_count b.stmts) most_tuples m.base.valid.stmts.few_tuples);
   becomes = record {
-    stored = subst (λ ys. Stores s.kept (of_stmts b ys)) same m.base.stored;
-    counted = subst (λ ys. c ≡ counts_of (of_stmts b ys)) same m.base.counted;
+    stored = subst (λ ys. Stores s.kept (with_stmts b ys)) same m.base.stored;
+    counted = subst (λ ys. c ≡ counts_of (with_stmts b ys)) same m.base.counted;
     goes_on = (quiet_itself s).goes;
   };
 }
@@ -131,7 +131,7 @@ changed_through old mid new c w gone come x first q h r b m =
 pub nothing_keeps : (s : Seen) (c : Counts) (w : List ℕ) (gone come : List Stmt) → slice_get gone 0 ≡ None → ChangeKeeps c w gone come s s
 nothing_keeps s c w gone come e b m = record {
   between = s.kept;
-  stored = subst (λ (xs : List Stmt). Stores s.kept (of_stmts b (without_statements b.stmts xs))) (sym (no_items gone e)) m.base.stored;
+  stored = subst (λ (xs : List Stmt). Stores s.kept (with_stmts b (without_statements b.stmts xs))) (sym (no_items gone e)) m.base.stored;
   before = keeps_same s.kept s.kept refl;
   after = keeps_same s.kept s.kept refl;
 }
@@ -139,7 +139,7 @@ nothing_keeps s c w gone come e b m = record {
 pub changed_keeps : (old mid new : Seen) (c : Counts) (w : List ℕ) (gone come : List Stmt) (x : Stmt) → slice_get gone 0 ≡ Some x → IsQuiet old mid → Weighs old.kept c x.path gone come Fits
     → ReplaceKeeps c gone come mid new → ChangeKeeps c w gone come old new
 changed_keeps old mid new c w gone come x first q h r b m =
-    subst (λ (t : Tables). KeepsBetween (of_stmts b (without_statements b.stmts gone)) t new.kept) q.kept
+    subst (λ (t : Tables). KeepsBetween (with_stmts b (without_statements b.stmts gone)) t new.kept) q.kept
     (r b (subst (λ (t : Tables). MayReplaceAll t c gone come b) (sym q.kept) (may_replace_all old.kept c w gone come x first h b m)))
 
 -- ---- nothing could be read or written

@@ -74,7 +74,7 @@ first_tell (suc n) (x ∷ xs) (y ∷ ys) = by (value_cmp x y) (row_cmp (take n x
     by Greater a q d = inr refl
 
 -- the keys of two tuples of one relation tie, or they compare as the values do
-keys_tell : (keys : ℕ → ℕ) (t u : Tuple) → nat_cmp t.rel u.rel ≡ Equal → (row_cmp (key_of keys t) (key_of keys u) ≡ Equal) ⊎ (row_cmp (key_of keys t) (key_of keys u) ≡ row_cmp t.vals u.vals)
+pub keys_tell : (keys : ℕ → ℕ) (t u : Tuple) → nat_cmp t.rel u.rel ≡ Equal → (row_cmp (key_of keys t) (key_of keys u) ≡ Equal) ⊎ (row_cmp (key_of keys t) (key_of keys u) ≡ row_cmp t.vals u.vals)
 keys_tell keys t u e =
     let rel : t.rel ≡ u.rel = eqb-true t.rel u.rel (sym (is_eq_nat_cmp t.rel u.rel) ∙ ap is_eq e) in
     subst (λ (r : ℕ). (row_cmp (key_of keys t) (take (keys r) u.vals) ≡ Equal) ⊎ (row_cmp (key_of keys t) (take (keys r) u.vals) ≡ row_cmp t.vals u.vals)) rel (first_tell (keys t.rel) t.vals u.vals)

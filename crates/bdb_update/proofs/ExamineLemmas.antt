@@ -16,7 +16,7 @@ use Rattle.bdb_tables.specs.Names.{number_of, is_named}
 use Rattle.bdb_val.specs.declared.stored.Stored.{Stored}
 use Rattle.bdb_worlds.specs.Reach.{ReachesState}
 use Rattle.bdb_update.specs.Calls.{MayMeet, SomeMayMeet, clash_of, size_passed, with_one}
-use Rattle.bdb_update.specs.Examining.{AreSizes, IsVerdict, Examines}
+use Rattle.bdb_update.specs.Examining.{AreSizes, IsProspect, Examines}
 use Rattle.bdb_update.specs.Joining.{IsWorldFound, IsWorldIfAny}
 use Rattle.bdb_update.specs.Looking.{IsPlace, IsSmall, is_own, least_row, counts_with, filled_by, joined_by, judged_by, judged, state_of}
 use Rattle.bdb_update.specs.declared.looking.Place.{Place}
@@ -72,10 +72,10 @@ module _ (t : Tables) (c : Counts) (x : Stmt) (p : Place) (place : IsPlace t x p
         stmts = ap (λ (k : Counts). k.stmts + 1) e ∙ sym (stmts_with t x p place b s v may.belongs fresh);
       }
 
-  verdict : IsVerdict t b x (judged x p c)
+  verdict : IsProspect t b x (judged x p c)
   verdict = by_row (least_row (λ _. p.key_len) x p.rows.items) refl
     where
-      by_size : clash_of b x ≡ None → stands b.stmts x ≡ false → (o : Option What) → size_passed (counts_with x p c) ≡ o → IsVerdict t b x (filled_by x p (counts_with x p c) o)
+      by_size : clash_of b x ≡ None → stands b.stmts x ≡ false → (o : Option What) → size_passed (counts_with x p c) ≡ o → IsProspect t b x (filled_by x p (counts_with x p c) o)
       by_size apart fresh None e = record {
         fresh = fresh;
         apart = apart;
@@ -88,11 +88,11 @@ module _ (t : Tables) (c : Counts) (x : Stmt) (p : Place) (place : IsPlace t x p
       }
       by_size apart fresh (Some what) e = (apart, sym (sizes_pass (counts_with x p c) (counts_of (with_one b x)) (sizes fresh)) ∙ e)
 
-      by_own : clash_of b x ≡ None → (own : Bool) → list_any (is_own x) p.rows.items ≡ own → IsVerdict t b x (joined_by x p c own)
+      by_own : clash_of b x ≡ None → (own : Bool) → list_any (is_own x) p.rows.items ≡ own → IsProspect t b x (joined_by x p c own)
       by_own apart true e = standing_found t x p place b may.base.stored may.base.valid may.belongs e
       by_own apart false e = by_size apart (none_standing t x p place b may.base.stored may.base.valid may.belongs e) (size_passed (counts_with x p c)) refl
 
-      by_row : (o : Option Stored) → least_row (λ _. p.key_len) x p.rows.items ≡ o → IsVerdict t b x (judged_by x p c o)
+      by_row : (o : Option Stored) → least_row (λ _. p.key_len) x p.rows.items ≡ o → IsProspect t b x (judged_by x p c o)
       by_row (Some r) e = clash_found t x p place b may.base.stored may.base.valid may.belongs r e
       by_row None e = by_own (no_clash_found t x p place b may.base.stored may.base.valid may.belongs e) (list_any (is_own x) p.rows.items) refl
 

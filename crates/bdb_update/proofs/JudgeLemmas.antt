@@ -28,7 +28,7 @@ use Rattle.bdb_base.proofs.WorldLemmas.{nothing_stands, valid_is_consistent}
 use Rattle.bdb_keep.specs.Tables.{Tables}
 use Rattle.bdb_paths.proofs.StateLemmas.{list_any_same, put_counts_worlds, states_have_prefixes}
 use Rattle.bdb_tables.specs.Names.{number_of}
-use Rattle.bdb_val.specs.Reads.{is_of_group, group_prefix}
+use Rattle.bdb_val.specs.Reads.{is_of_group}
 use Rattle.bdb_val.specs.declared.stored.Stored.{Stored}
 use Rattle.bdb_val.proofs.WalkLemmas.{is_group}
 use Rattle.bdb_worlds.proofs.GrowLemmas.{take_split}
@@ -40,6 +40,7 @@ use Rattle.bdb_update.specs.Groups.{AreExplicitUnder}
 use Rattle.bdb_update.specs.Keys.{keys_of}
 use Rattle.bdb_update.specs.Looking.{IsPlace, is_clashing, is_own, least_row, prefix_of}
 use Rattle.bdb_tables.specs.Stored.{Stores}
+use Rattle.bdb_tables.specs.GroupMarks.{group_bytes}
 use Rattle.bdb_update.specs.declared.looking.Place.{Place}
 use Rattle.bdb_update.proofs.ExplicitLemmas.{AmongAll, among_all, filtered, is_explicit_row, unfiltered}
 use Rattle.bdb_update.proofs.GrammarLemmas.{stored_is_in_grammar}
@@ -126,7 +127,7 @@ module _ (t : Tables) (x : Stmt) (p : Place) (place : IsPlace t x p) (b : Conten
     number = ap (number_of s.names) (sym (take_all p.len x.path (omega arith))) ∙ reached.number
 
     prefix_is : prefix_of (λ _. p.key_len) p.wid x ≡ prefix_of (keys_of b) p.wid x
-    prefix_is = ap (group_prefix p.wid x.tuple.rel) (key_by_length (keys_of b) p.key_len x.tuple length_is)
+    prefix_is = ap (group_bytes p.wid x.tuple.rel) (key_by_length (keys_of b) p.key_len x.tuple length_is)
 
     among : AmongAll t (prefix_of (keys_of b) p.wid x) rows
     among = among_all t (prefix_of (keys_of b) p.wid x) rows (stored_is_in_grammar t b s) (over_has_tuples b.stmts b.stmts s.names s.tuples t b s.stored)

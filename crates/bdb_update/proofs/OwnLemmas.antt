@@ -17,12 +17,13 @@ use Rattle.bdb_tables.specs.Marks.{Mark, explicit_of, explicit_sign}
 use Rattle.bdb_tables.specs.Names.{Names, path_of, number_of}
 use Rattle.bdb_tables.specs.Rows.{Tuples, row_for, AreKeyLengths}
 use Rattle.bdb_val.specs.Middle.{worlds_of, HasExplicit}
-use Rattle.bdb_val.specs.Reads.{AreReadUnder, IsSpan, is_of_group, group_prefix}
+use Rattle.bdb_val.specs.Reads.{AreReadUnder, IsSpan, is_of_group}
 use Rattle.bdb_val.specs.Settling.{mark_in, AreNamed}
 use Rattle.bdb_val.specs.declared.stored.Stored.{Stored}
 use Rattle.bdb_val.proofs.HeldLemmas.{some_is, held_rows_are_explicit}
 use Rattle.bdb_val.proofs.ReadLemmas.{read_named, read_mark, read_apart, told_tested, group_span, key_of_fits}
 use Rattle.bdb_tables.specs.Stored.{StoredAs}
+use Rattle.bdb_tables.specs.GroupMarks.{group_bytes}
 use Rattle.bdb_val.proofs.StepLemmas.{mark_of_each}
 use Rattle.bdb_update.proofs.KeyLemmas.{lengths_fit}
 use Rattle.bdb_update.proofs.MarkLemmas.{sign_explicit, explicit_is_sign, explicit_is, row_found, both}
@@ -33,7 +34,7 @@ abbrev pub IsSaid : List Stmt → List ℕ → Stored → Type 0
 IsSaid stmts w r = r.mark.1 ≡ true → explicit stmts w r.tuple r.mark.0 ≡ true
 
 module _ (t : Tables) (b : Contents) (ns : Names) (ts : Tuples) (stored : StoredAs ns ts t b) (consistent : IsConsistent (keys_of b) b.stmts) (w : List ℕ) (wid : ℕ) (number : number_of ns w ≡ Some wid)
-    (u : Tuple) (fits : IsTupleRow u) (rows : List Stored) (read : AreReadUnder t (group_prefix wid u.rel (key_of (keys_of b) u)) rows) where
+    (u : Tuple) (fits : IsTupleRow u) (rows : List Stored) (read : AreReadUnder t (group_bytes wid u.rel (key_of (keys_of b) u)) rows) where
   abbrev held : ValKey → Option Mark
   held = row_for (keys_of b) b.stmts (path_of ns) ts.tuple
 
@@ -53,21 +54,21 @@ module _ (t : Tables) (b : Contents) (ns : Names) (ts : Tuples) (stored : Stored
   has : HasExplicit (keys_of b) b.stmts (worlds_of ns) ts.tuple held t
   has = held_rows_are_explicit (keys_of b) b.stmts ns ts t lengths stored.states.names (λ v e. stored.worlds v ∙ e) consistent stored.tuples stored.rows
 
-  span : IsSpan (keys_of b) wid test (group_prefix wid u.rel (key_of (keys_of b) u))
+  span : IsSpan (keys_of b) wid test (group_bytes wid u.rel (key_of (keys_of b) u))
   span = group_span (keys_of b) lengths wid u.rel (key_of (keys_of b) u) wid_fits fits.rel (key_of_fits (keys_of b) lengths u fits)
 
   tuples : AreNamed ts.tuple rows
-  tuples = read_named (keys_of b) ts.tuple held t has.rows (group_prefix wid u.rel (key_of (keys_of b) u)) rows read
+  tuples = read_named (keys_of b) ts.tuple held t has.rows (group_bytes wid u.rel (key_of (keys_of b) u)) rows read
 
   tested : AllByRecursion (λ r. test r.tuple ≡ true) rows
-  tested = told_tested (keys_of b) ts.tuple held t has.rows wid test (group_prefix wid u.rel (key_of (keys_of b) u)) rows span read
+  tested = told_tested (keys_of b) ts.tuple held t has.rows wid test (group_bytes wid u.rel (key_of (keys_of b) u)) rows span read
 
   marks : AllByRecursion (λ r. mark_in rows r.tid ≡ Some r.mark) rows
-  marks = mark_of_each rows rows (λ _ _ k. k) (read_apart (keys_of b) ts.tuple held t has.rows wid test (group_prefix wid u.rel (key_of (keys_of b) u)) rows span read)
+  marks = mark_of_each rows rows (λ _ _ k. k) (read_apart (keys_of b) ts.tuple held t has.rows wid test (group_bytes wid u.rel (key_of (keys_of b) u)) rows span read)
 
   mark : (tid : ℕ) (v : Tuple) → ts.tuple tid ≡ Some v → test v ≡ true → explicit_of (mark_in rows tid) ≡ explicit_sign b.stmts w v
   mark tid v n e =
-      ap explicit_of (read_mark (keys_of b) ts.tuple held t has.rows wid test (group_prefix wid u.rel (key_of (keys_of b) u)) rows wid_fits span read tid v n e)
+      ap explicit_of (read_mark (keys_of b) ts.tuple held t has.rows wid test (group_bytes wid u.rel (key_of (keys_of b) u)) rows wid_fits span read tid v n e)
       ∙ has.explicit wid w tid v named n
 
   -- each explicit row is a statement

@@ -8,15 +8,15 @@ use Rattle.bdb_keep.specs.Tables.{Tables}
 use Rattle.bdb_key.specs.Rows.{IsTupleRow}
 use Rattle.bdb_tables.specs.Codec.{HasAt}
 use Rattle.bdb_tables.specs.InUse.{tuple_ix_codec}
-use Rattle.bdb_val.specs.Reads.{group_prefix}
 use Rattle.bdb_val.specs.declared.stored.Stored.{Stored}
 use Rattle.bdb_worlds.specs.Reach.{ReachesState}
 use Rattle.bdb_update.specs.Groups.{AreExplicitUnder}
 use Rattle.bdb_tables.specs.Lengths.{IsKeyLength}
+use Rattle.bdb_tables.specs.GroupMarks.{group_bytes}
 use Rattle.bdb_update.specs.Looking.{AreRowsIf, IsPlace, prefix_of}
 use Rattle.bdb_update.specs.declared.looking.Place.{Place}
 
-rows_asked : (keys : ℕ → ℕ) (t : Tables) (wid : ℕ) (u : Tuple) (asked : Bool) (rows : List Stored) → AreRowsIf keys t wid u asked rows → asked ≡ true → AreExplicitUnder t (group_prefix wid u.rel (key_of keys u)) rows
+rows_asked : (keys : ℕ → ℕ) (t : Tables) (wid : ℕ) (u : Tuple) (asked : Bool) (rows : List Stored) → AreRowsIf keys t wid u asked rows → asked ≡ true → AreExplicitUnder t (group_bytes wid u.rel (key_of keys u)) rows
 rows_asked keys t wid u true rows h e = h
 rows_asked keys t wid u false rows h e = absurd cc
 

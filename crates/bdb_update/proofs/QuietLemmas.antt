@@ -8,7 +8,7 @@ use Rattle.bdb_tables.specs.declared.tab.TabError.TheVariants as stop
 use Rattle.bdb_tables.proofs.Loops.{counts_then}
 use Rattle.bdb_update.proofs.CallLemmas.{IsQuiet, quiet_read, quiet_then}
 
--- reads that went on are undone, for want of memory
+-- reads that went on are undone, as memory ran out
 pub read_undone : {T : Type 0} (old a b : Seen) → old.running ≡ true → IsQuiet old a → IsUndo a b → IsRead {T = T} {E = TabError} old b (Err stop.Memory) stop.Fault
 read_undone old a b run q u = record {
   rest = λ f. absurd (false≢true (sym f ∙ run));

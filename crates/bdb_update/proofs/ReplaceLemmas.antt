@@ -30,7 +30,7 @@ use Rattle.bdb_tables.specs.declared.tab.TabError.{TabError}
 use Rattle.bdb_tables.specs.declared.tab.TabError.TheVariants as stop
 use Rattle.bdb_val.specs.Steps.{IsChanging}
 use Rattle.bdb_val.proofs.Calls.{HasGone, gone_then, changing_err}
-use Rattle.bdb_update.specs.Calls.{StoresSized, MayMeet, SomeMayMeet, Drops, IsDropping, Adds, IsAdding, clash_of, of_stmts, size_passed, with_one, without_one, without_statements}
+use Rattle.bdb_update.specs.Calls.{StoresSized, MayMeet, SomeMayMeet, Drops, IsDropping, Adds, IsAdding, clash_of, with_stmts, size_passed, with_one, without_one, without_statements}
 use Rattle.bdb_update.specs.Replacing.{MayGo, SomeMayGo, Go, MayCome, SomeMayCome, Come, MayReplaceAll, SomeMayReplace, Replace, is_stop}
 use Rattle.bdb_tables.specs.Stored.{Stores}
 use Rattle.bdb_update.specs.Bounds.{WritesWithin}
@@ -75,9 +75,9 @@ may_meet t c x gone b m = record {
 -- written so far what is written for all
 pub record IsLeft (old now : Seen) (c : Counts) (all gone end : List Stmt) (b : Contents) : Type 0 where
   pub stmts : List Stmt
-  pub may : MayGo now.kept c gone (of_stmts b stmts)
+  pub may : MayGo now.kept c gone (with_stmts b stmts)
   pub ends : without_statements stmts gone ≡ end
-  pub through : (last : Seen) → WritesThrough now (steps_without (of_stmts b stmts) gone) last → WritesThrough old (steps_without b all) last
+  pub through : (last : Seen) → WritesThrough now (steps_without (with_stmts b stmts) gone) last → WritesThrough old (steps_without b all) last
 
 -- statements have gone, and these are left
 pub record IsGoing (old new : Seen) (before now : Counts) (all rest : List Stmt) : Type 0 where
@@ -89,14 +89,14 @@ going_begins s c all g = record { gone = g; left = λ b m. record { stmts = b.st
 
 pub going_ends : (old new : Seen) (before now : Counts) (all : List Stmt) → IsGoing old new before now all [] → Go old.kept new.kept before now all
 going_ends old new before now all g b m =
-    let l = g.left b m in subst (λ ys. StoresSized new.kept now (of_stmts b ys)) l.ends l.may.base
+    let l = g.left b m in subst (λ ys. StoresSized new.kept now (with_stmts b ys)) l.ends l.may.base
 
 pub gone_through : (old new : Seen) (before now : Counts) (all : List Stmt) → IsGoing old new before now all [] → GoesThrough before all old new
 gone_through old new before now all g b m = (g.left b m).through new (refl, refl)
 
 pub some_left : (old new : Seen) (before now : Counts) (all : List Stmt) (x : Stmt) (rest : List Stmt) → IsGoing old new before now all (x ∷ rest) → SomeMayGo old.kept before all → SomeMayMeet new.kept now x
 some_left old new before now all x rest g s =
-    let l = g.left s.base s.may in record { base = of_stmts s.base l.stmts; may = may_meet new.kept now x rest (of_stmts s.base l.stmts) l.may }
+    let l = g.left s.base s.may in record { base = with_stmts s.base l.stmts; may = may_meet new.kept now x rest (with_stmts s.base l.stmts) l.may }
 
 -- how a drop went on
 went_on : (b : Contents) (x : Stmt) (old new : Seen) (c d : Counts) (r : Bool) → IsDropping b x old new c d (Ok r) → GoesOn old new
@@ -117,10 +117,10 @@ pub going_more : (old mid new : Seen) (before now next : Counts) (all : List Stm
     → Drops mid new now next x (Ok r) → WritesWithin (length x.path + 2) 8 mid new → NeverFall mid new → KeepsNumbers new.kept mid.kept → IsGoing old new before next all rest
 going_more old mid new before now next all x rest r some g d w f n =
     let l = g.left some.base some.may in
-    let b0 = of_stmts some.base l.stmts in
+    let b0 = with_stmts some.base l.stmts in
     record {
       gone = gone_then old mid new g.gone (record { goes = went_on b0 x mid new now next r (d b0 (may_meet mid.kept now x rest b0 l.may)); counts = f });
-      left = λ b m. let k = g.left b m in let c = of_stmts b k.stmts in record {
+      left = λ b m. let k = g.left b m in let c = with_stmts b k.stmts in record {
         stmts = without_statement k.stmts x;
         may = one_left c x rest mid new now next r k.may (d c (may_meet mid.kept now x rest c k.may));
         ends = k.ends;
@@ -136,7 +136,7 @@ pub going_stops : {T : Type 0} (old mid new : Seen) (before now next : Counts) (
     → Drops mid new now next x (Err e) → NeverFall mid new → IsChanging {T = T} {E = TabError} old new (Err e) stop.Fault
 going_stops {T} old mid new before now next all x rest e some g d f =
     let l = g.left some.base some.may in
-    let b0 = of_stmts some.base l.stmts in
+    let b0 = with_stmts some.base l.stmts in
     changing_err {T = T} {U = T} old mid new e stop.Fault g.gone (drop_stops {T = T} b0 x mid new now next e (d b0 (may_meet mid.kept now x rest b0 l.may)) f)
 
 -- ---- a statement comes
@@ -189,9 +189,9 @@ stands_already stmts x s e = members_make_set statement_exact (with_statement st
 -- the statements that are left to come, what the base comes to, and what is written for all
 pub record IsToCome (old now : Seen) (c : Counts) (all come end : List Stmt) (b : Contents) : Type 0 where
   pub stmts : List Stmt
-  pub may : MayCome now.kept c come (of_stmts b stmts)
+  pub may : MayCome now.kept c come (with_stmts b stmts)
   pub ends : with_statements stmts come ≡ end
-  pub through : (last : Seen) → WritesThrough now (steps_with (of_stmts b stmts) come) last → WritesThrough old (steps_with b all) last
+  pub through : (last : Seen) → WritesThrough now (steps_with (with_stmts b stmts) come) last → WritesThrough old (steps_with b all) last
 
 -- statements have come, and these are left
 pub record IsComing (old new : Seen) (before now : Counts) (all rest : List Stmt) : Type 0 where
@@ -203,14 +203,14 @@ coming_begins s c all g = record { gone = g; left = λ b m. record { stmts = b.s
 
 pub coming_ends : (old new : Seen) (before now : Counts) (all : List Stmt) → IsComing old new before now all [] → Come old.kept new.kept before now all
 coming_ends old new before now all g b m =
-    let l = g.left b m in subst (λ ys. StoresSized new.kept now (of_stmts b ys)) l.ends l.may.base
+    let l = g.left b m in subst (λ ys. StoresSized new.kept now (with_stmts b ys)) l.ends l.may.base
 
 pub come_through : (old new : Seen) (before now : Counts) (all : List Stmt) → IsComing old new before now all [] → ComesThrough before all old new
 come_through old new before now all g b m = (g.left b m).through new (refl, refl)
 
 pub some_to_come : (old new : Seen) (before now : Counts) (all : List Stmt) (x : Stmt) (rest : List Stmt) → IsComing old new before now all (x ∷ rest) → SomeMayCome old.kept before all → SomeMayMeet new.kept now x
 some_to_come old new before now all x rest g s =
-    let l = g.left s.base s.may in record { base = of_stmts s.base l.stmts; may = may_add new.kept now x rest (of_stmts s.base l.stmts) l.may }
+    let l = g.left s.base s.may in record { base = with_stmts s.base l.stmts; may = may_add new.kept now x rest (with_stmts s.base l.stmts) l.may }
 
 came_on : (b : Contents) (x : Stmt) (old new : Seen) (c d : Counts) (r : Added) → IsAdding b x old new c d (Ok r) → GoesOn old new
 came_on b x old new c d New h = h.becomes.goes_on
@@ -224,7 +224,7 @@ one_came b x rest old new c d New m h = record {
 }
 one_came b x rest old new c d Already m h =
     let same : b.stmts ≡ with_statement b.stmts x = sym (stands_already b.stmts x m.base.valid.stmts.sorted h.there) in
-    let base : StoresSized new.kept d (with_one b x) = subst (λ ys. StoresSized new.kept d (of_stmts b ys)) same (record {
+    let base : StoresSized new.kept d (with_one b x) = subst (λ ys. StoresSized new.kept d (with_stmts b ys)) same (record {
       stored = subst (λ (t : Tables). Stores t b) (sym h.untouched.kept) m.base.stored;
       valid = m.base.valid;
       counted = h.untouched.counts ∙ m.base.counted;
@@ -239,10 +239,10 @@ pub coming_more : (old mid new : Seen) (before now next : Counts) (all : List St
     → Adds mid new now next x (Ok r) → WritesWithin (length x.path + 2) 8 mid new → NeverFall mid new → KeepsNumbers mid.kept new.kept → IsComing old new before next all rest
 coming_more old mid new before now next all x rest r some g d w f n =
     let l = g.left some.base some.may in
-    let b0 = of_stmts some.base l.stmts in
+    let b0 = with_stmts some.base l.stmts in
     record {
       gone = gone_then old mid new g.gone (record { goes = came_on b0 x mid new now next r (d b0 (may_add mid.kept now x rest b0 l.may)); counts = f });
-      left = λ b m. let k = g.left b m in let c = of_stmts b k.stmts in record {
+      left = λ b m. let k = g.left b m in let c = with_stmts b k.stmts in record {
         stmts = with_statement k.stmts x;
         may = one_came c x rest mid new now next r k.may (d c (may_add mid.kept now x rest c k.may));
         ends = k.ends;
@@ -250,7 +250,7 @@ coming_more old mid new before now next all x rest r some g d w f n =
       };
     }
 
--- nothing else refuses it than a fault or want of memory
+-- nothing else refuses it than a fault or running out of memory
 is_stopped : (b : Contents) (x : Stmt) (rest : List Stmt) (old new : Seen) (c d : Counts) (e : UpdateError) → MayCome old.kept c (x ∷ rest) b → IsAdding b x old new c d (Err e) → is_stop e ≡ true
 is_stopped b x rest old new c d (Clash least) m h = absurd (no_clash b x least m.base.valid (with_valid old.kept c x rest b m) h.clash)
 is_stopped b x rest old new c d (Full what) m h = absurd (no_limit (with_one b x) what (with_valid old.kept c x rest b m) h.passed)
@@ -261,7 +261,7 @@ pub coming_is_stopped : (old mid new : Seen) (before now next : Counts) (all : L
     → Adds mid new now next x (Err e) → is_stop e ≡ true
 coming_is_stopped old mid new before now next all x rest e some g d =
     let l = g.left some.base some.may in
-    let b0 = of_stmts some.base l.stmts in
+    let b0 = with_stmts some.base l.stmts in
     is_stopped b0 x rest mid new now next e l.may (d b0 (may_add mid.kept now x rest b0 l.may))
 
 add_stops : {T : Type 0} (b : Contents) (x : Stmt) (old new : Seen) (c d : Counts) (e : TabError) → IsAdding b x old new c d (Err (stopped_by e)) → NeverFall old new → IsChanging {T = T} {E = TabError} old new (Err e) stop.Fault
@@ -272,7 +272,7 @@ pub coming_stops : {T : Type 0} (old mid new : Seen) (before now next : Counts) 
     → IsComing old mid before now all (x ∷ rest) → Adds mid new now next x (Err u) → NeverFall mid new → IsChanging {T = T} {E = TabError} old new (Err e) stop.Fault
 coming_stops {T} old mid new before now next all x rest u e is some g d f =
     let l = g.left some.base some.may in
-    let b0 = of_stmts some.base l.stmts in
+    let b0 = with_stmts some.base l.stmts in
     let h : IsAdding b0 x mid new now next (Err (stopped_by e)) = subst (λ z. IsAdding b0 x mid new now next (Err z)) is (d b0 (may_add mid.kept now x rest b0 l.may)) in
     changing_err {T = T} {U = T} old mid new e stop.Fault g.gone (add_stops {T = T} b0 x mid new now next e h f)
 
@@ -281,14 +281,14 @@ coming_stops {T} old mid new before now next all x rest u e is some g d f =
 pub some_gone : (t : Tables) (c : Counts) (gone come : List Stmt) → SomeMayReplace t c gone come → SomeMayGo t c gone
 some_gone t c gone come s = record { base = s.base; may = s.may.may }
 
-to_come : (t u : Tables) (c d : Counts) (gone come : List Stmt) (b : Contents) → Go t u c d gone → MayReplaceAll t c gone come b → MayCome u d come (of_stmts b (without_statements b.stmts gone))
+to_come : (t u : Tables) (c d : Counts) (gone come : List Stmt) (b : Contents) → Go t u c d gone → MayReplaceAll t c gone come b → MayCome u d come (with_stmts b (without_statements b.stmts gone))
 to_come t u c d gone come b g m = record { base = g b m.may; belong = m.belong; next = m.next }
 
 pub some_come : (t u : Tables) (c d : Counts) (gone come : List Stmt) → Go t u c d gone → SomeMayReplace t c gone come → SomeMayCome u d come
-some_come t u c d gone come g s = record { base = of_stmts s.base (without_statements s.base.stmts gone); may = to_come t u c d gone come s.base g s.may }
+some_come t u c d gone come g s = record { base = with_stmts s.base (without_statements s.base.stmts gone); may = to_come t u c d gone come s.base g s.may }
 
 pub replaced : (t u v : Tables) (a b c : Counts) (gone come : List Stmt) → Go t u a b gone → Come u v b c come → Replace t v a c gone come
-replaced t u v a b c gone come g k base m = k (of_stmts base (without_statements base.stmts gone)) (to_come t u a b gone come base g m)
+replaced t u v a b c gone come g k base m = k (with_stmts base (without_statements base.stmts gone)) (to_come t u a b gone come base g m)
 
 -- ---- how often is written
 
@@ -311,7 +311,7 @@ through_then old mid new (e ∷ es) fs h k = (h.0, h.1, h.2, h.3, h.4, through_t
 
 pub replaced_through : (old mid new : Seen) (c d : Counts) (gone come : List Stmt) → Go old.kept mid.kept c d gone → GoesThrough c gone old mid → ComesThrough d come mid new → ReplacesThrough c gone come old new
 replaced_through old mid new c d gone come g h k b m =
-    let next = of_stmts b (without_statements b.stmts gone) in
+    let next = with_stmts b (without_statements b.stmts gone) in
     through_then old mid new (steps_without b gone) (steps_with next come) (h b m.may) (k next (to_come old.kept mid.kept c d gone come b g m))
 
 pub replaced_keeps : (old mid new : Seen) (c d : Counts) (gone come : List Stmt) → Go old.kept mid.kept c d gone → KeepsNumbers mid.kept old.kept → KeepsNumbers mid.kept new.kept → ReplaceKeeps c gone come old new

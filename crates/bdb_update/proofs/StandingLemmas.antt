@@ -9,10 +9,10 @@ use Rattle.bdb_keep.specs.Calls.{IsRead}
 use Rattle.bdb_keep.specs.Seen.{Seen, Steps}
 use Rattle.bdb_keep.specs.Tables.{Tables}
 use Rattle.bdb_tables.proofs.Loops.{steps_ok}
-use Rattle.bdb_update.specs.Calls.{of_stmts, size_passed}
-use Rattle.bdb_update.specs.Examining.{Examines, IsVerdict, StandsThere, says_stands}
-use Rattle.bdb_update.specs.declared.looking.Verdict.{Verdict}
-use Rattle.bdb_update.specs.declared.looking.Verdict.TheVariants.{Clashes, Stands, Fills, Fits}
+use Rattle.bdb_update.specs.Calls.{with_stmts, size_passed}
+use Rattle.bdb_update.specs.Examining.{Examines, IsProspect, StandsThere, says_stands}
+use Rattle.bdb_update.specs.declared.looking.Prospect.{Prospect}
+use Rattle.bdb_update.specs.declared.looking.Prospect.TheVariants.{Clashes, Stands, Fills, Fits}
 use Rattle.bdb_update.proofs.ReplaceLemmas.{no_clash, no_limit, stands_already}
 
 -- the base with a statement that stands is the base
@@ -22,20 +22,20 @@ with_standing b x v e = stands_already b.stmts x v.stmts.sorted e
 still_valid : (b : Contents) (x : Stmt) → IsValid b.catalog b.stmts → stands b.stmts x ≡ true → IsValid b.catalog (with_statement b.stmts x)
 still_valid b x v e = subst (IsValid b.catalog) (sym (with_standing b x v e)) v
 
-by_verdict : (t : Tables) (b : Contents) (x : Stmt) (verdict : Verdict) → IsValid b.catalog b.stmts → IsVerdict t b x verdict → says_stands verdict ≡ stands b.stmts x
-by_verdict t b x (Clashes least) v h = elim (cases_Bool (stands b.stmts x)) [
+by_prospect : (t : Tables) (b : Contents) (x : Stmt) (verdict : Prospect) → IsValid b.catalog b.stmts → IsProspect t b x verdict → says_stands verdict ≡ stands b.stmts x
+by_prospect t b x (Clashes least) v h = elim (cases_Bool (stands b.stmts x)) [
   | inl a ↦ absurd (no_clash b x least v (still_valid b x v a) h)
   | inr a ↦ sym a
 ]
-by_verdict t b x Stands v h = sym h
-by_verdict t b x (Fills what) v h = elim (cases_Bool (stands b.stmts x)) [
-  | inl a ↦ absurd (no_limit b what v (ap (λ stmts. size_passed (counts_of (of_stmts b stmts))) (sym (with_standing b x v a)) ∙ h.1))
+by_prospect t b x Stands v h = sym h
+by_prospect t b x (Fills what) v h = elim (cases_Bool (stands b.stmts x)) [
+  | inl a ↦ absurd (no_limit b what v (ap (λ stmts. size_passed (counts_of (with_stmts b stmts))) (sym (with_standing b x v a)) ∙ h.1))
   | inr a ↦ sym a
 ]
-by_verdict t b x (Fits r) v h = sym h.fresh
+by_prospect t b x (Fits r) v h = sym h.fresh
 
-pub verdict_tells : (t : Tables) (counts : Counts) (x : Stmt) (verdict : Verdict) → Examines t counts x verdict → StandsThere t counts x (says_stands verdict)
-verdict_tells t counts x verdict h b m = by_verdict t b x verdict m.base.valid (h b m)
+pub prospect_tells : (t : Tables) (counts : Counts) (x : Stmt) (verdict : Prospect) → Examines t counts x verdict → StandsThere t counts x (says_stands verdict)
+prospect_tells t counts x verdict h b m = by_prospect t b x verdict m.base.valid (h b m)
 
 -- a read whose answer is another one, and one that was refused
 pub read_answers : {T U E : Type 0} (old new : Seen) (x : T) (y : U) (fault : E) → IsRead {T = T} {E = E} old new (Ok x) fault → IsRead {T = U} {E = E} old new (Ok y) fault

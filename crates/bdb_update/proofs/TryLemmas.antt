@@ -19,7 +19,7 @@ use Rattle.bdb_update.specs.Trying.{Tries, stopped_by}
 use Rattle.bdb_update.specs.declared.answer.UpdateError.{UpdateError}
 use Rattle.bdb_update.specs.declared.answer.UpdateError.TheVariants.{Clash, Full}
 use Rattle.bdb_update.specs.declared.looking.Ready.{Ready}
-use Rattle.bdb_update.specs.declared.looking.Verdict.TheVariants.{Clashes, Stands, Fills, Fits}
+use Rattle.bdb_update.specs.declared.looking.Prospect.TheVariants.{Clashes, Stands, Fills, Fits}
 use Rattle.bdb_update.proofs.CallLemmas.{IsQuiet}
 use Rattle.bdb_update.proofs.JoinLemmas.{may_join}
 

@@ -41,9 +41,9 @@ pub record SomeMayMeet (t : Tables) (counts : Counts) (x : Stmt) : Type 0 where
 
 -- ---- at the end
 
--- the base of other statements
-abbrev pub of_stmts : Contents → List Stmt → Contents
-of_stmts b stmts = record b { stmts = stmts }
+-- the base with other statements
+abbrev pub with_stmts : Contents → List Stmt → Contents
+with_stmts b stmts = record b { stmts = stmts }
 
 -- nothing was written, the sizes stay, and a transaction that ran still runs
 pub record IsUntouched (old new : Seen) (before after : Counts) : Type 0 where
@@ -84,7 +84,7 @@ clash_of b x = least_clash (key_lengths b.catalog.rels) b.stmts x.path x.tuple x
 
 -- the base with one statement more
 abbrev pub with_one : Contents → Stmt → Contents
-with_one b x = of_stmts b (with_statement b.stmts x)
+with_one b x = with_stmts b (with_statement b.stmts x)
 
 -- a statement that neither stands nor clashes is added, and no limit is passed
 pub record IsNew (b : Contents) (x : Stmt) (old new : Seen) (after : Counts) : Type 0 where
@@ -126,7 +126,7 @@ Adds old new before after x result = (b : Contents) → MayMeet old.kept before 
 
 -- the base with one statement less
 abbrev pub without_one : Contents → Stmt → Contents
-without_one b x = of_stmts b (without_statement b.stmts x)
+without_one b x = with_stmts b (without_statement b.stmts x)
 
 -- a statement that stood is taken away
 pub record IsGone (b : Contents) (x : Stmt) (old new : Seen) (after : Counts) : Type 0 where
@@ -158,7 +158,7 @@ without_statements stmts (x ∷ xs) = without_statements (without_statement stmt
 
 -- the base with statements in place of others
 abbrev pub with_others : Contents → List Stmt → List Stmt → Contents
-with_others b gone come = of_stmts b (with_statements (without_statements b.stmts gone) come)
+with_others b gone come = with_stmts b (with_statements (without_statements b.stmts gone) come)
 
 -- no statement of a list comes again
 abbrev pub are_apart : List Stmt → Bool

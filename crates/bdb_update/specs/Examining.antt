@@ -12,8 +12,8 @@ use Rattle.bdb_update.specs.Calls.{MayMeet, clash_of, size_passed, with_one}
 use Rattle.bdb_update.specs.Joining.{IsWorldFound}
 use Rattle.bdb_tables.specs.Lengths.{IsKeyLength}
 use Rattle.bdb_update.specs.declared.looking.Ready.{Ready}
-use Rattle.bdb_update.specs.declared.looking.Verdict.{Verdict}
-use Rattle.bdb_update.specs.declared.looking.Verdict.TheVariants.{Clashes, Stands, Fills, Fits}
+use Rattle.bdb_update.specs.declared.looking.Prospect.{Prospect}
+use Rattle.bdb_update.specs.declared.looking.Prospect.TheVariants.{Clashes, Stands, Fills, Fits}
 
 -- sizes are one but for the rows
 pub record AreSizes (a b : Counts) : Type 0 where
@@ -34,17 +34,17 @@ pub record IsReady (t : Tables) (b : Contents) (x : Stmt) (r : Ready) : Type 0 w
   pub fits : IsTupleRow x.tuple
 
 -- what is said of a statement and a base
-abbrev pub IsVerdict : Tables → Contents → Stmt → Verdict → Type 0
-IsVerdict t b x (Clashes least) = clash_of b x ≡ Some least
-IsVerdict t b x Stands = stands b.stmts x ≡ true
-IsVerdict t b x (Fills what) = (clash_of b x ≡ None) × (size_passed (counts_of (with_one b x)) ≡ Some what)
-IsVerdict t b x (Fits r) = IsReady t b x r
+abbrev pub IsProspect : Tables → Contents → Stmt → Prospect → Type 0
+IsProspect t b x (Clashes least) = clash_of b x ≡ Some least
+IsProspect t b x Stands = stands b.stmts x ≡ true
+IsProspect t b x (Fills what) = (clash_of b x ≡ None) × (size_passed (counts_of (with_one b x)) ≡ Some what)
+IsProspect t b x (Fits r) = IsReady t b x r
 
-abbrev pub Examines : Tables → Counts → Stmt → Verdict → Type 0
-Examines t counts x verdict = (b : Contents) → MayMeet t counts x b → IsVerdict t b x verdict
+abbrev pub Examines : Tables → Counts → Stmt → Prospect → Type 0
+Examines t counts x verdict = (b : Contents) → MayMeet t counts x b → IsProspect t b x verdict
 
 -- a statement is said to stand
-abbrev pub says_stands : Verdict → Bool
+abbrev pub says_stands : Prospect → Bool
 says_stands (Clashes least) = false
 says_stands Stands = true
 says_stands (Fills what) = false

@@ -11,7 +11,7 @@ use Rattle.bdb_tables.specs.States.{HoldsStates, IsNamed}
 use Rattle.bdb_tables.specs.Stored.{Stores}
 use Rattle.bdb_worlds.specs.Growth.{AreLeast, with_prefixes}
 use Rattle.bdb_worlds.specs.Holding.{Worlds}
-use Rattle.bdb_update.specs.Calls.{MayChange, of_stmts, without_statements}
+use Rattle.bdb_update.specs.Calls.{MayChange, with_stmts, without_statements}
 use Rattle.bdb_update.specs.Replacing.{MayReplaceAll}
 
 -- ---- what stays
@@ -62,7 +62,7 @@ pub record KeepsBetween (middle : Contents) (old new : Tables) : Type 0 where
 -- whichever base the tables store, the one in the middle is that without the statements that go
 
 abbrev pub ReplaceKeeps : Counts → List Stmt → List Stmt → Seen → Seen → Type 0
-ReplaceKeeps counts gone come old new = (b : Contents) → MayReplaceAll old.kept counts gone come b → KeepsBetween (of_stmts b (without_statements b.stmts gone)) old.kept new.kept
+ReplaceKeeps counts gone come old new = (b : Contents) → MayReplaceAll old.kept counts gone come b → KeepsBetween (with_stmts b (without_statements b.stmts gone)) old.kept new.kept
 
 abbrev pub ChangeKeeps : Counts → List ℕ → List Stmt → List Stmt → Seen → Seen → Type 0
-ChangeKeeps counts w gone come old new = (b : Contents) → MayChange old.kept counts w gone come b → KeepsBetween (of_stmts b (without_statements b.stmts gone)) old.kept new.kept
+ChangeKeeps counts w gone come old new = (b : Contents) → MayChange old.kept counts w gone come b → KeepsBetween (with_stmts b (without_statements b.stmts gone)) old.kept new.kept

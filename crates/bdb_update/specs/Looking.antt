@@ -15,23 +15,23 @@ use Rattle.bdb_key.specs.Rows.{IsTupleRow}
 use Rattle.bdb_keep.specs.Tables.{Tables}
 use Rattle.bdb_tables.specs.Codec.{HasAt}
 use Rattle.bdb_tables.specs.InUse.{tuple_ix_codec}
-use Rattle.bdb_val.specs.Reads.{group_prefix}
 use Rattle.bdb_val.specs.declared.stored.Stored.{Stored}
 use Rattle.bdb_worlds.specs.Reach.{ReachesState}
 use Rattle.bdb_update.specs.Calls.{size_passed}
 use Rattle.bdb_update.specs.Groups.{AreExplicitUnder}
 use Rattle.bdb_tables.specs.Lengths.{IsKeyLength}
+use Rattle.bdb_tables.specs.GroupMarks.{group_bytes}
 use Rattle.bdb_update.specs.declared.looking.Place.{Place}
-use Rattle.bdb_update.specs.declared.looking.Verdict.{Verdict}
-use Rattle.bdb_update.specs.declared.looking.Verdict.TheVariants.{Clashes, Stands, Fills, Fits}
+use Rattle.bdb_update.specs.declared.looking.Prospect.{Prospect}
+use Rattle.bdb_update.specs.declared.looking.Prospect.TheVariants.{Clashes, Stands, Fills, Fits}
 
 -- how the keys of the rows begin that have a statement's relation and key in a world
 abbrev pub prefix_of : (ℕ → ℕ) → ℕ → Stmt → List ℕ
-prefix_of keys wid x = group_prefix wid x.tuple.rel (key_of keys x.tuple)
+prefix_of keys wid x = group_bytes wid x.tuple.rel (key_of keys x.tuple)
 
 -- the explicit rows of a world for a tuple's relation and key, or none
 abbrev pub AreRowsIf : (ℕ → ℕ) → Tables → ℕ → Tuple → Bool → List Stored → Type 0
-AreRowsIf keys t wid u asked rows = MatchBool asked (AreExplicitUnder t (group_prefix wid u.rel (key_of keys u)) rows) (rows ≡ [])
+AreRowsIf keys t wid u asked rows = MatchBool asked (AreExplicitUnder t (group_bytes wid u.rel (key_of keys u)) rows) (rows ≡ [])
 
 -- What is read: how far a statement's path goes along states and the number of the last of them, the length of the key of the
 -- tuple's relation, the explicit rows of this relation and the tuple's key there where the whole path is a state, and the number
@@ -77,20 +77,20 @@ abbrev pub state_of : Stmt → Place → Option ℕ
 state_of x p = cond (nat_eq p.len (length x.path)) (Some p.wid) None
 
 -- what is said where a limit is passed, and where none is
-abbrev pub filled_by : Stmt → Place → Counts → Option What → Verdict
+abbrev pub filled_by : Stmt → Place → Counts → Option What → Prospect
 filled_by x p c (Some what) = Fills what
 filled_by x p c None = Fits (record { wid = state_of x p; tid = p.tid; key_len = p.key_len; next = c })
 
 -- what is said where no row clashes: the statement has a row, or it has none
-abbrev pub joined_by : Stmt → Place → Counts → Bool → Verdict
+abbrev pub joined_by : Stmt → Place → Counts → Bool → Prospect
 joined_by x p c own = cond own Stands (filled_by x p (counts_with x p c) (size_passed (counts_with x p c)))
 
 -- what is said by the row that clashes, if there is one
-abbrev pub judged_by : Stmt → Place → Counts → Option Stored → Verdict
+abbrev pub judged_by : Stmt → Place → Counts → Option Stored → Prospect
 judged_by x p c (Some r) = Clashes (record { path = x.path; sign = r.mark.0; tuple = r.tuple })
 judged_by x p c None = joined_by x p c (list_any (is_own x) p.rows.items)
 
-abbrev pub judged : Stmt → Place → Counts → Verdict
+abbrev pub judged : Stmt → Place → Counts → Prospect
 judged x p c = judged_by x p c (least_row (λ _. p.key_len) x p.rows.items)
 
 -- the sizes are those of a base within the limits, and the path is not too deep

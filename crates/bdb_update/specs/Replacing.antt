@@ -9,7 +9,7 @@ use Rattle.bdb_keep.specs.Seen.{Seen}
 use Rattle.bdb_keep.specs.Tables.{Tables}
 use Rattle.bdb_tables.specs.declared.tab.TabError.{TabError}
 use Rattle.bdb_update.specs.Bounds.{WritesWithin}
-use Rattle.bdb_update.specs.Calls.{StoresSized, are_apart, of_stmts, with_others, without_statements}
+use Rattle.bdb_update.specs.Calls.{StoresSized, are_apart, with_stmts, with_others, without_statements}
 use Rattle.bdb_update.specs.declared.answer.UpdateError.{UpdateError}
 use Rattle.bdb_update.specs.declared.answer.UpdateError.TheVariants.{Clash, Full, Fault, Memory}
 
@@ -25,7 +25,7 @@ pub record SomeMayGo (t : Tables) (counts : Counts) (gone : List Stmt) : Type 0 
 
 -- the statements have gone
 abbrev pub Go : Tables → Tables → Counts → Counts → List Stmt → Type 0
-Go t u before after gone = (b : Contents) → MayGo t before gone b → StoresSized u after (of_stmts b (without_statements b.stmts gone))
+Go t u before after gone = (b : Contents) → MayGo t before gone b → StoresSized u after (with_stmts b (without_statements b.stmts gone))
 
 -- One statement that goes alone is taken away with as many writes as are told of taking it away by itself: for each place at which
 -- the rows before and after differ no more than its path has users, and two; and eight more in all.
@@ -44,7 +44,7 @@ pub record SomeMayCome (t : Tables) (counts : Counts) (come : List Stmt) : Type 
 
 -- the statements have come
 abbrev pub Come : Tables → Tables → Counts → Counts → List Stmt → Type 0
-Come t u before after come = (b : Contents) → MayCome t before come b → StoresSized u after (of_stmts b (with_statements b.stmts come))
+Come t u before after come = (b : Contents) → MayCome t before come b → StoresSized u after (with_stmts b (with_statements b.stmts come))
 
 -- tables store a base of these sizes, which is valid with some statements in place of others that stand
 pub record MayReplaceAll (t : Tables) (counts : Counts) (gone come : List Stmt) (b : Contents) : Type 0 where

@@ -8,7 +8,7 @@ use Rattle.bdb_keep.specs.Seen.{Seen}
 use Rattle.bdb_keep.specs.Tables.{Tables}
 use Rattle.bdb_tables.specs.Stored.{Stores}
 use Rattle.bdb_update.specs.Bounds.{WritesWithin}
-use Rattle.bdb_update.specs.Calls.{MayChange, of_stmts, with_one, without_one, without_statements}
+use Rattle.bdb_update.specs.Calls.{MayChange, with_stmts, with_one, without_one, without_statements}
 use Rattle.bdb_update.specs.Keeping.{KeepsNumbers}
 use Rattle.bdb_update.specs.Replacing.{MayCome, MayGo, MayReplaceAll}
 
@@ -24,7 +24,7 @@ steps_with b (x ∷ xs) = (x, with_one b x) ∷ steps_with (with_one b x) xs
 
 -- the statements that go, and then those that come
 abbrev pub steps_of : Contents → List Stmt → List Stmt → List (Stmt × Contents)
-steps_of b gone come = steps_without b gone ++ steps_with (of_stmts b (without_statements b.stmts gone)) come
+steps_of b gone come = steps_without b gone ++ steps_with (with_stmts b (without_statements b.stmts gone)) come
 
 -- from one to the other of two tables numbers of worlds and of tuples go on to stand for what they stood for: back, where a statement
 -- went, and on, where one came

@@ -7,8 +7,9 @@ ghost use Rattle.bdb_keep.specs.Calls.{IsRead};
 ghost use Rattle.bdb_tables.specs.Codec.{HasRow, place};
 ghost use Rattle.bdb_tables.specs.Grammar.{InGrammar};
 ghost use Rattle.bdb_tables.specs.InUse.{tuple_codec};
+ghost use Rattle.bdb_tables.specs.GroupMarks.{group_bytes};
 ghost use Rattle.bdb_update.specs.Groups.{AreExplicit, AreExplicitUnder, HasTuple, IsPicked};
-ghost use Rattle.bdb_val.specs.Reads.{HaveTuples, group_prefix};
+ghost use Rattle.bdb_val.specs.Reads.{HaveTuples};
 
 use crate::keys::KEY_ROOM;
 use bdb_base::{List, Sign, Tuple, Value, key_of};
@@ -35,7 +36,7 @@ pub fn read_explicit<K: Keeper>(
     requires tuples { HaveTuples (K.seen keeper.old).kept }
     ensures rows { IfOk result
         (λ rows. AreExplicitUnder (K.seen keeper.old).kept
-        (group_prefix wid tuple.now.rel (key_of (λ _. n) tuple.now)) rows.items) }
+        (group_bytes wid tuple.now.rel (key_of (λ _. n) tuple.now)) rows.items) }
     ensures read { IsRead (K.seen keeper.old) (K.seen keeper.new) result TabError.Fault }
 {
     let prefix = match group_prefix(alloc, wid, n, tuple) {
@@ -58,7 +59,7 @@ pub fn read_explicit<K: Keeper>(
 // How the keys of a tuple's group of a world begin.
 fn group_prefix(alloc: Global, wid: u32, n: u32, tuple: &Tuple) -> Result<Vec<u8>, AllocError>
     ensures { IfOk result
-        (λ prefix. prefix.items ≡ group_prefix wid tuple.now.rel (key_of (λ _. n) tuple.now)) }
+        (λ prefix. prefix.items ≡ group_bytes wid tuple.now.rel (key_of (λ _. n) tuple.now)) }
 {
     let mut prefix = Vec::with_capacity(alloc, KEY_ROOM)?;
     put_pair(&mut prefix, wid, tuple.rel)?;

@@ -7,7 +7,7 @@ ghost use Rattle.bdb_update.specs.Holding.{AreOfOnePath, begins_with};
 
 use bdb_base::{Stmt, Tuple, cmp_tuple, same_tuple};
 
-/// Whether one of these statements, which are in order and all of one path, has a tuple. The search goes by halves.
+/// Whether one of these statements, which are in order and all of one path, has a tuple. It is a binary search.
 pub fn holds_tuple(stmts: &[Stmt], tuple: &Tuple) -> bool
     requires { AreOfOnePath stmts.now }
     ensures { result ≡ has_tuple stmts.now tuple.now }

@@ -38,7 +38,7 @@ pub struct Place {
 
 /// What is said of a statement that is to join a base.
 #[derive(Drop)]
-pub enum Verdict {
+pub enum Prospect {
     /// It clashes with this statement of its path.
     Clashes(Stmt),
     /// It stands.
@@ -128,7 +128,7 @@ pub fn examine<K: Keeper>(
     keeper: &mut K,
     stmt: &Stmt,
     counts: &Counts,
-) -> Result<Verdict, TabError>
+) -> Result<Prospect, TabError>
     requires running { (K.seen keeper.old).running ≡ true }
     requires base { SomeMayMeet (K.seen keeper.old).kept counts.now stmt.now }
     ensures examined { IfOk result (Examines (K.seen keeper.old).kept counts.now stmt.now) }
@@ -148,7 +148,7 @@ pub fn examine<K: Keeper>(
 }
 
 // What is said of a statement by what was read, and by the sizes of the base.
-fn judge(alloc: Global, stmt: &Stmt, place: &Place, counts: &Counts) -> Result<Verdict, AllocError>
+fn judge(alloc: Global, stmt: &Stmt, place: &Place, counts: &Counts) -> Result<Prospect, AllocError>
     requires { IsSmall stmt.now place.now counts.now }
     ensures { IfOk result (λ verdict. verdict ≡ judged stmt.now place.now counts.now) }
 {
@@ -156,29 +156,29 @@ fn judge(alloc: Global, stmt: &Stmt, place: &Place, counts: &Counts) -> Result<V
         Some(row) => {
             let path = stmt.path.try_clone(alloc)?;
             let tuple = row.tuple.try_clone(alloc)?;
-            Ok(Verdict::Clashes(Stmt {
+            Ok(Prospect::Clashes(Stmt {
                 path,
                 sign: row.mark.0,
                 tuple,
             }))
         }
-        None => Ok(join_verdict(stmt, place, counts)),
+        None => Ok(join_prospect(stmt, place, counts)),
     }
 }
 
 // What is said of a statement with which no row clashes.
-fn join_verdict(stmt: &Stmt, place: &Place, counts: &Counts) -> Verdict
+fn join_prospect(stmt: &Stmt, place: &Place, counts: &Counts) -> Prospect
     requires { IsSmall stmt.now place.now counts.now }
     ensures { result ≡ joined_by stmt.now place.now counts.now
         (list_any (is_own stmt.now) place.now.rows.items) }
 {
     if has_own(stmt, &place.rows) {
-        return Verdict::Stands;
+        return Prospect::Stands;
     }
     let next = counts_with(stmt, place, counts);
     match size_passed(&next) {
-        Some(what) => Verdict::Fills(what),
-        None => Verdict::Fits(Ready {
+        Some(what) => Prospect::Fills(what),
+        None => Prospect::Fits(Ready {
             wid: state_of(stmt, place),
             tid: place.tid,
             key_len: place.key_len,

@@ -4,7 +4,7 @@ ghost use Rattle.bdb_keep.specs.Calls.{IsRead};
 ghost use Rattle.bdb_update.specs.Calls.{SomeMayMeet};
 ghost use Rattle.bdb_update.specs.Examining.{StandsThere, says_stands};
 
-use crate::looking::{Verdict, examine};
+use crate::looking::{Prospect, examine};
 use bdb_base::Stmt;
 use bdb_canon::Counts;
 use bdb_keep::Keeper;
@@ -31,13 +31,13 @@ pub fn stands<K: Keeper>(
 }
 
 /// What is said of a statement is that it stands.
-fn says_stands(verdict: &Verdict) -> bool
+fn says_stands(verdict: &Prospect) -> bool
     ensures { result ≡ says_stands verdict.now }
 {
     match verdict {
-        Verdict::Stands => true,
-        Verdict::Clashes(_) => false,
-        Verdict::Fills(_) => false,
-        Verdict::Fits(_) => false,
+        Prospect::Stands => true,
+        Prospect::Clashes(_) => false,
+        Prospect::Fills(_) => false,
+        Prospect::Fits(_) => false,
     }
 }

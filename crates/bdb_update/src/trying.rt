@@ -10,7 +10,7 @@ ghost use Rattle.bdb_update.specs.Trying.{Tries, stopped_by};
 
 use crate::answer::UpdateError;
 use crate::inserting::{Moved, insert};
-use crate::looking::{Ready, Verdict, examine};
+use crate::looking::{Ready, Prospect, examine};
 use bdb_base::Stmt;
 use bdb_canon::Counts;
 use bdb_keep::Keeper;
@@ -38,10 +38,10 @@ pub fn try_add<K: Keeper>(
     ensures counts { NeverFall (K.seen keeper.old) (K.seen keeper.new) }
 {
     let ready = match examine(alloc, keeper, stmt, counts) {
-        Ok(Verdict::Fits(ready)) => ready,
-        Ok(Verdict::Stands) => return Ok(None),
-        Ok(Verdict::Clashes(least)) => return Err(UpdateError::Clash(least)),
-        Ok(Verdict::Fills(what)) => return Err(UpdateError::Full(what)),
+        Ok(Prospect::Fits(ready)) => ready,
+        Ok(Prospect::Stands) => return Ok(None),
+        Ok(Prospect::Clashes(least)) => return Err(UpdateError::Clash(least)),
+        Ok(Prospect::Fills(what)) => return Err(UpdateError::Full(what)),
         Err(error) => return Err(stopped_by(error)),
     };
     match insert(alloc, keeper, stmt, &ready, counts.worlds, counts.tuples) {

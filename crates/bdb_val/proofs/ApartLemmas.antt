@@ -3,26 +3,26 @@ use Rattle.std.proofs.Common.{◌≡◌, ◌∙◌, ℕ, Bool, true, false, nat_
 use Rattle.std.specs.List.{list_any, flat_map}
 use Rattle.std.proofs.lemmas.Bool.{false≢true, cases_Bool, or_cases, or_left, or_right, or_from, or_parts, false_from_ne_true, cond-true, cond-false, eqb-true, eq-eqb}
 use Rattle.std.proofs.lemmas.List.Folds.{list_any-append}
-use Rattle.bdb_val.specs.Settling.{Change, mark_in, next_mark, same_mark, change_at, has_mark, fresh_change, are_apart, are_changes_apart}
+use Rattle.bdb_val.specs.Settling.{RowChange, mark_in, next_mark, same_mark, change_at, has_mark, fresh_change, are_apart, are_changes_apart}
 use Rattle.bdb_val.specs.Laws.{SettlingIsApart}
 use Rattle.bdb_val.specs.declared.stored.Stored.{Stored}
 use Rattle.bdb_val.proofs.SettlingLemmas.{mark_is_some}
 
 -- a number is changed
-abbrev changed : List Change → ℕ → Bool
+abbrev changed : List RowChange → ℕ → Bool
 changed cs tid = list_any (λ y. nat_eq y.0 tid) cs
 
 -- a function gives changes of a row's own number, one at most, and none where a test holds
-record Gives (f : Stored → List Change) (skips : ℕ → Bool) : Type 0 where
+record Gives (f : Stored → List RowChange) (skips : ℕ → Bool) : Type 0 where
   own : (x : Stored) (tid : ℕ) → changed (f x) tid ≡ true → nat_eq x.tid tid ≡ true
   once : (x : Stored) → are_changes_apart (f x) ≡ true
   skipped : (x : Stored) → skips x.tid ≡ true → f x ≡ []
 
-one_change : (b : Bool) (x : Stored) (c : Change) → c.0 ≡ x.tid → (tid : ℕ) → changed (cond b [] (c ∷ [])) tid ≡ true → nat_eq x.tid tid ≡ true
+one_change : (b : Bool) (x : Stored) (c : RowChange) → c.0 ≡ x.tid → (tid : ℕ) → changed (cond b [] (c ∷ [])) tid ≡ true → nat_eq x.tid tid ≡ true
 one_change true x c k tid e = absurd (false≢true e)
 one_change false x c k tid e = elim (or_cases (nat_eq c.0 tid) false e) [ inl a ↦ ap (λ i. nat_eq i tid) (sym k) ∙ a | inr a ↦ absurd (false≢true a) ]
 
-once_change : (b : Bool) (c : Change) → are_changes_apart (cond b [] (c ∷ [])) ≡ true
+once_change : (b : Bool) (c : RowChange) → are_changes_apart (cond b [] (c ∷ [])) ≡ true
 once_change true c = refl
 once_change false c = refl
 
@@ -47,7 +47,7 @@ fresh_given keys stored own from before = record {
 }
 
 -- changes of rows have the rows' numbers
-changed_in : (f : Stored → List Change) (skips : ℕ → Bool) → Gives f skips → (xs : List Stored) (tid : ℕ) → list_any (λ y. nat_eq y.tid tid) xs ≡ false
+changed_in : (f : Stored → List RowChange) (skips : ℕ → Bool) → Gives f skips → (xs : List Stored) (tid : ℕ) → list_any (λ y. nat_eq y.tid tid) xs ≡ false
     → changed (flat_map f xs) tid ≡ false
 changed_in f skips g [] tid e = refl
 changed_in f skips g (x ∷ xs) tid e =
@@ -58,7 +58,7 @@ changed_in f skips g (x ∷ xs) tid e =
     (changed_in f skips g xs tid p.1)
 
 -- a number that is skipped isn't changed
-not_changed : (f : Stored → List Change) (skips : ℕ → Bool) → Gives f skips → (xs : List Stored) (tid : ℕ) → skips tid ≡ true → changed (flat_map f xs) tid ≡ false
+not_changed : (f : Stored → List RowChange) (skips : ℕ → Bool) → Gives f skips → (xs : List Stored) (tid : ℕ) → skips tid ≡ true → changed (flat_map f xs) tid ≡ false
 not_changed f skips g [] tid e = refl
 not_changed f skips g (x ∷ xs) tid e =
     list_any-append (λ y. nat_eq y.0 tid) (f x) (flat_map f xs)
@@ -69,7 +69,7 @@ not_changed f skips g (x ∷ xs) tid e =
     (not_changed f skips g xs tid e)
 
 -- lists of changes that have no number in common
-apart_append : (xs ys : List Change) → are_changes_apart xs ≡ true → are_changes_apart ys ≡ true → ((tid : ℕ) → changed xs tid ≡ true → changed ys tid ≡ false)
+apart_append : (xs ys : List RowChange) → are_changes_apart xs ≡ true → are_changes_apart ys ≡ true → ((tid : ℕ) → changed xs tid ≡ true → changed ys tid ≡ false)
     → are_changes_apart (xs ++ ys) ≡ true
 apart_append [] ys a b h = b
 apart_append (x ∷ xs) ys a b h =
@@ -82,7 +82,7 @@ apart_append (x ∷ xs) ys a b h =
           ∙ apart_append xs ys rest b (λ tid k. h tid (or_right (nat_eq x.0 tid) (changed xs tid) k))
     ]
 
-changes_apart : (f : Stored → List Change) (skips : ℕ → Bool) → Gives f skips → (xs : List Stored) → are_apart xs ≡ true → are_changes_apart (flat_map f xs) ≡ true
+changes_apart : (f : Stored → List RowChange) (skips : ℕ → Bool) → Gives f skips → (xs : List Stored) → are_apart xs ≡ true → are_changes_apart (flat_map f xs) ≡ true
 changes_apart f skips g [] a = refl
 changes_apart f skips g (x ∷ xs) a = elim (cases_Bool (list_any (λ y. nat_eq y.tid x.tid) xs)) [
   | inl e ↦ absurd (false≢true (sym (cond-true (list_any (λ y. nat_eq y.tid x.tid) xs) false (are_apart xs) e) ∙ a))
@@ -103,13 +103,13 @@ settling_is_apart keys stored own from a b c =
       | inr e ↦ or_right (is_some (mark_in stored tid)) (is_some (mark_in own tid)) (has_two tid e)
     ]))
   where
-    one : List Change
+    one : List RowChange
     one = flat_map (change_at keys stored own from) stored
 
-    two : List Change
+    two : List RowChange
     two = flat_map (fresh_change keys stored own from []) own
 
-    three : List Change
+    three : List RowChange
     three = flat_map (fresh_change keys stored own from own) from
 
     g1 : Gives (change_at keys stored own from) (λ _. false)

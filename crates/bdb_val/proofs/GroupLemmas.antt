@@ -16,15 +16,15 @@ use Rattle.bdb_keep.specs.Tables.{Tables}
 use Rattle.bdb_key.specs.Grammar.{IsNum, AreKeyVals}
 use Rattle.bdb_key.specs.Rows.{tuple_bytes}
 use Rattle.bdb_tables.specs.Codec.{HasRow}
-use Rattle.bdb_tables.specs.GroupMarks.{in_group}
+use Rattle.bdb_tables.specs.GroupMarks.{group_bytes, in_group}
 use Rattle.bdb_tables.specs.InUse.{ValKey, tuple_codec, val_codec}
 use Rattle.bdb_tables.specs.Marks.{Mark, sign_of, explicit_of}
 use Rattle.bdb_tables.specs.Spans.{AreUnder, IsUnder}
 use Rattle.bdb_val.specs.GroupChanges.{mark_under, is_explicit_plus, handed_down, group_change, own_change, new_change, group_changes}
 use Rattle.bdb_val.specs.Middle.{HasExplicit}
-use Rattle.bdb_val.specs.Reads.{AreTold, AreReadUnder, is_of_group, group_prefix}
+use Rattle.bdb_val.specs.Reads.{AreTold, AreReadUnder, is_of_group}
 use Rattle.bdb_val.specs.Settled.{Worlds, settled_mark, passed_on, is_barred}
-use Rattle.bdb_val.specs.Settling.{Change, mark_in, barred_by, next_mark, same_mark, change_at, has_mark, fresh_change, AreNamed, row_key, keyed}
+use Rattle.bdb_val.specs.Settling.{RowChange, mark_in, barred_by, next_mark, same_mark, change_at, has_mark, fresh_change, AreNamed, row_key, keyed}
 use Rattle.bdb_val.specs.Steps.{rows_made}
 use Rattle.bdb_val.specs.declared.stored.Stored.{Stored}
 use Rattle.bdb_val.proofs.ReadLemmas.{HasKey, keyed_under, key_fits, tuple_row, read_named, read_mark, read_apart, told_tested, group_span}
@@ -141,20 +141,20 @@ module _ (keys : ℕ → ℕ) (stmts : List Stmt) (n : Worlds) (tuple : ℕ → 
   all_in all [] a b c = tt
   all_in all (x ∷ xs) a b c = ((a.0, b.0, c.0), all_in all xs a.1 b.1 c.1)
 
-  read_in : (wid : ℕ) (xs : List Stored) → IsNum wid → AreReadUnder t (group_prefix wid rel v) xs → AllByRecursion (IsIn xs) xs
+  read_in : (wid : ℕ) (xs : List Stored) → IsNum wid → AreReadUnder t (group_bytes wid rel v) xs → AllByRecursion (IsIn xs) xs
   read_in wid xs w read =
       let span = group_span keys h.rows.lengths wid rel v w r p in
-      all_in xs xs (read_named keys tuple f t h.rows (group_prefix wid rel v) xs read) (told_tested keys tuple f t h.rows wid (is_of_group keys rel v) (group_prefix wid rel v) xs span read)
-      (mark_of_each xs xs (λ _ _ k. k) (read_apart keys tuple f t h.rows wid (is_of_group keys rel v) (group_prefix wid rel v) xs span read))
+      all_in xs xs (read_named keys tuple f t h.rows (group_bytes wid rel v) xs read) (told_tested keys tuple f t h.rows wid (is_of_group keys rel v) (group_bytes wid rel v) xs span read)
+      (mark_of_each xs xs (λ _ _ k. k) (read_apart keys tuple f t h.rows wid (is_of_group keys rel v) (group_bytes wid rel v) xs span read))
 
   module _ (wid base : ℕ) (w : IsNum wid) (es fs : List (ℕ × Mark)) (xs ys : List Stored) (own_told : AreTold t (map (in_group wid rel v) es) xs)
       (from_told : AreTold t (map (in_group base rel v) fs) ys)
-      (read : AreReadUnder t (group_prefix wid rel v) xs) (from_in : AllByRecursion (IsIn ys) ys) where
+      (read : AreReadUnder t (group_bytes wid rel v) xs) (from_in : AllByRecursion (IsIn ys) ys) where
     own_in : AllByRecursion (IsIn xs) xs
     own_in = read_in wid xs w read
 
     mark_is : (tid : ℕ) (u : Tuple) → tuple tid ≡ Some u → is_of_group keys rel v u ≡ true → mark_in xs tid ≡ f (row_key keys wid tid u)
-    mark_is tid u a b = read_mark keys tuple f t h.rows wid (is_of_group keys rel v) (group_prefix wid rel v) xs w (group_span keys h.rows.lengths wid rel v w r p) read tid u a b
+    mark_is tid u a b = read_mark keys tuple f t h.rows wid (is_of_group keys rel v) (group_bytes wid rel v) xs w (group_span keys h.rows.lengths wid rel v w r p) read tid u a b
 
     -- where a tuple's row is explicit, so is that of another number of the tuple
     stated_alike : (a b : ℕ) (u : Tuple) → tuple a ≡ Some u → tuple b ≡ Some u → is_of_group keys rel v u ≡ true → (m : Mark) → mark_in xs a ≡ Some m → explicit_of (mark_in xs b) ≡ explicit_of (Some m)
@@ -278,21 +278,21 @@ module _ (keys : ℕ → ℕ) (stmts : List Stmt) (n : Worlds) (tuple : ℕ → 
         ∙ ap (λ cs. cs ++ map (in_group wid rel v) (flat_map (new_change barred es) fs)) (all_own es xs own_told own_in)
         ∙ ap (λ cs. map (keyed keys wid) one ++ cs) (all_new fs ys from_told from_in)
         ∙ sym (map-append (keyed keys wid) one three)
-        ∙ ap (λ (cs : List Change). map (keyed keys wid) (cs ++ three)) (sym (append-nil one) ∙ ap (λ (cs : List Change). one ++ cs) (sym none_fresh))
+        ∙ ap (λ (cs : List RowChange). map (keyed keys wid) (cs ++ three)) (sym (append-nil one) ∙ ap (λ (cs : List RowChange). one ++ cs) (sym none_fresh))
 
   -- What settles a group, with the tuples: the rows that were read, and the changes made.
   pub record IsGroupRead (wid : ℕ) (link : Option ℕ) (es fs : List (ℕ × Mark)) : Type 0 where
     pub own : List Stored
     pub from : List Stored
     pub told : AreTold t (map (in_group wid rel v) es) own
-    pub own_read : AreReadUnder t (group_prefix wid rel v) own
-    pub from_read : MatchOption link (from ≡ []) (λ m. AreReadUnder t (group_prefix m rel v) from)
+    pub own_read : AreReadUnder t (group_bytes wid rel v) own
+    pub from_read : MatchOption link (from ≡ []) (λ m. AreReadUnder t (group_bytes m rel v) from)
     pub made : map (in_group wid rel v) (group_changes es fs) ≡ rows_made keys wid own from
 
-  pub group_read : (wid : ℕ) (link : Option ℕ) (es fs : List (ℕ × Mark)) → IsNum wid → MatchOption link (Unit {0}) IsNum → AreUnder val_codec t (group_prefix wid rel v) (map (in_group wid rel v) es)
-      → MatchOption link (fs ≡ []) (λ m. AreUnder val_codec t (group_prefix m rel v) (map (in_group m rel v) fs)) → IsGroupRead wid link es fs
+  pub group_read : (wid : ℕ) (link : Option ℕ) (es fs : List (ℕ × Mark)) → IsNum wid → MatchOption link (Unit {0}) IsNum → AreUnder val_codec t (group_bytes wid rel v) (map (in_group wid rel v) es)
+      → MatchOption link (fs ≡ []) (λ m. AreUnder val_codec t (group_bytes m rel v) (map (in_group m rel v) fs)) → IsGroupRead wid link es fs
   group_read wid None es fs w l under none =
-      let own = read_with (group_prefix wid rel v) (map (in_group wid rel v) es) under in
+      let own = read_with (group_bytes wid rel v) (map (in_group wid rel v) es) under in
       record {
         own = own.0;
         from = [];
@@ -302,8 +302,8 @@ module _ (keys : ℕ → ℕ) (stmts : List Stmt) (n : Worlds) (tuple : ℕ → 
         made = ap (λ (ds : List (ℕ × Mark)). map (in_group wid rel v) (group_changes es ds)) none ∙ made_alike wid wid w es [] own.0 [] own.1 tt own.2 tt;
       }
   group_read wid (Some m) es fs w l under over =
-      let own = read_with (group_prefix wid rel v) (map (in_group wid rel v) es) under in
-      let from = read_with (group_prefix m rel v) (map (in_group m rel v) fs) over in
+      let own = read_with (group_bytes wid rel v) (map (in_group wid rel v) es) under in
+      let from = read_with (group_bytes m rel v) (map (in_group m rel v) fs) over in
       record {
         own = own.0;
         from = from.0;

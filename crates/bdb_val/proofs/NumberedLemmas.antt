@@ -1,4 +1,4 @@
--- Marks found by halves where the numbers of rows rise.
+-- Marks found by binary search where the numbers of rows rise.
 use Rattle.std.proofs.Common.{◌≡◌, ◌∙◌, ℕ, suc, ◌+◌, ◌<◌, ◌≤◌, nat_eq, List, [], ◌∷◌, length, get_or, Some, None, cond, inl, inr, refl, ap, sym, subst, arith}
 use Prim.Native.Nat.{zero}
 use Rattle.std.proofs.lemmas.Bool.{cases_lt, cond-true, cond-false, eqb-true, eq-eqb, false_from_ne_true}

@@ -28,8 +28,9 @@ use Rattle.bdb_tables.proofs.PartLemmas.{vals_form}
 use Rattle.bdb_tables.proofs.Held.{same_place, some_same, none_some}
 use Rattle.bdb_tables.specs.Marks.{Mark}
 use Rattle.bdb_tables.specs.Rows.{AreKeyLengths}
+use Rattle.bdb_tables.specs.GroupMarks.{group_bytes}
 use Rattle.bdb_val.specs.Settling.{mark_in, AreNamed, are_apart, row_key}
-use Rattle.bdb_val.specs.Reads.{AreTold, AreReadUnder, HasRows, IsSpan, world_prefix, group_prefix, is_of_group}
+use Rattle.bdb_val.specs.Reads.{AreTold, AreReadUnder, HasRows, IsSpan, world_prefix, is_of_group}
 use Rattle.bdb_val.specs.declared.stored.Stored.{Stored}
 
 -- the rows as they are found by the bytes of their keys
@@ -245,7 +246,7 @@ world_of_key wid n k v e =
     let r = prefix_rest (num_bytes wid) (val_bytes k) e in
     (num_form k.0 wid (num_bytes k.1 ++ vals_bytes k.2 ++ num_bytes k.3) r.0 v.world n r.1).0
 
-pub world_of_group : (wid rel : ℕ) (v : List Value) → IsNum wid → (k : ValKey) → IsValKey k → is_prefix (group_prefix wid rel v) (val_bytes k) ≡ true → k.0 ≡ wid
+pub world_of_group : (wid rel : ℕ) (v : List Value) → IsNum wid → (k : ValKey) → IsValKey k → is_prefix (group_bytes wid rel v) (val_bytes k) ≡ true → k.0 ≡ wid
 world_of_group wid rel v w k f e = world_of_key wid w k f (prefix_shorter (num_bytes wid) (num_bytes rel ++ vals_bytes v) (val_bytes k) e)
 
 pub world_span : (keys : ℕ → ℕ) (wid : ℕ) → IsNum wid → IsSpan keys wid (λ _. true) (world_prefix wid)
@@ -255,18 +256,18 @@ world_span keys wid n = record {
   inside = λ _ _ _ _. refl;
 }
 
-pub group_span : (keys : ℕ → ℕ) → AreKeyLengths keys → (wid rel : ℕ) (v : List Value) → IsNum wid → IsNum rel → AreKeyVals v → IsSpan keys wid (is_of_group keys rel v) (group_prefix wid rel v)
+pub group_span : (keys : ℕ → ℕ) → AreKeyLengths keys → (wid rel : ℕ) (v : List Value) → IsNum wid → IsNum rel → AreKeyVals v → IsSpan keys wid (is_of_group keys rel v) (group_bytes wid rel v)
 group_span keys lengths wid rel v w r p = record {
   world = world_of_group wid rel v w;
   begins = λ tid u e.
       let k = and_parts (nat_eq u.rel rel) (same_values (key_of keys u) v) e in
       let a : u.rel ≡ rel = eqb-true u.rel rel k.0 in
       let b : key_of keys u ≡ v = (same_values-Decides (key_of keys u) v).0 k.1 in
-      ap (λ (x : ℕ). is_prefix (group_prefix wid rel v) (val_bytes (wid, x, key_of keys u, tid))) a
-      ∙ ap (λ (x : List Value). is_prefix (group_prefix wid rel v) (val_bytes (wid, rel, x, tid))) b
-      ∙ prefix_append (group_prefix wid rel v) (num_bytes tid);
+      ap (λ (x : ℕ). is_prefix (group_bytes wid rel v) (val_bytes (wid, x, key_of keys u, tid))) a
+      ∙ ap (λ (x : List Value). is_prefix (group_bytes wid rel v) (val_bytes (wid, rel, x, tid))) b
+      ∙ prefix_append (group_bytes wid rel v) (num_bytes tid);
   inside = λ tid u g e.
-      let s = prefix_rest (group_prefix wid rel v) (val_bytes (row_key keys wid tid u)) e in
+      let s = prefix_rest (group_bytes wid rel v) (val_bytes (row_key keys wid tid u)) e in
       let one = num_form wid wid (num_bytes u.rel ++ vals_bytes (key_of keys u) ++ num_bytes tid) (num_bytes rel ++ vals_bytes v ++ s.0) w w s.1 in
       let two = num_form u.rel rel (vals_bytes (key_of keys u) ++ num_bytes tid) (vals_bytes v ++ s.0) g.rel r one.1 in
       let three = vals_form (key_of keys u) v (num_bytes tid) s.0 (key_of_fits keys lengths u g) p two.1 in

@@ -19,10 +19,11 @@ use Rattle.bdb_tables.specs.Differences.{AreDifferences, AreReal}
 use Rattle.bdb_tables.specs.InUse.{ValKey, val_bytes, link_codec, val_codec}
 use Rattle.bdb_tables.specs.InUseLaws.{vals_are_one, mark_rows_are_one}
 use Rattle.bdb_tables.specs.Marks.{Mark}
+use Rattle.bdb_tables.specs.GroupMarks.{group_bytes}
 use Rattle.bdb_tables.proofs.DifferenceLemmas.{changes_differ, differences_are_counted}
 use Rattle.bdb_tables.proofs.Held.{some_same, none_some}
-use Rattle.bdb_val.specs.Reads.{HasRows, AreReadUnder, is_of_group, group_prefix}
-use Rattle.bdb_val.specs.Settling.{Change, mark_in, settling, are_apart, are_changes_apart, row_key, keyed}
+use Rattle.bdb_val.specs.Reads.{HasRows, AreReadUnder, is_of_group}
+use Rattle.bdb_val.specs.Settling.{RowChange, mark_in, settling, are_apart, are_changes_apart, row_key, keyed}
 use Rattle.bdb_val.specs.Steps.{AreSpans, IsSettling, IsStep, WritesDifferences, rows_made}
 use Rattle.bdb_val.specs.declared.stored.SettledWorld.{SettledWorld}
 use Rattle.bdb_val.proofs.ApartLemmas.{settling_is_apart}
@@ -41,7 +42,7 @@ tail_same n j k e = cc
 
 module _ (keys : ℕ → ℕ) (tuple : ℕ → Option Tuple) (f : ValKey → Option Mark) (t : Tables) (h : HasRows keys tuple f t) (test : Tuple → Bool) (prefix : ℕ → List ℕ) (spans : AreSpans keys test prefix) (wid : ℕ) (w : IsNum wid) where
   -- changes of different numbers are at different places
-  places_apart : (cs : List Change) → AllByRecursion (IsOf tuple test) cs → are_changes_apart cs ≡ true → are_distinct (map (λ x. place val_codec x.0) (map (keyed keys wid) cs)) ≡ true
+  places_apart : (cs : List RowChange) → AllByRecursion (IsOf tuple test) cs → are_changes_apart cs ≡ true → are_distinct (map (λ x. place val_codec x.0) (map (keyed keys wid) cs)) ≡ true
   places_apart [] a e = refl
   places_apart (c ∷ cs) a e = elim (cases_Bool (list_any (λ y. nat_eq y.0 c.0) cs)) [
     | inl k ↦ absurd (false≢true (sym (cond-true (list_any (λ y. nat_eq y.0 c.0) cs) false (are_changes_apart cs) k) ∙ e))
@@ -53,7 +54,7 @@ module _ (keys : ℕ → ℕ) (tuple : ℕ → Option Tuple) (f : ValKey → Opt
       here : List ℕ
       here = place val_codec (row_key keys wid c.0 c.1)
 
-      none : (ds : List Change) → AllByRecursion (IsOf tuple test) ds → list_any (λ y. nat_eq y.0 c.0) ds ≡ false → list_any (same_text here) (map (λ x. place val_codec x.0) (map (keyed keys wid) ds)) ≡ false
+      none : (ds : List RowChange) → AllByRecursion (IsOf tuple test) ds → list_any (λ y. nat_eq y.0 c.0) ds ≡ false → list_any (same_text here) (map (λ x. place val_codec x.0) (map (keyed keys wid) ds)) ≡ false
       none [] b q = refl
       none (d ∷ ds) b q =
           let p = or_parts (nat_eq d.0 c.0) (list_any (λ y. nat_eq y.0 c.0) ds) q in
@@ -66,7 +67,7 @@ module _ (keys : ℕ → ℕ) (tuple : ℕ → Option Tuple) (f : ValKey → Opt
           (none ds b.1 p.1)
 
   module _ (u : Tables) (link : Option ℕ) (l : MatchOption link (Unit {0}) IsNum) (s : IsSettling keys t u wid link prefix) where
-    abbrev made : List Change
+    abbrev made : List RowChange
     made = settling keys s.own s.own s.from
 
     of : AllByRecursion (IsOf tuple test) made
@@ -82,7 +83,7 @@ module _ (keys : ℕ → ℕ) (tuple : ℕ → Option Tuple) (f : ValKey → Opt
         go None a b = ap are_apart b
         go (Some m) a b = read_apart keys tuple f t h m test (prefix m) s.from (spans m a) b
 
-    altered : (cs : List Change) → AllByRecursion (IsOf tuple test) cs → AllByRecursion (λ x. mark_in s.own x.0 ≢ x.2) cs
+    altered : (cs : List RowChange) → AllByRecursion (IsOf tuple test) cs → AllByRecursion (λ x. mark_in s.own x.0 ≢ x.2) cs
         → AllByRecursion (λ x. tables.get t (place val_codec x.0) ≢ option_map val_codec.row_bytes x.1) (map (keyed keys wid) cs)
     altered [] a b = tt
     altered (c ∷ cs) a b = (
@@ -107,12 +108,12 @@ length_mapped m [] = refl
 length_mapped m (x ∷ xs) = ap (λ n. suc n) (length_mapped m xs)
 
 -- a step makes as many writes as there are places where the tables differ
-pub step_writes : (keys : ℕ → ℕ) (old new : Seen) (wid rel : ℕ) (v : List Value) (s : SettledWorld) → IsNum wid → IsNum rel → AreKeyVals v → IsStep keys old new wid (λ w. group_prefix w rel v) s → WritesDifferences keys old new
+pub step_writes : (keys : ℕ → ℕ) (old new : Seen) (wid rel : ℕ) (v : List Value) (s : SettledWorld) → IsNum wid → IsNum rel → AreKeyVals v → IsStep keys old new wid (λ w. group_bytes w rel v) s → WritesDifferences keys old new
 step_writes keys old new wid rel v s w r p step tuple f h ps d =
     let spans = λ (m : ℕ) (n : IsNum m). group_span keys h.lengths m rel v n r p in
     let made = rows_made keys wid step.settling.own step.settling.from in
     let places = map (λ x. place val_codec x.0) made in
-    let differ = settling_differs keys tuple f old.kept h (is_of_group keys rel v) (λ m. group_prefix m rel v) spans wid w new.kept step.link (fits step.link step.linked) step.settling in
+    let differ = settling_differs keys tuple f old.kept h (is_of_group keys rel v) (λ m. group_bytes m rel v) spans wid w new.kept step.link (fits step.link step.linked) step.settling in
     let same : length ps ≡ length made = differences_are_counted (tables.get old.kept) (tables.get new.kept) ps places d differ ∙ length_mapped (λ x. place val_codec x.0) made in
     subst (λ n. Rises n old.writes new.writes) (sym same) step.writes
   where

@@ -12,14 +12,13 @@ use Rattle.bdb_key.specs.Bytes.{num_bytes}
 use Rattle.bdb_key.specs.Grammar.{IsNum}
 use Rattle.bdb_key.specs.Rows.{mark_bytes}
 use Rattle.bdb_tables.specs.Codec.{place}
-use Rattle.bdb_tables.specs.GroupMarks.{in_group}
+use Rattle.bdb_tables.specs.GroupMarks.{group_bytes, in_group}
 use Rattle.bdb_tables.specs.InUse.{ValKey, val_bytes, val_codec}
 use Rattle.bdb_tables.specs.Marks.{Mark}
 use Rattle.bdb_tables.specs.Spans.{AreUnder}
 use Rattle.bdb_tables.specs.Writes.{IsChange, with_change, with_changes}
 use Rattle.bdb_tables.proofs.Held.{same_place}
 use Rattle.bdb_tables.proofs.WriteLemmas.{get_after_change}
-use Rattle.bdb_val.specs.Reads.{group_prefix}
 use Rattle.bdb_val.specs.Rooms.{AreHanded, AreRowsOf, AreSingle, HaveNone, IsNoted, IsRoomFor, unless_from}
 use Rattle.bdb_val.proofs.ReadLemmas.{prefix_append, world_of_group}
 
@@ -30,7 +29,7 @@ tail_same n j k e = cc
 
 module _ (rel : ℕ) (v : List Value) (wid m : ℕ) (n : IsNum m) (other : wid ≡ m → ⊥) where
   -- a change of another world's row
-  change_apart : (t : Tables) (x : ℕ × Option Mark) → IsChange val_codec (in_group wid rel v x) → (q : List ℕ) → is_prefix (group_prefix m rel v) q ≡ true
+  change_apart : (t : Tables) (x : ℕ × Option Mark) → IsChange val_codec (in_group wid rel v x) → (q : List ℕ) → is_prefix (group_bytes m rel v) q ≡ true
       → tables.get (with_change val_codec t (in_group wid rel v x)) (11 ∷ q) ≡ tables.get t (11 ∷ q)
   change_apart t x c q begins =
       let key : ValKey = (wid, rel, v, x.0) in
@@ -38,9 +37,9 @@ module _ (rel : ℕ) (v : List Value) (wid m : ℕ) (n : IsNum m) (other : wid �
       ∙ ap (λ b. cond b (option_map val_codec.row_bytes x.1) (tables.get t (11 ∷ q)))
       (false_from_ne_true (eq_by_cmp bytes_cmp (11 ∷ q) (place val_codec key)) (λ e.
       let same : q ≡ val_bytes key = tail_same 11 q (val_bytes key) (same_place (11 ∷ q) (place val_codec key) e) in
-      other (world_of_group m rel v n key c.key (ap (is_prefix (group_prefix m rel v)) (sym same) ∙ begins))))
+      other (world_of_group m rel v n key c.key (ap (is_prefix (group_bytes m rel v)) (sym same) ∙ begins))))
 
-  changes_apart : (cs : List (ℕ × Option Mark)) (t : Tables) → AllByRecursion (IsChange val_codec) (map (in_group wid rel v) cs) → (q : List ℕ) → is_prefix (group_prefix m rel v) q ≡ true
+  changes_apart : (cs : List (ℕ × Option Mark)) (t : Tables) → AllByRecursion (IsChange val_codec) (map (in_group wid rel v) cs) → (q : List ℕ) → is_prefix (group_bytes m rel v) q ≡ true
       → tables.get (with_changes val_codec t (map (in_group wid rel v) cs)) (11 ∷ q) ≡ tables.get t (11 ∷ q)
   changes_apart [] t c q begins = refl
   changes_apart (x ∷ xs) t c q begins = changes_apart xs (with_change val_codec t (in_group wid rel v x)) c.1 q begins ∙ change_apart t x c.0 q begins
@@ -69,14 +68,14 @@ handed_stay t u wid rel v (Some m) rows cs c w h = elim (cases_Bool (nat_eq m wi
 -- ---- worlds with one row
 
 -- a row that a world gets which has none is its only one
-only_row : (t u : Tables) (wid rel : ℕ) (v : List Value) (row : ℕ × Mark) → IsNum wid → AreUnder val_codec t (group_prefix wid rel v) [] → IsChange val_codec (in_group wid rel v (row.0, Some row.1))
+only_row : (t u : Tables) (wid rel : ℕ) (v : List Value) (row : ℕ × Mark) → IsNum wid → AreUnder val_codec t (group_bytes wid rel v) [] → IsChange val_codec (in_group wid rel v (row.0, Some row.1))
     → u ≡ with_change val_codec t (in_group wid rel v (row.0, Some row.1)) → AreRowsOf u rel v (row ∷ []) wid
 only_row t u wid rel v row n none fits w =
     let key : ValKey = (wid, rel, v, row.0) in
     record {
       world = n;
       under = record {
-        each = (record { key = fits.key; row = tt; begins = prefix_append (group_prefix wid rel v) (num_bytes row.0) }, tt);
+        each = (record { key = fits.key; row = tt; begins = prefix_append (group_bytes wid rel v) (num_bytes row.0) }, tt);
         sorted = refl;
         found = λ q begins. ap (λ (x : Tables). tables.get x (11 ∷ q)) w ∙ get_after_change val_codec t (in_group wid rel v (row.0, Some row.1)) (11 ∷ q)
             ∙ ap (cond (eq_by_cmp bytes_cmp q (val_bytes key)) (Some (mark_bytes row.1))) (none.found q begins);
@@ -85,14 +84,14 @@ only_row t u wid rel v row n none fits w =
 
 -- the only rows that are kept are those of their worlds, also after a world's change
 pub singles_after : (t u : Tables) (wid rel : ℕ) (v : List Value) (own : List (ℕ × Mark)) (cs : List (ℕ × Option Mark)) (old new : List (Option (ℕ × Mark))) → IsNum wid
-    → AreUnder val_codec t (group_prefix wid rel v) (map (in_group wid rel v) own) → AllByRecursion (IsChange val_codec) (map (in_group wid rel v) cs) → u ≡ with_changes val_codec t (map (in_group wid rel v) cs)
+    → AreUnder val_codec t (group_bytes wid rel v) (map (in_group wid rel v) own) → AllByRecursion (IsChange val_codec) (map (in_group wid rel v) cs) → u ≡ with_changes val_codec t (map (in_group wid rel v) cs)
     → IsNoted wid own cs old new → AreSingle t rel v old → AreSingle u rel v new
 singles_after t u wid rel v own cs old new n under c w noted h m row e = elim (cases_Bool (nat_eq wid m)) [
   | inl same ↦
       let is : wid ≡ m = eqb-true wid m same in
       let given = noted.given row (ap (λ (k : ℕ). get_or new k None) is ∙ e) in
       subst (AreRowsOf u rel v (row ∷ [])) is (only_row t u wid rel v row n
-      (subst (λ (xs : List (ℕ × Mark)). AreUnder val_codec t (group_prefix wid rel v) (map (in_group wid rel v) xs)) given.0 under)
+      (subst (λ (xs : List (ℕ × Mark)). AreUnder val_codec t (group_bytes wid rel v) (map (in_group wid rel v) xs)) given.0 under)
       (subst (λ (xs : List (ℕ × Option Mark)). AllByRecursion (IsChange val_codec) (map (in_group wid rel v) xs)) given.1 c).0
       (w ∙ ap (λ (xs : List (ℕ × Option Mark)). with_changes val_codec t (map (in_group wid rel v) xs)) given.1))
   | inr apart ↦

@@ -9,7 +9,7 @@ use Rattle.bdb_base.specs.Same.{same_sign}
 use Rattle.bdb_base.specs.SameLemmas.{same_sign-Decides}
 use Rattle.bdb_tables.specs.Marks.{Mark, sign_of, explicit_of}
 use Rattle.bdb_val.specs.Settled.{settled_mark}
-use Rattle.bdb_val.specs.Settling.{Change, mark_in, barred_by, next_mark, same_mark, change_at, has_mark, fresh_change, settling, last_mark, AreNamed}
+use Rattle.bdb_val.specs.Settling.{RowChange, mark_in, barred_by, next_mark, same_mark, change_at, has_mark, fresh_change, settling, last_mark, AreNamed}
 use Rattle.bdb_val.specs.Laws.{SettlingIsRight, NoneSettlesTheSettled, SettlingIsReal}
 use Rattle.bdb_val.specs.declared.stored.Stored.{Stored}
 
@@ -69,7 +69,7 @@ all_of P h [] = tt
 all_of P h (x ∷ xs) = (h x, all_of P h xs)
 
 -- what holds of the changes of each row holds of all that settle a world
-pub settling_each : (keys : ℕ → ℕ) (stored own from : List Stored) (Q : Stored → Type 0) (P : Change → Type 0)
+pub settling_each : (keys : ℕ → ℕ) (stored own from : List Stored) (Q : Stored → Type 0) (P : RowChange → Type 0)
     → ((x : Stored) → Q x → AllByRecursion P (change_at keys stored own from x)) → AllByRecursion Q stored → AllByRecursion Q own → AllByRecursion Q from
     → AllByRecursion P (settling keys stored own from)
 settling_each keys stored own from Q P h a b c =
@@ -86,7 +86,7 @@ settling_each keys stored own from Q P h a b c =
     ]
 
 -- what holds of the change of a row, where the row is to be another, holds of its changes
-pub change_each : (keys : ℕ → ℕ) (stored own from : List Stored) (P : Change → Type 0) (x : Stored)
+pub change_each : (keys : ℕ → ℕ) (stored own from : List Stored) (P : RowChange → Type 0) (x : Stored)
     → (same_mark (mark_in stored x.tid) (next_mark keys own from x.tid x.tuple) ≡ false → P (x.tid, x.tuple, next_mark keys own from x.tid x.tuple))
     → AllByRecursion P (change_at keys stored own from x)
 change_each keys stored own from P x h =
@@ -106,7 +106,7 @@ settling_is_real keys stored own from =
 
 -- ---- each tuple has the row that it is to have
 
-last_of_one : (cs : List Change) (tid : ℕ) (m z : Option Mark) → AllByRecursion (λ x. nat_eq x.0 tid ≡ true → x.2 ≡ z) cs
+last_of_one : (cs : List RowChange) (tid : ℕ) (m z : Option Mark) → AllByRecursion (λ x. nat_eq x.0 tid ≡ true → x.2 ≡ z) cs
     → ((list_any (λ x. nat_eq x.0 tid) cs ≡ true) ⊎ (m ≡ z)) → last_mark cs tid m ≡ z
 last_of_one [] tid m z a b = elim b [ inl e ↦ absurd (false≢true e) | inr e ↦ e ]
 last_of_one (x ∷ xs) tid m z a b = elim (cases_Bool (nat_eq x.0 tid)) [
@@ -143,7 +143,7 @@ change_is_there keys tuple stored own from tid t e d x n k =
     ap (list_any (λ y. nat_eq y.0 tid)) (cond-false (same_mark (mark_in stored x.tid) m) [] ((x.tid, x.tuple, m) ∷ []) b) ∙ or_left (nat_eq x.tid tid) false k
 
 -- a list's changes have a number, where the list has it and each row of that number is changed
-any_flat_map : (f : Stored → List Change) (tuple : ℕ → Option Tuple) (tid : ℕ)
+any_flat_map : (f : Stored → List RowChange) (tuple : ℕ → Option Tuple) (tid : ℕ)
     → ((x : Stored) → tuple x.tid ≡ Some x.tuple → nat_eq x.tid tid ≡ true → list_any (λ y. nat_eq y.0 tid) (f x) ≡ true)
     → (xs : List Stored) → AreNamed tuple xs → is_some (mark_in xs tid) ≡ true → list_any (λ y. nat_eq y.0 tid) (flat_map f xs) ≡ true
 any_flat_map f tuple tid h xs n e = go xs n (sym (mark_is_some xs tid) ∙ e)
@@ -178,7 +178,7 @@ settling_is_right keys tuple stored own from a b c tid t e =
         let one = flat_map (change_at keys stored own from) stored in
         let two = flat_map (fresh_change keys stored own from []) own in
         let three = flat_map (fresh_change keys stored own from own) from in
-        let test = λ (x : Change). nat_eq x.0 tid in
+        let test = λ (x : RowChange). nat_eq x.0 tid in
         list_any-append test (one ++ two) three
         ∙ elim (cases_Bool (is_some (mark_in stored tid))) [
           | inl s ↦ or_left (list_any test (one ++ two)) (list_any test three) (list_any-append test one two
@@ -203,7 +203,7 @@ settling_is_right keys tuple stored own from a b c tid t e =
 
 -- ---- where nothing is to be another
 
-pub no_changes : (f : Stored → List Change) (Q : Stored → Type 0) → ((x : Stored) → Q x → f x ≡ []) → (xs : List Stored) → AllByRecursion Q xs → flat_map f xs ≡ []
+pub no_changes : (f : Stored → List RowChange) (Q : Stored → Type 0) → ((x : Stored) → Q x → f x ≡ []) → (xs : List Stored) → AllByRecursion Q xs → flat_map f xs ≡ []
 no_changes f Q h [] a = refl
 no_changes f Q h (x ∷ xs) a = ap (λ ys. ys ++ flat_map f xs) (h x a.0) ∙ no_changes f Q h xs a.1
 

@@ -9,7 +9,7 @@ use Rattle.bdb_base.specs.declared.kinds.Value.{Value}
 use Rattle.bdb_keep.specs.Tables.{Tables, bytes_cmp}
 use Rattle.bdb_key.specs.Grammar.{IsNum}
 use Rattle.bdb_tables.specs.Codec.{HasAt, place}
-use Rattle.bdb_tables.specs.GroupMarks.{in_group}
+use Rattle.bdb_tables.specs.GroupMarks.{group_bytes, in_group}
 use Rattle.bdb_tables.specs.InUse.{ValKey, val_bytes, link_codec, tuple_codec, val_codec}
 use Rattle.bdb_tables.specs.InUseLaws.{vals_are_one}
 use Rattle.bdb_tables.specs.Marks.{Mark}
@@ -18,7 +18,7 @@ use Rattle.bdb_tables.specs.Writes.{IsChange, with_change, with_changes}
 use Rattle.bdb_tables.proofs.Held.{same_place}
 use Rattle.bdb_tables.proofs.WriteLemmas.{get_after_change, row_elsewhere}
 use Rattle.bdb_val.specs.GroupChanges.{mark_under, is_explicit_plus, handed_down, group_change, own_change, new_change, group_changes, turns_at, comes_at, goes_at, TellsMarks}
-use Rattle.bdb_val.specs.Reads.{AreTold, HaveTuples, group_prefix}
+use Rattle.bdb_val.specs.Reads.{AreTold, HaveTuples}
 use Rattle.bdb_val.specs.Settling.{mark_in, same_mark}
 use Rattle.bdb_val.specs.Steps.{turns_from, comes, goes, turns, is_new, is_gone, Tells}
 use Rattle.bdb_val.specs.declared.stored.SettledWorld.{SettledWorld}
@@ -99,16 +99,16 @@ under_tuples t prefix es h u = go es (entries_stand t prefix es u)
 
 -- after the changes that settle a group each row has its tuple
 pub group_keeps_tuples : (t u : Tables) (wid rel : ℕ) (v : List Value) (link : Option ℕ) (own from : List (ℕ × Mark)) → HaveTuples t
-    → AreUnder val_codec t (group_prefix wid rel v) (map (in_group wid rel v) own) → MatchOption link (from ≡ []) (λ m. AreUnder val_codec t (group_prefix m rel v) (map (in_group m rel v) from))
+    → AreUnder val_codec t (group_bytes wid rel v) (map (in_group wid rel v) own) → MatchOption link (from ≡ []) (λ m. AreUnder val_codec t (group_bytes m rel v) (map (in_group m rel v) from))
     → AllByRecursion (IsChange val_codec) (map (in_group wid rel v) (group_changes own from)) → u ≡ with_changes val_codec t (map (in_group wid rel v) (group_changes own from)) → HaveTuples u
 group_keeps_tuples t u wid rel v link own from h a b c w =
     subst HaveTuples (sym w) (changes_keep (map (in_group wid rel v) (group_changes own from)) t h c
     (all_keyed wid rel v (HasTuple t) (group_changes own from)
-    (group_each own from (HasTuple t) (all_numbered wid rel v (HasTuple t) own (under_tuples t (group_prefix wid rel v) (map (in_group wid rel v) own) h a)) (over link b))))
+    (group_each own from (HasTuple t) (all_numbered wid rel v (HasTuple t) own (under_tuples t (group_bytes wid rel v) (map (in_group wid rel v) own) h a)) (over link b))))
   where
-    over : (o : Option ℕ) → MatchOption o (from ≡ []) (λ m. AreUnder val_codec t (group_prefix m rel v) (map (in_group m rel v) from)) → AllByRecursion (λ e. HasTuple t e.0) from
+    over : (o : Option ℕ) → MatchOption o (from ≡ []) (λ m. AreUnder val_codec t (group_bytes m rel v) (map (in_group m rel v) from)) → AllByRecursion (λ e. HasTuple t e.0) from
     over None e = subst (AllByRecursion (λ e. HasTuple t e.0)) (sym e) tt
-    over (Some m) e = all_numbered m rel v (HasTuple t) from (under_tuples t (group_prefix m rel v) (map (in_group m rel v) from) h e)
+    over (Some m) e = all_numbered m rel v (HasTuple t) from (under_tuples t (group_bytes m rel v) (map (in_group m rel v) from) h e)
 
 -- a link that is read is a number
 pub fits_at : (t : Tables) (wid : ℕ) (link : Option ℕ) → HasAt link_codec t wid link → MatchOption link (Unit {0}) IsNum

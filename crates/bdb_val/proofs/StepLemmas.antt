@@ -18,7 +18,7 @@ use Rattle.bdb_tables.proofs.Held.{same_place}
 use Rattle.bdb_tables.proofs.WriteLemmas.{changes_give}
 use Rattle.bdb_tables.specs.Marks.{Mark, sign_by, sign_of, explicit_of, explicit_sign}
 use Rattle.bdb_val.specs.Settled.{settled_mark, sign_at}
-use Rattle.bdb_val.specs.Settling.{Change, mark_in, next_mark, settling, last_mark, AreNamed, are_apart, IsGroup, AreNumbered, IsStatedAt, AreExplicit, row_key, keyed}
+use Rattle.bdb_val.specs.Settling.{RowChange, mark_in, next_mark, settling, last_mark, AreNamed, are_apart, IsGroup, AreNumbered, IsStatedAt, AreExplicit, row_key, keyed}
 use Rattle.bdb_val.specs.Reads.{AreReadUnder, HasRows}
 use Rattle.bdb_val.specs.Steps.{AreSpans, IsSettling}
 use Rattle.bdb_val.specs.declared.stored.Stored.{Stored}
@@ -35,7 +35,7 @@ both P Q [] p q = tt
 both P Q (x ∷ xs) p q = ((p.0, q.0), both P Q xs p.1 q.1)
 
 -- a change is of a tuple of its number, which passes a test
-abbrev pub IsOf : (ℕ → Option Tuple) → (Tuple → Bool) → Change → Type 0
+abbrev pub IsOf : (ℕ → Option Tuple) → (Tuple → Bool) → RowChange → Type 0
 IsOf tuple test x = (tuple x.0 ≡ Some x.1) × (test x.1 ≡ true)
 
 -- the changes that settle rows are of those rows' tuples
@@ -92,7 +92,7 @@ module _ (keys : ℕ → ℕ) (tuple : ℕ → Option Tuple) (f : ValKey → Opt
       ]
 
   -- after changes the row of a tuple is the last one put
-  pub after_changes : (wid tid : ℕ) (u : Tuple) → IsNum wid → tuple tid ≡ Some u → (cs : List Change) (g : ValKey → Option Mark) → AllByRecursion (IsOf tuple test) cs
+  pub after_changes : (wid tid : ℕ) (u : Tuple) → IsNum wid → tuple tid ≡ Some u → (cs : List RowChange) (g : ValKey → Option Mark) → AllByRecursion (IsOf tuple test) cs
       → with_rows_at val_codec g (map (keyed keys wid) cs) (row_key keys wid tid u) ≡ last_mark cs tid (g (row_key keys wid tid u))
   after_changes wid tid u w n [] g a = refl
   after_changes wid tid u w n (x ∷ xs) g a =
@@ -100,7 +100,7 @@ module _ (keys : ℕ → ℕ) (tuple : ℕ → Option Tuple) (f : ValKey → Opt
       ∙ ap (λ b. last_mark xs tid (cond b x.2 (g (row_key keys wid tid u)))) (same_row_key wid x.0 tid x.1 u w a.0.0 n)
 
   -- rows of other keys stay
-  pub other_rows : (wid : ℕ) (q : ValKey) → IsNum wid → IsValKey q → ((tid : ℕ) (u : Tuple) → tuple tid ≡ Some u → test u ≡ true → q ≡ row_key keys wid tid u → ⊥) → (cs : List Change) (g : ValKey → Option Mark)
+  pub other_rows : (wid : ℕ) (q : ValKey) → IsNum wid → IsValKey q → ((tid : ℕ) (u : Tuple) → tuple tid ≡ Some u → test u ≡ true → q ≡ row_key keys wid tid u → ⊥) → (cs : List RowChange) (g : ValKey → Option Mark)
       → AllByRecursion (IsOf tuple test) cs → with_rows_at val_codec g (map (keyed keys wid) cs) q ≡ g q
   other_rows wid q w v k [] g a = refl
   other_rows wid q w v k (x ∷ xs) g a =
@@ -112,7 +112,7 @@ module _ (keys : ℕ → ℕ) (tuple : ℕ → Option Tuple) (f : ValKey → Opt
       ∙ false_from_ne_true (is_eq (bytes_cmp (val_bytes q) (val_bytes y))) (λ c. k x.0 x.1 a.0.0 a.0.1 (vals_are_one q y v fy (same_place (val_bytes q) (val_bytes y) c))))
 
   -- changes of named tuples' rows are in the grammar
-  pub changes_fit : (wid : ℕ) → IsNum wid → (cs : List Change) → AllByRecursion (IsOf tuple test) cs → AllByRecursion (IsChange val_codec) (map (keyed keys wid) cs)
+  pub changes_fit : (wid : ℕ) → IsNum wid → (cs : List RowChange) → AllByRecursion (IsOf tuple test) cs → AllByRecursion (IsChange val_codec) (map (keyed keys wid) cs)
   changes_fit wid w [] a = tt
   changes_fit wid w (x ∷ xs) a = (record { key = key_fits keys tuple f t h wid x.0 x.1 w a.0.0; row = any x.2 }, changes_fit wid w xs a.1)
     where
@@ -122,7 +122,7 @@ module _ (keys : ℕ → ℕ) (tuple : ℕ → Option Tuple) (f : ValKey → Opt
 
   module _ (u : Tables) (wid : ℕ) (link : Option ℕ) (w : IsNum wid) (l : MatchOption link (Unit {0}) IsNum) (s : IsSettling keys t u wid link prefix) where
     -- the changes that were written
-    abbrev pub made : List Change
+    abbrev pub made : List RowChange
     made = settling keys s.own s.own s.from
 
     own_named : AreNamed tuple s.own

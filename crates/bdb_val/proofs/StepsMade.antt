@@ -8,7 +8,7 @@ use Rattle.bdb_tables.specs.InUse.{link_codec, val_codec}
 use Rattle.bdb_tables.specs.Writes.{with_changes}
 use Rattle.bdb_val.specs.Reads.{AreReadUnder}
 use Rattle.bdb_val.specs.Steps.{IsStep, rows_made}
-use Rattle.bdb_val.specs.Visits.{IsTold}
+use Rattle.bdb_val.specs.Visits.{TellsVisit}
 use Rattle.bdb_val.specs.Walks.{IsVisit, IsQuiet, changes_of}
 use Rattle.bdb_val.specs.declared.stored.SettledWorld.{SettledWorld}
 
@@ -40,7 +40,7 @@ module _ (keys : ℕ → ℕ) (old mid new : Seen) (prefix : ℕ → List ℕ) (
     settling = record { own = step.settling.own; from = step.settling.from; own_read = step.settling.own_read; from_read = step.settling.from_read; written = kept ∙ step.settling.written };
   }
 
-  pub told : IsTold keys old new prefix wid s visited
+  pub told : TellsVisit keys old new prefix wid s visited
   told = record { put = step.tells.put; taken = step.tells.taken; writes = subst (Rises (length (changes_of visited)) old.writes) (sym writes) step.writes }
 
   pub quiet : s.turned ≡ false → IsQuiet visited

@@ -28,11 +28,12 @@ use Rattle.bdb_tables.specs.InUseLaws.{vals_are_one}
 use Rattle.bdb_tables.specs.Marks.{Mark}
 use Rattle.bdb_tables.specs.Names.{Names, AreNames, path_of, link_of, is_listed, are_once}
 use Rattle.bdb_tables.specs.Spans.{IsUnder, entry_cmp}
+use Rattle.bdb_tables.specs.GroupMarks.{group_bytes}
 use Rattle.bdb_tables.proofs.DifferenceLemmas.{differences_add, differences_are_counted}
 use Rattle.bdb_val.specs.Counts.{has_none, TellsDifferences}
 use Rattle.bdb_val.specs.Groups.{HasLinks, IsUnsettled}
-use Rattle.bdb_val.specs.Reads.{HasRows, is_of_group, group_prefix}
-use Rattle.bdb_val.specs.Settling.{Change, mark_in, next_mark, settling, IsGroup, row_key, keyed}
+use Rattle.bdb_val.specs.Reads.{HasRows, is_of_group}
+use Rattle.bdb_val.specs.Settling.{RowChange, mark_in, next_mark, settling, IsGroup, row_key, keyed}
 use Rattle.bdb_val.specs.Steps.{AreSpans, is_new, is_gone, counted}
 use Rattle.bdb_val.specs.Walks.{AreLinkedTo, IsVisit, Walked, changes_of, put_by, taken_by}
 use Rattle.bdb_val.specs.Walks.Walked.{first, next}
@@ -139,7 +140,7 @@ module _ (keys : ℕ → ℕ) (tuple : ℕ → Option Tuple) (g : ValKey → Opt
   pub changes_in : AllByRecursion (IsIn wid) (changes_of s)
   changes_in = go (settling keys s.settling.own s.settling.own s.settling.from) of
     where
-      go : (ds : List Change) → AllByRecursion (IsOf tuple test) ds → AllByRecursion (IsIn wid) (map (keyed keys wid) ds)
+      go : (ds : List RowChange) → AllByRecursion (IsOf tuple test) ds → AllByRecursion (IsIn wid) (map (keyed keys wid) ds)
       go [] a = tt
       go (d ∷ ds) a = ((key_fits keys tuple g u h wid d.0 d.1 w a.0.0, refl), go ds a.1)
 
@@ -151,13 +152,13 @@ module _ (keys : ℕ → ℕ) (tuple : ℕ → Option Tuple) (g : ValKey → Opt
   some_mapped (Some m) = refl
 
   -- a change's row before, and the one afterwards
-  had : (d : Change) → IsOf tuple test d → has_none u (place val_codec (row_key keys wid d.0 d.1)) ≡ not (is_some (mark_in s.settling.own d.0))
+  had : (d : RowChange) → IsOf tuple test d → has_none u (place val_codec (row_key keys wid d.0 d.1)) ≡ not (is_some (mark_in s.settling.own d.0))
   had d a =
       ap (λ o. not (is_some o)) (h.rows.rows (row_key keys wid d.0 d.1) (key_fits keys tuple g u h wid d.0 d.1 w a.0))
       ∙ ap not (some_mapped (g (row_key keys wid d.0 d.1)))
       ∙ ap (λ o. not (is_some o)) (sym (own_mark keys tuple g u h test prefix spans v wid s.link w fits s.settling d.0 d.1 a.0 a.1))
 
-  gets : (d : Change) → IsOf tuple test d → d.2 ≡ next_mark keys s.settling.own s.settling.from d.0 d.1 → has_none v (place val_codec (row_key keys wid d.0 d.1)) ≡ not (is_some d.2)
+  gets : (d : RowChange) → IsOf tuple test d → d.2 ≡ next_mark keys s.settling.own s.settling.from d.0 d.1 → has_none v (place val_codec (row_key keys wid d.0 d.1)) ≡ not (is_some d.2)
   gets d a e =
       ap (λ o. not (is_some o)) ((gives_after keys tuple g u h test prefix spans v wid s.link w fits s.settling).rows (row_key keys wid d.0 d.1) (key_fits keys tuple g u h wid d.0 d.1 w a.0))
       ∙ ap not (some_mapped (rows_after keys tuple g u h test prefix spans v wid s.link w fits s.settling (row_key keys wid d.0 d.1)))
@@ -185,7 +186,7 @@ module _ (keys : ℕ → ℕ) (tuple : ℕ → Option Tuple) (g : ValKey → Opt
   pub put_counts : put_by s ≡ length (filter (has_none u) (map at_place (changes_of s)))
   put_counts = filter_mapped (is_new (mark_in s.settling.own)) (has_none u) at_place (changes_of s) (go (settling keys s.settling.own s.settling.own s.settling.from) of real)
     where
-      go : (ds : List Change) → AllByRecursion (IsOf tuple test) ds → AllByRecursion (λ d. mark_in s.settling.own d.0 ≢ d.2) ds
+      go : (ds : List RowChange) → AllByRecursion (IsOf tuple test) ds → AllByRecursion (λ d. mark_in s.settling.own d.0 ≢ d.2) ds
           → AllByRecursion (λ x. is_new (mark_in s.settling.own) x ≡ has_none u (at_place x)) (map (keyed keys wid) ds)
       go [] a b = tt
       go (d ∷ ds) a b = (new_is (mark_in s.settling.own d.0) d.2 b.0 ∙ sym (had d a.0), go ds a.1 b.1)
@@ -194,7 +195,7 @@ module _ (keys : ℕ → ℕ) (tuple : ℕ → Option Tuple) (g : ValKey → Opt
   pub taken_counts : taken_by s ≡ length (filter (has_none v) (map at_place (changes_of s)))
   taken_counts = filter_mapped (is_gone (mark_in s.settling.own)) (has_none v) at_place (changes_of s) (go (settling keys s.settling.own s.settling.own s.settling.from) of real nexts)
     where
-      go : (ds : List Change) → AllByRecursion (IsOf tuple test) ds → AllByRecursion (λ d. mark_in s.settling.own d.0 ≢ d.2) ds
+      go : (ds : List RowChange) → AllByRecursion (IsOf tuple test) ds → AllByRecursion (λ d. mark_in s.settling.own d.0 ≢ d.2) ds
           → AllByRecursion (λ d. d.2 ≡ next_mark keys s.settling.own s.settling.from d.0 d.1) ds → AllByRecursion (λ x. is_gone (mark_in s.settling.own) x ≡ has_none v (at_place x)) (map (keyed keys wid) ds)
       go [] a b e = tt
       go (d ∷ ds) a b e = (gone_is (mark_in s.settling.own d.0) d.2 b.0 ∙ sym (gets d a.0 e.0), go ds a.1 b.1 e.1)
@@ -382,8 +383,8 @@ tells_from old new made put taken k rises a b ps d = record {
 
 -- what a walk tells of a group
 pub walk_tells : (keys : ℕ → ℕ) (old new : Seen) (wid rel : ℕ) (v : List Value) (left : List ℕ) (made : List (ValKey × Option Mark)) (put taken : ℕ) (s : Settled) → IsNum rel → AreKeyVals v
-    → Walked keys (λ w. group_prefix w rel v) old.kept wid new.kept left made put taken → s.put ≡ counted put → s.taken ≡ counted taken → Rises (length made) old.writes new.writes
+    → Walked keys (λ w. group_bytes w rel v) old.kept wid new.kept left made put taken → s.put ≡ counted put → s.taken ≡ counted taken → Rises (length made) old.writes new.writes
     → (stmts : List Stmt) (ns : Names) (tuple : ℕ → Option Tuple) (f : ValKey → Option Mark) → IsUnsettled keys stmts ns tuple f old.kept wid (is_of_group keys rel v) → TellsDifferences old new s.put s.taken
 walk_tells keys old new wid rel v left made put taken s r p walked a b rises stmts ns tuple f h =
-    let k = walk_once keys stmts ns tuple (is_of_group keys rel v) (λ w. group_prefix w rel v) h.names (λ w n. group_span keys h.explicit.rows.lengths w rel v n r p) (is_group keys rel v) f old.kept wid h new.kept left made put taken walked in
+    let k = walk_once keys stmts ns tuple (is_of_group keys rel v) (λ w. group_bytes w rel v) h.names (λ w n. group_span keys h.explicit.rows.lengths w rel v n r p) (is_group keys rel v) f old.kept wid h new.kept left made put taken walked in
     tells_from old new made s.put s.taken k.differ rises (a ∙ ap counted k.puts) (b ∙ ap counted k.takes)

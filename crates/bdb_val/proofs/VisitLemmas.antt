@@ -27,7 +27,7 @@ use Rattle.bdb_val.specs.Groups.{HasLinks}
 use Rattle.bdb_val.specs.Middle.{worlds_of, HasExplicit, IsSettledAt}
 use Rattle.bdb_val.specs.Reads.{HasRows}
 use Rattle.bdb_val.specs.Settled.{settled_mark, passed_on, sign_at}
-use Rattle.bdb_val.specs.Settling.{Change, mark_in, settling, last_mark, IsGroup, row_key, keyed}
+use Rattle.bdb_val.specs.Settling.{RowChange, mark_in, settling, last_mark, IsGroup, row_key, keyed}
 use Rattle.bdb_val.specs.Steps.{AreSpans, same_signs, turns}
 use Rattle.bdb_val.specs.Walks.{IsVisit, IsQuiet, changes_of}
 use Rattle.bdb_val.specs.declared.stored.Stored.{Stored}
@@ -108,7 +108,7 @@ linked_is_named ns wid m e = go (path_of ns wid) refl
 
 -- a row that there is after changes was there before, or is that of a change
 changed_row : (keys : ℕ → ℕ) (wid : ℕ) (tuple : ℕ → Option Tuple) (test : Tuple → Bool) (f : ValKey → Option Mark) (t : Tables) → HasRows keys tuple f t → IsNum wid → (k : ValKey) → IsValKey k
-    → (cs : List Change) (g : ValKey → Option Mark) → AllByRecursion (IsOf tuple test) cs → is_some (with_rows_at val_codec g (map (keyed keys wid) cs) k) ≡ true
+    → (cs : List RowChange) (g : ValKey → Option Mark) → AllByRecursion (IsOf tuple test) cs → is_some (with_rows_at val_codec g (map (keyed keys wid) cs) k) ≡ true
     → (is_some (g k) ≡ true) ⊎ ((tid : ℕ) × (u : Tuple) × (tuple tid ≡ Some u) × (k ≡ row_key keys wid tid u))
 changed_row keys wid tuple test f t h n k v [] g a s = inl s
 changed_row keys wid tuple test f t h n k v (x ∷ xs) g a s = elim (changed_row keys wid tuple test f t h n k v xs (with_row_at val_codec g (keyed keys wid x)) a.1 s) [
@@ -139,14 +139,14 @@ same_signs_tells None (Some t) e = absurd (false≢true e)
 same_signs_tells (Some s) None e = absurd (false≢true e)
 same_signs_tells (Some s) (Some t) e = ap Some ((same_sign-Decides s t).0 e)
 
-last_sign : (cs : List Change) (tid : ℕ) (m : Option Mark) (z : Option Sign) → AllByRecursion (λ c. nat_eq c.0 tid ≡ true → sign_of c.2 ≡ z) cs → sign_of m ≡ z → sign_of (last_mark cs tid m) ≡ z
+last_sign : (cs : List RowChange) (tid : ℕ) (m : Option Mark) (z : Option Sign) → AllByRecursion (λ c. nat_eq c.0 tid ≡ true → sign_of c.2 ≡ z) cs → sign_of m ≡ z → sign_of (last_mark cs tid m) ≡ z
 last_sign [] tid m z a e = e
 last_sign (c ∷ cs) tid m z a e = last_sign cs tid (cond (nat_eq c.0 tid) c.2 m) z a.1 (elim (cases_Bool (nat_eq c.0 tid)) [
   | inl k ↦ ap sign_of (cond-true (nat_eq c.0 tid) c.2 m k) ∙ a.0 k
   | inr k ↦ ap sign_of (cond-false (nat_eq c.0 tid) c.2 m k) ∙ e
 ])
 
-quiet_each : (keys : ℕ → ℕ) (wid : ℕ) (own : List Stored) (cs : List Change) → list_any (turns (mark_in own)) (map (keyed keys wid) cs) ≡ false → (tid : ℕ)
+quiet_each : (keys : ℕ → ℕ) (wid : ℕ) (own : List Stored) (cs : List RowChange) → list_any (turns (mark_in own)) (map (keyed keys wid) cs) ≡ false → (tid : ℕ)
     → AllByRecursion (λ c. nat_eq c.0 tid ≡ true → sign_of c.2 ≡ sign_of (mark_in own tid)) cs
 quiet_each keys wid own [] q tid = tt
 quiet_each keys wid own (c ∷ cs) q tid =

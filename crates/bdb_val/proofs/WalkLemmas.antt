@@ -27,10 +27,11 @@ use Rattle.bdb_tables.specs.Rows.{HoldsRows}
 use Rattle.bdb_tables.specs.Spans.{IsUnder, entry_bytes}
 use Rattle.bdb_tables.specs.States.{row_where}
 use Rattle.bdb_tables.specs.Writes.{with_row_at, with_rows_at}
+use Rattle.bdb_tables.specs.GroupMarks.{group_bytes}
 use Rattle.bdb_tables.proofs.Held.{same_place}
 use Rattle.bdb_val.specs.Groups.{HasLinks, IsUnsettled}
 use Rattle.bdb_val.specs.Middle.{worlds_of, HasExplicit, IsSettledAt, AreSettledBut}
-use Rattle.bdb_val.specs.Reads.{is_of_group, group_prefix}
+use Rattle.bdb_val.specs.Reads.{is_of_group}
 use Rattle.bdb_val.specs.Settling.{IsGroup}
 use Rattle.bdb_val.specs.Steps.{AreSpans}
 use Rattle.bdb_val.specs.Walks.{AreLinkedTo, IsVisit, IsQuiet, Walked, changes_of}
@@ -223,9 +224,9 @@ is_group keys rel v a b Minus Minus e c = absurd (false≢true c)
 
 -- a walk that is at its end settles the group
 pub walk_settles : (keys : ℕ → ℕ) (t u : Tables) (wid rel : ℕ) (v : List Value) (made : List (ValKey × Option Mark)) (put taken : ℕ) → IsNum rel → AreKeyVals v
-    → Walked keys (λ w. group_prefix w rel v) t wid u [] made put taken
+    → Walked keys (λ w. group_bytes w rel v) t wid u [] made put taken
     → (stmts : List Stmt) (ns : Names) (tuple : ℕ → Option Tuple) (f : ValKey → Option Mark) → IsUnsettled keys stmts ns tuple f t wid (is_of_group keys rel v) → HoldsRows keys stmts (path_of ns) tuple u
 walk_settles keys t u wid rel v made put taken r p walked stmts ns tuple f h =
-    let way = walk_on_way keys stmts ns tuple (is_of_group keys rel v) (λ w. group_prefix w rel v) h.names (λ w n. group_span keys h.explicit.rows.lengths w rel v n r p) (is_group keys rel v) f t wid h u [] made put taken walked in
+    let way = walk_on_way keys stmts ns tuple (is_of_group keys rel v) (λ w. group_bytes w rel v) h.names (λ w n. group_span keys h.explicit.rows.lengths w rel v n r p) (is_group keys rel v) f t wid h u [] made put taken walked in
     settled_rows_are_held keys stmts ns tuple (with_rows_at val_codec f made) u h.names h.states way.explicit
     (λ m tid x n _. way.settled m tid x n (and_right (is_of_group keys rel v x) (is_listed m []) refl))

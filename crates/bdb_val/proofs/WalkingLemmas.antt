@@ -16,11 +16,12 @@ use Rattle.bdb_tables.specs.InUse.{ValKey, val_codec}
 use Rattle.bdb_tables.specs.Marks.{Mark}
 use Rattle.bdb_tables.specs.Names.{Names}
 use Rattle.bdb_tables.specs.Writes.{with_rows_at}
+use Rattle.bdb_tables.specs.GroupMarks.{group_bytes}
 use Rattle.bdb_val.specs.Counts.{has_none, TellsDifferences}
 use Rattle.bdb_val.specs.Groups.{HasLinks, IsUnsettled}
 use Rattle.bdb_val.specs.Middle.{worlds_of}
 use Rattle.bdb_val.specs.Others.{SameBut}
-use Rattle.bdb_val.specs.Reads.{HaveTuples, is_of_group, group_prefix}
+use Rattle.bdb_val.specs.Reads.{HaveTuples, is_of_group}
 use Rattle.bdb_val.specs.Stated.{WhereStated}
 use Rattle.bdb_val.specs.Steps.{counted}
 use Rattle.bdb_val.specs.Visits.{IsFirstVisit, IsNextVisit}
@@ -54,7 +55,7 @@ pub record IsWalking (old now : Seen) (rel : ℕ) (v : List Value) (start : ℕ)
   pub tuples : HaveTuples now.kept
   pub others : SameBut is_rows old.kept now.kept
   pub walked : (keys : ℕ → ℕ) (stmts : List Stmt) (ns : Names) (tuple : ℕ → Option Tuple) (f : ValKey → Option Mark) → IsUnsettled keys stmts ns tuple f old.kept start (is_of_group keys rel v)
-      → IsWalked keys old now (λ w. group_prefix w rel v) start list total
+      → IsWalked keys old now (λ w. group_bytes w rel v) start list total
 
 counted_both : (a b m n : ℕ) → a ≡ counted m → b ≡ n → counted (a + b) ≡ counted (m + n)
 counted_both a b m n e f = omega arith
@@ -78,13 +79,13 @@ first_walked keys ns old new prefix start before list s sum links same p q none 
     }
 
 pub walk_begins : (old new : Seen) (rel : ℕ) (v : List Value) (start : ℕ) (before list : List (ℕ × ℕ)) (s : SettledWorld) (sum : Settled) → HasGone old new → InGrammar new.kept → HaveTuples new.kept → SameBut is_rows old.kept new.kept
-    → sum.put ≡ counted s.put → sum.taken ≡ counted s.taken → before ≡ [] → WhereStated old.kept (λ keys. IsFirstVisit keys old new (λ w. group_prefix w rel v) start before list s) → IsWalking old new rel v start list sum
+    → sum.put ≡ counted s.put → sum.taken ≡ counted s.taken → before ≡ [] → WhereStated old.kept (λ keys. IsFirstVisit keys old new (λ w. group_bytes w rel v) start before list s) → IsWalking old new rel v start list sum
 walk_begins old new rel v start before list s sum gone grammar tuples others p q none visit = record {
   gone = gone;
   grammar = grammar;
   tuples = tuples;
   others = others;
-  walked = λ keys stmts ns tuple f h. first_walked keys ns old new (λ w. group_prefix w rel v) start before list s sum h.links others p q none (visit keys stmts (worlds_of ns) tuple f h.explicit);
+  walked = λ keys stmts ns tuple f h. first_walked keys ns old new (λ w. group_bytes w rel v) start before list s sum h.links others p q none (visit keys stmts (worlds_of ns) tuple f h.explicit);
 }
 
 rises_then : (m n a b c : ℕ) → a ≤ b → b ≤ c → Rises m a b → Rises n b c → Rises (m + n) a c
@@ -145,7 +146,7 @@ next_walked keys ns old now new prefix start at list left after total s sum link
 
 pub walk_more : (old now new : Seen) (rel : ℕ) (v : List Value) (start : ℕ) (at : ℕ × ℕ) (list left after : List (ℕ × ℕ)) (total : Settled) (s : SettledWorld) (sum : Settled) → IsNum rel → AreKeyVals v → IsWalking old now rel v start list total
     → list ≡ at ∷ left → HasGone now new → InGrammar new.kept → HaveTuples new.kept → SameBut is_rows now.kept new.kept
-    → (IsLink now.kept at → WhereStated now.kept (λ keys. IsNextVisit keys now new (λ w. group_prefix w rel v) at.0 left after s))
+    → (IsLink now.kept at → WhereStated now.kept (λ keys. IsNextVisit keys now new (λ w. group_bytes w rel v) at.0 left after s))
     → sum.put ≡ counted (total.put + s.put) → sum.taken ≡ counted (total.taken + s.taken) → IsWalking old new rel v start after sum
 walk_more old now new rel v start at list left after total s sum r plain w is gone grammar tuples others visit p q =
     let same : SameBut is_rows old.kept new.kept = λ place out. others place out ∙ w.others place out in
@@ -156,7 +157,7 @@ walk_more old now new rel v start at list left after total s sum r plain w is go
       others = same;
       walked = λ keys stmts ns tuple f h.
           let k = w.walked keys stmts ns tuple f h in
-          let prefix = λ (m : ℕ). group_prefix m rel v in
+          let prefix = λ (m : ℕ). group_bytes m rel v in
           let way = walk_on_way keys stmts ns tuple (is_of_group keys rel v) prefix h.names (λ m n. group_span keys h.explicit.rows.lengths m rel v n r plain) (is_group keys rel v) f old.kept start h now.kept (worlds_with list) k.made k.put k.taken k.walked in
           let parts = subst (AllByRecursion (IsLink old.kept)) is k.links in
           let seen = visit (still_link old.kept now.kept w.others at parts.0) keys stmts (worlds_of ns) tuple (with_rows_at val_codec f k.made) way.explicit in

@@ -9,26 +9,26 @@ use Rattle.bdb_tables.specs.InUse.{ValKey}
 use Rattle.bdb_tables.specs.Marks.{Mark, sign_of, explicit_sign}
 use Rattle.bdb_tables.specs.Names.{Names, AreNames, path_of, is_named}
 use Rattle.bdb_tables.specs.Rows.{AreKeyLengths, Tuples, HoldsTuples, HoldsRows, row_for}
+use Rattle.bdb_tables.specs.GroupMarks.{group_bytes}
 use Rattle.bdb_val.specs.Middle.{worlds_of, HasExplicit, AreSettledBut}
-use Rattle.bdb_val.specs.Settled.{settled_mark, Worlds, AreLinked, Rows, IsSettled, IsRight, HasStates}
+use Rattle.bdb_val.specs.Settled.{settled_mark, Worlds, AreLinked, RowsByWorld, IsSettled, IsRight, HasStates}
 use Rattle.bdb_val.specs.Settling.{mark_in, next_mark, settling, last_mark, AreNamed, are_apart, are_changes_apart, IsGroup, AreNumbered, AreExplicit}
 use Rattle.bdb_key.specs.Grammar.{IsNum, AreKeyVals}
 use Rattle.bdb_keep.specs.Seen.{Seen}
 use Rattle.bdb_base.specs.declared.kinds.Value.{Value}
-use Rattle.bdb_val.specs.Reads.{group_prefix}
 use Rattle.bdb_val.specs.Steps.{IsStep, WritesDifferences}
 use Rattle.bdb_val.specs.declared.stored.SettledWorld.{SettledWorld}
 use Rattle.bdb_val.specs.declared.stored.Stored.{Stored}
 
 -- where no two statements of one path clash and all rows of a tuple are settled, they are the rows of the worlds
 abbrev pub SettledRowsAreRight : Type 0
-SettledRowsAreRight = (keys : ℕ → ℕ) (stmts : List Stmt) (P : List ℕ → Bool) (n : Worlds) (t : Tuple) (f : Rows)
+SettledRowsAreRight = (keys : ℕ → ℕ) (stmts : List Stmt) (P : List ℕ → Bool) (n : Worlds) (t : Tuple) (f : RowsByWorld)
     → IsConsistent keys stmts → HasStates stmts P → AreLinked P n
     → ((wid : ℕ) → IsSettled keys stmts n t f wid) → (wid : ℕ) → IsRight keys stmts n t f wid
 
 -- where no two statements of one path clash, the rows of the worlds are settled
 abbrev pub RightRowsAreSettled : Type 0
-RightRowsAreSettled = (keys : ℕ → ℕ) (stmts : List Stmt) (P : List ℕ → Bool) (n : Worlds) (t : Tuple) (f : Rows)
+RightRowsAreSettled = (keys : ℕ → ℕ) (stmts : List Stmt) (P : List ℕ → Bool) (n : Worlds) (t : Tuple) (f : RowsByWorld)
     → IsConsistent keys stmts → HasStates stmts P → AreLinked P n
     → ((wid : ℕ) → IsRight keys stmts n t f wid) → (wid : ℕ) → IsSettled keys stmts n t f wid
 
@@ -79,4 +79,4 @@ HeldRowsAreSettled = (keys : ℕ → ℕ) (stmts : List Stmt) (ns : Names) (ts :
 -- settling the group of a state makes as many writes as there are places at which the tables differ
 abbrev pub StepsWriteDifferences : Type 0
 StepsWriteDifferences = (keys : ℕ → ℕ) (old new : Seen) (wid rel : ℕ) (vs : List Value) (s : SettledWorld) → IsNum wid → IsNum rel → AreKeyVals vs
-    → IsStep keys old new wid (λ w. group_prefix w rel vs) s → WritesDifferences keys old new
+    → IsStep keys old new wid (λ w. group_bytes w rel vs) s → WritesDifferences keys old new

@@ -7,7 +7,7 @@ use Rattle.bdb_base.specs.Clash.{key_of}
 use Rattle.bdb_base.specs.Same.{same_values}
 use Rattle.bdb_base.specs.Segments.{is_prefix}
 use Rattle.bdb_keep.specs.Tables.{Tables}
-use Rattle.bdb_key.specs.Bytes.{num_bytes, vals_bytes}
+use Rattle.bdb_key.specs.Bytes.{num_bytes}
 use Rattle.bdb_key.specs.Grammar.{IsNum}
 use Rattle.bdb_key.specs.Rows.{IsTupleRow}
 use Rattle.bdb_tables.specs.Codec.{HasRow, place}
@@ -22,10 +22,6 @@ use Rattle.bdb_val.specs.declared.stored.Stored.{Stored}
 -- how the keys of a world's rows begin
 abbrev pub world_prefix : ℕ → List ℕ
 world_prefix wid = num_bytes wid
-
--- how the keys of the rows of a world's group begin: those of one relation and one key
-abbrev pub group_prefix : ℕ → ℕ → List Value → List ℕ
-group_prefix wid rel vs = num_bytes wid ++ num_bytes rel ++ vals_bytes vs
 
 -- a row with its tuple is one of table 11, whose tuple is that of its number
 pub record IsTold (t : Tables) (e : ValKey × Mark) (x : Stored) : Type 0 where

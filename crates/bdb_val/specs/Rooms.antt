@@ -4,11 +4,10 @@ use Rattle.std.specs.List.{AllByRecursion}
 use Rattle.bdb_base.specs.declared.kinds.Value.{Value}
 use Rattle.bdb_keep.specs.Tables.{Tables}
 use Rattle.bdb_key.specs.Grammar.{IsNum}
-use Rattle.bdb_tables.specs.GroupMarks.{BeginsGroup, in_group}
+use Rattle.bdb_tables.specs.GroupMarks.{BeginsGroup, group_bytes, in_group}
 use Rattle.bdb_tables.specs.InUse.{val_codec}
 use Rattle.bdb_tables.specs.Marks.{Mark}
 use Rattle.bdb_tables.specs.Spans.{AreUnder}
-use Rattle.bdb_val.specs.Reads.{group_prefix}
 
 -- bytes are none yet, or those with which the keys of a group begin in some world
 abbrev pub MayBegin : List ℕ → ℕ → List Value → Type 0
@@ -17,7 +16,7 @@ MayBegin prefix rel vs = (prefix ≡ []) ⊎ ((wid : ℕ) × BeginsGroup prefix 
 -- these are the rows of a group of a world, by the numbers of their tuples
 pub record AreRowsOf (t : Tables) (rel : ℕ) (vs : List Value) (rows : List (ℕ × Mark)) (wid : ℕ) : Type 0 where
   pub world : IsNum wid
-  pub under : AreUnder val_codec t (group_prefix wid rel vs) (map (in_group wid rel vs) rows)
+  pub under : AreUnder val_codec t (group_bytes wid rel vs) (map (in_group wid rel vs) rows)
 
 -- rows that are kept are those of the world that they are from, if any
 abbrev pub AreHanded : Tables → ℕ → List Value → Option ℕ → List (ℕ × Mark) → Type 0

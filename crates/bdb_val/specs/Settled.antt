@@ -34,21 +34,21 @@ pub record AreLinked (P : List ℕ → Bool) (n : Worlds) : Type 0 where
   pub link : (wid i : ℕ) (w : List ℕ) → n.path wid ≡ Some (i ∷ w) → (m : ℕ) × (n.link wid ≡ Some m) × (n.path m ≡ Some (deepest_suffix P w))
 
 -- the rows of one tuple, by world
-abbrev pub Rows : Type 0
-Rows = ℕ → Option Mark
+abbrev pub RowsByWorld : Type 0
+RowsByWorld = ℕ → Option Mark
 
 -- the sign in a world, if there is a world
-abbrev pub sign_at : Rows → Option ℕ → Option Sign
+abbrev pub sign_at : RowsByWorld → Option ℕ → Option Sign
 sign_at f None = None
 sign_at f (Some m) = sign_of (f m)
 
 -- a tuple's row in a world is explicit, or what the world inherits over its suffix link
-abbrev pub IsSettled : (ℕ → ℕ) → List Stmt → Worlds → Tuple → Rows → ℕ → Type 0
+abbrev pub IsSettled : (ℕ → ℕ) → List Stmt → Worlds → Tuple → RowsByWorld → ℕ → Type 0
 IsSettled keys stmts n t f wid = (w : List ℕ) → n.path wid ≡ Some w
     → f wid ≡ settled_mark (explicit_sign stmts w t) (contradicted keys stmts w t) (sign_at f (n.link wid))
 
 -- a tuple's row in a world is that of the world's name
-abbrev pub IsRight : (ℕ → ℕ) → List Stmt → Worlds → Tuple → Rows → ℕ → Type 0
+abbrev pub IsRight : (ℕ → ℕ) → List Stmt → Worlds → Tuple → RowsByWorld → ℕ → Type 0
 IsRight keys stmts n t f wid = (w : List ℕ) → n.path wid ≡ Some w → f wid ≡ mark_of keys stmts w t
 
 -- a set of paths has all states

@@ -14,8 +14,8 @@ use Rattle.bdb_val.specs.Settled.{settled_mark}
 use Rattle.bdb_val.specs.declared.stored.Stored.{Stored}
 
 -- the number of a tuple, the tuple, and the row that it is to have
-abbrev pub Change : Type 0
-Change = ℕ × Tuple × Option Mark
+abbrev pub RowChange : Type 0
+RowChange = ℕ × Tuple × Option Mark
 
 -- the mark of a tuple's row among rows
 abbrev pub mark_in : List Stored → ℕ → Option Mark
@@ -38,7 +38,7 @@ same_mark (Some m) None = false
 same_mark (Some m) (Some n) = same_sign m.0 n.0 && beq m.1 n.1
 
 -- the change of a tuple's row, where it is to be another
-abbrev pub change_at : (ℕ → ℕ) → List Stored → List Stored → List Stored → Stored → List Change
+abbrev pub change_at : (ℕ → ℕ) → List Stored → List Stored → List Stored → Stored → List RowChange
 change_at keys stored own from x =
     cond (same_mark (mark_in stored x.tid) (next_mark keys own from x.tid x.tuple)) [] ((x.tid, x.tuple, next_mark keys own from x.tid x.tuple) ∷ [])
 
@@ -47,17 +47,17 @@ abbrev pub has_mark : List Stored → List Stored → ℕ → Bool
 has_mark xs ys tid = is_some (mark_in xs tid) || is_some (mark_in ys tid)
 
 -- the change of a tuple that has no row among the stored ones and those before
-abbrev pub fresh_change : (ℕ → ℕ) → List Stored → List Stored → List Stored → List Stored → Stored → List Change
+abbrev pub fresh_change : (ℕ → ℕ) → List Stored → List Stored → List Stored → List Stored → Stored → List RowChange
 fresh_change keys stored own from before x = cond (has_mark stored before x.tid) [] (change_at keys stored own from x)
 
 -- The changes that settle a world's rows: each tuple whose row is to be another, with that row. `stored` are the rows that
 -- the world has, `own` has those that are to be explicit, and `from` are the rows of the world to which it is linked.
-abbrev pub settling : (ℕ → ℕ) → List Stored → List Stored → List Stored → List Change
+abbrev pub settling : (ℕ → ℕ) → List Stored → List Stored → List Stored → List RowChange
 settling keys stored own from =
     flat_map (change_at keys stored own from) stored ++ flat_map (fresh_change keys stored own from []) own ++ flat_map (fresh_change keys stored own from own) from
 
 -- the row of a tuple after changes, one after the other
-abbrev pub last_mark : List Change → ℕ → Option Mark → Option Mark
+abbrev pub last_mark : List RowChange → ℕ → Option Mark → Option Mark
 last_mark [] tid m = m
 last_mark (x ∷ xs) tid m = last_mark xs tid (cond (nat_eq x.0 tid) x.2 m)
 
@@ -71,7 +71,7 @@ are_apart [] = true
 are_apart (x ∷ xs) = cond (list_any (λ y. nat_eq y.tid x.tid) xs) false (are_apart xs)
 
 -- no number is changed twice
-abbrev pub are_changes_apart : List Change → Bool
+abbrev pub are_changes_apart : List RowChange → Bool
 are_changes_apart [] = true
 are_changes_apart (x ∷ xs) = cond (list_any (λ y. nat_eq y.0 x.0) xs) false (are_changes_apart xs)
 
@@ -98,5 +98,5 @@ abbrev pub row_key : (ℕ → ℕ) → ℕ → ℕ → Tuple → ValKey
 row_key keys wid tid t = (wid, t.rel, key_of keys t, tid)
 
 -- a change as that of a row in a world
-abbrev pub keyed : (ℕ → ℕ) → ℕ → Change → ValKey × Option Mark
+abbrev pub keyed : (ℕ → ℕ) → ℕ → RowChange → ValKey × Option Mark
 keyed keys wid x = (row_key keys wid x.0 x.1, x.2)

@@ -45,7 +45,7 @@ pub record ArePushed (t : Tables) (wid : ℕ) (before after : List (ℕ × ℕ))
   pub list : after ≡ before ++ more
 
 -- what is told of a visit, and one write for each of its changes
-pub record IsTold (keys : ℕ → ℕ) (old new : Seen) (prefix : ℕ → List ℕ) (wid : ℕ) (s : SettledWorld) (visit : IsVisit keys prefix old.kept new.kept wid) : Type 0 where
+pub record TellsVisit (keys : ℕ → ℕ) (old new : Seen) (prefix : ℕ → List ℕ) (wid : ℕ) (s : SettledWorld) (visit : IsVisit keys prefix old.kept new.kept wid) : Type 0 where
   pub put : s.put ≡ put_by visit
   pub taken : s.taken ≡ taken_by visit
   pub writes : Rises (length (changes_of visit)) old.writes new.writes
@@ -53,11 +53,11 @@ pub record IsTold (keys : ℕ → ℕ) (old new : Seen) (prefix : ℕ → List �
 -- a visit that puts the links that lead to the visited world at the end of a list
 pub record IsFirstVisit (keys : ℕ → ℕ) (old new : Seen) (prefix : ℕ → List ℕ) (wid : ℕ) (before after : List (ℕ × ℕ)) (s : SettledWorld) : Type 0 where
   pub visit : IsVisit keys prefix old.kept new.kept wid
-  pub told : IsTold keys old new prefix wid s visit
+  pub told : TellsVisit keys old new prefix wid s visit
   pub pushed : ArePushed new.kept wid before after
 
 -- a visit that does so unless no sign is another
 pub record IsNextVisit (keys : ℕ → ℕ) (old new : Seen) (prefix : ℕ → List ℕ) (wid : ℕ) (before after : List (ℕ × ℕ)) (s : SettledWorld) : Type 0 where
   pub visit : IsVisit keys prefix old.kept new.kept wid
-  pub told : IsTold keys old new prefix wid s visit
+  pub told : TellsVisit keys old new prefix wid s visit
   pub pushed : ((after ≡ before) × IsQuiet visit) ⊎ ArePushed new.kept wid before after

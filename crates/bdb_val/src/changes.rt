@@ -4,7 +4,7 @@ ghost use Rattle.std.specs.List.{list_any};
 ghost use Rattle.bdb_val.specs.GroupChanges.{group_changes, own_change, new_change, group_change, is_explicit_plus};
 
 use crate::marks::{handed_down, same_mark};
-use crate::numbered::Numbered;
+use crate::numbered::NumberedRows;
 use bdb_base::Sign;
 use std::alloc::AllocError;
 
@@ -47,8 +47,8 @@ pub fn put_changes(
 {
     changes.clear();
     let barred = has_explicit_plus(own);
-    let stored = Numbered::of(own);
-    let passed = Numbered::of(from);
+    let stored = NumberedRows::of(own);
+    let passed = NumberedRows::of(from);
     for row in own {
         push_own(changes, barred, &passed, row)?;
     }
@@ -76,7 +76,7 @@ fn is_explicit_plus(row: &Marked) -> bool
 fn push_own(
     changes: &mut Vec<MarkChange>,
     barred: bool,
-    from: &Numbered<'_>,
+    from: &NumberedRows<'_>,
     row: &Marked,
 ) -> Result<(), AllocError>
     ensures { OnOk result
@@ -96,7 +96,7 @@ fn push_own(
 fn push_new(
     changes: &mut Vec<MarkChange>,
     barred: bool,
-    own: &Numbered<'_>,
+    own: &NumberedRows<'_>,
     row: &Marked,
 ) -> Result<(), AllocError>
     ensures { OnOk result

@@ -9,12 +9,12 @@ use std::marker::Model;
 
 /// Rows of a group of a world by the numbers of their tuples. Contracts see the list of the rows.
 #[derive(Drop)]
-pub struct Numbered<'a> {
+pub struct NumberedRows<'a> {
     rows: &'a [Marked],
     rising: bool,
 }
 
-impl<'a> Model for Numbered<'a> {
+impl<'a> Model for NumberedRows<'a> {
     ghost use Rattle.std.specs.Prelude.{◌≡◌, ℕ, true, List};
     ghost use Rattle.bdb_tables.specs.Marks.{Mark};
     ghost use Rattle.bdb_val.specs.Numbered.{AreRising};
@@ -26,23 +26,23 @@ impl<'a> Model for Numbered<'a> {
     ghost invariant = { λ n. n.rising ≡ true → AreRising n.rows.now };
 }
 
-impl<'a> Numbered<'a> {
+impl<'a> NumberedRows<'a> {
     /// Rows, whose order by number is found out once.
     pub fn of(rows: &'a [Marked]) -> Self
         ensures { result ≡ rows.now }
     {
-        Numbered {
+        NumberedRows {
             rows,
             rising: are_rising(rows),
         }
     }
 
-    /// The mark of the row of a tuple's number. The search goes by halves where the numbers rise, as those of a group do.
+    /// The mark of the row of a tuple's number. It is found by binary search where the numbers rise, as those of a group do.
     pub fn mark(&self, tid: u32) -> Option<(Sign, bool)>
         ensures { result ≡ mark_under self.now tid }
     {
         if self.rising {
-            mark_by_halves(self.rows, tid)
+            mark_by_search(self.rows, tid)
         } else {
             first_mark(self.rows, tid)
         }
@@ -62,7 +62,7 @@ fn are_rising(rows: &[Marked]) -> bool
 }
 
 // The mark of a number among rows whose numbers rise.
-fn mark_by_halves(rows: &[Marked], tid: u32) -> Option<(Sign, bool)>
+fn mark_by_search(rows: &[Marked], tid: u32) -> Option<(Sign, bool)>
     requires { AreRising rows.now }
     ensures { result ≡ mark_under rows.now tid }
 {

@@ -7,10 +7,10 @@ ghost use Rattle.bdb_key.specs.Bytes.{num_bytes};
 ghost use Rattle.bdb_key.specs.Grammar.{AreKeyVals};
 ghost use Rattle.bdb_tables.specs.Codec.{HasRow, place};
 ghost use Rattle.bdb_tables.specs.Grammar.{InGrammar};
-ghost use Rattle.bdb_tables.specs.GroupMarks.{in_group};
+ghost use Rattle.bdb_tables.specs.GroupMarks.{group_bytes, in_group};
 ghost use Rattle.bdb_tables.specs.InUse.{HaveKeyTexts, tuple_codec, val_codec};
 ghost use Rattle.bdb_tables.specs.Spans.{AreUnder};
-ghost use Rattle.bdb_val.specs.Reads.{AreReadUnder, HaveTuples, world_prefix, group_prefix};
+ghost use Rattle.bdb_val.specs.Reads.{AreReadUnder, HaveTuples, world_prefix};
 ghost use Rattle.bdb_val.specs.Rooms.{MayBegin};
 
 use crate::changes::Marked;
@@ -118,7 +118,7 @@ pub fn read_group<K: Keeper>(
     requires tuples { HaveTuples (K.seen keeper.old).kept }
     requires text { HaveKeyTexts key.now }
     ensures rows { IfOk result
-        (λ rows. AreReadUnder (K.seen keeper.old).kept (group_prefix wid rel key.now) rows.items) }
+        (λ rows. AreReadUnder (K.seen keeper.old).kept (group_bytes wid rel key.now) rows.items) }
     ensures reads { IfOk result
         (λ rows. (K.seen keeper.new).reads
         ≤ (K.seen keeper.old).reads + (2 * length rows.items + 1)) }
@@ -157,9 +157,9 @@ pub fn group_marks<K: Keeper>(
     requires text { HaveKeyTexts key.now }
     requires begins { MayBegin room.old.prefix.items rel key.now }
     ensures rows { OnOk result
-        (AreUnder val_codec (K.seen keeper.old).kept (group_prefix wid rel key.now)
+        (AreUnder val_codec (K.seen keeper.old).kept (group_bytes wid rel key.now)
         (map (in_group wid rel key.now) rows.new.items)) }
-    ensures prefix { OnOk result (room.new.prefix.items ≡ group_prefix wid rel key.now) }
+    ensures prefix { OnOk result (room.new.prefix.items ≡ group_bytes wid rel key.now) }
     ensures fits { OnOk result (AreKeyVals key.now) }
     ensures read { IsRead (K.seen keeper.old) (K.seen keeper.new) result TabError.Fault }
 {
@@ -185,7 +185,7 @@ fn begin_group<K: Keeper>(
     requires running { (K.seen keeper.old).running ≡ true }
     requires text { HaveKeyTexts key.now }
     requires begins { MayBegin prefix.old.items rel key.now }
-    ensures bytes { OnOk result (prefix.new.items ≡ group_prefix wid rel key.now) }
+    ensures bytes { OnOk result (prefix.new.items ≡ group_bytes wid rel key.now) }
     ensures fits { OnOk result (AreKeyVals key.now) }
     ensures read { IsRead (K.seen keeper.old) (K.seen keeper.new) result TabError.Fault }
 {
@@ -206,7 +206,7 @@ fn begin_group<K: Keeper>(
 fn put_group(prefix: &mut Vec<u8>, wid: u32, rel: u32, key: &[Value]) -> Result<(), AllocError>
     requires text { HaveKeyTexts key.now }
     requires none { prefix.old.items ≡ [] }
-    ensures bytes { OnOk result (prefix.new.items ≡ group_prefix wid rel key.now) }
+    ensures bytes { OnOk result (prefix.new.items ≡ group_bytes wid rel key.now) }
     ensures fits { OnOk result (AreKeyVals key.now) }
 {
     put_pair(prefix, wid, rel)?;

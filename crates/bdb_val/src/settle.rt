@@ -5,18 +5,18 @@ ghost use Rattle.bdb_keep.specs.Calls.{IsRead, IsWrite};
 ghost use Rattle.bdb_key.specs.Grammar.{AreKeyVals};
 ghost use Rattle.bdb_tables.specs.Codec.{HasAt};
 ghost use Rattle.bdb_tables.specs.Grammar.{InGrammar};
-ghost use Rattle.bdb_tables.specs.GroupMarks.{AreChanges, HaveMarks, IsGroup, in_group};
+ghost use Rattle.bdb_tables.specs.GroupMarks.{AreChanges, HaveMarks, IsGroup, group_bytes, in_group};
 ghost use Rattle.bdb_tables.specs.InUse.{HaveKeyTexts, link_codec, val_codec};
 ghost use Rattle.bdb_tables.specs.Spans.{AreUnder};
 ghost use Rattle.bdb_val.specs.GroupChanges.{group_changes, mark_under, TellsMarks};
 ghost use Rattle.bdb_val.specs.Others.{SameBut};
-ghost use Rattle.bdb_val.specs.Reads.{HaveTuples, group_prefix};
+ghost use Rattle.bdb_val.specs.Reads.{HaveTuples};
 ghost use Rattle.bdb_val.specs.Rooms.{IsRoomFor};
 ghost use Rattle.bdb_val.specs.Stated.{WhereStated};
 ghost use Rattle.bdb_val.specs.Steps.{turns_from, comes, goes, IsChanging, IsStep};
 
 use crate::changes::{MarkChange, Marked, put_all_new, put_changes};
-use crate::numbered::Numbered;
+use crate::numbered::NumberedRows;
 use crate::reading::group_marks;
 use crate::room::{GroupRoom, Handed, WalkRoom};
 use crate::stored::SettledWorld;
@@ -44,7 +44,9 @@ pub fn settle_state<K: Keeper>(
         room.old.handed.from room.old.handed.rows.items
         room.old.handed.singles.items }
     ensures settled { IfOk result (λ settled. HasAt link_codec (K.seen keeper.old).kept wid link
-        → WhereStated (K.seen keeper.old).kept (λ keys. IsStep keys (K.seen keeper.old) (K.seen keeper.new) wid (λ w. group_prefix w rel key.now) settled)) }
+        → WhereStated (K.seen keeper.old).kept
+        (λ keys. IsStep keys (K.seen keeper.old) (K.seen keeper.new) wid
+        (λ w. group_bytes w rel key.now) settled)) }
     ensures others { OnOk result
         (SameBut (λ n. nat_eq n 11) (K.seen keeper.old).kept (K.seen keeper.new).kept) }
     ensures grammar { OnOk result (InGrammar (K.seen keeper.new).kept) }
@@ -153,7 +155,7 @@ fn keep_linked<K: Keeper>(
         handed.old.rows.items handed.old.singles.items }
     ensures rows { OnOk result
         (MatchOption link (handed.new.rows.items ≡ [])
-        (λ m. AreUnder val_codec (K.seen keeper.old).kept (group_prefix m rel key.now)
+        (λ m. AreUnder val_codec (K.seen keeper.old).kept (group_bytes m rel key.now)
         (map (in_group m rel key.now) handed.new.rows.items))) }
     ensures room { OnOk result
         (IsRoomFor (K.seen keeper.old).kept rel key.now room.new.prefix.items handed.new.from
@@ -229,7 +231,7 @@ fn told_of_new(changes: &[MarkChange]) -> SettledWorld
 fn told(own: &[Marked], changes: &[MarkChange]) -> SettledWorld
     ensures { TellsMarks (mark_under own.now) changes.now result }
 {
-    let rows = Numbered::of(own);
+    let rows = NumberedRows::of(own);
     let mut settled = SettledWorld {
         turned: false,
         put: 0,

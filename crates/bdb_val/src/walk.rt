@@ -6,9 +6,10 @@ ghost use Rattle.bdb_key.specs.Bytes.{num_bytes};
 ghost use Rattle.bdb_tables.specs.Codec.{HasAt};
 ghost use Rattle.bdb_tables.specs.Grammar.{InGrammar};
 ghost use Rattle.bdb_tables.specs.InUse.{HaveKeyTexts, link_codec};
+ghost use Rattle.bdb_tables.specs.GroupMarks.{group_bytes};
 ghost use Rattle.bdb_val.specs.Groups.{SettlesGroup, TellsGroup};
 ghost use Rattle.bdb_val.specs.Others.{SameBut};
-ghost use Rattle.bdb_val.specs.Reads.{HaveTuples, group_prefix};
+ghost use Rattle.bdb_val.specs.Reads.{HaveTuples};
 ghost use Rattle.bdb_val.specs.Rooms.{IsRoomFor};
 ghost use Rattle.bdb_val.specs.Stated.{WhereStated};
 ghost use Rattle.bdb_val.specs.Steps.{counted, IsChanging};
@@ -134,7 +135,7 @@ fn visit_first<K: Keeper>(
     ensures visited { IfOk result
         (λ settled. WhereStated (K.seen keeper.old).kept
         (λ keys. IsFirstVisit keys (K.seen keeper.old) (K.seen keeper.new)
-        (λ w. group_prefix w rel key.now) wid list.old.items list.new.items settled)) }
+        (λ w. group_bytes w rel key.now) wid list.old.items list.new.items settled)) }
     ensures others { OnOk result
         (SameBut (λ n. nat_eq n 11) (K.seen keeper.old).kept (K.seen keeper.new).kept) }
     ensures grammar { OnOk result (InGrammar (K.seen keeper.new).kept) }
@@ -179,8 +180,11 @@ fn visit_next<K: Keeper>(
     requires room { IsRoomFor (K.seen keeper.old).kept rel key.now room.old.group.prefix.items
         room.old.handed.from room.old.handed.rows.items
         room.old.handed.singles.items }
-    ensures visited { IfOk result (λ settled. HasAt link_codec (K.seen keeper.old).kept next.0 (Some next.1)
-        → WhereStated (K.seen keeper.old).kept (λ keys. IsNextVisit keys (K.seen keeper.old) (K.seen keeper.new) (λ w. group_prefix w rel key.now) next.0 list.old.items list.new.items settled)) }
+    ensures visited { IfOk result
+        (λ settled. HasAt link_codec (K.seen keeper.old).kept next.0 (Some next.1)
+        → WhereStated (K.seen keeper.old).kept
+        (λ keys. IsNextVisit keys (K.seen keeper.old) (K.seen keeper.new)
+        (λ w. group_bytes w rel key.now) next.0 list.old.items list.new.items settled)) }
     ensures others { OnOk result
         (SameBut (λ n. nat_eq n 11) (K.seen keeper.old).kept (K.seen keeper.new).kept) }
     ensures grammar { OnOk result (InGrammar (K.seen keeper.new).kept) }

@@ -32,10 +32,11 @@ use Rattle.bdb_tables.specs.Names.{Names, path_of}
 use Rattle.bdb_tables.specs.Rows.{AreKeyLengths, Tuples}
 use Rattle.bdb_tables.specs.Spans.{AreUnder}
 use Rattle.bdb_tables.specs.Stored.{StoredAs}
+use Rattle.bdb_tables.specs.GroupMarks.{group_bytes}
 use Rattle.bdb_update.specs.Keys.{keys_of}
 use Rattle.bdb_update.proofs.KeyLemmas.{key_by_length, key_short, lengths_fit}
 use Rattle.bdb_update.proofs.OneStored.{consistent}
-use Rattle.bdb_val.specs.Reads.{IsSpan, group_prefix, is_of_group}
+use Rattle.bdb_val.specs.Reads.{IsSpan, is_of_group}
 use Rattle.bdb_val.proofs.ReadLemmas.{group_span}
 use Rattle.bdb_catalog.specs.Bases.{StoresValid}
 use Rattle.bdb_catalog.specs.Taking.{AreTuplesRead, AreTuplesOf, is_said}
@@ -98,7 +99,7 @@ module _ (t : Tables) (wid : ℕ) (w : List ℕ) (u : Tuple) (b : Contents) (h :
   ts = h.stored.tuples
 
   abbrev begin : List ℕ
-  begin = group_prefix wid u.rel (key_of (keys_of b) u)
+  begin = group_bytes wid u.rel (key_of (keys_of b) u)
 
   abbrev test : Tuple → Bool
   test = is_of_group (keys_of b) u.rel (key_of (keys_of b) u)
@@ -157,7 +158,7 @@ module _ (t : Tables) (wid : ℕ) (w : List ℕ) (u : Tuple) (b : Contents) (h :
 -- ---- whichever base it is
 
 module _ (old mid new : Seen) (again : mid.kept ≡ old.kept) (wid : ℕ) (w : List ℕ) (u : Tuple) (n : ℕ) (long : IsKeyLength old.kept u.rel n) (whole : AllByRecursion IsWhole (key_of (λ _. n) u))
-    (said denied : List Tuple) (say : AreTuplesRead old mid (group_prefix wid u.rel (key_of (λ _. n) u)) Plus said) (deny : AreTuplesRead mid new (group_prefix wid u.rel (key_of (λ _. n) u)) Minus denied) where
+    (said denied : List Tuple) (say : AreTuplesRead old mid (group_bytes wid u.rel (key_of (λ _. n) u)) Plus said) (deny : AreTuplesRead mid new (group_bytes wid u.rel (key_of (λ _. n) u)) Minus denied) where
   module _ (b : Contents) (h : StoresValid old.kept b) where
     own_key : key_of (λ _. n) u ≡ key_of (keys_of b) u
     own_key = key_by_length (keys_of b) n u (long b.catalog.rels h.stored.stored.rels)
@@ -165,11 +166,11 @@ module _ (old mid new : Seen) (again : mid.kept ≡ old.kept) (wid : ℕ) (w : L
     own_whole : AllByRecursion IsWhole (key_of (keys_of b) u)
     own_whole = subst (AllByRecursion IsWhole) own_key whole
 
-    own_say : AreTuplesRead old mid (group_prefix wid u.rel (key_of (keys_of b) u)) Plus said
-    own_say = subst (λ (vs : List Value). AreTuplesRead old mid (group_prefix wid u.rel vs) Plus said) own_key say
+    own_say : AreTuplesRead old mid (group_bytes wid u.rel (key_of (keys_of b) u)) Plus said
+    own_say = subst (λ (vs : List Value). AreTuplesRead old mid (group_bytes wid u.rel vs) Plus said) own_key say
 
-    own_deny : AreTuplesRead mid new (group_prefix wid u.rel (key_of (keys_of b) u)) Minus denied
-    own_deny = subst (λ (vs : List Value). AreTuplesRead mid new (group_prefix wid u.rel vs) Minus denied) own_key deny
+    own_deny : AreTuplesRead mid new (group_bytes wid u.rel (key_of (keys_of b) u)) Minus denied
+    own_deny = subst (λ (vs : List Value). AreTuplesRead mid new (group_bytes wid u.rel vs) Minus denied) own_key deny
 
   -- what was read of a world, put into a set
   pub puts_near : (xs ys : List Stmt) → ascending statement_cmp xs ≡ true → ys ≡ with_both w xs said denied → PutsNear old.kept wid w u xs ys

@@ -8,6 +8,7 @@ use Rattle.bdb_base.specs.States.{deepest_suffix, is_state}
 use Rattle.bdb_base.specs.declared.kinds.Sign.TheVariants.{Plus, Minus}
 use Rattle.bdb_base.specs.declared.kinds.Stmt.{Stmt}
 use Rattle.bdb_base.specs.declared.tuple.Tuple.{Tuple}
+use Rattle.bdb_base.specs.SameLemmas.{statement_of}
 use Rattle.bdb_keep.specs.Seen.{Seen}
 use Rattle.bdb_keep.specs.Tables.{Tables}
 use Rattle.bdb_tables.specs.Names.{path_of, number_of, is_named}
@@ -15,7 +16,6 @@ use Rattle.bdb_tables.specs.States.{HoldsStates}
 use Rattle.bdb_worlds.specs.Bounds.{RisesWithin}
 use Rattle.bdb_worlds.specs.Holding.{Worlds}
 use Rattle.bdb_catalog.specs.Bases.{StoresValid}
-use Rattle.bdb_catalog.specs.Taking.{statement_at}
 use Rattle.bdb_why.specs.Ends.{ends_in, near_at}
 use Rattle.bdb_why.specs.Stored.{MayAsk, reads_at, rows_of_key}
 
@@ -70,4 +70,4 @@ ReadsAfterOne old new path u = (b : Contents) → MayAsk old.kept path u b → (
 
 -- a set with statements at a path put in, those of some tuples with plus, and those of others with minus
 abbrev pub with_both : List ℕ → List Stmt → List Tuple → List Tuple → List Stmt
-with_both w xs said denied = put_all statement_cmp (put_all statement_cmp xs (map (statement_at w Plus) said)) (map (statement_at w Minus) denied)
+with_both w xs said denied = put_all statement_cmp (put_all statement_cmp xs (map (statement_of w Plus) said)) (map (statement_of w Minus) denied)

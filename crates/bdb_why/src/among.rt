@@ -21,7 +21,7 @@ pub enum Searched {
 }
 
 /// Why a path believes a signed tuple, or doesn't, where these statements stand, and the tuple's relation has keys of the
-/// length `n`. The path has less than 2^32 users. The only error is want of memory.
+/// length `n`. The path has less than 2^32 users. The only error is running out of memory.
 pub fn why_among(
     alloc: Global,
     n: u32,

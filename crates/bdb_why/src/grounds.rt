@@ -1,4 +1,4 @@
-// Grounds, looked for down a path. The statements of each end are found by halves.
+// Grounds, looked for down a path. The statements of each end are found by binary search.
 ghost use Rattle.std.specs.Prelude.{◌≡◌, ◌+◌, ◌<◌, ◌^◌, true, length, IfOk};
 ghost use Rattle.std.specs.Option.{option_copied};
 ghost use Rattle.bdb_base.specs.Order.{statement_cmp};

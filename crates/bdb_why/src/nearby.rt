@@ -4,13 +4,14 @@ ghost use Rattle.std.specs.List.{AllByRecursion};
 ghost use Rattle.bdb_base.specs.Alternation.{alternates};
 ghost use Rattle.bdb_base.specs.Order.{statement_cmp};
 ghost use Rattle.bdb_base.specs.SortedSet.{ascending, put_all};
+ghost use Rattle.bdb_base.specs.SameLemmas.{statement_of};
 ghost use Rattle.bdb_keep.specs.Calls.{IsRead};
 ghost use Rattle.bdb_keep.specs.Seen.{NeverFall, Steps};
 ghost use Rattle.bdb_key.specs.Grammar.{IsNum, IsWhole};
 ghost use Rattle.bdb_tables.specs.Grammar.{InGrammar};
 ghost use Rattle.bdb_tables.specs.Lengths.{IsKeyLength};
-ghost use Rattle.bdb_val.specs.Reads.{HaveTuples, group_prefix};
-ghost use Rattle.bdb_catalog.specs.Taking.{statement_at};
+ghost use Rattle.bdb_tables.specs.GroupMarks.{group_bytes};
+ghost use Rattle.bdb_val.specs.Reads.{HaveTuples};
 ghost use Rattle.bdb_why.specs.Reading.{PutsNear, ReadsAfterOne, ReadsHere, with_both};
 ghost use Rattle.bdb_why.specs.Stored.{AreNear, SomeMayAsk};
 
@@ -151,7 +152,7 @@ fn put_of_key<K: Keeper>(
 fn put_group(prefix: &mut Vec<u8>, wid: u32, rel: u32, key: &[Value]) -> Result<(), AllocError>
     requires { IsNum (length key.now) }
     ensures bytes { OnOk result
-        (prefix.new.items ≡ prefix.old.items ++ group_prefix wid rel key.now) }
+        (prefix.new.items ≡ prefix.old.items ++ group_bytes wid rel key.now) }
     ensures whole { OnOk result (AllByRecursion IsWhole key.now) }
 {
     put_num(prefix, wid)?;
@@ -189,7 +190,7 @@ fn put_tuples(
     requires sorted { ascending statement_cmp stmts.old ≡ true }
     ensures put { OnOk result
         (stmts.new ≡ put_all statement_cmp stmts.old
-        (map (statement_at path.now sign) tuples.items)) }
+        (map (statement_of path.now sign) tuples.items)) }
     ensures sorted { OnOk result (ascending statement_cmp stmts.new ≡ true) }
 {
     for tuple in tuples {

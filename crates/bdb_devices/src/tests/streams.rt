@@ -1,7 +1,5 @@
 // A stream of sessions of which a device fails: the batches stand that were committed, each whole, and what was told is told of these.
-ghost use Rattle.std.specs.Prelude.{◌≡◌, false, IfOk};
-
-use crate::tests::{Left, ROOM, only, quiet_keeper, quiet_sink, ran};
+use crate::tests::{Left, ROOM, left_by, only, quiet_keeper, quiet_sink};
 use bdb_base::List;
 use bdb_io::{MemSink, MemSource};
 use bdb_keep::MemKeeper;
@@ -79,28 +77,10 @@ fn source_failing(alloc: Global, read: u32) -> Result<MemSource, Fail> {
     Ok(MemSource::new(stream, STEP, only(alloc, read)?))
 }
 
-/// What a stream leaves over these three.
-fn left_by(
-    alloc: Global,
-    source: MemSource,
-    mut out: MemSink,
-    mut keeper: MemKeeper,
-) -> Result<Left, Fail>
-    requires idle { keeper.seen.running ≡ false }
-    ensures idle { IfOk result (λ left. left.keeper.seen.running ≡ false) }
-{
-    let status = ran(alloc, "many", source, &mut out, &mut keeper)?;
-    Ok(Left {
-        status,
-        out,
-        keeper,
-    })
-}
-
 /// The rows that the first pieces leave.
 fn rows_after(alloc: Global, count: usize) -> Result<MemKeeper, Fail> {
     let source = MemSource::new(stream_of(alloc, count)?, STEP, List::new(alloc));
-    let left = left_by(alloc, source, quiet_sink(alloc)?, quiet_keeper(alloc))?;
+    let left = left_by(alloc, "many", source, quiet_sink(alloc)?, quiet_keeper(alloc))?;
     Ok(left.keeper)
 }
 
@@ -138,7 +118,7 @@ fn each_call_of_the_keeper_fails_once(rt: HostRuntime) -> Result<(), Fail> {
     for call in 1..100_000 {
         let source = source_failing(alloc, 0)?;
         let keeper = MemKeeper::new(alloc, only(alloc, call)?);
-        let left = left_by(alloc, source, quiet_sink(alloc)?, keeper)?;
+        let left = left_by(alloc, "many", source, quiet_sink(alloc)?, keeper)?;
         if left.status == 1 {
             assert!(rt; stands_after(alloc, &left, PIECES.len())?);
             assert!(rt; 50 < call);
@@ -181,7 +161,7 @@ fn each_write_fails_once(rt: HostRuntime) -> Result<(), Fail> {
     for write in 1..1_000 {
         let source = source_failing(alloc, 0)?;
         let out = MemSink::new(alloc, only(alloc, write)?, 1, ROOM)?;
-        let left = left_by(alloc, source, out, quiet_keeper(alloc))?;
+        let left = left_by(alloc, "many", source, out, quiet_keeper(alloc))?;
         if left.status == 1 {
             assert!(rt; stands_after(alloc, &left, PIECES.len())?);
             assert!(rt; 16 < write);
@@ -219,7 +199,7 @@ fn each_read_fails_once(rt: HostRuntime) -> Result<(), Fail> {
     let alloc = rt.alloc();
     for read in 1..1_000 {
         let source = source_failing(alloc, read)?;
-        let left = left_by(alloc, source, quiet_sink(alloc)?, quiet_keeper(alloc))?;
+        let left = left_by(alloc, "many", source, quiet_sink(alloc)?, quiet_keeper(alloc))?;
         if left.status == 1 {
             assert!(rt; stands_after(alloc, &left, PIECES.len())?);
             assert!(rt; 20 < read);
@@ -251,7 +231,7 @@ fn has_rest(front: &[u8]) -> bool {
 /// What a front of the stream leaves, of which nothing fails.
 fn left_by_front(alloc: Global, front: &[u8]) -> Result<Left, Fail> {
     let source = MemSource::new(Vec::from_slice(alloc, front)?, STEP, List::new(alloc));
-    left_by(alloc, source, quiet_sink(alloc)?, quiet_keeper(alloc))
+    left_by(alloc, "many", source, quiet_sink(alloc)?, quiet_keeper(alloc))
 }
 
 /// Whether a run over a front of the stream tells of the pieces that end in it and of its rest, and leaves the rows of these pieces:

@@ -4,7 +4,7 @@ ghost use Rattle.std.specs.Prelude.{◌≡◌, false, IfOk};
 use bdb_base::Base;
 use bdb_decode::{OpenError, Stand, decode, stand_of};
 use bdb_keep::QuietKeeper;
-use std::alloc::{AllocError, Global};
+use std::alloc::Global;
 use std::test::Fail;
 
 /// A user, a relation of one column and one statement of the list, as rows of the former format: a table, a key and a row each.
@@ -14,7 +14,7 @@ const FORMER: &str =
      09 0000000000000001 00000000; 0a 000000000000000000000001 .; 0b 00000000000000000273310000000000 00000001";
 
 /// Sets a row of a keeper, told by a table, a key and a row, or takes it away where the row is a dash.
-fn set(alloc: Global, keeper: &mut QuietKeeper, line: &str) -> Result<(), AllocError>
+fn set(alloc: Global, keeper: &mut QuietKeeper, line: &str) -> Result<(), Fail>
     requires idle { keeper.old.running ≡ false }
     ensures idle { keeper.new.running ≡ false }
 {
@@ -32,11 +32,12 @@ fn set(alloc: Global, keeper: &mut QuietKeeper, line: &str) -> Result<(), AllocE
         return Ok(());
     }
     let row = bytes_of(alloc, row)?;
-    keeper.preset(tab, &key, &row)
+    keeper.preset(tab, &key, &row)?;
+    Ok(())
 }
 
 /// Sets the rows of a keeper that are told between semicolons.
-fn set_all(alloc: Global, keeper: &mut QuietKeeper, lines: &str) -> Result<(), AllocError>
+fn set_all(alloc: Global, keeper: &mut QuietKeeper, lines: &str) -> Result<(), Fail>
     requires idle { keeper.old.running ≡ false }
     ensures idle { keeper.new.running ≡ false }
 {
@@ -46,24 +47,12 @@ fn set_all(alloc: Global, keeper: &mut QuietKeeper, lines: &str) -> Result<(), A
     Ok(())
 }
 
-/// The bytes of hexadecimal digits.
-fn bytes_of(alloc: Global, digits: &str) -> Result<Vec<u8>, AllocError> {
-    let mut bytes = Vec::new(alloc);
-    for pair in digits.as_bytes().chunks(2) {
-        if let [high, low] = pair {
-            bytes.push(value_of(*high).wrapping_mul(16) | value_of(*low))?;
-        }
+/// The bytes of hexadecimal digits; a dot has none.
+fn bytes_of(alloc: Global, digits: &str) -> Result<Vec<u8>, Fail> {
+    if digits == "." {
+        return Ok(Vec::new(alloc));
     }
-    Ok(bytes)
-}
-
-/// The value of a hexadecimal digit.
-fn value_of(digit: u8) -> u8 {
-    if digit.is_ascii_digit() {
-        digit.wrapping_sub(b'0')
-    } else {
-        digit.wrapping_sub(b'a').wrapping_add(10)
-    }
+    Ok(hex::decode(alloc, digits)?)
 }
 
 /// A keeper with the rows of the former format, changed so.

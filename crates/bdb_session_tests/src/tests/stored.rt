@@ -5,7 +5,7 @@ ghost use Rattle.bdb_base.specs.Alternation.{alternates};
 ghost use Rattle.bdb_base.specs.Bases.{is_user};
 ghost use Rattle.bdb_base.specs.declared.kinds.UserSlot.TheVariants.{Live};
 ghost use Rattle.bdb_canon.specs.Samples.{sightings, stated_at, reported, three_users};
-ghost use Rattle.bdb_stored.specs.Valid.{StoresValid};
+ghost use Rattle.bdb_catalog.specs.Bases.{StoresValid};
 
 use bdb_base::{
     Base, Catalog, ColDef, Kind, List, Path, RelDef, Sign, Stmt, Tuple, Txt, UserSlot, Value,

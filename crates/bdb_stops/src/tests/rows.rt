@@ -2,7 +2,7 @@
 ghost use Rattle.std.specs.Prelude.{◌≡◌, ◌≤◌, false};
 
 use crate::tests::files::{files_of, opened};
-use crate::tests::script::{Part, ROOM, Script, are_last, change_count, ran};
+use crate::tests::script::{Section, ROOM, Script, are_last, change_count, ran};
 use bdb_base::List;
 use bdb_io::MemSink;
 use bdb_keep::{Keeper, MemKeeper};
@@ -33,7 +33,7 @@ pub fn commits_in(
         return Ok(None);
     };
     let mut line = MemSink::new(alloc, List::new(alloc), 0, ROOM)?;
-    let nothing = Part {
+    let nothing = Section {
         script,
         from: 0,
         count: 0,
@@ -68,7 +68,7 @@ fn goes_on(
     };
     let done = commits.saturating_sub(1);
     let mut replies = MemSink::new(alloc, List::new(alloc), 0, ROOM)?;
-    let others = Part {
+    let others = Section {
         script,
         from: done,
         count: usize::MAX,
@@ -103,7 +103,7 @@ fn undisturbed(alloc: Global, script: Script, commits: usize) -> Result<MemKeepe
     let mut keeper = MemKeeper::new(alloc, List::new(alloc));
     let mut replies = MemSink::new(alloc, List::new(alloc), 0, ROOM)?;
     if commits > 0 {
-        let first = Part {
+        let first = Section {
             script,
             from: 0,
             count: commits - 1,

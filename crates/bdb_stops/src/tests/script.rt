@@ -21,15 +21,15 @@ pub enum Script {
 
 /// Some of the commands of a script: so many, from one of them on.
 #[derive(Clone, Copy, Drop)]
-pub struct Part {
+pub struct Section {
     pub script: Script,
     pub from: usize,
     pub count: usize,
 }
 
 /// All commands of a script.
-pub fn all_of(script: Script) -> Part {
-    Part {
+pub fn all_of(script: Script) -> Section {
+    Section {
         script,
         from: 0,
         count: usize::MAX,
@@ -128,7 +128,7 @@ pub const ROOM: usize = 1_000;
 pub fn ran<K: Keeper>(
     alloc: Global,
     job: &str,
-    part: Part,
+    part: Section,
     replies: &mut MemSink,
     keeper: &mut K,
 ) -> Result<u8, Fail>
@@ -150,7 +150,7 @@ fn words_of(alloc: Global, line: &str) -> Result<List<Txt>, Fail> {
 }
 
 /// The text of these commands.
-fn text_of(alloc: Global, part: Part) -> Result<Vec<u8>, Fail> {
+fn text_of(alloc: Global, part: Section) -> Result<Vec<u8>, Fail> {
     let mut text = Vec::new(alloc);
     let commands = commands_of(part.script);
     for command in commands.iter().skip(part.from).take(part.count) {

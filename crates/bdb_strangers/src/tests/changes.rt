@@ -58,28 +58,16 @@ impl Settable for MemKeeper {
     }
 }
 
-/// The bytes of hexadecimal digits.
-fn bytes_of(alloc: Global, digits: &str) -> Result<Vec<u8>, AllocError> {
-    let mut bytes = Vec::new(alloc);
-    for pair in digits.as_bytes().chunks(2) {
-        if let [high, low] = pair {
-            bytes.push(value_of(*high).wrapping_mul(16) | value_of(*low))?;
-        }
+/// The bytes of hexadecimal digits; a dot has none.
+fn bytes_of(alloc: Global, digits: &str) -> Result<Vec<u8>, Fail> {
+    if digits == "." {
+        return Ok(Vec::new(alloc));
     }
-    Ok(bytes)
-}
-
-/// The value of a hexadecimal digit.
-fn value_of(digit: u8) -> u8 {
-    if digit.is_ascii_digit() {
-        digit.wrapping_sub(b'0')
-    } else {
-        digit.wrapping_sub(b'a').wrapping_add(10)
-    }
+    Ok(hex::decode(alloc, digits)?)
 }
 
 /// The changes that a line tells.
-fn changes_of(alloc: Global, line: &str) -> Result<Vec<Change>, AllocError> {
+fn changes_of(alloc: Global, line: &str) -> Result<Vec<Change>, Fail> {
     let mut changes = Vec::new(alloc);
     for change in line.split(';') {
         let mut words = change.split_whitespace();
@@ -92,7 +80,7 @@ fn changes_of(alloc: Global, line: &str) -> Result<Vec<Change>, AllocError> {
 }
 
 /// The change of these words.
-fn change_of(alloc: Global, tab: &str, key: &str, row: &str) -> Result<Change, AllocError> {
+fn change_of(alloc: Global, tab: &str, key: &str, row: &str) -> Result<Change, Fail> {
     let tab = bytes_of(alloc, tab)?;
     Ok(Change {
         tab: tab.first().copied().unwrap_or(0),

@@ -5,7 +5,7 @@ use crate::tests::checking::checked;
 use crate::tests::{Left, SETUP, ran, ran_quietly};
 use bdb_base::List;
 use bdb_keep::MemKeeper;
-use std::alloc::{AllocError, Global};
+use std::alloc::Global;
 use std::test::Fail;
 
 /// A statement, and that a curator denies it.
@@ -47,24 +47,12 @@ const LATER: [&str; 4] = [
     "0b 0000000100000000000000010273310000000000 00000003",
 ];
 
-/// The bytes of hexadecimal digits.
-fn bytes_of(alloc: Global, digits: &str) -> Result<Vec<u8>, AllocError> {
-    let mut bytes = Vec::new(alloc);
-    for pair in digits.as_bytes().chunks(2) {
-        if let [high, low] = pair {
-            bytes.push(value_of(*high).wrapping_mul(16) | value_of(*low))?;
-        }
+/// The bytes of hexadecimal digits; a dot has none.
+fn bytes_of(alloc: Global, digits: &str) -> Result<Vec<u8>, Fail> {
+    if digits == "." {
+        return Ok(Vec::new(alloc));
     }
-    Ok(bytes)
-}
-
-/// The value of a hexadecimal digit.
-fn value_of(digit: u8) -> u8 {
-    if digit.is_ascii_digit() {
-        digit.wrapping_sub(b'0')
-    } else {
-        digit.wrapping_sub(b'a').wrapping_add(10)
-    }
+    Ok(hex::decode(alloc, digits)?)
 }
 
 /// Presets the row of these words.

@@ -1,8 +1,10 @@
 use Rattle.std.proofs.Common.{◌∙◌, ◌+◌, ◌-◌, true, false, List, Some, None, ap, sym, subst}
 use Rattle.std.specs.Option.{option_copied}
 use Rattle.bdb_base.specs.declared.kinds.Value.{Value}
-use Rattle.bdb_catalog.specs.Taking.{HasPutValues, values_from}
-use Rattle.bdb_catalog.proofs.AskingLemmas.{put_none, put_unwritten, put_more, all_columns, none_left, from_column}
+use Rattle.bdb_catalog.specs.Taking.{values_from}
+use Rattle.bdb_tables.specs.Beginnings.{HasPutValues}
+use Rattle.bdb_tables.proofs.BeginningLemmas.{put_more, put_none, put_unwritten}
+use Rattle.bdb_catalog.proofs.AskingLemmas.{all_columns, none_left, from_column}
 use Rattle.bdb_catalog.proofs.asking.put_asked.Goals as goal
 
 pub loop-col-init : goal.loop-col-init

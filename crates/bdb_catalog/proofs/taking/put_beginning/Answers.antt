@@ -1,7 +1,8 @@
 use Rattle.std.proofs.Common.{◌≡◌, ◌∙◌, ◌++◌, ℕ, List, ap, subst}
 use Rattle.std.proofs.lemmas.List.{append_assoc}
 use Rattle.bdb_key.specs.Bytes.{num_bytes}
-use Rattle.bdb_catalog.specs.Taking.{HasPutValues, values_asked}
+use Rattle.bdb_catalog.specs.Taking.{values_asked}
+use Rattle.bdb_tables.specs.Beginnings.{HasPutValues}
 use Rattle.bdb_catalog.proofs.taking.put_beginning.Goals as goal
 
 pub returns : goal.returns

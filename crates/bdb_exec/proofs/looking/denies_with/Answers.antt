@@ -4,10 +4,11 @@ use Rattle.bdb_base.specs.declared.kinds.Value.{Value}
 use Rattle.bdb_base.specs.Clash.{key_of}
 use Rattle.bdb_key.specs.Grammar.{AreKeyVals, IsNum}
 use Rattle.bdb_tables.specs.Codec.{TableFits}
-use Rattle.bdb_tables.specs.GroupMarks.{AreNumbered, numbered}
+use Rattle.bdb_tables.specs.GroupMarks.{AreNumbered, group_bytes, numbered}
 use Rattle.bdb_tables.specs.InUse.{val_codec}
+use Rattle.bdb_tables.specs.Beginnings.{is_written}
 use Rattle.bdb_exec.specs.Keys.{rows_of_key}
-use Rattle.bdb_exec.specs.Rows.{group_prefix, is_written, mark_denies}
+use Rattle.bdb_exec.specs.Rows.{mark_denies}
 use Rattle.bdb_exec.specs.Seen.{sight_of}
 use Rattle.bdb_exec.proofs.DenyLemmas.{denied_by_number, denied_is, denied_reads, length_map, unwritten_denied}
 use Rattle.bdb_exec.proofs.LengthLemmas.{key_shown, key_texts, keys_sized}
@@ -36,9 +37,9 @@ returns-in-Ok-numbered_under-clause-denies g c =
     let xs = c.in-Ok-numbered_under.entries.items in
     let own : c.key_of-key.result.now ≡ key_of (sight_of t).keys c.args.tuple.now =
     key_shown t c.args.rel c.args.n c.args.tuple.now c.key_of-key.result.now c.requires.relation c.requires.length c.key_of-key.ensures in
-    let prefix : c.as_slice.result.now ≡ group_prefix c.args.world c.args.rel c.key_of-key.result.now = search rules in
-    let rows : AreNumbered t (group_prefix c.args.world c.args.rel (key_of (sight_of t).keys c.args.tuple.now)) xs =
-    subst (λ p. AreNumbered t p xs) (prefix ∙ ap (group_prefix c.args.world c.args.rel) own)
+    let prefix : c.as_slice.result.now ≡ group_bytes c.args.world c.args.rel c.key_of-key.result.now = search rules in
+    let rows : AreNumbered t (group_bytes c.args.world c.args.rel (key_of (sight_of t).keys c.args.tuple.now)) xs =
+    subst (λ p. AreNumbered t p xs) (prefix ∙ ap (group_bytes c.args.world c.args.rel) own)
     (subst (λ u. AreNumbered u c.as_slice.result.now xs) c.in-Ok.ensures.looks.kept c.in-Ok-numbered_under.ensures.rows) in
     let fits : AreKeyVals c.key_of-key.result.now = search rules in
     c.one_denies.ensures ∙ ap (list_any (mark_denies c.in-Ok.number)) (c.as_slice-in-Ok-numbered_under.ensures.value ∙ rows.are)
@@ -52,9 +53,9 @@ returns-in-Ok-numbered_under-clause-reads g c =
     let xs = c.in-Ok-numbered_under.entries.items in
     let own : c.key_of-key.result.now ≡ key_of (sight_of t).keys c.args.tuple.now =
     key_shown t c.args.rel c.args.n c.args.tuple.now c.key_of-key.result.now c.requires.relation c.requires.length c.key_of-key.ensures in
-    let prefix : c.as_slice.result.now ≡ group_prefix c.args.world c.args.rel c.key_of-key.result.now = search rules in
-    let rows : AreNumbered t (group_prefix c.args.world c.args.rel (key_of (sight_of t).keys c.args.tuple.now)) xs =
-    subst (λ p. AreNumbered t p xs) (prefix ∙ ap (group_prefix c.args.world c.args.rel) own)
+    let prefix : c.as_slice.result.now ≡ group_bytes c.args.world c.args.rel c.key_of-key.result.now = search rules in
+    let rows : AreNumbered t (group_bytes c.args.world c.args.rel (key_of (sight_of t).keys c.args.tuple.now)) xs =
+    subst (λ p. AreNumbered t p xs) (prefix ∙ ap (group_bytes c.args.world c.args.rel) own)
     (subst (λ u. AreNumbered u c.as_slice.result.now xs) c.in-Ok.ensures.looks.kept c.in-Ok-numbered_under.ensures.rows) in
     let told : length xs ≡ length rows.entries = ap length rows.are ∙ length_map numbered rows.entries in
     let fits : AreKeyVals c.key_of-key.result.now = search rules in

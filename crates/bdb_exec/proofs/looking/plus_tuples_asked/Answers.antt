@@ -3,7 +3,8 @@ use Rattle.std.specs.List.{list_all}
 use Rattle.bdb_key.specs.Bytes.{num_bytes, values_bytes}
 use Rattle.bdb_plan.specs.Running.{plus_tuples}
 use Rattle.bdb_exec.specs.Keys.{values_behind}
-use Rattle.bdb_exec.specs.Rows.{HasPutValues, is_written, key_prefix, world_prefix}
+use Rattle.bdb_exec.specs.Rows.{key_prefix, world_prefix}
+use Rattle.bdb_tables.specs.Beginnings.{HasPutValues, is_written}
 use Rattle.bdb_exec.specs.Seen.{sight_of, signed_under}
 use Rattle.bdb_exec.proofs.DenyLemmas.{key_tuples, key_rows, unwritten}
 use Rattle.bdb_exec.proofs.PrefixLemmas.{few_asked}

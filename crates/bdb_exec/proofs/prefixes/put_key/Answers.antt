@@ -2,7 +2,7 @@ use Rattle.std.proofs.Common.{◌≡◌, ◌∙◌, ◌++◌, ℕ, List, ap, sub
 use Rattle.std.proofs.lemmas.List.{append_assoc}
 use Rattle.bdb_key.specs.Bytes.{num_bytes}
 use Rattle.bdb_exec.specs.Keys.{values_behind}
-use Rattle.bdb_exec.specs.Rows.{HasPutValues}
+use Rattle.bdb_tables.specs.Beginnings.{HasPutValues}
 use Rattle.bdb_exec.proofs.prefixes.put_key.Goals as goal
 
 pub returns : goal.returns

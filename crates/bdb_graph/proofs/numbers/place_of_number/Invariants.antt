@@ -7,8 +7,8 @@ abbrev pub invariant-loop-low : goal.invariant-loop-low
 invariant-loop-low g l = record {
   in_order : l.low ≤ l.high;
   within : l.high ≤ length l.items;
-  below : list_all (λ y. is_lt (nat_cmp y l.number)) (take l.low (map g.X.Numbered.number_of l.items)) ≡ true;
-  above : list_all (λ y. is_lt (nat_cmp l.number y)) (drop l.high (map g.X.Numbered.number_of l.items)) ≡ true;
+  below : list_all (λ y. is_lt (nat_cmp y l.number)) (take l.low (map g.X.HasNumber.number_of l.items)) ≡ true;
+  above : list_all (λ y. is_lt (nat_cmp l.number y)) (drop l.high (map g.X.HasNumber.number_of l.items)) ≡ true;
 }
 
 abbrev pub decreases-loop-low : goal.decreases-loop-low

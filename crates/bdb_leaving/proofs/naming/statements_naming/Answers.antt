@@ -2,7 +2,7 @@ use Rattle.std.proofs.Common.{sym, subst}
 use Rattle.bdb_base.specs.Changes.{statements_naming}
 use Rattle.bdb_tables.specs.Grammar.{InGrammar}
 use Rattle.bdb_val.specs.Reads.{HaveTuples}
-use Rattle.bdb_stored.specs.Valid.{IsPartOf}
+use Rattle.bdb_catalog.specs.Opening.{IsPartOf}
 use Rattle.bdb_stored.specs.Worlds.{TellsStates}
 use Rattle.bdb_stored.proofs.CountingLemmas.{valid_has_tuples, valid_in_grammar}
 use Rattle.bdb_leaving.proofs.ReadsLemmas.{reads_together}

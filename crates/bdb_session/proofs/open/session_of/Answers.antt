@@ -8,7 +8,7 @@ use Rattle.bdb_tables.proofs.Loops.{counts_then, goes_then, steps_err, steps_ok}
 use Rattle.bdb_worlds.proofs.StepsLemmas.{steps_undone}
 use Rattle.bdb_session.specs.Known.{Known}
 use Rattle.bdb_session.specs.Opening.{KnowsStored}
-use Rattle.bdb_session.proofs.OpenLemmas.{first_err, knows_parts, some_stored}
+use Rattle.bdb_session.proofs.OpenLemmas.{first_err, knows_parts}
 use Rattle.bdb_session.proofs.open.session_of.Goals as goal
 
 pub read_relations-requires : goal.read_relations-requires
@@ -16,7 +16,7 @@ read_relations-requires g c = record { base = subst StoresSome (sym c.in-Ok.ensu
 
 pub counts_of-requires : goal.counts_of-requires
 counts_of-requires g c =
-    record { base = some_stored (g.K.Keeper.seen c.read_relations.new.keeper).kept (subst StoresSome (sym (c.in-Ok-read_relations.ensures.kept ∙ c.in-Ok.ensures.kept)) c.requires.base) }
+    record { base = subst StoresSome (sym (c.in-Ok-read_relations.ensures.kept ∙ c.in-Ok.ensures.kept)) c.requires.base }
 
 pub returns-in-Ok-session_over-clause-knows : goal.returns-in-Ok-session_over-clause-knows
 returns-in-Ok-session_over-clause-knows g c =

@@ -1,12 +1,12 @@
 use Rattle.bdb_tables.proofs.Loops.{counts_then, goes_then, steps_err, steps_ok}
-use Rattle.bdb_session.proofs.OpenLemmas.{agrees_written, first_err, stored_valid}
+use Rattle.bdb_session.proofs.OpenLemmas.{agrees_written, first_err}
 use Rattle.bdb_session.proofs.open.written_session.Goals as goal
 
 pub returns-in-Err-clause-steps : goal.returns-in-Err-clause-steps
 returns-in-Err-clause-steps g c = first_err _ _ _ _ c.in-Err.ensures.steps
 
 pub session_of-requires : goal.session_of-requires
-session_of-requires g c = record { base = record { base = c.args.base.now; stores = stored_valid _ _ c.in-Ok.ensures.stored } }
+session_of-requires g c = record { base = record { base = c.args.base.now; stores = c.in-Ok.ensures.stored } }
 
 pub returns-in-Ok-session_of-clause-agrees : goal.returns-in-Ok-session_of-clause-agrees
 returns-in-Ok-session_of-clause-agrees g c =

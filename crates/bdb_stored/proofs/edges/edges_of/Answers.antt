@@ -1,7 +1,7 @@
 use Rattle.std.proofs.Common.{refl, subst, sym, length, arith}
 use Rattle.bdb_tables.specs.declared.tab.TabError.TheVariants.{Fault}
 use Rattle.bdb_stored.specs.Structure.{TellsEdges, edges_of}
-use Rattle.bdb_stored.specs.Valid.{IsPartOf}
+use Rattle.bdb_catalog.specs.Opening.{IsPartOf}
 use Rattle.bdb_stored.proofs.LinkLemmas.{all_edges, all_edges_more}
 use Rattle.bdb_stored.proofs.ReadLemmas.{as_many_all, as_many_more, only_more}
 use Rattle.bdb_stored.proofs.edges.edges_of.Goals as goal

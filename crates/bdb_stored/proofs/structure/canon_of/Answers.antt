@@ -6,7 +6,7 @@ use Rattle.bdb_base.specs.declared.tuple.Tuple.{Tuple}
 use Rattle.bdb_tables.specs.Grammar.{InGrammar}
 use Rattle.bdb_val.specs.Reads.{HaveTuples}
 use Rattle.bdb_stored.specs.Structure.{worlds_with_links}
-use Rattle.bdb_stored.specs.Valid.{IsPartOf}
+use Rattle.bdb_catalog.specs.Opening.{IsPartOf}
 use Rattle.bdb_stored.specs.Worlds.{TellsStates}
 use Rattle.bdb_stored.specs.declared.named.NamedWorld.{NamedWorld}
 use Rattle.bdb_stored.proofs.CountingLemmas.{valid_has_tuples, valid_in_grammar}

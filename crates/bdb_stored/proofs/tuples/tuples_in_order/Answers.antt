@@ -15,7 +15,7 @@ pub returns-in-Ok-set_of-clause-reads : goal.returns-in-Ok-set_of-clause-reads
 returns-in-Ok-set_of-clause-reads g c =
     let t = (g.K.Keeper.seen c.args.keeper.now).kept in
     let b = c.requires.base.base in
-    let v = c.requires.base.is in
+    let v = c.requires.base.stores in
     let told : c.in-Ok-set_of.tuples ≡ tuples_of b.stmts =
     c.in-Ok-set_of.ensures ∙ ap (λ es. sorted_set tuple_cmp (map (λ (e : ℕ × Tuple). e.1) es)) c.deref.ensures.value
     ∙ tuples_told t b v c.in-Ok.rows.items c.in-Ok.ensures.rows in

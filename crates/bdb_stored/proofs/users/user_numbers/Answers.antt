@@ -1,7 +1,7 @@
 use Rattle.std.proofs.Common.{◌∙◌, ap, subst, sym, arith}
 use Rattle.bdb_base.specs.Queries.{user_numbers}
 use Rattle.bdb_stored.specs.Structure.{live_keys}
-use Rattle.bdb_stored.specs.Valid.{IsPartOf}
+use Rattle.bdb_catalog.specs.Opening.{IsPartOf}
 use Rattle.bdb_stored.proofs.UserLemmas.{places_read, users_told}
 use Rattle.bdb_stored.proofs.users.user_numbers.Goals as goal
 

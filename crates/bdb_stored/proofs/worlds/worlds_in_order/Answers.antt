@@ -1,6 +1,6 @@
 use Rattle.std.proofs.Common.{◌≡◌, length, subst, sym, rules, ◌∙◌, ◌*◌, ap}
 use Rattle.bdb_base.specs.States.{states_of}
-use Rattle.bdb_stored.specs.Valid.{IsPartOf}
+use Rattle.bdb_catalog.specs.Opening.{IsPartOf}
 use Rattle.bdb_stored.specs.Worlds.{TellsStates}
 use Rattle.bdb_stored.proofs.CountingLemmas.{states_counted}
 use Rattle.bdb_stored.proofs.PlaceLemmas.{states_as_many}

@@ -1,5 +1,5 @@
 use Rattle.bdb_keep.specs.Seen.{GoesOn, NeverFall}
-use Rattle.bdb_stored.specs.Valid.{StoresValid}
+use Rattle.bdb_catalog.specs.Bases.{StoresValid}
 use Rattle.bdb_stored.specs.Writing.{with_relations}
 use Rattle.bdb_stored.proofs.writing.write_relations.Given as goal
 

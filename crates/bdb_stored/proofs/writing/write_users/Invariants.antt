@@ -1,5 +1,5 @@
 use Rattle.bdb_keep.specs.Seen.{GoesOn, NeverFall}
-use Rattle.bdb_stored.specs.Valid.{StoresValid}
+use Rattle.bdb_catalog.specs.Bases.{StoresValid}
 use Rattle.bdb_stored.specs.Writing.{with_users}
 use Rattle.bdb_stored.proofs.writing.write_users.Given as goal
 

@@ -3,8 +3,7 @@ use Rattle.bdb_keep.specs.Tables.{Tables}
 use Rattle.bdb_tables.specs.Codec.{TableFits}
 use Rattle.bdb_tables.specs.InUse.{val_codec}
 use Rattle.bdb_tables.specs.Spans.{AreUnder}
-use Rattle.bdb_tables.specs.GroupMarks.{in_group}
-use Rattle.bdb_val.specs.Reads.{group_prefix}
+use Rattle.bdb_tables.specs.GroupMarks.{group_bytes, in_group}
 use Rattle.bdb_val.proofs.reading.group_marks.Goals as goal
 
 pub returns-in-Ok-marks_under-clause-rows : goal.returns-in-Ok-marks_under-clause-rows
@@ -14,7 +13,7 @@ returns-in-Ok-marks_under-clause-rows g c =
     let v = c.args.key.now in
     let rows = map (in_group wid rel v) c.marks_under.new.rows.items in
     let same = c.deref.ensures.value ∙ c.in-Ok.ensures.bytes in
-    subst (λ (t : Tables). AreUnder val_codec t (group_prefix wid rel v) rows) c.in-Ok.ensures.read.kept
+    subst (λ (t : Tables). AreUnder val_codec t (group_bytes wid rel v) rows) c.in-Ok.ensures.read.kept
     (subst (λ (xs : List ℕ). AreUnder val_codec (g.K.Keeper.seen c.begin_group.new.keeper).kept xs rows) same
     (c.in-Ok-marks_under.ensures.rows wid rel v (record { world = c.ranges.wid.fits; rel = c.ranges.rel.fits; key = c.in-Ok.ensures.fits; bytes = same })))
 

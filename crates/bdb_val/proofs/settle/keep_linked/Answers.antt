@@ -1,9 +1,8 @@
 use Rattle.std.proofs.Common.{◌≡◌, [], ℕ, List, Option, Some, None, MatchOption, get_or, map, sym, subst, rules}
-use Rattle.bdb_tables.specs.GroupMarks.{in_group}
+use Rattle.bdb_tables.specs.GroupMarks.{group_bytes, in_group}
 use Rattle.bdb_tables.specs.InUse.{val_codec}
 use Rattle.bdb_tables.specs.Marks.{Mark}
 use Rattle.bdb_tables.specs.Spans.{AreUnder}
-use Rattle.bdb_val.specs.Reads.{group_prefix}
 use Rattle.bdb_val.specs.Rooms.{AreHanded, AreRowsOf, AreSingle}
 use Rattle.bdb_val.proofs.settle.keep_linked.Goals as goal
 
@@ -17,8 +16,8 @@ returns-in-Ok-clause-rows g c =
     let rows = c.keep_single.new.handed.rows.items in
     let is : c.args.link ≡ Some wid = search rules in
     let found : get_or c.args.handed.now.singles.items wid None ≡ Some row = search rules in
-    subst (λ (o : Option ℕ). MatchOption o (rows ≡ []) (λ m. AreUnder val_codec old (group_prefix m rel v) (map (in_group m rel v) rows))) (sym is)
-    (subst (λ (xs : List (ℕ × Mark)). AreUnder val_codec old (group_prefix wid rel v) (map (in_group wid rel v) xs)) (sym c.in-Ok.ensures.rows) (c.requires.room.singles_are wid row found).under)
+    subst (λ (o : Option ℕ). MatchOption o (rows ≡ []) (λ m. AreUnder val_codec old (group_bytes m rel v) (map (in_group m rel v) rows))) (sym is)
+    (subst (λ (xs : List (ℕ × Mark)). AreUnder val_codec old (group_bytes wid rel v) (map (in_group wid rel v) xs)) (sym c.in-Ok.ensures.rows) (c.requires.room.singles_are wid row found).under)
 
 pub returns-in-Ok-clause-room : goal.returns-in-Ok-clause-room
 returns-in-Ok-clause-room g c =

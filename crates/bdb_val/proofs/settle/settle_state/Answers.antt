@@ -2,14 +2,13 @@ use Rattle.std.proofs.Common.{◌≡◌, ◌∙◌, ℕ, List, length, map, Opti
 use Rattle.std.specs.List.{AllByRecursion}
 use Rattle.bdb_base.specs.Causes.{Rises}
 use Rattle.bdb_keep.specs.Tables.{Tables}
-use Rattle.bdb_tables.specs.GroupMarks.{BeginsGroup, in_group}
+use Rattle.bdb_tables.specs.GroupMarks.{BeginsGroup, group_bytes, in_group}
 use Rattle.bdb_tables.specs.InUse.{val_codec}
 use Rattle.bdb_tables.specs.Marks.{Mark}
 use Rattle.bdb_tables.specs.Spans.{AreUnder}
 use Rattle.bdb_tables.specs.Writes.{IsChange, with_changes}
 use Rattle.bdb_val.specs.GroupChanges.{mark_under, group_changes, TellsMarks}
 use Rattle.bdb_val.specs.Rooms.{AreHanded, IsNoted}
-use Rattle.bdb_val.specs.Reads.{group_prefix}
 use Rattle.bdb_val.specs.Settling.{mark_in}
 use Rattle.bdb_val.specs.Steps.{rows_made, Tells}
 use Rattle.bdb_val.proofs.GroupLemmas.{group_read}
@@ -26,7 +25,7 @@ returns-in-Ok-write_changes-clause-settled g c linked keys stmts n tuple f h =
     let wid = c.args.wid in
     let rel = c.args.rel in
     let v = c.args.key.now in
-    let prefix = λ (w : ℕ). group_prefix w rel v in
+    let prefix = λ (w : ℕ). group_bytes w rel v in
     let link = c.args.link in
     let es = c.group_marks.new.rows.items in
     let fs = c.keep_linked.new.handed.rows.items in
@@ -69,7 +68,7 @@ returns-in-Ok-write_changes-clause-tuples g c =
     let fs = c.keep_linked.new.handed.rows.items in
     let a = c.in-Ok.ensures.read in
     let kept = c.in-Ok-find_changes.ensures.read.kept ∙ c.in-Ok-group_marks.ensures.read.kept ∙ a.kept in
-    let under = subst (λ (t : Tables). AreUnder val_codec t (group_prefix wid rel v) (map (in_group wid rel v) es)) a.kept c.in-Ok-group_marks.ensures.rows in
+    let under = subst (λ (t : Tables). AreUnder val_codec t (group_bytes wid rel v) (map (in_group wid rel v) es)) a.kept c.in-Ok-group_marks.ensures.rows in
     let cs = c.deref-6.result.now in
     let bytes : BeginsGroup c.group_marks.new.room.prefix.items wid rel v = record { world = c.ranges.wid.fits; rel = c.ranges.rel.fits; key = c.in-Ok-group_marks.ensures.fits; bytes = c.in-Ok-group_marks.ensures.prefix } in
     let changes : cs ≡ group_changes es fs = c.deref-6.ensures.value ∙ c.in-Ok-find_changes.ensures.changes
@@ -110,7 +109,7 @@ returns-in-Ok-write_changes-clause-room g c =
     let cs = c.deref-6.result.now in
     let bytes : BeginsGroup c.group_marks.new.room.prefix.items wid rel v = record { world = c.ranges.wid.fits; rel = c.ranges.rel.fits; key = fits; bytes = c.in-Ok-group_marks.ensures.prefix } in
     let es = c.group_marks.new.rows.items in
-    let under = subst (λ (t : Tables). AreUnder val_codec t (group_prefix wid rel v) (map (in_group wid rel v) es)) c.in-Ok.ensures.read.kept c.in-Ok-group_marks.ensures.rows in
+    let under = subst (λ (t : Tables). AreUnder val_codec t (group_bytes wid rel v) (map (in_group wid rel v) es)) c.in-Ok.ensures.read.kept c.in-Ok-group_marks.ensures.rows in
     let written = c.in-Ok-write_changes.ensures.kept wid rel v bytes ∙ ap (λ (t : Tables). with_changes val_codec t (map (in_group wid rel v) cs)) kept in
     let keeps : c.forget.new.self.singles.items ≡ c.args.room.now.handed.singles.items = c.forget.ensures.singles ∙ c.in-Ok.ensures.singles in
     let noted : IsNoted wid es cs c.args.room.now.handed.singles.items c.note.new.self.singles.items =

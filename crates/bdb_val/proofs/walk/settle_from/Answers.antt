@@ -1,7 +1,7 @@
 use Rattle.std.proofs.Common.{◌≡◌, ◌∙◌, ℕ, ◌+◌, ◌<◌, ◌≤◌, [], ◌∷◌, length, drop, ap, sym, subst, rules, arith}
 use Rattle.std.proofs.lemmas.List.{drop_all, drop_more}
 use Rattle.bdb_tables.specs.declared.tab.TabError.TheVariants.{Fault, Memory}
-use Rattle.bdb_val.specs.Reads.{group_prefix}
+use Rattle.bdb_tables.specs.GroupMarks.{group_bytes}
 use Rattle.bdb_val.specs.Walks.{Walked}
 use Rattle.bdb_val.proofs.Calls.{gone_changing, changing_ok, changing_err, changing_undone}
 use Rattle.bdb_val.proofs.RoomLemmas.{bare_room}
@@ -27,7 +27,7 @@ returns-then-at-len-clause-settled g c keys stmts ns tuple f u =
     let old = g.K.Keeper.seen c.args.keeper.now in
     let now = g.K.Keeper.seen c.loop.keeper in
     let h = c.loop.invariant.0.walked keys stmts ns tuple f u in
-    let prefix = λ (w : ℕ). group_prefix w c.args.rel c.args.key.now in
+    let prefix = λ (w : ℕ). group_bytes w c.args.rel c.args.key.now in
     let past : length c.loop.list.items ≤ c.loop.at = search rules in
     let none : drop c.loop.at c.loop.list.items ≡ [] = drop_all c.loop.at c.loop.list.items past in
     walk_settles keys old.kept now.kept c.args.wid c.args.rel c.args.key.now h.made h.put h.taken c.ranges.rel.fits c.in-Ok-visit_first.ensures.fits
@@ -54,7 +54,7 @@ loop-preserved g c =
     drop_more list c.loop.at next within ∙ ap (λ (x : ℕ × ℕ). x ∷ drop (c.loop.at + 1) list) (sym c.index-next.ensures) in (
       walk_more old now new c.args.rel c.args.key.now c.args.wid next (drop c.loop.at list) (drop (c.loop.at + 1) list) (drop (c.loop.at + 1) c.visit_next.new.list.items) c.loop.total v.settled c.both-total.result
           c.ranges.rel.fits c.in-Ok-visit_first.ensures.fits c.loop.invariant.0 is (gone_changing now new v.settled Fault v.ensures.changing) v.ensures.grammar v.ensures.tuples v.ensures.others
-          (λ link keys stmts ns tuple f h. left_of_visit keys now new (λ w. group_prefix w c.args.rel c.args.key.now) next.0 (c.loop.at + 1) list c.visit_next.new.list.items v.settled (omega arith) (v.ensures.visited link keys stmts ns tuple f h))
+          (λ link keys stmts ns tuple f h. left_of_visit keys now new (λ w. group_bytes w c.args.rel c.args.key.now) next.0 (c.loop.at + 1) list c.visit_next.new.list.items v.settled (omega arith) (v.ensures.visited link keys stmts ns tuple f h))
           c.both-total.ensures.put c.both-total.ensures.taken,
       v.ensures.room,
     )

@@ -2,9 +2,9 @@ use Rattle.std.proofs.Common.{ℕ, sym, subst}
 use Rattle.bdb_keep.specs.Tables.{Tables}
 use Rattle.bdb_tables.specs.Codec.{HasAt}
 use Rattle.bdb_tables.specs.InUse.{link_codec}
+use Rattle.bdb_tables.specs.GroupMarks.{group_bytes}
 use Rattle.bdb_val.specs.Middle.{HasExplicit}
 use Rattle.bdb_val.specs.Others.{SameBut}
-use Rattle.bdb_val.specs.Reads.{group_prefix}
 use Rattle.bdb_val.specs.Visits.{ArePushed}
 use Rattle.bdb_val.proofs.FoundLinks.{links_stay, links_same}
 use Rattle.bdb_val.proofs.OtherLemmas.{is_rows}
@@ -21,7 +21,7 @@ returns-in-Ok-push_linked-clause-visited g c keys stmts n tuple f h =
     let start = g.K.Keeper.seen c.get.new.keeper in
     let mid = g.K.Keeper.seen c.settle_state.new.keeper in
     let new = g.K.Keeper.seen c.push_linked.new.keeper in
-    let prefix = λ (w : ℕ). group_prefix w c.args.rel c.args.key.now in
+    let prefix = λ (w : ℕ). group_bytes w c.args.rel c.args.key.now in
     let s = c.in-Ok-settle_state.settled in
     let link = c.in-Ok.ensures.read in
     let found = subst (λ (t : Tables). HasAt link_codec t c.args.wid c.in-Ok.link) (sym link.kept) c.in-Ok.ensures.found in

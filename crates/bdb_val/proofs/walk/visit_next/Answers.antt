@@ -2,7 +2,7 @@ use Rattle.std.proofs.Common.{ℕ, inl, inr, refl, sym, subst}
 use Rattle.std.proofs.lemmas.Bool.{not-true}
 use Rattle.bdb_keep.specs.Tables.{Tables}
 use Rattle.bdb_val.specs.Others.{SameBut}
-use Rattle.bdb_val.specs.Reads.{group_prefix}
+use Rattle.bdb_tables.specs.GroupMarks.{group_bytes}
 use Rattle.bdb_val.specs.Visits.{ArePushed}
 use Rattle.bdb_val.proofs.FoundLinks.{links_stay}
 use Rattle.bdb_val.proofs.OtherLemmas.{is_rows}
@@ -14,7 +14,7 @@ pub returns-then-not-settled-clause-visited : goal.returns-then-not-settled-clau
 returns-then-not-settled-clause-visited g c link keys stmts n tuple f h =
     let old = g.K.Keeper.seen c.args.keeper.now in
     let mid = g.K.Keeper.seen c.settle_state.new.keeper in
-    let prefix = λ (w : ℕ). group_prefix w c.args.rel c.args.key.now in
+    let prefix = λ (w : ℕ). group_bytes w c.args.rel c.args.key.now in
     let step = c.in-Ok.ensures.settled link keys stmts n tuple f h in
     record {
       visit = visited keys old mid mid prefix c.args.next.0 c.in-Ok.settled step refl refl;
@@ -27,7 +27,7 @@ returns-in-Ok-push_linked-clause-visited g c link keys stmts n tuple f h =
     let old = g.K.Keeper.seen c.args.keeper.now in
     let mid = g.K.Keeper.seen c.settle_state.new.keeper in
     let new = g.K.Keeper.seen c.push_linked.new.keeper in
-    let prefix = λ (w : ℕ). group_prefix w c.args.rel c.args.key.now in
+    let prefix = λ (w : ℕ). group_bytes w c.args.rel c.args.key.now in
     let step = c.in-Ok.ensures.settled link keys stmts n tuple f h in
     let read = c.in-Ok-push_linked.ensures.read in record {
       visit = visited keys old mid new prefix c.args.next.0 c.in-Ok.settled step read.kept read.writes;

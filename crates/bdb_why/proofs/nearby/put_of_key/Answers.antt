@@ -6,8 +6,8 @@ use Rattle.bdb_base.specs.SortedSet.{ascending}
 use Rattle.bdb_base.specs.declared.kinds.Sign.TheVariants.{Plus, Minus}
 use Rattle.bdb_key.specs.Grammar.{IsWhole}
 use Rattle.bdb_tables.specs.Lengths.{IsKeyLength}
+use Rattle.bdb_tables.specs.GroupMarks.{group_bytes}
 use Rattle.bdb_update.proofs.KeyLemmas.{key_short}
-use Rattle.bdb_val.specs.Reads.{group_prefix}
 use Rattle.bdb_catalog.specs.Taking.{AreTuplesRead}
 use Rattle.bdb_why.proofs.HereLemmas.{both_ascend, puts_near, reads_here}
 use Rattle.bdb_why.proofs.nearby.put_of_key.Goals as goal
@@ -27,9 +27,9 @@ returns-in-Ok-put_both-clause-put g c =
     let denied = c.in-Ok-tuples_under.denied.items in
     let rel : c.args.rel ≡ u.rel = sym c.requires.relation in
     let long : IsKeyLength old.kept u.rel n = c.requires.length in
-    let put : c.as_slice-prefix.result.now ≡ group_prefix c.args.wid c.args.rel c.key_of-key.result.now = search rules in
-    let begin : c.as_slice-prefix.result.now ≡ group_prefix c.args.wid u.rel (key_of (λ _. n) u) =
-    put ∙ ap (λ r. group_prefix c.args.wid r c.key_of-key.result.now) rel ∙ ap (group_prefix c.args.wid u.rel) c.key_of-key.ensures in
+    let put : c.as_slice-prefix.result.now ≡ group_bytes c.args.wid c.args.rel c.key_of-key.result.now = search rules in
+    let begin : c.as_slice-prefix.result.now ≡ group_bytes c.args.wid u.rel (key_of (λ _. n) u) =
+    put ∙ ap (λ r. group_bytes c.args.wid r c.key_of-key.result.now) rel ∙ ap (group_bytes c.args.wid u.rel) c.key_of-key.ensures in
     let written : AllByRecursion IsWhole c.key_of-key.result.now = search rules in
     let say = subst (λ p. AreTuplesRead old mid p Plus said) begin c.in-Ok.ensures.tuples in
     let deny = subst (λ p. AreTuplesRead mid new p Minus denied) begin c.in-Ok-tuples_under.ensures.tuples in
@@ -51,9 +51,9 @@ returns-in-Ok-put_both-clause-reads g c =
     let denied = c.in-Ok-tuples_under.denied.items in
     let rel : c.args.rel ≡ u.rel = sym c.requires.relation in
     let long : IsKeyLength old.kept u.rel n = c.requires.length in
-    let put : c.as_slice-prefix.result.now ≡ group_prefix c.args.wid c.args.rel c.key_of-key.result.now = search rules in
-    let begin : c.as_slice-prefix.result.now ≡ group_prefix c.args.wid u.rel (key_of (λ _. n) u) =
-    put ∙ ap (λ r. group_prefix c.args.wid r c.key_of-key.result.now) rel ∙ ap (group_prefix c.args.wid u.rel) c.key_of-key.ensures in
+    let put : c.as_slice-prefix.result.now ≡ group_bytes c.args.wid c.args.rel c.key_of-key.result.now = search rules in
+    let begin : c.as_slice-prefix.result.now ≡ group_bytes c.args.wid u.rel (key_of (λ _. n) u) =
+    put ∙ ap (λ r. group_bytes c.args.wid r c.key_of-key.result.now) rel ∙ ap (group_bytes c.args.wid u.rel) c.key_of-key.ensures in
     let written : AllByRecursion IsWhole c.key_of-key.result.now = search rules in
     let say = subst (λ p. AreTuplesRead old mid p Plus said) begin c.in-Ok.ensures.tuples in
     let deny = subst (λ p. AreTuplesRead mid new p Minus denied) begin c.in-Ok-tuples_under.ensures.tuples in

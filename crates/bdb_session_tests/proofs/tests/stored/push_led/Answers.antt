@@ -7,15 +7,16 @@ use Rattle.bdb_canon.specs.Samples.{three_users}
 use Rattle.bdb_keep.specs.Tables.{Tables}
 use Rattle.bdb_tables.specs.Grammar.{InGrammar}
 use Rattle.bdb_worlds.specs.Holding.{HoldSome}
-use Rattle.bdb_stored.specs.Valid.{IsPartOf, StoreSome, StoresValid}
+use Rattle.bdb_catalog.specs.Bases.{StoresSome, StoresValid}
+use Rattle.bdb_catalog.specs.Opening.{IsPartOf}
 use Rattle.bdb_stored.proofs.CountingLemmas.{valid_in_grammar}
 use Rattle.bdb_session_tests.proofs.tests.stored.push_led.Goals as goal
 
 pub user_numbers-requires : goal.user_numbers-requires
-user_numbers-requires g c = record { base = record { base = c.args.base.now; is = c.requires.stored } }
+user_numbers-requires g c = record { base = record { base = c.args.base.now; stores = c.requires.stored } }
 
 pub worlds_in_order-requires-clause-base : goal.worlds_in_order-requires-clause-base
-worlds_in_order-requires-clause-base g c = subst StoreSome (sym c.in_ok-users.ensures.read.kept) (record { base = c.args.base.now; is = c.requires.stored })
+worlds_in_order-requires-clause-base g c = subst StoresSome (sym c.in_ok-users.ensures.read.kept) (record { base = c.args.base.now; stores = c.requires.stored })
 
 pub worlds_in_order-requires-clause-users : goal.worlds_in_order-requires-clause-users
 worlds_in_order-requires-clause-users g c =
@@ -25,7 +26,7 @@ worlds_in_order-requires-clause-users g c =
 pub resolve-requires-clause-grammar : goal.resolve-requires-clause-grammar
 resolve-requires-clause-grammar g c =
     let back = c.in_ok-worlds.ensures.read.kept ∙ c.in_ok-users.ensures.read.kept in
-    valid_in_grammar (g.K.Keeper.seen c.worlds_in_order.new.keeper).kept (subst StoreSome (sym back) (record { base = c.args.base.now; is = c.requires.stored }))
+    valid_in_grammar (g.K.Keeper.seen c.worlds_in_order.new.keeper).kept (subst StoresSome (sym back) (record { base = c.args.base.now; stores = c.requires.stored }))
 
 pub resolve-requires-clause-states : goal.resolve-requires-clause-states
 resolve-requires-clause-states g c =

@@ -1,7 +1,7 @@
 use Rattle.std.proofs.Common.{◌+◌, ◌-◌, ◌/◌, ◌<◌, ◌≡◌, false, length, get_or, arith, sym}
 use Rattle.bdb_base.specs.declared.kinds.Sign.TheVariants.{Plus}
 use Rattle.bdb_val.proofs.NumberedLemmas.{Entry, one_place, mark_at, halved, below_middle, above_middle}
-use Rattle.bdb_val.proofs.numbered.mark_by_halves.Goals as goal
+use Rattle.bdb_val.proofs.numbered.mark_by_search.Goals as goal
 
 pub loop-low-preserved-then-row-tid : goal.loop-low-preserved-then-row-tid
 loop-low-preserved-then-row-tid c =

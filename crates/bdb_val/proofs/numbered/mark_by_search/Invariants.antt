@@ -1,6 +1,6 @@
 use Rattle.std.proofs.Common.{◌≤◌, ◌-◌, length}
 use Rattle.bdb_val.proofs.NumberedLemmas.{AreBelow, AreAbove}
-use Rattle.bdb_val.proofs.numbered.mark_by_halves.Given as goal
+use Rattle.bdb_val.proofs.numbered.mark_by_search.Given as goal
 
 abbrev pub invariant-loop-low : goal.invariant-loop-low
 invariant-loop-low l = record {
