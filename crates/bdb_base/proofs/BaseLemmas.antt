@@ -267,10 +267,10 @@ definition_stays [] def n vals h = absurd (false≢true h)
 definition_stays (r ∷ rels) def zero vals h = refl
 definition_stays (r ∷ rels) def (suc n) vals h = definition_stays rels def n vals h
 
-clash_elsewhere : (keys more : ℕ → ℕ) (t : Tuple) (s : Sign) (u : Tuple) (r : Sign) → more t.rel ≡ keys t.rel → clash more t s u r ≡ clash keys t s u r
+pub clash_elsewhere : (keys more : ℕ → ℕ) (t : Tuple) (s : Sign) (u : Tuple) (r : Sign) → more t.rel ≡ keys t.rel → clash more t s u r ≡ clash keys t s u r
 clash_elsewhere keys more t s u r e = sym (clash_by_length more t s u r) ∙ ap (λ n. clash (λ _. n) t s u r) e ∙ clash_by_length keys t s u r
 
-contradicted_elsewhere : (keys more : ℕ → ℕ) (stmts : List Stmt) (w : List ℕ) (t : Tuple) (s : Sign) → more t.rel ≡ keys t.rel → contradicted more stmts w t s ≡ contradicted keys stmts w t s
+pub contradicted_elsewhere : (keys more : ℕ → ℕ) (stmts : List Stmt) (w : List ℕ) (t : Tuple) (s : Sign) → more t.rel ≡ keys t.rel → contradicted more stmts w t s ≡ contradicted keys stmts w t s
 contradicted_elsewhere keys more [] w t s e = refl
 contradicted_elsewhere keys more (x ∷ xs) w t s e =
     ap (λ b. (same_path x.path w && b) || contradicted more xs w t s) (clash_elsewhere keys more t s x.tuple x.sign e)

@@ -85,7 +85,7 @@ belongs_changed c sets x h fit =
 -- ---- clashes after an update
 
 -- each item fails a test that finds none
-none_passes : {X : Type 0} (p : X → Bool) (xs : List X) → find p xs ≡ None → list_all (λ x. not (p x)) xs ≡ true
+pub none_passes : {X : Type 0} (p : X → Bool) (xs : List X) → find p xs ≡ None → list_all (λ x. not (p x)) xs ≡ true
 none_passes p [] e = refl
 none_passes p (x ∷ xs) e = elim (cases_Bool (p x)) [
   | inl a ↦ let k : cond (p x) (Some x) (find p xs) ≡ Some x = cond-true (p x) (Some x) (find p xs) a in cc
@@ -95,19 +95,19 @@ none_passes p (x ∷ xs) e = elim (cases_Bool (p x)) [
 ]
 
 -- a statement clashes with none of its path
-abbrev is_free : (ℕ → ℕ) → List Stmt → Stmt → Bool
+abbrev pub is_free : (ℕ → ℕ) → List Stmt → Stmt → Bool
 is_free keys stmts x = not (contradicted keys stmts x.path x.tuple x.sign)
 
 -- a statement is not one of this very path that clashes with another of it
-abbrev is_free_at : (ℕ → ℕ) → List Stmt → List ℕ → Stmt → Bool
+abbrev pub is_free_at : (ℕ → ℕ) → List Stmt → List ℕ → Stmt → Bool
 is_free_at keys stmts w x = not (same_path x.path w && contradicted keys stmts w x.tuple x.sign)
 
 -- a statement is of this very path, or clashes with none of its path
-abbrev is_free_elsewhere : (ℕ → ℕ) → List Stmt → List ℕ → Stmt → Bool
+abbrev pub is_free_elsewhere : (ℕ → ℕ) → List Stmt → List ℕ → Stmt → Bool
 is_free_elsewhere keys stmts w x = same_path x.path w || is_free keys stmts x
 
 -- what is free at a path and elsewhere is free
-free_everywhere : (keys : ℕ → ℕ) (stmts : List Stmt) (w : List ℕ) (x : Stmt) → is_free_at keys stmts w x ≡ true → is_free_elsewhere keys stmts w x ≡ true
+pub free_everywhere : (keys : ℕ → ℕ) (stmts : List Stmt) (w : List ℕ) (x : Stmt) → is_free_at keys stmts w x ≡ true → is_free_elsewhere keys stmts w x ≡ true
     → is_free keys stmts x ≡ true
 free_everywhere keys stmts w x h g =
     let clashes = contradicted keys stmts w x.tuple x.sign in

@@ -359,6 +359,16 @@ drop_user_is_valid c stmts uid v h =
       };
     }
 
+-- the name of a live user is plain where those of all are
+pub plain_at : (users : List UserSlot) (at : ℕ) (name : List ℕ) → list_all is_plain (user_names users) ≡ true → slice_get users at ≡ Some (Live name) → is_plain name ≡ true
+plain_at [] at name h e = absurd (none-some (Live name) e)
+plain_at (Live n ∷ us) zero name h e =
+    let s : n ≡ name = cc in
+    ap is_plain (sym s) ∙ (and_parts (is_plain n) (list_all is_plain (user_names us)) h).0
+plain_at (Gone ∷ us) zero name h e = cc
+plain_at (Live n ∷ us) (suc at) name h e = plain_at us at name (and_parts (is_plain n) (list_all is_plain (user_names us)) h).1 e
+plain_at (Gone ∷ us) (suc at) name h e = plain_at us at name h e
+
 pub name_is_given_again : NameIsGivenAgain
 name_is_given_again c stmts uid name v e room =
     let user = (name_found c.users uid name e).0 in
@@ -367,15 +377,6 @@ name_is_given_again c stmts uid name v e room =
     let l = length-set c.users (uid - 1) Gone in
     add_user_is_valid (without_user c uid) (without_statements_of uid stmts) name left
     (plain_at c.users (uid - 1) name v.catalog.users_plain named) (name_is_free c stmts uid name v e) (omega arith)
-  where
-    plain_at : (users : List UserSlot) (at : ℕ) (name : List ℕ) → list_all is_plain (user_names users) ≡ true → slice_get users at ≡ Some (Live name) → is_plain name ≡ true
-    plain_at [] at name h e = absurd (none-some (Live name) e)
-    plain_at (Live n ∷ us) zero name h e =
-        let s : n ≡ name = cc in
-        ap is_plain (sym s) ∙ (and_parts (is_plain n) (list_all is_plain (user_names us)) h).0
-    plain_at (Gone ∷ us) zero name h e = cc
-    plain_at (Live n ∷ us) (suc at) name h e = plain_at us at name (and_parts (is_plain n) (list_all is_plain (user_names us)) h).1 e
-    plain_at (Gone ∷ us) (suc at) name h e = plain_at us at name h e
 
 -- ---- no state names who left
 

@@ -7,6 +7,7 @@ mod changes;
 mod conditions;
 mod conflict;
 mod counts;
+mod fitting;
 mod kinds;
 pub mod laws;
 mod leaving;
@@ -30,6 +31,7 @@ pub use changes::changed;
 pub use conditions::{compares, meets};
 pub use conflict::{clash, key_length, key_of, same_key, same_tuple, same_value, same_values};
 pub use counts::{distinct_tuples, has_tuple};
+pub use fitting::{are_printable, fits_relation, is_plain};
 pub use kinds::{
     Catalog, Cmp, ColDef, Cond, Held, Item, Kind, Operand, Query, Ref, RelDef, SetCol, Sign, Stmt,
     UserSlot, Value, What, Who, World,

@@ -1,13 +1,10 @@
 // Which values the tests of a delete or an update ask for of the first columns of a key.
-ghost use Rattle.std.specs.Prelude.{◌≡◌, nat_le, IfOk};
-ghost use Rattle.std.specs.List.{list_all};
+ghost use Rattle.std.specs.Prelude.{◌≡◌, IfOk};
 ghost use Rattle.std.specs.Option.{option_copied};
-ghost use Rattle.bdb_base.specs.Bases.{is_plain};
 ghost use Rattle.bdb_catalog.specs.Taking.{asks_for, literal_of, value_asked, value_of_test, values_asked};
 ghost use Rattle.bdb_tables.specs.Beginnings.{HasPutValues, is_written};
 
-use bdb_base::limits::LONGEST_TEXT;
-use bdb_base::{Cmp, Cond, Operand, Txt, Value};
+use bdb_base::{Cmp, Cond, Operand, Value, is_plain};
 use bdb_key::put_value;
 use std::alloc::AllocError;
 
@@ -86,18 +83,4 @@ fn is_written(value: &Value) -> bool
         Value::Int(_) => true,
         Value::Text(text) => is_plain(text),
     }
-}
-
-// Whether a text is plain: not too long, and without a character below U+0020.
-fn is_plain(text: &Txt) -> bool
-    ensures { result ≡ is_plain text.now }
-{
-    text.len() <= LONGEST_TEXT && are_printable(text.as_str().as_bytes())
-}
-
-// Whether no byte is one of a character below U+0020.
-fn are_printable(bytes: &[u8]) -> bool
-    ensures { result ≡ list_all (λ c. nat_le 32 c) bytes.now }
-{
-    bytes.iter().all(|byte| 32 <= *byte)
 }

@@ -1,13 +1,12 @@
 // Whether a statement belongs to a catalog.
 ghost use Rattle.std.specs.Prelude.{◌≡◌, ◌&&◌, nat_le, length};
-ghost use Rattle.std.specs.List.{list_all, slice_get};
+ghost use Rattle.std.specs.List.{list_all};
 ghost use Rattle.bdb_base.specs.Alternation.{alternates};
-ghost use Rattle.bdb_base.specs.Bases.{belongs, fits_columns, fits_definition, fits_kind, fits_relation, is_user};
+ghost use Rattle.bdb_base.specs.Bases.{belongs, fits_relation, is_user};
 ghost use Rattle.bdb_base.specs.Limits.{deepest_statement};
 
-use crate::validity::is_plain;
 use bdb_base::limits::DEEPEST_STATEMENT;
-use bdb_base::{Catalog, ColDef, Kind, Path, RelDef, Stmt, Tuple, UserSlot, Value, is_user};
+use bdb_base::{Catalog, Path, RelDef, Stmt, Tuple, UserSlot, is_user};
 
 /// Whether each statement belongs to a catalog.
 pub fn all_belong(catalog: &Catalog, stmts: &[Stmt]) -> bool
@@ -43,37 +42,5 @@ pub fn are_users(users: &[UserSlot], path: &[u32]) -> bool
 fn fits_relation(rels: &[RelDef], tuple: &Tuple) -> bool
     ensures { result ≡ fits_relation rels.now tuple.now }
 {
-    fits_definition(rels, tuple.rel, tuple.vals.as_slice())
-}
-
-// Whether values fit the relation of a number, if there is one.
-fn fits_definition(rels: &[RelDef], rel: u32, vals: &[Value]) -> bool
-    ensures { result ≡ fits_definition (slice_get rels.now rel) vals.now }
-{
-    match rels.get(rel as usize) {
-        Some(def) => fits_columns(def.cols.as_slice(), vals),
-        None => false,
-    }
-}
-
-fn fits_columns(cols: &[ColDef], vals: &[Value]) -> bool
-    ensures { result ≡ fits_columns cols.now vals.now }
-{
-    match cols {
-        [] => vals.is_empty(),
-        [col, cols @ ..] => match vals {
-            [] => false,
-            [value, vals @ ..] => fits_kind(col.kind, value) && fits_columns(cols, vals),
-        },
-    }
-}
-
-fn fits_kind(kind: Kind, value: &Value) -> bool
-    ensures { result ≡ fits_kind kind value.now }
-{
-    match (kind, value) {
-        (Kind::Int, Value::Int(_)) => true,
-        (Kind::Text, Value::Text(text)) => is_plain(text),
-        _ => false,
-    }
+    bdb_base::fits_relation(rels, tuple.rel, tuple.vals.as_slice())
 }

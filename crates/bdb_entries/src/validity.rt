@@ -6,8 +6,8 @@ ghost use Rattle.bdb_base.specs.Limits.{most_columns};
 ghost use Rattle.bdb_base.specs.Same.{same_text};
 ghost use Rattle.bdb_entries.specs.Catalog.{are_relations, are_users, has_name_of, has_plain_name, is_called, is_catalog, names_differ, slots_differ};
 
-use bdb_base::limits::{LONGEST_TEXT, MOST_COLUMNS, MOST_RELATIONS, MOST_USERS};
-use bdb_base::{Catalog, ColDef, RelDef, Txt, UserSlot};
+use bdb_base::limits::{MOST_COLUMNS, MOST_RELATIONS, MOST_USERS};
+use bdb_base::{Catalog, ColDef, RelDef, Txt, UserSlot, is_plain};
 
 /// Whether users and relations are those of a valid base.
 pub fn is_catalog(catalog: &Catalog) -> bool
@@ -237,18 +237,4 @@ fn is_same(a: &Txt, b: &Txt) -> bool
     ensures { result ≡ same_text a.now b.now }
 {
     a.as_bytes() == b.as_bytes()
-}
-
-/// Whether a text is plain: not too long, and without a character below U+0020.
-pub fn is_plain(text: &Txt) -> bool
-    ensures { result ≡ is_plain text.now }
-{
-    text.len() <= LONGEST_TEXT && are_printable(text.as_str().as_bytes())
-}
-
-// Whether no byte is one of a character below U+0020.
-fn are_printable(bytes: &[u8]) -> bool
-    ensures { result ≡ list_all (λ c. nat_le 32 c) bytes.now }
-{
-    bytes.iter().all(|byte| 32 <= *byte)
 }

@@ -1,7 +1,6 @@
 // How the keys of rows of worlds begin.
-ghost use Rattle.std.specs.Prelude.{◌≡◌, ◌++◌, nat_le, IfOk, OnOk};
+ghost use Rattle.std.specs.Prelude.{◌≡◌, ◌++◌, IfOk, OnOk};
 ghost use Rattle.std.specs.List.{list_all};
-ghost use Rattle.bdb_base.specs.Bases.{is_plain};
 ghost use Rattle.bdb_key.specs.Bytes.{num_bytes};
 ghost use Rattle.bdb_key.specs.Grammar.{AreKeyVals};
 ghost use Rattle.bdb_tables.specs.InUse.{HaveKeyTexts};
@@ -12,8 +11,7 @@ ghost use Rattle.bdb_exec.specs.Rows.{world_prefix};
 
 use crate::keys::value_behind;
 use crate::shared::Shared;
-use bdb_base::Value;
-use bdb_base::limits::LONGEST_TEXT;
+use bdb_base::{Value, is_plain};
 use bdb_key::{put_num, put_value};
 use bdb_plan::Step;
 use bdb_tables::put_key_vals;
@@ -113,25 +111,6 @@ fn is_written(value: &Value) -> bool
 {
     match value {
         Value::Int(_) => true,
-        Value::Text(text) => is_plain(text.as_str()),
+        Value::Text(text) => is_plain(text),
     }
-}
-
-// Whether a text is a plain one.
-#[tactic(auto, using(bdb_key::proofs::Readings::utf8_true))]
-fn is_plain(text: &str) -> bool
-    ensures { result ≡ is_plain text.now }
-{
-    let bytes = text.as_bytes();
-    if bytes.len() > LONGEST_TEXT {
-        return false;
-    }
-    is_printing(bytes)
-}
-
-// Whether no byte is one of a character below U+0020.
-fn is_printing(bytes: &[u8]) -> bool
-    ensures { result ≡ list_all (λ c. nat_le 32 c) bytes.now }
-{
-    bytes.iter().all(|byte| *byte >= 32)
 }

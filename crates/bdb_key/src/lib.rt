@@ -14,7 +14,7 @@ mod write;
 
 pub use laws::{keys_have_one_spelling, keys_keep_order, rows_have_one_spelling};
 pub use part::{KeyError, Part, RowError, Slot};
-pub use read::{num_of, only_num, path_of, text_of, vals_of, value_of, values_of};
+pub use read::{int_of, num_of, only_num, path_of, text_of, vals_of, value_of, values_of};
 pub use row::TabRow;
 pub use row_read::{key_length_of, mark_of, only_text, rel_of, sign_of, tuple_of, user_of};
 pub use row_take::take_row;

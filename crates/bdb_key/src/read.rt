@@ -1,8 +1,7 @@
 // Bytes back into the parts of keys.
-ghost use Rattle.std.specs.Prelude.{◌≡◌, ℕ, List, ◌∷◌, ◌<◌, ◌^◌, nat_le, true, false, IfOk, MatchOption, FitsSigned};
+ghost use Rattle.std.specs.Prelude.{◌≡◌, ℕ, List, ◌∷◌, ◌<◌, ◌^◌, true, false, IfOk, MatchOption, FitsSigned};
 ghost use Rattle.std.specs.Result.{IsErrOf};
 ghost use Rattle.std.specs.Int.{w64, to_be_bytes};
-ghost use Rattle.std.specs.List.{list_all};
 ghost use Rattle.std.specs.Str.{is_utf8};
 ghost use Rattle.bdb_base.specs.Bases.{is_plain};
 ghost use Rattle.bdb_key.specs.Bytes.{num_bytes, int_bytes, text_bytes, value_bytes, values_bytes, vals_bytes, path_bytes};
@@ -11,7 +10,7 @@ ghost use Rattle.bdb_key.specs.Reading.{Leads, NoneLeads, Reads, NoneReads, AreM
 
 use crate::part::KeyError;
 use bdb_base::limits::LONGEST_TEXT;
-use bdb_base::{List, Path, PathError, Txt, Value};
+use bdb_base::{List, Path, PathError, Txt, Value, are_printable};
 use std::alloc::Global;
 
 /// The number at the front of these bytes, and the bytes after it. None exactly where there are too few bytes.
@@ -215,17 +214,10 @@ fn plain_of(bytes: &[u8]) -> Option<&str>
     ensures { MatchOption result (is_plain bytes.now ≡ false)
         (λ text. (text.now ≡ bytes.now) × (is_plain bytes.now ≡ true)) }
 {
-    if bytes.len() > LONGEST_TEXT || !is_printing(bytes) {
+    if bytes.len() > LONGEST_TEXT || !are_printable(bytes) {
         return None;
     }
     utf8_of(bytes)
-}
-
-// Whether no byte is one of a character below U+0020.
-fn is_printing(bytes: &[u8]) -> bool
-    ensures { result ≡ list_all (λ c. nat_le 32 c) bytes.now }
-{
-    bytes.iter().all(|byte| *byte >= 32)
 }
 
 // These bytes as a text.

@@ -7,7 +7,6 @@ mod beliefs;
 mod choosing;
 mod conflicts;
 mod ends;
-mod fitting;
 mod keys;
 mod levels;
 mod pools;

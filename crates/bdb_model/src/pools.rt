@@ -10,13 +10,12 @@ ghost use Rattle.bdb_base.specs.SortedSet.{ascending};
 ghost use Rattle.bdb_model.specs.Pools.{world_at, item_world, user_pool, plus_tuples, plus_pool, plus_pools, sourced_value, sourced_values, denies, is_denied, denied_tuples, minus_pool, minus_pools};
 ghost use Rattle.bdb_queries.specs.Slots.{user_tuples};
 
-use crate::fitting::fits_relation;
 use crate::keys::key_length_of;
 use crate::rows::world_among;
 use crate::sources::source_of;
 use bdb_base::{
     ColDef, Cond, Exact, Held, Item, List, Path, PathError, RelDef, Sign, Stmt, Tuple, UserSlot,
-    Value, clash,
+    Value, clash, fits_relation,
 };
 use bdb_queries::{known_operand, path_of, user_tuples};
 use std::alloc::{AllocError, Global};

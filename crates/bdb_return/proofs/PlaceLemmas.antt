@@ -17,7 +17,7 @@ use Rattle.bdb_base.specs.declared.kinds.UserSlot.{UserSlot}
 use Rattle.bdb_base.specs.declared.kinds.UserSlot.TheVariants.{Live, Gone}
 use Rattle.bdb_base.proofs.BaseLemmas.{belongs_parts}
 use Rattle.bdb_base.proofs.ListLemmas.{filter_all, list_all_weaker}
-use Rattle.bdb_base.proofs.UserLemmas.{comes_back, name_found, named_at, next_is_no_user, others_are_users, states_name_others, user_above, user_or_new, user_within, who_is_gone_is_no_user, who_leaves_is_gone}
+use Rattle.bdb_base.proofs.UserLemmas.{comes_back, name_found, named_at, next_is_no_user, others_are_users, plain_at, states_name_others, user_above, user_or_new, user_within, who_is_gone_is_no_user, who_leaves_is_gone}
 use Rattle.bdb_keep.specs.Seen.{Seen}
 use Rattle.bdb_keep.specs.Tables.{Tables}
 use Rattle.bdb_key.specs.Grammar.{IsNum, IsPlain}
@@ -217,15 +217,6 @@ all_and_he k uid user i =
       | inl s ↦ ap (λ b. b || (not b && is_user k.users i)) s ∙ sym (ap (is_user k.users) (eqb-true i uid s) ∙ user)
       | inr d ↦ ap (λ b. b || (not b && is_user k.users i)) d
     ]
-
-plain_at : (users : List UserSlot) (at : ℕ) (name : List ℕ) → list_all is_plain (user_names users) ≡ true → slice_get users at ≡ Some (Live name) → is_plain name ≡ true
-plain_at [] at name h e = absurd (none-some (Live name) e)
-plain_at (Live n ∷ us) zero name h e =
-    let s : n ≡ name = cc in
-    ap is_plain (sym s) ∙ (and_parts (is_plain n) (list_all is_plain (user_names us)) h).0
-plain_at (Gone ∷ us) zero name h e = cc
-plain_at (Live n ∷ us) (suc at) name h e = plain_at us at name (and_parts (is_plain n) (list_all is_plain (user_names us)) h).1 e
-plain_at (Gone ∷ us) (suc at) name h e = plain_at us at name h e
 
 -- he has a name that may be written
 pub name_is_plain : (t : Tables) (uid : ℕ) (name : List ℕ) → SomeMayLoseName t (UserDropped uid name) → IsPlain name

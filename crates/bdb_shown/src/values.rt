@@ -1,16 +1,16 @@
 // The texts of values, from their bytes.
-ghost use Rattle.std.specs.Prelude.{◌≡◌, ◌-◌, ◌<◌, ◌≤◌, ◌^◌, [], ◌∷◌, ◌++◌, ℕ, List, true, length, drop, take, FitsSigned, IfOk, OnOk, MatchOption};
-ghost use Rattle.std.specs.Int.{w64, to_be_bytes};
+ghost use Rattle.std.specs.Prelude.{◌≡◌, ◌-◌, ◌<◌, ◌≤◌, [], ◌∷◌, ◌++◌, ℕ, List, true, length, drop, take, IfOk, OnOk, MatchOption};
 ghost use Rattle.std.specs.List.{flat_map, list_all};
 ghost use Rattle.bdb_base.specs.Texts.{quoted, quoted_byte, value_text};
 ghost use Rattle.bdb_base.specs.declared.kinds.Value.{Value};
-ghost use Rattle.bdb_key.specs.Bytes.{int_bytes, value_bytes, values_bytes};
+ghost use Rattle.bdb_key.specs.Bytes.{value_bytes, values_bytes};
 ghost use Rattle.bdb_key.specs.Grammar.{ArePlain, IsPlainValue};
-ghost use Rattle.bdb_key.specs.Reading.{EndsAt, Leads, NoneLeads, Reads};
+ghost use Rattle.bdb_key.specs.Reading.{EndsAt, Leads, Reads};
 ghost use Rattle.bdb_render.specs.Replies.{row_text};
 ghost use Rattle.bdb_shown.specs.Rows.{stands_alone};
 
 use bdb_base::append_int;
+use bdb_key::int_of;
 use std::alloc::AllocError;
 
 /// Appends the values that these bytes are, with a comma and a space between each two.
@@ -44,31 +44,6 @@ fn append_value<'a>(out: &mut Vec<u8>, bytes: &'a [u8]) -> Result<&'a [u8], Allo
             Ok(rest)
         }
     }
-}
-
-// The integer at the front of these bytes, and the bytes behind it.
-fn int_of(bytes: &[u8]) -> Option<(i64, &[u8])>
-    ensures { MatchOption result (NoneLeads (FitsSigned w64) int_bytes bytes.now)
-        (λ x. Leads (FitsSigned w64) int_bytes bytes.now x.0 x.1.now) }
-{
-    let [1, rest @ ..] = bytes else {
-        return None;
-    };
-    let (raised, rest) = u64_of(rest)?;
-    Some((raised.wrapping_sub(1 << 63).cast_signed(), rest))
-}
-
-// The number of eight bytes at the front of these bytes, and the bytes behind it.
-fn u64_of(bytes: &[u8]) -> Option<(u64, &[u8])>
-    ensures { MatchOption result (NoneLeads (λ n. n < 2 ^ 64) (to_be_bytes w64) bytes.now)
-        (λ x. Leads (λ n. n < 2 ^ 64) (to_be_bytes w64) bytes.now x.0 x.1.now) }
-{
-    if bytes.len() < 8 {
-        return None;
-    }
-    let (b, rest) = bytes.split_at(8);
-    let n = u64::from_be_bytes([b[0], b[1], b[2], b[3], b[4], b[5], b[6], b[7]]);
-    Some((n, rest))
 }
 
 // The bytes behind the first one, which tells that a text comes.

@@ -21,7 +21,7 @@ use Rattle.bdb_base.specs.declared.kinds.Sign.TheVariants.{Plus, Minus}
 use Rattle.bdb_base.specs.declared.kinds.Stmt.{Stmt}
 use Rattle.bdb_base.specs.declared.kinds.Value.{Value}
 use Rattle.bdb_base.specs.declared.tuple.Tuple.{Tuple}
-use Rattle.bdb_base.proofs.BaseLemmas.{belongs_parts}
+use Rattle.bdb_base.proofs.BaseLemmas.{belongs_parts, clash_elsewhere, contradicted_elsewhere}
 use Rattle.bdb_base.proofs.ClashLemmas.{clash_by_length}
 use Rattle.bdb_base.proofs.SetLemmas.{list_all-put_in}
 use Rattle.bdb_canon.specs.Canonical.{row_count}
@@ -33,15 +33,6 @@ use Rattle.bdb_tables.specs.Marks.{mark_of, marked, sign_by}
 use Rattle.bdb_tables.specs.Rows.{HoldsTuples, Tuples, row_for, row_named}
 
 -- ---- worlds by other lengths of keys
-
-clash_elsewhere : (keys more : ℕ → ℕ) (t : Tuple) (s : Sign) (u : Tuple) (r : Sign) → more t.rel ≡ keys t.rel → clash more t s u r ≡ clash keys t s u r
-clash_elsewhere keys more t s u r e = sym (clash_by_length more t s u r) ∙ ap (λ n. clash (λ _. n) t s u r) e ∙ clash_by_length keys t s u r
-
-contradicted_elsewhere : (keys more : ℕ → ℕ) (stmts : List Stmt) (w : List ℕ) (t : Tuple) (s : Sign) → more t.rel ≡ keys t.rel → contradicted more stmts w t s ≡ contradicted keys stmts w t s
-contradicted_elsewhere keys more [] w t s e = refl
-contradicted_elsewhere keys more (x ∷ xs) w t s e =
-    ap (λ b. (same_path x.path w && b) || contradicted more xs w t s) (clash_elsewhere keys more t s x.tuple x.sign e)
-    ∙ ap (λ b. (same_path x.path w && clash keys t s x.tuple x.sign) || b) (contradicted_elsewhere keys more xs w t s e)
 
 -- a world has a tuple with a sign by the length of the keys of the tuple's relation alone
 stated_elsewhere : (keys more : ℕ → ℕ) (stmts : List Stmt) (w : List ℕ) (t : Tuple) (s : Sign) → more t.rel ≡ keys t.rel → stated more stmts w t s ≡ stated keys stmts w t s

@@ -25,7 +25,7 @@ use Rattle.bdb_base.proofs.ClashLemmas.{turned}
 use Rattle.bdb_base.proofs.CountLemmas.{list_any-map, distinct_count-le, distinct_count-same, one_unless}
 use Rattle.bdb_base.proofs.ListLemmas.{list_all_weaker, list_all_both, list_any_fails, filter_kept_one, filter_dropped_one}
 use Rattle.bdb_base.proofs.SetLemmas.{put_keeps_order, filter_keeps_order, members_make_set, is_eq-Equal}
-use Rattle.bdb_base.proofs.UpdateLemmas.{list_any-with, list_all-with, with_keeps_order}
+use Rattle.bdb_base.proofs.UpdateLemmas.{list_any-with, list_all-with, with_keeps_order, none_passes, is_free, is_free_at, is_free_elsewhere, free_everywhere}
 use Rattle.bdb_paths.proofs.StateLemmas.{state_is_listed}
 use Rattle.bdb_update.specs.Calls.{without_statements, are_apart}
 use Rattle.bdb_update.specs.Reached.{told_elsewhere, lost_of, fresh_of}
@@ -72,40 +72,6 @@ first_is_valid c xs x come s v = part_is_valid c (with_statement xs x) (with_sta
     (λ z e. list_any-with (λ y. is_eq (statement_cmp y z)) (with_statement xs x) come ∙ or_left (stands (with_statement xs x) z) (stands come z) e) v
 
 -- ---- statements in place of others
-
--- each item fails a test that finds none
-none_passes : {X : Type 0} (p : X → Bool) (xs : List X) → find p xs ≡ None → list_all (λ x. not (p x)) xs ≡ true
-none_passes p [] e = refl
-none_passes p (x ∷ xs) e = elim (cases_Bool (p x)) [
-  | inl a ↦ let k : cond (p x) (Some x) (find p xs) ≡ Some x = cond-true (p x) (Some x) (find p xs) a in cc
-  | inr b ↦
-      let k : cond (p x) (Some x) (find p xs) ≡ find p xs = cond-false (p x) (Some x) (find p xs) b in
-      and_from (not (p x)) (list_all (λ y. not (p y)) xs) (not_from_false (p x) b) (none_passes p xs (sym k ∙ e))
-]
-
--- a statement clashes with none of its path
-abbrev is_free : (ℕ → ℕ) → List Stmt → Stmt → Bool
-is_free keys stmts x = not (contradicted keys stmts x.path x.tuple x.sign)
-
--- a statement is not one of this very path that clashes with another of it
-abbrev is_free_at : (ℕ → ℕ) → List Stmt → List ℕ → Stmt → Bool
-is_free_at keys stmts w x = not (same_path x.path w && contradicted keys stmts w x.tuple x.sign)
-
--- a statement is of this very path, or clashes with none of its path
-abbrev is_free_elsewhere : (ℕ → ℕ) → List Stmt → List ℕ → Stmt → Bool
-is_free_elsewhere keys stmts w x = same_path x.path w || is_free keys stmts x
-
--- what is free at a path and elsewhere is free
-free_everywhere : (keys : ℕ → ℕ) (stmts : List Stmt) (w : List ℕ) (x : Stmt) → is_free_at keys stmts w x ≡ true → is_free_elsewhere keys stmts w x ≡ true
-    → is_free keys stmts x ≡ true
-free_everywhere keys stmts w x h g =
-    let clashes = contradicted keys stmts w x.tuple x.sign in
-    elim (or_cases (same_path x.path w) (is_free keys stmts x) g) [
-      | inl a ↦
-          let free : clashes ≡ false = sym (ap (λ b. b && clashes) a) ∙ not-true (same_path x.path w && clashes) h in
-          not_from_false (contradicted keys stmts x.path x.tuple x.sign) (ap (λ u. contradicted keys stmts u x.tuple x.sign) ((same_path-Decides x.path w).0 a) ∙ free)
-      | inr b ↦ b
-    ]
 
 -- a statement that is free stays so elsewhere than at w, where all that come are at w
 stays_free : (keys : ℕ → ℕ) (left come : List Stmt) (w : List ℕ) → list_all (λ y. same_path y.path w) come ≡ true

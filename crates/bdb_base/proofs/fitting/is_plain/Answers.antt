@@ -4,7 +4,7 @@ use Rattle.std.specs.Str.{is_utf8, IsUtf8}
 use Rattle.std.proofs.lemmas.Bool.{le-leb}
 use Rattle.std.proofs.lemmas.Str.{is_utf8-from_IsUtf8}
 use Rattle.bdb_base.specs.Bases.{is_plain}
-use Rattle.bdb_entries.proofs.validity.is_plain.Goals as goal
+use Rattle.bdb_base.proofs.fitting.is_plain.Goals as goal
 
 plain_by : (text bytes : List ℕ) (b : Bool) → bytes ≡ text → length text ≤ 255 → IsUtf8 bytes → b ≡ list_all (λ c. nat_le 32 c) bytes → b ≡ is_plain text
 plain_by text bytes b same short utf8 e =

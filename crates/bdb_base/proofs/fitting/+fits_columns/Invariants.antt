@@ -1,5 +1,5 @@
 use Rattle.std.proofs.Common.{length}
-use Rattle.bdb_model.proofs.fitting.+fits_columns.Given as goal
+use Rattle.bdb_base.proofs.fitting.+fits_columns.Given as goal
 
 abbrev pub decreases-fits_columns : goal.decreases-fits_columns
 decreases-fits_columns l = length l.cols.now

@@ -1,12 +1,13 @@
-// Whether values fit the columns of a relation.
+// Whether texts are plain, and values fit the columns of a relation.
 ghost use Rattle.std.specs.Prelude.{◌≡◌, nat_le};
 ghost use Rattle.std.specs.List.{list_all, slice_get};
 ghost use Rattle.bdb_base.specs.Bases.{is_plain, fits_kind, fits_columns, fits_definition};
 
-use bdb_base::limits::LONGEST_TEXT;
-use bdb_base::{ColDef, Kind, RelDef, Txt, Value};
+use crate::kinds::{ColDef, Kind, RelDef, Value};
+use crate::limits::LONGEST_TEXT;
+use crate::text::Txt;
 
-/// Whether values fit a relation, if there is one of this number: one for each column, of its kind.
+/// Whether values fit the relation of a number, if there is one: a value for each column, of its kind.
 pub fn fits_relation(rels: &[RelDef], rel: u32, vals: &[Value]) -> bool
     ensures { result ≡ fits_definition (slice_get rels.now rel) vals.now }
 {
@@ -39,14 +40,15 @@ fn fits_kind(kind: Kind, value: &Value) -> bool
 }
 
 /// Whether a text is plain: not too long, and without a character below U+0020.
-fn is_plain(text: &Txt) -> bool
+pub fn is_plain(text: &Txt) -> bool
     ensures { result ≡ is_plain text.now }
 {
     text.len() <= LONGEST_TEXT && are_printable(text.as_str().as_bytes())
 }
 
-fn are_printable(bytes: &[u8]) -> bool
+/// Whether no byte is one of a character below U+0020.
+pub fn are_printable(bytes: &[u8]) -> bool
     ensures { result ≡ list_all (λ c. nat_le 32 c) bytes.now }
 {
-    bytes.iter().all(|c| 32 <= *c)
+    bytes.iter().all(|byte| 32 <= *byte)
 }
