@@ -1,20 +1,12 @@
 // The different tuples of statements.
 ghost use Rattle.std.specs.Prelude.{◌≡◌, IfOk};
-ghost use Rattle.bdb_base.specs.Bases.{has_tuple, tuple_count};
+ghost use Rattle.bdb_base.specs.Bases.{tuple_count};
 
 use crate::kinds::Stmt;
 use crate::list::List;
-use crate::order::cmp_tuple;
 use crate::ordered::put_copy;
 use crate::tuple::Tuple;
 use std::alloc::{AllocError, Global};
-
-/// Whether a statement has the tuple.
-pub fn has_tuple(stmts: &[Stmt], t: &Tuple) -> bool
-    ensures { result ≡ has_tuple stmts.now t.now }
-{
-    stmts.iter().any(|stmt| cmp_tuple(t, &stmt.tuple).is_eq())
-}
 
 /// How many different tuples the statements have. It keeps a sorted list of them, so that each look-up is a binary search.
 pub fn distinct_tuples(alloc: Global, stmts: &[Stmt]) -> Result<usize, AllocError>

@@ -30,7 +30,7 @@ pub use base::Base;
 pub use changes::changed;
 pub use conditions::{compares, meets};
 pub use conflict::{clash, key_length, key_of, same_key, same_tuple, same_value, same_values};
-pub use counts::{distinct_tuples, has_tuple};
+pub use counts::distinct_tuples;
 pub use fitting::{are_printable, fits_relation, is_plain};
 pub use kinds::{
     Catalog, Cmp, ColDef, Cond, Held, Item, Kind, Operand, Query, Ref, RelDef, SetCol, Sign, Stmt,
