@@ -16,8 +16,7 @@ use Rattle.bdb_session.specs.UndoRuns.{replies as replies_to}
 use Rattle.bdb_session.specs.declared.event.Event.{Event}
 use Rattle.bdb_session.proofs.OpenLemmas.{empty_is_valid}
 use Rattle.bdb_session.proofs.UndoErrorLemmas.{undo_runs_tell_errors}
-use Rattle.bdb_top.specs.Ran.{EachBase, Ran}
-use Rattle.bdb_top.specs.RanMany.{RanMany}
+use Rattle.bdb_top.specs.Ran.{EachBase, Ran, RanMany}
 use Rattle.bdb_top.specs.TellsErrors.{EndsInErrors, EndsInRefusals, StatusTellsErrors, StatusTellsRefusals}
 use Rattle.bdb_undo.specs.Timelines.{Timeline, started}
 
@@ -80,7 +79,7 @@ module _ (s : Timeline) (v : HasValidBases s) (text : List ℕ) (left : Option (
     | inr other ↦
         let last : status ≤ 1 = k.ended in
         let none : status ≡ 0 = omega (arith, other) in
-        absurd (false≢true (sym (undo_runs_tell_errors s (events_of text) v ∙ ap not (h.accepted none)) ∙ k.errors))
+        absurd (false≢true (sym (undo_runs_tell_errors s (events_of text) v ∙ ap not (h.fine none)) ∙ k.errors))
   ]
 
 started_valid : (t : Tables) (b : Contents) → StandFor t b → HasValidBases (started b)

@@ -1,24 +1,23 @@
 -- How a run ends, by its status.
 use Rattle.std.proofs.Common.{◌≡◌, ◌≢◌, ◌∙◌, ℕ, ◌-◌, ◌^◌, ◌<◌, ◌≤◌, ◌⊎◌, inl, inr, zero, suc, Bool, true, false, List, [], ◌∷◌, ◌++◌, Option, Some, None, Result, Ok, Err, IfSome, IsErrOf, OnOk, length, refl, ap, sym, subst, arith}
 use Rattle.std.specs.Io.KnownBytes.{Appends, IsAtEnd}
+use Rattle.bdb_base.specs.Bases.{Contents}
 use Rattle.bdb_base.specs.Causes.{Rises}
 use Rattle.bdb_base.specs.Limits.{longest_script}
 use Rattle.bdb_catalog.specs.Bases.{StoresValid}
 use Rattle.bdb_catalog.specs.Opening.{StandFor}
 use Rattle.bdb_keep.specs.Seen.{Seen, IsStill, Unchanged}
 use Rattle.bdb_keep.specs.Tables.{Tables}
-use Rattle.bdb_session.specs.declared.event.Event.{Event}
 use Rattle.bdb_session.specs.Known.{Known, Remembers}
 use Rattle.bdb_session.specs.Opening.{opening, Opens}
-use Rattle.bdb_undo.specs.Timelines.{Timeline, started}
-use Rattle.bdb_session.specs.Runs.{events_of, IsFrontOf}
-use Rattle.bdb_session.specs.UndoRuns.{after, replies, accepts_all}
-use Rattle.bdb_stream.specs.Carried.{counted, Carried}
-use Rattle.bdb_stream.specs.Reads.{status_of}
-use Rattle.bdb_stream.specs.Streams.{KeepsUp, Streams}
+use Rattle.bdb_stream.specs.Carried.{by_session, session_in_order}
+use Rattle.bdb_stream.specs.Handled.{Carried}
+use Rattle.bdb_stream.specs.Handling.{Handling, IsFrontOf, IsInOrder, asked_of}
+use Rattle.bdb_stream.specs.Reads.{KeepsUp, Streams, status_of}
 use Rattle.bdb_stream.specs.declared.error.RunError.{RunError}
 use Rattle.bdb_stream.specs.declared.error.RunError.TheVariants.{Source, Sink, Keeper, Memory, Large}
-use Rattle.bdb_top.specs.Ran.{EachBase, Ran, StandsForNone, CommitsFor}
+use Rattle.bdb_top.specs.Ran.{EachBase, Ran, RanBy, StandsForNone, CommitsFor}
+use Rattle.bdb_undo.specs.Timelines.{Timeline, started}
 
 append_nil : {X : Type 0} (xs : List X) → xs ++ [] ≡ xs
 append_nil [] = refl
@@ -28,160 +27,175 @@ pub nothing_grows : (a : Option (List ℕ)) → Appends a a []
 nothing_grows None = tt
 nothing_grows (Some s) = sym (append_nil s)
 
--- What a run from a base leaves of a keeper that was opened: the tables store the base after these events, and there was a
--- commit for each that counts.
-record Left (s : Timeline) (done : List Event) (first now : Seen) : Type 0 where
-  stores : StoresValid now.last (after s done).now
-  commits : CommitsFor (counted s done) first now
-
 -- the commits of events, behind that of opening
-pub commits_on : (k n a m z : ℕ) → Rises n a m → Rises k m z → z < 2 ^ 64 - 1 → k ≡ z - a - n
+commits_on : (k n a m z : ℕ) → Rises n a m → Rises k m z → z < 2 ^ 64 - 1 → k ≡ z - a - n
 commits_on k n a m z h i below =
     let last = i below in
     let first = h (omega arith) in
     omega arith
 
-left_by : (s : Timeline) (done : List Event) (session : Known) (first mid now : Seen)
-    → Rises (opening first.kept) first.commits mid.commits → Carried s done session mid now → IsStill now → Left s done first now
-left_by s done session first mid now opened carried still = record {
-  stores = subst (λ (t : Tables). StoresValid t (after s done).now) still.rest carried.agrees.agrees.base;
-  commits = commits_on (counted s done) (opening first.kept) first.commits mid.commits now.commits opened carried.commits;
-}
+-- A run from a point by a handler: it handles several things one after the other, and where its session agrees with tables on a
+-- point, they store the base of that point.
+module _ {H : Type 0} (m : Handling H) (o : IsInOrder m) (base_at : m.Point → Contents)
+    (agreed : (t : Tables) (k : Known) (p : m.Point) → m.Agrees t k p → StoresValid t (base_at p)) where
+  -- What it leaves of a keeper that was opened: the tables store the base after what is done, and there was a commit for each time
+  -- that it commits.
+  record Left (p : m.Point) (done : List m.Asked) (first now : Seen) : Type 0 where
+    stores : StoresValid now.last (base_at (m.after p done))
+    commits : CommitsFor (m.committed p done) first now
 
--- a run that stopped with whole replies
-early : (s : Timeline) (text : List ℕ) (left : Option (List ℕ)) (first now : Seen) (old new : Option (List ℕ)) (status : ℕ) (done : List Event) → IsFrontOf done (events_of text)
-    → Left s done first now → Appends old new (replies s done) → KeepsUp s (Some text) left done old new status → 2 ≤ status → status ≢ 4 → Ran s text left first now old new status
-early s text left first now old new status done front leaves written keeps_up high not_sink = record {
-  done = done;
-  front = front;
-  stands = inl leaves.stores;
-  stores = λ _ _. leaves.stores;
-  committed = λ _. leaves.stores;
-  commits = leaves.commits;
-  written = λ _. written;
-  part = λ e. absurd (not_sink e);
-  all = λ low. absurd (omega arith);
-  accepted = λ e. absurd (omega arith);
-  refused = λ e. absurd (omega arith);
-  keeps_up = keeps_up;
-}
+  left_by : (p : m.Point) (done : List m.Asked) (session : Known) (first mid now : Seen)
+      → Rises (opening first.kept) first.commits mid.commits → Carried m p done session mid now → IsStill now → Left p done first now
+  left_by p done session first mid now opened carried still = record {
+    stores = subst (λ (t : Tables). StoresValid t (base_at (m.after p done))) still.rest (agreed now.kept session (m.after p done) carried.agrees);
+    commits = commits_on (m.committed p done) (opening first.kept) first.commits mid.commits now.commits opened carried.commits;
+  }
 
--- a run whose keeper was not opened
-closed : (s : Timeline) (text : List ℕ) (first now : Seen) (old : Option (List ℕ)) (status : ℕ)
-    → StandFor first.kept s.now → IsStill now → Unchanged first now → (status ≡ 5) ⊎ (status ≡ 6) → Ran s text (Some text) first now old old status
-closed s text first now old status stands still same is = record {
-  done = [];
-  front = (events_of text, refl);
-  stands = subst (λ (t : Tables). StandFor t s.now) (sym same.kept ∙ still.rest) stands;
-  stores = λ not_five not_six. absurd (elim is [ inl e ↦ not_five e | inr e ↦ not_six e ]);
-  committed = λ more. absurd (more same.commits);
-  commits = λ _. none now.commits first.commits (opening first.kept) same.commits;
-  written = λ _. nothing_grows old;
-  part = λ e. absurd (elim is [ inl f ↦ omega arith | inr f ↦ omega arith ]);
-  all = λ low. absurd (elim is [ inl f ↦ omega arith | inr f ↦ omega arith ]);
-  accepted = λ e. absurd (elim is [ inl f ↦ omega arith | inr f ↦ omega arith ]);
-  refused = λ e. absurd (elim is [ inl f ↦ omega arith | inr f ↦ omega arith ]);
-  keeps_up = record {
-    taken = [];
-    consumed = refl;
-    caught = record { first = ([], refl); replied = ([], nothing_grows old) };
-    source = λ e. absurd (elim is [ inl f ↦ omega arith | inr f ↦ omega arith ]);
-    large = λ e. absurd (elim is [ inl f ↦ omega arith | inr f ↦ omega arith ]);
-  };
-}
-  where
-    none : (a m n : ℕ) → a ≡ m → 0 ≡ a - m - n
-    none a m n e = omega arith
+  -- a run that stopped with whole replies
+  early : (p : m.Point) (text : List ℕ) (left : Option (List ℕ)) (first now : Seen) (old new : Option (List ℕ)) (status : ℕ) (done : List m.Asked) → IsFrontOf done (asked_of m text)
+      → Left p done first now → Appends old new (m.replies p done) → KeepsUp m p (Some text) left done old new status → 2 ≤ status → status ≢ 4 → RanBy m base_at p text left first now old new status
+  early p text left first now old new status done front leaves written keeps_up high not_sink = record {
+    done = done;
+    front = front;
+    stands = inl leaves.stores;
+    stores = λ _ _. leaves.stores;
+    committed = λ _. leaves.stores;
+    commits = leaves.commits;
+    written = λ _. written;
+    part = λ e. absurd (not_sink e);
+    all = λ low. absurd (omega arith);
+    fine = λ e. absurd (omega arith);
+    refused = λ e. absurd (omega arith);
+    keeps_up = keeps_up;
+  }
 
--- the same for each base and text
+  -- nothing is written of nothing that is done
+  nothing_written : (p : m.Point) (old : Option (List ℕ)) → Appends old old (m.replies p [])
+  nothing_written p old = subst (λ (l : List ℕ). Appends old old l) (sym (o.no_reply p)) (nothing_grows old)
+
+  -- a run whose keeper was not opened
+  pub closed : (p : m.Point) (text : List ℕ) (first now : Seen) (old : Option (List ℕ)) (status : ℕ)
+      → StandFor first.kept (base_at p) → IsStill now → Unchanged first now → (status ≡ 5) ⊎ (status ≡ 6) → RanBy m base_at p text (Some text) first now old old status
+  closed p text first now old status stands still same is = record {
+    done = [];
+    front = (asked_of m text, refl);
+    stands = subst (λ (q : m.Point). StandFor now.last (base_at q)) (sym (o.stays p)) (subst (λ (t : Tables). StandFor t (base_at p)) (sym same.kept ∙ still.rest) stands);
+    stores = λ not_five not_six. absurd (elim is [ inl e ↦ not_five e | inr e ↦ not_six e ]);
+    committed = λ more. absurd (more same.commits);
+    commits = λ _. o.no_commit p ∙ none now.commits first.commits (opening first.kept) same.commits;
+    written = λ _. nothing_written p old;
+    part = λ e. absurd (elim is [ inl f ↦ omega arith | inr f ↦ omega arith ]);
+    all = λ low. absurd (elim is [ inl f ↦ omega arith | inr f ↦ omega arith ]);
+    fine = λ e. absurd (elim is [ inl f ↦ omega arith | inr f ↦ omega arith ]);
+    refused = λ e. absurd (elim is [ inl f ↦ omega arith | inr f ↦ omega arith ]);
+    keeps_up = record {
+      taken = [];
+      consumed = refl;
+      caught = record { first = ([], refl); replied = ([], subst (λ (l : List ℕ). Appends old old l) (sym (append_nil (m.replies p []))) (nothing_written p old)) };
+      source = λ e. absurd (elim is [ inl f ↦ omega arith | inr f ↦ omega arith ]);
+      large = λ e. absurd (elim is [ inl f ↦ omega arith | inr f ↦ omega arith ]);
+    };
+  }
+    where
+      none : (a m n : ℕ) → a ≡ m → 0 ≡ a - m - n
+      none a m n e = omega arith
+
+  -- a run that has come through all that the text asks for
+  through : (p : m.Point) (text : List ℕ) (left : Option (List ℕ)) (first now : Seen) (old new : Option (List ℕ)) (fine : Bool) (done : List m.Asked) → done ≡ asked_of m text → IsFrontOf done (asked_of m text)
+      → Left p done first now → Appends old new (m.replies p done) → fine ≡ m.all_fine p done → KeepsUp m p (Some text) left done old new (status_of (Ok fine)) → RanBy m base_at p text left first now old new (status_of (Ok fine))
+  through p text left first now old new true done is front leaves written told keeps_up = record {
+    done = done;
+    front = front;
+    stands = inl leaves.stores;
+    stores = λ _ _. leaves.stores;
+    committed = λ _. leaves.stores;
+    commits = leaves.commits;
+    written = λ _. written;
+    part = λ e. absurd (omega arith);
+    all = λ _. is;
+    fine = λ _. sym (told ∙ ap (m.all_fine p) is);
+    refused = λ e. absurd (omega arith);
+    keeps_up = keeps_up;
+  }
+  through p text left first now old new false done is front leaves written told keeps_up = record {
+    done = done;
+    front = front;
+    stands = inl leaves.stores;
+    stores = λ _ _. leaves.stores;
+    committed = λ _. leaves.stores;
+    commits = leaves.commits;
+    written = λ _. written;
+    part = λ e. absurd (omega arith);
+    all = λ _. is;
+    fine = λ e. absurd (omega arith);
+    refused = λ _. sym (told ∙ ap (m.all_fine p) is);
+    keeps_up = keeps_up;
+  }
+
+  pub ran_from : (p : m.Point) (text : List ℕ) (left : Option (List ℕ)) (session : Known) (first mid now : Seen) (old new : Option (List ℕ)) (result : Result Bool RunError)
+      → Rises (opening first.kept) first.commits mid.commits → IsStill now → Streams m p (Some text) left session mid now old new result → RanBy m base_at p text left first now old new (status_of result)
+  ran_from p text left session first mid now old new (Ok fine) opened still run =
+      through p text left first now old new fine run.done run.all run.front (left_by p run.done session first mid now opened run.carried still) run.written run.fine run.keeps_up
+  ran_from p text left session first mid now old new (Err Source) opened still run =
+      early p text left first now old new 3 run.done run.front (left_by p run.done session first mid now opened run.carried still) run.written run.keeps_up (omega arith) (λ e. omega arith)
+  ran_from p text left session first mid now old new (Err Keeper) opened still run =
+      early p text left first now old new 5 run.done run.front (left_by p run.done session first mid now opened run.carried still) run.written run.keeps_up (omega arith) (λ e. omega arith)
+  ran_from p text left session first mid now old new (Err Memory) opened still run =
+      early p text left first now old new 6 run.done run.front (left_by p run.done session first mid now opened run.carried still) run.written run.keeps_up (omega arith) (λ e. omega arith)
+  ran_from p text left session first mid now old new (Err Large) opened still run =
+      early p text left first now old new 8 run.done run.front (left_by p run.done session first mid now opened run.carried still) run.written run.keeps_up (omega arith) (λ e. omega arith)
+  ran_from p text left session first mid now old new (Err Sink) opened still run =
+      let leaves = left_by p run.done session first mid now opened run.carried still in
+      record {
+        done = run.done;
+        front = run.front;
+        stands = inl leaves.stores;
+        stores = λ _ _. leaves.stores;
+        committed = λ _. leaves.stores;
+        commits = leaves.commits;
+        written = λ h. absurd (h refl);
+        part = λ _. run.written;
+        all = λ low. absurd (omega arith);
+        fine = λ e. absurd (omega arith);
+        refused = λ e. absurd (omega arith);
+        keeps_up = run.keeps_up;
+      }
+
+-- ---- for each base
+
+-- where the tables stand for no base there is nothing to tell of a run
+pub each_refused : (P : List ℕ → Contents → Type 0) (before : Option (List ℕ)) (t : Tables) → StandsForNone t → IfSome before (λ text. EachBase t (P text))
+each_refused P None t none = tt
+each_refused P (Some text) t none = λ b stands. absurd (none b stands)
+
+-- what holds with a status holds with the same number
+pub each_status : (P : ℕ → List ℕ → Contents → Type 0) (before : Option (List ℕ)) (t : Tables) (status number : ℕ) → status ≡ number
+    → IfSome before (λ text. EachBase t (P number text)) → IfSome before (λ text. EachBase t (P status text))
+each_status P before t status number is ran = subst (λ (n : ℕ). IfSome before (λ text. EachBase t (P n text))) (sym is) ran
+
+-- ---- scripts
+
+remembered : (t : Tables) (k : Known) (s : Timeline) → Remembers t k s → StoresValid t s.now
+remembered t k s h = h.agrees.base
+
+-- a run whose keeper was not opened, for each base and script
 pub each_closed : (before : Option (List ℕ)) (first now : Seen) (old : Option (List ℕ)) (status : ℕ)
     → IsStill now → Unchanged first now → (status ≡ 5) ⊎ (status ≡ 6)
     → IfSome before (λ text. EachBase first.kept (λ b. Ran (started b) text before first now old old status))
 each_closed None first now old status still same is = tt
-each_closed (Some text) first now old status still same is = λ b stands. closed (started b) text first now old status stands still same is
-
--- where the tables stand for no base there is nothing to tell of a run
-pub each_refused : (before : Option (List ℕ)) (first now : Seen) (old : Option (List ℕ)) (status : ℕ) → StandsForNone first.kept
-    → IfSome before (λ text. EachBase first.kept (λ b. Ran (started b) text before first now old old status))
-each_refused None first now old status none = tt
-each_refused (Some text) first now old status none = λ b stands. absurd (none b stands)
-
--- a run that has come through all its events
-through : (s : Timeline) (text : List ℕ) (left : Option (List ℕ)) (first now : Seen) (old new : Option (List ℕ)) (accepted : Bool) (done : List Event) → done ≡ events_of text → IsFrontOf done (events_of text)
-    → Left s done first now → Appends old new (replies s done) → accepted ≡ accepts_all s done → KeepsUp s (Some text) left done old new (status_of (Ok accepted)) → Ran s text left first now old new (status_of (Ok accepted))
-through s text left first now old new true done is front leaves written none keeps_up = record {
-  done = done;
-  front = front;
-  stands = inl leaves.stores;
-  stores = λ _ _. leaves.stores;
-  committed = λ _. leaves.stores;
-  commits = leaves.commits;
-  written = λ _. written;
-  part = λ e. absurd (omega arith);
-  all = λ _. is;
-  accepted = λ _. sym (none ∙ ap (accepts_all s) is);
-  refused = λ e. absurd (omega arith);
-  keeps_up = keeps_up;
-}
-through s text left first now old new false done is front leaves written none keeps_up = record {
-  done = done;
-  front = front;
-  stands = inl leaves.stores;
-  stores = λ _ _. leaves.stores;
-  committed = λ _. leaves.stores;
-  commits = leaves.commits;
-  written = λ _. written;
-  part = λ e. absurd (omega arith);
-  all = λ _. is;
-  accepted = λ e. absurd (omega arith);
-  refused = λ _. sym (none ∙ ap (accepts_all s) is);
-  keeps_up = keeps_up;
-}
-
-ran_from : (s : Timeline) (text : List ℕ) (left : Option (List ℕ)) (session : Known) (first mid now : Seen) (old new : Option (List ℕ)) (result : Result Bool RunError)
-    → Rises (opening first.kept) first.commits mid.commits → IsStill now → Streams s (Some text) left session mid now old new result → Ran s text left first now old new (status_of result)
-ran_from s text left session first mid now old new (Ok accepted) opened still run =
-    through s text left first now old new accepted run.done run.all run.front (left_by s run.done session first mid now opened run.carried still) run.written run.fine run.keeps_up
-ran_from s text left session first mid now old new (Err Source) opened still run =
-    early s text left first now old new 3 run.done run.front (left_by s run.done session first mid now opened run.carried still) run.written run.keeps_up (omega arith) (λ e. omega arith)
-ran_from s text left session first mid now old new (Err Keeper) opened still run =
-    early s text left first now old new 5 run.done run.front (left_by s run.done session first mid now opened run.carried still) run.written run.keeps_up (omega arith) (λ e. omega arith)
-ran_from s text left session first mid now old new (Err Memory) opened still run =
-    early s text left first now old new 6 run.done run.front (left_by s run.done session first mid now opened run.carried still) run.written run.keeps_up (omega arith) (λ e. omega arith)
-ran_from s text left session first mid now old new (Err Large) opened still run =
-    early s text left first now old new 8 run.done run.front (left_by s run.done session first mid now opened run.carried still) run.written run.keeps_up (omega arith) (λ e. omega arith)
-ran_from s text left session first mid now old new (Err Sink) opened still run =
-    let leaves = left_by s run.done session first mid now opened run.carried still in
-    record {
-      done = run.done;
-      front = run.front;
-      stands = inl leaves.stores;
-      stores = λ _ _. leaves.stores;
-      committed = λ _. leaves.stores;
-      commits = leaves.commits;
-      written = λ h. absurd (h refl);
-      part = λ _. run.written;
-      all = λ low. absurd (omega arith);
-      accepted = λ e. absurd (omega arith);
-      refused = λ e. absurd (omega arith);
-      keeps_up = run.keeps_up;
-    }
+each_closed (Some text) first now old status still same is = λ b stands.
+    (closed by_session session_in_order (λ t. t.now) remembered) (started b) text first now old status stands still same is
 
 -- a run over what the source gives, from each base that the tables stand for
 pub each_run : (before left : Option (List ℕ)) (session next : Known) (first mid now : Seen) (old new : Option (List ℕ)) (result : Result Bool RunError)
     → Opens first.kept mid.kept session → Rises (opening first.kept) first.commits mid.commits → IsStill now
-    → ((s : Timeline) → Remembers mid.kept session s → Streams s before left next mid now old new result)
+    → ((s : Timeline) → Remembers mid.kept session s → Streams by_session s before left next mid now old new result)
     → IfSome before (λ text. EachBase first.kept (λ b. Ran (started b) text left first now old new (status_of result)))
 each_run None left session next first mid now old new result opens opened still run = tt
 each_run (Some text) left session next first mid now old new result opens opened still run = λ b stands.
-    ran_from (started b) text left next first mid now old new result opened still (run (started b) (opens b stands))
+    (ran_from by_session session_in_order (λ t. t.now) remembered) (started b) text left next first mid now old new result opened still (run (started b) (opens b stands))
 
--- the same run, by what its status is
-pub each_status : (before left : Option (List ℕ)) (first now : Seen) (old new : Option (List ℕ)) (status number : ℕ) → status ≡ number
-    → IfSome before (λ text. EachBase first.kept (λ b. Ran (started b) text left first now old new number))
-    → IfSome before (λ text. EachBase first.kept (λ b. Ran (started b) text left first now old new status))
-each_status before left first now old new status number is ran =
-    subst (λ (n : ℕ). IfSome before (λ text. EachBase first.kept (λ b. Ran (started b) text left first now old new n))) (sym is) ran
+-- ---- how it ends, by the status
 
 -- the status of a run that was begun
 pub run_status : (n : ℕ) (r : Result Bool RunError) → n ≡ status_of r → (n ≤ 8) × (n ≢ 2)

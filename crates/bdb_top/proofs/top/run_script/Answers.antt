@@ -4,13 +4,13 @@ use Rattle.bdb_top.proofs.RanLemmas.{but_for_large, each_closed, each_refused, e
 use Rattle.bdb_top.proofs.top.run_script.Goals as goal
 
 pub returns-in-Err-Damaged-clause-ran : goal.returns-in-Err-Damaged-clause-ran
-returns-in-Err-Damaged-clause-ran g c = each_refused _ _ _ _ _ (c.in-Err-Damaged.ensures.damaged (ap Err c.in-Err-Damaged.field-0-is)).none
+returns-in-Err-Damaged-clause-ran g c = each_refused _ _ _ (c.in-Err-Damaged.ensures.damaged (ap Err c.in-Err-Damaged.field-0-is)).none
 
 pub returns-in-Err-Damaged-clause-refused : goal.returns-in-Err-Damaged-clause-refused
 returns-in-Err-Damaged-clause-refused g c = λ _. (c.in-Err-Damaged.ensures.damaged (ap Err c.in-Err-Damaged.field-0-is)).none
 
 pub returns-in-Err-Format-clause-ran : goal.returns-in-Err-Format-clause-ran
-returns-in-Err-Format-clause-ran g c = each_refused _ _ _ _ _ (c.in-Err-Format.ensures.format _ (ap Err c.in-Err-Format.field-0-is)).none
+returns-in-Err-Format-clause-ran g c = each_refused _ _ _ (c.in-Err-Format.ensures.format _ (ap Err c.in-Err-Format.field-0-is)).none
 
 pub returns-in-Err-Format-clause-refused : goal.returns-in-Err-Format-clause-refused
 returns-in-Err-Format-clause-refused g c = λ _. (c.in-Err-Format.ensures.format _ (ap Err c.in-Err-Format.field-0-is)).none
@@ -23,7 +23,7 @@ returns-in-Err-Memory-clause-ran g c = each_closed _ _ _ _ _ c.open.ensures.stil
 
 pub returns-clause-ran : goal.returns-clause-ran
 returns-clause-ran g c =
-    each_status _ _ _ _ _ _ _ _ c.status_of.ensures
+    each_status _ _ _ _ _ c.status_of.ensures
     (each_run _ _ c.in-Ok.session c.carry_out_script.new.session _ (g.K.Keeper.seen c.open.new.keeper) _ _ _ c.carry_out_script.result c.in-Ok.ensures.opened c.in-Ok.ensures.commits
     c.carry_out_script.ensures.still c.carry_out_script.ensures.streams)
 
