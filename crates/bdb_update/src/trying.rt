@@ -10,7 +10,7 @@ ghost use Rattle.bdb_update.specs.Trying.{Tries, stopped_by};
 
 use crate::answer::UpdateError;
 use crate::inserting::{Moved, insert};
-use crate::looking::{Ready, Prospect, examine};
+use crate::looking::{Prospect, Ready, examine};
 use bdb_base::Stmt;
 use bdb_canon::Counts;
 use bdb_keep::Keeper;
