@@ -1,5 +1,5 @@
 -- The row of one user changes, and the edges for him: his place goes, he comes back to it, or he leaves it.
-use Rattle.std.proofs.Common.{◌≡◌, ◌∙◌, ℕ, zero, suc, ◌+◌, ◌-◌, ◌*◌, ◌≤◌, Bool, true, false, not, ◌&&◌, ◌||◌, nat_eq, nat_le, cond, List, [], ◌∷◌, ◌++◌, length, slice_set, refl, sym, ap, subst, inl, inr, arith, Option, Some, None}
+use Rattle.std.proofs.Common.{◌≡◌, ◌∙◌, ℕ, zero, suc, ◌+◌, ◌-◌, ◌*◌, ◌≤◌, Bool, true, false, not, ◌&&◌, ◌||◌, nat_eq, cond, List, [], ◌∷◌, ◌++◌, length, slice_set, refl, sym, ap, subst, inl, inr, arith, Option, Some, None}
 use Rattle.std.specs.List.{list_all, slice_get}
 use Rattle.std.specs.Ordering.{is_eq, nat_cmp}
 use Rattle.std.specs.FinMap as tables
@@ -26,7 +26,7 @@ use Rattle.bdb_tables.specs.Codec.{place}
 use Rattle.bdb_tables.specs.Grammar.{InGrammar}
 use Rattle.bdb_tables.specs.InUse.{meta_codec, user_codec, rel_codec, val_codec, plain_codec}
 use Rattle.bdb_tables.specs.InUseLaws.{numbers_in_order}
-use Rattle.bdb_tables.specs.Names.{Names, is_listed}
+use Rattle.bdb_tables.specs.Names.{Names}
 use Rattle.bdb_tables.specs.Rows.{Tuples}
 use Rattle.bdb_tables.specs.States.{HoldsStates}
 use Rattle.bdb_tables.specs.Stored.{SameBut, StoredAs, slot_of}
@@ -34,6 +34,7 @@ use Rattle.bdb_tables.specs.Writes.{Gives, with_change, with_row_at}
 use Rattle.bdb_tables.proofs.CatalogLemmas.{user_gone, user_set}
 use Rattle.bdb_tables.proofs.SameLemmas.{change_same, gives_still, outside_one, states_still, tuples_still}
 use Rattle.bdb_tables.proofs.WriteLemmas.{change_gives, gives_same}
+use Rattle.bdb_tables.proofs.ListLemmas.{listed_is_named}
 use Rattle.bdb_undo.specs.declared.change.Named.TheVariants.{UserAdded, UserDropped}
 use Rattle.bdb_undo.proofs.ChangeLemmas.{unnamed}
 use Rattle.bdb_update.specs.Keeping.{SameNumbers}
@@ -41,31 +42,14 @@ use Rattle.bdb_update.specs.StoredLaws.{is_edges}
 use Rattle.bdb_update.proofs.CountLemmas.{numbers_are_counted}
 use Rattle.bdb_update.proofs.GrammarLemmas.{stored_is_in_grammar}
 use Rattle.bdb_update.proofs.StayLemmas.{same_by_user}
-use Rattle.bdb_update.proofs.StoreLemmas.{outside_edges, states_as}
+use Rattle.bdb_update.proofs.StoreLemmas.{edges_alone, outside_edges, states_as}
 use Rattle.bdb_worlds.specs.Growth.{SameOutside}
 use Rattle.bdb_worlds.specs.UserEdges.{AddsUser, DropsUser, without_one_user, WritesDropped, WritesEdges}
 use Rattle.bdb_return.specs.Naming.{Leaves, LosesLastUser, LosesName, MayGetName, MayLoseName, SomeMayLeave, SomeMayLoseName, SomeUserIsLast, base_named, WritesLastUser, WritesLeave, WritesLoss}
 use Rattle.bdb_return.specs.Numbers.{IsNextUser, StoreAny}
 use Rattle.bdb_return.specs.Places.{LosesPlace, PlaceKeeps, WritesPlace}
 
--- ---- the tables of edges
-
-no_edges : (n : ℕ) → (nat_eq n 9 || nat_eq n 10) ≡ false → (nat_le 9 n && nat_le n 10) ≡ false
-no_edges n e = grind (arith, nat_tests)
-
--- the range of two tables is those of edges
-edges_alone : (t u : Tables) → SameOutside 9 10 t u → SameBut is_edges t u
-edges_alone t u same n k other = same n k (no_edges n other)
-
 -- ---- whom no state names
-
-turned : (a b : ℕ) → nat_eq a b ≡ nat_eq b a
-turned a b = grind (arith, nat_tests)
-
--- a path names a user where he is among its users
-listed_is_named : (uid : ℕ) (w : List ℕ) → is_listed uid w ≡ names_user uid w
-listed_is_named uid [] = refl
-listed_is_named uid (i ∷ w) = ap (λ b. b || is_listed uid w) (turned uid i) ∙ ap (λ b. nat_eq i uid || b) (listed_is_named uid w)
 
 -- no state of a valid base names one who is no user of it
 none_names : (k : Catalog) (stmts : List Stmt) (uid : ℕ) → IsValid k stmts → is_user k.users uid ≡ false → (w : List ℕ) → is_state stmts w ≡ true → names_user uid w ≡ false
