@@ -8,10 +8,10 @@ ghost use Rattle.bdb_update.specs.Keeping.{SameNumbers};
 ghost use Rattle.bdb_val.specs.Steps.{IsChanging};
 
 use crate::numbers::next_user;
-use bdb_base::{Txt, UserSlot};
-use bdb_catalog::put_live;
+use bdb_base::Txt;
+use bdb_catalog::{empty_place, put_live};
 use bdb_keep::Keeper;
-use bdb_tables::{TabError, UserTab, drop_row, put};
+use bdb_tables::{TabError, UserTab, drop_row};
 use bdb_worlds::{add_user_edges, drop_user_edges};
 use std::alloc::Global;
 
@@ -83,7 +83,7 @@ pub fn revive_user<K: Keeper>(
 }
 
 /// Lets a user leave whose statements are gone: the row of his place tells that he is gone, and the edge of each world for him
-/// goes. A write for his row, two writes for each world, and reads as `drop_user_edges` makes.
+/// goes. A write for his row, two writes for each world, and reads as `empty_place` makes.
 pub fn leave_place<K: Keeper>(alloc: Global, keeper: &mut K, uid: u32) -> Result<(), TabError>
     requires running { (K.seen keeper.old).running ≡ true }
     requires base { SomeMayLeave (K.seen keeper.old).kept uid }
@@ -92,11 +92,7 @@ pub fn leave_place<K: Keeper>(alloc: Global, keeper: &mut K, uid: u32) -> Result
     ensures keeps { OnOk result (SameNumbers (K.seen keeper.old).kept (K.seen keeper.new).kept) }
     ensures changing { IsChanging (K.seen keeper.old) (K.seen keeper.new) result TabError.Fault }
 {
-    match put::<UserTab, K>(alloc, keeper, &uid, &UserSlot::Gone) {
-        Ok(()) => {}
-        Err(error) => return Err(error),
-    }
-    match drop_user_edges(alloc, keeper, uid) {
+    match empty_place(alloc, keeper, uid) {
         Ok(()) => Ok(()),
         Err(error) => Err(error),
     }
