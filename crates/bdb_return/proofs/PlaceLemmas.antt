@@ -45,7 +45,7 @@ use Rattle.bdb_update.proofs.StayLemmas.{same_by_user}
 use Rattle.bdb_update.proofs.StoreLemmas.{edges_alone, outside_edges, states_as}
 use Rattle.bdb_worlds.specs.Growth.{SameOutside}
 use Rattle.bdb_worlds.specs.UserEdges.{AddsUser, DropsUser, without_one_user, WritesDropped, WritesEdges}
-use Rattle.bdb_catalog.specs.Place as place
+use Rattle.bdb_catalog.specs.Place as emptied
 use Rattle.bdb_catalog.specs.Place.{LosesUser, MayLoseUser, SomeMayLoseUser}
 use Rattle.bdb_return.specs.Naming.{Leaves, LosesLastUser, LosesName, MayGetName, MayLoseName, SomeMayLeave, SomeMayLoseName, SomeUserIsLast, base_named, WritesLastUser, WritesLeave, WritesLoss}
 use Rattle.bdb_return.specs.Numbers.{IsNextUser, StoreAny}
@@ -279,7 +279,7 @@ some_may_lose t uid s = record { base = s.some.base; may = may_lose t uid s.name
 pub user_leaves : (t u : Tables) (uid : ℕ) → LosesUser t u uid → Leaves t u uid
 user_leaves t u uid loses name a h = loses a (may_lose t uid name a h)
 
-pub leave_written : (old new : Seen) (uid : ℕ) → place.WritesPlace old new uid → WritesLeave old new uid
+pub leave_written : (old new : Seen) (uid : ℕ) → emptied.WritesPlace old new uid → WritesLeave old new uid
 leave_written old new uid writes name a h = writes a (may_lose old.kept uid name a h)
 
 -- ---- how often is written
