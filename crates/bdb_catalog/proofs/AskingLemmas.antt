@@ -27,9 +27,10 @@ use Rattle.bdb_tables.specs.InUse.{val_bytes}
 use Rattle.bdb_tables.specs.Rows.{AreKeyLengths}
 use Rattle.bdb_tables.specs.Beginnings.{is_written, led_by}
 use Rattle.bdb_tables.proofs.BeginningLemmas.{values_part}
+use Rattle.bdb_tables.proofs.ListLemmas.{prefix_append, prefix_rest}
 use Rattle.bdb_val.specs.Reads.{IsSpan}
 use Rattle.bdb_val.specs.Settling.{row_key}
-use Rattle.bdb_val.proofs.ReadLemmas.{prefix_append, prefix_rest, key_of_fits}
+use Rattle.bdb_val.proofs.ReadLemmas.{key_of_fits}
 use Rattle.bdb_catalog.specs.Taking.{asks_for, beginning, first_there, is_asked, literal_of, starts_with, value_asked, value_of_test, values_asked, values_from}
 
 -- ---- what a tuple has that meets tests

@@ -1,6 +1,7 @@
 pub mod AskingLemmas
 pub mod CreatingLemmas
 pub mod OpeningLemmas
+pub mod PlaceLemmas
 pub mod RowLemmas
 pub mod ShowingLemmas
 pub mod StoredFacts

@@ -1,7 +1,6 @@
 -- The world of a path is that of the deepest state that it ends in.
-use Rattle.std.proofs.Common.{is_some, ◌&&◌, ◌≡◌, ◌∙◌, ℕ, ◌+◌, ◌*◌, ◌≤◌, ◌<◌, Bool, true, false, nat_eq, cond, List, [], ◌∷◌, ◌++◌, refl, ap, sym, inl, inr, suc, arith, length, map, Option, Some, None}
-use Rattle.std.specs.List.{list_all, flat_map}
-use Rattle.std.specs.Option.{option_map}
+use Rattle.std.proofs.Common.{is_some, ◌&&◌, ◌≡◌, ◌∙◌, ℕ, ◌+◌, ◌*◌, ◌≤◌, ◌<◌, Bool, true, false, nat_eq, cond, List, [], ◌∷◌, ◌++◌, refl, ap, sym, inl, inr, suc, arith, length, map}
+use Rattle.std.specs.List.{flat_map}
 use Rattle.std.proofs.lemmas.Bool.{cases_Bool, false≢true, false_from_ne_true, cond-true, cond-false, eqb-true, eq-eqb}
 use Rattle.bdb_base.specs.Bases.{is_user}
 use Rattle.bdb_base.specs.States.{is_state, deepest_suffix}
@@ -16,16 +15,12 @@ use Rattle.bdb_base.specs.declared.tuple.Tuple.{Tuple}
 use Rattle.bdb_base.proofs.WorldLemmas.{nothing_stands}
 use Rattle.bdb_keep.specs.Tables.{Tables}
 use Rattle.bdb_paths.proofs.SuffixLemmas.{deepest_of_member, deepest_past, deepest_same, length-deepest, states_stand_for_paths}
-use Rattle.bdb_tables.specs.Codec.{HasAt}
-use Rattle.bdb_tables.specs.InUse.{depth_codec}
-use Rattle.bdb_tables.specs.Names.{is_named, depth_of}
-use Rattle.bdb_tables.specs.States.{HoldsStates}
+use Rattle.bdb_tables.specs.Names.{is_named}
 use Rattle.bdb_update.proofs.KeyLemmas.{lengths_fit}
 use Rattle.bdb_update.proofs.OneStored.{consistent}
 use Rattle.bdb_update.specs.Keys.{keys_of}
 use Rattle.bdb_val.specs.WorldReads.{AreRowsAt}
-use Rattle.bdb_worlds.specs.Holding.{HoldSome, StandsFor, Worlds}
-use Rattle.bdb_worlds.proofs.ReadLemmas.{depth_read}
+use Rattle.bdb_worlds.specs.Holding.{EndsAt}
 use Rattle.bdb_catalog.specs.Showing.{FindsState, IsWorldOf, PlainPathsInherit, inherited, shown}
 
 -- ---- paths that are no states
@@ -86,26 +81,11 @@ plain_paths_inherit keys stmts w e = rows_inherited keys stmts w e (tuples_of st
 
 -- ---- the state that a path ends in
 
-module _ (t : Tables) (path : List ℕ) (wid : ℕ) (stands : StandsFor t path wid) where
-  abbrev deepest : Worlds → List ℕ
-  deepest s = deepest_suffix (is_named s.names) path
-
-  -- what is found as the depth of the state is its length
-  depth_found : (s : Worlds) → HoldsStates s.users s.names t → list_all s.users path ≡ true → (found : Option ℕ) → HasAt depth_codec t wid found → found ≡ Some (length (deepest s))
-  depth_found s h own found has =
-      let n = stands s h own in
-      depth_read t (depth_of s.names) _ _ h.tables wid (h.names.sized (deepest s) wid n) found has
-      ∙ ap (option_map (λ (w : List ℕ). length w)) (h.names.numbered (deepest s) wid n)
-
-  pub depth_there : HoldSome t path → HasAt depth_codec t wid None → ⊥
-  depth_there some none = let e = depth_found some.worlds some.states some.own None none in cc
-
-  pub state_found : (depth : ℕ) → HasAt depth_codec t wid (Some depth) → FindsState t path (wid, nat_eq depth (length path))
-  state_found depth has s h own =
-      let e = depth_found s h own (Some depth) has in
-      let d : depth ≡ length (deepest s) = cc in
-      let root : is_named s.names [] ≡ true = ap is_some (h.names.root) in
-      record { number = stands s h own; own = ap (λ n. nat_eq n (length path)) d ∙ as_deep (is_named s.names) path root }
+pub state_found : (t : Tables) (path : List ℕ) (wid depth : ℕ) → EndsAt t path path (wid, depth) → FindsState t path (wid, nat_eq depth (length path))
+state_found t path wid depth ends s h own =
+    let e = ends s h own in
+    let root : is_named s.names [] ≡ true = ap is_some (h.names.root) in
+    record { number = e.number; own = ap (λ n. nat_eq n (length path)) e.depth ∙ as_deep (is_named s.names) path root }
 
 -- ---- its rows
 

@@ -1,9 +1,8 @@
 -- A user more in the catalog of a stored base.
-use Rattle.std.proofs.Common.{◌≡◌, ◌∙◌, ℕ, ◌+◌, ◌*◌, ◌≤◌, Bool, true, false, ◌&&◌, ◌||◌, nat_eq, nat_le, List, [], ◌∷◌, ◌++◌, length, refl, sym, ap, subst, arith, Option, Some}
+use Rattle.std.proofs.Common.{◌≡◌, ◌∙◌, ℕ, ◌+◌, ◌*◌, ◌≤◌, Bool, true, nat_eq, List, [], ◌∷◌, ◌++◌, length, refl, sym, ap, subst, arith, Option, Some}
 use Rattle.std.specs.List.{list_all}
 use Rattle.std.specs.FinMap as tables
 use Rattle.std.proofs.lemmas.Bool.{and_parts}
-use Rattle.std.proofs.lemmas.Bool.Decides.{nat_tests}
 use Rattle.std.proofs.lemmas.List.Folds.{list_all-append}
 use Rattle.bdb_base.specs.Bases.{Contents, is_plain, is_user, user_names, world_count}
 use Rattle.bdb_base.specs.Causes.{Rises, RoseBy}
@@ -27,19 +26,10 @@ use Rattle.bdb_update.specs.StoredLaws.{is_edges}
 use Rattle.bdb_update.proofs.CountLemmas.{numbers_are_counted}
 use Rattle.bdb_update.proofs.GrammarLemmas.{stored_is_in_grammar}
 use Rattle.bdb_update.proofs.StayLemmas.{same_by_user}
-use Rattle.bdb_update.proofs.StoreLemmas.{edges_store_user, gone_place_stored, states_as}
+use Rattle.bdb_update.proofs.StoreLemmas.{edges_alone, edges_store_user, gone_place_stored, states_as}
 use Rattle.bdb_worlds.specs.Growth.{SameOutside}
 use Rattle.bdb_worlds.specs.UserEdges.{AddsUser, WritesEdges}
 use Rattle.bdb_catalog.specs.Creating.{MayAddUser, SomeMayAddUser, AddsUserNamed, WritesUser, AddsGonePlace, with_one_gone}
-
--- ---- what changes
-
-no_edges : (n : ℕ) → (nat_eq n 9 || nat_eq n 10) ≡ false → (nat_le 9 n && nat_le n 10) ≡ false
-no_edges n e = grind (arith, nat_tests)
-
--- the range of two tables is those of edges
-edges_alone : (t u : Tables) → SameOutside 9 10 t u → SameBut is_edges t u
-edges_alone t u same n k other = same n k (no_edges n other)
 
 -- ---- a user that may be added
 

@@ -1,5 +1,6 @@
 pub mod Bases
 pub mod Creating
 pub mod Opening
+pub mod Place
 pub mod Showing
 pub mod Taking

@@ -1,11 +1,11 @@
 // Making the tables of a base, and adding to its catalog.
 ghost use Rattle.std.specs.Prelude.{◌≡◌, true, OnOk};
-ghost use Rattle.std.specs.FinMap as tables;
 ghost use Rattle.bdb_base.specs.Bases.{empty_contents};
 ghost use Rattle.bdb_base.specs.Causes.{Rises, RoseBy};
 ghost use Rattle.bdb_keep.specs.Calls.{IsWrite};
 ghost use Rattle.bdb_tables.specs.Stored.{Stores};
 ghost use Rattle.bdb_update.specs.Keeping.{SameNumbers};
+ghost use Rattle.bdb_update.specs.StoredLaws.{HaveNoRows};
 ghost use Rattle.bdb_catalog.specs.Creating.{AddsRelation, SomeMayAddRelation};
 
 use bdb_base::RelDef;
@@ -16,10 +16,10 @@ use std::alloc::Global;
 /// The format of tables that store a base with its worlds.
 const FORMAT: u32 = 3;
 
-/// Makes the tables of the empty base: the row of the format, and the depth of world 0. Two writes.
+/// Makes tables without rows those of the empty base: the row of the format, and the depth of world 0. Two writes.
 pub fn write_empty<K: Keeper>(alloc: Global, keeper: &mut K) -> Result<(), TabError>
     requires running { (K.seen keeper.old).running ≡ true }
-    requires empty { (K.seen keeper.old).kept ≡ tables.empty }
+    requires empty { HaveNoRows (K.seen keeper.old).kept }
     ensures stored { OnOk result (Stores (K.seen keeper.new).kept empty_contents) }
     ensures writes { OnOk result (Rises 2 (K.seen keeper.old).writes (K.seen keeper.new).writes) }
     ensures write { IsWrite (K.seen keeper.old) (K.seen keeper.new) result TabError.Fault }

@@ -5,12 +5,14 @@
 mod asking;
 mod creating;
 mod opening;
+mod place;
 mod showing;
 mod taking;
 mod users;
 
 pub use creating::{add_relation, write_empty};
 pub use opening::{read_relations, read_users};
+pub use place::empty_place;
 pub use showing::{plain_paths_inherit, state_of};
 pub use taking::{taken, tuples_under};
-pub use users::{add_gone_place, add_user};
+pub use users::{add_gone_place, add_user, put_live};

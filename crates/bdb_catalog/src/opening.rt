@@ -6,7 +6,8 @@ ghost use Rattle.bdb_catalog.specs.Opening.{IsPartOf};
 
 use bdb_base::{List, RelDef, UserSlot};
 use bdb_keep::Keeper;
-use bdb_tables::{RelTab, TabError, UserTab, get};
+use bdb_tables::{TabError, UserTab, get};
+use bdb_update::stored_relations;
 use std::alloc::Global;
 
 /// The places of the users, by number from 1.
@@ -45,19 +46,8 @@ pub fn read_relations<K: Keeper>(alloc: Global, keeper: &mut K) -> Result<List<R
     ensures counts { NeverFall (K.seen keeper.old) (K.seen keeper.new) }
     ensures steps { Steps (K.seen keeper.old) (K.seen keeper.new) result TabError.Fault }
 {
-    let mut rels = List::new(alloc);
-    for rel in 0..u32::MAX {
-        match get::<RelTab, K>(alloc, keeper, &rel) {
-            Ok(Some(def)) => {
-                if rels.push(def).is_err() {
-                    keeper.undo();
-                    return Err(TabError::Memory);
-                }
-            }
-            Ok(None) => return Ok(rels),
-            Err(error) => return Err(error),
-        }
+    match stored_relations(alloc, keeper) {
+        Ok(rels) => Ok(rels),
+        Err(error) => Err(error),
     }
-    keeper.undo();
-    Err(TabError::Memory)
 }

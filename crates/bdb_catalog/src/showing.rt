@@ -8,8 +8,8 @@ ghost use Rattle.bdb_worlds.specs.Holding.{HoldSome};
 ghost use Rattle.bdb_catalog.specs.Showing.{FindsState, PlainPathsInherit};
 
 use bdb_keep::Keeper;
-use bdb_tables::{DepthTab, TabError, get};
-use bdb_worlds::resolve;
+use bdb_tables::TabError;
+use bdb_worlds::deepest_state;
 use std::alloc::Global;
 
 /// The number of the deepest state that a path ends in, and whether that is the path itself. A read for each user of the
@@ -30,13 +30,8 @@ pub fn state_of<K: Keeper>(
     ensures counts { NeverFall (K.seen keeper.old) (K.seen keeper.new) }
     ensures steps { Steps (K.seen keeper.old) (K.seen keeper.new) result TabError.Fault }
 {
-    let wid = match resolve(alloc, keeper, path) {
-        Ok(wid) => wid,
-        Err(error) => return Err(error),
-    };
-    match get::<DepthTab, K>(alloc, keeper, &wid) {
-        Ok(Some(depth)) => Ok((wid, depth as usize == path.len())),
-        Ok(None) => unreachable!(),
+    match deepest_state(alloc, keeper, path) {
+        Ok((wid, depth)) => Ok((wid, depth as usize == path.len())),
         Err(error) => Err(error),
     }
 }

@@ -1,13 +1,9 @@
 // The statements that a delete or an update takes.
-ghost use Rattle.std.specs.Prelude.{◌≡◌, ◌++◌, true, IfOk, OnOk, is_some};
-ghost use Rattle.std.specs.FinMap as tables;
-ghost use Rattle.bdb_base.specs.Causes.{RoseBy};
+ghost use Rattle.std.specs.Prelude.{◌≡◌, ◌++◌, IfOk, OnOk};
 ghost use Rattle.bdb_keep.specs.Calls.{IsRead};
 ghost use Rattle.bdb_keep.specs.Seen.{NeverFall, Steps};
 ghost use Rattle.bdb_key.specs.Bytes.{num_bytes};
-ghost use Rattle.bdb_tables.specs.Codec.{HasRow, place};
 ghost use Rattle.bdb_tables.specs.Grammar.{InGrammar};
-ghost use Rattle.bdb_tables.specs.InUse.{tuple_codec};
 ghost use Rattle.bdb_tables.specs.Beginnings.{HasPutValues};
 ghost use Rattle.bdb_val.specs.Reads.{HaveTuples};
 ghost use Rattle.bdb_catalog.specs.Bases.{SomeHasUsers};
@@ -18,7 +14,7 @@ use crate::showing::state_of;
 use bdb_base::{Cond, Exact, List, Path, Sign, Stmt, Tuple, Value, meets, put};
 use bdb_keep::Keeper;
 use bdb_key::put_num;
-use bdb_tables::{TabError, TupleTab, ValTab, get, rows_under, stored_key_length};
+use bdb_tables::{TabError, ValTab, read_tuple, rows_under, stored_key_length};
 use std::alloc::{AllocError, Global};
 
 /// The statements of exactly this path, sign and relation whose tuples meet all tests, in order. They are the explicit rows
@@ -121,7 +117,7 @@ pub fn tuples_under<K: Keeper>(
         if !is_said(row, sign) {
             continue;
         }
-        match tuple_of(alloc, keeper, row.0.3) {
+        match read_tuple(alloc, keeper, row.0.3) {
             Ok(tuple) => {
                 if tuples.push(tuple).is_err() {
                     keeper.undo();
@@ -139,21 +135,6 @@ fn is_said(row: &((u32, u32, List<Value>, u32), (Sign, bool)), sign: Sign) -> bo
     ensures { result ≡ is_said sign row.now }
 {
     row.1.1 && row.1.0 == sign
-}
-
-// The tuple of a number that has one. One read.
-fn tuple_of<K: Keeper>(alloc: Global, keeper: &mut K, tid: u32) -> Result<Tuple, TabError>
-    requires grammar { InGrammar (K.seen keeper.old).kept }
-    requires there { is_some (tables.get (K.seen keeper.old).kept (place tuple_codec tid)) ≡ true }
-    ensures tuple { IfOk result (λ tuple. HasRow tuple_codec (K.seen keeper.old).kept tid tuple) }
-    ensures reads { OnOk result (RoseBy 1 (K.seen keeper.old).reads (K.seen keeper.new).reads) }
-    ensures read { IsRead (K.seen keeper.old) (K.seen keeper.new) result TabError.Fault }
-{
-    match get::<TupleTab, K>(alloc, keeper, &tid) {
-        Ok(Some(tuple)) => Ok(tuple),
-        Ok(None) => unreachable!(),
-        Err(error) => Err(error),
-    }
 }
 
 // Those tuples that meet all tests as statements of a path, in order.

@@ -45,8 +45,13 @@ pub fn add_user<K: Keeper>(
     }
 }
 
-// Writes the row of a live user. One write.
-fn put_live<K: Keeper>(alloc: Global, keeper: &mut K, uid: u32, name: &Txt) -> Result<(), TabError>
+/// Writes the row of a live user. One write.
+pub fn put_live<K: Keeper>(
+    alloc: Global,
+    keeper: &mut K,
+    uid: u32,
+    name: &Txt,
+) -> Result<(), TabError>
     requires running { (K.seen keeper.old).running ≡ true }
     requires plain { IsPlain name.now }
     ensures kept { OnOk result ((K.seen keeper.new).kept ≡ tables.insert (K.seen keeper.old).kept

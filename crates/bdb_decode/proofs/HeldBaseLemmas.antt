@@ -21,9 +21,9 @@ use Rattle.bdb_tables.specs.Names.{Names, is_named, number_of}
 use Rattle.bdb_tables.specs.Rows.{Tuples}
 use Rattle.bdb_tables.specs.Writes.{Gives}
 use Rattle.bdb_tables.proofs.WriteLemmas.{gives_same}
+use Rattle.bdb_tables.proofs.ListLemmas.{prefix_rest}
 use Rattle.bdb_val.specs.Middle.{HasExplicit, worlds_of}
 use Rattle.bdb_val.proofs.HeldLemmas.{some_is}
-use Rattle.bdb_val.proofs.ReadLemmas.{prefix_rest}
 use Rattle.bdb_entries.specs.Tuples.{HasTuples}
 use Rattle.bdb_decode.specs.Explicit.{Paths, TupleRows}
 use Rattle.bdb_decode.specs.ExplicitLaws.{HaveNumbers, HavePaths}

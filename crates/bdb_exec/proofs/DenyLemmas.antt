@@ -33,6 +33,7 @@ use Rattle.bdb_tables.specs.Spans.{AreUnder, IsUnder}
 use Rattle.bdb_tables.specs.Beginnings.{is_written}
 use Rattle.bdb_tables.proofs.PartLemmas.{vals_form}
 use Rattle.bdb_tables.proofs.BeginningLemmas.{values_part}
+use Rattle.bdb_tables.proofs.ListLemmas.{all_filter, prefix_append, prefix_rest, prefix_shorter}
 use Rattle.bdb_exec.specs.Keys.{begins_so, of_key, rows_of_key}
 use Rattle.bdb_exec.specs.Readable.{CanBeRun}
 use Rattle.bdb_exec.specs.Rows.{IsNumberOf, signed_of, mark_denies, row_denies, world_prefix, key_prefix}
@@ -88,23 +89,6 @@ length_map f [] = refl
 length_map f (x ∷ xs) = ap suc (length_map f xs)
 
 -- ---- beginnings
-
-prefix_rest : (p q : List ℕ) → is_prefix p q ≡ true → (r : List ℕ) × (q ≡ p ++ r)
-prefix_rest [] q e = (q, refl)
-prefix_rest (i ∷ p) [] e = absurd (false≢true e)
-prefix_rest (i ∷ p) (j ∷ q) e =
-    let k = and_parts (nat_eq i j) (is_prefix p q) e in
-    let r = prefix_rest p q k.1 in
-    (r.0, ap (λ n. n ∷ q) (sym (eqb-true i j k.0)) ∙ ap (λ (x : List ℕ). i ∷ x) r.1)
-
-pub prefix_append : (p q : List ℕ) → is_prefix p (p ++ q) ≡ true
-prefix_append [] q = refl
-prefix_append (i ∷ p) q = and_from (nat_eq i i) (is_prefix p (p ++ q)) (eq-eqb i i refl) (prefix_append p q)
-
-prefix_shorter : (p r q : List ℕ) → is_prefix (p ++ r) q ≡ true → is_prefix p q ≡ true
-prefix_shorter [] r q e = refl
-prefix_shorter (i ∷ p) r [] e = e
-prefix_shorter (i ∷ p) r (j ∷ q) e = let k = and_parts (nat_eq i j) (is_prefix (p ++ r) q) e in and_from (nat_eq i j) (is_prefix p q) k.0 (prefix_shorter p r q k.1)
 
 -- the world and the relation of a key
 pub world_parts : (w rel : ℕ) → IsNum w → IsNum rel → (k : ValKey) → IsValKey k → is_prefix (world_prefix w rel) (val_bytes k) ≡ true → (k.0 ≡ w) × (k.1 ≡ rel)
@@ -427,7 +411,7 @@ module _ (t : Tables) (h : CanBeRun t) (w rel : ℕ) (nw : IsNum w) (nr : IsNum 
       let read = typed_under t (group_bytes w rel own_key) es under in
       let narrow = filter of_key_of (all t h w rel nw nr) in
       raw_one t h (group_bytes w rel own_key) (world_prefix w rel) es narrow read.each
-      (Rattle.bdb_exec.proofs.WorldLemmas.all_filter (IsUnder val_codec (world_prefix w rel)) of_key_of (all t h w rel nw nr) (are_typed t h w rel nw nr).each)
+      (all_filter (IsUnder val_codec (world_prefix w rel)) of_key_of (all t h w rel nw nr) (are_typed t h w rel nw nr).each)
       (sym read.rows ∙ rows_narrow t h w rel nw nr (vals_bytes own_key))
 
   pub denied_is : (number : Option ℕ) (es : List (ValKey × Mark)) → IsNumberOf t u0 number → AreKeyVals (key_of (sight_of t).keys u0) → AreUnder val_codec t (group_bytes w rel (key_of (sight_of t).keys u0)) es

@@ -45,6 +45,7 @@ use Rattle.bdb_tables.specs.Names.{Names, path_of, number_of, is_named, edge_fro
 use Rattle.bdb_tables.specs.Rows.{Tuples, HoldsRows, has_key, row_named, row_for}
 use Rattle.bdb_tables.specs.Spans.{AreUnder, IsUnder, entry_bytes, entry_cmp}
 use Rattle.bdb_tables.proofs.Held.{same_place, some_same, none_some}
+use Rattle.bdb_tables.proofs.ListLemmas.{prefix_append}
 use Rattle.bdb_exec.specs.Based.{HaveBase, ShowBase, TablesShowBase, world_number}
 use Rattle.bdb_exec.specs.Readable.{CanBeRun}
 use Rattle.bdb_exec.specs.Rows.{signed_of, tuple_of_slot, world_prefix}
@@ -55,7 +56,7 @@ use Rattle.bdb_exec.proofs.RelLemmas.{length_of, width_of}
 use Rattle.bdb_exec.proofs.SpelledLemmas.{number_back}
 use Rattle.bdb_exec.proofs.TypedLemmas.{raw, at_find}
 use Rattle.bdb_exec.proofs.WorldLemmas.{IsThere, signed_is, has_row}
-use Rattle.bdb_exec.proofs.DenyLemmas.{both_ways, all, are_typed, IsHere, all_here, shown_all, prefix_append}
+use Rattle.bdb_exec.proofs.DenyLemmas.{both_ways, all, are_typed, IsHere, all_here, shown_all}
 use Rattle.bdb_exec.proofs.LookingLemmas.{places_many, users_are}
 
 -- ---- users

@@ -1,5 +1,5 @@
 -- The rows of worlds that are read from tables are those that the tables show, with their tuples.
-use Rattle.std.proofs.Common.{◌≡◌, ◌∙◌, ℕ, ◌+◌, ◌-◌, ◌<◌, Bool, true, false, cond, nat_eq, List, [], ◌∷◌, ◌++◌, Option, Some, None, MatchOption, is_some, length, map, filter, take, drop, get_or, refl, ap, sym, subst, arith}
+use Rattle.std.proofs.Common.{◌≡◌, ◌∙◌, ℕ, ◌+◌, ◌-◌, ◌<◌, Bool, true, false, cond, nat_eq, List, [], ◌∷◌, ◌++◌, Option, Some, None, MatchOption, is_some, length, map, take, drop, get_or, refl, ap, sym, subst, arith}
 use Rattle.std.specs.Prelude.{T}
 use Rattle.std.specs.declared.cmp.Ordering.{Ordering}
 use Rattle.std.specs.declared.cmp.Ordering.TheVariants.{Less, Equal, Greater}
@@ -30,6 +30,7 @@ use Rattle.bdb_tables.specs.GroupMarks.{numbered}
 use Rattle.bdb_tables.specs.Rows.{has_key, row_named, row_for}
 use Rattle.bdb_tables.specs.Spans.{AreUnder, IsUnder}
 use Rattle.bdb_tables.proofs.Held.{some_same, none_some}
+use Rattle.bdb_tables.proofs.ListLemmas.{all_filter, all_pass}
 use Rattle.bdb_exec.specs.Readable.{CanBeRun}
 use Rattle.bdb_exec.specs.Rows.{HasTuple, HasPushed, signed_at, signed_of}
 use Rattle.bdb_exec.specs.Seen.{rows_at, sight_of, sign_in, signed_in, signed_under}
@@ -38,22 +39,6 @@ use Rattle.bdb_exec.proofs.SpelledLemmas.{tuple_back, sign_back}
 use Rattle.bdb_exec.proofs.TypedLemmas.{raw, rows_are}
 
 -- ---- lists
-
-pub all_filter : {X : Type 0} (P : X → Type 0) (p : X → Bool) (xs : List X) → AllByRecursion P xs → AllByRecursion P (filter p xs)
-all_filter P p [] h = tt
-all_filter P p (x ∷ xs) h = by (all_filter P p xs h.1) (p x)
-  where
-    by : AllByRecursion P (filter p xs) → (b : Bool) → AllByRecursion P (cond b (x ∷ filter p xs) (filter p xs))
-    by rest true = (h.0, rest)
-    by rest false = rest
-
-all_pass : {X : Type 0} (p : X → Bool) (xs : List X) → AllByRecursion (λ x. p x ≡ true) (filter p xs)
-all_pass p [] = tt
-all_pass p (x ∷ xs) = by (all_pass p xs) (p x) refl
-  where
-    by : AllByRecursion (λ y. p y ≡ true) (filter p xs) → (b : Bool) → p x ≡ b → AllByRecursion (λ y. p y ≡ true) (cond b (x ∷ filter p xs) (filter p xs))
-    by rest true e = (e, rest)
-    by rest false e = rest
 
 pub all_map : {X : Type 0} (P Q : X → Type 0) (xs : List X) → ((x : X) → P x → Q x) → AllByRecursion P xs → AllByRecursion Q xs
 all_map P Q [] f h = tt

@@ -1,9 +1,7 @@
 // What tables show, read from a keeper.
 ghost use Rattle.std.specs.Prelude.{◌≡◌, ◌≤◌, ◌+◌, ◌*◌, true, Some, IfOk, OnOk, filter_map, length, map, take};
 ghost use Rattle.std.specs.List.{AllByRecursion, list_any};
-ghost use Rattle.bdb_base.specs.Causes.{RoseBy};
 ghost use Rattle.bdb_base.specs.declared.tuple.Tuple.{Tuple};
-ghost use Rattle.bdb_keep.specs.Calls.{IsRead};
 ghost use Rattle.bdb_plan.specs.Running.{plus_tuples};
 ghost use Rattle.bdb_plan.specs.Sight.{rows_deny};
 ghost use Rattle.bdb_tables.specs.Codec.{HasRow};
@@ -25,7 +23,7 @@ use bdb_keep::Keeper;
 use bdb_plan::Step;
 use bdb_queries::user_tuple;
 use bdb_tables::{
-    EdgeTab, TabError, TupleIx, TupleTab, UserTab, get, numbered_under, rows_under,
+    EdgeTab, TabError, TupleIx, UserTab, get, numbered_under, read_tuple, rows_under,
     stored_key_length,
 };
 use std::alloc::{AllocError, Global};
@@ -420,21 +418,6 @@ fn tuple_of<K: Keeper>(
             keeper.undo();
             Err(TabError::Memory)
         }
-    }
-}
-
-// The tuple of a number that has one, from its row. One read.
-fn read_tuple<K: Keeper>(alloc: Global, keeper: &mut K, tid: u32) -> Result<Tuple, TabError>
-    requires run { CanBeRun (K.seen keeper.old).kept }
-    requires there { (u : Tuple) × HasRow tuple_codec (K.seen keeper.old).kept tid u }
-    ensures tuple { IfOk result (λ tuple. HasRow tuple_codec (K.seen keeper.old).kept tid tuple) }
-    ensures reads { OnOk result (RoseBy 1 (K.seen keeper.old).reads (K.seen keeper.new).reads) }
-    ensures read { IsRead (K.seen keeper.old) (K.seen keeper.new) result TabError.Fault }
-{
-    match get::<TupleTab, K>(alloc, keeper, &tid) {
-        Ok(Some(tuple)) => Ok(tuple),
-        Ok(None) => unreachable!(),
-        Err(error) => Err(error),
     }
 }
 

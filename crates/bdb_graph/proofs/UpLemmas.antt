@@ -9,7 +9,6 @@ use Rattle.std.specs.FinMap as tables
 use Rattle.std.specs.FinMap.{find}
 use Rattle.std.proofs.lemmas.Bool.{cases_Bool, eqb-true, eqb-false}
 use Rattle.std.proofs.lemmas.List.{map-append, take_more}
-use Rattle.std.proofs.Math.Seq.{take-append_seam}
 use Rattle.bdb_base.specs.SameLemmas.{same_path-Decides}
 use Rattle.bdb_base.specs.Segments.{is_prefix}
 use Rattle.bdb_base.proofs.SegmentLemmas.{is_prefix_begins}
@@ -28,6 +27,7 @@ use Rattle.bdb_tables.specs.States.{HoldsStates, IsNamed, root, next}
 use Rattle.bdb_tables.specs.Reading.{OnlyReads}
 use Rattle.bdb_tables.proofs.Held.{same_place, some_same, none_some}
 use Rattle.bdb_tables.proofs.Loops.{IsReading, goes_then, counts_then}
+use Rattle.bdb_tables.proofs.ListLemmas.{prefix_append}
 use Rattle.bdb_names.proofs.NamedLemmas.{named_path, path_is_told}
 use Rattle.bdb_entries.proofs.ListedLemmas.{all_found}
 use Rattle.bdb_entries.proofs.ReadLemmas.{past}
@@ -57,9 +57,6 @@ module _ {Key Row : Type 0} (c : Codec Key Row) (prefix : List ℕ) where
       there (d ∷ ds) u f = (h.found (c.key_bytes d.0) u.0.begins ∙ f.0, there ds u.1 f.1)
 
 -- ---- keys that begin with a number
-
-prefix_append : (p q : List ℕ) → is_prefix p (p ++ q) ≡ true
-prefix_append p q = is_prefix_begins p (p ++ q) ∙ (same_path-Decides p (take (length p) (p ++ q))).1 (sym (take-append_seam p q))
 
 number_begins : (n a : ℕ) (rest : List ℕ) → IsNum n → IsNum a → is_prefix (num_bytes n) (num_bytes a ++ rest) ≡ true → a ≡ n
 number_begins n a rest fn fa e = one_num a n fa fn (sym ((same_path-Decides (num_bytes n) (num_bytes a)).0 (sym (is_prefix_begins (num_bytes n) (num_bytes a ++ rest)) ∙ e)))

@@ -16,8 +16,8 @@ use Rattle.bdb_update.proofs.ReplaceLemmas.{from_still}
 use Rattle.bdb_update.proofs.TakenLemmas.{others_are_left, taken_apart, taken_stand}
 use Rattle.bdb_catalog.specs.Bases.{StoresSome}
 use Rattle.bdb_catalog.specs.Opening.{IsPartOf}
+use Rattle.bdb_catalog.specs.Place.{LosesUser, MayLoseUser, SomeMayLoseUser, WritesPlace}
 use Rattle.bdb_leaving.specs.Leaving.{LeavesThrough, MayDropUser, SomeMayDropUser, UserLeaves}
-use Rattle.bdb_leaving.specs.Place.{LosesUser, MayLoseUser, SomeMayLoseUser, WritesPlace}
 
 pub some_valid : (t : Tables) (counts : Counts) (uid : ℕ) → SomeMayDropUser t counts uid → StoresSome t
 some_valid t counts uid s = record { base = s.base; stores = record { stored = s.may.base.stored; valid = s.may.base.valid } }

@@ -2,6 +2,5 @@ pub mod EdgeLemmas
 pub mod LeavingLemmas
 pub mod NamingLemmas
 pub mod PathLemmas
-pub mod PlaceLemmas
 pub mod ReadsLemmas
 pub mod WorldLemmas

@@ -1,4 +1,3 @@
 pub mod Leaving
 pub mod Naming
 pub mod Paths
-pub mod Place

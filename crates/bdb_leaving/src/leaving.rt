@@ -5,9 +5,9 @@ ghost use Rattle.bdb_update.specs.Keeping.{KeepsNumbers};
 ghost use Rattle.bdb_val.specs.Steps.{IsChanging};
 
 use crate::naming::statements_naming;
-use crate::place::empty_place;
 use bdb_base::{List, Stmt};
 use bdb_canon::Counts;
+use bdb_catalog::empty_place;
 use bdb_keep::Keeper;
 use bdb_tables::TabError;
 use bdb_update::drop_statements;

@@ -4,6 +4,5 @@
 mod leaving;
 mod naming;
 mod paths;
-mod place;
 
 pub use leaving::drop_user;

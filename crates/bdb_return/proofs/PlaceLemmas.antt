@@ -1,5 +1,5 @@
 -- The row of one user changes, and the edges for him: his place goes, he comes back to it, or he leaves it.
-use Rattle.std.proofs.Common.{◌≡◌, ◌∙◌, ℕ, zero, suc, ◌+◌, ◌-◌, ◌*◌, ◌≤◌, Bool, true, false, not, ◌&&◌, ◌||◌, nat_eq, nat_le, cond, List, [], ◌∷◌, ◌++◌, length, slice_set, refl, sym, ap, subst, inl, inr, arith, Option, Some, None}
+use Rattle.std.proofs.Common.{◌≡◌, ◌∙◌, ℕ, zero, suc, ◌+◌, ◌-◌, ◌*◌, ◌≤◌, Bool, true, false, not, ◌&&◌, ◌||◌, nat_eq, cond, List, [], ◌∷◌, ◌++◌, length, slice_set, refl, sym, ap, subst, inl, inr, arith, Option, Some, None}
 use Rattle.std.specs.List.{list_all, slice_get}
 use Rattle.std.specs.Ordering.{is_eq, nat_cmp}
 use Rattle.std.specs.FinMap as tables
@@ -26,14 +26,15 @@ use Rattle.bdb_tables.specs.Codec.{place}
 use Rattle.bdb_tables.specs.Grammar.{InGrammar}
 use Rattle.bdb_tables.specs.InUse.{meta_codec, user_codec, rel_codec, val_codec, plain_codec}
 use Rattle.bdb_tables.specs.InUseLaws.{numbers_in_order}
-use Rattle.bdb_tables.specs.Names.{Names, is_listed}
+use Rattle.bdb_tables.specs.Names.{Names}
 use Rattle.bdb_tables.specs.Rows.{Tuples}
 use Rattle.bdb_tables.specs.States.{HoldsStates}
 use Rattle.bdb_tables.specs.Stored.{SameBut, StoredAs, slot_of}
 use Rattle.bdb_tables.specs.Writes.{Gives, with_change, with_row_at}
-use Rattle.bdb_tables.proofs.CatalogLemmas.{user_gone, user_set}
+use Rattle.bdb_tables.proofs.CatalogLemmas.{user_set}
 use Rattle.bdb_tables.proofs.SameLemmas.{change_same, gives_still, outside_one, states_still, tuples_still}
 use Rattle.bdb_tables.proofs.WriteLemmas.{change_gives, gives_same}
+use Rattle.bdb_tables.proofs.ListLemmas.{listed_is_named}
 use Rattle.bdb_undo.specs.declared.change.Named.TheVariants.{UserAdded, UserDropped}
 use Rattle.bdb_undo.proofs.ChangeLemmas.{unnamed}
 use Rattle.bdb_update.specs.Keeping.{SameNumbers}
@@ -41,31 +42,16 @@ use Rattle.bdb_update.specs.StoredLaws.{is_edges}
 use Rattle.bdb_update.proofs.CountLemmas.{numbers_are_counted}
 use Rattle.bdb_update.proofs.GrammarLemmas.{stored_is_in_grammar}
 use Rattle.bdb_update.proofs.StayLemmas.{same_by_user}
-use Rattle.bdb_update.proofs.StoreLemmas.{outside_edges, states_as}
+use Rattle.bdb_update.proofs.StoreLemmas.{edges_alone, outside_edges, states_as}
 use Rattle.bdb_worlds.specs.Growth.{SameOutside}
 use Rattle.bdb_worlds.specs.UserEdges.{AddsUser, DropsUser, without_one_user, WritesDropped, WritesEdges}
+use Rattle.bdb_catalog.specs.Place as emptied
+use Rattle.bdb_catalog.specs.Place.{LosesUser, MayLoseUser, SomeMayLoseUser}
 use Rattle.bdb_return.specs.Naming.{Leaves, LosesLastUser, LosesName, MayGetName, MayLoseName, SomeMayLeave, SomeMayLoseName, SomeUserIsLast, base_named, WritesLastUser, WritesLeave, WritesLoss}
 use Rattle.bdb_return.specs.Numbers.{IsNextUser, StoreAny}
 use Rattle.bdb_return.specs.Places.{LosesPlace, PlaceKeeps, WritesPlace}
 
--- ---- the tables of edges
-
-no_edges : (n : ℕ) → (nat_eq n 9 || nat_eq n 10) ≡ false → (nat_le 9 n && nat_le n 10) ≡ false
-no_edges n e = grind (arith, nat_tests)
-
--- the range of two tables is those of edges
-edges_alone : (t u : Tables) → SameOutside 9 10 t u → SameBut is_edges t u
-edges_alone t u same n k other = same n k (no_edges n other)
-
 -- ---- whom no state names
-
-turned : (a b : ℕ) → nat_eq a b ≡ nat_eq b a
-turned a b = grind (arith, nat_tests)
-
--- a path names a user where he is among its users
-listed_is_named : (uid : ℕ) (w : List ℕ) → is_listed uid w ≡ names_user uid w
-listed_is_named uid [] = refl
-listed_is_named uid (i ∷ w) = ap (λ b. b || is_listed uid w) (turned uid i) ∙ ap (λ b. nat_eq i uid || b) (listed_is_named uid w)
 
 -- no state of a valid base names one who is no user of it
 none_names : (k : Catalog) (stmts : List Stmt) (uid : ℕ) → IsValid k stmts → is_user k.users uid ≡ false → (w : List ℕ) → is_state stmts w ≡ true → names_user uid w ≡ false
@@ -267,41 +253,25 @@ back_keeps t m u uid name put adds outside h =
 
 -- ---- he leaves whose statements are gone
 
-pub leaving_stored : (t : Tables) (uid : ℕ) → SomeMayLeave t uid → StoreAny t
-leaving_stored t uid s = record { base = s.some.base; stored = s.some.may.stored }
-
--- the worlds have their names without him
-without_him : (t m u : Tables) (uid : ℕ) → m ≡ tables.insert t (place user_codec uid) (user_codec.row_bytes Gone) → DropsUser m u uid → (name : List ℕ) (a : Contents)
-    → (h : MayGetName t (UserDropped uid name) a) → HoldsStates (without_one_user (is_user a.catalog.users) uid) h.stored.names u
-without_him t m u uid put drops name a h =
+-- no state of a base names him whose statements are gone
+may_lose : (t : Tables) (uid : ℕ) (name : List ℕ) (a : Contents) → MayGetName t (UserDropped uid name) a → MayLoseUser t uid a
+may_lose t uid name a h =
     let k = a.catalog in
     let user = (name_found k.users uid name h.between.can).0 in
-    let left = (without_user k uid).users in
-    let s = h.stored in
-    let none = none_names (without_user k uid) a.stmts uid h.between.after (who_is_gone_is_no_user left uid (who_leaves_is_gone k uid user)) in
-    let now = states_before t m uid (Some Gone) put (is_user k.users) s.names s.stored.states in
-    drops (record { users = is_user k.users; names = s.names }) now (λ w e. listed_is_named uid w ∙ none w (sym (s.stored.worlds w) ∙ e))
-
-pub user_leaves : (t m u : Tables) (uid : ℕ) → m ≡ tables.insert t (place user_codec uid) (user_codec.row_bytes Gone) → DropsUser m u uid → SameOutside 9 10 m u → Leaves t u uid
-user_leaves t m u uid put drops outside name a h =
-    let k = a.catalog in
-    let user = (name_found k.users uid name h.between.can).0 in
-    let left = (without_user k uid).users in
-    let s = h.stored in
-    let after = without_him t m u uid put drops name a h in
     record {
-      names = s.names;
-      tuples = s.tuples;
-      stored = places_changed t m uid (Some Gone) put s.names s.tuples u a left s.stored
-          (user_gone t k.users uid user (s.stored.states.numbers uid user) s.stored.users)
-          (states_as (without_one_user (is_user k.users) uid) (is_user left) s.names u (λ i. sym (others_are_users k uid i user)) after) outside;
+      stored = h.stored;
+      user = user;
+      unnamed = none_names (without_user k uid) a.stmts uid h.between.after (who_is_gone_is_no_user (without_user k uid).users uid (who_leaves_is_gone k uid user));
     }
 
-pub leave_keeps : (t m u : Tables) (uid : ℕ) → m ≡ tables.insert t (place user_codec uid) (user_codec.row_bytes Gone) → DropsUser m u uid → SameOutside 9 10 m u → SomeMayLeave t uid → SameNumbers t u
-leave_keeps t m u uid put drops outside h =
-    let users = is_user h.some.base.catalog.users in
-    let s = h.some.may.stored in
-    same_by_user t m u uid (Some Gone) users (without_one_user users uid) s.names put outside s.stored.states (without_him t m u uid put drops h.name h.some.base h.some.may)
+pub some_may_lose : (t : Tables) (uid : ℕ) → SomeMayLeave t uid → SomeMayLoseUser t uid
+some_may_lose t uid s = record { base = s.some.base; may = may_lose t uid s.name s.some.base s.some.may }
+
+pub user_leaves : (t u : Tables) (uid : ℕ) → LosesUser t u uid → Leaves t u uid
+user_leaves t u uid loses name a h = loses a (may_lose t uid name a h)
+
+pub leave_written : (old new : Seen) (uid : ℕ) → emptied.WritesPlace old new uid → WritesLeave old new uid
+leave_written old new uid writes name a h = writes a (may_lose old.kept uid name a h)
 
 -- ---- how often is written
 
@@ -336,15 +306,3 @@ back_written old mid new uid name put le one edges a h =
     place_and_edges (length s.names.used) (world_count a.stmts) old.writes mid.writes new.writes le (numbers_are_counted s.names s.stored.states.names a.stmts s.stored.worlds) one
     (edges (record { users = is_user left; names = s.names }) (states_before old.kept mid.kept uid (Some (Live name)) put (is_user left) s.names s.stored.states)
     (who_is_gone_is_no_user left uid (who_leaves_is_gone k uid user)))
-
-pub leave_written : (old mid new : Seen) (uid : ℕ) → mid.kept ≡ tables.insert old.kept (place user_codec uid) (user_codec.row_bytes Gone)
-    → mid.writes ≤ new.writes → RoseBy 1 old.writes mid.writes → WritesDropped mid new uid → WritesLeave old new uid
-leave_written old mid new uid put le one edges name a h =
-    let k = a.catalog in
-    let user = (name_found k.users uid name h.between.can).0 in
-    let left = (without_user k uid).users in
-    let s = h.stored in
-    let none = none_names (without_user k uid) a.stmts uid h.between.after (who_is_gone_is_no_user left uid (who_leaves_is_gone k uid user)) in
-    place_and_edges (length s.names.used) (world_count a.stmts) old.writes mid.writes new.writes le (numbers_are_counted s.names s.stored.states.names a.stmts s.stored.worlds) one
-    (edges (record { users = is_user k.users; names = s.names }) (states_before old.kept mid.kept uid (Some Gone) put (is_user k.users) s.names s.stored.states)
-    (record { user = user; unnamed = λ w e. listed_is_named uid w ∙ none w (sym (s.stored.worlds w) ∙ e) }))

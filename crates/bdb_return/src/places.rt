@@ -1,26 +1,19 @@
 // The row of a user changes, and the edges for him: his place goes, he comes back to it, or he leaves it.
-ghost use Rattle.std.specs.Prelude.{◌≡◌, true, IfOk, OnOk};
-ghost use Rattle.std.specs.FinMap as tables;
-ghost use Rattle.bdb_base.specs.Causes.{RoseBy};
-ghost use Rattle.bdb_base.specs.declared.kinds.UserSlot.TheVariants.{Live};
-ghost use Rattle.bdb_keep.specs.Calls.{IsWrite};
-ghost use Rattle.bdb_key.specs.Grammar.{IsPlain};
+ghost use Rattle.std.specs.Prelude.{◌≡◌, true, OnOk};
 ghost use Rattle.bdb_return.specs.Naming.{Leaves, LosesLastUser, LosesName, SomeMayLeave, SomeMayLoseName, SomeUserIsLast, WritesLastUser, WritesLeave, WritesLoss};
 ghost use Rattle.bdb_return.specs.Numbers.{StoreAny};
 ghost use Rattle.bdb_return.specs.Places.{LosesPlace, PlaceKeeps, WritesPlace};
-ghost use Rattle.bdb_tables.specs.Codec.{place};
-ghost use Rattle.bdb_tables.specs.Grammar.{InGrammar};
-ghost use Rattle.bdb_tables.specs.InUse.{user_codec};
 ghost use Rattle.bdb_undo.specs.declared.change.Named.TheVariants.{UserDropped};
 ghost use Rattle.bdb_update.specs.Keeping.{SameNumbers};
 ghost use Rattle.bdb_val.specs.Steps.{IsChanging};
 
 use crate::numbers::next_user;
-use bdb_base::{Exact, Txt, UserSlot};
+use bdb_base::Txt;
+use bdb_catalog::{empty_place, put_live};
 use bdb_keep::Keeper;
-use bdb_tables::{TabError, UserTab, drop_row, put};
+use bdb_tables::{TabError, UserTab, drop_row};
 use bdb_worlds::{add_user_edges, drop_user_edges};
-use std::alloc::{AllocError, Global};
+use std::alloc::Global;
 
 /// Takes away the user who was added last, with his place, so that the next one gets his number: his row, and the edge of each
 /// world for him. A write for his row, two writes for each world, a read for each user, and reads as `drop_user_edges` makes.
@@ -89,40 +82,8 @@ pub fn revive_user<K: Keeper>(
     }
 }
 
-// Writes the row of a live user. One write.
-fn put_live<K: Keeper>(alloc: Global, keeper: &mut K, uid: u32, name: &Txt) -> Result<(), TabError>
-    requires running { (K.seen keeper.old).running ≡ true }
-    requires plain { IsPlain name.now }
-    ensures kept { OnOk result ((K.seen keeper.new).kept ≡ tables.insert (K.seen keeper.old).kept
-        (place user_codec uid) (user_codec.row_bytes (Live name.now))) }
-    ensures grammar { OnOk result (InGrammar (K.seen keeper.old).kept
-        → InGrammar (K.seen keeper.new).kept) }
-    ensures writes { OnOk result (RoseBy 1 (K.seen keeper.old).writes (K.seen keeper.new).writes) }
-    ensures write { IsWrite (K.seen keeper.old) (K.seen keeper.new) result TabError.Fault }
-{
-    let slot = match live_slot(alloc, name) {
-        Ok(slot) => slot,
-        Err(_) => {
-            keeper.undo();
-            return Err(TabError::Memory);
-        }
-    };
-    match put::<UserTab, K>(alloc, keeper, &uid, &slot) {
-        Ok(()) => Ok(()),
-        Err(error) => Err(error),
-    }
-}
-
-// A place with a live user of this name.
-fn live_slot(alloc: Global, name: &Txt) -> Result<UserSlot, AllocError>
-    ensures { IfOk result (λ slot. slot ≡ Live name.now) }
-{
-    let name = name.try_clone(alloc)?;
-    Ok(UserSlot::Live(name))
-}
-
 /// Lets a user leave whose statements are gone: the row of his place tells that he is gone, and the edge of each world for him
-/// goes. A write for his row, two writes for each world, and reads as `drop_user_edges` makes.
+/// goes. A write for his row, two writes for each world, and reads as `empty_place` makes.
 pub fn leave_place<K: Keeper>(alloc: Global, keeper: &mut K, uid: u32) -> Result<(), TabError>
     requires running { (K.seen keeper.old).running ≡ true }
     requires base { SomeMayLeave (K.seen keeper.old).kept uid }
@@ -131,11 +92,7 @@ pub fn leave_place<K: Keeper>(alloc: Global, keeper: &mut K, uid: u32) -> Result
     ensures keeps { OnOk result (SameNumbers (K.seen keeper.old).kept (K.seen keeper.new).kept) }
     ensures changing { IsChanging (K.seen keeper.old) (K.seen keeper.new) result TabError.Fault }
 {
-    match put::<UserTab, K>(alloc, keeper, &uid, &UserSlot::Gone) {
-        Ok(()) => {}
-        Err(error) => return Err(error),
-    }
-    match drop_user_edges(alloc, keeper, uid) {
+    match empty_place(alloc, keeper, uid) {
         Ok(()) => Ok(()),
         Err(error) => Err(error),
     }

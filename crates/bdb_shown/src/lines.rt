@@ -12,7 +12,7 @@ use crate::row::Row;
 use crate::values::append_values;
 use bdb_base::{Catalog, List, Sign};
 use bdb_key::{mark_of, num_of};
-use bdb_render::append_count;
+use bdb_render::{append_count, relation_name};
 use std::alloc::{AllocError, Global};
 
 /// For how many bytes a reply has room from the start.
@@ -98,16 +98,6 @@ fn append_name(out: &mut Vec<u8>, catalog: &Catalog, rel: u32) -> Result<(), All
     out.extend_from_slice(relation_name(catalog, rel))?;
     out.push(b'(')?;
     Ok(())
-}
-
-// The name of a relation; empty where there is none of that number.
-fn relation_name(catalog: &Catalog, rel: u32) -> &[u8]
-    ensures { result.now ≡ relation_name catalog.now rel }
-{
-    match catalog.rels.get(rel as usize) {
-        Some(def) => def.name.as_bytes(),
-        None => &[],
-    }
 }
 
 // Appends a space, the mark of a row and a line feed.

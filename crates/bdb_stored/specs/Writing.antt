@@ -27,10 +27,6 @@ pub record IsCleared (tab : ℕ) (t u : Tables) : Type 0 where
   pub none : (k : List ℕ) → tables.get u (tab ∷ k) ≡ None
   pub others : SameBut (nat_eq tab) t u
 
--- no table has a row
-abbrev pub HaveNoRows : Tables → Type 0
-HaveNoRows t = (n : ℕ) (k : List ℕ) → tables.get t (n ∷ k) ≡ None
-
 -- the base of places of users, relations and statements
 abbrev pub base_of : List UserSlot → List RelDef → List Stmt → Contents
 base_of users rels stmts = record { catalog = record { rels = rels; users = users }; stmts = stmts }

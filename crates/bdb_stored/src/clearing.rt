@@ -2,7 +2,8 @@
 ghost use Rattle.std.specs.Prelude.{◌≡◌, ◌≤◌, true, OnOk};
 ghost use Rattle.bdb_keep.specs.Seen.{NeverFall, Steps};
 ghost use Rattle.bdb_keep.specs.Tables.{LieInTables};
-ghost use Rattle.bdb_stored.specs.Writing.{HaveNoRows, IsCleared};
+ghost use Rattle.bdb_stored.specs.Writing.{IsCleared};
+ghost use Rattle.bdb_update.specs.StoredLaws.{HaveNoRows};
 
 use bdb_keep::{KeepError, Keeper};
 use bdb_tables::TabError;

@@ -4,19 +4,17 @@ ghost use Rattle.bdb_base.specs.Bases.{IsCatalog, empty_contents};
 ghost use Rattle.bdb_keep.specs.Seen.{NeverFall, Steps};
 ghost use Rattle.bdb_tables.specs.Stored.{Stores};
 ghost use Rattle.bdb_catalog.specs.Bases.{StoresValid};
-ghost use Rattle.bdb_stored.specs.Writing.{AddsNext, AddsPlace, HaveNoRows, SomeMayAddPlace, SomeMayFollow, base_of};
+ghost use Rattle.bdb_stored.specs.Writing.{AddsNext, AddsPlace, SomeMayAddPlace, SomeMayFollow, base_of};
+ghost use Rattle.bdb_update.specs.StoredLaws.{HaveNoRows};
 
 use crate::clearing::clear_tables;
 use bdb_base::{Base, Catalog, Stmt, UserSlot};
 use bdb_canon::Counts;
-use bdb_catalog::{add_gone_place, add_relation, add_user};
+use bdb_catalog::{add_gone_place, add_relation, add_user, write_empty};
 use bdb_keep::Keeper;
-use bdb_tables::{DepthTab, MetaTab, TabError, put};
+use bdb_tables::TabError;
 use bdb_update::{Added, UpdateError, add_statement};
 use std::alloc::Global;
-
-/// The format of tables that store a base with its worlds.
-const FORMAT: u32 = 3;
 
 /// Makes the tables those of a base, whatever rows they had: all rows are taken away, and places of users, relations and
 /// statements added one by one.
@@ -44,24 +42,6 @@ pub fn write_all_tables<K: Keeper>(
     }
 }
 
-// Makes tables without rows those of the empty base: the row of the format, and the depth of world 0.
-fn write_root<K: Keeper>(alloc: Global, keeper: &mut K) -> Result<(), TabError>
-    requires running { (K.seen keeper.old).running ≡ true }
-    requires none { HaveNoRows (K.seen keeper.old).kept }
-    ensures stored { OnOk result (Stores (K.seen keeper.new).kept empty_contents) }
-    ensures counts { NeverFall (K.seen keeper.old) (K.seen keeper.new) }
-    ensures steps { Steps (K.seen keeper.old) (K.seen keeper.new) result TabError.Fault }
-{
-    match put::<MetaTab, K>(alloc, keeper, &(), &FORMAT) {
-        Ok(()) => {}
-        Err(error) => return Err(error),
-    }
-    match put::<DepthTab, K>(alloc, keeper, &0, &0) {
-        Ok(()) => Ok(()),
-        Err(error) => Err(error),
-    }
-}
-
 // Makes tables without rows those of a base without statements.
 fn write_catalog<K: Keeper>(
     alloc: Global,
@@ -76,7 +56,7 @@ fn write_catalog<K: Keeper>(
     ensures counts { NeverFall (K.seen keeper.old) (K.seen keeper.new) }
     ensures steps { Steps (K.seen keeper.old) (K.seen keeper.new) result TabError.Fault }
 {
-    match write_root(alloc, keeper) {
+    match write_empty(alloc, keeper) {
         Ok(()) => {}
         Err(error) => return Err(error),
     }

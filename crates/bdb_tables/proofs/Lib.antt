@@ -8,6 +8,7 @@ pub mod Fitting
 pub mod GapLemmas
 pub mod Held
 pub mod LengthLemmas
+pub mod ListLemmas
 pub mod Loops
 pub mod MarkLemmas
 pub mod RangeLemmas

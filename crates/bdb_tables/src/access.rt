@@ -5,11 +5,14 @@ ghost use Rattle.std.specs.FinMap as map;
 ghost use Rattle.bdb_base.specs.Causes.{RoseBy};
 ghost use Rattle.bdb_keep.specs.Calls.{IsRead, IsWrite};
 ghost use Rattle.bdb_key.specs.Reading.{Reads};
-ghost use Rattle.bdb_tables.specs.Codec.{HasAt, HasFirst, HasLeast, IsKeyOf, IsRowOf, TableFits, place};
+ghost use Rattle.bdb_tables.specs.Codec.{HasAt, HasFirst, HasLeast, HasRow, IsKeyOf, IsRowOf, TableFits, place};
 ghost use Rattle.bdb_tables.specs.Grammar.{InGrammar};
+ghost use Rattle.bdb_tables.specs.InUse.{tuple_codec};
 
 use crate::room::Room;
 use crate::tab::{Tab, TabError};
+use crate::world_tabs::TupleTab;
+use bdb_base::Tuple;
 use bdb_keep::{KeepError, Keeper};
 use bdb_key::{KeyError, RowError};
 use std::alloc::{AllocError, Global};
@@ -66,6 +69,21 @@ pub fn get_in<T: Tab, K: Keeper>(
             keeper.undo();
             Err(TabError::Memory)
         }
+    }
+}
+
+/// The tuple of a number that has one. One read.
+pub fn read_tuple<K: Keeper>(alloc: Global, keeper: &mut K, tid: u32) -> Result<Tuple, TabError>
+    requires grammar { InGrammar (K.seen keeper.old).kept }
+    requires there { is_some (map.get (K.seen keeper.old).kept (place tuple_codec tid)) ≡ true }
+    ensures tuple { IfOk result (λ tuple. HasRow tuple_codec (K.seen keeper.old).kept tid tuple) }
+    ensures reads { OnOk result (RoseBy 1 (K.seen keeper.old).reads (K.seen keeper.new).reads) }
+    ensures read { IsRead (K.seen keeper.old) (K.seen keeper.new) result TabError.Fault }
+{
+    match get::<TupleTab, K>(alloc, keeper, &tid) {
+        Ok(Some(tuple)) => Ok(tuple),
+        Ok(None) => unreachable!(),
+        Err(error) => Err(error),
     }
 }
 

@@ -93,7 +93,8 @@ pub fn mark_under<K: Keeper>(
 }
 
 /// Makes changes in the group whose keys begin with these bytes, one after the other: each puts a row at the number of a tuple, or
-/// takes the row there away. One write each. The bytes are the same afterwards; meanwhile numbers come behind them.
+/// takes the row there away. One write each. Numbers come behind the bytes meanwhile; after an Ok they are the same again, and
+/// after an error they may not be.
 pub fn write_marks<K: Keeper>(
     keeper: &mut K,
     prefix: &mut Vec<u8>,

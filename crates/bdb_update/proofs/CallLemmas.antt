@@ -3,6 +3,7 @@ use Rattle.std.proofs.Common.{◌≡◌, ◌∙◌, true, Ok, Err, refl, sym, ar
 use Rattle.std.proofs.lemmas.Bool.{false≢true}
 use Rattle.bdb_keep.specs.Calls.{IsRead}
 use Rattle.bdb_keep.specs.Seen.{Seen, GoesOn, IsAtRest, NeverFall}
+use Rattle.bdb_tables.specs.Reading.{OnlyReads}
 use Rattle.bdb_tables.proofs.Loops.{goes_then, counts_then, steps_ok, steps_err}
 use Rattle.bdb_val.proofs.Calls.{HasGone}
 
@@ -54,6 +55,16 @@ read_ok old new x fault e q = record { rest = at_work old e; kept = q.kept; writ
 
 pub read_err : {T U E : Type 0} (old a b : Seen) (e fault : E) → old.running ≡ true → IsQuiet old a → IsRead {T = T} {E = E} a b (Err e) fault → IsRead {T = U} {E = E} old b (Err e) fault
 read_err old a b e fault run q r = record {
+  rest = at_work old run;
+  kept = tt;
+  writes = r.writes ∙ q.writes;
+  counts = counts_then old a b q.counts r.counts;
+  steps = steps_err old a b e fault q.goes r.steps;
+}
+
+-- the same after a call that only reads
+pub looks_err : {T U E : Type 0} (old a b : Seen) (e fault : E) → old.running ≡ true → IsQuiet old a → OnlyReads {T = T} {E = E} a b (Err e) fault → IsRead {T = U} {E = E} old b (Err e) fault
+looks_err old a b e fault run q r = record {
   rest = at_work old run;
   kept = tt;
   writes = r.writes ∙ q.writes;

@@ -21,6 +21,7 @@ use Rattle.bdb_tables.specs.Writes.{Gives}
 use Rattle.bdb_tables.proofs.Numbered.{one_more, take_more, take_none}
 use Rattle.bdb_tables.proofs.SameLemmas.{gives_still}
 use Rattle.bdb_worlds.proofs.ReadLemmas.{found_is}
+use Rattle.bdb_update.specs.Keys.{AreRelations}
 
 -- ---- lengths
 
@@ -45,9 +46,13 @@ relations_more t n def rels num row is all g =
     let at : slice_get all n ≡ Some def = sym (found_is rel_codec rel_rows_are_one t (slice_get all) g n num (Some def) row) in
     ap (λ ys. ys ++ def ∷ []) (is all g) ∙ sym (take_more n all def at) ∙ ap (λ k. take k all) (one_more n)
 
-pub relations_none : (t : Tables) (n : ℕ) (rels : List RelDef) → IsNum n → HasAt rel_codec t n None → AreFirst t n rels → HaveKeyLengths t rels
+pub relations_none : (t : Tables) (n : ℕ) (rels : List RelDef) → IsNum n → HasAt rel_codec t n None → AreFirst t n rels → AreRelations t rels
 relations_none t n rels num none is all g =
-    ap key_lengths (is all g ∙ take_none n all (sym (found_is rel_codec rel_rows_are_one t (slice_get all) g n num None none)))
+    is all g ∙ take_none n all (sym (found_is rel_codec rel_rows_are_one t (slice_get all) g n num None none))
+
+-- they tell the lengths of all keys
+pub relations_tell : (t : Tables) (rels : List RelDef) → AreRelations t rels → HaveKeyLengths t rels
+relations_tell t rels is all g = ap key_lengths (is all g)
 
 -- whether two signed tuples clash is told by the length of the key of the first one's relation
 pub clash_of : (keys : ℕ → ℕ) (n : ℕ) (u : Tuple) (s : Sign) (v : Tuple) (r : Sign) → n ≡ keys u.rel → clash (λ _. n) u s v r ≡ clash keys u s v r

@@ -1,8 +1,9 @@
 -- Rows of the catalog put into tables that store a base.
-use Rattle.std.proofs.Common.{◌≡◌, ℕ, ◌-◌, Bool, true, false, not, ◌&&◌, nat_eq, nat_lt, List, [], ◌∷◌, ◌++◌, slice_set, Option, Some, None, is_some, cond, suc, zero, refl, ap, sym, ◌∙◌}
+use Rattle.std.proofs.Common.{◌≡◌, ℕ, ◌-◌, Bool, true, false, not, ◌&&◌, ◌||◌, nat_eq, nat_le, nat_lt, List, [], ◌∷◌, ◌++◌, slice_set, Option, Some, None, is_some, cond, suc, zero, refl, ap, sym, ◌∙◌, arith}
 use Rattle.std.specs.List.{list_all}
 use Rattle.std.specs.Option.{option_and_then}
 use Rattle.std.proofs.lemmas.Bool.{or_from}
+use Rattle.std.proofs.lemmas.Bool.Decides.{nat_tests}
 use Rattle.bdb_base.specs.Bases.{Contents, belongs, is_user, key_lengths, name_at}
 use Rattle.bdb_base.specs.Segments.{is_suffix}
 use Rattle.bdb_base.specs.States.{edge_target}
@@ -22,6 +23,7 @@ use Rattle.bdb_tables.specs.Writes.{Gives, with_change}
 use Rattle.bdb_tables.proofs.CatalogLemmas.{user_more, user_gone, relation_more}
 use Rattle.bdb_tables.proofs.SameLemmas.{outside_one, change_same, gives_still, tuples_still, states_still}
 use Rattle.bdb_tables.proofs.WriteLemmas.{gives_same}
+use Rattle.bdb_worlds.specs.Growth.{SameOutside}
 use Rattle.bdb_update.specs.StoredLaws.{is_edges, PutStoresRelation, EdgesStoreUser, EdgesStoreWithoutUser, GonePlaceStored}
 use Rattle.bdb_update.proofs.LengthLemmas.{row_stays}
 
@@ -59,6 +61,13 @@ put_stores_relation t b rel def s all e num fits =
     }
 
 -- ---- a user
+
+-- the range of two tables is those of edges
+pub edges_alone : (t u : Tables) → SameOutside 9 10 t u → SameBut is_edges t u
+edges_alone t u same n k other = same n k (no_edges n other)
+  where
+    no_edges : (n : ℕ) → (nat_eq n 9 || nat_eq n 10) ≡ false → (nat_le 9 n && nat_le n 10) ≡ false
+    no_edges n e = grind (arith, nat_tests)
 
 pub outside_edges : (n : ℕ) → is_table n ≡ false → is_edges n ≡ false
 outside_edges n h = or_from (nat_eq n 9) (nat_eq n 10) (outside_one 9 refl n h) (outside_one 10 refl n h)

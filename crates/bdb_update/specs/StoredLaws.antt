@@ -1,5 +1,5 @@
 -- What holds of tables that store a base with its worlds. Each law is the contract of a function of `stored_laws`.
-use Rattle.std.specs.Prelude.{◌≡◌, ℕ, ◌+◌, Bool, true, ◌||◌, nat_eq, List, [], ◌∷◌, ◌++◌, length}
+use Rattle.std.specs.Prelude.{◌≡◌, ℕ, ◌+◌, Bool, true, ◌||◌, nat_eq, List, [], ◌∷◌, ◌++◌, length, None}
 use Rattle.std.specs.List.{list_all}
 use Rattle.std.specs.FinMap as tables
 use Rattle.bdb_base.specs.Bases.{Contents, IsValid, belongs, empty_contents, is_user, with_user, without_user, with_relation}
@@ -25,9 +25,13 @@ StoredIsInGrammar = (t : Tables) (b : Contents) → Stores t b → InGrammar t
 abbrev pub StoredBaseIsOne : Type 0
 StoredBaseIsOne = (t : Tables) (a b : Contents) → Stores t a → Stores t b → IsValid a.catalog a.stmts → IsValid b.catalog b.stmts → a ≡ b
 
--- the row of the format and the depth of world 0 store the empty base
+-- no table has a row
+abbrev pub HaveNoRows : Tables → Type 0
+HaveNoRows t = (n : ℕ) (k : List ℕ) → tables.get t (n ∷ k) ≡ None
+
+-- where no table has a row, the row of the format and the depth of world 0 store the empty base
 abbrev pub TwoRowsStoreEmpty : Type 0
-TwoRowsStoreEmpty = Stores (tables.insert (tables.insert tables.empty (place meta_codec tt) (meta_codec.row_bytes 3)) (place depth_codec 0) (depth_codec.row_bytes 0)) empty_contents
+TwoRowsStoreEmpty = (t : Tables) → HaveNoRows t → Stores (tables.insert (tables.insert t (place meta_codec tt) (meta_codec.row_bytes 3)) (place depth_codec 0) (depth_codec.row_bytes 0)) empty_contents
 
 -- the row of a relation whose number is the next adds the relation, where no statement is of a relation that there isn't
 abbrev pub PutStoresRelation : Type 0

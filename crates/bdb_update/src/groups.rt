@@ -1,12 +1,9 @@
 // The explicit rows of a group: those of a world, a relation and a key.
-ghost use Rattle.std.specs.Prelude.{◌≡◌, ◌++◌, true, is_some, IfOk, OnOk};
-ghost use Rattle.std.specs.FinMap as tables;
+ghost use Rattle.std.specs.Prelude.{◌≡◌, ◌++◌, true, IfOk, OnOk};
 ghost use Rattle.std.specs.List.{AllByRecursion};
 ghost use Rattle.bdb_base.specs.Clash.{key_of};
 ghost use Rattle.bdb_keep.specs.Calls.{IsRead};
-ghost use Rattle.bdb_tables.specs.Codec.{HasRow, place};
 ghost use Rattle.bdb_tables.specs.Grammar.{InGrammar};
-ghost use Rattle.bdb_tables.specs.InUse.{tuple_codec};
 ghost use Rattle.bdb_tables.specs.GroupMarks.{group_bytes};
 ghost use Rattle.bdb_update.specs.Groups.{AreExplicit, AreExplicitUnder, HasTuple, IsPicked};
 ghost use Rattle.bdb_val.specs.Reads.{HaveTuples};
@@ -15,7 +12,7 @@ use crate::keys::KEY_ROOM;
 use bdb_base::{List, Sign, Tuple, Value, key_of};
 use bdb_keep::Keeper;
 use bdb_key::put_vals;
-use bdb_tables::{TabError, TupleTab, ValTab, get, put_pair, rows_under};
+use bdb_tables::{TabError, ValTab, put_pair, read_tuple, rows_under};
 use bdb_val::Stored;
 use std::alloc::{AllocError, Global};
 
@@ -107,7 +104,7 @@ fn push_explicit<K: Keeper>(
     if !entry.1.1 {
         return Ok(());
     }
-    let tuple = match tuple_of(alloc, keeper, entry.0.3) {
+    let tuple = match read_tuple(alloc, keeper, entry.0.3) {
         Ok(tuple) => tuple,
         Err(error) => return Err(error),
     };
@@ -122,19 +119,5 @@ fn push_explicit<K: Keeper>(
             keeper.undo();
             Err(TabError::Memory)
         }
-    }
-}
-
-// The tuple of a number that has one. One read.
-fn tuple_of<K: Keeper>(alloc: Global, keeper: &mut K, tid: u32) -> Result<Tuple, TabError>
-    requires grammar { InGrammar (K.seen keeper.old).kept }
-    requires there { is_some (tables.get (K.seen keeper.old).kept (place tuple_codec tid)) ≡ true }
-    ensures tuple { IfOk result (λ tuple. HasRow tuple_codec (K.seen keeper.old).kept tid tuple) }
-    ensures read { IsRead (K.seen keeper.old) (K.seen keeper.new) result TabError.Fault }
-{
-    match get::<TupleTab, K>(alloc, keeper, &tid) {
-        Ok(Some(tuple)) => Ok(tuple),
-        Ok(None) => unreachable!(),
-        Err(error) => Err(error),
     }
 }

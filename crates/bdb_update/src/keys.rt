@@ -1,11 +1,13 @@
 // How long keys are, and keys of rows by their bytes.
-ghost use Rattle.std.specs.Prelude.{◌≡◌, true, IfOk, OnOk};
+ghost use Rattle.std.specs.Prelude.{◌≡◌, IfOk, OnOk};
 ghost use Rattle.bdb_base.specs.Bases.{key_lengths};
 ghost use Rattle.bdb_base.specs.Clash.{clash, same_key};
 ghost use Rattle.bdb_keep.specs.Calls.{IsRead};
 ghost use Rattle.bdb_tables.specs.Grammar.{InGrammar};
 ghost use Rattle.bdb_tables.specs.InUse.{HaveKeyTexts, IsValKey, val_bytes};
-ghost use Rattle.bdb_tables.specs.Lengths.{HaveKeyLengths, IsKeyLength};
+ghost use Rattle.bdb_tables.specs.Lengths.{IsKeyLength};
+ghost use Rattle.bdb_tables.specs.Reading.{OnlyReads};
+ghost use Rattle.bdb_update.specs.Keys.{AreRelations};
 
 use bdb_base::{List, RelDef, Sign, Tuple, Value, clash, key_length, same_key};
 use bdb_keep::{KeepError, Keeper};
@@ -31,12 +33,11 @@ pub fn key_length_of<K: Keeper>(
     }
 }
 
-/// The relations that tables have, by number from 0: they tell the lengths of all keys. A read for each, and one more.
-pub fn key_relations<K: Keeper>(alloc: Global, keeper: &mut K) -> Result<List<RelDef>, TabError>
-    requires running { (K.seen keeper.old).running ≡ true }
+/// The relations that tables have, by number from 0. A read for each, and one more.
+pub fn stored_relations<K: Keeper>(alloc: Global, keeper: &mut K) -> Result<List<RelDef>, TabError>
     requires grammar { InGrammar (K.seen keeper.old).kept }
-    ensures lengths { IfOk result (HaveKeyLengths (K.seen keeper.old).kept) }
-    ensures read { IsRead (K.seen keeper.old) (K.seen keeper.new) result TabError.Fault }
+    ensures relations { IfOk result (AreRelations (K.seen keeper.old).kept) }
+    ensures looks { OnlyReads (K.seen keeper.old) (K.seen keeper.new) result TabError.Fault }
 {
     let mut rels = List::new(alloc);
     for rel in 0..u32::MAX {

@@ -38,6 +38,8 @@ pub use change_laws::{
 };
 pub use changing::change_statements;
 pub use dropping::drop_statement;
+pub use keys::stored_relations;
+pub use looking::size_passed;
 pub use replacing::{add_statements, drop_statements};
 pub use standing::stands;
 pub use stored_laws::{

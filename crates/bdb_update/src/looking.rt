@@ -266,8 +266,8 @@ fn counts_with(stmt: &Stmt, place: &Place, counts: &Counts) -> Counts
     }
 }
 
-// The first limit that is passed by so many worlds, tuples and statements.
-fn size_passed(counts: &Counts) -> Option<What>
+/// The first limit that is passed by so many worlds, tuples and statements.
+pub fn size_passed(counts: &Counts) -> Option<What>
     ensures { result ≡ size_passed counts.now }
 {
     if counts.worlds as usize > MOST_WORLDS {

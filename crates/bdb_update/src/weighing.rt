@@ -13,7 +13,7 @@ ghost use Rattle.bdb_update.specs.Weighing.{SomeMayWeigh, TellsRoom, Weighs, hav
 
 use crate::clashing::first_clashing;
 use crate::elsewhere::{fresh_of, lost_of};
-use crate::keys::key_relations;
+use crate::keys::stored_relations;
 use crate::reached::{read_statements, with_statements, without_statements};
 use bdb_base::limits::MOST_TUPLES;
 use bdb_base::{Exact, List, Path, RelDef, Stmt, distinct_tuples};
@@ -52,7 +52,7 @@ pub fn weigh<K: Keeper>(
         Ok(stmts) => stmts,
         Err(error) => return Err(error),
     };
-    let rels = match key_relations(alloc, keeper) {
+    let rels = match stored_relations(alloc, keeper) {
         Ok(rels) => rels,
         Err(error) => return Err(error),
     };

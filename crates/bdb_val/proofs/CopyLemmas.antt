@@ -21,9 +21,10 @@ use Rattle.bdb_tables.specs.Spans.{AreUnder, IsUnder, entry_cmp}
 use Rattle.bdb_tables.specs.Writes.{IsChange, Gives, with_changes, with_row_at, with_rows_at}
 use Rattle.bdb_tables.proofs.Held.{same_place, some_same, none_some}
 use Rattle.bdb_tables.proofs.WriteLemmas.{changes_give, gives_same}
+use Rattle.bdb_tables.proofs.ListLemmas.{prefix_append}
 use Rattle.bdb_val.specs.Reads.{HaveTuples, world_prefix}
 use Rattle.bdb_val.specs.WorldCopies.{inherited_or, key_in, rows_copied, rows_cleared, CopiesWorld, ClearsWorld}
-use Rattle.bdb_val.proofs.ReadLemmas.{rows_at, prefix_append, world_of_key}
+use Rattle.bdb_val.proofs.ReadLemmas.{rows_at, world_of_key}
 use Rattle.bdb_val.proofs.StateLemmas.{HasTuple, changes_keep}
 use Rattle.bdb_val.proofs.ToldLemmas.{entries_stand}
 

@@ -29,6 +29,7 @@ use Rattle.bdb_tables.proofs.Held.{same_place, some_same, none_some}
 use Rattle.bdb_tables.specs.Marks.{Mark}
 use Rattle.bdb_tables.specs.Rows.{AreKeyLengths}
 use Rattle.bdb_tables.specs.GroupMarks.{group_bytes}
+use Rattle.bdb_tables.proofs.ListLemmas.{prefix_append, prefix_rest, prefix_shorter}
 use Rattle.bdb_val.specs.Settling.{mark_in, AreNamed, are_apart, row_key}
 use Rattle.bdb_val.specs.Reads.{AreTold, AreReadUnder, HasRows, IsSpan, world_prefix, is_of_group}
 use Rattle.bdb_val.specs.declared.stored.Stored.{Stored}
@@ -222,24 +223,6 @@ module _ (keys : ℕ → ℕ) (tuple : ℕ → Option Tuple) (f : ValKey → Opt
   told_tested wid test prefix xs s r = tested prefix wid test s r.entries xs r.under.each (keyed_under prefix r.entries r.under) r.told
 
 -- ---- the keys of a world, and of a group
-
-pub prefix_append : (p q : List ℕ) → is_prefix p (p ++ q) ≡ true
-prefix_append [] q = refl
-prefix_append (i ∷ p) q = and_from (nat_eq i i) (is_prefix p (p ++ q)) (eq-eqb i i refl) (prefix_append p q)
-
-prefix_shorter : (p r q : List ℕ) → is_prefix (p ++ r) q ≡ true → is_prefix p q ≡ true
-prefix_shorter [] r q e = refl
-prefix_shorter (i ∷ p) r [] e = e
-prefix_shorter (i ∷ p) r (j ∷ q) e = let k = and_parts (nat_eq i j) (is_prefix (p ++ r) q) e in and_from (nat_eq i j) (is_prefix p q) k.0 (prefix_shorter p r q k.1)
-
--- what follows a beginning
-pub prefix_rest : (p q : List ℕ) → is_prefix p q ≡ true → (r : List ℕ) × (q ≡ p ++ r)
-prefix_rest [] q e = (q, refl)
-prefix_rest (i ∷ p) [] e = absurd (false≢true e)
-prefix_rest (i ∷ p) (j ∷ q) e =
-    let k = and_parts (nat_eq i j) (is_prefix p q) e in
-    let r = prefix_rest p q k.1 in
-    (r.0, ap (λ n. n ∷ q) (sym (eqb-true i j k.0)) ∙ ap (λ (x : List ℕ). i ∷ x) r.1)
 
 pub world_of_key : (wid : ℕ) → IsNum wid → (k : ValKey) → IsValKey k → is_prefix (num_bytes wid) (val_bytes k) ≡ true → k.0 ≡ wid
 world_of_key wid n k v e =

@@ -19,8 +19,9 @@ use Rattle.bdb_tables.specs.Spans.{AreUnder}
 use Rattle.bdb_tables.specs.Writes.{IsChange, with_change, with_changes}
 use Rattle.bdb_tables.proofs.Held.{same_place}
 use Rattle.bdb_tables.proofs.WriteLemmas.{get_after_change}
+use Rattle.bdb_tables.proofs.ListLemmas.{prefix_append}
 use Rattle.bdb_val.specs.Rooms.{AreHanded, AreRowsOf, AreSingle, HaveNone, IsNoted, IsRoomFor, unless_from}
-use Rattle.bdb_val.proofs.ReadLemmas.{prefix_append, world_of_group}
+use Rattle.bdb_val.proofs.ReadLemmas.{world_of_group}
 
 -- ---- the rows that are handed down
 

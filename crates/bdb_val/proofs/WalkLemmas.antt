@@ -29,6 +29,7 @@ use Rattle.bdb_tables.specs.States.{row_where}
 use Rattle.bdb_tables.specs.Writes.{with_row_at, with_rows_at}
 use Rattle.bdb_tables.specs.GroupMarks.{group_bytes}
 use Rattle.bdb_tables.proofs.Held.{same_place}
+use Rattle.bdb_tables.proofs.ListLemmas.{prefix_append, prefix_rest}
 use Rattle.bdb_val.specs.Groups.{HasLinks, IsUnsettled}
 use Rattle.bdb_val.specs.Middle.{worlds_of, HasExplicit, IsSettledAt, AreSettledBut}
 use Rattle.bdb_val.specs.Reads.{is_of_group}
@@ -37,7 +38,7 @@ use Rattle.bdb_val.specs.Steps.{AreSpans}
 use Rattle.bdb_val.specs.Walks.{AreLinkedTo, IsVisit, IsQuiet, Walked, changes_of}
 use Rattle.bdb_val.specs.Walks.Walked.{first, next}
 use Rattle.bdb_val.proofs.HeldLemmas.{some_is, settled_rows_are_held}
-use Rattle.bdb_val.proofs.ReadLemmas.{prefix_append, prefix_rest, group_span}
+use Rattle.bdb_val.proofs.ReadLemmas.{group_span}
 use Rattle.bdb_val.proofs.VisitLemmas.{linked_is_named, links_after, explicit_after, settled_here, settled_there, settled_other, quiet_signs}
 
 -- ---- the worlds linked to a world

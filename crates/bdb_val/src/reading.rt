@@ -1,14 +1,11 @@
 // Reading rows of worlds with their tuples.
-ghost use Rattle.std.specs.Prelude.{◌≡◌, ◌+◌, ◌*◌, ◌≤◌, ◌++◌, [], true, IfOk, OnOk, length, drop, map, is_some};
-ghost use Rattle.std.specs.FinMap as tables;
-ghost use Rattle.bdb_base.specs.Causes.{RoseBy};
+ghost use Rattle.std.specs.Prelude.{◌≡◌, ◌+◌, ◌*◌, ◌≤◌, ◌++◌, [], true, IfOk, OnOk, length, drop, map};
 ghost use Rattle.bdb_keep.specs.Calls.{IsRead};
 ghost use Rattle.bdb_key.specs.Bytes.{num_bytes};
 ghost use Rattle.bdb_key.specs.Grammar.{AreKeyVals};
-ghost use Rattle.bdb_tables.specs.Codec.{HasRow, place};
 ghost use Rattle.bdb_tables.specs.Grammar.{InGrammar};
 ghost use Rattle.bdb_tables.specs.GroupMarks.{group_bytes, in_group};
-ghost use Rattle.bdb_tables.specs.InUse.{HaveKeyTexts, tuple_codec, val_codec};
+ghost use Rattle.bdb_tables.specs.InUse.{HaveKeyTexts, val_codec};
 ghost use Rattle.bdb_tables.specs.Spans.{AreUnder};
 ghost use Rattle.bdb_val.specs.Reads.{AreReadUnder, HaveTuples, world_prefix};
 ghost use Rattle.bdb_val.specs.Rooms.{MayBegin};
@@ -16,12 +13,10 @@ ghost use Rattle.bdb_val.specs.Rooms.{MayBegin};
 use crate::changes::Marked;
 use crate::room::{GroupRoom, PREFIX_ROOM};
 use crate::stored::Stored;
-use bdb_base::{Tuple, Value};
+use bdb_base::Value;
 use bdb_keep::Keeper;
 use bdb_key::put_num;
-use bdb_tables::{
-    Room, TabError, TupleTab, get, marks_under, numbered_under, put_key_vals, put_pair,
-};
+use bdb_tables::{Room, TabError, marks_under, numbered_under, put_key_vals, put_pair, read_tuple};
 use std::alloc::{AllocError, Global};
 
 /// The rows of worlds whose keys begin with these bytes, with their tuples, in the order of the keys. Two reads for each
@@ -47,7 +42,7 @@ pub fn read_stored<K: Keeper>(
     };
     let mut rows = Vec::new(alloc);
     for entry in &entries {
-        match tuple_of(alloc, keeper, entry.0) {
+        match read_tuple(alloc, keeper, entry.0) {
             Ok(tuple) => {
                 let row = Stored {
                     tid: entry.0,
@@ -63,21 +58,6 @@ pub fn read_stored<K: Keeper>(
         }
     }
     Ok(rows)
-}
-
-// The tuple of a number that has one. One read.
-fn tuple_of<K: Keeper>(alloc: Global, keeper: &mut K, tid: u32) -> Result<Tuple, TabError>
-    requires grammar { InGrammar (K.seen keeper.old).kept }
-    requires there { is_some (tables.get (K.seen keeper.old).kept (place tuple_codec tid)) ≡ true }
-    ensures tuple { IfOk result (λ tuple. HasRow tuple_codec (K.seen keeper.old).kept tid tuple) }
-    ensures reads { OnOk result (RoseBy 1 (K.seen keeper.old).reads (K.seen keeper.new).reads) }
-    ensures read { IsRead (K.seen keeper.old) (K.seen keeper.new) result TabError.Fault }
-{
-    match get::<TupleTab, K>(alloc, keeper, &tid) {
-        Ok(Some(tuple)) => Ok(tuple),
-        Ok(None) => unreachable!(),
-        Err(error) => Err(error),
-    }
 }
 
 /// The rows of a world, with their tuples, in the order of the keys.

@@ -7,9 +7,9 @@ use Rattle.bdb_tables.specs.InUse.{depth_codec, link_codec}
 use Rattle.bdb_tables.specs.Names.{Names, AreNames, path_of, number_of, is_named}
 use Rattle.bdb_tables.specs.States.{HoldsStates}
 use Rattle.bdb_names.proofs.NameLemmas.{deep_number, depth_at, link_at, none_is_some, same_some}
-use Rattle.bdb_worlds.specs.Holding.{HoldSome, StandsFor, Worlds}
+use Rattle.bdb_worlds.specs.Holding.{Worlds}
 use Rattle.bdb_worlds.proofs.ReadLemmas.{depth_read, link_read}
-use Rattle.bdb_why.specs.Reading.{EndsAt, HasDepth, LinksTo, SomeHaveLink, SomeHaveState}
+use Rattle.bdb_why.specs.Reading.{HasDepth, LinksTo, SomeHaveLink, SomeHaveState}
 
 -- a number that stands for a path is one of four bytes
 number_small : (ns : Names) → AreNames ns → (n : ℕ) (w : List ℕ) → path_of ns n ≡ Some w → n < 2 ^ 32
@@ -54,16 +54,3 @@ link_leads t n m d has deep s h i w e =
     let v = deepest_suffix (is_named s.names) w in
     let number : number_of s.names v ≡ Some m = sym (link_is t s h n i w e (Some m) has) in
     record { number = number; depth = deep s h v (h.names.numbered v m number) }
-
--- ---- the first state
-
-pub first_has_state : (t : Tables) (path : List ℕ) (n : ℕ) → HoldSome t path → StandsFor t path n → SomeHaveState t n
-first_has_state t path n some found =
-    let s = some.worlds in
-    let v = deepest_suffix (is_named s.names) path in
-    record { worlds = s; states = some.states; path = v; named = some.states.names.numbered v n (found s some.states some.own) }
-
-pub first_ends : (t : Tables) (path : List ℕ) (n d : ℕ) → StandsFor t path n → HasDepth t n d → EndsAt t path path (n, d)
-first_ends t path n d found deep s h own =
-    let v = deepest_suffix (is_named s.names) path in
-    record { number = found s h own; depth = deep s h v (h.names.numbered v n (found s h own)) }

@@ -22,11 +22,11 @@ use Rattle.bdb_val.specs.Reads.{HaveTuples}
 use Rattle.bdb_tables.specs.Grammar.{InGrammar}
 use Rattle.bdb_update.specs.Keys.{keys_of}
 use Rattle.bdb_worlds.specs.Bounds.{RisesWithin}
-use Rattle.bdb_worlds.specs.Holding.{HoldSome, Worlds}
+use Rattle.bdb_worlds.specs.Holding.{EndsAt, HoldSome, Worlds}
 use Rattle.bdb_catalog.specs.Bases.{SomeHasUsers}
 use Rattle.bdb_catalog.proofs.StoredFacts.{path_grammar, path_states, path_tuples}
 use Rattle.bdb_why.specs.Ends.{ends_in, is_near, near_at}
-use Rattle.bdb_why.specs.Reading.{EndsAt, LinksTo, PutsNear, ReadsHere, SomeHaveLink}
+use Rattle.bdb_why.specs.Reading.{LinksTo, PutsNear, ReadsHere, SomeHaveLink}
 use Rattle.bdb_why.specs.Stored.{AreNear, MayAsk, SomeMayAsk, reads_at}
 use Rattle.bdb_why.proofs.EndLemmas.{ends_here, ends_past}
 use Rattle.bdb_why.proofs.NearLemmas.{near_is_at_states}

@@ -1,32 +1,22 @@
 -- What is read of tables on the way down a path, from one state among its ends to the next.
 use Rattle.std.specs.Prelude.{◌≡◌, ℕ, ◌+◌, ◌≤◌, ◌*◌, true, List, ◌∷◌, length, map, sum_by, Some}
-use Rattle.std.specs.List.{list_all}
 use Rattle.bdb_base.specs.Bases.{Contents, fits_relation, key_lengths}
 use Rattle.bdb_base.specs.Order.{statement_cmp}
 use Rattle.bdb_base.specs.SortedSet.{put_all}
-use Rattle.bdb_base.specs.States.{deepest_suffix, is_state}
+use Rattle.bdb_base.specs.States.{is_state}
 use Rattle.bdb_base.specs.declared.kinds.Sign.TheVariants.{Plus, Minus}
 use Rattle.bdb_base.specs.declared.kinds.Stmt.{Stmt}
 use Rattle.bdb_base.specs.declared.tuple.Tuple.{Tuple}
 use Rattle.bdb_base.specs.SameLemmas.{statement_of}
 use Rattle.bdb_keep.specs.Seen.{Seen}
 use Rattle.bdb_keep.specs.Tables.{Tables}
-use Rattle.bdb_tables.specs.Names.{path_of, number_of, is_named}
+use Rattle.bdb_tables.specs.Names.{path_of}
 use Rattle.bdb_tables.specs.States.{HoldsStates}
 use Rattle.bdb_worlds.specs.Bounds.{RisesWithin}
-use Rattle.bdb_worlds.specs.Holding.{Worlds}
+use Rattle.bdb_worlds.specs.Holding.{IsDeepest, Worlds}
 use Rattle.bdb_catalog.specs.Bases.{StoresValid}
 use Rattle.bdb_why.specs.Ends.{ends_in, near_at}
 use Rattle.bdb_why.specs.Stored.{MayAsk, reads_at, rows_of_key}
-
--- a number stands for the deepest state that a path ends in, which has so many users
-pub record IsDeepest (s : Worlds) (w : List ℕ) (at : ℕ × ℕ) : Type 0 where
-  pub number : number_of s.names (deepest_suffix (is_named s.names) w) ≡ Some at.0
-  pub depth : at.1 ≡ length (deepest_suffix (is_named s.names) w)
-
--- whichever states the tables hold over users among whom are those of a path, of which the other is an end
-abbrev pub EndsAt : Tables → List ℕ → List ℕ → ℕ × ℕ → Type 0
-EndsAt t path w at = (s : Worlds) → HoldsStates s.users s.names t → list_all s.users path ≡ true → IsDeepest s w at
 
 -- tables hold some states, for one of which a number stands
 pub record SomeHaveState (t : Tables) (wid : ℕ) : Type 0 where

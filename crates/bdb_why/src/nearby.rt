@@ -15,12 +15,13 @@ ghost use Rattle.bdb_val.specs.Reads.{HaveTuples};
 ghost use Rattle.bdb_why.specs.Reading.{PutsNear, ReadsAfterOne, ReadsHere, with_both};
 ghost use Rattle.bdb_why.specs.Stored.{AreNear, SomeMayAsk};
 
-use crate::descent::{deepest_end, next_end};
+use crate::descent::next_end;
 use bdb_base::{List, Path, Sign, Stmt, Tuple, Value, key_of, put};
 use bdb_catalog::tuples_under;
 use bdb_keep::Keeper;
 use bdb_key::{put_num, put_vals};
 use bdb_tables::TabError;
+use bdb_worlds::deepest_state;
 use std::alloc::{AllocError, Global};
 
 /// The statements at the path's ends whose tuples have the relation and key, in order, where the relation has keys of the
@@ -44,7 +45,7 @@ pub fn near_statements<K: Keeper>(
     ensures counts { NeverFall (K.seen keeper.old) (K.seen keeper.new) }
     ensures steps { Steps (K.seen keeper.old) (K.seen keeper.new) result TabError.Fault }
 {
-    let mut at = match deepest_end(alloc, keeper, path) {
+    let mut at = match deepest_state(alloc, keeper, path) {
         Ok(at) => at,
         Err(error) => return Err(error),
     };

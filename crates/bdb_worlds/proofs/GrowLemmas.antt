@@ -2,7 +2,7 @@
 use Rattle.std.proofs.Common.{◌≡◌, ◌∙◌, ℕ, ◌+◌, ◌-◌, ◌≤◌, ◌<◌, ◌^◌, Bool, true, false, ◌&&◌, ◌||◌, nat_eq, cond, List, [], ◌∷◌, ◌++◌, refl, ap, sym, subst, inl, inr, suc, zero, arith, length, take, get_or, Option, Some, None}
 use Rattle.std.specs.Option.{is_some, option_map}
 use Rattle.std.specs.FinMap as tables
-use Rattle.std.proofs.lemmas.Bool.{and_parts, and_from, or_left, or_right, or_cases, or_from, false≢true, false_from_ne_true, cond-true, eqb-true, eq-eqb, cases_lt}
+use Rattle.std.proofs.lemmas.Bool.{and_from, or_left, or_right, or_cases, or_from, false≢true, false_from_ne_true, cond-true, eq-eqb, cases_lt}
 use Rattle.bdb_base.specs.Alternation.{alternates}
 use Rattle.bdb_base.specs.Same.{same_path}
 use Rattle.bdb_base.specs.SameLemmas.{same_path-Decides}
@@ -15,6 +15,7 @@ use Rattle.bdb_tables.specs.Codec.{HasAt, place}
 use Rattle.bdb_tables.specs.InUse.{IsPair, edge_codec}
 use Rattle.bdb_tables.specs.Names.{Names, path_of, number_of, is_named, is_listed, with_name, depth_of, link_of, edge_of}
 use Rattle.bdb_tables.specs.States.{HoldsStates, TablesAre}
+use Rattle.bdb_tables.proofs.ListLemmas.{prefix_rest}
 use Rattle.bdb_names.specs.Moves.{IsLeaf, AreMovers}
 use Rattle.bdb_names.specs.Turned.{links_led, edges_led, with_links, with_edges}
 use Rattle.bdb_names.proofs.AddedLemmas.{edges_led_are, links_led_are, moved_links, moved_edges, state_added}
@@ -187,14 +188,6 @@ pub record IsGrowing (s : Worlds) (u : Tables) (path : List ℕ) (worlds len : �
 
 abbrev pub Growing : Tables → Tables → List ℕ → ℕ → ℕ → List ℕ → ℕ → ℕ → Type 0
 Growing t u path worlds len new at low = (s : Worlds) → MayGrow s t path worlds → IsGrowing s u path worlds len new at low
-
-prefix_rest : (w p : List ℕ) → is_prefix w p ≡ true → (r : List ℕ) × (p ≡ w ++ r)
-prefix_rest [] p h = (p, refl)
-prefix_rest (i ∷ w) [] h = absurd (false≢true h)
-prefix_rest (i ∷ w) (j ∷ p) h =
-    let k = and_parts (nat_eq i j) (is_prefix w p) h in
-    let r = prefix_rest w p k.1 in
-    (r.0, ap (λ n. n ∷ p) (sym (eqb-true i j k.0)) ∙ ap (λ (z : List ℕ). i ∷ z) r.1)
 
 longer_is_new : (s : Worlds) (t : Tables) (h : HoldsStates s.users s.names t) (path : List ℕ) (j k : ℕ) → j ≤ k → is_named s.names (take j path) ≡ false → is_named s.names (take k path) ≡ false
 longer_is_new s t h path j k l f = false_from_ne_true (is_named s.names (take k path)) (λ named.

@@ -21,6 +21,7 @@ use Rattle.bdb_tables.specs.Names.{is_listed, are_once, leads_to}
 use Rattle.bdb_tables.specs.Spans.{AreUnder, IsUnder, entry_bytes, entry_cmp}
 use Rattle.bdb_tables.specs.States.{row_where}
 use Rattle.bdb_tables.specs.Writes.{Gives}
+use Rattle.bdb_tables.proofs.ListLemmas.{prefix_append, prefix_rest}
 use Rattle.bdb_names.specs.Turned.{look, same_edge}
 use Rattle.bdb_names.proofs.TurnedLemmas.{pair_eq, triple_eq}
 use Rattle.bdb_worlds.specs.Dropping.{pairs_of, kids_of, edges_of}
@@ -67,18 +68,6 @@ module _ {Key Row : Type 0} (c : Codec Key Row) (order : KeepsOrder c) where
       (sym (found_in prefix es key fits under.each) ∙ sym (under.found (c.key_bytes key) begins) ∙ h.rows key fits)
 
 -- ---- keys that begin with a number
-
-prefix_append : (p q : List ℕ) → is_prefix p (p ++ q) ≡ true
-prefix_append [] q = refl
-prefix_append (i ∷ p) q = and_from (nat_eq i i) (is_prefix p (p ++ q)) (eq-eqb i i refl) (prefix_append p q)
-
-prefix_rest : (p q : List ℕ) → is_prefix p q ≡ true → (r : List ℕ) × (q ≡ p ++ r)
-prefix_rest [] q e = (q, refl)
-prefix_rest (i ∷ p) [] e = absurd (false≢true e)
-prefix_rest (i ∷ p) (j ∷ q) e =
-    let k = and_parts (nat_eq i j) (is_prefix p q) e in
-    let r = prefix_rest p q k.1 in
-    (r.0, ap (λ n. n ∷ q) (sym (eqb-true i j k.0)) ∙ ap (λ (x : List ℕ). i ∷ x) r.1)
 
 number_begins : (n a : ℕ) (rest : List ℕ) → IsNum n → IsNum a → is_prefix (num_bytes n) (num_bytes a ++ rest) ≡ true → a ≡ n
 number_begins n a rest fn fa e = let r = prefix_rest (num_bytes n) (num_bytes a ++ rest) e in (num_form a n rest r.0 fa fn r.1).0

@@ -1,6 +1,7 @@
 -- One step of the walk of a path: the edge of a world for the next user.
 use Rattle.std.proofs.Common.{◌≡◌, ◌∙◌, ℕ, ◌+◌, ◌-◌, ◌<◌, ◌^◌, Bool, true, ◌&&◌, List, [], ◌∷◌, ◌++◌, refl, ap, sym, suc, zero, arith, length, take, get_or, Option, Some, None}
 use Rattle.std.specs.List.{list_all}
+use Rattle.std.specs.Option.{option_map}
 use Rattle.std.proofs.lemmas.Bool.{and_parts}
 use Rattle.bdb_base.specs.Alternation.{alternates, begins_otherwise}
 use Rattle.bdb_base.specs.Causes.{Rises, RoseBy}
@@ -8,13 +9,13 @@ use Rattle.bdb_base.specs.States.{deepest_suffix}
 use Rattle.bdb_paths.proofs.SuffixLemmas.{suffixes_extend, deepest_is_suffix}
 use Rattle.bdb_keep.specs.Tables.{Tables}
 use Rattle.bdb_tables.specs.Codec.{HasAt}
-use Rattle.bdb_tables.specs.InUse.{IsPair, edge_codec}
-use Rattle.bdb_tables.specs.Names.{Names, number_of, is_named}
+use Rattle.bdb_tables.specs.InUse.{IsPair, depth_codec, edge_codec}
+use Rattle.bdb_tables.specs.Names.{Names, depth_of, number_of, is_named}
 use Rattle.bdb_tables.specs.States.{HoldsStates}
 use Rattle.bdb_names.proofs.Ends.{no_own_end, ends_otherwise}
-use Rattle.bdb_names.proofs.NameLemmas.{edge_at, edge_is, deep_number, none_is_some}
-use Rattle.bdb_worlds.specs.Holding.{Worlds, HoldSome, LeadsTo}
-use Rattle.bdb_worlds.proofs.ReadLemmas.{edge_read}
+use Rattle.bdb_names.proofs.NameLemmas.{edge_at, edge_is, deep_number, none_is_some, same_some}
+use Rattle.bdb_worlds.specs.Holding.{EndsAt, HoldSome, LeadsTo, StandsFor, Worlds}
+use Rattle.bdb_worlds.proofs.ReadLemmas.{depth_read, edge_read}
 
 -- ---- parts of a path
 
@@ -89,3 +90,23 @@ module _ (t : Tables) (path : List ℕ) (k wid : ℕ) (apart : alternates path �
 
 pub walk_begins : (t : Tables) (path : List ℕ) → LeadsTo t path [] 0
 walk_begins t path s h own = h.names.root
+
+-- ---- the depth of the state that is found
+
+module _ (t : Tables) (path : List ℕ) (wid : ℕ) (stands : StandsFor t path wid) where
+  abbrev deepest : Worlds → List ℕ
+  deepest s = deepest_suffix (is_named s.names) path
+
+  depth_is : (s : Worlds) → HoldsStates s.users s.names t → list_all s.users path ≡ true → (found : Option ℕ) → HasAt depth_codec t wid found → found ≡ Some (length (deepest s))
+  depth_is s h own found has =
+      let n = stands s h own in
+      depth_read t (depth_of s.names) _ _ h.tables wid (h.names.sized (deepest s) wid n) found has
+      ∙ ap (option_map (λ (w : List ℕ). length w)) (h.names.numbered (deepest s) wid n)
+
+  pub depth_there : HoldSome t path → HasAt depth_codec t wid None → ⊥
+  depth_there some none = none_is_some (length (deepest some.worlds)) (depth_is some.worlds some.states some.own None none)
+
+  pub ends_at_it : (depth : ℕ) → HasAt depth_codec t wid (Some depth) → EndsAt t path path (wid, depth)
+  ends_at_it depth has s h own =
+      let e = depth_is s h own (Some depth) has in
+      record { number = stands s h own; depth = same_some depth (length (deepest s)) e }

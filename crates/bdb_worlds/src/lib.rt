@@ -22,4 +22,4 @@ pub use dropping::drop_states;
 pub use growing::add_states;
 pub use reach::longest_state;
 pub use users::{add_user_edges, drop_user_edges};
-pub use walk::resolve;
+pub use walk::{deepest_state, resolve};

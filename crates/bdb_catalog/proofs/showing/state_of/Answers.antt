@@ -1,17 +1,6 @@
-use Rattle.std.proofs.Common.{Some, None}
-use Rattle.bdb_tables.specs.InUse.{depth_codec}
-use Rattle.bdb_tables.proofs.Numbered.{at_old}
-use Rattle.bdb_catalog.proofs.ShowingLemmas.{depth_there, state_found}
+use Rattle.bdb_catalog.proofs.ShowingLemmas.{state_found}
 use Rattle.bdb_catalog.proofs.showing.state_of.Goals as goal
 
-pub unreachable-requires : goal.unreachable-requires
-unreachable-requires g c =
-    let kept = (g.K.Keeper.seen c.args.keeper.now).kept in
-    depth_there kept c.args.path.now c.in-Ok.wid c.in-Ok.ensures.found c.requires.states
-    (at_old depth_codec kept (g.K.Keeper.seen c.resolve.new.keeper).kept c.in-Ok.wid c.in-Ok-None.field-0 None c.in-Ok.ensures.kept c.in-Ok-None.field-0-is c.in-Ok-None.ensures.found)
-
-pub returns-in-Ok-Some-clause-found : goal.returns-in-Ok-Some-clause-found
-returns-in-Ok-Some-clause-found g c =
-    let kept = (g.K.Keeper.seen c.args.keeper.now).kept in
-    state_found kept c.args.path.now c.in-Ok.wid c.in-Ok.ensures.found c.in-Ok-Some.depth
-    (at_old depth_codec kept (g.K.Keeper.seen c.resolve.new.keeper).kept c.in-Ok.wid c.in-Ok-Some.field-0 (Some c.in-Ok-Some.depth) c.in-Ok.ensures.kept c.in-Ok-Some.field-0-is c.in-Ok-Some.ensures.found)
+pub returns-in-Ok-clause-found : goal.returns-in-Ok-clause-found
+returns-in-Ok-clause-found g c =
+    state_found (g.K.Keeper.seen c.args.keeper.now).kept c.args.path.now c.in-Ok.wid c.in-Ok.depth c.in-Ok.ensures.at

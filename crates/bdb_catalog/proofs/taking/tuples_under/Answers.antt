@@ -13,8 +13,8 @@ use Rattle.bdb_catalog.proofs.taking.tuples_under.Goals as goal
 pub rows_under-requires : goal.rows_under-requires
 rows_under-requires g c = record { grammar = λ k r found. c.requires.grammar 11 k r found }
 
-pub tuple_of-requires-clause-there : goal.tuple_of-requires-clause-there
-tuple_of-requires-clause-there g c =
+pub read_tuple-requires-clause-there : goal.read_tuple-requires-clause-there
+read_tuple-requires-clause-there g c =
     let t = (g.K.Keeper.seen c.args.keeper.now).kept in
     let es = c.deref-row-items.result.now in
     let e = c.row-item.result in
@@ -36,18 +36,18 @@ pub loop-row-preserved : goal.loop-row-preserved
 loop-row-preserved g c =
     let old = g.K.Keeper.seen c.args.keeper.now in
     let now = g.K.Keeper.seen c.loop-row.keeper in
-    let new = g.K.Keeper.seen c.tuple_of.new.keeper in
+    let new = g.K.Keeper.seen c.read_tuple.new.keeper in
     let es = c.deref-row-items.result.now in
     let e = c.row-item.result in
     let i = c.loop-row.row-index in
     let h = c.loop-row.invariant in
-    let u = c.in-Ok-tuple_of.tuple in
+    let u = c.in-Ok-read_tuple.tuple in
     let pushed : c.push.new.self.items ≡ c.loop-row.tuples.items ++ u ∷ [] = search rules in
-    let row : HasRow tuple_codec old.kept e.0.3 u = subst (λ t. HasRow tuple_codec t e.0.3 u) h.kept c.in-Ok-tuple_of.ensures.tuple in
+    let row : HasRow tuple_codec old.kept e.0.3 u = subst (λ t. HasRow tuple_codec t e.0.3 u) h.kept c.in-Ok-read_tuple.ensures.tuple in
     let said : is_said c.args.sign e ≡ true = sym c.is_said.ensures ∙ c.if-not-is_said.false in
     let many : length c.push.new.self.items ≡ length c.loop-row.tuples.items + 1 = ap length pushed ∙ length_push c.loop-row.tuples.items u in
-    let reads : new.reads ≤ old.reads + (length es + length c.push.new.self.items + 1) = omega (arith, c.in-Ok-tuple_of.ensures.reads, h.read.reads, many) in
-    reading_more old now new u Fault h c.in-Ok-tuple_of.ensures.read (record {
+    let reads : new.reads ≤ old.reads + (length es + length c.push.new.self.items + 1) = omega (arith, c.in-Ok-read_tuple.ensures.reads, h.read.reads, many) in
+    reading_more old now new u Fault h c.in-Ok-read_tuple.ensures.read (record {
       told = subst (AreTuplesOf old.kept (filter (is_said c.args.sign) (take (i + 1) es))) (sym pushed)
           (told_more old.kept c.args.sign es i e c.loop-row.tuples.items c.loop-row-test.true c.row-item.is h.read.told u said row);
       reads = reads;

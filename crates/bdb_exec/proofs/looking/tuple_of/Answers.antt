@@ -1,5 +1,5 @@
-use Rattle.std.proofs.Common.{sym, subst}
-use Rattle.std.specs.Prelude.{IfSome}
+use Rattle.std.proofs.Common.{ap, sym, subst}
+use Rattle.std.specs.Prelude.{IfSome, is_some}
 use Rattle.std.specs.Ordering.{nat_cmp}
 use Rattle.bdb_tables.specs.Codec.{HasRow}
 use Rattle.bdb_tables.specs.InUse.{tuple_codec}
@@ -11,6 +11,12 @@ returns-in-Ok-clause-tuple g c =
     let t = (g.K.Keeper.seen c.args.keeper.now).kept in
     subst (λ u. HasRow tuple_codec t c.args.tid u) (sym c.in-Ok.ensures)
     (subst (λ o. IfSome o (λ u. HasRow tuple_codec t c.args.tid u)) (sym c.in-Some.ensures.value) (c.requires.memo.1 c.args.tid))
+
+pub read_tuple-requires-clause-grammar : goal.read_tuple-requires-clause-grammar
+read_tuple-requires-clause-grammar g c = c.requires.run.grammar
+
+pub read_tuple-requires-clause-there : goal.read_tuple-requires-clause-there
+read_tuple-requires-clause-there g c = ap is_some c.requires.there.1.found
 
 pub returns-in-Ok-keep_tuple-clause-memo : goal.returns-in-Ok-keep_tuple-clause-memo
 returns-in-Ok-keep_tuple-clause-memo g c =

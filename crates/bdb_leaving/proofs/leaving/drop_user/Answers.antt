@@ -44,5 +44,5 @@ returns-in-Ok-empty_place-clause-steps g c =
 pub returns-in-Ok-empty_place-clause-keeps : goal.returns-in-Ok-empty_place-clause-keeps
 returns-in-Ok-empty_place-clause-keeps g c =
     let low = (g.K.Keeper.seen c.drop_statements.new.keeper).kept in
-    keeps_then (g.K.Keeper.seen c.empty_place.new.keeper).kept low (g.K.Keeper.seen c.args.keeper.now).kept c.in-Ok-empty_place.ensures.keeps
+    keeps_then (g.K.Keeper.seen c.empty_place.new.keeper).kept low (g.K.Keeper.seen c.args.keeper.now).kept c.in-Ok-empty_place.ensures.keeps.back
     (subst (KeepsNumbers low) c.in-Ok.ensures.kept c.in-Ok-drop_statements.ensures.keeps)

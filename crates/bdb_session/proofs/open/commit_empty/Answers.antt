@@ -2,11 +2,13 @@ use Rattle.std.proofs.Common.{◌∙◌, sym, subst}
 use Rattle.bdb_base.specs.Bases.{empty_contents}
 use Rattle.bdb_keep.specs.Tables.{Tables}
 use Rattle.bdb_tables.specs.Stored.{Stores}
+use Rattle.bdb_update.specs.StoredLaws.{HaveNoRows}
+use Rattle.bdb_update.proofs.EmptyLemmas.{empty_has_none}
 use Rattle.bdb_session.proofs.CommitLemmas.{not_begun, not_made, not_committed, committed}
 use Rattle.bdb_session.proofs.open.commit_empty.Goals as goal
 
 pub write_empty-requires-clause-empty : goal.write_empty-requires-clause-empty
-write_empty-requires-clause-empty g c = c.in-Ok.ensures.kept ∙ c.requires.empty
+write_empty-requires-clause-empty g c = subst (λ (t : Tables). HaveNoRows t) (sym (c.in-Ok.ensures.kept ∙ c.requires.empty)) empty_has_none
 
 pub returns-in-Err-clause-committed : goal.returns-in-Err-clause-committed
 returns-in-Err-clause-committed g c = not_begun _ _ _ c.requires.still c.in-Err.ensures

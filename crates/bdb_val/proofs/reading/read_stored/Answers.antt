@@ -15,8 +15,8 @@ use Rattle.bdb_val.proofs.reading.read_stored.Goals as goal
 pub numbered_under-requires : goal.numbered_under-requires
 numbered_under-requires g c = record { grammar = λ k r found. c.requires.grammar 11 k r found }
 
-pub tuple_of-requires-clause-there : goal.tuple_of-requires-clause-there
-tuple_of-requires-clause-there g c =
+pub read_tuple-requires-clause-there : goal.read_tuple-requires-clause-there
+read_tuple-requires-clause-there g c =
     let t = (g.K.Keeper.seen c.args.keeper.now).kept in
     let ns = c.deref-entry-items.result.now in
     let i = c.loop-entry.entry-index in
@@ -30,16 +30,16 @@ pub loop-entry-preserved : goal.loop-entry-preserved
 loop-entry-preserved g c =
     let old = g.K.Keeper.seen c.args.keeper.now in
     let now = g.K.Keeper.seen c.loop-entry.keeper in
-    let new = g.K.Keeper.seen c.tuple_of.new.keeper in
+    let new = g.K.Keeper.seen c.read_tuple.new.keeper in
     let ns = c.deref-entry-items.result.now in
     let i = c.loop-entry.entry-index in
     let n : Entry = get_or ns i (0, (Plus, false)) in
     let h = c.loop-entry.invariant in
-    let x : Stored = record { tid = n.0; tuple = c.in-Ok-tuple_of.tuple; mark = n.1 } in
+    let x : Stored = record { tid = n.0; tuple = c.in-Ok-read_tuple.tuple; mark = n.1 } in
     let pushed : c.push.new.self.items ≡ c.loop-entry.rows.items ++ x ∷ [] = search rules in
-    let row : HasRow tuple_codec old.kept x.tid x.tuple = subst (λ t. HasRow tuple_codec t x.tid x.tuple) h.kept c.in-Ok-tuple_of.ensures.tuple in
-    let reads : new.reads ≤ old.reads + (length ns + 1) + (i + 1) = omega (arith, c.in-Ok-tuple_of.ensures.reads, h.read.reads) in
-    reading_more old now new c.in-Ok-tuple_of.tuple Fault h c.in-Ok-tuple_of.ensures.read (record {
+    let row : HasRow tuple_codec old.kept x.tid x.tuple = subst (λ t. HasRow tuple_codec t x.tid x.tuple) h.kept c.in-Ok-read_tuple.ensures.tuple in
+    let reads : new.reads ≤ old.reads + (length ns + 1) + (i + 1) = omega (arith, c.in-Ok-read_tuple.ensures.reads, h.read.reads) in
+    reading_more old now new c.in-Ok-read_tuple.tuple Fault h c.in-Ok-read_tuple.ensures.read (record {
       told = subst (AreToldAt old.kept (take (i + 1) ns)) (sym pushed)
           (told_at_more old.kept ns i n x c.loop-entry.rows.items c.loop-entry-test.true (one_place ns i (0, (Plus, false)) n c.loop-entry-test.true) h.read.told (record { tid = refl; mark = refl; tuple = row }));
       many = ap length pushed ∙ length_push c.loop-entry.rows.items x ∙ ap (λ k. k + 1) h.read.many;

@@ -12,11 +12,11 @@ use Rattle.bdb_why.proofs.CallLemmas.{first_err}
 use Rattle.bdb_why.proofs.NearbyLemmas.{apart_after, ask_grammar, ask_states, ask_tuples, linked, near_begins, near_ends, onward, past, reads_begin, reads_end_here}
 use Rattle.bdb_why.proofs.nearby.near_statements.Goals as goal
 
-pub deepest_end-requires-clause-grammar : goal.deepest_end-requires-clause-grammar
-deepest_end-requires-clause-grammar g c = ask_grammar (g.K.Keeper.seen c.args.keeper.now).kept c.args.path.now c.args.t.now c.requires.base
+pub deepest_state-requires-clause-grammar : goal.deepest_state-requires-clause-grammar
+deepest_state-requires-clause-grammar g c = ask_grammar (g.K.Keeper.seen c.args.keeper.now).kept c.args.path.now c.args.t.now c.requires.base
 
-pub deepest_end-requires-clause-states : goal.deepest_end-requires-clause-states
-deepest_end-requires-clause-states g c = ask_states (g.K.Keeper.seen c.args.keeper.now).kept c.args.path.now c.args.t.now c.requires.base
+pub deepest_state-requires-clause-states : goal.deepest_state-requires-clause-states
+deepest_state-requires-clause-states g c = ask_states (g.K.Keeper.seen c.args.keeper.now).kept c.args.path.now c.args.t.now c.requires.base
 
 pub returns-in-Err-clause-steps : goal.returns-in-Err-clause-steps
 returns-in-Err-clause-steps g c = first_err _ _ _ _ c.in-Err.ensures.steps
@@ -24,7 +24,7 @@ returns-in-Err-clause-steps g c = first_err _ _ _ _ c.in-Err.ensures.steps
 pub loop-rest-init : goal.loop-rest-init
 loop-rest-init g c =
     let old = g.K.Keeper.seen c.args.keeper.now in
-    let now = g.K.Keeper.seen c.deepest_end.new.keeper in
+    let now = g.K.Keeper.seen c.deepest_state.new.keeper in
     let path = c.args.path.now in
     let u = c.args.t.now in
     record {

@@ -3,7 +3,7 @@ use Rattle.bdb_base.specs.Alternation.{alternates}
 use Rattle.bdb_base.specs.Order.{statement_cmp}
 use Rattle.bdb_base.specs.SortedSet.{ascending}
 use Rattle.bdb_tables.proofs.Loops.{IsReading}
-use Rattle.bdb_why.specs.Reading.{EndsAt}
+use Rattle.bdb_worlds.specs.Holding.{EndsAt}
 use Rattle.bdb_why.proofs.NearbyLemmas.{LeftNear, LeftReads}
 use Rattle.bdb_why.proofs.nearby.near_statements.Given as goal
 

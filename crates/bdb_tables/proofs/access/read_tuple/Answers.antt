@@ -1,4 +1,4 @@
-use Rattle.bdb_update.proofs.groups.tuple_of.Goals as goal
+use Rattle.bdb_tables.proofs.access.read_tuple.Goals as goal
 
 pub get-requires-clause-grammar : goal.get-requires-clause-grammar
 get-requires-clause-grammar g c = λ k r found. c.requires.grammar 4 k r found

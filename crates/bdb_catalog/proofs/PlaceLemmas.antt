@@ -1,49 +1,30 @@
 -- The row of one who is gone in place of a user's, and no edge for him at any world.
-use Rattle.std.proofs.Common.{◌≡◌, ◌∙◌, ℕ, ◌+◌, ◌*◌, ◌≤◌, Bool, false, ◌&&◌, ◌||◌, nat_eq, nat_le, List, [], ◌∷◌, length, refl, sym, ap, subst, arith, Option, Some}
+use Rattle.std.proofs.Common.{◌≡◌, ◌∙◌, ℕ, ◌+◌, ◌*◌, ◌≤◌, Bool, nat_eq, length, refl, sym, subst, arith, Option, Some}
 use Rattle.std.specs.FinMap as tables
-use Rattle.std.proofs.lemmas.Bool.Decides.{nat_tests}
 use Rattle.bdb_base.specs.Bases.{Contents, is_user, without_user, world_count}
 use Rattle.bdb_base.specs.Causes.{Rises, RoseBy}
-use Rattle.bdb_base.specs.Changes.{names_user}
 use Rattle.bdb_base.specs.declared.kinds.UserSlot.{UserSlot}
 use Rattle.bdb_base.specs.declared.kinds.UserSlot.TheVariants.{Gone}
 use Rattle.bdb_base.proofs.UserLemmas.{others_are_users}
 use Rattle.bdb_keep.specs.Seen.{Seen}
 use Rattle.bdb_keep.specs.Tables.{Tables}
-use Rattle.bdb_names.proofs.NamedLemmas.{named_path, path_is_told}
 use Rattle.bdb_tables.specs.Codec.{place}
 use Rattle.bdb_tables.specs.Grammar.{InGrammar}
 use Rattle.bdb_tables.specs.InUse.{user_codec}
-use Rattle.bdb_tables.specs.Names.{is_listed}
 use Rattle.bdb_tables.specs.States.{HoldsStates}
 use Rattle.bdb_tables.specs.Stored.{SameBut}
 use Rattle.bdb_tables.proofs.SameLemmas.{change_same, states_still}
+use Rattle.bdb_tables.proofs.ListLemmas.{listed_is_named}
 use Rattle.bdb_worlds.specs.Growth.{SameOutside}
 use Rattle.bdb_worlds.specs.Holding.{Worlds}
 use Rattle.bdb_worlds.specs.UserEdges.{DropsUser, MayLeave, WritesDropped, without_one_user}
-use Rattle.bdb_update.specs.Keeping.{KeepsNumbers}
+use Rattle.bdb_update.specs.Keeping.{SameNumbers}
 use Rattle.bdb_update.specs.StoredLaws.{is_edges}
 use Rattle.bdb_update.proofs.CountLemmas.{numbers_are_counted}
 use Rattle.bdb_update.proofs.GrammarLemmas.{stored_is_in_grammar}
-use Rattle.bdb_update.proofs.StoreLemmas.{edges_store_without_user, states_as}
-use Rattle.bdb_leaving.specs.Place.{LosesUser, MayLoseUser, SomeMayLoseUser, WritesPlace}
-
--- ---- what changes
-
-no_edges : (n : ℕ) → (nat_eq n 9 || nat_eq n 10) ≡ false → (nat_le 9 n && nat_le n 10) ≡ false
-no_edges n e = grind (arith, nat_tests)
-
--- the range of two tables is those of edges
-edges_alone : (t u : Tables) → SameOutside 9 10 t u → SameBut is_edges t u
-edges_alone t u same n k other = same n k (no_edges n other)
-
-turned : (a b : ℕ) → nat_eq a b ≡ nat_eq b a
-turned a b = grind (arith, nat_tests)
-
--- a path names a user where he is among its users
-listed_is_named : (uid : ℕ) (w : List ℕ) → is_listed uid w ≡ names_user uid w
-listed_is_named uid [] = refl
-listed_is_named uid (i ∷ w) = ap (λ b. b || is_listed uid w) (turned uid i) ∙ ap (λ b. nat_eq i uid || b) (listed_is_named uid w)
+use Rattle.bdb_update.proofs.StayLemmas.{same_by_user}
+use Rattle.bdb_update.proofs.StoreLemmas.{edges_alone, edges_store_without_user, states_as}
+use Rattle.bdb_catalog.specs.Place.{LosesUser, MayLoseUser, SomeMayLoseUser, WritesPlace}
 
 pub place_grammar : (t : Tables) (uid : ℕ) → SomeMayLoseUser t uid → InGrammar t
 place_grammar t uid h = stored_is_in_grammar t h.base h.may.stored
@@ -83,13 +64,9 @@ module _ (t m : Tables) (uid : ℕ) (put : m ≡ tables.insert t (place user_cod
   }
 
   -- all worlds and tuples keep their numbers
-  pub numbers_kept : (u : Tables) → DropsUser m u uid → SameOutside 9 10 m u → SomeMayLoseUser t uid → KeepsNumbers u t
-  numbers_kept u drops same s = record {
-    worlds = λ n w x.
-        path_is_told (is_user s.base.catalog.users) s.may.stored.names t s.may.stored.stored.states n w
-        (named_path (is_user (without_user s.base.catalog uid).users) s.may.stored.names u (after s.base s.may u drops) x);
-    tuples = λ k r e. sym (put_alone 4 k refl) ∙ sym (same 4 k refl) ∙ e;
-  }
+  pub numbers_kept : (u : Tables) → DropsUser m u uid → SameOutside 9 10 m u → SomeMayLoseUser t uid → SameNumbers t u
+  numbers_kept u drops same s =
+      same_by_user t m u uid (Some Gone) (is_user s.base.catalog.users) (is_user (without_user s.base.catalog uid).users) s.may.stored.names put same s.may.stored.stored.states (after s.base s.may u drops)
 
 -- ---- how often is written
 

@@ -6,13 +6,13 @@ use Rattle.bdb_tables.specs.Grammar.{InGrammar}
 use Rattle.bdb_tables.proofs.Held.{rel_fits}
 use Rattle.bdb_tables.proofs.Numbered.{at_old}
 use Rattle.bdb_update.proofs.KeyLemmas.{relations_more, relations_none}
-use Rattle.bdb_update.proofs.keys.key_relations.Goals as goal
+use Rattle.bdb_update.proofs.keys.stored_relations.Goals as goal
 
 pub get-requires-clause-grammar : goal.get-requires-clause-grammar
 get-requires-clause-grammar g c = rel_fits _ (subst InGrammar (sym c.loop-rel.invariant.kept) c.requires.grammar)
 
-pub returns-in-Ok-None-clause-lengths : goal.returns-in-Ok-None-clause-lengths
-returns-in-Ok-None-clause-lengths g c =
+pub returns-in-Ok-None-clause-relations : goal.returns-in-Ok-None-clause-relations
+returns-in-Ok-None-clause-relations g c =
     let n = c.loop-rel.rel-counter in
     let num : IsNum n = search rules in
     relations_none (g.K.Keeper.seen c.args.keeper.now).kept n c.loop-rel.rels num

@@ -1,5 +1,5 @@
-use Rattle.bdb_leaving.proofs.PlaceLemmas.{numbers_kept, place_grammar, place_written, user_lost}
-use Rattle.bdb_leaving.proofs.place.empty_place.Goals as goal
+use Rattle.bdb_catalog.proofs.PlaceLemmas.{numbers_kept, place_grammar, place_written, user_lost}
+use Rattle.bdb_catalog.proofs.place.empty_place.Goals as goal
 
 pub drop_user_edges-requires-clause-grammar : goal.drop_user_edges-requires-clause-grammar
 drop_user_edges-requires-clause-grammar g c = c.in-Ok.ensures.grammar (place_grammar (g.K.Keeper.seen c.args.keeper.now).kept c.args.uid c.requires.base)

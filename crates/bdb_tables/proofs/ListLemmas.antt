@@ -1,0 +1,56 @@
+-- Lists that begin with others, what is left of a list, and whom a path names.
+use Rattle.std.proofs.Common.{◌≡◌, ◌∙◌, ℕ, Bool, true, false, ◌||◌, nat_eq, cond, List, [], ◌∷◌, ◌++◌, filter, refl, sym, ap, arith}
+use Rattle.std.specs.List.{AllByRecursion}
+use Rattle.std.proofs.lemmas.Bool.{and_from, and_parts, eq-eqb, eqb-true, false≢true}
+use Rattle.std.proofs.lemmas.Bool.Decides.{nat_tests}
+use Rattle.bdb_base.specs.Changes.{names_user}
+use Rattle.bdb_base.specs.Segments.{is_prefix}
+use Rattle.bdb_tables.specs.Names.{is_listed}
+
+-- ---- beginnings
+
+pub prefix_append : (p q : List ℕ) → is_prefix p (p ++ q) ≡ true
+prefix_append [] q = refl
+prefix_append (i ∷ p) q = and_from (nat_eq i i) (is_prefix p (p ++ q)) (eq-eqb i i refl) (prefix_append p q)
+
+pub prefix_shorter : (p r q : List ℕ) → is_prefix (p ++ r) q ≡ true → is_prefix p q ≡ true
+prefix_shorter [] r q e = refl
+prefix_shorter (i ∷ p) r [] e = e
+prefix_shorter (i ∷ p) r (j ∷ q) e = let k = and_parts (nat_eq i j) (is_prefix (p ++ r) q) e in and_from (nat_eq i j) (is_prefix p q) k.0 (prefix_shorter p r q k.1)
+
+-- what follows a beginning
+pub prefix_rest : (p q : List ℕ) → is_prefix p q ≡ true → (r : List ℕ) × (q ≡ p ++ r)
+prefix_rest [] q e = (q, refl)
+prefix_rest (i ∷ p) [] e = absurd (false≢true e)
+prefix_rest (i ∷ p) (j ∷ q) e =
+    let k = and_parts (nat_eq i j) (is_prefix p q) e in
+    let r = prefix_rest p q k.1 in
+    (r.0, ap (λ n. n ∷ q) (sym (eqb-true i j k.0)) ∙ ap (λ (x : List ℕ). i ∷ x) r.1)
+
+-- ---- what passes a test
+
+pub all_filter : {X : Type 0} (P : X → Type 0) (p : X → Bool) (xs : List X) → AllByRecursion P xs → AllByRecursion P (filter p xs)
+all_filter P p [] h = tt
+all_filter P p (x ∷ xs) h = by (all_filter P p xs h.1) (p x)
+  where
+    by : AllByRecursion P (filter p xs) → (b : Bool) → AllByRecursion P (cond b (x ∷ filter p xs) (filter p xs))
+    by rest true = (h.0, rest)
+    by rest false = rest
+
+pub all_pass : {X : Type 0} (p : X → Bool) (xs : List X) → AllByRecursion (λ x. p x ≡ true) (filter p xs)
+all_pass p [] = tt
+all_pass p (x ∷ xs) = by (all_pass p xs) (p x) refl
+  where
+    by : AllByRecursion (λ y. p y ≡ true) (filter p xs) → (b : Bool) → p x ≡ b → AllByRecursion (λ y. p y ≡ true) (cond b (x ∷ filter p xs) (filter p xs))
+    by rest true e = (e, rest)
+    by rest false e = rest
+
+-- ---- users of a path
+
+-- a path names a user where he is among its users
+pub listed_is_named : (uid : ℕ) (w : List ℕ) → is_listed uid w ≡ names_user uid w
+listed_is_named uid [] = refl
+listed_is_named uid (i ∷ w) = ap (λ b. b || is_listed uid w) (turned uid i) ∙ ap (λ b. nat_eq i uid || b) (listed_is_named uid w)
+  where
+    turned : (a b : ℕ) → nat_eq a b ≡ nat_eq b a
+    turned a b = grind (arith, nat_tests)

@@ -1,4 +1,0 @@
-use Rattle.bdb_val.proofs.reading.tuple_of.Goals as goal
-
-pub get-requires-clause-grammar : goal.get-requires-clause-grammar
-get-requires-clause-grammar g c = λ k r found. c.requires.grammar 4 k r found
