@@ -7,7 +7,7 @@ use Rattle.std.specs.Ordering.{is_le, is_lt, is_eq}
 use Rattle.std.proofs.lemmas.Cmp.{nat_list_cmp_total, eq_by_cmp_equiv}
 use Rattle.bdb_keep.specs.Tables.{bytes_cmp}
 use Rattle.bdb_keep.specs.Entries.{Entries, place_at, AreBelow, AreAbove, NoneBelow, IsAscending}
-use Rattle.bdb_keep.specs.Blocks.{joined, before, after, HasEntry, HaveEntries, AreSorted, IsBound, IsBlockFor, IsThere, entry_at, StandsAt, IsGap, starts_within, without_empty, has_any, cut}
+use Rattle.bdb_keep.specs.Blocks.{joined, before, after, HasEntry, HaveEntries, AreSorted, IsBound, IsThere, entry_at, StandsAt, IsGap, starts_within, without_empty, has_any, cut}
 use lib.Seq.{set_split, drop-append-le}
 use Rattle.std.proofs.lemmas.List.Edits.{length-remove}
 use Rattle.bdb_keep.proofs.RowsLemmas.{same_place}
@@ -277,15 +277,6 @@ pub bound-before : (bs : List Entries) (q : List ℕ) (i j : ℕ) → AreSorted 
 bound-before bs q i j s t h b =
     let k = t.index in
     record { below = b; above = within-first bs q i j i j s t refl (ap is_lt h); block = λ _. t.block; index = omega arith }
-
--- found in the block where the place belongs
-pub bound-in : (q : List ℕ) (bs : List Entries) (i j : ℕ) → AreSorted bs → IsBlockFor bs q i → j ≤ length (get_or bs i []) → AreBelow q (take j (get_or bs i [])) → NoneBelow q (drop j (get_or bs i [])) → IsBound bs q i j
-bound-in q bs i j s f k b a = record {
-  below = bound-below q bs i j s.ascends s.full f.block b f.starts;
-  above = bound-above q bs i j s.ascends s.full f.block a f.ends;
-  block = λ _. f.block;
-  index = k;
-}
 
 -- ---- a block cut in two
 pub joined-cut : (bs : List Entries) (i h : ℕ) → i < length bs → joined (cut bs i h) ≡ joined bs

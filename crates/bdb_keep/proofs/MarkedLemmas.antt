@@ -15,14 +15,6 @@ none_listed keys key e c = absurd (omega arith)
 pub none_marked : (t : Tables) (tab : ℕ) (end : KeyEnd) (word : ℕ) → IsMarkedCount t tab end word 0 → (key : List ℕ) → IsMarkedAt t tab end word key → ⊥
 none_marked t tab end word c key at = none_listed c.keys key c.count (c.listed key at)
 
--- and none is counted where no row is marked
-pub none_counted : (t : Tables) (tab : ℕ) (end : KeyEnd) (word n : ℕ) → IsMarkedCount t tab end word n → ((key : List ℕ) → IsMarkedAt t tab end word key → ⊥) → n ≡ 0
-none_counted t tab end word n c none = there c.keys c.each c.count
-  where
-    there : (keys : List (List ℕ)) → AllByRecursion (IsMarkedAt t tab end word) keys → length keys ≡ n → n ≡ 0
-    there [] each e = sym e
-    there (key ∷ keys) each e = absurd (none key each.0)
-
 -- where two or more are counted, a row is marked at another key than this one
 pub another_marked : (t : Tables) (tab : ℕ) (end : KeyEnd) (word n : ℕ) → IsMarkedCount t tab end word (n + 2) → (key : List ℕ) → (other : List ℕ) × (IsMarkedAt t tab end word other) × (other ≡ key → ⊥)
 unfolding IsDistinct

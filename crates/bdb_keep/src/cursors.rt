@@ -6,18 +6,21 @@ use std::alloc::Global;
 /// What is remembered of a place that was used: its shelf, and its spot there.
 pub type Mark = (usize, Spot);
 
-/// Where is looked first: beside a mark, and then on a shelf and a few behind it.
-pub type Marks = (Mark, usize);
+/// Where is looked first: beside a mark, and then on the shelf of another one and a few behind it, beside its spot.
+pub type Marks = (Mark, Mark);
+
+/// A mark in few bytes.
+type Slot = (u32, u16, u16);
 
 /// The first place of all.
 const START: Mark = (0, (0, 0));
 
-/// How many shelves are remembered by the first bytes of keys.
+/// How many marks are remembered by the first bytes of keys.
 const SLOTS: usize = 8192;
 
 /// For each table the place that was read last and the one that was written last, so that both are found at once where rows are read
-/// in one place and written in another in turn; and the shelf that a search found last among those for keys that begin with the same
-/// four bytes, which most often lie near each other. A mark only says where a search looks first.
+/// in one place and written in another in turn; and the place that was used last among those whose keys begin with the same four bytes,
+/// which most often lie near each other. A mark only says where a search looks first.
 #[derive(Drop)]
 pub struct Cursors {
     alloc: Global,
@@ -25,8 +28,8 @@ pub struct Cursors {
     written: [Mark; 16],
     /// Whether the last write was in the block that was read last.
     follows: [bool; 16],
-    used: Vec<usize>,
-    /// Whether memory was asked for those shelves.
+    used: Vec<Slot>,
+    /// Whether memory was asked for those marks.
     asked: bool,
 }
 
@@ -43,7 +46,7 @@ impl Cursors {
         }
     }
 
-    /// Takes the memory for shelves remembered by the first bytes of keys. It is asked for once: where it is refused, no such shelf is
+    /// Takes the memory for marks remembered by the first bytes of keys. It is asked for once: where it is refused, no such mark is
     /// ever remembered.
     #[inline(always)]
     pub fn make_room(&mut self) {
@@ -96,23 +99,29 @@ impl Cursors {
         self.remember_used(probe, mark);
     }
 
-    /// The shelf that was found last for keys with the same first bytes.
+    /// The place that was used last for keys with the same first bytes.
     #[inline(always)]
-    fn used_by(&self, probe: &Probe<'_>) -> usize {
+    fn used_by(&self, probe: &Probe<'_>) -> Mark {
         let slot = slot_of(probe);
         if slot < self.used.len() {
-            self.used[slot]
+            let (at, block, index) = self.used[slot];
+            (at as usize, (usize::from(block), usize::from(index)))
         } else {
-            0
+            START
         }
     }
 
-    /// Remembers the shelf of a mark, where there is room. It takes no memory.
+    /// Remembers a mark, where there is room. It takes no memory.
     #[inline(always)]
     fn remember_used(&mut self, probe: &Probe<'_>, mark: Mark) {
         let slot = slot_of(probe);
         if slot < self.used.len() {
-            self.used[slot] = mark.0;
+            let (at, (block, index)) = mark;
+            self.used[slot] = (
+                (at % 0x1_0000_0000) as u32,
+                (block % 0x1_0000) as u16,
+                (index % 0x1_0000) as u16,
+            );
         }
     }
 }
@@ -123,9 +132,9 @@ fn is_in_block(one: Mark, other: Mark) -> bool {
     one.0 == other.0 && one.1.0 == other.1.0
 }
 
-/// Slots that know of no shelf; none where memory is wanting.
-fn slots(alloc: Global) -> Vec<usize> {
-    match vec![in alloc; 0usize; SLOTS] {
+/// Slots that know of no place; none where memory is wanting.
+fn slots(alloc: Global) -> Vec<Slot> {
+    match vec![in alloc; (0u32, 0u16, 0u16); SLOTS] {
         Ok(slots) => slots,
         Err(_) => Vec::new(alloc),
     }

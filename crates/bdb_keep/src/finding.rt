@@ -33,6 +33,19 @@ pub fn find(blocks: &[Block], probe: &Probe<'_>) -> Result<Spot, Spot>
     }
 }
 
+/// The same. It looks first beside a spot.
+#[inline(always)]
+pub fn find_near(blocks: &[Block], near: Spot, probe: &Probe<'_>) -> Result<Spot, Spot>
+    requires { AreSorted blocks.now }
+    ensures there { IfOk result (λ spot. StandsAt blocks.now probe.now spot.0 spot.1) }
+    ensures gap { IfErr result (λ spot. IsGap blocks.now probe.now spot.0 spot.1) }
+{
+    match find_beside(blocks, near, false, probe) {
+        Some(found) => found,
+        None => find(blocks, probe),
+    }
+}
+
 /// Where the first place stands that isn't below the one that is looked for and has a row.
 pub fn find_row(blocks: &[Block], probe: &Probe<'_>) -> Option<Spot>
     requires { AreSorted blocks.now }

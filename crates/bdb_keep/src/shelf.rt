@@ -10,7 +10,7 @@ use crate::behind::{find_right_behind, stands_behind};
 use crate::block::Block;
 use crate::blocks::{add, drop_empty_blocks, drop_empty_places, is_behind, replace_at, take_out};
 use crate::entry::Entry;
-use crate::finding::{Spot, entry_of, find, find_beside, find_row, row_from, seek};
+use crate::finding::{Spot, entry_of, find, find_beside, find_near, find_row, row_from, seek};
 use crate::opening::Opening;
 use crate::row::Row;
 use crate::span::Span;
@@ -99,10 +99,11 @@ impl Shelf {
     }
 
     /// Puts a row at a place, which may be new, and answers where, and what stood there: at Some what
-    /// the place had, at None nothing.
+    /// the place had, at None nothing. It looks first beside a spot.
     pub fn insert(
         &mut self,
         alloc: Global,
+        near: Spot,
         probe: &Probe<'_>,
         row: &[u8],
     ) -> Result<(Spot, Option<Option<Row>>), AllocError>
@@ -112,13 +113,20 @@ impl Shelf {
             (Some (Some row.now))) }
         ensures err { OnErr result (self.new ≡ self.old) }
     {
-        match find(&self.blocks, probe) {
+        match find_near(&self.blocks, near, probe) {
             Ok(spot) => {
                 let row = Row::of(alloc, row)?;
                 Ok((spot, Some(replace_at(&mut self.blocks, spot, Some(row)))))
             }
             Err(spot) => {
-                let spot = add(alloc, &mut self.blocks, spot, false, probe, row)?;
+                let spot = add(
+                    alloc,
+                    &mut self.blocks,
+                    spot,
+                    is_behind(near, spot),
+                    probe,
+                    row,
+                )?;
                 Ok((spot, None))
             }
         }

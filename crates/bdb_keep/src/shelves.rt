@@ -62,7 +62,7 @@ fn row_searched<'a>(
     requires { AreSorted shelves.now }
     ensures { option_copied result.1 ≡ row_of (place_at (joined shelves.now) probe.now) }
 {
-    match shelf_for(shelves, near.1, probe) {
+    match shelf_for(shelves, near.1.0, probe) {
         Some(at) => {
             let (spot, row) = shelf_at(shelves, at).row_at(probe);
             ((at, spot), row)
@@ -118,7 +118,7 @@ pub fn read_under(
     ensures { OnOk result (AreRowsUnder (rows_of (joined shelves.now)) tab prefix.now span.new) }
 {
     span.clear();
-    match shelf_for(shelves, near.1, probe) {
+    match shelf_for(shelves, near.1.0, probe) {
         Some(at) => {
             let spot = read_under_from(shelves, at, probe, tab, prefix, span)?;
             Ok((at, spot))
@@ -220,7 +220,7 @@ fn swap_searched(
     ensures back { IfErr result (λ back. back ≡ row) }
     ensures same { OnErr result (joined shelves.new.items ≡ joined shelves.old.items) }
 {
-    match shelf_for(shelves, near.1, probe) {
+    match shelf_for(shelves, near.1.0, probe) {
         Some(at) => swap_on(shelves, at, probe, row),
         None => Err(row),
     }
@@ -295,9 +295,9 @@ fn insert_searched(
         probe.now (Some (Some row.now))) }
     ensures err { OnErr result (joined shelves.new.items ≡ joined shelves.old.items) }
 {
-    match shelf_for(shelves, near.1, probe) {
+    match shelf_for(shelves, near.1.0, probe) {
         Some(at) => {
-            let (mark, before) = insert_on(alloc, shelves, at, probe, row)?;
+            let (mark, before) = insert_on(alloc, shelves, (at, near.1.1), probe, row)?;
             Ok((cut_full(shelves, mark), before))
         }
         None => {
@@ -308,16 +308,16 @@ fn insert_searched(
     }
 }
 
-/// The same on the shelf where the place belongs.
+/// The same on the shelf where the place belongs. It looks first beside a spot there.
 fn insert_on(
     alloc: Global,
     shelves: &mut Vec<Shelf>,
-    at: usize,
+    mark: Mark,
     probe: &Probe<'_>,
     row: &[u8],
 ) -> Result<(Mark, Option<Option<Row>>), AllocError>
     requires sorted { AreSorted shelves.old.items }
-    requires shelf { IsBlockFor shelves.old.items probe.now at }
+    requires shelf { IsBlockFor shelves.old.items probe.now mark.0 }
     ensures sorted { AreSorted shelves.new.items }
     ensures found { IfOk result (λ before. place_at (joined shelves.old.items) probe.now
         ≡ before.1) }
@@ -325,7 +325,8 @@ fn insert_on(
         probe.now (Some (Some row.now))) }
     ensures err { OnErr result (joined shelves.new.items ≡ joined shelves.old.items) }
 {
-    match shelves[at].insert(alloc, probe, row) {
+    let (at, spot) = mark;
+    match shelves[at].insert(alloc, spot, probe, row) {
         Ok((spot, before)) => Ok(((at, spot), before)),
         Err(error) => Err(error),
     }
@@ -337,7 +338,7 @@ pub fn remove(shelves: &mut Vec<Shelf>, near: Marks, probe: &Probe<'_>) -> Mark
     ensures sorted { AreSorted shelves.new.items }
     ensures set { IsSetAt (joined shelves.old.items) (joined shelves.new.items) probe.now None }
 {
-    match shelf_for(shelves, near.1, probe) {
+    match shelf_for(shelves, near.1.0, probe) {
         Some(at) => (at, remove_on(shelves, at, probe)),
         None => near.0,
     }
@@ -465,7 +466,7 @@ fn first_row_searched<'a>(
     ensures found { IfSome result (λ first. IsFirstRow (joined shelves.now) probe.now first.1.now) }
     ensures none { IfNone result (NoRowFrom probe.now (joined shelves.now)) }
 {
-    match shelf_for(shelves, near.1, probe) {
+    match shelf_for(shelves, near.1.0, probe) {
         Some(at) => first_row_from(shelves, at, probe),
         None => None,
     }
