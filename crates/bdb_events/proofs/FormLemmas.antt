@@ -4,13 +4,14 @@ use Rattle.std.specs.List.{list_all}
 use Rattle.std.specs.Char.{is_ascii_digit}
 use Rattle.std.proofs.lemmas.Bool.{cases_Bool, and_parts, and_from, and_left, or_from, cond-true, cond-false, ltb-true, lt-ltb, false≢true}
 use Rattle.bdb_lex.specs.Bytes.{is_blank}
-use Rattle.bdb_lex.specs.Reading.{begins, begins_gap}
+use Rattle.bdb_lex.specs.Reading.{begins, begins_gap, behind_gaps}
 use Rattle.bdb_lex.specs.TokenGrammar.{IsGap}
 use Rattle.bdb_lex.proofs.TokenLemmas.{no_blank, blank_is, digit_no_dash}
 use Rattle.bdb_multi.specs.Sessions.{sessions}
-use Rattle.bdb_events.specs.Pieces.{behind_gaps, behind_blanks, digit_of, Numbered, numbered_by, behind_number, behind_second, behind_first, numbered}
+use Rattle.bdb_events.specs.Pieces.{behind_blanks, digit_of, Numbered, numbered_by, behind_number, behind_second, behind_first, numbered}
 use Rattle.bdb_events.specs.Forms.{IsNumber, is_blanks, HasForm, FormsAreRead}
-use Rattle.bdb_events.proofs.GapLemmas.{nothing_passed, gap_before, gap_passed}
+use Rattle.bdb_lex.proofs.GapLemmas.{nothing_passed}
+use Rattle.bdb_events.proofs.GapLemmas.{gap_before, gap_passed}
 
 -- the blanks at the front
 abbrev pub blanks_of : List ℕ → List ℕ

@@ -3,7 +3,7 @@ use Rattle.std.specs.Prelude.{◌≡◌, ◌↔◌, ℕ, ◌<◌, ◌+◌, ◌-�
 use Rattle.std.specs.Char.{is_ascii_digit}
 use Rattle.std.specs.List.{list_all}
 use Rattle.bdb_lex.specs.Bytes.{is_blank}
-use Rattle.bdb_lex.specs.Reading.{begins}
+use Rattle.bdb_lex.specs.Reading.{begins, behind_gaps}
 use Rattle.bdb_lex.specs.TokenGrammar.{IsGap, IsLastGap, IsTokens}
 use Rattle.bdb_lex.specs.declared.token.Token.TheVariants.{Word}
 use Rattle.bdb_multi.specs.Sessions.{sessions}
@@ -12,7 +12,7 @@ use Rattle.bdb_multi.specs.declared.kinds.Line.TheVariants.{Begin, Commit, Abort
 use Rattle.bdb_syntax.specs.Keywords.{is_keyword}
 use Rattle.bdb_lex.specs.declared.token.Piece.{Piece}
 use Rattle.bdb_events.specs.declared.read.Read.{Read}
-use Rattle.bdb_events.specs.Pieces.{Numbered, behind_gaps, numbered, line_of, read_of}
+use Rattle.bdb_events.specs.Pieces.{Numbered, numbered, line_of, read_of}
 
 -- one digit or two that give the number: 48 is nought
 abbrev pub IsNumber : List ℕ → ℕ → Type 0

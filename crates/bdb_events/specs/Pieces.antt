@@ -1,8 +1,8 @@
 -- What a piece of a stream of sessions is: behind blanks and comments a session's number, blanks, and the line.
-use Rattle.std.specs.Prelude.{ℕ, ◌+◌, ◌-◌, ◌*◌, Bool, true, false, not, ◌&&◌, cond, nat_eq, nat_lt, Option, Some, None, List, [], ◌∷◌, codes}
+use Rattle.std.specs.Prelude.{ℕ, ◌+◌, ◌-◌, ◌*◌, ◌&&◌, cond, nat_lt, Option, Some, None, List, [], ◌∷◌, codes}
 use Rattle.std.specs.Char.{is_ascii_digit}
 use Rattle.bdb_lex.specs.Bytes.{is_blank}
-use Rattle.bdb_lex.specs.Reading.{begins, begins_gap}
+use Rattle.bdb_lex.specs.Reading.{begins, behind_gaps}
 use Rattle.bdb_lex.specs.Tokens.{tokens_of}
 use Rattle.bdb_lex.specs.declared.token.Piece.{Piece}
 use Rattle.bdb_lex.specs.declared.token.Token.{Token}
@@ -12,15 +12,6 @@ use Rattle.bdb_multi.specs.declared.kinds.Line.{Line}
 use Rattle.bdb_multi.specs.declared.kinds.Line.TheVariants.{Begin, Commit, Abort, Cmd}
 use Rattle.bdb_multi.specs.Sessions.{sessions}
 use Rattle.bdb_events.specs.declared.read.Read.{Read}
-
--- what follows the blanks and comments at the front, within a comment or outside: 45 is the dash and 10 the line feed
-abbrev pub behind : Bool → List ℕ → List ℕ
-behind inside [] = []
-behind true (b ∷ bytes) = behind (not (nat_eq b 10)) bytes
-behind false (b ∷ bytes) = cond (begins_gap (b ∷ bytes)) (behind (nat_eq b 45) bytes) (b ∷ bytes)
-
-abbrev pub behind_gaps : List ℕ → List ℕ
-behind_gaps bytes = behind false bytes
 
 -- what follows the blanks at the front
 abbrev pub behind_blanks : List ℕ → List ℕ

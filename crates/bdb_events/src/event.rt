@@ -1,13 +1,12 @@
 // What a piece is.
 ghost use Rattle.std.specs.Prelude.{◌≡◌, Some, IfOk};
 ghost use Rattle.bdb_events.specs.Forms.{NamesSession};
-ghost use Rattle.bdb_events.specs.Pieces.{read_of, read_behind, read_form, read_line, numbered_by, behind_gaps};
+ghost use Rattle.bdb_events.specs.Pieces.{read_of, read_behind, read_form, read_line, numbered_by};
 
 use crate::form::numbered;
-use crate::gaps::behind_gaps;
 use crate::read::Read;
 use crate::words::line_of;
-use bdb_lex::Piece;
+use bdb_lex::{Piece, behind_gaps};
 use bdb_multi::Event;
 use std::alloc::{AllocError, Global};
 

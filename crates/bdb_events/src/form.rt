@@ -3,7 +3,8 @@ ghost use Rattle.std.specs.Prelude.{◌≡◌, ◌<◌, Some, None, IfSome, IfNo
 ghost use Rattle.bdb_multi.specs.Sessions.{sessions};
 ghost use Rattle.bdb_events.specs.Pieces.{digit_of, numbered_by, behind_number, behind_first, numbered};
 
-use crate::gaps::{behind_blanks, is_blank};
+use crate::gaps::behind_blanks;
+use bdb_lex::is_blank;
 use bdb_multi::SESSIONS;
 
 /// The number of one digit or two at the front, where it is one of a session and a blank follows, and what follows the blanks.

@@ -1,4 +1,5 @@
 pub mod CutLemmas
+pub mod GapLemmas
 pub mod Rows
 pub mod TokenLemmas
 pub mod SpanLemmas

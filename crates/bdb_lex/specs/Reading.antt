@@ -35,6 +35,15 @@ abbrev pub begins_gap : List ℕ → Bool
 begins_gap [] = false
 begins_gap (b ∷ bytes) = is_blank b || (nat_eq b 45 && begins (λ c. nat_eq c 45) bytes)
 
+-- what follows the blanks and comments at the front, within a comment or outside: 45 is the dash and 10 the line feed
+abbrev pub behind : Bool → List ℕ → List ℕ
+behind inside [] = []
+behind true (b ∷ bytes) = behind (not (nat_eq b 10)) bytes
+behind false (b ∷ bytes) = cond (begins_gap (b ∷ bytes)) (behind (nat_eq b 45) bytes) (b ∷ bytes)
+
+abbrev pub behind_gaps : List ℕ → List ℕ
+behind_gaps bytes = behind false bytes
+
 -- what begins neither a gap nor a word, a number or a text
 abbrev pub is_mark_byte : ℕ → Bool
 is_mark_byte b = not (is_blank b || (is_letter b || (is_ascii_digit b || (nat_eq b 39 || nat_eq b 45))))

@@ -4,7 +4,7 @@ ghost use Rattle.bdb_lex.specs.Tokens.{tokens_of};
 ghost use Rattle.bdb_lex.specs.Reading.{begins, begins_gap, Reads};
 
 use crate::bytes::{is_digit, is_letter};
-use crate::gap::after_gaps;
+use crate::gap::behind_gaps;
 use crate::mark::mark_behind;
 use crate::quoted::text_behind;
 use crate::token::{LexError, Token};
@@ -21,11 +21,11 @@ pub fn tokens(alloc: Global, piece: &[u8]) -> Result<List<Token<'_>>, LexError>
     ensures not_tokens { IsErrOf result LexError.NotTokens → tokens_of piece.now ≡ None }
 {
     let mut found = List::from_vec(Vec::with_capacity(alloc, usual_count(piece.len()))?);
-    let mut rest = after_gaps(piece);
+    let mut rest = behind_gaps(piece);
     while let [first, ..] = rest {
         let (token, after) = token_at(alloc, *first, rest)?;
         found.push(token)?;
-        rest = after_gaps(after);
+        rest = behind_gaps(after);
     }
     Ok(found)
 }

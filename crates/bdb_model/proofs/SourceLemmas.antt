@@ -5,7 +5,7 @@ use Rattle.std.specs.Option.{option_map, is_some}
 use Rattle.std.proofs.lemmas.Bool.{cases_Bool, cond-true, cond-false, or_cases, or_left, or_right, and_parts, and_from}
 use Rattle.std.proofs.lemmas.Bool.Decides.{Decides-eqb}
 use Rattle.bdb_base.specs.declared.kinds.Cmp.{Cmp}
-use Rattle.bdb_base.specs.declared.kinds.Cmp.TheVariants.{Eq, Ne, Lt, Le, Gt, Ge}
+use Rattle.bdb_base.specs.declared.kinds.Cmp.TheVariants.{Eq}
 use Rattle.bdb_base.specs.declared.kinds.Cond.{Cond}
 use Rattle.bdb_base.specs.declared.kinds.Item.{Item}
 use Rattle.bdb_base.specs.declared.kinds.Operand.{Operand}
@@ -20,6 +20,7 @@ use Rattle.bdb_base.specs.Safety.{is_given, same_column, is_equality, is_column,
 use Rattle.bdb_base.specs.SameLemmas.{same_value-Decides}
 use Rattle.bdb_base.proofs.WorldRowsLemmas.{list_any-flat_map}
 use Rattle.bdb_queries.specs.Slots.{known, known_operand, must_hold, must_all_hold}
+use Rattle.bdb_queries.proofs.RangeLemmas.{equality_is}
 use Rattle.bdb_model.specs.Sources.{source_of, source_in, source_of_operand, equality, fresh_source, turned_source, first_there, source_from, next_source, is_simple, is_source, operand_columns, named_columns, missing, AreSources}
 
 -- ---- columns
@@ -39,14 +40,6 @@ pub same_column_itself : (r : Ref) → same_column r r ≡ true
 same_column_itself r = and_from (nat_eq r.item r.item) (nat_eq r.col r.col) ((Decides-eqb r.item r.item).1 refl) ((Decides-eqb r.col r.col).1 refl)
 
 -- ---- equal comparisons
-
-is_equality_is : (cmp : Cmp) → is_equality cmp ≡ true → cmp ≡ Eq
-is_equality_is Eq e = refl
-is_equality_is Ne e = cc
-is_equality_is Lt e = cc
-is_equality_is Le e = cc
-is_equality_is Gt e = cc
-is_equality_is Ge e = cc
 
 -- two values compare equal only where both are there and one
 pub equal_values : (x y : Option Value) → compare_so Eq x y ≡ true → (v : Value) × (x ≡ Some v) × (y ≡ Some v)
@@ -87,7 +80,7 @@ source_cases items sources r o e = elim (cases_Bool (is_given (slice_get items r
 pub source_value : (items : List Item) (slots : List (Option Tuple)) (c : Cond) → is_source items c ≡ true → must_hold slots c ≡ true
     → (v : Value) × (known slots c.left ≡ Some v) × (known_operand slots c.right ≡ Some v)
 source_value items slots c s h =
-    let eq : c.cmp ≡ Eq = is_equality_is c.cmp (and_parts (is_equality c.cmp) (is_simple items c.right) s).0 in
+    let eq : c.cmp ≡ Eq = equality_is c.cmp (and_parts (is_equality c.cmp) (is_simple items c.right) s).0 in
     equal_values (known slots c.left) (known_operand slots c.right) (ap (λ m. compare_so m (known slots c.left) (known_operand slots c.right)) (sym eq) ∙ h)
 
 -- where the sources hold, the source of a right side has its value
@@ -138,7 +131,7 @@ from_cases : (items : List Item) (sources : List Cond) (c e : Cond) → source_f
     → (c.cmp ≡ Eq) × ((fresh_source items sources c.left c.right ≡ Some e) ⊎ (turned_source items sources c.left c.right ≡ Some e))
 from_cases items sources c e h = elim (cases_Bool (is_equality c.cmp)) [
   | inl k ↦ (
-    is_equality_is c.cmp k,
+    equality_is c.cmp k,
     there_cases (fresh_source items sources c.left c.right) (turned_source items sources c.left c.right) e
         (sym (cond-true (is_equality c.cmp) (first_there (fresh_source items sources c.left c.right) (turned_source items sources c.left c.right)) None k) ∙ h),
   )

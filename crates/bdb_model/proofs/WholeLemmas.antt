@@ -1,5 +1,5 @@
 -- Slots that hold come by the three stages.
-use Rattle.std.proofs.Common.{◌≡◌, ◌∙◌, ℕ, suc, ◌+◌, true, false, ◌&&◌, nat_lt, nat_le, List, [], ◌∷◌, Option, None, Some, refl, ap, sym, subst, length, map, arith}
+use Rattle.std.proofs.Common.{◌≡◌, ◌∙◌, ℕ, suc, ◌+◌, true, false, ◌&&◌, nat_lt, nat_le, List, [], ◌∷◌, Option, None, Some, refl, ap, sym, subst, length, arith}
 use Prim.Native.Nat.{zero}
 use Rattle.std.specs.List.{list_all, slice_get}
 use Rattle.std.specs.Option.{option_map, option_and_then, is_some}
@@ -23,6 +23,7 @@ use Rattle.bdb_base.specs.Bases.{Contents, is_valid_relation, fits_kind, fits_co
 use Rattle.bdb_base.specs.Queries.{columns_of_definition, columns_at, path_believes}
 use Rattle.bdb_base.specs.Safety.{is_given, is_minus, is_users_item, who_fits, fixed_differ, item_fits, item_kinds, column_kind, is_equality, IsSafe}
 use Rattle.bdb_queries.proofs.FoundLemmas.{Found, found_first}
+use Rattle.bdb_queries.proofs.RangeLemmas.{column_there}
 use Rattle.bdb_model.specs.Answering.{open_slots}
 use Rattle.bdb_model.specs.Pools.{world_at, sourced_value, sourced_values, tuple_of, denies, is_denied, denied_tuples}
 use Rattle.bdb_queries.specs.Slots.{slot_at, known, known_operand, must_hold, must_all_hold, uid_of, path_of, user_tuple}
@@ -90,15 +91,6 @@ item_path b all xs alias rel path f =
     path_of_part b.catalog.users all xs path (and_parts (list_all (who_fits b.catalog.users all) path) (fixed_differ path) k.1).0
 
 -- ---- the values of minus items
-
--- a value of fitting values is of a column that is there
-column_there : (cols : List ColDef) (vals : List Value) (at : ℕ) (v : Value) → fits_columns cols vals ≡ true → slice_get vals at ≡ Some v
-    → is_some (slice_get (map (λ c. c.kind) cols) at) ≡ true
-column_there [] [] at v h e = cc
-column_there [] (w ∷ ws) at v h e = absurd (false≢true h)
-column_there (c ∷ cs) [] at v h e = absurd (false≢true h)
-column_there (c ∷ cs) (w ∷ ws) zero v h e = refl
-column_there (c ∷ cs) (w ∷ ws) (suc at) v h e = column_there cs ws at v (and_parts (fits_kind c.kind w) (fits_columns cs ws) h).1 e
 
 -- a source has its value in what is given
 simple_value : (items : List Item) (xs : List (Option Tuple)) (o : Operand) → is_simple items o ≡ true → known_operand (given_part items xs) o ≡ known_operand xs o

@@ -43,7 +43,8 @@ same_column_is r s h =
     let k = and_parts (nat_eq r.item s.item) (nat_eq r.col s.col) h in
     ap (λ item. ref_of item r.col) (eqb-true r.item s.item k.0) ∙ ap (λ col. ref_of s.item col) (eqb-true r.col s.col k.1)
 
-equality_is : (cmp : Cmp) → is_equality cmp ≡ true → cmp ≡ Eq
+-- only one comparison is equality
+pub equality_is : (cmp : Cmp) → is_equality cmp ≡ true → cmp ≡ Eq
 equality_is Eq h = refl
 equality_is Ne h = absurd (false≢true h)
 equality_is Lt h = absurd (false≢true h)
@@ -132,7 +133,7 @@ and_then_some f None y e = cc
 and_then_some f (Some x) y e = (x, refl, e)
 
 -- a value of fitting values is of a column that is there
-column_there : (cols : List ColDef) (vals : List Value) (at : ℕ) (v : Value) → fits_columns cols vals ≡ true → slice_get vals at ≡ Some v
+pub column_there : (cols : List ColDef) (vals : List Value) (at : ℕ) (v : Value) → fits_columns cols vals ≡ true → slice_get vals at ≡ Some v
     → is_some (slice_get (map (λ c. c.kind) cols) at) ≡ true
 column_there [] [] at v h e = cc
 column_there [] (w ∷ ws) at v h e = absurd (false≢true h)

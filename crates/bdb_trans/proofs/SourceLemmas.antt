@@ -6,8 +6,7 @@ use Rattle.std.specs.Option.{option_map, option_and_then, is_some}
 use Rattle.std.proofs.lemmas.Bool.{false≢true, cases_Bool, cond-true, cond-false, or_cases, or_left, or_right, and_parts, and_from}
 use Rattle.std.proofs.lemmas.Bool.Decides.{Decides-eqb}
 use Rattle.std.proofs.lemmas.List.Folds.{list_any-append}
-use Rattle.bdb_base.specs.declared.kinds.Cmp.{Cmp}
-use Rattle.bdb_base.specs.declared.kinds.Cmp.TheVariants.{Eq, Ne, Lt, Le, Gt, Ge}
+use Rattle.bdb_base.specs.declared.kinds.Cmp.TheVariants.{Eq}
 use Rattle.bdb_base.specs.declared.kinds.Cond.{Cond}
 use Rattle.bdb_base.specs.declared.kinds.Item.{Item}
 use Rattle.bdb_base.specs.declared.kinds.Kind.{Kind}
@@ -25,7 +24,7 @@ use Rattle.bdb_base.specs.Safety.{is_given, is_equality, is_literal, is_column, 
 use Rattle.bdb_base.specs.SameLemmas.{same_kind-Decides}
 use Rattle.bdb_base.proofs.SetLemmas.{is_eq-Equal, is_eq_itself}
 use Rattle.bdb_queries.specs.Slots.{known, known_operand, must_hold, must_all_hold}
-use Rattle.bdb_queries.proofs.RangeLemmas.{same_column_is}
+use Rattle.bdb_queries.proofs.RangeLemmas.{same_column_is, equality_is}
 use Rattle.bdb_plan.specs.Holding.{equality}
 use Rattle.bdb_plan.specs.Sources.{renamed, renamed_by, stands_for, joined, pins_chain, columns_from, given_columns, first_there, source_of}
 
@@ -60,14 +59,6 @@ pub joined_keeps : {X : Type 0} (f : Ref → X) (conds : List Cond) → KeepsAll
 joined_keeps f conds h r s j = sym (stands_keeps f conds h r) ∙ ap f (same_column_is (stands_for conds r) (stands_for conds s) j) ∙ stands_keeps f conds h s
 
 -- ---- values
-
-equality_is : (cmp : Cmp) → is_equality cmp ≡ true → cmp ≡ Eq
-equality_is Eq h = refl
-equality_is Ne h = absurd (false≢true h)
-equality_is Lt h = absurd (false≢true h)
-equality_is Le h = absurd (false≢true h)
-equality_is Gt h = absurd (false≢true h)
-equality_is Ge h = absurd (false≢true h)
 
 equal_sides : (a b : Option Value) → compare_so Eq a b ≡ true → a ≡ b
 equal_sides None b h = absurd (false≢true h)

@@ -10,6 +10,6 @@ loop-rest-preserved c =
           ∙ (ap (joined (Some c.loop-rest.found)) c.in_ok-token.ensures.ok.tokens
           ∙ (joined_more c.loop-rest.found (c.in_ok-token.token ∷ []) after
           ∙ (ap (λ ts. joined (Some ts) after) (sym c.in_ok-push.ensures.ok)
-          ∙ ap (joined (Some c.push.new.self)) (sym c.after_gaps-rest-in-len1-up.ensures.same)))),
-      c.after_gaps-rest-in-len1-up.ensures.past,
+          ∙ ap (joined (Some c.push.new.self)) (sym c.behind_gaps-rest-in-len1-up.ensures.same)))),
+      c.behind_gaps-rest-in-len1-up.ensures.past,
     )
