@@ -64,10 +64,6 @@ IsAtSome t hand = handling.IsAtSome by_crowd t hand
 abbrev pub Carried : Point → List Asked → Known → Seen → Seen → Type 0
 Carried p done session first now = handled.Carried by_crowd p done session first now
 
--- the replies were written, but perhaps a part of the last
-abbrev pub WritesPart : Point → List Asked → Option (List ℕ) → Option (List ℕ) → Type 0
-WritesPart p done old new = handled.WritesPart by_crowd p done old new
-
 -- How one was answered: with an Ok it was carried out and the reply is written; where the sink failed it was carried out and a part of
 -- the reply is written; after another Err nothing was carried out or written.
 abbrev pub IsAnswer : Point → Asked → AtHand → Seen → Seen → Option (List ℕ) → Option (List ℕ) → Result Bool RunError → Type 0

@@ -1,5 +1,5 @@
 -- Runs of the belief machine over the events of a script.
-use Rattle.std.specs.Prelude.{◌≡◌, ℕ, Bool, true, ◌&&◌, List, [], ◌∷◌, ◌++◌, map}
+use Rattle.std.specs.Prelude.{ℕ, Bool, true, ◌&&◌, List, [], ◌∷◌, ◌++◌, map}
 use Rattle.bdb_lex.specs.declared.token.Piece.{Piece}
 use Rattle.bdb_lex.specs.declared.token.Piece.TheVariants as piece
 use Rattle.bdb_lex.specs.declared.token.Rest.{Rest}
@@ -39,7 +39,3 @@ replies s (e ∷ es) = reply_of s e ++ replies (next_state s e) es
 abbrev pub accepts_all : State → List Event → Bool
 accepts_all s [] = true
 accepts_all s (e ∷ es) = accepts s e && accepts_all (next_state s e) es
-
--- one list of events is the front of another
-abbrev pub IsFrontOf : List Event → List Event → Type 0
-IsFrontOf front whole = (rest : List Event) × (whole ≡ front ++ rest)

@@ -1,5 +1,5 @@
 -- How the events of a script are carried out by a session one after the other.
-use Rattle.std.specs.Prelude.{ℕ, ◌+◌, List, [], ◌∷◌, Option, refl}
+use Rattle.std.specs.Prelude.{ℕ, ◌+◌, List, [], ◌∷◌, refl}
 use Rattle.bdb_keep.specs.Seen.{Seen}
 use Rattle.bdb_session.specs.declared.event.Event.{Event}
 use Rattle.bdb_session.specs.Known.{Known, Remembers}
@@ -53,7 +53,3 @@ session_in_order = record {
 -- timeline after them, and there was one commit for each event that counts.
 abbrev pub Carried : Timeline → List Event → Known → Seen → Seen → Type 0
 Carried s done session first now = handled.Carried by_session s done session first now
-
--- the replies to these events were written, but perhaps a part of the last
-abbrev pub WritesPart : Timeline → List Event → Option (List ℕ) → Option (List ℕ) → Type 0
-WritesPart s done old new = handled.WritesPart by_session s done old new

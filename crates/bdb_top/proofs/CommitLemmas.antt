@@ -11,7 +11,8 @@ use Rattle.bdb_keep.specs.Seen.{Seen}
 use Rattle.bdb_session.specs.Outcome.{State, start_from}
 use Rattle.bdb_top.specs.ByCommits.{CommitsTellMany, EndsByCommits, IsWrittenBy}
 use Rattle.bdb_top.specs.ByCount.{BeginsWith}
-use Rattle.bdb_top.specs.Ran.{EachBase, RanMany}
+use Rattle.bdb_top.specs.Ran.{EachBase}
+use Rattle.bdb_top.specs.RanMany.{RanMany}
 use Rattle.bdb_top.proofs.CountLemmas.{begins_more, begins_on, is_four, not_four, part_begins}
 
 -- what was written, by what is done

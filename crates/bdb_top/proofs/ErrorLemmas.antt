@@ -16,7 +16,8 @@ use Rattle.bdb_session.specs.UndoRuns.{replies as replies_to}
 use Rattle.bdb_session.specs.declared.event.Event.{Event}
 use Rattle.bdb_session.proofs.OpenLemmas.{empty_is_valid}
 use Rattle.bdb_session.proofs.UndoErrorLemmas.{undo_runs_tell_errors}
-use Rattle.bdb_top.specs.Ran.{EachBase, Ran, RanMany}
+use Rattle.bdb_top.specs.Ran.{EachBase, Ran}
+use Rattle.bdb_top.specs.RanMany.{RanMany}
 use Rattle.bdb_top.specs.TellsErrors.{EndsInErrors, EndsInRefusals, StatusTellsErrors, StatusTellsRefusals}
 use Rattle.bdb_undo.specs.Timelines.{Timeline, started}
 

@@ -11,7 +11,8 @@ use Rattle.bdb_session.specs.Opening.{opening, Opens}
 use Rattle.bdb_session.specs.Outcome.{State, start_from}
 use Rattle.bdb_stream.specs.Reads.{Streams, status_of}
 use Rattle.bdb_stream.specs.declared.error.RunError.{RunError}
-use Rattle.bdb_top.specs.Ran.{EachBase, RanMany}
+use Rattle.bdb_top.specs.Ran.{EachBase}
+use Rattle.bdb_top.specs.RanMany.{RanMany}
 use Rattle.bdb_top.proofs.RanLemmas.{closed, ran_from}
 
 agreed : (t : Tables) (k : Known) (p : Point) → Agrees t k p.state → StoresValid t p.state.base

@@ -6,9 +6,9 @@ use Rattle.bdb_catalog.specs.Opening.{StandFor}
 use Rattle.bdb_keep.specs.Tables.{Tables}
 use Rattle.bdb_session.specs.declared.event.Event.{Event}
 use Rattle.bdb_undo.specs.Timelines.{Timeline}
-use Rattle.bdb_session.specs.Runs.{IsFrontOf}
 use Rattle.bdb_session.specs.UndoRuns.{after}
 use Rattle.bdb_stream.specs.Carried.{counted}
+use Rattle.bdb_stream.specs.Handling.{IsFrontOf}
 use Rattle.bdb_top.specs.Counted.{before_count, up_to_count}
 
 -- Where the first events are done and k of them count, the timeline is the one after the first k that count; what is done has

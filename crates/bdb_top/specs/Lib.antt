@@ -6,7 +6,7 @@ pub mod Generated
 pub mod Laws
 pub mod Lines
 pub mod Ran
+pub mod RanMany
 pub mod TellsErrors
 pub mod Words
 pub use Rattle.bdb_stream.specs.Carried
-pub use Rattle.bdb_stream.specs.Streams

@@ -4,11 +4,8 @@ use Rattle.std.specs.Io.KnownBytes.{Appends}
 use Rattle.bdb_base.specs.Bases.{Contents}
 use Rattle.bdb_catalog.specs.Bases.{StoresValid}
 use Rattle.bdb_catalog.specs.Opening.{StandFor}
-use Rattle.bdb_crowd.specs.Asked.{start_at}
-use Rattle.bdb_crowd.specs.Carried.{by_crowd}
 use Rattle.bdb_keep.specs.Tables.{Tables}
 use Rattle.bdb_keep.specs.Seen.{Seen}
-use Rattle.bdb_session.specs.Outcome.{State}
 use Rattle.bdb_stream.specs.Carried.{by_session}
 use Rattle.bdb_stream.specs.Handled.{WritesPart}
 use Rattle.bdb_stream.specs.Handling.{Handling, IsFrontOf, asked_of}
@@ -52,8 +49,3 @@ pub record RanBy {H : Type 0} (m : Handling H) (base_at : m.Point → Contents) 
 -- 0 tells that it accepts them all, and 1 that it refuses some. There was one commit for each event that counts.
 abbrev pub Ran : Timeline → List ℕ → Option (List ℕ) → Seen → Seen → Option (List ℕ) → Option (List ℕ) → ℕ → Type 0
 Ran s text left first now old new status = RanBy by_session (λ t. t.now) s text left first now old new status
-
--- A run over a stream of sessions from a state has ended with a status: 0 tells that no reply tells an error, and 1 that one
--- does. There was one commit for each batch that was run whole.
-abbrev pub RanMany : State → List ℕ → Option (List ℕ) → Seen → Seen → Option (List ℕ) → Option (List ℕ) → ℕ → Type 0
-RanMany s text left first now old new status = RanBy by_crowd (λ p. p.state.base) (start_at s) text left first now old new status

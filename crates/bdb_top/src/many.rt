@@ -7,7 +7,8 @@ ghost use Rattle.bdb_catalog.specs.Opening.{StandForSome};
 ghost use Rattle.bdb_keep.specs.Seen.{IsStill, NeverFall};
 ghost use Rattle.bdb_session.specs.Outcome.{start_from};
 ghost use Rattle.bdb_top.specs.Checked.{IsUntouched};
-ghost use Rattle.bdb_top.specs.Ran.{EachBase, RanMany, StandsForNone};
+ghost use Rattle.bdb_top.specs.Ran.{EachBase, StandsForNone};
+ghost use Rattle.bdb_top.specs.RanMany.{RanMany};
 
 use crate::status::status_of;
 use bdb_crowd::{Crowd, carry_out_stream};
