@@ -26,7 +26,11 @@ pub struct FoundRelation<'a> {
 }
 
 /// The relation that a command names.
-pub fn find_relation<'a>(catalog: &'a Catalog, index: &NameIndex, command: &Command) -> FoundRelation<'a>
+pub fn find_relation<'a>(
+    catalog: &'a Catalog,
+    index: &NameIndex,
+    command: &Command,
+) -> FoundRelation<'a>
     requires catalog { IsCatalog catalog.now }
     ensures place { result.place ≡ relation_place catalog.now.rels command.now }
     ensures cols { result.cols.now ≡ change_columns catalog.now.rels command.now }

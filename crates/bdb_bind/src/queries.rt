@@ -6,7 +6,7 @@ ghost use Rattle.bdb_bind.specs.Firsts.{Checks, first_in};
 ghost use Rattle.bdb_bind.specs.QueryLines.{query_items, item_relation, query_relation, who_user, item_user, query_user, begins_with_name, repeats_name, query_repeat, query_deep, kind_of_side, cond_kind, query_kind};
 
 use crate::bound::BindError;
-use crate::kinds::{one_kind, kind_of};
+use crate::kinds::{kind_of, one_kind};
 use crate::lookup::{is_same, number_of, uid_of};
 use crate::query_items::QueryItems;
 use crate::refusals::{unknown_relation, unknown_user, wrong_query_kind};

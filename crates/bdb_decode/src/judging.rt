@@ -87,7 +87,11 @@ fn is_empty<K: Keeper>(alloc: Global, keeper: &mut K) -> Result<bool, TabError>
 }
 
 // What tables of a format are.
-fn judge_format<K: Keeper>(alloc: Global, keeper: &mut K, number: u32) -> Result<Judgement, TabError>
+fn judge_format<K: Keeper>(
+    alloc: Global,
+    keeper: &mut K,
+    number: u32,
+) -> Result<Judgement, TabError>
     requires tables { LieInTables (K.seen keeper.old).kept }
     requires format { HasFormat (K.seen keeper.old).kept number }
     ensures verdict { IfOk result (TellsJudgement (K.seen keeper.old).kept) }

@@ -135,12 +135,7 @@ fn left_by(
 }
 
 /// What a script leaves, over these three.
-fn ran_with(
-    alloc: Global,
-    source: MemSource,
-    out: MemSink,
-    keeper: MemKeeper,
-) -> Result<Left, Fail>
+fn ran_with(alloc: Global, source: MemSource, out: MemSink, keeper: MemKeeper) -> Result<Left, Fail>
     requires idle { keeper.seen.running ≡ false }
     ensures idle { IfOk result (λ left. left.keeper.seen.running ≡ false) }
 {

@@ -14,7 +14,10 @@ use std::alloc::Global;
 /// The worlds, by number, with the paths that they have in whichever states the tables hold: they are names, and the
 /// depths in the tables are those of the paths. None only where the tables hold no states. That links and edges are those
 /// of these names is for a test. Two reads at most for each edge, and three for each world.
-pub fn raw_worlds<K: Keeper>(alloc: Global, keeper: &mut K) -> Result<Option<Vec<NamedWorld>>, TabError>
+pub fn raw_worlds<K: Keeper>(
+    alloc: Global,
+    keeper: &mut K,
+) -> Result<Option<Vec<NamedWorld>>, TabError>
     requires grammar { InGrammar (K.seen keeper.old).kept }
     ensures worlds { IfOk result (λ r. MatchOption r (HoldNoStates (K.seen keeper.old).kept)
         (λ worlds. AreWorlds (K.seen keeper.old).kept worlds.items)) }

@@ -80,7 +80,13 @@ fn source_failing(alloc: Global, read: u32) -> Result<MemSource, Fail> {
 /// The rows that the first pieces leave.
 fn rows_after(alloc: Global, count: usize) -> Result<MemKeeper, Fail> {
     let source = MemSource::new(stream_of(alloc, count)?, STEP, List::new(alloc));
-    let left = left_by(alloc, "many", source, quiet_sink(alloc)?, quiet_keeper(alloc))?;
+    let left = left_by(
+        alloc,
+        "many",
+        source,
+        quiet_sink(alloc)?,
+        quiet_keeper(alloc),
+    )?;
     Ok(left.keeper)
 }
 
@@ -199,7 +205,13 @@ fn each_read_fails_once(rt: HostRuntime) -> Result<(), Fail> {
     let alloc = rt.alloc();
     for read in 1..1_000 {
         let source = source_failing(alloc, read)?;
-        let left = left_by(alloc, "many", source, quiet_sink(alloc)?, quiet_keeper(alloc))?;
+        let left = left_by(
+            alloc,
+            "many",
+            source,
+            quiet_sink(alloc)?,
+            quiet_keeper(alloc),
+        )?;
         if left.status == 1 {
             assert!(rt; stands_after(alloc, &left, PIECES.len())?);
             assert!(rt; 20 < read);
@@ -231,7 +243,13 @@ fn has_rest(front: &[u8]) -> bool {
 /// What a front of the stream leaves, of which nothing fails.
 fn left_by_front(alloc: Global, front: &[u8]) -> Result<Left, Fail> {
     let source = MemSource::new(Vec::from_slice(alloc, front)?, STEP, List::new(alloc));
-    left_by(alloc, "many", source, quiet_sink(alloc)?, quiet_keeper(alloc))
+    left_by(
+        alloc,
+        "many",
+        source,
+        quiet_sink(alloc)?,
+        quiet_keeper(alloc),
+    )
 }
 
 /// Whether a run over a front of the stream tells of the pieces that end in it and of its rest, and leaves the rows of these pieces:

@@ -2,7 +2,7 @@
 ghost use Rattle.std.specs.Prelude.{◌≡◌, ◌≤◌, false};
 
 use crate::tests::files::{files_of, opened};
-use crate::tests::script::{Section, ROOM, Script, are_last, change_count, ran};
+use crate::tests::script::{ROOM, Script, Section, are_last, change_count, ran};
 use bdb_base::List;
 use bdb_io::MemSink;
 use bdb_keep::{Keeper, MemKeeper};
