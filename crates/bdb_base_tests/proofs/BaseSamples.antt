@@ -1,15 +1,11 @@
 -- The bases with which the tests try a base: what a call requires of them, and what it leaves.
-use Rattle.std.proofs.Common.{◌≡◌, ◌∙◌, length, refl, List, [], ◌∷◌, ℕ, ap, sym, subst, codes, pos, true, suc, ◌<◌, lit<}
+use Rattle.std.proofs.Common.{◌≡◌, ◌∙◌, refl, List, [], ◌∷◌, ℕ, ap, sym, subst, codes, true, suc, ◌<◌, lit<}
 use Prim.Native.Nat.{zero}
 use Rattle.std.specs.Str.{IsAscii, is_utf8}
 use Rattle.std.proofs.lemmas.Str.{IsUtf8-from_ascii, is_utf8-from_IsUtf8}
-use Rattle.bdb_base.specs.declared.kinds.Catalog.{Catalog}
-use Rattle.bdb_base.specs.declared.kinds.ColDef.{ColDef}
 use Rattle.bdb_base.specs.declared.kinds.Kind.TheVariants as kind
 use Rattle.bdb_base.specs.declared.kinds.RelDef.{RelDef}
-use Rattle.bdb_base.specs.declared.kinds.Sign.TheVariants.{Plus}
 use Rattle.bdb_base.specs.declared.kinds.Stmt.{Stmt}
-use Rattle.bdb_base.specs.declared.kinds.Value.TheVariants.{Int}
 use Rattle.bdb_base_tests.specs.BaseSamples.{sample_relation, sample_statement, first, second, third, fourth}
 use Rattle.bdb_base.specs.Bases.{Contents, IsValid, empty_contents, is_gone, is_user, with_user, with_user_back, with_relation, without_last_user, without_last_relation, without_user, with_statement}
 use Rattle.bdb_base.specs.Changes.{without_statements_of}

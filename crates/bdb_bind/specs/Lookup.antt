@@ -1,5 +1,5 @@
 -- Looking names up in a catalog.
-use Rattle.std.specs.Prelude.{ℕ, Bool, false, List, [], map, Option, None, Some, find}
+use Rattle.std.specs.Prelude.{ℕ, Bool, false, List, map, Option, None, Some, find}
 use Rattle.std.specs.Option.{option_map, is_some, unwrap_or}
 use Rattle.std.specs.List.{position_from}
 use Rattle.bdb_base.specs.declared.kinds.Kind.{Kind}

@@ -1,11 +1,6 @@
 -- Where links and edges lead, and the lists of a valid base.
-use Rattle.std.proofs.Common.{◌≡◌, ◌∙◌, ℕ, ◌<◌, ◌≤◌, true, false, ◌||◌, List, [], ◌∷◌, ◌++◌, refl, ap, sym, inl, inr, suc, arith, length, map, Some, slice_get, get_or}
-use Prim.Native.Nat.{zero}
-use Rattle.std.specs.List.{list_all}
-use Rattle.std.specs.Ordering.{is_eq, is_lt}
-use Rattle.std.specs.declared.cmp.Ordering.{Ordering}
-use Rattle.std.proofs.lemmas.Bool.{cases_Bool, and_parts, or_parts, false≢true, cond-true, cond-false, leb-true}
-use Rattle.std.proofs.lemmas.Option.{slice_get_within, slice_get_read}
+use Rattle.std.proofs.Common.{◌≡◌, ◌∙◌, ℕ, ◌≤◌, true, List, [], ◌∷◌, ◌++◌, refl, ap, sym, arith, length, map, Some}
+use Rattle.std.proofs.lemmas.Bool.{leb-true}
 use Rattle.bdb_base.specs.declared.kinds.Catalog.{Catalog}
 use Rattle.bdb_base.specs.declared.kinds.Stmt.{Stmt}
 use Rattle.bdb_base.specs.declared.tuple.Tuple.{Tuple}
@@ -15,16 +10,14 @@ use Rattle.bdb_base.specs.Order.{path_cmp, tuple_cmp}
 use Rattle.bdb_base.specs.OrderLemmas.{path_exact, tuple_exact}
 use Rattle.bdb_base.specs.Same.{same_tuple}
 use Rattle.bdb_base.specs.SameLemmas.{same_tuple-Decides}
-use Rattle.bdb_base.specs.SortedSet.{IsExactOrder, ascending, is_member}
+use Rattle.bdb_base.specs.SortedSet.{ascending, is_member}
 use Rattle.bdb_base.specs.States.{deepest_suffix, is_state, states_of, stated_prefixes}
 use Rattle.bdb_base.specs.WorldRows.{tuples_of}
 use Rattle.bdb_base.proofs.CountLemmas.{put_all_count}
-use Rattle.bdb_base.proofs.ListLemmas.{list_all_get}
-use Rattle.bdb_base.proofs.SetLemmas.{is_eq-Equal, is_eq_itself, is_lt-Less, loop_makes_set, set_is_ascending}
+use Rattle.bdb_base.proofs.SetLemmas.{loop_makes_set, set_is_ascending}
 use Rattle.bdb_paths.proofs.StateLemmas.{list_has_states, states_are_counted}
 use Rattle.bdb_paths.proofs.PlaceLemmas.{target_stands}
 use Rattle.bdb_paths.proofs.SuffixLemmas.{deepest_same}
-use Rattle.bdb_paths.specs.Places.{place_in, target_place}
 use Rattle.bdb_canon.specs.Canonical.{AreStates, AreTuples}
 use Rattle.bdb_canon.specs.CanonLaws.{LinksLeadToStates, EdgesLeadToStates}
 

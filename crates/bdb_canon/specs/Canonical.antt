@@ -1,10 +1,8 @@
 -- The finite structure that stands for the worlds of all paths: the states with their suffix links, the tuples of the
 -- statements, the edges, and the rows of the states' worlds. A state or a tuple is named by its place in its list.
-use Rattle.std.specs.Prelude.{◌≡◌, ℕ, ◌+◌, ◌-◌, ◌^◌, ◌<◌, nat_le, true, not, suc, List, [], ◌∷◌, length, map, filter, Option, Some, None, cond}
+use Rattle.std.specs.Prelude.{◌≡◌, ℕ, ◌+◌, ◌-◌, ◌^◌, ◌<◌, nat_le, true, not, List, [], ◌∷◌, length, map, filter, Option, Some, None, cond}
 use Rattle.std.specs.List.{flat_map}
 use Rattle.std.specs.Option.{option_map}
-use Rattle.std.specs.Ordering.{is_eq}
-use Rattle.std.specs.declared.cmp.Ordering.{Ordering}
 use Rattle.bdb_base.specs.declared.kinds.Catalog.{Catalog}
 use Rattle.bdb_base.specs.declared.kinds.Held.{Held}
 use Rattle.bdb_base.specs.declared.kinds.Stmt.{Stmt}
@@ -14,7 +12,7 @@ use Rattle.bdb_base.specs.Order.{path_cmp, tuple_cmp}
 use Rattle.bdb_base.specs.Queries.{user_numbers}
 use Rattle.bdb_base.specs.Segments.{is_suffix}
 use Rattle.bdb_base.specs.SortedSet.{is_member, ascending}
-use Rattle.bdb_base.specs.States.{deepest_suffix, edge_target, states_of, suffix_link}
+use Rattle.bdb_base.specs.States.{edge_target, states_of, suffix_link}
 use Rattle.bdb_base.specs.WorldRows.{tuples_of, world_of}
 use Rattle.bdb_paths.specs.Places.{place_in}
 use Rattle.bdb_canon.specs.declared.structure.Canon.{Canon}

@@ -7,7 +7,6 @@ use Rattle.bdb_base.specs.declared.kinds.Operand.TheVariants.{Col}
 use Rattle.bdb_base.specs.declared.kinds.Query.{Query}
 use Rattle.bdb_base.specs.declared.kinds.Ref.{Ref}
 use Rattle.bdb_base.specs.declared.kinds.Who.TheVariants.{Of}
-use Rattle.bdb_base.specs.declared.kinds.Catalog.{Catalog}
 use Rattle.bdb_base.specs.declared.kinds.Kind.TheVariants as kind
 use Rattle.bdb_base.specs.declared.kinds.RelDef.{RelDef}
 use Rattle.bdb_base.specs.declared.kinds.Sign.{Sign}

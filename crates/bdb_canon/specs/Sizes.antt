@@ -1,5 +1,5 @@
 -- The sizes of a base.
-use Rattle.std.specs.Prelude.{ℕ, length, sum_by}
+use Rattle.std.specs.Prelude.{length, sum_by}
 use Rattle.bdb_base.specs.Bases.{Contents, key_lengths, tuple_count, world_count}
 use Rattle.bdb_base.specs.States.{states_of}
 use Rattle.bdb_canon.specs.declared.sizes.Counts.{Counts}

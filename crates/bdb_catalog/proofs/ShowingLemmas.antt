@@ -1,5 +1,5 @@
 -- The world of a path is that of the deepest state that it ends in.
-use Rattle.std.proofs.Common.{is_some, ◌&&◌, ◌≡◌, ◌∙◌, ℕ, ◌+◌, ◌*◌, ◌≤◌, ◌<◌, Bool, true, false, nat_eq, cond, List, [], ◌∷◌, ◌++◌, refl, ap, sym, inl, inr, suc, arith, length, map}
+use Rattle.std.proofs.Common.{is_some, ◌&&◌, ◌≡◌, ◌∙◌, ℕ, ◌+◌, ◌<◌, Bool, true, false, nat_eq, cond, List, [], ◌∷◌, ◌++◌, refl, ap, sym, inl, inr, suc, arith, length, map}
 use Rattle.std.specs.List.{flat_map}
 use Rattle.std.proofs.lemmas.Bool.{cases_Bool, false≢true, false_from_ne_true, cond-true, cond-false, eqb-true, eq-eqb}
 use Rattle.bdb_base.specs.Bases.{is_user}

@@ -1,11 +1,10 @@
 -- The number of a session, and its line.
-use Rattle.std.proofs.Common.{◌≡◌, ◌∙◌, ℕ, ◌+◌, ◌-◌, ◌*◌, ◌<◌, ◌≤◌, Bool, true, false, not, ◌&&◌, ◌||◌, nat_eq, nat_lt, cond, Option, Some, None, List, [], ◌∷◌, ◌++◌, refl, ap, sym, subst, append_assoc, inl, inr}
+use Rattle.std.proofs.Common.{◌≡◌, ◌∙◌, ℕ, ◌+◌, ◌-◌, ◌*◌, ◌<◌, true, false, ◌&&◌, nat_eq, nat_lt, cond, Some, None, List, [], ◌∷◌, ◌++◌, refl, ap, sym, subst, inl, inr}
 use Rattle.std.specs.List.{list_all}
 use Rattle.std.specs.Char.{is_ascii_digit}
 use Rattle.std.proofs.lemmas.Bool.{cases_Bool, and_parts, and_from, and_left, or_from, cond-true, cond-false, ltb-true, lt-ltb, false≢true}
 use Rattle.bdb_lex.specs.Bytes.{is_blank}
 use Rattle.bdb_lex.specs.Reading.{begins, begins_gap, behind_gaps}
-use Rattle.bdb_lex.specs.TokenGrammar.{IsGap}
 use Rattle.bdb_lex.proofs.TokenLemmas.{no_blank, blank_is, digit_no_dash}
 use Rattle.bdb_multi.specs.Sessions.{sessions}
 use Rattle.bdb_events.specs.Pieces.{behind_blanks, digit_of, Numbered, numbered_by, behind_number, behind_second, behind_first, numbered}

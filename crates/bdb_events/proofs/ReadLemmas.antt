@@ -1,12 +1,11 @@
 -- What a piece is, in the words of its parts.
 use Rattle.std.proofs.Common.{◌≡◌, ◌∙◌, ◌⊎◌, ℕ, ◌<◌, Option, Some, None, List, [], ◌∷◌, refl, ap, sym, subst, inl, inr}
-use Rattle.bdb_lex.specs.declared.token.Piece.{Piece}
 use Rattle.bdb_lex.specs.Reading.{behind_gaps}
 use Rattle.bdb_lex.specs.TokenGrammar.{IsLastGap}
 use Rattle.bdb_multi.specs.Sessions.{sessions}
 use Rattle.bdb_multi.specs.declared.kinds.Event.{Event}
 use Rattle.bdb_events.specs.declared.read.Read.{Read}
-use Rattle.bdb_events.specs.Pieces.{Numbered, numbered, line_of, read_line, read_form, read_behind, read_of}
+use Rattle.bdb_events.specs.Pieces.{Numbered, numbered, line_of, read_line, read_form, read_behind}
 use Rattle.bdb_events.specs.Forms.{HasForm, IsRead, PiecesAreRead, NamesSession}
 use Rattle.bdb_events.proofs.GapLemmas.{nothing_is_gaps}
 use Rattle.bdb_events.proofs.FormLemmas.{forms_are_read}

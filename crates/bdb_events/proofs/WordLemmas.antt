@@ -1,5 +1,5 @@
 -- The words that open and close batches.
-use Rattle.std.proofs.Common.{◌≡◌, ◌∙◌, ◌⊎◌, ℕ, Bool, true, false, map, nat_eq, cond, Option, Some, None, List, [], ◌∷◌, refl, ap, sym, subst, inl, inr}
+use Rattle.std.proofs.Common.{◌≡◌, ◌∙◌, ◌⊎◌, ℕ, true, false, map, nat_eq, cond, Option, Some, None, List, [], ◌∷◌, refl, ap, sym, subst, inl, inr}
 use Rattle.std.specs.Prelude.{codes}
 use Rattle.std.specs.Char.{to_ascii_lowercase}
 use Rattle.std.specs.Cmp.Lexicographic.{pointwise}
@@ -8,7 +8,6 @@ use Rattle.std.proofs.lemmas.Slice.Eq.{bytes_eq-Decides}
 use Rattle.bdb_lex.specs.declared.token.Token.{Token}
 use Rattle.bdb_lex.specs.declared.token.Token.TheVariants.{Word, Text, Num, Comma, Dot, ParenL, ParenR, Eq, Ne, Lt, Le, Gt, Ge}
 use Rattle.bdb_lex.specs.Tokens.{tokens_of}
-use Rattle.bdb_lex.specs.TokenGrammar.{IsTokens}
 use Rattle.bdb_lex.proofs.SpellingLemmas.{tokens_are_spelled}
 use Rattle.bdb_syntax.specs.Keywords.{is_keyword}
 use Rattle.bdb_multi.specs.declared.kinds.Line.{Line}

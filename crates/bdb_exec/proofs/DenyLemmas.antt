@@ -41,7 +41,7 @@ use Rattle.bdb_exec.specs.Seen.{rows_at, signed_in, signed_under, sight_of}
 use Rattle.bdb_exec.proofs.LengthLemmas.{keys_sized, take_and_drop, take_long, take_plain, take_short, take_take, take_whole}
 use Rattle.bdb_exec.proofs.LookingLemmas.{all_written}
 use Rattle.bdb_exec.proofs.TypedLemmas.{raw}
-use Rattle.bdb_exec.proofs.WorldLemmas.{AreTyped, IsThere, StandsForTuple, typed_under, typed_rows, shown, signed_is, has_row, tuple_named, all_told, all_both}
+use Rattle.bdb_exec.proofs.WorldLemmas.{AreTyped, StandsForTuple, typed_under, typed_rows, shown, signed_is, has_row, tuple_named, all_told, all_both}
 
 -- ---- tests and lists
 

@@ -1,5 +1,5 @@
 -- What a count of marked rows tells. Crates above name these lemmas at their functions.
-use Rattle.std.proofs.Common.{◌≡◌, ℕ, arith, ◌+◌, ◌<◌, suc, zero, Bool, true, false, List, [], ◌∷◌, length, get_or, refl, sym, ap, ◌∙◌, subst}
+use Rattle.std.proofs.Common.{◌≡◌, ℕ, arith, ◌+◌, suc, zero, Bool, true, false, List, [], ◌∷◌, length, refl, sym, ◌∙◌}
 use Rattle.std.specs.List.{AllByRecursion, Contains, IsDistinct}
 use mathlib.Core.Bool.{true≢false}
 use Rattle.bdb_base.specs.Same.{same_text}

@@ -1,7 +1,7 @@
 -- Lemmas on how many rows are marked, and how the count changes where one row does.
-use Rattle.std.proofs.Common.{◌≡◌, ℕ, arith, ◌+◌, ◌<◌, ◌≤◌, suc, zero, Bool, true, false, cond, ◌&&◌, List, [], ◌∷◌, ◌++◌, Option, Some, None, length, take, drop, get_or, take-suc, refl, sym, ap, ◌∙◌, subst}
-use Rattle.std.specs.Prelude.{is_some, nat_eq}
-use Rattle.std.specs.List.{AllByRecursion, Contains, IsDistinct, AppendsClonesOf, AllClonesOf}
+use Rattle.std.proofs.Common.{◌≡◌, ℕ, arith, ◌+◌, ◌<◌, suc, zero, Bool, true, false, cond, ◌&&◌, List, [], ◌∷◌, ◌++◌, Option, Some, None, length, take, drop, get_or, take-suc, refl, sym, ap, ◌∙◌, subst}
+use Rattle.std.specs.Prelude.{is_some}
+use Rattle.std.specs.List.{AllByRecursion, Contains, IsDistinct}
 use Rattle.std.specs.Ordering.{is_eq, eq_by_cmp}
 use Rattle.std.specs.declared.cmp.Ordering.{Ordering}
 use Rattle.std.specs.declared.cmp.Ordering.TheVariants.{Less, Equal, Greater}
@@ -14,16 +14,16 @@ use Rattle.std.proofs.lemmas.Bool.{and_parts, eqb-true, eq-eqb}
 use Rattle.bdb_base.specs.Same.{same_text}
 use Rattle.bdb_base.specs.SameLemmas.{same_text-Decides}
 use Rattle.bdb_keep.specs.Tables.{Tables, bytes_cmp, set_at}
-use Rattle.bdb_keep.specs.Entries.{Entries, row_of, place_at, rows_of, IsSetAt, AreAbove, IsAscending}
+use Rattle.bdb_keep.specs.Entries.{Entries, row_of, rows_of, AreAbove, IsAscending}
 use Rattle.bdb_keep.specs.Spans.{Listed}
 use Rattle.bdb_keep.specs.Marked.{is_marked, has_word, IsMarkedAt, IsMarkedCount}
-use Rattle.bdb_keep.specs.Tallies.{is_in, is_marked_in, counts_at, one_at, count_among, count_listed, count_in, tallied_table}
+use Rattle.bdb_keep.specs.Tallies.{is_in, counts_at, one_at, count_among, count_listed, count_in}
 use Rattle.bdb_keep.specs.declared.keeper.KeyEnd.{KeyEnd}
 use Rattle.bdb_keep.specs.Blocks.{joined}
 use Rattle.bdb_keep.proofs.BlocksLemmas.{joined-take-more}
 use Rattle.bdb_keep.proofs.EntriesLemmas.{place_at-above}
 use Rattle.bdb_keep.proofs.Gets.{get_empty, get_gone}
-use Rattle.bdb_keep.proofs.RowsLemmas.{get-set_at, get_rows_of, same_place, same_tables, set_at-same, set_at-back, rows_of-updates}
+use Rattle.bdb_keep.proofs.RowsLemmas.{get-set_at, get_rows_of, same_place, same_tables, set_at-same, set_at-back}
 
 none-some : (row : List ℕ) → Some row ≡ None → ⊥
 none-some row e = true≢false (ap is_some e)

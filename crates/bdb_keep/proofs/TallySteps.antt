@@ -1,13 +1,13 @@
 -- A tally that is right stays so where a row comes or goes.
-use Rattle.std.proofs.Common.{◌≡◌, ℕ, arith, ◌+◌, ◌<◌, ◌^◌, Bool, true, false, cond, ◌&&◌, ◌||◌, List, [], Option, Some, None, drop, get_or, refl, sym, ap, ◌∙◌, subst}
+use Rattle.std.proofs.Common.{◌≡◌, ℕ, arith, ◌+◌, ◌<◌, ◌^◌, Bool, true, false, cond, ◌&&◌, ◌||◌, List, [], Option, drop, get_or, refl, sym, ap, ◌∙◌, subst}
 use Rattle.std.specs.Prelude.{not}
 use mathlib.Core.Bool.{true≢false}
 use Rattle.std.specs.FinMap as map
-use Rattle.bdb_keep.specs.Tables.{Tables, set_at}
+use Rattle.bdb_keep.specs.Tables.{Tables}
 use Rattle.bdb_keep.specs.Entries.{Entries, row_of, place_at, rows_of, IsSetAt}
 use Rattle.bdb_keep.specs.Blocks.{joined, AreSorted}
 use Rattle.bdb_keep.specs.Marked.{has_word, IsMarkedCount}
-use Rattle.bdb_keep.specs.Tallies.{tallied_table, tally_bound, is_marked_in, one_at, count_among, count_in, is_number, AreCounts, IsTally, AreTallied, Follows, HasRisen, HasFallen}
+use Rattle.bdb_keep.specs.Tallies.{tallied_table, is_marked_in, one_at, count_among, count_in, is_number, AreCounts, IsTally, AreTallied, Follows, HasRisen, HasFallen}
 use Rattle.bdb_keep.specs.declared.keeper.KeyEnd.{KeyEnd}
 use Rattle.bdb_keep.specs.declared.keeper.KeyEnd.TheVariants.{First, Last}
 use Rattle.bdb_keep.specs.declared.tally.Tally.{Tally}

@@ -1,5 +1,5 @@
 -- How many rows of a table are marked, counted row by row, and a tally of that by the numbers in the keys.
-use Rattle.std.specs.Prelude.{◌≡◌, ℕ, ◌+◌, ◌<◌, ◌^◌, Bool, true, false, cond, ◌&&◌, nat_eq, List, [], ◌∷◌, Option, Some, None, drop, slice_index_or}
+use Rattle.std.specs.Prelude.{◌≡◌, ℕ, ◌+◌, ◌<◌, Bool, false, cond, ◌&&◌, nat_eq, List, [], ◌∷◌, Option, Some, None, drop, slice_index_or}
 use Rattle.std.specs.FinMap as map
 use Rattle.bdb_keep.specs.Tables.{Tables}
 use Rattle.bdb_keep.specs.Entries.{Entries, IsSetAt, place_at, row_of, rows_of}

@@ -4,10 +4,10 @@ use Rattle.std.proofs.lemmas.List.{append-nil}
 use Rattle.bdb_multi.specs.declared.kinds.Event.{Event}
 use Rattle.bdb_multi.specs.declared.kinds.Act.{Act}
 use Rattle.bdb_multi.specs.declared.kinds.Act.TheVariants.{Begun, Queued, Aborted, ErrBegun, ErrNotBegun, ErrBatch, One, Batch}
-use Rattle.bdb_multi.specs.Sessions.{Commands, act_after, acts_from, acts_of}
+use Rattle.bdb_multi.specs.Sessions.{act_after, acts_from}
 use Rattle.bdb_multi.specs.Batches.{Ran, ran_at, run_of, ran_from}
 use Rattle.bdb_events.specs.declared.read.Read.{Read}
-use Rattle.bdb_many.specs.Many.{Batches, act_next, read_next, event_in, events_in, reads_of, after_from, after_batches, LeadsAsBatches}
+use Rattle.bdb_many.specs.Many.{Batches, act_next, events_in, reads_of, after_from, after_batches, LeadsAsBatches}
 
 two_parts : {S : Type 0} (m : Batches S) (a b : List Ran) (s : S) → after_batches m s (a ++ b) ≡ after_batches m (after_batches m s a) b
 two_parts m [] b s = refl

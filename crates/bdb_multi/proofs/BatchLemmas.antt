@@ -1,5 +1,5 @@
 -- The batches that acts run.
-use Rattle.std.proofs.Common.{◌≡◌, ◌∙◌, ℕ, suc, ◌<◌, ◌≤◌, Bool, true, false, ◌&&◌, nat_eq, nat_lt, nat_le, cond, Option, Some, None, List, [], ◌∷◌, ◌++◌, length, map, filter, take, refl, ap, sym, arith, inl, inr}
+use Rattle.std.proofs.Common.{◌≡◌, ◌∙◌, ℕ, suc, ◌≤◌, true, false, nat_eq, nat_lt, nat_le, Option, Some, None, List, [], ◌∷◌, ◌++◌, length, filter, refl, ap, sym, arith, inl, inr}
 use Rattle.std.proofs.lemmas.Bool.{cases_Bool, cond-true, cond-false, and_from, and_parts, le-leb, leb-true, eqb-true}
 use Rattle.std.proofs.lemmas.List.Elements.{filter-append}
 use Rattle.bdb_base.proofs.ListLemmas.{filter_kept_one, filter_dropped_one}
@@ -9,7 +9,7 @@ use Rattle.bdb_multi.specs.declared.kinds.Event.{Event}
 use Rattle.bdb_multi.specs.declared.kinds.Act.{Act}
 use Rattle.bdb_multi.specs.declared.kinds.Act.TheVariants.{Begun, Queued, Aborted, ErrBegun, ErrNotBegun, ErrBatch, One, Batch}
 use Rattle.bdb_multi.specs.Sessions.{Commands, most_queued, mine, open_batch, act_by, act_after, acts_from, acts_of}
-use Rattle.bdb_multi.specs.Batches.{Placed, Ran, mine_from, ran_at, closed_by, open_by, batches_in, run_of, ran_from, ascends_from, AreBatches, BatchesAreRun}
+use Rattle.bdb_multi.specs.Batches.{Ran, mine_from, ran_at, closed_by, open_by, batches_in, run_of, ran_from, ascends_from, BatchesAreRun}
 use Rattle.bdb_multi.proofs.SessionLemmas.{open_more, none_open, mine_more, mine_same}
 
 -- what an act runs is what the line closes

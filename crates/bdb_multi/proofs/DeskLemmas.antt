@@ -1,12 +1,11 @@
 -- The slots of a desk, one event at a time.
-use Rattle.std.proofs.Common.{◌≡◌, ◌∙◌, ℕ, suc, ◌<◌, ◌≤◌, Bool, true, false, nat_eq, Option, Some, None, List, [], ◌∷◌, ◌++◌, length, set, get_or, refl, ap, sym, arith, inl, inr}
+use Rattle.std.proofs.Common.{◌≡◌, ◌∙◌, ℕ, suc, ◌<◌, nat_eq, Option, None, List, [], ◌∷◌, ◌++◌, length, set, get_or, refl, ap, sym, arith, inl, inr}
 use Prim.Native.Nat.{zero}
 use Rattle.std.proofs.lemmas.Bool.{cases_Bool, eqb-true, eqb-false}
 use Rattle.std.proofs.lemmas.List.{get_or-set_same, get_or-set_other, get_or_default}
 use Rattle.bdb_multi.specs.declared.kinds.Line.{Line}
 use Rattle.bdb_multi.specs.declared.kinds.Event.{Event}
-use Rattle.bdb_multi.specs.declared.kinds.Act.{Act}
-use Rattle.bdb_multi.specs.Sessions.{Commands, sessions, mine, open_batch, act_by, act_after, AreSessions}
+use Rattle.bdb_multi.specs.Sessions.{Commands, sessions, mine, open_batch, act_after, AreSessions}
 use Rattle.bdb_multi.specs.Slots.{queue_of, slot, StandsFor, slot_act, slot_after}
 use Rattle.bdb_multi.specs.Batches.{open_by}
 use Rattle.bdb_multi.proofs.SessionLemmas.{open_more, none_open, mine_more, mine_same, slot_acts, slot_goes_on}

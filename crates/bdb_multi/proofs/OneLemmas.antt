@@ -1,9 +1,8 @@
 -- Events have one list of batches alone.
-use Rattle.std.proofs.Common.{◌≡◌, ◌∙◌, ℕ, suc, ◌<◌, ◌≤◌, Bool, true, false, ◌&&◌, nat_eq, nat_le, List, [], ◌∷◌, filter, drop, refl, ap, sym, arith, inl, inr}
+use Rattle.std.proofs.Common.{◌≡◌, ◌∙◌, ℕ, suc, ◌≤◌, true, false, nat_eq, nat_le, List, [], ◌∷◌, filter, refl, ap, sym, arith, inl, inr}
 use Rattle.std.proofs.lemmas.Bool.{cases_Bool, and_parts, leb-true, eq-eqb, eqb-false, ne_eqb}
 use Rattle.bdb_base.proofs.ListLemmas.{filter_kept_one, filter_dropped_one}
-use Rattle.bdb_multi.specs.declared.kinds.Event.{Event}
-use Rattle.bdb_multi.specs.Batches.{Ran, ascends_from, AreBatches, BatchesAreOne}
+use Rattle.bdb_multi.specs.Batches.{Ran, ascends_from, BatchesAreOne}
 
 -- the batches of a session
 own : ℕ → List Ran → List Ran

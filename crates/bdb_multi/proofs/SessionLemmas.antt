@@ -1,18 +1,17 @@
 -- The open batch of a session, one line at a time.
-use Rattle.std.proofs.Common.{◌≡◌, ◌∙◌, ℕ, ◌<◌, ◌≤◌, Bool, true, false, ◌||◌, nat_eq, nat_lt, cond, Option, Some, None, List, [], ◌∷◌, ◌++◌, length, map, filter, take, refl, ap, sym, arith, inl, inr}
+use Rattle.std.proofs.Common.{◌≡◌, ◌∙◌, ℕ, ◌≤◌, true, false, ◌||◌, nat_eq, nat_lt, cond, Option, Some, None, List, [], ◌∷◌, ◌++◌, length, map, filter, take, refl, ap, sym, arith, inl, inr}
 use Rattle.std.specs.List.{list_any}
 use Rattle.std.specs.Option.{option_map}
-use Rattle.std.proofs.lemmas.Bool.{cases_Bool, cases_lt, cond-true, cond-false, or_right, lt-ltb, le-ltb, eq-eqb, eqb-true, false≢true}
+use Rattle.std.proofs.lemmas.Bool.{cases_Bool, cases_lt, cond-true, cond-false, or_right, lt-ltb, le-ltb, eqb-true, false≢true}
 use Rattle.std.proofs.lemmas.List.{map-append, take_all, take-append-le, length-take-le, length_push, append-nil}
 use Rattle.std.proofs.lemmas.List.Elements.{filter-append}
 use Rattle.bdb_multi.specs.declared.kinds.Line.{Line}
 use Rattle.bdb_multi.specs.declared.kinds.Line.TheVariants.{Begin, Commit, Abort, Cmd}
 use Rattle.bdb_multi.specs.declared.kinds.Event.{Event}
-use Rattle.bdb_multi.specs.declared.kinds.Act.{Act}
 use Rattle.bdb_multi.specs.declared.kinds.Act.TheVariants.{Queued, ErrBatch}
-use Rattle.bdb_multi.specs.Sessions.{Commands, most_queued, mine, closes, since_close, behind_begin, commands, open_batch, act_by, act_after, acts_from, acts_of}
+use Rattle.bdb_multi.specs.Sessions.{Commands, most_queued, mine, closes, since_close, behind_begin, commands, open_batch, act_by, act_after, acts_from}
 use Rattle.bdb_multi.specs.Slots.{queue_of, slot_act, slot_after, with_command}
-use Rattle.bdb_multi.specs.Batches.{acts_alone_from, acts_alone, acts_of_session, open_by, OwnLinesDecide}
+use Rattle.bdb_multi.specs.Batches.{acts_alone_from, acts_of_session, open_by, OwnLinesDecide}
 
 any_last : (ls : List Line) (l : Line) → closes l ≡ true → list_any closes (ls ++ l ∷ []) ≡ true
 any_last [] Begin h = h

@@ -1,13 +1,13 @@
 -- The row of one user changes, and the edges for him: his place goes, he comes back to it, or he leaves it.
 use Rattle.std.proofs.Common.{◌≡◌, ◌∙◌, ℕ, zero, suc, ◌+◌, ◌-◌, ◌*◌, ◌≤◌, Bool, true, false, not, ◌&&◌, ◌||◌, nat_eq, cond, List, [], ◌∷◌, ◌++◌, length, slice_set, refl, sym, ap, subst, inl, inr, arith, Option, Some, None}
-use Rattle.std.specs.List.{list_all, slice_get}
+use Rattle.std.specs.List.{slice_get}
 use Rattle.std.specs.Ordering.{is_eq, nat_cmp}
 use Rattle.std.specs.FinMap as tables
-use Rattle.std.proofs.lemmas.Bool.{and_parts, cases_Bool, cond-false, cond-true, eq-eqb, eqb-true, false≢true}
+use Rattle.std.proofs.lemmas.Bool.{cases_Bool, cond-false, cond-true, eq-eqb, eqb-true, false≢true}
 use Rattle.std.proofs.lemmas.Bool.Decides.{nat_tests}
 use Rattle.std.proofs.lemmas.List.{length-set}
-use Rattle.std.proofs.lemmas.Option.{none-some, slice_get_past}
-use Rattle.bdb_base.specs.Bases.{Contents, IsValid, belongs, is_plain, is_user, user_names, without_user, world_count}
+use Rattle.std.proofs.lemmas.Option.{slice_get_past}
+use Rattle.bdb_base.specs.Bases.{Contents, IsValid, belongs, is_user, without_user, world_count}
 use Rattle.bdb_base.specs.Causes.{Rises, RoseBy}
 use Rattle.bdb_base.specs.Changes.{names_user, without_statements_of}
 use Rattle.bdb_base.specs.States.{is_state}

@@ -8,7 +8,7 @@ use Rattle.bdb_keep.specs.Calls.{IsBegin}
 use Rattle.bdb_keep.specs.Seen.{Seen, IsStill, IsDropped, NeverFall, Unchanged}
 use Rattle.bdb_tables.proofs.Loops.{counts_then}
 use Rattle.bdb_val.proofs.Calls.{HasGone}
-use Rattle.bdb_session.specs.Batches.{pieces, up_to_refused, before_refused, batch_text, batch_state, IsRun, AreRun, IsBatchReply, ServesBatch}
+use Rattle.bdb_session.specs.Batches.{pieces, up_to_refused, before_refused, batch_text, IsRun, AreRun, IsBatchReply, ServesBatch}
 use Rattle.bdb_session.specs.Known.{Known, Agrees, AgreesOnSome}
 use Rattle.bdb_session.specs.Laws.{IsWhole, BreaksOff, BatchesAreWholeOrBreakOff}
 use Rattle.bdb_session.specs.Machine.{accepts, next_state, outcome_of, reply_of}

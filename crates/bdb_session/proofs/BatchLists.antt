@@ -1,5 +1,5 @@
 -- What a batch leaves of the bases to which undo and redo lead.
-use Rattle.std.proofs.Common.{◌≡◌, ◌∙◌, ℕ, suc, arith, take, Bool, true, false, not, ◌&&◌, ◌||◌, nat_lt, List, [], ◌∷◌, length, Option, None, Some, Result, Ok, Err, OnOk, refl, sym, ap, subst, inl, inr, MatchBool}
+use Rattle.std.proofs.Common.{◌≡◌, ◌∙◌, ℕ, suc, arith, take, Bool, true, false, not, ◌&&◌, ◌||◌, nat_lt, List, [], ◌∷◌, length, Option, None, Some, Result, Ok, Err, OnOk, refl, sym, ap, subst, inl, inr}
 use Rattle.std.proofs.lemmas.Bool.Decides.{nat_tests}
 use Rattle.std.proofs.lemmas.Bool.{and_parts, cases_Bool, cond-true, cond-false, false≢true, MatchBool-at_true, MatchBool-at_false}
 use Rattle.bdb_base.specs.Bases.{Contents}
@@ -9,16 +9,16 @@ use Rattle.bdb_keep.specs.Calls.{IsBegin}
 use Rattle.bdb_keep.specs.Seen.{GoesOn, Seen, IsStill}
 use Rattle.bdb_keep.specs.Tables.{Tables}
 use Rattle.bdb_undo.specs.Changes.{Leads, alters}
-use Rattle.bdb_undo.specs.Histories.{Kept, noted, nothing_kept}
+use Rattle.bdb_undo.specs.Histories.{Kept, noted}
 use Rattle.bdb_undo.specs.Same.{same_contents}
 use Rattle.bdb_undo.specs.Timelines.{Timeline, StandsFor, started}
 use Rattle.bdb_undo.specs.declared.change.Change.{Change}
 use Rattle.bdb_undo.proofs.ChangeLemmas.{same_base_alters_nothing}
 use Rattle.bdb_undo.proofs.SameLemmas.{same_contents_are_one, contents_are_their_own}
 use Rattle.bdb_undo.proofs.TimelineLemmas.{nothing_kept_starts}
-use Rattle.bdb_session.specs.Batches.{Alters, AlterSome, AreRun, ServesBatch, SettlesBatch, alters_some, batch_state, batch_timeline, is_altered, left_by, pieces, taken_over, without_changes}
+use Rattle.bdb_session.specs.Batches.{Alters, AlterSome, AreRun, ServesBatch, SettlesBatch, alters_some, batch_timeline, is_altered, left_by, pieces, taken_over, without_changes}
 use Rattle.bdb_session.specs.Known.{Known, Agrees, AgreesOnSome, Remembers, RemembersSome}
-use Rattle.bdb_session.specs.Machine.{accepts, next_state, outcome_of}
+use Rattle.bdb_session.specs.Machine.{accepts, next_state}
 use Rattle.bdb_session.specs.Outcome.{State, Outcome, start_from, state_after}
 use Rattle.bdb_session.specs.Runs.{accepts_all, after}
 use Rattle.bdb_session.specs.Within.{IsKept, IsUndone, LeadsBy, catalog_by, learned, noted_by}

@@ -11,7 +11,7 @@ use Rattle.bdb_syntax.specs.declared.command.Command.TheVariants.{CreateUser, Cr
 use Rattle.bdb_session.specs.Bounds.{CommandReads, CommandWrites, RefusedUnwritten}
 use Rattle.bdb_session.specs.Known.{Known}
 use Rattle.bdb_session.specs.Undoing.{course_of_command}
-use Rattle.bdb_session.specs.declared.course.Course.TheVariants.{Back, Forth, Onward}
+use Rattle.bdb_session.specs.declared.course.Course.TheVariants.{Back, Forth}
 use Rattle.bdb_session.specs.declared.reply.Reply.{Reply}
 use Rattle.bdb_session.specs.declared.stop.StopError.{StopError}
 

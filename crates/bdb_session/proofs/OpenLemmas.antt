@@ -1,5 +1,5 @@
 -- What opening finds in tables that stand for a base.
-use Rattle.std.proofs.Common.{◌≡◌, ◌∙◌, ℕ, suc, Bool, true, false, ◌||◌, List, [], Option, Some, None, Result, Ok, Err, IfOk, OnOk, refl, ap, sym, subst, inl, inr, arith}
+use Rattle.std.proofs.Common.{◌≡◌, ◌∙◌, ℕ, suc, Bool, true, false, ◌||◌, List, Option, Some, None, Result, Ok, Err, IfOk, OnOk, refl, ap, sym, subst, inl, inr, arith}
 use Rattle.std.specs.Prelude.{nat_eq, if◌then◌else◌}
 use Rattle.std.specs.FinMap as tables
 use Rattle.std.specs.FinMap.{get-empty, len-empty, empty_of_len}
@@ -18,7 +18,7 @@ use Rattle.bdb_decode.specs.Opening.{TellsStand}
 use Rattle.bdb_decode.specs.declared.opening.Stand.{Stand}
 use Rattle.bdb_decode.specs.declared.opening.Stand.TheVariants.{Empty, Stored, Former}
 use Rattle.bdb_decode.proofs.StandLemmas.{one_base_at_most}
-use Rattle.bdb_keep.specs.Seen.{Seen, IsStill, NeverFall, Steps, Unchanged}
+use Rattle.bdb_keep.specs.Seen.{Seen, IsStill, Steps, Unchanged}
 use Rattle.bdb_keep.specs.Tables.{Tables, bytes_cmp}
 use Rattle.bdb_key.specs.Bytes.{num_bytes}
 use Rattle.bdb_stored.specs.Counting.{TellsCounts}

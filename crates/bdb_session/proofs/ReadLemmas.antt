@@ -1,5 +1,5 @@
 -- How often answering a query reads at most.
-use Rattle.std.proofs.Common.{◌≡◌, ◌∙◌, ℕ, ◌+◌, ◌≤◌, ◌^◌, Bool, true, false, ◌&&◌, nat_eq, nat_lt, List, [], ◌∷◌, Option, Some, None, is_some, Result, suc, length, map, refl, ap, sym, subst, inl, inr, arith}
+use Rattle.std.proofs.Common.{◌≡◌, ◌∙◌, ℕ, ◌+◌, ◌≤◌, ◌^◌, Bool, true, false, ◌&&◌, nat_eq, nat_lt, List, [], ◌∷◌, Option, Some, None, is_some, Result, length, map, refl, ap, sym, subst, inl, inr, arith}
 use Rattle.std.specs.Prelude.{T}
 use Rattle.std.specs.FinMap as tables
 use Rattle.std.specs.FinMap.Entries.{is_sorted, below_all, is_sorted-where_key}

@@ -1,10 +1,9 @@
 -- A step along the bases, from its transaction's beginning to its end.
-use Rattle.std.proofs.Common.{◌≡◌, ◌∙◌, ℕ, ◌<◌, true, false, List, [], ◌∷◌, length, Option, None, Some, Result, Ok, Err, refl, sym, ap, subst, arith}
+use Rattle.std.proofs.Common.{◌≡◌, ◌∙◌, ◌<◌, true, false, List, [], ◌∷◌, length, Option, None, Some, Result, Ok, Err, refl, sym, ap, subst, arith}
 use Rattle.std.specs.Prelude.{MatchBool}
 use Rattle.std.proofs.lemmas.Bool.{false≢true}
 use Rattle.std.specs.List.{slice_get}
 use Rattle.bdb_base.specs.Bases.{Contents}
-use Rattle.bdb_base.specs.declared.kinds.Catalog.{Catalog}
 use Rattle.bdb_canon.specs.declared.sizes.Counts.{Counts}
 use Rattle.bdb_keep.specs.Calls.{IsBegin, IsUndo}
 use Rattle.bdb_keep.specs.Seen.{Seen, IsStill}
@@ -16,7 +15,7 @@ use Rattle.bdb_return.specs.Returning.{MayGoBack, SomeMayGoBack, GoesBack, MayGo
 use Rattle.bdb_tables.specs.declared.tab.TabError.{TabError}
 use Rattle.bdb_tables.specs.declared.tab.TabError.TheVariants as tab
 use Rattle.bdb_undo.specs.Changes.{CanName, Leads, named_back, named_forth}
-use Rattle.bdb_undo.specs.Histories.{Kept, stepped_back, stepped_forth}
+use Rattle.bdb_undo.specs.Histories.{stepped_back, stepped_forth}
 use Rattle.bdb_undo.specs.Timelines.{Timeline, StandsFor, undone, redone}
 use Rattle.bdb_undo.specs.declared.change.Change.{Change}
 use Rattle.bdb_undo.proofs.ChangeLemmas.{back_gives_the_base_before}
@@ -26,19 +25,19 @@ use Rattle.bdb_val.specs.Steps.{IsChanging}
 use Rattle.bdb_update.proofs.CallLemmas.{gone_itself}
 use Rattle.bdb_val.proofs.Calls.{HasGone, changing_ok, changing_undone}
 use Rattle.bdb_session.specs.Bounds.{RefusedUnwritten}
-use Rattle.bdb_session.specs.Following.{Follows, IsFollowed, IsStepTo, TellsStep, gone_back, gone_forth}
-use Rattle.bdb_session.specs.Known.{Known, Agrees, AgreesOnSome, Remembers, RemembersSome}
+use Rattle.bdb_session.specs.Following.{Follows, IsFollowed, TellsStep, gone_back, gone_forth}
+use Rattle.bdb_session.specs.Known.{Known, Agrees, Remembers, RemembersSome}
 use Rattle.bdb_session.specs.Outcome.{State, Outcome, Blank, Refused, Done, is_accepted, commit_count, start_from}
-use Rattle.bdb_session.specs.Served.{IsReply, Serves, AnswersAlone}
+use Rattle.bdb_session.specs.Served.{Serves, AnswersAlone}
 use Rattle.bdb_session.specs.Undoing.{led, stepped}
 use Rattle.bdb_session.specs.declared.news.News.{News}
 use Rattle.bdb_session.specs.Within.{IsKept, IsUndone, IsSaid, Settles, TellsWithin, learned, noted_by}
 use Rattle.bdb_session.specs.declared.reply.Reply.{Reply}
 use Rattle.bdb_session.specs.declared.stop.StopError.{StopError}
 use Rattle.bdb_session.specs.declared.stop.StopError.TheVariants.{Fault, Memory}
-use Rattle.bdb_session.proofs.FollowLemmas.{agrees_as, some_agree, still_remembers, refused_follows}
+use Rattle.bdb_session.proofs.FollowLemmas.{agrees_as, still_remembers, refused_follows}
 use Rattle.bdb_session.proofs.ServedLemmas.{still_agrees}
-use Rattle.bdb_session.proofs.WithinLemmas.{begin_stops, said_tells, step_serves, step_stops, stop_tells, table_stops, memory_tells}
+use Rattle.bdb_session.proofs.WithinLemmas.{begin_stops, step_serves, step_stops, table_stops, memory_tells}
 
 -- what comes of a step to a base
 abbrev step_outcome : Timeline → State → Outcome

@@ -1,5 +1,5 @@
 -- The places of users by number, from 1 in order, and the numbers of those who are live.
-use Rattle.std.proofs.Common.{◌≡◌, ◌∙◌, ℕ, suc, ◌+◌, ◌<◌, ◌≤◌, Bool, true, false, ◌||◌, ◌&&◌, nat_eq, nat_lt, nat_le, List, [], ◌∷◌, length, map, filter, Option, Some, is_some, refl, ap, sym, inl, inr, arith}
+use Rattle.std.proofs.Common.{◌≡◌, ◌∙◌, ℕ, suc, ◌+◌, ◌<◌, ◌≤◌, Bool, true, false, ◌||◌, ◌&&◌, nat_eq, nat_lt, nat_le, List, [], ◌∷◌, length, map, filter, Option, is_some, refl, ap, sym, inl, inr, arith}
 use Prim.Native.Nat.{zero}
 use Rattle.std.specs.List.{AllByRecursion, list_all, slice_get}
 use Rattle.std.specs.Ordering.{is_eq, is_lt, nat_cmp}

@@ -1,5 +1,5 @@
 -- Tables that are cleared, and the base that is written into them piece by piece.
-use Rattle.std.specs.Prelude.{◌≡◌, ℕ, ◌+◌, ◌≤◌, Bool, true, false, ◌&&◌, nat_eq, nat_le, nat_lt, List, [], ◌∷◌, ◌++◌, length, take, Some, None}
+use Rattle.std.specs.Prelude.{◌≡◌, ℕ, ◌+◌, Bool, true, false, ◌&&◌, nat_eq, nat_le, nat_lt, List, [], ◌∷◌, ◌++◌, length, take, None}
 use Rattle.std.specs.FinMap as tables
 use Rattle.bdb_base.specs.Bases.{Contents, IsValid, stands, with_statement}
 use Rattle.bdb_base.specs.declared.kinds.Catalog.{Catalog}

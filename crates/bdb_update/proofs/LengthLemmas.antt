@@ -4,10 +4,9 @@ use Rattle.std.specs.List.{flat_map, list_all, list_any, slice_get}
 use Rattle.std.proofs.lemmas.Bool.{and_from, and_parts, eq-eqb, eqb-true, false≢true, or_cases}
 use Rattle.std.proofs.lemmas.List.Sums.{sum_by-cons}
 use Rattle.bdb_base.specs.Bases.{Contents, belongs, fits_definition, key_at, key_lengths, tuple_count, with_relation, world_count}
-use Rattle.bdb_base.specs.Clash.{clash}
 use Rattle.bdb_base.specs.Order.{tuple_cmp}
 use Rattle.bdb_base.specs.OrderLemmas.{tuple_exact}
-use Rattle.bdb_base.specs.Same.{same_path, same_tuple, same_values}
+use Rattle.bdb_base.specs.Same.{same_tuple, same_values}
 use Rattle.bdb_base.specs.SameLemmas.{same_tuple-Decides}
 use Rattle.bdb_base.specs.SortedSet.{sorted_set}
 use Rattle.bdb_base.specs.States.{states_of}
@@ -21,8 +20,7 @@ use Rattle.bdb_base.specs.declared.kinds.Sign.TheVariants.{Plus, Minus}
 use Rattle.bdb_base.specs.declared.kinds.Stmt.{Stmt}
 use Rattle.bdb_base.specs.declared.kinds.Value.{Value}
 use Rattle.bdb_base.specs.declared.tuple.Tuple.{Tuple}
-use Rattle.bdb_base.proofs.BaseLemmas.{belongs_parts, clash_elsewhere, contradicted_elsewhere}
-use Rattle.bdb_base.proofs.ClashLemmas.{clash_by_length}
+use Rattle.bdb_base.proofs.BaseLemmas.{belongs_parts, contradicted_elsewhere}
 use Rattle.bdb_base.proofs.SetLemmas.{list_all-put_in}
 use Rattle.bdb_canon.specs.Canonical.{row_count}
 use Rattle.bdb_canon.specs.Sizes.{counts_of}

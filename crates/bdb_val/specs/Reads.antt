@@ -1,5 +1,5 @@
 -- Rows of worlds as they are read from tables, with their tuples.
-use Rattle.std.specs.Prelude.{◌≡◌, ℕ, Bool, true, List, [], ◌∷◌, ◌++◌, nat_eq, ◌&&◌, Option, Some, is_some}
+use Rattle.std.specs.Prelude.{◌≡◌, ℕ, Bool, true, List, [], ◌∷◌, nat_eq, ◌&&◌, Option, Some, is_some}
 use Rattle.std.specs.FinMap as tables
 use Rattle.bdb_base.specs.declared.tuple.Tuple.{Tuple}
 use Rattle.bdb_base.specs.declared.kinds.Value.{Value}

@@ -1,5 +1,5 @@
 -- Certificates of one tuple depend on the length of its relation's key alone.
-use Rattle.std.proofs.Common.{◌≡◌, ◌∙◌, ℕ, ◌+◌, Bool, true, false, not, ◌&&◌, ◌||◌, nat_eq, cond, List, [], ◌∷◌, map, filter, inl, inr, refl, ap, sym}
+use Rattle.std.proofs.Common.{◌≡◌, ◌∙◌, ℕ, ◌+◌, Bool, true, not, ◌&&◌, ◌||◌, nat_eq, cond, List, [], ◌∷◌, map, filter, inl, inr, refl, ap, sym}
 use Rattle.std.specs.List.{list_any, list_all}
 use Rattle.std.proofs.lemmas.Bool.{cases_Bool, and_parts, eqb-true}
 use Rattle.bdb_base.specs.declared.kinds.Sign.{Sign}

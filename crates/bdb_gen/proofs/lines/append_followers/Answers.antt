@@ -1,7 +1,7 @@
-use Rattle.std.proofs.Common.{◌≡◌, ◌∙◌, ◌+◌, ◌-◌, ◌<◌, ◌%◌, ◌++◌, suc, sym, ap, arith, append_assoc}
+use Rattle.std.proofs.Common.{◌≡◌, ◌∙◌, ◌+◌, ◌-◌, ◌++◌, suc, sym, ap, arith, append_assoc}
 use Rattle.std.proofs.Math.Nat.{mod-lt}
 use Rattle.std.specs.List.{flat_map}
-use Rattle.bdb_gen.specs.Draws.{next_state, state_after, drawn, draws}
+use Rattle.bdb_gen.specs.Draws.{state_after, drawn, draws}
 use Rattle.bdb_gen.specs.Scripts.{sevens, next_user, followers, belief_text}
 use Rattle.bdb_gen.proofs.PathLemmas.{followers_more, state_more}
 use Rattle.bdb_gen.proofs.lines.append_followers.Goals as goal

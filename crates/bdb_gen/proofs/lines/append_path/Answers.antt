@@ -1,7 +1,7 @@
 use Rattle.std.proofs.Common.{◌≡◌, ◌∙◌, ◌<◌, ◌-◌, ◌++◌, sym, ap, rules, arith, append-nil}
 use Rattle.std.specs.List.{flat_map}
 use Rattle.bdb_gen.specs.Draws.{next_state, drawn, draws}
-use Rattle.bdb_gen.specs.Scripts.{sevens, followers, belief_text, path_text}
+use Rattle.bdb_gen.specs.Scripts.{sevens, followers, belief_text}
 use Rattle.bdb_gen.proofs.PathLemmas.{twice, no_path_text, path_text_of}
 use Rattle.bdb_gen.proofs.lines.append_path.Goals as goal
 

@@ -1,5 +1,5 @@
 use Rattle.std.proofs.Common.{◌≡◌, ◌∙◌, ◌+◌, ◌-◌, ◌++◌, suc, sym, ap, arith, append_assoc}
-use Rattle.bdb_gen.specs.Scripts.{line, after_line, lines}
+use Rattle.bdb_gen.specs.Scripts.{line, lines}
 use Rattle.bdb_gen.proofs.PathLemmas.{lines_more}
 use Rattle.bdb_gen.proofs.scripts.generate.Goals as goal
 

@@ -1,4 +1,4 @@
-use Rattle.std.proofs.Common.{◌≡◌, ◌∙◌, ap, slice_get, sym}
+use Rattle.std.proofs.Common.{◌∙◌, ap, slice_get, sym}
 use Rattle.std.proofs.lemmas.Bool.{false≢true}
 use Rattle.bdb_base.specs.Order.{path_cmp}
 use Rattle.bdb_base.specs.SortedSet.{is_member}

@@ -1,4 +1,3 @@
-use Rattle.bdb_session.specs.Opening.{opening}
 use Rattle.bdb_session.proofs.OpenLemmas.{opened_new, opened_read, opened_anew, agrees_read, agrees_some, none_stored, stored_some, once_new, none_read, once_anew, on_ok, rises_none, rises_once, one_and_none}
 use Rattle.bdb_session.proofs.open.open_held.Goals as goal
 

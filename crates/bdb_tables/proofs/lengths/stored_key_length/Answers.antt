@@ -1,4 +1,4 @@
-use Rattle.std.proofs.Common.{◌≡◌, ◌∷◌, ◌∙◌, Some, ap, sym}
+use Rattle.std.proofs.Common.{◌∷◌, ◌∙◌, Some, ap, sym}
 use Rattle.std.specs.FinMap as map
 use Rattle.bdb_tables.specs.InUse.{rel_codec}
 use Rattle.bdb_tables.proofs.Held.{rel_fits, row_of_entry}

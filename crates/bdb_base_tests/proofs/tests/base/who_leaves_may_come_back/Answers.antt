@@ -1,4 +1,3 @@
-use Rattle.std.proofs.Common.{◌≡◌}
 use Rattle.bdb_base_tests.proofs.BaseSamples.{user_fits, relation_fits, statement_fits, after_user, after_relation, after_statement, user_is_there, after_leaving, user_is_gone, user_may_come_back}
 use Rattle.bdb_base_tests.proofs.tests.base.who_leaves_may_come_back.Goals as goal
 

@@ -1,4 +1,4 @@
-use Rattle.std.proofs.Common.{◌≡◌, ◌∙◌, ap, [], rules}
+use Rattle.std.proofs.Common.{◌∙◌, ap, []}
 use Rattle.bdb_base.specs.Order.{path_cmp}
 use Rattle.bdb_base.specs.SortedSet.{is_member}
 use Rattle.bdb_paths.proofs.StateLemmas.{list_has_states}

@@ -1,13 +1,11 @@
-use Rattle.std.proofs.Common.{◌≡◌, ◌∙◌, List, ap, subst, sym}
+use Rattle.std.proofs.Common.{◌∙◌, ap, subst, sym}
 use Rattle.std.specs.List.{list_all}
 use Rattle.bdb_base.specs.Bases.{is_user}
 use Rattle.bdb_base.specs.Queries.{user_numbers}
 use Rattle.bdb_base.specs.declared.kinds.Catalog.{Catalog}
-use Rattle.bdb_canon.specs.Samples.{three_users}
 use Rattle.bdb_keep.specs.Tables.{Tables}
-use Rattle.bdb_tables.specs.Grammar.{InGrammar}
 use Rattle.bdb_worlds.specs.Holding.{HoldSome}
-use Rattle.bdb_catalog.specs.Bases.{StoresSome, StoresValid}
+use Rattle.bdb_catalog.specs.Bases.{StoresSome}
 use Rattle.bdb_catalog.specs.Opening.{IsPartOf}
 use Rattle.bdb_stored.proofs.CountingLemmas.{valid_in_grammar}
 use Rattle.bdb_session_tests.proofs.tests.stored.push_led.Goals as goal
