@@ -4,6 +4,7 @@ pub mod LeastLemmas
 pub mod BaseLemmas
 pub mod CountLemmas
 pub mod ListLemmas
+pub mod Numbers
 pub mod Rows
 pub mod SegmentLemmas
 pub mod SetLemmas

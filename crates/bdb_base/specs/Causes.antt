@@ -1,5 +1,6 @@
 -- How counts rise, and the cause of a fault: the words that sources, sinks and keepers share.
-use Rattle.std.specs.Prelude.{◌≡◌, ℕ, ◌+◌, ◌-◌, ◌^◌, ◌<◌, ◌≤◌, min, Result, IsErrOf}
+use Rattle.std.specs.Prelude.{◌≡◌, ℕ, ◌+◌, ◌-◌, ◌^◌, ◌<◌, ◌≤◌, min, Bool, nat_eq, List, Result, IsErrOf}
+use Rattle.std.specs.List.{list_any}
 
 -- a count rose, or stands at the end of its type
 abbrev pub Rose : ℕ → ℕ → Type 0
@@ -21,3 +22,11 @@ RisesOver n before now = now < 2 ^ 64 - 1 → before + n < now
 pub record HasCause {T E : Type 0} (before now : ℕ) (result : Result T E) (fault : E) : Type 0 where
   pub later : before ≤ now
   pub rose : IsErrOf result fault → Rose before now
+
+-- the number of the call after these many calls
+abbrev pub number_of_next : ℕ → ℕ
+number_of_next calls = min (calls + 1) (2 ^ 64 - 1)
+
+-- whether a number is in a list
+abbrev pub is_listed : ℕ → List ℕ → Bool
+is_listed n fails = list_any (λ x. nat_eq x n) fails

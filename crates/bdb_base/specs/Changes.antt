@@ -5,7 +5,7 @@ use Rattle.bdb_base.specs.declared.kinds.Cond.{Cond}
 use Rattle.bdb_base.specs.declared.kinds.SetCol.{SetCol}
 use Rattle.bdb_base.specs.declared.kinds.Sign.{Sign}
 use Rattle.bdb_base.specs.declared.kinds.Stmt.{Stmt}
-use Rattle.bdb_base.specs.Bases.{with_statement}
+use Rattle.bdb_base.specs.Bases.{with_statement, without_statement}
 use Rattle.bdb_base.specs.Conditions.{meets, changed}
 use Rattle.bdb_base.specs.Same.{same_path, same_sign}
 use Rattle.bdb_base.specs.Worlds.{contradicted}
@@ -50,3 +50,8 @@ statements_naming uid stmts = filter (λ x. names_user uid x.path) stmts
 -- the statements whose path does not name a user
 abbrev pub without_statements_of : ℕ → List Stmt → List Stmt
 without_statements_of uid stmts = filter (λ x. not (names_user uid x.path)) stmts
+
+-- the statements without those of a list
+abbrev pub without_statements : List Stmt → List Stmt → List Stmt
+without_statements stmts [] = stmts
+without_statements stmts (x ∷ xs) = without_statements (without_statement stmts x) xs

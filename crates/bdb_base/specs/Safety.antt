@@ -137,3 +137,17 @@ pub record IsMinusColumn (rels : List RelDef) (q : Query) (r : Ref) : Type 0 whe
 -- a query is safe over a catalog: each column of its minus items is bound
 abbrev pub IsSafe : List RelDef → Query → Type 0
 IsSafe rels q = (r : Ref) → IsMinusColumn rels q r → IsBound q r
+
+-- a column equals a source
+abbrev pub equality : Ref → Operand → Cond
+equality r o = record { left = r; cmp = Eq; right = o }
+
+-- the column of a comparison's right side
+abbrev pub operand_columns : Operand → List Ref
+operand_columns (Col r) = r ∷ []
+operand_columns (Lit v) = []
+
+-- the first of two, if there is one
+abbrev pub first_there : {X : Type 0} → Option X → Option X → Option X
+first_there (Some x) more = Some x
+first_there None more = more

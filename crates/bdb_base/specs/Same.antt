@@ -44,3 +44,7 @@ same_kind _ _ = false
 
 abbrev pub same_statement : Stmt → Stmt → Bool
 same_statement a b = same_path a.path b.path && (same_tuple a.tuple b.tuple && same_sign a.sign b.sign)
+
+-- a tuple of a relation and values
+abbrev pub tuple_of : ℕ → List Value → Tuple
+tuple_of r v = record { rel = r; vals = v }

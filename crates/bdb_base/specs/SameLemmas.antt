@@ -12,7 +12,7 @@ use Rattle.bdb_base.specs.declared.kinds.Kind.{Kind}
 use Rattle.bdb_base.specs.declared.kinds.Kind.TheVariants as kind
 use Rattle.bdb_base.specs.declared.kinds.Stmt.{Stmt}
 use Rattle.bdb_base.specs.declared.tuple.Tuple.{Tuple}
-use Rattle.bdb_base.specs.Same.{same_text, same_path, same_value, same_values, same_tuple, same_sign, same_kind, same_statement}
+use Rattle.bdb_base.specs.Same.{same_text, same_path, same_value, same_values, same_tuple, same_sign, same_kind, same_statement, tuple_of}
 
 pub same_text-Decides : (a b : List ℕ) → Decides (same_text a b) (a ≡ b)
 same_text-Decides a b = bytes_eq-Decides a b
@@ -28,10 +28,6 @@ same_value-Decides (Text a) (Text b) = Decides-like (same_text a b) (λ e. ap Te
 
 pub same_values-Decides : (a b : List Value) → Decides (same_values a b) (a ≡ b)
 same_values-Decides a b = slice_eq-Decides same_value-Decides a b (same_values a b) refl
-
--- a tuple of a relation and values
-abbrev pub tuple_of : ℕ → List Value → Tuple
-tuple_of r v = record { rel = r; vals = v }
 
 pub same_tuple-Decides : (a b : Tuple) → Decides (same_tuple a b) (a ≡ b)
 same_tuple-Decides a b = Decides-like (same_tuple a b) (λ e. ap (λ r. tuple_of r a.vals) e.0 ∙ ap (λ v. tuple_of b.rel v) e.1)

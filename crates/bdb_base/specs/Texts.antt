@@ -1,5 +1,5 @@
 -- Texts of values, as replies and printed commands write them.
-use Rattle.std.specs.Prelude.{ℕ, ◌==◌, List, [], ◌∷◌, ◌++◌, if◌then◌else◌, codes, ℤ}
+use Rattle.std.specs.Prelude.{ℕ, ◌==◌, List, [], ◌∷◌, ◌++◌, if◌then◌else◌, codes, Option, Some, None, ℤ}
 use Rattle.std.specs.List.{flat_map}
 use Rattle.std.specs.Fmt.{signed_decimal}
 use Rattle.bdb_base.specs.declared.kinds.Cmp.{Cmp}
@@ -55,3 +55,12 @@ cmp_text cmp.Lt = codes "<"
 cmp_text cmp.Le = codes "<="
 cmp_text cmp.Gt = codes ">"
 cmp_text cmp.Ge = codes ">="
+
+-- a line: its text, and a line feed
+abbrev pub line : List ℕ → List ℕ
+line text = text ++ 10 ∷ []
+
+-- a column's name, behind its alias where it has one
+abbrev pub named_column : Option (List ℕ) → List ℕ → List ℕ
+named_column None col = col
+named_column (Some alias) col = dotted alias col

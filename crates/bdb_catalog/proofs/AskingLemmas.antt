@@ -6,7 +6,7 @@ use Rattle.bdb_base.specs.Clash.{key_of}
 use Rattle.bdb_base.specs.Conditions.{meets, meets_one, value_at, operand_at, compare_so}
 use Rattle.bdb_base.specs.Order.{value_cmp}
 use Rattle.bdb_base.specs.OrderLemmas.{value_exact}
-use Rattle.bdb_base.specs.Safety.{is_equality}
+use Rattle.bdb_base.specs.Safety.{is_equality, first_there}
 use Rattle.bdb_base.specs.Same.{same_values}
 use Rattle.bdb_base.specs.SameLemmas.{same_values-Decides}
 use Rattle.bdb_base.specs.Segments.{is_prefix}
@@ -31,7 +31,7 @@ use Rattle.bdb_tables.proofs.ListLemmas.{prefix_append, prefix_rest}
 use Rattle.bdb_val.specs.Reads.{IsSpan}
 use Rattle.bdb_val.specs.Settling.{row_key}
 use Rattle.bdb_val.proofs.ReadLemmas.{key_of_fits}
-use Rattle.bdb_catalog.specs.Taking.{asks_for, beginning, first_there, is_asked, literal_of, starts_with, value_asked, value_of_test, values_asked, values_from}
+use Rattle.bdb_catalog.specs.Taking.{asks_for, beginning, is_asked, literal_of, starts_with, value_asked, value_of_test, values_asked, values_from}
 
 -- ---- what a tuple has that meets tests
 

@@ -6,7 +6,7 @@ use Rattle.bdb_base.specs.Changes.{taken_by}
 use Rattle.bdb_base.specs.Clash.{key_of}
 use Rattle.bdb_base.specs.Conditions.{meets}
 use Rattle.bdb_base.specs.Order.{statement_cmp}
-use Rattle.bdb_base.specs.Safety.{is_equality}
+use Rattle.bdb_base.specs.Safety.{is_equality, first_there}
 use Rattle.bdb_base.specs.Same.{same_sign, same_values}
 use Rattle.bdb_base.specs.SortedSet.{put_all}
 use Rattle.bdb_base.specs.WorldRows.{world_of}
@@ -48,10 +48,6 @@ asks_for c col = is_equality c.cmp && (nat_eq c.left.item 0 && nat_eq c.left.col
 -- the value that a test asks for of a column, where it is a literal
 abbrev pub value_of_test : Cond → ℕ → Option Value
 value_of_test c col = cond (asks_for c col) (literal_of c.right) None
-
-abbrev pub first_there : Option Value → Option Value → Option Value
-first_there None o = o
-first_there (Some v) o = Some v
 
 -- the value that tests ask for of a column: that of the first test that asks for one
 abbrev pub value_asked : List Cond → ℕ → Option Value

@@ -4,12 +4,13 @@ use Rattle.std.specs.Fmt.{decimal}
 use Rattle.std.specs.Io.KnownBytes.{Appends}
 use Rattle.std.proofs.lemmas.List.{append-nil, length-map, length-take}
 use Rattle.bdb_base.specs.Causes.{Rises}
+use Rattle.bdb_base.specs.Texts.{line}
 use Rattle.bdb_events.specs.Forms.{NamesSession}
 use Rattle.bdb_events.specs.declared.read.Read.{Read}
 use Rattle.bdb_keep.specs.Seen.{Seen, Unchanged}
 use Rattle.bdb_keep.specs.Tables.{Tables}
 use Rattle.bdb_many.specs.Many.{end_text, rest_reply}
-use Rattle.bdb_many.specs.Marks.{line, mark, marked, told}
+use Rattle.bdb_many.specs.Marks.{mark, marked, told}
 use Rattle.bdb_multi.specs.declared.kinds.Act.{Act}
 use Rattle.bdb_multi.specs.declared.kinds.Act.TheVariants.{Begun, Queued, Aborted, ErrBegun, ErrNotBegun, ErrBatch, One, Batch}
 use Rattle.bdb_multi.specs.declared.kinds.Event.{Event}

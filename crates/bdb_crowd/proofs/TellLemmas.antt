@@ -7,10 +7,11 @@ use Rattle.std.specs.List.{flat_map, list_all, list_any}
 use Rattle.std.proofs.lemmas.Bool.{false≢true, and_from, and_parts, cond-true, cond_both, not-true, or_right}
 use Rattle.std.proofs.lemmas.List.{append-nil}
 use Rattle.bdb_base.specs.Segments.{is_prefix}
+use Rattle.bdb_base.specs.Texts.{line}
 use Rattle.bdb_events.specs.declared.read.Read.{Read}
 use Rattle.bdb_lex.specs.Spans.{lacks}
 use Rattle.bdb_many.specs.Many.{Batches, act_next, act_reply, end_text}
-use Rattle.bdb_many.specs.Marks.{line, mark, marked, marked_from, told}
+use Rattle.bdb_many.specs.Marks.{mark, marked, marked_from, told}
 use Rattle.bdb_many.proofs.MarkLemmas.{one_line}
 use Rattle.bdb_multi.specs.Sessions.{Commands, act_after}
 use Rattle.bdb_multi.specs.declared.kinds.Act.{Act}

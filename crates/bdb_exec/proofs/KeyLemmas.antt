@@ -12,7 +12,7 @@ use Rattle.bdb_base.specs.Conditions.{compare_so}
 use Rattle.bdb_base.specs.Queries.{option_list}
 use Rattle.bdb_base.specs.OrderLemmas.{value_exact}
 use Rattle.bdb_base.specs.Order.{value_cmp}
-use Rattle.bdb_base.specs.Safety.{is_column, is_equality, same_column}
+use Rattle.bdb_base.specs.Safety.{is_column, is_equality, same_column, first_there}
 use Rattle.bdb_base.specs.SameLemmas.{same_values-Decides}
 use Rattle.bdb_base.specs.declared.kinds.Cmp.{Cmp}
 use Rattle.bdb_base.specs.declared.kinds.Cmp.TheVariants.{Eq, Ne, Lt, Le, Gt, Ge}
@@ -26,7 +26,6 @@ use Rattle.bdb_base.specs.declared.tuple.Tuple.{Tuple}
 use Rattle.bdb_queries.specs.Slots.{slot_at, known, known_operand, must_hold}
 use Rattle.bdb_plan.specs.Running.{Reached, with_slot, with_choice, choices, settled, after, reached_if, rows_from, reads_from, own_reads}
 use Rattle.bdb_plan.specs.Sight.{Sight}
-use Rattle.bdb_plan.specs.Sources.{first_there}
 use Rattle.bdb_plan.specs.declared.step.Step.{Step}
 use Rattle.bdb_plan.specs.declared.step.Step.TheVariants as step
 use Rattle.bdb_exec.specs.Keys.{tests_hold, passes, begins_so, column, names_another, asks_for_key, asks_on_left, asks_on_right, value_of_test, value_behind, values_behind, of_key, rows_of_key, key_asked, narrowed, choices_before, after_before}

@@ -105,7 +105,7 @@ number_same m n hm hn = both_ways (eq_by_cmp bytes_cmp (num_bytes m) (num_bytes 
     (λ e. ap is_eq (numbers_in_order m n hm hn) ∙ ap (λ k. is_eq (nat_cmp m k)) (sym (eqb-true m n e)) ∙ same_number m)
   where
     same_number : (k : ℕ) → is_eq (nat_cmp k k) ≡ true
-    same_number k = ap is_eq (Rattle.bdb_key.proofs.Numbers.equal k)
+    same_number k = ap is_eq (Rattle.bdb_base.proofs.Numbers.equal k)
 
 number_found : (uid : ℕ) (slots : List UserSlot) (n : ℕ) → IsNum n → uid + length slots ≤ 2 ^ 32 → find bytes_cmp (num_bytes n) (map (entry_bytes user_codec) (numbered uid slots)) ≡ option_map slot_bytes (among uid slots n)
 unfolding numbered among
@@ -138,7 +138,7 @@ unfolding numbered
 numbers_rise uid m [] slot lt few = refl
 numbers_rise uid m (x ∷ slots) slot lt few =
     and_from (is_lt (bytes_cmp (num_bytes uid) (num_bytes m))) (list_all (λ y. is_lt (entry_cmp user_codec (uid, slot) y)) (numbered (suc m) slots))
-    (ap is_lt (numbers_in_order uid m (omega arith) (omega arith) ∙ Rattle.bdb_key.proofs.Numbers.less uid m lt)) (numbers_rise uid (suc m) slots slot (omega arith) (omega arith))
+    (ap is_lt (numbers_in_order uid m (omega arith) (omega arith) ∙ Rattle.bdb_base.proofs.Numbers.less uid m lt)) (numbers_rise uid (suc m) slots slot (omega arith) (omega arith))
 
 numbered_sorted : (uid : ℕ) (slots : List UserSlot) → uid + length slots ≤ 2 ^ 32 → ascending (entry_cmp user_codec) (numbered uid slots) ≡ true
 unfolding numbered

@@ -12,11 +12,11 @@ use Rattle.bdb_base.specs.declared.kinds.Sign.TheVariants.{Plus, Minus}
 use Rattle.bdb_base.specs.declared.kinds.Value.{Value}
 use Rattle.bdb_base.specs.declared.kinds.Value.TheVariants.{Int, Text}
 use Rattle.bdb_base.specs.declared.tuple.Tuple.{Tuple}
+use Rattle.bdb_base.specs.Same.{tuple_of}
 use Rattle.bdb_key.specs.Bytes.{num_bytes, raised, text_bytes, value_bytes, values_bytes}
 use Rattle.bdb_key.specs.Grammar.{IsNum, IsPlain, ArePlain}
 use Rattle.bdb_key.specs.Rows.{IsTupleRow, tuple_bytes, mark_bytes}
 use Rattle.bdb_key.proofs.Compared.{IsPrinting, printing}
-use Rattle.bdb_plan.specs.Running.{tuple_of}
 use Rattle.bdb_exec.specs.Spelled.{number_in, lowered, before_end, behind_end, values_in, tuple_in}
 use Rattle.bdb_exec.specs.Seen.{sign_in}
 

@@ -1,7 +1,7 @@
 -- Which tuples the tests right behind a choice let through, and which first values of a tuple they ask for.
 use Rattle.std.specs.Prelude.{ℕ, suc, Bool, true, not, ◌&&◌, nat_eq, nat_lt, cond, List, [], ◌∷◌, Option, Some, None, is_some, length, filter, take, slice_set}
 use Prim.Native.Nat.{zero}
-use Rattle.bdb_base.specs.Safety.{is_column, is_equality, same_column}
+use Rattle.bdb_base.specs.Safety.{is_column, is_equality, same_column, first_there}
 use Rattle.bdb_base.specs.Same.{same_values}
 use Rattle.bdb_base.specs.declared.kinds.Cond.{Cond}
 use Rattle.bdb_base.specs.declared.kinds.Operand.{Operand}
@@ -13,7 +13,6 @@ use Rattle.bdb_base.specs.declared.tuple.Tuple.{Tuple}
 use Rattle.bdb_queries.specs.Slots.{known, known_operand, must_hold}
 use Rattle.bdb_plan.specs.Running.{Reached, choices, settled, with_choice}
 use Rattle.bdb_plan.specs.Sight.{Sight}
-use Rattle.bdb_plan.specs.Sources.{first_there}
 use Rattle.bdb_plan.specs.declared.step.Step.{Step}
 use Rattle.bdb_tables.specs.Beginnings.{led_by}
 use Rattle.bdb_plan.specs.declared.step.Step.TheVariants as step

@@ -1,9 +1,10 @@
 // Steps at which nothing is chosen.
 ghost use Rattle.std.specs.Prelude.{◌≡◌, ◌≤◌, ◌+◌, IfOk, OnOk, length};
 ghost use Rattle.std.specs.Option.{option_map, option_and_then};
+ghost use Rattle.bdb_base.specs.Same.{tuple_of};
 ghost use Rattle.bdb_queries.specs.Slots.{slot_at, uid_of, must_hold};
 ghost use Rattle.bdb_plan.specs.Holding.{differ};
-ghost use Rattle.bdb_plan.specs.Running.{with_world, denied, settled, reached_if, tuple_of};
+ghost use Rattle.bdb_plan.specs.Running.{with_world, denied, settled, reached_if};
 ghost use Rattle.bdb_exec.specs.LookUps.{deny_looks, settled_looks};
 ghost use Rattle.bdb_tables.specs.Reading.{OnlyReads};
 ghost use Rattle.bdb_exec.specs.Memos.{Recalls};

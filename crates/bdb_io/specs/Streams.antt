@@ -1,14 +1,7 @@
 -- What the sources and sinks in memory show, and their exact rules.
 use Rattle.std.specs.Prelude.{ℕ, ◌+◌, ◌-◌, ◌^◌, min, Bool, ◌&&◌, not, nat_eq, nat_le, List, ◌++◌, length, take, drop}
 use Rattle.std.specs.List.{list_any}
-
--- the number of the call after these many calls
-abbrev pub number_of_next : ℕ → ℕ
-number_of_next calls = min (calls + 1) (2 ^ 64 - 1)
-
--- whether a number is in a list
-abbrev pub is_listed : ℕ → List ℕ → Bool
-is_listed n fails = list_any (λ x. nat_eq x n) fails
+use Rattle.bdb_base.specs.Causes.{number_of_next, is_listed}
 
 -- bytes that are read from the front: those left, and how many were given
 pub record Stream : Type 0 where

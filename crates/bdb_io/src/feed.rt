@@ -2,10 +2,10 @@
 ghost use Rattle.std.specs.Prelude.{◌≡◌, ◌<◌, ◌≤◌, Some, length, min, IfOk, OnOk, OnErr, is_err};
 ghost use Rattle.std.specs.Io.{ReadsAtMost};
 ghost use Rattle.std.specs.Io.KnownBytes.{ReadConsumes};
-ghost use Rattle.bdb_base.specs.Causes.{HasCause};
+ghost use Rattle.bdb_base.specs.Causes.{HasCause, number_of_next, is_listed};
 ghost use Rattle.bdb_io.specs.Failure.{failed};
 ghost use Rattle.bdb_io.specs.Pieces.{Counts};
-ghost use Rattle.bdb_io.specs.Streams.{is_listed, number_of_next, fed, unfed};
+ghost use Rattle.bdb_io.specs.Streams.{fed, unfed};
 
 use crate::failed::Failed;
 use crate::traits::Source;

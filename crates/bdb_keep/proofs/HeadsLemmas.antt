@@ -11,7 +11,7 @@ use mathlib.Core.Bool.{true≢false}
 use Rattle.bdb_keep.specs.Tables.{bytes_cmp}
 use Rattle.bdb_keep.specs.Heads.{padded, bytes_of, key_of, IsHeadOf, IsHeadOfPlace, heads_cmp}
 use Rattle.bdb_keep.specs.declared.head.Head.{Head}
-use Rattle.bdb_keep.proofs.Numbers.{less, greater, equal, then_assoc, numbers}
+use Rattle.bdb_base.proofs.Numbers.{less, greater, equal, then_assoc, numbers}
 
 stepped : (m n : ℕ) → nat_cmp (suc m) (suc n) ≡ nat_cmp m n
 stepped m n = grind (arith, nat_tests)

@@ -14,7 +14,7 @@ use Rattle.bdb_keep.specs.Tables.{bytes_cmp}
 use Rattle.bdb_keep.specs.Heads.{padded, bytes_of, key_of, IsHeadOf, IsHeadOfPlace, numbers_cmp, heads_cmp}
 use Rattle.bdb_keep.specs.Openings.{filled, IsLastHead}
 use Rattle.bdb_keep.specs.declared.head.Head.{Head}
-use Rattle.bdb_keep.proofs.Numbers.{less, equal}
+use Rattle.bdb_base.proofs.Numbers.{less, equal}
 use Rattle.bdb_keep.proofs.HeadsLemmas.{four, plus}
 use Rattle.bdb_keep.proofs.UnderLemmas.{not_true, nat_same}
 

@@ -2,6 +2,7 @@
 use Rattle.std.specs.Prelude.{◌≡◌, ℕ, ◌+◌, ◌-◌, ◌^◌, min, Bool, true, false, nat_eq, List, Result, Ok, Err, refl}
 use Rattle.std.specs.List.{list_any}
 use Rattle.std.specs.Coded.{Coded, code_by, coded×, coded_ℕ, coded_list}
+use Rattle.bdb_base.specs.Causes.{number_of_next, is_listed}
 use Rattle.bdb_keep.specs.Seen.{Seen, coded_seen}
 use Rattle.bdb_keep.specs.declared.keeper.KeepError.{KeepError}
 use Rattle.bdb_keep.specs.declared.keeper.KeepError.TheVariants.{Fault, Memory}
@@ -16,14 +17,6 @@ pub record Struck : Type 0 where
 abbrev pub coded_struck : Coded Struck
 coded_struck = code_by (Seen × (ℕ × List ℕ)) (coded× coded_seen (coded× coded_ℕ (coded_list coded_ℕ)))
     (λ s. (s.seen, (s.calls, s.fails))) (λ p. record { seen = p.0; calls = p.1.0; fails = p.1.1 }) (λ _. refl)
-
--- the number of the call after these many calls
-abbrev pub number_of_next : ℕ → ℕ
-number_of_next calls = min (calls + 1) (2 ^ 64 - 1)
-
--- whether a number is in a list
-abbrev pub is_listed : ℕ → List ℕ → Bool
-is_listed n fails = list_any (λ x. nat_eq x n) fails
 
 -- whether a call answered that the store failed
 abbrev pub is_fault : {T : Type 0} → Result T KeepError → Bool

@@ -1,12 +1,12 @@
 // The keeper in memory that fails where it is told to.
 ghost use Rattle.std.specs.Prelude.{◌≡◌, ◌+◌, ◌≤◌, length, [], ◌∷◌, true, false, IfOk, OnOk, OnErr, IfErr, MatchBool, is_some, IsTrue, ◌↔◌, if◌then◌else◌};
 ghost use Rattle.std.specs.FinMap as map;
-ghost use Rattle.bdb_base.specs.Causes.{RoseBy};
+ghost use Rattle.bdb_base.specs.Causes.{RoseBy, number_of_next, is_listed};
 ghost use Rattle.bdb_keep.specs.Calls.{IsBegin, IsRead, IsWrite, IsCommit, IsUndo};
 ghost use Rattle.bdb_keep.specs.Marked.{IsMarkedCount};
 ghost use Rattle.bdb_keep.specs.Spans.{AreRowsUnder, with_rows, without_rows};
 ghost use Rattle.bdb_keep.specs.Tables.{IsLeastFrom, LieInTables, NoneFrom};
-ghost use Rattle.bdb_keep.specs.Struck.{number_of_next, is_listed, Counted};
+ghost use Rattle.bdb_keep.specs.Struck.{Counted};
 
 use crate::keeper::{KeepError, Keeper, KeyEnd};
 use crate::ledger::Ledger;

@@ -20,7 +20,7 @@ use Rattle.bdb_base.specs.declared.kinds.Value.TheVariants.{Int, Text}
 use Rattle.bdb_key.specs.Bytes.{num_bytes, raised, value_bytes, values_bytes, vals_bytes, path_bytes}
 use Rattle.bdb_key.specs.Grammar.{IsNum, IsPlain, IsPlainValue, ArePlain, AreKeyVals, IsKeyPath}
 use Rattle.bdb_key.specs.Order.{vals_cmp}
-use Rattle.bdb_key.proofs.Numbers.{less, greater, then_assoc, numbers}
+use Rattle.bdb_base.proofs.Numbers.{less, greater, then_assoc, numbers}
 use Rattle.bdb_key.proofs.Forms.{Compares, both_equal}
 
 -- ---- numbers

@@ -3,7 +3,6 @@ pub mod Compared
 pub mod Forms
 pub mod Keys
 pub mod Marks
-pub mod Numbers
 pub mod OneRow
 pub mod Readings
 pub mod TabRows

@@ -2,14 +2,14 @@
 use Rattle.std.proofs.Common.{◌≡◌, ◌∙◌, ℕ, true, List, sym, ap, subst}
 use Rattle.std.specs.List.{list_all}
 use Rattle.bdb_base.specs.Bases.{Contents, stands}
-use Rattle.bdb_base.specs.Changes.{names_user, statements_naming, without_statements_of}
+use Rattle.bdb_base.specs.Changes.{names_user, statements_naming, without_statements_of, without_statements}
 use Rattle.bdb_base.specs.declared.kinds.Stmt.{Stmt}
 use Rattle.bdb_base.proofs.UserLemmas.{drop_user_is_valid, states_name_others}
 use Rattle.bdb_canon.specs.declared.sizes.Counts.{Counts}
 use Rattle.bdb_keep.specs.Seen.{Seen}
 use Rattle.bdb_keep.specs.Tables.{Tables}
 use Rattle.bdb_tables.specs.Stored.{Stores}
-use Rattle.bdb_update.specs.Calls.{StoresSized, are_apart, with_stmts, without_statements}
+use Rattle.bdb_update.specs.Calls.{StoresSized, are_apart, with_stmts}
 use Rattle.bdb_update.specs.Replacing.{Go, MayGo, SomeMayGo}
 use Rattle.bdb_update.specs.Steps.{GoesThrough, WritesThrough, steps_without}
 use Rattle.bdb_update.proofs.ReplaceLemmas.{from_still}

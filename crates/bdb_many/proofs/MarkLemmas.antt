@@ -1,9 +1,10 @@
 -- Lines with marks.
 use Rattle.std.proofs.Common.{◌≡◌, ◌∙◌, ℕ, true, false, not, nat_eq, List, [], ◌∷◌, ◌++◌, refl, ap, sym, append_assoc}
 use Rattle.std.specs.List.{flat_map, list_all}
+use Rattle.bdb_base.specs.Texts.{line}
 use Rattle.std.proofs.lemmas.Bool.{and_parts, not-true}
 use Rattle.bdb_lex.specs.Spans.{lacks}
-use Rattle.bdb_many.specs.Marks.{line, mark, marked_from, LinesAreMarked}
+use Rattle.bdb_many.specs.Marks.{mark, marked_from, LinesAreMarked}
 
 -- within a line there is no mark
 within : (m text rest : List ℕ) → lacks 10 text ≡ true → marked_from m false (text ++ 10 ∷ rest) ≡ text ++ 10 ∷ marked_from m true rest

@@ -2,6 +2,7 @@
 use Rattle.std.specs.Prelude.{◌≡◌, ℕ, ◌+◌, Bool, if◌then◌else◌, List, [], ◌∷◌, ◌++◌, length, map, codes}
 use Rattle.std.specs.Fmt.{decimal}
 use Rattle.std.specs.List.{flat_map}
+use Rattle.bdb_base.specs.Texts.{line}
 use Rattle.bdb_lex.specs.Cut.{pieces_of, has_rest}
 use Rattle.bdb_multi.specs.declared.kinds.Event.{Event}
 use Rattle.bdb_multi.specs.declared.kinds.Act.{Act}
@@ -10,7 +11,7 @@ use Rattle.bdb_multi.specs.Sessions.{Commands, act_after, acts_of}
 use Rattle.bdb_multi.specs.Batches.{Ran, ran_from}
 use Rattle.bdb_events.specs.declared.read.Read.{Read}
 use Rattle.bdb_events.specs.Pieces.{read_of}
-use Rattle.bdb_many.specs.Marks.{line, told, marked}
+use Rattle.bdb_many.specs.Marks.{told, marked}
 
 -- How batches are run in a state: what is told of the commands, up to and with the first that is refused; whether none is; how many
 -- come before the first that is; and the state after, as it was where one is refused.

@@ -2,11 +2,8 @@
 use Rattle.std.specs.Prelude.{◌≡◌, ℕ, Bool, true, false, nat_eq, List, [], ◌∷◌, ◌++◌, codes}
 use Rattle.std.specs.Fmt.{decimal}
 use Rattle.std.specs.List.{flat_map, list_all}
+use Rattle.bdb_base.specs.Texts.{line}
 use Rattle.bdb_lex.specs.Spans.{lacks}
-
--- a line: its text, and a line feed
-abbrev pub line : List ℕ → List ℕ
-line text = text ++ 10 ∷ []
 
 -- what stands before each line of a session
 abbrev pub mark : ℕ → List ℕ

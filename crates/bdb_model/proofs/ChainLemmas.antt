@@ -13,11 +13,11 @@ use Rattle.bdb_base.specs.declared.kinds.Who.{Who}
 use Rattle.bdb_base.specs.declared.tuple.Tuple.{Tuple}
 use Rattle.bdb_base.specs.Bases.{Contents, AreStatements, fits_relation, fits_definition, key_lengths}
 use Rattle.bdb_base.specs.Queries.{columns_at, path_believes}
-use Rattle.bdb_base.specs.Same.{same_tuple}
+use Rattle.bdb_base.specs.Same.{same_tuple, tuple_of}
 use Rattle.bdb_base.specs.SameLemmas.{same_tuple-Decides}
 use Rattle.bdb_queries.proofs.FoundLemmas.{Found}
 use Rattle.bdb_model.specs.Answering.{open_slots}
-use Rattle.bdb_model.specs.Pools.{item_world, world_at, user_pool, plus_pools, minus_pools, sourced_values, tuple_of, denies, is_denied, denied_tuples}
+use Rattle.bdb_model.specs.Pools.{item_world, world_at, user_pool, plus_pools, minus_pools, sourced_values, denies, is_denied, denied_tuples}
 use Rattle.bdb_queries.specs.Slots.{path_of}
 use Rattle.bdb_queries.proofs.HoldingLemmas.{SlotsHold}
 use Rattle.bdb_model.proofs.PassLemmas.{Chosen}

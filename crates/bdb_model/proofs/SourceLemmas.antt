@@ -16,12 +16,12 @@ use Rattle.bdb_base.specs.declared.kinds.Value.{Value}
 use Rattle.bdb_base.specs.declared.tuple.Tuple.{Tuple}
 use Rattle.bdb_base.specs.Conditions.{compare_so}
 use Rattle.bdb_base.specs.OrderLemmas.{is_eq_value_cmp}
-use Rattle.bdb_base.specs.Safety.{is_given, same_column, is_equality, is_column, is_literal, pins, links, IsBound, given, pinned, linked}
+use Rattle.bdb_base.specs.Safety.{is_given, same_column, is_equality, is_column, is_literal, pins, links, IsBound, given, pinned, linked, equality, operand_columns, first_there}
 use Rattle.bdb_base.specs.SameLemmas.{same_value-Decides}
 use Rattle.bdb_base.proofs.WorldRowsLemmas.{list_any-flat_map}
 use Rattle.bdb_queries.specs.Slots.{known, known_operand, must_hold, must_all_hold}
 use Rattle.bdb_queries.proofs.RangeLemmas.{equality_is}
-use Rattle.bdb_model.specs.Sources.{source_of, source_in, source_of_operand, equality, fresh_source, turned_source, first_there, source_from, next_source, is_simple, is_source, operand_columns, named_columns, missing, AreSources}
+use Rattle.bdb_model.specs.Sources.{source_of, source_in, source_of_operand, fresh_source, turned_source, source_from, next_source, is_simple, is_source, named_columns, missing, AreSources}
 
 -- ---- columns
 

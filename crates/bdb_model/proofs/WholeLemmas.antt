@@ -22,10 +22,11 @@ use Rattle.bdb_base.specs.declared.tuple.Tuple.{Tuple}
 use Rattle.bdb_base.specs.Bases.{Contents, is_valid_relation, fits_kind, fits_columns, fits_definition, fits_relation}
 use Rattle.bdb_base.specs.Queries.{columns_of_definition, columns_at, path_believes}
 use Rattle.bdb_base.specs.Safety.{is_given, is_minus, is_users_item, who_fits, fixed_differ, item_fits, item_kinds, column_kind, is_equality, IsSafe}
+use Rattle.bdb_base.specs.Same.{tuple_of}
 use Rattle.bdb_queries.proofs.FoundLemmas.{Found, found_first}
 use Rattle.bdb_queries.proofs.RangeLemmas.{column_there}
 use Rattle.bdb_model.specs.Answering.{open_slots}
-use Rattle.bdb_model.specs.Pools.{world_at, sourced_value, sourced_values, tuple_of, denies, is_denied, denied_tuples}
+use Rattle.bdb_model.specs.Pools.{world_at, sourced_value, sourced_values, denies, is_denied, denied_tuples}
 use Rattle.bdb_queries.specs.Slots.{slot_at, known, known_operand, must_hold, must_all_hold, uid_of, path_of, user_tuple}
 use Rattle.bdb_model.specs.Sources.{source_of, source_in, is_simple, is_source, AreSources}
 use Rattle.bdb_model.proofs.ChainLemmas.{Comes}

@@ -18,7 +18,7 @@ use Rattle.bdb_base.specs.Alternation.{alternates}
 use Rattle.bdb_base.specs.Bases.{fits_definition, key_lengths}
 use Rattle.bdb_base.specs.Clash.{clash}
 use Rattle.bdb_base.specs.Queries.{columns_at}
-use Rattle.bdb_base.specs.Same.{same_sign}
+use Rattle.bdb_base.specs.Same.{same_sign, tuple_of}
 use Rattle.bdb_base.specs.WorldRows.{world_of}
 use Rattle.bdb_queries.specs.Slots.{known_operand, path_of, user_tuples}
 use Rattle.bdb_model.specs.Sources.{source_of}
@@ -64,10 +64,6 @@ abbrev pub sourced_values : List Cond → List (Option Tuple) → ℕ → ℕ �
 sourced_values sources slots item col [] = Some []
 sourced_values sources slots item col (c ∷ cs) =
     option_and_then (λ v. option_map (λ vs. v ∷ vs) (sourced_values sources slots item (col + 1) cs)) (sourced_value sources slots (record { item = item; col = col }))
-
--- a tuple of a relation and values
-abbrev pub tuple_of : ℕ → List Value → Tuple
-tuple_of rel vals = record { rel = rel; vals = vals }
 
 -- a world denies a tuple: a row of it clashes with the tuple's being there
 abbrev pub denies : (ℕ → ℕ) → List Held → Tuple → Bool

@@ -11,7 +11,7 @@ use Rattle.bdb_base.specs.declared.kinds.Operand.TheVariants.{Col, Lit}
 use Rattle.bdb_base.specs.declared.kinds.Query.{Query}
 use Rattle.bdb_base.specs.declared.kinds.Ref.{Ref}
 use Rattle.bdb_base.specs.declared.tuple.Tuple.{Tuple}
-use Rattle.bdb_base.specs.Safety.{is_given, same_column, is_equality, IsBound}
+use Rattle.bdb_base.specs.Safety.{is_given, same_column, is_equality, IsBound, equality, operand_columns, first_there}
 use Rattle.bdb_queries.specs.Slots.{must_all_hold}
 
 -- the first source of a column
@@ -27,10 +27,6 @@ abbrev pub source_of_operand : List Item → List Cond → Operand → Option Op
 source_of_operand items sources (Col r) = source_in items sources r
 source_of_operand items sources (Lit v) = Some (Lit v)
 
--- a column equals a source
-abbrev pub equality : Ref → Operand → Cond
-equality r o = record { left = r; cmp = Eq; right = o }
-
 -- a source for a column without one, where it equals what has one
 abbrev pub fresh_source : List Item → List Cond → Ref → Operand → Option Cond
 fresh_source items sources r o = cond (is_some (source_in items sources r)) None (option_map (equality r) (source_of_operand items sources o))
@@ -39,11 +35,6 @@ fresh_source items sources r o = cond (is_some (source_in items sources r)) None
 abbrev pub turned_source : List Item → List Cond → Ref → Operand → Option Cond
 turned_source items sources r (Col s) = fresh_source items sources s (Col r)
 turned_source items sources r (Lit v) = None
-
--- the first of two, if there is one
-abbrev pub first_there : {X : Type 0} → Option X → Option X → Option X
-first_there (Some x) more = Some x
-first_there None more = more
 
 -- a source that a comparison gives
 abbrev pub source_from : List Item → List Cond → Cond → Option Cond
@@ -62,11 +53,6 @@ is_simple items (Lit v) = true
 -- an equality with a literal, or with a column of a `Users` item or a plus item
 abbrev pub is_source : List Item → Cond → Bool
 is_source items c = is_equality c.cmp && is_simple items c.right
-
--- the column of a comparison's right side
-abbrev pub operand_columns : Operand → List Ref
-operand_columns (Col r) = r ∷ []
-operand_columns (Lit v) = []
 
 -- the columns that comparisons name
 abbrev pub named_columns : List Cond → List Ref

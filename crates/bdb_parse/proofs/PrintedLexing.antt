@@ -10,7 +10,7 @@ use Rattle.bdb_base.specs.declared.kinds.Kind.TheVariants as kind
 use Rattle.bdb_base.specs.declared.kinds.Sign.{Sign}
 use Rattle.bdb_base.specs.declared.kinds.Sign.TheVariants.{Plus, Minus}
 use Rattle.bdb_base.specs.declared.kinds.Value.{Value}
-use Rattle.bdb_base.specs.Texts.{separated, joined, kind_text, column_text, value_text}
+use Rattle.bdb_base.specs.Texts.{separated, joined, kind_text, column_text, value_text, named_column}
 use Rattle.bdb_lex.specs.declared.token.Token.{Token}
 use Rattle.bdb_lex.specs.declared.token.Token.TheVariants.{Word, Comma, Dot, ParenL, ParenR, Eq}
 use Rattle.bdb_lex.specs.Tokens.{tokens_of}
@@ -25,7 +25,7 @@ use Rattle.bdb_syntax.specs.declared.command.RawSide.{RawSide}
 use Rattle.bdb_syntax.specs.declared.command.RawSide.TheVariants.{Col, Lit}
 use Rattle.bdb_syntax.specs.declared.command.RawWho.{RawWho}
 use Rattle.bdb_syntax.specs.declared.command.RawWho.TheVariants as who
-use Rattle.bdb_syntax.specs.Printed.{named_column, col_text, side_text, cond_text, where_text, set_text, belief_text, who_text, not_text, key_text, target_text, values_text, signed_text, item_text, query_text, printed}
+use Rattle.bdb_syntax.specs.Printed.{col_text, side_text, cond_text, where_text, set_text, belief_text, who_text, not_text, key_text, target_text, values_text, signed_text, item_text, query_text, printed}
 use Rattle.bdb_syntax.specs.Printable.{IsName, IsContent, IsPrintableValue, IsBareCol, IsFullCol, IsPrintableSide, IsPrintableCond, IsPrintableWho, IsPrintableItem, IsPrintableSet, IsPrintableSigned, IsPrintableQuery, IsPrintable}
 use Rattle.bdb_parse.specs.Fits.{value_fits, side_fits, cond_fits, set_fits, query_fits, key_fits, fits}
 use Rattle.bdb_parse.proofs.PrintedTokens.{parted, value_tokens, named_tokens, col_tokens, side_tokens, cond_tokens, where_tokens, set_tokens, column_tokens, belief_tokens, who_tokens, not_tokens, target_tokens, values_tokens, signed_tokens, item_tokens, query_tokens, key_tokens, printed_tokens}

@@ -17,9 +17,10 @@ use Rattle.bdb_base.specs.Conditions.{compare_so}
 use Rattle.bdb_base.specs.Order.{row_cmp}
 use Rattle.bdb_base.specs.OrderLemmas.{row_exact, value_exact}
 use Rattle.bdb_base.specs.Queries.{option_list}
-use Rattle.bdb_base.specs.Same.{same_tuple, same_sign}
+use Rattle.bdb_base.specs.Same.{same_tuple, same_sign, tuple_of}
 use Rattle.bdb_base.specs.SameLemmas.{same_tuple-Decides}
 use Rattle.bdb_base.specs.SortedSet.{is_member}
+use Rattle.bdb_base.specs.Safety.{equality}
 use Rattle.bdb_base.proofs.CountLemmas.{list_any-map}
 use Rattle.bdb_base.proofs.SetLemmas.{is_eq-Equal, is_eq_itself, set_is_ascending, set_keeps_members}
 use Rattle.bdb_base.proofs.WorldRowsLemmas.{list_any-flat_map}
@@ -29,9 +30,9 @@ use Rattle.bdb_queries.proofs.RangeLemmas.{equal_sides}
 use Rattle.bdb_plan.specs.declared.step.Step.{Step}
 use Rattle.bdb_plan.specs.declared.step.Step.TheVariants as step
 use Rattle.bdb_plan.specs.Fitness.{Fields, Placed, is_among, is_set, operand_is_set, who_is_set, is_new, comes_next, is_walked, is_whole, at_width, placed_if, with_user, with_walk, with_tuple, with_column, with_all_bound, placed_after, fits_from, at_first}
-use Rattle.bdb_plan.specs.Holding.{differ, equality, world_if, world_after, world_at_end, IsPlanRow}
+use Rattle.bdb_plan.specs.Holding.{differ, world_if, world_after, world_at_end, IsPlanRow}
 use Rattle.bdb_plan.specs.PlanLaws.{MeaningIsChoices}
-use Rattle.bdb_plan.specs.Running.{Reached, with_world, with_slot, plus_tuples, tuple_of, with_value, reached_if, denied, settled, choices, after, rows_from, start_of, meaning_of}
+use Rattle.bdb_plan.specs.Running.{Reached, with_world, with_slot, plus_tuples, with_value, reached_if, denied, settled, choices, after, rows_from, start_of, meaning_of}
 use Rattle.bdb_plan.specs.Sight.{Sight, is_user_of, has_signed, is_plus_row, rows_deny, is_denied}
 use Rattle.bdb_plan.proofs.StandLemmas.{Stands, Above, above_itself, known_same, operand_same, UsersAreSet, who_same, is_new_tells, new_stands, new_below, new_above, before_of, next_stands, next_below, next_above, is_whole_tells, whole_stands, whole_below, whole_above}
 

@@ -8,11 +8,12 @@ use Rattle.bdb_base.specs.declared.kinds.Operand.TheVariants.{Col, Lit}
 use Rattle.bdb_base.specs.declared.kinds.Ref.{Ref}
 use Rattle.bdb_base.specs.declared.kinds.Who.{Who}
 use Rattle.bdb_base.specs.declared.kinds.Who.TheVariants.{User, Of}
+use Rattle.bdb_base.specs.Safety.{operand_columns}
 use Rattle.bdb_base.proofs.ListLemmas.{list_all_weaker}
 use Rattle.bdb_plan.specs.declared.step.Step.{Step}
 use Rattle.bdb_plan.specs.declared.step.Step.TheVariants as step
 use Rattle.bdb_plan.specs.Fitness.{Placed, is_among, has_bound, was_bound, is_known, is_set, operand_is_set, who_is_set, is_new, comes_next, is_walked, is_whole, with_user, with_walk, with_tuple, with_column, bound_count, with_all_bound, placed_after, fits_from, at_first}
-use Rattle.bdb_plan.specs.Naming.{sets_column, chooses_user, columns_named, users_named, operand_columns, who_items, are_set, are_chosen, PlansNameWhatIsSet}
+use Rattle.bdb_plan.specs.Naming.{sets_column, chooses_user, columns_named, users_named, who_items, are_set, are_chosen, PlansNameWhatIsSet}
 use Rattle.bdb_plan.proofs.RunLemmas.{placed_tells, fits_one}
 use Rattle.bdb_plan.proofs.StandLemmas.{or_none}
 

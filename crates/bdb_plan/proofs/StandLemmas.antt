@@ -12,10 +12,11 @@ use Rattle.bdb_base.specs.declared.kinds.Value.{Value}
 use Rattle.bdb_base.specs.declared.kinds.Who.{Who}
 use Rattle.bdb_base.specs.declared.kinds.Who.TheVariants.{User, Of}
 use Rattle.bdb_base.specs.declared.tuple.Tuple.{Tuple}
+use Rattle.bdb_base.specs.Same.{tuple_of}
 use Rattle.bdb_queries.specs.Slots.{slot_at, known, known_operand, uid_of}
 use Rattle.bdb_queries.proofs.RangeLemmas.{and_then_some}
 use Rattle.bdb_plan.specs.Fitness.{Placed, is_among, is_bound, has_bound, was_bound, is_known, is_set, operand_is_set, who_is_set, is_new, comes_next, is_whole, at_width}
-use Rattle.bdb_plan.specs.Running.{tuple_of, with_value}
+use Rattle.bdb_plan.specs.Running.{with_value}
 
 -- ---- lists
 

@@ -7,6 +7,7 @@ use Rattle.bdb_base.specs.declared.kinds.Operand.{Operand}
 use Rattle.bdb_base.specs.declared.kinds.Ref.{Ref}
 use Rattle.bdb_base.specs.declared.kinds.Value.{Value}
 use Rattle.bdb_base.specs.declared.tuple.Tuple.{Tuple}
+use Rattle.bdb_base.specs.Safety.{equality}
 use Rattle.bdb_queries.specs.Slots.{slot_at, must_hold, known_row, uid_of}
 use Rattle.bdb_plan.specs.declared.step.Step.{Step}
 use Rattle.bdb_plan.specs.declared.step.Step.TheVariants as step
@@ -17,10 +18,6 @@ use Rattle.bdb_plan.specs.Sight.{Sight, is_user_of, is_plus_row, is_denied}
 abbrev pub differ : Option ℕ → Option ℕ → Bool
 differ (Some i) (Some j) = not (nat_eq i j)
 differ _ _ = false
-
--- a column equals an operand
-abbrev pub equality : Ref → Operand → Cond
-equality r o = record { left = r; cmp = Eq; right = o }
 
 abbrev pub world_if : Bool → ℕ → Option ℕ
 world_if test world = cond test (Some world) None

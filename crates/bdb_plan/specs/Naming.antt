@@ -6,6 +6,7 @@ use Rattle.bdb_base.specs.declared.kinds.Operand.TheVariants.{Col, Lit}
 use Rattle.bdb_base.specs.declared.kinds.Ref.{Ref}
 use Rattle.bdb_base.specs.declared.kinds.Who.{Who}
 use Rattle.bdb_base.specs.declared.kinds.Who.TheVariants.{User, Of}
+use Rattle.bdb_base.specs.Safety.{operand_columns}
 use Rattle.bdb_plan.specs.declared.step.Step.{Step}
 use Rattle.bdb_plan.specs.declared.step.Step.TheVariants as step
 use Rattle.bdb_plan.specs.Fitness.{Fields, UsesOnlySet}
@@ -21,10 +22,6 @@ sets_column r _ = false
 abbrev pub chooses_user : ℕ → Step → Bool
 chooses_user at (step.User item) = nat_eq at item
 chooses_user at _ = false
-
-abbrev pub operand_columns : Operand → List Ref
-operand_columns (Col r) = r ∷ []
-operand_columns (Lit v) = []
 
 -- the columns that a step names
 abbrev pub columns_named : Step → List Ref

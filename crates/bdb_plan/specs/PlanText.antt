@@ -12,7 +12,7 @@ use Rattle.bdb_base.specs.declared.kinds.Ref.{Ref}
 use Rattle.bdb_base.specs.declared.kinds.Who.{Who}
 use Rattle.bdb_base.specs.declared.kinds.Who.TheVariants.{User, Of}
 use Rattle.bdb_base.specs.Queries.{columns_at, user_name as name_of}
-use Rattle.bdb_base.specs.Texts.{cmp_text, dotted, joined, quoted, value_text}
+use Rattle.bdb_base.specs.Texts.{cmp_text, dotted, joined, quoted, value_text, line}
 use Rattle.bdb_plan.specs.declared.step.Step.{Step}
 use Rattle.bdb_plan.specs.declared.step.Step.TheVariants as step
 use Rattle.bdb_plan.specs.Fitness.{Fields}
@@ -71,10 +71,6 @@ take_text c q take = codes "take " ++ joined (map (ref_text c q) take)
 -- the lines of a plan: one for each step, and the columns taken
 abbrev pub plan_lines : Catalog → Query → Fields → List (List ℕ)
 plan_lines c q p = map (step_text c q) p.steps ++ take_text c q p.take ∷ []
-
--- a line: its text, and a line feed
-abbrev pub line : List ℕ → List ℕ
-line text = text ++ 10 ∷ []
 
 -- the lines of a plan, each with a line feed
 abbrev pub plan_text : Catalog → Query → Fields → List ℕ

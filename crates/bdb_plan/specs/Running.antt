@@ -9,7 +9,7 @@ use Rattle.bdb_base.specs.declared.kinds.Value.{Value}
 use Rattle.bdb_base.specs.declared.tuple.Tuple.{Tuple}
 use Rattle.bdb_base.specs.Order.{row_cmp}
 use Rattle.bdb_base.specs.Queries.{option_list}
-use Rattle.bdb_base.specs.Same.{same_sign}
+use Rattle.bdb_base.specs.Same.{same_sign, tuple_of}
 use Rattle.bdb_base.specs.SortedSet.{sorted_set}
 use Rattle.bdb_queries.specs.Slots.{slot_at, known_operand, must_hold, known_row, uid_of}
 use Rattle.bdb_plan.specs.declared.step.Step.{Step}
@@ -32,9 +32,6 @@ with_slot s item t = record { world = s.world; slots = slice_set s.slots item (S
 -- the tuples that rows have with plus
 abbrev pub plus_tuples : List (Tuple × Sign) → List Tuple
 plus_tuples rows = map (λ x. x.0) (filter (λ x. same_sign x.1 Plus) rows)
-
-abbrev pub tuple_of : ℕ → List Value → Tuple
-tuple_of rel vals = record { rel = rel; vals = vals }
 
 -- what is bound of a tuple, with one more value; its relation comes with `Neg`
 abbrev pub with_value : Option Tuple → Value → Tuple

@@ -9,7 +9,7 @@ use Rattle.bdb_base.specs.declared.kinds.Operand.TheVariants.{Col}
 use Rattle.bdb_base.specs.declared.kinds.Query.{Query}
 use Rattle.bdb_base.specs.declared.kinds.Ref.{Ref}
 use Rattle.bdb_base.specs.declared.kinds.RelDef.{RelDef}
-use Rattle.bdb_base.specs.Safety.{is_given, is_equality, is_literal, item_kinds, same_column}
+use Rattle.bdb_base.specs.Safety.{is_given, is_equality, is_literal, item_kinds, same_column, first_there}
 
 -- a column by its name, once one name gives way to another
 abbrev pub renamed : Ref → Ref → Ref → Ref
@@ -42,11 +42,6 @@ columns_from item col (k ∷ ks) = record { item = item; col = col } ∷ columns
 abbrev pub given_columns : List RelDef → ℕ → List Item → List Ref
 given_columns rels at [] = []
 given_columns rels at (item ∷ items) = cond (is_given (Some item)) (columns_from at 0 (item_kinds rels item)) [] ++ given_columns rels (at + 1) items
-
--- the first of two that is there
-abbrev pub first_there : {X : Type 0} → Option X → Option X → Option X
-first_there (Some x) more = Some x
-first_there None more = more
 
 -- Where the value of a column comes from: the first literal that chains of `=` join to it, else the first column of a
 -- `Users` item or plus item.

@@ -1,8 +1,8 @@
 // The text of a plan.
 ghost use Rattle.std.specs.Prelude.{◌≡◌, ◌++◌, map, IfOk, OnOk};
 ghost use Rattle.std.specs.List.{flat_map, slice_get};
-ghost use Rattle.bdb_base.specs.Texts.{joined};
-ghost use Rattle.bdb_plan.specs.PlanText.{alias_at, column_of, line, operand_text, plan_text, ref_text, relation_column, step_text, take_text, user_name, who_text};
+ghost use Rattle.bdb_base.specs.Texts.{joined, line};
+ghost use Rattle.bdb_plan.specs.PlanText.{alias_at, column_of, operand_text, plan_text, ref_text, relation_column, step_text, take_text, user_name, who_text};
 
 use crate::plan::Plan;
 use crate::step::Step;

@@ -5,7 +5,8 @@ use Rattle.bdb_base.specs.declared.kinds.Catalog.{Catalog}
 use Rattle.bdb_base.specs.declared.kinds.Sign.{Sign}
 use Rattle.bdb_base.specs.declared.kinds.Sign.TheVariants.{Plus}
 use Rattle.bdb_base.specs.declared.tuple.Tuple.{Tuple}
-use Rattle.bdb_render.specs.Replies.{count_reply, line, path_text, signed_text}
+use Rattle.bdb_base.specs.Texts.{line}
+use Rattle.bdb_render.specs.Replies.{count_reply, path_text, signed_text}
 use Rattle.bdb_why.specs.declared.kinds.Ground.{Ground}
 use Rattle.bdb_why.specs.declared.kinds.Ground.TheVariants.{Found, Blocked, Nowhere}
 use Rattle.bdb_why.specs.declared.kinds.Ruled.{Ruled}

@@ -1,7 +1,7 @@
 // The lines of a certificate, appended to a buffer.
 ghost use Rattle.std.specs.Prelude.{◌≡◌, ◌++◌, drop, map, OnOk};
 ghost use Rattle.std.specs.List.{flat_map};
-ghost use Rattle.bdb_render.specs.Replies.{line};
+ghost use Rattle.bdb_base.specs.Texts.{line};
 ghost use Rattle.bdb_reasons.specs.WhyReplies.{other_text, own_text, reason_text, signed_at_level};
 
 use bdb_base::{Catalog, List, Sign, Tuple};

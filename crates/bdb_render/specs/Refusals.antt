@@ -3,15 +3,10 @@ use Rattle.std.specs.Prelude.{ℕ, codes, List, ◌++◌, Option, None, Some}
 use Rattle.bdb_base.specs.declared.kinds.Catalog.{Catalog}
 use Rattle.bdb_base.specs.declared.kinds.What.{What}
 use Rattle.bdb_base.specs.declared.kinds.What.TheVariants as what
-use Rattle.bdb_base.specs.Texts.{dotted, int_text, quoted}
+use Rattle.bdb_base.specs.Texts.{dotted, int_text, quoted, line, named_column}
 use Rattle.bdb_render.specs.declared.refusal.Refusal.{Refusal}
 use Rattle.bdb_render.specs.declared.refusal.Refusal.TheVariants as refusal
-use Rattle.bdb_render.specs.Replies.{line, signed_text}
-
--- a column's name, behind its alias where it has one
-abbrev pub named_column : Option (List ℕ) → List ℕ → List ℕ
-named_column None col = col
-named_column (Some alias) col = dotted alias col
+use Rattle.bdb_render.specs.Replies.{signed_text}
 
 -- what a base can be full of
 abbrev pub what_text : What → List ℕ

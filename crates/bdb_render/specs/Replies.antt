@@ -11,7 +11,7 @@ use Rattle.bdb_base.specs.declared.kinds.Value.{Value}
 use Rattle.bdb_base.specs.declared.kinds.World.{World}
 use Rattle.bdb_base.specs.declared.tuple.Tuple.{Tuple}
 use Rattle.bdb_base.specs.Queries.{user_name as name_of}
-use Rattle.bdb_base.specs.Texts.{joined, quoted, value_text}
+use Rattle.bdb_base.specs.Texts.{joined, quoted, value_text, line}
 
 -- the name of a relation, by its number; empty where there is none
 abbrev pub relation_name : Catalog → ℕ → List ℕ
@@ -20,10 +20,6 @@ relation_name catalog rel = option_map_or (λ def. def.name) (slice_get catalog.
 -- the name of a live user, by his number; empty where there is none
 abbrev pub user_name : Catalog → ℕ → List ℕ
 user_name catalog uid = unwrap_or (name_of catalog.users uid) []
-
--- a line: its text, and a line feed
-abbrev pub line : List ℕ → List ℕ
-line text = text ++ 10 ∷ []
 
 -- values with a comma and a space between each two
 abbrev pub row_text : List Value → List ℕ

@@ -8,13 +8,13 @@ use Rattle.bdb_base.specs.declared.kinds.RelDef.{RelDef}
 use Rattle.bdb_base.specs.declared.kinds.Sign.{Sign}
 use Rattle.bdb_base.specs.declared.tuple.Tuple.{Tuple}
 use Rattle.bdb_base.specs.Queries.{user_numbers}
-use Rattle.bdb_base.specs.Texts.{column_text, joined, quoted}
+use Rattle.bdb_base.specs.Texts.{column_text, joined, quoted, line}
 use Rattle.bdb_canon.specs.declared.structure.Canon.{Canon}
 use Rattle.bdb_canon.specs.declared.structure.CanonEdge.{CanonEdge}
 use Rattle.bdb_canon.specs.declared.structure.CanonRow.{CanonRow}
 use Rattle.bdb_canon.specs.declared.structure.CanonWorld.{CanonWorld}
 use Rattle.bdb_canon.specs.Canonical.{line_count}
-use Rattle.bdb_render.specs.Replies.{count_reply, line, mark_text, path_text, signed_text, tuple_text, user_name}
+use Rattle.bdb_render.specs.Replies.{count_reply, mark_text, path_text, signed_text, tuple_text, user_name}
 
 -- the path of the state at a place; empty where there is none
 abbrev pub world_path : Canon → ℕ → List ℕ

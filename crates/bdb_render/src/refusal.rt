@@ -1,7 +1,7 @@
 // Why a command is refused, and the reply to it.
 ghost use Rattle.std.specs.Prelude.{◌≡◌, ◌++◌, codes, IfOk, OnOk};
-ghost use Rattle.bdb_base.specs.Texts.{dotted, int_text, quoted};
-ghost use Rattle.bdb_render.specs.Refusals.{cause_text, named_column, refusal_reply, what_text};
+ghost use Rattle.bdb_base.specs.Texts.{dotted, int_text, quoted, named_column};
+ghost use Rattle.bdb_render.specs.Refusals.{cause_text, refusal_reply, what_text};
 ghost use Rattle.bdb_render.specs.Replies.{signed_text};
 
 use crate::lines;

@@ -2,7 +2,7 @@
 use Rattle.std.proofs.Common.{◌≡◌, ◌∙◌, Bool, not, List, [], ◌∷◌, refl, sym, ap, subst}
 use Rattle.std.specs.List.{list_all}
 use Rattle.bdb_base.specs.Bases.{Contents, IsValid, belongs, stands, without_statement}
-use Rattle.bdb_base.specs.Changes.{with_statements}
+use Rattle.bdb_base.specs.Changes.{with_statements, without_statements}
 use Rattle.bdb_base.specs.declared.kinds.Catalog.{Catalog}
 use Rattle.bdb_base.specs.declared.kinds.Stmt.{Stmt}
 use Rattle.bdb_base.proofs.ListLemmas.{list_all-filter}
@@ -17,7 +17,7 @@ use Rattle.bdb_undo.specs.declared.change.Change.{Change}
 use Rattle.bdb_undo.specs.declared.change.Named.{Named}
 use Rattle.bdb_undo.specs.declared.change.Named.TheVariants.{Nothing, UserAdded, RelationAdded, UserDropped}
 use Rattle.bdb_undo.proofs.StatementLemmas.{exchanged, left_is_valid_after}
-use Rattle.bdb_update.specs.Calls.{StoresSized, are_apart, with_stmts, without_statements}
+use Rattle.bdb_update.specs.Calls.{StoresSized, are_apart, with_stmts}
 use Rattle.bdb_update.specs.Keeping.{SameNumbers}
 use Rattle.bdb_update.specs.Replacing.{Come, Go, MayCome, MayGo, SomeMayCome, SomeMayGo}
 use Rattle.bdb_update.specs.Steps.{ComesThrough, GoesThrough}

@@ -3,6 +3,7 @@ use Rattle.std.specs.Prelude.{List}
 use Rattle.bdb_base.specs.Bases.{Contents, world_count}
 use Rattle.bdb_base.specs.Causes.{Rises}
 use Rattle.bdb_base.specs.declared.kinds.Stmt.{Stmt}
+use Rattle.bdb_base.specs.Changes.{without_statements}
 use Rattle.bdb_canon.specs.declared.sizes.Counts.{Counts}
 use Rattle.bdb_keep.specs.Seen.{Seen}
 use Rattle.bdb_keep.specs.Tables.{Tables}
@@ -10,7 +11,7 @@ use Rattle.bdb_tables.specs.Stored.{Stores}
 use Rattle.bdb_undo.specs.Changes.{Leads}
 use Rattle.bdb_undo.specs.declared.change.Change.{Change}
 use Rattle.bdb_undo.specs.declared.change.Named.{Named}
-use Rattle.bdb_update.specs.Calls.{StoresSized, without_statements}
+use Rattle.bdb_update.specs.Calls.{StoresSized}
 use Rattle.bdb_update.specs.Keeping.{SameNumbers}
 use Rattle.bdb_update.specs.Steps.{WritesThrough, steps_with, steps_without}
 use Rattle.bdb_return.specs.Naming.{name_writes}

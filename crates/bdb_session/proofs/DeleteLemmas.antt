@@ -4,7 +4,7 @@ use Rattle.std.specs.List.{list_all}
 use Rattle.std.proofs.lemmas.Bool.{and_parts}
 use Rattle.bdb_base.specs.Alternation.{alternates}
 use Rattle.bdb_base.specs.Bases.{is_user, stands}
-use Rattle.bdb_base.specs.Changes.{is_taken, taken_by, without_taken}
+use Rattle.bdb_base.specs.Changes.{is_taken, taken_by, without_taken, without_statements}
 use Rattle.bdb_base.specs.Limits.{deepest_statement}
 use Rattle.bdb_base.specs.declared.kinds.Catalog.{Catalog}
 use Rattle.bdb_base.specs.declared.kinds.Cond.{Cond}
@@ -22,7 +22,7 @@ use Rattle.bdb_tables.specs.Stored.{Stores}
 use Rattle.bdb_undo.specs.declared.change.Change.{Change}
 use Rattle.bdb_undo.specs.declared.change.Named.TheVariants.{Nothing}
 use Rattle.bdb_undo.proofs.ChangeLemmas.{takes_lead}
-use Rattle.bdb_update.specs.Calls.{StoresSized, are_apart, with_stmts, without_statements}
+use Rattle.bdb_update.specs.Calls.{StoresSized, are_apart, with_stmts}
 use Rattle.bdb_update.specs.Replacing.{MayGo, SomeMayGo, Go}
 use Rattle.bdb_update.proofs.TakenLemmas.{others_are_left, taken_apart, taken_stand}
 use Rattle.bdb_val.proofs.Calls.{HasGone}

@@ -6,8 +6,8 @@ use Rattle.std.proofs.lemmas.Bool.{and_from}
 use Rattle.std.proofs.lemmas.List.Concat.{flat_map-append}
 use Rattle.std.proofs.lemmas.List.Folds.{list_all-append}
 use Rattle.bdb_base.specs.declared.kinds.Catalog.{Catalog}
+use Rattle.bdb_base.specs.Texts.{line}
 use Rattle.bdb_render.specs.Refusals.{cause_text, refusal_reply}
-use Rattle.bdb_render.specs.Replies.{line}
 use Rattle.bdb_session.proofs.ErrorLemmas.{IsQuietOutcome, outcome_quiet}
 use Rattle.bdb_session.proofs.ErrorTexts.{is_quiet}
 use Rattle.bdb_session.proofs.ErrorValid.{bases_stay_valid}

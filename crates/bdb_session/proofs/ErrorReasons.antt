@@ -14,9 +14,10 @@ use Rattle.bdb_base.specs.Clash.{clash}
 use Rattle.bdb_base.specs.Order.{tuple_cmp}
 use Rattle.bdb_base.specs.Same.{same_path}
 use Rattle.bdb_base.specs.Worlds.{explicit, least_clash}
+use Rattle.bdb_base.specs.Texts.{line}
 use Rattle.bdb_base.proofs.ListLemmas.{list_all-filter, list_all_weaker}
 use Rattle.bdb_reasons.specs.WhyReplies.{other_text, own_text, reason_text, signed_at_level, why_lines, why_reply}
-use Rattle.bdb_render.specs.Replies.{count_reply, line, path_text, signed_text}
+use Rattle.bdb_render.specs.Replies.{count_reply, path_text, signed_text}
 use Rattle.bdb_why.specs.Certificates.{considered, is_held, is_rival_near, other_or, rivals, ruled_of, why_of}
 use Rattle.bdb_why.specs.Grounds.{ground_by, ground_from, ground_of, is_found}
 use Rattle.bdb_why.specs.declared.kinds.Ground.{Ground}

@@ -13,11 +13,11 @@ use Rattle.std.proofs.lemmas.List.Folds.{flat_map-map, list_all-append, list_all
 use Rattle.bdb_base.specs.declared.kinds.Value.{Value}
 use Rattle.bdb_base.specs.declared.kinds.Value.TheVariants.{Int, Text}
 use Rattle.bdb_base.specs.Segments.{is_prefix}
-use Rattle.bdb_base.specs.Texts.{int_text, joined, quoted, quoted_byte, value_text}
+use Rattle.bdb_base.specs.Texts.{int_text, joined, quoted, quoted_byte, value_text, line}
 use Rattle.bdb_base.proofs.ListLemmas.{list_all_weaker}
 use Rattle.bdb_base.proofs.WorldRowsLemmas.{list_all-flat_map}
 use Rattle.bdb_lex.specs.Spans.{lacks}
-use Rattle.bdb_render.specs.Replies.{line, row_text}
+use Rattle.bdb_render.specs.Replies.{row_text}
 use Rattle.bdb_session.specs.ErrorLines.{before_lines, has_error_line, lines_of, tells_error}
 
 -- ---- texts without a line feed

@@ -19,7 +19,7 @@ use Rattle.bdb_base.proofs.ListLemmas.{list_any_fails}
 use Rattle.bdb_base.proofs.SetLemmas.{is_eq-Equal, is_eq_itself, is_lt-Less, greater_from_less, members_make_set}
 use Rattle.bdb_base.proofs.WorldLemmas.{list_any_weaker, found_by}
 use Rattle.bdb_base.proofs.WorldRowsLemmas.{list_any-flat_map, list_all-flat_map}
-use Rattle.bdb_key.proofs.Numbers.{less, greater}
+use Rattle.bdb_base.proofs.Numbers.{less, greater}
 use Rattle.bdb_names.proofs.Ends.{length_more, one_more}
 use Rattle.bdb_names.proofs.ListedLemmas.{both_ways_true}
 use Rattle.bdb_names.proofs.NamedLemmas.{cases_end}

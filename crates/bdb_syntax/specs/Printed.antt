@@ -7,7 +7,7 @@ use Rattle.bdb_base.specs.declared.kinds.ColDef.{ColDef}
 use Rattle.bdb_base.specs.declared.kinds.Sign.{Sign}
 use Rattle.bdb_base.specs.declared.kinds.Sign.TheVariants.{Plus, Minus}
 use Rattle.bdb_base.specs.declared.kinds.Value.{Value}
-use Rattle.bdb_base.specs.Texts.{cmp_text, column_text, dotted, int_text, joined, quoted, separated, value_text}
+use Rattle.bdb_base.specs.Texts.{cmp_text, column_text, dotted, int_text, joined, quoted, separated, value_text, named_column}
 use Rattle.bdb_syntax.specs.declared.command.Command.{Command}
 use Rattle.bdb_syntax.specs.declared.command.Command.TheVariants.{CreateUser, DropUser, CreateRelation, Insert, Delete, Update, Select, Explain, ShowWorld, Why, ShowTables, Undo, Redo}
 use Rattle.bdb_syntax.specs.declared.command.RawCol.{RawCol}
@@ -19,11 +19,6 @@ use Rattle.bdb_syntax.specs.declared.command.RawSide.{RawSide}
 use Rattle.bdb_syntax.specs.declared.command.RawSide.TheVariants.{Col, Lit}
 use Rattle.bdb_syntax.specs.declared.command.RawWho.{RawWho}
 use Rattle.bdb_syntax.specs.declared.command.RawWho.TheVariants as who
-
--- a column's name, behind its alias where it has one
-abbrev pub named_column : Option (List ℕ) → List ℕ → List ℕ
-named_column None col = col
-named_column (Some alias) col = dotted alias col
 
 abbrev pub col_text : RawCol → List ℕ
 col_text c = named_column c.alias c.col

@@ -6,7 +6,7 @@ use Rattle.std.specs.Option.{option_map}
 use Rattle.std.specs.List.{AllByRecursion}
 use Rattle.std.specs.FinMap as tables
 use Rattle.std.proofs.lemmas.Bool.{false_from_ne_true}
-use Rattle.bdb_key.proofs.Numbers.{equal}
+use Rattle.bdb_base.proofs.Numbers.{equal}
 use Rattle.bdb_keep.specs.Tables.{Tables, bytes_cmp, set_at}
 use Rattle.bdb_tables.specs.Codec.{Codec, IsEntryOf, TableFits, KeepsOrder, HasOneRow, place}
 use Rattle.bdb_tables.specs.Grammar.{IsEntry, InGrammar}

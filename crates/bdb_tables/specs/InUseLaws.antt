@@ -8,6 +8,7 @@ use Rattle.bdb_base.specs.Order.{value_cmp, row_cmp, path_cmp}
 use Rattle.bdb_base.specs.declared.kinds.Sign.{Sign}
 use Rattle.bdb_base.specs.declared.kinds.Value.{Value}
 use Rattle.bdb_base.specs.declared.tuple.Tuple.{Tuple}
+use Rattle.bdb_base.specs.Same.{tuple_of}
 use Rattle.bdb_key.specs.declared.part.Part.{Part}
 use Rattle.bdb_key.specs.declared.part.Part.TheVariants.{Num, Val, Vals, Path}
 use Rattle.bdb_key.specs.declared.part.Slot.{Slot}
@@ -130,9 +131,6 @@ triples_in_order = keys_in_order _ _ _ triple_parts
 
 pub triples_are_one : KeysAreOne triple_keys
 triples_are_one = keys_are_one _ _ _ triple_parts
-
-tuple_of : ℕ → List Value → Tuple
-tuple_of rel vals = record { rel = rel; vals = vals }
 
 tuples_one : (a b : Tuple) → Num a.rel ∷ values_parts a.vals ≡ Num b.rel ∷ values_parts b.vals → a ≡ b
 unfolding tuple_of

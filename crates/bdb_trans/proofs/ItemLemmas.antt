@@ -18,7 +18,7 @@ use Rattle.bdb_base.specs.Alternation.{alternates}
 use Rattle.bdb_base.specs.Bases.{Contents, AreStatements, belongs, is_user, fits_relation, key_lengths}
 use Rattle.bdb_base.specs.Clash.{clash}
 use Rattle.bdb_base.specs.Queries.{columns_at, path_believes}
-use Rattle.bdb_base.specs.Safety.{fixed_differ}
+use Rattle.bdb_base.specs.Safety.{fixed_differ, equality}
 use Rattle.bdb_base.specs.Same.{same_tuple, same_sign}
 use Rattle.bdb_base.specs.SameLemmas.{same_tuple-Decides, same_sign-Decides}
 use Rattle.bdb_base.specs.States.{is_state, deepest_suffix}
@@ -31,7 +31,6 @@ use Rattle.bdb_queries.proofs.UserLemmas.{user_of_test, found_user_tuple}
 use Rattle.bdb_queries.proofs.HoldingLemmas.{SlotHolds}
 use Rattle.bdb_plan.specs.declared.step.Step.{Step}
 use Rattle.bdb_plan.specs.declared.step.Step.TheVariants as step
-use Rattle.bdb_plan.specs.Holding.{equality}
 use Rattle.bdb_plan.specs.PlanOf.{walk_of, bind_of, binds_from, setting, denying, due, item_steps, steps_from}
 use Rattle.bdb_plan.specs.Shown.{Shows}
 use Rattle.bdb_plan.specs.Sight.{Sight, is_user_of, has_signed, is_plus_row, rows_deny, is_denied}

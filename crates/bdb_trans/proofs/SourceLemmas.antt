@@ -20,13 +20,12 @@ use Rattle.bdb_base.specs.declared.tuple.Tuple.{Tuple}
 use Rattle.bdb_base.specs.Conditions.{compare_so}
 use Rattle.bdb_base.specs.Order.{value_cmp}
 use Rattle.bdb_base.specs.OrderLemmas.{value_exact}
-use Rattle.bdb_base.specs.Safety.{is_given, is_equality, is_literal, is_column, pins, links, same_column, item_kinds, column_kind, operand_kind, one_kind, joins_one_kind, IsBound, given, pinned, linked}
+use Rattle.bdb_base.specs.Safety.{is_given, is_equality, is_literal, is_column, pins, links, same_column, item_kinds, column_kind, operand_kind, one_kind, joins_one_kind, IsBound, given, pinned, linked, equality, first_there}
 use Rattle.bdb_base.specs.SameLemmas.{same_kind-Decides}
 use Rattle.bdb_base.proofs.SetLemmas.{is_eq-Equal, is_eq_itself}
 use Rattle.bdb_queries.specs.Slots.{known, known_operand, must_hold, must_all_hold}
 use Rattle.bdb_queries.proofs.RangeLemmas.{same_column_is, equality_is}
-use Rattle.bdb_plan.specs.Holding.{equality}
-use Rattle.bdb_plan.specs.Sources.{renamed, renamed_by, stands_for, joined, pins_chain, columns_from, given_columns, first_there, source_of}
+use Rattle.bdb_plan.specs.Sources.{renamed, renamed_by, stands_for, joined, pins_chain, columns_from, given_columns, source_of}
 
 -- ---- what equalities keep
 

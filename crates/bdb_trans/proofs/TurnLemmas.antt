@@ -17,13 +17,13 @@ use Rattle.bdb_base.specs.declared.kinds.Ref.{Ref}
 use Rattle.bdb_base.specs.declared.kinds.RelDef.{RelDef}
 use Rattle.bdb_base.specs.declared.kinds.Who.{Who}
 use Rattle.bdb_base.specs.Queries.{columns_at, columns_of_definition}
-use Rattle.bdb_base.specs.Safety.{is_equality, is_literal, same_column, query_fits}
+use Rattle.bdb_base.specs.Safety.{is_equality, is_literal, same_column, query_fits, first_there}
 use Rattle.bdb_base.proofs.ListLemmas.{list_all_get, filter_kept_one, filter_dropped_one}
 use Rattle.bdb_queries.proofs.RangeLemmas.{same_column_is}
 use Rattle.bdb_plan.specs.declared.step.Step.{Step}
 use Rattle.bdb_plan.specs.declared.step.Step.TheVariants as step
 use Rattle.bdb_plan.specs.PlanOf.{differ_from, walk_from, setting, denying, due, item_steps}
-use Rattle.bdb_plan.specs.Sources.{renamed, renamed_by, stands_for, joined, pins_chain, given_columns, first_there, source_of}
+use Rattle.bdb_plan.specs.Sources.{renamed, renamed_by, stands_for, joined, pins_chain, given_columns, source_of}
 use Rattle.bdb_trans.specs.Steps.{is_due, due_step}
 use Rattle.bdb_trans.specs.Names.{can_number_columns, named, AreNames, TakesIn, has_name, pins_name, source_by_names}
 

@@ -7,9 +7,9 @@ use Rattle.bdb_base.specs.declared.kinds.Operand.{Operand}
 use Rattle.bdb_base.specs.declared.kinds.Operand.TheVariants.{Col}
 use Rattle.bdb_base.specs.declared.kinds.Ref.{Ref}
 use Rattle.bdb_base.specs.declared.kinds.RelDef.{RelDef}
-use Rattle.bdb_base.specs.Safety.{is_given, is_equality, is_literal, item_kinds, same_column}
+use Rattle.bdb_base.specs.Safety.{is_given, is_equality, is_literal, item_kinds, same_column, first_there}
 use Rattle.std.specs.Prelude.{Some}
-use Rattle.bdb_plan.specs.Sources.{renamed, stands_for, columns_from, first_there}
+use Rattle.bdb_plan.specs.Sources.{renamed, stands_for, columns_from}
 
 -- a column by its name, once each renaming is carried out
 abbrev pub named : List (Ref × Ref) → Ref → Ref

@@ -10,7 +10,7 @@ use Rattle.bdb_base.specs.declared.kinds.Stmt.{Stmt}
 use Rattle.bdb_base.specs.declared.kinds.UserSlot.{UserSlot}
 use Rattle.bdb_base.specs.declared.kinds.UserSlot.TheVariants.{Live, Gone}
 use Rattle.bdb_base.specs.Bases.{Contents, IsValid, belongs, is_gone, is_user, stands, with_relation, with_statement, with_user, without_user}
-use Rattle.bdb_base.specs.Changes.{names_user, with_statements, without_statements_of}
+use Rattle.bdb_base.specs.Changes.{names_user, with_statements, without_statements_of, without_statements}
 use Rattle.bdb_base.specs.Order.{statement_cmp}
 use Rattle.bdb_base.specs.OrderLemmas.{statement_exact}
 use Rattle.bdb_base.specs.Queries.{user_name}
@@ -22,7 +22,7 @@ use Rattle.bdb_base.proofs.UserLemmas.{comes_back, drop_user_is_valid, name_foun
 use Rattle.bdb_undo.specs.declared.change.Change.{Change}
 use Rattle.bdb_undo.specs.declared.change.Named.{Named}
 use Rattle.bdb_undo.specs.declared.change.Named.TheVariants.{Nothing, UserAdded, RelationAdded, UserDropped}
-use Rattle.bdb_undo.specs.Changes.{CanName, Leads, all_but_last, named_forth, named_back, without_statements, missing_from, changed_forth, changed_back, names_something, alters}
+use Rattle.bdb_undo.specs.Changes.{CanName, Leads, all_but_last, named_forth, named_back, missing_from, changed_forth, changed_back, names_something, alters}
 use Rattle.bdb_undo.specs.ChangeLaws.{BackGivesTheBaseBefore, ForthGivesTheBaseAfter, ChangesAreOne, NothingIsAltered, SameBaseAltersNothing, FewerAreValid, StatementsLead, PutLeads, TakesLead, UpdateLeads, UserLeads, RelationLeads, LeavingLeads}
 use Rattle.bdb_undo.proofs.StatementLemmas as statements
 

@@ -7,14 +7,14 @@ use Rattle.std.proofs.lemmas.Map.Views.{any-filter_same}
 use Rattle.bdb_base.specs.declared.kinds.Catalog.{Catalog}
 use Rattle.bdb_base.specs.declared.kinds.Stmt.{Stmt}
 use Rattle.bdb_base.specs.Bases.{AreStatements, IsValid, stands, with_statement, without_statement}
-use Rattle.bdb_base.specs.Changes.{with_statements}
+use Rattle.bdb_base.specs.Changes.{with_statements, without_statements}
 use Rattle.bdb_base.specs.Order.{statement_cmp}
 use Rattle.bdb_base.specs.OrderLemmas.{statement_exact}
 use Rattle.bdb_base.specs.SortedSet.{ascending, sorted_set}
 use Rattle.bdb_base.proofs.BaseLemmas.{filter_is_valid}
 use Rattle.bdb_base.proofs.ListLemmas.{or_move, filter_dropped_one}
 use Rattle.bdb_base.proofs.SetLemmas.{is_eq-Equal, is_eq_itself, members_make_set, put_keeps_order, take_keeps_order, filter_keeps_order, put_adds_member, take_drops_member, set_is_ascending, set_keeps_members}
-use Rattle.bdb_undo.specs.Changes.{without_statements, missing_from}
+use Rattle.bdb_undo.specs.Changes.{missing_from}
 use Rattle.bdb_undo.specs.ChangeLaws.{FewerAreValid}
 
 -- ---- which statements stand

@@ -3,7 +3,7 @@ use Rattle.std.specs.Prelude.{◌≡◌, ◌-◌, Bool, true, false, not, ◌||�
 use Rattle.bdb_base.specs.declared.kinds.Catalog.{Catalog}
 use Rattle.bdb_base.specs.declared.kinds.Stmt.{Stmt}
 use Rattle.bdb_base.specs.Bases.{Contents, IsValid, stands, with_relation, with_user, with_user_back, without_statement, without_user}
-use Rattle.bdb_base.specs.Changes.{with_statements}
+use Rattle.bdb_base.specs.Changes.{with_statements, without_statements}
 use Rattle.bdb_base.specs.Queries.{user_name}
 use Rattle.bdb_undo.specs.declared.change.Change.{Change}
 use Rattle.bdb_undo.specs.declared.change.Named.{Named}
@@ -31,11 +31,6 @@ named_back (UserDropped uid name) c = with_user_back c uid name
 abbrev pub CanName : Named → Catalog → Type 0
 CanName (UserDropped uid name) c = user_name c.users uid ≡ Some name
 CanName _ c = Unit {0}
-
--- the statements without some of them
-abbrev pub without_statements : List Stmt → List Stmt → List Stmt
-without_statements stmts [] = stmts
-without_statements stmts (x ∷ xs) = without_statements (without_statement stmts x) xs
 
 -- the statements that do not stand among others
 abbrev pub missing_from : List Stmt → List Stmt → List Stmt

@@ -1,10 +1,10 @@
 //! A change taken back, and made again.
 ghost use Rattle.std.specs.Prelude.{◌≡◌, true, OnOk};
 ghost use Rattle.bdb_base.specs.Bases.{Contents, IsValid};
-ghost use Rattle.bdb_base.specs.Changes.{with_statements};
+ghost use Rattle.bdb_base.specs.Changes.{with_statements, without_statements};
 ghost use Rattle.bdb_base.specs.Order.{statement_cmp};
 ghost use Rattle.bdb_base.specs.SortedSet.{ascending};
-ghost use Rattle.bdb_undo.specs.Changes.{CanName, Leads, LeadsTo, LeadsFrom, named_back, named_forth, without_statements};
+ghost use Rattle.bdb_undo.specs.Changes.{CanName, Leads, LeadsTo, LeadsFrom, named_back, named_forth};
 
 use crate::change::{Change, Named};
 use bdb_base::{Base, Exact, Stmt};

@@ -2,7 +2,7 @@
 use Rattle.std.proofs.Common.{◌≡◌, ◌∙◌, ℕ, ◌≤◌, ◌<◌, List, [], ◌∷◌, length, refl, ap, sym, subst, Some, None, Ok, Err, arith}
 use Rattle.std.specs.List.{slice_get, AllByRecursion}
 use Rattle.bdb_base.specs.Bases.{Contents, key_lengths, tuple_count}
-use Rattle.bdb_base.specs.Changes.{first_clashing}
+use Rattle.bdb_base.specs.Changes.{first_clashing, without_statements}
 use Rattle.bdb_base.specs.Limits.{most_tuples}
 use Rattle.bdb_base.specs.declared.kinds.Stmt.{Stmt}
 use Rattle.bdb_base.specs.declared.kinds.What.TheVariants.{Tuples}
@@ -16,7 +16,7 @@ use Rattle.bdb_keep.specs.Tables.{Tables}
 use Rattle.bdb_tables.specs.declared.tab.TabError.{TabError}
 use Rattle.bdb_tables.specs.declared.tab.TabError.TheVariants as stop
 use Rattle.bdb_val.specs.Steps.{IsChanging}
-use Rattle.bdb_update.specs.Calls.{MayChange, SomeMayChange, Changes, IsUntouched, HasStopped, StoresSized, with_stmts, with_others, without_statements}
+use Rattle.bdb_update.specs.Calls.{MayChange, SomeMayChange, Changes, IsUntouched, HasStopped, StoresSized, with_stmts, with_others}
 use Rattle.bdb_update.specs.Replacing.{MayReplaceAll, SomeMayReplace, Replace}
 use Rattle.bdb_tables.specs.Stored.{Stores}
 use Rattle.bdb_update.specs.Steps.{ChangesThrough, ReplacesThrough, WritesThrough, steps_of}

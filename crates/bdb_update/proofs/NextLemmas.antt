@@ -9,7 +9,7 @@ use Rattle.bdb_base.specs.declared.kinds.Catalog.{Catalog}
 use Rattle.bdb_base.specs.declared.kinds.Stmt.{Stmt}
 use Rattle.bdb_base.specs.declared.tuple.Tuple.{Tuple}
 use Rattle.bdb_base.specs.Bases.{IsValid, belongs, distinct_count, has_tuple, key_lengths, stands, tuple_count, world_count, with_statement, without_statement}
-use Rattle.bdb_base.specs.Changes.{with_statements, first_clashing}
+use Rattle.bdb_base.specs.Changes.{with_statements, first_clashing, without_statements}
 use Rattle.bdb_base.specs.Clash.{clash}
 use Rattle.bdb_base.specs.Limits.{most_statements, most_tuples, most_worlds}
 use Rattle.bdb_base.specs.Order.{statement_cmp}
@@ -27,7 +27,7 @@ use Rattle.bdb_base.proofs.ListLemmas.{list_all_weaker, list_all_both, list_any_
 use Rattle.bdb_base.proofs.SetLemmas.{put_keeps_order, filter_keeps_order, members_make_set, is_eq-Equal}
 use Rattle.bdb_base.proofs.UpdateLemmas.{list_any-with, list_all-with, with_keeps_order, none_passes, is_free, is_free_at, is_free_elsewhere, free_everywhere}
 use Rattle.bdb_paths.proofs.StateLemmas.{state_is_listed}
-use Rattle.bdb_update.specs.Calls.{without_statements, are_apart}
+use Rattle.bdb_update.specs.Calls.{are_apart}
 use Rattle.bdb_update.specs.Reached.{told_elsewhere, lost_of, fresh_of}
 use Rattle.bdb_update.proofs.ReachedLemmas.{any-filter, any_left, length_left, length_with, without_keeps_order}
 

@@ -7,7 +7,7 @@ use Rattle.std.proofs.lemmas.List.{append-nil}
 use Rattle.std.proofs.lemmas.List.Concat.{flat_map-append}
 use Rattle.bdb_base.specs.declared.kinds.Stmt.{Stmt}
 use Rattle.bdb_base.specs.Bases.{stands, with_statement, without_statement}
-use Rattle.bdb_base.specs.Changes.{with_statements, first_clashing}
+use Rattle.bdb_base.specs.Changes.{with_statements, first_clashing, without_statements}
 use Rattle.bdb_base.specs.Clash.{clash}
 use Rattle.bdb_base.specs.Order.{statement_cmp}
 use Rattle.bdb_base.specs.OrderLemmas.{statement_exact}
@@ -18,7 +18,7 @@ use Rattle.bdb_base.proofs.BaseLemmas.{length-put_in}
 use Rattle.bdb_base.proofs.ListLemmas.{filter_kept_one, filter_dropped_one}
 use Rattle.bdb_base.proofs.SetLemmas.{list_any-put_in, put_keeps_order, filter_keeps_order, members_make_set, take_drops_member, take_keeps_order, put_adds_member, is_eq_itself, is_eq_turned, is_eq-Equal}
 use Rattle.bdb_paths.proofs.StateLemmas.{list_any_same}
-use Rattle.bdb_update.specs.Calls.{without_statements, are_apart}
+use Rattle.bdb_update.specs.Calls.{are_apart}
 use Rattle.bdb_update.specs.Reached.{at_path, said_at, said_of}
 use Rattle.bdb_val.specs.declared.stored.Stored.{Stored}
 

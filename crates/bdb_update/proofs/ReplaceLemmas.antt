@@ -5,7 +5,7 @@ use Rattle.std.specs.List.{list_any, list_all}
 use Rattle.std.specs.Ordering.{is_eq}
 use Rattle.std.proofs.lemmas.Bool.{cases_Bool, and_parts, or_cases, or_left, or_right, false≢true, leb-true, ltb-true}
 use Rattle.bdb_base.specs.Bases.{Contents, IsValid, belongs, key_lengths, stands, tuple_count, world_count, with_statement, without_statement}
-use Rattle.bdb_base.specs.Changes.{with_statements}
+use Rattle.bdb_base.specs.Changes.{with_statements, without_statements}
 use Rattle.bdb_base.specs.Laws.{ClashesAt}
 use Rattle.bdb_base.specs.Limits.{most_statements, most_tuples, most_worlds}
 use Rattle.bdb_base.specs.Order.{statement_cmp}
@@ -30,7 +30,7 @@ use Rattle.bdb_tables.specs.declared.tab.TabError.{TabError}
 use Rattle.bdb_tables.specs.declared.tab.TabError.TheVariants as stop
 use Rattle.bdb_val.specs.Steps.{IsChanging}
 use Rattle.bdb_val.proofs.Calls.{HasGone, gone_then, changing_err}
-use Rattle.bdb_update.specs.Calls.{StoresSized, MayMeet, SomeMayMeet, Drops, IsDropping, Adds, IsAdding, clash_of, with_stmts, size_passed, with_one, without_one, without_statements}
+use Rattle.bdb_update.specs.Calls.{StoresSized, MayMeet, SomeMayMeet, Drops, IsDropping, Adds, IsAdding, clash_of, with_stmts, size_passed, with_one, without_one}
 use Rattle.bdb_update.specs.Replacing.{MayGo, SomeMayGo, Go, MayCome, SomeMayCome, Come, MayReplaceAll, SomeMayReplace, Replace, is_stop}
 use Rattle.bdb_tables.specs.Stored.{Stores}
 use Rattle.bdb_update.specs.Bounds.{WritesWithin}

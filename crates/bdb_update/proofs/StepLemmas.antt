@@ -2,9 +2,8 @@
 use Rattle.std.proofs.Common.{◌≡◌, ◌∙◌, ℕ, ◌+◌, ◌<◌, List, ◌∷◌, length, drop, get_or, ap, sym}
 use Rattle.std.proofs.lemmas.List.{drop_more}
 use Rattle.bdb_base.specs.Bases.{with_statement, without_statement}
-use Rattle.bdb_base.specs.Changes.{with_statements}
+use Rattle.bdb_base.specs.Changes.{with_statements, without_statements}
 use Rattle.bdb_base.specs.declared.kinds.Stmt.{Stmt}
-use Rattle.bdb_update.specs.Calls.{without_statements}
 
 pub with_step : (come : List Stmt) (i : ℕ) (x : Stmt) (now next end : List Stmt) → i < length come → x ≡ get_or come i x → next ≡ with_statement now x
     → with_statements now (drop i come) ≡ end → with_statements next (drop (i + 1) come) ≡ end

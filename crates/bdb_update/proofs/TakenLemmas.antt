@@ -8,10 +8,11 @@ use Rattle.bdb_base.specs.Order.{statement_cmp}
 use Rattle.bdb_base.specs.OrderLemmas.{statement_exact}
 use Rattle.bdb_base.specs.SortedSet.{ascending}
 use Rattle.bdb_base.specs.declared.kinds.Stmt.{Stmt}
+use Rattle.bdb_base.specs.Changes.{without_statements}
 use Rattle.bdb_base.proofs.ListLemmas.{list_all_weaker, list_all-filter}
 use Rattle.bdb_base.proofs.SetLemmas.{absent_above, filter_keeps_order, is_eq_itself, members_make_set, take_drops_member}
 use Rattle.bdb_base.proofs.UserLemmas.{member-filter}
-use Rattle.bdb_update.specs.Calls.{without_statements, are_apart}
+use Rattle.bdb_update.specs.Calls.{are_apart}
 use Rattle.bdb_update.proofs.ReachedLemmas.{without_keeps_order}
 
 -- ---- they stand, each once

@@ -3,7 +3,7 @@ use Rattle.std.proofs.Common.{◌≡◌, ◌∙◌, ℕ, ◌+◌, ◌≤◌, ◌
 use Rattle.std.specs.List.{list_all, AllByRecursion}
 use Rattle.std.proofs.lemmas.Bool.{and_parts, and_from, cases_Bool, cases_lt, false≢true, leb-true, le-leb, lt-ltb}
 use Rattle.bdb_base.specs.Bases.{Contents, IsValid, belongs, stands, tuple_count, key_lengths}
-use Rattle.bdb_base.specs.Changes.{with_statements, first_clashing}
+use Rattle.bdb_base.specs.Changes.{with_statements, first_clashing, without_statements}
 use Rattle.bdb_base.specs.Limits.{most_tuples}
 use Rattle.bdb_base.specs.Order.{statement_cmp}
 use Rattle.bdb_base.specs.OrderLemmas.{statement_exact}
@@ -24,7 +24,7 @@ use Rattle.bdb_base.proofs.WorldLemmas.{valid_is_consistent}
 use Rattle.bdb_canon.specs.declared.sizes.Counts.{Counts}
 use Rattle.bdb_keep.specs.Tables.{Tables}
 use Rattle.bdb_tables.proofs.Fitting.{belonging_may_be}
-use Rattle.bdb_update.specs.Calls.{MayChange, clash_within, with_others, without_statements}
+use Rattle.bdb_update.specs.Calls.{MayChange, clash_within, with_others}
 use Rattle.bdb_update.specs.Elsewhere.{HasTuples, are_at}
 use Rattle.bdb_update.specs.Holding.{AreOfOnePath}
 use Rattle.bdb_tables.specs.Lengths.{HaveKeyLengths}

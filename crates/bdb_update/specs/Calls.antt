@@ -3,7 +3,7 @@ use Rattle.std.specs.Prelude.{◌≡◌, ℕ, ◌≤◌, Bool, true, false, nat_
 use Rattle.std.specs.List.{list_all, AllByRecursion}
 use Rattle.bdb_base.specs.Bases.{Contents, IsValid, belongs, key_lengths, stands, tuple_count, with_statement, without_statement}
 use Rattle.bdb_base.specs.Causes.{Rose}
-use Rattle.bdb_base.specs.Changes.{with_statements, first_clashing}
+use Rattle.bdb_base.specs.Changes.{with_statements, first_clashing, without_statements}
 use Rattle.bdb_base.specs.Limits.{most_worlds, most_tuples, most_statements}
 use Rattle.bdb_base.specs.Worlds.{least_clash}
 use Rattle.bdb_base.specs.declared.kinds.Stmt.{Stmt}
@@ -150,11 +150,6 @@ abbrev pub Drops : Seen → Seen → Counts → Counts → Stmt → Result Bool 
 Drops old new before after x result = (b : Contents) → MayMeet old.kept before x b → IsDropping b x old new before after result
 
 -- ---- statements of one path are changed
-
--- the statements without those of a list
-abbrev pub without_statements : List Stmt → List Stmt → List Stmt
-without_statements stmts [] = stmts
-without_statements stmts (x ∷ xs) = without_statements (without_statement stmts x) xs
 
 -- the base with statements in place of others
 abbrev pub with_others : Contents → List Stmt → List Stmt → Contents

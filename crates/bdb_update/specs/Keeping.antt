@@ -3,6 +3,7 @@ use Rattle.std.specs.Prelude.{◌≡◌, ℕ, ◌+◌, List, ◌∷◌, length, 
 use Rattle.std.specs.FinMap as tables
 use Rattle.bdb_base.specs.Bases.{Contents}
 use Rattle.bdb_base.specs.declared.kinds.Stmt.{Stmt}
+use Rattle.bdb_base.specs.Changes.{without_statements}
 use Rattle.bdb_canon.specs.declared.sizes.Counts.{Counts}
 use Rattle.bdb_keep.specs.Seen.{Seen}
 use Rattle.bdb_keep.specs.Tables.{Tables}
@@ -11,7 +12,7 @@ use Rattle.bdb_tables.specs.States.{HoldsStates, IsNamed}
 use Rattle.bdb_tables.specs.Stored.{Stores}
 use Rattle.bdb_worlds.specs.Growth.{AreLeast, with_prefixes}
 use Rattle.bdb_worlds.specs.Holding.{Worlds}
-use Rattle.bdb_update.specs.Calls.{MayChange, with_stmts, without_statements}
+use Rattle.bdb_update.specs.Calls.{MayChange, with_stmts}
 use Rattle.bdb_update.specs.Replacing.{MayReplaceAll}
 
 -- ---- what stays

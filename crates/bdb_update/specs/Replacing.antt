@@ -2,14 +2,14 @@
 use Rattle.std.specs.Prelude.{◌≡◌, ◌+◌, Bool, true, false, List, [], ◌∷◌, length, Result, OnOk}
 use Rattle.std.specs.List.{list_all}
 use Rattle.bdb_base.specs.Bases.{Contents, IsValid, belongs, stands}
-use Rattle.bdb_base.specs.Changes.{with_statements}
+use Rattle.bdb_base.specs.Changes.{with_statements, without_statements}
 use Rattle.bdb_base.specs.declared.kinds.Stmt.{Stmt}
 use Rattle.bdb_canon.specs.declared.sizes.Counts.{Counts}
 use Rattle.bdb_keep.specs.Seen.{Seen}
 use Rattle.bdb_keep.specs.Tables.{Tables}
 use Rattle.bdb_tables.specs.declared.tab.TabError.{TabError}
 use Rattle.bdb_update.specs.Bounds.{WritesWithin}
-use Rattle.bdb_update.specs.Calls.{StoresSized, are_apart, with_stmts, with_others, without_statements}
+use Rattle.bdb_update.specs.Calls.{StoresSized, are_apart, with_stmts, with_others}
 use Rattle.bdb_update.specs.declared.answer.UpdateError.{UpdateError}
 use Rattle.bdb_update.specs.declared.answer.UpdateError.TheVariants.{Clash, Full, Fault, Memory}
 

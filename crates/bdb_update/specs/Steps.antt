@@ -3,12 +3,13 @@
 use Rattle.std.specs.Prelude.{◌≡◌, ℕ, ◌+◌, ◌≤◌, ◌⊎◌, List, [], ◌∷◌, ◌++◌, length}
 use Rattle.bdb_base.specs.Bases.{Contents}
 use Rattle.bdb_base.specs.declared.kinds.Stmt.{Stmt}
+use Rattle.bdb_base.specs.Changes.{without_statements}
 use Rattle.bdb_canon.specs.declared.sizes.Counts.{Counts}
 use Rattle.bdb_keep.specs.Seen.{Seen}
 use Rattle.bdb_keep.specs.Tables.{Tables}
 use Rattle.bdb_tables.specs.Stored.{Stores}
 use Rattle.bdb_update.specs.Bounds.{WritesWithin}
-use Rattle.bdb_update.specs.Calls.{MayChange, with_stmts, with_one, without_one, without_statements}
+use Rattle.bdb_update.specs.Calls.{MayChange, with_stmts, with_one, without_one}
 use Rattle.bdb_update.specs.Keeping.{KeepsNumbers}
 use Rattle.bdb_update.specs.Replacing.{MayCome, MayGo, MayReplaceAll}
 

@@ -1,10 +1,9 @@
 // What stands at a path, and what comes to stand there.
 ghost use Rattle.std.specs.Prelude.{◌≡◌, [], true, IfOk, OnOk};
-ghost use Rattle.bdb_base.specs.Changes.{with_statements};
+ghost use Rattle.bdb_base.specs.Changes.{with_statements, without_statements};
 ghost use Rattle.bdb_base.specs.Order.{statement_cmp};
 ghost use Rattle.bdb_base.specs.SortedSet.{ascending};
 ghost use Rattle.bdb_keep.specs.Calls.{IsRead};
-ghost use Rattle.bdb_update.specs.Calls.{without_statements};
 ghost use Rattle.bdb_update.specs.Reached.{SomeHasState, StandAt, said_at, said_of};
 
 use bdb_base::{Exact, List, Path, Stmt, put, put_copy, take};

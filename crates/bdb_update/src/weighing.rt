@@ -1,12 +1,11 @@
 // What a change of statements of one path comes to, before anything is written.
 ghost use Rattle.std.specs.Prelude.{◌≡◌, true, IfOk};
 ghost use Rattle.bdb_base.specs.Bases.{key_lengths};
-ghost use Rattle.bdb_base.specs.Changes.{first_clashing, with_statements};
+ghost use Rattle.bdb_base.specs.Changes.{first_clashing, with_statements, without_statements};
 ghost use Rattle.bdb_base.specs.Order.{statement_cmp};
 ghost use Rattle.bdb_base.specs.SortedSet.{ascending};
 ghost use Rattle.bdb_keep.specs.Calls.{IsRead};
 ghost use Rattle.bdb_tables.specs.Grammar.{InGrammar};
-ghost use Rattle.bdb_update.specs.Calls.{without_statements};
 ghost use Rattle.bdb_update.specs.Elsewhere.{HasTuples};
 ghost use Rattle.bdb_update.specs.Holding.{AreOfOnePath};
 ghost use Rattle.bdb_update.specs.Weighing.{SomeMayWeigh, TellsRoom, Weighs, have_room};

@@ -16,7 +16,7 @@ use Rattle.bdb_base.proofs.ListLemmas.{filter_kept_one, filter_dropped_one, list
 use Rattle.bdb_keep.specs.Tables.{Tables, bytes_cmp}
 use Rattle.bdb_key.specs.Bytes.{num_bytes}
 use Rattle.bdb_key.specs.Grammar.{IsNum}
-use Rattle.bdb_key.proofs.Numbers.{greater}
+use Rattle.bdb_base.proofs.Numbers.{greater}
 use Rattle.bdb_tables.specs.InUse.{IsPair, pair_bytes, linked_codec}
 use Rattle.bdb_tables.specs.InUseLaws.{pairs_in_order}
 use Rattle.bdb_tables.specs.Spans.{AreUnder, IsUnder, entry_bytes, entry_cmp}

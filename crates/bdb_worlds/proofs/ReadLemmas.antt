@@ -8,7 +8,7 @@ use Rattle.std.specs.FinMap as map
 use Rattle.std.proofs.lemmas.Bool.{cases_Bool, false≢true, cond-true, cond-false, eqb-true, eqb-false, cases_order}
 use Rattle.bdb_keep.specs.Tables.{Tables}
 use Rattle.bdb_key.specs.Grammar.{IsNum}
-use Rattle.bdb_key.proofs.Numbers.{less, greater, equal}
+use Rattle.bdb_base.proofs.Numbers.{less, greater, equal}
 use Rattle.bdb_tables.specs.Codec.{Codec, HasAt, HasFirst, IsFirst, HasOneRow, TableFits, place}
 use Rattle.bdb_tables.specs.Grammar.{InGrammar}
 use Rattle.bdb_tables.specs.InUse.{IsPair, depth_codec, link_codec, linked_codec, edge_codec, led_codec}

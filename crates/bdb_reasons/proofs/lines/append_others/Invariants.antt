@@ -1,6 +1,6 @@
 use Rattle.std.proofs.Common.{◌≡◌, ◌++◌, map, take}
 use Rattle.std.specs.List.{flat_map}
-use Rattle.bdb_render.specs.Replies.{line}
+use Rattle.bdb_base.specs.Texts.{line}
 use Rattle.bdb_reasons.specs.WhyReplies.{other_text}
 use Rattle.bdb_reasons.proofs.lines.append_others.Given as goal
 

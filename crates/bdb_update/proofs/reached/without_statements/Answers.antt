@@ -2,8 +2,8 @@ use Rattle.std.proofs.Common.{◌∙◌, ap}
 use Rattle.bdb_base.specs.Order.{statement_cmp}
 use Rattle.bdb_base.specs.OrderLemmas.{statement_exact}
 use Rattle.bdb_base.specs.SortedSet.{ascending}
+use Rattle.bdb_base.specs.Changes.{without_statements}
 use Rattle.bdb_base.proofs.SetLemmas.{take_keeps_order}
-use Rattle.bdb_update.specs.Calls.{without_statements}
 use Rattle.bdb_update.proofs.StepLemmas.{without_step}
 use Rattle.bdb_update.proofs.reached.without_statements.Goals as goal
 

@@ -1,7 +1,7 @@
 use Rattle.std.proofs.Common.{◌≡◌, true, drop}
 use Rattle.bdb_base.specs.Order.{statement_cmp}
 use Rattle.bdb_base.specs.SortedSet.{ascending}
-use Rattle.bdb_update.specs.Calls.{without_statements}
+use Rattle.bdb_base.specs.Changes.{without_statements}
 use Rattle.bdb_update.proofs.reached.without_statements.Given as goal
 
 abbrev pub invariant-loop-stmt : goal.invariant-loop-stmt
