@@ -1,5 +1,4 @@
 // The plain types of the database and their exact copies.
-ghost use Rattle.std.specs.Prelude.{◌≡◌, IfOk};
 
 use crate::list::{Exact, List};
 use crate::path::Path;

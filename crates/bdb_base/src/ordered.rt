@@ -1,5 +1,5 @@
 // Finite sets as lists in strict order.
-ghost use Rattle.std.specs.Prelude.{◌≡◌, ◌<◌, true, not, length, slice_get, Some, IfOk, OnOk, OnErr, MatchResult};
+ghost use Rattle.std.specs.Prelude.{◌≡◌, ◌<◌, true, not, slice_get, Some, IfOk, OnOk, OnErr, MatchResult};
 ghost use Rattle.bdb_base.specs.SortedSet.{BelongsAt, is_member, ascending, put_in, taken_out};
 ghost use Rattle.bdb_base.specs.SetLaws.{MembersMakeSet, PutKeepsOrder, TakeKeepsOrder, PutAddsMember, TakeDropsMember, SetIsAscending, SetKeepsMembers, LoopMakesSet};
 

@@ -1,5 +1,5 @@
 // Tuples.
-ghost use Rattle.std.specs.Prelude.{◌≡◌, ◌<◌, IfOk, length, slice_get, Some};
+ghost use Rattle.std.specs.Prelude.{◌<◌, length};
 
 use crate::kinds::Value;
 use crate::list::{Exact, List};

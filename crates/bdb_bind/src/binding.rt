@@ -1,5 +1,5 @@
 // Binding a command.
-ghost use Rattle.std.specs.Prelude.{◌≡◌, ◌≢◌, true, None, Some, IfOk, IfErr};
+ghost use Rattle.std.specs.Prelude.{◌≡◌, ◌≢◌, None, Some, IfOk, IfErr};
 ghost use Rattle.bdb_base.specs.Bases.{IsCatalog};
 ghost use Rattle.bdb_bind.specs.Lookup.{path_of};
 ghost use Rattle.bdb_bind.specs.Parts.{query_of, path_names, relation_place, change_columns};

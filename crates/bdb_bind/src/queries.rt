@@ -3,7 +3,7 @@ ghost use Rattle.std.specs.Prelude.{◌≡◌, nat_lt, length};
 ghost use Rattle.std.specs.List.{list_any};
 ghost use Rattle.bdb_base.specs.Limits.{deepest_query};
 ghost use Rattle.bdb_bind.specs.Firsts.{Checks, first_in};
-ghost use Rattle.bdb_bind.specs.QueryLines.{query_items, item_relation, query_relation, who_user, item_user, query_user, begins_with_name, repeats_name, query_repeat, query_deep, kind_of_side, cond_kind, query_kind};
+ghost use Rattle.bdb_bind.specs.QueryLines.{query_items, item_relation, query_relation, who_user, query_user, begins_with_name, repeats_name, query_repeat, query_deep, kind_of_side, cond_kind, query_kind};
 
 use crate::bound::BindError;
 use crate::kinds::{kind_of, one_kind};

@@ -1,8 +1,8 @@
 // Which columns of a query are bound, and the first of a minus item that isn't.
-ghost use Rattle.std.specs.Prelude.{◌≡◌, ◌<◌, ◌≤◌, ◌^◌, true, length, nat_lt, [], None, IfOk};
+ghost use Rattle.std.specs.Prelude.{◌≡◌, ◌<◌, ◌^◌, true, length, nat_lt, [], None, IfOk};
 ghost use Rattle.std.specs.List.{list_any, list_all, slice_get};
 ghost use Rattle.bdb_base.specs.Queries.{columns_at};
-ghost use Rattle.bdb_base.specs.Safety.{is_given, is_equality, same_column, query_fits};
+ghost use Rattle.bdb_base.specs.Safety.{is_given, same_column, query_fits};
 ghost use Rattle.bdb_bind.specs.Safe.{is_known, is_known_side, unknown_side, unknown_of_two, made_known, next_known, bound_columns, unbound_from, unbound_of, unbound_among, first_unbound};
 
 use bdb_base::{Catalog, Cmp, ColDef, Cond, Item, List, Operand, Query, Ref, RelDef, Sign};

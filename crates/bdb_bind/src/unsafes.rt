@@ -2,10 +2,8 @@
 ghost use Rattle.std.specs.Prelude.{◌≡◌, ◌≢◌, ◌<◌, ◌^◌, true, length, nat_lt, [], None, IfOk};
 ghost use Rattle.std.specs.Option.{option_map, unwrap_or};
 ghost use Rattle.std.specs.List.{list_all, slice_get};
-ghost use Rattle.bdb_base.specs.Bases.{IsCatalog};
-ghost use Rattle.bdb_bind.specs.Binding.{bound_of};
 ghost use Rattle.bdb_bind.specs.Firsts.{Checks};
-ghost use Rattle.bdb_bind.specs.Refusal.{names_refused, item_alias, relation_columns, unsafe_at, query_unsafe, unsafe_line};
+ghost use Rattle.bdb_bind.specs.Refusal.{item_alias, relation_columns, unsafe_at, query_unsafe};
 
 use crate::bound::{BindError, Bound};
 use crate::safety::{columns_at, first_unbound};

@@ -1,6 +1,5 @@
 // The number of a session at the front of a piece.
-ghost use Rattle.std.specs.Prelude.{◌≡◌, ◌<◌, Some, None, IfSome, IfNone, ◌∷◌};
-ghost use Rattle.bdb_multi.specs.Sessions.{sessions};
+ghost use Rattle.std.specs.Prelude.{◌≡◌, ◌<◌, Some, None, IfSome, IfNone};
 ghost use Rattle.bdb_events.specs.Pieces.{digit_of, numbered_by, behind_number, behind_first, numbered};
 
 use crate::gaps::behind_blanks;

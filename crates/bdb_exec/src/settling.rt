@@ -1,5 +1,5 @@
 // Steps at which nothing is chosen.
-ghost use Rattle.std.specs.Prelude.{◌≡◌, ◌≤◌, ◌+◌, IfOk, OnOk, length};
+ghost use Rattle.std.specs.Prelude.{◌≡◌, ◌≤◌, ◌+◌, IfOk, OnOk};
 ghost use Rattle.std.specs.Option.{option_map, option_and_then};
 ghost use Rattle.bdb_base.specs.Same.{tuple_of};
 ghost use Rattle.bdb_queries.specs.Slots.{slot_at, uid_of, must_hold};

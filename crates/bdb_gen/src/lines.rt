@@ -1,5 +1,5 @@
 // The lines of a script, appended to a buffer.
-ghost use Rattle.std.specs.Prelude.{◌≡◌, ◌<◌, ◌++◌, codes, OnOk};
+ghost use Rattle.std.specs.Prelude.{◌≡◌, ◌<◌, ◌++◌, OnOk};
 ghost use Rattle.std.specs.List.{flat_map};
 ghost use Rattle.bdb_gen.specs.Draws.{next_state, state_after, drawn};
 ghost use Rattle.bdb_gen.specs.Draws.{draws as draws_of};

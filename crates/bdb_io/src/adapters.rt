@@ -1,5 +1,5 @@
 // Adapters of readers and writers.
-ghost use Rattle.std.specs.Prelude.{◌≡◌, ◌<◌, length};
+ghost use Rattle.std.specs.Prelude.{◌≡◌, ◌<◌};
 
 use crate::failed::Failed;
 use crate::traits::{Sink, Source};

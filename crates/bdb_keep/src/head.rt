@@ -1,6 +1,6 @@
 // The table and the first bytes of a place, as numbers.
 ghost use Rattle.std.specs.Prelude.{◌≡◌, ◌≤◌, ◌++◌, [], OnOk, OnErr, drop, take};
-ghost use Rattle.std.specs.Int.{w64, to_be_bytes};
+ghost use Rattle.std.specs.Int.{to_be_bytes};
 ghost use Rattle.bdb_keep.specs.Heads.{IsHeadOf, bytes_of, heads_cmp, numbers_cmp, padded};
 
 use crate::bytes::four_words;

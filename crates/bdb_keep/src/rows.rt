@@ -1,6 +1,6 @@
 // The rows by place, on sorted shelves, where a removed row leaves an empty place.
-ghost use Rattle.std.specs.Prelude.{◌≡◌, ◌∷◌, [], Some, None, IfOk, IfErr, IfSome, IfNone, ◌↔◌, OnSome, OnOk, OnErr, IsTrue, MatchBool, false, if◌then◌else◌};
-ghost use Rattle.std.specs.Option.{option_map, option_copied};
+ghost use Rattle.std.specs.Prelude.{◌≡◌, [], Some, None, IfOk, IfErr, IfSome, IfNone, ◌↔◌, OnSome, OnOk, OnErr, IsTrue, MatchBool, false, if◌then◌else◌};
+ghost use Rattle.std.specs.Option.{option_map};
 ghost use Rattle.std.specs.FinMap as map;
 ghost use Rattle.bdb_keep.specs.Entries.{place_at, row_of, rows_of, IsSetAt, IsAmong, AreAmong};
 ghost use Rattle.bdb_keep.specs.Blocks.{joined};

@@ -1,5 +1,5 @@
 // A shelf of sorted blocks.
-ghost use Rattle.std.specs.Prelude.{◌≡◌, ◌∷◌, ◌++◌, [], Some, None, IfOk, IfErr, IfSome, IfNone, OnSome, OnOk, OnErr, not, false, if◌then◌else◌};
+ghost use Rattle.std.specs.Prelude.{◌≡◌, ◌∷◌, ◌++◌, [], Some, None, IfOk, IfErr, IfSome, IfNone, OnSome, OnOk, OnErr, not, false};
 ghost use Rattle.std.specs.Option.{option_copied};
 ghost use Rattle.bdb_keep.specs.Entries.{place_at, row_of};
 ghost use Rattle.bdb_keep.specs.Blocks.{joined, starts_within, without_empty, has_any, AreSorted, IsBound};

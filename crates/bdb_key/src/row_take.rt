@@ -1,5 +1,5 @@
 // Bytes back into the rows of tables by number.
-ghost use Rattle.std.specs.Prelude.{◌≡◌, ◌≤◌, IfOk};
+ghost use Rattle.std.specs.Prelude.{◌≤◌, IfOk};
 ghost use Rattle.std.specs.Result.{IsErrOf};
 ghost use Rattle.bdb_key.specs.Reading.{Reads, NoneReads};
 ghost use Rattle.bdb_key.specs.Rows.{IsRow, row_bytes};

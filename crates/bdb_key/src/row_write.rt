@@ -1,5 +1,5 @@
 // Rows into bytes.
-ghost use Rattle.std.specs.Prelude.{◌≡◌, ◌++◌, pos, OnOk, OnErr};
+ghost use Rattle.std.specs.Prelude.{◌≡◌, ◌++◌, OnOk, OnErr};
 ghost use Rattle.std.specs.List.{AllByRecursion};
 ghost use Rattle.bdb_key.specs.Bytes.{Grows};
 ghost use Rattle.bdb_key.specs.Grammar.{IsNum, IsWhole};

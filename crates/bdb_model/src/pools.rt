@@ -1,13 +1,12 @@
 // What can be chosen for the items of a query.
 ghost use Rattle.std.specs.Prelude.{◌≡◌, ◌≤◌, ◌<◌, ◌+◌, ◌++◌, ◌^◌, true, length, map, IfOk, OnOk};
 ghost use Rattle.std.specs.Option.{option_copied};
-ghost use Rattle.std.specs.List.{slice_get};
 ghost use Rattle.bdb_base.specs.Bases.{key_lengths};
 ghost use Rattle.bdb_base.specs.Limits.{most_users};
 ghost use Rattle.bdb_base.specs.Order.{statement_cmp};
 ghost use Rattle.bdb_base.specs.Queries.{columns_at};
 ghost use Rattle.bdb_base.specs.SortedSet.{ascending};
-ghost use Rattle.bdb_model.specs.Pools.{world_at, item_world, user_pool, plus_tuples, plus_pool, plus_pools, sourced_value, sourced_values, denies, is_denied, denied_tuples, minus_pool, minus_pools};
+ghost use Rattle.bdb_model.specs.Pools.{world_at, item_world, user_pool, plus_tuples, plus_pool, plus_pools, sourced_value, sourced_values, denies, denied_tuples, minus_pool, minus_pools};
 ghost use Rattle.bdb_queries.specs.Slots.{user_tuples};
 
 use crate::keys::key_length_of;

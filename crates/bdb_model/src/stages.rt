@@ -1,8 +1,6 @@
 // The stages of answering a query: the users are chosen first, then the tuples of plus items from the worlds of their
 // paths, then the one tuple of each minus item that its sources leave.
-ghost use Rattle.std.specs.Prelude.{◌≡◌, OnOk};
 ghost use Rattle.bdb_model.specs.Answering.{last_rows, rows_of_tuples, rows_of_users};
-ghost use Rattle.bdb_queries.specs.Collected.{with_rows};
 
 use crate::choosing::{Stage, choose};
 use crate::pools::{minus_pools, plus_pools, worlds_of};

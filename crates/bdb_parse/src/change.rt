@@ -1,5 +1,4 @@
 // The commands that change statements.
-ghost use Rattle.std.specs.Prelude.{◌≡◌, List};
 ghost use Rattle.bdb_parse.specs.Gives.{Gives, number_in};
 ghost use Rattle.bdb_parse.specs.Reading.{insert_of, delete_of, update_of};
 

@@ -1,5 +1,4 @@
 // Columns, with an alias and without one.
-ghost use Rattle.std.specs.Prelude.{◌≡◌, List};
 ghost use Rattle.bdb_parse.specs.Gives.{Gives};
 ghost use Rattle.bdb_parse.specs.Reading.{bare_of, col_at, col_of};
 

@@ -1,5 +1,4 @@
 // The columns of a new relation.
-ghost use Rattle.std.specs.Prelude.{◌≡◌, List};
 ghost use Rattle.bdb_parse.specs.Gives.{Gives};
 ghost use Rattle.bdb_parse.specs.Reading.{kind_of, column_of};
 

@@ -1,5 +1,4 @@
 // The commands that create users and relations.
-ghost use Rattle.std.specs.Prelude.{◌≡◌, List};
 ghost use Rattle.bdb_parse.specs.Gives.{Gives, number_in};
 ghost use Rattle.bdb_parse.specs.Reading.{inside_at, inside_of, create_user_of, create_relation_of, create_of};
 

@@ -1,7 +1,7 @@
 // Lists of tokens cut at a stop.
-ghost use Rattle.std.specs.Prelude.{◌≡◌, List};
+ghost use Rattle.std.specs.Prelude.{◌≡◌};
 ghost use Rattle.std.specs.Option.{option_copied};
-ghost use Rattle.bdb_parse.specs.Stops.{is_word, is_comma, is_close, is_stop, cut};
+ghost use Rattle.bdb_parse.specs.Stops.{is_word, is_stop, cut};
 
 use crate::keywords::is_keyword;
 use crate::stop::Stop;

@@ -1,5 +1,4 @@
 // The length of a new relation's key.
-ghost use Rattle.std.specs.Prelude.{◌≡◌, List};
 ghost use Rattle.bdb_parse.specs.Gives.{Gives, number_in};
 ghost use Rattle.bdb_parse.specs.Reading.{num_of, key_of};
 

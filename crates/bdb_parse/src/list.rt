@@ -1,5 +1,5 @@
 // Lists with a separator between two items.
-ghost use Rattle.std.specs.Prelude.{◌≡◌, List, Option};
+ghost use Rattle.std.specs.Prelude.{List, Option};
 ghost use Rattle.bdb_lex.specs.declared.token.Token.{Token};
 ghost use Rattle.bdb_parse.specs.Gives.{Gives};
 ghost use Rattle.bdb_parse.specs.Reading.{list_of};

@@ -1,5 +1,4 @@
 // The commands that are one word.
-ghost use Rattle.std.specs.Prelude.{◌≡◌, List};
 ghost use Rattle.bdb_parse.specs.Gives.{Gives};
 ghost use Rattle.bdb_parse.specs.Reading.{one_word_of};
 

@@ -1,5 +1,4 @@
 // Queries.
-ghost use Rattle.std.specs.Prelude.{◌≡◌, List};
 ghost use Rattle.std.specs.Option.{option_map};
 ghost use Rattle.bdb_parse.specs.Gives.{Gives, number_in};
 ghost use Rattle.bdb_parse.specs.Reading.{query_of, explain_of};

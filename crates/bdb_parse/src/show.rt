@@ -1,5 +1,4 @@
 // The commands that show a world and the tables.
-ghost use Rattle.std.specs.Prelude.{◌≡◌, List};
 ghost use Rattle.bdb_parse.specs.Gives.{Gives};
 ghost use Rattle.bdb_parse.specs.Reading.{show_of};
 

@@ -1,5 +1,5 @@
 // Readers of one or two tokens at the front of a list: each gives what it read and the rest.
-ghost use Rattle.std.specs.Prelude.{◌≡◌, List, Some};
+ghost use Rattle.std.specs.Prelude.{◌≡◌, Some};
 ghost use Rattle.std.specs.Option.{option_copied};
 ghost use Rattle.bdb_parse.specs.Gives.{Gives};
 ghost use Rattle.bdb_parse.specs.Reading.{end_at, word_at, text_at, dot_at, equals_at, open_at, cmp_at, keyword_at, name_at};

@@ -1,5 +1,4 @@
 // The steps of plans.
-ghost use Rattle.std.specs.Prelude.{◌≡◌, IfOk};
 
 use bdb_base::{Cond, Exact, Operand, Who};
 use std::alloc::{AllocError, Global};

@@ -2,11 +2,10 @@
 ghost use Rattle.std.specs.Prelude.{◌≡◌, ◌+◌, ◌-◌, ◌*◌, ◌≤◌, ◌∷◌, Some, true, OnOk, length, drop, is_some};
 ghost use Rattle.std.specs.FinMap as tables;
 ghost use Rattle.std.specs.List.{AllZip};
-ghost use Rattle.bdb_base.specs.Causes.{Rises, RoseBy};
+ghost use Rattle.bdb_base.specs.Causes.{RoseBy};
 ghost use Rattle.bdb_keep.specs.Calls.{IsRead};
 ghost use Rattle.bdb_keep.specs.Seen.{NeverFall, Steps};
 ghost use Rattle.bdb_shown.specs.Rows.{AreRawRows, HasTupleFor, StandWithTuples};
-ghost use Rattle.bdb_tables.specs.Codec.{place};
 ghost use Rattle.bdb_tables.specs.Grammar.{InGrammar};
 ghost use Rattle.bdb_val.specs.Reads.{HaveTuples, world_prefix};
 

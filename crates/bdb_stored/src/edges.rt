@@ -1,5 +1,5 @@
 // The edges of the states of a stored base.
-ghost use Rattle.std.specs.Prelude.{◌≡◌, ◌<◌, ◌^◌, length, ◌≤◌, ◌+◌, ◌*◌, OnOk, IfOk};
+ghost use Rattle.std.specs.Prelude.{◌<◌, ◌^◌, length, ◌≤◌, ◌+◌, ◌*◌, OnOk, IfOk};
 ghost use Rattle.bdb_base.specs.Causes.{RoseBy};
 ghost use Rattle.bdb_base.specs.Queries.{user_numbers};
 ghost use Rattle.bdb_keep.specs.Calls.{IsRead};

@@ -8,7 +8,6 @@ ghost use Rattle.bdb_tables.specs.Reading.{OnlyReads};
 ghost use Rattle.bdb_paths.specs.Places.{place_in};
 ghost use Rattle.bdb_val.specs.Reads.{HaveTuples};
 ghost use Rattle.bdb_stored.specs.Structure.{row_placed, rows_of};
-ghost use Rattle.bdb_catalog.specs.Bases.{StoresSome};
 ghost use Rattle.bdb_catalog.specs.Opening.{IsPartOf};
 ghost use Rattle.bdb_stored.specs.Worlds.{TellsStates};
 

@@ -1,11 +1,10 @@
 // The structure that stands for all worlds of a stored base.
-ghost use Rattle.std.specs.Prelude.{◌≡◌, IfOk};
+ghost use Rattle.std.specs.Prelude.{IfOk};
 ghost use Rattle.bdb_canon.specs.Canonical.{canon_of};
 ghost use Rattle.bdb_keep.specs.Calls.{IsRead};
 ghost use Rattle.bdb_stored.specs.Structure.{ReadsAsCanon};
 ghost use Rattle.bdb_catalog.specs.Bases.{StoresSome};
 ghost use Rattle.bdb_catalog.specs.Opening.{IsPartOf};
-ghost use Rattle.bdb_tables.specs.Reading.{OnlyReads};
 
 use crate::edges::edges_of;
 use crate::links::worlds_with_links;

@@ -1,5 +1,5 @@
 // How a session handles the pieces of a script.
-ghost use Rattle.std.specs.Prelude.{◌≡◌, ◌<◌, ◌≤◌, ◌+◌, ℕ, IfSome, OnOk, OnErr, IsErrOf, length};
+ghost use Rattle.std.specs.Prelude.{◌<◌, ◌≤◌, ◌+◌, ℕ, IfSome, OnOk, OnErr, IsErrOf, length};
 ghost use Rattle.std.specs.Io.KnownBytes.{IsAtEnd};
 ghost use Rattle.bdb_base.specs.Causes.{Rose, Rises, RisesOver, HasCause};
 ghost use Rattle.bdb_base.specs.Limits.{longest_script};

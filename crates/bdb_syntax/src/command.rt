@@ -1,5 +1,4 @@
 // Commands as they are written.
-ghost use Rattle.std.specs.Prelude.{◌≡◌, IfOk};
 
 use bdb_base::{Cmp, ColDef, Exact, List, Sign, Txt, Value};
 use std::alloc::{AllocError, Global};

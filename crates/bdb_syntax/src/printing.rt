@@ -1,7 +1,6 @@
 // The printed form of commands.
-ghost use Rattle.std.specs.Prelude.{◌≡◌, ◌++◌, codes, map, IfOk, OnOk};
+ghost use Rattle.std.specs.Prelude.{◌≡◌, ◌++◌, IfOk, OnOk};
 ghost use Rattle.std.specs.List.{flat_map};
-ghost use Rattle.bdb_base.specs.Texts.{column_text, joined, value_text};
 ghost use Rattle.bdb_syntax.specs.Printed.{belief_text, col_text, columns_text, cond_text, item_text, key_text, not_text, printed, query_text, set_text, side_text, signed_text, target_text, values_text, where_text, who_text};
 
 use crate::command::{Command, RawCol, RawCond, RawItem, RawQuery, RawSet, RawSide, RawWho};

@@ -1,11 +1,10 @@
 // The rows of table 11 by the numbers of their tuples: no value is decoded, and none is written anew.
-ghost use Rattle.std.specs.Prelude.{◌≡◌, ◌+◌, ◌-◌, ◌≤◌, ◌++◌, [], ◌∷◌, true, IfOk, OnOk, length, drop};
+ghost use Rattle.std.specs.Prelude.{◌≡◌, ◌+◌, ◌-◌, ◌≤◌, ◌++◌, ◌∷◌, true, IfOk, OnOk, length, drop};
 ghost use Rattle.std.specs.List.{AllByRecursion};
 ghost use Rattle.std.specs.Option.{option_map};
-ghost use Rattle.std.specs.Ordering.{is_le};
 ghost use Rattle.bdb_base.specs.Causes.{Rises, RoseBy};
 ghost use Rattle.bdb_keep.specs.Calls.{IsRead, IsWrite};
-ghost use Rattle.bdb_keep.specs.Tables.{bytes_cmp, set_at};
+ghost use Rattle.bdb_keep.specs.Tables.{set_at};
 ghost use Rattle.bdb_key.specs.Bytes.{num_bytes};
 ghost use Rattle.bdb_key.specs.Grammar.{IsNum};
 ghost use Rattle.bdb_key.specs.Reading.{Reads};

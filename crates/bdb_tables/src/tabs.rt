@@ -1,5 +1,5 @@
 // The tables in use.
-ghost use Rattle.std.specs.Prelude.{ℕ, refl};
+ghost use Rattle.std.specs.Prelude.{refl};
 ghost use Rattle.std.proofs.Common.{rules};
 ghost use Rattle.bdb_tables.specs.InUse.{meta_codec, user_codec, rel_codec, plain_codec};
 ghost use Rattle.bdb_tables.specs.InUseLaws.{numbers_in_order, numbers_are_one, plains_in_order, plains_are_one, only_key_is_one, number_rows_are_one, slot_rows_are_one, rel_rows_are_one, sign_rows_are_one};

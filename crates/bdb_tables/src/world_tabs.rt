@@ -1,5 +1,4 @@
 // The tables of tuples, worlds and valuations.
-ghost use Rattle.std.specs.Prelude.{ℕ};
 ghost use Rattle.std.proofs.Common.{rules};
 ghost use Rattle.bdb_tables.specs.InUse.{tuple_codec, tuple_ix_codec, depth_codec, link_codec, linked_codec, edge_codec, led_codec, val_codec};
 ghost use Rattle.bdb_tables.specs.InUseLaws.{numbers_in_order, numbers_are_one, pairs_in_order, pairs_are_one, triples_in_order, triples_are_one, tuples_in_order, tuples_are_one, vals_in_order, vals_are_one, number_rows_are_one, tuple_rows_are_one, empty_rows_are_one, mark_rows_are_one};

@@ -1,7 +1,7 @@
 // Where the values of columns come from.
 ghost use Rattle.std.specs.Prelude.{◌≡◌, ◌+◌, ◌<◌, ◌^◌, ◌++◌, true, length, map, find, IfOk, OnOk};
 ghost use Rattle.std.specs.Option.{option_copied};
-ghost use Rattle.std.specs.List.{list_all, slice_get};
+ghost use Rattle.std.specs.List.{list_all};
 ghost use Rattle.bdb_base.specs.Queries.{columns_at};
 ghost use Rattle.bdb_plan.specs.Sources.{columns_from, given_columns};
 ghost use Rattle.bdb_trans.specs.Names.{can_number_columns, item_columns, pins_name, has_name, source_by_names};

@@ -4,8 +4,6 @@ ghost use Rattle.std.specs.Option.{option_copied};
 ghost use Rattle.bdb_base.specs.Bases.{key_lengths};
 ghost use Rattle.bdb_base.specs.Changes.{first_clashing};
 ghost use Rattle.bdb_base.specs.Order.{statement_cmp};
-ghost use Rattle.bdb_base.specs.Same.{same_path, same_sign};
-ghost use Rattle.bdb_base.specs.Clash.{clash};
 ghost use Rattle.bdb_base.specs.SortedSet.{ascending};
 ghost use Rattle.bdb_base.specs.declared.kinds.Sign.TheVariants.{Plus};
 ghost use Rattle.bdb_update.specs.Clashing.{clashes_ahead, clashes_near, first_ahead, is_near};

@@ -1,5 +1,5 @@
 // The explicit rows of a group: those of a world, a relation and a key.
-ghost use Rattle.std.specs.Prelude.{◌≡◌, ◌++◌, true, IfOk, OnOk};
+ghost use Rattle.std.specs.Prelude.{◌≡◌, true, IfOk, OnOk};
 ghost use Rattle.std.specs.List.{AllByRecursion};
 ghost use Rattle.bdb_base.specs.Clash.{key_of};
 ghost use Rattle.bdb_keep.specs.Calls.{IsRead};

@@ -1,5 +1,5 @@
 // What is known of a statement before anything is written.
-ghost use Rattle.std.specs.Prelude.{◌≡◌, true, IfOk, [], ◌&&◌, is_some, cond};
+ghost use Rattle.std.specs.Prelude.{◌≡◌, true, IfOk, [], ◌&&◌, is_some};
 ghost use Rattle.std.specs.List.{list_any};
 ghost use Rattle.std.specs.Option.{option_copied};
 ghost use Rattle.bdb_key.specs.Rows.{MayBeTuple};
@@ -7,8 +7,8 @@ ghost use Rattle.bdb_keep.specs.Calls.{IsRead};
 ghost use Rattle.bdb_tables.specs.Grammar.{InGrammar};
 ghost use Rattle.bdb_update.specs.Calls.{SomeMayMeet, size_passed};
 ghost use Rattle.bdb_update.specs.Examining.{Examines};
-ghost use Rattle.bdb_update.specs.Looking.{AreRowsIf, IsPlace, IsSmall, counts_with, filled_by, first_of, is_clashing, is_own, joined_by, judged, least_row, state_of};
-ghost use Rattle.bdb_val.specs.Reads.{AreReadUnder, HaveTuples};
+ghost use Rattle.bdb_update.specs.Looking.{AreRowsIf, IsPlace, IsSmall, counts_with, first_of, is_clashing, is_own, joined_by, judged, least_row, state_of};
+ghost use Rattle.bdb_val.specs.Reads.{HaveTuples};
 ghost use Rattle.bdb_worlds.specs.Holding.{HoldSome};
 ghost use Rattle.bdb_base.specs.Alternation.{alternates};
 

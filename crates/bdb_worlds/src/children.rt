@@ -1,5 +1,5 @@
 // The worlds whose suffix links lead to one world.
-ghost use Rattle.std.specs.Prelude.{◌≡◌, true, nat_eq, cond, IfOk, OnOk};
+ghost use Rattle.std.specs.Prelude.{◌≡◌, nat_eq, cond, IfOk, OnOk};
 ghost use Rattle.bdb_keep.specs.Seen.{NeverFall, Steps};
 ghost use Rattle.bdb_tables.specs.Grammar.{InGrammar};
 ghost use Rattle.bdb_worlds.specs.Finds.{HasNextChild};

@@ -1,5 +1,5 @@
 // The least number that no world has.
-ghost use Rattle.std.specs.Prelude.{◌≡◌, true, IfOk, OnOk};
+ghost use Rattle.std.specs.Prelude.{◌≡◌, IfOk, OnOk};
 ghost use Rattle.bdb_keep.specs.Seen.{NeverFall, Steps};
 ghost use Rattle.bdb_tables.specs.Grammar.{InGrammar};
 ghost use Rattle.bdb_worlds.specs.Free.{FindsFree};

@@ -1,5 +1,5 @@
 // Links and edges led to another world, with their turned rows.
-ghost use Rattle.std.specs.Prelude.{◌≡◌, ◌*◌, true, None, Some, OnOk, length};
+ghost use Rattle.std.specs.Prelude.{◌≡◌, ◌*◌, true, Some, OnOk, length};
 ghost use Rattle.bdb_base.specs.Causes.{Rises};
 ghost use Rattle.bdb_keep.specs.Seen.{NeverFall, Steps};
 ghost use Rattle.bdb_tables.specs.Grammar.{InGrammar};

@@ -1,5 +1,5 @@
 // The edges of one world.
-ghost use Rattle.std.specs.Prelude.{◌≡◌, ◌++◌, true, nat_eq, cond, None, Some, IfOk, OnOk};
+ghost use Rattle.std.specs.Prelude.{◌≡◌, ◌++◌, nat_eq, cond, None, Some, IfOk, OnOk};
 ghost use Rattle.bdb_keep.specs.Calls.{IsRead};
 ghost use Rattle.bdb_keep.specs.Seen.{NeverFall, Steps};
 ghost use Rattle.bdb_key.specs.Bytes.{num_bytes};

@@ -1,5 +1,4 @@
 // Keepers that fail while their tables are opened or checked: the rows stay, and nothing is told.
-ghost use Rattle.std.specs.Prelude.{◌≡◌, false};
 
 use crate::tests::copying::copy_rows;
 use crate::tests::{SCRIPT, only, quiet_keeper, quiet_sink, quiet_source, ran, told};

@@ -1,6 +1,5 @@
 // The two files of a database in memory, of which one fails from some call on, and a run of the script over them.
-ghost use Rattle.std.specs.Prelude.{◌≡◌, false, IfOk, IfSome, IsTrue};
-ghost use Rattle.sqlite_disk.specs.Memory.{memory_is_usable};
+ghost use Rattle.std.specs.Prelude.{◌≡◌, false, IfOk};
 
 use crate::tests::script::{ROOM, Script, all_of, ran};
 use bdb_base::List;

@@ -1,5 +1,5 @@
 // What files hold.
-ghost use Rattle.std.specs.Prelude.{◌≡◌, ◌≤◌, false};
+ghost use Rattle.std.specs.Prelude.{false};
 
 use crate::tests::files::{files_of, opened};
 use crate::tests::script::{ROOM, Script, Section, are_last, change_count, ran};
