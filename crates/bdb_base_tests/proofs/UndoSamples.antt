@@ -7,7 +7,8 @@ use Rattle.bdb_base.specs.declared.kinds.Stmt.{Stmt}
 use Rattle.bdb_base.specs.Bases.{Contents, IsValid}
 use Rattle.bdb_undo.specs.declared.change.Change.{Change}
 use Rattle.bdb_undo.specs.Changes.{Leads}
-use Rattle.bdb_base_tests.specs.UndoSamples.{sightings, bobs_word, alone, related, joined, joined_by_carol, told, told_anew, left_by_bob, of_relation, of_bob, of_carol, of_word, of_next_word, word_gone, of_leaving}
+use Rattle.bdb_canon.specs.Samples.{sightings}
+use Rattle.bdb_base_tests.specs.UndoSamples.{bobs_word, alone, related, joined, joined_by_carol, told, told_anew, left_by_bob, of_relation, of_bob, of_carol, of_word, of_next_word, word_gone, of_leaving}
 use Rattle.bdb_undo.proofs.ChangeLemmas.{relation_leads, user_leads, put_leads, takes_lead, statements_lead, leaving_leads}
 
 alone_valid : IsValid alone.catalog alone.stmts

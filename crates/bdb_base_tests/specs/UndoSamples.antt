@@ -1,28 +1,22 @@
 -- The bases and the changes with which the tests try a change. Alice is user 1, and Bob is user 2; or Carol, where Bob was
 -- taken back.
 use Rattle.std.specs.Prelude.{[], ◌∷◌, codes}
-use Rattle.bdb_base.specs.declared.kinds.Kind.TheVariants as kind
-use Rattle.bdb_base.specs.declared.kinds.RelDef.{RelDef}
 use Rattle.bdb_base.specs.declared.kinds.Sign.TheVariants.{Plus}
 use Rattle.bdb_base.specs.declared.kinds.Stmt.{Stmt}
 use Rattle.bdb_base.specs.declared.kinds.UserSlot.TheVariants.{Live}
-use Rattle.bdb_base.specs.declared.kinds.Value.TheVariants.{Text}
 use Rattle.bdb_base.specs.Bases.{Contents, with_relation, with_user, without_user}
 use Rattle.bdb_base.specs.Changes.{without_statements_of}
+use Rattle.bdb_canon.specs.Samples.{sightings, stated_at}
 use Rattle.bdb_undo.specs.declared.change.Change.{Change}
 use Rattle.bdb_undo.specs.declared.change.Named.TheVariants.{Nothing, UserAdded, RelationAdded, UserDropped}
 
--- S, with a key k and a value v
-abbrev pub sightings : RelDef
-sightings = record { name = codes "S"; cols = record { name = codes "k"; kind = kind.Text } ∷ record { name = codes "v"; kind = kind.Text } ∷ []; key = 1 }
-
 -- Bob states S('a', 'x')
 abbrev pub bobs_word : Stmt
-bobs_word = record { path = 2 ∷ []; sign = Plus; tuple = record { rel = 0; vals = Text (codes "a") ∷ Text (codes "x") ∷ [] } }
+bobs_word = stated_at (2 ∷ []) Plus (codes "a") (codes "x")
 
 -- Bob states S('a', 'y')
 abbrev pub bobs_next_word : Stmt
-bobs_next_word = record { path = 2 ∷ []; sign = Plus; tuple = record { rel = 0; vals = Text (codes "a") ∷ Text (codes "y") ∷ [] } }
+bobs_next_word = stated_at (2 ∷ []) Plus (codes "a") (codes "y")
 
 -- Alice alone
 abbrev pub alone : Contents

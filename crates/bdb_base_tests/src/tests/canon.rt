@@ -1,63 +1,14 @@
 // The structures of worked bases. Alice is user 1, Bob is user 2, Carol is user 3.
-ghost use Rattle.std.specs.Prelude.{◌≡◌, true, [], ◌∷◌, IfOk};
-ghost use Rattle.bdb_base.specs.declared.kinds.UserSlot.TheVariants.{Live};
+ghost use Rattle.std.specs.Prelude.{◌≡◌, true, IfOk};
 ghost use Rattle.bdb_base.specs.Safety.{query_fits, IsSafe};
-ghost use Rattle.bdb_canon.specs.Samples.{sightings, stated_at, denied, disputed, reported, joined, deniers};
+ghost use Rattle.bdb_canon.specs.Samples.{denied, disputed, reported, joined, deniers};
 
-use bdb_base::{
-    Base, Catalog, Cmp, ColDef, Cond, Item, Kind, List, Operand, Path, Query, Ref, RelDef, Sign,
-    Stmt, Tuple, Txt, UserSlot, Value, Who, append_decimal,
-};
-use bdb_canon::{Canon, canon, has_more_lines, line_count};
+use bdb_base::{Base, Cmp, Cond, Item, List, Operand, Query, Ref, Sign, Tuple, Txt, Value, Who};
+use bdb_canon::{canon, has_more_lines, line_count};
 use bdb_model::{answers, believes, clashing, stated, world_rows};
+use bdb_samples::{catalog, disputed, live, reported, statement, text_of, tuple_of};
 use std::alloc::{AllocError, Global};
 use std::test::Fail;
-
-/// The relation S, with a key k and a value v.
-fn relation(alloc: Global) -> Result<RelDef, AllocError>
-    ensures { IfOk result (λ def. def ≡ sightings) }
-{
-    let mut cols = List::new(alloc);
-    let name = Txt::try_new(alloc, "k")?;
-    let kind = Kind::Text;
-    cols.push(ColDef { name, kind })?;
-    let name = Txt::try_new(alloc, "v")?;
-    cols.push(ColDef { name, kind })?;
-    let name = Txt::try_new(alloc, "S")?;
-    let key = 1;
-    Ok(RelDef { name, cols, key })
-}
-
-/// A live user of a name.
-fn live(alloc: Global, name: &str) -> Result<UserSlot, AllocError>
-    ensures { IfOk result (λ user. user ≡ Live name.now) }
-{
-    let name = Txt::try_new(alloc, name)?;
-    Ok(UserSlot::Live(name))
-}
-
-/// The relation S, and these users.
-fn catalog(alloc: Global, users: List<UserSlot>) -> Result<Catalog, AllocError>
-    ensures { IfOk result (λ c. c ≡ record { rels = sightings ∷ []; users = users }) }
-{
-    let mut rels = List::new(alloc);
-    let def = relation(alloc)?;
-    rels.push(def)?;
-    Ok(Catalog { rels, users })
-}
-
-fn statement(alloc: Global, users: &[u32], sign: Sign, key: &str, value: &str) -> Result<Stmt, Fail>
-    ensures { IfOk result (λ s. s ≡ stated_at users.now sign key.now value.now) }
-{
-    let path = Path::try_new(alloc, users)?;
-    let mut vals = List::new(alloc);
-    let key = Txt::try_new(alloc, key)?;
-    vals.push(Value::Text(key))?;
-    let value = Txt::try_new(alloc, value)?;
-    vals.push(Value::Text(value))?;
-    let tuple = Tuple { rel: 0, vals };
-    Ok(Stmt { path, sign, tuple })
-}
 
 /// An eagle, which Bob denies.
 fn denied(alloc: Global) -> Result<Base, Fail>
@@ -71,67 +22,6 @@ fn denied(alloc: Global) -> Result<Base, Fail>
     stmts.push(statement(alloc, &[2], Sign::Minus, "s1", "eagle")?)?;
     let catalog = catalog(alloc, users)?;
     Ok(Base::from_parts(catalog, stmts))
-}
-
-/// The same, where Alice sees a crow.
-fn disputed(alloc: Global) -> Result<Base, Fail>
-    ensures { IfOk result (λ b. b.catalog ≡ disputed.catalog) }
-{
-    let mut users = List::new(alloc);
-    users.push(live(alloc, "Alice")?)?;
-    users.push(live(alloc, "Bob")?)?;
-    let mut stmts = List::new(alloc);
-    stmts.push(statement(alloc, &[], Sign::Plus, "s1", "eagle")?)?;
-    stmts.push(statement(alloc, &[1], Sign::Plus, "s1", "crow")?)?;
-    stmts.push(statement(alloc, &[2], Sign::Minus, "s1", "eagle")?)?;
-    let catalog = catalog(alloc, users)?;
-    Ok(Base::from_parts(catalog, stmts))
-}
-
-/// What Alice sees, and what Carol believes that Alice sees.
-fn reported(alloc: Global) -> Result<Base, Fail>
-    ensures { IfOk result (λ b. b.catalog ≡ reported.catalog) }
-{
-    let mut users = List::new(alloc);
-    users.push(live(alloc, "Alice")?)?;
-    users.push(live(alloc, "Bob")?)?;
-    users.push(live(alloc, "Carol")?)?;
-    let mut stmts = List::new(alloc);
-    stmts.push(statement(alloc, &[1], Sign::Plus, "s2", "crow")?)?;
-    stmts.push(statement(alloc, &[3, 1], Sign::Plus, "s1", "eagle")?)?;
-    let catalog = catalog(alloc, users)?;
-    Ok(Base::from_parts(catalog, stmts))
-}
-
-/// The worlds as `path>link`, the edges as `from.user>to`, and the rows as world, sign, tuple, and e where explicit.
-fn text_of(alloc: Global, k: &Canon) -> Result<Vec<u8>, AllocError> {
-    let mut out = Vec::new(alloc);
-    for world in k.worlds.as_slice() {
-        for uid in world.path.as_slice() {
-            append_decimal(&mut out, u64::from(*uid))?;
-        }
-        out.push(b'>')?;
-        if let Some(at) = world.suffix {
-            append_decimal(&mut out, u64::from(at))?;
-        }
-        out.push(b' ')?;
-    }
-    for edge in k.edges.as_slice() {
-        append_decimal(&mut out, u64::from(edge.from))?;
-        out.push(b'.')?;
-        append_decimal(&mut out, u64::from(edge.uid))?;
-        out.push(b'>')?;
-        append_decimal(&mut out, u64::from(edge.to))?;
-        out.push(b' ')?;
-    }
-    for row in k.rows.as_slice() {
-        append_decimal(&mut out, u64::from(row.world))?;
-        out.push(if row.sign == Sign::Plus { b'+' } else { b'-' })?;
-        append_decimal(&mut out, u64::from(row.tuple))?;
-        out.push(if row.explicit { b'e' } else { b'i' })?;
-        out.push(b' ')?;
-    }
-    Ok(out)
 }
 
 /// Whether a base's structure reads so, and has so many lines.
@@ -172,13 +62,6 @@ fn who_is_gone_has_no_edge(rt: HostRuntime) -> Result<(), Fail> {
     let base = left_by_bob(alloc)?;
     assert!(rt; reads(alloc, &base, "> 1>0 0.1>1 0+1e 1+0e ", 9)?);
     Ok(())
-}
-
-fn tuple(alloc: Global, key: &str, value: &str) -> Result<Tuple, AllocError> {
-    let mut vals = List::new(alloc);
-    vals.push(Value::Text(Txt::try_new(alloc, key)?))?;
-    vals.push(Value::Text(Txt::try_new(alloc, value)?))?;
-    Ok(Tuple { rel: 0, vals })
 }
 
 /// What a path believes of a tuple: whether its world has it with plus and with minus, whether it believes it and its
@@ -222,7 +105,7 @@ fn is_world(alloc: Global, base: &Base, path: &[u32], want: &str) -> Result<bool
 
 /// What is told of a tuple with the key s1 at a path.
 fn told_of(alloc: Global, base: &Base, path: &[u32], value: &str) -> Result<[bool; 6], AllocError> {
-    let t = tuple(alloc, "s1", value)?;
+    let t = tuple_of(alloc, "s1", value)?;
     Ok(told(base, path, &t))
 }
 

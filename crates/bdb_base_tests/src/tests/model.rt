@@ -1,22 +1,12 @@
 // Worlds and beliefs of a short session. Alice is user 1, Bob is user 2.
-ghost use Rattle.std.specs.Prelude.{◌≡◌, true, [], ◌∷◌, IfOk};
+ghost use Rattle.std.specs.Prelude.{◌≡◌, [], ◌∷◌, IfOk};
 ghost use Rattle.bdb_base.specs.declared.kinds.Item.TheVariants.{Users};
-ghost use Rattle.bdb_base.specs.Order.{statement_cmp};
-ghost use Rattle.bdb_base.specs.SortedSet.{ascending};
 
-use bdb_base::{Base, Item, List, Path, Query, Ref, Sign, Stmt, Tuple, Txt, Value, World, put};
+use bdb_base::{Base, Item, List, Query, Ref, Sign, Txt, Value, World};
 use bdb_model::{answers, at_ends, believes_among, clashing_among, stated_among, world_among};
+use bdb_samples::{BOB_DENIES, CROW, EAGLE, Given, stmts_of, tuple_of};
 use std::alloc::{AllocError, Global};
 use std::test::Fail;
-
-/// A statement of a test: its path, its sign, and the two columns of its tuple.
-type Given<'a> = (&'a [u32], Sign, &'a str, &'a str);
-
-const EAGLE: Given = (&[], Sign::Plus, "s1", "eagle");
-
-const BOB_DENIES: Given = (&[2], Sign::Minus, "s1", "eagle");
-
-const CROW: Given = (&[1], Sign::Plus, "s1", "crow");
 
 const NO_RAVEN: Given = (&[1], Sign::Minus, "s1", "raven");
 
@@ -160,32 +150,6 @@ fn is_text(value: &Value, text: &str) -> bool {
         Value::Text(t) => t.as_str() == text,
         Value::Int(_) => false,
     }
-}
-
-fn stmts_of(alloc: Global, given: &[Given]) -> Result<List<Stmt>, Fail>
-    ensures { IfOk result (λ stmts. ascending statement_cmp stmts ≡ true) }
-{
-    let mut stmts = List::new(alloc);
-    for (path, sign, k, v) in given {
-        let stmt = stmt_of(alloc, *path, *sign, *k, *v)?;
-        let _added = put(&mut stmts, stmt)?;
-    }
-    Ok(stmts)
-}
-
-fn stmt_of(alloc: Global, path: &[u32], sign: Sign, k: &str, v: &str) -> Result<Stmt, Fail> {
-    Ok(Stmt {
-        path: Path::try_new(alloc, path)?,
-        sign,
-        tuple: tuple_of(alloc, k, v)?,
-    })
-}
-
-fn tuple_of(alloc: Global, k: &str, v: &str) -> Result<Tuple, AllocError> {
-    let mut vals = List::new(alloc);
-    vals.push(Value::Text(Txt::try_new(alloc, k)?))?;
-    vals.push(Value::Text(Txt::try_new(alloc, v)?))?;
-    Ok(Tuple { rel: 0, vals })
 }
 
 fn text_of(alloc: Global, world: &World) -> Result<String, AllocError> {

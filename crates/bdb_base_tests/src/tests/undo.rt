@@ -1,54 +1,27 @@
 // Changes of a worked base, back and forth, and histories of changes that add users.
 ghost use Rattle.std.specs.Prelude.{◌≡◌, [], ◌∷◌, IfOk, OnOk};
-ghost use Rattle.bdb_base.specs.declared.kinds.UserSlot.TheVariants.{Live};
-ghost use Rattle.bdb_base_tests.specs.UndoSamples.{sightings, bobs_word, bobs_next_word, alone, related, joined, joined_by_carol, told, told_anew, left_by_bob, of_relation, of_bob, of_carol, of_word, of_next_word, word_gone, of_leaving};
+ghost use Rattle.bdb_base_tests.specs.UndoSamples.{bobs_word, bobs_next_word, alone, related, joined, joined_by_carol, told, told_anew, left_by_bob, of_relation, of_bob, of_carol, of_word, of_next_word, word_gone, of_leaving};
 
-use bdb_base::{
-    Base, Catalog, ColDef, Kind, List, Path, RelDef, Sign, Stmt, Tuple, Txt, UserSlot, Value,
-    cmp_stmt, user_name,
-};
+use bdb_base::{Base, Catalog, List, Sign, Stmt, Txt, cmp_stmt, user_name};
+use bdb_samples::{catalog, live, sightings, statement};
 use bdb_undo::{Change, History, MOST_CHANGES, Named, change_back, change_forth, missing_from};
 use std::alloc::{AllocError, Global};
 use std::test::Fail;
-
-/// The relation S, with a key k and a value v.
-fn relation(alloc: Global) -> Result<RelDef, AllocError>
-    ensures { IfOk result (λ def. def ≡ sightings) }
-{
-    let mut cols = List::new(alloc);
-    let name = Txt::try_new(alloc, "k")?;
-    let kind = Kind::Text;
-    cols.push(ColDef { name, kind })?;
-    let name = Txt::try_new(alloc, "v")?;
-    cols.push(ColDef { name, kind })?;
-    let name = Txt::try_new(alloc, "S")?;
-    Ok(RelDef { name, cols, key: 1 })
-}
 
 /// Bob, the second user, states S('a', 'x').
 fn first_word(alloc: Global) -> Result<Stmt, Fail>
     ensures { IfOk result (λ s. s ≡ bobs_word) }
 {
-    let path = Path::try_new(alloc, &[2])?;
-    let mut vals = List::new(alloc);
-    vals.push(Value::Text(Txt::try_new(alloc, "a")?))?;
-    vals.push(Value::Text(Txt::try_new(alloc, "x")?))?;
-    let tuple = Tuple { rel: 0, vals };
-    let sign = Sign::Plus;
-    Ok(Stmt { path, sign, tuple })
+    let stmt = statement(alloc, &[2], Sign::Plus, "a", "x")?;
+    Ok(stmt)
 }
 
 /// Bob states S('a', 'y').
 fn next_word(alloc: Global) -> Result<Stmt, Fail>
     ensures { IfOk result (λ s. s ≡ bobs_next_word) }
 {
-    let path = Path::try_new(alloc, &[2])?;
-    let mut vals = List::new(alloc);
-    vals.push(Value::Text(Txt::try_new(alloc, "a")?))?;
-    vals.push(Value::Text(Txt::try_new(alloc, "y")?))?;
-    let tuple = Tuple { rel: 0, vals };
-    let sign = Sign::Plus;
-    Ok(Stmt { path, sign, tuple })
+    let stmt = statement(alloc, &[2], Sign::Plus, "a", "y")?;
+    Ok(stmt)
 }
 
 /// The first statement alone.
@@ -71,14 +44,6 @@ fn next_words(alloc: Global) -> Result<List<Stmt>, Fail>
     Ok(stmts)
 }
 
-/// A live user of a name.
-fn live(alloc: Global, name: &str) -> Result<UserSlot, AllocError>
-    ensures { IfOk result (λ user. user ≡ Live name.now) }
-{
-    let name = Txt::try_new(alloc, name)?;
-    Ok(UserSlot::Live(name))
-}
-
 /// A base of one user, Alice.
 fn start(alloc: Global) -> Result<Base, Fail>
     ensures { IfOk result (λ b. b ≡ alone) }
@@ -99,10 +64,7 @@ fn joined(alloc: Global) -> Result<Base, Fail>
     let mut users = List::new(alloc);
     users.push(live(alloc, "Alice")?)?;
     users.push(live(alloc, "Bob")?)?;
-    let mut rels = List::new(alloc);
-    let def = relation(alloc)?;
-    rels.push(def)?;
-    let catalog = Catalog { rels, users };
+    let catalog = catalog(alloc, users)?;
     Ok(Base::from_parts(catalog, List::new(alloc)))
 }
 
@@ -110,7 +72,7 @@ fn joined(alloc: Global) -> Result<Base, Fail>
 fn relation_added(alloc: Global) -> Result<Change, AllocError>
     ensures { IfOk result (λ c. c ≡ of_relation) }
 {
-    let def = relation(alloc)?;
+    let def = sightings(alloc)?;
     let named = Named::RelationAdded { def };
     let (gone, come) = (List::new(alloc), List::new(alloc));
     Ok(Change { named, gone, come })

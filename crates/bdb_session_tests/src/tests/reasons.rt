@@ -1,39 +1,27 @@
 // The replies of worked certificates: all users believe an eagle, Alice a crow, and Bob no eagle.
-use crate::tests::stored::user;
-use bdb_base::{Catalog, ColDef, Kind, List, Path, RelDef, Sign, Stmt, Tuple, Txt, Value};
+use bdb_base::{Catalog, List, Sign, Tuple};
 use bdb_reasons::why_reply;
+use bdb_samples::{catalog, live, statement, tuple_of};
 use bdb_why::{Ground, Ruled, Why};
 use std::alloc::{AllocError, Global};
 use std::test::Fail;
 
 /// The relation S, with a key k and a value v, and the users Alice and Bob.
 fn curators(alloc: Global) -> Result<Catalog, AllocError> {
-    let k = Txt::try_new(alloc, "k")?;
-    let v = Txt::try_new(alloc, "v")?;
-    let kind = Kind::Text;
-    let cols = List::from_vec(vec![in alloc; ColDef { name: k, kind }, ColDef { name: v, kind }]?);
-    let name = Txt::try_new(alloc, "S")?;
-    let rels = List::from_vec(vec![in alloc; RelDef { name, cols, key: 1 }]?);
-    let alice = user(alloc, "Alice")?;
-    let bob = user(alloc, "Bob")?;
+    let alice = live(alloc, "Alice")?;
+    let bob = live(alloc, "Bob")?;
     let users = List::from_vec(vec![in alloc; alice, bob]?);
-    Ok(Catalog { rels, users })
+    catalog(alloc, users)
 }
 
 /// A tuple of S with the key s1.
 fn sighting(alloc: Global, species: &str) -> Result<Tuple, AllocError> {
-    let key = Value::Text(Txt::try_new(alloc, "s1")?);
-    let species = Value::Text(Txt::try_new(alloc, species)?);
-    let vals = List::from_vec(vec![in alloc; key, species]?);
-    Ok(Tuple { rel: 0, vals })
+    tuple_of(alloc, "s1", species)
 }
 
 /// Blocked at a level, by Bob's denial of the eagle.
 fn denied(alloc: Global, level: u32) -> Result<Ground, Fail> {
-    let path = Path::try_new(alloc, &[2])?;
-    let tuple = sighting(alloc, "eagle")?;
-    let sign = Sign::Minus;
-    let by = Stmt { path, sign, tuple };
+    let by = statement(alloc, &[2], Sign::Minus, "s1", "eagle")?;
     Ok(Ground::Blocked { level, by })
 }
 

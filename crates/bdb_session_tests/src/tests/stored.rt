@@ -1,18 +1,15 @@
 // A worked base written over other rows, and read whole. Alice is user 1, Bob is user 2, Carol is user 3.
-ghost use Rattle.std.specs.Prelude.{◌≡◌, true, IfOk, OnOk};
+ghost use Rattle.std.specs.Prelude.{◌≡◌, true, OnOk};
 ghost use Rattle.std.specs.List.{list_all};
 ghost use Rattle.bdb_base.specs.Alternation.{alternates};
 ghost use Rattle.bdb_base.specs.Bases.{is_user};
-ghost use Rattle.bdb_base.specs.declared.kinds.UserSlot.TheVariants.{Live};
-ghost use Rattle.bdb_canon.specs.Samples.{sightings, stated_at, reported, three_users};
+ghost use Rattle.bdb_canon.specs.Samples.{reported, three_users};
 ghost use Rattle.bdb_catalog.specs.Bases.{StoresValid};
 
-use bdb_base::{
-    Base, Catalog, ColDef, Kind, List, Path, RelDef, Sign, Stmt, Tuple, Txt, UserSlot, Value,
-    append_decimal,
-};
+use bdb_base::{Base, append_decimal};
 use bdb_canon::{Canon, Counts};
 use bdb_keep::{Keeper, QuietKeeper};
+use bdb_samples::{reported, text_of};
 use bdb_stored::{
     NamedWorld, canon_of, counts_of, place_of_number, user_numbers, worlds_in_order,
     write_all_tables,
@@ -21,105 +18,6 @@ use bdb_tables::TabError;
 use bdb_worlds::resolve;
 use std::alloc::{AllocError, Global};
 use std::test::Fail;
-
-/// The relation S, with a key k and a value v.
-pub(crate) fn relation(alloc: Global) -> Result<RelDef, AllocError>
-    ensures { IfOk result (λ def. def ≡ sightings) }
-{
-    let mut cols = List::new(alloc);
-    let name = Txt::try_new(alloc, "k")?;
-    let kind = Kind::Text;
-    cols.push(ColDef { name, kind })?;
-    let name = Txt::try_new(alloc, "v")?;
-    cols.push(ColDef { name, kind })?;
-    let name = Txt::try_new(alloc, "S")?;
-    let key = 1;
-    Ok(RelDef { name, cols, key })
-}
-
-/// A live user of this name.
-pub(crate) fn user(alloc: Global, name: &str) -> Result<UserSlot, AllocError>
-    ensures { IfOk result (λ user. user ≡ Live name.now) }
-{
-    let name = Txt::try_new(alloc, name)?;
-    Ok(UserSlot::Live(name))
-}
-
-/// The relation S, and the three users.
-fn catalog(alloc: Global) -> Result<Catalog, AllocError>
-    ensures { IfOk result (λ c. c ≡ reported.catalog) }
-{
-    let mut users = List::new(alloc);
-    users.push(user(alloc, "Alice")?)?;
-    users.push(user(alloc, "Bob")?)?;
-    users.push(user(alloc, "Carol")?)?;
-    let mut rels = List::new(alloc);
-    let def = relation(alloc)?;
-    rels.push(def)?;
-    Ok(Catalog { rels, users })
-}
-
-/// What the path of these users states of a tuple of S.
-pub(crate) fn statement(
-    alloc: Global,
-    users: &[u32],
-    sign: Sign,
-    key: &str,
-    value: &str,
-) -> Result<Stmt, Fail>
-    ensures { IfOk result (λ s. s ≡ stated_at users.now sign key.now value.now) }
-{
-    let path = Path::try_new(alloc, users)?;
-    let mut vals = List::new(alloc);
-    let key = Txt::try_new(alloc, key)?;
-    vals.push(Value::Text(key))?;
-    let value = Txt::try_new(alloc, value)?;
-    vals.push(Value::Text(value))?;
-    let tuple = Tuple { rel: 0, vals };
-    Ok(Stmt { path, sign, tuple })
-}
-
-/// What Alice sees, and what Carol believes that Alice sees.
-fn reported(alloc: Global) -> Result<Base, Fail>
-    ensures { IfOk result (λ base. base.catalog ≡ reported.catalog) }
-{
-    let mut stmts = List::new(alloc);
-    stmts.push(statement(alloc, &[1], Sign::Plus, "s2", "crow")?)?;
-    stmts.push(statement(alloc, &[3, 1], Sign::Plus, "s1", "eagle")?)?;
-    let catalog = catalog(alloc)?;
-    Ok(Base::from_parts(catalog, stmts))
-}
-
-/// The worlds as `path>link`, the edges as `from.user>to`, and the rows as world, sign, tuple, and e where explicit.
-fn text_of(alloc: Global, k: &Canon) -> Result<Vec<u8>, AllocError> {
-    let mut out = Vec::new(alloc);
-    for world in k.worlds.as_slice() {
-        for uid in world.path.as_slice() {
-            append_decimal(&mut out, u64::from(*uid))?;
-        }
-        out.push(b'>')?;
-        if let Some(at) = world.suffix {
-            append_decimal(&mut out, u64::from(at))?;
-        }
-        out.push(b' ')?;
-    }
-    for edge in k.edges.as_slice() {
-        append_decimal(&mut out, u64::from(edge.from))?;
-        out.push(b'.')?;
-        append_decimal(&mut out, u64::from(edge.uid))?;
-        out.push(b'>')?;
-        append_decimal(&mut out, u64::from(edge.to))?;
-        out.push(b' ')?;
-    }
-    for row in k.rows.as_slice() {
-        append_decimal(&mut out, u64::from(row.world))?;
-        out.push(if row.sign == Sign::Plus { b'+' } else { b'-' })?;
-        append_decimal(&mut out, u64::from(row.tuple))?;
-        out.push(if row.explicit { b'e' } else { b'i' })?;
-        out.push(b' ')?;
-    }
-    Ok(out)
-}
 
 /// The base is written, and then its structure and its sizes are read.
 fn written<K: Keeper>(

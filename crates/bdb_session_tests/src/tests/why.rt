@@ -1,23 +1,13 @@
 // Certificates over three statements: all users believe an eagle, user 1, Alice, a crow, and user 2, Bob, no eagle.
-ghost use Rattle.std.specs.Prelude.{◌≡◌, true, [], ◌∷◌, IfOk};
+ghost use Rattle.std.specs.Prelude.{◌≡◌, true};
 ghost use Rattle.bdb_base.specs.Order.{statement_cmp};
 ghost use Rattle.bdb_base.specs.SortedSet.{ascending};
-ghost use Rattle.bdb_canon.specs.Samples.{sightings};
 
-use crate::tests::stored::{relation, statement, user};
-use bdb_base::{Base, Catalog, List, Path, Sign, Stmt, Tuple, Txt, UserSlot, Value, put};
+use bdb_base::{Base, List, Sign, Stmt, Tuple, Value};
+use bdb_samples::{BOB_DENIES, CROW, EAGLE, disputed, stmts_of, tuple_of};
 use bdb_why::{Ground, Ruled, Why, check_why, check_why_among, says, why_among};
 use std::alloc::{AllocError, Global};
 use std::test::Fail;
-
-/// A statement of a test: its path, its sign, and the two columns of its tuple.
-type Given<'a> = (&'a [u32], Sign, &'a str, &'a str);
-
-const EAGLE: Given = (&[], Sign::Plus, "s1", "eagle");
-
-const BOB_DENIES: Given = (&[2], Sign::Minus, "s1", "eagle");
-
-const CROW: Given = (&[1], Sign::Plus, "s1", "crow");
 
 /// A case: a path, a sign and a bird of which is asked; whether it is believed, and the text of the certificate.
 type Case<'a> = (&'a [u32], Sign, &'a str, bool, &'a str);
@@ -206,53 +196,4 @@ fn push_level(text: &mut String, level: u32) -> Result<(), AllocError> {
         _ => "deep ",
     })?;
     Ok(())
-}
-
-/// The relation S, and these users.
-fn catalog(alloc: Global, users: List<UserSlot>) -> Result<Catalog, AllocError>
-    ensures { IfOk result (λ c. c ≡ record { rels = sightings ∷ []; users = users }) }
-{
-    let mut rels = List::new(alloc);
-    let def = relation(alloc)?;
-    rels.push(def)?;
-    Ok(Catalog { rels, users })
-}
-
-/// The base in which these three statements stand.
-fn disputed(alloc: Global) -> Result<Base, Fail> {
-    let mut users = List::new(alloc);
-    users.push(user(alloc, "Alice")?)?;
-    users.push(user(alloc, "Bob")?)?;
-    let mut stmts = List::new(alloc);
-    stmts.push(statement(alloc, &[], Sign::Plus, "s1", "eagle")?)?;
-    stmts.push(statement(alloc, &[1], Sign::Plus, "s1", "crow")?)?;
-    stmts.push(statement(alloc, &[2], Sign::Minus, "s1", "eagle")?)?;
-    let catalog = catalog(alloc, users)?;
-    Ok(Base::from_parts(catalog, stmts))
-}
-
-fn stmts_of(alloc: Global, given: &[Given]) -> Result<List<Stmt>, Fail>
-    ensures { IfOk result (λ stmts. ascending statement_cmp stmts ≡ true) }
-{
-    let mut stmts = List::new(alloc);
-    for (path, sign, k, v) in given {
-        let stmt = stmt_of(alloc, *path, *sign, *k, *v)?;
-        let _added = put(&mut stmts, stmt)?;
-    }
-    Ok(stmts)
-}
-
-fn stmt_of(alloc: Global, path: &[u32], sign: Sign, k: &str, v: &str) -> Result<Stmt, Fail> {
-    Ok(Stmt {
-        path: Path::try_new(alloc, path)?,
-        sign,
-        tuple: tuple_of(alloc, k, v)?,
-    })
-}
-
-fn tuple_of(alloc: Global, k: &str, v: &str) -> Result<Tuple, AllocError> {
-    let mut vals = List::new(alloc);
-    vals.push(Value::Text(Txt::try_new(alloc, k)?))?;
-    vals.push(Value::Text(Txt::try_new(alloc, v)?))?;
-    Ok(Tuple { rel: 0, vals })
 }

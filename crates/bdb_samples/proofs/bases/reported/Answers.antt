@@ -1,6 +1,6 @@
 use Rattle.std.proofs.Common.{rules}
 use Rattle.bdb_canon.proofs.Samples.{reported_is_valid}
-use Rattle.bdb_base_tests.proofs.tests.canon.reported.Goals as goal
+use Rattle.bdb_samples.proofs.bases.reported.Goals as goal
 
 pub from_parts-requires : goal.from_parts-requires
 from_parts-requires c = reported_is_valid c.in_ok-catalog.catalog _ (search rules) (search rules)

@@ -1,6 +1,0 @@
-use Rattle.std.proofs.Common.{rules}
-use Rattle.bdb_canon.proofs.Samples.{reported_is_valid}
-use Rattle.bdb_session_tests.proofs.tests.stored.reported.Goals as goal
-
-pub from_parts-requires : goal.from_parts-requires
-from_parts-requires c = reported_is_valid c.in_ok-catalog.catalog _ (search rules) (search rules)
