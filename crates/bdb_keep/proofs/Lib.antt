@@ -7,7 +7,7 @@ pub mod HeadsLemmas
 pub mod ManyLemmas
 pub mod MarkedLemmas
 pub mod NumberLemmas
-pub mod Words
+pub mod WordLemmas
 pub mod OpeningLemmas
 pub mod PlaceLemmas
 pub mod RowsLemmas

@@ -1,8 +1,9 @@
 -- The definitions, computed on short scripts.
-use Rattle.std.proofs.Common.{◌≡◌, ℕ, true, List, [], ◌∷◌, ◌++◌, refl, Some, None}
+use Rattle.std.proofs.Common.{◌≡◌, ℕ, true, false, List, [], ◌∷◌, ◌++◌, refl, Some, None}
 use Rattle.std.specs.Prelude.{codes}
 use Rattle.std.specs.Str.{is_utf8, chars}
 use Rattle.std.proofs.Math.Utf8.{encode}
+use Rattle.bdb_lex.specs.declared.token.Piece.TheVariants.{Cmd}
 use Rattle.bdb_lex.specs.declared.token.Token.TheVariants.{Word, Text, Num, Comma, Dot, ParenL, ParenR, Ne, Le}
 use Rattle.bdb_lex.specs.Cut.{pieces_of, has_rest}
 use Rattle.bdb_lex.specs.Tokens.{tokens_of}

@@ -4,7 +4,8 @@ use Rattle.std.specs.Option.{option_map}
 use Rattle.bdb_base.specs.Same.{same_text}
 use Rattle.bdb_base.specs.SameLemmas.{same_text-Decides}
 use Rattle.bdb_top.specs.declared.words.Job.{Job}
-use Rattle.bdb_top.specs.Words.{Files, check_job, files, files_by, files_of, files_with, many_job, run_job}
+use Rattle.bdb_top.specs.declared.words.Job.TheVariants.{Check}
+use Rattle.bdb_top.specs.Words.{Files, check_job, files, files_by, files_of, files_with, is_value, many_job, run_job}
 
 other_word : (a b word : List ℕ) → same_text a b ≡ false → same_text word a ≡ true → same_text word b ≡ false
 other_word a b word apart h = ap (λ w. same_text w b) ((same_text-Decides word a).0 h) ∙ apart

@@ -1,4 +1,4 @@
-use Rattle.bdb_keep.proofs.Words.{words_apart}
+use Rattle.bdb_keep.proofs.WordLemmas.{words_apart}
 use Rattle.bdb_keep.proofs.bytes.+compare_words.Goals as goal
 
 pub returns-else-x-y : goal.returns-else-x-y
