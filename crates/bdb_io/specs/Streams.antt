@@ -1,6 +1,5 @@
 -- What the sources and sinks in memory show, and their exact rules.
-use Rattle.std.specs.Prelude.{ℕ, ◌+◌, ◌-◌, ◌^◌, min, Bool, ◌&&◌, not, nat_eq, nat_le, List, ◌++◌, length, take, drop}
-use Rattle.std.specs.List.{list_any}
+use Rattle.std.specs.Prelude.{ℕ, ◌+◌, ◌-◌, ◌^◌, min, Bool, ◌&&◌, not, nat_le, List, ◌++◌, length, take, drop}
 use Rattle.bdb_base.specs.Causes.{number_of_next, is_listed}
 
 -- bytes that are read from the front: those left, and how many were given

@@ -1,6 +1,5 @@
 -- What a keeper that fails where it is told to tells of itself.
-use Rattle.std.specs.Prelude.{◌≡◌, ℕ, ◌+◌, ◌-◌, ◌^◌, min, Bool, true, false, nat_eq, List, Result, Ok, Err, refl}
-use Rattle.std.specs.List.{list_any}
+use Rattle.std.specs.Prelude.{◌≡◌, ℕ, Bool, true, false, List, Result, Ok, Err, refl}
 use Rattle.std.specs.Coded.{Coded, code_by, coded×, coded_ℕ, coded_list}
 use Rattle.bdb_base.specs.Causes.{number_of_next, is_listed}
 use Rattle.bdb_keep.specs.Seen.{Seen, coded_seen}

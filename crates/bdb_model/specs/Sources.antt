@@ -3,7 +3,6 @@
 use Rattle.std.specs.Prelude.{◌≡◌, Bool, true, not, ◌&&◌, List, [], ◌∷◌, Option, None, Some, cond, filter, find}
 use Rattle.std.specs.List.{list_all, slice_get, flat_map}
 use Rattle.std.specs.Option.{option_map, is_some}
-use Rattle.bdb_base.specs.declared.kinds.Cmp.TheVariants.{Eq}
 use Rattle.bdb_base.specs.declared.kinds.Cond.{Cond}
 use Rattle.bdb_base.specs.declared.kinds.Item.{Item}
 use Rattle.bdb_base.specs.declared.kinds.Operand.{Operand}

@@ -1,10 +1,6 @@
 -- When the steps of a plan hold of what is chosen for all items at once.
 use Rattle.std.specs.Prelude.{◌≡◌, ℕ, Bool, true, false, not, nat_eq, List, [], ◌∷◌, Option, Some, None, cond, length}
 use Rattle.std.specs.Option.{option_and_then, is_some}
-use Rattle.bdb_base.specs.declared.kinds.Cmp.TheVariants.{Eq}
-use Rattle.bdb_base.specs.declared.kinds.Cond.{Cond}
-use Rattle.bdb_base.specs.declared.kinds.Operand.{Operand}
-use Rattle.bdb_base.specs.declared.kinds.Ref.{Ref}
 use Rattle.bdb_base.specs.declared.kinds.Value.{Value}
 use Rattle.bdb_base.specs.declared.tuple.Tuple.{Tuple}
 use Rattle.bdb_base.specs.Safety.{equality}

@@ -1,8 +1,6 @@
 -- What the steps of a plan name, and which steps set it.
 use Rattle.std.specs.Prelude.{◌≡◌, ℕ, Bool, true, false, ◌&&◌, nat_eq, nat_lt, List, [], ◌∷◌, ◌++◌}
 use Rattle.std.specs.List.{list_any, list_all}
-use Rattle.bdb_base.specs.declared.kinds.Operand.{Operand}
-use Rattle.bdb_base.specs.declared.kinds.Operand.TheVariants.{Col, Lit}
 use Rattle.bdb_base.specs.declared.kinds.Ref.{Ref}
 use Rattle.bdb_base.specs.declared.kinds.Who.{Who}
 use Rattle.bdb_base.specs.declared.kinds.Who.TheVariants.{User, Of}

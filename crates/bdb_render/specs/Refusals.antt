@@ -1,5 +1,5 @@
 -- The replies to refused commands.
-use Rattle.std.specs.Prelude.{ℕ, codes, List, ◌++◌, Option, None, Some}
+use Rattle.std.specs.Prelude.{ℕ, codes, List, ◌++◌}
 use Rattle.bdb_base.specs.declared.kinds.Catalog.{Catalog}
 use Rattle.bdb_base.specs.declared.kinds.What.{What}
 use Rattle.bdb_base.specs.declared.kinds.What.TheVariants as what

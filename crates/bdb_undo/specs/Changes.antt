@@ -1,8 +1,8 @@
 -- Changes of a base: what each does, and from which base to which one it leads.
-use Rattle.std.specs.Prelude.{◌≡◌, ◌-◌, Bool, true, false, not, ◌||◌, nat_lt, List, [], ◌∷◌, length, take, filter, Some}
+use Rattle.std.specs.Prelude.{◌≡◌, ◌-◌, Bool, true, false, not, ◌||◌, nat_lt, List, length, take, filter, Some}
 use Rattle.bdb_base.specs.declared.kinds.Catalog.{Catalog}
 use Rattle.bdb_base.specs.declared.kinds.Stmt.{Stmt}
-use Rattle.bdb_base.specs.Bases.{Contents, IsValid, stands, with_relation, with_user, with_user_back, without_statement, without_user}
+use Rattle.bdb_base.specs.Bases.{Contents, IsValid, stands, with_relation, with_user, with_user_back, without_user}
 use Rattle.bdb_base.specs.Changes.{with_statements, without_statements}
 use Rattle.bdb_base.specs.Queries.{user_name}
 use Rattle.bdb_undo.specs.declared.change.Change.{Change}
