@@ -22,7 +22,7 @@ fn number_of(bytes: &[u8]) -> (u64, &[u8])
 }
 
 /// How two strings of bytes compare, eight bytes at a time as long as both have so many.
-#[tactic(auto, using(crate::proofs::Numbers::words))]
+#[tactic(auto, using(crate::proofs::WordLemmas::words))]
 pub fn compare_words(a: &[u8], b: &[u8]) -> Ordering
     ensures { result ≡ bytes_cmp a.now b.now }
 {
