@@ -21,15 +21,16 @@ EachBase t P = (b : Contents) → StandFor t b → P b
 abbrev pub StandsForNone : Tables → Type 0
 StandsForNone t = (b : Contents) → StandFor t b → ⊥
 
--- as many commits between two states of a keeper are of events that count, unless the count stands at the end of its type
+-- there were so many commits between two states of a keeper, but for that of opening, unless the count stands at the end of its type
 abbrev pub CommitsFor : ℕ → Seen → Seen → Type 0
 CommitsFor k first now = now.commits < 2 ^ 64 - 1 → k ≡ commits_between first now
 
 -- A run over a text has ended with a status: it began at a point, and a handler carried out what the text asks for. The first of that
 -- is done, with 0 and 1 all of it. The tables store the base after it, a valid one; only where the keeper was not opened,
 -- with 5 or 6, they may still be as they were, with no row or of the format before this one. There was one commit for each time
--- that it commits, and the one of opening. The replies are written, but where the sink failed perhaps a part of the last alone.
--- What is done keeps up with the bytes that were taken of the text.
+-- that what is done commits, and the one of opening. The replies are written, but where the sink failed perhaps a part of the last
+-- alone. What is done keeps up with the bytes that were taken of the text. 0 tells that all of it is fine, and 1 that some isn't;
+-- `base_at` tells the base of a point.
 pub record RanBy {H : Type 0} (m : Handling H) (base_at : m.Point → Contents) (p : m.Point) (text : List ℕ) (left : Option (List ℕ))
     (first now : Seen) (old new : Option (List ℕ)) (status : ℕ) : Type 0 where
   pub done : List m.Asked
