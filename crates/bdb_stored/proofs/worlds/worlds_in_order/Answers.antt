@@ -22,6 +22,6 @@ returns-in-Ok-grow-clause-reads g c =
     let t = (g.K.Keeper.seen c.args.keeper.now).kept in
     let n : c.len.result ≡ length c.in-Ok.depths.items = search rules in
     let told = subst (λ u. TellsStates u c.in-Ok-grow.worlds.items) c.in-Ok.ensures.read.kept c.in-Ok-grow.ensures.worlds in
-    let many : length c.in-Ok-grow.worlds.items ≡ c.len.result = states_as_many t c.in-Ok-grow.worlds.items c.requires.base told ∙ sym (states_counted t c.in-Ok.depths.items c.in-Ok.ensures.rows c.requires.base.base c.requires.base.is) ∙ sym n in
+    let many : length c.in-Ok-grow.worlds.items ≡ c.len.result = states_as_many t c.in-Ok-grow.worlds.items c.requires.base told ∙ sym (states_counted t c.in-Ok.depths.items c.in-Ok.ensures.rows c.requires.base.base c.requires.base.stores) ∙ sym n in
     let all = ap (λ k. k * (2 * length c.args.users.now)) many in
     depths_and_turns _ _ _ (length c.in-Ok.depths.items) c.len.result (length c.in-Ok-grow.worlds.items) _ _ c.in-Ok.ensures.reads c.in-Ok-grow.ensures.reads n many all
