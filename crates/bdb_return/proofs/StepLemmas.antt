@@ -1,7 +1,7 @@
 -- Statements go, then a name goes or comes, then statements come.
-use Rattle.std.proofs.Common.{◌≡◌, ◌∙◌, Bool, not, List, [], ◌∷◌, refl, sym, ap, subst}
+use Rattle.std.proofs.Common.{◌≡◌, ◌∙◌, Bool, not, List, refl, sym, ap, subst}
 use Rattle.std.specs.List.{list_all}
-use Rattle.bdb_base.specs.Bases.{Contents, IsValid, belongs, stands, without_statement}
+use Rattle.bdb_base.specs.Bases.{Contents, IsValid, belongs, stands}
 use Rattle.bdb_base.specs.Changes.{with_statements, without_statements}
 use Rattle.bdb_base.specs.declared.kinds.Catalog.{Catalog}
 use Rattle.bdb_base.specs.declared.kinds.Stmt.{Stmt}
@@ -11,7 +11,6 @@ use Rattle.bdb_canon.specs.declared.sizes.Counts.{Counts}
 use Rattle.bdb_keep.specs.Seen.{Seen}
 use Rattle.bdb_keep.specs.Tables.{Tables}
 use Rattle.bdb_tables.specs.Stored.{Stores}
-use Rattle.bdb_undo.specs.Changes as undo
 use Rattle.bdb_undo.specs.Changes.{missing_from}
 use Rattle.bdb_undo.specs.declared.change.Change.{Change}
 use Rattle.bdb_undo.specs.declared.change.Named.{Named}
@@ -28,11 +27,6 @@ use Rattle.bdb_return.specs.Returning.{BackThrough, ForthThrough, GoesBack, Goes
 
 abbrev base_of : Catalog → List Stmt → Contents
 base_of k stmts = record { catalog = k; stmts = stmts }
-
--- statements go in the same way, by either definition
-same_without : (stmts xs : List Stmt) → without_statements stmts xs ≡ undo.without_statements stmts xs
-same_without stmts [] = refl
-same_without stmts (x ∷ xs) = same_without (without_statement stmts x) xs
 
 -- ---- from one list of statements to another
 
@@ -51,8 +45,8 @@ module _ (from to : Contents) (out inn : List Stmt) (v : IsValid from.catalog fr
       }
 
   -- the statements that are left
-  left_is : left ≡ undo.without_statements from.stmts (missing_from to.stmts from.stmts)
-  left_is = same_without from.stmts out ∙ ap (undo.without_statements from.stmts) goes
+  left_is : left ≡ without_statements from.stmts (missing_from to.stmts from.stmts)
+  left_is = ap (without_statements from.stmts) goes
 
   -- the base in the middle is valid under the names afterwards
   pub valid_after : IsValid to.catalog left
@@ -61,7 +55,7 @@ module _ (from to : Contents) (out inn : List Stmt) (v : IsValid from.catalog fr
   -- and those that come make all of the next
   pub all_are_there : with_statements left inn ≡ to.stmts
   all_are_there =
-      ap (λ xs. with_statements xs inn) left_is ∙ ap (with_statements (undo.without_statements from.stmts (missing_from to.stmts from.stmts))) comes
+      ap (λ xs. with_statements xs inn) left_is ∙ ap (with_statements (without_statements from.stmts (missing_from to.stmts from.stmts))) comes
       ∙ exchanged from.stmts to.stmts v.stmts.sorted w.stmts.sorted
 
   pub may_come : (t : Tables) (counts : Counts) → Stores t (base_of to.catalog left) → counts ≡ counts_of (base_of to.catalog left) → MayCome t counts inn (base_of to.catalog left)
