@@ -2,6 +2,7 @@
 use Rattle.std.proofs.Common.{◌≡◌, ◌∙◌, ℕ, suc, zero, ◌+◌, ◌-◌, ◌<◌, ◌≤◌, Bool, true, false, ◌&&◌, nat_eq, List, [], ◌∷◌, ◌++◌, append_assoc, length, take, drop, Option, Some, None, refl, ap, sym, subst, arith}
 use Rattle.std.specs.List.{list_all, slice_get}
 use Rattle.std.proofs.lemmas.Bool.{and_parts, and_from, cond-true, cond-false, eqb-true, eq-eqb, false≢true}
+use Rattle.std.proofs.lemmas.List.{take-take, take-append-drop, length-take-le}
 use Rattle.bdb_base.specs.Clash.{key_of}
 use Rattle.bdb_base.specs.Conditions.{meets, meets_one, value_at, operand_at, compare_so}
 use Rattle.bdb_base.specs.Order.{value_cmp}
@@ -113,28 +114,10 @@ few_from conds (suc n) col = by (value_asked conds col) (few_from conds n (suc c
 
 -- ---- first values
 
-take_long : (n : ℕ) (vs : List Value) → n ≤ length vs → length (take n vs) ≡ n
-take_long zero vs l = refl
-take_long (suc n) [] l = absurd (omega arith)
-take_long (suc n) (v ∷ vs) l = ap suc (take_long n vs (omega arith))
-
 take_plain : (n : ℕ) (vs : List Value) → ArePlain vs → ArePlain (take n vs)
 take_plain zero vs a = tt
 take_plain (suc n) [] a = tt
 take_plain (suc n) (v ∷ vs) a = (a.0, take_plain n vs a.1)
-
--- the first of some first values are the first of all
-take_take : (m n : ℕ) (vs : List Value) → m ≤ n → take m (take n vs) ≡ take m vs
-take_take zero n vs le = refl
-take_take (suc m) zero vs le = absurd (omega arith)
-take_take (suc m) (suc n) [] le = refl
-take_take (suc m) (suc n) (v ∷ vs) le = ap (λ (xs : List Value). v ∷ xs) (take_take m n vs (omega arith))
-
--- some first values, and the others
-take_and_drop : (n : ℕ) (vs : List Value) → take n vs ++ drop n vs ≡ vs
-take_and_drop zero vs = refl
-take_and_drop (suc n) [] = refl
-take_and_drop (suc n) (v ∷ vs) = ap (λ (xs : List Value). v ∷ xs) (take_and_drop n vs)
 
 -- ---- tuples that are asked for
 
@@ -156,8 +139,8 @@ meets_asked keys conds rel u whole r m =
     let long : keys rel ≤ length u.vals = subst (λ (k : ℕ). keys k ≤ length u.vals) is whole in
     and_from (nat_eq u.rel rel) (starts_with (keys rel) vs (key_of keys u)) r
     (ap (λ (k : ℕ). starts_with (keys rel) vs (take (keys k) u.vals)) is
-    ∙ has_started (keys rel) vs (take (keys rel) u.vals) (take_long (keys rel) u.vals long)
-    (take_take (length vs) (keys rel) u.vals (few_from conds (keys rel) 0) ∙ values_met conds u m (keys rel) 0))
+    ∙ has_started (keys rel) vs (take (keys rel) u.vals) (length-take-le (keys rel) u.vals long)
+    (take-take (length vs) (keys rel) u.vals (few_from conds (keys rel) 0) ∙ values_met conds u m (keys rel) 0))
 
 pub asked_rel : (keys : ℕ → ℕ) (rel : ℕ) (vs : List Value) (u : Tuple) → is_asked keys rel vs u ≡ true → nat_eq u.rel rel ≡ true
 asked_rel keys rel vs u e = (and_parts (nat_eq u.rel rel) (starts_with (keys rel) vs (key_of keys u)) e).0
@@ -194,7 +177,7 @@ module _ (wid rel n : ℕ) (vs : List Value) where
   front_begins : (key : List Value) (tid : ℕ) → starts_with n vs key ≡ true → is_prefix (beginning n wid rel vs) (val_bytes (wid, rel, key, tid)) ≡ true
   front_begins key tid e =
       let p = started n vs key e in
-      let split : key ≡ vs ++ drop (length vs) key = sym (take_and_drop (length vs) key) ∙ ap (λ (xs : List Value). xs ++ drop (length vs) key) p.1 in
+      let split : key ≡ vs ++ drop (length vs) key = sym (take-append-drop (length vs) key) ∙ ap (λ (xs : List Value). xs ++ drop (length vs) key) p.1 in
       ap (λ (xs : List Value). is_prefix (beginning n wid rel vs) (val_bytes (wid, rel, xs, tid))) split ∙ begins_with (drop (length vs) key) tid (sym (ap length split) ∙ p.0)
 
   -- and the other way round

@@ -2,7 +2,7 @@
 use Rattle.std.proofs.Common.{◌≡◌, ◌∙◌, ◌<◌, ℕ, suc, arith, length, get_or, Bool, true, false, not, ◌&&◌, ◌||◌, nat_eq, List, [], ◌∷◌, filter, Option, Some, None, cond, inl, inr, is_some, refl, ap, sym, subst}
 use Prim.Native.Nat.{zero}
 use Rattle.std.specs.List.{list_any, list_all, AllByRecursion}
-use Rattle.std.proofs.lemmas.Bool.{false≢true, cases_Bool, and_parts, and_from, or_cases, or_left, or_right, cond-true, cond-false, eqb-true, eq-eqb}
+use Rattle.std.proofs.lemmas.Bool.{false≢true, cases_Bool, and_parts, and_from, or_cases, or_left, or_right, cond-true, cond-false, eqb-true, eq-eqb, not-true}
 use Rattle.bdb_base.specs.declared.kinds.Sign.{Sign}
 use Rattle.bdb_base.specs.declared.tuple.Tuple.{Tuple}
 use Rattle.bdb_base.specs.Clash.{clash}
@@ -111,10 +111,6 @@ split_found xs tid e =
 
 -- ---- marks
 
-not_true : (b : Bool) → not b ≡ true → b ≡ false
-not_true true e = absurd (false≢true e)
-not_true false e = refl
-
 signed : (s : Sign) (q : Option Mark) → has_sign s q ≡ true → sign_of q ≡ Some s
 signed s None e = absurd (false≢true e)
 signed s (Some m) e = ap Some ((same_sign-Decides m.0 s).0 e)
@@ -213,7 +209,7 @@ module _ (keys : ℕ → ℕ) (tuple : ℕ → Option Tuple) (own from : List St
             (x.1.1 (ap (λ (k : Mark). not k.1) x.3 ∙ ap not c)) in
             inherited_settled m (barred_by keys own u) q c
             (ap (λ t. barred_by keys own t m.0) (sym same) ∙ ap (λ (k : Mark). barred_by keys own x.0.tuple k.0) (sym x.3)
-            ∙ sym (barred_stated keys own x.0.tuple x.0.mark.0) ∙ not_true (barred_by keys stated x.0.tuple x.0.mark.0) fit.0)
+            ∙ sym (barred_stated keys own x.0.tuple x.0.mark.0) ∙ not-true (barred_by keys stated x.0.tuple x.0.mark.0) fit.0)
             (ap (has_sign m.0) (sym f) ∙ ap (λ i. has_sign m.0 (mark_in from i)) (sym x.2) ∙ ap (λ (k : Mark). has_sign k.0 (mark_in from x.0.tid)) (sym x.3) ∙ fit.1)
       ]
 
@@ -227,7 +223,7 @@ module _ (keys : ℕ → ℕ) (tuple : ℕ → Option Tuple) (own from : List St
     where
       fit : (x : Stored) → tuple x.tid ≡ Some x.tuple → mark_in own x.tid ≡ Some x.mark → is_inherited x ≡ true → is_fitting keys stated from x ≡ true
       fit x n k i =
-          let told = settled_inherited x.mark (barred_by keys own x.tuple) (mark_in from x.tid) (not_true x.mark.1 i)
+          let told = settled_inherited x.mark (barred_by keys own x.tuple) (mark_in from x.tid) (not-true x.mark.1 i)
           (sym k ∙ h x.tid x.tuple n ∙ ap (λ o. next x.tuple o (mark_in from x.tid)) k) in
           and_from (not (barred_by keys stated x.tuple x.mark.0)) (has_sign x.mark.0 (mark_in from x.tid)) (ap not (barred_stated keys own x.tuple x.mark.0 ∙ told.0)) told.1
 

@@ -4,7 +4,7 @@ use Rattle.std.specs.List.{list_any, list_all, AllByRecursion}
 use Rattle.std.specs.Ordering.{is_eq}
 use Rattle.std.proofs.lemmas.Bool.{and_parts, and_from, cond-true, cond-false, false≢true, false_from_ne_true, eqb-true, eq-eqb}
 use Rattle.std.proofs.lemmas.Bool.Decides.{nat_tests}
-use Rattle.std.proofs.lemmas.List.{append_assoc}
+use Rattle.std.proofs.lemmas.List.{append_assoc, take-take, take-append-drop, length-take-le}
 use Rattle.bdb_base.specs.Clash.{clash, same_key, key_of}
 use Rattle.bdb_base.specs.Conditions.{compare_so}
 use Rattle.bdb_base.specs.Order.{value_cmp}
@@ -38,7 +38,7 @@ use Rattle.bdb_exec.specs.Keys.{begins_so, of_key, rows_of_key}
 use Rattle.bdb_exec.specs.Readable.{CanBeRun}
 use Rattle.bdb_exec.specs.Rows.{IsNumberOf, signed_of, mark_denies, row_denies, world_prefix, key_prefix}
 use Rattle.bdb_exec.specs.Seen.{rows_at, signed_in, signed_under, sight_of}
-use Rattle.bdb_exec.proofs.LengthLemmas.{keys_sized, take_and_drop, take_long, take_plain, take_short, take_take, take_whole}
+use Rattle.bdb_exec.proofs.LengthLemmas.{keys_sized, take_plain, take_short, take_whole}
 use Rattle.bdb_exec.proofs.LookingLemmas.{all_written}
 use Rattle.bdb_exec.proofs.TypedLemmas.{raw}
 use Rattle.bdb_exec.proofs.WorldLemmas.{AreTyped, StandsForTuple, typed_under, typed_rows, shown, signed_is, has_row, tuple_named, all_told, all_both}
@@ -215,12 +215,12 @@ module _ (t : Tables) (h : CanBeRun t) (w rel : ℕ) (nw : IsNum w) (nr : IsNum 
 
   -- a row's key begins as its tuple does
   first_at : (e : ValKey × Mark) (k : IsHere e) (m : ℕ) → m ≤ (sight_of t).keys k.u.rel → take m e.0.2 ≡ take m k.u.vals
-  first_at e k m le = ap (take m) (sym k.vals) ∙ take_take m ((sight_of t).keys k.u.rel) k.u.vals le
+  first_at e k m le = ap (take m) (sym k.vals) ∙ take-take m ((sight_of t).keys k.u.rel) k.u.vals le
 
   -- it has as many values as the relation's keys
   many_at : (e : ValKey × Mark) (k : IsHere e) → length e.0.2 ≡ (sight_of t).keys rel
   many_at e k =
-      ap length (sym k.vals) ∙ take_long ((sight_of t).keys k.u.rel) k.u.vals (h.whole e.0.3 k.u k.named) ∙ ap (λ (r : ℕ). (sight_of t).keys r) k.of_rel
+      ap length (sym k.vals) ∙ length-take-le ((sight_of t).keys k.u.rel) k.u.vals (h.whole e.0.3 k.u k.named) ∙ ap (λ (r : ℕ). (sight_of t).keys r) k.of_rel
 
   -- ---- rows whose keys go on with some bytes
 
@@ -262,7 +262,7 @@ module _ (t : Tables) (h : CanBeRun t) (w rel : ℕ) (nw : IsNum w) (nr : IsNum 
         (λ b.
         let front : take (length vs) e.0.2 ≡ vs = first_at e k (length vs) (few_of e k) ∙ begun vs k.u b in
         let rest = drop (length vs) e.0.2 in
-        let split : e.0.2 ≡ vs ++ rest = sym (take_and_drop (length vs) e.0.2) ∙ ap (λ (xs : List Value). xs ++ rest) front in
+        let split : e.0.2 ≡ vs ++ rest = sym (take-append-drop (length vs) e.0.2) ∙ ap (λ (xs : List Value). xs ++ rest) front in
         begins_with w rel ((sight_of t).keys rel) vs rest e.0 k.at_world k.at_rel split (ap length (sym split) ∙ many_at e k))
 
     value_shown : signed_under t (key_prefix ((sight_of t).keys rel) w rel vs) ≡ map (signed_of t) (filter of_value all)

@@ -5,7 +5,7 @@ use Rattle.std.specs.Option.{option_and_then, unwrap_or}
 use Rattle.std.specs.Ordering.{is_eq, ordering_reverse}
 use Rattle.std.specs.declared.cmp.Ordering.{Ordering}
 use Rattle.std.specs.declared.cmp.Ordering.TheVariants.{Less, Equal, Greater}
-use Rattle.std.proofs.lemmas.Bool.{and_parts, cond-true, cond-false, eqb-true, true≢false}
+use Rattle.std.proofs.lemmas.Bool.{and_parts, cond-true, cond-false, eqb-true, true≢false, not-true}
 use Rattle.std.proofs.lemmas.Bool.Decides.{nat_tests}
 use Rattle.std.proofs.lemmas.List.Sums.{sum_by-cons}
 use Rattle.bdb_base.specs.Conditions.{compare_so}
@@ -60,10 +60,6 @@ other_known slots item t (Lit v) e = refl
 
 none_not : {X : Type 0} (x : X) → None ≡ Some x → ⊥
 none_not x e = cc
-
-turned_off : (b : Bool) → not b ≡ true → b ≡ false
-turned_off true e = absurd (true≢false (sym e))
-turned_off false e = refl
 
 equality : (cmp : Cmp) → is_equality cmp ≡ true → cmp ≡ Eq
 equality Eq e = refl
@@ -126,7 +122,7 @@ module _ (slots : List (Option Tuple)) (item : ℕ) (t : Tuple) (lt : item < len
         let p = and_parts (is_equality c.cmp) (is_column (column item col) c.right && not (nat_eq c.left.item item)) asks in
         let q = and_parts (is_column (column item col) c.right) (not (nat_eq c.left.item item)) p.1 in
         ap (λ cmp. compare_so cmp (known set c.left) (known_operand set c.right)) (equality c.cmp p.0)
-        ∙ ap (λ o. compare_so Eq o (known_operand set c.right)) (ap (option_and_then (λ u. slice_get u.vals c.left.col)) (set_elsewhere slots item c.left.item t (turned_off (nat_eq c.left.item item) q.1)) ∙ k)
+        ∙ ap (λ o. compare_so Eq o (known_operand set c.right)) (ap (option_and_then (λ u. slice_get u.vals c.left.col)) (set_elsewhere slots item c.left.item t (not-true (nat_eq c.left.item item) q.1)) ∙ k)
         ∙ ap (compare_so Eq (Some v)) (right_known c.right q.0)
         ∙ other_way v (slice_get t.vals col)
 

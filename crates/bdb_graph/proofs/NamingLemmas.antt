@@ -4,7 +4,7 @@ use Rattle.std.specs.List.{AllByRecursion, list_all}
 use Rattle.std.specs.Option.{option_map, option_and_then}
 use Rattle.std.specs.Ordering.{is_eq, is_lt, nat_cmp}
 use Rattle.std.proofs.lemmas.Bool.{and_parts, and_from, or_parts, cond-true, cond-false, eqb-true, eq-eqb}
-use Rattle.std.proofs.lemmas.List.{map-append, take_more}
+use Rattle.std.proofs.lemmas.List.{map-append, take_more, append-nil}
 use Rattle.std.proofs.lemmas.List.Folds.{list_all-append}
 use Rattle.std.proofs.lemmas.Bool.Decides.{nat_tests}
 use Rattle.bdb_base.specs.Alternation.{alternates}
@@ -99,10 +99,6 @@ all_made : {X : Type 0} (P Q : X → Type 0) (xs : List X) → ((x : X) → P x 
 all_made P Q [] f h = tt
 all_made P Q (x ∷ xs) f h = (f x h.0, all_made P Q xs f h.1)
 
-pub append_none : (w : List ℕ) → w ++ [] ≡ w
-append_none [] = refl
-append_none (i ∷ w) = ap (λ (v : List ℕ). i ∷ v) (append_none w)
-
 pub paths_of_ups : (ups xs : List Up) (ws : List NamedWorld) → map named_as ws ≡ map (climbed_as ups) xs → (n : ℕ) → option_map (λ (w : List ℕ). Some w) (path_in ws n) ≡ option_map (λ (x : Up). climb ups x.depth x.wid []) (up_in xs n)
 paths_of_ups ups [] [] e n = refl
 paths_of_ups ups [] (y ∷ ws) e n = absurd cc
@@ -158,7 +154,7 @@ module _ (t : Tables) (users : ℕ → Bool) (ns : Names) (h : HoldsStates users
       climb_step ups d n back x u.1 ∙ climb_is d x.from v (x.uid ∷ back) (omega arith) front.1 ∙ ap Some (sym (append_assoc v (x.uid ∷ []) back)) ∙ ap (λ (y : List ℕ). Some (y ++ back)) (sym is)
 
   whole_climb : (n : ℕ) (w : List ℕ) (d : ℕ) → length w ≡ d → path_of ns n ≡ Some w → climb ups d n [] ≡ Some w
-  whole_climb n w d l e = climb_is d n w [] l e ∙ ap Some (append_none w)
+  whole_climb n w d l e = climb_is d n w [] l e ∙ ap Some (append-nil w)
 
   pub all_climbed : AllByRecursion (IsClimbed ups) ups
   all_climbed =

@@ -7,6 +7,7 @@ use Rattle.std.specs.Ordering.{is_lt, nat_cmp}
 use Rattle.std.specs.FinMap as tables
 use Rattle.std.proofs.lemmas.Bool.{and_parts, and_from, or_cases, or_parts, or_from, or_left, or_right, leb-true, le-leb, not-true, cond-true, cond-false, eqb-true, eq-eqb, cases_Bool, false≢true}
 use Rattle.std.proofs.lemmas.Bool.Decides.{nat_tests}
+use Rattle.std.proofs.lemmas.List.{append-nil}
 use Rattle.bdb_base.specs.Alternation.{alternates}
 use Rattle.bdb_base.specs.Same.{same_path}
 use Rattle.bdb_base.specs.SameLemmas.{same_path-Decides}
@@ -33,7 +34,7 @@ use Rattle.bdb_graph.specs.Ups.{AreUps, HasDepth, HasStart, HoldNoStates, Starts
 use Rattle.bdb_graph.specs.declared.naming.NamedWorld.{NamedWorld}
 use Rattle.bdb_graph.specs.declared.ups.Up.{Up}
 use Rattle.bdb_graph.proofs.LeadingLemmas.{all_are_led}
-use Rattle.bdb_graph.proofs.NamingLemmas.{all_mapped, append_none, items_of_ups, names_known, no_names, numbers_kept, paths_of_ups, up_of_path, up_tells, ups_ascend}
+use Rattle.bdb_graph.proofs.NamingLemmas.{all_mapped, items_of_ups, names_known, no_names, numbers_kept, paths_of_ups, up_of_path, up_tells, ups_ascend}
 use Rattle.bdb_graph.proofs.UpLemmas.{path_deep, rows_have_depths}
 
 -- ---- the way from world 0, step by step
@@ -274,10 +275,10 @@ module _ (t : Tables) (depths : List (ℕ × ℕ)) (ups : List Up) (under : AreU
         by (Some n) e f = (n, path_of_number ws sorted w n e)
 
     prefixes : (fuel : ℕ) (p q : List ℕ) → length q ≤ fuel → is_some (number_in ws (p ++ q)) ≡ true → is_some (number_in ws p) ≡ true
-    prefixes zero p [] l h = ap (λ w. is_some (number_in ws w)) (sym (append_none p)) ∙ h
+    prefixes zero p [] l h = ap (λ w. is_some (number_in ws w)) (sym (append-nil p)) ∙ h
     prefixes zero p (j ∷ q) l h = absurd (omega arith)
     prefixes (suc fuel) p q l h = elim (cases_end q) as (λ _. is_some (number_in ws p) ≡ true) [
-      | inl none ↦ ap (λ w. is_some (number_in ws w)) (sym (append_none p) ∙ ap (λ w. p ++ w) (sym none)) ∙ h
+      | inl none ↦ ap (λ w. is_some (number_in ws w)) (sym (append-nil p) ∙ ap (λ w. p ++ w) (sym none)) ∙ h
       | inr u ↦
           let k = ap length u.2 in
           let k2 = length_more u.0 u.1 in

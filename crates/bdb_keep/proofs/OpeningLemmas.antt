@@ -7,7 +7,7 @@ use Rattle.std.specs.Int.{byte_at, bytes_high_first, to_be_bytes, w64}
 use Rattle.std.specs.FinMap.{nat_cmp-IsAntisymmetric}
 use Rattle.std.proofs.lemmas.Nat.{mod_below}
 use Rattle.std.proofs.lemmas.Cmp.{nat_cmp_total, tied_itself}
-use Rattle.std.proofs.lemmas.Bool.{cases_lt, eqb-true}
+use Rattle.std.proofs.lemmas.Bool.{cases_lt, eqb-true, false_from_ne_true}
 use mathlib.Core.Bool.{true≢false}
 use Rattle.bdb_base.specs.Segments.{is_prefix}
 use Rattle.bdb_keep.specs.Tables.{bytes_cmp}
@@ -16,7 +16,7 @@ use Rattle.bdb_keep.specs.Openings.{filled, IsLastHead}
 use Rattle.bdb_keep.specs.declared.head.Head.{Head}
 use Rattle.bdb_base.proofs.Numbers.{less, equal}
 use Rattle.bdb_keep.proofs.HeadsLemmas.{four, plus}
-use Rattle.bdb_keep.proofs.UnderLemmas.{not_true, nat_same}
+use Rattle.bdb_keep.proofs.UnderLemmas.{nat_same}
 
 -- ---- a key that isn't below some bytes begins so where its front isn't above theirs, filled up
 
@@ -39,7 +39,7 @@ full (suc n) [] a = most 0 (bytes_cmp (padded n []) (filled n [])) a.0 (full n [
 full (suc n) (b ∷ x) a = most b (bytes_cmp (padded n x) (filled n [])) a.0 (full n x a.1)
 
 less_apart : (a b : ℕ) → nat_cmp a b ≡ Less → nat_eq a b ≡ false
-less_apart a b e = not_true (nat_eq a b) (λ t. true≢false (sym (ap is_lt e) ∙ ap is_lt (ap (λ n. nat_cmp n b) (eqb-true a b t) ∙ tied_itself nat_cmp_total b)))
+less_apart a b e = false_from_ne_true (nat_eq a b) (λ t. true≢false (sym (ap is_lt e) ∙ ap is_lt (ap (λ n. nat_cmp n b) (eqb-true a b t) ∙ tied_itself nat_cmp_total b)))
 
 -- one byte, or a table, in front
 step : (a b : ℕ) (o s : Ordering) (u v : Bool) → is_le (ordering_then (nat_cmp a b) o) ≡ true → (is_le o ≡ true → u ≡ (is_le s && v)) → (nat_eq a b && u) ≡ (is_le (ordering_then (nat_cmp b a) s) && v)

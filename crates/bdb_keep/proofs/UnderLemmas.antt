@@ -6,7 +6,7 @@ use Rattle.std.specs.declared.cmp.Ordering.TheVariants.{Less, Equal, Greater}
 use Rattle.std.specs.Ordering.{is_le, is_eq, is_lt, nat_cmp, eq_by_cmp, ordering_then, ordering_reverse}
 use Rattle.std.specs.List.{AllByRecursion, list_all}
 use Rattle.std.specs.FinMap.{find, nat_cmp-IsAntisymmetric}
-use Rattle.std.proofs.lemmas.Bool.{and_parts, and_from, eqb-true}
+use Rattle.std.proofs.lemmas.Bool.{and_parts, and_from, eqb-true, false_from_ne_true}
 use Rattle.std.proofs.lemmas.Cmp.{nat_list_cmp_total, nat_cmp_total, tied_itself, eq_by_cmp_equiv}
 use Rattle.std.proofs.lemmas.List.{take-append-drop}
 use Rattle.std.proofs.Math.Seq.{take-suc, drop-cons}
@@ -73,22 +73,18 @@ row_under-other p place (Some row) h = ap (λ b. cond b ((drop 1 place, row) ∷
 less_not_le : (a b : List ℕ) → bytes_cmp a b ≡ Less → is_le (bytes_cmp b a) ≡ false
 less_not_le a b l = ap is_le (nat_list_cmp_total.antisymm b a ∙ ap ordering_reverse l)
 
-pub not_true : (b : Bool) → (b ≡ true → ⊥) → b ≡ false
-not_true true h = absurd (h refl)
-not_true false h = refl
-
 -- what is below doesn't begin so
 pub below-under : (p : List ℕ) (xs : Entries) → AreBelow p xs → entries_under p xs ≡ []
 below-under p [] b = refl
 below-under p (x ∷ xs) b =
-    ap (λ r. r ++ entries_under p xs) (row_under-other p x.0 x.1 (not_true (is_prefix p x.0) (λ h. true≢false (sym (prefix_le p x.0 h) ∙ less_not_le x.0 p b.0))))
+    ap (λ r. r ++ entries_under p xs) (row_under-other p x.0 x.1 (false_from_ne_true (is_prefix p x.0) (λ h. true≢false (sym (prefix_le p x.0 h) ∙ less_not_le x.0 p b.0))))
     ∙ below-under p xs b.1
 
 -- nor does what is above a place that is past
 above-under : (p k : List ℕ) (ys : Entries) → IsTrue (is_le (bytes_cmp p k)) → is_prefix p k ≡ false → AreAbove k ys → entries_under p ys ≡ []
 above-under p k [] l n a = refl
 above-under p k (y ∷ ys) l n a =
-    ap (λ r. r ++ entries_under p ys) (row_under-other p y.0 y.1 (not_true (is_prefix p y.0) (λ h. true≢false (sym (prefix_convex p k y.0 h l (ap is_le a.0)) ∙ n))))
+    ap (λ r. r ++ entries_under p ys) (row_under-other p y.0 y.1 (false_from_ne_true (is_prefix p y.0) (λ h. true≢false (sym (prefix_convex p k y.0 h l (ap is_le a.0)) ∙ n))))
     ∙ above-under p k ys l n a.1
 
 above-append : (k : List ℕ) (xs ys : Entries) → AreAbove k (xs ++ ys) → AreAbove k ys

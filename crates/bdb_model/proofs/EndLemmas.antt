@@ -11,7 +11,7 @@ use Rattle.std.specs.declared.cmp.Ordering.{Ordering}
 use Rattle.std.specs.declared.cmp.Ordering.TheVariants.{Less, Equal, Greater}
 use Rattle.std.specs.Ordering.{is_eq, is_lt, nat_cmp, ordering_then}
 use Rattle.std.specs.Cmp.Lexicographic.{slice_cmp}
-use Rattle.std.proofs.lemmas.Bool.{cases_Bool, and_parts, and_from, or_left, or_right, or_from, or_cases, false≢true, false_from_ne_true, not_from_false, cond-false}
+use Rattle.std.proofs.lemmas.Bool.{cases_Bool, and_parts, and_from, or_left, or_right, or_from, or_cases, false≢true, false_from_ne_true, not_from_false, cond-false, not-true}
 use Rattle.std.proofs.lemmas.Bool.Decides.{nat_tests}
 use Rattle.bdb_base.specs.declared.kinds.Held.{Held}
 use Rattle.bdb_base.specs.declared.kinds.Sign.{Sign}
@@ -36,10 +36,6 @@ use Rattle.bdb_model.proofs.LevelLemmas.{flat_map_same}
 
 -- ---- lists
 
-fails : (b : Bool) → not b ≡ true → b ≡ false
-fails true e = sym e
-fails false e = refl
-
 not_right : (a b : Bool) → not (a || b) ≡ true → not b ≡ true
 not_right true b e = absurd (false≢true e)
 not_right false b e = e
@@ -48,7 +44,7 @@ filter_none : {X : Type 0} (q : X → Bool) (xs : List X) → list_all (λ x. no
 filter_none q [] h = refl
 filter_none q (x ∷ xs) h =
     let k = and_parts (not (q x)) (list_all (λ y. not (q y)) xs) h in
-    filter_dropped_one q x xs (fails (q x) k.0) ∙ filter_none q xs k.1
+    filter_dropped_one q x xs (not-true (q x) k.0) ∙ filter_none q xs k.1
 
 -- a test that fails at all items behind one at which it fails
 module _ {X : Type 0} {R : X → X → Ordering} (o : IsExactOrder R) (p : X → Bool) (fails_on : (x y : X) → R x y ≡ Less → p x ≡ false → p y ≡ false) where
@@ -67,7 +63,7 @@ module _ {X : Type 0} {R : X → X → Ordering} (o : IsExactOrder R) (p : X →
       (list_all_weaker (λ z. is_lt (R z y)) p (λ z k. passes_back z y (is_lt-Less (R z y) k) e) (take m xs) s.below)
       (ap (λ z. p z && true) (sym r) ∙ ap (λ b. b && true) e)
 
-  -- where an item fails, so do all behind it
+  -- where an item not-true, so do all behind it
   pub none_from : (xs : List X) (y : X) (m : ℕ) → ascending R xs ≡ true → m < length xs → y ≡ get_or xs m y → p y ≡ false → list_all (λ z. not (p z)) (drop m xs) ≡ true
   none_from xs y m h l r e =
       let s = stands_at o xs y m h (slice_get_read xs (length xs) m y refl l r) in
@@ -176,7 +172,7 @@ run_is_part stmts rest w at n y is h f t l r e =
     rises = ap (ascending statement_cmp) is ∙ drop_ascends statement_cmp at stmts h
 
     behind : is_before w y ≡ false
-    behind = fails (is_before w y) (list_all_get (λ x. not (is_before w x)) rest n y (ap (list_all (λ x. not (is_before w x))) is ∙ f.behind) (slice_get_read rest (length rest) n y refl l r))
+    behind = not-true (is_before w y) (list_all_get (λ x. not (is_before w x)) rest n y (ap (list_all (λ x. not (is_before w x))) is ∙ f.behind) (slice_get_read rest (length rest) n y refl l r))
 
     none : filter q (drop n rest) ≡ []
     none = filter_none q (drop n rest) (list_all_weaker (λ x. not (is_up_to w x)) (λ x. not (q x)) (λ x k. not_right (is_before w x) (q x) k) (drop n rest)

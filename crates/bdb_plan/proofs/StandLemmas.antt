@@ -3,7 +3,7 @@ use Rattle.std.proofs.Common.{◌≡◌, ◌∙◌, ℕ, suc, ◌+◌, ◌<◌, 
 use Prim.Native.Nat.{zero}
 use Rattle.std.specs.List.{slice_get}
 use Rattle.std.specs.Option.{option_map, option_and_then}
-use Rattle.std.proofs.lemmas.Bool.{false≢true, cases_Bool, cond-false, or_cases, and_parts, eqb-true, ltb-true}
+use Rattle.std.proofs.lemmas.Bool.{false≢true, cases_Bool, cond-false, or_cases, and_parts, eqb-true, ltb-true, not-true, or_parts}
 use Rattle.std.proofs.lemmas.Bool.Decides.{Decides-eqb, nat_tests}
 use Rattle.bdb_base.specs.declared.kinds.Operand.{Operand}
 use Rattle.bdb_base.specs.declared.kinds.Operand.TheVariants.{Col, Lit}
@@ -19,14 +19,6 @@ use Rattle.bdb_plan.specs.Fitness.{Placed, is_among, is_bound, has_bound, was_bo
 use Rattle.bdb_plan.specs.Running.{with_value}
 
 -- ---- lists
-
-pub or_none : (a b : Bool) → (a || b) ≡ false → (a ≡ false) × (b ≡ false)
-or_none true b h = absurd (false≢true (sym h))
-or_none false b h = (refl, h)
-
-not_true : (b : Bool) → not b ≡ true → b ≡ false
-not_true true h = absurd (false≢true h)
-not_true false h = refl
 
 eq_turned : (i j : ℕ) → nat_eq i j ≡ false → nat_eq j i ≡ false
 eq_turned i j h = grind (arith, nat_tests)
@@ -167,12 +159,12 @@ pub is_new_tells : (n : ℕ) (p : Placed) (item : ℕ) → is_new n p item ≡ t
 is_new_tells n p item h =
     let k = and_parts (nat_lt item n) (not (is_among p.items item) && not (is_bound p.bound item)) h in
     let m = and_parts (not (is_among p.items item)) (not (is_bound p.bound item)) k.1 in
-    record { within = ltb-true item n k.0; apart = not_true (is_among p.items item) m.0; unbound = not_true (is_bound p.bound item) m.1 }
+    record { within = ltb-true item n k.0; apart = not-true (is_among p.items item) m.0; unbound = not-true (is_bound p.bound item) m.1 }
 
 pub new_stands : (n : ℕ) (items : List ℕ) (o : Option (ℕ × ℕ)) (slots : List (Option Tuple)) (item : ℕ) (t : Tuple) → Stands n items o slots → IsNew n items o item → Stands n (item ∷ items) o (slice_set slots item (Some t))
 new_stands n items o slots item t s new = record {
   long = length_set slots item (Some t) ∙ s.long;
-  empty = λ i a b. let k = or_none (nat_eq i item) (is_among items i) a in slot_other slots item i t k.0 ∙ s.empty i k.1 b;
+  empty = λ i a b. let k = or_parts (nat_eq i item) (is_among items i) a in slot_other slots item i t k.0 ∙ s.empty i k.1 b;
   bound = by o s.bound new.unbound;
 }
   where
@@ -359,7 +351,7 @@ whole_stands n items o slots item rel size w s =
     let u = tuple_of rel w.tuple.vals in
     record {
       long = length_set slots item (Some u) ∙ s.long;
-      empty = λ i a b. let k = or_none (nat_eq i item) (is_among items i) a in slot_other slots item i u k.0 ∙ s.empty i k.1 (ap (λ x. is_bound x i) w.is ∙ k.0);
+      empty = λ i a b. let k = or_parts (nat_eq i item) (is_among items i) a in slot_other slots item i u k.0 ∙ s.empty i k.1 (ap (λ x. is_bound x i) w.is ∙ k.0);
       bound = tt;
     }
 

@@ -5,7 +5,7 @@ use Rattle.std.specs.Ordering.{is_eq, nat_cmp}
 use Rattle.std.specs.FinMap as tables
 use Rattle.std.proofs.lemmas.Bool.{cases_Bool, cond-false, cond-true, eq-eqb, eqb-true, false≢true}
 use Rattle.std.proofs.lemmas.Bool.Decides.{nat_tests}
-use Rattle.std.proofs.lemmas.List.{length-set}
+use Rattle.std.proofs.lemmas.List.{length-set, length_push}
 use Rattle.std.proofs.lemmas.Option.{slice_get_past}
 use Rattle.bdb_base.specs.Bases.{Contents, IsValid, belongs, is_user, without_user, world_count}
 use Rattle.bdb_base.specs.Causes.{Rises, RoseBy}
@@ -166,10 +166,6 @@ place_keeps t m u uid put drops outside name a last h =
     let more = is_user (a.catalog.users ++ Live name ∷ []) in
     same_by_user t m u uid None more (without_one_user more uid) h.stored.names put outside h.stored.stored.states (without_last t m u uid put drops name a last h)
 
-longer : {X : Type 0} (xs : List X) (x : X) → length (xs ++ x ∷ []) ≡ length xs + 1
-longer [] x = refl
-longer (y ∷ xs) x = let h = longer xs x in omega (arith, h)
-
 -- the next number is above that of the last user
 pub some_next : (t : Tables) (next : ℕ) → IsNextUser t next → SomeUserIsLast t → 1 ≤ next
 some_next t next is s = let e = is (base_named (UserAdded s.name) s.some.base) s.some.may.stored in omega (arith, e)
@@ -177,14 +173,14 @@ some_next t next is s = let e = is (base_named (UserAdded s.name) s.some.base) s
 pub last_user_lost : (t m u : Tables) (next : ℕ) → m ≡ t → IsNextUser t next → LosesPlace m u (next - 1) → LosesLastUser t u
 last_user_lost t m u next same is loses name a h =
     let e = is (base_named (UserAdded name) a) h.stored in
-    let l = longer a.catalog.users (Live name) in
+    let l = length_push a.catalog.users (Live name) in
     loses name a (omega (arith, e, l)) (subst (λ (z : Tables). MayLoseName z (UserAdded name) a) (sym same) h)
 
 pub last_user_keeps : (t m u : Tables) (next : ℕ) → m ≡ t → IsNextUser t next → PlaceKeeps m u (next - 1) → SomeUserIsLast t → SameNumbers t u
 last_user_keeps t m u next same is keeps s =
     let a = s.some.base in
     let e = is (base_named (UserAdded s.name) a) s.some.may.stored in
-    let l = longer a.catalog.users (Live s.name) in
+    let l = length_push a.catalog.users (Live s.name) in
     subst (λ (z : Tables). SameNumbers z u) same
     (keeps s.name a (omega (arith, e, l)) (subst (λ (z : Tables). MayLoseName z (UserAdded s.name) a) (sym same) s.some.may))
 
@@ -292,7 +288,7 @@ place_written old mid new uid put le one edges name a last h =
 pub last_user_written : (old mid new : Seen) (next : ℕ) → mid.kept ≡ old.kept → mid.writes ≡ old.writes → IsNextUser old.kept next → WritesPlace mid new (next - 1) → WritesLastUser old new
 last_user_written old mid new next same still is writes name a h =
     let e = is (base_named (UserAdded name) a) h.stored in
-    let l = longer a.catalog.users (Live name) in
+    let l = length_push a.catalog.users (Live name) in
     subst (λ (n : ℕ). Rises (2 * world_count a.stmts + 1) n new.writes) still
     (writes name a (omega (arith, e, l)) (subst (λ (z : Tables). MayLoseName z (UserAdded name) a) (sym same) h))
 

@@ -5,6 +5,7 @@ use Rattle.std.specs.Ordering.{is_eq, nat_cmp}
 use Rattle.std.specs.FinMap as tables
 use Rattle.std.proofs.lemmas.Bool.{cases_Bool, cond-false, cond-true, eq-eqb, eqb-true, false≢true}
 use Rattle.std.proofs.lemmas.Option.{slice_get_past}
+use Rattle.std.proofs.lemmas.List.{length_push}
 use Rattle.bdb_base.specs.Bases.{belongs, key_lengths}
 use Rattle.bdb_base.specs.declared.kinds.Catalog.{Catalog}
 use Rattle.bdb_base.specs.declared.kinds.RelDef.{RelDef}
@@ -78,19 +79,15 @@ relation_lost t u rel num put def a last g =
       };
     })
 
-longer : {X : Type 0} (xs : List X) (x : X) → length (xs ++ x ∷ []) ≡ length xs + 1
-longer [] x = refl
-longer (y ∷ xs) x = let h = longer xs x in omega (arith, h)
-
 -- the next number is above that of the last relation
 pub some_next : (t : Tables) (next : ℕ) → IsNextRelation t next → SomeRelationIsLast t → 1 ≤ next
 some_next t next is s =
     let e = is (base_named (RelationAdded s.def) s.some.base) s.some.may.stored in
-    let l = longer s.some.base.catalog.rels s.def in
+    let l = length_push s.some.base.catalog.rels s.def in
     omega (arith, e, l)
 
 pub last_relation_lost : (t m u : Tables) (next : ℕ) → m ≡ t → IsNextRelation t next → IsNum (next - 1) → u ≡ tables.remove m (place rel_codec (next - 1)) → LosesLastRelation t u
 last_relation_lost t m u next same is num put def a h =
     let e = is (base_named (RelationAdded def) a) h.stored in
-    let l = longer a.catalog.rels def in
+    let l = length_push a.catalog.rels def in
     relation_lost m u (next - 1) num put def a (omega (arith, e, l)) (subst (λ (z : Tables). MayLoseName z (RelationAdded def) a) (sym same) h)

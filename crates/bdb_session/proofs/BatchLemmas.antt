@@ -1,6 +1,6 @@
 -- Batches: where they break off, how their lines are run, and how their transaction ends.
 use Rattle.std.proofs.Common.{◌≡◌, ◌∙◌, ℕ, ◌+◌, ◌-◌, ◌<◌, ◌≤◌, suc, Bool, true, false, not, ◌&&◌, List, [], ◌∷◌, ◌++◌, length, take, drop, get_or, Result, Ok, Err, IfOk, MatchBool, refl, sym, ap, subst, inl, inr, arith}
-use Rattle.std.proofs.lemmas.Bool.{cases_Bool, and_parts, cond-true, cond-false, false≢true, MatchBool-at_true, MatchBool-at_false}
+use Rattle.std.proofs.lemmas.Bool.{cases_Bool, and_parts, cond-true, cond-false, false≢true, MatchBool-at_true, MatchBool-at_false, and_from}
 use Rattle.std.proofs.lemmas.List.{append-nil, append_assoc, take_rest}
 use Rattle.std.proofs.lemmas.Grind.{get_or_head}
 use Rattle.bdb_base.specs.Causes.{HasCause, Rises}
@@ -66,9 +66,6 @@ at_once s e es no_more h = record {
   commits = cond-false (accepts_all s (e ∷ es)) 1 0 h;
 }
 
-both_true : (a b : Bool) → a ≡ true → b ≡ true → (a && b) ≡ true
-both_true a b e f = ap (λ (x : Bool). x && b) e ∙ f
-
 -- it is accepted, and a later one is refused
 later_on : (s : State) (e : Event) (es : List Event) → accepts s e ≡ true → accepts_all s (e ∷ es) ≡ false → BreaksOff (next_state s e) es → BreaksOff s (e ∷ es)
 later_on s e es more h r = record {
@@ -76,7 +73,7 @@ later_on s e es more h r = record {
   refused = r.refused;
   rest = r.rest;
   are = ap (λ (xs : List Event). e ∷ xs) r.are;
-  are_accepted = both_true (accepts s e) (accepts_all (next_state s e) r.front) more r.are_accepted;
+  are_accepted = and_from (accepts s e) (accepts_all (next_state s e) r.front) more r.are_accepted;
   is_refused = r.is_refused;
   text = ap (λ (xs : List Event). reply_of s e ++ replies (next_state s e) xs) (cond-true (accepts s e) (up_to_refused (next_state s e) es) [] more)
       ∙ ap (λ (x : List ℕ). reply_of s e ++ x) r.text;

@@ -1,7 +1,7 @@
 -- What a batch leaves of the bases to which undo and redo lead.
 use Rattle.std.proofs.Common.{◌≡◌, ◌∙◌, ℕ, suc, arith, take, Bool, true, false, not, ◌&&◌, ◌||◌, nat_lt, List, [], ◌∷◌, length, Option, None, Some, Result, Ok, Err, OnOk, refl, sym, ap, subst, inl, inr}
 use Rattle.std.proofs.lemmas.Bool.Decides.{nat_tests}
-use Rattle.std.proofs.lemmas.Bool.{and_parts, cases_Bool, cond-true, cond-false, false≢true, MatchBool-at_true, MatchBool-at_false}
+use Rattle.std.proofs.lemmas.Bool.{and_parts, cases_Bool, cond-true, cond-false, false≢true, MatchBool-at_true, MatchBool-at_false, or_parts, or_right, and_from, and_left}
 use Rattle.bdb_base.specs.Bases.{Contents}
 use Rattle.bdb_base.specs.declared.kinds.Catalog.{Catalog}
 use Rattle.bdb_canon.specs.declared.sizes.Counts.{Counts}
@@ -54,16 +54,12 @@ not_false : (b : Bool) → not b ≡ false → b ≡ true
 not_false true e = refl
 not_false false e = absurd (false≢true (sym e))
 
-or_false : (a b : Bool) → (a || b) ≡ false → (a ≡ false) × (b ≡ false)
-or_false true b e = absurd (false≢true (sym e))
-or_false false b e = (refl, e)
-
 -- where no event alters the base, it stays
 pub unaltered_stays : (s : State) (es : List Event) → alters_some s es ≡ false → (after s es).base ≡ s.base
 unaltered_stays s [] e = refl
 unaltered_stays s (x ∷ es) e =
     let next = next_state s x in
-    let p = or_false (not (same_contents s.base next.base)) (alters_some next es) e in
+    let p = or_parts (not (same_contents s.base next.base)) (alters_some next es) e in
     unaltered_stays next es p.1 ∙ sym (same_contents_are_one s.base next.base (not_false (same_contents s.base next.base) p.0))
 
 -- ---- how lines alter it
@@ -122,10 +118,6 @@ stop_alters lines rest line accepted was now old e no_more told =
 
 -- ---- what is learned of a step
 
-or_true : (a b : Bool) → b ≡ true → (a || b) ≡ true
-or_true true b e = refl
-or_true false b e = e
-
 -- a history with a change noted has some
 positive : (n : ℕ) → nat_lt 0 (suc n) ≡ true
 positive n = grind (arith, nat_tests)
@@ -145,7 +137,7 @@ altered_bases c a b h e = elim (cases_Bool (same_contents a b)) [
 learned_by : (change : Option Change) (k : Known) (catalog : Catalog) (counts : Counts) (a b : Contents) → LeadsBy change a b
     → is_altered (record { catalog = catalog; counts = counts; history = noted_by change k.history }) ≡ (is_altered k || not (same_contents a b))
 learned_by None k catalog counts a b h = sym (ap (λ (x : Bool). is_altered k || x) (same_alters a b h) ∙ or_none (is_altered k))
-learned_by (Some c) k catalog counts a b h = noted_some c k.history ∙ sym (or_true (is_altered k) (not (same_contents a b)) (altered_bases c a b h.0 h.1))
+learned_by (Some c) k catalog counts a b h = noted_some c k.history ∙ sym (or_right (is_altered k) (not (same_contents a b)) (altered_bases c a b h.0 h.1))
 
 -- what a session learned altered the base exactly where it is another one
 pub learned_alters : (k : Known) (news : News) (a b : Contents) → LeadsBy news.change a b → is_altered (learned k news) ≡ (is_altered k || not (same_contents a b))
@@ -161,12 +153,6 @@ negated_false : (b c : Bool) → b ≡ not c → b ≡ true → c ≡ false
 negated_false b true e f = absurd (false≢true (sym e ∙ f))
 negated_false b false e f = refl
 
-both : (a b : Bool) → a ≡ true → b ≡ true → (a && b) ≡ true
-both a b e f = ap (λ (x : Bool). x && b) e ∙ f
-
-first_false : (a b : Bool) → a ≡ false → (a && b) ≡ false
-first_false a b e = ap (λ (x : Bool). x && b) e
-
 second_false : (a b : Bool) → a ≡ true → b ≡ false → (a && b) ≡ false
 second_false a b e f = ap (λ (x : Bool). x && b) e ∙ f
 
@@ -177,7 +163,7 @@ module _ (t : Timeline) (es : List Event) (all : accepts_all (start_from t.now) 
 
   altered_timeline : alters_some (start_from t.now) es ≡ true → batch_timeline t es ≡ started last.base
   altered_timeline e = cond-true (accepts_all (start_from t.now) es && alters_some (start_from t.now) es) (started last.base) t
-      (both (accepts_all (start_from t.now) es) (alters_some (start_from t.now) es) all e)
+      (and_from (accepts_all (start_from t.now) es) (alters_some (start_from t.now) es) all e)
 
   same_timeline : alters_some (start_from t.now) es ≡ false → batch_timeline t es ≡ t
   same_timeline e = cond-false (accepts_all (start_from t.now) es && alters_some (start_from t.now) es) (started last.base) t
@@ -222,7 +208,7 @@ module _ (es : List Event) (before copy : Known) (old run mid new : Seen) (began
       let h = ran s (begun s r.agrees) in
       let some = negated_false told.refused (accepts_all s es) h.refused_is refused in
       subst (λ (x : Timeline). Remembers new.kept now x)
-      (sym (cond-false (accepts_all s es && alters_some s es) (started (after s es).base) t (first_false (accepts_all s es) (alters_some s es) some)))
+      (sym (cond-false (accepts_all s es && alters_some s es) (started (after s es).base) t (and_left (accepts_all s es) (alters_some s es) some)))
       (subst (λ (j : Known). Remembers new.kept j t) (sym k.same) (still_remembers old.kept new.kept before t (undone refused) r))
   undone_lists now (Err stop) refused k = λ t r. tt
 

@@ -5,7 +5,7 @@ use Rattle.std.specs.List.{AllByRecursion, list_any}
 use Rattle.std.specs.Option.{option_map}
 use Rattle.std.specs.Ordering.{eq_by_cmp, is_eq}
 use Rattle.std.specs.FinMap as tables
-use Rattle.std.proofs.lemmas.Bool.{cases_Bool, and_parts, and_from, false≢true, false_from_ne_true}
+use Rattle.std.proofs.lemmas.Bool.{cases_Bool, and_parts, and_from, false≢true, false_from_ne_true, not-true}
 use Rattle.std.proofs.lemmas.List.Folds.{list_any-append}
 use Rattle.bdb_base.specs.Bases.{are_distinct}
 use Rattle.bdb_base.specs.Same.{same_text}
@@ -35,10 +35,6 @@ false_parts false b e = (refl, e)
 pub or_false : (a b : Bool) → a ≡ false → b ≡ false → a || b ≡ false
 or_false a b e f = ap (λ x. x || b) e ∙ f
 
-not_true : (a : Bool) → not a ≡ true → a ≡ false
-not_true true e = absurd cc
-not_true false e = refl
-
 -- ---- lists of places
 
 members : (qs : List (List ℕ)) → AllByRecursion (λ q. is_among q qs ≡ true) qs
@@ -66,7 +62,7 @@ distinct_append [] qs dp dq apart = dq
 distinct_append (p ∷ ps) qs dp dq apart =
     let both = and_parts (not (is_among p ps)) (are_distinct ps) dp in
     and_from (not (is_among p (ps ++ qs))) (are_distinct (ps ++ qs))
-    (ap not (list_any-append (same_text p) ps qs ∙ or_false (is_among p ps) (is_among p qs) (not_true (is_among p ps) both.0) apart.0))
+    (ap not (list_any-append (same_text p) ps qs ∙ or_false (is_among p ps) (is_among p qs) (not-true (is_among p ps) both.0) apart.0))
     (distinct_append ps qs both.1 dq apart.1)
 
 all_append : (P : List ℕ → Type 0) (ps qs : List (List ℕ)) → AllByRecursion P ps → AllByRecursion P qs → AllByRecursion P (ps ++ qs)
@@ -136,7 +132,7 @@ pub no_more : (ps qs : List (List ℕ)) → are_distinct ps ≡ true → AllByRe
 no_more [] qs d h = omega arith
 no_more (p ∷ ps) qs d h =
     let both = and_parts (not (is_among p ps)) (are_distinct ps) d in
-    let fewer = no_more ps (without p qs) both.1 (all_still p ps qs (not_true (is_among p ps) both.0) h.1) in
+    let fewer = no_more ps (without p qs) both.1 (all_still p ps qs (not-true (is_among p ps) both.0) h.1) in
     let one = without_length p qs h.0 in
     omega (arith, fewer, one)
 
@@ -190,7 +186,7 @@ module _ {Key Row : Type 0} where
   changes_differ c t [] real = record { once = refl; each = tt; only = λ q out. refl }
   changes_differ c t (x ∷ xs) real =
       let both = and_parts (not (is_among (place_of c x) (map (place_of c) xs))) (are_distinct (map (place_of c) xs)) real.apart in
-      let out = not_true (is_among (place_of c x) (map (place_of c) xs)) both.0 in
+      let out = not-true (is_among (place_of c x) (map (place_of c) xs)) both.0 in
       differences_add (tables.get t) (tables.get (with_change c t x)) (tables.get (with_changes c (with_change c t x) xs)) (place_of c x ∷ []) (map (place_of c) xs)
       (one_differs c t x real.each.0)
       (changes_differ c (with_change c t x) xs (record { apart = both.1; each = real_later c t x xs out real.each.1 }))

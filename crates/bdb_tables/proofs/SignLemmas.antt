@@ -27,10 +27,6 @@ pub one_answer : (p q : Bool) → (p ≡ true → q ≡ true) → (q ≡ true �
 one_answer true q f g = sym (f refl)
 one_answer false q f g = sym (false_from_ne_true q (λ e. false≢true (g e)))
 
-pub or_false : (a b : Bool) → (a || b) ≡ false → (a ≡ false) × (b ≡ false)
-or_false true b e = absurd (false≢true (sym e))
-or_false false b e = (refl, e)
-
 -- what is found among some of a list is found in it
 pub found_before : (p q : Stmt → Bool) (xs : List Stmt) → list_any p (filter q xs) ≡ true → list_any p xs ≡ true
 found_before p q [] e = e

@@ -3,9 +3,10 @@ use Rattle.std.proofs.Common.{◌≡◌, ◌∙◌, ℕ, suc, ◌+◌, ◌-◌, 
 use Prim.Native.Nat.{zero}
 use Rattle.std.specs.List.{list_all, slice_get}
 use Rattle.std.specs.Option.{option_and_then, is_some}
-use Rattle.std.proofs.lemmas.Bool.{false≢true, cases_Bool, cond-true, cond-false, or_cases, or_left, and_parts, and_from, eqb-true, lt-ltb}
+use Rattle.std.proofs.lemmas.Bool.{false≢true, cases_Bool, cond-true, cond-false, or_cases, or_left, and_parts, and_from, eqb-true, lt-ltb, or_right}
 use Rattle.std.proofs.lemmas.Bool.Decides.{Decides-eqb, nat_tests}
 use Rattle.std.proofs.lemmas.Option.{slice_get_within}
+use Rattle.std.proofs.lemmas.List.{append-nil}
 use Rattle.bdb_base.specs.declared.kinds.Catalog.{Catalog}
 use Rattle.bdb_base.specs.declared.kinds.ColDef.{ColDef}
 use Rattle.bdb_base.specs.declared.kinds.Cond.{Cond}
@@ -116,10 +117,6 @@ due_set rels q set at p f h = filtered (joins_one_kind rels q.items) (λ c. all_
 itself : (at : ℕ) → nat_eq at at ≡ true
 itself at = (Decides-eqb at at).1 refl
 
-or_set : (a b : Bool) → b ≡ true → (a || b) ≡ true
-or_set true b h = refl
-or_set false b h = h
-
 walk_leads : (n : ℕ) (w : ℕ → ℕ → Bool) (p : Placed) (item : ℕ) (path : List Who) → item < n → list_all (who_is_set (with_walk p item)) path ≡ true
     → Leads n w p (walk_of item path) (with_walk p item)
 walk_leads n w before item path within g =
@@ -141,7 +138,7 @@ among_chosen q (at ∷ set) k h g = elim (or_cases (nat_eq k at) (is_among set k
   | inr m ↦
       let rest = among_chosen q set k m g in
       elim (cases_Bool (is_user_at q at)) [
-        | inl e ↦ ap (λ xs. is_among xs k) (filter_kept_one (is_user_at q) at set e) ∙ or_set (nat_eq k at) (is_among (chosen q set) k) rest
+        | inl e ↦ ap (λ xs. is_among xs k) (filter_kept_one (is_user_at q) at set e) ∙ or_right (nat_eq k at) (is_among (chosen q set) k) rest
         | inr e ↦ ap (λ xs. is_among xs k) (filter_dropped_one (is_user_at q) at set e) ∙ rest
       ]
 ]
@@ -192,7 +189,7 @@ was_bound_more rels q at r h ds rest = by (slice_get q.items at) refl
     minus : (k : ℕ) → (nat_eq r.item at ≡ true → r.col < k) → was_bound ((at, k) ∷ ds) r ≡ true
     minus k f =
         and_from (not (nat_eq r.item at) || nat_lt r.col k) (was_bound ds r) (elim (cases_Bool (nat_eq r.item at)) [
-          | inl e ↦ or_set (not (nat_eq r.item at)) (nat_lt r.col k) (lt-ltb r.col k (f e))
+          | inl e ↦ or_right (not (nat_eq r.item at)) (nat_lt r.col k) (lt-ltb r.col k (f e))
           | inr e ↦ ap (λ b. not b || nat_lt r.col k) e
         ]) rest
 
@@ -356,7 +353,7 @@ column_bound : (rels : List RelDef) (q : Query) (set : List ℕ) (walk : Option 
 column_bound rels q set walk at [] r m lt = absurd (omega arith)
 column_bound rels q set walk at (c ∷ cs) r m lt =
     let p = placed rels q set (all_bound at (c ∷ cs)) walk in
-    or_set (is_known p r) (nat_eq r.item at && nat_lt r.col (length (c ∷ cs))) (and_from (nat_eq r.item at) (nat_lt r.col (length (c ∷ cs))) m (lt-ltb r.col (length (c ∷ cs)) lt))
+    or_right (is_known p r) (nat_eq r.item at && nat_lt r.col (length (c ∷ cs))) (and_from (nat_eq r.item at) (nat_lt r.col (length (c ∷ cs))) m (lt-ltb r.col (length (c ∷ cs)) lt))
 
 all_whole : (n : ℕ) (w : ℕ → ℕ → Bool) (rels : List RelDef) (q : Query) (set : List ℕ) (walk : Option ℕ) (at rel : ℕ) (cols : List ColDef) → at < n → is_among set at ≡ false → w rel (length cols) ≡ true
     → is_whole n w (placed rels q set (all_bound at cols) walk) (all_bound at cols) at rel ≡ true
@@ -471,7 +468,7 @@ abbrev Within : List ℕ → List ℕ → Type 0
 Within set more = (k : ℕ) → is_among set k ≡ true → is_among more k ≡ true
 
 within_more : (set : List ℕ) (at : ℕ) → Within set (at ∷ set)
-within_more set at k h = or_set (nat_eq k at) (is_among set k) h
+within_more set at k h = or_right (nat_eq k at) (is_among set k) h
 
 past_end : (all : List Item) (at k : ℕ) → ((i : ℕ) → slice_get all (at + i) ≡ slice_get {X = Item} [] i) → at ≤ k → slice_get all k ≡ None
 past_end all at k h le =
@@ -539,10 +536,6 @@ segment q p (item ∷ items) at set rest h needs new next = elim (cases_Bool (p 
       (λ more m all back. next more m (λ k e le. all k e (past q p k at fails e le)) back))
 ]
 
-append_nothing : (xs : List ℕ) → xs ++ [] ≡ xs
-append_nothing [] = refl
-append_nothing (x ∷ xs) = ap (λ ys. x ∷ ys) (append_nothing xs)
-
 -- what is among nothing
 none_among : (k : ℕ) → is_among [] k ≡ true → ⊥
 none_among k h = false≢true h
@@ -567,7 +560,7 @@ pub order_fits : (catalog : Catalog) (q : Query) → list_all (item_fits catalog
 order_fits catalog q f =
     segment q is_users q.items 0 [] (places is_plus 0 q.items ++ places is_minus_item 0 q.items) (from_zero q.items) users_need (λ k a e. absurd (none_among k a))
     (λ one m users back. segment q is_plus q.items 0 one (places is_minus_item 0 q.items) (from_zero q.items) (plus_need one (λ k e. users k e (least k))) (λ k a e. absurd (not_plus k (only_users k (back k a)) e))
-    (λ two m' plus back'. subst (OrderFits q two) (append_nothing (places is_minus_item 0 q.items))
+    (λ two m' plus back'. subst (OrderFits q two) (append-nil (places is_minus_item 0 q.items))
     (segment q is_minus_item q.items 0 two [] (from_zero q.items)
     (minus_need two (λ k e. m' k (users k e (least k))) (λ k e. plus k e (least k)))
     (λ k a e. absurd (not_minus k (only_given k one (λ b. only_users k (back k b)) (back' k a)) e)) (λ three x y z. tt))))

@@ -4,7 +4,7 @@ use Prim.Native.Nat.{zero}
 use Rattle.std.specs.List.{list_all, slice_get, flat_map}
 use Rattle.std.specs.Option.{option_map}
 use Rattle.std.proofs.lemmas.Bool.{cases_Bool, cond-true, cond-false, and_parts, ltb-true}
-use Rattle.std.proofs.lemmas.List.{drop_more}
+use Rattle.std.proofs.lemmas.List.{drop_more, append-nil}
 use Rattle.bdb_base.specs.declared.kinds.Catalog.{Catalog}
 use Rattle.bdb_base.specs.declared.kinds.Cmp.{Cmp}
 use Rattle.bdb_base.specs.declared.kinds.Cmp.TheVariants.{Eq, Ne, Lt, Le, Gt, Ge}
@@ -150,13 +150,9 @@ item_made rels q set at item conds old a b n e h g k =
     let tests : flat_map (due_step set at) conds ≡ d = ap (flat_map (due_step set at)) e ∙ sym (due_are_each set at q.conds) in
     k ∙ ap (λ x. x ++ m) (g ∙ ap (λ x. x ++ flat_map (due_step set at) conds) h ∙ ap (λ x. (old ++ s) ++ x) tests) ∙ append_assoc (old ++ s) d m ∙ append_assoc old s (d ++ m)
 
-no_more : (xs : List Step) → xs ++ [] ≡ xs
-no_more [] = refl
-no_more (x ∷ xs) = ap (λ ys. x ∷ ys) (no_more xs)
-
 pub none_made : (rels : List RelDef) (q : Query) (set : List ℕ) (at : ℕ) (item : Option Item) (conds : List Cond) (old n : List Step) → item ≡ None → conds ≡ q.conds
     → n ≡ old ++ flat_map (due_step set at) conds → n ≡ old ++ item_steps rels q set at item
 none_made rels q set at item conds old n i e h =
     let d = map step.Test (due set at q.conds) in
     let tests : flat_map (due_step set at) conds ≡ d = ap (flat_map (due_step set at)) e ∙ sym (due_are_each set at q.conds) in
-    h ∙ ap (λ x. old ++ x) (tests ∙ sym (no_more d)) ∙ ap (λ o. old ++ item_steps rels q set at o) (sym i)
+    h ∙ ap (λ x. old ++ x) (tests ∙ sym (append-nil d)) ∙ ap (λ o. old ++ item_steps rels q set at o) (sym i)

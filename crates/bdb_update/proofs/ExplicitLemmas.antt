@@ -4,7 +4,7 @@ use Rattle.std.specs.Bool.{MatchBool}
 use Rattle.std.specs.FinMap as tables
 use Rattle.std.specs.List.{AllByRecursion}
 use Rattle.std.proofs.lemmas.Bool.{cases_Bool, cond-true, cond-false, false≢true}
-use Rattle.std.proofs.lemmas.List.{take_more}
+use Rattle.std.proofs.lemmas.List.{take_more, append-nil}
 use Rattle.bdb_base.specs.declared.tuple.Tuple.{Tuple}
 use Rattle.bdb_keep.specs.Tables.{Tables}
 use Rattle.bdb_key.specs.Bytes.{num_bytes}
@@ -32,10 +32,6 @@ filter_push p (y ∷ ys) x = by (p y) refl (filter_push p ys x)
     by false e more = cond-false (p y) (y ∷ filter p (ys ++ x ∷ [])) (filter p (ys ++ x ∷ [])) e ∙ more
         ∙ sym (ap (λ l. l ++ cond (p x) (x ∷ []) []) (cond-false (p y) (y ∷ filter p ys) (filter p ys) e))
 
-append_none : {X : Type 0} (xs : List X) → xs ++ [] ≡ xs
-append_none [] = refl
-append_none (x ∷ xs) = ap (λ l. x ∷ l) (append_none xs)
-
 told_push : (t : Tables) (es : List (ValKey × Mark)) (e : ValKey × Mark) (xs : List Stored) (x : Stored) → AreTold t es xs → IsTold t e x → AreTold t (es ++ e ∷ []) (xs ++ x ∷ [])
 told_push t [] e [] x a h = (h, tt)
 told_push t [] e (y ∷ ys) x a h = absurd a
@@ -50,7 +46,7 @@ picked t es e xs ys a h = elim (cases_Bool e.1.1) [
       (subst (AreTold t (filter is_explicit_entry es ++ e ∷ [])) (sym k.2) (told_push t (filter is_explicit_entry es) e xs k.0 a k.1))
   | inr c ↦
       let k : ys ≡ xs = subst (λ b. MatchBool b ((x : Stored) × IsTold t e x × (ys ≡ xs ++ x ∷ [])) (ys ≡ xs)) c h in
-      subst (λ ds. AreTold t ds ys) (sym (filter_push is_explicit_entry es e ∙ ap (λ (b : Bool). filter is_explicit_entry es ++ cond b (e ∷ []) []) c ∙ append_none (filter is_explicit_entry es)))
+      subst (λ ds. AreTold t ds ys) (sym (filter_push is_explicit_entry es e ∙ ap (λ (b : Bool). filter is_explicit_entry es ++ cond b (e ∷ []) []) c ∙ append-nil (filter is_explicit_entry es)))
       (subst (AreTold t (filter is_explicit_entry es)) (sym k) a)
 ]
 

@@ -3,7 +3,7 @@ use Rattle.std.proofs.Common.{◌≡◌, ◌≢◌, ◌∙◌, ℕ, ◌<◌, Boo
 use Rattle.std.specs.List.{list_any}
 use Rattle.std.specs.Option.{option_map}
 use Rattle.std.specs.FinMap as tables
-use Rattle.std.proofs.lemmas.Bool.{cases_Bool, and_parts, and_from, false≢true, false_from_ne_true, or_left, or_cases, cond-true, cond-false, eqb-true, eq-eqb}
+use Rattle.std.proofs.lemmas.Bool.{cases_Bool, and_parts, and_from, false≢true, false_from_ne_true, or_left, or_cases, cond-true, cond-false, eqb-true, eq-eqb, or_parts}
 use Rattle.bdb_base.specs.Bases.{with_statement}
 use Rattle.bdb_base.specs.Clash.{clash, key_of, same_key}
 use Rattle.bdb_base.specs.OrderLemmas.{statement_exact}
@@ -27,7 +27,7 @@ use Rattle.bdb_tables.specs.InUse.{ValKey, val_codec}
 use Rattle.bdb_tables.specs.Marks.{mark_of}
 use Rattle.bdb_tables.specs.Names.{Names, AreNames, path_of, number_of, is_named}
 use Rattle.bdb_tables.specs.Rows.{Tuples, HoldsTuples, HoldsRows, row_for}
-use Rattle.bdb_tables.proofs.SignLemmas.{or_false, put_unfelt}
+use Rattle.bdb_tables.proofs.SignLemmas.{put_unfelt}
 use Rattle.bdb_val.specs.Settling.{row_key}
 use Rattle.bdb_val.proofs.HeldLemmas.{some_is, held_names, right_row}
 use Rattle.bdb_update.specs.Tallies.{vals_at}
@@ -106,7 +106,7 @@ module _ (keys : ℕ → ℕ) where
             ∙ or_left (same_path x.path (i ∷ w) && (same_tuple x.tuple y && same_sign x.sign x.sign)) (explicit stmts (i ∷ w) y x.sign)
             (and_from (same_path x.path (i ∷ w)) (same_tuple x.tuple y && same_sign x.sign x.sign) ((same_path-Decides x.path (i ∷ w)).1 p)
             (and_from (same_tuple x.tuple y) (same_sign x.sign x.sign) e ((same_sign-Decides x.sign x.sign).1 refl))) in
-            false≢true (sym (or_false (explicit next (i ∷ w) y x.sign) (stated keys next w y x.sign && not (contradicted keys next (i ∷ w) y x.sign)) (b x.sign)).0 ∙ here))
+            false≢true (sym (or_parts (explicit next (i ∷ w) y x.sign) (stated keys next w y x.sign && not (contradicted keys next (i ∷ w) y x.sign)) (b x.sign)).0 ∙ here))
 
     -- two tuples of one relation and key that a world has with plus are one
     rivals_are_one : IsConsistent keys stmts → (y z : Tuple) → stated keys stmts x.path y Plus ≡ true → stated keys stmts x.path z Plus ≡ true

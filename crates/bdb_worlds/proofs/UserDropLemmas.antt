@@ -1,9 +1,9 @@
 -- The edge of each world for a user goes, one world after the other.
-use Rattle.std.proofs.Common.{◌≡◌, ◌∙◌, ℕ, ◌+◌, ◌*◌, ◌≤◌, ◌<◌, Bool, true, false, not, ◌&&◌, ◌||◌, nat_eq, nat_lt, cond, List, [], ◌∷◌, ◌++◌, length, refl, ap, sym, subst, inl, inr, arith, Option, Some, None}
+use Rattle.std.proofs.Common.{◌≡◌, ◌∙◌, ℕ, ◌+◌, ◌*◌, ◌≤◌, ◌<◌, Bool, true, false, not, ◌&&◌, nat_eq, nat_lt, cond, List, [], ◌∷◌, ◌++◌, length, refl, ap, sym, subst, inl, inr, arith, Option, Some, None}
 use Rattle.std.specs.Option.{is_some}
 use Rattle.std.specs.List.{list_all}
 use Rattle.std.specs.FinMap as tables
-use Rattle.std.proofs.lemmas.Bool.{cases_Bool, cases_lt, and_parts, and_from, and_right, or_cases, false≢true, false_from_ne_true, cond-true, cond-false, eqb-true, eqb-false, eq-eqb, ne_eqb, lt-ltb, le-ltb}
+use Rattle.std.proofs.lemmas.Bool.{cases_Bool, cases_lt, and_parts, and_from, and_right, or_cases, false≢true, false_from_ne_true, cond-true, cond-false, eqb-true, eqb-false, eq-eqb, ne_eqb, lt-ltb, le-ltb, or_parts}
 use Rattle.bdb_base.specs.Causes.{Rises, RoseBy}
 use Rattle.bdb_base.specs.Same.{same_path}
 use Rattle.bdb_base.specs.SameLemmas.{same_path-Decides}
@@ -32,10 +32,6 @@ nothing = None
 
 -- ---- edges and paths without a user
 
-neither : (a b : Bool) → (a || b) ≡ false → (a ≡ false) × (b ≡ false)
-neither true b e = absurd (false≢true (sym e))
-neither false b e = (refl, e)
-
 other_way : (a b : ℕ) → nat_eq a b ≡ false → nat_eq b a ≡ false
 other_way a b f = ne_eqb b a (λ e. eqb-false a b f (sym e))
 
@@ -43,7 +39,7 @@ other_way a b f = ne_eqb b a (λ e. eqb-false a b f (sym e))
 not_last : (i : ℕ) (w : List ℕ) → is_listed i w ≡ false → is_suffix (i ∷ []) w ≡ false
 not_last i [] f = refl
 not_last i (j ∷ w) f =
-    let p = neither (nat_eq i j) (is_listed i w) f in
+    let p = or_parts (nat_eq i j) (is_listed i w) f in
     false_from_ne_true (is_suffix (i ∷ []) (j ∷ w)) (λ t. elim (or_cases (same_path (i ∷ []) (j ∷ w)) (is_suffix (i ∷ []) w) t) [
       | inl e ↦ let is : i ≡ j = head_is i j w ((same_path-Decides (i ∷ []) (j ∷ w)).0 e) in false≢true (sym p.0 ∙ eq-eqb i j is)
       | inr e ↦ false≢true (sym (not_last i w p.1) ∙ e)
@@ -79,7 +75,7 @@ module _ (users : ℕ → Bool) (ns : Names) (uid : ℕ) where
   own_without_user [] h f = refl
   own_without_user (i ∷ w) h f =
       let u = and_parts (users i) (list_all users w) h in
-      let p = neither (nat_eq uid i) (is_listed uid w) f in
+      let p = or_parts (nat_eq uid i) (is_listed uid w) f in
       and_from (less i) (list_all less w) (and_from (not (nat_eq i uid)) (users i) (ap not (other_way uid i p.0)) u.0) (own_without_user w u.1 p.1)
 
   -- a world whose path doesn't name a user has an edge for him
