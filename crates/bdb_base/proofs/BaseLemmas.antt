@@ -1,13 +1,12 @@
 -- What keeps a base valid, and how its counts change.
 use Rattle.std.proofs.Common.{◌≡◌, ◌∙◌, ℕ, ◌+◌, ◌-◌, ◌≤◌, Bool, true, false, not, ◌&&◌, ◌||◌, cond, List, [], ◌∷◌, ◌++◌, refl, ap, sym, inl, inr, suc, arith, filter, length, map, nat_eq, nat_lt, nat_le, length-append}
 use Prim.Native.Nat.{zero}
-use Rattle.std.specs.Bool.{Decides}
 use Rattle.std.specs.List.{list_any, list_all, slice_get, flat_map}
 use Rattle.std.specs.Option.{is_some}
 use Rattle.std.specs.declared.cmp.Ordering.{Ordering}
 use Rattle.std.specs.Ordering.{is_eq}
 use Rattle.std.proofs.lemmas.Bool.{cases_Bool, and_parts, and_from, and_right, or_parts, or_from, or_cases, or_left, or_right, false≢true, not-true, not_from_true, not_from_false, leb-true, le-leb}
-use Rattle.std.proofs.lemmas.Bool.Decides.{Decides-eqb, same_from_decides, Decides-like}
+use Rattle.std.proofs.lemmas.Bool.Decides.{Decides-eqb}
 use Rattle.std.proofs.lemmas.List.{map-append}
 use Rattle.std.proofs.lemmas.List.Elements.{filter_map-append}
 use Rattle.std.proofs.lemmas.List.Folds.{list_any-append, list_all-append}
@@ -31,16 +30,13 @@ use Rattle.bdb_base.specs.Worlds.{contradicted}
 use Rattle.bdb_base.specs.Bases.{AreStatements, are_distinct, belongs, fits_definition, fits_relation, is_user, is_plain, is_valid_relation, key_at, key_lengths, live_name, name_at, stands, tuple_count, user_names, world_count, with_user, with_relation, with_statement}
 use Rattle.bdb_base.specs.States.{prefixes, stated_prefixes}
 use Rattle.bdb_base.specs.BaseLaws.{PutIsValid, TakeIsValid, AddUserIsValid, AddRelationIsValid, PutCountsTuple, PutCountsStatement}
-use Rattle.bdb_base.proofs.ClashLemmas.{clash_by_length}
+use Rattle.bdb_base.proofs.ClashLemmas.{clash_by_length, turned}
 use Rattle.bdb_base.proofs.ListLemmas.{list_all_weaker, list_all_both, list_all_from_none, list_all-filter, list_any-filter_none, length-filter_le}
 use Rattle.bdb_base.proofs.SetLemmas.{cases_Ordering, are_above, less_from_greater, above_weaker, absent_above, list_any-put_in, list_all-put_in, put_keeps_order, take_keeps_order}
 use Rattle.bdb_base.proofs.WorldRowsLemmas.{list_any-flat_map}
 use Rattle.bdb_base.proofs.CountLemmas.{list_any-map, list_any-filter_some, one_unless, distinct_count-le, distinct_count-same}
 
 -- ---- tests of equality are symmetric, and so is a clash
-
-turned : {X : Type 0} (same : X → X → Bool) → ((a b : X) → Decides (same a b) (a ≡ b)) → (a b : X) → same a b ≡ same b a
-turned same decides a b = same_from_decides (same a b) (same b a) (decides a b) (Decides-like (same b a) (λ e. sym e) (λ e. sym e) (decides b a))
 
 clash_turned : (keys : ℕ → ℕ) (a : Tuple) (s : Sign) (b : Tuple) (t : Sign) → clash keys a s b t ≡ clash keys b t a s
 clash_turned keys a Plus b Plus =
@@ -262,7 +258,7 @@ add_user_is_valid c stmts name v plain apart room =
       };
     }
 
-definition_stays : (rels : List RelDef) (def : RelDef) (n : ℕ) (vals : List Value) → fits_definition (slice_get rels n) vals ≡ true → slice_get (rels ++ def ∷ []) n ≡ slice_get rels n
+pub definition_stays : (rels : List RelDef) (def : RelDef) (n : ℕ) (vals : List Value) → fits_definition (slice_get rels n) vals ≡ true → slice_get (rels ++ def ∷ []) n ≡ slice_get rels n
 definition_stays [] def n vals h = absurd (false≢true h)
 definition_stays (r ∷ rels) def zero vals h = refl
 definition_stays (r ∷ rels) def (suc n) vals h = definition_stays rels def n vals h

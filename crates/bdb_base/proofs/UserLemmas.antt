@@ -281,7 +281,7 @@ names_still_differ (Live n ∷ us) (suc at) h =
 names_still_differ (Gone ∷ us) (suc at) h = names_still_differ us at h
 
 -- a name that is at a place is none of which none is there
-apart_from : (n name : List ℕ) (users : List UserSlot) (at : ℕ) → list_any (same_text n) (user_names users) ≡ false → slice_get users at ≡ Some (Live name) → same_text n name ≡ false
+pub apart_from : (n name : List ℕ) (users : List UserSlot) (at : ℕ) → list_any (same_text n) (user_names users) ≡ false → slice_get users at ≡ Some (Live name) → same_text n name ≡ false
 apart_from n name [] at h e = absurd (none-some (Live name) e)
 apart_from n name (Live m ∷ us) zero h e =
     let s : m ≡ name = cc in

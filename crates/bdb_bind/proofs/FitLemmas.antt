@@ -151,10 +151,6 @@ none_called (Live x ∷ us) name none =
     or_from (same_text x name) (list_any (λ y. same_text y name) (user_names us)) parts.0 (none_called us name parts.1)
 none_called (Gone ∷ us) name none = none_called us name none
 
-pub any_mapped : {X Y : Type 0} (p : Y → Bool) (f : X → Y) (xs : List X) → list_any p (map f xs) ≡ list_any (λ x. p (f x)) xs
-any_mapped p f [] = refl
-any_mapped p f (x ∷ xs) = ap (λ b. p (f x) || b) (any_mapped p f xs)
-
 pub distinct_with : (names : List (List ℕ)) (name : List ℕ) → are_distinct names ≡ true → list_any (λ x. same_text x name) names ≡ false
     → are_distinct (names ++ name ∷ []) ≡ true
 distinct_with [] name distinct apart = refl

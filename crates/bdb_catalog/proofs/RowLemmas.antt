@@ -4,7 +4,7 @@ use Rattle.std.specs.List.{list_any, list_all, AllByRecursion}
 use Rattle.std.specs.Option.{option_map}
 use Rattle.std.specs.Ordering.{is_eq, is_lt, eq_by_cmp}
 use Rattle.std.specs.FinMap as tables
-use Rattle.std.proofs.lemmas.Bool.{and_parts, and_from, or_cases, or_left, or_right, or_from, cond-true, cond-false, false≢true, true≢false, false_from_ne_true}
+use Rattle.std.proofs.lemmas.Bool.{and_parts, and_from, or_cases, or_left, or_right, or_from, cond-true, cond-false, false≢true, false_from_ne_true}
 use Rattle.std.proofs.lemmas.List.{take_more}
 use Rattle.bdb_base.specs.Bases.{distinct_count}
 use Rattle.bdb_base.specs.Same.{same_tuple, same_sign}
@@ -22,6 +22,7 @@ use Rattle.bdb_base.proofs.ListLemmas.{list_all-filter}
 use Rattle.bdb_base.proofs.WorldLemmas.{explicit_tuple}
 use Rattle.bdb_base.proofs.WorldRowsLemmas.{rows_are_the_world, same_row_tells}
 use Rattle.bdb_keep.specs.Tables.{Tables, bytes_cmp}
+use Rattle.bdb_keep.proofs.RowsLemmas.{same_place}
 use Rattle.bdb_key.specs.Grammar.{IsNum}
 use Rattle.bdb_key.specs.Rows.{mark_bytes, tuple_bytes}
 use Rattle.bdb_key.proofs.Forms.{tied}
@@ -32,13 +33,14 @@ use Rattle.bdb_tables.specs.Marks.{Mark, mark_of}
 use Rattle.bdb_tables.specs.Names.{Names, path_of}
 use Rattle.bdb_tables.specs.Rows.{Tuples, HoldsTuples, HoldsRows, row_for, AreKeyLengths}
 use Rattle.bdb_tables.specs.Spans.{AreUnder, IsUnder, entry_cmp}
-use Rattle.bdb_tables.proofs.Held.{same_place, some_same, none_some}
+use Rattle.bdb_tables.proofs.Held.{some_same, none_some}
 use Rattle.bdb_tables.proofs.ListLemmas.{all_filter, all_pass}
 use Rattle.bdb_val.specs.Reads.{HasRows, IsSpan}
 use Rattle.bdb_val.specs.Settling.{row_key}
 use Rattle.bdb_val.proofs.HeldLemmas.{some_is, held_names, right_row, explicit_is_stated}
 use Rattle.bdb_val.proofs.ReadLemmas.{rows_at, one_number, tuple_named, tuple_row, key_fits}
 use Rattle.bdb_val.proofs.WorldLemmas.{mark_tells, mark_has}
+use Rattle.bdb_val.proofs.CopyLemmas.{not_below_itself}
 use Rattle.bdb_catalog.specs.Taking.{is_said, AreTuplesOf}
 
 abbrev pub Entry : Type 0
@@ -58,9 +60,6 @@ up_filter p (e ∷ es) up =
     by : above e (filter p es) ≡ true → ascending (entry_cmp val_codec) (filter p es) ≡ true → (b : Bool) → ascending (entry_cmp val_codec) (cond b (e ∷ filter p es) (filter p es)) ≡ true
     by a rest true = and_from (above e (filter p es)) (ascending (entry_cmp val_codec) (filter p es)) a rest
     by a rest false = rest
-
-not_below_itself : (b : List ℕ) → is_lt (bytes_cmp b b) ≡ true → ⊥
-not_below_itself b e = true≢false (sym e ∙ ap is_lt (tied b b refl))
 
 -- ---- each row is found where it stands
 

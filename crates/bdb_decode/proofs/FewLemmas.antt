@@ -14,11 +14,12 @@ use Rattle.bdb_base.specs.Limits.{most_statements}
 use Rattle.bdb_base.specs.SortedSet.{ascending}
 use Rattle.bdb_base.specs.declared.kinds.Stmt.{Stmt}
 use Rattle.bdb_keep.specs.Tables.{Tables, bytes_cmp}
+use Rattle.bdb_keep.proofs.RowsLemmas.{same_place}
 use Rattle.bdb_key.specs.Rows.{mark_bytes}
 use Rattle.bdb_tables.specs.InUse.{val_bytes, val_codec}
 use Rattle.bdb_tables.specs.InUseLaws.{vals_are_one, mark_rows_are_one}
 use Rattle.bdb_tables.specs.Spans.{AreUnder, IsUnder, entry_bytes, entry_cmp}
-use Rattle.bdb_tables.proofs.Held.{same_place, some_same, none_some}
+use Rattle.bdb_tables.proofs.Held.{some_same, none_some}
 use Rattle.bdb_decode.specs.Explicit.{AreStated, Paths, TupleRows, ValRow, said}
 use Rattle.bdb_decode.specs.Many.{HaveNoStatements, IsThere}
 use Rattle.bdb_decode.proofs.RowLemmas.{misplaced_have_no_places}

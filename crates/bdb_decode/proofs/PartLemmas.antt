@@ -13,6 +13,7 @@ use Rattle.bdb_base.specs.declared.kinds.Catalog.{Catalog}
 use Rattle.bdb_base.specs.declared.kinds.Stmt.{Stmt}
 use Rattle.bdb_base.specs.declared.kinds.UserSlot.{UserSlot}
 use Rattle.bdb_base.specs.declared.tuple.Tuple.{Tuple}
+use Rattle.bdb_base.specs.OrderLemmas.{is_eq_nat_cmp}
 use Rattle.bdb_base.proofs.WorldLemmas.{valid_is_consistent}
 use Rattle.bdb_catalog.specs.Bases.{StoresValid}
 use Rattle.bdb_keep.specs.Tables.{Tables}
@@ -52,9 +53,6 @@ use Rattle.bdb_decode.proofs.HeldBaseLemmas.{base_statements_are_held}
 use Rattle.bdb_decode.proofs.WholeLemmas.{held_bases_are_stated, held_bases_are_whole}
 
 -- ---- items by number
-
-same_test : (a b : ℕ) → is_eq (nat_cmp a b) ≡ nat_eq a b
-same_test a b = grind (arith, nat_tests)
 
 turned_test : (a b : ℕ) → is_eq (nat_cmp a b) ≡ nat_eq b a
 turned_test a b = grind (arith, nat_tests)
@@ -111,7 +109,7 @@ tuples_ascend (e ∷ rows) a h =
 path_is : (worlds : List NamedWorld) (n : ℕ) → path_in worlds n ≡ item_of (map path_row worlds) n
 path_is [] n = refl
 path_is (x ∷ worlds) n =
-    ap (λ o. cond (nat_eq n x.wid) (Some x.path) o) (path_is worlds n) ∙ ap (λ b. cond b (Some x.path) (item_of (map path_row worlds) n)) (sym (same_test n x.wid))
+    ap (λ o. cond (nat_eq n x.wid) (Some x.path) o) (path_is worlds n) ∙ ap (λ b. cond b (Some x.path) (item_of (map path_row worlds) n)) (sym (is_eq_nat_cmp n x.wid))
 
 paths_above : (k : ℕ) (w : List ℕ) (worlds : List NamedWorld) → list_all (λ y. is_lt (number_cmp (k, w) y)) (map path_row worlds) ≡ list_all (λ n. is_lt (nat_cmp k n)) (map (λ (x : NamedWorld). x.wid) worlds)
 paths_above k w [] = refl

@@ -7,13 +7,14 @@ use Rattle.std.proofs.lemmas.Bool.{cases_Bool, and_parts, and_from, cond-true, c
 use Rattle.std.proofs.lemmas.List.Folds.{list_all-append}
 use Rattle.bdb_base.specs.declared.kinds.Stmt.{Stmt}
 use Rattle.bdb_keep.specs.Tables.{Tables, bytes_cmp}
+use Rattle.bdb_keep.proofs.RowsLemmas.{same_place}
 use Rattle.bdb_key.specs.Rows.{mark_bytes}
 use Rattle.bdb_tables.specs.Codec.{place}
 use Rattle.bdb_tables.specs.InUse.{val_bytes, val_codec}
 use Rattle.bdb_tables.specs.InUseLaws.{vals_are_one, mark_rows_are_one}
 use Rattle.bdb_tables.specs.Raw.{IsForeignFrom}
 use Rattle.bdb_tables.specs.Spans.{IsUnder, IsNextUnder, HasNextUnder, entry_bytes}
-use Rattle.bdb_tables.proofs.Held.{same_place, some_same, none_some}
+use Rattle.bdb_tables.proofs.Held.{some_same, none_some}
 use Rattle.bdb_tables.proofs.SpanLemmas.{Covers, rows_more, rows_end, covers_none}
 use Rattle.bdb_entries.proofs.ReadLemmas.{foreign_misfits, under_fits}
 use Rattle.bdb_decode.specs.Explicit.{AreMisplaced, ArePlaced, AreSaid, Paths, TupleRows, ValRow, is_placed, said}

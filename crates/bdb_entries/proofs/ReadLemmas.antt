@@ -9,10 +9,11 @@ use Rattle.std.proofs.lemmas.Bool.{cases_Bool}
 use Rattle.bdb_keep.specs.Calls.{IsRead}
 use Rattle.bdb_keep.specs.Seen.{Seen}
 use Rattle.bdb_keep.specs.Tables.{Tables, bytes_cmp, IsLeastFrom, NoneFrom}
+use Rattle.bdb_keep.proofs.RowsLemmas.{same_place}
 use Rattle.bdb_tables.specs.Codec.{Codec, IsEntryOf, TableFits}
 use Rattle.bdb_tables.specs.Raw.{IsForeignFrom}
 use Rattle.bdb_tables.specs.Spans.{entry_bytes, IsUnder, AreUnder, HasNextUnder}
-use Rattle.bdb_tables.proofs.Held.{same_place, some_same, none_some, at_true}
+use Rattle.bdb_tables.proofs.Held.{some_same, none_some, at_true}
 use Rattle.bdb_tables.proofs.Loops.{steps_ok}
 use Rattle.bdb_tables.proofs.SpanLemmas.{Covers, rows_more, rows_end}
 use Rattle.bdb_entries.specs.Reading.{IsBare}

@@ -4,8 +4,6 @@ use Rattle.std.specs.Prelude.{MatchOption}
 use Rattle.std.specs.Bool.{MatchBool}
 use Rattle.std.specs.List.{AllByRecursion}
 use Rattle.std.specs.Option.{option_map}
-use Rattle.std.specs.declared.cmp.Ordering.{Ordering}
-use Rattle.std.specs.declared.cmp.Ordering.TheVariants.{Less, Equal, Greater}
 use Rattle.std.specs.Ordering.{is_eq, nat_cmp}
 use Rattle.std.specs.FinMap as tables
 use Rattle.std.specs.FinMap.{find}
@@ -16,6 +14,7 @@ use Rattle.bdb_base.specs.OrderLemmas.{tuple_exact}
 use Rattle.bdb_base.specs.declared.kinds.Value.{Value}
 use Rattle.bdb_base.specs.declared.kinds.Value.TheVariants.{Int, Text}
 use Rattle.bdb_base.specs.declared.tuple.Tuple.{Tuple}
+use Rattle.bdb_base.proofs.SetLemmas.{is_eq-Equal}
 use Rattle.bdb_keep.specs.Tables.{Tables, bytes_cmp}
 use Rattle.bdb_key.specs.Grammar.{HasPlainText, IsPlainValue}
 use Rattle.bdb_key.specs.Rows.{IsTupleRow, MayBeTuple}
@@ -99,13 +98,8 @@ all_both P Q R (x ∷ xs) f h k = (f x h.0 k.0, all_both P Q R xs f h.1 k.1)
 pub same_number : (a b : ℕ) → is_eq (nat_cmp a b) ≡ true → a ≡ b
 same_number a b e = grind (arith, nat_tests)
 
-is_equal : (o : Ordering) → is_eq o ≡ true → o ≡ Equal
-is_equal Less e = absurd cc
-is_equal Equal e = refl
-is_equal Greater e = absurd cc
-
 same_tuples : (a b : Tuple) → is_eq (tuple_cmp a b) ≡ true → a ≡ b
-same_tuples a b e = tuple_exact.exact a b (is_equal (tuple_cmp a b) e)
+same_tuples a b e = tuple_exact.exact a b (is_eq-Equal (tuple_cmp a b) e)
 
 text_of : (v : Value) → IsPlainValue v → HasPlainText v
 text_of (Int n) h = tt

@@ -76,14 +76,6 @@ filter_map f p (x ∷ xs) = by (filter_map f p xs) (p (f x))
     by rest true = ap (λ r. f x ∷ r) rest
     by rest false = rest
 
-pub length_filter : {X : Type 0} (p : X → Bool) (xs : List X) → length (filter p xs) ≤ length xs
-length_filter p [] = omega arith
-length_filter p (x ∷ xs) = by (length_filter p xs) (p x)
-  where
-    by : length (filter p xs) ≤ length xs → (b : Bool) → length (cond b (x ∷ filter p xs) (filter p xs)) ≤ length (x ∷ xs)
-    by rest true = omega (arith, rest)
-    by rest false = omega (arith, rest)
-
 pub length_map : {X Y : Type 0} (f : X → Y) (xs : List X) → length (map f xs) ≡ length xs
 length_map f [] = refl
 length_map f (x ∷ xs) = ap suc (length_map f xs)

@@ -23,6 +23,7 @@ use Rattle.bdb_base.specs.declared.kinds.Ref.{Ref}
 use Rattle.bdb_base.specs.declared.kinds.Sign.{Sign}
 use Rattle.bdb_base.specs.declared.kinds.Value.{Value}
 use Rattle.bdb_base.specs.declared.tuple.Tuple.{Tuple}
+use Rattle.bdb_base.proofs.ListLemmas.{length-filter_le}
 use Rattle.bdb_queries.specs.Slots.{slot_at, known, known_operand, must_hold}
 use Rattle.bdb_plan.specs.Running.{Reached, with_slot, with_choice, choices, settled, after, reached_if, rows_from, reads_from, own_reads}
 use Rattle.bdb_plan.specs.Sight.{Sight}
@@ -30,28 +31,14 @@ use Rattle.bdb_plan.specs.declared.step.Step.{Step}
 use Rattle.bdb_plan.specs.declared.step.Step.TheVariants as step
 use Rattle.bdb_exec.specs.Keys.{tests_hold, passes, begins_so, column, names_another, asks_for_key, asks_on_left, asks_on_right, value_of_test, value_behind, values_behind, of_key, rows_of_key, key_asked, narrowed, choices_before, after_before}
 use Rattle.bdb_tables.specs.Beginnings.{led_by}
+use Rattle.bdb_plan.proofs.StandLemmas.{slot_other, slot_set}
 use Rattle.bdb_exec.specs.LookUps.{looks_from, own_looks, deny_looks, pool_looks}
-use Rattle.bdb_exec.proofs.DenyLemmas.{equal_value, length_filter, filter_narrow}
+use Rattle.bdb_exec.proofs.DenyLemmas.{equal_value, filter_narrow}
 
 -- ---- slots with one more tuple
 
-pub set_here : (slots : List (Option Tuple)) (item : ℕ) (t : Tuple) → item < length slots → slot_at (slice_set slots item (Some t)) item ≡ Some t
-set_here [] item t lt = absurd (omega arith)
-set_here (x ∷ slots) zero t lt = refl
-set_here (x ∷ slots) (suc item) t lt = set_here slots item t (omega arith)
-
-lower : (m n : ℕ) → nat_eq (suc m) (suc n) ≡ false → nat_eq m n ≡ false
-lower m n e = grind (arith, nat_tests)
-
-pub set_elsewhere : (slots : List (Option Tuple)) (item other : ℕ) (t : Tuple) → nat_eq other item ≡ false → slot_at (slice_set slots item (Some t)) other ≡ slot_at slots other
-set_elsewhere [] item other t e = refl
-set_elsewhere (x ∷ slots) zero zero t e = absurd (true≢false e)
-set_elsewhere (x ∷ slots) zero (suc other) t e = refl
-set_elsewhere (x ∷ slots) (suc item) zero t e = refl
-set_elsewhere (x ∷ slots) (suc item) (suc other) t e = set_elsewhere slots item other t (lower other item e)
-
 other_known : (slots : List (Option Tuple)) (item : ℕ) (t : Tuple) (o : Operand) → names_another item o ≡ true → known_operand (slice_set slots item (Some t)) o ≡ known_operand slots o
-other_known slots item t (Col r) e = ap (option_and_then (λ u. slice_get u.vals r.col)) (set_elsewhere slots item r.item t (turned (nat_eq r.item item) e))
+other_known slots item t (Col r) e = ap (option_and_then (λ u. slice_get u.vals r.col)) (slot_other slots item r.item t (turned (nat_eq r.item item) e))
   where
     turned : (b : Bool) → not b ≡ true → b ≡ false
     turned true e = absurd (true≢false (sym e))
@@ -99,7 +86,7 @@ module _ (slots : List (Option Tuple)) (item : ℕ) (t : Tuple) (lt : item < len
     column_known r e =
         let p = and_parts (nat_eq item r.item) (nat_eq col r.col) e in
         ap (λ i. option_and_then (λ u. slice_get u.vals r.col) (slot_at set i)) (sym (eqb-true item r.item p.0))
-        ∙ ap (option_and_then (λ u. slice_get u.vals r.col)) (set_here slots item t lt)
+        ∙ ap (option_and_then (λ u. slice_get u.vals r.col)) (slot_set slots item t lt)
         ∙ ap (slice_get t.vals) (sym (eqb-true col r.col p.1))
 
     -- a test that asks for a value holds exactly where the tuple has it
@@ -122,7 +109,7 @@ module _ (slots : List (Option Tuple)) (item : ℕ) (t : Tuple) (lt : item < len
         let p = and_parts (is_equality c.cmp) (is_column (column item col) c.right && not (nat_eq c.left.item item)) asks in
         let q = and_parts (is_column (column item col) c.right) (not (nat_eq c.left.item item)) p.1 in
         ap (λ cmp. compare_so cmp (known set c.left) (known_operand set c.right)) (equality c.cmp p.0)
-        ∙ ap (λ o. compare_so Eq o (known_operand set c.right)) (ap (option_and_then (λ u. slice_get u.vals c.left.col)) (set_elsewhere slots item c.left.item t (not-true (nat_eq c.left.item item) q.1)) ∙ k)
+        ∙ ap (λ o. compare_so Eq o (known_operand set c.right)) (ap (option_and_then (λ u. slice_get u.vals c.left.col)) (slot_other slots item c.left.item t (not-true (nat_eq c.left.item item) q.1)) ∙ k)
         ∙ ap (compare_so Eq (Some v)) (right_known c.right q.0)
         ∙ other_way v (slice_get t.vals col)
 
@@ -339,7 +326,7 @@ module _ (F G : Reached → ℕ) (h : (z : Reached) → F z ≤ G z) where
 
 -- the rows of a key are not more than all
 key_fewer : (vs : List Value) (rows : List (Tuple × Sign)) → length (rows_of_key vs rows) ≤ length rows
-key_fewer vs rows = length_filter (λ x. begins_so vs x.0) rows
+key_fewer vs rows = length-filter_le (λ x. begins_so vs x.0) rows
 
 own_fewer : (sight : Sight) (s : Reached) (x : Step) (xs : List Step) → own_looks sight s x xs ≤ own_reads sight s x
 own_fewer sight s (step.User a) xs = omega arith

@@ -10,8 +10,8 @@ use Rattle.std.proofs.lemmas.Cmp.{ranked}
 use Rattle.std.proofs.lemmas.Option.{cond_some, none-some}
 use Rattle.bdb_base.specs.declared.tuple.Tuple.{Tuple}
 use Rattle.bdb_keep.specs.Tables.{Tables, bytes_cmp}
+use Rattle.bdb_keep.proofs.RowsLemmas.{same_place}
 use Rattle.bdb_plan.specs.Running.{plus_tuples}
-use Rattle.bdb_tables.proofs.Held.{same_place}
 use Rattle.bdb_exec.specs.Memos.{pair_cmp, last_pool}
 use Rattle.bdb_exec.specs.Seen.{signed_under}
 use Rattle.bdb_exec.specs.declared.memo.KeyPool.{KeyPool}

@@ -13,12 +13,12 @@ use Rattle.bdb_base.specs.Bases.{Contents, IsValid, belongs, fits_columns, fits_
 use Rattle.bdb_base.specs.Clash.{key_of}
 use Rattle.bdb_base.specs.Limits.{deepest_statement, most_users}
 use Rattle.bdb_base.specs.Queries.{columns_at}
-use Rattle.bdb_base.specs.Same.{same_tuple, same_sign, same_values, same_path}
+use Rattle.bdb_base.specs.Same.{same_tuple, same_sign, same_values}
 use Rattle.bdb_base.specs.SameLemmas.{same_tuple-Decides, same_sign-Decides, same_values-Decides}
 use Rattle.bdb_base.specs.Segments.{is_prefix, is_suffix}
 use Rattle.bdb_base.specs.SortedSet.{ascending}
 use Rattle.bdb_base.specs.States.{is_state, edge_target}
-use Rattle.bdb_base.specs.Worlds.{stated, explicit, contradicted}
+use Rattle.bdb_base.specs.Worlds.{stated, explicit}
 use Rattle.bdb_base.specs.declared.kinds.Catalog.{Catalog}
 use Rattle.bdb_base.specs.declared.kinds.ColDef.{ColDef}
 use Rattle.bdb_base.specs.declared.kinds.RelDef.{RelDef}
@@ -29,13 +29,14 @@ use Rattle.bdb_base.specs.declared.kinds.UserSlot.{UserSlot}
 use Rattle.bdb_base.specs.declared.kinds.UserSlot.TheVariants.{Live, Gone}
 use Rattle.bdb_base.specs.declared.kinds.Value.{Value}
 use Rattle.bdb_base.specs.declared.tuple.Tuple.{Tuple}
-use Rattle.bdb_base.proofs.WorldLemmas.{worlds_are_consistent, valid_is_consistent, list_any_weaker}
+use Rattle.bdb_base.proofs.WorldLemmas.{worlds_are_consistent, valid_is_consistent, stated_tuples_are_explicit}
 use Rattle.bdb_paths.proofs.SuffixLemmas.{deepest_same, deepest_is_member}
 use Rattle.bdb_keep.specs.Tables.{Tables, bytes_cmp}
 use Rattle.bdb_key.specs.Bytes.{num_bytes, vals_bytes}
 use Rattle.bdb_key.specs.Grammar.{IsNum}
 use Rattle.bdb_key.specs.Rows.{IsRelRow, IsTupleRow, IsUserRow, mark_bytes, rel_bytes, slot_bytes}
 use Rattle.bdb_queries.specs.Slots.{user_tuple, user_tuples}
+use Rattle.bdb_keep.proofs.RowsLemmas.{same_place}
 use Rattle.bdb_plan.specs.Sight.{has_signed}
 use Rattle.bdb_tables.specs.Codec.{place}
 use Rattle.bdb_tables.specs.InUse.{ValKey, IsValKey, user_codec, rel_codec, edge_codec, val_codec}
@@ -44,7 +45,7 @@ use Rattle.bdb_tables.specs.Marks.{Mark, mark_of, sign_in, sign_by, marked}
 use Rattle.bdb_tables.specs.Names.{Names, path_of, number_of, is_named, edge_from, edge_of}
 use Rattle.bdb_tables.specs.Rows.{Tuples, HoldsRows, has_key, row_named, row_for}
 use Rattle.bdb_tables.specs.Spans.{AreUnder, IsUnder, entry_bytes, entry_cmp}
-use Rattle.bdb_tables.proofs.Held.{same_place, some_same, none_some}
+use Rattle.bdb_tables.proofs.Held.{some_same, none_some}
 use Rattle.bdb_tables.proofs.ListLemmas.{prefix_append}
 use Rattle.bdb_exec.specs.Based.{HaveBase, ShowBase, TablesShowBase, world_number}
 use Rattle.bdb_exec.specs.Readable.{CanBeRun}
@@ -161,18 +162,6 @@ few_users : (n : ℕ) → nat_le n most_users ≡ true → 1 + n ≤ 2 ^ 32
 few_users n h = grind (arith, nat_tests)
 
 -- ---- statements
-
-told_by : (keys : ℕ → ℕ) (stmts : List Stmt) (w : List ℕ) (u : Tuple) (s : Sign) → stated keys stmts w u s ≡ true → list_any (λ x. same_tuple x.tuple u) stmts ≡ true
-told_by keys stmts [] u s e = explicit_told stmts [] u s e
-  where
-    explicit_told : (stmts : List Stmt) (w : List ℕ) (u : Tuple) (s : Sign) → explicit stmts w u s ≡ true → list_any (λ x. same_tuple x.tuple u) stmts ≡ true
-    explicit_told stmts w u s e = list_any_weaker (λ x. same_path x.path w && (same_tuple x.tuple u && same_sign x.sign s)) (λ x. same_tuple x.tuple u)
-        (λ x k. (and_parts (same_tuple x.tuple u) (same_sign x.sign s) (and_parts (same_path x.path w) (same_tuple x.tuple u && same_sign x.sign s) k).1).0) stmts e
-told_by keys stmts (i ∷ w) u s e = elim (or_cases (explicit stmts (i ∷ w) u s) (stated keys stmts w u s && not (contradicted keys stmts (i ∷ w) u s)) e) [
-  | inl a ↦ list_any_weaker (λ x. same_path x.path (i ∷ w) && (same_tuple x.tuple u && same_sign x.sign s)) (λ x. same_tuple x.tuple u)
-      (λ x k. (and_parts (same_tuple x.tuple u) (same_sign x.sign s) (and_parts (same_path x.path (i ∷ w)) (same_tuple x.tuple u && same_sign x.sign s) k).1).0) stmts a
-  | inr b ↦ told_by keys stmts w u s (and_parts (stated keys stmts w u s) (not (contradicted keys stmts (i ∷ w) u s)) b).0
-]
 
 -- a tuple that is stated fits its relation
 stated_fits : (c : Catalog) (xs : List Stmt) (u : Tuple) → list_all (belongs c) xs ≡ true → list_any (λ x. same_tuple x.tuple u) xs ≡ true → fits_relation c.rels u ≡ true
@@ -377,7 +366,7 @@ module _ (ns : Names) (ts : Tuples) (t : Tables) (b : Contents) (valid : IsValid
 
   -- the number of a tuple that a state has
   number_told : (w : List ℕ) (u : Tuple) (s : Sign) → stated keys b.stmts w u s ≡ true → (tid : ℕ) × (ts.number u ≡ Some tid)
-  number_told w u s e = by (ts.number u) refl (h.tuples.stated u ∙ told_by keys b.stmts w u s e)
+  number_told w u s e = by (ts.number u) refl (h.tuples.stated u ∙ stated_tuples_are_explicit keys b.stmts w u s e)
     where
       by : (o : Option ℕ) → ts.number u ≡ o → is_some o ≡ true → (tid : ℕ) × (ts.number u ≡ Some tid)
       by None f i = absurd (false≢true i)

@@ -13,9 +13,9 @@ use Rattle.bdb_base.specs.SortedSet.{ascending}
 use Rattle.bdb_keep.specs.Tables.{Tables, bytes_cmp}
 use Rattle.bdb_key.proofs.Forms.{same_bytes}
 use Rattle.bdb_base.proofs.Numbers.{equal}
+use Rattle.bdb_keep.proofs.RowsLemmas.{same_place}
 use Rattle.bdb_tables.specs.Codec.{Codec, place}
 use Rattle.bdb_tables.specs.Spans.{AreUnder, IsUnder, entry_bytes, entry_cmp}
-use Rattle.bdb_tables.proofs.Held.{same_place}
 use Rattle.bdb_exec.specs.Seen.{rows_at}
 
 T_of : (b : Bool) → b ≡ true → T b

@@ -6,9 +6,9 @@ use Rattle.std.specs.Ordering.{is_eq, is_lt, nat_cmp}
 use Rattle.std.proofs.lemmas.Bool.{and_parts, and_from, or_parts, cond-true, cond-false, eqb-true, eq-eqb}
 use Rattle.std.proofs.lemmas.List.{map-append, take_more, append-nil}
 use Rattle.std.proofs.lemmas.List.Folds.{list_all-append}
-use Rattle.std.proofs.lemmas.Bool.Decides.{nat_tests}
 use Rattle.bdb_base.specs.Alternation.{alternates}
 use Rattle.bdb_base.specs.SortedSet.{ascending, is_member}
+use Rattle.bdb_base.specs.OrderLemmas.{is_eq_nat_cmp}
 use Rattle.bdb_keep.specs.Tables.{Tables}
 use Rattle.bdb_key.specs.Grammar.{IsNum}
 use Rattle.bdb_tables.specs.InUse.{depth_codec}
@@ -28,9 +28,6 @@ use Rattle.bdb_graph.proofs.NumberLemmas.{all_at, eq_turned, lt_differs}
 use Rattle.bdb_graph.proofs.UpLemmas.{path_deep, rows_have_depths}
 
 -- ---- the world of a number
-
-eq_cmp : (m n : ℕ) → is_eq (nat_cmp m n) ≡ nat_eq m n
-eq_cmp m n = grind (arith, nat_tests)
 
 pub up_found : (ups : List Up) (at n : ℕ) (other : Up) → ascending nat_cmp (map number_of_up ups) ≡ true → slice_get (map number_of_up ups) at ≡ Some n → Some (slice_index_or ups at other) ≡ up_in ups n
 up_found [] at n other a e = absurd cc
@@ -83,7 +80,7 @@ up_tells P (y ∷ xs) n x h e = by (nat_eq n y.wid) refl (λ f. up_tells P xs n 
 pub items_of_ups : (xs : List Up) (n : ℕ) → item_in depth_codec (map depth_row xs) n ≡ option_map (λ (x : Up). x.depth) (up_in xs n)
 items_of_ups [] n = refl
 items_of_ups (x ∷ xs) n =
-    ap (λ b. cond b (Some x.depth) (item_in depth_codec (map depth_row xs) n)) (eq_cmp n x.wid)
+    ap (λ b. cond b (Some x.depth) (item_in depth_codec (map depth_row xs) n)) (is_eq_nat_cmp n x.wid)
     ∙ ap (cond (nat_eq n x.wid) (Some x.depth)) (items_of_ups xs n)
     ∙ by (nat_eq n x.wid) (up_in xs n)
   where

@@ -9,10 +9,11 @@ use Rattle.std.specs.FinMap as tables
 use Rattle.std.specs.FinMap.{find}
 use Rattle.std.proofs.lemmas.Bool.{cases_Bool, cond-false, eqb-true, eq-eqb, false≢true}
 use Rattle.bdb_keep.specs.Tables.{Tables, bytes_cmp}
+use Rattle.bdb_keep.proofs.RowsLemmas.{same_place}
 use Rattle.bdb_key.proofs.Readings.{all_push}
 use Rattle.bdb_tables.specs.Codec.{Codec, HasAt, HasOneKey, HasOneRow, place}
 use Rattle.bdb_tables.specs.Spans.{IsNextUnder, IsUnder, NoneUnder, entry_bytes}
-use Rattle.bdb_tables.proofs.Held.{none_some, same_place, some_same}
+use Rattle.bdb_tables.proofs.Held.{none_some, some_same}
 use Rattle.bdb_tables.proofs.SpanLemmas.{Covers, covers_all, covers_more, covers_none}
 use Rattle.bdb_entries.proofs.ReadLemmas.{none_told, some_told}
 use Rattle.bdb_graph.specs.States.{AllKeysPass, GivesAt, HasNextKey, TellsKey, is_right}

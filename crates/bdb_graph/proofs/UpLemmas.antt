@@ -14,6 +14,7 @@ use Rattle.bdb_base.specs.Segments.{is_prefix}
 use Rattle.bdb_base.proofs.SegmentLemmas.{is_prefix_begins}
 use Rattle.bdb_keep.specs.Seen.{Seen}
 use Rattle.bdb_keep.specs.Tables.{Tables, bytes_cmp}
+use Rattle.bdb_keep.proofs.RowsLemmas.{same_place}
 use Rattle.bdb_key.specs.Bytes.{num_bytes}
 use Rattle.bdb_key.specs.Grammar.{IsNum}
 use Rattle.bdb_key.proofs.Alone.{one_num}
@@ -25,7 +26,7 @@ use Rattle.bdb_tables.specs.Names.{Names, path_of, depth_of}
 use Rattle.bdb_tables.specs.Spans.{AreUnder, IsUnder, entry_bytes}
 use Rattle.bdb_tables.specs.States.{HoldsStates, IsNamed, root, next}
 use Rattle.bdb_tables.specs.Reading.{OnlyReads}
-use Rattle.bdb_tables.proofs.Held.{same_place, some_same, none_some}
+use Rattle.bdb_tables.proofs.Held.{some_same, none_some}
 use Rattle.bdb_tables.proofs.Loops.{IsReading, goes_then, counts_then}
 use Rattle.bdb_tables.proofs.ListLemmas.{prefix_append}
 use Rattle.bdb_names.proofs.NamedLemmas.{named_path, path_is_told}

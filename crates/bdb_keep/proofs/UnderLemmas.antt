@@ -7,25 +7,23 @@ use Rattle.std.specs.Ordering.{is_le, is_eq, is_lt, nat_cmp, eq_by_cmp, ordering
 use Rattle.std.specs.List.{AllByRecursion, list_all}
 use Rattle.std.specs.FinMap.{find, nat_cmp-IsAntisymmetric}
 use Rattle.std.proofs.lemmas.Bool.{and_parts, and_from, eqb-true, false_from_ne_true}
-use Rattle.std.proofs.lemmas.Cmp.{nat_list_cmp_total, nat_cmp_total, tied_itself, eq_by_cmp_equiv}
+use Rattle.std.proofs.lemmas.Cmp.{nat_list_cmp_total, nat_cmp_total, eq_by_cmp_equiv}
 use Rattle.std.proofs.lemmas.List.{take-append-drop}
 use Rattle.std.proofs.Math.Seq.{take-suc, drop-cons}
 use mathlib.Core.Bool.{true≢false}
 use Rattle.bdb_base.specs.Segments.{is_prefix}
 use Rattle.bdb_base.specs.SortedSet.{ascending}
+use Rattle.bdb_base.proofs.Numbers.{equal}
 use Rattle.bdb_keep.specs.Tables.{bytes_cmp}
 use Rattle.bdb_keep.specs.Entries.{Entries, row_of, place_at, rows_of, AreBelow, AreAbove, NoneBelow, IsAscending}
 use Rattle.bdb_keep.specs.Blocks.{joined, before, after, AreSorted, IsBound, IsBlockFor}
 use Rattle.bdb_keep.specs.Spans.{Listed, listed_cmp, AreRowsUnder, row_under, entries_under, HasPast}
-use Rattle.bdb_keep.proofs.BlocksLemmas.{split, after-start}
+use Rattle.bdb_keep.proofs.BlocksLemmas.{split, after-start, after-end}
 use Rattle.bdb_keep.proofs.EntriesLemmas.{ascending-parts, place_at-above}
 use Rattle.bdb_keep.proofs.RowsLemmas.{get_rows_of, same_place}
 use Rattle.bdb_keep.proofs.ShelvesLemmas.{parts, shelf-below}
 
 -- ---- bytes that begin so
-
-same_number : (n : ℕ) → nat_cmp n n ≡ Equal
-same_number n = tied_itself nat_cmp_total n
 
 pub nat_same : (n m : ℕ) → n ≡ m → nat_eq n m ≡ true
 nat_same n m e = grind arith
@@ -38,7 +36,7 @@ prefix_le (i ∷ p) [] h = absurd (true≢false (sym h))
 prefix_le (i ∷ p) (j ∷ q) h =
     let both = and_parts (nat_eq i j) (is_prefix p q) h in
     let same : i ≡ j = eqb-true i j both.0 in
-    ap (λ o. is_le (ordering_then o (bytes_cmp p q))) (ap (λ n. nat_cmp n j) same ∙ same_number j) ∙ prefix_le p q both.1
+    ap (λ o. is_le (ordering_then o (bytes_cmp p q))) (ap (λ n. nat_cmp n j) same ∙ equal j) ∙ prefix_le p q both.1
 
 -- what lies between a beginning and bytes that begin so begins so too
 pub prefix_convex : (p k q : List ℕ) → is_prefix p q ≡ true → is_le (bytes_cmp p k) ≡ true → is_le (bytes_cmp k q) ≡ true → is_prefix p k ≡ true
@@ -70,7 +68,7 @@ pub row_under-other : (p place : List ℕ) (r : Option (List ℕ)) → is_prefix
 row_under-other p place None h = refl
 row_under-other p place (Some row) h = ap (λ b. cond b ((drop 1 place, row) ∷ []) []) h
 
-less_not_le : (a b : List ℕ) → bytes_cmp a b ≡ Less → is_le (bytes_cmp b a) ≡ false
+pub less_not_le : (a b : List ℕ) → bytes_cmp a b ≡ Less → is_le (bytes_cmp b a) ≡ false
 less_not_le a b l = ap is_le (nat_list_cmp_total.antisymm b a ∙ ap ordering_reverse l)
 
 -- what is below doesn't begin so
@@ -116,7 +114,7 @@ module _ (tab : ℕ) (prefix : List ℕ) where
   place_begins q h = and_from (nat_eq tab tab) (is_prefix prefix q) (nat_same tab tab refl) h
 
   inside : (a b : List ℕ) → bytes_cmp (tab ∷ a) (tab ∷ b) ≡ bytes_cmp a b
-  inside a b = ap (λ r. ordering_then r (bytes_cmp a b)) (same_number tab)
+  inside a b = ap (λ r. ordering_then r (bytes_cmp a b)) (equal tab)
 
   -- their keys begin so
   each_here : (place : List ℕ) (r : Option (List ℕ)) (rest : Listed) → AllByRecursion (λ r. is_prefix prefix r.0 ≡ true) rest → AllByRecursion (λ r. is_prefix prefix r.0 ≡ true) (row_under (tab ∷ prefix) place r ++ rest)
@@ -220,11 +218,6 @@ pub after-rest : (bs : List Entries) (i j : ℕ) → i < length bs → after bs 
 after-rest [] i j h = absurd (omega arith)
 after-rest (b ∷ bs) zero j h = ap (λ x. drop j b ++ x) (sym (after-start bs))
 after-rest (b ∷ bs) (suc i) j h = after-rest bs i j (omega arith)
-
-pub after-end : (bs : List Entries) (i j : ℕ) → length bs ≤ i → after bs i j ≡ []
-after-end [] i j h = refl
-after-end (b ∷ bs) zero j h = absurd (omega arith)
-after-end (b ∷ bs) (suc i) j h = after-end bs i j (omega arith)
 
 -- ---- entry by entry
 

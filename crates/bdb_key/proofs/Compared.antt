@@ -37,7 +37,7 @@ raised_cmp (pos m) (negsuc n) fm fn = greater (m + 2 ^ 63) (2 ^ 63 - 1 - n) (ome
 raised_cmp (negsuc m) (pos n) fm fn = less (2 ^ 63 - 1 - m) (n + 2 ^ 63) (omega arith)
 raised_cmp (negsuc m) (negsuc n) fm fn = flipped (2 ^ 63 - 1) m n (omega (arith, fm.sfits)) (omega (arith, fn.sfits))
 
-raised_lt : (m : ℤ) → FitsSigned w64 m → raised m < 2 ^ 64
+pub raised_lt : (m : ℤ) → FitsSigned w64 m → raised m < 2 ^ 64
 raised_lt (pos m) f = omega (arith, f.sfits)
 raised_lt (negsuc m) f = omega arith
 

@@ -15,14 +15,13 @@ use Rattle.std.proofs.lemmas.List.Sorted.{All-permutation, IsPermutation-map, le
 use Rattle.std.proofs.lemmas.List.Sums.{sum_by-cons}
 use Rattle.bdb_base.specs.Bases.{Contents, is_user}
 use Rattle.bdb_base.specs.Order.{path_cmp}
-use Rattle.bdb_base.specs.OrderLemmas.{path_exact}
+use Rattle.bdb_base.specs.OrderLemmas.{path_exact, is_eq_nat_cmp}
 use Rattle.bdb_base.specs.SortedSet.{IsExactOrder, ascending, is_member}
 use Rattle.bdb_base.specs.States.{stated_prefixes, states_of}
 use Rattle.bdb_base.proofs.SetLemmas.{is_eq-Equal, is_eq_itself, less_from_greater, members_make_set, set_is_ascending, set_keeps_members}
 use Rattle.bdb_keep.specs.Tables.{Tables}
 use Rattle.bdb_names.proofs.NamedLemmas.{tables_have_names}
 use Rattle.bdb_names.proofs.NameLemmas.{same_some}
-use Rattle.bdb_names.proofs.TurnedLemmas.{number_eq}
 use Rattle.bdb_tables.specs.InUse.{depth_codec}
 use Rattle.bdb_tables.specs.InUseLaws.{numbers_in_order, number_rows_are_one}
 use Rattle.bdb_tables.specs.Names.{Names, path_of, depth_of}
@@ -144,7 +143,7 @@ module _ (t : Tables) (b : Contents) (v : StoresValid t b) where
   module _ (rows : List (ℕ × ℕ)) (under : AreUnder depth_codec t [] rows) where
     pub all_deep : AllByRecursion (IsDeep t) rows
     all_deep =
-        each_deep rows (rows_are_items depth_codec numbers_in_order number_eq (λ k f. f) (λ k f. f) number_rows_are_one t (depth_of ns) h.tables.depth rows under)
+        each_deep rows (rows_are_items depth_codec numbers_in_order is_eq_nat_cmp (λ k f. f) (λ k f. f) number_rows_are_one t (depth_of ns) h.tables.depth rows under)
         (λ k e. there_is (λ w. length w) (path_of ns k) ∙ wids_named t b v rows under k e)
 
     -- ---- worlds with their paths

@@ -5,6 +5,7 @@ use Rattle.std.proofs.lemmas.List.{append-nil}
 use Rattle.std.proofs.lemmas.List.Folds.{list_all-append}
 use Rattle.std.proofs.lemmas.Grind.{flat_map-append}
 use Rattle.std.specs.List.{list_any}
+use Rattle.bdb_base.proofs.ListLemmas.{or_false}
 use Rattle.bdb_lex.specs.declared.mode.Mode.{Mode}
 use Rattle.bdb_lex.specs.declared.mode.Mode.TheVariants.{Plain, Dash, Quoted, Comment}
 use Rattle.bdb_lex.specs.declared.token.Piece.{Piece}
@@ -225,10 +226,6 @@ plain p h = state_of Plain p h
 or_true : (h : Bool) → (h || true) ≡ true
 or_true true = refl
 or_true false = refl
-
-or_false : (h : Bool) → (h || false) ≡ h
-or_false true = refl
-or_false false = refl
 
 or_assoc : (a b c : Bool) → ((a || b) || c) ≡ (a || (b || c))
 or_assoc true b c = refl

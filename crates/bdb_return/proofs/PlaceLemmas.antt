@@ -4,7 +4,6 @@ use Rattle.std.specs.List.{slice_get}
 use Rattle.std.specs.Ordering.{is_eq, nat_cmp}
 use Rattle.std.specs.FinMap as tables
 use Rattle.std.proofs.lemmas.Bool.{cases_Bool, cond-false, cond-true, eq-eqb, eqb-true, false≢true}
-use Rattle.std.proofs.lemmas.Bool.Decides.{nat_tests}
 use Rattle.std.proofs.lemmas.List.{length-set, length_push}
 use Rattle.std.proofs.lemmas.Option.{slice_get_past}
 use Rattle.bdb_base.specs.Bases.{Contents, IsValid, belongs, is_user, without_user, world_count}
@@ -15,6 +14,7 @@ use Rattle.bdb_base.specs.declared.kinds.Catalog.{Catalog}
 use Rattle.bdb_base.specs.declared.kinds.Stmt.{Stmt}
 use Rattle.bdb_base.specs.declared.kinds.UserSlot.{UserSlot}
 use Rattle.bdb_base.specs.declared.kinds.UserSlot.TheVariants.{Live, Gone}
+use Rattle.bdb_base.specs.OrderLemmas.{is_eq_nat_cmp}
 use Rattle.bdb_base.proofs.BaseLemmas.{belongs_parts}
 use Rattle.bdb_base.proofs.ListLemmas.{filter_all, list_all_weaker}
 use Rattle.bdb_base.proofs.UserLemmas.{comes_back, name_found, named_at, next_is_no_user, others_are_users, plain_at, states_name_others, user_above, user_or_new, user_within, who_is_gone_is_no_user, who_leaves_is_gone}
@@ -68,15 +68,12 @@ not_end [] x (suc n) h = refl
 not_end (y ∷ xs) x zero h = refl
 not_end (y ∷ xs) x (suc n) h = not_end xs x n (λ e. h (ap suc e))
 
-pub same_number : (a b : ℕ) → is_eq (nat_cmp a b) ≡ nat_eq a b
-same_number a b = grind (arith, nat_tests)
-
 -- the places without the last one
 slots_without_last : (users : List UserSlot) (slot : UserSlot) (uid k : ℕ) → uid ≡ suc (length users) → cond (is_eq (nat_cmp k uid)) None (slot_of (users ++ slot ∷ []) k) ≡ slot_of users k
 slots_without_last users slot uid k s = elim (cases_Bool (nat_eq k uid)) [
-  | inl e ↦ cond-true (is_eq (nat_cmp k uid)) None (slot_of (users ++ slot ∷ []) k) (same_number k uid ∙ e)
+  | inl e ↦ cond-true (is_eq (nat_cmp k uid)) None (slot_of (users ++ slot ∷ []) k) (is_eq_nat_cmp k uid ∙ e)
       ∙ sym (ap (slot_of users) (eqb-true k uid e ∙ s) ∙ slice_get_past users (length users) (omega arith))
-  | inr e ↦ cond-false (is_eq (nat_cmp k uid)) None (slot_of (users ++ slot ∷ []) k) (same_number k uid ∙ e) ∙ old k (λ z. false≢true (sym e ∙ eq-eqb k uid (z ∙ sym s)))
+  | inr e ↦ cond-false (is_eq (nat_cmp k uid)) None (slot_of (users ++ slot ∷ []) k) (is_eq_nat_cmp k uid ∙ e) ∙ old k (λ z. false≢true (sym e ∙ eq-eqb k uid (z ∙ sym s)))
 ]
   where
     old : (k : ℕ) → (k ≡ suc (length users) → ⊥) → slot_of (users ++ slot ∷ []) k ≡ slot_of users k

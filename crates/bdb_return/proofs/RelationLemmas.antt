@@ -10,6 +10,7 @@ use Rattle.bdb_base.specs.Bases.{belongs, key_lengths}
 use Rattle.bdb_base.specs.declared.kinds.Catalog.{Catalog}
 use Rattle.bdb_base.specs.declared.kinds.RelDef.{RelDef}
 use Rattle.bdb_base.specs.declared.kinds.Stmt.{Stmt}
+use Rattle.bdb_base.specs.OrderLemmas.{is_eq_nat_cmp}
 use Rattle.bdb_keep.specs.Tables.{Tables}
 use Rattle.bdb_key.specs.Grammar.{IsNum}
 use Rattle.bdb_tables.specs.Codec.{place}
@@ -26,7 +27,7 @@ use Rattle.bdb_update.proofs.LengthLemmas.{row_stays}
 use Rattle.bdb_return.specs.Naming.{LosesLastRelation, MayLoseName, SomeRelationIsLast, base_named}
 use Rattle.bdb_return.specs.Numbers.{IsNextRelation}
 use Rattle.bdb_return.specs.Places.{LosesRelation}
-use Rattle.bdb_return.proofs.PlaceLemmas.{not_end, same_number}
+use Rattle.bdb_return.proofs.PlaceLemmas.{not_end}
 
 -- ---- the rows of a base
 
@@ -43,9 +44,9 @@ rows_left c def stmts path ts t all h rows =
 
 rels_without_last : (rels : List RelDef) (def : RelDef) (rel k : ℕ) → rel ≡ length rels → cond (is_eq (nat_cmp k rel)) None (slice_get (rels ++ def ∷ []) k) ≡ slice_get rels k
 rels_without_last rels def rel k s = elim (cases_Bool (nat_eq k rel)) [
-  | inl e ↦ cond-true (is_eq (nat_cmp k rel)) None (slice_get (rels ++ def ∷ []) k) (same_number k rel ∙ e)
+  | inl e ↦ cond-true (is_eq (nat_cmp k rel)) None (slice_get (rels ++ def ∷ []) k) (is_eq_nat_cmp k rel ∙ e)
       ∙ sym (ap (slice_get rels) (eqb-true k rel e ∙ s) ∙ slice_get_past rels (length rels) (omega arith))
-  | inr e ↦ cond-false (is_eq (nat_cmp k rel)) None (slice_get (rels ++ def ∷ []) k) (same_number k rel ∙ e) ∙ not_end rels def k (λ z. false≢true (sym e ∙ eq-eqb k rel (z ∙ sym s)))
+  | inr e ↦ cond-false (is_eq (nat_cmp k rel)) None (slice_get (rels ++ def ∷ []) k) (is_eq_nat_cmp k rel ∙ e) ∙ not_end rels def k (λ z. false≢true (sym e ∙ eq-eqb k rel (z ∙ sym s)))
 ]
 
 relation_less : (t : Tables) (rels : List RelDef) (rel : ℕ) (def : RelDef) → rel ≡ length rels → IsNum rel → Gives rel_codec t (slice_get (rels ++ def ∷ []))

@@ -24,6 +24,7 @@ use Rattle.bdb_session.specs.declared.stop.StopError.{StopError}
 use Rattle.bdb_session.specs.declared.stop.StopError.TheVariants.{Fault}
 use Rattle.bdb_session.proofs.ServedLemmas.{still_agrees}
 use Rattle.bdb_session.proofs.WithinLemmas.{cause_later, dropped_is_still, dropped_is_unchanged, rises_once}
+use Rattle.bdb_session.proofs.BatchLists.{negated, negated_false}
 
 -- ---- where a batch breaks off
 
@@ -190,14 +191,6 @@ stop_batch es before now old new stop e still d fall cause = record {
 pub unbegun_batch : (es : List Event) (k : Known) (old new : Seen) (stop : StopError) → IsStill old → IsBegin {T = Unit {0}} old new (Err stop) Fault → ServesBatch es k k old new (Err stop)
 unbegun_batch es k old new stop still b =
     stop_batch es k k old new stop refl still b.err b.counts (cause_later {T = Unit {0}} {U = BatchReply} old.faults old.faults new.faults stop (omega arith) b.cause)
-
-negated : (b c : Bool) → b ≡ not c → b ≡ false → c ≡ true
-negated b true e f = refl
-negated b false e f = absurd (false≢true (sym f ∙ e))
-
-negated_false : (b c : Bool) → b ≡ not c → b ≡ true → c ≡ false
-negated_false b true e f = absurd (false≢true (sym e ∙ f))
-negated_false b false e f = refl
 
 module _ (es : List Event) (before learns : Known) (old run mid new : Seen) (still : IsStill old) (began : IsBegin {T = Unit {0}} {E = StopError} old run (Ok tt) Fault) where
   begun : (s : State) → Agrees old.kept before s → Agrees run.kept before s

@@ -4,6 +4,7 @@ use Rattle.std.proofs.lemmas.Bool.Decides.{nat_tests}
 use Rattle.std.proofs.lemmas.Bool.{and_parts, cases_Bool, cond-true, cond-false, false≢true, MatchBool-at_true, MatchBool-at_false, or_parts, or_right, and_from, and_left}
 use Rattle.bdb_base.specs.Bases.{Contents}
 use Rattle.bdb_base.specs.declared.kinds.Catalog.{Catalog}
+use Rattle.bdb_base.proofs.ListLemmas.{or_false}
 use Rattle.bdb_canon.specs.declared.sizes.Counts.{Counts}
 use Rattle.bdb_keep.specs.Calls.{IsBegin}
 use Rattle.bdb_keep.specs.Seen.{GoesOn, Seen, IsStill}
@@ -68,10 +69,6 @@ unaltered_stays s (x ∷ es) e =
 pub same_alters : (a b : Contents) → b ≡ a → not (same_contents a b) ≡ false
 same_alters a b e = ap (λ (c : Contents). not (same_contents a c)) e ∙ ap not (contents_are_their_own a)
 
-or_none : (b : Bool) → (b || false) ≡ b
-or_none true = refl
-or_none false = refl
-
 or_regroup : (a b c : Bool) → ((a || b) || c) ≡ (a || (b || c))
 or_regroup true b c = refl
 or_regroup false b c = refl
@@ -80,7 +77,7 @@ or_regroup false b c = refl
 pub nothing_alters : {T : Type 0} (outcome : State → Outcome) (k : Known) (old : Seen) (result : Result T StopError)
     → ((s : State) → Agrees old.kept k s → (state_after s (outcome s)).base ≡ s.base) → Alters outcome k k old result
 nothing_alters outcome k old (Ok x) stays = λ s a.
-    sym (ap (λ (b : Bool). is_altered k || b) (same_alters s.base (state_after s (outcome s)).base (stays s a)) ∙ or_none (is_altered k))
+    sym (ap (λ (b : Bool). is_altered k || b) (same_alters s.base (state_after s (outcome s)).base (stays s a)) ∙ or_false (is_altered k))
 nothing_alters outcome k old (Err stop) stays = λ s a. tt
 
 pub alters_where : {T : Type 0} (outcome known : State → Outcome) (was now : Known) (old : Seen) (result : Result T StopError)
@@ -94,7 +91,7 @@ abbrev LinesAlter : List (List ℕ) → Known → Known → Seen → Type 0
 LinesAlter lines was now old = (s : State) → Agrees old.kept was s → accepts_all s (pieces lines) ≡ true → is_altered now ≡ (is_altered was || alters_some s (pieces lines))
 
 pub no_lines_alter : (lines : List (List ℕ)) (k : Known) (old : Seen) → lines ≡ [] → LinesAlter lines k k old
-no_lines_alter lines k old e = subst (λ (ls : List (List ℕ)). LinesAlter ls k k old) (sym e) (λ s a all. sym (or_none (is_altered k)))
+no_lines_alter lines k old e = subst (λ (ls : List (List ℕ)). LinesAlter ls k k old) (sym e) (λ s a all. sym (or_false (is_altered k)))
 
 -- a line, and then the others
 pub lines_alter : (lines rest : List (List ℕ)) (line : List ℕ) (was between now : Known) (old run : Seen) → lines ≡ line ∷ rest
@@ -136,7 +133,7 @@ altered_bases c a b h e = elim (cases_Bool (same_contents a b)) [
 
 learned_by : (change : Option Change) (k : Known) (catalog : Catalog) (counts : Counts) (a b : Contents) → LeadsBy change a b
     → is_altered (record { catalog = catalog; counts = counts; history = noted_by change k.history }) ≡ (is_altered k || not (same_contents a b))
-learned_by None k catalog counts a b h = sym (ap (λ (x : Bool). is_altered k || x) (same_alters a b h) ∙ or_none (is_altered k))
+learned_by None k catalog counts a b h = sym (ap (λ (x : Bool). is_altered k || x) (same_alters a b h) ∙ or_false (is_altered k))
 learned_by (Some c) k catalog counts a b h = noted_some c k.history ∙ sym (or_right (is_altered k) (not (same_contents a b)) (altered_bases c a b h.0 h.1))
 
 -- what a session learned altered the base exactly where it is another one
@@ -145,11 +142,11 @@ learned_alters k news a b h = learned_by news.change k (catalog_by k.catalog new
 
 -- ---- how the transaction of a batch ends
 
-negated : (b c : Bool) → b ≡ not c → b ≡ false → c ≡ true
+pub negated : (b c : Bool) → b ≡ not c → b ≡ false → c ≡ true
 negated b true e f = refl
 negated b false e f = absurd (false≢true (sym f ∙ e))
 
-negated_false : (b c : Bool) → b ≡ not c → b ≡ true → c ≡ false
+pub negated_false : (b c : Bool) → b ≡ not c → b ≡ true → c ≡ false
 negated_false b true e f = absurd (false≢true (sym e ∙ f))
 negated_false b false e f = refl
 

@@ -2,23 +2,17 @@
 use Rattle.std.proofs.Common.{◌≡◌, ◌∙◌, ℕ, ◌≤◌, Ok, Err, sym, ap, arith}
 use Rattle.bdb_base.specs.Causes.{Rose}
 use Rattle.bdb_keep.specs.Calls.{IsBegin, IsCommit}
-use Rattle.bdb_keep.specs.Seen.{Seen, IsStill, NeverFall, IsDropped, Unchanged, Steps}
+use Rattle.bdb_keep.specs.Seen.{Seen, IsStill, NeverFall, IsDropped, Steps}
 use Rattle.bdb_tables.proofs.Loops.{counts_then}
 use Rattle.bdb_tables.specs.declared.tab.TabError.{TabError}
 use Rattle.bdb_tables.specs.declared.tab.TabError.TheVariants as tab
 use Rattle.bdb_session.specs.declared.stop.StopError.{StopError}
 use Rattle.bdb_session.specs.declared.stop.StopError.TheVariants.{Fault}
 use Rattle.bdb_session.specs.Committing.{IsCommitted}
+use Rattle.bdb_session.proofs.WithinLemmas.{dropped_is_unchanged, dropped_is_still}
 
 rose_later : (a b c : ℕ) → a ≤ b → Rose b c → Rose a c
 rose_later a b c le r = omega arith
-
--- what is dropped is as it was where nothing ran
-dropped_is_still : (old new : Seen) → IsDropped old new → IsStill new
-dropped_is_still old new d = record { stopped = d.stopped; rest = d.undone ∙ sym d.last }
-
-dropped_is_unchanged : (old new : Seen) → IsStill old → IsDropped old new → Unchanged old new
-dropped_is_unchanged old new still d = record { kept = d.undone ∙ sym still.rest; last = d.last; commits = d.commits }
 
 pub not_begun : {T : Type 0} (old new : Seen) (stop : StopError) → IsStill old → IsBegin {T = T} old new (Err stop) Fault → IsCommitted {T = T} old new (Err stop) Fault
 not_begun old new stop still b = record {

@@ -8,7 +8,7 @@ use Rattle.std.proofs.lemmas.List.Sums.{sum_by-cons, sum_by_push}
 use Rattle.bdb_base.specs.Bases.{Contents, tuple_count, world_count}
 use Rattle.bdb_base.specs.Limits.{most_worlds, most_tuples, most_statements}
 use Rattle.bdb_base.specs.Order.{path_cmp, tuple_cmp}
-use Rattle.bdb_base.specs.OrderLemmas.{path_exact, tuple_exact}
+use Rattle.bdb_base.specs.OrderLemmas.{path_exact, tuple_exact, is_eq_nat_cmp}
 use Rattle.bdb_base.specs.Same.{same_tuple}
 use Rattle.bdb_base.specs.SameLemmas.{same_tuple-Decides}
 use Rattle.bdb_base.specs.SortedSet.{is_member, sorted_set}
@@ -26,16 +26,13 @@ use Rattle.bdb_canon.specs.Canonical.{row_count}
 use Rattle.bdb_canon.specs.declared.sizes.Counts.{Counts}
 use Rattle.bdb_keep.specs.Tables.{Tables}
 use Rattle.bdb_key.specs.Grammar.{IsNum}
-use Rattle.bdb_names.proofs.TurnedLemmas.{number_eq}
 use Rattle.bdb_paths.proofs.StateLemmas.{list_has_states, states_are_counted}
-use Rattle.bdb_tables.specs.Grammar.{InGrammar}
 use Rattle.bdb_tables.specs.InUse.{depth_codec, tuple_codec}
 use Rattle.bdb_tables.specs.InUseLaws.{numbers_in_order, number_rows_are_one, tuple_rows_are_one}
 use Rattle.bdb_tables.specs.Names.{Names, AreNames, path_of, number_of, is_named, depth_of, is_listed, are_once}
 use Rattle.bdb_tables.specs.Rows.{Tuples}
 use Rattle.bdb_tables.specs.Spans.{AreUnder}
 use Rattle.bdb_tables.specs.Stored.{StoredAs}
-use Rattle.bdb_update.proofs.GrammarLemmas.{stored_is_in_grammar}
 use Rattle.bdb_update.proofs.KeyLemmas.{lengths_fit}
 use Rattle.bdb_update.proofs.StageLemmas.{over_has_tuples}
 use Rattle.bdb_update.proofs.SumLemmas.{sum_of_states, rows_are_few}
@@ -101,11 +98,11 @@ module _ (t : Tables) (b : Contents) (v : StoresValid t b) where
 
     pub wids_are : (n : ℕ) → is_listed n wids ≡ is_some (path_of ns n)
     wids_are n =
-        numbers_are depth_codec numbers_in_order number_eq (λ k f. f) (λ k f. f) number_rows_are_one t (depth_of ns) h.states.tables.depth world_sized es under n
+        numbers_are depth_codec numbers_in_order is_eq_nat_cmp (λ k f. f) (λ k f. f) number_rows_are_one t (depth_of ns) h.states.tables.depth world_sized es under n
         ∙ there_is (λ w. length w) (path_of ns n)
 
     pub wids_once : are_once wids ≡ true
-    wids_once = numbers_once depth_codec numbers_in_order number_eq (λ k f. f) (λ k f. f) es under.each under.sorted
+    wids_once = numbers_once depth_codec numbers_in_order is_eq_nat_cmp (λ k f. f) (λ k f. f) es under.each under.sorted
 
     pub wids_named : AllNamed (path_of ns) wids
     wids_named k e = sym (wids_are k) ∙ e
@@ -174,14 +171,14 @@ module _ (t : Tables) (b : Contents) (v : StoresValid t b) where
     tids = numbers_of es
 
     pub tids_are : (n : ℕ) → is_listed n tids ≡ is_some (ts.tuple n)
-    tids_are n = numbers_are tuple_codec numbers_in_order number_eq (λ k f. f) (λ k f. f) tuple_rows_are_one t ts.tuple h.tuples.tuples
+    tids_are n = numbers_are tuple_codec numbers_in_order is_eq_nat_cmp (λ k f. f) (λ k f. f) tuple_rows_are_one t ts.tuple h.tuples.tuples
         (λ k e. let u = some_is (ts.tuple k) e in h.tuples.sized k u.0 u.1) es under n
 
     pub tids_named : AllNamed ts.tuple tids
     tids_named k e = sym (tids_are k) ∙ e
 
     pub tids_once : are_once tids ≡ true
-    tids_once = numbers_once tuple_codec numbers_in_order number_eq (λ k f. f) (λ k f. f) es under.each under.sorted
+    tids_once = numbers_once tuple_codec numbers_in_order is_eq_nat_cmp (λ k f. f) (λ k f. f) es under.each under.sorted
 
     tuple_member : (u : Tuple) → is_member tuple_cmp (tuples_of b.stmts) u ≡ is_some (ts.number u)
     tuple_member u = set_keeps_members tuple_exact (map (λ (x : Stmt). x.tuple) b.stmts) u ∙ member_of_map b.stmts u ∙ sym (h.tuples.stated u)
@@ -194,7 +191,7 @@ module _ (t : Tables) (b : Contents) (v : StoresValid t b) where
 
     pub tuples_told : sorted_set tuple_cmp (map (λ (e : ℕ × Tuple). e.1) es) ≡ tuples_of b.stmts
     tuples_told =
-        ap (sorted_set tuple_cmp) (sym (rows_are_items tuple_codec numbers_in_order number_eq (λ k f. f) (λ k f. f) tuple_rows_are_one t ts.tuple h.tuples.tuples es under)) ∙ tuples_are
+        ap (sorted_set tuple_cmp) (sym (rows_are_items tuple_codec numbers_in_order is_eq_nat_cmp (λ k f. f) (λ k f. f) tuple_rows_are_one t ts.tuple h.tuples.tuples es under)) ∙ tuples_are
 
     -- the rows are as many as the tuples
     pub tuples_as_many : length es ≡ length (tuples_of b.stmts)
@@ -282,9 +279,6 @@ module _ (t : Tables) (es : List (ℕ × ℕ)) (ds : List (ℕ × Tuple)) (stmts
         omega arith
 
 -- ---- what the tables have
-
-pub valid_in_grammar : (t : Tables) → StoresSome t → InGrammar t
-valid_in_grammar t s = stored_is_in_grammar t s.base s.stores.stored
 
 pub valid_has_tuples : (t : Tables) → StoresSome t → HaveTuples t
 valid_has_tuples t s = over_has_tuples s.base.stmts s.base.stmts s.stores.stored.names s.stores.stored.tuples t s.base s.stores.stored.stored

@@ -1,9 +1,9 @@
 -- Statements counted path by path, and the explicit rows of a path's world.
-use Rattle.std.proofs.Common.{◌≡◌, ◌∙◌, ℕ, ◌+◌, Bool, true, false, ◌||◌, nat_eq, cond, List, [], ◌∷◌, length, map, filter, refl, ap, sym, inl, inr, arith}
+use Rattle.std.proofs.Common.{◌≡◌, ◌∙◌, ℕ, ◌+◌, Bool, true, false, ◌||◌, cond, List, [], ◌∷◌, length, map, filter, refl, ap, sym, inl, inr, arith}
 use Rattle.std.specs.Prelude.{sum_by}
 use Rattle.std.specs.List.{list_any, list_all}
 use Rattle.std.specs.Ordering.{is_eq, is_lt, ordering_then}
-use Rattle.std.proofs.lemmas.Bool.{cases_Bool, and_parts, and_from, or_left, or_right, or_cases, false≢true, cond-true, eq-eqb}
+use Rattle.std.proofs.lemmas.Bool.{cases_Bool, and_parts, and_from, or_left, or_right, or_cases, false≢true, cond-true}
 use Rattle.std.proofs.lemmas.List.{length-map}
 use Rattle.std.proofs.lemmas.List.Sums.{sum_by-cons}
 use Rattle.bdb_base.specs.Order.{path_cmp, sign_cmp, tuple_cmp, statement_cmp}
@@ -22,6 +22,7 @@ use Rattle.bdb_base.specs.declared.tuple.Tuple.{Tuple}
 use Rattle.bdb_base.proofs.FirstLemmas.{explicit_statement, statement_explicit}
 use Rattle.bdb_base.proofs.SetLemmas.{is_eq-Equal, is_eq_itself, is_lt-Less, filter_keeps_order, members_make_set}
 use Rattle.bdb_base.proofs.WorldRowsLemmas.{rows_are_the_world, same_row_tells, same_row_from, tuples_stand_once}
+use Rattle.bdb_base.proofs.WorldLemmas.{is_prefix_itself}
 use Rattle.bdb_names.proofs.ListedLemmas.{both_ways_true}
 use Rattle.bdb_paths.proofs.StateLemmas.{list_has_states}
 use Rattle.bdb_stored.specs.Counting.{explicit_rows}
@@ -249,10 +250,6 @@ explicit_are_statements keys stmts sorted c w =
 
 -- ---- the paths of statements are states
 
-prefix_itself : (w : List ℕ) → is_prefix w w ≡ true
-prefix_itself [] = refl
-prefix_itself (i ∷ w) = and_from (nat_eq i i) (is_prefix w w) (eq-eqb i i refl) (prefix_itself w)
-
 pub paths_are_members : (all xs : List Stmt) → ((p : Stmt → Bool) → list_any p xs ≡ true → list_any p all ≡ true) → list_all (λ x. is_member path_cmp (states_of all) x.path) xs ≡ true
 paths_are_members all [] k = refl
 paths_are_members all (x ∷ xs) k =
@@ -262,4 +259,4 @@ paths_are_members all (x ∷ xs) k =
   where
     state : (w : List ℕ) → x.path ≡ w → is_state all w ≡ true
     state [] e = refl
-    state (i ∷ w) e = k (λ y. is_prefix (i ∷ w) y.path) (or_left (is_prefix (i ∷ w) x.path) (list_any (λ y. is_prefix (i ∷ w) y.path) xs) (ap (is_prefix (i ∷ w)) e ∙ prefix_itself (i ∷ w)))
+    state (i ∷ w) e = k (λ y. is_prefix (i ∷ w) y.path) (or_left (is_prefix (i ∷ w) x.path) (list_any (λ y. is_prefix (i ∷ w) y.path) xs) (ap (is_prefix (i ∷ w)) e ∙ is_prefix_itself (i ∷ w)))

@@ -14,12 +14,12 @@ use Rattle.bdb_base.specs.Queries.{live_numbers, numbers_from, user_numbers}
 use Rattle.bdb_base.specs.SortedSet.{IsExactOrder, ascending, is_member}
 use Rattle.bdb_base.specs.declared.kinds.UserSlot.{UserSlot}
 use Rattle.bdb_base.specs.declared.kinds.UserSlot.TheVariants.{Live, Gone}
+use Rattle.bdb_base.specs.OrderLemmas.{is_eq_nat_cmp}
 use Rattle.bdb_base.proofs.ListLemmas.{filter_dropped_one, filter_kept_one, length-filter_le}
 use Rattle.bdb_base.proofs.SetLemmas.{filter_keeps_order, members_make_set}
 use Rattle.bdb_base.proofs.UserLemmas.{numbers_are_live, user_above, user_within}
 use Rattle.bdb_keep.specs.Tables.{Tables}
 use Rattle.bdb_names.proofs.ListedLemmas.{both_ways_true}
-use Rattle.bdb_names.proofs.TurnedLemmas.{number_eq}
 use Rattle.bdb_tables.specs.InUse.{user_codec}
 use Rattle.bdb_tables.specs.InUseLaws.{numbers_in_order, slot_rows_are_one}
 use Rattle.bdb_tables.specs.Names.{is_listed}
@@ -179,7 +179,7 @@ keys_told : (t : Tables) (es : List (ℕ × UserSlot)) → AreUnder user_codec t
 keys_told t es under b v =
     let us = b.catalog.users in
     let few = leb-true (length us) most_users v.valid.catalog.few_users in
-    let are = numbers_are user_codec numbers_in_order number_eq (λ k f. f) (λ k f. f) slot_rows_are_one t (slot_of us) v.stored.stored.users
+    let are = numbers_are user_codec numbers_in_order is_eq_nat_cmp (λ k f. f) (λ k f. f) slot_rows_are_one t (slot_of us) v.stored.stored.users
     (λ n e. let k = and_parts (nat_lt 0 n) (nat_le n (length us)) (sym (place_there us n) ∙ e) in let l = leb-true n (length us) k.1 in omega arith) es under in
     members_make_set nat_exact (keys es) (numbers_from 1 us) (keys_ascend es under.each under.sorted) (ascend 1 us) (λ n.
     member_is_listed (keys es) n ∙ are n ∙ place_there us n ∙ place_listed us n ∙ sym (member_is_listed (numbers_from 1 us) n))
@@ -200,7 +200,7 @@ items_at f n (u ∷ us) at =
 slots_told : (t : Tables) (es : List (ℕ × UserSlot)) → AreUnder user_codec t [] es → (b : Contents) → StoresValid t b → slots es ≡ b.catalog.users
 slots_told t es under b v =
     let us = b.catalog.users in
-    sym (rows_are_items user_codec numbers_in_order number_eq (λ k f. f) (λ k f. f) slot_rows_are_one t (slot_of us) v.stored.stored.users es under)
+    sym (rows_are_items user_codec numbers_in_order is_eq_nat_cmp (λ k f. f) (λ k f. f) slot_rows_are_one t (slot_of us) v.stored.stored.users es under)
     ∙ ap (items_of (slot_of us)) (keys_told t es under b v) ∙ items_at (slot_of us) 1 us (λ k. ap (slot_of us) (next k))
   where
     next : (k : ℕ) → 1 + k ≡ suc k

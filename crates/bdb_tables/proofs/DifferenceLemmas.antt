@@ -12,10 +12,10 @@ use Rattle.bdb_base.specs.Same.{same_text}
 use Rattle.bdb_base.specs.SameLemmas.{same_text-Decides}
 use Rattle.bdb_key.proofs.Forms.{tied}
 use Rattle.bdb_keep.specs.Tables.{Tables, bytes_cmp}
+use Rattle.bdb_keep.proofs.RowsLemmas.{same_place}
 use Rattle.bdb_tables.specs.Codec.{Codec, place}
 use Rattle.bdb_tables.specs.Differences.{AreDifferences, AreReal, DifferencesAdd, DifferencesAreCounted}
 use Rattle.bdb_tables.specs.Writes.{with_change, with_changes}
-use Rattle.bdb_tables.proofs.Held.{same_place}
 use Rattle.bdb_tables.proofs.WriteLemmas.{get_after_change}
 
 -- a place is among places
@@ -57,7 +57,7 @@ absent (p ∷ ps) qs q apart here =
     (false_from_ne_true (same_text q p) (λ e. false≢true (sym apart.0 ∙ ap (λ x. is_among x qs) (sym (same_is q p e)) ∙ here)))
     (absent ps qs q apart.1 here)
 
-distinct_append : (ps qs : List (List ℕ)) → are_distinct ps ≡ true → are_distinct qs ≡ true → AllByRecursion (λ p. is_among p qs ≡ false) ps → are_distinct (ps ++ qs) ≡ true
+pub distinct_append : (ps qs : List (List ℕ)) → are_distinct ps ≡ true → are_distinct qs ≡ true → AllByRecursion (λ p. is_among p qs ≡ false) ps → are_distinct (ps ++ qs) ≡ true
 distinct_append [] qs dp dq apart = dq
 distinct_append (p ∷ ps) qs dp dq apart =
     let both = and_parts (not (is_among p ps)) (are_distinct ps) dp in

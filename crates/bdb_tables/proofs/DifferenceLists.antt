@@ -12,9 +12,9 @@ use Rattle.bdb_base.specs.Bases.{are_distinct}
 use Rattle.bdb_base.specs.Same.{same_text}
 use Rattle.bdb_base.specs.SameLemmas.{same_text-Decides}
 use Rattle.bdb_keep.specs.Tables.{Tables, bytes_cmp}
+use Rattle.bdb_keep.proofs.RowsLemmas.{same_place}
 use Rattle.bdb_tables.specs.Differences.{AreDifferences, DifferencesAreListed}
 use Rattle.bdb_tables.proofs.DifferenceLemmas.{is_among, false_parts, or_false}
-use Rattle.bdb_tables.proofs.Held.{same_place}
 
 -- two rows are one, or there is none of either
 same_row : Option (List ℕ) → Option (List ℕ) → Bool

@@ -2,34 +2,21 @@
 use Rattle.std.proofs.Common.{◌≡◌, ℕ, zero, suc, List, [], ◌∷◌, ◌++◌, Bool, true, cond, Option, Some, None, IsTrue, refl, sym, ap, subst, ◌∙◌, arith, inl, inr}
 use Rattle.std.specs.declared.cmp.Ordering.{Ordering}
 use Rattle.std.specs.declared.cmp.Ordering.TheVariants.{Less, Equal, Greater}
-use Rattle.std.specs.Ordering.{is_eq, is_le, is_lt, eq_by_cmp, nat_cmp, ordering_then}
+use Rattle.std.specs.Ordering.{is_le, is_lt, eq_by_cmp, nat_cmp, ordering_then}
 use Rattle.std.specs.Bool.{MatchBool}
 use Rattle.std.specs.FinMap as map
-use Rattle.std.specs.FinMap.{get-from_entries, get-insert, get-remove}
+use Rattle.std.specs.FinMap.{get-from_entries}
 use Rattle.std.proofs.lemmas.Bool.{cases_Bool}
 use Rattle.std.proofs.lemmas.Cmp.{nat_list_cmp_total}
 use Rattle.bdb_keep.specs.Tables.{Tables, bytes_cmp}
-use Rattle.bdb_key.proofs.Forms.{same_bytes}
 use Rattle.bdb_base.proofs.Numbers.{less}
+use Rattle.bdb_keep.proofs.Gets.{get_after_insert, get_after_remove}
+use Rattle.bdb_keep.proofs.RowsLemmas.{same_place}
 use Rattle.bdb_tables.specs.Codec.{Codec, IsEntryOf, IsKeyOf, IsRowOf, HasFirst, HasLeast, KeepsOrder, TableFits, place}
 use Rattle.bdb_tables.specs.Grammar.{IsEntry, InGrammar}
 use Rattle.bdb_tables.specs.InUse.{meta_codec, user_codec, rel_codec, plain_codec}
 
 -- ---- places
-
-pub get_after_insert : (t : Tables) (p row q : List ℕ) → map.get (map.insert t p row) q ≡ cond (eq_by_cmp bytes_cmp q p) (Some row) (map.get t q)
-get_after_insert t p row q = get-insert nat_list_cmp_total t p row q
-
-pub get_after_remove : (t : Tables) (p q : List ℕ) → map.get (map.remove t p) q ≡ cond (eq_by_cmp bytes_cmp q p) None (map.get t q)
-get_after_remove t p q = get-remove nat_list_cmp_total t p q
-
-is_equal : (o : Ordering) → is_eq o ≡ true → o ≡ Equal
-is_equal Less e = absurd cc
-is_equal Equal e = refl
-is_equal Greater e = absurd cc
-
-pub same_place : (p q : List ℕ) → eq_by_cmp bytes_cmp p q ≡ true → p ≡ q
-same_place p q e = same_bytes p q (is_equal (bytes_cmp p q) e)
 
 pub head_same : (m n : ℕ) (j k : List ℕ) → m ∷ j ≡ n ∷ k → m ≡ n
 head_same m n j k e = cc

@@ -16,11 +16,11 @@ use Rattle.bdb_keep.specs.Scans.{next_key}
 use Rattle.bdb_keep.specs.Tables.{Tables, bytes_cmp, IsLeastFrom, NoneFrom}
 use Rattle.bdb_keep.proofs.Scans.{between_keys}
 use Rattle.bdb_keep.proofs.UnderLemmas.{prefix_le, prefix_convex}
+use Rattle.bdb_keep.proofs.RowsLemmas.{same_place}
 use Rattle.bdb_key.proofs.Readings.{all_push}
 use Rattle.bdb_key.specs.Reading.{Reads}
 use Rattle.bdb_tables.specs.Codec.{Codec}
 use Rattle.bdb_tables.specs.Spans.{entry_bytes, entry_cmp, IsUnder, AreUnder, IsNextUnder, NoneUnder, HasNextUnder}
-use Rattle.bdb_tables.proofs.Held.{same_place}
 use Rattle.bdb_tables.proofs.Prefixes.{le_itself, lt_le_lt, le_trans, below_next}
 
 -- ---- lists in order

@@ -25,6 +25,7 @@ use Rattle.bdb_base.specs.Bases.{is_valid_relation}
 use Rattle.bdb_base.specs.Queries.{columns_at, columns_of_definition}
 use Rattle.bdb_base.specs.Safety.{is_given, is_minus, is_users_item, is_literal, who_fits, fixed_differ, item_fits, item_kinds, column_kind, operand_kind, joins_one_kind, query_fits, IsSafe}
 use Rattle.bdb_base.proofs.ListLemmas.{list_all_get, list_all_weaker, filter_kept_one, filter_dropped_one}
+use Rattle.bdb_base.proofs.UserLemmas.{list_all-filter_both}
 use Rattle.bdb_plan.specs.declared.step.Step.{Step}
 use Rattle.bdb_plan.specs.declared.step.Step.TheVariants as step
 use Rattle.bdb_plan.specs.Fitness.{Placed, is_among, has_bound, was_bound, is_known, is_set, operand_is_set, who_is_set, is_walked, is_new, comes_next, is_whole, placed_if, with_user, with_walk, with_tuple, bound_count, with_all_bound, placed_after, placed_at_end, takes_set, fits_from, at_first}
@@ -87,20 +88,10 @@ tests_lead n w p (c ∷ cs) h =
     let k = and_parts (is_set p c.left && operand_is_set p c.right) (list_all (λ c. is_set p c.left && operand_is_set p c.right) cs) h in
     leads_first n w p p p (step.Test c) (map step.Test cs) (if_so (is_set p c.left && operand_is_set p c.right) p k.0) (tests_lead n w p cs k.1)
 
--- what passes two tests, passes in the filtered list what follows from both
-filtered : {X : Type 0} (p q r : X → Bool) → ((x : X) → p x ≡ true → q x ≡ true → r x ≡ true) → (xs : List X) → list_all p xs ≡ true → list_all r (filter q xs) ≡ true
-filtered p q r h [] g = refl
-filtered p q r h (x ∷ xs) g =
-    let k = and_parts (p x) (list_all p xs) g in
-    elim (cases_Bool (q x)) [
-      | inl e ↦ ap (list_all r) (filter_kept_one q x xs e) ∙ and_from (r x) (list_all r (filter q xs)) (h x k.0 e) (filtered p q r h xs k.1)
-      | inr e ↦ ap (list_all r) (filter_dropped_one q x xs e) ∙ filtered p q r h xs k.1
-    ]
-
 -- the tests that are due use what is set, where each column of an item that is there is so
 due_set : (rels : List RelDef) (q : Query) (set : List ℕ) (at : ℕ) (p : Placed) → list_all (joins_one_kind rels q.items) q.conds ≡ true
     → ((r : Ref) → is_among (at ∷ set) r.item ≡ true → is_some (column_kind rels q.items r) ≡ true → is_set p r ≡ true) → list_all (λ c. is_set p c.left && operand_is_set p c.right) (due set at q.conds) ≡ true
-due_set rels q set at p f h = filtered (joins_one_kind rels q.items) (λ c. all_set (at ∷ set) c && not (all_set set c)) (λ c. is_set p c.left && operand_is_set p c.right) one q.conds f
+due_set rels q set at p f h = list_all-filter_both (joins_one_kind rels q.items) (λ c. all_set (at ∷ set) c && not (all_set set c)) (λ c. is_set p c.left && operand_is_set p c.right) one q.conds f
   where
     right : (o : Operand) → operand_set (at ∷ set) o ≡ true → is_some (operand_kind rels q.items o) ≡ true → operand_is_set p o ≡ true
     right (Col r) a k = h r a k

@@ -23,6 +23,7 @@ use Rattle.bdb_base.specs.OrderLemmas.{value_exact}
 use Rattle.bdb_base.specs.Safety.{is_given, is_equality, is_literal, is_column, pins, links, same_column, item_kinds, column_kind, operand_kind, one_kind, joins_one_kind, IsBound, given, pinned, linked, equality, first_there}
 use Rattle.bdb_base.specs.SameLemmas.{same_kind-Decides}
 use Rattle.bdb_base.proofs.SetLemmas.{is_eq-Equal, is_eq_itself}
+use Rattle.bdb_base.proofs.LeastLemmas.{find_passes}
 use Rattle.bdb_queries.specs.Slots.{known, known_operand, must_hold, must_all_hold}
 use Rattle.bdb_queries.proofs.RangeLemmas.{same_column_is, equality_is}
 use Rattle.bdb_plan.specs.Sources.{renamed, renamed_by, stands_for, joined, pins_chain, columns_from, given_columns, source_of}
@@ -86,16 +87,6 @@ conds_keep_kinds rels items (c ∷ cs) h =
     ((λ y e o. one_kind_is (column_kind rels items c.left) (operand_kind rels items c.right) k.0 ∙ ap (operand_kind rels items) o), conds_keep_kinds rels items cs k.1)
 
 -- ---- finding
-
-pub find_passes : {X : Type 0} (p : X → Bool) (xs : List X) (x : X) → find p xs ≡ Some x → p x ≡ true
-find_passes p [] x e = cc
-find_passes p (y ∷ ys) x e = elim (cases_Bool (p y)) [
-  | inl k ↦
-      let same : Some y ≡ Some x = sym (cond-true (p y) (Some y) (find p ys) k) ∙ e in
-      let is : y ≡ x = cc in
-      ap p (sym is) ∙ k
-  | inr k ↦ find_passes p ys x (sym (cond-false (p y) (Some y) (find p ys) k) ∙ e)
-]
 
 -- what all pass, what is found passes
 pub find_all : {X : Type 0} (p q : X → Bool) (xs : List X) (x : X) → list_all q xs ≡ true → find p xs ≡ Some x → q x ≡ true

@@ -14,6 +14,7 @@ use Rattle.bdb_base.specs.SortedSet.{ascending, sorted_set}
 use Rattle.bdb_base.proofs.BaseLemmas.{filter_is_valid}
 use Rattle.bdb_base.proofs.ListLemmas.{or_move, filter_dropped_one}
 use Rattle.bdb_base.proofs.SetLemmas.{is_eq-Equal, is_eq_itself, members_make_set, put_keeps_order, take_keeps_order, filter_keeps_order, put_adds_member, take_drops_member, set_is_ascending, set_keeps_members}
+use Rattle.bdb_base.proofs.UpdateLemmas.{with_keeps_order}
 use Rattle.bdb_undo.specs.Changes.{missing_from}
 use Rattle.bdb_undo.specs.ChangeLaws.{FewerAreValid}
 
@@ -45,10 +46,6 @@ pub stands_missing : (others stmts : List Stmt) (z : Stmt) → stands (missing_f
 stands_missing others stmts z = stands_filter (λ x. not (stands others x)) stmts z
 
 -- ---- their order
-
-pub with_keeps_order : (stmts xs : List Stmt) → ascending statement_cmp stmts ≡ true → ascending statement_cmp (with_statements stmts xs) ≡ true
-with_keeps_order stmts [] h = h
-with_keeps_order stmts (x ∷ xs) h = with_keeps_order (with_statement stmts x) xs (put_keeps_order statement_exact stmts x h)
 
 pub without_keeps_order : (stmts xs : List Stmt) → ascending statement_cmp stmts ≡ true → ascending statement_cmp (without_statements stmts xs) ≡ true
 without_keeps_order stmts [] h = h

@@ -9,11 +9,10 @@ use Rattle.bdb_base.specs.Same.{same_text}
 use Rattle.bdb_base.specs.SameLemmas.{same_text-Decides}
 use Rattle.bdb_keep.specs.Tables.{Tables}
 use Rattle.bdb_tables.specs.Differences.{AreDifferences}
-use Rattle.bdb_tables.proofs.DifferenceLemmas.{is_among, no_more}
+use Rattle.bdb_tables.proofs.DifferenceLemmas.{is_among, no_more, distinct_append}
 use Rattle.bdb_val.specs.Others.{SameBut, is_in}
 use Rattle.bdb_update.specs.Bounds.{part_at}
 use Rattle.bdb_update.specs.Tallies.{HasRowCount, vals_at, nothing_at}
-use Rattle.bdb_update.proofs.RowLemmas.{append_distinct}
 use Rattle.bdb_update.proofs.TallyLemmas.{Places, rows_alone, filter_parts, filter_distinct, not_twice, among_passing, all_filter, all_of, all_weaker, all_among, length_append, same_row, same_row_is, same_row_from}
 
 abbrev pub Look : Type 0
@@ -72,7 +71,7 @@ module _ (f g : Look) (cs bs : Places) (a : AreDifferences f nothing_at cs) (b :
 
   pub are_between : AreDifferences f g between
   are_between = record {
-    once = filter_distinct differs either (append_distinct cs (filter fresh bs) a.once (filter_distinct fresh bs b.once) apart);
+    once = filter_distinct differs either (distinct_append cs (filter fresh bs) a.once (filter_distinct fresh bs b.once) apart);
     each = all_filter (λ q. f q ≢ g q) differs either (all_of (λ q. differs q ≡ true → f q ≢ g q) unlike either);
     only = λ q out. elim (cases_Bool (differs q)) [
       | inr e ↦ alike q e

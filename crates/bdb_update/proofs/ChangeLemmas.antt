@@ -10,6 +10,7 @@ use Rattle.bdb_base.specs.declared.kinds.Sign.{Sign}
 use Rattle.bdb_base.specs.declared.kinds.Stmt.{Stmt}
 use Rattle.bdb_base.specs.declared.tuple.Tuple.{Tuple}
 use Rattle.bdb_keep.specs.Tables.{Tables}
+use Rattle.bdb_keep.proofs.RowsLemmas.{same_place}
 use Rattle.bdb_key.specs.Grammar.{IsNum}
 use Rattle.bdb_key.specs.Rows.{IsAnyMark}
 use Rattle.bdb_key.proofs.Forms.{tied}
@@ -20,7 +21,6 @@ use Rattle.bdb_tables.specs.Names.{Names, path_of, number_of, is_named, link_of,
 use Rattle.bdb_tables.specs.Rows.{Tuples, HoldsTuples, HoldsRows, row_for, AreKeyLengths}
 use Rattle.bdb_tables.specs.States.{HoldsStates}
 use Rattle.bdb_tables.specs.Writes.{with_change, with_row_at}
-use Rattle.bdb_tables.proofs.Held.{same_place}
 use Rattle.bdb_tables.proofs.WriteLemmas.{change_gives, change_elsewhere}
 use Rattle.bdb_val.specs.Groups.{IsUnsettled, is_near}
 use Rattle.bdb_val.specs.Middle.{worlds_of, IsSettledAt}

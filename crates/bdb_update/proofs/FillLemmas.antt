@@ -31,13 +31,14 @@ use Rattle.bdb_worlds.proofs.ReadLemmas.{link_read}
 use Rattle.bdb_update.specs.ChangeLaws.{inherited}
 use Rattle.bdb_update.specs.Filling.{AreTold, Before, HaveCome, SomeHaveCome, FillsWorlds, HasLink, IsFilled, names_now}
 use Rattle.bdb_tables.specs.Stored.{SameBut}
-use Rattle.bdb_update.proofs.PrefixLemmas.{front, next_path, every, front_free, next_length, next_named, shorter_named, next_is_new, prefixes_push}
+use Rattle.bdb_update.proofs.PrefixLemmas.{front, next_path, every, front_free, next_length, next_named, shorter_named, next_is_new}
 use Rattle.bdb_update.proofs.ReachLemmas.{plain_world_inherits}
 use Rattle.bdb_update.specs.Tallies.{HasRowCount}
 use Rattle.bdb_update.proofs.CallLemmas.{gone_itself}
 use Rattle.bdb_update.proofs.ComeLemmas.{bare, part_count, part_few, rows_one}
 use Rattle.bdb_update.proofs.TallyLemmas.{told_balance}
 use Rattle.bdb_tables.proofs.SameLemmas.{same_then}
+use Rattle.bdb_worlds.proofs.GrowLemmas.{push_prefixes}
 
 same_some : {X : Type 0} (x y : X) (o : Option X) → o ≡ Some x → o ≡ Some y → x ≡ y
 same_some x y o a b = cc
@@ -160,7 +161,7 @@ module _ (s : Before) (t : Tables) (xs ys : List ℕ) (n : ℕ) (c : HaveCome s 
     world_filled = gives_same val_codec u (rows_copied rows_before m n) (row_for s.keys s.stmts (path_of (with_name before n p)) s.tuples.tuple) (λ k f. row_is k) (copies rows_before rows)
 
     pub one_filled : HoldsRows s.keys s.stmts (path_of (names_now s (xs ++ n ∷ []))) s.tuples.tuple u
-    one_filled = subst (λ (x : Names). HoldsRows s.keys s.stmts (path_of x) s.tuples.tuple u) (sym (prefixes_push s.names s.path s.stood xs n)) world_filled
+    one_filled = subst (λ (x : Names). HoldsRows s.keys s.stmts (path_of x) s.tuples.tuple u) (sym (push_prefixes s.names s.path s.stood xs n)) world_filled
 
 -- ---- the loop
 

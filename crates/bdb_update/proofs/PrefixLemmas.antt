@@ -102,7 +102,3 @@ module _ (ns : Names) (path : List ℕ) (len : ℕ) (xs ys : List ℕ) (n : ℕ)
       let g : path_of every m ≡ Some next_path = ap (λ (x : Names). path_of x m) every_is ∙ still_named front path (len + length xs) (n ∷ ys) m next_path behind f in
       let same : m ≡ n = same_some m n (number_of every next_path) (names.named m next_path g) (names.named n next_path next_named) in
       some_none next_path (path_of front n) front_free (ap (path_of front) (sym same) ∙ f)
-
--- one prefix more at the end
-pub prefixes_push : (ns : Names) (path : List ℕ) (len : ℕ) (xs : List ℕ) (n : ℕ) → with_prefixes ns path len (xs ++ n ∷ []) ≡ with_name (with_prefixes ns path len xs) n (take (suc (len + length xs)) path)
-prefixes_push ns path len xs n = prefixes_split ns path len xs (n ∷ [])

@@ -16,11 +16,12 @@ use Rattle.bdb_base.specs.SortedSet.{ascending}
 use Rattle.bdb_base.specs.Worlds.{contradicted}
 use Rattle.bdb_base.proofs.BaseLemmas.{length-put_in}
 use Rattle.bdb_base.proofs.ListLemmas.{filter_kept_one, filter_dropped_one}
-use Rattle.bdb_base.proofs.SetLemmas.{list_any-put_in, put_keeps_order, filter_keeps_order, members_make_set, take_drops_member, take_keeps_order, put_adds_member, is_eq_itself, is_eq_turned, is_eq-Equal}
+use Rattle.bdb_base.proofs.SetLemmas.{list_any-put_in, put_keeps_order, filter_keeps_order, members_make_set, take_drops_member, take_keeps_order, put_adds_member, is_eq_itself, is_eq_turned}
 use Rattle.bdb_paths.proofs.StateLemmas.{list_any_same}
 use Rattle.bdb_update.specs.Calls.{are_apart}
 use Rattle.bdb_update.specs.Reached.{at_path, said_at, said_of}
 use Rattle.bdb_val.specs.declared.stored.Stored.{Stored}
+use Rattle.bdb_update.proofs.PartCountLemmas.{put_back}
 
 -- ---- lists
 
@@ -121,16 +122,6 @@ said_more w rows r =
 
 -- ---- statements that go
 
--- with it again, a statement that stood has not gone
-back_again : (xs : List Stmt) (x : Stmt) → ascending statement_cmp xs ≡ true → stands xs x ≡ true → with_statement (without_statement xs x) x ≡ xs
-back_again xs x s e = members_make_set statement_exact (with_statement (without_statement xs x) x) xs
-    (put_keeps_order statement_exact (without_statement xs x) x (take_keeps_order statement_exact xs x s)) s
-    (λ z. put_adds_member statement_exact (without_statement xs x) x z ∙ ap (λ b. is_eq (statement_cmp x z) || b) (take_drops_member statement_exact xs x z) ∙ by z (is_eq (statement_cmp x z)) refl)
-  where
-    by : (z : Stmt) (b : Bool) → is_eq (statement_cmp x z) ≡ b → (is_eq (statement_cmp x z) || (not (is_eq (statement_cmp x z)) && stands xs z)) ≡ stands xs z
-    by z true h = ap (λ b. b || (not b && stands xs z)) h ∙ sym (ap (stands xs) (sym (statement_exact.exact x z (is_eq-Equal (statement_cmp x z) h))) ∙ e)
-    by z false h = ap (λ b. b || (not b && stands xs z)) h
-
 gone_away : (xs : List Stmt) (x : Stmt) → stands (without_statement xs x) x ≡ false
 gone_away xs x = take_drops_member statement_exact xs x x ∙ ap (λ b. not b && stands xs x) (is_eq_itself statement_exact x)
 
@@ -169,7 +160,7 @@ any_left p xs [] s e a = sym (or_none (list_any p xs))
     or_none false = refl
 any_left p xs (x ∷ gone) s e a =
     let k = goes_first xs x gone e a in
-    sym (ap (list_any p) (back_again xs x s k.here)) ∙ list_any-put_in statement_exact p (without_statement xs x) x
+    sym (ap (list_any p) (put_back xs x s k.here)) ∙ list_any-put_in statement_exact p (without_statement xs x) x
     ∙ ap (λ b. p x || b) (any_left p (without_statement xs x) gone (take_keeps_order statement_exact xs x s) k.later k.apart)
     ∙ moved (p x) (list_any p (without_statements (without_statement xs x) gone)) (list_any p gone)
   where
@@ -185,7 +176,7 @@ length_left xs (x ∷ gone) s e a =
     let left = without_statement xs x in
     let s2 = take_keeps_order statement_exact xs x s in
     let ih = length_left left gone s2 k.later k.apart in
-    let one : length xs ≡ 1 + length left = ap length (sym (back_again xs x s k.here)) ∙ length-put_in statement_exact left x s2 ∙ ap (λ b. cond b 0 1 + length left) (gone_away xs x) in
+    let one : length xs ≡ 1 + length left = ap length (sym (put_back xs x s k.here)) ∙ length-put_in statement_exact left x s2 ∙ ap (λ b. cond b 0 1 + length left) (gone_away xs x) in
     omega arith
 
 pub length_with : (xs come : List Stmt) → ascending statement_cmp xs ≡ true → length (with_statements xs come) ≤ length xs + length come

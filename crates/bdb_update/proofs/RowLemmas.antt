@@ -35,7 +35,7 @@ use Rattle.bdb_tables.specs.InUseLaws.{vals_are_one}
 use Rattle.bdb_tables.specs.Marks.{Mark, sign_by, marked, mark_of}
 use Rattle.bdb_tables.specs.Names.{Names, path_of, is_listed, are_once}
 use Rattle.bdb_tables.specs.Rows.{Tuples, HoldsTuples, HoldsRows, row_for, AreKeyLengths}
-use Rattle.bdb_tables.proofs.DifferenceLemmas.{is_among}
+use Rattle.bdb_tables.proofs.DifferenceLemmas.{is_among, distinct_append}
 use Rattle.bdb_val.specs.Reads.{HasRows}
 use Rattle.bdb_val.specs.Settling.{row_key}
 use Rattle.bdb_val.proofs.HeldLemmas.{some_is, held_names, right_row}
@@ -47,17 +47,6 @@ use Rattle.bdb_update.specs.Tallies.{HasRowCount, vals_at, nothing_at}
 
 among_append : (p : List ℕ) (xs ys : List (List ℕ)) → is_among p (xs ++ ys) ≡ (is_among p xs || is_among p ys)
 among_append p xs ys = list_any-append (same_text p) xs ys
-
-pub append_distinct : (xs ys : List (List ℕ)) → are_distinct xs ≡ true → are_distinct ys ≡ true → AllByRecursion (λ p. is_among p ys ≡ false) xs → are_distinct (xs ++ ys) ≡ true
-append_distinct [] ys dx dy apart = dy
-append_distinct (x ∷ xs) ys dx dy apart =
-    let k = and_parts (not (is_among x xs)) (are_distinct xs) dx in
-    and_from (not (is_among x (xs ++ ys))) (are_distinct (xs ++ ys))
-    (not_from_false (is_among x (xs ++ ys)) (among_append x xs ys ∙ both (is_among x xs) (is_among x ys) (not-true (is_among x xs) k.0) apart.0))
-    (append_distinct xs ys k.1 dy apart.1)
-  where
-    both : (a b : Bool) → a ≡ false → b ≡ false → (a || b) ≡ false
-    both a b e f = ap (λ c. c || b) e ∙ f
 
 all_append : (P : List ℕ → Type 0) (xs ys : List (List ℕ)) → AllByRecursion P xs → AllByRecursion P ys → AllByRecursion P (xs ++ ys)
 all_append P [] ys h k = k
@@ -264,7 +253,7 @@ module _ (keys : ℕ → ℕ) where
     once (k ∷ ks) named o =
         let c = and_parts (not (is_listed k ks)) (are_once ks) o in
         let v = first_named k ks named in
-        append_distinct (world_places k) (places ks)
+        distinct_append (world_places k) (places ks)
         (once_in k v.0 v.1 (held_of k) (there k v.0 v.1) (tuples_stand_once keys stmts consistent (world k)))
         (once ks (rest_named k ks named) c.1)
         (all_mapped (λ q. is_among q (places ks) ≡ false) (IsOfWorld v.0) (at k)

@@ -38,9 +38,10 @@ use Rattle.bdb_update.proofs.KeyLemmas.{lengths_fit}
 use Rattle.bdb_update.specs.Keys.{keys_of}
 use Rattle.bdb_update.specs.Reached.{HasState, SomeHasState, StandAt, at_path, said_of, said_at}
 use Rattle.bdb_tables.specs.Stored.{Stores, StoredAs}
+use Rattle.bdb_tables.proofs.SignLemmas.{sign_is_explicit, one_sign}
 use Rattle.bdb_update.proofs.ExamineLemmas.{world_if_any}
 use Rattle.bdb_update.proofs.JudgeLemmas.{stands_is}
-use Rattle.bdb_update.proofs.MarkLemmas.{sign_explicit, explicit_is_sign, explicit_is, row_found, both}
+use Rattle.bdb_update.proofs.MarkLemmas.{explicit_is, row_found, both}
 use Rattle.bdb_update.proofs.OwnLemmas.{IsSaid}
 use Rattle.bdb_update.proofs.ReachedLemmas.{any-filter}
 
@@ -81,7 +82,7 @@ module _ (t : Tables) (b : Contents) (ns : Names) (ts : Tuples) (stored : Stored
       go : (rs : List Stored) → AreNamed ts.tuple rs → AllByRecursion (λ r. mark_in rows r.tid ≡ Some r.mark) rs → AllByRecursion (IsSaid b.stmts w) rs
       go [] a m = tt
       go (r ∷ rs) a m = (
-        (λ e. sign_explicit b.stmts w r.tuple r.mark.0
+        (λ e. sign_is_explicit b.stmts w r.tuple r.mark.0
             (sym (mark r.tid r.tuple a.0) ∙ ap explicit_of m.0 ∙ cond-true r.mark.1 (Some r.mark.0) None e)),
         go rs a.1 m.1,
       )
@@ -91,7 +92,7 @@ module _ (t : Tables) (b : Contents) (ns : Names) (ts : Tuples) (stored : Stored
   row_of Q all v s e =
       let n = some_is (ts.number v) (stored.tuples.stated v ∙ explicit_tuple b.stmts w v s e) in
       let k = stored.tuples.numbered v n.0 n.1 in
-      let m = explicit_is (mark_in rows n.0) s (mark n.0 v k ∙ explicit_is_sign (keys_of b) b.stmts w v s consistent e) in
+      let m = explicit_is (mark_in rows n.0) s (mark n.0 v k ∙ one_sign (keys_of b) b.stmts w v s consistent e) in
       let r = row_found (λ q. (ts.tuple q.tid ≡ Some q.tuple) × Q q) rows n.0 (s, true) (both (λ q. ts.tuple q.tid ≡ Some q.tuple) Q rows tuples all) m in
       (r.0, same (ts.tuple n.0) (ap ts.tuple (sym r.1) ∙ r.3.0) k, r.2, r.3.1)
     where

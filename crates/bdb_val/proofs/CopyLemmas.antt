@@ -8,6 +8,7 @@ use Rattle.std.proofs.lemmas.Bool.{true≢false, false≢true, cases_Bool, and_p
 use Rattle.bdb_base.specs.Segments.{is_prefix}
 use Rattle.bdb_base.specs.SortedSet.{ascending}
 use Rattle.bdb_keep.specs.Tables.{Tables, bytes_cmp}
+use Rattle.bdb_keep.proofs.RowsLemmas.{same_place}
 use Rattle.bdb_key.specs.Bytes.{num_bytes, vals_bytes}
 use Rattle.bdb_key.specs.Grammar.{IsNum}
 use Rattle.bdb_key.specs.Rows.{mark_bytes}
@@ -19,7 +20,7 @@ use Rattle.bdb_tables.specs.InUseLaws.{vals_are_one, vals_in_order, mark_rows_ar
 use Rattle.bdb_tables.specs.Marks.{Mark}
 use Rattle.bdb_tables.specs.Spans.{AreUnder, IsUnder, entry_cmp}
 use Rattle.bdb_tables.specs.Writes.{IsChange, Gives, with_changes, with_row_at, with_rows_at}
-use Rattle.bdb_tables.proofs.Held.{same_place, some_same, none_some}
+use Rattle.bdb_tables.proofs.Held.{some_same, none_some}
 use Rattle.bdb_tables.proofs.WriteLemmas.{changes_give, gives_same}
 use Rattle.bdb_tables.proofs.ListLemmas.{prefix_append}
 use Rattle.bdb_val.specs.Reads.{HaveTuples, world_prefix}

@@ -15,6 +15,7 @@ use Rattle.bdb_base.specs.SameLemmas.{same_values-Decides}
 use Rattle.bdb_base.specs.Segments.{is_prefix}
 use Rattle.bdb_base.specs.SortedSet.{ascending}
 use Rattle.bdb_keep.specs.Tables.{Tables, bytes_cmp}
+use Rattle.bdb_keep.proofs.RowsLemmas.{same_place}
 use Rattle.bdb_key.specs.Bytes.{num_bytes, vals_bytes}
 use Rattle.bdb_key.specs.Grammar.{IsNum, ArePlain, AreKeyVals}
 use Rattle.bdb_key.specs.Rows.{IsTupleRow, tuple_bytes, mark_bytes}
@@ -25,7 +26,7 @@ use Rattle.bdb_tables.specs.InUse.{ValKey, IsValKey, val_bytes, tuple_codec, val
 use Rattle.bdb_tables.specs.InUseLaws.{vals_are_one, mark_rows_are_one, tuple_rows_are_one}
 use Rattle.bdb_tables.specs.Spans.{AreUnder, IsUnder, entry_bytes, entry_cmp}
 use Rattle.bdb_tables.proofs.PartLemmas.{vals_form}
-use Rattle.bdb_tables.proofs.Held.{same_place, some_same, none_some}
+use Rattle.bdb_tables.proofs.Held.{some_same, none_some}
 use Rattle.bdb_tables.specs.Marks.{Mark}
 use Rattle.bdb_tables.specs.Rows.{AreKeyLengths}
 use Rattle.bdb_tables.specs.GroupMarks.{group_bytes}

@@ -12,6 +12,7 @@ use Rattle.bdb_val.specs.Settled.{settled_mark}
 use Rattle.bdb_val.specs.Settling.{RowChange, mark_in, barred_by, next_mark, same_mark, change_at, has_mark, fresh_change, settling, last_mark, AreNamed}
 use Rattle.bdb_val.specs.Laws.{SettlingIsRight, NoneSettlesTheSettled, SettlingIsReal}
 use Rattle.bdb_val.specs.declared.stored.Stored.{Stored}
+use Rattle.bdb_val.proofs.NextMarks.{one_tuple}
 
 beq_same : (a b : Bool) → beq a b ≡ true → a ≡ b
 beq_same true true e = refl
@@ -118,16 +119,13 @@ last_of_one (x ∷ xs) tid m z a b = elim (cases_Bool (nat_eq x.0 tid)) [
     left (inl k) e = inl (ap (λ c. c || list_any (λ y. nat_eq y.0 tid) xs) (sym e) ∙ k)
     left (inr k) e = inr (cond-false (nat_eq x.0 tid) x.2 m e ∙ k)
 
-same_named : (tuple : ℕ → Option Tuple) (a b : ℕ) (t u : Tuple) → tuple a ≡ Some t → tuple b ≡ Some u → nat_eq a b ≡ true → t ≡ u
-same_named tuple a b t u p q e = let k : a ≡ b = eqb-true a b e in let l : tuple a ≡ tuple b = ap tuple k in cc
-
 -- all changes of one number put the row that its tuple is to have
 changes_at_one : (keys : ℕ → ℕ) (tuple : ℕ → Option Tuple) (stored own from : List Stored) → AreNamed tuple stored → AreNamed tuple own → AreNamed tuple from
     → (tid : ℕ) (t : Tuple) → tuple tid ≡ Some t → AllByRecursion (λ x. nat_eq x.0 tid ≡ true → x.2 ≡ next_mark keys own from tid t) (settling keys stored own from)
 changes_at_one keys tuple stored own from a b c tid t e =
     settling_each keys stored own from (λ x. tuple x.tid ≡ Some x.tuple) (λ x. nat_eq x.0 tid ≡ true → x.2 ≡ next_mark keys own from tid t)
     (λ x n. change_each keys stored own from (λ y. nat_eq y.0 tid ≡ true → y.2 ≡ next_mark keys own from tid t) x
-    (λ _ k. ap (λ i. next_mark keys own from i x.tuple) (eqb-true x.tid tid k) ∙ ap (λ u. next_mark keys own from tid u) (same_named tuple x.tid tid x.tuple t n e k)))
+    (λ _ k. ap (λ i. next_mark keys own from i x.tuple) (eqb-true x.tid tid k) ∙ ap (λ u. next_mark keys own from tid u) (one_tuple tuple x.tid tid x.tuple t n e k)))
     a b c
 
 -- a row that is to be another is changed
@@ -136,7 +134,7 @@ change_is_there : (keys : ℕ → ℕ) (tuple : ℕ → Option Tuple) (stored ow
     → (x : Stored) → tuple x.tid ≡ Some x.tuple → nat_eq x.tid tid ≡ true → list_any (λ y. nat_eq y.0 tid) (change_at keys stored own from x) ≡ true
 change_is_there keys tuple stored own from tid t e d x n k =
     let i : x.tid ≡ tid = eqb-true x.tid tid k in
-    let u : x.tuple ≡ t = same_named tuple x.tid tid x.tuple t n e k in
+    let u : x.tuple ≡ t = one_tuple tuple x.tid tid x.tuple t n e k in
     let m = next_mark keys own from x.tid x.tuple in
     let b : same_mark (mark_in stored x.tid) m ≡ false = ap (λ j. same_mark (mark_in stored j) (next_mark keys own from j x.tuple)) i
     ∙ ap (λ v. same_mark (mark_in stored tid) (next_mark keys own from tid v)) u ∙ d in

@@ -12,6 +12,7 @@ use Rattle.bdb_base.specs.States.{deepest_suffix, suffix_link}
 use Rattle.bdb_base.specs.Worlds.{contradicted}
 use Rattle.bdb_paths.proofs.SuffixLemmas.{length-deepest}
 use Rattle.bdb_keep.specs.Tables.{Tables}
+use Rattle.bdb_keep.proofs.RowsLemmas.{same_place}
 use Rattle.bdb_key.specs.Bytes.{num_bytes}
 use Rattle.bdb_key.specs.Grammar.{IsNum}
 use Rattle.bdb_tables.specs.Codec.{HasAt}
@@ -21,7 +22,7 @@ use Rattle.bdb_tables.specs.Marks.{Mark, sign_of, explicit_of, explicit_sign}
 use Rattle.bdb_tables.specs.Names.{Names, AreNames, path_of, number_of, is_named, link_of, leads_to}
 use Rattle.bdb_tables.specs.States.{row_where}
 use Rattle.bdb_tables.specs.Writes.{Gives, with_row_at, with_rows_at}
-use Rattle.bdb_tables.proofs.Held.{same_place, some_same, none_some}
+use Rattle.bdb_tables.proofs.Held.{some_same, none_some}
 use Rattle.bdb_tables.proofs.WriteLemmas.{changes_elsewhere}
 use Rattle.bdb_val.specs.Groups.{HasLinks}
 use Rattle.bdb_val.specs.Middle.{worlds_of, HasExplicit, IsSettledAt}

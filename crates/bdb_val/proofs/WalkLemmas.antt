@@ -15,6 +15,7 @@ use Rattle.bdb_base.specs.Same.{same_values, same_tuple}
 use Rattle.bdb_base.specs.SameLemmas.{same_tuple-Decides, same_values-Decides}
 use Rattle.bdb_base.specs.Segments.{is_prefix}
 use Rattle.bdb_keep.specs.Tables.{Tables, bytes_cmp}
+use Rattle.bdb_keep.proofs.RowsLemmas.{same_place}
 use Rattle.bdb_key.specs.Bytes.{num_bytes}
 use Rattle.bdb_key.specs.Grammar.{IsNum, AreKeyVals}
 use Rattle.bdb_key.proofs.Forms.{tied}
@@ -28,7 +29,6 @@ use Rattle.bdb_tables.specs.Spans.{IsUnder, entry_bytes}
 use Rattle.bdb_tables.specs.States.{row_where}
 use Rattle.bdb_tables.specs.Writes.{with_row_at, with_rows_at}
 use Rattle.bdb_tables.specs.GroupMarks.{group_bytes}
-use Rattle.bdb_tables.proofs.Held.{same_place}
 use Rattle.bdb_tables.proofs.ListLemmas.{prefix_append, prefix_rest}
 use Rattle.bdb_val.specs.Groups.{HasLinks, IsUnsettled}
 use Rattle.bdb_val.specs.Middle.{worlds_of, HasExplicit, IsSettledAt, AreSettledBut}

@@ -24,6 +24,7 @@ use Rattle.bdb_base.specs.Worlds.{explicit, stated, IsConsistent}
 use Rattle.bdb_base.proofs.ListLemmas.{filter_kept_one, filter_dropped_one}
 use Rattle.bdb_base.proofs.WorldLemmas.{worlds_are_consistent, stated_tuples_are_explicit}
 use Rattle.bdb_base.proofs.WorldRowsLemmas.{same_row_tells, same_row_from, rows_are_the_world, tuples_stand_once}
+use Rattle.bdb_base.proofs.SetLemmas.{is_lt-Less}
 use Rattle.bdb_keep.specs.Tables.{Tables}
 use Rattle.bdb_key.specs.Grammar.{IsNum}
 use Rattle.bdb_tables.specs.InUse.{ValKey}
@@ -53,13 +54,8 @@ above_has x (y ∷ ys) h a e =
 not_before_itself : (t : Tuple) → is_lt (tuple_cmp t t) ≡ true → ⊥
 not_before_itself t e = true≢false (sym e ∙ ap is_lt (tied_itself tuple_total t))
 
-is_lt_less : (r : Ordering) → is_lt r ≡ true → r ≡ Less
-is_lt_less Less e = refl
-is_lt_less Equal e = absurd (false≢true e)
-is_lt_less Greater e = absurd (false≢true e)
-
 not_both : (t u : Tuple) → is_lt (tuple_cmp t u) ≡ true → is_lt (tuple_cmp u t) ≡ true → ⊥
-not_both t u a b = true≢false (sym a ∙ ap is_lt (tuple_total.antisymm t u ∙ ap ordering_reverse (is_lt_less (tuple_cmp u t) b)))
+not_both t u a b = true≢false (sym a ∙ ap is_lt (tuple_total.antisymm t u ∙ ap ordering_reverse (is_lt-Less (tuple_cmp u t) b)))
 
 row_itself : (h : Held) → same_row h h ≡ true
 row_itself h = same_row_from h h refl refl refl

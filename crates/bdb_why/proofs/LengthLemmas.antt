@@ -17,6 +17,7 @@ use Rattle.bdb_base.proofs.ClashLemmas.{clash_by_length}
 use Rattle.bdb_base.proofs.WorldLemmas.{found_by}
 use Rattle.bdb_model.proofs.LengthLemmas.{clash_is_within, least_clash_by_length, stated_by_length}
 use Rattle.bdb_model.proofs.LevelLemmas.{list_any_same}
+use Rattle.bdb_update.proofs.ClashingLemmas.{clash_is_of_key}
 use Rattle.bdb_why.specs.declared.kinds.Ground.{Ground}
 use Rattle.bdb_why.specs.declared.kinds.Ground.TheVariants.{Nowhere}
 use Rattle.bdb_why.specs.declared.kinds.Ruled.{Ruled}
@@ -26,7 +27,7 @@ use Rattle.bdb_why.specs.Accepting.{accepts, are_considered, is_among, is_covere
 use Rattle.bdb_why.specs.Certificates.{considered, is_held, is_rival_near, rivals, ruled_of, why_by, why_of}
 use Rattle.bdb_why.specs.Grounds.{ground_by, ground_from, ground_of, is_found}
 use Rattle.bdb_why.proofs.FindLemmas.{map_same_all}
-use Rattle.bdb_why.proofs.RivalLemmas.{clash_key, rivals_all}
+use Rattle.bdb_why.proofs.RivalLemmas.{rivals_all}
 
 list_all_same : {X : Type 0} (p q : X → Bool) → ((x : X) → p x ≡ q x) → (xs : List X) → list_all p xs ≡ list_all q xs
 list_all_same p q h [] = refl
@@ -118,7 +119,7 @@ module _ (keys : ℕ → ℕ) (stmts : List Stmt) (w : List ℕ) (t : Tuple) whe
   all_by_length Minus =
       ap (map (ruled_of one stmts w)) rivals_by_length
       ∙ map_same_all (ruled_of one stmts w) (ruled_of keys stmts w) (same_key keys t) ground_of_key (rivals keys stmts w t)
-      (rivals_all keys stmts w t (same_key keys t) (λ u c. clash_key keys t u Plus Plus c))
+      (rivals_all keys stmts w t (same_key keys t) (λ u c. clash_is_of_key keys t u Plus Plus c))
 
   why_by_length : (s : Sign) → why_of one stmts w t s ≡ why_of keys stmts w t s
   why_by_length s =

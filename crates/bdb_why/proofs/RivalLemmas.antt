@@ -20,6 +20,7 @@ use Rattle.bdb_base.proofs.ListLemmas.{or_false}
 use Rattle.bdb_base.proofs.SetLemmas.{list_any-sorted_set, list_all-put_in}
 use Rattle.bdb_base.proofs.WorldLemmas.{list_any_weaker, found_by, stated_cases, worlds_are_consistent}
 use Rattle.bdb_paths.proofs.StateLemmas.{list_any_same}
+use Rattle.bdb_update.proofs.ClashingLemmas.{clash_is_of_key}
 use Rattle.bdb_why.specs.declared.kinds.Ground.{Ground}
 use Rattle.bdb_why.specs.declared.kinds.Ruled.{Ruled}
 use Rattle.bdb_why.specs.declared.kinds.Why.TheVariants as why
@@ -131,13 +132,6 @@ pub same_key_itself : (keys : ℕ → ℕ) (t : Tuple) → same_key keys t t ≡
 same_key_itself keys t = and_from (nat_eq t.rel t.rel) (same_values (key_of keys t) (key_of keys t)) (eq-eqb t.rel t.rel refl)
     ((same_values-Decides (key_of keys t) (key_of keys t)).1 refl)
 
--- what clashes has one key
-pub clash_key : (keys : ℕ → ℕ) (t u : Tuple) (s r : Sign) → clash keys t s u r ≡ true → same_key keys t u ≡ true
-clash_key keys t u Plus Plus e = (and_parts (same_key keys t u) (not (same_tuple t u)) e).0
-clash_key keys t u Plus Minus e = ap (same_key keys t) (sym ((same_tuple-Decides t u).0 e)) ∙ same_key_itself keys t
-clash_key keys t u Minus Plus e = ap (same_key keys t) (sym ((same_tuple-Decides t u).0 e)) ∙ same_key_itself keys t
-clash_key keys t u Minus Minus e = absurd (false≢true e)
-
 -- two tuples with a third one's key have one key
 pub one_key : (keys : ℕ → ℕ) (t a b : Tuple) → same_key keys t a ≡ true → same_key keys t b ≡ true → same_key keys a b ≡ true
 one_key keys t a b e g =
@@ -157,5 +151,5 @@ same_from_apart keys a b e h = elim (cases_Bool (same_tuple a b)) [
 
 pub one_rival_is_found : OneRivalIsFound
 one_rival_is_found keys stmts h w t a b c d e g = same_from_apart keys a b
-    (one_key keys t a b (clash_key keys t a Plus Plus c) (clash_key keys t b Plus Plus d))
+    (one_key keys t a b (clash_is_of_key keys t a Plus Plus c) (clash_is_of_key keys t b Plus Plus d))
     (worlds_are_consistent keys stmts h w a b Plus Plus (sym (stated_is_found keys stmts w a Plus) ∙ e) (sym (stated_is_found keys stmts w b Plus) ∙ g))

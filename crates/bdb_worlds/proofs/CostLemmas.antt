@@ -339,7 +339,7 @@ pub sum_append : (f : Spot → ℕ) (xs ys : List Spot) → sum_of f (xs ++ ys) 
 sum_append f [] ys = omega arith
 sum_append f (x ∷ xs) ys = let e = sum_append f xs ys in omega (arith, e)
 
-length-both : (xs ys : List Spot) → length (xs ++ ys) ≡ length xs + length ys
+pub length-both : (xs ys : List Spot) → length (xs ++ ys) ≡ length xs + length ys
 length-both [] ys = omega arith
 length-both (x ∷ xs) ys = let e = length-both xs ys in omega (arith, e)
 

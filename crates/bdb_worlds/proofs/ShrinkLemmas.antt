@@ -18,26 +18,20 @@ use Rattle.bdb_tables.specs.Names.{Names, AreNames, path_of, number_of, is_named
 use Rattle.bdb_tables.specs.States.{HoldsStates}
 use Rattle.bdb_names.proofs.ListedLemmas.{both_ways_true}
 use Rattle.bdb_names.proofs.NameLemmas.{none_is_some, is_named_by, deep_number, link_at}
+use Rattle.bdb_names.proofs.Ends.{length_more}
 use Rattle.bdb_worlds.specs.Dropping.{IsDropped}
 use Rattle.bdb_worlds.specs.Holding.{Worlds, HoldSome}
 use Rattle.bdb_worlds.specs.Reach.{LeadsDeep, HasDeepTarget}
 use Rattle.bdb_worlds.specs.Shrinking.{IsNoState, AreNumbersAlong, AreAlong, without_prefixes, IsDead, AreDead, as_root, as_needed, HasShrunk, DropsStates, LeavesOthers}
 use Rattle.bdb_worlds.specs.Staying.{IsNeeded, by_row, by_longer, TellsNeeded}
 use Rattle.bdb_worlds.proofs.GoneLemmas.{state_is_gone}
-use Rattle.bdb_worlds.proofs.GrowLemmas.{length-take-is, take_split}
+use Rattle.bdb_worlds.proofs.GrowLemmas.{length-take-is, take_split, take_full}
 use Rattle.bdb_worlds.proofs.OutsideLemmas.{SameElsewhere}
 use Rattle.bdb_worlds.proofs.ReachLemmas.{ReachedTo, reached_more}
 use Rattle.bdb_worlds.proofs.StayLemmas.{longer_stands}
 use Rattle.bdb_worlds.proofs.WalkLemmas.{take_next}
 
 -- ---- parts of a path
-
-take_full : (w : List ℕ) (k : ℕ) → k ≡ length w → take k w ≡ w
-take_full w k e = ap (λ n. take n w) e ∙ by w
-  where
-    by : (w : List ℕ) → take (length w) w ≡ w
-    by [] = refl
-    by (x ∷ w) = ap (λ (z : List ℕ). x ∷ z) (by w)
 
 take_is_prefix : (w : List ℕ) (k : ℕ) → is_prefix (take k w) w ≡ true
 take_is_prefix w zero = refl
@@ -67,10 +61,6 @@ get_before [] x k l = absurd (omega arith)
 get_before (y ∷ xs) x zero l = refl
 get_before (y ∷ xs) x (suc k) l = get_before xs x k (omega arith)
 
-pub length-push : (xs : List ℕ) (x : ℕ) → length (xs ++ x ∷ []) ≡ suc (length xs)
-length-push [] x = refl
-length-push (y ∷ xs) x = ap (λ n. suc n) (length-push xs x)
-
 -- whichever states the tables hold, the first prefixes of a path have these numbers
 abbrev pub Collected : Tables → List ℕ → List ℕ → Type 0
 Collected t path numbers = (s : Worlds) → HoldsStates s.users s.names t → list_all s.users path ≡ true
@@ -86,7 +76,7 @@ collected_more t path numbers more len wid count e so_far reached = subst (Colle
     all s h own k l = elim (cases_lt k (length numbers)) [
       | inl b ↦ so_far s h own k b ∙ ap Some (sym (get_before numbers wid k b))
       | inr b ↦
-          let n = length-push numbers wid in
+          let n = length_more numbers wid in
           let last : k ≡ length numbers = omega arith in
           let here : suc k ≡ len + 1 = omega arith in
           ap (λ j. number_of s.names (take j path)) here ∙ reached s h own ∙ ap Some (sym (get_last numbers wid) ∙ ap (λ j. get_or (numbers ++ wid ∷ []) j 0) (sym last))
@@ -322,7 +312,7 @@ module _ (t u : Tables) (path numbers gone : List ℕ) (left : ℕ) (some : 0 < 
 
         pub shrunk_more : (more : List ℕ) → more ≡ gone ++ n ∷ [] → IsShrinking s t v path numbers more at
         shrunk_more more e = subst (λ x. IsShrinking s t v path numbers x at) (sym e) record {
-          whole = let w = now.whole in let l = length-push gone n in omega arith;
+          whole = let w = now.whole in let l = length_more gone n in omega arith;
           states = subst (λ x. HoldsStates s.users x v) (sym names_are) held;
           paths = λ w.
               ap (λ x. is_named x w) names_are ∙ named_less ms n p w ∙ ap (λ b. b && not (same_path w p)) (now.paths w)

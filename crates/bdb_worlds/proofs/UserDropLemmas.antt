@@ -18,7 +18,7 @@ use Rattle.bdb_tables.specs.Names.{Names, AreNames, path_of, number_of, is_named
 use Rattle.bdb_tables.specs.States.{HoldsStates, TablesAre}
 use Rattle.bdb_names.specs.Turned.{edge_set, same_edge, with_edge}
 use Rattle.bdb_names.proofs.NameLemmas.{some_of, path_is_named, deep_number, edge_at, edge_at_none, edge_is}
-use Rattle.bdb_names.proofs.TurnedLemmas.{edge_set_is, tables_same}
+use Rattle.bdb_names.proofs.TurnedLemmas.{edge_set_is, tables_same, same_edge_is}
 use Rattle.bdb_worlds.specs.Bounds.{RisesWithin}
 use Rattle.bdb_worlds.specs.Holding.{Worlds}
 use Rattle.bdb_worlds.specs.UserEdges.{IsNextNumber, HasNextNumber, without_one_user, MayLeave, DropsUser, WritesDropped, ReadsWorlds, DropsEdge, edge_dropped, edge_writes}
@@ -85,12 +85,6 @@ module _ (users : ℕ → Bool) (ns : Names) (uid : ℕ) where
       ap is_some (edge_at users ns k uid w e ∙ edge_is users ns uid w user (not_last uid w f) ∙ deep.1)
 
 -- ---- an edge that goes
-
-same_edge_is : (a b : ℕ × ℕ) → same_edge a b ≡ true → a ≡ b
-same_edge_is a b h =
-    let p = and_parts (nat_eq a.0 b.0) (nat_eq a.1 b.1) h in
-    let pair : ℕ → ℕ → ℕ × ℕ = λ m n. (m, n) in
-    ap (λ m. pair m a.1) (eqb-true a.0 b.0 p.0) ∙ ap (λ n. pair b.0 n) (eqb-true a.1 b.1 p.1)
 
 -- edges without the one at a key that has none
 none_there : (e : ℕ × ℕ → Option ℕ) (k q : ℕ × ℕ) → e k ≡ None → e q ≡ with_edge e k nothing q

@@ -1,8 +1,8 @@
 use Rattle.std.proofs.Common.{◌≡◌, get_or, length, subst, sym, rules, arith, ◌*◌}
 use Rattle.bdb_tables.specs.Grammar.{InGrammar}
 use Rattle.bdb_tables.specs.declared.tab.TabError.TheVariants.{Fault}
+use Rattle.bdb_catalog.proofs.OpeningLemmas.{some_grammar}
 use Rattle.bdb_stored.specs.Worlds.{TellsChildren}
-use Rattle.bdb_stored.proofs.CountingLemmas.{valid_in_grammar}
 use Rattle.bdb_stored.proofs.GrowLemmas.{grown_all, grown_next, grown_there}
 use Rattle.bdb_stored.proofs.ReadLemmas.{as_many_all, as_many_more, only_more}
 use Rattle.bdb_stored.proofs.worlds.grow.Goals as goal
@@ -14,7 +14,7 @@ index-requires g c =
     omega (arith, less, same)
 
 pub children_of-requires : goal.children_of-requires
-children_of-requires g c = record { grammar = subst InGrammar (sym c.loop-at.invariant.kept) (valid_in_grammar (g.K.Keeper.seen c.args.keeper.now).kept c.requires.base) }
+children_of-requires g c = record { grammar = subst InGrammar (sym c.loop-at.invariant.kept) (some_grammar (g.K.Keeper.seen c.args.keeper.now).kept c.requires.base) }
 
 pub loop-at-preserved : goal.loop-at-preserved
 loop-at-preserved g c =
