@@ -6,14 +6,15 @@ use Rattle.bdb_base.specs.declared.kinds.Sign.{Sign}
 use Rattle.bdb_base.specs.declared.kinds.Sign.TheVariants.{Plus, Minus}
 use Rattle.bdb_base.specs.declared.kinds.Stmt.{Stmt}
 use Rattle.bdb_base.specs.declared.tuple.Tuple.{Tuple}
-use Rattle.bdb_base.specs.Bases.{key_lengths}
+use Rattle.bdb_base.specs.Bases.{key_lengths, stands}
 use Rattle.bdb_base.specs.Clash.{clash, same_key, key_of}
 use Rattle.bdb_base.specs.Laws.{WorldsAreConsistent, ValidIsConsistent, PlainInheritance, HasRival, NegationsAreBelieved}
-use Rattle.bdb_base.specs.Same.{same_tuple, same_path, same_sign, same_values}
+use Rattle.bdb_base.specs.Same.{same_tuple, same_path, same_sign, same_values, same_statement}
 use Rattle.bdb_base.specs.Segments.{is_prefix}
 use Rattle.bdb_base.specs.States.{is_state}
 use Rattle.bdb_base.specs.Worlds.{explicit, contradicted, stated}
 use Rattle.bdb_base.specs.SameLemmas.{same_tuple-Decides, same_path-Decides, same_sign-Decides, same_values-Decides}
+use Rattle.bdb_base.specs.OrderLemmas.{is_eq_statement_cmp}
 use Rattle.bdb_base.proofs.ClashLemmas.{clash_is_symmetric}
 
 -- what a weaker test finds too
@@ -176,3 +177,11 @@ negations_are_believed keys stmts w t = (
         stmts (stated_tuples_are_explicit keys stmts w r.0 Plus r.4))
   ]),
 )
+
+pub stands_is_explicit : (stmts : List Stmt) (x : Stmt) → stands stmts x ≡ explicit stmts x.path x.tuple x.sign
+stands_is_explicit [] x = refl
+stands_is_explicit (y ∷ ys) x = ap (λ b. b || stands ys x) (is_eq_statement_cmp y x) ∙ ap (λ b. same_statement y x || b) (stands_is_explicit ys x)
+
+pub explicit_is_stated : (keys : ℕ → ℕ) (stmts : List Stmt) (w : List ℕ) (t : Tuple) (s : Sign) → explicit stmts w t s ≡ true → stated keys stmts w t s ≡ true
+explicit_is_stated keys stmts [] t s e = e
+explicit_is_stated keys stmts (i ∷ w) t s e = or_left (explicit stmts (i ∷ w) t s) _ e

@@ -12,12 +12,13 @@ use Rattle.bdb_base.specs.Bases.{IsCatalog, is_valid_relation}
 use Rattle.bdb_base.specs.Same.{same_text}
 use Rattle.bdb_base.specs.Queries.{columns_of_definition}
 use Rattle.bdb_base.proofs.ListLemmas.{list_all_get}
+use Rattle.bdb_base.proofs.OptionLemmas.{some_of}
 use Rattle.bdb_syntax.specs.declared.command.Command.{Command}
 use Rattle.bdb_bind.specs.Lookup.{number_of, columns_of, path_of}
 use Rattle.bdb_bind.specs.Parts.{path_names, new_columns, new_key, relation_name, tuple_values, relation_place, columns_for, change_columns}
 use Rattle.bdb_bind.specs.Lines.{unknown_relation, relation_line, values_arity, arity_line}
 use Rattle.bdb_bind.specs.Refusal.{names_refused}
-use Rattle.bdb_bind.proofs.Founds.{IsFound, found, is_there}
+use Rattle.bdb_bind.proofs.Founds.{IsFound, found}
 use Rattle.bdb_bind.proofs.PathLemmas.{path_alternates}
 use Rattle.bdb_bind.proofs.Cleared.{cleared, neither, few_columns, key_told, users_known, names_apart, not_refused}
 
@@ -50,7 +51,7 @@ columns_few c name valid = few_of c.rels name valid.rels_valid
 -- the relation of a name that is found, and its number
 pub relation_found : (c : Catalog) (name : List ℕ) → is_some (number_of c.rels name) ≡ true
     → (n : ℕ) × (number_of c.rels name ≡ Some n) × IsFound (λ r. same_text r.name name) 0 c.rels n
-relation_found c name known = let w = is_there (number_of c.rels name) known in (w.0, w.1, found _ 0 c.rels w.0 w.1)
+relation_found c name known = let w = some_of (number_of c.rels name) known in (w.0, w.1, found _ 0 c.rels w.0 w.1)
 
 -- the path of a command that isn't refused alternates
 pub accepted_alternates : (catalog : Catalog) (c : Command) (names : List (List ℕ)) → names_refused catalog c ≡ None → names ≡ path_names c

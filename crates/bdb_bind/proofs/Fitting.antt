@@ -13,6 +13,7 @@ use Rattle.bdb_base.specs.Same.{same_text}
 use Rattle.bdb_base.specs.Bases.{IsCatalog, is_plain, fits_columns, fits_relation, are_distinct, is_user, user_names, users_name}
 use Rattle.bdb_base.specs.Queries.{columns_of_definition}
 use Rattle.bdb_base.proofs.CountLemmas.{list_any-map}
+use Rattle.bdb_base.proofs.OptionLemmas.{nothing_mapped}
 use Rattle.bdb_syntax.specs.declared.command.Command.{Command}
 use Rattle.bdb_syntax.specs.declared.command.Command.TheVariants.{CreateUser, DropUser, CreateRelation, Insert, Delete, Update, Select, Explain, ShowWorld, Why, ShowTables, Undo, Redo}
 use Rattle.bdb_syntax.specs.declared.command.RawCond.{RawCond}
@@ -27,7 +28,7 @@ use Rattle.bdb_bind.specs.QueryLines.{query_items, query_relation, query_user, q
 use Rattle.bdb_bind.specs.Refusal.{unsafe_line, refusal_of}
 use Rattle.bdb_bind.specs.Fits.{can_be_answered, is_unclean, names_allowed, is_allowed, set_fits, cond_fits, columns_numbered, fits_catalog, WhatIsBoundFits}
 use Rattle.bdb_bind.proofs.Founds.{all_pass}
-use Rattle.bdb_bind.proofs.Cleared.{IsCleared, cleared, both_accepted, neither, not_refused, nothing_mapped, no_long_text, few_columns, key_told, users_known}
+use Rattle.bdb_bind.proofs.Cleared.{IsCleared, cleared, both_accepted, neither, not_refused, no_long_text, few_columns, key_told, users_known}
 use Rattle.bdb_bind.proofs.CatalogLemmas.{relation_found, named_relation, values_counted}
 use Rattle.bdb_bind.proofs.PathLemmas.{uid_is_user}
 use Rattle.bdb_bind.proofs.QueryFitting.{IsClearQuery, clear_query_fits}

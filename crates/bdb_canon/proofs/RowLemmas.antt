@@ -21,8 +21,7 @@ use Rattle.bdb_base.specs.Worlds.{explicit, stated}
 use Rattle.bdb_base.proofs.CountLemmas.{list_any-map}
 use Rattle.bdb_base.proofs.SetLemmas.{is_eq-Equal, is_eq_itself}
 use Rattle.bdb_base.proofs.WorldRowsLemmas.{list_any-flat_map, stated_is_member}
-use Rattle.bdb_base.proofs.ListLemmas.{or_false}
-use Rattle.bdb_paths.proofs.StateLemmas.{list_any_under}
+use Rattle.bdb_base.proofs.ListLemmas.{or_false, list_any_under}
 use Rattle.bdb_paths.proofs.SuffixLemmas.{deepest_is_member, states_stand_for_paths}
 use Rattle.bdb_canon.specs.declared.structure.CanonRow.{CanonRow}
 use Rattle.bdb_paths.specs.Places.{place_in}

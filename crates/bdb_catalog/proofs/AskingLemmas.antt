@@ -5,21 +5,19 @@ use Rattle.std.proofs.lemmas.Bool.{and_parts, and_from, cond-true, cond-false, e
 use Rattle.std.proofs.lemmas.List.{take-take, take-append-drop, length-take-le}
 use Rattle.bdb_base.specs.Clash.{key_of}
 use Rattle.bdb_base.specs.Conditions.{meets, meets_one, value_at, operand_at, compare_so}
-use Rattle.bdb_base.specs.Order.{value_cmp}
-use Rattle.bdb_base.specs.OrderLemmas.{value_exact}
 use Rattle.bdb_base.specs.Safety.{is_equality, first_there}
 use Rattle.bdb_base.specs.Same.{same_values}
 use Rattle.bdb_base.specs.SameLemmas.{same_values-Decides}
 use Rattle.bdb_base.specs.Segments.{is_prefix}
-use Rattle.bdb_base.specs.declared.kinds.Cmp.{Cmp}
-use Rattle.bdb_base.specs.declared.kinds.Cmp.TheVariants.{Eq, Ne, Lt, Le, Gt, Ge}
+use Rattle.bdb_base.specs.declared.kinds.Cmp.TheVariants.{Eq}
 use Rattle.bdb_base.specs.declared.kinds.Cond.{Cond}
 use Rattle.bdb_base.specs.declared.kinds.Operand.{Operand}
 use Rattle.bdb_base.specs.declared.kinds.Operand.TheVariants.{Col, Lit}
 use Rattle.bdb_base.specs.declared.kinds.Value.{Value}
 use Rattle.bdb_base.specs.declared.kinds.Value.TheVariants.{Int, Text}
 use Rattle.bdb_base.specs.declared.tuple.Tuple.{Tuple}
-use Rattle.bdb_base.proofs.SetLemmas.{is_eq-Equal}
+use Rattle.bdb_base.proofs.ListLemmas.{drop_there}
+use Rattle.bdb_base.proofs.ConditionLemmas.{equality_is, equal_value}
 use Rattle.bdb_key.specs.Bytes.{num_bytes, value_bytes, values_bytes, vals_bytes}
 use Rattle.bdb_key.specs.Grammar.{IsNum, ArePlain, AreKeyVals}
 use Rattle.bdb_key.specs.Rows.{IsTupleRow}
@@ -39,21 +37,6 @@ use Rattle.bdb_catalog.specs.Taking.{asks_for, beginning, is_asked, literal_of, 
 none_some : (v : Value) → None ≡ Some v → ⊥
 none_some v e = cc
 
-some_value : (a b : Value) → Some a ≡ Some b → a ≡ b
-some_value a b e = cc
-
-equal_values : (o : Option Value) (v : Value) → compare_so Eq o (Some v) ≡ true → o ≡ Some v
-equal_values None v e = absurd (false≢true e)
-equal_values (Some x) v e = ap Some (value_exact.exact x v (is_eq-Equal (value_cmp x v) e))
-
-equality : (c : Cmp) → is_equality c ≡ true → c ≡ Eq
-equality Eq e = refl
-equality Ne e = absurd (false≢true e)
-equality Lt e = absurd (false≢true e)
-equality Le e = absurd (false≢true e)
-equality Gt e = absurd (false≢true e)
-equality Ge e = absurd (false≢true e)
-
 literal_is : (u : Tuple) (o : Operand) (v : Value) → literal_of o ≡ Some v → operand_at u o ≡ Some v
 literal_is u (Col r) v e = absurd (none_some v e)
 literal_is u (Lit x) v e = e
@@ -69,8 +52,8 @@ test_tells c col u v k m = by (asks_for c col) refl
         let right : operand_at u c.right ≡ Some v = literal_is u c.right v (sym (cond-true (asks_for c col) (literal_of c.right) None a) ∙ k) in
         let left : value_at u c.left ≡ slice_get u.vals col =
         cond-true (nat_eq c.left.item 0) (slice_get u.vals c.left.col) None q.0 ∙ ap (λ n. slice_get u.vals n) (eqb-true c.left.col col q.1) in
-        equal_values (slice_get u.vals col) v
-        (sym (ap (λ cmp. compare_so cmp (value_at u c.left) (operand_at u c.right)) (equality c.cmp p.0)
+        equal_value (slice_get u.vals col) v
+        (sym (ap (λ cmp. compare_so cmp (value_at u c.left) (operand_at u c.right)) (equality_is c.cmp p.0)
         ∙ ap (λ o. compare_so Eq o (operand_at u c.right)) left ∙ ap (λ o. compare_so Eq (slice_get u.vals col) o) right) ∙ m)
     by false a = absurd (none_some v (sym (cond-false (asks_for c col) (literal_of c.right) None a) ∙ k))
 
@@ -85,12 +68,6 @@ asked_met (c ∷ cs) col u v k m = by (value_of_test c col) refl (λ e. asked_me
     by : (o : Option Value) → value_of_test c col ≡ o → (value_asked cs col ≡ Some v → slice_get u.vals col ≡ Some v) → slice_get u.vals col ≡ Some v
     by None e rest = rest (sym (ap (λ o. first_there o (value_asked cs col)) e) ∙ k)
     by (Some x) e rest = test_tells c col u v (e ∙ (sym (ap (λ o. first_there o (value_asked cs col)) e) ∙ k)) parts.0
-
--- values from one on that is there
-drop_there : (vs : List Value) (i : ℕ) (v : Value) → slice_get vs i ≡ Some v → drop i vs ≡ v ∷ drop (suc i) vs
-drop_there [] i v e = absurd (none_some v e)
-drop_there (x ∷ vs) zero v e = ap (λ (y : Value). y ∷ vs) (some_value x v e)
-drop_there (x ∷ vs) (suc i) v e = drop_there vs i v e
 
 -- from each column on it has the values that they ask for
 values_met : (conds : List Cond) (u : Tuple) → meets conds u ≡ true → (most col : ℕ) → take (length (values_from conds most col)) (drop col u.vals) ≡ values_from conds most col

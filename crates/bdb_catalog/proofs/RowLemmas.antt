@@ -17,10 +17,12 @@ use Rattle.bdb_base.specs.declared.kinds.Held.{Held}
 use Rattle.bdb_base.specs.declared.kinds.Sign.{Sign}
 use Rattle.bdb_base.specs.declared.kinds.Stmt.{Stmt}
 use Rattle.bdb_base.specs.declared.tuple.Tuple.{Tuple}
-use Rattle.bdb_base.proofs.CountLemmas.{one_unless, distinct_count-le}
-use Rattle.bdb_base.proofs.ListLemmas.{list_all-filter}
-use Rattle.bdb_base.proofs.WorldLemmas.{explicit_tuple}
+use Rattle.bdb_base.proofs.CountLemmas.{one_unless, distinct_count-le, count_within}
+use Rattle.bdb_base.proofs.ListLemmas.{list_all-filter, filter_push, length_map}
+use Rattle.bdb_base.proofs.WorldLemmas.{explicit_tuple, explicit_is_stated}
 use Rattle.bdb_base.proofs.WorldRowsLemmas.{rows_are_the_world, same_row_tells}
+use Rattle.bdb_base.proofs.OptionLemmas.{some_of, none_is_some, same_some, one_there}
+use Rattle.bdb_base.proofs.AllLemmas.{all_filter}
 use Rattle.bdb_keep.specs.Tables.{Tables, bytes_cmp}
 use Rattle.bdb_keep.proofs.RowsLemmas.{same_place}
 use Rattle.bdb_key.specs.Grammar.{IsNum}
@@ -33,11 +35,10 @@ use Rattle.bdb_tables.specs.Marks.{Mark, mark_of}
 use Rattle.bdb_tables.specs.Names.{Names, path_of}
 use Rattle.bdb_tables.specs.Rows.{Tuples, HoldsTuples, HoldsRows, row_for, AreKeyLengths}
 use Rattle.bdb_tables.specs.Spans.{AreUnder, IsUnder, entry_cmp}
-use Rattle.bdb_tables.proofs.Held.{some_same, none_some}
-use Rattle.bdb_tables.proofs.ListLemmas.{all_filter, all_pass}
+use Rattle.bdb_tables.proofs.ListLemmas.{all_pass}
 use Rattle.bdb_val.specs.Reads.{HasRows, IsSpan}
 use Rattle.bdb_val.specs.Settling.{row_key}
-use Rattle.bdb_val.proofs.HeldLemmas.{some_is, held_names, right_row, explicit_is_stated}
+use Rattle.bdb_val.proofs.HeldLemmas.{held_names, right_row}
 use Rattle.bdb_val.proofs.ReadLemmas.{rows_at, one_number, tuple_named, tuple_row, key_fits}
 use Rattle.bdb_val.proofs.WorldLemmas.{mark_tells, mark_has}
 use Rattle.bdb_val.proofs.CopyLemmas.{not_below_itself}
@@ -97,8 +98,8 @@ rows_are_there t prefix es a = go es a.each (found_each es a.sorted)
     go (d ∷ ds) b c = ((b.0.key, a.found (val_bytes d.0) b.0.begins ∙ c.0), go ds b.1 c.1)
 
 mark_here : (o : Option Mark) (m : Mark) → option_map mark_bytes o ≡ Some (mark_bytes m) → o ≡ Some m
-mark_here None m e = absurd (none_some (mark_bytes m) e)
-mark_here (Some k) m e = ap Some (mark_rows_are_one k m tt tt (some_same (mark_bytes k) (mark_bytes m) e))
+mark_here None m e = absurd (none_is_some (mark_bytes m) e)
+mark_here (Some k) m e = ap Some (mark_rows_are_one k m tt tt (same_some (mark_bytes k) (mark_bytes m) e))
 
 -- ---- rows of a world
 
@@ -125,27 +126,12 @@ passed q (h ∷ rows) g e p = by (q h) refl (or_cases (same_row g h) (has_row ro
     by false c (inl k) rest = absurd (false≢true (sym c ∙ ap q (sym (row_is g h k)) ∙ p))
     by false c (inr k) rest = rest k
 
-count_within : (xs : List Tuple) → distinct_count same_tuple xs ≤ length xs
-count_within [] = omega arith
-count_within (x ∷ xs) = by (list_any (same_tuple x) xs) (count_within xs)
-  where
-    by : (b : Bool) → distinct_count same_tuple xs ≤ length xs → one_unless b + distinct_count same_tuple xs ≤ length (x ∷ xs)
-    by true le = omega arith
-    by false le = omega arith
-
 among_all : (vs us : List Tuple) → AllByRecursion (λ u. list_any (same_tuple u) vs ≡ true) us → (y : Tuple) → list_any (same_tuple y) us ≡ true → list_any (same_tuple y) vs ≡ true
 among_all vs [] h y e = absurd (false≢true e)
 among_all vs (u ∷ us) h y e = elim (or_cases (same_tuple y u) (list_any (same_tuple y) us) e) [
   | inl k ↦ ap (λ x. list_any (same_tuple x) vs) ((same_tuple-Decides y u).0 k) ∙ h.0
   | inr k ↦ among_all vs us h.1 y k
 ]
-
-length_map : {X Y : Type 0} (f : X → Y) (xs : List X) → length (map f xs) ≡ length xs
-length_map f [] = refl
-length_map f (x ∷ xs) = ap suc (length_map f xs)
-
-one_of_two : (a b : ℕ) (o : Option ℕ) → o ≡ Some a → o ≡ Some b → a ≡ b
-one_of_two a b o p q = cc
 
 module _ (keys : ℕ → ℕ) (stmts : List Stmt) (ns : Names) (ts : Tuples) (t : Tables) (lengths : AreKeyLengths keys) (consistent : IsConsistent keys stmts) (h : HoldsTuples stmts ts t) (r : HoldsRows keys stmts (path_of ns) ts.tuple t)
     (wid : ℕ) (n : IsNum wid) (w : List ℕ) (path : path_of ns wid ≡ Some w) (s : Sign) (test : Tuple → Bool) (prefix : List ℕ) (span : IsSpan keys wid test prefix) where
@@ -222,7 +208,7 @@ module _ (keys : ℕ → ℕ) (stmts : List Stmt) (ns : Names) (ts : Tuples) (t 
 
     is_read : (es : List Entry) (us : List Tuple) → AllByRecursion (IsUnder val_codec prefix) es → AllByRecursion IsOf es → AreTuplesOf t (filter (is_said s) es) us
         → rows_at es key_bytes ≡ Some (mark_bytes (s, true)) → list_any (same_tuple u) us ≡ true
-    is_read [] us a k c found = absurd (none_some (mark_bytes (s, true)) found)
+    is_read [] us a k c found = absurd (none_is_some (mark_bytes (s, true)) found)
     is_read (e ∷ es) us a k c found =
         by (eq_by_cmp bytes_cmp key_bytes (val_bytes e.0)) refl (is_said s e) refl us c (λ vs d x. is_read es vs a.1 k.1 d x)
       where
@@ -252,7 +238,7 @@ module _ (keys : ℕ → ℕ) (stmts : List Stmt) (ns : Names) (ts : Tuples) (t 
   pub stated_are_read : (es : List Entry) (us : List Tuple) → AreUnder val_codec t prefix es → AreTuplesOf t (filter (is_said s) es) us
       → (u : Tuple) → explicit stmts w u s ≡ true → test u ≡ true → list_any (same_tuple u) us ≡ true
   stated_are_read es us a c u e p =
-      let number = some_is (ts.number u) (h.stated u ∙ explicit_tuple stmts w u s e) in
+      let number = some_of (ts.number u) (h.stated u ∙ explicit_tuple stmts w u s e) in
       let tid = number.0 in
       let named = h.numbered u tid number.1 in
       let fits = key_fits keys ts.tuple f t rows wid tid u n named in
@@ -276,7 +262,7 @@ module _ (keys : ℕ → ℕ) (stmts : List Stmt) (ns : Names) (ts : Tuples) (t 
       or_from (same_tuple x z) (list_any (same_tuple x) us)
       (false_from_ne_true (same_tuple x z) (λ i.
       let same : x ≡ z = (same_tuple-Decides x z).0 i in
-      let number : d.0.3 ≡ e.0.3 = one_of_two d.0.3 e.0.3 (ts.number z) (ap ts.number (sym same) ∙ h.named d.0.3 x named) (h.named e.0.3 z (told_named e a.0 z c.0)) in
+      let number : d.0.3 ≡ e.0.3 = one_there d.0.3 e.0.3 (ts.number z) (ap ts.number (sym same) ∙ h.named d.0.3 x named) (h.named e.0.3 z (told_named e a.0 z c.0)) in
       let tuple : k.u ≡ a.0.u = one_number ts.tuple d.0.3 e.0.3 k.u a.0.u k.named a.0.named number in
       let key : d.0 ≡ e.0 = sym k.key ∙ ap (λ i. row_key keys wid i k.u) number ∙ ap (λ v. row_key keys wid e.0.3 v) tuple ∙ a.0.key in
       not_below_itself (val_bytes d.0) (ap (λ (q : ValKey). is_lt (bytes_cmp (val_bytes d.0) (val_bytes q))) key ∙ p.0)))
@@ -358,15 +344,6 @@ as_many t (e ∷ es) [] c = absurd c
 as_many t (e ∷ es) (u ∷ us) c = ap suc (as_many t es us c.1)
 
 -- ---- the loop that reads
-
-filter_push : {X : Type 0} (p : X → Bool) (xs : List X) (x : X) → filter p (xs ++ x ∷ []) ≡ filter p xs ++ cond (p x) (x ∷ []) []
-filter_push p [] x = refl
-filter_push p (y ∷ xs) x = by (p y) (filter_push p xs x)
-  where
-    by : (b : Bool) → filter p (xs ++ x ∷ []) ≡ filter p xs ++ cond (p x) (x ∷ []) []
-        → cond b (y ∷ filter p (xs ++ x ∷ [])) (filter p (xs ++ x ∷ [])) ≡ cond b (y ∷ filter p xs) (filter p xs) ++ cond (p x) (x ∷ []) []
-    by true e = ap (λ ys. y ∷ ys) e
-    by false e = e
 
 tuples_push : (t : Tables) (es : List Entry) (e : Entry) (us : List Tuple) (u : Tuple) → AreTuplesOf t es us → HasRow tuple_codec t e.0.3 u → AreTuplesOf t (es ++ e ∷ []) (us ++ u ∷ [])
 tuples_push t [] e [] u c row = (row, tt)

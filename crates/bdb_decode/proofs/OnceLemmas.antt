@@ -19,13 +19,14 @@ use Rattle.bdb_base.specs.declared.kinds.Sign.{Sign}
 use Rattle.bdb_base.specs.declared.kinds.Stmt.{Stmt}
 use Rattle.bdb_base.specs.declared.tuple.Tuple.{Tuple}
 use Rattle.bdb_base.proofs.ListLemmas.{filter_kept_one, filter_dropped_one}
+use Rattle.bdb_base.proofs.OptionLemmas.{one_there}
 use Rattle.bdb_keep.specs.Tables.{Tables, bytes_cmp}
 use Rattle.bdb_tables.specs.InUse.{ValKey, val_bytes, val_codec}
 use Rattle.bdb_tables.specs.Spans.{entry_cmp}
 use Rattle.bdb_val.specs.Settling.{row_key}
 use Rattle.bdb_decode.specs.Explicit.{AreStated, Paths, TupleRows, ValRow, is_placed, said, said_by}
 use Rattle.bdb_decode.specs.Items.{item_of}
-use Rattle.bdb_decode.proofs.SaidLemmas.{is_this, makes_tells, placed_tells, some_one}
+use Rattle.bdb_decode.proofs.SaidLemmas.{is_this, makes_tells, placed_tells}
 
 -- ---- statements in order, of which none stands twice, ascend
 
@@ -121,8 +122,8 @@ module _ (keys : ℕ → ℕ) (worlds : Paths) (tuples : TupleRows) (one : (a b 
       let n = makes_tells worlds tuples w u s y b in
       let j = placed_tells keys worlds tuples x p in
       let k = placed_tells keys worlds tuples y q in
-      let ju : j.tuple ≡ u = some_one j.tuple u (item_of tuples x.0.3) j.tuple_is m.tuple in
-      let ku : k.tuple ≡ u = some_one k.tuple u (item_of tuples y.0.3) k.tuple_is n.tuple in
+      let ju : j.tuple ≡ u = one_there j.tuple u (item_of tuples x.0.3) j.tuple_is m.tuple in
+      let ku : k.tuple ≡ u = one_there k.tuple u (item_of tuples y.0.3) k.tuple_is n.tuple in
       sym (ap (λ (z : Tuple). row_key keys x.0.0 x.0.3 z) (sym ju) ∙ j.key)
       ∙ ap (λ (z : ℕ). row_key keys z x.0.3 u) (one x.0.0 y.0.0 w m.path n.path)
       ∙ ap (λ (z : ℕ). row_key keys y.0.0 z u) (once x.0.3 y.0.3 u m.tuple n.tuple)

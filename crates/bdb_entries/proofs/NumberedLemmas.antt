@@ -4,7 +4,7 @@ use Prim.Native.Nat.{zero}
 use Rattle.std.specs.Prelude.{MatchOption}
 use Rattle.std.specs.List.{list_all, slice_get, AllByRecursion}
 use Rattle.std.specs.Option.{option_map}
-use Rattle.std.specs.Ordering.{is_lt, is_eq, nat_cmp, eq_by_cmp}
+use Rattle.std.specs.Ordering.{is_lt, is_eq, eq_by_cmp}
 use Rattle.std.specs.FinMap.{find}
 use Rattle.std.proofs.lemmas.Bool.{and_parts, and_from, cases_Bool, cond-true, cond-false, false≢true, eqb-true, eq-eqb}
 use Rattle.std.proofs.lemmas.Bool.Decides.{nat_tests}
@@ -12,6 +12,7 @@ use Rattle.bdb_base.specs.SortedSet.{ascending}
 use Rattle.bdb_base.specs.declared.kinds.RelDef.{RelDef}
 use Rattle.bdb_base.specs.declared.kinds.UserSlot.{UserSlot}
 use Rattle.bdb_base.specs.OrderLemmas.{is_eq_nat_cmp}
+use Rattle.bdb_base.proofs.Numbers.{less_number}
 use Rattle.bdb_keep.specs.Tables.{Tables, bytes_cmp}
 use Rattle.bdb_key.specs.Bytes.{num_bytes}
 use Rattle.bdb_key.specs.Grammar.{IsNum}
@@ -37,9 +38,6 @@ both_later k n = grind (arith, nat_tests)
 
 not_first : (k : ℕ) → nat_eq (suc k) 0 ≡ false
 not_first k = grind (arith, nat_tests)
-
-less_number : (m n : ℕ) → m < n → is_lt (nat_cmp m n) ≡ true
-less_number m n h = grind (arith, nat_tests)
 
 module _ {X : Type 0} where
   numbered_are : (n : ℕ) (xs : List X) → are_numbered n (numbered n xs) ≡ true

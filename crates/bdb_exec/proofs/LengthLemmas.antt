@@ -9,6 +9,7 @@ use Rattle.bdb_base.specs.Clash.{key_of}
 use Rattle.bdb_base.specs.declared.kinds.RelDef.{RelDef}
 use Rattle.bdb_base.specs.declared.kinds.Value.{Value}
 use Rattle.bdb_base.specs.declared.tuple.Tuple.{Tuple}
+use Rattle.bdb_base.proofs.ListLemmas.{take_short}
 use Rattle.bdb_keep.specs.Tables.{Tables}
 use Rattle.bdb_key.specs.Grammar.{IsNum, ArePlain, AreKeyVals}
 use Rattle.bdb_tables.specs.Codec.{HasAt, TableFits, place}
@@ -66,11 +67,6 @@ pub keys_sized : (t : Tables) → CanBeRun t → (rel : ℕ) → IsNum ((sight_o
 keys_sized t h rel = (keys_are t (rel_fits t h.grammar) rel).1
 
 -- ---- first values
-
-pub take_short : (n : ℕ) (vs : List Value) → length (take n vs) ≤ n
-take_short zero vs = omega arith
-take_short (suc n) [] = omega arith
-take_short (suc n) (v ∷ vs) = let h = take_short n vs in omega (arith, h)
 
 pub take_plain : (n : ℕ) (vs : List Value) → ArePlain vs → ArePlain (take n vs)
 take_plain zero vs a = tt

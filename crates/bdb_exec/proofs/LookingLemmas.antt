@@ -11,6 +11,7 @@ use Rattle.bdb_base.specs.declared.kinds.UserSlot.TheVariants.{Live, Gone}
 use Rattle.bdb_base.specs.declared.kinds.Value.{Value}
 use Rattle.bdb_base.specs.declared.kinds.Value.TheVariants.{Int, Text}
 use Rattle.bdb_base.specs.declared.tuple.Tuple.{Tuple}
+use Rattle.bdb_base.proofs.OptionLemmas.{none_is_some, same_some}
 use Rattle.bdb_keep.specs.Tables.{Tables}
 use Rattle.bdb_key.specs.Bytes.{num_bytes, text_bytes}
 use Rattle.bdb_key.specs.Grammar.{IsNum, ArePlain, IsWhole, HasPlainText}
@@ -22,7 +23,6 @@ use Rattle.bdb_tables.specs.InUse.{user_codec, tuple_codec, tuple_ix_codec, edge
 use Rattle.bdb_tables.specs.InUseLaws.{number_rows_are_one}
 use Rattle.bdb_tables.specs.Spans.{AreUnder, IsUnder}
 use Rattle.bdb_tables.specs.Beginnings.{is_written}
-use Rattle.bdb_tables.proofs.Held.{some_same, none_some}
 use Rattle.bdb_exec.specs.Readable.{CanBeRun}
 use Rattle.bdb_exec.specs.Rows.{IsNumberOf, tuple_of_slot}
 use Rattle.bdb_exec.specs.Seen.{user_in, sight_of}
@@ -99,11 +99,11 @@ no_number t u e tid n r = false≢true (sym e ∙ all_written u.vals r.in_gramma
 
 pub number_is : (t : Tables) → CanBeRun t → (u : Tuple) (o : Option ℕ) → IsTupleRow u → HasAt tuple_ix_codec t u o → IsNumberOf t u o
 number_is t h u None row none = λ tid n r.
-    none_some (num_bytes tid) (sym none ∙ h.held.numbers.rows u row ∙ ap (option_map num_bytes) (h.held.named tid u (tuple_named t h tid u n r)))
+    none_is_some (num_bytes tid) (sym none ∙ h.held.numbers.rows u row ∙ ap (option_map num_bytes) (h.held.named tid u (tuple_named t h tid u n r)))
 number_is t h u (Some m) row some = (some.in_grammar, by (h.tuples.number u) refl (h.held.numbers.written u row) (sym (h.held.numbers.rows u row) ∙ some.found))
   where
     by : (o : Option ℕ) → h.tuples.number u ≡ o → MatchOption o (Unit {0}) IsNum → option_map num_bytes o ≡ Some (num_bytes m) → HasRow tuple_codec t m u
-    by None e w f = absurd (none_some (num_bytes m) f)
+    by None e w f = absurd (none_is_some (num_bytes m) f)
     by (Some k) e w f =
-        let same : k ≡ m = number_rows_are_one k m w some.in_grammar (some_same (num_bytes k) (num_bytes m) f) in
+        let same : k ≡ m = number_rows_are_one k m w some.in_grammar (same_some (num_bytes k) (num_bytes m) f) in
         Rattle.bdb_exec.proofs.WorldLemmas.has_row t h m u (h.held.numbered u m (e ∙ ap Some same))

@@ -1,5 +1,5 @@
 -- The rows of a table whose keys begin so, typed: what is read is what the tables show.
-use Rattle.std.proofs.Common.{◌≡◌, ◌∙◌, ℕ, Bool, true, false, cond, nat_eq, List, [], ◌∷◌, Some, None, map, refl, ap, sym, subst, inl, inr}
+use Rattle.std.proofs.Common.{◌≡◌, ◌∙◌, ℕ, Bool, true, false, cond, nat_eq, List, [], ◌∷◌, Some, None, map, refl, ap, sym, inl, inr}
 use Rattle.std.specs.Prelude.{T}
 use Rattle.std.specs.List.{list_all, AllByRecursion}
 use Rattle.std.specs.Ordering.{is_lt, is_eq, eq_by_cmp, ordering_then}
@@ -13,13 +13,11 @@ use Rattle.bdb_base.specs.SortedSet.{ascending}
 use Rattle.bdb_keep.specs.Tables.{Tables, bytes_cmp}
 use Rattle.bdb_key.proofs.Forms.{same_bytes}
 use Rattle.bdb_base.proofs.Numbers.{equal}
+use Rattle.bdb_base.proofs.BoolLemmas.{T_of}
 use Rattle.bdb_keep.proofs.RowsLemmas.{same_place}
 use Rattle.bdb_tables.specs.Codec.{Codec, place}
 use Rattle.bdb_tables.specs.Spans.{AreUnder, IsUnder, entry_bytes, entry_cmp}
 use Rattle.bdb_exec.specs.Seen.{rows_at}
-
-T_of : (b : Bool) → b ≡ true → T b
-T_of b e = subst T (sym e) tt
 
 -- places are compared as their keys are
 same_table : (n : ℕ) (k q : List ℕ) → bytes_cmp (n ∷ k) (n ∷ q) ≡ bytes_cmp k q

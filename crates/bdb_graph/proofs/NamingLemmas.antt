@@ -9,6 +9,8 @@ use Rattle.std.proofs.lemmas.List.Folds.{list_all-append}
 use Rattle.bdb_base.specs.Alternation.{alternates}
 use Rattle.bdb_base.specs.SortedSet.{ascending, is_member}
 use Rattle.bdb_base.specs.OrderLemmas.{is_eq_nat_cmp}
+use Rattle.bdb_base.proofs.AllLemmas.{all_weaker}
+use Rattle.bdb_base.proofs.Numbers.{eq_turned}
 use Rattle.bdb_keep.specs.Tables.{Tables}
 use Rattle.bdb_key.specs.Grammar.{IsNum}
 use Rattle.bdb_tables.specs.InUse.{depth_codec}
@@ -24,7 +26,7 @@ use Rattle.bdb_graph.specs.Naming.{AreNamedUps, IsClimbed, IsNamedUp, TellNames,
 use Rattle.bdb_graph.specs.Ups.{AreUps, HasDepth, HasFront, HoldNoStates, TellsUp, depth_row}
 use Rattle.bdb_graph.specs.declared.naming.NamedWorld.{NamedWorld}
 use Rattle.bdb_graph.specs.declared.ups.Up.{Up}
-use Rattle.bdb_graph.proofs.NumberLemmas.{all_at, eq_turned, lt_differs}
+use Rattle.bdb_graph.proofs.NumberLemmas.{all_at, lt_differs}
 use Rattle.bdb_graph.proofs.UpLemmas.{path_deep, rows_have_depths}
 
 -- ---- the world of a number
@@ -92,10 +94,6 @@ pub all_mapped : {X Y : Type 0} (f : X → Y) (P : Y → Type 0) (xs : List X) �
 all_mapped f P [] h = tt
 all_mapped f P (x ∷ xs) h = (h.0, all_mapped f P xs h.1)
 
-all_made : {X : Type 0} (P Q : X → Type 0) (xs : List X) → ((x : X) → P x → Q x) → AllByRecursion P xs → AllByRecursion Q xs
-all_made P Q [] f h = tt
-all_made P Q (x ∷ xs) f h = (f x h.0, all_made P Q xs f h.1)
-
 pub paths_of_ups : (ups xs : List Up) (ws : List NamedWorld) → map named_as ws ≡ map (climbed_as ups) xs → (n : ℕ) → option_map (λ (w : List ℕ). Some w) (path_in ws n) ≡ option_map (λ (x : Up). climb ups x.depth x.wid []) (up_in xs n)
 paths_of_ups ups [] [] e n = refl
 paths_of_ups ups [] (y ∷ ws) e n = absurd cc
@@ -155,7 +153,7 @@ module _ (t : Tables) (users : ℕ → Bool) (ns : Names) (h : HoldsStates users
 
   pub all_climbed : AllByRecursion (IsClimbed ups) ups
   all_climbed =
-      all_made (λ (x : Up). HasDepth t x.wid x.depth) (IsClimbed ups) ups
+      all_weaker (λ (x : Up). HasDepth t x.wid x.depth) (IsClimbed ups) ups
       (λ x has.
       let deep = path_deep t users ns h x.wid x.depth has in
       record { path = deep.0; climbed = whole_climb x.wid deep.0 x.depth deep.2 deep.1; apart = h.names.apart deep.0 (path_is_named ns h.names x.wid deep.0 deep.1) })

@@ -12,6 +12,8 @@ use Rattle.std.proofs.lemmas.List.{map-append, take_more}
 use Rattle.bdb_base.specs.SameLemmas.{same_path-Decides}
 use Rattle.bdb_base.specs.Segments.{is_prefix}
 use Rattle.bdb_base.proofs.SegmentLemmas.{is_prefix_begins}
+use Rattle.bdb_base.proofs.OptionLemmas.{none_is_some, same_some}
+use Rattle.bdb_base.proofs.AllLemmas.{all_both}
 use Rattle.bdb_keep.specs.Seen.{Seen}
 use Rattle.bdb_keep.specs.Tables.{Tables, bytes_cmp}
 use Rattle.bdb_keep.proofs.RowsLemmas.{same_place}
@@ -26,13 +28,12 @@ use Rattle.bdb_tables.specs.Names.{Names, path_of, depth_of}
 use Rattle.bdb_tables.specs.Spans.{AreUnder, IsUnder, entry_bytes}
 use Rattle.bdb_tables.specs.States.{HoldsStates, IsNamed, root, next}
 use Rattle.bdb_tables.specs.Reading.{OnlyReads}
-use Rattle.bdb_tables.proofs.Held.{some_same, none_some}
 use Rattle.bdb_tables.proofs.Loops.{IsReading, goes_then, counts_then}
 use Rattle.bdb_tables.proofs.ListLemmas.{prefix_append}
 use Rattle.bdb_names.proofs.NamedLemmas.{named_path, path_is_told}
 use Rattle.bdb_entries.proofs.ListedLemmas.{all_found}
 use Rattle.bdb_entries.proofs.ReadLemmas.{past}
-use Rattle.bdb_entries.proofs.TupleLemmas.{all_both, given_is, holding}
+use Rattle.bdb_entries.proofs.TupleLemmas.{given_is, holding}
 use Rattle.bdb_graph.specs.Ups.{AreUps, HasDepth, HasFront, HasStart, HoldNoStates, IsParent, IsUp, Led, LeadsTo, NoParent, StartsAt, StartsElsewhere, TellsUp, depth_row, parent_in}
 use Rattle.bdb_graph.specs.declared.ups.Up.{Up}
 
@@ -42,7 +43,7 @@ module _ {Key Row : Type 0} (c : Codec Key Row) (prefix : List ℕ) where
   -- what holds of each entry holds of one that is found
   found_tells : (Q : Key × Row → Type 0) (es : List (Key × Row)) → AllByRecursion (IsUnder c prefix) es → AllByRecursion Q es → (k r : List ℕ)
       → find bytes_cmp k (map (entry_bytes c) es) ≡ Some r → (e : Key × Row) × c.IsKey e.0 × (c.key_bytes e.0 ≡ k) × Q e
-  found_tells Q [] h q k r found = absurd (none_some r found)
+  found_tells Q [] h q k r found = absurd (none_is_some r found)
   found_tells Q (e ∷ es) h q k r found = elim (cases_Bool (eq_by_cmp bytes_cmp k (c.key_bytes e.0))) [
     | inl same ↦ (e, h.0.key, sym (same_place k (c.key_bytes e.0) same), q.0)
     | inr other ↦ found_tells Q es h.1 q.1 k r (sym (ap (λ b. cond b (Some (c.row_bytes e.1)) (find bytes_cmp k (map (entry_bytes c) es))) other) ∙ found)
@@ -71,7 +72,7 @@ rows_have_depths t es h =
 
 -- a world has one depth
 pub one_depth : (t : Tables) (n d e : ℕ) → HasDepth t n d → HasDepth t n e → d ≡ e
-one_depth t n d e h k = one_num d e h.size k.size (some_same (num_bytes d) (num_bytes e) (sym h.found ∙ k.found))
+one_depth t n d e h k = one_num d e h.size k.size (same_some (num_bytes d) (num_bytes e) (sym h.found ∙ k.found))
 
 pub depth_known : (t : Tables) (n d found : ℕ) → IsNum n → IsNum d → HasRow depth_codec t n found → (b : Bool) → b ≡ nat_eq found d → MatchBool b (HasDepth t n d) (HasDepth t n d → ⊥)
 depth_known t n d found fn fd row b e = subst (λ v. MatchBool v (HasDepth t n d) (HasDepth t n d → ⊥)) (sym e) (by (nat_eq found d) refl)
@@ -84,7 +85,7 @@ depth_known t n d found fn fd row b e = subst (λ v. MatchBool v (HasDepth t n d
     by false s = λ h. eqb-false found d s (one_depth t n found d has h)
 
 pub depth_missing : (t : Tables) (n d : ℕ) → tables.get t (place depth_codec n) ≡ None → HasDepth t n d → ⊥
-depth_missing t n d e h = none_some (num_bytes d) (sym e ∙ h.found)
+depth_missing t n d e h = none_is_some (num_bytes d) (sym e ∙ h.found)
 
 -- ---- edges that lead to a world
 

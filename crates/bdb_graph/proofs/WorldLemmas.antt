@@ -12,6 +12,7 @@ use Rattle.bdb_base.specs.Alternation.{alternates}
 use Rattle.bdb_base.specs.Same.{same_path}
 use Rattle.bdb_base.specs.SameLemmas.{same_path-Decides}
 use Rattle.bdb_base.specs.SortedSet.{ascending}
+use Rattle.bdb_base.proofs.OptionLemmas.{same_some}
 use Rattle.bdb_keep.specs.Tables.{Tables}
 use Rattle.bdb_key.specs.Bytes.{num_bytes}
 use Rattle.bdb_key.specs.Grammar.{IsNum}
@@ -23,10 +24,8 @@ use Rattle.bdb_tables.specs.States.{HoldsStates}
 use Rattle.bdb_tables.specs.Names.{Names, AreNames, is_listed, are_once, depth_of, most_numbered}
 use Rattle.bdb_tables.specs.Spans.{AreUnder}
 use Rattle.bdb_tables.specs.Writes.{Gives}
-use Rattle.bdb_tables.proofs.Held.{some_same}
 use Rattle.bdb_names.proofs.Ends.{length_more, one_more}
 use Rattle.bdb_names.proofs.NamedLemmas.{cases_end}
-use Rattle.bdb_names.proofs.NameLemmas.{same_some}
 use Rattle.bdb_entries.proofs.TupleLemmas.{given_is, item_in, items_give}
 use Rattle.bdb_graph.specs.Leading.{AreLedUps, HasEdge, IsLed, has_root}
 use Rattle.bdb_graph.specs.Naming.{AreNamedUps, AreWorlds, IsClimbed, climb, climbed_as, named_as, names_of, number_in, number_of_up, path_in, up_in}
@@ -257,7 +256,7 @@ module _ (t : Tables) (depths : List (ℕ × ℕ)) (ups : List Up) (under : AreU
         let k = ap length u.2 in
         let k2 = length_more u.0 u.1 in
         let from = one_number fuel u.0 a.from b.from (omega arith) a.path b.path in
-        let both : num_bytes n ≡ num_bytes m = some_same (num_bytes n) (num_bytes m) (sym a.edge ∙ ap (λ x. tables.get t (place edge_codec (x, u.1))) from ∙ b.edge) in
+        let both : num_bytes n ≡ num_bytes m = same_some (num_bytes n) (num_bytes m) (sym a.edge ∙ ap (λ x. tables.get t (place edge_codec (x, u.1))) from ∙ b.edge) in
         one_num n m (own_depth n w e).number (own_depth m w f).number both
   ]
 

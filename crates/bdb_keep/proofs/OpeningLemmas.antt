@@ -14,17 +14,11 @@ use Rattle.bdb_keep.specs.Tables.{bytes_cmp}
 use Rattle.bdb_keep.specs.Heads.{padded, bytes_of, key_of, IsHeadOf, IsHeadOfPlace, numbers_cmp, heads_cmp}
 use Rattle.bdb_keep.specs.Openings.{filled, IsLastHead}
 use Rattle.bdb_keep.specs.declared.head.Head.{Head}
-use Rattle.bdb_base.proofs.Numbers.{less, equal}
+use Rattle.bdb_base.proofs.Numbers.{less, equal, number_le}
 use Rattle.bdb_keep.proofs.HeadsLemmas.{four, plus}
 use Rattle.bdb_keep.proofs.UnderLemmas.{nat_same}
 
 -- ---- a key that isn't below some bytes begins so where its front isn't above theirs, filled up
-
-le_number : (a b : ℕ) → a ≤ b → is_le (nat_cmp a b) ≡ true
-le_number a b h = elim (cases_lt a b) [
-  | inl lt ↦ ap is_le (less a b lt)
-  | inr ge ↦ let e : a ≡ b = omega arith in ap is_le (ap (λ n. nat_cmp n b) e ∙ equal b)
-]
 
 -- a byte is at most 255
 most : (b : ℕ) (o : Ordering) → b < 256 → is_le o ≡ true → is_le (ordering_then (nat_cmp b 255) o) ≡ true
@@ -99,7 +93,7 @@ taken (suc n) (b ∷ x) = let more = taken n x in omega (arith, more)
 by_last : (p x : List ℕ) (h l : Head) → IsHeadOf x h (drop 32 x) → IsLastHead l p → is_le (bytes_cmp p x) ≡ true → is_prefix p x ≡ (is_le (numbers_cmp h l) && is_prefix (drop 32 p) (drop 32 x))
 by_last p x h l i k le =
     let few = taken 32 x in
-    let count : is_le (nat_cmp h.count l.count) ≡ true = le_number h.count l.count (omega (arith, few, i.count, k.count)) in
+    let count : is_le (nat_cmp h.count l.count) ≡ true = number_le h.count l.count (omega (arith, few, i.count, k.count)) in
     fronts 32 p x (subst (AllByRecursion (λ b. b < 256)) (sym i.bytes) (bytes_small h)) le
     ∙ ap (λ c. c && is_prefix (drop 32 p) (drop 32 x))
     (ap (λ m. is_le (bytes_cmp m (filled 32 p))) i.bytes ∙ ap (λ m. is_le (bytes_cmp (bytes_of h) m)) k.bytes

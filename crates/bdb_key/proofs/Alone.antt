@@ -1,8 +1,5 @@
 -- Rows whole: no two are written alike.
 use Rattle.std.proofs.Common.{◌≡◌, ℕ, List, [], ◌++◌, append_assoc, refl, sym, ap, ◌∙◌}
-use Rattle.std.specs.declared.cmp.Ordering.{Ordering}
-use Rattle.std.specs.declared.cmp.Ordering.TheVariants.{Less, Equal, Greater}
-use Rattle.std.specs.Ordering.{ordering_then}
 use Rattle.bdb_base.specs.declared.kinds.ColDef.{ColDef}
 use Rattle.bdb_base.specs.declared.kinds.RelDef.{RelDef}
 use Rattle.bdb_base.specs.declared.kinds.UserSlot.{UserSlot}
@@ -17,11 +14,6 @@ use Rattle.bdb_key.specs.Rows.{IsRelRow, IsTupleRow, IsUserRow, cols_bytes, leng
 use Rattle.bdb_key.proofs.Compared.{rows, rows_tie}
 use Rattle.bdb_key.proofs.Forms.{tied}
 use Rattle.bdb_key.proofs.Readings.{num_form, text_form, length_form, one_cols}
-
-pub then_equal : (o : Ordering) → ordering_then o Equal ≡ o
-then_equal Less = refl
-then_equal Equal = refl
-then_equal Greater = refl
 
 pub one_num : (a b : ℕ) → IsNum a → IsNum b → num_bytes a ≡ num_bytes b → a ≡ b
 one_num a b fa fb e = (num_form a b [] [] fa fb (ap (λ (x : List ℕ). x ++ []) e)).0

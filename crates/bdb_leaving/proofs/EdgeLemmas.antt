@@ -12,16 +12,18 @@ use Rattle.bdb_base.specs.Alternation.{alternates}
 use Rattle.bdb_base.specs.Bases.{is_user}
 use Rattle.bdb_base.specs.Segments.{is_suffix}
 use Rattle.bdb_base.specs.States.{deepest_suffix}
+use Rattle.bdb_base.proofs.OptionLemmas.{same_some}
+use Rattle.bdb_base.proofs.Numbers.{number_le}
 use Rattle.bdb_keep.specs.Tables.{Tables}
 use Rattle.bdb_names.proofs.Ends.{front_of, length_more, more_is_end}
-use Rattle.bdb_names.proofs.NameLemmas.{edge_found, path_is_named, same_some}
+use Rattle.bdb_names.proofs.NameLemmas.{edge_found, path_is_named}
 use Rattle.bdb_names.proofs.NamedLemmas.{cases_end, tables_have_names}
 use Rattle.bdb_paths.proofs.SuffixLemmas.{deepest_is_suffix}
 use Rattle.bdb_tables.specs.Codec.{HasFirst, IsFirst, place}
 use Rattle.bdb_tables.specs.InUse.{IsTriple, led_codec}
 use Rattle.bdb_tables.specs.Names.{Names, path_of, is_named, leads_to, edge_of}
 use Rattle.bdb_tables.specs.States.{row_where, HoldsStates, IsNamed, root, next}
-use Rattle.bdb_worlds.proofs.ReadLemmas.{le_parts, le_same, number_le}
+use Rattle.bdb_worlds.proofs.ReadLemmas.{le_parts, le_same}
 use Rattle.bdb_catalog.specs.Bases.{StoresSome}
 use Rattle.bdb_leaving.specs.Paths.{IsDeep, IsLed, IsLedBy}
 

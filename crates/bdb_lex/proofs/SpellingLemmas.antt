@@ -3,9 +3,9 @@ use Rattle.std.proofs.Common.{◌≡◌, ◌⊎◌, ℕ, Bool, true, false, not,
 use Rattle.std.specs.Option.{option_and_then}
 use Rattle.std.proofs.lemmas.Bool.{false≢true, and_parts, and_from, cond-true, cond-false, cases_Bool, eqb-true, or_left, not-true}
 use Rattle.std.proofs.lemmas.List.{append-nil}
-use Rattle.std.proofs.lemmas.List.Folds.{list_all-append}
 use Rattle.std.specs.List.{list_all}
 use Rattle.std.specs.Char.{is_ascii_digit}
+use Rattle.bdb_base.proofs.ListLemmas.{list_all_push}
 use Rattle.bdb_lex.specs.declared.token.Token.{Token}
 use Rattle.bdb_lex.specs.declared.token.Token.TheVariants.{Word, Text, Num, Comma, Dot, ParenL, ParenR, Eq, Ne, Lt, Le, Gt, Ge}
 use Rattle.bdb_lex.specs.Bytes.{is_blank, is_letter, is_word_byte}
@@ -307,21 +307,17 @@ read_start b =
     ) in
     picked_is P (starting b) each
 
--- words and numbers with a byte more
-list_all_last : (test : ℕ → Bool) (a : List ℕ) (b : ℕ) → list_all test a ≡ true → test b ≡ true → list_all test (a ++ b ∷ []) ≡ true
-list_all_last test a b h e = list_all-append test a (b ∷ []) ∙ and_from _ _ h (and_from _ _ e refl)
-
 pub is_word_more : (w : List ℕ) (b : ℕ) → is_word w ≡ true → is_word_byte b ≡ true → is_word (w ++ b ∷ []) ≡ true
 is_word_more [] b h e = absurd (false≢true h)
 is_word_more (c ∷ w) b h e =
     let parts = and_parts (is_letter c) (list_all is_word_byte (c ∷ w)) h in
-    and_from _ _ parts.0 (list_all_last is_word_byte (c ∷ w) b parts.1 e)
+    and_from _ _ parts.0 (list_all_push is_word_byte (c ∷ w) b parts.1 e)
 
 is_digits_more : (n : List ℕ) (b : ℕ) → is_digits n ≡ true → is_ascii_digit b ≡ true → is_digits (n ++ b ∷ []) ≡ true
 is_digits_more [] b h e = absurd (false≢true h)
 is_digits_more (c ∷ n) b h e =
     let parts = and_parts (is_ascii_digit c) (list_all is_ascii_digit (c ∷ n)) h in
-    and_from _ _ parts.0 (list_all_last is_ascii_digit (c ∷ n) b parts.1 e)
+    and_from _ _ parts.0 (list_all_push is_ascii_digit (c ∷ n) b parts.1 e)
 
 pub is_num_more : (n : List ℕ) (b : ℕ) → is_num n ≡ true → is_ascii_digit b ≡ true → is_num (n ++ b ∷ []) ≡ true
 is_num_more [] b h e = absurd (false≢true h)

@@ -6,6 +6,7 @@ use Rattle.std.specs.List.{list_all}
 use Rattle.std.specs.FinMap as map
 use Rattle.std.proofs.lemmas.Bool.{and_parts, false≢true, eqb-true, eq-eqb}
 use Rattle.bdb_base.specs.States.{deepest_suffix}
+use Rattle.bdb_base.proofs.OptionLemmas.{same_some}
 use Rattle.bdb_paths.proofs.SuffixLemmas.{deepest_is_suffix, deepest_of_member}
 use Rattle.bdb_keep.specs.Tables.{Tables}
 use Rattle.bdb_key.specs.Bytes.{num_bytes}
@@ -16,7 +17,7 @@ use Rattle.bdb_tables.specs.InUse.{depth_codec}
 use Rattle.bdb_tables.specs.Names.{Names, path_of, number_of, is_named, leads_to, depth_of, edge_of}
 use Rattle.bdb_tables.specs.States.{row_where, HoldsStates, IsNextWorld, IsNamed, root, next, TablesHaveNames, NamesAreOne}
 use Rattle.bdb_names.proofs.Ends.{whole_end, length_more, no_own_end}
-use Rattle.bdb_names.proofs.NameLemmas.{same_some, number_is, path_is_named, depth_at, edge_at, edge_is, edge_found}
+use Rattle.bdb_names.proofs.NameLemmas.{number_is, path_is_named, depth_at, edge_at, edge_is, edge_found}
 
 pub cases_end : (w : List ℕ) → (w ≡ []) ⊎ ((v : List ℕ) × (i : ℕ) × (w ≡ v ++ i ∷ []))
 cases_end [] = inl refl

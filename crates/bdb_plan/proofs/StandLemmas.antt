@@ -13,15 +13,13 @@ use Rattle.bdb_base.specs.declared.kinds.Who.{Who}
 use Rattle.bdb_base.specs.declared.kinds.Who.TheVariants.{User, Of}
 use Rattle.bdb_base.specs.declared.tuple.Tuple.{Tuple}
 use Rattle.bdb_base.specs.Same.{tuple_of}
+use Rattle.bdb_base.proofs.Numbers.{differs_turned}
 use Rattle.bdb_queries.specs.Slots.{slot_at, known, known_operand, uid_of}
 use Rattle.bdb_queries.proofs.RangeLemmas.{and_then_some}
 use Rattle.bdb_plan.specs.Fitness.{Placed, is_among, is_bound, has_bound, was_bound, is_known, is_set, operand_is_set, who_is_set, is_new, comes_next, is_whole, at_width}
 use Rattle.bdb_plan.specs.Running.{with_value}
 
 -- ---- lists
-
-eq_turned : (i j : ℕ) → nat_eq i j ≡ false → nat_eq j i ≡ false
-eq_turned i j h = grind (arith, nat_tests)
 
 one_less : (i j : ℕ) → nat_eq (suc j) (suc i) ≡ false → nat_eq j i ≡ false
 one_less i j h = grind (arith, nat_tests)
@@ -171,7 +169,7 @@ new_stands n items o slots item t s new = record {
     by : (o : Option (ℕ × ℕ)) → BoundStands n items slots o → is_bound o item ≡ false → BoundStands n (item ∷ items) (slice_set slots item (Some t)) o
     by None h e = tt
     by (Some b) (u, is, long, apart, within) e =
-        let other = eq_turned item b.0 e in
+        let other = differs_turned item b.0 e in
         (u, slot_other slots item b.0 t other ∙ is, long, ap (λ x. x || is_among items b.0) other ∙ apart, within)
 
 pub new_below : (n : ℕ) (items : List ℕ) (o : Option (ℕ × ℕ)) (slots zs : List (Option Tuple)) (item : ℕ) (t : Tuple) → Stands n items o slots → IsNew n items o item → Above (item ∷ items) o (slice_set slots item (Some t)) zs
@@ -192,7 +190,7 @@ new_below n items o slots zs item t s new a =
 
     by : (o : Option (ℕ × ℕ)) → BoundAbove (slice_set slots item (Some t)) zs o → is_bound o item ≡ false → BoundAbove slots zs o
     by None h e = tt
-    by (Some b) (u, v, rest, is, up, vals) e = (u, v, rest, sym (slot_other slots item b.0 t (eq_turned item b.0 e)) ∙ is, up, vals)
+    by (Some b) (u, v, rest, is, up, vals) e = (u, v, rest, sym (slot_other slots item b.0 t (differs_turned item b.0 e)) ∙ is, up, vals)
 
 pub new_above : (n : ℕ) (items : List ℕ) (o : Option (ℕ × ℕ)) (slots zs : List (Option Tuple)) (item : ℕ) (t : Tuple) → Stands n items o slots → IsNew n items o item → Above items o slots zs → slot_at zs item ≡ Some t
     → Above (item ∷ items) o (slice_set slots item (Some t)) zs
@@ -209,7 +207,7 @@ new_above n items o slots zs item t s new a e = record { chosen = at; bound = by
 
     by : (o : Option (ℕ × ℕ)) → BoundAbove slots zs o → is_bound o item ≡ false → BoundAbove (slice_set slots item (Some t)) zs o
     by None h x = tt
-    by (Some b) (u, v, rest, is, up, vals) x = (u, v, rest, slot_other slots item b.0 t (eq_turned item b.0 x) ∙ is, up, vals)
+    by (Some b) (u, v, rest, is, up, vals) x = (u, v, rest, slot_other slots item b.0 t (differs_turned item b.0 x) ∙ is, up, vals)
 
 -- ---- one more column is bound
 

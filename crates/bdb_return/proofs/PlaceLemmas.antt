@@ -18,6 +18,7 @@ use Rattle.bdb_base.specs.OrderLemmas.{is_eq_nat_cmp}
 use Rattle.bdb_base.proofs.BaseLemmas.{belongs_parts}
 use Rattle.bdb_base.proofs.ListLemmas.{filter_all, list_all_weaker}
 use Rattle.bdb_base.proofs.UserLemmas.{comes_back, name_found, named_at, next_is_no_user, others_are_users, plain_at, states_name_others, user_above, user_or_new, user_within, who_is_gone_is_no_user, who_leaves_is_gone}
+use Rattle.bdb_base.proofs.CauseLemmas.{rises_twice_and_once}
 use Rattle.bdb_keep.specs.Seen.{Seen}
 use Rattle.bdb_keep.specs.Tables.{Tables}
 use Rattle.bdb_key.specs.Grammar.{IsNum, IsPlain}
@@ -268,9 +269,6 @@ leave_written old new uid writes name a h = writes a (may_lose old.kept uid name
 
 -- ---- how often is written
 
-place_and_edges : (n k a b c : ℕ) → b ≤ c → n ≡ k → RoseBy 1 a b → Rises (2 * n) b c → Rises (2 * k + 1) a c
-place_and_edges n k a b c le same one edges below = let e = edges below in omega arith
-
 pub place_written : (old mid new : Seen) (uid : ℕ) → mid.kept ≡ tables.remove old.kept (place user_codec uid) → mid.writes ≤ new.writes → RoseBy 1 old.writes mid.writes
     → WritesDropped mid new uid → WritesPlace old new uid
 place_written old mid new uid put le one edges name a last h =
@@ -278,7 +276,7 @@ place_written old mid new uid put le one edges name a last h =
     let more = users ++ Live name ∷ [] in
     let s = h.stored in
     let none = none_names a.catalog a.stmts uid h.between.before (next_is_no_user users uid last) in
-    place_and_edges (length s.names.used) (world_count a.stmts) old.writes mid.writes new.writes le (numbers_are_counted s.names s.stored.states.names a.stmts s.stored.worlds) one
+    rises_twice_and_once (length s.names.used) (world_count a.stmts) old.writes mid.writes new.writes le (numbers_are_counted s.names s.stored.states.names a.stmts s.stored.worlds) one
     (edges (record { users = is_user more; names = s.names }) (states_before old.kept mid.kept uid None put (is_user more) s.names s.stored.states)
     (record { user = last_is_user users name uid last; unnamed = λ w e. listed_is_named uid w ∙ none w (sym (s.stored.worlds w) ∙ e) }))
 
@@ -296,6 +294,6 @@ back_written old mid new uid name put le one edges a h =
     let user = (name_found k.users uid name h.between.can).0 in
     let left = (without_user k uid).users in
     let s = h.stored in
-    place_and_edges (length s.names.used) (world_count a.stmts) old.writes mid.writes new.writes le (numbers_are_counted s.names s.stored.states.names a.stmts s.stored.worlds) one
+    rises_twice_and_once (length s.names.used) (world_count a.stmts) old.writes mid.writes new.writes le (numbers_are_counted s.names s.stored.states.names a.stmts s.stored.worlds) one
     (edges (record { users = is_user left; names = s.names }) (states_before old.kept mid.kept uid (Some (Live name)) put (is_user left) s.names s.stored.states)
     (who_is_gone_is_no_user left uid (who_leaves_is_gone k uid user)))

@@ -4,6 +4,7 @@ use Rattle.std.proofs.lemmas.Bool.{cases_Bool, and_parts, cond-true, cond-false,
 use Rattle.std.proofs.lemmas.List.{append-nil, append_assoc, take_rest}
 use Rattle.std.proofs.lemmas.Grind.{get_or_head}
 use Rattle.bdb_base.specs.Causes.{HasCause, Rises}
+use Rattle.bdb_base.proofs.CauseLemmas.{rises_once}
 use Rattle.bdb_keep.specs.Calls.{IsBegin}
 use Rattle.bdb_keep.specs.Seen.{Seen, IsStill, IsDropped, NeverFall, Unchanged}
 use Rattle.bdb_tables.proofs.Loops.{counts_then}
@@ -23,7 +24,7 @@ use Rattle.bdb_session.specs.declared.reply.Reply.{Reply}
 use Rattle.bdb_session.specs.declared.stop.StopError.{StopError}
 use Rattle.bdb_session.specs.declared.stop.StopError.TheVariants.{Fault}
 use Rattle.bdb_session.proofs.ServedLemmas.{still_agrees}
-use Rattle.bdb_session.proofs.WithinLemmas.{cause_later, dropped_is_still, dropped_is_unchanged, rises_once}
+use Rattle.bdb_session.proofs.WithinLemmas.{cause_later, dropped_is_still, dropped_is_unchanged}
 use Rattle.bdb_session.proofs.BatchLists.{negated, negated_false}
 
 -- ---- where a batch breaks off

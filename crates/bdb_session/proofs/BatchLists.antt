@@ -5,6 +5,7 @@ use Rattle.std.proofs.lemmas.Bool.{and_parts, cases_Bool, cond-true, cond-false,
 use Rattle.bdb_base.specs.Bases.{Contents}
 use Rattle.bdb_base.specs.declared.kinds.Catalog.{Catalog}
 use Rattle.bdb_base.proofs.ListLemmas.{or_false}
+use Rattle.bdb_base.proofs.BoolLemmas.{or_assoc}
 use Rattle.bdb_canon.specs.declared.sizes.Counts.{Counts}
 use Rattle.bdb_keep.specs.Calls.{IsBegin}
 use Rattle.bdb_keep.specs.Seen.{GoesOn, Seen, IsStill}
@@ -69,10 +70,6 @@ unaltered_stays s (x ∷ es) e =
 pub same_alters : (a b : Contents) → b ≡ a → not (same_contents a b) ≡ false
 same_alters a b e = ap (λ (c : Contents). not (same_contents a c)) e ∙ ap not (contents_are_their_own a)
 
-or_regroup : (a b c : Bool) → ((a || b) || c) ≡ (a || (b || c))
-or_regroup true b c = refl
-or_regroup false b c = refl
-
 -- where nothing is learned, nothing is altered
 pub nothing_alters : {T : Type 0} (outcome : State → Outcome) (k : Known) (old : Seen) (result : Result T StopError)
     → ((s : State) → Agrees old.kept k s → (state_after s (outcome s)).base ≡ s.base) → Alters outcome k k old result
@@ -103,7 +100,7 @@ lines_alter lines rest line was between now old run e next one others =
     let then = next_state s (Piece line) in
     let p = and_parts (accepts s (Piece line)) (accepts_all then (pieces rest)) all in
     others then (next s a) p.1 ∙ ap (λ b. b || alters_some then (pieces rest)) (one s a)
-    ∙ or_regroup (is_altered was) (not (same_contents s.base then.base)) (alters_some then (pieces rest)))
+    ∙ or_assoc (is_altered was) (not (same_contents s.base then.base)) (alters_some then (pieces rest)))
 
 -- a line that is refused
 pub stop_alters : (lines rest : List (List ℕ)) (line : List ℕ) (accepted : Bool) (was now : Known) (old : Seen) → lines ≡ line ∷ rest → accepted ≡ false

@@ -1,7 +1,8 @@
 -- What becomes of a step within a transaction.
 use Rattle.std.proofs.Common.{◌≡◌, ◌∙◌, ℕ, ◌≤◌, true, false, [], Result, Ok, Err, refl, sym, ap, subst, inl, inr, arith}
 use Rattle.std.proofs.lemmas.Bool.{cases_Bool, MatchBool-at_true, MatchBool-at_false}
-use Rattle.bdb_base.specs.Causes.{HasCause, Rose, RoseBy, Rises}
+use Rattle.bdb_base.specs.Causes.{HasCause, Rises}
+use Rattle.bdb_base.proofs.CauseLemmas.{rose_later, rises_once}
 use Rattle.bdb_keep.specs.Calls.{IsBegin, IsUndo}
 use Rattle.bdb_keep.specs.Seen.{Seen, IsStill, IsDropped, NeverFall, Unchanged, GoesOn}
 use Rattle.bdb_render.specs.declared.refusal.Refusal.{Refusal}
@@ -138,9 +139,6 @@ pub dropped_serves : (outcome : State → Outcome) (k : Known) (old new : Seen) 
     → HasCause {T = Reply} old.faults new.faults (Err stop) Fault → Serves outcome k k old new (Err stop)
 dropped_serves outcome k old new stop still d fall cause = stop_serves outcome k old new stop (dropped_is_still old new d) (dropped_is_unchanged old new still d) fall cause
 
-rose_later : (a b c : ℕ) → a ≤ b → Rose b c → Rose a c
-rose_later a b c le r = omega arith
-
 pub cause_later : {T U : Type 0} (a b c : ℕ) (stop : StopError) → a ≤ b → HasCause {T = T} b c (Err stop) Fault → HasCause {T = U} a c (Err stop) Fault
 cause_later a b c stop le h = record { later = omega (arith, h.later); rose = λ is. rose_later a b c le (h.rose (let same : stop ≡ Fault = cc in ap Err same)) }
 
@@ -155,9 +153,6 @@ pub refused_stays : (s : State) (o : Outcome) → is_accepted o ≡ false → (s
 refused_stays s Blank e = absurd cc
 refused_stays s (Refused x) e = (refl, refl)
 refused_stays s (Done text answers next) e = absurd cc
-
-pub rises_once : (a b c : ℕ) → b ≡ a → RoseBy 1 b c → Rises 1 a c
-rises_once a b c e r = λ k. omega arith
 
 -- A transaction began, in which a step told, which counts where it is accepted. The session learns from it.
 module _ (outcome : State → Outcome) (sure : (s : State) → is_accepted (outcome s) ≡ true → commit_count (outcome s) ≡ 1) (before learns : Known) (old run mid new : Seen) (still : IsStill old)

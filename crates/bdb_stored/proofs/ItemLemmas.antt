@@ -9,9 +9,9 @@ use Rattle.std.proofs.lemmas.Bool.{and_parts, or_left, or_right, or_cases, false
 use Rattle.std.proofs.lemmas.List.Sums.{sum_by-cons}
 use Rattle.bdb_base.specs.SortedSet.{IsExactOrder, ascending, is_member, put_at, put_in, sorted_set}
 use Rattle.bdb_base.proofs.SetLemmas.{is_eq-Equal, is_eq_itself, absent_above, set_is_ascending, set_keeps_members, members_make_set}
-use Rattle.bdb_names.proofs.ListedLemmas.{both_ways_true}
+use Rattle.bdb_base.proofs.BoolLemmas.{same_tests}
+use Rattle.bdb_base.proofs.OptionLemmas.{some_of}
 use Rattle.bdb_tables.specs.Names.{is_listed, are_once}
-use Rattle.bdb_val.proofs.HeldLemmas.{some_is}
 use Rattle.bdb_stored.specs.Items.{with_item, items_of}
 
 -- ---- sums over sets
@@ -71,7 +71,7 @@ module _ {X : Type 0} (name : ℕ → Option X) where
   rest_named k ks h j e = h j (or_right (nat_eq j k) (is_listed j ks) e)
 
   pub first_named : (k : ℕ) (ks : List ℕ) → AllNamed name (k ∷ ks) → (x : X) × (name k ≡ Some x)
-  first_named k ks h = some_is (name k) (h k (or_left (nat_eq k k) (is_listed k ks) (eq-eqb k k refl)))
+  first_named k ks h = some_of (name k) (h k (or_left (nat_eq k k) (is_listed k ks) (eq-eqb k k refl)))
 
   pub items_cons : (k : ℕ) (ks : List ℕ) (x : X) → name k ≡ Some x → items_of name (k ∷ ks) ≡ x ∷ items_of name ks
   items_cons k ks x e = ap (λ (z : Option X). with_item z (items_of name ks)) e
@@ -127,6 +127,6 @@ module _ {X : Type 0} {R : X → X → Ordering} (o : IsExactOrder R) (name : �
   items_make_set ks set asc all there back =
       members_make_set o (sorted_set R (items_of name ks)) set (set_is_ascending o (items_of name ks)) asc (λ x.
       set_keeps_members o (items_of name ks) x
-      ∙ both_ways_true (is_member R (items_of name ks) x) (is_member R set x)
+      ∙ same_tests (is_member R (items_of name ks) x) (is_member R set x)
       (λ e. let m = member_is_item x ks e in back m.0 x m.2)
       (λ e. let n = there x e in item_is_member n.0 x n.1 ks (all n.0 ∙ ap is_some n.1)))

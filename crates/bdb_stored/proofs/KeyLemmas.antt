@@ -6,9 +6,9 @@ use Rattle.std.specs.declared.cmp.Ordering.TheVariants.{Less, Equal, Greater}
 use Rattle.std.specs.Ordering.{is_eq, is_lt}
 use Rattle.std.proofs.lemmas.Bool.{and_parts, and_from, or_from, or_cases, false≢true, false_from_ne_true, cond-true, cond-false, eqb-true, eq-eqb}
 use Rattle.bdb_base.specs.SortedSet.{ascending}
+use Rattle.bdb_base.proofs.BoolLemmas.{same_tests}
 use Rattle.bdb_keep.specs.Tables.{Tables, bytes_cmp}
 use Rattle.bdb_key.specs.Grammar.{IsNum}
-use Rattle.bdb_names.proofs.ListedLemmas.{both_ways_true}
 use Rattle.bdb_tables.specs.Codec.{Codec, KeepsOrder, HasOneRow}
 use Rattle.bdb_tables.specs.Names.{is_listed, are_once}
 use Rattle.bdb_tables.specs.Spans.{AreUnder, IsUnder, entry_cmp}
@@ -39,7 +39,7 @@ module _ {Row : Type 0} (c : Codec ℕ Row) (order : KeepsOrder c) (test : (a b 
   pub numbers_are : HasOneRow c → (t : Tables) (f : ℕ → Option Row) → Gives c t f → ((n : ℕ) → is_some (f n) ≡ true → IsNum n) → (es : List (ℕ × Row)) → AreUnder c t [] es
       → (n : ℕ) → is_listed n (numbers es) ≡ is_some (f n)
   numbers_are one t f h small es under n =
-      both_ways_true (is_listed n (numbers es)) (is_some (f n))
+      same_tests (is_listed n (numbers es)) (is_some (f n))
       (λ e. sym (here (sized es under.each n e)) ∙ e)
       (λ e. here (small n e) ∙ e)
     where

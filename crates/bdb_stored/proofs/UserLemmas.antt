@@ -18,8 +18,9 @@ use Rattle.bdb_base.specs.OrderLemmas.{is_eq_nat_cmp}
 use Rattle.bdb_base.proofs.ListLemmas.{filter_dropped_one, filter_kept_one, length-filter_le}
 use Rattle.bdb_base.proofs.SetLemmas.{filter_keeps_order, members_make_set}
 use Rattle.bdb_base.proofs.UserLemmas.{numbers_are_live, user_above, user_within}
+use Rattle.bdb_base.proofs.BoolLemmas.{same_tests}
+use Rattle.bdb_base.proofs.Numbers.{less_number}
 use Rattle.bdb_keep.specs.Tables.{Tables}
-use Rattle.bdb_names.proofs.ListedLemmas.{both_ways_true}
 use Rattle.bdb_tables.specs.InUse.{user_codec}
 use Rattle.bdb_tables.specs.InUseLaws.{numbers_in_order, slot_rows_are_one}
 use Rattle.bdb_tables.specs.Names.{is_listed}
@@ -38,14 +39,11 @@ nat_exact = record { total = nat_cmp_total; exact = λ m n e. same m n e }
     same : (m n : ℕ) → nat_cmp m n ≡ Equal → m ≡ n
     same m n e = grind (arith, nat_tests)
 
-less_is : (m n : ℕ) → m < n → is_lt (nat_cmp m n) ≡ true
-less_is m n l = grind (arith, nat_tests)
-
 -- ---- numbers of places, from one on
 
 above : (m n : ℕ) (us : List UserSlot) → m < n → list_all (λ k. is_lt (nat_cmp m k)) (numbers_from n us) ≡ true
 above m n [] l = refl
-above m n (u ∷ us) l = and_from (is_lt (nat_cmp m n)) (list_all (λ k. is_lt (nat_cmp m k)) (numbers_from (suc n) us)) (less_is m n l) (above m (suc n) us (omega arith))
+above m n (u ∷ us) l = and_from (is_lt (nat_cmp m n)) (list_all (λ k. is_lt (nat_cmp m k)) (numbers_from (suc n) us)) (less_number m n l) (above m (suc n) us (omega arith))
 
 ascend : (n : ℕ) (us : List UserSlot) → ascending nat_cmp (numbers_from n us) ≡ true
 ascend n [] = refl
@@ -164,7 +162,7 @@ place_there us (suc n) = elim (cases_lt n (length us)) [
     none m k l = grind (arith, nat_tests)
 
 place_listed : (us : List UserSlot) (n : ℕ) → is_place us n ≡ is_listed n (numbers_from 1 us)
-place_listed us n = both_ways_true (is_place us n) (is_listed n (numbers_from 1 us))
+place_listed us n = same_tests (is_place us n) (is_listed n (numbers_from 1 us))
     (λ e. let k = and_parts (nat_lt 0 n) (nat_le n (length us)) e in
     let a = ltb-true 0 n k.0 in
     let b = leb-true n (length us) k.1 in

@@ -10,6 +10,7 @@ use Rattle.std.proofs.lemmas.Bool.{cases_Bool}
 use Rattle.std.proofs.lemmas.Cmp.{nat_list_cmp_total}
 use Rattle.bdb_keep.specs.Tables.{Tables, bytes_cmp}
 use Rattle.bdb_base.proofs.Numbers.{less}
+use Rattle.bdb_base.proofs.OptionLemmas.{none_is_some, same_some}
 use Rattle.bdb_keep.proofs.Gets.{get_after_insert, get_after_remove}
 use Rattle.bdb_keep.proofs.RowsLemmas.{same_place}
 use Rattle.bdb_tables.specs.Codec.{Codec, IsEntryOf, IsKeyOf, IsRowOf, HasFirst, HasLeast, KeepsOrder, TableFits, place}
@@ -24,12 +25,6 @@ head_same m n j k e = cc
 tail_same : (m n : ℕ) (j k : List ℕ) → m ∷ j ≡ n ∷ k → j ≡ k
 tail_same m n j k e = cc
 
-pub some_same : (r s : List ℕ) → Some r ≡ Some s → r ≡ s
-some_same r s e = cc
-
-pub none_some : (r : List ℕ) → None ≡ Some r → ⊥
-none_some r e = cc
-
 -- a fact of the row at each place, after a put or a removal
 module _ (P : ℕ → List ℕ → List ℕ → Type 0) where
   pub put_keeps_each : (t : Tables) (m : ℕ) (j s : List ℕ) → P m j s → ((n : ℕ) (k r : List ℕ) → map.get t (n ∷ k) ≡ Some r → P n k r)
@@ -40,7 +35,7 @@ module _ (P : ℕ → List ℕ → List ℕ → Type 0) where
         | inl e ↦
             let same = same_place (n ∷ k) (m ∷ j) e in
             let row : Some s ≡ Some r = sym (after ∙ ap (λ b. cond b (Some s) (map.get t (n ∷ k))) e) ∙ found in
-            subst (λ x. P x k r) (sym (head_same n m k j same)) (subst (λ x. P m x r) (sym (tail_same n m k j same)) (subst (P m j) (some_same s r row) here))
+            subst (λ x. P x k r) (sym (head_same n m k j same)) (subst (λ x. P m x r) (sym (tail_same n m k j same)) (subst (P m j) (same_some s r row) here))
         | inr e ↦ h n k r (sym (after ∙ ap (λ b. cond b (Some s) (map.get t (n ∷ k))) e) ∙ found)
       ]
 
@@ -49,7 +44,7 @@ module _ (P : ℕ → List ℕ → List ℕ → Type 0) where
   remove_keeps_each t p h n k r found =
       let after = get_after_remove t p (n ∷ k) in
       elim (cases_Bool (eq_by_cmp bytes_cmp (n ∷ k) p)) [
-        | inl e ↦ absurd (none_some r (sym (after ∙ ap (λ b. cond b None (map.get t (n ∷ k))) e) ∙ found))
+        | inl e ↦ absurd (none_is_some r (sym (after ∙ ap (λ b. cond b None (map.get t (n ∷ k))) e) ∙ found))
         | inr e ↦ h n k r (sym (after ∙ ap (λ b. cond b None (map.get t (n ∷ k))) e) ∙ found)
       ]
 

@@ -2,7 +2,8 @@
 use Rattle.std.proofs.Common.{◌≡◌, ℕ, zero, suc, ◌+◌, ◌<◌, ◌≤◌, List, [], ◌∷◌, ◌++◌, length, take, drop, get_or, Option, Ok, Err, sym, ap, subst, ◌∙◌, arith}
 use Rattle.std.specs.List.{AllByRecursion}
 use Rattle.std.proofs.lemmas.List.{drop_more, take_more}
-use Rattle.bdb_base.specs.Causes.{Rises, Rose, RoseBy}
+use Rattle.bdb_base.specs.Causes.{Rises, RoseBy}
+use Rattle.bdb_base.proofs.CauseLemmas.{rose_later}
 use Rattle.bdb_keep.specs.Calls.{IsRead, IsWrite}
 use Rattle.bdb_keep.specs.Seen.{Seen, IsAtRest, NeverFall, GoesOn, Steps}
 use Rattle.bdb_keep.specs.Tables.{Tables}
@@ -37,9 +38,6 @@ counts_then a b c g h = record {
   writes = omega (arith, g.writes, h.writes);
   commits = omega (arith, g.commits, h.commits);
 }
-
-rose_later : (a b c : ℕ) → a ≤ b → Rose b c → Rose a c
-rose_later a b c le r = omega arith
 
 -- a call that refuses, after others that went on
 pub steps_err : {T U E : Type 0} (old a b : Seen) (e fault : E) → GoesOn old a → Steps {T = T} {E = E} a b (Err e) fault → Steps {T = U} {E = E} old b (Err e) fault

@@ -26,12 +26,13 @@ use Rattle.bdb_base.specs.Queries.{columns_at, columns_of_definition}
 use Rattle.bdb_base.specs.Safety.{is_given, is_minus, is_users_item, is_literal, who_fits, fixed_differ, item_fits, item_kinds, column_kind, operand_kind, joins_one_kind, query_fits, IsSafe}
 use Rattle.bdb_base.proofs.ListLemmas.{list_all_get, list_all_weaker, filter_kept_one, filter_dropped_one}
 use Rattle.bdb_base.proofs.UserLemmas.{list_all-filter_both}
+use Rattle.bdb_base.proofs.OptionLemmas.{some_of}
 use Rattle.bdb_plan.specs.declared.step.Step.{Step}
 use Rattle.bdb_plan.specs.declared.step.Step.TheVariants as step
 use Rattle.bdb_plan.specs.Fitness.{Placed, is_among, has_bound, was_bound, is_known, is_set, operand_is_set, who_is_set, is_walked, is_new, comes_next, is_whole, placed_if, with_user, with_walk, with_tuple, bound_count, with_all_bound, placed_after, placed_at_end, takes_set, fits_from, at_first}
 use Rattle.bdb_plan.specs.PlanOf.{differ_from, walk_from, walk_of, bind_of, binds_from, operand_set, all_set, due, item_steps, steps_from, places, is_users, is_plus, is_minus_item, order_of}
 use Rattle.bdb_plan.specs.Sources.{source_of}
-use Rattle.bdb_trans.proofs.HoldLemmas.{some_is, there_in_order, both_there, set_after, comes_set}
+use Rattle.bdb_trans.proofs.HoldLemmas.{there_in_order, both_there, set_after, comes_set}
 use Rattle.bdb_trans.proofs.PlaceLemmas.{from_zero}
 use Rattle.bdb_trans.proofs.SourceLemmas.{move_on, here_at, joined_keeps, conds_keep_kinds, bound_has_source, IsSource, literal, column, source_is}
 
@@ -165,7 +166,7 @@ placed rels q set o walk = record { users = chosen q set; items = set; denied = 
 column_within : (rels : List RelDef) (items : List Item) (r : Ref) (alias : List ℕ) (rel : ℕ) (path : List Who) → slice_get items r.item ≡ Some (Rel alias rel Minus path) → is_some (column_kind rels items r) ≡ true
     → r.col < length (columns_at rels rel)
 column_within rels items r alias rel path e h =
-    let k = some_is (slice_get (map (λ c. c.kind) (columns_at rels rel)) r.col) (sym (ap (λ o. is_some (option_and_then (λ item. slice_get (item_kinds rels item) r.col) o)) e) ∙ h) in
+    let k = some_of (slice_get (map (λ c. c.kind) (columns_at rels rel)) r.col) (sym (ap (λ o. is_some (option_and_then (λ item. slice_get (item_kinds rels item) r.col) o)) e) ∙ h) in
     subst (λ m. r.col < m) (map_long (columns_at rels rel)) (slice_get_within (map (λ c. c.kind) (columns_at rels rel)) r.col k.0 k.1)
   where
     map_long : (cols : List ColDef) → length (map (λ c. c.kind) cols) ≡ length cols
@@ -276,7 +277,7 @@ bind_leads n w rels q fit set o walk at col given next has =
     let r : Ref = record { item = at; col = col } in
     let p = placed rels q set o walk in
     let end = placed rels q set (Some (at, col + 1)) walk in
-    let src = some_is (source_of rels q r) has.source in
+    let src = some_of (source_of rels q r) has.source in
     let set_there = source_set w rels q fit set o walk given r src.0 has.there (source_is rels q r src.0 src.1) in
     subst (λ x. Leads n w p (bind_of r x) end) (sym src.1)
     (leads_one n w p end (step.Bind at col src.0) (operand_is_set p src.0 && comes_next n p o at col) refl (and_from (operand_is_set p src.0) (comes_next n p o at col) set_there next))
@@ -663,7 +664,7 @@ plan_is_fit w catalog q whole fits safe =
 
 pub some_column : (rels : List RelDef) (rel : ℕ) → list_all is_valid_relation rels ≡ true → is_some (slice_get rels rel) ≡ true → (c : ColDef) × (cs : List ColDef) × (columns_at rels rel ≡ c ∷ cs)
 some_column rels rel v h =
-    let def = some_is (slice_get rels rel) h in
+    let def = some_of (slice_get rels rel) h in
     let ok = list_all_get is_valid_relation rels rel def.0 v def.1 in
     let few = (and_parts (nat_lt 0 (length def.0.cols)) (nat_le (length def.0.cols) 16) (and_parts (nat_lt 0 (length def.0.cols) && nat_le (length def.0.cols) 16) _ ok).0).0 in
     let first = by def.0.cols few in

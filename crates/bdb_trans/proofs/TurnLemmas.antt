@@ -1,5 +1,5 @@
 -- Steps of loops, and names of columns.
-use Rattle.std.proofs.Common.{◌≡◌, ◌∙◌, ℕ, suc, ◌+◌, ◌<◌, ◌≤◌, ◌^◌, Bool, true, ◌&&◌, nat_lt, List, [], ◌∷◌, ◌++◌, Option, None, Some, refl, ap, sym, subst, length, drop, get_or, cond, find, arith, append_assoc, inl, inr, map}
+use Rattle.std.proofs.Common.{◌≡◌, ◌∙◌, ℕ, suc, ◌+◌, ◌<◌, ◌≤◌, ◌^◌, true, ◌&&◌, nat_lt, List, [], ◌∷◌, ◌++◌, Option, None, Some, refl, ap, sym, subst, length, drop, get_or, find, arith, append_assoc, inl, inr, map}
 use Prim.Native.Nat.{zero}
 use Rattle.std.specs.List.{list_all, slice_get, flat_map}
 use Rattle.std.specs.Option.{option_map}
@@ -19,7 +19,8 @@ use Rattle.bdb_base.specs.declared.kinds.Who.{Who}
 use Rattle.bdb_base.specs.Queries.{columns_at, columns_of_definition}
 use Rattle.bdb_base.specs.Safety.{is_equality, is_literal, same_column, query_fits, first_there}
 use Rattle.bdb_base.proofs.ListLemmas.{list_all_get, filter_kept_one, filter_dropped_one}
-use Rattle.bdb_queries.proofs.RangeLemmas.{same_column_is}
+use Rattle.bdb_base.proofs.FindLemmas.{find_same}
+use Rattle.bdb_base.proofs.ConditionLemmas.{same_column_is}
 use Rattle.bdb_plan.specs.declared.step.Step.{Step}
 use Rattle.bdb_plan.specs.declared.step.Step.TheVariants as step
 use Rattle.bdb_plan.specs.PlanOf.{differ_from, walk_from, setting, denying, due, item_steps}
@@ -65,10 +66,6 @@ few_columns rels rel h = by (slice_get rels rel) (λ def e. list_all_get can_num
 -- a query fits a catalog each of whose relations has columns that can be numbered
 pub columns_are_numbered : (catalog : Catalog) (q : Query) → query_fits catalog q ≡ true → list_all can_number_columns catalog.rels ≡ true
 columns_are_numbered catalog q h = (and_parts (list_all can_number_columns catalog.rels) _ (and_parts (nat_lt (length q.items) (2 ^ 32)) _ h).1).0
-
-find_same : {X : Type 0} (p q : X → Bool) → ((x : X) → p x ≡ q x) → (xs : List X) → find p xs ≡ find q xs
-find_same p q h [] = refl
-find_same p q h (x ∷ xs) = ap (λ b. cond b (Some x) (find p xs)) (h x) ∙ ap (λ o. cond (q x) (Some x) o) (find_same p q h xs)
 
 -- a source by names is the column's source
 pub source_is_named : (rels : List RelDef) (q : Query) (names : List (Ref × Ref)) (given : List Ref) (r : Ref) → AreNames q.conds names → given ≡ given_columns rels 0 q.items

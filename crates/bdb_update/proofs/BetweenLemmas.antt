@@ -7,13 +7,14 @@ use Rattle.std.proofs.lemmas.List.Folds.{list_any-append}
 use Rattle.bdb_base.specs.Bases.{are_distinct}
 use Rattle.bdb_base.specs.Same.{same_text}
 use Rattle.bdb_base.specs.SameLemmas.{same_text-Decides}
+use Rattle.bdb_base.proofs.BoolLemmas.{not_twice}
 use Rattle.bdb_keep.specs.Tables.{Tables}
 use Rattle.bdb_tables.specs.Differences.{AreDifferences}
 use Rattle.bdb_tables.proofs.DifferenceLemmas.{is_among, no_more, distinct_append}
 use Rattle.bdb_val.specs.Others.{SameBut, is_in}
 use Rattle.bdb_update.specs.Bounds.{part_at}
 use Rattle.bdb_update.specs.Tallies.{HasRowCount, vals_at, nothing_at}
-use Rattle.bdb_update.proofs.TallyLemmas.{Places, rows_alone, filter_parts, filter_distinct, not_twice, among_passing, all_filter, all_of, all_weaker, all_among, length_append, same_row, same_row_is, same_row_from}
+use Rattle.bdb_update.proofs.TallyLemmas.{Places, rows_alone, filter_parts, filter_distinct, among_passing, all_filter, all_of, all_weaker, all_among, length_append, same_row, same_row_is, same_row_from}
 
 abbrev pub Look : Type 0
 Look = List ℕ → Option (List ℕ)

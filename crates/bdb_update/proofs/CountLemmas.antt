@@ -8,10 +8,10 @@ use Rattle.bdb_base.specs.SameLemmas.{same_path-Decides}
 use Rattle.bdb_base.specs.States.{is_state, stated_prefixes}
 use Rattle.bdb_base.specs.declared.kinds.Stmt.{Stmt}
 use Rattle.bdb_base.proofs.CountLemmas.{distinct_count-same, one_unless}
-use Rattle.bdb_names.proofs.ListedLemmas.{both_ways_true}
+use Rattle.bdb_base.proofs.BoolLemmas.{same_tests}
+use Rattle.bdb_base.proofs.OptionLemmas.{some_of}
 use Rattle.bdb_paths.proofs.StateLemmas.{state_is_listed}
 use Rattle.bdb_tables.specs.Names.{Names, AreNames, path_of, number_of, is_named, is_listed, are_once}
-use Rattle.bdb_val.proofs.HeldLemmas.{some_is}
 
 module _ (ns : Names) (names : AreNames ns) where
   some_path : Option (List ℕ) → List ℕ
@@ -24,7 +24,7 @@ module _ (ns : Names) (names : AreNames ns) where
 
   path_is : (k : ℕ) → is_some (path_of ns k) ≡ true → path_of ns k ≡ Some (path k)
   unfolding some_path path
-  path_is k e = let w = some_is (path_of ns k) e in w.1 ∙ ap Some (sym (ap some_path w.1))
+  path_is k e = let w = some_of (path_of ns k) e in w.1 ∙ ap Some (sym (ap some_path w.1))
 
   abbrev AllNamed : List ℕ → Type 0
   AllNamed ks = (k : ℕ) → is_listed k ks ≡ true → is_some (path_of ns k) ≡ true
@@ -84,8 +84,8 @@ module _ (ns : Names) (names : AreNames ns) where
   numbers_are_counted stmts is =
       sym (counted ns.used all_named names.once)
       ∙ distinct_count-same same_path same_path-Decides (map path ns.used) (stated_prefixes stmts) (λ w.
-      both_ways_true (list_any (same_path w) (map path ns.used)) (is_named ns w) (among_named w ns.used all_named)
-      (λ e. let n = some_is (number_of ns w) e in
+      same_tests (list_any (same_path w) (map path ns.used)) (is_named ns w) (among_named w ns.used all_named)
+      (λ e. let n = some_of (number_of ns w) e in
       let p = names.numbered w n.0 n.1 in
       named_among w n.0 p ns.used (names.counted n.0 ∙ ap is_some p))
       ∙ is w ∙ sym (state_is_listed stmts w))

@@ -12,6 +12,7 @@ use Rattle.bdb_base.specs.declared.kinds.Stmt.{Stmt}
 use Rattle.bdb_base.specs.declared.tuple.Tuple.{Tuple}
 use Rattle.bdb_base.proofs.ClashLemmas.{same_tuple_turned}
 use Rattle.bdb_base.proofs.WorldLemmas.{explicit_tuple}
+use Rattle.bdb_base.proofs.ListLemmas.{list_any_same}
 use Rattle.bdb_keep.specs.Marked.{IsMarkedCount}
 use Rattle.bdb_keep.specs.Tables.{Tables}
 use Rattle.bdb_keep.specs.declared.keeper.KeyEnd.TheVariants.{Last}
@@ -19,7 +20,6 @@ use Rattle.bdb_keep.proofs.MarkedLemmas.{another_marked, only_marked}
 use Rattle.bdb_key.specs.Bytes.{num_bytes, vals_bytes}
 use Rattle.bdb_key.specs.Rows.{IsTupleRow}
 use Rattle.bdb_key.proofs.Readings.{num_form}
-use Rattle.bdb_paths.proofs.StateLemmas.{list_any_same}
 use Rattle.bdb_tables.specs.Codec.{HasAt}
 use Rattle.bdb_tables.specs.InUse.{tuple_ix_codec, val_bytes}
 use Rattle.bdb_tables.specs.Names.{path_of, number_of}

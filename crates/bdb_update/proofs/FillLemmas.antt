@@ -8,6 +8,7 @@ use Rattle.bdb_base.specs.Causes.{Rises}
 use Rattle.bdb_base.specs.States.{is_state, deepest_suffix}
 use Rattle.bdb_base.specs.declared.kinds.Stmt.{Stmt}
 use Rattle.bdb_base.specs.declared.tuple.Tuple.{Tuple}
+use Rattle.bdb_base.proofs.OptionLemmas.{some_of, one_there}
 use Rattle.bdb_keep.specs.Seen.{Seen}
 use Rattle.bdb_keep.specs.Tables.{Tables}
 use Rattle.bdb_key.specs.Bytes.{num_bytes}
@@ -26,7 +27,7 @@ use Rattle.bdb_val.specs.WorldCopies.{TellsCopy, CopiesWorld, inherited_or, key_
 use Rattle.bdb_val.specs.Reads.{HaveTuples}
 use Rattle.bdb_val.specs.Steps.{IsChanging, counted as capped}
 use Rattle.bdb_val.proofs.Calls.{HasGone, gone_then, gone_changing}
-use Rattle.bdb_val.proofs.HeldLemmas.{some_is, names_are_linked}
+use Rattle.bdb_val.proofs.HeldLemmas.{names_are_linked}
 use Rattle.bdb_worlds.proofs.ReadLemmas.{link_read}
 use Rattle.bdb_update.specs.ChangeLaws.{inherited}
 use Rattle.bdb_update.specs.Filling.{AreTold, Before, HaveCome, SomeHaveCome, FillsWorlds, HasLink, IsFilled, names_now}
@@ -39,9 +40,6 @@ use Rattle.bdb_update.proofs.ComeLemmas.{bare, part_count, part_few, rows_one}
 use Rattle.bdb_update.proofs.TallyLemmas.{told_balance}
 use Rattle.bdb_tables.proofs.SameLemmas.{same_then}
 use Rattle.bdb_worlds.proofs.GrowLemmas.{push_prefixes}
-
-same_some : {X : Type 0} (x y : X) (o : Option X) → o ≡ Some x → o ≡ Some y → x ≡ y
-same_some x y o a b = cc
 
 -- an inherited row in place of none
 inherited_only : (o : Option Mark) → inherited_or o None ≡ inherited o
@@ -116,7 +114,7 @@ module _ (s : Before) (t : Tables) (xs ys : List ℕ) (n : ℕ) (c : HaveCome s 
     has v e = c.more v (c.old v ∙ e)
 
     leads : path_of all m ≡ Some d
-    leads = ap (path_of all) (same_some m link.0 (link_of all n) linked link.1) ∙ link.2
+    leads = ap (path_of all) (one_there m link.0 (link_of all n) linked link.1) ∙ link.2
 
     d_short : length d ≤ s.stood + length xs
     d_short =
@@ -130,7 +128,7 @@ module _ (s : Before) (t : Tables) (xs ys : List ℕ) (n : ℕ) (c : HaveCome s 
 
     no_state : is_state s.stmts (i ∷ w) ≡ false
     no_state = false_from_ne_true (is_state s.stmts (i ∷ w)) (λ e.
-        let k = some_is (number_of s.names (i ∷ w)) (c.old (i ∷ w) ∙ e) in
+        let k = some_of (number_of s.names (i ∷ w)) (c.old (i ∷ w) ∙ e) in
         next_is_new s.names s.path s.stood xs ys n c.least whole names k.0 (c.names.numbered (i ∷ w) k.0 k.1 ∙ ap Some (sym p_is)))
 
     inherits : (v : Tuple) → mark_of s.keys s.stmts p v ≡ inherited (mark_of s.keys s.stmts d v)

@@ -10,8 +10,8 @@ use Rattle.bdb_base.specs.OrderLemmas.{tuple_exact}
 use Rattle.bdb_base.specs.declared.kinds.Stmt.{Stmt}
 use Rattle.bdb_base.specs.declared.tuple.Tuple.{Tuple}
 use Rattle.bdb_base.proofs.SetLemmas.{is_lt-Less, cases_Ordering, greater_from_less, less_from_greater}
+use Rattle.bdb_base.proofs.ClashLemmas.{clash_of}
 use Rattle.bdb_val.specs.declared.stored.Stored.{Stored}
-use Rattle.bdb_update.proofs.KeyLemmas.{clash_of}
 use Rattle.bdb_update.specs.Looking.{is_clashing, first_of, least_row}
 
 -- ---- tuples in order

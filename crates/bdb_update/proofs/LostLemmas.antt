@@ -20,6 +20,7 @@ use Rattle.bdb_base.proofs.ClashLemmas.{same_tuple_turned}
 use Rattle.bdb_base.proofs.SegmentLemmas.{differs_by_length}
 use Rattle.bdb_base.proofs.SetLemmas.{list_any-put_in}
 use Rattle.bdb_base.proofs.WorldLemmas.{nothing_stands, plain_inheritance, worlds_are_consistent}
+use Rattle.bdb_base.proofs.OptionLemmas.{some_of}
 use Rattle.bdb_keep.specs.Tables.{Tables}
 use Rattle.bdb_paths.proofs.StateLemmas.{put_makes_states}
 use Rattle.bdb_tables.specs.Codec.{place}
@@ -29,7 +30,7 @@ use Rattle.bdb_tables.specs.Names.{Names, AreNames, path_of, number_of, is_named
 use Rattle.bdb_tables.specs.Rows.{Tuples, HoldsTuples, HoldsRows, row_for}
 use Rattle.bdb_tables.proofs.SignLemmas.{put_unfelt}
 use Rattle.bdb_val.specs.Settling.{row_key}
-use Rattle.bdb_val.proofs.HeldLemmas.{some_is, held_names, right_row}
+use Rattle.bdb_val.proofs.HeldLemmas.{held_names, right_row}
 use Rattle.bdb_update.specs.Tallies.{vals_at}
 use Rattle.bdb_update.proofs.BetweenLemmas.{IsLost}
 use Rattle.bdb_update.proofs.RowLemmas.{marked_stated, stated_marked}
@@ -220,7 +221,7 @@ module _ (keys : ℕ → ℕ) where
 
       no_state : is_state stmts w ≡ false
       no_state = false_from_ne_true (is_state stmts w) (λ a.
-          let n = some_is (number_of s.few w) (s.few_are w ∙ a) in
+          let n = some_of (number_of s.few w) (s.few_are w ∙ a) in
           let b = s.few_names.numbered w n.0 n.1 in
           let one : n.0 ≡ k.0 = same_some n.0 k.0 (number_of s.all w) (s.all_names.named n.0 w (s.names_stay n.0 w b)) (s.all_names.named k.0 w p) in
           not_before w (ap (path_of s.few) (sym one) ∙ b))
@@ -275,7 +276,7 @@ module _ (keys : ℕ → ℕ) where
           let at : place val_codec k ≡ 11 ∷ j = ap (λ (z : List ℕ). 11 ∷ z) entry.key_reads.spelled in
           let there = some_row val_codec.row_bytes (row_t k) r (sym (s.first_rows.rows k fits) ∙ ap (tables.get t) at ∙ a) in
           let named = held_names keys stmts s.told_first s.few s.first_tuples t s.first_held k there in
-          let w = some_is (path_of s.few k.0) named.0 in
+          let w = some_of (path_of s.few k.0) named.0 in
           let rows_are : row_u k ≡ row_t k =
           at_all k w.0 named.1.0 named.1.2 (s.names_stay k.0 w.0 w.1) (s.tuples_stay k.3 named.1.0 named.1.1) ∙ sym (at_first k w.0 named.1.0 named.1.2 w.1 named.1.1) in
           absurd (other (ap (tables.get t) (sym at) ∙ s.first_rows.rows k fits ∙ ap (option_map val_codec.row_bytes) (sym rows_are) ∙ sym (s.rows.rows k fits) ∙ ap (tables.get u) at))
@@ -288,7 +289,7 @@ module _ (keys : ℕ → ℕ) where
           let at : place val_codec k ≡ 11 ∷ j = ap (λ (z : List ℕ). 11 ∷ z) entry.key_reads.spelled in
           let here = some_row val_codec.row_bytes (row_u k) r (sym (s.rows.rows k fits) ∙ ap (tables.get u) at ∙ b) in
           let named = held_names keys stmts s.told s.all s.tuples u s.held k here in
-          let w = some_is (path_of s.all k.0) named.0 in
+          let w = some_of (path_of s.all k.0) named.0 in
           let none = none_is val_codec.row_bytes (row_t k) (sym (s.first_rows.rows k fits) ∙ ap (tables.get t) at ∙ a) in
           let gone = none_is val_codec.row_bytes (row_v k) (sym (s.last_rows.rows k fits) ∙ ap (tables.get v) at ∙ sym same ∙ a) in
           rival_row k w.0 named.1.0 named.1.2 w.1 named.1.1 none here gone (11 ∷ j) at

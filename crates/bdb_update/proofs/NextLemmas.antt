@@ -1,5 +1,5 @@
 -- A base with statements of one path in place of others: when it is valid, and how many tuples it has.
-use Rattle.std.proofs.Common.{◌≡◌, ◌∙◌, ℕ, ◌+◌, ◌≤◌, Bool, true, false, not, ◌&&◌, ◌||◌, cond, List, [], ◌∷◌, ◌++◌, None, refl, ap, sym, subst, inl, inr, arith, filter, length, map}
+use Rattle.std.proofs.Common.{◌≡◌, ◌∙◌, ℕ, ◌+◌, ◌≤◌, Bool, true, false, not, ◌&&◌, ◌||◌, List, [], ◌∷◌, ◌++◌, None, refl, ap, sym, subst, inl, inr, arith, filter, length, map}
 use Rattle.std.specs.Bool.{Decides}
 use Rattle.std.specs.List.{list_any, list_all}
 use Rattle.std.specs.Ordering.{is_eq}
@@ -23,13 +23,14 @@ use Rattle.bdb_base.specs.Worlds.{contradicted}
 use Rattle.bdb_base.proofs.BaseLemmas.{filter_is_valid, take_is_valid}
 use Rattle.bdb_base.proofs.ClashLemmas.{turned}
 use Rattle.bdb_base.proofs.CountLemmas.{list_any-map, distinct_count-le, distinct_count-same, one_unless}
-use Rattle.bdb_base.proofs.ListLemmas.{list_all_weaker, list_all_both, list_any_fails, filter_kept_one, filter_dropped_one}
+use Rattle.bdb_base.proofs.ListLemmas.{list_all_weaker, list_all_both, list_any_fails, filter_kept_one, filter_dropped_one, filter_same}
 use Rattle.bdb_base.proofs.SetLemmas.{put_keeps_order, filter_keeps_order, members_make_set, is_eq-Equal}
-use Rattle.bdb_base.proofs.UpdateLemmas.{list_any-with, list_all-with, with_keeps_order, none_passes, is_free, is_free_at, is_free_elsewhere, free_everywhere}
+use Rattle.bdb_base.proofs.UpdateLemmas.{list_any-with, list_all-with, with_keeps_order, none_passes, is_free, is_free_at, is_free_elsewhere, free_everywhere, without_keeps_order}
+use Rattle.bdb_base.proofs.FindLemmas.{list_any-filter}
 use Rattle.bdb_paths.proofs.StateLemmas.{state_is_listed}
 use Rattle.bdb_update.specs.Calls.{are_apart}
 use Rattle.bdb_update.specs.Reached.{told_elsewhere, lost_of, fresh_of}
-use Rattle.bdb_update.proofs.ReachedLemmas.{any-filter, any_left, length_left, length_with, without_keeps_order}
+use Rattle.bdb_update.proofs.ReachedLemmas.{any_left, length_left, length_with}
 
 -- ---- a part of a valid base is valid
 
@@ -42,7 +43,7 @@ part_is_valid : (c : Catalog) (xs ys : List Stmt) → ascending statement_cmp xs
 part_is_valid c xs ys s sub v =
     let q : Stmt → Bool = stands xs in
     let o = filter_keeps_order statement_exact q ys v.stmts.sorted in
-    let same : filter q ys ≡ xs = members_make_set statement_exact (filter q ys) xs o s (λ z. any-filter (λ y. is_eq (statement_cmp y z)) q ys ∙ both z) in
+    let same : filter q ys ≡ xs = members_make_set statement_exact (filter q ys) xs o s (λ z. list_any-filter (λ y. is_eq (statement_cmp y z)) q ys ∙ both z) in
     subst (IsValid c) same (record { catalog = v.catalog; stmts = filter_is_valid c ys q v.stmts o })
   where
     there : (z : Stmt) (zs : List Stmt) → list_any (λ y. stands xs y && is_eq (statement_cmp y z)) zs ≡ true → stands xs z ≡ true
@@ -253,10 +254,6 @@ told stmts = map (λ x. x.tuple) stmts
 has_told_tuple : (stmts : List Stmt) (u : Tuple) → list_any (same_tuple u) (told stmts) ≡ has_tuple stmts u
 has_told_tuple stmts u = list_any-map (same_tuple u) (λ x. x.tuple) stmts
 
-filter_same : {X : Type 0} (p q : X → Bool) → ((x : X) → p x ≡ q x) → (xs : List X) → filter p xs ≡ filter q xs
-filter_same p q h [] = refl
-filter_same p q h (x ∷ xs) = ap (λ b. cond b (x ∷ filter p xs) (filter p xs)) (h x) ∙ ap (λ ys. cond (q x) (x ∷ ys) ys) (filter_same p q h xs)
-
 -- statements kept by their tuples have the tuples kept
 told_kept : (q : Tuple → Bool) (xs : List Stmt) → told (filter (λ x. q x.tuple) xs) ≡ filter q (told xs)
 told_kept q [] = refl
@@ -294,7 +291,7 @@ module _ (c : Catalog) (stmts : List Stmt) (w : List ℕ) (gone come : List Stmt
   pub told_after : (reached : List Stmt) → reached ≡ filter (λ x. same_path x.path w) after → (u : Tuple) → (has_tuple reached u || told_elsewhere stmts w u) ≡ has_tuple after u
   told_after reached is u =
       ap (λ xs. has_tuple xs u || told_elsewhere stmts w u) is
-      ∙ ap (λ b. b || told_elsewhere stmts w u) (any-filter (λ x. same_tuple u x.tuple) (λ x. same_path x.path w) after)
+      ∙ ap (λ b. b || told_elsewhere stmts w u) (list_any-filter (λ x. same_tuple u x.tuple) (λ x. same_path x.path w) after)
       ∙ ap (λ b. list_any (λ x. same_path x.path w && same_tuple u x.tuple) after || b) (sym (elsewhere_stays (λ x. same_tuple u x.tuple)))
       ∙ split after
     where

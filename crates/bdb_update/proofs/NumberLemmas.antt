@@ -12,6 +12,7 @@ use Rattle.bdb_base.specs.declared.tuple.Tuple.{Tuple}
 use Rattle.bdb_base.proofs.SetLemmas.{list_any-put_in}
 use Rattle.bdb_base.proofs.WorldLemmas.{stated_tuples_are_explicit}
 use Rattle.bdb_base.proofs.ClashLemmas.{same_tuple_turned}
+use Rattle.bdb_base.proofs.OptionLemmas.{same_some}
 use Rattle.bdb_keep.specs.Tables.{Tables}
 use Rattle.bdb_key.specs.Grammar.{IsNum}
 use Rattle.bdb_key.specs.Rows.{IsTupleRow}
@@ -32,9 +33,6 @@ use Rattle.bdb_update.specs.Numbering.{with_number, without_number, number_put, 
 
 some_none : {X : Type 0} (o : Option X) (x : X) → o ≡ None → o ≡ Some x → ⊥
 some_none o x a b = cc
-
-is_it : {X : Type 0} (x y : X) → Some x ≡ Some y → x ≡ y
-is_it x y e = cc
 
 -- a tuple of no statement has no row in any world
 unstated_mark : (keys : ℕ → ℕ) (stmts : List Stmt) (w : List ℕ) (u : Tuple) → has_told stmts u ≡ false → mark_of keys stmts w u ≡ None
@@ -123,7 +121,7 @@ module _ (told : List Stmt) (ts : Tuples) (t : Tables) (x : Stmt) (tid : ℕ) (h
   named_more : (n : ℕ) (v : Tuple) → cond (nat_eq n tid) (Some x.tuple) (ts.tuple n) ≡ Some v → cond (same_tuple v x.tuple) (Some tid) (ts.number v) ≡ Some n
   named_more n v e = elim (cases_Bool (nat_eq n tid)) [
     | inl a ↦
-        let s : x.tuple ≡ v = is_it x.tuple v (sym (cond-true (nat_eq n tid) (Some x.tuple) (ts.tuple n) a) ∙ e) in
+        let s : x.tuple ≡ v = same_some x.tuple v (sym (cond-true (nat_eq n tid) (Some x.tuple) (ts.tuple n) a) ∙ e) in
         cond-true (same_tuple v x.tuple) (Some tid) (ts.number v) ((same_tuple-Decides v x.tuple).1 (sym s)) ∙ ap Some (sym (eqb-true n tid a))
     | inr a ↦
         let s : ts.tuple n ≡ Some v = sym (cond-false (nat_eq n tid) (Some x.tuple) (ts.tuple n) a) ∙ e in
@@ -134,7 +132,7 @@ module _ (told : List Stmt) (ts : Tuples) (t : Tables) (x : Stmt) (tid : ℕ) (h
   numbered_more : (v : Tuple) (n : ℕ) → cond (same_tuple v x.tuple) (Some tid) (ts.number v) ≡ Some n → cond (nat_eq n tid) (Some x.tuple) (ts.tuple n) ≡ Some v
   numbered_more v n e = elim (cases_Bool (same_tuple v x.tuple)) [
     | inl a ↦
-        let s : tid ≡ n = is_it tid n (sym (cond-true (same_tuple v x.tuple) (Some tid) (ts.number v) a) ∙ e) in
+        let s : tid ≡ n = same_some tid n (sym (cond-true (same_tuple v x.tuple) (Some tid) (ts.number v) a) ∙ e) in
         cond-true (nat_eq n tid) (Some x.tuple) (ts.tuple n) (eq-eqb n tid (sym s)) ∙ ap Some (sym ((same_tuple-Decides v x.tuple).0 a))
     | inr a ↦
         let s : ts.tuple n ≡ Some v = h.numbered v n (sym (cond-false (same_tuple v x.tuple) (Some tid) (ts.number v) a) ∙ e) in
@@ -191,7 +189,7 @@ module _ (told less : List Stmt) (ts : Tuples) (t : Tables) (u : Tuple) (tid : �
         let s : ts.tuple n ≡ Some v = sym (cond-false (nat_eq n tid) None (ts.tuple n) a) ∙ e in
         let f : same_tuple v u ≡ false = false_from_ne_true (same_tuple v u) (λ c.
         let same : Some n ≡ Some tid = sym (h.named n v s) ∙ ap ts.number ((same_tuple-Decides v u).0 c) ∙ h.named tid u name in
-        false≢true (sym a ∙ eq-eqb n tid (is_it n tid same))) in
+        false≢true (sym a ∙ eq-eqb n tid (same_some n tid same))) in
         cond-false (same_tuple v u) None (ts.number v) f ∙ h.named n v s
   ]
 
@@ -202,7 +200,7 @@ module _ (told less : List Stmt) (ts : Tuples) (t : Tables) (u : Tuple) (tid : �
         let s : ts.tuple n ≡ Some v = h.numbered v n (sym (cond-false (same_tuple v u) None (ts.number v) a) ∙ e) in
         let f : nat_eq n tid ≡ false = false_from_ne_true (nat_eq n tid) (λ c.
         let same : Some v ≡ Some u = sym s ∙ ap ts.tuple (eqb-true n tid c) ∙ name in
-        false≢true (sym a ∙ (same_tuple-Decides v u).1 (is_it v u same))) in
+        false≢true (sym a ∙ (same_tuple-Decides v u).1 (same_some v u same))) in
         cond-false (nat_eq n tid) None (ts.tuple n) f ∙ s
   ]
 

@@ -13,7 +13,9 @@ use Rattle.bdb_base.specs.Worlds.{explicit, IsConsistent}
 use Rattle.bdb_base.specs.declared.kinds.Sign.{Sign}
 use Rattle.bdb_base.specs.declared.kinds.Stmt.{Stmt}
 use Rattle.bdb_base.specs.declared.tuple.Tuple.{Tuple}
-use Rattle.bdb_base.proofs.WorldLemmas.{explicit_tuple, is_prefix_itself, valid_is_consistent}
+use Rattle.bdb_base.proofs.WorldLemmas.{explicit_tuple, is_prefix_itself, valid_is_consistent, stands_is_explicit}
+use Rattle.bdb_base.proofs.OptionLemmas.{some_of}
+use Rattle.bdb_base.proofs.SegmentLemmas.{take_is_prefix, prefix_is_take, length-prefix}
 use Rattle.bdb_keep.specs.Tables.{Tables}
 use Rattle.bdb_key.specs.Grammar.{IsNum}
 use Rattle.bdb_paths.proofs.StateLemmas.{states_have_prefixes}
@@ -28,7 +30,7 @@ use Rattle.bdb_tables.proofs.WriteLemmas.{gives_same}
 use Rattle.bdb_val.specs.Reads.{HasRows, HaveTuples}
 use Rattle.bdb_val.specs.Settling.{row_key}
 use Rattle.bdb_val.specs.WorldCopies.{rows_cleared}
-use Rattle.bdb_val.proofs.HeldLemmas.{some_is, explicit_mark, held, held_names, right_row}
+use Rattle.bdb_val.proofs.HeldLemmas.{explicit_mark, held, held_names, right_row}
 use Rattle.bdb_val.proofs.ReadLemmas.{key_fits}
 use Rattle.bdb_worlds.specs.Growth.{SameOutside}
 use Rattle.bdb_worlds.specs.Holding.{Worlds, HoldSome}
@@ -46,7 +48,7 @@ use Rattle.bdb_update.proofs.ArriveLemmas.{in_worlds, worlds_then_rows}
 use Rattle.bdb_update.proofs.ComeLemmas.{rows_same}
 use Rattle.bdb_update.proofs.GrammarLemmas.{over_in_grammar}
 use Rattle.bdb_update.proofs.OneStored.{explicit_state}
-use Rattle.bdb_tables.proofs.SignLemmas.{one_sign, sign_is_explicit, stands_is_explicit}
+use Rattle.bdb_tables.proofs.SignLemmas.{one_sign, sign_is_explicit}
 use Rattle.bdb_update.proofs.PartCountLemmas.{worlds_less}
 use Rattle.bdb_update.proofs.ReachLemmas.{other_worlds_store, world_goes_with_rows}
 use Rattle.bdb_tables.proofs.SameLemmas.{gives_still, states_still}
@@ -57,23 +59,6 @@ use Rattle.bdb_names.proofs.Ends.{length_more}
 use Rattle.bdb_update.proofs.MarkLemmas.{explicit_is}
 
 -- ---- paths
-
-take_front : (w p : List ℕ) → is_prefix w p ≡ true → w ≡ take (length w) p
-take_front [] p h = refl
-take_front (i ∷ w) [] h = absurd (false≢true h)
-take_front (i ∷ w) (j ∷ p) h =
-    let k = and_parts (nat_eq i j) (is_prefix w p) h in
-    ap (λ n. n ∷ w) (eqb-true i j k.0) ∙ ap (λ (z : List ℕ). j ∷ z) (take_front w p k.1)
-
-front_short : (w p : List ℕ) → is_prefix w p ≡ true → length w ≤ length p
-front_short [] p h = omega arith
-front_short (i ∷ w) [] h = absurd (false≢true h)
-front_short (i ∷ w) (j ∷ p) h = let k = front_short w p (and_parts (nat_eq i j) (is_prefix w p) h).1 in omega arith
-
-take_is_front : (w : List ℕ) (k : ℕ) → is_prefix (take k w) w ≡ true
-take_is_front w zero = refl
-take_is_front [] (suc k) = refl
-take_is_front (x ∷ w) (suc k) = and_from (nat_eq x x) (is_prefix (take k w) w) (eq-eqb x x refl) (take_is_front w k)
 
 -- a prefix of a path is all of it, or one of its prefixes is a user longer
 front_cases : (w p : List ℕ) → is_prefix w p ≡ true → (p ≡ w) ⊎ ((i : ℕ) × (is_prefix (w ++ i ∷ []) p ≡ true))
@@ -130,8 +115,8 @@ state_cases stmts (j ∷ w) some h = begun_cases stmts (j ∷ w) h
 -- a prefix of a state is one
 state_front : (stmts : List Stmt) (w p : List ℕ) → is_prefix w p ≡ true → is_state stmts p ≡ true → is_state stmts w ≡ true
 state_front stmts w p h e =
-    let r = take_split p (length w) (length p) (front_short w p h) in
-    states_have_prefixes stmts w r.0 (ap (is_state stmts) (ap (λ v. v ++ r.0) (take_front w p h) ∙ sym r.1 ∙ whole p) ∙ e)
+    let r = take_split p (length w) (length p) (length-prefix w p h) in
+    states_have_prefixes stmts w r.0 (ap (is_state stmts) (ap (λ v. v ++ r.0) (prefix_is_take w p h) ∙ sym r.1 ∙ whole p) ∙ e)
   where
     whole : (p : List ℕ) → take (length p) p ≡ p
     whole [] = refl
@@ -221,7 +206,7 @@ module _ (t : Tables) (b : Contents) (x : Stmt) (h : HasParted t b x) (may : May
   statement_has_row : (n : ℕ) (w : List ℕ) → path_of ns n ≡ Some w → SomeExplicit less w → HasExplicitRow t n
   statement_has_row n w p s =
       let told : has_told b.stmts s.tuple ≡ true = (drop_is_within b.stmts x).tuples s.tuple (explicit_tuple less w s.tuple s.sign s.there) in
-      let i = some_is (h.tuples.number s.tuple) (h.stored.tuples.stated s.tuple ∙ told) in
+      let i = some_of (h.tuples.number s.tuple) (h.stored.tuples.stated s.tuple ∙ told) in
       let named = h.stored.tuples.numbered s.tuple i.0 i.1 in
       let size : IsNum n = names.sized w n (names.named n w p) in
       let fits : IsValKey (row_key (keys_of b) n i.0 s.tuple) = key_fits (keys_of b) h.tuples.tuple _ t rows_had n i.0 s.tuple size named in
@@ -279,7 +264,7 @@ module _ (t : Tables) (b : Contents) (x : Stmt) (h : HasParted t b x) (may : May
       still_less : (w : List ℕ) → (is_prefix w x.path ≡ true → length w ≤ len - 1) → is_named ns w ≡ true → is_named (without_name ms n (take len x.path)) w ≡ true
       still_less w short e = ap is_some (cond-false (same_path w (take len x.path)) None (ms.number w) (false_from_ne_true (same_path w (take len x.path)) (λ c.
           let same : w ≡ take len x.path = (same_path-Decides w (take len x.path)).0 c in
-          let d = short (ap (λ v. is_prefix v x.path) same ∙ take_is_front x.path len) in
+          let d = short (ap (λ v. is_prefix v x.path) same ∙ take_is_prefix x.path len) in
           let long : length w ≡ len = ap length same ∙ length-take-is x.path len l in
           omega arith)))
           ∙ still w (λ d. let s = short d in omega arith) e
@@ -289,7 +274,7 @@ module _ (t : Tables) (b : Contents) (x : Stmt) (h : HasParted t b x) (may : May
         | inl a ↦ done w e a
         | inr a ↦
             let long : length w ≡ len = omega arith in
-            ap (is_state less) (take_front w x.path e ∙ ap (λ k. take k x.path) long) ∙ dead_is_gone ms len n dead.0 l numbers still done
+            ap (is_state less) (prefix_is_take w x.path e ∙ ap (λ k. take k x.path) long) ∙ dead_is_gone ms len n dead.0 l numbers still done
       ]
 
   -- ---- the names that are left are those of the states
@@ -302,7 +287,7 @@ module _ (t : Tables) (b : Contents) (x : Stmt) (h : HasParted t b x) (may : May
     gone_is_none =
         let whole = s.whole in
         all_gone ns (length x.path) gone s.dead (omega arith) (omega arith) (λ w m e. e) (λ w short e. e)
-        (λ w e m. let l = front_short w x.path e in absurd (omega arith)) s.left whole
+        (λ w e m. let l = length-prefix w x.path e in absurd (omega arith)) s.left whole
 
     -- the longest prefix that stays is a state
     last_stays : is_state less (take s.left x.path) ≡ true
@@ -384,7 +369,7 @@ count_worlds t u x gone drops b h may =
     let last = last_stays t b x h may u gone s in
     worlds_less b.stmts x may.valid.stmts.sorted may.there s.left (omega arith)
     (λ j l. state_front less (take j x.path) (take s.left x.path) (take_of_take j s.left x.path l) last)
-    (λ j l m. gone_is_none t b x h may u gone s (take j x.path) (take_is_front x.path j) (let z = length-take-is x.path j m in omega arith))
+    (λ j l m. gone_is_none t b x h may u gone s (take j x.path) (take_is_prefix x.path j) (let z = length-take-is x.path j m in omega arith))
     ∙ ap (λ n. world_count less + n) many
   where
     take_of_take : (j k : ℕ) (w : List ℕ) → j ≤ k → is_prefix (take j w) (take k w) ≡ true

@@ -15,27 +15,16 @@ use Rattle.bdb_base.specs.Same.{same_path}
 use Rattle.bdb_base.specs.SortedSet.{ascending}
 use Rattle.bdb_base.specs.Worlds.{contradicted}
 use Rattle.bdb_base.proofs.BaseLemmas.{length-put_in}
-use Rattle.bdb_base.proofs.ListLemmas.{filter_kept_one, filter_dropped_one}
+use Rattle.bdb_base.proofs.ListLemmas.{filter_kept_one, filter_dropped_one, list_any_same}
 use Rattle.bdb_base.proofs.SetLemmas.{list_any-put_in, put_keeps_order, filter_keeps_order, members_make_set, take_drops_member, take_keeps_order, put_adds_member, is_eq_itself, is_eq_turned}
-use Rattle.bdb_paths.proofs.StateLemmas.{list_any_same}
+use Rattle.bdb_base.proofs.FindLemmas.{list_any-filter}
+use Rattle.bdb_base.proofs.UpdateLemmas.{without_keeps_order}
 use Rattle.bdb_update.specs.Calls.{are_apart}
 use Rattle.bdb_update.specs.Reached.{at_path, said_at, said_of}
 use Rattle.bdb_val.specs.declared.stored.Stored.{Stored}
 use Rattle.bdb_update.proofs.PartCountLemmas.{put_back}
 
 -- ---- lists
-
-both_ways : (a b : Bool) → (a ≡ true → b ≡ true) → (b ≡ true → a ≡ true) → a ≡ b
-both_ways true b f g = sym (f refl)
-both_ways false true f g = g refl
-both_ways false false f g = refl
-
-pub any-filter : {X : Type 0} (p q : X → Bool) (xs : List X) → list_any p (filter q xs) ≡ list_any (λ x. q x && p x) xs
-any-filter p q [] = refl
-any-filter p q (x ∷ xs) = elim (cases_Bool (q x)) [
-  | inl e ↦ ap (list_any p) (filter_kept_one q x xs e) ∙ ap (λ b. p x || b) (any-filter p q xs) ∙ sym (ap (λ b. (b && p x) || list_any (λ y. q y && p y) xs) e)
-  | inr e ↦ ap (list_any p) (filter_dropped_one q x xs e) ∙ any-filter p q xs ∙ sym (ap (λ b. (b && p x) || list_any (λ y. q y && p y) xs) e)
-]
 
 filters_swap : {X : Type 0} (p q : X → Bool) (xs : List X) → filter p (filter q xs) ≡ filter q (filter p xs)
 filters_swap p q [] = refl
@@ -64,10 +53,10 @@ put_at_path : (p : Stmt → Bool) (xs : List Stmt) (x : Stmt) → ascending stat
 put_at_path p xs x s e = members_make_set statement_exact (filter p (with_statement xs x)) (with_statement (filter p xs) x)
     (filter_keeps_order statement_exact p (with_statement xs x) (put_keeps_order statement_exact xs x s))
     (put_keeps_order statement_exact (filter p xs) x (filter_keeps_order statement_exact p xs s))
-    (λ z. any-filter (λ y. is_eq (statement_cmp y z)) p (with_statement xs x)
+    (λ z. list_any-filter (λ y. is_eq (statement_cmp y z)) p (with_statement xs x)
     ∙ list_any-put_in statement_exact (λ y. p y && is_eq (statement_cmp y z)) xs x
     ∙ ap (λ b. (b && is_eq (statement_cmp x z)) || list_any (λ y. p y && is_eq (statement_cmp y z)) xs) e
-    ∙ sym (put_adds_member statement_exact (filter p xs) x z ∙ ap (λ b. is_eq (statement_cmp x z) || b) (any-filter (λ y. is_eq (statement_cmp y z)) p xs)))
+    ∙ sym (put_adds_member statement_exact (filter p xs) x z ∙ ap (λ b. is_eq (statement_cmp x z) || b) (list_any-filter (λ y. is_eq (statement_cmp y z)) p xs)))
 
 with_at_path : (p : Stmt → Bool) (xs come : List Stmt) → ascending statement_cmp xs ≡ true → list_all p come ≡ true → filter p (with_statements xs come) ≡ with_statements (filter p xs) come
 with_at_path p xs [] s e = refl
@@ -78,10 +67,6 @@ with_at_path p xs (x ∷ come) s e =
 without_at_path : (p : Stmt → Bool) (xs gone : List Stmt) → filter p (without_statements xs gone) ≡ without_statements (filter p xs) gone
 without_at_path p xs [] = refl
 without_at_path p xs (x ∷ gone) = without_at_path p (without_statement xs x) gone ∙ ap (λ ys. without_statements ys gone) (filters_swap p (λ y. not (is_eq (statement_cmp y x))) xs)
-
-pub without_keeps_order : (xs gone : List Stmt) → ascending statement_cmp xs ≡ true → ascending statement_cmp (without_statements xs gone) ≡ true
-without_keeps_order xs [] s = s
-without_keeps_order xs (x ∷ gone) s = without_keeps_order (without_statement xs x) gone (take_keeps_order statement_exact xs x s)
 
 -- what stands at a path after a change there
 pub reached_at : (w : List ℕ) (stmts gone come : List Stmt) → ascending statement_cmp stmts ≡ true → list_all (λ x. same_path x.path w) come ≡ true
@@ -103,7 +88,7 @@ find_at_path p f g h (x ∷ xs) = elim (cases_Bool (p x)) [
 
 pub first_at_path : (keys : ℕ → ℕ) (w : List ℕ) (xs : List Stmt) → first_clashing keys (at_path w xs) w ≡ first_clashing keys xs w
 first_at_path keys w xs = find_at_path (λ x. same_path x.path w) (λ x. contradicted keys (at_path w xs) w x.tuple x.sign) (λ x. contradicted keys xs w x.tuple x.sign)
-    (λ x. any-filter (λ y. same_path y.path w && clash keys x.tuple x.sign y.tuple y.sign) (λ y. same_path y.path w) xs
+    (λ x. list_any-filter (λ y. same_path y.path w && clash keys x.tuple x.sign y.tuple y.sign) (λ y. same_path y.path w) xs
     ∙ list_any_same (λ y. same_path y.path w && (same_path y.path w && clash keys x.tuple x.sign y.tuple y.sign)) (λ y. same_path y.path w && clash keys x.tuple x.sign y.tuple y.sign)
     (λ y. and_again (same_path y.path w) (clash keys x.tuple x.sign y.tuple y.sign)) xs)
     xs

@@ -26,6 +26,8 @@ use Rattle.bdb_base.specs.declared.tuple.Tuple.{Tuple}
 use Rattle.bdb_base.proofs.SetLemmas.{is_eq_itself, is_lt-Less}
 use Rattle.bdb_base.proofs.WorldLemmas.{stated_tuples_are_explicit}
 use Rattle.bdb_base.proofs.WorldRowsLemmas.{rows_are_the_world, same_row_tells, same_row_from, tuples_stand_once}
+use Rattle.bdb_base.proofs.OptionLemmas.{some_of}
+use Rattle.bdb_base.proofs.AllLemmas.{all_append}
 use Rattle.bdb_canon.specs.Canonical.{row_count}
 use Rattle.bdb_keep.specs.Tables.{Tables}
 use Rattle.bdb_key.specs.Grammar.{IsNum}
@@ -38,7 +40,7 @@ use Rattle.bdb_tables.specs.Rows.{Tuples, HoldsTuples, HoldsRows, row_for, AreKe
 use Rattle.bdb_tables.proofs.DifferenceLemmas.{is_among, distinct_append}
 use Rattle.bdb_val.specs.Reads.{HasRows}
 use Rattle.bdb_val.specs.Settling.{row_key}
-use Rattle.bdb_val.proofs.HeldLemmas.{some_is, held_names, right_row}
+use Rattle.bdb_val.proofs.HeldLemmas.{held_names, right_row}
 use Rattle.bdb_val.proofs.ReadLemmas.{key_fits}
 use Rattle.bdb_update.specs.Differing.{has_told}
 use Rattle.bdb_update.specs.Tallies.{HasRowCount, vals_at, nothing_at}
@@ -47,10 +49,6 @@ use Rattle.bdb_update.specs.Tallies.{HasRowCount, vals_at, nothing_at}
 
 among_append : (p : List ℕ) (xs ys : List (List ℕ)) → is_among p (xs ++ ys) ≡ (is_among p xs || is_among p ys)
 among_append p xs ys = list_any-append (same_text p) xs ys
-
-all_append : (P : List ℕ → Type 0) (xs ys : List (List ℕ)) → AllByRecursion P xs → AllByRecursion P ys → AllByRecursion P (xs ++ ys)
-all_append P [] ys h k = k
-all_append P (x ∷ xs) ys h k = (h.0, all_append P xs ys h.1 k)
 
 all_mapped : (P : List ℕ → Type 0) (Q : Held → Type 0) (f : Held → List ℕ) → ((h : Held) → Q h → P (f h)) → (hs : List Held) → AllByRecursion Q hs → AllByRecursion P (map f hs)
 all_mapped P Q f g [] a = tt
@@ -153,7 +151,7 @@ module _ (keys : ℕ → ℕ) where
 
     -- a tuple of a world has a number
     numbered : (w : List ℕ) (h : Held) → IsOfWorld w h → (tid : ℕ) × (ts.number h.tuple ≡ Some tid)
-    numbered w h e = some_is (ts.number h.tuple) (tuples.stated h.tuple ∙ within h.tuple (stated_tuples_are_explicit keys stmts w h.tuple h.sign e))
+    numbered w h e = some_of (ts.number h.tuple) (tuples.stated h.tuple ∙ within h.tuple (stated_tuples_are_explicit keys stmts w h.tuple h.sign e))
 
     key_is : (n : ℕ) (h : Held) (tid : ℕ) → ts.number h.tuple ≡ Some tid → key n h ≡ row_key keys n tid h.tuple
     unfolding key
@@ -226,7 +224,7 @@ module _ (keys : ℕ → ℕ) where
     rest_named k ks h j e = h j (or_right (nat_eq j k) (is_listed j ks) e)
 
     first_named : (k : ℕ) (ks : List ℕ) → AllNamed (k ∷ ks) → (w : List ℕ) × (path_of ns k ≡ Some w)
-    first_named k ks h = some_is (path_of ns k) (h k (or_left (nat_eq k k) (is_listed k ks) (eq-eqb k k refl)))
+    first_named k ks h = some_of (path_of ns k) (h k (or_left (nat_eq k k) (is_listed k ks) (eq-eqb k k refl)))
 
     -- a row of one world is not among those of others
     elsewhere : (n : ℕ) (w : List ℕ) (h : Held) → path_of ns n ≡ Some w → IsOfWorld w h → (ks : List ℕ) → AllNamed ks → is_listed n ks ≡ false → is_among (at n h) (places ks) ≡ false
@@ -304,7 +302,7 @@ module _ (keys : ℕ → ℕ) where
     unfolding at key
     found k v s =
         let named = held_names keys stmts told ns ts t tuples k s in
-        let w = some_is (path_of ns k.0) named.0 in
+        let w = some_of (path_of ns k.0) named.0 in
         let u = named.1.0 in
         let n = named.1.1 in
         let same = named.1.2 in

@@ -3,6 +3,7 @@ use Rattle.std.proofs.Common.{◌≡◌, ◌∙◌, true, Ok, Err, ap, sym, subs
 use Rattle.std.proofs.lemmas.Bool.{cases_Bool}
 use Rattle.bdb_base.specs.Bases.{Contents, IsValid, stands, with_statement}
 use Rattle.bdb_base.specs.declared.kinds.Stmt.{Stmt}
+use Rattle.bdb_base.proofs.UpdateLemmas.{put_stands}
 use Rattle.bdb_canon.specs.Sizes.{counts_of}
 use Rattle.bdb_canon.specs.declared.sizes.Counts.{Counts}
 use Rattle.bdb_keep.specs.Calls.{IsRead}
@@ -13,11 +14,11 @@ use Rattle.bdb_update.specs.Calls.{with_stmts, size_passed}
 use Rattle.bdb_update.specs.Examining.{Examines, IsProspect, StandsThere, says_stands}
 use Rattle.bdb_update.specs.declared.looking.Prospect.{Prospect}
 use Rattle.bdb_update.specs.declared.looking.Prospect.TheVariants.{Clashes, Stands, Fills, Fits}
-use Rattle.bdb_update.proofs.ReplaceLemmas.{no_clash, no_limit, stands_already}
+use Rattle.bdb_update.proofs.ReplaceLemmas.{no_clash, no_limit}
 
 -- the base with a statement that stands is the base
 with_standing : (b : Contents) (x : Stmt) → IsValid b.catalog b.stmts → stands b.stmts x ≡ true → with_statement b.stmts x ≡ b.stmts
-with_standing b x v e = stands_already b.stmts x v.stmts.sorted e
+with_standing b x v e = put_stands b.stmts x v.stmts.sorted e
 
 still_valid : (b : Contents) (x : Stmt) → IsValid b.catalog b.stmts → stands b.stmts x ≡ true → IsValid b.catalog (with_statement b.stmts x)
 still_valid b x v e = subst (IsValid b.catalog) (sym (with_standing b x v e)) v

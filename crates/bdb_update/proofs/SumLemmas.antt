@@ -22,11 +22,11 @@ use Rattle.bdb_base.specs.declared.tuple.Tuple.{Tuple}
 use Rattle.bdb_base.proofs.BaseLemmas.{length-put_in}
 use Rattle.bdb_base.proofs.SetLemmas.{is_lt-Less, set_is_ascending}
 use Rattle.bdb_base.proofs.WorldRowsLemmas.{one_row}
+use Rattle.bdb_base.proofs.OptionLemmas.{some_of}
 use Rattle.bdb_canon.specs.Canonical.{row_count}
 use Rattle.bdb_paths.proofs.StateLemmas.{list_has_states}
 use Rattle.bdb_tables.specs.Names.{Names, AreNames, path_of, number_of, is_named, is_listed, are_once}
 use Rattle.bdb_tables.proofs.DifferenceLemmas.{is_among}
-use Rattle.bdb_val.proofs.HeldLemmas.{some_is}
 use Rattle.bdb_update.proofs.RowLemmas.{rows_of, rows_of_is, rows_of_few}
 
 abbrev Paths : Type 0
@@ -179,7 +179,7 @@ module _ (keys : ℕ → ℕ) where
     rest_named k ks h j e = h j (or_right (nat_eq j k) (is_listed j ks) e)
 
     first_named : (k : ℕ) (ks : List ℕ) → AllNamed (k ∷ ks) → (w : List ℕ) × (path_of ns k ≡ Some w)
-    first_named k ks h = some_is (path_of ns k) (h k (or_left (nat_eq k k) (is_listed k ks) (eq-eqb k k refl)))
+    first_named k ks h = some_of (path_of ns k) (h k (or_left (nat_eq k k) (is_listed k ks) (eq-eqb k k refl)))
 
     sums_meet : (ks : List ℕ) → AllNamed ks → sum_by (rows_of keys stmts ns) ks ≡ sum_by (row_count keys stmts) (map path ks)
     sums_meet [] h = refl
@@ -244,7 +244,7 @@ module _ (keys : ℕ → ℕ) where
         meet : (w : List ℕ) → is_among w (map path ns.used) ≡ is_named ns w
         meet w = elim (cases_Bool (is_named ns w)) [
           | inl e ↦
-              let n = some_is (number_of ns w) e in
+              let n = some_of (number_of ns w) e in
               let p = names.numbered w n.0 n.1 in
               among n.0 w p ns.used (names.counted n.0 ∙ ap is_some p) ∙ sym e
           | inr e ↦ false_from_ne_true (is_among w (map path ns.used)) (λ f. false≢true (sym e ∙ named_by w ns.used all_named f)) ∙ sym e

@@ -8,6 +8,7 @@ use Rattle.std.proofs.lemmas.List.Folds.{list_any-append}
 use Rattle.bdb_base.specs.Bases.{are_distinct}
 use Rattle.bdb_base.specs.Same.{same_text}
 use Rattle.bdb_base.specs.SameLemmas.{same_text-Decides}
+use Rattle.bdb_base.proofs.BoolLemmas.{not_twice}
 use Rattle.bdb_keep.specs.Seen.{Seen}
 use Rattle.bdb_keep.specs.Tables.{Tables}
 use Rattle.bdb_tables.specs.Differences.{AreDifferences}
@@ -140,10 +141,6 @@ all_among (x ∷ xs) = (
   all_weaker (λ y. is_among y xs ≡ true) (λ y. is_among y (x ∷ xs) ≡ true) (λ y h. or_right (same_text y x) (is_among y xs) h) xs (all_among xs),
 )
 
-pub not_twice : (c : Bool) → not (not c) ≡ c
-not_twice true = refl
-not_twice false = refl
-
 -- ---- rows
 
 pub same_row : Option (List ℕ) → Option (List ℕ) → Bool
@@ -169,10 +166,6 @@ same_row_from (Some a) (Some b) e = let f : a ≡ b = cc in (same_text-Decides a
 some_there : (o : Option (List ℕ)) → o ≢ None → is_some o ≡ true
 some_there None h = absurd (h refl)
 some_there (Some x) h = refl
-
-none_there : (o : Option (List ℕ)) → is_some o ≡ false → o ≡ None
-none_there None e = refl
-none_there (Some x) e = absurd (false≢true (sym e))
 
 -- a place of the table of rows that has one has it in the tables
 row_there : (t : Tables) (q : List ℕ) → vals_at t q ≢ None → is_some (tables.get t q) ≡ true

@@ -6,6 +6,7 @@ use Rattle.std.specs.Option.{option_map}
 use Rattle.std.specs.FinMap as tables
 use Rattle.std.proofs.lemmas.Bool.{cases_Bool, cond-false}
 use Rattle.bdb_base.specs.declared.kinds.Value.{Value}
+use Rattle.bdb_base.proofs.AllLemmas.{all_append}
 use Rattle.bdb_keep.specs.Tables.{Tables, bytes_cmp}
 use Rattle.bdb_keep.proofs.RowsLemmas.{same_place}
 use Rattle.bdb_key.specs.Grammar.{IsNum}
@@ -24,7 +25,7 @@ use Rattle.bdb_val.specs.Steps.{turns_from, comes, goes, turns, is_new, is_gone,
 use Rattle.bdb_val.specs.declared.stored.SettledWorld.{SettledWorld}
 use Rattle.bdb_val.specs.declared.stored.Stored.{Stored}
 use Rattle.bdb_val.proofs.GroupLemmas.{mark_told}
-use Rattle.bdb_val.proofs.SettlingLemmas.{all_append, all_flat_map}
+use Rattle.bdb_val.proofs.SettlingLemmas.{all_flat_map}
 use Rattle.bdb_val.proofs.ToldLemmas.{Stands, entries_stand}
 use Rattle.bdb_val.proofs.RealLemmas.{tail_same}
 

@@ -14,6 +14,7 @@ use Rattle.bdb_base.specs.Clash.{same_key, key_of}
 use Rattle.bdb_base.specs.Same.{same_values, same_tuple}
 use Rattle.bdb_base.specs.SameLemmas.{same_tuple-Decides, same_values-Decides}
 use Rattle.bdb_base.specs.Segments.{is_prefix}
+use Rattle.bdb_base.proofs.OptionLemmas.{some_of}
 use Rattle.bdb_keep.specs.Tables.{Tables, bytes_cmp}
 use Rattle.bdb_keep.proofs.RowsLemmas.{same_place}
 use Rattle.bdb_key.specs.Bytes.{num_bytes}
@@ -37,7 +38,7 @@ use Rattle.bdb_val.specs.Settling.{IsGroup}
 use Rattle.bdb_val.specs.Steps.{AreSpans}
 use Rattle.bdb_val.specs.Walks.{AreLinkedTo, IsVisit, IsQuiet, Walked, changes_of}
 use Rattle.bdb_val.specs.Walks.Walked.{first, next}
-use Rattle.bdb_val.proofs.HeldLemmas.{some_is, settled_rows_are_held}
+use Rattle.bdb_val.proofs.HeldLemmas.{settled_rows_are_held}
 use Rattle.bdb_val.proofs.ReadLemmas.{group_span}
 use Rattle.bdb_val.proofs.VisitLemmas.{linked_is_named, links_after, explicit_after, settled_here, settled_there, settled_other, quiet_signs}
 
@@ -135,7 +136,7 @@ module _ (keys : ℕ → ℕ) (stmts : List Stmt) (ns : Names) (tuple : ℕ → 
   first_visit : (f : ValKey → Option Mark) (t u : Tables) (wid : ℕ) (more : List ℕ) → IsUnsettled keys stmts ns tuple f t wid test → (s : IsVisit keys prefix t u wid) → AreLinkedTo u wid more
       → IsOnWay (with_rows_at val_codec f (changes_of s)) u more
   first_visit f t u wid more h s l =
-      let w = some_is (path_of ns wid) h.named in
+      let w = some_of (path_of ns wid) h.named in
       let links = links_after keys stmts ns tuple test prefix names spans group f t u h.explicit h.links wid w.0 w.1 s in
       record {
         explicit = explicit_after keys stmts ns tuple test prefix names spans group f t u h.explicit h.links wid w.0 w.1 s;
@@ -164,7 +165,7 @@ module _ (keys : ℕ → ℕ) (stmts : List Stmt) (ns : Names) (tuple : ℕ → 
   next_visit : (g : ValKey → Option Mark) (u v : Tables) (wid : ℕ) (left more : List ℕ) → IsOnWay g u (wid ∷ left) → (s : IsVisit keys prefix u v wid)
       → ((more ≡ []) × IsQuiet s) ⊎ AreLinkedTo v wid more → IsOnWay (with_rows_at val_codec g (changes_of s)) v (left ++ more)
   next_visit g u v wid left more h s l =
-      let w = some_is (path_of ns wid) (h.named wid (or_left (nat_eq wid wid) (is_listed wid left) (eq-eqb wid wid refl))) in
+      let w = some_of (path_of ns wid) (h.named wid (or_left (nat_eq wid wid) (is_listed wid left) (eq-eqb wid wid refl))) in
       let links = links_after keys stmts ns tuple test prefix names spans group g u v h.explicit h.links wid w.0 w.1 s in
       record {
         explicit = explicit_after keys stmts ns tuple test prefix names spans group g u v h.explicit h.links wid w.0 w.1 s;

@@ -16,10 +16,11 @@ use Rattle.bdb_base.specs.Segments.{is_suffix}
 use Rattle.bdb_base.specs.SortedSet.{sorted_set}
 use Rattle.bdb_base.specs.Worlds.{stated}
 use Rattle.bdb_base.proofs.CountLemmas.{list_any-map}
-use Rattle.bdb_base.proofs.ListLemmas.{or_false}
+use Rattle.bdb_base.proofs.ListLemmas.{or_false, list_any_same}
 use Rattle.bdb_base.proofs.SetLemmas.{list_any-sorted_set, list_all-put_in}
 use Rattle.bdb_base.proofs.WorldLemmas.{list_any_weaker, found_by, stated_cases, worlds_are_consistent}
-use Rattle.bdb_paths.proofs.StateLemmas.{list_any_same}
+use Rattle.bdb_base.proofs.BoolLemmas.{same_tests}
+use Rattle.bdb_base.proofs.FindLemmas.{list_any-filter}
 use Rattle.bdb_update.proofs.ClashingLemmas.{clash_is_of_key}
 use Rattle.bdb_why.specs.declared.kinds.Ground.{Ground}
 use Rattle.bdb_why.specs.declared.kinds.Ruled.{Ruled}
@@ -28,7 +29,7 @@ use Rattle.bdb_why.specs.Certificates.{is_rival_near, rivals, ruled_of, consider
 use Rattle.bdb_why.specs.Grounds.{ground_of, is_found}
 use Rattle.bdb_why.specs.WhyLaws.{SaysIsBelief, OneRivalIsFound}
 use Rattle.bdb_why.proofs.GroundLemmas.{stated_is_found}
-use Rattle.bdb_why.proofs.FindLemmas.{bool_same, find_some, any_filter, filter_passes, list_all-map}
+use Rattle.bdb_why.proofs.FindLemmas.{find_some, filter_passes, list_all-map}
 
 -- a statement at an end of a path states this signed tuple
 abbrev pub states_near : List ℕ → Tuple → Sign → Stmt → Bool
@@ -60,7 +61,7 @@ pub any_rival : (keys : ℕ → ℕ) (stmts : List Stmt) (w : List ℕ) (t : Tup
 any_rival keys stmts w t p =
     list_any-sorted_set tuple_exact p (map (λ x. x.tuple) (filter (is_rival_near keys w t) stmts))
     ∙ list_any-map p (λ x. x.tuple) (filter (is_rival_near keys w t) stmts)
-    ∙ any_filter (λ x. p x.tuple) (is_rival_near keys w t) stmts
+    ∙ list_any-filter (λ x. p x.tuple) (is_rival_near keys w t) stmts
 
 -- what all that clashes with the tuple passes, all rivals pass
 pub rivals_all : (keys : ℕ → ℕ) (stmts : List Stmt) (w : List ℕ) (t : Tuple) (p : Tuple → Bool) → ((u : Tuple) → clash keys t Plus u Plus ≡ true → p u ≡ true)
@@ -98,7 +99,7 @@ rivals_found keys stmts w t =
     list_any-map is_held (ruled_of keys stmts w) (rivals keys stmts w t)
     ∙ list_any_same (λ u. is_found (ground_of keys stmts w u Plus)) held (λ u. stated_is_found keys stmts w u Plus) (rivals keys stmts w t)
     ∙ any_rival keys stmts w t held in
-    first ∙ bool_same (list_any (λ x. is_rival_near keys w t x && held x.tuple) stmts) (list_any (λ x. clash keys t Plus x.tuple Plus && held x.tuple) stmts)
+    first ∙ same_tests (list_any (λ x. is_rival_near keys w t x && held x.tuple) stmts) (list_any (λ x. clash keys t Plus x.tuple Plus && held x.tuple) stmts)
     (λ e. list_any_weaker (λ x. is_rival_near keys w t x && held x.tuple) (λ x. clash keys t Plus x.tuple Plus && held x.tuple)
     (λ x a. let k = and_parts (is_rival_near keys w t x) (held x.tuple) a in
     and_from (clash keys t Plus x.tuple Plus) (held x.tuple) (rival_clashes keys w t x k.0) k.1) stmts e)

@@ -5,6 +5,7 @@ use Rattle.std.proofs.lemmas.Bool.{and_parts, and_from, and_right, or_cases, or_
 use Rattle.bdb_base.specs.Segments.{is_suffix}
 use Rattle.bdb_base.specs.States.{deepest_suffix}
 use Rattle.bdb_base.specs.OrderLemmas.{is_eq_nat_cmp}
+use Rattle.bdb_base.proofs.OptionLemmas.{none_is_some, same_some}
 use Rattle.bdb_paths.proofs.SuffixLemmas.{deepest_is_suffix}
 use Rattle.bdb_keep.specs.Tables.{Tables}
 use Rattle.bdb_key.specs.Grammar.{IsNum}
@@ -19,7 +20,7 @@ use Rattle.bdb_names.specs.Turned.{link_set, with_link, links_led, with_links, e
 use Rattle.bdb_names.proofs.AddedLemmas.{links_led_are, links_join}
 use Rattle.bdb_names.proofs.Ends.{more_is_end, ends_with}
 use Rattle.bdb_names.proofs.LessLemmas.{depths_less, links_less, edges_less, names_less, own_less}
-use Rattle.bdb_names.proofs.NameLemmas.{same_some, none_is_some, same_number, edge_found, link_found}
+use Rattle.bdb_names.proofs.NameLemmas.{same_number, edge_found, link_found}
 use Rattle.bdb_names.proofs.NamedLemmas.{cases_end}
 use Rattle.bdb_names.proofs.TurnedLemmas.{link_set_is, edge_set_is, tables_same, same_edge_is}
 use Rattle.bdb_worlds.specs.Dropping.{pairs_led, edges_dropped, state_dropped, pairs_of, kids_of, edges_of, AreRowsOf, without_state, IsDroppedState, DropTakesState}

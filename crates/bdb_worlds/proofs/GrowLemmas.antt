@@ -2,12 +2,14 @@
 use Rattle.std.proofs.Common.{◌≡◌, ◌∙◌, ℕ, ◌+◌, ◌-◌, ◌≤◌, ◌<◌, ◌^◌, Bool, true, false, ◌&&◌, ◌||◌, nat_eq, cond, List, [], ◌∷◌, ◌++◌, refl, ap, sym, subst, inl, inr, suc, zero, arith, length, take, get_or, Option, Some, None}
 use Rattle.std.specs.Option.{is_some, option_map}
 use Rattle.std.specs.FinMap as tables
-use Rattle.std.proofs.lemmas.Bool.{and_from, or_left, or_right, or_cases, or_from, false≢true, false_from_ne_true, cond-true, eq-eqb, cases_lt}
+use Rattle.std.proofs.lemmas.Bool.{or_left, or_right, or_cases, or_from, false≢true, false_from_ne_true, cond-true, cases_lt}
 use Rattle.bdb_base.specs.Alternation.{alternates}
 use Rattle.bdb_base.specs.Same.{same_path}
 use Rattle.bdb_base.specs.SameLemmas.{same_path-Decides}
 use Rattle.bdb_base.specs.Segments.{is_prefix}
 use Rattle.bdb_base.specs.States.{deepest_suffix}
+use Rattle.bdb_base.proofs.BoolLemmas.{same_tests}
+use Rattle.bdb_base.proofs.SegmentLemmas.{take_is_prefix}
 use Rattle.bdb_keep.specs.Tables.{Tables}
 use Rattle.bdb_key.specs.Bytes.{num_bytes}
 use Rattle.bdb_key.specs.Grammar.{IsNum}
@@ -20,7 +22,6 @@ use Rattle.bdb_names.specs.Moves.{IsLeaf, AreMovers}
 use Rattle.bdb_names.specs.Turned.{links_led, edges_led, with_links, with_edges}
 use Rattle.bdb_names.proofs.AddedLemmas.{edges_led_are, links_led_are, moved_links, moved_edges, state_added}
 use Rattle.bdb_names.proofs.Ends.{no_own_end, length_more}
-use Rattle.bdb_names.proofs.ListedLemmas.{both_ways_true}
 use Rattle.bdb_names.proofs.MoveLemmas.{moved_edge_led, moved_link_led, edge_moves_parts, link_moves_parts}
 use Rattle.bdb_names.proofs.NameLemmas.{is_named_by, deep_number, edge_at, edge_is}
 use Rattle.bdb_names.proofs.TurnedLemmas.{tables_same}
@@ -129,11 +130,6 @@ take_split [] (suc j) zero l = ([], refl)
 take_split [] (suc j) (suc k) l = ([], refl)
 take_split (x ∷ w) (suc j) zero l = absurd (omega arith)
 take_split (x ∷ w) (suc j) (suc k) l = let r = take_split w j k (omega arith) in (r.0, ap (λ (z : List ℕ). x ∷ z) r.1)
-
-take_is_prefix : (w : List ℕ) (k : ℕ) → is_prefix (take k w) w ≡ true
-take_is_prefix w zero = refl
-take_is_prefix [] (suc k) = refl
-take_is_prefix (x ∷ w) (suc k) = and_from (nat_eq x x) (is_prefix (take k w) w) (eq-eqb x x refl) (take_is_prefix w k)
 
 pub take_full : (w : List ℕ) (k : ℕ) → k ≡ length w → take k w ≡ w
 take_full w k e = ap (λ n. take n w) e ∙ by w
@@ -320,7 +316,7 @@ module _ (s : Worlds) (u : Tables) (path : List ℕ) (worlds len : ℕ) (new : L
     whole = whole;
     states = now.states;
     least = now.least;
-    paths = λ w. both_ways_true (is_named all w) (is_named s.names w || is_prefix w path) (named_old s.names path len new w)
+    paths = λ w. same_tests (is_named all w) (is_named s.names w || is_prefix w path) (named_old s.names path len new w)
         (λ h. elim (or_cases (is_named s.names w) (is_prefix w path) h) [
           | inl a ↦ named_still s.names path len new w a
           | inr b ↦

@@ -8,7 +8,7 @@ use Rattle.std.specs.FinMap as map
 use Rattle.std.proofs.lemmas.Bool.{cases_Bool, false≢true, cond-true, cond-false, eqb-true, eqb-false, cases_order}
 use Rattle.bdb_keep.specs.Tables.{Tables}
 use Rattle.bdb_key.specs.Grammar.{IsNum}
-use Rattle.bdb_base.proofs.Numbers.{less, greater, equal}
+use Rattle.bdb_base.proofs.Numbers.{greater, equal, number_le}
 use Rattle.bdb_tables.specs.Codec.{Codec, HasAt, HasFirst, IsFirst, HasOneRow, TableFits, place}
 use Rattle.bdb_tables.specs.Grammar.{InGrammar}
 use Rattle.bdb_tables.specs.InUse.{IsPair, depth_codec, link_codec, linked_codec, edge_codec, led_codec}
@@ -78,15 +78,6 @@ le_number a b h = elim (cases_order a b) [
   | inr r ↦ elim r [
     | inl lt ↦ omega arith
     | inr gt ↦ absurd (false≢true (ap is_le (sym (greater a b gt)) ∙ h))
-  ]
-]
-
-pub number_le : (a b : ℕ) → a ≤ b → is_le (nat_cmp a b) ≡ true
-number_le a b l = elim (cases_order a b) [
-  | inl e ↦ ap (λ x. is_le (nat_cmp x b)) e ∙ ap is_le (equal b)
-  | inr r ↦ elim r [
-    | inl lt ↦ ap is_le (less a b lt)
-    | inr gt ↦ absurd (omega arith)
   ]
 ]
 

@@ -9,6 +9,7 @@ use Rattle.bdb_base.specs.Same.{same_path}
 use Rattle.bdb_base.specs.SameLemmas.{same_path-Decides}
 use Rattle.bdb_base.specs.OrderLemmas.{is_eq_nat_cmp}
 use Rattle.bdb_base.proofs.ListLemmas.{or_false}
+use Rattle.bdb_base.proofs.OptionLemmas.{none_is_some, same_some}
 use Rattle.bdb_keep.specs.Tables.{Tables}
 use Rattle.bdb_key.specs.Grammar.{IsNum}
 use Rattle.bdb_tables.specs.Codec.{Codec}
@@ -18,7 +19,7 @@ use Rattle.bdb_tables.specs.Names.{AreNames, path_of, number_of, is_named, leads
 use Rattle.bdb_tables.specs.States.{row_where}
 use Rattle.bdb_tables.specs.Writes.{Gives, with_row_at}
 use Rattle.bdb_tables.proofs.WriteLemmas.{change_gives, change_elsewhere, gives_same}
-use Rattle.bdb_names.proofs.NameLemmas.{none_is_some, same_some, link_at_root, link_at_none, edge_found}
+use Rattle.bdb_names.proofs.NameLemmas.{link_at_root, link_at_none, edge_found}
 use Rattle.bdb_worlds.specs.Root.{root_names, RootIsWorld}
 
 none_gives : {Key Row : Type 0} (c : Codec Key Row) (t : Tables) → ((k : List ℕ) → map.get t (c.number ∷ k) ≡ None) → Gives c t (λ _. None)

@@ -1,13 +1,16 @@
 -- Prefixes of a path that go, one after the other, the longest first.
-use Rattle.std.proofs.Common.{◌≡◌, ◌∙◌, ℕ, ◌+◌, ◌-◌, ◌≤◌, ◌<◌, Bool, true, false, not, ◌&&◌, ◌||◌, nat_eq, nat_lt, cond, List, [], ◌∷◌, ◌++◌, refl, ap, sym, subst, inl, inr, suc, zero, arith, length, take, get_or, Option, Some, None}
+use Rattle.std.proofs.Common.{◌≡◌, ◌∙◌, ℕ, ◌+◌, ◌-◌, ◌<◌, Bool, true, false, not, ◌&&◌, ◌||◌, nat_lt, cond, List, [], ◌∷◌, ◌++◌, refl, ap, sym, subst, inl, inr, suc, zero, arith, length, take, get_or, Option, Some, None}
 use Rattle.std.specs.List.{list_all}
 use Rattle.std.specs.Option.{option_map, is_some}
 use Rattle.std.specs.FinMap as map
-use Rattle.std.proofs.lemmas.Bool.{and_parts, and_from, and_right, or_cases, or_left, or_right, false≢true, true≢false, false_from_ne_true, cond-false, eqb-true, eq-eqb, ltb-true, lt-ltb, cases_lt}
+use Rattle.std.proofs.lemmas.Bool.{and_parts, and_from, and_right, or_cases, or_left, or_right, false≢true, true≢false, false_from_ne_true, cond-false, ltb-true, lt-ltb, cases_lt}
 use Rattle.bdb_base.specs.Alternation.{alternates}
 use Rattle.bdb_base.specs.Same.{same_path}
 use Rattle.bdb_base.specs.SameLemmas.{same_path-Decides}
 use Rattle.bdb_base.specs.Segments.{is_prefix}
+use Rattle.bdb_base.proofs.BoolLemmas.{same_tests}
+use Rattle.bdb_base.proofs.OptionLemmas.{none_is_some}
+use Rattle.bdb_base.proofs.SegmentLemmas.{take_is_prefix, prefix_is_take, length-prefix}
 use Rattle.bdb_keep.specs.Tables.{Tables}
 use Rattle.bdb_key.specs.Bytes.{num_bytes}
 use Rattle.bdb_key.specs.Grammar.{IsNum}
@@ -16,8 +19,7 @@ use Rattle.bdb_tables.specs.Explicit.{HasExplicitRow}
 use Rattle.bdb_tables.specs.InUse.{link_codec, val_bytes}
 use Rattle.bdb_tables.specs.Names.{Names, AreNames, path_of, number_of, is_named, without_name}
 use Rattle.bdb_tables.specs.States.{HoldsStates}
-use Rattle.bdb_names.proofs.ListedLemmas.{both_ways_true}
-use Rattle.bdb_names.proofs.NameLemmas.{none_is_some, is_named_by, deep_number, link_at}
+use Rattle.bdb_names.proofs.NameLemmas.{is_named_by, deep_number, link_at}
 use Rattle.bdb_names.proofs.Ends.{length_more}
 use Rattle.bdb_worlds.specs.Dropping.{IsDropped}
 use Rattle.bdb_worlds.specs.Holding.{Worlds, HoldSome}
@@ -30,25 +32,6 @@ use Rattle.bdb_worlds.proofs.OutsideLemmas.{SameElsewhere}
 use Rattle.bdb_worlds.proofs.ReachLemmas.{ReachedTo, reached_more}
 use Rattle.bdb_worlds.proofs.StayLemmas.{longer_stands}
 use Rattle.bdb_worlds.proofs.WalkLemmas.{take_next}
-
--- ---- parts of a path
-
-take_is_prefix : (w : List ℕ) (k : ℕ) → is_prefix (take k w) w ≡ true
-take_is_prefix w zero = refl
-take_is_prefix [] (suc k) = refl
-take_is_prefix (x ∷ w) (suc k) = and_from (nat_eq x x) (is_prefix (take k w) w) (eq-eqb x x refl) (take_is_prefix w k)
-
-pub prefix_is_take : (w p : List ℕ) → is_prefix w p ≡ true → w ≡ take (length w) p
-prefix_is_take [] p h = refl
-prefix_is_take (i ∷ w) [] h = absurd (false≢true h)
-prefix_is_take (i ∷ w) (j ∷ p) h =
-    let k = and_parts (nat_eq i j) (is_prefix w p) h in
-    ap (λ n. n ∷ w) (eqb-true i j k.0) ∙ ap (λ (z : List ℕ). j ∷ z) (prefix_is_take w p k.1)
-
-pub prefix_short : (w p : List ℕ) → is_prefix w p ≡ true → length w ≤ length p
-prefix_short [] p h = omega arith
-prefix_short (i ∷ w) [] h = absurd (false≢true h)
-prefix_short (i ∷ w) (j ∷ p) h = let k = prefix_short w p (and_parts (nat_eq i j) (is_prefix w p) h).1 in omega arith
 
 -- ---- the numbers of a path's prefixes
 
@@ -195,7 +178,7 @@ shrinking_begins t path numbers gone left none all along s h own = subst (λ x. 
       states = h;
       paths = λ w. stays (is_named s.names w) (is_prefix w path && nat_lt left (length w)) (false_from_ne_true (is_prefix w path && nat_lt left (length w)) (λ x.
           let k = and_parts (is_prefix w path) (nat_lt left (length w)) x in
-          let l = prefix_short w path k.0 in
+          let l = length-prefix w path k.0 in
           let m = ltb-true left (length w) k.1 in
           let n = a.whole in
           absurd (omega arith)));
@@ -284,7 +267,7 @@ module _ (t u : Tables) (path numbers gone : List ℕ) (left : ℕ) (some : 0 < 
         names_are = push_gone s.names path (length path) gone n ∙ ap (λ k. without_name ms n (take k path)) place_is
 
         tests : (w : List ℕ) → ((is_prefix w path && nat_lt left (length w)) || same_path w p) ≡ (is_prefix w path && nat_lt at (length w))
-        tests w = both_ways_true ((is_prefix w path && nat_lt left (length w)) || same_path w p) (is_prefix w path && nat_lt at (length w)) there back
+        tests w = same_tests ((is_prefix w path && nat_lt left (length w)) || same_path w p) (is_prefix w path && nat_lt at (length w)) there back
           where
             there : ((is_prefix w path && nat_lt left (length w)) || same_path w p) ≡ true → (is_prefix w path && nat_lt at (length w)) ≡ true
             there e = elim (or_cases (is_prefix w path && nat_lt left (length w)) (same_path w p) e) [

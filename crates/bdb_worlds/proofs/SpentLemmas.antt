@@ -8,6 +8,8 @@ use Rattle.std.proofs.lemmas.Nat.{mul-le}
 use Rattle.bdb_base.specs.Same.{same_path}
 use Rattle.bdb_base.specs.SameLemmas.{same_path-Decides}
 use Rattle.bdb_base.specs.States.{deepest_suffix}
+use Rattle.bdb_base.proofs.OptionLemmas.{none_is_some, same_some}
+use Rattle.bdb_base.proofs.ListLemmas.{length_map}
 use Rattle.bdb_paths.proofs.SuffixLemmas.{deepest_is_suffix, length-deepest}
 use Rattle.bdb_keep.specs.Tables.{Tables}
 use Rattle.bdb_key.specs.Grammar.{IsNum}
@@ -17,7 +19,7 @@ use Rattle.bdb_tables.specs.States.{HoldsStates}
 use Rattle.bdb_names.specs.Drops.{IsLast}
 use Rattle.bdb_names.specs.Turned.{same_edge, look}
 use Rattle.bdb_names.proofs.Ends.{whole_end, length_more, one_more}
-use Rattle.bdb_names.proofs.NameLemmas.{same_some, none_is_some, same_number, number_is, link_found, link_at_none, edge_found, edge_at_none}
+use Rattle.bdb_names.proofs.NameLemmas.{same_number, number_is, link_found, link_at_none, edge_found, edge_at_none}
 use Rattle.bdb_keep.specs.Seen.{Seen}
 use Rattle.bdb_names.proofs.TurnedLemmas.{same_edge_is}
 use Rattle.bdb_worlds.specs.Bounds.{RisesWithin, WritesWithin}
@@ -278,10 +280,6 @@ both_facts : (P Q : ℕ × ℕ → Type 0) (xs : List (ℕ × ℕ)) → AllByRec
 both_facts P Q [] f g = tt
 both_facts P Q (x ∷ xs) f g = ((f.0, g.0), both_facts P Q xs f.1 g.1)
 
-length-mapped : {X Y : Type 0} (m : X → Y) (xs : List X) → length (map m xs) ≡ length xs
-length-mapped m [] = refl
-length-mapped m (x ∷ xs) = ap (λ n. suc n) (length-mapped m xs)
-
 gone_world : (users : ℕ → Bool) (ns ms : Names) (r : Spot) → IsGone users ns ms r → path_of ms (world_of r) ≡ None
 gone_world users ns ms (at_depth n) g = g.2
 gone_world users ns ms (at_link n) g = g.2
@@ -488,9 +486,9 @@ module _ (s : Worlds) (t : Tables) (h : HoldsStates s.users s.names t) (ns : Nam
         let c = moved_sum key es ks es_once in
         let d = sum_append weight spent.own (own_spots n xs) in
         let f = own_weighs n xs in
-        let g1 = length-mapped {Y = ℕ × ℕ} (λ (r : (ℕ × ℕ × ℕ) × Unit {0}). (r.0.1, r.0.2)) dropped.state.led_rows in
-        let g2 = length-mapped {Y = ℕ} (λ (r : (ℕ × ℕ) × Unit {0}). r.0.1) dropped.state.linked_rows in
-        let g3 = length-mapped {Y = ℕ × ℕ} (λ (r : (ℕ × ℕ) × ℕ). (r.0.1, r.1)) dropped.state.edge_rows in
+        let g1 = length_map {Y = ℕ × ℕ} (λ (r : (ℕ × ℕ × ℕ) × Unit {0}). (r.0.1, r.0.2)) dropped.state.led_rows in
+        let g2 = length_map {Y = ℕ} (λ (r : (ℕ × ℕ) × Unit {0}). r.0.1) dropped.state.linked_rows in
+        let g3 = length_map {Y = ℕ × ℕ} (λ (r : (ℕ × ℕ) × ℕ). (r.0.1, r.1)) dropped.state.edge_rows in
         omega (arith, a, b, c, d, f, g1, g2, g3, e);
     many =
         let a = spent.many in

@@ -9,6 +9,8 @@ use Rattle.bdb_base.specs.Same.{same_path}
 use Rattle.bdb_base.specs.SameLemmas.{same_path-Decides}
 use Rattle.bdb_base.specs.Segments.{is_suffix}
 use Rattle.bdb_base.specs.States.{edge_target}
+use Rattle.bdb_base.proofs.OptionLemmas.{some_of}
+use Rattle.bdb_base.proofs.Numbers.{differs_turned}
 use Rattle.bdb_keep.specs.Seen.{Seen}
 use Rattle.bdb_keep.specs.Tables.{Tables}
 use Rattle.bdb_key.specs.Grammar.{IsNum}
@@ -17,7 +19,7 @@ use Rattle.bdb_tables.specs.InUse.{depth_codec, edge_codec}
 use Rattle.bdb_tables.specs.Names.{Names, AreNames, path_of, number_of, is_named, is_listed, depth_of, link_of, edge_of}
 use Rattle.bdb_tables.specs.States.{HoldsStates, TablesAre}
 use Rattle.bdb_names.specs.Turned.{edge_set, same_edge, with_edge}
-use Rattle.bdb_names.proofs.NameLemmas.{some_of, path_is_named, deep_number, edge_at, edge_at_none, edge_is}
+use Rattle.bdb_names.proofs.NameLemmas.{path_is_named, deep_number, edge_at, edge_at_none, edge_is}
 use Rattle.bdb_names.proofs.TurnedLemmas.{edge_set_is, tables_same, same_edge_is}
 use Rattle.bdb_worlds.specs.Bounds.{RisesWithin}
 use Rattle.bdb_worlds.specs.Holding.{Worlds}
@@ -31,9 +33,6 @@ abbrev nothing : Option ℕ
 nothing = None
 
 -- ---- edges and paths without a user
-
-other_way : (a b : ℕ) → nat_eq a b ≡ false → nat_eq b a ≡ false
-other_way a b f = ne_eqb b a (λ e. eqb-false a b f (sym e))
 
 -- a path that doesn't name a user doesn't end in him
 not_last : (i : ℕ) (w : List ℕ) → is_listed i w ≡ false → is_suffix (i ∷ []) w ≡ false
@@ -76,7 +75,7 @@ module _ (users : ℕ → Bool) (ns : Names) (uid : ℕ) where
   own_without_user (i ∷ w) h f =
       let u = and_parts (users i) (list_all users w) h in
       let p = or_parts (nat_eq uid i) (is_listed uid w) f in
-      and_from (less i) (list_all less w) (and_from (not (nat_eq i uid)) (users i) (ap not (other_way uid i p.0)) u.0) (own_without_user w u.1 p.1)
+      and_from (less i) (list_all less w) (and_from (not (nat_eq i uid)) (users i) (ap not (differs_turned uid i p.0)) u.0) (own_without_user w u.1 p.1)
 
   -- a world whose path doesn't name a user has an edge for him
   edge_for_user : AreNames ns → users uid ≡ true → (k : ℕ) (w : List ℕ) → path_of ns k ≡ Some w → is_listed uid w ≡ false → is_some (edge_of users ns (k, uid)) ≡ true

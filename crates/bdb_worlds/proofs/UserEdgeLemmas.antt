@@ -4,6 +4,7 @@ use Rattle.std.specs.Option.{option_map, is_some}
 use Rattle.std.specs.Ordering.{is_le}
 use Rattle.std.specs.FinMap as tables
 use Rattle.std.proofs.lemmas.Bool.{cases_Bool, and_right, false≢true, cond-true, cond-false, eqb-true, eqb-false, lt-ltb, le-ltb, cases_lt}
+use Rattle.bdb_base.proofs.Numbers.{number_le}
 use Rattle.bdb_keep.specs.Tables.{Tables}
 use Rattle.bdb_key.specs.Bytes.{num_bytes}
 use Rattle.bdb_key.specs.Grammar.{IsNum}
@@ -18,7 +19,7 @@ use Rattle.bdb_names.proofs.TurnedLemmas.{edge_set_is, tables_same}
 use Rattle.bdb_names.proofs.UserLemmas.{edges_with_user, own_with_user}
 use Rattle.bdb_worlds.specs.Holding.{Worlds}
 use Rattle.bdb_worlds.specs.UserEdges.{IsNextNumber, HasNextNumber, AddsUser}
-use Rattle.bdb_worlds.proofs.ReadLemmas.{number_le, le_number, none_unless}
+use Rattle.bdb_worlds.proofs.ReadLemmas.{le_number, none_unless}
 
 -- ---- the next number
 
