@@ -14,18 +14,18 @@ use Rattle.bdb_base.specs.declared.kinds.Cond.{Cond}
 use Rattle.bdb_base.specs.declared.kinds.Operand.{Operand}
 use Rattle.bdb_base.specs.declared.kinds.Operand.TheVariants.{Col, Lit}
 use Rattle.bdb_base.specs.declared.kinds.Value.{Value}
-use Rattle.bdb_base.specs.declared.kinds.Value.TheVariants.{Int, Text}
 use Rattle.bdb_base.specs.declared.tuple.Tuple.{Tuple}
 use Rattle.bdb_base.proofs.ListLemmas.{drop_there}
 use Rattle.bdb_base.proofs.ConditionLemmas.{equality_is, equal_value}
-use Rattle.bdb_key.specs.Bytes.{num_bytes, value_bytes, values_bytes, vals_bytes}
+use Rattle.bdb_key.specs.Bytes.{num_bytes, values_bytes, vals_bytes}
 use Rattle.bdb_key.specs.Grammar.{IsNum, ArePlain, AreKeyVals}
 use Rattle.bdb_key.specs.Rows.{IsTupleRow}
 use Rattle.bdb_key.proofs.Readings.{num_form}
+use Rattle.bdb_key.proofs.Compared.{take_plain, values_append}
 use Rattle.bdb_tables.specs.InUse.{val_bytes}
 use Rattle.bdb_tables.specs.Rows.{AreKeyLengths}
 use Rattle.bdb_tables.specs.Beginnings.{is_written, led_by}
-use Rattle.bdb_tables.proofs.BeginningLemmas.{values_part}
+use Rattle.bdb_tables.proofs.BeginningLemmas.{values_part, all_written}
 use Rattle.bdb_tables.proofs.ListLemmas.{prefix_append, prefix_rest}
 use Rattle.bdb_val.specs.Reads.{IsSpan}
 use Rattle.bdb_val.specs.Settling.{row_key}
@@ -89,13 +89,6 @@ few_from conds (suc n) col = by (value_asked conds col) (few_from conds n (suc c
     by None rest = omega arith
     by (Some v) rest = omega (arith, rest)
 
--- ---- first values
-
-take_plain : (n : ℕ) (vs : List Value) → ArePlain vs → ArePlain (take n vs)
-take_plain zero vs a = tt
-take_plain (suc n) [] a = tt
-take_plain (suc n) (v ∷ vs) a = (a.0, take_plain n vs a.1)
-
 -- ---- tuples that are asked for
 
 has_started : (n : ℕ) (vs key : List Value) → length key ≡ n → take (length vs) key ≡ vs → starts_with n vs key ≡ true
@@ -124,11 +117,6 @@ asked_rel keys rel vs u e = (and_parts (nat_eq u.rel rel) (starts_with (keys rel
 
 -- ---- values that no tuple has
 
-all_written : (vs : List Value) → ArePlain vs → list_all is_written vs ≡ true
-all_written [] a = refl
-all_written (Int m ∷ vs) a = all_written vs a.1
-all_written (Text t ∷ vs) a = and_from (is_written (Text t)) (list_all is_written vs) a.0 (all_written vs a.1)
-
 -- no tuple meets tests that ask for a value that no tuple has
 pub none_meets : (conds : List Cond) (n : ℕ) (u : Tuple) → IsTupleRow u → list_all is_written (values_asked conds n) ≡ false → meets conds u ≡ true → ⊥
 none_meets conds n u g out m =
@@ -136,10 +124,6 @@ none_meets conds n u g out m =
     false≢true (sym out ∙ all_written vs (subst ArePlain (values_met conds u m n 0) (take_plain (length vs) u.vals g.plain)))
 
 -- ---- keys
-
-values_append : (xs ys : List Value) → values_bytes (xs ++ ys) ≡ values_bytes xs ++ values_bytes ys
-values_append [] ys = refl
-values_append (x ∷ xs) ys = ap (λ (r : List ℕ). value_bytes x ++ r) (values_append xs ys) ∙ sym (append_assoc (value_bytes x) (values_bytes xs) (values_bytes ys))
 
 -- a key that has so many values and starts with some begins with their number and these
 module _ (wid rel n : ℕ) (vs : List Value) where

@@ -1,5 +1,5 @@
 -- The rows that are read of a world under a beginning of their keys, and the tuples of those that are explicit with a sign.
-use Rattle.std.proofs.Common.{◌≡◌, ◌∙◌, ◌⊎◌, ℕ, suc, ◌+◌, ◌≤◌, Bool, true, false, ◌&&◌, cond, List, [], ◌∷◌, ◌++◌, ◌<◌, length, map, filter, take, get_or, Option, Some, None, is_some, inl, inr, refl, ap, sym, subst, arith}
+use Rattle.std.proofs.Common.{◌≡◌, ◌∙◌, ◌⊎◌, ℕ, suc, ◌+◌, ◌≤◌, Bool, true, false, ◌&&◌, cond, List, [], ◌∷◌, ◌++◌, ◌<◌, length, map, filter, take, get_or, Option, Some, is_some, inl, inr, refl, ap, sym, subst, arith}
 use Rattle.std.specs.List.{list_any, list_all, AllByRecursion}
 use Rattle.std.specs.Option.{option_map}
 use Rattle.std.specs.Ordering.{is_eq, is_lt, eq_by_cmp}
@@ -21,7 +21,7 @@ use Rattle.bdb_base.proofs.CountLemmas.{one_unless, distinct_count-le, count_wit
 use Rattle.bdb_base.proofs.ListLemmas.{list_all-filter, filter_push, length_map}
 use Rattle.bdb_base.proofs.WorldLemmas.{explicit_tuple, explicit_is_stated}
 use Rattle.bdb_base.proofs.WorldRowsLemmas.{rows_are_the_world, same_row_tells}
-use Rattle.bdb_base.proofs.OptionLemmas.{some_of, none_is_some, same_some, one_there}
+use Rattle.bdb_base.proofs.OptionLemmas.{some_of, none_is_some, one_there}
 use Rattle.bdb_base.proofs.AllLemmas.{all_filter}
 use Rattle.bdb_keep.specs.Tables.{Tables, bytes_cmp}
 use Rattle.bdb_keep.proofs.RowsLemmas.{same_place}
@@ -30,12 +30,13 @@ use Rattle.bdb_key.specs.Rows.{mark_bytes, tuple_bytes}
 use Rattle.bdb_key.proofs.Forms.{tied}
 use Rattle.bdb_tables.specs.Codec.{HasRow, place}
 use Rattle.bdb_tables.specs.InUse.{ValKey, IsValKey, val_bytes, tuple_codec, val_codec}
-use Rattle.bdb_tables.specs.InUseLaws.{vals_are_one, mark_rows_are_one}
+use Rattle.bdb_tables.specs.InUseLaws.{vals_are_one}
 use Rattle.bdb_tables.specs.Marks.{Mark, mark_of}
 use Rattle.bdb_tables.specs.Names.{Names, path_of}
 use Rattle.bdb_tables.specs.Rows.{Tuples, HoldsTuples, HoldsRows, row_for, AreKeyLengths}
 use Rattle.bdb_tables.specs.Spans.{AreUnder, IsUnder, entry_cmp}
 use Rattle.bdb_tables.proofs.ListLemmas.{all_pass}
+use Rattle.bdb_tables.proofs.MarkLemmas.{mark_is}
 use Rattle.bdb_val.specs.Reads.{HasRows, IsSpan}
 use Rattle.bdb_val.specs.Settling.{row_key}
 use Rattle.bdb_val.proofs.HeldLemmas.{held_names, right_row}
@@ -97,10 +98,6 @@ rows_are_there t prefix es a = go es a.each (found_each es a.sorted)
     go [] b c = tt
     go (d ∷ ds) b c = ((b.0.key, a.found (val_bytes d.0) b.0.begins ∙ c.0), go ds b.1 c.1)
 
-mark_here : (o : Option Mark) (m : Mark) → option_map mark_bytes o ≡ Some (mark_bytes m) → o ≡ Some m
-mark_here None m e = absurd (none_is_some (mark_bytes m) e)
-mark_here (Some k) m e = ap Some (mark_rows_are_one k m tt tt (same_some (mark_bytes k) (mark_bytes m) e))
-
 -- ---- rows of a world
 
 abbrev pub held_of : Tuple → Mark → Held
@@ -151,7 +148,7 @@ module _ (keys : ℕ → ℕ) (stmts : List Stmt) (ns : Names) (ts : Tuples) (t 
 
   one_is : (e : Entry) → IsUnder val_codec prefix e → tables.get t (place val_codec e.0) ≡ Some (mark_bytes e.1) → IsOf e
   one_is e a found =
-      let g : f e.0 ≡ Some e.1 = mark_here (f e.0) e.1 (sym (r.rows e.0 a.key) ∙ found) in
+      let g : f e.0 ≡ Some e.1 = mark_is (f e.0) e.1 (sym (r.rows e.0 a.key) ∙ found) in
       let k = rows.keyed e.0 a.key (ap is_some g) in
       let key : row_key keys wid e.0.3 k.0 ≡ e.0 = ap (λ x. row_key keys x e.0.3 k.0) (sym (span.world e.0 a.key a.begins)) ∙ k.2 in
       record {
@@ -213,7 +210,7 @@ module _ (keys : ℕ → ℕ) (stmts : List Stmt) (ns : Names) (ts : Tuples) (t 
         by (eq_by_cmp bytes_cmp key_bytes (val_bytes e.0)) refl (is_said s e) refl us c (λ vs d x. is_read es vs a.1 k.1 d x)
       where
         mark_same : (o : Option Mark) → o ≡ Some e.1 → option_map mark_bytes o ≡ Some (mark_bytes (s, true)) → e.1 ≡ (s, true)
-        mark_same o x y = let l : Some e.1 ≡ Some (s, true) = sym x ∙ mark_here o (s, true) y in cc
+        mark_same o x y = let l : Some e.1 ≡ Some (s, true) = sym x ∙ mark_is o (s, true) y in cc
 
         said : e.1 ≡ (s, true) → is_said s e ≡ true
         said x = ap (λ (m : Mark). m.1 && same_sign m.0 s) x ∙ (same_sign-Decides s s).1 refl

@@ -23,6 +23,7 @@ use Rattle.bdb_tables.specs.Marks.{Mark}
 use Rattle.bdb_tables.specs.Names.{Names, is_named, number_of, path_of}
 use Rattle.bdb_tables.specs.Rows.{AreKeyLengths, Tuples, HoldsRows, HoldsTuples}
 use Rattle.bdb_tables.proofs.WriteLemmas.{gives_same}
+use Rattle.bdb_tables.proofs.MarkLemmas.{mark_is}
 use Rattle.bdb_val.specs.Reads.{HasRows}
 use Rattle.bdb_val.specs.Settled.{HasStates}
 use Rattle.bdb_val.proofs.HeldLemmas.{held, held_names, held_rows_are_explicit, right_row}
@@ -32,7 +33,7 @@ use Rattle.bdb_decode.specs.Explicit.{AreMisplaced, AreStated, Paths, TupleRows,
 use Rattle.bdb_decode.specs.ExplicitLaws.{HaveNumbers, HavePaths, HeldRowsHavePlaces, HeldRowsMakeStatements}
 use Rattle.bdb_decode.specs.Items.{item_of}
 use Rattle.bdb_decode.proofs.OnceLemmas.{stated_ascend}
-use Rattle.bdb_decode.proofs.SaidLemmas.{given_stated, mark_is, stated_given}
+use Rattle.bdb_decode.proofs.SaidLemmas.{given_stated, stated_given}
 
 member_is_explicit : (zs : List Stmt) (x : Stmt) → is_member statement_cmp zs x ≡ explicit zs x.path x.tuple x.sign
 member_is_explicit [] x = refl

@@ -28,6 +28,7 @@ use Rattle.bdb_tables.specs.Rows.{HoldsRows, HoldsTuples, Tuples}
 use Rattle.bdb_tables.specs.Spans.{HasNextUnder, IsUnder, entry_bytes, entry_cmp}
 use Rattle.bdb_tables.specs.Stored.{StoredAs}
 use Rattle.bdb_tables.proofs.SpanLemmas.{Covers}
+use Rattle.bdb_tables.proofs.MarkLemmas.{mark_is}
 use Rattle.bdb_val.specs.Settling.{row_key}
 use Rattle.bdb_val.proofs.HeldLemmas.{held, right_row}
 use Rattle.bdb_val.proofs.WorldLemmas.{mark_tells}
@@ -38,7 +39,7 @@ use Rattle.bdb_decode.specs.Many.{HaveTooMany, IsThere}
 use Rattle.bdb_entries.proofs.ListedLemmas.{all_found}
 use Rattle.bdb_decode.proofs.OnceLemmas.{none_later}
 use Rattle.bdb_decode.proofs.RowLemmas.{SaidBelow, said_more}
-use Rattle.bdb_decode.proofs.SaidLemmas.{makes_tells, mark_is, placed_tells}
+use Rattle.bdb_decode.proofs.SaidLemmas.{makes_tells, placed_tells}
 
 -- ---- rows that are read one after the other
 

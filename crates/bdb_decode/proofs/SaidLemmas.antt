@@ -15,16 +15,16 @@ use Rattle.bdb_base.specs.declared.kinds.Sign.TheVariants.{Plus, Minus}
 use Rattle.bdb_base.specs.declared.kinds.Stmt.{Stmt}
 use Rattle.bdb_base.specs.declared.kinds.Value.{Value}
 use Rattle.bdb_base.specs.declared.tuple.Tuple.{Tuple}
-use Rattle.bdb_base.proofs.OptionLemmas.{some_of, none_is_some, none_and_some, same_some, one_there}
+use Rattle.bdb_base.proofs.OptionLemmas.{some_of, none_and_some, one_there}
 use Rattle.bdb_keep.specs.Tables.{Tables}
 use Rattle.bdb_key.specs.Rows.{mark_bytes}
 use Rattle.bdb_tables.specs.Codec.{place}
 use Rattle.bdb_tables.specs.InUse.{ValKey, IsValKey, val_bytes, val_codec}
-use Rattle.bdb_tables.specs.InUseLaws.{mark_rows_are_one}
 use Rattle.bdb_tables.specs.Marks.{Mark, explicit_of, explicit_sign, sign_by}
 use Rattle.bdb_tables.specs.Names.{number_of}
 use Rattle.bdb_tables.specs.Spans.{AreUnder, IsUnder}
 use Rattle.bdb_tables.specs.Writes.{Gives}
+use Rattle.bdb_tables.proofs.MarkLemmas.{mark_is}
 use Rattle.bdb_val.specs.Reads.{HasRows, is_of_group}
 use Rattle.bdb_val.specs.Settling.{row_key}
 use Rattle.bdb_val.proofs.ReadLemmas.{key_fits}
@@ -33,10 +33,6 @@ use Rattle.bdb_decode.specs.Explicit.{AreStated, Paths, TupleRows, ValRow, is_pl
 use Rattle.bdb_decode.specs.ExplicitLaws.{HaveNumbers, StatedRowsAreExplicit}
 use Rattle.bdb_decode.specs.Items.{item_of}
 use Rattle.bdb_decode.proofs.RowLemmas.{found_passes}
-
-pub mark_is : (o : Option Mark) (m : Mark) → option_map mark_bytes o ≡ Some (mark_bytes m) → o ≡ Some m
-mark_is None m e = absurd (none_is_some (mark_bytes m) e)
-mark_is (Some k) m e = ap Some (mark_rows_are_one k m tt tt (same_some (mark_bytes k) (mark_bytes m) e))
 
 -- ---- what a row that has its place tells
 

@@ -1,5 +1,5 @@
 -- What a table has whose rows are read one after the other.
-use Rattle.std.proofs.Common.{◌≡◌, ℕ, Bool, true, false, cond, List, [], ◌∷◌, ◌++◌, Option, Some, None, Ok, map, refl, sym, ap, subst, ◌∙◌, inl, inr}
+use Rattle.std.proofs.Common.{◌≡◌, ℕ, Bool, true, false, cond, List, [], ◌∷◌, ◌++◌, Option, Some, None, map, refl, sym, ap, subst, ◌∙◌, inl, inr}
 use Rattle.std.specs.Prelude.{MatchOption}
 use Rattle.std.specs.Bool.{MatchBool}
 use Rattle.std.specs.Ordering.{eq_by_cmp}
@@ -7,15 +7,12 @@ use Rattle.std.specs.List.{AllByRecursion}
 use Rattle.std.specs.FinMap.{find}
 use Rattle.std.proofs.lemmas.Bool.{cases_Bool}
 use Rattle.bdb_base.proofs.OptionLemmas.{none_is_some, same_some}
-use Rattle.bdb_keep.specs.Calls.{IsRead}
-use Rattle.bdb_keep.specs.Seen.{Seen}
 use Rattle.bdb_keep.specs.Tables.{Tables, bytes_cmp, IsLeastFrom, NoneFrom}
 use Rattle.bdb_keep.proofs.RowsLemmas.{same_place}
 use Rattle.bdb_tables.specs.Codec.{Codec, IsEntryOf, TableFits}
 use Rattle.bdb_tables.specs.Raw.{IsForeignFrom}
 use Rattle.bdb_tables.specs.Spans.{entry_bytes, IsUnder, AreUnder, HasNextUnder}
 use Rattle.bdb_tables.proofs.Held.{at_true}
-use Rattle.bdb_tables.proofs.Loops.{steps_ok}
 use Rattle.bdb_tables.proofs.SpanLemmas.{Covers, rows_more, rows_end}
 use Rattle.bdb_entries.specs.Reading.{IsBare}
 
@@ -71,7 +68,3 @@ past P Q b e h = subst (λ v. MatchBool v P Q) e h
 -- a table with a least row isn't bare
 pub some_row : (t : Tables) (n : ℕ) (low key row : List ℕ) (b : Bool) → b ≡ true → MatchBool b (IsLeastFrom t n low key row) (NoneFrom t n low) → IsBare t n → ⊥
 some_row t n low key row b e h bare = none_is_some row (sym (bare key) ∙ (at_true b (IsLeastFrom t n low key row) (NoneFrom t n low) e h).found)
-
--- a reading that went on ends so with any other answer
-pub read_with : {T U E : Type 0} (old new : Seen) (x : T) (y : U) (fault : E) → IsRead {T = T} {E = E} old new (Ok x) fault → IsRead {T = U} {E = E} old new (Ok y) fault
-read_with old new x y fault r = record { rest = r.rest; kept = r.kept; writes = r.writes; counts = r.counts; steps = steps_ok old new y fault r.steps.ok }

@@ -17,9 +17,10 @@ use Rattle.bdb_base.proofs.ListLemmas.{take_short}
 use Rattle.bdb_base.proofs.AllLemmas.{all_both, all_filter}
 use Rattle.bdb_base.proofs.SegmentLemmas.{is_prefix_shorter}
 use Rattle.bdb_keep.specs.Tables.{Tables}
-use Rattle.bdb_key.specs.Bytes.{num_bytes, value_bytes, values_bytes, vals_bytes}
+use Rattle.bdb_key.specs.Bytes.{num_bytes, values_bytes, vals_bytes}
 use Rattle.bdb_key.specs.Grammar.{IsNum, ArePlain, AreKeyVals}
 use Rattle.bdb_key.proofs.Readings.{num_form}
+use Rattle.bdb_key.proofs.Compared.{take_plain, values_append}
 use Rattle.bdb_plan.specs.Running.{plus_tuples}
 use Rattle.bdb_plan.specs.Sight.{rows_deny}
 use Rattle.bdb_tables.specs.Codec.{HasRow}
@@ -31,14 +32,13 @@ use Rattle.bdb_tables.specs.Names.{leads_to}
 use Rattle.bdb_tables.specs.Spans.{AreUnder, IsUnder}
 use Rattle.bdb_tables.specs.Beginnings.{is_written}
 use Rattle.bdb_tables.proofs.PartLemmas.{vals_form}
-use Rattle.bdb_tables.proofs.BeginningLemmas.{values_part}
+use Rattle.bdb_tables.proofs.BeginningLemmas.{values_part, all_written}
 use Rattle.bdb_tables.proofs.ListLemmas.{prefix_append, prefix_rest}
 use Rattle.bdb_exec.specs.Keys.{begins_so, of_key, rows_of_key}
 use Rattle.bdb_exec.specs.Readable.{CanBeRun}
 use Rattle.bdb_exec.specs.Rows.{IsNumberOf, signed_of, mark_denies, row_denies, world_prefix, key_prefix}
 use Rattle.bdb_exec.specs.Seen.{rows_at, signed_in, signed_under, sight_of}
-use Rattle.bdb_exec.proofs.LengthLemmas.{keys_sized, take_plain, take_whole}
-use Rattle.bdb_exec.proofs.LookingLemmas.{all_written}
+use Rattle.bdb_exec.proofs.LengthLemmas.{keys_sized, take_whole}
 use Rattle.bdb_exec.proofs.TypedLemmas.{raw}
 use Rattle.bdb_exec.proofs.WorldLemmas.{AreTyped, StandsForTuple, typed_under, typed_rows, shown, signed_is, has_row, tuple_named, all_told}
 
@@ -93,10 +93,6 @@ key_part w rel n vs nw nr few nn nv k f e =
     let one = num_form k.0 w (num_bytes k.1 ++ vals_bytes k.2 ++ num_bytes k.3) (num_bytes rel ++ num_bytes n ++ (values_bytes vs ++ s.0)) f.world nw s.1 in
     let two = num_form k.1 rel (vals_bytes k.2 ++ num_bytes k.3) (num_bytes n ++ (values_bytes vs ++ s.0)) f.rel nr one.1 in
     values_of n vs k.2 k.3 s.0 few nn nv f.key two.1
-
-values_append : (xs ys : List Value) → values_bytes (xs ++ ys) ≡ values_bytes xs ++ values_bytes ys
-values_append [] ys = refl
-values_append (x ∷ xs) ys = ap (λ (r : List ℕ). value_bytes x ++ r) (values_append xs ys) ∙ sym (append_assoc (value_bytes x) (values_bytes xs) (values_bytes ys))
 
 begins_with : (w rel n : ℕ) (vs rest : List Value) (k : ValKey) → k.0 ≡ w → k.1 ≡ rel → k.2 ≡ vs ++ rest → length (vs ++ rest) ≡ n → is_prefix (key_prefix n w rel vs) (val_bytes k) ≡ true
 begins_with w rel n vs rest k a b c many =

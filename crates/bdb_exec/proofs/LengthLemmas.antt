@@ -1,5 +1,5 @@
 -- How long the keys are that tables show, and what a tuple's key has of its values.
-use Rattle.std.proofs.Common.{◌≡◌, ◌∙◌, ℕ, zero, suc, ◌≤◌, ◌<◌, ◌^◌, lit<, Bool, true, false, cond, nat_lt, List, [], ◌∷◌, Option, Some, None, length, take, refl, ap, sym, subst, arith}
+use Rattle.std.proofs.Common.{◌≡◌, ◌∙◌, ℕ, ◌≤◌, ◌<◌, ◌^◌, lit<, Bool, true, false, cond, nat_lt, List, [], ◌∷◌, Option, Some, None, length, take, refl, ap, sym, subst, arith}
 use Rattle.std.specs.FinMap as tables
 use Rattle.std.specs.List.{list_all}
 use Rattle.std.proofs.lemmas.Bool.{cond-true}
@@ -12,6 +12,7 @@ use Rattle.bdb_base.specs.declared.tuple.Tuple.{Tuple}
 use Rattle.bdb_base.proofs.ListLemmas.{take_short}
 use Rattle.bdb_keep.specs.Tables.{Tables}
 use Rattle.bdb_key.specs.Grammar.{IsNum, ArePlain, AreKeyVals}
+use Rattle.bdb_key.proofs.Compared.{take_plain}
 use Rattle.bdb_tables.specs.Codec.{HasAt, TableFits, place}
 use Rattle.bdb_tables.specs.InUse.{HaveKeyTexts, rel_codec}
 use Rattle.bdb_tables.specs.Lengths.{HasKeyAt}
@@ -67,11 +68,6 @@ pub keys_sized : (t : Tables) → CanBeRun t → (rel : ℕ) → IsNum ((sight_o
 keys_sized t h rel = (keys_are t (rel_fits t h.grammar) rel).1
 
 -- ---- first values
-
-pub take_plain : (n : ℕ) (vs : List Value) → ArePlain vs → ArePlain (take n vs)
-take_plain zero vs a = tt
-take_plain (suc n) [] a = tt
-take_plain (suc n) (v ∷ vs) a = (a.0, take_plain n vs a.1)
 
 pub take_whole : (vs : List Value) → take (length vs) vs ≡ vs
 take_whole [] = refl

@@ -45,6 +45,7 @@ use Rattle.bdb_tables.specs.Names.{Names, path_of, number_of, is_named, edge_fro
 use Rattle.bdb_tables.specs.Rows.{Tuples, HoldsRows, has_key, row_named, row_for}
 use Rattle.bdb_tables.specs.Spans.{AreUnder, IsUnder, entry_bytes, entry_cmp}
 use Rattle.bdb_tables.proofs.ListLemmas.{prefix_append}
+use Rattle.bdb_tables.proofs.SignLemmas.{sign_holds}
 use Rattle.bdb_exec.specs.Based.{HaveBase, ShowBase, TablesShowBase, world_number}
 use Rattle.bdb_exec.specs.Readable.{CanBeRun}
 use Rattle.bdb_exec.specs.Rows.{signed_of, tuple_of_slot, world_prefix}
@@ -165,24 +166,6 @@ few_users n h = grind (arith, nat_tests)
 key_within : (o : Option RelDef) (vals : List Value) → MatchOption o (Unit {0}) IsRelRow → fits_definition o vals ≡ true → key_at o ≤ length vals
 key_within None vals row e = absurd (false≢true e)
 key_within (Some def) vals row e = let many = as_many_values def.cols vals e in omega (arith, many, row.key.1)
-
--- a sign by its tests is one that holds
-sign_holds : (plus minus : Bool) (s : Sign) → sign_by plus minus ≡ Some s → (s ≡ Plus → plus ≡ true) × (s ≡ Minus → minus ≡ true)
-sign_holds true minus s e = (λ _. refl, λ m. absurd (apart (some_sign (e ∙ ap Some m))))
-  where
-    some_sign : {a b : Sign} → Some a ≡ Some b → a ≡ b
-    some_sign e = cc
-
-    apart : Plus ≡ Minus → ⊥
-    apart e = cc
-sign_holds false true s e = (λ p. absurd (apart (some_sign (e ∙ ap Some p))), λ _. refl)
-  where
-    some_sign : {a b : Sign} → Some a ≡ Some b → a ≡ b
-    some_sign e = cc
-
-    apart : Minus ≡ Plus → ⊥
-    apart e = cc
-sign_holds false false s e = absurd cc
 
 abbrev nothing : Mark
 nothing = (Plus, true)

@@ -5,10 +5,10 @@ use Rattle.std.specs.FinMap.{find, get-entries, get-from_entries}
 use Rattle.std.specs.Option.{option_map}
 use Rattle.std.specs.Ordering.{eq_by_cmp}
 use Rattle.std.proofs.lemmas.Bool.{false≢true, false_from_ne_true}
-use Rattle.std.proofs.lemmas.Cmp.{nat_list_cmp_total, eq_by_cmp_equiv}
+use Rattle.std.proofs.lemmas.Cmp.{nat_list_cmp_total}
 use Rattle.bdb_base.proofs.OptionLemmas.{same_option}
 use Rattle.bdb_keep.specs.Tables.{IsPlace, LieInTables, Tables, bytes_cmp}
-use Rattle.bdb_keep.proofs.Gets.{get_after_insert, get_empty, get_here, tables_from_gets}
+use Rattle.bdb_keep.proofs.Gets.{get_after_insert, get_empty, get_here, tables_from_gets, key_itself}
 use Rattle.bdb_keep.proofs.RowsLemmas.{same_place}
 use Rattle.bdb_former.specs.Respelled.{IsRespelled, respelled, respelled_at, respelled_entry, respelled_place}
 use Rattle.bdb_former.specs.Laws.{NoOtherRowIsThere, RowsAreRespelled}
@@ -19,11 +19,8 @@ Entries = List (List ℕ × List ℕ)
 
 -- ---- respelled entries
 
-same_itself : (p : List ℕ) → eq_by_cmp bytes_cmp p p ≡ true
-same_itself p = (eq_by_cmp_equiv nat_list_cmp_total).refl p
-
 same_from : (p q : List ℕ) → p ≡ q → eq_by_cmp bytes_cmp p q ≡ true
-same_from p q e = ap (λ x. eq_by_cmp bytes_cmp p x) (sym e) ∙ same_itself p
+same_from p q e = ap (λ x. eq_by_cmp bytes_cmp p x) (sym e) ∙ key_itself p
 
 -- places are equal where the respelled ones are
 same_respelled : (p q : List ℕ) → eq_by_cmp bytes_cmp (respelled_place p) (respelled_place q) ≡ eq_by_cmp bytes_cmp p q

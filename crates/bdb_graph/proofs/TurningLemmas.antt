@@ -20,6 +20,7 @@ use Rattle.bdb_tables.specs.InUseLaws.{number_rows_are_one}
 use Rattle.bdb_tables.specs.Names.{Names, leads_to}
 use Rattle.bdb_tables.specs.States.{HoldsStates, row_where}
 use Rattle.bdb_tables.specs.Writes.{Gives}
+use Rattle.bdb_tables.proofs.Held.{leads_is}
 use Rattle.bdb_entries.proofs.ReadLemmas.{past}
 use Rattle.bdb_entries.proofs.TupleLemmas.{given_is, holding}
 use Rattle.bdb_graph.specs.Turning.{AreTurned, BothTurned, HasTurned, IsStep, TurnRound}
@@ -77,10 +78,6 @@ pub not_round : (t : Tables) (tab other : ℕ) (a : Bool) → a ≡ false → Ma
 not_round t tab other a e h both = past (AreTurned t tab Round other) (AreTurned t tab Round other → ⊥) a e h both.round
 
 -- ---- numbers that lead to others
-
-leads_is : (o : Option ℕ) (n : ℕ) → leads_to o n ≡ true → o ≡ Some n
-leads_is None n h = absurd (false≢true h)
-leads_is (Some m) n h = ap Some (eqb-true m n h)
 
 -- a row without content
 abbrev blank : Unit {0} → List ℕ

@@ -1,5 +1,5 @@
 -- From which world each world comes.
-use Rattle.std.proofs.Common.{◌≡◌, ◌∙◌, ℕ, zero, suc, ◌+◌, ◌<◌, Bool, true, false, cond, nat_eq, List, [], ◌∷◌, ◌++◌, length, map, take, Ok, get_or, append_assoc, Option, Some, None, refl, ap, sym, subst, inl, inr, arith}
+use Rattle.std.proofs.Common.{◌≡◌, ◌∙◌, ℕ, zero, suc, ◌+◌, ◌<◌, Bool, true, false, cond, nat_eq, List, [], ◌∷◌, ◌++◌, length, map, take, get_or, append_assoc, Option, Some, None, refl, ap, sym, subst, inl, inr, arith}
 use Rattle.std.specs.Prelude.{MatchOption}
 use Rattle.std.specs.Bool.{MatchBool}
 use Rattle.std.specs.List.{AllByRecursion}
@@ -9,17 +9,14 @@ use Rattle.std.specs.FinMap as tables
 use Rattle.std.specs.FinMap.{find}
 use Rattle.std.proofs.lemmas.Bool.{cases_Bool, eqb-true, eqb-false}
 use Rattle.std.proofs.lemmas.List.{map-append, take_more}
-use Rattle.bdb_base.specs.SameLemmas.{same_path-Decides}
 use Rattle.bdb_base.specs.Segments.{is_prefix}
-use Rattle.bdb_base.proofs.SegmentLemmas.{is_prefix_begins}
 use Rattle.bdb_base.proofs.OptionLemmas.{none_is_some, same_some}
 use Rattle.bdb_base.proofs.AllLemmas.{all_both}
-use Rattle.bdb_keep.specs.Seen.{Seen}
 use Rattle.bdb_keep.specs.Tables.{Tables, bytes_cmp}
 use Rattle.bdb_keep.proofs.RowsLemmas.{same_place}
 use Rattle.bdb_key.specs.Bytes.{num_bytes}
 use Rattle.bdb_key.specs.Grammar.{IsNum}
-use Rattle.bdb_key.proofs.Alone.{one_num}
+use Rattle.bdb_key.proofs.Alone.{one_num, number_begins}
 use Rattle.bdb_key.proofs.Readings.{all_push}
 use Rattle.bdb_tables.specs.Codec.{Codec, HasRow, place}
 use Rattle.bdb_tables.specs.InUse.{depth_codec, led_codec, triple_bytes}
@@ -27,8 +24,6 @@ use Rattle.bdb_tables.specs.InUseLaws.{number_rows_are_one, triples_are_one}
 use Rattle.bdb_tables.specs.Names.{Names, path_of, depth_of}
 use Rattle.bdb_tables.specs.Spans.{AreUnder, IsUnder, entry_bytes}
 use Rattle.bdb_tables.specs.States.{HoldsStates, IsNamed, root, next}
-use Rattle.bdb_tables.specs.Reading.{OnlyReads}
-use Rattle.bdb_tables.proofs.Loops.{IsReading, goes_then, counts_then}
 use Rattle.bdb_tables.proofs.ListLemmas.{prefix_append}
 use Rattle.bdb_names.proofs.NamedLemmas.{named_path, path_is_told}
 use Rattle.bdb_entries.proofs.ListedLemmas.{all_found}
@@ -57,11 +52,6 @@ module _ {Key Row : Type 0} (c : Codec Key Row) (prefix : List ℕ) where
           → AllByRecursion (λ e. tables.get t (place c e.0) ≡ Some (c.row_bytes e.1)) ds
       there [] u f = tt
       there (d ∷ ds) u f = (h.found (c.key_bytes d.0) u.0.begins ∙ f.0, there ds u.1 f.1)
-
--- ---- keys that begin with a number
-
-number_begins : (n a : ℕ) (rest : List ℕ) → IsNum n → IsNum a → is_prefix (num_bytes n) (num_bytes a ++ rest) ≡ true → a ≡ n
-number_begins n a rest fn fa e = one_num a n fa fn (sym ((same_path-Decides (num_bytes n) (num_bytes a)).0 (sym (is_prefix_begins (num_bytes n) (num_bytes a ++ rest)) ∙ e)))
 
 -- ---- depths
 
@@ -200,16 +190,6 @@ starts_here t u n d fits rows k other start b l same is good told h =
     let has = holding (HasDepth u start.0 d) (HasDepth u start.0 d → ⊥) b good told in
     let e = get_or rows k other in
     subst (IsParent t n d) (sym is) (leads_from t n d fits e (all_get (LeadsTo t n) rows k other l h) (subst (λ (p : ℕ × ℕ). HasDepth t p.0 d) is (subst (λ v. HasDepth v start.0 d) same has)))
-
--- calls that only read, one more
-pub only_reads_more : {P T E Q : Type 0} (old a b : Seen) (x : T) (fault : E) → IsReading old a P → OnlyReads {T = T} {E = E} a b (Ok x) fault → Q → IsReading old b Q
-only_reads_more old a b x fault h r q = record {
-  goes = goes_then old a b h.goes r.steps.ok;
-  kept = r.kept ∙ h.kept;
-  writes = r.writes ∙ h.writes;
-  counts = counts_then old a b h.counts r.counts;
-  read = q;
-}
 
 pub ups_more : (t : Tables) (rows : List (ℕ × ℕ)) (k : ℕ) (other row : ℕ × ℕ) (ups after : List Up) (x : Up) → k < length rows → row ≡ get_or rows k other
     → AreUps t (take k rows) ups → IsUp t row x → after ≡ ups ++ x ∷ [] → AreUps t (take (k + 1) rows) after

@@ -1,5 +1,5 @@
 -- Rows whole: no two are written alike.
-use Rattle.std.proofs.Common.{◌≡◌, ℕ, List, [], ◌++◌, append_assoc, refl, sym, ap, ◌∙◌}
+use Rattle.std.proofs.Common.{◌≡◌, ℕ, List, [], ◌++◌, append_assoc, refl, sym, ap, ◌∙◌, true}
 use Rattle.bdb_base.specs.declared.kinds.ColDef.{ColDef}
 use Rattle.bdb_base.specs.declared.kinds.RelDef.{RelDef}
 use Rattle.bdb_base.specs.declared.kinds.UserSlot.{UserSlot}
@@ -8,6 +8,9 @@ use Rattle.bdb_base.specs.declared.kinds.Value.{Value}
 use Rattle.bdb_base.specs.declared.kinds.Sign.{Sign}
 use Rattle.bdb_base.specs.declared.kinds.Sign.TheVariants as signs
 use Rattle.bdb_base.specs.declared.tuple.Tuple.{Tuple}
+use Rattle.bdb_base.specs.Segments.{is_prefix}
+use Rattle.bdb_base.specs.SameLemmas.{same_path-Decides}
+use Rattle.bdb_base.proofs.SegmentLemmas.{is_prefix_begins}
 use Rattle.bdb_key.specs.Bytes.{num_bytes, text_bytes, values_bytes}
 use Rattle.bdb_key.specs.Grammar.{IsNum, IsPlain}
 use Rattle.bdb_key.specs.Rows.{IsRelRow, IsTupleRow, IsUserRow, cols_bytes, length_bytes, rel_bytes, tuple_bytes, slot_bytes, sign_bytes}
@@ -53,3 +56,6 @@ one_sign signs.Plus signs.Plus e = refl
 one_sign signs.Plus signs.Minus e = absurd cc
 one_sign signs.Minus signs.Plus e = absurd cc
 one_sign signs.Minus signs.Minus e = refl
+
+pub number_begins : (n a : ℕ) (rest : List ℕ) → IsNum n → IsNum a → is_prefix (num_bytes n) (num_bytes a ++ rest) ≡ true → a ≡ n
+number_begins n a rest fn fa e = one_num a n fa fn (sym ((same_path-Decides (num_bytes n) (num_bytes a)).0 (sym (is_prefix_begins (num_bytes n) (num_bytes a ++ rest)) ∙ e)))

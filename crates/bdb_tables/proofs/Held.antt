@@ -1,13 +1,14 @@
 -- Tables in the grammar, read and changed through the words of one table.
-use Rattle.std.proofs.Common.{◌≡◌, ℕ, zero, suc, List, [], ◌∷◌, ◌++◌, Bool, true, cond, Option, Some, None, IsTrue, refl, sym, ap, subst, ◌∙◌, arith, inl, inr}
+use Rattle.std.proofs.Common.{◌≡◌, ℕ, zero, suc, List, [], ◌∷◌, ◌++◌, Bool, true, cond, Option, Some, None, IsTrue, refl, sym, ap, subst, ◌∙◌, arith, inl, inr, false}
 use Rattle.std.specs.declared.cmp.Ordering.{Ordering}
 use Rattle.std.specs.declared.cmp.Ordering.TheVariants.{Less, Equal, Greater}
 use Rattle.std.specs.Ordering.{is_le, is_lt, eq_by_cmp, nat_cmp, ordering_then}
 use Rattle.std.specs.Bool.{MatchBool}
 use Rattle.std.specs.FinMap as map
 use Rattle.std.specs.FinMap.{get-from_entries}
-use Rattle.std.proofs.lemmas.Bool.{cases_Bool}
+use Rattle.std.proofs.lemmas.Bool.{cases_Bool, false≢true, eqb-true, eq-eqb}
 use Rattle.std.proofs.lemmas.Cmp.{nat_list_cmp_total}
+use Rattle.std.specs.Option.{option_map}
 use Rattle.bdb_keep.specs.Tables.{Tables, bytes_cmp}
 use Rattle.bdb_base.proofs.Numbers.{less}
 use Rattle.bdb_base.proofs.OptionLemmas.{none_is_some, same_some}
@@ -15,7 +16,9 @@ use Rattle.bdb_keep.proofs.Gets.{get_after_insert, get_after_remove}
 use Rattle.bdb_keep.proofs.RowsLemmas.{same_place}
 use Rattle.bdb_tables.specs.Codec.{Codec, IsEntryOf, IsKeyOf, IsRowOf, HasFirst, HasLeast, KeepsOrder, TableFits, place}
 use Rattle.bdb_tables.specs.Grammar.{IsEntry, InGrammar}
-use Rattle.bdb_tables.specs.InUse.{meta_codec, user_codec, rel_codec, plain_codec}
+use Rattle.bdb_tables.specs.InUse.{meta_codec, user_codec, rel_codec, plain_codec, depth_codec, link_codec, edge_codec}
+use Rattle.bdb_tables.specs.Names.{leads_to}
+use Rattle.bdb_tables.specs.States.{row_where}
 
 -- ---- places
 
@@ -134,3 +137,27 @@ remove_kept t u p e h = subst InGrammar (sym e) (remove_keeps t p h)
 -- what is known where a test is true
 pub at_true : (b : Bool) (P Q : Type 0) → b ≡ true → MatchBool b P Q → P
 at_true b P Q e h = subst (λ v. MatchBool v P Q) e h
+
+-- ---- the keys of one table fit
+
+pub depths_fit : (t : Tables) → InGrammar t → TableFits depth_codec t
+depths_fit t g k r f = g 6 k r f
+
+pub links_fit : (t : Tables) → InGrammar t → TableFits link_codec t
+links_fit t g k r f = g 7 k r f
+
+pub edges_fit : (t : Tables) → InGrammar t → TableFits edge_codec t
+edges_fit t g k r f = g 9 k r f
+
+-- ---- where an edge or a link leads
+
+pub leads_is : (o : Option ℕ) (n : ℕ) → leads_to o n ≡ true → o ≡ Some n
+leads_is None n h = absurd (false≢true h)
+leads_is (Some m) n h = ap Some (eqb-true m n h)
+
+pub leads_self : (o : Option ℕ) (n : ℕ) → o ≡ Some n → leads_to o n ≡ true
+leads_self o n e = ap (λ x. leads_to x n) e ∙ eq-eqb n n refl
+
+pub row_is : (b : Bool) (x : List ℕ) → option_map (λ (u : Unit {0}). x) (row_where b) ≡ Some x → b ≡ true
+row_is true x e = refl
+row_is false x e = absurd cc

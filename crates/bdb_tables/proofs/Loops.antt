@@ -10,6 +10,7 @@ use Rattle.bdb_keep.specs.Tables.{Tables}
 use Rattle.bdb_key.proofs.Readings.{all_push}
 use Rattle.bdb_tables.specs.Codec.{Codec}
 use Rattle.bdb_tables.specs.Writes.{with_change, with_changes}
+use Rattle.bdb_tables.specs.Reading.{OnlyReads}
 
 -- nothing has changed but counts, and this much is read
 pub record IsReading (old new : Seen) (Read : Type 0) : Type 0 where
@@ -116,3 +117,21 @@ pub changes_left : {Key Row : Type 0} (c : Codec Key Row) (t u : Tables) (xs : L
 changes_left c t u xs i x lt e made =
     ap (λ v. with_changes c v (drop (i + 1) xs)) made
     ∙ sym (ap (with_changes c t) (drop_more xs i x lt ∙ ap (λ y. y ∷ drop (i + 1) xs) (sym e)))
+
+-- calls that only read, one more
+pub only_reads_more : {P T E Q : Type 0} (old a b : Seen) (x : T) (fault : E) → IsReading old a P → OnlyReads {T = T} {E = E} a b (Ok x) fault → Q → IsReading old b Q
+only_reads_more old a b x fault h r q = record {
+  goes = goes_then old a b h.goes r.steps.ok;
+  kept = r.kept ∙ h.kept;
+  writes = r.writes ∙ h.writes;
+  counts = counts_then old a b h.counts r.counts;
+  read = q;
+}
+
+-- a call that refuses, whatever it were to answer
+pub err_steps : {T U E : Type 0} (old new : Seen) (e fault : E) → Steps {T = T} {E = E} old new (Err e) fault → Steps {T = U} {E = E} old new (Err e) fault
+err_steps old new e fault h =
+    record { cause = record { later = h.cause.later; rose = λ is. h.cause.rose (let same : e ≡ fault = cc in ap Err same) }; ok = tt; err = h.err }
+
+pub read_answers : {T U E : Type 0} (old new : Seen) (x : T) (y : U) (fault : E) → IsRead {T = T} {E = E} old new (Ok x) fault → IsRead {T = U} {E = E} old new (Ok y) fault
+read_answers old new x y fault r = record { rest = r.rest; kept = r.kept; writes = r.writes; counts = r.counts; steps = steps_ok old new y fault r.steps.ok }

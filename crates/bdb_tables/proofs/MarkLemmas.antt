@@ -2,8 +2,10 @@
 use Rattle.std.proofs.Common.{◌≡◌, ℕ, ◌+◌, ◌-◌, ◌≤◌, true, List, [], ◌∷◌, ◌++◌, Option, Some, None, map, length, drop, refl, sym, ap, subst, ◌∙◌, arith, length-append}
 use Rattle.std.specs.List.{AllByRecursion}
 use Rattle.std.proofs.Math.Seq.{drop-append_seam}
+use Rattle.std.specs.Option.{option_map}
 use Rattle.bdb_base.specs.declared.kinds.Value.{Value}
 use Rattle.bdb_base.specs.Segments.{is_prefix}
+use Rattle.bdb_base.proofs.OptionLemmas.{none_is_some, same_some}
 use Rattle.bdb_keep.specs.Tables.{Tables}
 use Rattle.bdb_key.proofs.Alone.{one_num}
 use Rattle.bdb_key.proofs.Readings.{num_form}
@@ -18,6 +20,7 @@ use Rattle.bdb_tables.specs.InUse.{ValKey, IsValKey, val_bytes, val_codec}
 use Rattle.bdb_tables.specs.Marks.{Mark}
 use Rattle.bdb_tables.specs.Spans.{IsUnder, AreUnder}
 use Rattle.bdb_tables.specs.Writes.{IsChange, with_change, with_changes}
+use Rattle.bdb_tables.specs.InUseLaws.{mark_rows_are_one}
 use Rattle.bdb_tables.proofs.PartLemmas.{vals_form}
 use Rattle.bdb_tables.proofs.ListLemmas.{prefix_rest}
 
@@ -120,3 +123,7 @@ is_numbered key row last n m e is number mark = record {
   row_reads = mark;
   is = ap (λ (x : ℕ). (x, m)) (one_num n e.key.3 number.fits e.key_reads.fits.tuple (number.spelled ∙ is ∙ last_is key row e));
 }
+
+pub mark_is : (o : Option Mark) (m : Mark) → option_map mark_bytes o ≡ Some (mark_bytes m) → o ≡ Some m
+mark_is None m e = absurd (none_is_some (mark_bytes m) e)
+mark_is (Some k) m e = ap Some (mark_rows_are_one k m tt tt (same_some (mark_bytes k) (mark_bytes m) e))

@@ -121,3 +121,11 @@ pub drop_says_none : (keys : ℕ → ℕ) (stmts : List Stmt) (x : Stmt) → IsC
 drop_says_none keys stmts x c here =
     let n = neither keys stmts x c here x.sign refl in
     ap (λ b. sign_by b (explicit (without_statement stmts x) x.path x.tuple Minus)) n.0 ∙ ap (λ b. sign_by false b) n.1
+
+-- a sign that is found by two tests passes its own
+pub sign_holds : (plus minus : Bool) (s : Sign) → sign_by plus minus ≡ Some s → (s ≡ Plus → plus ≡ true) × (s ≡ Minus → minus ≡ true)
+sign_holds true minus Plus e = (λ _. refl, λ k. absurd cc)
+sign_holds true minus Minus e = absurd cc
+sign_holds false true Plus e = absurd cc
+sign_holds false true Minus e = (λ k. absurd cc, λ _. refl)
+sign_holds false false s e = absurd cc

@@ -15,6 +15,7 @@ use Rattle.bdb_tables.specs.Names.{Names, path_of, number_of, is_named, is_liste
 use Rattle.bdb_tables.specs.States.{HoldsStates, TablesAre}
 use Rattle.bdb_tables.specs.Writes.{with_row_at}
 use Rattle.bdb_tables.proofs.WriteLemmas.{change_gives, change_elsewhere, gives_same}
+use Rattle.bdb_tables.proofs.Held.{leads_is}
 use Rattle.bdb_names.specs.Drops.{IsLast, led_past}
 use Rattle.bdb_names.specs.Turned.{link_set, with_link, links_led, with_links, edge_set, same_edge, with_edge, look}
 use Rattle.bdb_names.proofs.AddedLemmas.{links_led_are, links_join}
@@ -102,13 +103,6 @@ state_dropped_is t d l e n s size led h =
     }
 
 -- ---- the whole
-
-leads_is : (o : Option ℕ) (n : ℕ) → leads_to o n ≡ true → o ≡ Some n
-leads_is None n h = absurd (false≢true h)
-leads_is (Some m) n h = ap Some (eqb-true m n h)
-
-leads_self : (o : Option ℕ) (n : ℕ) → o ≡ Some n → leads_to o n ≡ true
-leads_self o n e = ap (λ x. leads_to x n) e ∙ eq-eqb n n refl
 
 look_listed : (xs : List (ℕ × ℕ)) (j : ℕ) → is_listed j (users_of xs) ≡ false → look xs j ≡ None
 look_listed [] j h = refl

@@ -16,21 +16,13 @@ use Rattle.bdb_tables.specs.InUseLaws.{number_rows_are_one}
 use Rattle.bdb_tables.specs.Names.{leads_to}
 use Rattle.bdb_tables.specs.States.{TablesAre, row_where}
 use Rattle.bdb_tables.specs.Writes.{Gives}
+use Rattle.bdb_tables.proofs.Held.{leads_is}
 use Rattle.bdb_worlds.specs.Finds.{HasNextChild, IsNextChild}
 
 -- ---- the grammar
 
-pub depths_fit : (t : Tables) → InGrammar t → TableFits depth_codec t
-depths_fit t h k r found = h 6 k r found
-
-pub links_fit : (t : Tables) → InGrammar t → TableFits link_codec t
-links_fit t h k r found = h 7 k r found
-
 pub linked_fit : (t : Tables) → InGrammar t → TableFits linked_codec t
 linked_fit t h k r found = h 8 k r found
-
-pub edges_fit : (t : Tables) → InGrammar t → TableFits edge_codec t
-edges_fit t h k r found = h 9 k r found
 
 pub led_fit : (t : Tables) → InGrammar t → TableFits led_codec t
 led_fit t h k r found = h 10 k r found
@@ -145,10 +137,6 @@ row_there_is false e = absurd cc
 row_gone_is : (b : Bool) → option_map linked_codec.row_bytes (row_where b) ≡ None → b ≡ false
 row_gone_is true e = absurd cc
 row_gone_is false e = refl
-
-leads_is : (o : Option ℕ) (n : ℕ) → leads_to o n ≡ true → o ≡ Some n
-leads_is None n h = absurd (false≢true h)
-leads_is (Some m) n h = ap Some (eqb-true m n h)
 
 leads_not : (o : Option ℕ) (n : ℕ) → leads_to o n ≡ false → o ≡ Some n → ⊥
 leads_not None n h e = absurd cc

@@ -3,8 +3,8 @@ use Rattle.bdb_tables.specs.Grammar.{InGrammar}
 use Rattle.bdb_tables.specs.InUse.{edge_codec, depth_codec}
 use Rattle.bdb_tables.proofs.Numbered.{at_old}
 use Rattle.bdb_tables.proofs.Loops.{goes_then, counts_then}
+use Rattle.bdb_tables.proofs.Held.{depths_fit}
 use Rattle.bdb_worlds.proofs.ReachLemmas.{reached_more, reach_ends, edge_is_there, depth_is_there}
-use Rattle.bdb_worlds.proofs.ReadLemmas.{depths_fit}
 use Rattle.bdb_worlds.proofs.StepsLemmas.{steps_err, steps_ok}
 use Rattle.bdb_worlds.proofs.reach.longest_state.Goals as goal
 
