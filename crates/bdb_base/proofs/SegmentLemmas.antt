@@ -1,9 +1,10 @@
 -- A beginning is what the longer path begins with, and an end is what it ends with.
-use Rattle.std.proofs.Common.{◌≡◌, ◌∙◌, ℕ, ◌-◌, suc, Bool, true, false, ◌&&◌, ◌||◌, List, [], ◌∷◌, length, take, drop, refl, ap, sym, inl, inr, arith, nat_eq, zero, ◌≤◌, ◌++◌}
+use Rattle.std.proofs.Common.{◌≡◌, ◌∙◌, ℕ, ◌-◌, suc, true, false, ◌&&◌, ◌||◌, List, [], ◌∷◌, length, take, drop, refl, ap, sym, inl, inr, arith, nat_eq, zero, ◌≤◌, ◌++◌}
 use Rattle.std.proofs.lemmas.Bool.{false_from_ne_true, cases_lt, and_from, eq-eqb, false≢true, and_parts, eqb-true, or_left, or_cases}
 use Rattle.bdb_base.specs.Same.{same_path, same_text}
 use Rattle.bdb_base.specs.SameLemmas.{same_path-Decides, same_text-Decides}
 use Rattle.bdb_base.specs.Segments.{is_prefix, is_suffix}
+use Rattle.bdb_base.proofs.ListLemmas.{or_false}
 
 pub is_prefix_begins : (w p : List ℕ) → is_prefix w p ≡ same_path w (take (length w) p)
 is_prefix_begins [] p = refl
@@ -30,10 +31,6 @@ is_suffix_ends v (j ∷ p) = elim (cases_lt (length p) (length v)) [
       let n : (length v ≡ suc (length p) → ⊥) = λ q. absurd (omega arith) in
       ap (λ b. b || is_suffix v p) (differs_by_length v (j ∷ p) n) ∙ is_suffix_ends v p ∙ ap (λ m. same_path v (drop m (j ∷ p))) (sym e)
 ]
-  where
-    or_false : (b : Bool) → (b || false) ≡ b
-    or_false true = refl
-    or_false false = refl
 
 pub take_is_prefix : (w : List ℕ) (k : ℕ) → is_prefix (take k w) w ≡ true
 take_is_prefix w zero = refl

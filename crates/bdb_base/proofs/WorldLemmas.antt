@@ -16,6 +16,7 @@ use Rattle.bdb_base.specs.Worlds.{explicit, contradicted, stated}
 use Rattle.bdb_base.specs.SameLemmas.{same_tuple-Decides, same_path-Decides, same_sign-Decides, same_values-Decides}
 use Rattle.bdb_base.specs.OrderLemmas.{is_eq_statement_cmp}
 use Rattle.bdb_base.proofs.ClashLemmas.{clash_is_symmetric}
+use Rattle.bdb_base.proofs.BoolLemmas.{and_true}
 
 -- what a weaker test finds too
 pub list_any_weaker : {X : Type 0} (p q : X → Bool) → ((x : X) → p x ≡ true → q x ≡ true) → (xs : List X) → list_any p xs ≡ true → list_any q xs ≡ true
@@ -115,10 +116,6 @@ plain_inheritance keys stmts (i ∷ w) h t s =
     let b : contradicted keys stmts (i ∷ w) t s ≡ false = nothing_stands stmts i w (λ x. clash keys t s x.tuple x.sign) h in
     ap (λ c. c || (stated keys stmts w t s && not (contradicted keys stmts (i ∷ w) t s))) a
     ∙ ap (λ c. stated keys stmts w t s && not c) b ∙ and_true (stated keys stmts w t s)
-  where
-    and_true : (b : Bool) → (b && true) ≡ b
-    and_true true = refl
-    and_true false = refl
 
 -- what is explicit is of a statement's tuple
 pub explicit_tuple : (stmts : List Stmt) (w : List ℕ) (t : Tuple) (s : Sign) → explicit stmts w t s ≡ true → list_any (λ x. same_tuple x.tuple t) stmts ≡ true

@@ -39,11 +39,7 @@ use Rattle.bdb_exec.proofs.DenyLemmas.{filter_narrow}
 -- ---- slots with one more tuple
 
 other_known : (slots : List (Option Tuple)) (item : ℕ) (t : Tuple) (o : Operand) → names_another item o ≡ true → known_operand (slice_set slots item (Some t)) o ≡ known_operand slots o
-other_known slots item t (Col r) e = ap (option_and_then (λ u. slice_get u.vals r.col)) (slot_other slots item r.item t (turned (nat_eq r.item item) e))
-  where
-    turned : (b : Bool) → not b ≡ true → b ≡ false
-    turned true e = absurd (true≢false (sym e))
-    turned false e = refl
+other_known slots item t (Col r) e = ap (option_and_then (λ u. slice_get u.vals r.col)) (slot_other slots item r.item t (not-true (nat_eq r.item item) e))
 other_known slots item t (Lit v) e = refl
 
 -- an equality says the same either way round

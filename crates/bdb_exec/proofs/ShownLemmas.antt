@@ -1,11 +1,11 @@
 -- Tables that have a base show it.
-use Rattle.std.proofs.Common.{◌≡◌, ◌∙◌, ℕ, zero, suc, ◌+◌, ◌≤◌, ◌<◌, ◌^◌, lit<, Bool, true, false, not, ◌&&◌, ◌||◌, cond, nat_eq, nat_lt, nat_le, List, [], ◌∷◌, ◌++◌, Option, Some, None, MatchOption, is_some, length, map, filter_map, refl, ap, sym, subst, inl, inr, arith}
+use Rattle.std.proofs.Common.{◌≡◌, ◌∙◌, ℕ, zero, suc, ◌+◌, ◌≤◌, ◌<◌, ◌^◌, lit<, Bool, true, false, not, ◌&&◌, cond, nat_eq, nat_lt, nat_le, List, [], ◌∷◌, ◌++◌, Option, Some, None, MatchOption, is_some, length, map, filter_map, refl, ap, sym, subst, inl, inr, arith}
 use Rattle.std.specs.List.{list_any, list_all, AllByRecursion, slice_get}
 use Rattle.std.specs.Option.{option_map, unwrap_or, option_and_then}
 use Rattle.std.specs.Ordering.{is_lt, is_eq, eq_by_cmp, nat_cmp}
 use Rattle.std.specs.FinMap as tables
 use Rattle.std.specs.FinMap.{find}
-use Rattle.std.proofs.lemmas.Bool.{and_parts, and_from, or_right, or_cases, cond-true, cond-false, false≢true, false_from_ne_true, eqb-true, eq-eqb}
+use Rattle.std.proofs.lemmas.Bool.{and_parts, and_from, or_right, or_cases, cond-true, cond-false, false≢true, false_from_ne_true, eqb-true, eq-eqb, or_left}
 use Rattle.std.proofs.lemmas.Bool.Decides.{nat_tests}
 use Rattle.std.proofs.Math.Path.{fun_ext}
 use Rattle.bdb_base.specs.Bases.{Contents, IsValid, fits_definition, is_plain, is_user, key_at, key_lengths, user_names}
@@ -417,13 +417,9 @@ module _ (ns : Names) (ts : Tuples) (t : Tables) (b : Contents) (valid : IsValid
             let key : k ≡ e.0 = vals_are_one k e.0 vk a.0.key (ap (λ x. Rattle.std.specs.Prelude.drop 1 x) (same_place (place val_codec k) (place val_codec e.0) c)) in
             let mark : e.1 ≡ m = mark_rows_are_one e.1 m tt tt (same_some (mark_bytes e.1) (mark_bytes m) g) in
             let same : a.0.u ≡ u = one (ts.tuple e.0.3) a.0.u u a.0.named (ap (λ (x : ValKey). ts.tuple x.3) (sym key) ∙ tuple) in
-            or_from_left (same_tuple (signed_of t e).0 u && same_sign (signed_of t e).1 s) (list_any (λ x. same_tuple x.0 u && same_sign x.1 s) (map (signed_of t) xs))
+            or_left (same_tuple (signed_of t e).0 u && same_sign (signed_of t e).1 s) (list_any (λ x. same_tuple x.0 u && same_sign x.1 s) (map (signed_of t) xs))
             (ap (λ x. same_tuple x.0 u && same_sign x.1 s) (signed_is t e a.0.u a.0.row)
             ∙ and_from (same_tuple a.0.u u) (same_sign e.1.0 s) ((same_tuple-Decides a.0.u u).1 same) ((same_sign-Decides e.1.0 s).1 (ap (λ (x : Mark). x.0) mark ∙ sign)))
-          where
-            or_from_left : (x y : Bool) → x ≡ true → (x || y) ≡ true
-            or_from_left true y p = refl
-            or_from_left false y p = absurd (false≢true p)
         by rest false c g = or_right (same_tuple (signed_of t e).0 u && same_sign (signed_of t e).1 s) (list_any (λ x. same_tuple x.0 u && same_sign x.1 s) (map (signed_of t) xs)) (rest g)
 
     stated_there : (nat_eq u.rel rel && stated keys b.stmts w u s) ≡ true → list_any shows (map (signed_of t) es) ≡ true

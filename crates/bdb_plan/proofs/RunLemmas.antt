@@ -26,6 +26,7 @@ use Rattle.bdb_base.proofs.SetLemmas.{is_eq-Equal, is_eq_itself, set_is_ascendin
 use Rattle.bdb_base.proofs.WorldRowsLemmas.{list_any-flat_map}
 use Rattle.bdb_base.proofs.FindLemmas.{list_any-filter}
 use Rattle.bdb_base.proofs.ConditionLemmas.{equal_sides}
+use Rattle.bdb_base.proofs.BoolLemmas.{or_true}
 use Rattle.bdb_queries.specs.Slots.{slot_at, known, known_operand, must_hold, known_row, uid_of}
 use Rattle.bdb_queries.proofs.FoundLemmas.{Found, found_with, option_map_some}
 use Rattle.bdb_plan.specs.declared.step.Step.{Step}
@@ -118,10 +119,6 @@ users_stay n w p p' x u e = by x e
 
     one_more : (item i : ℕ) → is_among p.users i ≡ true → (nat_eq i item || is_among p.items i) ≡ true
     one_more item i h = ap (λ b. nat_eq i item || b) (u i h) ∙ or_true (nat_eq i item)
-      where
-        or_true : (b : Bool) → (b || true) ≡ true
-        or_true true = refl
-        or_true false = refl
 
     user : (item i : ℕ) → (nat_eq i item || is_among p.users i) ≡ true → (nat_eq i item || is_among p.items i) ≡ true
     user item i h = elim (or_cases (nat_eq i item) (is_among p.users i) h) [

@@ -1,7 +1,7 @@
 -- What a plan names was set by an earlier step.
 use Rattle.std.proofs.Common.{◌≡◌, ◌∙◌, ℕ, ◌+◌, Bool, true, false, not, ◌&&◌, ◌||◌, nat_eq, nat_lt, List, [], ◌∷◌, ◌++◌, Option, None, Some, inl, inr, refl, ap, sym, subst, append_assoc, arith}
 use Rattle.std.specs.List.{list_any}
-use Rattle.std.proofs.lemmas.Bool.{false≢true, cases_Bool, cond-true, cond-false, or_cases, or_left, and_parts, and_from, or_parts}
+use Rattle.std.proofs.lemmas.Bool.{false≢true, cases_Bool, cond-true, cond-false, or_cases, or_left, and_parts, and_from, or_parts, or_right}
 use Rattle.std.proofs.lemmas.Bool.Decides.{nat_tests}
 use Rattle.std.proofs.lemmas.List.{append-nil}
 use Rattle.bdb_base.specs.declared.kinds.Operand.{Operand}
@@ -25,10 +25,6 @@ more f (y ∷ ys) x h = elim (or_cases (f y) (list_any f ys) h) [
   | inl k ↦ or_left (f y) (list_any f (ys ++ x ∷ [])) k
   | inr k ↦ or_right (f y) (list_any f (ys ++ x ∷ [])) (more f ys x k)
 ]
-  where
-    or_right : (a b : Bool) → b ≡ true → (a || b) ≡ true
-    or_right true b h = refl
-    or_right false b h = h
 
 last : (f : Step → Bool) (done : List Step) (x : Step) → f x ≡ true → list_any f (done ++ x ∷ []) ≡ true
 last f [] x h = or_left (f x) false h

@@ -1,5 +1,5 @@
 -- What is chosen so far in a run, and choices for all items above it.
-use Rattle.std.proofs.Common.{◌≡◌, ◌∙◌, ℕ, suc, ◌+◌, ◌<◌, Bool, true, false, not, ◌&&◌, ◌||◌, nat_eq, nat_lt, List, [], ◌∷◌, ◌++◌, Option, None, Some, inl, inr, refl, ap, sym, subst, length, slice_set, append_assoc, arith}
+use Rattle.std.proofs.Common.{◌≡◌, ◌∙◌, ℕ, suc, ◌+◌, ◌<◌, true, false, not, ◌&&◌, ◌||◌, nat_eq, nat_lt, List, [], ◌∷◌, ◌++◌, Option, None, Some, inl, inr, refl, ap, sym, subst, length, slice_set, append_assoc, arith}
 use Prim.Native.Nat.{zero}
 use Rattle.std.specs.List.{slice_get}
 use Rattle.std.specs.Option.{option_map, option_and_then}
@@ -14,6 +14,7 @@ use Rattle.bdb_base.specs.declared.kinds.Who.TheVariants.{User, Of}
 use Rattle.bdb_base.specs.declared.tuple.Tuple.{Tuple}
 use Rattle.bdb_base.specs.Same.{tuple_of}
 use Rattle.bdb_base.proofs.Numbers.{differs_turned}
+use Rattle.bdb_base.proofs.BoolLemmas.{or_true}
 use Rattle.bdb_queries.specs.Slots.{slot_at, known, known_operand, uid_of}
 use Rattle.bdb_queries.proofs.RangeLemmas.{and_then_some}
 use Rattle.bdb_plan.specs.Fitness.{Placed, is_among, is_bound, has_bound, was_bound, is_known, is_set, operand_is_set, who_is_set, is_new, comes_next, is_whole, at_width}
@@ -183,10 +184,6 @@ new_below n items o slots zs item t s new a =
   where
     later : (i : ℕ) → is_among items i ≡ true → is_among (item ∷ items) i ≡ true
     later i k = ap (λ b. nat_eq i item || b) k ∙ or_true (nat_eq i item)
-      where
-        or_true : (b : Bool) → (b || true) ≡ true
-        or_true true = refl
-        or_true false = refl
 
     by : (o : Option (ℕ × ℕ)) → BoundAbove (slice_set slots item (Some t)) zs o → is_bound o item ≡ false → BoundAbove slots zs o
     by None h e = tt
@@ -368,10 +365,6 @@ whole_below n items o slots zs item rel size w s a =
   where
     later : (i : ℕ) → is_among items i ≡ true → is_among (item ∷ items) i ≡ true
     later i k = ap (λ b. nat_eq i item || b) k ∙ or_true (nat_eq i item)
-      where
-        or_true : (b : Bool) → (b || true) ≡ true
-        or_true true = refl
-        or_true false = refl
 
 pub whole_above : (n : ℕ) (items : List ℕ) (o : Option (ℕ × ℕ)) (slots zs : List (Option Tuple)) (item rel size : ℕ) (w : IsWhole n items o slots item size) (u : Tuple) → Stands n items o slots → Above items o slots zs
     → slot_at zs item ≡ Some u → u.rel ≡ rel → length u.vals ≡ size → (u ≡ tuple_of rel w.tuple.vals) × Above (item ∷ items) None (slice_set slots item (Some (tuple_of rel w.tuple.vals))) zs

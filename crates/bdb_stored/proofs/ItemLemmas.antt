@@ -1,11 +1,11 @@
 -- The items that numbers stand for, where no two numbers stand for one, and the set of them.
-use Rattle.std.proofs.Common.{◌≡◌, ◌∙◌, ℕ, suc, ◌+◌, Bool, true, false, not, ◌||◌, nat_eq, List, [], ◌∷◌, length, Option, Some, None, is_some, refl, ap, sym, subst, inl, inr, arith}
+use Rattle.std.proofs.Common.{◌≡◌, ◌∙◌, ℕ, suc, ◌+◌, true, false, not, nat_eq, List, [], ◌∷◌, length, Option, Some, None, is_some, refl, ap, sym, subst, inl, inr, arith}
 use Rattle.std.specs.Prelude.{sum_by}
 use Rattle.std.specs.List.{list_all}
 use Rattle.std.specs.declared.cmp.Ordering.{Ordering}
 use Rattle.std.specs.declared.cmp.Ordering.TheVariants.{Less, Equal, Greater}
 use Rattle.std.specs.Ordering.{is_eq, is_lt}
-use Rattle.std.proofs.lemmas.Bool.{and_parts, or_left, or_right, or_cases, false≢true, false_from_ne_true, not-true, eqb-true, eq-eqb}
+use Rattle.std.proofs.lemmas.Bool.{and_parts, or_left, or_right, or_cases, false≢true, false_from_ne_true, not-true, eqb-true, eq-eqb, or_parts}
 use Rattle.std.proofs.lemmas.List.Sums.{sum_by-cons}
 use Rattle.bdb_base.specs.SortedSet.{IsExactOrder, ascending, is_member, put_at, put_in, sorted_set}
 use Rattle.bdb_base.proofs.SetLemmas.{is_eq-Equal, is_eq_itself, absent_above, set_is_ascending, set_keeps_members, members_make_set}
@@ -26,18 +26,14 @@ module _ {X : Type 0} {R : X → X → Ordering} (o : IsExactOrder R) where
   sum_put f x [] h = sum_by-cons f x []
   sum_put f x (y ∷ ys) h = go (R y x) refl (sum_put f x ys)
     where
-      neither : (a b : Bool) → (a || b) ≡ false → (a ≡ false) × (b ≡ false)
-      neither true b e = absurd (false≢true (sym e))
-      neither false b e = (refl, e)
-
       go : (r : Ordering) → R y x ≡ r → (is_member R ys x ≡ false → sum_by f (put_in R ys x) ≡ f x + sum_by f ys) → sum_by f (put_at (R y x) y ys x (put_in R ys x)) ≡ f x + sum_by f (y ∷ ys)
       go Less e more =
           let a = ap (λ q. sum_by f (put_at q y ys x (put_in R ys x))) e in
           let b = sum_by-cons f y (put_in R ys x) in
-          let c = more (neither (is_eq (R y x)) (is_member R ys x) h).1 in
+          let c = more (or_parts (is_eq (R y x)) (is_member R ys x) h).1 in
           let d = sum_by-cons f y ys in
           omega arith
-      go Equal e more = absurd (false≢true (sym (neither (is_eq (R y x)) (is_member R ys x) h).0 ∙ ap is_eq e))
+      go Equal e more = absurd (false≢true (sym (or_parts (is_eq (R y x)) (is_member R ys x) h).0 ∙ ap is_eq e))
       go Greater e more =
           let a = ap (λ q. sum_by f (put_at q y ys x (put_in R ys x))) e in
           a ∙ sum_by-cons f x (y ∷ ys)

@@ -3,7 +3,7 @@ use Rattle.std.proofs.Common.{◌≡◌, ◌∙◌, ℕ, ◌+◌, Bool, true, fa
 use Rattle.std.specs.Prelude.{sum_by}
 use Rattle.std.specs.List.{list_any, list_all}
 use Rattle.std.specs.Ordering.{is_eq, is_lt, ordering_then}
-use Rattle.std.proofs.lemmas.Bool.{cases_Bool, and_parts, and_from, or_left, or_right, or_cases, false≢true, cond-true}
+use Rattle.std.proofs.lemmas.Bool.{cases_Bool, and_parts, and_from, or_left, or_right, or_cases, false≢true, cond-true, or_parts}
 use Rattle.std.proofs.lemmas.List.{length-map}
 use Rattle.std.proofs.lemmas.List.Sums.{sum_by-cons}
 use Rattle.bdb_base.specs.Order.{path_cmp, sign_cmp, tuple_cmp, statement_cmp}
@@ -60,15 +60,11 @@ no_ones : (p : List ℕ) (ws : List (List ℕ)) → is_member path_cmp ws p ≡ 
 unfolding is_one
 no_ones p [] h = refl
 no_ones p (w ∷ ws) h =
-    let k = neither (is_eq (path_cmp w p)) (is_member path_cmp ws p) h in
+    let k = or_parts (is_eq (path_cmp w p)) (is_member path_cmp ws p) h in
     let a = sum_by-cons (is_one p) w ws in
     let b : is_one p w ≡ 0 = ap (λ c. cond c 1 0) (sym (turned w p) ∙ k.0) in
     let c = no_ones p ws k.1 in
     omega arith
-  where
-    neither : (a b : Bool) → (a || b) ≡ false → (a ≡ false) × (b ≡ false)
-    neither true b e = absurd (false≢true (sym e))
-    neither false b e = (refl, e)
 
 one_one : (p : List ℕ) (ws : List (List ℕ)) → AreApart path_cmp ws → is_member path_cmp ws p ≡ true → sum_by (is_one p) ws ≡ 1
 unfolding is_one

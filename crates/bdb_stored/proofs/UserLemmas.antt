@@ -2,7 +2,7 @@
 use Rattle.std.proofs.Common.{◌≡◌, ◌∙◌, ℕ, suc, ◌+◌, ◌<◌, ◌≤◌, Bool, true, false, ◌||◌, ◌&&◌, nat_eq, nat_lt, nat_le, List, [], ◌∷◌, length, map, filter, Option, is_some, refl, ap, sym, inl, inr, arith}
 use Prim.Native.Nat.{zero}
 use Rattle.std.specs.List.{AllByRecursion, list_all, slice_get}
-use Rattle.std.specs.Ordering.{is_eq, is_lt, nat_cmp}
+use Rattle.std.specs.Ordering.{is_lt, nat_cmp}
 use Rattle.std.specs.declared.cmp.Ordering.TheVariants.{Equal}
 use Rattle.std.proofs.lemmas.Bool.{cases_Bool, cases_lt, and_parts, and_from, or_left, or_right, or_cases, false≢true, cond-true, cond-false, eq-eqb, eqb-true, leb-true, ltb-true, lt-ltb}
 use Rattle.std.proofs.lemmas.Bool.Decides.{nat_tests}
@@ -19,7 +19,7 @@ use Rattle.bdb_base.proofs.ListLemmas.{filter_dropped_one, filter_kept_one, leng
 use Rattle.bdb_base.proofs.SetLemmas.{filter_keeps_order, members_make_set}
 use Rattle.bdb_base.proofs.UserLemmas.{numbers_are_live, user_above, user_within}
 use Rattle.bdb_base.proofs.BoolLemmas.{same_tests}
-use Rattle.bdb_base.proofs.Numbers.{less_number}
+use Rattle.bdb_base.proofs.Numbers.{less_number, eq_turned}
 use Rattle.bdb_keep.specs.Tables.{Tables}
 use Rattle.bdb_tables.specs.InUse.{user_codec}
 use Rattle.bdb_tables.specs.InUseLaws.{numbers_in_order, slot_rows_are_one}
@@ -110,10 +110,7 @@ few_numbers us =
 
 member_is_listed : (ks : List ℕ) (n : ℕ) → is_member nat_cmp ks n ≡ is_listed n ks
 member_is_listed [] n = refl
-member_is_listed (k ∷ ks) n = ap (λ b. b || is_member nat_cmp ks n) (turned k n) ∙ ap (λ b. nat_eq n k || b) (member_is_listed ks n)
-  where
-    turned : (a c : ℕ) → is_eq (nat_cmp a c) ≡ nat_eq c a
-    turned a c = grind (arith, nat_tests)
+member_is_listed (k ∷ ks) n = ap (λ b. b || is_member nat_cmp ks n) (eq_turned k n) ∙ ap (λ b. nat_eq n k || b) (member_is_listed ks n)
 
 abbrev keys : List (ℕ × UserSlot) → List ℕ
 keys es = map (λ (e : ℕ × UserSlot). e.0) es

@@ -15,6 +15,7 @@ use Rattle.bdb_base.proofs.BaseLemmas.{filter_is_valid}
 use Rattle.bdb_base.proofs.ListLemmas.{or_move, filter_dropped_one}
 use Rattle.bdb_base.proofs.SetLemmas.{is_eq-Equal, is_eq_itself, members_make_set, put_keeps_order, filter_keeps_order, put_adds_member, set_is_ascending, set_keeps_members}
 use Rattle.bdb_base.proofs.UpdateLemmas.{with_keeps_order, without_keeps_order, stands_without}
+use Rattle.bdb_base.proofs.BoolLemmas.{or_true}
 use Rattle.bdb_undo.specs.Changes.{missing_from}
 use Rattle.bdb_undo.specs.ChangeLaws.{FewerAreValid}
 
@@ -94,10 +95,6 @@ fewer_are_valid c stmts fewer v g among =
 pub fewer_before : (c : Catalog) (stmts xs : List Stmt) → ascending statement_cmp stmts ≡ true → IsValid c (with_statements stmts xs) → IsValid c stmts
 fewer_before c stmts xs h v = fewer_are_valid c (with_statements stmts xs) stmts v h
     (λ z k. stands_with stmts xs z ∙ ap (λ b. stands xs z || b) k ∙ or_true (stands xs z))
-  where
-    or_true : (a : Bool) → (a || true) ≡ true
-    or_true true = refl
-    or_true false = refl
 
 -- what is left of a list is valid where the next list is
 pub left_is_valid_after : (c : Catalog) (stmts next : List Stmt) → ascending statement_cmp stmts ≡ true → IsValid c next

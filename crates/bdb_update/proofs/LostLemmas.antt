@@ -20,7 +20,7 @@ use Rattle.bdb_base.proofs.ClashLemmas.{same_tuple_turned}
 use Rattle.bdb_base.proofs.SegmentLemmas.{differs_by_length}
 use Rattle.bdb_base.proofs.SetLemmas.{list_any-put_in}
 use Rattle.bdb_base.proofs.WorldLemmas.{nothing_stands, plain_inheritance, worlds_are_consistent}
-use Rattle.bdb_base.proofs.OptionLemmas.{some_of}
+use Rattle.bdb_base.proofs.OptionLemmas.{some_of, one_there}
 use Rattle.bdb_keep.specs.Tables.{Tables}
 use Rattle.bdb_paths.proofs.StateLemmas.{put_makes_states}
 use Rattle.bdb_tables.specs.Codec.{place}
@@ -130,9 +130,6 @@ module _ (keys : ℕ → ℕ) where
   some_none : {X : Type 0} (v : X) → Some v ≡ None → ⊥
   some_none v e = cc
 
-  same_some : {X : Type 0} (v w : X) (o : Option X) → o ≡ Some v → o ≡ Some w → v ≡ w
-  same_some v w o a b = cc
-
   none_is : {X : Type 0} (bytes : X → List ℕ) (o : Option X) → option_map bytes o ≡ None → o ≡ None
   none_is bytes None e = refl
   none_is bytes (Some v) e = absurd (some_none (bytes v) e)
@@ -200,9 +197,9 @@ module _ (keys : ℕ → ℕ) where
 
     pub rival_rows_are_one : (p q : List ℕ) → IsRivalRow p → IsRivalRow q → p ≡ q
     rival_rows_are_one p q a b =
-        let worlds : a.key.0 ≡ b.key.0 = same_some a.key.0 b.key.0 (number_of s.all x.path) (s.all_names.named a.key.0 x.path a.world) (s.all_names.named b.key.0 x.path b.world) in
+        let worlds : a.key.0 ≡ b.key.0 = one_there a.key.0 b.key.0 (number_of s.all x.path) (s.all_names.named a.key.0 x.path a.world) (s.all_names.named b.key.0 x.path b.world) in
         let one : a.tuple ≡ b.tuple = rivals_are_one stmts x s.consistent a.tuple b.tuple a.plus b.plus a.like b.like in
-        let numbers : a.key.3 ≡ b.key.3 = same_some a.key.3 b.key.3 (s.tuples.number a.tuple) (s.held.named a.key.3 a.tuple a.named)
+        let numbers : a.key.3 ≡ b.key.3 = one_there a.key.3 b.key.3 (s.tuples.number a.tuple) (s.held.named a.key.3 a.tuple a.named)
         (ap s.tuples.number one ∙ s.held.named b.key.3 b.tuple b.named) in
         let same_key_made : a.key ≡ b.key = sym a.keyed ∙ ap (λ n. row_key keys n a.key.3 a.tuple) worlds ∙ ap (λ n. row_key keys b.key.0 n a.tuple) numbers ∙ ap (row_key keys b.key.0 b.key.3) one ∙ b.keyed in
         sym a.spelled ∙ ap (place val_codec) same_key_made ∙ b.spelled
@@ -214,7 +211,7 @@ module _ (keys : ℕ → ℕ) where
       -- its world is a new one
       not_before : (z : List ℕ) → path_of s.few k.0 ≡ Some z → ⊥
       not_before z a =
-          let same : w ≡ z = same_some w z (path_of s.all k.0) p (s.names_stay k.0 z a) in
+          let same : w ≡ z = one_there w z (path_of s.all k.0) p (s.names_stay k.0 z a) in
           let b = at_first k z y e a (s.tuples_stood k.3 y q) in
           let c = at_all k z y e (p ∙ ap Some same) q in
           false≢true (ap is_some (sym none ∙ b ∙ sym c) ∙ here)
@@ -223,7 +220,7 @@ module _ (keys : ℕ → ℕ) where
       no_state = false_from_ne_true (is_state stmts w) (λ a.
           let n = some_of (number_of s.few w) (s.few_are w ∙ a) in
           let b = s.few_names.numbered w n.0 n.1 in
-          let one : n.0 ≡ k.0 = same_some n.0 k.0 (number_of s.all w) (s.all_names.named n.0 w (s.names_stay n.0 w b)) (s.all_names.named k.0 w p) in
+          let one : n.0 ≡ k.0 = one_there n.0 k.0 (number_of s.all w) (s.all_names.named n.0 w (s.names_stay n.0 w b)) (s.all_names.named k.0 w p) in
           not_before w (ap (path_of s.few) (sym one) ∙ b))
 
       on_the_way : is_prefix w x.path ≡ true

@@ -23,10 +23,11 @@ use Rattle.bdb_base.specs.Worlds.{contradicted}
 use Rattle.bdb_base.proofs.BaseLemmas.{filter_is_valid, take_is_valid}
 use Rattle.bdb_base.proofs.ClashLemmas.{turned}
 use Rattle.bdb_base.proofs.CountLemmas.{list_any-map, distinct_count-le, distinct_count-same, one_unless}
-use Rattle.bdb_base.proofs.ListLemmas.{list_all_weaker, list_all_both, list_any_fails, filter_kept_one, filter_dropped_one, filter_same}
+use Rattle.bdb_base.proofs.ListLemmas.{list_all_weaker, list_all_both, list_any_fails, filter_kept_one, filter_dropped_one, filter_same, or_false}
 use Rattle.bdb_base.proofs.SetLemmas.{put_keeps_order, filter_keeps_order, members_make_set, is_eq-Equal}
 use Rattle.bdb_base.proofs.UpdateLemmas.{list_any-with, list_all-with, with_keeps_order, none_passes, is_free, is_free_at, is_free_elsewhere, free_everywhere, without_keeps_order}
 use Rattle.bdb_base.proofs.FindLemmas.{list_any-filter}
+use Rattle.bdb_base.proofs.BoolLemmas.{and_false, or_true}
 use Rattle.bdb_paths.proofs.StateLemmas.{state_is_listed}
 use Rattle.bdb_update.specs.Calls.{are_apart}
 use Rattle.bdb_update.specs.Reached.{told_elsewhere, lost_of, fresh_of}
@@ -189,10 +190,6 @@ module _ {X : Type 0} (same : X → X → Bool) (decides : (a b : X) → Decides
   -- an item is among those that pass a test where it passes and is among all
   any_kept : (q : X → Bool) (x : X) (xs : List X) → list_any (same x) (filter q xs) ≡ (q x && list_any (same x) xs)
   any_kept q x [] = sym (and_false (q x))
-    where
-      and_false : (b : Bool) → (b && false) ≡ false
-      and_false true = refl
-      and_false false = refl
   any_kept q x (y ∷ ys) = elim (cases_Bool (q y)) [
     | inl e ↦ ap (list_any (same x)) (filter_kept_one q y ys e) ∙ ap (λ b. same x y || b) (any_kept q x ys) ∙ elim (cases_Bool (same x y)) [
       | inl s ↦ ap (λ b. b || (q x && list_any (same x) ys)) s ∙ sym (ap (λ b. b && (same x y || list_any (same x) ys)) (ap q ((decides x y).0 s) ∙ e) ∙ ap (λ b. b || list_any (same x) ys) s)
@@ -226,14 +223,6 @@ module _ {X : Type 0} (same : X → X → Bool) (decides : (a b : X) → Decides
             ap one_unless (any_kept (not_in ys) x xs ∙ ap (λ z. not z && list_any (same x) xs) e) in
             omega arith
       ]
-    where
-      or_true : (b : Bool) → (b || true) ≡ true
-      or_true true = refl
-      or_true false = refl
-
-      or_false : (b : Bool) → (b || false) ≡ b
-      or_false true = refl
-      or_false false = refl
 
   -- each of two counts, with the others of the other, is that of both
   count_swapped : (xs ys : List X) → distinct_count same (filter (not_in ys) xs) + distinct_count same ys ≡ distinct_count same (filter (not_in xs) ys) + distinct_count same xs

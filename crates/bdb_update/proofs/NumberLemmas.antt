@@ -13,6 +13,7 @@ use Rattle.bdb_base.proofs.SetLemmas.{list_any-put_in}
 use Rattle.bdb_base.proofs.WorldLemmas.{stated_tuples_are_explicit}
 use Rattle.bdb_base.proofs.ClashLemmas.{same_tuple_turned}
 use Rattle.bdb_base.proofs.OptionLemmas.{same_some}
+use Rattle.bdb_base.proofs.BoolLemmas.{and_true, and_false}
 use Rattle.bdb_keep.specs.Tables.{Tables}
 use Rattle.bdb_key.specs.Grammar.{IsNum}
 use Rattle.bdb_key.specs.Rows.{IsTupleRow}
@@ -212,17 +213,9 @@ module _ (told less : List Stmt) (ts : Tuples) (t : Tables) (u : Tuple) (tid : �
 
   stated_less : (v : Tuple) → is_some (cond (same_tuple v u) None (ts.number v)) ≡ has_told less v
   stated_less v = elim (cases_Bool (same_tuple v u)) [
-    | inl a ↦ ap is_some (cond-true (same_tuple v u) None (ts.number v) a) ∙ sym (gone v ∙ ap (λ b. has_told told v && not b) a ∙ never (has_told told v))
-    | inr a ↦ ap is_some (cond-false (same_tuple v u) None (ts.number v) a) ∙ h.stated v ∙ sym (gone v ∙ ap (λ b. has_told told v && not b) a ∙ always (has_told told v))
+    | inl a ↦ ap is_some (cond-true (same_tuple v u) None (ts.number v) a) ∙ sym (gone v ∙ ap (λ b. has_told told v && not b) a ∙ and_false (has_told told v))
+    | inr a ↦ ap is_some (cond-false (same_tuple v u) None (ts.number v) a) ∙ h.stated v ∙ sym (gone v ∙ ap (λ b. has_told told v && not b) a ∙ and_true (has_told told v))
   ]
-    where
-      never : (b : Bool) → (b && false) ≡ false
-      never true = refl
-      never false = refl
-
-      always : (b : Bool) → (b && true) ≡ b
-      always true = refl
-      always false = refl
 
   tuple_is : IsTupleRow u
   tuple_is = subst (λ o. MatchOption o (Unit {0}) IsTupleRow) name (h.tuples.written tid (h.sized tid u name))
@@ -252,14 +245,6 @@ number_taken_stores reached told less ns ts t b u tid h name none gone =
 
 pub drop_leaves_tuples : DropLeavesTuples
 drop_leaves_tuples stmts x none v = elim (cases_Bool (same_tuple v x.tuple)) [
-  | inl a ↦ ap (has_told (without_statement stmts x)) ((same_tuple-Decides v x.tuple).0 a) ∙ none ∙ sym (ap (λ b. has_told stmts v && not b) a ∙ never (has_told stmts v))
-  | inr a ↦ drop_unfelt (λ z. same_tuple z.tuple v) stmts x (same_tuple_turned x.tuple v ∙ a) ∙ sym (ap (λ b. has_told stmts v && not b) a ∙ always (has_told stmts v))
+  | inl a ↦ ap (has_told (without_statement stmts x)) ((same_tuple-Decides v x.tuple).0 a) ∙ none ∙ sym (ap (λ b. has_told stmts v && not b) a ∙ and_false (has_told stmts v))
+  | inr a ↦ drop_unfelt (λ z. same_tuple z.tuple v) stmts x (same_tuple_turned x.tuple v ∙ a) ∙ sym (ap (λ b. has_told stmts v && not b) a ∙ and_true (has_told stmts v))
 ]
-  where
-    never : (b : Bool) → (b && false) ≡ false
-    never true = refl
-    never false = refl
-
-    always : (b : Bool) → (b && true) ≡ b
-    always true = refl
-    always false = refl

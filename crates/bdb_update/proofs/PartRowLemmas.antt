@@ -4,7 +4,7 @@ use Rattle.std.specs.List.{AllByRecursion}
 use Rattle.std.specs.Option.{option_map}
 use Rattle.std.specs.Ordering.{eq_by_cmp, is_eq}
 use Rattle.std.specs.FinMap as tables
-use Rattle.std.proofs.lemmas.Bool.{cases_Bool, and_parts, false≢true, false_from_ne_true, or_left, or_right, or_cases, cond-true, cond-false, eqb-true, not-true}
+use Rattle.std.proofs.lemmas.Bool.{cases_Bool, and_parts, false≢true, false_from_ne_true, or_left, or_right, or_cases, cond-true, cond-false, eqb-true, not-true, not-false}
 use Rattle.bdb_base.specs.Bases.{are_distinct}
 use Rattle.bdb_base.specs.Same.{same_text}
 use Rattle.bdb_base.specs.SameLemmas.{same_text-Decides}
@@ -130,10 +130,6 @@ one_row_less t k n c there =
     stays q e = vals_alike q (after q ∙ cond-false (eq_by_cmp bytes_cmp q (place val_codec k)) None (tables.get t q)
         (false_from_ne_true (eq_by_cmp bytes_cmp q (place val_codec k)) (λ c. false≢true (sym (not-true (same_text (place val_codec k) q) e) ∙ (same_text-Decides (place val_codec k) q).1 (sym (same_place q (place val_codec k) c))))))
 
-    not_false : (b : Bool) → not b ≡ false → b ≡ true
-    not_false true e = refl
-    not_false false e = absurd (false≢true (sym e))
-
     gone_at : (q : List ℕ) → q ≡ place val_codec k → tables.get (with_change val_codec t (k, None)) q ≡ None
     gone_at q e = after q ∙ cond-true (eq_by_cmp bytes_cmp q (place val_codec k)) None (tables.get t q) (ap is_eq (tied q (place val_codec k) e))
 
@@ -142,7 +138,7 @@ one_row_less t k n c there =
     none_there (n ∷ j) e = ap (λ o. cond (nat_eq n 11) o None) e ∙ none_either (nat_eq n 11)
 
     goes : (q : List ℕ) → not (same_text (place val_codec k) q) ≡ false → vals_at (with_change val_codec t (k, None)) q ≡ None
-    goes q e = none_there q (gone_at q (sym ((same_text-Decides (place val_codec k) q).0 (not_false (same_text (place val_codec k) q) e))))
+    goes q e = none_there q (gone_at q (sym ((same_text-Decides (place val_codec k) q).0 (not-false (same_text (place val_codec k) q) e))))
 
     old : (q : List ℕ) → vals_at t q ≡ None → vals_at (with_change val_codec t (k, None)) q ≡ None
     old q e = elim (cases_Bool (same_text (place val_codec k) q)) [

@@ -16,6 +16,7 @@ use Rattle.bdb_base.specs.declared.tuple.Tuple.{Tuple}
 use Rattle.bdb_base.proofs.WorldLemmas.{explicit_tuple, is_prefix_itself, valid_is_consistent, stands_is_explicit}
 use Rattle.bdb_base.proofs.OptionLemmas.{some_of}
 use Rattle.bdb_base.proofs.SegmentLemmas.{take_is_prefix, prefix_is_take, length-prefix}
+use Rattle.bdb_base.proofs.BoolLemmas.{and_false, and_true}
 use Rattle.bdb_keep.specs.Tables.{Tables}
 use Rattle.bdb_key.specs.Grammar.{IsNum}
 use Rattle.bdb_paths.proofs.StateLemmas.{states_have_prefixes}
@@ -327,14 +328,6 @@ module _ (t : Tables) (b : Contents) (x : Stmt) (h : HasParted t b x) (may : May
       ]
     ]
       where
-        and_true : (a : Bool) → (a && true) ≡ a
-        and_true true = refl
-        and_true false = refl
-
-        and_false : (a : Bool) → (a && false) ≡ false
-        and_false true = refl
-        and_false false = refl
-
         front_of_front : (k : ℕ) (w p : List ℕ) → is_prefix w p ≡ true → length w ≤ k → is_prefix w (take k p) ≡ true
         front_of_front k [] p e l = refl
         front_of_front k (i ∷ w) [] e l = absurd (false≢true e)

@@ -15,7 +15,7 @@ use Rattle.bdb_base.specs.Same.{same_path}
 use Rattle.bdb_base.specs.SortedSet.{ascending}
 use Rattle.bdb_base.specs.Worlds.{contradicted}
 use Rattle.bdb_base.proofs.BaseLemmas.{length-put_in}
-use Rattle.bdb_base.proofs.ListLemmas.{filter_kept_one, filter_dropped_one, list_any_same}
+use Rattle.bdb_base.proofs.ListLemmas.{filter_kept_one, filter_dropped_one, list_any_same, or_swap, or_false}
 use Rattle.bdb_base.proofs.SetLemmas.{list_any-put_in, put_keeps_order, filter_keeps_order, members_make_set, take_drops_member, take_keeps_order, put_adds_member, is_eq_itself, is_eq_turned}
 use Rattle.bdb_base.proofs.FindLemmas.{list_any-filter}
 use Rattle.bdb_base.proofs.UpdateLemmas.{without_keeps_order}
@@ -138,21 +138,12 @@ goes_first xs x gone e a =
 -- what is found among all is found among those left or those gone
 pub any_left : (p : Stmt → Bool) (xs gone : List Stmt) → ascending statement_cmp xs ≡ true → list_all (stands xs) gone ≡ true → are_apart gone ≡ true
     → list_any p xs ≡ (list_any p (without_statements xs gone) || list_any p gone)
-any_left p xs [] s e a = sym (or_none (list_any p xs))
-  where
-    or_none : (b : Bool) → (b || false) ≡ b
-    or_none true = refl
-    or_none false = refl
+any_left p xs [] s e a = sym (or_false (list_any p xs))
 any_left p xs (x ∷ gone) s e a =
     let k = goes_first xs x gone e a in
     sym (ap (list_any p) (put_back xs x s k.here)) ∙ list_any-put_in statement_exact p (without_statement xs x) x
     ∙ ap (λ b. p x || b) (any_left p (without_statement xs x) gone (take_keeps_order statement_exact xs x s) k.later k.apart)
-    ∙ moved (p x) (list_any p (without_statements (without_statement xs x) gone)) (list_any p gone)
-  where
-    moved : (a b c : Bool) → (a || (b || c)) ≡ (b || (a || c))
-    moved true true c = refl
-    moved true false c = refl
-    moved false b c = refl
+    ∙ or_swap (p x) (list_any p (without_statements (without_statement xs x) gone)) (list_any p gone)
 
 pub length_left : (xs gone : List Stmt) → ascending statement_cmp xs ≡ true → list_all (stands xs) gone ≡ true → are_apart gone ≡ true → length (without_statements xs gone) + length gone ≡ length xs
 length_left xs [] s e a = omega arith

@@ -9,7 +9,7 @@ use Rattle.bdb_base.specs.Changes.{with_statements, without_statements}
 use Rattle.bdb_base.specs.Laws.{ClashesAt}
 use Rattle.bdb_base.specs.Limits.{most_statements, most_tuples, most_worlds}
 use Rattle.bdb_base.specs.Order.{statement_cmp}
-use Rattle.bdb_base.specs.OrderLemmas.{statement_exact, is_eq_statement_cmp}
+use Rattle.bdb_base.specs.OrderLemmas.{statement_exact}
 use Rattle.bdb_base.specs.Same.{same_statement}
 use Rattle.bdb_base.specs.declared.kinds.Catalog.{Catalog}
 use Rattle.bdb_base.specs.declared.kinds.Stmt.{Stmt}
@@ -17,9 +17,9 @@ use Rattle.bdb_base.specs.declared.kinds.What.{What}
 use Rattle.bdb_base.specs.declared.kinds.What.TheVariants.{Worlds, Tuples, Statements}
 use Rattle.bdb_base.specs.Causes.{Rose}
 use Rattle.bdb_base.proofs.BaseLemmas.{take_is_valid}
-use Rattle.bdb_base.proofs.FirstLemmas.{statement_explicit}
+use Rattle.bdb_base.proofs.FirstLemmas.{statement_explicit, same_statement_itself}
 use Rattle.bdb_base.proofs.LeastLemmas.{least_clash_is_least}
-use Rattle.bdb_base.proofs.SetLemmas.{list_any-put_in, is_eq_itself, is_eq-Equal}
+use Rattle.bdb_base.proofs.SetLemmas.{list_any-put_in, is_eq-Equal}
 use Rattle.bdb_base.proofs.WorldLemmas.{valid_is_consistent}
 use Rattle.bdb_base.proofs.UpdateLemmas.{put_stands}
 use Rattle.bdb_canon.specs.Sizes.{counts_of}
@@ -152,13 +152,10 @@ pub no_clash : (b : Contents) (x least : Stmt) → IsValid b.catalog b.stmts →
 no_clash b x least v w e =
     let at : ClashesAt (key_lengths b.catalog.rels) b.stmts x.path x.tuple x.sign least = (least_clash_is_least (key_lengths b.catalog.rels) b.stmts v.stmts.sorted x.path x.tuple x.sign least e).0 in
     let next = with_statement b.stmts x in
-    let here : list_any (same_statement x) next ≡ true = list_any-put_in statement_exact (same_statement x) b.stmts x ∙ or_left (same_statement x x) (list_any (same_statement x) b.stmts) (itself x) in
+    let here : list_any (same_statement x) next ≡ true = list_any-put_in statement_exact (same_statement x) b.stmts x ∙ or_left (same_statement x x) (list_any (same_statement x) b.stmts) (same_statement_itself x) in
     let there : list_any (same_statement least) next ≡ true = list_any-put_in statement_exact (same_statement least) b.stmts x ∙ or_right (same_statement least x) (list_any (same_statement least) b.stmts) at.0 in
     let free = valid_is_consistent b.catalog next w x.path x.tuple least.tuple x.sign least.sign (statement_explicit next x.path x here refl) (statement_explicit next x.path least there at.1) in
     false≢true (sym free ∙ at.2)
-  where
-    itself : (x : Stmt) → same_statement x x ≡ true
-    itself x = sym (is_eq_statement_cmp x x) ∙ is_eq_itself statement_exact x
 
 -- a valid base passes no limit
 pub no_limit : (b : Contents) (what : What) → IsValid b.catalog b.stmts → size_passed (counts_of b) ≡ Some what → ⊥

@@ -5,7 +5,7 @@ use Rattle.std.specs.List.{AllByRecursion, list_all, flat_map}
 use Rattle.std.specs.Option.{option_map}
 use Rattle.std.specs.Ordering.{is_eq, is_lt}
 use Rattle.std.specs.FinMap as tables
-use Rattle.std.proofs.lemmas.Bool.{cases_Bool, and_parts, and_from, false≢true, false_from_ne_true, or_left, or_right, or_cases, cond-true, cond-false, eq-eqb, eqb-true, not-true, not_from_false}
+use Rattle.std.proofs.lemmas.Bool.{cases_Bool, and_parts, and_from, false≢true, false_from_ne_true, or_left, or_right, or_cases, cond-true, cond-false, eq-eqb, eqb-true, not-true, not_from_false, or_from}
 use Rattle.std.proofs.lemmas.List.{length-map}
 use Rattle.std.proofs.lemmas.List.Concat.{length-flat_map}
 use Rattle.std.proofs.lemmas.List.Folds.{list_any-append}
@@ -200,15 +200,12 @@ module _ (keys : ℕ → ℕ) where
         apart [] b l = refl
         apart (g ∷ gs) b l =
             let m = and_parts (is_lt (row_tuple_cmp h g)) (list_all (λ z. is_lt (row_tuple_cmp h z)) gs) l in
-            neither (same_text (at n h) (at n g)) (is_among (at n h) (map (at n) gs))
+            or_from (same_text (at n h) (at n g)) (is_among (at n h) (map (at n) gs))
             (false_from_ne_true (same_text (at n h) (at n g)) (λ e.
             let same = one_place n n w w h g p p a.0 b.0 ((same_text-Decides (at n h) (at n g)).0 e) in
             below_itself h.tuple (ap (λ u. is_lt (tuple_cmp h.tuple u)) same.1 ∙ m.0)))
             (apart gs b.1 m.1)
           where
-            neither : (x y : Bool) → x ≡ false → y ≡ false → (x || y) ≡ false
-            neither x y e f = ap (λ c. c || y) e ∙ f
-
             below_itself : (u : Tuple) → is_lt (tuple_cmp u u) ≡ true → ⊥
             below_itself u e = false≢true (sym (ap is_eq (is_lt-Less (tuple_cmp u u) e)) ∙ is_eq_itself tuple_exact u)
 
@@ -231,16 +228,13 @@ module _ (keys : ℕ → ℕ) where
     elsewhere n w h p a [] named out = refl
     elsewhere n w h p a (k ∷ ks) named out =
         among_append (at n h) (world_places k) (places ks)
-        ∙ neither (is_among (at n h) (world_places k)) (is_among (at n h) (places ks))
+        ∙ or_from (is_among (at n h) (world_places k)) (is_among (at n h) (places ks))
         (not_here (first_named k ks named).0 (first_named k ks named).1 (held_of k) (there k (first_named k ks named).0 (first_named k ks named).1))
         (elsewhere n w h p a ks (rest_named k ks named) (false_from_ne_true (is_listed n ks) (λ e. false≢true (sym out ∙ or_right (nat_eq n k) (is_listed n ks) e))))
       where
-        neither : (x y : Bool) → x ≡ false → y ≡ false → (x || y) ≡ false
-        neither x y e f = ap (λ c. c || y) e ∙ f
-
         not_here : (v : List ℕ) → path_of ns k ≡ Some v → (gs : List Held) → AllByRecursion (IsOfWorld v) gs → is_among (at n h) (map (at k) gs) ≡ false
         not_here v q [] b = refl
-        not_here v q (g ∷ gs) b = neither (same_text (at n h) (at k g)) (is_among (at n h) (map (at k) gs))
+        not_here v q (g ∷ gs) b = or_from (same_text (at n h) (at k g)) (is_among (at n h) (map (at k) gs))
             (false_from_ne_true (same_text (at n h) (at k g)) (λ e.
             let same = one_place n k w v h g p q a b.0 ((same_text-Decides (at n h) (at k g)).0 e) in
             false≢true (sym out ∙ or_left (nat_eq n k) (is_listed n ks) (eq-eqb n k same.0))))

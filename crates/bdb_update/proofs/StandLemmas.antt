@@ -21,6 +21,7 @@ use Rattle.bdb_base.proofs.WorldLemmas.{explicit_tuple, valid_is_consistent, sta
 use Rattle.bdb_base.proofs.OptionLemmas.{some_of}
 use Rattle.bdb_base.proofs.FindLemmas.{list_any-filter}
 use Rattle.bdb_base.proofs.ListLemmas.{list_any_same}
+use Rattle.bdb_base.proofs.BoolLemmas.{same_tests}
 use Rattle.bdb_keep.specs.Tables.{Tables}
 use Rattle.bdb_key.specs.Grammar.{IsNum}
 use Rattle.bdb_tables.specs.InUse.{ValKey}
@@ -177,12 +178,7 @@ module _ (t : Tables) (b : Contents) (ns : Names) (ts : Tuples) (stored : Stored
         out false (x ∷ xs) = out false xs
 
     both_stand : stands (with_statements [] (said_at w rows)) z ≡ stands (at_path w b.stmts) z
-    both_stand = list_any-with p [] (said_at w rows) ∙ ways (list_any p (said_at w rows)) (same_path z.path w && stands b.stmts z) (some_said rows said) all_said ∙ sym stands_at
-      where
-        ways : (a c : Bool) → (a ≡ true → c ≡ true) → (c ≡ true → a ≡ true) → a ≡ c
-        ways true c f g = sym (f refl)
-        ways false true f g = g refl
-        ways false false f g = refl
+    both_stand = list_any-with p [] (said_at w rows) ∙ same_tests (list_any p (said_at w rows)) (same_path z.path w && stands b.stmts z) (some_said rows said) all_said ∙ sym stands_at
 
   pub read_are_stated : ascending statement_cmp b.stmts ≡ true → with_statements [] (said_at w rows) ≡ at_path w b.stmts
   read_are_stated s = members_make_set statement_exact (with_statements [] (said_at w rows)) (at_path w b.stmts) (with_keeps_order [] (said_at w rows) refl)

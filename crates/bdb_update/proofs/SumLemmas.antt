@@ -3,7 +3,7 @@ use Rattle.std.proofs.Common.{◌≡◌, ◌∙◌, ℕ, ◌+◌, ◌*◌, ◌�
 use Rattle.std.specs.Prelude.{sum_by}
 use Rattle.std.specs.List.{AllByRecursion, list_all, flat_map}
 use Rattle.std.specs.Ordering.{is_eq, is_lt}
-use Rattle.std.proofs.lemmas.Bool.{cases_Bool, and_parts, and_from, false≢true, false_from_ne_true, or_left, or_right, or_cases, cond-true, cond-false, not-true, not_from_false, eq-eqb, eqb-true}
+use Rattle.std.proofs.lemmas.Bool.{cases_Bool, and_parts, and_from, false≢true, false_from_ne_true, or_left, or_right, or_cases, cond-true, cond-false, not-true, not_from_false, eq-eqb, eqb-true, or_from}
 use Rattle.std.proofs.lemmas.List.{length-map}
 use Rattle.std.proofs.lemmas.List.Concat.{length-flat_map}
 use Rattle.std.proofs.lemmas.List.Sums.{sum_by-cons}
@@ -151,11 +151,8 @@ ascending_distinct (x ∷ xs) e =
     absent [] l = refl
     absent (y ∷ ys) l =
         let m = and_parts (is_lt (path_cmp x y)) (list_all (λ z. is_lt (path_cmp x z)) ys) l in
-        neither (same_text x y) (is_among x ys) (false_from_ne_true (same_text x y) (λ s.
+        or_from (same_text x y) (is_among x ys) (false_from_ne_true (same_text x y) (λ s.
         false≢true (sym (ap is_eq (is_lt-Less (path_cmp x y) m.0)) ∙ is_eq_path_cmp x y ∙ s))) (absent ys m.1)
-      where
-        neither : (a b : Bool) → a ≡ false → b ≡ false → (a || b) ≡ false
-        neither a b f g = ap (λ c. c || b) f ∙ g
 
 module _ (keys : ℕ → ℕ) where
   -- ---- the rows of all states' worlds

@@ -4,7 +4,7 @@ use Rattle.std.specs.List.{list_any, list_all, AllByRecursion}
 use Rattle.std.specs.Option.{option_map}
 use Rattle.std.specs.Ordering.{is_lt, is_eq, eq_by_cmp}
 use Rattle.std.specs.FinMap as tables
-use Rattle.std.proofs.lemmas.Bool.{false≢true, cases_Bool, and_parts, and_from, or_from, not_from_false, false_from_ne_true, cond-true}
+use Rattle.std.proofs.lemmas.Bool.{false≢true, cases_Bool, and_parts, and_from, or_from, not_from_false, false_from_ne_true, cond-true, or_right}
 use Rattle.bdb_base.specs.Bases.{are_distinct}
 use Rattle.bdb_base.specs.Causes.{Rises}
 use Rattle.bdb_base.specs.Same.{same_text}
@@ -152,12 +152,8 @@ members ps = go ps ps (λ q e. e)
     go [] all h = tt
     go (q ∷ qs) all h = (
       h q (ap (λ b. b || list_any (same_text q) qs) ((same_text-Decides q q).1 refl)),
-      go qs all (λ r e. h r (either (same_text r q) (list_any (same_text r) qs) e)),
+      go qs all (λ r e. h r (or_right (same_text r q) (list_any (same_text r) qs) e)),
     )
-      where
-        either : (a b : Bool) → b ≡ true → (a || b) ≡ true
-        either true b e = refl
-        either false b e = e
 
 -- ---- what the code owes
 

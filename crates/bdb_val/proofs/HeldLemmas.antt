@@ -13,7 +13,7 @@ use Rattle.bdb_base.specs.SameLemmas.{same_values-Decides, same_tuple-Decides}
 use Rattle.bdb_base.specs.States.{deepest_suffix, suffix_link}
 use Rattle.bdb_base.specs.Worlds.{explicit, stated, IsConsistent}
 use Rattle.bdb_base.proofs.WorldLemmas.{explicit_tuple, worlds_are_consistent, explicit_is_stated}
-use Rattle.bdb_base.proofs.OptionLemmas.{some_of}
+use Rattle.bdb_base.proofs.OptionLemmas.{some_of, none_and_some, one_there}
 use Rattle.bdb_paths.proofs.SuffixLemmas.{deepest_is_member}
 use Rattle.bdb_keep.specs.Tables.{Tables}
 use Rattle.bdb_tables.specs.InUse.{ValKey, IsValKey, val_codec}
@@ -82,15 +82,9 @@ module _ (keys : ℕ → ℕ) (stmts : List Stmt) (ns : Names) (tuple : ℕ → 
   row_is : (k : ValKey) → IsValKey k → f k ≡ row_for keys stmts (path_of ns) tuple k
   row_is k v = go (path_of ns k.0) (tuple k.3) refl refl
     where
-      none_some : {X : Type 0} (x : X) (o : Option X) → o ≡ None → o ≡ Some x → ⊥
-      none_some x o a b = cc
-
-      same_some : {X : Type 0} (x y : X) (o : Option X) → o ≡ Some x → o ≡ Some y → x ≡ y
-      same_some x y o a b = cc
-
       go : (p : Option (List ℕ)) (o : Option Tuple) → path_of ns k.0 ≡ p → tuple k.3 ≡ o → f k ≡ row_for keys stmts (path_of ns) tuple k
-      go None o a b = no_row k v (λ w u x y z. none_some w (path_of ns k.0) a x) ∙ sym (ap (λ p. row_named keys stmts k p (tuple k.3)) a)
-      go (Some w) None a b = no_row k v (λ w u x y z. none_some u (tuple k.3) b y)
+      go None o a b = no_row k v (λ w u x y z. none_and_some w (path_of ns k.0) a x) ∙ sym (ap (λ p. row_named keys stmts k p (tuple k.3)) a)
+      go (Some w) None a b = no_row k v (λ w u x y z. none_and_some u (tuple k.3) b y)
           ∙ sym (ap (λ p. row_named keys stmts k p (tuple k.3)) a ∙ ap (row_named keys stmts k (Some w)) b)
       go (Some w) (Some u) a b =
           let row : row_for keys stmts (path_of ns) tuple k ≡ cond (has_key keys k u) (mark_of keys stmts w u) None =
@@ -99,7 +93,7 @@ module _ (keys : ℕ → ℕ) (stmts : List Stmt) (ns : Names) (tuple : ℕ → 
             | inl e ↦
                 ap f (sym (row_of_key keys k u e)) ∙ held_row k.0 w k.3 u a b ∙ sym (cond-true (has_key keys k u) (mark_of keys stmts w u) None e) ∙ sym row
             | inr e ↦
-                no_row k v (λ w2 u2 x y z. false≢true (sym e ∙ key_of_row keys k u (ap (λ q. row_key keys k.0 k.3 q) (same_some u u2 (tuple k.3) b y) ∙ z)))
+                no_row k v (λ w2 u2 x y z. false≢true (sym e ∙ key_of_row keys k u (ap (λ q. row_key keys k.0 k.3 q) (one_there u u2 (tuple k.3) b y) ∙ z)))
                 ∙ sym (cond-false (has_key keys k u) (mark_of keys stmts w u) None e) ∙ sym row
           ]
 

@@ -26,6 +26,7 @@ use Rattle.bdb_base.proofs.WorldLemmas.{worlds_are_consistent, stated_tuples_are
 use Rattle.bdb_base.proofs.WorldRowsLemmas.{same_row_tells, same_row_from, rows_are_the_world, tuples_stand_once}
 use Rattle.bdb_base.proofs.SetLemmas.{is_lt-Less}
 use Rattle.bdb_base.proofs.OptionLemmas.{some_of, none_and_some, one_there}
+use Rattle.bdb_base.proofs.BoolLemmas.{same_tests}
 use Rattle.bdb_keep.specs.Tables.{Tables}
 use Rattle.bdb_key.specs.Grammar.{IsNum}
 use Rattle.bdb_tables.specs.InUse.{ValKey}
@@ -282,11 +283,6 @@ module _ (keys : ℕ → ℕ) (stmts : List Stmt) (ns : Names) (ts : Tuples) (t 
             (go ys a.1 tid q (sym (cond-false (nat_eq y.tid tid) (Some y.mark) (mark_in ys tid) c) ∙ k))
       ]
 
-  same_bits : (a b : Bool) → (a ≡ true → b ≡ true) → (b ≡ true → a ≡ true) → a ≡ b
-  same_bits true b p q = sym (p refl)
-  same_bits false true p q = absurd (false≢true (q refl))
-  same_bits false false p q = refl
-
   -- rows that are read, in order, are the world
   pub ordered_is_world : (held : List Held) → AreInOrder xs held → held ≡ world_of keys stmts w
   ordered_is_world held o =
@@ -298,7 +294,7 @@ module _ (keys : ℕ → ℕ) (stmts : List Stmt) (ns : Names) (ts : Tuples) (t 
       omega (arith, e, le)))
       (tuples_stand_once keys stmts consistent w)
       (λ g. sym (list_any-IsPermutation (same_row g) (map held_row xs) held o.moved) ∙ has_mapped xs g
-      ∙ same_bits (list_any (λ x. same_row g (held_row x)) xs) (has_row (world_of keys stmts w) g)
+      ∙ same_tests (list_any (λ x. same_row g (held_row x)) xs) (has_row (world_of keys stmts w) g)
       (read_are_rows xs named (mark_of_each xs xs (λ _ _ k. k) apart) g) (row_is_read g))
 
 -- what is read of a world, in order, are the rows of the world of its path

@@ -11,6 +11,7 @@ use Rattle.bdb_base.specs.Segments.{is_suffix}
 use Rattle.bdb_base.specs.States.{edge_target}
 use Rattle.bdb_base.proofs.OptionLemmas.{some_of}
 use Rattle.bdb_base.proofs.Numbers.{differs_turned}
+use Rattle.bdb_base.proofs.BoolLemmas.{and_true}
 use Rattle.bdb_keep.specs.Seen.{Seen}
 use Rattle.bdb_keep.specs.Tables.{Tables}
 use Rattle.bdb_key.specs.Grammar.{IsNum}
@@ -190,7 +191,7 @@ module _ (t u : Tables) (uid low : ℕ) (user_fits : IsNum uid) (so_far : UserDr
         elim (cases_Bool (nat_eq q.1 uid)) [
           | inl same ↦
               ap (λ b. cond (nat_eq q.0 wid && b) nothing (cond (b && nat_lt q.0 low) nothing edge)) same
-              ∙ ap (λ b. cond b nothing (cond (nat_lt q.0 low) nothing edge)) (and_one (nat_eq q.0 wid))
+              ∙ ap (λ b. cond b nothing (cond (nat_lt q.0 low) nothing edge)) (and_true (nat_eq q.0 wid))
               ∙ ap (λ j. cond (nat_eq q.0 wid) nothing (cond (nat_lt q.0 low) nothing (edge_of s.users s.names (q.0, j)))) (eqb-true q.1 uid same)
               ∙ at_user s h q.0
               ∙ ap (λ j. cond (nat_lt q.0 high) nothing (edge_of s.users s.names (q.0, j))) (sym (eqb-true q.1 uid same))
@@ -200,10 +201,6 @@ module _ (t u : Tables) (uid low : ℕ) (user_fits : IsNum uid) (so_far : UserDr
               ∙ ap (λ b. cond b nothing edge) (and_right (nat_eq q.0 wid) false refl)
               ∙ sym (ap (λ b. cond (b && nat_lt q.0 high) nothing edge) other)
         ]
-      where
-        and_one : (b : Bool) → (b && true) ≡ b
-        and_one true = refl
-        and_one false = refl
 
     module _ (mid now : Seen) (same : mid.kept ≡ u) (d : DropsEdge mid now (wid, uid)) where
       -- what was found is the edge of the world
