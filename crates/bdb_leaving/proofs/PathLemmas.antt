@@ -27,12 +27,13 @@ use Rattle.bdb_tables.specs.InUseLaws.{numbers_in_order, number_rows_are_one}
 use Rattle.bdb_tables.specs.Names.{Names, path_of, depth_of}
 use Rattle.bdb_tables.specs.Spans.{AreUnder}
 use Rattle.bdb_tables.specs.States.{HoldsStates, IsNamed}
+use Rattle.bdb_tables.proofs.UsedLemmas.{AllNamed, rest_named, first_named}
 use Rattle.bdb_stored.specs.Items.{items_of}
 use Rattle.bdb_catalog.specs.Bases.{StoresSome, StoresValid}
 use Rattle.bdb_stored.specs.Worlds.{TellsStates, named_world}
 use Rattle.bdb_stored.specs.declared.named.NamedWorld.{NamedWorld}
 use Rattle.bdb_stored.proofs.CountingLemmas.{numbers_of, one_path, paths_are_states, wids_named, wids_once}
-use Rattle.bdb_stored.proofs.ItemLemmas.{AllNamed, AreApart, first_named, items_apart, items_cons, rest_named}
+use Rattle.bdb_stored.proofs.ItemLemmas.{AreApart, items_apart, items_cons}
 use Rattle.bdb_stored.proofs.KeyLemmas.{rows_are_items}
 use Rattle.bdb_leaving.specs.Paths.{AreInOrder, HasPath, HavePaths, IsDeep, is_before, path_lengths}
 

@@ -3,7 +3,7 @@ use Rattle.std.proofs.Common.{◌≡◌, ◌∙◌, ℕ, suc, ◌+◌, ◌<◌, 
 use Prim.Native.Nat.{zero}
 use Rattle.std.specs.List.{slice_get}
 use Rattle.std.specs.Option.{option_map, option_and_then}
-use Rattle.std.proofs.lemmas.Bool.{false≢true, cases_Bool, cond-false, or_cases, and_parts, eqb-true, ltb-true, not-true, or_parts}
+use Rattle.std.proofs.lemmas.Bool.{false≢true, cases_Bool, cond-false, or_cases, and_parts, eqb-true, ltb-true, not-true, or_parts, or_right}
 use Rattle.std.proofs.lemmas.Bool.Decides.{Decides-eqb, nat_tests}
 use Rattle.bdb_base.specs.declared.kinds.Operand.{Operand}
 use Rattle.bdb_base.specs.declared.kinds.Operand.TheVariants.{Col, Lit}
@@ -14,7 +14,6 @@ use Rattle.bdb_base.specs.declared.kinds.Who.TheVariants.{User, Of}
 use Rattle.bdb_base.specs.declared.tuple.Tuple.{Tuple}
 use Rattle.bdb_base.specs.Same.{tuple_of}
 use Rattle.bdb_base.proofs.Numbers.{differs_turned}
-use Rattle.bdb_base.proofs.BoolLemmas.{or_true}
 use Rattle.bdb_queries.specs.Slots.{slot_at, known, known_operand, uid_of}
 use Rattle.bdb_queries.proofs.RangeLemmas.{and_then_some}
 use Rattle.bdb_plan.specs.Fitness.{Placed, is_among, is_bound, has_bound, was_bound, is_known, is_set, operand_is_set, who_is_set, is_new, comes_next, is_whole, at_width}
@@ -173,18 +172,19 @@ new_stands n items o slots item t s new = record {
         let other = differs_turned item b.0 e in
         (u, slot_other slots item b.0 t other ∙ is, long, ap (λ x. x || is_among items b.0) other ∙ apart, within)
 
+-- what is among the items is among one more
+listed_later : (items : List ℕ) (item i : ℕ) → is_among items i ≡ true → is_among (item ∷ items) i ≡ true
+listed_later items item i k = or_right (nat_eq i item) (is_among items i) k
+
 pub new_below : (n : ℕ) (items : List ℕ) (o : Option (ℕ × ℕ)) (slots zs : List (Option Tuple)) (item : ℕ) (t : Tuple) → Stands n items o slots → IsNew n items o item → Above (item ∷ items) o (slice_set slots item (Some t)) zs
     → Above items o slots zs × (slot_at zs item ≡ Some t)
 new_below n items o slots zs item t s new a =
     let within : item < length slots = subst (λ k. item < k) (sym s.long) new.within in
     let itself : is_among (item ∷ items) item ≡ true = ap (λ b. b || is_among items item) ((Decides-eqb item item).1 refl) in (
-      record { chosen = λ i k. a.chosen i (later i k) ∙ slot_other slots item i t (not_among items i item new.apart k); bound = by o a.bound new.unbound },
+      record { chosen = λ i k. a.chosen i (listed_later items item i k) ∙ slot_other slots item i t (not_among items i item new.apart k); bound = by o a.bound new.unbound },
       a.chosen item itself ∙ slot_set slots item t within,
     )
   where
-    later : (i : ℕ) → is_among items i ≡ true → is_among (item ∷ items) i ≡ true
-    later i k = ap (λ b. nat_eq i item || b) k ∙ or_true (nat_eq i item)
-
     by : (o : Option (ℕ × ℕ)) → BoundAbove (slice_set slots item (Some t)) zs o → is_bound o item ≡ false → BoundAbove slots zs o
     by None h e = tt
     by (Some b) (u, v, rest, is, up, vals) e = (u, v, rest, sym (slot_other slots item b.0 t (differs_turned item b.0 e)) ∙ is, up, vals)
@@ -357,14 +357,11 @@ whole_below n items o slots zs item rel size w s a =
     let itself : is_among (item ∷ items) item ≡ true = ap (λ b. b || is_among items item) ((Decides-eqb item item).1 refl) in
     let up : slot_at zs item ≡ Some u = a.chosen item itself ∙ slot_set slots item u (subst (λ k. item < k) (sym s.long) w.within) in (
       record {
-        chosen = λ i k. a.chosen i (later i k) ∙ slot_other slots item i u (not_among items i item w.apart k);
+        chosen = λ i k. a.chosen i (listed_later items item i k) ∙ slot_other slots item i u (not_among items i item w.apart k);
         bound = subst (BoundAbove slots zs) (sym w.is) (w.tuple, u, [], w.there, up, sym (append_none w.tuple.vals));
       },
       up,
     )
-  where
-    later : (i : ℕ) → is_among items i ≡ true → is_among (item ∷ items) i ≡ true
-    later i k = ap (λ b. nat_eq i item || b) k ∙ or_true (nat_eq i item)
 
 pub whole_above : (n : ℕ) (items : List ℕ) (o : Option (ℕ × ℕ)) (slots zs : List (Option Tuple)) (item rel size : ℕ) (w : IsWhole n items o slots item size) (u : Tuple) → Stands n items o slots → Above items o slots zs
     → slot_at zs item ≡ Some u → u.rel ≡ rel → length u.vals ≡ size → (u ≡ tuple_of rel w.tuple.vals) × Above (item ∷ items) None (slice_set slots item (Some (tuple_of rel w.tuple.vals))) zs

@@ -23,7 +23,7 @@ use Rattle.bdb_session.specs.declared.event.Event.TheVariants.{Piece}
 use Rattle.bdb_session.specs.declared.reply.Reply.{Reply}
 use Rattle.bdb_session.specs.declared.stop.StopError.{StopError}
 use Rattle.bdb_session.specs.declared.stop.StopError.TheVariants.{Fault}
-use Rattle.bdb_session.proofs.ServedLemmas.{still_agrees}
+use Rattle.bdb_session.proofs.ServedLemmas.{still_agrees, ends_well}
 use Rattle.bdb_session.proofs.WithinLemmas.{cause_later, dropped_is_still, dropped_is_unchanged}
 use Rattle.bdb_session.proofs.BatchLists.{negated, negated_false}
 
@@ -224,13 +224,7 @@ module _ (es : List Event) (before learns : Known) (old run mid new : Seen) (sti
                 alone = λ f. absurd (false≢true (sym f ∙ all));
                 known = λ f. absurd (false≢true (sym f ∙ all));
               };
-          ends = record {
-            same = tt;
-            still = record { stopped = c.stopped; rest = c.kept ∙ sym c.last };
-            never_fall = fall;
-            cause = record { later = fall.faults; rose = λ e. absurd cc };
-            err = tt;
-          };
+          ends = ends_well before now old new q (record { stopped = c.stopped; rest = c.kept ∙ sym c.last }) fall;
         }
     kept_batch now (Err stop) done k =
         let c = k.commit in
@@ -261,13 +255,7 @@ module _ (es : List Event) (before learns : Known) (old run mid new : Seen) (sti
                 alone = λ _. unchanged;
                 known = λ _. k.same;
               };
-          ends = record {
-            same = tt;
-            still = record { stopped = d.stopped; rest = d.undone ∙ sym d.last };
-            never_fall = fall;
-            cause = record { later = fall.faults; rose = λ e. absurd cc };
-            err = tt;
-          };
+          ends = ends_well before now old new told (record { stopped = d.stopped; rest = d.undone ∙ sym d.last }) fall;
         } in
         subst (λ (x : Result BatchReply StopError). ServesBatch es before now old new x) (sym k.reply) ended
 

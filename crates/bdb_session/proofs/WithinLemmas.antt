@@ -19,7 +19,7 @@ use Rattle.bdb_session.specs.Known.{Known, Agrees, AgreesOnSome}
 use Rattle.bdb_session.specs.Outcome.{State, Outcome, Blank, Refused, Done, text_of, is_accepted, state_after, commit_count}
 use Rattle.bdb_session.specs.Served.{IsReply, Serves}
 use Rattle.bdb_session.specs.Within.{IsToldWithin, TellsWithin, IsSaid, IsKept, IsUndone, Settles}
-use Rattle.bdb_session.proofs.ServedLemmas.{still_agrees, stop_serves}
+use Rattle.bdb_session.proofs.ServedLemmas.{still_agrees, stop_serves, ends_well}
 
 -- ---- what is told of a step
 
@@ -188,13 +188,7 @@ module _ (outcome : State → Outcome) (sure : (s : State) → is_accepted (outc
               commits = subst (λ n. Rises n old.commits new.commits) (sym once) (rises_once old.commits mid.commits new.commits from.1 c.commits);
               alone = λ none. absurd (omega arith);
             };
-        ends = record {
-          same = tt;
-          still = record { stopped = c.stopped; rest = c.kept ∙ sym c.last };
-          never_fall = counts_then old mid new (counts_then old run mid began.counts t.changing.counts) c.counts;
-          cause = record { later = (counts_then old mid new (counts_then old run mid began.counts t.changing.counts) c.counts).faults; rose = λ e. absurd cc };
-          err = tt;
-        };
+        ends = ends_well before now old new q (record { stopped = c.stopped; rest = c.kept ∙ sym c.last }) (counts_then old mid new (counts_then old run mid began.counts t.changing.counts) c.counts);
       }
 
   step_lost : (r : Reply) (now : Known) (stop : StopError) → TellsWithin outcome before learns run mid (Ok r) → IsKept learns r before now mid new (Err stop)
@@ -227,13 +221,7 @@ module _ (outcome : State → Outcome) (sure : (s : State) → is_accepted (outc
               commits = subst (λ n. Rises n old.commits new.commits) (sym stays.1) (λ k. let e = unchanged.commits in omega arith);
               alone = λ none. unchanged;
             };
-        ends = record {
-          same = tt;
-          still = record { stopped = d.stopped; rest = d.undone ∙ sym d.last };
-          never_fall = fall;
-          cause = record { later = fall.faults; rose = λ e. absurd cc };
-          err = tt;
-        };
+        ends = ends_well before before old new r (record { stopped = d.stopped; rest = d.undone ∙ sym d.last }) fall;
       }
 
   pub step_serves : (r : Reply) (now : Known) (result : Result Reply StopError) → TellsWithin outcome before learns run mid (Ok r) → Settles learns r before now mid new result

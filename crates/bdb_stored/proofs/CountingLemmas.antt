@@ -33,6 +33,7 @@ use Rattle.bdb_tables.specs.Names.{Names, AreNames, path_of, number_of, is_named
 use Rattle.bdb_tables.specs.Rows.{Tuples}
 use Rattle.bdb_tables.specs.Spans.{AreUnder}
 use Rattle.bdb_tables.specs.Stored.{StoredAs}
+use Rattle.bdb_tables.proofs.UsedLemmas.{AllNamed, rest_named, first_named}
 use Rattle.bdb_update.proofs.KeyLemmas.{lengths_fit}
 use Rattle.bdb_update.proofs.StageLemmas.{over_has_tuples}
 use Rattle.bdb_update.proofs.SumLemmas.{sum_of_states, rows_are_few}
@@ -44,7 +45,7 @@ use Rattle.bdb_stored.specs.Counting.{AreWorlds, CountsRows, TellsCounts, explic
 use Rattle.bdb_stored.specs.Items.{items_of}
 use Rattle.bdb_catalog.specs.Bases.{StoresSome, StoresValid}
 use Rattle.bdb_catalog.specs.Opening.{IsPartOf}
-use Rattle.bdb_stored.proofs.ItemLemmas.{AllNamed, ascending_apart, first_named, items_apart, items_cons, items_make_set, items_many, rest_named, sum_ones, sum_sorted}
+use Rattle.bdb_stored.proofs.ItemLemmas.{ascending_apart, items_apart, items_cons, items_make_set, items_many, sum_ones, sum_sorted}
 use Rattle.bdb_stored.proofs.KeyLemmas.{numbers_are, numbers_once, rows_are_items}
 use Rattle.bdb_stored.proofs.PathSums.{at_path, explicit_are_statements, paths_are_members, sum_of_paths}
 
@@ -236,6 +237,15 @@ pub record AreRead (t : Tables) (es : List (ℕ × ℕ)) (ds : List (ℕ × Tupl
   pub worlds : AreUnder depth_codec t [] es
   pub tuples : AreUnder tuple_codec t [] ds
   pub counts : CountsRows t es stmts rows
+
+-- they are read one after the other, and nothing changes in between
+pub read_in_turn : (t u v : Tables) (es lent : List (ℕ × ℕ)) (ds : List (ℕ × Tuple)) (stmts rows : ℕ) → u ≡ t → v ≡ u → lent ≡ es
+    → AreUnder depth_codec t [] es → AreUnder tuple_codec u [] ds → CountsRows v lent stmts rows → AreRead t es ds stmts rows
+read_in_turn t u v es lent ds stmts rows first second value worlds tuples counts = record {
+  worlds = worlds;
+  tuples = subst (λ (x : Tables). AreUnder tuple_codec x [] ds) first tuples;
+  counts = subst (λ xs. CountsRows t xs stmts rows) value (subst (λ (x : Tables). CountsRows x lent stmts rows) (second ∙ first) counts);
+}
 
 module _ (t : Tables) (es : List (ℕ × ℕ)) (ds : List (ℕ × Tuple)) (stmts rows : ℕ) (r : AreRead t es ds stmts rows) where
   pub sizes_told : TellsCounts t (record { worlds = length es; tuples = length ds; stmts = stmts; rows = rows })

@@ -10,8 +10,8 @@ use Rattle.std.proofs.lemmas.List.Sums.{sum_by-cons}
 use Rattle.bdb_base.specs.SortedSet.{IsExactOrder, ascending, is_member, put_at, put_in, sorted_set}
 use Rattle.bdb_base.proofs.SetLemmas.{is_eq-Equal, is_eq_itself, absent_above, set_is_ascending, set_keeps_members, members_make_set}
 use Rattle.bdb_base.proofs.BoolLemmas.{same_tests}
-use Rattle.bdb_base.proofs.OptionLemmas.{some_of}
 use Rattle.bdb_tables.specs.Names.{is_listed, are_once}
+use Rattle.bdb_tables.proofs.UsedLemmas.{AllNamed, rest_named, first_named}
 use Rattle.bdb_stored.specs.Items.{with_item, items_of}
 
 -- ---- sums over sets
@@ -59,24 +59,15 @@ sum_ones (x ∷ xs) = let a = sum_by-cons (λ y. 1) x xs in let b = sum_ones xs 
 
 -- ---- items by number
 
-abbrev pub AllNamed : {X : Type 0} → (ℕ → Option X) → List ℕ → Type 0
-AllNamed name ks = (k : ℕ) → is_listed k ks ≡ true → is_some (name k) ≡ true
-
 module _ {X : Type 0} (name : ℕ → Option X) where
-  pub rest_named : (k : ℕ) (ks : List ℕ) → AllNamed name (k ∷ ks) → AllNamed name ks
-  rest_named k ks h j e = h j (or_right (nat_eq j k) (is_listed j ks) e)
-
-  pub first_named : (k : ℕ) (ks : List ℕ) → AllNamed name (k ∷ ks) → (x : X) × (name k ≡ Some x)
-  first_named k ks h = some_of (name k) (h k (or_left (nat_eq k k) (is_listed k ks) (eq-eqb k k refl)))
-
   pub items_cons : (k : ℕ) (ks : List ℕ) (x : X) → name k ≡ Some x → items_of name (k ∷ ks) ≡ x ∷ items_of name ks
   items_cons k ks x e = ap (λ (z : Option X). with_item z (items_of name ks)) e
 
   pub items_many : (ks : List ℕ) → AllNamed name ks → length (items_of name ks) ≡ length ks
   items_many [] h = refl
   items_many (k ∷ ks) h =
-      let x = first_named k ks h in
-      ap (λ (zs : List X). length zs) (items_cons k ks x.0 x.1) ∙ ap suc (items_many ks (rest_named k ks h))
+      let x = first_named name k ks h in
+      ap (λ (zs : List X). length zs) (items_cons k ks x.0 x.1) ∙ ap suc (items_many ks (rest_named name k ks h))
 
 module _ {X : Type 0} {R : X → X → Ordering} (o : IsExactOrder R) (name : ℕ → Option X) (one : (j k : ℕ) (x : X) → name j ≡ Some x → name k ≡ Some x → j ≡ k) where
   later_member : (p : Option X) (xs : List X) (x : X) → is_member R xs x ≡ true → is_member R (with_item p xs) x ≡ true

@@ -38,6 +38,7 @@ use Rattle.bdb_tables.specs.Marks.{Mark, sign_by, marked, mark_of}
 use Rattle.bdb_tables.specs.Names.{Names, path_of, is_listed, are_once}
 use Rattle.bdb_tables.specs.Rows.{Tuples, HoldsTuples, HoldsRows, row_for, AreKeyLengths}
 use Rattle.bdb_tables.proofs.DifferenceLemmas.{is_among, distinct_append}
+use Rattle.bdb_tables.proofs.UsedLemmas.{AllNamed, rest_named, first_named}
 use Rattle.bdb_val.specs.Reads.{HasRows}
 use Rattle.bdb_val.specs.Settling.{row_key}
 use Rattle.bdb_val.proofs.HeldLemmas.{held_names, right_row}
@@ -214,23 +215,14 @@ module _ (keys : ℕ → ℕ) where
     abbrev places : List ℕ → List (List ℕ)
     places ks = flat_map world_places ks
 
-    abbrev AllNamed : List ℕ → Type 0
-    AllNamed ks = (k : ℕ) → is_listed k ks ≡ true → is_some (path_of ns k) ≡ true
-
-    rest_named : (k : ℕ) (ks : List ℕ) → AllNamed (k ∷ ks) → AllNamed ks
-    rest_named k ks h j e = h j (or_right (nat_eq j k) (is_listed j ks) e)
-
-    first_named : (k : ℕ) (ks : List ℕ) → AllNamed (k ∷ ks) → (w : List ℕ) × (path_of ns k ≡ Some w)
-    first_named k ks h = some_of (path_of ns k) (h k (or_left (nat_eq k k) (is_listed k ks) (eq-eqb k k refl)))
-
     -- a row of one world is not among those of others
-    elsewhere : (n : ℕ) (w : List ℕ) (h : Held) → path_of ns n ≡ Some w → IsOfWorld w h → (ks : List ℕ) → AllNamed ks → is_listed n ks ≡ false → is_among (at n h) (places ks) ≡ false
+    elsewhere : (n : ℕ) (w : List ℕ) (h : Held) → path_of ns n ≡ Some w → IsOfWorld w h → (ks : List ℕ) → AllNamed (path_of ns) ks → is_listed n ks ≡ false → is_among (at n h) (places ks) ≡ false
     elsewhere n w h p a [] named out = refl
     elsewhere n w h p a (k ∷ ks) named out =
         among_append (at n h) (world_places k) (places ks)
         ∙ or_from (is_among (at n h) (world_places k)) (is_among (at n h) (places ks))
-        (not_here (first_named k ks named).0 (first_named k ks named).1 (held_of k) (there k (first_named k ks named).0 (first_named k ks named).1))
-        (elsewhere n w h p a ks (rest_named k ks named) (false_from_ne_true (is_listed n ks) (λ e. false≢true (sym out ∙ or_right (nat_eq n k) (is_listed n ks) e))))
+        (not_here (first_named (path_of ns) k ks named).0 (first_named (path_of ns) k ks named).1 (held_of k) (there k (first_named (path_of ns) k ks named).0 (first_named (path_of ns) k ks named).1))
+        (elsewhere n w h p a ks (rest_named (path_of ns) k ks named) (false_from_ne_true (is_listed n ks) (λ e. false≢true (sym out ∙ or_right (nat_eq n k) (is_listed n ks) e))))
       where
         not_here : (v : List ℕ) → path_of ns k ≡ Some v → (gs : List Held) → AllByRecursion (IsOfWorld v) gs → is_among (at n h) (map (at k) gs) ≡ false
         not_here v q [] b = refl
@@ -240,16 +232,16 @@ module _ (keys : ℕ → ℕ) where
             false≢true (sym out ∙ or_left (nat_eq n k) (is_listed n ks) (eq-eqb n k same.0))))
             (not_here v q gs b.1)
 
-    once : (ks : List ℕ) → AllNamed ks → are_once ks ≡ true → are_distinct (places ks) ≡ true
+    once : (ks : List ℕ) → AllNamed (path_of ns) ks → are_once ks ≡ true → are_distinct (places ks) ≡ true
     once [] named o = refl
     once (k ∷ ks) named o =
         let c = and_parts (not (is_listed k ks)) (are_once ks) o in
-        let v = first_named k ks named in
+        let v = first_named (path_of ns) k ks named in
         distinct_append (world_places k) (places ks)
         (once_in k v.0 v.1 (held_of k) (there k v.0 v.1) (tuples_stand_once keys stmts consistent (world k)))
-        (once ks (rest_named k ks named) c.1)
+        (once ks (rest_named (path_of ns) k ks named) c.1)
         (all_mapped (λ q. is_among q (places ks) ≡ false) (IsOfWorld v.0) (at k)
-        (λ h a. elsewhere k v.0 h v.1 a ks (rest_named k ks named) (not-true (is_listed k ks) c.0)) (held_of k) (there k v.0 v.1))
+        (λ h a. elsewhere k v.0 h v.1 a ks (rest_named (path_of ns) k ks named) (not-true (is_listed k ks) c.0)) (held_of k) (there k v.0 v.1))
 
     -- each has a row
     has_row_at : (n : ℕ) (w : List ℕ) (h : Held) → path_of ns n ≡ Some w → IsOfWorld w h → is_some (tables.get t (at n h)) ≡ true
@@ -263,13 +255,13 @@ module _ (keys : ℕ → ℕ) where
         bytes_there None = refl
         bytes_there (Some m) = refl
 
-    each : (ks : List ℕ) → AllNamed ks → AllByRecursion (λ q. vals_at t q ≢ nothing_at q) (places ks)
+    each : (ks : List ℕ) → AllNamed (path_of ns) ks → AllByRecursion (λ q. vals_at t q ≢ nothing_at q) (places ks)
     unfolding at
     each [] named = tt
     each (k ∷ ks) named =
-        let v = first_named k ks named in
+        let v = first_named (path_of ns) k ks named in
         all_append (λ q. vals_at t q ≢ nothing_at q) (world_places k) (places ks)
-        (all_mapped (λ q. vals_at t q ≢ nothing_at q) (IsOfWorld v.0) (at k) (λ h a. there_is k h (has_row_at k v.0 h v.1 a)) (held_of k) (there k v.0 v.1)) (each ks (rest_named k ks named))
+        (all_mapped (λ q. vals_at t q ≢ nothing_at q) (IsOfWorld v.0) (at k) (λ h a. there_is k h (has_row_at k v.0 h v.1 a)) (held_of k) (there k v.0 v.1)) (each ks (rest_named (path_of ns) k ks named))
       where
         there_is : (n : ℕ) (h : Held) → is_some (tables.get t (at n h)) ≡ true → vals_at t (at n h) ≢ None
         there_is n h s e = false≢true (sym (ap is_some e) ∙ s)
@@ -329,7 +321,7 @@ module _ (keys : ℕ → ℕ) where
             stands None g = absurd cc
             stands (Some m) g = refl
 
-    all_named : AllNamed ns.used
+    all_named : AllNamed (path_of ns) ns.used
     all_named k e = sym (used.counted k) ∙ e
 
     counted : (ks : List ℕ) → length (places ks) ≡ sum_by (rows_of stmts ns) ks
