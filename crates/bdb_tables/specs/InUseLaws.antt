@@ -133,7 +133,6 @@ pub triples_are_one : KeysAreOne triple_keys
 triples_are_one = keys_are_one _ _ _ triple_parts
 
 tuples_one : (a b : Tuple) → Num a.rel ∷ values_parts a.vals ≡ Num b.rel ∷ values_parts b.vals → a ≡ b
-unfolding tuple_of
 tuples_one a b e =
     let x : a.rel ≡ b.rel = cc in
     let y : values_parts a.vals ≡ values_parts b.vals = cc in
